@@ -27,6 +27,11 @@ abbrev pub AreInOrder : ℕ → List Step → Type 0
 AreInOrder clock [] = Unit {0}
 AreInOrder clock (s ∷ ss) = (clock < s.stamp.clock) × (s.stamp.node ≡ the_coordinator) × IsWholeLine s.event s.marks × AreInOrder s.stamp.clock ss
 
+-- the clock of the last step, or the one given where there is none
+abbrev pub clock_after : ℕ → List Step → ℕ
+clock_after clock [] = clock
+clock_after clock (s ∷ ss) = clock_after s.stamp.clock ss
+
 -- the run is a legal history of the script, step after step
 pub record IsLegalRun (script : Script) (run : Run) : Type 0 where
   pub legal : AreLegal script [] (marks_of run)
