@@ -48,6 +48,8 @@ kind_of-neg kinds e = ap (kind_of kinds) (sym (rolls-Neg e)) ∙ fold-roll-Expr 
 pub kind_of-bin : (kinds : List Kind) (op : ArithOp) (l r : Expr) → kind_of kinds (Bin op l r) ≡ number_kind (kind_of kinds l) (kind_of kinds r)
 kind_of-bin kinds op l r = ap (kind_of kinds) (sym (rolls-Bin op l r)) ∙ fold-roll-Expr (Option Kind) (kind_step kinds) (Expr-F.Bin op l r)
 
+pub ruleset expression_kinds = (kind_of-lit, kind_of-col, kind_of-neg, kind_of-bin)
+
 pub truth_of-cmp : (row : List Value) (op : CmpOp) (l r : Expr) → truth_of row (Cmp op l r) ≡ and_then (order_of row l r) (λ order. Ok (compared op order))
 truth_of-cmp row op l r = ap (truth_of row) (sym (rolls-Cmp op l r)) ∙ fold-roll-Cond True (truth_step row) (Cond-F.Cmp op l r)
 
