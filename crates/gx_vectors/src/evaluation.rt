@@ -129,7 +129,15 @@ fn of_texts(alloc: Global, op: CmpOp, left: &str, right: &str) -> Mem<Cond>
 fn truth(alloc: Global, cond: &Cond) -> Result<bool, ArithFault>
     requires { IsTyped [] cond.now }
 {
-    decide(cond, &Row::from_vec(Vec::new(alloc)))
+    let row = Row::from_vec(Vec::new(alloc));
+    decide(cond, &row)
+}
+
+fn answer(alloc: Global, cond: &Cond) -> Result<bool, EvalFault>
+    requires { IsTyped [] cond.now }
+{
+    let row = Row::from_vec(Vec::new(alloc));
+    holds(alloc, cond, &row)
 }
 
 #[test]
@@ -331,12 +339,9 @@ fn comparisons(rt: HostRuntime) -> Result<(), Fail> {
 
 #[test]
 fn faults(rt: HostRuntime) -> Result<(), Fail> {
-    let row = Row::from_vec(Vec::new(rt.alloc()));
     let cond = leaf(rt.alloc(), Part::Divides)?;
-    assert_eq!(rt;
-        holds(rt.alloc(), &cond, &row),
-        Err(EvalFault::DivisionByZero)
-    );
+    assert_eq!(rt; answer(rt.alloc(), &cond), Err(EvalFault::DivisionByZero));
+    assert_eq!(rt; answer(rt.alloc(), &of_numbers(CmpOp::Lt, -1, 0)), Ok(true));
     Ok(())
 }
 
