@@ -1,9 +1,11 @@
 // The places are those that Python gives: `1 + k % n` for a whole number, and for a text FNV-1a of 64 bits, whose published
 // values for '', 'a' and 'foobar' are cbf29ce484222325, af63dc4c8601ec8c and 85944171f73967e8.
 
-use gx_ids::{Cid, Gxid, Node, Rid, Seq};
-use gx_place::{place, place_value};
-use gx_tree::{Dist, Row, Schema, Txt, Value};
+use gx_ids::{Boxed, Cid, Gxid, Mem, Node, Rid, Seq};
+use gx_place::{Target, place, place_value, target};
+use gx_tree::{CmpOp, Cond, Dist, Expr, Row, Schema, Txt, Value};
+use std::alloc::Global;
+use std::process::Abort;
 use std::test::Fail;
 
 #[test]
@@ -65,5 +67,61 @@ fn rows(rt: HostRuntime) -> Result<(), Fail> {
     assert_eq!(rt; place(&schema, &row, rid(7, 9), 10), Node(7));
     assert_eq!(rt; place(&schema, &row, rid(u64::MAX, 1), 16), Node(1));
     assert_eq!(rt; place(&schema, &row, rid(u64::MAX, u32::MAX), 16), Node(15));
+    Ok(())
+}
+
+fn table(alloc: Global, dist: Dist) -> Schema {
+    Schema {
+        name: Txt::from_vec(Vec::new(alloc)),
+        columns: Seq::new(alloc),
+        dist,
+    }
+}
+
+fn is(column: u8, number: i64) -> Cond {
+    Cond::Cmp(CmpOp::Eq, Expr::Col(column), Expr::Lit(Value::Int(number)))
+}
+
+fn and(alloc: Global, left: Cond, right: Cond) -> Mem<Cond> {
+    let left = Boxed::new(alloc, left)?;
+    Ok(Cond::And(left, Boxed::new(alloc, right)?))
+}
+
+fn expect(rt: &impl Abort, alloc: Global, cond: &Cond, want: Target) {
+    assert_eq!(rt;
+        target(&table(alloc, Dist::By(1)), Some(cond), 16),
+        want,
+        "{cond:?}"
+    );
+    assert_eq!(rt;
+        target(&table(alloc, Dist::Randomly), Some(cond), 16),
+        Target::All,
+        "{cond:?}"
+    );
+}
+
+#[test]
+fn targets(rt: HostRuntime) -> Result<(), Fail> {
+    let alloc = rt.alloc();
+    let sixth = Target::One(Node(6));
+    expect(&rt, alloc, &is(1, 5), sixth);
+    expect(&rt, alloc, &is(0, 5), Target::All);
+    let turned = Cond::Cmp(CmpOp::Eq, Expr::Lit(Value::Int(5)), Expr::Col(1));
+    expect(&rt, alloc, &turned, sixth);
+    let below = Cond::Cmp(CmpOp::Lt, Expr::Col(1), Expr::Lit(Value::Int(5)));
+    expect(&rt, alloc, &below, Target::All);
+    let chain = and(alloc, and(alloc, is(1, 5), is(0, 3))?, is(1, 7))?;
+    expect(&rt, alloc, &chain, sixth);
+    expect(&rt, alloc, &and(alloc, is(0, 3), is(1, 5))?, Target::All);
+    let one = Boxed::new(alloc, is(1, 5))?;
+    let or = Cond::Or(one, Boxed::new(alloc, is(1, 5))?);
+    expect(&rt, alloc, &or, Target::All);
+    expect(
+        &rt,
+        alloc,
+        &Cond::Not(Boxed::new(alloc, is(1, 5))?),
+        Target::All,
+    );
+    assert_eq!(rt; target(&table(alloc, Dist::By(1)), None, 16), Target::All);
     Ok(())
 }
