@@ -1,0 +1,7 @@
+//! Tests of the leaf crates: outside vectors and tables of cases.
+#![tactic(auto)]
+
+#[cfg(test)]
+mod evaluation;
+#[cfg(test)]
+mod places;
