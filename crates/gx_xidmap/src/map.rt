@@ -65,10 +65,10 @@ impl XidMap {
     {
         let place = lxid.0.checked_sub(1)?;
         let gxid = self.gxids.get(place as usize).copied()?;
-        if gxid < self.horizon {
-            None
-        } else {
+        if self.horizon <= gxid {
             Some(gxid)
+        } else {
+            None
         }
     }
 
