@@ -1,0 +1,59 @@
+use crate::cond::Cond;
+use crate::expr::Expr;
+use crate::query::Query;
+use gx_ids::{Duplicate, Mem, Seq, Table};
+use std::alloc::Global;
+
+/// An isolation level (PostgreSQL manual 13.2).
+#[derive(Clone, Copy, Debug, PartialEq, Eq)]
+pub enum Level {
+    ReadCommitted,
+    RepeatableRead,
+}
+
+/// An assignment of UPDATE's SET list.
+#[derive(Debug, Drop, PartialEq, Eq)]
+pub struct Assign {
+    pub col: u8,
+    pub expr: Expr,
+}
+
+/// A statement of a session. INSERT has its tuples; the number of LOCK TABLE is the mode's.
+#[derive(Debug, Drop, PartialEq, Eq)]
+pub enum Stmt {
+    Begin(Level),
+    Commit,
+    Rollback,
+    Select(Query),
+    Insert(Table, Seq<Seq<Expr>>),
+    Update(Table, Seq<Assign>, Option<Cond>),
+    Delete(Table, Option<Cond>),
+    Lock(Table, u8),
+}
+
+impl Duplicate for Assign {
+    fn copy(&self, alloc: Global) -> Mem<Assign> {
+        Ok(Assign {
+            col: self.col,
+            expr: self.expr.copy(alloc)?,
+        })
+    }
+}
+
+impl Duplicate for Stmt {
+    fn copy(&self, alloc: Global) -> Mem<Stmt> {
+        match self {
+            Stmt::Begin(level) => Ok(Stmt::Begin(*level)),
+            Stmt::Commit => Ok(Stmt::Commit),
+            Stmt::Rollback => Ok(Stmt::Rollback),
+            Stmt::Select(query) => Ok(Stmt::Select(query.copy(alloc)?)),
+            Stmt::Insert(table, tuples) => Ok(Stmt::Insert(*table, tuples.copy(alloc)?)),
+            Stmt::Update(table, assigns, cond) => {
+                let assigns = assigns.copy(alloc)?;
+                Ok(Stmt::Update(*table, assigns, cond.copy(alloc)?))
+            }
+            Stmt::Delete(table, cond) => Ok(Stmt::Delete(*table, cond.copy(alloc)?)),
+            Stmt::Lock(table, mode) => Ok(Stmt::Lock(*table, *mode)),
+        }
+    }
+}
