@@ -1,0 +1,4 @@
+pub mod Marks
+pub mod Reduced
+pub mod Stuck
+pub mod Graphs

@@ -1,0 +1,5 @@
+pub mod Place
+pub mod Tally
+pub mod Settled
+pub mod Reducing
+pub mod Reduce
