@@ -11,15 +11,15 @@ use Rattle.gx_waits.specs.declared.edge.Edge.{Edge}
 use Rattle.gx_waits.specs.declared.graph.LocalGraph.{LocalGraph}
 use Rattle.gx_waits.specs.declared.placed_edge.PlacedEdge.{PlacedEdge}
 use Rattle.gx_waits.specs.LocalGraph.{edges_of}
-use Rattle.gx_waits.specs.Closed.{IsStuck, IsNamedIn}
+use Rattle.gx_waits.specs.Closed.{IsStuck}
 use Rattle.gx_waits.specs.Finish.{CanFinish}
-use Rattle.gx_waits.proofs.Members.{Has, has_from_contains, contains_from_has}
+use Rattle.gx_waits.proofs.Members.{has_from_contains, contains_from_has}
 use Rattle.gx_waits.proofs.StuckWaits.{stuck_never_finishes}
 use Rattle.gx_waits.proofs.Determined.{same_gxid}
 use Rattle.gx_reduce.specs.declared.place.Place.{Place}
-use Rattle.gx_reduce.specs.declared.place.Place.TheVariants.{Anywhere, At}
-use Rattle.gx_reduce.specs.Place.{waits_in, need_of}
-use Rattle.gx_reduce.specs.Settled.{IsSettled, IsLeft}
+use Rattle.gx_reduce.specs.declared.place.Place.TheVariants.{Anywhere}
+use Rattle.gx_reduce.specs.Place.{waits_in}
+use Rattle.gx_reduce.specs.Settled.{IsSettled}
 use Rattle.gx_reduce.specs.Reduce.{is_left, kept_edges, IsNamed}
 use Rattle.gx_reduce.proofs.Stuck.{has_filter, filter_has, left_test, test_left, left_is_stuck, stuck_is_left, stuck_has, finishes}
 
@@ -38,7 +38,7 @@ map-filter test node [] = refl
 map-filter test node (x ∷ xs) = go (test (record { node = node; edge = x })) (map-filter test node xs)
   where
     go : (b : Bool) → map (λ e. record { node = node; edge = e }) (filter (λ e. test (record { node = node; edge = e })) xs) ≡ filter test (map (λ e. record { node = node; edge = e }) xs)
-      → map (λ e. record { node = node; edge = e }) (cond b (x ∷ filter (λ e. test (record { node = node; edge = e })) xs) (filter (λ e. test (record { node = node; edge = e })) xs))
+        → map (λ e. record { node = node; edge = e }) (cond b (x ∷ filter (λ e. test (record { node = node; edge = e })) xs) (filter (λ e. test (record { node = node; edge = e })) xs))
         ≡ cond b (record { node = node; edge = x } ∷ filter test (map (λ e. record { node = node; edge = e }) xs)) (filter test (map (λ e. record { node = node; edge = e }) xs))
     go true h = ap (λ l. record { node = node; edge = x } ∷ l) h
     go false h = h
@@ -66,7 +66,7 @@ module _ (edges rest : List PlacedEdge) (count : Place → ℕ) (s : IsSettled e
   pub stuck_is_rest : (e : PlacedEdge) → IsStuck edges e → Contains rest e
   stuck_is_rest e k =
       subst (λ l. Contains l e) (sym r)
-        (contains_from_has e (filter (is_left count) edges) (has_filter (is_left count) edges e (stuck_has edges count s e k) (left_test count e (stuck_is_left edges count s e k))))
+      (contains_from_has e (filter (is_left count) edges) (has_filter (is_left count) edges e (stuck_has edges count s e k) (left_test count e (stuck_is_left edges count s e k))))
 
   pub rest_never_finishes : (v : Gxid) → IsNamed rest v → CanFinish edges v → ⊥
   rest_never_finishes v (e, c, n) f = stuck_never_finishes edges v (e, rest_is_stuck e c, n) f

@@ -1,12 +1,11 @@
 -- Edges with marks.
-use Rattle.std.proofs.Common.{◌≡◌, ◌<◌, ◌+◌, ℕ, zero, suc, List, [], ◌∷◌, Bool, true, false, cond, ◌&&◌, ◌⊎◌, inl, inr, ⊎_elim, length, slice_get, get_or, set, replicate, Option, Some, None, sym, refl, ap, subst, ◌∙◌, arith}
-use Rattle.std.proofs.lemmas.Bool.Decides.{nat_tests}
+use Rattle.std.proofs.Common.{◌≡◌, ◌<◌, ◌+◌, ℕ, zero, suc, List, [], ◌∷◌, Bool, true, false, cond, ◌&&◌, ◌⊎◌, inl, inr, ⊎_elim, length, slice_get, get_or, set, replicate, Some, sym, refl, ap, ◌∙◌, arith}
 use Rattle.std.specs.List.{count_by}
 use Rattle.std.proofs.lemmas.List.Sums.{sum_by-cons}
 use Rattle.gx_waits.specs.declared.placed_edge.PlacedEdge.{PlacedEdge}
 use Rattle.gx_waits.proofs.Members.{Has}
 use Rattle.gx_reduce.specs.declared.place.Place.{Place}
-use Rattle.gx_reduce.specs.Place.{waits_in, need_of, bit}
+use Rattle.gx_reduce.specs.Place.{waits_in, bit}
 use Rattle.gx_reduce.specs.Reducing.{IsMarked, left_in, left_count}
 
 -- what a read past the end gives

@@ -1,8 +1,7 @@
 -- A reduction from its beginning to its end.
-use Rattle.std.proofs.Common.{◌≡◌, ◌<◌, ◌≤◌, ◌+◌, ℕ, zero, suc, List, [], ◌∷◌, Bool, true, false, ◌⊎◌, inl, inr, ⊎_elim, length, slice_get, set, replicate, Some, sym, refl, ap, subst, ◌∙◌, arith, if◌then◌else◌, eqb}
+use Rattle.std.proofs.Common.{◌≡◌, ◌<◌, ◌+◌, ℕ, zero, suc, List, [], ◌∷◌, Bool, true, false, ◌⊎◌, inl, inr, ⊎_elim, length, slice_get, set, replicate, Some, sym, refl, ap, subst, ◌∙◌, arith, if◌then◌else◌}
 use Rattle.std.proofs.lemmas.Bool.Decides.{nat_tests}
 use Rattle.std.proofs.lemmas.List.{length-set}
-use Rattle.std.specs.Prelude.{IsTrue}
 use Rattle.std.specs.List.{count_by, Contains}
 use Rattle.std.specs.List.Sorted.{IsPermutation}
 use Rattle.std.proofs.lemmas.List.Sorted.{Contains-permutation, IsPermutation-sym}
@@ -16,7 +15,7 @@ use Rattle.gx_reduce.specs.declared.place.Place.{Place}
 use Rattle.gx_reduce.specs.declared.place.Place.TheVariants.{Anywhere, At}
 use Rattle.gx_reduce.specs.Place.{waits_in, need_of, bit}
 use Rattle.gx_reduce.specs.Reducing.{IsMarked, IsReducing, IsDone, IsUnneeded}
-use Rattle.gx_reduce.specs.Settled.{IsSettled, IsLeft}
+use Rattle.gx_reduce.specs.Settled.{IsSettled}
 use Rattle.gx_reduce.proofs.Marks.{marked_place, marked_set, left_in_set, none_left, some_left, is_marked, marked_has, all_left, left_in-all}
 
 pub length-replicate_true : (n : ℕ) → length (replicate n true) ≡ n
@@ -25,13 +24,13 @@ length-replicate_true (suc n) = ap suc (length-replicate_true n)
 
 pub begins : (edges : List PlacedEdge) (count : Place → ℕ) → ((p : Place) → count p ≡ count_by (waits_in p) edges) → IsReducing edges (replicate (length edges) true) count
 begins edges count e = record {
-    as_long = length-replicate_true (length edges);
-    counts = λ p. e p ∙ sym (left_in-all p edges);
-    plan = [];
-    lawful = tt;
-    lets = λ x h. absurd (all_left edges (length edges) x h);
-    unneeded = λ x h. absurd (all_left edges (length edges) x h);
-  }
+  as_long = length-replicate_true (length edges);
+  counts = λ p. e p ∙ sym (left_in-all p edges);
+  plan = [];
+  lawful = tt;
+  lets = λ x h. absurd (all_left edges (length edges) x h);
+  unneeded = λ x h. absurd (all_left edges (length edges) x h);
+}
 
 -- what lets the edge go
 pub move_for : PlacedEdge → Move
@@ -63,11 +62,12 @@ module _ (edges : List PlacedEdge) (plan : List Move) (e : PlacedEdge) (free : (
     where
       dotted : e.edge.dotted ≡ true → IsLawful edges plan (move_for e)
       dotted d = subst (IsLawful edges plan) (sym (if_true e.edge.dotted (Back e.node e.edge.holder) (End e.edge.holder) d))
-        (λ f c s w. free f (has_from_contains f edges c)
+          (λ f c s w. free f (has_from_contains f edges c)
           (ap (λ p. waits_in p f) (if_true e.edge.dotted (At e.node e.edge.holder) (Anywhere e.edge.holder) d) ∙ waits_at e.node e.edge.holder f s w))
+
       solid : e.edge.dotted ≡ false → IsLawful edges plan (move_for e)
       solid d = subst (IsLawful edges plan) (sym (if_false e.edge.dotted (Back e.node e.edge.holder) (End e.edge.holder) d))
-        (λ f c w. free f (has_from_contains f edges c)
+          (λ f c w. free f (has_from_contains f edges c)
           (ap (λ p. waits_in p f) (if_false e.edge.dotted (At e.node e.edge.holder) (Anywhere e.edge.holder) d) ∙ waits_anywhere e.edge.holder f w))
 
   pub move_lets : IsLet (move_for e ∷ plan) e
@@ -76,6 +76,7 @@ module _ (edges : List PlacedEdge) (plan : List Move) (e : PlacedEdge) (free : (
     where
       dotted : e.edge.dotted ≡ true → IsLet (move_for e ∷ plan) e
       dotted d = inr (d, contains_from_has (Back e.node e.edge.holder) (move_for e ∷ plan) (inl (if_true e.edge.dotted (Back e.node e.edge.holder) (End e.edge.holder) d)))
+
       solid : e.edge.dotted ≡ false → IsLet (move_for e ∷ plan) e
       solid d = inl (contains_from_has (End e.edge.holder) (move_for e ∷ plan) (inl (if_false e.edge.dotted (Back e.node e.edge.holder) (End e.edge.holder) d)))
 
@@ -98,19 +99,19 @@ module _ (edges : List PlacedEdge) (marks : List Bool) (count new : Place → �
 
   pub removed : IsReducing edges (set marks k false) new
   removed = record {
-      as_long = length-set marks k false ∙ r.as_long;
-      counts = λ p. let a = counted p in let b = left_in_set p edges marks k e at left in let c = r.counts p in omega arith;
-      plan = move_for e ∷ r.plan;
-      lawful = (move_lawful edges r.plan e free, r.lawful);
-      lets = λ x h. ⊎_elim
+    as_long = length-set marks k false ∙ r.as_long;
+    counts = λ p. let a = counted p in let b = left_in_set p edges marks k e at left in let c = r.counts p in omega arith;
+    plan = move_for e ∷ r.plan;
+    lawful = (move_lawful edges r.plan e free, r.lawful);
+    lets = λ x h. ⊎_elim
         (λ o. still_let r.plan (move_for e) x (r.lets x o))
         (λ (s : e ≡ x). subst (λ y. IsLet (move_for e ∷ r.plan) y) s (move_lets edges r.plan e free))
         (marked_set edges marks k e x at h);
-      unneeded = λ x h. ⊎_elim
+    unneeded = λ x h. ⊎_elim
         (λ o. fewer (need_of x) (r.unneeded x o))
         (λ (s : e ≡ x). subst (λ y. new (need_of y) ≡ 0) s (fewer (need_of e) zero_need))
         (marked_set edges marks k e x at h);
-    }
+  }
 
 -- the waiter of an edge that is left is counted
 pub was_counted : (edges : List PlacedEdge) (marks : List Bool) (count : Place → ℕ) (e : PlacedEdge) → IsReducing edges marks count → IsMarked true e edges marks → (p : Place) → waits_in p e ≡ true → 0 < count p
@@ -122,20 +123,20 @@ was_counted edges marks count e r m p w = go (count p) refl
 
 pub settled : (edges : List PlacedEdge) (marks : List Bool) (count : Place → ℕ) → IsReducing edges marks count → IsDone edges marks count → IsSettled edges count
 settled edges marks count r done = record {
-    plan = r.plan;
-    lawful = r.lawful;
-    lets = λ e c z. ⊎_elim
+  plan = r.plan;
+  lawful = r.lawful;
+  lets = λ e c z. ⊎_elim
       (λ (m : IsMarked true e edges marks). let l : 0 < count (need_of e) = done e m in absurd (never (count (need_of e)) z l))
       (λ m. r.lets e m)
       (is_marked edges marks e r.as_long (has_from_contains e edges c));
-    waits = λ p l.
+  waits = λ p l.
       let s = some_left p edges marks (subst (λ n. 0 < n) (r.counts p) l) in
       (s.0, contains_from_has s.0 edges (marked_has edges marks s.0 true s.1), s.2, done s.0 s.1);
-    counted = λ p e c w l. ⊎_elim
+  counted = λ p e c w l. ⊎_elim
       (λ (m : IsMarked true e edges marks). was_counted edges marks count e r m p w)
       (λ (m : IsMarked false e edges marks). absurd (never (count (need_of e)) (r.unneeded e m) l))
       (is_marked edges marks e r.as_long (has_from_contains e edges c));
-  }
+}
   where
     never : (n : ℕ) → n ≡ 0 → 0 < n → ⊥
     never n z l = omega arith
@@ -166,9 +167,9 @@ plan_within xs ys f (Back n v ∷ before) l = (λ e c s w. l.0 e (f e c) s w, pl
 
 pub settled_in_any_order : (xs ys : List PlacedEdge) (count : Place → ℕ) → IsPermutation xs ys → IsSettled ys count → IsSettled xs count
 settled_in_any_order xs ys count p s = record {
-    plan = s.plan;
-    lawful = plan_within xs ys (λ e c. Contains-permutation xs ys e p c) s.plan s.lawful;
-    lets = λ e c z. s.lets e (Contains-permutation xs ys e p c) z;
-    waits = λ q l. let w = s.waits q l in (w.0, Contains-permutation ys xs w.0 (IsPermutation-sym xs ys p) w.1, w.2, w.3);
-    counted = λ q e c w l. s.counted q e (Contains-permutation xs ys e p c) w l;
-  }
+  plan = s.plan;
+  lawful = plan_within xs ys (λ e c. Contains-permutation xs ys e p c) s.plan s.lawful;
+  lets = λ e c z. s.lets e (Contains-permutation xs ys e p c) z;
+  waits = λ q l. let w = s.waits q l in (w.0, Contains-permutation ys xs w.0 (IsPermutation-sym xs ys p) w.1, w.2, w.3);
+  counted = λ q e c w l. s.counted q e (Contains-permutation xs ys e p c) w l;
+}

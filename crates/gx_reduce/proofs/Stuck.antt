@@ -1,20 +1,19 @@
 -- What is left at the end of a reduction is what is stuck, and the others can finish.
-use Rattle.std.proofs.Common.{◌≡◌, ◌<◌, ◌+◌, ℕ, zero, suc, List, [], ◌∷◌, ◌++◌, Bool, true, false, cond, ◌&&◌, ◌⊎◌, inl, inr, ⊎_elim, filter, map, nat_lt, sym, refl, ap, subst, ◌∙◌, arith, eqb, ltb}
+use Rattle.std.proofs.Common.{◌≡◌, ◌<◌, ℕ, zero, suc, List, [], ◌∷◌, Bool, true, false, cond, ◌⊎◌, inl, inr, filter, sym, refl, ap, subst, ◌∙◌, arith}
 use Rattle.std.proofs.lemmas.Bool.Decides.{nat_tests}
-use Rattle.std.proofs.lemmas.Bool.{ltb-true, eqb-true}
+use Rattle.std.proofs.lemmas.Bool.{ltb-true}
 use Rattle.std.specs.Prelude.{IsTrue}
 use Rattle.std.specs.List.{Contains}
-use Rattle.gx_ids.specs.declared.ids.Node.{Node}
 use Rattle.gx_ids.specs.declared.ids.Gxid.{Gxid}
 use Rattle.gx_waits.specs.declared.placed_edge.PlacedEdge.{PlacedEdge}
-use Rattle.gx_waits.specs.Closed.{IsClosed, IsWithin, IsStuck, IsNamedIn, Waits, WaitsAt}
-use Rattle.gx_waits.specs.Finish.{Move, IsLet, IsLawful, IsPlan, CanFinish}
-use Rattle.gx_waits.specs.Finish.Move.{End, Back}
-use Rattle.gx_waits.proofs.Members.{Has, has_from_contains, contains_from_has, all_from_each, any_from_has, each_from_all, has_from_any}
+use Rattle.gx_waits.specs.Closed.{IsClosed, IsStuck, Waits, WaitsAt}
+use Rattle.gx_waits.specs.Finish.{IsLet, CanFinish}
+use Rattle.gx_waits.specs.Finish.Move.{End}
+use Rattle.gx_waits.proofs.Members.{Has, has_from_contains, contains_from_has, all_from_each, any_from_has, each_from_all}
 use Rattle.gx_waits.proofs.StuckWaits.{apart, not_let}
 use Rattle.gx_waits.proofs.Determined.{same_gxid}
 use Rattle.gx_reduce.specs.declared.place.Place.{Place}
-use Rattle.gx_reduce.specs.declared.place.Place.TheVariants.{Anywhere, At}
+use Rattle.gx_reduce.specs.declared.place.Place.TheVariants.{Anywhere}
 use Rattle.gx_reduce.specs.Place.{waits_in, need_of}
 use Rattle.gx_reduce.specs.Settled.{IsSettled, IsLeft}
 use Rattle.gx_reduce.specs.Reduce.{is_left}
@@ -77,23 +76,23 @@ module _ (edges : List PlacedEdge) (count : Place → ℕ) (s : IsSettled edges 
 
   pub rest_closed : IsClosed (filter (is_left count) edges)
   rest_closed = record {
-      holders_wait = all_from_each (λ e. Waits (filter (is_left count) edges) e.edge.holder) (filter (is_left count) edges) (λ e h.
+    holders_wait = all_from_each (λ e. Waits (filter (is_left count) edges) e.edge.holder) (filter (is_left count) edges) (λ e h.
         let l = has_rest e h in
         let f = needed e l.1 in
         any_from_has (λ f. f.edge.waiter ≡ e.edge.holder) (filter (is_left count) edges) f.0 (rest_has f.0 f.1 f.2) (holder_waits e f.0 f.3));
-      dotted_holders_wait_there = all_from_each (λ e. IsTrue e.edge.dotted → WaitsAt (filter (is_left count) edges) e.node e.edge.holder) (filter (is_left count) edges) (λ e h d.
+    dotted_holders_wait_there = all_from_each (λ e. IsTrue e.edge.dotted → WaitsAt (filter (is_left count) edges) e.node e.edge.holder) (filter (is_left count) edges) (λ e h d.
         let l = has_rest e h in
         let f = needed e l.1 in
         any_from_has (λ f. (f.node ≡ e.node) × (f.edge.waiter ≡ e.edge.holder)) (filter (is_left count) edges) f.0 (rest_has f.0 f.1 f.2) (dotted_holder_waits e f.0 f.3 d, holder_waits e f.0 f.3));
-    }
+  }
 
   pub left_is_stuck : (e : PlacedEdge) → Has e edges → IsLeft count e → IsStuck edges e
   left_is_stuck e h l = record {
-      set = filter (is_left count) edges;
-      closed = rest_closed;
-      within = all_from_each (λ e. Contains edges e) (filter (is_left count) edges) (λ f m. contains_from_has f edges (has_rest f m).0);
-      member = contains_from_has e (filter (is_left count) edges) (rest_has e h l);
-    }
+    set = filter (is_left count) edges;
+    closed = rest_closed;
+    within = all_from_each (λ e. Contains edges e) (filter (is_left count) edges) (λ f m. contains_from_has f edges (has_rest f m).0);
+    member = contains_from_has e (filter (is_left count) edges) (rest_has e h l);
+  }
 
   pub stuck_has : (e : PlacedEdge) → IsStuck edges e → Has e edges
   stuck_has e k = has_from_contains e edges (each_from_all (λ e. Contains edges e) k.set k.within e (has_from_contains e k.set k.member))
@@ -103,7 +102,7 @@ module _ (edges : List PlacedEdge) (count : Place → ℕ) (s : IsSettled edges 
     where
       go : (n : ℕ) → count (need_of e) ≡ n → 0 < n
       go zero z = absurd (not_let edges k.set k.closed k.within s.plan (apart edges k.set k.closed k.within s.plan s.lawful) e (has_from_contains e k.set k.member)
-        (s.lets e (contains_from_has e edges (stuck_has e k)) z))
+          (s.lets e (contains_from_has e edges (stuck_has e k)) z))
       go (suc n) z = omega arith
 
   -- who doesn't wait at the end can finish

@@ -3,3 +3,4 @@ pub mod Tally
 pub mod Settled
 pub mod Reducing
 pub mod Reduce
+pub mod Core

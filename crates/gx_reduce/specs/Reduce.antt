@@ -1,5 +1,5 @@
 -- What is left of graphs.
-use Rattle.std.specs.Prelude.{◌≡◌, List, Bool, map, filter, Contains, nat_lt, ℕ}
+use Rattle.std.specs.Prelude.{List, Bool, filter, Contains, nat_lt, ℕ}
 use Rattle.gx_ids.specs.declared.ids.Gxid.{Gxid}
 use Rattle.gx_waits.specs.declared.graph.LocalGraph.{LocalGraph}
 use Rattle.gx_waits.specs.declared.placed_edge.PlacedEdge.{PlacedEdge}

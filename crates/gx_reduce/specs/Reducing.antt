@@ -1,5 +1,5 @@
 -- The edges during a reduction, each with a mark that is true while it is left.
-use Rattle.std.specs.Prelude.{◌≡◌, ◌<◌, ◌+◌, ℕ, List, [], ◌∷◌, Bool, true, false, ◌&&◌, ◌⊎◌, length, slice_get, Some}
+use Rattle.std.specs.Prelude.{◌≡◌, ◌+◌, ℕ, List, [], ◌∷◌, Bool, true, false, ◌&&◌, ◌⊎◌, length, slice_get, Some}
 use Rattle.gx_waits.specs.declared.placed_edge.PlacedEdge.{PlacedEdge}
 use Rattle.gx_waits.specs.Finish.{Move, IsLet, IsPlan}
 use Rattle.gx_reduce.specs.declared.place.Place.{Place}

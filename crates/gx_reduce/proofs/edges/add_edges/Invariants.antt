@@ -1,8 +1,4 @@
-use Rattle.std.proofs.Common.{◌≡◌, ◌++◌, take, map, filter, not}
-use Rattle.gx_waits.specs.Edge.{names}
-use Rattle.gx_waits.specs.LocalGraph.{edges_of}
-use Rattle.gx_reduce.specs.Reduce.{is_left}
-use Rattle.gx_reduce.specs.Tally.{count_at}
+use Rattle.std.proofs.Common.{◌≡◌, ◌++◌, take, map}
 use Rattle.gx_reduce.proofs.edges.add_edges.Given as goal
 
 abbrev pub invariant-loop-edge : goal.invariant-loop-edge

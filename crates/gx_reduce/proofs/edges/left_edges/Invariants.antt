@@ -1,6 +1,4 @@
-use Rattle.std.proofs.Common.{◌≡◌, ◌++◌, take, map, filter, not}
-use Rattle.gx_waits.specs.Edge.{names}
-use Rattle.gx_waits.specs.LocalGraph.{edges_of}
+use Rattle.std.proofs.Common.{◌≡◌, take, filter}
 use Rattle.gx_reduce.specs.Reduce.{is_left}
 use Rattle.gx_reduce.specs.Tally.{count_at}
 use Rattle.gx_reduce.proofs.edges.left_edges.Given as goal

@@ -1,4 +1,4 @@
-use Rattle.std.proofs.Common.{◌<◌, ℕ, length, arith}
+use Rattle.std.proofs.Common.{◌<◌, arith}
 use Rattle.gx_reduce.specs.Tally.{count_at}
 use Rattle.gx_reduce.proofs.Reduced.{done_at}
 use Rattle.gx_reduce.proofs.settle.pass.Goals as goal
