@@ -10,4 +10,6 @@ mod outside;
 #[cfg(test)]
 mod places;
 #[cfg(test)]
+mod reduction;
+#[cfg(test)]
 mod versions;
