@@ -1,5 +1,13 @@
-//! Tests of the crates below, each public call run once against values from outside.
+//! Tests of the leaf crates: each public call run once with ample memory, outside vectors and tables of cases.
 #![tactic(auto)]
 
+#[cfg(test)]
+mod evaluation;
+#[cfg(test)]
+mod foundations;
+#[cfg(test)]
+mod outside;
+#[cfg(test)]
+mod places;
 #[cfg(test)]
 mod versions;

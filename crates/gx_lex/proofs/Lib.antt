@@ -1,0 +1,4 @@
+pub mod Tools
+pub mod Lexed
+pub mod Written
+pub mod Answered

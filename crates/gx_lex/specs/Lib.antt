@@ -1,0 +1,4 @@
+pub mod Words
+pub mod Symbols
+pub mod Lexing
+pub mod Reader

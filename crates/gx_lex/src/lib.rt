@@ -1,0 +1,12 @@
+//! The tokens of the script language, and how a line's bytes are cut into them.
+#![tactic(auto)]
+
+pub mod cut;
+pub mod symbol;
+pub mod token;
+pub mod word;
+
+pub use cut::cut_line;
+pub use symbol::{Symbol, lone_symbol};
+pub use token::Token;
+pub use word::{WORDS, Word, keyword};

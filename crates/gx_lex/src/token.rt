@@ -1,0 +1,15 @@
+use crate::symbol::Symbol;
+use crate::word::Word;
+use gx_tree::Txt;
+
+/// A token of a line. A number above 18446744073709551615 is `Number(None)`; `Bad` is a word with capitals that is
+/// no keyword, or the rest of a line from a byte that begins no token or from a text without its end.
+#[derive(Debug, Drop, PartialEq, Eq)]
+pub enum Token {
+    Word(Word),
+    Name(Txt),
+    Number(Option<u64>),
+    Text(Txt),
+    Symbol(Symbol),
+    Bad,
+}
