@@ -42,19 +42,16 @@ fn map_of_two(alloc: Global) -> Result<XidMap, Fail> {
 }
 
 // While transactions 1 and 2 run and none has ended.
-#[tactic(auto, unfolding(std::specs::List::Sorted::IsStrictlySortedBy))]
 fn early(alloc: Global) -> Mem<Snapshot> {
     take(alloc, [Gxid(1), Gxid(2)].as_slice(), None)
 }
 
 // While transaction 3 runs, and 2 is the greatest that has ended.
-#[tactic(auto, unfolding(std::specs::List::Sorted::IsStrictlySortedBy))]
 fn late(alloc: Global) -> Mem<Snapshot> {
     take(alloc, [Gxid(3)].as_slice(), Some(Gxid(2)))
 }
 
 // While transactions 2, 3 and 7 run, and 5 is the greatest that has ended.
-#[tactic(auto, unfolding(std::specs::List::Sorted::IsStrictlySortedBy))]
 fn mixed(alloc: Global) -> Mem<Snapshot> {
     take(alloc, [Gxid(2), Gxid(3), Gxid(7)].as_slice(), Some(Gxid(5)))
 }
