@@ -1,0 +1,4 @@
+pub mod Tools
+pub mod Bounds
+pub mod Complete
+pub mod Sound

@@ -1,0 +1,5 @@
+pub mod Limiting
+pub mod Rules
+pub mod Grammar
+pub mod Machine
+pub mod Code
