@@ -1,10 +1,9 @@
 -- Limits above limits.
-use Rattle.std.proofs.Common.{◌≡◌, ℕ, ◌+◌, ◌≤◌, refl, sym, ◌∙◌, max, arith}
-use Rattle.std.proofs.lemmas.Grind.{common_steps}
+use Rattle.std.proofs.Common.{max, arith}
 use Rattle.gx_grammar.specs.declared.fault.Limits.{Limits}
 use Rattle.gx_grammar.specs.declared.fault.LineLimit.{LineLimit}
 use Rattle.gx_grammar.specs.declared.fault.LineLimit.TheVariants.{Segments, Name, Text, Depth}
-use Rattle.gx_grammar.specs.Limiting.{Below, Keeps, KeepsBefore}
+use Rattle.gx_grammar.specs.Limiting.{Below, Keeps}
 
 pub below_self : (d : Limits) → Below d d
 below_self d = record { segments = omega arith; name = omega arith; text = omega arith; depth = omega arith; operators = omega arith }

@@ -1,11 +1,10 @@
 -- The reader of one of two rules, by the first token.
-use Rattle.std.proofs.Common.{◌≡◌, ◌⊎◌, inl, inr, ℕ, Bool, true, false, if◌then◌else◌, List, [], ◌∷◌, ◌++◌, refl, sym, ◌∙◌, ap, subst, Ok, Err}
+use Rattle.std.proofs.Common.{◌≡◌, inl, inr, Bool, true, false, if◌then◌else◌, List, [], ◌∷◌, ◌++◌, refl, sym, ◌∙◌, ap, Ok, Err}
 use Rattle.gx_lex.specs.declared.token.Token.{Token}
 use Rattle.gx_grammar.specs.declared.fault.Limits.{Limits}
-use Rattle.gx_grammar.specs.declared.fault.Fault.{Fault}
 use Rattle.gx_grammar.specs.Limiting.{Below}
 use Rattle.gx_grammar.specs.Rules.{Reading, either, either_at, starts, Same, CanGo}
-use Rattle.gx_grammar.proofs.Good.{Good, Tells, Raised, Stays, if_stays, raised_as}
+use Rattle.gx_grammar.proofs.Good.{Good, Tells, if_stays, raised_as}
 
 module _ {A : Type 0} (begins : Token → Bool) (g h : Limits → A → List Token → Type 0) (ends : List Token → Type 0) (r s : Limits → List Token → Reading A) (R : Good g ends r) (S : Good h ends s) where
   left : (d : Limits) (us : List Token) → CanGo (g d) us → CanGo (either (g d) (h d)) us

@@ -1,5 +1,5 @@
 -- What is said of a reader and its rule.
-use Rattle.std.proofs.Common.{◌≡◌, ℕ, ◌+◌, ◌≤◌, Bool, true, false, if◌then◌else◌, List, [], ◌∷◌, ◌++◌, refl, sym, ◌∙◌, ap, subst, Ok, Err}
+use Rattle.std.proofs.Common.{◌≡◌, Bool, true, false, if◌then◌else◌, List, [], ◌∷◌, ◌++◌, refl, sym, ap, subst, Ok, Err}
 use Rattle.gx_lex.specs.declared.token.Token.{Token}
 use Rattle.gx_grammar.specs.declared.fault.Limits.{Limits}
 use Rattle.gx_grammar.specs.declared.fault.LineLimit.{LineLimit}

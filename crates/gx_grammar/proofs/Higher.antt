@@ -1,5 +1,5 @@
 -- Higher limits change nothing but what passes one of those that are raised.
-use Rattle.std.proofs.Common.{◌≡◌, ℕ, ◌+◌, ◌<◌, ◌≤◌, nat_le, Bool, true, false, if◌then◌else◌, List, [], ◌∷◌, ◌++◌, length, Option, Some, None, max, refl, sym, ◌∙◌, ap, subst, arith, append_assoc, append-nil, Ok, Err}
+use Rattle.std.proofs.Common.{◌≡◌, ℕ, ◌+◌, ◌≤◌, false, List, [], ◌∷◌, ◌++◌, length, Option, Some, None, max, refl, sym, ◌∙◌, ap, subst, arith, append_assoc, append-nil, Ok, Err}
 use Rattle.gx_lex.specs.declared.word.Word.{Word}
 use Rattle.gx_lex.specs.declared.symbol.Symbol.{Symbol}
 use Rattle.gx_lex.specs.declared.token.Token.{Token}
@@ -19,7 +19,7 @@ use Rattle.gx_grammar.specs.declared.expr.Prefix.TheVariants as prefix
 use Rattle.gx_grammar.specs.Limiting.{Below, Keeps, KeepsBefore}
 use Rattle.gx_grammar.specs.Grammar.{level, left_level, expr}
 use Rattle.gx_grammar.specs.Rules.{Reading, CanGo}
-use Rattle.gx_grammar.specs.Machine.{is_not, op_of, is_close, wants, deep, so_far, run, reduce, after_step, step, finish, Mode, Want, Have, Go, Stop, Done, Step, within, on_number, on_leaf, on_name, on_text, on_not, on_word, prefix_of, on_prefix, on_symbol, on_op, on_close, on_end, ending, behind_operand, operand, operator_by, operator}
+use Rattle.gx_grammar.specs.Machine.{is_not, op_of, is_close, wants, deep, so_far, run, reduce, after_step, step, finish, Mode, Want, Have, Go, Stop, Done, Step, within, on_name, on_text, on_not, on_word, prefix_of, on_prefix, on_op, on_close, on_end, ending, behind_operand, operand, operator_by}
 use Rattle.gx_grammar.proofs.Tools.{by_le, by_not_le, by_true, by_false, pick, pick_le, within_more}
 use Rattle.gx_grammar.proofs.Sound.{Stands, Held, Room, step_ok, StepOk}
 use Rattle.gx_grammar.proofs.Viable.{begins}
@@ -61,30 +61,30 @@ as_step d e s a b q w = subst (λ (x : Step). StepStays d e s x) (sym q) w
 
 within_stays : (d e : Limits) (n c : ℕ) (m : Mode) → Below d e → StepStays d e (within d n c m) (within e n c m)
 within_stays d e n c m l = pick_le (λ s. StepStays d e s (within e n c m)) n d.depth _ _
-  (λ a. pick_le (λ s. StepStays d e s (within e n c m)) c d.operators _ _
+    (λ a. pick_le (λ s. StepStays d e s (within e n c m)) c d.operators _ _
     (λ b. by_le n e.depth _ _ (omega arith) ∙ by_le c e.operators _ _ (omega arith))
     (λ b k. let o : e.operators ≡ d.operators = k.1 in by_le n e.depth _ _ (omega arith) ∙ by_not_le c e.operators _ _ (omega arith)))
-  (λ a k. let o : e.depth ≡ d.depth = k.0 in by_not_le n e.depth _ _ (omega arith))
+    (λ a k. let o : e.depth ≡ d.depth = k.0 in by_not_le n e.depth _ _ (omega arith))
 
 name_stays : (d e : Limits) (c : ℕ) (k : List Frame) (name : List ℕ) → Below d e → StepStays d e (on_name d c k name) (on_name e c k name)
 name_stays d e c k name l = pick_le (λ s. StepStays d e s (on_name e c k name)) (length name) d.name _ _
-  (λ a. as_step d e _ _ _ (by_le (length name) e.name _ _ (omega arith)) (within_stays d e (deep k) (so_far c k) (Have (so_far c k) (Column name) k) l))
-  (λ a k. by_not_le (length name) e.name _ _ (omega arith))
+    (λ a. as_step d e _ _ _ (by_le (length name) e.name _ _ (omega arith)) (within_stays d e (deep k) (so_far c k) (Have (so_far c k) (Column name) k) l))
+    (λ a k. by_not_le (length name) e.name _ _ (omega arith))
 
 text_stays : (d e : Limits) (c : ℕ) (k : List Frame) (value : List ℕ) → Below d e → StepStays d e (on_text d c k value) (on_text e c k value)
 text_stays d e c k value l = pick_le (λ s. StepStays d e s (on_text e c k value)) (length value) d.text _ _
-  (λ a. as_step d e _ _ _ (by_le (length value) e.text _ _ (omega arith)) (within_stays d e (deep k) (so_far c k) (Have (so_far c k) (Text value) k) l))
-  (λ a k. by_not_le (length value) e.text _ _ (omega arith))
+    (λ a. as_step d e _ _ _ (by_le (length value) e.text _ _ (omega arith)) (within_stays d e (deep k) (so_far c k) (Have (so_far c k) (Text value) k) l))
+    (λ a k. by_not_le (length value) e.text _ _ (omega arith))
 
 not_stays : (d e : Limits) (c : ℕ) (k : List Frame) → Below d e → StepStays d e (on_not d c k) (on_not e c k)
 not_stays d e c k l = pick_le (λ s. StepStays d e s (on_not e c k)) (wants k) 3 _ _
-  (λ w. as_step d e _ _ _ (by_le (wants k) 3 _ _ w) (within_stays d e (deep k + 1) (c + 1) (Want (c + 1) (Negation ∷ k)) l))
-  (λ w. by_not_le (wants k) 3 _ _ w)
+    (λ w. as_step d e _ _ _ (by_le (wants k) 3 _ _ w) (within_stays d e (deep k + 1) (c + 1) (Want (c + 1) (Negation ∷ k)) l))
+    (λ w. by_not_le (wants k) 3 _ _ w)
 
 word_stays : (d e : Limits) (c : ℕ) (k : List Frame) (w : Word) → Below d e → StepStays d e (on_word d c k w) (on_word e c k w)
 word_stays d e c k w l = pick (λ s. StepStays d e s (on_word e c k w)) (is_not w) _ _
-  (λ q. as_step d e _ _ _ (by_true (is_not w) _ _ q) (not_stays d e c k l))
-  (λ q. by_false (is_not w) _ _ q)
+    (λ q. as_step d e _ _ _ (by_true (is_not w) _ _ q) (not_stays d e c k l))
+    (λ q. by_false (is_not w) _ _ q)
 
 prefix_stays : (d e : Limits) (c : ℕ) (k : List Frame) (o : Option Prefix) → Below d e → StepStays d e (on_prefix d c k o) (on_prefix e c k o)
 prefix_stays d e c k None l = refl
@@ -101,10 +101,10 @@ operand_stays d e c k token.Bad l = refl
 
 op_stays : (d e : Limits) (c : ℕ) (o : Op) (r : Syn × List Frame) → Below d e → StepStays d e (on_op d c o r) (on_op e c o r)
 op_stays d e c o r l = pick_le (λ s. StepStays d e s (on_op e c o r)) (wants r.1) (level o) _ _
-  (λ w. pick_le (λ s. StepStays d e s (on_op e c o r)) (c + 1) d.operators _ _
+    (λ w. pick_le (λ s. StepStays d e s (on_op e c o r)) (c + 1) d.operators _ _
     (λ b. by_le (wants r.1) (level o) _ _ w ∙ by_le (c + 1) e.operators _ _ (omega arith))
     (λ b k. let q : e.operators ≡ d.operators = k.1 in by_le (wants r.1) (level o) _ _ w ∙ by_not_le (c + 1) e.operators _ _ (omega arith)))
-  (λ w. by_not_le (wants r.1) (level o) _ _ w)
+    (λ w. by_not_le (wants r.1) (level o) _ _ w)
 
 operator_stays : (d e : Limits) (c : ℕ) (t : Syn) (k : List Frame) (x : Token) (o : Option Op) → Below d e → StepStays d e (operator_by d c t k x o) (operator_by e c t k x o)
 operator_stays d e c t k x (Some o) l = op_stays d e c o (reduce (left_level o) t k) l
@@ -173,18 +173,18 @@ within_goes d n c m k x q = pick_le (λ s. GoesOn d m x s) n d.depth _ _ (λ a. 
 
 name_goes : (d : Limits) (c : ℕ) (k : List Frame) (name : List ℕ) → GoesOn d (Want c k) (token.Name name) (on_name d c k name)
 name_goes d c k name = pick_le (λ s. GoesOn d (Want c k) (token.Name name) s) (length name) d.name _ _
-  (λ a. within_goes d (deep k) (so_far c k) (Want c k) (Have (so_far c k) (Column name) k) (token.Name name) (λ e l b. by_le (length name) e.name _ _ (omega arith)))
-  (λ a. (name_enough d (length name) (deep k) (so_far c k), Have (so_far c k) (Column name) k, name_below d (length name) (deep k) (so_far c k), refl, by_le (length name) (max d.name (length name)) _ _ (omega arith) ∙ inside (name_enough d (length name) (deep k) (so_far c k)) (deep k) (so_far c k) (Have (so_far c k) (Column name) k) (omega arith) (omega arith)))
+    (λ a. within_goes d (deep k) (so_far c k) (Want c k) (Have (so_far c k) (Column name) k) (token.Name name) (λ e l b. by_le (length name) e.name _ _ (omega arith)))
+    (λ a. (name_enough d (length name) (deep k) (so_far c k), Have (so_far c k) (Column name) k, name_below d (length name) (deep k) (so_far c k), refl, by_le (length name) (max d.name (length name)) _ _ (omega arith) ∙ inside (name_enough d (length name) (deep k) (so_far c k)) (deep k) (so_far c k) (Have (so_far c k) (Column name) k) (omega arith) (omega arith)))
 
 text_goes : (d : Limits) (c : ℕ) (k : List Frame) (value : List ℕ) → GoesOn d (Want c k) (token.Text value) (on_text d c k value)
 text_goes d c k value = pick_le (λ s. GoesOn d (Want c k) (token.Text value) s) (length value) d.text _ _
-  (λ a. within_goes d (deep k) (so_far c k) (Want c k) (Have (so_far c k) (Text value) k) (token.Text value) (λ e l b. by_le (length value) e.text _ _ (omega arith)))
-  (λ a. (text_enough d (length value) (deep k) (so_far c k), Have (so_far c k) (Text value) k, text_below d (length value) (deep k) (so_far c k), (refl, refl), by_le (length value) (max d.text (length value)) _ _ (omega arith) ∙ inside (text_enough d (length value) (deep k) (so_far c k)) (deep k) (so_far c k) (Have (so_far c k) (Text value) k) (omega arith) (omega arith)))
+    (λ a. within_goes d (deep k) (so_far c k) (Want c k) (Have (so_far c k) (Text value) k) (token.Text value) (λ e l b. by_le (length value) e.text _ _ (omega arith)))
+    (λ a. (text_enough d (length value) (deep k) (so_far c k), Have (so_far c k) (Text value) k, text_below d (length value) (deep k) (so_far c k), (refl, refl), by_le (length value) (max d.text (length value)) _ _ (omega arith) ∙ inside (text_enough d (length value) (deep k) (so_far c k)) (deep k) (so_far c k) (Have (so_far c k) (Text value) k) (omega arith) (omega arith)))
 
 not_goes : (d : Limits) (c : ℕ) (k : List Frame) (x : Token) → ((e : Limits) → step e (Want c k) x ≡ on_not e c k) → GoesOn d (Want c k) x (on_not d c k)
 not_goes d c k x q = pick_le (λ s. GoesOn d (Want c k) x s) (wants k) 3 _ _
-  (λ w. within_goes d (deep k + 1) (c + 1) (Want c k) (Want (c + 1) (Negation ∷ k)) x (λ e l b. q e ∙ by_le (wants k) 3 _ _ w))
-  (λ w. tt)
+    (λ w. within_goes d (deep k + 1) (c + 1) (Want c k) (Want (c + 1) (Negation ∷ k)) x (λ e l b. q e ∙ by_le (wants k) 3 _ _ w))
+    (λ w. tt)
 
 word_goes : (d : Limits) (c : ℕ) (k : List Frame) (w : Word) → GoesOn d (Want c k) (token.Word w) (on_word d c k w)
 word_goes d c k w = pick (λ s. GoesOn d (Want c k) (token.Word w) s) (is_not w) _ _ (λ q. not_goes d c k (token.Word w) (λ e. by_true (is_not w) _ _ q)) (λ q. tt)
@@ -204,9 +204,9 @@ operand_goes d c k token.Bad = tt
 
 op_goes : (d : Limits) (c : ℕ) (o : Op) (r : Syn × List Frame) (m : Mode) (x : Token) → ((e : Limits) → step e m x ≡ on_op e c o r) → GoesOn d m x (on_op d c o r)
 op_goes d c o r m x q = pick_le (λ s. GoesOn d m x s) (wants r.1) (level o) _ _
-  (λ w. pick_le (λ s. GoesOn d m x s) (c + 1) d.operators _ _ (λ b. tt)
+    (λ w. pick_le (λ s. GoesOn d m x s) (c + 1) d.operators _ _ (λ b. tt)
     (λ b. (deep_enough d 0 (c + 1), Want (c + 1) (Left o r.0 ∷ r.1), deep_below d 0 (c + 1), (refl, refl, refl), q (deep_enough d 0 (c + 1)) ∙ by_le (wants r.1) (level o) _ _ w ∙ by_le (c + 1) (max d.operators (c + 1)) _ _ (omega arith))))
-  (λ w. tt)
+    (λ w. tt)
 
 close_goes : (d : Limits) (m : Mode) (x : Token) (c : ℕ) (t : Syn) (k : List Frame) → GoesOn d m x (on_close c t k)
 close_goes d m x c t [] = tt
@@ -240,9 +240,9 @@ begins_here d m us i = subst (λ (ys : List Token). CanGo (expr d) ys) (sym (app
 
 raised_here : (d : Limits) (m : Mode) (us xs : List Token) (x : Token) (l : LineLimit) → Stands d m us → step d m x ≡ Stop (TooMany l) → Raised d (TooMany l) us (x ∷ xs)
 raised_here d m us xs x l i q =
-  let (e, n, b, k, g) = subst (λ (s : Step). GoesOn d m x s) q (step_goes d m x) in
-  let j = subst (λ (s : Step). StepOk e us x s) g (step_ok e m us x (stands_more d e m us b i)) in
-  (e, b, k, begins e n (us ++ x ∷ []) j)
+    let (e, n, b, k, g) = subst (λ (s : Step). GoesOn d m x s) q (step_goes d m x) in
+    let j = subst (λ (s : Step). StepOk e us x s) g (step_ok e m us x (stands_more d e m us b i)) in
+    (e, b, k, begins e n (us ++ x ∷ []) j)
 
 shift : (d : Limits) (us xs : List Token) (x : Token) (r : Reading Syn) → Viable d (us ++ x ∷ []) xs r → Viable d us (x ∷ xs) r
 shift d us xs x (Ok r) w = tt

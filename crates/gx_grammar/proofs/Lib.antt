@@ -9,5 +9,5 @@ pub mod Good
 pub mod Parts
 pub mod Many
 pub mod Either
-pub mod Whole
+pub mod Lines
 pub mod ExprGood

@@ -1,5 +1,5 @@
 -- The reader of expressions looks no further than at the token behind those that it reads.
-use Rattle.std.proofs.Common.{◌≡◌, ℕ, List, [], ◌∷◌, ◌++◌, refl, ◌∙◌, ap, subst, Ok, Err}
+use Rattle.std.proofs.Common.{◌≡◌, List, [], ◌∷◌, ◌++◌, refl, ◌∙◌, ap, subst, Ok, Err}
 use Rattle.gx_lex.specs.declared.token.Token.{Token}
 use Rattle.gx_grammar.specs.declared.fault.Limits.{Limits}
 use Rattle.gx_grammar.specs.declared.fault.Fault.TheVariants.{Syntax}

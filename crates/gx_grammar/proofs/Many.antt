@@ -3,10 +3,9 @@ use Rattle.std.proofs.Common.{◌≡◌, ℕ, ◌+◌, ◌<◌, ◌≤◌, Bool,
 use Rattle.gx_lex.specs.declared.token.Token.{Token}
 use Rattle.gx_grammar.specs.declared.fault.Limits.{Limits}
 use Rattle.gx_grammar.specs.declared.fault.Fault.{Fault}
-use Rattle.gx_grammar.specs.declared.fault.Fault.TheVariants.{Syntax, TooMany}
 use Rattle.gx_grammar.specs.declared.fault.ReadError.{ReadError}
 use Rattle.gx_grammar.specs.declared.fault.ReadError.TheVariants as errors
-use Rattle.gx_grammar.specs.Limiting.{Below, Keeps}
+use Rattle.gx_grammar.specs.Limiting.{Below}
 use Rattle.gx_grammar.specs.Code.{Fails}
 use Rattle.gx_grammar.specs.Rules.{many, Reading, ◌>>=◌, both_at, many_on, many_at, made_at, starts as heads_with, Same, CanGo}
 use Rattle.gx_grammar.proofs.Good.{Good, Tells, Raised, Stays, if_stays, raised_as, bind_stays, same_through, Heads, NotHeads}
@@ -49,32 +48,48 @@ module _ {A : Type 0} (begins : Token → Bool) (g : Limits → A → List Token
   raised_many d a us vs rest k q w = raised_as (λ d. many (g d)) (λ d. many (g d)) d k vs (us ++ vs) rest (λ e ws l c. subst (λ (t : List Token). CanGo (many (g e)) t) (sym (append_assoc us vs ws)) (go_many e a us (vs ++ ws) (R.more d e a us l q) c)) w
 
   joined : (d : Limits) (s : List A) (ts mid us : List Token) (a : A) (b : Reading (List A)) → ts ≡ us ++ mid → g d a us → ((others : List Token) → Same mid others → r d (us ++ others) ≡ Ok (a, others)) → ManyTells d (s ++ a ∷ []) mid b → ManyTells d s ts b
-  joined d s ts mid us a (Ok (t, rest)) e q f (vs, extra, e2, q2, w2, f2) =
-    (us ++ vs, a ∷ extra, e ∙ ap (λ (t : List Token). us ++ t) e2 ∙ sym (append_assoc us vs rest), q2 ∙ append_assoc s (a ∷ []) extra, (us, vs, q, w2, refl), λ others n z l.
-      let k : length ((us ++ vs) ++ others) ≡ length (us ++ (vs ++ others)) = ap length (append_assoc us vs others) in
-      let p = length-append us (vs ++ others) in
-      let h = some_heads us (heads d a us q) in
-      ap (λ (t : List Token). many_on begins (r d) n s t) (append_assoc us vs others)
-      ∙ many_hits d n s (us ++ (vs ++ others)) (Ok (a, vs ++ others)) (Ok (a, vs ++ others)) (Ok (t, others)) (front begins g starts r R heads us (vs ++ others) (heads d a us q)) (omega arith) (f (vs ++ others) (same_through mid vs rest others e2 z))
-        (λ m y. f2 others m z (omega arith)))
-  joined d s ts mid us a (Err (t, rest)) e q f (vs, e2, w2, k2, f2) =
-    (us ++ vs, e ∙ ap (λ (t : List Token). us ++ t) e2 ∙ sym (append_assoc us vs rest), go_many d a us vs q w2, raised_many d a us vs rest t q k2, λ others n z l.
-      let k : length ((us ++ vs) ++ others) ≡ length (us ++ (vs ++ others)) = ap length (append_assoc us vs others) in
-      let p = length-append us (vs ++ others) in
-      let h = some_heads us (heads d a us q) in
-      ap (λ (t : List Token). many_on begins (r d) n s t) (append_assoc us vs others)
-      ∙ many_hits d n s (us ++ (vs ++ others)) (Ok (a, vs ++ others)) (Ok (a, vs ++ others)) (Err (t, others)) (front begins g starts r R heads us (vs ++ others) (heads d a us q)) (omega arith) (f (vs ++ others) (same_through mid vs rest others e2 z))
-        (λ m y. f2 others m z (omega arith)))
+  joined d s ts mid us a (Ok (t, rest)) e q f (vs, extra, e2, q2, w2, f2) = (
+    us ++ vs,
+    a ∷ extra,
+    e ∙ ap (λ (t : List Token). us ++ t) e2 ∙ sym (append_assoc us vs rest),
+    q2 ∙ append_assoc s (a ∷ []) extra,
+    (us, vs, q, w2, refl),
+    λ others n z l.
+        let k : length ((us ++ vs) ++ others) ≡ length (us ++ (vs ++ others)) = ap length (append_assoc us vs others) in
+        let p = length-append us (vs ++ others) in
+        let h = some_heads us (heads d a us q) in
+        ap (λ (t : List Token). many_on begins (r d) n s t) (append_assoc us vs others)
+        ∙ many_hits d n s (us ++ (vs ++ others)) (Ok (a, vs ++ others)) (Ok (a, vs ++ others)) (Ok (t, others)) (front begins g starts r R heads us (vs ++ others) (heads d a us q)) (omega arith) (f (vs ++ others) (same_through mid vs rest others e2 z))
+        (λ m y. f2 others m z (omega arith)),
+  )
+  joined d s ts mid us a (Err (t, rest)) e q f (vs, e2, w2, k2, f2) = (
+    us ++ vs,
+    e ∙ ap (λ (t : List Token). us ++ t) e2 ∙ sym (append_assoc us vs rest),
+    go_many d a us vs q w2,
+    raised_many d a us vs rest t q k2,
+    λ others n z l.
+        let k : length ((us ++ vs) ++ others) ≡ length (us ++ (vs ++ others)) = ap length (append_assoc us vs others) in
+        let p = length-append us (vs ++ others) in
+        let h = some_heads us (heads d a us q) in
+        ap (λ (t : List Token). many_on begins (r d) n s t) (append_assoc us vs others)
+        ∙ many_hits d n s (us ++ (vs ++ others)) (Ok (a, vs ++ others)) (Ok (a, vs ++ others)) (Err (t, others)) (front begins g starts r R heads us (vs ++ others) (heads d a us q)) (omega arith) (f (vs ++ others) (same_through mid vs rest others e2 z))
+        (λ m y. f2 others m z (omega arith)),
+  )
 
   many_step : (d : Limits) (n : ℕ) (s : List A) (ts : List Token) (a : Reading A) → Tells g d (r d) ts a → Heads begins ts → length ts ≤ suc n → ((s : List A) (ts : List Token) → length ts ≤ n → ManyTells d s ts (many_on begins (r d) n s ts)) → ManyTells d s ts (a >>= λ a. many_on begins (r d) n (s ++ a.0 ∷ []) a.1)
   many_step d n s ts (Ok (a, mid)) (us, e, w, f) q l ih =
-    let k : length ts ≡ length (us ++ mid) = ap length e in
-    let p = length-append us mid in
-    let h = some_heads us (heads d a us w) in
-    joined d s ts mid us a (many_on begins (r d) n (s ++ a ∷ []) mid) e w f (ih (s ++ a ∷ []) mid (omega arith))
-  many_step d n s ts (Err (a, rest)) (us, e, (more, x, w), k, f) q l ih =
-    (us, e, go_one d us (more, x, w), raised_one d us rest a k, λ others m z b.
-      many_hits d m s (us ++ others) (Err (a, others)) (Err (a, others)) (Err (a, others)) (begun begins g starts r R heads ts us rest others e q z) b (f others z) (λ m y. refl))
+      let k : length ts ≡ length (us ++ mid) = ap length e in
+      let p = length-append us mid in
+      let h = some_heads us (heads d a us w) in
+      joined d s ts mid us a (many_on begins (r d) n (s ++ a ∷ []) mid) e w f (ih (s ++ a ∷ []) mid (omega arith))
+  many_step d n s ts (Err (a, rest)) (us, e, (more, x, w), k, f) q l ih = (
+    us,
+    e,
+    go_one d us (more, x, w),
+    raised_one d us rest a k,
+    λ others m z b.
+        many_hits d m s (us ++ others) (Err (a, others)) (Err (a, others)) (Err (a, others)) (begun begins g starts r R heads ts us rest others e q z) b (f others z) (λ m y. refl),
+  )
 
   many_turn : (d : Limits) (n : ℕ) (s : List A) (y : Token) (ys : List Token) (b : Bool) → begins y ≡ b → length (y ∷ ys) ≤ suc n → ((s : List A) (ts : List Token) → length ts ≤ n → ManyTells d s ts (many_on begins (r d) n s ts))
       → ManyTells d s (y ∷ ys) (if b then (r d (y ∷ ys) >>= λ a. many_on begins (r d) n (s ++ a.0 ∷ []) a.1) else Ok (s, y ∷ ys))
@@ -98,11 +113,11 @@ module _ {A : Type 0} (begins : Token → Bool) (g : Limits → A → List Token
   many_complete : (d : Limits) (n : ℕ) (s x : List A) (us rest : List Token) → ((us : List Token) → Heads begins us → starts us) → many (g d) x us → starts rest × NotHeads begins rest → length (us ++ rest) ≤ n → many_on begins (r d) n s (us ++ rest) ≡ Ok (s ++ x, rest)
   many_complete d n s [] us rest link q z l = ap (λ (t : List Token). many_on begins (r d) n s (t ++ rest)) q ∙ many_miss d n s rest z.1 ∙ ap (λ (x : List A). Ok (x, rest)) (sym (append-nil s))
   many_complete d n s (a ∷ x) us rest link (vs, ws, q, w, e) z l =
-    let k : length (us ++ rest) ≡ length (vs ++ (ws ++ rest)) = ap length (ap (λ (t : List Token). t ++ rest) e ∙ append_assoc vs ws rest) in
-    let p = length-append vs (ws ++ rest) in
-    let h = some_heads vs (heads d a vs q) in
-    ap (λ (t : List Token). many_on begins (r d) n s t) (ap (λ (t : List Token). t ++ rest) e ∙ append_assoc vs ws rest)
-    ∙ many_hits d n s (vs ++ (ws ++ rest)) (Ok (a, ws ++ rest)) (Ok (a, ws ++ rest)) (Ok (s ++ a ∷ x, rest)) (front begins g starts r R heads vs (ws ++ rest) (heads d a vs q)) (omega arith) (R.complete d a vs (ws ++ rest) q (many_follows d x ws rest link w z.0))
+      let k : length (us ++ rest) ≡ length (vs ++ (ws ++ rest)) = ap length (ap (λ (t : List Token). t ++ rest) e ∙ append_assoc vs ws rest) in
+      let p = length-append vs (ws ++ rest) in
+      let h = some_heads vs (heads d a vs q) in
+      ap (λ (t : List Token). many_on begins (r d) n s t) (ap (λ (t : List Token). t ++ rest) e ∙ append_assoc vs ws rest)
+      ∙ many_hits d n s (vs ++ (ws ++ rest)) (Ok (a, ws ++ rest)) (Ok (a, ws ++ rest)) (Ok (s ++ a ∷ x, rest)) (front begins g starts r R heads vs (ws ++ rest) (heads d a vs q)) (omega arith) (R.complete d a vs (ws ++ rest) q (many_follows d x ws rest link w z.0))
       (λ m y. many_complete d m (s ++ a ∷ []) x ws rest link w z (omega arith) ∙ ap (λ (x : List A). Ok (x, rest)) (append_assoc s (a ∷ []) x))
 
   many_more : (d e : Limits) (x : List A) (us : List Token) → Below d e → many (g d) x us → many (g e) x us
@@ -113,7 +128,7 @@ module _ {A : Type 0} (begins : Token → Bool) (g : Limits → A → List Token
   many_stays d e zero s ts l = refl
   many_stays d e (suc n) s [] l = refl
   many_stays d e (suc n) s (y ∷ ys) l = if_stays d e (begins y) (r d (y ∷ ys) >>= λ a. many_on begins (r d) n (s ++ a.0 ∷ []) a.1) (r e (y ∷ ys) >>= λ a. many_on begins (r e) n (s ++ a.0 ∷ []) a.1) (Ok (s, y ∷ ys)) (Ok (s, y ∷ ys))
-    (bind_stays d e (λ a. many_on begins (r d) n (s ++ a.0 ∷ []) a.1) (λ a. many_on begins (r e) n (s ++ a.0 ∷ []) a.1) (r d (y ∷ ys)) (r e (y ∷ ys)) (λ a. many_stays d e n (s ++ a.0 ∷ []) a.1 l) (R.stays d e (y ∷ ys) l)) refl
+      (bind_stays d e (λ a. many_on begins (r d) n (s ++ a.0 ∷ []) a.1) (λ a. many_on begins (r e) n (s ++ a.0 ∷ []) a.1) (r d (y ∷ ys)) (r e (y ∷ ys)) (λ a. many_stays d e n (s ++ a.0 ∷ []) a.1 l) (R.stays d e (y ∷ ys) l)) refl
 
   pub many_good : ((us : List Token) → Heads begins us → starts us) → Good (λ d. many (g d)) (λ rest. starts rest × NotHeads begins rest) (λ d. many_at begins (r d))
   many_good link = record {

@@ -1,13 +1,13 @@
 -- The readers of one token, of one part behind another, and of a part that may stand.
-use Rattle.std.proofs.Common.{◌≡◌, ℕ, ◌+◌, ◌<◌, ◌≤◌, Bool, true, false, if◌then◌else◌, List, [], ◌∷◌, ◌++◌, length, refl, sym, ◌∙◌, ap, subst, arith, append_assoc, append-nil, Ok, Err, Option, Some, None}
+use Rattle.std.proofs.Common.{◌≡◌, Bool, true, false, if◌then◌else◌, List, [], ◌∷◌, ◌++◌, refl, sym, ◌∙◌, ap, subst, append_assoc, Ok, Err, Option, Some, None}
 use Rattle.gx_lex.specs.declared.token.Token.{Token}
 use Rattle.gx_grammar.specs.declared.fault.Limits.{Limits}
 use Rattle.gx_grammar.specs.declared.fault.LineLimit.{LineLimit}
 use Rattle.gx_grammar.specs.declared.fault.Fault.{Fault}
 use Rattle.gx_grammar.specs.declared.fault.Fault.TheVariants.{Syntax, TooMany}
-use Rattle.gx_grammar.specs.Limiting.{Below, Keeps, KeepsBefore}
+use Rattle.gx_grammar.specs.Limiting.{Below}
 use Rattle.gx_grammar.specs.Rules.{Pick, Is, Isnt, Passes, one, both, maybe, made, behind, marked, Reading, ◌>>=◌, one_or, one_at, both_at, maybe_at, made_at, behind_at, Same, CanGo}
-use Rattle.gx_grammar.proofs.Good.{Good, Class, Tells, Raised, Stays, self_stays, if_stays, Always, raised_as, bind_stays, same_through, Heads, NotHeads}
+use Rattle.gx_grammar.proofs.Good.{Good, Class, Tells, Raised, Stays, if_stays, Always, raised_as, bind_stays, same_through, Heads, NotHeads}
 
 -- ONE TOKEN
 module _ {X : Type 0} (f : Limits → Token → Pick X) (C : Class f) where
@@ -26,9 +26,9 @@ module _ {X : Type 0} (f : Limits → Token → Pick X) (C : Class f) where
   one_tells d y ys (Is x) e = (y ∷ [], refl, (y, e, refl), λ others s. ap (λ (o : Pick X). one_or o y others) e)
   one_tells d y ys Isnt e = ([], refl, one_goes d, tt, λ others s. one_bad d Syntax Isnt y ys others e (λ z zs. refl) s)
   one_tells d y ys (Passes l) e =
-    let (h, b, k, w) = C.raised d y l e in
-    let (x, q) = w in
-    ([], refl, one_goes d, (h, b, k, ([], x, (y, q, refl))), λ others s. one_bad d (TooMany l) (Passes l) y ys others e (λ z zs. refl) s)
+      let (h, b, k, w) = C.raised d y l e in
+      let (x, q) = w in
+      ([], refl, one_goes d, (h, b, k, ([], x, (y, q, refl))), λ others s. one_bad d (TooMany l) (Passes l) y ys others e (λ z zs. refl) s)
 
   one_told : (d : Limits) (ts : List Token) → Tells (λ d. one (f d)) d (one_at (f d)) ts (one_at (f d) ts)
   one_told d [] = ([], refl, one_goes d, tt, λ others s. one_end d others s)
@@ -78,14 +78,25 @@ module _ {A B : Type 0} (g : Limits → A → List Token → Type 0) (h : Limits
 
   second : (d : Limits) (ts mid us : List Token) (a : A) (b : Reading B) → ts ≡ us ++ mid → g d a us → ((others : List Token) → Same mid others → r d (us ++ others) ≡ Ok (a, others)) → Tells h d (s d) mid b
       → Tells (λ d. both (g d) (h d)) d (both_at (r d) (s d)) ts (b >>= λ b. Ok ((a, b.0), b.1))
-  second d ts mid us a (Ok (b, rest)) e q f (vs, e2, w, f2) = (us ++ vs, e ∙ ap (λ (t : List Token). us ++ t) e2 ∙ sym (append_assoc us vs rest), (us, vs, q, w, refl), λ others z.
-      ap (λ (t : List Token). both_at (r d) (s d) t) (append_assoc us vs others)
-      ∙ ap (λ (x : Reading A). x >>= λ a. s d a.1 >>= λ b. Ok ((a.0, b.0), b.1)) (f (vs ++ others) (same_through mid vs rest others e2 z))
-      ∙ ap (λ (x : Reading B). x >>= λ b. Ok ((a, b.0), b.1)) (f2 others z))
-  second d ts mid us a (Err (b, rest)) e q f (vs, e2, w, k, f2) = (us ++ vs, e ∙ ap (λ (t : List Token). us ++ t) e2 ∙ sym (append_assoc us vs rest), go_pair d a us vs q w, raised_pair d a us vs rest b q k, λ others z.
-      ap (λ (t : List Token). both_at (r d) (s d) t) (append_assoc us vs others)
-      ∙ ap (λ (x : Reading A). x >>= λ a. s d a.1 >>= λ b. Ok ((a.0, b.0), b.1)) (f (vs ++ others) (same_through mid vs rest others e2 z))
-      ∙ ap (λ (x : Reading B). x >>= λ b. Ok ((a, b.0), b.1)) (f2 others z))
+  second d ts mid us a (Ok (b, rest)) e q f (vs, e2, w, f2) = (
+    us ++ vs,
+    e ∙ ap (λ (t : List Token). us ++ t) e2 ∙ sym (append_assoc us vs rest),
+    (us, vs, q, w, refl),
+    λ others z.
+        ap (λ (t : List Token). both_at (r d) (s d) t) (append_assoc us vs others)
+        ∙ ap (λ (x : Reading A). x >>= λ a. s d a.1 >>= λ b. Ok ((a.0, b.0), b.1)) (f (vs ++ others) (same_through mid vs rest others e2 z))
+        ∙ ap (λ (x : Reading B). x >>= λ b. Ok ((a, b.0), b.1)) (f2 others z),
+  )
+  second d ts mid us a (Err (b, rest)) e q f (vs, e2, w, k, f2) = (
+    us ++ vs,
+    e ∙ ap (λ (t : List Token). us ++ t) e2 ∙ sym (append_assoc us vs rest),
+    go_pair d a us vs q w,
+    raised_pair d a us vs rest b q k,
+    λ others z.
+        ap (λ (t : List Token). both_at (r d) (s d) t) (append_assoc us vs others)
+        ∙ ap (λ (x : Reading A). x >>= λ a. s d a.1 >>= λ b. Ok ((a.0, b.0), b.1)) (f (vs ++ others) (same_through mid vs rest others e2 z))
+        ∙ ap (λ (x : Reading B). x >>= λ b. Ok ((a, b.0), b.1)) (f2 others z),
+  )
 
   first : (d : Limits) (ts : List Token) (a : Reading A) → Tells g d (r d) ts a → Tells (λ d. both (g d) (h d)) d (both_at (r d) (s d)) ts (a >>= λ a. s d a.1 >>= λ b. Ok ((a.0, b.0), b.1))
   first d ts (Ok (a, mid)) (us, e, q, f) = second d ts mid us a (s d mid) e q f (S.tells d mid)
@@ -93,7 +104,7 @@ module _ {A B : Type 0} (g : Limits → A → List Token → Type 0) (h : Limits
 
   both_stays : (d e : Limits) (ts : List Token) → Below d e → Stays {X = A × B} d e (both_at (r d) (s d) ts) (both_at (r e) (s e) ts)
   both_stays d e ts l = bind_stays d e (λ a. s d a.1 >>= λ b. Ok ((a.0, b.0), b.1)) (λ a. s e a.1 >>= λ b. Ok ((a.0, b.0), b.1)) (r d ts) (r e ts)
-    (λ a. bind_stays d e (λ b. Ok ((a.0, b.0), b.1)) (λ b. Ok ((a.0, b.0), b.1)) (s d a.1) (s e a.1) (λ b. refl) (S.stays d e a.1 l)) (R.stays d e ts l)
+      (λ a. bind_stays d e (λ b. Ok ((a.0, b.0), b.1)) (λ b. Ok ((a.0, b.0), b.1)) (s d a.1) (s e a.1) (λ b. refl) (S.stays d e a.1 l)) (R.stays d e ts l)
 
   pub both_good : ((d : Limits) (b : B) (us rest : List Token) → h d b us → ends rest → starts (us ++ rest)) → Good (λ d. both (g d) (h d)) ends (λ d. both_at (r d) (s d))
   both_good link = record {
@@ -101,9 +112,9 @@ module _ {A B : Type 0} (g : Limits → A → List Token → Type 0) (h : Limits
     more = λ d e x us l (vs, ws, q, w, z). (vs, ws, R.more d e x.0 vs l q, S.more d e x.1 ws l w, z);
     tells = λ d ts. first d ts (r d ts) (R.tells d ts);
     complete = λ d x us rest (vs, ws, q, w, z) n.
-      ap (λ (t : List Token). both_at (r d) (s d) t) (ap (λ (t : List Token). t ++ rest) z ∙ append_assoc vs ws rest)
-      ∙ ap (λ (y : Reading A). y >>= λ a. s d a.1 >>= λ b. Ok ((a.0, b.0), b.1)) (R.complete d x.0 vs (ws ++ rest) q (link d x.1 ws rest w n))
-      ∙ ap (λ (y : Reading B). y >>= λ b. Ok ((x.0, b.0), b.1)) (S.complete d x.1 ws rest w n);
+        ap (λ (t : List Token). both_at (r d) (s d) t) (ap (λ (t : List Token). t ++ rest) z ∙ append_assoc vs ws rest)
+        ∙ ap (λ (y : Reading A). y >>= λ a. s d a.1 >>= λ b. Ok ((a.0, b.0), b.1)) (R.complete d x.0 vs (ws ++ rest) q (link d x.1 ws rest w n))
+        ∙ ap (λ (y : Reading B). y >>= λ b. Ok ((x.0, b.0), b.1)) (S.complete d x.1 ws rest w n);
     stays = both_stays;
   }
 
@@ -219,7 +230,7 @@ module _ {A : Type 0} (begins : Token → Bool) (g : Limits → A → List Token
   maybe_stays : (d e : Limits) (ts : List Token) → Below d e → Stays d e (maybe_at begins (r d) ts) (maybe_at begins (r e) ts)
   maybe_stays d e [] l = refl
   maybe_stays d e (y ∷ ys) l = if_stays d e (begins y) (r d (y ∷ ys) >>= λ a. Ok (Some a.0, a.1)) (r e (y ∷ ys) >>= λ a. Ok (Some a.0, a.1)) (Ok (None, y ∷ ys)) (Ok (None, y ∷ ys))
-    (bind_stays d e (λ a. Ok (Some a.0, a.1)) (λ a. Ok (Some a.0, a.1)) (r d (y ∷ ys)) (r e (y ∷ ys)) (λ a. refl) (R.stays d e (y ∷ ys) l)) refl
+      (bind_stays d e (λ a. Ok (Some a.0, a.1)) (λ a. Ok (Some a.0, a.1)) (r d (y ∷ ys)) (r e (y ∷ ys)) (λ a. refl) (R.stays d e (y ∷ ys) l)) refl
 
   pub maybe_good : Good (λ d. maybe (g d)) (λ rest. starts rest × NotHeads begins rest) (λ d. maybe_at begins (r d))
   maybe_good = record {

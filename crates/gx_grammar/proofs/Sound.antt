@@ -1,5 +1,5 @@
 -- What is read is written so.
-use Rattle.std.proofs.Common.{◌≡◌, ℕ, ◌+◌, ◌<◌, ◌≤◌, nat_le, Bool, true, false, if◌then◌else◌, List, [], ◌∷◌, ◌++◌, length, Option, Some, None, refl, sym, ◌∙◌, ap, subst, arith, append_assoc, append-nil, Ok, Err}
+use Rattle.std.proofs.Common.{◌≡◌, ℕ, ◌+◌, ◌≤◌, Bool, true, false, if◌then◌else◌, List, [], ◌∷◌, ◌++◌, length, Option, Some, None, refl, sym, ◌∙◌, ap, subst, arith, append_assoc, append-nil, Ok, Err}
 use Rattle.gx_lex.specs.declared.word.Word.{Word}
 use Rattle.gx_lex.specs.declared.word.Word.TheVariants as word
 use Rattle.gx_lex.specs.declared.symbol.Symbol.{Symbol}
@@ -17,7 +17,7 @@ use Rattle.gx_grammar.specs.declared.expr.Prefix.{Prefix}
 use Rattle.gx_grammar.specs.declared.expr.Prefix.TheVariants as prefix
 use Rattle.gx_grammar.specs.Grammar.{written, tokens_of, tree_of, level, left_level, Shape, digits, minus_digits, text, column, parens, minus, negated, both, Fits, Within, IsNoDigits, operators_of, expr}
 use Rattle.gx_grammar.specs.Rules.{Reading}
-use Rattle.gx_grammar.specs.Machine.{is_not, op_of, is_close, frame_level, wants, is_minus, deep, so_far, close, reduce, run, after_step, step, finish, Mode, Want, Have, Go, Stop, Done, Step, within, on_number, on_leaf, on_name, on_text, on_not, on_word, prefix_of, on_prefix, on_symbol, on_op, on_close, on_end, ending, behind_operand, operand, operator_by, operator, expr_at}
+use Rattle.gx_grammar.specs.Machine.{is_not, op_of, is_close, frame_level, wants, is_minus, deep, so_far, close, reduce, run, after_step, step, finish, Mode, Want, Have, Go, Stop, Done, Step, within, on_number, on_leaf, on_not, on_word, prefix_of, on_prefix, on_op, on_close, on_end, behind_operand, operand, operator_by, expr_at}
 use Rattle.gx_grammar.proofs.Tools.{pick, pick_le, level_from, level_to, left_from, left_to, wants_minus, wants_to, within_least, fits_less, written_is, close_is, not_is, sign_of, prefix_is}
 
 -- the frames stand for these tokens, which have so many operators
@@ -60,55 +60,55 @@ plain a k e = ap (λ (b : Bool). if b then a + 1 else a) e
 close_holds : (d : Limits) (c q : ℕ) (f : Frame) (t : Syn) (k : List Frame) (us : List Token) → 1 ≤ q → q ≤ frame_level f → Holds d c q t (f ∷ k) us → Holds d c q (close f t) k us
 close_holds d c q Paren t k us l m h = absurd (omega arith)
 close_holds d c q Minus t k us l m h =
-  let (vs, a, held, n, all) = h.held in
-  let e = h.count in
-  record {
-  shape = minus h.shape;
-  before = vs;
-  so_many = a;
-  held = held;
-  count = omega arith;
-  fits = (m, h.here, h.clear refl);
-  here = (wants_to k, h.here, h.clear refl);
-  inside = h.inside;
-  clear = λ e. tt;
-  tree = ap Neg h.tree;
-  all = h.all ∙ ap (λ (vs : List Token). vs ++ tokens_of h.shape) all ∙ append_assoc vs (token.Symbol symbol.Minus ∷ []) (tokens_of h.shape);
-}
+    let (vs, a, held, n, all) = h.held in
+    let e = h.count in
+    record {
+      shape = minus h.shape;
+      before = vs;
+      so_many = a;
+      held = held;
+      count = omega arith;
+      fits = (m, h.here, h.clear refl);
+      here = (wants_to k, h.here, h.clear refl);
+      inside = h.inside;
+      clear = λ e. tt;
+      tree = ap Neg h.tree;
+      all = h.all ∙ ap (λ (vs : List Token). vs ++ tokens_of h.shape) all ∙ append_assoc vs (token.Symbol symbol.Minus ∷ []) (tokens_of h.shape);
+    }
 close_holds d c q Negation t k us l m h =
-  let (vs, a, held, n, all, w) = h.held in
-  let e = h.count in
-  let p : so_far a k ≡ a = plain a k (wants_minus k (omega arith)) in
-  record {
-  shape = negated h.shape;
-  before = vs;
-  so_many = a;
-  held = held;
-  count = omega arith;
-  fits = (m, h.here);
-  here = (w, h.here);
-  inside = h.inside;
-  clear = λ e. tt;
-  tree = ap Not h.tree;
-  all = h.all ∙ ap (λ (vs : List Token). vs ++ tokens_of h.shape) all ∙ append_assoc vs (token.Word word.Not ∷ []) (tokens_of h.shape);
-}
+    let (vs, a, held, n, all, w) = h.held in
+    let e = h.count in
+    let p : so_far a k ≡ a = plain a k (wants_minus k (omega arith)) in
+    record {
+      shape = negated h.shape;
+      before = vs;
+      so_many = a;
+      held = held;
+      count = omega arith;
+      fits = (m, h.here);
+      here = (w, h.here);
+      inside = h.inside;
+      clear = λ e. tt;
+      tree = ap Not h.tree;
+      all = h.all ∙ ap (λ (vs : List Token). vs ++ tokens_of h.shape) all ∙ append_assoc vs (token.Word word.Not ∷ []) (tokens_of h.shape);
+    }
 close_holds d c q (Left o l) t k us low m h =
-  let (vs, a, s, held, n, under, fits, inside, tree, all) = h.held in
-  let e = h.count in
-  let p : so_far a k ≡ a = plain a k (wants_minus k (grind (arith, level_to o))) in
-  record {
-  shape = both o s h.shape;
-  before = vs;
-  so_many = a;
-  held = held;
-  count = omega arith;
-  fits = (m, fits, h.here);
-  here = (under, fits, h.here);
-  inside = (inside, h.inside);
-  clear = λ e. tt;
-  tree = ap (λ (x : Syn). Bin o l x) h.tree ∙ ap (λ (x : Syn). Bin o x (tree_of h.shape)) tree;
-  all = h.all ∙ ap (λ (vs : List Token). vs ++ tokens_of h.shape) all ∙ append_assoc vs (tokens_of s ++ written o ∷ []) (tokens_of h.shape) ∙ ap (λ (xs : List Token). vs ++ xs) (append_assoc (tokens_of s) (written o ∷ []) (tokens_of h.shape));
-}
+    let (vs, a, s, held, n, under, fits, inside, tree, all) = h.held in
+    let e = h.count in
+    let p : so_far a k ≡ a = plain a k (wants_minus k (grind (arith, level_to o))) in
+    record {
+      shape = both o s h.shape;
+      before = vs;
+      so_many = a;
+      held = held;
+      count = omega arith;
+      fits = (m, fits, h.here);
+      here = (under, fits, h.here);
+      inside = (inside, h.inside);
+      clear = λ e. tt;
+      tree = ap (λ (x : Syn). Bin o l x) h.tree ∙ ap (λ (x : Syn). Bin o x (tree_of h.shape)) tree;
+      all = h.all ∙ ap (λ (vs : List Token). vs ++ tokens_of h.shape) all ∙ append_assoc vs (tokens_of s ++ written o ∷ []) (tokens_of h.shape) ∙ ap (λ (xs : List Token). vs ++ xs) (append_assoc (tokens_of s) (written o ∷ []) (tokens_of h.shape));
+    }
 
 pub reduce_holds : (d : Limits) (c q : ℕ) (t : Syn) (k : List Frame) (us : List Token) → 1 ≤ q → Holds d c q t k us → Holds d c q (reduce q t k).0 (reduce q t k).1 us
 reduce_holds d c q t [] us l h = h
@@ -130,20 +130,22 @@ number_ok : (d : Limits) (c : ℕ) (n : Option ℕ) (k : List Frame) (us : List 
 number_ok d c n [] us h r l = (leaf_holds d c c (digits n) [] us h (omega arith) (omega arith) (omega arith) (λ e. absurd (cc)), l)
 number_ok d c n (Paren ∷ k) us h r l = (leaf_holds d c c (digits n) (Paren ∷ k) us h (omega arith) (omega arith) r (λ e. absurd (cc)), l)
 number_ok d c n (Minus ∷ k) us h r l =
-  let (vs, a, held, e, all) = h in
-  (record {
-  shape = minus_digits n;
-  before = vs;
-  so_many = a;
-  held = held;
-  count = omega arith;
-  fits = omega arith;
-  here = wants_to k;
-  inside = r;
-  clear = λ e. tt;
-  tree = refl;
-  all = ap (λ (vs : List Token). vs ++ token.Number n ∷ []) all ∙ append_assoc vs (token.Symbol symbol.Minus ∷ []) (token.Number n ∷ []);
-}, l)
+    let (vs, a, held, e, all) = h in (
+      record {
+        shape = minus_digits n;
+        before = vs;
+        so_many = a;
+        held = held;
+        count = omega arith;
+        fits = omega arith;
+        here = wants_to k;
+        inside = r;
+        clear = λ e. tt;
+        tree = refl;
+        all = ap (λ (vs : List Token). vs ++ token.Number n ∷ []) all ∙ append_assoc vs (token.Symbol symbol.Minus ∷ []) (token.Number n ∷ []);
+      },
+      l,
+    )
 number_ok d c n (Negation ∷ k) us h r l = (leaf_holds d c c (digits n) (Negation ∷ k) us h (omega arith) (omega arith) r (λ e. absurd (cc)), l)
 number_ok d c n (Left o t ∷ k) us h r l = (leaf_holds d c c (digits n) (Left o t ∷ k) us h (omega arith) (omega arith) r (λ e. absurd (cc)), l)
 
@@ -178,39 +180,41 @@ operand_ok d c k us token.Bad h r l = tt
 op_ok : (d : Limits) (c : ℕ) (t : Syn) (k : List Frame) (us : List Token) (o : Op) → Holds d c (left_level o) t k us → StepOk d us (written o) (on_op d c o (t, k))
 op_ok d c t k us o h = pick_le (λ s. StepOk d us (written o) s) (wants k) (level o) _ _
     (λ w. pick_le (λ s. StepOk d us (written o) s) (c + 1) d.operators _ _
-      (λ m. let e : is_minus k ≡ false = wants_minus k (grind (arith, level_to o)) in
-        let i : Within d (deep k) false h.shape = rw e at h.inside in
-        let p : so_far h.so_many k ≡ h.so_many = plain h.so_many k e in
-        let n = h.count in
-        ((h.before, h.so_many, h.shape, h.held, omega arith, w, h.fits, i, h.tree, ap (λ (vs : List Token). vs ++ written o ∷ []) h.all ∙ append_assoc h.before (tokens_of h.shape) (written o ∷ [])), within_least d (deep k) (is_minus k) h.shape h.inside, m))
-      (λ m. tt))
+    (λ m. let e : is_minus k ≡ false = wants_minus k (grind (arith, level_to o)) in
+    let i : Within d (deep k) false h.shape = rw e at h.inside in
+    let p : so_far h.so_many k ≡ h.so_many = plain h.so_many k e in
+    let n = h.count in
+    ((h.before, h.so_many, h.shape, h.held, omega arith, w, h.fits, i, h.tree, ap (λ (vs : List Token). vs ++ written o ∷ []) h.all ∙ append_assoc h.before (tokens_of h.shape) (written o ∷ [])), within_least d (deep k) (is_minus k) h.shape h.inside, m))
+    (λ m. tt))
     (λ w. tt)
 
 whole : (d : Limits) (c : ℕ) (t : Syn) (us : List Token) → Holds d c 1 t [] us → c ≤ d.operators → expr d t us
 whole d c t us h l =
-  let n = h.count in
-  let z : h.so_many ≡ 0 = h.held.1 in
-  (h.shape, h.here, h.inside, omega arith, h.all ∙ ap (λ (vs : List Token). vs ++ tokens_of h.shape) h.held.0, h.tree)
+    let n = h.count in
+    let z : h.so_many ≡ 0 = h.held.1 in
+    (h.shape, h.here, h.inside, omega arith, h.all ∙ ap (λ (vs : List Token). vs ++ tokens_of h.shape) h.held.0, h.tree)
 
 close_ok : (d : Limits) (c : ℕ) (t : Syn) (k : List Frame) (us : List Token) → Holds d c 1 t k us → c ≤ d.operators → StepOk d us (token.Symbol symbol.Close) (on_close c t k)
 close_ok d c t [] us h l = whole d c t us h l
 close_ok d c t (Paren ∷ k) us h l =
-  let (vs, a, held, n, all) = h.held in
-  let e = h.count in
-  (record {
-  shape = parens h.shape;
-  before = vs;
-  so_many = a;
-  held = held;
-  count = omega arith;
-  fits = (omega arith, h.here);
-  here = (wants_to k, h.here);
-  inside = h.inside;
-  clear = λ e. tt;
-  tree = h.tree;
-  all = ap (λ (vs : List Token). vs ++ token.Symbol symbol.Close ∷ []) (h.all ∙ ap (λ (vs : List Token). vs ++ tokens_of h.shape) all ∙ append_assoc vs (token.Symbol symbol.Open ∷ []) (tokens_of h.shape))
-    ∙ append_assoc vs (token.Symbol symbol.Open ∷ tokens_of h.shape) (token.Symbol symbol.Close ∷ []);
-}, l)
+    let (vs, a, held, n, all) = h.held in
+    let e = h.count in (
+      record {
+        shape = parens h.shape;
+        before = vs;
+        so_many = a;
+        held = held;
+        count = omega arith;
+        fits = (omega arith, h.here);
+        here = (wants_to k, h.here);
+        inside = h.inside;
+        clear = λ e. tt;
+        tree = h.tree;
+        all = ap (λ (vs : List Token). vs ++ token.Symbol symbol.Close ∷ []) (h.all ∙ ap (λ (vs : List Token). vs ++ tokens_of h.shape) all ∙ append_assoc vs (token.Symbol symbol.Open ∷ []) (tokens_of h.shape))
+            ∙ append_assoc vs (token.Symbol symbol.Open ∷ tokens_of h.shape) (token.Symbol symbol.Close ∷ []);
+      },
+      l,
+    )
 close_ok d c t (f ∷ k) us h l = tt
 
 end_ok : (d : Limits) (c : ℕ) (t : Syn) (k : List Frame) (us : List Token) (x : Token) → Holds d c 1 t k us → c ≤ d.operators → StepOk d us x (on_end t k)

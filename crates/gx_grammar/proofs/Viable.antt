@@ -1,5 +1,5 @@
 -- Where the reader of expressions stops, what it has read could go on.
-use Rattle.std.proofs.Common.{◌≡◌, ℕ, ◌≤◌, true, false, List, [], ◌∷◌, ◌++◌, Option, Some, refl, sym, ◌∙◌, ap, subst, arith, Ok, Err}
+use Rattle.std.proofs.Common.{◌≡◌, ℕ, ◌≤◌, true, false, List, [], ◌∷◌, Some, refl, sym, ◌∙◌, ap, subst, arith, Ok, Err}
 use Rattle.gx_lex.specs.declared.symbol.Symbol.TheVariants as symbol
 use Rattle.gx_lex.specs.declared.token.Token.{Token}
 use Rattle.gx_lex.specs.declared.token.Token.TheVariants as token
@@ -46,7 +46,6 @@ can_close d c (Minus ∷ k) t = let (u, e) = can_close d c k (Neg t) in (u, inne
 can_close d c (Negation ∷ k) t = let (u, e) = can_close d c k (Not t) in (u, inner d c t Negation k (close_all k) (omega arith) (all_closing k) ∙ e)
 can_close d c (Left o l ∷ k) t = let (u, e) = can_close d c k (Bin o l t) in (u, inner d c t (Left o l) k (close_all k) (level_from o) (all_closing k) ∙ e)
 
-
 pub can_go : (d : Limits) (m : Mode) → (more : List Token) × (u : Syn) × (run d more m ≡ Ok (u, []))
 can_go d (Have c t k) = let (u, e) = can_close d c k t in (close_all k, u, e)
 can_go d (Want c []) = let (u, e) = can_close d c [] (Number false (Some 0)) in (token.Number (Some 0) ∷ [], u, e)
@@ -57,6 +56,6 @@ can_go d (Want c (Left o l ∷ k)) = let (u, e) = can_close d c (Left o l ∷ k)
 
 pub begins : (d : Limits) (m : Mode) (us : List Token) → Stands d m us → CanGo (expr d) us
 begins d m us i =
-  let (more, u, e) = can_go d m in
-  let s = subst (λ (r : Reading Syn). Said d us more r) e (said d more m us i) in
-  (s.0, u, s.2)
+    let (more, u, e) = can_go d m in
+    let s = subst (λ (r : Reading Syn). Said d us more r) e (said d more m us i) in
+    (s.0, u, s.2)

@@ -1,5 +1,5 @@
 -- What the readers' values stand for.
-use Rattle.std.specs.Prelude.{◌≡◌, ℕ, List, reverse, Result, Ok, Err}
+use Rattle.std.specs.Prelude.{◌≡◌, List, reverse, Result, Ok, Err}
 use Rattle.std.specs.declared.vec.Vec.{Vec}
 use Rattle.std.specs.declared.alloc.Global.{Global}
 use Rattle.gx_lex.specs.declared.token.Token.{Token}
@@ -13,7 +13,9 @@ use Rattle.gx_grammar.specs.declared.expr.Wait.TheVariants.{Operand, Operator}
 use Rattle.gx_grammar.specs.declared.expr.Turn.{Turn}
 use Rattle.gx_grammar.specs.declared.expr.Turn.TheVariants as turn
 use Rattle.gx_grammar.specs.Machine.{Mode, Want, Have, Step, Go, Stop, Done}
-use Rattle.gx_grammar.specs.Rules.{Reading, Verdict}
+use Rattle.gx_grammar.specs.declared.class.Picked.{Picked}
+use Rattle.gx_grammar.specs.declared.class.Picked.TheVariants as picked
+use Rattle.gx_grammar.specs.Rules.{Pick, Is, Isnt, Passes, Reading, Verdict}
 
 -- the innermost first
 abbrev pub stack : Vec Frame Global → List Frame
@@ -27,6 +29,11 @@ abbrev pub turn_of : Turn → List Frame → Step
 turn_of (turn.Stop e) k = Stop e
 turn_of (turn.Go w) k = Go (mode_of w k)
 turn_of (turn.Done t) k = Done t
+
+abbrev pub pick_of : {T : Type 0} → Picked T → Pick T
+pick_of (picked.Is x) = Is x
+pick_of picked.Isnt = Isnt
+pick_of (picked.Passes l) = Passes l
 
 -- a result is this answer, unless memory ran out
 abbrev pub Fails : {X : Type 0} → ReadError → Reading X → Type 0

@@ -1,5 +1,5 @@
 -- Limits, and which of them differ.
-use Rattle.std.specs.Prelude.{◌≡◌, ℕ, ◌≤◌}
+use Rattle.std.specs.Prelude.{◌≡◌, ◌≤◌}
 use Rattle.gx_grammar.specs.declared.fault.Limits.{Limits}
 use Rattle.gx_grammar.specs.declared.fault.LineLimit.{LineLimit}
 use Rattle.gx_grammar.specs.declared.fault.LineLimit.TheVariants.{Segments, Name, Text, Depth}

@@ -1,11 +1,11 @@
 -- Rules of a grammar, and readers that look one token ahead.
-use Rattle.std.specs.Prelude.{◌≡◌, ◌⊎◌, ℕ, zero, suc, Bool, true, false, if◌then◌else◌, List, [], ◌∷◌, ◌++◌, length, Result, Ok, Err, Some, None, Option}
+use Rattle.std.specs.Prelude.{◌≡◌, ◌⊎◌, ℕ, zero, suc, Bool, false, if◌then◌else◌, List, [], ◌∷◌, ◌++◌, length, Result, Ok, Err, Some, None, Option}
 use Rattle.gx_lex.specs.declared.token.Token.{Token}
 use Rattle.gx_grammar.specs.declared.fault.Limits.{Limits}
 use Rattle.gx_grammar.specs.declared.fault.LineLimit.{LineLimit}
 use Rattle.gx_grammar.specs.declared.fault.Fault.{Fault}
 use Rattle.gx_grammar.specs.declared.fault.Fault.TheVariants.{Syntax, TooMany}
-use Rattle.gx_grammar.specs.Limiting.{Below, Keeps, KeepsBefore}
+use Rattle.gx_grammar.specs.Limiting.{Keeps, KeepsBefore}
 
 -- what a token is to a class of tokens: a value of it, no value, or one that passes a limit
 pub data Pick (X : Type 0) : Type 0 where

@@ -4,7 +4,7 @@ ghost use Rattle.gx_grammar.specs.Grammar.{level as level_of, left_level as left
 ghost use Rattle.gx_grammar.specs.Machine as machine;
 ghost use Rattle.gx_grammar.specs.Code.{stack, turn_of, mode_of, Gives};
 
-use crate::fault::{Fault, LineLimit, Limits, ReadError};
+use crate::fault::{Fault, Limits, LineLimit, ReadError};
 use crate::syn::{Op, Syn};
 use gx_ids::{Boxed, Duplicate, Mem};
 use gx_lex::{Symbol, Token, Word};

@@ -1,5 +1,5 @@
 -- What the readers of whole lines say.
-use Rattle.std.proofs.Common.{◌≡◌, ℕ, List, [], ◌∷◌, ◌++◌, refl, sym, ◌∙◌, ap, subst, append_assoc, append-nil, Result, Ok, Err}
+use Rattle.std.proofs.Common.{◌≡◌, List, [], ◌∷◌, ◌++◌, refl, sym, ◌∙◌, ap, subst, append_assoc, append-nil, Result, Ok, Err}
 use Rattle.gx_lex.specs.declared.token.Token.{Token}
 use Rattle.gx_grammar.specs.declared.fault.Limits.{Limits}
 use Rattle.gx_grammar.specs.declared.fault.LineLimit.{LineLimit}
@@ -7,7 +7,7 @@ use Rattle.gx_grammar.specs.declared.fault.Fault.{Fault}
 use Rattle.gx_grammar.specs.declared.fault.Fault.TheVariants.{Syntax, TooMany}
 use Rattle.gx_grammar.specs.declared.fault.ReadError.{ReadError}
 use Rattle.gx_grammar.specs.declared.fault.ReadError.TheVariants as errors
-use Rattle.gx_grammar.specs.Limiting.{Below, Keeps, KeepsBefore}
+use Rattle.gx_grammar.specs.Limiting.{Keeps}
 use Rattle.gx_grammar.specs.Rules.{Reading, Same, CanGo, CannotGo, Verdict, whole_of, whole_at}
 use Rattle.gx_grammar.specs.Code.{Says, Judged}
 use Rattle.gx_grammar.proofs.Good.{Good, Tells, Stays}
@@ -33,23 +33,23 @@ module _ {A : Type 0} (g : Limits → A → List Token → Type 0) (ends : List 
 
   bad_end : (d : Limits) (us : List Token) → ((others : List Token) → Same [] others → r d (us ++ others) ≡ Err (Syntax, others)) → CannotGo g us []
   bad_end d us f e s q =
-    let t = subst (λ (a : Reading A). Stays d (join d e) a (r (join d e) us)) (ap (r d) (sym (append-nil us)) ∙ f [] tt) (R.stays d (join d e) us (join_left d e)) in
-    clash (r (join d e) us) (s, []) (Syntax, []) (has d e s us q) t
+      let t = subst (λ (a : Reading A). Stays d (join d e) a (r (join d e) us)) (ap (r d) (sym (append-nil us)) ∙ f [] tt) (R.stays d (join d e) us (join_left d e)) in
+      clash (r (join d e) us) (s, []) (Syntax, []) (has d e s us q) t
 
   bad_next : (d : Limits) (us : List Token) (y : Token) (ys : List Token) → ((others : List Token) → Same (y ∷ ys) others → r d (us ++ others) ≡ Err (Syntax, others)) → CannotGo g us (y ∷ ys)
   bad_next d us y ys f e (more, s, q) =
-    let t = subst (λ (a : Reading A). Stays d (join d e) a (r (join d e) (us ++ y ∷ more))) (f (y ∷ more) refl) (R.stays d (join d e) (us ++ y ∷ more) (join_left d e)) in
-    clash (r (join d e) (us ++ y ∷ more)) (s, []) (Syntax, y ∷ more) (has d e s (us ++ y ∷ more) (same_tokens us more y e s q)) t
+      let t = subst (λ (a : Reading A). Stays d (join d e) a (r (join d e) (us ++ y ∷ more))) (f (y ∷ more) refl) (R.stays d (join d e) (us ++ y ∷ more) (join_left d e)) in
+      clash (r (join d e) (us ++ y ∷ more)) (s, []) (Syntax, y ∷ more) (has d e s (us ++ y ∷ more) (same_tokens us more y e s q)) t
 
   over : (d : Limits) (us : List Token) (y : Token) (ys : List Token) (a : A) → ((others : List Token) → Same (y ∷ ys) others → r d (us ++ others) ≡ Ok (a, others)) → CannotGo g us (y ∷ ys)
   over d us y ys a f e (more, s, q) =
-    let t = subst (λ (a : Reading A). Stays d (join d e) a (r (join d e) (us ++ y ∷ more))) (f (y ∷ more) refl) (R.stays d (join d e) (us ++ y ∷ more) (join_left d e)) in
-    two_ends (r (join d e) (us ++ y ∷ more)) s a y more (has d e s (us ++ y ∷ more) (same_tokens us more y e s q)) t
+      let t = subst (λ (a : Reading A). Stays d (join d e) a (r (join d e) (us ++ y ∷ more))) (f (y ∷ more) refl) (R.stays d (join d e) (us ++ y ∷ more) (join_left d e)) in
+      two_ends (r (join d e) (us ++ y ∷ more)) s a y more (has d e s (us ++ y ∷ more) (same_tokens us more y e s q)) t
 
   passes_next : (d : Limits) (l : LineLimit) (us : List Token) (y : Token) (ys : List Token) → ((others : List Token) → Same (y ∷ ys) others → r d (us ++ others) ≡ Err (TooMany l, others)) → (e : Limits) → Keeps l d e → CanGo (g e) (us ++ y ∷ []) → ⊥
   passes_next d l us y ys f e k (more, s, q) =
-    let t = subst (λ (a : Reading A). Stays d (join d e) a (r (join d e) (us ++ y ∷ more))) (f (y ∷ more) refl) (R.stays d (join d e) (us ++ y ∷ more) (join_left d e)) in
-    clash (r (join d e) (us ++ y ∷ more)) (s, []) (TooMany l, y ∷ more) (has d e s (us ++ y ∷ more) (same_tokens us more y e s q)) (t (join_keeps l d e k))
+      let t = subst (λ (a : Reading A). Stays d (join d e) a (r (join d e) (us ++ y ∷ more))) (f (y ∷ more) refl) (R.stays d (join d e) (us ++ y ∷ more) (join_left d e)) in
+      clash (r (join d e) (us ++ y ∷ more)) (s, []) (TooMany l, y ∷ more) (has d e s (us ++ y ∷ more) (same_tokens us more y e s q)) (t (join_keeps l d e k))
 
   told : (d : Limits) (ts : List Token) (a : Reading A) → Tells g d (r d) ts a → Verdict g d ts (whole_of a)
   told d ts (Ok (s, [])) (us, e, q, f) = subst (λ (t : List Token). g d s t) (sym (e ∙ append-nil us)) q
