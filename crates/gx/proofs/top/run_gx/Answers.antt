@@ -1,0 +1,13 @@
+use Rattle.std.proofs.Common.{arith, inl, inr}
+use Rattle.gx.proofs.top.run_gx.Goals as goal
+
+pub returns-in-Done-clause-write_fault : goal.returns-in-Done-clause-write_fault
+returns-in-Done-clause-write_fault g c = λ five. elim c.told.ensures.ended [
+  | inl done ↦ absurd (omega (arith, done.0, five))
+  | inr cut ↦ record {
+    text = c.as_slice.result.now;
+    is = rw (c.told.ensures.same, c.as_slice.ensures.value) (inl (inl c.in-Done.ensures));
+    rose = cut.1.0;
+    part = cut.1.1;
+  }
+]

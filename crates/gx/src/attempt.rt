@@ -1,0 +1,95 @@
+// The work before the writing: words, reading, script, run and text.
+ghost use Rattle.std.specs.Prelude.{◌≡◌, ◌≤◌, ◌⊎◌, [], length, OnOk, IfOk, IfErr};
+ghost use Rattle.gx_script.specs.IsPlain.{IsPlain};
+ghost use Rattle.gx_store.specs.Lines.{AreAllAnswered};
+ghost use Rattle.gx_store.specs.Marks.{marks_of};
+ghost use Rattle.gx_store.specs.Runs.{IsLegalRun};
+ghost use Rattle.gx.specs.Top.{IsAttempt, IsPartOf, IsRunOf};
+
+use crate::tables::text;
+use gx_ids::{Mem, SessionId};
+use gx_outside::{ReadFault, Source, read_up_to};
+use gx_script::Script;
+use gx_sql::{Stop, read_plain};
+use gx_store::{Event, Run};
+use gx_world::World;
+use std::alloc::Global;
+
+// The most bytes of a script.
+const LIMIT: usize = 65536;
+
+/// How the work before the writing ended: with a run and its text, or without.
+#[derive(Debug, Drop)]
+pub enum Attempt {
+    Done(Run, Vec<u8>),
+    ReadFault,
+    NotBuilt,
+    OutOfMemory(Run),
+}
+
+// Runs each line that is left.
+fn run_lines(world: &mut World) -> Mem<()>
+    requires { length world.old.run.steps ≤ length world.old.script.lines }
+    ensures script { world.new.script ≡ world.old.script }
+    ensures whole { OnOk result (AreAllAnswered world.new.script (marks_of world.new.run)) }
+{
+    'lines: while world.unfinished() {
+        world.step(Event::Start(SessionId(0)))?;
+    }
+    Ok(())
+}
+
+// Runs a script, and tells the text of its run.
+fn run_script(alloc: Global, script: Script) -> Result<(Run, Vec<u8>), Run>
+    requires { IsPlain script }
+    ensures done { IfOk result (λ made. IsRunOf script made.0 made.1.items) }
+    ensures memory { IfErr result (IsPartOf script) }
+{
+    let mut world = match World::new(alloc, script) {
+        Ok(world) => world,
+        Err(_) => return Err(Run::new(alloc)),
+    };
+    if run_lines(&mut world).is_err() {
+        return Err(world.into_parts().1);
+    }
+    match told(alloc, &world) {
+        Ok(text) => Ok((world.into_parts().1, text)),
+        Err(_) => Err(world.into_parts().1),
+    }
+}
+
+// The text of a world that has run its script.
+fn told(alloc: Global, world: &World) -> Mem<Vec<u8>>
+    requires { AreAllAnswered world.now.script (marks_of world.now.run) }
+    ensures { IfOk result (λ text. IsRunOf world.now.script world.now.run text.items) }
+{
+    let tables = world.final_tables()?;
+    text(alloc, world.script(), world.run(), tables.as_slice())
+}
+
+/// Reads, runs and tells, and writes nothing. Words that aren't empty, and bytes that aren't a script of the form that is
+/// built, are `NotBuilt`.
+pub fn make_attempt<S: Source>(alloc: Global, words: &[String], source: &mut S) -> Attempt
+    ensures { IsAttempt words.now (S.left source.old) (S.left source.new) (S.fault_count source.old) (S.fault_count source.new) result }
+{
+    if !words.is_empty() {
+        return Attempt::NotBuilt;
+    }
+    let bytes = match read_up_to(alloc, source, LIMIT + 1) {
+        Ok(bytes) => bytes,
+        Err(ReadFault::Failed) => return Attempt::ReadFault,
+        Err(ReadFault::OutOfMemory) => return Attempt::OutOfMemory(Run::new(alloc)),
+    };
+    if bytes.len() > LIMIT {
+        return Attempt::NotBuilt;
+    }
+    let script = match read_plain(alloc, bytes.as_slice()) {
+        Ok(script) => script,
+        Err(Stop::NotRead) => return Attempt::NotBuilt,
+        Err(Stop::OutOfMemory) => return Attempt::OutOfMemory(Run::new(alloc)),
+    };
+    match run_script(alloc, script) {
+        Ok((run, text)) => Attempt::Done(run, text),
+        Err(run) => Attempt::OutOfMemory(run),
+    }
+}

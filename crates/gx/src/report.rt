@@ -1,0 +1,174 @@
+// The text of answers.
+ghost use Rattle.std.specs.Prelude.{◌≡◌, ◌++◌, OnOk, map};
+ghost use Rattle.std.specs.List.{flat_map};
+ghost use Rattle.std.specs.Fmt.{decimal, signed_decimal};
+ghost use Rattle.gx.specs.Text.{quoted_byte, quoted_text, cell_text, cells_text, row_line, answer_text, line_text, mark_text, step_text, session_text, sessions_text};
+
+use gx_ids::Mem;
+use gx_store::{Mark, Run, Step, StmtAnswer};
+use gx_tree::{Cell, OutRow, Txt};
+use itoa::Buffer;
+
+/// Adds bytes as they are.
+pub fn push_bytes(text: &mut Vec<u8>, bytes: &[u8]) -> Mem<()>
+    ensures { OnOk result (text.new.items ≡ text.old.items ++ bytes.now) }
+{
+    text.extend_from_slice(bytes)?;
+    Ok(())
+}
+
+/// Adds the decimal digits of a count.
+pub fn push_count(text: &mut Vec<u8>, number: u128) -> Mem<()>
+    ensures { OnOk result (text.new.items ≡ text.old.items ++ decimal number) }
+{
+    let mut digits = Buffer::new();
+    push_bytes(text, digits.format(number).as_bytes())
+}
+
+/// Adds the decimal digits of a whole number, behind its sign where it is negative.
+pub fn push_integer(text: &mut Vec<u8>, number: i128) -> Mem<()>
+    ensures { OnOk result (text.new.items ≡ text.old.items ++ signed_decimal number) }
+{
+    let mut digits = Buffer::new();
+    push_bytes(text, digits.format(number).as_bytes())
+}
+
+// A byte between quotes: a quote is doubled.
+fn push_quoted_byte(text: &mut Vec<u8>, byte: u8) -> Mem<()>
+    ensures { OnOk result (text.new.items ≡ text.old.items ++ quoted_byte byte) }
+{
+    if byte == b'\'' {
+        push_bytes(text, b"''")
+    } else {
+        push_bytes(text, &[byte])
+    }
+}
+
+/// Adds a text in single quotes.
+pub fn push_quoted(text: &mut Vec<u8>, bytes: &[u8]) -> Mem<()>
+    ensures { OnOk result (text.new.items ≡ text.old.items ++ quoted_text bytes.now) }
+{
+    push_bytes(text, b"'")?;
+    for byte in bytes {
+        push_quoted_byte(text, *byte)?;
+    }
+    push_bytes(text, b"'")
+}
+
+fn push_cell(text: &mut Vec<u8>, cell: &Cell) -> Mem<()>
+    ensures { OnOk result (text.new.items ≡ text.old.items ++ cell_text cell.now) }
+{
+    match cell {
+        Cell::Int(number) => push_integer(text, *number),
+        Cell::Text(bytes) => push_quoted(text, bytes.as_slice()),
+        Cell::Null => push_bytes(text, b"null"),
+    }
+}
+
+fn push_cells(text: &mut Vec<u8>, cells: &[Cell]) -> Mem<()>
+    ensures { OnOk result (text.new.items ≡ text.old.items ++ cells_text cells.now) }
+{
+    let [first, others @ ..] = cells else {
+        return Ok(());
+    };
+    push_cell(text, first)?;
+    for cell in others {
+        push_bytes(text, b"|")?;
+        push_cell(text, cell)?;
+    }
+    Ok(())
+}
+
+// A row of an answer, on a line of its own.
+fn push_row(text: &mut Vec<u8>, cells: &[Cell]) -> Mem<()>
+    ensures { OnOk result (text.new.items ≡ text.old.items ++ row_line cells.now) }
+{
+    push_bytes(text, b"  ")?;
+    push_cells(text, cells)?;
+    push_bytes(text, b"\n")
+}
+
+fn push_rows(text: &mut Vec<u8>, rows: &[OutRow]) -> Mem<()>
+    ensures { OnOk result (text.new.items ≡ text.old.items ++ flat_map row_line rows.now) }
+{
+    for row in rows {
+        push_row(text, row.as_slice())?;
+    }
+    Ok(())
+}
+
+fn push_answer(text: &mut Vec<u8>, answer: &StmtAnswer) -> Mem<()>
+    ensures { OnOk result (text.new.items ≡ text.old.items ++ answer_text answer.now) }
+{
+    match answer {
+        StmtAnswer::Inserted(count) => {
+            push_bytes(text, b"INSERT ")?;
+            push_count(text, *count)?;
+            push_bytes(text, b"\n")
+        }
+        StmtAnswer::Rows(rows) => {
+            push_bytes(text, b"SELECT ")?;
+            push_count(text, rows.len() as u128)?;
+            push_bytes(text, b"\n")?;
+            push_rows(text, rows.as_slice())
+        }
+    }
+}
+
+// An answer behind its line's session and number.
+fn push_line(text: &mut Vec<u8>, name: &[u8], number: u32, answer: &StmtAnswer) -> Mem<()>
+    ensures { OnOk result (text.new.items ≡ text.old.items ++ line_text name.now number answer.now) }
+{
+    push_bytes(text, name)?;
+    push_bytes(text, b".")?;
+    push_count(text, u128::from(number))?;
+    push_bytes(text, b" ")?;
+    push_answer(text, answer)
+}
+
+fn push_mark(text: &mut Vec<u8>, session: usize, name: &[u8], mark: &Mark) -> Mem<()>
+    ensures { OnOk result (text.new.items ≡ text.old.items ++ mark_text session name.now mark.now) }
+{
+    match mark {
+        Mark::Answer {
+            session: answered,
+            number,
+            answer,
+        } => {
+            if usize::from(answered.0) == session {
+                push_line(text, name, *number, answer)
+            } else {
+                Ok(())
+            }
+        }
+        _ => Ok(()),
+    }
+}
+
+fn push_step(text: &mut Vec<u8>, session: usize, name: &[u8], marks: &[Mark]) -> Mem<()>
+    ensures { OnOk result (text.new.items ≡ text.old.items ++ flat_map (mark_text session name.now) marks.now) }
+{
+    for mark in marks {
+        push_mark(text, session, name, mark)?;
+    }
+    Ok(())
+}
+
+fn push_session(text: &mut Vec<u8>, session: usize, name: &[u8], steps: &[Step]) -> Mem<()>
+    ensures { OnOk result (text.new.items ≡ text.old.items ++ session_text session name.now steps.now) }
+{
+    for step in steps {
+        push_step(text, session, name, step.marks.as_slice())?;
+    }
+    Ok(())
+}
+
+/// Adds the answers of each session, in the order in which the sessions first appear in the script.
+pub fn push_sessions(text: &mut Vec<u8>, names: &[Txt], run: &Run) -> Mem<()>
+    ensures { OnOk result (text.new.items ≡ text.old.items ++ sessions_text run.now.steps 0 names.now) }
+{
+    for (session, name) in names.iter().enumerate() {
+        push_session(text, session, name.as_slice(), run.steps.as_slice())?;
+    }
+    Ok(())
+}

@@ -1,0 +1,124 @@
+// The worked scripts through the top call, over memory.
+use crate::top::{Report, run_gx};
+use gx_outside::{JournalMem, PassGate, SinkMem, SourceMem};
+use gx_store::Mark;
+use std::test::Fail;
+
+const SMALLEST: &str =
+    "segments 1\ntable t (a bigint, b bigint) distributed by (a)\ns1: INSERT INTO t VALUES (1, 10), (2, 20)\ns1: SELECT * FROM t\n";
+
+const SMALLEST_TEXT: &str =
+    "s1.1 INSERT 2\ns1.2 SELECT 2\n  1|10\n  2|20\ntable t 2\n  1|10\n  2|20\n";
+
+const THREE: &str =
+    "segments 3\ntable t (a bigint, b bigint) distributed by (a)\ns1: INSERT INTO t VALUES (-1, 0), (0, 0), (9223372036854775807, 0)\ns1: SELECT * FROM t\n";
+
+const THREE_TEXT: &str =
+    "s1.1 INSERT 3\ns1.2 SELECT 3\n  -1|0\n  0|0\n  9223372036854775807|0\ntable t 3\n  -1|0\n  0|0\n  9223372036854775807|0\n";
+
+const EMPTY: &str = "segments 2\ntable t (a bigint, b bigint) distributed by (a)\n";
+
+// The report of a run over memory that moves 10 bytes at a time, and the text that it wrote.
+fn outcome(
+    rt: &HostRuntime,
+    words: &[String],
+    script: &[u8],
+    failing_read: &[u64],
+    failing_write: &[u64],
+) -> Result<(Report, String), Fail> {
+    let alloc = rt.alloc();
+    let bytes = Vec::from_slice(alloc, script)?;
+    let mut source = SourceMem::new(bytes, 10, Vec::from_slice(alloc, failing_read)?);
+    let mut sink = SinkMem::new(alloc, 1000, 10, Vec::from_slice(alloc, failing_write)?)?;
+    let mut journals: Vec<JournalMem> = Vec::new(alloc);
+    let report = run_gx(
+        alloc,
+        words,
+        &mut source,
+        &mut sink,
+        &mut journals,
+        &PassGate,
+    );
+    let written = String::from_utf8(Vec::from_slice(alloc, sink.written())?)
+        .ok()
+        .ok_or("no text")?;
+    Ok((report, written))
+}
+
+#[test]
+fn scripts_give_their_texts(rt: HostRuntime) -> Result<(), Fail> {
+    let cases = [
+        (SMALLEST, 0, SMALLEST_TEXT),
+        (THREE, 0, THREE_TEXT),
+        (EMPTY, 0, "table t 0\n"),
+        ("", 10, "not built\n"),
+        (
+            "segments 5\ntable t (a bigint) distributed by (a)\n",
+            10,
+            "not built\n",
+        ),
+        (
+            "segments 1\ntable t (a bigint) distributed by (b)\n",
+            10,
+            "not built\n",
+        ),
+        (
+            "segments 1\ntable t (a text) distributed by (a)\n",
+            10,
+            "not built\n",
+        ),
+    ];
+    for (script, status, text) in cases {
+        let (report, written) = outcome(&rt, &[], script.as_bytes(), &[], &[])?;
+        assert_eq!(rt; report.status, status, "of {script}");
+        assert_eq!(rt; written.as_str(), text);
+    }
+    Ok(())
+}
+
+#[test]
+fn rows_stand_at_their_segments(rt: HostRuntime) -> Result<(), Fail> {
+    let (report, _) = outcome(&rt, &[], THREE.as_bytes(), &[], &[])?;
+    let mut nodes: Vec<u8> = Vec::new(rt.alloc());
+    for step in report.run.steps.as_slice() {
+        for mark in step.marks.as_slice() {
+            if let Mark::Write { node, .. } = mark {
+                nodes.push(node.0)?;
+            }
+        }
+    }
+    assert_eq!(rt; nodes.as_slice(), [3, 1, 2].as_slice());
+    Ok(())
+}
+
+#[test]
+fn a_failing_read_is_told(rt: HostRuntime) -> Result<(), Fail> {
+    let (report, written) = outcome(&rt, &[], SMALLEST.as_bytes(), &[3], &[])?;
+    assert_eq!(rt; report.status, 4);
+    assert_eq!(rt; written.as_str(), "read fault\n");
+    assert!(rt; report.run.steps.is_empty());
+    Ok(())
+}
+
+#[test]
+fn a_failing_write_leaves_a_prefix(rt: HostRuntime) -> Result<(), Fail> {
+    let (report, written) = outcome(&rt, &[], SMALLEST.as_bytes(), &[], &[3])?;
+    assert_eq!(rt; report.status, 5);
+    assert_eq!(rt; written.as_str(), "s1.1 INSERT 2\ns1.2 S");
+    assert_eq!(rt; report.run.steps.len(), 2);
+    Ok(())
+}
+
+#[test]
+fn words_and_long_scripts_are_not_built(rt: HostRuntime) -> Result<(), Fail> {
+    let mut words = Vec::new(rt.alloc());
+    words.push(String::from_str(rt.alloc(), "--trace")?)?;
+    let (report, written) = outcome(&rt, words.as_slice(), SMALLEST.as_bytes(), &[], &[])?;
+    assert_eq!(rt; report.status, 10);
+    assert_eq!(rt; written.as_str(), "not built\n");
+    let long = vec![in rt.alloc(); b' '; 65537]?;
+    let (report, written) = outcome(&rt, &[], long.as_slice(), &[], &[])?;
+    assert_eq!(rt; report.status, 10);
+    assert_eq!(rt; written.as_str(), "not built\n");
+    Ok(())
+}

@@ -1,0 +1,62 @@
+// The top call.
+ghost use Rattle.std.specs.Prelude.{◌≡◌};
+ghost use Rattle.gx.specs.Top.{IsCutShort, IsDone, IsDue, IsNotBuilt, IsPartRun, IsReadFault, IsStatus, IsTold, IsWritten};
+
+use crate::attempt::{Attempt, make_attempt};
+use gx_outside::{Failed, Gate, Journal, Sink, Source, write_whole};
+use gx_store::Run;
+use std::alloc::Global;
+
+/// What a call did: its status, and the run that it made. 0 is done, 4 a read fault, 5 a write fault, 6 want of memory, and
+/// 10 a form that isn't built yet.
+#[derive(Debug, Drop)]
+pub struct Report {
+    pub status: u8,
+    pub run: Run,
+}
+
+// Writes the text of an ending with this status.
+fn told<K: Sink>(status: u8, run: Run, text: &[u8], sink: &mut K) -> Report
+    ensures { IsTold status run text.now (K.written sink.old) (K.written sink.new) (K.fault_count sink.old) (K.fault_count sink.new) result }
+{
+    match write_whole(sink, text) {
+        Ok(()) => Report { status, run },
+        Err(Failed) => Report { status: 5, run },
+    }
+}
+
+/// Reads a script from the source, runs it, and writes the text of its run to the sink, which is built whole before the
+/// first write. The words are those of the command line behind the program's name. Journals and gate aren't used yet.
+pub fn run_gx<S: Source, K: Sink, J: Journal, G: Gate>(
+    alloc: Global,
+    words: &[String],
+    source: &mut S,
+    sink: &mut K,
+    journals: &mut Vec<J>,
+    _gate: &G,
+) -> Report
+    ensures known { IsStatus result.status }
+
+    // The source was read to its end and its bytes are a script; the run is a legal history of one store in which each line
+    // of it has its answer; and the text of that run and of the tables at its end was written.
+    ensures done { result.status ≡ 0 → IsWritten (IsDone words.now (S.left source.old) (S.left source.new) result.run) (K.written sink.old) (K.written sink.new) }
+
+    ensures read_fault { result.status ≡ 4 → IsWritten (IsReadFault words.now (S.fault_count source.old) (S.fault_count source.new) result.run) (K.written sink.old) (K.written sink.new) }
+
+    // The sink failed, and a part of a text that was due stands there.
+    ensures write_fault { result.status ≡ 5 → IsCutShort (IsDue words.now (S.left source.old) (S.left source.new) (S.fault_count source.old) (S.fault_count source.new) result.run)
+        (K.written sink.old) (K.written sink.new) (K.fault_count sink.old) (K.fault_count sink.new) }
+
+    // Nothing was written, and what was run is a part of a legal history of the script.
+    ensures memory { result.status ≡ 6 → (K.written sink.new ≡ K.written sink.old) × IsPartRun (S.left source.old) (S.left source.new) result.run }
+
+    ensures not_built { result.status ≡ 10 → IsWritten (IsNotBuilt words.now (S.left source.old) (S.left source.new) result.run) (K.written sink.old) (K.written sink.new) }
+    ensures journals { journals.new.items ≡ journals.old.items }
+{
+    match make_attempt(alloc, words, source) {
+        Attempt::Done(run, text) => told(0, run, text.as_slice(), sink),
+        Attempt::ReadFault => told(4, Run::new(alloc), b"read fault\n", sink),
+        Attempt::NotBuilt => told(10, Run::new(alloc), b"not built\n", sink),
+        Attempt::OutOfMemory(run) => Report { status: 6, run },
+    }
+}

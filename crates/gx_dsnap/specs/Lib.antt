@@ -1,0 +1,2 @@
+pub mod Gxids
+pub mod Snapshot

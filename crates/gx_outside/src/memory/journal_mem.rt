@@ -1,0 +1,88 @@
+ghost use Rattle.std.specs.Prelude.{◌≡◌, ◌≤◌, ◌++◌, ◌∷◌, [], ◌↔◌, min, IfOk, OnOk, OnErr, IsErrOf};
+ghost use Rattle.gx_outside.specs.Causes.{Rose};
+ghost use Rattle.gx_outside.specs.Memory.{IsFailingNext, IsAppendCounted};
+
+use crate::journal::{AppendFault, Journal};
+use crate::memory::is_failing_next;
+use gx_ids::{Mem, Seq};
+use std::alloc::Global;
+use std::marker::Model;
+
+/// A journal that keeps its items in memory.
+#[derive(Debug, Drop)]
+pub struct JournalMem {
+    items: Vec<Seq<u8>>,
+    fail: Vec<u64>,
+    calls: u64,
+    faults: u64,
+}
+
+impl Model for JournalMem {
+    ghost use Rattle.gx_outside.specs.Memory.{JournalState};
+
+    ghost Value = { JournalState };
+
+    ghost view = { λ j. record { items = j.items.items; fail = j.fail.items; calls = j.calls; faults = j.faults } };
+}
+
+impl JournalMem {
+    /// A journal without items. The appends whose numbers stand in `fail`, counted from 1, fail.
+    pub fn new(alloc: Global, fail: Vec<u64>) -> Mem<JournalMem>
+        ensures { IfOk result (λ j. j ≡ record { items = []; fail = fail.items; calls = 0; faults = 0 }) }
+    {
+        Ok(JournalMem {
+            items: Vec::new(alloc),
+            fail,
+            calls: 0,
+            faults: 0,
+        })
+    }
+
+    /// The items kept, the oldest first.
+    pub fn kept_items(&self) -> &[Seq<u8>]
+        ensures { result.now ≡ self.now.items }
+    {
+        self.items.as_slice()
+    }
+}
+
+impl Journal for JournalMem {
+    ghost items = { λ j. j.items };
+
+    ghost fault_count = { λ j. j.faults };
+
+    fn append(&mut self, item: &[u8]) -> Result<(), AppendFault>
+        ensures ok { OnOk result (self.new.items ≡ self.old.items ++ item.now ∷ []) }
+        ensures err { OnErr result (self.new.items ≡ self.old.items) }
+        ensures later { self.old.faults ≤ self.new.faults }
+        ensures failed { IsErrOf result AppendFault.Failed → Rose self.old.faults self.new.faults }
+        ensures fails { IsErrOf result AppendFault.Failed ↔ IsFailingNext self.old.calls self.old.fail }
+        ensures counted { IsAppendCounted self.old.calls self.new.calls self.old.faults self.new.faults result }
+        ensures same { self.new.fail ≡ self.old.fail }
+    {
+        let is_failing = is_failing_next(self.calls, self.fail.as_slice());
+        self.calls = self.calls.saturating_add(1);
+        if is_failing {
+            self.faults = self.faults.saturating_add(1);
+            return Err(AppendFault::Failed);
+        }
+        match keep(&mut self.items, item) {
+            Ok(()) => Ok(()),
+            Err(_) => Err(AppendFault::OutOfMemory),
+        }
+    }
+
+    fn faults(&self) -> u64 {
+        self.faults
+    }
+}
+
+// Adds a copy of an item.
+fn keep(items: &mut Vec<Seq<u8>>, item: &[u8]) -> Mem<()>
+    ensures ok { OnOk result (items.new.items ≡ items.old.items ++ item.now ∷ []) }
+    ensures err { OnErr result (items.new.items ≡ items.old.items) }
+{
+    let copy = Vec::from_slice(*items.allocator(), item)?;
+    items.push(Seq::from_vec(copy))?;
+    Ok(())
+}

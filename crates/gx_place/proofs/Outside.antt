@@ -1,0 +1,101 @@
+-- Outside its target a condition is false.
+use Rattle.std.proofs.Common.{ℕ, zero, suc, ◌≡◌, ◌≢◌, ◌∙◌, ◌<◌, sym, ap, refl, subst, List, [], ◌∷◌, length, Ok, Some, None, Option, Result, Bool, false, cond, slice_get, ◌==◌, arith}
+use Rattle.std.specs.Ordering.{is_eq}
+use Rattle.std.specs.declared.cmp.Ordering.{Ordering}
+use Rattle.std.specs.declared.cmp.Ordering.TheVariants.{Less, Equal, Greater}
+use Rattle.std.proofs.lemmas.Map.Lookups.{exact_bytes, exact_signed}
+use Rattle.std.proofs.lemmas.Bool.Decides.{nat_tests}
+use Rattle.gx_tree.specs.Value.{value_order}
+use Rattle.gx_tree.specs.declared.value.Value.{Value}
+use Rattle.gx_tree.specs.declared.value.Value.TheVariants.{Int, Text}
+use Rattle.gx_tree.specs.declared.schema.Dist.{Dist}
+use Rattle.gx_tree.specs.declared.schema.Dist.TheVariants.{By, Randomly}
+use Rattle.gx_tree.specs.declared.expr.Expr.{Expr, Lit, Col}
+use Rattle.gx_tree.specs.declared.cond.CmpOp.{CmpOp}
+use Rattle.gx_tree.specs.declared.cond.CmpOp.TheVariants as op
+use Rattle.gx_tree.specs.declared.cond.Cond.{Cond, map-Cond}
+use Rattle.gx_tree.specs.declared.cond.Cond.TheOpen.{Cond-F}
+use Rattle.gx_tree.specs.declared.cond.Cond.TheViews.{roll-Cond}
+use Rattle.gx_tree.specs.declared.cond.Cond.TheFolds.{fold-roll-Cond, ind-Cond}
+use Rattle.gx_eval.specs.Meaning.{truth_of, truth_step, and_then, value_of, order_of, column_of}
+use Rattle.gx_eval.specs.declared.fault.ArithFault.{ArithFault}
+use Rattle.gx_eval.proofs.Nodes.{value_of-lit, value_of-col}
+use Rattle.gx_place.specs.Target.{IsFalseOutside, key_of, key_step, key_target, literal_of, target_of}
+use Rattle.gx_place.specs.Place.{key_place}
+
+same_value : (a b : Value) → value_order a b ≡ Equal → a ≡ b
+same_value (Int m) (Int n) h = ap Int (exact_signed m n h)
+same_value (Text s) (Text t) h = ap Text (exact_bytes s t h)
+same_value (Int m) (Text t) h = cc
+same_value (Text s) (Int n) h = cc
+
+not_equal : (order : Ordering) → order ≢ Equal → is_eq order ≡ false
+not_equal Less h = refl
+not_equal Equal h = absurd (h refl)
+not_equal Greater h = refl
+
+-- two values that differ don't compare as equal, on either side
+differs : (a b : Value) → a ≢ b → is_eq (value_order a b) ≡ false
+differs a b h = not_equal (value_order a b) (λ e. h (same_value a b e))
+
+named : (column key : ℕ) (v value : Value) → cond (column == key) (Some v) None ≡ Some value → (column ≡ key) × (v ≡ value)
+named column key v value h = grind (arith, nat_tests)
+
+-- where the column has another value than the one that the condition wants, the condition is false
+abbrev Denies : List Value → ℕ → Cond → Type 0
+Denies row key c = (value : Value) → key_of key c ≡ Some value → column_of row key ≢ value → truth_of row c ≡ Ok false
+
+-- the truth of an equality of these two sides
+abbrev Equals : List Value → Expr → Expr → Result Bool ArithFault
+Equals row l r = and_then (order_of row l r) (λ order. Ok (is_eq order))
+
+equals : (row : List Value) (l r : Expr) (a b : Value) → value_of row l ≡ Ok a → value_of row r ≡ Ok b → a ≢ b → Equals row l r ≡ Ok false
+equals row l r a b p q h =
+    subst (λ u. and_then (and_then u (λ x. and_then (value_of row r) (λ y. Ok (value_order x y)))) (λ order. Ok (is_eq order)) ≡ Ok false) (sym p)
+    (subst (λ u. and_then (and_then u (λ y. Ok (value_order a y))) (λ order. Ok (is_eq order)) ≡ Ok false) (sym q) (ap Ok (differs a b h)))
+
+denies_equal : (row : List Value) (key : ℕ) (l r : Expr) (value : Value) → literal_of key l r ≡ Some value → column_of row key ≢ value → Equals row l r ≡ Ok false
+denies_equal row key (Col column) (Lit v) value h ne =
+    let same : (column ≡ key) × (v ≡ value) = named column key v value h in
+    equals row (Col column) (Lit v) (column_of row column) v (value_of-col row column) (value_of-lit row v) (λ e. ne (cc))
+denies_equal row key (Lit v) (Col column) value h ne =
+    let same : (column ≡ key) × (v ≡ value) = named column key v value h in
+    equals row (Lit v) (Col column) v (column_of row column) (value_of-lit row v) (value_of-col row column) (λ e. ne (cc))
+denies_equal row key _ _ value h ne = cc
+
+denies_step : (row : List Value) (key : ℕ) (o : CmpOp) (l r : Expr) (value : Value) → key_step key (Cond-F.Cmp o l r) ≡ Some value → column_of row key ≢ value → truth_step row (Cond-F.Cmp o l r) ≡ Ok false
+denies_step row key op.Eq l r value h ne = denies_equal row key l r value h ne
+denies_step row key _ l r value h ne = cc
+
+key_at : (key : ℕ) (x : Cond-F Cond) → key_of key (roll-Cond x) ≡ key_step key (map-Cond Cond (Option Value) (key_of key) x)
+key_at key x = fold-roll-Cond (Option Value) (key_step key) x
+
+truth_at : (row : List Value) (x : Cond-F Cond) → truth_of row (roll-Cond x) ≡ truth_step row (map-Cond Cond (Result Bool ArithFault) (truth_of row) x)
+truth_at row x = fold-roll-Cond (Result Bool ArithFault) (truth_step row) x
+
+denies : (row : List Value) (key : ℕ) (c : Cond) → Denies row key c
+denies row key = ind-Cond (Denies row key) (λ x y is. (elim y as (λ u. map-Cond _ Cond (λ e. e.0) u ≡ x → Denies row key (roll-Cond x)) [
+  | Cond-F.Cmp o l r ↦ λ at. subst (λ z. Denies row key (roll-Cond z)) at (λ value h ne.
+      truth_at row (Cond-F.Cmp o l r) ∙ denies_step row key o l r value (sym (key_at key (Cond-F.Cmp o l r)) ∙ h) ne)
+  | Cond-F.And l r ↦ λ at. subst (λ z. Denies row key (roll-Cond z)) at (λ value h ne.
+      truth_at row (Cond-F.And l.0 r.0) ∙ ap (λ u. and_then u (λ a. cond a (truth_of row r.0) (Ok false))) (l.1 value (sym (key_at key (Cond-F.And l.0 r.0)) ∙ h) ne))
+  | Cond-F.Or l r ↦ λ at. subst (λ z. Denies row key (roll-Cond z)) at (λ value h ne. cc (key_at key (Cond-F.Or l.0 r.0), h))
+  | Cond-F.Not inner ↦ λ at. subst (λ z. Denies row key (roll-Cond z)) at (λ value h ne. cc (key_at key (Cond-F.Not inner.0), h))
+]) is)
+
+get-column : (row : List Value) (column : ℕ) → column < length row → slice_get row column ≡ Some (column_of row column)
+get-column [] column h = absurd (omega (arith, h))
+get-column (v ∷ row) zero h = refl
+get-column (v ∷ row) (suc column) h = get-column row column (omega arith)
+
+outside_key : (n column : ℕ) (c : Cond) (key : Option Value) → key_of column c ≡ key → IsFalseOutside n (By column) (Some c) (key_target n key)
+outside_key n column c None is row rid within out = absurd out
+outside_key n column c (Some value) is row rid within out =
+    denies row column c value is (λ e. out (ap (key_place n) (get-column row column within ∙ ap Some e)))
+
+-- outside its target a condition is false
+pub target_of-outside : (n : ℕ) (dist : Dist) (cond : Option Cond) → IsFalseOutside n dist cond (target_of n dist cond)
+target_of-outside n (By column) (Some c) = outside_key n column c (key_of column c) refl
+target_of-outside n (By column) None = λ place h. h
+target_of-outside n Randomly (Some c) = λ row rid within out. absurd out
+target_of-outside n Randomly None = λ place h. h

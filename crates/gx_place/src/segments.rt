@@ -1,0 +1,8 @@
+use gx_ids::Node;
+
+/// The segments to which a statement goes: one, or all of them.
+#[derive(Clone, Copy, Debug, PartialEq, Eq)]
+pub enum Target {
+    One(Node),
+    All,
+}

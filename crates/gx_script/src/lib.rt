@@ -1,0 +1,34 @@
+//! What is to be run: tables, sessions, their lines, and the faults of links.
+#![tactic(auto)]
+
+use gx_ids::{Node, Seq, SessionId};
+use gx_tree::{Schema, Stmt, Txt};
+
+/// A line of a session, with its number within the session, from 1.
+#[derive(Debug, Drop, PartialEq, Eq)]
+pub struct Line {
+    pub session: SessionId,
+    pub number: u32,
+    pub stmt: Stmt,
+}
+
+/// A message that a link loses, or delivers twice where `repeat` holds. The link is the one from the coordinator to the
+/// segment, or the one back; messages are numbered from 1 in the order of sending.
+#[derive(Clone, Copy, Debug, PartialEq, Eq)]
+pub struct LinkFault {
+    pub to_segment: bool,
+    pub segment: Node,
+    pub number: u64,
+    pub repeat: bool,
+}
+
+/// A script. Tables and sessions are named elsewhere by their places here, and the lines stand in the order of the file.
+#[derive(Debug, Drop, PartialEq, Eq)]
+pub struct Script {
+    pub segments: u8,
+    pub detector: bool,
+    pub tables: Seq<Schema>,
+    pub sessions: Seq<Txt>,
+    pub lines: Seq<Line>,
+    pub faults: Seq<LinkFault>,
+}

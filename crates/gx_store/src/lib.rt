@@ -1,0 +1,12 @@
+//! What a run is: its steps with their events and marks, and, in specs/, what its marks mean.
+#![tactic(auto)]
+
+pub mod answer;
+pub mod event;
+pub mod mark;
+pub mod run;
+
+pub use answer::StmtAnswer;
+pub use event::Event;
+pub use mark::Mark;
+pub use run::{Run, Step};

@@ -1,0 +1,31 @@
+ghost use Rattle.std.specs.Prelude.{◌≡◌, []};
+
+use crate::event::Event;
+use crate::mark::Mark;
+use gx_ids::{Seq, Stamp};
+use std::alloc::Global;
+
+/// One event of one node, with what it did, in order.
+#[derive(Debug, Drop)]
+pub struct Step {
+    pub stamp: Stamp,
+    pub event: Event,
+    pub marks: Seq<Mark>,
+}
+
+/// What was done, step by step.
+#[derive(Debug, Drop)]
+pub struct Run {
+    pub steps: Seq<Step>,
+}
+
+impl Run {
+    /// A run in which nothing was done.
+    pub fn new(alloc: Global) -> Run
+        ensures { result ≡ record { steps = [] } }
+    {
+        Run {
+            steps: Seq::new(alloc),
+        }
+    }
+}

@@ -1,0 +1,4 @@
+pub mod Members
+pub mod StuckWaits
+pub mod Adds
+pub mod Determined

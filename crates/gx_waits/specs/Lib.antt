@@ -1,0 +1,6 @@
+pub mod Edge
+pub mod LocalGraph
+pub mod Claim
+pub mod Closed
+pub mod Finish
+pub mod Victims

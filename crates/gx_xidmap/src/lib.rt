@@ -1,0 +1,9 @@
+//! The map between a segment's own transaction numbers and the system's, and what became of each there.
+#![tactic(auto)]
+
+pub mod map;
+mod probe;
+pub mod status;
+
+pub use map::XidMap;
+pub use status::LocalStatus;
