@@ -1,0 +1,4 @@
+pub mod Classes
+pub mod Queries
+pub mod Statements
+pub mod Heads

@@ -1,0 +1,326 @@
+// Classes of tokens: words of which one stands, and numbers.
+ghost use Rattle.std.specs.Prelude.{◌≡◌};
+ghost use Rattle.gx_lines.specs.Classes as of;
+ghost use Rattle.gx_grammar.specs.Rules.{one_at};
+ghost use Rattle.gx_grammar.specs.Code.{Gives};
+
+use gx_grammar::{Fault, Limits, LineLimit, Picked, ReadError, TokenClass};
+use gx_ids::Mem;
+use gx_lex::{Token, Word};
+use std::alloc::Global;
+
+/// An aggregate over a column.
+#[derive(Clone, Copy, Debug, PartialEq, Eq)]
+pub enum Agg {
+    Sum,
+    Min,
+    Max,
+}
+
+/// The agg that a word is.
+fn agg_word(word: Word) -> Option<Agg>
+    ensures { result ≡ of.agg_word word }
+{
+    match word {
+        Word::Sum => Some(Agg::Sum),
+        Word::Min => Some(Agg::Min),
+        Word::Max => Some(Agg::Max),
+        _ => None,
+    }
+}
+
+impl TokenClass for Agg {
+    ghost use Rattle.gx_lines.specs.Classes.{agg_of};
+
+    ghost class = { λ limits. agg_of };
+
+    fn pick(_alloc: Global, _limits: Limits, token: &Token) -> Mem<Picked<Agg>> {
+        match token {
+            Token::Word(word) => match agg_word(*word) {
+                Some(value) => Ok(Picked::Is(value)),
+                None => Ok(Picked::Isnt),
+            },
+            _ => Ok(Picked::Isnt),
+        }
+    }
+}
+
+/// How a key of ORDER BY orders.
+#[derive(Clone, Copy, Debug, PartialEq, Eq)]
+pub enum Direction {
+    Asc,
+    Desc,
+}
+
+/// The direction that a word is.
+fn direction_word(word: Word) -> Option<Direction>
+    ensures { result ≡ of.direction_word word }
+{
+    match word {
+        Word::Asc => Some(Direction::Asc),
+        Word::Desc => Some(Direction::Desc),
+        _ => None,
+    }
+}
+
+impl TokenClass for Direction {
+    ghost use Rattle.gx_lines.specs.Classes.{direction_of};
+
+    ghost class = { λ limits. direction_of };
+
+    fn pick(_alloc: Global, _limits: Limits, token: &Token) -> Mem<Picked<Direction>> {
+        match token {
+            Token::Word(word) => match direction_word(*word) {
+                Some(value) => Ok(Picked::Is(value)),
+                None => Ok(Picked::Isnt),
+            },
+            _ => Ok(Picked::Isnt),
+        }
+    }
+}
+
+/// The word behind ACCESS or ROW in a mode's name.
+#[derive(Clone, Copy, Debug, PartialEq, Eq)]
+pub enum Strength {
+    Share,
+    Exclusive,
+}
+
+/// The strength that a word is.
+fn strength_word(word: Word) -> Option<Strength>
+    ensures { result ≡ of.strength_word word }
+{
+    match word {
+        Word::Share => Some(Strength::Share),
+        Word::Exclusive => Some(Strength::Exclusive),
+        _ => None,
+    }
+}
+
+impl TokenClass for Strength {
+    ghost use Rattle.gx_lines.specs.Classes.{strength_of};
+
+    ghost class = { λ limits. strength_of };
+
+    fn pick(_alloc: Global, _limits: Limits, token: &Token) -> Mem<Picked<Strength>> {
+        match token {
+            Token::Word(word) => match strength_word(*word) {
+                Some(value) => Ok(Picked::Is(value)),
+                None => Ok(Picked::Isnt),
+            },
+            _ => Ok(Picked::Isnt),
+        }
+    }
+}
+
+/// Whether the detector runs.
+#[derive(Clone, Copy, Debug, PartialEq, Eq)]
+pub enum Switch {
+    On,
+    Off,
+}
+
+/// The switch that a word is.
+fn switch_word(word: Word) -> Option<Switch>
+    ensures { result ≡ of.switch_word word }
+{
+    match word {
+        Word::On => Some(Switch::On),
+        Word::Off => Some(Switch::Off),
+        _ => None,
+    }
+}
+
+impl TokenClass for Switch {
+    ghost use Rattle.gx_lines.specs.Classes.{switch_of};
+
+    ghost class = { λ limits. switch_of };
+
+    fn pick(_alloc: Global, _limits: Limits, token: &Token) -> Mem<Picked<Switch>> {
+        match token {
+            Token::Word(word) => match switch_word(*word) {
+                Some(value) => Ok(Picked::Is(value)),
+                None => Ok(Picked::Isnt),
+            },
+            _ => Ok(Picked::Isnt),
+        }
+    }
+}
+
+/// What a column holds.
+#[derive(Clone, Copy, Debug, PartialEq, Eq)]
+pub enum KindSyn {
+    Bigint,
+    Text,
+}
+
+/// The kind that a word is.
+fn kind_word(word: Word) -> Option<KindSyn>
+    ensures { result ≡ of.kind_word word }
+{
+    match word {
+        Word::Bigint => Some(KindSyn::Bigint),
+        Word::Text => Some(KindSyn::Text),
+        _ => None,
+    }
+}
+
+impl TokenClass for KindSyn {
+    ghost use Rattle.gx_lines.specs.Classes.{kind_of};
+
+    ghost class = { λ limits. kind_of };
+
+    fn pick(_alloc: Global, _limits: Limits, token: &Token) -> Mem<Picked<KindSyn>> {
+        match token {
+            Token::Word(word) => match kind_word(*word) {
+                Some(value) => Ok(Picked::Is(value)),
+                None => Ok(Picked::Isnt),
+            },
+            _ => Ok(Picked::Isnt),
+        }
+    }
+}
+
+/// What happens to a message.
+#[derive(Clone, Copy, Debug, PartialEq, Eq)]
+pub enum Fate {
+    Lose,
+    Repeat,
+}
+
+/// The fate that a word is.
+fn fate_word(word: Word) -> Option<Fate>
+    ensures { result ≡ of.fate_word word }
+{
+    match word {
+        Word::Lose => Some(Fate::Lose),
+        Word::Repeat => Some(Fate::Repeat),
+        _ => None,
+    }
+}
+
+impl TokenClass for Fate {
+    ghost use Rattle.gx_lines.specs.Classes.{fate_of};
+
+    ghost class = { λ limits. fate_of };
+
+    fn pick(_alloc: Global, _limits: Limits, token: &Token) -> Mem<Picked<Fate>> {
+        match token {
+            Token::Word(word) => match fate_word(*word) {
+                Some(value) => Ok(Picked::Is(value)),
+                None => Ok(Picked::Isnt),
+            },
+            _ => Ok(Picked::Isnt),
+        }
+    }
+}
+
+/// The link from the coordinator to a segment, or the one from it.
+#[derive(Clone, Copy, Debug, PartialEq, Eq)]
+pub enum Way {
+    To,
+    From,
+}
+
+/// The way that a word is.
+fn way_word(word: Word) -> Option<Way>
+    ensures { result ≡ of.way_word word }
+{
+    match word {
+        Word::To => Some(Way::To),
+        Word::From => Some(Way::From),
+        _ => None,
+    }
+}
+
+impl TokenClass for Way {
+    ghost use Rattle.gx_lines.specs.Classes.{way_of};
+
+    ghost class = { λ limits. way_of };
+
+    fn pick(_alloc: Global, _limits: Limits, token: &Token) -> Mem<Picked<Way>> {
+        match token {
+            Token::Word(word) => match way_word(*word) {
+                Some(value) => Ok(Picked::Is(value)),
+                None => Ok(Picked::Isnt),
+            },
+            _ => Ok(Picked::Isnt),
+        }
+    }
+}
+
+/// A number of any size, `None` where it is above 18446744073709551615.
+#[derive(Clone, Copy, Debug, PartialEq, Eq)]
+pub struct Size(pub Option<u64>);
+
+impl TokenClass for Size {
+    ghost use Rattle.gx_lines.specs.Classes.{size_of};
+
+    ghost class = { λ limits. size_of };
+
+    fn pick(_alloc: Global, _limits: Limits, token: &Token) -> Mem<Picked<Size>> {
+        match token {
+            Token::Number(size) => Ok(Picked::Is(Size(*size))),
+            _ => Ok(Picked::Isnt),
+        }
+    }
+}
+
+/// The number of segments.
+#[derive(Clone, Copy, Debug, PartialEq, Eq)]
+pub struct Segments(pub u64);
+
+impl TokenClass for Segments {
+    ghost use Rattle.gx_lines.specs.Classes.{segments_of};
+
+    ghost class = { segments_of };
+
+    fn pick(_alloc: Global, limits: Limits, token: &Token) -> Mem<Picked<Segments>> {
+        match token {
+            Token::Number(Some(number)) => {
+                if *number == 0 {
+                    Ok(Picked::Isnt)
+                } else if *number <= limits.segments.max(1) {
+                    Ok(Picked::Is(Segments(*number)))
+                } else {
+                    Ok(Picked::Passes(LineLimit::Segments))
+                }
+            }
+            Token::Number(None) => Ok(Picked::Passes(LineLimit::Segments)),
+            _ => Ok(Picked::Isnt),
+        }
+    }
+}
+
+/// The number that a token is, where it is within a range.
+fn number_within(least: u64, greatest: u64, token: &Token) -> Option<u64>
+    ensures { of.pick_some result ≡ of.number_in least greatest token.now }
+{
+    match token {
+        Token::Number(Some(number)) => {
+            if least <= *number && *number <= greatest {
+                Some(*number)
+            } else {
+                None
+            }
+        }
+        _ => None,
+    }
+}
+
+/// The number that stands first, where it is within a range, and the tokens behind it.
+pub fn read_number(
+    least: u64,
+    greatest: u64,
+    tokens: &[Token],
+) -> Result<(u64, &[Token]), ReadError>
+    ensures { Gives (λ r. (r.0, r.1.now)) result (one_at (of.number_in least greatest) tokens.now) }
+{
+    match tokens.split_first() {
+        None => Err(ReadError::Fault(Fault::Syntax)),
+        Some((token, rest)) => match number_within(least, greatest, token) {
+            Some(number) => Ok((number, rest)),
+            None => Err(ReadError::Fault(Fault::Syntax)),
+        },
+    }
+}
