@@ -42,19 +42,16 @@ fn map_of_two(alloc: Global) -> Result<XidMap, Fail> {
 }
 
 // While transactions 1 and 2 run and none has ended.
-#[tactic(auto, unfolding(std::specs::List::Sorted::IsStrictlySortedBy))]
 fn early(alloc: Global) -> Mem<Snapshot> {
     take(alloc, [Gxid(1), Gxid(2)].as_slice(), None)
 }
 
 // While transaction 3 runs, and 2 is the greatest that has ended.
-#[tactic(auto, unfolding(std::specs::List::Sorted::IsStrictlySortedBy))]
 fn late(alloc: Global) -> Mem<Snapshot> {
     take(alloc, [Gxid(3)].as_slice(), Some(Gxid(2)))
 }
 
 // While transactions 2, 3 and 7 run, and 5 is the greatest that has ended.
-#[tactic(auto, unfolding(std::specs::List::Sorted::IsStrictlySortedBy))]
 fn mixed(alloc: Global) -> Mem<Snapshot> {
     take(alloc, [Gxid(2), Gxid(3), Gxid(7)].as_slice(), Some(Gxid(5)))
 }
@@ -111,9 +108,28 @@ fn horizon_is_the_least(rt: HostRuntime) {
     let running = [Gxid(5), Gxid(8)];
     let unforgotten = [Gxid(6), Gxid(4)];
     let none = [];
-    assert_eq!(rt; horizon(running.as_slice(), unforgotten.as_slice(), [Gxid(3)].as_slice(), Gxid(9)), Gxid(3));
-    assert_eq!(rt; horizon(running.as_slice(), unforgotten.as_slice(), none.as_slice(), Gxid(9)), Gxid(4));
-    assert_eq!(rt; horizon(none.as_slice(), none.as_slice(), none.as_slice(), Gxid(9)), Gxid(9));
+    assert_eq!(rt;
+        horizon(
+            running.as_slice(),
+            unforgotten.as_slice(),
+            [Gxid(3)].as_slice(),
+            Gxid(9)
+        ),
+        Gxid(3)
+    );
+    assert_eq!(rt;
+        horizon(
+            running.as_slice(),
+            unforgotten.as_slice(),
+            none.as_slice(),
+            Gxid(9)
+        ),
+        Gxid(4)
+    );
+    assert_eq!(rt;
+        horizon(none.as_slice(), none.as_slice(), none.as_slice(), Gxid(9)),
+        Gxid(9)
+    );
 }
 
 #[test]
@@ -175,7 +191,10 @@ fn horizon_changes_nothing_that_is_seen(rt: HostRuntime) -> Result<(), Fail> {
     if snap.xmin < Gxid(3) {
         return Err("a low xmin".into());
     }
-    assert_eq!(rt; visible_across(version, &mut map, Gxid(1), &snap, None, Cid(1)), (true, true));
+    assert_eq!(rt;
+        visible_across(version, &mut map, Gxid(1), &snap, None, Cid(1)),
+        (true, true)
+    );
     let (first, second) = shown_across(rows.of(RID), &mut map, Gxid(3), &snap, None, Cid(1));
     assert!(rt; first.is_some());
     assert!(rt; second.is_some());
