@@ -61,9 +61,6 @@ dotted_holder_waits e f w d = λ i. record { 0 = (number i) }
     number = grind (arith, nat_tests)
 
 module _ (edges : List PlacedEdge) (count : Place → ℕ) (s : IsSettled edges count) where
-  Rest : List PlacedEdge
-  Rest = filter (is_left count) edges
-
   -- an edge that is left needs one that is left
   pub needed : (e : PlacedEdge) → IsLeft count e → (f : PlacedEdge) × Has f edges × IsLeft count f × (waits_in (need_of e) f ≡ true)
   needed e l = let w = s.waits (need_of e) l in (w.0, has_from_contains w.0 edges w.1, w.3, w.2)

@@ -14,7 +14,8 @@ use gx_ids::{Gxid, Mem, copies};
 use gx_waits::{Edge, LocalGraph, PlacedEdge};
 use std::alloc::Global;
 
-/// The transactions that the core of the stuck edges names, rising.
+/// The transactions that the core of the stuck edges names, rising: those who are left where everybody for whom nobody
+/// waits is taken out with its edges, again and again.
 pub fn core(alloc: Global, graphs: &[LocalGraph]) -> Mem<Vec<Gxid>>
     ensures { IfOk result (λ names. (core : List PlacedEdge) × IsCore (edges_of graphs.now) core × AreNamed core names.items) }
 {

@@ -1,4 +1,5 @@
-//! The reduction of waits: which edges are stuck, the core of them, and whom to abort.
+//! The reduction of waits: which edges are stuck, the core of them, and whom to abort. The idea is that of Greenplum's
+//! global deadlock detector (Lyu et al., SIGMOD 2021); which edges go and who is chosen are this project's own.
 #![tactic(auto)]
 
 pub mod choice;

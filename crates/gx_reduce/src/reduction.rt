@@ -12,8 +12,9 @@ use gx_ids::Mem;
 use gx_waits::LocalGraph;
 use std::alloc::Global;
 
-/// The graphs with their stuck edges alone, in the order in which they stood. Edges of several graphs of one node count
-/// as edges of one graph.
+/// The graphs with their stuck edges alone, in the order in which they stood: a solid edge goes where its holder waits for
+/// nobody on any node, a dotted one where its holder waits for nobody on the edge's node. Edges of several graphs of one
+/// node count as edges of one graph.
 pub fn reduce(alloc: Global, graphs: &[LocalGraph]) -> Mem<Vec<LocalGraph>>
     ensures stuck { IfOk result (λ rest. (e : PlacedEdge) → Contains (edges_of rest.items) e ↔ IsStuck (edges_of graphs.now) e) }
     ensures order { IfOk result (λ rest. (test : PlacedEdge → Bool) × (rest.items ≡ map (kept_edges test) graphs.now)) }

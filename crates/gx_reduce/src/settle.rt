@@ -25,7 +25,8 @@ pub fn settle(alloc: Global, mut edges: Vec<PlacedEdge>) -> Mem<Tally>
     Ok(tally)
 }
 
-// Looks at each edge once. The answer is whether one was taken out.
+// Looks at each edge once. The answer is whether one was taken out. Since each edge that is taken out is followed, the
+// second pass finds nothing.
 fn pass(edges: &[PlacedEdge], rest: &mut Rest) -> Mem<bool>
     requires { IsReducing edges.now rest.old.marks.items (count_at rest.old.tally) }
     ensures reducing { OnOk result (IsReducing edges.now rest.new.marks.items (count_at rest.new.tally)) }
@@ -56,7 +57,8 @@ fn follow(edges: &[PlacedEdge], rest: &mut Rest) -> Mem<()>
     Ok(())
 }
 
-// Takes out the edges that need the place, if nobody waits there. They stand side by side where the edges are sorted by what they need.
+// Takes out the edges that need the place, if nobody waits there. They stand side by side where the edges are sorted by
+// what they need.
 fn release(edges: &[PlacedEdge], rest: &mut Rest, place: Place) -> Mem<()>
     requires { IsReducing edges.now rest.old.marks.items (count_at rest.old.tally) }
     ensures reducing { OnOk result (IsReducing edges.now rest.new.marks.items (count_at rest.new.tally)) }

@@ -143,12 +143,16 @@ fn edges_stand_where_waits_meet_holds(rt: HostRuntime) -> Result<(), Fail> {
     Ok(())
 }
 
+// A node's thread may take the value with it.
+fn is_send<T: Send>(_value: &T) {}
+
 #[test]
 fn copies_are_equal(rt: HostRuntime) -> Result<(), Fail> {
     let alloc = rt.alloc();
     let graphs = cycle_beside_a_deadlock(alloc)?;
     for graph in &graphs {
         assert!(rt; graph.copy(alloc)? == *graph);
+        is_send(graph);
     }
     let edge = dotted(2, 3);
     let placed = PlacedEdge {
@@ -168,6 +172,7 @@ fn copies_are_equal(rt: HostRuntime) -> Result<(), Fail> {
         Verdict::Victims(chosen),
     ]? {
         assert!(rt; verdict.copy(alloc)? == *verdict);
+        is_send(verdict);
     }
     Ok(())
 }
