@@ -1,0 +1,9 @@
+//! The lock table of a node: relation, tuple and transaction locks in eight modes, and those who wait for them.
+#![tactic(auto)]
+
+pub mod answer;
+pub mod claims;
+pub mod table;
+
+pub use answer::LockAnswer;
+pub use table::LockTable;
