@@ -1,10 +1,9 @@
 -- What the calls keep of the lists.
-use Rattle.std.proofs.Common.{◌≡◌, ℕ, ◌+◌, ◌<◌, ◌≤◌, List, [], ◌∷◌, ◌++◌, length, get_or, refl, sym, ap, ◌∙◌, subst, Bool, true, false, not, cond, eqb, arith, length-append}
-use Rattle.std.proofs.lemmas.Bool.Decides.{nat_tests}
+use Rattle.std.proofs.Common.{◌≡◌, ℕ, ◌+◌, ◌<◌, ◌≤◌, List, [], ◌∷◌, ◌++◌, length, get_or, refl, sym, ap, subst, Bool, true, false, not, cond, arith, length-append}
 use Rattle.std.proofs.lemmas.List.Folds.{list_any_at}
 use Rattle.std.proofs.lemmas.List.Kept.{AllPairs-filter}
 use Rattle.std.proofs.lemmas.List.Quantifiers.{all_pairs_push}
-use Rattle.std.specs.Prelude.{filter, find, Option, None, Some}
+use Rattle.std.specs.Prelude.{filter, find, Option, Some}
 use Rattle.std.specs.List.{list_any}
 use Rattle.gx_ids.specs.declared.ids.Gxid.{Gxid}
 use Rattle.gx_waits.specs.declared.claim.Claim.{Claim}
@@ -31,13 +30,13 @@ AreKept-filter p q holds holds' waits waits' m n keeps e f same =
     (λ (hs : List Claim). AreKept hs waits' n)
     (sym e)
     (subst
-      (λ (ws : List Claim). AreKept (filter p holds) ws n)
-      (sym f)
-      (record {
-        exclusive = AllPairs-filter (λ earlier later. meets later earlier ≡ false) p holds keeps.exclusive;
-        once = AllPairs-filter (λ a b. is_of a.gxid b ≡ false) q waits keeps.once;
-        room = omega (arith, keeps.room, length-filter_le p holds, length-filter_le q waits, same);
-      }))
+    (λ (ws : List Claim). AreKept (filter p holds) ws n)
+    (sym f)
+    (record {
+      exclusive = AllPairs-filter (λ earlier later. meets later earlier ≡ false) p holds keeps.exclusive;
+      once = AllPairs-filter (λ a b. is_of a.gxid b ≡ false) q waits keeps.once;
+      room = omega (arith, keeps.room, length-filter_le p holds, length-filter_le q waits, same);
+    }))
 
 -- one hold more, which meets none
 pub AreKept-push : (holds holds' waits : List Claim) (claim : Claim) (m n : ℕ) → AreKept holds waits m → is_free holds claim ≡ true → holds' ≡ holds ++ claim ∷ [] → length holds + 1 + length waits ≤ n → AreKept holds' waits n

@@ -1,5 +1,5 @@
 -- The least of a list.
-use Rattle.std.proofs.Common.{◌≡◌, ◌≤◌, ◌<◌, ℕ, List, [], ◌∷◌, length, refl, arith, ⊎_elim, ◌⊎◌, inl, inr, sym, ◌∙◌}
+use Rattle.std.proofs.Common.{◌≡◌, ◌≤◌, List, [], ◌∷◌, refl, arith, ⊎_elim, ◌⊎◌, inl, inr, sym, ◌∙◌}
 use Rattle.std.proofs.lemmas.Bool.Decides.{nat_tests}
 use Rattle.std.proofs.lemmas.List.Elements.{All-cons, All-nil, Contains-append_right}
 use Rattle.std.specs.Prelude.{All, Contains, None}
@@ -37,8 +37,7 @@ least_of-among (g ∷ gs) h =
 
 pub IsLeast-least_with : (gs : List Gxid) → IsLeast (least_with None gs) gs
 IsLeast-least_with [] = refl
-IsLeast-least_with (g ∷ gs) =
-    (
-      ⊎_elim (λ (e : least_of gs g ≡ g). first_contained g (least_of gs g) gs e) (λ (there : Contains gs (least_of gs g)). Contains-append_right (g ∷ []) gs (least_of gs g) there) (least_of-among gs g),
-      All-cons (λ h. (least_of gs g).0 ≤ h.0) g gs (least_of-le_other gs g) (least_of-le gs g)
-    )
+IsLeast-least_with (g ∷ gs) = (
+  ⊎_elim (λ (e : least_of gs g ≡ g). first_contained g (least_of gs g) gs e) (λ (there : Contains gs (least_of gs g)). Contains-append_right (g ∷ []) gs (least_of gs g) there) (least_of-among gs g),
+  All-cons (λ h. (least_of gs g).0 ≤ h.0) g gs (least_of-le_other gs g) (least_of-le gs g),
+)

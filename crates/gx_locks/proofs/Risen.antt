@@ -2,11 +2,10 @@
 use Rattle.std.proofs.Common.{◌≡◌, List, eqb, arith, sym, subst}
 use Rattle.std.proofs.lemmas.Bool.Decides.{nat_tests}
 use Rattle.std.proofs.lemmas.Cmp.{nat_cmp_total, on_total, nat_eq_equiv, on_equiv}
-use Rattle.std.proofs.lemmas.List.Filters.{dedup_is}
 use Rattle.std.proofs.lemmas.List.Kept.{IsStrictlySortedBy-dedup, Contains-dedup, Contains-from_dedup}
 use Rattle.std.proofs.lemmas.List.Sorted.{Contains-permutation, IsPermutation-sym}
 use Rattle.std.specs.Cmp.{IsTotalOrder, IsEquivalence}
-use Rattle.std.specs.Prelude.{Bool, true, Contains}
+use Rattle.std.specs.Prelude.{Bool, true}
 use Rattle.std.specs.List.{dedup}
 use Rattle.std.specs.List.Sorted.{IsPermutation, IsSorted}
 use Rattle.std.specs.Ordering.{eq_by_cmp}

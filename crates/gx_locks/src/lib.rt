@@ -3,6 +3,8 @@
 
 pub mod answer;
 pub mod claims;
+pub mod laws;
+mod probe;
 pub mod table;
 
 pub use answer::LockAnswer;

@@ -1,4 +1,4 @@
-ghost use Rattle.std.specs.Prelude.{◌≡◌, [], ◌∷◌, false, true, None, Some, IfOk, OnErr};
+ghost use Rattle.std.specs.Prelude.{◌≡◌, [], ◌∷◌, false, true, None, Some, IfOk, IfSome, OnErr};
 ghost use Rattle.std.specs.List.{list_any};
 ghost use Rattle.gx_ids.specs.declared.ids.Gxid.{Gxid};
 ghost use Rattle.gx_waits.specs.Claim.{AreEdges};
@@ -90,6 +90,7 @@ impl LockTable {
     pub fn ready(&self) -> Option<Gxid>
         ensures value { result ≡ least_with None (ready_ones self.now) }
         ensures least { IsLeast result (ready_ones self.now) }
+        ensures ready { IfSome result (λ g. is_ready self.now.holds (wait_of self.now g) ≡ true) }
     {
         let holds = self.holds.as_slice();
         let mut least = None;

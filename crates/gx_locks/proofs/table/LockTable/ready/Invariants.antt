@@ -1,6 +1,6 @@
 use Rattle.std.proofs.Common.{◌≡◌, drop}
 use Rattle.std.specs.Prelude.{None, map, filter}
-use Rattle.gx_locks.specs.Locks.{least_with, ready_ones, is_free}
+use Rattle.gx_locks.specs.Locks.{least_with, is_free}
 use Rattle.gx_locks.proofs.table.LockTable.ready.Given as goal
 
 abbrev pub invariant-loop-wait : goal.invariant-loop-wait

@@ -1,7 +1,6 @@
-use Rattle.std.proofs.Common.{◌≡◌, ◌+◌, ◌≤◌, ◌∙◌, sym, ap, subst, true, length, not, List, arith}
+use Rattle.std.proofs.Common.{◌≡◌, ◌+◌, ◌≤◌, ◌∙◌, sym, ap, subst, true, length, not, arith}
 use Rattle.std.specs.Prelude.{Some, find}
 use Rattle.std.specs.Vec.{vec_capacity}
-use Rattle.gx_waits.specs.declared.claim.Claim.{Claim}
 use Rattle.gx_locks.specs.Claims.{is_of}
 use Rattle.gx_locks.specs.Locks.{Locks, is_free, is_ready, wait_of}
 use Rattle.gx_locks.proofs.Keeps.{AreKept-push, AreKept-fewer_waits, ready_is_free, length-without_found}
