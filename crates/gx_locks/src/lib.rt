@@ -2,7 +2,7 @@
 #![tactic(auto)]
 
 pub mod answer;
-pub mod claims;
+mod claims;
 pub mod laws;
 mod probe;
 pub mod table;

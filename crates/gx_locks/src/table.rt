@@ -65,7 +65,14 @@ impl LockTable {
         self.waits.as_slice()
     }
 
-    /// Asks for a lock. Waiters don't count: the request is granted where no other transaction holds a conflicting
+    /// Whether a transaction has a standing wait here.
+    pub fn is_waiting(&self, gxid: Gxid) -> bool
+        ensures { result ≡ list_any (is_of gxid) self.now.waits }
+    {
+        self.waits.as_slice().iter().any(|wait| wait.gxid == gxid)
+    }
+
+    /// Asks for a lock, where the transaction has no standing wait. Waiters don't count: the request is granted where no other transaction holds a conflicting
     /// mode, and else it stands as a wait, for which there is room among the holds from then on.
     pub fn request(&mut self, gxid: Gxid, object: Object, mode: Mode) -> Mem<LockAnswer>
         requires { list_any (is_of gxid) self.old.waits ≡ false }
