@@ -7,6 +7,7 @@ ghost use Rattle.gx.specs.Text.{quoted_byte, quoted_text, cell_text, cells_text,
 use gx_ids::Mem;
 use gx_store::{Mark, Run, Step, StmtAnswer};
 use gx_tree::{Cell, OutRow, Txt};
+use itoa::Buffer;
 
 /// Adds bytes as they are.
 pub fn push_bytes(text: &mut Vec<u8>, bytes: &[u8]) -> Mem<()>
@@ -20,16 +21,16 @@ pub fn push_bytes(text: &mut Vec<u8>, bytes: &[u8]) -> Mem<()>
 pub fn push_count(text: &mut Vec<u8>, number: u128) -> Mem<()>
     ensures { OnOk result (text.new.items ≡ text.old.items ++ decimal number) }
 {
-    let digits = format!(in *text.allocator(); "{number}")?;
-    push_bytes(text, digits.as_bytes())
+    let mut digits = Buffer::new();
+    push_bytes(text, digits.format(number).as_bytes())
 }
 
 /// Adds the decimal digits of a whole number, behind its sign where it is negative.
 pub fn push_integer(text: &mut Vec<u8>, number: i128) -> Mem<()>
     ensures { OnOk result (text.new.items ≡ text.old.items ++ signed_decimal number) }
 {
-    let digits = format!(in *text.allocator(); "{number}")?;
-    push_bytes(text, digits.as_bytes())
+    let mut digits = Buffer::new();
+    push_bytes(text, digits.format(number).as_bytes())
 }
 
 // A byte between quotes: a quote is doubled.

@@ -12,4 +12,6 @@ mod outside;
 #[cfg(test)]
 mod places;
 #[cfg(test)]
+mod reduction;
+#[cfg(test)]
 mod versions;

@@ -1,0 +1,13 @@
+pub mod Tools
+pub mod Bounds
+pub mod Complete
+pub mod Sound
+pub mod Local
+pub mod Viable
+pub mod Higher
+pub mod Good
+pub mod Parts
+pub mod Many
+pub mod Either
+pub mod Lines
+pub mod ExprGood

@@ -1,0 +1,67 @@
+// Classes of tokens.
+ghost use Rattle.std.specs.Prelude.{◌≡◌, IfOk};
+ghost use Rattle.gx_grammar.specs.Rules.{Pick, one_at};
+ghost use Rattle.gx_grammar.specs.Tokens as of;
+ghost use Rattle.gx_grammar.specs.Code.{Gives, pick_of};
+ghost use Rattle.gx_grammar.specs.declared.fault.Limits.{Limits};
+ghost use Rattle.gx_lex.specs.declared.token.Token.{Token};
+
+use crate::fault::{Fault, Limits, LineLimit, ReadError};
+use gx_ids::{Duplicate, Mem};
+use gx_lex::Token;
+use gx_tree::Txt;
+use std::alloc::Global;
+
+/// What a token is to a class of tokens.
+#[derive(Debug, Drop)]
+pub enum Picked<T> {
+    Is(T),
+    Isnt,
+    Passes(LineLimit),
+}
+
+/// A class of tokens, each of which writes a value.
+pub trait TokenClass: Sized + Drop {
+    ghost class: { Limits → Token → Pick Self };
+
+    /// The value that a token writes.
+    fn pick(alloc: Global, limits: Limits, token: &Token) -> Mem<Picked<Self>>
+        ensures { IfOk result (λ picked. pick_of picked ≡ class limits token.now) };
+}
+
+/// Reads the token that stands first, and hands back those behind it.
+pub fn read_one<'a, T: TokenClass>(
+    alloc: Global,
+    limits: Limits,
+    tokens: &'a [Token],
+) -> Result<(T, &'a [Token]), ReadError>
+    ensures { Gives (λ r. (r.0, r.1.now)) result (one_at (T.class limits) tokens.now) }
+{
+    match tokens.split_first() {
+        None => Err(ReadError::Fault(Fault::Syntax)),
+        Some((token, rest)) => match T::pick(alloc, limits, token)? {
+            Picked::Is(value) => Ok((value, rest)),
+            Picked::Isnt => Err(ReadError::Fault(Fault::Syntax)),
+            Picked::Passes(limit) => Err(ReadError::Fault(Fault::TooMany(limit))),
+        },
+    }
+}
+
+impl TokenClass for Txt {
+    ghost use Rattle.gx_grammar.specs.Tokens.{name_of};
+
+    ghost class = { name_of };
+
+    fn pick(alloc: Global, limits: Limits, token: &Token) -> Mem<Picked<Txt>> {
+        match token {
+            Token::Name(name) => {
+                if name.as_slice().len() <= limits.name {
+                    Ok(Picked::Is(name.copy(alloc)?))
+                } else {
+                    Ok(Picked::Passes(LineLimit::Name))
+                }
+            }
+            _ => Ok(Picked::Isnt),
+        }
+    }
+}

@@ -1,0 +1,6 @@
+pub mod Place
+pub mod Tally
+pub mod Settled
+pub mod Reducing
+pub mod Reduce
+pub mod Core
