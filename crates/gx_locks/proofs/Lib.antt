@@ -1,0 +1,5 @@
+pub mod Keeps
+pub mod Least
+pub mod Risen
+pub mod Ready
+pub mod Meets

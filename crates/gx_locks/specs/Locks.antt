@@ -1,0 +1,85 @@
+-- The locks at one node: who holds what, and who waits for what (PostgreSQL manual, 13.3).
+use Rattle.std.specs.Prelude.{◌≡◌, ◌≤◌, Bool, false, true, List, [], ◌∷◌, ◌++◌, not, filter, map, if◌then◌else◌, find, Option, None, Some, Contains, All, nat_lt}
+use Rattle.std.specs.List.{list_any}
+use Rattle.gx_ids.specs.declared.ids.Gxid.{Gxid}
+use Rattle.gx_ids.specs.declared.ids.Node.{Node}
+use Rattle.gx_waits.specs.declared.claim.Claim.{Claim}
+use Rattle.gx_locks.specs.declared.answer.LockAnswer.{LockAnswer}
+use Rattle.gx_locks.specs.declared.answer.LockAnswer.TheVariants.{Granted, Waits}
+use Rattle.gx_locks.specs.Claims.{meets, same_claim, is_of, gxid_cmp}
+use Rattle.std.specs.List.Sorted.{IsStrictlySortedBy}
+
+-- the holds and the standing waits, each in the order in which they came
+pub record Locks : Type 0 where
+  pub node : Node
+  pub holds : List Claim
+  pub waits : List Claim
+
+-- whether a claim meets no hold
+abbrev pub is_free : List Claim → Claim → Bool
+is_free holds claim = not (list_any (meets claim) holds)
+
+-- the transactions whose holds a claim meets, by hold
+abbrev pub blockers : List Claim → Claim → List Gxid
+blockers holds claim = map (λ hold. hold.gxid) (filter (meets claim) holds)
+
+-- the holds with one more; a claim that is held already is held once
+abbrev pub held : List Claim → Claim → List Claim
+held holds claim = if list_any (same_claim claim) holds then holds else holds ++ claim ∷ []
+
+-- without the claims of a transaction
+abbrev pub without : Gxid → List Claim → List Claim
+without g claims = filter (λ claim. not (is_of g claim)) claims
+
+-- without one claim
+abbrev pub without_claim : Claim → List Claim → List Claim
+without_claim claim claims = filter (λ other. not (same_claim claim other)) claims
+
+-- the transactions whose waits are ready, by wait
+abbrev pub ready_ones : Locks → List Gxid
+ready_ones locks = map (λ wait. wait.gxid) (filter (is_free locks.holds) locks.waits)
+
+-- the lesser of two
+abbrev pub lesser : Gxid → Gxid → Gxid
+lesser g h = if nat_lt h.0 g.0 then h else g
+
+-- the least of the list and one more
+abbrev pub least_of : List Gxid → Gxid → Gxid
+least_of [] h = h
+least_of (g ∷ gs) h = least_of gs (lesser g h)
+
+-- the least of what was seen and the list
+abbrev pub least_with : Option Gxid → List Gxid → Option Gxid
+least_with None [] = None
+least_with None (g ∷ gs) = Some (least_of gs g)
+least_with (Some h) gs = Some (least_of gs h)
+
+-- nothing of an empty list, and else the least of its members
+abbrev pub IsLeast : Option Gxid → List Gxid → Type 0
+IsLeast None gs = gs ≡ []
+IsLeast (Some g) gs = Contains gs g × All (λ h. g.0 ≤ h.0) gs
+
+-- the wait of a transaction
+abbrev pub wait_of : Locks → Gxid → Option Claim
+wait_of locks g = find (is_of g) locks.waits
+
+-- whether it is ready
+abbrev pub is_ready : List Claim → Option Claim → Bool
+is_ready holds None = false
+is_ready holds (Some wait) = is_free holds wait
+
+-- the wait of a transaction is held, where it has one
+abbrev pub resumed : Locks → Gxid → Option Claim → Locks
+resumed locks g None = locks
+resumed locks g (Some wait) = record locks { holds = held locks.holds wait; waits = without g locks.waits }
+
+-- the gxids rise and are those of the list
+pub record AreRisen (gxids all : List Gxid) : Type 0 where
+  pub rising : IsStrictlySortedBy gxid_cmp gxids
+  pub all_of_them : (g : Gxid) → Contains all g → Contains gxids g
+  pub no_others : (g : Gxid) → Contains gxids g → Contains all g
+
+-- what came of a request: it is granted exactly where it meets no hold; else it stands as the last wait
+abbrev pub IsAnswer : Locks → Claim → LockAnswer → Locks → Type 0
+IsAnswer old claim Granted new = (is_free old.holds claim ≡ true) × (new ≡ record old { holds = held old.holds claim })
+IsAnswer old claim (Waits gxids) new = (is_free old.holds claim ≡ false) × (AreRisen gxids (blockers old.holds claim) × (new ≡ record old { waits = old.waits ++ claim ∷ [] }))

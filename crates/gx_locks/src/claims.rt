@@ -1,0 +1,113 @@
+ghost use Rattle.std.specs.Prelude.{◌≡◌, ◌<◌, ◌≤◌, ◌++◌, ◌∷◌, [], not, find, IfOk, vec_len};
+ghost use Rattle.std.specs.Vec.{vec_capacity};
+ghost use Rattle.std.specs.List.{list_any};
+ghost use Rattle.gx_locks.specs.Claims.{meets, same_claim, same_object, is_of};
+ghost use Rattle.gx_locks.specs.Locks.{is_free, without, without_claim, blockers, AreRisen};
+
+use gx_ids::{Gxid, Mem};
+use gx_modes::conflicts;
+use gx_waits::{Claim, Object};
+use std::alloc::Global;
+
+// Whether two objects are one.
+pub(crate) fn is_same_object(a: &Object, b: &Object) -> bool
+    ensures { result ≡ same_object a.now b.now }
+{
+    match (*a, *b) {
+        (Object::Relation(t), Object::Relation(u)) => t == u,
+        (Object::Tuple(r), Object::Tuple(q)) => r == q,
+        (Object::Transaction(g), Object::Transaction(h)) => g == h,
+        _ => false,
+    }
+}
+
+// Whether a claim meets a hold.
+pub(crate) fn is_met(claim: &Claim, hold: &Claim) -> bool
+    ensures { result ≡ meets claim.now hold.now }
+{
+    claim.gxid != hold.gxid
+        && is_same_object(&claim.object, &hold.object)
+        && conflicts(claim.mode, hold.mode)
+}
+
+// Whether two claims are one.
+pub(crate) fn is_same(a: &Claim, b: &Claim) -> bool
+    ensures { result ≡ same_claim a.now b.now }
+{
+    a.gxid == b.gxid && is_same_object(&a.object, &b.object) && a.mode.number() == b.mode.number()
+}
+
+// Whether a claim meets no hold.
+pub(crate) fn is_free_of(holds: &[Claim], claim: &Claim) -> bool
+    ensures { result ≡ is_free holds.now claim.now }
+{
+    !is_any_met(holds, claim)
+}
+
+// Whether a claim meets some hold.
+fn is_any_met(holds: &[Claim], claim: &Claim) -> bool
+    ensures { result ≡ list_any (meets claim.now) holds.now }
+{
+    holds.iter().any(|hold| is_met(claim, hold))
+}
+
+// The transactions whose holds a claim meets, rising.
+pub(crate) fn risen_blockers(alloc: Global, holds: &[Claim], claim: &Claim) -> Mem<Vec<Gxid>>
+    ensures { IfOk result (λ gxids. AreRisen gxids.items (blockers holds.now claim.now)) }
+{
+    let mut gxids = all_blockers(alloc, holds, claim)?;
+    gxids.sort()?;
+    gxids.dedup();
+    Ok(gxids)
+}
+
+// The transactions whose holds a claim meets, by hold.
+fn all_blockers(alloc: Global, holds: &[Claim], claim: &Claim) -> Mem<Vec<Gxid>>
+    ensures { IfOk result (λ gxids. gxids.items ≡ blockers holds.now claim.now) }
+{
+    let gxids: Vec<Gxid> = holds
+        .iter()
+        .filter(|hold| is_met(claim, hold))
+        .map(|hold| hold.gxid)
+        .collect(alloc)?;
+    Ok(gxids)
+}
+
+// The wait of a transaction.
+pub(crate) fn find_of(claims: &[Claim], gxid: Gxid) -> Option<Claim>
+    ensures { result ≡ find (is_of gxid) claims.now }
+{
+    claims.iter().copied().find(|claim| claim.gxid == gxid)
+}
+
+// Adds a claim at the end, for which there is room.
+pub(crate) fn put(claims: &mut Vec<Claim>, claim: Claim)
+    requires { vec_len claims.old < vec_capacity claims.old }
+    ensures items { claims.new.items ≡ claims.old.items ++ claim ∷ [] }
+    ensures capacity { vec_capacity claims.old ≤ vec_capacity claims.new }
+{
+    let _ = claims.push(claim);
+}
+
+// Whether a claim is held.
+pub(crate) fn is_held(holds: &[Claim], claim: &Claim) -> bool
+    ensures { result ≡ list_any (same_claim claim.now) holds.now }
+{
+    holds.iter().any(|hold| is_same(claim, hold))
+}
+
+// Takes out the claims of a transaction.
+pub(crate) fn take_out(claims: &mut Vec<Claim>, gxid: Gxid)
+    ensures items { claims.new.items ≡ without gxid claims.old.items }
+    ensures capacity { vec_capacity claims.new ≡ vec_capacity claims.old }
+{
+    claims.retain(|claim| claim.gxid != gxid);
+}
+
+// Takes out one claim.
+pub(crate) fn take_out_one(claims: &mut Vec<Claim>, one: Claim)
+    ensures items { claims.new.items ≡ without_claim one claims.old.items }
+    ensures capacity { vec_capacity claims.new ≡ vec_capacity claims.old }
+{
+    claims.retain(|claim| !is_same(&one, claim));
+}
