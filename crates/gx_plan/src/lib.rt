@@ -1,0 +1,11 @@
+//! What a command sends where: one slice for each segment that it concerns.
+#![tactic(auto)]
+
+mod insertion;
+mod piece;
+mod planning;
+mod sending;
+mod tuple;
+
+pub use piece::Piece;
+pub use planning::plan;

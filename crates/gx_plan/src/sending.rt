@@ -1,0 +1,69 @@
+ghost use Rattle.std.specs.Prelude.{◌≡◌, ◌≤◌, ◌∷◌, [], IfOk};
+ghost use Rattle.std.specs.Option.{option_copied};
+ghost use Rattle.gx_place.specs.Target.{target_of};
+ghost use Rattle.gx_place.specs.declared.segments.Target.TheVariants.{All as AllOfThem};
+ghost use Rattle.gx_plan.specs.Plan.{piece, pieces};
+
+use crate::piece::Piece;
+use gx_ids::{Duplicate, Mem, Node};
+use gx_place::{Target, target};
+use gx_tree::{Cond, Schema, Slice};
+use std::alloc::Global;
+
+// The slice for each segment of the condition's target.
+pub fn send(
+    alloc: Global,
+    schema: &Schema,
+    cond: Option<&Cond>,
+    n: u8,
+    slice: Slice,
+) -> Mem<Vec<Piece>>
+    requires some { 1 ≤ n }
+    requires few { n ≤ 16 }
+    ensures { IfOk result (λ found. found.items ≡ pieces n (target_of n schema.now.dist (option_copied cond.entry)) slice) }
+{
+    match target_alone(schema, cond, n) {
+        Target::One(node) => send_to_one(alloc, node, slice),
+        Target::All => send_to_all(alloc, n, slice),
+    }
+}
+
+// The target, without what holds outside it.
+fn target_alone(schema: &Schema, cond: Option<&Cond>, n: u8) -> Target
+    requires some { 1 ≤ n }
+    requires few { n ≤ 16 }
+    ensures { result ≡ target_of n schema.now.dist (option_copied cond.entry) }
+{
+    target(schema, cond, n)
+}
+
+fn send_to_one(alloc: Global, node: Node, slice: Slice) -> Mem<Vec<Piece>>
+    ensures { IfOk result (λ found. found.items ≡ piece slice node ∷ []) }
+{
+    let mut found = Vec::new(alloc);
+    found.push(Piece { node, slice })?;
+    Ok(found)
+}
+
+// The slice for each of the segments.
+pub fn send_to_all(alloc: Global, n: u8, slice: Slice) -> Mem<Vec<Piece>>
+    requires { n ≤ 16 }
+    ensures { IfOk result (λ found. found.items ≡ pieces n AllOfThem slice) }
+{
+    copies(alloc, n, &slice)
+}
+
+fn copies(alloc: Global, n: u8, slice: &Slice) -> Mem<Vec<Piece>>
+    requires { n ≤ 16 }
+    ensures { IfOk result (λ found. found.items ≡ pieces n AllOfThem slice.now) }
+{
+    let mut found = Vec::with_capacity(alloc, usize::from(n))?;
+    for number in 0..n {
+        let slice = slice.copy(alloc)?;
+        found.push(Piece {
+            node: Node(number + 1),
+            slice,
+        })?;
+    }
+    Ok(found)
+}
