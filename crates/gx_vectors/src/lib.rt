@@ -10,4 +10,12 @@ mod outside;
 #[cfg(test)]
 mod places;
 #[cfg(test)]
+mod script_lexing;
+#[cfg(test)]
+mod script_lines;
+#[cfg(test)]
+mod script_modes;
+#[cfg(test)]
+mod script_typing;
+#[cfg(test)]
 mod versions;
