@@ -1,0 +1,11 @@
+//! Tests of the crates that read the script language: tables of cases over its rules and limits.
+#![tactic(auto)]
+
+#[cfg(test)]
+mod script_lexing;
+#[cfg(test)]
+mod script_lines;
+#[cfg(test)]
+mod script_modes;
+#[cfg(test)]
+mod script_typing;
