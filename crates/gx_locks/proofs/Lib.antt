@@ -1,5 +1,11 @@
-pub mod Keeps
+pub mod Edges
+pub mod Emptied
+pub mod Filed
+pub mod Found
+pub mod Keys
 pub mod Least
-pub mod Risen
-pub mod Ready
 pub mod Meets
+pub mod Ready
+pub mod Risen
+pub mod Slots
+pub mod Whole

@@ -10,7 +10,7 @@ use Rattle.gx_waits.specs.declared.claim.Claim.{Claim}
 use Rattle.gx_waits.specs.Claim.{Meets}
 use Rattle.gx_locks.specs.Claims.{meets, same_object}
 
-parts : (a b c : Bool) → (not a && (b && c)) ≡ true → (a ≡ false) × ((b ≡ true) × (c ≡ true))
+pub parts : (a b c : Bool) → (not a && (b && c)) ≡ true → (a ≡ false) × ((b ≡ true) × (c ≡ true))
 parts true b c e = absurd (cc)
 parts false true true e = (refl, (refl, refl))
 parts false true false e = absurd (cc)
@@ -19,7 +19,7 @@ parts false false c e = absurd (cc)
 joined : (a b c : Bool) → a ≡ false → b ≡ true → c ≡ true → (not a && (b && c)) ≡ true
 joined a b c e f g = rw (e, f, g) refl
 
-same_object-same : (a b : Object) → same_object a b ≡ true → a ≡ b
+pub same_object-same : (a b : Object) → same_object a b ≡ true → a ≡ b
 same_object-same (Relation t) (Relation u) e = grind (arith, nat_tests)
 same_object-same (Relation t) (Tuple q) e = absurd (cc)
 same_object-same (Relation t) (Transaction h) e = absurd (cc)
@@ -30,7 +30,7 @@ same_object-same (Transaction g) (Relation u) e = absurd (cc)
 same_object-same (Transaction g) (Tuple q) e = absurd (cc)
 same_object-same (Transaction g) (Transaction h) e = grind (arith, nat_tests)
 
-same_object-itself : (a : Object) → same_object a a ≡ true
+pub same_object-itself : (a : Object) → same_object a a ≡ true
 same_object-itself (Relation t) = grind (arith, nat_tests)
 same_object-itself (Tuple r) = grind (arith, nat_tests)
 same_object-itself (Transaction g) = grind (arith, nat_tests)

@@ -1,3 +1,9 @@
+pub mod Book
 pub mod Claims
+pub mod Holds
+pub mod Index
 pub mod Kept
+pub mod Ledger
 pub mod Locks
+pub mod Rack
+pub mod Room

@@ -1,9 +1,11 @@
-ghost use Rattle.std.specs.Prelude.{◌≡◌, ◌<◌, ◌≤◌, ◌++◌, ◌∷◌, [], not, find, IfOk, vec_len};
+ghost use Rattle.std.specs.Prelude.{◌≡◌, ◌<◌, ◌++◌, ◌∷◌, [], map, filter, not, find, IfOk, vec_len};
 ghost use Rattle.std.specs.Vec.{vec_capacity};
 ghost use Rattle.std.specs.List.{list_any};
 ghost use Rattle.gx_locks.specs.Claims.{meets, same_claim, same_object, is_of};
-ghost use Rattle.gx_locks.specs.Locks.{is_free, without, without_claim, blockers, AreRisen};
+ghost use Rattle.gx_locks.specs.Holds.{same_hold};
+ghost use Rattle.gx_locks.specs.Locks.{without, AreRisen};
 
+use crate::hold::Hold;
 use gx_ids::{Gxid, Mem};
 use gx_modes::conflicts;
 use gx_waits::{Claim, Object};
@@ -37,23 +39,40 @@ pub(crate) fn is_same(a: &Claim, b: &Claim) -> bool
     a.gxid == b.gxid && is_same_object(&a.object, &b.object) && a.mode.number() == b.mode.number()
 }
 
-// Whether a claim meets no hold.
-pub(crate) fn is_free_of(holds: &[Claim], claim: &Claim) -> bool
-    ensures { result ≡ is_free holds.now claim.now }
+// Whether two holds are one.
+pub(crate) fn is_same_hold(a: &Hold, b: &Hold) -> bool
+    ensures { result ≡ same_hold a.now b.now }
 {
-    !is_any_met(holds, claim)
+    a.number == b.number && is_same(&a.claim, &b.claim)
 }
 
 // Whether a claim meets some hold.
-fn is_any_met(holds: &[Claim], claim: &Claim) -> bool
-    ensures { result ≡ list_any (meets claim.now) holds.now }
+pub(crate) fn is_any_met(holds: &[Hold], claim: &Claim) -> bool
+    ensures { result ≡ list_any (λ hold. meets claim.now hold.claim) holds.now }
 {
-    holds.iter().any(|hold| is_met(claim, hold))
+    holds.iter().any(|hold| is_met(claim, &hold.claim))
+}
+
+// Whether a claim is held.
+pub(crate) fn is_any_same(holds: &[Hold], claim: &Claim) -> bool
+    ensures { result ≡ list_any (λ hold. same_claim claim.now hold.claim) holds.now }
+{
+    holds.iter().any(|hold| is_same(claim, &hold.claim))
+}
+
+// The hold of a claim.
+pub(crate) fn find_same(holds: &[Hold], claim: &Claim) -> Option<Hold>
+    ensures { result ≡ find (λ hold. same_claim claim.now hold.claim) holds.now }
+{
+    holds
+        .iter()
+        .copied()
+        .find(|hold| is_same(claim, &hold.claim))
 }
 
 // The transactions whose holds a claim meets, rising.
-pub(crate) fn risen_blockers(alloc: Global, holds: &[Claim], claim: &Claim) -> Mem<Vec<Gxid>>
-    ensures { IfOk result (λ gxids. AreRisen gxids.items (blockers holds.now claim.now)) }
+pub(crate) fn risen_blockers(alloc: Global, holds: &[Hold], claim: &Claim) -> Mem<Vec<Gxid>>
+    ensures { IfOk result (λ gxids. AreRisen gxids.items (map (λ hold. hold.claim.gxid) (filter (λ hold. meets claim.now hold.claim) holds.now))) }
 {
     let mut gxids = all_blockers(alloc, holds, claim)?;
     gxids.sort()?;
@@ -62,13 +81,13 @@ pub(crate) fn risen_blockers(alloc: Global, holds: &[Claim], claim: &Claim) -> M
 }
 
 // The transactions whose holds a claim meets, by hold.
-fn all_blockers(alloc: Global, holds: &[Claim], claim: &Claim) -> Mem<Vec<Gxid>>
-    ensures { IfOk result (λ gxids. gxids.items ≡ blockers holds.now claim.now) }
+fn all_blockers(alloc: Global, holds: &[Hold], claim: &Claim) -> Mem<Vec<Gxid>>
+    ensures { IfOk result (λ gxids. gxids.items ≡ map (λ hold. hold.claim.gxid) (filter (λ hold. meets claim.now hold.claim) holds.now)) }
 {
     let gxids: Vec<Gxid> = holds
         .iter()
-        .filter(|hold| is_met(claim, hold))
-        .map(|hold| hold.gxid)
+        .filter(|hold| is_met(claim, &hold.claim))
+        .map(|hold| hold.claim.gxid)
         .collect(alloc)?;
     Ok(gxids)
 }
@@ -83,31 +102,14 @@ pub(crate) fn find_of(claims: &[Claim], gxid: Gxid) -> Option<Claim>
 // Adds a claim at the end, for which there is room.
 pub(crate) fn put(claims: &mut Vec<Claim>, claim: Claim)
     requires { vec_len claims.old < vec_capacity claims.old }
-    ensures items { claims.new.items ≡ claims.old.items ++ claim ∷ [] }
-    ensures capacity { vec_capacity claims.old ≤ vec_capacity claims.new }
+    ensures { claims.new.items ≡ claims.old.items ++ claim ∷ [] }
 {
     let _ = claims.push(claim);
 }
 
-// Whether a claim is held.
-pub(crate) fn is_held(holds: &[Claim], claim: &Claim) -> bool
-    ensures { result ≡ list_any (same_claim claim.now) holds.now }
-{
-    holds.iter().any(|hold| is_same(claim, hold))
-}
-
 // Takes out the claims of a transaction.
 pub(crate) fn take_out(claims: &mut Vec<Claim>, gxid: Gxid)
-    ensures items { claims.new.items ≡ without gxid claims.old.items }
-    ensures capacity { vec_capacity claims.new ≡ vec_capacity claims.old }
+    ensures { claims.new.items ≡ without gxid claims.old.items }
 {
     claims.retain(|claim| claim.gxid != gxid);
-}
-
-// Takes out one claim.
-pub(crate) fn take_out_one(claims: &mut Vec<Claim>, one: Claim)
-    ensures items { claims.new.items ≡ without_claim one claims.old.items }
-    ensures capacity { vec_capacity claims.new ≡ vec_capacity claims.old }
-{
-    claims.retain(|claim| !is_same(&one, claim));
 }

@@ -2,9 +2,17 @@
 #![tactic(auto)]
 
 pub mod answer;
+mod book;
 mod claims;
+mod graph;
+mod hold;
+mod index;
+mod key;
 pub mod laws;
+mod ledger;
 mod probe;
+mod shelf;
+mod slot;
 pub mod table;
 
 pub use answer::LockAnswer;

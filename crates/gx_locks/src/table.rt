@@ -1,13 +1,16 @@
-ghost use Rattle.std.specs.Prelude.{◌≡◌, [], ◌∷◌, false, true, None, Some, IfOk, IfSome, OnErr};
+ghost use Rattle.std.specs.Prelude.{◌≡◌, [], ◌∷◌, false, true, None, Some, map, filter, IfOk, IfSome, OnErr};
 ghost use Rattle.std.specs.List.{list_any};
 ghost use Rattle.gx_ids.specs.declared.ids.Gxid.{Gxid};
 ghost use Rattle.gx_waits.specs.Claim.{AreEdges};
 ghost use Rattle.gx_locks.specs.Claims.{is_of, same_claim};
-ghost use Rattle.gx_locks.specs.Locks.{IsAnswer, blockers, ready_ones, least_with, IsLeast, wait_of, is_ready, resumed, without, without_claim};
-ghost use Rattle.gx_locks.specs.Kept.{AreExclusive, WaitOnce};
+ghost use Rattle.gx_locks.specs.Locks.{IsAnswer, blockers, is_free, ready_ones, least_with, IsLeast, wait_of, is_ready, resumed, without, without_claim};
+ghost use Rattle.gx_locks.specs.Kept.{AreExclusive, AreOnce, WaitOnce};
+ghost use Rattle.gx_locks.specs.Book.{IsFiled, claims_in};
 
 use crate::answer::LockAnswer;
-use crate::claims::{find_of, is_free_of, is_held, put, risen_blockers, take_out, take_out_one};
+use crate::book::Book;
+use crate::claims::{find_of, put, take_out};
+use crate::graph::graph_of;
 use gx_ids::{Gxid, Mem, Node, Seq};
 use gx_modes::Mode;
 use gx_waits::{Claim, LocalGraph, Object};
@@ -15,25 +18,24 @@ use std::alloc::Global;
 use std::marker::Model;
 
 /// The locks at a node. Contracts see the holds and the standing waits as two lists, each in the order in which they
-/// came.
+/// came. Holds are found by object and by transaction, so a call costs by those, and by the waits.
 #[derive(Drop)]
 pub struct LockTable {
     alloc: Global,
     node: Node,
-    holds: Vec<Claim>,
+    book: Book,
     waits: Vec<Claim>,
 }
 
 impl Model for LockTable {
-    ghost use Rattle.std.specs.Vec.{vec_capacity};
     ghost use Rattle.gx_locks.specs.Locks.{Locks};
-    ghost use Rattle.gx_locks.specs.Kept.{AreKept};
+    ghost use Rattle.gx_locks.specs.Book.{claims_in, IsWhole};
 
     ghost Value = { Locks };
 
-    ghost view = { λ a. record { node = a.node; holds = a.holds.items; waits = a.waits.items } };
+    ghost view = { λ a. record { node = a.node; holds = claims_in a.book; waits = a.waits.items } };
 
-    ghost invariant = { λ a. AreKept a.holds.items a.waits.items (vec_capacity a.holds) };
+    ghost invariant = { λ a. IsWhole a.book a.waits.items };
 }
 
 impl LockTable {
@@ -44,17 +46,18 @@ impl LockTable {
         Ok(LockTable {
             alloc,
             node,
-            holds: Vec::new(alloc),
+            book: Book::new(alloc),
             waits: Vec::new(alloc),
         })
     }
 
-    /// The holds. No two of different transactions conflict on one object.
-    pub fn holds(&self) -> &[Claim]
-        ensures value { result.now ≡ self.now.holds }
-        ensures exclusive { AreExclusive result.now }
+    /// A list of the holds. No two of different transactions conflict on one object, and none stands twice.
+    pub fn holds(&self) -> Mem<Vec<Claim>>
+        ensures value { IfOk result (λ claims. claims.items ≡ self.now.holds) }
+        ensures exclusive { AreExclusive self.now.holds }
+        ensures once { AreOnce self.now.holds }
     {
-        self.holds.as_slice()
+        self.book.claims(self.alloc)
     }
 
     /// The standing waits, at most one of a transaction.
@@ -80,15 +83,16 @@ impl LockTable {
         ensures err { OnErr result (self.new ≡ self.old) }
     {
         let claim = Claim { gxid, object, mode };
-        if !is_free_of(self.holds.as_slice(), &claim) {
-            let blockers = risen_blockers(self.alloc, self.holds.as_slice(), &claim)?;
-            self.holds.reserve(self.waits.len() + 1)?;
-            self.waits.push(claim)?;
+        if !self.book.is_free(&claim) {
+            let blockers = self.book.blockers(self.alloc, &claim)?;
+            self.waits.reserve(1)?;
+            self.book.expect(&claim)?;
+            put(&mut self.waits, claim);
             return Ok(LockAnswer::Waits(Seq::from_vec(blockers)));
         }
-        if !is_held(self.holds.as_slice(), &claim) {
-            self.holds.reserve(self.waits.len() + 1)?;
-            put(&mut self.holds, claim);
+        if !self.book.is_held(&claim) {
+            self.book.expect(&claim)?;
+            self.book.hold(claim);
         }
         Ok(LockAnswer::Granted)
     }
@@ -99,14 +103,7 @@ impl LockTable {
         ensures least { IsLeast result (ready_ones self.now) }
         ensures ready { IfSome result (λ g. is_ready self.now.holds (wait_of self.now g) ≡ true) }
     {
-        let holds = self.holds.as_slice();
-        let mut least = None;
-        for wait in self.waits.as_slice() {
-            if is_free_of(holds, wait) {
-                least = Some(lesser_of(least, wait.gxid));
-            }
-        }
-        least
+        least_ready(self.waits.as_slice(), &self.book)
     }
 
     /// Makes the ready wait of a transaction a hold. It takes no memory: `request` made the room.
@@ -116,8 +113,10 @@ impl LockTable {
     {
         if let Some(wait) = find_of(self.waits.as_slice(), gxid) {
             take_out(&mut self.waits, gxid);
-            if !is_held(self.holds.as_slice(), &wait) {
-                put(&mut self.holds, wait);
+            if self.book.is_held(&wait) {
+                self.book.forget(&wait);
+            } else {
+                self.book.hold(wait);
             }
         }
     }
@@ -126,15 +125,25 @@ impl LockTable {
     pub fn release(&mut self, gxid: Gxid, object: Object, mode: Mode)
         ensures { self.new ≡ record self.old { holds = without_claim (record { gxid = gxid; object = object; mode = mode }) self.old.holds } }
     {
-        take_out_one(&mut self.holds, Claim { gxid, object, mode });
+        self.book.release(&Claim { gxid, object, mode });
     }
 
     /// Gives back all locks of a transaction, and drops its wait.
     pub fn release_all(&mut self, gxid: Gxid)
         ensures { self.new ≡ record self.old { holds = without gxid self.old.holds; waits = without gxid self.old.waits } }
     {
-        take_out(&mut self.holds, gxid);
-        take_out(&mut self.waits, gxid);
+        self.drop_wait(gxid);
+        self.book.release_all(gxid);
+    }
+
+    // Drops the wait of a transaction, where it has one.
+    fn drop_wait(&mut self, gxid: Gxid)
+        ensures { self.new ≡ record self.old { waits = without gxid self.old.waits } }
+    {
+        if let Some(wait) = find_of(self.waits.as_slice(), gxid) {
+            take_out(&mut self.waits, gxid);
+            self.book.forget(&wait);
+        }
     }
 
     /// The edges from the waits to the holds that they meet, dotted exactly for tuples.
@@ -142,13 +151,22 @@ impl LockTable {
         ensures node { IfOk result (λ graph. graph.node ≡ self.now.node) }
         ensures edges { IfOk result (λ graph. AreEdges self.now.waits self.now.holds graph.edges) }
     {
-        LocalGraph::of_claims(
-            self.alloc,
-            self.node,
-            self.waits.as_slice(),
-            self.holds.as_slice(),
-        )
+        graph_of(self.alloc, self.node, self.waits.as_slice(), &self.book)
     }
+}
+
+// The least transaction whose wait is ready.
+fn least_ready(waits: &[Claim], book: &Book) -> Option<Gxid>
+    requires { IsFiled book.now }
+    ensures { result ≡ least_with None (map (λ wait. wait.gxid) (filter (is_free (claims_in book.now)) waits.now)) }
+{
+    let mut least = None;
+    for wait in waits {
+        if book.is_free(wait) {
+            least = Some(lesser_of(least, wait.gxid));
+        }
+    }
+    least
 }
 
 // The lesser of two, of which the first may be missing.

@@ -75,7 +75,7 @@ fn least_ready_goes_on(rt: HostRuntime) -> Result<(), Fail> {
     table.release(Gxid(1), RELATION, Mode::AccessExclusive);
     assert_eq!(rt; go_on(&mut table), Some(Gxid(2)));
     assert_eq!(rt; go_on(&mut table), Some(Gxid(3)));
-    assert_eq!(rt; table.holds().len(), 2);
+    assert_eq!(rt; table.holds()?.len(), 2);
     Ok(())
 }
 
@@ -86,7 +86,7 @@ fn release_all_drops_holds_and_wait(rt: HostRuntime) -> Result<(), Fail> {
     ask(&mut table, 2, RELATION, 3)?;
     ask(&mut table, 1, RELATION, 8)?;
     table.release_all(Gxid(1));
-    assert_eq!(rt; table.holds().len(), 1);
+    assert_eq!(rt; table.holds()?.len(), 1);
     assert!(rt; table.waits().is_empty());
     Ok(())
 }

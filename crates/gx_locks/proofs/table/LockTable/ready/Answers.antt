@@ -1,18 +1,21 @@
-use Rattle.std.proofs.Common.{◌≡◌, subst, sym, true, arith}
-use Rattle.std.proofs.lemmas.Grind.{common_steps}
-use Rattle.std.specs.Prelude.{None, Option, IfSome}
+use Rattle.std.proofs.Common.{◌≡◌, ◌∙◌, ap, subst, sym, true}
+use Rattle.std.specs.Prelude.{None, Option, IfSome, List, map, filter}
 use Rattle.gx_ids.specs.declared.ids.Gxid.{Gxid}
-use Rattle.gx_locks.specs.Locks.{Locks, IsLeast, is_ready, wait_of, least_with, ready_ones}
+use Rattle.gx_waits.specs.declared.claim.Claim.{Claim}
+use Rattle.gx_locks.specs.Book.{claims_in}
+use Rattle.gx_locks.specs.Locks.{Locks, IsLeast, is_free, is_ready, wait_of, least_with, ready_ones}
 use Rattle.gx_locks.proofs.Least.{IsLeast-least_with}
 use Rattle.gx_locks.proofs.Ready.{is_ready-least}
 use Rattle.gx_locks.proofs.table.LockTable.ready.Goals as goal
 
+least : (c : goal.After-least_ready) → IsLeast c.least_ready.result (map (λ wait. wait.gxid) (filter (is_free (claims_in c.self.inside.book)) c.self.inside.waits.items))
+least c =
+    let value = c.least_ready.ensures ∙ ap (λ (waits : List Claim). least_with None (map (λ wait. wait.gxid) (filter (is_free (claims_in c.self.inside.book)) waits))) c.as_slice.ensures.value in
+    subst (λ (o : Option Gxid). IsLeast o (map (λ wait. wait.gxid) (filter (is_free (claims_in c.self.inside.book)) c.self.inside.waits.items))) (sym value) (IsLeast-least_with (map (λ wait. wait.gxid) (filter (is_free (claims_in c.self.inside.book)) c.self.inside.waits.items)))
+
 pub returns-clause-least : goal.returns-clause-least
-returns-clause-least c =
-    let value : c.loop-wait.least ≡ least_with None (ready_ones c.args.self.now) = grind (arith, common_steps) in
-    subst (λ (o : Option Gxid). IsLeast o (ready_ones c.args.self.now)) (sym value) (IsLeast-least_with (ready_ones c.args.self.now))
+returns-clause-least c = subst (λ (locks : Locks). IsLeast c.least_ready.result (ready_ones locks)) c.self.view_is (least c)
 
 pub returns-clause-ready : goal.returns-clause-ready
 returns-clause-ready c =
-    let least = subst (λ (locks : Locks). IsLeast c.loop-wait.least (ready_ones locks)) (sym c.self.view_is) (returns-clause-least c) in
-    subst (λ (locks : Locks). IfSome c.loop-wait.least (λ g. is_ready locks.holds (wait_of locks g) ≡ true)) c.self.view_is (is_ready-least c.self.inside.holds.items c.self.inside.waits.items c.loop-wait.least c.self.invariant.once least)
+    subst (λ (locks : Locks). IfSome c.least_ready.result (λ g. is_ready locks.holds (wait_of locks g) ≡ true)) c.self.view_is (is_ready-least (claims_in c.self.inside.book) c.self.inside.waits.items c.least_ready.result c.self.invariant.once (least c))

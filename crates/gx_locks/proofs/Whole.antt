@@ -1,0 +1,162 @@
+-- What the calls keep of the book and the waits.
+use Rattle.std.proofs.Common.{◌≡◌, ◌≢◌, ℕ, ◌+◌, ◌<◌, ◌≤◌, List, [], ◌∷◌, ◌++◌, length, get_or, refl, sym, ap, ◌∙◌, subst, Bool, true, false, not, cond, arith, ⊎_elim, ◌⊎◌, inl, inr}
+use Rattle.std.proofs.lemmas.Bool.Decides.{nat_tests}
+use Rattle.std.proofs.lemmas.List.Folds.{list_any_at}
+use Rattle.std.proofs.lemmas.List.Kept.{AllPairs-filter}
+use Rattle.std.proofs.lemmas.List.Quantifiers.{all_pairs_push}
+use Rattle.std.specs.Prelude.{filter, find, Option, Some, None}
+use Rattle.std.specs.List.{list_any}
+use Rattle.gx_ids.specs.declared.ids.Gxid.{Gxid}
+use Rattle.gx_waits.specs.declared.claim.Claim.{Claim}
+use Rattle.gx_locks.specs.declared.book.Book.{Book}
+use Rattle.gx_locks.specs.declared.key.Key.{Key}
+use Rattle.gx_locks.specs.declared.key.Key.TheVariants.{On, Of}
+use Rattle.gx_locks.specs.Book.{IsFiled, IsWhole, claims_in, HasSameHolds, HasPlaceMore, HasPlaceLess, HasPlace}
+use Rattle.gx_locks.specs.Claims.{meets, same_claim, is_of}
+use Rattle.gx_locks.specs.Holds.{is_under, claims_of}
+use Rattle.gx_locks.specs.Index.{places_at}
+use Rattle.gx_locks.specs.Kept.{AreExclusive, AreOnce, WaitOnce}
+use Rattle.gx_locks.specs.Locks.{is_free, is_ready, without}
+use Rattle.gx_locks.specs.Room.{bit, awaited}
+use Rattle.gx_locks.proofs.Filed.{filter-unfound}
+
+none_passes : (p : Claim → Bool) (xs : List Claim) (k : ℕ) (d : Claim) (b : Bool) → p (get_or xs k d) ≡ b → list_any p xs ≡ false → k < length xs → b ≡ false
+none_passes p xs k d true is none inside = let some = list_any_at p xs k d inside is in absurd (cc)
+none_passes p xs k d false is none inside = refl
+
+free_is : (b : Bool) → not b ≡ true → b ≡ false
+free_is true free = absurd (cc)
+free_is false free = refl
+
+module _ (p : Claim → Bool) where
+  count_kept : (q : Claim → Bool) (x : Claim) (xs : List Claim) (a b : Bool) → p x ≡ b → length (filter p (filter q xs)) ≤ length (filter p xs) → length (filter p (cond a (x ∷ filter q xs) (filter q xs))) ≤ length (cond b (x ∷ filter p xs) (filter p xs))
+  count_kept q x xs true true is more = rw is (omega (arith, more))
+  count_kept q x xs true false is more = rw is more
+  count_kept q x xs false true is more = omega (arith, more)
+  count_kept q x xs false false is more = more
+
+  -- fewer claims, fewer of a kind
+  pub count-filter : (q : Claim → Bool) (xs : List Claim) → length (filter p (filter q xs)) ≤ length (filter p xs)
+  count-filter q [] = omega arith
+  count-filter q (x ∷ xs) = count_kept q x xs (q x) (p x) refl (count-filter q xs)
+
+  count_here : (x : Claim) (n m : ℕ) (xs : List Claim) (b : Bool) → n ≤ length (filter p xs) → n + bit b ≤ length (cond b (x ∷ filter p xs) (filter p xs))
+  count_here x n m xs true less = omega (arith, less)
+  count_here x n m xs false less = omega (arith, less)
+
+  count_later : (x : Claim) (ys xs : List Claim) (n : ℕ) (b : Bool) → length (filter p ys) + n ≤ length (filter p xs) → length (cond b (x ∷ filter p ys) (filter p ys)) + n ≤ length (cond b (x ∷ filter p xs) (filter p xs))
+  count_later x ys xs n true less = omega (arith, less)
+  count_later x ys xs n false less = omega (arith, less)
+
+  count_once : (g : Gxid) (x w : Claim) (xs : List Claim) (b : Bool) → cond b (Some x) (find (is_of g) xs) ≡ Some w → (find (is_of g) xs ≡ Some w → length (filter p (without g xs)) + bit (p w) ≤ length (filter p xs)) → length (filter p (cond (not b) (x ∷ without g xs) (without g xs))) + bit (p w) ≤ length (cond (p x) (x ∷ filter p xs) (filter p xs))
+  count_once g x w xs true found more = let same : x ≡ w = cc in subst (λ v. length (filter p (without g xs)) + bit (p v) ≤ length (cond (p x) (x ∷ filter p xs) (filter p xs))) same (count_here x (length (filter p (without g xs))) 0 xs (p x) (count-filter (λ c. not (is_of g c)) xs))
+  count_once g x w xs false found more = count_later x (without g xs) xs (bit (p w)) (p x) (more found)
+
+  -- without the wait of a transaction there is one less of its kinds
+  pub count-without : (g : Gxid) (ws : List Claim) (w : Claim) → find (is_of g) ws ≡ Some w → length (filter p (without g ws)) + bit (p w) ≤ length (filter p ws)
+  count-without g [] w found = absurd (cc)
+  count-without g (x ∷ xs) w found = count_once g x w xs (is_of g x) found (count-without g xs w)
+
+filter_true : (xs : List Claim) → filter (λ _. true) xs ≡ xs
+filter_true [] = refl
+filter_true (x ∷ xs) = ap (λ (ys : List Claim). x ∷ ys) (filter_true xs)
+
+length-without : (g : Gxid) (ws : List Claim) (w : Claim) → find (is_of g) ws ≡ Some w → length (without g ws) + 1 ≤ length ws
+length-without g ws w found = subst (λ (xs : List Claim). length xs + 1 ≤ length ws) (filter_true (without g ws)) (subst (λ (xs : List Claim). length (filter (λ _. true) (without g ws)) + 1 ≤ length xs) (filter_true ws) (count-without (λ _. true) g ws w found))
+
+-- some claims less
+pub IsWhole-fewer : (p : Claim → Bool) (b b' : Book) (ws : List Claim) → IsWhole b ws → IsFiled b' → claims_in b' ≡ filter p (claims_in b) → b'.ledger.places ≡ b.ledger.places → ((k : Key) → awaited k ws ≤ places_at b'.index k) → IsWhole b' ws
+IsWhole-fewer p b b' ws whole filed e places room = record {
+  filed = filed;
+  exclusive = subst (λ (cs : List Claim). AreExclusive cs) (sym e) (AllPairs-filter (λ earlier later. meets later earlier ≡ false) p (claims_in b) whole.exclusive);
+  held_once = subst (λ (cs : List Claim). AreOnce cs) (sym e) (AllPairs-filter (λ earlier later. same_claim later earlier ≡ false) p (claims_in b) whole.held_once);
+  once = whole.once;
+  places = omega (arith, whole.places, places);
+  room = room;
+}
+
+-- one more, which meets none and isn't held
+pub IsWhole-held : (b b' : Book) (ws ws' : List Claim) (c : Claim) → IsWhole b ws → WaitOnce ws' → is_free (claims_in b) c ≡ true → list_any (same_claim c) (claims_in b) ≡ false → IsFiled b' → claims_in b' ≡ claims_in b ++ c ∷ [] → length ws' ≤ b'.ledger.places → ((k : Key) → awaited k ws' ≤ places_at b'.index k) → IsWhole b' ws'
+IsWhole-held b b' ws ws' c whole once free new filed e places room =
+    let none : list_any (meets c) (claims_in b) ≡ false = free_is (list_any (meets c) (claims_in b)) free in
+    record {
+      filed = filed;
+      exclusive = subst (λ (cs : List Claim). AreExclusive cs) (sym e) (all_pairs_push (λ earlier later. meets later earlier ≡ false) (claims_in b) c whole.exclusive (λ k d inside. none_passes (meets c) (claims_in b) k d (meets c (get_or (claims_in b) k d)) refl none inside));
+      held_once = subst (λ (cs : List Claim). AreOnce cs) (sym e) (all_pairs_push (λ earlier later. same_claim later earlier ≡ false) (claims_in b) c whole.held_once (λ k d inside. none_passes (same_claim c) (claims_in b) k d (same_claim c (get_or (claims_in b) k d)) refl new inside));
+      once = once;
+      places = places;
+      room = room;
+    }
+
+-- a place that was made and filled
+pub IsWhole-granted : (b b1 b2 : Book) (ws : List Claim) (c : Claim) → IsWhole b ws → is_free (claims_in b) c ≡ true → list_any (same_claim c) (claims_in b) ≡ false → HasSameHolds b b1 → HasPlaceMore b b1 c → IsFiled b2 → claims_in b2 ≡ claims_in b1 ++ c ∷ [] → HasPlaceLess b1 b2 c → IsWhole b2 ws
+IsWhole-granted b b1 b2 ws c whole free new same more filed e less =
+    IsWhole-held b b2 ws ws c whole whole.once free new filed (e ∙ ap (λ hs. claims_of hs ++ c ∷ []) same.ledger)
+    (omega (arith, whole.places, more.ledger, less.ledger))
+    (λ k. omega (arith, whole.room k, more.index k, less.index k))
+
+-- the waits without a transaction's
+once-without : (g : Gxid) (ws ws' : List Claim) → WaitOnce ws → ws' ≡ without g ws → WaitOnce ws'
+once-without g ws ws' once e = subst (λ (xs : List Claim). WaitOnce xs) (sym e) (AllPairs-filter (λ a b. is_of a.gxid b ≡ false) (λ c. not (is_of g c)) ws once)
+
+module _ (b b' : Book) (ws ws' : List Claim) (g : Gxid) (w : Claim) (whole : IsWhole b ws) (e : ws' ≡ without g ws) (found : find (is_of g) ws ≡ Some w) (less : HasPlaceLess b b' w) where
+  places_left : length ws' ≤ b'.ledger.places
+  places_left = omega (arith, length-without g ws w found, ap length e, whole.places, less.ledger)
+
+  room_left : (k : Key) → awaited k ws' ≤ places_at b'.index k
+  room_left k = omega (arith, count-without (is_under k) g ws w found, ap (awaited k) e, whole.room k, less.index k)
+
+  -- a wait is dropped with its place
+  pub IsWhole-dropped : HasSameHolds b b' → IsWhole b' ws'
+  IsWhole-dropped same =
+      let claims : claims_in b' ≡ claims_in b = ap claims_of same.ledger in
+      record {
+        filed = λ k. same.index k ∙ whole.filed k ∙ ap (filter (λ h. is_under k h.claim)) (sym same.ledger);
+        exclusive = subst (λ (cs : List Claim). AreExclusive cs) (sym claims) whole.exclusive;
+        held_once = subst (λ (cs : List Claim). AreOnce cs) (sym claims) whole.held_once;
+        once = once-without g ws ws' whole.once e;
+        places = places_left;
+        room = room_left;
+      }
+
+  -- or held in its place
+  pub IsWhole-resumed : is_free (claims_in b) w ≡ true → list_any (same_claim w) (claims_in b) ≡ false → IsFiled b' → claims_in b' ≡ claims_in b ++ w ∷ [] → IsWhole b' ws'
+  IsWhole-resumed free new filed claims = IsWhole-held b b' ws ws' w whole (once-without g ws ws' whole.once e) free new filed claims places_left room_left
+
+-- each wait has a place
+pub HasPlace-found : (b : Book) (ws : List Claim) (g : Gxid) (w : Claim) → IsWhole b ws → find (is_of g) ws ≡ Some w → HasPlace b w
+HasPlace-found b ws g w whole found = record {
+  ledger = omega (arith, length-without g ws w found, whole.places);
+  index = λ k. omega (arith, count-without (is_under k) g ws w found, whole.room k);
+}
+
+none_of : (g : Gxid) (ws : List Claim) → filter (is_of g) (without g ws) ≡ []
+none_of g [] = refl
+none_of g (w ∷ ws) = once (is_of g w) refl (none_of g ws)
+  where
+    once : (a : Bool) → is_of g w ≡ a → filter (is_of g) (without g ws) ≡ [] → filter (is_of g) (cond (not a) (w ∷ without g ws) (without g ws)) ≡ []
+    once true is more = more
+    once false isnt more = ap (λ b. cond b (w ∷ filter (is_of g) (without g ws)) (filter (is_of g) (without g ws))) isnt ∙ more
+
+key_cases : (g : Gxid) (k : Key) → (k ≡ Of g) ⊎ (k ≢ Of g)
+key_cases g (On o) = inr (λ same. cc)
+key_cases g (Of h) = ⊎_elim (λ (same : h ≡ g). inl (ap Of same)) (λ (other : h ≢ g). inr (λ same. other (cc))) (gxids h g)
+  where
+    gxids : (a b : Gxid) → (a ≡ b) ⊎ (a ≢ b)
+    gxids a b = grind (arith, nat_tests)
+
+-- all claims of a transaction that doesn't wait are given back
+pub IsWhole-emptied : (g : Gxid) (b b' : Book) (ws ws0 : List Claim) → IsWhole b ws → ws ≡ without g ws0 → IsFiled b' → claims_in b' ≡ without g (claims_in b) → b'.ledger.places ≡ b.ledger.places → ((k : Key) → k ≢ Of g → places_at b'.index k ≡ places_at b.index k) → IsWhole b' ws
+IsWhole-emptied g b b' ws ws0 whole e filed claims places room =
+    IsWhole-fewer (λ c. not (is_of g c)) b b' ws whole filed claims places (λ k. ⊎_elim (λ (same : k ≡ Of g). its k same) (λ (other : k ≢ Of g). omega (arith, whole.room k, room k other)) (key_cases g k))
+  where
+    its : (k : Key) → k ≡ Of g → awaited k ws ≤ places_at b'.index k
+    its k same = subst (λ l. awaited l ws ≤ places_at b'.index k) (sym same) (omega (arith, ap length (ap (filter (is_of g)) e ∙ none_of g ws0)))
+
+-- where a transaction doesn't wait, its waits are none
+pub without-unfound : (g : Gxid) (ws : List Claim) → find (is_of g) ws ≡ None → without g ws ≡ ws
+without-unfound g ws none = filter-unfound (is_of g) ws none
+
+-- the wait that was found is ready
+pub ready_is_free : (holds : List Claim) (o : Option Claim) (wait : Claim) → is_ready holds o ≡ true → o ≡ Some wait → is_free holds wait ≡ true
+ready_is_free holds o wait ready found = subst (λ (p : Option Claim). is_ready holds p ≡ true) found ready

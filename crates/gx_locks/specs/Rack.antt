@@ -1,0 +1,7 @@
+use Rattle.std.specs.Prelude.{ℕ, List}
+use Rattle.gx_locks.specs.declared.hold.Hold.{Hold}
+
+-- holds in the order in which they came, and for how many more there is room
+pub record Rack : Type 0 where
+  pub holds : List Hold
+  pub places : ℕ

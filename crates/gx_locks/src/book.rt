@@ -1,0 +1,144 @@
+ghost use Rattle.std.specs.Prelude.{◌≡◌, ◌≢◌, ◌+◌, ◌∷◌, ◌++◌, [], filter, find, not, IfOk, OnOk, OnErr};
+ghost use Rattle.std.specs.List.{list_any};
+ghost use Rattle.gx_waits.specs.declared.claim.Claim.{Claim};
+ghost use Rattle.gx_locks.specs.Claims.{same_claim};
+ghost use Rattle.gx_locks.specs.Holds.{same_hold, claims_of, is_under};
+ghost use Rattle.gx_locks.specs.Kept.{AreOnce};
+ghost use Rattle.gx_locks.specs.Locks.{is_free, without, blockers, AreRisen};
+
+use crate::claims::{find_same, is_any_met, is_any_same, risen_blockers};
+use crate::hold::Hold;
+use crate::index::Index;
+use crate::key::Key;
+use crate::ledger::Ledger;
+use gx_ids::{Gxid, Mem};
+use gx_waits::{Claim, Object};
+use std::alloc::Global;
+
+/// The holds, with an index by object and by transaction.
+#[derive(Drop)]
+pub struct Book {
+    ledger: Ledger,
+    index: Index,
+}
+
+impl Book {
+    ghost use Rattle.gx_locks.specs.declared.key.Key.{Key};
+    ghost use Rattle.gx_locks.specs.declared.key.Key.TheVariants.{On, Of};
+    ghost use Rattle.gx_locks.specs.Index.{holds_at, places_at};
+    ghost use Rattle.gx_locks.specs.Book.{IsFiled, claims_in, HasSameHolds, HasSamePlaces, HasPlaceMore, HasPlaceLess, HasPlace};
+
+    pub fn new(alloc: Global) -> Book
+        ensures empty { result.ledger ≡ record { holds = []; places = 0 } }
+        ensures filed { IsFiled result }
+        ensures places { (k : Key) → places_at result.index k ≡ 0 }
+    {
+        Book {
+            ledger: Ledger::new(alloc),
+            index: Index::new(alloc),
+        }
+    }
+
+    /// The claims that are held, in the order in which they came.
+    pub fn claims(&self, alloc: Global) -> Mem<Vec<Claim>>
+        ensures { IfOk result (λ claims. claims.items ≡ claims_in self.now) }
+    {
+        self.ledger.claims(alloc)
+    }
+
+    /// The holds on an object.
+    pub fn on(&self, object: Object) -> &[Hold]
+        ensures { result.now ≡ holds_at self.now.index (On object) }
+    {
+        self.index.at(Key::On(object))
+    }
+
+    /// Whether a claim meets no hold.
+    pub fn is_free(&self, claim: &Claim) -> bool
+        requires { IsFiled self.now }
+        ensures { result ≡ is_free (claims_in self.now) claim.now }
+    {
+        !is_any_met(self.on(claim.object), claim)
+    }
+
+    /// Whether a claim is held.
+    pub fn is_held(&self, claim: &Claim) -> bool
+        requires { IsFiled self.now }
+        ensures { result ≡ list_any (same_claim claim.now) (claims_in self.now) }
+    {
+        is_any_same(self.on(claim.object), claim)
+    }
+
+    /// The transactions whose holds a claim meets, rising.
+    pub fn blockers(&self, alloc: Global, claim: &Claim) -> Mem<Vec<Gxid>>
+        requires { IsFiled self.now }
+        ensures { IfOk result (λ gxids. AreRisen gxids.items (blockers (claims_in self.now) claim.now)) }
+    {
+        risen_blockers(alloc, self.on(claim.object), claim)
+    }
+
+    /// Makes a place for a claim.
+    pub fn expect(&mut self, claim: &Claim) -> Mem<()>
+        ensures holds { HasSameHolds self.old self.new }
+        ensures ok { OnOk result (HasPlaceMore self.old self.new claim.now) }
+        ensures err { OnErr result (HasSamePlaces self.old self.new) }
+    {
+        self.ledger.reserve()?;
+        if let Err(error) = self.index.expect(claim) {
+            self.ledger.cancel();
+            return Err(error);
+        }
+        Ok(())
+    }
+
+    /// Gives the place for a claim up.
+    pub fn forget(&mut self, claim: &Claim)
+        ensures holds { HasSameHolds self.old self.new }
+        ensures places { HasPlaceLess self.old self.new claim.now }
+    {
+        self.ledger.cancel();
+        self.index.forget(claim);
+    }
+
+    /// Holds a claim, for which there is a place.
+    pub fn hold(&mut self, claim: Claim)
+        requires filed { IsFiled self.old }
+        requires place { HasPlace self.old claim }
+        ensures filed { IsFiled self.new }
+        ensures claims { claims_in self.new ≡ claims_in self.old ++ claim ∷ [] }
+        ensures places { HasPlaceLess self.old self.new claim }
+    {
+        let hold = self.ledger.fill(claim);
+        self.index.file(hold);
+    }
+
+    /// Gives a claim back.
+    pub fn release(&mut self, claim: &Claim)
+        requires filed { IsFiled self.old }
+        requires once { AreOnce (claims_in self.old) }
+        ensures filed { IsFiled self.new }
+        ensures claims { claims_in self.new ≡ filter (λ other. not (same_claim claim.now other)) (claims_in self.old) }
+        ensures places { HasSamePlaces self.old self.new }
+    {
+        if let Some(hold) = find_same(self.on(claim.object), claim) {
+            self.ledger.strike(&hold);
+            self.index.unfile(&hold);
+        }
+    }
+
+    /// Gives all claims of a transaction back, for which there are no places any more.
+    pub fn release_all(&mut self, gxid: Gxid)
+        requires filed { IsFiled self.old }
+        requires once { AreOnce (claims_in self.old) }
+        ensures filed { IsFiled self.new }
+        ensures claims { claims_in self.new ≡ without gxid (claims_in self.old) }
+        ensures places { self.new.ledger.places ≡ self.old.ledger.places }
+        ensures room { (k : Key) → k ≢ Of gxid → places_at self.new.index k ≡ places_at self.old.index k }
+    {
+        let holds = self.index.take(Key::Of(gxid));
+        for hold in holds.as_slice() {
+            self.ledger.strike(hold);
+            self.index.strike(Key::On(hold.claim.object), hold);
+        }
+    }
+}

@@ -1,0 +1,8 @@
+use gx_waits::Claim;
+
+/// A lock that is held. Later holds have greater numbers.
+#[derive(Clone, Copy, Debug, PartialEq, Eq)]
+pub struct Hold {
+    pub number: u64,
+    pub claim: Claim,
+}

@@ -1,0 +1,96 @@
+ghost use Rattle.std.specs.Prelude.{◌≡◌, ◌<◌, ◌+◌, ◌-◌, ◌++◌, ◌∷◌, [], ◌==◌, ◌&&◌, length, filter, not, OnOk, OnErr};
+ghost use Rattle.gx_locks.specs.Holds.{same_hold};
+
+use crate::claims::is_same_hold;
+use crate::hold::Hold;
+use gx_ids::{Mem, OutOfMemory};
+use std::alloc::Global;
+use std::marker::Model;
+
+/// The holds under one key, and for how many more there is room.
+#[derive(Drop)]
+pub struct Shelf {
+    holds: Vec<Hold>,
+    places: usize,
+}
+
+impl Model for Shelf {
+    ghost use Rattle.std.specs.Prelude.{◌+◌, ◌≤◌, length};
+    ghost use Rattle.std.specs.Vec.{vec_capacity};
+    ghost use Rattle.gx_locks.specs.Rack.{Rack};
+
+    ghost Value = { Rack };
+
+    ghost view = { λ a. record { holds = a.holds.items; places = a.places } };
+
+    ghost invariant = { λ a. length a.holds.items + a.places ≤ vec_capacity a.holds };
+}
+
+impl Shelf {
+    pub fn new(alloc: Global) -> Shelf
+        ensures { result ≡ record { holds = []; places = 0 } }
+    {
+        Shelf {
+            holds: Vec::new(alloc),
+            places: 0,
+        }
+    }
+
+    pub fn holds(&self) -> &[Hold]
+        ensures { result.now ≡ self.now.holds }
+    {
+        self.holds.as_slice()
+    }
+
+    /// Whether nothing is held and nothing may come.
+    pub fn is_idle(&self) -> bool
+        ensures { result ≡ ((length self.now.holds == 0) && (self.now.places == 0)) }
+    {
+        self.holds.len() == 0 && self.places == 0
+    }
+
+    /// Makes room for one hold more.
+    pub fn reserve(&mut self) -> Mem<()>
+        ensures holds { self.new.holds ≡ self.old.holds }
+        ensures ok { OnOk result (self.new.places ≡ self.old.places + 1) }
+        ensures err { OnErr result (self.new.places ≡ self.old.places) }
+    {
+        let places = self.places.checked_add(1).ok_or(OutOfMemory)?;
+        self.holds.reserve(places)?;
+        self.places = places;
+        Ok(())
+    }
+
+    /// Gives the room for one hold up.
+    pub fn cancel(&mut self)
+        ensures holds { self.new.holds ≡ self.old.holds }
+        ensures places { self.new.places ≡ self.old.places - 1 }
+    {
+        self.places = self.places.saturating_sub(1);
+    }
+
+    /// Adds a hold, for which there is room.
+    pub fn fill(&mut self, hold: Hold)
+        requires { 0 < self.old.places }
+        ensures holds { self.new.holds ≡ self.old.holds ++ hold ∷ [] }
+        ensures places { self.new.places + 1 ≡ self.old.places }
+    {
+        let _ = self.holds.push(hold);
+        self.places -= 1;
+    }
+
+    /// Takes out a hold.
+    pub fn strike(&mut self, hold: &Hold)
+        ensures holds { self.new.holds ≡ filter (λ other. not (same_hold hold.now other)) self.old.holds }
+        ensures places { self.new.places ≡ self.old.places }
+    {
+        self.holds.retain(|other| !is_same_hold(hold, other));
+    }
+
+    pub fn into_holds(self) -> Vec<Hold>
+        ensures { result.items ≡ self.holds }
+    {
+        let Shelf { holds, places: _ } = self;
+        holds
+    }
+}
