@@ -1,5 +1,5 @@
 -- What the calls keep of the book and the waits.
-use Rattle.std.proofs.Common.{◌≡◌, ◌≢◌, ℕ, ◌+◌, ◌<◌, ◌≤◌, List, [], ◌∷◌, ◌++◌, length, get_or, refl, sym, ap, ◌∙◌, subst, Bool, true, false, not, cond, arith, ⊎_elim, ◌⊎◌, inl, inr}
+use Rattle.std.proofs.Common.{◌≡◌, ◌≢◌, ℕ, ◌+◌, ◌<◌, ◌≤◌, List, [], ◌∷◌, ◌++◌, length, get_or, refl, sym, ap, ◌∙◌, subst, Bool, true, false, not, cond, eqb, arith, ⊎_elim, ◌⊎◌, inl, inr, ◌||◌}
 use Rattle.std.proofs.lemmas.Bool.Decides.{nat_tests}
 use Rattle.std.proofs.lemmas.List.Folds.{list_any_at}
 use Rattle.std.proofs.lemmas.List.Kept.{AllPairs-filter}
@@ -18,7 +18,7 @@ use Rattle.gx_locks.specs.Index.{places_at}
 use Rattle.gx_locks.specs.Kept.{AreExclusive, AreOnce, WaitOnce}
 use Rattle.gx_locks.specs.Locks.{is_free, is_ready, without}
 use Rattle.gx_locks.specs.Room.{bit, awaited}
-use Rattle.gx_locks.proofs.Filed.{filter-unfound}
+use Rattle.gx_locks.proofs.Filed.{filter-unfound, filter-none}
 
 none_passes : (p : Claim → Bool) (xs : List Claim) (k : ℕ) (d : Claim) (b : Bool) → p (get_or xs k d) ≡ b → list_any p xs ≡ false → k < length xs → b ≡ false
 none_passes p xs k d true is none inside = let some = list_any_at p xs k d inside is in absurd (cc)
@@ -160,3 +160,29 @@ without-unfound g ws none = filter-unfound (is_of g) ws none
 -- the wait that was found is ready
 pub ready_is_free : (holds : List Claim) (o : Option Claim) (wait : Claim) → is_ready holds o ≡ true → o ≡ Some wait → is_free holds wait ≡ true
 ready_is_free holds o wait ready found = subst (λ (p : Option Claim). is_ready holds p ≡ true) found ready
+
+nothing_long : (xs : List Claim) → length xs ≤ 0 → xs ≡ []
+nothing_long [] none = refl
+nothing_long (x ∷ xs) none = absurd (omega (arith, none))
+
+no_place : (n : ℕ) → eqb n 0 ≡ true → n ≤ 0
+no_place n is = grind (arith, nat_tests)
+
+none_any : (p : Claim → Bool) (x : Claim) (xs : List Claim) (b : Bool) → cond b (x ∷ filter p xs) (filter p xs) ≡ [] → (filter p xs ≡ [] → list_any p xs ≡ false) → (b || list_any p xs) ≡ false
+none_any p x xs true none more = absurd (cc)
+none_any p x xs false none more = more none
+
+list_any-filter_none : (p : Claim → Bool) (xs : List Claim) → filter p xs ≡ [] → list_any p xs ≡ false
+list_any-filter_none p [] none = refl
+list_any-filter_none p (x ∷ xs) none = none_any p x xs (p x) none (list_any-filter_none p xs)
+
+-- a transaction for which there is no place doesn't wait
+module _ (b : Book) (ws : List Claim) (g : Gxid) (whole : IsWhole b ws) (full : eqb (places_at b.index (Of g)) 0 ≡ true) where
+  no_wait : filter (is_of g) ws ≡ []
+  no_wait = nothing_long (filter (is_of g) ws) (omega (arith, whole.room (Of g), no_place (places_at b.index (Of g)) full))
+
+  pub without-full : without g ws ≡ ws
+  without-full = filter-none (is_of g) ws no_wait
+
+  pub list_any-full : list_any (is_of g) ws ≡ false
+  list_any-full = list_any-filter_none (is_of g) ws no_wait

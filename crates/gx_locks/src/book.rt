@@ -1,4 +1,4 @@
-ghost use Rattle.std.specs.Prelude.{◌≡◌, ◌≢◌, ◌+◌, ◌∷◌, ◌++◌, [], filter, find, not, IfOk, OnOk, OnErr};
+ghost use Rattle.std.specs.Prelude.{◌≡◌, ◌≢◌, ◌+◌, ◌∷◌, ◌++◌, [], ◌==◌, filter, find, not, IfOk, OnOk, OnErr};
 ghost use Rattle.std.specs.List.{list_any};
 ghost use Rattle.gx_waits.specs.declared.claim.Claim.{Claim};
 ghost use Rattle.gx_locks.specs.Claims.{same_claim};
@@ -75,6 +75,13 @@ impl Book {
         ensures { IfOk result (λ gxids. AreRisen gxids.items (blockers (claims_in self.now) claim.now)) }
     {
         risen_blockers(alloc, self.on(claim.object), claim)
+    }
+
+    /// Whether there is no place for a claim of a transaction.
+    pub fn is_full(&self, gxid: Gxid) -> bool
+        ensures { result ≡ (places_at self.now.index (Of gxid) == 0) }
+    {
+        self.index.is_full(Key::Of(gxid))
     }
 
     /// Makes a place for a claim.

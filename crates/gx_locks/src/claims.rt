@@ -92,6 +92,13 @@ fn all_blockers(alloc: Global, holds: &[Hold], claim: &Claim) -> Mem<Vec<Gxid>>
     Ok(gxids)
 }
 
+// Whether a transaction has a wait.
+pub(crate) fn is_any_of(claims: &[Claim], gxid: Gxid) -> bool
+    ensures { result ≡ list_any (is_of gxid) claims.now }
+{
+    claims.iter().any(|claim| claim.gxid == gxid)
+}
+
 // The wait of a transaction.
 pub(crate) fn find_of(claims: &[Claim], gxid: Gxid) -> Option<Claim>
     ensures { result ≡ find (is_of gxid) claims.now }

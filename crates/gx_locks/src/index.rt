@@ -40,6 +40,16 @@ impl Index {
         }
     }
 
+    /// Whether there is no room for more under a key.
+    pub fn is_full(&self, key: Key) -> bool
+        ensures { result ≡ (places_at self.now key == 0) }
+    {
+        match self.shelves.get(&key) {
+            Some(shelf) => shelf.is_full(),
+            None => true,
+        }
+    }
+
     /// Makes room for one hold more.
     pub fn reserve(&mut self, key: Key) -> Mem<()>
         ensures holds { (k : Key) → holds_at self.new k ≡ holds_at self.old k }

@@ -49,6 +49,13 @@ impl Shelf {
         self.holds.len() == 0 && self.places == 0
     }
 
+    /// Whether there is no room for more.
+    pub fn is_full(&self) -> bool
+        ensures { result ≡ (self.now.places == 0) }
+    {
+        self.places == 0
+    }
+
     /// Makes room for one hold more.
     pub fn reserve(&mut self) -> Mem<()>
         ensures holds { self.new.holds ≡ self.old.holds }

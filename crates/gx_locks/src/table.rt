@@ -9,7 +9,7 @@ ghost use Rattle.gx_locks.specs.Book.{IsFiled, claims_in};
 
 use crate::answer::LockAnswer;
 use crate::book::Book;
-use crate::claims::{find_of, put, take_out};
+use crate::claims::{find_of, is_any_of, put, take_out};
 use crate::graph::graph_of;
 use gx_ids::{Gxid, Mem, Node, Seq};
 use gx_modes::Mode;
@@ -72,11 +72,15 @@ impl LockTable {
     pub fn is_waiting(&self, gxid: Gxid) -> bool
         ensures { result ≡ list_any (is_of gxid) self.now.waits }
     {
-        self.waits.as_slice().iter().any(|wait| wait.gxid == gxid)
+        if self.book.is_full(gxid) {
+            return false;
+        }
+        is_any_of(self.waits.as_slice(), gxid)
     }
 
-    /// Asks for a lock, where the transaction has no standing wait. Waiters don't count: the request is granted where no other transaction holds a conflicting
-    /// mode, and else it stands as a wait, for which there is room among the holds from then on.
+    /// Asks for a lock, where the transaction has no standing wait. Waiters don't count: the request is granted where
+    /// no other transaction holds a conflicting mode, and else it stands as a wait, for which there is room among the
+    /// holds from then on.
     pub fn request(&mut self, gxid: Gxid, object: Object, mode: Mode) -> Mem<LockAnswer>
         requires { list_any (is_of gxid) self.old.waits ≡ false }
         ensures ok { IfOk result (λ answer. IsAnswer self.old (record { gxid = gxid; object = object; mode = mode }) answer self.new) }
@@ -140,6 +144,9 @@ impl LockTable {
     fn drop_wait(&mut self, gxid: Gxid)
         ensures { self.new ≡ record self.old { waits = without gxid self.old.waits } }
     {
+        if self.book.is_full(gxid) {
+            return;
+        }
         if let Some(wait) = find_of(self.waits.as_slice(), gxid) {
             take_out(&mut self.waits, gxid);
             self.book.forget(&wait);
