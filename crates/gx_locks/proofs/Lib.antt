@@ -7,5 +7,6 @@ pub mod Least
 pub mod Meets
 pub mod Ready
 pub mod Risen
+pub mod Runs
 pub mod Slots
 pub mod Whole

@@ -20,11 +20,11 @@ use Rattle.gx_locks.specs.Locks.{is_free, is_ready, without}
 use Rattle.gx_locks.specs.Room.{bit, awaited}
 use Rattle.gx_locks.proofs.Filed.{filter-unfound, filter-none}
 
-none_passes : (p : Claim → Bool) (xs : List Claim) (k : ℕ) (d : Claim) (b : Bool) → p (get_or xs k d) ≡ b → list_any p xs ≡ false → k < length xs → b ≡ false
+pub none_passes : (p : Claim → Bool) (xs : List Claim) (k : ℕ) (d : Claim) (b : Bool) → p (get_or xs k d) ≡ b → list_any p xs ≡ false → k < length xs → b ≡ false
 none_passes p xs k d true is none inside = let some = list_any_at p xs k d inside is in absurd (cc)
 none_passes p xs k d false is none inside = refl
 
-free_is : (b : Bool) → not b ≡ true → b ≡ false
+pub free_is : (b : Bool) → not b ≡ true → b ≡ false
 free_is true free = absurd (cc)
 free_is false free = refl
 

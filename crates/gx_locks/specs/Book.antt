@@ -16,11 +16,12 @@ IsFiled book = (k : Key) → holds_at book.index k ≡ filter (λ hold. is_under
 abbrev pub claims_in : Book → List Claim
 claims_in book = claims_of book.ledger.holds
 
--- nothing but the places differs
+-- the holds are the same, in all lists
 pub record HasSameHolds (old new : Book) : Type 0 where
   pub ledger : new.ledger.holds ≡ old.ledger.holds
   pub index : (k : Key) → holds_at new.index k ≡ holds_at old.index k
 
+-- the places are as many
 pub record HasSamePlaces (old new : Book) : Type 0 where
   pub ledger : new.ledger.places ≡ old.ledger.places
   pub index : (k : Key) → places_at new.index k ≡ places_at old.index k

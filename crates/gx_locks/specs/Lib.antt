@@ -7,3 +7,4 @@ pub mod Ledger
 pub mod Locks
 pub mod Rack
 pub mod Room
+pub mod Runs
