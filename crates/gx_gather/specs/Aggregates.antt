@@ -3,7 +3,7 @@ use Rattle.std.specs.Prelude.{ℕ, ℤ, pos, ◌+ℤ◌, if◌then◌else◌, Li
 use Rattle.std.specs.Int.{int_wrap, w128}
 use Rattle.std.specs.List.{flat_map}
 use Rattle.std.specs.Option.{option_to_list}
-use Rattle.std.specs.Ordering.{is_gt, is_lt}
+use Rattle.std.specs.Ordering.{is_gt}
 use Rattle.gx_tree.specs.Value.{value_order}
 use Rattle.gx_tree.specs.declared.cell.Cell.{Cell}
 use Rattle.gx_tree.specs.declared.cell.Cell.TheVariants as cell
@@ -50,14 +50,16 @@ lesser a b = if is_gt (value_order a b) then b else a
 abbrev pub greater : Value → Value → Value
 greater a b = if is_gt (value_order a b) then a else b
 
+-- a choice between two values of which one may be missing
+abbrev pub either : (Value → Value → Value) → Option Value → Option Value → Option Value
+either choose None b = b
+either choose (Some a) None = Some a
+either choose (Some a) (Some b) = Some (choose a b)
+
 -- one of the values by a choice between two
 abbrev pub chosen : (Value → Value → Value) → List Value → Option Value
 chosen choose [] = None
-chosen choose (v ∷ vs) = Some (chosen_with choose v (chosen choose vs))
-  where
-    chosen_with : (Value → Value → Value) → Value → Option Value → Value
-    chosen_with choose v None = v
-    chosen_with choose v (Some w) = choose v w
+chosen choose (v ∷ vs) = either choose (Some v) (chosen choose vs)
 
 -- an aggregate over rows; a column by itself is none
 abbrev pub aggregate : List KeyedRow → Item → Cell

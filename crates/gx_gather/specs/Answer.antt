@@ -1,6 +1,7 @@
 -- What a query answers on one list of rows in the order of their identities, and its part at a segment.
-use Rattle.std.specs.Prelude.{ℕ, Bool, true, false, if◌then◌else◌, List, [], ◌∷◌, map, filter, take, slice_get, Option, Some, None, Result, Ok, Err}
-use Rattle.std.specs.List.Sorted.{IsStrictlySortedBy}
+use Rattle.std.specs.Prelude.{◌≡◌, All, ℕ, Bool, true, false, if◌then◌else◌, List, [], ◌∷◌, map, filter, take, slice_get, Option, Some, None, Result, Ok, Err}
+use Rattle.std.specs.List.{flat_map}
+use Rattle.std.specs.List.Sorted.{IsPermutation, IsStrictlySortedBy}
 use Rattle.gx_eval.specs.Meaning.{truth_of}
 use Rattle.gx_tree.specs.declared.cell.Cell.{Cell}
 use Rattle.gx_tree.specs.declared.cell.Cell.TheVariants as cell
@@ -72,3 +73,25 @@ part_of query rows =
 -- the rows rise by their identities
 abbrev pub AreRising : List KeyedRow → Type 0
 AreRising rows = IsStrictlySortedBy rid_order (map (λ row. row.rid) rows)
+
+-- the rows that a part has, and its groups
+abbrev pub rows_in : Part → List KeyedRow
+rows_in (Rows rows) = rows
+rows_in (Groups groups) = []
+
+abbrev pub groups_in : Part → List Group
+groups_in (Rows rows) = []
+groups_in (Groups groups) = groups
+
+-- lists put together
+abbrev pub together : {X : Type 0} → List (List X) → List X
+together lists = flat_map (λ list. list) lists
+
+-- The parts are those of a division of the whole: of lists which together are the whole in another order, and the whole
+-- rises by its identities and keeps the condition.
+pub record ArePartsOf (query : Query) (whole : List KeyedRow) (parts : List Part) : Type 0 where
+  pub dealt : List (List KeyedRow)
+  pub division : IsPermutation whole (together dealt)
+  pub each : parts ≡ map (part_of query) dealt
+  pub rising : AreRising whole
+  pub kept : All (λ row. keeps query.cond row ≡ true) whole

@@ -1,5 +1,6 @@
 -- How the aggregates over two lists of rows give those over both.
-use Rattle.std.specs.Prelude.{◌+ℤ◌, Bool, true, false, not, ◌&&◌, ◌||◌, if◌then◌else◌, List, [], ◌∷◌, Option, Some, None}
+use Rattle.std.specs.Prelude.{◌+ℤ◌, Bool, true, false, not, ◌&&◌, ◌||◌, if◌then◌else◌, List, map, Option, Some, None}
+use Rattle.std.specs.List.{zip}
 use Rattle.std.specs.Ordering.{int_cmp, nat_cmp, is_gt}
 use Rattle.std.specs.Cmp.Lexicographic.{slice_cmp}
 use Rattle.std.specs.declared.cmp.Ordering.{Ordering}
@@ -49,6 +50,6 @@ combine (Sum column) a b = add a b
 combine (Min column) a b = lesser_cell a b
 combine (Max column) a b = greater_cell a b
 
+-- item by item
 abbrev pub combine_all : List Item → List Cell → List Cell → List Cell
-combine_all (item ∷ items) (a ∷ as') (b ∷ bs) = combine item a b ∷ combine_all items as' bs
-combine_all _ _ _ = []
+combine_all items a b = map (λ p. combine p.0 p.1.0 p.1.1) (zip items (zip a b))

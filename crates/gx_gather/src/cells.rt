@@ -1,4 +1,5 @@
-ghost use Rattle.std.specs.Prelude.{◌≡◌, ◌∷◌, [], IfOk, map, slice_get};
+ghost use Rattle.std.specs.Prelude.{◌≡◌, ◌∷◌, [], ◌+ℤ◌, IfOk, map, slice_get};
+ghost use Rattle.std.specs.Int.{int_wrap, w128};
 ghost use Rattle.gx_gather.specs.Aggregates.{aggregate, cell_at, cell_of};
 ghost use Rattle.gx_gather.specs.Cells.{add, cell_order, combine, combine_all, greater_cell, is_null, lesser_cell, number_at};
 
@@ -117,10 +118,17 @@ fn added(left: Cell, right: Cell) -> Cell
     ensures { result ≡ add left right }
 {
     match (left, right) {
-        (Cell::Int(a), Cell::Int(b)) => Cell::Int(a.wrapping_add(b)),
+        (Cell::Int(a), Cell::Int(b)) => Cell::Int(wrapping_sum(a, b)),
         (Cell::Null, other) => other,
         (other, _) => other,
     }
+}
+
+#[tactic(auto, using(std::proofs::lemmas::Int::wraps))]
+fn wrapping_sum(a: i128, b: i128) -> i128
+    ensures { result ≡ int_wrap w128 (a +ℤ b) }
+{
+    a.wrapping_add(b)
 }
 
 fn lesser_cell(left: Cell, right: Cell) -> Cell

@@ -1,9 +1,10 @@
-ghost use Rattle.std.specs.Prelude.{◌≡◌, [], ◌∷◌, List, IfOk, OnOk, map, if◌then◌else◌};
-ghost use Rattle.std.specs.BTreeMap.{get};
+ghost use Rattle.std.specs.Prelude.{◌≡◌, [], List, IfOk, OnOk, map, if◌then◌else◌};
+ghost use Rattle.std.specs.BTreeMap.{get, IsOrdered};
 ghost use Rattle.gx_tree.specs.declared.value.Value.{Value as RowValue};
+ghost use Rattle.gx_eval.specs.Meaning.{column_of};
 ghost use Rattle.gx_gather.specs.Groups.{is_same_key, key_of};
 ghost use Rattle.gx_gather.specs.Order.{rising};
-ghost use Rattle.gx_gather.specs.Tallies.{joined};
+ghost use Rattle.gx_gather.specs.Tallies.{entry_group, joined, total_at};
 
 use crate::cells::{combined_cells, empty_aggregates};
 use crate::key::GroupKey;
@@ -17,7 +18,9 @@ use std::mem;
 pub type Groups = BTreeMap<GroupKey, Seq<Cell>>;
 
 // No groups, but where all rows are one group, that group.
-pub fn new_groups(alloc: Global, query: &Query) -> Mem<Groups> {
+pub fn new_groups(alloc: Global, query: &Query) -> Mem<Groups>
+    ensures { IfOk result (λ groups. (q : List RowValue) → get rising groups q ≡ total_at query.now [] q) }
+{
     let mut groups = BTreeMap::new(alloc);
     if query.group.is_empty() {
         let key = GroupKey::from_row(Row::from_vec(Vec::new(alloc)));
@@ -60,7 +63,9 @@ pub fn row_key(alloc: Global, group: &[u8], row: &KeyedRow) -> Mem<GroupKey>
     Ok(GroupKey::from_row(Row::from_vec(values)))
 }
 
-fn column_value(alloc: Global, row: &KeyedRow, column: u8) -> Mem<Value> {
+fn column_value(alloc: Global, row: &KeyedRow, column: u8) -> Mem<Value>
+    ensures { IfOk result (λ value. value ≡ column_of row.now.row column) }
+{
     match row.row.as_slice().get(usize::from(column)) {
         Some(value) => value.copy(alloc),
         None => Ok(Value::Int(0)),
@@ -68,13 +73,16 @@ fn column_value(alloc: Global, row: &KeyedRow, column: u8) -> Mem<Value> {
 }
 
 // The groups as a list, rising by their keys.
-pub fn listed(alloc: Global, groups: Groups) -> Mem<Vec<Group>> {
-    let mut list = Vec::with_capacity(alloc, groups.len())?;
-    for (key, cells) in groups {
-        list.push(Group {
+pub fn listed(alloc: Global, groups: Groups) -> Mem<Vec<Group>>
+    ensures listed { IfOk result (λ list. list.items ≡ map entry_group groups.entries) }
+    ensures ordered { IfOk result (λ list. IsOrdered rising groups) }
+{
+    let list: Vec<Group> = groups
+        .into_iter()
+        .map(|(key, cells)| Group {
             key: key.into_row(),
             cells,
-        })?;
-    }
+        })
+        .collect(alloc)?;
     Ok(list)
 }

@@ -1,5 +1,9 @@
-ghost use Rattle.std.specs.Prelude.{◌≡◌, ◌∷◌, [], IfOk};
+ghost use Rattle.std.specs.Prelude.{◌≡◌, [], List, IfOk, map};
+ghost use Rattle.std.specs.BTreeMap.{get};
+ghost use Rattle.gx_tree.specs.declared.value.Value.{Value as RowValue};
 ghost use Rattle.gx_gather.specs.Answer.{part_of};
+ghost use Rattle.gx_gather.specs.Order.{rising};
+ghost use Rattle.gx_gather.specs.Tallies.{row_group, tally, total_at};
 
 use crate::cells::row_aggregates;
 use crate::groups::{Groups, add_group, listed, new_groups, row_key};
@@ -20,7 +24,10 @@ pub fn partial(alloc: Global, query: &Query, rows: &[KeyedRow]) -> Mem<Part>
     }
 }
 
-fn group_rows(alloc: Global, query: &Query, rows: &[KeyedRow]) -> Mem<Groups> {
+// The groups of the rows.
+fn group_rows(alloc: Global, query: &Query, rows: &[KeyedRow]) -> Mem<Groups>
+    ensures { IfOk result (λ groups. (q : List RowValue) → get rising groups q ≡ tally query.now.items q (total_at query.now [] q) (map (row_group query.now) rows.now)) }
+{
     let mut groups = new_groups(alloc, query)?;
     for row in rows {
         let key = row_key(alloc, query.group.as_slice(), row)?;

@@ -1,0 +1,12 @@
+pub mod Adding
+pub mod Choices
+pub mod Combining
+pub mod Dividing
+pub mod InOrder
+pub mod Keys
+pub mod Listing
+pub mod Orders
+pub mod Permuted
+pub mod Steps
+pub mod Totals
+pub mod Whole
