@@ -1,16 +1,11 @@
 -- The lesser and the greater of values, in any order of the values.
-use Rattle.std.proofs.Common.{◌≡◌, ◌∙◌, Bool, true, false, cond, List, [], ◌∷◌, ◌++◌, refl, ap, sym, not}
-use Rattle.std.proofs.lemmas.Map.Lookups.{exact_bytes, exact_signed}
-use Rattle.std.specs.Ordering.{is_gt, ordering_reverse}
+use Rattle.std.proofs.Common.{◌≡◌, ◌∙◌, Bool, true, false, cond, List, [], ◌∷◌, ◌++◌, refl, ap, sym}
+use Rattle.std.specs.Ordering.{is_gt}
 use Rattle.std.specs.Prelude.{Option, None, Some}
-use Rattle.std.specs.declared.cmp.Ordering.{Ordering}
-use Rattle.std.specs.declared.cmp.Ordering.TheVariants.{Less, Equal, Greater}
 use Rattle.gx_tree.specs.Value.{value_order}
 use Rattle.gx_tree.specs.declared.value.Value.{Value}
-use Rattle.gx_tree.specs.declared.value.Value.TheVariants.{Int, Text}
 use Rattle.gx_gather.specs.Aggregates.{chosen, either, greater, lesser}
-use Rattle.gx_gather.specs.Laws.{value_order-total}
-use Rattle.gx_gather.proofs.Orders.{value_order-exact, gt-trans, not_gt-trans, gt-once, tie-once}
+use Rattle.gx_gather.proofs.Orders.{gt-trans, not_gt-trans, gt-once, tie-once}
 
 abbrev above : Value → Value → Bool
 above a b = is_gt (value_order a b)

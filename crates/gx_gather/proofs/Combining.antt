@@ -1,16 +1,14 @@
 -- The aggregates over two lists of rows give those over both, in either order.
-use Rattle.std.proofs.Common.{ℕ, ◌+◌, ◌≡◌, ◌∙◌, Bool, true, false, cond, not, List, [], ◌∷◌, ◌++◌, length, refl, ap, sym, arith, append-nil, append_assoc, length-append}
+use Rattle.std.proofs.Common.{ℕ, ◌≡◌, ◌∙◌, Bool, true, false, cond, not, List, [], ◌∷◌, ◌++◌, length, refl, ap, sym, arith, append-nil, append_assoc, length-append}
 use Rattle.std.proofs.Math.IntN.{+ℤ_assoc, +ℤ_comm, +ℤ_idl}
 use Rattle.std.proofs.lemmas.List.Concat.{flat_map-append}
 use Rattle.std.proofs.lemmas.Int.{int_wrap-add_left, int_wrap-add_right}
 use Rattle.std.specs.Int.{int_wrap, w128}
-use Rattle.std.specs.List.{flat_map, zip}
+use Rattle.std.specs.List.{flat_map}
 use Rattle.std.specs.Option.{option_to_list}
 use Rattle.std.specs.Cmp.Lexicographic.{slice_cmp}
 use Rattle.std.specs.Ordering.{int_cmp, is_gt, nat_cmp}
 use Rattle.std.specs.Prelude.{ℤ, pos, ◌+ℤ◌, Option, None, Some, map, slice_get}
-use Rattle.gx_tree.specs.Value.{value_order}
-use Rattle.gx_tree.specs.declared.cell.Cell.{Cell}
 use Rattle.gx_tree.specs.declared.cell.Cell.TheVariants as cell
 use Rattle.gx_tree.specs.declared.query.Item.{Item}
 use Rattle.gx_tree.specs.declared.query.Item.TheVariants.{Col, Count, Sum, Min, Max}
@@ -18,7 +16,7 @@ use Rattle.gx_tree.specs.declared.row.KeyedRow.{KeyedRow}
 use Rattle.gx_tree.specs.declared.value.Value.{Value}
 use Rattle.gx_tree.specs.declared.value.Value.TheVariants.{Int, Text}
 use Rattle.gx_gather.specs.Aggregates.{aggregate, cell_at, cell_of, chosen, column, either, greater, lesser, number_cell, numbers_in, sum_cell, total}
-use Rattle.gx_gather.specs.Cells.{add, cell_order, combine, combine_all, greater_cell, lesser_cell}
+use Rattle.gx_gather.specs.Cells.{add, combine, combine_all, greater_cell, lesser_cell}
 use Rattle.gx_gather.proofs.Choices.{greatest-append, greatest-comm, least-append, least-comm}
 
 column-append : (place : ℕ) (xs ys : List KeyedRow) → column place (xs ++ ys) ≡ column place xs ++ column place ys

@@ -1,11 +1,9 @@
 -- The aggregates over a list of rows are those over any other with the same rows at each identity.
-use Rattle.std.proofs.Common.{ℕ, ◌≡◌, ◌∙◌, Bool, true, false, cond, List, [], ◌∷◌, ◌++◌, filter, map, length, refl, ap, sym, subst}
+use Rattle.std.proofs.Common.{◌≡◌, ◌∙◌, Bool, true, false, cond, List, [], ◌∷◌, ◌++◌, filter, refl, ap, sym}
 use Rattle.std.proofs.lemmas.Cmp.{tied_itself}
 use Rattle.std.proofs.lemmas.List.Elements.{filter-append}
-use Rattle.std.specs.List.Sorted.{IsPermutation, IsStrictlySortedBy}
+use Rattle.std.specs.List.Sorted.{IsPermutation}
 use Rattle.std.specs.Ordering.{is_eq}
-use Rattle.std.specs.declared.cmp.Ordering.{Ordering}
-use Rattle.std.specs.declared.cmp.Ordering.TheVariants.{Less, Equal, Greater}
 use Rattle.gx_ids.specs.declared.rid.Rid.{Rid}
 use Rattle.gx_tree.specs.declared.query.Item.{Item}
 use Rattle.gx_tree.specs.declared.row.KeyedRow.{KeyedRow}
@@ -39,6 +37,7 @@ module _ {X : Type 0} (p : X → Bool) where
       let tail : filter p xs ≡ rest = cc in
       record { before = []; behind = xs; is = ap (λ z. z ∷ xs) head; none = refl; others = tail }
   found-step y xs x rest false t e more = found-later y xs x rest t (more e)
+
   found : (xs : List X) (x : X) (rest : List X) → filter p xs ≡ x ∷ rest → Found xs x rest
   found [] x rest e = absurd (cc)
   found (y ∷ xs) x rest e = found-step y xs x rest (p y) refl e (found xs x rest)
@@ -62,6 +61,7 @@ without-step q x a b xs false tie none same = same
 same-first-step : (item : Item) (x : KeyedRow) (a b : List KeyedRow) (t : Bool) → aggregate (a ++ cond t (x ∷ b) b) item ≡ aggregate (cond t (x ∷ a ++ b) (a ++ b)) item
 same-first-step item x a b true = aggregate-move item a x b
 same-first-step item x a b false = refl
+
 same-first : (item : Item) (p : KeyedRow → Bool) (x : KeyedRow) (a b : List KeyedRow) → aggregate (filter p (a ++ x ∷ b)) item ≡ aggregate (filter p (x ∷ a ++ b)) item
 same-first item p x a b =
     ap (λ l. aggregate l item) (filter-append p a (x ∷ b)) ∙ same-first-step item x (filter p a) (filter p b) (p x) ∙ ap (λ l. aggregate (cond (p x) (x ∷ l) l) item) (sym (filter-append p a b))
@@ -69,14 +69,15 @@ same-first item p x a b =
 behind-step : (item : Item) (x : KeyedRow) (l m : List KeyedRow) (t : Bool) → aggregate l item ≡ aggregate m item → aggregate (cond t (x ∷ l) l) item ≡ aggregate (cond t (x ∷ m) m) item
 behind-step item x l m true same = aggregate-behind item x l m same
 behind-step item x l m false same = same
+
 pub aggregate-same : (item : Item) (p : KeyedRow → Bool) (xs cs : List KeyedRow) → ((q : Rid) → at q cs ≡ at q xs) → aggregate (filter p cs) item ≡ aggregate (filter p xs) item
 aggregate-same item p [] [] same = refl
 aggregate-same item p [] (c ∷ cs) same = let e : c ∷ at c.rid cs ≡ [] = sym (at-itself c cs) ∙ same c.rid in absurd (cc)
 aggregate-same item p (x ∷ xs) cs same =
     let first = found (λ row. is_eq (rid_order x.rid row.rid)) cs x (at x.rid xs) (same x.rid ∙ at-itself x xs) in
     let rest = λ (q : Rid). filter-append (λ row. is_eq (rid_order q row.rid)) first.before first.behind
-        ∙ without-step q x first.before first.behind xs (is_eq (rid_order q x.rid)) refl first.none
-            (sym (filter-append (λ row. is_eq (rid_order q row.rid)) first.before (x ∷ first.behind)) ∙ ap (at q) (sym first.is) ∙ same q) in
+    ∙ without-step q x first.before first.behind xs (is_eq (rid_order q x.rid)) refl first.none
+    (sym (filter-append (λ row. is_eq (rid_order q row.rid)) first.before (x ∷ first.behind)) ∙ ap (at q) (sym first.is) ∙ same q) in
     ap (λ l. aggregate (filter p l) item) first.is
     ∙ same-first item p x first.before first.behind
     ∙ behind-step item x (filter p (first.before ++ first.behind)) (filter p xs) (p x) (aggregate-same item p xs (first.before ++ first.behind) rest)

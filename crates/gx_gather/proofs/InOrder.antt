@@ -1,6 +1,5 @@
 -- A list in an order is the only one in that order with the same items at each tie.
-use Rattle.std.proofs.Common.{ℕ, zero, suc, ◌⊎◌, inl, inr, add-one, ◌+◌, ◌<◌, ◌≤◌, ◌≡◌, ◌∙◌, Bool, true, false, cond, List, [], ◌∷◌, filter, length, get_or, refl, ap, sym, subst, arith}
-use Rattle.std.proofs.lemmas.Bool.{cases_Bool}
+use Rattle.std.proofs.Common.{suc, add-one, ◌<◌, ◌≡◌, ◌∙◌, Bool, true, false, cond, List, [], ◌∷◌, filter, length, get_or, refl, ap, sym, arith}
 use Rattle.std.proofs.lemmas.Cmp.{alike_right, tied_itself, upto}
 use Rattle.std.specs.Cmp.{IsTotalOrder}
 use Rattle.std.specs.List.{AllByRecursion}
@@ -54,6 +53,7 @@ module _ {X : Type 0} {R : X → X → Ordering} (o : IsTotalOrder R) where
   not_above-step : (q x y z : X) (ys zs : List X) (b : Bool) → is_eq (R q y) ≡ b → is_gt (R x y) ≡ false → cond b (y ∷ filter (λ y. is_eq (R q y)) ys) (filter (λ y. is_eq (R q y)) ys) ≡ z ∷ zs → (filter (λ y. is_eq (R q y)) ys ≡ z ∷ zs → is_gt (R x q) ≡ false) → is_gt (R x q) ≡ false
   not_above-step q x y z ys zs true t first e more = ap is_gt (alike_right o q y x (Equal-from (R q y) t)) ∙ first
   not_above-step q x y z ys zs false t first e more = more e
+
   -- an item is not above one that ties with a later one
   not_above : (q x z : X) (xs zs : List X) → AllByRecursion (λ y. is_gt (R x y) ≡ false) xs → filter (λ y. is_eq (R q y)) xs ≡ z ∷ zs → is_gt (R x q) ≡ false
   not_above q x z [] zs all e = absurd (cc)
@@ -75,7 +75,7 @@ module _ {X : Type 0} {R : X → X → Ordering} (o : IsTotalOrder R) where
       let b : is_gt (R y x) ≡ false = not_above x y x (y ∷ ys) _ (with_itself y ys vp.0) (sym (same x) ∙ at_itself x xs) in
       let tie : R x y ≡ Equal = tied-from (R x y) a (ap is_gt (sym (o.antisymm y x)) ∙ b) in
       let first : x ∷ filter (λ z. is_eq (R x z)) xs ≡ y ∷ filter (λ z. is_eq (R x z)) ys =
-          sym (at_itself x xs) ∙ same x ∙ ap (λ t. cond (is_eq t) (y ∷ filter (λ z. is_eq (R x z)) ys) (filter (λ z. is_eq (R x z)) ys)) tie in
+      sym (at_itself x xs) ∙ same x ∙ ap (λ t. cond (is_eq t) (y ∷ filter (λ z. is_eq (R x z)) ys) (filter (λ z. is_eq (R x z)) ys)) tie in
       let head : x ≡ y = cc in
       let rest : xs ≡ ys = rises_same xs ys up.1 vp.1 (λ q. cond-tail (is_eq (R q x)) x _ _ (same q ∙ ap (λ z. filter (λ w. is_eq (R q w)) (z ∷ ys)) (sym head))) in
       cc
@@ -83,6 +83,7 @@ module _ {X : Type 0} {R : X → X → Ordering} (o : IsTotalOrder R) where
   all_placed-step : (P : X → Type 0) (x y : X) (ys : List X) (b : Bool) → P x → P y → AllByRecursion P ys → AllByRecursion P (placed R x ys) → AllByRecursion P (cond b (y ∷ placed R x ys) (x ∷ y ∷ ys))
   all_placed-step P x y ys true p q all more = (q, more)
   all_placed-step P x y ys false p q all more = (p, (q, all))
+
   all_placed : (P : X → Type 0) (x : X) (ys : List X) → P x → AllByRecursion P ys → AllByRecursion P (placed R x ys)
   all_placed P x [] p all = (p, tt)
   all_placed P x (y ∷ ys) p all = all_placed-step P x y ys (is_gt (R x y)) p all.0 all.1 (all_placed P x ys p all.1)
@@ -90,6 +91,7 @@ module _ {X : Type 0} {R : X → X → Ordering} (o : IsTotalOrder R) where
   rises_placed-step : (x y : X) (ys : List X) (b : Bool) → is_gt (R x y) ≡ b → Rises (y ∷ ys) → Rises (placed R x ys) → Rises (cond b (y ∷ placed R x ys) (x ∷ y ∷ ys))
   rises_placed-step x y ys true above up more = (all_placed (λ z. is_gt (R y z) ≡ false) x ys (ap is_gt (o.antisymm y x) ∙ not_above-reverse (R x y) above) up.0, more)
   rises_placed-step x y ys false above up more = ((above, below_all x y ys above up.0), up)
+
   rises_placed : (x : X) (ys : List X) → Rises ys → Rises (placed R x ys)
   rises_placed x [] up = (tt, tt)
   rises_placed x (y ∷ ys) up = rises_placed-step x y ys (is_gt (R x y)) refl up (rises_placed x ys up.1)
@@ -109,6 +111,7 @@ module _ {X : Type 0} {R : X → X → Ordering} (o : IsTotalOrder R) where
   filter_placed-step q x y ys true above more =
       ap (λ l. cond (is_eq (R q y)) (y ∷ l) l) more ∙ cond-both (is_eq (R q y)) (is_eq (R q x)) x y (filter (λ y. is_eq (R q y)) ys) (not_both q x y above)
   filter_placed-step q x y ys false above more = refl
+
   filter_placed : (q x : X) (ys : List X) → filter (λ y. is_eq (R q y)) (placed R x ys) ≡ filter (λ y. is_eq (R q y)) (x ∷ ys)
   filter_placed q x [] = refl
   filter_placed q x (y ∷ ys) = filter_placed-step q x y ys (is_gt (R x y)) refl (filter_placed q x ys)

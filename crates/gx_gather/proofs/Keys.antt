@@ -5,7 +5,7 @@ use Rattle.gx_tree.specs.declared.row.KeyedRow.{KeyedRow}
 use Rattle.gx_tree.specs.declared.value.Value.{Value}
 use Rattle.gx_gather.specs.Groups.{is_same_key, key_of, keys_of, once}
 use Rattle.gx_gather.specs.Laws.{rising-equiv}
-use Rattle.gx_gather.specs.Tallies.{has_group, is_only}
+use Rattle.gx_gather.specs.Tallies.{has_group}
 use Rattle.gx_gather.proofs.Orders.{same-exact}
 
 -- ---- a filter of a filter
@@ -14,6 +14,7 @@ module _ {X : Type 0} (p r : X → Bool) where
   filter-none-step apart x xs true true t u more = let e : true ≡ false = sym u ∙ apart x t in cc
   filter-none-step apart x xs false true t u more = ap (λ b. cond b (x ∷ filter p (filter r xs)) (filter p (filter r xs))) t ∙ more
   filter-none-step apart x xs a false t u more = more
+
   pub filter-none : ((x : X) → p x ≡ true → r x ≡ false) → (xs : List X) → filter p (filter r xs) ≡ []
   filter-none apart [] = refl
   filter-none apart (x ∷ xs) = filter-none-step apart x xs (p x) (r x) refl refl (filter-none apart xs)
@@ -23,6 +24,7 @@ module _ {X : Type 0} (p r : X → Bool) where
   filter-through-step within x xs false true t u more = ap (λ b. cond b (x ∷ filter p (filter r xs)) (filter p (filter r xs))) t ∙ more
   filter-through-step within x xs true false t u more = let e : true ≡ false = sym (within x t) ∙ u in cc
   filter-through-step within x xs false false t u more = more
+
   pub filter-through : ((x : X) → p x ≡ true → r x ≡ true) → (xs : List X) → filter p (filter r xs) ≡ filter p xs
   filter-through within [] = refl
   filter-through within (x ∷ xs) = filter-through-step within x xs (p x) (r x) refl refl (filter-through within xs)

@@ -1,5 +1,5 @@
 -- The groups of a map as a list, and that list in the order of the answer.
-use Rattle.std.proofs.Common.{ℕ, ◌<◌, ◌≤◌, ◌≡◌, ◌∙◌, Bool, true, false, cond, List, [], ◌∷◌, filter, map, length, refl, ap, sym, subst, arith}
+use Rattle.std.proofs.Common.{◌≤◌, ◌≡◌, ◌∙◌, Bool, true, false, cond, List, [], ◌∷◌, filter, map, length, refl, ap, sym, subst, arith}
 use Rattle.std.specs.BTreeMap.{is_at}
 use Rattle.std.specs.Cmp.{IsTotalOrder, on_total}
 use Rattle.std.specs.List.{AllByRecursion}
@@ -8,7 +8,7 @@ use Rattle.std.specs.Map.{keys_of as keys_in, lookup}
 use Rattle.std.specs.Ordering.{is_eq, is_gt, is_lt}
 use Rattle.std.specs.Prelude.{Option, None, Some}
 use Rattle.std.specs.declared.cmp.Ordering.{Ordering}
-use Rattle.std.specs.declared.cmp.Ordering.TheVariants.{Less, Equal, Greater}
+use Rattle.std.specs.declared.cmp.Ordering.TheVariants.{Less, Equal}
 use Rattle.gx_tree.specs.declared.cell.Cell.{Cell}
 use Rattle.gx_tree.specs.declared.part.Group.{Group}
 use Rattle.gx_tree.specs.declared.query.Query.{Query}
@@ -58,6 +58,7 @@ filter-entries-step : (q : List Value) (x : List Value × List Cell) (es : List 
 filter-entries-step q x es true same all more =
     ap (λ l. entry_group x ∷ l) (no-entry q x.0 es (Equal-from (rising q x.0) same) all) ∙ ap (λ k. record { key = k; cells = x.1 } ∷ []) (sym (same-exact q x.0 same))
 filter-entries-step q x es false same all more = more
+
 filter-entries : (q : List Value) (es : List (List Value × List Cell)) → IsStrictlySortedBy rising (keys_in es) → filter (λ g. is_same_key q g.key) (map entry_group es) ≡ entry (lookup (is_at (rising q)) es) q
 unfolding IsStrictlySortedBy
 filter-entries q [] sorted = refl
@@ -81,10 +82,10 @@ module _ (query : Query) (rows : List KeyedRow) where
   listed_is es sorted totals =
       let ks = in_order rising (keys_of query.group rows) in
       rises_same (on_total (λ (g : Group). g.key) rising-total) (map entry_group es) (map (group_of query rows) ks)
-          (rises_from_strict rising-total (λ (g : Group). g.key) (map entry_group es) (subst (IsStrictlySortedBy rising) (sym (keys-entries es)) sorted))
-          (rises_map rising-total (λ (g : Group). g.key) (group_of query rows) (λ k. refl) ks (rises_in_order rising-total (keys_of query.group rows)))
-          (λ g. filter-entries g.key es sorted ∙ ap (λ o. entry o g.key) (totals g.key) ∙ total-entry g.key (has_group query.group rows g.key)
-              ∙ sym (at-key g.key ks (filter-in_order rising-total g.key (keys_of query.group rows) ∙ filter-keys_of query.group rows g.key)))
+      (rises_from_strict rising-total (λ (g : Group). g.key) (map entry_group es) (subst (IsStrictlySortedBy rising) (sym (keys-entries es)) sorted))
+      (rises_map rising-total (λ (g : Group). g.key) (group_of query rows) (λ k. refl) ks (rises_in_order rising-total (keys_of query.group rows)))
+      (λ g. filter-entries g.key es sorted ∙ ap (λ o. entry o g.key) (totals g.key) ∙ total-entry g.key (has_group query.group rows g.key)
+      ∙ sym (at-key g.key ks (filter-in_order rising-total g.key (keys_of query.group rows) ∙ filter-keys_of query.group rows g.key)))
 
   few : (q : List Value) (b : Bool) → length (map (group_of query rows) (if_there b q)) ≤ 1
   few q true = omega arith
@@ -110,10 +111,10 @@ module _ (query : Query) (rows : List KeyedRow) (keys : List SortKey) where
       let ks = in_order rising (keys_of query.group rows) in
       let vs = in_order (group_order keys) (keys_of query.group rows) in
       rises_same o us (map (group_of query rows) vs)
-          (rises_from_sorted o us sorted)
-          (rises_map (group_order-total keys) (λ (g : Group). g.key) (group_of query rows) (λ k. refl) vs (rises_in_order (group_order-total keys) (keys_of query.group rows)))
-          (λ g. by-key keys (λ (h : Group). h.key) g.key us
-              ∙ filter-permutation (λ (h : Group). is_same_key g.key h.key) (map (group_of query rows) ks) us perm
-                  (subst (λ l. length l ≤ 1) (sym (rising-at g.key)) (few query rows g.key (has_group query.group rows g.key)))
-              ∙ rising-at g.key
-              ∙ sym (ordered-at g.key))
+      (rises_from_sorted o us sorted)
+      (rises_map (group_order-total keys) (λ (g : Group). g.key) (group_of query rows) (λ k. refl) vs (rises_in_order (group_order-total keys) (keys_of query.group rows)))
+      (λ g. by-key keys (λ (h : Group). h.key) g.key us
+      ∙ filter-permutation (λ (h : Group). is_same_key g.key h.key) (map (group_of query rows) ks) us perm
+      (subst (λ l. length l ≤ 1) (sym (rising-at g.key)) (few query rows g.key (has_group query.group rows g.key)))
+      ∙ rising-at g.key
+      ∙ sym (ordered-at g.key))

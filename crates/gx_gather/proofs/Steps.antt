@@ -1,5 +1,5 @@
 -- The steps of the loops, and what the calls of a merge give together.
-use Rattle.std.proofs.Common.{ℕ, zero, suc, ◌+◌, ◌<◌, ◌≡◌, ◌∙◌, Bool, true, false, cond, List, [], ◌∷◌, ◌++◌, filter, map, length, get_or, take, drop, refl, ap, sym, subst, arith, add-one, drop-cons, append_assoc}
+use Rattle.std.proofs.Common.{ℕ, zero, suc, ◌+◌, ◌<◌, ◌≡◌, ◌∙◌, Bool, true, false, cond, List, [], ◌∷◌, ◌++◌, filter, map, length, get_or, take, drop, refl, ap, sym, subst, add-one, drop-cons, append_assoc}
 use Rattle.std.proofs.lemmas.List.Elements.{recursion_from_All}
 use Rattle.std.proofs.lemmas.List.Sorted.{IsPermutation-trans}
 use Rattle.std.specs.BTreeMap.{is_at}
@@ -18,7 +18,7 @@ use Rattle.gx_tree.specs.declared.row.KeyedRow.{KeyedRow}
 use Rattle.gx_tree.specs.declared.value.Value.{Value}
 use Rattle.gx_gather.specs.Aggregates.{aggregate}
 use Rattle.gx_gather.specs.Answer.{ArePartsOf, AreRising, answer_of, group_keys, group_of, grouped_answer, groups_in, keeps, limited, part_of, plain_answer, row_cell, row_keys, rows_in, together}
-use Rattle.gx_gather.specs.Groups.{group_cell, is_same_key, key_of, keys_of}
+use Rattle.gx_gather.specs.Groups.{is_same_key, key_of, keys_of}
 use Rattle.gx_gather.specs.Order.{group_order, in_order, rising, row_order}
 use Rattle.gx_gather.specs.Tallies.{entry_group, joined, out_row, row_group, tally, total_at}
 use Rattle.gx_gather.specs.declared.order.SortKey.{SortKey}
@@ -39,8 +39,8 @@ pub row_added : (query : Query) (q : List Value) (rows : List KeyedRow) (i : ℕ
     → tally query.items q old (map (row_group query) (drop i rows)) ≡ all → tally query.items q new (map (row_group query) (drop (i + 1) rows)) ≡ all
 row_added query q rows i row items key cells old new all low is same_items same_key made added before =
     let now : new ≡ cond (is_same_key q (key_of query.group row)) (joined query.items old (map (aggregate (row ∷ [])) query.items)) old =
-        added ∙ ap (λ k. cond (is_same_key q k) (joined items old cells) old) same_key ∙ ap (λ c. cond (is_same_key q (key_of query.group row)) (joined items old c) old) made
-        ∙ ap (λ l. cond (is_same_key q (key_of query.group row)) (joined l old (map (aggregate (row ∷ [])) l)) old) same_items in
+    added ∙ ap (λ k. cond (is_same_key q k) (joined items old cells) old) same_key ∙ ap (λ c. cond (is_same_key q (key_of query.group row)) (joined items old c) old) made
+    ∙ ap (λ l. cond (is_same_key q (key_of query.group row)) (joined l old (map (aggregate (row ∷ [])) l)) old) same_items in
     ap (λ o. tally query.items q o (map (row_group query) (drop (i + 1) rows))) now
     ∙ sym (ap (λ l. tally query.items q old (map (row_group query) l)) (drop_next rows i row low is)) ∙ before
 
@@ -89,14 +89,14 @@ pub groups_merged : (query : Query) (whole : List KeyedRow) (parts : List Part) 
 groups_merged query whole parts es groups sorted cut keys out p grouped rises totals listed keyed moved up cuts made =
     let cs = together p.dealt in
     let of_cs : map entry_group es ≡ map (group_of query cs) (in_order rising (keys_of query.group cs)) =
-        listed_is query cs es rises (λ q. totals q ∙ ap (λ l. tally query.items q (total_at query [] q) (flat_map groups_in l)) p.each ∙ tally-parts query q grouped [] p.dealt) in
+    listed_is query cs es rises (λ q. totals q ∙ ap (λ l. tally query.items q (total_at query [] q) (flat_map groups_in l)) p.each ∙ tally-parts query q grouped [] p.dealt) in
     let ordered : sorted ≡ map (group_of query cs) (in_order (group_order keys) (keys_of query.group cs)) =
-        sorted_groups query cs keys sorted (subst (λ l. IsPermutation l sorted) (listed ∙ of_cs) moved) up in
+    sorted_groups query cs keys sorted (subst (λ l. IsPermutation l sorted) (listed ∙ of_cs) moved) up in
     let ks : in_order (group_order keys) (keys_of query.group cs) ≡ in_order (group_order (group_keys query.group query.order)) (keys_of query.group whole) =
-        keys-same whole cs p.rising p.division query.group keys ∙ ap (λ k. in_order (group_order k) (keys_of query.group whole)) keyed in
+    keys-same whole cs p.rising p.division query.group keys ∙ ap (λ k. in_order (group_order k) (keys_of query.group whole)) keyed in
     made ∙ ap (map (out_row query)) cuts ∙ limited-map (out_row query) query.limit sorted
     ∙ ap (limited query.limit) (ap (map (out_row query)) (ordered ∙ ap (map (group_of query cs)) ks)
-        ∙ out-same whole cs p.rising p.division query (in_order (group_order (group_keys query.group query.order)) (keys_of query.group whole)))
+    ∙ out-same whole cs p.rising p.division query (in_order (group_order (group_keys query.group query.order)) (keys_of query.group whole)))
 
 part-grouped : (b : Bool) (rows : List KeyedRow) (groups : List Group) → b ≡ true → Groups groups ≡ cond b (Groups groups) (Rows rows)
 part-grouped true rows groups e = refl
@@ -129,9 +129,9 @@ module _ (query : Query) (whole : List KeyedRow) (kept : All (λ row. keeps quer
   pub answer-grouped : query.grouped ≡ true → limited query.limit (grouped_answer query whole) ≡ answer_of query whole
   answer-grouped grouped =
       ap (limited query.limit) (choice-true query.grouped (grouped_answer query whole) (plain_answer query whole) grouped
-          ∙ ap (λ l. cond query.grouped (grouped_answer query l) (plain_answer query l)) (sym same-kept))
+      ∙ ap (λ l. cond query.grouped (grouped_answer query l) (plain_answer query l)) (sym same-kept))
 
   pub answer-plain : query.grouped ≡ false → limited query.limit (plain_answer query whole) ≡ answer_of query whole
   answer-plain plain =
       ap (limited query.limit) (choice-false query.grouped (grouped_answer query whole) (plain_answer query whole) plain
-          ∙ ap (λ l. cond query.grouped (grouped_answer query l) (plain_answer query l)) (sym same-kept))
+      ∙ ap (λ l. cond query.grouped (grouped_answer query l) (plain_answer query l)) (sym same-kept))

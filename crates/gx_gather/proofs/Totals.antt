@@ -8,7 +8,6 @@ use Rattle.std.specs.Ordering.{is_eq}
 use Rattle.std.specs.Prelude.{◌||◌, Option, None, Some}
 use Rattle.gx_tree.specs.declared.cell.Cell.{Cell}
 use Rattle.gx_tree.specs.declared.part.Group.{Group}
-use Rattle.gx_tree.specs.declared.part.Part.{Part}
 use Rattle.gx_tree.specs.declared.part.Part.TheVariants.{Rows, Groups}
 use Rattle.gx_tree.specs.declared.query.Item.{Item}
 use Rattle.gx_tree.specs.declared.query.Query.{Query}
@@ -16,7 +15,6 @@ use Rattle.gx_tree.specs.declared.row.KeyedRow.{KeyedRow}
 use Rattle.gx_tree.specs.declared.value.Value.{Value}
 use Rattle.gx_gather.specs.Aggregates.{aggregate}
 use Rattle.gx_gather.specs.Answer.{group_of, groups_in, part_of, together}
-use Rattle.gx_gather.specs.Cells.{combine_all}
 use Rattle.gx_gather.specs.Groups.{is_same_key, key_of, keys_of, members}
 use Rattle.gx_gather.specs.Laws.{rising-total}
 use Rattle.gx_gather.specs.Order.{in_order, rising}
@@ -41,6 +39,7 @@ tally-filter items q o (x ∷ xs) = tally-filter-step items q o x xs (is_same_ke
 filter-map-step : {X Y : Type 0} (p : Y → Bool) (f : X → Y) (x : X) (xs : List X) (b : Bool) → filter p (map f xs) ≡ map f (filter (λ x. p (f x)) xs) → cond b (f x ∷ filter p (map f xs)) (filter p (map f xs)) ≡ map f (cond b (x ∷ filter (λ x. p (f x)) xs) (filter (λ x. p (f x)) xs))
 filter-map-step p f x xs true more = ap (λ l. f x ∷ l) more
 filter-map-step p f x xs false more = more
+
 pub filter-map : {X Y : Type 0} (p : Y → Bool) (f : X → Y) (xs : List X) → filter p (map f xs) ≡ map f (filter (λ x. p (f x)) xs)
 filter-map p f [] = refl
 filter-map p f (x ∷ xs) = filter-map-step p f x xs (p (f x)) (filter-map p f xs)
@@ -48,6 +47,7 @@ filter-map p f (x ∷ xs) = filter-map-step p f x xs (p (f x)) (filter-map p f x
 none-step : {X : Type 0} (p : X → Bool) (x : X) (xs : List X) (b : Bool) → b || (list_any p xs) ≡ false → (list_any p xs ≡ false → filter p xs ≡ []) → cond b (x ∷ filter p xs) (filter p xs) ≡ []
 none-step p x xs true e more = cc
 none-step p x xs false e more = more e
+
 -- no row has the key, so the group has no rows
 none-there : {X : Type 0} (p : X → Bool) (xs : List X) → list_any p xs ≡ false → filter p xs ≡ []
 none-there p [] e = refl
@@ -85,12 +85,12 @@ module _ (query : Query) (q : List Value) where
   add-rows-step front more true there =
       joined-at (is_only query.group q) (list_any test front) front more (none-there test front)
       ∙ sym (ap (λ b. cond ((is_only query.group q) || b) (Some (cells (filter test (front ++ more)))) None) (list_any-append test front more)
-          ∙ ap (λ b. cond b (Some (cells (filter test (front ++ more)))) None) (or-true (is_only query.group q) (list_any test front) (list_any test more) there))
+      ∙ ap (λ b. cond b (Some (cells (filter test (front ++ more)))) None) (or-true (is_only query.group q) (list_any test front) (list_any test more) there))
   add-rows-step front more false there =
       ap (λ l. cond (has_group query.group front q) (Some (cells l)) None)
-          (sym (append-nil (filter test front)) ∙ ap (λ l. filter test front ++ l) (sym (none-there test more (later-false (is_only query.group q) (list_any test more) there))) ∙ sym (filter-append test front more))
+      (sym (append-nil (filter test front)) ∙ ap (λ l. filter test front ++ l) (sym (none-there test more (later-false (is_only query.group q) (list_any test more) there))) ∙ sym (filter-append test front more))
       ∙ sym (ap (λ b. cond ((is_only query.group q) || b) (Some (cells (filter test (front ++ more)))) None) (list_any-append test front more)
-          ∙ ap (λ b. cond b (Some (cells (filter test (front ++ more)))) None) (or-false (is_only query.group q) (list_any test front) (list_any test more) there))
+      ∙ ap (λ b. cond b (Some (cells (filter test (front ++ more)))) None) (or-false (is_only query.group q) (list_any test front) (list_any test more) there))
 
   add-rows : (front more : List KeyedRow) → cond (has_group query.group more q) (joined query.items (total_at query front q) (cells (members query.group more q))) (total_at query front q) ≡ total_at query (front ++ more) q
   add-rows front more = add-rows-step front more (has_group query.group more q) refl
@@ -104,7 +104,7 @@ module _ (query : Query) (q : List Value) where
   tally-groups front rows =
       tally-filter query.items q (total_at query front q) (map (group_of query rows) (in_order rising (keys_of query.group rows)))
       ∙ ap (tally query.items q (total_at query front q)) (filter-map (λ g. is_same_key q g.key) (group_of query rows) (in_order rising (keys_of query.group rows))
-          ∙ ap (map (group_of query rows)) (filter-in_order rising-total q (keys_of query.group rows) ∙ filter-keys_of query.group rows q))
+      ∙ ap (map (group_of query rows)) (filter-in_order rising-total q (keys_of query.group rows) ∙ filter-keys_of query.group rows q))
       ∙ tally-if_there (total_at query front q) rows (has_group query.group rows q)
       ∙ add-rows front rows
 

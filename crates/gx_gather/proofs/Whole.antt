@@ -1,14 +1,12 @@
 -- The answer over the whole from that over the parts of a division.
-use Rattle.std.proofs.Common.{◌||◌, ℕ, suc, zero, ◌+◌, ◌<◌, ◌≤◌, ◌≡◌, ◌∙◌, Bool, true, false, cond, List, [], ◌∷◌, ◌++◌, filter, map, length, get_or, refl, ap, sym, subst, arith}
+use Rattle.std.proofs.Common.{◌||◌, ℕ, ◌+◌, ◌<◌, ◌≤◌, ◌≡◌, ◌∙◌, Bool, true, false, cond, List, [], ◌∷◌, ◌++◌, filter, map, length, get_or, refl, ap, sym, arith}
 use Rattle.std.proofs.lemmas.List.{get_or-map, length-map}
-use Rattle.std.proofs.lemmas.List.Sorted.{IsPermutation-trans, list_any-IsPermutation}
-use Rattle.std.specs.List.{flat_map, list_any, zip}
+use Rattle.std.proofs.lemmas.List.Sorted.{list_any-IsPermutation}
+use Rattle.std.specs.List.{flat_map, zip}
 use Rattle.std.specs.List.Sorted.{IsPermutation, IsSortedBy}
 use Rattle.std.specs.Ordering.{is_eq, is_lt}
-use Rattle.gx_ids.specs.declared.rid.Rid.{Rid}
-use Rattle.gx_tree.specs.declared.cell.Cell.{Cell}
 use Rattle.gx_tree.specs.declared.part.Part.{Part}
-use Rattle.gx_tree.specs.declared.part.Part.TheVariants.{Rows, Groups}
+use Rattle.gx_tree.specs.declared.part.Part.TheVariants.{Rows}
 use Rattle.gx_tree.specs.declared.query.Item.{Item}
 use Rattle.gx_tree.specs.declared.query.Item.TheVariants.{Col, Count, Sum, Min, Max}
 use Rattle.gx_tree.specs.declared.query.Query.{Query}
@@ -32,6 +30,7 @@ fewer-step x l m true true within less = omega (arith, less)
 fewer-step x l m true false within less = let e : false ≡ true = within refl in cc
 fewer-step x l m false true within less = omega (arith, less)
 fewer-step x l m false false within less = less
+
 -- a stricter test passes no more
 fewer : {X : Type 0} (p r : X → Bool) → ((x : X) → p x ≡ true → r x ≡ true) → (xs : List X) → length (filter p xs) ≤ length (filter r xs)
 fewer p r within [] = omega arith
@@ -50,7 +49,7 @@ sorted_map f lt (x ∷ xs) sorted = λ k d low high.
 pub sorted_rows : (keys : List SortKey) (whole rows : List KeyedRow) → AreRising whole → IsPermutation whole rows → IsSortedBy (λ a b. is_lt (row_order keys a b)) rows → rows ≡ in_order (row_order keys) whole
 sorted_rows keys whole rows rising perm sorted =
     in_order_is (row_order-total keys) whole rows sorted (λ q. filter-permutation (λ row. is_eq (row_order keys q row)) whole rows perm
-        (le-trans (fewer (λ row. is_eq (row_order keys q row)) (λ row. is_eq (rid_order q.rid row.rid)) (row-tie keys q) whole) (once_at rid_order-total (λ (row : KeyedRow). row.rid) q.rid whole rising)))
+    (le-trans (fewer (λ row. is_eq (row_order keys q row)) (λ row. is_eq (rid_order q.rid row.rid)) (row-tie keys q) whole) (once_at rid_order-total (λ (row : KeyedRow). row.rid) q.rid whole rising)))
   where
     le-trans : {a b c : ℕ} → a ≤ b → b ≤ c → a ≤ c
     le-trans p q = omega (arith, p, q)
@@ -73,8 +72,8 @@ module _ (whole cs : List KeyedRow) (rising : AreRising whole) (perm : IsPermuta
   keys-same group keys =
       let o = group_order-total keys in
       rises_same o (in_order (group_order keys) (keys_of group cs)) (in_order (group_order keys) (keys_of group whole)) (rises_in_order o (keys_of group cs)) (rises_in_order o (keys_of group whole))
-          (λ q. filter-in_order o q (keys_of group cs) ∙ by-key keys (λ k. k) q (keys_of group cs) ∙ filter-keys_of group cs q ∙ ap (λ b. if_there b q) (has-same group q)
-              ∙ sym (filter-in_order o q (keys_of group whole) ∙ by-key keys (λ k. k) q (keys_of group whole) ∙ filter-keys_of group whole q))
+      (λ q. filter-in_order o q (keys_of group cs) ∙ by-key keys (λ k. k) q (keys_of group cs) ∙ filter-keys_of group cs q ∙ ap (λ b. if_there b q) (has-same group q)
+      ∙ sym (filter-in_order o q (keys_of group whole) ∙ by-key keys (λ k. k) q (keys_of group whole) ∙ filter-keys_of group whole q))
 
   members-same : (group : List ℕ) (key : List Value) (item : Item) → aggregate (members group cs key) item ≡ aggregate (members group whole key) item
   members-same group key item = aggregate-same item (λ row. is_same_key key (key_of group row)) whole cs (λ q. at-permutation whole cs q rising perm)

@@ -1,5 +1,5 @@
 -- What a query answers on one list of rows in the order of their identities, and its part at a segment.
-use Rattle.std.specs.Prelude.{◌≡◌, All, ℕ, Bool, true, false, if◌then◌else◌, List, [], ◌∷◌, map, filter, take, slice_get, Option, Some, None, Result, Ok, Err}
+use Rattle.std.specs.Prelude.{◌≡◌, All, ℕ, Bool, true, false, if◌then◌else◌, List, [], map, filter, take, slice_get, Option, Some, None, Result, Ok, Err}
 use Rattle.std.specs.List.{flat_map}
 use Rattle.std.specs.List.Sorted.{IsPermutation, IsStrictlySortedBy}
 use Rattle.gx_eval.specs.Meaning.{truth_of}

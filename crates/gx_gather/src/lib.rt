@@ -10,5 +10,4 @@ mod output;
 mod partial_answer;
 
 pub use merging::merge;
-pub use order::SortKey;
 pub use partial_answer::partial;

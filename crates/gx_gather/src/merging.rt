@@ -108,7 +108,12 @@ fn all_groups(alloc: Global, query: &Query, parts: &[Part]) -> Mem<Groups>
 {
     let mut groups = new_groups(alloc, query)?;
     for part in parts {
-        add_groups(alloc, &mut groups, query.items.as_slice(), part_groups(part))?;
+        add_groups(
+            alloc,
+            &mut groups,
+            query.items.as_slice(),
+            part_groups(part),
+        )?;
     }
     Ok(groups)
 }

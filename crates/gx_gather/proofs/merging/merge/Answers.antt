@@ -1,4 +1,4 @@
-use Rattle.std.proofs.Common.{◌≡◌, ap, sym, ◌∙◌}
+use Rattle.std.proofs.Common.{◌∙◌}
 use Rattle.std.proofs.lemmas.Result.{IfOk-weaker}
 use Rattle.gx_gather.proofs.Steps.{answer-grouped, answer-plain, found_rows}
 use Rattle.gx_gather.proofs.merging.merge.Goals as goal
@@ -10,4 +10,4 @@ returns-then-query c =
 pub returns-else-query : goal.returns-else-query
 returns-else-query c =
     IfOk-weaker c.merge_rows.result _ _ (λ out merged whole parts.
-        merged whole parts.rising (found_rows c.args.query.now whole c.args.parts.now c.if-query.false parts) ∙ answer-plain c.args.query.now whole parts.kept c.if-query.false) c.merge_rows.ensures
+    merged whole parts.rising (found_rows c.args.query.now whole c.args.parts.now c.if-query.false parts) ∙ answer-plain c.args.query.now whole parts.kept c.if-query.false) c.merge_rows.ensures

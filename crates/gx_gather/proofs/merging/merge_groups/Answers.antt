@@ -11,9 +11,9 @@ use Rattle.gx_gather.proofs.merging.merge_groups.Goals as goal
 pub returns : goal.returns
 returns c =
     IfOk-weaker c.groups_out.result _ _ (λ out made whole parts grouped.
-        groups_merged c.args.query.now whole c.args.parts.now c.in_ok-groups.groups.entries c.in_ok-groups-2.groups.items c.sort_groups.new.groups.items c.cut.new.items.items c.in_ok-keys.keys.items out.items
-            parts grouped c.in_ok-groups-2.ensures.ordered c.in_ok-groups.ensures c.in_ok-groups-2.ensures.listed
-            (c.in_ok-keys.ensures ∙ ap (λ columns. group_keys columns c.as_slice-2.result.now) c.as_slice.ensures ∙ ap (group_keys c.args.query.now.group) c.as_slice-2.ensures)
-            c.sort_groups.ensures.moved
-            (subst (λ keys. IsSortedBy (λ a b. is_lt (group_order keys a.key b.key)) c.sort_groups.new.groups.items) c.as_slice-3.ensures.value c.sort_groups.ensures.sorted)
-            c.cut.ensures (made ∙ ap (map (out_row c.args.query.now)) c.as_slice-4.ensures.value)) c.groups_out.ensures
+    groups_merged c.args.query.now whole c.args.parts.now c.in_ok-groups.groups.entries c.in_ok-groups-2.groups.items c.sort_groups.new.groups.items c.cut.new.items.items c.in_ok-keys.keys.items out.items
+    parts grouped c.in_ok-groups-2.ensures.ordered c.in_ok-groups.ensures c.in_ok-groups-2.ensures.listed
+    (c.in_ok-keys.ensures ∙ ap (λ columns. group_keys columns c.as_slice-2.result.now) c.as_slice.ensures ∙ ap (group_keys c.args.query.now.group) c.as_slice-2.ensures)
+    c.sort_groups.ensures.moved
+    (subst (λ keys. IsSortedBy (λ a b. is_lt (group_order keys a.key b.key)) c.sort_groups.new.groups.items) c.as_slice-3.ensures.value c.sort_groups.ensures.sorted)
+    c.cut.ensures (made ∙ ap (map (out_row c.args.query.now)) c.as_slice-4.ensures.value)) c.groups_out.ensures

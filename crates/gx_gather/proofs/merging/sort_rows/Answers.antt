@@ -14,4 +14,4 @@ returns-clause-moved c = IsPermutation-map (λ row. row.now) _ _ c.sort_unstable
 pub returns-clause-sorted : goal.returns-clause-sorted
 returns-clause-sorted c =
     sorted_map (λ row. row.now) (λ a b. is_lt (row_order c.args.keys.now a b)) _
-        (c.sort_unstable_by.ensures.sorted (λ a b. is_lt (row_order c.args.keys.now a.now b.now)) (ranks_by (row_order-total c.args.keys.now) (λ (row : Bor KeyedRow). row.now)) (always_returns_same _ _ _ (λ a r f k. search rules)))
+    (c.sort_unstable_by.ensures.sorted (λ a b. is_lt (row_order c.args.keys.now a.now b.now)) (ranks_by (row_order-total c.args.keys.now) (λ (row : Bor KeyedRow). row.now)) (always_returns_same _ _ _ (λ a r f k. search rules)))

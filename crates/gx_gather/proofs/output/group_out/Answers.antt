@@ -1,6 +1,6 @@
-use Rattle.std.proofs.Common.{ℕ, ◌≡◌, ◌∙◌, ◌⊎◌, inl, inr, ◌++◌, List, [], ◌∷◌, length, map, refl, ap, sym, arith, append-nil}
+use Rattle.std.proofs.Common.{◌≡◌, ◌∙◌, ◌⊎◌, inl, inr, ◌++◌, List, [], ◌∷◌, length, map, refl, ap, sym, arith, append-nil}
 use Rattle.std.specs.List.{zip}
-use Rattle.gx_gather.specs.Tallies.{out_cell, out_row}
+use Rattle.gx_gather.specs.Tallies.{out_cell}
 use Rattle.gx_gather.proofs.output.group_out.Goals as goal
 
 -- where one of two lists is at its end
@@ -14,5 +14,5 @@ pub returns : goal.returns
 returns c =
     c.from_vec.ensures ∙ sym (append-nil c.loop-item.cells.items)
     ∙ ap (λ l. c.loop-item.cells.items ++ map (λ p. out_cell c.args.query.now.group c.args.group.now.key p.0 p.1) l)
-        (sym (none_left _ _ c.loop-item.item-iterator.a.rest.now c.loop-item.item-iterator.b.rest.now (λ p. p.1.0) (λ p. p.1.0) c.in-None.ensures.steps))
+    (sym (none_left _ _ c.loop-item.item-iterator.a.rest.now c.loop-item.item-iterator.b.rest.now (λ p. p.1.0) (λ p. p.1.0) c.in-None.ensures.steps))
     ∙ c.loop-item.invariant

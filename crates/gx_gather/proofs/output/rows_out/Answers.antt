@@ -1,6 +1,6 @@
 use Rattle.gx_gather.proofs.Steps.{push_next}
 use Rattle.gx_gather.proofs.output.rows_out.Goals as goal
-use Rattle.std.proofs.Common.{◌≡◌, ap, sym, ◌∙◌, ◌++◌, map, drop, ◌+◌}
+use Rattle.std.proofs.Common.{ap, ◌∙◌, ◌++◌, map, drop, ◌+◌}
 use Rattle.gx_gather.specs.Answer.{row_cell}
 
 pub loop-row-preserved : goal.loop-row-preserved

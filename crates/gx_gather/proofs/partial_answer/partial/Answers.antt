@@ -1,4 +1,4 @@
-use Rattle.std.proofs.Common.{◌≡◌, ap, sym, ◌∙◌}
+use Rattle.std.proofs.Common.{◌∙◌}
 use Rattle.gx_gather.proofs.Steps.{part_grouped}
 use Rattle.gx_gather.proofs.partial_answer.partial.Goals as goal
 
