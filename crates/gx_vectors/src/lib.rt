@@ -6,6 +6,8 @@ mod evaluation;
 #[cfg(test)]
 mod foundations;
 #[cfg(test)]
+mod gathering;
+#[cfg(test)]
 mod locks;
 #[cfg(test)]
 mod outside;
