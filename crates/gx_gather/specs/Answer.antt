@@ -1,6 +1,6 @@
 -- What a query answers on one list of rows in the order of their identities, and its part at a segment.
-use Rattle.std.specs.Prelude.{◌≡◌, All, ℕ, Bool, true, false, if◌then◌else◌, List, [], map, filter, take, slice_get, Option, Some, None, Result, Ok, Err}
-use Rattle.std.specs.List.{flat_map}
+use Rattle.std.specs.Prelude.{◌≡◌, ◌==◌, All, ℕ, Bool, true, false, if◌then◌else◌, List, [], map, filter, take, slice_get, Option, Some, None, Result, Ok, Err}
+use Rattle.std.specs.List.{flat_map, range_with_len}
 use Rattle.std.specs.List.Sorted.{IsPermutation, IsStrictlySortedBy}
 use Rattle.gx_eval.specs.Meaning.{truth_of}
 use Rattle.gx_tree.specs.declared.cell.Cell.{Cell}
@@ -86,6 +86,10 @@ groups_in (Groups groups) = groups
 -- lists put together
 abbrev pub together : {X : Type 0} → List (List X) → List X
 together lists = flat_map (λ list. list) lists
+
+-- the rows of each of n owners, which are numbered from 0
+abbrev pub dealt_by : (KeyedRow → ℕ) → ℕ → List KeyedRow → List (List KeyedRow)
+dealt_by owner n rows = map (λ number. filter (λ row. owner row == number) rows) (range_with_len 0 n)
 
 -- The parts are those of a division of the whole: of lists which together are the whole in another order, and the whole
 -- rises by its identities and keeps the condition.
