@@ -14,6 +14,8 @@ mod outside;
 #[cfg(test)]
 mod places;
 #[cfg(test)]
+mod plans;
+#[cfg(test)]
 mod reduction;
 #[cfg(test)]
 mod versions;
