@@ -6,11 +6,15 @@ mod evaluation;
 #[cfg(test)]
 mod foundations;
 #[cfg(test)]
+mod gathering;
+#[cfg(test)]
 mod locks;
 #[cfg(test)]
 mod outside;
 #[cfg(test)]
 mod places;
+#[cfg(test)]
+mod plans;
 #[cfg(test)]
 mod reduction;
 #[cfg(test)]

@@ -1,0 +1,14 @@
+pub mod Adding
+pub mod Choices
+pub mod Combining
+pub mod Dealing
+pub mod Dividing
+pub mod InOrder
+pub mod Keys
+pub mod Listing
+pub mod Ordered
+pub mod Orders
+pub mod Permuted
+pub mod Steps
+pub mod Totals
+pub mod Whole

@@ -1,0 +1,137 @@
+-- The steps of the loops, and what the calls of a merge give together.
+use Rattle.std.proofs.Common.{ℕ, zero, suc, ◌+◌, ◌<◌, ◌≡◌, ◌∙◌, Bool, true, false, cond, List, [], ◌∷◌, ◌++◌, filter, map, length, get_or, take, drop, refl, ap, sym, subst, add-one, drop-cons, append_assoc}
+use Rattle.std.proofs.lemmas.List.Elements.{recursion_from_All}
+use Rattle.std.proofs.lemmas.List.Sorted.{IsPermutation-trans}
+use Rattle.std.specs.BTreeMap.{is_at}
+use Rattle.std.specs.List.{All, AllByRecursion, flat_map}
+use Rattle.std.specs.List.Sorted.{IsPermutation, IsSortedBy, IsStrictlySortedBy}
+use Rattle.std.specs.Map.{keys_of as keys_in, lookup}
+use Rattle.std.specs.Ordering.{is_lt}
+use Rattle.std.specs.Prelude.{Option, None, Some}
+use Rattle.gx_tree.specs.declared.cell.Cell.{Cell}
+use Rattle.gx_tree.specs.declared.part.Group.{Group}
+use Rattle.gx_tree.specs.declared.part.Part.{Part}
+use Rattle.gx_tree.specs.declared.part.Part.TheVariants.{Rows, Groups}
+use Rattle.gx_tree.specs.declared.query.Item.{Item}
+use Rattle.gx_tree.specs.declared.query.Query.{Query}
+use Rattle.gx_tree.specs.declared.row.KeyedRow.{KeyedRow}
+use Rattle.gx_tree.specs.declared.value.Value.{Value}
+use Rattle.gx_gather.specs.Aggregates.{aggregate}
+use Rattle.gx_gather.specs.Answer.{ArePartsOf, AreRising, answer_of, group_keys, group_of, grouped_answer, groups_in, keeps, limited, part_of, plain_answer, row_cell, row_keys, rows_in, together}
+use Rattle.gx_gather.specs.Groups.{is_same_key, key_of, keys_of}
+use Rattle.gx_gather.specs.Order.{group_order, in_order, rising, row_order}
+use Rattle.gx_gather.specs.Tallies.{entry_group, joined, out_row, row_group, tally, total_at}
+use Rattle.gx_gather.specs.declared.order.SortKey.{SortKey}
+use Rattle.gx_gather.proofs.Listing.{listed_is, sorted_groups}
+use Rattle.gx_gather.proofs.Totals.{tally-append, tally-parts, tally-rows}
+use Rattle.gx_gather.proofs.Whole.{keys-same, out-same, rows-parts, sorted_rows}
+
+pub drop_next : {X : Type 0} (xs : List X) (i : ℕ) (x : X) → i < length xs → x ≡ get_or xs i x → drop i xs ≡ x ∷ drop (i + 1) xs
+drop_next xs i x low is = rw (add-one) (drop-cons xs i x low ∙ ap (λ y. y ∷ drop (suc i) xs) (sym is))
+
+pub push_next : {X Y : Type 0} (f : X → Y) (xs : List X) (i : ℕ) (x : X) (y : Y) (out all : List Y) → i < length xs → x ≡ get_or xs i x → y ≡ f x → out ++ map f (drop i xs) ≡ all → (out ++ y ∷ []) ++ map f (drop (i + 1) xs) ≡ all
+push_next f xs i x y out all low is made before =
+    append_assoc out (y ∷ []) (map f (drop (i + 1) xs)) ∙ ap (λ z. out ++ z ∷ map f (drop (i + 1) xs)) made ∙ sym (ap (λ l. out ++ map f l) (drop_next xs i x low is)) ∙ before
+
+-- a row has been added to the groups
+pub row_added : (query : Query) (q : List Value) (rows : List KeyedRow) (i : ℕ) (row : KeyedRow) (items : List Item) (key : List Value) (cells : List Cell) (old new all : Option (List Cell))
+    → i < length rows → row ≡ get_or rows i row → items ≡ query.items → key ≡ key_of query.group row → cells ≡ map (aggregate (row ∷ [])) items → new ≡ cond (is_same_key q key) (joined items old cells) old
+    → tally query.items q old (map (row_group query) (drop i rows)) ≡ all → tally query.items q new (map (row_group query) (drop (i + 1) rows)) ≡ all
+row_added query q rows i row items key cells old new all low is same_items same_key made added before =
+    let now : new ≡ cond (is_same_key q (key_of query.group row)) (joined query.items old (map (aggregate (row ∷ [])) query.items)) old =
+    added ∙ ap (λ k. cond (is_same_key q k) (joined items old cells) old) same_key ∙ ap (λ c. cond (is_same_key q (key_of query.group row)) (joined items old c) old) made
+    ∙ ap (λ l. cond (is_same_key q (key_of query.group row)) (joined l old (map (aggregate (row ∷ [])) l)) old) same_items in
+    ap (λ o. tally query.items q o (map (row_group query) (drop (i + 1) rows))) now
+    ∙ sym (ap (λ l. tally query.items q old (map (row_group query) l)) (drop_next rows i row low is)) ∙ before
+
+-- the groups of a part have been added
+pub part_added : (items : List Item) (q : List Value) (parts : List Part) (i : ℕ) (part : Part) (items' : List Item) (groups : List Group) (old new all : Option (List Cell))
+    → i < length parts → part ≡ get_or parts i part → items' ≡ items → groups ≡ groups_in part → new ≡ tally items' q old groups
+    → tally items q old (flat_map groups_in (drop i parts)) ≡ all → tally items q new (flat_map groups_in (drop (i + 1) parts)) ≡ all
+part_added items q parts i part items' groups old new all low is same_items same_groups added before =
+    ap (λ o. tally items q o (flat_map groups_in (drop (i + 1) parts))) (added ∙ ap (λ l. tally l q old groups) same_items ∙ ap (tally items q old) same_groups)
+    ∙ sym (tally-append items q old (groups_in part) (flat_map groups_in (drop (i + 1) parts)))
+    ∙ sym (ap (λ l. tally items q old (flat_map groups_in l)) (drop_next parts i part low is)) ∙ before
+
+-- ---- limits
+take-map : {X Y : Type 0} (f : X → Y) (n : ℕ) (xs : List X) → map f (take n xs) ≡ take n (map f xs)
+take-map f zero xs = refl
+take-map f (suc n) [] = refl
+take-map f (suc n) (x ∷ xs) = ap (λ l. f x ∷ l) (take-map f n xs)
+
+limited-map : {X Y : Type 0} (f : X → Y) (limit : Option ℕ) (xs : List X) → map f (limited limit xs) ≡ limited limit (map f xs)
+limited-map f None xs = refl
+limited-map f (Some n) xs = take-map f n xs
+
+map-map : {X Y Z : Type 0} (g : Y → Z) (f : X → Y) (xs : List X) → map (λ x. g (f x)) xs ≡ map g (map f xs)
+map-map g f [] = refl
+map-map g f (x ∷ xs) = ap (λ l. g (f x) ∷ l) (map-map g f xs)
+
+-- ---- rows without groups
+pub rows_merged : {X : Type 0} (f : X → KeyedRow) (query : Query) (whole found : List KeyedRow) (rows sorted cut : List X) (keys : List SortKey) (out : List (List Cell))
+    → AreRising whole → IsPermutation whole found → map f rows ≡ found → keys ≡ row_keys query.order → IsPermutation (map f rows) (map f sorted) → IsSortedBy (λ a b. is_lt (row_order keys a b)) (map f sorted)
+    → cut ≡ limited query.limit sorted → out ≡ map (λ x. map (row_cell (f x)) query.items) cut → out ≡ limited query.limit (plain_answer query whole)
+rows_merged f query whole found rows sorted cut keys out rises perm is keyed moved up cuts made =
+    let from_whole : IsPermutation whole (map f sorted) = IsPermutation-trans whole found (map f sorted) perm (subst (λ l. IsPermutation l (map f sorted)) is moved) in
+    let ordered : map f sorted ≡ in_order (row_order (row_keys query.order)) whole = sorted_rows keys whole (map f sorted) rises from_whole up ∙ ap (λ k. in_order (row_order k) whole) keyed in
+    made ∙ ap (map (λ x. map (row_cell (f x)) query.items)) cuts
+    ∙ limited-map (λ x. map (row_cell (f x)) query.items) query.limit sorted
+    ∙ ap (limited query.limit) (map-map (λ row. map (row_cell row) query.items) f sorted ∙ ap (map (λ row. map (row_cell row) query.items)) ordered)
+
+pub found_rows : (query : Query) (whole : List KeyedRow) (parts : List Part) → query.grouped ≡ false → ArePartsOf query whole parts → IsPermutation whole (flat_map rows_in parts)
+found_rows query whole parts plain p = subst (IsPermutation whole) (sym (ap (flat_map rows_in) p.each ∙ rows-parts query plain p.dealt)) p.division
+
+-- ---- groups
+pub groups_merged : (query : Query) (whole : List KeyedRow) (parts : List Part) (es : List (List Value × List Cell)) (groups sorted cut : List Group) (keys : List SortKey) (out : List (List Cell))
+    → ArePartsOf query whole parts → query.grouped ≡ true → IsStrictlySortedBy rising (keys_in es) → ((q : List Value) → lookup (is_at (rising q)) es ≡ tally query.items q (total_at query [] q) (flat_map groups_in parts))
+    → groups ≡ map entry_group es → keys ≡ group_keys query.group query.order → IsPermutation groups sorted → IsSortedBy (λ a b. is_lt (group_order keys a.key b.key)) sorted
+    → cut ≡ limited query.limit sorted → out ≡ map (out_row query) cut → out ≡ limited query.limit (grouped_answer query whole)
+groups_merged query whole parts es groups sorted cut keys out p grouped rises totals listed keyed moved up cuts made =
+    let cs = together p.dealt in
+    let of_cs : map entry_group es ≡ map (group_of query cs) (in_order rising (keys_of query.group cs)) =
+    listed_is query cs es rises (λ q. totals q ∙ ap (λ l. tally query.items q (total_at query [] q) (flat_map groups_in l)) p.each ∙ tally-parts query q grouped [] p.dealt) in
+    let ordered : sorted ≡ map (group_of query cs) (in_order (group_order keys) (keys_of query.group cs)) =
+    sorted_groups query cs keys sorted (subst (λ l. IsPermutation l sorted) (listed ∙ of_cs) moved) up in
+    let ks : in_order (group_order keys) (keys_of query.group cs) ≡ in_order (group_order (group_keys query.group query.order)) (keys_of query.group whole) =
+    keys-same whole cs p.rising p.division query.group keys ∙ ap (λ k. in_order (group_order k) (keys_of query.group whole)) keyed in
+    made ∙ ap (map (out_row query)) cuts ∙ limited-map (out_row query) query.limit sorted
+    ∙ ap (limited query.limit) (ap (map (out_row query)) (ordered ∙ ap (map (group_of query cs)) ks)
+    ∙ out-same whole cs p.rising p.division query (in_order (group_order (group_keys query.group query.order)) (keys_of query.group whole)))
+
+part-grouped : (b : Bool) (rows : List KeyedRow) (groups : List Group) → b ≡ true → Groups groups ≡ cond b (Groups groups) (Rows rows)
+part-grouped true rows groups e = refl
+part-grouped false rows groups e = cc
+
+pub part_grouped : (query : Query) (rows : List KeyedRow) (es : List (List Value × List Cell)) (groups : List Group)
+    → query.grouped ≡ true → IsStrictlySortedBy rising (keys_in es) → ((q : List Value) → lookup (is_at (rising q)) es ≡ tally query.items q (total_at query [] q) (map (row_group query) rows))
+    → groups ≡ map entry_group es → Groups groups ≡ part_of query rows
+part_grouped query rows es groups grouped rises totals listed =
+    ap Groups (listed ∙ listed_is query rows es rises (λ q. totals q ∙ tally-rows query q [] rows))
+    ∙ part-grouped query.grouped rows (map (group_of query rows) (in_order rising (keys_of query.group rows))) grouped
+
+-- ---- the condition holds on the whole
+all-kept : {X : Type 0} (p : X → Bool) (xs : List X) → AllByRecursion (λ x. p x ≡ true) xs → filter p xs ≡ xs
+all-kept p [] all = refl
+all-kept p (x ∷ xs) all = ap (λ b. cond b (x ∷ filter p xs) (filter p xs)) all.0 ∙ ap (λ l. x ∷ l) (all-kept p xs all.1)
+
+choice-true : (b : Bool) (x y : List (List Cell)) → b ≡ true → x ≡ cond b x y
+choice-true true x y e = refl
+choice-true false x y e = cc
+
+choice-false : (b : Bool) (x y : List (List Cell)) → b ≡ false → y ≡ cond b x y
+choice-false true x y e = cc
+choice-false false x y e = refl
+
+module _ (query : Query) (whole : List KeyedRow) (kept : All (λ row. keeps query.cond row ≡ true) whole) where
+  same-kept : filter (keeps query.cond) whole ≡ whole
+  same-kept = all-kept (keeps query.cond) whole (recursion_from_All _ whole kept)
+
+  pub answer-grouped : query.grouped ≡ true → limited query.limit (grouped_answer query whole) ≡ answer_of query whole
+  answer-grouped grouped =
+      ap (limited query.limit) (choice-true query.grouped (grouped_answer query whole) (plain_answer query whole) grouped
+      ∙ ap (λ l. cond query.grouped (grouped_answer query l) (plain_answer query l)) (sym same-kept))
+
+  pub answer-plain : query.grouped ≡ false → limited query.limit (plain_answer query whole) ≡ answer_of query whole
+  answer-plain plain =
+      ap (limited query.limit) (choice-false query.grouped (grouped_answer query whole) (plain_answer query whole) plain
+      ∙ ap (λ l. cond query.grouped (grouped_answer query l) (plain_answer query l)) (sym same-kept))

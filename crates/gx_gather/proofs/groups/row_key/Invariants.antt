@@ -1,0 +1,6 @@
+use Rattle.std.proofs.Common.{◌≡◌, take}
+use Rattle.gx_gather.specs.Groups.{key_of}
+use Rattle.gx_gather.proofs.groups.row_key.Given as goal
+
+abbrev pub invariant-loop-column : goal.invariant-loop-column
+invariant-loop-column l = l.values.items ≡ key_of (take l.column-index l.group) l.row
