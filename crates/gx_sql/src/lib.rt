@@ -2,5 +2,10 @@
 #![tactic(auto)]
 
 pub mod plain;
+pub mod refusal;
+pub mod count;
+pub mod split;
 
 pub use plain::{Stop, read_plain};
+pub use refusal::{Limit, LineFault, Refusal};
+pub use split::{first_line, is_skipped};
