@@ -99,3 +99,7 @@ abbrev pub names_right : List Column → List (List ℕ) → List Name → Answe
 names_right columns given [] = Ok tt
 names_right columns given (Used name ∷ names) = if is_column columns name then names_right columns given names else Err UnknownColumn
 names_right columns given (Given name ∷ names) = if is_among given name then Err Syntax else if is_column columns name then names_right columns (given ++ name ∷ []) names else Err UnknownColumn
+
+-- an assignment by itself: whether its column was given a value before, and whether all its names are columns
+abbrev pub assign_right : Bool → Bool → Answer (Unit {0})
+assign_right again all = if again then Err Syntax else if all then Ok tt else Err UnknownColumn

@@ -10,6 +10,7 @@ use Rattle.gx_tree.specs.declared.schema.Kind.TheVariants as kind
 use Rattle.gx_tree.specs.declared.schema.Dist.{Dist}
 use Rattle.gx_tree.specs.declared.schema.Dist.TheVariants as dist
 use Rattle.gx_tree.specs.declared.schema.Schema.{Schema}
+use Rattle.gx_tree.specs.declared.stmt.Assign.{Assign}
 use Rattle.gx_tree.specs.declared.stmt.Stmt.{Stmt}
 use Rattle.gx_tree.specs.declared.stmt.Stmt.TheVariants as stmt
 use Rattle.gx_modes.specs.Table.{number_of}
@@ -62,10 +63,18 @@ kinded table columns (stmt_syn.Delete _ cond) = do
   Ok (stmt.Delete table found)
 kinded table columns (stmt_syn.Lock _ mode) = Ok (stmt.Lock table (number_of mode))
 
+abbrev pub assigns_to : List Assign → ℕ → Bool
+assigns_to assigns key = list_any (λ a. a.col == key) assigns
+
+-- SET writes the column at this place
+abbrev pub updates : Stmt → ℕ → Bool
+updates (stmt.Update table assigns cond) key = assigns_to assigns key
+updates _ key = false
+
 -- SET writes the distribution column
 abbrev pub sets_key : Dist → Stmt → Bool
-sets_key (dist.By key) (stmt.Update table assigns cond) = list_any (λ a. a.col == key) assigns
-sets_key _ _ = false
+sets_key (dist.By key) stmt = updates stmt key
+sets_key dist.Randomly stmt = false
 
 abbrev pub key_kept : Dist → Stmt → Answer Stmt
 key_kept dist stmt = if sets_key dist stmt then Err KeyUpdate else Ok stmt

@@ -1,6 +1,8 @@
 // The names of a statement, each looked at from left to right.
-ghost use Rattle.std.specs.Prelude.{◌≡◌, map, length, take, if◌then◌else◌, Ok, Err, [], Option, List};
-ghost use Rattle.std.specs.List.{list_all, flat_map};
+ghost use Rattle.std.specs.Prelude.{◌≡◌, map, length, nat_eq, if◌then◌else◌, Ok, Err, [], Option, List};
+ghost use Rattle.std.specs.List.{list_all, list_any, flat_map};
+ghost use Rattle.std.specs.Cmp.Lexicographic.{pointwise};
+ghost use Rattle.gx_resolve.specs.Naming.{assign_right};
 ghost use Rattle.gx_resolve.specs.Naming as of;
 
 use crate::fault::NameFault;
@@ -48,15 +50,19 @@ fn knows_item(columns: &[Column], item: &ItemSyn) -> bool
     }
 }
 
+fn knows_each(columns: &[Column], items: &[ItemSyn]) -> bool
+    ensures { result ≡ list_all (λ item. list_all (of.is_column columns.now) (of.item_names item)) items.now }
+{
+    items.iter().all(|item| knows_item(columns, item))
+}
+
+#[tactic(auto, using(crate::proofs::Names::lists))]
 fn knows_items(columns: &[Column], items: &ItemsSyn) -> bool
     ensures { result ≡ list_all (of.is_column columns.now) (of.items_names items.now) }
 {
     match items {
         ItemsSyn::All => true,
-        ItemsSyn::These(items) => items
-            .as_slice()
-            .iter()
-            .all(|item| knows_item(columns, item)),
+        ItemsSyn::These(items) => knows_each(columns, items.as_slice()),
     }
 }
 
@@ -69,18 +75,23 @@ fn knows_group(columns: &[Column], group: &Option<Seq<Txt>>) -> bool
     }
 }
 
+fn knows_keys(columns: &[Column], keys: &[KeySyn]) -> bool
+    ensures { result ≡ list_all (λ key. of.is_column columns.now (of.key_name key)) keys.now }
+{
+    keys.iter().all(|key| is_column(columns, &key.column))
+}
+
+#[tactic(auto, using(crate::proofs::Names::lists))]
 fn knows_order(columns: &[Column], order: &Option<Seq<KeySyn>>) -> bool
     ensures { result ≡ list_all (of.is_column columns.now) (of.order_names order.now) }
 {
     match order {
         None => true,
-        Some(keys) => keys
-            .as_slice()
-            .iter()
-            .all(|key| is_column(columns, &key.column)),
+        Some(keys) => knows_keys(columns, keys.as_slice()),
     }
 }
 
+#[tactic(auto, using(crate::proofs::Names::lists))]
 fn knows_select(columns: &[Column], select: &SelectSyn) -> bool
     ensures { result ≡ list_all (of.is_column columns.now) (of.select_names select.now) }
 {
@@ -90,20 +101,30 @@ fn knows_select(columns: &[Column], select: &SelectSyn) -> bool
         && knows_order(columns, &select.order)
 }
 
+fn knows_values(columns: &[Column], values: &[Syn]) -> bool
+    ensures { result ≡ list_all (λ value. list_all (of.is_column columns.now) (of.names_in value)) values.now }
+{
+    values.iter().all(|value| knows(columns, value))
+}
+
+#[tactic(auto, using(crate::proofs::Names::lists))]
 fn knows_tuple(columns: &[Column], tuple: &TupleSyn) -> bool
     ensures { result ≡ list_all (of.is_column columns.now) (of.tuple_names tuple.now) }
 {
-    tuple
-        .values
-        .as_slice()
-        .iter()
-        .all(|value| knows(columns, value))
+    knows_values(columns, tuple.values.as_slice())
 }
 
+fn knows_each_tuple(columns: &[Column], tuples: &[TupleSyn]) -> bool
+    ensures { result ≡ list_all (λ tuple. list_all (of.is_column columns.now) (of.tuple_names tuple)) tuples.now }
+{
+    tuples.iter().all(|tuple| knows_tuple(columns, tuple))
+}
+
+#[tactic(auto, using(crate::proofs::Names::lists))]
 fn knows_tuples(columns: &[Column], tuples: &[TupleSyn]) -> bool
     ensures { result ≡ list_all (of.is_column columns.now) (flat_map of.tuple_names tuples.now) }
 {
-    tuples.iter().all(|tuple| knows_tuple(columns, tuple))
+    knows_each_tuple(columns, tuples)
 }
 
 fn known(all: bool) -> Result<(), NameFault>
@@ -116,7 +137,25 @@ fn known(all: bool) -> Result<(), NameFault>
     }
 }
 
+fn is_given(before: &[AssignSyn], name: &Txt) -> bool
+    ensures { result ≡ list_any (λ assign. pointwise nat_eq (of.assign_column assign) name.now) before.now }
+{
+    before.iter().any(|assign| assign.column == *name)
+}
+
+// What a column is that SET writes: whether it is written already, and whether it and its value's names are columns.
+fn right(again: bool, all: bool) -> Result<(), NameFault>
+    ensures { result ≡ assign_right again all }
+{
+    if again {
+        Err(NameFault::Syntax)
+    } else {
+        known(all)
+    }
+}
+
 // An assignment of SET, whose column the ones before it don't have.
+#[tactic(auto, using(crate::proofs::Names::right, crate::proofs::Names::lists))]
 fn check_assign(
     columns: &[Column],
     before: &[AssignSyn],
@@ -124,10 +163,10 @@ fn check_assign(
 ) -> Result<(), NameFault>
     ensures { result ≡ of.names_right columns.now (map of.assign_column before.now) (of.assign_names assign.now) }
 {
-    if before.iter().any(|other| other.column == assign.column) {
-        return Err(NameFault::Syntax);
-    }
-    known(is_column(columns, &assign.column) && knows(columns, &assign.value))
+    right(
+        is_given(before, &assign.column),
+        is_column(columns, &assign.column) && knows(columns, &assign.value),
+    )
 }
 
 fn check_assigns(columns: &[Column], assigns: &[AssignSyn]) -> Result<(), NameFault>
@@ -139,6 +178,7 @@ fn check_assigns(columns: &[Column], assigns: &[AssignSyn]) -> Result<(), NameFa
     Ok(())
 }
 
+#[tactic(auto, using(crate::proofs::Names::right, crate::proofs::Names::lists))]
 fn check_update(
     columns: &[Column],
     assigns: &[AssignSyn],
@@ -151,6 +191,7 @@ fn check_update(
 }
 
 /// Looks at each name of a column in a statement, from left to right.
+#[tactic(auto, using(crate::proofs::Names::right))]
 pub fn check_names(columns: &[Column], stmt: &StmtSyn) -> Result<(), NameFault>
     ensures { result ≡ of.names_right columns.now [] (of.names_of stmt.now) }
 {

@@ -1,5 +1,6 @@
 // SELECT over the columns of a table.
 ghost use Rattle.std.specs.Prelude.{◌≡◌, ◌≤◌, length, Option, Ok, Err, if◌then◌else◌};
+ghost use Rattle.std.specs.List.{list_any, list_all};
 ghost use Rattle.gx_resolve.specs.Results.{Says};
 ghost use Rattle.gx_resolve.specs.Selecting as of;
 
@@ -157,12 +158,18 @@ fn is_aggregate(item: &ItemSyn) -> bool
     }
 }
 
+fn any_aggregate(items: &[ItemSyn]) -> bool
+    ensures { result ≡ list_any of.is_aggregate items.now }
+{
+    items.iter().any(|item| is_aggregate(item))
+}
+
 fn has_aggregate(items: &ItemsSyn) -> bool
     ensures { result ≡ of.has_aggregate items.now }
 {
     match items {
         ItemsSyn::All => false,
-        ItemsSyn::These(items) => items.as_slice().iter().any(|item| is_aggregate(item)),
+        ItemsSyn::These(items) => any_aggregate(items.as_slice()),
     }
 }
 
@@ -181,11 +188,17 @@ fn is_listed(items: &ItemsSyn) -> bool
     }
 }
 
+fn is_in(places: &[u8], place: u8) -> bool
+    ensures { result ≡ of.is_in places.now place }
+{
+    places.iter().any(|other| *other == place)
+}
+
 fn is_group_item(group: &[u8], item: Item) -> bool
     ensures { result ≡ of.is_group_item group.now item }
 {
     match item {
-        Item::Col(place) => group.iter().any(|p| *p == place),
+        Item::Col(place) => is_in(group, place),
         Item::Count => true,
         Item::Sum(_) => true,
         Item::Min(_) => true,
@@ -196,7 +209,19 @@ fn is_group_item(group: &[u8], item: Item) -> bool
 fn is_group_key(group: &[u8], key: Key) -> bool
     ensures { result ≡ of.is_group_key group.now key }
 {
-    group.iter().any(|p| *p == key.col)
+    is_in(group, key.col)
+}
+
+fn are_group_items(group: &[u8], items: &[Item]) -> bool
+    ensures { result ≡ list_all (of.is_group_item group.now) items.now }
+{
+    items.iter().all(|item| is_group_item(group, *item))
+}
+
+fn are_group_keys(group: &[u8], order: &[Key]) -> bool
+    ensures { result ≡ list_all (of.is_group_key group.now) order.now }
+{
+    order.iter().all(|key| is_group_key(group, *key))
 }
 
 // Whether the rules of groups are kept where an aggregate or GROUP BY stands.
@@ -204,8 +229,8 @@ fn are_group_parts(select: &SelectSyn, items: &[Item], group: &[u8], order: &[Ke
     ensures { result ≡ of.are_group_parts select.now items.now group.now order.now }
 {
     is_listed(&select.items)
-        && items.iter().all(|item| is_group_item(group, *item))
-        && order.iter().all(|key| is_group_key(group, *key))
+        && are_group_items(group, items)
+        && are_group_keys(group, order)
         && (select.group.is_some() || select.order.is_none())
 }
 
@@ -213,6 +238,16 @@ fn keeps_groups(select: &SelectSyn, items: &[Item], group: &[u8], order: &[Key])
     ensures { result ≡ of.keeps_groups select.now items.now group.now order.now }
 {
     !is_grouped(select) || are_group_parts(select, items, group, order)
+}
+
+fn groups_kept(kept: bool) -> Result<(), NameFault>
+    ensures { result ≡ of.groups_kept kept }
+{
+    if kept {
+        Ok(())
+    } else {
+        Err(NameFault::TypeMismatch)
+    }
 }
 
 /// The query that a SELECT is over the columns of its table.
@@ -229,9 +264,8 @@ pub fn query_as(
     let group = group_as(alloc, columns, &select.group)?;
     let order = order_as(alloc, columns, &select.order)?;
     let limit = limit_as(select.limit)?;
-    if !keeps_groups(select, items.as_slice(), group.as_slice(), order.as_slice()) {
-        return Err(ResolveError::Fault(NameFault::TypeMismatch));
-    }
+    let kept = keeps_groups(select, items.as_slice(), group.as_slice(), order.as_slice());
+    groups_kept(kept)?;
     let cond = where_as(alloc, columns, &select.cond)?;
     Ok(Query {
         table,

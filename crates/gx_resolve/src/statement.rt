@@ -11,7 +11,7 @@ use crate::select::query_as;
 use gx_grammar::Syn;
 use gx_ids::{Seq, Table};
 use gx_lines::{AssignSyn, StmtSyn};
-use gx_tree::{Column, Dist, Schema, Stmt, Txt};
+use gx_tree::{Assign, Column, Dist, Schema, Stmt, Txt};
 use std::alloc::Global;
 
 /// The table that a statement names, where it names one.
@@ -72,15 +72,28 @@ fn kinded(
     }
 }
 
-// Whether an UPDATE sets the distribution column.
+fn assigns_to(assigns: &[Assign], key: u8) -> bool
+    ensures { result ≡ of.assigns_to assigns.now key }
+{
+    assigns.iter().any(|assign| assign.col == key)
+}
+
+// Whether an UPDATE sets the column at this place.
+fn updates(stmt: &Stmt, key: u8) -> bool
+    ensures { result ≡ of.updates stmt.now key }
+{
+    match stmt {
+        Stmt::Update(_, assigns, _) => assigns_to(assigns.as_slice(), key),
+        _ => false,
+    }
+}
+
 fn sets_key(dist: Dist, stmt: &Stmt) -> bool
     ensures { result ≡ of.sets_key dist stmt.now }
 {
-    match (dist, stmt) {
-        (Dist::By(key), Stmt::Update(_, assigns, _)) => {
-            assigns.as_slice().iter().any(|assign| assign.col == key)
-        }
-        _ => false,
+    match dist {
+        Dist::By(key) => updates(stmt, key),
+        Dist::Randomly => false,
     }
 }
 

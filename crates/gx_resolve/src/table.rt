@@ -1,5 +1,7 @@
 // Table lines.
-ghost use Rattle.std.specs.Prelude.{◌≡◌, ◌≤◌, length, map, [], Ok, Err, if◌then◌else◌, IfOk};
+ghost use Rattle.std.specs.Prelude.{◌≡◌, ◌≤◌, nat_eq, length, map, [], Ok, Err, if◌then◌else◌, IfOk};
+ghost use Rattle.std.specs.List.{list_any};
+ghost use Rattle.std.specs.Cmp.Lexicographic.{pointwise};
 ghost use Rattle.gx_resolve.specs.Results.{Says};
 ghost use Rattle.gx_resolve.specs.Naming.{is_among};
 ghost use Rattle.gx_resolve.specs.Resolving as of;
@@ -32,10 +34,17 @@ fn columns_as(alloc: Global, columns: &[ColumnSyn]) -> Mem<Seq<Column>>
     Ok(all)
 }
 
+fn names_one(before: &[ColumnSyn], name: &Txt) -> bool
+    ensures { result ≡ list_any (λ column. pointwise nat_eq (of.column_name column) name.now) before.now }
+{
+    before.iter().any(|column| column.name == *name)
+}
+
+#[tactic(auto, using(crate::proofs::Names::lists))]
 fn is_named(before: &[ColumnSyn], name: &Txt) -> bool
     ensures { result ≡ is_among (map of.column_name before.now) name.now }
 {
-    before.iter().any(|column| column.name == *name)
+    names_one(before, name)
 }
 
 // Whether no column is named twice.
