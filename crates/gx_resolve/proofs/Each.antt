@@ -55,8 +55,12 @@ module _ {A B : Type 0} (f : A → Answer B) where
 from_cons : (items : List Item) (i : ℕ) (c : Column) (cs : List Column) → items ++ columns_from i (c ∷ cs) ≡ (items ++ item.Col i ∷ []) ++ columns_from (i + 1) cs
 from_cons items i c cs = sym (append_assoc items (item.Col i ∷ []) (columns_from (i + 1) cs))
 
-pub columns_more : (cs : List Column) (i : ℕ) (c : Column) (items : List Item) → i < length cs → items ++ columns_from i (drop i cs) ≡ (items ++ item.Col i ∷ []) ++ columns_from (i + 1) (drop (i + 1) cs)
-columns_more cs i c items lt = ap (λ l. items ++ columns_from i l) (drop-cons cs i c lt) ∙ from_cons items i (get_or cs i c) (drop (suc i) cs) ∙ rw add-one refl
+next_column : (cs : List Column) (i : ℕ) (c : Column) (items : List Item) → i < length cs → items ++ columns_from i (drop i cs) ≡ (items ++ item.Col i ∷ []) ++ columns_from (i + 1) (drop (i + 1) cs)
+next_column cs i c items lt = ap (λ l. items ++ columns_from i l) (drop-cons cs i c lt) ∙ from_cons items i (get_or cs i c) (drop (suc i) cs) ∙ rw add-one refl
+
+pub columns_more : (cs : List Column) (i : ℕ) (items : List Item) → i < length cs → items ++ columns_from i (drop i cs) ≡ (items ++ item.Col i ∷ []) ++ columns_from (i + 1) (drop (i + 1) cs)
+columns_more [] i items lt = absurd (omega (arith, lt))
+columns_more (c ∷ cs) i items lt = next_column (c ∷ cs) i c items lt
 
 -- a tuple's values
 more_values : (c : Column) (cs : List Column) (v : Syn) (vs : List Syn) (ys : List Expr) (y : Expr) → constant_as c.kind v ≡ Ok y → onto ys (values_as (c ∷ cs) (v ∷ vs)) ≡ onto (ys ++ y ∷ []) (values_as cs vs)

@@ -250,6 +250,18 @@ fn groups_kept(kept: bool) -> Result<(), NameFault>
     }
 }
 
+fn check_groups(
+    select: &SelectSyn,
+    items: &Seq<Item>,
+    group: &Seq<u8>,
+    order: &Seq<Key>,
+) -> Result<(), NameFault>
+    ensures { result ≡ of.groups_kept (of.keeps_groups select.now items.now group.now order.now) }
+{
+    let kept = keeps_groups(select, items.as_slice(), group.as_slice(), order.as_slice());
+    groups_kept(kept)
+}
+
 /// The query that a SELECT is over the columns of its table.
 pub fn query_as(
     alloc: Global,
@@ -264,8 +276,7 @@ pub fn query_as(
     let group = group_as(alloc, columns, &select.group)?;
     let order = order_as(alloc, columns, &select.order)?;
     let limit = limit_as(select.limit)?;
-    let kept = keeps_groups(select, items.as_slice(), group.as_slice(), order.as_slice());
-    groups_kept(kept)?;
+    check_groups(select, &items, &group, &order)?;
     let cond = where_as(alloc, columns, &select.cond)?;
     Ok(Query {
         table,
