@@ -1,0 +1,5 @@
+pub mod Results
+pub mod Naming
+pub mod Kinding
+pub mod Selecting
+pub mod Resolving
