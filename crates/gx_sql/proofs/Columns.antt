@@ -1,5 +1,5 @@
 -- The columns of a table's line, three tokens each but for the last.
-use Rattle.std.proofs.Common.{◌≡◌, ◌↔◌, IsTrue, IfOk, nat_eq, ◌⊎◌, inl, inr, ℕ, ◌+◌, ◌*◌, ◌≤◌, ◌<◌, Bool, true, false, List, [], ◌∷◌, ◌++◌, length, take, drop, Option, Some, None, refl, sym, ◌∙◌, ap, subst, append_assoc, append-nil, arith, Result, Ok, Err}
+use Rattle.std.proofs.Common.{◌≡◌, ◌↔◌, IsTrue, IfOk, nat_eq, ℕ, ◌+◌, ◌*◌, ◌≤◌, ◌<◌, Bool, true, false, List, [], ◌∷◌, ◌++◌, length, take, drop, refl, sym, ◌∙◌, ap, subst, arith, Result, Ok, Err}
 use Rattle.std.proofs.lemmas.List.{take-append-drop}
 use Rattle.gx_lex.specs.declared.token.Token.{Token}
 use Rattle.gx_lex.specs.declared.token.Token.TheVariants as token
@@ -11,20 +11,17 @@ use Rattle.gx_grammar.specs.declared.fault.ReadError.{ReadError}
 use Rattle.gx_grammar.specs.declared.fault.ReadError.TheVariants as errors
 use Rattle.gx_grammar.specs.Code.{Says}
 use Rattle.gx_grammar.proofs.Lines.{verdict, whole_complete}
-use Rattle.gx_grammar.specs.Rules.{Is, Verdict, one, both, many, made, behind, marked, one_at, both_at, behind_at, whole_at}
-use Rattle.gx_grammar.specs.Tokens.{is_word, is_sign, is_comma, name_of, listed, listed_at, enclosed}
+use Rattle.gx_grammar.specs.Rules.{Verdict, one, both, many, behind, one_at, both_at, behind_at, whole_at}
+use Rattle.gx_grammar.specs.Tokens.{is_word, is_sign, is_comma, listed, listed_at}
 use Rattle.gx_grammar.proofs.Good.{Good, Always}
 use Rattle.gx_grammar.proofs.Parts.{one_good, both_good, made_good, behind_good}
 use Rattle.gx_lines.specs.declared.syn.ColumnSyn.{ColumnSyn}
-use Rattle.gx_lines.specs.declared.syn.TableSyn.{TableSyn}
-use Rattle.gx_lines.specs.declared.syn.LineSyn.{LineSyn}
-use Rattle.gx_lines.specs.declared.syn.LineSyn.TheVariants as line_syn
 use Rattle.gx_lines.specs.Classes.{kind_of}
 use Rattle.gx_lines.specs.Queries.{name, name_at}
-use Rattle.gx_lines.specs.Heads.{to_column, column, column_at, table}
-use Rattle.gx_lines.proofs.Told.{word_is, sign_is}
-use Rattle.gx_lines.proofs.Classing.{kind_class, name_first}
-use Rattle.gx_lines.proofs.Follow.{Next, anywhere, listed_good, marked_true}
+use Rattle.gx_lines.specs.Heads.{to_column, column, column_at}
+use Rattle.gx_lines.proofs.Told.{sign_is}
+use Rattle.gx_lines.proofs.Classing.{kind_class}
+use Rattle.gx_lines.proofs.Follow.{Next, anywhere, listed_good}
 use Rattle.gx_lines.proofs.QueryGood.{name_good}
 use Rattle.gx_sql.specs.Counts.{begun_table, PassesColumns}
 use Rattle.gx_sql.specs.Begun.{begun_table_at, IsFull, goes_on}
@@ -99,8 +96,10 @@ full_read d ts t n e l = (there, back)
   where
     same : (s : List ℕ × List ColumnSyn) → begun_table d s ts → t ≡ s
     same s q = one_ok (whole_at (begun_table_at d) ts) t s e (whole_complete begun_table (Next []) begun_table_at begun_good tt d s ts q)
+
     there : IsTrue (nat_eq n 32) → IsFull d ts
     there h = (t, subst (λ (a : Result (List ℕ × List ColumnSyn) Fault). Verdict begun_table d ts a) e (verdict begun_table (Next []) begun_table_at begun_good tt d ts), sym l ∙ is-nat_eq n 32 h)
+
     back : IsFull d ts → IsTrue (nat_eq n 32)
     back (s, q, k) = nat_eq-is n 32 (l ∙ ap (λ (t : List ℕ × List ColumnSyn). length t.1) (same s q) ∙ k)
 
@@ -160,6 +159,7 @@ passes_full d begun rest l g = (there, back)
     there (t, q, k) =
         let next = named_next rest g in
         record { begun = begun; table = t; written = q; full = k; further = next.0; rest = next.1; tokens = ap (λ (t : List Token). begun ++ t) next.2 }
+
     back : PassesColumns d (begun ++ rest) → IsFull d begun
     back p = (p.table, subst (λ (t : List Token). begun_table d p.table t) (sym (at_98 d begun rest l p).0) p.written, p.full)
 

@@ -1,8 +1,8 @@
 -- The first line of the bytes.
-use Rattle.std.proofs.Common.{◌≡◌, ℕ, ◌+◌, ◌==◌, nat_eq, Bool, true, false, not, cond, if◌then◌else◌, ◌&&◌, List, [], ◌∷◌, ◌++◌, length, refl, sym, ◌∙◌, ap, subst, append-nil, take, drop, arith}
+use Rattle.std.proofs.Common.{◌≡◌, ℕ, ◌+◌, ◌==◌, Bool, true, false, not, cond, List, [], ◌∷◌, ◌++◌, length, refl, sym, ◌∙◌, ap, subst, append-nil, take, drop, arith}
 use Rattle.std.proofs.lemmas.List.{take-append-drop}
 use Rattle.std.specs.List.{prefix_len}
-use Rattle.gx_sql.specs.Lines.{begins, without_returns, before, fed_lines, lines_of}
+use Rattle.gx_sql.specs.Lines.{begins, without_returns, fed_lines, lines_of}
 use Rattle.gx_sql.specs.Cutting.{is_within, without_return}
 
 -- no byte is a line feed

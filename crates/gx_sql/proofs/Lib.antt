@@ -5,3 +5,8 @@ pub mod Cuts
 pub mod Verdicts
 pub mod Columns
 pub mod Held
+pub mod Named
+pub mod Room
+pub mod Saying
+pub mod Unique
+pub mod Steps

@@ -1,5 +1,5 @@
 -- A line gets one verdict.
-use Rattle.std.proofs.Common.{◌≡◌, ◌⊎◌, inl, inr, List, [], ◌∷◌, ◌++◌, refl, sym, ◌∙◌, ap, subst, append_assoc, append-nil, Result, Ok, Err}
+use Rattle.std.proofs.Common.{◌≡◌, ◌⊎◌, inl, inr, List, [], ◌∷◌, ◌++◌, refl, sym, ◌∙◌, ap, subst, append_assoc, append-nil, Err}
 use Rattle.gx_lex.specs.declared.token.Token.{Token}
 use Rattle.gx_grammar.specs.declared.fault.Limits.{Limits}
 use Rattle.gx_grammar.specs.declared.fault.LineLimit.{LineLimit}
@@ -25,6 +25,7 @@ fronts (u ∷ us) rest (v ∷ vs) more e = step (fronts us rest vs more (ap tail
   where
     head : u ≡ v
     head = cc
+
     step : Shorter us rest vs more ⊎ (((us ≡ vs) × (rest ≡ more)) ⊎ Shorter vs more us rest) → Shorter (u ∷ us) rest (v ∷ vs) more ⊎ (((u ∷ us ≡ v ∷ vs) × (rest ≡ more)) ⊎ Shorter (v ∷ vs) more (u ∷ us) rest)
     step (inl (z, zs, p, q)) = inl (z, zs, cc, q)
     step (inr (inl (p, q))) = inr (inl (cc, q))

@@ -9,7 +9,9 @@ ghost use Rattle.gx_sql.specs.Held.{named};
 ghost use Rattle.gx_sql.specs.declared.refusal.Limit.{Limit};
 
 use crate::refusal::Limit;
-use gx_grammar::{Fault, Limits, ReadError, is_sign, is_word, read_list, read_one, read_sign, read_word};
+use gx_grammar::{
+    Fault, Limits, ReadError, is_sign, is_word, read_list, read_one, read_sign, read_word,
+};
 use gx_ids::{Mem, OutOfMemory, Seq};
 use gx_lex::{Symbol, Token, Word};
 use gx_lines::ColumnSyn;
@@ -18,7 +20,9 @@ use indexmap::IndexMap;
 use std::alloc::Global;
 
 const SESSIONS: usize = 64;
+
 const TABLES: usize = 64;
+
 const COLUMNS: usize = 32;
 
 /// Whether the session is a further one than there may be.
@@ -29,7 +33,7 @@ fn is_further(sessions: &IndexMap<Vec<u8>, u32>, name: &[u8]) -> bool
     SESSIONS <= sessions.len() && !sessions.contains_key(name)
 }
 
-fn passes_sessions(sessions: &IndexMap<Vec<u8>, u32>, tokens: &[Token]) -> bool
+pub fn passes_sessions(sessions: &IndexMap<Vec<u8>, u32>, tokens: &[Token]) -> bool
     ensures { result ≡ of.passes_sessions (named sessions.now.entries) tokens.now }
 {
     match tokens.first() {
@@ -38,7 +42,7 @@ fn passes_sessions(sessions: &IndexMap<Vec<u8>, u32>, tokens: &[Token]) -> bool
     }
 }
 
-fn passes_tables(tables: usize, tokens: &[Token]) -> bool
+pub fn passes_tables(tables: usize, tokens: &[Token]) -> bool
     ensures { result ≡ of.passes_tables tables tokens.now }
 {
     match tokens {
@@ -86,7 +90,7 @@ fn is_full(alloc: Global, limits: Limits, tokens: &[Token]) -> Mem<bool>
     }
 }
 
-fn passes_columns(alloc: Global, limits: Limits, tokens: &[Token]) -> Mem<bool>
+pub fn passes_columns(alloc: Global, limits: Limits, tokens: &[Token]) -> Mem<bool>
     ensures { IfOk result (λ b. IsTrue b ↔ of.PassesColumns limits tokens.now) }
 {
     // Three tokens, then three a column but the last comma.

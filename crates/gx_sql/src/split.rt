@@ -17,13 +17,7 @@ fn without_return(line: &[u8]) -> &[u8]
     ensures { result.now ≡ cutting.without_return line.now }
 {
     match line.split_last() {
-        Some((last, front)) => {
-            if *last == 13 {
-                front
-            } else {
-                line
-            }
-        }
+        Some((last, front)) => { if *last == 13 { front } else { line } }
         None => line,
     }
 }

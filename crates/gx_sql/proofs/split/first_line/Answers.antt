@@ -1,4 +1,4 @@
-use Rattle.std.proofs.Common.{rules, ◌≡◌, ℕ, List, [], ◌∷◌, sym, ◌∙◌, ap}
+use Rattle.std.proofs.Common.{rules, ℕ, List, ◌∷◌, sym, ◌∙◌, ap}
 use Rattle.gx_sql.specs.Lines.{lines_of}
 use Rattle.gx_sql.proofs.Cuts.{lines_of-last, lines_of-first}
 use Rattle.gx_sql.proofs.split.first_line.Goals as goal
