@@ -1,2 +1,4 @@
 pub mod Each
 pub mod Names
+pub mod Fitting
+pub mod Keeping
