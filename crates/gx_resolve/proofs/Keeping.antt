@@ -53,7 +53,7 @@ pub bind-ok : {A B : Type 0} (answer : Answer A) (next : A → Answer B) (b : B)
 bind-ok (Ok a) next b h = (a, refl, h)
 bind-ok (Err e) next b h = cc
 
-same_ok : {A : Type 0} (a b : A) → ◌≡◌ {A = Answer A} (Ok a) (Ok b) → a ≡ b
+pub same_ok : {A : Type 0} (a b : A) → ◌≡◌ {A = Answer A} (Ok a) (Ok b) → a ≡ b
 same_ok a b h = cc
 
 each_all : {A B : Type 0} (f : A → Answer B) (P : B → Type 0) → ((x : A) (y : B) → f x ≡ Ok y → P y) → (xs : List A) (ys : List B) → each f xs ≡ Ok ys → AllByRecursion P ys
@@ -178,17 +178,17 @@ order-keeps columns (Some keys) order h = each-all (key_as columns) (IsKey colum
 -- GROUPS
 one_of : (places : List ℕ) (place : ℕ) → is_in places place ≡ true → IsOneOf place places
 one_of [] place h = cc
-one_of (p ∷ ps) place h = by_test (p == place) refl h where
-  by_test : (b : Bool) → (p == place) ≡ b → (b || is_in ps place) ≡ true → IsOneOf place (p ∷ ps)
-  by_test true e t = inl (grind (arith, nat_tests))
-  by_test false e t = inr (one_of ps place t)
+one_of (p ∷ ps) place h = by_test (p == place) refl h (one_of ps place) where
+  by_test : (b : Bool) → (p == place) ≡ b → (b || is_in ps place) ≡ true → (is_in ps place ≡ true → IsOneOf place ps) → IsOneOf place (p ∷ ps)
+  by_test true e t rest = inl (grind (arith, nat_tests))
+  by_test false e t rest = inr (rest t)
 
-both-true : (a b : Bool) → (a && b) ≡ true → (a ≡ true) × (b ≡ true)
+pub both-true : (a b : Bool) → (a && b) ≡ true → (a ≡ true) × (b ≡ true)
 both-true true true h = (refl, refl)
 both-true true false h = cc
 both-true false b h = cc
 
-either-false : (a b : Bool) → (a || b) ≡ false → (a ≡ false) × (b ≡ false)
+pub either-false : (a b : Bool) → (a || b) ≡ false → (a ≡ false) × (b ≡ false)
 either-false false false h = (refl, refl)
 either-false false true h = cc
 either-false true b h = cc
@@ -253,10 +253,13 @@ query-keeps table columns s q h =
     let limit = bind-ok (limit_as s.limit) _ q order.2 in
     let kept = bind-ok (groups_kept (keeps_groups s items.0 group.0 order.0)) _ q limit.2 in
     let cond = bind-ok (where_as columns s.cond) _ q kept.2 in
-    subst (λ r. (r.table ≡ table) × IsQuery columns r) (same_ok _ q cond.2) (refl, record {
-      items = items-keep columns s.items items.0 items.1;
-      cond = where-cond columns s.cond cond.0 cond.1;
-      group = group-keeps columns s.group group.0 group.1;
-      order = order-keeps columns s.order order.0 order.1;
-      groups = groups-keep columns s items.0 group.0 order.0 (is_grouped s) refl items.1 group.1 (was_kept _ kept.0 kept.1);
-    })
+    subst (λ r. (r.table ≡ table) × IsQuery columns r) (same_ok _ q cond.2) (
+      refl,
+      record {
+        items = items-keep columns s.items items.0 items.1;
+        cond = where-cond columns s.cond cond.0 cond.1;
+        group = group-keeps columns s.group group.0 group.1;
+        order = order-keeps columns s.order order.0 order.1;
+        groups = groups-keep columns s items.0 group.0 order.0 (is_grouped s) refl items.1 group.1 (was_kept _ kept.0 kept.1);
+      },
+    )

@@ -2,3 +2,4 @@ pub mod Each
 pub mod Names
 pub mod Fitting
 pub mod Keeping
+pub mod Promised

@@ -65,7 +65,7 @@ names_right-assign columns given a =
       both false false value = refl
 
 -- an assignment before other names
-assign_first : (columns : List Column) (given : List (List ℕ)) (a : AssignSyn) (names : List Name) → names_right columns given (assign_names a ++ names) ≡ (names_right columns given (assign_names a) >>= λ _. names_right columns (given ++ a.column ∷ []) names)
+pub assign_first : (columns : List Column) (given : List (List ℕ)) (a : AssignSyn) (names : List Name) → names_right columns given (assign_names a ++ names) ≡ (names_right columns given (assign_names a) >>= λ _. names_right columns (given ++ a.column ∷ []) names)
 assign_first columns given a names =
     ap (λ r. if is_among given a.column then Err Syntax else if is_column columns a.column then r else Err UnknownColumn) (used_first columns (given ++ a.column ∷ []) (names_in a.value) names)
     ∙ both (is_among given a.column) (is_column columns a.column) (list_all (is_column columns) (names_in a.value)) (names_right columns (given ++ a.column ∷ []) names)
