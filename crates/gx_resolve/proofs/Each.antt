@@ -106,3 +106,5 @@ values_apart [] [] apart = absurd (apart refl)
 values_apart [] (v ∷ vs) apart = refl
 values_apart (c ∷ cs) [] apart = refl
 values_apart (c ∷ cs) (v ∷ vs) apart = then_fault (constant_as c.kind v) (values_as cs vs) (value_fault c.kind (typed_of [] v)) (values_apart cs vs (λ e. apart (ap suc e)))
+
+pub ruleset counts = (values_apart)
