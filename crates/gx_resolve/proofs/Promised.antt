@@ -1,5 +1,6 @@
 -- A resolved statement and a table keep the rules.
-use Rattle.std.proofs.Common.{ℕ, zero, suc, ◌≡◌, ◌≢◌, ◌∙◌, ◌+◌, ◌<◌, ◌≤◌, ◌⊎◌, inl, inr, sym, ap, refl, subst, arith, List, [], ◌∷◌, ◌++◌, length, map, Option, Some, None, Result, Ok, Err, Bool, true, false, if◌then◌else◌, nat_eq, ◌==◌, ◌&&◌, ◌||◌, All, IfOk, MatchOption}
+use Rattle.std.proofs.Common.{ℕ, zero, suc, ◌≡◌, ◌≢◌, ◌∙◌, ◌+◌, ◌<◌, ◌≤◌, ◌⊎◌, inl, inr, sym, ap, refl, subst, arith, List, [], ◌∷◌, ◌++◌, length, map, Option, Some, None, Result, Ok, Err, Bool, true, false, if◌then◌else◌, nat_eq, ◌==◌, ◌&&◌, ◌||◌, All, IfOk, MatchOption, slice_get}
+use Rattle.std.specs.Option.{option_and_then}
 use Rattle.std.specs.List.{AllByRecursion, list_any, list_all, flat_map}
 use Rattle.std.specs.Cmp.Lexicographic.{pointwise, same_text, other_text}
 use Rattle.std.proofs.lemmas.Bool.Decides.{nat_tests}
@@ -33,7 +34,7 @@ use Rattle.gx_resolve.specs.Results.{Answer, ◌>>=◌, each, Says}
 use Rattle.gx_resolve.specs.Naming.{Name, Used, Given, is_column, is_among, names_in, where_names, assign_names, names_right, names_of, assign_right}
 use Rattle.gx_resolve.specs.Kinding.{column_at, where_as, assign_as, tuple_as}
 use Rattle.gx_resolve.specs.Selecting.{query_as}
-use Rattle.gx_resolve.specs.Resolving.{kinded, assigns_to, updates, sets_key, key_kept, over_table, over_found, stmt_from, column_as, columns_new, dist_as, new_table, table_from}
+use Rattle.gx_resolve.specs.Resolving.{kinded, assigns_to, updates, sets_key, key_kept, over_table, over_found, stmt_from, stmt_of, table_named, table_after, column_as, columns_new, dist_as, new_table, table_from}
 use Rattle.gx_resolve.specs.Rules.{IsOneOf, AreDistinct, IsColumn, IsCond, IsAssign, assigned_column, KeepsKey, IsUpdate, IsOver, table_of, IsAt, IsStmtOf, IsFound, column_text, IsDist, IsSchema}
 use Rattle.gx_resolve.proofs.Fitting.{Stands}
 use Rattle.gx_resolve.proofs.Names.{known, names_right-then, names_right-assign, assign_first}
@@ -247,3 +248,34 @@ stmt-keeps found (stmt_syn.Lock name m) s h tables at = found-keeps found (stmt_
 pub stmt_promise : (found : Option (Table × Schema)) (written : StmtSyn) (result : Result Stmt ResolveError) → Says {X = Stmt} result (stmt_from found written) → IfOk result (λ s. (tables : List Schema) → IsFound tables found → IsStmtOf tables s)
 stmt_promise found written (Ok s) h = stmt-keeps found written s h
 stmt_promise found written (Err e) h = tt
+
+-- OVER A LIST OF TABLES
+abbrev StandsFrom : ℕ → List Schema → Table × Schema → Type 0
+StandsFrom from tables found = (i : ℕ) × (found.0.0 ≡ from + i) × (slice_get tables i ≡ Some found.1)
+
+stands_from : (from : ℕ) (name : List ℕ) (tables : List Schema) (found : Table × Schema) → table_after from name tables ≡ Some found → StandsFrom from tables found
+stands_from from name [] found h = cc
+stands_from from name (t ∷ ts) found h = by_test (pointwise nat_eq t.name name) h (stands_from (from + 1) name ts found) where
+  by_test : (b : Bool) → (if b then Some (record { 0 = from }, t) else table_after (from + 1) name ts) ≡ Some found → (table_after (from + 1) name ts ≡ Some found → StandsFrom (from + 1) ts found) → StandsFrom from (t ∷ ts) found
+  by_test true e rest =
+      let first : Table × Schema = (record { 0 = from }, t) in
+      let same : first ≡ found = cc in
+      let place : from ≡ found.0.0 = ap (λ f. f.0.0) same in (0, omega (arith, place), ap (λ f. Some f.1) same)
+  by_test false e rest = let r = rest e in (suc r.0, omega (arith, r.1), r.2)
+
+pub table_stands : (tables : List Schema) (name : List ℕ) (found : Table × Schema) → table_after 0 name tables ≡ Some found → IsAt tables found.0 found.1
+table_stands tables name found h =
+    let f = stands_from 0 name tables found h in
+    let same : f.0 ≡ found.0.0 = omega (arith, f.1) in
+    subst (λ i. slice_get tables i ≡ Some found.1) same f.2
+
+is_found : (tables : List Schema) (name : List ℕ) (found : Option (Table × Schema)) → table_after 0 name tables ≡ found → IsFound tables found
+is_found tables name None h = tt
+is_found tables name (Some f) h = table_stands tables name f h
+
+is_named : (tables : List Schema) (name : Option (List ℕ)) → IsFound tables (option_and_then (λ n. table_after 0 n tables) name)
+is_named tables None = tt
+is_named tables (Some name) = is_found tables name (table_after 0 name tables) refl
+
+pub stmt_of-keeps : (tables : List Schema) (written : StmtSyn) (s : Stmt) → stmt_of tables written ≡ Ok s → IsStmtOf tables s
+stmt_of-keeps tables written s h = stmt-keeps (option_and_then (λ n. table_after 0 n tables) (table_named written)) written s h tables (is_named tables (table_named written))
