@@ -1,5 +1,5 @@
 -- What is typed over columns has its kinds over them.
-use Rattle.std.proofs.Common.{ℤ, pos, ◌-ℤ◌, ℕ, zero, suc, ◌≡◌, ◌∙◌, ◌+◌, ◌<◌, sym, ap, refl, subst, arith, List, [], ◌∷◌, length, map, Option, Some, None, Bool, true, false, if◌then◌else◌, nat_eq, nat_le, slice_get, ◌&&◌}
+use Rattle.std.proofs.Common.{ℤ, pos, ◌-ℤ◌, ℕ, zero, suc, ◌≡◌, ◌∙◌, ◌+◌, sym, ap, refl, subst, arith, List, [], ◌∷◌, Option, Some, None, Bool, true, false, if◌then◌else◌, nat_eq, nat_le, slice_get}
 use Rattle.std.specs.Cmp.Lexicographic.{pointwise}
 use Rattle.gx_tree.specs.declared.schema.Column.{Column}
 use Rattle.gx_tree.specs.declared.schema.Kind.{Kind}
@@ -9,13 +9,12 @@ use Rattle.gx_tree.specs.declared.expr.ArithOp.{ArithOp}
 use Rattle.gx_tree.specs.declared.expr.Expr.{Expr}
 use Rattle.gx_tree.specs.declared.expr.Expr.TheVariants as expr
 use Rattle.gx_tree.specs.declared.cond.CmpOp.{CmpOp}
-use Rattle.gx_tree.specs.declared.cond.Cond.TheVariants as cond
 use Rattle.gx_grammar.specs.declared.syn.Op.{Op}
 use Rattle.gx_grammar.specs.declared.syn.Op.TheVariants as op
 use Rattle.gx_grammar.specs.declared.syn.Syn.{Syn, map-Syn}
 use Rattle.gx_grammar.specs.declared.syn.Syn.TheOpen.{Syn-F}
 use Rattle.gx_grammar.specs.declared.syn.Syn.TheViews.{roll-Syn}
-use Rattle.gx_grammar.specs.declared.syn.Syn.TheFolds.{fold-Syn, fold-roll-Syn, ind-Syn}
+use Rattle.gx_grammar.specs.declared.syn.Syn.TheFolds.{fold-roll-Syn, ind-Syn}
 use Rattle.gx_eval.specs.Kinds.{kind_of, is_typed}
 use Rattle.gx_eval.proofs.Nodes.{kind_of-lit, kind_of-col, kind_of-neg, kind_of-bin, is_typed-cmp, is_typed-and, is_typed-or, is_typed-not}
 use Rattle.gx_typing.specs.Columns.{column_from, column_of}

@@ -1,18 +1,13 @@
 -- What is resolved keeps the rules.
-use Rattle.std.proofs.Common.{ℕ, zero, suc, ◌≡◌, ◌≢◌, ◌∙◌, ◌+◌, ◌<◌, ◌≤◌, ◌⊎◌, inl, inr, sym, ap, refl, subst, arith, List, [], ◌∷◌, ◌++◌, length, map, Option, Some, None, Result, Ok, Err, Bool, true, false, not, if◌then◌else◌, nat_eq, ◌==◌, ◌&&◌, ◌||◌, is_some, is_none, ok_or, All, IfOk}
-use Rattle.std.specs.List.{AllByRecursion, list_any, list_all, flat_map}
-use Rattle.std.specs.Cmp.Lexicographic.{pointwise, same_text, other_text}
+use Rattle.std.proofs.Common.{ℕ, ◌≡◌, ◌∙◌, ◌+◌, ◌≤◌, inl, inr, sym, ap, refl, subst, arith, List, [], ◌∷◌, length, map, Option, Some, None, Ok, Err, Bool, true, false, not, ◌==◌, ◌&&◌, ◌||◌, is_some, is_none, ok_or, All}
+use Rattle.std.specs.List.{AllByRecursion, list_any, list_all}
 use Rattle.std.proofs.lemmas.Bool.Decides.{nat_tests}
 use Rattle.std.proofs.lemmas.List.Elements.{All-from_recursion}
-use Rattle.std.proofs.lemmas.List.Folds.{list_any-append}
 use Rattle.std.proofs.lemmas.Option.{slice_get_within}
 use Rattle.gx_ids.specs.declared.ids.Table.{Table}
 use Rattle.gx_tree.specs.declared.schema.Column.{Column}
 use Rattle.gx_tree.specs.declared.schema.Kind.{Kind}
 use Rattle.gx_tree.specs.declared.schema.Kind.TheVariants as kind
-use Rattle.gx_tree.specs.declared.schema.Schema.{Schema}
-use Rattle.gx_tree.specs.declared.schema.Dist.{Dist}
-use Rattle.gx_tree.specs.declared.schema.Dist.TheVariants as dist
 use Rattle.gx_tree.specs.declared.expr.Expr.{Expr}
 use Rattle.gx_tree.specs.declared.cond.Cond.{Cond}
 use Rattle.gx_tree.specs.declared.query.Item.{Item}
@@ -20,11 +15,6 @@ use Rattle.gx_tree.specs.declared.query.Item.TheVariants as item
 use Rattle.gx_tree.specs.declared.query.Key.{Key}
 use Rattle.gx_tree.specs.declared.query.Query.{Query}
 use Rattle.gx_tree.specs.declared.stmt.Assign.{Assign}
-use Rattle.gx_tree.specs.declared.stmt.Stmt.{Stmt}
-use Rattle.gx_tree.specs.declared.stmt.Stmt.TheVariants as stmt
-use Rattle.gx_modes.specs.declared.modes.Mode.{Mode}
-use Rattle.gx_modes.specs.declared.modes.Mode.TheVariants as mode
-use Rattle.gx_modes.specs.Table.{number_of}
 use Rattle.gx_grammar.specs.declared.syn.Syn.{Syn}
 use Rattle.gx_lines.specs.declared.classes.Agg.{Agg}
 use Rattle.gx_lines.specs.declared.classes.Agg.TheVariants as agg
@@ -43,10 +33,9 @@ use Rattle.gx_typing.specs.declared.typed.Typed.TheVariants as typed
 use Rattle.gx_eval.specs.Kinds.{kind_of, is_typed}
 use Rattle.gx_resolve.specs.declared.fault.NameFault.TheVariants.{UnknownColumn}
 use Rattle.gx_resolve.specs.Results.{Answer, ◌>>=◌, each}
-use Rattle.gx_resolve.specs.Naming.{is_among}
 use Rattle.gx_resolve.specs.Kinding.{column_at, value_as, cond_as, where_as, constant_as, values_as, tuple_as, assign_as}
 use Rattle.gx_resolve.specs.Selecting.{agg_as, item_as, columns_from, items_as, name_as, group_as, key_as, order_as, limit_as, is_aggregate, has_aggregate, is_grouped, is_listed, is_in, is_group_item, is_group_key, are_group_parts, keeps_groups, groups_kept, query_as}
-use Rattle.gx_resolve.specs.Rules.{column_kinds, IsColumn, HasColumn, HasKind, IsCond, IsItem, IsPlain, IsGroupItem, IsGroupKey, IsKey, KeepsGroups, IsQuery, IsTuple, IsAssign, IsOneOf}
+use Rattle.gx_resolve.specs.Rules.{column_kinds, IsColumn, HasColumn, HasKind, IsCond, IsItem, IsPlain, IsGroupItem, IsGroupKey, IsKey, KeepsGroups, IsQuery, IsTuple, IsOneOf}
 use Rattle.gx_resolve.proofs.Fitting.{Stands, stands, has_column, Fits, typed_fits}
 
 pub bind-ok : {A B : Type 0} (answer : Answer A) (next : A → Answer B) (b : B) → (answer >>= next) ≡ Ok b → (a : A) × (answer ≡ Ok a) × (next a ≡ Ok b)

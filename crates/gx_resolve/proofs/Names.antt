@@ -1,8 +1,6 @@
 -- Names that are looked at one after another.
-use Rattle.std.proofs.Common.{ℕ, zero, suc, ◌≡◌, ◌∙◌, ◌+◌, ◌<◌, ◌≤◌, sym, ap, refl, subst, arith, List, [], ◌∷◌, ◌++◌, length, take, drop, get_or, map, append_assoc, append-nil, drop-cons, add-one, Result, Ok, Err, Bool, true, false, if◌then◌else◌, ◌&&◌, ◌||◌, nat_eq}
+use Rattle.std.proofs.Common.{ℕ, zero, suc, ◌≡◌, ◌∙◌, ◌+◌, ◌<◌, ◌≤◌, sym, ap, refl, arith, List, [], ◌∷◌, ◌++◌, length, take, drop, get_or, map, drop-cons, add-one, Ok, Err, Bool, true, false, if◌then◌else◌, ◌&&◌, ◌||◌}
 use Rattle.std.specs.List.{list_any, list_all, flat_map}
-use Rattle.std.specs.Cmp.Lexicographic.{pointwise}
-use Rattle.std.proofs.Math.Seq.{take-suc}
 use Rattle.std.proofs.lemmas.List.{drop_all}
 use Rattle.std.proofs.lemmas.List.Folds.{list_all-append, list_all-map}
 use Rattle.gx_tree.specs.declared.schema.Column.{Column}

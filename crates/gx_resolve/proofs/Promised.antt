@@ -1,11 +1,10 @@
 -- A resolved statement and a table keep the rules.
-use Rattle.std.proofs.Common.{ℕ, zero, suc, ◌≡◌, ◌≢◌, ◌∙◌, ◌+◌, ◌<◌, ◌≤◌, ◌⊎◌, inl, inr, sym, ap, refl, subst, arith, List, [], ◌∷◌, ◌++◌, length, map, Option, Some, None, Result, Ok, Err, Bool, true, false, if◌then◌else◌, nat_eq, ◌==◌, ◌&&◌, ◌||◌, All, IfOk, MatchOption, slice_get}
+use Rattle.std.proofs.Common.{ℕ, suc, ◌≡◌, ◌∙◌, ◌+◌, ◌≤◌, inl, inr, sym, ap, refl, subst, arith, List, [], ◌∷◌, ◌++◌, length, map, Option, Some, None, Result, Ok, Err, Bool, true, false, if◌then◌else◌, nat_eq, ◌==◌, ◌||◌, All, IfOk, MatchOption, slice_get}
 use Rattle.std.specs.Option.{option_and_then}
-use Rattle.std.specs.List.{AllByRecursion, list_any, list_all, flat_map}
+use Rattle.std.specs.List.{list_all, flat_map}
 use Rattle.std.specs.Cmp.Lexicographic.{pointwise, same_text, other_text}
 use Rattle.std.proofs.lemmas.Bool.Decides.{nat_tests}
 use Rattle.std.proofs.lemmas.List.{length-map}
-use Rattle.std.proofs.lemmas.List.Elements.{All-from_recursion}
 use Rattle.std.proofs.lemmas.List.Folds.{list_any-append}
 use Rattle.gx_ids.specs.declared.ids.Table.{Table}
 use Rattle.gx_tree.specs.declared.schema.Column.{Column}
@@ -20,7 +19,6 @@ use Rattle.gx_tree.specs.declared.stmt.Stmt.TheVariants as stmt
 use Rattle.gx_modes.specs.declared.modes.Mode.{Mode}
 use Rattle.gx_modes.specs.declared.modes.Mode.TheVariants as mode
 use Rattle.gx_modes.specs.Table.{number_of}
-use Rattle.gx_grammar.specs.declared.syn.Syn.{Syn}
 use Rattle.gx_lines.specs.declared.syn.AssignSyn.{AssignSyn}
 use Rattle.gx_lines.specs.declared.syn.ColumnSyn.{ColumnSyn}
 use Rattle.gx_lines.specs.declared.syn.DistSyn.{DistSyn}
@@ -28,17 +26,17 @@ use Rattle.gx_lines.specs.declared.syn.DistSyn.TheVariants as dist_syn
 use Rattle.gx_lines.specs.declared.syn.TableSyn.{TableSyn}
 use Rattle.gx_lines.specs.declared.syn.StmtSyn.{StmtSyn}
 use Rattle.gx_lines.specs.declared.syn.StmtSyn.TheVariants as stmt_syn
-use Rattle.gx_resolve.specs.declared.fault.NameFault.TheVariants.{Syntax, UnknownColumn, KeyUpdate}
+use Rattle.gx_resolve.specs.declared.fault.NameFault.TheVariants.{Syntax, KeyUpdate}
 use Rattle.gx_resolve.specs.declared.fault.ResolveError.{ResolveError}
-use Rattle.gx_resolve.specs.Results.{Answer, ◌>>=◌, each, Says}
-use Rattle.gx_resolve.specs.Naming.{Name, Used, Given, is_column, is_among, names_in, where_names, assign_names, names_right, names_of, assign_right}
+use Rattle.gx_resolve.specs.Results.{each, Says}
+use Rattle.gx_resolve.specs.Naming.{Name, is_column, is_among, where_names, assign_names, names_right, names_of, assign_right}
 use Rattle.gx_resolve.specs.Kinding.{column_at, where_as, assign_as, tuple_as}
 use Rattle.gx_resolve.specs.Selecting.{query_as}
-use Rattle.gx_resolve.specs.Resolving.{kinded, assigns_to, updates, sets_key, key_kept, over_table, over_found, stmt_from, stmt_of, table_named, table_after, column_as, columns_new, dist_as, new_table, table_from}
-use Rattle.gx_resolve.specs.Rules.{IsOneOf, AreDistinct, IsColumn, IsCond, IsAssign, assigned_column, KeepsKey, IsUpdate, IsOver, table_of, IsAt, IsStmtOf, IsFound, column_text, IsDist, IsSchema}
+use Rattle.gx_resolve.specs.Resolving.{kinded, assigns_to, sets_key, key_kept, over_table, over_found, stmt_from, stmt_of, table_named, table_after, column_as, columns_new, dist_as, new_table, table_from}
+use Rattle.gx_resolve.specs.Rules.{IsOneOf, AreDistinct, IsAssign, assigned_column, KeepsKey, IsOver, table_of, IsAt, IsStmtOf, IsFound, column_text, IsDist, IsSchema}
 use Rattle.gx_resolve.proofs.Fitting.{Stands}
 use Rattle.gx_resolve.proofs.Names.{known, names_right-then, names_right-assign, assign_first}
-use Rattle.gx_resolve.proofs.Keeping.{bind-ok, same_ok, both-true, either-false, each-all, column_within, where-cond, assign-keeps, tuples-keep, query-keeps}
+use Rattle.gx_resolve.proofs.Keeping.{bind-ok, same_ok, either-false, each-all, column_within, where-cond, assign-keeps, tuples-keep, query-keeps}
 
 -- NAMES THAT STAND ONCE
 same_name : (x y : List ℕ) → pointwise nat_eq x y ≡ true → x ≡ y
