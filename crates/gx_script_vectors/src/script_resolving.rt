@@ -205,54 +205,91 @@ fn tables_are_right_or_not(rt: HostRuntime) {
     all_tables(&rt, alloc, true, TABLES_TWICE, "table exists");
 }
 
-// The statement of a line in figures: the table, and what stands in it by places.
-fn figures(stmt: &Stmt) -> (u8, usize, u8) {
+// The table of a statement that writes or locks, how much it writes, and the column or the mode.
+fn written(stmt: &Stmt) -> (u8, usize, u8) {
     match stmt {
-        Stmt::Select(query) => match (
-            query.items.as_slice().first(),
-            query.order.as_slice().first(),
-        ) {
-            (Some(Item::Sum(place)), Some(Key { col, desc: true })) => (
-                query.table.0,
-                query.group.len(),
-                *place * 16 + *col,
-            ),
-            (Some(Item::Col(place)), None) => (query.table.0, query.items.len(), *place),
-            _ => (0, 0, 0),
-        },
         Stmt::Insert(table, tuples) => (table.0, tuples.len(), 0),
         Stmt::Update(table, assigns, _) => match assigns.as_slice().first() {
             Some(assign) => (table.0, assigns.len(), assign.col),
-            None => (0, 0, 0),
+            None => (table.0, 0, 0),
         },
         Stmt::Delete(table, _) => (table.0, 0, 0),
         Stmt::Lock(table, mode) => (table.0, 0, *mode),
-        Stmt::Begin(_) | Stmt::Commit | Stmt::Rollback => (0, 0, 0),
+        Stmt::Select(_) => (0, 0, 0),
+        Stmt::Begin(_) => (0, 0, 0),
+        Stmt::Commit => (0, 0, 0),
+        Stmt::Rollback => (0, 0, 0),
     }
 }
 
-const FIGURES: [(&str, (u8, usize, u8)); 6] = [
-    ("s: SELECT * FROM t", (5, 3, 0)),
-    (
-        "s: SELECT SUM(c), b FROM t GROUP BY b, a ORDER BY b DESC",
-        (5, 2, 33),
-    ),
+// The last item of a query, its last key, and how many columns it groups by, where it groups.
+fn selected(stmt: &Stmt) -> Selected {
+    match stmt {
+        Stmt::Select(query) => {
+            let item = query.items.as_slice().last().copied();
+            let key = query.order.as_slice().last().copied();
+            let group = if query.grouped {
+                Some(query.group.len())
+            } else {
+                None
+            };
+            (item, key, group)
+        }
+        _ => (None, None, None),
+    }
+}
+
+const WRITTEN: [(&str, (u8, usize, u8)); 4] = [
     ("s: INSERT INTO t VALUES (1, '', 2), (3, '', 4)", (5, 2, 0)),
     ("s: UPDATE t SET c = 1, b = 'x'", (5, 2, 2)),
     ("s: DELETE FROM t", (5, 0, 0)),
     ("s: LOCK TABLE t IN EXCLUSIVE MODE", (5, 0, 7)),
 ];
 
+type Selected = (Option<Item>, Option<Key>, Option<usize>);
+
+const SELECTED: [(&str, Selected); 3] = [
+    ("s: SELECT * FROM t", (Some(Item::Col(2)), None, None)),
+    (
+        "s: SELECT b, SUM(c) FROM t GROUP BY b, a ORDER BY b DESC",
+        (
+            Some(Item::Sum(2)),
+            Some(Key { col: 1, desc: true }),
+            Some(2),
+        ),
+    ),
+    (
+        "s: SELECT COUNT(*) FROM t",
+        (Some(Item::Count), None, Some(0)),
+    ),
+];
+
 #[test]
-fn statements_are_over_places(rt: HostRuntime) {
+fn writes_are_at_places(rt: HostRuntime) {
     let alloc = rt.alloc();
     match table(alloc, false, TABLE) {
         Err(_error) => assert!(rt; false),
         Ok(schema) => {
-            for (line, want) in FIGURES {
+            for (line, want) in WRITTEN {
                 match stmt(alloc, &schema, line) {
                     Err(_error) => assert!(rt; false, "{line}"),
-                    Ok(stmt) => assert!(rt; figures(&stmt) == want, "{line}"),
+                    Ok(stmt) => assert!(rt; written(&stmt) == want, "{line}"),
+                }
+            }
+        }
+    }
+}
+
+#[test]
+fn queries_are_of_places(rt: HostRuntime) {
+    let alloc = rt.alloc();
+    match table(alloc, false, TABLE) {
+        Err(_error) => assert!(rt; false),
+        Ok(schema) => {
+            for (line, want) in SELECTED {
+                match stmt(alloc, &schema, line) {
+                    Err(_error) => assert!(rt; false, "{line}"),
+                    Ok(stmt) => assert!(rt; selected(&stmt) == want, "{line}"),
                 }
             }
         }
