@@ -1,5 +1,5 @@
 -- Loops over a list of parts: what was answered so far, and what is left.
-use Rattle.std.proofs.Common.{ℕ, suc, ◌≡◌, ◌≢◌, ◌∙◌, ◌+◌, ◌<◌, ◌≤◌, sym, ap, refl, subst, arith, List, [], ◌∷◌, ◌++◌, length, take, drop, get_or, append_assoc, append-nil, drop-cons, add-one, Result, Ok, Err}
+use Rattle.std.proofs.Common.{ℕ, suc, ◌≡◌, ◌≢◌, ◌∙◌, ◌+◌, ◌<◌, ◌≤◌, sym, ap, refl, arith, List, [], ◌∷◌, ◌++◌, length, drop, get_or, append_assoc, append-nil, drop-cons, add-one, Ok, Err}
 use Rattle.std.proofs.lemmas.List.{drop_all}
 use Rattle.gx_tree.specs.declared.expr.Expr.{Expr}
 use Rattle.gx_tree.specs.declared.schema.Column.{Column}
@@ -106,3 +106,5 @@ values_apart [] [] apart = absurd (apart refl)
 values_apart [] (v ∷ vs) apart = refl
 values_apart (c ∷ cs) [] apart = refl
 values_apart (c ∷ cs) (v ∷ vs) apart = then_fault (constant_as c.kind v) (values_as cs vs) (value_fault c.kind (typed_of [] v)) (values_apart cs vs (λ e. apart (ap suc e)))
+
+pub ruleset counts = (values_apart)

@@ -1,8 +1,6 @@
 -- Names that are looked at one after another.
-use Rattle.std.proofs.Common.{ℕ, zero, suc, ◌≡◌, ◌∙◌, ◌+◌, ◌<◌, ◌≤◌, sym, ap, refl, subst, arith, List, [], ◌∷◌, ◌++◌, length, take, drop, get_or, map, append_assoc, append-nil, drop-cons, add-one, Result, Ok, Err, Bool, true, false, if◌then◌else◌, ◌&&◌, ◌||◌, nat_eq}
+use Rattle.std.proofs.Common.{ℕ, zero, suc, ◌≡◌, ◌∙◌, ◌+◌, ◌<◌, ◌≤◌, sym, ap, refl, arith, List, [], ◌∷◌, ◌++◌, length, take, drop, get_or, map, drop-cons, add-one, Ok, Err, Bool, true, false, if◌then◌else◌, ◌&&◌, ◌||◌}
 use Rattle.std.specs.List.{list_any, list_all, flat_map}
-use Rattle.std.specs.Cmp.Lexicographic.{pointwise}
-use Rattle.std.proofs.Math.Seq.{take-suc}
 use Rattle.std.proofs.lemmas.List.{drop_all}
 use Rattle.std.proofs.lemmas.List.Folds.{list_all-append, list_all-map}
 use Rattle.gx_tree.specs.declared.schema.Column.{Column}
@@ -65,7 +63,7 @@ names_right-assign columns given a =
       both false false value = refl
 
 -- an assignment before other names
-assign_first : (columns : List Column) (given : List (List ℕ)) (a : AssignSyn) (names : List Name) → names_right columns given (assign_names a ++ names) ≡ (names_right columns given (assign_names a) >>= λ _. names_right columns (given ++ a.column ∷ []) names)
+pub assign_first : (columns : List Column) (given : List (List ℕ)) (a : AssignSyn) (names : List Name) → names_right columns given (assign_names a ++ names) ≡ (names_right columns given (assign_names a) >>= λ _. names_right columns (given ++ a.column ∷ []) names)
 assign_first columns given a names =
     ap (λ r. if is_among given a.column then Err Syntax else if is_column columns a.column then r else Err UnknownColumn) (used_first columns (given ++ a.column ∷ []) (names_in a.value) names)
     ∙ both (is_among given a.column) (is_column columns a.column) (list_all (is_column columns) (names_in a.value)) (names_right columns (given ++ a.column ∷ []) names)

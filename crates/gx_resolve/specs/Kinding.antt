@@ -14,7 +14,7 @@ use Rattle.gx_typing.specs.Typing.{typed_of}
 use Rattle.gx_typing.specs.declared.typed.Typed.{Typed}
 use Rattle.gx_typing.specs.declared.typed.Typed.TheVariants as typed
 use Rattle.gx_resolve.specs.declared.fault.NameFault.TheVariants.{UnknownColumn, TypeMismatch}
-use Rattle.gx_resolve.specs.Results.{Answer, ◌>>=◌, each}
+use Rattle.gx_resolve.specs.Results.{Answer, ◌>>=◌}
 
 -- the place and the kind of a column
 abbrev pub column_at : List Column → List ℕ → Answer (ℕ × Kind)

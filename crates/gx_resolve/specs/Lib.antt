@@ -3,3 +3,4 @@ pub mod Naming
 pub mod Kinding
 pub mod Selecting
 pub mod Resolving
+pub mod Rules

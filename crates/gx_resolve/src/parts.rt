@@ -100,17 +100,27 @@ fn constant_as(alloc: Global, kind: Kind, value: &Syn) -> Result<Expr, ResolveEr
     Ok(value_as(kind, type_expression(alloc, &[], value)?)?)
 }
 
-fn values_as(alloc: Global, columns: &[Column], values: &[Syn]) -> Result<Seq<Expr>, ResolveError>
+// As many values as there are columns.
+fn constants(alloc: Global, columns: &[Column], values: &[Syn]) -> Result<Seq<Expr>, ResolveError>
+    requires { length columns.now ≡ length values.now }
     ensures { Says result (of.values_as columns.now values.now) }
 {
-    if columns.len() != values.len() {
-        return Err(ResolveError::Fault(NameFault::TypeMismatch));
-    }
     let mut exprs = Seq::new(alloc);
     for (place, value) in values.iter().enumerate() {
         exprs.push(constant_as(alloc, columns[place].kind, value)?)?;
     }
     Ok(exprs)
+}
+
+#[tactic(auto, using(crate::proofs::Each::counts))]
+fn values_as(alloc: Global, columns: &[Column], values: &[Syn]) -> Result<Seq<Expr>, ResolveError>
+    ensures { Says result (of.values_as columns.now values.now) }
+{
+    if columns.len() == values.len() {
+        constants(alloc, columns, values)
+    } else {
+        Err(ResolveError::Fault(NameFault::TypeMismatch))
+    }
 }
 
 impl Written for TupleSyn {

@@ -1,8 +1,10 @@
 // Statements over the tables.
-ghost use Rattle.std.specs.Prelude.{◌≡◌, ◌≤◌, length, Option};
+ghost use Rattle.std.specs.Prelude.{◌≡◌, ◌≤◌, length, List, Option, IfOk};
 ghost use Rattle.std.specs.Option.{option_copied, option_map, ForSome};
 ghost use Rattle.gx_resolve.specs.Results.{Says};
 ghost use Rattle.gx_resolve.specs.Resolving as of;
+ghost use Rattle.gx_resolve.specs.Rules.{IsFound, IsStmtOf};
+ghost use Rattle.gx_tree.specs.declared.schema.Schema.{Schema as SchemaOf};
 
 use crate::fault::{NameFault, ResolveError};
 use crate::naming::check_names;
@@ -122,9 +124,7 @@ fn over_table(
     key_kept(schema.dist, resolved)
 }
 
-/// What a statement is over the tables, or what is wrong with it, given the place and the columns of the table that it
-/// names.
-pub fn resolve_stmt(
+fn resolved(
     alloc: Global,
     found: Option<(Table, &Schema)>,
     stmt: &StmtSyn,
@@ -141,4 +141,18 @@ pub fn resolve_stmt(
             Some((table, schema)) => over_table(alloc, table, schema, stmt),
         },
     }
+}
+
+/// What a statement is over the tables, or what is wrong with it, given the place and the columns of the table that it
+/// names.
+pub fn resolve_stmt(
+    alloc: Global,
+    found: Option<(Table, &Schema)>,
+    stmt: &StmtSyn,
+) -> Result<Stmt, ResolveError>
+    requires { ForSome found (λ f. length f.1.now.columns ≤ 256) }
+    ensures answer { Says result (of.stmt_from (option_map (λ f. (f.0, f.1.now)) found.entry) stmt.now) }
+    ensures rules { IfOk result (λ s. (tables : List SchemaOf) → IsFound tables (option_map (λ f. (f.0, f.1.now)) found.entry) → IsStmtOf tables s) }
+{
+    resolved(alloc, found, stmt)
 }

@@ -5,6 +5,7 @@ ghost use Rattle.std.specs.Cmp.Lexicographic.{pointwise};
 ghost use Rattle.gx_resolve.specs.Results.{Says};
 ghost use Rattle.gx_resolve.specs.Naming.{is_among};
 ghost use Rattle.gx_resolve.specs.Resolving as of;
+ghost use Rattle.gx_resolve.specs.Rules.{IsSchema};
 
 use crate::fault::{NameFault, ResolveError};
 use crate::parts::column_at;
@@ -87,8 +88,7 @@ fn new_table(alloc: Global, table: &TableSyn) -> Result<Schema, ResolveError>
     })
 }
 
-/// The table that a line declares, or what is wrong with it, given whether a table of its name is known.
-pub fn resolve_table(alloc: Global, known: bool, table: &TableSyn) -> Result<Schema, ResolveError>
+fn declared(alloc: Global, known: bool, table: &TableSyn) -> Result<Schema, ResolveError>
     requires { length table.now.columns ≤ 256 }
     ensures { Says result (of.table_from known table.now) }
 {
@@ -97,4 +97,13 @@ pub fn resolve_table(alloc: Global, known: bool, table: &TableSyn) -> Result<Sch
     } else {
         new_table(alloc, table)
     }
+}
+
+/// The table that a line declares, or what is wrong with it, given whether a table of its name is known.
+pub fn resolve_table(alloc: Global, known: bool, table: &TableSyn) -> Result<Schema, ResolveError>
+    requires { length table.now.columns ≤ 256 }
+    ensures answer { Says result (of.table_from known table.now) }
+    ensures rules { IfOk result (λ schema. 1 ≤ length table.now.columns → IsSchema schema) }
+{
+    declared(alloc, known, table)
 }
