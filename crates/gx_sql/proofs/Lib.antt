@@ -1,3 +1,12 @@
 pub mod Numbers
 pub mod Loops
 pub mod PlainScripts
+pub mod Cuts
+pub mod Verdicts
+pub mod Columns
+pub mod Held
+pub mod Named
+pub mod Room
+pub mod Saying
+pub mod Unique
+pub mod Steps

@@ -1,3 +1,12 @@
 pub mod Reading
 pub mod Words
 pub mod PlainScript
+pub mod Lines
+pub mod Cutting
+pub mod Held
+pub mod Errors
+pub mod Answering
+pub mod Progress
+pub mod Script
+pub mod Counts
+pub mod Begun

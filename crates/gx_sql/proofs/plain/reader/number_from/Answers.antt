@@ -1,4 +1,4 @@
-use Rattle.std.proofs.Common.{sym, arith, ◌≡◌, ◌*◌, ◌-◌, ◌+◌, ◌<◌, ◌^◌, get_or}
+use Rattle.std.proofs.Common.{sym, arith, ◌*◌, ◌-◌, ◌+◌, ◌<◌, ◌^◌, get_or}
 use Rattle.gx_sql.proofs.Numbers.{no_room_for_tens, no_room_for_digit, whole_number}
 use Rattle.gx_sql.proofs.plain.reader.number_from.Goals as goal
 
