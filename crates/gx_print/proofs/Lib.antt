@@ -1,0 +1,3 @@
+pub mod Cuts
+pub mod ShapeCut
+pub mod StmtCut

@@ -1,0 +1,5 @@
+pub mod Shapes
+pub mod Forms
+pub mod Statements
+pub mod Limited
+pub mod Written
