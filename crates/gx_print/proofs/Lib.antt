@@ -1,3 +1,6 @@
 pub mod Cuts
 pub mod ShapeCut
 pub mod StmtCut
+pub mod Levels
+pub mod Formed
+pub mod Shallow
