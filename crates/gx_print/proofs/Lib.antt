@@ -4,3 +4,5 @@ pub mod StmtCut
 pub mod Levels
 pub mod Formed
 pub mod Shallow
+pub mod StmtSpelled
+pub mod StmtWithin
