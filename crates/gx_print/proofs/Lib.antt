@@ -6,3 +6,4 @@ pub mod Formed
 pub mod Shallow
 pub mod StmtSpelled
 pub mod StmtWithin
+pub mod Nodes

@@ -3,3 +3,4 @@ pub mod Forms
 pub mod Statements
 pub mod Limited
 pub mod Written
+pub mod Levels

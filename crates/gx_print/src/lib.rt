@@ -1,6 +1,6 @@
-//! The printed form of a statement.
+//! The printed form of a statement, and that it reads back.
 #![tactic(auto)]
 
 pub mod bytes;
-
-pub use bytes::push_bytes;
+pub mod exprs;
+pub mod names;
