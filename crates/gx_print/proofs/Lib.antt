@@ -7,3 +7,4 @@ pub mod Shallow
 pub mod StmtSpelled
 pub mod StmtWithin
 pub mod Nodes
+pub mod CondNodes

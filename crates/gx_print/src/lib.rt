@@ -2,5 +2,7 @@
 #![tactic(auto)]
 
 pub mod bytes;
+pub mod conds;
 pub mod exprs;
+pub mod lists;
 pub mod names;
