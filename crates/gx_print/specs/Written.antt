@@ -130,15 +130,19 @@ unless_empty f (x ∷ xs) = Some (map f (x ∷ xs))
 abbrev pub to_size : ℕ → Size
 to_size n = record { 0 = Some n }
 
-abbrev pub query_syn : List Schema → Query → SelectSyn
-query_syn tables q = let columns = columns_of tables q.table.0 in record {
+-- a SELECT from the table of a name and of columns
+abbrev pub select_syn : List ℕ → List Column → Query → SelectSyn
+select_syn name columns q = record {
   items = items_syn.These (map (item_syn_of columns) q.items);
-  table = table_name tables q.table.0;
+  table = name;
   cond = option_map (cond_syn columns) q.cond;
   group = unless_empty (column_name columns) q.group;
   order = unless_empty (key_syn columns) q.order;
   limit = option_map to_size q.limit;
 }
+
+abbrev pub query_syn : List Schema → Query → SelectSyn
+query_syn tables q = select_syn (table_name tables q.table.0) (columns_of tables q.table.0) q
 
 abbrev pub tuple_syn : List Column → List Expr → TupleSyn
 tuple_syn columns es = record { values = map (expr_syn columns) es }

@@ -6,3 +6,7 @@ pub mod conds;
 pub mod exprs;
 pub mod lists;
 pub mod names;
+pub mod queries;
+pub mod stmts;
+
+pub use stmts::print_stmt;
