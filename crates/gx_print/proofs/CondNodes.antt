@@ -123,7 +123,7 @@ part-text : (columns : List Column) (c : Cond) (p n : ℕ) → n ≡ cond_level 
 part-text columns c p n l = ap shape_text (at_level-enclosed p (form_of (cond_syn columns c))) ∙ ap (λ (m : ℕ). shape_text (enclosed_if (nat_lt m p) (shape_of (cond_syn columns c)))) (cond_form-level columns c ∙ sym l)
 
 pub bin_cond_is : (columns : List Column) (c a b : Cond) (o : Op) (m n : ℕ) → cond_syn columns c ≡ syn.Bin o (cond_syn columns a) (cond_syn columns b) → m ≡ cond_level a → n ≡ cond_level b
-  → expr_text (cond_syn columns c) ≡ shape_text (enclosed_if (nat_lt m (left_level o)) (shape_of (cond_syn columns a))) ++ ((codes " " ++ (op_text o ++ codes " ")) ++ shape_text (enclosed_if (nat_lt n (level o + 1)) (shape_of (cond_syn columns b))))
+    → expr_text (cond_syn columns c) ≡ shape_text (enclosed_if (nat_lt m (left_level o)) (shape_of (cond_syn columns a))) ++ ((codes " " ++ (op_text o ++ codes " ")) ++ shape_text (enclosed_if (nat_lt n (level o + 1)) (shape_of (cond_syn columns b))))
 bin_cond_is columns c a b o m n is p q =
     let right : List ℕ = shape_text (at_level (level o + 1) (form_of (cond_syn columns b))) in
     let left : List ℕ = shape_text (enclosed_if (nat_lt m (left_level o)) (shape_of (cond_syn columns a))) in
@@ -136,9 +136,9 @@ pub not_cond_is : (columns : List Column) (c a : Cond) (n : ℕ) → c ≡ cond.
 not_cond_is columns c a n is p = ap (λ (x : Cond). expr_text (cond_syn columns x)) is ∙ ap (λ (f : Form). shape_text f.shape) (not_is_form columns a) ∙ ap (λ (t : List ℕ). codes "NOT " ++ t) (part-text columns a 3 n p)
 
 pub and_is : (columns : List Column) (c a b : Cond) (m n : ℕ) → c ≡ cond.And a b → m ≡ cond_level a → n ≡ cond_level b
-  → expr_text (cond_syn columns c) ≡ shape_text (enclosed_if (nat_lt m 2) (shape_of (cond_syn columns a))) ++ (codes " AND " ++ shape_text (enclosed_if (nat_lt n 3) (shape_of (cond_syn columns b))))
+    → expr_text (cond_syn columns c) ≡ shape_text (enclosed_if (nat_lt m 2) (shape_of (cond_syn columns a))) ++ (codes " AND " ++ shape_text (enclosed_if (nat_lt n 3) (shape_of (cond_syn columns b))))
 and_is columns c a b m n is p q = bin_cond_is columns c a b op.And m n (ap (cond_syn columns) is ∙ cond_syn-and columns a b) p q
 
 pub or_is : (columns : List Column) (c a b : Cond) (m n : ℕ) → c ≡ cond.Or a b → m ≡ cond_level a → n ≡ cond_level b
-  → expr_text (cond_syn columns c) ≡ shape_text (enclosed_if (nat_lt m 1) (shape_of (cond_syn columns a))) ++ (codes " OR " ++ shape_text (enclosed_if (nat_lt n 2) (shape_of (cond_syn columns b))))
+    → expr_text (cond_syn columns c) ≡ shape_text (enclosed_if (nat_lt m 1) (shape_of (cond_syn columns a))) ++ (codes " OR " ++ shape_text (enclosed_if (nat_lt n 2) (shape_of (cond_syn columns b))))
 or_is columns c a b m n is p q = bin_cond_is columns c a b op.Or m n (ap (cond_syn columns) is ∙ cond_syn-or columns a b) p q

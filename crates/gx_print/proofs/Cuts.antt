@@ -175,8 +175,8 @@ name_cuts (b ∷ n) i =
     let (l, s) = small_letter b i.0.0 in
     let p = plain (b ∷ n) (s, i.0.1) in
     is_token (token_of (word (b ∷ n))) (token.Name (b ∷ n)) (b ∷ n)
-        (name_token_is (b ∷ n) (smalls (b ∷ n)) (any is_capital (b ∷ n)) (keyword_of (smalls (b ∷ n))) p.same p.none (ap keyword_of p.same ∙ i.1))
-        (one_cuts (word (b ∷ n)) (λ rest e. ((l, p.bytes.1), word_ends rest e)))
+    (name_token_is (b ∷ n) (smalls (b ∷ n)) (any is_capital (b ∷ n)) (keyword_of (smalls (b ∷ n))) p.same p.none (ap keyword_of p.same ∙ i.1))
+    (one_cuts (word (b ∷ n)) (λ rest e. ((l, p.bytes.1), word_ends rest e)))
 
 -- numbers
 record Reads (n : ℕ) (ds : List ℕ) : Type 0 where

@@ -45,7 +45,7 @@ column_writes c = record { from = omega arith; to = omega arith; fits = omega ar
 
 neg_writes : (f : Form) (t : Syn) → Writes f t → Writes (minus_form f) (Neg t)
 neg_writes f t w = let (g, n) = minus_fits f.closed f t refl w in
-  record { from = omega arith; to = omega arith; fits = (omega arith, g, n); bare = λ e. absurd (cc); tree = ap Neg (minus_tree f.closed f t w) }
+    record { from = omega arith; to = omega arith; fits = (omega arith, g, n); bare = λ e. absurd (cc); tree = ap Neg (minus_tree f.closed f t w) }
 
 not_writes : (f : Form) (t : Syn) → Writes f t → Writes (not_form f) (Not t)
 not_writes f t w = record { from = omega arith; to = omega arith; fits = (omega arith, at_fits 3 f t (omega arith) w); bare = λ e. absurd (cc); tree = ap Not (at_tree 3 f t w) }

@@ -8,3 +8,4 @@ pub mod StmtSpelled
 pub mod StmtWithin
 pub mod Nodes
 pub mod CondNodes
+pub mod Printed

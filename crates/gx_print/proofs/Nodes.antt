@@ -175,7 +175,7 @@ pub neg_is : (columns : List Column) (e inner : Expr) (b : Bool) → e ≡ expr.
 neg_is columns e inner b is q = ap (λ (x : Expr). expr_text (expr_syn columns x)) is ∙ text-neg columns inner ∙ ap (λ (x : Bool). codes "-" ++ shape_text (enclosed_if x (shape_of (expr_syn columns inner)))) (sym q)
 
 pub bin_is : (columns : List Column) (e a b : Expr) (o : ArithOp) (l m n : ℕ) (sign : List ℕ) → e ≡ expr.Bin o a b → m ≡ level (arith_op o) → l ≡ expr_level a → n ≡ expr_level b → sign ≡ codes " " ++ (op_text (arith_op o) ++ codes " ")
-  → expr_text (expr_syn columns e) ≡ shape_text (enclosed_if (nat_lt l m) (shape_of (expr_syn columns a))) ++ (sign ++ shape_text (enclosed_if (nat_lt n (m + 1)) (shape_of (expr_syn columns b))))
+    → expr_text (expr_syn columns e) ≡ shape_text (enclosed_if (nat_lt l m) (shape_of (expr_syn columns a))) ++ (sign ++ shape_text (enclosed_if (nat_lt n (m + 1)) (shape_of (expr_syn columns b))))
 bin_is columns e a b o l m n sign is p q r s =
     let left : Bool → List ℕ = λ x. shape_text (enclosed_if x (shape_of (expr_syn columns a))) in
     let right : Bool → List ℕ = λ x. shape_text (enclosed_if x (shape_of (expr_syn columns b))) in

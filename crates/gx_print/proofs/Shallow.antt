@@ -31,7 +31,7 @@ form_is (parens s) = form_is s
 form_is (minus s) = ap form_of (sym (rolls-Neg (tree_of s))) ∙ fold-roll-Syn Form form_step (Syn-F.Neg (tree_of s)) ∙ ap minus_form (form_is s)
 form_is (negated s) = ap form_of (sym (rolls-Not (tree_of s))) ∙ fold-roll-Syn Form form_step (Syn-F.Not (tree_of s)) ∙ ap not_form (form_is s)
 form_is (both o a b) = ap form_of (sym (rolls-Bin o (tree_of a) (tree_of b))) ∙ fold-roll-Syn Form form_step (Syn-F.Bin o (tree_of a) (tree_of b))
-  ∙ ap (λ (f : Form). op_form o f (form_of (tree_of b))) (form_is a) ∙ ap (λ (f : Form). op_form o (form_again a) f) (form_is b)
+    ∙ ap (λ (f : Form). op_form o f (form_of (tree_of b))) (form_is a) ∙ ap (λ (f : Form). op_form o (form_again a) f) (form_is b)
 
 level_up : (s : Shape) → 1 ≤ (form_again s).level
 level_up (digits n) = omega arith
@@ -66,7 +66,7 @@ no_deeper (text t) = record { operand = λ d p n u f w. at_shape d n p (form_aga
 no_deeper (column c) = record { operand = λ d p n u f w. at_shape d n p (form_again (column c)) f w; behind = λ d n f z w. w }
 no_deeper (parens s) = let i = no_deeper s in record {
   operand = λ d p n u f w. let x = at_one d (n + 1) s (i.operand d 1 (n + 1) (omega arith) f.1 w) in
-    pick_le (λ y. Within d n false y) p (form_again s).level _ _ (λ l. within_down d (n + 1) n false (form_again s).shape (omega arith) x) (λ l. x);
+      pick_le (λ y. Within d n false y) p (form_again s).level _ _ (λ l. within_down d (n + 1) n false (form_again s).shape (omega arith) x) (λ l. x);
   behind = λ d n f z w. enclosed_in d n (form_again s).closed (form_again s).shape (at_one d n s (i.operand d 1 n (omega arith) f.1 w));
 }
 no_deeper (minus s) = let i = no_deeper s in record {
@@ -100,7 +100,7 @@ same_operators (parens s) = same_operators s
 same_operators (minus s) = ap (λ (n : ℕ). 1 + n) (operators_enclosed (form_again s).closed (form_again s).shape ∙ same_operators s)
 same_operators (negated s) = ap (λ (n : ℕ). 1 + n) (operators_at 3 (form_again s) ∙ same_operators s)
 same_operators (both o a b) = ap (λ (n : ℕ). n + (1 + operators_of (at_level (level o + 1) (form_again b)))) (operators_at (left_level o) (form_again a) ∙ same_operators a)
-  ∙ ap (λ (n : ℕ). operators_of a + (1 + n)) (operators_at (level o + 1) (form_again b) ∙ same_operators b)
+    ∙ ap (λ (n : ℕ). operators_of a + (1 + n)) (operators_at (level o + 1) (form_again b) ∙ same_operators b)
 
 -- what is written within the limits is shallow: its own writing has the parentheses that the printed form has
 pub expr_shallow : (d : Limits) (t : Syn) (ts : List Token) → expr d t ts → IsShallow d t

@@ -13,6 +13,9 @@ use Rattle.gx_lines.specs.declared.syn.TupleSyn.{TupleSyn}
 use Rattle.gx_lines.specs.declared.syn.AssignSyn.{AssignSyn}
 use Rattle.gx_lines.specs.declared.syn.StmtSyn.{StmtSyn}
 use Rattle.gx_lines.specs.declared.syn.StmtSyn.TheVariants as stmt
+use Rattle.gx_lex.specs.declared.token.Token.{Token}
+use Rattle.gx_lex.specs.Lexing.{Lexes}
+use Rattle.gx_lines.specs.Statements.{stmt as spelled}
 use Rattle.gx_print.specs.Shapes.{IsName, IsNumber, IsClear}
 use Rattle.gx_print.specs.Forms.{shape_of, IsShallow}
 
@@ -109,3 +112,7 @@ StmtClear (stmt.Update t assigns cond) = IsName t × Some_each AssignClear assig
 StmtClear (stmt.Delete t cond) = IsName t × Maybe SynClear cond
 StmtClear (stmt.Lock t m) = IsName t
 StmtClear _ = Unit {0}
+
+-- these bytes are cut into tokens that the rules of the language spell as this statement
+abbrev pub IsPrintedAs : Limits → StmtSyn → List ℕ → Type 0
+IsPrintedAs d s bytes = (ts : List Token) × Lexes ts bytes × spelled d s ts

@@ -4,6 +4,7 @@
 pub mod bytes;
 pub mod conds;
 pub mod exprs;
+pub mod laws;
 pub mod lists;
 pub mod names;
 pub mod queries;

@@ -2,8 +2,10 @@
 ghost use Rattle.std.specs.Prelude.{◌≡◌, ◌++◌, codes, OnOk, IfOk, map};
 ghost use Rattle.std.specs.Option.{option_map};
 ghost use Rattle.gx_lines.specs.declared.syn.StmtSyn.TheVariants.{Insert, Update, Delete};
+ghost use Rattle.gx_grammar.specs.declared.fault.Limits.{Limits};
 ghost use Rattle.gx_print.specs.Statements as of;
-ghost use Rattle.gx_print.specs.Written.{cond_syn, tuple_syn, assign_syn, mode_at, printed};
+ghost use Rattle.gx_print.specs.Limited.{IsWithin, StmtClear, IsPrintedAs};
+ghost use Rattle.gx_print.specs.Written.{cond_syn, tuple_syn, assign_syn, mode_at, written, printed};
 
 use crate::bytes::push_bytes;
 use crate::exprs::push_expr;
@@ -92,12 +94,7 @@ fn mode_words(number: u8) -> &'static [u8]
     }
 }
 
-fn push_insert(
-    text: &mut Vec<u8>,
-    name: &[u8],
-    columns: &[Column],
-    tuples: &[Seq<Expr>],
-) -> Mem<()>
+fn push_insert(text: &mut Vec<u8>, name: &[u8], columns: &[Column], tuples: &[Seq<Expr>]) -> Mem<()>
     ensures { OnOk result (text.new.items ≡ text.old.items ++ of.stmt_text (Insert name.now (map (tuple_syn columns.now) tuples.now))) }
 {
     push_bytes(text, b"INSERT INTO ")?;
@@ -122,12 +119,7 @@ fn push_update(
     push_where(text, columns, cond)
 }
 
-fn push_delete(
-    text: &mut Vec<u8>,
-    name: &[u8],
-    columns: &[Column],
-    cond: &Option<Cond>,
-) -> Mem<()>
+fn push_delete(text: &mut Vec<u8>, name: &[u8], columns: &[Column], cond: &Option<Cond>) -> Mem<()>
     ensures { OnOk result (text.new.items ≡ text.old.items ++ of.stmt_text (Delete name.now (option_map (cond_syn columns.now) cond.now))) }
 {
     push_bytes(text, b"DELETE FROM ")?;
@@ -172,11 +164,19 @@ fn push_stmt(text: &mut Vec<u8>, tables: &[Schema], stmt: &Stmt) -> Mem<()>
     }
 }
 
-/// The printed form of a statement over its tables.
-pub fn print_stmt(alloc: Global, tables: &[Schema], stmt: &Stmt) -> Mem<Vec<u8>>
+fn print(alloc: Global, tables: &[Schema], stmt: &Stmt) -> Mem<Vec<u8>>
     ensures { IfOk result (λ bytes. bytes.items ≡ printed tables.now stmt.now) }
 {
     let mut text = Vec::new(alloc);
     push_stmt(&mut text, tables, stmt)?;
     Ok(text)
+}
+
+/// The printed form of a statement over its tables.
+pub fn print_stmt(alloc: Global, tables: &[Schema], stmt: &Stmt) -> Mem<Vec<u8>>
+    ensures form { IfOk result (λ bytes. bytes.items ≡ printed tables.now stmt.now) }
+    // The bytes are cut into tokens that the rules of the language spell as the statement.
+    ensures again { (d : Limits) → StmtClear (written tables.now stmt.now) → IsWithin d (written tables.now stmt.now) → IfOk result (λ bytes. IsPrintedAs d (written tables.now stmt.now) bytes.items) }
+{
+    print(alloc, tables, stmt)
 }

@@ -1,0 +1,33 @@
+// The printed form reads back: its tokens are written so, and what was read is printed within the limits.
+ghost use Rattle.std.specs.Prelude.{◌≡◌, List};
+ghost use Rattle.gx_lex.specs.declared.token.Token.{Token};
+ghost use Rattle.gx_lex.specs.Lexing.{Lexes};
+ghost use Rattle.gx_grammar.specs.declared.fault.Limits.{Limits};
+ghost use Rattle.gx_grammar.specs.declared.syn.Syn.{Syn};
+ghost use Rattle.gx_grammar.specs.Grammar.{expr};
+ghost use Rattle.gx_lines.specs.declared.syn.StmtSyn.{StmtSyn};
+ghost use Rattle.gx_lines.specs.Statements.{stmt};
+ghost use Rattle.gx_print.specs.Forms.{IsShallow};
+ghost use Rattle.gx_print.specs.Statements.{stmt_tokens, stmt_text};
+ghost use Rattle.gx_print.specs.Limited.{IsWithin, StmtClear};
+
+/// A statement's bytes are cut into its tokens.
+pub fn printed_is_cut()
+    ensures { (s : StmtSyn) → StmtClear s → Lexes (stmt_tokens s) (stmt_text s) }
+{}
+
+/// A statement that is printed within the limits is spelled by its tokens, so they are read back as it.
+pub fn printed_is_spelled()
+    ensures { (d : Limits) (s : StmtSyn) → IsWithin d s → stmt d s (stmt_tokens s) }
+{}
+
+/// An expression that was read within the limits is printed within them: its own writing has the parentheses that the
+/// printed form has.
+pub fn read_is_shallow()
+    ensures { (d : Limits) (t : Syn) (ts : List Token) → expr d t ts → IsShallow d t }
+{}
+
+/// A statement that was read within the limits is printed within them.
+pub fn read_is_within()
+    ensures { (d : Limits) (s : StmtSyn) (ts : List Token) → stmt d s ts → IsWithin d s }
+{}
