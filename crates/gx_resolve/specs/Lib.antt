@@ -1,0 +1,6 @@
+pub mod Results
+pub mod Naming
+pub mod Kinding
+pub mod Selecting
+pub mod Resolving
+pub mod Rules
