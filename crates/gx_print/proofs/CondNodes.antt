@@ -1,5 +1,5 @@
 -- What the definitions give at each kind of condition.
-use Rattle.std.proofs.Common.{◌≡◌, ◌∙◌, sym, ap, ℕ, ◌+◌, ◌≤◌, nat_lt, nat_le, ◌++◌, codes, Bool, true, false, if◌then◌else◌, List, subst, refl, arith, append_assoc}
+use Rattle.std.proofs.Common.{◌≡◌, ◌∙◌, sym, ap, ℕ, ◌+◌, ◌≤◌, nat_lt, ◌++◌, codes, List, subst, refl, arith, append_assoc}
 use Rattle.gx_tree.specs.declared.schema.Column.{Column}
 use Rattle.gx_tree.specs.declared.expr.ArithOp.{ArithOp}
 use Rattle.gx_tree.specs.declared.expr.ArithOp.TheVariants as ariths

@@ -1,5 +1,5 @@
 -- Levels and tests.
-use Rattle.std.proofs.Common.{◌≡◌, ℕ, ◌+◌, ◌<◌, ◌≤◌, nat_le, Bool, true, false, if◌then◌else◌, List, length, refl, arith}
+use Rattle.std.proofs.Common.{◌≡◌, ℕ, ◌+◌, ◌<◌, ◌≤◌, nat_le, Bool, true, false, if◌then◌else◌, length, refl, arith}
 use Rattle.gx_grammar.specs.declared.fault.Limits.{Limits}
 use Rattle.gx_grammar.specs.declared.syn.Op.{Op}
 use Rattle.gx_grammar.specs.Grammar.{level, left_level, Shape, digits, minus_digits, text, column, parens, minus, negated, both, Fits, Within}

@@ -1,5 +1,5 @@
 -- What the definitions give at each kind of node.
-use Rattle.std.proofs.Common.{◌≡◌, ◌∙◌, sym, ap, ℕ, ◌+◌, ◌≤◌, nat_lt, nat_le, ◌++◌, codes, Bool, true, false, List, Option, Some, pos, negsuc, suc, subst, refl, arith, append_assoc}
+use Rattle.std.proofs.Common.{◌≡◌, ◌∙◌, sym, ap, ℕ, ◌+◌, nat_lt, ◌++◌, codes, Bool, true, false, List, Option, Some, pos, negsuc, suc, subst, refl, arith, append_assoc}
 use Rattle.gx_tree.specs.declared.value.Value.{Value}
 use Rattle.gx_tree.specs.declared.value.Value.TheVariants as value
 use Rattle.gx_tree.specs.declared.schema.Column.{Column}
@@ -23,11 +23,11 @@ use Rattle.gx_grammar.specs.declared.syn.Syn.TheVariants as syn
 use Rattle.gx_grammar.specs.declared.syn.Syn.TheVariants.{rolls-Number, rolls-Text, rolls-Column}
 use Rattle.gx_grammar.specs.declared.syn.Syn.TheOpen.{Syn-F}
 use Rattle.gx_grammar.specs.declared.syn.Syn.TheFolds.{fold-roll-Syn}
-use Rattle.gx_grammar.specs.Grammar.{Shape, parens, level, left_level}
+use Rattle.gx_grammar.specs.Grammar.{level, left_level}
 use Rattle.gx_print.specs.Shapes.{shape_text, op_text}
 use Rattle.gx_print.specs.Forms.{Form, enclosed_if, at_level, number_form, text_form, column_form, minus_form, not_form, op_form, form_step, form_of, shape_of}
 use Rattle.gx_print.specs.Statements.{expr_text}
-use Rattle.gx_print.specs.Levels.{expr_level, expr_level_step, is_number, is_closed, closed_step, cond_level, cond_level_step}
+use Rattle.gx_print.specs.Levels.{expr_level, expr_level_step, is_number, is_closed, closed_step}
 use Rattle.gx_print.specs.Written.{column_name, value_syn, arith_op, cmp_op, expr_syn, expr_step, cond_syn, cond_step}
 
 pub form_of-number : (b : Bool) (n : Option ℕ) → form_of (syn.Number b n) ≡ number_form b n

@@ -1,12 +1,11 @@
 -- The bytes of a way of writing an expression are cut into its tokens.
-use Rattle.std.proofs.Common.{◌≡◌, ℕ, List, [], ◌∷◌, ◌++◌, codes, refl}
+use Rattle.std.proofs.Common.{[], ◌∷◌, codes, refl}
 use Rattle.gx_lex.specs.declared.word.Word.TheVariants as word
 use Rattle.gx_lex.specs.declared.symbol.Symbol.TheVariants as symbol
-use Rattle.gx_lex.specs.declared.token.Token.TheVariants as token
 use Rattle.gx_grammar.specs.declared.syn.Op.{Op}
 use Rattle.gx_grammar.specs.declared.syn.Op.TheVariants.{Or, And, Equal, NotEqual, Less, LessEqual, Greater, GreaterEqual, Add, Sub, Mul, Div, Rem}
 use Rattle.gx_grammar.specs.Grammar.{Shape, digits, minus_digits, text, column, parens, minus, negated, both, tokens_of, written}
-use Rattle.gx_print.specs.Shapes.{shape_text, op_text, number_text, IsClear}
+use Rattle.gx_print.specs.Shapes.{shape_text, op_text, IsClear}
 use Rattle.gx_print.proofs.Cuts.{Cuts, behind, also, spaced, enclosed, negative, lone, keyword, name_cuts, number_cuts, text_cuts, less_ends, greater_ends}
 
 op_cuts : (o : Op) → Cuts (written o ∷ []) (op_text o)

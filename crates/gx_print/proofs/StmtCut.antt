@@ -1,6 +1,6 @@
 -- The bytes of a statement are cut into its tokens.
 use Rattle.std.specs.List.{flat_map}
-use Rattle.std.proofs.Common.{◌≡◌, ℕ, List, [], ◌∷◌, ◌++◌, codes, Option, Some, None, refl, subst, append-nil}
+use Rattle.std.proofs.Common.{ℕ, List, [], ◌∷◌, ◌++◌, codes, Option, Some, None, refl, subst, append-nil}
 use Rattle.gx_lex.specs.declared.word.Word.TheVariants as word
 use Rattle.gx_lex.specs.declared.symbol.Symbol.TheVariants as symbol
 use Rattle.gx_lex.specs.declared.token.Token.{Token}
@@ -26,9 +26,9 @@ use Rattle.gx_lines.specs.declared.syn.TupleSyn.{TupleSyn}
 use Rattle.gx_lines.specs.declared.syn.AssignSyn.{AssignSyn}
 use Rattle.gx_lines.specs.declared.syn.StmtSyn.{StmtSyn}
 use Rattle.gx_lines.specs.declared.syn.StmtSyn.TheVariants as stmt
-use Rattle.gx_print.specs.Shapes.{IsName, shape_text}
+use Rattle.gx_print.specs.Shapes.{IsName}
 use Rattle.gx_print.specs.Forms.{shape_of}
-use Rattle.gx_print.specs.Statements.{expr_tokens, name_token, list_tokens, part_tokens, agg_word, item_tokens, items_tokens, direction_word, direction_tokens, key_tokens, where_tokens, group_tokens, order_tokens, size_tokens, limit_tokens, select_tokens, tuple_tokens, assign_tokens, begin_tokens, mode_tokens, stmt_tokens, expr_text, list_text, part_text, agg_text, item_text, items_text, direction_text, key_text, where_text, group_text, order_text, size_text, limit_text, select_text, tuple_text, assign_text, begin_text, mode_text, stmt_text}
+use Rattle.gx_print.specs.Statements.{expr_tokens, name_token, list_tokens, part_tokens, agg_word, item_tokens, items_tokens, direction_tokens, key_tokens, where_tokens, group_tokens, order_tokens, size_tokens, limit_tokens, select_tokens, tuple_tokens, assign_tokens, begin_tokens, mode_tokens, stmt_tokens, expr_text, list_text, part_text, agg_text, item_text, items_text, direction_text, key_text, where_text, group_text, order_text, size_text, limit_text, select_text, tuple_text, assign_text, begin_text, mode_text, stmt_text}
 use Rattle.gx_print.specs.Limited.{Each, Some_each, Maybe, SynClear, ItemClear, ItemsClear, KeyClear, SizeClear, SelectClear, TupleClear, AssignClear, StmtClear}
 use Rattle.gx_print.proofs.Cuts.{Cuts, Follows, behind, also, nothing, spaced, comma, enclosed, called, lone, keyword, name_cuts, number_cuts}
 use Rattle.gx_print.proofs.ShapeCut.{shape_cuts}

@@ -1,5 +1,5 @@
 -- The printed tokens of a statement within the limits are spelled by the rules of the language.
-use Rattle.std.proofs.Common.{◌≡◌, ◌⊎◌, inl, inr, ℕ, ◌≤◌, nat_le, Bool, true, false, if◌then◌else◌, List, [], ◌∷◌, ◌++◌, length, Option, Some, None, refl, arith}
+use Rattle.std.proofs.Common.{◌≡◌, inl, inr, ℕ, Bool, true, if◌then◌else◌, List, [], ◌∷◌, ◌++◌, length, Option, Some, None, refl, arith}
 use Rattle.std.specs.List.{flat_map}
 use Rattle.gx_lex.specs.declared.word.Word.TheVariants as word
 use Rattle.gx_lex.specs.declared.symbol.Symbol.TheVariants as symbol
@@ -12,8 +12,8 @@ use Rattle.gx_modes.specs.declared.modes.Mode.TheVariants as mode
 use Rattle.gx_grammar.specs.declared.fault.Limits.{Limits}
 use Rattle.gx_grammar.specs.declared.fault.LineLimit.TheVariants as limit
 use Rattle.gx_grammar.specs.declared.syn.Syn.{Syn}
-use Rattle.gx_grammar.specs.Rules.{Pick, Is, Isnt, Passes, one, both, maybe, many, made, either, marked, behind}
-use Rattle.gx_grammar.specs.Tokens.{is_word, is_sign, name_of, is_comma, listed, enclosed}
+use Rattle.gx_grammar.specs.Rules.{Is, Isnt, Passes, one, maybe, many, marked, behind}
+use Rattle.gx_grammar.specs.Tokens.{is_word, is_sign, is_comma, listed, enclosed}
 use Rattle.gx_grammar.specs.Grammar.{expr}
 use Rattle.gx_lines.specs.declared.classes.Agg.{Agg}
 use Rattle.gx_lines.specs.declared.classes.Agg.TheVariants as agg
@@ -34,8 +34,8 @@ use Rattle.gx_lines.specs.declared.syn.StmtSyn.TheVariants as stmt
 use Rattle.gx_lines.specs.Classes.{agg_of, direction_of, strength_of, size_of}
 use Rattle.gx_lines.specs.Queries as query
 use Rattle.gx_lines.specs.Statements as rule
-use Rattle.gx_print.specs.Forms.{shape_of, IsShallow}
-use Rattle.gx_print.specs.Statements.{expr_tokens, name_token, list_tokens, part_tokens, in_parens, agg_word, item_tokens, items_tokens, direction_word, direction_tokens, key_tokens, where_tokens, group_tokens, order_tokens, size_tokens, limit_tokens, select_tokens, tuple_tokens, assign_tokens, begin_tokens, mode_tokens, stmt_tokens}
+use Rattle.gx_print.specs.Forms.{IsShallow}
+use Rattle.gx_print.specs.Statements.{expr_tokens, name_token, list_tokens, part_tokens, in_parens, agg_word, item_tokens, items_tokens, direction_tokens, key_tokens, where_tokens, group_tokens, order_tokens, size_tokens, limit_tokens, select_tokens, tuple_tokens, assign_tokens, begin_tokens, mode_tokens, stmt_tokens}
 use Rattle.gx_print.specs.Limited.{Each, Some_each, Maybe, IsShort, ItemWithin, ItemsWithin, KeyWithin, SelectWithin, TupleWithin, AssignWithin, IsWithin}
 use Rattle.gx_print.proofs.Levels.{by_le}
 use Rattle.gx_print.proofs.Formed.{expr_spelled}

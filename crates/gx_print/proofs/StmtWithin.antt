@@ -1,41 +1,26 @@
 -- A statement that was read within the limits is within them as it is printed.
-use Rattle.std.proofs.Common.{◌≡◌, ◌⊎◌, inl, inr, ⊎_elim, ℕ, ◌≤◌, nat_le, Bool, true, false, if◌then◌else◌, List, [], ◌∷◌, ◌++◌, length, Option, Some, None, refl, sym, ◌∙◌, ap, subst, arith}
-use Rattle.std.specs.List.{flat_map}
+use Rattle.std.proofs.Common.{◌≡◌, inl, inr, ℕ, Bool, List, [], ◌∷◌, length, Option, Some, None, sym, subst}
 use Rattle.gx_lex.specs.declared.word.Word.TheVariants as word
 use Rattle.gx_lex.specs.declared.symbol.Symbol.TheVariants as symbol
 use Rattle.gx_lex.specs.declared.token.Token.{Token}
 use Rattle.gx_lex.specs.declared.token.Token.TheVariants as token
 use Rattle.gx_tree.specs.declared.stmt.Level.{Level}
-use Rattle.gx_tree.specs.declared.stmt.Level.TheVariants as level
-use Rattle.gx_modes.specs.declared.modes.Mode.{Mode}
-use Rattle.gx_modes.specs.declared.modes.Mode.TheVariants as mode
 use Rattle.gx_grammar.specs.declared.fault.Limits.{Limits}
 use Rattle.gx_grammar.specs.declared.fault.LineLimit.TheVariants as limit
 use Rattle.gx_grammar.specs.declared.syn.Syn.{Syn}
-use Rattle.gx_grammar.specs.Rules.{Pick, Is, Isnt, Passes, one, both, maybe, many, made, either, marked, behind}
+use Rattle.gx_grammar.specs.Rules.{Pick, Is, Passes, maybe, many, behind}
 use Rattle.gx_grammar.specs.Tokens.{is_word, is_sign, name_of, is_comma, listed, enclosed}
 use Rattle.gx_grammar.specs.Grammar.{expr}
-use Rattle.gx_lines.specs.declared.classes.Agg.{Agg}
-use Rattle.gx_lines.specs.declared.classes.Agg.TheVariants as agg
-use Rattle.gx_lines.specs.declared.classes.Direction.{Direction}
-use Rattle.gx_lines.specs.declared.classes.Direction.TheVariants as direction
-use Rattle.gx_lines.specs.declared.classes.Strength.TheVariants as strength
-use Rattle.gx_lines.specs.declared.classes.Size.{Size}
 use Rattle.gx_lines.specs.declared.syn.ItemSyn.{ItemSyn}
-use Rattle.gx_lines.specs.declared.syn.ItemSyn.TheVariants as item
 use Rattle.gx_lines.specs.declared.syn.ItemsSyn.{ItemsSyn}
-use Rattle.gx_lines.specs.declared.syn.ItemsSyn.TheVariants as items
 use Rattle.gx_lines.specs.declared.syn.KeySyn.{KeySyn}
 use Rattle.gx_lines.specs.declared.syn.SelectSyn.{SelectSyn}
 use Rattle.gx_lines.specs.declared.syn.TupleSyn.{TupleSyn}
 use Rattle.gx_lines.specs.declared.syn.AssignSyn.{AssignSyn}
 use Rattle.gx_lines.specs.declared.syn.StmtSyn.{StmtSyn}
-use Rattle.gx_lines.specs.declared.syn.StmtSyn.TheVariants as stmt
-use Rattle.gx_lines.specs.Classes.{agg_of, direction_of, strength_of, size_of}
 use Rattle.gx_lines.specs.Queries as query
 use Rattle.gx_lines.specs.Statements as rule
-use Rattle.gx_print.specs.Forms.{shape_of, IsShallow}
-use Rattle.gx_print.specs.Statements.{expr_tokens, name_token, list_tokens, part_tokens, in_parens, agg_word, item_tokens, items_tokens, direction_word, direction_tokens, key_tokens, where_tokens, group_tokens, order_tokens, size_tokens, limit_tokens, select_tokens, tuple_tokens, assign_tokens, begin_tokens, mode_tokens, stmt_tokens}
+use Rattle.gx_print.specs.Forms.{IsShallow}
 use Rattle.gx_print.specs.Limited.{Each, Some_each, Maybe, IsShort, ItemWithin, ItemsWithin, KeyWithin, SelectWithin, TupleWithin, AssignWithin, IsWithin}
 use Rattle.gx_print.proofs.Levels.{pick_le}
 use Rattle.gx_print.proofs.Shallow.{expr_shallow}

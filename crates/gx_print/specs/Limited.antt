@@ -1,5 +1,5 @@
 -- Statements that are within the limits, and whose names and numbers are those of the language.
-use Rattle.std.specs.Prelude.{◌≡◌, ℕ, ◌≤◌, List, [], ◌∷◌, length, Option, Some, None}
+use Rattle.std.specs.Prelude.{ℕ, ◌≤◌, List, [], ◌∷◌, length, Option, Some, None}
 use Rattle.gx_grammar.specs.declared.fault.Limits.{Limits}
 use Rattle.gx_grammar.specs.declared.syn.Syn.{Syn}
 use Rattle.gx_lines.specs.declared.classes.Size.{Size}

@@ -1,4 +1,4 @@
-use Rattle.std.proofs.Common.{◌≡◌, ◌++◌, ◌∙◌, ap, append_assoc, codes, List, ℕ, OnOk, subst, refl, map}
+use Rattle.std.proofs.Common.{◌≡◌, ◌++◌, ◌∙◌, codes, List, ℕ, OnOk, subst, refl, map}
 use Rattle.gx_print.specs.Statements.{list_text, tuple_text}
 use Rattle.gx_print.specs.Written.{tuple_syn}
 use Rattle.gx_print.proofs.Nodes.{joined, joined_twice}
