@@ -13,3 +13,6 @@ pub mod Tidying
 pub mod TidyForms
 pub mod Resolved
 pub mod AllColumns
+pub mod StmtNames
+pub mod QueryResolved
+pub mod StmtResolved

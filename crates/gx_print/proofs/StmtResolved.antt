@@ -1,0 +1,170 @@
+-- A statement that was read is printed as one that is read as the same.
+use Rattle.std.proofs.Common.{◌≡◌, ℕ, zero, suc, ◌+◌, ◌≤◌, nat_eq, Bool, true, false, if◌then◌else◌, List, [], ◌∷◌, ◌++◌, length, map, slice_get, Option, Some, None, Ok, Err, refl, sym, ◌∙◌, ap, subst, arith}
+use Rattle.std.specs.Option.{option_map}
+use Rattle.std.specs.Cmp.Lexicographic.{pointwise}
+use Rattle.gx_ids.specs.declared.ids.Table.{Table}
+use Rattle.gx_tree.specs.declared.schema.Column.{Column}
+use Rattle.gx_tree.specs.declared.schema.Dist.{Dist}
+use Rattle.gx_tree.specs.declared.schema.Schema.{Schema}
+use Rattle.gx_tree.specs.declared.expr.Expr.{Expr}
+use Rattle.gx_tree.specs.declared.cond.Cond.{Cond}
+use Rattle.gx_tree.specs.declared.query.Query.{Query}
+use Rattle.gx_tree.specs.declared.stmt.Assign.{Assign}
+use Rattle.gx_tree.specs.declared.stmt.Stmt.{Stmt}
+use Rattle.gx_tree.specs.declared.stmt.Stmt.TheVariants as stmt
+use Rattle.gx_modes.specs.Table.{number_of}
+use Rattle.gx_modes.specs.declared.modes.Mode.{Mode}
+use Rattle.gx_modes.specs.declared.modes.Mode.TheVariants as mode
+use Rattle.gx_grammar.specs.declared.fault.Limits.{Limits}
+use Rattle.gx_grammar.specs.declared.syn.Syn.{Syn}
+use Rattle.gx_lines.specs.declared.syn.SelectSyn.{SelectSyn}
+use Rattle.gx_lines.specs.declared.syn.TupleSyn.{TupleSyn}
+use Rattle.gx_lines.specs.declared.syn.AssignSyn.{AssignSyn}
+use Rattle.gx_lines.specs.declared.syn.StmtSyn.{StmtSyn}
+use Rattle.gx_lines.specs.declared.syn.StmtSyn.TheVariants as stmt_syn
+use Rattle.gx_resolve.specs.declared.fault.NameFault.TheVariants.{KeyUpdate}
+use Rattle.gx_resolve.specs.Results.{Answer, ◌>>=◌, each}
+use Rattle.gx_resolve.specs.Naming.{Name, names_of, names_right}
+use Rattle.gx_resolve.specs.Kinding.{where_as, tuple_as, assign_as}
+use Rattle.gx_resolve.specs.Selecting.{query_as}
+use Rattle.gx_resolve.specs.Resolving.{kinded, sets_key, key_kept, over_table, over_found, table_after, stmt_of}
+use Rattle.gx_resolve.specs.Rules.{AreDistinct, column_text}
+use Rattle.gx_print.specs.Limited.{Each, IsWithin}
+use Rattle.gx_print.specs.Written.{name_of_schema, columns_of_schema, table_name, columns_of, cond_syn, tuple_syn, assign_syn, select_syn, mode_at, written}
+use Rattle.gx_print.specs.Tidied.{tidy, tidy_select, tidy_tuple, tidy_assign, tidied}
+use Rattle.gx_print.specs.Reading.{IsTable, AreTables}
+use Rattle.gx_print.proofs.Tidying.{same_text}
+use Rattle.gx_print.proofs.Resolved.{bound, same_ok, goes, Again, list_again, where_again, tuple_again, assign_again}
+use Rattle.gx_print.proofs.QueryResolved.{QueryAgain, query_again}
+use Rattle.gx_print.proofs.StmtNames.{where_same, tuples_same, update_same, select_right}
+
+-- TABLES
+-- the table that is found, counted from a place
+abbrev FoundAt : List Schema → ℕ → List ℕ → Table × Schema → Type 0
+FoundAt tables from name f = (i : ℕ) × (f.0.0 ≡ from + i) × (slice_get tables i ≡ Some f.1) × (f.1.name ≡ name)
+
+found_by : (x : Schema) (xs : List Schema) (from : ℕ) (name : List ℕ) (f : Table × Schema) (b : Bool) → pointwise nat_eq x.name name ≡ b → (if b then Some (record { 0 = from }, x) else table_after (from + 1) name xs) ≡ Some f → (table_after (from + 1) name xs ≡ Some f → FoundAt xs (from + 1) name f) → FoundAt (x ∷ xs) from name f
+found_by x xs from name f true t e rest =
+    let this : Table = record { 0 = from } in
+    let same : (this, x) ≡ f = cc in
+    let place : from ≡ f.0.0 = ap (λ (p : Table × Schema). p.0.0) same in
+    let schema : x ≡ f.1 = ap (λ (p : Table × Schema). p.1) same in
+    (0, omega arith, ap (λ (y : Schema). Some y) schema, subst (λ (y : Schema). y.name ≡ name) schema (same_text x.name name t))
+found_by x xs from name f false t e rest = let (i, p, g, n) = rest e in (suc i, omega arith, g, n)
+
+found_from : (tables : List Schema) (from : ℕ) (name : List ℕ) (f : Table × Schema) → table_after from name tables ≡ Some f → FoundAt tables from name f
+found_from [] from name f e = absurd (cc)
+found_from (x ∷ xs) from name f e = found_by x xs from name f (pointwise nat_eq x.name name) refl e (found_from xs (from + 1) name f)
+
+record Found (tables : List Schema) (name : List ℕ) (f : Table × Schema) : Type 0 where
+  pub named : table_name tables f.0.0 ≡ name
+  pub columns : columns_of tables f.0.0 ≡ f.1.columns
+  pub at : slice_get tables f.0.0 ≡ Some f.1
+
+found : (tables : List Schema) (name : List ℕ) (f : Table × Schema) → table_after 0 name tables ≡ Some f → Found tables name f
+found tables name f e =
+    let (i, p, g, n) = found_from tables 0 name f e in
+    let same : i ≡ f.0.0 = omega arith in
+    let at : slice_get tables f.0.0 ≡ Some f.1 = subst (λ (k : ℕ). slice_get tables k ≡ Some f.1) same g in
+    record { named = ap name_of_schema at ∙ n; columns = ap columns_of_schema at; at = at }
+
+pub each_at : {A : Type 0} (P : A → Type 0) (xs : List A) (i : ℕ) (x : A) → Each P xs → slice_get xs i ≡ Some x → P x
+each_at P [] i x e h = absurd (cc)
+each_at P (y ∷ ys) zero x e h = let same : y ≡ x = cc in subst P same e.0
+each_at P (y ∷ ys) (suc i) x e h = each_at P ys i x e.1 h
+
+-- KINDS
+kept_is : (b : Bool) (r x : Stmt) → ◌≡◌ {A = Answer Stmt} (if b then Err KeyUpdate else Ok r) (Ok x) → r ≡ x
+kept_is true r x h = absurd (cc)
+kept_is false r x h = same_ok r x h
+
+mode_again : (m : Mode) → mode_at (number_of m) ≡ m
+mode_again mode.AccessShare = refl
+mode_again mode.RowShare = refl
+mode_again mode.RowExclusive = refl
+mode_again mode.ShareUpdateExclusive = refl
+mode_again mode.Share = refl
+mode_again mode.ShareRowExclusive = refl
+mode_again mode.Exclusive = refl
+mode_again mode.AccessExclusive = refl
+
+-- what is written of a statement over a table of a name and of columns
+abbrev written_over : List ℕ → List Column → Stmt → StmtSyn
+written_over name columns (stmt.Begin l) = stmt_syn.Begin l
+written_over name columns stmt.Commit = stmt_syn.Commit
+written_over name columns stmt.Rollback = stmt_syn.Rollback
+written_over name columns (stmt.Select q) = stmt_syn.Select (select_syn name columns q)
+written_over name columns (stmt.Insert t tuples) = stmt_syn.Insert name (map (tuple_syn columns) tuples)
+written_over name columns (stmt.Update t assigns cond) = stmt_syn.Update name (map (assign_syn columns) assigns) (option_map (cond_syn columns) cond)
+written_over name columns (stmt.Delete t cond) = stmt_syn.Delete name (option_map (cond_syn columns) cond)
+written_over name columns (stmt.Lock t m) = stmt_syn.Lock name (mode_at m)
+
+-- the statement's table is this one
+abbrev IsOf : ℕ → Stmt → Type 0
+IsOf n (stmt.Select q) = q.table.0 ≡ n
+IsOf n (stmt.Insert t tuples) = t.0 ≡ n
+IsOf n (stmt.Update t assigns cond) = t.0 ≡ n
+IsOf n (stmt.Delete t cond) = t.0 ≡ n
+IsOf n (stmt.Lock t m) = t.0 ≡ n
+IsOf n _ = Unit {0}
+
+over_is : (tables : List Schema) (n : ℕ) (x : Stmt) → IsOf n x → written tables x ≡ written_over (table_name tables n) (columns_of tables n) x
+over_is tables n (stmt.Begin l) e = refl
+over_is tables n stmt.Commit e = refl
+over_is tables n stmt.Rollback e = refl
+over_is tables n (stmt.Select q) e = ap (λ (k : ℕ). written_over (table_name tables k) (columns_of tables k) (stmt.Select q)) e
+over_is tables n (stmt.Insert t tuples) e = ap (λ (k : ℕ). written_over (table_name tables k) (columns_of tables k) (stmt.Insert t tuples)) e
+over_is tables n (stmt.Update t assigns cond) e = ap (λ (k : ℕ). written_over (table_name tables k) (columns_of tables k) (stmt.Update t assigns cond)) e
+over_is tables n (stmt.Delete t cond) e = ap (λ (k : ℕ). written_over (table_name tables k) (columns_of tables k) (stmt.Delete t cond)) e
+over_is tables n (stmt.Lock t m) e = ap (λ (k : ℕ). written_over (table_name tables k) (columns_of tables k) (stmt.Lock t m)) e
+
+record KindedAgain (table : Table) (name : List ℕ) (columns : List Column) (s : StmtSyn) (x : Stmt) : Type 0 where
+  pub of : IsOf table.0 x
+  pub written : written_over name columns x ≡ tidied columns s
+  pub again : kinded table columns (tidied columns s) ≡ Ok x
+
+module _ (d : Limits) (table : Table) (columns : List Column) (distinct : AreDistinct (map column_text columns)) where
+  select_kinded : (q : SelectSyn) (x : Stmt) → IsWithin d (stmt_syn.Select q) → kinded table columns (stmt_syn.Select q) ≡ Ok x → KindedAgain table q.table columns (stmt_syn.Select q) x
+  select_kinded q x w h =
+      let (r, p, e) = bound (query_as table columns q) (λ r. Ok (stmt.Select r)) x h in
+      let a = query_again d table columns q r distinct w p in
+      subst (KindedAgain table q.table columns (stmt_syn.Select q)) (same_ok (stmt.Select r) x e) (record {
+        of = ap (λ (t : Table). t.0) a.table_is;
+        written = ap stmt_syn.Select a.written;
+        again = goes (query_as table columns (tidy_select columns q)) (λ r. Ok (stmt.Select r)) r (stmt.Select r) a.again refl;
+      })
+
+  insert_kinded : (t : List ℕ) (tuples : List TupleSyn) (x : Stmt) → kinded table columns (stmt_syn.Insert t tuples) ≡ Ok x → KindedAgain table t columns (stmt_syn.Insert t tuples) x
+  insert_kinded t tuples x h =
+      let (rows, p, e) = bound (each (tuple_as columns) tuples) (λ rows. Ok (stmt.Insert table rows)) x h in
+      let a = list_again (tuple_as columns) (tuple_syn columns) tidy_tuple (tuple_again columns) tuples rows p in
+      subst (KindedAgain table t columns (stmt_syn.Insert t tuples)) (same_ok (stmt.Insert table rows) x e) (record {
+        of = refl;
+        written = ap (λ (ts : List TupleSyn). stmt_syn.Insert t ts) a.written;
+        again = goes (each (tuple_as columns) (map tidy_tuple tuples)) (λ rows. Ok (stmt.Insert table rows)) rows (stmt.Insert table rows) a.again refl;
+      })
+
+  update_kinded : (t : List ℕ) (assigns : List AssignSyn) (cond : Option Syn) (x : Stmt) → kinded table columns (stmt_syn.Update t assigns cond) ≡ Ok x → KindedAgain table t columns (stmt_syn.Update t assigns cond) x
+  update_kinded t assigns cond x h =
+      let (set, p, h) = bound (each (assign_as columns) assigns) (λ set. where_as columns cond >>= λ c. Ok (stmt.Update table set c)) x h in
+      let (c, q, e) = bound (where_as columns cond) (λ c. Ok (stmt.Update table set c)) x h in
+      let a = list_again (assign_as columns) (assign_syn columns) tidy_assign (assign_again columns) assigns set p in
+      let b = where_again columns cond c q in
+      subst (KindedAgain table t columns (stmt_syn.Update t assigns cond)) (same_ok (stmt.Update table set c) x e) (record {
+        of = refl;
+        written = ap (λ (xs : List AssignSyn). stmt_syn.Update t xs (option_map (cond_syn columns) c)) a.written ∙ ap (λ (o : Option Syn). stmt_syn.Update t (map tidy_assign assigns) o) b.written;
+        again = goes (each (assign_as columns) (map tidy_assign assigns)) (λ set. where_as columns (option_map tidy cond) >>= λ c. Ok (stmt.Update table set c)) set (stmt.Update table set c) a.again (goes (where_as columns (option_map tidy cond)) (λ c. Ok (stmt.Update table set c)) c (stmt.Update table set c) b.again refl);
+      })
+
+  delete_kinded : (t : List ℕ) (cond : Option Syn) (x : Stmt) → kinded table columns (stmt_syn.Delete t cond) ≡ Ok x → KindedAgain table t columns (stmt_syn.Delete t cond) x
+  delete_kinded t cond x h =
+      let (c, q, e) = bound (where_as columns cond) (λ c. Ok (stmt.Delete table c)) x h in
+      let b = where_again columns cond c q in
+      subst (KindedAgain table t columns (stmt_syn.Delete t cond)) (same_ok (stmt.Delete table c) x e) (record {
+        of = refl;
+        written = ap (λ (o : Option Syn). stmt_syn.Delete t o) b.written;
+        again = goes (where_as columns (option_map tidy cond)) (λ c. Ok (stmt.Delete table c)) c (stmt.Delete table c) b.again refl;
+      })
+
+  lock_kinded : (t : List ℕ) (m : Mode) (x : Stmt) → kinded table columns (stmt_syn.Lock t m) ≡ Ok x → KindedAgain table t columns (stmt_syn.Lock t m) x
+  lock_kinded t m x h = subst (KindedAgain table t columns (stmt_syn.Lock t m)) (same_ok (stmt.Lock table (number_of m)) x h) (record { of = refl; written = ap (λ (k : Mode). stmt_syn.Lock t k) (mode_again m); again = refl })
