@@ -15,4 +15,5 @@ pub mod Resolved
 pub mod AllColumns
 pub mod StmtNames
 pub mod QueryResolved
+pub mod TidyWithin
 pub mod StmtResolved

@@ -24,7 +24,7 @@ use Rattle.gx_lines.specs.declared.syn.StmtSyn.{StmtSyn}
 use Rattle.gx_lines.specs.declared.syn.StmtSyn.TheVariants as stmt_syn
 use Rattle.gx_resolve.specs.declared.fault.NameFault.TheVariants.{KeyUpdate}
 use Rattle.gx_resolve.specs.Results.{Answer, ◌>>=◌, each}
-use Rattle.gx_resolve.specs.Naming.{Name, names_of, names_right}
+use Rattle.gx_resolve.specs.Naming.{Name, Used, names_of, names_right}
 use Rattle.gx_resolve.specs.Kinding.{where_as, tuple_as, assign_as}
 use Rattle.gx_resolve.specs.Selecting.{query_as}
 use Rattle.gx_resolve.specs.Resolving.{kinded, sets_key, key_kept, over_table, over_found, table_after, stmt_of}
@@ -34,6 +34,7 @@ use Rattle.gx_print.specs.Written.{name_of_schema, columns_of_schema, table_name
 use Rattle.gx_print.specs.Tidied.{tidy, tidy_select, tidy_tuple, tidy_assign, tidied}
 use Rattle.gx_print.specs.Reading.{IsTable, AreTables}
 use Rattle.gx_print.proofs.Tidying.{same_text}
+use Rattle.gx_print.proofs.TidyWithin.{tidied_within}
 use Rattle.gx_print.proofs.Resolved.{bound, same_ok, goes, Again, list_again, where_again, tuple_again, assign_again}
 use Rattle.gx_print.proofs.QueryResolved.{QueryAgain, query_again}
 use Rattle.gx_print.proofs.StmtNames.{where_same, tuples_same, update_same, select_right}
@@ -168,3 +169,53 @@ module _ (d : Limits) (table : Table) (columns : List Column) (distinct : AreDis
 
   lock_kinded : (t : List ℕ) (m : Mode) (x : Stmt) → kinded table columns (stmt_syn.Lock t m) ≡ Ok x → KindedAgain table t columns (stmt_syn.Lock t m) x
   lock_kinded t m x h = subst (KindedAgain table t columns (stmt_syn.Lock t m)) (same_ok (stmt.Lock table (number_of m)) x h) (record { of = refl; written = ap (λ (k : Mode). stmt_syn.Lock t k) (mode_again m); again = refl })
+
+-- STATEMENTS OVER A TABLE
+record OverAgain (d : Limits) (tables : List Schema) (name : List ℕ) (s : StmtSyn) (x : Stmt) : Type 0 where
+  pub schema : Schema
+  pub table : IsTable d schema
+  pub written : written tables x ≡ tidied schema.columns s
+  pub again : over_found (table_after 0 name tables) (tidied schema.columns s) ≡ Ok x
+
+over_again : (d : Limits) (tables : List Schema) (name : List ℕ) (s : StmtSyn) (x : Stmt) → AreTables d tables
+  → ((columns : List Column) → names_right columns [] (names_of (tidied columns s)) ≡ names_right columns [] (names_of s))
+  → ((table : Table) (columns : List Column) (r : Stmt) → AreDistinct (map column_text columns) → kinded table columns s ≡ Ok r → KindedAgain table name columns s r)
+  → (o : Option (Table × Schema)) → table_after 0 name tables ≡ o → over_found o s ≡ Ok x → OverAgain d tables name s x
+over_again d tables name s x are names kinds None e h = absurd (cc)
+over_again d tables name s x are names kinds (Some f) e h =
+    let (u, p, h) = bound (names_right f.1.columns [] (names_of s)) (λ u. kinded f.0 f.1.columns s >>= λ r. key_kept f.1.dist r) x h in
+    let (r, q, h) = bound (kinded f.0 f.1.columns s) (λ r. key_kept f.1.dist r) x h in
+    let here = found tables name f e in
+    let is : IsTable d f.1 = each_at (IsTable d) tables f.0.0 f.1 are here.at in
+    let a = kinds f.0 f.1.columns r is.distinct q in
+    let same : r ≡ x = kept_is (sets_key f.1.dist r) r x h in
+    let text : written tables r ≡ tidied f.1.columns s = over_is tables f.0.0 r a.of ∙ ap (λ (n : List ℕ). written_over n (columns_of tables f.0.0) r) here.named ∙ ap (λ (cs : List Column). written_over name cs r) here.columns ∙ a.written in
+    record {
+      schema = f.1;
+      table = is;
+      written = subst (λ (y : Stmt). written tables y ≡ tidied f.1.columns s) same text;
+      again = ap (λ (o : Option (Table × Schema)). over_found o (tidied f.1.columns s)) e
+          ∙ goes (names_right f.1.columns [] (names_of (tidied f.1.columns s))) (λ u. kinded f.0 f.1.columns (tidied f.1.columns s) >>= λ r. key_kept f.1.dist r) u x (names f.1.columns ∙ p) (goes (kinded f.0 f.1.columns (tidied f.1.columns s)) (λ r. key_kept f.1.dist r) r x a.again h);
+    }
+
+-- ALL STATEMENTS
+pub record ReadAgain (d : Limits) (tables : List Schema) (s : StmtSyn) (x : Stmt) : Type 0 where
+  pub within : IsWithin d (written tables x)
+  pub again : stmt_of tables (written tables x) ≡ Ok x
+
+plain_again : (d : Limits) (tables : List Schema) (s : StmtSyn) (x : Stmt) → IsWithin d s → written tables x ≡ s → stmt_of tables s ≡ Ok x → ReadAgain d tables s x
+plain_again d tables s x w e h = record { within = subst (IsWithin d) (sym e) w; again = ap (stmt_of tables) e ∙ h }
+
+table_again : (d : Limits) (tables : List Schema) (name : List ℕ) (s : StmtSyn) (x : Stmt) → IsWithin d s → OverAgain d tables name s x → ((columns : List Column) → stmt_of tables (tidied columns s) ≡ over_found (table_after 0 name tables) (tidied columns s)) → ReadAgain d tables s x
+table_again d tables name s x w o is =
+    record { within = subst (IsWithin d) (sym o.written) (tidied_within d o.schema o.table s w); again = ap (stmt_of tables) o.written ∙ is o.schema.columns ∙ o.again }
+
+pub read_again : (d : Limits) (tables : List Schema) (s : StmtSyn) (x : Stmt) → AreTables d tables → IsWithin d s → stmt_of tables s ≡ Ok x → ReadAgain d tables s x
+read_again d tables (stmt_syn.Begin l) x are w h = plain_again d tables (stmt_syn.Begin l) x w (subst (λ (y : Stmt). written tables y ≡ stmt_syn.Begin l) (same_ok (stmt.Begin l) x h) refl) h
+read_again d tables stmt_syn.Commit x are w h = plain_again d tables stmt_syn.Commit x w (subst (λ (y : Stmt). written tables y ≡ stmt_syn.Commit) (same_ok stmt.Commit x h) refl) h
+read_again d tables stmt_syn.Rollback x are w h = plain_again d tables stmt_syn.Rollback x w (subst (λ (y : Stmt). written tables y ≡ stmt_syn.Rollback) (same_ok stmt.Rollback x h) refl) h
+read_again d tables (stmt_syn.Select q) x are w h = table_again d tables q.table (stmt_syn.Select q) x w (over_again d tables q.table (stmt_syn.Select q) x are (λ columns. select_right columns q) (λ table columns r distinct p. select_kinded d table columns distinct q r w p) (table_after 0 q.table tables) refl h) (λ columns. refl)
+read_again d tables (stmt_syn.Insert t tuples) x are w h = table_again d tables t (stmt_syn.Insert t tuples) x w (over_again d tables t (stmt_syn.Insert t tuples) x are (λ columns. ap (λ (ns : List (List ℕ)). names_right columns [] (map Used ns)) (tuples_same tuples)) (λ table columns r distinct p. insert_kinded d table columns distinct t tuples r p) (table_after 0 t tables) refl h) (λ columns. refl)
+read_again d tables (stmt_syn.Update t assigns cond) x are w h = table_again d tables t (stmt_syn.Update t assigns cond) x w (over_again d tables t (stmt_syn.Update t assigns cond) x are (λ columns. ap (λ (ns : List Name). names_right columns [] ns) (update_same assigns cond)) (λ table columns r distinct p. update_kinded d table columns distinct t assigns cond r p) (table_after 0 t tables) refl h) (λ columns. refl)
+read_again d tables (stmt_syn.Delete t cond) x are w h = table_again d tables t (stmt_syn.Delete t cond) x w (over_again d tables t (stmt_syn.Delete t cond) x are (λ columns. ap (λ (ns : List (List ℕ)). names_right columns [] (map Used ns)) (where_same cond)) (λ table columns r distinct p. delete_kinded d table columns distinct t cond r p) (table_after 0 t tables) refl h) (λ columns. refl)
+read_again d tables (stmt_syn.Lock t m) x are w h = table_again d tables t (stmt_syn.Lock t m) x w (over_again d tables t (stmt_syn.Lock t m) x are (λ columns. refl) (λ table columns r distinct p. lock_kinded d table columns distinct t m r p) (table_after 0 t tables) refl h) (λ columns. refl)

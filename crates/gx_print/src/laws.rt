@@ -1,5 +1,7 @@
 // The printed form reads back: its tokens are written so, and what was read is printed within the limits.
-ghost use Rattle.std.specs.Prelude.{◌≡◌, List};
+ghost use Rattle.std.specs.Prelude.{◌≡◌, List, Ok};
+ghost use Rattle.gx_tree.specs.declared.schema.Schema.{Schema};
+ghost use Rattle.gx_tree.specs.declared.stmt.Stmt.{Stmt};
 ghost use Rattle.gx_lex.specs.declared.token.Token.{Token};
 ghost use Rattle.gx_lex.specs.Lexing.{Lexes};
 ghost use Rattle.gx_grammar.specs.declared.fault.Limits.{Limits};
@@ -7,9 +9,12 @@ ghost use Rattle.gx_grammar.specs.declared.syn.Syn.{Syn};
 ghost use Rattle.gx_grammar.specs.Grammar.{expr};
 ghost use Rattle.gx_lines.specs.declared.syn.StmtSyn.{StmtSyn};
 ghost use Rattle.gx_lines.specs.Statements.{stmt};
+ghost use Rattle.gx_resolve.specs.Resolving.{stmt_of};
 ghost use Rattle.gx_print.specs.Forms.{IsShallow};
 ghost use Rattle.gx_print.specs.Statements.{stmt_tokens, stmt_text};
 ghost use Rattle.gx_print.specs.Limited.{IsWithin, StmtClear};
+ghost use Rattle.gx_print.specs.Written.{written};
+ghost use Rattle.gx_print.specs.Reading.{AreTables};
 
 /// A statement's bytes are cut into its tokens.
 pub fn printed_is_cut()
@@ -31,3 +36,9 @@ pub fn read_is_shallow()
 pub fn read_is_within()
     ensures { (d : Limits) (s : StmtSyn) (ts : List Token) → stmt d s ts → IsWithin d s }
 {}
+
+/// A statement that was read over tables is printed within the limits, and reads as the same statement.
+pub fn read_reads_again()
+    ensures { (d : Limits) (tables : List Schema) (s : StmtSyn) (x : Stmt) (ts : List Token) → AreTables d tables → stmt d s ts → stmt_of tables s ≡ Ok x → IsWithin d (written tables x) × (stmt_of tables (written tables x) ≡ Ok x) }
+{
+}
