@@ -8,4 +8,6 @@ mod script_lines;
 #[cfg(test)]
 mod script_modes;
 #[cfg(test)]
+mod script_printing;
+#[cfg(test)]
 mod script_typing;
