@@ -33,7 +33,9 @@ use Rattle.gx_resolve.specs.Kinding.{column_at, value_as, cond_as, where_as, con
 use Rattle.gx_resolve.specs.Selecting.{agg_as, item_as, name_as, descends, key_as}
 use Rattle.gx_print.specs.Written.{column_name, expr_syn, cond_syn, item_syn_of, direction_of_key, key_syn, tuple_syn, assign_syn}
 use Rattle.gx_print.specs.Tidied.{tidy, tidy_direction, tidy_key, tidy_tuple, tidy_assign}
-use Rattle.gx_print.proofs.Tidying.{column_again, Writes, written_tidy, typed_again}
+use Rattle.gx_print.specs.Shapes.{IsName}
+use Rattle.gx_print.specs.Limited.{Each, Maybe, SynClear, ItemClear, KeyClear, AssignClear}
+use Rattle.gx_print.proofs.Tidying.{HasName, column_again, column_clear, Writes, written_tidy, typed_again}
 
 -- ANSWERS
 pub bound : {A B : Type 0} (answer : Answer A) (next : A → Answer B) (b : B) → (answer >>= next) ≡ Ok b → (a : A) × (answer ≡ Ok a) × (next a ≡ Ok b)
@@ -93,23 +95,29 @@ cond_is (typed.Value k e) c h = absurd (cc)
 cond_is typed.Unknown c h = absurd (cc)
 cond_is typed.Mismatch c h = absurd (cc)
 
-module _ (columns : List Column) where
-  value_written : (k : Kind) (v : Syn) (e : Expr) → value_as k (typed_of columns v) ≡ Ok e → expr_syn columns e ≡ tidy v
-  value_written k v e h = subst (λ (t : Typed). Writes columns columns (column_again columns) t (tidy v)) (value_is k (typed_of columns v) e h) (written_tidy columns columns (column_again columns) v)
+module _ (columns : List Column) (clear : Each HasName columns) where
+  named : (name : List ℕ) (c : ℕ × Kind) → column_of name columns ≡ Some c → (column_name columns c.0 ≡ name) × IsName name
+  named name c e = (column_again columns name c e, column_clear columns 0 name c clear e)
 
-  none_named : (name : List ℕ) (c : ℕ × Kind) → column_of name [] ≡ Some c → column_name columns c.0 ≡ name
+  value_written : (k : Kind) (v : Syn) (e : Expr) → value_as k (typed_of columns v) ≡ Ok e → (expr_syn columns e ≡ tidy v) × SynClear (tidy v)
+  value_written k v e h = subst (λ (t : Typed). Writes columns columns named t (tidy v)) (value_is k (typed_of columns v) e h) (written_tidy columns columns named v)
+
+  none_named : (name : List ℕ) (c : ℕ × Kind) → column_of name [] ≡ Some c → (column_name columns c.0 ≡ name) × IsName name
   none_named name c e = absurd (cc)
 
-  constant_written : (k : Kind) (v : Syn) (e : Expr) → constant_as k v ≡ Ok e → expr_syn columns e ≡ tidy v
+  constant_written : (k : Kind) (v : Syn) (e : Expr) → constant_as k v ≡ Ok e → (expr_syn columns e ≡ tidy v) × SynClear (tidy v)
   constant_written k v e h = subst (λ (t : Typed). Writes columns [] none_named t (tidy v)) (value_is k (typed_of [] v) e h) (written_tidy columns [] none_named v)
+
+  cond_written : (t : Syn) (c : Cond) → cond_as (typed_of columns t) ≡ Ok c → (cond_syn columns c ≡ tidy t) × SynClear (tidy t)
+  cond_written t c h = subst (λ (x : Typed). Writes columns columns named x (tidy t)) (cond_is (typed_of columns t) c h) (written_tidy columns columns named t)
 
   pub where_again : (o : Option Syn) (c : Option Cond) → where_as columns o ≡ Ok c → Again (where_as columns) (option_map (cond_syn columns)) (option_map tidy) o c
   where_again None c h = subst (λ (x : Option Cond). Again (where_as columns) (option_map (cond_syn columns)) (option_map tidy) None x) (same_ok None c h) (record { written = refl; again = refl })
   where_again (Some t) c h =
       let (d, p, q) = bound (cond_as (typed_of columns t)) (λ x. Ok (Some x)) c h in
-      let w : cond_syn columns d ≡ tidy t = subst (λ (x : Typed). Writes columns columns (column_again columns) x (tidy t)) (cond_is (typed_of columns t) d p) (written_tidy columns columns (column_again columns) t) in
+      let w = cond_written t d p in
       subst (λ (x : Option Cond). Again (where_as columns) (option_map (cond_syn columns)) (option_map tidy) (Some t) x) (same_ok (Some d) c q) (record {
-        written = ap (λ (x : Syn). Some x) w;
+        written = ap (λ (x : Syn). Some x) w.0;
         again = goes (cond_as (typed_of columns (tidy t))) (λ x. Ok (Some x)) d (Some d) (ap cond_as (typed_again columns t) ∙ p) refl;
       })
 
@@ -127,7 +135,7 @@ module _ (columns : List Column) where
       let (ds, r, s) = bound (values_as cs vs) (λ ds. Ok (d ∷ ds)) es q in
       let rest = values_again cs vs ds r in
       subst (ValuesAgain (c ∷ cs) (v ∷ vs)) (same_ok (d ∷ ds) es s) (record {
-        written = ap (λ (x : Syn). x ∷ map (expr_syn columns) ds) (constant_written c.kind v d p) ∙ ap (λ (xs : List Syn). tidy v ∷ xs) rest.written;
+        written = ap (λ (x : Syn). x ∷ map (expr_syn columns) ds) (let w = constant_written c.kind v d p in w.0) ∙ ap (λ (xs : List Syn). tidy v ∷ xs) rest.written;
         again = goes (constant_as c.kind (tidy v)) (λ e. values_as cs (map tidy vs) >>= λ ds. Ok (e ∷ ds)) d (d ∷ ds) (ap (value_as c.kind) (typed_again [] v) ∙ p) (goes (values_as cs (map tidy vs)) (λ ds. Ok (d ∷ ds)) ds (d ∷ ds) rest.again refl);
       })
 
@@ -142,9 +150,9 @@ module _ (columns : List Column) where
       let (c, p, q) = bound (column_at columns a.column) (λ c. value_as c.1 (typed_of columns a.value) >>= λ e. Ok (record { col = c.0; expr = e })) b h in
       let (e, r, s) = bound (value_as c.1 (typed_of columns a.value)) (λ e. Ok (record { col = c.0; expr = e })) b q in
       let n : column_name columns c.0 ≡ a.column = column_named columns a.column c p in
-      let w : expr_syn columns e ≡ tidy a.value = value_written c.1 a.value e r in
+      let w = value_written c.1 a.value e r in
       subst (λ (x : Assign). Again (assign_as columns) (assign_syn columns) tidy_assign a x) (same_ok (record { col = c.0; expr = e }) b s) (record {
-        written = ap (λ (x : List ℕ). let y : AssignSyn = record { column = x; value = expr_syn columns e } in y) n ∙ ap (λ (x : Syn). let y : AssignSyn = record { column = a.column; value = x } in y) w;
+        written = ap (λ (x : List ℕ). let y : AssignSyn = record { column = x; value = expr_syn columns e } in y) n ∙ ap (λ (x : Syn). let y : AssignSyn = record { column = a.column; value = x } in y) w.0;
         again = goes (column_at columns a.column) (λ c. value_as c.1 (typed_of columns (tidy a.value)) >>= λ e. Ok (record { col = c.0; expr = e })) c (record { col = c.0; expr = e }) p (goes (value_as c.1 (typed_of columns (tidy a.value))) (λ e. Ok (record { col = c.0; expr = e })) e (record { col = c.0; expr = e }) (ap (value_as c.1) (typed_again columns a.value) ∙ r) refl);
       })
 
@@ -182,3 +190,46 @@ module _ (columns : List Column) where
         written = ap (λ (n : List ℕ). let y : KeySyn = record { column = n; direction = direction_of_key (descends k.direction) } in y) (column_named columns k.column c p) ∙ ap (λ (o : Option Direction). let y : KeySyn = record { column = k.column; direction = o } in y) w;
         again = goes (column_at columns k.column) (λ c. Ok (record { col = c.0; desc = descends (tidy_direction k.direction) })) c (record { col = c.0; desc = descends k.direction }) p (ap (λ (b : Bool). let y : Key = record { col = c.0; desc = b } in Ok y) d);
       })
+
+  -- CLEAR
+  column_is_clear : (name : List ℕ) (c : ℕ × Kind) → column_at columns name ≡ Ok c → IsName name
+  column_is_clear name c h = column_clear columns 0 name c clear (found_column (column_of name columns) c h)
+
+  pub where_clear : (o : Option Syn) (c : Option Cond) → where_as columns o ≡ Ok c → Maybe SynClear (option_map tidy o)
+  where_clear None c h = tt
+  where_clear (Some t) c h = let (d, p, q) = bound (cond_as (typed_of columns t)) (λ x. Ok (Some x)) c h in let w = cond_written t d p in w.1
+
+  pub values_clear : (cs : List Column) (vs : List Syn) (es : List Expr) → values_as cs vs ≡ Ok es → Each SynClear (map tidy vs)
+  values_clear [] [] es h = tt
+  values_clear [] (v ∷ vs) es h = absurd (cc)
+  values_clear (c ∷ cs) [] es h = tt
+  values_clear (c ∷ cs) (v ∷ vs) es h =
+      let (d, p, q) = bound (constant_as c.kind v) (λ e. values_as cs vs >>= λ ds. Ok (e ∷ ds)) es h in
+      let (ds, r, s) = bound (values_as cs vs) (λ ds. Ok (d ∷ ds)) es q in
+      let w = constant_written c.kind v d p in
+      (w.1, values_clear cs vs ds r)
+
+  pub assign_clear : (a : AssignSyn) (b : Assign) → assign_as columns a ≡ Ok b → AssignClear (tidy_assign a)
+  assign_clear a b h =
+      let (c, p, q) = bound (column_at columns a.column) (λ c. value_as c.1 (typed_of columns a.value) >>= λ e. Ok (record { col = c.0; expr = e })) b h in
+      let (e, r, s) = bound (value_as c.1 (typed_of columns a.value)) (λ e. Ok (record { col = c.0; expr = e })) b q in
+      let w = value_written c.1 a.value e r in
+      (column_is_clear a.column c p, w.1)
+
+  pub item_clear : (i : ItemSyn) (x : Item) → item_as columns i ≡ Ok x → ItemClear i
+  item_clear (item_syn.Column name) x h = let (c, p, q) = bound (column_at columns name) (λ c. Ok (item.Col c.0)) x h in column_is_clear name c p
+  item_clear item_syn.Count x h = tt
+  item_clear (item_syn.Agg a name) x h = let (c, p, q) = bound (column_at columns name) (λ c. agg_as a c.0 c.1) x h in column_is_clear name c p
+
+  pub name_clear : (name : List ℕ) (place : ℕ) → name_as columns name ≡ Ok place → IsName name
+  name_clear name place h = let (c, p, q) = bound (column_at columns name) (λ c. Ok c.0) place h in column_is_clear name c p
+
+  pub key_clear : (k : KeySyn) (x : Key) → key_as columns k ≡ Ok x → KeyClear (tidy_key k)
+  key_clear k x h = let (c, p, q) = bound (column_at columns k.column) (λ c. Ok (record { col = c.0; desc = descends k.direction })) x h in column_is_clear k.column c p
+
+pub each_clear : {A B : Type 0} (f : A → Answer B) (Q : A → Type 0) → ((x : A) (y : B) → f x ≡ Ok y → Q x) → (xs : List A) (ys : List B) → each f xs ≡ Ok ys → Each Q xs
+each_clear f Q give [] ys h = tt
+each_clear f Q give (x ∷ xs) ys h =
+    let (y, p, q) = bound (f x) (λ y. each f xs >>= λ zs. Ok (y ∷ zs)) ys h in
+    let (zs, r, s) = bound (each f xs) (λ zs. Ok (y ∷ zs)) ys q in
+    (give x y p, each_clear f Q give xs zs r)

@@ -29,11 +29,11 @@ use Rattle.gx_resolve.specs.Kinding.{where_as, tuple_as, assign_as}
 use Rattle.gx_resolve.specs.Selecting.{query_as}
 use Rattle.gx_resolve.specs.Resolving.{kinded, sets_key, key_kept, over_table, over_found, table_after, stmt_of}
 use Rattle.gx_resolve.specs.Rules.{AreDistinct, column_text}
-use Rattle.gx_print.specs.Limited.{Each, IsWithin}
+use Rattle.gx_print.specs.Limited.{Each, Some_each, IsWithin}
 use Rattle.gx_print.specs.Written.{name_of_schema, columns_of_schema, table_name, columns_of, cond_syn, tuple_syn, assign_syn, select_syn, mode_at, written}
 use Rattle.gx_print.specs.Tidied.{tidy, tidy_select, tidy_tuple, tidy_assign, tidied}
-use Rattle.gx_print.specs.Reading.{IsTable, AreTables}
-use Rattle.gx_print.proofs.Tidying.{same_text}
+use Rattle.gx_print.specs.Reading.{IsColumnOf, IsTable, AreTables}
+use Rattle.gx_print.proofs.Tidying.{HasName, same_text}
 use Rattle.gx_print.proofs.TidyWithin.{tidied_within}
 use Rattle.gx_print.proofs.Resolved.{bound, same_ok, goes, Again, list_again, where_again, tuple_again, assign_again}
 use Rattle.gx_print.proofs.QueryResolved.{QueryAgain, query_again}
@@ -73,6 +73,14 @@ pub each_at : {A : Type 0} (P : A → Type 0) (xs : List A) (i : ℕ) (x : A) �
 each_at P [] i x e h = absurd (cc)
 each_at P (y ∷ ys) zero x e h = let same : y ≡ x = cc in subst P same e.0
 each_at P (y ∷ ys) (suc i) x e h = each_at P ys i x e.1 h
+
+each_column : (d : Limits) (cs : List Column) → Each (IsColumnOf d) cs → Each HasName cs
+each_column d [] e = tt
+each_column d (c ∷ cs) e = (e.0.0, each_column d cs e.1)
+
+columns_clear : (d : Limits) (cs : List Column) → Some_each (IsColumnOf d) cs → Each HasName cs
+columns_clear d [] e = absurd e
+columns_clear d (c ∷ cs) e = (e.0.0, each_column d cs e.1)
 
 -- KINDS
 kept_is : (b : Bool) (r x : Stmt) → ◌≡◌ {A = Answer Stmt} (if b then Err KeyUpdate else Ok r) (Ok x) → r ≡ x
@@ -124,11 +132,11 @@ record KindedAgain (table : Table) (name : List ℕ) (columns : List Column) (s 
   pub written : written_over name columns x ≡ tidied columns s
   pub again : kinded table columns (tidied columns s) ≡ Ok x
 
-module _ (d : Limits) (table : Table) (columns : List Column) (distinct : AreDistinct (map column_text columns)) where
+module _ (d : Limits) (table : Table) (columns : List Column) (clear : Each HasName columns) (distinct : AreDistinct (map column_text columns)) where
   select_kinded : (q : SelectSyn) (x : Stmt) → IsWithin d (stmt_syn.Select q) → kinded table columns (stmt_syn.Select q) ≡ Ok x → KindedAgain table q.table columns (stmt_syn.Select q) x
   select_kinded q x w h =
       let (r, p, e) = bound (query_as table columns q) (λ r. Ok (stmt.Select r)) x h in
-      let a = query_again d table columns q r distinct w p in
+      let a = query_again d table columns q r clear distinct w p in
       subst (KindedAgain table q.table columns (stmt_syn.Select q)) (same_ok (stmt.Select r) x e) (record {
         of = ap (λ (t : Table). t.0) a.table_is;
         written = ap stmt_syn.Select a.written;
@@ -138,7 +146,7 @@ module _ (d : Limits) (table : Table) (columns : List Column) (distinct : AreDis
   insert_kinded : (t : List ℕ) (tuples : List TupleSyn) (x : Stmt) → kinded table columns (stmt_syn.Insert t tuples) ≡ Ok x → KindedAgain table t columns (stmt_syn.Insert t tuples) x
   insert_kinded t tuples x h =
       let (rows, p, e) = bound (each (tuple_as columns) tuples) (λ rows. Ok (stmt.Insert table rows)) x h in
-      let a = list_again (tuple_as columns) (tuple_syn columns) tidy_tuple (tuple_again columns) tuples rows p in
+      let a = list_again (tuple_as columns) (tuple_syn columns) tidy_tuple (tuple_again columns clear) tuples rows p in
       subst (KindedAgain table t columns (stmt_syn.Insert t tuples)) (same_ok (stmt.Insert table rows) x e) (record {
         of = refl;
         written = ap (λ (ts : List TupleSyn). stmt_syn.Insert t ts) a.written;
@@ -149,8 +157,8 @@ module _ (d : Limits) (table : Table) (columns : List Column) (distinct : AreDis
   update_kinded t assigns cond x h =
       let (set, p, h) = bound (each (assign_as columns) assigns) (λ set. where_as columns cond >>= λ c. Ok (stmt.Update table set c)) x h in
       let (c, q, e) = bound (where_as columns cond) (λ c. Ok (stmt.Update table set c)) x h in
-      let a = list_again (assign_as columns) (assign_syn columns) tidy_assign (assign_again columns) assigns set p in
-      let b = where_again columns cond c q in
+      let a = list_again (assign_as columns) (assign_syn columns) tidy_assign (assign_again columns clear) assigns set p in
+      let b = where_again columns clear cond c q in
       subst (KindedAgain table t columns (stmt_syn.Update t assigns cond)) (same_ok (stmt.Update table set c) x e) (record {
         of = refl;
         written = ap (λ (xs : List AssignSyn). stmt_syn.Update t xs (option_map (cond_syn columns) c)) a.written ∙ ap (λ (o : Option Syn). stmt_syn.Update t (map tidy_assign assigns) o) b.written;
@@ -160,7 +168,7 @@ module _ (d : Limits) (table : Table) (columns : List Column) (distinct : AreDis
   delete_kinded : (t : List ℕ) (cond : Option Syn) (x : Stmt) → kinded table columns (stmt_syn.Delete t cond) ≡ Ok x → KindedAgain table t columns (stmt_syn.Delete t cond) x
   delete_kinded t cond x h =
       let (c, q, e) = bound (where_as columns cond) (λ c. Ok (stmt.Delete table c)) x h in
-      let b = where_again columns cond c q in
+      let b = where_again columns clear cond c q in
       subst (KindedAgain table t columns (stmt_syn.Delete t cond)) (same_ok (stmt.Delete table c) x e) (record {
         of = refl;
         written = ap (λ (o : Option Syn). stmt_syn.Delete t o) b.written;
@@ -179,7 +187,7 @@ record OverAgain (d : Limits) (tables : List Schema) (name : List ℕ) (s : Stmt
 
 over_again : (d : Limits) (tables : List Schema) (name : List ℕ) (s : StmtSyn) (x : Stmt) → AreTables d tables
   → ((columns : List Column) → names_right columns [] (names_of (tidied columns s)) ≡ names_right columns [] (names_of s))
-  → ((table : Table) (columns : List Column) (r : Stmt) → AreDistinct (map column_text columns) → kinded table columns s ≡ Ok r → KindedAgain table name columns s r)
+  → ((table : Table) (columns : List Column) (r : Stmt) → Each HasName columns → AreDistinct (map column_text columns) → kinded table columns s ≡ Ok r → KindedAgain table name columns s r)
   → (o : Option (Table × Schema)) → table_after 0 name tables ≡ o → over_found o s ≡ Ok x → OverAgain d tables name s x
 over_again d tables name s x are names kinds None e h = absurd (cc)
 over_again d tables name s x are names kinds (Some f) e h =
@@ -187,7 +195,7 @@ over_again d tables name s x are names kinds (Some f) e h =
     let (r, q, h) = bound (kinded f.0 f.1.columns s) (λ r. key_kept f.1.dist r) x h in
     let here = found tables name f e in
     let is : IsTable d f.1 = each_at (IsTable d) tables f.0.0 f.1 are here.at in
-    let a = kinds f.0 f.1.columns r is.distinct q in
+    let a = kinds f.0 f.1.columns r (columns_clear d f.1.columns is.columns) is.distinct q in
     let same : r ≡ x = kept_is (sets_key f.1.dist r) r x h in
     let text : written tables r ≡ tidied f.1.columns s = over_is tables f.0.0 r a.of ∙ ap (λ (n : List ℕ). written_over n (columns_of tables f.0.0) r) here.named ∙ ap (λ (cs : List Column). written_over name cs r) here.columns ∙ a.written in
     record {
@@ -214,8 +222,8 @@ pub read_again : (d : Limits) (tables : List Schema) (s : StmtSyn) (x : Stmt) �
 read_again d tables (stmt_syn.Begin l) x are w h = plain_again d tables (stmt_syn.Begin l) x w (subst (λ (y : Stmt). written tables y ≡ stmt_syn.Begin l) (same_ok (stmt.Begin l) x h) refl) h
 read_again d tables stmt_syn.Commit x are w h = plain_again d tables stmt_syn.Commit x w (subst (λ (y : Stmt). written tables y ≡ stmt_syn.Commit) (same_ok stmt.Commit x h) refl) h
 read_again d tables stmt_syn.Rollback x are w h = plain_again d tables stmt_syn.Rollback x w (subst (λ (y : Stmt). written tables y ≡ stmt_syn.Rollback) (same_ok stmt.Rollback x h) refl) h
-read_again d tables (stmt_syn.Select q) x are w h = table_again d tables q.table (stmt_syn.Select q) x w (over_again d tables q.table (stmt_syn.Select q) x are (λ columns. select_right columns q) (λ table columns r distinct p. select_kinded d table columns distinct q r w p) (table_after 0 q.table tables) refl h) (λ columns. refl)
-read_again d tables (stmt_syn.Insert t tuples) x are w h = table_again d tables t (stmt_syn.Insert t tuples) x w (over_again d tables t (stmt_syn.Insert t tuples) x are (λ columns. ap (λ (ns : List (List ℕ)). names_right columns [] (map Used ns)) (tuples_same tuples)) (λ table columns r distinct p. insert_kinded d table columns distinct t tuples r p) (table_after 0 t tables) refl h) (λ columns. refl)
-read_again d tables (stmt_syn.Update t assigns cond) x are w h = table_again d tables t (stmt_syn.Update t assigns cond) x w (over_again d tables t (stmt_syn.Update t assigns cond) x are (λ columns. ap (λ (ns : List Name). names_right columns [] ns) (update_same assigns cond)) (λ table columns r distinct p. update_kinded d table columns distinct t assigns cond r p) (table_after 0 t tables) refl h) (λ columns. refl)
-read_again d tables (stmt_syn.Delete t cond) x are w h = table_again d tables t (stmt_syn.Delete t cond) x w (over_again d tables t (stmt_syn.Delete t cond) x are (λ columns. ap (λ (ns : List (List ℕ)). names_right columns [] (map Used ns)) (where_same cond)) (λ table columns r distinct p. delete_kinded d table columns distinct t cond r p) (table_after 0 t tables) refl h) (λ columns. refl)
-read_again d tables (stmt_syn.Lock t m) x are w h = table_again d tables t (stmt_syn.Lock t m) x w (over_again d tables t (stmt_syn.Lock t m) x are (λ columns. refl) (λ table columns r distinct p. lock_kinded d table columns distinct t m r p) (table_after 0 t tables) refl h) (λ columns. refl)
+read_again d tables (stmt_syn.Select q) x are w h = table_again d tables q.table (stmt_syn.Select q) x w (over_again d tables q.table (stmt_syn.Select q) x are (λ columns. select_right columns q) (λ table columns r clear distinct p. select_kinded d table columns clear distinct q r w p) (table_after 0 q.table tables) refl h) (λ columns. refl)
+read_again d tables (stmt_syn.Insert t tuples) x are w h = table_again d tables t (stmt_syn.Insert t tuples) x w (over_again d tables t (stmt_syn.Insert t tuples) x are (λ columns. ap (λ (ns : List (List ℕ)). names_right columns [] (map Used ns)) (tuples_same tuples)) (λ table columns r clear distinct p. insert_kinded d table columns clear distinct t tuples r p) (table_after 0 t tables) refl h) (λ columns. refl)
+read_again d tables (stmt_syn.Update t assigns cond) x are w h = table_again d tables t (stmt_syn.Update t assigns cond) x w (over_again d tables t (stmt_syn.Update t assigns cond) x are (λ columns. ap (λ (ns : List Name). names_right columns [] ns) (update_same assigns cond)) (λ table columns r clear distinct p. update_kinded d table columns clear distinct t assigns cond r p) (table_after 0 t tables) refl h) (λ columns. refl)
+read_again d tables (stmt_syn.Delete t cond) x are w h = table_again d tables t (stmt_syn.Delete t cond) x w (over_again d tables t (stmt_syn.Delete t cond) x are (λ columns. ap (λ (ns : List (List ℕ)). names_right columns [] (map Used ns)) (where_same cond)) (λ table columns r clear distinct p. delete_kinded d table columns clear distinct t cond r p) (table_after 0 t tables) refl h) (λ columns. refl)
+read_again d tables (stmt_syn.Lock t m) x are w h = table_again d tables t (stmt_syn.Lock t m) x w (over_again d tables t (stmt_syn.Lock t m) x are (λ columns. refl) (λ table columns r clear distinct p. lock_kinded d table columns clear distinct t m r p) (table_after 0 t tables) refl h) (λ columns. refl)

@@ -24,10 +24,17 @@ use Rattle.gx_typing.specs.Typing.{number_typed, column_typed, neg_typed, not_ty
 use Rattle.gx_typing.specs.declared.typed.Typed.{Typed}
 use Rattle.gx_typing.specs.declared.typed.Typed.TheVariants.{Value, Cond, Unknown, Mismatch}
 use Rattle.gx_resolve.specs.Naming.{names_step, names_in}
+use Rattle.gx_grammar.specs.Grammar.{Shape, parens, level, left_level}
+use Rattle.gx_print.specs.Shapes.{IsName, IsClear}
+use Rattle.gx_print.specs.Forms.{Form, enclosed_if, at_level, form_of}
+use Rattle.gx_print.specs.Limited.{Each, SynClear}
 use Rattle.gx_print.specs.Written.{name_of_column, column_name, arith_op, cmp_op, expr_syn, cond_syn}
 use Rattle.gx_print.specs.Tidied.{tidy_number, tidy_step, tidy}
 use Rattle.gx_print.proofs.Levels.{pick_le}
-use Rattle.gx_print.proofs.Nodes.{expr_syn-lit, expr_syn-col, expr_syn-neg, expr_syn-bin, cond_syn-cmp, cond_syn-and, cond_syn-or, cond_syn-not}
+use Rattle.gx_print.proofs.Nodes.{form_of-number, form_of-text, form_of-column, form_of-neg, form_of-not, form_of-bin, expr_syn-lit, expr_syn-col, expr_syn-neg, expr_syn-bin, cond_syn-cmp, cond_syn-and, cond_syn-or, cond_syn-not}
+
+abbrev pub HasName : Column → Type 0
+HasName c = IsName c.name
 
 -- TEXTS AND COLUMNS
 all_of : (a b : Bool) → (a && b) ≡ true → (a ≡ true) × (b ≡ true)
@@ -64,38 +71,67 @@ column_again columns name c e =
     let same : i ≡ c.0 = omega arith in
     subst (λ (place : ℕ). column_name columns place ≡ name) same n
 
+-- a column that is found has a name of the language, where all have
+clear_by : (x : Column) (xs : List Column) (from : ℕ) (name : List ℕ) (c : ℕ × Kind) (b : Bool) → IsName x.name → pointwise nat_eq x.name name ≡ b → (if b then Some (from, x.kind) else column_from (from + 1) name xs) ≡ Some c → (column_from (from + 1) name xs ≡ Some c → IsName name) → IsName name
+clear_by x xs from name c true i t e rest = subst IsName (same_text x.name name t) i
+clear_by x xs from name c false i t e rest = rest e
+
+pub column_clear : (columns : List Column) (from : ℕ) (name : List ℕ) (c : ℕ × Kind) → Each HasName columns → column_from from name columns ≡ Some c → IsName name
+column_clear [] from name c i e = absurd (cc)
+column_clear (x ∷ xs) from name c i e = clear_by x xs from name c (pointwise nat_eq x.name name) i.0 refl e (column_clear xs (from + 1) name c i.1)
+
 -- WRITING
 -- over columns, what is resolved over those that are found, which have the same names
-module _ (columns found : List Column) (named : (name : List ℕ) (c : ℕ × Kind) → column_of name found ≡ Some c → column_name columns c.0 ≡ name) where
-  -- what is resolved is written so
+module _ (columns found : List Column) (named : (name : List ℕ) (c : ℕ × Kind) → column_of name found ≡ Some c → (column_name columns c.0 ≡ name) × IsName name) where
+  -- what is resolved is written so, and its names and numbers are those of the language
   abbrev pub Writes : Typed → Syn → Type 0
-  Writes (Value k e) u = expr_syn columns e ≡ u
-  Writes (Cond c) u = cond_syn columns c ≡ u
+  Writes (Value k e) u = (expr_syn columns e ≡ u) × SynClear u
+  Writes (Cond c) u = (cond_syn columns c ≡ u) × SynClear u
   Writes _ u = Unit {0}
 
   minus_is : (n : ℕ) → pos 0 -ℤ pos (suc n) ≡ negsuc n
   minus_is n = grind arith
 
+  number_clear : (b : Bool) (n : ℕ) → n ≤ 9223372036854775808 → SynClear (syn.Number b (Some n))
+  number_clear true n l = subst (λ (f : Form). IsClear f.shape) (sym (form_of-number true (Some n))) (omega arith)
+  number_clear false n l = subst (λ (f : Form). IsClear f.shape) (sym (form_of-number false (Some n))) (omega arith)
+
   number_writes : (b : Bool) (n : Option ℕ) → Writes (number_typed b n) (tidy_number b n)
   number_writes true None = tt
   number_writes false None = tt
-  number_writes false (Some n) = pick_le (λ t. Writes t (syn.Number false (Some n))) n 9223372036854775807 _ _ (λ l. expr_syn-lit columns (value.Int (pos n))) (λ l. tt)
-  number_writes true (Some zero) = expr_syn-lit columns (value.Int (pos 0))
-  number_writes true (Some (suc n)) = pick_le (λ t. Writes t (syn.Number true (Some (suc n)))) (suc n) 9223372036854775808 _ _ (λ l. ap (λ (z : ℤ). expr_syn columns (expr.Lit (value.Int z))) (minus_is n) ∙ expr_syn-lit columns (value.Int (negsuc n))) (λ l. tt)
+  number_writes false (Some n) = pick_le (λ t. Writes t (syn.Number false (Some n))) n 9223372036854775807 (Value kind.Int (expr.Lit (value.Int (pos n)))) Mismatch (λ l. (expr_syn-lit columns (value.Int (pos n)), number_clear false n (omega arith))) (λ l. tt)
+  number_writes true (Some zero) = (expr_syn-lit columns (value.Int (pos 0)), number_clear false 0 (omega arith))
+  number_writes true (Some (suc n)) = pick_le (λ t. Writes t (syn.Number true (Some (suc n)))) (suc n) 9223372036854775808 (Value kind.Int (expr.Lit (value.Int (pos 0 -ℤ pos (suc n))))) Mismatch (λ l. (ap (λ (z : ℤ). expr_syn columns (expr.Lit (value.Int z))) (minus_is n) ∙ expr_syn-lit columns (value.Int (negsuc n)), number_clear true (suc n) l)) (λ l. tt)
 
   column_writes : (name : List ℕ) (o : Option (ℕ × Kind)) → column_of name found ≡ o → Writes (column_typed o) (syn.Column name)
   column_writes name None e = tt
-  column_writes name (Some c) e = expr_syn-col columns c.0 ∙ ap syn.Column (named name c e)
+  column_writes name (Some c) e = let (p, q) = named name c e in (expr_syn-col columns c.0 ∙ ap syn.Column p, subst (λ (f : Form). IsClear f.shape) (sym (form_of-column name)) q)
+
+  enclosed_clear : (b : Bool) (s : Shape) → IsClear s → IsClear (enclosed_if b s)
+  enclosed_clear true s c = c
+  enclosed_clear false s c = c
+
+  level_clear : (p : ℕ) (f : Form) → IsClear f.shape → IsClear (at_level p f)
+  level_clear p f c = pick_le (λ s. IsClear s) p f.level f.shape (parens f.shape) (λ l. c) (λ l. c)
+
+  neg_clear : (u : Syn) → SynClear u → SynClear (syn.Neg u)
+  neg_clear u c = subst (λ (f : Form). IsClear f.shape) (sym (form_of-neg u)) (let f : Form = form_of u in enclosed_clear f.closed f.shape c)
+
+  not_clear : (u : Syn) → SynClear u → SynClear (syn.Not u)
+  not_clear u c = subst (λ (f : Form). IsClear f.shape) (sym (form_of-not u)) (level_clear 3 (form_of u) c)
+
+  bin_clear : (o : Op) (u v : Syn) → SynClear u → SynClear v → SynClear (syn.Bin o u v)
+  bin_clear o u v c d = subst (λ (f : Form). IsClear f.shape) (sym (form_of-bin o u v)) (level_clear (left_level o) (form_of u) c, level_clear (level o + 1) (form_of v) d)
 
   neg_writes : (t : Typed) (u : Syn) → Writes t u → Writes (neg_typed t) (syn.Neg u)
-  neg_writes (Value kind.Int e) u w = expr_syn-neg columns e ∙ ap syn.Neg w
+  neg_writes (Value kind.Int e) u w = (expr_syn-neg columns e ∙ ap syn.Neg w.0, neg_clear u w.1)
   neg_writes (Value kind.Text e) u w = tt
   neg_writes (Cond c) u w = tt
   neg_writes Unknown u w = tt
   neg_writes Mismatch u w = tt
 
   not_writes : (t : Typed) (u : Syn) → Writes t u → Writes (not_typed t) (syn.Not u)
-  not_writes (Cond c) u w = cond_syn-not columns c ∙ ap syn.Not w
+  not_writes (Cond c) u w = (cond_syn-not columns c ∙ ap syn.Not w.0, not_clear u w.1)
   not_writes (Value kind.Int e) u w = tt
   not_writes (Value kind.Text e) u w = tt
   not_writes Unknown u w = tt
@@ -117,7 +153,7 @@ module _ (columns found : List Column) (named : (name : List ℕ) (c : ℕ × Ki
   pair o x y u v p q = ap (λ (z : Syn). syn.Bin o z y) p ∙ ap (λ (z : Syn). syn.Bin o u z) q
 
   arith_writes : (o : ArithOp) (s t : Typed) (u v : Syn) → Writes s u → Writes t v → Writes (arith_typed o s t) (syn.Bin (arith_op o) u v)
-  arith_writes o (Value kind.Int a) (Value kind.Int b) u v p q = expr_syn-bin columns o a b ∙ pair (arith_op o) _ _ u v p q
+  arith_writes o (Value kind.Int a) (Value kind.Int b) u v p q = (expr_syn-bin columns o a b ∙ pair (arith_op o) _ _ u v p.0 q.0, bin_clear (arith_op o) u v p.1 q.1)
   arith_writes o (Value kind.Int a) (Value kind.Text b) u v p q = tt
   arith_writes o (Value kind.Int a) (Cond b) u v p q = tt
   arith_writes o (Value kind.Int a) Unknown u v p q = tt
@@ -128,8 +164,8 @@ module _ (columns found : List Column) (named : (name : List ℕ) (c : ℕ × Ki
   arith_writes o Mismatch t u v p q = wrong_writes Mismatch t (syn.Bin (arith_op o) u v)
 
   cmp_writes : (o : CmpOp) (s t : Typed) (u v : Syn) → Writes s u → Writes t v → Writes (cmp_typed o s t) (syn.Bin (cmp_op o) u v)
-  cmp_writes o (Value kind.Int a) (Value kind.Int b) u v p q = cond_syn-cmp columns o a b ∙ pair (cmp_op o) _ _ u v p q
-  cmp_writes o (Value kind.Text a) (Value kind.Text b) u v p q = cond_syn-cmp columns o a b ∙ pair (cmp_op o) _ _ u v p q
+  cmp_writes o (Value kind.Int a) (Value kind.Int b) u v p q = (cond_syn-cmp columns o a b ∙ pair (cmp_op o) _ _ u v p.0 q.0, bin_clear (cmp_op o) u v p.1 q.1)
+  cmp_writes o (Value kind.Text a) (Value kind.Text b) u v p q = (cond_syn-cmp columns o a b ∙ pair (cmp_op o) _ _ u v p.0 q.0, bin_clear (cmp_op o) u v p.1 q.1)
   cmp_writes o (Value kind.Int a) (Value kind.Text b) u v p q = tt
   cmp_writes o (Value kind.Int a) (Cond b) u v p q = tt
   cmp_writes o (Value kind.Int a) Unknown u v p q = tt
@@ -143,7 +179,7 @@ module _ (columns found : List Column) (named : (name : List ℕ) (c : ℕ × Ki
   cmp_writes o Mismatch t u v p q = wrong_writes Mismatch t (syn.Bin (cmp_op o) u v)
 
   and_writes : (s t : Typed) (u v : Syn) → Writes s u → Writes t v → Writes (and_typed s t) (syn.Bin op.And u v)
-  and_writes (Cond a) (Cond b) u v p q = cond_syn-and columns a b ∙ pair op.And _ _ u v p q
+  and_writes (Cond a) (Cond b) u v p q = (cond_syn-and columns a b ∙ pair op.And _ _ u v p.0 q.0, bin_clear op.And u v p.1 q.1)
   and_writes (Cond a) (Value k b) u v p q = tt
   and_writes (Cond a) Unknown u v p q = tt
   and_writes (Cond a) Mismatch u v p q = tt
@@ -152,7 +188,7 @@ module _ (columns found : List Column) (named : (name : List ℕ) (c : ℕ × Ki
   and_writes Mismatch t u v p q = wrong_writes Mismatch t (syn.Bin op.And u v)
 
   or_writes : (s t : Typed) (u v : Syn) → Writes s u → Writes t v → Writes (or_typed s t) (syn.Bin op.Or u v)
-  or_writes (Cond a) (Cond b) u v p q = cond_syn-or columns a b ∙ pair op.Or _ _ u v p q
+  or_writes (Cond a) (Cond b) u v p q = (cond_syn-or columns a b ∙ pair op.Or _ _ u v p.0 q.0, bin_clear op.Or u v p.1 q.1)
   or_writes (Cond a) (Value k b) u v p q = tt
   or_writes (Cond a) Unknown u v p q = tt
   or_writes (Cond a) Mismatch u v p q = tt
@@ -183,7 +219,7 @@ module _ (columns found : List Column) (named : (name : List ℕ) (c : ℕ × Ki
 
   node : (y : Syn-F ((t : Syn) × IsWritten t)) → IsWritten (roll-Syn (map-Syn ((t : Syn) × IsWritten t) Syn (λ e. e.0) y))
   node (Syn-F.Number b n) = rolled (Syn-F.Number b n) (number_writes b n)
-  node (Syn-F.Text t) = rolled (Syn-F.Text t) (expr_syn-lit columns (value.Text t))
+  node (Syn-F.Text t) = rolled (Syn-F.Text t) (expr_syn-lit columns (value.Text t), subst (λ (f : Form). IsClear f.shape) (sym (form_of-text t)) tt)
   node (Syn-F.Column c) = rolled (Syn-F.Column c) (column_writes c (column_of c found) refl)
   node (Syn-F.Neg e) = rolled (Syn-F.Neg e.0) (neg_writes (typed_of found e.0) (tidy e.0) e.1)
   node (Syn-F.Not e) = rolled (Syn-F.Not e.0) (not_writes (typed_of found e.0) (tidy e.0) e.1)
