@@ -1,20 +1,19 @@
 -- `*`, written as the columns of the table.
-use Rattle.std.proofs.Common.{◌≡◌, ◌⊎◌, inl, inr, ⊎_elim, ℕ, zero, suc, ◌+◌, nat_eq, Bool, true, false, ◌||◌, if◌then◌else◌, List, [], ◌∷◌, ◌++◌, length, map, slice_get, Option, Some, None, Ok, Err, ok_or, refl, sym, ◌∙◌, ap, subst, arith, append_assoc}
+use Rattle.std.proofs.Common.{◌≡◌, inl, inr, ℕ, ◌+◌, nat_eq, Bool, true, false, ◌||◌, if◌then◌else◌, List, [], ◌∷◌, ◌++◌, length, map, Option, Some, Ok, Err, ok_or, refl, sym, ◌∙◌, ap, subst, arith, append_assoc}
 use Rattle.std.specs.List.{flat_map, list_any}
 use Rattle.std.specs.Cmp.Lexicographic.{pointwise}
 use Rattle.gx_tree.specs.declared.schema.Column.{Column}
 use Rattle.gx_tree.specs.declared.schema.Kind.{Kind}
-use Rattle.gx_tree.specs.declared.query.Item.{Item}
 use Rattle.gx_tree.specs.declared.query.Item.TheVariants as item
 use Rattle.gx_lines.specs.declared.syn.ItemSyn.{ItemSyn}
 use Rattle.gx_typing.specs.Columns.{column_from, column_of}
 use Rattle.gx_resolve.specs.declared.fault.NameFault.TheVariants.{UnknownColumn}
-use Rattle.gx_resolve.specs.Results.{Answer, ◌>>=◌, each}
+use Rattle.gx_resolve.specs.Results.{◌>>=◌, each}
 use Rattle.gx_resolve.specs.Naming.{Used, item_names, is_column, names_right}
 use Rattle.gx_resolve.specs.Kinding.{column_at}
 use Rattle.gx_resolve.specs.Selecting.{item_as, columns_from, is_aggregate}
 use Rattle.gx_resolve.specs.Rules.{IsOneOf, AreDistinct, column_text}
-use Rattle.gx_print.specs.Written.{name_of_column, column_name, item_syn_of}
+use Rattle.gx_print.specs.Written.{column_name, item_syn_of}
 use Rattle.gx_print.specs.Tidied.{column_item}
 use Rattle.gx_print.proofs.Tidying.{same_text}
 use Rattle.gx_print.proofs.Resolved.{goes}
@@ -98,8 +97,8 @@ module _ (columns : List Column) (distinct : AreDistinct (map column_text column
   columns_again before (c ∷ cs) place e l =
       let m : place + 1 ≡ length (before ++ c ∷ []) = omega (arith, count_more before c) in
       goes (item_as columns (column_item c)) (λ y. each (item_as columns) (map column_item cs) >>= λ ys. Ok (y ∷ ys)) (item.Col place) (columns_from place (c ∷ cs))
-          (goes (column_at columns c.name) (λ x. Ok (item.Col x.0)) (place, c.kind) (item.Col place) (column_answer before cs c place e l) refl)
-          (goes (each (item_as columns) (map column_item cs)) (λ ys. Ok (item.Col place ∷ ys)) (columns_from (place + 1) cs) (columns_from place (c ∷ cs)) (columns_again (before ++ c ∷ []) cs (place + 1) (e ∙ longer before cs c) m) refl)
+      (goes (column_at columns c.name) (λ x. Ok (item.Col x.0)) (place, c.kind) (item.Col place) (column_answer before cs c place e l) refl)
+      (goes (each (item_as columns) (map column_item cs)) (λ ys. Ok (item.Col place ∷ ys)) (columns_from (place + 1) cs) (columns_from place (c ∷ cs)) (columns_again (before ++ c ∷ []) cs (place + 1) (e ∙ longer before cs c) m) refl)
 
 pub no_aggregate : (cs : List Column) → list_any is_aggregate (map column_item cs) ≡ false
 no_aggregate [] = refl

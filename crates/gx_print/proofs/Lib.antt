@@ -16,4 +16,5 @@ pub mod AllColumns
 pub mod StmtNames
 pub mod QueryResolved
 pub mod TidyWithin
+pub mod StmtCleared
 pub mod StmtResolved

@@ -1,7 +1,7 @@
 -- A query that was resolved is written as it was read, but tidied, and resolved again to the same.
-use Rattle.std.proofs.Common.{◌≡◌, ℕ, zero, suc, Bool, true, false, not, ◌&&◌, ◌||◌, List, [], ◌∷◌, ◌++◌, map, Option, Some, None, is_some, is_none, Ok, Err, refl, sym, ◌∙◌, ap, subst}
+use Rattle.std.proofs.Common.{◌≡◌, ℕ, Bool, true, false, not, ◌&&◌, ◌||◌, List, [], ◌∷◌, map, Option, Some, None, is_some, is_none, Ok, refl, sym, ◌∙◌, ap, subst}
 use Rattle.std.specs.Option.{option_map}
-use Rattle.std.specs.List.{list_any, list_all}
+use Rattle.std.specs.List.{list_all}
 use Rattle.gx_ids.specs.declared.ids.Table.{Table}
 use Rattle.gx_tree.specs.declared.schema.Column.{Column}
 use Rattle.gx_tree.specs.declared.cond.Cond.{Cond}
@@ -11,14 +11,13 @@ use Rattle.gx_tree.specs.declared.query.Query.{Query}
 use Rattle.gx_grammar.specs.declared.fault.Limits.{Limits}
 use Rattle.gx_grammar.specs.declared.syn.Syn.{Syn}
 use Rattle.gx_lines.specs.declared.classes.Size.{Size}
-use Rattle.gx_lines.specs.declared.syn.ItemSyn.{ItemSyn}
 use Rattle.gx_lines.specs.declared.syn.ItemsSyn.{ItemsSyn}
 use Rattle.gx_lines.specs.declared.syn.ItemsSyn.TheVariants as items
 use Rattle.gx_lines.specs.declared.syn.KeySyn.{KeySyn}
 use Rattle.gx_lines.specs.declared.syn.SelectSyn.{SelectSyn}
 use Rattle.gx_resolve.specs.Results.{Answer, ◌>>=◌, each}
 use Rattle.gx_resolve.specs.Kinding.{where_as}
-use Rattle.gx_resolve.specs.Selecting.{item_as, items_as, name_as, group_as, key_as, order_as, size_as, limit_as, has_aggregate, is_grouped, is_listed, is_group_item, is_group_key, are_group_parts, keeps_groups, groups_kept, query_as}
+use Rattle.gx_resolve.specs.Selecting.{item_as, items_as, name_as, group_as, key_as, order_as, size_as, limit_as, has_aggregate, is_grouped, is_listed, is_group_item, is_group_key, keeps_groups, groups_kept, query_as}
 use Rattle.gx_resolve.specs.Rules.{AreDistinct, column_text}
 use Rattle.gx_print.proofs.Tidying.{HasName}
 use Rattle.gx_print.specs.Limited.{Each, Some_each, Maybe, IsShort, KeyWithin, SelectWithin}
@@ -72,8 +71,8 @@ none_same None = refl
 none_same (Some ks) = refl
 
 groups_again : (columns : List Column) (i : ItemsSyn) (b c d n m : Bool) (k : Unit {0}) → m ≡ n
-  → groups_kept (not (has_aggregate i || b) || (is_listed i && c && d && (b || n))) ≡ Ok k
-  → groups_kept (not (has_aggregate (tidy_items columns i) || b) || (is_listed (tidy_items columns i) && c && d && (b || m))) ≡ Ok k
+    → groups_kept (not (has_aggregate i || b) || (is_listed i && c && d && (b || n))) ≡ Ok k
+    → groups_kept (not (has_aggregate (tidy_items columns i) || b) || (is_listed (tidy_items columns i) && c && d && (b || m))) ≡ Ok k
 groups_again columns (items.These xs) b c d n m k e h = subst (λ (x : Bool). groups_kept (not (has_aggregate (items.These xs) || b) || (true && c && d && (b || x))) ≡ Ok k) (sym e) h
 groups_again columns items.All false c d n m k e h = subst (λ (x : Bool). groups_kept (not (x || false) || (true && c && d && (false || m))) ≡ Ok k) (sym (no_aggregate columns)) h
 groups_again columns items.All true c d n m k e h = absurd (cc)

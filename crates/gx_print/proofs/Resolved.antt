@@ -1,8 +1,6 @@
 -- The parts of a statement that was resolved are written as they were read, but tidied, and resolved again to the same.
-use Rattle.std.proofs.Common.{◌≡◌, ◌⊎◌, inl, inr, ℕ, zero, suc, ◌+◌, ◌≤◌, ◌<◌, nat_eq, Bool, true, false, ◌||◌, List, [], ◌∷◌, ◌++◌, length, map, slice_get, Option, Some, None, Result, Ok, Err, ok_or, refl, sym, ◌∙◌, ap, subst, arith, append_assoc}
+use Rattle.std.proofs.Common.{◌≡◌, ℕ, Bool, List, [], ◌∷◌, map, Option, Some, None, Ok, Err, ok_or, refl, ◌∙◌, ap, subst}
 use Rattle.std.specs.Option.{option_map}
-use Rattle.std.specs.List.{flat_map, list_any}
-use Rattle.std.specs.Cmp.Lexicographic.{pointwise}
 use Rattle.gx_tree.specs.declared.schema.Column.{Column}
 use Rattle.gx_tree.specs.declared.schema.Kind.{Kind}
 use Rattle.gx_tree.specs.declared.schema.Kind.TheVariants as kind
@@ -17,7 +15,6 @@ use Rattle.gx_lines.specs.declared.classes.Agg.{Agg}
 use Rattle.gx_lines.specs.declared.classes.Agg.TheVariants as agg
 use Rattle.gx_lines.specs.declared.classes.Direction.{Direction}
 use Rattle.gx_lines.specs.declared.classes.Direction.TheVariants as direction
-use Rattle.gx_lines.specs.declared.classes.Size.{Size}
 use Rattle.gx_lines.specs.declared.syn.ItemSyn.{ItemSyn}
 use Rattle.gx_lines.specs.declared.syn.ItemSyn.TheVariants as item_syn
 use Rattle.gx_lines.specs.declared.syn.KeySyn.{KeySyn}
@@ -72,9 +69,6 @@ found_column (Some d) c h = cc
 
 pub column_named : (columns : List Column) (name : List ℕ) (c : ℕ × Kind) → column_at columns name ≡ Ok c → column_name columns c.0 ≡ name
 column_named columns name c h = column_again columns name c (found_column (column_of name columns) c h)
-
-pub same : {A : Type 0} → A → A
-same x = x
 
 -- EXPRESSIONS
 value_is : (k : Kind) (t : Typed) (e : Expr) → value_as k t ≡ Ok e → t ≡ typed.Value k e
@@ -138,9 +132,6 @@ module _ (columns : List Column) (clear : Each HasName columns) where
         written = ap (λ (x : Syn). x ∷ map (expr_syn columns) ds) (let w = constant_written c.kind v d p in w.0) ∙ ap (λ (xs : List Syn). tidy v ∷ xs) rest.written;
         again = goes (constant_as c.kind (tidy v)) (λ e. values_as cs (map tidy vs) >>= λ ds. Ok (e ∷ ds)) d (d ∷ ds) (ap (value_as c.kind) (typed_again [] v) ∙ p) (goes (values_as cs (map tidy vs)) (λ ds. Ok (d ∷ ds)) ds (d ∷ ds) rest.again refl);
       })
-
-  to_tuple : List Syn → TupleSyn
-  to_tuple vs = record { values = vs }
 
   pub tuple_again : (t : TupleSyn) (es : List Expr) → tuple_as columns t ≡ Ok es → Again (tuple_as columns) (tuple_syn columns) tidy_tuple t es
   tuple_again t es h = let a = values_again columns t.values es h in record { written = ap (λ (vs : List Syn). let r : TupleSyn = record { values = vs } in r) a.written; again = a.again }

@@ -1,15 +1,10 @@
 -- A statement that was read is printed as one that is read as the same.
-use Rattle.std.proofs.Common.{◌≡◌, ℕ, zero, suc, ◌+◌, ◌≤◌, nat_eq, Bool, true, false, if◌then◌else◌, List, [], ◌∷◌, ◌++◌, length, map, slice_get, Option, Some, None, Ok, Err, refl, sym, ◌∙◌, ap, subst, arith}
+use Rattle.std.proofs.Common.{◌≡◌, ℕ, zero, suc, ◌+◌, nat_eq, Bool, true, false, if◌then◌else◌, List, [], ◌∷◌, map, slice_get, Option, Some, None, Ok, Err, refl, sym, ◌∙◌, ap, subst, arith}
 use Rattle.std.specs.Option.{option_map}
 use Rattle.std.specs.Cmp.Lexicographic.{pointwise}
 use Rattle.gx_ids.specs.declared.ids.Table.{Table}
 use Rattle.gx_tree.specs.declared.schema.Column.{Column}
-use Rattle.gx_tree.specs.declared.schema.Dist.{Dist}
 use Rattle.gx_tree.specs.declared.schema.Schema.{Schema}
-use Rattle.gx_tree.specs.declared.expr.Expr.{Expr}
-use Rattle.gx_tree.specs.declared.cond.Cond.{Cond}
-use Rattle.gx_tree.specs.declared.query.Query.{Query}
-use Rattle.gx_tree.specs.declared.stmt.Assign.{Assign}
 use Rattle.gx_tree.specs.declared.stmt.Stmt.{Stmt}
 use Rattle.gx_tree.specs.declared.stmt.Stmt.TheVariants as stmt
 use Rattle.gx_modes.specs.Table.{number_of}
@@ -27,16 +22,18 @@ use Rattle.gx_resolve.specs.Results.{Answer, ◌>>=◌, each}
 use Rattle.gx_resolve.specs.Naming.{Name, Used, names_of, names_right}
 use Rattle.gx_resolve.specs.Kinding.{where_as, tuple_as, assign_as}
 use Rattle.gx_resolve.specs.Selecting.{query_as}
-use Rattle.gx_resolve.specs.Resolving.{kinded, sets_key, key_kept, over_table, over_found, table_after, stmt_of}
+use Rattle.gx_resolve.specs.Resolving.{kinded, sets_key, key_kept, over_found, table_after, stmt_of}
 use Rattle.gx_resolve.specs.Rules.{AreDistinct, column_text}
-use Rattle.gx_print.specs.Limited.{Each, Some_each, IsWithin}
+use Rattle.gx_print.specs.Limited.{Each, Some_each, IsWithin, StmtClear}
 use Rattle.gx_print.specs.Written.{name_of_schema, columns_of_schema, table_name, columns_of, cond_syn, tuple_syn, assign_syn, select_syn, mode_at, written}
 use Rattle.gx_print.specs.Tidied.{tidy, tidy_select, tidy_tuple, tidy_assign, tidied}
-use Rattle.gx_print.specs.Reading.{IsColumnOf, IsTable, AreTables}
+use Rattle.gx_print.specs.Reading.{IsColumnOf, IsTable, AreTables, HasSize}
+use Rattle.gx_print.specs.Shapes.{IsName}
+use Rattle.gx_print.proofs.StmtCleared.{select_clear, insert_clear, update_clear, delete_clear}
 use Rattle.gx_print.proofs.Tidying.{HasName, same_text}
 use Rattle.gx_print.proofs.TidyWithin.{tidied_within}
-use Rattle.gx_print.proofs.Resolved.{bound, same_ok, goes, Again, list_again, where_again, tuple_again, assign_again}
-use Rattle.gx_print.proofs.QueryResolved.{QueryAgain, query_again}
+use Rattle.gx_print.proofs.Resolved.{bound, same_ok, goes, list_again, where_again, tuple_again, assign_again}
+use Rattle.gx_print.proofs.QueryResolved.{query_again}
 use Rattle.gx_print.proofs.StmtNames.{where_same, tuples_same, update_same, select_right}
 
 -- TABLES
@@ -61,13 +58,14 @@ record Found (tables : List Schema) (name : List ℕ) (f : Table × Schema) : Ty
   pub named : table_name tables f.0.0 ≡ name
   pub columns : columns_of tables f.0.0 ≡ f.1.columns
   pub at : slice_get tables f.0.0 ≡ Some f.1
+  pub called : f.1.name ≡ name
 
 found : (tables : List Schema) (name : List ℕ) (f : Table × Schema) → table_after 0 name tables ≡ Some f → Found tables name f
 found tables name f e =
     let (i, p, g, n) = found_from tables 0 name f e in
     let same : i ≡ f.0.0 = omega arith in
     let at : slice_get tables f.0.0 ≡ Some f.1 = subst (λ (k : ℕ). slice_get tables k ≡ Some f.1) same g in
-    record { named = ap name_of_schema at ∙ n; columns = ap columns_of_schema at; at = at }
+    record { named = ap name_of_schema at ∙ n; columns = ap columns_of_schema at; at = at; called = n }
 
 pub each_at : {A : Type 0} (P : A → Type 0) (xs : List A) (i : ℕ) (x : A) → Each P xs → slice_get xs i ≡ Some x → P x
 each_at P [] i x e h = absurd (cc)
@@ -182,15 +180,18 @@ module _ (d : Limits) (table : Table) (columns : List Column) (clear : Each HasN
 record OverAgain (d : Limits) (tables : List Schema) (name : List ℕ) (s : StmtSyn) (x : Stmt) : Type 0 where
   pub schema : Schema
   pub table : IsTable d schema
+  pub clear : StmtClear (tidied schema.columns s)
   pub written : written tables x ≡ tidied schema.columns s
   pub again : over_found (table_after 0 name tables) (tidied schema.columns s) ≡ Ok x
 
 over_again : (d : Limits) (tables : List Schema) (name : List ℕ) (s : StmtSyn) (x : Stmt) → AreTables d tables
-  → ((columns : List Column) → names_right columns [] (names_of (tidied columns s)) ≡ names_right columns [] (names_of s))
-  → ((table : Table) (columns : List Column) (r : Stmt) → Each HasName columns → AreDistinct (map column_text columns) → kinded table columns s ≡ Ok r → KindedAgain table name columns s r)
-  → (o : Option (Table × Schema)) → table_after 0 name tables ≡ o → over_found o s ≡ Ok x → OverAgain d tables name s x
-over_again d tables name s x are names kinds None e h = absurd (cc)
-over_again d tables name s x are names kinds (Some f) e h =
+    → ((columns : List Column) → names_right columns [] (names_of (tidied columns s)) ≡ names_right columns [] (names_of s))
+    → ((table : Table) (columns : List Column) (r : Stmt) → Each HasName columns → AreDistinct (map column_text columns) → kinded table columns s ≡ Ok r → KindedAgain table name columns s r)
+    → ((table : Table) (columns : List Column) (r : Stmt) → Some_each (IsColumnOf d) columns → Each HasName columns → IsName name → HasSize r → kinded table columns s ≡ Ok r → StmtClear (tidied columns s))
+    → HasSize x
+    → (o : Option (Table × Schema)) → table_after 0 name tables ≡ o → over_found o s ≡ Ok x → OverAgain d tables name s x
+over_again d tables name s x are names kinds clears size None e h = absurd (cc)
+over_again d tables name s x are names kinds clears size (Some f) e h =
     let (u, p, h) = bound (names_right f.1.columns [] (names_of s)) (λ u. kinded f.0 f.1.columns s >>= λ r. key_kept f.1.dist r) x h in
     let (r, q, h) = bound (kinded f.0 f.1.columns s) (λ r. key_kept f.1.dist r) x h in
     let here = found tables name f e in
@@ -201,6 +202,7 @@ over_again d tables name s x are names kinds (Some f) e h =
     record {
       schema = f.1;
       table = is;
+      clear = clears f.0 f.1.columns r is.columns (columns_clear d f.1.columns is.columns) (subst IsName here.called is.name.0) (subst HasSize (sym same) size) q;
       written = subst (λ (y : Stmt). written tables y ≡ tidied f.1.columns s) same text;
       again = ap (λ (o : Option (Table × Schema)). over_found o (tidied f.1.columns s)) e
           ∙ goes (names_right f.1.columns [] (names_of (tidied f.1.columns s))) (λ u. kinded f.0 f.1.columns (tidied f.1.columns s) >>= λ r. key_kept f.1.dist r) u x (names f.1.columns ∙ p) (goes (kinded f.0 f.1.columns (tidied f.1.columns s)) (λ r. key_kept f.1.dist r) r x a.again h);
@@ -209,21 +211,22 @@ over_again d tables name s x are names kinds (Some f) e h =
 -- ALL STATEMENTS
 pub record ReadAgain (d : Limits) (tables : List Schema) (s : StmtSyn) (x : Stmt) : Type 0 where
   pub within : IsWithin d (written tables x)
+  pub clear : StmtClear (written tables x)
   pub again : stmt_of tables (written tables x) ≡ Ok x
 
-plain_again : (d : Limits) (tables : List Schema) (s : StmtSyn) (x : Stmt) → IsWithin d s → written tables x ≡ s → stmt_of tables s ≡ Ok x → ReadAgain d tables s x
-plain_again d tables s x w e h = record { within = subst (IsWithin d) (sym e) w; again = ap (stmt_of tables) e ∙ h }
+plain_again : (d : Limits) (tables : List Schema) (s : StmtSyn) (x : Stmt) → IsWithin d s → StmtClear s → written tables x ≡ s → stmt_of tables s ≡ Ok x → ReadAgain d tables s x
+plain_again d tables s x w c e h = record { within = subst (IsWithin d) (sym e) w; clear = subst StmtClear (sym e) c; again = ap (stmt_of tables) e ∙ h }
 
 table_again : (d : Limits) (tables : List Schema) (name : List ℕ) (s : StmtSyn) (x : Stmt) → IsWithin d s → OverAgain d tables name s x → ((columns : List Column) → stmt_of tables (tidied columns s) ≡ over_found (table_after 0 name tables) (tidied columns s)) → ReadAgain d tables s x
 table_again d tables name s x w o is =
-    record { within = subst (IsWithin d) (sym o.written) (tidied_within d o.schema o.table s w); again = ap (stmt_of tables) o.written ∙ is o.schema.columns ∙ o.again }
+    record { within = subst (IsWithin d) (sym o.written) (tidied_within d o.schema o.table s w); clear = subst StmtClear (sym o.written) o.clear; again = ap (stmt_of tables) o.written ∙ is o.schema.columns ∙ o.again }
 
-pub read_again : (d : Limits) (tables : List Schema) (s : StmtSyn) (x : Stmt) → AreTables d tables → IsWithin d s → stmt_of tables s ≡ Ok x → ReadAgain d tables s x
-read_again d tables (stmt_syn.Begin l) x are w h = plain_again d tables (stmt_syn.Begin l) x w (subst (λ (y : Stmt). written tables y ≡ stmt_syn.Begin l) (same_ok (stmt.Begin l) x h) refl) h
-read_again d tables stmt_syn.Commit x are w h = plain_again d tables stmt_syn.Commit x w (subst (λ (y : Stmt). written tables y ≡ stmt_syn.Commit) (same_ok stmt.Commit x h) refl) h
-read_again d tables stmt_syn.Rollback x are w h = plain_again d tables stmt_syn.Rollback x w (subst (λ (y : Stmt). written tables y ≡ stmt_syn.Rollback) (same_ok stmt.Rollback x h) refl) h
-read_again d tables (stmt_syn.Select q) x are w h = table_again d tables q.table (stmt_syn.Select q) x w (over_again d tables q.table (stmt_syn.Select q) x are (λ columns. select_right columns q) (λ table columns r clear distinct p. select_kinded d table columns clear distinct q r w p) (table_after 0 q.table tables) refl h) (λ columns. refl)
-read_again d tables (stmt_syn.Insert t tuples) x are w h = table_again d tables t (stmt_syn.Insert t tuples) x w (over_again d tables t (stmt_syn.Insert t tuples) x are (λ columns. ap (λ (ns : List (List ℕ)). names_right columns [] (map Used ns)) (tuples_same tuples)) (λ table columns r clear distinct p. insert_kinded d table columns clear distinct t tuples r p) (table_after 0 t tables) refl h) (λ columns. refl)
-read_again d tables (stmt_syn.Update t assigns cond) x are w h = table_again d tables t (stmt_syn.Update t assigns cond) x w (over_again d tables t (stmt_syn.Update t assigns cond) x are (λ columns. ap (λ (ns : List Name). names_right columns [] ns) (update_same assigns cond)) (λ table columns r clear distinct p. update_kinded d table columns clear distinct t assigns cond r p) (table_after 0 t tables) refl h) (λ columns. refl)
-read_again d tables (stmt_syn.Delete t cond) x are w h = table_again d tables t (stmt_syn.Delete t cond) x w (over_again d tables t (stmt_syn.Delete t cond) x are (λ columns. ap (λ (ns : List (List ℕ)). names_right columns [] (map Used ns)) (where_same cond)) (λ table columns r clear distinct p. delete_kinded d table columns clear distinct t cond r p) (table_after 0 t tables) refl h) (λ columns. refl)
-read_again d tables (stmt_syn.Lock t m) x are w h = table_again d tables t (stmt_syn.Lock t m) x w (over_again d tables t (stmt_syn.Lock t m) x are (λ columns. refl) (λ table columns r clear distinct p. lock_kinded d table columns clear distinct t m r p) (table_after 0 t tables) refl h) (λ columns. refl)
+pub read_again : (d : Limits) (tables : List Schema) (s : StmtSyn) (x : Stmt) → AreTables d tables → IsWithin d s → HasSize x → stmt_of tables s ≡ Ok x → ReadAgain d tables s x
+read_again d tables (stmt_syn.Begin l) x are w size h = plain_again d tables (stmt_syn.Begin l) x w tt (subst (λ (y : Stmt). written tables y ≡ stmt_syn.Begin l) (same_ok (stmt.Begin l) x h) refl) h
+read_again d tables stmt_syn.Commit x are w size h = plain_again d tables stmt_syn.Commit x w tt (subst (λ (y : Stmt). written tables y ≡ stmt_syn.Commit) (same_ok stmt.Commit x h) refl) h
+read_again d tables stmt_syn.Rollback x are w size h = plain_again d tables stmt_syn.Rollback x w tt (subst (λ (y : Stmt). written tables y ≡ stmt_syn.Rollback) (same_ok stmt.Rollback x h) refl) h
+read_again d tables (stmt_syn.Select q) x are w size h = table_again d tables q.table (stmt_syn.Select q) x w (over_again d tables q.table (stmt_syn.Select q) x are (λ columns. select_right columns q) (λ table columns r clear distinct p. select_kinded d table columns clear distinct q r w p) (λ table columns r some clear name size p. select_clear d columns some clear table q r w name p size) size (table_after 0 q.table tables) refl h) (λ columns. refl)
+read_again d tables (stmt_syn.Insert t tuples) x are w size h = table_again d tables t (stmt_syn.Insert t tuples) x w (over_again d tables t (stmt_syn.Insert t tuples) x are (λ columns. ap (λ (ns : List (List ℕ)). names_right columns [] (map Used ns)) (tuples_same tuples)) (λ table columns r clear distinct p. insert_kinded d table columns clear distinct t tuples r p) (λ table columns r some clear name size p. insert_clear d columns some clear table t tuples r w name p) size (table_after 0 t tables) refl h) (λ columns. refl)
+read_again d tables (stmt_syn.Update t assigns cond) x are w size h = table_again d tables t (stmt_syn.Update t assigns cond) x w (over_again d tables t (stmt_syn.Update t assigns cond) x are (λ columns. ap (λ (ns : List Name). names_right columns [] ns) (update_same assigns cond)) (λ table columns r clear distinct p. update_kinded d table columns clear distinct t assigns cond r p) (λ table columns r some clear name size p. update_clear d columns some clear table t assigns cond r w name p) size (table_after 0 t tables) refl h) (λ columns. refl)
+read_again d tables (stmt_syn.Delete t cond) x are w size h = table_again d tables t (stmt_syn.Delete t cond) x w (over_again d tables t (stmt_syn.Delete t cond) x are (λ columns. ap (λ (ns : List (List ℕ)). names_right columns [] (map Used ns)) (where_same cond)) (λ table columns r clear distinct p. delete_kinded d table columns clear distinct t cond r p) (λ table columns r some clear name size p. delete_clear d columns some clear table t cond r name p) size (table_after 0 t tables) refl h) (λ columns. refl)
+read_again d tables (stmt_syn.Lock t m) x are w size h = table_again d tables t (stmt_syn.Lock t m) x w (over_again d tables t (stmt_syn.Lock t m) x are (λ columns. refl) (λ table columns r clear distinct p. lock_kinded d table columns clear distinct t m r p) (λ table columns r some clear name size p. name) size (table_after 0 t tables) refl h) (λ columns. refl)

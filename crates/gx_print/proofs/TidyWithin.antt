@@ -1,5 +1,5 @@
 -- A tidied statement is within the same limits.
-use Rattle.std.proofs.Common.{◌≡◌, ℕ, List, [], ◌∷◌, map, Option, Some, None}
+use Rattle.std.proofs.Common.{List, [], ◌∷◌, map, Option, Some, None}
 use Rattle.std.specs.Option.{option_map}
 use Rattle.gx_tree.specs.declared.schema.Column.{Column}
 use Rattle.gx_tree.specs.declared.schema.Schema.{Schema}
@@ -7,15 +7,14 @@ use Rattle.gx_grammar.specs.declared.fault.Limits.{Limits}
 use Rattle.gx_grammar.specs.declared.syn.Syn.{Syn}
 use Rattle.gx_lines.specs.declared.syn.ItemsSyn.{ItemsSyn}
 use Rattle.gx_lines.specs.declared.syn.ItemsSyn.TheVariants as items
-use Rattle.gx_lines.specs.declared.syn.KeySyn.{KeySyn}
 use Rattle.gx_lines.specs.declared.syn.TupleSyn.{TupleSyn}
 use Rattle.gx_lines.specs.declared.syn.AssignSyn.{AssignSyn}
 use Rattle.gx_lines.specs.declared.syn.StmtSyn.{StmtSyn}
 use Rattle.gx_lines.specs.declared.syn.StmtSyn.TheVariants as stmt
 use Rattle.gx_print.specs.Forms.{IsShallow}
-use Rattle.gx_print.specs.Limited.{Each, Some_each, Maybe, ItemWithin, ItemsWithin, KeyWithin, SelectWithin, TupleWithin, AssignWithin, IsWithin}
+use Rattle.gx_print.specs.Limited.{Each, Some_each, Maybe, ItemWithin, ItemsWithin, KeyWithin, TupleWithin, AssignWithin, IsWithin}
 use Rattle.gx_print.specs.Reading.{IsColumnOf, IsTable}
-use Rattle.gx_print.specs.Tidied.{tidy, tidy_key, column_item, tidy_items, tidy_select, tidy_tuple, tidy_assign, tidied}
+use Rattle.gx_print.specs.Tidied.{tidy, tidy_key, column_item, tidy_items, tidy_tuple, tidy_assign, tidied}
 use Rattle.gx_print.proofs.TidyForms.{tidy_shallow}
 
 each_map : {A B : Type 0} (P : A → Type 0) (Q : B → Type 0) (g : A → B) → ((x : A) → P x → Q (g x)) → (xs : List A) → Each P xs → Each Q (map g xs)

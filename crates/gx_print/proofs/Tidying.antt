@@ -1,5 +1,5 @@
 -- What is resolved is written again as it was read, but tidied.
-use Rattle.std.proofs.Common.{◌≡◌, ◌⊎◌, ℕ, zero, suc, ◌+◌, ◌≤◌, ◌<◌, nat_eq, nat_le, ℤ, pos, negsuc, ◌-ℤ◌, Bool, true, false, ◌&&◌, if◌then◌else◌, List, [], ◌∷◌, ◌++◌, slice_get, Option, Some, None, refl, sym, ◌∙◌, ap, subst, arith}
+use Rattle.std.proofs.Common.{◌≡◌, ℕ, zero, suc, ◌+◌, ◌≤◌, nat_eq, ℤ, pos, negsuc, ◌-ℤ◌, Bool, true, false, ◌&&◌, if◌then◌else◌, List, [], ◌∷◌, Option, Some, None, refl, sym, ◌∙◌, ap, subst, arith}
 use Rattle.std.specs.Cmp.Lexicographic.{pointwise}
 use Rattle.gx_tree.specs.declared.schema.Column.{Column}
 use Rattle.gx_tree.specs.declared.schema.Kind.{Kind}
@@ -7,11 +7,9 @@ use Rattle.gx_tree.specs.declared.schema.Kind.TheVariants as kind
 use Rattle.gx_tree.specs.declared.value.Value.TheVariants as value
 use Rattle.gx_tree.specs.declared.expr.ArithOp.{ArithOp}
 use Rattle.gx_tree.specs.declared.expr.ArithOp.TheVariants as ariths
-use Rattle.gx_tree.specs.declared.expr.Expr.{Expr}
 use Rattle.gx_tree.specs.declared.expr.Expr.TheVariants as expr
 use Rattle.gx_tree.specs.declared.cond.CmpOp.{CmpOp}
 use Rattle.gx_tree.specs.declared.cond.CmpOp.TheVariants as cmps
-use Rattle.gx_tree.specs.declared.cond.Cond.TheVariants as cond
 use Rattle.gx_grammar.specs.declared.syn.Op.{Op}
 use Rattle.gx_grammar.specs.declared.syn.Op.TheVariants as op
 use Rattle.gx_grammar.specs.declared.syn.Syn.{Syn, roll-Syn}
@@ -20,7 +18,7 @@ use Rattle.gx_grammar.specs.declared.syn.Syn.TheVariants.{rolls-Number, rolls-Te
 use Rattle.gx_grammar.specs.declared.syn.Syn.TheOpen.{Syn-F}
 use Rattle.gx_grammar.specs.declared.syn.Syn.TheFolds.{fold-Syn, fold-roll-Syn, ind-Syn, map-Syn}
 use Rattle.gx_typing.specs.Columns.{column_from, column_of}
-use Rattle.gx_typing.specs.Typing.{number_typed, column_typed, neg_typed, not_typed, beside, wrong, arith_typed, number_compared, text_compared, cmp_typed, and_typed, or_typed, bin_typed, typed_step, typed_of}
+use Rattle.gx_typing.specs.Typing.{number_typed, column_typed, neg_typed, not_typed, beside, wrong, arith_typed, cmp_typed, and_typed, or_typed, bin_typed, typed_step, typed_of}
 use Rattle.gx_typing.specs.declared.typed.Typed.{Typed}
 use Rattle.gx_typing.specs.declared.typed.Typed.TheVariants.{Value, Cond, Unknown, Mismatch}
 use Rattle.gx_resolve.specs.Naming.{names_step, names_in}
@@ -28,7 +26,7 @@ use Rattle.gx_grammar.specs.Grammar.{Shape, parens, level, left_level}
 use Rattle.gx_print.specs.Shapes.{IsName, IsClear}
 use Rattle.gx_print.specs.Forms.{Form, enclosed_if, at_level, form_of}
 use Rattle.gx_print.specs.Limited.{Each, SynClear}
-use Rattle.gx_print.specs.Written.{name_of_column, column_name, arith_op, cmp_op, expr_syn, cond_syn}
+use Rattle.gx_print.specs.Written.{column_name, arith_op, cmp_op, expr_syn, cond_syn}
 use Rattle.gx_print.specs.Tidied.{tidy_number, tidy_step, tidy}
 use Rattle.gx_print.proofs.Levels.{pick_le}
 use Rattle.gx_print.proofs.Nodes.{form_of-number, form_of-text, form_of-column, form_of-neg, form_of-not, form_of-bin, expr_syn-lit, expr_syn-col, expr_syn-neg, expr_syn-bin, cond_syn-cmp, cond_syn-and, cond_syn-or, cond_syn-not}

@@ -1,5 +1,7 @@
 -- What a reader of statements knows of its tables.
-use Rattle.std.specs.Prelude.{◌≡◌, ℕ, ◌≤◌, List, [], ◌∷◌, length, map}
+use Rattle.std.specs.Prelude.{ℕ, ◌≤◌, List, map, Option, Some, None}
+use Rattle.gx_tree.specs.declared.stmt.Stmt.{Stmt}
+use Rattle.gx_tree.specs.declared.stmt.Stmt.TheVariants as stmt
 use Rattle.gx_tree.specs.declared.schema.Column.{Column}
 use Rattle.gx_tree.specs.declared.schema.Schema.{Schema}
 use Rattle.gx_grammar.specs.declared.fault.Limits.{Limits}
@@ -22,3 +24,12 @@ pub record IsTable (d : Limits) (table : Schema) : Type 0 where
 
 abbrev pub AreTables : Limits → List Schema → Type 0
 AreTables d tables = Each (IsTable d) tables
+
+-- a LIMIT has 64 bits
+abbrev pub IsSized : Option ℕ → Type 0
+IsSized None = Unit {0}
+IsSized (Some n) = n ≤ 18446744073709551615
+
+abbrev pub HasSize : Stmt → Type 0
+HasSize (stmt.Select q) = IsSized q.limit
+HasSize _ = Unit {0}

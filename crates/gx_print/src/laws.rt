@@ -12,9 +12,9 @@ ghost use Rattle.gx_lines.specs.Statements.{stmt};
 ghost use Rattle.gx_resolve.specs.Resolving.{stmt_of};
 ghost use Rattle.gx_print.specs.Forms.{IsShallow};
 ghost use Rattle.gx_print.specs.Statements.{stmt_tokens, stmt_text};
-ghost use Rattle.gx_print.specs.Limited.{IsWithin, StmtClear};
-ghost use Rattle.gx_print.specs.Written.{written};
-ghost use Rattle.gx_print.specs.Reading.{AreTables};
+ghost use Rattle.gx_print.specs.Limited.{IsWithin, StmtClear, IsPrintedAs};
+ghost use Rattle.gx_print.specs.Written.{written, printed};
+ghost use Rattle.gx_print.specs.Reading.{AreTables, HasSize};
 
 /// A statement's bytes are cut into its tokens.
 pub fn printed_is_cut()
@@ -37,8 +37,8 @@ pub fn read_is_within()
     ensures { (d : Limits) (s : StmtSyn) (ts : List Token) → stmt d s ts → IsWithin d s }
 {}
 
-/// A statement that was read over tables is printed within the limits, and reads as the same statement.
-pub fn read_reads_again()
-    ensures { (d : Limits) (tables : List Schema) (s : StmtSyn) (x : Stmt) (ts : List Token) → AreTables d tables → stmt d s ts → stmt_of tables s ≡ Ok x → IsWithin d (written tables x) × (stmt_of tables (written tables x) ≡ Ok x) }
-{
-}
+/// A statement that was read over tables is printed as bytes that are cut and spelled within the limits, and what they
+/// spell reads as the same statement over the same tables.
+pub fn printed_reads_again()
+    ensures { (d : Limits) (tables : List Schema) (s : StmtSyn) (x : Stmt) (ts : List Token) → AreTables d tables → stmt d s ts → stmt_of tables s ≡ Ok x → HasSize x → IsPrintedAs d (written tables x) (printed tables x) × (stmt_of tables (written tables x) ≡ Ok x) }
+{}
