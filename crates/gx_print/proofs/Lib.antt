@@ -9,6 +9,7 @@ pub mod StmtWithin
 pub mod Nodes
 pub mod CondNodes
 pub mod Printed
+pub mod Tidied
 pub mod Tidying
 pub mod TidyForms
 pub mod Resolved

@@ -22,7 +22,7 @@ use Rattle.gx_resolve.specs.Rules.{AreDistinct, column_text}
 use Rattle.gx_print.proofs.Tidying.{HasName}
 use Rattle.gx_print.specs.Limited.{Each, Some_each, Maybe, IsShort, KeyWithin, SelectWithin}
 use Rattle.gx_print.specs.Written.{column_name, cond_syn, item_syn_of, key_syn, unless_empty, to_size, select_syn}
-use Rattle.gx_print.specs.Tidied.{tidy, tidy_key, tidy_items, tidy_select}
+use Rattle.gx_print.proofs.Tidied.{tidy, tidy_key, tidy_items, tidy_select}
 use Rattle.gx_print.proofs.Resolved.{bound, same_ok, goes, Again, list_again, where_again, item_written, name_written, key_again}
 use Rattle.gx_print.proofs.AllColumns.{columns_written, columns_again, no_aggregate}
 

@@ -29,7 +29,7 @@ use Rattle.gx_resolve.specs.Results.{Answer, ◌>>=◌, each}
 use Rattle.gx_resolve.specs.Kinding.{column_at, value_as, cond_as, where_as, constant_as, values_as, tuple_as, assign_as}
 use Rattle.gx_resolve.specs.Selecting.{agg_as, item_as, name_as, descends, key_as}
 use Rattle.gx_print.specs.Written.{column_name, expr_syn, cond_syn, item_syn_of, direction_of_key, key_syn, tuple_syn, assign_syn}
-use Rattle.gx_print.specs.Tidied.{tidy, tidy_direction, tidy_key, tidy_tuple, tidy_assign}
+use Rattle.gx_print.proofs.Tidied.{tidy, tidy_direction, tidy_key, tidy_tuple, tidy_assign}
 use Rattle.gx_print.specs.Shapes.{IsName}
 use Rattle.gx_print.specs.Limited.{Each, Maybe, SynClear, ItemClear, KeyClear, AssignClear}
 use Rattle.gx_print.proofs.Tidying.{HasName, column_again, column_clear, Writes, written_tidy, typed_again}

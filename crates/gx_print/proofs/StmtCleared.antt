@@ -28,7 +28,7 @@ use Rattle.gx_print.specs.Shapes.{IsName, IsNumber}
 use Rattle.gx_print.specs.Forms.{IsShallow}
 use Rattle.gx_print.specs.Limited.{Each, Some_each, Maybe, IsShort, ItemWithin, ItemsWithin, KeyWithin, SelectWithin, TupleWithin, AssignWithin, IsWithin, SynClear, ItemClear, ItemsClear, KeyClear, SizeClear, SelectClear, TupleClear, AssignClear, StmtClear}
 use Rattle.gx_print.specs.Reading.{IsColumnOf, IsSized, HasSize}
-use Rattle.gx_print.specs.Tidied.{tidy, tidy_key, column_item, tidy_items, tidy_select, tidy_tuple, tidy_assign, tidied}
+use Rattle.gx_print.proofs.Tidied.{tidy, tidy_key, column_item, tidy_items, tidy_select, tidy_tuple, tidy_assign, tidied}
 use Rattle.gx_print.proofs.Tidying.{HasName}
 use Rattle.gx_print.proofs.Resolved.{bound, same_ok, where_clear, values_clear, assign_clear, item_clear, name_clear, key_clear, each_clear}
 use Rattle.gx_print.proofs.TidyWithin.{some_each_map}

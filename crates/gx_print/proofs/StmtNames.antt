@@ -12,7 +12,7 @@ use Rattle.gx_lines.specs.declared.syn.TupleSyn.{TupleSyn}
 use Rattle.gx_lines.specs.declared.syn.AssignSyn.{AssignSyn}
 use Rattle.gx_resolve.specs.Results.{Answer}
 use Rattle.gx_resolve.specs.Naming.{Name, Used, Given, names_in, items_names, where_names, group_names, key_name, order_names, select_names, tuple_names, assign_names, update_names, names_right}
-use Rattle.gx_print.specs.Tidied.{tidy, tidy_key, tidy_items, tidy_select, tidy_tuple, tidy_assign}
+use Rattle.gx_print.proofs.Tidied.{tidy, tidy_key, tidy_items, tidy_select, tidy_tuple, tidy_assign}
 use Rattle.gx_print.proofs.Tidying.{names_again}
 use Rattle.gx_print.proofs.AllColumns.{columns_skipped}
 

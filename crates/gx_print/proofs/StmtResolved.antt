@@ -26,7 +26,7 @@ use Rattle.gx_resolve.specs.Resolving.{kinded, sets_key, key_kept, over_found, t
 use Rattle.gx_resolve.specs.Rules.{AreDistinct, column_text}
 use Rattle.gx_print.specs.Limited.{Each, Some_each, IsWithin, StmtClear}
 use Rattle.gx_print.specs.Written.{name_of_schema, columns_of_schema, table_name, columns_of, cond_syn, tuple_syn, assign_syn, select_syn, mode_at, written}
-use Rattle.gx_print.specs.Tidied.{tidy, tidy_select, tidy_tuple, tidy_assign, tidied}
+use Rattle.gx_print.proofs.Tidied.{tidy, tidy_select, tidy_tuple, tidy_assign, tidied}
 use Rattle.gx_print.specs.Reading.{IsColumnOf, IsTable, AreTables, HasSize}
 use Rattle.gx_print.specs.Shapes.{IsName}
 use Rattle.gx_print.proofs.StmtCleared.{select_clear, insert_clear, update_clear, delete_clear}

@@ -7,7 +7,7 @@ use Rattle.gx_grammar.specs.declared.syn.Syn.TheOpen.{Syn-F}
 use Rattle.gx_grammar.specs.declared.syn.Syn.TheFolds.{fold-roll-Syn, ind-Syn, map-Syn}
 use Rattle.gx_grammar.specs.Grammar.{Shape, parens, level, left_level, Within, operators_of}
 use Rattle.gx_print.specs.Forms.{Form, enclosed_if, at_level, number_form, text_form, column_form, minus_form, not_form, op_form, form_step, form_of, IsShallow}
-use Rattle.gx_print.specs.Tidied.{tidy_number, tidy_step, tidy}
+use Rattle.gx_print.proofs.Tidied.{tidy_number, tidy_step, tidy}
 use Rattle.gx_print.proofs.Nodes.{form_of-number, form_of-text, form_of-column, form_of-neg, form_of-not, form_of-bin}
 
 -- as deep, with as many operators

@@ -14,7 +14,7 @@ use Rattle.gx_lines.specs.declared.syn.StmtSyn.TheVariants as stmt
 use Rattle.gx_print.specs.Forms.{IsShallow}
 use Rattle.gx_print.specs.Limited.{Each, Some_each, Maybe, ItemWithin, ItemsWithin, KeyWithin, TupleWithin, AssignWithin, IsWithin}
 use Rattle.gx_print.specs.Reading.{IsColumnOf, IsTable}
-use Rattle.gx_print.specs.Tidied.{tidy, tidy_key, column_item, tidy_items, tidy_tuple, tidy_assign, tidied}
+use Rattle.gx_print.proofs.Tidied.{tidy, tidy_key, column_item, tidy_items, tidy_tuple, tidy_assign, tidied}
 use Rattle.gx_print.proofs.TidyForms.{tidy_shallow}
 
 each_map : {A B : Type 0} (P : A → Type 0) (Q : B → Type 0) (g : A → B) → ((x : A) → P x → Q (g x)) → (xs : List A) → Each P xs → Each Q (map g xs)

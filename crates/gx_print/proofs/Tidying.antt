@@ -27,7 +27,7 @@ use Rattle.gx_print.specs.Shapes.{IsName, IsClear}
 use Rattle.gx_print.specs.Forms.{Form, enclosed_if, at_level, form_of}
 use Rattle.gx_print.specs.Limited.{Each, SynClear}
 use Rattle.gx_print.specs.Written.{column_name, arith_op, cmp_op, expr_syn, cond_syn}
-use Rattle.gx_print.specs.Tidied.{tidy_number, tidy_step, tidy}
+use Rattle.gx_print.proofs.Tidied.{tidy_number, tidy_step, tidy}
 use Rattle.gx_print.proofs.Levels.{pick_le}
 use Rattle.gx_print.proofs.Nodes.{form_of-number, form_of-text, form_of-column, form_of-neg, form_of-not, form_of-bin, expr_syn-lit, expr_syn-col, expr_syn-neg, expr_syn-bin, cond_syn-cmp, cond_syn-and, cond_syn-or, cond_syn-not}
 

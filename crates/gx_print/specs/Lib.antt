@@ -4,5 +4,4 @@ pub mod Statements
 pub mod Limited
 pub mod Written
 pub mod Levels
-pub mod Tidied
 pub mod Reading
