@@ -19,3 +19,4 @@ pub mod QueryResolved
 pub mod TidyWithin
 pub mod StmtCleared
 pub mod StmtResolved
+pub mod TableNames

@@ -54,7 +54,7 @@ name_is d n (token.Text w) e = absurd (cc)
 name_is d n (token.Symbol w) e = absurd (cc)
 name_is d n token.Bad e = absurd (cc)
 
-name_short : (d : Limits) (n : List ℕ) (ts : List Token) → query.name d n ts → IsShort d n
+pub name_short : (d : Limits) (n : List ℕ) (ts : List Token) → query.name d n ts → IsShort d n
 name_short d n ts (y, e, k) = name_is d n y e
 
 -- QUERIES
