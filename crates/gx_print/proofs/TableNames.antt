@@ -1,8 +1,6 @@
 -- A table that was read has names of the language.
-use Rattle.std.proofs.Common.{◌≡◌, ℕ, ◌≤◌, ◌+◌, nat_le, Bool, true, false, ◌||◌, if◌then◌else◌, List, [], ◌∷◌, ◌++◌, length, map, Option, Some, None, Ok, Err, refl, sym, ◌∙◌, ap, subst, arith}
-use Rattle.gx_tree.specs.declared.schema.Column.{Column}
+use Rattle.std.proofs.Common.{◌≡◌, ℕ, nat_le, Bool, true, false, if◌then◌else◌, List, [], ◌∷◌, ◌++◌, length, map, Option, Some, None, Ok, refl, sym, subst, arith}
 use Rattle.gx_tree.specs.declared.schema.Schema.{Schema}
-use Rattle.gx_tree.specs.declared.schema.Dist.{Dist}
 use Rattle.gx_lex.specs.declared.word.Word.{Word}
 use Rattle.gx_lex.specs.declared.word.Word.TheVariants as word_is
 use Rattle.gx_lex.specs.declared.symbol.Symbol.TheVariants as symbol
@@ -12,20 +10,18 @@ use Rattle.gx_lex.specs.Words.{keyword_of}
 use Rattle.gx_lex.specs.Lexing.{is_capital, is_letter, is_word_byte, every, any, Begins, small, smalls, Lexeme, word, digits, text, sign, open_text, stray, IsLexeme, word_of, token_of, Lexes}
 use Rattle.gx_grammar.specs.declared.fault.Limits.{Limits}
 use Rattle.gx_grammar.specs.declared.fault.LineLimit.TheVariants as limit
-use Rattle.gx_grammar.specs.Rules.{Pick, Is, Passes, one, both, many, made, behind}
+use Rattle.gx_grammar.specs.Rules.{Is, Passes, many, made, behind}
 use Rattle.gx_grammar.specs.Tokens.{is_word, is_sign, name_of, is_comma, listed, enclosed}
-use Rattle.gx_lines.specs.declared.classes.KindSyn.{KindSyn}
 use Rattle.gx_lines.specs.declared.syn.ColumnSyn.{ColumnSyn}
-use Rattle.gx_lines.specs.declared.syn.DistSyn.{DistSyn}
 use Rattle.gx_lines.specs.declared.syn.TableSyn.{TableSyn}
 use Rattle.gx_lines.specs.declared.syn.LineSyn.TheVariants as line
 use Rattle.gx_lines.specs.Queries as query
 use Rattle.gx_lines.specs.Heads as head
-use Rattle.gx_resolve.specs.Results.{Answer, ◌>>=◌}
+use Rattle.gx_resolve.specs.Results.{◌>>=◌}
 use Rattle.gx_resolve.specs.Resolving.{column_as, columns_new, dist_as, new_table}
 use Rattle.gx_resolve.specs.Rules.{IsSchema}
 use Rattle.gx_print.specs.Shapes.{is_small_letter, is_name_byte, IsName}
-use Rattle.gx_print.specs.Limited.{Each, Some_each, IsShort}
+use Rattle.gx_print.specs.Limited.{Each, Some_each}
 use Rattle.gx_print.specs.Reading.{IsNamed, IsColumnOf, IsTable}
 use Rattle.gx_print.proofs.Resolved.{bound, same_ok}
 use Rattle.gx_print.proofs.StmtWithin.{name_short}

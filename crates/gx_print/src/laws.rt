@@ -50,5 +50,4 @@ pub fn printed_reads_again()
 /// A table that a line declares is one over which statements are read: its names are those of the language.
 pub fn declared_is_table()
     ensures { (d : Limits) (t : TableSyn) (schema : Schema) (ts : List Token) (bytes : List ℕ) → Lexes ts bytes → table d (Table t) ts → new_table t ≡ Ok schema → IsSchema schema → IsTable d schema }
-{
-}
+{}
