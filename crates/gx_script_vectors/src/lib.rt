@@ -8,6 +8,8 @@ mod script_lines;
 #[cfg(test)]
 mod script_modes;
 #[cfg(test)]
+mod script_printing;
+#[cfg(test)]
 mod script_resolving;
 #[cfg(test)]
 mod script_typing;

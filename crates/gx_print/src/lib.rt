@@ -1,0 +1,13 @@
+//! The printed form of a statement, and that it reads back.
+#![tactic(auto)]
+
+pub mod bytes;
+pub mod conds;
+pub mod exprs;
+pub mod laws;
+pub mod lists;
+pub mod names;
+pub mod queries;
+pub mod stmts;
+
+pub use stmts::print_stmt;
