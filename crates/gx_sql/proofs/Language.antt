@@ -1,28 +1,31 @@
 -- A script that was read keeps the rules and the limits of the language.
 use Rattle.std.proofs.Common.{◌≡◌, inl, inr, ℕ, ◌+◌, ◌<◌, ◌≤◌, nat_le, nat_lt, ◌==◌, max, if◌then◌else◌, is_some, Bool, true, false, not, ◌&&◌, List, [], ◌∷◌, ◌++◌, length, map, All, Option, Some, None, Result, Ok, Err, IfOk, refl, sym, ◌∙◌, ap, subst, arith}
-use Rattle.std.proofs.lemmas.List.Elements.{All-nil, All-push, All-weaker}
+use Rattle.std.proofs.lemmas.List.Elements.{All-nil, All-cons, All-push, All-map, All-weaker}
 use Rattle.gx_lex.specs.declared.token.Token.{Token}
 use Rattle.gx_lex.specs.declared.token.Token.TheVariants as token
 use Rattle.gx_grammar.specs.declared.fault.Limits.{Limits}
 use Rattle.gx_grammar.specs.declared.fault.LineLimit.TheVariants as line_limit
-use Rattle.gx_grammar.specs.Rules.{Is, Isnt, Passes}
+use Rattle.gx_grammar.specs.Rules.{Is, Isnt, Passes, many, behind}
+use Rattle.gx_grammar.specs.Tokens.{is_comma, name_of}
 use Rattle.gx_lines.specs.declared.classes.Segments.{Segments}
 use Rattle.gx_lines.specs.declared.classes.Switch.{Switch}
+use Rattle.gx_lines.specs.declared.syn.ColumnSyn.{ColumnSyn}
 use Rattle.gx_lines.specs.declared.syn.LinkSyn.{LinkSyn}
 use Rattle.gx_lines.specs.declared.syn.StmtSyn.{StmtSyn}
 use Rattle.gx_lines.specs.declared.syn.TableSyn.{TableSyn}
 use Rattle.gx_lines.specs.declared.syn.LineSyn.{LineSyn}
 use Rattle.gx_lines.specs.declared.syn.LineSyn.TheVariants as line_syn
 use Rattle.gx_lines.specs.Classes.{segments_of, in_range, number_in}
-use Rattle.gx_lines.specs.Heads.{segments, table, link, session_line, head_line}
+use Rattle.gx_lines.specs.Heads.{segments, column, table, link, session_line, head_line}
+use Rattle.gx_tree.specs.declared.schema.Column.{Column}
 use Rattle.gx_tree.specs.declared.schema.Schema.{Schema}
 use Rattle.gx_tree.specs.declared.stmt.Stmt.{Stmt}
 use Rattle.gx_script.specs.declared.Line.{Line}
 use Rattle.gx_script.specs.declared.LinkFault.{LinkFault}
 use Rattle.gx_script.specs.declared.Script.{Script}
 use Rattle.gx_resolve.specs.Results.{Answer}
-use Rattle.gx_resolve.specs.Rules.{IsOneOf, AreDistinct, IsStmtOf}
-use Rattle.gx_resolve.specs.Resolving.{stmt_of, table_from}
+use Rattle.gx_resolve.specs.Rules.{IsOneOf, AreDistinct, column_text, IsStmtOf}
+use Rattle.gx_resolve.specs.Resolving.{column_as, stmt_of, table_from}
 use Rattle.gx_resolve.proofs.Promised.{table_promise, stmt_of-keeps}
 use Rattle.gx_sql.specs.declared.refusal.Limit.TheVariants as limit
 use Rattle.gx_sql.specs.declared.refusal.LineFault.{LineFault}
@@ -34,9 +37,9 @@ use Rattle.gx_sql.specs.Counts.{is_session}
 use Rattle.gx_sql.specs.Held.{HasRoom}
 use Rattle.gx_sql.specs.Progress.{Progress, start, giving, is_on, is_known, link_fault, place_of, count_of, counted, next_line, with_detector, with_table, with_link, with_line, with_session, with_line_syn}
 use Rattle.gx_sql.specs.Script.{the_limits, Told, TokensSay, LineSays, Goes, Where, ReadsOn, script_of, ended}
-use Rattle.gx_sql.specs.Language.{table_name, IsTable, IsLine, lines_in, AreNumbered, BeginInOrder, IsFault, IsScript}
+use Rattle.gx_sql.specs.Language.{table_name, IsName, IsTable, IsLine, lines_in, AreNumbered, BeginInOrder, IsFault, IsScript}
 use Rattle.gx_sql.proofs.Held.{length_snoc}
-use Rattle.gx_sql.proofs.Named.{table_made}
+use Rattle.gx_sql.proofs.Named.{made_columns, table_made}
 use Rattle.gx_sql.proofs.Room.{head_room, line_room}
 use Rattle.gx_sql.proofs.Numbered.{distinct_snoc, unknown_apart, tables_snoc, stmt_more, names, other_apart, names_known, names_new, length_names, place_known, place_new, AreCounted, counted_next, count_is, none_next, order_known, order_new, numbered_snoc}
 
@@ -86,11 +89,41 @@ token_both d token.Bad x h = absurd cc
 told_both : (d : Limits) (n : Segments) (ts : List Token) → segments d n ts → (1 ≤ n.0) × (n.0 ≤ max d.segments 1)
 told_both d n ts (p, e, (us, vs, q, (y, m, f), r)) = subst (λ (n : Segments). (1 ≤ n.0) × (n.0 ≤ max d.segments 1)) (sym e) (token_both d y p.1 m)
 
+name_to : (d : Limits) (y : Token) (n : List ℕ) → name_of d y ≡ Is n → length n ≤ d.name
+name_to d (token.Name m) n e = pick (nat_le (length m) d.name) refl
+  where
+    pick : (b : Bool) → nat_le (length m) d.name ≡ b → length n ≤ d.name
+    pick true q =
+        let same : m ≡ n = cc in
+        let to : length m ≤ d.name = grind arith in
+        subst (λ (n : List ℕ). length n ≤ d.name) same to
+    pick false q = absurd cc
+name_to d (token.Word w) n e = absurd cc
+name_to d (token.Number k) n e = absurd cc
+name_to d (token.Text t) n e = absurd cc
+name_to d (token.Symbol s) n e = absurd cc
+name_to d token.Bad n e = absurd cc
+
+-- COLUMNS
+abbrev IsNarrow : Limits → ColumnSyn → Type 0
+IsNarrow d c = length c.name ≤ d.name
+
+column_to : (d : Limits) (c : ColumnSyn) (ts : List Token) → column d c ts → IsNarrow d c
+column_to d c ts (a, f, (ns, ms, (y, ny, oy), z, s)) = subst (IsNarrow d) (sym f) (name_to d y a.0 ny)
+
+further_to : (d : Limits) (c : ColumnSyn) (ts : List Token) → behind is_comma (column d) c ts → IsNarrow d c
+further_to d c ts (p, e, (ks, ls, k, q, r)) = subst (IsNarrow d) (sym e) (column_to d p.1 ls q)
+
+columns_to : (d : Limits) (cs : List ColumnSyn) (ts : List Token) → many (behind is_comma (column d)) cs ts → All (IsNarrow d) cs
+columns_to d [] ts m = All-nil (IsNarrow d)
+columns_to d (c ∷ cs) ts (us, vs, q, m, e) = All-cons (IsNarrow d) c cs (further_to d c us q) (columns_to d cs vs m)
+
 -- LINES BY THEIR RULES
-abbrev Fits : ℕ → LineSyn → Type 0
-Fits n (line_syn.Table t) = 1 ≤ length t.columns
-Fits n (line_syn.Link l) = (1 ≤ l.segment) × (l.segment ≤ n) × (1 ≤ l.number)
-Fits n _ = Unit {0}
+abbrev Fits : Limits → ℕ → LineSyn → Type 0
+Fits d n (line_syn.Table t) = (length t.name ≤ d.name) × (1 ≤ length t.columns) × All (IsNarrow d) t.columns
+Fits d n (line_syn.Link l) = (1 ≤ l.segment) × (l.segment ≤ n) × (1 ≤ l.number)
+Fits d n (line_syn.Session name s) = length name ≤ d.name
+Fits d n (line_syn.Detector s) = Unit {0}
 
 some_length : {X : Type 0} (xs : List X) (y : X) (ys : List X) → xs ≡ y ∷ ys → 1 ≤ length xs
 some_length {X = X} xs y ys e = subst (λ xs. 1 ≤ length xs) (sym e) (first ys)
@@ -98,21 +131,26 @@ some_length {X = X} xs y ys e = subst (λ xs. 1 ≤ length xs) (sym e) (first ys
     first : (ys : List X) → 1 ≤ length (y ∷ ys)
     first ys = omega arith
 
-table_fits : (d : Limits) (n : ℕ) (line : LineSyn) (ts : List Token) → table d line ts → Fits n line
-table_fits d n line ts (p, e, (us, vs, q, (ws, xs, (w, e2, (zs, bs, (x, e3, (os, ls, on, (y, e4, more), r3)), cl, r2)), di, r1), r0)) =
-    subst (Fits n) (sym e) (some_length p.1.0 y.0 y.1 (e2 ∙ e3 ∙ e4))
+table_fits : (d : Limits) (n : ℕ) (line : LineSyn) (ts : List Token) → table d line ts → Fits d n line
+table_fits d n line ts (p, e, (us, vs, (p1, e1, (ks, ns, k, (z, nz, oz), s)), (ws, xs, (w, e2, (zs, bs, (x, e3, (os, ls, on, (y, e4, (c0, c1, co, ma, r4)), r3)), cl, r2)), di, r1), r0)) =
+    let columns = e2 ∙ e3 ∙ e4 in
+    subst (Fits d n) (sym e) (
+      subst (λ (name : List ℕ). length name ≤ d.name) (sym e1) (name_to d z p1.1 nz),
+      some_length p.1.0 y.0 y.1 columns,
+      subst (All (IsNarrow d)) (sym columns) (All-cons (IsNarrow d) y.0 y.1 (column_to d y.0 c0 co) (columns_to d y.1 c1 ma)),
+    )
 
-link_fits : (d : Limits) (n : ℕ) (line : LineSyn) (ts : List Token) → link n line ts → Fits n line
+link_fits : (d : Limits) (n : ℕ) (line : LineSyn) (ts : List Token) → link n line ts → Fits d n line
 link_fits d n line ts (p, e, (us, vs, q, (us2, vs2, q2, (us3, vs3, (y, ny, oy), (p4, e4, (ks, ls, k, (z, nz, oz), r4)), r3), r2), r1)) =
     let segment = number_both 1 n y p.1.1.0 ny in
     let number = number_both 1 18446744073709551615 z p4.1 nz in
-    subst (Fits n) (sym e) (segment.0, segment.1, subst (λ (m : ℕ). 1 ≤ m) (sym e4) number.0)
+    subst (Fits d n) (sym e) (segment.0, segment.1, subst (λ (m : ℕ). 1 ≤ m) (sym e4) number.0)
 
-session_fits : (d : Limits) (n : ℕ) (line : LineSyn) (ts : List Token) → session_line d line ts → Fits n line
-session_fits d n line ts (p, e, q) = subst (Fits n) (sym e) tt
+session_fits : (d : Limits) (n : ℕ) (line : LineSyn) (ts : List Token) → session_line d line ts → Fits d n line
+session_fits d n line ts (p, e, (us, vs, (y, ny, oy), q, r)) = subst (Fits d n) (sym e) (name_to d y p.0 ny)
 
-head_fits : (d : Limits) (n : ℕ) (line : LineSyn) (ts : List Token) → head_line n d line ts → Fits n line
-head_fits d n line ts (inl (a, e, q)) = subst (Fits n) (sym e) tt
+head_fits : (d : Limits) (n : ℕ) (line : LineSyn) (ts : List Token) → head_line n d line ts → Fits d n line
+head_fits d n line ts (inl (a, e, q)) = subst (Fits d n) (sym e) tt
 head_fits d n line ts (inr (inl q)) = table_fits d n line ts q
 head_fits d n line ts (inr (inr (inl q))) = link_fits d n line ts q
 head_fits d n line ts (inr (inr (inr q))) = session_fits d n line ts q
@@ -127,6 +165,7 @@ record Keeps (number : ℕ) (p : Progress) : Type 0 where
   pub tables : All IsTable p.tables
   pub table_names : AreDistinct (map table_name p.tables)
   pub few_tables : length p.tables ≤ 64
+  pub sessions : All IsName (names p.sessions)
   pub session_names : AreDistinct (names p.sessions)
   pub few_sessions : length p.sessions ≤ 64
   pub lines : All (IsLine p.tables (length p.sessions)) p.lines
@@ -139,7 +178,7 @@ record Keeps (number : ℕ) (p : Progress) : Type 0 where
 keeps_more : (number : ℕ) (p : Progress) → Keeps number p → Keeps (number + 1) p
 keeps_more number p k =
     let few = k.few_lines in
-    record { tables = k.tables; table_names = k.table_names; few_tables = k.few_tables; session_names = k.session_names; few_sessions = k.few_sessions; lines = k.lines; few_lines = omega arith; numbers = k.numbers; order = k.order; counts = k.counts; faults = k.faults }
+    record { tables = k.tables; table_names = k.table_names; few_tables = k.few_tables; sessions = k.sessions; session_names = k.session_names; few_sessions = k.few_sessions; lines = k.lines; few_lines = omega arith; numbers = k.numbers; order = k.order; counts = k.counts; faults = k.faults }
 
 detector_keeps : (number : ℕ) (p : Progress) (s : Switch) (q : Progress) → Keeps number p → with_detector p s ≡ Ok q → Keeps number q
 detector_keeps number p s q k e = pick (is_some p.detector) refl
@@ -148,7 +187,7 @@ detector_keeps number p s q k e = pick (is_some p.detector) refl
     pick true h = absurd cc
     pick false h =
         let same : q ≡ record p { detector = Some (is_on s) } = cc in
-        subst (Keeps number) (sym same) (record { tables = k.tables; table_names = k.table_names; few_tables = k.few_tables; session_names = k.session_names; few_sessions = k.few_sessions; lines = k.lines; few_lines = k.few_lines; numbers = k.numbers; order = k.order; counts = k.counts; faults = k.faults })
+        subst (Keeps number) (sym same) (record { tables = k.tables; table_names = k.table_names; few_tables = k.few_tables; sessions = k.sessions; session_names = k.session_names; few_sessions = k.few_sessions; lines = k.lines; few_lines = k.few_lines; numbers = k.numbers; order = k.order; counts = k.counts; faults = k.faults })
 
 faults_snoc : (o : Option ℕ) (n : ℕ) (fs : List LinkFault) (f : LinkFault) → o ≡ Some n → IsFault n f → KeepsFaults o fs → KeepsFaults o (fs ++ f ∷ [])
 faults_snoc None n fs f e h k = absurd cc
@@ -156,10 +195,10 @@ faults_snoc (Some m) n fs f e h k =
     let same : n ≡ m = cc in
     (k.0, k.1, All-push (IsFault m) fs f k.2 (subst (λ (n : ℕ). IsFault n f) same h))
 
-link_keeps : (number n : ℕ) (p : Progress) (l : LinkSyn) (q : Progress) → p.segments ≡ Some n → Fits n (line_syn.Link l) → Keeps number p → with_link p l ≡ Ok q → Keeps number q
+link_keeps : (number n : ℕ) (p : Progress) (l : LinkSyn) (q : Progress) → p.segments ≡ Some n → Fits the_limits n (line_syn.Link l) → Keeps number p → with_link p l ≡ Ok q → Keeps number q
 link_keeps number n p l q s f k e =
     let same : q ≡ record p { faults = p.faults ++ link_fault l ∷ [] } = cc in
-    subst (Keeps number) (sym same) (record { tables = k.tables; table_names = k.table_names; few_tables = k.few_tables; session_names = k.session_names; few_sessions = k.few_sessions; lines = k.lines; few_lines = k.few_lines; numbers = k.numbers; order = k.order; counts = k.counts; faults = faults_snoc p.segments n p.faults (link_fault l) s f k.faults })
+    subst (Keeps number) (sym same) (record { tables = k.tables; table_names = k.table_names; few_tables = k.few_tables; sessions = k.sessions; session_names = k.session_names; few_sessions = k.few_sessions; lines = k.lines; few_lines = k.few_lines; numbers = k.numbers; order = k.order; counts = k.counts; faults = faults_snoc p.segments n p.faults (link_fault l) s f k.faults })
 
 given : {A : Type 0} (f : A → Progress) (answer : Answer A) (q : Progress) → giving f answer ≡ Ok q → (a : A) × (answer ≡ Ok a) × (q ≡ f a)
 given f (Ok a) q e = (a, refl, cc)
@@ -173,6 +212,7 @@ table_keeps number p s is apart few k =
       tables = All-push IsTable p.tables s k.tables is;
       table_names = subst AreDistinct (sym (tables_snoc p.tables s)) (distinct_snoc (map table_name p.tables) s.name k.table_names apart);
       few_tables = omega arith;
+      sessions = k.sessions;
       session_names = k.session_names;
       few_sessions = k.few_sessions;
       lines = All-weaker (IsLine p.tables (length p.sessions)) (IsLine (p.tables ++ s ∷ []) (length p.sessions)) (λ (l : Line) h. (h.0, stmt_more p.tables s l.stmt h.1)) p.lines k.lines;
@@ -183,17 +223,22 @@ table_keeps number p s is apart few k =
       faults = k.faults;
     }
 
-declared_keeps : (number n : ℕ) (p : Progress) (t : TableSyn) (q : Progress) → Fits n (line_syn.Table t) → HasRoom (length p.tables) p.sessions (line_syn.Table t) → Keeps number p → with_table p t ≡ Ok q → Keeps number q
+declared_keeps : (number n : ℕ) (p : Progress) (t : TableSyn) (q : Progress) → Fits the_limits n (line_syn.Table t) → HasRoom (length p.tables) p.sessions (line_syn.Table t) → Keeps number p → with_table p t ≡ Ok q → Keeps number q
 declared_keeps number n p t q f room k e =
     let g = given (λ (schema : Schema). record p { tables = p.tables ++ schema ∷ [] }) (table_from (is_known t.name p.tables) t) q e in
     let made = table_made (is_known t.name p.tables) t g.0 g.1 in
     let columns = made.2 in
     let narrow = room.1 in
-    let schema = table_promise (is_known t.name p.tables) t (Ok g.0) g.1 f in
-    subst (Keeps number) (sym g.2) (table_keeps number p g.0 (schema, omega arith) (subst (λ (name : List ℕ). ¬ (IsOneOf name (map table_name p.tables))) (sym made.1) (unknown_apart t.name p.tables 0 made.0)) room.0 k)
+    let is : IsTable g.0 = record {
+      name = subst IsName (sym made.1) f.0;
+      schema = table_promise (is_known t.name p.tables) t (Ok g.0) g.1 f.1;
+      few_columns = omega arith;
+      column_names = subst (λ (cs : List Column). All IsName (map column_text cs)) (sym (made_columns (is_known t.name p.tables) t g.0 g.1)) (All-map IsName column_text (map column_as t.columns) (All-map (λ (c : Column). IsName c.name) column_as t.columns f.2));
+    } in
+    subst (Keeps number) (sym g.2) (table_keeps number p g.0 is (subst (λ (name : List ℕ). ¬ (IsOneOf name (map table_name p.tables))) (sym made.1) (unknown_apart t.name p.tables 0 made.0)) room.0 k)
 
 -- a line more
-module _ (number : ℕ) (p : Progress) (name : List ℕ) (stmt : Stmt) (k : Keeps number p) (is : IsStmtOf p.tables stmt) where
+module _ (number : ℕ) (p : Progress) (name : List ℕ) (stmt : Stmt) (k : Keeps number p) (short : IsName name) (is : IsStmtOf p.tables stmt) where
   abbrev Then : List (List ℕ × ℕ)
   Then = counted name (count_of name p.sessions + 1) p.sessions
 
@@ -203,14 +248,15 @@ module _ (number : ℕ) (p : Progress) (name : List ℕ) (stmt : Stmt) (k : Keep
   count : count_of name p.sessions ≡ lines_in (place_of name p.sessions) p.lines
   count = count_is 0 (place_of name p.sessions) (length p.sessions) name p.sessions p.lines k.counts (omega arith) (none_next 0 p.lines (length p.sessions) k.order) (omega arith)
 
-  line_keeps : AreDistinct (names Then) → length Then ≤ 64 → length p.sessions ≤ length Then → place_of name p.sessions < length Then → BeginInOrder 0 (p.lines ++ The ∷ []) (length Then) → Keeps (number + 1) (with_line p name stmt)
-  line_keeps distinct few more less order =
+  line_keeps : All IsName (names Then) → AreDistinct (names Then) → length Then ≤ 64 → length p.sessions ≤ length Then → place_of name p.sessions < length Then → BeginInOrder 0 (p.lines ++ The ∷ []) (length Then) → Keeps (number + 1) (with_line p name stmt)
+  line_keeps all distinct few more less order =
       let len = length_snoc p.lines The in
       let before = k.few_lines in
       record {
         tables = k.tables;
         table_names = k.table_names;
         few_tables = k.few_tables;
+        sessions = all;
         session_names = distinct;
         few_sessions = few;
         lines = All-push (IsLine p.tables (length Then)) p.lines The (All-weaker (IsLine p.tables (length p.sessions)) (IsLine p.tables (length Then)) (λ (l : Line) h. (longer l.session.0 h.0 more, h.1)) p.lines k.lines) (less, is);
@@ -230,14 +276,14 @@ module _ (number : ℕ) (p : Progress) (name : List ℕ) (stmt : Stmt) (k : Keep
       let len : length Then ≡ length p.sessions = sym (length_names Then) ∙ ap length same ∙ length_names p.sessions in
       let place = place_known name p.sessions e in
       let few = k.few_sessions in
-      line_keeps (subst AreDistinct (sym same) k.session_names) (omega arith) (omega arith) (omega arith) (subst (BeginInOrder 0 (p.lines ++ The ∷ [])) (sym len) (order_known 0 p.lines (length p.sessions) The place k.order))
+      line_keeps (subst (All IsName) (sym same) k.sessions) (subst AreDistinct (sym same) k.session_names) (omega arith) (omega arith) (omega arith) (subst (BeginInOrder 0 (p.lines ++ The ∷ [])) (sym len) (order_known 0 p.lines (length p.sessions) The place k.order))
 
   new_keeps : is_session name p.sessions ≡ false → length p.sessions < 64 → Keeps (number + 1) (with_line p name stmt)
   new_keeps e few =
       let more = names_new name (count_of name p.sessions + 1) p.sessions e in
       let len : length Then ≡ length p.sessions + 1 = sym (length_names Then) ∙ ap length more ∙ length_snoc (names p.sessions) name ∙ ap (λ (n : ℕ). n + 1) (length_names p.sessions) in
       let place = place_new name p.sessions e in
-      line_keeps (subst AreDistinct (sym more) (distinct_snoc (names p.sessions) name k.session_names (other_apart name p.sessions e))) (omega arith) (omega arith) (omega arith) (subst (BeginInOrder 0 (p.lines ++ The ∷ [])) (sym len) (order_new 0 p.lines (length p.sessions) The place k.order))
+      line_keeps (subst (All IsName) (sym more) (All-push IsName (names p.sessions) name k.sessions short)) (subst AreDistinct (sym more) (distinct_snoc (names p.sessions) name k.session_names (other_apart name p.sessions e))) (omega arith) (omega arith) (omega arith) (subst (BeginInOrder 0 (p.lines ++ The ∷ [])) (sym len) (order_new 0 p.lines (length p.sessions) The place k.order))
 
   next_keeps : (nat_le 64 (length p.sessions) && not (is_session name p.sessions)) ≡ false → Keeps (number + 1) (with_line p name stmt)
   next_keeps room = pick (is_session name p.sessions) refl
@@ -249,16 +295,16 @@ module _ (number : ℕ) (p : Progress) (name : List ℕ) (stmt : Stmt) (k : Keep
           let few : length p.sessions < 64 = grind arith in
           new_keeps e few
 
-session_keeps : (number : ℕ) (p : Progress) (name : List ℕ) (s : StmtSyn) (q : Progress) → HasRoom (length p.tables) p.sessions (line_syn.Session name s) → Keeps number p → with_session p name s ≡ Ok q → Keeps (number + 1) q
-session_keeps number p name s q room k e =
+session_keeps : (number : ℕ) (p : Progress) (name : List ℕ) (s : StmtSyn) (q : Progress) → IsName name → HasRoom (length p.tables) p.sessions (line_syn.Session name s) → Keeps number p → with_session p name s ≡ Ok q → Keeps (number + 1) q
+session_keeps number p name s q short room k e =
     let g = given (with_line p name) (stmt_of p.tables s) q e in
-    subst (Keeps (number + 1)) (sym g.2) (next_keeps number p name g.0 k (stmt_of-keeps p.tables s g.0 g.1) room)
+    subst (Keeps (number + 1)) (sym g.2) (next_keeps number p name g.0 k short (stmt_of-keeps p.tables s g.0 g.1) room)
 
-syn_keeps : (number n : ℕ) (p : Progress) (l : LineSyn) (q : Progress) → p.segments ≡ Some n → Fits n l → HasRoom (length p.tables) p.sessions l → Keeps number p → with_line_syn p l ≡ Ok q → Keeps (number + 1) q
+syn_keeps : (number n : ℕ) (p : Progress) (l : LineSyn) (q : Progress) → p.segments ≡ Some n → Fits the_limits n l → HasRoom (length p.tables) p.sessions l → Keeps number p → with_line_syn p l ≡ Ok q → Keeps (number + 1) q
 syn_keeps number n p (line_syn.Detector s) q o f room k e = keeps_more number q (detector_keeps number p s q k e)
 syn_keeps number n p (line_syn.Table t) q o f room k e = keeps_more number q (declared_keeps number n p t q f room k e)
 syn_keeps number n p (line_syn.Link l) q o f room k e = keeps_more number q (link_keeps number n p l q o f k e)
-syn_keeps number n p (line_syn.Session name s) q o f room k e = session_keeps number p name s q room k e
+syn_keeps number n p (line_syn.Session name s) q o f room k e = session_keeps number p name s q f room k e
 
 few_of : (o : Option ℕ) (n : ℕ) (fs : List LinkFault) → o ≡ Some n → KeepsFaults o fs → n ≤ 16
 few_of None n fs e k = absurd cc
@@ -282,7 +328,7 @@ tokens_keep : (number : ℕ) (o : Option ℕ) (p : Progress) (ts : List Token) (
 tokens_keep number None p ts q o k (inl (n, r, e)) =
     let same : q ≡ record p { segments = Some n.0 } = cc in
     let both = told_both the_limits n ts r in
-    subst (Keeps (number + 1)) (sym same) (keeps_more number (record p { segments = Some n.0 }) (record { tables = k.tables; table_names = k.table_names; few_tables = k.few_tables; session_names = k.session_names; few_sessions = k.few_sessions; lines = k.lines; few_lines = k.few_lines; numbers = k.numbers; order = k.order; counts = k.counts; faults = (both.0, both.1, subst (All (IsFault n.0)) (sym (no_faults p.segments p.faults o k.faults)) (All-nil (IsFault n.0))) }))
+    subst (Keeps (number + 1)) (sym same) (keeps_more number (record p { segments = Some n.0 }) (record { tables = k.tables; table_names = k.table_names; few_tables = k.few_tables; sessions = k.sessions; session_names = k.session_names; few_sessions = k.few_sessions; lines = k.lines; few_lines = k.few_lines; numbers = k.numbers; order = k.order; counts = k.counts; faults = (both.0, both.1, subst (All (IsFault n.0)) (sym (no_faults p.segments p.faults o k.faults)) (All-nil (IsFault n.0))) }))
 tokens_keep number None p ts q o k (inr (f, v, e)) = absurd cc
 tokens_keep number (Some n) p ts q o k h = told_keeps number n p p.lines ts q o k h
 
@@ -299,6 +345,7 @@ ended_keeps number (Some n) p s o l k e =
       tables = k.tables;
       table_names = k.table_names;
       few_tables = k.few_tables;
+      sessions = k.sessions;
       session_names = k.session_names;
       few_sessions = subst (λ (n : ℕ). n ≤ 64) (sym (length_names p.sessions)) k.few_sessions;
       lines = subst (λ (n : ℕ). All (IsLine p.tables n) p.lines) (sym (length_names p.sessions)) k.lines;
@@ -329,7 +376,7 @@ reads_keep number p (line ∷ ls) s l k h = within (nat_lt 100000 number) refl (
         says (λ q. rest q (omega arith)) (is_skipped line) h
 
 start_keeps : Keeps 1 start
-start_keeps = record { tables = All-nil IsTable; table_names = tt; few_tables = omega arith; session_names = tt; few_sessions = omega arith; lines = All-nil (IsLine [] 0); few_lines = omega arith; numbers = tt; order = refl; counts = tt; faults = refl }
+start_keeps = record { tables = All-nil IsTable; table_names = tt; few_tables = omega arith; sessions = All-nil IsName; session_names = tt; few_sessions = omega arith; lines = All-nil (IsLine [] 0); few_lines = omega arith; numbers = tt; order = refl; counts = tt; faults = refl }
 
 pub read_keeps : (bytes : List ℕ) (r : Result Script Refusal) → Answers (ReadsOn 1 start (lines_of bytes)) r → IfOk r IsScript
 read_keeps bytes (Ok s) h = reads_keep 1 start (lines_of bytes) s (omega arith) start_keeps h

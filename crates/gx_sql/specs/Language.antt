@@ -4,13 +4,19 @@ use Rattle.gx_tree.specs.declared.schema.Schema.{Schema}
 use Rattle.gx_script.specs.declared.Line.{Line}
 use Rattle.gx_script.specs.declared.LinkFault.{LinkFault}
 use Rattle.gx_script.specs.declared.Script.{Script}
-use Rattle.gx_resolve.specs.Rules.{AreDistinct, IsSchema, IsStmtOf}
+use Rattle.gx_resolve.specs.Rules.{AreDistinct, column_text, IsSchema, IsStmtOf}
 
 abbrev pub table_name : Schema → List ℕ
 table_name table = table.name
 
-abbrev pub IsTable : Schema → Type 0
-IsTable table = IsSchema table × (length table.columns ≤ 32)
+abbrev pub IsName : List ℕ → Type 0
+IsName name = length name ≤ 63
+
+pub record IsTable (table : Schema) : Type 0 where
+  pub name : IsName table.name
+  pub schema : IsSchema table
+  pub few_columns : length table.columns ≤ 32
+  pub column_names : All IsName (map column_text table.columns)
 
 -- a line of one of so many sessions, with a statement over these tables
 abbrev pub IsLine : List Schema → ℕ → Line → Type 0
@@ -41,6 +47,7 @@ pub record IsScript (script : Script) : Type 0 where
   pub tables : All IsTable script.tables
   pub table_names : AreDistinct (map table_name script.tables)
   pub few_tables : length script.tables ≤ 64
+  pub sessions : All IsName script.sessions
   pub session_names : AreDistinct script.sessions
   pub few_sessions : length script.sessions ≤ 64
   pub lines : All (IsLine script.tables (length script.sessions)) script.lines
