@@ -10,3 +10,5 @@ pub mod Room
 pub mod Saying
 pub mod Unique
 pub mod Steps
+pub mod Numbered
+pub mod Language

@@ -33,6 +33,10 @@ made : (t : TableSyn) (a : Answer (Unit {0})) (s : Schema) → (a >>= λ _. (dis
 made t (Ok u) s e = spread t (dist_as (map column_as t.columns) t.dist) s e
 made t (Err f) s e = absurd cc
 
+pub made_columns : (known : Bool) (t : TableSyn) (s : Schema) → table_from known t ≡ Ok s → s.columns ≡ map column_as t.columns
+made_columns true t s e = absurd cc
+made_columns false t s e = (made t (columns_new [] t.columns) s e).1
+
 -- a table that a line declares is new, has the line's name and as many columns
 pub table_made : (known : Bool) (t : TableSyn) (s : Schema) → table_from known t ≡ Ok s → (known ≡ false) × (s.name ≡ t.name) × (length s.columns ≡ length t.columns)
 table_made true t s e = absurd cc

@@ -10,3 +10,4 @@ pub mod Progress
 pub mod Script
 pub mod Counts
 pub mod Begun
+pub mod Language

@@ -3,6 +3,7 @@ ghost use Rattle.std.specs.Prelude.{◌≡◌, ◌≤◌, ◌<◌, ◌+◌, ◌-
 ghost use Rattle.gx_script.specs.declared.Script.{Script};
 ghost use Rattle.gx_sql.specs.Answering.{Answers, Is, Steps};
 ghost use Rattle.gx_sql.specs.Held.{named, schemas, progress_of, IsHeld};
+ghost use Rattle.gx_sql.specs.Language.{IsScript};
 ghost use Rattle.gx_sql.specs.Lines.{lines_of};
 ghost use Rattle.gx_sql.specs.Progress.{start};
 ghost use Rattle.gx_sql.specs.Script as of;
@@ -144,6 +145,8 @@ pub fn parse_script(alloc: Global, bytes: &[u8]) -> Result<Script, Refusal>
     ensures reads { Answers (of.Reads bytes.now) result }
     // They are read as nothing else.
     ensures only { (r : Result Script Refusal) → of.Reads bytes.now r → Is result r }
+    // A script that was read keeps the rules and the limits of the language.
+    ensures language { IfOk result IsScript }
 {
     match std::str::from_utf8(bytes) {
         Ok(_) => read_lines(alloc, bytes),
