@@ -10,4 +10,6 @@ mod script_modes;
 #[cfg(test)]
 mod script_resolving;
 #[cfg(test)]
+mod script_scripts;
+#[cfg(test)]
 mod script_typing;
