@@ -12,4 +12,6 @@ mod script_printing;
 #[cfg(test)]
 mod script_resolving;
 #[cfg(test)]
+mod script_scripts;
+#[cfg(test)]
 mod script_typing;

@@ -230,8 +230,14 @@ fn numbers_of_segments(rt: HostRuntime) -> Result<(), Fail> {
     counts(&rt, rt.alloc(), MANY_SEGMENTS, "segments")
 }
 
-// What stands before, a piece so many times, and what stands behind.
-fn repeated(alloc: Global, before: &str, piece: &str, times: u32, behind: &str) -> Mem<Vec<u8>> {
+/// What stands before, a piece so many times, and what stands behind.
+pub fn repeated(
+    alloc: Global,
+    before: &str,
+    piece: &str,
+    times: u32,
+    behind: &str,
+) -> Mem<Vec<u8>> {
     let mut line = before.as_bytes().to_vec(alloc)?;
     for _ in 0..times {
         line.extend_from_slice(piece.as_bytes())?;
