@@ -73,40 +73,115 @@ fn printed(alloc: Global, stmt: &str) -> Mem<Vec<u8>> {
 const FORMS: [(&str, &str); 36] = [
     ("select a from t where a=-1", "SELECT a FROM t WHERE a = -1"),
     ("DELETE FROM t WHERE a=-(1)", "DELETE FROM t WHERE a = -(1)"),
-    ("DELETE FROM t WHERE a=-(-1)", "DELETE FROM t WHERE a = -(-1)"),
-    ("DELETE FROM t WHERE a=- -a", "DELETE FROM t WHERE a = -(-a)"),
+    (
+        "DELETE FROM t WHERE a=-(-1)",
+        "DELETE FROM t WHERE a = -(-1)",
+    ),
+    (
+        "DELETE FROM t WHERE a=- -a",
+        "DELETE FROM t WHERE a = -(-a)",
+    ),
     ("DELETE FROM t WHERE a=-((a))", "DELETE FROM t WHERE a = -a"),
-    ("DELETE FROM t WHERE a=-(a+b)", "DELETE FROM t WHERE a = -(a + b)"),
-    ("DELETE FROM t WHERE a=-(a)*b", "DELETE FROM t WHERE a = -a * b"),
-    ("DELETE FROM t WHERE a=b- -1", "DELETE FROM t WHERE a = b - -1"),
+    (
+        "DELETE FROM t WHERE a=-(a+b)",
+        "DELETE FROM t WHERE a = -(a + b)",
+    ),
+    (
+        "DELETE FROM t WHERE a=-(a)*b",
+        "DELETE FROM t WHERE a = -a * b",
+    ),
+    (
+        "DELETE FROM t WHERE a=b- -1",
+        "DELETE FROM t WHERE a = b - -1",
+    ),
     ("DELETE FROM t WHERE a=-0", "DELETE FROM t WHERE a = 0"),
     ("DELETE FROM t WHERE a=-009", "DELETE FROM t WHERE a = -9"),
-    ("DELETE FROM t WHERE a=(a-b)-1", "DELETE FROM t WHERE a = a - b - 1"),
-    ("DELETE FROM t WHERE a=a-(b-1)", "DELETE FROM t WHERE a = a - (b - 1)"),
-    ("DELETE FROM t WHERE a+b*2<(a+b)*2", "DELETE FROM t WHERE a + b * 2 < (a + b) * 2"),
-    ("DELETE FROM t WHERE (a*b)/2>=a*(b%2)", "DELETE FROM t WHERE a * b / 2 >= a * (b % 2)"),
-    ("DELETE FROM t WHERE NOT(a=1 AND b=2)", "DELETE FROM t WHERE NOT (a = 1 AND b = 2)"),
-    ("DELETE FROM t WHERE (NOT a=1)AND b=2", "DELETE FROM t WHERE NOT a = 1 AND b = 2"),
-    ("DELETE FROM t WHERE NOT(NOT(a<>1))", "DELETE FROM t WHERE NOT NOT a <> 1"),
-    ("DELETE FROM t WHERE (a=1 OR b=2)AND a=3", "DELETE FROM t WHERE (a = 1 OR b = 2) AND a = 3"),
-    ("DELETE FROM t WHERE a=1 OR(b=2 AND a=3)", "DELETE FROM t WHERE a = 1 OR b = 2 AND a = 3"),
-    ("DELETE FROM t WHERE a=1 OR(b=2 OR a=3)", "DELETE FROM t WHERE a = 1 OR (b = 2 OR a = 3)"),
-    ("DELETE FROM t WHERE (a=1 AND b=2)AND a=3", "DELETE FROM t WHERE a = 1 AND b = 2 AND a = 3"),
-    ("DELETE FROM t WHERE c<='it''s'", "DELETE FROM t WHERE c <= 'it''s'"),
+    (
+        "DELETE FROM t WHERE a=(a-b)-1",
+        "DELETE FROM t WHERE a = a - b - 1",
+    ),
+    (
+        "DELETE FROM t WHERE a=a-(b-1)",
+        "DELETE FROM t WHERE a = a - (b - 1)",
+    ),
+    (
+        "DELETE FROM t WHERE a+b*2<(a+b)*2",
+        "DELETE FROM t WHERE a + b * 2 < (a + b) * 2",
+    ),
+    (
+        "DELETE FROM t WHERE (a*b)/2>=a*(b%2)",
+        "DELETE FROM t WHERE a * b / 2 >= a * (b % 2)",
+    ),
+    (
+        "DELETE FROM t WHERE NOT(a=1 AND b=2)",
+        "DELETE FROM t WHERE NOT (a = 1 AND b = 2)",
+    ),
+    (
+        "DELETE FROM t WHERE (NOT a=1)AND b=2",
+        "DELETE FROM t WHERE NOT a = 1 AND b = 2",
+    ),
+    (
+        "DELETE FROM t WHERE NOT(NOT(a<>1))",
+        "DELETE FROM t WHERE NOT NOT a <> 1",
+    ),
+    (
+        "DELETE FROM t WHERE (a=1 OR b=2)AND a=3",
+        "DELETE FROM t WHERE (a = 1 OR b = 2) AND a = 3",
+    ),
+    (
+        "DELETE FROM t WHERE a=1 OR(b=2 AND a=3)",
+        "DELETE FROM t WHERE a = 1 OR b = 2 AND a = 3",
+    ),
+    (
+        "DELETE FROM t WHERE a=1 OR(b=2 OR a=3)",
+        "DELETE FROM t WHERE a = 1 OR (b = 2 OR a = 3)",
+    ),
+    (
+        "DELETE FROM t WHERE (a=1 AND b=2)AND a=3",
+        "DELETE FROM t WHERE a = 1 AND b = 2 AND a = 3",
+    ),
+    (
+        "DELETE FROM t WHERE c<='it''s'",
+        "DELETE FROM t WHERE c <= 'it''s'",
+    ),
     ("DELETE FROM t WHERE c>''''", "DELETE FROM t WHERE c > ''''"),
     ("SELECT*FROM t", "SELECT a, b, c FROM t"),
-    ("SELECT COUNT ( * ),SUM (b) FROM t", "SELECT COUNT(*), SUM(b) FROM t"),
-    ("select min(a),max(c),c from t group by c,a", "SELECT MIN(a), MAX(c), c FROM t GROUP BY c, a"),
-    ("SELECT a FROM t ORDER BY a ASC,b DESC LIMIT 007", "SELECT a FROM t ORDER BY a, b DESC LIMIT 7"),
+    (
+        "SELECT COUNT ( * ),SUM (b) FROM t",
+        "SELECT COUNT(*), SUM(b) FROM t",
+    ),
+    (
+        "select min(a),max(c),c from t group by c,a",
+        "SELECT MIN(a), MAX(c), c FROM t GROUP BY c, a",
+    ),
+    (
+        "SELECT a FROM t ORDER BY a ASC,b DESC LIMIT 007",
+        "SELECT a FROM t ORDER BY a, b DESC LIMIT 7",
+    ),
     ("BEGIN ISOLATION LEVEL READ COMMITTED", "BEGIN"),
-    ("begin isolation level repeatable read", "BEGIN ISOLATION LEVEL REPEATABLE READ"),
+    (
+        "begin isolation level repeatable read",
+        "BEGIN ISOLATION LEVEL REPEATABLE READ",
+    ),
     ("commit;", "COMMIT"),
     ("Rollback", "ROLLBACK"),
-    ("INSERT INTO t VALUES(1,-2,'x'),(-9223372036854775808,3,'')", "INSERT INTO t VALUES (1, -2, 'x'), (-9223372036854775808, 3, '')"),
-    ("UPDATE t SET a=b+1,c='y' WHERE a=1", "UPDATE t SET a = b + 1, c = 'y' WHERE a = 1"),
+    (
+        "INSERT INTO t VALUES(1,-2,'x'),(-9223372036854775808,3,'')",
+        "INSERT INTO t VALUES (1, -2, 'x'), (-9223372036854775808, 3, '')",
+    ),
+    (
+        "UPDATE t SET a=b+1,c='y' WHERE a=1",
+        "UPDATE t SET a = b + 1, c = 'y' WHERE a = 1",
+    ),
     ("DELETE FROM t;", "DELETE FROM t"),
-    ("LOCK TABLE t in share row exclusive mode", "LOCK TABLE t IN SHARE ROW EXCLUSIVE MODE"),
-    ("LOCK TABLE t IN EXCLUSIVE MODE", "LOCK TABLE t IN EXCLUSIVE MODE"),
+    (
+        "LOCK TABLE t in share row exclusive mode",
+        "LOCK TABLE t IN SHARE ROW EXCLUSIVE MODE",
+    ),
+    (
+        "LOCK TABLE t IN EXCLUSIVE MODE",
+        "LOCK TABLE t IN EXCLUSIVE MODE",
+    ),
 ];
 
 #[test]
