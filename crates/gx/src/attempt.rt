@@ -6,23 +6,27 @@ ghost use Rattle.gx_store.specs.Marks.{marks_of};
 ghost use Rattle.gx_store.specs.Runs.{IsLegalRun};
 ghost use Rattle.gx.specs.Top.{IsAttempt, IsPartOf, IsRunOf};
 
+use crate::refused::refusal_text;
 use crate::tables::text;
+use gx_form::is_plain;
 use gx_ids::{Mem, SessionId};
 use gx_outside::{ReadFault, Source, read_up_to};
 use gx_script::Script;
-use gx_sql::{Stop, read_plain};
+use gx_sql::parse_script;
 use gx_store::{Event, Run};
 use gx_world::World;
 use std::alloc::Global;
 
 // The most bytes of a script.
-const LIMIT: usize = 65536;
+const LIMIT: usize = 16_777_216;
 
-/// How the work before the writing ended: with a run and its text, or without.
+/// How the work before the writing ended: with a run and its text, with the text of a refusal, or with neither.
 #[derive(Debug, Drop)]
 pub enum Attempt {
     Done(Run, Vec<u8>),
+    Refused(Vec<u8>),
     ReadFault,
+    TooLarge,
     NotBuilt,
     OutOfMemory(Run),
 }
@@ -67,8 +71,9 @@ fn told(alloc: Global, world: &World) -> Mem<Vec<u8>>
     text(alloc, world.script(), world.run(), tables.as_slice())
 }
 
-/// Reads, runs and tells, and writes nothing. Words that aren't empty, and bytes that aren't a script of the form that is
+/// Reads, runs and tells, and writes nothing. Words that aren't empty, and scripts of another form than the one that is
 /// built, are `NotBuilt`.
+#[tactic(auto, using(crate::proofs::Refusals::read_as))]
 pub fn make_attempt<S: Source>(alloc: Global, words: &[String], source: &mut S) -> Attempt
     ensures { IsAttempt words.now (S.left source.old) (S.left source.new) (S.fault_count source.old) (S.fault_count source.new) result }
 {
@@ -81,13 +86,20 @@ pub fn make_attempt<S: Source>(alloc: Global, words: &[String], source: &mut S) 
         Err(ReadFault::OutOfMemory) => return Attempt::OutOfMemory(Run::new(alloc)),
     };
     if bytes.len() > LIMIT {
+        return Attempt::TooLarge;
+    }
+    let script = match parse_script(alloc, bytes.as_slice()) {
+        Ok(script) => script,
+        Err(refusal) => {
+            return match refusal_text(alloc, refusal) {
+                Ok(text) => Attempt::Refused(text),
+                Err(_) => Attempt::OutOfMemory(Run::new(alloc)),
+            };
+        }
+    };
+    if !is_plain(&script) {
         return Attempt::NotBuilt;
     }
-    let script = match read_plain(alloc, bytes.as_slice()) {
-        Ok(script) => script,
-        Err(Stop::NotRead) => return Attempt::NotBuilt,
-        Err(Stop::OutOfMemory) => return Attempt::OutOfMemory(Run::new(alloc)),
-    };
     match run_script(alloc, script) {
         Ok((run, text)) => Attempt::Done(run, text),
         Err(run) => Attempt::OutOfMemory(run),

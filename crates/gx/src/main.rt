@@ -3,6 +3,7 @@
 #![tactic(auto)]
 
 mod attempt;
+mod refused;
 mod report;
 mod tables;
 mod top;

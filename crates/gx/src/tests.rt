@@ -1,4 +1,6 @@
 // The worked scripts through the top call, over memory.
+ghost use Rattle.std.specs.Prelude.{◌<◌};
+
 use crate::top::{Report, run_gx};
 use gx_outside::{JournalMem, PassGate, SinkMem, SourceMem};
 use gx_store::Mark;
@@ -18,7 +20,14 @@ const THREE_TEXT: &str =
 
 const EMPTY: &str = "segments 2\ntable t (a bigint, b bigint) distributed by (a)\n";
 
-// The report of a run over memory that moves 10 bytes at a time, and the text that it wrote.
+// The most bytes that a read moves: few, so that even a short script takes many reads.
+fn piece(script: &[u8]) -> usize
+    ensures { 0 < result }
+{
+    if script.len() < 1000 { 10 } else { 65_536 }
+}
+
+// The report of a run over memory that moves few bytes at a time, and the text that it wrote.
 fn outcome(
     rt: &HostRuntime,
     words: &[String],
@@ -28,7 +37,7 @@ fn outcome(
 ) -> Result<(Report, String), Fail> {
     let alloc = rt.alloc();
     let bytes = Vec::from_slice(alloc, script)?;
-    let mut source = SourceMem::new(bytes, 10, Vec::from_slice(alloc, failing_read)?);
+    let mut source = SourceMem::new(bytes, piece(script), Vec::from_slice(alloc, failing_read)?);
     let mut sink = SinkMem::new(alloc, 1000, 10, Vec::from_slice(alloc, failing_write)?)?;
     let mut journals: Vec<JournalMem> = Vec::new(alloc);
     let report = run_gx(
@@ -51,19 +60,24 @@ fn scripts_give_their_texts(rt: HostRuntime) -> Result<(), Fail> {
         (SMALLEST, 0, SMALLEST_TEXT),
         (THREE, 0, THREE_TEXT),
         (EMPTY, 0, "table t 0\n"),
-        ("", 10, "not built\n"),
+        ("", 3, "refused 1 syntax line 1\n"),
         (
-            "segments 5\ntable t (a bigint) distributed by (a)\n",
-            10,
-            "not built\n",
+            "segments 17\ntable t (a bigint) distributed by (a)\n",
+            3,
+            "refused 7 too many segments line 1\n",
         ),
         (
             "segments 1\ntable t (a bigint) distributed by (b)\n",
-            10,
-            "not built\n",
+            3,
+            "refused 3 unknown column line 2\n",
         ),
         (
-            "segments 1\ntable t (a text) distributed by (a)\n",
+            "SEGMENTS 1\n-- texts\ntable t (a text) distributed randomly\ns: insert into t values ('it''s')",
+            0,
+            "s.1 INSERT 1\ntable t 1\n  'it''s'\n",
+        ),
+        (
+            "segments 1\ntable t (a bigint) distributed by (a)\ns: SELECT * FROM t WHERE a = 1\n",
             10,
             "not built\n",
         ),
@@ -110,15 +124,30 @@ fn a_failing_write_leaves_a_prefix(rt: HostRuntime) -> Result<(), Fail> {
 }
 
 #[test]
-fn words_and_long_scripts_are_not_built(rt: HostRuntime) -> Result<(), Fail> {
+fn words_are_not_built(rt: HostRuntime) -> Result<(), Fail> {
     let mut words = Vec::new(rt.alloc());
     words.push(String::from_str(rt.alloc(), "--trace")?)?;
     let (report, written) = outcome(&rt, words.as_slice(), SMALLEST.as_bytes(), &[], &[])?;
     assert_eq!(rt; report.status, 10);
     assert_eq!(rt; written.as_str(), "not built\n");
-    let long = vec![in rt.alloc(); b' '; 65537]?;
-    let (report, written) = outcome(&rt, &[], long.as_slice(), &[], &[])?;
-    assert_eq!(rt; report.status, 10);
-    assert_eq!(rt; written.as_str(), "not built\n");
+    Ok(())
+}
+
+#[test]
+fn bytes_that_are_no_text_are_refused(rt: HostRuntime) -> Result<(), Fail> {
+    let (report, written) = outcome(&rt, &[], b"\xff", &[], &[])?;
+    assert_eq!(rt; report.status, 3);
+    assert_eq!(rt; written.as_str(), "refused 8 not utf-8 byte 0\n");
+    assert!(rt; report.run.steps.is_empty());
+    Ok(())
+}
+
+#[test]
+fn more_bytes_than_a_script_has_are_too_large(rt: HostRuntime) -> Result<(), Fail> {
+    let alloc = rt.alloc();
+    let spaces = vec![in alloc; b' '; 16_777_217]?;
+    let (report, written) = outcome(&rt, &[], spaces.as_slice(), &[], &[])?;
+    assert_eq!(rt; report.status, 9);
+    assert_eq!(rt; written.as_str(), "too large\n");
     Ok(())
 }

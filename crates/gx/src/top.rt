@@ -1,14 +1,14 @@
 // The top call.
 ghost use Rattle.std.specs.Prelude.{◌≡◌};
-ghost use Rattle.gx.specs.Top.{IsCutShort, IsDone, IsDue, IsNotBuilt, IsPartRun, IsReadFault, IsStatus, IsTold, IsWritten};
+ghost use Rattle.gx.specs.Top.{IsCutShort, IsDone, IsDue, IsNotBuilt, IsPartRun, IsReadFault, IsRefused, IsStatus, IsTold, IsTooLarge, IsWritten};
 
 use crate::attempt::{Attempt, make_attempt};
 use gx_outside::{Failed, Gate, Journal, Sink, Source, write_whole};
 use gx_store::Run;
 use std::alloc::Global;
 
-/// What a call did: its status, and the run that it made. 0 is done, 4 a read fault, 5 a write fault, 6 want of memory, and
-/// 10 a form that isn't built yet.
+/// What a call did: its status, and the run that it made. 0 is done, 3 a refused script, 4 a read fault, 5 a write fault, 6
+/// want of memory, 9 too many bytes, and 10 a form that isn't built yet.
 #[derive(Debug, Drop)]
 pub struct Report {
     pub status: u8,
@@ -37,9 +37,12 @@ pub fn run_gx<S: Source, K: Sink, J: Journal, G: Gate>(
 ) -> Report
     ensures known { IsStatus result.status }
 
-    // The source was read to its end and its bytes are a script; the run is a legal history of one store in which each line
+    // The source was read to its end and its bytes are a script of the form that is built; the run is a legal history of one store in which each line
     // of it has its answer; and the text of that run and of the tables at its end was written.
     ensures done { result.status ≡ 0 → IsWritten (IsDone words.now (S.left source.old) (S.left source.new) result.run) (K.written sink.old) (K.written sink.new) }
+
+    // The bytes are no script, and the text says why.
+    ensures refused { result.status ≡ 3 → IsWritten (IsRefused words.now (S.left source.old) (S.left source.new) result.run) (K.written sink.old) (K.written sink.new) }
 
     ensures read_fault { result.status ≡ 4 → IsWritten (IsReadFault words.now (S.fault_count source.old) (S.fault_count source.new) result.run) (K.written sink.old) (K.written sink.new) }
 
@@ -50,12 +53,16 @@ pub fn run_gx<S: Source, K: Sink, J: Journal, G: Gate>(
     // Nothing was written, and what was run is a part of a legal history of the script.
     ensures memory { result.status ≡ 6 → (K.written sink.new ≡ K.written sink.old) × IsPartRun (S.left source.old) (S.left source.new) result.run }
 
+    ensures too_large { result.status ≡ 9 → IsWritten (IsTooLarge words.now (S.left source.old) (S.left source.new) result.run) (K.written sink.old) (K.written sink.new) }
+
     ensures not_built { result.status ≡ 10 → IsWritten (IsNotBuilt words.now (S.left source.old) (S.left source.new) result.run) (K.written sink.old) (K.written sink.new) }
     ensures journals { journals.new.items ≡ journals.old.items }
 {
     match make_attempt(alloc, words, source) {
         Attempt::Done(run, text) => told(0, run, text.as_slice(), sink),
+        Attempt::Refused(text) => told(3, Run::new(alloc), text.as_slice(), sink),
         Attempt::ReadFault => told(4, Run::new(alloc), b"read fault\n", sink),
+        Attempt::TooLarge => told(9, Run::new(alloc), b"too large\n", sink),
         Attempt::NotBuilt => told(10, Run::new(alloc), b"not built\n", sink),
         Attempt::OutOfMemory(run) => Report { status: 6, run },
     }

@@ -6,7 +6,7 @@ returns-in-Done-clause-write_fault g c = λ five. elim c.told.ensures.ended [
   | inl done ↦ absurd (omega (arith, done.0, five))
   | inr cut ↦ record {
     text = c.as_slice.result.now;
-    is = rw (c.told.ensures.same, c.as_slice.ensures.value) (inl (inl c.in-Done.ensures));
+    is = rw (c.told.ensures.same, c.as_slice.ensures.value) (inl (inl (inl (inl c.in-Done.ensures))));
     rose = cut.1.0;
     part = cut.1.1;
   }
