@@ -1,0 +1,2 @@
+pub mod ItemBytes
+pub mod MessageText

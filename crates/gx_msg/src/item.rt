@@ -1,0 +1,47 @@
+use gx_ids::{Duplicate, Gxid, Mem, Rid, Seq, Table};
+use gx_tree::Row;
+use std::alloc::Global;
+
+/// What a node writes into its journal before it answers.
+#[derive(Debug, Drop)]
+pub enum JournalItem {
+    /// A segment promises to commit these rows.
+    Prepare(Gxid, Seq<Kept>),
+    /// A segment commits these rows at once.
+    Commit(Gxid, Seq<Kept>),
+    /// A segment commits what it has promised.
+    Finish(Gxid),
+    /// The coordinator decides that a transaction commits.
+    Decide(Gxid),
+}
+
+/// The last that a transaction wrote of a row. An image of `None` is a row that is gone.
+#[derive(Debug, Drop)]
+pub struct Kept {
+    pub rid: Rid,
+    pub table: Table,
+    pub image: Option<Row>,
+}
+
+impl Duplicate for JournalItem {
+    fn copy(&self, alloc: Global) -> Mem<JournalItem> {
+        match self {
+            JournalItem::Prepare(gxid, kept) => {
+                Ok(JournalItem::Prepare(*gxid, kept.copy(alloc)?))
+            }
+            JournalItem::Commit(gxid, kept) => Ok(JournalItem::Commit(*gxid, kept.copy(alloc)?)),
+            JournalItem::Finish(gxid) => Ok(JournalItem::Finish(*gxid)),
+            JournalItem::Decide(gxid) => Ok(JournalItem::Decide(*gxid)),
+        }
+    }
+}
+
+impl Duplicate for Kept {
+    fn copy(&self, alloc: Global) -> Mem<Kept> {
+        Ok(Kept {
+            rid: self.rid,
+            table: self.table,
+            image: self.image.copy(alloc)?,
+        })
+    }
+}
