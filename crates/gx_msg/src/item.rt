@@ -1,6 +1,10 @@
-use gx_ids::{Duplicate, Gxid, Mem, Rid, Seq, Table};
+ghost use Rattle.std.specs.Prelude.{◌≡◌};
+ghost use Rattle.gx_msg.specs.declared.item.ItemFault.TheVariants.{OutOfMemory as NoMemory};
+
+use gx_ids::{Duplicate, Gxid, Mem, OutOfMemory, Rid, Seq, Table};
 use gx_tree::Row;
 use std::alloc::Global;
+use thiserror::Error;
 
 /// What a node writes into its journal before it answers.
 #[derive(Debug, Drop)]
@@ -21,6 +25,24 @@ pub struct Kept {
     pub rid: Rid,
     pub table: Table,
     pub image: Option<Row>,
+}
+
+/// Why bytes aren't read as a journal item.
+#[derive(Clone, Copy, Debug, PartialEq, Eq, Error)]
+pub enum ItemFault {
+    /// The place of the first byte with which no item's bytes go on, or the end where they would have to.
+    #[error("not a journal item from byte {0}")]
+    NotAnItem(u64),
+    #[error("out of memory")]
+    OutOfMemory,
+}
+
+impl From<OutOfMemory> for ItemFault {
+    ghost from_gives = { λ _ result. result ≡ NoMemory };
+
+    fn from(_fault: OutOfMemory) -> ItemFault {
+        ItemFault::OutOfMemory
+    }
 }
 
 impl Duplicate for JournalItem {

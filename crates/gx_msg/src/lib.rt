@@ -4,12 +4,16 @@
 pub mod bytes;
 pub mod item;
 pub mod message;
+mod mid;
 mod push;
+pub mod read;
 pub mod reply;
+mod step;
 pub mod text;
 
 pub use bytes::item_bytes;
-pub use item::{JournalItem, Kept};
+pub use item::{ItemFault, JournalItem, Kept};
 pub use message::{Envelope, Message, Out};
+pub use read::read_item;
 pub use reply::{Cause, Reply};
 pub use text::message_text;
