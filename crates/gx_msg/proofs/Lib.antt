@@ -1,0 +1,7 @@
+mod Choices
+mod Ending
+mod Laws
+mod Printed
+mod Runs
+mod Stays
+mod Written

@@ -1,0 +1,4 @@
+pub mod ItemBytes
+pub mod MessageText
+pub mod Reading
+pub mod Steps

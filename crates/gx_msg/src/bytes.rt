@@ -1,0 +1,135 @@
+// A journal item as bytes.
+ghost use Rattle.std.specs.Prelude.{◌≡◌, ◌++◌, OnOk, IfOk, codes};
+ghost use Rattle.std.specs.List.{flat_map};
+ghost use Rattle.std.specs.Fmt.{decimal};
+ghost use Rattle.gx_ids.specs.Rid.{text_of};
+ghost use Rattle.gx_msg.specs.ItemBytes.{bytes_of_byte, bytes_of_value, bytes_of_row, bytes_of_image, line_of_kept, lines_of_rows, bytes_of_item};
+
+use crate::item::{JournalItem, Kept};
+use crate::push::{push_bytes, push_integer, push_number};
+use gx_ids::{Gxid, Mem, Rid};
+use gx_tree::{Row, Value};
+use std::alloc::Global;
+
+fn push_byte(text: &mut Vec<u8>, byte: u8) -> Mem<()>
+    ensures { OnOk result (text.new.items ≡ text.old.items ++ bytes_of_byte byte) }
+{
+    if byte == b'\'' {
+        push_bytes(text, b"''")
+    } else {
+        push_bytes(text, &[byte])
+    }
+}
+
+fn push_inner(text: &mut Vec<u8>, bytes: &[u8]) -> Mem<()>
+    ensures { OnOk result (text.new.items ≡ text.old.items ++ flat_map bytes_of_byte bytes.now) }
+{
+    for byte in bytes {
+        push_byte(text, *byte)?;
+    }
+    Ok(())
+}
+
+fn push_value(text: &mut Vec<u8>, value: &Value) -> Mem<()>
+    ensures { OnOk result (text.new.items ≡ text.old.items ++ bytes_of_value value.now) }
+{
+    match value {
+        Value::Int(number) => push_integer(text, *number),
+        Value::Text(bytes) => {
+            push_bytes(text, b"'")?;
+            push_inner(text, bytes.as_slice())?;
+            push_bytes(text, b"'")
+        }
+    }
+}
+
+fn push_row(text: &mut Vec<u8>, values: &[Value]) -> Mem<()>
+    ensures { OnOk result (text.new.items ≡ text.old.items ++ bytes_of_row values.now) }
+{
+    let [first, others @ ..] = values else {
+        return Ok(());
+    };
+    push_value(text, first)?;
+    for value in others {
+        push_bytes(text, b"|")?;
+        push_value(text, value)?;
+    }
+    Ok(())
+}
+
+fn push_image(text: &mut Vec<u8>, image: &Option<Row>) -> Mem<()>
+    ensures { OnOk result (text.new.items ≡ text.old.items ++ bytes_of_image image.now) }
+{
+    match image {
+        None => push_bytes(text, b"gone"),
+        Some(row) => push_row(text, row.as_slice()),
+    }
+}
+
+fn push_rid(text: &mut Vec<u8>, rid: &Rid) -> Mem<()>
+    ensures { OnOk result (text.new.items ≡ text.old.items ++ text_of rid.now) }
+{
+    push_number(text, rid.gxid.0)?;
+    push_bytes(text, b".")?;
+    push_number(text, u64::from(rid.cid.0))?;
+    push_bytes(text, b".")?;
+    push_number(text, u64::from(rid.ordinal))
+}
+
+fn push_kept(text: &mut Vec<u8>, kept: &Kept) -> Mem<()>
+    ensures { OnOk result (text.new.items ≡ text.old.items ++ line_of_kept kept.now) }
+{
+    push_rid(text, &kept.rid)?;
+    push_bytes(text, b" ")?;
+    push_number(text, u64::from(kept.table.0))?;
+    push_bytes(text, b" ")?;
+    push_image(text, &kept.image)?;
+    push_bytes(text, b"\n")
+}
+
+fn push_rows(text: &mut Vec<u8>, gxid: Gxid, rows: &[Kept]) -> Mem<()>
+    ensures { OnOk result (text.new.items ≡ text.old.items ++ lines_of_rows gxid rows.now) }
+{
+    push_number(text, gxid.0)?;
+    push_bytes(text, b" ")?;
+    push_number(text, rows.len() as u64)?;
+    push_bytes(text, b"\n")?;
+    for kept in rows {
+        push_kept(text, kept)?;
+    }
+    Ok(())
+}
+
+fn push_line(text: &mut Vec<u8>, name: &[u8], gxid: Gxid) -> Mem<()>
+    ensures { OnOk result (text.new.items ≡ text.old.items ++ name.now ++ decimal gxid.0 ++ codes "\n") }
+{
+    push_bytes(text, name)?;
+    push_number(text, gxid.0)?;
+    push_bytes(text, b"\n")
+}
+
+fn push_item(text: &mut Vec<u8>, item: &JournalItem) -> Mem<()>
+    ensures { OnOk result (text.new.items ≡ text.old.items ++ bytes_of_item item.now) }
+{
+    match item {
+        JournalItem::Prepare(gxid, rows) => {
+            push_bytes(text, b"prepare ")?;
+            push_rows(text, *gxid, rows.as_slice())
+        }
+        JournalItem::Commit(gxid, rows) => {
+            push_bytes(text, b"commit ")?;
+            push_rows(text, *gxid, rows.as_slice())
+        }
+        JournalItem::Finish(gxid) => push_line(text, b"finish ", *gxid),
+        JournalItem::Decide(gxid) => push_line(text, b"decide ", *gxid),
+    }
+}
+
+/// A journal item as bytes: a line for the item, and one for each of its rows.
+pub fn item_bytes(alloc: Global, item: &JournalItem) -> Mem<Vec<u8>>
+    ensures { IfOk result (λ bytes. bytes.items ≡ bytes_of_item item.now) }
+{
+    let mut bytes = Vec::new(alloc);
+    push_item(&mut bytes, item)?;
+    Ok(bytes)
+}
