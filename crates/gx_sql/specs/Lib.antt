@@ -1,6 +1,3 @@
-pub mod Reading
-pub mod Words
-pub mod PlainScript
 pub mod Lines
 pub mod Cutting
 pub mod Held

@@ -1,14 +1,12 @@
-//! Reads scripts: the whole language, and for now those of the plain form by a reader of its own.
+//! Reads scripts: bytes to a script of the language, or the refusal of its first faulty line.
 #![tactic(auto)]
 
 mod count;
-pub mod plain;
 pub mod progress;
 pub mod refusal;
 pub mod script;
 mod split;
 mod told;
 
-pub use plain::{Stop, read_plain};
 pub use refusal::{Limit, Refusal};
 pub use script::parse_script;
