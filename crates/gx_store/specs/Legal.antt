@@ -123,6 +123,7 @@ LegalMark script before (Snap g c s) = LegalSnap script before g c s
 LegalMark script before (Write g c node table rid image) = LegalWrite script before g c node table rid image
 LegalMark script before (Commit g) = LegalCommit script before g
 LegalMark script before (Answer s n a) = LegalAnswer script before s n a
+LegalMark script before _ = ⊥
 
 -- each of the marks may stand behind those before it
 abbrev pub AreLegal : Script → List Mark → List Mark → Type 0

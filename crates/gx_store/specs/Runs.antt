@@ -21,6 +21,7 @@ the_coordinator = record { 0 = 0 }
 -- a step in which a session's line starts has that whole line: its start and its answer
 abbrev pub IsWholeLine : Event → List Mark → Type 0
 IsWholeLine (event.Start session) marks = (session_starts session marks ≡ 1) × (answer_count session marks ≡ 1)
+IsWholeLine _ marks = ⊥
 
 -- the steps are the coordinator's, after this moment of its clock, which rises from step to step
 abbrev pub AreInOrder : ℕ → List Step → Type 0

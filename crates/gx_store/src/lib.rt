@@ -4,9 +4,11 @@
 pub mod answer;
 pub mod event;
 pub mod mark;
+pub mod node;
 pub mod run;
 
-pub use answer::StmtAnswer;
+pub use answer::{Refused, StmtAnswer};
 pub use event::Event;
 pub use mark::Mark;
+pub use node::{NodeEvent, NodeOut};
 pub use run::{Run, Step};
