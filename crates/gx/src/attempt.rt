@@ -1,6 +1,6 @@
 // The work before the writing: words, reading, script, run and text.
 ghost use Rattle.std.specs.Prelude.{◌≡◌, ◌≤◌, ◌⊎◌, [], length, OnOk, IfOk, IfErr};
-ghost use Rattle.gx_script.specs.IsPlain.{IsPlain};
+ghost use Rattle.gx_form.specs.IsPlain.{IsPlain};
 ghost use Rattle.gx_store.specs.Lines.{AreAllAnswered};
 ghost use Rattle.gx_store.specs.Marks.{marks_of};
 ghost use Rattle.gx_store.specs.Runs.{IsLegalRun};

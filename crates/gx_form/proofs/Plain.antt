@@ -14,7 +14,7 @@ use Rattle.gx_tree.specs.declared.stmt.Stmt.TheVariants.{Select, Insert}
 use Rattle.gx_script.specs.declared.Line.{Line}
 use Rattle.gx_script.specs.declared.Script.{Script}
 use Rattle.gx_form.specs.Form.{is_literal, are_literals, all_literals, is_plain_query, is_plain_stmt, is_plain_line, are_plain, is_placing, is_over_one, is_plain}
-use Rattle.gx_script.specs.IsPlain.{constants_of, AreConstant, IsPlainStmt, ArePlainFrom, IsPlacing, HasOneTable, IsPlain, the_session, the_table}
+use Rattle.gx_form.specs.IsPlain.{constants_of, AreConstant, IsPlainStmt, ArePlainFrom, IsPlacing, HasOneTable, IsPlain, the_session, the_table}
 
 both : (a b : Bool) → (a && b) ≡ true → (a ≡ true) × (b ≡ true)
 both true true h = (refl, refl)

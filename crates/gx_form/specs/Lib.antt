@@ -1,1 +1,2 @@
+pub mod IsPlain
 pub mod Form

@@ -2,7 +2,7 @@
 ghost use Rattle.std.specs.Prelude.{◌≡◌, ◌<◌, ◌^◌, IsTrue, length};
 ghost use Rattle.std.specs.List.{list_all};
 ghost use Rattle.gx_form.specs.Form as of;
-ghost use Rattle.gx_script.specs.IsPlain.{IsPlain};
+ghost use Rattle.gx_form.specs.IsPlain.{IsPlain};
 
 use gx_ids::Seq;
 use gx_script::{Line, Script};

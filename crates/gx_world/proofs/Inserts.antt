@@ -12,7 +12,7 @@ use Rattle.gx_tree.specs.declared.value.Value.{Value}
 use Rattle.gx_tree.specs.declared.row.KeyedRow.{KeyedRow}
 use Rattle.gx_tree.specs.declared.stmt.Stmt.TheVariants.{Insert}
 use Rattle.gx_dsnap.specs.declared.snapshot.Snapshot.{Snapshot}
-use Rattle.gx_script.specs.IsPlain.{AreConstant, constants_of, the_session, the_table}
+use Rattle.gx_form.specs.IsPlain.{AreConstant, constants_of, the_session, the_table}
 use Rattle.gx_script.specs.declared.Script.{Script}
 use Rattle.gx_store.specs.declared.mark.Mark.{Mark}
 use Rattle.gx_store.specs.declared.mark.Mark.TheVariants.{Commit, Answer}

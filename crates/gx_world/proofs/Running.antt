@@ -12,7 +12,7 @@ use Rattle.gx_tree.specs.declared.expr.Expr.{Expr}
 use Rattle.gx_tree.specs.declared.row.KeyedRow.{KeyedRow}
 use Rattle.gx_tree.specs.declared.query.Query.{Query}
 use Rattle.gx_tree.specs.declared.stmt.Stmt.TheVariants.{Select, Insert}
-use Rattle.gx_script.specs.IsPlain.{IsPlainStmt, the_session, the_table}
+use Rattle.gx_form.specs.IsPlain.{IsPlainStmt, the_session, the_table}
 use Rattle.gx_script.specs.declared.Script.{Script}
 use Rattle.gx_store.specs.declared.event.Event.TheVariants as event
 use Rattle.gx_store.specs.declared.mark.Mark.{Mark}

@@ -8,7 +8,7 @@ use Rattle.gx_tree.specs.declared.query.Query.{Query}
 use Rattle.gx_tree.specs.declared.schema.Schema.{Schema}
 use Rattle.gx_tree.specs.declared.stmt.Stmt.{Stmt}
 use Rattle.gx_tree.specs.declared.stmt.Stmt.TheVariants.{Select, Insert}
-use Rattle.gx_script.specs.IsPlain.{ArePlainFrom, IsPlainStmt, IsPlacing, HasOneTable, the_session}
+use Rattle.gx_form.specs.IsPlain.{ArePlainFrom, IsPlainStmt, IsPlacing, HasOneTable, the_session}
 use Rattle.gx_script.specs.declared.Line.{Line}
 use Rattle.gx_store.specs.Legal.{dist_of}
 use Rattle.gx_store.specs.Lines.{stmt_of, line_count}

@@ -10,7 +10,7 @@ use Rattle.gx_tree.specs.declared.schema.Dist.{Dist}
 use Rattle.gx_tree.specs.declared.expr.Expr.{Expr, Lit}
 use Rattle.gx_tree.specs.declared.value.Value.{Value}
 use Rattle.gx_tree.specs.declared.row.KeyedRow.{KeyedRow}
-use Rattle.gx_script.specs.IsPlain.{the_table, AreConstant, constants_of}
+use Rattle.gx_form.specs.IsPlain.{the_table, AreConstant, constants_of}
 use Rattle.gx_store.specs.declared.mark.Mark.{Mark}
 use Rattle.gx_store.specs.declared.mark.Mark.TheVariants.{Snap, Write, Commit, Answer}
 use Rattle.gx_store.specs.declared.answer.StmtAnswer.{StmtAnswer}

@@ -10,7 +10,7 @@ use Rattle.gx_tree.specs.declared.schema.Dist.{Dist}
 use Rattle.gx_dsnap.specs.declared.snapshot.Snapshot.{Snapshot}
 use Rattle.gx_dsnap.specs.Snapshot.{sees}
 use Rattle.gx_place.specs.Place.{row_place}
-use Rattle.gx_script.specs.IsPlain.{constants_of, the_table}
+use Rattle.gx_form.specs.IsPlain.{constants_of, the_table}
 use Rattle.gx_store.specs.declared.mark.Mark.{Mark}
 use Rattle.gx_store.specs.declared.mark.Mark.TheVariants.{Start, Snap, Write, Commit, Answer}
 use Rattle.gx_store.specs.declared.answer.StmtAnswer.TheVariants.{Inserted, Rows}

@@ -1,6 +1,6 @@
 // What an INSERT does.
 ghost use Rattle.std.specs.Prelude.{◌≡◌, ◌<◌, ◌≤◌, ◌^◌, ◌++◌, ◌+◌, length, map, IfOk, OnOk};
-ghost use Rattle.gx_script.specs.IsPlain.{constants_of, IsPlacing};
+ghost use Rattle.gx_form.specs.IsPlain.{constants_of, IsPlacing};
 ghost use Rattle.gx_world.specs.Steps.{rows_from, write_of, AreWide, IsBegun, IsInsert};
 
 use crate::select::begun;

@@ -1,6 +1,6 @@
 // One line of the session: its step of the run.
 ghost use Rattle.std.specs.Prelude.{◌≡◌, ◌<◌, ◌≤◌, ◌+◌, ◌++◌, length, OnOk, OnErr, Some, vec_len, vec_capacity};
-ghost use Rattle.gx_script.specs.IsPlain.{the_session};
+ghost use Rattle.gx_form.specs.IsPlain.{the_session};
 ghost use Rattle.gx_world.specs.World.{IsRunning, stmt_at};
 
 use crate::insert::{insert_marks, keyed_rows};

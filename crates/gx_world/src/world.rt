@@ -1,6 +1,6 @@
 ghost use Rattle.std.specs.Prelude.{◌≡◌, ◌<◌, ◌+◌, IsTrue, length, IfOk, OnOk, OnErr, []};
 ghost use Rattle.std.specs.Bool.{OnTrue, OnFalse};
-ghost use Rattle.gx_script.specs.IsPlain.{IsPlain};
+ghost use Rattle.gx_form.specs.IsPlain.{IsPlain};
 ghost use Rattle.gx_store.specs.Lines.{AreAllAnswered};
 ghost use Rattle.gx_store.specs.Marks.{marks_of};
 ghost use Rattle.gx_store.specs.Runs.{IsLegalRun, IsWholeRun};

@@ -1,5 +1,5 @@
 use Rattle.std.proofs.Common.{◌≡◌, ◌++◌, drop}
-use Rattle.gx_script.specs.IsPlain.{constants_of}
+use Rattle.gx_form.specs.IsPlain.{constants_of}
 use Rattle.gx_world.proofs.insert.constants.Given as goal
 
 abbrev pub invariant-loop-expr : goal.invariant-loop-expr
