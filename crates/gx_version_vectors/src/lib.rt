@@ -1,0 +1,5 @@
+//! Tests of snapshots, of the map of transaction numbers, and of the versions that a reader sees.
+#![tactic(auto)]
+
+#[cfg(test)]
+mod versions;
