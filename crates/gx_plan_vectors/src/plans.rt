@@ -180,10 +180,8 @@ fn insertion(alloc: Global, tuples: &Tuples) -> Mem<Stmt>
     Ok(Stmt::Insert(Table(0), all))
 }
 
-fn keyed(alloc: Global, tuples: &Tuples, n: u8) -> Result<Vec<Piece>, EvalFault>
-    requires some { 1 ≤ n }
-    requires few { n ≤ 16 }
-{
+fn keyed(alloc: Global, tuples: &Tuples, n: u8) -> Result<Vec<Piece>, EvalFault> {
+    let n = n.max(1).min(16);
     let stmt = insertion(alloc, tuples)?;
     plan(
         alloc,
@@ -195,10 +193,8 @@ fn keyed(alloc: Global, tuples: &Tuples, n: u8) -> Result<Vec<Piece>, EvalFault>
     )
 }
 
-fn random(alloc: Global, tuples: &Tuples, n: u8) -> Result<Vec<Piece>, EvalFault>
-    requires some { 1 ≤ n }
-    requires few { n ≤ 16 }
-{
+fn random(alloc: Global, tuples: &Tuples, n: u8) -> Result<Vec<Piece>, EvalFault> {
+    let n = n.max(1).min(16);
     let stmt = insertion(alloc, tuples)?;
     plan(
         alloc,
