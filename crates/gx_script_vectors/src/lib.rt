@@ -1,17 +1,5 @@
-//! Tests of the crates that read the script language: tables of cases over its rules and limits.
+//! Tests of whole scripts: which refusal they get, and what an accepted one holds.
 #![tactic(auto)]
 
 #[cfg(test)]
-mod script_lexing;
-#[cfg(test)]
-mod script_lines;
-#[cfg(test)]
-mod script_modes;
-#[cfg(test)]
-mod script_printing;
-#[cfg(test)]
-mod script_resolving;
-#[cfg(test)]
-mod script_scripts;
-#[cfg(test)]
-mod script_typing;
+mod scripts;

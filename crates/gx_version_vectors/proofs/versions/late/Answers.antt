@@ -1,5 +1,5 @@
 use Rattle.std.specs.List.Sorted.{IsStrictlySortedBy}
-use Rattle.gx_vectors.proofs.versions.late.Goals as goal
+use Rattle.gx_version_vectors.proofs.versions.late.Goals as goal
 
 pub take-requires-clause-rising : goal.take-requires-clause-rising
 unfolding IsStrictlySortedBy

@@ -2,7 +2,6 @@
 // come first, then the first line with a fault. In a line tokens and limits are looked at from the left, then names, then
 // kinds and ranges, then SET of the distribution column.
 
-use crate::script_lines::repeated;
 use gx_ids::Mem;
 use gx_script::{Line, Script};
 use gx_sql::{Limit, Refusal, parse_script};
@@ -188,7 +187,8 @@ fn all_behind(
     want: Option<Refusal>,
 ) -> Result<(), Fail> {
     for line in lines.lines() {
-        let script = repeated(alloc, BEFORE, line, 1, "")?;
+        let mut script = BEFORE.as_bytes().to_vec(alloc)?;
+        script.extend_from_slice(line.as_bytes())?;
         assert_eq!(rt; refusal(alloc, script.as_slice()), want, "{line}");
     }
     Ok(())
@@ -313,10 +313,18 @@ fn first_line_with_a_fault(rt: HostRuntime) {
 type Repeated = (
     &'static str,
     &'static str,
-    u32,
+    usize,
     &'static str,
     Option<Refusal>,
 );
+
+// What stands before, a piece so many times, and what stands behind.
+fn repeated(alloc: Global, before: &str, piece: &str, times: usize, behind: &str) -> Mem<Vec<u8>> {
+    let mut text = before.as_bytes().to_vec(alloc)?;
+    text.extend_from_slice(piece.repeat(alloc, times)?.as_bytes())?;
+    text.extend_from_slice(behind.as_bytes())?;
+    Ok(text)
+}
 
 // Each line with a piece so many times, behind two tables, is read so.
 fn all_repeated(rt: &impl Abort, alloc: Global, cases: &[Repeated]) -> Result<(), Fail> {
@@ -525,7 +533,7 @@ fn tables_before_columns(rt: HostRuntime) -> Result<(), Fail> {
     Ok(())
 }
 
-type Long = (&'static str, u32, &'static str, Option<Refusal>);
+type Long = (&'static str, usize, &'static str, Option<Refusal>);
 
 const MANY_LINES: Option<Refusal> = Some(Refusal::TooMany(100_001, Limit::Lines));
 

@@ -1,6 +1,6 @@
 use Rattle.std.proofs.Common.{refl}
 use Rattle.std.specs.List.Sorted.{IsStrictlySortedBy}
-use Rattle.gx_vectors.proofs.versions.early.Goals as goal
+use Rattle.gx_message_vectors.proofs.messages.snapshot.Goals as goal
 
 pub take-requires-clause-rising : goal.take-requires-clause-rising
 unfolding IsStrictlySortedBy

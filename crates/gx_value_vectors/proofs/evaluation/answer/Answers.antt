@@ -1,7 +1,7 @@
 use Rattle.std.proofs.Common.{◌≡◌, ◌∙◌, sym, subst, List, []}
 use Rattle.gx_tree.specs.declared.value.Value.{Value}
 use Rattle.gx_eval.specs.Kinds.{IsTyped, kinds_of}
-use Rattle.gx_vectors.proofs.evaluation.answer.Goals as goal
+use Rattle.gx_value_vectors.proofs.evaluation.answer.Goals as goal
 
 pub holds-requires : goal.holds-requires
 holds-requires c =

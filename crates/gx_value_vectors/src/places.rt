@@ -5,7 +5,6 @@ use gx_ids::{Boxed, Cid, Gxid, Mem, Node, Rid, Seq};
 use gx_place::{Target, place, place_value, target};
 use gx_tree::{CmpOp, Cond, Dist, Expr, Row, Schema, Txt, Value};
 use std::alloc::Global;
-use std::process::Abort;
 use std::test::Fail;
 
 #[test]
@@ -78,6 +77,19 @@ fn table(alloc: Global, dist: Dist) -> Schema {
     }
 }
 
+// A condition on the key, which is column 1, and another column.
+#[derive(Clone, Copy, Debug)]
+enum Shape {
+    Key,
+    Other,
+    LiteralFirst,
+    Below,
+    Chain,
+    KeyBehind,
+    Or,
+    Not,
+}
+
 fn is(column: u8, number: i64) -> Cond {
     Cond::Cmp(CmpOp::Eq, Expr::Col(column), Expr::Lit(Value::Int(number)))
 }
@@ -87,41 +99,59 @@ fn and(alloc: Global, left: Cond, right: Cond) -> Mem<Cond> {
     Ok(Cond::And(left, Boxed::new(alloc, right)?))
 }
 
-fn expect(rt: &impl Abort, alloc: Global, cond: &Cond, want: Target) {
-    assert_eq!(rt;
-        target(&table(alloc, Dist::By(1)), Some(cond), 16),
-        want,
-        "{cond:?}"
-    );
-    assert_eq!(rt;
-        target(&table(alloc, Dist::Randomly), Some(cond), 16),
-        Target::All,
-        "{cond:?}"
-    );
+fn or(alloc: Global, left: Cond, right: Cond) -> Mem<Cond> {
+    let left = Boxed::new(alloc, left)?;
+    Ok(Cond::Or(left, Boxed::new(alloc, right)?))
+}
+
+fn chain(alloc: Global) -> Mem<Cond> {
+    let first = and(alloc, is(1, 5), is(0, 3))?;
+    and(alloc, first, is(1, 7))
+}
+
+fn cond(alloc: Global, shape: Shape) -> Mem<Cond> {
+    match shape {
+        Shape::Key => Ok(is(1, 5)),
+        Shape::Other => Ok(is(0, 5)),
+        Shape::LiteralFirst => Ok(Cond::Cmp(CmpOp::Eq, Expr::Lit(Value::Int(5)), Expr::Col(1))),
+        Shape::Below => Ok(Cond::Cmp(CmpOp::Lt, Expr::Col(1), Expr::Lit(Value::Int(5)))),
+        Shape::Chain => chain(alloc),
+        Shape::KeyBehind => and(alloc, is(0, 3), is(1, 5)),
+        Shape::Or => or(alloc, is(1, 5), is(1, 5)),
+        Shape::Not => Ok(Cond::Not(Boxed::new(alloc, is(1, 5))?)),
+    }
+}
+
+const SIXTH: Target = Target::One(Node(6));
+
+const TARGETS: [(Shape, Target); 8] = [
+    (Shape::Key, SIXTH),
+    (Shape::Other, Target::All),
+    (Shape::LiteralFirst, SIXTH),
+    (Shape::Below, Target::All),
+    (Shape::Chain, SIXTH),
+    (Shape::KeyBehind, Target::All),
+    (Shape::Or, Target::All),
+    (Shape::Not, Target::All),
+];
+
+fn found(alloc: Global, shape: Shape, dist: Dist) -> Mem<Target> {
+    let cond = cond(alloc, shape)?;
+    Ok(target(&table(alloc, dist), Some(&cond), 16))
 }
 
 #[test]
 fn targets(rt: HostRuntime) -> Result<(), Fail> {
     let alloc = rt.alloc();
-    let sixth = Target::One(Node(6));
-    expect(&rt, alloc, &is(1, 5), sixth);
-    expect(&rt, alloc, &is(0, 5), Target::All);
-    let turned = Cond::Cmp(CmpOp::Eq, Expr::Lit(Value::Int(5)), Expr::Col(1));
-    expect(&rt, alloc, &turned, sixth);
-    let below = Cond::Cmp(CmpOp::Lt, Expr::Col(1), Expr::Lit(Value::Int(5)));
-    expect(&rt, alloc, &below, Target::All);
-    let chain = and(alloc, and(alloc, is(1, 5), is(0, 3))?, is(1, 7))?;
-    expect(&rt, alloc, &chain, sixth);
-    expect(&rt, alloc, &and(alloc, is(0, 3), is(1, 5))?, Target::All);
-    let one = Boxed::new(alloc, is(1, 5))?;
-    let or = Cond::Or(one, Boxed::new(alloc, is(1, 5))?);
-    expect(&rt, alloc, &or, Target::All);
-    expect(
-        &rt,
-        alloc,
-        &Cond::Not(Boxed::new(alloc, is(1, 5))?),
-        Target::All,
-    );
-    assert_eq!(rt; target(&table(alloc, Dist::By(1)), None, 16), Target::All);
+    for (shape, want) in TARGETS {
+        assert_eq!(rt; found(alloc, shape, Dist::By(1))?, want, "{shape:?}");
+        assert_eq!(rt;
+            found(alloc, shape, Dist::Randomly)?,
+            Target::All,
+            "{shape:?}"
+        );
+    }
+    let table = table(alloc, Dist::By(1));
+    assert_eq!(rt; target(&table, None, 16), Target::All);
     Ok(())
 }
