@@ -1,5 +1,5 @@
 -- A reader is shown the same by gxids as by lxids.
-use Rattle.std.proofs.Common.{◌≡◌, ◌≤◌, List, [], ◌∷◌, ◌++◌, map, length, refl, sym, ap, ◌∙◌, subst, Bool, true, false, cond, eqb, ltb, arith, ◌&&◌, ◌||◌}
+use Rattle.std.proofs.Common.{◌≡◌, ℕ, ◌≤◌, List, [], ◌∷◌, ◌++◌, map, length, refl, sym, ap, ◌∙◌, subst, Bool, true, false, cond, eqb, ltb, arith, ◌&&◌, ◌||◌}
 use Rattle.std.proofs.lemmas.Bool.Decides.{nat_tests}
 use Rattle.std.proofs.lemmas.List.{reverse-append}
 use Rattle.std.proofs.lemmas.List.Folds.{find-append}
@@ -22,6 +22,7 @@ use Rattle.gx_rows.specs.Rows.{last_passing, is_unaborted}
 use Rattle.gx_visible.specs.Counts.{counts, is_committed, is_seen, shown_of}
 use Rattle.gx_visible.specs.Counts as counted
 use Rattle.gx_visible.proofs.Dropped.{counts-truncated}
+use Rattle.gx_local.specs.declared.current.Current.{Current}
 use Rattle.gx_local.specs.Store.{Write, current_of, is_own, is_shown, kept_at, newest_of, passes, shown_row, status_of, writes_of}
 use Rattle.gx_local.specs.Filed.{IsFiled, IsSound, current_at, gxid_at, last_unaborted, store_of, write_of}
 use Rattle.gx_local.proofs.Kept.{kept_at-map}
@@ -145,3 +146,41 @@ module _ (tables : List (Table × List (Rid × List Version))) (x : Xids) (sound
 
   pub image_of-newest : option_and_then (λ v. v.image) (last_unaborted (kept_at tables table rid) x) ≡ option_and_then (λ w. w.image) (newest_of (store_of tables x) table rid)
   image_of-newest = image_of (write_of x.gxids) (last_unaborted (kept_at tables table rid) x) (λ v. refl) ∙ ap (option_and_then (λ (w : Write). w.image)) newest_of-last_unaborted
+
+  -- WHO WROTE IT
+  same_some : {X : Type 0} {a b : X} → Some a ≡ Some b → a ≡ b
+  same_some e = cc
+
+  -- what the list has, the last of it has
+  has_once : {X : Type 0} (P : X → Type 0) (x y : X) (o : Option X) (b : Bool) → P y → (o ≡ Some x → P x) → option_or o (cond b (Some y) None) ≡ Some x → P x
+  has_once P x y None true first more e = subst P (same_some e) first
+  has_once P x y None false first more e = absurd (cc)
+  has_once P x y (Some z) b first more e = more e
+
+  last_passing_has : {X : Type 0} (P : X → Type 0) (p : X → Bool) (xs : List X) → AllByRecursion P xs → (x : X) → last_passing p xs ≡ Some x → P x
+  last_passing_has P p [] all x found = absurd (cc)
+  last_passing_has P p (y ∷ ys) all x found = has_once P x y (last_passing p ys) (p y) all.0 (last_passing_has P p ys all.1 x) (sym (last_passing-cons p y ys) ∙ found)
+
+  map_same : {X Y : Type 0} (f g : X → Y) (o : Option X) → ((x : X) → o ≡ Some x → f x ≡ g x) → option_map f o ≡ option_map g o
+  map_same f g None same = refl
+  map_same f g (Some x) same = ap Some (same x refl)
+
+  map_twice : {X Y Z : Type 0} (f : X → Y) (g : Y → Z) (o : Option X) → option_map (λ x. g (f x)) o ≡ option_map g (option_map f o)
+  map_twice f g None = refl
+  map_twice f g (Some x) = refl
+
+  current_same : (v : Version) → IsFiled x.gxids table v → current_at x v ≡ current_of (store_of tables x) (write_of x.gxids v)
+  current_same v filed =
+      ap
+      (λ (o : Option Gxid). let c : Current = record { writer = option_and_then (kept x.horizon) o; cid = v.cid } in c)
+      (at_lxid-lxid_in x.gxids (gxid_at x.gxids v.lxid) v.lxid filed.1)
+
+  pub current_of-newest : option_map (current_at x) (last_unaborted (kept_at tables table rid) x) ≡ option_map (current_of (store_of tables x)) (newest_of (store_of tables x) table rid)
+  current_of-newest =
+      map_same
+      (current_at x)
+      (λ v. current_of (store_of tables x) (write_of x.gxids v))
+      (last_unaborted (kept_at tables table rid) x)
+      (λ v found. current_same v (last_passing_has (IsFiled x.gxids table) (λ v. is_unaborted (xids.status_of x v.lxid)) (kept_at tables table rid) (sound.filed table rid) v found))
+      ∙ map_twice (write_of x.gxids) (current_of (store_of tables x)) (last_unaborted (kept_at tables table rid) x)
+      ∙ ap (option_map (current_of (store_of tables x))) newest_of-last_unaborted

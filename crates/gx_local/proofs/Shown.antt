@@ -26,6 +26,13 @@ use Rattle.gx_store.specs.Marks.{is_same_rid}
 use Rattle.gx_store.specs.Rows.{row_at}
 use Rattle.gx_local.specs.Filed.{IsFiled, image_at, keyed, rows_at}
 
+nothing_rises : IsStrictlySortedBy rid_cmp []
+unfolding IsStrictlySortedBy
+nothing_rises = tt
+
+pub AreRising-nil : (rows : List KeyedRow) → rows ≡ [] → AreRising rows
+AreRising-nil rows none = subst AreRising (sym none) nothing_rises
+
 module _ (f : Rid → Option (List Value)) where
   rids_once : (r : Rid) (rs : List Rid) (o : Option (List Value)) → map (λ row. row.rid) (keyed r o ++ flat_map (λ q. keyed q (f q)) rs) ≡ cond (is_some o) (r ∷ map (λ row. row.rid) (flat_map (λ q. keyed q (f q)) rs)) (map (λ row. row.rid) (flat_map (λ q. keyed q (f q)) rs))
   rids_once r rs None = refl

@@ -1,8 +1,8 @@
 -- What became of a transaction, by its gxid and by its lxid.
-use Rattle.std.proofs.Common.{◌≡◌, ◌≢◌, ℕ, ◌+◌, ◌-◌, ◌≤◌, List, [], ◌∷◌, ◌++◌, length, refl, sym, ap, ◌∙◌, subst, Bool, true, false, cond, eqb, ltb, arith, zero, suc}
+use Rattle.std.proofs.Common.{◌≡◌, ◌≢◌, ℕ, ◌+◌, ◌-◌, ◌<◌, ◌≤◌, List, [], ◌∷◌, ◌++◌, length, refl, sym, ap, ◌∙◌, subst, Bool, true, false, cond, eqb, ltb, arith, zero, suc}
 use Rattle.std.proofs.lemmas.Bool.Decides.{nat_tests}
 use Rattle.std.proofs.lemmas.List.Folds.{find-append}
-use Rattle.std.specs.Prelude.{Option, None, Some, option_map, unwrap_or, slice_get, find, is_some}
+use Rattle.std.specs.Prelude.{Option, None, Some, option_map, unwrap_or, slice_get, slice_set, find}
 use Rattle.std.specs.Option.{option_or}
 use Rattle.std.specs.List.{position_from}
 use Rattle.gx_ids.specs.declared.ids.Gxid.{Gxid}
@@ -16,8 +16,8 @@ use Rattle.gx_xidmap.specs.Xids as xids
 use Rattle.gx_xidmap.specs.Xids.{Xids, at_lxid, lxid_in, lxid_of}
 use Rattle.gx_xidmap.proofs.Places.{IsPlaced, placed}
 use Rattle.gx_local.specs.Store.{Writer, status_of}
-use Rattle.gx_local.specs.Filed.{writers_of, store_of}
-use Rattle.gx_local.proofs.Lxids.{position-lxid_in, lxid_of-high, at_lxid-lxid_in}
+use Rattle.gx_local.specs.Filed.{writers_of, store_of, with_status_at}
+use Rattle.gx_local.proofs.Lxids.{position-lxid_in, lxid_of-high, lxid_in-lxid_of, at_lxid-lxid_in}
 
 -- the status of the first writer with this gxid
 abbrev pub status_in : List Writer → Gxid → Option LocalStatus
@@ -90,8 +90,9 @@ lxids_apart gxids g q l m other found found' same =
   where
     some_same : {g h : Gxid} → Some g ≡ Some h → g ≡ h
     some_same e = cc
+
     numbers_same : (m l : Lxid) → m.0 ≡ l.0 → m ≡ l
-    numbers_same m l e = cc
+    numbers_same m l e = ap (λ (n : ℕ). record { 0 = n }) e
 
 pub writers_of-push : (gxids : List Gxid) (statuses : List LocalStatus) (h : Gxid) (s : LocalStatus) → length statuses ≡ length gxids → writers_of (gxids ++ h ∷ []) (statuses ++ s ∷ []) ≡ writers_of gxids statuses ++ (record { gxid = h; status = s }) ∷ []
 writers_of-push [] [] h s paired = refl
@@ -126,3 +127,66 @@ module _ (writers : List Writer) (h : Gxid) where
   pub status_in-other : (q : Gxid) → q.0 ≢ h.0 → status_in (writers ++ (record { gxid = h; status = Running }) ∷ []) q ≡ status_in writers q
   status_in-other q other =
       ap (option_map (λ (w : Writer). w.status)) (found_with q false (other_test h q other)) ∙ or_nothing (find (λ w. eqb w.gxid.0 q.0) writers)
+
+-- A STATUS THAT IS SET
+get_set_same : (ss : List LocalStatus) (k : ℕ) (s : LocalStatus) → k < length ss → slice_get (slice_set ss k s) k ≡ Some s
+get_set_same [] k s inside = absurd (omega arith)
+get_set_same (t ∷ ts) zero s inside = refl
+get_set_same (t ∷ ts) (suc k) s inside = get_set_same ts k s (omega arith)
+
+get_set_other : (ss : List LocalStatus) (k m : ℕ) (s : LocalStatus) → m ≢ k → slice_get (slice_set ss k s) m ≡ slice_get ss m
+get_set_other [] k m s other = refl
+get_set_other (t ∷ ts) zero zero s other = absurd (other refl)
+get_set_other (t ∷ ts) zero (suc m) s other = refl
+get_set_other (t ∷ ts) (suc k) zero s other = refl
+get_set_other (t ∷ ts) (suc k) (suc m) s other = get_set_other ts k m s (λ e. other (ap suc e))
+
+length_set : (ss : List LocalStatus) (k : ℕ) (s : LocalStatus) → length (slice_set ss k s) ≡ length ss
+length_set [] k s = refl
+length_set (t ∷ ts) zero s = refl
+length_set (t ∷ ts) (suc k) s = ap suc (length_set ts k s)
+
+at_lxid_same : (ss : List LocalStatus) (n : ℕ) (s : LocalStatus) → 1 ≤ n → n ≤ length ss → at_lxid (slice_set ss (n - 1) s) (record { 0 = n }) ≡ Some s
+at_lxid_same ss n s low inside = sym (at_number (slice_set ss (n - 1) s) n low) ∙ get_set_same ss (n - 1) s (omega arith)
+
+at_lxid_other : (ss : List LocalStatus) (n m : ℕ) (s : LocalStatus) → 1 ≤ n → 1 ≤ m → m ≢ n → at_lxid (slice_set ss (n - 1) s) (record { 0 = m }) ≡ at_lxid ss (record { 0 = m })
+at_lxid_other ss n m s low low' other =
+    sym (at_number (slice_set ss (n - 1) s) m low') ∙ get_set_other ss (n - 1) (m - 1) s (λ e. other (omega (arith, e))) ∙ at_number ss m low'
+
+module _ (tables : List (Table × List (Rid × List Version))) (x : Xids) (g : Gxid) (s : LocalStatus) (paired : length x.statuses ≡ length x.gxids) where
+  placed_lxid : (h : Gxid) (l : Lxid) → lxid_in x.gxids h ≡ Some l → IsPlaced h x.gxids 1 l.0
+  placed_lxid h l found = placed h x.gxids 1 l.0 (position-lxid_in x.gxids h l found)
+
+  still_paired : (l : Lxid) → length (xids.with_status x l s).statuses ≡ length x.gxids
+  still_paired l = length_set x.statuses (l.0 - 1) s ∙ paired
+
+  set_at : (o : Option Lxid) → lxid_of x g ≡ o → x.horizon.0 ≤ g.0 → status_of (store_of tables (with_status_at o x s)) g ≡ option_map (λ _. s) (status_of (store_of tables x) g)
+  set_at None missing high =
+      let is : status_of (store_of tables x) g ≡ None = status_of-lxid_of tables x g paired high ∙ ap (option_map (xids.status_of x)) missing in
+      is ∙ sym (ap (option_map (λ _. s)) is)
+  set_at (Some l) there high =
+      let found = lxid_in-lxid_of x g l there in
+      let p = placed_lxid g l found in
+      status_of-found tables (xids.with_status x l s) g l (still_paired l) found
+      ∙ ap (λ (o : Option LocalStatus). Some (unwrap_or o Running)) (at_lxid_same x.statuses l.0 s (omega (arith, p.counted)) (omega (arith, p.counted, p.inside, paired)))
+      ∙ sym (ap (option_map (λ _. s)) (status_of-found tables x g l paired found))
+
+  -- the transaction has the status, if it is here
+  pub status_of-set : x.horizon.0 ≤ g.0 → status_of (store_of tables (with_status_at (lxid_of x g) x s)) g ≡ option_map (λ _. s) (status_of (store_of tables x) g)
+  status_of-set high = set_at (lxid_of x g) refl high
+
+  beside : (q : Gxid) → q.0 ≢ g.0 → (l : Lxid) → lxid_in x.gxids g ≡ Some l → (o : Option Lxid) → lxid_in x.gxids q ≡ o → status_of (store_of tables (xids.with_status x l s)) q ≡ status_of (store_of tables x) q
+  beside q other l found None missing = status_of-missing tables (xids.with_status x l s) q missing ∙ sym (status_of-missing tables x q missing)
+  beside q other l found (Some m) there =
+      let p = placed_lxid g l found in
+      let r = placed_lxid q m there in
+      status_of-found tables (xids.with_status x l s) q m (still_paired l) there
+      ∙ ap (λ (o : Option LocalStatus). Some (unwrap_or o Running)) (at_lxid_other x.statuses l.0 m.0 s (omega (arith, p.counted)) (omega (arith, r.counted)) (lxids_apart x.gxids g q l m other found there))
+      ∙ sym (status_of-found tables x q m paired there)
+
+  other_at : (o : Option Lxid) → lxid_of x g ≡ o → (q : Gxid) → q.0 ≢ g.0 → status_of (store_of tables (with_status_at o x s)) q ≡ status_of (store_of tables x) q
+  other_at None missing q other = refl
+  other_at (Some l) there q other = beside q other l (lxid_in-lxid_of x g l there) (lxid_in x.gxids q) refl
+
+  pub status_of-set_other : (q : Gxid) → q.0 ≢ g.0 → status_of (store_of tables (with_status_at (lxid_of x g) x s)) q ≡ status_of (store_of tables x) q
+  status_of-set_other = other_at (lxid_of x g) refl

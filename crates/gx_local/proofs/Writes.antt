@@ -1,15 +1,16 @@
 -- What one version more does to the store.
-use Rattle.std.proofs.Common.{◌≡◌, ◌≢◌, ◌≤◌, List, [], ◌∷◌, ◌++◌, length, length-append, map, refl, sym, ap, ◌∙◌, subst, Bool, true, false, cond, arith, ◌⊎◌, ⊎_elim, inl, inr}
+use Rattle.std.proofs.Common.{◌≡◌, ◌≢◌, ℕ, ◌+◌, ◌≤◌, List, [], ◌∷◌, ◌++◌, length, length-append, map, refl, sym, ap, ◌∙◌, subst, Bool, true, false, cond, arith, ◌⊎◌, ⊎_elim, inl, inr}
 use Rattle.std.proofs.lemmas.Bool.{cases_eq}
 use Rattle.std.proofs.lemmas.List.{map-append}
 use Rattle.std.proofs.lemmas.Bool.Decides.{nat_tests}
-use Rattle.std.specs.Prelude.{Option, None, Some, option_map, is_some, unwrap_or}
+use Rattle.std.specs.Prelude.{Option, None, Some, Result, Ok, Err, OnOk, OnErr, option_map, is_some, unwrap_or}
 use Rattle.std.specs.List.{AllByRecursion}
 use Rattle.gx_ids.specs.declared.ids.Cid.{Cid}
 use Rattle.gx_ids.specs.declared.ids.Gxid.{Gxid}
 use Rattle.gx_ids.specs.declared.ids.Lxid.{Lxid}
 use Rattle.gx_ids.specs.declared.ids.Table.{Table}
 use Rattle.gx_ids.specs.declared.rid.Rid.{Rid}
+use Rattle.gx_ids.specs.declared.memory.OutOfMemory.{OutOfMemory}
 use Rattle.gx_tree.specs.declared.value.Value.{Value}
 use Rattle.gx_xidmap.specs.declared.status.LocalStatus.{LocalStatus}
 use Rattle.gx_xidmap.specs.declared.status.LocalStatus.TheVariants.{Running}
@@ -81,31 +82,34 @@ table_cases : (t u : Table) → (t ≡ u) ⊎ (t ≢ u)
 table_cases t u = ⊎_elim (λ (e : t.0 ≡ u.0). inl (whole t u e)) (λ (other : t.0 ≡ u.0 → ⊥). inr (λ e. other (ap (λ (k : Table). k.0) e))) (cases_eq t.0 u.0)
   where
     whole : (t u : Table) → t.0 ≡ u.0 → t ≡ u
-    whole t u e = cc
+    whole t u e = ap (λ (n : ℕ). record { 0 = n }) e
 
 rid_cases : (r q : Rid) → (r ≡ q) ⊎ (r ≢ q)
 rid_cases r q =
     ⊎_elim
     (λ (a : r.gxid.0 ≡ q.gxid.0).
-        ⊎_elim
-        (λ (b : r.cid.0 ≡ q.cid.0). ⊎_elim (λ (c : r.ordinal ≡ q.ordinal). inl (whole r q a b c)) (λ (other : r.ordinal ≡ q.ordinal → ⊥). inr (λ e. other (ap (λ (k : Rid). k.ordinal) e))) (cases_eq r.ordinal q.ordinal))
-        (λ (other : r.cid.0 ≡ q.cid.0 → ⊥). inr (λ e. other (ap (λ (k : Rid). k.cid.0) e)))
-        (cases_eq r.cid.0 q.cid.0))
+    ⊎_elim
+    (λ (b : r.cid.0 ≡ q.cid.0). ⊎_elim (λ (c : r.ordinal ≡ q.ordinal). inl (whole r q a b c)) (λ (other : r.ordinal ≡ q.ordinal → ⊥). inr (λ e. other (ap (λ (k : Rid). k.ordinal) e))) (cases_eq r.ordinal q.ordinal))
+    (λ (other : r.cid.0 ≡ q.cid.0 → ⊥). inr (λ e. other (ap (λ (k : Rid). k.cid.0) e)))
+    (cases_eq r.cid.0 q.cid.0))
     (λ (other : r.gxid.0 ≡ q.gxid.0 → ⊥). inr (λ e. other (ap (λ (k : Rid). k.gxid.0) e)))
     (cases_eq r.gxid.0 q.gxid.0)
   where
     whole : (r q : Rid) → r.gxid.0 ≡ q.gxid.0 → r.cid.0 ≡ q.cid.0 → r.ordinal ≡ q.ordinal → r ≡ q
-    whole r q a b c = cc
+    whole r q a b c =
+        ap (λ (n : ℕ). let k : Rid = record { gxid = record { 0 = n }; cid = r.cid; ordinal = r.ordinal } in k) a
+        ∙ ap (λ (n : ℕ). let k : Rid = record { gxid = q.gxid; cid = record { 0 = n }; ordinal = r.ordinal } in k) b
+        ∙ ap (λ (n : ℕ). let k : Rid = record { gxid = q.gxid; cid = q.cid; ordinal = n } in k) c
 
 module _ (tables : List (Table × List (Rid × List Version))) (x : Xids) (table : Table) (rid : Rid) (v : Version) (sound : IsSound tables x) (new : IsFiled x.gxids table v) where
   in_table : (r : Rid) → AllByRecursion (IsFiled x.gxids table) (kept_at (filed tables table rid v) table r)
   in_table r =
       ⊎_elim
       (λ (e : r ≡ rid).
-          subst
-          (λ (q : Rid). AllByRecursion (IsFiled x.gxids table) (kept_at (filed tables table rid v) table q))
-          (sym e)
-          (subst (AllByRecursion (IsFiled x.gxids table)) (sym (kept_at-filed tables table rid v)) (AllByRecursion-push (IsFiled x.gxids table) (kept_at tables table rid) v (sound.filed table rid) new)))
+      subst
+      (λ (q : Rid). AllByRecursion (IsFiled x.gxids table) (kept_at (filed tables table rid v) table q))
+      (sym e)
+      (subst (AllByRecursion (IsFiled x.gxids table)) (sym (kept_at-filed tables table rid v)) (AllByRecursion-push (IsFiled x.gxids table) (kept_at tables table rid) v (sound.filed table rid) new)))
       (λ (other : r ≢ rid). subst (AllByRecursion (IsFiled x.gxids table)) (sym (kept_at-filed_row tables table rid v r other)) (sound.filed table r))
       (rid_cases r rid)
 
@@ -185,3 +189,48 @@ module _ (tables tables' : List (Table × List (Rid × List Version))) (x x' : X
         ∙ ap (map (write_of x'.gxids)) (kept_at-filed_table tables table rid (record { image = image; table = table; lxid = w.lxid; cid = c }) t r other)
         ∙ sym (told x' t r)
         ∙ writes_of-writer w.writer t r
+
+-- A TRY TO WRITE
+module _ (tables tables' : List (Table × List (Rid × List Version))) (x x' : Xids) (g : Gxid) (c : Cid) (table : Table) (rid : Rid) (image : Option (List Value)) (sound : IsSound tables x) where
+  module _ (unchanged : tables' ≡ tables) (tried : (x' ≡ x) ⊎ (x' ≡ with_writer x g)) where
+    same_sound : IsSound tables x'
+    same_sound = ⊎_elim (λ (e : x' ≡ x). subst (IsSound tables) (sym e) sound) (λ (e : x' ≡ with_writer x g). IsSound-writer tables tables x x' g c table rid image sound e) tried
+
+    same_writes : (t : Table) (r : Rid) → writes_of (store_of tables' x') t r ≡ writes_of (store_of tables x) t r
+    same_writes t r =
+        ap (λ (ts : List (Table × List (Rid × List Version))). writes_of (store_of ts x') t r) unchanged
+        ∙ ⊎_elim (λ (e : x' ≡ x). ap (λ (y : Xids). writes_of (store_of tables y) t r) e) (λ (e : x' ≡ with_writer x g). writes_of-writer tables tables x x' g c table rid image sound e t r) tried
+
+    maybe_status : (status_of (store_of tables' x') g ≡ status_of (store_of tables x) g) ⊎ (status_of (store_of tables' x') g ≡ Some (unwrap_or (status_of (store_of tables x) g) Running))
+    maybe_status =
+        ⊎_elim
+        (λ (e : x' ≡ x). inl (ap (λ (y : Xids). status_of (store_of tables y) g) e))
+        (λ (e : x' ≡ with_writer x g). inr (status_of-writer tables tables' x x' g c table rid image sound e))
+        tried
+
+    same_others : (q : Gxid) → q.0 ≢ g.0 → status_of (store_of tables' x') q ≡ status_of (store_of tables x) q
+    same_others q other =
+        ⊎_elim
+        (λ (e : x' ≡ x). ap (λ (y : Xids). status_of (store_of tables y) q) e)
+        (λ (e : x' ≡ with_writer x g). status_of-writer_other tables tables' x x' g c table rid image sound e q other)
+        tried
+
+  pub IsSound-tried : (o : Result (Unit {0}) OutOfMemory) → OnOk o (IsWritten tables tables' x x' g c table rid image) → OnErr o (tables' ≡ tables) → OnErr o ((x' ≡ x) ⊎ (x' ≡ with_writer x g)) → IsSound tables' x'
+  IsSound-tried (Ok u) w unchanged tried = IsSound-written tables tables' x x' g c table rid image sound w
+  IsSound-tried (Err e) w unchanged tried = subst (λ (ts : List (Table × List (Rid × List Version))). IsSound ts x') (sym unchanged) (same_sound unchanged tried)
+
+  pub status_of-tried_other : (o : Result (Unit {0}) OutOfMemory) → OnOk o (IsWritten tables tables' x x' g c table rid image) → OnErr o (tables' ≡ tables) → OnErr o ((x' ≡ x) ⊎ (x' ≡ with_writer x g)) → (q : Gxid) → q.0 ≢ g.0 → status_of (store_of tables' x') q ≡ status_of (store_of tables x) q
+  status_of-tried_other (Ok u) w unchanged tried q other = status_of-writer_other tables tables' x x' g c table rid image sound w.writer q other
+  status_of-tried_other (Err e) w unchanged tried q other = same_others unchanged tried q other
+
+  pub OnErr-writes : (o : Result (Unit {0}) OutOfMemory) → OnErr o (tables' ≡ tables) → OnErr o ((x' ≡ x) ⊎ (x' ≡ with_writer x g)) → OnErr o ((t : Table) (r : Rid) → writes_of (store_of tables' x') t r ≡ writes_of (store_of tables x) t r)
+  OnErr-writes (Ok u) unchanged tried = tt
+  OnErr-writes (Err e) unchanged tried = same_writes unchanged tried
+
+  pub OnErr-status : (o : Result (Unit {0}) OutOfMemory) → OnErr o (tables' ≡ tables) → OnErr o ((x' ≡ x) ⊎ (x' ≡ with_writer x g)) → OnErr o ((status_of (store_of tables' x') g ≡ status_of (store_of tables x) g) ⊎ (status_of (store_of tables' x') g ≡ Some (unwrap_or (status_of (store_of tables x) g) Running)))
+  OnErr-status (Ok u) unchanged tried = tt
+  OnErr-status (Err e) unchanged tried = maybe_status unchanged tried
+
+pub OnOk-weaker : {P Q : Type 0} (o : Result (Unit {0}) OutOfMemory) → (P → Q) → OnOk o P → OnOk o Q
+OnOk-weaker (Ok u) f p = f p
+OnOk-weaker (Err e) f p = tt

@@ -1,4 +1,5 @@
 ghost use Rattle.std.specs.Prelude.{◌≡◌, ◌++◌, IfOk, OnOk, option_map, option_and_then};
+ghost use Rattle.std.specs.List.{flat_map};
 ghost use Rattle.std.specs.Option.{option_copied};
 ghost use Rattle.gx_gather.specs.Answer.{AreRising};
 ghost use Rattle.gx_xidmap.specs.Xids.{lxid_of};
@@ -57,16 +58,32 @@ fn rows_shown(
     ensures whole { IfOk result (λ rows. rows.items ≡ rows_at versions.now xids.now table snap.now own cid) }
     ensures rising { IfOk result (λ rows. AreRising rows.items) }
 {
+    let rids = versions.rids(table)?;
+    rows_of(alloc, versions, xids, rids.as_slice(), snap, own, cid)
+}
+
+fn rows_of(
+    alloc: Global,
+    versions: &Versions,
+    xids: &XidMap,
+    rids: &[Rid],
+    snap: &Snapshot,
+    own: Option<Lxid>,
+    cid: Cid,
+) -> Mem<Vec<KeyedRow>>
+    ensures { IfOk result (λ rows. rows.items ≡ flat_map (λ rid. keyed rid (image_at versions.now xids.now snap.now own cid rid)) rids.now) }
+{
     let mut rows = Vec::new(alloc);
-    for rid in versions.rids(table)? {
-        push_keyed(alloc, &mut rows, rid, row_shown(versions, xids, rid, snap, own, cid))?;
+    for rid in rids {
+        let row = row_shown(versions, xids, *rid, snap, own, cid);
+        push_keyed(alloc, &mut rows, *rid, row)?;
     }
     Ok(rows)
 }
 
 // Adds a row, if there is one.
 fn push_keyed(alloc: Global, rows: &mut Vec<KeyedRow>, rid: Rid, row: Option<&Row>) -> Mem<()>
-    ensures { OnOk result (rows.new.items ≡ rows.old.items ++ keyed rid (option_copied row)) }
+    ensures { OnOk result (rows.new.items ≡ rows.old.items ++ keyed rid (option_copied row.entry)) }
 {
     if let Some(row) = row {
         let row = row.copy(alloc)?;

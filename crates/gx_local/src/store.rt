@@ -133,15 +133,7 @@ impl LocalStore {
         ensures images { IfOk result (λ rows. (rid : Rid) → row_at rows.items rid ≡ shown_row self.now snap.now own cid table rid) }
     {
         let own = own_lxid(&self.xids, own);
-        rows_in(
-            self.alloc,
-            &self.tables,
-            &self.xids,
-            table,
-            snap,
-            own,
-            cid,
-        )
+        rows_in(self.alloc, &self.tables, &self.xids, table, snap, own, cid)
     }
 
     /// The newest write to a row that isn't aborted here, none where there is none.
