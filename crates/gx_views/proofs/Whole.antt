@@ -79,7 +79,7 @@ unwritten_step table rid t r w n ms at true none more = absurd (cc)
 unwritten_step table rid t r w n ms true false none more = more none
 unwritten_step table rid t r w n ms false false none more = more none
 
-unwritten : (table : Table) (rid : Rid) (ms : List Mark) → node_of ms rid ≡ None → writes_to table rid ms ≡ []
+pub unwritten : (table : Table) (rid : Rid) (ms : List Mark) → node_of ms rid ≡ None → writes_to table rid ms ≡ []
 unwritten table rid [] none = refl
 unwritten table rid (Write g c n t r image ∷ ms) none =
     unwritten_step table rid t r (record { gxid = g; cid = c; image = image }) n ms (eqb t.0 table.0) (is_same_rid r rid) none (unwritten table rid ms)
