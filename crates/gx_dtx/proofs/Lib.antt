@@ -1,2 +1,7 @@
 pub mod Least
 pub mod Rising
+pub mod Finds
+pub mod Entries
+pub mod Keeps
+pub mod Fitting
+pub mod Sees

@@ -4,3 +4,4 @@ pub mod Table
 pub mod Rules
 pub mod Runs
 pub mod Whole
+pub mod Fits

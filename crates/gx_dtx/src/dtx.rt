@@ -29,12 +29,13 @@ pub struct Dtx {
 
 impl Model for Dtx {
     ghost use Rattle.gx_dtx.specs.Table.{Table};
+    ghost use Rattle.gx_dtx.specs.Whole.{IsWhole};
 
     ghost Value = { Table };
 
     ghost view = { λ a. record { next = a.next; latest_ended = a.latest_ended; txns = a.txns.entries } };
 
-    // ghost invariant = { λ a. IsWhole (record { next = a.next; latest_ended = a.latest_ended; txns = a.txns.entries }) };
+    ghost invariant = { λ a. IsWhole (record { next = a.next; latest_ended = a.latest_ended; txns = a.txns.entries }) };
 }
 
 impl Dtx {
