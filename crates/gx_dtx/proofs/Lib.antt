@@ -5,3 +5,4 @@ pub mod Entries
 pub mod Keeps
 pub mod Fitting
 pub mod Sees
+pub mod Made

@@ -4,11 +4,10 @@ ghost use Rattle.gx_ids.specs.declared.ids.Gxid.{Gxid};
 ghost use Rattle.gx_outside.specs.Causes.{Rose};
 ghost use Rattle.gx_dsnap.specs.Snapshot.{sees};
 
-use crate::found;
 use crate::outcome::DtxOut;
 use crate::status::Status;
 use crate::txn::Txn;
-use crate::txns;
+use crate::{found, txns};
 use gx_dsnap::Snapshot;
 use gx_ids::{Gxid, Mem, Node};
 use gx_msg::{Out, Reply};
@@ -157,7 +156,14 @@ impl Dtx {
         ensures err { OnErr result (self.new ≡ self.old) }
         ensures kept { OnErr result (J.items journal.new ≡ J.items journal.old) }
     {
-        let change = found::reply(self.alloc, self.txns.get(&gxid), gxid, node, &answer, journal)?;
+        let change = found::reply(
+            self.alloc,
+            self.txns.get(&gxid),
+            gxid,
+            node,
+            &answer,
+            journal,
+        )?;
         Ok(txns::make(&mut self.txns, &mut self.latest_ended, gxid, change))
     }
 

@@ -94,7 +94,10 @@ fn order_of(phase: &Phase, node: Node) -> Option<Order>
 {
     match phase {
         Phase::Active => None,
-        Phase::Preparing { writers: _, awaited } => among(node, awaited, Order::Prepare),
+        Phase::Preparing {
+            writers: _,
+            awaited,
+        } => among(node, awaited, Order::Prepare),
         Phase::CommittingOne(writer) if *writer == node => Some(Order::Commit),
         Phase::CommittingOne(_) => None,
         Phase::CommittingTwo(awaited) => among(node, awaited, Order::CommitPrepared),

@@ -22,8 +22,20 @@ pub(crate) fn is_awaited(phase: &Phase, node: Node, answer: &Reply) -> bool
     ensures { result ≡ is_awaited_in phase.now node answer.now }
 {
     match (phase, answer) {
-        (Phase::Preparing { writers: _, awaited }, Reply::Prepared) => has(node, awaited.as_slice()),
-        (Phase::Preparing { writers: _, awaited }, Reply::Jfault) => has(node, awaited.as_slice()),
+        (
+            Phase::Preparing {
+                writers: _,
+                awaited,
+            },
+            Reply::Prepared,
+        ) => has(node, awaited.as_slice()),
+        (
+            Phase::Preparing {
+                writers: _,
+                awaited,
+            },
+            Reply::Jfault,
+        ) => has(node, awaited.as_slice()),
         (Phase::CommittingOne(writer), Reply::Committed) => *writer == node,
         (Phase::CommittingOne(writer), Reply::Jfault) => *writer == node,
         (Phase::CommittingTwo(awaited), Reply::Committed) => has(node, awaited.as_slice()),

@@ -38,11 +38,7 @@ fn running(alloc: Global, txns: &Txns) -> Mem<Vec<Gxid>>
 }
 
 // A snapshot of these transactions.
-pub(crate) fn snapshot_of(
-    alloc: Global,
-    txns: &Txns,
-    latest_ended: Option<Gxid>,
-) -> Mem<Snapshot>
+pub(crate) fn snapshot_of(alloc: Global, txns: &Txns, latest_ended: Option<Gxid>) -> Mem<Snapshot>
     requires { ForSome latest_ended (λ g. g.0 + 1 < 2 ^ 64) }
     ensures xmax { IfOk result (λ snap. snap.xmax ≡ after_ended latest_ended) }
     ensures running { IfOk result (λ snap. snap.running ≡ filter (is_below snap.xmax) (map (λ e. e.0) (filter (λ e. is_running e.1.phase) txns.now.entries))) }

@@ -1,18 +1,20 @@
-use Rattle.std.proofs.Common.{rules, ◌≡◌, ◌≤◌, ◌<◌, ◌+◌, ◌^◌, ◌++◌, ◌∷◌, [], true, false, All, Contains, IfOk, OnOk, OnErr, None, Some, MatchOption, option_map, ℕ, ◌-◌, ◌*◌, length, ◌/◌, ◌%◌, Bool, nat_eq, nat_lt, List, slice_index_or, slice_set, bit_and, bit_or, Fits, w8, w32, w64, Bor, MutBor}
-use Rattle.std.specs.List.{flat_map}
+use Rattle.std.proofs.Common.{◌≡◌, ◌∙◌, ◌+◌, ◌++◌, ◌∷◌, [], List, ap}
 use Rattle.gx_ids.specs.declared.ids.Gxid.{Gxid}
-use Rattle.gx_outside.specs.Causes.{Rose}
-use Rattle.gx_dsnap.specs.Snapshot.{sees}
-use Rattle.gx_dtx.specs.Table.{new_table, status_of, IsActive, participants_of, xmax_of, listed_of, xmin_of, has_ended, holds_back, horizon_of}
-use Rattle.gx_dtx.specs.Rules.{begun, with_live, enlisted, on_commit, on_abort, on_reply, is_deciding, awaited_order, AreWriters, is_refused, decide_items, ended_alone, silently}
-use Rattle.gx_dtx.specs.Orders.{message_of}
-use Rattle.gx_dtx.specs.declared.outcome.Outcome.TheVariants as outcome
+use Rattle.gx_dtx.specs.declared.txn.Txn.{Txn}
+use Rattle.gx_dtx.specs.Table.{Table, new_txn}
+use Rattle.gx_dtx.specs.Rules.{begun}
+use Rattle.gx_dtx.proofs.Made.{entries-begun, IsWhole-made_begun}
 use Rattle.gx_dtx.proofs.dtx.Dtx.begin.Goals as goal
 
--- src/dtx.rt:60:5
-pub invariant_of-self-2 : goal.invariant_of-self-2
-invariant_of-self-2 c = ?
+abbrev table : goal.After-next-1 → Table
+table c = record { next = c.self.inside.next; latest_ended = c.self.inside.latest_ended; txns = c.self.inside.txns.entries }
 
--- src/dtx.rt:60:5
+entries : (c : goal.After-next-1) → c.insert.new.self.entries ≡ c.self.inside.txns.entries ++ (c.self.inside.next, new_txn) ∷ []
+entries c = entries-begun (table c) c.new.result c.insert.new.self.entries c.self.invariant (c.in_ok-insert.ensures).entries c.new.ensures
+
+pub invariant_of-self-2 : goal.invariant_of-self-2
+invariant_of-self-2 c = IsWhole-made_begun (table c) c.insert.new.self.entries c.self.invariant (entries c)
+
 pub returns-clause-ok : goal.returns-clause-ok
-returns-clause-ok c = ?
+returns-clause-ok c =
+    ap (λ (txns : List (Gxid × Txn)). let d : Table = record { next = record { 0 = c.self.inside.next.0 + 1 }; latest_ended = c.self.inside.latest_ended; txns = txns } in d) (entries c) ∙ ap begun c.self.view_is

@@ -1,18 +1,18 @@
-use Rattle.std.proofs.Common.{rules, ◌≡◌, ◌≤◌, ◌<◌, ◌+◌, ◌^◌, ◌++◌, ◌∷◌, [], true, false, All, Contains, IfOk, OnOk, OnErr, None, Some, MatchOption, option_map, ℕ, ◌-◌, ◌*◌, length, ◌/◌, ◌%◌, Bool, nat_eq, nat_lt, List, slice_index_or, slice_set, bit_and, bit_or, Fits, w8, w32, w64, Bor, MutBor}
+use Rattle.std.proofs.Common.{◌≡◌, ◌∙◌, ◌++◌, ◌∷◌, [], ◌≤◌, ap, subst, sym}
+use Rattle.std.specs.Prelude.{All, Contains}
 use Rattle.std.specs.List.{flat_map}
 use Rattle.gx_ids.specs.declared.ids.Gxid.{Gxid}
-use Rattle.gx_outside.specs.Causes.{Rose}
-use Rattle.gx_dsnap.specs.Snapshot.{sees}
-use Rattle.gx_dtx.specs.Table.{new_table, status_of, IsActive, participants_of, xmax_of, listed_of, xmin_of, has_ended, holds_back, horizon_of}
-use Rattle.gx_dtx.specs.Rules.{begun, with_live, enlisted, on_commit, on_abort, on_reply, is_deciding, awaited_order, AreWriters, is_refused, decide_items, ended_alone, silently}
-use Rattle.gx_dtx.specs.Orders.{message_of}
-use Rattle.gx_dtx.specs.declared.outcome.Outcome.TheVariants as outcome
+use Rattle.gx_dtx.specs.Table.{Table, holds_back, horizon_of}
+use Rattle.gx_dtx.proofs.Least.{least_of-le_all, Contains-least_of}
 use Rattle.gx_dtx.proofs.dtx.Dtx.horizon.Goals as goal
 
--- src/dtx.rt:174:5
-pub returns-clause-lowest : goal.returns-clause-lowest
-returns-clause-lowest c = ?
+value : (c : goal.After-horizon) → c.horizon.result ≡ horizon_of c.args.self.now
+value c = c.horizon.ensures ∙ ap horizon_of c.self.view_is
 
--- src/dtx.rt:174:5
+pub returns-clause-lowest : goal.returns-clause-lowest
+returns-clause-lowest c =
+    subst (λ (least : Gxid). All (λ g. least.0 ≤ g.0) (flat_map holds_back c.args.self.now.txns ++ c.args.self.now.next ∷ [])) (sym (value c)) (least_of-le_all (flat_map holds_back c.args.self.now.txns) c.args.self.now.next)
+
 pub returns-clause-among : goal.returns-clause-among
-returns-clause-among c = ?
+returns-clause-among c =
+    subst (Contains (flat_map holds_back c.args.self.now.txns ++ c.args.self.now.next ∷ [])) (sym (value c)) (Contains-least_of (flat_map holds_back c.args.self.now.txns) c.args.self.now.next)

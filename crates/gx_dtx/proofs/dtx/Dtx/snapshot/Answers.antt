@@ -1,18 +1,20 @@
-use Rattle.std.proofs.Common.{rules, ◌≡◌, ◌≤◌, ◌<◌, ◌+◌, ◌^◌, ◌++◌, ◌∷◌, [], true, false, All, Contains, IfOk, OnOk, OnErr, None, Some, MatchOption, option_map, ℕ, ◌-◌, ◌*◌, length, ◌/◌, ◌%◌, Bool, nat_eq, nat_lt, List, slice_index_or, slice_set, bit_and, bit_or, Fits, w8, w32, w64, Bor, MutBor}
-use Rattle.std.specs.List.{flat_map}
+use Rattle.std.proofs.Common.{◌≡◌, ◌∙◌, ◌<◌, ap, subst, filter}
+use Rattle.std.specs.Prelude.{Some}
 use Rattle.gx_ids.specs.declared.ids.Gxid.{Gxid}
-use Rattle.gx_outside.specs.Causes.{Rose}
+use Rattle.gx_dsnap.specs.Gxids.{is_below}
 use Rattle.gx_dsnap.specs.Snapshot.{sees}
-use Rattle.gx_dtx.specs.Table.{new_table, status_of, IsActive, participants_of, xmax_of, listed_of, xmin_of, has_ended, holds_back, horizon_of}
-use Rattle.gx_dtx.specs.Rules.{begun, with_live, enlisted, on_commit, on_abort, on_reply, is_deciding, awaited_order, AreWriters, is_refused, decide_items, ended_alone, silently}
-use Rattle.gx_dtx.specs.Orders.{message_of}
-use Rattle.gx_dtx.specs.declared.outcome.Outcome.TheVariants as outcome
+use Rattle.gx_dtx.specs.Table.{Table, has_ended, running_of}
+use Rattle.gx_dtx.proofs.Made.{IsWhole-live}
+use Rattle.gx_dtx.proofs.Sees.{sees-ended}
 use Rattle.gx_dtx.proofs.dtx.Dtx.snapshot.Goals as goal
 
--- src/dtx.rt:83:5
-pub invariant_of-self : goal.invariant_of-self
-invariant_of-self c = ?
+abbrev table : goal.After-set_live → Table
+table c = record { next = c.self.inside.next; latest_ended = c.self.inside.latest_ended; txns = c.self.inside.txns.entries }
 
--- src/dtx.rt:83:5
+pub invariant_of-self : goal.invariant_of-self
+invariant_of-self c = IsWhole-live (table c) c.args.gxid (Some c.in_ok-snapshot.snapshot.xmin) c.set_live.new.txns.entries c.set_live.ensures c.self.invariant
+
 pub returns-clause-seen : goal.returns-clause-seen
-returns-clause-seen c = ?
+returns-clause-seen c = λ g first.
+    let e = c.in_ok-snapshot.ensures in
+    subst (λ (d : Table). sees c.in_ok-snapshot.snapshot g ≡ has_ended d g) c.self.view_is (sees-ended (table c) c.in_ok-snapshot.snapshot g c.self.invariant e.xmax (e.running ∙ ap (λ (x : Gxid). filter (is_below x) (running_of (table c))) e.xmax) first)
