@@ -1,10 +1,16 @@
-//! The world: it runs a script, line by line, over one list of rows, and keeps the run.
+//! The world: it runs a script, line by line, over a list of rows a table, and keeps the run.
 #![tactic(auto)]
 
+mod answering;
+mod constants;
 mod insert;
 mod lines;
+mod marks;
 mod select;
+mod selection;
+mod stop;
 mod tables;
+mod turn;
 pub mod world;
 
 pub use world::World;

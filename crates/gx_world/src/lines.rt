@@ -1,30 +1,30 @@
 // One line of the session: its step of the run.
-ghost use Rattle.std.specs.Prelude.{◌≡◌, ◌<◌, ◌≤◌, ◌+◌, ◌++◌, length, OnOk, OnErr, Some, vec_len, vec_capacity};
-ghost use Rattle.gx_form.specs.IsPlain.{the_session};
-ghost use Rattle.gx_world.specs.World.{IsRunning, stmt_at};
 
-use crate::insert::{insert_marks, keyed_rows};
+use crate::answering::answer;
+use crate::constants::constant_rows;
+use crate::insert::insert_marks;
+use crate::marks::refused_marks;
 use crate::select::select_marks;
-use gx_ids::{Gxid, Mem, Node, Seq, SessionId, Stamp, Table};
+use crate::stop::Stop;
+use crate::turn::Turn;
+use gx_ids::{Cid, Gxid, Mem, Node, OutOfMemory, Seq, SessionId, Stamp, Table};
 use gx_script::{Line, Script};
 use gx_store::{Event, Mark, Run, Step};
-use gx_tree::{Expr, KeyedRow, Query, Stmt};
+use gx_tree::{Expr, KeyedRow, Query, Schema, Stmt};
 use std::alloc::Global;
 
-// The session that starts.
-pub(crate) fn session_of(event: Event) -> SessionId
-    ensures { event ≡ Event.Start result }
-{
-    let Event::Start(session) = event;
-    session
+// The statement of the line at a place.
+fn stmt_of(lines: &[Line], at: usize) -> &Stmt {
+    &lines[at].stmt
 }
 
-// The statement of the line at a place.
-fn stmt_of(lines: &[Line], at: usize) -> &Stmt
-    requires { at < length lines.now }
-    ensures { stmt_at lines.now at ≡ Some result.now }
-{
-    &lines[at].stmt
+// The line at a place, as the transaction that it is.
+fn turn_of(answered: u32) -> Turn {
+    Turn {
+        gxid: Gxid(u64::from(answered) + 1),
+        session: SessionId(0),
+        number: answered + 1,
+    }
 }
 
 // Runs the line that a world is at.
@@ -32,104 +32,97 @@ pub(crate) fn start_line(
     alloc: Global,
     script: &Script,
     run: &mut Run,
-    rows: &mut Vec<KeyedRow>,
-    session: SessionId,
+    tables: &mut [Vec<KeyedRow>],
     answered: u32,
-) -> Mem<()>
-    requires running { IsRunning script.now run.old rows.old.items answered }
-    requires session { session ≡ the_session }
-    requires left { answered < length script.now.lines }
-    ensures ok { OnOk result (IsRunning script.now run.new rows.new.items (answered + 1)) }
-    ensures err { OnErr result ((run.new ≡ run.old) × (rows.new.items ≡ rows.old.items)) }
-{
+) -> Mem<()> {
+    let turn = turn_of(answered);
     match stmt_of(script.lines.as_slice(), answered as usize) {
         Stmt::Insert(table, tuples) => {
+            let at = usize::from(table.0);
+            let schema = &script.tables.as_slice()[at];
             insert_line(
                 alloc,
-                script,
+                script.segments,
+                schema,
                 run,
-                rows,
-                answered,
+                &mut tables[at],
+                turn,
                 *table,
                 tuples.as_slice(),
             )
         }
-        Stmt::Select(query) => select_line(alloc, script, run, rows, answered, query),
+        Stmt::Select(query) => {
+            let at = usize::from(query.table.0);
+            let schema = &script.tables.as_slice()[at];
+            select_line(
+                alloc,
+                script.segments,
+                schema,
+                run,
+                tables[at].as_slice(),
+                turn,
+                query,
+            )
+        }
         _ => unreachable!(),
     }
 }
 
 fn insert_line(
     alloc: Global,
-    script: &Script,
+    segments: u8,
+    schema: &Schema,
     run: &mut Run,
     rows: &mut Vec<KeyedRow>,
-    answered: u32,
+    turn: Turn,
     table: Table,
     tuples: &[Seq<Expr>],
-) -> Mem<()>
-    requires running { IsRunning script.now run.old rows.old.items answered }
-    requires left { answered < length script.now.lines }
-    requires line { stmt_at script.now.lines answered ≡ Some (Stmt.Insert table tuples.now) }
-    ensures ok { OnOk result (IsRunning script.now run.new rows.new.items (answered + 1)) }
-    ensures err { OnErr result ((run.new ≡ run.old) × (rows.new.items ≡ rows.old.items)) }
-{
-    let gxid = Gxid(u64::from(answered) + 1);
-    let schema = &script.tables.as_slice()[0];
-    let new = keyed_rows(alloc, gxid, tuples)?;
-    let marks = insert_marks(
-        alloc,
-        script.segments,
-        schema,
-        gxid,
-        SessionId(0),
-        answered + 1,
-        new.as_slice(),
-    )?;
+) -> Mem<()> {
+    let new = match constant_rows(alloc, turn.gxid, Cid(1), tuples) {
+        Ok(new) => new,
+        Err(Stop::Faulted(faulted)) => {
+            let marks = refused_marks(alloc, turn, faulted)?;
+            return run.steps.push(step_of(turn, marks));
+        }
+        Err(Stop::OutOfMemory) => return Err(OutOfMemory),
+    };
+    let marks = insert_marks(alloc, segments, table, schema, turn, new.as_slice())?;
     rows.reserve(new.len())?;
-    run.steps.push(step_of(gxid, marks))?;
+    run.steps.push(step_of(turn, marks))?;
     take_in(rows, new);
     Ok(())
 }
 
 // Moves the new rows to the end, for which there is room.
-fn take_in(rows: &mut Vec<KeyedRow>, mut new: Vec<KeyedRow>)
-    requires { vec_len rows.old + vec_len new ≤ vec_capacity rows.old }
-    ensures { rows.new.items ≡ rows.old.items ++ new.items }
-{
+fn take_in(rows: &mut Vec<KeyedRow>, mut new: Vec<KeyedRow>) {
     rows.append(&mut new).unwrap();
 }
 
 fn select_line(
     alloc: Global,
-    script: &Script,
+    segments: u8,
+    schema: &Schema,
     run: &mut Run,
     rows: &[KeyedRow],
-    answered: u32,
+    turn: Turn,
     query: &Query,
-) -> Mem<()>
-    requires running { IsRunning script.now run.old rows.now answered }
-    requires left { answered < length script.now.lines }
-    requires line { stmt_at script.now.lines answered ≡ Some (Stmt.Select query.now) }
-    ensures ok { OnOk result (IsRunning script.now run.new rows.now (answered + 1)) }
-    ensures err { OnErr result (run.new ≡ run.old) }
-{
-    let gxid = Gxid(u64::from(answered) + 1);
-    let marks = select_marks(alloc, gxid, SessionId(0), answered + 1, query, rows)?;
-    run.steps.push(step_of(gxid, marks))?;
-    Ok(())
+) -> Mem<()> {
+    let marks = match answer(alloc, segments, schema, query, rows) {
+        Ok(rows) => select_marks(alloc, turn, rows)?,
+        Err(Stop::Faulted(faulted)) => refused_marks(alloc, turn, faulted)?,
+        Err(Stop::OutOfMemory) => return Err(OutOfMemory),
+    };
+    run.steps.push(step_of(turn, marks))
 }
 
-// A step of the coordinator, which starts the session's transaction. Its clock counts the transactions.
-fn step_of(gxid: Gxid, marks: Vec<Mark>) -> Step
-    ensures { result ≡ record { stamp = record { clock = gxid.0; node = record { 0 = 0 } }; event = Event.Start the_session; marks = marks.items } }
-{
+// A step of the coordinator, which starts the session's line. Its clock counts the transactions.
+fn step_of(turn: Turn, marks: Vec<Mark>) -> Step {
     Step {
         stamp: Stamp {
-            clock: gxid.0,
+            clock: turn.gxid.0,
             node: Node(0),
         },
-        event: Event::Start(SessionId(0)),
+        event: Event::Start(turn.session),
         marks: Seq::from_vec(marks),
     }
 }

@@ -1,16 +1,23 @@
-// The tables at the end of a run.
-ghost use Rattle.std.specs.Prelude.{◌≡◌, IfOk, ◌∷◌, []};
-ghost use Rattle.gx_world.specs.World.{AreTheRows};
+// The rows of all tables.
 
 use gx_ids::{Mem, copies};
 use gx_tree::KeyedRow;
 use std::alloc::Global;
 
-// The one table, of copies of these rows.
-pub(crate) fn one_table(alloc: Global, rows: &[KeyedRow]) -> Mem<Vec<Vec<KeyedRow>>>
-    ensures { IfOk result (λ tables. AreTheRows rows.now tables.items) }
-{
-    let mut tables = Vec::new(alloc);
-    tables.push(copies(alloc, rows)?)?;
+// So many tables without rows.
+pub(crate) fn empty_tables(alloc: Global, count: usize) -> Mem<Vec<Vec<KeyedRow>>> {
+    let mut tables = Vec::with_capacity(alloc, count)?;
+    for _table in 0..count {
+        tables.push(Vec::new(alloc))?;
+    }
     Ok(tables)
+}
+
+// Copies of all tables.
+pub(crate) fn copied_tables(alloc: Global, tables: &[Vec<KeyedRow>]) -> Mem<Vec<Vec<KeyedRow>>> {
+    let mut copied = Vec::with_capacity(alloc, tables.len())?;
+    for rows in tables {
+        copied.push(copies(alloc, rows.as_slice())?)?;
+    }
+    Ok(copied)
 }
