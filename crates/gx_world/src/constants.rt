@@ -1,5 +1,10 @@
 // The rows of an INSERT.
-ghost use Rattle.std.specs.Prelude.{◌<◌, ◌^◌, All, length};
+ghost use Rattle.std.specs.Prelude.{◌≡◌, ◌<◌, ◌^◌, [], All, length, None, Ok, Err};
+ghost use Rattle.gx_eval.specs.Meaning.{value_of};
+ghost use Rattle.gx_plan.specs.Constants.{IsConstant, rows_of, values_of};
+ghost use Rattle.gx_store.specs.Faults.{FaultsInConstants};
+ghost use Rattle.gx_world.specs.Evaluations.{AreConstants, Gives, IsToBe};
+ghost use Rattle.gx_world.specs.declared.stop.Stop.TheVariants.{Faulted as AtRow};
 
 use crate::stop::{Faulted, Stop};
 use gx_eval::{ArithFault, EvalFault, eval};
@@ -16,7 +21,7 @@ pub(crate) fn constant_rows(
 ) -> Result<Vec<KeyedRow>, Stop>
     requires ordinals { length tuples.now < 2 ^ 32 }
     requires constants { All AreConstants tuples.now }
-    ensures { GivesRows gxid cid tuples.now result }
+    ensures { Gives (λ rows. rows_of gxid cid tuples.now ≡ Ok rows.items) (λ f. FaultsInConstants gxid cid tuples.now f.rid f.image f.fault) result }
 {
     let mut rows = Vec::new(alloc);
     let mut ordinal = 0;
@@ -31,7 +36,7 @@ pub(crate) fn constant_rows(
 
 // The row of a tuple.
 fn constant_row(alloc: Global, rid: Rid, tuple: &[Expr]) -> Result<Row, Stop>
-    ensures { GivesRow rid tuple.now result }
+    ensures { Gives (λ row. values_of tuple.now ≡ Ok row) (IsToBe rid (λ fault. values_of tuple.now ≡ Err fault)) result }
 {
     let mut values = Vec::with_capacity(alloc, tuple.len())?;
     for expr in tuple {
@@ -41,7 +46,7 @@ fn constant_row(alloc: Global, rid: Rid, tuple: &[Expr]) -> Result<Row, Stop>
 }
 
 fn constant(alloc: Global, rid: Rid, expr: &Expr) -> Result<Value, Stop>
-    ensures { GivesValue rid expr.now result }
+    ensures { Gives (λ value. value_of [] expr.now ≡ Ok value) (IsToBe rid (λ fault. value_of [] expr.now ≡ Err fault)) result }
 {
     let none = Row::from_vec(Vec::new(alloc));
     match eval(alloc, expr, &none) {
@@ -53,7 +58,9 @@ fn constant(alloc: Global, rid: Rid, expr: &Expr) -> Result<Value, Stop>
 }
 
 // A fault on a row that was to be.
-fn to_be(rid: Rid, fault: ArithFault) -> Stop {
+fn to_be(rid: Rid, fault: ArithFault) -> Stop
+    ensures { result ≡ AtRow (record { rid = rid; image = None; fault = fault }) }
+{
     Stop::Faulted(Faulted {
         rid,
         image: None,

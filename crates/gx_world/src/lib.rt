@@ -3,14 +3,5 @@
 
 mod answering;
 mod constants;
-mod insert;
-mod lines;
-mod marks;
-mod select;
 mod selection;
 mod stop;
-mod tables;
-mod turn;
-pub mod world;
-
-pub use world::World;

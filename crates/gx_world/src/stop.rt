@@ -1,3 +1,6 @@
+ghost use Rattle.std.specs.Prelude.{◌≡◌};
+ghost use Rattle.gx_world.specs.declared.stop.Stop.TheVariants.{OutOfMemory as NoMemory};
+
 use gx_eval::ArithFault;
 use gx_ids::{OutOfMemory, Rid};
 use gx_tree::Row;
@@ -19,18 +22,24 @@ pub enum Stop {
 }
 
 impl From<OutOfMemory> for Stop {
+    ghost from_gives = { λ _ stop. stop ≡ NoMemory };
+
     fn from(_error: OutOfMemory) -> Stop {
         Stop::OutOfMemory
     }
 }
 
 impl From<AllocError> for Stop {
+    ghost from_gives = { λ _ stop. stop ≡ NoMemory };
+
     fn from(_error: AllocError) -> Stop {
         Stop::OutOfMemory
     }
 }
 
 impl<T: Drop> From<AllocFailed<T>> for Stop {
+    ghost from_gives = { λ _ stop. stop ≡ NoMemory };
+
     fn from(_error: AllocFailed<T>) -> Stop {
         Stop::OutOfMemory
     }
