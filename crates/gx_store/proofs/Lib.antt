@@ -1,3 +1,5 @@
 pub mod Marks
 pub mod Rows
+pub mod Lines
+pub mod Legal
 pub mod Runs

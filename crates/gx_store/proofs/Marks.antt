@@ -1,23 +1,15 @@
 -- What the counts and tests say of joined lists of marks.
-use Rattle.std.proofs.Common.{◌≡◌, ℕ, ◌+◌, ◌==◌, Bool, true, false, cond, ◌&&◌, ◌||◌, List, [], ◌∷◌, ◌++◌, refl, sym, ap, ◌∙◌, subst, arith, append_assoc, append-nil, Option, Some}
+use Rattle.std.proofs.Common.{◌≡◌, ℕ, ◌+◌, ◌==◌, Bool, true, false, cond, ◌&&◌, ◌||◌, List, [], ◌∷◌, ◌++◌, refl, ap, ◌∙◌, arith, Option, Some}
 use Rattle.gx_ids.specs.declared.ids.Gxid.{Gxid}
 use Rattle.gx_ids.specs.declared.ids.Cid.{Cid}
 use Rattle.gx_ids.specs.declared.ids.Table.{Table}
 use Rattle.gx_ids.specs.declared.ids.SessionId.{SessionId}
 use Rattle.gx_ids.specs.declared.rid.Rid.{Rid}
 use Rattle.gx_tree.specs.declared.value.Value.{Value}
-use Rattle.gx_script.specs.declared.Script.{Script}
 use Rattle.gx_store.specs.declared.mark.Mark.{Mark}
-use Rattle.gx_store.specs.declared.mark.Mark.TheVariants.{Start, Snap, Write, Commit, Answer}
-use Rattle.gx_store.specs.Marks.{is_committed, is_snapped, is_written, is_same_session, is_same_gxid, is_same_rid, start_count, session_starts, answer_count, started_after}
+use Rattle.gx_store.specs.declared.mark.Mark.TheVariants.{Start, Snap, Write, Commit, Abort, Answer}
+use Rattle.gx_store.specs.Marks.{is_committed, is_aborted, is_ended, is_snapped, has_snapshot, is_written, is_command_of, is_same_session, is_same_gxid, is_same_rid, start_count, answer_count, is_answered, started_after, is_begun_after}
 use Rattle.gx_store.specs.View.{image_after}
-use Rattle.gx_store.specs.Legal.{AreLegal}
-
-pub AreLegal-append : (script : Script) (before xs ys : List Mark) → AreLegal script before xs → AreLegal script (before ++ xs) ys → AreLegal script before (xs ++ ys)
-AreLegal-append script before [] ys h k = let P : List Mark → Type 0 = λ b. AreLegal script b ys in subst P (append-nil before) k
-AreLegal-append script before (x ∷ xs) ys h k =
-    let P : List Mark → Type 0 = λ b. AreLegal script b ys in
-    (h.0, AreLegal-append script (before ++ x ∷ []) xs ys h.1 (subst P (sym (append_assoc before (x ∷ []) xs)) k))
 
 or_assoc : (a b c : Bool) → (a || (b || c)) ≡ ((a || b) || c)
 or_assoc true b c = refl
@@ -28,10 +20,40 @@ is_committed-append [] ys g = refl
 is_committed-append (Commit h ∷ xs) ys g = ap (λ b. is_same_gxid h g || b) (is_committed-append xs ys g) ∙ or_assoc (is_same_gxid h g) (is_committed xs g) (is_committed ys g)
 is_committed-append (_ ∷ xs) ys g = is_committed-append xs ys g
 
+pub is_aborted-append : (xs ys : List Mark) (g : Gxid) → is_aborted (xs ++ ys) g ≡ (is_aborted xs g || is_aborted ys g)
+is_aborted-append [] ys g = refl
+is_aborted-append (Abort h ∷ xs) ys g = ap (λ b. is_same_gxid h g || b) (is_aborted-append xs ys g) ∙ or_assoc (is_same_gxid h g) (is_aborted xs g) (is_aborted ys g)
+is_aborted-append (_ ∷ xs) ys g = is_aborted-append xs ys g
+
+or_swap : (a b c d : Bool) → ((a || b) || (c || d)) ≡ ((a || c) || (b || d))
+or_swap true b c d = refl
+or_swap false true true d = refl
+or_swap false true false d = refl
+or_swap false false c d = refl
+
+pub is_ended-append : (xs ys : List Mark) (g : Gxid) → is_ended (xs ++ ys) g ≡ (is_ended xs g || is_ended ys g)
+is_ended-append xs ys g = rw (is_committed-append xs ys g, is_aborted-append xs ys g) (or_swap (is_committed xs g) (is_committed ys g) (is_aborted xs g) (is_aborted ys g))
+
+pub has_snapshot-append : (xs ys : List Mark) (g : Gxid) → has_snapshot (xs ++ ys) g ≡ (has_snapshot xs g || has_snapshot ys g)
+has_snapshot-append [] ys g = refl
+has_snapshot-append (Snap h d s ∷ xs) ys g = ap (λ b. is_same_gxid h g || b) (has_snapshot-append xs ys g) ∙ or_assoc (is_same_gxid h g) (has_snapshot xs g) (has_snapshot ys g)
+has_snapshot-append (_ ∷ xs) ys g = has_snapshot-append xs ys g
+
+pub is_answered-append : (session : SessionId) (xs ys : List Mark) → is_answered session (xs ++ ys) ≡ (is_answered session xs || is_answered session ys)
+is_answered-append session [] ys = refl
+is_answered-append session (Answer s n a ∷ xs) ys = ap (λ b. is_same_session s session || b) (is_answered-append session xs ys) ∙ or_assoc (is_same_session s session) (is_answered session xs) (is_answered session ys)
+is_answered-append session (_ ∷ xs) ys = is_answered-append session xs ys
+
+pub is_begun_after-append : (session : SessionId) (begun : Bool) (xs ys : List Mark) → is_begun_after session begun (xs ++ ys) ≡ is_begun_after session (is_begun_after session begun xs) ys
+is_begun_after-append session begun [] ys = refl
+is_begun_after-append session begun (Start g s ∷ xs) ys = is_begun_after-append session (is_same_session s session || begun) xs ys
+is_begun_after-append session begun (Answer s n a ∷ xs) ys = is_begun_after-append session (cond (is_same_session s session) false begun) xs ys
+is_begun_after-append session begun (_ ∷ xs) ys = is_begun_after-append session begun xs ys
+
 pub is_snapped-append : (xs ys : List Mark) (g : Gxid) (c : Cid) → is_snapped (xs ++ ys) g c ≡ (is_snapped xs g c || is_snapped ys g c)
 is_snapped-append [] ys g c = refl
 is_snapped-append (Snap h d s ∷ xs) ys g c =
-    ap (λ b. (is_same_gxid h g && (d.0 == c.0)) || b) (is_snapped-append xs ys g c) ∙ or_assoc (is_same_gxid h g && (d.0 == c.0)) (is_snapped xs g c) (is_snapped ys g c)
+    ap (λ b. is_command_of g c h d || b) (is_snapped-append xs ys g c) ∙ or_assoc (is_command_of g c h d) (is_snapped xs g c) (is_snapped ys g c)
 is_snapped-append (_ ∷ xs) ys g c = is_snapped-append xs ys g c
 
 pub is_written-append : (xs ys : List Mark) (rid : Rid) → is_written (xs ++ ys) rid ≡ (is_written xs rid || is_written ys rid)
@@ -47,12 +69,6 @@ start_count-append (_ ∷ xs) ys = start_count-append xs ys
 cond_plus : (b : Bool) (m n : ℕ) → cond b (m + n + 1) (m + n) ≡ cond b (m + 1) m + n
 cond_plus true m n = omega arith
 cond_plus false m n = refl
-
-pub session_starts-append : (session : SessionId) (xs ys : List Mark) → session_starts session (xs ++ ys) ≡ session_starts session xs + session_starts session ys
-session_starts-append session [] ys = omega arith
-session_starts-append session (Start g s ∷ xs) ys =
-    ap (λ k. cond (is_same_session s session) (k + 1) k) (session_starts-append session xs ys) ∙ cond_plus (is_same_session s session) (session_starts session xs) (session_starts session ys)
-session_starts-append session (_ ∷ xs) ys = session_starts-append session xs ys
 
 pub answer_count-append : (session : SessionId) (xs ys : List Mark) → answer_count session (xs ++ ys) ≡ answer_count session xs + answer_count session ys
 answer_count-append session [] ys = omega arith

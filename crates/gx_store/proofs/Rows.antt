@@ -1,5 +1,5 @@
 -- Identities of rows, their order, and lists of rows in it.
-use Rattle.std.proofs.Common.{◌≡◌, ℕ, ◌<◌, ◌==◌, Bool, true, false, ◌&&◌, List, [], ◌∷◌, ◌++◌, refl, ap, ◌∙◌, subst, arith, None}
+use Rattle.std.proofs.Common.{◌≡◌, ℕ, ◌<◌, ◌==◌, Bool, true, false, ◌&&◌, List, [], ◌∷◌, ◌++◌, refl, ap, ◌∙◌, subst, arith}
 use Rattle.std.proofs.lemmas.Grind.{common_steps}
 use Rattle.std.proofs.lemmas.Bool.Decides.{nat_tests}
 use Rattle.std.specs.Option.{option_or}
@@ -10,7 +10,8 @@ use Rattle.gx_ids.specs.declared.ids.Cid.{Cid}
 use Rattle.gx_ids.specs.declared.rid.Rid.{Rid}
 use Rattle.gx_tree.specs.declared.row.KeyedRow.{KeyedRow}
 use Rattle.gx_store.specs.Marks.{is_same_rid}
-use Rattle.gx_store.specs.Rows.{rid_order, row_at, AllAbove}
+use Rattle.gx_gather.specs.Order.{rid_order}
+use Rattle.gx_store.specs.Rows.{row_at}
 
 pub bool_cases : (b : Bool) (P : Type 0) → (b ≡ true → P) → (b ≡ false → P) → P
 bool_cases true P t f = t refl
@@ -56,22 +57,14 @@ rid_order-later a b e f h = rw (ap (λ (g : Gxid). g.0) e, ap (λ (c : Cid). c.0
 pub rid_order-after : (a b : Rid) → a.gxid.0 < b.gxid.0 → rid_order a b ≡ Less
 rid_order-after a b h = rw (nat_cmp_less a.gxid.0 b.gxid.0 h) refl
 
-rid_order-refl : (a : Rid) → rid_order a a ≡ Equal
+pub rid_order-refl : (a : Rid) → rid_order a a ≡ Equal
 rid_order-refl a = rw (nat_cmp_refl, nat_cmp_refl, nat_cmp_refl) refl
 
-not_same_below : (a b : Rid) → rid_order a b ≡ Less → is_same_rid b a ≡ false
+pub not_same_below : (a b : Rid) → rid_order a b ≡ Less → is_same_rid b a ≡ false
 not_same_below a b h = bool_cases (is_same_rid b a) _
     (λ e. let same = same_rid b a e in let P : Rid → Type 0 = λ r. rid_order a r ≡ Less in let less : rid_order a a ≡ Less = subst P same h in let equal = rid_order-refl a in cc)
     (λ e. e)
 
-pub row_at-above : (rid : Rid) (rows : List KeyedRow) → AllAbove rid rows → row_at rows rid ≡ None
-row_at-above rid [] h = refl
-row_at-above rid (r ∷ rs) h = rw (not_same_below rid r.rid h.0) (row_at-above rid rs h.1)
-
 pub row_at-append : (xs ys : List KeyedRow) (rid : Rid) → row_at (xs ++ ys) rid ≡ option_or (row_at xs rid) (row_at ys rid)
 row_at-append [] ys rid = refl
 row_at-append (x ∷ xs) ys rid = bool_cases (is_same_rid x.rid rid) _ (λ e. rw e refl) (λ e. rw e (row_at-append xs ys rid))
-
-pub AllAbove-append : (rid : Rid) (xs ys : List KeyedRow) → AllAbove rid xs → AllAbove rid ys → AllAbove rid (xs ++ ys)
-AllAbove-append rid [] ys h k = k
-AllAbove-append rid (x ∷ xs) ys h k = (h.0, AllAbove-append rid xs ys h.1 k)

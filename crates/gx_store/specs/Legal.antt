@@ -1,131 +1,164 @@
 -- Which marks may stand behind which: the history of one store that takes each snapshot at one point and makes each
 -- commit visible everywhere at once (PostgreSQL manual 13.2).
-use Rattle.std.specs.Prelude.{◌≡◌, ℕ, ◌+◌, ◌-◌, ◌≤◌, false, true, List, [], ◌∷◌, ◌++◌, length, take, map, slice_get, Some, None, zero, suc}
-use Rattle.std.specs.declared.option.Option.{Option}
+use Rattle.std.specs.Prelude.{◌≡◌, ◌⊎◌, ℕ, ◌+◌, ◌≤◌, Bool, true, false, List, [], ◌∷◌, ◌++◌, Some, None, All, Contains, IsSome}
 use Rattle.gx_ids.specs.declared.ids.Gxid.{Gxid}
 use Rattle.gx_ids.specs.declared.ids.Cid.{Cid}
-use Rattle.gx_ids.specs.declared.ids.Node.{Node}
-use Rattle.gx_ids.specs.declared.ids.Table.{Table}
 use Rattle.gx_ids.specs.declared.ids.SessionId.{SessionId}
-use Rattle.gx_ids.specs.declared.rid.Rid.{Rid}
-use Rattle.gx_tree.specs.declared.cell.Cell.{Cell}
-use Rattle.gx_tree.specs.declared.expr.Expr.{Expr, Lit}
-use Rattle.gx_tree.specs.declared.query.Query.{Query}
-use Rattle.gx_tree.specs.declared.row.KeyedRow.{KeyedRow}
-use Rattle.gx_tree.specs.declared.schema.Dist.{Dist}
-use Rattle.gx_tree.specs.declared.schema.Dist.TheVariants.{Randomly}
-use Rattle.gx_tree.specs.declared.schema.Schema.{Schema}
+use Rattle.gx_tree.specs.declared.stmt.Level.{Level}
 use Rattle.gx_tree.specs.declared.stmt.Stmt.{Stmt}
-use Rattle.gx_tree.specs.declared.stmt.Stmt.TheVariants.{Select, Insert}
-use Rattle.gx_tree.specs.declared.value.Value.{Value}
+use Rattle.gx_tree.specs.declared.stmt.Stmt.TheVariants as stmt
 use Rattle.gx_dsnap.specs.declared.snapshot.Snapshot.{Snapshot}
 use Rattle.gx_dsnap.specs.Snapshot.{sees}
-use Rattle.gx_place.specs.Place.{row_place}
 use Rattle.gx_script.specs.declared.Script.{Script}
-use Rattle.gx_store.specs.declared.mark.Mark.{Mark}
-use Rattle.gx_store.specs.declared.mark.Mark.TheVariants.{Start, Snap, Write, Commit, Answer}
+use Rattle.gx_waits.specs.declared.verdict.Verdict.{Verdict}
+use Rattle.gx_waits.specs.declared.verdict.Verdict.TheVariants.{Victims}
+use Rattle.gx_store.specs.declared.answer.Refused.TheVariants.{Victim}
 use Rattle.gx_store.specs.declared.answer.StmtAnswer.{StmtAnswer}
-use Rattle.gx_store.specs.declared.answer.StmtAnswer.TheVariants.{Inserted, Rows}
-use Rattle.gx_store.specs.Marks.{is_committed, is_snapped, is_written, start_count, session_starts, answer_count, started_after}
-use Rattle.gx_store.specs.Lines.{stmt_of, next_stmt}
-use Rattle.gx_store.specs.View.{IsView}
-use Rattle.gx_store.specs.Answers.{answer_of}
+use Rattle.gx_store.specs.declared.answer.StmtAnswer.TheVariants as answer
+use Rattle.gx_store.specs.declared.event.Event.{Event}
+use Rattle.gx_store.specs.declared.event.Event.TheVariants as event
+use Rattle.gx_store.specs.declared.mark.Mark.{Mark}
+use Rattle.gx_store.specs.declared.mark.Mark.TheVariants.{Start, Snap, Write, Skip, Fault, Commit, Abort, Answer, Recheck}
+use Rattle.gx_store.specs.declared.run.Step.{Step}
+use Rattle.gx_store.specs.Answers.{IsAnswer}
+use Rattle.gx_store.specs.Commands.{IsUnderWay, RunsLine, has_own_snapshot, state_at}
+use Rattle.gx_store.specs.Faults.{LegalFault}
+use Rattle.gx_store.specs.Lines.{BlockState, Outside, InBlock, is_command, is_on_rows, next_stmt, state_of, transaction_of}
+use Rattle.gx_store.specs.Marks.{answer_count, is_aborted, is_answered, is_begun, is_committed, is_ended, session_of, start_count}
+use Rattle.gx_store.specs.Points.{Point, before, ends_in, marks_in, starts_in}
+use Rattle.gx_store.specs.Writes.{LegalSkip, LegalWrite}
 
--- how the rows of a table are distributed
-abbrev pub dist_of : List Schema → ℕ → Dist
-dist_of [] k = Randomly
-dist_of (s ∷ ss) zero = s.dist
-dist_of (s ∷ ss) (suc k) = dist_of ss k
+-- outside a block, BEGIN and each command draw a transaction
+abbrev pub draws : BlockState → Stmt → Bool
+draws Outside (stmt.Begin level) = true
+draws Outside line = is_on_rows line
+draws _ line = false
 
--- a statement outside a block is the first and only command of its transaction
-abbrev pub first_cid : Cid
-first_cid = record { 0 = 1 }
+-- transactions are numbered from 1, one for each such line, in the step that starts the line
+pub record LegalStart (script : Script) (point : Point) (g : Gxid) (session : SessionId) : Type 0 where
+  pub number : g.0 ≡ start_count (before point) + 1
+  pub event : point.event ≡ event.Start session
+  pub line : Stmt
+  pub runs : RunsLine script point session line
+  pub drawing : draws (state_at script session point) line ≡ true
+  pub once : is_begun session (before point) ≡ false
 
--- the transaction runs this statement, the session's first line that isn't answered, and has not committed
-pub record RunsLine (script : Script) (before : List Mark) (g : Gxid) (session : SessionId) (stmt : Stmt) : Type 0 where
-  pub started : started_after session None before ≡ Some g
-  pub uncommitted : is_committed before g ≡ false
-  pub line : next_stmt session script before ≡ Some stmt
-
--- transactions are numbered from 1, and a session starts one for its next line once the line before is answered
-pub record LegalStart (script : Script) (before : List Mark) (g : Gxid) (session : SessionId) : Type 0 where
-  pub number : g.0 ≡ start_count before + 1
-  pub idle : session_starts session before ≡ answer_count session before
-  pub stmt : Stmt
-  pub line : next_stmt session script before ≡ Some stmt
-
--- a running statement takes its one snapshot, which sees just what has committed by then
-pub record LegalSnap (script : Script) (before : List Mark) (g : Gxid) (c : Cid) (snapshot : Snapshot) : Type 0 where
+-- A command on rows takes its snapshot, or at repeatable read that of its transaction. It sees whoever has committed by
+-- then, and besides these only who has aborted by then.
+pub record LegalSnap (script : Script) (point : Point) (g : Gxid) (c : Cid) (snapshot : Snapshot) : Type 0 where
   pub session : SessionId
-  pub stmt : Stmt
-  pub runs : RunsLine script before g session stmt
-  pub command : c ≡ first_cid
-  pub once : is_snapped before g c ≡ false
-  pub sight : (h : Gxid) → 1 ≤ h.0 → sees snapshot h ≡ is_committed before h
+  pub line : Stmt
+  pub level : Level
+  pub runs : IsUnderWay script point session line level g c
+  pub on_rows : is_on_rows line ≡ true
+  pub once : has_own_snapshot level (before point) g c ≡ false
+  pub committed : (h : Gxid) → is_committed (before point) h ≡ true → sees snapshot h ≡ true
+  pub ended : (h : Gxid) → 1 ≤ h.0 → sees snapshot h ≡ true → is_ended (before point) h ≡ true
 
--- the image is the row of the tuple's constants
-pub record IsRowOf (tuple : List Expr) (image : Option (List Value)) : Type 0 where
-  pub values : List Value
-  pub constants : map Lit values ≡ tuple
-  pub is : image ≡ Some values
+-- a line with which a transaction may commit: COMMIT in its block, or its one command
+abbrev pub may_commit : BlockState → Stmt → Bool
+may_commit Outside line = is_on_rows line
+may_commit (InBlock level commands) stmt.Commit = true
+may_commit _ line = false
 
--- an INSERT that runs writes one of its tuples, for the first time, at the row's place
-pub record LegalWrite (script : Script) (before : List Mark) (g : Gxid) (c : Cid) (node : Node) (table : Table) (rid : Rid) (image : Option (List Value)) : Type 0 where
+pub record LegalCommit (script : Script) (point : Point) (g : Gxid) : Type 0 where
   pub session : SessionId
-  pub tuples : List (List Expr)
-  pub tuple : List Expr
-  pub runs : RunsLine script before g session (Insert table tuples)
-  pub snapped : is_snapped before g c ≡ true
-  pub own : (rid.gxid ≡ g) × (rid.cid ≡ c)
-  pub counted : 1 ≤ rid.ordinal
-  pub among : slice_get tuples (rid.ordinal - 1) ≡ Some tuple
-  pub row : IsRowOf tuple image
-  pub place : node.0 ≡ row_place script.segments (dist_of script.tables table.0) row.values rid
-  pub once : is_written before rid ≡ false
+  pub line : Stmt
+  pub runs : RunsLine script point session line
+  pub transaction : transaction_of (state_at script session point) session (before point) ≡ Some g
+  pub running : is_ended (before point) g ≡ false
+  pub committing : may_commit (state_at script session point) line ≡ true
+  pub answered : is_answered session point.later ≡ true
 
--- the statement that a session runs commits
-pub record LegalCommit (script : Script) (before : List Mark) (g : Gxid) : Type 0 where
+-- a line with which a transaction may abort: ROLLBACK or COMMIT in its block, or a command
+abbrev pub may_abort : BlockState → Stmt → Bool
+may_abort (InBlock level commands) stmt.Commit = true
+may_abort (InBlock level commands) stmt.Rollback = true
+may_abort state line = is_command state line
+
+-- a transaction aborts with a line that is answered in this step
+pub record AbortsWithLine (script : Script) (point : Point) (g : Gxid) : Type 0 where
   pub session : SessionId
-  pub stmt : Stmt
-  pub runs : RunsLine script before g session stmt
+  pub line : Stmt
+  pub runs : RunsLine script point session line
+  pub transaction : transaction_of (state_at script session point) session (before point) ≡ Some g
+  pub aborting : may_abort (state_at script session point) line ≡ true
+  pub answered : is_answered session point.later ≡ true
 
--- the command's snapshot was taken, and the answer is that of the query on the table's rows as the reader sees them there
-pub record Shows (before : List Mark) (g : Gxid) (c : Cid) (query : Query) (answer : List (List Cell)) : Type 0 where
-  pub point : ℕ
-  pub snapshot : Snapshot
-  pub taken : slice_get before point ≡ Some (Snap g c snapshot)
-  pub rows : List KeyedRow
-  pub view : IsView before (take point before) (Some (g, c)) query.table rows
-  pub answered : answer ≡ answer_of query rows
+-- or with the end of its session
+pub record AbortsAtEnd (script : Script) (point : Point) (g : Gxid) : Type 0 where
+  pub session : SessionId
+  pub event : point.event ≡ event.End session
+  pub transaction : transaction_of (state_at script session point) session (before point) ≡ Some g
 
--- the answer tells what the statement did: an INSERT wrote each of its tuples, a SELECT shows its view
-abbrev pub Tells : List Mark → Gxid → Cid → Stmt → StmtAnswer → Type 0
-Tells before g c (Insert table tuples) (Inserted n) =
-    (n ≡ length tuples) × ((o : ℕ) → 1 ≤ o → o ≤ n → is_written before (record { gxid = g; cid = c; ordinal = o }) ≡ true)
-Tells before g c (Select query) (Rows rows) = Shows before g c query rows
-Tells before g c _ _ = ⊥
+pub record LegalAbort (script : Script) (point : Point) (g : Gxid) : Type 0 where
+  pub running : is_ended (before point) g ≡ false
+  pub cause : AbortsWithLine script point g ⊎ AbortsAtEnd script point g
 
--- a line is answered after the lines before it, by its transaction, which has committed
-pub record LegalAnswer (script : Script) (before : List Mark) (session : SessionId) (number : ℕ) (answer : StmtAnswer) : Type 0 where
-  pub g : Gxid
-  pub stmt : Stmt
-  pub order : number ≡ answer_count session before + 1
-  pub begun : session_starts session before ≡ number
-  pub line : stmt_of session number script.lines ≡ Some stmt
-  pub started : started_after session None before ≡ Some g
-  pub committed : is_committed before g ≡ true
-  pub told : Tells before g first_cid stmt answer
+-- a session's lines are answered in their order, each once it was started
+pub record LegalAnswer (script : Script) (point : Point) (session : SessionId) (number : ℕ) (answer : StmtAnswer) : Type 0 where
+  pub order : number ≡ answer_count session (before point) + 1
+  pub line : Stmt
+  pub runs : RunsLine script point session line
+  pub is : IsAnswer script point session (state_at script session point) line answer
 
--- the mark may stand behind these
-abbrev pub LegalMark : Script → List Mark → Mark → Type 0
-LegalMark script before (Start g s) = LegalStart script before g s
-LegalMark script before (Snap g c s) = LegalSnap script before g c s
-LegalMark script before (Write g c node table rid image) = LegalWrite script before g c node table rid image
-LegalMark script before (Commit g) = LegalCommit script before g
-LegalMark script before (Answer s n a) = LegalAnswer script before s n a
-LegalMark script before _ = ⊥
+-- whoever a round names is aborted in its step, and its line is refused
+pub record IsCancelled (point : Point) (round : ℕ) (g : Gxid) : Type 0 where
+  pub aborted : is_aborted point.later g ≡ true
+  pub session : SessionId
+  pub number : ℕ
+  pub of : session_of (before point) g ≡ Some session
+  pub refused : Contains point.later (Answer session number (answer.Refused (Victim round)))
 
--- each of the marks may stand behind those before it
-abbrev pub AreLegal : Script → List Mark → List Mark → Type 0
-AreLegal script before [] = Unit {0}
-AreLegal script before (m ∷ ms) = LegalMark script before m × AreLegal script (before ++ m ∷ []) ms
+abbrev pub LegalVerdict : Point → ℕ → Verdict → Type 0
+LegalVerdict point round (Victims victims) = All (IsCancelled point round) victims
+LegalVerdict point round _ = Unit {0}
+
+-- the mark may stand at this point
+abbrev pub LegalMark : Script → Point → Mark → Type 0
+LegalMark script point (Start g s) = LegalStart script point g s
+LegalMark script point (Snap g c s) = LegalSnap script point g c s
+LegalMark script point (Write g c node table rid image) = LegalWrite script point g c node table rid image
+LegalMark script point (Skip g c rid) = LegalSkip script point g c rid
+LegalMark script point (Fault g c rid image) = LegalFault script point g c rid image
+LegalMark script point (Commit g) = LegalCommit script point g
+LegalMark script point (Abort g) = LegalAbort script point g
+LegalMark script point (Answer s n a) = LegalAnswer script point s n a
+LegalMark script point (Recheck round own verdict) = LegalVerdict point round verdict
+LegalMark script point _ = Unit {0}
+
+-- the session has no line under way
+abbrev pub IsIdle : SessionId → List Step → Type 0
+IsIdle session steps = starts_in session steps ≡ answer_count session (marks_in steps)
+
+-- the session is in a block, a failed one included
+abbrev pub is_in_block : BlockState → Bool
+is_in_block Outside = false
+is_in_block _ = true
+
+pub record LegalEnd (script : Script) (steps : List Step) (session : SessionId) : Type 0 where
+  pub idle : IsIdle session steps
+  pub over : next_stmt session script (marks_in steps) ≡ None
+  pub block : is_in_block (state_of script session (marks_in steps)) ≡ true
+  pub once : ends_in session steps ≡ 0
+
+-- a session starts a line once the line before is answered, and is ended once none is left
+abbrev pub LegalEvent : Script → List Step → Event → Type 0
+LegalEvent script steps (event.Start session) = IsIdle session steps × IsSome (next_stmt session script (marks_in steps))
+LegalEvent script steps (event.End session) = LegalEnd script steps session
+LegalEvent script steps _ = Unit {0}
+
+-- each of these marks of a step may stand behind the earlier ones and before the later ones
+abbrev pub AreLegalMarks : Script → List Step → Event → List Mark → List Mark → List Mark → Type 0
+AreLegalMarks script steps event earlier [] later = Unit {0}
+AreLegalMarks script steps event earlier (m ∷ ms) later =
+    LegalMark script (record { steps = steps; event = event; earlier = earlier; later = ms ++ later }) m × AreLegalMarks script steps event (earlier ++ m ∷ []) ms later
+
+pub record IsLegalStep (script : Script) (steps : List Step) (step : Step) : Type 0 where
+  pub event : LegalEvent script steps step.event
+  pub marks : AreLegalMarks script steps step.event [] step.marks []
+
+-- each of the steps may follow those before it
+abbrev pub AreLegalSteps : Script → List Step → List Step → Type 0
+AreLegalSteps script before [] = Unit {0}
+AreLegalSteps script before (s ∷ ss) = IsLegalStep script before s × AreLegalSteps script (before ++ s ∷ []) ss

@@ -2,6 +2,13 @@ pub mod Marks
 pub mod Rows
 pub mod View
 pub mod Lines
+pub mod Points
+pub mod Commands
+pub mod Writes
+pub mod Faults
+pub mod Waits
+pub mod Messages
+pub mod Refusals
 pub mod Answers
 pub mod Legal
 pub mod Runs

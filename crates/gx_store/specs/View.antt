@@ -1,5 +1,5 @@
 -- The one store without segments that a run is compared with: each row's image for a reader at a point, and a table's
--- rows. A commit is visible everywhere at once, since it is one mark.
+-- rows. A commit is visible everywhere at once, since it is one mark (PostgreSQL manual 13.2).
 use Rattle.std.specs.Prelude.{◌≡◌, ℕ, ◌+◌, ◌==◌, nat_lt, Bool, if◌then◌else◌, ◌&&◌, ◌||◌, List, [], ◌∷◌, Some, None}
 use Rattle.std.specs.declared.option.Option.{Option}
 use Rattle.std.specs.declared.vec.Vec.{Vec}
@@ -10,10 +10,11 @@ use Rattle.gx_ids.specs.declared.ids.Table.{Table}
 use Rattle.gx_ids.specs.declared.rid.Rid.{Rid}
 use Rattle.gx_tree.specs.declared.row.KeyedRow.{KeyedRow}
 use Rattle.gx_tree.specs.declared.value.Value.{Value}
+use Rattle.gx_gather.specs.Answer.{AreRising}
 use Rattle.gx_store.specs.declared.mark.Mark.{Mark}
 use Rattle.gx_store.specs.declared.mark.Mark.TheVariants.{Write}
 use Rattle.gx_store.specs.Marks.{is_committed, is_same_gxid, is_same_rid}
-use Rattle.gx_store.specs.Rows.{IsRising, row_at}
+use Rattle.gx_store.specs.Rows.{row_at}
 
 -- who reads: a command of a transaction, or nobody's transaction
 abbrev pub Reader : Type 0
@@ -37,7 +38,7 @@ image marks before reader table rid = image_after (is_shown_to reader before) ta
 
 -- the rows of a table, in the order of their identities, each with its image for the reader
 pub record IsView (marks before : List Mark) (reader : Reader) (table : Table) (rows : List KeyedRow) : Type 0 where
-  pub rising : IsRising rows
+  pub rising : AreRising rows
   pub images : (rid : Rid) → row_at rows rid ≡ image marks before reader table rid
 
 -- the tables from the one of this number on, each as nobody's transaction sees it at the end of a run

@@ -4,25 +4,15 @@ use gx_ids::{Gxid, Node, SessionId};
 #[derive(Clone, Copy, Debug, PartialEq, Eq)]
 pub enum Event {
     /// The message of this number on the link between two nodes, one of them the coordinator, is delivered.
-    Receive {
-        from: Node,
-        to: Node,
-        number: u64,
-    },
+    Receive { from: Node, to: Node, number: u64 },
     /// A wait of the transaction ends at the node, since no lock stands against it any more.
-    Resume {
-        node: Node,
-        gxid: Gxid,
-    },
+    Resume { node: Node, gxid: Gxid },
     /// A session's next line starts.
     Start(SessionId),
     /// A session that has no line left leaves its open block, which aborts.
     End(SessionId),
     /// The awaited message is sent again, of a transaction, or, with `None`, of the detector's round.
-    Resend {
-        segment: Node,
-        gxid: Option<Gxid>,
-    },
+    Resend { segment: Node, gxid: Option<Gxid> },
     /// The detector begins a round.
     Round,
 }

@@ -5,10 +5,7 @@ use gx_msg::{Envelope, Out};
 /// What happens at one node. A segment takes deliveries and resumptions alone.
 #[derive(Debug, Drop)]
 pub enum NodeEvent {
-    Deliver {
-        from: Node,
-        envelope: Envelope,
-    },
+    Deliver { from: Node, envelope: Envelope },
     Resume(Gxid),
     Start(SessionId),
     End(SessionId),

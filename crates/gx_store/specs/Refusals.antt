@@ -1,0 +1,110 @@
+-- When a statement may be refused, and for what.
+use Rattle.std.specs.Prelude.{◌≡◌, ℕ, ◌≤◌, true, false, List, length, take, slice_get, Some, Contains, zero, suc}
+use Rattle.std.specs.declared.option.Option.{Option}
+use Rattle.gx_ids.specs.declared.ids.Gxid.{Gxid}
+use Rattle.gx_ids.specs.declared.ids.Cid.{Cid}
+use Rattle.gx_ids.specs.declared.ids.Node.{Node}
+use Rattle.gx_ids.specs.declared.ids.SessionId.{SessionId}
+use Rattle.gx_ids.specs.declared.ids.Table.{Table}
+use Rattle.gx_ids.specs.declared.rid.Rid.{Rid}
+use Rattle.gx_tree.specs.declared.cond.Cond.{Cond}
+use Rattle.gx_tree.specs.declared.stmt.Level.{Level}
+use Rattle.gx_tree.specs.declared.stmt.Level.TheVariants.{RepeatableRead}
+use Rattle.gx_tree.specs.declared.stmt.Stmt.{Stmt}
+use Rattle.gx_tree.specs.declared.stmt.Stmt.TheVariants.{Insert, Update, Delete}
+use Rattle.gx_tree.specs.declared.value.Value.{Value}
+use Rattle.gx_eval.specs.declared.fault.ArithFault.{ArithFault}
+use Rattle.gx_eval.specs.declared.fault.ArithFault.TheVariants as arith
+use Rattle.gx_msg.specs.declared.message.Message.TheVariants as message
+use Rattle.gx_msg.specs.declared.reply.Cause.TheVariants as cause
+use Rattle.gx_msg.specs.declared.reply.Reply.TheVariants as reply
+use Rattle.gx_script.specs.declared.Script.{Script}
+use Rattle.gx_waits.specs.declared.graph.LocalGraph.{LocalGraph}
+use Rattle.gx_waits.specs.declared.verdict.Verdict.TheVariants.{Victims}
+use Rattle.gx_store.specs.declared.answer.Refused.{Refused}
+use Rattle.gx_store.specs.declared.answer.Refused.TheVariants.{Serialization, Victim, Overflow, DivisionByZero, InFailedBlock, JournalFault, NotInBlock}
+use Rattle.gx_store.specs.declared.mark.Mark.{Mark}
+use Rattle.gx_store.specs.declared.mark.Mark.TheVariants.{Fault, JournalFailed, Recheck}
+use Rattle.gx_store.specs.declared.run.Step.{Step}
+use Rattle.gx_store.specs.Faults.{IsFaultOf}
+use Rattle.gx_store.specs.Lines.{BlockState, cid_of, level_of, transaction_of}
+use Rattle.gx_store.specs.Marks.{is_aborted, is_committed}
+use Rattle.gx_store.specs.Messages.{IsFirstSent, Receives}
+use Rattle.gx_store.specs.Points.{Point, before, marks_in}
+use Rattle.gx_store.specs.Writes.{IsSelected}
+
+abbrev pub the_coordinator : Node
+the_coordinator = record { 0 = 0 }
+
+-- an INSERT is refused in the step in which its constants are evaluated
+abbrev pub IsWithin : Stmt → List Step → ℕ → Type 0
+IsWithin (Insert table tuples) steps place = length (marks_in steps) ≤ place
+IsWithin _ steps place = Unit {0}
+
+-- an evaluation of the command faulted so, before its transaction aborted
+pub record HasFaulted (point : Point) (stmt : Stmt) (level : Level) (g : Gxid) (c : Cid) (fault : ArithFault) : Type 0 where
+  pub place : ℕ
+  pub rid : Rid
+  pub image : Option (List Value)
+  pub noted : slice_get (before point) place ≡ Some (Fault g c rid image)
+  pub unaborted : is_aborted (take place (before point)) g ≡ false
+  pub faults : IsFaultOf (take place (before point)) level g c stmt rid image fault
+  pub within : IsWithin stmt point.steps place
+
+-- the condition of an UPDATE or DELETE
+abbrev pub IsChange : Stmt → Table → Option Cond → Type 0
+IsChange (Update t assigns where_) table cond = (t ≡ table) × (where_ ≡ cond)
+IsChange (Delete t where_) table cond = (t ≡ table) × (where_ ≡ cond)
+IsChange _ table cond = ⊥
+
+-- a selected row's current write is of a transaction that committed after the snapshot
+pub record IsOvertakenRow (marks : List Mark) (level : Level) (g : Gxid) (c : Cid) (table : Table) (cond : Option Cond) (rid : Rid) (h : Gxid) : Type 0 where
+  pub selected : IsSelected marks level g c table cond rid
+  pub writer : selected.write.gxid ≡ h
+  pub committed : is_committed marks h ≡ true
+  pub unseen : is_committed (take selected.place marks) h ≡ false
+
+-- At repeatable read, a selected row's current write is of a transaction that committed after the snapshot. This held when
+-- a segment first said so, in the message that the step receives.
+pub record IsOvertaken (point : Point) (stmt : Stmt) (level : Level) (g : Gxid) (c : Cid) (rid : Rid) (h : Gxid) : Type 0 where
+  pub isolation : level ≡ RepeatableRead
+  pub table : Table
+  pub cond : Option Cond
+  pub change : IsChange stmt table cond
+  pub segment : Node
+  pub received : Receives point.steps point.event segment the_coordinator (message.Answer g (reply.Failed c (cause.Serialization rid h)))
+  pub then : List Mark
+  pub first : IsFirstSent point.steps segment the_coordinator (message.Answer g (reply.Failed c (cause.Serialization rid h))) then
+  pub rows : IsOvertakenRow then level g c table cond rid h
+
+-- the step's detector round has named the transaction
+pub record IsNamed (earlier : List Mark) (round : ℕ) (g : Gxid) : Type 0 where
+  pub place : ℕ
+  pub own : LocalGraph
+  pub victims : List Gxid
+  pub verdict : slice_get earlier place ≡ Some (Recheck round own (Victims victims))
+  pub named : Contains victims g
+
+-- the coordinator's journal failed in this step, or a segment's has failed and the step receives its word
+abbrev pub HasJournalFailed : Point → Gxid → Node → Type 0
+HasJournalFailed point g node = failed_at node.0
+  where
+    failed_at : ℕ → Type 0
+    failed_at zero = Contains point.earlier (JournalFailed node g)
+    failed_at (suc i) = Receives point.steps point.event node the_coordinator (message.Answer g reply.Jfault) × Contains (before point) (JournalFailed node g)
+
+abbrev pub IsCause : Point → Stmt → Level → Gxid → Cid → Refused → Type 0
+IsCause point stmt level g c (Serialization rid h) = IsOvertaken point stmt level g c rid h
+IsCause point stmt level g c (Victim round) = IsNamed point.earlier round g
+IsCause point stmt level g c Overflow = HasFaulted point stmt level g c arith.Overflow
+IsCause point stmt level g c DivisionByZero = HasFaulted point stmt level g c arith.DivisionByZero
+IsCause point stmt level g c (JournalFault node) = HasJournalFailed point g node
+IsCause point stmt level g c InFailedBlock = ⊥
+IsCause point stmt level g c NotInBlock = ⊥
+
+-- a line that has a transaction is refused for a cause, in the step in which the transaction aborts
+pub record IsRefusal (script : Script) (point : Point) (session : SessionId) (state : BlockState) (stmt : Stmt) (reason : Refused) : Type 0 where
+  pub g : Gxid
+  pub transaction : transaction_of state session (before point) ≡ Some g
+  pub aborted : is_aborted point.earlier g ≡ true
+  pub cause : IsCause point stmt (level_of state) g (cid_of state) reason
