@@ -10,12 +10,13 @@ use Rattle.gx_tree.specs.declared.row.KeyedRow.{KeyedRow}
 use Rattle.gx_tree.specs.declared.schema.Schema.{Schema}
 use Rattle.gx_script.specs.declared.Script.{Script}
 use Rattle.gx_store.specs.declared.answer.StmtAnswer.{StmtAnswer}
-use Rattle.gx_store.specs.declared.answer.StmtAnswer.TheVariants.{Inserted, Rows}
+use Rattle.gx_store.specs.declared.answer.StmtAnswer.TheVariants as answer
 use Rattle.gx_store.specs.declared.mark.Mark.{Mark}
 use Rattle.gx_store.specs.declared.mark.Mark.TheVariants.{Answer}
 use Rattle.gx_store.specs.declared.run.Run.{Run}
 use Rattle.gx_store.specs.declared.run.Step.{Step}
-use Rattle.gx_store.specs.Answers.{cell_of}
+use Rattle.gx_gather.specs.Aggregates.{cell_of}
+use Rattle.gx.specs.Error.{error_text}
 
 -- a quote is doubled
 abbrev pub quoted_byte : ℕ → List ℕ
@@ -41,17 +42,28 @@ cells_text (c ∷ cs) = cell_text c ++ flat_map behind_bar cs
 abbrev pub row_line : List Cell → List ℕ
 row_line cells = codes "  " ++ cells_text cells ++ codes "\n"
 
+-- a statement's name and the number of its rows
+abbrev pub counted_text : List ℕ → ℕ → List ℕ
+counted_text name n = name ++ decimal n ++ codes "\n"
+
 abbrev pub answer_text : StmtAnswer → List ℕ
-answer_text (Inserted n) = codes "INSERT " ++ decimal n ++ codes "\n"
-answer_text (Rows rows) = codes "SELECT " ++ decimal (length rows) ++ codes "\n" ++ flat_map row_line rows
+answer_text answer.Begin = codes "BEGIN\n"
+answer_text answer.Commit = codes "COMMIT\n"
+answer_text answer.Rollback = codes "ROLLBACK\n"
+answer_text answer.Locked = codes "LOCK TABLE\n"
+answer_text (answer.Inserted n) = counted_text (codes "INSERT ") n
+answer_text (answer.Updated n) = counted_text (codes "UPDATE ") n
+answer_text (answer.Deleted n) = counted_text (codes "DELETE ") n
+answer_text (answer.Rows rows) = counted_text (codes "SELECT ") (length rows) ++ flat_map row_line rows
+answer_text (answer.Refused refused) = error_text refused
 
 -- an answer behind its line's session and number
 abbrev pub line_text : List ℕ → ℕ → StmtAnswer → List ℕ
-line_text name number answer = name ++ codes "." ++ decimal number ++ codes " " ++ answer_text answer
+line_text name number said = name ++ codes "." ++ decimal number ++ codes " " ++ answer_text said
 
 -- the answers of the session of this place and name; other marks have no text
 abbrev pub mark_text : ℕ → List ℕ → Mark → List ℕ
-mark_text session name (Answer s number answer) = if s.0 == session then line_text name number answer else []
+mark_text session name (Answer s number said) = if s.0 == session then line_text name number said else []
 mark_text session name _ = []
 
 abbrev pub step_text : ℕ → List ℕ → Step → List ℕ

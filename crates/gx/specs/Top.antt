@@ -8,7 +8,7 @@ use Rattle.std.specs.Io.KnownBytes.{Consumes, Appends, IsAtEnd}
 use Rattle.gx_outside.specs.Causes.{Rose, WritesPrefix}
 use Rattle.gx_tree.specs.declared.row.KeyedRow.{KeyedRow}
 use Rattle.gx_script.specs.declared.Script.{Script}
-use Rattle.gx_form.specs.Form.{is_plain}
+use Rattle.gx_form.specs.Form.{is_of_form}
 use Rattle.gx_sql.specs.declared.refusal.Refusal.{Refusal}
 use Rattle.gx_sql.specs.Script.{Reads}
 use Rattle.gx_store.specs.declared.run.Run.{Run}
@@ -48,7 +48,7 @@ pub record IsRead (left after : Option (List ℕ)) (said : Result Script Refusal
 pub record IsBegun (left after : Option (List ℕ)) (run : Run) : Type 0 where
   pub script : Script
   pub read : IsRead left after (Ok script)
-  pub built : is_plain script ≡ true
+  pub built : is_of_form script ≡ true
   pub legal : IsLegalRun script run
 
 -- nothing was run, or a part of the script that was read
@@ -60,7 +60,7 @@ pub record IsDone (words : List (String Global)) (left after : Option (List ℕ)
   pub none : words ≡ []
   pub script : Script
   pub read : IsRead left after (Ok script)
-  pub built : is_plain script ≡ true
+  pub built : is_of_form script ≡ true
   pub is : IsRunOf script run text
 
 -- there were no words, the bytes that were read are no script, nothing was run, and the text says why
@@ -95,7 +95,7 @@ pub record IsTooLarge (words : List (String Global)) (left after : Option (List 
 pub record IsOther (left after : Option (List ℕ)) : Type 0 where
   pub script : Script
   pub read : IsRead left after (Ok script)
-  pub other : is_plain script ≡ false
+  pub other : is_of_form script ≡ false
 
 -- there were words, or a script of another form, nothing was run, and the text says so
 pub record IsNotBuilt (words : List (String Global)) (left after : Option (List ℕ)) (run : Run) (text : List ℕ) : Type 0 where

@@ -1,6 +1,7 @@
 // The work before the writing: words, reading, script, run and text.
-ghost use Rattle.std.specs.Prelude.{◌≡◌, ◌≤◌, ◌⊎◌, [], length, OnOk, IfOk, IfErr};
-ghost use Rattle.gx_form.specs.IsPlain.{IsPlain};
+ghost use Rattle.std.specs.Prelude.{◌≡◌, ◌≤◌, ◌⊎◌, [], length, true, OnOk, IfOk, IfErr};
+ghost use Rattle.gx_form.specs.Form.{is_of_form};
+ghost use Rattle.gx_sql.specs.Language.{IsScript};
 ghost use Rattle.gx_store.specs.Lines.{AreAllAnswered};
 ghost use Rattle.gx_store.specs.Marks.{marks_of};
 ghost use Rattle.gx_store.specs.Runs.{IsLegalRun};
@@ -8,7 +9,7 @@ ghost use Rattle.gx.specs.Top.{IsAttempt, IsPartOf, IsRunOf};
 
 use crate::refused::refusal_text;
 use crate::tables::text;
-use gx_form::is_plain;
+use gx_form::is_of_form;
 use gx_ids::{Mem, SessionId};
 use gx_outside::{ReadFault, Source, read_up_to};
 use gx_script::Script;
@@ -45,7 +46,8 @@ fn run_lines(world: &mut World) -> Mem<()>
 
 // Runs a script, and tells the text of its run.
 fn run_script(alloc: Global, script: Script) -> Result<(Run, Vec<u8>), Run>
-    requires { IsPlain script }
+    requires language { IsScript script }
+    requires form { is_of_form script ≡ true }
     ensures done { IfOk result (λ made. IsRunOf script made.0 made.1.items) }
     ensures memory { IfErr result (IsPartOf script) }
 {
@@ -97,7 +99,7 @@ pub fn make_attempt<S: Source>(alloc: Global, words: &[String], source: &mut S) 
             };
         }
     };
-    if !is_plain(&script) {
+    if !is_of_form(&script) {
         return Attempt::NotBuilt;
     }
     match run_script(alloc, script) {

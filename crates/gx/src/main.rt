@@ -3,6 +3,7 @@
 #![tactic(auto)]
 
 mod attempt;
+mod error;
 mod refused;
 mod report;
 mod tables;

@@ -2,8 +2,9 @@
 ghost use Rattle.std.specs.Prelude.{◌≡◌, ◌++◌, OnOk, map};
 ghost use Rattle.std.specs.List.{flat_map};
 ghost use Rattle.std.specs.Fmt.{decimal, signed_decimal};
-ghost use Rattle.gx.specs.Text.{quoted_byte, quoted_text, cell_text, cells_text, row_line, answer_text, line_text, mark_text, step_text, session_text, sessions_text};
+ghost use Rattle.gx.specs.Text.{answer_text, cell_text, cells_text, counted_text, line_text, mark_text, quoted_byte, quoted_text, row_line, session_text, sessions_text};
 
+use crate::error::push_error;
 use gx_ids::Mem;
 use gx_store::{Mark, Run, Step, StmtAnswer};
 use gx_tree::{Cell, OutRow, Txt};
@@ -97,21 +98,31 @@ fn push_rows(text: &mut Vec<u8>, rows: &[OutRow]) -> Mem<()>
     Ok(())
 }
 
+// A statement's name and the number of its rows, on a line of its own.
+fn push_counted(text: &mut Vec<u8>, name: &[u8], count: u128) -> Mem<()>
+    ensures { OnOk result (text.new.items ≡ text.old.items ++ counted_text name.now count) }
+{
+    push_bytes(text, name)?;
+    push_count(text, count)?;
+    push_bytes(text, b"\n")
+}
+
 fn push_answer(text: &mut Vec<u8>, answer: &StmtAnswer) -> Mem<()>
     ensures { OnOk result (text.new.items ≡ text.old.items ++ answer_text answer.now) }
 {
     match answer {
-        StmtAnswer::Inserted(count) => {
-            push_bytes(text, b"INSERT ")?;
-            push_count(text, *count)?;
-            push_bytes(text, b"\n")
-        }
+        StmtAnswer::Begin => push_bytes(text, b"BEGIN\n"),
+        StmtAnswer::Commit => push_bytes(text, b"COMMIT\n"),
+        StmtAnswer::Rollback => push_bytes(text, b"ROLLBACK\n"),
+        StmtAnswer::Locked => push_bytes(text, b"LOCK TABLE\n"),
+        StmtAnswer::Inserted(count) => push_counted(text, b"INSERT ", *count),
+        StmtAnswer::Updated(count) => push_counted(text, b"UPDATE ", *count),
+        StmtAnswer::Deleted(count) => push_counted(text, b"DELETE ", *count),
         StmtAnswer::Rows(rows) => {
-            push_bytes(text, b"SELECT ")?;
-            push_count(text, rows.len() as u128)?;
-            push_bytes(text, b"\n")?;
+            push_counted(text, b"SELECT ", rows.len() as u128)?;
             push_rows(text, rows.as_slice())
         }
+        StmtAnswer::Refused(refused) => push_error(text, *refused),
     }
 }
 

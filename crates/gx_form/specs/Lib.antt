@@ -1,2 +1,1 @@
-pub mod IsPlain
 pub mod Form

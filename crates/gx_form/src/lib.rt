@@ -1,6 +1,6 @@
 //! Whether a script is of the form that is run.
 #![tactic(auto)]
 
-pub mod form;
+mod form;
 
-pub use form::is_plain;
+pub use form::is_of_form;

@@ -1,10 +1,7 @@
-//! The world: it runs a script, line by line, over one list of rows, and keeps the run.
+//! The world: it runs a script, line by line, over a list of rows a table, and keeps the run.
 #![tactic(auto)]
 
-mod insert;
-mod lines;
-mod select;
-mod tables;
-pub mod world;
-
-pub use world::World;
+mod answering;
+mod constants;
+mod selection;
+mod stop;

@@ -1,6 +1,6 @@
 use Rattle.std.proofs.Common.{◌≡◌, ◌++◌, take, map}
 use Rattle.std.specs.List.{flat_map}
-use Rattle.gx_store.specs.Answers.{cell_of}
+use Rattle.gx_gather.specs.Aggregates.{cell_of}
 use Rattle.gx.specs.Text.{behind_bar}
 use Rattle.gx.proofs.tables.push_values.Given as goal
 

@@ -1,0 +1,59 @@
+// The text of a refused statement.
+ghost use Rattle.std.specs.Prelude.{◌≡◌, ◌++◌, OnOk};
+ghost use Rattle.gx_ids.specs.Rid.{text_of as rid_text};
+ghost use Rattle.gx.specs.Error.{error_text, journal_text, serialization_text, victim_text};
+
+use crate::report::{push_bytes, push_count};
+use gx_ids::{Gxid, Mem, Node, Rid};
+use gx_store::Refused;
+
+fn push_rid(text: &mut Vec<u8>, rid: Rid) -> Mem<()>
+    ensures { OnOk result (text.new.items ≡ text.old.items ++ rid_text rid) }
+{
+    push_count(text, u128::from(rid.gxid.0))?;
+    push_bytes(text, b".")?;
+    push_count(text, u128::from(rid.cid.0))?;
+    push_bytes(text, b".")?;
+    push_count(text, u128::from(rid.ordinal))
+}
+
+fn push_serialization(text: &mut Vec<u8>, rid: Rid, newer: Gxid) -> Mem<()>
+    ensures { OnOk result (text.new.items ≡ text.old.items ++ serialization_text rid newer) }
+{
+    push_bytes(text, b"ERROR 1 serialization row ")?;
+    push_rid(text, rid)?;
+    push_bytes(text, b" changed by ")?;
+    push_count(text, u128::from(newer.0))?;
+    push_bytes(text, b"\n")
+}
+
+fn push_victim(text: &mut Vec<u8>, round: u64) -> Mem<()>
+    ensures { OnOk result (text.new.items ≡ text.old.items ++ victim_text round) }
+{
+    push_bytes(text, b"ERROR 2 victim of round ")?;
+    push_count(text, u128::from(round))?;
+    push_bytes(text, b"\n")
+}
+
+fn push_journal(text: &mut Vec<u8>, node: Node) -> Mem<()>
+    ensures { OnOk result (text.new.items ≡ text.old.items ++ journal_text node) }
+{
+    push_bytes(text, b"ERROR 6 journal of node ")?;
+    push_count(text, u128::from(node.0))?;
+    push_bytes(text, b" failed\n")
+}
+
+/// Adds the line that tells why a statement is refused.
+pub fn push_error(text: &mut Vec<u8>, refused: Refused) -> Mem<()>
+    ensures { OnOk result (text.new.items ≡ text.old.items ++ error_text refused) }
+{
+    match refused {
+        Refused::Serialization(rid, newer) => push_serialization(text, rid, newer),
+        Refused::Victim(round) => push_victim(text, round),
+        Refused::Overflow => push_bytes(text, b"ERROR 3 overflow\n"),
+        Refused::DivisionByZero => push_bytes(text, b"ERROR 4 division by zero\n"),
+        Refused::InFailedBlock => push_bytes(text, b"ERROR 5 block has failed\n"),
+        Refused::JournalFault(node) => push_journal(text, node),
+        Refused::NotInBlock => push_bytes(text, b"ERROR 7 not in a block\n"),
+    }
+}

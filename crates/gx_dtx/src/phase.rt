@@ -1,0 +1,48 @@
+ghost use Rattle.std.specs.Prelude.{◌≡◌};
+
+use crate::status::Status;
+use gx_ids::{Node, Seq};
+
+/// Where a transaction stands, with those whose answers the coordinator awaits.
+#[derive(Debug, Drop, PartialEq, Eq)]
+pub enum Phase {
+    /// Its commands run.
+    Active,
+    /// PREPARE went to each writer. These haven't answered.
+    Preparing {
+        writers: Seq<Node>,
+        awaited: Seq<Node>,
+    },
+    /// COMMIT went to the only writer, which hasn't answered.
+    CommittingOne(Node),
+    /// It is decided that it commits, and COMMIT PREPARED went to each writer. These haven't answered.
+    CommittingTwo(Seq<Node>),
+    /// It has ended by a commit, and FORGET went to each participant. These haven't answered.
+    Ended(Seq<Node>),
+    /// It is aborted, and ABORT went to each participant. These haven't answered.
+    Aborting(Seq<Node>),
+}
+
+impl Phase {
+    ghost use Rattle.gx_dtx.specs.Table.{status_in, is_running as runs_in};
+
+    /// The status, without those whose answers are awaited.
+    pub fn status(&self) -> Status
+        ensures { result ≡ status_in self.now }
+    {
+        match self {
+            Phase::Active => Status::Active,
+            Phase::Preparing { .. } => Status::Preparing,
+            Phase::CommittingOne(_) | Phase::CommittingTwo(_) => Status::Committing,
+            Phase::Ended(_) => Status::Ended,
+            Phase::Aborting(_) => Status::Aborting,
+        }
+    }
+
+    /// Whether the transaction hasn't ended.
+    pub fn is_running(&self) -> bool
+        ensures { result ≡ runs_in self.now }
+    {
+        !matches!(self, Phase::Ended(_))
+    }
+}

@@ -1,0 +1,9 @@
+pub mod Apart
+pub mod Growth
+pub mod Images
+pub mod Joined
+pub mod Parts
+pub mod Passing
+pub mod Sights
+pub mod Whole
+pub mod Writing
