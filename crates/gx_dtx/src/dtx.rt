@@ -1,0 +1,179 @@
+ghost use Rattle.std.specs.Prelude.{◌≡◌, ◌≤◌, ◌<◌, ◌+◌, ◌^◌, ◌++◌, ◌∷◌, [], true, false, All, Contains, IfOk, OnOk, OnErr, None, Some, MatchOption, option_map};
+ghost use Rattle.std.specs.List.{flat_map};
+ghost use Rattle.gx_ids.specs.declared.ids.Gxid.{Gxid};
+ghost use Rattle.gx_outside.specs.Causes.{Rose};
+ghost use Rattle.gx_dsnap.specs.Snapshot.{sees};
+
+use crate::change::Change;
+use crate::changes;
+use crate::nodes::with_node;
+use crate::outcome::{DtxOut, Outcome};
+use crate::phase::Phase;
+use crate::status::Status;
+use crate::txn::Txn;
+use gx_dsnap::{Snapshot, take};
+use gx_ids::{Gxid, Mem, Node, Seq};
+use gx_msg::{Out, Reply};
+use gx_outside::Journal;
+use std::alloc::Global;
+use std::collections::BTreeMap;
+use std::marker::Model;
+
+/// The coordinator's transactions: those that run, and those that have ended and that some participant hasn't
+/// forgotten.
+#[derive(Drop)]
+pub struct Dtx {
+    alloc: Global,
+    next: Gxid,
+    latest_ended: Option<Gxid>,
+    txns: BTreeMap<Gxid, Txn>,
+}
+
+impl Model for Dtx {
+    ghost use Rattle.gx_dtx.specs.Table.{Table};
+    ghost use Rattle.gx_dtx.specs.Whole.{IsWhole};
+
+    ghost Value = { Table };
+
+    ghost view = { λ a. record { next = a.next; latest_ended = a.latest_ended; txns = a.txns.entries } };
+
+    ghost invariant = { λ a. IsWhole (record { next = a.next; latest_ended = a.latest_ended; txns = a.txns.entries }) };
+}
+
+impl Dtx {
+    ghost use Rattle.gx_dtx.specs.Table.{new_table, status_of, IsActive, participants_of, xmax_of, listed_of, xmin_of, has_ended, holds_back, horizon_of};
+    ghost use Rattle.gx_dtx.specs.Rules.{begun, with_live, enlisted, on_commit, on_abort, on_reply, is_deciding, awaited_message, AreWriters, is_refused, decide_items, ended_alone, silently};
+    ghost use Rattle.gx_dtx.specs.declared.outcome.Outcome.TheVariants as outcome;
+    ghost use Rattle.gx_dtx.specs.declared.outcome.Outcome.TheVariants.{Refused as RefusedBy};
+
+    /// No transaction yet. Later calls take what memory they need from the same allocator.
+    pub fn new(alloc: Global) -> Mem<Dtx>
+        ensures { IfOk result (λ dtx. dtx ≡ new_table) }
+    {
+        Ok(Dtx {
+            alloc,
+            next: Gxid(1),
+            latest_ended: None,
+            txns: BTreeMap::new(alloc),
+        })
+    }
+
+    /// Draws the next gxid, from 1 upwards, for a transaction that begins.
+    pub fn begin(&mut self) -> Mem<Gxid>
+        requires { self.old.next.0 ≤ 2 ^ 62 }
+        ensures next { IfOk result (λ gxid. gxid ≡ self.old.next) }
+        ensures ok { OnOk result (self.new ≡ begun self.old) }
+        ensures err { OnErr result (self.new ≡ self.old) }
+    {
+        let gxid = self.next;
+        let next = Gxid(gxid.0 + 1);
+        self.txns.insert(gxid, Txn::new(self.alloc))?;
+        self.next = next;
+        Ok(gxid)
+    }
+
+    /// A transaction's status; none where it wasn't drawn, or has ended and is forgotten by every participant.
+    pub fn status(&self, gxid: Gxid) -> Option<Status>
+        ensures { result ≡ status_of self.now gxid }
+    {
+        let txn = self.txns.get(&gxid)?;
+        Some(txn.phase.status())
+    }
+
+    /// Takes a snapshot for a statement or a block of the transaction. It is live, and holds the horizon back, until
+    /// it is dropped, the next is taken for the transaction, or the transaction is committed or aborted.
+    pub fn snapshot(&mut self, gxid: Gxid) -> Mem<Snapshot>
+        requires { IsActive self.old gxid }
+        ensures xmax { IfOk result (λ snap. snap.xmax ≡ xmax_of self.old) }
+        ensures running { IfOk result (λ snap. snap.running ≡ listed_of self.old) }
+        ensures xmin { IfOk result (λ snap. snap.xmin ≡ xmin_of self.old) }
+        ensures seen { IfOk result (λ snap. (g : Gxid) → 0 < g.0 → sees snap g ≡ has_ended self.old g) }
+        ensures ok { OnOk result (self.new ≡ with_live self.old gxid (Some (xmin_of self.old))) }
+        ensures err { OnErr result (self.new ≡ self.old) }
+    {
+        let snapshot = take_snapshot(self.alloc, &self.txns, self.latest_ended)?;
+        set_live(&mut self.txns, gxid, Some(snapshot.xmin));
+        Ok(snapshot)
+    }
+
+    /// Ends a transaction's live snapshot, if it has one.
+    pub fn drop_snapshot(&mut self, gxid: Gxid)
+        ensures { self.new ≡ with_live self.old gxid None }
+    {
+        set_live(&mut self.txns, gxid, None);
+    }
+
+    /// Makes a node a participant of the transaction, since a command goes to it.
+    pub fn enlist(&mut self, gxid: Gxid, node: Node) -> Mem<()>
+        requires { IsActive self.old gxid }
+        ensures ok { OnOk result (self.new ≡ enlisted self.old gxid node) }
+        ensures err { OnErr result (self.new ≡ self.old) }
+    {
+        enlist_in(self.alloc, &mut self.txns, gxid, node)
+    }
+
+    /// Commits a transaction that has written at these nodes: at once without writers, by one phase with one, by two
+    /// with more.
+    pub fn commit(&mut self, gxid: Gxid, writers: &[Node]) -> Mem<DtxOut>
+        requires active { IsActive self.old gxid }
+        requires writers { AreWriters self.old gxid writers.now }
+        ensures table { OnOk result (self.new ≡ (on_commit self.old gxid writers.now).table) }
+        ensures out { IfOk result (λ out. out ≡ (on_commit self.old gxid writers.now).out) }
+        ensures alone { participants_of self.old gxid ≡ [] → OnOk result (self.new ≡ ended_alone self.old gxid) }
+        ensures told { participants_of self.old gxid ≡ [] → IfOk result (λ out. out ≡ silently outcome.Committed) }
+        ensures err { OnErr result (self.new ≡ self.old) }
+    {
+        commit_in(self.alloc, &mut self.txns, &mut self.latest_ended, gxid, writers)
+    }
+
+    /// Aborts a transaction.
+    pub fn abort(&mut self, gxid: Gxid) -> Mem<DtxOut>
+        requires { IsActive self.old gxid }
+        ensures table { OnOk result (self.new ≡ (on_abort self.old gxid).table) }
+        ensures out { IfOk result (λ out. out ≡ (on_abort self.old gxid).out) }
+        ensures alone { participants_of self.old gxid ≡ [] → OnOk result (self.new ≡ ended_alone self.old gxid) }
+        ensures told { participants_of self.old gxid ≡ [] → IfOk result (λ out. out ≡ silently outcome.Ended) }
+        ensures err { OnErr result (self.new ≡ self.old) }
+    {
+        abort_in(self.alloc, &mut self.txns, &mut self.latest_ended, gxid)
+    }
+
+    /// Takes a node's answer about a transaction. One that isn't awaited changes nothing. With the last PREPARED the
+    /// decide item is appended to the journal, and nowhere else is the journal touched. Where that append fails, or
+    /// where a JFAULT came, the transaction aborts. AGAIN leaves COMMIT PREPARED awaited.
+    pub fn reply<J: Journal>(
+        &mut self,
+        gxid: Gxid,
+        node: Node,
+        answer: Reply,
+        journal: &mut J,
+    ) -> Mem<DtxOut>
+        ensures table { IfOk result (λ out. self.new ≡ (on_reply self.old gxid node answer (is_refused out.outcome)).table) }
+        ensures out { IfOk result (λ out. out ≡ (on_reply self.old gxid node answer (is_refused out.outcome)).out) }
+        ensures items { IfOk result (λ out. J.items journal.new ≡ J.items journal.old ++ decide_items gxid out.outcome) }
+        ensures refused { IfOk result (λ out. is_deciding self.old gxid node answer ≡ true → is_refused out.outcome ≡ true → Rose (J.fault_count journal.old) (J.fault_count journal.new)) }
+        ensures untouched { is_deciding self.old gxid node answer ≡ false → journal.new ≡ journal.old }
+        ensures later { J.fault_count journal.old ≤ J.fault_count journal.new }
+        ensures err { OnErr result (self.new ≡ self.old) }
+        ensures kept { OnErr result (J.items journal.new ≡ J.items journal.old) }
+    {
+        reply_in(self.alloc, &mut self.txns, &mut self.latest_ended, gxid, node, &answer, journal)
+    }
+
+    /// The message to a node whose answer is awaited, once more; none exactly where no answer of the node is awaited.
+    pub fn resend(&self, gxid: Gxid, node: Node) -> Mem<Option<Out>>
+        ensures { IfOk result (λ out. out ≡ option_map (λ m. record { node = node; message = m }) (awaited_message self.now gxid node)) }
+    {
+        resend_of(&self.txns, gxid, node)
+    }
+
+    /// The horizon: the least of the gxids that run, or that have ended and that not every participant has forgotten,
+    /// of the `xmin` of each live snapshot and of the next gxid.
+    pub fn horizon(&self) -> Gxid
+        ensures value { result ≡ horizon_of self.now }
+        ensures lowest { All (λ g. result.0 ≤ g.0) (flat_map holds_back self.now.txns ++ self.now.next ∷ []) }
+        ensures among { Contains (flat_map holds_back self.now.txns ++ self.now.next ∷ []) result }
+    {
+        horizon_in(&self.txns, self.next)
+    }
+}

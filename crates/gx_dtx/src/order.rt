@@ -1,0 +1,46 @@
+ghost use Rattle.std.specs.Prelude.{◌≡◌, IfOk};
+ghost use Rattle.gx_dtx.specs.Nodes.{to_each as messages};
+ghost use Rattle.gx_dtx.specs.Orders.{message_of};
+
+use gx_ids::{Gxid, Mem, Node, Seq};
+use gx_msg::{Message, Out};
+use std::alloc::Global;
+
+/// What the coordinator tells nodes about a transaction's end.
+#[derive(Clone, Copy, Debug, PartialEq, Eq)]
+pub enum Order {
+    Prepare,
+    Commit,
+    CommitPrepared,
+    Abort,
+    Forget,
+}
+
+impl Order {
+    /// The message.
+    pub fn message(self, gxid: Gxid) -> Message
+        ensures { result ≡ message_of self gxid }
+    {
+        match self {
+            Order::Prepare => Message::Prepare(gxid),
+            Order::Commit => Message::Commit(gxid),
+            Order::CommitPrepared => Message::CommitPrepared(gxid),
+            Order::Abort => Message::Abort(gxid),
+            Order::Forget => Message::Forget(gxid),
+        }
+    }
+
+    /// The message to each of the nodes, in order.
+    pub fn to_each(self, alloc: Global, gxid: Gxid, nodes: &[Node]) -> Mem<Seq<Out>>
+        ensures { IfOk result (λ outs. outs ≡ messages (message_of self gxid) nodes.now) }
+    {
+        let mut outs = Vec::with_capacity(alloc, nodes.len())?;
+        for node in nodes {
+            outs.push(Out {
+                node: *node,
+                message: self.message(gxid),
+            })?;
+        }
+        Ok(Seq::from_vec(outs))
+    }
+}
