@@ -1,5 +1,5 @@
 -- Lists of nodes, and what is sent to each of one.
-use Rattle.std.specs.Prelude.{Bool, List, ◌∷◌, ◌++◌, ◌==◌, nat_lt, not, map, filter, if◌then◌else◌}
+use Rattle.std.specs.Prelude.{Bool, List, [], ◌∷◌, ◌++◌, ◌==◌, nat_lt, not, map, filter, if◌then◌else◌}
 use Rattle.std.specs.List.{list_any}
 use Rattle.std.specs.List.Sorted.{IsStrictlySortedBy}
 use Rattle.std.specs.Ordering.{nat_cmp}
@@ -17,7 +17,7 @@ without i nodes = filter (λ j. not (j.0 == i.0)) nodes
 
 -- the nodes with i among them, which rise where they rose
 abbrev pub with_node : Node → List Node → List Node
-with_node i nodes = if has i nodes then nodes else filter (λ j. nat_lt j.0 i.0) nodes ++ i ∷ filter (λ j. nat_lt i.0 j.0) nodes
+with_node i nodes = if has i nodes then nodes else filter (λ j. nat_lt j.0 i.0) nodes ++ i ∷ [] ++ filter (λ j. nat_lt i.0 j.0) nodes
 
 -- each node is below those after it
 abbrev pub AreRising : List Node → Type 0

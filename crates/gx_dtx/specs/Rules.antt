@@ -16,6 +16,10 @@ use Rattle.gx_msg.specs.declared.reply.Reply.TheVariants as reply
 use Rattle.gx_dtx.specs.Nodes.{has, without, with_node, to_each, AreRising}
 use Rattle.gx_dtx.specs.Table.{Table, new_txn, find_txn, participants_of, xmin_of}
 use Rattle.gx_dtx.specs.declared.change.Change.{Change}
+use Rattle.gx_dtx.specs.declared.change.Step.{Step}
+use Rattle.gx_dtx.specs.declared.change.Step.TheVariants.{Stays, GoesTo, Leaves}
+use Rattle.gx_dtx.specs.declared.order.Order.{Order}
+use Rattle.gx_dtx.specs.declared.order.Order.TheVariants as order
 use Rattle.gx_dtx.specs.declared.outcome.DtxOut.{DtxOut}
 use Rattle.gx_dtx.specs.declared.outcome.Outcome.{Outcome}
 use Rattle.gx_dtx.specs.declared.outcome.Outcome.TheVariants as outcome
@@ -54,9 +58,11 @@ live_in _ live = live
 abbrev pub moved : Phase → Txn → Txn
 moved p t = record t { phase = p; live = live_in p t.live }
 
-abbrev pub with_phase : List (Gxid × Txn) → Gxid → Option Phase → List (Gxid × Txn)
-with_phase txns g None = remove_entry (is_at (gxid_cmp g)) txns
-with_phase txns g (Some p) = with_txn txns g (moved p)
+-- the transactions after a step of this one
+abbrev pub with_step : List (Gxid × Txn) → Gxid → Step → List (Gxid × Txn)
+with_step txns g Stays = txns
+with_step txns g (GoesTo p) = with_txn txns g (moved p)
+with_step txns g Leaves = remove_entry (is_at (gxid_cmp g)) txns
 
 -- whether the transaction has ended by this call
 abbrev pub ends : Outcome → Bool
@@ -74,20 +80,24 @@ with_ended false g latest = latest
 
 -- the table after a change of the transaction
 abbrev pub changed : Table → Gxid → Change → Table
-changed d g c = record d { latest_ended = with_ended (ends c.out.outcome) g d.latest_ended; txns = with_phase d.txns g c.phase }
+changed d g c = record d { latest_ended = with_ended (ends c.out.outcome) g d.latest_ended; txns = with_step d.txns g c.step }
 
 -- ---- one transaction
 
 abbrev pub nothing : DtxOut
 nothing = record { outs = []; outcome = outcome.Pending }
 
+-- nothing changes
+abbrev pub stays : Change
+stays = record { step = Stays; out = nothing }
+
 -- it goes on to a phase, and this is sent
 abbrev pub goes_to : Phase → List Out → Outcome → Change
-goes_to p outs o = record { phase = Some p; out = record { outs = outs; outcome = o } }
+goes_to p outs o = record { step = GoesTo p; out = record { outs = outs; outcome = o } }
 
 -- it leaves the table
 abbrev pub leaves : Outcome → Change
-leaves o = record { phase = None; out = record { outs = []; outcome = o } }
+leaves o = record { step = Leaves; out = record { outs = []; outcome = o } }
 
 -- it has ended by a commit: every participant may forget it
 abbrev pub ends_committed : Gxid → List Node → Change
@@ -154,7 +164,7 @@ takes g participants i refused (CommittingOne w) reply.Jfault = refuses g partic
 takes g participants i refused (CommittingTwo awaited) reply.Committed = finishes g participants (without i awaited)
 takes g participants i refused (Ended awaited) reply.Forgotten = forgets (without i awaited)
 takes g participants i refused (Aborting awaited) reply.Aborted = gives_up (without i awaited)
-takes g participants i refused p _ = goes_to p [] outcome.Pending
+takes g participants i refused _ _ = stays
 
 -- ---- calls
 
@@ -163,34 +173,30 @@ pub record Turn : Type 0 where
   pub table : Table
   pub out : DtxOut
 
--- nothing has changed
-abbrev pub stays : Table → Turn
-stays d = record { table = d; out = nothing }
-
 abbrev pub turns : Table → Gxid → Change → Turn
 turns d g c = record { table = changed d g c; out = c.out }
 
-abbrev pub commit_found : Table → Gxid → List Node → Option Txn → Turn
-commit_found d g writers None = stays d
-commit_found d g writers (Some t) = turns d g (commits g writers t)
+abbrev pub commit_found : Gxid → List Node → Option Txn → Change
+commit_found g writers None = stays
+commit_found g writers (Some t) = commits g writers t
 
 abbrev pub on_commit : Table → Gxid → List Node → Turn
-on_commit d g writers = commit_found d g writers (find_txn d g)
+on_commit d g writers = turns d g (commit_found g writers (find_txn d g))
 
-abbrev pub abort_found : Table → Gxid → Option Txn → Turn
-abort_found d g None = stays d
-abort_found d g (Some t) = turns d g (aborts g t.participants)
+abbrev pub abort_found : Gxid → Option Txn → Change
+abort_found g None = stays
+abort_found g (Some t) = aborts g t.participants
 
 abbrev pub on_abort : Table → Gxid → Turn
-on_abort d g = abort_found d g (find_txn d g)
+on_abort d g = turns d g (abort_found g (find_txn d g))
 
 -- an answer that isn't awaited changes nothing
-abbrev pub reply_found : Table → Gxid → Node → Reply → Bool → Option Txn → Turn
-reply_found d g i answer refused None = stays d
-reply_found d g i answer refused (Some t) = if is_awaited t.phase i answer then turns d g (takes g t.participants i refused t.phase answer) else stays d
+abbrev pub reply_found : Gxid → Node → Reply → Bool → Option Txn → Change
+reply_found g i answer refused None = stays
+reply_found g i answer refused (Some t) = if is_awaited t.phase i answer then takes g t.participants i refused t.phase answer else stays
 
 abbrev pub on_reply : Table → Gxid → Node → Reply → Bool → Turn
-on_reply d g i answer refused = reply_found d g i answer refused (find_txn d g)
+on_reply d g i answer refused = turns d g (reply_found g i answer refused (find_txn d g))
 
 -- whether a transaction of this phase is decided by this answer, if the journal takes the item
 abbrev pub is_last : List Node → Bool
@@ -209,22 +215,22 @@ decides_found (Some t) i answer = decides_in t.phase i answer
 abbrev pub is_deciding : Table → Gxid → Node → Reply → Bool
 is_deciding d g i answer = decides_found (find_txn d g) i answer
 
--- the message whose answer from the node is awaited in this phase
-abbrev pub awaited_in : Gxid → Phase → Node → Option Message
-awaited_in g Active i = None
-awaited_in g (Preparing _ awaited) i = if has i awaited then Some (message.Prepare g) else None
-awaited_in g (CommittingOne w) i = if w.0 == i.0 then Some (message.Commit g) else None
-awaited_in g (CommittingTwo awaited) i = if has i awaited then Some (message.CommitPrepared g) else None
-awaited_in g (Ended awaited) i = if has i awaited then Some (message.Forget g) else None
-awaited_in g (Aborting awaited) i = if has i awaited then Some (message.Abort g) else None
+-- the order whose answer from the node is awaited in this phase
+abbrev pub order_in : Phase → Node → Option Order
+order_in Active i = None
+order_in (Preparing _ awaited) i = if has i awaited then Some order.Prepare else None
+order_in (CommittingOne w) i = if w.0 == i.0 then Some order.Commit else None
+order_in (CommittingTwo awaited) i = if has i awaited then Some order.CommitPrepared else None
+order_in (Ended awaited) i = if has i awaited then Some order.Forget else None
+order_in (Aborting awaited) i = if has i awaited then Some order.Abort else None
 
-abbrev pub resend_found : Gxid → Node → Option Txn → Option Message
-resend_found g i None = None
-resend_found g i (Some t) = awaited_in g t.phase i
+abbrev pub order_found : Node → Option Txn → Option Order
+order_found i None = None
+order_found i (Some t) = order_in t.phase i
 
--- the message to the node whose answer is awaited
-abbrev pub awaited_message : Table → Gxid → Node → Option Message
-awaited_message d g i = resend_found g i (find_txn d g)
+-- the order to the node whose answer is awaited
+abbrev pub awaited_order : Table → Gxid → Node → Option Order
+awaited_order d g i = order_found i (find_txn d g)
 
 -- whether the coordinator's own journal has failed, in the outcome of an answer that decides
 abbrev pub is_refused : Outcome → Bool

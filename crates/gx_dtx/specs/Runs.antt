@@ -4,7 +4,7 @@ use Rattle.gx_ids.specs.declared.ids.Gxid.{Gxid}
 use Rattle.gx_ids.specs.declared.ids.Node.{Node}
 use Rattle.gx_msg.specs.declared.reply.Reply.{Reply as Answer}
 use Rattle.gx_dtx.specs.Table.{Table, new_table, IsActive, xmin_of}
-use Rattle.gx_dtx.specs.Rules.{Turn, stays, nothing, begun, with_live, enlisted, on_commit, on_abort, on_reply, AreWriters}
+use Rattle.gx_dtx.specs.Rules.{Turn, nothing, begun, with_live, enlisted, on_commit, on_abort, on_reply, AreWriters}
 use Rattle.std.specs.Prelude.{None}
 
 -- a call that may change the table; of a reply, also whether the coordinator's journal fails where it has to append

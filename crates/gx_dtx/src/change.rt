@@ -9,15 +9,35 @@ use crate::phase::Phase;
 use gx_ids::{Gxid, Mem, Node, Seq};
 use std::alloc::Global;
 
-/// What a call makes of a transaction: its next phase, or none where it leaves the table.
+/// What a call makes of a transaction.
+#[derive(Debug, Drop)]
+pub enum Step {
+    /// It stays as it is.
+    Stays,
+    GoesTo(Phase),
+    /// Nobody needs to know of it any more.
+    Leaves,
+}
+
+/// A transaction's step, and what the call has come to.
 #[derive(Debug, Drop)]
 pub struct Change {
-    pub phase: Option<Phase>,
+    pub step: Step,
     pub out: DtxOut,
 }
 
 impl Change {
-    ghost use Rattle.gx_dtx.specs.Rules.{goes_to, leaves as leaving};
+    ghost use Rattle.gx_dtx.specs.Rules.{goes_to, leaves as leaving, stays as staying};
+
+    /// Nothing changes.
+    pub fn stays(alloc: Global) -> Change
+        ensures { result ≡ staying }
+    {
+        Change {
+            step: Step::Stays,
+            out: DtxOut::new(alloc, Outcome::Pending),
+        }
+    }
 
     /// The transaction goes on to a phase, and each of the nodes gets an order.
     pub fn sends(
@@ -32,7 +52,7 @@ impl Change {
     {
         let outs = order.to_each(alloc, gxid, nodes)?;
         Ok(Change {
-            phase: Some(phase),
+            step: Step::GoesTo(phase),
             out: DtxOut { outs, outcome },
         })
     }
@@ -42,7 +62,7 @@ impl Change {
         ensures { result ≡ goes_to phase [] outcome.Pending }
     {
         Change {
-            phase: Some(phase),
+            step: Step::GoesTo(phase),
             out: DtxOut::new(alloc, Outcome::Pending),
         }
     }
@@ -52,7 +72,7 @@ impl Change {
         ensures { result ≡ leaving outcome }
     {
         Change {
-            phase: None,
+            step: Step::Leaves,
             out: DtxOut::new(alloc, outcome),
         }
     }

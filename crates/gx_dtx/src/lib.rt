@@ -2,7 +2,9 @@
 #![tactic(auto)]
 
 mod change;
+mod changes;
 pub mod dtx;
+mod found;
 pub mod laws;
 mod nodes;
 mod order;
@@ -10,9 +12,9 @@ pub mod outcome;
 pub mod phase;
 mod probe;
 mod replies;
-mod changes;
 pub mod status;
 pub mod txn;
+mod txns;
 
 pub use dtx::Dtx;
 pub use outcome::{DtxOut, Outcome};

@@ -1,5 +1,5 @@
 // Lists of nodes.
-ghost use Rattle.std.specs.Prelude.{◌≡◌, ◌++◌, ◌∷◌, nat_lt, filter, false, IfOk};
+ghost use Rattle.std.specs.Prelude.{◌≡◌, ◌++◌, ◌∷◌, [], nat_lt, filter, false, IfOk};
 ghost use Rattle.gx_dtx.specs.Nodes.{has as is_one_of, without as all_but, with_node as all_with};
 
 use gx_ids::{Duplicate, Mem, Node, Seq};
@@ -37,17 +37,24 @@ pub(crate) fn with_node(alloc: Global, node: Node, nodes: &Seq<Node>) -> Mem<Seq
 
 // A node between those below and those above it.
 fn put_in(alloc: Global, node: Node, nodes: &[Node]) -> Mem<Seq<Node>>
-    ensures { IfOk result (λ all. all ≡ filter (λ j. nat_lt j.0 node.0) nodes.now ++ node ∷ filter (λ j. nat_lt node.0 j.0) nodes.now) }
+    ensures { IfOk result (λ all. all ≡ filter (λ j. nat_lt j.0 node.0) nodes.now ++ node ∷ [] ++ filter (λ j. nat_lt node.0 j.0) nodes.now) }
 {
-    let mut all: Vec<Node> = nodes
-        .iter()
-        .copied()
-        .filter(|other| *other < node)
-        .collect(alloc)?;
+    let mut all = below(alloc, node, nodes)?;
     all.push(node)?;
     let above = above(alloc, node, nodes)?;
     all.extend_from_slice(above.as_slice())?;
     Ok(Seq::from_vec(all))
+}
+
+fn below(alloc: Global, node: Node, nodes: &[Node]) -> Mem<Vec<Node>>
+    ensures { IfOk result (λ below. below.items ≡ filter (λ j. nat_lt j.0 node.0) nodes.now) }
+{
+    let below: Vec<Node> = nodes
+        .iter()
+        .copied()
+        .filter(|other| *other < node)
+        .collect(alloc)?;
+    Ok(below)
 }
 
 fn above(alloc: Global, node: Node, nodes: &[Node]) -> Mem<Vec<Node>>

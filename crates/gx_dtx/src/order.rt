@@ -30,16 +30,23 @@ impl Order {
         }
     }
 
+    /// The message to a node.
+    pub fn out(self, gxid: Gxid, node: Node) -> Out
+        ensures { result ≡ record { node = node; message = message_of self gxid } }
+    {
+        Out {
+            node,
+            message: self.message(gxid),
+        }
+    }
+
     /// The message to each of the nodes, in order.
     pub fn to_each(self, alloc: Global, gxid: Gxid, nodes: &[Node]) -> Mem<Seq<Out>>
         ensures { IfOk result (λ outs. outs ≡ messages (message_of self gxid) nodes.now) }
     {
         let mut outs = Vec::with_capacity(alloc, nodes.len())?;
         for node in nodes {
-            outs.push(Out {
-                node: *node,
-                message: self.message(gxid),
-            })?;
+            outs.push(self.out(gxid, *node))?;
         }
         Ok(Seq::from_vec(outs))
     }

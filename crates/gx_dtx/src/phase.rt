@@ -1,3 +1,6 @@
+ghost use Rattle.std.specs.Prelude.{◌≡◌};
+
+use crate::status::Status;
 use gx_ids::{Node, Seq};
 
 /// Where a transaction stands, with those whose answers the coordinator awaits.
@@ -18,4 +21,28 @@ pub enum Phase {
     Ended(Seq<Node>),
     /// It is aborted, and ABORT went to each participant. These haven't answered.
     Aborting(Seq<Node>),
+}
+
+impl Phase {
+    ghost use Rattle.gx_dtx.specs.Table.{status_in, is_running as runs_in};
+
+    /// The status, without those whose answers are awaited.
+    pub fn status(&self) -> Status
+        ensures { result ≡ status_in self.now }
+    {
+        match self {
+            Phase::Active => Status::Active,
+            Phase::Preparing { .. } => Status::Preparing,
+            Phase::CommittingOne(_) | Phase::CommittingTwo(_) => Status::Committing,
+            Phase::Ended(_) => Status::Ended,
+            Phase::Aborting(_) => Status::Aborting,
+        }
+    }
+
+    /// Whether the transaction hasn't ended.
+    pub fn is_running(&self) -> bool
+        ensures { result ≡ runs_in self.now }
+    {
+        !matches!(self, Phase::Ended(_))
+    }
 }

@@ -1,16 +1,18 @@
 // Answers of participants.
 ghost use Rattle.std.specs.Prelude.{◌≡◌, ◌≤◌, ◌++◌, ◌∷◌, [], true, false, IfOk, OnOk, OnErr};
 ghost use Rattle.gx_outside.specs.Causes.{Rose};
-ghost use Rattle.gx_dtx.specs.Rules.{is_awaited as is_awaited_in, takes, prepares, decides, decides_in, decide_items, is_refused, is_last as is_last_of};
-ghost use Rattle.gx_msg.specs.declared.reply.Reply.TheVariants as reply;
+ghost use Rattle.gx_msg.specs.ItemBytes.{bytes_of_item};
+ghost use Rattle.gx_msg.specs.declared.item.JournalItem.TheVariants as item;
+ghost use Rattle.gx_dtx.specs.Rules.{is_awaited as is_awaited_in, takes, prepares, decides, decides_in, decide_items, is_refused, is_last, goes_to};
 ghost use Rattle.gx_dtx.specs.declared.outcome.Outcome.TheVariants as outcome;
+ghost use Rattle.gx_dtx.specs.declared.phase.Phase.TheVariants as phase;
 
 use crate::change::Change;
 use crate::changes::{decide, end_committed, finish, forget, give_up, refuse};
 use crate::nodes::{has, without};
 use crate::phase::Phase;
 use crate::txn::Txn;
-use gx_ids::{Gxid, Mem, Node, OutOfMemory, Seq};
+use gx_ids::{Duplicate, Gxid, Mem, Node, OutOfMemory, Seq};
 use gx_msg::{JournalItem, Reply, item_bytes};
 use gx_outside::{AppendFault, Journal};
 use std::alloc::Global;
@@ -20,11 +22,115 @@ pub(crate) fn is_awaited(phase: &Phase, node: Node, answer: &Reply) -> bool
     ensures { result ≡ is_awaited_in phase.now node answer.now }
 {
     match (phase, answer) {
-        (Phase::Preparing { writers: _, awaited }, Reply::Prepared | Reply::Jfault) => has(node, awaited.as_slice()),
-        (Phase::CommittingOne(writer), Reply::Committed | Reply::Jfault) => *writer == node,
+        (Phase::Preparing { writers: _, awaited }, Reply::Prepared) => has(node, awaited.as_slice()),
+        (Phase::Preparing { writers: _, awaited }, Reply::Jfault) => has(node, awaited.as_slice()),
+        (Phase::CommittingOne(writer), Reply::Committed) => *writer == node,
+        (Phase::CommittingOne(writer), Reply::Jfault) => *writer == node,
         (Phase::CommittingTwo(awaited), Reply::Committed) => has(node, awaited.as_slice()),
         (Phase::Ended(awaited), Reply::Forgotten) => has(node, awaited.as_slice()),
         (Phase::Aborting(awaited), Reply::Aborted) => has(node, awaited.as_slice()),
         _ => false,
     }
+}
+
+// What an awaited answer makes of a transaction.
+pub(crate) fn take_answer<J: Journal>(
+    alloc: Global,
+    gxid: Gxid,
+    txn: &Txn,
+    node: Node,
+    answer: &Reply,
+    journal: &mut J,
+) -> Mem<Change>
+    requires { is_awaited_in txn.now.phase node answer.now ≡ true }
+    ensures value { IfOk result (λ change. change ≡ takes gxid txn.now.participants node (is_refused change.out.outcome) txn.now.phase answer.now) }
+    ensures items { IfOk result (λ change. J.items journal.new ≡ J.items journal.old ++ decide_items gxid change.out.outcome) }
+    ensures refused { IfOk result (λ change. decides_in txn.now.phase node answer.now ≡ true → is_refused change.out.outcome ≡ true → Rose (J.fault_count journal.old) (J.fault_count journal.new)) }
+    ensures untouched { decides_in txn.now.phase node answer.now ≡ false → journal.new ≡ journal.old }
+    ensures later { J.fault_count journal.old ≤ J.fault_count journal.new }
+    ensures kept { OnErr result (J.items journal.new ≡ J.items journal.old) }
+{
+    let participants = &txn.participants;
+    match (&txn.phase, answer) {
+        (Phase::Preparing { writers, awaited }, Reply::Prepared) => {
+            let rest = without(alloc, node, awaited.as_slice())?;
+            prepare(alloc, gxid, writers, participants, rest, journal)
+        }
+        (Phase::Preparing { .. }, Reply::Jfault) => refuse(alloc, gxid, participants, node),
+        (Phase::CommittingOne(_), Reply::Committed) => end_committed(alloc, gxid, participants),
+        (Phase::CommittingOne(_), Reply::Jfault) => refuse(alloc, gxid, participants, node),
+        (Phase::CommittingTwo(awaited), Reply::Committed) => {
+            let rest = without(alloc, node, awaited.as_slice())?;
+            finish(alloc, gxid, participants, rest)
+        }
+        (Phase::Ended(awaited), Reply::Forgotten) => {
+            Ok(forget(alloc, without(alloc, node, awaited.as_slice())?))
+        }
+        (Phase::Aborting(awaited), Reply::Aborted) => {
+            Ok(give_up(alloc, without(alloc, node, awaited.as_slice())?))
+        }
+        _ => Ok(Change::stays(alloc)),
+    }
+}
+
+// A writer has prepared; these haven't yet.
+fn prepare<J: Journal>(
+    alloc: Global,
+    gxid: Gxid,
+    writers: &Seq<Node>,
+    participants: &Seq<Node>,
+    rest: Seq<Node>,
+    journal: &mut J,
+) -> Mem<Change>
+    ensures value { IfOk result (λ change. change ≡ prepares gxid writers.now participants.now rest (is_refused change.out.outcome)) }
+    ensures items { IfOk result (λ change. J.items journal.new ≡ J.items journal.old ++ decide_items gxid change.out.outcome) }
+    ensures refused { IfOk result (λ change. is_refused change.out.outcome ≡ true → Rose (J.fault_count journal.old) (J.fault_count journal.new)) }
+    ensures untouched { is_last rest ≡ false → journal.new ≡ journal.old }
+    ensures later { J.fault_count journal.old ≤ J.fault_count journal.new }
+    ensures kept { OnErr result (J.items journal.new ≡ J.items journal.old) }
+{
+    if rest.is_empty() {
+        decide_now(alloc, gxid, writers, participants, journal)
+    } else {
+        wait_for(alloc, writers, rest)
+    }
+}
+
+// Waits for these writers to prepare.
+fn wait_for(alloc: Global, writers: &Seq<Node>, awaited: Seq<Node>) -> Mem<Change>
+    ensures { IfOk result (λ change. change ≡ goes_to (phase.Preparing writers.now awaited) [] outcome.Pending) }
+{
+    let writers = writers.copy(alloc)?;
+    Ok(Change::waits(alloc, Phase::Preparing { writers, awaited }))
+}
+
+// Appends the decide item. What comes after either answer of the journal is made before, so that no memory is needed
+// afterwards.
+fn decide_now<J: Journal>(
+    alloc: Global,
+    gxid: Gxid,
+    writers: &Seq<Node>,
+    participants: &Seq<Node>,
+    journal: &mut J,
+) -> Mem<Change>
+    ensures value { IfOk result (λ change. change ≡ decides gxid writers.now participants.now (is_refused change.out.outcome)) }
+    ensures items { IfOk result (λ change. J.items journal.new ≡ J.items journal.old ++ decide_items gxid change.out.outcome) }
+    ensures refused { IfOk result (λ change. is_refused change.out.outcome ≡ true → Rose (J.fault_count journal.old) (J.fault_count journal.new)) }
+    ensures later { J.fault_count journal.old ≤ J.fault_count journal.new }
+    ensures kept { OnErr result (J.items journal.new ≡ J.items journal.old) }
+{
+    let decided = decide(alloc, gxid, writers)?;
+    let refused = refuse(alloc, gxid, participants, Node(0))?;
+    let item = decide_item(alloc, gxid)?;
+    match journal.append(item.as_slice()) {
+        Ok(()) => Ok(decided),
+        Err(AppendFault::Failed) => Ok(refused),
+        Err(AppendFault::OutOfMemory) => Err(OutOfMemory),
+    }
+}
+
+fn decide_item(alloc: Global, gxid: Gxid) -> Mem<Vec<u8>>
+    ensures { IfOk result (λ bytes. bytes.items ≡ bytes_of_item (item.Decide gxid)) }
+{
+    item_bytes(alloc, &JournalItem::Decide(gxid))
 }
