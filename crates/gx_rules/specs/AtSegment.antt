@@ -35,13 +35,17 @@ changes s g l marks r it = record { seg = with_local s g l; marks = marks; outs 
 abbrev pub raised : Seg → Gxid → Seg
 raised s h = record s { horizon = if is_below h s.horizon then h else s.horizon }
 
+abbrev pub repeats : Seg → Gxid → Cid → Local → SegTurn
+repeats s g c l = if c.0 == l.last then tells_kept s g l.answer else stays s
+
+abbrev pub takes : Seg → Gxid → Cid → Option Snapshot → Gxid → Slice → Local → SegTurn
+takes s g c snapshot h slice l = if nat_lt l.last c.0 then runs_slice (raised s h) g c snapshot slice else repeats s g c l
+
 abbrev pub on_exec : Seg → Gxid → Cid → Option Snapshot → Gxid → Slice → Local → Phase → SegTurn
-on_exec s g c snapshot h slice l Reading =
-    if nat_lt l.last c.0 then runs_slice (raised s h) g c snapshot slice else (if c.0 == l.last then tells_kept s g l.answer else stays s)
-on_exec s g c snapshot h slice l Writing =
-    if nat_lt l.last c.0 then runs_slice (raised s h) g c snapshot slice else (if c.0 == l.last then tells_kept s g l.answer else stays s)
-on_exec s g c snapshot h slice l Prepared = if c.0 == l.last then tells_kept s g l.answer else stays s
-on_exec s g c snapshot h slice l Committed = if c.0 == l.last then tells_kept s g l.answer else stays s
+on_exec s g c snapshot h slice l Reading = takes s g c snapshot h slice l
+on_exec s g c snapshot h slice l Writing = takes s g c snapshot h slice l
+on_exec s g c snapshot h slice l Prepared = repeats s g c l
+on_exec s g c snapshot h slice l Committed = repeats s g c l
 on_exec s g c snapshot h slice l _ = stays s
 
 -- PREPARE

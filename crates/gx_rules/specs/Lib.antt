@@ -13,3 +13,4 @@ pub mod AtCoordinator
 pub mod Machine
 pub mod System
 pub mod Rows
+pub mod Expected
