@@ -1,26 +1,23 @@
 use Rattle.std.proofs.Common.{◌≡◌, ◌∙◌, ℕ, suc, ◌+◌, List, [], ◌∷◌, refl, ap, sym, subst, pos, Result, Ok, true, false, Bool}
 use Rattle.std.specs.Prelude.{drop}
-use Rattle.gx_tree.specs.declared.expr.Expr.{Expr, Lit}
+use Rattle.gx_tree.specs.declared.expr.Expr.{Expr}
 use Rattle.gx_tree.specs.declared.value.Value.{Value}
 use Rattle.gx_tree.specs.declared.value.Value.TheVariants as value
 use Rattle.gx_tree.specs.declared.stmt.Level.TheVariants.{ReadCommitted}
 use Rattle.gx_tree.specs.declared.stmt.Stmt.{Stmt}
 use Rattle.gx_tree.specs.declared.row.KeyedRow.{KeyedRow}
-use Rattle.gx_tree.specs.declared.slice.Slice.TheVariants as slice
 use Rattle.gx_eval.proofs.Nodes.{value_of-lit}
-use Rattle.gx_eval.specs.Meaning.{and_then, value_of}
+use Rattle.gx_eval.specs.Meaning.{and_then}
 use Rattle.gx_eval.specs.declared.fault.ArithFault.{ArithFault}
 use Rattle.gx_ids.specs.declared.ids.Gxid.{Gxid}
 use Rattle.gx_ids.specs.declared.ids.Cid.{Cid}
 use Rattle.gx_ids.specs.declared.ids.SessionId.{SessionId}
-use Rattle.gx_plan.specs.Constants.{constant, each_from, keyed, rows_of, tuple_row, values_of}
+use Rattle.gx_plan.specs.Constants.{constant, each_from, keyed, tuple_row, values_of}
 use Rattle.gx_plan.specs.Plan.{insert_pieces, plan_of}
 use Rattle.gx_plan.specs.declared.piece.Piece.{Piece}
 use Rattle.gx_tree.specs.declared.schema.Dist.TheVariants.{By}
-use Rattle.gx_script.specs.declared.Script.{Script}
 use Rattle.gx_store.specs.declared.event.Event.{Event}
 use Rattle.gx_store.specs.declared.event.Event.TheVariants as event
-use Rattle.gx_store.specs.declared.answer.StmtAnswer.TheVariants as told
 use Rattle.gx_store.specs.declared.mark.Mark.{Mark}
 use Rattle.gx_store.specs.declared.mark.Mark.TheVariants as mark
 use Rattle.gx_rules.specs.AtCoordinator.{behind, begins, coord_sends, goes, reads_for, starts_line}
@@ -29,7 +26,6 @@ use Rattle.gx_session.specs.declared.line_step.LineStep.TheVariants.{Command}
 use Rattle.gx_rules.specs.Expected.{CommitsByOne, FinishesLost, KeepsSnapshot, ReadsBetween, RefusesPromise, RunsOnce, between, kept_run, lost, one_phase, refused_run, repeated}
 use Rattle.gx_rules.specs.Machine.{World, after, coord_did, new_world}
 use Rattle.gx_rules.specs.Rows.{between_commits, drives, insert, kept_snapshot, lost_committed, never, number, once_at_second, one_writer, reader_between, refused_promise, repeated_exec, row_of, session, start, the_table, tuple, two_rows}
-
 
 values_of-tuple : (a b : ℕ) → values_of (tuple a b) ≡ Ok (value.Int (pos a) ∷ value.Int (pos b) ∷ [])
 values_of-tuple a b = ap (λ x. and_then x (λ u. and_then (each_from constant 1 (number b ∷ [])) (λ ys. Ok (u ∷ ys)))) (value_of-lit [] (value.Int (pos a))) ∙ ap (λ y. and_then (and_then y (λ v. and_then (Ok []) (λ ys. Ok (v ∷ ys)))) (λ ys. Ok (value.Int (pos a) ∷ ys))) (value_of-lit [] (value.Int (pos b)))

@@ -1,6 +1,6 @@
 -- What the coordinator does when a session's line starts, when an answer comes, when a session ends, and when a message is
 -- to be sent again.
-use Rattle.std.specs.Prelude.{ℕ, ◌+◌, ◌==◌, Bool, true, false, not, if◌then◌else◌, ◌&&◌, List, [], ◌∷◌, ◌++◌, map, fold, is_some, option_map, Some, None, Result, Ok, Err, slice_get}
+use Rattle.std.specs.Prelude.{ℕ, ◌+◌, ◌==◌, Bool, true, false, not, if◌then◌else◌, ◌&&◌, List, [], ◌∷◌, ◌++◌, map, fold, is_some, option_map, Some, None, Result, Ok, Err}
 use Rattle.std.specs.declared.option.Option.{Option}
 use Rattle.gx_ids.specs.declared.ids.Cid.{Cid}
 use Rattle.gx_ids.specs.declared.ids.Gxid.{Gxid}
@@ -12,7 +12,6 @@ use Rattle.gx_tree.specs.declared.stmt.Level.{Level}
 use Rattle.gx_tree.specs.declared.stmt.Level.TheVariants.{ReadCommitted, RepeatableRead}
 use Rattle.gx_tree.specs.declared.stmt.Stmt.{Stmt}
 use Rattle.gx_tree.specs.declared.stmt.Stmt.TheVariants as stmt
-use Rattle.gx_tree.specs.declared.schema.Dist.{Dist}
 use Rattle.gx_tree.specs.declared.value.Value.{Value}
 use Rattle.gx_dsnap.specs.declared.snapshot.Snapshot.{Snapshot}
 use Rattle.gx_dtx.specs.Nodes.{has, with_node, without}
@@ -46,7 +45,6 @@ use Rattle.gx_session.specs.declared.state.Block.{Block}
 use Rattle.gx_session.specs.declared.state.Block.TheVariants as block
 use Rattle.gx_session.specs.declared.state.Pending.{Pending}
 use Rattle.gx_session.specs.declared.state.Pending.TheVariants as pending
-use Rattle.gx_session.specs.declared.state.SessionState.{SessionState}
 use Rattle.gx_store.specs.declared.answer.Refused.{Refused}
 use Rattle.gx_store.specs.declared.answer.Refused.TheVariants as refused
 use Rattle.gx_store.specs.declared.answer.StmtAnswer.{StmtAnswer}
@@ -191,8 +189,8 @@ goes_out g cid line pieces r =
     let orders = orders_of g cid w.level r.snapshot (horizon_of r.coord.table) pieces in
     record {
       coord =
-        with_work (record r.coord { table = enlisted_all r.coord.table g (nodes_in pieces) }) g
-        (record w { last = cid.0; command = Some (record { stmt = line; cid = cid; orders = orders; awaited = nodes_in pieces; count = 0; parts = [] }) });
+          with_work (record r.coord { table = enlisted_all r.coord.table g (nodes_in pieces) }) g
+          (record w { last = cid.0; command = Some (record { stmt = line; cid = cid; orders = orders; awaited = nodes_in pieces; count = 0; parts = [] }) });
       marks = r.marks;
       outs = orders;
       item = None;

@@ -1,5 +1,5 @@
 -- Which messages fit. Nodes test this themselves, since a link tells nothing of what it carries.
-use Rattle.std.specs.Prelude.{ℕ, ◌==◌, nat_lt, nat_le, Bool, true, false, not, ◌&&◌, ◌||◌, is_some, if◌then◌else◌, List, [], ◌∷◌, length, map, slice_get, Some, None}
+use Rattle.std.specs.Prelude.{ℕ, ◌==◌, nat_lt, nat_le, Bool, true, false, not, ◌&&◌, ◌||◌, is_some, List, [], ◌∷◌, length, map, slice_get, Some, None}
 use Rattle.std.specs.declared.option.Option.{Option}
 use Rattle.std.specs.List.{list_all, list_any}
 use Rattle.gx_ids.specs.declared.ids.Cid.{Cid}
@@ -12,7 +12,6 @@ use Rattle.gx_tree.specs.declared.part.Part.TheVariants.{Groups, Rows}
 use Rattle.gx_tree.specs.declared.query.Item.{Item}
 use Rattle.gx_tree.specs.declared.query.Item.TheVariants.{Col, Count, Sum, Min, Max}
 use Rattle.gx_tree.specs.declared.query.Query.{Query}
-use Rattle.gx_tree.specs.declared.row.KeyedRow.{KeyedRow}
 use Rattle.gx_tree.specs.declared.schema.Kind.{Kind}
 use Rattle.gx_tree.specs.declared.schema.Kind.TheVariants.{Int, Text}
 use Rattle.gx_tree.specs.declared.schema.Schema.{Schema}

@@ -1,6 +1,5 @@
 -- Small runs that the machine is tried on: one table of two columns of numbers, placed by the first, at two segments.
-use Rattle.std.specs.Prelude.{ℕ, zero, suc, ◌+◌, pos, ◌==◌, Bool, true, false, not, if◌then◌else◌, ◌&&◌, ◌||◌, List, [], ◌∷◌, ◌++◌, filter, length, map, Some, None}
-use Rattle.std.specs.declared.option.Option.{Option}
+use Rattle.std.specs.Prelude.{ℕ, zero, suc, pos, ◌==◌, Bool, true, false, not, if◌then◌else◌, ◌&&◌, ◌||◌, List, [], ◌∷◌, filter, length, None}
 use Rattle.std.specs.List.{flat_map, list_any, range_with_len}
 use Rattle.gx_ids.specs.declared.ids.Node.{Node}
 use Rattle.gx_ids.specs.declared.ids.SessionId.{SessionId}
@@ -9,7 +8,6 @@ use Rattle.gx_tree.specs.declared.cell.Cell.{Cell}
 use Rattle.gx_tree.specs.declared.cell.Cell.TheVariants as cell
 use Rattle.gx_tree.specs.declared.expr.Expr.{Expr, Lit}
 use Rattle.gx_tree.specs.declared.query.Item.TheVariants.{Col}
-use Rattle.gx_tree.specs.declared.query.Query.{Query}
 use Rattle.gx_tree.specs.declared.row.KeyedRow.{KeyedRow}
 use Rattle.gx_tree.specs.declared.schema.Column.{Column}
 use Rattle.gx_tree.specs.declared.schema.Dist.TheVariants.{By}
@@ -36,7 +34,7 @@ use Rattle.gx_store.specs.Lines.{line_count, state_of}
 use Rattle.gx_store.specs.Marks.{answer_count}
 use Rattle.gx_store.specs.Points.{ends_in, marks_in}
 use Rattle.gx_store.specs.Schedule.{enabled, first_of}
-use Rattle.gx_rules.specs.Machine.{World, happens, new_world}
+use Rattle.gx_rules.specs.Machine.{World, happens}
 
 -- SCRIPTS
 abbrev pub the_table : Table

@@ -1,5 +1,5 @@
 -- What a segment shows to a reader, and what it keeps of a transaction for its journal.
-use Rattle.std.specs.Prelude.{ℕ, ◌==◌, nat_lt, Bool, ◌&&◌, ◌||◌, List, [], ◌∷◌, filter, fold, Some, None}
+use Rattle.std.specs.Prelude.{◌==◌, nat_lt, Bool, ◌&&◌, ◌||◌, List, [], ◌∷◌, filter, fold, Some, None}
 use Rattle.std.specs.declared.option.Option.{Option}
 use Rattle.std.specs.List.{flat_map}
 use Rattle.gx_ids.specs.declared.ids.Cid.{Cid}

@@ -1,5 +1,5 @@
 -- A system run: it is ordered, each node's steps alone follow its rule from the new node on, and each event was admitted.
-use Rattle.std.specs.Prelude.{◌≡◌, ℕ, Bool, true, false, List, [], ◌∷◌, ◌++◌, Some}
+use Rattle.std.specs.Prelude.{◌≡◌, ℕ, Bool, true, false, List, [], ◌∷◌, ◌++◌}
 use Rattle.gx_ids.specs.declared.ids.Node.{Node}
 use Rattle.gx_msg.specs.declared.message.Envelope.{Envelope}
 use Rattle.gx_script.specs.declared.Script.{Script}
@@ -15,9 +15,9 @@ use Rattle.gx_store.specs.Ordered.{AreOrdered, IsSegment}
 use Rattle.gx_store.specs.Refusals.{the_coordinator}
 use Rattle.gx_rules.specs.AtCoordinator.{coord_can, coord_rule}
 use Rattle.gx_rules.specs.AtSegment.{seg_rule}
-use Rattle.gx_rules.specs.Coordinators.{Coord, CoordTurn, new_coordinator}
+use Rattle.gx_rules.specs.Coordinators.{Coord, new_coordinator}
 use Rattle.gx_rules.specs.Machine.{seg_can}
-use Rattle.gx_rules.specs.Segments.{Seg, SegTurn, new_segment}
+use Rattle.gx_rules.specs.Segments.{Seg, new_segment}
 
 -- an envelope that was sent on a link in these steps, with the clock of the sender's step
 pub record IsPosted (steps : List Step) (from to : Node) (number : ℕ) (envelope : Envelope) : Type 0 where
