@@ -1,0 +1,157 @@
+-- What a segment does when a message comes: one function a message, by the transaction's phase there.
+use Rattle.std.specs.Prelude.{ℕ, ◌+◌, ◌==◌, nat_lt, Bool, true, false, if◌then◌else◌, List, [], ◌∷◌, ◌++◌, length, Some, None}
+use Rattle.std.specs.declared.option.Option.{Option}
+use Rattle.gx_ids.specs.declared.ids.Cid.{Cid}
+use Rattle.gx_ids.specs.declared.ids.Gxid.{Gxid}
+use Rattle.gx_tree.specs.declared.slice.Slice.{Slice}
+use Rattle.gx_dsnap.specs.Gxids.{is_below}
+use Rattle.gx_dsnap.specs.declared.snapshot.Snapshot.{Snapshot}
+use Rattle.gx_msg.specs.declared.item.JournalItem.{JournalItem}
+use Rattle.gx_msg.specs.declared.item.JournalItem.TheVariants as item
+use Rattle.gx_msg.specs.declared.message.Message.{Message}
+use Rattle.gx_msg.specs.declared.message.Message.TheVariants as message
+use Rattle.gx_msg.specs.declared.reply.Reply.{Reply}
+use Rattle.gx_msg.specs.declared.reply.Reply.TheVariants as answer
+use Rattle.gx_script.specs.declared.Script.{Script}
+use Rattle.gx_store.specs.declared.mark.Mark.{Mark}
+use Rattle.gx_store.specs.declared.mark.Mark.TheVariants as mark
+use Rattle.gx_store.specs.declared.node.NodeEvent.{NodeEvent}
+use Rattle.gx_store.specs.declared.node.NodeEvent.TheVariants.{Deliver}
+use Rattle.gx_rules.specs.Fits.{fits_exec}
+use Rattle.gx_rules.specs.Sending.{clock_after, numbered}
+use Rattle.gx_rules.specs.Segments.{Local, Phase, Seg, SegTurn, has_committed, local_of, reply, stays, tells, tells_kept, with_local}
+use Rattle.gx_rules.specs.Segments.Phase.{Reading, Writing, Prepared, Committed, Forgotten, Aborted}
+use Rattle.gx_rules.specs.Shown.{kept_of}
+use Rattle.gx_rules.specs.Slices.{runs_slice}
+
+-- the transaction's record changes, with a mark before the answer
+abbrev pub changes : Seg → Gxid → Local → List Mark → Reply → Option JournalItem → SegTurn
+changes s g l marks r it = record { seg = with_local s g l; marks = marks; outs = reply g r ∷ []; item = it }
+
+-- EXEC
+-- A command that is new raises the horizon and runs; the last one is answered again with what was kept; an older one is
+-- nothing. A transaction that has promised to commit takes no new command.
+abbrev pub raised : Seg → Gxid → Seg
+raised s h = record s { horizon = if is_below h s.horizon then h else s.horizon }
+
+abbrev pub repeats : Seg → Gxid → Cid → Local → SegTurn
+repeats s g c l = if c.0 == l.last then tells_kept s g l.answer else stays s
+
+abbrev pub takes : Seg → Gxid → Cid → Option Snapshot → Gxid → Slice → Local → SegTurn
+takes s g c snapshot h slice l = if nat_lt l.last c.0 then runs_slice (raised s h) g c snapshot slice else repeats s g c l
+
+abbrev pub on_exec : Seg → Gxid → Cid → Option Snapshot → Gxid → Slice → Local → Phase → SegTurn
+on_exec s g c snapshot h slice l Reading = takes s g c snapshot h slice l
+on_exec s g c snapshot h slice l Writing = takes s g c snapshot h slice l
+on_exec s g c snapshot h slice l Prepared = repeats s g c l
+on_exec s g c snapshot h slice l Committed = repeats s g c l
+on_exec s g c snapshot h slice l _ = stays s
+
+-- PREPARE
+-- It is answered once, and then always with what was kept.
+abbrev pub once : Seg → Gxid → Option Reply → SegTurn → SegTurn
+once s g None new = new
+once s g (Some vote) new = tells s g vote
+
+-- the journal refuses an item, which is the answer
+abbrev pub is_refused : Seg → Gxid → Local → JournalItem → SegTurn
+is_refused s g l it = changes s g (record l { vote = Some answer.Jfault }) (mark.JournalFailed s.node g ∷ []) answer.Jfault (Some it)
+
+abbrev pub promises : Seg → Gxid → Bool → Local → SegTurn
+promises s g true l = is_refused s g l (item.Prepare g (kept_of s g))
+promises s g false l =
+    changes s g (record l { phase = Prepared; vote = Some answer.Prepared }) (mark.Prepared s.node g ∷ []) answer.Prepared (Some (item.Prepare g (kept_of s g)))
+
+abbrev pub on_prepare : Seg → Gxid → Bool → Local → Phase → SegTurn
+on_prepare s g fails l Reading = once s g l.vote (promises s g fails l)
+on_prepare s g fails l Writing = once s g l.vote (promises s g fails l)
+on_prepare s g fails l Aborted = stays s
+on_prepare s g fails l _ = tells_kept s g l.vote
+
+-- COMMIT
+-- It is for who was never prepared there.
+abbrev pub was_prepared : Option Reply → Bool
+was_prepared (Some answer.Prepared) = true
+was_prepared _ = false
+
+abbrev pub commits : Seg → Gxid → Bool → Local → SegTurn
+commits s g true l = is_refused s g l (item.Commit g (kept_of s g))
+commits s g false l =
+    changes s g (record l { phase = Committed; vote = Some answer.Committed }) (mark.LocalCommit s.node g ∷ []) answer.Committed (Some (item.Commit g (kept_of s g)))
+
+abbrev pub on_commit : Seg → Gxid → Bool → Local → Phase → SegTurn
+on_commit s g fails l Reading = once s g l.vote (commits s g fails l)
+on_commit s g fails l Writing = once s g l.vote (commits s g fails l)
+on_commit s g fails l Committed = if was_prepared l.vote then stays s else tells_kept s g l.vote
+on_commit s g fails l (Forgotten committed) = if was_prepared l.vote then stays s else tells_kept s g l.vote
+on_commit s g fails l _ = stays s
+
+-- COMMIT PREPARED
+-- It commits who is prepared; where the journal fails, nothing changes and the message must come again.
+abbrev pub finishes : Seg → Gxid → Bool → Local → SegTurn
+finishes s g true l = changes s g l (mark.JournalFailed s.node g ∷ []) answer.Again (Some (item.Finish g))
+finishes s g false l = changes s g (record l { phase = Committed }) (mark.LocalCommit s.node g ∷ []) answer.Committed (Some (item.Finish g))
+
+abbrev pub on_commit_prepared : Seg → Gxid → Bool → Local → Phase → SegTurn
+on_commit_prepared s g fails l Prepared = finishes s g fails l
+on_commit_prepared s g fails l Committed = tells s g answer.Committed
+on_commit_prepared s g fails l (Forgotten true) = tells s g answer.Committed
+on_commit_prepared s g fails l _ = stays s
+
+-- ABORT
+-- Whoever has not committed there is aborted, also one that is unknown there.
+abbrev pub aborts : Seg → Gxid → Local → SegTurn
+aborts s g l = changes s g (record l { phase = Aborted }) [] answer.Aborted None
+
+abbrev pub on_abort : Seg → Gxid → Local → Phase → SegTurn
+on_abort s g l Reading = aborts s g l
+on_abort s g l Writing = aborts s g l
+on_abort s g l Prepared = aborts s g l
+on_abort s g l Aborted = tells s g answer.Aborted
+on_abort s g l _ = stays s
+
+-- FORGET
+abbrev pub forgets : Seg → Gxid → Local → SegTurn
+forgets s g l = changes s g (record l { phase = Forgotten (has_committed l.phase) }) [] answer.Forgotten None
+
+abbrev pub on_forget : Seg → Gxid → Local → Phase → SegTurn
+on_forget s g l Aborted = stays s
+on_forget s g l (Forgotten committed) = tells s g answer.Forgotten
+on_forget s g l _ = forgets s g l
+
+-- ALL MESSAGES
+-- of a transaction below the horizon nothing is done
+abbrev pub unless_below : Seg → Gxid → SegTurn → SegTurn
+unless_below s g turn = if is_below s.horizon g then stays s else turn
+
+abbrev pub if_fits : Seg → Bool → SegTurn → SegTurn
+if_fits s true turn = turn
+if_fits s false turn = stays s
+
+abbrev pub on_message : Script → Seg → Bool → Message → SegTurn
+on_message script s fails (message.Exec g c level snapshot h slice) =
+    unless_below s g (if_fits s (fits_exec script s g c snapshot h slice) (on_exec s g c snapshot h slice (local_of s g) (local_of s g).phase))
+on_message script s fails (message.Prepare g) = unless_below s g (on_prepare s g fails (local_of s g) (local_of s g).phase)
+on_message script s fails (message.Commit g) = unless_below s g (on_commit s g fails (local_of s g) (local_of s g).phase)
+on_message script s fails (message.CommitPrepared g) = unless_below s g (on_commit_prepared s g fails (local_of s g) (local_of s g).phase)
+on_message script s fails (message.Abort g) = unless_below s g (on_abort s g (local_of s g) (local_of s g).phase)
+on_message script s fails (message.Forget g) = unless_below s g (on_forget s g (local_of s g) (local_of s g).phase)
+on_message script s fails _ = stays s
+
+-- THE RULE
+abbrev pub on_event : Script → Seg → NodeEvent → Bool → SegTurn
+on_event script s (Deliver from envelope) fails = on_message script s fails envelope.message
+on_event script s _ fails = stays s
+
+-- the marks of sendings stand behind the others, with the next numbers of the link
+abbrev pub seg_sends : ℕ → SegTurn → SegTurn
+seg_sends clock turn =
+    record turn {
+      seg = record turn.seg { sent = turn.seg.sent + length turn.outs; clock = clock };
+      marks = turn.marks ++ numbered (λ node. turn.seg.sent) turn.outs;
+    }
+
+-- A segment's rule: from its data, the event and whether its journal fails to take an item to the new data, the marks, the
+-- messages and the item. Resumptions aren't built yet.
+abbrev pub seg_rule : Script → Seg → NodeEvent → Bool → SegTurn
+seg_rule script s event fails = seg_sends (clock_after s.clock event) (on_event script s event fails)

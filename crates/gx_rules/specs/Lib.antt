@@ -1,0 +1,16 @@
+pub mod Maps
+pub mod Gxids
+pub mod Snapshots
+pub mod Sending
+pub mod Segments
+pub mod Shown
+pub mod Slices
+pub mod Fits
+pub mod AtSegment
+pub mod Merged
+pub mod Coordinators
+pub mod AtCoordinator
+pub mod Machine
+pub mod System
+pub mod Rows
+pub mod Expected

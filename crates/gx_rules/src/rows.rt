@@ -1,0 +1,34 @@
+//! Small runs of the machine, whose marks, answers and journals are computed.
+
+ghost use Rattle.gx_rules.specs.Expected.{CommitsByOne, FinishesLost, KeepsSnapshot, ReadsBetween, RefusesPromise, RunsOnce, between, kept_run, lost, one_phase, refused_run, repeated};
+
+/// A block that has written at one segment commits there at once: nothing is promised or decided, and both segments that
+/// a command went to are told to forget.
+pub fn one_phase_commit()
+    ensures { CommitsByOne one_phase }
+{}
+
+/// A lost answer to COMMIT PREPARED brings the message again, and each segment commits once.
+pub fn lost_committed()
+    ensures { FinishesLost lost }
+{}
+
+/// An EXEC that comes twice runs once.
+pub fn repeated_exec()
+    ensures { RunsOnce repeated }
+{}
+
+/// A journal that refuses a promise aborts the transaction at both segments, and names its node.
+pub fn refused_promise()
+    ensures { RefusesPromise refused_run }
+{}
+
+/// A reader between the two local commits of a transaction sees none of its rows, and the next one sees both.
+pub fn reader_between_commits()
+    ensures { ReadsBetween between }
+{}
+
+/// A repeatable-read block reads the same before and after a commit of a transaction that began before it.
+pub fn kept_snapshot()
+    ensures { KeepsSnapshot kept_run }
+{}
