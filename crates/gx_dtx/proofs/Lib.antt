@@ -6,3 +6,6 @@ pub mod Keeps
 pub mod Fitting
 pub mod Sees
 pub mod Made
+pub mod Steps
+pub mod Has
+pub mod Agreeing
