@@ -16,7 +16,7 @@ use Rattle.gx_dtx.specs.Table.{new_txn, status_in}
 use Rattle.gx_dtx.specs.Rules.{stays, moved, commits, aborts, ends_committed, takes, prepares, decides, finishes, forgets, gives_up as gives_up_at, refuses, is_awaited, commit_found, abort_found, reply_found}
 use Rattle.gx_dtx.specs.Past.{Past, Fate, past_of, gives_up, came, answered, asked, AreAmong, HaveCommitted}
 use Rattle.gx_dtx.specs.Past.Fate.{Open, Decided, Committed, GivenUp, Aborted}
-use Rattle.gx_dtx.specs.Agrees.{Stands, Known, Gone, Agrees, AreIn, AreRest}
+use Rattle.gx_dtx.specs.Agrees.{Stands, Known, Gone, Agrees, AreIn, AreRest, Somebody}
 use Rattle.gx_dtx.proofs.Has.{has-with, has-without, has-same}
 use Rattle.gx_dtx.proofs.Steps.{stepped}
 
@@ -37,6 +37,9 @@ in-all ns others = λ i is isnt. absurd (cc)
 -- nobody is enlisted where nobody takes part
 among-nobody : (enlisted participants others : List Node) → ((i : Node) → has i participants ≡ has i enlisted) → participants ≡ [] → AreAmong enlisted others
 among-nobody enlisted participants others are none = λ i is. let isnt : has i [] ≡ true = ap (has i) (sym none) ∙ are i ∙ is in absurd (cc)
+
+somebody : (i : Node) (is : List Node) → Somebody (i ∷ is)
+somebody i is = (i, grind (arith, nat_tests))
 
 -- one of those that are awaited has answered
 in-less : (i : Node) (ns awaited others : List Node) → AreIn ns awaited others → AreIn ns (without i awaited) (i ∷ others)
@@ -91,7 +94,7 @@ Turns p o c = Agrees (came c.out.outcome p) (stepped c.step o)
 module _ (g : Gxid) (t : Txn) (p : Past) (begun : p.begun ≡ true) (same : (i : Node) → has i t.participants ≡ has i p.enlisted) where
   ends : (ns : List Node) → t.participants ≡ ns → HaveCommitted p.writers p.prepared p.finished → Turns p (Some t) (ends_committed g ns)
   ends [] are have = (refl, (begun, have, among-nobody p.enlisted t.participants [] same are))
-  ends (i ∷ is) are have = record { begun = begun; participants = same; live = refl; stands = (refl, refl, have, subst (λ (ns : List Node). AreRest ns t.participants []) are (rest-all t.participants)) }
+  ends (i ∷ is) are have = record { begun = begun; participants = same; live = refl; stands = (refl, refl, have, subst (λ (ns : List Node). AreRest ns t.participants []) are (rest-all t.participants), somebody i is) }
 
   refused : (i : Node) → Turns p (Some t) (refuses g t.participants i)
   refused i = record { begun = begun; participants = same; live = refl; stands = (refl, refl, rest-all t.participants) }
@@ -119,7 +122,7 @@ module _ (g : Gxid) (t : Txn) (p : Past) (begun : p.begun ≡ true) (same : (i :
 
   forgotten : (rest : List Node) → p.fate ≡ Committed → p.live ≡ None → HaveCommitted p.writers p.prepared p.finished → AreRest rest t.participants p.forgotten → Turns p (Some t) (forgets rest)
   forgotten [] is none have are = (none, subst (Gone p) (sym is) (begun, have, rest-last [] t.participants p.forgotten p.enlisted are refl same))
-  forgotten (i ∷ is') is none have are = record { begun = begun; participants = same; live = sym none; stands = (is, none, have, are) }
+  forgotten (i ∷ is') is none have are = record { begun = begun; participants = same; live = sym none; stands = (is, none, have, are, somebody i is') }
 
   given_up : (rest : List Node) → p.fate ≡ GivenUp → p.live ≡ None → AreRest rest t.participants p.aborted → Turns p (Some t) (gives_up_at rest)
   given_up [] is none are = (refl, (begun, rest-last [] t.participants p.aborted p.enlisted are refl same))
@@ -186,9 +189,9 @@ stands-more p ns i (phase.CommittingTwo aw) answer.Prepared isnt s = (s.0, among
 stands-more p ns i (phase.CommittingTwo aw) answer.Committed isnt s = (s.0, s.1, in-more i p.writers aw p.finished s.2)
 stands-more p ns i (phase.CommittingTwo aw) answer.Forgotten isnt s = s
 stands-more p ns i (phase.CommittingTwo aw) answer.Aborted isnt s = s
-stands-more p ns i (phase.Ended aw) answer.Prepared isnt s = (s.0, s.1, committed-more p.writers p.prepared p.finished (i ∷ p.prepared) p.finished (more i p.prepared) (λ j is. is) s.2, s.3)
-stands-more p ns i (phase.Ended aw) answer.Committed isnt s = (s.0, s.1, committed-more p.writers p.prepared p.finished p.prepared (i ∷ p.finished) (λ j is. is) (more i p.finished) s.2, s.3)
-stands-more p ns i (phase.Ended aw) answer.Forgotten isnt s = (s.0, s.1, s.2, rest-unawaited i aw ns p.forgotten isnt s.3)
+stands-more p ns i (phase.Ended aw) answer.Prepared isnt s = (s.0, s.1, committed-more p.writers p.prepared p.finished (i ∷ p.prepared) p.finished (more i p.prepared) (λ j is. is) s.2, s.3, s.4)
+stands-more p ns i (phase.Ended aw) answer.Committed isnt s = (s.0, s.1, committed-more p.writers p.prepared p.finished p.prepared (i ∷ p.finished) (λ j is. is) (more i p.finished) s.2, s.3, s.4)
+stands-more p ns i (phase.Ended aw) answer.Forgotten isnt s = (s.0, s.1, s.2, rest-unawaited i aw ns p.forgotten isnt s.3, s.4)
 stands-more p ns i (phase.Ended aw) answer.Aborted isnt s = s
 stands-more p ns i (phase.Aborting aw) answer.Prepared isnt s = s
 stands-more p ns i (phase.Aborting aw) answer.Committed isnt s = s
@@ -253,7 +256,7 @@ stands-live p ns phase.Active s = s
 stands-live p ns (phase.Preparing _ _) s = s
 stands-live p ns (phase.CommittingOne _) s = s
 stands-live p ns (phase.CommittingTwo _) s = s
-stands-live p ns (phase.Ended _) s = (s.0, refl, s.2, s.3)
+stands-live p ns (phase.Ended _) s = (s.0, refl, s.2, s.3, s.4)
 stands-live p ns (phase.Aborting _) s = (s.0, refl, s.2)
 
 gone-live : (p : Past) (f : Fate) → Gone p f → Gone (record p { live = None }) f

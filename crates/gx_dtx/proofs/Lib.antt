@@ -9,3 +9,4 @@ pub mod Made
 pub mod Steps
 pub mod Has
 pub mod Agreeing
+pub mod History

@@ -16,13 +16,17 @@ AreIn nodes awaited others = (i : Node) → has i nodes ≡ true → has i await
 abbrev pub AreRest : List Node → List Node → List Node → Type 0
 AreRest awaited nodes others = (i : Node) → has i awaited ≡ (has i nodes && not (has i others))
 
+-- there is a node
+abbrev pub Somebody : List Node → Type 0
+Somebody nodes = (i : Node) × (has i nodes ≡ true)
+
 -- what the phase says of the past
 abbrev pub Stands : Past → List Node → Phase → Type 0
 Stands p participants Active = p.fate ≡ Open
 Stands p participants (Preparing writers awaited) = (p.fate ≡ Open) × (p.writers ≡ writers) × AreIn writers awaited p.prepared
 Stands p participants (CommittingOne w) = (p.fate ≡ Open) × (p.writers ≡ w ∷ [])
 Stands p participants (CommittingTwo awaited) = (p.fate ≡ Decided) × AreAmong p.writers p.prepared × AreIn p.writers awaited p.finished
-Stands p participants (Ended awaited) = (p.fate ≡ Committed) × (p.live ≡ None) × HaveCommitted p.writers p.prepared p.finished × AreRest awaited participants p.forgotten
+Stands p participants (Ended awaited) = (p.fate ≡ Committed) × (p.live ≡ None) × HaveCommitted p.writers p.prepared p.finished × AreRest awaited participants p.forgotten × Somebody awaited
 Stands p participants (Aborting awaited) = (p.fate ≡ GivenUp) × (p.live ≡ None) × AreRest awaited participants p.aborted
 
 -- a transaction in the table

@@ -1,9 +1,10 @@
 -- What has come of one transaction, by the calls alone.
-use Rattle.std.specs.Prelude.{◌≡◌, ◌==◌, Bool, true, false, List, [], ◌∷◌, IsTrue, Option, None, Some, if◌then◌else◌}
+use Rattle.std.specs.Prelude.{◌≡◌, ◌⊎◌, ◌==◌, Bool, true, false, List, [], ◌∷◌, IsTrue, Option, None, Some, if◌then◌else◌}
 use Rattle.gx_ids.specs.declared.ids.Gxid.{Gxid}
 use Rattle.gx_ids.specs.declared.ids.Node.{Node}
 use Rattle.gx_msg.specs.declared.reply.Reply.{Reply as Answer}
 use Rattle.gx_msg.specs.declared.reply.Reply.TheVariants as answer
+use Rattle.gx_dtx.specs.declared.order.Order.{Order}
 use Rattle.gx_dtx.specs.declared.outcome.Outcome.{Outcome}
 use Rattle.gx_dtx.specs.declared.outcome.Outcome.TheVariants as outcome
 use Rattle.gx_dtx.specs.Nodes.{has}
@@ -99,3 +100,13 @@ abbrev pub HaveCommitted : List Node → List Node → List Node → Type 0
 HaveCommitted [] prepared finished = Unit {0}
 HaveCommitted (w ∷ []) prepared finished = AreAmong (w ∷ []) finished
 HaveCommitted (w ∷ v ∷ ws) prepared finished = AreAmong (w ∷ v ∷ ws) prepared × AreAmong (w ∷ v ∷ ws) finished
+
+-- nobody has to know of the transaction: it hasn't begun, or it is committed and forgotten by all where its commands
+-- went, or it is aborted
+abbrev pub IsForgotten : Past → Type 0
+IsForgotten p = (p.begun ≡ false) ⊎ (((p.fate ≡ Committed) × AreAmong p.enlisted p.forgotten) ⊎ (p.fate ≡ Aborted))
+
+-- the order to a node that goes on until it has answered
+abbrev pub until : Order → Bool → Option Order
+until order true = None
+until order false = Some order

@@ -198,6 +198,14 @@ reply_found g i answer refused (Some t) = if is_awaited t.phase i answer then ta
 abbrev pub on_reply : Table → Gxid → Node → Reply → Bool → Turn
 on_reply d g i answer refused = turns d g (reply_found g i answer refused (find_txn d g))
 
+abbrev pub awaits_found : Node → Reply → Option Txn → Bool
+awaits_found i answer None = false
+awaits_found i answer (Some t) = is_awaited t.phase i answer
+
+-- whether this answer of the node about the transaction is awaited
+abbrev pub awaits : Table → Gxid → Node → Reply → Bool
+awaits d g i answer = awaits_found i answer (find_txn d g)
+
 -- whether a transaction of this phase is decided by this answer, if the journal takes the item
 abbrev pub is_last : List Node → Bool
 is_last [] = true
