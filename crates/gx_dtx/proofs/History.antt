@@ -99,7 +99,7 @@ over-in p ns (phase.CommittingTwo _) s = ap is_over (sym s.0)
 over-in p ns (phase.Ended _) s = ap is_over (sym s.0)
 over-in p ns (phase.Aborting _) s = ap is_over (sym s.0)
 
-gone-over : (p : Past) (f : Fate) → Gone p f → p.begun ≡ is_over f
+pub gone-over : (p : Past) (f : Fate) → Gone p f → p.begun ≡ is_over f
 gone-over p Open gone = gone
 gone-over p Decided gone = absurd gone
 gone-over p Committed gone = gone.0

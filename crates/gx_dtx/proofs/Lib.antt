@@ -10,3 +10,5 @@ pub mod Steps
 pub mod Has
 pub mod Agreeing
 pub mod History
+pub mod Low
+pub mod Promises

@@ -7,3 +7,4 @@ pub mod Whole
 pub mod Fits
 pub mod Past
 pub mod Agrees
+pub mod Laws

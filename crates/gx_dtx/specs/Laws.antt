@@ -1,0 +1,54 @@
+-- What is promised of every list of calls.
+use Rattle.std.specs.Prelude.{◌≡◌, ◌≤◌, ◌<◌, ◌⊎◌, Bool, true, false, Some, None}
+use Rattle.gx_ids.specs.declared.ids.Gxid.{Gxid}
+use Rattle.gx_ids.specs.declared.ids.Node.{Node}
+use Rattle.gx_msg.specs.declared.reply.Reply.{Reply}
+use Rattle.gx_msg.specs.declared.reply.Reply.TheVariants as reply
+use Rattle.gx_dtx.specs.declared.order.Order.TheVariants as order
+use Rattle.gx_dtx.specs.declared.outcome.Outcome.{Outcome}
+use Rattle.gx_dtx.specs.declared.outcome.Outcome.TheVariants as outcome
+use Rattle.gx_dtx.specs.Nodes.{has}
+use Rattle.gx_dtx.specs.Table.{Table, find_txn, runs, horizon_of, status_of}
+use Rattle.gx_dtx.specs.Rules.{on_reply, awaits, is_deciding, awaited_order}
+use Rattle.gx_dtx.specs.Past.{Past, is_over, AreAmong, HaveCommitted, IsForgotten, until}
+use Rattle.gx_dtx.specs.Past.Fate.{Open, Decided, Committed, GivenUp, Aborted}
+
+-- the horizon is at or below a transaction that isn't over, one that somebody hasn't forgotten, and the xmin of a live
+-- snapshot
+pub record IsLow (horizon : Gxid) (g : Gxid) (p : Past) : Type 0 where
+  pub running : p.begun ≡ true → is_over p.fate ≡ false → horizon.0 ≤ g.0
+  pub unforgotten : (i : Node) → p.fate ≡ Committed → has i p.enlisted ≡ true → has i p.forgotten ≡ false → horizon.0 ≤ g.0
+  pub live : (x : Gxid) → p.live ≡ Some x → horizon.0 ≤ x.0
+
+-- a transaction is decided once all its writers have promised, and commits once they have done what a commit asks
+pub record KeepsProtocol (p : Past) : Type 0 where
+  pub decided : p.fate ≡ Decided → AreAmong p.writers p.prepared
+  pub committed : p.fate ≡ Committed → HaveCommitted p.writers p.prepared p.finished
+  pub aborted : p.fate ≡ Aborted → AreAmong p.enlisted p.aborted
+
+-- where its commands went, each node is told to forget a committed transaction, or to abort one that is given up,
+-- until it has answered so
+pub record IsTold (d : Table) (g : Gxid) (p : Past) : Type 0 where
+  pub forget : (i : Node) → p.fate ≡ Committed → has i p.enlisted ≡ true → awaited_order d g i ≡ until order.Forget (has i p.forgotten)
+  pub abort : (i : Node) → p.fate ≡ GivenUp → has i p.enlisted ≡ true → awaited_order d g i ≡ until order.Abort (has i p.aborted)
+
+-- the transaction ran before the answer, and doesn't any more
+pub record IsEnding (d : Table) (g : Gxid) (i : Node) (answer : Reply) (refused : Bool) : Type 0 where
+  pub ran : runs (find_txn d g) ≡ true
+  pub ended : runs (find_txn (on_reply d g i answer refused).table g) ≡ false
+
+-- what is due where an answer decides, or is an awaited JFAULT
+pub record HasEffect (d : Table) (g : Gxid) (i : Node) (answer : Reply) (refused : Bool) : Type 0 where
+  pub jfault : awaits d g i answer ≡ true → answer ≡ reply.Jfault → (on_reply d g i answer refused).out.outcome ≡ outcome.Refused i
+  pub refused_by_journal : is_deciding d g i answer ≡ true → refused ≡ true → (on_reply d g i answer refused).out.outcome ≡ outcome.Refused (record { 0 = 0 })
+  pub decided : is_deciding d g i answer ≡ true → refused ≡ false → (on_reply d g i answer refused).out.outcome ≡ outcome.Decided
+
+-- the cause of an outcome of an answer: of Refused an awaited JFAULT of that node, or the own journal where it had to
+-- append; of Decided that item, appended; of Committed and Ended that the transaction ran before and doesn't any more
+abbrev pub HasCause : Table → Gxid → Node → Reply → Bool → Outcome → Type 0
+HasCause d g i answer refused outcome.Pending = runs (find_txn (on_reply d g i answer refused).table g) ≡ runs (find_txn d g)
+HasCause d g i answer refused outcome.Decided = (is_deciding d g i answer ≡ true) × (refused ≡ false)
+HasCause d g i answer refused (outcome.Refused j) =
+    ((j ≡ i) × (awaits d g i answer ≡ true) × (answer ≡ reply.Jfault)) ⊎ ((j.0 ≡ 0) × (is_deciding d g i answer ≡ true) × (refused ≡ true))
+HasCause d g i answer refused outcome.Committed = IsEnding d g i answer refused
+HasCause d g i answer refused outcome.Ended = IsEnding d g i answer refused
