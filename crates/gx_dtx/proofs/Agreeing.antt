@@ -165,7 +165,7 @@ gone-more p i answer.Jfault f gone = gone
 gone-more p i answer.Again f gone = gone
 
 -- it leaves all but its own list
-fate-same : (p : Past) (i : Node) (a : Answer) → (answered i a p).fate ≡ p.fate
+pub fate-same : (p : Past) (i : Node) (a : Answer) → (answered i a p).fate ≡ p.fate
 fate-same p i answer.Prepared = refl
 fate-same p i answer.Committed = refl
 fate-same p i answer.Forgotten = refl

@@ -25,7 +25,7 @@ use Rattle.gx_dtx.specs.Whole.{IsWhole}
 use Rattle.gx_dtx.proofs.Steps.{turned, find-on, IsWhole-after}
 use Rattle.gx_dtx.proofs.Agreeing.{begun-agrees, snapped, dropped, enlisted-agrees, commit-agrees, abort-agrees, replied}
 
-same_gxid : (g q : Gxid) → eqb q.0 g.0 ≡ true → g ≡ q
+pub same_gxid : (g q : Gxid) → eqb q.0 g.0 ≡ true → g ≡ q
 same_gxid g q same = grind (arith, nat_tests)
 
 -- a call about a transaction

@@ -12,3 +12,5 @@ pub mod Agreeing
 pub mod History
 pub mod Low
 pub mod Promises
+pub mod Causes
+pub mod Over
