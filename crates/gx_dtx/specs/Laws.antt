@@ -1,5 +1,5 @@
 -- What is promised of every list of calls.
-use Rattle.std.specs.Prelude.{◌≡◌, ◌≤◌, ◌<◌, ◌⊎◌, Bool, true, false, Some, None}
+use Rattle.std.specs.Prelude.{◌≡◌, ◌≤◌, ◌<◌, ◌⊎◌, ◌&&◌, not, Bool, true, false, Some, None}
 use Rattle.gx_ids.specs.declared.ids.Gxid.{Gxid}
 use Rattle.gx_ids.specs.declared.ids.Node.{Node}
 use Rattle.gx_msg.specs.declared.reply.Reply.{Reply}
@@ -7,9 +7,10 @@ use Rattle.gx_msg.specs.declared.reply.Reply.TheVariants as reply
 use Rattle.gx_dtx.specs.declared.order.Order.TheVariants as order
 use Rattle.gx_dtx.specs.declared.outcome.Outcome.{Outcome}
 use Rattle.gx_dtx.specs.declared.outcome.Outcome.TheVariants as outcome
+use Rattle.gx_dtx.specs.declared.status.Status.TheVariants as status
 use Rattle.gx_dtx.specs.Nodes.{has}
 use Rattle.gx_dtx.specs.Table.{Table, find_txn, runs, horizon_of, status_of}
-use Rattle.gx_dtx.specs.Rules.{on_reply, awaits, is_deciding, awaited_order}
+use Rattle.gx_dtx.specs.Rules.{on_reply, ends, awaits, is_deciding, awaited_order}
 use Rattle.gx_dtx.specs.Past.{Past, is_over, AreAmong, HaveCommitted, IsForgotten, until}
 use Rattle.gx_dtx.specs.Past.Fate.{Open, Decided, Committed, GivenUp, Aborted}
 
@@ -32,23 +33,25 @@ pub record IsTold (d : Table) (g : Gxid) (p : Past) : Type 0 where
   pub forget : (i : Node) → p.fate ≡ Committed → has i p.enlisted ≡ true → awaited_order d g i ≡ until order.Forget (has i p.forgotten)
   pub abort : (i : Node) → p.fate ≡ GivenUp → has i p.enlisted ≡ true → awaited_order d g i ≡ until order.Abort (has i p.aborted)
 
--- the transaction ran before the answer, and doesn't any more
-pub record IsEnding (d : Table) (g : Gxid) (i : Node) (answer : Reply) (refused : Bool) : Type 0 where
-  pub ran : runs (find_txn d g) ≡ true
-  pub ended : runs (find_txn (on_reply d g i answer refused).table g) ≡ false
-
 -- what is due where an answer decides, or is an awaited JFAULT
 pub record HasEffect (d : Table) (g : Gxid) (i : Node) (answer : Reply) (refused : Bool) : Type 0 where
   pub jfault : awaits d g i answer ≡ true → answer ≡ reply.Jfault → (on_reply d g i answer refused).out.outcome ≡ outcome.Refused i
   pub refused_by_journal : is_deciding d g i answer ≡ true → refused ≡ true → (on_reply d g i answer refused).out.outcome ≡ outcome.Refused (record { 0 = 0 })
   pub decided : is_deciding d g i answer ≡ true → refused ≡ false → (on_reply d g i answer refused).out.outcome ≡ outcome.Decided
 
--- the cause of an outcome of an answer: of Refused an awaited JFAULT of that node, or the own journal where it had to
--- append; of Decided that item, appended; of Committed and Ended that the transaction ran before and doesn't any more
-abbrev pub HasCause : Table → Gxid → Node → Reply → Bool → Outcome → Type 0
-HasCause d g i answer refused outcome.Pending = runs (find_txn (on_reply d g i answer refused).table g) ≡ runs (find_txn d g)
-HasCause d g i answer refused outcome.Decided = (is_deciding d g i answer ≡ true) × (refused ≡ false)
-HasCause d g i answer refused (outcome.Refused j) =
+-- why an answer comes to an outcome: to Decided since the decide item was appended; to Refused since an awaited JFAULT
+-- of that node came, or since the own journal failed where it had to append; to Committed in the commit's last phase;
+-- to Ended in an abort
+abbrev pub Reason : Table → Gxid → Node → Reply → Bool → Outcome → Type 0
+Reason d g i answer refused outcome.Pending = Unit {0}
+Reason d g i answer refused outcome.Decided = (is_deciding d g i answer ≡ true) × (refused ≡ false)
+Reason d g i answer refused (outcome.Refused j) =
     ((j ≡ i) × (awaits d g i answer ≡ true) × (answer ≡ reply.Jfault)) ⊎ ((j.0 ≡ 0) × (is_deciding d g i answer ≡ true) × (refused ≡ true))
-HasCause d g i answer refused outcome.Committed = IsEnding d g i answer refused
-HasCause d g i answer refused outcome.Ended = IsEnding d g i answer refused
+Reason d g i answer refused outcome.Committed = status_of d g ≡ Some status.Committing
+Reason d g i answer refused outcome.Ended = status_of d g ≡ Some status.Aborting
+
+-- an outcome of an answer has its reason, and it is Committed or Ended exactly where the transaction ran before and
+-- doesn't any more
+pub record HasCause (d : Table) (g : Gxid) (i : Node) (answer : Reply) (refused : Bool) (out : Outcome) : Type 0 where
+  pub reason : Reason d g i answer refused out
+  pub ended : ends out ≡ (runs (find_txn d g) && not (runs (find_txn (on_reply d g i answer refused).table g)))
