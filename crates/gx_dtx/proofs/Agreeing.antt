@@ -1,7 +1,7 @@
 -- Each rule keeps what the table tells of one transaction's past.
 use Rattle.std.proofs.Common.{◌≡◌, List, [], ◌∷◌, refl, sym, ap, subst, ◌∙◌, Bool, true, false, cond, eqb, arith}
 use Rattle.std.proofs.lemmas.Bool.Decides.{nat_tests}
-use Rattle.std.specs.Prelude.{Option, None, Some, option_map, ◌&&◌, not}
+use Rattle.std.specs.Prelude.{Option, None, Some, option_map}
 use Rattle.gx_ids.specs.declared.ids.Gxid.{Gxid}
 use Rattle.gx_ids.specs.declared.ids.Node.{Node}
 use Rattle.gx_msg.specs.declared.reply.Reply.{Reply as Answer}
@@ -13,7 +13,7 @@ use Rattle.gx_dtx.specs.declared.status.Status.TheVariants as status
 use Rattle.gx_dtx.specs.declared.txn.Txn.{Txn}
 use Rattle.gx_dtx.specs.Nodes.{has, without, with_node}
 use Rattle.gx_dtx.specs.Table.{new_txn, status_in}
-use Rattle.gx_dtx.specs.Rules.{stays, moved, commits, aborts, ends_committed, takes, prepares, decides, finishes, forgets, gives_up as gives_up_at, refuses, is_awaited, commit_found, abort_found, reply_found}
+use Rattle.gx_dtx.specs.Rules.{stays, commits, aborts, ends_committed, takes, prepares, decides, finishes, forgets, gives_up as gives_up_at, refuses, is_awaited, commit_found, abort_found, reply_found}
 use Rattle.gx_dtx.specs.Past.{Past, Fate, past_of, gives_up, came, answered, asked, AreAmong, HaveCommitted}
 use Rattle.gx_dtx.specs.Past.Fate.{Open, Decided, Committed, GivenUp, Aborted}
 use Rattle.gx_dtx.specs.Agrees.{Stands, Known, Gone, Agrees, AreIn, AreRest, Somebody}

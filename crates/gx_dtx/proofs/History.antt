@@ -1,27 +1,24 @@
 -- The table after a run of calls tells each transaction's past.
-use Rattle.std.proofs.Common.{◌≡◌, ◌+◌, ◌<◌, List, [], ◌∷◌, refl, sym, ap, subst, ◌∙◌, Bool, true, false, cond, eqb, ltb, arith, inl, inr, ◌⊎◌, ⊎_elim}
+use Rattle.std.proofs.Common.{◌≡◌, ◌+◌, ◌<◌, List, [], ◌∷◌, refl, sym, ap, subst, ◌∙◌, Bool, true, false, cond, eqb, ltb, arith}
 use Rattle.std.proofs.lemmas.Bool.Decides.{nat_tests}
-use Rattle.std.specs.Prelude.{Option, None, Some, option_map, ◌&&◌, not}
+use Rattle.std.specs.Prelude.{Option, None, Some, ◌&&◌, not}
 use Rattle.gx_ids.specs.declared.ids.Gxid.{Gxid}
 use Rattle.gx_ids.specs.declared.ids.Node.{Node}
 use Rattle.gx_msg.specs.declared.reply.Reply.{Reply as Answer}
 use Rattle.gx_msg.specs.declared.reply.Reply.TheVariants as answer
-use Rattle.gx_dtx.specs.declared.order.Order.TheVariants as order
 use Rattle.gx_dtx.specs.declared.outcome.Outcome.{Outcome}
 use Rattle.gx_dtx.specs.declared.outcome.Outcome.TheVariants as outcome
 use Rattle.gx_dtx.specs.declared.phase.Phase.{Phase}
 use Rattle.gx_dtx.specs.declared.phase.Phase.TheVariants as phase
 use Rattle.gx_dtx.specs.declared.txn.Txn.{Txn}
 use Rattle.gx_dsnap.specs.Gxids.{is_below}
-use Rattle.gx_dtx.specs.Nodes.{has}
 use Rattle.gx_dtx.specs.Table.{Table, find_txn, runs, is_running, has_ended, xmin_of}
 use Rattle.gx_dtx.specs.Runs.{Call, on, after, Admits, IsRun}
 use Rattle.gx_dtx.specs.Runs.Call.{Begin, Snap, DropSnap, Enlist, Commit, Abort, Reply}
 use Rattle.gx_dtx.specs.Rules.{on_commit, on_abort, on_reply}
-use Rattle.gx_dtx.specs.Past.{Past, Fate, past, past_of, about, noted, came, answered, asked, gives_up, is_over, AreAmong, HaveCommitted}
+use Rattle.gx_dtx.specs.Past.{Past, Fate, past, past_of, about, noted, came, answered, asked, gives_up, is_over}
 use Rattle.gx_dtx.specs.Past.Fate.{Open, Decided, Committed, GivenUp, Aborted}
-use Rattle.gx_dtx.specs.Agrees.{Agrees, Known, Gone, Stands}
-use Rattle.gx_dtx.specs.Whole.{IsWhole}
+use Rattle.gx_dtx.specs.Agrees.{Agrees, Gone, Stands}
 use Rattle.gx_dtx.proofs.Steps.{turned, find-on, IsWhole-after}
 use Rattle.gx_dtx.proofs.Agreeing.{begun-agrees, snapped, dropped, enlisted-agrees, commit-agrees, abort-agrees, replied}
 

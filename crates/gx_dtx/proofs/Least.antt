@@ -1,5 +1,5 @@
 -- The least of a list.
-use Rattle.std.proofs.Common.{ap, ◌≡◌, ◌≤◌, List, [], ◌∷◌, ◌++◌, refl, arith, ⊎_elim, ◌⊎◌, inl, inr, sym, ◌∙◌}
+use Rattle.std.proofs.Common.{◌≡◌, ◌≤◌, List, [], ◌∷◌, ◌++◌, refl, arith, ⊎_elim, ◌⊎◌, inl, inr, sym, ◌∙◌}
 use Rattle.std.proofs.lemmas.Bool.Decides.{nat_tests}
 use Rattle.std.specs.Prelude.{All, Contains}
 use Rattle.std.proofs.lemmas.List.Elements.{All-cons, All-nil, All-push, Contains-append_right, Contains-append_left}

@@ -1,6 +1,6 @@
 -- The table after a change was made, and the changes of a transaction without participants.
-use Rattle.std.proofs.Common.{◌≡◌, ◌+◌, ◌<◌, List, [], ◌∷◌, ◌++◌, refl, sym, ap, subst, ◌∙◌, Bool, true, false, cond, arith}
-use Rattle.std.specs.Prelude.{Option, None, Some, option_map, All, IsTrue, length, Result, Ok, Err, OnOk, OnErr}
+use Rattle.std.proofs.Common.{◌≡◌, ◌+◌, List, [], ◌∷◌, ◌++◌, refl, sym, ap, subst, ◌∙◌, Bool, true, false, cond, arith}
+use Rattle.std.specs.Prelude.{Option, None, Some, option_map, All, IsTrue, Result, Ok, Err, OnOk, OnErr}
 use Rattle.std.specs.BTreeMap.{insert_entry}
 use Rattle.gx_ids.specs.declared.ids.Gxid.{Gxid}
 use Rattle.gx_ids.specs.declared.ids.Node.{Node}
@@ -13,7 +13,7 @@ use Rattle.gx_dtx.specs.declared.status.Status.TheVariants as status
 use Rattle.gx_dtx.specs.declared.txn.Txn.{Txn}
 use Rattle.gx_dtx.specs.Nodes.{has, with_node}
 use Rattle.gx_dtx.specs.Table.{Table, new_txn, find_txn, status_in, participants_in, participants_of, IsActive}
-use Rattle.gx_dtx.specs.Rules.{with_txn, with_step, with_ended, ends, changed, leaves, begun, ends_committed, aborts, commit_found, abort_found, on_commit, on_abort, turns, Turn, ended_alone, silently, AreWriters, stays, awaits_found, is_awaited, takes, reply_found}
+use Rattle.gx_dtx.specs.Rules.{with_txn, with_step, with_ended, ends, leaves, ends_committed, aborts, commit_found, abort_found, on_commit, on_abort, turns, ended_alone, silently, AreWriters, stays, awaits_found, is_awaited, takes, reply_found}
 use Rattle.gx_dtx.specs.Whole.{IsWhole}
 use Rattle.gx_dtx.specs.Fits.{Fits}
 use Rattle.gx_dtx.proofs.Finds.{insert_entry-last}

@@ -1,18 +1,15 @@
 -- What is over stays so.
-use Rattle.std.proofs.Common.{◌≡◌, ◌<◌, List, [], ◌∷◌, refl, sym, ap, subst, ◌∙◌, Bool, true, false, cond, eqb, arith}
+use Rattle.std.proofs.Common.{◌≡◌, ◌<◌, List, ◌∷◌, refl, sym, ap, subst, ◌∙◌, Bool, true, false, cond, eqb, arith}
 use Rattle.std.proofs.lemmas.Bool.Decides.{nat_tests}
-use Rattle.std.specs.Prelude.{Option, None, Some, option_map, ◌&&◌, not}
+use Rattle.std.specs.Prelude.{Option, Some, option_map, ◌&&◌, not}
 use Rattle.gx_ids.specs.declared.ids.Gxid.{Gxid}
-use Rattle.gx_ids.specs.declared.ids.Node.{Node}
-use Rattle.gx_msg.specs.declared.reply.Reply.{Reply as Answer}
 use Rattle.gx_dsnap.specs.Gxids.{is_below}
 use Rattle.gx_dtx.specs.declared.status.Status.TheVariants as status
 use Rattle.gx_dtx.specs.declared.txn.Txn.{Txn}
 use Rattle.gx_dtx.specs.Table.{Table, find_txn, runs, status_in}
-use Rattle.gx_dtx.specs.Rules.{on_reply, reply_found}
-use Rattle.gx_dtx.specs.Runs.{Call, on, after, Admits, IsRun}
+use Rattle.gx_dtx.specs.Runs.{Call, after, Admits, IsRun}
 use Rattle.gx_dtx.specs.Runs.Call.{Begin, Snap, DropSnap, Enlist, Commit, Abort, Reply}
-use Rattle.gx_dtx.specs.Past.{Past, past, past_of, about, noted, came, answered, is_over}
+use Rattle.gx_dtx.specs.Past.{Past, past, about, noted, came, answered, is_over}
 use Rattle.gx_dtx.specs.Agrees.{Agrees}
 use Rattle.gx_dtx.specs.Whole.{IsWhole}
 use Rattle.gx_dtx.proofs.Agreeing.{fate-same}

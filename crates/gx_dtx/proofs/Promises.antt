@@ -1,5 +1,5 @@
 -- What each transaction's past promises, by what the table says of it.
-use Rattle.std.proofs.Common.{◌≡◌, ◌≤◌, ◌<◌, List, [], ◌∷◌, refl, sym, ap, subst, ◌∙◌, Bool, true, false, cond, eqb, arith, inl, inr, ◌⊎◌, ⊎_elim}
+use Rattle.std.proofs.Common.{◌≡◌, List, [], ◌∷◌, refl, sym, ap, subst, ◌∙◌, Bool, true, false, cond, arith, inl, inr, ◌⊎◌, ⊎_elim}
 use Rattle.std.proofs.lemmas.Bool.Decides.{nat_tests}
 use Rattle.std.specs.Prelude.{Option, None, Some, option_map, ◌&&◌, not, ◌↔◌}
 use Rattle.gx_ids.specs.declared.ids.Gxid.{Gxid}
@@ -8,17 +8,14 @@ use Rattle.gx_msg.specs.declared.reply.Reply.{Reply as Answer}
 use Rattle.gx_msg.specs.declared.reply.Reply.TheVariants as answer
 use Rattle.gx_dtx.specs.declared.order.Order.{Order}
 use Rattle.gx_dtx.specs.declared.order.Order.TheVariants as order
-use Rattle.gx_dtx.specs.declared.outcome.Outcome.{Outcome}
 use Rattle.gx_dtx.specs.declared.outcome.Outcome.TheVariants as outcome
 use Rattle.gx_dtx.specs.declared.phase.Phase.{Phase}
 use Rattle.gx_dtx.specs.declared.phase.Phase.TheVariants as phase
-use Rattle.gx_dtx.specs.declared.status.Status.{Status}
-use Rattle.gx_dtx.specs.declared.status.Status.TheVariants as status
 use Rattle.gx_dtx.specs.declared.txn.Txn.{Txn}
 use Rattle.gx_dtx.specs.Nodes.{has, without}
-use Rattle.gx_dtx.specs.Table.{Table, find_txn, horizon_of, status_in, runs, is_running}
+use Rattle.gx_dtx.specs.Table.{Table, find_txn, horizon_of, status_in}
 use Rattle.gx_dtx.specs.Rules.{order_in, order_found, reply_found, takes, stays, forgets, is_awaited}
-use Rattle.gx_dtx.specs.Past.{Past, Fate, is_over, AreAmong, HaveCommitted, IsForgotten, until}
+use Rattle.gx_dtx.specs.Past.{Past, Fate, is_over, AreAmong, IsForgotten, until}
 use Rattle.gx_dtx.specs.Past.Fate.{Open, Decided, Committed, GivenUp, Aborted}
 use Rattle.gx_dtx.specs.Agrees.{Agrees, Known, Gone, Stands, AreRest, Somebody}
 use Rattle.gx_dtx.specs.Laws.{IsLow, KeepsProtocol}

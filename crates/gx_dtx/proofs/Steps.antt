@@ -1,19 +1,17 @@
 -- Which transaction is found after a call.
-use Rattle.std.proofs.Common.{◌≡◌, ◌+◌, ◌<◌, List, [], ◌∷◌, ◌++◌, refl, sym, ap, subst, ◌∙◌, Bool, true, false, cond, eqb, arith}
+use Rattle.std.proofs.Common.{◌≡◌, List, [], ◌∷◌, refl, sym, ap, Bool, true, false, cond, eqb, arith}
 use Rattle.std.proofs.lemmas.Bool.Decides.{nat_tests}
 use Rattle.std.specs.Prelude.{Option, None, Some, option_map}
 use Rattle.std.specs.Map.{lookup}
 use Rattle.std.specs.BTreeMap.{is_at}
 use Rattle.gx_ids.specs.declared.ids.Gxid.{Gxid}
-use Rattle.gx_ids.specs.declared.ids.Node.{Node}
 use Rattle.gx_dsnap.specs.Gxids.{gxid_cmp}
-use Rattle.gx_dtx.specs.declared.change.Change.{Change}
 use Rattle.gx_dtx.specs.declared.change.Step.{Step}
 use Rattle.gx_dtx.specs.declared.change.Step.TheVariants.{Stays, GoesTo, Leaves}
 use Rattle.gx_dtx.specs.declared.txn.Txn.{Txn}
 use Rattle.gx_dtx.specs.Nodes.{with_node}
-use Rattle.gx_dtx.specs.Table.{Table, new_table, new_txn, find_txn, xmin_of}
-use Rattle.gx_dtx.specs.Rules.{begun, with_live, enlisted, with_step, moved, changed, commit_found, abort_found, reply_found, on_commit, on_abort, on_reply}
+use Rattle.gx_dtx.specs.Table.{Table, new_txn, find_txn, xmin_of}
+use Rattle.gx_dtx.specs.Rules.{with_step, moved, commit_found, abort_found, reply_found}
 use Rattle.gx_dtx.specs.Runs.{Call, on, after, Admits, IsRun}
 use Rattle.gx_dtx.specs.Runs.Call.{Begin, Snap, DropSnap, Enlist, Commit, Abort, Reply}
 use Rattle.gx_dtx.specs.Past.{about}

@@ -1,5 +1,5 @@
 -- What is promised of every list of calls.
-use Rattle.std.specs.Prelude.{◌≡◌, ◌≤◌, ◌<◌, ◌⊎◌, ◌&&◌, not, Bool, true, false, Some, None}
+use Rattle.std.specs.Prelude.{◌≡◌, ◌≤◌, ◌⊎◌, ◌&&◌, not, Bool, true, false, Some}
 use Rattle.gx_ids.specs.declared.ids.Gxid.{Gxid}
 use Rattle.gx_ids.specs.declared.ids.Node.{Node}
 use Rattle.gx_msg.specs.declared.reply.Reply.{Reply}
@@ -9,10 +9,10 @@ use Rattle.gx_dtx.specs.declared.outcome.Outcome.{Outcome}
 use Rattle.gx_dtx.specs.declared.outcome.Outcome.TheVariants as outcome
 use Rattle.gx_dtx.specs.declared.status.Status.TheVariants as status
 use Rattle.gx_dtx.specs.Nodes.{has}
-use Rattle.gx_dtx.specs.Table.{Table, find_txn, runs, horizon_of, status_of}
+use Rattle.gx_dtx.specs.Table.{Table, find_txn, runs, status_of}
 use Rattle.gx_dtx.specs.Rules.{on_reply, ends, awaits, is_deciding, awaited_order}
-use Rattle.gx_dtx.specs.Past.{Past, is_over, AreAmong, HaveCommitted, IsForgotten, until}
-use Rattle.gx_dtx.specs.Past.Fate.{Open, Decided, Committed, GivenUp, Aborted}
+use Rattle.gx_dtx.specs.Past.{Past, is_over, AreAmong, HaveCommitted, until}
+use Rattle.gx_dtx.specs.Past.Fate.{Decided, Committed, GivenUp, Aborted}
 
 -- the horizon is at or below a transaction that isn't over, one that somebody hasn't forgotten, and the xmin of a live
 -- snapshot

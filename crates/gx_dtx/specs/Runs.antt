@@ -1,5 +1,5 @@
 -- Lists of calls, and the tables to which they lead.
-use Rattle.std.specs.Prelude.{◌≡◌, Bool, List, [], ◌∷◌, None, Some}
+use Rattle.std.specs.Prelude.{Bool, List, [], ◌∷◌, None, Some}
 use Rattle.gx_ids.specs.declared.ids.Gxid.{Gxid}
 use Rattle.gx_ids.specs.declared.ids.Node.{Node}
 use Rattle.gx_msg.specs.declared.reply.Reply.{Reply as Answer}
