@@ -1,19 +1,18 @@
 -- What each rule makes of a transaction fits it.
-use Rattle.std.proofs.Common.{◌≡◌, List, [], ◌∷◌, refl, sym, ap, ◌∙◌, Bool, true, false, cond, arith}
+use Rattle.std.proofs.Common.{◌≡◌, List, [], ◌∷◌, refl, ap, Bool, true, false, cond, arith}
 use Rattle.std.proofs.lemmas.Bool.Decides.{nat_tests}
-use Rattle.std.specs.Prelude.{Option, None, Some, option_map, ◌&&◌, not}
+use Rattle.std.specs.Prelude.{Option, None, Some, option_map, ◌&&◌}
 use Rattle.gx_ids.specs.declared.ids.Gxid.{Gxid}
 use Rattle.gx_ids.specs.declared.ids.Node.{Node}
 use Rattle.gx_msg.specs.declared.reply.Reply.{Reply}
 use Rattle.gx_msg.specs.declared.reply.Reply.TheVariants as reply
-use Rattle.gx_dtx.specs.declared.change.Change.{Change}
 use Rattle.gx_dtx.specs.declared.phase.Phase.{Phase}
 use Rattle.gx_dtx.specs.declared.phase.Phase.TheVariants.{Active, Preparing, CommittingOne, CommittingTwo, Ended, Aborting}
 use Rattle.gx_dtx.specs.declared.status.Status.TheVariants as status
 use Rattle.gx_dtx.specs.declared.txn.Txn.{Txn}
 use Rattle.gx_dtx.specs.Table.{runs, is_running, status_in}
 use Rattle.gx_dtx.specs.Rules.{stays, commits, aborts, ends_committed, takes, prepares, decides, finishes, forgets, gives_up, refuses, is_awaited, commit_found, abort_found, reply_found}
-use Rattle.gx_dtx.specs.Nodes.{without, has}
+use Rattle.gx_dtx.specs.Nodes.{without}
 use Rattle.gx_dtx.specs.Fits.{Fits}
 
 and_true : (b : Bool) → b ≡ (b && true)

@@ -1,23 +1,18 @@
 -- Each rule keeps the table whole.
-use Rattle.std.proofs.Common.{◌≡◌, ℕ, ◌+◌, ◌<◌, ◌≤◌, List, [], ◌∷◌, ◌++◌, refl, sym, ap, subst, ◌∙◌, Bool, true, false, cond, eqb, ltb, arith}
+use Rattle.std.proofs.Common.{◌≡◌, ℕ, ◌+◌, ◌<◌, List, refl, sym, ap, subst, ◌∙◌, Bool, true, false, cond, eqb, ltb, arith}
 use Rattle.std.proofs.lemmas.Bool.Decides.{nat_tests}
 use Rattle.std.specs.Prelude.{Option, None, Some, option_map, ◌&&◌, not}
 use Rattle.std.specs.Map.{lookup}
 use Rattle.std.specs.BTreeMap.{is_at}
 use Rattle.gx_ids.specs.declared.ids.Gxid.{Gxid}
-use Rattle.gx_ids.specs.declared.ids.Node.{Node}
 use Rattle.gx_dsnap.specs.Gxids.{gxid_cmp}
-use Rattle.gx_msg.specs.declared.reply.Reply.{Reply}
-use Rattle.gx_msg.specs.declared.reply.Reply.TheVariants as reply
 use Rattle.gx_dtx.specs.declared.change.Change.{Change}
 use Rattle.gx_dtx.specs.declared.change.Step.{Step}
 use Rattle.gx_dtx.specs.declared.change.Step.TheVariants.{Stays, GoesTo, Leaves}
 use Rattle.gx_dtx.specs.declared.phase.Phase.{Phase}
-use Rattle.gx_dtx.specs.declared.phase.Phase.TheVariants.{Active, Preparing, CommittingOne, CommittingTwo, Ended, Aborting}
 use Rattle.gx_dtx.specs.declared.txn.Txn.{Txn}
-use Rattle.gx_dtx.specs.Table.{Table, new_table, new_txn, find_txn, runs, is_running, status_of, IsActive}
-use Rattle.gx_dtx.specs.Rules.{begun, with_live, enlisted, with_txn, with_step, with_ended, greater_of, moved, ends, changed, commits, aborts, ends_committed, takes, prepares, decides, finishes, forgets, gives_up, refuses, is_awaited, commit_found, abort_found, reply_found}
-use Rattle.gx_dtx.specs.Nodes.{without, has}
+use Rattle.gx_dtx.specs.Table.{Table, new_table, new_txn, find_txn, runs, is_running}
+use Rattle.gx_dtx.specs.Rules.{begun, with_txn, with_step, with_ended, moved, ends, changed}
 use Rattle.gx_dtx.specs.Whole.{IsLatest, IsWhole, AreRisen, AreDrawn}
 use Rattle.gx_dtx.specs.Fits.{Fits, runs_after}
 use Rattle.gx_dtx.proofs.Finds.{find-with, find-push, find-remove, running-drawn}

@@ -1,5 +1,5 @@
 -- The least of a list.
-use Rattle.std.proofs.Common.{ap, ◌≡◌, ◌≤◌, List, [], ◌∷◌, ◌++◌, refl, arith, ⊎_elim, ◌⊎◌, inl, inr, sym, ◌∙◌}
+use Rattle.std.proofs.Common.{◌≡◌, ◌≤◌, List, [], ◌∷◌, ◌++◌, refl, arith, ⊎_elim, ◌⊎◌, inl, inr, sym, ◌∙◌}
 use Rattle.std.proofs.lemmas.Bool.Decides.{nat_tests}
 use Rattle.std.specs.Prelude.{All, Contains}
 use Rattle.std.proofs.lemmas.List.Elements.{All-cons, All-nil, All-push, Contains-append_right, Contains-append_left}
@@ -10,13 +10,13 @@ pub least_of-append : (gs hs : List Gxid) (other : Gxid) → least_of (gs ++ hs)
 least_of-append [] hs other = refl
 least_of-append (g ∷ gs) hs other = least_of-append gs hs (lesser g other)
 
-lesser-le_left : (g h : Gxid) → (lesser g h).0 ≤ g.0
+pub lesser-le_left : (g h : Gxid) → (lesser g h).0 ≤ g.0
 lesser-le_left g h = grind (arith, nat_tests)
 
-lesser-le_right : (g h : Gxid) → (lesser g h).0 ≤ h.0
+pub lesser-le_right : (g h : Gxid) → (lesser g h).0 ≤ h.0
 lesser-le_right g h = grind (arith, nat_tests)
 
-least_of-le_other : (gs : List Gxid) (other : Gxid) → (least_of gs other).0 ≤ other.0
+pub least_of-le_other : (gs : List Gxid) (other : Gxid) → (least_of gs other).0 ≤ other.0
 least_of-le_other [] other = omega arith
 least_of-le_other (g ∷ gs) other = omega (arith, least_of-le_other gs (lesser g other), lesser-le_right g other)
 

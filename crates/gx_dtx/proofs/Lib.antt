@@ -6,3 +6,11 @@ pub mod Keeps
 pub mod Fitting
 pub mod Sees
 pub mod Made
+pub mod Steps
+pub mod Has
+pub mod Agreeing
+pub mod History
+pub mod Low
+pub mod Promises
+pub mod Causes
+pub mod Over

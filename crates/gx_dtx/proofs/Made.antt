@@ -1,18 +1,19 @@
 -- The table after a change was made, and the changes of a transaction without participants.
-use Rattle.std.proofs.Common.{◌≡◌, ◌+◌, ◌<◌, List, [], ◌∷◌, ◌++◌, refl, sym, ap, subst, ◌∙◌, Bool, true, false, arith}
-use Rattle.std.specs.Prelude.{Option, None, Some, option_map, All, IsTrue, length, Result, Ok, Err, OnOk, OnErr}
+use Rattle.std.proofs.Common.{◌≡◌, ◌+◌, List, [], ◌∷◌, ◌++◌, refl, sym, ap, subst, ◌∙◌, Bool, true, false, cond, arith}
+use Rattle.std.specs.Prelude.{Option, None, Some, option_map, All, IsTrue, Result, Ok, Err, OnOk, OnErr}
 use Rattle.std.specs.BTreeMap.{insert_entry}
 use Rattle.gx_ids.specs.declared.ids.Gxid.{Gxid}
 use Rattle.gx_ids.specs.declared.ids.Node.{Node}
 use Rattle.gx_ids.specs.declared.memory.OutOfMemory.{OutOfMemory}
 use Rattle.gx_dsnap.specs.Gxids.{gxid_cmp}
+use Rattle.gx_msg.specs.declared.reply.Reply.{Reply}
 use Rattle.gx_dtx.specs.declared.change.Change.{Change}
 use Rattle.gx_dtx.specs.declared.outcome.Outcome.TheVariants as outcome
 use Rattle.gx_dtx.specs.declared.status.Status.TheVariants as status
 use Rattle.gx_dtx.specs.declared.txn.Txn.{Txn}
 use Rattle.gx_dtx.specs.Nodes.{has, with_node}
 use Rattle.gx_dtx.specs.Table.{Table, new_txn, find_txn, status_in, participants_in, participants_of, IsActive}
-use Rattle.gx_dtx.specs.Rules.{with_txn, with_step, with_ended, ends, changed, leaves, begun, ends_committed, aborts, commit_found, abort_found, on_commit, on_abort, turns, Turn, ended_alone, silently, AreWriters}
+use Rattle.gx_dtx.specs.Rules.{with_txn, with_step, with_ended, ends, leaves, ends_committed, aborts, commit_found, abort_found, on_commit, on_abort, turns, ended_alone, silently, AreWriters, stays, awaits_found, is_awaited, takes, reply_found}
 use Rattle.gx_dtx.specs.Whole.{IsWhole}
 use Rattle.gx_dtx.specs.Fits.{Fits}
 use Rattle.gx_dtx.proofs.Finds.{insert_entry-last}
@@ -69,3 +70,13 @@ IsWhole-tried d g i txns (Err e) are same w = subst (λ (ts : List (Gxid × Txn)
 pub turns-made : (d : Table) (g : Gxid) (c : Change) (latest : Option Gxid) (txns : List (Gxid × Txn)) → txns ≡ with_step d.txns g c.step → latest ≡ with_ended (ends c.out.outcome) g d.latest_ended → record { next = d.next; latest_ended = latest; txns = txns } ≡ (turns d g c).table
 turns-made d g c latest txns are is =
     ap (λ (ts : List (Gxid × Txn)). let t : Table = record { next = d.next; latest_ended = latest; txns = ts } in t) are ∙ ap (λ (l : Option Gxid). let t : Table = record { next = d.next; latest_ended = l; txns = with_step d.txns g c.step } in t) is
+
+-- ---- an answer that isn't awaited
+
+unawaited_if : (b : Bool) (c : Change) → b ≡ false → cond b c stays ≡ stays
+unawaited_if true c isnt = absurd (cc)
+unawaited_if false c isnt = refl
+
+pub reply-unawaited : (g : Gxid) (i : Node) (answer : Reply) (refused : Bool) (o : Option Txn) → awaits_found i answer o ≡ false → reply_found g i answer refused o ≡ stays
+reply-unawaited g i answer refused None isnt = refl
+reply-unawaited g i answer refused (Some t) isnt = unawaited_if (is_awaited t.phase i answer) (takes g t.participants i refused t.phase answer) isnt

@@ -1,5 +1,5 @@
 -- What a snapshot sees.
-use Rattle.std.proofs.Common.{◌≡◌, ℕ, ◌+◌, ◌<◌, ◌≤◌, List, [], ◌∷◌, refl, sym, ap, ◌∙◌, Bool, true, false, cond, eqb, ltb, arith, map, filter}
+use Rattle.std.proofs.Common.{◌≡◌, ℕ, ◌<◌, ◌≤◌, List, [], ◌∷◌, refl, ap, ◌∙◌, false, arith, map, filter}
 use Rattle.std.proofs.lemmas.Bool.Decides.{nat_tests}
 use Rattle.std.specs.Prelude.{Option, None, Some, ◌&&◌, not}
 use Rattle.std.specs.Map.{lookup}
@@ -11,7 +11,6 @@ use Rattle.gx_dsnap.specs.declared.snapshot.Snapshot.{Snapshot}
 use Rattle.gx_dtx.specs.declared.txn.Txn.{Txn}
 use Rattle.gx_dtx.specs.Table.{Table, runs, is_running, find_txn, running_of, listed_of, xmax_of, has_ended}
 use Rattle.gx_dtx.specs.Whole.{IsBelowAll, AreRisen, IsLatest, IsWhole}
-use Rattle.gx_dtx.proofs.Finds.{find-below}
 
 running_in : List (Gxid × Txn) → List Gxid
 running_in es = map (λ e. e.0) (filter (λ e. is_running e.1.phase) es)

@@ -5,3 +5,6 @@ pub mod Rules
 pub mod Runs
 pub mod Whole
 pub mod Fits
+pub mod Past
+pub mod Agrees
+pub mod Laws

@@ -39,7 +39,8 @@ impl Model for Dtx {
 
 impl Dtx {
     ghost use Rattle.gx_dtx.specs.Table.{new_table, status_of, IsActive, participants_of, xmax_of, listed_of, xmin_of, has_ended, holds_back, horizon_of};
-    ghost use Rattle.gx_dtx.specs.Rules.{begun, with_live, enlisted, on_commit, on_abort, on_reply, is_deciding, awaited_order, AreWriters, is_refused, decide_items, ended_alone, silently};
+    ghost use Rattle.gx_dtx.specs.Rules.{begun, with_live, enlisted, on_commit, on_abort, on_reply, awaits, is_deciding, awaited_order, AreWriters, is_refused, decide_items, ended_alone, silently};
+    ghost use Rattle.gx_dtx.specs.Laws.{HasCause};
     ghost use Rattle.gx_dtx.specs.Orders.{message_of};
     ghost use Rattle.gx_dtx.specs.declared.outcome.Outcome.TheVariants as outcome;
 
@@ -149,6 +150,8 @@ impl Dtx {
     ) -> Mem<DtxOut>
         ensures table { IfOk result (λ out. self.new ≡ (on_reply self.old gxid node answer (is_refused out.outcome)).table) }
         ensures out { IfOk result (λ out. out ≡ (on_reply self.old gxid node answer (is_refused out.outcome)).out) }
+        ensures cause { IfOk result (λ out. HasCause self.old gxid node answer (is_refused out.outcome) out.outcome) }
+        ensures unawaited { awaits self.old gxid node answer ≡ false → OnOk result (self.new ≡ self.old) }
         ensures items { IfOk result (λ out. J.items journal.new ≡ J.items journal.old ++ decide_items gxid out.outcome) }
         ensures refused { IfOk result (λ out. is_deciding self.old gxid node answer ≡ true → is_refused out.outcome ≡ true → Rose (J.fault_count journal.old) (J.fault_count journal.new)) }
         ensures untouched { is_deciding self.old gxid node answer ≡ false → journal.new ≡ journal.old }

@@ -1,5 +1,4 @@
-use Rattle.std.proofs.Common.{◌≡◌, ◌∙◌, [], ap, subst, sym}
-use Rattle.gx_dtx.specs.declared.outcome.DtxOut.{DtxOut}
+use Rattle.std.proofs.Common.{◌≡◌, ◌∙◌, ap, subst, sym}
 use Rattle.gx_dtx.specs.Table.{Table, IsActive, find_txn}
 use Rattle.gx_dtx.specs.Rules.{on_abort, abort_found, Turn, turns}
 use Rattle.gx_dtx.proofs.Fitting.{Fits-abort}

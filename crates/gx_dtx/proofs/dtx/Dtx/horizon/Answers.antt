@@ -2,7 +2,7 @@ use Rattle.std.proofs.Common.{◌≡◌, ◌∙◌, ◌++◌, ◌∷◌, [], ◌
 use Rattle.std.specs.Prelude.{All, Contains}
 use Rattle.std.specs.List.{flat_map}
 use Rattle.gx_ids.specs.declared.ids.Gxid.{Gxid}
-use Rattle.gx_dtx.specs.Table.{Table, holds_back, horizon_of}
+use Rattle.gx_dtx.specs.Table.{holds_back, horizon_of}
 use Rattle.gx_dtx.proofs.Least.{least_of-le_all, Contains-least_of}
 use Rattle.gx_dtx.proofs.dtx.Dtx.horizon.Goals as goal
 

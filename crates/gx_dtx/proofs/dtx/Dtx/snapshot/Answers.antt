@@ -1,4 +1,4 @@
-use Rattle.std.proofs.Common.{◌≡◌, ◌∙◌, ◌<◌, ap, subst, filter}
+use Rattle.std.proofs.Common.{◌≡◌, ◌∙◌, ap, subst, filter}
 use Rattle.std.specs.Prelude.{Some}
 use Rattle.gx_ids.specs.declared.ids.Gxid.{Gxid}
 use Rattle.gx_dsnap.specs.Gxids.{is_below}
