@@ -89,9 +89,9 @@ begun-after (call ∷ before) g first = begun-on (after before) call g (past g b
 -- ---- who has ended
 
 over-in : (p : Past) (ns : List Node) (ph : Phase) → Stands p ns ph → not (is_running ph) ≡ is_over p.fate
-over-in p ns phase.Active s = ap is_over (sym s)
-over-in p ns (phase.Preparing _ _) s = ap is_over (sym s.0)
-over-in p ns (phase.CommittingOne _) s = ap is_over (sym s.0)
+over-in p ns phase.Active s = ap is_over (sym s.0)
+over-in p ns (phase.Preparing _ _) s = ap is_over (sym s.0.0)
+over-in p ns (phase.CommittingOne _) s = ap is_over (sym s.0.0)
 over-in p ns (phase.CommittingTwo _) s = ap is_over (sym s.0)
 over-in p ns (phase.Ended _) s = ap is_over (sym s.0)
 over-in p ns (phase.Aborting _) s = ap is_over (sym s.0)

@@ -42,19 +42,19 @@ low-agrees d g p (Some t) found k = record {
 -- ---- commit and abort
 
 phase-protocol : (p : Past) (ns : List Node) (ph : Phase) → Stands p ns ph → KeepsProtocol p
-phase-protocol p ns phase.Active s = record { decided = λ e. absurd (cc); committed = λ e. absurd (cc); aborted = λ e. absurd (cc) }
-phase-protocol p ns (phase.Preparing _ _) s = let f = s.0 in record { decided = λ e. absurd (cc); committed = λ e. absurd (cc); aborted = λ e. absurd (cc) }
-phase-protocol p ns (phase.CommittingOne _) s = let f = s.0 in record { decided = λ e. absurd (cc); committed = λ e. absurd (cc); aborted = λ e. absurd (cc) }
-phase-protocol p ns (phase.CommittingTwo _) s = let f = s.0 in record { decided = λ e. s.1; committed = λ e. absurd (cc); aborted = λ e. absurd (cc) }
-phase-protocol p ns (phase.Ended _) s = let f = s.0 in record { decided = λ e. absurd (cc); committed = λ e. s.2; aborted = λ e. absurd (cc) }
-phase-protocol p ns (phase.Aborting _) s = let f = s.0 in record { decided = λ e. absurd (cc); committed = λ e. absurd (cc); aborted = λ e. absurd (cc) }
+phase-protocol p ns phase.Active s = let f = s.0 in record { decided = λ e. absurd (cc); committed = λ e. absurd (cc); given_up = λ e. absurd (cc); aborted = λ e. absurd (cc) }
+phase-protocol p ns (phase.Preparing _ _) s = let f = s.0.0 in record { decided = λ e. absurd (cc); committed = λ e. absurd (cc); given_up = λ e. absurd (cc); aborted = λ e. absurd (cc) }
+phase-protocol p ns (phase.CommittingOne _) s = let f = s.0.0 in record { decided = λ e. absurd (cc); committed = λ e. absurd (cc); given_up = λ e. absurd (cc); aborted = λ e. absurd (cc) }
+phase-protocol p ns (phase.CommittingTwo _) s = let f = s.0 in record { decided = λ e. s.1; committed = λ e. absurd (cc); given_up = λ e. absurd (cc); aborted = λ e. absurd (cc) }
+phase-protocol p ns (phase.Ended _) s = let f = s.0 in record { decided = λ e. absurd (cc); committed = λ e. s.2; given_up = λ e. absurd (cc); aborted = λ e. absurd (cc) }
+phase-protocol p ns (phase.Aborting _) s = let f = s.0 in record { decided = λ e. absurd (cc); committed = λ e. absurd (cc); given_up = λ e. s.3; aborted = λ e. absurd (cc) }
 
 gone-protocol : (p : Past) (f : Fate) → p.fate ≡ f → Gone p f → KeepsProtocol p
-gone-protocol p Open is gone = record { decided = λ e. absurd (cc); committed = λ e. absurd (cc); aborted = λ e. absurd (cc) }
+gone-protocol p Open is gone = record { decided = λ e. absurd (cc); committed = λ e. absurd (cc); given_up = λ e. absurd (cc); aborted = λ e. absurd (cc) }
 gone-protocol p Decided is gone = absurd gone
-gone-protocol p Committed is gone = record { decided = λ e. absurd (cc); committed = λ e. gone.1; aborted = λ e. absurd (cc) }
+gone-protocol p Committed is gone = record { decided = λ e. absurd (cc); committed = λ e. gone.1; given_up = λ e. absurd (cc); aborted = λ e. absurd (cc) }
 gone-protocol p GivenUp is gone = absurd gone
-gone-protocol p Aborted is gone = record { decided = λ e. absurd (cc); committed = λ e. absurd (cc); aborted = λ e. gone.1 }
+gone-protocol p Aborted is gone = record { decided = λ e. absurd (cc); committed = λ e. absurd (cc); given_up = λ e. absurd (cc); aborted = λ e. (gone.2, gone.1) }
 
 pub protocol-agrees : (p : Past) (o : Option Txn) → Agrees p o → KeepsProtocol p
 protocol-agrees p None agrees = gone-protocol p p.fate refl agrees.1
@@ -70,17 +70,17 @@ until-done : (o : Order) (gone : Bool) → gone ≡ true → None ≡ until o go
 until-done o gone is = ap (until o) (sym is)
 
 forget-told : (p : Past) (ns : List Node) (i : Node) (ph : Phase) → Stands p ns ph → p.fate ≡ Committed → has i ns ≡ true → order_in ph i ≡ until order.Forget (has i p.forgotten)
-forget-told p ns i phase.Active s e there = absurd (cc)
-forget-told p ns i (phase.Preparing _ _) s e there = let f = s.0 in absurd (cc)
-forget-told p ns i (phase.CommittingOne _) s e there = let f = s.0 in absurd (cc)
+forget-told p ns i phase.Active s e there = let f = s.0 in absurd (cc)
+forget-told p ns i (phase.Preparing _ _) s e there = let f = s.0.0 in absurd (cc)
+forget-told p ns i (phase.CommittingOne _) s e there = let f = s.0.0 in absurd (cc)
 forget-told p ns i (phase.CommittingTwo _) s e there = let f = s.0 in absurd (cc)
 forget-told p ns i (phase.Ended aw) s e there = rest-told order.Forget (has i aw) (has i ns) (has i p.forgotten) (s.3 i) there
 forget-told p ns i (phase.Aborting _) s e there = let f = s.0 in absurd (cc)
 
 abort-told : (p : Past) (ns : List Node) (i : Node) (ph : Phase) → Stands p ns ph → p.fate ≡ GivenUp → has i ns ≡ true → order_in ph i ≡ until order.Abort (has i p.aborted)
-abort-told p ns i phase.Active s e there = absurd (cc)
-abort-told p ns i (phase.Preparing _ _) s e there = let f = s.0 in absurd (cc)
-abort-told p ns i (phase.CommittingOne _) s e there = let f = s.0 in absurd (cc)
+abort-told p ns i phase.Active s e there = let f = s.0 in absurd (cc)
+abort-told p ns i (phase.Preparing _ _) s e there = let f = s.0.0 in absurd (cc)
+abort-told p ns i (phase.CommittingOne _) s e there = let f = s.0.0 in absurd (cc)
 abort-told p ns i (phase.CommittingTwo _) s e there = let f = s.0 in absurd (cc)
 abort-told p ns i (phase.Ended _) s e there = let f = s.0 in absurd (cc)
 abort-told p ns i (phase.Aborting aw) s e there = rest-told order.Abort (has i aw) (has i ns) (has i p.aborted) (s.2 i) there
@@ -115,17 +115,17 @@ still-there p ns aw rest somebody same all =
     last a n f e is rest same all = grind (arith, nat_tests)
 
 phase-there : (p : Past) (ns : List Node) (ph : Phase) → Stands p ns ph → ((i : Node) → has i ns ≡ has i p.enlisted) → p.fate ≡ Committed → AreAmong p.enlisted p.forgotten → ⊥
-phase-there p ns phase.Active s same e all = absurd (cc)
-phase-there p ns (phase.Preparing _ _) s same e all = let f = s.0 in absurd (cc)
-phase-there p ns (phase.CommittingOne _) s same e all = let f = s.0 in absurd (cc)
+phase-there p ns phase.Active s same e all = let f = s.0 in absurd (cc)
+phase-there p ns (phase.Preparing _ _) s same e all = let f = s.0.0 in absurd (cc)
+phase-there p ns (phase.CommittingOne _) s same e all = let f = s.0.0 in absurd (cc)
 phase-there p ns (phase.CommittingTwo _) s same e all = let f = s.0 in absurd (cc)
 phase-there p ns (phase.Ended aw) s same e all = still-there p ns aw s.3 s.4 same all
 phase-there p ns (phase.Aborting _) s same e all = let f = s.0 in absurd (cc)
 
 phase-aborted : (p : Past) (ns : List Node) (ph : Phase) → Stands p ns ph → p.fate ≡ Aborted → ⊥
-phase-aborted p ns phase.Active s e = cc
-phase-aborted p ns (phase.Preparing _ _) s e = let f = s.0 in cc
-phase-aborted p ns (phase.CommittingOne _) s e = let f = s.0 in cc
+phase-aborted p ns phase.Active s e = let f = s.0 in cc
+phase-aborted p ns (phase.Preparing _ _) s e = let f = s.0.0 in cc
+phase-aborted p ns (phase.CommittingOne _) s e = let f = s.0.0 in cc
 phase-aborted p ns (phase.CommittingTwo _) s e = let f = s.0 in cc
 phase-aborted p ns (phase.Ended _) s e = let f = s.0 in cc
 phase-aborted p ns (phase.Aborting _) s e = let f = s.0 in cc
@@ -158,9 +158,9 @@ ended-pending g ns i fails aw (answer.Done _ _ _ _) = refl
 ended-pending g ns i fails aw (answer.Failed _ _) = refl
 
 over-pending_in : (p : Past) (g : Gxid) (ns ms : List Node) (i : Node) (fails : Bool) (ph : Phase) (a : Answer) → Stands p ms ph → is_over p.fate ≡ true → (takes g ns i fails ph a).out.outcome ≡ outcome.Pending
-over-pending_in p g ns ms i fails phase.Active a s over = let e = ap is_over s in absurd (cc)
-over-pending_in p g ns ms i fails (phase.Preparing _ _) a s over = let e = ap is_over s.0 in absurd (cc)
-over-pending_in p g ns ms i fails (phase.CommittingOne _) a s over = let e = ap is_over s.0 in absurd (cc)
+over-pending_in p g ns ms i fails phase.Active a s over = let e = ap is_over s.0 in absurd (cc)
+over-pending_in p g ns ms i fails (phase.Preparing _ _) a s over = let e = ap is_over s.0.0 in absurd (cc)
+over-pending_in p g ns ms i fails (phase.CommittingOne _) a s over = let e = ap is_over s.0.0 in absurd (cc)
 over-pending_in p g ns ms i fails (phase.CommittingTwo _) a s over = let e = ap is_over s.0 in absurd (cc)
 over-pending_in p g ns ms i fails (phase.Ended aw) a s over = ended-pending g ns i fails aw a
 over-pending_in p g ns ms i fails (phase.Aborting _) a s over = let e = ap is_over s.0 in absurd (cc)

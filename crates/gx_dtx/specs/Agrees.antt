@@ -20,14 +20,24 @@ AreRest awaited nodes others = (i : Node) → has i awaited ≡ (has i nodes && 
 abbrev pub Somebody : List Node → Type 0
 Somebody nodes = (i : Node) × (has i nodes ≡ true)
 
+-- nothing was told of its end
+abbrev pub IsOpen : Past → Type 0
+IsOpen p = (p.fate ≡ Open) × (p.decided ≡ false)
+
+-- there are at least two nodes
+abbrev pub AreSeveral : List Node → Type 0
+AreSeveral [] = ⊥
+AreSeveral (_ ∷ []) = ⊥
+AreSeveral (_ ∷ _ ∷ _) = Unit {0}
+
 -- what the phase says of the past
 abbrev pub Stands : Past → List Node → Phase → Type 0
-Stands p participants Active = p.fate ≡ Open
-Stands p participants (Preparing writers awaited) = (p.fate ≡ Open) × (p.writers ≡ writers) × AreIn writers awaited p.prepared
-Stands p participants (CommittingOne w) = (p.fate ≡ Open) × (p.writers ≡ w ∷ [])
-Stands p participants (CommittingTwo awaited) = (p.fate ≡ Decided) × AreAmong p.writers p.prepared × AreIn p.writers awaited p.finished
-Stands p participants (Ended awaited) = (p.fate ≡ Committed) × (p.live ≡ None) × HaveCommitted p.writers p.prepared p.finished × AreRest awaited participants p.forgotten × Somebody awaited
-Stands p participants (Aborting awaited) = (p.fate ≡ GivenUp) × (p.live ≡ None) × AreRest awaited participants p.aborted
+Stands p participants Active = IsOpen p
+Stands p participants (Preparing writers awaited) = IsOpen p × (p.writers ≡ writers) × AreIn writers awaited p.prepared × AreSeveral writers
+Stands p participants (CommittingOne w) = IsOpen p × (p.writers ≡ w ∷ [])
+Stands p participants (CommittingTwo awaited) = (p.fate ≡ Decided) × AreAmong p.writers p.prepared × AreIn p.writers awaited p.finished × (p.decided ≡ true) × AreSeveral p.writers
+Stands p participants (Ended awaited) = (p.fate ≡ Committed) × (p.live ≡ None) × HaveCommitted p.decided p.writers p.prepared p.finished × AreRest awaited participants p.forgotten × Somebody awaited
+Stands p participants (Aborting awaited) = (p.fate ≡ GivenUp) × (p.live ≡ None) × AreRest awaited participants p.aborted × (p.decided ≡ false)
 
 -- a transaction in the table
 pub record Known (p : Past) (t : Txn) : Type 0 where
@@ -40,9 +50,9 @@ pub record Known (p : Past) (t : Txn) : Type 0 where
 abbrev pub Gone : Past → Fate → Type 0
 Gone p Open = p.begun ≡ false
 Gone p Decided = ⊥
-Gone p Committed = (p.begun ≡ true) × HaveCommitted p.writers p.prepared p.finished × AreAmong p.enlisted p.forgotten
+Gone p Committed = (p.begun ≡ true) × HaveCommitted p.decided p.writers p.prepared p.finished × AreAmong p.enlisted p.forgotten
 Gone p GivenUp = ⊥
-Gone p Aborted = (p.begun ≡ true) × AreAmong p.enlisted p.aborted
+Gone p Aborted = (p.begun ≡ true) × AreAmong p.enlisted p.aborted × (p.decided ≡ false)
 
 -- the table has the transaction as its past says
 abbrev pub Agrees : Past → Option Txn → Type 0

@@ -21,11 +21,13 @@ pub record IsLow (horizon : Gxid) (g : Gxid) (p : Past) : Type 0 where
   pub unforgotten : (i : Node) → p.fate ≡ Committed → has i p.enlisted ≡ true → has i p.forgotten ≡ false → horizon.0 ≤ g.0
   pub live : (x : Gxid) → p.live ≡ Some x → horizon.0 ≤ x.0
 
--- a transaction is decided once all its writers have promised, and commits once they have done what a commit asks
+-- a transaction is decided once all its writers have promised, commits once they have done what a commit asks, and is
+-- aborted only if it wasn't decided, and once all have aborted where its commands went
 pub record KeepsProtocol (p : Past) : Type 0 where
   pub decided : p.fate ≡ Decided → AreAmong p.writers p.prepared
-  pub committed : p.fate ≡ Committed → HaveCommitted p.writers p.prepared p.finished
-  pub aborted : p.fate ≡ Aborted → AreAmong p.enlisted p.aborted
+  pub committed : p.fate ≡ Committed → HaveCommitted p.decided p.writers p.prepared p.finished
+  pub given_up : p.fate ≡ GivenUp → p.decided ≡ false
+  pub aborted : p.fate ≡ Aborted → (p.decided ≡ false) × AreAmong p.enlisted p.aborted
 
 -- where its commands went, each node is told to forget a committed transaction, or to abort one that is given up,
 -- until it has answered so

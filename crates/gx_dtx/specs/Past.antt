@@ -22,7 +22,7 @@ pub data Fate : Type 0 where
   Aborted : Fate
 
 -- whether it has begun, where its commands went, with which writers it was to commit, who has answered PREPARED and
--- COMMITTED since, what was told of its end, who has answered FORGOTTEN or ABORTED since, and the xmin of the last
+-- COMMITTED since, whether the decide item was appended, what was told of its end, who has answered FORGOTTEN or ABORTED since, and the xmin of the last
 -- snapshot, if that wasn't dropped and the transaction is neither committed nor given up
 pub record Past : Type 0 where
   pub begun : Bool
@@ -30,13 +30,14 @@ pub record Past : Type 0 where
   pub writers : List Node
   pub prepared : List Node
   pub finished : List Node
+  pub decided : Bool
   pub fate : Fate
   pub forgotten : List Node
   pub aborted : List Node
   pub live : Option Gxid
 
 abbrev pub past_of : Bool → Past
-past_of begun = record { begun = begun; enlisted = []; writers = []; prepared = []; finished = []; fate = Open; forgotten = []; aborted = []; live = None }
+past_of begun = record { begun = begun; enlisted = []; writers = []; prepared = []; finished = []; decided = false; fate = Open; forgotten = []; aborted = []; live = None }
 
 abbrev pub gives_up : Past → Past
 gives_up p = record p { fate = GivenUp; aborted = []; live = None }
@@ -44,7 +45,7 @@ gives_up p = record p { fate = GivenUp; aborted = []; live = None }
 -- after an outcome
 abbrev pub came : Outcome → Past → Past
 came outcome.Pending p = p
-came outcome.Decided p = record p { fate = Decided }
+came outcome.Decided p = record p { decided = true; fate = Decided }
 came outcome.Committed p = record p { fate = Committed; forgotten = []; live = None }
 came (outcome.Refused _) p = gives_up p
 came outcome.Ended p = record p { fate = Aborted; live = None }
@@ -95,11 +96,12 @@ is_over _ = false
 abbrev pub AreAmong : List Node → List Node → Type 0
 AreAmong nodes others = (i : Node) → has i nodes ≡ true → has i others ≡ true
 
--- the writers have done what a commit asks of them: one has committed; more have all promised and then committed
-abbrev pub HaveCommitted : List Node → List Node → List Node → Type 0
-HaveCommitted [] prepared finished = Unit {0}
-HaveCommitted (w ∷ []) prepared finished = AreAmong (w ∷ []) finished
-HaveCommitted (w ∷ v ∷ ws) prepared finished = AreAmong (w ∷ v ∷ ws) prepared × AreAmong (w ∷ v ∷ ws) finished
+-- the writers have done what a commit asks of them: one has committed, and nothing was decided; more have all
+-- promised, it was decided, and they have committed
+abbrev pub HaveCommitted : Bool → List Node → List Node → List Node → Type 0
+HaveCommitted decided [] prepared finished = decided ≡ false
+HaveCommitted decided (w ∷ []) prepared finished = (decided ≡ false) × AreAmong (w ∷ []) finished
+HaveCommitted decided (w ∷ v ∷ ws) prepared finished = (decided ≡ true) × AreAmong (w ∷ v ∷ ws) prepared × AreAmong (w ∷ v ∷ ws) finished
 
 -- nobody has to know of the transaction: it hasn't begun, or it is committed and forgotten by all where its commands
 -- went, or it is aborted

@@ -1,5 +1,5 @@
 // What a call makes of one transaction.
-ghost use Rattle.std.specs.Prelude.{◌≡◌, ◌∷◌, [], true, false, IfOk};
+ghost use Rattle.std.specs.Prelude.{◌≡◌, ◌∷◌, [], false, IfOk};
 ghost use Rattle.gx_dtx.specs.Rules.{commits, aborts, ends_committed, refuses, goes_to, decides, finishes, forgets, gives_up};
 ghost use Rattle.gx_dtx.specs.Nodes.{to_each as messages};
 ghost use Rattle.gx_dtx.specs.declared.outcome.Outcome.TheVariants as outcome;

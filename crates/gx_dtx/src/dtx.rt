@@ -1,4 +1,4 @@
-ghost use Rattle.std.specs.Prelude.{◌≡◌, ◌≤◌, ◌<◌, ◌+◌, ◌^◌, ◌++◌, ◌∷◌, [], true, false, All, Contains, IfOk, OnOk, OnErr, None, Some, MatchOption, option_map};
+ghost use Rattle.std.specs.Prelude.{◌≡◌, ◌≤◌, ◌<◌, ◌^◌, ◌++◌, ◌∷◌, [], true, false, All, Contains, IfOk, OnOk, OnErr, None, Some, option_map};
 ghost use Rattle.std.specs.List.{flat_map};
 ghost use Rattle.gx_ids.specs.declared.ids.Gxid.{Gxid};
 ghost use Rattle.gx_outside.specs.Causes.{Rose};
@@ -78,8 +78,9 @@ impl Dtx {
         Some(txn.phase.status())
     }
 
-    /// Takes a snapshot for a statement or a block of the transaction. It is live, and holds the horizon back, until
-    /// it is dropped, the next is taken for the transaction, or the transaction is committed or aborted.
+    /// Takes a snapshot for a statement or a block of the transaction (Lyu et al., SIGMOD 2021; PostgreSQL manual
+    /// 13.2). It is live, and holds the horizon back, until it is dropped, the next is taken for the transaction, or
+    /// the transaction is committed or aborted.
     pub fn snapshot(&mut self, gxid: Gxid) -> Mem<Snapshot>
         requires { IsActive self.old gxid }
         ensures xmax { IfOk result (λ snap. snap.xmax ≡ xmax_of self.old) }
@@ -111,7 +112,7 @@ impl Dtx {
     }
 
     /// Commits a transaction that has written at these nodes: at once without writers, by one phase with one, by two
-    /// with more.
+    /// with more (Lyu et al., SIGMOD 2021).
     pub fn commit(&mut self, gxid: Gxid, writers: &[Node]) -> Mem<DtxOut>
         requires active { IsActive self.old gxid }
         requires writers { AreWriters self.old gxid writers.now }

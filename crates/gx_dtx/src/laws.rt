@@ -6,7 +6,7 @@ ghost use Rattle.gx_dsnap.specs.Snapshot.{sees};
 ghost use Rattle.gx_dsnap.specs.declared.snapshot.Snapshot.{Snapshot};
 ghost use Rattle.gx_msg.specs.declared.reply.Reply.{Reply};
 ghost use Rattle.gx_dtx.specs.Table.{Table, IsTaken, horizon_of, status_of};
-ghost use Rattle.gx_dtx.specs.Rules.{awaits, nothing, on_reply, Turn};
+ghost use Rattle.gx_dtx.specs.Rules.{awaits, nothing, on_reply};
 ghost use Rattle.gx_dtx.specs.Runs.{Call, after, IsRun};
 ghost use Rattle.gx_dtx.specs.Past.{past, is_over, IsForgotten};
 ghost use Rattle.gx_dtx.specs.Laws.{IsLow, KeepsProtocol, IsTold, HasCause, HasEffect};
