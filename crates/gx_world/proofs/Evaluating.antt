@@ -1,5 +1,5 @@
 -- What the loops over constants and rows know.
-use Rattle.std.proofs.Common.{◌≡◌, ◌⊎◌, inl, inr, ℕ, zero, suc, ◌+◌, ◌-◌, ◌<◌, ◌≤◌, ◌==◌, nat_le, nat_lt, Bool, true, false, if◌then◌else◌, List, [], ◌∷◌, ◌++◌, length, map, take, filter, get_or, slice_get, All, Option, Some, None, Result, Ok, Err, refl, sym, ap, ◌∙◌, subst, arith, append-nil}
+use Rattle.std.proofs.Common.{◌≡◌, ◌⊎◌, inl, inr, ℕ, zero, suc, ◌+◌, ◌-◌, ◌<◌, ◌≤◌, ◌==◌, nat_le, nat_lt, Bool, true, false, if◌then◌else◌, List, [], ◌∷◌, ◌++◌, length, map, take, filter, get_or, slice_get, All, Option, Some, None, Result, Ok, Err, IfOk, refl, sym, ap, ◌∙◌, subst, arith, append-nil}
 use Rattle.std.proofs.lemmas.Bool.Decides.{nat_tests}
 use Rattle.std.proofs.lemmas.List.Elements.{All-get_or, All-push, filter-append}
 use Rattle.gx_ids.specs.declared.ids.Gxid.{Gxid}
@@ -13,10 +13,17 @@ use Rattle.gx_tree.specs.declared.value.Value.{Value}
 use Rattle.gx_eval.specs.Meaning.{and_then, truth_of, value_of}
 use Rattle.gx_eval.specs.declared.fault.ArithFault.{ArithFault}
 use Rattle.std.proofs.lemmas.List.Sorted.{IsPermutation-refl}
-use Rattle.std.specs.List.Sorted.{IsPermutation}
-use Rattle.std.proofs.lemmas.List.Kept.{IsStrictlySortedBy-filter}
+use Rattle.std.specs.List.{AllByRecursion}
+use Rattle.std.specs.List.Sorted.{IsPermutation, IsStrictlySortedBy}
+use Rattle.std.specs.declared.cmp.Ordering.TheVariants.{Less}
+use Rattle.gx_gather.specs.Order.{rid_order}
 use Rattle.gx_gather.specs.Answer.{AreRising, ArePartsOf, answer_of, grouped_answer, keeps, limited, part_of, plain_answer}
 use Rattle.gx_tree.specs.declared.cell.Cell.{Cell}
+use Rattle.std.specs.declared.vec.Vec.{Vec}
+use Rattle.std.specs.declared.alloc.Global.{Global}
+use Rattle.gx_ids.specs.declared.memory.OutOfMemory.{OutOfMemory}
+use Rattle.gx_tree.specs.declared.cell.OutRow.{OutRow}
+use Rattle.gx_tree.specs.declared.part.Part.{Part}
 use Rattle.gx_tree.specs.declared.query.Query.{Query}
 use Rattle.gx_plan.specs.Constants.{constant, each_from, rows_of, tuple_row, values_of}
 use Rattle.gx_plan.proofs.Each.{each_from-fault}
@@ -259,8 +266,23 @@ filter-filter p (x ∷ xs) = filter_one p x (filter p xs) (p x) refl (filter-fil
 pub kept_are_kept : (cond : Option Cond) (rows kept : List KeyedRow) → AreKept cond rows kept → All (λ row. keeps cond row ≡ true) kept
 kept_are_kept cond rows kept h = subst (λ l. All (λ row. keeps cond row ≡ true) l) (sym h.is) (filtered (keeps cond) rows)
 
+above_one : (rid : Rid) (r : KeyedRow) (rows : List KeyedRow) (b : Bool) → rid_order rid r.rid ≡ Less → AllByRecursion (λ y. rid_order rid y ≡ Less) (map (λ row. row.rid) rows) → AllByRecursion (λ y. rid_order rid y ≡ Less) (map (λ row. row.rid) (if b then r ∷ rows else rows))
+above_one rid r rows true e h = (e, h)
+above_one rid r rows false e h = h
+
+above-filter : (rid : Rid) (p : KeyedRow → Bool) (rows : List KeyedRow) → AllByRecursion (λ y. rid_order rid y ≡ Less) (map (λ row. row.rid) rows) → AllByRecursion (λ y. rid_order rid y ≡ Less) (map (λ row. row.rid) (filter p rows))
+above-filter rid p [] h = tt
+above-filter rid p (r ∷ rs) h = above_one rid r (filter p rs) (p r) h.0 (above-filter rid p rs h.1)
+
+rising_one : (r : KeyedRow) (rows : List KeyedRow) (b : Bool) → AllByRecursion (λ y. rid_order r.rid y ≡ Less) (map (λ row. row.rid) rows) → AreRising rows → AreRising (if b then r ∷ rows else rows)
+unfolding IsStrictlySortedBy
+rising_one r rows true a h = (a, h)
+rising_one r rows false a h = h
+
 rids-filter : (p : KeyedRow → Bool) (rows : List KeyedRow) → AreRising rows → AreRising (filter p rows)
-rids-filter p rows h = ?
+unfolding IsStrictlySortedBy
+rids-filter p [] h = h
+rids-filter p (r ∷ rs) h = rising_one r (filter p rs) (p r) (above-filter r.rid p rs h.0) (rids-filter p rs h.1)
 
 pub kept_rise : (cond : Option Cond) (rows kept : List KeyedRow) → AreRising rows → AreKept cond rows kept → AreRising kept
 kept_rise cond rows kept h k = subst AreRising (sym k.is) (rids-filter (keeps cond) rows h)
@@ -274,6 +296,12 @@ one_part query rows h k = record {
   rising = h;
   kept = k;
 }
+
+-- what the one part of a query's rows is merged to
+pub merged : (query : Query) (rows : List KeyedRow) (part : Part) (answer : Result (Vec OutRow Global) OutOfMemory) → part ≡ part_of query rows → ArePartsOf query rows (part_of query rows ∷ [])
+    → IfOk answer (λ out. (whole : List KeyedRow) → ArePartsOf query whole (part ∷ []) → out.items ≡ answer_of query whole) → IfOk answer (λ out. out.items ≡ answer_of query rows)
+merged query rows part (Ok out) e p h = h rows (subst (λ x. ArePartsOf query rows (x ∷ [])) (sym e) p)
+merged query rows part (Err e) is p h = tt
 
 pub kept_answer : (query : Query) (rows kept : List KeyedRow) → AreKept query.cond rows kept → answer_of query kept ≡ answer_of query rows
 kept_answer query rows kept h = ap (answer_of query) h.is ∙ ap (λ l. kept_only l) (filter-filter (keeps query.cond) rows)
