@@ -12,3 +12,10 @@ pub mod Refusals
 pub mod Answers
 pub mod Legal
 pub mod Runs
+pub mod Locks
+pub mod Journals
+pub mod Protocol
+pub mod Ordered
+pub mod Told
+pub mod Rounds
+pub mod Schedule

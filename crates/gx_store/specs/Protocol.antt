@@ -1,0 +1,133 @@
+-- How transactions commit and abort over several segments (Lyu et al., SIGMOD 2021: one- and two-phase commit).
+use Rattle.std.specs.Prelude.{◌≡◌, ◌⊎◌, ℕ, ◌+◌, Bool, false, if◌then◌else◌, ◌&&◌, ◌||◌, List, [], ◌∷◌, ◌++◌, slice_get, take, filter, Some, Contains}
+use Rattle.gx_ids.specs.declared.ids.Cid.{Cid}
+use Rattle.gx_ids.specs.declared.ids.Gxid.{Gxid}
+use Rattle.gx_ids.specs.declared.ids.Node.{Node}
+use Rattle.gx_ids.specs.declared.ids.SessionId.{SessionId}
+use Rattle.gx_tree.specs.declared.part.Part.{Part}
+use Rattle.gx_tree.specs.declared.slice.Slice.{Slice}
+use Rattle.gx_tree.specs.declared.stmt.Level.{Level}
+use Rattle.gx_tree.specs.declared.stmt.Stmt.{Stmt}
+use Rattle.gx_dsnap.specs.declared.snapshot.Snapshot.{Snapshot}
+use Rattle.gx_msg.specs.declared.message.Message.TheVariants as message
+use Rattle.gx_msg.specs.declared.reply.Reply.TheVariants as reply
+use Rattle.gx_plan.specs.Plan.{nodes_from}
+use Rattle.gx_script.specs.declared.Script.{Script}
+use Rattle.std.specs.declared.option.Option.{Option}
+use Rattle.gx_store.specs.declared.answer.StmtAnswer.{StmtAnswer}
+use Rattle.gx_store.specs.declared.answer.StmtAnswer.TheVariants.{Refused}
+use Rattle.gx_store.specs.declared.mark.Mark.{Mark}
+use Rattle.gx_store.specs.declared.mark.Mark.TheVariants as mark
+use Rattle.gx_store.specs.declared.run.Step.{Step}
+use Rattle.gx_store.specs.Commands.{RunsCommand}
+use Rattle.gx_store.specs.Journals.{is_same_node}
+use Rattle.gx_store.specs.Marks.{is_aborted, is_committed, is_same_gxid}
+use Rattle.gx_store.specs.Messages.{HasReceived, IsSent, Receives}
+use Rattle.gx_store.specs.Points.{Point, before}
+use Rattle.gx_store.specs.Refusals.{the_coordinator}
+
+-- the transaction has written at the node
+abbrev pub is_writer : List Mark → Gxid → Node → Bool
+is_writer [] g node = false
+is_writer (mark.Write h c n table rid image ∷ ms) g node = (is_same_gxid h g && is_same_node n node) || is_writer ms g node
+is_writer (_ ∷ ms) g node = is_writer ms g node
+
+-- the segments at which the transaction has written
+abbrev pub writers_of : Script → List Mark → Gxid → List Node
+writers_of script marks g = filter (is_writer marks g) (nodes_from 1 script.segments)
+
+-- how many marks tell of one and the same
+abbrev pub prepared_count : List Mark → Node → Gxid → ℕ
+prepared_count [] node g = 0
+prepared_count (mark.Prepared n h ∷ ms) node g = if is_same_node n node && is_same_gxid h g then prepared_count ms node g + 1 else prepared_count ms node g
+prepared_count (_ ∷ ms) node g = prepared_count ms node g
+
+abbrev pub local_count : List Mark → Node → Gxid → ℕ
+local_count [] node g = 0
+local_count (mark.LocalCommit n h ∷ ms) node g = if is_same_node n node && is_same_gxid h g then local_count ms node g + 1 else local_count ms node g
+local_count (_ ∷ ms) node g = local_count ms node g
+
+abbrev pub decided_count : List Mark → Gxid → ℕ
+decided_count [] g = 0
+decided_count (mark.Decided h ∷ ms) g = if is_same_gxid h g then decided_count ms g + 1 else decided_count ms g
+decided_count (_ ∷ ms) g = decided_count ms g
+
+-- one mark of a kind at each node where a test is true, and none elsewhere
+abbrev pub IsOnceAt : (Node → Bool) → (Node → ℕ) → Type 0
+IsOnceAt test count = (node : Node) → count node ≡ (if test node then 1 else 0)
+
+-- one phase, or none: what the writers' number asks for before the Commit mark, where `marks` are those before it
+pub record CommitsAtOnce (marks : List Mark) (g : Gxid) : Type 0 where
+  pub local : IsOnceAt (is_writer marks g) (λ node. local_count marks node g)
+  pub unprepared : (node : Node) → prepared_count marks node g ≡ 0
+  pub undecided : decided_count marks g ≡ 0
+
+-- two phases: all promise, then it is decided, then all commit
+pub record CommitsInTwo (marks : List Mark) (g : Gxid) : Type 0 where
+  pub prepared : IsOnceAt (is_writer marks g) (λ node. prepared_count marks node g)
+  pub decision : ℕ
+  pub decided : slice_get marks decision ≡ Some (mark.Decided g)
+  pub once : decided_count marks g ≡ 1
+  pub promised : IsOnceAt (is_writer marks g) (λ node. prepared_count (take decision marks) node g)
+  pub uncommitted : (node : Node) → local_count (take decision marks) node g ≡ 0
+  pub local : IsOnceAt (is_writer marks g) (λ node. local_count marks node g)
+
+abbrev pub CommitsBy : List Node → List Mark → Gxid → Type 0
+CommitsBy [] marks g = CommitsAtOnce marks g
+CommitsBy (node ∷ []) marks g = CommitsAtOnce marks g
+CommitsBy (node ∷ other ∷ nodes) marks g = CommitsInTwo marks g
+
+-- the segment was sent the command
+pub record IsExecuted (point : Point) (g : Gxid) (c : Cid) (node : Node) : Type 0 where
+  pub level : Level
+  pub snapshot : Option Snapshot
+  pub horizon : Gxid
+  pub slice : Slice
+  pub received : HasReceived point the_coordinator node (message.Exec g c level snapshot horizon slice)
+
+pub record IsDispatched (point : Point) (g : Gxid) (c : Cid) (node : Node) : Type 0 where
+  pub number : ℕ
+  pub level : Level
+  pub snapshot : Option Snapshot
+  pub horizon : Gxid
+  pub slice : Slice
+  pub sent : IsSent point.steps the_coordinator node number (message.Exec g c level snapshot horizon slice)
+
+-- its answer has come back
+pub record IsReturned (point : Point) (g : Gxid) (c : Cid) (node : Node) : Type 0 where
+  pub wrote : Bool
+  pub count : ℕ
+  pub part : Part
+  pub received : HasReceived point node the_coordinator (message.Answer g (reply.Done c wrote count part))
+
+-- a command that succeeds is answered once every segment that it was sent to is done
+abbrev pub IsComplete : Script → Point → SessionId → StmtAnswer → Type 0
+IsComplete script point session (Refused reason) = Unit {0}
+IsComplete script point session answer =
+    (line : Stmt) (level : Level) (g : Gxid) (c : Cid) (node : Node) → RunsCommand script point session line level g c → IsDispatched point g c node → IsReturned point g c node
+
+-- each journal's word, and each word of a failing journal, in its place
+abbrev pub FollowsAt : Script → Node → Point → Mark → Type 0
+FollowsAt script node point (mark.Commit g) = CommitsBy (writers_of script (before point) g) (before point) g
+FollowsAt script node point (mark.Decided g) = is_aborted (before point) g ≡ false
+FollowsAt script _ point (mark.LocalCommit node g) =
+    (is_aborted (before point) g ≡ false) × (is_committed (before point) g ≡ false)
+    × (Receives point.steps point.event the_coordinator node (message.Commit g) ⊎ Receives point.steps point.event the_coordinator node (message.CommitPrepared g))
+FollowsAt script _ point (mark.Prepared node g) =
+    (is_committed (before point) g ≡ false) × Receives point.steps point.event the_coordinator node (message.Prepare g)
+FollowsAt script node point (mark.Abort g) = (decided_count (before point) g ≡ 0) × ((segment : Node) → local_count (before point) segment g ≡ 0)
+FollowsAt script _ point (mark.Write g c node table rid image) = IsExecuted point g c node
+FollowsAt script node point (mark.Answer session number answer) = IsComplete script point session answer
+FollowsAt script node point (mark.Sent to number (message.Answer g reply.Jfault)) = Contains (before point) (mark.JournalFailed node g)
+FollowsAt script node point (mark.Sent to number (message.Answer g reply.Again)) = Contains point.earlier (mark.JournalFailed node g)
+FollowsAt script node point _ = Unit {0}
+
+abbrev pub DoMarksFollow : Script → List Step → Step → List Mark → List Mark → Type 0
+DoMarksFollow script steps step earlier [] = Unit {0}
+DoMarksFollow script steps step earlier (m ∷ ms) =
+    FollowsAt script step.stamp.node (record { steps = steps; event = step.event; earlier = earlier; later = ms }) m × DoMarksFollow script steps step (earlier ++ m ∷ []) ms
+
+-- the steps follow the commit protocol
+abbrev pub DoStepsFollow : Script → List Step → List Step → Type 0
+DoStepsFollow script before [] = Unit {0}
+DoStepsFollow script before (s ∷ ss) = DoMarksFollow script before s [] s.marks × DoStepsFollow script (before ++ s ∷ []) ss
