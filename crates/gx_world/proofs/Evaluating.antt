@@ -55,7 +55,7 @@ take-item {X = X} xs i x l e =
     more (y ∷ xs) (suc i) l e = ap (λ zs. y ∷ zs) (more xs i (omega arith) e)
 
 -- CONSTANTS
-passed : {A B : Type 0} (r : Result A ArithFault) (next : A → Result B ArithFault) (b : B) → and_then r next ≡ Ok b → (a : A) × (r ≡ Ok a) × (next a ≡ Ok b)
+pub passed : {A B : Type 0} (r : Result A ArithFault) (next : A → Result B ArithFault) (b : B) → and_then r next ≡ Ok b → (a : A) × (r ≡ Ok a) × (next a ≡ Ok b)
 passed (Ok a) next b h = (a, refl, h)
 passed (Err e) next b h = cc
 

@@ -1,1 +1,4 @@
 pub mod Evaluating
+pub mod Over
+pub mod Scripts
+pub mod Made

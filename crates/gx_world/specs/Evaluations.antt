@@ -58,10 +58,14 @@ place_of segments dist row = row_place segments dist row.row row.rid
 abbrev pub IsTypedOn : Cond → KeyedRow → Type 0
 IsTypedOn cond row = IsTyped (kinds_of row.row) cond
 
--- and the row has a place
+-- the row has a place
+abbrev pub IsPlaced : Dist → KeyedRow → Type 0
+IsPlaced dist row = IsWithin dist row.row
+
+-- both
 pub record IsFit (dist : Dist) (cond : Cond) (row : KeyedRow) : Type 0 where
   pub typed : IsTypedOn cond row
-  pub place : IsWithin dist row.row
+  pub place : IsPlaced dist row
 
 abbrev pub AreFit : Dist → Option Cond → List KeyedRow → Type 0
 AreFit dist None rows = Unit {0}

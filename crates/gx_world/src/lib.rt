@@ -3,5 +3,11 @@
 
 mod answering;
 mod constants;
+mod insert;
+mod lines;
+mod marks;
+mod select;
 mod selection;
 mod stop;
+mod tables;
+mod turn;
