@@ -5,7 +5,10 @@ use Rattle.std.proofs.lemmas.List.{length-map}
 use Rattle.std.specs.List.{AllByRecursion}
 use Rattle.gx_ids.specs.declared.ids.Cid.{Cid}
 use Rattle.gx_ids.specs.declared.ids.Gxid.{Gxid}
-use Rattle.gx_tree.specs.declared.expr.Expr.{Expr, Neg, Bin, Lit, Col}
+use Rattle.gx_tree.specs.declared.expr.Expr.{Expr, map-Expr}
+use Rattle.gx_tree.specs.declared.expr.Expr.TheOpen.{Expr-F}
+use Rattle.gx_tree.specs.declared.expr.Expr.TheViews.{out-Expr}
+use Rattle.gx_tree.specs.declared.expr.Expr.TheFolds.{fold_out-Expr}
 use Rattle.gx_tree.specs.declared.row.KeyedRow.{KeyedRow}
 use Rattle.gx_tree.specs.declared.schema.Column.{Column}
 use Rattle.gx_tree.specs.declared.schema.Dist.{Dist}
@@ -15,10 +18,9 @@ use Rattle.gx_tree.specs.declared.schema.Kind.TheVariants as kind
 use Rattle.gx_tree.specs.declared.schema.Schema.{Schema}
 use Rattle.gx_tree.specs.declared.value.Value.{Value}
 use Rattle.gx_tree.specs.declared.value.Value.TheVariants.{Int}
-use Rattle.gx_eval.specs.Kinds.{IsTyped, kind_of, kinds_of, number_kind, value_kind}
-use Rattle.gx_eval.specs.Meaning.{and_then, arithmetic, in_range, is_in_range, number_in, value_of}
+use Rattle.gx_eval.specs.Kinds.{IsTyped, kind_of, kind_step, kinds_of, number_kind, value_kind}
+use Rattle.gx_eval.specs.Meaning.{and_then, arithmetic, in_range, is_in_range, number_in, value_of, value_step}
 use Rattle.gx_eval.specs.declared.fault.ArithFault.{ArithFault}
-use Rattle.gx_eval.proofs.Nodes.{kind_of-bin, kind_of-col, kind_of-lit, kind_of-neg, value_of-bin, value_of-lit, value_of-neg}
 use Rattle.gx_eval.specs.declared.fault.ArithFault.TheVariants.{DivisionByZero, Overflow}
 use Rattle.gx_tree.specs.declared.cond.Cond.{Cond}
 use Rattle.gx_tree.specs.declared.expr.ArithOp.{ArithOp}
@@ -29,13 +31,13 @@ use Rattle.gx_world.specs.Evaluations.{AreConstants, AreFit, IsFit, IsPlaced}
 use Rattle.gx_world.specs.World.{AreOver}
 use Rattle.gx_world.proofs.Evaluating.{passed}
 
-is_int : (z : ℤ) (v : Value) → Ok {E = ArithFault} (Int z) ≡ Ok v → value_kind v ≡ kind.Int
-is_int z v h = let same : Int z ≡ v = cc in subst (λ (x : Value). value_kind x ≡ kind.Int) same refl
+is_int : (z : ℤ) (v : Value) (r : Result Value ArithFault) → r ≡ Ok (Int z) → r ≡ Ok v → value_kind v ≡ kind.Int
+is_int z v r e h = let same : Int z ≡ v = cc in subst (λ (x : Value). value_kind x ≡ kind.Int) same refl
 
 in_range_int : (z : ℤ) (v : Value) → in_range z ≡ Ok v → value_kind v ≡ kind.Int
 in_range_int z v h = cases (is_in_range z) h where
   cases : (b : Bool) → (if b then Ok (Int z) else Err Overflow) ≡ Ok v → value_kind v ≡ kind.Int
-  cases true h = is_int z v h
+  cases true h = is_int z v _ refl h
   cases false h = cc
 
 arithmetic_int : (op : ArithOp) (a b : ℤ) (v : Value) → arithmetic op a b ≡ Ok v → value_kind v ≡ kind.Int
@@ -49,7 +51,7 @@ arithmetic_int Div a b v h = cases (unsigned_abs b == 0) h where
 arithmetic_int Rem a b v h = cases (unsigned_abs b == 0) h where
   cases : (t : Bool) → (if t then Err DivisionByZero else Ok (Int (int_rem a b))) ≡ Ok v → value_kind v ≡ kind.Int
   cases true h = cc
-  cases false h = is_int (int_rem a b) v h
+  cases false h = is_int (int_rem a b) v _ refl h
 
 number_kind-int : (j k : Option Kind) (m : Kind) → number_kind j k ≡ Some m → m ≡ kind.Int
 number_kind-int (Some kind.Int) (Some kind.Int) m e = cc
@@ -58,22 +60,23 @@ number_kind-int (Some kind.Int) None m e = cc
 number_kind-int (Some kind.Text) k m e = cc
 number_kind-int None k m e = cc
 
+layer_kind : (y : Expr-F Expr) (v : Value) (k : Kind) → value_step [] (map-Expr Expr (Result Value ArithFault) (value_of []) y) ≡ Ok v → kind_step [] (map-Expr Expr (Option Kind) (kind_of []) y) ≡ Some k → value_kind v ≡ k
+layer_kind (Expr-F.Lit x) v k h g =
+    let value : x ≡ v = cc (h) in
+    let is : value_kind x ≡ k = cc (g) in
+    subst (λ (y : Value). value_kind y ≡ k) value is
+layer_kind (Expr-F.Col column) v k h g = cc (g)
+layer_kind (Expr-F.Neg e) v k h g =
+    let ran = passed (value_of [] e) (λ a. in_range (neg_ℤ (number_in a))) v h in
+    in_range_int (neg_ℤ (number_in ran.0)) v ran.2 ∙ sym (number_kind-int _ _ k g)
+layer_kind (Expr-F.Bin op l r) v k h g =
+    let left = passed (value_of [] l) (λ a. and_then (value_of [] r) (λ b. arithmetic op (number_in a) (number_in b))) v h in
+    let right = passed (value_of [] r) (λ b. arithmetic op (number_in left.0) (number_in b)) v left.2 in
+    arithmetic_int op (number_in left.0) (number_in right.0) v right.2 ∙ sym (number_kind-int _ _ k g)
+
 -- a constant's value is of its kind
 constant_kind : (e : Expr) (v : Value) (k : Kind) → value_of [] e ≡ Ok v → kind_of [] e ≡ Some k → value_kind v ≡ k
-constant_kind (Lit x) v k h g =
-    let same : Ok {E = ArithFault} x ≡ Ok v = sym (value_of-lit [] x) ∙ h in
-    let of : Some (value_kind x) ≡ Some k = sym (kind_of-lit [] x) ∙ g in
-    let value : x ≡ v = cc in
-    let is : value_kind x ≡ k = cc in
-    subst (λ (y : Value). value_kind y ≡ k) value is
-constant_kind (Col column) v k h g = let none : None ≡ Some k = sym (kind_of-col [] column) ∙ g in cc (none)
-constant_kind (Neg e) v k h g =
-    let ran = passed (value_of [] e) (λ a. in_range (neg_ℤ (number_in a))) v (sym (value_of-neg [] e) ∙ h) in
-    in_range_int (neg_ℤ (number_in ran.0)) v ran.2 ∙ sym (number_kind-int _ _ k (sym (kind_of-neg [] e) ∙ g))
-constant_kind (Bin op l r) v k h g =
-    let left = passed (value_of [] l) (λ a. and_then (value_of [] r) (λ b. arithmetic op (number_in a) (number_in b))) v (sym (value_of-bin [] op l r) ∙ h) in
-    let right = passed (value_of [] r) (λ b. arithmetic op (number_in left.0) (number_in b)) v left.2 in
-    arithmetic_int op (number_in left.0) (number_in right.0) v right.2 ∙ sym (number_kind-int _ _ k (sym (kind_of-bin [] op l r) ∙ g))
+constant_kind e v k h g = layer_kind (out-Expr e) v k (sym (fold_out-Expr (Result Value ArithFault) (value_step []) e) ∙ h) (sym (fold_out-Expr (Option Kind) (kind_step []) e) ∙ g)
 
 values_kinds : (n : ℕ) (tuple : List Expr) (values : List Value) (kinds : List Kind) → each_from constant n tuple ≡ Ok values → map (kind_of []) tuple ≡ map Some kinds → kinds_of values ≡ kinds
 values_kinds n [] values [] h g = let none : [] ≡ values = cc in subst (λ (vs : List Value). kinds_of vs ≡ []) none refl
@@ -109,7 +112,7 @@ some_kind (e ∷ es) [] h = cc
 some_kind (e ∷ es) (k ∷ ks) h =
     let here : Some k ≡ kind_of [] e = cc in
     let behind : map (kind_of []) es ≡ map Some ks = cc in
-    (subst IsSome here tt, some_kind es ks behind)
+    (subst IsSome here refl, some_kind es ks behind)
 
 -- a tuple over columns has constants alone
 pub constants_in : (columns : List Column) (tuple : List Expr) → IsTuple columns tuple → AreConstants tuple
