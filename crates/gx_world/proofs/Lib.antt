@@ -3,3 +3,5 @@ pub mod Over
 pub mod Scripts
 pub mod Made
 pub mod Written
+pub mod Standing
+pub mod Sound
