@@ -5,3 +5,5 @@ pub mod Made
 pub mod Written
 pub mod Standing
 pub mod Sound
+pub mod Selects
+pub mod Inserts

@@ -11,6 +11,7 @@ use Rattle.gx_ids.specs.declared.rid.Rid.{Rid}
 use Rattle.gx_tree.specs.declared.row.KeyedRow.{KeyedRow}
 use Rattle.gx_tree.specs.declared.schema.Schema.{Schema}
 use Rattle.gx_tree.specs.declared.stmt.Stmt.{Stmt}
+use Rattle.gx_tree.specs.declared.value.Value.{Value}
 use Rattle.gx_dsnap.specs.declared.snapshot.Snapshot.{Snapshot}
 use Rattle.gx_resolve.specs.Rules.{IsAt}
 use Rattle.gx_script.specs.declared.Script.{Script}
@@ -116,6 +117,17 @@ module _ (script : Script) (steps : List Step) (tables : List (Vec KeyedRow Glob
     pub image_kept : (table : Table) (rid : Rid) → image_after (λ x c. is_committed (ms ++ done) x) table rid None ms ≡ image_after (λ x c. is_committed ms x) table rid None ms
     image_kept table rid = image_after-agree (λ x c. is_committed (ms ++ done) x) (λ x c. is_committed ms x) d table rid None ms h.own (λ x c l. committed_as_before x l)
 
+    -- where the step's marks leave all images, a table's rows are still those that nobody's transaction sees
+    pub table_kept : (table : Table) → ((rid : Rid) (image : Option (List Value)) → image_after (λ x c. is_committed (ms ++ done) x) table rid image done ≡ image) → IsTable (ms ++ done) table (rows_in tables table.0) (d + 1)
+    table_kept table still = record {
+      view = record {
+        rising = (h.rows table).view.rising;
+        images = λ rid. (h.rows table).view.images rid
+            ∙ sym (image_after-append (λ x c. is_committed (ms ++ done) x) table rid None ms done ∙ still rid _ ∙ image_kept table rid);
+      };
+      made = AreMadeBelow-weaken d (rows_in tables table.0) (h.rows table).made;
+    }
+
     pub sound_next : (grown : List (Vec KeyedRow Global)) → AreLegalMarks script steps (event.Start the_session) (behind script steps tables d stmt h line on snapshot []) rest []
         → ((table : Table) → IsTable (ms ++ done) table (rows_in grown table.0) (d + 1)) → ((table : Table) (schema : Schema) → IsAt script.tables table schema → AreOver schema (rows_in grown table.0)) → length grown ≡ length script.tables
         → IsSound script (steps ++ step ∷ []) grown (d + 1)
@@ -135,3 +147,18 @@ module _ (script : Script) (steps : List Step) (tables : List (Vec KeyedRow Glob
       over = over;
       count = count;
     }
+
+pub sound_new : (script : Script) (tables : List (Vec KeyedRow Global)) → ((k : ℕ) → rows_in tables k ≡ []) → length tables ≡ length script.tables → IsSound script [] tables 0
+sound_new script tables none count = record {
+  legal = tt;
+  starts = refl;
+  lines = none_first;
+  answers = none_first;
+  idle = λ s. refl;
+  outside = λ s. refl;
+  ended = λ x. none_drawn x.0;
+  own = tt;
+  rows = λ table. subst (λ (rs : List KeyedRow). IsTable [] table rs 0) (sym (none table.0)) (record { view = record { rising = AreRising-none; images = λ rid. refl }; made = tt });
+  over = λ table schema at. subst (AreOver schema) (sym (none table.0)) tt;
+  count = count;
+}
