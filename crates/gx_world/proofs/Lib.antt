@@ -7,3 +7,5 @@ pub mod Standing
 pub mod Sound
 pub mod Selects
 pub mod Inserts
+pub mod Running
+pub mod Found

@@ -8,6 +8,10 @@ mod lines;
 mod marks;
 mod select;
 mod selection;
+mod starting;
 mod stop;
 mod tables;
 mod turn;
+pub mod world;
+
+pub use world::World;
