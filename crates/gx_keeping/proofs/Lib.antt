@@ -1,0 +1,3 @@
+pub mod Core
+pub mod Others
+pub mod Txns
