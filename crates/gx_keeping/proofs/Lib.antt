@@ -1,3 +1,6 @@
 pub mod Core
+pub mod Ends
+pub mod Moves
 pub mod Others
 pub mod Txns
+pub mod Under

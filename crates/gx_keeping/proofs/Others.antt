@@ -24,22 +24,8 @@ use Rattle.gx_store.proofs.Marks.{answer_count-append, has_snapshot-append, is_b
 use Rattle.gx_keeping.specs.declared.session.Session.{Session}
 use Rattle.gx_keeping.specs.Kept.{has_marks}
 use Rattle.gx_keeping.specs.Standing.{HasSnapshot, IsOpen, IsSession, IsTakenIn, KeepsBlock, Stands, StandsUnless}
+use Rattle.gx_keeping.specs.Under.{AreOf}
 use Rattle.gx_keeping.proofs.Core.{has_marks-append}
-
--- the marks of a step in which a session runs a line in a transaction
-abbrev pub IsOf : SessionId → Gxid → Mark → Type 0
-IsOf k g (Start h s) = (s ≡ k) × (h ≡ g)
-IsOf k g (Snap h c snapshot) = h ≡ g
-IsOf k g (Write h c n t r image) = (h ≡ g) × (r.gxid ≡ g)
-IsOf k g (Fault h c r image) = h ≡ g
-IsOf k g (Commit h) = h ≡ g
-IsOf k g (Abort h) = h ≡ g
-IsOf k g (Answer s n a) = s ≡ k
-IsOf k g _ = ⊥
-
-abbrev pub AreOf : SessionId → Gxid → List Mark → Type 0
-AreOf k g [] = Unit {0}
-AreOf k g (m ∷ ms) = IsOf k g m × AreOf k g ms
 
 other_session : (j k : SessionId) → j.0 ≢ k.0 → is_same_session k j ≡ false
 other_session j k other = grind (arith, nat_tests)
@@ -125,15 +111,6 @@ module _ (k : SessionId) (g : Gxid) (q : Gxid) (other : q.0 ≢ g.0) where
   has_snapshot-of (Answer s n a ∷ ms) of = has_snapshot-of ms of.1
   has_snapshot-of (_ ∷ ms) of = absurd of.0
 
-or_session : (b : Bool) (s : SessionId) (o p : Option SessionId) → cond b (Some s) (option_or o p) ≡ option_or (cond b (Some s) o) p
-or_session true s o p = refl
-or_session false s o p = refl
-
-pub session_of-append : (xs ys : List Mark) (g : Gxid) → session_of (xs ++ ys) g ≡ option_or (session_of xs g) (session_of ys g)
-session_of-append [] ys g = refl
-session_of-append (Start h s ∷ xs) ys g = ap (cond (is_same_gxid h g) (Some s)) (session_of-append xs ys g) ∙ or_session (is_same_gxid h g) s (session_of xs g) (session_of ys g)
-session_of-append (_ ∷ xs) ys g = session_of-append xs ys g
-
 -- a snapshot that was taken among the marks was taken among more
 pub IsTakenIn-append : (marks ms : List Mark) (g : Gxid) (snapshot : Snapshot) → IsTakenIn marks g snapshot → IsTakenIn (marks ++ ms) g snapshot
 IsTakenIn-append marks ms g snapshot taken = record {
@@ -157,7 +134,6 @@ module _ (script : Script) (marks ms : List Mark) (k : SessionId) (g : Gxid) (of
     IsOpen-of : (level : Level) → IsOpen marks d j s level → IsOpen (marks ++ ms) d' j s level
     IsOpen-of level is = record {
       started = started_after-append j None marks ms ∙ started_after-of k g j apart (started_after j None marks) ms of ∙ is.started;
-      owner = session_of-append marks ms s.gxid ∙ ap (λ (o : Option SessionId). option_or o (session_of ms s.gxid)) is.owner;
       txn = is.txn;
       found = same ∙ is.found;
       fresh = has_marks-append s.gxid (s.commands + 1) marks ms ∙ ap (λ (b : Bool). has_marks s.gxid (s.commands + 1) marks || b) (has_marks-of k g s.gxid other (s.commands + 1) ms of) ∙ or_false (has_marks s.gxid (s.commands + 1) marks) ∙ is.fresh;

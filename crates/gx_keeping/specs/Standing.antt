@@ -16,7 +16,7 @@ use Rattle.gx_dtx.specs.declared.txn.Txn.{Txn}
 use Rattle.gx_store.specs.declared.mark.Mark.{Mark}
 use Rattle.gx_store.specs.declared.mark.Mark.TheVariants.{Snap}
 use Rattle.gx_store.specs.Lines.{BlockState, Outside, InBlock, Failed, state_of}
-use Rattle.gx_store.specs.Marks.{answer_count, has_snapshot, is_begun, session_of, started_after}
+use Rattle.gx_store.specs.Marks.{answer_count, has_snapshot, is_begun, started_after}
 use Rattle.gx_views.specs.Reading.{IsTakenBehind}
 use Rattle.gx_keeping.specs.declared.session.Session.{Session}
 use Rattle.gx_keeping.specs.Kept.{has_marks}
@@ -43,7 +43,6 @@ HasSnapshot RepeatableRead marks g live (Some snapshot) = IsTakenIn marks g snap
 -- the session's block is open: its transaction is known, and none of its marks is of a later command
 pub record IsOpen (marks : List Mark) (d : coordinator.Table) (k : SessionId) (s : Session) (level : Level) : Type 0 where
   pub started : started_after k None marks ≡ Some s.gxid
-  pub owner : session_of marks s.gxid ≡ Some k
   pub txn : Txn
   pub found : find_txn d s.gxid ≡ Some txn
   pub fresh : has_marks s.gxid (s.commands + 1) marks ≡ false
