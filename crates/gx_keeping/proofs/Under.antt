@@ -88,7 +88,7 @@ pub record IsNeutral (k : SessionId) (m : Mark) : Type 0 where
   pub started : (o : Option Gxid) → started_after k o (m ∷ []) ≡ o
 
 module _ (k : SessionId) (marks : List Mark) (m : Mark) (neutral : IsNeutral k m) where
-  transaction_of-neutral : (state : BlockState) → transaction_of state k (marks ++ m ∷ []) ≡ transaction_of state k marks
+  pub transaction_of-neutral : (state : BlockState) → transaction_of state k (marks ++ m ∷ []) ≡ transaction_of state k marks
   transaction_of-neutral Outside =
       ap (λ (b : Bool). cond b (started_after k None (marks ++ m ∷ [])) None) (is_begun_after-append k false marks (m ∷ []) ∙ neutral.begun (is_begun k marks))
       ∙ ap (λ (o : Option Gxid). cond (is_begun k marks) o None) (started_after-append k None marks (m ∷ []) ∙ neutral.started (started_after k None marks))
