@@ -5,3 +5,4 @@ pub mod Moves
 pub mod Others
 pub mod Txns
 pub mod Under
+pub mod World
