@@ -1,5 +1,5 @@
 -- What the evaluations of a statement answer: what is asked for, a fault, or want of memory.
-use Rattle.std.specs.Prelude.{◌≡◌, ◌⊎◌, ℕ, ◌<◌, ◌≤◌, nat_le, Bool, if◌then◌else◌, List, filter, slice_get, All, Option, Some, None, Result, Ok, Err}
+use Rattle.std.specs.Prelude.{◌≡◌, ◌⊎◌, ℕ, ◌<◌, ◌≤◌, nat_le, Bool, if◌then◌else◌, List, [], ◌∷◌, ◌++◌, filter, slice_get, All, Option, Some, None, Result, Ok, Err}
 use Rattle.std.specs.declared.vec.Vec.{Vec}
 use Rattle.std.specs.declared.alloc.Global.{Global}
 use Rattle.gx_ids.specs.declared.rid.Rid.{Rid}
@@ -10,6 +10,9 @@ use Rattle.gx_tree.specs.declared.schema.Dist.{Dist}
 use Rattle.gx_tree.specs.declared.value.Value.{Value}
 use Rattle.gx_eval.specs.Kinds.{IsTyped, kinds_of}
 use Rattle.gx_eval.specs.declared.fault.ArithFault.{ArithFault}
+use Rattle.gx_eval.specs.declared.fault.ArithFault.TheVariants as arith
+use Rattle.gx_eval.specs.declared.fault.EvalFault.{EvalFault}
+use Rattle.gx_eval.specs.declared.fault.EvalFault.TheVariants as eval
 use Rattle.gx_gather.specs.Answer.{keeps}
 use Rattle.gx_place.specs.Place.{IsWithin, row_place}
 use Rattle.gx_plan.specs.Constants.{IsConstant}
@@ -20,13 +23,24 @@ use Rattle.gx_world.specs.declared.stop.Faulted.{Faulted}
 use Rattle.gx_world.specs.declared.stop.Stop.{Stop}
 use Rattle.gx_world.specs.declared.stop.Stop.TheVariants as stop
 
+-- a fault of this kind, or want of memory
+abbrev pub Stops : (Faulted → Type 0) → Stop → Type 0
+Stops IsFault (stop.Faulted faulted) = IsFault faulted
+Stops IsFault stop.OutOfMemory = Unit {0}
+
 -- an answer of this kind, a fault of that kind, or want of memory
 abbrev pub Gives : {A : Type 0} → (A → Type 0) → (Faulted → Type 0) → Result A Stop → Type 0
-Gives done faults (Ok answer) = done answer
-Gives done faults (Err (stop.Faulted faulted)) = faults faulted
-Gives done faults (Err stop.OutOfMemory) = Unit {0}
+Gives IsDone IsFault (Ok answer) = IsDone answer
+Gives IsDone IsFault (Err why) = Stops IsFault why
 
 -- CONSTANTS
+-- an evaluation answers a meaning, unless memory runs out
+abbrev pub Means : Result Value ArithFault → Result Value EvalFault → Type 0
+Means meaning (Ok value) = meaning ≡ Ok value
+Means meaning (Err eval.Overflow) = meaning ≡ Err arith.Overflow
+Means meaning (Err eval.DivisionByZero) = meaning ≡ Err arith.DivisionByZero
+Means meaning (Err eval.OutOfMemory) = Unit {0}
+
 abbrev pub AreConstants : List Expr → Type 0
 AreConstants tuple = All IsConstant tuple
 
@@ -40,10 +54,18 @@ pub record IsToBe (rid : Rid) (IsFault : ArithFault → Type 0) (faulted : Fault
 abbrev pub place_of : ℕ → Dist → KeyedRow → ℕ
 place_of segments dist row = row_place segments dist row.row row.rid
 
--- the condition has a meaning on the row, and the row a place
+-- the condition has a meaning on the row
+abbrev pub IsTypedOn : Cond → KeyedRow → Type 0
+IsTypedOn cond row = IsTyped (kinds_of row.row) cond
+
+-- the row has a place
+abbrev pub IsPlaced : Dist → KeyedRow → Type 0
+IsPlaced dist row = IsWithin dist row.row
+
+-- both
 pub record IsFit (dist : Dist) (cond : Cond) (row : KeyedRow) : Type 0 where
-  pub typed : IsTyped (kinds_of row.row) cond
-  pub place : IsWithin dist row.row
+  pub typed : IsTypedOn cond row
+  pub place : IsPlaced dist row
 
 abbrev pub AreFit : Dist → Option Cond → List KeyedRow → Type 0
 AreFit dist None rows = Unit {0}
@@ -82,6 +104,10 @@ pub record IsTold (segments : ℕ) (dist : Dist) (cond : Option Cond) (rows : Li
   pub first : IsFirstFault segments dist cond rows at row faulted.fault
   pub rid : faulted.rid ≡ row.rid
   pub image : faulted.image ≡ Some row.row
+
+-- a row put behind others where it is kept
+abbrev pub kept_if : Bool → List KeyedRow → KeyedRow → List KeyedRow
+kept_if truth kept row = if truth then kept ++ row ∷ [] else kept
 
 -- the rows that the condition keeps, none of which it faults on
 pub record AreKept (cond : Option Cond) (rows kept : List KeyedRow) : Type 0 where

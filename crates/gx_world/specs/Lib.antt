@@ -1,1 +1,3 @@
 pub mod Evaluations
+pub mod Steps
+pub mod World

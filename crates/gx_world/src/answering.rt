@@ -1,6 +1,6 @@
 // The answer of a query.
-ghost use Rattle.std.specs.Prelude.{◌≡◌, ◌≤◌};
-ghost use Rattle.gx_gather.specs.Answer.{AreRising, answer_of};
+ghost use Rattle.std.specs.Prelude.{◌≡◌, ◌≤◌, All, IfOk, true};
+ghost use Rattle.gx_gather.specs.Answer.{AreRising, answer_of, keeps};
 ghost use Rattle.gx_store.specs.Answers.{FaultsOnNone};
 ghost use Rattle.gx_world.specs.Evaluations.{AreFit, Gives, IsTold};
 
@@ -30,7 +30,11 @@ pub(crate) fn answer(
 }
 
 // What a query answers on the rows that its condition keeps.
-fn gathered(alloc: Global, query: &Query, kept: &[KeyedRow]) -> Mem<Vec<OutRow>> {
+fn gathered(alloc: Global, query: &Query, kept: &[KeyedRow]) -> Mem<Vec<OutRow>>
+    requires rising { AreRising kept.now }
+    requires kept { All (λ row. keeps query.now.cond row ≡ true) kept.now }
+    ensures { IfOk result (λ answer. answer.items ≡ answer_of query.now kept.now) }
+{
     let part = partial(alloc, query, kept)?;
     merge(alloc, query, &[part])
 }

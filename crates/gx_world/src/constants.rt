@@ -3,7 +3,7 @@ ghost use Rattle.std.specs.Prelude.{◌≡◌, ◌<◌, ◌^◌, [], All, length
 ghost use Rattle.gx_eval.specs.Meaning.{value_of};
 ghost use Rattle.gx_plan.specs.Constants.{IsConstant, rows_of, values_of};
 ghost use Rattle.gx_store.specs.Faults.{FaultsInConstants};
-ghost use Rattle.gx_world.specs.Evaluations.{AreConstants, Gives, IsToBe};
+ghost use Rattle.gx_world.specs.Evaluations.{AreConstants, Gives, IsToBe, Means};
 ghost use Rattle.gx_world.specs.declared.stop.Stop.TheVariants.{Faulted as AtRow};
 
 use crate::stop::{Faulted, Stop};
@@ -36,6 +36,7 @@ pub(crate) fn constant_rows(
 
 // The row of a tuple.
 fn constant_row(alloc: Global, rid: Rid, tuple: &[Expr]) -> Result<Row, Stop>
+    requires { AreConstants tuple.now }
     ensures { Gives (λ row. values_of tuple.now ≡ Ok row) (IsToBe rid (λ fault. values_of tuple.now ≡ Err fault)) result }
 {
     let mut values = Vec::with_capacity(alloc, tuple.len())?;
@@ -46,15 +47,24 @@ fn constant_row(alloc: Global, rid: Rid, tuple: &[Expr]) -> Result<Row, Stop>
 }
 
 fn constant(alloc: Global, rid: Rid, expr: &Expr) -> Result<Value, Stop>
+    requires { IsConstant expr.now }
     ensures { Gives (λ value. value_of [] expr.now ≡ Ok value) (IsToBe rid (λ fault. value_of [] expr.now ≡ Err fault)) result }
 {
-    let none = Row::from_vec(Vec::new(alloc));
-    match eval(alloc, expr, &none) {
+    match evaluated(alloc, expr) {
         Ok(value) => Ok(value),
         Err(EvalFault::Overflow) => Err(to_be(rid, ArithFault::Overflow)),
         Err(EvalFault::DivisionByZero) => Err(to_be(rid, ArithFault::DivisionByZero)),
         Err(EvalFault::OutOfMemory) => Err(Stop::OutOfMemory),
     }
+}
+
+// A constant is evaluated on a row without columns.
+fn evaluated(alloc: Global, expr: &Expr) -> Result<Value, EvalFault>
+    requires { IsConstant expr.now }
+    ensures { Means (value_of [] expr.now) result }
+{
+    let none = Row::from_vec(Vec::new(alloc));
+    eval(alloc, expr, &none)
 }
 
 // A fault on a row that was to be.

@@ -3,5 +3,15 @@
 
 mod answering;
 mod constants;
+mod insert;
+mod lines;
+mod marks;
+mod select;
 mod selection;
+mod starting;
 mod stop;
+mod tables;
+mod turn;
+pub mod world;
+
+pub use world::World;

@@ -1,10 +1,7 @@
 // The rows of a query.
-ghost use Rattle.std.specs.Prelude.{◌≡◌, ◌≤◌, ◌<◌, All, length, Some, IfOk};
+ghost use Rattle.std.specs.Prelude.{◌≡◌, ◌≤◌, All, Some, IfOk, OnOk};
 ghost use Rattle.std.specs.Option.{option_copied};
-ghost use Rattle.gx_eval.specs.Kinds.{IsTyped, kinds_of};
-ghost use Rattle.gx_place.specs.Place.{IsWithin};
-ghost use Rattle.gx_world.specs.Evaluations.{AreFit, AreKept, FaultsOnSome, Gives, IsFit, IsFirstFaulting, IsTold, Meets, first_of_two};
-ghost use Rattle.gx_world.specs.declared.stop.Stop.{Stop as AStop};
+ghost use Rattle.gx_world.specs.Evaluations.{AreFit, AreKept, FaultsOnSome, Gives, IsFit, IsFirstFaulting, IsTold, IsTypedOn, Meets, Stops, first_of_two, kept_if};
 
 use crate::stop::{Faulted, Stop};
 use gx_eval::{ArithFault, decide};
@@ -24,7 +21,7 @@ pub(crate) fn selected(
 ) -> Result<Vec<KeyedRow>, Stop>
     requires some { 1 ≤ segments }
     requires few { segments ≤ 16 }
-    requires fit { AreFit schema.now.dist (option_copied cond.entry) rows.now }
+    requires fit { AreFit schema.now.dist (option_copied cond) rows.now }
     ensures { Gives (λ kept. AreKept (option_copied cond.entry) rows.now kept.items) (IsTold segments schema.now.dist (option_copied cond.entry) rows.now) result }
 {
     match cond {
@@ -53,18 +50,26 @@ fn selected_by(
 
 // Copies of the rows on which the condition is true, or None where it faults on one.
 fn meeting(alloc: Global, cond: &Cond, rows: &[KeyedRow]) -> Mem<Option<Vec<KeyedRow>>>
-    requires { All (λ row. IsTyped (kinds_of row.row) cond.now) rows.now }
+    requires { All (IsTypedOn cond.now) rows.now }
     ensures { IfOk result (Meets cond.now rows.now) }
 {
     let mut met = Vec::new(alloc);
     for row in rows {
-        match decide(cond, &row.row) {
-            Ok(true) => met.push(row.copy(alloc)?)?,
-            Ok(false) => {}
-            Err(_) => return Ok(None),
-        }
+        let Ok(truth) = decide(cond, &row.row) else {
+            return Ok(None);
+        };
+        keep_if(alloc, truth, row, &mut met)?;
     }
     Ok(Some(met))
+}
+
+fn keep_if(alloc: Global, truth: bool, row: &KeyedRow, kept: &mut Vec<KeyedRow>) -> Mem<()>
+    ensures { OnOk result (kept.new.items ≡ kept_if truth kept.old.items row.now) }
+{
+    if truth {
+        kept.push(row.copy(alloc)?)?;
+    }
+    Ok(())
 }
 
 // The first fault of a condition that gives one.
@@ -79,7 +84,7 @@ fn first_fault(
     requires few { segments ≤ 16 }
     requires fit { All (IsFit schema.now.dist cond.now) rows.now }
     requires faults { FaultsOnSome cond.now rows.now }
-    ensures { Gives (λ _. ⊥) (IsTold segments schema.now.dist (Some cond.now) rows.now) (Err result) }
+    ensures { Stops (IsTold segments schema.now.dist (Some cond.now) rows.now) result }
 {
     match first_faulting(segments, schema, cond, rows) {
         Some(faulting) => faulted(alloc, &rows[faulting.at], faulting.fault),
@@ -89,6 +94,7 @@ fn first_fault(
 
 // A fault on this row.
 fn faulted(alloc: Global, row: &KeyedRow, fault: ArithFault) -> Stop
+    ensures { Stops (λ f. f ≡ record { rid = row.now.rid; image = Some row.now.row; fault = fault }) result }
 {
     match row.row.copy(alloc) {
         Ok(image) => Stop::Faulted(Faulted {

@@ -1,0 +1,11 @@
+pub mod Evaluating
+pub mod Over
+pub mod Scripts
+pub mod Made
+pub mod Written
+pub mod Standing
+pub mod Sound
+pub mod Selects
+pub mod Inserts
+pub mod Running
+pub mod Found
