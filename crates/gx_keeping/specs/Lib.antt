@@ -1,0 +1,4 @@
+pub mod Kept
+pub mod Standing
+pub mod Under
+pub mod World
