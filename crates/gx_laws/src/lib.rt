@@ -1,0 +1,2 @@
+//! What holds of every run of the machine: laws over the rules of both nodes.
+#![tactic(auto)]
