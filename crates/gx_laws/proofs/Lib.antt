@@ -3,3 +3,8 @@ pub mod Places
 pub mod AtSegments
 pub mod Tables
 pub mod AtCoordinators
+pub mod Sent
+pub mod Clocks
+pub mod Letters
+pub mod Ordered
+pub mod Follows
