@@ -8,3 +8,5 @@ pub mod Clocks
 pub mod Letters
 pub mod Ordered
 pub mod Follows
+pub mod Stages
+pub mod Statuses
