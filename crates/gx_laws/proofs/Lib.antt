@@ -10,3 +10,4 @@ pub mod Ordered
 pub mod Follows
 pub mod Stages
 pub mod Statuses
+pub mod Sessions
