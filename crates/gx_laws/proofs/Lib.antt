@@ -11,3 +11,4 @@ pub mod Follows
 pub mod Stages
 pub mod Statuses
 pub mod Sessions
+pub mod Past

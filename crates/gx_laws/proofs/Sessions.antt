@@ -11,6 +11,7 @@ use Rattle.gx_session.specs.declared.state.SessionState.{SessionState}
 use Rattle.gx_dtx.specs.Table.{Table, find_txn}
 use Rattle.gx_dtx.specs.declared.txn.Txn.{Txn}
 use Rattle.gx_rules.specs.Coordinators.{Command, Coord, Session, Work, no_work}
+use Rattle.gx_rules.specs.Maps.{with_at}
 use Rattle.gx_laws.proofs.Stages.{IsWhole, gx}
 use Rattle.gx_laws.proofs.Statuses.{Stage, stage}
 use Rattle.gx_laws.proofs.Statuses.Stage.{Absent, Live, Closing, Finished, Dropped}
@@ -180,3 +181,82 @@ module _ (c d : Coord) (g s : ℕ) (now : Option Txn) (w : Work) (x : Session) (
               differ : Absent ≡ Closing → ⊥
               differ z = cc
       elsewhere j false q = k.placed j
+
+-- A CHANGE OF STAGES ALONE
+-- the stage stays, or it is one that says nothing before and after
+abbrev pub is_said : Stage → Bool
+is_said Live = true
+is_said Closing = true
+is_said _ = false
+
+abbrev pub IsQuiet : Stage → Stage → Type 0
+IsQuiet a b = (b ≡ a) ⊎ ((is_said a ≡ false) × (is_said b ≡ false))
+
+quiet-tied : (a b : Stage) (g : ℕ) (w : Work) (x : Session) → IsQuiet a b → Tied a g w x → Tied b g w x
+quiet-tied a b g w x (inl e) t = subst (λ q. Tied q g w x) (sym e) t
+quiet-tied a b g w x (inr n) t =
+    record { live = λ l. absurd (no-live b n.1 l); closing = λ l. absurd (no-closing b n.1 l); awaits = λ k f m. absurd (no-live a n.0 (t.awaits k f m).0) }
+  where
+    no-live : (a : Stage) → is_said a ≡ false → a ≡ Live → ⊥
+    no-live a e l = grind arith
+    no-closing : (a : Stage) → is_said a ≡ false → a ≡ Closing → ⊥
+    no-closing a e l = grind arith
+
+quiet-placed : (s : ℕ) (x : Session) (a b : Stage) (w : Work) → IsQuiet a b → Placed s x a w → Placed s x b w
+quiet-placed s x a b w (inl e) t = subst (λ q. Placed s x q w) (sym e) t
+quiet-placed s x a b w (inr n) t = record { stands = λ o. absurd (not-said (t.stands o).0); free = λ o i. absurd (not-said (t.stands o).0) }
+  where
+    not-said : (a ≡ Live) ⊎ (a ≡ Closing) → ⊥
+    not-said (inl l) = live a n.0 l
+      where
+        live : (a : Stage) → is_said a ≡ false → a ≡ Live → ⊥
+        live a e l = grind arith
+    not-said (inr l) = closing a n.0 l
+      where
+        closing : (a : Stage) → is_said a ≡ false → a ≡ Closing → ⊥
+        closing a e l = grind arith
+
+pub kept-quiet : (c d : Coord) → Kept c → IsWhole d.table → ((j : ℕ) → IsQuiet (stage_of c j) (stage_of d j)) → ((j : ℕ) → d.works j ≡ c.works j) → ((j : ℕ) → d.sessions j ≡ c.sessions j) → Kept d
+kept-quiet c d k whole q works sessions =
+    record {
+      whole = whole;
+      tied = λ g. tied-by _ _ g _ _ _ _ refl (works g) (ap (λ (v : Work). d.sessions v.session.0) (works g) ∙ sessions _) (quiet-tied (stage_of c g) (stage_of d g) g (c.works g) (c.sessions (c.works g).session.0) (q g) (k.tied g));
+      placed = λ s. placed-by s _ _ _ _ _ _ (sessions s) (ap (λ (y : Session). stage_of d y.transaction.0) (sessions s)) (ap (λ (y : Session). d.works y.transaction.0) (sessions s) ∙ works _)
+        (quiet-placed s (c.sessions s) (stage_of c (c.sessions s).transaction.0) (stage_of d (c.sessions s).transaction.0) (c.works (c.sessions s).transaction.0) (q (c.sessions s).transaction.0) (k.placed s));
+    }
+
+-- A CHANGE OF AN IDLE SESSION ALONE
+idle-same : (a : Stage) (g : ℕ) (w : Work) (x y : Session) → y.transaction ≡ x.transaction → is_nothing_in x.state.pending ≡ true → is_nothing_in y.state.pending ≡ true → is_open_in y.state.block ≡ is_open_in x.state.block → Tied a g w x → Tied a g w y
+idle-same a g w x y e n m o t =
+    record {
+      live = λ l. (ap (λ (q : Gxid). q.0) e ∙ (t.live l).0, live-too x.state.block y.state.block x.state.pending y.state.pending n m o (t.live l).1);
+      closing = λ l. absurd (no-closing x.state.block x.state.pending n (t.closing l).1);
+      awaits = λ k f r. absurd (no-work x.state.pending n (t.awaits k f r).1);
+    }
+  where
+    live-too : (b d : Block) (p q : Pending) → is_nothing_in p ≡ true → is_nothing_in q ≡ true → is_open_in d ≡ is_open_in b → is_live_in b p ≡ true → is_live_in d q ≡ true
+    live-too b d p q n m o l = grind arith
+    no-closing : (b : Block) (p : Pending) → is_nothing_in p ≡ true → is_closing_in b p ≡ true → ⊥
+    no-closing b p n l = grind arith
+    no-work : (p : Pending) → is_nothing_in p ≡ true → is_working_in p ≡ true → ⊥
+    no-work p n l = grind arith
+
+pub kept-idle : (c : Coord) (s : ℕ) (x : Session) → Kept c → x.transaction ≡ (c.sessions s).transaction → is_nothing_in (c.sessions s).state.pending ≡ true → is_nothing_in x.state.pending ≡ true → is_open_in x.state.block ≡ is_open_in (c.sessions s).state.block → Kept (record c { sessions = with_at c.sessions s x })
+kept-idle c s x k e n m o =
+    record {
+      whole = k.whole;
+      tied = λ g. by_test g (eqb (c.works g).session.0 s) refl;
+      placed = λ j. placed_test j (eqb j s) refl;
+    }
+  where
+    by_test : (g : ℕ) (b : Bool) → eqb (c.works g).session.0 s ≡ b → Tied (stage_of c g) g (c.works g) (if b then x else c.sessions (c.works g).session.0)
+    by_test g true q =
+        idle-same (stage_of c g) g (c.works g) (c.sessions s) x e n m o (subst (λ i. Tied (stage_of c g) g (c.works g) (c.sessions i)) (eqb-true (c.works g).session.0 s q) (k.tied g))
+    by_test g false q = k.tied g
+    here : Placed s x (stage_of c x.transaction.0) (c.works x.transaction.0)
+    here =
+        subst (λ (y : Gxid). Placed s x (stage_of c y.0) (c.works y.0)) (sym e)
+        (record { stands = λ p. (k.placed s).stands (sym o ∙ p); free = λ p i. (k.placed s).free (sym o ∙ p) n })
+    placed_test : (j : ℕ) (b : Bool) → eqb j s ≡ b → Placed j (if b then x else c.sessions j) (stage_of c (if b then x else c.sessions j).transaction.0) (c.works (if b then x else c.sessions j).transaction.0)
+    placed_test j true q = subst (λ i. Placed i x (stage_of c x.transaction.0) (c.works x.transaction.0)) (sym (eqb-true j s q)) here
+    placed_test j false q = k.placed j

@@ -60,7 +60,7 @@ Apart (e ∷ es) = Each (λ (x : Gxid × Txn). eqb e.0.0 x.0.0 ≡ false) es × 
 abbrev pub Below : ℕ → Txns → Type 0
 Below next es = Each (λ (x : Gxid × Txn). (1 ≤ x.0.0) × (x.0.0 < next)) es
 
-first-at : (h : ℕ) (e : Gxid × Txn) (es : Txns) → at_gxid h (e ∷ es) ≡ (if eqb h e.0.0 then Some e.1 else at_gxid h es)
+pub first-at : (h : ℕ) (e : Gxid × Txn) (es : Txns) → at_gxid h (e ∷ es) ≡ (if eqb h e.0.0 then Some e.1 else at_gxid h es)
 first-at h e es = ap (λ b. cond b (Some e.1) (at_gxid h es)) (is_at-eqb h e.0.0)
 
 none-at : (h : ℕ) (es : Txns) → Each (λ (x : Gxid × Txn). eqb h x.0.0 ≡ false) es → at_gxid h es ≡ None
@@ -123,7 +123,7 @@ remove-at g h (x ∷ xs) e = ap (at_gxid h) (remove-first g x xs) ∙ by_test (e
         other : (h g k : ℕ) → eqb g k ≡ false → (if eqb h k then Some x.1 else (if eqb h g then None else at_gxid h xs)) ≡ (if eqb h g then None else (if eqb h k then Some x.1 else at_gxid h xs))
         other h g k e = grind (arith, nat_tests)
 
-append-at : (h : ℕ) (es : Txns) (g : ℕ) (t : Txn) → Below g es → at_gxid h (es ++ (gx g, t) ∷ []) ≡ (if eqb h g then Some t else at_gxid h es)
+pub append-at : (h : ℕ) (es : Txns) (g : ℕ) (t : Txn) → Below g es → at_gxid h (es ++ (gx g, t) ∷ []) ≡ (if eqb h g then Some t else at_gxid h es)
 append-at h [] g t e = first-at h (gx g, t) []
 append-at h (x ∷ xs) g t e = first-at h x (xs ++ (gx g, t) ∷ []) ∙ ap (λ o. if eqb h x.0.0 then Some x.1 else o) (append-at h xs g t e.1) ∙ other h g x.0.0 e.0.1 ∙ ap (λ o. if eqb h g then Some t else o) (sym (first-at h x xs))
   where
