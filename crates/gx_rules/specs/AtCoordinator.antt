@@ -1,6 +1,6 @@
 -- What the coordinator does when a session's line starts, when an answer comes, when a session ends, and when a message is
 -- to be sent again.
-use Rattle.std.specs.Prelude.{ℕ, ◌+◌, ◌==◌, Bool, true, false, not, if◌then◌else◌, ◌&&◌, List, [], ◌∷◌, ◌++◌, map, fold, is_some, option_map, Some, None, Result, Ok, Err}
+use Rattle.std.specs.Prelude.{ℕ, ◌+◌, ◌==◌, nat_le, Bool, true, false, not, if◌then◌else◌, ◌&&◌, List, [], ◌∷◌, ◌++◌, map, fold, is_some, option_map, Some, None, Result, Ok, Err}
 use Rattle.std.specs.declared.option.Option.{Option}
 use Rattle.gx_ids.specs.declared.ids.Cid.{Cid}
 use Rattle.gx_ids.specs.declared.ids.Gxid.{Gxid}
@@ -400,10 +400,13 @@ is_in_block _ = true
 abbrev pub is_left : Option Stmt → Bool
 is_left line = is_some line
 
--- A line starts where its session is idle, a session ends that is idle in a block without a line left, and what is sent again
--- has an awaited answer.
+abbrev pub is_segment : Script → Node → Bool
+is_segment script i = nat_le 1 i.0 && nat_le i.0 script.segments
+
+-- A delivery is from a segment, a line starts where its session is idle, a session ends that is idle in a block without a line
+-- left, and what is sent again has an awaited answer.
 abbrev pub coord_can : Script → Coord → NodeEvent → Bool
-coord_can script c (node.Deliver from envelope) = true
+coord_can script c (node.Deliver from envelope) = is_segment script from
 coord_can script c (node.Start s) = is_idle (session_of c s) && is_left (next_line script c s)
 coord_can script c (node.End s) = is_idle (session_of c s) && (not (is_left (next_line script c s)) && is_in_block (session_of c s).state.block)
 coord_can script c (node.Resend i (Some g)) = is_some (awaited c g i)

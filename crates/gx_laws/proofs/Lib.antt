@@ -1,0 +1,14 @@
+pub mod Lists
+pub mod Places
+pub mod AtSegments
+pub mod Tables
+pub mod AtCoordinators
+pub mod Sent
+pub mod Clocks
+pub mod Letters
+pub mod Ordered
+pub mod Follows
+pub mod Stages
+pub mod Statuses
+pub mod Sessions
+pub mod Past

@@ -1,0 +1,18 @@
+//! Laws of every run, whatever the network loses, repeats, delays and reorders, and whichever appends fail.
+ghost use Rattle.std.specs.Prelude.{◌≤◌, Bool, List, []};
+ghost use Rattle.gx_rules.specs.Machine.{run_of, world_of};
+ghost use Rattle.gx_rules.specs.System.{IsSystemRun};
+ghost use Rattle.gx_script.specs.declared.Script.{Script};
+ghost use Rattle.gx_store.specs.Ordered.{AreOrdered};
+ghost use Rattle.gx_store.specs.declared.event.Event.{Event as OneEvent};
+ghost use Rattle.gx_laws.specs.Runs.{steps_after};
+
+/// Marks stand at their nodes, messages are numbered and arrive after they were sent, and clocks rise.
+pub fn runs_are_ordered()
+    ensures { (script : Script) (events : List (OneEvent × Bool)) → 1 ≤ script.segments → AreOrdered script [] (steps_after script events) }
+{}
+
+/// A run of the machine is a system run: each node's steps alone follow its rule.
+pub fn runs_follow_the_rules()
+    ensures { (script : Script) (events : List (OneEvent × Bool)) → 1 ≤ script.segments → IsSystemRun script (run_of (world_of script events)) }
+{}
