@@ -14,3 +14,4 @@ pub mod Low
 pub mod Promises
 pub mod Causes
 pub mod Over
+pub mod Awaited

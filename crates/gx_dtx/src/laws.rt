@@ -6,7 +6,7 @@ ghost use Rattle.gx_dsnap.specs.Snapshot.{sees};
 ghost use Rattle.gx_dsnap.specs.declared.snapshot.Snapshot.{Snapshot};
 ghost use Rattle.gx_msg.specs.declared.reply.Reply.{Reply};
 ghost use Rattle.gx_dtx.specs.Table.{Table, IsTaken, horizon_of, status_of};
-ghost use Rattle.gx_dtx.specs.Rules.{awaits, nothing, on_reply};
+ghost use Rattle.gx_dtx.specs.Rules.{awaits, awaited_order, nothing, on_reply};
 ghost use Rattle.gx_dtx.specs.Runs.{Call, after, IsRun};
 ghost use Rattle.gx_dtx.specs.Past.{past, is_over, IsForgotten};
 ghost use Rattle.gx_dtx.specs.Laws.{IsLow, KeepsProtocol, IsTold, HasCause, HasEffect};
@@ -56,4 +56,9 @@ pub fn outcomes_have_causes()
 /// An awaited JFAULT refuses, and an answer that decides is decided or refused, as the journal says.
 pub fn causes_have_outcomes()
     ensures { (table : Table) (g : Gxid) (i : Node) (answer : Reply) (refused : Bool) → HasEffect table g i answer refused }
+{}
+
+/// There is no order to send again to a node exactly where none of its answers is awaited.
+pub fn nothing_is_sent_again_unawaited()
+    ensures { (table : Table) (g : Gxid) (i : Node) → (awaited_order table g i ≡ None) ↔ ((answer : Reply) → awaits table g i answer ≡ false) }
 {}
