@@ -58,10 +58,10 @@ same_number : (n : ℕ) → eqb n n ≡ true
 same_number n = grind (arith, nat_tests)
 
 neutral_commit : (k : SessionId) (g : Gxid) → IsNeutral k (Commit g)
-neutral_commit k g = record { answers = refl; state = λ script s. refl; begun = λ b. refl; started = λ o. refl; }
+neutral_commit k g = record { answers = refl; state = λ script s. refl; begun = λ b. refl; started = λ o. refl }
 
 neutral_abort : (k : SessionId) (g : Gxid) → IsNeutral k (Abort g)
-neutral_abort k g = record { answers = refl; state = λ script s. refl; begun = λ b. refl; started = λ o. refl; }
+neutral_abort k g = record { answers = refl; state = λ script s. refl; begun = λ b. refl; started = λ o. refl }
 
 committed_now : (es : List Mark) (g : Gxid) → is_committed (es ++ Commit g ∷ []) g ≡ true
 committed_now es g = is_committed-append es (Commit g ∷ []) g ∙ ap (λ (b : Bool). is_committed es g || (b || false)) (same_number g.0) ∙ or_true (is_committed es g)
@@ -73,15 +73,17 @@ aborted_now es g = is_aborted-append es (Abort g ∷ []) g ∙ ap (λ (b : Bool)
 module _ (script : Script) (steps : List Step) (k : SessionId) (n : ℕ) (its : n ≡ answer_count k (marks_in steps) + 1) where
   -- a block opens
   pub AreLegalMarks-begin : (level : Level) (g : Gxid) → IsNext script steps k (stmt.Begin level) Outside → g.0 ≡ start_count (marks_in steps) + 1 → is_begun k (marks_in steps) ≡ false → AreLegalMarks script steps (event.Start k) [] (Start g k ∷ Answer k n answer.Begin ∷ []) []
-  AreLegalMarks-begin level g next number unbegun =
-      (record {
-        number = number ∙ ap (λ (l : List Mark). start_count l + 1) (sym (append-nil (marks_in steps)));
-        event = refl;
-        line = stmt.Begin level;
-        runs = RunsLine-next script steps k (stmt.Begin level) Outside next [] refl (Answer k n answer.Begin ∷ []);
-        drawing = ap (λ (s : BlockState). draws s (stmt.Begin level)) (ap (state_of script k) (append-nil (marks_in steps)) ∙ next.place);
-        once = ap (is_begun k) (append-nil (marks_in steps)) ∙ unbegun;
-      }, (LegalAnswer-next script steps k (stmt.Begin level) Outside next n its (Start g k ∷ []) refl (state_from-append script k Outside (marks_in steps) (Start g k ∷ []) ∙ next.place) answer.Begin [] (is_begun_after-append k false (marks_in steps) (Start g k ∷ []) ∙ ap (λ (b : Bool). b || is_begun k (marks_in steps)) (same_number k.0)), tt))
+  AreLegalMarks-begin level g next number unbegun = (
+    record {
+      number = number ∙ ap (λ (l : List Mark). start_count l + 1) (sym (append-nil (marks_in steps)));
+      event = refl;
+      line = stmt.Begin level;
+      runs = RunsLine-next script steps k (stmt.Begin level) Outside next [] refl (Answer k n answer.Begin ∷ []);
+      drawing = ap (λ (s : BlockState). draws s (stmt.Begin level)) (ap (state_of script k) (append-nil (marks_in steps)) ∙ next.place);
+      once = ap (is_begun k) (append-nil (marks_in steps)) ∙ unbegun;
+    },
+    (LegalAnswer-next script steps k (stmt.Begin level) Outside next n its (Start g k ∷ []) refl (state_from-append script k Outside (marks_in steps) (Start g k ∷ []) ∙ next.place) answer.Begin [] (is_begun_after-append k false (marks_in steps) (Start g k ∷ []) ∙ ap (λ (b : Bool). b || is_begun k (marks_in steps)) (same_number k.0)), tt),
+  )
 
   module _ (level : Level) (m : ℕ) (g : Gxid) (transaction : transaction_of (InBlock level m) k (marks_in steps) ≡ Some g) (running : is_ended (marks_in steps) g ≡ false) where
     there : (line : Stmt) → IsNext script steps k line (InBlock level m) → (P : BlockState → List Mark → Type 0) → P (InBlock level m) (marks_in steps) → P (state_of script k (marks_in steps ++ [])) (marks_in steps ++ [])
@@ -89,43 +91,49 @@ module _ (script : Script) (steps : List Step) (k : SessionId) (n : ℕ) (its : 
 
     -- it commits
     pub AreLegalMarks-commit : IsNext script steps k stmt.Commit (InBlock level m) → AreLegalMarks script steps (event.Start k) [] (Commit g ∷ Answer k n answer.Commit ∷ []) []
-    AreLegalMarks-commit next =
-        (record {
-          session = k;
-          line = stmt.Commit;
-          runs = RunsLine-next script steps k stmt.Commit (InBlock level m) next [] refl (Answer k n answer.Commit ∷ []);
-          transaction = there stmt.Commit next (λ s l. transaction_of s k l ≡ Some g) transaction;
-          running = there stmt.Commit next (λ s l. is_ended l g ≡ false) running;
-          committing = there stmt.Commit next (λ s l. may_commit s stmt.Commit ≡ true) refl;
-          answered = ap (λ (b : Bool). b || false) (same_number k.0);
-        }, (LegalAnswer-next script steps k stmt.Commit (InBlock level m) next n its (Commit g ∷ []) refl (state_from-append script k Outside (marks_in steps) (Commit g ∷ []) ∙ next.place) answer.Commit [] (record { g = g; transaction = transaction_of-neutral k (marks_in steps) (Commit g) (neutral_commit k g) (InBlock level m) ∙ transaction; committed = committed_now [] g }), tt))
+    AreLegalMarks-commit next = (
+      record {
+        session = k;
+        line = stmt.Commit;
+        runs = RunsLine-next script steps k stmt.Commit (InBlock level m) next [] refl (Answer k n answer.Commit ∷ []);
+        transaction = there stmt.Commit next (λ s l. transaction_of s k l ≡ Some g) transaction;
+        running = there stmt.Commit next (λ s l. is_ended l g ≡ false) running;
+        committing = there stmt.Commit next (λ s l. may_commit s stmt.Commit ≡ true) refl;
+        answered = ap (λ (b : Bool). b || false) (same_number k.0);
+      },
+      (LegalAnswer-next script steps k stmt.Commit (InBlock level m) next n its (Commit g ∷ []) refl (state_from-append script k Outside (marks_in steps) (Commit g ∷ []) ∙ next.place) answer.Commit [] (record { g = g; transaction = transaction_of-neutral k (marks_in steps) (Commit g) (neutral_commit k g) (InBlock level m) ∙ transaction; committed = committed_now [] g }), tt),
+    )
 
     -- it aborts
     pub AreLegalMarks-rollback : IsNext script steps k stmt.Rollback (InBlock level m) → AreLegalMarks script steps (event.Start k) [] (Abort g ∷ Answer k n answer.Rollback ∷ []) []
-    AreLegalMarks-rollback next =
-        (record {
-          running = there stmt.Rollback next (λ s l. is_ended l g ≡ false) running;
-          cause = inl (record {
-            session = k;
-            line = stmt.Rollback;
-            runs = RunsLine-next script steps k stmt.Rollback (InBlock level m) next [] refl (Answer k n answer.Rollback ∷ []);
-            transaction = there stmt.Rollback next (λ s l. transaction_of s k l ≡ Some g) transaction;
-            aborting = there stmt.Rollback next (λ s l. may_abort s stmt.Rollback ≡ true) refl;
-            answered = ap (λ (b : Bool). b || false) (same_number k.0);
-          });
-        }, (LegalAnswer-next script steps k stmt.Rollback (InBlock level m) next n its (Abort g ∷ []) refl (state_from-append script k Outside (marks_in steps) (Abort g ∷ []) ∙ next.place) answer.Rollback [] (record { g = g; transaction = transaction_of-neutral k (marks_in steps) (Abort g) (neutral_abort k g) (InBlock level m) ∙ transaction; aborted = aborted_now [] g }), tt))
+    AreLegalMarks-rollback next = (
+      record {
+        running = there stmt.Rollback next (λ s l. is_ended l g ≡ false) running;
+        cause = inl (record {
+          session = k;
+          line = stmt.Rollback;
+          runs = RunsLine-next script steps k stmt.Rollback (InBlock level m) next [] refl (Answer k n answer.Rollback ∷ []);
+          transaction = there stmt.Rollback next (λ s l. transaction_of s k l ≡ Some g) transaction;
+          aborting = there stmt.Rollback next (λ s l. may_abort s stmt.Rollback ≡ true) refl;
+          answered = ap (λ (b : Bool). b || false) (same_number k.0);
+        });
+      },
+      (LegalAnswer-next script steps k stmt.Rollback (InBlock level m) next n its (Abort g ∷ []) refl (state_from-append script k Outside (marks_in steps) (Abort g ∷ []) ∙ next.place) answer.Rollback [] (record { g = g; transaction = transaction_of-neutral k (marks_in steps) (Abort g) (neutral_abort k g) (InBlock level m) ∙ transaction; aborted = aborted_now [] g }), tt),
+    )
 
 -- a session's end aborts its open block
 pub AreLegalMarks-end : (script : Script) (steps : List Step) (k : SessionId) (level : Level) (m : ℕ) (g : Gxid) → state_of script k (marks_in steps) ≡ InBlock level m → transaction_of (InBlock level m) k (marks_in steps) ≡ Some g → is_ended (marks_in steps) g ≡ false → AreLegalMarks script steps (event.End k) [] (Abort g ∷ []) []
-AreLegalMarks-end script steps k level m g place transaction running =
-    (record {
-      running = subst (λ (l : List Mark). is_ended l g ≡ false) (sym (append-nil (marks_in steps))) running;
-      cause = inr (record {
-        session = k;
-        event = refl;
-        transaction = subst (λ (l : List Mark). transaction_of (state_of script k l) k l ≡ Some g) (sym (append-nil (marks_in steps))) (ap (λ (s : BlockState). transaction_of s k (marks_in steps)) place ∙ transaction);
-      });
-    }, tt)
+AreLegalMarks-end script steps k level m g place transaction running = (
+  record {
+    running = subst (λ (l : List Mark). is_ended l g ≡ false) (sym (append-nil (marks_in steps))) running;
+    cause = inr (record {
+      session = k;
+      event = refl;
+      transaction = subst (λ (l : List Mark). transaction_of (state_of script k l) k l ≡ Some g) (sym (append-nil (marks_in steps))) (ap (λ (s : BlockState). transaction_of s k (marks_in steps)) place ∙ transaction);
+    });
+  },
+  tt,
+)
 
 -- WHAT A COMMAND ANSWERS
 -- the answer is of the statement's kind
@@ -181,14 +189,16 @@ module _ (script : Script) (steps : List Step) (k : SessionId) (line : Stmt) (st
   -- in its block
   pub AreLegalMarks-done : (level : Level) (m : ℕ) → state ≡ InBlock level m → (a : StmtAnswer) → IsResult line a → Tells script (marks_in steps ++ es) (level_of state) g (cid_of state) line a → AreLegalMarks script steps (event.Start k) [] (es ++ Answer k n a ∷ []) []
   AreLegalMarks-done level m block a result tells =
-      AreLegalMarks-append script steps (event.Start k) [] es (Answer k n a ∷ []) [] (under.legal (Answer k n a ∷ []))
-      (LegalAnswer-next script steps k line state under.next n its es under.unanswered under.still a [] (IsAnswer-done script steps k es [] state line a (subst Runs (sym block) tt) result (record {
-        command = under.command;
-        g = g;
-        transaction = under.transaction;
-        end = subst (λ (s : BlockState). IsAtItsEnd s (at_point steps k es []) g) (sym block) running;
-        told = tells;
-      })), tt)
+      AreLegalMarks-append script steps (event.Start k) [] es (Answer k n a ∷ []) [] (under.legal (Answer k n a ∷ [])) (
+        LegalAnswer-next script steps k line state under.next n its es under.unanswered under.still a [] (IsAnswer-done script steps k es [] state line a (subst Runs (sym block) tt) result (record {
+          command = under.command;
+          g = g;
+          transaction = under.transaction;
+          end = subst (λ (s : BlockState). IsAtItsEnd s (at_point steps k es []) g) (sym block) running;
+          told = tells;
+        })),
+        tt,
+      )
 
   unanswered_then : (m : Mark) → IsNeutral k m → answer_count k (es ++ m ∷ []) ≡ 0
   unanswered_then m neutral = answer_count-append k es (m ∷ []) ∙ ap (λ x. x + answer_count k (m ∷ [])) under.unanswered ∙ zero_plus (answer_count k (m ∷ [])) ∙ neutral.answers
@@ -208,22 +218,27 @@ module _ (script : Script) (steps : List Step) (k : SessionId) (line : Stmt) (st
   -- outside, with its transaction's commit
   pub AreLegalMarks-alone : state ≡ Outside → is_on_rows line ≡ true → (a : StmtAnswer) → IsResult line a → Tells script ((marks_in steps ++ es) ++ Commit g ∷ []) (level_of state) g (cid_of state) line a → AreLegalMarks script steps (event.Start k) [] (es ++ Commit g ∷ Answer k n a ∷ []) []
   AreLegalMarks-alone outside on_rows a result tells =
-      AreLegalMarks-append script steps (event.Start k) [] es (Commit g ∷ Answer k n a ∷ []) [] (under.legal (Commit g ∷ Answer k n a ∷ []))
-      (record {
-        session = k;
-        line = line;
-        runs = RunsLine-next script steps k line state under.next es under.unanswered (Answer k n a ∷ []);
-        transaction = ap (λ (s : BlockState). transaction_of s k (marks_in steps ++ es)) under.still ∙ under.transaction;
-        running = running;
-        committing = ap (λ (s : BlockState). may_commit s line) (under.still ∙ outside) ∙ on_rows;
-        answered = ap (λ (b : Bool). b || false) (same_number k.0);
-      }, (LegalAnswer-next script steps k line state under.next n its (es ++ Commit g ∷ []) (unanswered_then (Commit g) (neutral_commit k g)) (still_then (Commit g) (neutral_commit k g)) a [] (IsAnswer-done script steps k (es ++ Commit g ∷ []) [] state line a (subst Runs (sym outside) tt) result (record {
-        command = under.command;
-        g = g;
-        transaction = transaction_then (Commit g) (neutral_commit k g);
-        end = subst (λ (s : BlockState). IsAtItsEnd s (at_point steps k (es ++ Commit g ∷ []) []) g) (sym outside) (committed_now es g);
-        told = subst (λ (l : List Mark). Tells script l (level_of state) g (cid_of state) line a) (sym (behind (Commit g))) tells;
-      })), tt))
+      AreLegalMarks-append script steps (event.Start k) [] es (Commit g ∷ Answer k n a ∷ []) [] (under.legal (Commit g ∷ Answer k n a ∷ [])) (
+        record {
+          session = k;
+          line = line;
+          runs = RunsLine-next script steps k line state under.next es under.unanswered (Answer k n a ∷ []);
+          transaction = ap (λ (s : BlockState). transaction_of s k (marks_in steps ++ es)) under.still ∙ under.transaction;
+          running = running;
+          committing = ap (λ (s : BlockState). may_commit s line) (under.still ∙ outside) ∙ on_rows;
+          answered = ap (λ (b : Bool). b || false) (same_number k.0);
+        },
+        (
+          LegalAnswer-next script steps k line state under.next n its (es ++ Commit g ∷ []) (unanswered_then (Commit g) (neutral_commit k g)) (still_then (Commit g) (neutral_commit k g)) a [] (IsAnswer-done script steps k (es ++ Commit g ∷ []) [] state line a (subst Runs (sym outside) tt) result (record {
+            command = under.command;
+            g = g;
+            transaction = transaction_then (Commit g) (neutral_commit k g);
+            end = subst (λ (s : BlockState). IsAtItsEnd s (at_point steps k (es ++ Commit g ∷ []) []) g) (sym outside) (committed_now es g);
+            told = subst (λ (l : List Mark). Tells script l (level_of state) g (cid_of state) line a) (sym (behind (Commit g))) tells;
+          })),
+          tt,
+        ),
+      )
 
   -- by a refusal, with its transaction's abort
   may_abort_now : (state : BlockState) (line : Stmt) → is_on_rows line ≡ true → is_command state line ≡ true → may_abort state line ≡ true
@@ -252,18 +267,20 @@ module _ (script : Script) (steps : List Step) (k : SessionId) (line : Stmt) (st
 
   pub AreLegalMarks-refused : Runs state → is_on_rows line ≡ true → (reason : Refused) → IsRefusal script (at_point steps k (es ++ Abort g ∷ []) []) k state line reason → AreLegalMarks script steps (event.Start k) [] (es ++ Abort g ∷ Answer k n (answer.Refused reason) ∷ []) []
   AreLegalMarks-refused runs on_rows reason refusal =
-      AreLegalMarks-append script steps (event.Start k) [] es (Abort g ∷ Answer k n (answer.Refused reason) ∷ []) [] (under.legal (Abort g ∷ Answer k n (answer.Refused reason) ∷ []))
-      (record {
-        running = running;
-        cause = inl (record {
-          session = k;
-          line = line;
-          runs = RunsLine-next script steps k line state under.next es under.unanswered (Answer k n (answer.Refused reason) ∷ []);
-          transaction = ap (λ (s : BlockState). transaction_of s k (marks_in steps ++ es)) under.still ∙ under.transaction;
-          aborting = ap (λ (s : BlockState). may_abort s line) under.still ∙ may_abort_now state line on_rows under.command;
-          answered = ap (λ (b : Bool). b || false) (same_number k.0);
-        });
-      }, (LegalAnswer-next script steps k line state under.next n its (es ++ Abort g ∷ []) (unanswered_then (Abort g) (neutral_abort k g)) (still_then (Abort g) (neutral_abort k g)) (answer.Refused reason) [] (IsAnswer-refused (es ++ Abort g ∷ []) [] state line reason runs on_rows refusal), tt))
+      AreLegalMarks-append script steps (event.Start k) [] es (Abort g ∷ Answer k n (answer.Refused reason) ∷ []) [] (under.legal (Abort g ∷ Answer k n (answer.Refused reason) ∷ [])) (
+        record {
+          running = running;
+          cause = inl (record {
+            session = k;
+            line = line;
+            runs = RunsLine-next script steps k line state under.next es under.unanswered (Answer k n (answer.Refused reason) ∷ []);
+            transaction = ap (λ (s : BlockState). transaction_of s k (marks_in steps ++ es)) under.still ∙ under.transaction;
+            aborting = ap (λ (s : BlockState). may_abort s line) under.still ∙ may_abort_now state line on_rows under.command;
+            answered = ap (λ (b : Bool). b || false) (same_number k.0);
+          });
+        },
+        (LegalAnswer-next script steps k line state under.next n its (es ++ Abort g ∷ []) (unanswered_then (Abort g) (neutral_abort k g)) (still_then (Abort g) (neutral_abort k g)) (answer.Refused reason) [] (IsAnswer-refused (es ++ Abort g ∷ []) [] state line reason runs on_rows refusal), tt),
+      )
 
   pub transaction-aborted : transaction_of state k (marks_in steps ++ (es ++ Abort g ∷ [])) ≡ Some g
   transaction-aborted = transaction_then (Abort g) (neutral_abort k g)

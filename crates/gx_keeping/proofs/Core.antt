@@ -82,7 +82,7 @@ module _ (script : Script) (marks : List Mark) (stores : List Store) (d : coordi
 
   -- A TRANSACTION BEGINS
   quiet_start : (k : SessionId) → IsQuiet (Start d.next k ∷ [])
-  quiet_start k = record { writes = λ n t r. refl; all = λ t r. refl; wrote = λ n g. refl; committed = λ g. refl; aborted = λ g. refl; nodes = λ r. refl; }
+  quiet_start k = record { writes = λ n t r. refl; all = λ t r. refl; wrote = λ n g. refl; committed = λ g. refl; aborted = λ g. refl; nodes = λ r. refl }
 
   pub IsKept-start : (k : SessionId) → IsKept script (marks ++ Start d.next k ∷ []) stores (begun d)
   IsKept-start k = record {
@@ -137,7 +137,7 @@ module _ (script : Script) (marks : List Mark) (stores : List Store) (d : coordi
 
     -- IT TAKES A SNAPSHOT
     quiet_snap : (c : Cid) (snapshot : Snapshot) → IsQuiet (Snap g c snapshot ∷ [])
-    quiet_snap c snapshot = record { writes = λ n t r. refl; all = λ t r. refl; wrote = λ n g. refl; committed = λ g. refl; aborted = λ g. refl; nodes = λ r. refl; }
+    quiet_snap c snapshot = record { writes = λ n t r. refl; all = λ t r. refl; wrote = λ n g. refl; committed = λ g. refl; aborted = λ g. refl; nodes = λ r. refl }
 
     pub IsKept-snap : (c : Cid) (snapshot : Snapshot) (live : Option Gxid) → AllByRecursion (λ s. ForSome live (λ x. s.horizon.0 ≤ x.0)) stores → IsKept script (marks ++ Snap g c snapshot ∷ []) stores (with_live d g live)
     IsKept-snap c snapshot live lows = record {
@@ -161,6 +161,7 @@ module _ (script : Script) (marks : List Mark) (stores : List Store) (d : coordi
       where
         plus_zero : (n : ℕ) → n + 0 ≡ n
         plus_zero n = omega arith
+
         both : (stores : List Store) → AllByRecursion (λ s. IsLow s.horizon.0 d) stores → AllByRecursion (λ s. ForSome live (λ x. s.horizon.0 ≤ x.0)) stores → AllByRecursion (λ s. IsLow s.horizon.0 (with_live d g live)) stores
         both [] low lows = tt
         both (s ∷ ss) low lows = (IsLow-live s.horizon.0 d g live low.0 lows.0, both ss low.1 lows.1)
@@ -278,9 +279,11 @@ module _ (script : Script) (marks : List Mark) (stores : List Store) (d : coordi
         where
           plus_zero : (n : ℕ) → n + 0 ≡ n
           plus_zero n = omega arith
+
           unaborted : (h : Gxid) (b : Bool) → is_same_gxid g h ≡ b → (is_committed marks h || b) ≡ true → is_aborted marks h ≡ false
           unaborted h true same e = ap (is_aborted marks) (number_is g h same) ∙ is_aborted-found
           unaborted h false other e = kept.once.once h (sym (or_false (is_committed marks h)) ∙ e)
+
           first : (h : Gxid) (b : Bool) → is_same_gxid g h ≡ b → (is_committed marks h || b) ≡ true → 1 ≤ h.0
           first h true same e = subst (λ (k : Gxid). 1 ≤ k.0) (sym (number_is g h same)) (omega (arith, drawn.0))
           first h false other e = kept.once.drawn h (sym (or_false (is_committed marks h)) ∙ e)
@@ -310,11 +313,13 @@ module _ (script : Script) (marks : List Mark) (stores : List Store) (d : coordi
         where
           plus_zero : (n : ℕ) → n + 0 ≡ n
           plus_zero n = omega arith
+
           differ : (h : Gxid) → is_same_gxid g h ≡ true → is_committed marks h ≡ true → ⊥
           differ h same e = absurd (cc2 (sym (ap (is_committed marks) (number_is g h same) ∙ is_committed-found) ∙ e))
             where
               cc2 : false ≡ true → ⊥
               cc2 e = cc
+
           unaborted : (h : Gxid) (b : Bool) → is_same_gxid g h ≡ b → is_committed marks h ≡ true → (is_aborted marks h || b) ≡ false
           unaborted h true same e = absurd (differ h same e)
           unaborted h false other e = or_false (is_aborted marks h) ∙ kept.once.once h e

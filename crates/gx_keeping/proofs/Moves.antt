@@ -78,15 +78,17 @@ or_true b = refl
 pub IsUnder-alone : (script : Script) (steps : List Step) (k : SessionId) (line : Stmt) (g : Gxid) → IsNext script steps k line Outside → is_on_rows line ≡ true → g.0 ≡ start_count (marks_in steps) + 1 → is_begun k (marks_in steps) ≡ false → has_marks g 0 (marks_in steps) ≡ false → IsUnder script steps k line Outside g (Start g k ∷ [])
 IsUnder-alone script steps k line g next on_rows number unbegun fresh = record {
   next = next;
-  legal = λ later.
-      (record {
-        number = number ∙ ap (λ (l : List Mark). start_count l + 1) (sym (append-nil (marks_in steps)));
-        event = refl;
-        line = line;
-        runs = RunsLine-next script steps k line Outside next [] refl (later);
-        drawing = ap (λ (s : BlockState). draws s line) (ap (state_of script k) (append-nil (marks_in steps)) ∙ next.place) ∙ draws_outside line on_rows;
-        once = ap (is_begun k) (append-nil (marks_in steps)) ∙ unbegun;
-      }, tt);
+  legal = λ later. (
+    record {
+      number = number ∙ ap (λ (l : List Mark). start_count l + 1) (sym (append-nil (marks_in steps)));
+      event = refl;
+      line = line;
+      runs = RunsLine-next script steps k line Outside next [] refl (later);
+      drawing = ap (λ (s : BlockState). draws s line) (ap (state_of script k) (append-nil (marks_in steps)) ∙ next.place) ∙ draws_outside line on_rows;
+      once = ap (is_begun k) (append-nil (marks_in steps)) ∙ unbegun;
+    },
+    tt,
+  );
   of = ((refl, refl), tt);
   unanswered = refl;
   still = state_from-append script k Outside (marks_in steps) (Start g k ∷ []) ∙ next.place;
@@ -104,13 +106,13 @@ IsUnder-alone script steps k line g next on_rows number unbegun fresh = record {
 -- IN THE STEP
 module _ (script : Script) (steps : List Step) (k : SessionId) (line : Stmt) (state : BlockState) (g : Gxid) (es : List Mark) (under : IsUnder script steps k line state g es) (running : is_ended (marks_in steps ++ es) g ≡ false) where
   neutral_snap : (h : Gxid) (c : Cid) (snapshot : Snapshot) → IsNeutral k (Snap h c snapshot)
-  neutral_snap h c snapshot = record { answers = refl; state = λ script s. refl; begun = λ b. refl; started = λ o. refl; }
+  neutral_snap h c snapshot = record { answers = refl; state = λ script s. refl; begun = λ b. refl; started = λ o. refl }
 
   neutral_write : (h : Gxid) (c : Cid) (n : Node) (t : Table) (r : Rid) (image : Option (List Value)) → IsNeutral k (Write h c n t r image)
-  neutral_write h c n t r image = record { answers = refl; state = λ script s. refl; begun = λ b. refl; started = λ o. refl; }
+  neutral_write h c n t r image = record { answers = refl; state = λ script s. refl; begun = λ b. refl; started = λ o. refl }
 
   neutral_fault : (h : Gxid) (c : Cid) (r : Rid) (image : Option (List Value)) → IsNeutral k (Fault h c r image)
-  neutral_fault h c r image = record { answers = refl; state = λ script s. refl; begun = λ b. refl; started = λ o. refl; }
+  neutral_fault h c r image = record { answers = refl; state = λ script s. refl; begun = λ b. refl; started = λ o. refl }
 
   -- it takes its snapshot
   pub IsUnder-snap : (snapshot : Snapshot) → is_on_rows line ≡ true → has_own_snapshot (level_of state) (marks_in steps ++ es) g (cid_of state) ≡ false → ((h : Gxid) → is_committed (marks_in steps ++ es) h ≡ true → sees snapshot h ≡ true) → ((h : Gxid) → 1 ≤ h.0 → sees snapshot h ≡ true → is_ended (marks_in steps ++ es) h ≡ true) → IsUnder script steps k line state g (es ++ Snap g (cid_of state) snapshot ∷ [])
@@ -197,10 +199,13 @@ module _ (marks : List Mark) (g : Gxid) (c : Cid) (n : ℕ) (node : Node) (t : T
     where
       apart : (o : ℕ) → n + 1 < o → eqb (n + 1) o ≡ false
       apart o more = grind (arith, nat_tests)
+
       last : (o : ℕ) → n + 1 ≤ o → o ≤ n + 1 → eqb (n + 1) o ≡ true
       last o low high = grind (arith, nat_tests)
+
       differ : false ≡ true → ⊥
       differ e = cc
+
       either : (b : Bool) (o : ℕ) → is_written marks (record { gxid = g; cid = c; ordinal = o }) ≡ b → 1 ≤ o → o ≤ n + 1 → (b || eqb (n + 1) o) ≡ true
       either true o is low high = refl
       either false o is low high =

@@ -78,7 +78,7 @@ module _ (script : Script) (steps : List Step) (k : SessionId) (stmt : Stmt) (st
   }
 
   pub IsUnderWay-under : is_ended (marks_in steps ++ es) g ≡ false → (later : List Mark) → IsUnderWay script (at_point steps k es later) k stmt (level_of state) g (cid_of state)
-  IsUnderWay-under running later = record { runs = RunsCommand-under later; running = running; }
+  IsUnderWay-under running later = record { runs = RunsCommand-under later; running = running }
 
 -- a mark that says nothing of where a session stands
 pub record IsNeutral (k : SessionId) (m : Mark) : Type 0 where

@@ -102,10 +102,10 @@ module _ (script : Script) (steps : List Step) (stores : List Store) (d : coordi
     in_all mine others j t found =
         ⊎_elim
         (λ (e : j.0 ≡ k.0).
-            subst
-            (λ (i : SessionId). IsBetween script (steps ++ step ∷ []) d' i t)
-            (sym (number_is j k e))
-            (subst (IsBetween script (steps ++ step ∷ []) d' k) (sym (set_same sessions k.0 s s' t there (ap (slice_get (slice_set sessions k.0 s')) (sym e) ∙ found))) mine))
+        subst
+        (λ (i : SessionId). IsBetween script (steps ++ step ∷ []) d' i t)
+        (sym (number_is j k e))
+        (subst (IsBetween script (steps ++ step ∷ []) d' k) (sym (set_same sessions k.0 s s' t there (ap (slice_get (slice_set sessions k.0 s')) (sym e) ∙ found))) mine))
         (λ (other : j.0 ≡ k.0 → ⊥). others j t other (sym (set_other sessions k.0 j.0 s' other) ∙ found))
         (cases_eq j.0 k.0)
 
@@ -113,18 +113,18 @@ module _ (script : Script) (steps : List Step) (stores : List Store) (d : coordi
     all_apart its i j t u other found found' opened opened' =
         ⊎_elim
         (λ (e : i.0 ≡ k.0).
-            let is : t ≡ s' = set_same sessions k.0 s s' t there (ap (slice_get (slice_set sessions k.0 s')) (sym e) ∙ found) in
-            let other' : j.0 ≡ k.0 → ⊥ = λ f. other (e ∙ sym f) in
-            let apart = other_txn j u other' (sym (set_other sessions k.0 j.0 s' other') ∙ found') opened'.0 opened'.1.0 opened'.1.1 in
-            λ same. apart (sym same ∙ ap (λ (x : Session). x.gxid.0) is ∙ ap (λ (h : Gxid). h.0) (its (subst IsInBlock is opened))))
+        let is : t ≡ s' = set_same sessions k.0 s s' t there (ap (slice_get (slice_set sessions k.0 s')) (sym e) ∙ found) in
+        let other' : j.0 ≡ k.0 → ⊥ = λ f. other (e ∙ sym f) in
+        let apart = other_txn j u other' (sym (set_other sessions k.0 j.0 s' other') ∙ found') opened'.0 opened'.1.0 opened'.1.1 in
+        λ same. apart (sym same ∙ ap (λ (x : Session). x.gxid.0) is ∙ ap (λ (h : Gxid). h.0) (its (subst IsInBlock is opened))))
         (λ (aside : i.0 ≡ k.0 → ⊥).
-            ⊎_elim
-            (λ (e : j.0 ≡ k.0).
-                let is : u ≡ s' = set_same sessions k.0 s s' u there (ap (slice_get (slice_set sessions k.0 s')) (sym e) ∙ found') in
-                let apart = other_txn i t aside (sym (set_other sessions k.0 i.0 s' aside) ∙ found) opened.0 opened.1.0 opened.1.1 in
-                λ same. apart (same ∙ ap (λ (x : Session). x.gxid.0) is ∙ ap (λ (h : Gxid). h.0) (its (subst IsInBlock is opened'))))
-            (λ (beside : j.0 ≡ k.0 → ⊥). world.apart i j t u other (sym (set_other sessions k.0 i.0 s' aside) ∙ found) (sym (set_other sessions k.0 j.0 s' beside) ∙ found') opened opened')
-            (cases_eq j.0 k.0))
+        ⊎_elim
+        (λ (e : j.0 ≡ k.0).
+        let is : u ≡ s' = set_same sessions k.0 s s' u there (ap (slice_get (slice_set sessions k.0 s')) (sym e) ∙ found') in
+        let apart = other_txn i t aside (sym (set_other sessions k.0 i.0 s' aside) ∙ found) opened.0 opened.1.0 opened.1.1 in
+        λ same. apart (same ∙ ap (λ (x : Session). x.gxid.0) is ∙ ap (λ (h : Gxid). h.0) (its (subst IsInBlock is opened'))))
+        (λ (beside : j.0 ≡ k.0 → ⊥). world.apart i j t u other (sym (set_other sessions k.0 i.0 s' aside) ∙ found) (sym (set_other sessions k.0 j.0 s' beside) ∙ found') opened opened')
+        (cases_eq j.0 k.0))
         (cases_eq i.0 k.0)
 
     one_more : length (steps ++ step ∷ []) ≡ length steps + 1

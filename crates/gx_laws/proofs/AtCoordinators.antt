@@ -245,7 +245,9 @@ module _ (script : Script) where
     answer c g w e h =
         record {
           coord = record { table = kept_table w.level c.table g e.table; works = λ j. work_at c.works g.0 j _ e.works (record { writers = h.writers; command = tt }) };
-          counts = refl; marks = (refl, tt); outs = tt;
+          counts = refl;
+          marks = (refl, tt);
+          outs = tt;
         }
 
     complete : (c : Coord) (g : Gxid) (b : Block) → CoordIn c → CoordStays c.sent (completes c g b)

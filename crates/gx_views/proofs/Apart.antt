@@ -129,8 +129,10 @@ AreApart-append (x ∷ xs) ys apart apart' one =
     fewer : (q : Rid) → (row_at (x ∷ xs) q ≡ None) ⊎ (row_at ys q ≡ None) → (row_at xs q ≡ None) ⊎ (row_at ys q ≡ None)
     fewer q (inl none) = inl (rest_apart x xs q none)
     fewer q (inr none) = inr none
+
     differ : Some x.row ≡ None → ⊥
     differ e = cc
+
     missing : (row_at (x ∷ xs) x.rid ≡ None) ⊎ (row_at ys x.rid ≡ None) → row_at ys x.rid ≡ None
     missing (inl none) = absurd (differ (sym (itself x xs) ∙ none))
     missing (inr none) = none

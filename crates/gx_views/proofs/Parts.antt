@@ -81,10 +81,10 @@ module _ {X : Type 0} {R : X → X → Ordering} (o : IsTotalOrder R) (p : X →
       (rises_filter (in_order R xs) (rises_in_order o xs))
       (rises_in_order o (filter p xs))
       (λ q.
-          filter-comm (λ y. is_eq (R q y)) p (in_order R xs)
-          ∙ ap (filter p) (filter-in_order o q xs)
-          ∙ filter-comm p (λ y. is_eq (R q y)) xs
-          ∙ sym (filter-in_order o q (filter p xs)))
+      filter-comm (λ y. is_eq (R q y)) p (in_order R xs)
+      ∙ ap (filter p) (filter-in_order o q xs)
+      ∙ filter-comm p (λ y. is_eq (R q y)) xs
+      ∙ sym (filter-in_order o q (filter p xs)))
 
 module _ (p : KeyedRow → Bool) where
   once : (P : Rid → Type 0) (x : KeyedRow) (xs : List KeyedRow) (b : Bool) → P x.rid → AllByRecursion P (map (λ row. row.rid) (filter p xs)) → AllByRecursion P (map (λ row. row.rid) (cond b (x ∷ filter p xs) (filter p xs)))

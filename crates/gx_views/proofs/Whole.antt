@@ -108,10 +108,10 @@ module _ (before after : List Mark) (once : AreEndedOnce (before ++ after)) (hom
       (AreApart-rising l shown.0.rising)
       (AreApart-together (k + 1) ss ls stored.1 shown.1)
       (λ q.
-          ⊎_elim
-          (λ (none : cond (is_home (node_of (before ++ after) q) (record { 0 = k })) (image (before ++ after) before (reader_of own cid) table q) None ≡ None). inl (shown.0.images q ∙ shown_row-image before after once snap taken own cid (record { 0 = k }) s stored.0 home table q ∙ none))
-          (λ (none : among (k + 1) ls (node_of (before ++ after) q) (image (before ++ after) before (reader_of own cid) table q) ≡ None). inr (row_at-together (k + 1) ss ls q stored.1 shown.1 ∙ none))
-          (at_most_one k ls (node_of (before ++ after) q) (image (before ++ after) before (reader_of own cid) table q)))
+      ⊎_elim
+      (λ (none : cond (is_home (node_of (before ++ after) q) (record { 0 = k })) (image (before ++ after) before (reader_of own cid) table q) None ≡ None). inl (shown.0.images q ∙ shown_row-image before after once snap taken own cid (record { 0 = k }) s stored.0 home table q ∙ none))
+      (λ (none : among (k + 1) ls (node_of (before ++ after) q) (image (before ++ after) before (reader_of own cid) table q) ≡ None). inr (row_at-together (k + 1) ss ls q stored.1 shown.1 ∙ none))
+      (at_most_one k ls (node_of (before ++ after) q) (image (before ++ after) before (reader_of own cid) table q)))
 
   length-shown : (stores : List Store) (lists : List (List KeyedRow)) → AreShown snap own cid table stores lists → length lists ≡ length stores
   length-shown [] [] shown = refl

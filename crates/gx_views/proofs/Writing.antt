@@ -182,11 +182,13 @@ module _ (marks : List Mark) (g : Gxid) (c : Cid) (n : Node) (t : Table) (r : Ri
   pub AreStoredFrom-written : (k i : ℕ) (stores : List Store) (store store' : Store) → n.0 ≡ k + i → slice_get stores i ≡ Some store → HasWritten store store' t r (record { gxid = g; cid = c; image = image }) → status_in marks g ≡ Running → AreStoredFrom k marks stores → AreStoredFrom k (marks ++ Write g c n t r image ∷ []) (slice_set stores i store')
   AreStoredFrom-written k i [] store store' at there written running stored = tt
   AreStoredFrom-written k zero (s ∷ ss) store store' at there written running stored =
-      let e : n.0 ≡ k = omega (arith, at) in
-      (subst
-      (λ (m : Node). IsStored (marks ++ Write g c n t r image ∷ []) m store')
-      (node_is k e)
-      (IsStored-here store store' written (subst (λ (m : Node). IsStored marks m store) (sym (node_is k e)) (subst (λ (x : Store). IsStored marks (record { 0 = k }) x) (some_same there) stored.0)) running), all_elsewhere (k + 1) ss (omega (arith, e)) stored.1)
+      let e : n.0 ≡ k = omega (arith, at) in (
+        subst
+            (λ (m : Node). IsStored (marks ++ Write g c n t r image ∷ []) m store')
+            (node_is k e)
+            (IsStored-here store store' written (subst (λ (m : Node). IsStored marks m store) (sym (node_is k e)) (subst (λ (x : Store). IsStored marks (record { 0 = k }) x) (some_same there) stored.0)) running),
+        all_elsewhere (k + 1) ss (omega (arith, e)) stored.1,
+      )
     where
       some_same : {a b : Store} → Some a ≡ Some b → a ≡ b
       some_same e = cc
@@ -237,12 +239,13 @@ module _ (marks : List Mark) (g : Gxid) (c : Cid) (n : Node) (t : Table) (r : Ri
         and_false : (b : Bool) → (b && false) ≡ false
         and_false true = refl
         and_false false = refl
+
         or_none : (o : Option Node) → option_or o None ≡ o
         or_none None = refl
         or_none (Some x) = refl
 
     pub AreAtHome-written : AreAtHome marks → AreAtHome (marks ++ Write g c n t r image ∷ [])
-    AreAtHome-written home = record { writes = λ node u q. by_row node u q (is_same_rid r q) refl; }
+    AreAtHome-written home = record { writes = λ node u q. by_row node u q (is_same_rid r q) refl }
       where
         by_row : (node : Node) (u : Table) (q : Rid) (b : Bool) → is_same_rid r q ≡ b → writes_at node u q (marks ++ Write g c n t r image ∷ []) ≡ cond (is_home (node_of (marks ++ Write g c n t r image ∷ []) q) node) (writes_to u q (marks ++ Write g c n t r image ∷ [])) []
         by_row node u q true same =
@@ -257,6 +260,7 @@ module _ (marks : List Mark) (g : Gxid) (c : Cid) (n : Node) (t : Table) (r : Ri
     where
       some_same : {a b : Node} → Some a ≡ Some b → a ≡ b
       some_same e = cc
+
       either : (o : Option Node) (b : Bool) → node_of marks q ≡ o → option_or o (cond b (Some n) None) ≡ Some node → (1 ≤ node.0) × (node.0 ≤ segments)
       either (Some m) b there e = at q node (there ∙ e)
       either None true there e = subst (λ (m : Node). (1 ≤ m.0) × (m.0 ≤ segments)) (some_same e) (low, high)

@@ -12,13 +12,7 @@ use gx_tree::{KeyedRow, Schema};
 use std::alloc::Global;
 
 // The Write of a row.
-fn write(
-    alloc: Global,
-    segments: u8,
-    table: Table,
-    schema: &Schema,
-    row: &KeyedRow,
-) -> Mem<Mark>
+fn write(alloc: Global, segments: u8, table: Table, schema: &Schema, row: &KeyedRow) -> Mem<Mark>
     requires some { 1 ≤ segments }
     requires few { segments ≤ 16 }
     requires placed { IsPlaced schema.now.dist row.now }
@@ -71,10 +65,6 @@ pub(crate) fn insert_marks(
 {
     let mut marks = begun(alloc, turn)?;
     push_writes(alloc, segments, table, schema, rows, &mut marks)?;
-    push_done(
-        &mut marks,
-        turn,
-        StmtAnswer::Inserted(rows.len() as u128),
-    )?;
+    push_done(&mut marks, turn, StmtAnswer::Inserted(rows.len() as u128))?;
     Ok(marks)
 }

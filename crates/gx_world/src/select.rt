@@ -15,10 +15,6 @@ pub(crate) fn select_marks(alloc: Global, turn: Turn, answer: Vec<OutRow>) -> Me
     ensures { IfOk result (λ marks. IsMade turn (done_marks turn (Rows answer.items)) marks.items) }
 {
     let mut marks = begun(alloc, turn)?;
-    push_done(
-        &mut marks,
-        turn,
-        StmtAnswer::Rows(Seq::from_vec(answer)),
-    )?;
+    push_done(&mut marks, turn, StmtAnswer::Rows(Seq::from_vec(answer)))?;
     Ok(marks)
 }
