@@ -165,8 +165,7 @@ module _ (script : Script) (steps : List Step) (tables : List (Vec KeyedRow Glob
       let at : o - 1 ≡ length done = omega arith in
       let among : slice_get tuples (o - 1) ≡ Some t = rw (e, at) (at_length done t ts) in
       let IsLegal : Rid → Type 0 = λ rid. LegalWrite script (point (after (map write before)) (map write rows ++ later)) rid.gxid rid.cid (record { 0 = row_place script.segments dist x.row rid }) table rid (Some x.row) in
-      let less : x.rid.ordinal < o + 1 = omega (arith, ap (λ (y : Rid). y.ordinal) r.0) in
-      (
+      let less : x.rid.ordinal < o + 1 = omega (arith, ap (λ (y : Rid). y.ordinal) r.0) in (
         subst IsLegal (sym r.0) (write_legal before o t x.row (map write rows ++ later) b (omega arith) among r.1),
         subst (λ marks. AreLegalMarks script steps starting (after marks) (map write rows) later) (map-push write before x)
             (writes_legal (before ++ x ∷ []) (done ++ t ∷ []) ts (o + 1) rows later (e ∙ sym (append_assoc done (t ∷ []) ts)) (omega (arith, f, length-append done (t ∷ []))) r.2 (AreBelow-push (o + 1) before x (AreBelow-weaken o before b) less)),

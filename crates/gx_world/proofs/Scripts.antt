@@ -110,8 +110,7 @@ run_from tables sessions m before (l ∷ ls) few at first numbered over form =
     let f = both (is_line_of_form l) (list_all is_line_of_form ls) form in
     let below : l.session.0 < sessions = over.0.0 in
     let session : l.session ≡ the_session = first_session l.session (omega (arith, below)) in
-    let count : lines_in l.session.0 before ≡ length before = ap (λ (s : SessionId). lines_in s.0 before) session ∙ lines_in-all before first in
-    (
+    let count : lines_in l.session.0 before ≡ length before = ap (λ (s : SessionId). lines_in s.0 before) session ∙ lines_in-all before first in (
       session,
       numbered.0 ∙ ap (λ n. n + 1) count ∙ sym at,
       (f.0, over.0.1),

@@ -136,8 +136,7 @@ module _ (script : Script) (steps : List Step) (tables : List (Vec KeyedRow Glob
   sound_select whole =
       let ends : (x : Gxid) → is_ended (Commit me ∷ []) x ≡ (d + 1 == x.0) = λ x. or_false _ ∙ or_false (d + 1 == x.0) in
       let kept = table_kept script steps tables d (Select query) h line refl snapshot below (Commit me ∷ []) reply quiet_commit ends tt in
-      sound_next script steps tables d (Select query) h line refl snapshot below (Commit me ∷ []) reply quiet_commit ends tt tables
-      (
+      sound_next script steps tables d (Select query) h line refl snapshot below (Commit me ∷ []) reply quiet_commit ends tt tables (
         commit_legal script steps tables d (Select query) h line refl snapshot [] (quiet_none script) [] reply refl,
         (answer_legal script steps tables d (Select query) h line refl snapshot (Commit me ∷ []) quiet_commit [] reply (is_done whole), tt),
       )

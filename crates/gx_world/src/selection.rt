@@ -73,13 +73,7 @@ fn keep_if(alloc: Global, truth: bool, row: &KeyedRow, kept: &mut Vec<KeyedRow>)
 }
 
 // The first fault of a condition that gives one.
-fn first_fault(
-    alloc: Global,
-    segments: u8,
-    schema: &Schema,
-    cond: &Cond,
-    rows: &[KeyedRow],
-) -> Stop
+fn first_fault(alloc: Global, segments: u8, schema: &Schema, cond: &Cond, rows: &[KeyedRow]) -> Stop
     requires some { 1 ≤ segments }
     requires few { segments ≤ 16 }
     requires fit { All (IsFit schema.now.dist cond.now) rows.now }
@@ -114,12 +108,7 @@ pub(crate) struct Faulting {
     pub fault: ArithFault,
 }
 
-fn first_faulting(
-    segments: u8,
-    schema: &Schema,
-    cond: &Cond,
-    rows: &[KeyedRow],
-) -> Option<Faulting>
+fn first_faulting(segments: u8, schema: &Schema, cond: &Cond, rows: &[KeyedRow]) -> Option<Faulting>
     requires some { 1 ≤ segments }
     requires few { segments ≤ 16 }
     requires fit { All (IsFit schema.now.dist cond.now) rows.now }

@@ -14,15 +14,15 @@ loop-at-preserved c =
     let more = take-item rows at row c.loop-at-test.true c.index-rows-at.is in
     elim c.match-decide.branch [
       | in-Err w ↦
-      let last : at ≡ length (take at rows) = sym (length-take-le at rows (omega arith)) in
-      let next : Faulting = record { at = at; node = w.place-node.result; fault = w.in-Err.fault } in
-      rw (w.first-is, w.first_of_two.ensures)
-      (subst (λ l. IsFirstFaulting c.args.segments c.args.schema.now.dist c.args.cond.now l (Some (first_of_two c.loop-at.first next))) more
-      (first_found c.args.segments c.args.schema.now.dist c.args.cond.now (take at rows) row next last (sym c.decide.ensures ∙ w.in-Err.is) w.place-node.ensures.place c.loop-at.first c.loop-at.invariant))
+          let last : at ≡ length (take at rows) = sym (length-take-le at rows (omega arith)) in
+          let next : Faulting = record { at = at; node = w.place-node.result; fault = w.in-Err.fault } in
+          rw (w.first-is, w.first_of_two.ensures)
+          (subst (λ l. IsFirstFaulting c.args.segments c.args.schema.now.dist c.args.cond.now l (Some (first_of_two c.loop-at.first next))) more
+          (first_found c.args.segments c.args.schema.now.dist c.args.cond.now (take at rows) row next last (sym c.decide.ensures ∙ w.in-Err.is) w.place-node.ensures.place c.loop-at.first c.loop-at.invariant))
       | in_default w ↦
-      rw w.first-is
-      (subst (λ l. IsFirstFaulting c.args.segments c.args.schema.now.dist c.args.cond.now l c.loop-at.first) more
-      (first_kept c.args.segments c.args.schema.now.dist c.args.cond.now (take at rows) c.loop-at.first row w.in_default.field-0 c.loop-at.invariant (sym c.decide.ensures ∙ w.in_default.is)))
+          rw w.first-is
+          (subst (λ l. IsFirstFaulting c.args.segments c.args.schema.now.dist c.args.cond.now l c.loop-at.first) more
+          (first_kept c.args.segments c.args.schema.now.dist c.args.cond.now (take at rows) c.loop-at.first row w.in_default.field-0 c.loop-at.invariant (sym c.decide.ensures ∙ w.in_default.is)))
     ]
 
 pub returns : goal.returns

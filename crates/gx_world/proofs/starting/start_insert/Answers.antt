@@ -38,5 +38,8 @@ returns-clause-ok c =
 pub returns-clause-err : goal.returns-clause-err
 returns-clause-err c =
     on_err c.insert_line.result _ _ c.insert_line.ensures.err
-    (λ e. (e.0, insert_same c.args.script.now c.args.run.now c.args.tables.now c.args.answered c.requires.running c.args.table c.args.tuples.now c.requires.line c.from-at.result c.from-at.ensures
-    c.index-tables-at.result c.insert_line.new.rows c.insert_line.new.run e.0 e.1))
+    (λ e. (
+      e.0,
+      insert_same c.args.script.now c.args.run.now c.args.tables.now c.args.answered c.requires.running c.args.table c.args.tuples.now c.requires.line c.from-at.result c.from-at.ensures
+          c.index-tables-at.result c.insert_line.new.rows c.insert_line.new.run e.0 e.1,
+    ))
