@@ -1,4 +1,4 @@
-use Rattle.std.proofs.Common.{◌≡◌, ℕ, List, Option, Some, None, Result, Ok, Err}
+use Rattle.std.proofs.Common.{◌≡◌, ℕ, List, Some, Result, Err}
 use Rattle.gx_script.specs.declared.Script.{Script}
 use Rattle.gx_sql.specs.Answering.{Answers}
 use Rattle.gx_sql.specs.declared.refusal.Refusal.{Refusal}

@@ -8,14 +8,22 @@ use Rattle.gx_ids.specs.declared.rid.Rid.{Rid}
 use Rattle.gx_store.specs.declared.answer.Refused.{Refused}
 use Rattle.gx_store.specs.declared.answer.Refused.TheVariants as refused
 
+-- a number between two texts
+abbrev pub numbered_text : List ℕ → ℕ → List ℕ → List ℕ
+numbered_text before number behind = before ++ decimal number ++ behind
+
+-- a row's identity behind a text
+abbrev pub row_text : List ℕ → Rid → List ℕ
+row_text before rid = before ++ rid_text rid
+
 abbrev pub serialization_text : Rid → Gxid → List ℕ
-serialization_text rid newer = codes "ERROR 1 serialization row " ++ rid_text rid ++ codes " changed by " ++ decimal newer.0 ++ codes "\n"
+serialization_text rid newer = row_text (codes "ERROR 1 serialization row ") rid ++ numbered_text (codes " changed by ") newer.0 (codes "\n")
 
 abbrev pub victim_text : ℕ → List ℕ
-victim_text round = codes "ERROR 2 victim of round " ++ decimal round ++ codes "\n"
+victim_text round = numbered_text (codes "ERROR 2 victim of round ") round (codes "\n")
 
 abbrev pub journal_text : Node → List ℕ
-journal_text node = codes "ERROR 6 journal of node " ++ decimal node.0 ++ codes " failed\n"
+journal_text node = numbered_text (codes "ERROR 6 journal of node ") node.0 (codes " failed\n")
 
 abbrev pub error_text : Refused → List ℕ
 error_text (refused.Serialization rid newer) = serialization_text rid newer

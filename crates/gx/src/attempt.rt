@@ -2,10 +2,7 @@
 ghost use Rattle.std.specs.Prelude.{◌≡◌, ◌≤◌, ◌⊎◌, [], length, true, OnOk, IfOk, IfErr};
 ghost use Rattle.gx_form.specs.Form.{is_of_form};
 ghost use Rattle.gx_sql.specs.Language.{IsScript};
-ghost use Rattle.gx_store.specs.Lines.{AreAllAnswered};
-ghost use Rattle.gx_store.specs.Marks.{marks_of};
-ghost use Rattle.gx_store.specs.Runs.{IsLegalRun};
-ghost use Rattle.gx.specs.Top.{IsAttempt, IsPartOf, IsRunOf};
+ghost use Rattle.gx.specs.Top.{IsAttempt, IsOver, IsPartOf, IsRunOf};
 
 use crate::refused::refusal_text;
 use crate::tables::text;
@@ -36,7 +33,7 @@ pub enum Attempt {
 fn run_lines(world: &mut World) -> Mem<()>
     requires { length world.old.run.steps ≤ length world.old.script.lines }
     ensures script { world.new.script ≡ world.old.script }
-    ensures whole { OnOk result (AreAllAnswered world.new.script (marks_of world.new.run)) }
+    ensures over { OnOk result (IsOver world.new.script world.new.run) }
 {
     'lines: while world.unfinished() {
         world.step(Event::Start(SessionId(0)))?;
@@ -66,7 +63,7 @@ fn run_script(alloc: Global, script: Script) -> Result<(Run, Vec<u8>), Run>
 
 // The text of a world that has run its script.
 fn told(alloc: Global, world: &World) -> Mem<Vec<u8>>
-    requires { AreAllAnswered world.now.script (marks_of world.now.run) }
+    requires { IsOver world.now.script world.now.run }
     ensures { IfOk result (λ text. IsRunOf world.now.script world.now.run text.items) }
 {
     let tables = world.final_tables()?;

@@ -1,15 +1,25 @@
 // The text of a refused statement.
 ghost use Rattle.std.specs.Prelude.{◌≡◌, ◌++◌, OnOk};
-ghost use Rattle.gx_ids.specs.Rid.{text_of as rid_text};
-ghost use Rattle.gx.specs.Error.{error_text, journal_text, serialization_text, victim_text};
+ghost use Rattle.gx.specs.Error.{error_text, journal_text, numbered_text, row_text, serialization_text, victim_text};
 
 use crate::report::{push_bytes, push_count};
 use gx_ids::{Gxid, Mem, Node, Rid};
 use gx_store::Refused;
 
-fn push_rid(text: &mut Vec<u8>, rid: Rid) -> Mem<()>
-    ensures { OnOk result (text.new.items ≡ text.old.items ++ rid_text rid) }
+// A number between two texts.
+fn push_numbered(text: &mut Vec<u8>, before: &[u8], number: u64, behind: &[u8]) -> Mem<()>
+    ensures { OnOk result (text.new.items ≡ text.old.items ++ numbered_text before.now number behind.now) }
 {
+    push_bytes(text, before)?;
+    push_count(text, u128::from(number))?;
+    push_bytes(text, behind)
+}
+
+// A row's identity behind a text.
+fn push_row_of(text: &mut Vec<u8>, before: &[u8], rid: Rid) -> Mem<()>
+    ensures { OnOk result (text.new.items ≡ text.old.items ++ row_text before.now rid) }
+{
+    push_bytes(text, before)?;
     push_count(text, u128::from(rid.gxid.0))?;
     push_bytes(text, b".")?;
     push_count(text, u128::from(rid.cid.0))?;
@@ -20,27 +30,25 @@ fn push_rid(text: &mut Vec<u8>, rid: Rid) -> Mem<()>
 fn push_serialization(text: &mut Vec<u8>, rid: Rid, newer: Gxid) -> Mem<()>
     ensures { OnOk result (text.new.items ≡ text.old.items ++ serialization_text rid newer) }
 {
-    push_bytes(text, b"ERROR 1 serialization row ")?;
-    push_rid(text, rid)?;
-    push_bytes(text, b" changed by ")?;
-    push_count(text, u128::from(newer.0))?;
-    push_bytes(text, b"\n")
+    push_row_of(text, b"ERROR 1 serialization row ", rid)?;
+    push_numbered(text, b" changed by ", newer.0, b"\n")
 }
 
 fn push_victim(text: &mut Vec<u8>, round: u64) -> Mem<()>
     ensures { OnOk result (text.new.items ≡ text.old.items ++ victim_text round) }
 {
-    push_bytes(text, b"ERROR 2 victim of round ")?;
-    push_count(text, u128::from(round))?;
-    push_bytes(text, b"\n")
+    push_numbered(text, b"ERROR 2 victim of round ", round, b"\n")
 }
 
 fn push_journal(text: &mut Vec<u8>, node: Node) -> Mem<()>
     ensures { OnOk result (text.new.items ≡ text.old.items ++ journal_text node) }
 {
-    push_bytes(text, b"ERROR 6 journal of node ")?;
-    push_count(text, u128::from(node.0))?;
-    push_bytes(text, b" failed\n")
+    push_numbered(
+        text,
+        b"ERROR 6 journal of node ",
+        u64::from(node.0),
+        b" failed\n",
+    )
 }
 
 /// Adds the line that tells why a statement is refused.

@@ -18,6 +18,24 @@ const THREE: &str =
 const THREE_TEXT: &str =
     "s1.1 INSERT 3\ns1.2 SELECT 3\n  -1|0\n  0|0\n  9223372036854775807|0\ntable t 3\n  -1|0\n  0|0\n  9223372036854775807|0\n";
 
+const DIVIDED: &str =
+    "segments 1\ntable t (a bigint, b bigint) distributed by (a)\ns1: INSERT INTO t VALUES (1, 1), (2, 9223372036854775807), (3, 3)\ns1: SELECT * FROM t WHERE 1 / (a - 1) = 0\n";
+
+const DIVIDED_TEXT: &str =
+    "s1.1 INSERT 3\ns1.2 ERROR 4 division by zero\ntable t 3\n  1|1\n  2|9223372036854775807\n  3|3\n";
+
+const OVERFLOWED: &str =
+    "segments 2\ntable t (a bigint, b bigint) distributed by (a)\ns1: INSERT INTO t VALUES (1, 1), (2, 9223372036854775807 + 1)\ns1: SELECT * FROM t\n";
+
+const TWO_TABLES: &str =
+    "segments 2\ntable t (a bigint) distributed by (a)\ntable u (b text, c bigint) distributed randomly\ns1: INSERT INTO u VALUES ('x', 2 * 3), ('y', 5)\ns1: INSERT INTO t VALUES (-(4))\ns1: SELECT c, b FROM u WHERE c > 5\n";
+
+const TWO_TABLES_TEXT: &str =
+    "s1.1 INSERT 2\ns1.2 INSERT 1\ns1.3 SELECT 1\n  6|'x'\ntable t 1\n  -4\ntable u 2\n  'x'|6\n  'y'|5\n";
+
+const FAULTS_EVERYWHERE: &str =
+    "segments 2\ntable t (a bigint, b bigint) distributed by (a)\ns1: INSERT INTO t VALUES (1, 0), (2, 0), (4, 0)\ns1: SELECT * FROM t WHERE 1 / b = 0\n";
+
 const EMPTY: &str = "segments 2\ntable t (a bigint, b bigint) distributed by (a)\n";
 
 // The most bytes that a read moves: few, so that even a short script takes many reads.
@@ -60,6 +78,13 @@ fn scripts_give_their_texts(rt: HostRuntime) -> Result<(), Fail> {
         (SMALLEST, 0, SMALLEST_TEXT),
         (THREE, 0, THREE_TEXT),
         (EMPTY, 0, "table t 0\n"),
+        (DIVIDED, 0, DIVIDED_TEXT),
+        (
+            OVERFLOWED,
+            0,
+            "s1.1 ERROR 3 overflow\ns1.2 SELECT 0\ntable t 0\n",
+        ),
+        (TWO_TABLES, 0, TWO_TABLES_TEXT),
         ("", 3, "refused 1 syntax line 1\n"),
         (
             "segments 17\ntable t (a bigint) distributed by (a)\n",
@@ -77,7 +102,7 @@ fn scripts_give_their_texts(rt: HostRuntime) -> Result<(), Fail> {
             "s.1 INSERT 1\ntable t 1\n  'it''s'\n",
         ),
         (
-            "segments 1\ntable t (a bigint) distributed by (a)\ns: SELECT * FROM t WHERE a = 1\n",
+            "segments 1\ntable t (a bigint) distributed by (a)\ns: DELETE FROM t WHERE a = 1\n",
             10,
             "not built\n",
         ),
@@ -102,6 +127,21 @@ fn rows_stand_at_their_segments(rt: HostRuntime) -> Result<(), Fail> {
         }
     }
     assert_eq!(rt; nodes.as_slice(), [3, 1, 2].as_slice());
+    Ok(())
+}
+
+#[test]
+fn the_first_fault_at_the_least_segment_is_noted(rt: HostRuntime) -> Result<(), Fail> {
+    let (report, _) = outcome(&rt, &[], FAULTS_EVERYWHERE.as_bytes(), &[], &[])?;
+    let mut faulting: Vec<u32> = Vec::new(rt.alloc());
+    for step in report.run.steps.as_slice() {
+        for mark in step.marks.as_slice() {
+            if let Mark::Fault { rid, .. } = mark {
+                faulting.push(rid.ordinal)?;
+            }
+        }
+    }
+    assert_eq!(rt; faulting.as_slice(), [2].as_slice());
     Ok(())
 }
 

@@ -1,5 +1,5 @@
 -- What the loops over constants and rows know.
-use Rattle.std.proofs.Common.{◌≡◌, ◌⊎◌, inl, inr, ℕ, zero, suc, ◌+◌, ◌-◌, ◌<◌, ◌≤◌, ◌==◌, nat_le, nat_lt, Bool, true, false, if◌then◌else◌, List, [], ◌∷◌, ◌++◌, length, map, take, filter, get_or, slice_get, All, Option, Some, None, Result, Ok, Err, IfOk, refl, sym, ap, ◌∙◌, subst, arith, append-nil}
+use Rattle.std.proofs.Common.{◌≡◌, ◌⊎◌, inl, inr, ℕ, zero, suc, ◌+◌, ◌-◌, ◌<◌, ◌≤◌, nat_le, nat_lt, Bool, true, false, if◌then◌else◌, List, [], ◌∷◌, ◌++◌, length, map, take, filter, get_or, slice_get, All, Option, Some, None, Result, Ok, Err, IfOk, refl, sym, ap, ◌∙◌, subst, arith, append-nil}
 use Rattle.std.proofs.lemmas.Bool.Decides.{nat_tests}
 use Rattle.std.proofs.lemmas.List.Elements.{All-get_or, All-push, filter-append}
 use Rattle.gx_ids.specs.declared.ids.Gxid.{Gxid}
@@ -28,7 +28,6 @@ use Rattle.gx_tree.specs.declared.query.Query.{Query}
 use Rattle.gx_plan.specs.Constants.{constant, each_from, rows_of, tuple_row, values_of}
 use Rattle.gx_plan.proofs.Each.{each_from-fault}
 use Rattle.gx_store.specs.Answers.{FaultsOnNone}
-use Rattle.gx_store.specs.Commands.{condition_on}
 use Rattle.gx_store.specs.Faults.{FaultsInConstants}
 use Rattle.gx_world.specs.Evaluations.{AreKept, FaultsOnSome, IsFaulting, IsFirstFault, IsFirstFaulting, IsFirstOf, IsTold, IsToBe, Stops, first_of_two, kept_if, place_of}
 use Rattle.gx_world.specs.declared.selection.Faulting.{Faulting}

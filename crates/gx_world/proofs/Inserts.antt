@@ -1,5 +1,5 @@
 -- An INSERT keeps a world sound.
-use Rattle.std.proofs.Common.{◌≡◌, inl, inr, ◌⊎◌, ℕ, ◌+◌, ◌-◌, ◌≤◌, ◌<◌, ◌==◌, nat_lt, Bool, true, false, cond, if◌then◌else◌, ◌&&◌, ◌||◌, List, [], ◌∷◌, ◌++◌, length, map, slice_get, All, refl, sym, ap, ◌∙◌, subst, arith, Option, Some, None, Result, Ok, append_assoc, length-append}
+use Rattle.std.proofs.Common.{◌≡◌, inl, inr, ◌⊎◌, ℕ, ◌+◌, ◌-◌, ◌≤◌, ◌<◌, ◌==◌, Bool, true, false, if◌then◌else◌, ◌||◌, List, [], ◌∷◌, ◌++◌, length, map, slice_get, All, refl, sym, ap, ◌∙◌, subst, arith, Option, Some, None, Ok, append_assoc, length-append}
 use Rattle.std.proofs.lemmas.Bool.Decides.{nat_tests}
 use Rattle.std.proofs.lemmas.List.Elements.{All-from_recursion}
 use Rattle.std.specs.Option.{option_or}
@@ -14,7 +14,6 @@ use Rattle.gx_tree.specs.declared.row.KeyedRow.{KeyedRow}
 use Rattle.gx_tree.specs.declared.schema.Dist.{Dist}
 use Rattle.gx_tree.specs.declared.schema.Schema.{Schema}
 use Rattle.gx_tree.specs.declared.stmt.Level.TheVariants.{ReadCommitted}
-use Rattle.gx_tree.specs.declared.stmt.Stmt.{Stmt}
 use Rattle.gx_tree.specs.declared.stmt.Stmt.TheVariants.{Insert}
 use Rattle.gx_tree.specs.declared.value.Value.{Value}
 use Rattle.gx_dsnap.specs.declared.snapshot.Snapshot.{Snapshot}
@@ -46,7 +45,7 @@ use Rattle.gx_world.specs.declared.turn.Turn.{Turn}
 use Rattle.gx_world.proofs.Over.{AreOver-append, inserted_over}
 use Rattle.gx_world.proofs.Sound.{image_kept, sound_next, table_kept}
 use Rattle.gx_world.proofs.Standing.{IsQuiet, answer_legal, behind, commit_legal, snapped_then, transaction_then, under_way}
-use Rattle.gx_world.proofs.Written.{AreBelow, AreMadeBelow-append, AreOf, AreOwnBelow-writes, AreRising-append, AreRowsFrom, have_values, image_after-later, image_after-other, image_after-writes, is_written-later, length-rows, option_or-none, rid_at, row_at-other, rows_from, rows_of-one, rows_rising, written_among, written_not}
+use Rattle.gx_world.proofs.Written.{AreBelow, AreMadeBelow-append, AreOwnBelow-writes, AreRising-append, AreRowsFrom, have_values, image_after-later, image_after-other, image_after-writes, is_written-later, length-rows, option_or-none, rid_at, row_at-other, rows_from, rows_of-one, rows_rising, written_among, written_not}
 
 or_false : (b : Bool) → (b || false) ≡ b
 or_false true = refl

@@ -1,5 +1,5 @@
 -- The marks of a step, one part after another.
-use Rattle.std.proofs.Common.{◌≡◌, ℕ, ◌+◌, ◌<◌, ◌≤◌, nat_lt, Bool, true, false, ◌&&◌, not, List, [], ◌∷◌, ◌++◌, length, map, refl, sym, ap, ◌∙◌, subst, arith, append_assoc, Option, Some, None}
+use Rattle.std.proofs.Common.{◌≡◌, ℕ, Bool, true, false, ◌&&◌, List, [], ◌++◌, length, map, refl, ap, ◌∙◌, append_assoc, Option, Some, None}
 use Rattle.gx_ids.specs.declared.ids.Gxid.{Gxid}
 use Rattle.gx_ids.specs.declared.ids.Table.{Table}
 use Rattle.gx_tree.specs.declared.row.KeyedRow.{KeyedRow}
@@ -8,7 +8,7 @@ use Rattle.gx_dsnap.specs.declared.snapshot.Snapshot.{Snapshot}
 use Rattle.gx_dsnap.specs.Gxids.{after_ended}
 use Rattle.gx_store.specs.declared.answer.StmtAnswer.TheVariants.{Inserted}
 use Rattle.gx_store.specs.declared.mark.Mark.{Mark}
-use Rattle.gx_world.specs.Steps.{IsLastBefore, IsMade, SeesBelow, begin_marks, done_marks, insert_marks, write_of}
+use Rattle.gx_world.specs.Steps.{IsLastBefore, IsMade, SeesBelow, done_marks, insert_marks, write_of}
 use Rattle.gx_world.specs.declared.turn.Turn.{Turn}
 
 and_true : (b : Bool) → (b && true) ≡ b

@@ -1,11 +1,10 @@
 -- A running world stays one in each step.
-use Rattle.std.proofs.Common.{◌≡◌, ◌⊎◌, inl, inr, ℕ, ◌+◌, ◌≤◌, ◌<◌, ◌==◌, nat_lt, Bool, true, false, cond, if◌then◌else◌, ◌&&◌, is_some, List, [], ◌∷◌, ◌++◌, length, map, slice_get, slice_set, get_or, All, refl, sym, ap, ◌∙◌, subst, arith, Option, Some, None, zero, suc, length-append}
+use Rattle.std.proofs.Common.{◌≡◌, ◌⊎◌, inl, inr, ℕ, ◌+◌, ◌≤◌, ◌<◌, ◌==◌, nat_lt, Bool, true, false, if◌then◌else◌, ◌&&◌, is_some, List, [], ◌∷◌, ◌++◌, length, map, slice_set, All, refl, sym, ap, ◌∙◌, subst, arith, Some, None, zero, suc, length-append}
 use Rattle.std.proofs.lemmas.Bool.Decides.{nat_tests}
 use Rattle.std.specs.Bool.{OnTrue, OnFalse}
 use Rattle.std.specs.Prelude.{replicate}
 use Rattle.std.specs.declared.vec.Vec.{Vec}
 use Rattle.std.specs.declared.alloc.Global.{Global}
-use Rattle.gx_ids.specs.declared.ids.Gxid.{Gxid}
 use Rattle.gx_ids.specs.declared.ids.SessionId.{SessionId}
 use Rattle.gx_ids.specs.declared.ids.Table.{Table}
 use Rattle.gx_tree.specs.declared.expr.Expr.{Expr}
@@ -13,7 +12,6 @@ use Rattle.gx_tree.specs.declared.query.Query.{Query}
 use Rattle.gx_tree.specs.declared.row.KeyedRow.{KeyedRow}
 use Rattle.gx_tree.specs.declared.schema.Dist.{Dist}
 use Rattle.gx_tree.specs.declared.schema.Schema.{Schema}
-use Rattle.gx_tree.specs.declared.stmt.Stmt.{Stmt}
 use Rattle.gx_tree.specs.declared.stmt.Stmt.TheVariants.{Select, Insert}
 use Rattle.gx_resolve.specs.Rules.{IsAt, IsTuple}
 use Rattle.gx_script.specs.declared.Script.{Script}
@@ -32,7 +30,7 @@ use Rattle.gx_store.specs.declared.run.Run.{Run}
 use Rattle.gx_store.specs.declared.run.Step.{Step}
 use Rattle.gx_store.proofs.Marks.{answer_count-append}
 use Rattle.gx_store.proofs.Runs.{AreInOrder-push, clock_after-push}
-use Rattle.gx_world.specs.Steps.{IsInsert, IsMade, IsRefusedInsert, IsRefusedSelect, IsSelect, RunsOn, begin_marks, done_marks, insert_marks, step_of, the_session, turn_at, write_of}
+use Rattle.gx_world.specs.Steps.{IsInsert, IsRefusedInsert, IsRefusedSelect, IsSelect, done_marks, step_of, the_session, turn_at, write_of}
 use Rattle.gx_world.specs.World.{IsReady, IsRunning, IsSound, all_rows, can_do, only_first, rows_in, stmt_at}
 use Rattle.gx_world.proofs.Inserts.{quiet_only, sound_insert}
 use Rattle.gx_world.proofs.Scripts.{is_some-stmt_at, line_count-all, stmt_at-within, stmt_of-at, stmt_of-other}

@@ -1,5 +1,5 @@
 -- Scripts of one session, by the places of their lines.
-use Rattle.std.proofs.Common.{◌≡◌, ◌⊎◌, inl, inr, ℕ, ◌+◌, ◌<◌, ◌≤◌, ◌==◌, nat_lt, nat_le, Bool, true, false, cond, ◌&&◌, is_some, List, [], ◌∷◌, ◌++◌, length, length-append, get_or, slice_get, All, refl, sym, ap, ◌∙◌, subst, arith, Some, None, add-zero, suc, zero, append_assoc, MatchOption}
+use Rattle.std.proofs.Common.{◌≡◌, ℕ, ◌+◌, ◌<◌, ◌≤◌, ◌==◌, nat_lt, nat_le, Bool, true, false, ◌&&◌, is_some, List, [], ◌∷◌, ◌++◌, length, length-append, get_or, slice_get, refl, sym, ap, ◌∙◌, subst, arith, Some, None, add-zero, suc, zero}
 use Rattle.std.proofs.lemmas.Bool.Decides.{nat_tests}
 use Rattle.std.proofs.lemmas.List.Elements.{recursion_from_All}
 use Rattle.std.specs.List.{AllByRecursion, list_all}
@@ -10,12 +10,11 @@ use Rattle.gx_tree.specs.declared.query.Query.{Query}
 use Rattle.gx_tree.specs.declared.schema.Schema.{Schema}
 use Rattle.gx_tree.specs.declared.stmt.Stmt.{Stmt}
 use Rattle.gx_tree.specs.declared.stmt.Stmt.TheVariants.{Select, Insert}
-use Rattle.gx_resolve.specs.Rules.{IsAt, IsOver, IsSchema, IsStmtOf}
-use Rattle.gx_sql.specs.Language.{AreNumbered, IsLine, IsScript, IsTable, lines_in}
+use Rattle.gx_sql.specs.Language.{AreNumbered, IsLine, IsScript, lines_in}
 use Rattle.gx_form.specs.Form.{has_none, is_line_of_form, is_of_form, is_stmt_of_form}
 use Rattle.gx_script.specs.declared.Line.{Line}
 use Rattle.gx_script.specs.declared.Script.{Script}
-use Rattle.gx_store.specs.Lines.{is_on_rows, line_count, stmt_of}
+use Rattle.gx_store.specs.Lines.{line_count, stmt_of}
 use Rattle.gx_store.specs.Writes.{dist_of}
 use Rattle.gx_world.specs.Steps.{the_session}
 use Rattle.gx_world.specs.World.{AreRunFrom, IsReady, IsRunStmt, only_first, stmt_at}

@@ -1,5 +1,5 @@
 -- A query, and a refusal, keep a world sound.
-use Rattle.std.proofs.Common.{◌≡◌, inl, ℕ, ◌+◌, ◌≤◌, ◌==◌, nat_lt, Bool, true, false, ◌&&◌, ◌||◌, List, [], ◌∷◌, ◌++◌, length, take, refl, sym, ap, ◌∙◌, subst, arith, Option, Some, None}
+use Rattle.std.proofs.Common.{◌≡◌, ℕ, ◌+◌, ◌≤◌, ◌==◌, nat_lt, Bool, true, false, ◌&&◌, ◌||◌, List, [], ◌∷◌, ◌++◌, length, refl, sym, ap, ◌∙◌, subst, arith, Option, Some, None}
 use Rattle.std.proofs.lemmas.Bool.Decides.{nat_tests}
 use Rattle.std.specs.declared.vec.Vec.{Vec}
 use Rattle.std.specs.declared.alloc.Global.{Global}
@@ -20,7 +20,6 @@ use Rattle.gx_script.specs.declared.Script.{Script}
 use Rattle.gx_store.specs.Answers.{FaultsOnNone, IsDone}
 use Rattle.gx_store.specs.Commands.{Sees}
 use Rattle.gx_store.specs.Faults.{FaultsOnSeen, IsFaultOf}
-use Rattle.gx_store.specs.Legal.{AreLegalMarks}
 use Rattle.gx_store.specs.Lines.{Outside, is_on_rows, stmt_of}
 use Rattle.gx_store.specs.Marks.{is_committed, is_ended}
 use Rattle.gx_store.specs.Points.{Point, marks_in}

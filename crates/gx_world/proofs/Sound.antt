@@ -1,10 +1,9 @@
 -- A world stays sound where a line's step is added.
-use Rattle.std.proofs.Common.{◌≡◌, ℕ, ◌+◌, ◌≤◌, ◌<◌, ◌==◌, nat_lt, Bool, true, false, cond, if◌then◌else◌, ◌&&◌, ◌||◌, List, [], ◌∷◌, ◌++◌, length, IsSome, refl, sym, ap, ◌∙◌, subst, arith, Option, Some, None, add-zero, zero-add}
+use Rattle.std.proofs.Common.{◌≡◌, ℕ, ◌+◌, ◌≤◌, ◌==◌, nat_lt, Bool, true, false, if◌then◌else◌, ◌&&◌, ◌||◌, List, [], ◌∷◌, ◌++◌, length, IsSome, refl, sym, ap, ◌∙◌, subst, arith, Option, Some, None, zero-add}
 use Rattle.std.proofs.lemmas.Bool.Decides.{nat_tests}
 use Rattle.std.specs.declared.vec.Vec.{Vec}
 use Rattle.std.specs.declared.alloc.Global.{Global}
 use Rattle.gx_ids.specs.declared.ids.Gxid.{Gxid}
-use Rattle.gx_ids.specs.declared.ids.Cid.{Cid}
 use Rattle.gx_ids.specs.declared.ids.SessionId.{SessionId}
 use Rattle.gx_ids.specs.declared.ids.Table.{Table}
 use Rattle.gx_ids.specs.declared.rid.Rid.{Rid}
@@ -16,10 +15,10 @@ use Rattle.gx_dsnap.specs.declared.snapshot.Snapshot.{Snapshot}
 use Rattle.gx_resolve.specs.Rules.{IsAt}
 use Rattle.gx_script.specs.declared.Script.{Script}
 use Rattle.gx_store.specs.Legal.{AreLegalMarks}
-use Rattle.gx_store.specs.Lines.{BlockState, Outside, is_on_rows, next_stmt, state_after_line, state_from, stmt_of}
+use Rattle.gx_store.specs.Lines.{Outside, is_on_rows, next_stmt, state_after_line, state_from, stmt_of}
 use Rattle.gx_store.specs.Marks.{answer_count, is_begun_after, is_committed, is_ended, is_same_session, start_count}
-use Rattle.gx_store.specs.Points.{marks_in, starts_by, starts_in}
-use Rattle.gx_store.specs.View.{IsView, image_after}
+use Rattle.gx_store.specs.Points.{marks_in}
+use Rattle.gx_store.specs.View.{image_after}
 use Rattle.gx_store.specs.declared.answer.StmtAnswer.{StmtAnswer}
 use Rattle.gx_store.specs.declared.event.Event.TheVariants as event
 use Rattle.gx_store.specs.declared.mark.Mark.{Mark}
@@ -27,10 +26,10 @@ use Rattle.gx_store.specs.declared.run.Step.{Step}
 use Rattle.gx_store.proofs.Lines.{state_from-append}
 use Rattle.gx_store.proofs.Marks.{answer_count-append, image_after-append, is_begun_after-append, is_committed-append, is_ended-append, start_count-append}
 use Rattle.gx_store.proofs.Runs.{AreLegalSteps-push, marks_in-push, starts_in-push}
-use Rattle.gx_world.specs.Steps.{SeesBelow, answer_mark, begin_marks, first_cid, step_of, the_session, turn_at}
+use Rattle.gx_world.specs.Steps.{SeesBelow, answer_mark, begin_marks, step_of, the_session, turn_at}
 use Rattle.gx_world.specs.World.{AreOver, AreOwnBelow, IsSound, IsTable, only_first, rows_in}
 use Rattle.gx_world.specs.declared.turn.Turn.{Turn}
-use Rattle.gx_world.proofs.Standing.{IsQuiet, behind, begin_legal, ended_at, stays_outside}
+use Rattle.gx_world.proofs.Standing.{IsQuiet, behind, begin_legal, stays_outside}
 use Rattle.gx_world.proofs.Written.{AreMadeBelow-weaken, AreOwnBelow-append, AreOwnBelow-weaken, AreRising-none, image_after-agree}
 
 none_drawn : (k : ℕ) → false ≡ (nat_lt 0 k && nat_lt k (0 + 1))

@@ -1,28 +1,26 @@
 -- Where a step that runs a line stands: what holds at the points of it, and which marks may stand there.
-use Rattle.std.proofs.Common.{◌≡◌, ◌⊎◌, inl, inr, ℕ, ◌+◌, ◌≤◌, ◌<◌, ◌==◌, nat_lt, Bool, true, false, cond, ◌&&◌, ◌||◌, List, [], ◌∷◌, ◌++◌, length, take, slice_get, refl, sym, ap, ◌∙◌, subst, arith, Option, Some, None, add-zero, zero-add, zero, suc}
+use Rattle.std.proofs.Common.{◌≡◌, inl, ℕ, ◌+◌, ◌≤◌, ◌==◌, nat_lt, Bool, true, false, ◌&&◌, ◌||◌, List, [], ◌∷◌, ◌++◌, length, take, slice_get, refl, sym, ap, ◌∙◌, subst, arith, Option, Some, None, add-zero, zero-add, suc}
 use Rattle.std.proofs.lemmas.Bool.Decides.{nat_tests}
 use Rattle.std.specs.declared.vec.Vec.{Vec}
 use Rattle.std.specs.declared.alloc.Global.{Global}
 use Rattle.gx_ids.specs.declared.ids.Gxid.{Gxid}
 use Rattle.gx_ids.specs.declared.ids.SessionId.{SessionId}
-use Rattle.gx_ids.specs.declared.rid.Rid.{Rid}
 use Rattle.gx_tree.specs.declared.row.KeyedRow.{KeyedRow}
 use Rattle.gx_tree.specs.declared.stmt.Level.TheVariants.{ReadCommitted}
 use Rattle.gx_tree.specs.declared.stmt.Stmt.{Stmt}
 use Rattle.gx_tree.specs.declared.stmt.Stmt.TheVariants.{Select, Insert, Update, Delete}
-use Rattle.gx_tree.specs.declared.value.Value.{Value}
 use Rattle.gx_dsnap.specs.declared.snapshot.Snapshot.{Snapshot}
 use Rattle.gx_dsnap.specs.Snapshot.{sees}
 use Rattle.gx_eval.specs.declared.fault.ArithFault.{ArithFault}
 use Rattle.gx_eval.specs.declared.fault.ArithFault.TheVariants as arith_fault
 use Rattle.gx_script.specs.declared.Script.{Script}
-use Rattle.gx_store.specs.Answers.{IsAnswer, IsDone}
+use Rattle.gx_store.specs.Answers.{IsAnswer}
 use Rattle.gx_store.specs.Commands.{IsUnderWay, RunsLine}
 use Rattle.gx_store.specs.Faults.{IsFaultOf}
 use Rattle.gx_store.specs.Legal.{AreLegalMarks, LegalAbort, LegalAnswer, LegalCommit, LegalSnap, LegalStart, draws, may_abort, may_commit}
-use Rattle.gx_store.specs.Lines.{BlockState, Outside, cid_of, is_command, is_on_rows, level_of, next_stmt, state_after, state_from, state_of, stmt_of, transaction_of}
+use Rattle.gx_store.specs.Lines.{BlockState, Outside, cid_of, is_command, is_on_rows, level_of, state_after, state_from, state_of, stmt_of, transaction_of}
 use Rattle.gx_store.specs.Marks.{answer_count, is_aborted, is_begun, is_begun_after, is_committed, is_ended, is_snapped, start_count, started_after}
-use Rattle.gx_store.specs.Points.{Point, marks_in, starts_in}
+use Rattle.gx_store.specs.Points.{Point, marks_in}
 use Rattle.gx_store.specs.Refusals.{HasFaulted, IsCause, IsRefusal, IsWithin}
 use Rattle.gx_store.specs.declared.answer.Refused.{Refused as Reason}
 use Rattle.gx_store.specs.declared.answer.StmtAnswer.{StmtAnswer}
@@ -30,11 +28,11 @@ use Rattle.gx_store.specs.declared.answer.StmtAnswer.TheVariants.{Refused}
 use Rattle.gx_store.specs.declared.event.Event.{Event}
 use Rattle.gx_store.specs.declared.event.Event.TheVariants as event
 use Rattle.gx_store.specs.declared.mark.Mark.{Mark}
-use Rattle.gx_store.specs.declared.mark.Mark.TheVariants.{Start, Snap, Fault, Commit, Abort, Answer}
+use Rattle.gx_store.specs.declared.mark.Mark.TheVariants.{Start, Snap, Fault, Abort}
 use Rattle.gx_store.specs.declared.run.Step.{Step}
 use Rattle.gx_store.proofs.Lines.{state_from-append}
 use Rattle.gx_store.proofs.Marks.{answer_count-append, is_begun_after-append, is_ended-append, is_snapped-append, start_count-append, started_after-append}
-use Rattle.gx_world.specs.Steps.{SeesBelow, answer_mark, begin_marks, done_marks, first_cid, refusal_of, refused_marks, the_session, turn_at}
+use Rattle.gx_world.specs.Steps.{SeesBelow, answer_mark, begin_marks, first_cid, refusal_of, refused_marks, the_session, turn_at}
 use Rattle.gx_world.specs.World.{IsSound}
 use Rattle.gx_world.specs.declared.stop.Faulted.{Faulted}
 use Rattle.gx_world.specs.declared.turn.Turn.{Turn}

@@ -1,5 +1,5 @@
 -- What an INSERT's rows and their writes do to counts, tests and images.
-use Rattle.std.proofs.Common.{◌≡◌, ◌⊎◌, inl, inr, ℕ, ◌+◌, ◌-◌, ◌≤◌, ◌<◌, ◌==◌, nat_lt, Bool, true, false, cond, if◌then◌else◌, ◌&&◌, ◌||◌, List, [], ◌∷◌, ◌++◌, length, map, slice_get, All, refl, sym, ap, ◌∙◌, subst, arith, append_assoc, zero, suc, Option, Some, None, Result, Ok, Err}
+use Rattle.std.proofs.Common.{◌≡◌, ℕ, ◌+◌, ◌≤◌, ◌<◌, ◌==◌, nat_lt, Bool, true, false, cond, ◌&&◌, ◌||◌, List, [], ◌∷◌, ◌++◌, length, map, slice_get, refl, sym, ap, ◌∙◌, subst, arith, zero, suc, Option, Some, None, Ok}
 use Rattle.std.proofs.lemmas.Bool.Decides.{nat_tests}
 use Rattle.std.specs.List.{AllByRecursion}
 use Rattle.std.specs.List.Sorted.{IsStrictlySortedBy}
@@ -13,14 +13,13 @@ use Rattle.gx_tree.specs.declared.expr.Expr.{Expr}
 use Rattle.gx_tree.specs.declared.row.KeyedRow.{KeyedRow}
 use Rattle.gx_tree.specs.declared.schema.Dist.{Dist}
 use Rattle.gx_tree.specs.declared.value.Value.{Value}
-use Rattle.gx_eval.specs.declared.fault.ArithFault.{ArithFault}
 use Rattle.gx_gather.specs.Answer.{AreRising}
 use Rattle.gx_gather.specs.Order.{rid_order}
 use Rattle.gx_plan.specs.Constants.{each_from, keyed, rows_of, tuple_row, values_of}
 use Rattle.gx_store.specs.Answers.{HasValues}
 use Rattle.gx_store.specs.declared.mark.Mark.{Mark}
 use Rattle.gx_store.specs.declared.mark.Mark.TheVariants.{Snap, Write}
-use Rattle.gx_store.specs.Marks.{is_command_of, is_same_gxid, is_same_rid, is_snapped, is_written}
+use Rattle.gx_store.specs.Marks.{is_same_gxid, is_same_rid, is_snapped, is_written}
 use Rattle.gx_store.specs.Rows.{row_at}
 use Rattle.gx_store.specs.View.{image_after}
 use Rattle.gx_store.proofs.Rows.{bool_cases, is_same_rid-refl, not_same_below, rid_order-after, rid_order-later, same_gxid, same_number, same_rid}

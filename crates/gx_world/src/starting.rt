@@ -2,7 +2,9 @@
 ghost use Rattle.std.specs.Prelude.{◌≡◌, ◌<◌, ◌+◌, length, OnOk, OnErr, Some};
 ghost use Rattle.gx_world.specs.World.{IsRunning, stmt_at};
 
-use crate::lines::{insert_line, select_line, stmt_of, turn_at};
+use crate::insert::insert_line;
+use crate::lines::{stmt_of, turn_at};
+use crate::select::select_line;
 use gx_ids::{Mem, Seq, Table};
 use gx_script::Script;
 use gx_store::Run;

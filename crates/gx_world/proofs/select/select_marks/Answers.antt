@@ -1,4 +1,3 @@
-use Rattle.std.proofs.Common.{refl}
 use Rattle.gx_world.proofs.Made.{made_more}
 use Rattle.gx_world.proofs.select.select_marks.Goals as goal
 

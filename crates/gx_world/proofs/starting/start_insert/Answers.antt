@@ -1,4 +1,3 @@
-use Rattle.std.proofs.Common.{rules}
 use Rattle.gx_tree.specs.declared.stmt.Stmt.TheVariants.{Insert}
 use Rattle.gx_world.proofs.Found.{insert_here, insert_inside, insert_key, insert_runs, insert_same, insert_short, insert_typed, next_fits, on_err, on_ok}
 use Rattle.gx_world.proofs.starting.start_insert.Goals as goal

@@ -1,5 +1,4 @@
-use Rattle.std.proofs.Common.{length, nat_lt}
-use Rattle.gx_world.proofs.Running.{all_closed, all_ended, done_where_none_left, next_where_left}
+use Rattle.gx_world.proofs.Running.{done_where_none_left, next_where_left}
 use Rattle.gx_world.proofs.world.World.unfinished.Goals as goal
 
 pub returns-clause-done : goal.returns-clause-done

@@ -1,6 +1,6 @@
 use Rattle.gx_world.specs.Steps.{first_cid}
 use Rattle.gx_world.proofs.Over.{all_placed, constants_in, inserted_over}
-use Rattle.gx_world.proofs.lines.insert_line.Goals as goal
+use Rattle.gx_world.proofs.insert.insert_line.Goals as goal
 
 pub constant_rows-requires-clause-constants : goal.constant_rows-requires-clause-constants
 constant_rows-requires-clause-constants c = λ k d l. constants_in c.args.schema.now.columns _ (c.requires.tuples k d l)
