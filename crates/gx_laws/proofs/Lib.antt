@@ -12,3 +12,4 @@ pub mod Stages
 pub mod Statuses
 pub mod Sessions
 pub mod Past
+pub mod Ends
