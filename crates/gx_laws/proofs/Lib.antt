@@ -13,3 +13,4 @@ pub mod Statuses
 pub mod Sessions
 pub mod Past
 pub mod Ends
+pub mod Turns

@@ -81,21 +81,31 @@ committed-moves : (g : Gxid) (is : List Node) (t : Txn) (a : Stage) → (a ≡ L
 committed-moves g [] t a h = (h, inr refl)
 committed-moves g (i ∷ is) t a h = (h, inl refl)
 
-commits-moves : (g : Gxid) (writers : List Node) (t : Txn) → stage_in t.phase ≡ Live → Moves (stage (Some t)) (stage (left_of (commits g writers t).step (Some t))) (commits g writers t).out.outcome
-commits-moves g [] t e = committed-moves g t.participants t (stage_in t.phase) (inl e)
-commits-moves g (i ∷ []) t e = inr (inl (e, refl))
-commits-moves g (i ∷ j ∷ is) t e = inr (inl (e, refl))
+-- how a commit moves it
+abbrev pub Closes : Stage → Outcome → Type 0
+Closes b outcome.Pending = b ≡ Closing
+Closes b outcome.Committed = (b ≡ Finished) ⊎ (b ≡ Absent)
+Closes b _ = ⊥
 
-pub commit-turns : (d : Table) (g : ℕ) (writers : List Node) → IsWhole d → stage (find_txn d (gx g)) ≡ Live → Turned d g (on_commit d (gx g) writers) Moves
+alone-closes : (g : Gxid) (is : List Node) (t : Txn) → Closes (stage (left_of (ends_committed g is).step (Some t))) (ends_committed g is).out.outcome
+alone-closes g [] t = inr refl
+alone-closes g (i ∷ is) t = inl refl
+
+commits-closes : (g : Gxid) (writers : List Node) (t : Txn) → Closes (stage (left_of (commits g writers t).step (Some t))) (commits g writers t).out.outcome
+commits-closes g [] t = alone-closes g t.participants t
+commits-closes g (i ∷ []) t = refl
+commits-closes g (i ∷ j ∷ is) t = refl
+
+pub commit-turns : (d : Table) (g : ℕ) (writers : List Node) → IsWhole d → stage (find_txn d (gx g)) ≡ Live → Turned d g (on_commit d (gx g) writers) (λ a b o. Closes b o)
 commit-turns d g writers w e = by_found (find_txn d (gx g)) refl e
   where
-    by_found : (t : Option Txn) → find_txn d (gx g) ≡ t → stage t ≡ Live → Turned d g (on_commit d (gx g) writers) Moves
+    by_found : (t : Option Txn) → find_txn d (gx g) ≡ t → stage t ≡ Live → Turned d g (on_commit d (gx g) writers) (λ a b o. Closes b o)
     by_found None f s = absurd (cc)
     by_found (Some t) f s =
         record {
           now = left_of (commit_found (gx g) writers (find_txn d (gx g))).step (find_txn d (gx g));
           at = changed-at d g (commit_found (gx g) writers (find_txn d (gx g))) w;
-          how = subst (λ o. Moves (stage o) (stage (left_of (commit_found (gx g) writers o).step o)) (commit_found (gx g) writers o).out.outcome) (sym f) (commits-moves (gx g) writers t s);
+          how = subst (λ o. Closes (stage (left_of (commit_found (gx g) writers o).step o)) (commit_found (gx g) writers o).out.outcome) (sym f) (commits-closes (gx g) writers t);
           latest = refl;
         }
 
