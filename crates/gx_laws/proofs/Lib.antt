@@ -14,3 +14,4 @@ pub mod Sessions
 pub mod Past
 pub mod Ends
 pub mod Turns
+pub mod Closings

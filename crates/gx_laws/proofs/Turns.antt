@@ -52,14 +52,14 @@ pub record Base (c c1 : Coord) (g s : ℕ) (w1 : Work) (y : Session) (said : Sta
   pub same_txn : y.transaction.0 ≡ g
   pub home1 : w1.session.0 ≡ s
 
-self-test : (a : ℕ) → eqb a a ≡ true
+pub self-test : (a : ℕ) → eqb a a ≡ true
 self-test a = grind (arith, nat_tests)
 
-merged : {A : Type 0} (b : Bool) (x y z v : A) → v ≡ (if b then y else z) → (if b then x else v) ≡ (if b then x else z)
+pub merged : {A : Type 0} (b : Bool) (x y z v : A) → v ≡ (if b then y else z) → (if b then x else v) ≡ (if b then x else z)
 merged true x y z v e = refl
 merged false x y z v e = e
 
-tied-none : (a : Stage) (g : ℕ) (x : Session) → is_said a ≡ false → Tied a g no_work x
+pub tied-none : (a : Stage) (g : ℕ) (x : Session) → is_said a ≡ false → Tied a g no_work x
 tied-none a g x e = record { live = λ l. absurd (no-live a e l); closing = λ l. absurd (no-closing a e l); awaits = λ k f m. absurd (cc) }
   where
     no-live : (a : Stage) → is_said a ≡ false → a ≡ Live → ⊥
@@ -67,7 +67,7 @@ tied-none a g x e = record { live = λ l. absurd (no-live a e l); closing = λ l
     no-closing : (a : Stage) → is_said a ≡ false → a ≡ Closing → ⊥
     no-closing a e l = grind arith
 
-not-open : (s : ℕ) (x : Session) (a : Stage) (w : Work) → is_open_in x.state.block ≡ false → Placed s x a w
+pub not-open : (s : ℕ) (x : Session) (a : Stage) (w : Work) → is_open_in x.state.block ≡ false → Placed s x a w
 not-open s x a w e = record { stands = λ o. absurd (clash (is_open_in x.state.block) o e); free = λ o n. absurd (clash (is_open_in x.state.block) o e) }
   where
     clash : (b : Bool) → b ≡ true → b ≡ false → ⊥
@@ -97,23 +97,23 @@ abort-seen : (before why ns : List Mark) (g : Gxid) → Each Still why → Each 
 abort-seen before why ns g e f = seen-append before why (mark.Abort g ∷ ns) (still-seen before why e) (still-seen (before ++ why ++ mark.Abort g ∷ []) ns f)
 
 module _ (c c1 : Coord) (g s : ℕ) (w1 : Work) (y : Session) (said : Stage) (k : Kept c) (b : Base c c1 g s w1 y said) where
-  work-is : c1.works g ≡ w1
+  pub work-is : c1.works g ≡ w1
   work-is = b.works1 g ∙ ap (λ q. if q then w1 else c.works g) (self-test g)
 
-  home-is : (c1.works g).session.0 ≡ s
+  pub home-is : (c1.works g).session.0 ≡ s
   home-is = ap (λ (w : Work). w.session.0) work-is ∙ b.home1
 
-  y-is : c1.sessions s ≡ y
+  pub y-is : c1.sessions s ≡ y
   y-is = b.sessions1 s ∙ ap (λ q. if q then y else c.sessions s) (self-test s)
 
-  stage-is : stage_of c1 g ≡ said
+  pub stage-is : stage_of c1 g ≡ said
   stage-is = ap stage (b.finds1 g ∙ ap (λ q. if q then b.now1 else find_txn c.table (gx g)) (self-test g)) ∙ b.stage1
 
-  session-set : (f : Session → Session) (j : ℕ) → with_at c1.sessions (c1.works g).session.0 (f (c1.sessions (c1.works g).session.0)) j ≡ (if eqb j s then f y else c1.sessions j)
+  pub session-set : (f : Session → Session) (j : ℕ) → with_at c1.sessions (c1.works g).session.0 (f (c1.sessions (c1.works g).session.0)) j ≡ (if eqb j s then f y else c1.sessions j)
   session-set f j =
       ap (λ i. if eqb j i then f (c1.sessions i) else c1.sessions j) home-is ∙ ap (λ x. if eqb j s then f x else c1.sessions j) y-is
 
-  base-kept : (d : Coord) (now : Option Txn) (w : Work) (x : Session) → IsWhole d.table → ((j : ℕ) → find_txn d.table (gx j) ≡ (if eqb j g then now else find_txn c1.table (gx j))) → ((j : ℕ) → d.works j ≡ (if eqb j g then w else c1.works j)) → ((j : ℕ) → d.sessions j ≡ (if eqb j s then x else c1.sessions j)) → ((z : Session) → z ≡ (if eqb w.session.0 s then x else c.sessions w.session.0) → Tied (stage now) g w z) → x.transaction.0 ≡ g → Placed s x (stage now) w → Kept d
+  pub base-kept : (d : Coord) (now : Option Txn) (w : Work) (x : Session) → IsWhole d.table → ((j : ℕ) → find_txn d.table (gx j) ≡ (if eqb j g then now else find_txn c1.table (gx j))) → ((j : ℕ) → d.works j ≡ (if eqb j g then w else c1.works j)) → ((j : ℕ) → d.sessions j ≡ (if eqb j s then x else c1.sessions j)) → ((z : Session) → z ≡ (if eqb w.session.0 s then x else c.sessions w.session.0) → Tied (stage now) g w z) → x.transaction.0 ≡ g → Placed s x (stage now) w → Kept d
   base-kept d now w x whole finds works sessions tied same placed = by_kind b.kind
     where
       ch : Change c d g s now w x
@@ -128,15 +128,29 @@ module _ (c c1 : Coord) (g s : ℕ) (w1 : Work) (y : Session) (said : Stage) (k 
       by_kind (inr n) = kept-new c d g s now w x k ch n.0 n.1 n.2 (tied _ refl) same placed
 
   -- the transaction has its mark, and nothing is known of it any more
-  reset-kept : (d : Coord) (now : Option Txn) (x : Session) → IsWhole d.table → ((j : ℕ) → find_txn d.table (gx j) ≡ (if eqb j g then now else find_txn c1.table (gx j))) → ((j : ℕ) → d.works j ≡ (if eqb j g then no_work else c1.works j)) → ((j : ℕ) → d.sessions j ≡ (if eqb j s then x else c1.sessions j)) → is_said (stage now) ≡ false → x.transaction.0 ≡ g → is_open_in x.state.block ≡ false → Kept d
+  pub reset-kept : (d : Coord) (now : Option Txn) (x : Session) → IsWhole d.table → ((j : ℕ) → find_txn d.table (gx j) ≡ (if eqb j g then now else find_txn c1.table (gx j))) → ((j : ℕ) → d.works j ≡ (if eqb j g then no_work else c1.works j)) → ((j : ℕ) → d.sessions j ≡ (if eqb j s then x else c1.sessions j)) → is_said (stage now) ≡ false → x.transaction.0 ≡ g → is_open_in x.state.block ≡ false → Kept d
   reset-kept d now x whole finds works sessions unsaid same closed = base-kept d now no_work x whole finds works sessions (λ z e. tied-none (stage now) g z unsaid) same (not-open s x (stage now) no_work closed)
 
-  drawn-here : is_running said ≡ true → g < c1.table.next.0
+  pub same-sessions : (j : ℕ) → c1.sessions j ≡ (if eqb j s then y else c1.sessions j)
+  same-sessions j = by_test (eqb j s) refl
+    where
+      by_test : (q : Bool) → eqb j s ≡ q → c1.sessions j ≡ (if q then y else c1.sessions j)
+      by_test true q = ap c1.sessions (eqb-true j s q) ∙ y-is
+      by_test false q = refl
+
+  pub same-works : (j : ℕ) → c1.works j ≡ (if eqb j g then w1 else c1.works j)
+  same-works j = by_test (eqb j g) refl
+    where
+      by_test : (q : Bool) → eqb j g ≡ q → c1.works j ≡ (if q then w1 else c1.works j)
+      by_test true q = ap c1.works (eqb-true j g q) ∙ work-is
+      by_test false q = refl
+
+  pub drawn-here : is_running said ≡ true → g < c1.table.next.0
   drawn-here r = (running-drawn c1 g b.whole1 (ap is_running stage-is ∙ r)).1
 
   module _ (before : List Mark) (p : Past c1 before) where
     -- a commit
-    closed-good : (turn : Turn) (How : Stage → Stage → Outcome → Type 0) → (t : Turned c1.table g turn How) → is_running said ≡ true → turn.out.outcome ≡ outcome.Committed → ((stage t.now ≡ Finished) ⊎ (stage t.now ≡ Absent)) → is_open_in (after_done y.state).block ≡ false → Good before (is_closed c1 (gx g) turn)
+    pub closed-good : (turn : Turn) (How : Stage → Stage → Outcome → Type 0) → (t : Turned c1.table g turn How) → is_running said ≡ true → turn.out.outcome ≡ outcome.Committed → ((stage t.now ≡ Finished) ⊎ (stage t.now ≡ Absent)) → is_open_in (after_done y.state).block ≡ false → Good before (is_closed c1 (gx g) turn)
     closed-good turn How t r o how closed =
         let said_last : List Mark = answer_mark c1 (work_of c1 (gx g)).session (answer_at_commit (work_of c1 (gx g)) (session_of c1 (work_of c1 (gx g)).session).state.pending) ∷ [] in
         let still : Each Still said_last = (tt, tt) in
@@ -191,7 +205,7 @@ module _ (c c1 : Coord) (g s : ℕ) (w1 : Work) (y : Session) (said : Stage) (k 
     unsaid-end a o (inl e) = ap is_said e
     unsaid-end a o (inr e) = ap is_said e.0
 
-    refused-good : (turn : Turn) (How : Stage → Stage → Outcome → Type 0) (why : List Mark) (reason : Refused) → (t : Turned c1.table g turn How) → is_running said ≡ true → ((stage t.now ≡ Dropped) ⊎ ((stage t.now ≡ Absent) × (turn.out.outcome ≡ outcome.Ended))) → Each Still why → is_open_in (after_refused y.state).block ≡ false → Good before (is_refused c1 (gx g) turn why reason)
+    pub refused-good : (turn : Turn) (How : Stage → Stage → Outcome → Type 0) (why : List Mark) (reason : Refused) → (t : Turned c1.table g turn How) → is_running said ≡ true → ((stage t.now ≡ Dropped) ⊎ ((stage t.now ≡ Absent) × (turn.out.outcome ≡ outcome.Ended))) → Each Still why → is_open_in (after_refused y.state).block ≡ false → Good before (is_refused c1 (gx g) turn why reason)
     refused-good turn How why reason t r how e closed =
         let said_last : List Mark = answer_mark c1 (work_of c1 (gx g)).session (told.Refused reason) ∷ [] in
         let still : Each Still said_last = (tt, tt) in
@@ -201,19 +215,15 @@ module _ (c c1 : Coord) (g s : ℕ) (w1 : Work) (y : Session) (said : Stage) (k 
           seen = abort-seen before why said_last (gx g) e still;
         }
 
-    rolled-good : (turn : Turn) (How : Stage → Stage → Outcome → Type 0) (marks : List Mark) → (t : Turned c1.table g turn How) → is_running said ≡ true → ((stage t.now ≡ Dropped) ⊎ ((stage t.now ≡ Absent) × (turn.out.outcome ≡ outcome.Ended))) → Each Still marks → is_open_in y.state.block ≡ false → Good before (rolls_back c1 (gx g) marks turn)
+    pub rolled-good : (turn : Turn) (How : Stage → Stage → Outcome → Type 0) (marks : List Mark) → (t : Turned c1.table g turn How) → is_running said ≡ true → ((stage t.now ≡ Dropped) ⊎ ((stage t.now ≡ Absent) × (turn.out.outcome ≡ outcome.Ended))) → Each Still marks → is_open_in y.state.block ≡ false → Good before (rolls_back c1 (gx g) marks turn)
     rolled-good turn How marks t r how e closed =
         record {
-          kept = reset-kept _ t.now y t.at.whole t.at.finds (λ j. refl) (λ j. same-session j (eqb j s) refl) (unsaid-end (stage t.now) turn.out.outcome how) b.same_txn closed;
+          kept = reset-kept _ t.now y t.at.whole t.at.finds (λ j. refl) same-sessions (unsaid-end (stage t.now) turn.out.outcome how) b.same_txn closed;
           past = abort-past _ turn How t refl r how _ (λ h. still-committed marks (gx h) e) (abort-here g [] marks);
           seen = abort-seen before [] marks (gx g) tt e;
         }
-      where
-        same-session : (j : ℕ) (q : Bool) → eqb j s ≡ q → c1.sessions j ≡ (if q then y else c1.sessions j)
-        same-session j true q = ap c1.sessions (eqb-true j s q) ∙ y-is
-        same-session j false q = refl
 
-    falls-is : (a : Stage) (o : Outcome) → Falls a o → (a ≡ Dropped) ⊎ ((a ≡ Absent) × (o ≡ outcome.Ended))
+    pub falls-is : (a : Stage) (o : Outcome) → Falls a o → (a ≡ Dropped) ⊎ ((a ≡ Absent) × (o ≡ outcome.Ended))
     falls-is a outcome.Pending e = inl e
     falls-is a outcome.Ended e = inr (e, refl)
     falls-is a outcome.Decided e = absurd e
