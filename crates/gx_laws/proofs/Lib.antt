@@ -15,3 +15,6 @@ pub mod Past
 pub mod Ends
 pub mod Turns
 pub mod Closings
+pub mod Commands
+pub mod Lines
+pub mod Replies

@@ -63,7 +63,7 @@ Below next es = Each (λ (x : Gxid × Txn). (1 ≤ x.0.0) × (x.0.0 < next)) es
 pub first-at : (h : ℕ) (e : Gxid × Txn) (es : Txns) → at_gxid h (e ∷ es) ≡ (if eqb h e.0.0 then Some e.1 else at_gxid h es)
 first-at h e es = ap (λ b. cond b (Some e.1) (at_gxid h es)) (is_at-eqb h e.0.0)
 
-none-at : (h : ℕ) (es : Txns) → Each (λ (x : Gxid × Txn). eqb h x.0.0 ≡ false) es → at_gxid h es ≡ None
+pub none-at : (h : ℕ) (es : Txns) → Each (λ (x : Gxid × Txn). eqb h x.0.0 ≡ false) es → at_gxid h es ≡ None
 none-at h [] e = refl
 none-at h (x ∷ xs) e = first-at h x xs ∙ ap (λ b. if b then Some x.1 else at_gxid h xs) e.0 ∙ none-at h xs e.1
 
