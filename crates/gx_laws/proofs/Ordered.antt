@@ -174,7 +174,7 @@ module _ (script : Script) (w : World) (good : Well script w) (e : Event) (x : N
   seg_links : Each (λ o. IsLink script (at i) o.node) seg_turn.outs
   seg_links = each_weaker (λ (o : Out). o.node ≡ the_coordinator) (λ o. IsLink script (at i) o.node) (λ o h. inr (place, h)) seg_turn.outs seg_kept.outs
 
-  seg_marks : Each (IsAtNode script (at i)) seg_step.marks
+  pub seg_marks : Each (IsAtNode script (at i)) seg_step.marks
   seg_marks = marks-at script (at i) seg_turn.marks (λ node. seg_turn.seg.sent) seg_turn.outs plain_here seg_links
 
   seg_counts : seg_turn.seg.sent ≡ sent_in (at i) the_coordinator w.steps

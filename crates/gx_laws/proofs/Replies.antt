@@ -30,8 +30,9 @@ use Rattle.gx_store.specs.declared.mark.Mark.{Mark}
 use Rattle.gx_store.specs.declared.mark.Mark.TheVariants as mark
 use Rattle.gx_store.specs.declared.node.NodeEvent.{NodeEvent}
 use Rattle.gx_store.specs.declared.node.NodeEvent.TheVariants as event
+use Rattle.gx_store.specs.Marks.{is_aborted}
 use Rattle.gx_store.specs.Refusals.{the_coordinator}
-use Rattle.gx_rules.specs.AtCoordinator.{answers, awaited, commits, completes, coord_can, failure_marks, follows, goes_on, is_awaited, is_refused, next_line, on_answer, on_done, on_event, on_failed, on_message, on_status, reason_of, resends, takes_done, with_done, writers_with}
+use Rattle.gx_rules.specs.AtCoordinator.{answers, awaited, commits, completes, coord_can, is_idle, is_nothing, failure_marks, follows, goes_on, is_awaited, is_refused, next_line, on_answer, on_done, on_event, on_failed, on_message, on_status, reason_of, resends, takes_done, with_done, writers_with}
 use Rattle.gx_rules.specs.Coordinators.{Command, Coord, CoordTurn, Session, Work, rests, session_of, with_work, work_of}
 use Rattle.gx_rules.specs.Fits.{fits_part}
 use Rattle.gx_rules.specs.Maps.{with_at}
@@ -41,7 +42,7 @@ use Rattle.gx_laws.proofs.Commands.{same-finds}
 use Rattle.gx_laws.proofs.Ends.{AtOne, at-falls, at-runs, at-same, greater-facts, past-at}
 use Rattle.gx_laws.proofs.Lines.{end-good, past-still, rest-good, start-good}
 use Rattle.gx_laws.proofs.Lists.{Each}
-use Rattle.gx_laws.proofs.Past.{Past, Still, aborted-append, running-drawn}
+use Rattle.gx_laws.proofs.Past.{Past, Still, running-drawn, still-committed}
 use Rattle.gx_laws.proofs.Sessions.{IsQuiet, Kept, Placed, Tied, is_closing_in, is_live_in, is_nothing_in, is_open_in, is_said, is_working_in, kept-quiet, stage_of}
 use Rattle.gx_laws.proofs.Stages.{IsWhole, gx}
 use Rattle.gx_laws.proofs.Statuses.{Moves, Stage, Turned, is_running, reply-turns, stage}
@@ -187,10 +188,105 @@ module _ (c : Coord) (before : List Mark) (k : Kept c) (p : Past c before) (g : 
 
   -- STATUSES
   -- only the status changes
-  quiet-good : (turn : Turn) → (t : Turned c.table g turn Moves) → (ns : List Mark) → Each Still ns → IsQuiet (stage_of c g) (stage t.now) → AtOne c.table.next.0 g (stage t.now) (before ++ ns) (latest_number turn.table.latest_ended) → (d : Coord) → d ≡ record c { table = turn.table } → (is_running (stage t.now) ≡ true → ⊥) ⊎ (g < c.table.next.0) ⊎ (ends turn.out.outcome ≡ false) → Kept (record c { table = turn.table })
-  quiet-good turn t ns e q one d same w =
-      kept-quiet c (record c { table = turn.table }) k t.at.whole (λ j. by_test j (eqb j g) refl) (λ j. refl) (λ j. refl)
+  quiet-kept : (turn : Turn) → (t : Turned c.table g turn Moves) → IsQuiet (stage_of c g) (stage t.now) → Kept (record c { table = turn.table })
+  quiet-kept turn t q = kept-quiet c (record c { table = turn.table }) k t.at.whole (λ j. by_test j (eqb j g) refl) (λ j. refl) (λ j. refl)
     where
       by_test : (j : ℕ) (b : Bool) → eqb j g ≡ b → IsQuiet (stage_of c j) (stage (find_txn turn.table (gx j)))
       by_test j true f = subst (λ x. IsQuiet (stage_of c j) (stage x)) (sym (t.at.finds j ∙ ap (λ b. if b then t.now else find_txn c.table (gx j)) f)) (subst (λ i. IsQuiet (stage_of c i) (stage t.now)) (sym (eqb-true j g f)) q)
       by_test j false f = inl (ap stage (t.at.finds j ∙ ap (λ b. if b then t.now else find_txn c.table (gx j)) f))
+
+  module _ (turn : Turn) (t : Turned c.table g turn Moves) where
+    latest-same : ends turn.out.outcome ≡ false → turn.table.latest_ended ≡ c.table.latest_ended
+    latest-same e = t.latest ∙ ap (λ b. with_ended b (gx g) c.table.latest_ended) e
+
+    -- as before, or forgotten
+    stays-past : (ns : List Mark) → Each Still ns → ends turn.out.outcome ≡ false → is_running (stage t.now) ≡ is_running (stage_of c g) → (stage t.now ≡ Dropped → stage_of c g ≡ Dropped) → Past (record c { table = turn.table }) (before ++ ns)
+    stays-past ns e o r d =
+        past-at c (record c { table = turn.table }) before ns g t.now p t.at.next t.at.finds (λ h n. still-committed ns (gx h) e) (subst (λ q. latest_number c.table.latest_ended ≤ latest_number q) (sym (latest-same o)) (le-refl (latest_number c.table.latest_ended)))
+        (subst (λ q. latest_number q < c.table.next.0) (sym (latest-same o)) p.drawn)
+        (at-same c before ns p g (stage t.now) (latest_number turn.table.latest_ended) r d (still-committed ns (gx g) e) (subst (λ q. latest_number c.table.latest_ended ≤ latest_number q) (sym (latest-same o)) (le-refl (latest_number c.table.latest_ended))))
+      where
+        le-refl : (a : ℕ) → a ≤ a
+        le-refl a = omega arith
+
+    -- aborted everywhere
+    gone-past : stage_of c g ≡ Dropped → stage t.now ≡ Absent → turn.out.outcome ≡ outcome.Ended → Past (record c { table = turn.table }) (before ++ [])
+    gone-past a b o =
+        past-at c (record c { table = turn.table }) before [] g t.now p t.at.next t.at.finds (λ h n. refl) (subst (λ q. latest_number c.table.latest_ended ≤ latest_number q) (sym t.latest) facts.0)
+        (subst (λ q. latest_number q < c.table.next.0) (sym t.latest) facts.2)
+        (at-falls c before [] p g (stage t.now) _ (ap is_running a) (ap is_running b) refl (subst (λ m. is_aborted m (gx g) ≡ true) (sym (append-nil before)) (p.dropped g a)) (subst (λ q. g ≤ latest_number q) (sym t.latest) (facts.1 (ap ends o))))
+      where
+        facts : (latest_number c.table.latest_ended ≤ latest_number (with_ended (ends turn.out.outcome) (gx g) c.table.latest_ended)) × (ends turn.out.outcome ≡ true → g ≤ latest_number (with_ended (ends turn.out.outcome) (gx g) c.table.latest_ended)) × (latest_number (with_ended (ends turn.out.outcome) (gx g) c.table.latest_ended) < c.table.next.0)
+        facts = greater-facts (ends turn.out.outcome) g c.table.latest_ended c.table.next.0 p.drawn (λ e. (running-drawn c g k.whole (ap is_running a)).1)
+
+    failure-still : (i : Node) → Each Still (failure_marks i (gx g))
+    failure-still i = by_test (i.0 == 0)
+      where
+        by_test : (b : Bool) → Each Still (if b then mark.JournalFailed the_coordinator (gx g) ∷ [] else [])
+        by_test true = (tt, tt)
+        by_test false = tt
+
+    status-good : (o : Outcome) → turn.out.outcome ≡ o → Moves (stage_of c g) (stage t.now) o → Good before (follows c (gx g) turn o)
+    status-good outcome.Pending e (inl s) = record { kept = quiet-kept turn t (inl s); past = stays-past [] tt (ap ends e) (ap is_running s) (λ d. sym s ∙ d); seen = tt }
+    status-good outcome.Pending e (inr s) =
+        record { kept = quiet-kept turn t (inr (ap is_said s.0, ap is_said s.1)); past = stays-past [] tt (ap ends e) (ap is_running s.1 ∙ sym (ap is_running s.0)) (λ d. absurd (differ (sym s.1 ∙ d))); seen = tt }
+      where
+        differ : Absent ≡ Dropped → ⊥
+        differ z = cc
+    status-good outcome.Decided e s = record { kept = quiet-kept turn t (inl (s.1 ∙ sym s.0)); past = stays-past (mark.Decided (gx g) ∷ []) (tt, tt) (ap ends e) (ap is_running (s.1 ∙ sym s.0)) (λ d. s.0 ∙ sym s.1 ∙ d); seen = tt }
+    status-good outcome.Committed e s =
+        let mine = (k.tied g).closing s.0 in
+        closed-good c c g home (c.works g) its Closing k (base-itself Closing s.0 mine.0) before p turn Moves t refl e s.1 (closing-closed its.state.block its.state.pending mine.1)
+    status-good (outcome.Refused i) e s =
+        let mine = (k.tied g).closing s.0 in
+        refused-good c c g home (c.works g) its Closing k (base-itself Closing s.0 mine.0) before p turn Moves (failure_marks i (gx g)) _ t refl (inl s.1) (failure-still i) (closing-refused its.state.block its.state.pending mine.1)
+    status-good outcome.Ended e s = record { kept = quiet-kept turn t (inr (ap is_said s.0, ap is_said s.1)); past = gone-past s.0 s.1 e; seen = tt }
+
+  on-status-good : (i : Node) (r : Reply) (fails : Bool) → Good before (on_status c (gx g) i r fails)
+  on-status-good i r fails =
+      let t : Turned c.table g (on_reply c.table (gx g) i r fails) Moves = reply-turns c.table g i r fails k.whole in
+      let x : Good before (follows c (gx g) (on_reply c.table (gx g) i r fails) (on_reply c.table (gx g) i r fails).out.outcome) = status-good (on_reply c.table (gx g) i r fails) t (on_reply c.table (gx g) i r fails).out.outcome refl t.how in
+      record { kept = x.kept; past = x.past; seen = x.seen }
+
+  answer-good : (i : Node) (fails : Bool) (r : Reply) → Good before (on_answer c (gx g) i fails r)
+  answer-good i fails (reply.Done cid wrote count part) = on-done-good i cid wrote count part (c.works g).command refl
+  answer-good i fails (reply.Failed cid cause) = on-failed-good i cid cause (c.works g).command refl
+  answer-good i fails reply.Prepared = on-status-good i reply.Prepared fails
+  answer-good i fails reply.Committed = on-status-good i reply.Committed fails
+  answer-good i fails reply.Jfault = on-status-good i reply.Jfault fails
+  answer-good i fails reply.Again = on-status-good i reply.Again fails
+  answer-good i fails reply.Aborted = on-status-good i reply.Aborted fails
+  answer-good i fails reply.Forgotten = on-status-good i reply.Forgotten fails
+
+module _ (script : Script) (c : Coord) (before : List Mark) (k : Kept c) (p : Past c before) where
+  message-good : (from : Node) (fails : Bool) (m : Message) → Good before (on_message c from fails m)
+  message-good from fails (message.Answer g r) = answer-good c before k p g.0 from fails r
+  message-good from fails (message.Exec g cid level x h y) = rest-good c before k p
+  message-good from fails (message.Prepare g) = rest-good c before k p
+  message-good from fails (message.Commit g) = rest-good c before k p
+  message-good from fails (message.CommitPrepared g) = rest-good c before k p
+  message-good from fails (message.Abort g) = rest-good c before k p
+  message-good from fails (message.Forget g) = rest-good c before k p
+  message-good from fails (message.Collect round) = rest-good c before k p
+  message-good from fails (message.Graph round graph) = rest-good c before k p
+
+  again-good : (i : Node) (m : Option Message) → Good before (resends c i m)
+  again-good i None = rest-good c before k p
+  again-good i (Some m) = let x = rest-good c before k p in record { kept = k; past = x.past; seen = tt }
+
+  idle-first : (s : SessionId) (b : Bool) → (is_idle (session_of c s) && b) ≡ true → is_nothing_in (session_of c s).state.pending ≡ true
+  idle-first s b e = by_pending (session_of c s).state.pending (left (is_nothing (session_of c s).state.pending) b e)
+    where
+      left : (a b : Bool) → (a && b) ≡ true → a ≡ true
+      left a b e = grind arith
+      by_pending : (q : Pending) → is_nothing q ≡ true → is_nothing_in q ≡ true
+      by_pending q e = grind arith
+
+  pub event-good : (x : NodeEvent) (fails : Bool) → coord_can script c x ≡ true → Good before (on_event script c x fails)
+  event-good (event.Deliver from envelope) fails e = message-good from fails envelope.message
+  event-good (event.Start s) fails e = start-good script c before k p s (idle-first s _ e) (next_line script c s)
+  event-good (event.End s) fails e = end-good script c before k p s (idle-first s _ e)
+  event-good (event.Resend i (Some g)) fails e = again-good i (awaited c g i)
+  event-good (event.Resend i None) fails e = rest-good c before k p
+  event-good (event.Resume g) fails e = rest-good c before k p
+  event-good event.Round fails e = rest-good c before k p

@@ -56,11 +56,11 @@ runs-stage (Some t) = by_phase t.phase
     by_phase (Ended a) = refl
     by_phase (Aborting a) = refl
 
--- how a commit or an answer moves a transaction, by the outcome
+-- how an answer moves a transaction, by the outcome
 abbrev pub Moves : Stage → Stage → Outcome → Type 0
-Moves a b outcome.Pending = (b ≡ a) ⊎ ((a ≡ Live) × (b ≡ Closing) ⊎ ((a ≡ Finished) × (b ≡ Absent)))
+Moves a b outcome.Pending = (b ≡ a) ⊎ ((a ≡ Finished) × (b ≡ Absent))
 Moves a b outcome.Decided = (a ≡ Closing) × (b ≡ Closing)
-Moves a b outcome.Committed = ((a ≡ Live) ⊎ (a ≡ Closing)) × ((b ≡ Finished) ⊎ (b ≡ Absent))
+Moves a b outcome.Committed = (a ≡ Closing) × ((b ≡ Finished) ⊎ (b ≡ Absent))
 Moves a b (outcome.Refused i) = (a ≡ Closing) × (b ≡ Dropped)
 Moves a b outcome.Ended = (a ≡ Dropped) × (b ≡ Absent)
 
@@ -77,7 +77,7 @@ pub record Turned (d : Table) (g : ℕ) (turn : Turn) (How : Stage → Stage →
   pub latest : turn.table.latest_ended ≡ with_ended (ends turn.out.outcome) (gx g) d.latest_ended
 
 -- A COMMIT
-committed-moves : (g : Gxid) (is : List Node) (t : Txn) (a : Stage) → (a ≡ Live) ⊎ (a ≡ Closing) → Moves a (stage (left_of (ends_committed g is).step (Some t))) (ends_committed g is).out.outcome
+committed-moves : (g : Gxid) (is : List Node) (t : Txn) (a : Stage) → a ≡ Closing → Moves a (stage (left_of (ends_committed g is).step (Some t))) (ends_committed g is).out.outcome
 committed-moves g [] t a h = (h, inr refl)
 committed-moves g (i ∷ is) t a h = (h, inl refl)
 
@@ -137,11 +137,11 @@ prepares-moves g ws ps [] b t e = decides-moves g ws ps b t e
 prepares-moves g ws ps (i ∷ is) b t e = inl (sym e)
 
 finishes-moves : (g : Gxid) (ps rest : List Node) (t : Txn) → stage_in t.phase ≡ Closing → Moves (stage_in t.phase) (stage (left_of (finishes g ps rest).step (Some t))) (finishes g ps rest).out.outcome
-finishes-moves g ps [] t e = committed-moves g ps t (stage_in t.phase) (inr e)
+finishes-moves g ps [] t e = committed-moves g ps t (stage_in t.phase) e
 finishes-moves g ps (i ∷ is) t e = inl (sym e)
 
 forgets-moves : (rest : List Node) (t : Txn) → stage_in t.phase ≡ Finished → Moves (stage_in t.phase) (stage (left_of (forgets rest).step (Some t))) (forgets rest).out.outcome
-forgets-moves [] t e = inr (inr (e, refl))
+forgets-moves [] t e = inr (e, refl)
 forgets-moves (i ∷ is) t e = inl (sym e)
 
 gives_up-moves : (rest : List Node) (t : Txn) → stage_in t.phase ≡ Dropped → Moves (stage_in t.phase) (stage (left_of (gives_up rest).step (Some t))) (gives_up rest).out.outcome
@@ -151,7 +151,7 @@ gives_up-moves (i ∷ is) t e = inl (sym e)
 takes-moves : (g : Gxid) (ps : List Node) (i : Node) (b : Bool) (p : Phase) (r : Reply) (t : Txn) → t.phase ≡ p → Moves (stage_in t.phase) (stage (left_of (takes g ps i b p r).step (Some t))) (takes g ps i b p r).out.outcome
 takes-moves g ps i b (Preparing ws a) reply.Prepared t e = prepares-moves g ws ps (without i a) b t (ap stage_in e)
 takes-moves g ps i b (Preparing ws a) reply.Jfault t e = (ap stage_in e, refl)
-takes-moves g ps i b (CommittingOne w) reply.Committed t e = committed-moves g ps t (stage_in t.phase) (inr (ap stage_in e))
+takes-moves g ps i b (CommittingOne w) reply.Committed t e = committed-moves g ps t (stage_in t.phase) (ap stage_in e)
 takes-moves g ps i b (CommittingOne w) reply.Jfault t e = (ap stage_in e, refl)
 takes-moves g ps i b (CommittingTwo a) reply.Committed t e = finishes-moves g ps (without i a) t (ap stage_in e)
 takes-moves g ps i b (Ended a) reply.Forgotten t e = forgets-moves (without i a) t (ap stage_in e)
