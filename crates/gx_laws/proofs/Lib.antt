@@ -18,3 +18,4 @@ pub mod Closings
 pub mod Commands
 pub mod Lines
 pub mod Replies
+pub mod World
