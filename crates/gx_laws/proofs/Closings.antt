@@ -1,47 +1,36 @@
 -- Commits, refusals, commands sent out and answered: what each leaves.
-use Rattle.std.proofs.Common.{◌≡◌, ◌≤◌, ◌<◌, ◌⊎◌, inl, inr, ℕ, ◌+◌, List, [], ◌∷◌, ◌++◌, Option, Some, None, Result, Ok, Err, Bool, true, false, refl, sym, subst, ap, ◌∙◌, if◌then◌else◌, ◌==◌, ◌||◌, arith, eqb, append-nil}
+use Rattle.std.proofs.Common.{◌≡◌, ◌≤◌, ◌<◌, inl, inr, ℕ, List, [], ◌++◌, Option, Some, None, Bool, true, false, refl, sym, subst, ap, ◌∙◌, if◌then◌else◌, arith, eqb}
 use Rattle.std.proofs.lemmas.Bool.{eqb-true}
-use Rattle.std.proofs.lemmas.Bool.Decides.{nat_tests}
 use Rattle.std.proofs.lemmas.List.{append_assoc}
 use Rattle.std.specs.Prelude.{option_map}
-use Rattle.gx_ids.specs.declared.ids.Cid.{Cid}
 use Rattle.gx_ids.specs.declared.ids.Gxid.{Gxid}
-use Rattle.gx_ids.specs.declared.ids.Node.{Node}
 use Rattle.gx_tree.specs.declared.stmt.Level.{Level}
 use Rattle.gx_tree.specs.declared.stmt.Level.TheVariants.{ReadCommitted, RepeatableRead}
-use Rattle.gx_tree.specs.declared.stmt.Stmt.{Stmt}
-use Rattle.gx_tree.specs.declared.stmt.Stmt.TheVariants as stmt
-use Rattle.gx_dsnap.specs.declared.snapshot.Snapshot.{Snapshot}
-use Rattle.gx_dtx.specs.Nodes.{with_node}
-use Rattle.gx_dtx.specs.Rules.{Turn, enlisted, ends, on_abort, on_commit, with_ended, with_live}
+use Rattle.gx_dtx.specs.Rules.{Turn, ends, on_abort, on_commit, with_ended, with_live}
 use Rattle.gx_dtx.specs.Table.{Table, find_txn}
 use Rattle.gx_dtx.specs.declared.outcome.Outcome.{Outcome}
 use Rattle.gx_dtx.specs.declared.outcome.Outcome.TheVariants as outcome
 use Rattle.gx_dtx.specs.declared.txn.Txn.{Txn}
-use Rattle.gx_eval.specs.declared.fault.ArithFault.{ArithFault}
-use Rattle.gx_plan.specs.declared.piece.Piece.{Piece}
-use Rattle.gx_session.specs.Session.{after_done, after_refused, block_after_done, block_after_refusal}
+use Rattle.gx_session.specs.Session.{after_done, block_after_done, block_after_refusal}
 use Rattle.gx_session.specs.declared.state.Block.{Block}
-use Rattle.gx_session.specs.declared.state.Block.TheVariants.{Outside, Open, Failed}
 use Rattle.gx_session.specs.declared.state.Pending.{Pending}
 use Rattle.gx_session.specs.declared.state.Pending.TheVariants as pending
 use Rattle.gx_store.specs.declared.answer.Refused.{Refused}
 use Rattle.gx_store.specs.declared.mark.Mark.{Mark}
-use Rattle.gx_store.specs.declared.mark.Mark.TheVariants as mark
 use Rattle.gx_store.specs.Marks.{is_committed}
-use Rattle.gx_rules.specs.AtCoordinator.{Reading, answers, commits, enlisted_all, fault_mark, follows, goes, goes_out, is_refused, nodes_in, reads_by, reads_for, refusal_of, takes_snapshot, unless_kept}
-use Rattle.gx_rules.specs.Coordinators.{Command, Coord, CoordTurn, Session, Work, no_work, work_of}
+use Rattle.gx_rules.specs.AtCoordinator.{answers, commits, follows, is_refused, unless_kept}
+use Rattle.gx_rules.specs.Coordinators.{Command, Coord, CoordTurn, Session, Work, work_of}
 use Rattle.gx_rules.specs.Maps.{with_at}
 use Rattle.gx_rules.specs.Snapshots.{latest_number}
 use Rattle.gx_laws.specs.Seen.{AreEndedSeen}
-use Rattle.gx_laws.proofs.Ends.{AtOne, at-runs, at-same, greater-facts, past-at}
+use Rattle.gx_laws.proofs.Ends.{at-runs, at-same, past-at}
 use Rattle.gx_laws.proofs.Lists.{Each}
-use Rattle.gx_laws.proofs.Past.{Past, Still, seen-append, seen-now}
-use Rattle.gx_laws.proofs.Sessions.{Kept, Placed, Tied, is_closing_in, is_live_in, is_nothing_in, is_open_in, is_said, is_working_in, stage_of}
+use Rattle.gx_laws.proofs.Past.{Past, Still, seen-append}
+use Rattle.gx_laws.proofs.Sessions.{Kept, Placed, Tied, is_closing_in, is_live_in, is_nothing_in, is_open_in, is_working_in, stage_of}
 use Rattle.gx_laws.proofs.Stages.{At, IsWhole, gx, txn-at}
 use Rattle.gx_laws.proofs.Statuses.{Closes, Falls, Stage, Turned, abort-turns, commit-turns, is_running, stage}
 use Rattle.gx_laws.proofs.Statuses.Stage.{Absent, Live, Closing, Finished, Dropped}
-use Rattle.gx_laws.proofs.Turns.{Base, Good, base-kept, closed-good, falls-is, merged, refused-good, same-sessions, same-works, self-test, stage-is, work-is, home-is, y-is, session-set}
+use Rattle.gx_laws.proofs.Turns.{Base, Good, base-kept, closed-good, falls-is, refused-good, same-sessions, same-works, self-test, stage-is, y-is}
 
 -- sessions' states
 closing-closed : (b : Block) (p : Pending) → is_closing_in b p ≡ true → is_open_in (block_after_done b p) ≡ false
@@ -87,35 +76,44 @@ module _ (c c1 : Coord) (g s : ℕ) (w1 : Work) (y : Session) (said : Stage) (k 
     where
       turn : Turn
       turn = on_commit c1.table (gx g) (work_of c1 (gx g)).writers
+
       t : Turned c1.table g turn (λ a b o. Closes b o)
       t = commit-turns c1.table g (work_of c1 (gx g)).writers b.whole1 (stage-is c c1 g s w1 y said k b ∙ live)
+
       waits : turn.out.outcome ≡ outcome.Pending → stage t.now ≡ Closing → Good before (follows c1 (gx g) turn outcome.Pending)
       waits o e =
           record {
             kept = base-kept c c1 g s w1 y said k b _ t.now w1 y t.at.whole t.at.finds (same-works c c1 g s w1 y said k b) (same-sessions c c1 g s w1 y said k b) tied b.same_txn placed;
             past = past-at c1 _ before [] g t.now p t.at.next t.at.finds (λ h n. refl) (subst (λ q. latest_number c1.table.latest_ended ≤ latest_number q) (sym latest) (le-refl (latest_number c1.table.latest_ended)))
-              (subst (λ q. latest_number q < c1.table.next.0) (sym latest) p.drawn)
-              (at-runs c1 before [] p g (stage t.now) _ (ap is_running (stage-is c c1 g s w1 y said k b ∙ live)) (ap is_running e) refl (λ d. absurd (differ (sym e ∙ d))));
+                (subst (λ q. latest_number q < c1.table.next.0) (sym latest) p.drawn)
+                (at-runs c1 before [] p g (stage t.now) _ (ap is_running (stage-is c c1 g s w1 y said k b ∙ live)) (ap is_running e) refl (λ d. absurd (differ (sym e ∙ d))));
             seen = tt;
           }
         where
           le-refl : (a : ℕ) → a ≤ a
           le-refl a = omega arith
+
           differ : Closing ≡ Dropped → ⊥
           differ z = cc
+
           never-live : Closing ≡ Live → ⊥
           never-live z = cc
+
           latest : turn.table.latest_ended ≡ c1.table.latest_ended
           latest = t.latest ∙ ap (λ q. with_ended (ends q) (gx g) c1.table.latest_ended) o
+
           here : (z : Session) → z ≡ y → Tied (stage t.now) g w1 z
           here z q = subst (λ x. Tied (stage t.now) g w1 x) (sym q) (record { live = λ l. absurd (never-live (sym e ∙ l)); closing = λ l. (b.same_txn, closing); awaits = λ m f r. absurd (none m f r) })
+
           tied : (z : Session) → z ≡ (if eqb w1.session.0 s then y else c.sessions w1.session.0) → Tied (stage t.now) g w1 z
           tied z q = here z (q ∙ ap (λ x. if x then y else c.sessions w1.session.0) (ap (λ x. eqb x s) b.home1 ∙ self-test s))
+
           placed : Placed s y (stage t.now) w1
           placed = record { stands = λ o. (inr e, b.home1); free = λ o n. absurd (not-both y.state.block y.state.pending closing n) }
             where
               not-both : (b : Block) (p : Pending) → is_closing_in b p ≡ true → is_nothing_in p ≡ true → ⊥
               not-both b p e f = grind arith
+
       by_outcome : (o : Outcome) → turn.out.outcome ≡ o → Closes (stage t.now) o → Good before (follows c1 (gx g) turn o)
       by_outcome outcome.Pending q h = waits q h
       by_outcome outcome.Committed q h = closed-good c c1 g s w1 y said k b before p turn _ t (ap is_running live) q h (closing-closed y.state.block y.state.pending closing)
@@ -137,14 +135,19 @@ module _ (c c1 : Coord) (g s : ℕ) (w1 : Work) (y : Session) (said : Stage) (k 
     where
       x : Session
       x = record y { state = after_done y.state }
+
       w2 : Work
       w2 = record w { command = None }
+
       stays-open : (q : Block) (r : Pending) → is_open_in q ≡ true → is_working_in r ≡ true → is_open_in (block_after_done q r) ≡ true
       stays-open q r e f = grind arith
+
       live-too : (q : Block) → is_open_in q ≡ true → is_live_in q pending.Nothing ≡ true
       live-too q e = grind arith
+
       set : (j : ℕ) → with_at c1.sessions w.session.0 (record (c1.sessions w.session.0) { state = after_done (c1.sessions w.session.0).state }) j ≡ (if eqb j s then x else c1.sessions j)
       set j = ap (λ i. if eqb j i then record (c1.sessions i) { state = after_done (c1.sessions i).state } else c1.sessions j) home ∙ ap (λ (z : Session). if eqb j s then record z { state = after_done z.state } else c1.sessions j) (y-is c c1 g s w1 y said k b)
+
       here : (a : Stage) → a ≡ Live → (z : Session) → z ≡ (if eqb w2.session.0 s then x else c.sessions w2.session.0) → Tied a g w2 z
       here a l z q =
           subst (λ r. Tied a g w2 r) (sym (q ∙ ap (λ r. if r then x else c.sessions w2.session.0) (ap (λ r. eqb r s) home ∙ self-test s)))
@@ -152,8 +155,10 @@ module _ (c c1 : Coord) (g s : ℕ) (w1 : Work) (y : Session) (said : Stage) (k 
         where
           differ : Live ≡ Closing → ⊥
           differ z = cc
+
       sits : (a : Stage) → a ≡ Live → Placed s x a w2
       sits a l = record { stands = λ o. (inl l, home); free = λ o n. l }
+
       by_level : (level : Level) → Good before (record (answers c1 (gx g) w) { coord = record (answers c1 (gx g) w).coord { table = unless_kept level c1.table (gx g) } })
       by_level ReadCommitted =
           let a = live-at c1.table g None b.whole1 in

@@ -1,7 +1,6 @@
 -- Commands that go out, and lines that start.
-use Rattle.std.proofs.Common.{◌≡◌, ◌≤◌, ◌<◌, ◌⊎◌, inl, inr, ℕ, ◌+◌, List, [], ◌∷◌, ◌++◌, Option, Some, None, Result, Ok, Err, Bool, true, false, refl, sym, subst, ap, ◌∙◌, if◌then◌else◌, ◌==◌, ◌||◌, arith, eqb, append-nil}
+use Rattle.std.proofs.Common.{◌≡◌, inl, ℕ, List, [], ◌∷◌, ◌++◌, Option, Some, None, Result, Ok, Err, Bool, true, false, refl, sym, subst, ap, ◌∙◌, if◌then◌else◌, arith, eqb, append-nil}
 use Rattle.std.proofs.lemmas.Bool.{eqb-true}
-use Rattle.std.proofs.lemmas.Bool.Decides.{nat_tests}
 use Rattle.std.proofs.lemmas.List.{append_assoc}
 use Rattle.std.specs.Prelude.{option_map}
 use Rattle.gx_ids.specs.declared.ids.Cid.{Cid}
@@ -18,25 +17,22 @@ use Rattle.gx_eval.specs.declared.fault.ArithFault.{ArithFault}
 use Rattle.gx_plan.specs.Plan.{plan_of}
 use Rattle.gx_plan.specs.declared.piece.Piece.{Piece}
 use Rattle.gx_script.specs.declared.Script.{Script}
-use Rattle.gx_session.specs.declared.state.Block.{Block}
 use Rattle.gx_session.specs.declared.state.Pending.{Pending}
-use Rattle.gx_session.specs.declared.state.Pending.TheVariants as pending
 use Rattle.gx_store.specs.declared.mark.Mark.{Mark}
 use Rattle.gx_store.specs.declared.mark.Mark.TheVariants as mark
 use Rattle.gx_store.specs.Writes.{dist_of}
 use Rattle.gx_rules.specs.AtCoordinator.{Reading, dispatches, enlisted_all, fault_mark, goes, goes_out, is_refused, kept_at, next_cid, nodes_in, reads_by, reads_for, refusal_of, table_of, takes_snapshot}
-use Rattle.gx_rules.specs.Coordinators.{Command, Coord, CoordTurn, Session, Work, work_of}
-use Rattle.gx_rules.specs.Maps.{with_at}
+use Rattle.gx_rules.specs.Coordinators.{Coord, Session, Work}
 use Rattle.gx_rules.specs.Snapshots.{snapshot_of}
 use Rattle.gx_laws.specs.Seen.{AreEndedSeen}
 use Rattle.gx_laws.proofs.Closings.{behind-good, kept-stage, live-at, past-same, refuses-good, set_live}
 use Rattle.gx_laws.proofs.Lists.{Each}
 use Rattle.gx_laws.proofs.Past.{Past, Still, seen-now}
-use Rattle.gx_laws.proofs.Sessions.{Kept, Placed, Tied, is_live_in, is_nothing_in, is_open_in, is_working_in, stage_of}
+use Rattle.gx_laws.proofs.Sessions.{Kept, Placed, Tied, is_live_in, is_nothing_in, is_working_in, stage_of}
 use Rattle.gx_laws.proofs.Stages.{At, IsWhole, gx, txn-at}
 use Rattle.gx_laws.proofs.Statuses.{Stage, stage}
-use Rattle.gx_laws.proofs.Statuses.Stage.{Absent, Live, Closing, Finished, Dropped}
-use Rattle.gx_laws.proofs.Turns.{Base, Good, base-kept, home-is, merged, same-sessions, self-test, stage-is, work-is}
+use Rattle.gx_laws.proofs.Statuses.Stage.{Live, Closing}
+use Rattle.gx_laws.proofs.Turns.{Base, Good, base-kept, home-is, merged, same-sessions, self-test, stage-is}
 
 -- looking up what is there
 pub same-finds : (d : Table) (g j : ℕ) → find_txn d (gx j) ≡ (if eqb j g then find_txn d (gx g) else find_txn d (gx j))
@@ -111,7 +107,10 @@ module _ (c c1 : Coord) (g s : ℕ) (w1 : Work) (y : Session) (k : Kept c) (b : 
           stage1 = st ∙ stage-is c c1 g s w1 y Live k b;
           finds1 = λ j. a.finds j ∙ merged (eqb j g) _ b.now1 (find_txn c.table (gx j)) (find_txn c1.table (gx j)) (b.finds1 j);
           works1 = λ j. merged (eqb j g) w w1 (c.works j) (c1.works j) (b.works1 j);
-          sessions1 = b.sessions1; kind = b.kind; same_txn = b.same_txn; home1 = home-is c c1 g s w1 y Live k b;
+          sessions1 = b.sessions1;
+          kind = b.kind;
+          same_txn = b.same_txn;
+          home1 = home-is c c1 g s w1 y Live k b;
         };
         past = past-same c1 _ before (mark.Snap (gx g) cid (snapshot_of c1.table) ∷ []) g _ p refl a.finds st refl (λ h. refl);
         seen = (seen-now c1 before p, tt);
@@ -140,21 +139,25 @@ module _ (c c1 : Coord) (g s : ℕ) (w1 : Work) (y : Session) (k : Kept c) (b : 
         let d : Coord = (goes_out (gx g) cid line pieces r).coord in
         record {
           kept = base-kept c r.coord g s f.w2 y Live k f.base d e.now (sent r cid line pieces) y e.at.whole e.at.finds (λ j. refl) (same-sessions c r.coord g s f.w2 y Live k f.base)
-            (λ z q. tied r cid line pieces (home-is c r.coord g s f.w2 y Live k f.base) (stage e.now) here z q) f.base.same_txn (sits r cid line pieces (home-is c r.coord g s f.w2 y Live k f.base) (stage e.now) here);
+              (λ z q. tied r cid line pieces (home-is c r.coord g s f.w2 y Live k f.base) (stage e.now) here z q) f.base.same_txn (sits r cid line pieces (home-is c r.coord g s f.w2 y Live k f.base) (stage e.now) here);
           past = subst (λ m. Past d m) (append-nil (before ++ r.marks)) (past-same r.coord d (before ++ r.marks) [] g e.now f.past e.at.next e.at.finds e.same e.latest (λ h. refl));
           seen = f.seen;
         }
       where
         differ : Live ≡ Closing → ⊥
         differ z = cc
+
         clash : (q : Pending) → is_working_in q ≡ true → is_nothing_in q ≡ true → ⊥
         clash q e f = grind arith
+
         sent : Reading → Cid → Stmt → List Piece → Work
         sent r cid line pieces = record (r.coord.works g) { last = cid.0; command = Some (record { stmt = line; cid = cid; orders = (goes_out (gx g) cid line pieces r).outs; awaited = nodes_in pieces; count = 0; parts = [] }) }
+
         tied : (r : Reading) (cid : Cid) (line : Stmt) (pieces : List Piece) → (r.coord.works g).session.0 ≡ s → (a : Stage) → a ≡ Live → (z : Session) → z ≡ (if eqb (r.coord.works g).session.0 s then y else c.sessions (r.coord.works g).session.0) → Tied a g (sent r cid line pieces) z
         tied r cid line pieces home a l z q =
             subst (λ x. Tied a g (sent r cid line pieces) x) (sym (q ∙ ap (λ x. if x then y else c.sessions (r.coord.works g).session.0) (ap (λ x. eqb x s) home ∙ self-test s)))
             (record { live = λ m. (b.same_txn, live); closing = λ m. absurd (differ (sym l ∙ m)); awaits = λ m f n. (l, working) })
+
         sits : (r : Reading) (cid : Cid) (line : Stmt) (pieces : List Piece) → (r.coord.works g).session.0 ≡ s → (a : Stage) → a ≡ Live → Placed s y a (sent r cid line pieces)
         sits r cid line pieces home a l = record { stands = λ o. (inl l, home); free = λ o n. absurd (clash y.state.pending working n) }
 

@@ -1,24 +1,21 @@
 -- How the marks of an event keep what they say of the stages.
-use Rattle.std.proofs.Common.{◌≡◌, ◌≤◌, ◌<◌, ◌⊎◌, inl, inr, ℕ, ◌+◌, List, [], ◌∷◌, ◌++◌, Option, Some, None, Bool, true, false, refl, sym, subst, ap, ◌∙◌, if◌then◌else◌, ◌==◌, ◌||◌, arith, eqb}
+use Rattle.std.proofs.Common.{◌≡◌, ◌≤◌, ◌<◌, ℕ, ◌+◌, List, ◌++◌, Option, Some, None, Bool, true, false, refl, sym, subst, ap, ◌∙◌, if◌then◌else◌, ◌||◌, arith, eqb}
 use Rattle.std.proofs.lemmas.Bool.{eqb-true}
 use Rattle.std.proofs.lemmas.Bool.Decides.{nat_tests}
 use Rattle.gx_ids.specs.declared.ids.Gxid.{Gxid}
-use Rattle.gx_dtx.specs.Rules.{Turn, begun, ends, greater_of, with_ended}
+use Rattle.gx_dtx.specs.Rules.{begun, with_ended}
 use Rattle.gx_dtx.specs.Table.{Table, find_txn, new_txn}
-use Rattle.gx_dtx.specs.declared.outcome.Outcome.{Outcome}
-use Rattle.gx_dtx.specs.declared.outcome.Outcome.TheVariants as outcome
 use Rattle.gx_dtx.specs.declared.txn.Txn.{Txn}
 use Rattle.gx_store.specs.declared.mark.Mark.{Mark}
-use Rattle.gx_store.specs.declared.mark.Mark.TheVariants as mark
 use Rattle.gx_store.specs.Marks.{is_aborted, is_committed, is_ended}
 use Rattle.gx_rules.specs.Coordinators.{Coord}
 use Rattle.gx_rules.specs.Snapshots.{latest_number}
 use Rattle.gx_laws.proofs.Lists.{Each}
-use Rattle.gx_laws.proofs.Past.{Past, Still, aborted-append, committed-append, running-drawn, still-aborted, still-committed}
+use Rattle.gx_laws.proofs.Past.{Past, Still, aborted-append, committed-append, running-drawn, still-committed}
 use Rattle.gx_laws.proofs.Sessions.{stage_of}
 use Rattle.gx_laws.proofs.Stages.{IsWhole, append-at, gx}
 use Rattle.gx_laws.proofs.Statuses.{Stage, is_running, stage}
-use Rattle.gx_laws.proofs.Statuses.Stage.{Absent, Live, Closing, Finished, Dropped}
+use Rattle.gx_laws.proofs.Statuses.Stage.{Live, Dropped}
 
 -- what holds of one transaction after an event, behind marks `ms` and with the event's marks `ns`
 pub record AtOne (next g : ℕ) (b : Stage) (marks : List Mark) (latest : ℕ) : Type 0 where
@@ -91,6 +88,7 @@ module _ (c : Coord) (ms ns : List Mark) (p : Past c ms) (g : ℕ) (b : Stage) (
     where
       le-trans : {a b d : ℕ} → a ≤ b → b ≤ d → a ≤ d
       le-trans x y = omega arith
+
       both-ended : is_ended ms (gx g) ≡ true → is_ended marks (gx g) ≡ true
       both-ended f = wider (is_committed ms (gx g)) (is_aborted ms (gx g)) (is_committed ns (gx g)) (is_aborted ns (gx g)) (is_committed marks (gx g)) (is_aborted marks (gx g)) (committed-append ms ns (gx g)) (aborted-append ms ns (gx g)) f
         where
@@ -111,6 +109,7 @@ past-at c d ms ns g now p n f other l drawn one =
     by_test : (h : ℕ) (b : Bool) → eqb h g ≡ b → AtOne c.table.next.0 h (stage (if b then now else find_txn c.table (gx h))) (ms ++ ns) (latest_number d.table.latest_ended)
     by_test h true e = subst (λ k. AtOne c.table.next.0 k (stage now) (ms ++ ns) (latest_number d.table.latest_ended)) (sym (eqb-true h g e)) one
     by_test h false e = at-same c ms ns p h (stage_of c h) (latest_number d.table.latest_ended) refl (λ q. q) (other h e) l
+
     at : (h : ℕ) → AtOne d.table.next.0 h (stage_of d h) (ms ++ ns) (latest_number d.table.latest_ended)
     at h =
         subst (λ (x : Gxid). AtOne x.0 h (stage_of d h) (ms ++ ns) (latest_number d.table.latest_ended)) (sym n)
@@ -141,28 +140,35 @@ past-begun c d ms ns p w e s =
   where
     more : {a b : ℕ} → a < b → a < b + 1
     more l = omega arith
+
     not-new : (h : ℕ) → h < c.table.next.0 → (if eqb h c.table.next.0 then Some new_txn else find_txn c.table (gx h)) ≡ find_txn c.table (gx h)
     not-new h l = ap (λ b. if b then Some new_txn else find_txn c.table (gx h)) (apart h c.table.next.0 l)
       where
         apart : (a b : ℕ) → a < b → eqb a b ≡ false
         apart a b l = grind (arith, nat_tests)
+
     same-committed : (h : ℕ) → is_committed (ms ++ ns) (gx h) ≡ true → is_committed ms (gx h) ≡ true
     same-committed h f = or-left (is_committed ms (gx h)) (is_committed ns (gx h)) (still-committed ns (gx h) s) (sym (committed-append ms ns (gx h)) ∙ f)
+
     older : (h : ℕ) → h < c.table.next.0 + 1 → is_running (stage (find_txn (begun c.table) (gx h))) ≡ false → h < c.table.next.0
     older h l z = by_test (eqb h c.table.next.0) refl (subst (λ t. is_running (stage t) ≡ false) (begun-finds c.table w h) z)
       where
         less : (a b : ℕ) → a < b + 1 → eqb a b ≡ false → a < b
         less a b l q = grind (arith, nat_tests)
+
         by_test : (b : Bool) → eqb h c.table.next.0 ≡ b → is_running (stage (if b then Some new_txn else find_txn c.table (gx h))) ≡ false → h < c.table.next.0
         by_test true q z = absurd (clash true refl z)
         by_test false q z = less h c.table.next.0 l q
+
     old-runs : (h : ℕ) → h < c.table.next.0 + 1 → is_running (stage (find_txn (begun c.table) (gx h))) ≡ false → is_running (stage_of c h) ≡ false
     old-runs h l z = subst (λ t. is_running (stage t) ≡ false) (begun-finds c.table w h ∙ not-new h (older h l z)) z
+
     old-ended : (h : ℕ) → 1 ≤ h → h < c.table.next.0 + 1 → is_running (stage (find_txn (begun c.table) (gx h))) ≡ false → is_ended (ms ++ ns) (gx h) ≡ true
     old-ended h x l z = wider (is_committed ms (gx h)) (is_aborted ms (gx h)) _ _ _ _ (committed-append ms ns (gx h)) (aborted-append ms ns (gx h)) (p.ended h x (older h l z) (old-runs h l z))
       where
         wider : (a b x y q r : Bool) → q ≡ (a || x) → r ≡ (b || y) → (a || b) ≡ true → (q || r) ≡ true
         wider a b x y q r e f h = grind arith
+
     old-dropped : (h : ℕ) → stage (find_txn (begun c.table) (gx h)) ≡ Dropped → is_aborted (ms ++ ns) (gx h) ≡ true
     old-dropped h f = by_test (eqb h c.table.next.0) (subst (λ t. stage t ≡ Dropped) (begun-finds c.table w h) f)
       where

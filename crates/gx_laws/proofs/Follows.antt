@@ -12,17 +12,14 @@ use Rattle.gx_store.specs.declared.node.NodeEvent.TheVariants as here
 use Rattle.gx_store.specs.declared.run.Step.{Step}
 use Rattle.gx_store.specs.Journals.{is_same_node}
 use Rattle.gx_store.specs.Messages.{IsSending}
-use Rattle.gx_store.specs.Ordered.{IsSegment}
 use Rattle.gx_store.specs.Refusals.{the_coordinator}
 use Rattle.gx_rules.specs.AtCoordinator.{coord_can, coord_rule}
 use Rattle.gx_rules.specs.AtSegment.{seg_rule}
 use Rattle.gx_rules.specs.Coordinators.{Coord, new_coordinator}
 use Rattle.gx_rules.specs.Machine.{World, after, at_node, can, can_here, coord_did, delivered, does, found, happens, new_world, node_of, run_of, seg_can, seg_did, world_of}
-use Rattle.gx_rules.specs.Maps.{with_at}
 use Rattle.gx_rules.specs.Segments.{Seg, new_segment}
-use Rattle.gx_rules.specs.Sending.{clock_after}
 use Rattle.gx_rules.specs.System.{DoesCoordFollow, DoesSegFollow, Either, IsCoordStep, IsHere, IsPosted, IsSegStep, IsSystemRun}
-use Rattle.gx_laws.proofs.Letters.{IsFound, IsLetter, found_is, same_node}
+use Rattle.gx_laws.proofs.Letters.{IsFound, IsLetter, found_is}
 use Rattle.gx_laws.proofs.Ordered.{Well, apart-back, apart-two, at-both, happens_well, never_resumes, new_well, test-self}
 use Rattle.gx_laws.proofs.Sent.{at}
 
@@ -60,14 +57,17 @@ coord_own script c before [] d s f own is =
     (moved c (sym f))
   where
     moved : (x : Coord) → c ≡ d → (is2 : IsCoordStep script before c s) × ((coord_rule script d is.here is.fails).coord ≡ (coord_rule script c is2.here is2.fails).coord)
-    moved x e =
-        (record {
-            here = is.here; fails = is.fails;
-            is = subst (λ b. IsHere b s.event is.here) (append-nil before) is.is;
-            admitted = subst (λ y. coord_can script y is.here ≡ true) (sym e) is.admitted;
-            marks = subst (λ y. s.marks ≡ (coord_rule script y is.here is.fails).marks) (sym e) is.marks;
-            clock = subst (λ y. s.stamp.clock ≡ (coord_rule script y is.here is.fails).coord.clock) (sym e) is.clock;
-          }, ap (λ y. (coord_rule script y is.here is.fails).coord) (sym e))
+    moved x e = (
+      record {
+        here = is.here;
+        fails = is.fails;
+        is = subst (λ b. IsHere b s.event is.here) (append-nil before) is.is;
+        admitted = subst (λ y. coord_can script y is.here ≡ true) (sym e) is.admitted;
+        marks = subst (λ y. s.marks ≡ (coord_rule script y is.here is.fails).marks) (sym e) is.marks;
+        clock = subst (λ y. s.stamp.clock ≡ (coord_rule script y is.here is.fails).coord.clock) (sym e) is.clock;
+      },
+      ap (λ y. (coord_rule script y is.here is.fails).coord) (sym e),
+    )
 coord_own script c before (x ∷ ss) d s f own is =
     let is2 : IsCoordStep script (before ++ x ∷ [] ++ ss) d s = record { here = is.here; fails = is.fails; is = subst (λ b. IsHere b s.event is.here) (sym (append_assoc before (x ∷ []) ss)) is.is; admitted = is.admitted; marks = is.marks; clock = is.clock } in
     either_map (is_same_node x.stamp.node the_coordinator) _ _ _ _
@@ -102,14 +102,17 @@ seg_own script c before [] d s f own is =
     (moved c (sym f))
   where
     moved : (x : Seg) → c ≡ d → (is2 : IsSegStep script before c s) × ((seg_rule script d is.here is.fails).seg ≡ (seg_rule script c is2.here is2.fails).seg)
-    moved x e =
-        (record {
-            here = is.here; fails = is.fails;
-            is = subst (λ b. IsHere b s.event is.here) (append-nil before) is.is;
-            admitted = is.admitted;
-            marks = subst (λ y. s.marks ≡ (seg_rule script y is.here is.fails).marks) (sym e) is.marks;
-            clock = subst (λ y. s.stamp.clock ≡ (seg_rule script y is.here is.fails).seg.clock) (sym e) is.clock;
-          }, ap (λ y. (seg_rule script y is.here is.fails).seg) (sym e))
+    moved x e = (
+      record {
+        here = is.here;
+        fails = is.fails;
+        is = subst (λ b. IsHere b s.event is.here) (append-nil before) is.is;
+        admitted = is.admitted;
+        marks = subst (λ y. s.marks ≡ (seg_rule script y is.here is.fails).marks) (sym e) is.marks;
+        clock = subst (λ y. s.stamp.clock ≡ (seg_rule script y is.here is.fails).seg.clock) (sym e) is.clock;
+      },
+      ap (λ y. (seg_rule script y is.here is.fails).seg) (sym e),
+    )
 seg_own script c before (x ∷ ss) d s f own is =
     let is2 : IsSegStep script (before ++ x ∷ [] ++ ss) d s = record { here = is.here; fails = is.fails; is = subst (λ b. IsHere b s.event is.here) (sym (append_assoc before (x ∷ []) ss)) is.is; admitted = is.admitted; marks = is.marks; clock = is.clock } in
     either_map (is_same_node x.stamp.node c.node) _ _ _ _
@@ -132,12 +135,13 @@ pub record Follows (script : Script) (w : World) : Type 0 where
 posted_is : (script : Script) (w : World) (from to : Node) (number : ℕ) (envelope : Envelope) → IsFound (IsLetter script w.steps) from to number envelope → IsPosted w.steps from to number envelope
 posted_is script w from to number envelope f =
     record {
-      step = f.is.step; mark = f.is.mark;
+      step = f.is.step;
+      mark = f.is.mark;
       sending =
-        subst (λ a. IsSending w.steps f.is.step f.is.mark a to number envelope.message) f.source
-        (subst (λ a. IsSending w.steps f.is.step f.is.mark f.letter.from a number envelope.message) f.target
+          subst (λ a. IsSending w.steps f.is.step f.is.mark a to number envelope.message) f.source
+          (subst (λ a. IsSending w.steps f.is.step f.is.mark f.letter.from a number envelope.message) f.target
           (subst (λ a. IsSending w.steps f.is.step f.is.mark f.letter.from f.letter.to a envelope.message) f.counted
-            (subst (λ (a : Envelope). IsSending w.steps f.is.step f.is.mark f.letter.from f.letter.to f.letter.envelope.number a.message) f.told f.is.sending)));
+          (subst (λ (a : Envelope). IsSending w.steps f.is.step f.is.mark f.letter.from f.letter.to f.letter.envelope.number a.message) f.told f.is.sending)));
       counted = ap (λ (a : Envelope). a.number) (sym f.told) ∙ f.counted;
       clock = ap (λ (a : Envelope). a.clock) (sym f.told) ∙ sym f.is.clock;
     }
@@ -161,8 +165,8 @@ module _ (script : Script) where
         well = n;
         coordinator = coord_other script new_coordinator [] w.steps w.coord _ f.coordinator (apart-back i place);
         segments = at-both (λ j (t : Seg). 1 ≤ j → SegTo script (new_segment (at j)) [] (w.steps ++ step ∷ []) t) w.segs i (seg_rule script (w.segs i) x fails).seg
-          (λ k. seg_own script (new_segment (at i)) [] w.steps (w.segs i) step (f.segments i k) (subst (λ m. is_same_node (at i) m ≡ true) (sym (f.well.names i)) (test-self i)) (record { here = x; fails = fails; is = h; admitted = ok; marks = refl; clock = refl }))
-          (λ j away k. seg_other script (new_segment (at j)) [] w.steps (w.segs j) step (f.segments j k) (subst (λ m. is_same_node (at i) m ≡ false) (sym (f.well.names j)) (apart-two i j away)));
+            (λ k. seg_own script (new_segment (at i)) [] w.steps (w.segs i) step (f.segments i k) (subst (λ m. is_same_node (at i) m ≡ true) (sym (f.well.names i)) (test-self i)) (record { here = x; fails = fails; is = h; admitted = ok; marks = refl; clock = refl }))
+            (λ j away k. seg_other script (new_segment (at j)) [] w.steps (w.segs j) step (f.segments j k) (subst (λ m. is_same_node (at i) m ≡ false) (sym (f.well.names j)) (apart-two i j away)));
       }
     where
       step : Step
@@ -173,8 +177,10 @@ module _ (script : Script) where
     where
       e : Event
       e = event.Receive from to number
+
       x : NodeEvent
       x = here.Deliver from envelope
+
       by_test : (b : Bool) → is_same_node to the_coordinator ≡ b → (if b then coord_can script w.coord x else seg_can x) ≡ true → Well script (if b then coord_did w e (coord_rule script w.coord x fails) else seg_did w to e (seg_rule script (w.segs to.0) x fails)) → Follows script (if b then coord_did w e (coord_rule script w.coord x fails) else seg_did w to e (seg_rule script (w.segs to.0) x fails))
       by_test true is ok n = coord_kept w e x fails f n (refl, posted_is script w from to number envelope d) ok
       by_test false is ok n = seg_kept w e x fails to.0 (one_at_least to is) f n (refl, posted_is script w from to number envelope d) ok

@@ -1,5 +1,5 @@
 -- Every message that the machine has sent is in its steps.
-use Rattle.std.proofs.Common.{◌≡◌, ◌⊎◌, ℕ, List, [], ◌∷◌, ◌++◌, Option, Some, None, Bool, true, false, refl, sym, subst, ap, ◌∙◌, if◌then◌else◌, ◌==◌, ◌&&◌, arith, eqb, length}
+use Rattle.std.proofs.Common.{◌≡◌, ℕ, List, [], ◌∷◌, ◌++◌, Some, Bool, true, false, refl, sym, subst, ap, ◌∙◌, if◌then◌else◌, ◌&&◌, arith, length}
 use Rattle.std.proofs.lemmas.Bool.{eqb-true}
 use Rattle.std.proofs.lemmas.List.{append_assoc}
 use Rattle.std.specs.Prelude.{slice_get}
@@ -28,7 +28,9 @@ same_node a b e = ap (λ (k : ℕ). let n : Node = record { 0 = k } in n) (eqb-t
 letter_kept : (script : Script) (steps : List Step) (s : Step) (l : Letter) → IsLetter script steps l → IsLetter script (steps ++ s ∷ []) l
 letter_kept script steps s l e =
     record {
-      link = e.link; step = e.step; mark = e.mark;
+      link = e.link;
+      step = e.step;
+      mark = e.mark;
       sending = record { sender = e.sending.sender; at = get_kept steps (s ∷ []) e.step e.sending.sender e.sending.at; node = e.sending.node; sent = e.sending.sent };
       clock = e.clock;
     }
@@ -41,12 +43,16 @@ letters_kept script steps s (l ∷ ls) e = (letter_kept script steps s l e.0, le
 posted_from : (script : Script) (steps : List Step) (s : Step) (done ms : List Mark) (sent : List Letter) → s.marks ≡ done ++ ms → Each (IsAtNode script s.stamp.node) ms → Each (IsLetter script (steps ++ s ∷ [])) sent → Each (IsLetter script (steps ++ s ∷ [])) (posted s.stamp.node s.stamp.clock ms sent)
 posted_from script steps s done [] sent e h ls = ls
 posted_from script steps s done (Sent to number told ∷ ms) sent e h ls =
-    posted_from script steps s (done ++ Sent to number told ∷ []) ms _ (e ∙ sym (append_assoc done (Sent to number told ∷ []) ms)) h.1
-    (record {
-        link = h.0; step = length steps; mark = length done;
+    posted_from script steps s (done ++ Sent to number told ∷ []) ms _ (e ∙ sym (append_assoc done (Sent to number told ∷ []) ms)) h.1 (
+      record {
+        link = h.0;
+        step = length steps;
+        mark = length done;
         sending = record { sender = s; at = get_last steps [] s; node = refl; sent = subst (λ x. slice_get x (length done) ≡ Some (Sent to number told)) (sym e) (get_last done ms (Sent to number told)) };
         clock = refl;
-      }, ls)
+      },
+      ls,
+    )
 posted_from script steps s done (m ∷ ms) sent e h ls = posted_from script steps s (done ++ m ∷ []) ms sent (e ∙ sym (append_assoc done (m ∷ []) ms)) h.1 ls
 
 pub posted_letters : (script : Script) (steps : List Step) (s : Step) (sent : List Letter) → Each (IsAtNode script s.stamp.node) s.marks → Each (IsLetter script steps) sent → Each (IsLetter script (steps ++ s ∷ [])) (posted s.stamp.node s.stamp.clock s.marks sent)
@@ -74,6 +80,7 @@ found_is P from to number (l ∷ ls) envelope h e = at (is_at from to number l) 
         let x = both_of _ _ a in
         let y = both_of _ _ x.1 in
         record { letter = l; is = h.0; source = same_node l.from from x.0; target = same_node l.to to y.0; counted = eqb-true l.envelope.number number y.1; told = (cc) }
+
     at : (b : Bool) → is_at from to number l ≡ b → (if b then Some l.envelope else found from to number ls) ≡ Some envelope → (found from to number ls ≡ Some envelope → IsFound P from to number envelope) → IsFound P from to number envelope
     at true a b later = here a b
     at false a b later = later b

@@ -1,19 +1,14 @@
 -- Lines that start, sessions that end, and answers that come.
-use Rattle.std.proofs.Common.{◌≡◌, ◌≤◌, ◌<◌, ◌⊎◌, inl, inr, ℕ, ◌+◌, List, [], ◌∷◌, ◌++◌, Option, Some, None, Bool, true, false, refl, sym, subst, ap, ◌∙◌, if◌then◌else◌, ◌==◌, ◌||◌, ◌&&◌, arith, eqb, append-nil}
+use Rattle.std.proofs.Common.{◌≡◌, ◌≤◌, ◌<◌, inl, inr, ℕ, ◌+◌, List, [], ◌∷◌, ◌++◌, Option, Some, None, Bool, true, false, refl, sym, subst, ap, ◌∙◌, if◌then◌else◌, arith, eqb, append-nil}
 use Rattle.std.proofs.lemmas.Bool.{eqb-true}
 use Rattle.std.proofs.lemmas.Bool.Decides.{nat_tests}
-use Rattle.std.specs.Prelude.{is_some}
-use Rattle.gx_ids.specs.declared.ids.Cid.{Cid}
 use Rattle.gx_ids.specs.declared.ids.Gxid.{Gxid}
-use Rattle.gx_ids.specs.declared.ids.Node.{Node}
 use Rattle.gx_ids.specs.declared.ids.SessionId.{SessionId}
-use Rattle.gx_tree.specs.declared.part.Part.{Part}
 use Rattle.gx_tree.specs.declared.stmt.Level.{Level}
 use Rattle.gx_tree.specs.declared.stmt.Level.TheVariants.{ReadCommitted}
 use Rattle.gx_tree.specs.declared.stmt.Stmt.{Stmt}
 use Rattle.gx_tree.specs.declared.stmt.Stmt.TheVariants as stmt
-use Rattle.gx_dtx.specs.Nodes.{has, without}
-use Rattle.gx_dtx.specs.Rules.{Turn, begun, on_abort, on_reply}
+use Rattle.gx_dtx.specs.Rules.{begun, on_abort}
 use Rattle.gx_dtx.specs.Table.{Table, find_txn, new_txn}
 use Rattle.gx_dtx.specs.declared.txn.Txn.{Txn}
 use Rattle.gx_script.specs.declared.Script.{Script}
@@ -29,17 +24,16 @@ use Rattle.gx_store.specs.declared.answer.StmtAnswer.TheVariants as told
 use Rattle.gx_store.specs.declared.mark.Mark.{Mark}
 use Rattle.gx_store.specs.declared.mark.Mark.TheVariants as mark
 use Rattle.gx_rules.specs.AtCoordinator.{answer_mark, answers_at_once, begins, behind, commits, dispatches, ends_in, on_line, rolls_back, starts, starts_line}
-use Rattle.gx_rules.specs.Coordinators.{Command, Coord, CoordTurn, Session, Work, new_work, rests, session_of, with_session, with_state, work_of}
-use Rattle.gx_rules.specs.Maps.{with_at}
+use Rattle.gx_rules.specs.Coordinators.{Command, Coord, Session, new_work, rests, session_of, with_session, with_state}
 use Rattle.gx_laws.proofs.Closings.{behind-good, commits-good, past-same}
 use Rattle.gx_laws.proofs.Commands.{dispatch-good, same-finds}
 use Rattle.gx_laws.proofs.Ends.{begun-finds, past-begun}
 use Rattle.gx_laws.proofs.Lists.{Each}
-use Rattle.gx_laws.proofs.Past.{Past, Still, still-committed, still-seen}
+use Rattle.gx_laws.proofs.Past.{Past, Still, still-committed}
 use Rattle.gx_laws.proofs.Sessions.{Kept, Placed, Tied, is_live_in, is_nothing_in, is_open_in, is_working_in, kept-idle, stage_of}
-use Rattle.gx_laws.proofs.Stages.{Apart, Below, IsWhole, at_gxid, gx, none-at}
-use Rattle.gx_laws.proofs.Statuses.{Falls, Stage, Turned, abort-turns, is_running, stage}
-use Rattle.gx_laws.proofs.Statuses.Stage.{Absent, Live, Closing, Finished, Dropped}
+use Rattle.gx_laws.proofs.Stages.{Apart, Below, IsWhole, gx, none-at}
+use Rattle.gx_laws.proofs.Statuses.{Falls, Turned, abort-turns, stage}
+use Rattle.gx_laws.proofs.Statuses.Stage.{Live, Closing}
 use Rattle.gx_laws.proofs.Turns.{Base, Good, base-kept, falls-is, merged, rolled-good, same-sessions, same-works, self-test, stage-is}
 
 -- marks that tell of no end
@@ -122,6 +116,7 @@ undrawn d w = none-at d.next.0 d.txns (apart d.txns w.drawn)
   where
     other : (n k : ℕ) → k < n → eqb n k ≡ false
     other n k l = grind (arith, nat_tests)
+
     apart : (es : List (Gxid × Txn)) → Below d.next.0 es → Each (λ (x : Gxid × Txn). eqb d.next.0 x.0.0 ≡ false) es
     apart [] e = tt
     apart (x ∷ xs) e = (other d.next.0 x.0.0 e.0.1, apart xs e.1)
@@ -131,19 +126,24 @@ begun-whole d w = record { first = more d.next.0 w.first; apart = apart d.txns w
   where
     more : (a : ℕ) → 1 ≤ a → 1 ≤ a + 1
     more a l = omega arith
+
     other : (k n : ℕ) → k < n → eqb k n ≡ false
     other k n l = grind (arith, nat_tests)
+
     each-last : (k : ℕ) (es : List (Gxid × Txn)) → k < d.next.0 → Each (λ (x : Gxid × Txn). eqb k x.0.0 ≡ false) es → Each (λ (x : Gxid × Txn). eqb k x.0.0 ≡ false) (es ++ (d.next, new_txn) ∷ [])
     each-last k [] l e = (other k d.next.0 l, tt)
     each-last k (x ∷ xs) l e = (e.0, each-last k xs l e.1)
+
     apart : (es : List (Gxid × Txn)) → Apart es → Below d.next.0 es → Apart (es ++ (d.next, new_txn) ∷ [])
     apart [] e l = (tt, tt)
     apart (x ∷ xs) e l = (each-last x.0.0 xs l.0.1 e.0, apart xs e.1 l.1)
+
     wider : (a : ℕ) → (1 ≤ a) × (a < d.next.0) → (1 ≤ a) × (a < d.next.0 + 1)
     wider a l = (l.0, step-up l.1)
       where
         step-up : a < d.next.0 → a < d.next.0 + 1
         step-up m = omega arith
+
     drawn : (es : List (Gxid × Txn)) → Below d.next.0 es → Below (d.next.0 + 1) (es ++ (d.next, new_txn) ∷ [])
     drawn [] e = ((w.first, last d.next.0), tt)
       where
@@ -176,14 +176,17 @@ module _ (script : Script) (c : Coord) (before : List Mark) (k : Kept c) (p : Pa
   commit-good opened =
       subst (λ g. Good before (commits (starts_line c s step.CommitBlock) g)) (sym (transaction-now step.CommitBlock))
       (commits-good c (starts_line c s step.CommitBlock) (session_of c s).transaction.0 s.0 (c.works (session_of c s).transaction.0) (moved step.CommitBlock) Live k
-        (base-own c s (moved step.CommitBlock) k opened idle refl) before (past-table p) refl (closing block opened) none)
+      (base-own c s (moved step.CommitBlock) k opened idle refl) before (past-table p) refl (closing block opened) none)
     where
       past-table : Past c before → Past (starts_line c s step.CommitBlock) before
       past-table p = record { committed = p.committed; ended = p.ended; dropped = p.dropped; latest = p.latest; drawn = p.drawn }
+
       closing : (b : Block) → is_open_in b ≡ true → Rattle.gx_laws.proofs.Sessions.is_closing_in (block_after b step.CommitBlock) pending.Commit ≡ true
       closing b e = grind arith
+
       not-work : (q : Pending) → is_nothing_in q ≡ true → is_working_in q ≡ true → ⊥
       not-work q e f = grind arith
+
       none : (m : Command) → (c.works (session_of c s).transaction.0).command ≡ Some m → (m.awaited ≡ [] → ⊥) → ⊥
       none m f r =
           not-work (session_of c s).state.pending idle (subst (λ i. is_working_in (c.sessions i).state.pending ≡ true) ((k.placed s.0).stands opened).1 ((k.tied (session_of c s).transaction.0).awaits m f r).1)
@@ -220,7 +223,7 @@ module _ (script : Script) (c : Coord) (before : List Mark) (k : Kept c) (p : Pa
   inside-good line opened =
       subst (λ g. Good before (dispatches script (starts_line c s (step.Command false)) g line)) (sym (transaction-now (step.Command false)))
       (dispatch-good c (starts_line c s (step.Command false)) (session_of c s).transaction.0 s.0 (c.works (session_of c s).transaction.0) (moved (step.Command false)) k (base-own c s (moved (step.Command false)) k opened idle refl) before (past-now (moved (step.Command false)))
-        (live block opened) refl script line)
+      (live block opened) refl script line)
     where
       live : (b : Block) → is_open_in b ≡ true → is_live_in (block_after b (step.Command false)) pending.Command ≡ true
       live b e = grind arith
@@ -250,27 +253,34 @@ module _ (script : Script) (c : Coord) (before : List Mark) (k : Kept c) (p : Pa
   begin-good level outside =
       behind-good before (mark.Start c.table.next s ∷ []) (answers_at_once (begins (starts_line c s (step.BeginBlock level)) s level) s told.Begin) _ tt
       (record {
-          kept = base-kept c c1 c.table.next.0 s.0 (new_work s level) (fresh asked) Live k b c1 (find_txn c1.table c.table.next) (new_work s level) (fresh asked) b.whole1 (same-finds c1.table c.table.next.0) (same-works c c1 c.table.next.0 s.0 (new_work s level) (fresh asked) Live k b) (same-sessions c c1 c.table.next.0 s.0 (new_work s level) (fresh asked) Live k b) tied refl sits;
-          past = past-still c1 c1 (before ++ mark.Start c.table.next s ∷ []) (answer_mark c1 s told.Begin ∷ []) (begins-past asked level) refl (tt, tt);
-          seen = tt;
-        }) refl refl
+        kept = base-kept c c1 c.table.next.0 s.0 (new_work s level) (fresh asked) Live k b c1 (find_txn c1.table c.table.next) (new_work s level) (fresh asked) b.whole1 (same-finds c1.table c.table.next.0) (same-works c c1 c.table.next.0 s.0 (new_work s level) (fresh asked) Live k b) (same-sessions c c1 c.table.next.0 s.0 (new_work s level) (fresh asked) Live k b) tied refl sits;
+        past = past-still c1 c1 (before ++ mark.Start c.table.next s ∷ []) (answer_mark c1 s told.Begin ∷ []) (begins-past asked level) refl (tt, tt);
+        seen = tt;
+      }) refl refl
     where
       asked : LineStep
       asked = step.BeginBlock level
+
       c1 : Coord
       c1 = begins (starts_line c s (step.BeginBlock level)) s level
+
       b : Base c c1 c.table.next.0 s.0 (new_work s level) (fresh (step.BeginBlock level)) Live
       b = begins-base (step.BeginBlock level) level outside
+
       now : stage_of c1 c.table.next.0 ≡ Live
       now = stage-is c c1 c.table.next.0 s.0 (new_work s level) (fresh (step.BeginBlock level)) Live k b
+
       differ : Live ≡ Closing → ⊥
       differ z = cc
+
       opens : (q : Block) → q ≡ Outside → is_live_in (block_after q (step.BeginBlock level)) pending.Nothing ≡ true
       opens q e = subst (λ r. is_live_in (block_after r (step.BeginBlock level)) pending.Nothing ≡ true) (sym e) refl
+
       tied : (z : Session) → z ≡ (if eqb s.0 s.0 then fresh (step.BeginBlock level) else c.sessions s.0) → Tied (stage_of c1 c.table.next.0) c.table.next.0 (new_work s level) z
       tied z q =
           subst (λ x. Tied (stage_of c1 c.table.next.0) c.table.next.0 (new_work s level) x) (sym (q ∙ ap (λ x. if x then fresh (step.BeginBlock level) else c.sessions s.0) (self-test s.0)))
           (record { live = λ m. (refl, opens block outside); closing = λ m. absurd (differ (sym now ∙ m)); awaits = λ m f r. absurd (cc) })
+
       sits : Placed s.0 (fresh (step.BeginBlock level)) (stage_of c1 c.table.next.0) (new_work s level)
       sits = record { stands = λ o. (inl now, refl); free = λ o n. now }
 
@@ -278,7 +288,7 @@ module _ (script : Script) (c : Coord) (before : List Mark) (k : Kept c) (p : Pa
   alone-good line outside =
       behind-good before (mark.Start c.table.next s ∷ []) (dispatches script (begins (starts_line c s (step.Command true)) s ReadCommitted) c.table.next line) _ tt
       (dispatch-good c (begins (starts_line c s (step.Command true)) s ReadCommitted) c.table.next.0 s.0 (new_work s ReadCommitted) (fresh (step.Command true)) k (begins-base (step.Command true) ReadCommitted outside) (before ++ mark.Start c.table.next s ∷ []) (begins-past (step.Command true) ReadCommitted)
-        (live block outside) refl script line) refl refl
+      (live block outside) refl script line) refl refl
     where
       live : (q : Block) → q ≡ Outside → is_live_in (block_after q (step.Command true)) pending.Command ≡ true
       live q e = subst (λ r. is_live_in (block_after r (step.Command true)) pending.Command ≡ true) (sym e) refl

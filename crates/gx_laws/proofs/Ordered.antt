@@ -1,5 +1,5 @@
 -- Every run of the machine is ordered.
-use Rattle.std.proofs.Common.{◌≡◌, ◌≤◌, ◌<◌, ◌⊎◌, inl, inr, ℕ, ◌+◌, List, [], ◌∷◌, ◌++◌, Option, Some, None, Bool, true, false, refl, sym, subst, ap, ◌∙◌, if◌then◌else◌, ◌==◌, arith, eqb, length, append-nil, le_trans}
+use Rattle.std.proofs.Common.{◌≡◌, ◌≤◌, ◌<◌, inl, inr, ℕ, ◌+◌, List, [], ◌∷◌, ◌++◌, Option, Some, None, Bool, true, false, refl, sym, subst, ap, ◌∙◌, if◌then◌else◌, arith, eqb, length, append-nil}
 use Rattle.std.proofs.lemmas.Bool.{eqb-true}
 use Rattle.std.proofs.lemmas.Bool.Decides.{nat_tests}
 use Rattle.std.proofs.lemmas.List.{append_assoc}
@@ -23,17 +23,16 @@ use Rattle.gx_store.specs.Refusals.{the_coordinator}
 use Rattle.gx_rules.specs.AtCoordinator.{coord_can, coord_rule, on_event}
 use Rattle.gx_rules.specs.AtSegment.{seg_rule}
 use Rattle.gx_rules.specs.AtSegment as segment
-use Rattle.gx_rules.specs.Coordinators.{Coord, CoordTurn, new_coordinator}
-use Rattle.gx_rules.specs.Machine.{Letter, World, after, at_node, can, can_here, coord_did, delivered, does, found, happens, new_world, node_of, posted, seg_can, seg_did, world_of}
+use Rattle.gx_rules.specs.Coordinators.{CoordTurn}
+use Rattle.gx_rules.specs.Machine.{World, after, at_node, can, can_here, coord_did, delivered, does, found, happens, new_world, node_of, seg_can, seg_did, world_of}
 use Rattle.gx_rules.specs.Maps.{with_at}
-use Rattle.gx_rules.specs.Segments.{Seg, SegTurn, new_segment}
-use Rattle.gx_rules.specs.Sending.{clock_after, counted, counted_all, heard_in, numbered}
+use Rattle.gx_rules.specs.Segments.{Seg, SegTurn}
+use Rattle.gx_rules.specs.Sending.{clock_after, counted, numbered}
 use Rattle.gx_laws.proofs.AtCoordinators.{CoordIn, CoordStays, coord_stays}
 use Rattle.gx_laws.proofs.AtSegments.{PlainAt, SegStays, seg_stays}
 use Rattle.gx_laws.proofs.Clocks.{clock_after-above, clock_after-hears, clock_after-positive, clock_of-other, clock_of-same}
 use Rattle.gx_laws.proofs.Letters.{IsFound, IsLetter, found_is, posted_letters, same_node}
 use Rattle.gx_laws.proofs.Lists.{Each, each_append, each_weaker}
-use Rattle.gx_laws.proofs.Places.{IsOneOf}
 use Rattle.gx_laws.proofs.Sent.{all-counted, at, count-both, counted-all, numbered-ok, plain-count, plain-numbered, sent_in-last}
 use Rattle.gx_laws.proofs.Tables.{OutIn}
 
@@ -109,10 +108,11 @@ module _ (script : Script) (some : 1 ≤ script.segments) (w : World) (good : We
   numbers =
       plain-numbered script the_coordinator w.steps [] turn.marks _ kept.marks
       (numbered-ok the_coordinator w.steps (λ i. Unit {0}) turn.outs turn.coord.sent turn.marks
-        (λ i q. counts i ∙ plus-none (sent_in the_coordinator (at i) w.steps) _ (plain-count script the_coordinator (at i) turn.marks kept.marks)) (nothing-asked turn.outs))
+      (λ i q. counts i ∙ plus-none (sent_in the_coordinator (at i) w.steps) _ (plain-count script the_coordinator (at i) turn.marks kept.marks)) (nothing-asked turn.outs))
     where
       plus-none : (a b : ℕ) → b ≡ 0 → a ≡ a + b
       plus-none a b h = omega arith
+
       nothing-asked : (outs : List Out) → Each (λ o. Unit {0}) outs
       nothing-asked [] = tt
       nothing-asked (o ∷ outs) = (tt, nothing-asked outs)
@@ -133,7 +133,7 @@ module _ (script : Script) (some : 1 ≤ script.segments) (w : World) (good : We
         clock = same-le (clock_of-same the_coordinator w.steps step refl (clock_after-positive w.coord.clock x));
         clocks = λ i k. subst (λ c. c ≤ (w.segs i).clock) (sym (clock_of-other (at i) w.steps step (apart i k))) (good.clocks i k);
         sent = λ i. counted-all turn.coord.sent turn.outs i ∙ ap (λ a. a + sent_count (at i) (numbered turn.coord.sent turn.outs)) (counts i)
-          ∙ sym (same-adds the_coordinator (at i) w.steps step refl ∙ ap (λ a. sent_in the_coordinator (at i) w.steps + a) (count-both script the_coordinator (at i) turn.marks _ kept.marks));
+            ∙ sym (same-adds the_coordinator (at i) w.steps step refl ∙ ap (λ a. sent_in the_coordinator (at i) w.steps + a) (count-both script the_coordinator (at i) turn.marks _ kept.marks));
         answered = λ i k. good.answered i k ∙ sym (other-adds (at i) the_coordinator w.steps step (apart i k));
         letters = posted_letters script w.steps step w.sent at_coordinator good.letters;
       }
@@ -184,9 +184,9 @@ module _ (script : Script) (w : World) (good : Well script w) (e : Event) (x : N
   seg_numbers =
       plain-numbered script (at i) w.steps [] seg_turn.marks _ plain_here
       (numbered-ok (at i) w.steps (λ j. j ≡ 0) seg_turn.outs (λ node. seg_turn.seg.sent) seg_turn.marks
-        (λ j q. subst (λ k. seg_turn.seg.sent ≡ sent_in (at i) (at k) w.steps + sent_count (at k) seg_turn.marks) (sym q)
-            (seg_counts ∙ plus-none (sent_in (at i) the_coordinator w.steps) _ (plain-count script (at i) the_coordinator seg_turn.marks plain_here)))
-        (each_weaker (λ (o : Out). o.node ≡ the_coordinator) (λ o. o.node.0 ≡ 0) (λ o h. ap (λ (n : Node). n.0) h) seg_turn.outs seg_kept.outs))
+      (λ j q. subst (λ k. seg_turn.seg.sent ≡ sent_in (at i) (at k) w.steps + sent_count (at k) seg_turn.marks) (sym q)
+      (seg_counts ∙ plus-none (sent_in (at i) the_coordinator w.steps) _ (plain-count script (at i) the_coordinator seg_turn.marks plain_here)))
+      (each_weaker (λ (o : Out). o.node ≡ the_coordinator) (λ o. o.node.0 ≡ 0) (λ o h. ap (λ (n : Node). n.0) h) seg_turn.outs seg_kept.outs))
     where
       plus-none : (a b : ℕ) → b ≡ 0 → a ≡ a + b
       plus-none a b h = omega arith
@@ -211,12 +211,12 @@ module _ (script : Script) (w : World) (good : Well script w) (e : Event) (x : N
         names = at-both (λ j (t : Seg). t.node ≡ at j) w.segs i _ (seg_kept.node ∙ good.names i) (λ j no. good.names j);
         clock = subst (λ c. c ≤ w.coord.clock) (sym (clock_of-other the_coordinator w.steps seg_step (apart-back i place.0))) good.clock;
         clocks = at-both (λ j (t : Seg). 1 ≤ j → clock_of (at j) (w.steps ++ seg_step ∷ []) ≤ t.clock) w.segs i _
-          (λ k. same-le (clock_of-same (at i) w.steps seg_step (test-self i) (clock_after-positive s.clock x)))
-          (λ j no k. subst (λ c. c ≤ (w.segs j).clock) (sym (clock_of-other (at j) w.steps seg_step (apart-two i j no))) (good.clocks j k));
+            (λ k. same-le (clock_of-same (at i) w.steps seg_step (test-self i) (clock_after-positive s.clock x)))
+            (λ j no k. subst (λ c. c ≤ (w.segs j).clock) (sym (clock_of-other (at j) w.steps seg_step (apart-two i j no))) (good.clocks j k));
         sent = λ j. good.sent j ∙ sym (other-adds the_coordinator (at j) w.steps seg_step (apart-back i place.0));
         answered = at-both (λ j (t : Seg). 1 ≤ j → t.sent ≡ sent_in (at j) the_coordinator (w.steps ++ seg_step ∷ [])) w.segs i _
-          (λ k. seg_new_count)
-          (λ j no k. good.answered j k ∙ sym (other-adds (at j) the_coordinator w.steps seg_step (apart-two i j no)));
+            (λ k. seg_new_count)
+            (λ j no k. good.answered j k ∙ sym (other-adds (at j) the_coordinator w.steps seg_step (apart-two i j no)));
         letters = posted_letters script w.steps seg_step w.sent seg_marks good.letters;
       }
     where
@@ -227,19 +227,24 @@ module _ (script : Script) (w : World) (good : Well script w) (e : Event) (x : N
 delivery-ok : (script : Script) (w : World) → Well script w → (from to : Node) (number : ℕ) (envelope : Envelope) (clock : ℕ) → IsFound (IsLetter script w.steps) from to number envelope → envelope.clock < clock → IsDelivery script w.steps clock from to number
 delivery-ok script w good from to number envelope clock f h =
     let sending : IsSending w.steps f.is.step f.is.mark from to number f.letter.envelope.message =
-        subst (λ a. IsSending w.steps f.is.step f.is.mark a to number f.letter.envelope.message) f.source
-        (subst (λ a. IsSending w.steps f.is.step f.is.mark f.letter.from a number f.letter.envelope.message) f.target
-          (subst (λ a. IsSending w.steps f.is.step f.is.mark f.letter.from f.letter.to a f.letter.envelope.message) f.counted f.is.sending)) in
+    subst (λ a. IsSending w.steps f.is.step f.is.mark a to number f.letter.envelope.message) f.source
+    (subst (λ a. IsSending w.steps f.is.step f.is.mark f.letter.from a number f.letter.envelope.message) f.target
+    (subst (λ a. IsSending w.steps f.is.step f.is.mark f.letter.from f.letter.to a f.letter.envelope.message) f.counted f.is.sending)) in
     record {
       link = subst (λ a. IsLink script a to) f.source (subst (λ a. IsLink script f.letter.from a) f.target f.is.link);
-      told = f.letter.envelope.message; at = f.is.step; place = f.is.mark; sending = sending;
+      told = f.letter.envelope.message;
+      at = f.is.step;
+      place = f.is.mark;
+      sending = sending;
       later = λ sender k. earlier sender (same_sender sender k);
     }
   where
     some-same : (a b : Step) → Some a ≡ Some b → a ≡ b
     some-same a b e = (cc)
+
     same_sender : (sender : Step) → slice_get w.steps f.is.step ≡ Some sender → sender.stamp.clock ≡ envelope.clock
     same_sender sender k = ap (λ (a : Step). a.stamp.clock) (some-same sender f.is.sending.sender (sym k ∙ f.is.sending.at)) ∙ f.is.clock ∙ ap (λ (a : Envelope). a.clock) f.told
+
     earlier : (sender : Step) → sender.stamp.clock ≡ envelope.clock → sender.stamp.clock < clock
     earlier sender same = under sender.stamp.clock envelope.clock clock same h
       where
@@ -252,14 +257,17 @@ module _ (script : Script) (some : 1 ≤ script.segments) where
     where
       e : Event
       e = event.Receive from to number
+
       delivery : (clock : ℕ) → envelope.clock < clock → IsDelivery script w.steps clock from to number
       delivery clock h = delivery-ok script w good from to number envelope clock f h
+
       place : is_same_node to the_coordinator ≡ false → IsLink script f.letter.from f.letter.to → IsSegment script to
       place away (inl l) = subst (IsSegment script) f.target l.1
       place away (inr l) = absurd (not-here to (sym f.target ∙ l.1) away)
         where
           not-here : (n : Node) → n ≡ the_coordinator → is_same_node n the_coordinator ≡ false → ⊥
           not-here n same away = grind (arith, nat_tests)
+
       by_test : (b : Bool) → is_same_node to the_coordinator ≡ b → Well script (if b then coord_did w e (coord_rule script w.coord (here.Deliver from envelope) fails) else seg_did w to e (seg_rule script (w.segs to.0) (here.Deliver from envelope) fails))
       by_test true is = coord_well script some w good e (here.Deliver from envelope) fails (sym (same_node to the_coordinator is), delivery _ (clock_after-hears w.coord.clock (here.Deliver from envelope)))
       by_test false is = seg_well script w good e (here.Deliver from envelope) fails to.0 (place is f.is.link) (refl, delivery _ (clock_after-hears (w.segs to.0).clock (here.Deliver from envelope)))
@@ -280,6 +288,7 @@ module _ (script : Script) (some : 1 ≤ script.segments) where
     where
       same_not : (b : Bool) → b ≡ true → b ≡ false → ⊥
       same_not b e h = grind arith
+
       by_can : (b : Bool) → can script w e ≡ b → (d : Event) → d ≡ e → Well script (if b then does script w e (node_of e) fails (at_node w e) else w)
       by_can false refused d same = good
       by_can true admitted (event.Receive from to number) same = subst (λ d. Well script (does script w d (node_of d) fails (at_node w d))) same (arrives w from to number fails (found from to number w.sent) refl good)
@@ -295,8 +304,11 @@ module _ (script : Script) (some : 1 ≤ script.segments) where
         steps = tt;
         coordinator = record { table = tt; works = λ g. record { writers = tt; command = tt } };
         names = λ i. refl;
-        clock = least 0; clocks = λ i h. least 0;
-        sent = λ i. refl; answered = λ i h. refl; letters = tt;
+        clock = least 0;
+        clocks = λ i h. least 0;
+        sent = λ i. refl;
+        answered = λ i h. refl;
+        letters = tt;
       }
     where
       least : (k : ℕ) → 0 ≤ k

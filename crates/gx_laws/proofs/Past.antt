@@ -1,5 +1,5 @@
 -- The ends of transactions in the marks, and their stages.
-use Rattle.std.proofs.Common.{◌≡◌, ◌≤◌, ◌<◌, ◌⊎◌, inl, inr, ℕ, suc, zero, ◌+◌, List, [], ◌∷◌, ◌++◌, Option, Some, None, Bool, true, false, refl, sym, subst, ap, ◌∙◌, cond, if◌then◌else◌, ◌==◌, ◌&&◌, ◌||◌, not, arith, eqb, ltb, append-nil}
+use Rattle.std.proofs.Common.{◌≡◌, ◌≤◌, ◌<◌, ℕ, suc, zero, ◌+◌, List, [], ◌∷◌, ◌++◌, Option, Some, None, Bool, true, false, refl, sym, subst, ap, ◌∙◌, cond, if◌then◌else◌, ◌&&◌, ◌||◌, not, arith, eqb, append-nil}
 use Rattle.std.proofs.lemmas.Bool.{eqb-true}
 use Rattle.std.proofs.lemmas.Bool.Decides.{nat_tests}
 use Rattle.std.proofs.lemmas.List.{append_assoc}
@@ -7,7 +7,7 @@ use Rattle.std.specs.Prelude.{filter}
 use Rattle.gx_ids.specs.declared.ids.Gxid.{Gxid}
 use Rattle.gx_dsnap.specs.Gxids.{after_ended, is_below, is_listed}
 use Rattle.gx_dsnap.specs.Snapshot.{sees}
-use Rattle.gx_dtx.specs.Table.{Table, find_txn, runs}
+use Rattle.gx_dtx.specs.Table.{find_txn, runs}
 use Rattle.gx_dtx.specs.declared.txn.Txn.{Txn}
 use Rattle.gx_store.specs.declared.mark.Mark.{Mark}
 use Rattle.gx_store.specs.declared.mark.Mark.TheVariants as mark
@@ -17,10 +17,10 @@ use Rattle.gx_rules.specs.Gxids.{gxids_from}
 use Rattle.gx_rules.specs.Snapshots.{latest_number, running_below, snapshot_of}
 use Rattle.gx_laws.specs.Seen.{AreEndedSeen, SeesEnded}
 use Rattle.gx_laws.proofs.Lists.{Each}
-use Rattle.gx_laws.proofs.Sessions.{Kept, stage_of}
+use Rattle.gx_laws.proofs.Sessions.{stage_of}
 use Rattle.gx_laws.proofs.Stages.{Below, IsWhole, at_gxid, first-at, gx}
-use Rattle.gx_laws.proofs.Statuses.{Stage, is_running, runs-stage, stage}
-use Rattle.gx_laws.proofs.Statuses.Stage.{Absent, Live, Closing, Finished, Dropped}
+use Rattle.gx_laws.proofs.Statuses.{is_running, runs-stage, stage}
+use Rattle.gx_laws.proofs.Statuses.Stage.{Absent, Dropped}
 
 -- MARKS
 pub committed-append : (xs ys : List Mark) (g : Gxid) → is_committed (xs ++ ys) g ≡ is_committed xs g || is_committed ys g
@@ -105,11 +105,14 @@ listed-is p a (suc n) h e = by_test (p (gx a)) refl e (λ f. listed-is p (suc a)
       where
         lower : suc a ≤ h → a ≤ h
         lower y = omega arith
+
         higher : h < suc a + n → h < a + suc n
         higher y = omega arith
+
     at_head : (q : Bool) → eqb a h ≡ q → p (gx a) ≡ true → (q || is_listed (gx h) (filter p (gxids_from (suc a) n))) ≡ true → (is_listed (gx h) (filter p (gxids_from (suc a) n)) ≡ true → (suc a ≤ h) × (h < suc a + n) × (p (gx h) ≡ true)) → (a ≤ h) × (h < a + suc n) × (p (gx h) ≡ true)
     at_head true q x f r = subst (λ k. (a ≤ k) × (k < a + suc n) × (p (gx k) ≡ true)) (eqb-true a h q) (omega arith, omega arith, x)
     at_head false q x f r = widen (r f)
+
     by_test : (b : Bool) → p (gx a) ≡ b → is_listed (gx h) (cond b (gx a ∷ filter p (gxids_from (suc a) n)) (filter p (gxids_from (suc a) n))) ≡ true → (is_listed (gx h) (filter p (gxids_from (suc a) n)) ≡ true → (suc a ≤ h) × (h < suc a + n) × (p (gx h) ≡ true)) → (a ≤ h) × (h < a + suc n) × (p (gx h) ≡ true)
     by_test true x f r = at_head (eqb a h) refl x f r
     by_test false x f r = widen (r f)
@@ -123,6 +126,7 @@ listed-has p a (suc n) h l m e = by_test (eqb a h) refl (λ k. listed-has p (suc
   where
     lower : h < a + suc n → h < suc a + n
     lower y = omega arith
+
     skip : (b : Bool) → is_listed (gx h) (filter p (gxids_from (suc a) n)) ≡ true → is_listed (gx h) (cond b (gx a ∷ filter p (gxids_from (suc a) n)) (filter p (gxids_from (suc a) n))) ≡ true
     skip true f = or-true (eqb a h) f
       where
@@ -130,9 +134,11 @@ listed-has p a (suc n) h l m e = by_test (eqb a h) refl (λ k. listed-has p (suc
         or-true true f = refl
         or-true false f = f
     skip false f = f
+
     head : (b : Bool) → b ≡ true → eqb a h ≡ true → is_listed (gx h) (cond b (gx a ∷ filter p (gxids_from (suc a) n)) (filter p (gxids_from (suc a) n))) ≡ true
     head true f q = ap (λ x. x || is_listed (gx h) (filter p (gxids_from (suc a) n))) q
     head false f q = grind arith
+
     by_test : (q : Bool) → eqb a h ≡ q → (suc a ≤ h → is_listed (gx h) (filter p (gxids_from (suc a) n)) ≡ true) → is_listed (gx h) (filter p (gxids_from a (suc n))) ≡ true
     by_test true q r = head (p (gx a)) (subst (λ k. p (gx k) ≡ true) (sym (eqb-true a h q)) e) q
     by_test false q r = skip (p (gx a)) (r (further a h l q))
@@ -146,44 +152,56 @@ seen-now c ms p = record { committed = λ h e. seen h (p.committed h.0 e); ended
   where
     limit : ℕ
     limit = latest_number c.table.latest_ended
+
     runs_at : Gxid → Bool
     runs_at g = runs (find_txn c.table g)
+
     below_is : (latest : Option Gxid) (h : Gxid) → h.0 ≤ latest_number latest → 1 ≤ h.0 → is_below (after_ended latest) h ≡ true
     below_is None h l o = absurd (none h.0 l o)
       where
         none : (k : ℕ) → k ≤ 0 → 1 ≤ k → ⊥
         none k l o = omega arith
     below_is (Some g) h l o = grind (arith, nat_tests)
+
     below_gives : (latest : Option Gxid) (h : Gxid) → 1 ≤ h.0 → is_below (after_ended latest) h ≡ true → h.0 ≤ latest_number latest
     below_gives None h o e = grind (arith, nat_tests)
     below_gives (Some g) h o e = grind (arith, nat_tests)
+
     not-listed : (h : Gxid) → runs_at h ≡ false → is_listed h (running_below c.table c.table.latest_ended) ≡ false
     not-listed h e = by_test (is_listed h (running_below c.table c.table.latest_ended)) refl
       where
         clash : (b : Bool) → b ≡ true → b ≡ false → ⊥
         clash b e f = grind arith
+
         by_test : (b : Bool) → is_listed h (running_below c.table c.table.latest_ended) ≡ b → b ≡ false
         by_test true f = absurd (clash (runs_at h) (listed-is runs_at 1 limit h.0 f).2 e)
         by_test false f = refl
+
     seen : (h : Gxid) → (1 ≤ h.0) × (h.0 < c.table.next.0) × (is_running (stage_of c h.0) ≡ false) → sees (snapshot_of c.table) h ≡ true
     seen h x =
         both (is_below (after_ended c.table.latest_ended) h) (is_listed h (running_below c.table c.table.latest_ended)) (below_is c.table.latest_ended h (p.latest h.0 x.0 x.1 x.2) x.0) (not-listed h (runs-stage (find_txn c.table h) ∙ x.2))
       where
         both : (a b : Bool) → a ≡ true → b ≡ false → (a && not b) ≡ true
         both a b e f = grind arith
+
     past : (h : Gxid) → 1 ≤ h.0 → sees (snapshot_of c.table) h ≡ true → is_ended ms h ≡ true
     past h one e = p.ended h.0 one (under (below_gives c.table.latest_ended h one (left _ _ e)) p.drawn) (still (is_running (stage_of c h.0)) refl)
       where
         left : (a b : Bool) → (a && not b) ≡ true → a ≡ true
         left a b e = grind arith
+
         right : (a b : Bool) → (a && not b) ≡ true → b ≡ false
         right a b e = grind arith
+
         under : {a b d : ℕ} → a ≤ b → b < d → a < d
         under l m = omega arith
+
         clash : (b : Bool) → b ≡ true → b ≡ false → ⊥
         clash b e f = grind arith
+
         higher : (a b : ℕ) → a ≤ b → a < 1 + b
         higher a b l = omega arith
+
         still : (b : Bool) → is_running (stage_of c h.0) ≡ b → b ≡ false
         still true f =
             absurd (clash (is_listed h (running_below c.table c.table.latest_ended)) (listed-has runs_at 1 limit h.0 one (higher h.0 limit (below_gives c.table.latest_ended h one (left _ _ e))) (runs-stage (find_txn c.table h) ∙ f)) (right _ _ e))

@@ -1,31 +1,25 @@
 -- Answers of segments, and all events of the coordinator.
-use Rattle.std.proofs.Common.{◌≡◌, ◌≤◌, ◌<◌, ◌⊎◌, inl, inr, ℕ, ◌+◌, List, [], ◌∷◌, ◌++◌, Option, Some, None, Bool, true, false, refl, sym, subst, ap, ◌∙◌, if◌then◌else◌, ◌==◌, ◌||◌, ◌&&◌, not, arith, eqb, append-nil}
+use Rattle.std.proofs.Common.{◌≡◌, ◌≤◌, ◌<◌, inl, inr, ℕ, List, [], ◌∷◌, ◌++◌, Option, Some, None, Bool, true, false, refl, sym, subst, ap, ◌∙◌, if◌then◌else◌, ◌==◌, ◌&&◌, arith, eqb, append-nil}
 use Rattle.std.proofs.lemmas.Bool.{eqb-true}
-use Rattle.std.proofs.lemmas.Bool.Decides.{nat_tests}
-use Rattle.std.specs.Prelude.{is_some}
 use Rattle.gx_ids.specs.declared.ids.Cid.{Cid}
-use Rattle.gx_ids.specs.declared.ids.Gxid.{Gxid}
 use Rattle.gx_ids.specs.declared.ids.Node.{Node}
 use Rattle.gx_ids.specs.declared.ids.SessionId.{SessionId}
 use Rattle.gx_tree.specs.declared.part.Part.{Part}
 use Rattle.gx_dtx.specs.Nodes.{has, without}
 use Rattle.gx_dtx.specs.Rules.{Turn, ends, on_abort, on_reply, with_ended}
-use Rattle.gx_dtx.specs.Table.{Table, find_txn}
+use Rattle.gx_dtx.specs.Table.{find_txn}
 use Rattle.gx_dtx.specs.declared.outcome.Outcome.{Outcome}
 use Rattle.gx_dtx.specs.declared.outcome.Outcome.TheVariants as outcome
-use Rattle.gx_dtx.specs.declared.txn.Txn.{Txn}
 use Rattle.gx_msg.specs.declared.message.Message.{Message}
 use Rattle.gx_msg.specs.declared.message.Message.TheVariants as message
-use Rattle.gx_msg.specs.declared.message.Out.{Out}
 use Rattle.gx_msg.specs.declared.reply.Cause.{Cause}
 use Rattle.gx_msg.specs.declared.reply.Reply.{Reply}
 use Rattle.gx_msg.specs.declared.reply.Reply.TheVariants as reply
 use Rattle.gx_script.specs.declared.Script.{Script}
-use Rattle.gx_session.specs.Session.{after_done, after_refused, block_after_done, block_after_refusal}
+use Rattle.gx_session.specs.Session.{block_after_done, block_after_refusal}
 use Rattle.gx_session.specs.declared.state.Block.{Block}
 use Rattle.gx_session.specs.declared.state.Block.TheVariants.{Outside, Open, Failed}
 use Rattle.gx_session.specs.declared.state.Pending.{Pending}
-use Rattle.gx_session.specs.declared.state.Pending.TheVariants as pending
 use Rattle.gx_store.specs.declared.mark.Mark.{Mark}
 use Rattle.gx_store.specs.declared.mark.Mark.TheVariants as mark
 use Rattle.gx_store.specs.declared.node.NodeEvent.{NodeEvent}
@@ -33,21 +27,21 @@ use Rattle.gx_store.specs.declared.node.NodeEvent.TheVariants as event
 use Rattle.gx_store.specs.Marks.{is_aborted}
 use Rattle.gx_store.specs.Refusals.{the_coordinator}
 use Rattle.gx_rules.specs.AtCoordinator.{answers, awaited, commits, completes, coord_can, is_idle, is_nothing, failure_marks, follows, goes_on, is_awaited, is_refused, next_line, on_answer, on_done, on_event, on_failed, on_message, on_status, reason_of, resends, takes_done, with_done, writers_with}
-use Rattle.gx_rules.specs.Coordinators.{Command, Coord, CoordTurn, Session, Work, rests, session_of, with_work, work_of}
+use Rattle.gx_rules.specs.Coordinators.{Command, Coord, Session, Work, rests, session_of, with_work, work_of}
 use Rattle.gx_rules.specs.Fits.{fits_part}
 use Rattle.gx_rules.specs.Maps.{with_at}
 use Rattle.gx_rules.specs.Snapshots.{latest_number}
-use Rattle.gx_laws.proofs.Closings.{answers-good, commits-good, past-same, refuses-good}
+use Rattle.gx_laws.proofs.Closings.{answers-good, commits-good, refuses-good}
 use Rattle.gx_laws.proofs.Commands.{same-finds}
-use Rattle.gx_laws.proofs.Ends.{AtOne, at-falls, at-runs, at-same, greater-facts, past-at}
-use Rattle.gx_laws.proofs.Lines.{end-good, past-still, rest-good, start-good}
+use Rattle.gx_laws.proofs.Ends.{at-falls, at-same, greater-facts, past-at}
+use Rattle.gx_laws.proofs.Lines.{end-good, rest-good, start-good}
 use Rattle.gx_laws.proofs.Lists.{Each}
 use Rattle.gx_laws.proofs.Past.{Past, Still, running-drawn, still-committed}
-use Rattle.gx_laws.proofs.Sessions.{IsQuiet, Kept, Placed, Tied, is_closing_in, is_live_in, is_nothing_in, is_open_in, is_said, is_working_in, kept-quiet, stage_of}
-use Rattle.gx_laws.proofs.Stages.{IsWhole, gx}
+use Rattle.gx_laws.proofs.Sessions.{IsQuiet, Kept, Tied, is_closing_in, is_live_in, is_nothing_in, is_open_in, is_said, is_working_in, kept-quiet, stage_of}
+use Rattle.gx_laws.proofs.Stages.{gx}
 use Rattle.gx_laws.proofs.Statuses.{Moves, Stage, Turned, is_running, reply-turns, stage}
-use Rattle.gx_laws.proofs.Statuses.Stage.{Absent, Live, Closing, Finished, Dropped}
-use Rattle.gx_laws.proofs.Turns.{Base, Good, base-kept, closed-good, refused-good, self-test, work-is}
+use Rattle.gx_laws.proofs.Statuses.Stage.{Absent, Live, Closing, Dropped}
+use Rattle.gx_laws.proofs.Turns.{Base, Good, base-kept, closed-good, refused-good, self-test}
 
 closing-closed : (b : Block) (p : Pending) → is_closing_in b p ≡ true → is_open_in (block_after_done b p) ≡ false
 closing-closed b p e = grind arith
@@ -83,15 +77,29 @@ module _ (c : Coord) (before : List Mark) (k : Kept c) (p : Past c before) (g : 
   base-work : (w : Work) (said : Stage) → w.session ≡ (c.works g).session → stage_of c g ≡ said → its.transaction.0 ≡ g → Base c (with_work c (gx g) w) g home w its said
   base-work w said e st mine =
       record {
-        whole1 = k.whole; now1 = find_txn c.table (gx g); stage1 = st; finds1 = same-finds c.table g; works1 = λ j. refl; sessions1 = same-sessions;
-        kind = inl (mine, refl); same_txn = mine; home1 = ap (λ (q : SessionId). q.0) e;
+        whole1 = k.whole;
+        now1 = find_txn c.table (gx g);
+        stage1 = st;
+        finds1 = same-finds c.table g;
+        works1 = λ j. refl;
+        sessions1 = same-sessions;
+        kind = inl (mine, refl);
+        same_txn = mine;
+        home1 = ap (λ (q : SessionId). q.0) e;
       }
 
   base-itself : (said : Stage) → stage_of c g ≡ said → its.transaction.0 ≡ g → Base c c g home (c.works g) its said
   base-itself said st mine =
       record {
-        whole1 = k.whole; now1 = find_txn c.table (gx g); stage1 = st; finds1 = same-finds c.table g; works1 = same-own; sessions1 = same-sessions;
-        kind = inl (mine, refl); same_txn = mine; home1 = refl;
+        whole1 = k.whole;
+        now1 = find_txn c.table (gx g);
+        stage1 = st;
+        finds1 = same-finds c.table g;
+        works1 = same-own;
+        sessions1 = same-sessions;
+        kind = inl (mine, refl);
+        same_txn = mine;
+        home1 = refl;
       }
 
   past-work : (w : Work) → Past (with_work c (gx g) w) before
@@ -119,24 +127,29 @@ module _ (c : Coord) (before : List Mark) (k : Kept c) (p : Past c before) (g : 
       where
         w : Work
         w = record (c.works g) { writers = writers_with wrote i (c.works g).writers; command = Some (with_done m i count part) }
+
         c1 : Coord
         c1 = with_work c (gx g) w
+
         b : Base c c1 g home w its Live
         b = base-work w Live refl runs-it.0 is-its.0
+
         work-now : c1.works g ≡ w
         work-now = ap (λ q. if q then w else c.works g) (self-test g)
+
         goes : (left : List Node) → without i m.awaited ≡ left → (x : Node) (xs : List Node) → left ≡ x ∷ xs → Good before (rests c1)
         goes left e x xs f =
             rest-good c1 before
             (base-kept c c1 g home w its Live k b c1 (find_txn c.table (gx g)) w its k.whole (same-finds c.table g) (λ j. same-one j (eqb j g) refl) same-sessions
-              (λ z q. subst (λ y. Tied (stage_of c g) g w y) (sym (q ∙ ap (λ t. if t then its else c.sessions home) (self-test home)))
-                (record { live = (k.tied g).live; closing = (k.tied g).closing; awaits = λ r h n. runs-it }))
-              is-its.0 (record { stands = λ o. (inl runs-it.0, refl); free = λ o n. runs-it.0 }))
+            (λ z q. subst (λ y. Tied (stage_of c g) g w y) (sym (q ∙ ap (λ t. if t then its else c.sessions home) (self-test home)))
+            (record { live = (k.tied g).live; closing = (k.tied g).closing; awaits = λ r h n. runs-it }))
+            is-its.0 (record { stands = λ o. (inl runs-it.0, refl); free = λ o n. runs-it.0 }))
             (past-work w)
           where
             same-one : (j : ℕ) (q : Bool) → eqb j g ≡ q → (if q then w else c.works j) ≡ (if q then w else (if q then w else c.works j))
             same-one j true q = refl
             same-one j false q = refl
+
         alone : is_open_in its.state.block ≡ false → without i m.awaited ≡ [] → Good before (commits c1 (gx g))
         alone closed e =
             commits-good c c1 g home w its Live k b before (past-work w) refl (alone-closing its.state.block its.state.pending closed is-its.1) (λ r h n. n (same-command r h ∙ e))
@@ -146,8 +159,10 @@ module _ (c : Coord) (before : List Mark) (k : Kept c) (p : Past c before) (g : 
               where
                 some-same : (a b : Command) → Some a ≡ Some b → a ≡ b
                 some-same a b e = (cc)
+
         inside : is_open_in its.state.block ≡ true → Good before (answers c1 (gx g) (work_of c1 (gx g)))
         inside opened = answers-good c c1 g home w its Live k b before (past-work w) refl opened runs-it.1 (c1.works g) (ap (λ (q : Work). q.session.0) work-now) refl
+
         by_block : (x : Block) → its.state.block ≡ x → without i m.awaited ≡ [] → Good before (completes c1 (gx g) x)
         by_block Outside e f = alone (ap is_open_in e) f
         by_block (Open level) e f = inside (ap is_open_in e)
@@ -155,6 +170,7 @@ module _ (c : Coord) (before : List Mark) (k : Kept c) (p : Past c before) (g : 
           where
             not-failed : (b : Block) (q : Pending) → b ≡ Failed → is_live_in b q ≡ true → ⊥
             not-failed b q e f = grind arith
+
         by_left : (left : List Node) → without i m.awaited ≡ left → Good before (goes_on c1 (gx g) left)
         by_left [] e = by_block _ (ap (λ (q : Work). (c.sessions q.session.0).state.block) (sym work-now)) e
         by_left (x ∷ xs) e = goes (x ∷ xs) e x xs refl
@@ -279,6 +295,7 @@ module _ (script : Script) (c : Coord) (before : List Mark) (k : Kept c) (p : Pa
     where
       left : (a b : Bool) → (a && b) ≡ true → a ≡ true
       left a b e = grind arith
+
       by_pending : (q : Pending) → is_nothing q ≡ true → is_nothing_in q ≡ true
       by_pending q e = grind arith
 

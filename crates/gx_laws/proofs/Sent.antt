@@ -1,5 +1,5 @@
 -- How many messages were sent, and how they are numbered.
-use Rattle.std.proofs.Common.{◌≡◌, ℕ, suc, ◌+◌, List, [], ◌∷◌, ◌++◌, Bool, true, false, refl, sym, subst, ap, ◌∙◌, if◌then◌else◌, ◌==◌, arith, append-nil}
+use Rattle.std.proofs.Common.{◌≡◌, ℕ, suc, ◌+◌, List, [], ◌∷◌, ◌++◌, refl, sym, subst, ap, ◌∙◌, if◌then◌else◌, arith, append-nil}
 use Rattle.std.proofs.lemmas.Bool.Decides.{nat_tests}
 use Rattle.std.proofs.lemmas.List.{append_assoc}
 use Rattle.std.specs.Prelude.{length}
@@ -42,10 +42,11 @@ counted-is f o number i a b earlier h k = grind (arith, nat_tests, sent_count-ap
 
 pub numbered-ok : (node : Node) (steps : List Step) (Q : ℕ → Type 0) (outs : List Out) (f : ℕ → ℕ) (earlier : List Mark) → ((i : ℕ) → Q i → f i ≡ sent_in node (at i) steps + sent_count (at i) earlier) → Each (λ o. Q o.node.0) outs → AreNumbered node steps earlier (numbered f outs)
 numbered-ok node steps Q [] f earlier h e = tt
-numbered-ok node steps Q (o ∷ outs) f earlier h e =
-    (ap (λ x. x + 1) (h o.node.0 e.0),
-      numbered-ok node steps Q outs (counted f o) (earlier ++ Sent o.node (f o.node.0 + 1) o.message ∷ [])
-      (λ i q. counted-is f o (f o.node.0 + 1) i (sent_in node (at i) steps) 0 earlier (λ same. subst (λ j. f j ≡ sent_in node (at i) steps + sent_count (at i) earlier) same (h i q)) (h i q)) e.1)
+numbered-ok node steps Q (o ∷ outs) f earlier h e = (
+  ap (λ x. x + 1) (h o.node.0 e.0),
+  numbered-ok node steps Q outs (counted f o) (earlier ++ Sent o.node (f o.node.0 + 1) o.message ∷ [])
+      (λ i q. counted-is f o (f o.node.0 + 1) i (sent_in node (at i) steps) 0 earlier (λ same. subst (λ j. f j ≡ sent_in node (at i) steps + sent_count (at i) earlier) same (h i q)) (h i q)) e.1,
+)
 
 pub counted-all : (f : ℕ → ℕ) (outs : List Out) (i : ℕ) → counted_all f outs i ≡ f i + sent_count (at i) (numbered f outs)
 counted-all f [] i = grind arith
@@ -57,6 +58,7 @@ all-counted f (o ∷ outs) e = one o (f o.node.0 + 1) (numbered (counted f o) ou
   where
     next : (k : ℕ) → k + 1 ≡ suc k
     next k = omega arith
+
     one : (o : Out) (number : ℕ) (ms : List Mark) → o.node ≡ the_coordinator → sent_count the_coordinator (Sent o.node number o.message ∷ ms) ≡ sent_count the_coordinator ms + 1
     one o number ms h = subst (λ x. sent_count the_coordinator (Sent x number o.message ∷ ms) ≡ sent_count the_coordinator ms + 1) (sym h) refl
 

@@ -1,20 +1,19 @@
 -- What ties a transaction, what the coordinator knows of it, and its session.
-use Rattle.std.proofs.Common.{◌≡◌, ◌≤◌, ◌<◌, ◌⊎◌, inl, inr, ℕ, ◌+◌, List, [], ◌∷◌, ◌++◌, Option, Some, None, Bool, true, false, refl, sym, subst, ap, ◌∙◌, if◌then◌else◌, ◌==◌, arith, eqb}
+use Rattle.std.proofs.Common.{◌≡◌, ◌⊎◌, inl, inr, ℕ, [], Option, Some, None, Bool, true, false, refl, sym, subst, ap, ◌∙◌, if◌then◌else◌, arith, eqb}
 use Rattle.std.proofs.lemmas.Bool.{eqb-true}
 use Rattle.std.proofs.lemmas.Bool.Decides.{nat_tests}
 use Rattle.gx_ids.specs.declared.ids.Gxid.{Gxid}
 use Rattle.gx_session.specs.declared.state.Block.{Block}
-use Rattle.gx_session.specs.declared.state.Block.TheVariants.{Outside, Open, Failed}
+use Rattle.gx_session.specs.declared.state.Block.TheVariants.{Outside, Open}
 use Rattle.gx_session.specs.declared.state.Pending.{Pending}
 use Rattle.gx_session.specs.declared.state.Pending.TheVariants as pending
-use Rattle.gx_session.specs.declared.state.SessionState.{SessionState}
-use Rattle.gx_dtx.specs.Table.{Table, find_txn}
+use Rattle.gx_dtx.specs.Table.{find_txn}
 use Rattle.gx_dtx.specs.declared.txn.Txn.{Txn}
-use Rattle.gx_rules.specs.Coordinators.{Command, Coord, Session, Work, no_work}
+use Rattle.gx_rules.specs.Coordinators.{Command, Coord, Session, Work}
 use Rattle.gx_rules.specs.Maps.{with_at}
 use Rattle.gx_laws.proofs.Stages.{IsWhole, gx}
 use Rattle.gx_laws.proofs.Statuses.{Stage, stage}
-use Rattle.gx_laws.proofs.Statuses.Stage.{Absent, Live, Closing, Finished, Dropped}
+use Rattle.gx_laws.proofs.Statuses.Stage.{Absent, Live, Closing}
 
 -- where a session stands
 abbrev pub is_open_in : Block → Bool
@@ -87,6 +86,7 @@ idle-tied a h w x y t e f =
       where
         differ : is_live_in Outside pending.Nothing ≡ true → ⊥
         differ q = grind arith
+
     not-closing : is_closing_in x.state.block x.state.pending ≡ true → ⊥
     not-closing q = differ (subst (λ b. is_closing_in b pending.Nothing ≡ true) e (subst (λ p. is_closing_in x.state.block p ≡ true) f q))
       where
@@ -122,6 +122,7 @@ module _ (c d : Coord) (g s : ℕ) (now : Option Txn) (w : Work) (x : Session) (
       stage-if : (b : Bool) (t u : Option Txn) → stage (if b then t else u) ≡ (if b then stage t else stage u)
       stage-if true t u = refl
       stage-if false t u = refl
+
       by_test : (b : Bool) → eqb j s ≡ b → Placed j (if b then x else c.sessions j) (if eqb (if b then x else c.sessions j).transaction.0 g then stage now else stage_of c (if b then x else c.sessions j).transaction.0) (if eqb (if b then x else c.sessions j).transaction.0 g then w else c.works (if b then x else c.sessions j).transaction.0)
       by_test true e = subst (λ q. Placed q x (if eqb x.transaction.0 g then stage now else stage_of c x.transaction.0) (if eqb x.transaction.0 g then w else c.works x.transaction.0)) (sym (eqb-true j s e)) new
       by_test false e = old j e
@@ -133,20 +134,23 @@ module _ (c d : Coord) (g s : ℕ) (now : Option Txn) (w : Work) (x : Session) (
         whole = ch.whole;
         tied = tied-here new (λ h e. others h e (eqb (c.works h).session.0 s) refl);
         placed = placed-here (subst (λ b. Placed s x (if b then stage now else stage_of c x.transaction.0) (if b then w else c.works x.transaction.0)) (sym (is-same x.transaction.0 g same_txn)) newp)
-          (λ j e. elsewhere j e (eqb (c.sessions j).transaction.0 g) refl);
+            (λ j e. elsewhere j e (eqb (c.sessions j).transaction.0 g) refl);
       }
     where
       is-same : (a b : ℕ) → a ≡ b → eqb a b ≡ true
       is-same a b e = grind (arith, nat_tests)
+
       others : (h : ℕ) → eqb h g ≡ false → (b : Bool) → eqb (c.works h).session.0 s ≡ b → Tied (stage_of c h) h (c.works h) (if b then x else c.sessions (c.works h).session.0)
       others h e true q = other-tied (stage_of c h) h g (c.works h) (c.sessions (c.works h).session.0) x (k.tied h) (ap (λ i. (c.sessions i).transaction.0) (eqb-true (c.works h).session.0 s q) ∙ mine) e
       others h e false q = k.tied h
+
       elsewhere : (j : ℕ) → eqb j s ≡ false → (b : Bool) → eqb (c.sessions j).transaction.0 g ≡ b → Placed j (c.sessions j) (if b then stage now else stage_of c (c.sessions j).transaction.0) (if b then w else c.works (c.sessions j).transaction.0)
       elsewhere j e true q =
           record { stands = λ o. absurd (clash o); free = λ o n. absurd (clash o) }
         where
           two : (j s : ℕ) → j ≡ s → eqb j s ≡ false → ⊥
           two j s q n = grind (arith, nat_tests)
+
           clash : is_open_in (c.sessions j).state.block ≡ true → ⊥
           clash o = two j s (sym ((k.placed j).stands o).1 ∙ ap (λ i. (c.works i).session.0) (eqb-true (c.sessions j).transaction.0 g q) ∙ home) e
       elsewhere j e false q = k.placed j
@@ -158,19 +162,22 @@ module _ (c d : Coord) (g s : ℕ) (now : Option Txn) (w : Work) (x : Session) (
         whole = ch.whole;
         tied = tied-here new (λ h e. others h (eqb (c.works h).session.0 s) refl);
         placed = placed-here (subst (λ b. Placed s x (if b then stage now else stage_of c x.transaction.0) (if b then w else c.works x.transaction.0)) (sym (is-same x.transaction.0 g same_txn)) newp)
-          (λ j e. elsewhere j (eqb (c.sessions j).transaction.0 g) refl);
+            (λ j e. elsewhere j (eqb (c.sessions j).transaction.0 g) refl);
       }
     where
       is-same : (a b : ℕ) → a ≡ b → eqb a b ≡ true
       is-same a b e = grind (arith, nat_tests)
+
       others : (h : ℕ) (b : Bool) → eqb (c.works h).session.0 s ≡ b → Tied (stage_of c h) h (c.works h) (if b then x else c.sessions (c.works h).session.0)
       others h true q = idle-tied (stage_of c h) h (c.works h) (c.sessions (c.works h).session.0) x (k.tied h) (ap (λ i. (c.sessions i).state.block) (eqb-true (c.works h).session.0 s q) ∙ outside) (ap (λ i. (c.sessions i).state.pending) (eqb-true (c.works h).session.0 s q) ∙ idle)
       others h false q = k.tied h
+
       elsewhere : (j : ℕ) (b : Bool) → eqb (c.sessions j).transaction.0 g ≡ b → Placed j (c.sessions j) (if b then stage now else stage_of c (c.sessions j).transaction.0) (if b then w else c.works (c.sessions j).transaction.0)
       elsewhere j true q = record { stands = λ o. absurd (clash ((k.placed j).stands o).0); free = λ o n. absurd (clash ((k.placed j).stands o).0) }
         where
           gone : stage_of c (c.sessions j).transaction.0 ≡ Absent
           gone = ap (stage_of c) (eqb-true (c.sessions j).transaction.0 g q) ∙ ap stage fresh
+
           clash : (stage_of c (c.sessions j).transaction.0 ≡ Live) ⊎ (stage_of c (c.sessions j).transaction.0 ≡ Closing) → ⊥
           clash (inl l) = differ (sym gone ∙ l)
             where
@@ -199,6 +206,7 @@ quiet-tied a b g w x (inr n) t =
   where
     no-live : (a : Stage) → is_said a ≡ false → a ≡ Live → ⊥
     no-live a e l = grind arith
+
     no-closing : (a : Stage) → is_said a ≡ false → a ≡ Closing → ⊥
     no-closing a e l = grind arith
 
@@ -222,7 +230,7 @@ kept-quiet c d k whole q works sessions =
       whole = whole;
       tied = λ g. tied-by _ _ g _ _ _ _ refl (works g) (ap (λ (v : Work). d.sessions v.session.0) (works g) ∙ sessions _) (quiet-tied (stage_of c g) (stage_of d g) g (c.works g) (c.sessions (c.works g).session.0) (q g) (k.tied g));
       placed = λ s. placed-by s _ _ _ _ _ _ (sessions s) (ap (λ (y : Session). stage_of d y.transaction.0) (sessions s)) (ap (λ (y : Session). d.works y.transaction.0) (sessions s) ∙ works _)
-        (quiet-placed s (c.sessions s) (stage_of c (c.sessions s).transaction.0) (stage_of d (c.sessions s).transaction.0) (c.works (c.sessions s).transaction.0) (q (c.sessions s).transaction.0) (k.placed s));
+          (quiet-placed s (c.sessions s) (stage_of c (c.sessions s).transaction.0) (stage_of d (c.sessions s).transaction.0) (c.works (c.sessions s).transaction.0) (q (c.sessions s).transaction.0) (k.placed s));
     }
 
 -- A CHANGE OF AN IDLE SESSION ALONE
@@ -236,8 +244,10 @@ idle-same a g w x y e n m o t =
   where
     live-too : (b d : Block) (p q : Pending) → is_nothing_in p ≡ true → is_nothing_in q ≡ true → is_open_in d ≡ is_open_in b → is_live_in b p ≡ true → is_live_in d q ≡ true
     live-too b d p q n m o l = grind arith
+
     no-closing : (b : Block) (p : Pending) → is_nothing_in p ≡ true → is_closing_in b p ≡ true → ⊥
     no-closing b p n l = grind arith
+
     no-work : (p : Pending) → is_nothing_in p ≡ true → is_working_in p ≡ true → ⊥
     no-work p n l = grind arith
 
@@ -253,10 +263,12 @@ kept-idle c s x k e n m o =
     by_test g true q =
         idle-same (stage_of c g) g (c.works g) (c.sessions s) x e n m o (subst (λ i. Tied (stage_of c g) g (c.works g) (c.sessions i)) (eqb-true (c.works g).session.0 s q) (k.tied g))
     by_test g false q = k.tied g
+
     here : Placed s x (stage_of c x.transaction.0) (c.works x.transaction.0)
     here =
         subst (λ (y : Gxid). Placed s x (stage_of c y.0) (c.works y.0)) (sym e)
         (record { stands = λ p. (k.placed s).stands (sym o ∙ p); free = λ p i. (k.placed s).free (sym o ∙ p) n })
+
     placed_test : (j : ℕ) (b : Bool) → eqb j s ≡ b → Placed j (if b then x else c.sessions j) (stage_of c (if b then x else c.sessions j).transaction.0) (c.works (if b then x else c.sessions j).transaction.0)
     placed_test j true q = subst (λ i. Placed i x (stage_of c x.transaction.0) (c.works x.transaction.0)) (sym (eqb-true j s q)) here
     placed_test j false q = k.placed j

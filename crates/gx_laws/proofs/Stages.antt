@@ -1,5 +1,5 @@
 -- What the coordinator's calls make of a transaction's status, for every gxid.
-use Rattle.std.proofs.Common.{◌≡◌, ◌≤◌, ◌<◌, ◌⊎◌, inl, inr, ℕ, ◌+◌, List, [], ◌∷◌, ◌++◌, Option, Some, None, Bool, true, false, refl, sym, subst, ap, ◌∙◌, cond, if◌then◌else◌, ◌==◌, arith, eqb, ltb}
+use Rattle.std.proofs.Common.{◌≡◌, ◌≤◌, ◌<◌, ℕ, List, [], ◌∷◌, ◌++◌, Option, Some, None, Bool, true, false, refl, sym, subst, ap, ◌∙◌, cond, if◌then◌else◌, arith, eqb, ltb}
 use Rattle.std.proofs.lemmas.Bool.{eqb-true, ltb-true}
 use Rattle.std.proofs.lemmas.Bool.Decides.{nat_tests}
 use Rattle.std.specs.Prelude.{option_map}
@@ -9,18 +9,14 @@ use Rattle.std.specs.Map.{lookup, remove_entry, set_value}
 use Rattle.std.specs.Ordering.{is_eq, nat_cmp}
 use Rattle.std.specs.declared.cmp.Ordering.TheVariants.{Less, Equal, Greater}
 use Rattle.gx_ids.specs.declared.ids.Gxid.{Gxid}
-use Rattle.gx_ids.specs.declared.ids.Node.{Node}
 use Rattle.gx_dsnap.specs.Gxids.{gxid_cmp}
-use Rattle.gx_dtx.specs.Nodes.{without}
 use Rattle.gx_dtx.specs.Rules.{Turn, begun, changed, enlisted, with_found, with_live, with_step, with_txn}
-use Rattle.gx_dtx.specs.Table.{Table, find_txn, new_txn, runs}
+use Rattle.gx_dtx.specs.Table.{Table, find_txn}
 use Rattle.gx_dtx.specs.declared.change.Change.{Change}
 use Rattle.gx_dtx.specs.declared.change.Step.{Step}
 use Rattle.gx_dtx.specs.declared.change.Step.TheVariants.{GoesTo, Leaves, Stays}
-use Rattle.gx_dtx.specs.declared.phase.Phase.{Phase}
-use Rattle.gx_dtx.specs.declared.phase.Phase.TheVariants.{Active, Preparing, CommittingOne, CommittingTwo, Ended, Aborting}
 use Rattle.gx_dtx.specs.declared.txn.Txn.{Txn}
-use Rattle.gx_laws.proofs.Lists.{Each, each_append}
+use Rattle.gx_laws.proofs.Lists.{Each}
 
 abbrev pub gx : ℕ → Gxid
 gx h = record { 0 = h }
@@ -34,6 +30,7 @@ is_eq-apart a b e = by_order (ltb a b) refl
   where
     above : (a b : ℕ) → eqb a b ≡ false → ltb a b ≡ false → b < a
     above a b e h = grind (arith, nat_tests)
+
     by_order : (t : Bool) → ltb a b ≡ t → is_eq (nat_cmp a b) ≡ false
     by_order true h = ap is_eq (sym (nat_cmp_is a b Less (ltb-true a b h)))
     by_order false h = ap is_eq (sym (nat_cmp_is a b Greater (above a b e h)))
@@ -111,6 +108,7 @@ remove-at g h (x ∷ xs) e = ap (at_gxid h) (remove-first g x xs) ∙ by_test (e
         by_same : (b : Bool) → eqb k g ≡ b → at_gxid k xs ≡ (if b then None else at_gxid k xs)
         by_same true q = subst (λ y. at_gxid y xs ≡ None) (sym (eqb-true k g q ∙ eqb-true g x.0.0 s)) (none-at x.0.0 xs e.0)
         by_same false q = refl
+
     by_test : (b : Bool) → eqb g x.0.0 ≡ b → at_gxid h (remove_entry (is_at (gxid_cmp (gx g))) xs) ≡ (if eqb h g then None else at_gxid h xs) → at_gxid h (if b then xs else x ∷ remove_entry (is_at (gxid_cmp (gx g))) xs) ≡ (if eqb h g then None else at_gxid h (x ∷ xs))
     by_test true k f = none-here h k ∙ same h g x.0.0 k ∙ ap (λ o. if eqb h g then None else o) (sym (first-at h x xs))
       where
@@ -203,6 +201,7 @@ changed-at d g c w = by_step c.step
     same_at : (h : ℕ) (b : Bool) → eqb h g ≡ b → find_txn d (gx h) ≡ (if b then find_txn d (gx g) else find_txn d (gx h))
     same_at h true k = ap (λ y. find_txn d (gx y)) (eqb-true h g k)
     same_at h false k = refl
+
     by_step : (s : Step) → At d (record (changed d (gx g) c) { txns = with_step d.txns (gx g) s }) g (left_of s (find_txn d (gx g)))
     by_step Stays = record { whole = record { first = w.first; apart = w.apart; drawn = w.drawn }; next = refl; finds = λ h. same_at h (eqb h g) refl }
     by_step (GoesTo p) = let x = txn-at d g (Rattle.gx_dtx.specs.Rules.moved p) w in record { whole = record { first = x.whole.first; apart = x.whole.apart; drawn = x.whole.drawn }; next = refl; finds = x.finds }

@@ -1,13 +1,10 @@
 -- The stages of a transaction at the coordinator, and how a call moves it.
-use Rattle.std.proofs.Common.{◌≡◌, ◌≤◌, ◌<◌, ◌⊎◌, inl, inr, ℕ, ◌+◌, List, [], ◌∷◌, ◌++◌, Option, Some, None, Bool, true, false, refl, sym, subst, ap, ◌∙◌, if◌then◌else◌, ◌==◌, arith, eqb}
-use Rattle.std.proofs.lemmas.Bool.Decides.{nat_tests}
-use Rattle.std.specs.Prelude.{option_map}
+use Rattle.std.proofs.Common.{◌≡◌, ◌⊎◌, inl, inr, ℕ, List, [], ◌∷◌, Option, Some, None, Bool, true, false, refl, sym, subst, ap, if◌then◌else◌}
 use Rattle.gx_ids.specs.declared.ids.Gxid.{Gxid}
 use Rattle.gx_ids.specs.declared.ids.Node.{Node}
 use Rattle.gx_dtx.specs.Nodes.{without}
-use Rattle.gx_dtx.specs.Rules.{Turn, abort_found, aborts, commit_found, commits, decides, ends, ends_committed, finishes, forgets, gives_up, is_awaited, moved, on_abort, on_commit, on_reply, prepares, refuses, reply_found, stays, takes, with_ended}
+use Rattle.gx_dtx.specs.Rules.{Turn, abort_found, aborts, commit_found, commits, decides, ends, ends_committed, finishes, forgets, gives_up, is_awaited, on_abort, on_commit, on_reply, prepares, reply_found, stays, takes, with_ended}
 use Rattle.gx_dtx.specs.Table.{Table, find_txn, runs}
-use Rattle.gx_dtx.specs.declared.change.Change.{Change}
 use Rattle.gx_dtx.specs.declared.outcome.Outcome.{Outcome}
 use Rattle.gx_dtx.specs.declared.outcome.Outcome.TheVariants as outcome
 use Rattle.gx_dtx.specs.declared.phase.Phase.{Phase}

@@ -1,37 +1,32 @@
 -- What the coordinator's turns make of sessions, stages and marks.
-use Rattle.std.proofs.Common.{◌≡◌, ◌≤◌, ◌<◌, ◌⊎◌, inl, inr, ℕ, ◌+◌, List, [], ◌∷◌, ◌++◌, Option, Some, None, Bool, true, false, refl, sym, subst, ap, ◌∙◌, if◌then◌else◌, ◌==◌, ◌||◌, arith, eqb}
+use Rattle.std.proofs.Common.{◌≡◌, ◌≤◌, ◌<◌, ◌⊎◌, inl, inr, ℕ, List, [], ◌∷◌, ◌++◌, Option, None, Bool, true, false, refl, sym, subst, ap, ◌∙◌, if◌then◌else◌, ◌||◌, arith, eqb}
 use Rattle.std.proofs.lemmas.Bool.{eqb-true}
 use Rattle.std.proofs.lemmas.Bool.Decides.{nat_tests}
 use Rattle.gx_ids.specs.declared.ids.Gxid.{Gxid}
-use Rattle.gx_ids.specs.declared.ids.Node.{Node}
-use Rattle.gx_ids.specs.declared.ids.SessionId.{SessionId}
-use Rattle.gx_dtx.specs.Rules.{Turn, ends, on_abort, on_commit, with_ended}
+use Rattle.gx_dtx.specs.Rules.{Turn, ends, with_ended}
 use Rattle.gx_dtx.specs.Table.{Table, find_txn}
 use Rattle.gx_dtx.specs.declared.outcome.Outcome.{Outcome}
 use Rattle.gx_dtx.specs.declared.outcome.Outcome.TheVariants as outcome
 use Rattle.gx_dtx.specs.declared.txn.Txn.{Txn}
 use Rattle.gx_session.specs.Session.{after_done, after_refused}
-use Rattle.gx_session.specs.declared.state.Block.{Block}
-use Rattle.gx_session.specs.declared.state.Block.TheVariants.{Outside, Open, Failed}
-use Rattle.gx_session.specs.declared.state.Pending.{Pending}
+use Rattle.gx_session.specs.declared.state.Block.TheVariants.{Outside}
 use Rattle.gx_session.specs.declared.state.Pending.TheVariants as pending
-use Rattle.gx_session.specs.declared.state.SessionState.{SessionState}
 use Rattle.gx_store.specs.declared.answer.Refused.{Refused}
 use Rattle.gx_store.specs.declared.answer.StmtAnswer.TheVariants as told
 use Rattle.gx_store.specs.declared.mark.Mark.{Mark}
 use Rattle.gx_store.specs.declared.mark.Mark.TheVariants as mark
 use Rattle.gx_store.specs.Marks.{is_aborted, is_committed}
-use Rattle.gx_rules.specs.AtCoordinator.{answer_at_commit, answer_mark, commits, follows, is_committed as is_closed, is_refused, rolls_back}
-use Rattle.gx_rules.specs.Coordinators.{Command, Coord, CoordTurn, Session, Work, no_work, session_of, work_of}
+use Rattle.gx_rules.specs.AtCoordinator.{answer_at_commit, answer_mark, is_committed as is_closed, is_refused, rolls_back}
+use Rattle.gx_rules.specs.Coordinators.{Coord, CoordTurn, Session, Work, no_work, session_of, work_of}
 use Rattle.gx_rules.specs.Maps.{with_at}
 use Rattle.gx_rules.specs.Snapshots.{latest_number}
 use Rattle.gx_laws.specs.Seen.{AreEndedSeen}
 use Rattle.gx_laws.proofs.Ends.{AtOne, at-commits, at-falls, at-runs, greater-facts, past-at}
 use Rattle.gx_laws.proofs.Lists.{Each}
-use Rattle.gx_laws.proofs.Past.{Past, Still, aborted-append, committed-append, running-drawn, seen-append, still-aborted, still-committed, still-seen}
-use Rattle.gx_laws.proofs.Sessions.{Change, Kept, Placed, Tied, is_closing_in, is_nothing_in, is_open_in, is_said, kept-new, kept-own, stage_of}
+use Rattle.gx_laws.proofs.Past.{Past, Still, aborted-append, committed-append, running-drawn, seen-append, still-committed, still-seen}
+use Rattle.gx_laws.proofs.Sessions.{Change, Kept, Placed, Tied, is_open_in, is_said, kept-new, kept-own, stage_of}
 use Rattle.gx_laws.proofs.Stages.{IsWhole, gx}
-use Rattle.gx_laws.proofs.Statuses.{Closes, Falls, Stage, Turned, abort-turns, commit-turns, is_running, stage}
+use Rattle.gx_laws.proofs.Statuses.{Falls, Stage, Turned, is_running, stage}
 use Rattle.gx_laws.proofs.Statuses.Stage.{Absent, Live, Closing, Finished, Dropped}
 
 -- what an event leaves
@@ -64,6 +59,7 @@ tied-none a g x e = record { live = λ l. absurd (no-live a e l); closing = λ l
   where
     no-live : (a : Stage) → is_said a ≡ false → a ≡ Live → ⊥
     no-live a e l = grind arith
+
     no-closing : (a : Stage) → is_said a ≡ false → a ≡ Closing → ⊥
     no-closing a e l = grind arith
 
@@ -118,11 +114,12 @@ module _ (c c1 : Coord) (g s : ℕ) (w1 : Work) (y : Session) (said : Stage) (k 
     where
       ch : Change c d g s now w x
       ch = record {
-          whole = whole;
-          finds = λ j. finds j ∙ merged (eqb j g) now b.now1 (find_txn c.table (gx j)) (find_txn c1.table (gx j)) (b.finds1 j);
-          works = λ j. works j ∙ merged (eqb j g) w w1 (c.works j) (c1.works j) (b.works1 j);
-          sessions = λ j. sessions j ∙ merged (eqb j s) x y (c.sessions j) (c1.sessions j) (b.sessions1 j);
-        }
+        whole = whole;
+        finds = λ j. finds j ∙ merged (eqb j g) now b.now1 (find_txn c.table (gx j)) (find_txn c1.table (gx j)) (b.finds1 j);
+        works = λ j. works j ∙ merged (eqb j g) w w1 (c.works j) (c1.works j) (b.works1 j);
+        sessions = λ j. sessions j ∙ merged (eqb j s) x y (c.sessions j) (c1.sessions j) (b.sessions1 j);
+      }
+
       by_kind : (((c.sessions s).transaction.0 ≡ g) × ((c.works g).session.0 ≡ s)) ⊎ ((find_txn c.table (gx g) ≡ None) × ((c.sessions s).state.block ≡ Outside) × ((c.sessions s).state.pending ≡ pending.Nothing)) → Kept d
       by_kind (inl o) = kept-own c d g s now w x k ch o.0 o.1 (tied _ refl) same placed
       by_kind (inr n) = kept-new c d g s now w x k ch n.0 n.1 n.2 (tied _ refl) same placed
@@ -157,19 +154,21 @@ module _ (c c1 : Coord) (g s : ℕ) (w1 : Work) (y : Session) (said : Stage) (k 
         record {
           kept = reset-kept _ t.now (record y { state = after_done y.state }) t.at.whole t.at.finds (λ j. refl) (session-set (λ x. record x { state = after_done x.state })) unsaid b.same_txn closed;
           past = past-at c1 _ before (mark.Commit (gx g) ∷ said_last) g t.now p t.at.next t.at.finds (commit-elsewhere g said_last still) (subst (λ q. latest_number c1.table.latest_ended ≤ latest_number q) (sym t.latest) facts.0)
-            (subst (λ q. latest_number q < c1.table.next.0) (sym t.latest) facts.2)
-            (at-commits c1 before (mark.Commit (gx g) ∷ said_last) p g (stage t.now) _ b.whole1 (ap is_running stage-is ∙ r) stopped (commit-here g said_last) (subst (λ q. g ≤ latest_number q) (sym t.latest) (facts.1 (ap ends o))));
+              (subst (λ q. latest_number q < c1.table.next.0) (sym t.latest) facts.2)
+              (at-commits c1 before (mark.Commit (gx g) ∷ said_last) p g (stage t.now) _ b.whole1 (ap is_running stage-is ∙ r) stopped (commit-here g said_last) (subst (λ q. g ≤ latest_number q) (sym t.latest) (facts.1 (ap ends o))));
           seen = still-seen (before ++ mark.Commit (gx g) ∷ []) said_last still;
         }
       where
         facts : (latest_number c1.table.latest_ended ≤ latest_number (with_ended (ends turn.out.outcome) (gx g) c1.table.latest_ended)) × (ends turn.out.outcome ≡ true → g ≤ latest_number (with_ended (ends turn.out.outcome) (gx g) c1.table.latest_ended)) × (latest_number (with_ended (ends turn.out.outcome) (gx g) c1.table.latest_ended) < c1.table.next.0)
         facts = greater-facts (ends turn.out.outcome) g c1.table.latest_ended c1.table.next.0 p.drawn (λ e. drawn-here r)
+
         unsaid : is_said (stage t.now) ≡ false
         unsaid = by_how how
           where
             by_how : (stage t.now ≡ Finished) ⊎ (stage t.now ≡ Absent) → is_said (stage t.now) ≡ false
             by_how (inl e) = ap is_said e
             by_how (inr e) = ap is_said e
+
         stopped : is_running (stage t.now) ≡ false
         stopped = by_how how
           where

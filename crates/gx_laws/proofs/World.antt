@@ -1,5 +1,5 @@
 -- Over every run of the machine, whoever a snapshot sees has ended, and whoever has committed is seen.
-use Rattle.std.proofs.Common.{◌≡◌, ◌≤◌, ◌<◌, ◌⊎◌, inl, inr, ℕ, ◌+◌, List, [], ◌∷◌, ◌++◌, Option, Some, None, Bool, true, false, refl, sym, subst, ap, ◌∙◌, if◌then◌else◌, ◌==◌, arith, append-nil}
+use Rattle.std.proofs.Common.{◌≡◌, ◌≤◌, ◌<◌, inl, inr, ℕ, List, [], ◌∷◌, ◌++◌, Option, Some, None, Bool, true, false, refl, sym, subst, ap, ◌∙◌, if◌then◌else◌, arith, append-nil}
 use Rattle.std.proofs.lemmas.Bool.Decides.{nat_tests}
 use Rattle.std.proofs.lemmas.List.{append_assoc}
 use Rattle.gx_ids.specs.declared.ids.Node.{Node}
@@ -19,11 +19,11 @@ use Rattle.gx_store.specs.Points.{marks_in}
 use Rattle.gx_store.specs.Refusals.{the_coordinator}
 use Rattle.gx_rules.specs.AtCoordinator.{coord_can, coord_rule, on_event}
 use Rattle.gx_rules.specs.AtSegment.{seg_rule}
-use Rattle.gx_rules.specs.Coordinators.{Coord, CoordTurn, new_coordinator}
+use Rattle.gx_rules.specs.Coordinators.{Coord, CoordTurn}
 use Rattle.gx_rules.specs.Machine.{World, after, at_node, can, can_here, coord_did, delivered, does, found, happens, new_world, node_of, seg_can, seg_did, world_of}
-use Rattle.gx_rules.specs.Sending.{clock_after, counted, counted_all, numbered}
+use Rattle.gx_rules.specs.Sending.{clock_after, counted, numbered}
 use Rattle.gx_laws.specs.Seen.{AreEndedSeen}
-use Rattle.gx_laws.proofs.Letters.{IsFound, IsLetter, found_is, same_node}
+use Rattle.gx_laws.proofs.Letters.{IsFound, IsLetter, found_is}
 use Rattle.gx_laws.proofs.Lists.{Each}
 use Rattle.gx_laws.proofs.Lines.{past-still}
 use Rattle.gx_laws.proofs.Ordered.{Well, happens_well, never_resumes, new_well, seg_marks}
@@ -31,7 +31,6 @@ use Rattle.gx_laws.proofs.Past.{Past, Still, seen-append, still-seen}
 use Rattle.gx_laws.proofs.Replies.{event-good}
 use Rattle.gx_laws.proofs.Sent.{at}
 use Rattle.gx_laws.proofs.Sessions.{Kept}
-use Rattle.gx_laws.proofs.Turns.{Good}
 
 pub record Knows (script : Script) (w : World) : Type 0 where
   pub well : Well script w
@@ -110,14 +109,17 @@ module _ (script : Script) where
     where
       e : Event
       e = event.Receive from to number
+
       x : NodeEvent
       x = here.Deliver from envelope
+
       place : is_same_node to the_coordinator ≡ false → IsLink script d.letter.from d.letter.to → IsSegment script to
       place away (inl l) = subst (IsSegment script) d.target l.1
       place away (inr l) = absurd (not-here to (sym d.target ∙ l.1) away)
         where
           not-here : (n : Node) → n ≡ the_coordinator → is_same_node n the_coordinator ≡ false → ⊥
           not-here n same away = grind (arith, nat_tests)
+
       by_test : (b : Bool) → is_same_node to the_coordinator ≡ b → (if b then coord_can script w.coord x else seg_can x) ≡ true → Well script (if b then coord_did w e (coord_rule script w.coord x fails) else seg_did w to e (seg_rule script (w.segs to.0) x fails)) → Knows script (if b then coord_did w e (coord_rule script w.coord x fails) else seg_did w to e (seg_rule script (w.segs to.0) x fails))
       by_test true is ok n = coord-knows script w k e x fails ok n
       by_test false is ok n = seg-knows script w k e x fails to.0 (place is d.is.link) n
@@ -164,10 +166,13 @@ module _ (script : Script) where
       where
         one : 1 ≤ 1
         one = omega arith
+
         first : 0 < 1
         first = omega arith
+
         none : (h : ℕ) → 1 ≤ h → h < 1 → ⊥
         none h x y = omega arith
+
         closed : false ≡ true → ⊥
         closed e = cc
 
