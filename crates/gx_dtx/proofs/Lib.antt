@@ -1,2 +1,17 @@
 pub mod Least
 pub mod Rising
+pub mod Finds
+pub mod Entries
+pub mod Keeps
+pub mod Fitting
+pub mod Sees
+pub mod Made
+pub mod Steps
+pub mod Has
+pub mod Agreeing
+pub mod History
+pub mod Low
+pub mod Promises
+pub mod Causes
+pub mod Over
+pub mod Awaited

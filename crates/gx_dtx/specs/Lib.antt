@@ -4,3 +4,7 @@ pub mod Table
 pub mod Rules
 pub mod Runs
 pub mod Whole
+pub mod Fits
+pub mod Past
+pub mod Agrees
+pub mod Laws

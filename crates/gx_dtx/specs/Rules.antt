@@ -1,6 +1,6 @@
 -- What each call makes of the coordinator's transactions: statuses, one-phase and two-phase commit, and aborts
 -- (Lyu et al., SIGMOD 2021).
-use Rattle.std.specs.Prelude.{◌≡◌, ℕ, ◌+◌, Bool, true, false, List, [], ◌∷◌, ◌++◌, ◌==◌, nat_lt, All, IsTrue, Option, None, Some, if◌then◌else◌}
+use Rattle.std.specs.Prelude.{ℕ, ◌+◌, Bool, true, false, List, [], ◌∷◌, ◌++◌, ◌==◌, nat_lt, All, IsTrue, Option, None, Some, if◌then◌else◌}
 use Rattle.std.specs.Map.{lookup, set_value, remove_entry}
 use Rattle.std.specs.BTreeMap.{is_at}
 use Rattle.gx_ids.specs.declared.ids.Gxid.{Gxid}
@@ -8,13 +8,12 @@ use Rattle.gx_ids.specs.declared.ids.Node.{Node}
 use Rattle.gx_dsnap.specs.Gxids.{gxid_cmp}
 use Rattle.gx_msg.specs.ItemBytes.{bytes_of_item}
 use Rattle.gx_msg.specs.declared.item.JournalItem.TheVariants as item
-use Rattle.gx_msg.specs.declared.message.Message.{Message}
 use Rattle.gx_msg.specs.declared.message.Message.TheVariants as message
 use Rattle.gx_msg.specs.declared.message.Out.{Out}
 use Rattle.gx_msg.specs.declared.reply.Reply.{Reply}
 use Rattle.gx_msg.specs.declared.reply.Reply.TheVariants as reply
 use Rattle.gx_dtx.specs.Nodes.{has, without, with_node, to_each, AreRising}
-use Rattle.gx_dtx.specs.Table.{Table, new_txn, find_txn, participants_of, xmin_of}
+use Rattle.gx_dtx.specs.Table.{Table, new_txn, find_txn, participants_of}
 use Rattle.gx_dtx.specs.declared.change.Change.{Change}
 use Rattle.gx_dtx.specs.declared.change.Step.{Step}
 use Rattle.gx_dtx.specs.declared.change.Step.TheVariants.{Stays, GoesTo, Leaves}
@@ -197,6 +196,14 @@ reply_found g i answer refused (Some t) = if is_awaited t.phase i answer then ta
 
 abbrev pub on_reply : Table → Gxid → Node → Reply → Bool → Turn
 on_reply d g i answer refused = turns d g (reply_found g i answer refused (find_txn d g))
+
+abbrev pub awaits_found : Node → Reply → Option Txn → Bool
+awaits_found i answer None = false
+awaits_found i answer (Some t) = is_awaited t.phase i answer
+
+-- whether this answer of the node about the transaction is awaited
+abbrev pub awaits : Table → Gxid → Node → Reply → Bool
+awaits d g i answer = awaits_found i answer (find_txn d g)
 
 -- whether a transaction of this phase is decided by this answer, if the journal takes the item
 abbrev pub is_last : List Node → Bool

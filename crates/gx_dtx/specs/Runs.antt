@@ -1,11 +1,10 @@
 -- Lists of calls, and the tables to which they lead.
-use Rattle.std.specs.Prelude.{◌≡◌, Bool, List, [], ◌∷◌, Some}
+use Rattle.std.specs.Prelude.{Bool, List, [], ◌∷◌, None, Some}
 use Rattle.gx_ids.specs.declared.ids.Gxid.{Gxid}
 use Rattle.gx_ids.specs.declared.ids.Node.{Node}
 use Rattle.gx_msg.specs.declared.reply.Reply.{Reply as Answer}
 use Rattle.gx_dtx.specs.Table.{Table, new_table, IsActive, xmin_of}
 use Rattle.gx_dtx.specs.Rules.{Turn, nothing, begun, with_live, enlisted, on_commit, on_abort, on_reply, AreWriters}
-use Rattle.std.specs.Prelude.{None}
 
 -- a call that may change the table; of a reply, also whether the coordinator's journal fails where it has to append
 pub data Call : Type 0 where
@@ -17,6 +16,7 @@ pub data Call : Type 0 where
   Abort : (g : Gxid) → Call
   Reply : (g : Gxid) (i : Node) (answer : Answer) (refused : Bool) → Call
 
+-- a call that comes to nothing but this table
 abbrev pub silent : Table → Turn
 silent d = record { table = d; out = nothing }
 

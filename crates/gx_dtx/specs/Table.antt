@@ -1,12 +1,12 @@
 -- The coordinator's transactions as plain data, and what is read from them.
-use Rattle.std.specs.Prelude.{◌≡◌, Bool, true, false, ◌&&◌, not, List, [], ◌∷◌, ◌==◌, nat_lt, map, filter, Option, None, Some, option_map, if◌then◌else◌}
+use Rattle.std.specs.Prelude.{◌≡◌, Bool, true, false, ◌&&◌, not, List, [], ◌∷◌, nat_lt, map, filter, Option, None, Some, option_map}
 use Rattle.std.specs.List.{flat_map}
-use Rattle.std.specs.Map.{lookup, keys_of}
+use Rattle.std.specs.Map.{lookup}
 use Rattle.std.specs.BTreeMap.{is_at}
 use Rattle.gx_ids.specs.declared.ids.Gxid.{Gxid}
 use Rattle.gx_ids.specs.declared.ids.Node.{Node}
 use Rattle.gx_dsnap.specs.Gxids.{gxid_cmp, is_below, after_ended, first_or, least_of}
-use Rattle.gx_dtx.specs.Nodes.{has}
+use Rattle.gx_dsnap.specs.declared.snapshot.Snapshot.{Snapshot}
 use Rattle.gx_dtx.specs.declared.phase.Phase.{Phase}
 use Rattle.gx_dtx.specs.declared.phase.Phase.TheVariants.{Active, Preparing, CommittingOne, CommittingTwo, Ended, Aborting}
 use Rattle.gx_dtx.specs.declared.status.Status.{Status}
@@ -87,6 +87,12 @@ xmin_of d = first_or (listed_of d) (xmax_of d)
 abbrev pub live_xmin : Option Gxid → List Gxid
 live_xmin None = []
 live_xmin (Some x) = x ∷ []
+
+-- a snapshot that was taken of this table
+pub record IsTaken (d : Table) (snap : Snapshot) : Type 0 where
+  pub xmax : snap.xmax ≡ xmax_of d
+  pub running : snap.running ≡ listed_of d
+  pub xmin : snap.xmin ≡ xmin_of d
 
 -- what a transaction holds the horizon at or below: itself, since it runs or isn't forgotten by everybody, and the
 -- xmin of its live snapshot

@@ -10,7 +10,7 @@ use gx_ids::{Gxid, Mem, Node, Seq};
 use std::alloc::Global;
 
 /// What a call makes of a transaction.
-#[derive(Debug, Drop)]
+#[derive(Drop)]
 pub enum Step {
     /// It stays as it is.
     Stays,
@@ -20,7 +20,7 @@ pub enum Step {
 }
 
 /// A transaction's step, and what the call has come to.
-#[derive(Debug, Drop)]
+#[derive(Drop)]
 pub struct Change {
     pub step: Step,
     pub out: DtxOut,

@@ -1,5 +1,5 @@
 // What a call makes of one transaction.
-ghost use Rattle.std.specs.Prelude.{◌≡◌, ◌∷◌, [], true, false, IfOk};
+ghost use Rattle.std.specs.Prelude.{◌≡◌, ◌∷◌, [], false, IfOk};
 ghost use Rattle.gx_dtx.specs.Rules.{commits, aborts, ends_committed, refuses, goes_to, decides, finishes, forgets, gives_up};
 ghost use Rattle.gx_dtx.specs.Nodes.{to_each as messages};
 ghost use Rattle.gx_dtx.specs.declared.outcome.Outcome.TheVariants as outcome;
@@ -30,7 +30,14 @@ fn tell_forget(alloc: Global, gxid: Gxid, participants: &Seq<Node>) -> Mem<Chang
 {
     let awaited = participants.copy(alloc)?;
     let nodes = participants.as_slice();
-    Change::sends(alloc, Phase::Ended(awaited), Outcome::Committed, Order::Forget, gxid, nodes)
+    Change::sends(
+        alloc,
+        Phase::Ended(awaited),
+        Outcome::Committed,
+        Order::Forget,
+        gxid,
+        nodes,
+    )
 }
 
 fn tell_abort(alloc: Global, gxid: Gxid, participants: &Seq<Node>, outcome: Outcome) -> Mem<Change>
@@ -38,16 +45,18 @@ fn tell_abort(alloc: Global, gxid: Gxid, participants: &Seq<Node>, outcome: Outc
 {
     let awaited = participants.copy(alloc)?;
     let nodes = participants.as_slice();
-    Change::sends(alloc, Phase::Aborting(awaited), outcome, Order::Abort, gxid, nodes)
+    Change::sends(
+        alloc,
+        Phase::Aborting(awaited),
+        outcome,
+        Order::Abort,
+        gxid,
+        nodes,
+    )
 }
 
 // A node's journal has failed.
-pub(crate) fn refuse(
-    alloc: Global,
-    gxid: Gxid,
-    participants: &Seq<Node>,
-    node: Node,
-) -> Mem<Change>
+pub(crate) fn refuse(alloc: Global, gxid: Gxid, participants: &Seq<Node>, node: Node) -> Mem<Change>
     ensures { IfOk result (λ change. change ≡ refuses gxid participants.now node) }
 {
     tell_abort(alloc, gxid, participants, Outcome::Refused(node))
@@ -79,7 +88,14 @@ fn tell_commit(alloc: Global, gxid: Gxid, writer: Node) -> Mem<Change>
     ensures { IfOk result (λ change. change ≡ goes_to (phase.CommittingOne writer) (messages (message.Commit gxid) (writer ∷ [])) outcome.Pending) }
 {
     let phase = Phase::CommittingOne(writer);
-    Change::sends(alloc, phase, Outcome::Pending, Order::Commit, gxid, &[writer])
+    Change::sends(
+        alloc,
+        phase,
+        Outcome::Pending,
+        Order::Commit,
+        gxid,
+        &[writer],
+    )
 }
 
 fn tell_prepare(alloc: Global, gxid: Gxid, writers: &[Node]) -> Mem<Change>
@@ -89,7 +105,14 @@ fn tell_prepare(alloc: Global, gxid: Gxid, writers: &[Node]) -> Mem<Change>
         writers: Seq::from_vec(copies(alloc, writers)?),
         awaited: Seq::from_vec(copies(alloc, writers)?),
     };
-    Change::sends(alloc, phase, Outcome::Pending, Order::Prepare, gxid, writers)
+    Change::sends(
+        alloc,
+        phase,
+        Outcome::Pending,
+        Order::Prepare,
+        gxid,
+        writers,
+    )
 }
 
 // All writers are prepared, and the decide item is appended.
@@ -99,7 +122,14 @@ pub(crate) fn decide(alloc: Global, gxid: Gxid, writers: &Seq<Node>) -> Mem<Chan
     let awaited = writers.copy(alloc)?;
     let phase = Phase::CommittingTwo(awaited);
     let nodes = writers.as_slice();
-    Change::sends(alloc, phase, Outcome::Decided, Order::CommitPrepared, gxid, nodes)
+    Change::sends(
+        alloc,
+        phase,
+        Outcome::Decided,
+        Order::CommitPrepared,
+        gxid,
+        nodes,
+    )
 }
 
 // A writer has committed as promised; these haven't yet.

@@ -1,14 +1,13 @@
-ghost use Rattle.std.specs.Prelude.{◌≡◌, ◌≤◌, ◌<◌, ◌+◌, ◌^◌, ◌++◌, ◌∷◌, [], true, false, All, Contains, IfOk, OnOk, OnErr, None, Some, MatchOption, option_map};
+ghost use Rattle.std.specs.Prelude.{◌≡◌, ◌≤◌, ◌<◌, ◌^◌, ◌++◌, ◌∷◌, [], true, false, All, Contains, IfOk, OnOk, OnErr, None, Some, option_map};
 ghost use Rattle.std.specs.List.{flat_map};
 ghost use Rattle.gx_ids.specs.declared.ids.Gxid.{Gxid};
 ghost use Rattle.gx_outside.specs.Causes.{Rose};
 ghost use Rattle.gx_dsnap.specs.Snapshot.{sees};
 
-use crate::found;
 use crate::outcome::DtxOut;
 use crate::status::Status;
 use crate::txn::Txn;
-use crate::txns;
+use crate::{found, txns};
 use gx_dsnap::Snapshot;
 use gx_ids::{Gxid, Mem, Node};
 use gx_msg::{Out, Reply};
@@ -29,17 +28,19 @@ pub struct Dtx {
 
 impl Model for Dtx {
     ghost use Rattle.gx_dtx.specs.Table.{Table};
+    ghost use Rattle.gx_dtx.specs.Whole.{IsWhole};
 
     ghost Value = { Table };
 
     ghost view = { λ a. record { next = a.next; latest_ended = a.latest_ended; txns = a.txns.entries } };
 
-    // ghost invariant = { λ a. IsWhole (record { next = a.next; latest_ended = a.latest_ended; txns = a.txns.entries }) };
+    ghost invariant = { λ a. IsWhole (record { next = a.next; latest_ended = a.latest_ended; txns = a.txns.entries }) };
 }
 
 impl Dtx {
     ghost use Rattle.gx_dtx.specs.Table.{new_table, status_of, IsActive, participants_of, xmax_of, listed_of, xmin_of, has_ended, holds_back, horizon_of};
-    ghost use Rattle.gx_dtx.specs.Rules.{begun, with_live, enlisted, on_commit, on_abort, on_reply, is_deciding, awaited_order, AreWriters, is_refused, decide_items, ended_alone, silently};
+    ghost use Rattle.gx_dtx.specs.Rules.{begun, with_live, enlisted, on_commit, on_abort, on_reply, awaits, is_deciding, awaited_order, AreWriters, is_refused, decide_items, ended_alone, silently};
+    ghost use Rattle.gx_dtx.specs.Laws.{HasCause};
     ghost use Rattle.gx_dtx.specs.Orders.{message_of};
     ghost use Rattle.gx_dtx.specs.declared.outcome.Outcome.TheVariants as outcome;
 
@@ -77,8 +78,9 @@ impl Dtx {
         Some(txn.phase.status())
     }
 
-    /// Takes a snapshot for a statement or a block of the transaction. It is live, and holds the horizon back, until
-    /// it is dropped, the next is taken for the transaction, or the transaction is committed or aborted.
+    /// Takes a snapshot for a statement or a block of the transaction (Lyu et al., SIGMOD 2021; PostgreSQL manual
+    /// 13.2). It is live, and holds the horizon back, until it is dropped, the next is taken for the transaction, or
+    /// the transaction is committed or aborted.
     pub fn snapshot(&mut self, gxid: Gxid) -> Mem<Snapshot>
         requires { IsActive self.old gxid }
         ensures xmax { IfOk result (λ snap. snap.xmax ≡ xmax_of self.old) }
@@ -110,7 +112,7 @@ impl Dtx {
     }
 
     /// Commits a transaction that has written at these nodes: at once without writers, by one phase with one, by two
-    /// with more.
+    /// with more (Lyu et al., SIGMOD 2021).
     pub fn commit(&mut self, gxid: Gxid, writers: &[Node]) -> Mem<DtxOut>
         requires active { IsActive self.old gxid }
         requires writers { AreWriters self.old gxid writers.now }
@@ -149,6 +151,8 @@ impl Dtx {
     ) -> Mem<DtxOut>
         ensures table { IfOk result (λ out. self.new ≡ (on_reply self.old gxid node answer (is_refused out.outcome)).table) }
         ensures out { IfOk result (λ out. out ≡ (on_reply self.old gxid node answer (is_refused out.outcome)).out) }
+        ensures cause { IfOk result (λ out. HasCause self.old gxid node answer (is_refused out.outcome) out.outcome) }
+        ensures unawaited { awaits self.old gxid node answer ≡ false → OnOk result (self.new ≡ self.old) }
         ensures items { IfOk result (λ out. J.items journal.new ≡ J.items journal.old ++ decide_items gxid out.outcome) }
         ensures refused { IfOk result (λ out. is_deciding self.old gxid node answer ≡ true → is_refused out.outcome ≡ true → Rose (J.fault_count journal.old) (J.fault_count journal.new)) }
         ensures untouched { is_deciding self.old gxid node answer ≡ false → journal.new ≡ journal.old }
@@ -156,7 +160,14 @@ impl Dtx {
         ensures err { OnErr result (self.new ≡ self.old) }
         ensures kept { OnErr result (J.items journal.new ≡ J.items journal.old) }
     {
-        let change = found::reply(self.alloc, self.txns.get(&gxid), gxid, node, &answer, journal)?;
+        let change = found::reply(
+            self.alloc,
+            self.txns.get(&gxid),
+            gxid,
+            node,
+            &answer,
+            journal,
+        )?;
         Ok(txns::make(&mut self.txns, &mut self.latest_ended, gxid, change))
     }
 

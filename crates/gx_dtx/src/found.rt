@@ -1,5 +1,5 @@
 // What a call makes of a transaction, if it is found.
-ghost use Rattle.std.specs.Prelude.{◌≡◌, ◌≤◌, ◌++◌, [], true, false, IfOk, OnErr, None, Some, if◌then◌else◌};
+ghost use Rattle.std.specs.Prelude.{◌≡◌, ◌≤◌, ◌++◌, true, false, IfOk, OnErr, None, Some, if◌then◌else◌};
 ghost use Rattle.std.specs.Option.{option_copied};
 ghost use Rattle.gx_outside.specs.Causes.{Rose};
 ghost use Rattle.gx_dtx.specs.Rules.{commit_found, abort_found, reply_found, decides_found, decides_in, order_found, order_in, decide_items, is_refused};
@@ -94,7 +94,10 @@ fn order_of(phase: &Phase, node: Node) -> Option<Order>
 {
     match phase {
         Phase::Active => None,
-        Phase::Preparing { writers: _, awaited } => among(node, awaited, Order::Prepare),
+        Phase::Preparing {
+            writers: _,
+            awaited,
+        } => among(node, awaited, Order::Prepare),
         Phase::CommittingOne(writer) if *writer == node => Some(Order::Commit),
         Phase::CommittingOne(_) => None,
         Phase::CommittingTwo(awaited) => among(node, awaited, Order::CommitPrepared),

@@ -1,13 +1,13 @@
 //! The coordinator's transactions: their numbers, statuses and snapshots, and both ways to commit.
 #![tactic(auto)]
 
-mod change;
+pub mod change;
 mod changes;
 pub mod dtx;
 mod found;
 pub mod laws;
 mod nodes;
-mod order;
+pub mod order;
 pub mod outcome;
 pub mod phase;
 mod probe;

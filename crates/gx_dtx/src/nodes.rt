@@ -1,5 +1,5 @@
 // Lists of nodes.
-ghost use Rattle.std.specs.Prelude.{◌≡◌, ◌++◌, ◌∷◌, [], nat_lt, filter, false, IfOk};
+ghost use Rattle.std.specs.Prelude.{◌≡◌, ◌++◌, ◌∷◌, [], nat_lt, filter, IfOk};
 ghost use Rattle.gx_dtx.specs.Nodes.{has as is_one_of, without as all_but, with_node as all_with};
 
 use gx_ids::{Duplicate, Mem, Node, Seq};

@@ -7,7 +7,7 @@ use gx_msg::{Message, Out};
 use std::alloc::Global;
 
 /// What the coordinator tells nodes about a transaction's end.
-#[derive(Clone, Copy, Debug, PartialEq, Eq)]
+#[derive(Clone, Copy)]
 pub enum Order {
     Prepare,
     Commit,

@@ -1,5 +1,5 @@
 // Answers of participants.
-ghost use Rattle.std.specs.Prelude.{◌≡◌, ◌≤◌, ◌++◌, ◌∷◌, [], true, false, IfOk, OnOk, OnErr};
+ghost use Rattle.std.specs.Prelude.{◌≡◌, ◌≤◌, ◌++◌, [], true, false, IfOk, OnErr};
 ghost use Rattle.gx_outside.specs.Causes.{Rose};
 ghost use Rattle.gx_msg.specs.ItemBytes.{bytes_of_item};
 ghost use Rattle.gx_msg.specs.declared.item.JournalItem.TheVariants as item;
@@ -22,8 +22,20 @@ pub(crate) fn is_awaited(phase: &Phase, node: Node, answer: &Reply) -> bool
     ensures { result ≡ is_awaited_in phase.now node answer.now }
 {
     match (phase, answer) {
-        (Phase::Preparing { writers: _, awaited }, Reply::Prepared) => has(node, awaited.as_slice()),
-        (Phase::Preparing { writers: _, awaited }, Reply::Jfault) => has(node, awaited.as_slice()),
+        (
+            Phase::Preparing {
+                writers: _,
+                awaited,
+            },
+            Reply::Prepared,
+        ) => has(node, awaited.as_slice()),
+        (
+            Phase::Preparing {
+                writers: _,
+                awaited,
+            },
+            Reply::Jfault,
+        ) => has(node, awaited.as_slice()),
         (Phase::CommittingOne(writer), Reply::Committed) => *writer == node,
         (Phase::CommittingOne(writer), Reply::Jfault) => *writer == node,
         (Phase::CommittingTwo(awaited), Reply::Committed) => has(node, awaited.as_slice()),

@@ -5,7 +5,7 @@ use gx_ids::{Gxid, Node, Seq};
 use std::alloc::Global;
 
 /// What the coordinator keeps of a transaction until every participant has forgotten it.
-#[derive(Debug, Drop, PartialEq, Eq)]
+#[derive(Debug, Drop)]
 pub struct Txn {
     pub phase: Phase,
     /// The segments that a command was sent to, rising.

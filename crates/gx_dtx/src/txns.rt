@@ -1,9 +1,13 @@
 // The transactions by gxid.
-ghost use Rattle.std.specs.Prelude.{◌≡◌, ◌+◌, ◌<◌, ◌^◌, ◌++◌, ◌∷◌, [], All, Contains, IfOk, OnOk, OnErr, None, Some, map, filter};
+ghost use Rattle.std.specs.Prelude.{◌≡◌, ◌+◌, ◌<◌, ◌^◌, ◌∷◌, IfOk, OnOk, OnErr, map, filter};
 ghost use Rattle.std.specs.Option.{ForSome};
 ghost use Rattle.std.specs.List.{flat_map};
 ghost use Rattle.std.specs.BTreeMap.{IsUnchanged, IsOrdered};
 ghost use Rattle.gx_dsnap.specs.Gxids.{gxid_cmp, after_ended, is_below, first_or, least_of};
+ghost use Rattle.gx_dtx.specs.Table.{is_running, holds_back, live_xmin};
+ghost use Rattle.gx_dtx.specs.Rules.{with_txn, with_step, with_ended, ends, moved};
+ghost use Rattle.gx_dtx.specs.Nodes.{with_node as all_with};
+ghost use Rattle.gx_dtx.specs.declared.change.Step.TheVariants.{Leaves};
 
 use crate::change::{Change, Step};
 use crate::nodes::with_node;
@@ -15,15 +19,10 @@ use gx_ids::{Gxid, Mem, Node, Seq};
 use std::alloc::Global;
 use std::collections::BTreeMap;
 
-/// The transactions, by gxid.
-pub type Txns = BTreeMap<Gxid, Txn>;
+// The transactions, by gxid.
+pub(crate) type Txns = BTreeMap<Gxid, Txn>;
 
-ghost use Rattle.gx_dtx.specs.Table.{is_running, holds_back, live_xmin};
-ghost use Rattle.gx_dtx.specs.Rules.{with_txn, with_step, with_ended, ends, moved};
-ghost use Rattle.gx_dtx.specs.Nodes.{with_node as all_with};
-ghost use Rattle.gx_dtx.specs.declared.change.Step.TheVariants.{Leaves};
-
-// The running gxids; the keys are in order.
+// The running gxids, in the order of the keys.
 fn running(alloc: Global, txns: &Txns) -> Mem<Vec<Gxid>>
     ensures whole { IfOk result (λ running. running.items ≡ map (λ e. e.0) (filter (λ e. is_running e.1.phase) txns.now.entries)) }
     ensures ordered { IsOrdered gxid_cmp txns.now }
@@ -38,11 +37,7 @@ fn running(alloc: Global, txns: &Txns) -> Mem<Vec<Gxid>>
 }
 
 // A snapshot of these transactions.
-pub(crate) fn snapshot_of(
-    alloc: Global,
-    txns: &Txns,
-    latest_ended: Option<Gxid>,
-) -> Mem<Snapshot>
+pub(crate) fn snapshot_of(alloc: Global, txns: &Txns, latest_ended: Option<Gxid>) -> Mem<Snapshot>
     requires { ForSome latest_ended (λ g. g.0 + 1 < 2 ^ 64) }
     ensures xmax { IfOk result (λ snap. snap.xmax ≡ after_ended latest_ended) }
     ensures running { IfOk result (λ snap. snap.running ≡ filter (is_below snap.xmax) (map (λ e. e.0) (filter (λ e. is_running e.1.phase) txns.now.entries))) }

@@ -1,4 +1,4 @@
-use Rattle.std.proofs.Common.{◌≡◌, ◌∙◌, sym, subst, map, filter}
+use Rattle.std.proofs.Common.{◌∙◌, sym, subst}
 use Rattle.gx_dsnap.specs.Gxids.{IsRising, gxid_cmp}
 use Rattle.gx_dtx.specs.Table.{is_running}
 use Rattle.gx_dtx.proofs.Rising.{IsStrictlySortedBy-keys_filter}
