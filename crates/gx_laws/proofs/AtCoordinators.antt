@@ -1,7 +1,7 @@
 -- What the coordinator sends goes to segments, and its marks stand at the coordinator.
-use Rattle.std.proofs.Common.{◌≡◌, ◌≤◌, ℕ, ◌+◌, List, [], ◌∷◌, ◌++◌, Option, Some, None, Result, Ok, Err, Bool, true, false, refl, if◌then◌else◌, ◌==◌, ◌&&◌, arith, eqb}
+use Rattle.std.proofs.Common.{◌≡◌, ◌≤◌, ℕ, List, [], ◌∷◌, Option, Some, None, Result, Ok, Err, Bool, true, false, refl, if◌then◌else◌, ◌==◌, ◌&&◌, arith, eqb}
 use Rattle.std.proofs.lemmas.Bool.Decides.{nat_tests}
-use Rattle.std.specs.Prelude.{fold, is_some}
+use Rattle.std.specs.Prelude.{is_some}
 use Rattle.gx_ids.specs.declared.ids.Cid.{Cid}
 use Rattle.gx_ids.specs.declared.ids.Gxid.{Gxid}
 use Rattle.gx_ids.specs.declared.ids.Node.{Node}
@@ -12,10 +12,9 @@ use Rattle.gx_tree.specs.declared.stmt.Level.TheVariants.{ReadCommitted, Repeata
 use Rattle.gx_tree.specs.declared.stmt.Stmt.{Stmt}
 use Rattle.gx_tree.specs.declared.stmt.Stmt.TheVariants as stmt
 use Rattle.gx_dsnap.specs.declared.snapshot.Snapshot.{Snapshot}
-use Rattle.gx_dtx.specs.Nodes.{has, with_node, without}
-use Rattle.gx_dtx.specs.Orders.{message_of}
-use Rattle.gx_dtx.specs.Rules.{Turn, awaited_order, on_abort, on_commit, on_reply, enlisted, order_found, order_in}
-use Rattle.gx_dtx.specs.Table.{Table, find_txn, horizon_of}
+use Rattle.gx_dtx.specs.Nodes.{has}
+use Rattle.gx_dtx.specs.Rules.{Turn, on_abort, on_reply, enlisted, order_found, order_in}
+use Rattle.gx_dtx.specs.Table.{Table, find_txn}
 use Rattle.gx_dtx.specs.declared.order.Order.{Order}
 use Rattle.gx_dtx.specs.declared.outcome.Outcome.{Outcome}
 use Rattle.gx_dtx.specs.declared.outcome.Outcome.TheVariants as outcome
@@ -25,11 +24,9 @@ use Rattle.gx_dtx.specs.declared.txn.Txn.{Txn}
 use Rattle.gx_eval.specs.declared.fault.ArithFault.{ArithFault}
 use Rattle.gx_msg.specs.declared.message.Message.{Message}
 use Rattle.gx_msg.specs.declared.message.Message.TheVariants as message
-use Rattle.gx_msg.specs.declared.message.Out.{Out}
 use Rattle.gx_msg.specs.declared.reply.Cause.{Cause}
 use Rattle.gx_msg.specs.declared.reply.Reply.{Reply}
 use Rattle.gx_msg.specs.declared.reply.Reply.TheVariants as reply
-use Rattle.gx_plan.specs.Plan.{plan_of}
 use Rattle.gx_plan.specs.declared.piece.Piece.{Piece}
 use Rattle.gx_script.specs.declared.Script.{Script}
 use Rattle.gx_session.specs.Session.{idle_outside, line_step}
@@ -51,7 +48,7 @@ use Rattle.gx_rules.specs.Maps.{with_at}
 use Rattle.gx_laws.proofs.AtSegments.{PlainAt}
 use Rattle.gx_laws.proofs.Lists.{Each, each_append, each_map}
 use Rattle.gx_laws.proofs.Places.{IsAtOneOf, IsOneOf, PlanIn, plan_in}
-use Rattle.gx_laws.proofs.Tables.{AreIn, FoundIn, OutIn, PhaseIn, TableIn, TurnIn, TxnIn, begun_in, enlisted_in, find_in, has_in, live_in, on_abort_in, on_commit_in, on_reply_in, with_in, without_in}
+use Rattle.gx_laws.proofs.Tables.{AreIn, FoundIn, OutIn, PhaseIn, TableIn, TurnIn, begun_in, enlisted_in, find_in, has_in, live_in, on_abort_in, on_commit_in, on_reply_in, with_in, without_in}
 
 module _ (script : Script) where
   abbrev n : ℕ

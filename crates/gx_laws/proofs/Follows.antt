@@ -12,17 +12,14 @@ use Rattle.gx_store.specs.declared.node.NodeEvent.TheVariants as here
 use Rattle.gx_store.specs.declared.run.Step.{Step}
 use Rattle.gx_store.specs.Journals.{is_same_node}
 use Rattle.gx_store.specs.Messages.{IsSending}
-use Rattle.gx_store.specs.Ordered.{IsSegment}
 use Rattle.gx_store.specs.Refusals.{the_coordinator}
 use Rattle.gx_rules.specs.AtCoordinator.{coord_can, coord_rule}
 use Rattle.gx_rules.specs.AtSegment.{seg_rule}
 use Rattle.gx_rules.specs.Coordinators.{Coord, new_coordinator}
 use Rattle.gx_rules.specs.Machine.{World, after, at_node, can, can_here, coord_did, delivered, does, found, happens, new_world, node_of, run_of, seg_can, seg_did, world_of}
-use Rattle.gx_rules.specs.Maps.{with_at}
 use Rattle.gx_rules.specs.Segments.{Seg, new_segment}
-use Rattle.gx_rules.specs.Sending.{clock_after}
 use Rattle.gx_rules.specs.System.{DoesCoordFollow, DoesSegFollow, Either, IsCoordStep, IsHere, IsPosted, IsSegStep, IsSystemRun}
-use Rattle.gx_laws.proofs.Letters.{IsFound, IsLetter, found_is, same_node}
+use Rattle.gx_laws.proofs.Letters.{IsFound, IsLetter, found_is}
 use Rattle.gx_laws.proofs.Ordered.{Well, apart-back, apart-two, at-both, happens_well, never_resumes, new_well, test-self}
 use Rattle.gx_laws.proofs.Sent.{at}
 

@@ -12,3 +12,10 @@ pub mod Stages
 pub mod Statuses
 pub mod Sessions
 pub mod Past
+pub mod Ends
+pub mod Turns
+pub mod Closings
+pub mod Commands
+pub mod Lines
+pub mod Replies
+pub mod World

@@ -1,5 +1,5 @@
 -- Every run of the machine is ordered.
-use Rattle.std.proofs.Common.{◌≡◌, ◌≤◌, ◌<◌, ◌⊎◌, inl, inr, ℕ, ◌+◌, List, [], ◌∷◌, ◌++◌, Option, Some, None, Bool, true, false, refl, sym, subst, ap, ◌∙◌, if◌then◌else◌, ◌==◌, arith, eqb, length, append-nil, le_trans}
+use Rattle.std.proofs.Common.{◌≡◌, ◌≤◌, ◌<◌, inl, inr, ℕ, ◌+◌, List, [], ◌∷◌, ◌++◌, Option, Some, None, Bool, true, false, refl, sym, subst, ap, ◌∙◌, if◌then◌else◌, arith, eqb, length, append-nil}
 use Rattle.std.proofs.lemmas.Bool.{eqb-true}
 use Rattle.std.proofs.lemmas.Bool.Decides.{nat_tests}
 use Rattle.std.proofs.lemmas.List.{append_assoc}
@@ -23,17 +23,16 @@ use Rattle.gx_store.specs.Refusals.{the_coordinator}
 use Rattle.gx_rules.specs.AtCoordinator.{coord_can, coord_rule, on_event}
 use Rattle.gx_rules.specs.AtSegment.{seg_rule}
 use Rattle.gx_rules.specs.AtSegment as segment
-use Rattle.gx_rules.specs.Coordinators.{Coord, CoordTurn, new_coordinator}
-use Rattle.gx_rules.specs.Machine.{Letter, World, after, at_node, can, can_here, coord_did, delivered, does, found, happens, new_world, node_of, posted, seg_can, seg_did, world_of}
+use Rattle.gx_rules.specs.Coordinators.{CoordTurn}
+use Rattle.gx_rules.specs.Machine.{World, after, at_node, can, can_here, coord_did, delivered, does, found, happens, new_world, node_of, seg_can, seg_did, world_of}
 use Rattle.gx_rules.specs.Maps.{with_at}
-use Rattle.gx_rules.specs.Segments.{Seg, SegTurn, new_segment}
-use Rattle.gx_rules.specs.Sending.{clock_after, counted, counted_all, heard_in, numbered}
+use Rattle.gx_rules.specs.Segments.{Seg, SegTurn}
+use Rattle.gx_rules.specs.Sending.{clock_after, counted, numbered}
 use Rattle.gx_laws.proofs.AtCoordinators.{CoordIn, CoordStays, coord_stays}
 use Rattle.gx_laws.proofs.AtSegments.{PlainAt, SegStays, seg_stays}
 use Rattle.gx_laws.proofs.Clocks.{clock_after-above, clock_after-hears, clock_after-positive, clock_of-other, clock_of-same}
 use Rattle.gx_laws.proofs.Letters.{IsFound, IsLetter, found_is, posted_letters, same_node}
 use Rattle.gx_laws.proofs.Lists.{Each, each_append, each_weaker}
-use Rattle.gx_laws.proofs.Places.{IsOneOf}
 use Rattle.gx_laws.proofs.Sent.{all-counted, at, count-both, counted-all, numbered-ok, plain-count, plain-numbered, sent_in-last}
 use Rattle.gx_laws.proofs.Tables.{OutIn}
 
@@ -175,7 +174,7 @@ module _ (script : Script) (w : World) (good : Well script w) (e : Event) (x : N
   seg_links : Each (λ o. IsLink script (at i) o.node) seg_turn.outs
   seg_links = each_weaker (λ (o : Out). o.node ≡ the_coordinator) (λ o. IsLink script (at i) o.node) (λ o h. inr (place, h)) seg_turn.outs seg_kept.outs
 
-  seg_marks : Each (IsAtNode script (at i)) seg_step.marks
+  pub seg_marks : Each (IsAtNode script (at i)) seg_step.marks
   seg_marks = marks-at script (at i) seg_turn.marks (λ node. seg_turn.seg.sent) seg_turn.outs plain_here seg_links
 
   seg_counts : seg_turn.seg.sent ≡ sent_in (at i) the_coordinator w.steps

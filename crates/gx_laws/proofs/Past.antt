@@ -1,5 +1,5 @@
 -- The ends of transactions in the marks, and their stages.
-use Rattle.std.proofs.Common.{◌≡◌, ◌≤◌, ◌<◌, ◌⊎◌, inl, inr, ℕ, suc, zero, ◌+◌, List, [], ◌∷◌, ◌++◌, Option, Some, None, Bool, true, false, refl, sym, subst, ap, ◌∙◌, cond, if◌then◌else◌, ◌==◌, ◌&&◌, ◌||◌, not, arith, eqb, ltb, append-nil}
+use Rattle.std.proofs.Common.{◌≡◌, ◌≤◌, ◌<◌, ℕ, suc, zero, ◌+◌, List, [], ◌∷◌, ◌++◌, Option, Some, None, Bool, true, false, refl, sym, subst, ap, ◌∙◌, cond, if◌then◌else◌, ◌&&◌, ◌||◌, not, arith, eqb, append-nil}
 use Rattle.std.proofs.lemmas.Bool.{eqb-true}
 use Rattle.std.proofs.lemmas.Bool.Decides.{nat_tests}
 use Rattle.std.proofs.lemmas.List.{append_assoc}
@@ -7,7 +7,7 @@ use Rattle.std.specs.Prelude.{filter}
 use Rattle.gx_ids.specs.declared.ids.Gxid.{Gxid}
 use Rattle.gx_dsnap.specs.Gxids.{after_ended, is_below, is_listed}
 use Rattle.gx_dsnap.specs.Snapshot.{sees}
-use Rattle.gx_dtx.specs.Table.{Table, find_txn, runs}
+use Rattle.gx_dtx.specs.Table.{find_txn, runs}
 use Rattle.gx_dtx.specs.declared.txn.Txn.{Txn}
 use Rattle.gx_store.specs.declared.mark.Mark.{Mark}
 use Rattle.gx_store.specs.declared.mark.Mark.TheVariants as mark
@@ -17,10 +17,10 @@ use Rattle.gx_rules.specs.Gxids.{gxids_from}
 use Rattle.gx_rules.specs.Snapshots.{latest_number, running_below, snapshot_of}
 use Rattle.gx_laws.specs.Seen.{AreEndedSeen, SeesEnded}
 use Rattle.gx_laws.proofs.Lists.{Each}
-use Rattle.gx_laws.proofs.Sessions.{Kept, stage_of}
+use Rattle.gx_laws.proofs.Sessions.{stage_of}
 use Rattle.gx_laws.proofs.Stages.{Below, IsWhole, at_gxid, first-at, gx}
-use Rattle.gx_laws.proofs.Statuses.{Stage, is_running, runs-stage, stage}
-use Rattle.gx_laws.proofs.Statuses.Stage.{Absent, Live, Closing, Finished, Dropped}
+use Rattle.gx_laws.proofs.Statuses.{is_running, runs-stage, stage}
+use Rattle.gx_laws.proofs.Statuses.Stage.{Absent, Dropped}
 
 -- MARKS
 pub committed-append : (xs ys : List Mark) (g : Gxid) → is_committed (xs ++ ys) g ≡ is_committed xs g || is_committed ys g

@@ -1,6 +1,5 @@
 -- Commands go to segments.
-use Rattle.std.proofs.Common.{◌≡◌, ◌≤◌, ◌<◌, ℕ, zero, suc, ◌+◌, ◌-◌, ◌%◌, List, [], ◌∷◌, Option, Some, None, Result, Ok, Err, arith, refl, Bool, true, false, pos, negsuc}
-use Rattle.std.specs.Prelude.{map, filter}
+use Rattle.std.proofs.Common.{◌≤◌, ◌<◌, ℕ, zero, suc, ◌+◌, ◌%◌, List, [], ◌∷◌, Option, Some, None, Result, Ok, Err, arith, pos, negsuc}
 use Rattle.std.proofs.Math.Nat.{mod-lt}
 use Rattle.gx_ids.specs.declared.ids.Cid.{Cid}
 use Rattle.gx_ids.specs.declared.ids.Gxid.{Gxid}
@@ -18,10 +17,10 @@ use Rattle.gx_tree.specs.declared.value.Value.{Value}
 use Rattle.gx_tree.specs.declared.value.Value.TheVariants.{Int, Text}
 use Rattle.gx_eval.specs.Meaning.{and_then}
 use Rattle.gx_eval.specs.declared.fault.ArithFault.{ArithFault}
-use Rattle.gx_place.specs.Place.{hash_of, remainder, value_place}
+use Rattle.gx_place.specs.Place.{hash_of, value_place}
 use Rattle.gx_place.specs.Target.{key_of, key_target, target_of}
 use Rattle.gx_place.specs.declared.segments.Target.{Target}
-use Rattle.gx_place.specs.declared.segments.Target.TheVariants.{One, All}
+use Rattle.gx_place.specs.declared.segments.Target.TheVariants.{All}
 use Rattle.gx_plan.specs.Constants.{rows_of}
 use Rattle.gx_plan.specs.Plan.{insert_pieces, nodes_from, nodes_of, piece, pieces, plan_of, row_pieces, rows_at}
 use Rattle.gx_plan.specs.declared.piece.Piece.{Piece}

@@ -1,20 +1,19 @@
 -- What ties a transaction, what the coordinator knows of it, and its session.
-use Rattle.std.proofs.Common.{◌≡◌, ◌≤◌, ◌<◌, ◌⊎◌, inl, inr, ℕ, ◌+◌, List, [], ◌∷◌, ◌++◌, Option, Some, None, Bool, true, false, refl, sym, subst, ap, ◌∙◌, if◌then◌else◌, ◌==◌, arith, eqb}
+use Rattle.std.proofs.Common.{◌≡◌, ◌⊎◌, inl, inr, ℕ, [], Option, Some, None, Bool, true, false, refl, sym, subst, ap, ◌∙◌, if◌then◌else◌, arith, eqb}
 use Rattle.std.proofs.lemmas.Bool.{eqb-true}
 use Rattle.std.proofs.lemmas.Bool.Decides.{nat_tests}
 use Rattle.gx_ids.specs.declared.ids.Gxid.{Gxid}
 use Rattle.gx_session.specs.declared.state.Block.{Block}
-use Rattle.gx_session.specs.declared.state.Block.TheVariants.{Outside, Open, Failed}
+use Rattle.gx_session.specs.declared.state.Block.TheVariants.{Outside, Open}
 use Rattle.gx_session.specs.declared.state.Pending.{Pending}
 use Rattle.gx_session.specs.declared.state.Pending.TheVariants as pending
-use Rattle.gx_session.specs.declared.state.SessionState.{SessionState}
-use Rattle.gx_dtx.specs.Table.{Table, find_txn}
+use Rattle.gx_dtx.specs.Table.{find_txn}
 use Rattle.gx_dtx.specs.declared.txn.Txn.{Txn}
-use Rattle.gx_rules.specs.Coordinators.{Command, Coord, Session, Work, no_work}
+use Rattle.gx_rules.specs.Coordinators.{Command, Coord, Session, Work}
 use Rattle.gx_rules.specs.Maps.{with_at}
 use Rattle.gx_laws.proofs.Stages.{IsWhole, gx}
 use Rattle.gx_laws.proofs.Statuses.{Stage, stage}
-use Rattle.gx_laws.proofs.Statuses.Stage.{Absent, Live, Closing, Finished, Dropped}
+use Rattle.gx_laws.proofs.Statuses.Stage.{Absent, Live, Closing}
 
 -- where a session stands
 abbrev pub is_open_in : Block → Bool

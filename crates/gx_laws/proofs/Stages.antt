@@ -1,5 +1,5 @@
 -- What the coordinator's calls make of a transaction's status, for every gxid.
-use Rattle.std.proofs.Common.{◌≡◌, ◌≤◌, ◌<◌, ◌⊎◌, inl, inr, ℕ, ◌+◌, List, [], ◌∷◌, ◌++◌, Option, Some, None, Bool, true, false, refl, sym, subst, ap, ◌∙◌, cond, if◌then◌else◌, ◌==◌, arith, eqb, ltb}
+use Rattle.std.proofs.Common.{◌≡◌, ◌≤◌, ◌<◌, ℕ, List, [], ◌∷◌, ◌++◌, Option, Some, None, Bool, true, false, refl, sym, subst, ap, ◌∙◌, cond, if◌then◌else◌, arith, eqb, ltb}
 use Rattle.std.proofs.lemmas.Bool.{eqb-true, ltb-true}
 use Rattle.std.proofs.lemmas.Bool.Decides.{nat_tests}
 use Rattle.std.specs.Prelude.{option_map}
@@ -9,18 +9,14 @@ use Rattle.std.specs.Map.{lookup, remove_entry, set_value}
 use Rattle.std.specs.Ordering.{is_eq, nat_cmp}
 use Rattle.std.specs.declared.cmp.Ordering.TheVariants.{Less, Equal, Greater}
 use Rattle.gx_ids.specs.declared.ids.Gxid.{Gxid}
-use Rattle.gx_ids.specs.declared.ids.Node.{Node}
 use Rattle.gx_dsnap.specs.Gxids.{gxid_cmp}
-use Rattle.gx_dtx.specs.Nodes.{without}
 use Rattle.gx_dtx.specs.Rules.{Turn, begun, changed, enlisted, with_found, with_live, with_step, with_txn}
-use Rattle.gx_dtx.specs.Table.{Table, find_txn, new_txn, runs}
+use Rattle.gx_dtx.specs.Table.{Table, find_txn}
 use Rattle.gx_dtx.specs.declared.change.Change.{Change}
 use Rattle.gx_dtx.specs.declared.change.Step.{Step}
 use Rattle.gx_dtx.specs.declared.change.Step.TheVariants.{GoesTo, Leaves, Stays}
-use Rattle.gx_dtx.specs.declared.phase.Phase.{Phase}
-use Rattle.gx_dtx.specs.declared.phase.Phase.TheVariants.{Active, Preparing, CommittingOne, CommittingTwo, Ended, Aborting}
 use Rattle.gx_dtx.specs.declared.txn.Txn.{Txn}
-use Rattle.gx_laws.proofs.Lists.{Each, each_append}
+use Rattle.gx_laws.proofs.Lists.{Each}
 
 abbrev pub gx : ℕ → Gxid
 gx h = record { 0 = h }
@@ -64,7 +60,7 @@ Below next es = Each (λ (x : Gxid × Txn). (1 ≤ x.0.0) × (x.0.0 < next)) es
 pub first-at : (h : ℕ) (e : Gxid × Txn) (es : Txns) → at_gxid h (e ∷ es) ≡ (if eqb h e.0.0 then Some e.1 else at_gxid h es)
 first-at h e es = ap (λ b. cond b (Some e.1) (at_gxid h es)) (is_at-eqb h e.0.0)
 
-none-at : (h : ℕ) (es : Txns) → Each (λ (x : Gxid × Txn). eqb h x.0.0 ≡ false) es → at_gxid h es ≡ None
+pub none-at : (h : ℕ) (es : Txns) → Each (λ (x : Gxid × Txn). eqb h x.0.0 ≡ false) es → at_gxid h es ≡ None
 none-at h [] e = refl
 none-at h (x ∷ xs) e = first-at h x xs ∙ ap (λ b. if b then Some x.1 else at_gxid h xs) e.0 ∙ none-at h xs e.1
 

@@ -1,13 +1,10 @@
 -- The stages of a transaction at the coordinator, and how a call moves it.
-use Rattle.std.proofs.Common.{◌≡◌, ◌≤◌, ◌<◌, ◌⊎◌, inl, inr, ℕ, ◌+◌, List, [], ◌∷◌, ◌++◌, Option, Some, None, Bool, true, false, refl, sym, subst, ap, ◌∙◌, if◌then◌else◌, ◌==◌, arith, eqb}
-use Rattle.std.proofs.lemmas.Bool.Decides.{nat_tests}
-use Rattle.std.specs.Prelude.{option_map}
+use Rattle.std.proofs.Common.{◌≡◌, ◌⊎◌, inl, inr, ℕ, List, [], ◌∷◌, Option, Some, None, Bool, true, false, refl, sym, subst, ap, if◌then◌else◌}
 use Rattle.gx_ids.specs.declared.ids.Gxid.{Gxid}
 use Rattle.gx_ids.specs.declared.ids.Node.{Node}
 use Rattle.gx_dtx.specs.Nodes.{without}
-use Rattle.gx_dtx.specs.Rules.{Turn, abort_found, aborts, commit_found, commits, decides, ends, ends_committed, finishes, forgets, gives_up, is_awaited, moved, on_abort, on_commit, on_reply, prepares, refuses, reply_found, stays, takes, with_ended}
+use Rattle.gx_dtx.specs.Rules.{Turn, abort_found, aborts, commit_found, commits, decides, ends, ends_committed, finishes, forgets, gives_up, is_awaited, on_abort, on_commit, on_reply, prepares, reply_found, stays, takes, with_ended}
 use Rattle.gx_dtx.specs.Table.{Table, find_txn, runs}
-use Rattle.gx_dtx.specs.declared.change.Change.{Change}
 use Rattle.gx_dtx.specs.declared.outcome.Outcome.{Outcome}
 use Rattle.gx_dtx.specs.declared.outcome.Outcome.TheVariants as outcome
 use Rattle.gx_dtx.specs.declared.phase.Phase.{Phase}
@@ -56,11 +53,11 @@ runs-stage (Some t) = by_phase t.phase
     by_phase (Ended a) = refl
     by_phase (Aborting a) = refl
 
--- how a commit or an answer moves a transaction, by the outcome
+-- how an answer moves a transaction, by the outcome
 abbrev pub Moves : Stage → Stage → Outcome → Type 0
-Moves a b outcome.Pending = (b ≡ a) ⊎ ((a ≡ Live) × (b ≡ Closing) ⊎ ((a ≡ Finished) × (b ≡ Absent)))
+Moves a b outcome.Pending = (b ≡ a) ⊎ ((a ≡ Finished) × (b ≡ Absent))
 Moves a b outcome.Decided = (a ≡ Closing) × (b ≡ Closing)
-Moves a b outcome.Committed = ((a ≡ Live) ⊎ (a ≡ Closing)) × ((b ≡ Finished) ⊎ (b ≡ Absent))
+Moves a b outcome.Committed = (a ≡ Closing) × ((b ≡ Finished) ⊎ (b ≡ Absent))
 Moves a b (outcome.Refused i) = (a ≡ Closing) × (b ≡ Dropped)
 Moves a b outcome.Ended = (a ≡ Dropped) × (b ≡ Absent)
 
@@ -77,25 +74,35 @@ pub record Turned (d : Table) (g : ℕ) (turn : Turn) (How : Stage → Stage →
   pub latest : turn.table.latest_ended ≡ with_ended (ends turn.out.outcome) (gx g) d.latest_ended
 
 -- A COMMIT
-committed-moves : (g : Gxid) (is : List Node) (t : Txn) (a : Stage) → (a ≡ Live) ⊎ (a ≡ Closing) → Moves a (stage (left_of (ends_committed g is).step (Some t))) (ends_committed g is).out.outcome
+committed-moves : (g : Gxid) (is : List Node) (t : Txn) (a : Stage) → a ≡ Closing → Moves a (stage (left_of (ends_committed g is).step (Some t))) (ends_committed g is).out.outcome
 committed-moves g [] t a h = (h, inr refl)
 committed-moves g (i ∷ is) t a h = (h, inl refl)
 
-commits-moves : (g : Gxid) (writers : List Node) (t : Txn) → stage_in t.phase ≡ Live → Moves (stage (Some t)) (stage (left_of (commits g writers t).step (Some t))) (commits g writers t).out.outcome
-commits-moves g [] t e = committed-moves g t.participants t (stage_in t.phase) (inl e)
-commits-moves g (i ∷ []) t e = inr (inl (e, refl))
-commits-moves g (i ∷ j ∷ is) t e = inr (inl (e, refl))
+-- how a commit moves it
+abbrev pub Closes : Stage → Outcome → Type 0
+Closes b outcome.Pending = b ≡ Closing
+Closes b outcome.Committed = (b ≡ Finished) ⊎ (b ≡ Absent)
+Closes b _ = ⊥
 
-pub commit-turns : (d : Table) (g : ℕ) (writers : List Node) → IsWhole d → stage (find_txn d (gx g)) ≡ Live → Turned d g (on_commit d (gx g) writers) Moves
+alone-closes : (g : Gxid) (is : List Node) (t : Txn) → Closes (stage (left_of (ends_committed g is).step (Some t))) (ends_committed g is).out.outcome
+alone-closes g [] t = inr refl
+alone-closes g (i ∷ is) t = inl refl
+
+commits-closes : (g : Gxid) (writers : List Node) (t : Txn) → Closes (stage (left_of (commits g writers t).step (Some t))) (commits g writers t).out.outcome
+commits-closes g [] t = alone-closes g t.participants t
+commits-closes g (i ∷ []) t = refl
+commits-closes g (i ∷ j ∷ is) t = refl
+
+pub commit-turns : (d : Table) (g : ℕ) (writers : List Node) → IsWhole d → stage (find_txn d (gx g)) ≡ Live → Turned d g (on_commit d (gx g) writers) (λ a b o. Closes b o)
 commit-turns d g writers w e = by_found (find_txn d (gx g)) refl e
   where
-    by_found : (t : Option Txn) → find_txn d (gx g) ≡ t → stage t ≡ Live → Turned d g (on_commit d (gx g) writers) Moves
+    by_found : (t : Option Txn) → find_txn d (gx g) ≡ t → stage t ≡ Live → Turned d g (on_commit d (gx g) writers) (λ a b o. Closes b o)
     by_found None f s = absurd (cc)
     by_found (Some t) f s =
         record {
           now = left_of (commit_found (gx g) writers (find_txn d (gx g))).step (find_txn d (gx g));
           at = changed-at d g (commit_found (gx g) writers (find_txn d (gx g))) w;
-          how = subst (λ o. Moves (stage o) (stage (left_of (commit_found (gx g) writers o).step o)) (commit_found (gx g) writers o).out.outcome) (sym f) (commits-moves (gx g) writers t s);
+          how = subst (λ o. Closes (stage (left_of (commit_found (gx g) writers o).step o)) (commit_found (gx g) writers o).out.outcome) (sym f) (commits-closes (gx g) writers t);
           latest = refl;
         }
 
@@ -127,11 +134,11 @@ prepares-moves g ws ps [] b t e = decides-moves g ws ps b t e
 prepares-moves g ws ps (i ∷ is) b t e = inl (sym e)
 
 finishes-moves : (g : Gxid) (ps rest : List Node) (t : Txn) → stage_in t.phase ≡ Closing → Moves (stage_in t.phase) (stage (left_of (finishes g ps rest).step (Some t))) (finishes g ps rest).out.outcome
-finishes-moves g ps [] t e = committed-moves g ps t (stage_in t.phase) (inr e)
+finishes-moves g ps [] t e = committed-moves g ps t (stage_in t.phase) e
 finishes-moves g ps (i ∷ is) t e = inl (sym e)
 
 forgets-moves : (rest : List Node) (t : Txn) → stage_in t.phase ≡ Finished → Moves (stage_in t.phase) (stage (left_of (forgets rest).step (Some t))) (forgets rest).out.outcome
-forgets-moves [] t e = inr (inr (e, refl))
+forgets-moves [] t e = inr (e, refl)
 forgets-moves (i ∷ is) t e = inl (sym e)
 
 gives_up-moves : (rest : List Node) (t : Txn) → stage_in t.phase ≡ Dropped → Moves (stage_in t.phase) (stage (left_of (gives_up rest).step (Some t))) (gives_up rest).out.outcome
@@ -141,7 +148,7 @@ gives_up-moves (i ∷ is) t e = inl (sym e)
 takes-moves : (g : Gxid) (ps : List Node) (i : Node) (b : Bool) (p : Phase) (r : Reply) (t : Txn) → t.phase ≡ p → Moves (stage_in t.phase) (stage (left_of (takes g ps i b p r).step (Some t))) (takes g ps i b p r).out.outcome
 takes-moves g ps i b (Preparing ws a) reply.Prepared t e = prepares-moves g ws ps (without i a) b t (ap stage_in e)
 takes-moves g ps i b (Preparing ws a) reply.Jfault t e = (ap stage_in e, refl)
-takes-moves g ps i b (CommittingOne w) reply.Committed t e = committed-moves g ps t (stage_in t.phase) (inr (ap stage_in e))
+takes-moves g ps i b (CommittingOne w) reply.Committed t e = committed-moves g ps t (stage_in t.phase) (ap stage_in e)
 takes-moves g ps i b (CommittingOne w) reply.Jfault t e = (ap stage_in e, refl)
 takes-moves g ps i b (CommittingTwo a) reply.Committed t e = finishes-moves g ps (without i a) t (ap stage_in e)
 takes-moves g ps i b (Ended a) reply.Forgotten t e = forgets-moves (without i a) t (ap stage_in e)

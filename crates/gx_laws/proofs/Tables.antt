@@ -1,5 +1,5 @@
 -- The transactions' participants, writers and awaited nodes are segments, and so are the nodes of what is sent for them.
-use Rattle.std.proofs.Common.{◌≡◌, ℕ, List, [], ◌∷◌, ◌++◌, Option, Some, None, Bool, true, false, refl, cond, if◌then◌else◌, ◌==◌, arith}
+use Rattle.std.proofs.Common.{◌≡◌, ℕ, List, [], ◌∷◌, ◌++◌, Option, Some, None, Bool, true, false, cond, if◌then◌else◌, arith}
 use Rattle.std.proofs.lemmas.Bool.Decides.{nat_tests}
 use Rattle.std.specs.Prelude.{filter, nat_lt}
 use Rattle.std.specs.Map.{lookup, remove_entry, set_value}
@@ -8,13 +8,11 @@ use Rattle.gx_ids.specs.declared.ids.Gxid.{Gxid}
 use Rattle.gx_ids.specs.declared.ids.Node.{Node}
 use Rattle.gx_dsnap.specs.Gxids.{gxid_cmp}
 use Rattle.gx_dtx.specs.Nodes.{has, to_each, with_node, without}
-use Rattle.gx_dtx.specs.Rules.{Turn, abort_found, aborts, awaited_order, changed, commit_found, commits, decides, ends_committed, enlisted, finishes, forgets, gives_up, goes_to, is_awaited, leaves, moved, on_abort, on_commit, on_reply, prepares, refuses, reply_found, stays, takes, turns, with_live, with_step, with_txn, with_found, begun, order_found, order_in}
-use Rattle.gx_dtx.specs.Table.{Table, find_txn, new_txn, new_table}
+use Rattle.gx_dtx.specs.Rules.{Turn, abort_found, aborts, commit_found, commits, decides, ends_committed, enlisted, finishes, forgets, gives_up, is_awaited, moved, on_abort, on_commit, on_reply, prepares, refuses, reply_found, stays, takes, turns, with_live, with_step, with_found, begun}
+use Rattle.gx_dtx.specs.Table.{Table, find_txn, new_txn}
 use Rattle.gx_dtx.specs.declared.change.Change.{Change}
 use Rattle.gx_dtx.specs.declared.change.Step.{Step}
 use Rattle.gx_dtx.specs.declared.change.Step.TheVariants.{GoesTo, Leaves, Stays}
-use Rattle.gx_dtx.specs.declared.order.Order.{Order}
-use Rattle.gx_dtx.specs.declared.outcome.Outcome.{Outcome}
 use Rattle.gx_dtx.specs.declared.phase.Phase.{Phase}
 use Rattle.gx_dtx.specs.declared.phase.Phase.TheVariants.{Active, Preparing, CommittingOne, CommittingTwo, Ended, Aborting}
 use Rattle.gx_dtx.specs.declared.txn.Txn.{Txn}

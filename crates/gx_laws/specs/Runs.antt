@@ -1,5 +1,5 @@
 -- Every list of events, with every choice of failing appends.
-use Rattle.std.specs.Prelude.{Bool, List, [], ◌≤◌}
+use Rattle.std.specs.Prelude.{Bool, List}
 use Rattle.gx_script.specs.declared.Script.{Script}
 use Rattle.gx_store.specs.declared.event.Event.{Event}
 use Rattle.gx_store.specs.declared.run.Step.{Step}

@@ -6,6 +6,8 @@ ghost use Rattle.gx_script.specs.declared.Script.{Script};
 ghost use Rattle.gx_store.specs.Ordered.{AreOrdered};
 ghost use Rattle.gx_store.specs.declared.event.Event.{Event as OneEvent};
 ghost use Rattle.gx_laws.specs.Runs.{steps_after};
+ghost use Rattle.gx_laws.specs.Seen.{AreEndedSeen};
+ghost use Rattle.gx_store.specs.Points.{marks_in};
 
 /// Marks stand at their nodes, messages are numbered and arrive after they were sent, and clocks rise.
 pub fn runs_are_ordered()
@@ -15,4 +17,9 @@ pub fn runs_are_ordered()
 /// A run of the machine is a system run: each node's steps alone follow its rule.
 pub fn runs_follow_the_rules()
     ensures { (script : Script) (events : List (OneEvent × Bool)) → 1 ≤ script.segments → IsSystemRun script (run_of (world_of script events)) }
+{}
+
+/// Each snapshot sees whoever has committed by then, and nobody who hasn't ended.
+pub fn who_is_seen_has_ended()
+    ensures { (script : Script) (events : List (OneEvent × Bool)) → 1 ≤ script.segments → AreEndedSeen [] (marks_in (steps_after script events)) }
 {}

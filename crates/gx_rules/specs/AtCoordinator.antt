@@ -386,12 +386,12 @@ abbrev pub coord_rule : Script → Coord → NodeEvent → Bool → CoordTurn
 coord_rule script c event fails = coord_sends (clock_after c.clock event) (on_event script c event fails)
 
 -- WHAT IS ADMITTED
+abbrev pub is_nothing : Pending → Bool
+is_nothing pending.Nothing = true
+is_nothing _ = false
+
 abbrev pub is_idle : Session → Bool
 is_idle session = is_nothing session.state.pending
-  where
-    is_nothing : Pending → Bool
-    is_nothing pending.Nothing = true
-    is_nothing _ = false
 
 abbrev pub is_in_block : Block → Bool
 is_in_block block.Outside = false
