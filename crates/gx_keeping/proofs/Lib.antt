@@ -1,6 +1,7 @@
 pub mod Closing
 pub mod Core
 pub mod Ends
+pub mod Lines
 pub mod Moves
 pub mod Others
 pub mod Txns
