@@ -1,7 +1,9 @@
 pub mod Blocks
 pub mod Closing
+pub mod Commands
 pub mod Core
 pub mod Ends
+pub mod Going
 pub mod Lines
 pub mod Moves
 pub mod Others

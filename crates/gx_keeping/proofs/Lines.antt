@@ -54,7 +54,7 @@ same_number n = grind (arith, nat_tests)
 quiet_answer : (k : SessionId) (n : ℕ) (a : StmtAnswer) → IsQuiet (Answer k n a ∷ [])
 quiet_answer k n a = record { writes = λ node t r. refl; all = λ t r. refl; wrote = λ node g. refl; committed = λ g. refl; aborted = λ g. refl; nodes = λ r. refl; }
 
-one_answer : (k : SessionId) (n : ℕ) (a : StmtAnswer) → answer_count k (Answer k n a ∷ []) ≡ 1
+pub one_answer : (k : SessionId) (n : ℕ) (a : StmtAnswer) → answer_count k (Answer k n a ∷ []) ≡ 1
 one_answer k n a = ap (λ (b : Bool). cond b (0 + 1) 0) (same_number k.0)
 
 -- the answer that ends a step changes nothing of the data
