@@ -7,6 +7,7 @@ pub mod Going
 pub mod Lines
 pub mod Moves
 pub mod Others
+pub mod Sights
 pub mod Txns
 pub mod Under
 pub mod World
