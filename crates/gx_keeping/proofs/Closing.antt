@@ -57,16 +57,16 @@ or_true false = refl
 same_number : (n : ℕ) → eqb n n ≡ true
 same_number n = grind (arith, nat_tests)
 
-neutral_commit : (k : SessionId) (g : Gxid) → IsNeutral k (Commit g)
-neutral_commit k g = record { answers = refl; state = λ script s. refl; begun = λ b. refl; started = λ o. refl }
+pub neutral_commit : (k : SessionId) (g : Gxid) → IsNeutral k (Commit g)
+neutral_commit k g = record { answers = refl; state = λ script s. refl; begun = λ b. refl; started = λ o. refl; }
 
-neutral_abort : (k : SessionId) (g : Gxid) → IsNeutral k (Abort g)
-neutral_abort k g = record { answers = refl; state = λ script s. refl; begun = λ b. refl; started = λ o. refl }
+pub neutral_abort : (k : SessionId) (g : Gxid) → IsNeutral k (Abort g)
+neutral_abort k g = record { answers = refl; state = λ script s. refl; begun = λ b. refl; started = λ o. refl; }
 
 committed_now : (es : List Mark) (g : Gxid) → is_committed (es ++ Commit g ∷ []) g ≡ true
 committed_now es g = is_committed-append es (Commit g ∷ []) g ∙ ap (λ (b : Bool). is_committed es g || (b || false)) (same_number g.0) ∙ or_true (is_committed es g)
 
-aborted_now : (es : List Mark) (g : Gxid) → is_aborted (es ++ Abort g ∷ []) g ≡ true
+pub aborted_now : (es : List Mark) (g : Gxid) → is_aborted (es ++ Abort g ∷ []) g ≡ true
 aborted_now es g = is_aborted-append es (Abort g ∷ []) g ∙ ap (λ (b : Bool). is_aborted es g || (b || false)) (same_number g.0) ∙ or_true (is_aborted es g)
 
 -- BLOCKS
@@ -200,7 +200,7 @@ module _ (script : Script) (steps : List Step) (k : SessionId) (line : Stmt) (st
         tt,
       )
 
-  unanswered_then : (m : Mark) → IsNeutral k m → answer_count k (es ++ m ∷ []) ≡ 0
+  pub unanswered_then : (m : Mark) → IsNeutral k m → answer_count k (es ++ m ∷ []) ≡ 0
   unanswered_then m neutral = answer_count-append k es (m ∷ []) ∙ ap (λ x. x + answer_count k (m ∷ [])) under.unanswered ∙ zero_plus (answer_count k (m ∷ [])) ∙ neutral.answers
     where
       zero_plus : (x : ℕ) → 0 + x ≡ x
@@ -209,7 +209,7 @@ module _ (script : Script) (steps : List Step) (k : SessionId) (line : Stmt) (st
   behind : (m : Mark) → marks_in steps ++ (es ++ m ∷ []) ≡ (marks_in steps ++ es) ++ m ∷ []
   behind m = sym (append_assoc (marks_in steps) es (m ∷ []))
 
-  still_then : (m : Mark) → IsNeutral k m → state_of script k (marks_in steps ++ (es ++ m ∷ [])) ≡ state
+  pub still_then : (m : Mark) → IsNeutral k m → state_of script k (marks_in steps ++ (es ++ m ∷ [])) ≡ state
   still_then m neutral = ap (state_of script k) (behind m) ∙ state_from-append script k Outside (marks_in steps ++ es) (m ∷ []) ∙ neutral.state script (state_of script k (marks_in steps ++ es)) ∙ under.still
 
   transaction_then : (m : Mark) → IsNeutral k m → transaction_of state k (marks_in steps ++ (es ++ m ∷ [])) ≡ Some g

@@ -27,11 +27,11 @@ use Rattle.gx_store.specs.declared.mark.Mark.{Mark}
 use Rattle.gx_store.specs.declared.mark.Mark.TheVariants.{Start, Snap, Write, Commit, Abort}
 use Rattle.gx_store.specs.Marks.{is_aborted, is_committed, is_ended, is_same_gxid, is_same_rid, is_written, start_count}
 use Rattle.gx_store.proofs.Marks.{is_aborted-append, is_committed-append, is_ended-append, start_count-append}
-use Rattle.gx_views.specs.Changes.{AllHaveSet, HasWritten}
+use Rattle.gx_views.specs.Changes.{AllHaveSet, AreRaised, HasWritten}
 use Rattle.gx_views.specs.Stored.{AreEndedOnce, AreStoredFrom, IsStored, status_in}
 use Rattle.gx_views.proofs.Growth.{AreAtHome-ended, AreAtHome-quiet, AreAtSegments-ended, AreAtSegments-quiet, AreEndedOnce-quiet, AreStoredFrom-ended, AreStoredFrom-quiet, EndsOne, EndsOne-abort, EndsOne-commit, IsQuiet}
 use Rattle.gx_views.proofs.Writing.{AreAtHome-written, AreAtSegments-written, AreEndedOnce-written, AreStoredFrom-written}
-use Rattle.gx_keeping.specs.Kept.{AreOfTables, AreRaised, IsAlone, IsKept, IsLow, IsOfTable, has_marks}
+use Rattle.gx_keeping.specs.Kept.{AreOfTables, IsAlone, IsKept, IsLow, IsOfTable, has_marks}
 use Rattle.gx_keeping.proofs.Txns.{AreAlone-begun, AreAlone-ended, AreAlone-live, IsLow-begun, IsLow-ended, IsLow-live, IsWhole-ended_alone, drawn-found, has_ended-begun, has_ended-ended_alone, has_ended-found, has_ended-live}
 use Rattle.gx_dtx.proofs.Keeps.{IsWhole-begun, IsWhole-with}
 

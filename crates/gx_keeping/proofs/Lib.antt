@@ -1,8 +1,13 @@
+pub mod Blocks
 pub mod Closing
+pub mod Commands
 pub mod Core
 pub mod Ends
+pub mod Going
+pub mod Lines
 pub mod Moves
 pub mod Others
+pub mod Sights
 pub mod Txns
 pub mod Under
 pub mod World

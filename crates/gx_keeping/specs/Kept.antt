@@ -14,7 +14,7 @@ use Rattle.gx_dtx.specs.Table.{has_ended, new_txn, xmax_of}
 use Rattle.gx_dtx.specs.Whole.{IsWhole}
 use Rattle.gx_dtx.specs.declared.phase.Phase.TheVariants.{Active}
 use Rattle.gx_dtx.specs.declared.txn.Txn.{Txn}
-use Rattle.gx_local.specs.Store.{Store, greater}
+use Rattle.gx_local.specs.Store.{Store}
 use Rattle.gx_store.specs.declared.mark.Mark.{Mark}
 use Rattle.gx_store.specs.declared.mark.Mark.TheVariants.{Snap, Write}
 use Rattle.gx_store.specs.Marks.{is_ended, is_same_gxid, start_count}
@@ -67,9 +67,3 @@ pub record IsKept (script : Script) (marks : List Mark) (stores : List Store) (d
   pub fresh : (g : Gxid) → d.next.0 ≤ g.0 → has_marks g 0 marks ≡ false
   pub typed : AreOfTables script.tables marks
   pub low : AllByRecursion (λ store. IsLow store.horizon.0 d) stores
-
--- the stores with a horizon of at least this
-abbrev pub AreRaised : Gxid → List Store → List Store → Type 0
-AreRaised h [] [] = Unit {0}
-AreRaised h (s ∷ ss) (s' ∷ ss') = (s' ≡ record s { horizon = greater s.horizon h }) × AreRaised h ss ss'
-AreRaised h _ _ = ⊥

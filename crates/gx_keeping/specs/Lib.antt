@@ -1,3 +1,4 @@
+pub mod Going
 pub mod Kept
 pub mod Standing
 pub mod Under

@@ -3,6 +3,7 @@ use Rattle.std.specs.Prelude.{◌≡◌, ◌≢◌, ◌⊎◌, ℕ, ◌+◌, ◌
 use Rattle.gx_ids.specs.declared.ids.Gxid.{Gxid}
 use Rattle.gx_ids.specs.declared.ids.SessionId.{SessionId}
 use Rattle.gx_tree.specs.declared.stmt.Level.{Level}
+use Rattle.gx_tree.specs.declared.stmt.Stmt.{Stmt}
 use Rattle.gx_script.specs.declared.Script.{Script}
 use Rattle.gx_session.specs.declared.state.Block.TheVariants as block
 use Rattle.gx_dtx.specs.Table as coordinator
@@ -13,6 +14,7 @@ use Rattle.gx_store.specs.declared.mark.Mark.{Mark}
 use Rattle.gx_store.specs.declared.run.Run.{Run}
 use Rattle.gx_store.specs.declared.run.Step.{Step}
 use Rattle.gx_store.specs.Legal.{AreLegalMarks}
+use Rattle.gx_store.specs.Lines.{next_stmt}
 use Rattle.gx_store.specs.Marks.{answer_count, start_count}
 use Rattle.gx_store.specs.Points.{ends_in, marks_in, starts_in}
 use Rattle.gx_store.specs.Runs.{IsLegalRun, clock_after}
@@ -86,3 +88,10 @@ pub record IsEndDone (script : Script) (steps : List Step) (k : SessionId) (s s'
   pub none : answer_count k marks ≡ 0
   pub starts : start_count marks ≡ 0
   pub commands : s'.commands ≤ s'.answered
+
+-- a session's line may start
+pub record IsReady (script : Script) (steps : List Step) (k : SessionId) (s : Session) (line : Stmt) (stores : List Store) (d : coordinator.Table) : Type 0 where
+  pub kept : IsKept script (marks_in steps) stores d
+  pub between : IsBetween script steps d k s
+  pub going : s.over ≡ false
+  pub next : next_stmt k script (marks_in steps) ≡ Some line

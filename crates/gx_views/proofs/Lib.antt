@@ -2,6 +2,7 @@ pub mod Apart
 pub mod Growth
 pub mod Images
 pub mod Joined
+pub mod Pairing
 pub mod Parts
 pub mod Passing
 pub mod Sights

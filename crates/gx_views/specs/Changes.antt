@@ -5,7 +5,8 @@ use Rattle.gx_ids.specs.declared.ids.Table.{Table}
 use Rattle.gx_ids.specs.declared.rid.Rid.{Rid}
 use Rattle.gx_xidmap.specs.declared.status.LocalStatus.{LocalStatus}
 use Rattle.gx_xidmap.specs.declared.status.LocalStatus.TheVariants.{Running}
-use Rattle.gx_local.specs.Store.{Store, Write, status_of, writes_of}
+use Rattle.gx_local.specs.Store.{Store, Write, greater, status_of, writes_of}
+use Rattle.gx_views.specs.Pairs.{Pairwise}
 
 -- it has one write more
 pub record HasWritten (store store' : Store) (table : Table) (rid : Rid) (write : Write) : Type 0 where
@@ -24,6 +25,11 @@ pub record HasSet (g : Gxid) (status : LocalStatus) (store store' : Store) : Typ
   pub horizon : store'.horizon ≡ store.horizon
 
 abbrev pub AllHaveSet : Gxid → LocalStatus → List Store → List Store → Type 0
-AllHaveSet g status [] [] = Unit {0}
-AllHaveSet g status (s ∷ ss) (s' ∷ ss') = HasSet g status s s' × AllHaveSet g status ss ss'
-AllHaveSet g status _ _ = ⊥
+AllHaveSet g status stores stores' = Pairwise (HasSet g status) stores stores'
+
+-- it has a horizon of at least this
+abbrev pub IsRaised : Gxid → Store → Store → Type 0
+IsRaised h store store' = store' ≡ record store { horizon = greater store.horizon h }
+
+abbrev pub AreRaised : Gxid → List Store → List Store → Type 0
+AreRaised h stores stores' = Pairwise (IsRaised h) stores stores'

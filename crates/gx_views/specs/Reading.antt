@@ -15,6 +15,7 @@ use Rattle.gx_store.specs.declared.mark.Mark.{Mark}
 use Rattle.gx_store.specs.Marks.{is_committed, is_ended}
 use Rattle.gx_store.specs.Rows.{row_at}
 use Rattle.gx_store.specs.View.{Reader}
+use Rattle.gx_views.specs.Pairs.{Pairwise}
 
 -- a snapshot that was taken behind these marks sees whoever has committed in them, and besides only who has aborted in them
 pub record IsTakenBehind (before : List Mark) (snap : Snapshot) : Type 0 where
@@ -33,9 +34,7 @@ pub record IsShown (snap : Snapshot) (own : Option Gxid) (cid : Cid) (table : Ta
 
 -- store by store
 abbrev pub AreShown : Snapshot → Option Gxid → Cid → Table → List Store → List (List KeyedRow) → Type 0
-AreShown snap own cid table [] [] = Unit {0}
-AreShown snap own cid table (store ∷ stores) (rows ∷ lists) = IsShown snap own cid table store rows × AreShown snap own cid table stores lists
-AreShown snap own cid table _ _ = ⊥
+AreShown snap own cid table stores lists = Pairwise (IsShown snap own cid table) stores lists
 
 -- the rows of all lists, in the order of their identities
 abbrev pub in_one : List (List KeyedRow) → List KeyedRow
