@@ -58,10 +58,10 @@ same_number : (n : ℕ) → eqb n n ≡ true
 same_number n = grind (arith, nat_tests)
 
 pub neutral_commit : (k : SessionId) (g : Gxid) → IsNeutral k (Commit g)
-neutral_commit k g = record { answers = refl; state = λ script s. refl; begun = λ b. refl; started = λ o. refl; }
+neutral_commit k g = record { answers = refl; state = λ script s. refl; begun = λ b. refl; started = λ o. refl }
 
 pub neutral_abort : (k : SessionId) (g : Gxid) → IsNeutral k (Abort g)
-neutral_abort k g = record { answers = refl; state = λ script s. refl; begun = λ b. refl; started = λ o. refl; }
+neutral_abort k g = record { answers = refl; state = λ script s. refl; begun = λ b. refl; started = λ o. refl }
 
 committed_now : (es : List Mark) (g : Gxid) → is_committed (es ++ Commit g ∷ []) g ≡ true
 committed_now es g = is_committed-append es (Commit g ∷ []) g ∙ ap (λ (b : Bool). is_committed es g || (b || false)) (same_number g.0) ∙ or_true (is_committed es g)

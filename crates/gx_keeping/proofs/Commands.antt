@@ -252,7 +252,7 @@ module _ (script : Script) (steps : List Step) (k : SessionId) (s : Session) (li
   HasFaulted-now : HasFaulted (at_point steps k ((es ++ Fault g (cid_of state) r image ∷ []) ++ Abort g ∷ []) []) line (level_of state) g (cid_of state) fault
   HasFaulted-now =
       let taken : take (length (marks_in steps ++ es)) (marks_in steps ++ ((es ++ Fault g (cid_of state) r image ∷ []) ++ Abort g ∷ [])) ≡ marks_in steps ++ es =
-          ap (take (length (marks_in steps ++ es))) all_marks ∙ take_behind (marks_in steps ++ es) (Fault g (cid_of state) r image ∷ Abort g ∷ []) in
+      ap (take (length (marks_in steps ++ es))) all_marks ∙ take_behind (marks_in steps ++ es) (Fault g (cid_of state) r image ∷ Abort g ∷ []) in
       record {
         place = length (marks_in steps ++ es);
         rid = r;

@@ -241,7 +241,7 @@ module _ (script : Script) (steps : List Step) (k : SessionId) (s : Session) (li
 
   -- an evaluation faults
   quiet_fault : (r : Rid) (image : Option (List Value)) → IsQuiet (Fault g (cid_of state) r image ∷ [])
-  quiet_fault r image = record { writes = λ node t q. refl; all = λ t q. refl; wrote = λ node h. refl; committed = λ h. refl; aborted = λ h. refl; nodes = λ q. refl; }
+  quiet_fault r image = record { writes = λ node t q. refl; all = λ t q. refl; wrote = λ node h. refl; committed = λ h. refl; aborted = λ h. refl; nodes = λ q. refl }
 
   pub IsGoing-fault : (r : Rid) (image : Option (List Value)) (fault : ArithFault) → IsFaultOf (marks_in steps ++ es) (level_of state) g (cid_of state) line r image fault → IsGoing script steps k s line state d g (es ++ Fault g (cid_of state) r image ∷ []) stores now
   IsGoing-fault r image fault faults = record {

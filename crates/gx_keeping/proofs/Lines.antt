@@ -43,7 +43,6 @@ use Rattle.gx_keeping.proofs.Others.{IsTakenIn-append}
 use Rattle.gx_keeping.proofs.Txns.{find-begun_new, find-begun_other, find-ended_other}
 use Rattle.gx_keeping.proofs.Under.{has_marks-later, has_snapshot-fresh}
 
-
 or_false : (b : Bool) → (b || false) ≡ b
 or_false true = refl
 or_false false = refl
@@ -52,7 +51,7 @@ same_number : (n : ℕ) → eqb n n ≡ true
 same_number n = grind (arith, nat_tests)
 
 quiet_answer : (k : SessionId) (n : ℕ) (a : StmtAnswer) → IsQuiet (Answer k n a ∷ [])
-quiet_answer k n a = record { writes = λ node t r. refl; all = λ t r. refl; wrote = λ node g. refl; committed = λ g. refl; aborted = λ g. refl; nodes = λ r. refl; }
+quiet_answer k n a = record { writes = λ node t r. refl; all = λ t r. refl; wrote = λ node g. refl; committed = λ g. refl; aborted = λ g. refl; nodes = λ r. refl }
 
 pub one_answer : (k : SessionId) (n : ℕ) (a : StmtAnswer) → answer_count k (Answer k n a ∷ []) ≡ 1
 one_answer k n a = ap (λ (b : Bool). cond b (0 + 1) 0) (same_number k.0)
