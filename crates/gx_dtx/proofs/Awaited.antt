@@ -1,6 +1,5 @@
 -- An order is sent again exactly where an answer is awaited.
-use Rattle.std.proofs.Common.{◌≡◌, List, refl, sym, ap, Bool, true, false, cond, eqb, arith}
-use Rattle.std.proofs.lemmas.Bool.Decides.{nat_tests}
+use Rattle.std.proofs.Common.{◌≡◌, refl, Bool, true, false, cond, eqb}
 use Rattle.std.specs.Prelude.{Option, None, Some, ◌↔◌}
 use Rattle.gx_ids.specs.declared.ids.Node.{Node}
 use Rattle.gx_msg.specs.declared.reply.Reply.{Reply as Answer}

@@ -48,3 +48,8 @@ running-drawn n q (e ∷ es) drawn is = grind (arith, nat_tests, running-drawn n
 pub insert_entry-last : (g : Gxid) (t : Txn) (es : List (Gxid × Txn)) → AreDrawn g.0 es → insert_entry gxid_cmp es g t ≡ es ++ (g, t) ∷ []
 insert_entry-last g t [] drawn = refl
 insert_entry-last g t (e ∷ es) drawn = grind (arith, nat_tests, insert_entry-last g t es drawn.2)
+
+-- the next number isn't there yet
+pub find-next : (g : Gxid) (es : List (Gxid × Txn)) → AreDrawn g.0 es → lookup (is_at (gxid_cmp g)) es ≡ None
+find-next g [] drawn = refl
+find-next g (e ∷ es) drawn = grind (arith, nat_tests, find-next g es drawn.2)

@@ -15,3 +15,4 @@ pub mod Promises
 pub mod Causes
 pub mod Over
 pub mod Awaited
+pub mod Filing

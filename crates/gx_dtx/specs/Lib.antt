@@ -7,4 +7,5 @@ pub mod Whole
 pub mod Fits
 pub mod Past
 pub mod Agrees
+pub mod Lives
 pub mod Laws

@@ -6,14 +6,13 @@ ghost use Rattle.gx_dsnap.specs.Snapshot.{sees};
 
 use crate::outcome::DtxOut;
 use crate::status::Status;
-use crate::txn::Txn;
+use crate::txns::Txns;
 use crate::{found, txns};
 use gx_dsnap::Snapshot;
 use gx_ids::{Gxid, Mem, Node};
 use gx_msg::{Out, Reply};
 use gx_outside::Journal;
 use std::alloc::Global;
-use std::collections::BTreeMap;
 use std::marker::Model;
 
 /// The coordinator's transactions: those that run, and those that have ended and that some participant hasn't
@@ -23,7 +22,7 @@ pub struct Dtx {
     alloc: Global,
     next: Gxid,
     latest_ended: Option<Gxid>,
-    txns: BTreeMap<Gxid, Txn>,
+    txns: Txns,
 }
 
 impl Model for Dtx {
@@ -32,9 +31,9 @@ impl Model for Dtx {
 
     ghost Value = { Table };
 
-    ghost view = { λ a. record { next = a.next; latest_ended = a.latest_ended; txns = a.txns.entries } };
+    ghost view = { λ a. record { next = a.next; latest_ended = a.latest_ended; txns = a.txns } };
 
-    ghost invariant = { λ a. IsWhole (record { next = a.next; latest_ended = a.latest_ended; txns = a.txns.entries }) };
+    ghost invariant = { λ a. IsWhole (record { next = a.next; latest_ended = a.latest_ended; txns = a.txns }) };
 }
 
 impl Dtx {
@@ -52,7 +51,7 @@ impl Dtx {
             alloc,
             next: Gxid(1),
             latest_ended: None,
-            txns: BTreeMap::new(alloc),
+            txns: Txns::new(alloc),
         })
     }
 
@@ -65,7 +64,7 @@ impl Dtx {
     {
         let gxid = self.next;
         let next = Gxid(gxid.0 + 1);
-        self.txns.insert(gxid, Txn::new(self.alloc))?;
+        self.txns.begin(gxid)?;
         self.next = next;
         Ok(gxid)
     }
@@ -74,7 +73,7 @@ impl Dtx {
     pub fn status(&self, gxid: Gxid) -> Option<Status>
         ensures { result ≡ status_of self.now gxid }
     {
-        let txn = self.txns.get(&gxid)?;
+        let txn = self.txns.find(gxid)?;
         Some(txn.phase.status())
     }
 
@@ -90,8 +89,8 @@ impl Dtx {
         ensures ok { OnOk result (self.new ≡ with_live self.old gxid (Some (xmin_of self.old))) }
         ensures err { OnErr result (self.new ≡ self.old) }
     {
-        let snapshot = txns::snapshot_of(self.alloc, &self.txns, self.latest_ended)?;
-        txns::set_live(&mut self.txns, gxid, Some(snapshot.xmin));
+        let snapshot = self.txns.snapshot(self.latest_ended)?;
+        self.txns.set_live(gxid, snapshot.xmin)?;
         Ok(snapshot)
     }
 
@@ -99,7 +98,7 @@ impl Dtx {
     pub fn drop_snapshot(&mut self, gxid: Gxid)
         ensures { self.new ≡ with_live self.old gxid None }
     {
-        txns::set_live(&mut self.txns, gxid, None);
+        self.txns.drop_live(gxid);
     }
 
     /// Makes a node a participant of the transaction, since a command goes to it.
@@ -108,7 +107,7 @@ impl Dtx {
         ensures ok { OnOk result (self.new ≡ enlisted self.old gxid node) }
         ensures err { OnErr result (self.new ≡ self.old) }
     {
-        txns::enlist(self.alloc, &mut self.txns, gxid, node)
+        self.txns.enlist(gxid, node)
     }
 
     /// Commits a transaction that has written at these nodes: at once without writers, by one phase with one, by two
@@ -122,8 +121,8 @@ impl Dtx {
         ensures told { participants_of self.old gxid ≡ [] → IfOk result (λ out. out ≡ silently outcome.Committed) }
         ensures err { OnErr result (self.new ≡ self.old) }
     {
-        let change = found::commit(self.alloc, self.txns.get(&gxid), gxid, writers)?;
-        Ok(txns::make(&mut self.txns, &mut self.latest_ended, gxid, change))
+        let change = found::commit(self.alloc, self.txns.find(gxid), gxid, writers)?;
+        Ok(self.txns.make(&mut self.latest_ended, gxid, change))
     }
 
     /// Aborts a transaction.
@@ -135,8 +134,8 @@ impl Dtx {
         ensures told { participants_of self.old gxid ≡ [] → IfOk result (λ out. out ≡ silently outcome.Ended) }
         ensures err { OnErr result (self.new ≡ self.old) }
     {
-        let change = found::abort(self.alloc, self.txns.get(&gxid), gxid)?;
-        Ok(txns::make(&mut self.txns, &mut self.latest_ended, gxid, change))
+        let change = found::abort(self.alloc, self.txns.find(gxid), gxid)?;
+        Ok(self.txns.make(&mut self.latest_ended, gxid, change))
     }
 
     /// Takes a node's answer about a transaction. One that isn't awaited changes nothing. With the last PREPARED the
@@ -162,20 +161,20 @@ impl Dtx {
     {
         let change = found::reply(
             self.alloc,
-            self.txns.get(&gxid),
+            self.txns.find(gxid),
             gxid,
             node,
             &answer,
             journal,
         )?;
-        Ok(txns::make(&mut self.txns, &mut self.latest_ended, gxid, change))
+        Ok(self.txns.make(&mut self.latest_ended, gxid, change))
     }
 
     /// The message to a node whose answer is awaited, once more; none exactly where no answer of the node is awaited.
     pub fn resend(&self, gxid: Gxid, node: Node) -> Mem<Option<Out>>
         ensures { IfOk result (λ out. out ≡ option_map (λ order. record { node = node; message = message_of order gxid }) (awaited_order self.now gxid node)) }
     {
-        let order = found::order(self.txns.get(&gxid), node);
+        let order = found::order(self.txns.find(gxid), node);
         Ok(order.map(|order| order.out(gxid, node)))
     }
 
@@ -186,6 +185,6 @@ impl Dtx {
         ensures lowest { All (λ g. result.0 ≤ g.0) (flat_map holds_back self.now.txns ++ self.now.next ∷ []) }
         ensures among { Contains (flat_map holds_back self.now.txns ++ self.now.next ∷ []) result }
     {
-        txns::horizon(&self.txns, self.next)
+        self.txns.horizon(self.next)
     }
 }

@@ -13,18 +13,18 @@ use Rattle.gx_dtx.proofs.dtx.Dtx.reply.Goals as goal
 
 pub returns-in_err-change-clause-untouched : goal.returns-in_err-change-clause-untouched
 returns-in_err-change-clause-untouched g c = λ isnt.
-    c.reply.ensures.untouched (ap (λ o. decides_found o c.args.node c.args.answer) c.get.ensures.value ∙ ap (λ (d : Table). is_deciding d c.args.gxid c.args.node c.args.answer) c.self.view_is ∙ isnt)
+    c.reply.ensures.untouched (ap (λ o. decides_found o c.args.node c.args.answer) c.find.ensures ∙ ap (λ (d : Table). is_deciding d c.args.gxid c.args.node c.args.answer) c.self.view_is ∙ isnt)
 
 abbrev table : (g : Over) → goal.Joined-answer-3 g → Table
-table g c = record { next = c.self.inside.next; latest_ended = c.self.inside.latest_ended; txns = c.self.inside.txns.entries }
+table g c = record { next = c.self.inside.next; latest_ended = c.self.inside.latest_ended; txns = c.self.inside.txns }
 
 change : (g : Over) (c : goal.Joined-answer-3 g) → c.in_ok-change.change ≡ reply_found c.args.gxid c.args.node c.args.answer (is_refused c.in_ok-change.change.out.outcome) (find_txn (table g c) c.args.gxid)
-change g c = c.in_ok-change.ensures.value ∙ ap (reply_found c.args.gxid c.args.node c.args.answer (is_refused c.in_ok-change.change.out.outcome)) c.get.ensures.value
+change g c = c.in_ok-change.ensures.value ∙ ap (reply_found c.args.gxid c.args.node c.args.answer (is_refused c.in_ok-change.change.out.outcome)) c.find.ensures
 
 pub invariant_of-self : goal.invariant_of-self
 invariant_of-self g c =
     let o = find_txn (table g c) c.args.gxid in
-    IsWhole-made (table g c) c.args.gxid c.in_ok-change.change c.make.new.latest_ended c.make.new.txns.entries c.make.ensures.txns c.make.ensures.latest c.self.invariant
+    IsWhole-made (table g c) c.args.gxid c.in_ok-change.change c.make.new.latest_ended c.make.new.self c.make.ensures.txns c.make.ensures.latest c.self.invariant
     (subst (Fits o) (sym (change g c)) (Fits-reply o c.args.gxid c.args.node c.args.answer (is_refused c.in_ok-change.change.out.outcome)))
 
 pub returns-clause-cause : goal.returns-clause-cause
@@ -36,6 +36,6 @@ returns-clause-cause g c =
 
 pub returns-clause-unawaited : goal.returns-clause-unawaited
 returns-clause-unawaited g c = λ isnt.
-    turns-made (table g c) c.args.gxid c.in_ok-change.change c.make.new.latest_ended c.make.new.txns.entries c.make.ensures.txns c.make.ensures.latest
+    turns-made (table g c) c.args.gxid c.in_ok-change.change c.make.new.latest_ended c.make.new.self c.make.ensures.txns c.make.ensures.latest
     ∙ ap (λ (x : Change). (turns (table g c) c.args.gxid x).table) (change g c ∙ reply-unawaited c.args.gxid c.args.node c.args.answer (is_refused c.in_ok-change.change.out.outcome) (find_txn (table g c) c.args.gxid) (ap (λ (d : Table). awaits d c.args.gxid c.args.node c.args.answer) c.self.view_is ∙ isnt))
     ∙ c.self.view_is

@@ -2,7 +2,7 @@ use Rattle.std.proofs.Common.{◌∙◌, sym, subst}
 use Rattle.gx_dsnap.specs.Gxids.{IsRising, gxid_cmp}
 use Rattle.gx_dtx.specs.Table.{is_running}
 use Rattle.gx_dtx.proofs.Rising.{IsStrictlySortedBy-keys_filter}
-use Rattle.gx_dtx.proofs.txns.snapshot_of.Goals as goal
+use Rattle.gx_dtx.proofs.map.snapshot_of.Goals as goal
 
 pub take-requires-clause-rising : goal.take-requires-clause-rising
 take-requires-clause-rising c =
