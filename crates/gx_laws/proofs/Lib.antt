@@ -19,3 +19,4 @@ pub mod Commands
 pub mod Lines
 pub mod Replies
 pub mod World
+pub mod SegItems
