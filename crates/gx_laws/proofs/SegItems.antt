@@ -21,6 +21,7 @@ use Rattle.gx_msg.specs.declared.item.Kept.{Kept}
 use Rattle.gx_msg.specs.declared.message.Message.{Message}
 use Rattle.gx_msg.specs.declared.message.Message.TheVariants as message
 use Rattle.gx_msg.specs.declared.reply.Reply.{Reply}
+use Rattle.gx_msg.specs.declared.reply.Reply.TheVariants as answer
 use Rattle.gx_script.specs.declared.Script.{Script}
 use Rattle.gx_store.specs.declared.mark.Mark.{Mark}
 use Rattle.gx_store.specs.declared.mark.Mark.TheVariants as mark
@@ -254,3 +255,124 @@ module _ (script : Script) (s : Seg) (before : List Mark) (k : Holds s.node s be
         items = ap (λ q. q ++ []) e;
         holds = record { versions = k.versions ∙ sym (writes-append s.node before (m ∷ []) ∙ ap (λ vs. writes_at s.node before ++ vs) w ∙ append-nil (writes_at s.node before)); bound = b };
       }
+
+  prepare_item : (g : Gxid) → item_of s.node before (mark.Prepared s.node g) ≡ item.Prepare g (kept_of s g) ∷ []
+  prepare_item g = ap (λ q. if q then item.Prepare g (kept_at s.node g before) ∷ [] else []) (node-self s.node) ∙ ap (λ q. item.Prepare g q ∷ []) (kept-same g)
+
+  prepared-more : (g h : ℕ) → is_prepared (before ++ mark.Prepared s.node (gx g) ∷ []) s.node (gx h) ≡ is_prepared before s.node (gx h) || eqb g h
+  prepared-more g h = prepared-append before (mark.Prepared s.node (gx g) ∷ []) s.node (gx h) ∙ ap (λ q. is_prepared before s.node (gx h) || ((q && eqb g h) || false)) (node-self s.node) ∙ ap (λ q. is_prepared before s.node (gx h) || q) (or-false (eqb g h))
+    where
+      or-false : (a : Bool) → (a || false) ≡ a
+      or-false true = refl
+      or-false false = refl
+
+  promise : (fails : Bool) (g : Gxid) (l : Local) → Bound (is_prepared before s.node g) l.phase → Well fails (promises s g fails l)
+  promise true g l b = changed true g _ (mark.JournalFailed s.node g ∷ []) _ _ (tt, tt) refl refl b
+  promise false g l b = noted g _ (mark.Prepared s.node g) _ (item.Prepare g (kept_of s g)) (prepare_item g) refl bounds
+    where
+      new : Local
+      new = record l { phase = Prepared; vote = Some answer.Prepared }
+      or-true : (a : Bool) {b : Bool} → b ≡ true → (a || b) ≡ true
+      or-true true e = refl
+      or-true false e = e
+      or-false : (a b : Bool) → b ≡ false → a ≡ (a || b)
+      or-false a b e = grind arith
+      back : (a b : ℕ) (q : Bool) → eqb a b ≡ q → eqb b a ≡ q
+      back a b q e = grind (arith, nat_tests)
+      by_test : (h : ℕ) (q : Bool) → eqb h g.0 ≡ q → Bound (is_prepared (before ++ mark.Prepared s.node g ∷ []) s.node (gx h)) (if q then new else s.locals h).phase
+      by_test h true e = prepared-more g.0 h ∙ or-true (is_prepared before s.node (gx h)) (back h g.0 true e)
+      by_test h false e = subst (λ q. Bound q (s.locals h).phase) (or-false (is_prepared before s.node (gx h)) (eqb g.0 h) (back h g.0 false e) ∙ sym (prepared-more g.0 h)) (k.bound h)
+      bounds : (h : ℕ) → Bound (is_prepared (before ++ mark.Prepared s.node g ∷ []) s.node (gx h)) (with_at s.locals g.0 new h).phase
+      bounds h = by_test h (eqb h g.0) refl
+
+  commit_item : (g : Gxid) → is_prepared before s.node g ≡ false → item_of s.node before (mark.LocalCommit s.node g) ≡ item.Commit g (kept_of s g) ∷ []
+  commit_item g n =
+      ap (λ q. if q then (if is_prepared before s.node g then item.Finish g ∷ [] else item.Commit g (kept_at s.node g before) ∷ []) else []) (node-self s.node)
+      ∙ ap (λ q. if q then item.Finish g ∷ [] else item.Commit g (kept_at s.node g before) ∷ []) n ∙ ap (λ q. item.Commit g q ∷ []) (kept-same g)
+
+  finish_item : (g : Gxid) → is_prepared before s.node g ≡ true → item_of s.node before (mark.LocalCommit s.node g) ≡ item.Finish g ∷ []
+  finish_item g n =
+      ap (λ q. if q then (if is_prepared before s.node g then item.Finish g ∷ [] else item.Commit g (kept_at s.node g before) ∷ []) else []) (node-self s.node)
+      ∙ ap (λ q. if q then item.Finish g ∷ [] else item.Commit g (kept_at s.node g before) ∷ []) n
+
+  commit-bound : (g : Gxid) (l : Local) → Bound (is_prepared before s.node g) l.phase → (h : ℕ) → Bound (is_prepared (before ++ mark.LocalCommit s.node g ∷ []) s.node (gx h)) (with_at s.locals g.0 l h).phase
+  commit-bound g l b h = subst (λ q. Bound q (with_at s.locals g.0 l h).phase) (sym (prepared-append before (mark.LocalCommit s.node g ∷ []) s.node (gx h) ∙ or-false (is_prepared before s.node (gx h)))) (bound-with s.locals g.0 l (λ j. is_prepared before s.node (gx j)) k.bound b h)
+    where
+      or-false : (a : Bool) → (a || false) ≡ a
+      or-false true = refl
+      or-false false = refl
+
+  commit_one : (fails : Bool) (g : Gxid) (l : Local) → is_prepared before s.node g ≡ false → Bound (is_prepared before s.node g) l.phase → Well fails (commits s g fails l)
+  commit_one true g l n b = changed true g _ (mark.JournalFailed s.node g ∷ []) _ _ (tt, tt) refl refl b
+  commit_one false g l n b = noted g _ (mark.LocalCommit s.node g) _ (item.Commit g (kept_of s g)) (commit_item g n) refl (commit-bound g (record l { phase = Committed; vote = Some answer.Committed }) tt)
+
+  finish : (fails : Bool) (g : Gxid) (l : Local) → is_prepared before s.node g ≡ true → Bound (is_prepared before s.node g) l.phase → Well fails (finishes s g fails l)
+  finish true g l n b = changed true g l (mark.JournalFailed s.node g ∷ []) _ _ (tt, tt) refl refl b
+  finish false g l n b = noted g _ (mark.LocalCommit s.node g) _ (item.Finish g) (finish_item g n) refl (commit-bound g (record l { phase = Committed }) tt)
+
+  prepare : (fails : Bool) (g : Gxid) (l : Local) (p : Phase) → l.phase ≡ p → Bound (is_prepared before s.node g) p → Well fails (on_prepare s g fails l p)
+  prepare fails g l Reading e b = only fails g l.vote _ (promise fails g l (subst (Bound (is_prepared before s.node g)) (sym e) b))
+  prepare fails g l Writing e b = only fails g l.vote _ (promise fails g l (subst (Bound (is_prepared before s.node g)) (sym e) b))
+  prepare fails g l Prepared e b = kept fails g l.vote
+  prepare fails g l Committed e b = kept fails g l.vote
+  prepare fails g l (Forgotten q) e b = kept fails g l.vote
+  prepare fails g l Aborted e b = stay fails
+
+  commit : (fails : Bool) (g : Gxid) (l : Local) (p : Phase) → l.phase ≡ p → Bound (is_prepared before s.node g) p → Well fails (on_commit s g fails l p)
+  commit fails g l Reading e b = only fails g l.vote _ (commit_one fails g l b (subst (Bound (is_prepared before s.node g)) (sym e) b))
+  commit fails g l Writing e b = only fails g l.vote _ (commit_one fails g l b (subst (Bound (is_prepared before s.node g)) (sym e) b))
+  commit fails g l Prepared e b = stay fails
+  commit fails g l Committed e b = both fails (was_prepared l.vote) _ _ (stay fails) (kept fails g l.vote)
+  commit fails g l (Forgotten q) e b = both fails (was_prepared l.vote) _ _ (stay fails) (kept fails g l.vote)
+  commit fails g l Aborted e b = stay fails
+
+  commit_prepared : (fails : Bool) (g : Gxid) (l : Local) (p : Phase) → l.phase ≡ p → Bound (is_prepared before s.node g) p → Well fails (on_commit_prepared s g fails l p)
+  commit_prepared fails g l Reading e b = stay fails
+  commit_prepared fails g l Writing e b = stay fails
+  commit_prepared fails g l Prepared e b = finish fails g l b (subst (Bound (is_prepared before s.node g)) (sym e) b)
+  commit_prepared fails g l Committed e b = tell fails g _
+  commit_prepared fails g l (Forgotten true) e b = tell fails g _
+  commit_prepared fails g l (Forgotten false) e b = stay fails
+  commit_prepared fails g l Aborted e b = stay fails
+
+  abort : (fails : Bool) (g : Gxid) (l : Local) (p : Phase) → Well fails (on_abort s g l p)
+  abort fails g l Reading = changed fails g _ [] _ None tt refl (none-kept fails) tt
+  abort fails g l Writing = changed fails g _ [] _ None tt refl (none-kept fails) tt
+  abort fails g l Prepared = changed fails g _ [] _ None tt refl (none-kept fails) tt
+  abort fails g l Committed = stay fails
+  abort fails g l (Forgotten b) = stay fails
+  abort fails g l Aborted = tell fails g _
+
+  forget : (fails : Bool) (g : Gxid) (l : Local) (p : Phase) → Well fails (on_forget s g l p)
+  forget fails g l Reading = changed fails g _ [] _ None tt refl (none-kept fails) tt
+  forget fails g l Writing = changed fails g _ [] _ None tt refl (none-kept fails) tt
+  forget fails g l Prepared = changed fails g _ [] _ None tt refl (none-kept fails) tt
+  forget fails g l Committed = changed fails g _ [] _ None tt refl (none-kept fails) tt
+  forget fails g l (Forgotten b) = tell fails g _
+  forget fails g l Aborted = stay fails
+
+  below : (fails : Bool) (g : Gxid) (turn : SegTurn) → Well fails turn → Well fails (unless_below s g turn)
+  below fails g turn e = both fails (is_below s.horizon g) _ _ (stay fails) e
+
+  fits : (fails : Bool) (b : Bool) (turn : SegTurn) → Well fails turn → Well fails (if_fits s b turn)
+  fits fails true turn e = e
+  fits fails false turn e = stay fails
+
+  message_items : (fails : Bool) (m : Message) → Well fails (on_message script s fails m)
+  message_items fails (message.Exec g c level snapshot h x) = below fails g _ (fits fails (fits_exec script s g c snapshot h x) _ (exec fails g c snapshot h x (local_of s g) (local_of s g).phase (k.bound g.0)))
+  message_items fails (message.Prepare g) = below fails g _ (prepare fails g (local_of s g) (local_of s g).phase refl (k.bound g.0))
+  message_items fails (message.Commit g) = below fails g _ (commit fails g (local_of s g) (local_of s g).phase refl (k.bound g.0))
+  message_items fails (message.CommitPrepared g) = below fails g _ (commit_prepared fails g (local_of s g) (local_of s g).phase refl (k.bound g.0))
+  message_items fails (message.Abort g) = below fails g _ (abort fails g (local_of s g) (local_of s g).phase)
+  message_items fails (message.Forget g) = below fails g _ (forget fails g (local_of s g) (local_of s g).phase)
+  message_items fails (message.Collect round) = stay fails
+  message_items fails (message.Answer g r) = stay fails
+  message_items fails (message.Graph round graph) = stay fails
+
+  pub event_items : (x : NodeEvent) (fails : Bool) → Well fails (on_event script s x fails)
+  event_items (event.Deliver from envelope) fails = message_items fails envelope.message
+  event_items (event.Resume g) fails = stay fails
+  event_items (event.Start x) fails = stay fails
+  event_items (event.End x) fails = stay fails
+  event_items (event.Resend i g) fails = stay fails
+  event_items event.Round fails = stay fails
