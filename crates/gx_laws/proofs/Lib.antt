@@ -20,3 +20,5 @@ pub mod Lines
 pub mod Replies
 pub mod World
 pub mod SegItems
+pub mod CoordItems
+pub mod Journals

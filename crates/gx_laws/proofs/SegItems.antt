@@ -47,7 +47,7 @@ writes_at node (mark.Write g c n table rid image ∷ ms) =
     if is_same_node n node then record { gxid = g; cid = c; table = table; rid = rid; image = image } ∷ writes_at node ms else writes_at node ms
 writes_at node (_ ∷ ms) = writes_at node ms
 
-writes-append : (node : Node) (xs ys : List Mark) → writes_at node (xs ++ ys) ≡ writes_at node xs ++ writes_at node ys
+pub writes-append : (node : Node) (xs ys : List Mark) → writes_at node (xs ++ ys) ≡ writes_at node xs ++ writes_at node ys
 writes-append node [] ys = refl
 writes-append node (mark.Write g c n table rid image ∷ xs) ys = by_test (is_same_node n node) (writes-append node xs ys)
   where
@@ -73,7 +73,7 @@ kept-is node g k (mark.Write h c n table rid image ∷ ms) = by_tests (is_same_n
     by_tests false false e old more = old
 kept-is node g k (m ∷ ms) = kept-is node g k ms
 
-prepared-append : (xs ys : List Mark) (node : Node) (g : Gxid) → is_prepared (xs ++ ys) node g ≡ is_prepared xs node g || is_prepared ys node g
+pub prepared-append : (xs ys : List Mark) (node : Node) (g : Gxid) → is_prepared (xs ++ ys) node g ≡ is_prepared xs node g || is_prepared ys node g
 prepared-append [] ys node g = refl
 prepared-append (mark.Prepared n h ∷ xs) ys node g = ap (λ b. (is_same_node n node && is_same_gxid h g) || b) (prepared-append xs ys node g) ∙ or-or (is_same_node n node && is_same_gxid h g) (is_prepared xs node g) (is_prepared ys node g)
   where
