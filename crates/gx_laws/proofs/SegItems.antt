@@ -1,5 +1,5 @@
 -- What a segment's journal takes is what its marks stand for.
-use Rattle.std.proofs.Common.{◌≡◌, ℕ, ◌+◌, List, [], ◌∷◌, ◌++◌, Option, Some, None, Bool, true, false, refl, sym, subst, ap, ◌∙◌, if◌then◌else◌, cond, ◌==◌, ◌||◌, ◌&&◌, nat_lt, arith, eqb, append-nil}
+use Rattle.std.proofs.Common.{◌≡◌, ℕ, List, [], ◌∷◌, ◌++◌, Option, Some, None, Bool, true, false, refl, sym, subst, ap, ◌∙◌, if◌then◌else◌, cond, ◌==◌, ◌||◌, ◌&&◌, nat_lt, arith, eqb, append-nil}
 use Rattle.std.proofs.lemmas.Bool.{eqb-true}
 use Rattle.std.proofs.lemmas.Bool.Decides.{nat_tests}
 use Rattle.std.proofs.lemmas.List.{append_assoc}
@@ -53,6 +53,7 @@ writes-append node (mark.Write g c n table rid image ∷ xs) ys = by_test (is_sa
   where
     v : Version
     v = record { gxid = g; cid = c; table = table; rid = rid; image = image }
+
     by_test : (b : Bool) → writes_at node (xs ++ ys) ≡ writes_at node xs ++ writes_at node ys → (if b then v ∷ writes_at node (xs ++ ys) else writes_at node (xs ++ ys)) ≡ (if b then v ∷ writes_at node xs else writes_at node xs) ++ writes_at node ys
     by_test true e = ap (λ vs. v ∷ vs) e
     by_test false e = e
@@ -64,8 +65,10 @@ kept-is node g k (mark.Write h c n table rid image ∷ ms) = by_tests (is_same_n
   where
     v : Version
     v = record { gxid = h; cid = c; table = table; rid = rid; image = image }
+
     new : Kept
     new = record { rid = rid; table = table; image = image }
+
     by_tests : (a b : Bool) → is_same_gxid h g ≡ b → kept_from node g k ms ≡ fold kept_one k (filter (λ (v : Version). is_same_gxid v.gxid g) (writes_at node ms)) → kept_from node g (kept_with new k) ms ≡ fold kept_one (kept_with new k) (filter (λ (v : Version). is_same_gxid v.gxid g) (writes_at node ms)) → kept_from node g (if b && a then kept_with new k else k) ms ≡ fold kept_one k (filter (λ (v : Version). is_same_gxid v.gxid g) (if a then v ∷ writes_at node ms else writes_at node ms))
     by_tests true true e old more = more ∙ ap (λ q. fold kept_one k (cond q (v ∷ filter (λ (v : Version). is_same_gxid v.gxid g) (writes_at node ms)) (filter (λ (v : Version). is_same_gxid v.gxid g) (writes_at node ms)))) (sym e)
     by_tests true false e old more = old ∙ ap (λ q. fold kept_one k (cond q (v ∷ filter (λ (v : Version). is_same_gxid v.gxid g) (writes_at node ms)) (filter (λ (v : Version). is_same_gxid v.gxid g) (writes_at node ms)))) (sym e)
@@ -203,6 +206,7 @@ module _ (script : Script) (s : Seg) (before : List Mark) (k : Holds s.node s be
     where
       v : Version
       v = record { gxid = g; cid = c; table = table; rid = r.rid; image = Some r.row }
+
       here : writes_at s.node (mark.Write g c m.seg.node table r.rid (Some r.row) ∷ []) ≡ v ∷ []
       here = ap (λ q. if q then v ∷ [] else []) (ap (λ z. is_same_node z s.node) f.node ∙ node-self s.node)
 
@@ -272,16 +276,21 @@ module _ (script : Script) (s : Seg) (before : List Mark) (k : Holds s.node s be
     where
       new : Local
       new = record l { phase = Prepared; vote = Some answer.Prepared }
+
       or-true : (a : Bool) {b : Bool} → b ≡ true → (a || b) ≡ true
       or-true true e = refl
       or-true false e = e
+
       or-false : (a b : Bool) → b ≡ false → a ≡ (a || b)
       or-false a b e = grind arith
+
       back : (a b : ℕ) (q : Bool) → eqb a b ≡ q → eqb b a ≡ q
       back a b q e = grind (arith, nat_tests)
+
       by_test : (h : ℕ) (q : Bool) → eqb h g.0 ≡ q → Bound (is_prepared (before ++ mark.Prepared s.node g ∷ []) s.node (gx h)) (if q then new else s.locals h).phase
       by_test h true e = prepared-more g.0 h ∙ or-true (is_prepared before s.node (gx h)) (back h g.0 true e)
       by_test h false e = subst (λ q. Bound q (s.locals h).phase) (or-false (is_prepared before s.node (gx h)) (eqb g.0 h) (back h g.0 false e) ∙ sym (prepared-more g.0 h)) (k.bound h)
+
       bounds : (h : ℕ) → Bound (is_prepared (before ++ mark.Prepared s.node g ∷ []) s.node (gx h)) (with_at s.locals g.0 new h).phase
       bounds h = by_test h (eqb h g.0) refl
 
