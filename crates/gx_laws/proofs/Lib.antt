@@ -22,3 +22,5 @@ pub mod World
 pub mod SegItems
 pub mod CoordItems
 pub mod Journals
+pub mod Numbers
+pub mod Numbered

@@ -7,6 +7,7 @@ ghost use Rattle.gx_store.specs.Ordered.{AreOrdered};
 ghost use Rattle.gx_store.specs.declared.event.Event.{Event as OneEvent};
 ghost use Rattle.gx_ids.specs.declared.ids.Node.{Node as OneNode};
 ghost use Rattle.gx_laws.specs.Journals.{journal_after};
+ghost use Rattle.gx_laws.specs.Numbers.{AreStartsNumbered};
 ghost use Rattle.gx_laws.specs.Runs.{steps_after};
 ghost use Rattle.gx_store.specs.Journals.{items_of};
 ghost use Rattle.gx_laws.specs.Seen.{AreEndedSeen};
@@ -30,4 +31,9 @@ pub fn who_is_seen_has_ended()
 /// A node's journal holds the items that the marks stand for, in their order, and nothing else.
 pub fn journals_hold_their_items()
     ensures { (script : Script) (events : List (OneEvent × Bool)) (node : OneNode) → 1 ≤ script.segments → journal_after script node events ≡ items_of node (marks_in (steps_after script events)) }
+{}
+
+/// Transactions are numbered from 1, in the order of their Start marks.
+pub fn transactions_are_numbered()
+    ensures { (script : Script) (events : List (OneEvent × Bool)) → 1 ≤ script.segments → AreStartsNumbered [] (marks_in (steps_after script events)) }
 {}
