@@ -19,3 +19,8 @@ pub mod Commands
 pub mod Lines
 pub mod Replies
 pub mod World
+pub mod SegItems
+pub mod CoordItems
+pub mod Journals
+pub mod Numbers
+pub mod Numbered

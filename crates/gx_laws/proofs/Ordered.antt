@@ -98,7 +98,7 @@ module _ (script : Script) (some : 1 ≤ script.segments) (w : World) (good : We
   links : Each (λ o. IsLink script the_coordinator o.node) turn.outs
   links = each_weaker (OutIn script.segments) (λ o. IsLink script the_coordinator o.node) (λ o h. inl (refl, h)) turn.outs kept.outs
 
-  at_coordinator : Each (IsAtNode script the_coordinator) step.marks
+  pub at_coordinator : Each (IsAtNode script the_coordinator) step.marks
   at_coordinator = marks-at script the_coordinator turn.marks turn.coord.sent turn.outs kept.marks links
 
   counts : (i : ℕ) → turn.coord.sent i ≡ sent_in the_coordinator (at i) w.steps

@@ -38,7 +38,7 @@ pub record Knows (script : Script) (w : World) : Type 0 where
   pub past : Past w.coord (marks_in w.steps)
   pub seen : AreEndedSeen [] (marks_in w.steps)
 
-marks-last : (steps : List Step) (s : Step) → marks_in (steps ++ s ∷ []) ≡ marks_in steps ++ s.marks
+pub marks-last : (steps : List Step) (s : Step) → marks_in (steps ++ s ∷ []) ≡ marks_in steps ++ s.marks
 marks-last [] s = append-nil s.marks
 marks-last (x ∷ steps) s = ap (λ ms. x.marks ++ ms) (marks-last steps s) ∙ sym (append_assoc x.marks (marks_in steps) s.marks)
 
