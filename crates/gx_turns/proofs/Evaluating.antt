@@ -130,4 +130,3 @@ all_kept (r ∷ rs) = ap (λ l. r ∷ l) (all_kept rs)
 
 pub unconditional : (rows kept : List KeyedRow) → kept ≡ rows → AreKept None rows kept
 unconditional rows kept e = record { whole = λ k d l. (true, refl); is = e ∙ sym (all_kept rows) }
-
