@@ -1,0 +1,5 @@
+//! Tests of the coordinator's transactions.
+#![tactic(auto)]
+
+#[cfg(test)]
+mod transactions;
