@@ -1,3 +1,17 @@
+pub mod Asked
+pub mod Ended
+pub mod Ending
 pub mod Evaluating
+pub mod Finishes
+pub mod Giving
+pub mod Inserted
+pub mod Leaving
+pub mod Made
+pub mod Over
 pub mod Parts
+pub mod Queries
+pub mod Schemas
+pub mod Scripts
+pub mod Seen
+pub mod Starts
 pub mod Writers

@@ -1,2 +1,5 @@
+pub mod Commands
 pub mod Evaluations
+pub mod Language
 pub mod Reads
+pub mod Turns

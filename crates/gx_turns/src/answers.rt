@@ -1,9 +1,13 @@
 // The marks that end a line.
 ghost use Rattle.std.specs.Prelude.{◌≡◌, ◌++◌, ◌∷◌, [], IfOk, OnOk};
+ghost use Rattle.gx_turns.specs.Commands.{refusal_of};
 
+use crate::command::Command;
+use crate::stop::Faulted;
 use crate::turn::Turn;
+use gx_eval::ArithFault;
 use gx_ids::{Gxid, Mem};
-use gx_store::{Mark, StmtAnswer};
+use gx_store::{Mark, Refused, StmtAnswer};
 use std::alloc::Global;
 
 pub(crate) fn push_answer(marks: &mut Vec<Mark>, turn: Turn, answer: StmtAnswer) -> Mem<()>
@@ -63,4 +67,26 @@ pub(crate) fn push_abort(
 {
     marks.push(Mark::Abort { gxid })?;
     push_answer(marks, turn, answer)
+}
+
+// A fault is noted.
+pub(crate) fn push_fault(marks: &mut Vec<Mark>, command: &Command, faulted: Faulted) -> Mem<()>
+    ensures { OnOk result (marks.new.items ≡ marks.old.items ++ Mark.Fault command.now.gxid command.now.cid faulted.rid faulted.image ∷ []) }
+{
+    marks.push(Mark::Fault {
+        gxid: command.gxid,
+        cid: command.cid,
+        rid: faulted.rid,
+        image: faulted.image,
+    })?;
+    Ok(())
+}
+
+pub(crate) fn refusal(fault: ArithFault) -> Refused
+    ensures { result ≡ refusal_of fault }
+{
+    match fault {
+        ArithFault::Overflow => Refused::Overflow,
+        ArithFault::DivisionByZero => Refused::DivisionByZero,
+    }
 }

@@ -2,6 +2,9 @@
 ghost use Rattle.std.specs.Prelude.{◌≡◌, ◌≤◌, ◌∷◌, [], All, IfOk, OnOk, None, ◌^◌};
 ghost use Rattle.gx_dtx.specs.Rules.{begun, ended_alone};
 ghost use Rattle.gx_dtx.specs.Table.{IsActive, participants_of};
+ghost use Rattle.gx_session.specs.Session.{IsIdle, after_done as done_state, after_refused as refused_state};
+ghost use Rattle.gx_session.specs.declared.state.Block.TheVariants as opened;
+ghost use Rattle.gx_tree.specs.declared.stmt.Level.{Level as Isolation};
 ghost use Rattle.gx_views.specs.Changes.{AllHaveSet};
 ghost use Rattle.gx_xidmap.specs.declared.status.LocalStatus.TheVariants as status;
 
@@ -12,7 +15,9 @@ use gx_dtx::Dtx;
 use gx_ids::{Gxid, Mem};
 use gx_keeping::Session;
 use gx_session::SessionState;
+use gx_session::state::Block;
 use gx_store::{Mark, StmtAnswer};
+use gx_tree::Level;
 use gx_views::set_everywhere;
 use gx_xidmap::LocalStatus;
 use std::alloc::Global;
@@ -103,12 +108,42 @@ pub(crate) fn roll_back_block(
     Ok(marks)
 }
 
-fn close(session: &mut Session, state: SessionState, turn: Turn)
+pub(crate) fn close(session: &mut Session, state: SessionState, turn: Turn)
     ensures { session.new ≡ record session.old { state = state; answered = turn.number; snapshot = None } }
 {
     session.state = state;
     session.answered = turn.number;
     session.snapshot = None;
+}
+
+// The state of a session whose line has its answer, and whose command is refused.
+pub(crate) fn after_done(state: SessionState) -> SessionState
+    requires { IsIdle state → ⊥ }
+    ensures { result ≡ done_state state }
+{
+    let mut state = state;
+    state.on_done();
+    state
+}
+
+pub(crate) fn after_refusal(state: SessionState) -> SessionState
+    requires { IsIdle state → ⊥ }
+    ensures { result ≡ refused_state state }
+{
+    let mut state = state;
+    state.on_refused();
+    state
+}
+
+// The level of an open block.
+pub(crate) fn level_in(block: Block) -> Level
+    requires { (level : Isolation) × (block ≡ opened.Open level) }
+    ensures { block ≡ opened.Open result }
+{
+    match block {
+        Block::Open(level) => level,
+        _ => unreachable!(),
+    }
 }
 
 // Commits a transaction that no segment was told of.
