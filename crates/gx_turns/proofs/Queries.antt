@@ -17,7 +17,7 @@ use Rattle.gx_eval.specs.Kinds.{IsTyped, kinds_of}
 use Rattle.gx_dtx.specs.Table as coordinator
 use Rattle.gx_local.specs.Store.{Store}
 use Rattle.gx_resolve.specs.Rules.{IsCond, IsStmtOf, column_kinds}
-use Rattle.gx_turns.specs.Language.{IsScript}
+use Rattle.gx_sql.specs.Language.{IsScript}
 use Rattle.gx_store.specs.declared.answer.StmtAnswer.{StmtAnswer}
 use Rattle.gx_store.specs.declared.answer.StmtAnswer.TheVariants as answer
 use Rattle.gx_store.specs.declared.mark.Mark.{Mark}

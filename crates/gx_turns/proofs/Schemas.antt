@@ -11,7 +11,7 @@ use Rattle.gx_local.specs.Store.{Store}
 use Rattle.gx_resolve.specs.Rules.{IsStmtOf, IsTuple}
 use Rattle.gx_script.specs.declared.Script.{Script}
 use Rattle.gx_store.specs.declared.mark.Mark.{Mark}
-use Rattle.gx_turns.specs.Language.{IsScript}
+use Rattle.gx_sql.specs.Language.{IsScript}
 use Rattle.gx_turns.specs.Commands.{Before, IsStarted}
 use Rattle.gx_turns.specs.Evaluations.{AreConstants}
 use Rattle.gx_turns.specs.declared.command.Command.{Command}

@@ -9,7 +9,7 @@ use Rattle.gx_tree.specs.declared.stmt.Stmt.{Stmt}
 use Rattle.gx_resolve.specs.Rules.{IsDist, IsStmtOf}
 use Rattle.gx_script.specs.declared.Line.{Line}
 use Rattle.gx_script.specs.declared.Script.{Script}
-use Rattle.gx_turns.specs.Language.{IsLine, IsScript, IsTable}
+use Rattle.gx_sql.specs.Language.{IsLine, IsScript, IsTable}
 use Rattle.gx_store.specs.declared.mark.Mark.{Mark}
 use Rattle.gx_store.specs.Lines.{next_stmt, stmt_of}
 use Rattle.gx_store.specs.Marks.{answer_count, is_same_session}

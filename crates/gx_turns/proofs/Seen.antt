@@ -135,6 +135,6 @@ image_of_table tables shown table rid image (_ ∷ ms) first typed = image_of_ta
 pub view_of_table : (tables : List Schema) (marks before : List Mark) (reader : Reader) (table : Table) (schema : Schema) (rows : List KeyedRow) → slice_get tables table.0 ≡ Some schema → AreOfTables tables marks → IsView marks before reader table rows → AllByRecursion (λ r. kinds_of r.row ≡ column_kinds schema.columns) rows
 view_of_table tables marks before reader table schema rows at typed view =
     let each : (r : KeyedRow) → row_at rows r.rid ≡ Some r.row → kinds_of r.row ≡ column_kinds schema.columns = λ r stands.
-        let is : IsOfTable tables table (Some r.row) = subst (IsOfTable tables table) (sym (view.images r.rid) ∙ stands) (image_of_table tables (is_shown_to reader before) table r.rid None marks tt typed) in
-        is schema at in
+    let is : IsOfTable tables table (Some r.row) = subst (IsOfTable tables table) (sym (view.images r.rid) ∙ stands) (image_of_table tables (is_shown_to reader before) table r.rid None marks tt typed) in
+    is schema at in
     all_map each rows (rows_stand rows view.rising)

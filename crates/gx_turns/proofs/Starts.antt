@@ -108,9 +108,9 @@ module _ (was : Before) (ready : IsReady was.script was.steps was.k was.session 
       let live = λ (d : coordinator.Table) (h : Gxid). with_live d h (Some snapshot.xmin) in
       let d2_is : d2 ≡ live (begun was.table) g = e2 ∙ ap (λ (d : coordinator.Table). live d gxid) e1 ∙ ap (live (begun was.table)) eg in
       let marks_are : marks2 ≡ Start g was.k ∷ Snap g c snapshot ∷ [] = em2
-          ∙ ap (λ (l : List Mark). l ++ Snap gxid c snapshot ∷ []) (em1 ∙ ap (λ (l : List Mark). l ++ Start gxid session ∷ []) em)
-          ∙ ap (λ (h : Gxid). Start h session ∷ Snap h c snapshot ∷ []) eg
-          ∙ ap (λ (k : SessionId). Start g k ∷ Snap g c snapshot ∷ []) ek in
+      ∙ ap (λ (l : List Mark). l ++ Snap gxid c snapshot ∷ []) (em1 ∙ ap (λ (l : List Mark). l ++ Start gxid session ∷ []) em)
+      ∙ ap (λ (h : Gxid). Start h session ∷ Snap h c snapshot ∷ []) eg
+      ∙ ap (λ (k : SessionId). Start g k ∷ Snap g c snapshot ∷ []) ek in
       let raised_then = subst (λ (d : coordinator.Table). AreRaised (horizon_of d) was.stores stores') d2_is (subst (λ (ss : List Store). AreRaised (horizon_of d2) ss stores') es raised) in
       let base = started-alone outside state snapshot (λ h low. seen h low ∙ ap (λ (d : coordinator.Table). has_ended d h) e1) (xmin ∙ ap xmin_of e1) stores' raised_then in
       subst (λ (h : Gxid). IsStarted was (command_of h c snapshot) 0 marks2 stores' d2) (sym eg)
@@ -125,9 +125,9 @@ module _ (was : Before) (ready : IsReady was.script was.steps was.k was.session 
       let live = λ (d : coordinator.Table) (h : Gxid). with_live d h (Some snapshot.xmin) in
       let d2_is : d2 ≡ live was.table g = e2 ∙ ap (λ (d : coordinator.Table). live d gxid) e1 ∙ ap (live was.table) eg in
       let marks_are : marks' ≡ Snap g n snapshot ∷ [] = em'
-          ∙ ap (λ (l : List Mark). l ++ Snap gxid c snapshot ∷ []) em
-          ∙ ap (λ (h : Gxid). Snap h c snapshot ∷ []) eg
-          ∙ ap (λ (k : Cid). Snap g k snapshot ∷ []) cid_is in
+      ∙ ap (λ (l : List Mark). l ++ Snap gxid c snapshot ∷ []) em
+      ∙ ap (λ (h : Gxid). Snap h c snapshot ∷ []) eg
+      ∙ ap (λ (k : Cid). Snap g k snapshot ∷ []) cid_is in
       let raised_then = subst (λ (d : coordinator.Table). AreRaised (horizon_of d) was.stores stores') d2_is (subst (λ (ss : List Store). AreRaised (horizon_of d2) ss stores') es raised) in
       let base = started-block level opened state none snapshot (λ h low. seen h low ∙ ap (λ (d : coordinator.Table). has_ended d h) e1) (xmin ∙ ap xmin_of e1) stores' raised_then in
       subst (λ (h : Gxid). IsStarted was (command_of h c snapshot) 0 marks' stores' d2) (sym eg)

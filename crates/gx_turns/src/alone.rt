@@ -3,7 +3,7 @@ ghost use Rattle.std.specs.Prelude.{◌≡◌, ◌≤◌, ◌^◌, [], true, IfO
 ghost use Rattle.gx_session.specs.Session.{after_line, idle_in};
 ghost use Rattle.gx_session.specs.declared.line_step.LineStep.TheVariants as step;
 ghost use Rattle.gx_session.specs.declared.state.Block.TheVariants as block;
-ghost use Rattle.gx_turns.specs.Language.{IsScript};
+ghost use Rattle.gx_sql.specs.Language.{IsScript};
 ghost use Rattle.gx_turns.specs.Commands.{Before, IsAnswered, IsFaulted, IsItsTurn, IsMade, IsStarted, asked};
 ghost use Rattle.gx_turns.specs.Evaluations.{Gives};
 ghost use Rattle.gx_turns.specs.Turns.{is_built};
@@ -104,9 +104,25 @@ fn end_alone(
     ensures { OnOk result (IsMade was session.new marks.new.items nodes.new.segments.items nodes.new.dtx) }
 {
     match outcome {
-        Ok(answer) => finish_alone(nodes, session, after_done(state), turn, command, answer, marks),
+        Ok(answer) => finish_alone(
+            nodes,
+            session,
+            after_done(state),
+            turn,
+            command,
+            answer,
+            marks,
+        ),
         Err(Stop::Faulted(faulted)) => {
-            refuse_alone(nodes, session, after_refusal(state), turn, command, faulted, marks)
+            refuse_alone(
+                nodes,
+                session,
+                after_refusal(state),
+                turn,
+                command,
+                faulted,
+                marks,
+            )
         }
         Err(Stop::OutOfMemory) => Err(OutOfMemory),
     }

@@ -3,7 +3,7 @@ ghost use Rattle.std.specs.Prelude.{◌≡◌, [], true, false, IfOk, OnOk, None
 ghost use Rattle.gx_session.specs.Session.{after_line, idle_in};
 ghost use Rattle.gx_session.specs.declared.line_step.LineStep.TheVariants as step;
 ghost use Rattle.gx_session.specs.declared.state.Block.TheVariants as block;
-ghost use Rattle.gx_turns.specs.Language.{IsScript};
+ghost use Rattle.gx_sql.specs.Language.{IsScript};
 ghost use Rattle.gx_store.specs.Lines.{InBlock, cid_of, is_on_rows};
 ghost use Rattle.gx_keeping.specs.World.{IsReady};
 ghost use Rattle.gx_turns.specs.Commands.{Before, IsAnswered, IsFaulted, IsItsTurn, IsMade, IsStarted, asked, kept_at, table_at};
@@ -52,7 +52,9 @@ pub(crate) fn block_line(
     let mut marks = Vec::new(alloc);
     let command = start_in_block(alloc, nodes, session, turn, level, &mut marks)?;
     let outcome = run_command(alloc, script, nodes, &command, line, &mut marks);
-    end_in_block(nodes, session, state, turn, level, command, outcome, &mut marks)?;
+    end_in_block(
+        nodes, session, state, turn, level, command, outcome, &mut marks,
+    )?;
     Ok(marks)
 }
 
@@ -165,10 +167,28 @@ fn end_in_block(
 {
     match outcome {
         Ok(answer) => {
-            finish_in_block(nodes, session, after_done(state), turn, level, command, answer, marks)
+            finish_in_block(
+                nodes,
+                session,
+                after_done(state),
+                turn,
+                level,
+                command,
+                answer,
+                marks,
+            )
         }
         Err(Stop::Faulted(faulted)) => {
-            refuse_in_block(nodes, session, after_refusal(state), turn, level, command, faulted, marks)
+            refuse_in_block(
+                nodes,
+                session,
+                after_refusal(state),
+                turn,
+                level,
+                command,
+                faulted,
+                marks,
+            )
         }
         Err(Stop::OutOfMemory) => Err(OutOfMemory),
     }

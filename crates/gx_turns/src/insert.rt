@@ -2,7 +2,7 @@
 ghost use Rattle.std.specs.Prelude.{◌≡◌, true, length, slice_get, Some, OnOk};
 ghost use Rattle.gx_tree.specs.declared.stmt.Stmt.TheVariants as stmt;
 ghost use Rattle.gx_resolve.specs.Rules.{IsDist};
-ghost use Rattle.gx_turns.specs.Language.{IsScript};
+ghost use Rattle.gx_sql.specs.Language.{IsScript};
 ghost use Rattle.gx_turns.specs.Commands.{AreOver, AreRowsOf, Before, IsAnswered, IsFaulted, IsStarted};
 ghost use Rattle.gx_turns.specs.Evaluations.{Gives};
 ghost use Rattle.gx_turns.specs.Turns.{is_built};

@@ -1,6 +1,6 @@
 // One line of a session, by what it asks for.
 ghost use Rattle.std.specs.Prelude.{◌≡◌, ◌≤◌, ◌+◌, ◌^◌, true, IfOk, OnOk, OnErr};
-ghost use Rattle.gx_turns.specs.Language.{IsScript};
+ghost use Rattle.gx_sql.specs.Language.{IsScript};
 ghost use Rattle.gx_keeping.specs.World.{IsReady};
 ghost use Rattle.gx_turns.specs.Commands.{Before, IsItsTurn, IsMade};
 ghost use Rattle.gx_turns.specs.Turns.{IsLineRun, is_built};
@@ -90,10 +90,22 @@ fn line_marks(
     match state.on_line(line) {
         LineStep::Answer(plain) => answer_line(alloc, session, state, turn, plain_answer(plain)),
         LineStep::Refuse5 => {
-            answer_line(alloc, session, state, turn, StmtAnswer::Refused(Refused::InFailedBlock))
+            answer_line(
+                alloc,
+                session,
+                state,
+                turn,
+                StmtAnswer::Refused(Refused::InFailedBlock),
+            )
         }
         LineStep::Refuse7 => {
-            answer_line(alloc, session, state, turn, StmtAnswer::Refused(Refused::NotInBlock))
+            answer_line(
+                alloc,
+                session,
+                state,
+                turn,
+                StmtAnswer::Refused(Refused::NotInBlock),
+            )
         }
         LineStep::BeginBlock(level) => begin_line(alloc, nodes, session, state, turn, level),
         LineStep::CommitBlock => commit_line(alloc, nodes, session, state, turn),

@@ -1,6 +1,6 @@
 // A command runs.
 ghost use Rattle.std.specs.Prelude.{◌≡◌, ◌≤◌, true, All};
-ghost use Rattle.gx_turns.specs.Language.{IsScript};
+ghost use Rattle.gx_sql.specs.Language.{IsScript};
 ghost use Rattle.gx_store.specs.Lines.{is_on_rows};
 ghost use Rattle.gx_turns.specs.Commands.{Before, IsAnswered, IsFaulted, IsRows, IsStarted};
 ghost use Rattle.gx_turns.specs.Evaluations.{Gives};
@@ -38,7 +38,15 @@ pub(crate) fn run_command(
 {
     match line {
         Stmt::Insert(table, tuples) => {
-            insert(alloc, script, nodes, command, *table, tuples.as_slice(), marks)
+            insert(
+                alloc,
+                script,
+                nodes,
+                command,
+                *table,
+                tuples.as_slice(),
+                marks,
+            )
         }
         Stmt::Select(query) => select(alloc, nodes.segments.as_slice(), command, query),
         _ => unreachable!(),

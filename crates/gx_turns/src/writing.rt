@@ -31,7 +31,14 @@ pub(crate) fn write_row(
 {
     let node = place(schema, &row.row, row.rid, nodes.segments.len() as u8);
     let at = usize::from(node.0) - 1;
-    write_at(alloc, nodes.segments.as_mut_slice(), at, command, table, row)?;
+    write_at(
+        alloc,
+        nodes.segments.as_mut_slice(),
+        at,
+        command,
+        table,
+        row,
+    )?;
     marks.push(Mark::Write {
         gxid: command.gxid,
         cid: command.cid,
