@@ -1,6 +1,6 @@
 -- What a command's end makes of the world, by what the calls answer.
-use Rattle.std.proofs.Common.{◌≡◌, ℕ, ◌+◌, Bool, true, false, List, [], ◌∷◌, ◌++◌, refl, sym, ap, ◌∙◌, subst}
-use Rattle.std.specs.Prelude.{Option, Some, None}
+use Rattle.std.proofs.Common.{◌≡◌, ℕ, ◌+◌, true, false, List, [], ◌∷◌, ◌++◌, refl, ap, ◌∙◌, subst}
+use Rattle.std.specs.Prelude.{Option, None}
 use Rattle.gx_ids.specs.declared.ids.Cid.{Cid}
 use Rattle.gx_ids.specs.declared.ids.Gxid.{Gxid}
 use Rattle.gx_ids.specs.declared.ids.SessionId.{SessionId}
@@ -19,7 +19,7 @@ use Rattle.gx_store.specs.declared.answer.StmtAnswer.{StmtAnswer}
 use Rattle.gx_store.specs.declared.answer.StmtAnswer.TheVariants as answer
 use Rattle.gx_store.specs.declared.mark.Mark.{Mark}
 use Rattle.gx_store.specs.declared.mark.Mark.TheVariants.{Fault, Commit, Abort, Answer}
-use Rattle.gx_store.specs.Lines.{BlockState, InBlock, Outside, cid_of, is_on_rows}
+use Rattle.gx_store.specs.Lines.{InBlock, Outside, cid_of, is_on_rows}
 use Rattle.gx_views.specs.Changes.{AllHaveSet}
 use Rattle.gx_keeping.specs.declared.session.Session.{Session}
 use Rattle.gx_keeping.specs.Standing.{block_of}

@@ -1,5 +1,5 @@
 -- A transaction of the table may end.
-use Rattle.std.proofs.Common.{◌≡◌, ℕ, ◌≤◌, List, [], ap, ◌∙◌, All}
+use Rattle.std.proofs.Common.{◌≡◌, ◌≤◌, List, ap, ◌∙◌}
 use Rattle.std.proofs.lemmas.List.Elements.{All-from_recursion}
 use Rattle.std.specs.Prelude.{Some}
 use Rattle.gx_ids.specs.declared.ids.Gxid.{Gxid}
@@ -9,7 +9,7 @@ use Rattle.gx_dtx.specs.Table.{find_txn, participants_in}
 use Rattle.gx_dtx.specs.declared.txn.Txn.{Txn}
 use Rattle.gx_local.specs.Store.{Store}
 use Rattle.gx_store.specs.declared.mark.Mark.{Mark}
-use Rattle.gx_keeping.specs.Kept.{IsAlone, IsKept, IsLow}
+use Rattle.gx_keeping.specs.Kept.{IsAlone, IsKept}
 use Rattle.gx_keeping.proofs.Txns.{Holds-found, IsActive-found, found_all}
 use Rattle.gx_turns.specs.Turns.{MayEnd}
 use Rattle.gx_turns.proofs.Seen.{all_map}

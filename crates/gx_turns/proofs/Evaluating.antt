@@ -1,6 +1,5 @@
 -- What the loops over constants and rows know.
-use Rattle.std.proofs.Common.{◌≡◌, ◌⊎◌, inl, inr, ℕ, zero, suc, ◌+◌, ◌-◌, ◌<◌, ◌≤◌, ◌==◌, nat_le, nat_lt, Bool, true, false, if◌then◌else◌, List, [], ◌∷◌, ◌++◌, length, map, take, filter, get_or, slice_get, All, Option, Some, None, Result, Ok, Err, IfOk, refl, sym, ap, ◌∙◌, subst, arith, append-nil}
-use Rattle.std.proofs.lemmas.Bool.Decides.{nat_tests}
+use Rattle.std.proofs.Common.{◌≡◌, ℕ, zero, suc, ◌+◌, ◌-◌, ◌<◌, Bool, true, false, List, [], ◌∷◌, ◌++◌, length, take, filter, get_or, slice_get, All, Some, None, Result, Ok, Err, refl, sym, ap, ◌∙◌, subst, arith, append-nil}
 use Rattle.std.proofs.lemmas.List.Elements.{All-get_or, All-push, filter-append}
 use Rattle.gx_ids.specs.declared.ids.Gxid.{Gxid}
 use Rattle.gx_ids.specs.declared.ids.Cid.{Cid}
@@ -8,30 +7,14 @@ use Rattle.gx_ids.specs.declared.rid.Rid.{Rid}
 use Rattle.gx_tree.specs.declared.cond.Cond.{Cond}
 use Rattle.gx_tree.specs.declared.expr.Expr.{Expr}
 use Rattle.gx_tree.specs.declared.row.KeyedRow.{KeyedRow}
-use Rattle.gx_tree.specs.declared.schema.Dist.{Dist}
 use Rattle.gx_tree.specs.declared.value.Value.{Value}
 use Rattle.gx_eval.specs.Meaning.{and_then, truth_of, value_of}
 use Rattle.gx_eval.specs.declared.fault.ArithFault.{ArithFault}
-use Rattle.std.proofs.lemmas.List.Sorted.{IsPermutation-refl}
-use Rattle.std.specs.List.{AllByRecursion}
-use Rattle.std.specs.List.Sorted.{IsPermutation, IsStrictlySortedBy}
-use Rattle.std.specs.declared.cmp.Ordering.TheVariants.{Less}
-use Rattle.gx_gather.specs.Order.{rid_order}
-use Rattle.gx_gather.specs.Answer.{AreRising, ArePartsOf, answer_of, grouped_answer, keeps, limited, part_of, plain_answer}
-use Rattle.gx_tree.specs.declared.cell.Cell.{Cell}
-use Rattle.std.specs.declared.vec.Vec.{Vec}
-use Rattle.std.specs.declared.alloc.Global.{Global}
-use Rattle.gx_ids.specs.declared.memory.OutOfMemory.{OutOfMemory}
-use Rattle.gx_tree.specs.declared.cell.OutRow.{OutRow}
-use Rattle.gx_tree.specs.declared.part.Part.{Part}
-use Rattle.gx_tree.specs.declared.query.Query.{Query}
+use Rattle.gx_gather.specs.Answer.{keeps}
 use Rattle.gx_plan.specs.Constants.{constant, each_from, rows_of, tuple_row, values_of}
 use Rattle.gx_plan.proofs.Each.{each_from-fault}
-use Rattle.gx_store.specs.Answers.{FaultsOnNone}
-use Rattle.gx_store.specs.Commands.{condition_on}
 use Rattle.gx_store.specs.Faults.{FaultsInConstants}
 use Rattle.gx_turns.specs.Evaluations.{AreKept, IsToBe, Stops, kept_if}
-use Rattle.gx_turns.specs.declared.stop.Faulted.{Faulted}
 use Rattle.gx_turns.specs.declared.stop.Stop.{Stop}
 use Rattle.gx_turns.specs.declared.stop.Stop.TheVariants as stop
 

@@ -1,20 +1,16 @@
 -- A command ends, with its answer or refused.
-use Rattle.std.proofs.Common.{◌≡◌, ℕ, ◌+◌, ◌<◌, ◌≤◌, Bool, true, false, List, [], ◌∷◌, ◌++◌, length, take, slice_get, refl, sym, ap, ◌∙◌, subst, arith, zero, suc, ◌||◌}
-use Rattle.std.specs.Prelude.{Option, Some, None}
+use Rattle.std.proofs.Common.{◌≡◌, ℕ, ◌+◌, Bool, true, false, List, [], ◌∷◌, ◌++◌, take, slice_get, refl, sym, ap, ◌∙◌, subst, zero, suc, ◌||◌}
+use Rattle.std.specs.Prelude.{Some, None}
 use Rattle.gx_ids.specs.declared.ids.Cid.{Cid}
 use Rattle.gx_ids.specs.declared.ids.Gxid.{Gxid}
-use Rattle.gx_ids.specs.declared.ids.SessionId.{SessionId}
-use Rattle.gx_tree.specs.declared.query.Query.{Query}
 use Rattle.gx_tree.specs.declared.stmt.Level.{Level}
 use Rattle.gx_tree.specs.declared.stmt.Level.TheVariants.{ReadCommitted, RepeatableRead}
 use Rattle.gx_tree.specs.declared.stmt.Stmt.{Stmt}
 use Rattle.gx_tree.specs.declared.stmt.Stmt.TheVariants as stmt
-use Rattle.gx_dsnap.specs.declared.snapshot.Snapshot.{Snapshot}
 use Rattle.gx_eval.specs.declared.fault.ArithFault.{ArithFault}
 use Rattle.gx_eval.specs.declared.fault.ArithFault.TheVariants as arith
 use Rattle.gx_script.specs.declared.Script.{Script}
 use Rattle.gx_xidmap.specs.declared.status.LocalStatus.TheVariants.{Committed, Aborted}
-use Rattle.gx_session.specs.declared.state.Block.{Block}
 use Rattle.gx_session.specs.declared.state.Block.TheVariants as block
 use Rattle.gx_session.specs.Session.{idle_in}
 use Rattle.gx_dtx.specs.Rules.{ended_alone, with_live}
@@ -22,12 +18,10 @@ use Rattle.gx_dtx.specs.Table as coordinator
 use Rattle.gx_dtx.specs.Table.{find_txn}
 use Rattle.gx_dtx.specs.declared.txn.Txn.{Txn}
 use Rattle.gx_local.specs.Store.{Store}
-use Rattle.gx_store.specs.declared.answer.Refused.{Refused}
 use Rattle.gx_store.specs.declared.answer.StmtAnswer.{StmtAnswer}
 use Rattle.gx_store.specs.declared.answer.StmtAnswer.TheVariants as answer
 use Rattle.gx_store.specs.declared.mark.Mark.{Mark}
 use Rattle.gx_store.specs.declared.mark.Mark.TheVariants.{Snap, Fault, Commit, Abort, Answer}
-use Rattle.gx_store.specs.declared.run.Step.{Step}
 use Rattle.gx_store.specs.Answers.{Tells}
 use Rattle.gx_store.specs.Lines.{BlockState, InBlock, Outside, cid_of, is_on_rows, level_of}
 use Rattle.gx_store.specs.Faults.{IsFaultOf}
@@ -35,19 +29,17 @@ use Rattle.gx_store.specs.Marks.{answer_count}
 use Rattle.gx_store.specs.Refusals.{IsRefusal}
 use Rattle.gx_store.specs.Points.{marks_in}
 use Rattle.gx_store.specs.View.{IsView}
-use Rattle.gx_store.proofs.Marks.{image_after-append, is_snapped-append, is_written-append}
+use Rattle.gx_store.proofs.Marks.{is_snapped-append, is_written-append}
 use Rattle.gx_views.specs.Changes.{AllHaveSet}
-use Rattle.gx_keeping.specs.declared.session.Session.{Session}
-use Rattle.gx_keeping.specs.Going.{IsGoing, IsLive, IsSeeing}
+use Rattle.gx_keeping.specs.Going.{IsGoing, IsSeeing}
 use Rattle.gx_keeping.specs.Standing.{HasSnapshot, IsTakenIn}
-use Rattle.gx_keeping.specs.Under.{IsSighted, IsUnder}
-use Rattle.gx_keeping.specs.World.{IsLineDone, IsReady}
+use Rattle.gx_keeping.specs.World.{IsReady}
 use Rattle.gx_keeping.proofs.Closing.{IsResult, IsView-committed, reason_of}
 use Rattle.gx_keeping.proofs.Commands.{IsLineDone-alone, IsLineDone-block, IsLineDone-refused_alone, IsLineDone-refused_block, IsRefusal-fault}
 use Rattle.gx_keeping.proofs.Going.{IsGoing-drop, IsGoing-fault, running-going}
 use Rattle.gx_keeping.proofs.Lines.{number-ready}
 use Rattle.gx_keeping.proofs.Under.{at_point}
-use Rattle.gx_turns.specs.Commands.{Before, IsAnswered, IsFaulted, IsMade, IsReading, IsUnderWay, kept_at, marks_with, refusal_of, table_at}
+use Rattle.gx_turns.specs.Commands.{Before, IsAnswered, IsFaulted, IsMade, IsReading, kept_at, marks_with, refusal_of, table_at}
 use Rattle.gx_turns.specs.Turns.{is_built}
 use Rattle.gx_turns.specs.declared.command.Command.{Command}
 use Rattle.gx_turns.specs.declared.stop.Faulted.{Faulted}

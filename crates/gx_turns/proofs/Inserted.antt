@@ -1,7 +1,7 @@
 -- An INSERT writes its rows in turn.
-use Rattle.std.proofs.Common.{◌≡◌, ℕ, ◌+◌, ◌-◌, ◌<◌, ◌≤◌, Bool, true, false, List, [], ◌∷◌, ◌++◌, length, All, slice_get, slice_set, refl, sym, ap, ◌∙◌, subst, arith, zero, suc}
-use Rattle.std.proofs.lemmas.List.Elements.{All-from_recursion, recursion_from_All}
-use Rattle.std.specs.Prelude.{Option, Some, None, Ok}
+use Rattle.std.proofs.Common.{◌≡◌, ℕ, ◌+◌, ◌-◌, List, [], ◌∷◌, ◌++◌, length, slice_get, slice_set, refl, sym, ap, ◌∙◌, subst, arith, zero, suc}
+use Rattle.std.proofs.lemmas.List.Elements.{All-from_recursion}
+use Rattle.std.specs.Prelude.{Some, Ok}
 use Rattle.std.specs.List.{AllByRecursion}
 use Rattle.gx_ids.specs.declared.ids.Cid.{Cid}
 use Rattle.gx_ids.specs.declared.ids.Gxid.{Gxid}
@@ -16,11 +16,10 @@ use Rattle.gx_tree.specs.declared.stmt.Stmt.TheVariants as stmt
 use Rattle.gx_tree.specs.declared.value.Value.{Value}
 use Rattle.gx_eval.specs.Kinds.{kinds_of}
 use Rattle.gx_place.specs.Place.{row_place}
-use Rattle.gx_plan.specs.Constants.{each_from, keyed, rows_of, tuple_row, values_of}
+use Rattle.gx_plan.specs.Constants.{each_from, keyed, tuple_row, values_of}
 use Rattle.gx_dtx.specs.Table as coordinator
 use Rattle.gx_local.specs.Store.{Store}
 use Rattle.gx_resolve.specs.Rules.{column_kinds}
-use Rattle.gx_store.specs.declared.answer.StmtAnswer.{StmtAnswer}
 use Rattle.gx_store.specs.declared.answer.StmtAnswer.TheVariants as answer
 use Rattle.gx_store.specs.declared.mark.Mark.{Mark}
 use Rattle.gx_store.specs.declared.mark.Mark.TheVariants.{Write}
@@ -28,7 +27,7 @@ use Rattle.gx_store.specs.Answers.{HasValues, Tells}
 use Rattle.gx_store.specs.Faults.{FaultsInConstants, IsFaultOf}
 use Rattle.gx_store.specs.Lines.{cid_of, level_of}
 use Rattle.gx_store.specs.Marks.{is_written}
-use Rattle.gx_store.specs.Writes.{IsInserted, dist_of}
+use Rattle.gx_store.specs.Writes.{IsInserted}
 use Rattle.gx_views.specs.Changes.{HasWritten}
 use Rattle.gx_keeping.specs.Kept.{IsOfTable}
 use Rattle.gx_keeping.specs.Under.{AreWritten}

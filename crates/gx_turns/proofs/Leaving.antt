@@ -1,5 +1,5 @@
 -- A session without a line left is ended.
-use Rattle.std.proofs.Common.{◌≡◌, ℕ, List, [], ◌∷◌, ◌++◌, refl, sym, ap, ◌∙◌, subst, true, false, Bool}
+use Rattle.std.proofs.Common.{◌≡◌, List, [], refl, sym, ap, ◌∙◌, subst, true, false, Bool}
 use Rattle.std.specs.Prelude.{None}
 use Rattle.gx_ids.specs.declared.ids.SessionId.{SessionId}
 use Rattle.gx_script.specs.declared.Script.{Script}
@@ -12,7 +12,7 @@ use Rattle.gx_store.specs.declared.run.Step.{Step}
 use Rattle.gx_store.specs.Points.{marks_in}
 use Rattle.gx_keeping.specs.declared.session.Session.{Session}
 use Rattle.gx_keeping.specs.Kept.{IsKept}
-use Rattle.gx_keeping.specs.Standing.{KeepsBlock, Stands, StandsUnless, block_of}
+use Rattle.gx_keeping.specs.Standing.{KeepsBlock, StandsUnless, block_of}
 use Rattle.gx_keeping.specs.World.{IsBetween, IsEndDone}
 use Rattle.gx_keeping.proofs.Blocks.{IsEndDone-failed, IsEndDone-open}
 use Rattle.gx_turns.specs.Turns.{Leaves, MayLeave}

@@ -1,7 +1,6 @@
 -- What lines make of the world, by what the calls answer.
-use Rattle.std.proofs.Common.{◌≡◌, ℕ, ◌+◌, Bool, true, false, List, [], ◌∷◌, ◌++◌, refl, sym, ap, ◌∙◌, subst, append_assoc}
-use Rattle.std.specs.Prelude.{Option, Some, None}
-use Rattle.gx_ids.specs.declared.ids.Cid.{Cid}
+use Rattle.std.proofs.Common.{◌≡◌, ℕ, Bool, List, [], ◌∷◌, refl, sym, ap, ◌∙◌, subst}
+use Rattle.std.specs.Prelude.{Some, None}
 use Rattle.gx_ids.specs.declared.ids.Gxid.{Gxid}
 use Rattle.gx_ids.specs.declared.ids.SessionId.{SessionId}
 use Rattle.gx_tree.specs.declared.stmt.Level.{Level}
@@ -21,11 +20,10 @@ use Rattle.gx_store.specs.declared.answer.StmtAnswer.{StmtAnswer}
 use Rattle.gx_store.specs.declared.answer.StmtAnswer.TheVariants as answer
 use Rattle.gx_store.specs.declared.mark.Mark.{Mark}
 use Rattle.gx_store.specs.declared.mark.Mark.TheVariants.{Start, Commit, Abort, Answer}
-use Rattle.gx_store.specs.Lines.{BlockState, InBlock, Outside}
 use Rattle.gx_store.specs.Points.{marks_in}
 use Rattle.gx_views.specs.Changes.{AllHaveSet}
 use Rattle.gx_keeping.specs.declared.session.Session.{Session}
-use Rattle.gx_keeping.specs.Standing.{IsOpen, block_of}
+use Rattle.gx_keeping.specs.Standing.{IsOpen}
 use Rattle.gx_keeping.proofs.Blocks.{IsLineDone-begin, IsLineDone-commit, IsLineDone-rollback}
 use Rattle.gx_keeping.proofs.Lines.{IsLineDone-plain, IsOpen-ready, Stands-ready}
 use Rattle.gx_turns.specs.Commands.{Before, IsItsTurn, IsMade, asked}

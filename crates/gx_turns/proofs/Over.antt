@@ -1,5 +1,5 @@
 -- The values of an INSERT's constants are of the columns' kinds.
-use Rattle.std.proofs.Common.{◌≡◌, ℕ, ◌+◌, ◌==◌, Bool, true, false, if◌then◌else◌, ℤ, ◌+ℤ◌, ◌-ℤ◌, ◌*ℤ◌, int_div, int_rem, unsigned_abs, List, [], ◌∷◌, ◌++◌, length, map, All, IsSome, Option, Some, None, Result, Ok, Err, refl, sym, ap, ◌∙◌, subst, arith, neg_ℤ}
+use Rattle.std.proofs.Common.{◌≡◌, ℕ, ◌+◌, ◌==◌, Bool, true, false, if◌then◌else◌, ℤ, ◌+ℤ◌, ◌-ℤ◌, ◌*ℤ◌, int_div, int_rem, unsigned_abs, List, [], ◌∷◌, length, map, All, IsSome, Option, Some, None, Result, Ok, Err, refl, sym, ap, ◌∙◌, subst, arith, neg_ℤ}
 use Rattle.std.proofs.lemmas.List.Elements.{All-from_recursion, recursion_from_All}
 use Rattle.std.proofs.lemmas.List.{length-map}
 use Rattle.std.specs.List.{AllByRecursion}

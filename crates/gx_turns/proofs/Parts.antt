@@ -1,9 +1,7 @@
 -- The parts of lists, one list more, and what they are merged to.
-use Rattle.std.proofs.Common.{◌≡◌, List, [], ◌∷◌, ◌++◌, map, filter, refl, sym, ap, ◌∙◌, subst, All}
+use Rattle.std.proofs.Common.{◌≡◌, List, [], ◌∷◌, ◌++◌, map, filter, sym, ap, ◌∙◌, subst}
 use Rattle.std.proofs.lemmas.List.{map-append}
 use Rattle.std.proofs.lemmas.List.Elements.{All-push}
-use Rattle.gx_ids.specs.declared.ids.Cid.{Cid}
-use Rattle.gx_ids.specs.declared.ids.Gxid.{Gxid}
 use Rattle.gx_tree.specs.declared.cell.Cell.{Cell}
 use Rattle.gx_tree.specs.declared.part.Part.{Part}
 use Rattle.gx_tree.specs.declared.query.Query.{Query}

@@ -1,10 +1,9 @@
 -- A query reads, and is answered or faults.
-use Rattle.std.proofs.Common.{◌≡◌, ◌≤◌, ℕ, Bool, true, false, List, [], ◌∷◌, ◌++◌, length, take, All, slice_get, refl, sym, ap, ◌∙◌, subst}
+use Rattle.std.proofs.Common.{◌≡◌, ◌≤◌, ℕ, Bool, List, length, All, slice_get, sym, ap, ◌∙◌, subst}
 use Rattle.std.proofs.lemmas.List.Elements.{All-from_recursion, recursion_from_All}
-use Rattle.std.specs.Prelude.{Option, Some, None, Ok, Err}
+use Rattle.std.specs.Prelude.{Option, Some, None, Ok}
 use Rattle.std.specs.List.{AllByRecursion}
 use Rattle.gx_ids.specs.declared.ids.Cid.{Cid}
-use Rattle.gx_tree.specs.declared.cell.Cell.{Cell}
 use Rattle.gx_tree.specs.declared.cond.Cond.{Cond}
 use Rattle.gx_tree.specs.declared.query.Query.{Query}
 use Rattle.gx_tree.specs.declared.row.KeyedRow.{KeyedRow}
@@ -12,18 +11,16 @@ use Rattle.gx_tree.specs.declared.schema.Kind.{Kind}
 use Rattle.gx_tree.specs.declared.schema.Schema.{Schema}
 use Rattle.gx_tree.specs.declared.stmt.Stmt.{Stmt}
 use Rattle.gx_tree.specs.declared.stmt.Stmt.TheVariants as stmt
-use Rattle.gx_tree.specs.declared.value.Value.{Value}
 use Rattle.gx_eval.specs.Kinds.{IsTyped, kinds_of}
 use Rattle.gx_dtx.specs.Table as coordinator
 use Rattle.gx_local.specs.Store.{Store}
 use Rattle.gx_resolve.specs.Rules.{IsCond, IsStmtOf, column_kinds}
 use Rattle.gx_sql.specs.Language.{IsScript}
 use Rattle.gx_store.specs.declared.answer.StmtAnswer.{StmtAnswer}
-use Rattle.gx_store.specs.declared.answer.StmtAnswer.TheVariants as answer
 use Rattle.gx_store.specs.declared.mark.Mark.{Mark}
 use Rattle.gx_store.specs.Answers.{FaultsOnNone, Tells}
 use Rattle.gx_store.specs.Commands.{condition_on}
-use Rattle.gx_store.specs.Faults.{FaultsOnSeen, IsFaultOf}
+use Rattle.gx_store.specs.Faults.{IsFaultOf}
 use Rattle.gx_store.specs.Lines.{cid_of, level_of}
 use Rattle.gx_store.specs.Points.{marks_in}
 use Rattle.gx_store.specs.Rows.{row_at}
@@ -35,7 +32,7 @@ use Rattle.gx_keeping.proofs.Sights.{IsView-seeing}
 use Rattle.gx_keeping.proofs.Under.{IsSnapshotAt-sighted, take-sighted}
 use Rattle.gx_turns.specs.Commands.{Before, IsAnswered, IsFaulted, IsReading, IsRows, IsStarted, marks_with}
 use Rattle.gx_turns.specs.Evaluations.{AreTypedOn, IsTypedOn}
-use Rattle.gx_turns.specs.Reads.{AreReadable, IsRead, IsReadFault}
+use Rattle.gx_turns.specs.Reads.{AreReadable, IsReadFault}
 use Rattle.gx_turns.specs.declared.command.Command.{Command}
 use Rattle.gx_turns.specs.declared.stop.Faulted.{Faulted}
 use Rattle.gx_turns.proofs.Evaluating.{All-got}

@@ -1,7 +1,7 @@
 -- What a session's next line keeps of the language's rules.
-use Rattle.std.proofs.Common.{◌≡◌, ℕ, ◌+◌, ◌==◌, ◌&&◌, Bool, true, false, cond, List, [], ◌∷◌, length, refl, sym, ap, ◌∙◌, subst, zero, suc, slice_get, arith, ◌<◌, get_or}
-use Rattle.std.proofs.lemmas.List.Elements.{All-get_or, recursion_from_All}
-use Rattle.std.specs.Prelude.{Option, Some, None, All}
+use Rattle.std.proofs.Common.{◌≡◌, ℕ, ◌+◌, ◌==◌, ◌&&◌, Bool, true, false, cond, List, [], ◌∷◌, length, ap, ◌∙◌, subst, zero, suc, slice_get, arith, ◌<◌, get_or}
+use Rattle.std.proofs.lemmas.List.Elements.{recursion_from_All}
+use Rattle.std.specs.Prelude.{Option, Some, None}
 use Rattle.std.specs.List.{AllByRecursion}
 use Rattle.gx_ids.specs.declared.ids.SessionId.{SessionId}
 use Rattle.gx_tree.specs.declared.schema.Schema.{Schema}

@@ -1,7 +1,6 @@
 -- The rows that a command sees are of their tables' kinds.
-use Rattle.std.proofs.Common.{◌≡◌, ℕ, ◌==◌, Bool, true, false, cond, eqb, ◌&&◌, List, [], ◌∷◌, ◌++◌, map, All, slice_get, refl, sym, ap, ◌∙◌, subst, arith}
+use Rattle.std.proofs.Common.{◌≡◌, ◌==◌, Bool, true, false, cond, ◌&&◌, List, [], ◌∷◌, ◌++◌, map, slice_get, refl, sym, ap, ◌∙◌, subst, arith}
 use Rattle.std.proofs.lemmas.Bool.Decides.{nat_tests}
-use Rattle.std.proofs.lemmas.List.Elements.{All-from_recursion, recursion_from_All}
 use Rattle.std.specs.Prelude.{Option, Some, None}
 use Rattle.std.specs.List.{AllByRecursion}
 use Rattle.std.specs.List.Sorted.{IsStrictlySortedBy}
@@ -16,7 +15,7 @@ use Rattle.gx_tree.specs.declared.row.KeyedRow.{KeyedRow}
 use Rattle.gx_tree.specs.declared.schema.Schema.{Schema}
 use Rattle.gx_tree.specs.declared.value.Value.{Value}
 use Rattle.gx_eval.specs.Kinds.{kinds_of}
-use Rattle.gx_gather.specs.Answer.{AreRising, together}
+use Rattle.gx_gather.specs.Answer.{together}
 use Rattle.gx_gather.specs.Order.{in_order, placed, rid_order, row_order}
 use Rattle.gx_resolve.specs.Rules.{column_kinds}
 use Rattle.gx_store.specs.declared.mark.Mark.{Mark}

@@ -1,6 +1,6 @@
 -- A command takes its snapshot.
-use Rattle.std.proofs.Common.{◌≡◌, ℕ, ◌+◌, ◌<◌, ◌≤◌, Bool, true, false, List, [], ◌∷◌, ◌++◌, refl, sym, ap, ◌∙◌, subst, arith, append-nil}
-use Rattle.std.specs.Prelude.{Option, Some, None}
+use Rattle.std.proofs.Common.{◌≡◌, ◌+◌, ◌<◌, true, false, List, [], ◌∷◌, ◌++◌, refl, sym, ap, ◌∙◌, subst}
+use Rattle.std.specs.Prelude.{Some, None}
 use Rattle.gx_ids.specs.declared.ids.Cid.{Cid}
 use Rattle.gx_ids.specs.declared.ids.Gxid.{Gxid}
 use Rattle.gx_ids.specs.declared.ids.SessionId.{SessionId}
@@ -8,7 +8,6 @@ use Rattle.gx_tree.specs.declared.stmt.Level.{Level}
 use Rattle.gx_tree.specs.declared.stmt.Level.TheVariants.{ReadCommitted, RepeatableRead}
 use Rattle.gx_dsnap.specs.declared.snapshot.Snapshot.{Snapshot}
 use Rattle.gx_dsnap.specs.Snapshot.{sees}
-use Rattle.gx_session.specs.declared.state.Block.{Block}
 use Rattle.gx_session.specs.declared.state.Block.TheVariants as block
 use Rattle.gx_dtx.specs.Rules.{begun, with_live}
 use Rattle.gx_dtx.specs.Table as coordinator
@@ -25,7 +24,7 @@ use Rattle.gx_keeping.specs.Under.{AreWritten}
 use Rattle.gx_keeping.specs.World.{IsReady}
 use Rattle.gx_keeping.proofs.Going.{AreWritten-alone, AreWritten-block, AreWritten-snap, IsGoing-alone, IsGoing-block, IsSeeing-again, IsSeeing-raise, IsSeeing-snap, unsnapped-alone, unsnapped-block, unsnapped-repeatable}
 use Rattle.gx_keeping.proofs.Txns.{IsActive-found}
-use Rattle.gx_turns.specs.Commands.{Before, IsStarted, IsUnderWay, marks_with}
+use Rattle.gx_turns.specs.Commands.{Before, IsStarted}
 use Rattle.gx_turns.specs.declared.command.Command.{Command}
 
 abbrev pub command_of : Gxid → Cid → Snapshot → Command

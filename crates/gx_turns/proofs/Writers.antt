@@ -1,9 +1,7 @@
 -- No writers.
 use Rattle.std.proofs.Common.{arith}
 use Rattle.std.specs.List.Sorted.{IsStrictlySortedBy}
-use Rattle.std.specs.Ordering.{nat_cmp}
 use Rattle.gx_ids.specs.declared.ids.Gxid.{Gxid}
-use Rattle.gx_ids.specs.declared.ids.Node.{Node}
 use Rattle.gx_dtx.specs.Nodes.{AreRising}
 use Rattle.gx_dtx.specs.Rules.{AreWriters}
 use Rattle.gx_dtx.specs.Table.{Table}

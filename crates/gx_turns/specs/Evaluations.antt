@@ -1,12 +1,9 @@
 -- What the evaluations of a statement answer: what is asked for, a fault, or want of memory.
-use Rattle.std.specs.Prelude.{◌≡◌, ◌⊎◌, ℕ, ◌<◌, ◌≤◌, nat_le, Bool, if◌then◌else◌, List, [], ◌∷◌, ◌++◌, filter, slice_get, All, Option, Some, None, Result, Ok, Err}
-use Rattle.std.specs.declared.vec.Vec.{Vec}
-use Rattle.std.specs.declared.alloc.Global.{Global}
+use Rattle.std.specs.Prelude.{◌≡◌, ℕ, Bool, if◌then◌else◌, List, [], ◌∷◌, ◌++◌, filter, slice_get, All, Option, Some, None, Result, Ok, Err}
 use Rattle.gx_ids.specs.declared.rid.Rid.{Rid}
 use Rattle.gx_tree.specs.declared.cond.Cond.{Cond}
 use Rattle.gx_tree.specs.declared.expr.Expr.{Expr}
 use Rattle.gx_tree.specs.declared.row.KeyedRow.{KeyedRow}
-use Rattle.gx_tree.specs.declared.schema.Dist.{Dist}
 use Rattle.gx_tree.specs.declared.value.Value.{Value}
 use Rattle.gx_eval.specs.Kinds.{IsTyped, kinds_of}
 use Rattle.gx_eval.specs.declared.fault.ArithFault.{ArithFault}

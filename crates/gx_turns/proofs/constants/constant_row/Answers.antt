@@ -1,4 +1,4 @@
-use Rattle.std.proofs.Common.{arith, ◌∙◌}
+use Rattle.std.proofs.Common.{arith}
 use Rattle.std.proofs.lemmas.Result.{err_from_is_err_and}
 use Rattle.gx_plan.specs.Constants.{IsConstant, constant}
 use Rattle.gx_plan.proofs.Each.{each_from-push}

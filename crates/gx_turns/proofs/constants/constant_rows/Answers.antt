@@ -1,9 +1,8 @@
-use Rattle.std.proofs.Common.{◌≡◌, ◌+◌, Err, Ok, ap, refl, subst, arith, ◌∷◌, [], ◌++◌}
+use Rattle.std.proofs.Common.{◌≡◌, ◌+◌, Ok, ap, subst, arith}
 use Rattle.std.proofs.lemmas.Result.{err_from_is_err_and}
 use Rattle.gx_plan.specs.Constants.{keyed, tuple_row, values_of}
 use Rattle.gx_plan.proofs.Each.{each_from-push}
-use Rattle.gx_turns.specs.Evaluations.{AreConstants, IsToBe, Stops}
-use Rattle.gx_turns.proofs.Evaluating.{All-item, insert_stops}
+use Rattle.gx_turns.proofs.Evaluating.{insert_stops}
 use Rattle.gx_turns.proofs.constants.constant_rows.Goals as goal
 
 pub returns-in_err-row : goal.returns-in_err-row

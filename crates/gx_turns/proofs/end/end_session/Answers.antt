@@ -1,4 +1,3 @@
-use Rattle.std.proofs.Common.{refl}
 use Rattle.gx_turns.proofs.Leaving.{IsEndDone-left, MayLeave-between}
 use Rattle.gx_turns.proofs.end.end_session.Goals as goal
 

@@ -1,4 +1,4 @@
-use Rattle.std.proofs.Common.{◌∙◌, ◌≡◌, sym, subst, take, List, filter, All}
+use Rattle.std.proofs.Common.{◌≡◌, subst, take, List, filter}
 use Rattle.gx_tree.specs.declared.row.KeyedRow.{KeyedRow}
 use Rattle.gx_gather.specs.Answer.{keeps, part_of}
 use Rattle.gx_store.specs.Answers.{FaultsOnNone}

@@ -1,4 +1,4 @@
-use Rattle.std.proofs.Common.{◌∙◌, sym, subst, ap, List, All}
+use Rattle.std.proofs.Common.{◌∙◌, subst, List}
 use Rattle.gx_tree.specs.declared.row.KeyedRow.{KeyedRow}
 use Rattle.gx_turns.specs.Reads.{ArePartsSoFar}
 use Rattle.gx_turns.proofs.Parts.{merged_is}
