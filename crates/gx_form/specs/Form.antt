@@ -1,10 +1,10 @@
--- Which scripts are of the form that is run for now: one session at most, no faults of links, the detector on, and lines
--- that are INSERTs or queries of rows.
-use Rattle.std.specs.Prelude.{◌^◌, nat_le, nat_lt, Bool, true, false, ◌&&◌, not, is_none, List, [], ◌∷◌, length}
+-- Which scripts are of the form that is run for now: no faults of links, the detector on, and lines that open or close a
+-- block, INSERTs and queries of rows.
+use Rattle.std.specs.Prelude.{◌^◌, nat_lt, Bool, true, false, ◌&&◌, not, is_none, List, [], ◌∷◌, length}
 use Rattle.std.specs.List.{list_all}
 use Rattle.gx_tree.specs.declared.query.Query.{Query}
 use Rattle.gx_tree.specs.declared.stmt.Stmt.{Stmt}
-use Rattle.gx_tree.specs.declared.stmt.Stmt.TheVariants.{Select, Insert}
+use Rattle.gx_tree.specs.declared.stmt.Stmt.TheVariants.{Begin, Commit, Rollback, Select, Insert}
 use Rattle.gx_script.specs.declared.Script.{Script}
 use Rattle.gx_script.specs.declared.Line.{Line}
 
@@ -16,8 +16,11 @@ has_none (_ ∷ _) = false
 abbrev pub is_row_query : Query → Bool
 is_row_query query = not query.grouped && has_none query.order && is_none query.limit
 
--- an INSERT whose tuples an ordinal can count, or a query of rows
+-- BEGIN at either level, COMMIT, ROLLBACK, an INSERT whose tuples an ordinal can count, or a query of rows
 abbrev pub is_stmt_of_form : Stmt → Bool
+is_stmt_of_form (Begin level) = true
+is_stmt_of_form Commit = true
+is_stmt_of_form Rollback = true
 is_stmt_of_form (Insert table tuples) = nat_lt (length tuples) (2 ^ 32)
 is_stmt_of_form (Select query) = is_row_query query
 is_stmt_of_form _ = false
@@ -26,4 +29,4 @@ abbrev pub is_line_of_form : Line → Bool
 is_line_of_form line = is_stmt_of_form line.stmt
 
 abbrev pub is_of_form : Script → Bool
-is_of_form script = script.detector && has_none script.faults && nat_le (length script.sessions) 1 && list_all is_line_of_form script.lines
+is_of_form script = script.detector && has_none script.faults && list_all is_line_of_form script.lines

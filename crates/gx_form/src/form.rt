@@ -27,6 +27,9 @@ fn is_stmt_of_form(stmt: &Stmt) -> bool
     ensures { result ≡ of.is_stmt_of_form stmt.now }
 {
     match stmt {
+        Stmt::Begin(_) => true,
+        Stmt::Commit => true,
+        Stmt::Rollback => true,
         Stmt::Insert(_, tuples) => tuples.len() < COUNT,
         Stmt::Select(query) => is_row_query(query),
         _ => false,
@@ -39,13 +42,12 @@ fn are_of_form(lines: &[Line]) -> bool
     lines.iter().all(|line| is_stmt_of_form(&line.stmt))
 }
 
-/// Whether the script is of the form that is run for now: one session at most, the detector on and no faults of links, and
-/// lines that are INSERTs, or SELECTs without aggregate, GROUP BY, ORDER BY and LIMIT.
+/// Whether the script is of the form that is run for now: the detector on and no faults of links, and lines that are BEGIN,
+/// COMMIT, ROLLBACK, INSERTs, or SELECTs without aggregate, GROUP BY, ORDER BY and LIMIT.
 pub fn is_of_form(script: &Script) -> bool
     ensures { result ≡ of.is_of_form script.now }
 {
     script.detector
         && has_none(script.faults.as_slice())
-        && script.sessions.len() <= 1
         && are_of_form(script.lines.as_slice())
 }
