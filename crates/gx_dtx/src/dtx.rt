@@ -94,6 +94,18 @@ impl Dtx {
         Ok(snapshot)
     }
 
+    /// The snapshot that a reader of no transaction would take now. It isn't live, and holds nothing back.
+    pub fn final_snapshot(&self) -> Mem<Snapshot>
+        ensures xmax { IfOk result (λ snap. snap.xmax ≡ xmax_of self.now) }
+        ensures running { IfOk result (λ snap. snap.running ≡ listed_of self.now) }
+        ensures xmin { IfOk result (λ snap. snap.xmin ≡ xmin_of self.now) }
+        ensures seen { IfOk result (λ snap. (g : Gxid) → 0 < g.0 → sees snap g ≡ has_ended self.now g) }
+    {
+        let _next = self.next.0;
+        let snapshot = self.txns.snapshot(self.latest_ended)?;
+        Ok(snapshot)
+    }
+
     /// Ends a transaction's live snapshot, if it has one.
     pub fn drop_snapshot(&mut self, gxid: Gxid)
         ensures { self.new ≡ with_live self.old gxid None }
