@@ -1,19 +1,24 @@
 -- A session without a line left is ended.
-use Rattle.std.proofs.Common.{◌≡◌, List, [], refl, sym, ap, ◌∙◌, subst, true, false, Bool}
+use Rattle.std.proofs.Common.{◌≡◌, List, [], ◌∷◌, ◌++◌, ◌||◌, refl, sym, ap, ◌∙◌, subst, true, false, Bool}
 use Rattle.std.specs.Prelude.{None}
+use Rattle.gx_ids.specs.declared.ids.Gxid.{Gxid}
 use Rattle.gx_ids.specs.declared.ids.SessionId.{SessionId}
+use Rattle.gx_tree.specs.declared.stmt.Level.{Level}
 use Rattle.gx_script.specs.declared.Script.{Script}
 use Rattle.gx_session.specs.declared.state.Block.{Block}
 use Rattle.gx_session.specs.declared.state.Block.TheVariants as block
 use Rattle.gx_dtx.specs.Table as coordinator
 use Rattle.gx_local.specs.Store.{Store}
 use Rattle.gx_store.specs.declared.mark.Mark.{Mark}
+use Rattle.gx_store.specs.declared.mark.Mark.TheVariants.{Abort}
 use Rattle.gx_store.specs.declared.run.Step.{Step}
+use Rattle.gx_store.specs.Marks.{is_committed, is_ended}
 use Rattle.gx_store.specs.Points.{marks_in}
 use Rattle.gx_keeping.specs.declared.session.Session.{Session}
 use Rattle.gx_keeping.specs.Kept.{IsKept}
 use Rattle.gx_keeping.specs.Standing.{KeepsBlock, StandsUnless, block_of}
 use Rattle.gx_keeping.specs.World.{IsBetween, IsEndDone}
+use Rattle.gx_keeping.proofs.Closing.{aborted_now}
 use Rattle.gx_keeping.proofs.Blocks.{IsEndDone-failed, IsEndDone-open}
 use Rattle.gx_turns.specs.Turns.{Leaves, MayLeave}
 use Rattle.gx_turns.proofs.Ending.{MayEnd-found}
@@ -48,3 +53,14 @@ module _ (script : Script) (steps : List Step) (k : SessionId) (s : Session) (st
 
   pub IsEndDone-left : (marks : List Mark) (stores' : List Store) (d' : coordinator.Table) → Leaves s.state.block s.gxid marks stores stores' d d' → IsEndDone script steps k s (record s { over = true; snapshot = None }) marks stores' d d'
   IsEndDone-left marks stores' d' left = left_by s.state.block refl marks stores' d' left
+
+or_true : (b : Bool) → (b || true) ≡ true
+or_true true = refl
+or_true false = refl
+
+-- the transaction of an open block has then ended
+pub ended-left : (before : List Mark) (b : Block) (g : Gxid) (marks : List Mark) (stores stores' : List Store) (d d' : coordinator.Table) → Leaves b g marks stores stores' d d' → (level : Level) → b ≡ block.Open level → is_ended (before ++ marks) g ≡ true
+ended-left before block.Outside g marks stores stores' d d' left level e = cc
+ended-left before block.Failed g marks stores stores' d d' left level e = cc
+ended-left before (block.Open l) g marks stores stores' d d' left level e =
+    ap (λ (ms : List Mark). is_ended (before ++ ms) g) left.0 ∙ ap (λ (b : Bool). is_committed (before ++ Abort g ∷ []) g || b) (aborted_now before g) ∙ or_true (is_committed (before ++ Abort g ∷ []) g)

@@ -1,6 +1,7 @@
 -- One line of a session, or its end, as one step of a run.
 use Rattle.std.specs.Prelude.{◌≡◌, ◌≤◌, ◌^◌, nat_lt, Bool, true, false, List, [], ◌∷◌, ◌++◌, length, All, Option, Some, None}
 use Rattle.gx_ids.specs.declared.ids.Gxid.{Gxid}
+use Rattle.gx_tree.specs.declared.stmt.Level.{Level}
 use Rattle.gx_tree.specs.declared.stmt.Stmt.{Stmt}
 use Rattle.gx_tree.specs.declared.stmt.Stmt.TheVariants as stmt
 use Rattle.gx_script.specs.declared.Script.{Script}
@@ -22,6 +23,8 @@ use Rattle.gx_store.specs.declared.event.Event.TheVariants as event
 use Rattle.gx_store.specs.declared.mark.Mark.{Mark}
 use Rattle.gx_store.specs.declared.mark.Mark.TheVariants as mark
 use Rattle.gx_store.specs.declared.run.Step.{Step}
+use Rattle.gx_store.specs.Marks.{is_ended}
+use Rattle.gx_store.specs.Points.{marks_in}
 use Rattle.gx_store.specs.Refusals.{the_coordinator}
 use Rattle.gx_views.specs.Changes.{AllHaveSet}
 use Rattle.gx_keeping.specs.declared.session.Session.{Session}
@@ -61,6 +64,8 @@ pub record IsEndRun (script : Script) (turn : Turn) (before after : List Step) (
   pub marks : List Mark
   pub is : IsEndDone script before turn.session s s' marks stores' d d'
   pub pushed : after ≡ before ++ step_of turn (event.End turn.session) marks ∷ []
+  -- the transaction of its open block has ended
+  pub ended : (level : Level) → s.state.block ≡ block.Open level → is_ended (marks_in before ++ marks) s.gxid ≡ true
 
 -- ENDS OF SESSIONS
 -- a transaction that no segment was told of may end
