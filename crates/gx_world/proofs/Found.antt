@@ -1,148 +1,153 @@
--- The table of the line that a world is at, as the code finds it.
-use Rattle.std.proofs.Common.{◌≡◌, ◌⊎◌, ℕ, ◌+◌, ◌^◌, ◌<◌, ◌==◌, nat_lt, Bool, true, false, if◌then◌else◌, List, [], ◌∷◌, length, slice_get, slice_set, get_or, All, refl, sym, ap, ◌∙◌, subst, arith, Some, Result, Ok, Err, IfOk, OnOk, OnErr, zero, suc}
-use Rattle.std.proofs.lemmas.Bool.Decides.{nat_tests}
-use Rattle.std.proofs.lemmas.List.{length-set}
-use Rattle.std.specs.declared.vec.Vec.{Vec}
-use Rattle.std.specs.declared.alloc.Global.{Global}
-use Rattle.gx_ids.specs.declared.ids.Table.{Table}
+-- What the code finds at the place of a session that may start, or may be ended.
+use Rattle.std.proofs.Common.{◌≡◌, ℕ, ◌+◌, ◌<◌, ◌≤◌, ◌^◌, true, false, List, [], ◌∷◌, zero, suc, length, slice_get, slice_set, get_or, refl, sym, ap, ◌∙◌, subst, arith}
+use Rattle.std.specs.BTreeMap.{is_at}
+use Rattle.std.specs.Map.{lookup}
+use Rattle.std.specs.Ordering.{nat_cmp}
+use Rattle.std.specs.Prelude.{Option, None, Some, option_map, Result, Ok, Err, OnOk}
+use Rattle.gx_ids.specs.declared.ids.SessionId.{SessionId}
 use Rattle.gx_ids.specs.declared.memory.OutOfMemory.{OutOfMemory}
-use Rattle.gx_tree.specs.declared.expr.Expr.{Expr}
-use Rattle.gx_tree.specs.declared.query.Query.{Query}
-use Rattle.gx_tree.specs.declared.row.KeyedRow.{KeyedRow}
-use Rattle.gx_tree.specs.declared.schema.Schema.{Schema}
 use Rattle.gx_tree.specs.declared.stmt.Stmt.{Stmt}
-use Rattle.gx_tree.specs.declared.stmt.Stmt.TheVariants.{Select, Insert}
-use Rattle.gx_gather.specs.Answer.{AreRising}
-use Rattle.gx_resolve.specs.Rules.{IsAt, IsDist, IsSchema, IsStmtOf, IsTuple}
-use Rattle.gx_form.specs.Form.{is_stmt_of_form}
+use Rattle.gx_script.specs.declared.Line.{Line}
 use Rattle.gx_script.specs.declared.Script.{Script}
-use Rattle.gx_store.specs.Writes.{dist_of}
-use Rattle.gx_store.specs.declared.run.Run.{Run}
-use Rattle.gx_world.specs.Evaluations.{AreFit}
-use Rattle.gx_world.specs.Steps.{IsInsert, IsRefusedInsert, IsRefusedSelect, IsSelect, turn_at}
-use Rattle.gx_world.specs.World.{IsRunning, rows_in, stmt_at}
-use Rattle.gx_world.specs.declared.turn.Turn.{Turn}
-use Rattle.gx_world.proofs.Evaluating.{All-got, get-item}
-use Rattle.gx_world.proofs.Over.{all_fit}
-use Rattle.gx_world.proofs.Running.{rows_in-set, running_insert, running_same, running_select}
-use Rattle.gx_world.proofs.Scripts.{is_run_stmt, stmt_at-within, table_found}
+use Rattle.gx_dtx.specs.Table as coordinator
+use Rattle.gx_local.specs.Store.{Store}
+use Rattle.gx_store.specs.declared.event.Event.TheVariants as event
+use Rattle.gx_store.specs.declared.run.Step.{Step}
+use Rattle.gx_keeping.specs.declared.session.Session.{Session}
+use Rattle.gx_keeping.specs.World.{IsBetween, IsReady}
+use Rattle.gx_turns.specs.Turns.{IsEndRun, IsLineRun, is_built}
+use Rattle.gx_turns.specs.declared.turn.Turn.{Turn}
+use Rattle.gx_world.specs.Running.{IsRunning, count_in, moved_on}
+use Rattle.gx_world.specs.World.{HasStepped, can_happen}
+use Rattle.gx_world.proofs.Built.{item-found}
+use Rattle.gx_world.proofs.Enabled.{IsEnding, end-inside, ending, start-inside, start-left}
+use Rattle.gx_world.proofs.New.{few_steps}
+use Rattle.gx_world.proofs.Places.{IsLineOf, length-places}
+use Rattle.gx_world.proofs.Steps.{built_line, inside_lines, its, line_of, ready, some_same}
+use Rattle.gx_world.proofs.Worlds.{end-run, line-run}
 
 pub on_ok : {A : Type 0} (r : Result A OutOfMemory) (P Q : Type 0) → OnOk r P → (P → Q) → OnOk r Q
 on_ok (Ok a) P Q h f = f h
 on_ok (Err e) P Q h f = tt
 
-pub on_err : {A : Type 0} (r : Result A OutOfMemory) (P Q : Type 0) → OnErr r P → (P → Q) → OnErr r Q
-on_err (Ok a) P Q h f = tt
-on_err (Err e) P Q h f = f h
+module _ (script : Script) (steps : List Step) (stores : List Store) (d : coordinator.Table) (sessions : List Session) (places : List (List ℕ)) (queue : List (ℕ × SessionId)) (h : IsRunning script steps stores d sessions places queue) (k : SessionId) (at : ℕ) (place : at ≡ k.0) where
+  pub room : d.next.0 ≤ 2 ^ 62
+  room = omega (arith, h.world.kept.count, h.world.starts, few_steps script steps stores d sessions places queue h, h.language.few_lines, h.language.few_sessions)
 
-pub if_ok : {A : Type 0} (r : Result A OutOfMemory) (P Q : A → Type 0) → IfOk r P → ((a : A) → P a → Q a) → IfOk r Q
-if_ok (Ok a) P Q h f = f a h
-if_ok (Err e) P Q h f = tt
+  -- A LINE
+  module _ (can : can_happen script steps (event.Start k) ≡ true) where
+    pub start-here : at < length sessions
+    start-here = omega (arith, place, start-inside script steps stores d sessions places queue h k can, h.world.all)
 
-rows_in-read : (ts : List (Vec KeyedRow Global)) (k : ℕ) (t : Vec KeyedRow Global) → k < length ts → (get_or ts k t).items ≡ rows_in ts k
-rows_in-read [] k t l = absurd (omega arith)
-rows_in-read (x ∷ ts) zero t l = refl
-rows_in-read (x ∷ ts) (suc k) t l = rows_in-read ts k t (omega arith)
+    pub start-places : at < length places
+    start-places = omega (arith, place, start-inside script steps stores d sessions places queue h k can, h.index.all)
 
-short_enough : (n : ℕ) → nat_lt n (2 ^ 32) ≡ true → n < 2 ^ 32
-short_enough n h = grind (arith, nat_tests)
+    module _ (sd : Session) (pr ps : List ℕ) (read : pr ≡ get_or places at pr) (own : ps ≡ pr) where
+      abbrev s : Session
+      s = get_or sessions at sd
 
--- a table at a place, with its rules
-pub record IsFoundAt (script : Script) (tables : List (Vec KeyedRow Global)) (table : Table) (schema : Schema) (at : ℕ) : Type 0 where
-  pub is : IsAt script.tables table schema
-  pub way : dist_of script.tables table.0 ≡ schema.dist
-  pub key : IsDist schema.columns schema.dist
-  pub inside : at < length script.tables
-  pub here : at < length tables
+      pub start-there : slice_get sessions k.0 ≡ Some s
+      start-there = ap (slice_get sessions) (sym place) ∙ item-found sessions at sd start-here
 
-module _ (script : Script) (run : Run) (tables : List (Vec KeyedRow Global)) (d : ℕ) (h : IsRunning script run tables d) where
-  found_at : (table : Table) (schema : Schema) (at : ℕ) → IsAt script.tables table schema → at ≡ table.0 → IsFoundAt script tables table schema at
-  found_at table schema at is e =
-      let found = table_found script.tables table.0 schema is in
-      let rules : IsSchema schema = All-got IsSchema script.tables table.0 schema h.ready.tables is in
-      record { is = is; way = found.2; key = rules.key; inside = omega (arith, found.0, e); here = omega (arith, found.0, e, h.sound.count) }
+      pub start-own : slice_get places k.0 ≡ Some ps
+      start-own = ap (slice_get places) (sym place) ∙ item-found places at pr start-places ∙ ap Some (sym read ∙ sym own)
 
-  -- the schema that is read there is the table's
-  same_schema : (table : Table) (schema read : Schema) (at : ℕ) → IsFoundAt script tables table schema at → at ≡ table.0 → read ≡ get_or script.tables at read → schema ≡ read
-  same_schema table schema read at f e r =
-      let there = get-item script.tables at read f.inside r in
-      let named = ap (slice_get script.tables) e ∙ f.is in
-      cc (there, named)
+      pub start-answered : s.answered < length ps
+      start-answered = start-left script steps stores d sessions places queue h k s ps can start-there start-own
 
-  pub next_fits : (stmt : Stmt) → stmt_at script.lines d ≡ Some stmt → d + 1 < 2 ^ 32
-  next_fits stmt e = omega (arith, stmt_at-within script.lines d stmt e, h.ready.short)
+      pub start-at : (pd : ℕ) → slice_get ps s.answered ≡ Some (get_or ps s.answered pd)
+      start-at pd = item-found ps s.answered pd start-answered
 
-  -- AN INSERT
-  module _ (table : Table) (tuples : List (List Expr)) (line : stmt_at script.lines d ≡ Some (Insert table tuples)) (at : ℕ) (place : at ≡ table.0) where
-    of : (is_stmt_of_form (Insert table tuples) ≡ true) × IsStmtOf script.tables (Insert table tuples)
-    of = is_run_stmt script.tables 1 d script.lines (Insert table tuples) h.ready.lines line
+      module _ (pd : ℕ) where
+        pub start-line : get_or ps s.answered pd < length script.lines
+        start-line = inside_lines script steps stores d sessions places queue h k s ps start-there start-own start-answered (get_or ps s.answered pd) (start-at pd)
 
-    found : IsFoundAt script tables table of.1.0 at
-    found = found_at table of.1.0 at of.1.1 place
+        module _ (line : Stmt) (is : option_map (λ (l : Line). l.stmt) (slice_get script.lines (get_or ps s.answered pd)) ≡ Some line) where
+          same_line : (its script steps stores d sessions places queue h k s ps start-there start-own start-answered (get_or ps s.answered pd) (start-at pd)).line.stmt ≡ line
+          same_line = some_same (sym (ap (option_map (λ (l : Line). l.stmt)) (line_of script steps stores d sessions places queue h k s ps start-there start-own (get_or ps s.answered pd) (start-at pd)).there) ∙ is)
 
-    pub insert_inside : at < length script.tables
-    insert_inside = found.inside
+          pub start-ready : IsReady script steps k s line stores d
+          start-ready = ready script steps stores d sessions places queue h k s ps start-there start-own start-answered (get_or ps s.answered pd) (start-at pd) line same_line
 
-    pub insert_here : at < length tables
-    insert_here = found.here
+          pub start-built : is_built line ≡ true
+          start-built = built_line script steps stores d sessions places queue h k s ps start-there start-own start-answered (get_or ps s.answered pd) (start-at pd) line same_line
 
-    pub insert_short : length tuples < 2 ^ 32
-    insert_short = short_enough (length tuples) of.0
+        pub start-run : (turn : Turn) (steps' : List Step) (s' : Session) (stores' : List Store) (d' : coordinator.Table) → turn.session ≡ k → turn.clock ≡ length steps + 1 → (queue' : List (ℕ × SessionId)) → ((q : ℕ) → lookup (is_at (nat_cmp q)) queue' ≡ moved_on (slice_get ps (s.answered + 1)) (get_or ps s.answered pd) k (λ r. lookup (is_at (nat_cmp r)) queue) q) → IsLineRun script turn steps steps' s s' stores' d d' → IsRunning script steps' stores' d' (slice_set sessions at s') places queue' × HasStepped steps steps' (event.Start k)
+        start-run turn steps' s' stores' d' whose clock queue' moved run =
+            subst (λ n. IsRunning script steps' stores' d' (slice_set sessions n s') places queue' × HasStepped steps steps' (event.Start k)) (sym place)
+            (line-run script steps stores d sessions places queue h k s ps start-there start-own start-answered (get_or ps s.answered pd) (start-at pd) turn steps' s' stores' d' whose clock run queue' moved)
 
-    module _ (read : Schema) (is : read ≡ get_or script.tables at read) where
-      same : of.1.0 ≡ read
-      same = same_schema table of.1.0 read at found place is
+      -- what is read there a second time
+      module _ (se : Session) where
+        pub start-same : s ≡ get_or sessions at se
+        start-same = some_same (sym (item-found sessions at sd start-here) ∙ item-found sessions at se start-here)
 
-      pub insert_typed : All (IsTuple read.columns) tuples
-      insert_typed = subst (λ (s : Schema). All (IsTuple s.columns) tuples) same of.1.2
+        pub start-number : s.answered + 1 ≡ (get_or sessions at se).answered + 1
+        start-number = ap (λ (x : Session). x.answered + 1) start-same
 
-      pub insert_key : IsDist read.columns read.dist
-      insert_key = subst (λ (s : Schema). IsDist s.columns s.dist) same found.key
+        module _ (lines : List Line) (all : lines ≡ script.lines) (pd : ℕ) where
+          pub start-line-in : get_or ps s.answered pd < length lines
+          start-line-in = subst (λ (ls : List Line). get_or ps s.answered pd < length ls) (sym all) (start-line pd)
 
-      pub insert_runs : (turn : Turn) (old rows : Vec KeyedRow Global) (new : Run) → turn ≡ turn_at d
-          → IsInsert script.segments read.dist table turn tuples run new (get_or tables at old).items rows.items ⊎ IsRefusedInsert turn tuples run new (get_or tables at old).items rows.items
-          → IsRunning script new (slice_set tables at rows) (d + 1)
-      insert_runs turn old rows new t x =
-          running_insert script run tables d h table tuples read (get_or tables at old).items rows.items new (slice_set tables at rows) line
-          (subst (IsAt script.tables table) same found.is) (subst (λ (s : Schema). dist_of script.tables table.0 ≡ s.dist) same found.way) insert_typed
-          (rows_in-read tables at old found.here ∙ ap (rows_in tables) place) (λ k. rows_in-set tables at rows k found.here ∙ ap (λ n. if n == k then rows.items else rows_in tables k) place) (length-set tables at rows)
-          (subst (λ (u : Turn). IsInsert script.segments read.dist table u tuples run new (get_or tables at old).items rows.items ⊎ IsRefusedInsert u tuples run new (get_or tables at old).items rows.items) t x)
+          module _ (line : Stmt) (is : option_map (λ (l : Line). l.stmt) (slice_get lines (get_or ps s.answered pd)) ≡ Some line) where
+            there : option_map (λ (l : Line). l.stmt) (slice_get script.lines (get_or ps s.answered pd)) ≡ Some line
+            there = subst (λ (ls : List Line). option_map (λ (l : Line). l.stmt) (slice_get ls (get_or ps s.answered pd)) ≡ Some line) all is
 
-    pub insert_same : (old rows : Vec KeyedRow Global) (new : Run) → new ≡ run → rows.items ≡ (get_or tables at old).items → IsRunning script new (slice_set tables at rows) d
-    insert_same old rows new e r = running_same script run tables d h new (slice_set tables at rows) e (λ k. rows_in-set tables at rows k found.here ∙ as_before k (at == k) refl) (length-set tables at rows)
-      where
-        as_before : (k : ℕ) (b : Bool) → (at == k) ≡ b → (if b then rows.items else rows_in tables k) ≡ rows_in tables k
-        as_before k true t = let here : at ≡ k = grind (arith, nat_tests) in r ∙ rows_in-read tables at old found.here ∙ ap (rows_in tables) here
-        as_before k false t = refl
+            pub start-ready-again : IsReady script steps k (get_or sessions at se) line stores d
+            start-ready-again = subst (λ (x : Session). IsReady script steps k x line stores d) start-same (start-ready pd line there)
 
-  -- A QUERY
-  module _ (query : Query) (line : stmt_at script.lines d ≡ Some (Select query)) (at : ℕ) (place : at ≡ query.table.0) where
-    asked : (is_stmt_of_form (Select query) ≡ true) × IsStmtOf script.tables (Select query)
-    asked = is_run_stmt script.tables 1 d script.lines (Select query) h.ready.lines line
+            pub start-built-again : is_built line ≡ true
+            start-built-again = start-built pd line there
 
-    there : IsFoundAt script tables query.table asked.1.0 at
-    there = found_at query.table asked.1.0 at asked.1.1 place
+          pub start-run-again : (turn : Turn) (steps' : List Step) (s' : Session) (stores' : List Store) (d' : coordinator.Table) → turn.session ≡ k → turn.clock ≡ length steps + 1 → (queue' : List (ℕ × SessionId)) (next : Option ℕ) → next ≡ slice_get ps (s.answered + 1) → ((q : ℕ) → lookup (is_at (nat_cmp q)) queue' ≡ moved_on next (get_or ps s.answered pd) k (λ r. lookup (is_at (nat_cmp r)) queue) q) → IsLineRun script turn steps steps' (get_or sessions at se) s' stores' d d' → IsRunning script steps' stores' d' (slice_set sessions at s') places queue' × HasStepped steps steps' (event.Start k)
+          start-run-again turn steps' s' stores' d' whose clock queue' next is moved run =
+              start-run pd turn steps' s' stores' d' whose clock queue'
+              (λ q. moved q ∙ ap (λ o. moved_on o (get_or ps s.answered pd) k (λ r. lookup (is_at (nat_cmp r)) queue) q) is)
+              (subst (λ (x : Session). IsLineRun script turn steps steps' x s' stores' d d') (sym start-same) run)
 
-    pub select_inside : at < length script.tables
-    select_inside = there.inside
+      -- its number has 32 bits
+      pub start-fits : s.answered + 1 < 2 ^ 32
+      start-fits = omega (arith, start-answered, count_few)
+        where
+          count_few : length ps ≤ length script.lines
+          count_few = among places k.0 ps start-own (h.index.count)
+            where
+              among : (pss : List (List ℕ)) (i : ℕ) (qs : List ℕ) → slice_get pss i ≡ Some qs → count_in pss ≡ length script.lines → length qs ≤ length script.lines
+              among pss i qs e all = omega (arith, part pss i qs e, all)
+                where
+                  part : (pss : List (List ℕ)) (i : ℕ) (qs : List ℕ) → slice_get pss i ≡ Some qs → length qs ≤ count_in pss
+                  part [] i qs e = absurd (cc)
+                  part (x ∷ xs) zero qs e = omega (arith, ap length (some_same e))
+                  part (x ∷ xs) (suc i) qs e = omega (arith, part xs i qs e)
 
-    pub select_here : at < length tables
-    select_here = there.here
+  -- AN END
+  module _ (can : can_happen script steps (event.End k) ≡ true) where
+    pub end-here : at < length sessions
+    end-here = omega (arith, place, end-inside script steps stores d sessions places queue h k can, h.world.all)
 
-    rows_are : (old : Vec KeyedRow Global) (rows : List KeyedRow) → old ≡ get_or tables at old → rows ≡ old.items → rows ≡ rows_in tables query.table.0
-    rows_are old rows o r = r ∙ ap (λ (t : Vec KeyedRow Global). t.items) o ∙ rows_in-read tables at old there.here ∙ ap (rows_in tables) place
+    module _ (sd : Session) where
+      abbrev t : Session
+      t = get_or sessions at sd
 
-    pub select_rising : (old : Vec KeyedRow Global) (rows : List KeyedRow) → old ≡ get_or tables at old → rows ≡ old.items → AreRising rows
-    select_rising old rows o r = subst AreRising (sym (rows_are old rows o r)) (h.sound.rows query.table).view.rising
+      pub end-there : slice_get sessions k.0 ≡ Some t
+      end-there = ap (slice_get sessions) (sym place) ∙ item-found sessions at sd end-here
 
-    module _ (read : Schema) (is : read ≡ get_or script.tables at read) (old : Vec KeyedRow Global) (rows : List KeyedRow) (o : old ≡ get_or tables at old) (r : rows ≡ old.items) where
-      schema_is : asked.1.0 ≡ read
-      schema_is = same_schema query.table asked.1.0 read at there place is
+      pub end-places : at < length places
+      end-places = omega (arith, end-here, h.world.all, h.index.all)
 
-      pub select_fit : AreFit read.dist query.cond rows
-      select_fit = subst (λ (s : Schema). AreFit s.dist query.cond rows) schema_is
-          (subst (AreFit asked.1.0.dist query.cond) (sym (rows_are old rows o r)) (all_fit asked.1.0 query.cond (rows_in tables query.table.0) there.key asked.1.2.cond (h.sound.over query.table asked.1.0 there.is)))
+      abbrev own_places : List ℕ
+      own_places = get_or places at []
 
-      pub select_runs : (turn : Turn) (new : Run) → turn ≡ turn_at d → IsSelect turn query rows run new ⊎ IsRefusedSelect script.segments read.dist turn query rows run new → IsRunning script new tables (d + 1)
-      select_runs turn new t x = running_select script run tables d h query rows read.dist new line (rows_are old rows o r)
-          (subst (λ (u : Turn). IsSelect u query rows run new ⊎ IsRefusedSelect script.segments read.dist u query rows run new) t x)
+      end-own : slice_get places k.0 ≡ Some own_places
+      end-own = ap (slice_get places) (sym place) ∙ item-found places at [] end-places
+
+      pub end-is : IsEnding script steps stores d sessions places queue h k t own_places
+      end-is = ending script steps stores d sessions places queue h k t own_places can end-there end-own
+
+      pub end-between : IsBetween script steps d k t
+      end-between = h.world.each k t end-there
+
+      pub end-run-is : (turn : Turn) (steps' : List Step) (s' : Session) (stores' : List Store) (d' : coordinator.Table) → turn.session ≡ k → turn.clock ≡ length steps + 1 → IsEndRun script turn steps steps' t s' stores' d d' → IsRunning script steps' stores' d' (slice_set sessions at s') places queue × HasStepped steps steps' (event.End k)
+      end-run-is turn steps' s' stores' d' whose clock run =
+          subst (λ n. IsRunning script steps' stores' d' (slice_set sessions n s') places queue × HasStepped steps steps' (event.End k)) (sym place)
+          (end-run script steps stores d sessions places queue h k t own_places end-there end-own end-is.all end-is.goes end-is.legal turn steps' s' stores' d' whose clock run)

@@ -1,3 +1,3 @@
-pub mod Evaluations
-pub mod Steps
+pub mod Finals
+pub mod Running
 pub mod World

@@ -1,17 +1,14 @@
-//! The world: it runs a script, line by line, over a list of rows a table, and keeps the run.
+//! The world: it runs a script of several sessions, line by line, over the transactions of a coordinator and the stores of
+//! segments, and keeps the run.
 #![tactic(auto)]
 
-mod answering;
-mod constants;
-mod insert;
-mod lines;
-mod marks;
-mod select;
-mod selection;
-mod starting;
-mod stop;
+mod asking;
+mod index;
+mod making;
+mod moves;
+mod queue;
 mod tables;
-mod turn;
 pub mod world;
 
 pub use world::World;
+

@@ -1,29 +1,77 @@
-// The rows of all tables.
-ghost use Rattle.std.specs.Prelude.{◌≡◌, IfOk, replicate, []};
-ghost use Rattle.gx_world.specs.World.{all_rows};
+// The tables, as a snapshot shows them.
+ghost use Rattle.std.specs.Prelude.{◌≡◌, ◌≤◌, ◌++◌, All, IfOk, OnOk, length, None, []};
+ghost use Rattle.std.specs.List.Sorted.{IsPermutation, IsSortedBy};
+ghost use Rattle.std.specs.Ordering.{is_lt};
+ghost use Rattle.gx_ids.specs.declared.ids.Cid.{Cid as Number};
+ghost use Rattle.gx_gather.specs.Answer.{together};
+ghost use Rattle.gx_gather.specs.Order.{row_order};
+ghost use Rattle.gx_views.specs.Reading.{AreShown, in_one};
+ghost use Rattle.gx_world.specs.Finals.{AreTables, IsTable};
 
-use gx_ids::{Mem, copies};
+use gx_dsnap::Snapshot;
+use gx_ids::{Cid, Mem, Seq, Table};
+use gx_local::LocalStore;
 use gx_tree::KeyedRow;
+use gx_views::shown_everywhere;
 use std::alloc::Global;
 
-// So many tables without rows.
-pub(crate) fn empty_tables(alloc: Global, count: usize) -> Mem<Vec<Vec<KeyedRow>>>
-    ensures { IfOk result (λ tables. all_rows tables.items ≡ replicate count []) }
+// The rows of so many tables.
+pub(crate) fn tables(
+    alloc: Global,
+    segments: &[LocalStore],
+    snap: &Snapshot,
+    count: usize,
+) -> Mem<Vec<Vec<KeyedRow>>>
+    requires low { All (λ s. s.horizon.0 ≤ snap.now.xmin.0) segments.now }
+    requires few { count ≤ 64 }
+    ensures count { IfOk result (λ tables. length tables.items ≡ count) }
+    ensures rows { IfOk result (λ tables. AreTables snap.now segments.now 0 tables.items) }
 {
     let mut tables = Vec::with_capacity(alloc, count)?;
-    for _table in 0..count {
-        tables.push(Vec::new(alloc))?;
+    for number in 0..count {
+        tables.push(table(alloc, segments, snap, Table(number as u8))?)?;
     }
     Ok(tables)
 }
 
-// Copies of all tables.
-pub(crate) fn copied_tables(alloc: Global, tables: &[Vec<KeyedRow>]) -> Mem<Vec<Vec<KeyedRow>>>
-    ensures { IfOk result (λ copied. all_rows copied.items ≡ all_rows tables.now) }
+// The rows of a table in the order of their identities.
+fn table(
+    alloc: Global,
+    segments: &[LocalStore],
+    snap: &Snapshot,
+    table: Table,
+) -> Mem<Vec<KeyedRow>>
+    requires { All (λ s. s.horizon.0 ≤ snap.now.xmin.0) segments.now }
+    ensures { IfOk result (λ rows. IsTable snap.now segments.now table rows.items) }
 {
-    let mut copied = Vec::with_capacity(alloc, tables.len())?;
-    for rows in tables {
-        copied.push(copies(alloc, rows.as_slice())?)?;
+    let lists = shown_everywhere(alloc, segments, table, snap, None, Cid(0))?;
+    let mut rows = joined(alloc, lists)?;
+    sort(&mut rows);
+    Ok(rows)
+}
+
+fn joined(alloc: Global, lists: Vec<Seq<KeyedRow>>) -> Mem<Vec<KeyedRow>>
+    ensures { IfOk result (λ rows. rows.items ≡ together lists.items) }
+{
+    let mut rows = Vec::new(alloc);
+    for list in lists {
+        add(&mut rows, list.into_vec())?;
     }
-    Ok(copied)
+    Ok(rows)
+}
+
+fn add(rows: &mut Vec<KeyedRow>, more: Vec<KeyedRow>) -> Mem<()>
+    ensures { OnOk result (rows.new.items ≡ rows.old.items ++ more.items) }
+{
+    for row in more {
+        rows.push(row)?;
+    }
+    Ok(())
+}
+
+fn sort(rows: &mut Vec<KeyedRow>)
+    ensures moved { IsPermutation rows.old.items rows.new.items }
+    ensures sorted { IsSortedBy (λ a b. is_lt (row_order [] a b)) rows.new.items }
+{
+    rows.sort_unstable_by(|left, right| left.rid.cmp(&right.rid));
 }
