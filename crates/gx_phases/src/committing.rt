@@ -8,7 +8,7 @@ ghost use Rattle.gx_phases.specs.Phases.{local_of, phase_of};
 
 use crate::appending::append;
 use crate::local::{Local, Phase, Taken, Vote};
-use gx_ids::{Gxid, Mem, Node, Seq, copies};
+use gx_ids::{Gxid, Mem, Node, Seq};
 use gx_msg::{JournalItem, Kept, Reply};
 use gx_outside::Journal;
 use gx_store::Mark;
@@ -54,16 +54,16 @@ fn promise<J: Journal>(
     node: Node,
     gxid: Gxid,
     local: &mut Local,
-    kept: &[Kept],
+    kept: Seq<Kept>,
     journal: &mut J,
 ) -> Mem<Taken>
-    ensures does { IfOk result (λ taken. Does (promises node gxid kept.now taken.fails (local_of local.old)) (local_of local.new) taken) }
-    ensures items { IfOk result (λ taken. AreItems (J.items journal.old) (J.items journal.new) taken.fails (promises node gxid kept.now taken.fails (local_of local.old)).item) }
+    ensures does { IfOk result (λ taken. Does (promises node gxid kept taken.fails (local_of local.old)) (local_of local.new) taken) }
+    ensures items { IfOk result (λ taken. AreItems (J.items journal.old) (J.items journal.new) taken.fails (promises node gxid kept taken.fails (local_of local.old)).item) }
     ensures caused { IfOk result (λ taken. taken.fails ≡ true → Rose (J.fault_count journal.old) (J.fault_count journal.new)) }
     ensures later { J.fault_count journal.old ≤ J.fault_count journal.new }
     ensures err { OnErr result ((local.new ≡ local.old) × (J.items journal.new ≡ J.items journal.old)) }
 {
-    let item = JournalItem::Prepare(gxid, Seq::from_vec(copies(alloc, kept)?));
+    let item = JournalItem::Prepare(gxid, kept);
     if append(alloc, &item, journal)? {
         return Ok(refuse(node, gxid, local));
     }
@@ -82,11 +82,11 @@ pub(crate) fn take_prepare<J: Journal>(
     node: Node,
     gxid: Gxid,
     local: &mut Local,
-    kept: &[Kept],
+    kept: Seq<Kept>,
     journal: &mut J,
 ) -> Mem<Taken>
-    ensures does { IfOk result (λ taken. Does (change.prepares node gxid kept.now taken.fails (local_of local.old) (phase_of local.old.phase)) (local_of local.new) taken) }
-    ensures items { IfOk result (λ taken. AreItems (J.items journal.old) (J.items journal.new) taken.fails (change.prepares node gxid kept.now taken.fails (local_of local.old) (phase_of local.old.phase)).item) }
+    ensures does { IfOk result (λ taken. Does (change.prepares node gxid kept taken.fails (local_of local.old) (phase_of local.old.phase)) (local_of local.new) taken) }
+    ensures items { IfOk result (λ taken. AreItems (J.items journal.old) (J.items journal.new) taken.fails (change.prepares node gxid kept taken.fails (local_of local.old) (phase_of local.old.phase)).item) }
     ensures caused { IfOk result (λ taken. taken.fails ≡ true → Rose (J.fault_count journal.old) (J.fault_count journal.new)) }
     ensures later { J.fault_count journal.old ≤ J.fault_count journal.new }
     ensures err { OnErr result ((local.new ≡ local.old) × (J.items journal.new ≡ J.items journal.old)) }
@@ -104,16 +104,16 @@ fn commit<J: Journal>(
     node: Node,
     gxid: Gxid,
     local: &mut Local,
-    kept: &[Kept],
+    kept: Seq<Kept>,
     journal: &mut J,
 ) -> Mem<Taken>
-    ensures does { IfOk result (λ taken. Does (commits_now node gxid kept.now taken.fails (local_of local.old)) (local_of local.new) taken) }
-    ensures items { IfOk result (λ taken. AreItems (J.items journal.old) (J.items journal.new) taken.fails (commits_now node gxid kept.now taken.fails (local_of local.old)).item) }
+    ensures does { IfOk result (λ taken. Does (commits_now node gxid kept taken.fails (local_of local.old)) (local_of local.new) taken) }
+    ensures items { IfOk result (λ taken. AreItems (J.items journal.old) (J.items journal.new) taken.fails (commits_now node gxid kept taken.fails (local_of local.old)).item) }
     ensures caused { IfOk result (λ taken. taken.fails ≡ true → Rose (J.fault_count journal.old) (J.fault_count journal.new)) }
     ensures later { J.fault_count journal.old ≤ J.fault_count journal.new }
     ensures err { OnErr result ((local.new ≡ local.old) × (J.items journal.new ≡ J.items journal.old)) }
 {
-    let item = JournalItem::Commit(gxid, Seq::from_vec(copies(alloc, kept)?));
+    let item = JournalItem::Commit(gxid, kept);
     if append(alloc, &item, journal)? {
         return Ok(refuse(node, gxid, local));
     }
@@ -143,11 +143,11 @@ pub(crate) fn take_commit<J: Journal>(
     node: Node,
     gxid: Gxid,
     local: &mut Local,
-    kept: &[Kept],
+    kept: Seq<Kept>,
     journal: &mut J,
 ) -> Mem<Taken>
-    ensures does { IfOk result (λ taken. Does (change.commits node gxid kept.now taken.fails (local_of local.old) (phase_of local.old.phase)) (local_of local.new) taken) }
-    ensures items { IfOk result (λ taken. AreItems (J.items journal.old) (J.items journal.new) taken.fails (change.commits node gxid kept.now taken.fails (local_of local.old) (phase_of local.old.phase)).item) }
+    ensures does { IfOk result (λ taken. Does (change.commits node gxid kept taken.fails (local_of local.old) (phase_of local.old.phase)) (local_of local.new) taken) }
+    ensures items { IfOk result (λ taken. AreItems (J.items journal.old) (J.items journal.new) taken.fails (change.commits node gxid kept taken.fails (local_of local.old) (phase_of local.old.phase)).item) }
     ensures caused { IfOk result (λ taken. taken.fails ≡ true → Rose (J.fault_count journal.old) (J.fault_count journal.new)) }
     ensures later { J.fault_count journal.old ≤ J.fault_count journal.new }
     ensures err { OnErr result ((local.new ≡ local.old) × (J.items journal.new ≡ J.items journal.old)) }

@@ -8,7 +8,7 @@ use crate::aborting::{take_abort, take_forget};
 use crate::committing::{take_commit, take_commit_prepared, take_prepare};
 use crate::local::{Local, Taken};
 use gx_dtx::order::Order;
-use gx_ids::{Gxid, Mem, Node};
+use gx_ids::{Gxid, Mem, Node, Seq};
 use gx_msg::Kept;
 use gx_outside::Journal;
 use std::alloc::Global;
@@ -22,11 +22,11 @@ pub fn take_order<J: Journal>(
     gxid: Gxid,
     order: Order,
     local: &mut Local,
-    kept: &[Kept],
+    kept: Seq<Kept>,
     journal: &mut J,
 ) -> Mem<Taken>
-    ensures does { IfOk result (λ taken. Does (change_of order node gxid kept.now taken.fails (local_of local.old)) (local_of local.new) taken) }
-    ensures items { IfOk result (λ taken. AreItems (J.items journal.old) (J.items journal.new) taken.fails (change_of order node gxid kept.now taken.fails (local_of local.old)).item) }
+    ensures does { IfOk result (λ taken. Does (change_of order node gxid kept taken.fails (local_of local.old)) (local_of local.new) taken) }
+    ensures items { IfOk result (λ taken. AreItems (J.items journal.old) (J.items journal.new) taken.fails (change_of order node gxid kept taken.fails (local_of local.old)).item) }
     ensures caused { IfOk result (λ taken. taken.fails ≡ true → Rose (J.fault_count journal.old) (J.fault_count journal.new)) }
     ensures later { J.fault_count journal.old ≤ J.fault_count journal.new }
     ensures err { OnErr result ((local.new ≡ local.old) × (J.items journal.new ≡ J.items journal.old)) }

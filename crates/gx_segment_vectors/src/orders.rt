@@ -1,6 +1,6 @@
 // A transaction that promises, commits and is forgotten, and one that the journal refuses.
 use gx_dtx::order::Order;
-use gx_ids::{Gxid, Node};
+use gx_ids::{Gxid, Node, Seq};
 use gx_msg::Reply;
 use gx_outside::JournalMem;
 use gx_phases::{Local, Phase, take_order};
@@ -36,7 +36,8 @@ fn a_promise_is_kept_and_forgotten(rt: HostRuntime) -> Result<(), Fail> {
         (Order::CommitPrepared, 2, 2),
     ];
     for (order, told, items) in expected {
-        let taken = take_order(alloc, Node(2), Gxid(7), order, &mut local, &[], &mut journal)?;
+        let kept = Seq::new(alloc);
+        let taken = take_order(alloc, Node(2), Gxid(7), order, &mut local, kept, &mut journal)?;
         assert_eq!(rt; kind(&taken.reply), told);
         assert_eq!(rt; journal.kept_items().len(), items);
     }
@@ -60,7 +61,8 @@ fn a_refused_promise_is_told_until_the_abort(rt: HostRuntime) -> Result<(), Fail
         (Order::Forget, 0),
     ];
     for (order, told) in expected {
-        let taken = take_order(alloc, Node(2), Gxid(7), order, &mut local, &[], &mut journal)?;
+        let kept = Seq::new(alloc);
+        let taken = take_order(alloc, Node(2), Gxid(7), order, &mut local, kept, &mut journal)?;
         assert_eq!(rt; kind(&taken.reply), told);
     }
     assert_eq!(rt; journal.kept_items().len(), 0);
