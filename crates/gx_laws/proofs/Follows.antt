@@ -1,5 +1,5 @@
 -- Each node's steps alone follow its rule.
-use Rattle.std.proofs.Common.{◌≡◌, ◌≤◌, ℕ, List, [], ◌∷◌, ◌++◌, Option, Some, None, Bool, true, false, refl, sym, subst, ap, ◌∙◌, if◌then◌else◌, arith, append-nil}
+use Rattle.std.proofs.Common.{◌≡◌, ◌≤◌, ℕ, inl, inr, List, [], ◌∷◌, ◌++◌, Option, Some, None, Bool, true, false, refl, sym, subst, ap, ◌∙◌, if◌then◌else◌, arith, append-nil}
 use Rattle.std.proofs.lemmas.Bool.Decides.{nat_tests}
 use Rattle.std.proofs.lemmas.List.{append_assoc}
 use Rattle.gx_ids.specs.declared.ids.Node.{Node}
@@ -12,13 +12,14 @@ use Rattle.gx_store.specs.declared.node.NodeEvent.TheVariants as here
 use Rattle.gx_store.specs.declared.run.Step.{Step}
 use Rattle.gx_store.specs.Journals.{is_same_node}
 use Rattle.gx_store.specs.Messages.{IsSending}
+use Rattle.gx_store.specs.Ordered.{IsLink, IsSegment}
 use Rattle.gx_store.specs.Refusals.{the_coordinator}
 use Rattle.gx_rules.specs.AtCoordinator.{coord_can, coord_rule}
 use Rattle.gx_rules.specs.AtSegment.{seg_rule}
 use Rattle.gx_rules.specs.Coordinators.{Coord, new_coordinator}
 use Rattle.gx_rules.specs.Machine.{World, after, at_node, can, can_here, coord_did, delivered, does, found, happens, new_world, node_of, run_of, seg_can, seg_did, world_of}
 use Rattle.gx_rules.specs.Segments.{Seg, new_segment}
-use Rattle.gx_rules.specs.System.{DoesCoordFollow, DoesSegFollow, Either, IsCoordStep, IsHere, IsPosted, IsSegStep, IsSystemRun}
+use Rattle.gx_rules.specs.System.{AreAtNodes, DoesCoordFollow, DoesSegFollow, Either, IsCoordStep, IsHere, IsNode, IsPosted, IsSegStep, IsSystemRun}
 use Rattle.gx_laws.proofs.Letters.{IsFound, IsLetter, found_is}
 use Rattle.gx_laws.proofs.Ordered.{Well, apart-back, apart-two, at-both, happens_well, never_resumes, new_well, test-self}
 use Rattle.gx_laws.proofs.Sent.{at}
@@ -127,8 +128,13 @@ seg_other script c before (x ∷ ss) d s f other =
     (λ a. seg_other script c (before ++ x ∷ []) ss d s a other) f
 
 -- THE MACHINE
+at_nodes-last : (script : Script) (ss : List Step) (s : Step) → AreAtNodes script ss → IsNode script s.stamp.node → AreAtNodes script (ss ++ s ∷ [])
+at_nodes-last script [] s e h = (h, tt)
+at_nodes-last script (x ∷ ss) s e h = (e.0, at_nodes-last script ss s e.1 h)
+
 pub record Follows (script : Script) (w : World) : Type 0 where
   pub well : Well script w
+  pub nodes : AreAtNodes script w.steps
   pub coordinator : CoordTo script new_coordinator [] w.steps w.coord
   pub segments : (i : ℕ) → 1 ≤ i → SegTo script (new_segment (at i)) [] w.steps (w.segs i)
 
@@ -152,6 +158,7 @@ module _ (script : Script) where
   coord_kept w e x fails f n h ok =
       record {
         well = n;
+        nodes = at_nodes-last script w.steps _ f.nodes (inl refl);
         coordinator = coord_own script new_coordinator [] w.steps w.coord _ f.coordinator refl (record { here = x; fails = fails; is = h; admitted = ok; marks = refl; clock = refl });
         segments = λ i k. seg_other script (new_segment (at i)) [] w.steps (w.segs i) _ (f.segments i k) (subst (λ m. is_same_node the_coordinator m ≡ false) (sym (f.well.names i)) (away i k));
       }
@@ -159,11 +166,12 @@ module _ (script : Script) where
       away : (i : ℕ) → 1 ≤ i → is_same_node the_coordinator (at i) ≡ false
       away i k = grind (arith, nat_tests)
 
-  seg_kept : (w : World) (e : Event) (x : NodeEvent) (fails : Bool) (i : ℕ) → 1 ≤ i → Follows script w → Well script (seg_did w (at i) e (seg_rule script (w.segs i) x fails)) → IsHere w.steps e x → seg_can x ≡ true → Follows script (seg_did w (at i) e (seg_rule script (w.segs i) x fails))
+  seg_kept : (w : World) (e : Event) (x : NodeEvent) (fails : Bool) (i : ℕ) → IsSegment script (at i) → Follows script w → Well script (seg_did w (at i) e (seg_rule script (w.segs i) x fails)) → IsHere w.steps e x → seg_can x ≡ true → Follows script (seg_did w (at i) e (seg_rule script (w.segs i) x fails))
   seg_kept w e x fails i place f n h ok =
       record {
         well = n;
-        coordinator = coord_other script new_coordinator [] w.steps w.coord _ f.coordinator (apart-back i place);
+        nodes = at_nodes-last script w.steps step f.nodes (inr place);
+        coordinator = coord_other script new_coordinator [] w.steps w.coord _ f.coordinator (apart-back i place.0);
         segments = at-both (λ j (t : Seg). 1 ≤ j → SegTo script (new_segment (at j)) [] (w.steps ++ step ∷ []) t) w.segs i (seg_rule script (w.segs i) x fails).seg
             (λ k. seg_own script (new_segment (at i)) [] w.steps (w.segs i) step (f.segments i k) (subst (λ m. is_same_node (at i) m ≡ true) (sym (f.well.names i)) (test-self i)) (record { here = x; fails = fails; is = h; admitted = ok; marks = refl; clock = refl }))
             (λ j away k. seg_other script (new_segment (at j)) [] w.steps (w.segs j) step (f.segments j k) (subst (λ m. is_same_node (at i) m ≡ false) (sym (f.well.names j)) (apart-two i j away)));
@@ -183,10 +191,14 @@ module _ (script : Script) where
 
       by_test : (b : Bool) → is_same_node to the_coordinator ≡ b → (if b then coord_can script w.coord x else seg_can x) ≡ true → Well script (if b then coord_did w e (coord_rule script w.coord x fails) else seg_did w to e (seg_rule script (w.segs to.0) x fails)) → Follows script (if b then coord_did w e (coord_rule script w.coord x fails) else seg_did w to e (seg_rule script (w.segs to.0) x fails))
       by_test true is ok n = coord_kept w e x fails f n (refl, posted_is script w from to number envelope d) ok
-      by_test false is ok n = seg_kept w e x fails to.0 (one_at_least to is) f n (refl, posted_is script w from to number envelope d) ok
+      by_test false is ok n = seg_kept w e x fails to.0 (place is d.is.link) f n (refl, posted_is script w from to number envelope d) ok
         where
-          one_at_least : (m : Node) → is_same_node m the_coordinator ≡ false → 1 ≤ m.0
-          one_at_least m h = grind (arith, nat_tests)
+          not_here : (m : Node) → m ≡ the_coordinator → is_same_node m the_coordinator ≡ false → ⊥
+          not_here m same away = grind (arith, nat_tests)
+
+          place : is_same_node to the_coordinator ≡ false → IsLink script d.letter.from d.letter.to → IsSegment script to
+          place away (inl l) = subst (IsSegment script) d.target l.1
+          place away (inr l) = absurd (not_here to (sym d.target ∙ l.1) away)
 
   arrives : (w : World) (from to : Node) (number : ℕ) (fails : Bool) (o : Option Envelope) → found from to number w.sent ≡ o → Follows script w → can_here script w to (delivered from o) ≡ true → Well script (does script w (event.Receive from to number) to fails (delivered from o)) → Follows script (does script w (event.Receive from to number) to fails (delivered from o))
   arrives w from to number fails None e f ok n = f
@@ -217,9 +229,10 @@ module _ (script : Script) where
 
     pub world_follows : (es : List (Event × Bool)) → IsSystemRun script (run_of (world_of script es))
     world_follows es =
-        let f = after_follows es new_world (record { well = new_well script some; coordinator = refl; segments = λ i k. refl }) in
+        let f = after_follows es new_world (record { well = new_well script some; nodes = tt; coordinator = refl; segments = λ i k. refl }) in
         record {
           ordered = f.well.steps;
+          nodes = f.nodes;
           coordinator = coord_follows script new_coordinator [] (world_of script es).steps (world_of script es).coord f.coordinator;
           segments = λ node place. seg_follows script (new_segment node) [] (world_of script es).steps ((world_of script es).segs node.0) (f.segments node.0 place.0);
         }

@@ -67,7 +67,7 @@ pub record IsFound (P : Letter → Type 0) (from to : Node) (number : ℕ) (enve
   pub counted : letter.envelope.number ≡ number
   pub told : letter.envelope ≡ envelope
 
-both_of : (a b : Bool) → (a && b) ≡ true → (a ≡ true) × (b ≡ true)
+pub both_of : (a b : Bool) → (a && b) ≡ true → (a ≡ true) × (b ≡ true)
 both_of true b e = (refl, e)
 both_of false b e = grind arith
 

@@ -8,6 +8,7 @@ pub mod Clocks
 pub mod Letters
 pub mod Ordered
 pub mod Follows
+pub mod Machines
 pub mod Stages
 pub mod Statuses
 pub mod Sessions

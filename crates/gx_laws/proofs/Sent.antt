@@ -19,7 +19,7 @@ use Rattle.gx_laws.proofs.Lists.{Each}
 abbrev pub at : ℕ → Node
 at i = record { 0 = i }
 
-sent_count-append : (to : Node) (xs ys : List Mark) → sent_count to (xs ++ ys) ≡ sent_count to xs + sent_count to ys
+pub sent_count-append : (to : Node) (xs ys : List Mark) → sent_count to (xs ++ ys) ≡ sent_count to xs + sent_count to ys
 sent_count-append to [] ys = grind arith
 sent_count-append to (Sent t number told ∷ xs) ys = grind (arith, nat_tests, sent_count-append to xs ys)
 sent_count-append to (m ∷ xs) ys = sent_count-append to xs ys

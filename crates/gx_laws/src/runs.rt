@@ -8,7 +8,8 @@ ghost use Rattle.gx_store.specs.declared.event.Event.{Event as OneEvent};
 ghost use Rattle.gx_ids.specs.declared.ids.Node.{Node as OneNode};
 ghost use Rattle.gx_laws.specs.Journals.{journal_after};
 ghost use Rattle.gx_laws.specs.Numbers.{AreStartsNumbered};
-ghost use Rattle.gx_laws.specs.Runs.{steps_after};
+ghost use Rattle.gx_laws.specs.Runs.{IsOfMachine, steps_after};
+ghost use Rattle.gx_store.specs.declared.run.Run.{Run as OneRun};
 ghost use Rattle.gx_store.specs.Journals.{items_of};
 ghost use Rattle.gx_laws.specs.Seen.{AreEndedSeen};
 ghost use Rattle.gx_store.specs.Points.{marks_in};
@@ -21,6 +22,12 @@ pub fn runs_are_ordered()
 /// A run of the machine is a system run: each node's steps alone follow its rule.
 pub fn runs_follow_the_rules()
     ensures { (script : Script) (events : List (OneEvent × Bool)) → 1 ≤ script.segments → IsSystemRun script (run_of (world_of script events)) }
+{}
+
+/// And every system run is one of the machine: some list of events leads to it. So what holds of every run of the machine
+/// holds of every system run.
+pub fn system_runs_are_of_the_machine()
+    ensures { (script : Script) (run : OneRun) → IsSystemRun script run → IsOfMachine script run }
 {}
 
 /// Each snapshot sees whoever has committed by then, and nobody who hasn't ended.

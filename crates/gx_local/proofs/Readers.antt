@@ -23,7 +23,7 @@ use Rattle.gx_visible.specs.Counts.{counts, is_committed, is_seen, shown_of}
 use Rattle.gx_visible.specs.Counts as counted
 use Rattle.gx_visible.proofs.Dropped.{counts-truncated}
 use Rattle.gx_local.specs.declared.current.Current.{Current}
-use Rattle.gx_local.specs.Store.{Write, current_of, is_own, is_shown, kept_at, newest_of, passes, shown_row, status_of, writes_of}
+use Rattle.gx_local.specs.Store.{Write, current_of, is_own, is_seen_from, is_shown, is_shown_from, kept_at, newest_of, passes, shown_row, shown_row_from, status_of, writes_of}
 use Rattle.gx_local.specs.Filed.{IsFiled, IsSound, current_at, gxid_at, last_unaborted, store_of, write_of}
 use Rattle.gx_local.proofs.Kept.{kept_at-map}
 use Rattle.gx_local.proofs.Lxids.{at_lxid-lxid_in, lxid_of-high}
@@ -118,6 +118,27 @@ module _ (tables : List (Table × List (Rid × List Version))) (x : Xids) (paire
         ∙ ap (λ (p : Option Lxid). counted.is_own v p cid || (passes is_committed (status_of (store_of tables x) g) && sees snap g)) (lxid_of-high x o (alive o refl))
         ∙ ap (λ (b : Bool). b || (passes is_committed (status_of (store_of tables x) g) && sees snap g)) (own_same x.gxids g o v.lxid filed.1 v.cid cid (lxid_in x.gxids o) v.image v.table refl)
 
+  -- WITH WHATEVER HORIZON
+  seen_from : (snap : Snapshot) (o : Option Gxid) (g : Gxid) → o ≡ Some g → is_seen snap (option_and_then (kept x.horizon) o) ≡ is_seen_from x.horizon snap g
+  seen_from snap o g there = ap (λ (p : Option Gxid). is_seen snap (option_and_then (kept x.horizon) p)) there ∙ either (ltb g.0 x.horizon.0)
+    where
+      either : (b : Bool) → is_seen snap (cond b None (Some g)) ≡ (b || sees snap g)
+      either true = refl
+      either false = refl
+
+  by_gxid_from : (snap : Snapshot) (v : Version) (g : Gxid) (own : Option Lxid) (cid : Cid) → lxid_in x.gxids g ≡ Some v.lxid → counts v x snap own cid ≡ (counted.is_own v own cid || (passes is_committed (status_of (store_of tables x) g) && is_seen_from x.horizon snap g))
+  by_gxid_from snap v g own cid found =
+      ap (λ (b : Bool). counted.is_own v own cid || (is_committed (xids.status_of x v.lxid) && b)) (seen_from snap (at_lxid x.gxids v.lxid) g (at_lxid-lxid_in x.gxids g v.lxid found))
+      ∙ ap (λ (o : Option LocalStatus). counted.is_own v own cid || (passes is_committed o && is_seen_from x.horizon snap g)) (sym (status_of-found tables x g v.lxid paired found))
+
+  counts-is_shown_from : (snap : Snapshot) (table : Table) (v : Version) (own : Option Gxid) (cid : Cid) → ForSome own (λ g. x.horizon.0 ≤ g.0) → IsFiled x.gxids table v → counts v x snap (option_and_then (lxid_of x) own) cid ≡ is_shown_from (store_of tables x) snap own cid (write_of x.gxids v)
+  counts-is_shown_from snap table v None cid alive filed = by_gxid_from snap v (gxid_at x.gxids v.lxid) None cid filed.1
+  counts-is_shown_from snap table v (Some o) cid alive filed =
+      let g = gxid_at x.gxids v.lxid in
+      by_gxid_from snap v g (lxid_of x o) cid filed.1
+      ∙ ap (λ (p : Option Lxid). counted.is_own v p cid || (passes is_committed (status_of (store_of tables x) g) && is_seen_from x.horizon snap g)) (lxid_of-high x o (alive o refl))
+      ∙ ap (λ (b : Bool). b || (passes is_committed (status_of (store_of tables x) g) && is_seen_from x.horizon snap g)) (own_same x.gxids g o v.lxid filed.1 v.cid cid (lxid_in x.gxids o) v.image v.table refl)
+
   unaborted_same : (table : Table) (v : Version) → IsFiled x.gxids table v → is_unaborted (xids.status_of x v.lxid) ≡ passes is_unaborted (status_of (store_of tables x) (gxid_at x.gxids v.lxid))
   unaborted_same table v filed = ap (passes is_unaborted) (sym (status_of-found tables x (gxid_at x.gxids v.lxid) v.lxid paired filed.1))
 
@@ -137,6 +158,15 @@ module _ (tables : List (Table × List (Rid × List Version))) (x : Xids) (sound
       (option_and_then (λ (w : Write). w.image))
       (last_passing-map (write_of x.gxids) (IsFiled x.gxids table) (λ v. counts v x snap (option_and_then (lxid_of x) own) cid) (is_shown (store_of tables x) snap own cid) (λ v filed. counts-is_shown tables x sound.paired snap low table v own cid alive filed) (kept_at tables table rid) (sound.filed table rid)
       ∙ ap (last_passing (is_shown (store_of tables x) snap own cid)) (sym writes_is))
+
+  -- with whatever horizon
+  pub shown_row_from-shown_of : (snap : Snapshot) (own : Option Gxid) (cid : Cid) → ForSome own (λ g. x.horizon.0 ≤ g.0) → option_and_then (λ v. v.image) (shown_of (kept_at tables table rid) x snap (option_and_then (lxid_of x) own) cid) ≡ shown_row_from (store_of tables x) snap own cid table rid
+  shown_row_from-shown_of snap own cid alive =
+      image_of (write_of x.gxids) (shown_of (kept_at tables table rid) x snap (option_and_then (lxid_of x) own) cid) (λ v. refl)
+      ∙ ap
+      (option_and_then (λ (w : Write). w.image))
+      (last_passing-map (write_of x.gxids) (IsFiled x.gxids table) (λ v. counts v x snap (option_and_then (lxid_of x) own) cid) (is_shown_from (store_of tables x) snap own cid) (λ v filed. counts-is_shown_from tables x sound.paired snap table v own cid alive filed) (kept_at tables table rid) (sound.filed table rid)
+      ∙ ap (last_passing (is_shown_from (store_of tables x) snap own cid)) (sym writes_is))
 
   -- and the newest write is that of the newest version
   pub newest_of-last_unaborted : option_map (write_of x.gxids) (last_unaborted (kept_at tables table rid) x) ≡ newest_of (store_of tables x) table rid

@@ -71,6 +71,16 @@ is_shown store snap own cid w = is_own own cid w || (passes is_committed (status
 abbrev pub shown_row : Store → Snapshot → Option Gxid → Cid → Table → Rid → Option (List Value)
 shown_row store snap own cid table rid = option_and_then (λ w. w.image) (last_passing (is_shown store snap own cid) (writes_of store table rid))
 
+-- Where the snapshot may be older than the horizon, whoever is below that counts as seen.
+abbrev pub is_seen_from : Gxid → Snapshot → Gxid → Bool
+is_seen_from horizon snap g = nat_lt g.0 horizon.0 || sees snap g
+
+abbrev pub is_shown_from : Store → Snapshot → Option Gxid → Cid → Write → Bool
+is_shown_from store snap own cid w = is_own own cid w || (passes is_committed (status_of store w.gxid) && is_seen_from store.horizon snap w.gxid)
+
+abbrev pub shown_row_from : Store → Snapshot → Option Gxid → Cid → Table → Rid → Option (List Value)
+shown_row_from store snap own cid table rid = option_and_then (λ w. w.image) (last_passing (is_shown_from store snap own cid) (writes_of store table rid))
+
 -- the last write to a row that isn't aborted here
 abbrev pub newest_of : Store → Table → Rid → Option Write
 newest_of store table rid = last_passing (λ w. passes is_unaborted (status_of store w.gxid)) (writes_of store table rid)

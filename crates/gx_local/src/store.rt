@@ -5,7 +5,7 @@ ghost use Rattle.gx_ids.specs.declared.ids.Table.{Table};
 ghost use Rattle.gx_ids.specs.declared.rid.Rid.{Rid};
 ghost use Rattle.gx_gather.specs.Answer.{AreRising};
 ghost use Rattle.gx_store.specs.Rows.{row_at};
-ghost use Rattle.gx_local.specs.Store.{empty, writes_of, status_of, shown_row, newest_of, current_of, greater};
+ghost use Rattle.gx_local.specs.Store.{empty, writes_of, status_of, shown_row, shown_row_from, newest_of, current_of, greater};
 
 use crate::current::Current;
 use crate::reading::{current_in, current_row_in, own_lxid, rows_in};
@@ -131,6 +131,23 @@ impl LocalStore {
         requires alive { ForSome own (λ g. self.now.horizon.0 ≤ g.0) }
         ensures rising { IfOk result (λ rows. AreRising rows.items) }
         ensures images { IfOk result (λ rows. (rid : Rid) → row_at rows.items rid ≡ shown_row self.now snap.now own cid table rid) }
+    {
+        let own = own_lxid(&self.xids, own);
+        rows_in(self.alloc, &self.tables, &self.xids, table, snap, own, cid)
+    }
+
+    /// The same for a reader whose snapshot may be older than the horizon, as that of a command which comes late for a
+    /// transaction that has ended elsewhere.
+    pub fn shown_rows_from(
+        &self,
+        table: Table,
+        snap: &Snapshot,
+        own: Option<Gxid>,
+        cid: Cid,
+    ) -> Mem<Vec<KeyedRow>>
+        requires alive { ForSome own (λ g. self.now.horizon.0 ≤ g.0) }
+        ensures rising { IfOk result (λ rows. AreRising rows.items) }
+        ensures images { IfOk result (λ rows. (rid : Rid) → row_at rows.items rid ≡ shown_row_from self.now snap.now own cid table rid) }
     {
         let own = own_lxid(&self.xids, own);
         rows_in(self.alloc, &self.tables, &self.xids, table, snap, own, cid)

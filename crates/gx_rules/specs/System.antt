@@ -1,5 +1,6 @@
--- A system run: it is ordered, each node's steps alone follow its rule from the new node on, and each event was admitted.
-use Rattle.std.specs.Prelude.{◌≡◌, ℕ, Bool, true, false, List, [], ◌∷◌, ◌++◌}
+-- A system run: it is ordered, its steps are those of the script's nodes, each node's steps alone follow its rule from the new
+-- node on, and each event was admitted.
+use Rattle.std.specs.Prelude.{◌≡◌, ◌⊎◌, ℕ, Bool, true, false, List, [], ◌∷◌, ◌++◌}
 use Rattle.gx_ids.specs.declared.ids.Node.{Node}
 use Rattle.gx_msg.specs.declared.message.Envelope.{Envelope}
 use Rattle.gx_script.specs.declared.Script.{Script}
@@ -74,7 +75,17 @@ DoesSegFollow script seg before (s ∷ ss) =
     ((is : IsSegStep script before seg s) × DoesSegFollow script (seg_rule script seg is.here is.fails).seg (before ++ s ∷ []) ss)
     (DoesSegFollow script seg (before ++ s ∷ []) ss)
 
+-- the coordinator, or one of the script's segments
+abbrev pub IsNode : Script → Node → Type 0
+IsNode script node = (node ≡ the_coordinator) ⊎ IsSegment script node
+
+-- the steps are those of the script's nodes
+abbrev pub AreAtNodes : Script → List Step → Type 0
+AreAtNodes script [] = Unit {0}
+AreAtNodes script (s ∷ ss) = IsNode script s.stamp.node × AreAtNodes script ss
+
 pub record IsSystemRun (script : Script) (run : Run) : Type 0 where
   pub ordered : AreOrdered script [] run.steps
+  pub nodes : AreAtNodes script run.steps
   pub coordinator : DoesCoordFollow script new_coordinator [] run.steps
   pub segments : (node : Node) → IsSegment script node → DoesSegFollow script (new_segment node) [] run.steps
