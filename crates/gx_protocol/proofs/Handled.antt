@@ -37,7 +37,7 @@ use Rattle.gx_laws.proofs.Lists.{Each, each_append}
 use Rattle.gx_protocol.specs.Pairs.{IsKept, IsVote, Pair, is_open}
 use Rattle.gx_protocol.specs.Said.{Answers, IsCommand, IsDone, Said}
 use Rattle.gx_protocol.specs.Standings.{Known, Part, at, gx, part_of}
-use Rattle.gx_protocol.specs.Standings.Standing.{Over, One, Preparing, Two}
+use Rattle.gx_protocol.specs.Standings.Standing.{Unborn, Live, Over, One, Preparing, Two}
 use Rattle.gx_protocol.proofs.Counts.{local-append, prepared-append, writer-append}
 use Rattle.gx_protocol.proofs.Parts.{Next, commit-next, committing, end-next, ending, finish-next, finishing, grows-same, promise-next, promising, refuse-next, refusing, run-next, running}
 
@@ -328,14 +328,14 @@ module _ (told : Message) (k : Known) (s : Seg) (i g : ℕ) (named : s.node ≡ 
   forget Aborted f st = stay
 
   -- EXEC
-  kept-answers : (q : Part) (r : Reply) → Pair k q → q.answer ≡ Some r → Answers k q r
-  kept-answers q r f a = by_reply r (subst (IsKept q.last q.wrote) a f.kept) (λ x. (f.live x).2)
+  kept-answers : (k.at ≡ Unborn → ⊥) → (q : Part) (r : Reply) → Pair k q → q.answer ≡ Some r → Answers k q r
+  kept-answers born q r f a = by_reply r (subst (IsKept q.last q.wrote) a f.kept) (λ x. (f.live x).2)
     where
       same-le : (a b c : ℕ) → a ≡ b → b ≤ c → a ≤ c
       same-le a b c x y = omega arith
 
-      by_reply : (r : Reply) → IsKept q.last q.wrote (Some r) → (k.at ≡ Rattle.gx_protocol.specs.Standings.Standing.Live → q.last ≤ k.last) → Answers k q r
-      by_reply (reply.Done c x y z) h l = record { last = λ v. same-le c.0 q.last k.last h.0 (l v); same = λ v j. (sym h.0, h.1) }
+      by_reply : (r : Reply) → IsKept q.last q.wrote (Some r) → (k.at ≡ Live → q.last ≤ k.last) → Answers k q r
+      by_reply (reply.Done c x y z) h l = record { drawn = born; last = λ v. same-le c.0 q.last k.last h.0 (l v); same = λ v j. (sym h.0, h.1) }
       by_reply (reply.Failed c x) h l = tt
       by_reply reply.Prepared h l = absurd h
       by_reply reply.Committed h l = absurd h
@@ -354,16 +354,16 @@ module _ (told : Message) (k : Known) (s : Seg) (i g : ℕ) (named : s.node ≡ 
   kept-not-again n b reply.Aborted v = refl
   kept-not-again n b reply.Forgotten v = refl
 
-  kept-answer : (v : Option Reply) → l.answer ≡ v → Does (tells_kept s (gx g) v)
-  kept-answer None f = stay
-  kept-answer (Some r) f = tell r (kept-not-again p.last p.wrote r (subst (IsKept p.last p.wrote) f e.kept)) (kept-answers p r e f)
+  kept-answer : (k.at ≡ Unborn → ⊥) → (v : Option Reply) → l.answer ≡ v → Does (tells_kept s (gx g) v)
+  kept-answer born None f = stay
+  kept-answer born (Some r) f = tell r (kept-not-again p.last p.wrote r (subst (IsKept p.last p.wrote) f e.kept)) (kept-answers born p r e f)
 
-  repeat-if : (b : Bool) → Does (if b then tells_kept s (gx g) l.answer else stays s)
-  repeat-if true = kept-answer l.answer refl
-  repeat-if false = stay
+  repeat-if : (k.at ≡ Unborn → ⊥) → (b : Bool) → Does (if b then tells_kept s (gx g) l.answer else stays s)
+  repeat-if born true = kept-answer born l.answer refl
+  repeat-if born false = stay
 
-  repeat : (c : Cid) → Does (repeats s (gx g) c l)
-  repeat c = repeat-if (c.0 == l.last)
+  repeat : (k.at ≡ Unborn → ⊥) → (c : Cid) → Does (repeats s (gx g) c l)
+  repeat born c = repeat-if born (c.0 == l.last)
 
   module _ (c : Cid) (m : IsExecOf told g c) (st : IsCommand k p c.0) (h : Gxid) (o : is_open l.phase ≡ true) (new : l.last < c.0) where
     -- on the way through its rows
@@ -393,7 +393,7 @@ module _ (told : Message) (k : Known) (s : Seg) (i g : ℕ) (named : s.node ≡ 
           others = λ j d. ap (λ b. if b then y else x.seg.locals j) d ∙ f.others j d;
           next = subst (λ z. Next k p (after_marks z w pc lc i g x.marks)) (sym set) (subst (Next k p) (sym same) n);
           marks = f.marks;
-          outs = (subst (λ z. Tells k (after_marks z w pc lc i g x.marks) i g x.marks (message.Answer (gx g) r)) (sym set) (subst (λ q. Tells k q i g x.marks (message.Answer (gx g) r)) (sym same) (told-of k _ x.marks r (kept-not-again c.0 _ r a) (kept-answers _ r n.pair refl))), tt);
+          outs = (subst (λ z. Tells k (after_marks z w pc lc i g x.marks) i g x.marks (message.Answer (gx g) r)) (sym set) (subst (λ q. Tells k q i g x.marks (message.Answer (gx g) r)) (sym same) (told-of k _ x.marks r (kept-not-again c.0 _ r a) (kept-answers st.drawn _ r n.pair refl))), tt);
           fails = λ v. inl (subst (λ (z : Local). z.vote ≡ Some reply.Jfault) f.local (subst (λ (z : Local). z.vote ≡ Some reply.Jfault) set v));
         }
       where
@@ -451,13 +451,13 @@ module _ (told : Message) (k : Known) (s : Seg) (i g : ℕ) (named : s.node ≡ 
 
       by_test : (b : Bool) → nat_lt l.last c.0 ≡ b → Does (if b then runs_slice (raised s h) (gx g) c x y else repeats s (gx g) c l)
       by_test true q = slice-runs c m st h o (lower l.last c.0 q) x y
-      by_test false q = repeat c
+      by_test false q = repeat st.drawn c
 
   exec : (c : Cid) → IsExecOf told g c → IsCommand k p c.0 → (x : Option Snapshot) (h : Gxid) (y : Slice) (ph : Phase) → l.phase ≡ ph → Does (on_exec s (gx g) c x h y l ph)
   exec c m st x h y Reading f = take c m st x h y (ap is_open f)
   exec c m st x h y Writing f = take c m st x h y (ap is_open f)
-  exec c m st x h y Prepared f = repeat c
-  exec c m st x h y Committed f = repeat c
+  exec c m st x h y Prepared f = repeat st.drawn c
+  exec c m st x h y Committed f = repeat st.drawn c
   exec c m st x h y (Forgotten b) f = stay
   exec c m st x h y Aborted f = stay
 

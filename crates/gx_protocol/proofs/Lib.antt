@@ -1,3 +1,6 @@
 pub mod Counts
 pub mod Parts
 pub mod Handled
+pub mod Nodes
+pub mod Shifts
+pub mod Commits

@@ -29,7 +29,7 @@ grows-same p = record { last = le-refl p.last; wrote = λ e. refl; prepared = λ
     le-refl a = omega arith
 
 done-grows : (k : Known) (p q : Part) (c : ℕ) (w : Bool) → Grows p q → Pair k q → IsDone k p c w → IsDone k q c w
-done-grows k p q c w g e d = record { last = d.last; same = λ l h. both (d.same l h) (g.last) (e.live l).2 g.wrote h }
+done-grows k p q c w g e d = record { drawn = d.drawn; last = d.last; same = λ l h. both (d.same l h) (g.last) (e.live l).2 g.wrote h }
   where
     both : (p.last ≡ c) × (w ≡ p.wrote) → p.last ≤ q.last → q.last ≤ k.last → (q.last ≡ p.last → q.wrote ≡ p.wrote) → c ≡ k.last → (q.last ≡ c) × (w ≡ q.wrote)
     both a b d f h = grind (arith, nat_tests)

@@ -15,6 +15,7 @@ use Rattle.gx_protocol.specs.Standings.Standing.{Unborn, Live, Preparing, One, T
 
 -- an answer to a command that still counts
 pub record IsDone (k : Known) (p : Part) (c : ℕ) (wrote : Bool) : Type 0 where
+  pub drawn : k.at ≡ Unborn → ⊥
   pub last : k.at ≡ Live → c ≤ k.last
   pub same : k.at ≡ Live → c ≡ k.last → (p.last ≡ c) × (wrote ≡ p.wrote)
 
