@@ -111,7 +111,7 @@ base-own c s y k opened idle same =
     by_test j false q = refl
 
 -- A NEW TRANSACTION
-undrawn : (d : Table) → IsWhole d → find_txn d d.next ≡ None
+pub undrawn : (d : Table) → IsWhole d → find_txn d d.next ≡ None
 undrawn d w = none-at d.next.0 d.txns (apart d.txns w.drawn)
   where
     other : (n k : ℕ) → k < n → eqb n k ≡ false

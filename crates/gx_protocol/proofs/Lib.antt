@@ -4,3 +4,4 @@ pub mod Handled
 pub mod Nodes
 pub mod Shifts
 pub mod Commits
+pub mod Ways
