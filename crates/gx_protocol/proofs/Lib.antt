@@ -5,3 +5,4 @@ pub mod Nodes
 pub mod Shifts
 pub mod Commits
 pub mod Ways
+pub mod Calls

@@ -202,7 +202,7 @@ module _ (script : Script) (P : ℕ → ℕ → Part) where
       known_of (standing (nat_le c.table.next.0 g) now i) w i (decided_count ms (gx g) + decided_count ns (gx g)) (is_aborted ms (gx g) || is_aborted ns (gx g)) (is_committed ms (gx g) || is_committed ns (gx g))
 
   module _ (c d : Coord) (ms ns : List Mark) (g : ℕ) (now : Option Txn) (w : Work) (o : One c d ms ns g now w) where
-    known-here : (i : ℕ) → known_at d (ms ++ ns) i g ≡ becomes c ms ns g now w i
+    pub known-here : (i : ℕ) → known_at d (ms ++ ns) i g ≡ becomes c ms ns g now w i
     known-here i =
         known-eq i _ _ _ _ _ _ _ _ _ _ (ap (λ (n : Gxid). standing (nat_le n.0 g) (find_txn d.table (gx g)) i) o.next ∙ ap (λ t. standing (nat_le c.table.next.0 g) t i) (o.finds g ∙ ap (λ b. if b then now else find_txn c.table (gx g)) (self g)))
         (o.works g ∙ ap (λ b. if b then w else c.works g) (self g)) (decided-append ms ns (gx g)) (aborted-append ms ns (gx g)) (committed-append ms ns (gx g))
