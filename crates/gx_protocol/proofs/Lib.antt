@@ -6,3 +6,4 @@ pub mod Shifts
 pub mod Commits
 pub mod Ways
 pub mod Calls
+pub mod Replying
