@@ -232,9 +232,9 @@ module _ (script : Script) (P : ℕ → ℕ → Part) (c : Coord) (ms : List Mar
     ended-over [] i = over-none i
     ended-over (x ∷ xs) i = refl
 
-    ended-agrees : (xs : List Mark) (parts : List Node) → Agrees xs g (left_of (ends_committed (gx g) parts).step (Some t)) []
-    ended-agrees xs [] = tt
-    ended-agrees xs (y ∷ ys) = tt
+    ended-agrees : (xs : List Mark) (parts : List Node) → is_committed xs (gx g) ≡ true → Agrees xs g (left_of (ends_committed (gx g) parts).step (Some t)) []
+    ended-agrees xs [] e = tt
+    ended-agrees xs (y ∷ ys) e = e
 
     commit-elsewhere : (a : Mark) → Elsewhere (a ∷ []) g → Elsewhere (mark.Commit (gx g) ∷ a ∷ []) g
     commit-elsewhere a e = record { others = λ h n. let x = e.others h n in (x.0, x.1, ap (λ b. eqb g h || b) x.2 ∙ apart-back g h n) }
@@ -247,7 +247,7 @@ module _ (script : Script) (P : ℕ → ℕ → Part) (c : Coord) (ms : List Mar
         let turn : CoordTurn = is_closed c (gx g) (turns c.table (gx g) (ends_committed (gx g) parts)) in
         let o = one-change (ends_committed (gx g) parts) turn.coord turn.marks no_work refl (λ h. refl) (commit-elsewhere _ (record { others = λ h e. (refl, refl, refl) })) in
         record {
-          way = at-one script P c turn.coord ms turn.marks g (left_of (ends_committed (gx g) parts).step (Some t)) no_work o s shift (nothing-working g) (ended-agrees (ms ++ turn.marks) parts) (fol, (tt, tt));
+          way = at-one script P c turn.coord ms turn.marks g (left_of (ends_committed (gx g) parts).step (Some t)) no_work o s shift (nothing-working g) (ended-agrees (ms ++ turn.marks) parts (committed-append ms turn.marks (gx g) ∙ or-right (is_committed ms (gx g)) (is_committed turn.marks (gx g)) (or-left (eqb g g) false (self g)))) (fol, (tt, tt));
           outs = outs parts;
         }
       where

@@ -7,3 +7,4 @@ pub mod Commits
 pub mod Ways
 pub mod Calls
 pub mod Replying
+pub mod Dispatching

@@ -366,7 +366,7 @@ module _ (script : Script) (P : ℕ → ℕ → Part) (c : Coord) (ms : List Mar
 
     forgets-led : (aw : List Node) → t.phase ≡ status.Ended aw → (rest : List Node) → Gives (forgets rest)
     forgets-led aw e [] = calm-led script P c ms s whole g t f (forgets []) (over-same (λ i. stands-in (status.Ended aw) e i) None (λ i. Rattle.gx_protocol.proofs.Calls.over-none script P c ms s whole g t f i)) tt tt
-    forgets-led aw e (y ∷ ys) = calm-led script P c ms s whole g t f (forgets (y ∷ ys)) (over-same (λ i. stands-in (status.Ended aw) e i) (left_of (forgets (y ∷ ys)).step (Some t)) (λ i. refl)) tt tt
+    forgets-led aw e (y ∷ ys) = calm-led script P c ms s whole g t f (forgets (y ∷ ys)) (over-same (λ i. stands-in (status.Ended aw) e i) (left_of (forgets (y ∷ ys)).step (Some t)) (λ i. refl)) (agrees-in (status.Ended aw) e) tt
 
     gives-up-led : (aw : List Node) → t.phase ≡ status.Aborting aw → (rest : List Node) → Gives (gives_up rest)
     gives-up-led aw e [] = let x = calm-led script P c ms s whole g t f (gives_up []) (over-same (λ i. stands-in (status.Aborting aw) e i) None (λ i. Rattle.gx_protocol.proofs.Calls.over-none script P c ms s whole g t f i)) tt tt in record { way = x.way; outs = x.outs }

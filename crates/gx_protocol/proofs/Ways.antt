@@ -94,6 +94,7 @@ IsMany (x ∷ y ∷ ys) = Unit {0}
 abbrev pub AgreesIn : List Mark → ℕ → Status → List Node → Type 0
 AgreesIn ms g (status.Preparing xs awaited) ws = (xs ≡ ws) × IsMany ws
 AgreesIn ms g (status.CommittingTwo awaited) ws = IsMany ws × Decision ms ws g
+AgreesIn ms g (status.Ended awaited) ws = is_committed ms (gx g) ≡ true
 AgreesIn ms g _ ws = Unit {0}
 
 abbrev pub Agrees : List Mark → ℕ → Option Txn → List Node → Type 0
@@ -105,7 +106,7 @@ agrees-in-append ms ns g (status.Preparing xs awaited) ws e = e
 agrees-in-append ms ns g (status.CommittingTwo awaited) ws e = (e.0, decision-append ms ns ws g e.1)
 agrees-in-append ms ns g status.Active ws e = tt
 agrees-in-append ms ns g (status.CommittingOne w) ws e = tt
-agrees-in-append ms ns g (status.Ended awaited) ws e = tt
+agrees-in-append ms ns g (status.Ended awaited) ws e = committed-append ms ns (gx g) ∙ ap (λ b. b || is_committed ns (gx g)) e
 agrees-in-append ms ns g (status.Aborting awaited) ws e = tt
 
 pub agrees-append : (ms ns : List Mark) (g : ℕ) (t : Option Txn) (ws : List Node) → Agrees ms g t ws → Agrees (ms ++ ns) g t ws
