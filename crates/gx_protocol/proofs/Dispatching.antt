@@ -116,7 +116,7 @@ module _ (script : Script) (P : ℕ → ℕ → Part) (c : Coord) (ms : List Mar
   abbrev k : ℕ → Known
   k i = known_at c ms i g
 
-  live-at-all : (i : ℕ) → (k i).at ≡ Live
+  pub live-at-all : (i : ℕ) → (k i).at ≡ Live
   live-at-all i = live-there script P c ms s whole g live.txn live.found live.active i
 
   -- ABORTS

@@ -35,7 +35,7 @@ use Rattle.gx_rules.specs.Shown.{shown}
 use Rattle.gx_rules.specs.Slices.{Moved, answers, first_fault, has_written, inserted, inserts, inserts_row, runs_slice, selects}
 use Rattle.gx_laws.proofs.Lists.{Each, each_append}
 use Rattle.gx_protocol.specs.Pairs.{IsKept, IsVote, Pair, is_open}
-use Rattle.gx_protocol.specs.Said.{Answers, IsCommand, IsDone, Said}
+use Rattle.gx_protocol.specs.Said.{Answers, IsCommand, IsDone, Said, gxid_in, is_answer}
 use Rattle.gx_protocol.specs.Standings.{Known, Part, at, gx, part_of}
 use Rattle.gx_protocol.specs.Standings.Standing.{Unborn, Live, Over, One, Preparing, Two}
 use Rattle.gx_protocol.proofs.Counts.{local-append, prepared-append, writer-append}
@@ -473,14 +473,14 @@ module _ (told : Message) (k : Known) (s : Seg) (i g : ℕ) (named : s.node ≡ 
   if-fit false turn d = stay
 
 -- every message of the transaction
-pub handled : (script : Script) (fails : Bool) (k : Known) (s : Seg) (i : ℕ) (named : s.node ≡ at i) (w : Bool) (pc lc : ℕ) (told : Message) (e : Pair k (part_of (s.locals (Rattle.gx_protocol.specs.Said.gxid_in told)) w pc lc)) → Said k (part_of (s.locals (Rattle.gx_protocol.specs.Said.gxid_in told)) w pc lc) told → Does told k s i (Rattle.gx_protocol.specs.Said.gxid_in told) named w pc lc e (on_message script s fails told)
+pub handled : (script : Script) (fails : Bool) (k : Known) (s : Seg) (i : ℕ) (named : s.node ≡ at i) (w : Bool) (pc lc : ℕ) (told : Message) (e : Pair k (part_of (s.locals (gxid_in told)) w pc lc)) → (is_answer told ≡ false → Said k (part_of (s.locals (gxid_in told)) w pc lc) told) → Does told k s i (gxid_in told) named w pc lc e (on_message script s fails told)
 handled script fails k s i named w pc lc (message.Exec g c level x h y) e st =
-    unless-low _ k s i g.0 named w pc lc e _ (if-fit _ k s i g.0 named w pc lc e (fits_exec script s g c x h y) _ (exec _ k s i g.0 named w pc lc e c (record { level = level; snapshot = x; horizon = h; slice = y; is = refl }) st x h y (s.locals g.0).phase refl))
-handled script fails k s i named w pc lc (message.Prepare g) e st = unless-low _ k s i g.0 named w pc lc e _ (prepare _ k s i g.0 named w pc lc e fails (s.locals g.0).phase refl refl st)
-handled script fails k s i named w pc lc (message.Commit g) e st = unless-low _ k s i g.0 named w pc lc e _ (commit _ k s i g.0 named w pc lc e fails (s.locals g.0).phase refl refl st)
-handled script fails k s i named w pc lc (message.CommitPrepared g) e st = unless-low _ k s i g.0 named w pc lc e _ (commit-prepared _ k s i g.0 named w pc lc e fails (s.locals g.0).phase refl refl st)
-handled script fails k s i named w pc lc (message.Abort g) e st = unless-low _ k s i g.0 named w pc lc e _ (abort _ k s i g.0 named w pc lc e (s.locals g.0).phase refl st)
-handled script fails k s i named w pc lc (message.Forget g) e st = unless-low _ k s i g.0 named w pc lc e _ (forget _ k s i g.0 named w pc lc e (s.locals g.0).phase refl st)
+    unless-low _ k s i g.0 named w pc lc e _ (if-fit _ k s i g.0 named w pc lc e (fits_exec script s g c x h y) _ (exec _ k s i g.0 named w pc lc e c (record { level = level; snapshot = x; horizon = h; slice = y; is = refl }) (st refl) x h y (s.locals g.0).phase refl))
+handled script fails k s i named w pc lc (message.Prepare g) e st = unless-low _ k s i g.0 named w pc lc e _ (prepare _ k s i g.0 named w pc lc e fails (s.locals g.0).phase refl refl (st refl))
+handled script fails k s i named w pc lc (message.Commit g) e st = unless-low _ k s i g.0 named w pc lc e _ (commit _ k s i g.0 named w pc lc e fails (s.locals g.0).phase refl refl (st refl))
+handled script fails k s i named w pc lc (message.CommitPrepared g) e st = unless-low _ k s i g.0 named w pc lc e _ (commit-prepared _ k s i g.0 named w pc lc e fails (s.locals g.0).phase refl refl (st refl))
+handled script fails k s i named w pc lc (message.Abort g) e st = unless-low _ k s i g.0 named w pc lc e _ (abort _ k s i g.0 named w pc lc e (s.locals g.0).phase refl (st refl))
+handled script fails k s i named w pc lc (message.Forget g) e st = unless-low _ k s i g.0 named w pc lc e _ (forget _ k s i g.0 named w pc lc e (s.locals g.0).phase refl (st refl))
 handled script fails k s i named w pc lc (message.Answer g r) e st = stay (message.Answer g r) k s i g.0 named w pc lc e
 handled script fails k s i named w pc lc (message.Collect round) e st = stay (message.Collect round) k s i 0 named w pc lc e
 handled script fails k s i named w pc lc (message.Graph round graph) e st = stay (message.Graph round graph) k s i 0 named w pc lc e

@@ -8,3 +8,4 @@ pub mod Ways
 pub mod Calls
 pub mod Replying
 pub mod Dispatching
+pub mod Events

@@ -181,7 +181,7 @@ module _ (script : Script) (P : ℕ → ℕ → Part) where
       here = append_assoc ms ns turn.marks ∙ ap (λ x. ms ++ x) (sym b)
 
   -- ONE TRANSACTION
-  known-eq : (i : ℕ) (a b : Standing) (v w : Work) (d e : ℕ) (x y z u : Bool) → a ≡ b → v ≡ w → d ≡ e → x ≡ y → z ≡ u → known_of a v i d x z ≡ known_of b w i e y u
+  pub known-eq : (i : ℕ) (a b : Standing) (v w : Work) (d e : ℕ) (x y z u : Bool) → a ≡ b → v ≡ w → d ≡ e → x ≡ y → z ≡ u → known_of a v i d x z ≡ known_of b w i e y u
   known-eq i a b v w d e x y z u p q r s t =
       ap (λ a. known_of a v i d x z) p ∙ ap (λ v. known_of b v i d x z) q ∙ ap (λ d. known_of b w i d x z) r ∙ ap (λ x. known_of b w i e x z) s ∙ ap (λ z. known_of b w i e y z) t
 
