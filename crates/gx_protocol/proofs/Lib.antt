@@ -9,3 +9,5 @@ pub mod Calls
 pub mod Replying
 pub mod Dispatching
 pub mod Events
+pub mod Following
+pub mod Everywhere
