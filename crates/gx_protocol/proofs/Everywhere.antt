@@ -42,7 +42,7 @@ use Rattle.gx_laws.proofs.Past.{aborted-append, committed-append}
 use Rattle.gx_laws.proofs.World.{Knows, happens_knows, marks-last, new_knows}
 use Rattle.gx_protocol.specs.Followed.{DoMarksEnd, DoStepsEnd}
 use Rattle.gx_protocol.specs.Pairs.{Pair}
-use Rattle.gx_protocol.specs.Said.{Answers, Said, SaidAt, gxid_in, is_answer, segment_of}
+use Rattle.gx_protocol.specs.Said.{Answers, Said, SaidAt, SaidIn, gxid_in, is_answer, segment_of}
 use Rattle.gx_protocol.specs.Standings.{Known, Part, at, gx, known_at, known_of, part_at, part_of, standing}
 use Rattle.gx_protocol.proofs.Counts.{NoEnd, NoPart, decided-append, local-append, no-aborted, no-committed, no-decided, no-local, no-prepared, no-writer, prepared-append, sent-no-end, sent-no-part, writer-append}
 use Rattle.gx_protocol.proofs.Events.{IsSaidIn, event-led}
@@ -53,9 +53,6 @@ use Rattle.gx_protocol.proofs.Ways.{Agrees, Fol, FolAt, IsOf, Led, SaidOut, Stan
 
 abbrev pub parts_in : World → ℕ → ℕ → Part
 parts_in w i g = part_at (w.segs i) (marks_in w.steps) i g
-
-abbrev pub SaidIn : World → Letter → Type 0
-SaidIn w letter = SaidAt w.coord w.segs (marks_in w.steps) (segment_of letter) letter.envelope.message
 
 pub record Holds (script : Script) (w : World) : Type 0 where
   pub stands : Stands script (parts_in w) w.coord (marks_in w.steps)
@@ -119,7 +116,7 @@ module _ (script : Script) (w : World) (n : Knows script w) (v : Holds script w)
   abbrev next : World
   next = coord_did w e (coord_rule script w.coord x fails)
 
-  coord-holds : coord_can script w.coord x ≡ true → IsSaidIn script (parts_in w) w.coord ms v.stands n.kept n.past (λ g. (n.well.coordinator.works g).writers) x → Holds script next
+  pub coord-holds : coord_can script w.coord x ≡ true → IsSaidIn script (parts_in w) w.coord ms v.stands n.kept n.past (λ g. (n.well.coordinator.works g).writers) x → Holds script next
   coord-holds ok d = from-led (event-led script (parts_in w) w.coord ms v.stands n.kept n.past (λ g. (n.well.coordinator.works g).writers) x fails ok d)
     where
       all : ms ++ (turn.marks ++ sent) ≡ marks_in next.steps
@@ -332,7 +329,7 @@ module _ (script : Script) (w : World) (n : Knows script w) (v : Holds script w)
       either (inr z) = has-right _ ms2 turn2.marks z
   failed-next j h y false q = has-left _ ms2 turn2.marks (v.failed j h (ap (λ (l : Local). l.vote) (sym (local-there j h q)) ∙ y))
 
-  seg-holds : Holds script next2
+  pub seg-holds : Holds script next2
   seg-holds =
       record {
         stands = record {

@@ -11,3 +11,4 @@ pub mod Dispatching
 pub mod Events
 pub mod Following
 pub mod Everywhere
+pub mod Always

@@ -3,11 +3,13 @@ use Rattle.std.specs.Prelude.{◌≡◌, ◌≤◌, ℕ, Bool, true, false, None
 use Rattle.std.specs.declared.option.Option.{Option}
 use Rattle.gx_msg.specs.declared.reply.Reply.{Reply}
 use Rattle.gx_msg.specs.declared.reply.Reply.TheVariants as reply
+use Rattle.gx_store.specs.Points.{marks_in}
 use Rattle.gx_rules.specs.AtSegment.{was_prepared}
+use Rattle.gx_rules.specs.Machine.{World}
 use Rattle.gx_rules.specs.Segments.{Phase, has_committed}
 use Rattle.gx_rules.specs.Segments.Phase.{Prepared, Reading, Writing}
 use Rattle.gx_rules.specs.Slices.{has_written}
-use Rattle.gx_protocol.specs.Standings.{Known, Part, is_closing, is_undecided, is_decided}
+use Rattle.gx_protocol.specs.Standings.{Known, Part, is_closing, is_undecided, is_decided, known_at, part_at}
 use Rattle.gx_protocol.specs.Standings.Standing.{Unborn, Live, Preparing, One, Two, Over}
 
 -- a count of what happens once or not at all
@@ -62,3 +64,7 @@ pub record Pair (k : Known) (p : Part) : Type 0 where
   pub asked : (b : Bool) → k.at ≡ Preparing b → (b ≡ true → k.writes ≡ true) × (b ≡ false → was_prepared p.vote ≡ k.writes) × (k.writes ≡ false → p.vote ≡ None) × (has_committed p.phase ≡ false)
   pub alone : (b : Bool) → k.at ≡ One b → (b ≡ k.writes) × (was_prepared p.vote ≡ false) × (b ≡ false → p.vote ≡ None)
   pub both : (b : Bool) → k.at ≡ Two b → (b ≡ true → k.writes ≡ true) × (was_prepared p.vote ≡ k.writes) × (b ≡ false → has_committed p.phase ≡ k.writes)
+
+-- of every transaction at every segment
+abbrev pub DoAgree : World → Type 0
+DoAgree w = (i g : ℕ) → Pair (known_at w.coord (marks_in w.steps) i g) (part_at (w.segs i) (marks_in w.steps) i g)

@@ -1,11 +1,12 @@
 -- What a message that was ever sent says, of its sender and of its receiver.
-use Rattle.std.specs.Prelude.{◌≡◌, ◌⊎◌, ◌≤◌, ◌<◌, ℕ, Bool, true, false, if◌then◌else◌, List, None, Some}
+use Rattle.std.specs.Prelude.{◌≡◌, ◌⊎◌, ◌≤◌, ◌<◌, ℕ, Bool, true, false, if◌then◌else◌, List, [], ◌∷◌, None, Some}
 use Rattle.gx_ids.specs.declared.ids.Gxid.{Gxid}
 use Rattle.gx_msg.specs.declared.message.Message.{Message}
 use Rattle.gx_msg.specs.declared.message.Message.TheVariants as message
 use Rattle.gx_msg.specs.declared.reply.Reply.{Reply}
 use Rattle.gx_msg.specs.declared.reply.Reply.TheVariants as reply
 use Rattle.gx_store.specs.declared.mark.Mark.{Mark}
+use Rattle.gx_store.specs.Points.{marks_in}
 use Rattle.gx_rules.specs.AtSegment.{was_prepared}
 use Rattle.gx_rules.specs.Coordinators.{Coord}
 use Rattle.gx_rules.specs.Machine.{Letter, World}
@@ -66,3 +67,11 @@ segment_of letter = if is_answer letter.envelope.message then letter.from.0 else
 -- the two sides, by segment and transaction
 abbrev pub SaidAt : Coord → (ℕ → Seg) → List Mark → ℕ → Message → Type 0
 SaidAt c segs ms i m = Said (known_at c ms i (gxid_in m)) (part_at (segs i) ms i (gxid_in m)) m
+
+abbrev pub SaidIn : World → Letter → Type 0
+SaidIn w letter = SaidAt w.coord w.segs (marks_in w.steps) (segment_of letter) letter.envelope.message
+
+-- each of these messages means what it says, as the nodes stand and by the marks so far
+abbrev pub AreMeant : World → List Letter → Type 0
+AreMeant w [] = Unit {0}
+AreMeant w (letter ∷ letters) = SaidIn w letter × AreMeant w letters
