@@ -101,7 +101,7 @@ module _ (script : Script) (c : Coord) (ms : List Mark) (Gets : ℕ → ℕ → 
   same-go ns h i e = inl (e, refl)
 
   -- all works but one are as before
-  one-go : (works : ℕ → Work) (ns : List Mark) (g : ℕ) → ((h : ℕ) → eqb h g ≡ false → works h ≡ c.works h) → ((i : ℕ) → waits_in (c.works g).command i ≡ true → ((waits_in (works g).command i ≡ true) × ((works g).last ≡ (c.works g).last)) ⊎ (is_aborted ns (gx g) ≡ true) ⊎ Gets i g (c.works g).last) → WorksGo works ns
+  pub one-go : (works : ℕ → Work) (ns : List Mark) (g : ℕ) → ((h : ℕ) → eqb h g ≡ false → works h ≡ c.works h) → ((i : ℕ) → waits_in (c.works g).command i ≡ true → ((waits_in (works g).command i ≡ true) × ((works g).last ≡ (c.works g).last)) ⊎ (is_aborted ns (gx g) ≡ true) ⊎ Gets i g (c.works g).last) → WorksGo works ns
   one-go works ns g others here h i e = by_test (eqb h g) refl
     where
       by_test : (b : Bool) → eqb h g ≡ b → ((waits_in (works h).command i ≡ true) × ((works h).last ≡ (c.works h).last)) ⊎ (is_aborted ns (gx h) ≡ true) ⊎ Gets i h (c.works h).last

@@ -97,22 +97,22 @@ module _ (script : Script) (P : ℕ → ℕ → Part) (c : Coord) (ms : List Mar
   same-others g h e = refl
 
   -- the session's last transaction
-  home-settles : (g : ℕ) (s : SessionId) (before : List Mark) → Each NoStart before → (session_of c s).transaction.0 ≡ g → SettlesIt g → (h : ℕ) → started_after s None (ms ++ before) ≡ Some (gx h) → SettlesIt h
+  pub home-settles : (g : ℕ) (s : SessionId) (before : List Mark) → Each NoStart before → (session_of c s).transaction.0 ≡ g → SettlesIt g → (h : ℕ) → started_after s None (ms ++ before) ≡ Some (gx h) → SettlesIt h
   home-settles g s before calm mine settles h e =
       subst SettlesIt (sym mine ∙ last_is s h (sym (started_after-append s None ms before ∙ calm-started s (started_after s None ms) before calm) ∙ e)) settles
 
-  rest-tidy : TidyFrom c.sessions [] (rests c)
+  pub rest-tidy : TidyFrom c.sessions [] (rests c)
   rest-tidy = rests-tidy script c ms Gets starting c 0 (same-others 0) [] c.table [] [] tt tt (λ i e. inl (e, refl))
 
   -- it isn't aborted while it runs
-  alive-at : (g : ℕ) → ((known_at c ms 0 g).at ≡ Over → ⊥) → is_aborted ms (gx g) ≡ false
+  pub alive-at : (g : ℕ) → ((known_at c ms 0 g).at ≡ Over → ⊥) → is_aborted ms (gx g) ≡ false
   alive-at g n = plain (is_aborted ms (gx g)) (λ e. n ((st.pairs 0 g).aborts e))
     where
       plain : (b : Bool) → (b ≡ true → ⊥) → b ≡ false
       plain true n = absurd (n refl)
       plain false n = refl
 
-  live-alive : (g : ℕ) → IsLive c g → is_aborted ms (gx g) ≡ false
+  pub live-alive : (g : ℕ) → IsLive c g → is_aborted ms (gx g) ≡ false
   live-alive g live = alive-at g (λ x. differ (known_at c ms 0 g).at (live-there script P c ms st k.whole g live.txn live.found live.active 0) x)
     where
       differ : (a : Standing) → a ≡ Live → a ≡ Over → ⊥
@@ -254,7 +254,7 @@ module _ (script : Script) (P : ℕ → ℕ → Part) (c : Coord) (ms : List Mar
       let x : TidyFrom c.sessions [] (follows c (gx g) (on_reply c.table (gx g) j r fails) (on_reply c.table (gx g) j r fails).out.outcome) = status-tidy g (on_reply c.table (gx g) j r fails) t (on_reply c.table (gx g) j r fails).out.outcome t t.how in
       record { lines = x.lines; transaction = x.transaction; marks = x.marks; works = x.works; may = x.may }
 
-  abbrev GetsBy : Node → Message → Type 0
+  abbrev pub GetsBy : Node → Message → Type 0
   GetsBy j (message.Answer g (reply.Done cid wrote count part)) = Gets j.0 g.0 cid.0
   GetsBy j _ = Unit {0}
 
@@ -268,7 +268,7 @@ module _ (script : Script) (P : ℕ → ℕ → Part) (c : Coord) (ms : List Mar
   answer-tidy g j fails reply.Aborted d = on-status-tidy g j reply.Aborted fails
   answer-tidy g j fails reply.Forgotten d = on-status-tidy g j reply.Forgotten fails
 
-  message-tidy : (j : Node) (fails : Bool) (m : Message) → GetsBy j m → TidyFrom c.sessions [] (on_message c j fails m)
+  pub message-tidy : (j : Node) (fails : Bool) (m : Message) → GetsBy j m → TidyFrom c.sessions [] (on_message c j fails m)
   message-tidy j fails (message.Answer g r) d = answer-tidy g.0 j fails r d
   message-tidy j fails (message.Exec g cid level x h y) d = rest-tidy
   message-tidy j fails (message.Prepare g) d = rest-tidy
@@ -279,6 +279,6 @@ module _ (script : Script) (P : ℕ → ℕ → Part) (c : Coord) (ms : List Mar
   message-tidy j fails (message.Collect round) d = rest-tidy
   message-tidy j fails (message.Graph round graph) d = rest-tidy
 
-  again-tidy : (i : Node) (o : Option Message) → TidyFrom c.sessions [] (resends c i o)
+  pub again-tidy : (i : Node) (o : Option Message) → TidyFrom c.sessions [] (resends c i o)
   again-tidy i None = rest-tidy
   again-tidy i (Some m) = rests-tidy script c ms Gets starting c 0 (same-others 0) [] c.table (record { node = i; message = m } ∷ []) [] tt tt (λ i e. inl (e, refl))

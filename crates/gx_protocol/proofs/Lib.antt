@@ -14,3 +14,4 @@ pub mod Everywhere
 pub mod Always
 pub mod Answering
 pub mod Completing
+pub mod Asked
