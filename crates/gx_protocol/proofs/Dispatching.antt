@@ -281,7 +281,7 @@ module _ (script : Script) (P : ℕ → ℕ → Part) (c : Coord) (ms : List Mar
       all-sent d level there [] f = tt
       all-sent d level there (p ∷ ps) f =
           let q = there p.node.0 in
-          ((refl, is-sent (known_at d ms p.node.0 g) (P p.node.0 g) cid.0 q.at_live (q.awaits ∙ f.0) (sym q.numbered)), all-sent d level there ps f.1)
+          ((refl, is-sent (known_at d ms p.node.0 g) (P p.node.0 g) cid.0 q.at_live (q.awaits ∙ f.0) (sym q.numbered), (q.awaits ∙ f.0, sym q.numbered)), all-sent d level there ps f.1)
 
 -- A COMMAND, FROM ITS NUMBER ON
 module _ (script : Script) (P : ℕ → ℕ → Part) (c : Coord) (ms : List Mark) (s : Stands script P c ms) (whole : IsWhole c.table) (g : ℕ) (live : IsLive c g) (idle : IsIdle c g) where

@@ -148,7 +148,7 @@ module _ (script : Script) (P : ℕ → ℕ → Part) (c : Coord) (ms : List Mar
             record {
               way = at-one script P c turn.coord ms turn.marks g (left_of ch.step (Some t)) (c.works g) o s (λ i. subst (λ q. Shift (k i) q (P i g)) (sym (known-now i)) (decide-shift (has (at i) aw) (has (at i) xs) (k i) (P i g) (pair i) (at-preparing i) (all-promised none i) (ap (has (at i)) (agrees-in (status.Preparing xs aw) e).0)))
                   (s.works g) ((agrees-in (status.Preparing xs aw) e).1, decision) (unaborted script P c ms s whole g t f (k 0) (P 0 g) (pair 0) (not-over 0 (preparing-closing 0)), tt);
-              outs = to-nodes _ (message.CommitPrepared (gx g)) xs (each_weaker (λ (y : Node). has y xs ≡ true) _ (λ y h. (refl, inl (ap (λ (q : Known). q.at) (known-here script P c turn.coord ms turn.marks g (left_of ch.step (Some t)) (c.works g) o y.0) ∙ ap Two h))) xs (each-has xs));
+              outs = to-nodes _ (message.CommitPrepared (gx g)) xs (each_weaker (λ (y : Node). has y xs ≡ true) _ (λ y h. (refl, inl (ap (λ (q : Known). q.at) (known-here script P c turn.coord ms turn.marks g (left_of ch.step (Some t)) (c.works g) o y.0) ∙ ap Two h), tt)) xs (each-has xs));
             }
           where
             same : (h : ℕ) (b : Bool) → eqb h g ≡ b → c.works h ≡ (if b then c.works g else c.works h)
