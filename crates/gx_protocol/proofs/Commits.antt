@@ -111,7 +111,7 @@ pub record Decision (ms : List Mark) (ws : List Node) (g : ℕ) : Type 0 where
   pub promised : (i : ℕ) → prepared_count (take place ms) (at i) (gx g) ≡ bit (has (at i) ws)
   pub uncommitted : (i : ℕ) → local_count (take place ms) (at i) (gx g) ≡ 0
 
-take-kept : {A : Type 0} (xs ys : List A) (k : ℕ) (x : A) → slice_get xs k ≡ Some x → take k (xs ++ ys) ≡ take k xs
+pub take-kept : {A : Type 0} (xs ys : List A) (k : ℕ) (x : A) → slice_get xs k ≡ Some x → take k (xs ++ ys) ≡ take k xs
 take-kept [] ys k x e = absurd (cc)
 take-kept (y ∷ xs) ys zero x e = refl
 take-kept (y ∷ xs) ys (suc k) x e = ap (λ zs. y ∷ zs) (take-kept xs ys k x e)

@@ -75,7 +75,7 @@ fol-sent-one : (script : Script) (ms : List Mark) (m : Mark) → FolAt script ms
 fol-sent-one script ms (mark.Sent to number told) e = e
 fol-sent-one script ms m e = tt
 
-fol-no-sent : (script : Script) (ms ns : List Mark) → Fol script ms ns → Each NoSent ns
+pub fol-no-sent : (script : Script) (ms ns : List Mark) → Fol script ms ns → Each NoSent ns
 fol-no-sent script ms [] e = tt
 fol-no-sent script ms (m ∷ ns) e = (fol-sent-one script ms m e.0, fol-no-sent script (ms ++ m ∷ []) ns e.1)
 
@@ -183,7 +183,7 @@ module _ (told : Message) (k : Known) (i g : ℕ) (j h : ℕ) (apart : (eqb j i 
   no-local-there (mark.LocalCommit n a ∷ ns) e = if-none (eqb n.0 j && eqb a.0 h) (local_count ns (at j) (gx h)) (both-apart-back a.0 n.0 g i h j e.0.0 e.0.1 apart) (no-local-there ns e.1)
   no-local-there (m ∷ ns) e = no-local-there ns e.1
 
-follows-no-end : (told : Message) (k : Known) (i g : ℕ) (ns : List Mark) → Each (Follows told k i g) ns → Each NoEnd ns
+pub follows-no-end : (told : Message) (k : Known) (i g : ℕ) (ns : List Mark) → Each (Follows told k i g) ns → Each NoEnd ns
 follows-no-end told k i g [] e = tt
 follows-no-end told k i g (mark.Commit h ∷ ns) e = absurd e.0
 follows-no-end told k i g (mark.Abort h ∷ ns) e = absurd e.0
@@ -249,7 +249,7 @@ module _ (script : Script) (w : World) (n : Knows script w) (v : Holds script w)
   abbrev known : ℕ → ℕ → Known
   known j h = known_at w.coord ms2 j h
 
-  does-it : Does msg (known i g) s i g (n.well.names i) (is_writer ms2 (gx g) (at i)) (prepared_count ms2 (at i) (gx g)) (local_count ms2 (at i) (gx g)) (v.stands.pairs i g) turn2
+  pub does-it : Does msg (known i g) s i g (n.well.names i) (is_writer ms2 (gx g) (at i)) (prepared_count ms2 (at i) (gx g)) (local_count ms2 (at i) (gx g)) (v.stands.pairs i g) turn2
   does-it = handled script fails (known i g) s i (n.well.names i) (is_writer ms2 (gx g) (at i)) (prepared_count ms2 (at i) (gx g)) (local_count ms2 (at i) (gx g)) msg (v.stands.pairs i g) said
 
   abbrev new_part : Part

@@ -15,3 +15,4 @@ pub mod Always
 pub mod Answering
 pub mod Completing
 pub mod Asked
+pub mod Complete

@@ -44,7 +44,7 @@ use Rattle.gx_protocol.proofs.Nodes.{AreApart, each-has, has-without}
 use Rattle.gx_protocol.proofs.Shifts.{Shift, decide-shift, deciding, finished-shift, promised-shift, shift-same}
 use Rattle.gx_protocol.proofs.Ways.{Agrees, AgreesIn, Fol, IsMany, Led, One as OneChange, SaidOut, Stands, Way, Working, at-one, becomes, known-here}
 
-take-length : {A : Type 0} (xs ys : List A) → take (length xs) (xs ++ ys) ≡ xs
+pub take-length : {A : Type 0} (xs ys : List A) → take (length xs) (xs ++ ys) ≡ xs
 take-length [] ys = refl
 take-length (x ∷ xs) ys = ap (λ zs. x ∷ zs) (take-length xs ys)
 
