@@ -78,7 +78,7 @@ pub record Comes (steps : List Step) (e : Event) (i g n : ℕ) : Type 0 where
   pub part : QueryPart
   pub received : Receives steps e (at i) the_coordinator (message.Answer (gx g) (reply.Done (record { 0 = n }) wrote count part))
 
-came-append : (steps ss : List Step) (i g n : ℕ) → Came steps i g n → Came (steps ++ ss) i g n
+pub came-append : (steps ss : List Step) (i g n : ℕ) → Came steps i g n → Came (steps ++ ss) i g n
 came-append steps ss i g n c =
     record {
       place = c.place;
@@ -132,11 +132,11 @@ each-get P (y ∷ ys) zero x e f = subst P (some-same y x f) e.0
     some-same a b e = (cc)
 each-get P (y ∷ ys) (suc k) x e f = each-get P ys k x e.1 f
 
-answer-push : (script : Script) (before ss : List Step) (s : Step) → DoStepsAnswer script before ss → DoMarksAnswer script (before ++ ss) s [] s.marks → DoStepsAnswer script before (ss ++ s ∷ [])
+pub answer-push : (script : Script) (before ss : List Step) (s : Step) → DoStepsAnswer script before ss → DoMarksAnswer script (before ++ ss) s [] s.marks → DoStepsAnswer script before (ss ++ s ∷ [])
 answer-push script before [] s e h = (subst (λ x. DoMarksAnswer script x s [] s.marks) (append-nil before) h, tt)
 answer-push script before (x ∷ ss) s e h = (e.0, answer-push script (before ++ x ∷ []) ss s e.1 (subst (λ y. DoMarksAnswer script y s [] s.marks) (sym (append_assoc before (x ∷ []) ss)) h))
 
-starts-last : (t : SessionId) (steps : List Step) (s : Step) → starts_in t (steps ++ s ∷ []) ≡ starts_in t steps + starts_by t s.event
+pub starts-last : (t : SessionId) (steps : List Step) (s : Step) → starts_in t (steps ++ s ∷ []) ≡ starts_in t steps + starts_by t s.event
 starts-last t [] s = omega arith
 starts-last t (x ∷ steps) s = ap (λ n. starts_by t x.event + n) (starts-last t steps s) ∙ three (starts_by t x.event) (starts_in t steps) (starts_by t s.event)
   where
@@ -159,7 +159,7 @@ back-mark : (c d : Coord) (steps ss : List Step) (node : Node) (m : Mark) → ((
 back-mark c d steps ss node (mark.Sent to number m) f b = λ e. back-one c d steps ss to m f (b e)
 back-mark c d steps ss node m f b = tt
 
-back-all : (c d : Coord) (steps ss xs : List Step) → ((i g n : ℕ) → IsBack c steps i g n → IsBack d (steps ++ ss) i g n) → Each (StepBack c steps) xs → Each (StepBack d (steps ++ ss)) xs
+pub back-all : (c d : Coord) (steps ss xs : List Step) → ((i g n : ℕ) → IsBack c steps i g n → IsBack d (steps ++ ss) i g n) → Each (StepBack c steps) xs → Each (StepBack d (steps ++ ss)) xs
 back-all c d steps ss xs f b = each_weaker (StepBack c steps) (StepBack d (steps ++ ss)) (λ s e. each_weaker (SentBack c steps s.stamp.node) (SentBack d (steps ++ ss) s.stamp.node) (λ m q. back-mark c d steps ss s.stamp.node m f q) s.marks e) xs b
 
 -- marks that send nothing
@@ -183,7 +183,7 @@ sent-back : (d : Coord) (steps : List Step) (node : Node) (f : ℕ → ℕ) (out
 sent-back d steps node f [] e = tt
 sent-back d steps node f (o ∷ outs) e = (λ q. asked-one d steps o.node o.message e.0, sent-back d steps node (counted f o) outs e.1)
 
-away-back : (d : Coord) (steps : List Step) (node : Node) → (node ≡ the_coordinator → ⊥) → (ns : List Mark) → Each (SentBack d steps node) ns
+pub away-back : (d : Coord) (steps : List Step) (node : Node) → (node ≡ the_coordinator → ⊥) → (ns : List Mark) → Each (SentBack d steps node) ns
 away-back d steps node n [] = tt
 away-back d steps node n (mark.Sent to number m ∷ ns) = (λ q. absurd (n q), away-back d steps node n ns)
 away-back d steps node n (m ∷ ns) = (tt, away-back d steps node n ns)
@@ -193,7 +193,7 @@ sent-answers : (script : Script) (steps : List Step) (step : Step) (earlier : Li
 sent-answers script steps step earlier f [] = tt
 sent-answers script steps step earlier f (o ∷ outs) = (tt, sent-answers script steps step (earlier ++ mark.Sent o.node (f o.node.0 + 1) o.message ∷ []) (counted f o) outs)
 
-none-answers : (script : Script) (steps : List Step) (step : Step) (earlier ns : List Mark) (f : ℕ → ℕ) (outs : List Out) → Each NoAnswer ns → DoMarksAnswer script steps step earlier (ns ++ numbered f outs)
+pub none-answers : (script : Script) (steps : List Step) (step : Step) (earlier ns : List Mark) (f : ℕ → ℕ) (outs : List Out) → Each NoAnswer ns → DoMarksAnswer script steps step earlier (ns ++ numbered f outs)
 none-answers script steps step earlier [] f outs e = sent-answers script steps step earlier f outs
 none-answers script steps step earlier (mark.Answer s n a ∷ ns) f outs e = absurd e.0
 none-answers script steps step earlier (m ∷ ns) f outs e = (tt, none-answers script steps step (earlier ++ m ∷ []) ns f outs e.1)

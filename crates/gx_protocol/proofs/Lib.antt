@@ -16,3 +16,4 @@ pub mod Answering
 pub mod Completing
 pub mod Asked
 pub mod Complete
+pub mod Whole
