@@ -1,26 +1,21 @@
 -- Lines that start and sessions that end, and all events: what stands when a line is answered.
-use Rattle.std.proofs.Common.{◌≡◌, ◌≤◌, ◌<◌, ◌⊎◌, inl, inr, ℕ, ◌+◌, List, [], ◌∷◌, ◌++◌, Option, Some, None, Result, Ok, Err, Bool, true, false, refl, sym, subst, ap, ◌∙◌, if◌then◌else◌, ◌||◌, ◌==◌, ◌&&◌, arith, eqb, append-nil}
+use Rattle.std.proofs.Common.{◌≡◌, inl, inr, ℕ, ◌+◌, List, [], ◌∷◌, ◌++◌, Option, Some, None, Result, Ok, Err, Bool, true, false, refl, sym, subst, ap, ◌∙◌, if◌then◌else◌, ◌&&◌, arith, eqb}
 use Rattle.std.proofs.lemmas.Bool.{eqb-true}
 use Rattle.std.proofs.lemmas.Bool.Decides.{nat_tests}
-use Rattle.std.proofs.lemmas.List.{append_assoc}
 use Rattle.std.specs.Prelude.{nat_le}
 use Rattle.gx_ids.specs.declared.ids.Cid.{Cid}
 use Rattle.gx_ids.specs.declared.ids.Gxid.{Gxid}
-use Rattle.gx_ids.specs.declared.ids.Node.{Node}
 use Rattle.gx_ids.specs.declared.ids.SessionId.{SessionId}
 use Rattle.gx_tree.specs.declared.stmt.Level.{Level}
 use Rattle.gx_tree.specs.declared.stmt.Level.TheVariants.{ReadCommitted}
 use Rattle.gx_tree.specs.declared.stmt.Stmt.{Stmt}
 use Rattle.gx_tree.specs.declared.stmt.Stmt.TheVariants as stmt
 use Rattle.gx_dsnap.specs.declared.snapshot.Snapshot.{Snapshot}
-use Rattle.gx_dtx.specs.Rules.{Turn, begun, on_abort, on_commit}
-use Rattle.gx_dtx.specs.Table.{find_txn, horizon_of}
+use Rattle.gx_dtx.specs.Rules.{Turn, on_abort, on_commit}
+use Rattle.gx_dtx.specs.Table.{horizon_of}
 use Rattle.gx_dtx.specs.declared.outcome.Outcome.{Outcome}
 use Rattle.gx_dtx.specs.declared.outcome.Outcome.TheVariants as outcome
-use Rattle.gx_dtx.specs.declared.txn.Txn.{Txn}
 use Rattle.gx_eval.specs.declared.fault.ArithFault.{ArithFault}
-use Rattle.gx_msg.specs.declared.message.Message.{Message}
-use Rattle.gx_msg.specs.declared.message.Out.{Out}
 use Rattle.gx_plan.specs.Plan.{plan_of}
 use Rattle.gx_plan.specs.declared.piece.Piece.{Piece}
 use Rattle.gx_script.specs.declared.Script.{Script}
@@ -39,26 +34,22 @@ use Rattle.gx_store.specs.declared.mark.Mark.TheVariants as mark
 use Rattle.gx_store.specs.declared.node.NodeEvent.{NodeEvent}
 use Rattle.gx_store.specs.declared.node.NodeEvent.TheVariants as event
 use Rattle.gx_store.specs.Lines.{BlockState, is_command}
-use Rattle.gx_store.specs.Marks.{is_aborted, started_after}
+use Rattle.gx_store.specs.Marks.{started_after}
 use Rattle.gx_store.specs.Writes.{dist_of}
 use Rattle.gx_rules.specs.AtCoordinator.{Reading, kept_at, nodes_in, orders_of, answer_mark, answers_at_once, awaited, begins, behind, commits, coord_can, dispatches, ends_in, fault_mark, follows, goes, goes_out, next_cid, next_line, on_event, on_line, plain_answer_of, reads_by, reads_for, refusal_of, rolls_back, starts, starts_line, table_of, takes_snapshot}
-use Rattle.gx_rules.specs.Coordinators.{Command, Coord, CoordTurn, Session, Work, new_work, rests, session_of, with_session, with_state, work_of}
-use Rattle.gx_rules.specs.Maps.{with_at}
+use Rattle.gx_rules.specs.Coordinators.{Coord, CoordTurn, Session, new_work, rests, session_of, with_state}
 use Rattle.gx_rules.specs.Snapshots.{snapshot_of}
 use Rattle.gx_laws.proofs.Lines.{Asks, asks, undrawn}
 use Rattle.gx_laws.proofs.Lists.{Each, each_append}
 use Rattle.gx_laws.proofs.Numbers.{NoStart}
 use Rattle.gx_laws.proofs.Past.{Past}
-use Rattle.gx_laws.proofs.Sessions.{Kept, is_nothing_in, is_open_in, stage_of}
+use Rattle.gx_laws.proofs.Sessions.{Kept, is_nothing_in, is_open_in}
 use Rattle.gx_laws.proofs.Statuses.{Closes, Turned, commit-turns, stage}
-use Rattle.gx_laws.proofs.Statuses.Stage.{Live as LiveStage}
 use Rattle.gx_laws.proofs.Tables.{AreIn}
 use Rattle.gx_store.proofs.Marks.{started_after-append}
-use Rattle.gx_protocol.specs.Standings.{Known, Part, Standing, at, gx, known_at, standing, waits_in}
-use Rattle.gx_protocol.specs.Standings.Standing.{Over, Unborn}
+use Rattle.gx_protocol.specs.Standings.{Part, gx, standing, waits_in}
 use Rattle.gx_protocol.proofs.Answering.{IsPlain, MayAll, MayAnswer, NoAnswer, Settles, Tidy, WorksGo, closed-tidy, none-may, one-go, refused-tidy, rests-tidy, rolled-tidy}
-use Rattle.gx_protocol.proofs.Calls.{self}
-use Rattle.gx_protocol.proofs.Completing.{GetsBy, again-tidy, alive-at, calm-started, home-settles, live-alive, message-tidy, rest-tidy}
+use Rattle.gx_protocol.proofs.Completing.{GetsBy, again-tidy, calm-started, home-settles, live-alive, message-tidy, rest-tidy}
 use Rattle.gx_protocol.proofs.Events.{idle-first, live-stage, own-idle}
 use Rattle.gx_protocol.proofs.Ways.{Stands}
 

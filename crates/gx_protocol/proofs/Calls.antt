@@ -5,41 +5,38 @@ use Rattle.std.proofs.lemmas.Bool.Decides.{nat_tests}
 use Rattle.std.specs.Prelude.{nat_le}
 use Rattle.gx_ids.specs.declared.ids.Gxid.{Gxid}
 use Rattle.gx_ids.specs.declared.ids.Node.{Node}
-use Rattle.gx_dtx.specs.Nodes.{has, to_each, without}
+use Rattle.gx_dtx.specs.Nodes.{has, to_each}
 use Rattle.gx_dtx.specs.Rules.{Turn, aborts, changed, commit_found, commits as commit_change, ends_committed, on_abort, on_commit, refuses, turns}
 use Rattle.gx_dtx.specs.Table.{Table, find_txn}
 use Rattle.gx_dtx.specs.declared.change.Change.{Change}
 use Rattle.gx_dtx.specs.declared.outcome.Outcome.TheVariants as outcome
-use Rattle.gx_dtx.specs.declared.phase.Phase.{Phase as Status}
 use Rattle.gx_dtx.specs.declared.phase.Phase.TheVariants as status
 use Rattle.gx_dtx.specs.declared.txn.Txn.{Txn}
 use Rattle.gx_msg.specs.declared.message.Message.{Message}
 use Rattle.gx_msg.specs.declared.message.Message.TheVariants as message
 use Rattle.gx_msg.specs.declared.message.Out.{Out}
 use Rattle.gx_msg.specs.declared.reply.Reply.{Reply}
-use Rattle.gx_msg.specs.declared.reply.Reply.TheVariants as reply
 use Rattle.gx_script.specs.declared.Script.{Script}
-use Rattle.gx_store.specs.declared.answer.Refused.{Refused}
 use Rattle.gx_store.specs.declared.mark.Mark.{Mark}
 use Rattle.gx_store.specs.declared.mark.Mark.TheVariants as mark
 use Rattle.gx_store.specs.Marks.{is_aborted, is_committed}
 use Rattle.gx_store.specs.Protocol.{CommitsBy, decided_count, is_writer, local_count, prepared_count, writers_of}
 use Rattle.gx_rules.specs.AtCoordinator.{answer_at_commit, answer_mark, commits, follows, is_committed as is_closed}
 use Rattle.gx_rules.specs.AtSegment.{was_prepared}
-use Rattle.gx_rules.specs.Coordinators.{Command, Coord, CoordTurn, Work, no_work, session_of, work_of}
+use Rattle.gx_rules.specs.Coordinators.{Coord, CoordTurn, Work, no_work, session_of, work_of}
 use Rattle.gx_rules.specs.Segments.{Phase, has_committed}
 use Rattle.gx_laws.proofs.Lists.{Each, each_map, each_weaker}
 use Rattle.gx_laws.proofs.Past.{aborted-append, committed-append, there-drawn}
 use Rattle.gx_laws.proofs.Stages.{IsWhole, changed-at, left_of}
-use Rattle.gx_protocol.specs.Pairs.{IsVote, Pair, bit, is_open}
-use Rattle.gx_protocol.specs.Said.{Answers, Said, gxid_in, is_answer}
+use Rattle.gx_protocol.specs.Pairs.{IsVote, Pair, bit}
+use Rattle.gx_protocol.specs.Said.{Said, gxid_in, is_answer}
 use Rattle.gx_protocol.specs.Standings.{Known, Part, Standing, at, gx, is_closing, known_at, known_of, standing, waits_in}
 use Rattle.gx_protocol.specs.Standings.Standing.{Unborn, Live, Preparing, One, Two, Over}
-use Rattle.gx_protocol.proofs.Commits.{AtMostOne, few, filter-few}
+use Rattle.gx_protocol.proofs.Commits.{few, filter-few}
 use Rattle.gx_protocol.proofs.Counts.{NoEnd, NoPart, decided-append, local-append, no-aborted, no-committed, no-decided, no-local}
 use Rattle.gx_protocol.proofs.Nodes.{each-has}
 use Rattle.gx_protocol.proofs.Shifts.{Shift, alone-shift, ask-shift, over-shift}
-use Rattle.gx_protocol.proofs.Ways.{Agrees, AsksFor, Fol, FolAt, IsMany, Led, One as OneChange, SaidOut, Stands, Way, Working, at-one, becomes, fol-append, known-here}
+use Rattle.gx_protocol.proofs.Ways.{Agrees, AsksFor, Fol, FolAt, IsMany, Led, One as OneChange, SaidOut, Stands, Working, at-one, becomes, fol-append, known-here}
 
 pub self : (a : ℕ) → eqb a a ≡ true
 self a = grind (arith, nat_tests)

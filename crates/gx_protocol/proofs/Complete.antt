@@ -1,7 +1,5 @@
 -- Over every run of the machine: a command is answered only when every segment that it was sent to is done.
-use Rattle.std.proofs.Common.{◌≡◌, ◌≤◌, ◌<◌, ◌⊎◌, inl, inr, ℕ, zero, suc, ◌+◌, List, [], ◌∷◌, ◌++◌, Option, Some, None, Bool, true, false, refl, sym, subst, ap, ◌∙◌, if◌then◌else◌, ◌||◌, ◌&&◌, arith, eqb, append-nil}
-use Rattle.std.proofs.lemmas.Bool.{eqb-true}
-use Rattle.std.proofs.lemmas.Bool.Decides.{nat_tests}
+use Rattle.std.proofs.Common.{◌≡◌, ◌⊎◌, inl, inr, ℕ, zero, suc, ◌+◌, List, [], ◌∷◌, ◌++◌, Option, Some, None, Bool, true, false, refl, sym, subst, ap, ◌∙◌, if◌then◌else◌, arith, append-nil}
 use Rattle.std.proofs.lemmas.List.{append_assoc}
 use Rattle.std.specs.Prelude.{length, slice_get, take}
 use Rattle.gx_ids.specs.declared.ids.Cid.{Cid}
@@ -11,7 +9,6 @@ use Rattle.gx_ids.specs.declared.ids.SessionId.{SessionId}
 use Rattle.gx_tree.specs.declared.part.Part.{Part as QueryPart}
 use Rattle.gx_tree.specs.declared.stmt.Level.{Level}
 use Rattle.gx_tree.specs.declared.stmt.Stmt.{Stmt}
-use Rattle.gx_msg.specs.declared.message.Envelope.{Envelope}
 use Rattle.gx_msg.specs.declared.message.Message.{Message}
 use Rattle.gx_msg.specs.declared.message.Message.TheVariants as message
 use Rattle.gx_msg.specs.declared.message.Out.{Out}
@@ -20,44 +17,36 @@ use Rattle.gx_script.specs.declared.Script.{Script}
 use Rattle.gx_store.specs.declared.answer.StmtAnswer.{StmtAnswer}
 use Rattle.gx_store.specs.declared.answer.StmtAnswer.TheVariants as told
 use Rattle.gx_store.specs.declared.event.Event.{Event}
-use Rattle.gx_store.specs.declared.event.Event.TheVariants as event
 use Rattle.gx_store.specs.declared.mark.Mark.{Mark}
 use Rattle.gx_store.specs.declared.mark.Mark.TheVariants as mark
 use Rattle.gx_store.specs.declared.node.NodeEvent.{NodeEvent}
-use Rattle.gx_store.specs.declared.node.NodeEvent.TheVariants as here
 use Rattle.gx_store.specs.declared.run.Step.{Step}
 use Rattle.gx_store.specs.Commands.{RunsCommand, state_at}
-use Rattle.gx_store.specs.Lines.{BlockState, is_command, next_stmt, stmt_of, transaction_of}
+use Rattle.gx_store.specs.Lines.{BlockState, is_command, stmt_of, transaction_of}
 use Rattle.gx_store.specs.Lines.BlockState.{Outside, InBlock, Failed}
 use Rattle.gx_store.specs.Marks.{answer_count, is_aborted, is_begun, started_after}
-use Rattle.gx_store.specs.Messages.{HasReceived, IsSending, IsSent, Receives}
-use Rattle.gx_store.specs.Ordered.{IsSegment}
-use Rattle.gx_store.specs.Points.{Point, before, marks_in, starts_at, starts_by, starts_in}
-use Rattle.gx_store.specs.Protocol.{IsComplete, IsDispatched, IsReturned}
+use Rattle.gx_store.specs.Messages.{IsSending, Receives}
+use Rattle.gx_store.specs.Points.{Point, before, marks_in, starts_by, starts_in}
+use Rattle.gx_store.specs.Protocol.{IsDispatched, IsReturned}
 use Rattle.gx_store.specs.Refusals.{the_coordinator}
 use Rattle.gx_store.proofs.Marks.{started_after-append}
 use Rattle.gx_rules.specs.AtCoordinator.{coord_can, coord_rule, on_event}
-use Rattle.gx_rules.specs.AtSegment as segment
-use Rattle.gx_rules.specs.AtSegment.{seg_rule}
 use Rattle.gx_rules.specs.Coordinators.{Coord, CoordTurn, session_of}
-use Rattle.gx_rules.specs.Machine.{World, coord_did, seg_did}
-use Rattle.gx_rules.specs.Segments.{Seg, SegTurn}
+use Rattle.gx_rules.specs.Machine.{World, coord_did}
 use Rattle.gx_rules.specs.Sending.{clock_after, counted, numbered}
 use Rattle.gx_laws.proofs.Lists.{Each, each_append, each_weaker, get_kept, get_last}
 use Rattle.gx_laws.proofs.Past.{aborted-append}
 use Rattle.gx_laws.proofs.World.{Knows, marks-last}
 use Rattle.gx_laws.proofs.Numbers.{NoStart}
 use Rattle.gx_protocol.specs.Followed.{AnswersAt, DoMarksAnswer, DoStepsAnswer}
-use Rattle.gx_protocol.specs.Said.{Said, gxid_in, is_answer}
-use Rattle.gx_protocol.specs.Standings.{Known, Part, at, gx, known_at, waits_in}
-use Rattle.gx_protocol.proofs.Answering.{IsPlain, MayAll, MayAnswer, MayAt, NoAnswer, Settles, WorksGo}
+use Rattle.gx_protocol.specs.Standings.{at, gx, waits_in}
+use Rattle.gx_protocol.proofs.Answering.{IsPlain, MayAll, MayAt, NoAnswer, Settles}
 use Rattle.gx_protocol.proofs.Asked.{IsGot, Told, counted as counted_by, event-told}
 use Rattle.gx_protocol.proofs.Calls.{or-left, or-right}
 use Rattle.gx_protocol.proofs.Commits.{take-kept}
-use Rattle.gx_protocol.proofs.Completing.{GetsBy, calm-started}
+use Rattle.gx_protocol.proofs.Completing.{calm-started}
 use Rattle.gx_protocol.proofs.Events.{IsSaidIn, event-led}
 use Rattle.gx_protocol.proofs.Everywhere.{Holds, NoSent, does-it, parts_in}
-use Rattle.gx_protocol.proofs.Handled.{Follows, Tells}
 use Rattle.gx_protocol.proofs.Replying.{take-length}
 use Rattle.gx_protocol.proofs.Ways.{AsksFor, Led, SaidOut}
 

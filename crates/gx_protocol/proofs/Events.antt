@@ -1,10 +1,7 @@
 -- Every event of the coordinator.
-use Rattle.std.proofs.Common.{◌≡◌, ◌≤◌, ◌<◌, ◌⊎◌, inl, inr, ℕ, ◌+◌, List, [], ◌∷◌, ◌++◌, Option, Some, None, Bool, true, false, refl, sym, subst, ap, ◌∙◌, if◌then◌else◌, ◌||◌, ◌==◌, ◌&&◌, arith, eqb, append-nil}
+use Rattle.std.proofs.Common.{◌≡◌, inl, ℕ, ◌+◌, List, [], ◌∷◌, ◌++◌, Option, Some, None, Bool, true, false, refl, sym, subst, ap, ◌∙◌, if◌then◌else◌, ◌==◌, ◌&&◌, arith, eqb, append-nil}
 use Rattle.std.proofs.lemmas.Bool.{eqb-true}
-use Rattle.std.proofs.lemmas.Bool.Decides.{nat_tests}
-use Rattle.std.specs.Prelude.{nat_le, option_map}
 use Rattle.gx_ids.specs.declared.ids.Cid.{Cid}
-use Rattle.gx_ids.specs.declared.ids.Gxid.{Gxid}
 use Rattle.gx_ids.specs.declared.ids.Node.{Node}
 use Rattle.gx_ids.specs.declared.ids.SessionId.{SessionId}
 use Rattle.gx_tree.specs.declared.part.Part.{Part as QueryPart}
@@ -12,9 +9,8 @@ use Rattle.gx_tree.specs.declared.stmt.Level.{Level}
 use Rattle.gx_tree.specs.declared.stmt.Level.TheVariants.{ReadCommitted}
 use Rattle.gx_tree.specs.declared.stmt.Stmt.{Stmt}
 use Rattle.gx_dtx.specs.Nodes.{has}
-use Rattle.gx_dtx.specs.Orders.{message_of}
-use Rattle.gx_dtx.specs.Rules.{awaited_order, begun, on_abort, order_found, order_in}
-use Rattle.gx_dtx.specs.Table.{Table, find_txn, new_txn}
+use Rattle.gx_dtx.specs.Rules.{on_abort, order_found, order_in}
+use Rattle.gx_dtx.specs.Table.{find_txn, new_txn}
 use Rattle.gx_dtx.specs.declared.order.Order.{Order}
 use Rattle.gx_dtx.specs.declared.phase.Phase.{Phase as Status}
 use Rattle.gx_dtx.specs.declared.phase.Phase.TheVariants as status
@@ -38,28 +34,27 @@ use Rattle.gx_store.specs.declared.mark.Mark.{Mark}
 use Rattle.gx_store.specs.declared.mark.Mark.TheVariants as mark
 use Rattle.gx_store.specs.declared.node.NodeEvent.{NodeEvent}
 use Rattle.gx_store.specs.declared.node.NodeEvent.TheVariants as event
-use Rattle.gx_store.specs.Marks.{is_aborted, is_committed}
-use Rattle.gx_store.specs.Protocol.{decided_count}
+use Rattle.gx_store.specs.Marks.{is_committed}
 use Rattle.gx_rules.specs.AtCoordinator.{answer_mark, answers_at_once, awaited, begins, behind, command_order, commits, coord_can, dispatches, ends_in, is_awaited, is_idle, is_nothing, is_refused, next_line, on_answer, on_done, on_event, on_failed, on_line, on_message, order_to, reason_of, resends, rolls_back, starts, starts_line, status_order, takes_done}
-use Rattle.gx_rules.specs.Coordinators.{Command, Coord, CoordTurn, Session, Work, new_work, rests, session_of, with_session, with_state, work_of}
+use Rattle.gx_rules.specs.Coordinators.{Command, Coord, CoordTurn, Session, new_work, rests, session_of, with_session, with_state}
 use Rattle.gx_rules.specs.Fits.{fits_part}
 use Rattle.gx_laws.proofs.Ends.{begun-finds}
 use Rattle.gx_laws.proofs.Lines.{Asks, asks, begun-whole}
-use Rattle.gx_laws.proofs.Lists.{Each, each_weaker}
+use Rattle.gx_laws.proofs.Lists.{Each}
 use Rattle.gx_laws.proofs.Past.{Past}
 use Rattle.gx_laws.proofs.Sessions.{Kept, is_nothing_in, is_open_in, is_working_in, stage_of}
 use Rattle.gx_laws.proofs.Stages.{IsWhole}
 use Rattle.gx_laws.proofs.Statuses.{stage, stage_in}
-use Rattle.gx_laws.proofs.Statuses.Stage.{Live as LiveStage, Dropped}
+use Rattle.gx_laws.proofs.Statuses.Stage.{Live as LiveStage}
 use Rattle.gx_laws.proofs.Tables.{AreIn}
-use Rattle.gx_protocol.specs.Said.{Answers, IsCommand, IsDone, Said, gxid_in, is_answer}
-use Rattle.gx_protocol.specs.Standings.{Known, Part, Standing, at, gx, known_at, known_of, standing, standing_in, waits_in}
+use Rattle.gx_protocol.specs.Said.{Answers, IsDone, Said, gxid_in, is_answer}
+use Rattle.gx_protocol.specs.Standings.{Part, at, gx, known_at, standing_in, waits_in}
 use Rattle.gx_protocol.specs.Standings.Standing.{Live, One, Preparing, Two}
 use Rattle.gx_protocol.proofs.Calls.{Mute, becomes-calm, commits-ready, mute-aborted, mute-committed, mute-decided, mute-fol, self, stands-as}
 use Rattle.gx_protocol.proofs.Dispatching.{IsIdle, IsLive, dispatch-led, done-led, live-at-all, refusing-led, rolling-led}
 use Rattle.gx_protocol.proofs.Replying.{status-led}
 use Rattle.gx_protocol.proofs.Shifts.{Shift, is-sent, shift-same}
-use Rattle.gx_protocol.proofs.Ways.{Agrees, AgreesIn, AsksFor, CommandOf, IsOrderOf, Led, Same, SaidOut, Stands, Way, agrees-append, at-new, at-one, becomes, rest-led, way-then}
+use Rattle.gx_protocol.proofs.Ways.{Agrees, AgreesIn, AsksFor, CommandOf, IsOrderOf, Led, Stands, Way, agrees-append, at-new, at-one, rest-led, way-then}
 
 -- the same table and work, another session
 pub moved-stands : (script : Script) (P : ℕ → ℕ → Part) (c : Coord) (ms : List Mark) (s : SessionId) (x : Session) → Stands script P c ms → Stands script P (with_session c s x) ms

@@ -1,7 +1,6 @@
 -- Every run of the machine follows the commit protocol.
-use Rattle.std.proofs.Common.{◌≡◌, ◌≤◌, ◌<◌, ◌⊎◌, inl, inr, ℕ, ◌+◌, List, [], ◌∷◌, ◌++◌, Option, Some, None, Bool, true, false, refl, sym, subst, ap, ◌∙◌, if◌then◌else◌, ◌||◌, arith, eqb}
+use Rattle.std.proofs.Common.{◌≡◌, ◌≤◌, inl, inr, ℕ, ◌+◌, List, [], ◌∷◌, ◌++◌, Option, Some, None, Bool, true, false, refl, sym, subst, ap, ◌∙◌, if◌then◌else◌, arith, eqb}
 use Rattle.std.proofs.lemmas.Bool.Decides.{nat_tests}
-use Rattle.std.proofs.lemmas.List.{append_assoc}
 use Rattle.gx_ids.specs.declared.ids.Node.{Node}
 use Rattle.gx_ids.specs.declared.ids.SessionId.{SessionId}
 use Rattle.gx_msg.specs.declared.message.Envelope.{Envelope}
@@ -28,23 +27,22 @@ use Rattle.gx_store.proofs.Marks.{started_after-append}
 use Rattle.gx_rules.specs.AtCoordinator.{coord_can, coord_rule}
 use Rattle.gx_rules.specs.AtSegment as segment
 use Rattle.gx_rules.specs.AtSegment.{seg_rule}
-use Rattle.gx_rules.specs.Coordinators.{session_of}
-use Rattle.gx_rules.specs.Machine.{Letter, World, after, at_node, can, can_here, coord_did, delivered, does, found, happens, new_world, node_of, seg_can, seg_did, world_of}
-use Rattle.gx_rules.specs.Segments.{Seg, SegTurn}
+use Rattle.gx_rules.specs.Machine.{World, after, at_node, can, can_here, coord_did, delivered, does, found, happens, new_world, node_of, seg_can, seg_did, world_of}
+use Rattle.gx_rules.specs.Segments.{SegTurn}
 use Rattle.gx_rules.specs.Sending.{clock_after, counted, numbered}
 use Rattle.gx_laws.proofs.Letters.{IsFound, IsLetter, found_is}
 use Rattle.gx_laws.proofs.Lists.{Each, each_append}
 use Rattle.gx_laws.proofs.Numbers.{NoStart}
-use Rattle.gx_laws.proofs.Ordered.{Well, never_resumes}
+use Rattle.gx_laws.proofs.Ordered.{never_resumes}
 use Rattle.gx_laws.proofs.Past.{aborted-append}
 use Rattle.gx_laws.proofs.World.{Knows, happens_knows, marks-last, new_knows}
 use Rattle.gx_protocol.specs.Followed.{AnswersAt, DoMarksAnswer, DoMarksEnd, DoStepsAnswer, DoStepsEnd, EndsAt}
-use Rattle.gx_protocol.specs.Said.{Said, SaidAt, SaidIn, gxid_in, is_answer, segment_of}
+use Rattle.gx_protocol.specs.Said.{Said, SaidAt, SaidIn, gxid_in, is_answer}
 use Rattle.gx_protocol.specs.Standings.{Known, at, gx, known_at}
 use Rattle.gx_protocol.proofs.Always.{IsPosted, answer-of, each-zip, happens-holds, new-holds}
 use Rattle.gx_protocol.proofs.Answering.{NoAnswer}
 use Rattle.gx_protocol.proofs.Calls.{or-left}
-use Rattle.gx_protocol.proofs.Complete.{Came, Comes, IsBack, Replied, SentBack, StepBack, answer-push, away-back, back-all, came-append, coord-replied, none-answers, starts-last}
+use Rattle.gx_protocol.proofs.Complete.{Comes, IsBack, Replied, StepBack, answer-push, away-back, back-all, came-append, coord-replied, none-answers, starts-last}
 use Rattle.gx_protocol.proofs.Completing.{GetsBy, calm-started}
 use Rattle.gx_protocol.proofs.Everywhere.{Holds, does-it, parts_in}
 use Rattle.gx_protocol.proofs.Handled.{Follows}
