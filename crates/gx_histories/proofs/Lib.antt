@@ -1,0 +1,7 @@
+pub mod Said
+pub mod AtLine
+pub mod Answers
+pub mod Given
+pub mod Ends
+pub mod Frame
+pub mod After
