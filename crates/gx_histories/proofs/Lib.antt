@@ -5,3 +5,4 @@ pub mod Given
 pub mod Ends
 pub mod Frame
 pub mod After
+pub mod Under
