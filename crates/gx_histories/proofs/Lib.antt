@@ -6,3 +6,5 @@ pub mod Ends
 pub mod Frame
 pub mod After
 pub mod Under
+pub mod Faults
+pub mod Dispatch
