@@ -248,3 +248,180 @@ module _ (script : Script) (steps : List Step) (c c1 : Coord) (s : SessionId) (g
       by_block block.Outside h = differ h
       by_block (block.Open l) h = differ h
       by_block block.Failed h = differ h
+
+  -- THE COMMAND GOES OUT
+  at-reading : (r : Reading) → Reads r → AtLine script steps (event.Start s) s line n b (is_alone B pending.Command) (Some g) (earlier ++ r.marks)
+  at-reading r R = at-calm script steps (event.Start s) s line n b (is_alone B pending.Command) (Some g) earlier r.marks o.at R.calm
+
+  running-there : (r : Reading) → Reads r → is_ended (marks_in steps ++ (earlier ++ r.marks)) g ≡ false
+  running-there r R = subst (λ m. is_ended m g ≡ false) (append_assoc (marks_in steps) earlier r.marks) (ended-more ms r.marks g o.running R.running)
+
+  abbrev sent-work : Reading → List Piece → Work → Work
+  sent-work r pieces v =
+      record v { last = w.last + 1; command = Some (record { stmt = line; cid = next_cid w; orders = Rattle.gx_rules.specs.AtCoordinator.orders_of g (next_cid w) v.level r.snapshot (Rattle.gx_dtx.specs.Table.horizon_of r.coord.table) pieces; awaited = Rattle.gx_rules.specs.AtCoordinator.nodes_in pieces; count = 0; parts = [] }) }
+
+  sent-owns : (r : Reading) (pieces : List Piece) (R : Reads r) → Owns s commands (marks_in steps ++ (earlier ++ r.marks)) (goes_out g (next_cid w) line pieces r).coord.table.next.0 B g (sent-work r pieces R.w2)
+  sent-owns r pieces R =
+      record {
+        home = R.home ∙ o.home;
+        started = (at-reading r R).said.started;
+        level = R.level ∙ owns.level;
+        drawn = subst (λ i. g.0 < i) (sym (ap (λ (i : Gxid). i.0) (enlisted-next (Rattle.gx_rules.specs.AtCoordinator.nodes_in pieces) r.coord.table g ∙ R.next))) o.drawn;
+        running = running-there r R;
+        counted = λ h. one-more commands w.last (sym (ap (λ q. commands + under_way q) none) ∙ owns.counted h);
+        unsnapped = λ d l. subst (λ m. is_snapped m g d ≡ false) (append_assoc (marks_in steps) earlier r.marks) (snapped-more ms r.marks g d (owns.unsnapped d (below w.last d.0 l)) (R.unread d l));
+        snapshot = R.snapshot;
+      }
+    where
+      one-more : (a d : ℕ) → a + 0 ≡ d → a + 1 ≡ d + 1
+      one-more a d e = omega arith
+
+      below : (a d : ℕ) → a + 1 < d → a < d
+      below a d l = omega arith
+
+  out-does : (pieces : List Piece) (r : Reading) → Reads r → Does script steps c (event.Start s) (behind earlier (goes_out g (next_cid w) line pieces r))
+  out-does pieces r R =
+      record {
+        s = s.0;
+        g = g.0;
+        x = x;
+        sessions = λ j. R.sessions j ∙ o.sessions j;
+        works = λ j h. ap (λ q. if q then sent-work r pieces (work_of r.coord g) else r.coord.works j) h ∙ R.works j h ∙ o.works j h;
+        next = subst (λ (i : Gxid). c.table.next.0 ≤ i.0) (sym next-is) o.next;
+        whose = o.whose;
+        of = each_append (IsOf s.0 g.0) earlier r.marks o.of R.of;
+        fresh = of-fresh s.0 g.0 _ (earlier ++ r.marks) (subst (λ (i : Gxid). g.0 < i.0) (sym next-is) o.drawn) (each_append (IsOf s.0 g.0) earlier r.marks o.of R.of);
+        alone = o.alone;
+        starts = o.at.starts ∙ sym o.lines;
+        stands = inl (o.ends, at_x (subst (λ v. Stands script s (marks_in steps ++ (earlier ++ r.marks)) late.coord.table.next.0 B pending.Command x.lines g v) (sym work-now) there));
+        legal = λ later. marks-append (Given script) steps (event.Start s) [] earlier r.marks later (o.legal (r.marks ++ later)) (R.legal later);
+      }
+    where
+      late : Rattle.gx_rules.specs.Coordinators.CoordTurn
+      late = goes_out g (next_cid w) line pieces r
+
+      next-is : late.coord.table.next ≡ c1.table.next
+      next-is = enlisted-next (Rattle.gx_rules.specs.AtCoordinator.nodes_in pieces) r.coord.table g ∙ R.next
+
+      work-now : late.coord.works g.0 ≡ sent-work r pieces R.w2
+      work-now = ap (λ q. if q then sent-work r pieces (work_of r.coord g) else r.coord.works g.0) (self-test g.0) ∙ ap (sent-work r pieces) R.work
+
+      sounds : (q : Block) → is_busy q pending.Command ≡ true → is_sound q pending.Command ≡ true
+      sounds block.Outside h = refl
+      sounds (block.Open l) h = refl
+      sounds block.Failed h = absurd (differ h)
+
+      there : Stands script s (marks_in steps ++ (earlier ++ r.marks)) late.coord.table.next.0 B pending.Command x.lines g (sent-work r pieces R.w2)
+      there =
+          record {
+            commands = commands;
+            answered = ap (λ i. i + 1) (at-reading r R).said.answered ∙ sym o.lines;
+            state = (at-reading r R).said.state;
+            begun = (at-reading r R).said.begun;
+            sound = sounds B busy;
+            owns = λ h. (sent-owns r pieces R, (_, refl, ap (λ i. stmt_of s i script.lines) o.lines ∙ o.at.is_line, cmd, sym cid));
+          }
+
+      at_x : Stands script s (marks_in steps ++ (earlier ++ r.marks)) late.coord.table.next.0 B pending.Command x.lines g (late.coord.works g.0) → Stands script s (marks_in steps ++ (earlier ++ r.marks)) late.coord.table.next.0 x.state.block x.state.pending x.lines x.transaction (late.coord.works x.transaction.0)
+      at_x h =
+          subst (λ q. Stands script s (marks_in steps ++ (earlier ++ r.marks)) late.coord.table.next.0 q x.state.pending x.lines x.transaction (late.coord.works x.transaction.0)) (sym xb)
+          (subst (λ q. Stands script s (marks_in steps ++ (earlier ++ r.marks)) late.coord.table.next.0 B q x.lines x.transaction (late.coord.works x.transaction.0)) (sym xp)
+          (subst (λ (q : Gxid). Stands script s (marks_in steps ++ (earlier ++ r.marks)) late.coord.table.next.0 B pending.Command x.lines q (late.coord.works q.0)) (sym o.its) h))
+
+  -- ITS CONSTANTS FAULT
+  module _ (r : Reading) (R : Reads r) (table : Rattle.gx_ids.specs.declared.ids.Table.Table) (tuples : List (List Expr)) (is_insert : line ≡ stmt.Insert table tuples) (fault : ArithFault) (faulty : rows_of g (next_cid w) tuples ≡ Err fault) where
+    abbrev rid : Rattle.gx_ids.specs.declared.rid.Rid.Rid
+    rid = record { gxid = g; cid = next_cid w; ordinal = faulting_from 1 tuples }
+
+    abbrev noted : Mark
+    noted = mark.Fault g (next_cid w) rid None
+
+    abbrev why : List Mark
+    why = r.marks ++ noted ∷ []
+
+    abbrev seam : List Mark
+    seam = marks_in steps ++ (earlier ++ r.marks)
+
+    is-fault : (marks : List Mark) → Rattle.gx_store.specs.Faults.IsFaultOf marks (level_of b) g (next_cid w) line rid None fault
+    is-fault marks = subst (λ l. Rattle.gx_store.specs.Faults.IsFaultOf marks (level_of b) g (next_cid w) l rid None fault) (sym is_insert) (constants-fault g (next_cid w) tuples fault faulty)
+
+    joined : marks_in steps ++ ((earlier ++ why) ++ mark.Abort g ∷ []) ≡ seam ++ noted ∷ mark.Abort g ∷ []
+    joined =
+        ap (λ m. marks_in steps ++ (m ++ mark.Abort g ∷ [])) (sym (append_assoc earlier r.marks (noted ∷ []))) ∙ ap (λ m. marks_in steps ++ m) (append_assoc (earlier ++ r.marks) (noted ∷ []) (mark.Abort g ∷ []))
+        ∙ sym (append_assoc (marks_in steps) (earlier ++ r.marks) (noted ∷ mark.Abort g ∷ []))
+
+    not-aborted : (m : List Mark) → is_ended m g ≡ false → is_aborted m g ≡ false
+    not-aborted m e = right (Rattle.gx_store.specs.Marks.is_committed m g) (is_aborted m g) e
+      where
+        right : (p q : Bool) → (p || q) ≡ false → q ≡ false
+        right p q e = grind arith
+
+    has-faulted : (later : List Mark) → Rattle.gx_store.specs.Refusals.HasFaulted (record { steps = steps; event = event.Start s; earlier = (earlier ++ why) ++ mark.Abort g ∷ []; later = later }) line (level_of b) g (next_cid w) fault
+    has-faulted later =
+        record {
+          place = length seam;
+          rid = rid;
+          image = None;
+          noted = subst (λ m. slice_get m (length seam) ≡ Some noted) (sym joined) (get_last seam (mark.Abort g ∷ []) noted);
+          unaborted = subst (λ m. is_aborted (take (length seam) m) g ≡ false) (sym joined) (subst (λ m. is_aborted m g ≡ false) (sym (take-append_seam seam (noted ∷ mark.Abort g ∷ []))) (not-aborted seam (running-there r R)));
+          faults = is-fault _;
+          within = subst (λ l. Rattle.gx_store.specs.Refusals.IsWithin l steps (length seam)) (sym is_insert) (at-least (length (marks_in steps)) (length (earlier ++ r.marks)) (length seam) (length-append (marks_in steps) (earlier ++ r.marks)));
+        }
+      where
+        at-least : (a d e : ℕ) → e ≡ a + d → a ≤ e
+        at-least a d e h = omega arith
+
+    cause : (later : List Mark) → IsCause (record { steps = steps; event = event.Start s; earlier = (earlier ++ why) ++ mark.Abort g ∷ []; later = later }) line (level_of b) g (cid_of b) (refusal_of fault)
+    cause later = subst (λ q. IsCause (record { steps = steps; event = event.Start s; earlier = (earlier ++ why) ++ mark.Abort g ∷ []; later = later }) line (level_of b) g q (refusal_of fault)) (sym cid) (by_fault fault (has-faulted later))
+      where
+        by_fault : (f : ArithFault) → Rattle.gx_store.specs.Refusals.HasFaulted (record { steps = steps; event = event.Start s; earlier = (earlier ++ why) ++ mark.Abort g ∷ []; later = later }) line (level_of b) g (next_cid w) f → IsCause (record { steps = steps; event = event.Start s; earlier = (earlier ++ why) ++ mark.Abort g ∷ []; later = later }) line (level_of b) g (next_cid w) (refusal_of f)
+        by_fault arithmetic.Overflow h = h
+        by_fault arithmetic.DivisionByZero h = h
+
+    live-fault : (later : List Mark) → Rattle.gx_store.specs.Faults.LegalFault script (record { steps = steps; event = event.Start s; earlier = earlier ++ r.marks; later = later }) g (next_cid w) rid None
+    live-fault later =
+        inl (record {
+          session = s; stmt = line; level = level_of b; fault = fault;
+          runs = subst (λ q. Rattle.gx_store.specs.Commands.IsUnderWay script (record { steps = steps; event = event.Start s; earlier = earlier ++ r.marks; later = later }) s line (level_of b) g q) cid
+              (at_line.under-way script steps (event.Start s) s line n b (is_alone B pending.Command) (Some g) (earlier ++ r.marks) (at-reading r R) later g o.has refl cmd (running-there r R));
+          faults = is-fault _;
+        })
+
+    under2 : Under script steps c (event.Start s) r.coord s g R.w2 x n b (is_alone B pending.Command) line earlier
+    under2 =
+        record {
+          work = R.work; works = λ j h. R.works j h ∙ o.works j h; sessions = λ j. R.sessions j ∙ o.sessions j; home = R.home ∙ o.home; its = o.its; lines = o.lines;
+          next = subst (λ (i : Gxid). c.table.next.0 ≤ i.0) (sym R.next) o.next; drawn = subst (λ (i : Gxid). g.0 < i.0) (sym R.next) o.drawn; whose = o.whose; ends = o.ends; alone = o.alone;
+          at = o.at; has = o.has; running = o.running; of = o.of; legal = o.legal;
+        }
+
+    faults-does : Does script steps c (event.Start s) (behind earlier (Rattle.gx_rules.specs.AtCoordinator.is_refused r.coord g (on_abort r.coord.table g) why (refusal_of fault)))
+    faults-does =
+        refuse-does script steps c (event.Start s) r.coord s g R.w2 x n b (is_alone B pending.Command) line earlier under2 (on_abort r.coord.table g) why (refusal_of fault) (block_after_refusal B pending.Command) refl (command-refusable b line cmd)
+        (ap (λ q. block_after_refusal q x.state.pending) xb ∙ ap (block_after_refusal B) xp) (not-busy B) (after B busy cmd)
+        (each_append (IsOf s.0 g.0) r.marks (noted ∷ []) R.of (tt, tt)) (each_append (CalmFor s) r.marks (noted ∷ []) R.calm (tt, tt))
+        (subst (λ m. is_ended m g ≡ false) (append_assoc (marks_in steps) (earlier ++ r.marks) (noted ∷ []) ∙ ap (λ m. marks_in steps ++ m) (append_assoc earlier r.marks (noted ∷ []))) (ended-more seam (noted ∷ []) g (running-there r R) refl))
+        (λ later. marks-append (Given script) steps (event.Start s) earlier r.marks (noted ∷ []) later (R.legal _) (λ q. live-fault later, tt))
+        (λ later q. cause later)
+      where
+        not-busy : (q : Block) → is_busy (block_after_refusal q pending.Command) pending.Nothing ≡ false
+        not-busy block.Outside = refl
+        not-busy (block.Open l) = refl
+        not-busy block.Failed = refl
+
+        after : (q : Block) → is_busy q pending.Command ≡ true → is_command (state_in q commands) line ≡ true → state_after (state_in q commands) line (told.Refused (refusal_of fault)) ≡ state_in (block_after_refusal q pending.Command) 0
+        after block.Outside h e = done-outside line (told.Refused (refusal_of fault)) e
+        after (block.Open l) h e = refused-inside l commands line (refusal_of fault) e
+        after block.Failed h e = absurd (differ h)
+
+  goes-does : (r : Reading) → Reads r → (plan : Result (List Piece) ArithFault) → plan_of script.segments (dist_of script.tables (table_of line)) g (next_cid w) line ≡ plan → Does script steps c (event.Start s) (behind earlier (goes g (next_cid w) line r plan))
+  goes-does r R (Ok pieces) e = out-does pieces r R
+  goes-does r R (Err fault) e = by_insert (plan-faults script.segments (dist_of script.tables (table_of line)) g (next_cid w) line fault e)
+    where
+      by_insert : ((table : Rattle.gx_ids.specs.declared.ids.Table.Table) × ((tuples : List (List Expr)) × (line ≡ stmt.Insert table tuples) × (rows_of g (next_cid w) tuples ≡ Err fault))) → Does script steps c (event.Start s) (behind earlier (goes g (next_cid w) line r (Err fault)))
+      by_insert h =
+          subst (λ f. Does script steps c (event.Start s) (behind earlier (Rattle.gx_rules.specs.AtCoordinator.is_refused r.coord g (on_abort r.coord.table g) (r.marks ++ f) (refusal_of fault)))) (sym (ap (fault_mark g (next_cid w)) h.1.1))
+          (faults-does r R h.0 h.1.0 h.1.1 fault h.1.2)
+
+  pub dispatch-does : Does script steps c (event.Start s) (behind earlier (dispatches script c1 g line))
+  dispatch-does = goes-does _ (reads-for line refl cmd) (plan_of script.segments (dist_of script.tables (table_of line)) g (next_cid w) line) refl
