@@ -8,3 +8,4 @@ pub mod After
 pub mod Under
 pub mod Faults
 pub mod Dispatch
+pub mod Lines
