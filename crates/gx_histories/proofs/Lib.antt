@@ -9,3 +9,4 @@ pub mod Under
 pub mod Faults
 pub mod Dispatch
 pub mod Lines
+pub mod Closed
