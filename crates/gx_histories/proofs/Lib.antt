@@ -10,3 +10,5 @@ pub mod Faults
 pub mod Dispatch
 pub mod Lines
 pub mod Closed
+pub mod Busy
+
