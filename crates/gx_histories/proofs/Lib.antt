@@ -12,3 +12,4 @@ pub mod Lines
 pub mod Closed
 pub mod Busy
 
+pub mod Replies
