@@ -13,3 +13,4 @@ pub mod Closed
 pub mod Busy
 
 pub mod Replies
+pub mod Closings

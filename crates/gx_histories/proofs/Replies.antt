@@ -65,12 +65,12 @@ use Rattle.gx_histories.proofs.Under.{Under, refuse-does}
 differ : false ≡ true → ⊥
 differ e = cc
 
-both_of : (a b : Bool) → (a && b) ≡ true → (a ≡ true) × (b ≡ true)
+pub both_of : (a b : Bool) → (a && b) ≡ true → (a ≡ true) × (b ≡ true)
 both_of true b e = (refl, e)
 both_of false b e = grind arith
 
 -- WHAT A REFUSAL IS BY
-abbrev ByWord : Node → Reply → Outcome → Type 0
+abbrev pub ByWord : Node → Reply → Outcome → Type 0
 ByWord i r (outcome.Refused j) = ((r ≡ reply.Jfault) × (j ≡ i)) ⊎ (j ≡ the_coordinator)
 ByWord i r _ = Unit {0}
 
@@ -105,7 +105,7 @@ takes-by g ps i b (Ended a) reply.Forgotten = forgets-by (without i a) i reply.F
 takes-by g ps i b (Aborting a) reply.Aborted = gives-by (without i a) i reply.Aborted
 takes-by g ps i b p r = tt
 
-found-by : (g : Gxid) (i : Node) (r : Reply) (b : Bool) (t : Option Txn) → ByWord i r (reply_found g i r b t).out.outcome
+pub found-by : (g : Gxid) (i : Node) (r : Reply) (b : Bool) (t : Option Txn) → ByWord i r (reply_found g i r b t).out.outcome
 found-by g i r b None = tt
 found-by g i r b (Some t) = by_test (is_expected t.phase i r)
   where
@@ -126,7 +126,7 @@ module _ (script : Script) (steps : List Step) (c : Coord) (k : Kept c) (all : (
   abbrev y : Session
   y = session_of c s
 
-  stand : (B : Block) (P : Pending) → y.state.block ≡ B → y.state.pending ≡ P → is_busy B P ≡ true → y.transaction ≡ g → (ends_in s steps ≡ 0) × Stands script s ms c.table.next.0 B P y.lines g (work_of c g)
+  pub stand : (B : Block) (P : Pending) → y.state.block ≡ B → y.state.pending ≡ P → is_busy B P ≡ true → y.transaction ≡ g → (ends_in s steps ≡ 0) × Stands script s ms c.table.next.0 B P y.lines g (work_of c g)
   stand B P eb ep busy same = by_standing (all s).stands
     where
       not-over : (b : Block) (p : Pending) → b ≡ block.Outside → p ≡ pending.Nothing → is_busy b p ≡ true → ⊥
@@ -137,7 +137,7 @@ module _ (script : Script) (steps : List Step) (c : Coord) (k : Kept c) (all : (
           (z.0, subst (λ (x : Gxid). Stands script s ms c.table.next.0 B P y.lines x (work_of c x)) same (subst (λ x. Stands script s ms c.table.next.0 B x y.lines y.transaction (work_of c y.transaction)) ep (subst (λ x. Stands script s ms c.table.next.0 x y.state.pending y.lines y.transaction (work_of c y.transaction)) eb z.1)))
       by_standing (inr z) = absurd (not-over B P (sym eb ∙ z.1.outside) (sym ep ∙ z.1.idle) busy)
 
-  same-gxid : y.transaction.0 ≡ g.0 → y.transaction ≡ g
+  pub same-gxid : y.transaction.0 ≡ g.0 → y.transaction ≡ g
   same-gxid h = ap (λ (i : ℕ). let x : Gxid = record { 0 = i } in x) h
 
   -- A COMMAND IS UNDER WAY
@@ -151,7 +151,7 @@ module _ (script : Script) (steps : List Step) (c : Coord) (k : Kept c) (all : (
   some-same : (a b : Command) → Some a ≡ Some b → a ≡ b
   some-same a b h = cc
 
-  works-on : (B : Block) (m : Command) → y.state.block ≡ B → y.state.pending ≡ pending.Command → is_busy B pending.Command ≡ true → y.transaction ≡ g → (work_of c g).command ≡ Some m → Works B m
+  pub works-on : (B : Block) (m : Command) → y.state.block ≡ B → y.state.pending ≡ pending.Command → is_busy B pending.Command ≡ true → y.transaction ≡ g → (work_of c g).command ≡ Some m → Works B m
   works-on B m eb ep busy same it = by_line (stand B pending.Command eb ep busy same) ((stand B pending.Command eb ep busy same).1.owns busy).1
     where
       by_line : (st : (ends_in s steps ≡ 0) × Stands script s ms c.table.next.0 B pending.Command y.lines g (work_of c g)) → IsLineOf script s y.lines B st.1.commands (work_of c g) pending.Command → Works B m
@@ -249,7 +249,7 @@ module _ (script : Script) (steps : List Step) (c : Coord) (k : Kept c) (all : (
       by_left [] = by_block _ (ap (λ (v : Work). (c.sessions v.session.0).state.block) (sym work-now))
       by_left (j ∷ js) = waits-on y.state.block refl
 
-      done-does : Does script steps c e (takes_done c g i wrote count part m)
+      pub done-does : Does script steps c e (takes_done c g i wrote count part m)
       done-does = by_left (without i m.awaited)
 
     -- FAILED
@@ -297,5 +297,5 @@ module _ (script : Script) (steps : List Step) (c : Coord) (k : Kept c) (all : (
       by_place (block.Open l) eb = refuses-in (block.Open l) refl (works-in (block.Open l) eb refl)
       by_place block.Failed eb = absurd (not-failed eb)
 
-      failed-does : Does script steps c e (is_refused c g (on_abort c.table g) [] (reason_of why))
+      pub failed-does : Does script steps c e (is_refused c g (on_abort c.table g) [] (reason_of why))
       failed-does = by_place y.state.block refl
