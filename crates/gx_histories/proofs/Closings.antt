@@ -223,8 +223,8 @@ module _ (script : Script) (steps : List Step) (c : Coord) (k : Kept c) (all : (
 
 -- a segment that says that its journal has failed has a mark of it
 abbrev pub IsNoted : List Mark → Node → Message → Type 0
-IsNoted ms from (message.Answer g reply.Jfault) = Contains ms (mark.JournalFailed from g)
-IsNoted ms from _ = Unit {0}
+IsNoted marks from (message.Answer g reply.Jfault) = Contains marks (mark.JournalFailed from g)
+IsNoted marks from _ = Unit {0}
 
 pub message-does : (script : Script) (steps : List Step) (c : Coord) → Kept c → ((j : SessionId) → IsSession script j steps c) → (from : Node) → 1 ≤ from.0 → (to : Node) (number : ℕ) (fails : Bool) (m : Message) → Receives steps (event.Receive from to number) from the_coordinator m → IsNoted (marks_in steps) from m → Effect script steps c (event.Receive from to number) (on_message c from fails m)
 message-does script steps c k all from some to number fails (message.Answer g r) h n = answer-does script steps c k all from some to number g fails r h (noted r n)

@@ -14,3 +14,4 @@ pub mod Busy
 
 pub mod Replies
 pub mod Closings
+pub mod Notes
