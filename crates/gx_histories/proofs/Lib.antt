@@ -15,3 +15,4 @@ pub mod Busy
 pub mod Replies
 pub mod Closings
 pub mod Notes
+pub mod World
