@@ -24,7 +24,7 @@ use Rattle.gx_rules.specs.Sending.{counted, numbered}
 use Rattle.gx_laws.proofs.Lists.{Each, each_append}
 use Rattle.gx_histories.specs.Rest.{EachMark}
 use Rattle.gx_histories.specs.Standing.{IsOver, IsSession, IsStanding, Stands, is_busy}
-use Rattle.gx_histories.proofs.Ends.{Fresh, IsOf, ended-more, fresh-more, of-calm, of-ended, of-snapshot, snapshot-more}
+use Rattle.gx_histories.proofs.Ends.{Fresh, IsOf, ended-more, fresh-more, of-calm, of-ended, of-snapshot, of-unstarted, snapshot-more}
 use Rattle.gx_histories.proofs.Frame.{Does, Rests, Quiet, quiet-of, sid, standing-by}
 use Rattle.gx_histories.proofs.Given.{Given}
 use Rattle.gx_histories.proofs.Said.{CalmFor}
@@ -69,7 +69,7 @@ pub silent-snapshot : (h : Gxid) (ms : List Mark) → Each Silent ms → has_sna
 silent-snapshot h ms e = of-snapshot 0 (h.0 + 1) h ms (other-number h.0) (silent-of 0 (h.0 + 1) ms e)
 
 pub silent-fresh : (next : ℕ) (ms : List Mark) → Each Silent ms → Fresh ms next
-silent-fresh next ms e = record { unended = λ h l. silent-ended h ms e; unread = λ h l. silent-snapshot h ms e }
+silent-fresh next ms e = record { unended = λ h l. silent-ended h ms e; unread = λ h l. silent-snapshot h ms e; unstarted = λ h l. of-unstarted 0 (h.0 + 1) h ms (other-number h.0) (silent-of 0 (h.0 + 1) ms e) }
 
 le-same : (a : ℕ) → a ≤ a
 le-same a = omega arith

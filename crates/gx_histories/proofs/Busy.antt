@@ -35,12 +35,14 @@ use Rattle.gx_rules.specs.Maps.{with_at}
 use Rattle.gx_laws.proofs.Lists.{Each}
 use Rattle.gx_laws.proofs.Turns.{self-test}
 use Rattle.gx_histories.specs.Rest.{EachMark, RestAnswer}
-use Rattle.gx_histories.specs.Standing.{IsLineOf, IsSession, Owns, Stands, is_alone, is_busy, is_open, is_sound, level_in, state_in, under_way, waits}
+use Rattle.gx_histories.specs.Standing.{IsLineOf, IsNow, IsSession, Owns, Roots, Stands, is_alone, is_busy, is_open, is_sound, level_in, state_in, under_way, waits}
 use Rattle.gx_histories.proofs.Answers.{done-inside, done-is, done-outside, told-is}
 use Rattle.gx_histories.proofs.AtLine.{AtLine, answered-now, at-calm, has_txn, legal-answer, runs-command, transaction-is}
 use Rattle.gx_histories.proofs.Ends.{Fresh, IsOf, of-fresh}
 use Rattle.gx_histories.proofs.Frame.{Does, owns-more, sid}
 use Rattle.gx_histories.proofs.Given.{Given}
+use Rattle.gx_histories.proofs.Outs.{CommandIs, OutIs}
+use Rattle.gx_histories.proofs.Roots.{roots-answered, roots-on}
 use Rattle.gx_histories.proofs.Said.{Said}
 use Rattle.gx_histories.proofs.Under.{Under, commit-does, home-is, x-is}
 
@@ -152,6 +154,7 @@ module _ (script : Script) (steps : List Step) (c : Coord) (from : Node) (to : N
       pub last : w.last ≡ (work_of c g).last
       pub snapshot : w.snapshot ≡ (work_of c g).snapshot
       pub under : under_way w.command ≡ under_way (work_of c g).command
+      pub now_too : (first : ℕ) → IsNow script s (work_of c g) P first → IsNow script s w P first
       pub its_line : IsLineOf script s y.lines B q.stands.commands w P
 
     likewise-owns : (w : Work) → Likewise w → Owns s q.stands.commands (ms ++ []) c.table.next.0 B g w
@@ -168,8 +171,8 @@ module _ (script : Script) (steps : List Step) (c : Coord) (from : Node) (to : N
           snapshot = subst (λ x. Rattle.gx_histories.specs.Standing.HasSnapshot w.level ms g x) (sym k.snapshot) (subst (λ l. Rattle.gx_histories.specs.Standing.HasSnapshot l ms g (work_of c g).snapshot) (sym k.level) own.snapshot);
         })
 
-    pub goes-on : (turn : CoordTurn) (w : Work) → Likewise w → turn.marks ≡ [] → turn.coord.works g.0 ≡ w → ((j : ℕ) → eqb j g.0 ≡ false → turn.coord.works j ≡ c.works j) → ((j : ℕ) → turn.coord.sessions j ≡ c.sessions j) → turn.coord.table.next.0 ≡ c.table.next.0 → Does script steps c e turn
-    goes-on turn w k none work works sessions next =
+    pub goes-on : (turn : CoordTurn) (w : Work) → Likewise w → turn.marks ≡ [] → turn.coord.works g.0 ≡ w → ((j : ℕ) → eqb j g.0 ≡ false → turn.coord.works j ≡ c.works j) → ((j : ℕ) → turn.coord.sessions j ≡ c.sessions j) → turn.coord.table.next.0 ≡ c.table.next.0 → Each (OutIs script (ms ++ turn.marks)) turn.outs → (CommandIs script (ms ++ turn.marks) (c.works g.0).command → CommandIs script (ms ++ turn.marks) (turn.coord.works g.0).command) → Does script steps c e turn
+    goes-on turn w k none work works sessions next outs orders =
         record {
           s = s.0;
           g = g.0;
@@ -179,7 +182,7 @@ module _ (script : Script) (steps : List Step) (c : Coord) (from : Node) (to : N
           next = subst (λ i. c.table.next.0 ≤ i) (sym next) (le-same c.table.next.0);
           whose = inl refl;
           of = subst (λ m. Each (IsOf s.0 g.0) m) (sym none) tt;
-          fresh = subst (λ m. Fresh m turn.coord.table.next.0) (sym none) (record { unended = λ h l. refl; unread = λ h l. refl });
+          fresh = subst (λ m. Fresh m turn.coord.table.next.0) (sym none) (record { unended = λ h l. refl; unread = λ h l. refl; unstarted = λ h l. refl });
           alone = λ j h. others j;
           starts = started;
           stands = inl (ended, subst (λ m. Stands script s (ms ++ m) turn.coord.table.next.0 y.state.block y.state.pending y.lines y.transaction (turn.coord.works y.transaction.0)) (sym none)
@@ -189,6 +192,8 @@ module _ (script : Script) (steps : List Step) (c : Coord) (from : Node) (to : N
               (subst (λ (x : Gxid). Stands script s (ms ++ []) c.table.next.0 B P y.lines x (turn.coord.works x.0)) (sym q.its)
               (subst (λ v. Stands script s (ms ++ []) c.table.next.0 B P y.lines g v) (sym work) there))))));
           legal = λ later. subst (λ m. EachMark (Given script) steps e [] m later) (sym none) tt;
+          outs = outs;
+          orders = orders;
         }
       where
         there : Stands script s (ms ++ []) c.table.next.0 B P y.lines g w
@@ -199,7 +204,7 @@ module _ (script : Script) (steps : List Step) (c : Coord) (from : Node) (to : N
               state = at-now.said.state;
               begun = at-now.said.begun;
               sound = q.stands.sound;
-              owns = λ h. (likewise-owns w k, k.its_line);
+              owns = λ h. (likewise-owns w k, k.its_line, roots-on script s ms [] B P y.lines g (work_of c g) w (q.stands.owns q.busy).2 k.last k.now_too);
             }
 
     -- A COMMAND OUTSIDE A BLOCK COMMITS
@@ -214,14 +219,15 @@ module _ (script : Script) (steps : List Step) (c : Coord) (from : Node) (to : N
           told = told-is script (record { steps = steps; event = e; earlier = earlier; later = later }) s b line m cmd rest line (level_of b) g (cid_of b) (runs-command script steps e s line n b (is_alone B P) (Some g) earlier a later g has-txn refl cmd);
         })
 
-    pub alone-commit : (c1 : Coord) (w : Work) (m : Command) (turn : Turn) → Under script steps c e c1 s g w y n b (is_alone B P) line [] → B ≡ block.Outside → P ≡ pending.Command → w.command ≡ Some m → m.stmt ≡ line → is_command b line ≡ true → turn.table.next.0 ≡ c1.table.next.0 → Does script steps c e (is_closed c1 g turn)
-    alone-commit c1 w m turn o outside working has same cmd next =
+    pub alone-commit : (c1 : Coord) (w : Work) (m : Command) (turn : Turn) → Under script steps c e c1 s g w y n b (is_alone B P) line [] → B ≡ block.Outside → P ≡ pending.Command → w.command ≡ Some m → m.stmt ≡ line → is_command b line ≡ true → turn.table.next.0 ≡ c1.table.next.0 → ((marks : List Mark) → Each (OutIs script marks) turn.out.outs) → Does script steps c e (is_closed c1 g turn)
+    alone-commit c1 w m turn o outside working has same cmd next outs =
         commit-does script steps c e c1 s g w y n b (is_alone B P) line [] o turn next may closed
         (subst (λ x. state_after (state_in x q.stands.commands) line r ≡ Outside) (sym outside) (done-outside line r rows))
         (λ later rest. subst (λ z. IsAnswer script (record { steps = steps; event = e; earlier = mark.Commit g ∷ []; later = later }) s b line z) (sym told-as)
         (command-told (mark.Commit g ∷ []) (at-calm script steps e s line n b (is_alone B P) (Some g) [] (mark.Commit g ∷ []) at-now (tt, tt)) later m cmd
         (subst (λ z. RestAnswer script (record { steps = steps; event = e; earlier = mark.Commit g ∷ []; later = later }) s z) told-as rest)
         (subst (λ x. Rattle.gx_store.specs.Answers.IsAtItsEnd (state_in x q.stands.commands) (record { steps = steps; event = e; earlier = mark.Commit g ∷ []; later = later }) g) (sym outside) (ap (λ t. t || false) (self-test g.0)))))
+        outs
       where
         r : StmtAnswer
         r = answer_at_commit (work_of c1 g) (session_of c1 (work_of c1 g).session).state.pending
@@ -241,8 +247,8 @@ module _ (script : Script) (steps : List Step) (c : Coord) (from : Node) (to : N
         closed = ap (λ z. block_after_done z y.state.pending) (q.in_block ∙ outside) ∙ ap (block_after_done block.Outside) (q.in_line ∙ working)
 
     -- A BLOCK COMMITS
-    pub block-commit : (c1 : Coord) (w : Work) (turn : Turn) (l : Level) → Under script steps c e c1 s g w y n b (is_alone B P) line [] → B ≡ block.Open l → P ≡ pending.Commit → line ≡ stmt.Commit → turn.table.next.0 ≡ c1.table.next.0 → Does script steps c e (is_closed c1 g turn)
-    block-commit c1 w turn l o opened closing is next =
+    pub block-commit : (c1 : Coord) (w : Work) (turn : Turn) (l : Level) → Under script steps c e c1 s g w y n b (is_alone B P) line [] → B ≡ block.Open l → P ≡ pending.Commit → line ≡ stmt.Commit → turn.table.next.0 ≡ c1.table.next.0 → ((marks : List Mark) → Each (OutIs script marks) turn.out.outs) → Does script steps c e (is_closed c1 g turn)
+    block-commit c1 w turn l o opened closing is next outs =
         commit-does script steps c e c1 s g w y n b (is_alone B P) line [] o turn next (subst (λ x. Rattle.gx_store.specs.Legal.may_commit (state_in x q.stands.commands) line ≡ true) (sym opened) (subst (λ z. Rattle.gx_store.specs.Legal.may_commit (InBlock l q.stands.commands) z ≡ true) (sym is) refl))
         (ap (λ z. block_after_done y.state.block z) (q.in_line ∙ closing))
         (subst (λ x. state_after (state_in x q.stands.commands) line r ≡ Outside) (sym opened) (subst (λ z. state_after (InBlock l q.stands.commands) z r ≡ Outside) (sym is) refl))
@@ -250,6 +256,7 @@ module _ (script : Script) (steps : List Step) (c : Coord) (from : Node) (to : N
         (subst (λ x. IsAnswer script (record { steps = steps; event = e; earlier = mark.Commit g ∷ []; later = later }) s (state_in x q.stands.commands) line told.Commit) (sym opened)
         (subst (λ z. IsAnswer script (record { steps = steps; event = e; earlier = mark.Commit g ∷ []; later = later }) s (InBlock l q.stands.commands) z told.Commit) (sym is)
         (record { g = g; transaction = subst (λ x. transaction_of (state_in x q.stands.commands) s (ms ++ mark.Commit g ∷ []) ≡ Some g) opened (transaction later); committed = ap (λ t. t || false) (self-test g.0) }))))
+        outs
       where
         r : StmtAnswer
         r = answer_at_commit (work_of c1 g) (session_of c1 (work_of c1 g).session).state.pending
@@ -277,12 +284,14 @@ module _ (script : Script) (steps : List Step) (c : Coord) (from : Node) (to : N
           next = subst (λ i. c.table.next.0 ≤ i) (sym (next-is (work_of c1 g).level)) o.next;
           whose = inl refl;
           of = (ap (λ (i : SessionId). i.0) home, tt);
-          fresh = record { unended = λ h z. refl; unread = λ h z. refl };
+          fresh = record { unended = λ h z. refl; unread = λ h z. refl; unstarted = λ h z. refl };
           alone = λ j h. others j;
           starts = started;
           stands = inl (ended, moved (subst (λ v. Stands script s late c.table.next.0 (block.Open l) pending.Nothing y.lines g v) (sym work-now) (subst (λ i. Stands script s (ms ++ mark.Answer i (session_of c1 i).lines r ∷ []) c.table.next.0 (block.Open l) pending.Nothing y.lines g done) (sym home) there)));
           legal = λ later. subst (λ i. EachMark (Given script) steps e [] (mark.Answer i (session_of c1 i).lines r ∷ []) later) (sym home)
               (λ rest. legal-answer script steps e s line n b (is_alone B P) (Some g) [] at-now later (session_of c1 s).lines r numbered (is later rest), tt);
+          outs = tt;
+          orders = λ h. subst (CommandIs script late) (sym (ap (λ (v : Work). v.command) work-now)) tt;
         }
       where
         home : (work_of c1 g).session ≡ s
@@ -345,7 +354,7 @@ module _ (script : Script) (steps : List Step) (c : Coord) (from : Node) (to : N
 
         there : Stands script s (ms ++ mark.Answer s (session_of c1 s).lines (answer_of_command (work_of c1 g).command) ∷ []) c.table.next.0 (block.Open l) pending.Nothing y.lines g (record w { command = None })
         there =
-            record { commands = q.stands.commands + 1; answered = plus-zero _ ∙ said.answered ∙ lines-are; state = said.state; begun = said.begun; sound = refl; owns = λ h. (owns-done, refl) }
+            record { commands = q.stands.commands + 1; answered = plus-zero _ ∙ said.answered ∙ lines-are; state = said.state; begun = said.begun; sound = refl; owns = λ h. (owns-done, refl, roots-answered script s ms _ l y.lines g (work_of c g) done (subst (λ z. Roots script s ms (block.Open l) z y.lines g (work_of c g)) working (subst (λ z. Roots script s ms z P y.lines g (work_of c g)) opened (q.stands.owns q.busy).2)) k.last) }
 
         abbrev-turn : CoordTurn
         abbrev-turn = answers c1 g (work_of c1 g)

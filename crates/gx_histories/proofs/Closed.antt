@@ -21,12 +21,13 @@ use Rattle.gx_store.specs.Lines.{BlockState, InBlock, next_stmt, state_of, stmt_
 use Rattle.gx_store.specs.Marks.{answer_count, is_ended, started_after}
 use Rattle.gx_store.specs.Points.{ends_by, ends_in, marks_in, starts_by, starts_in}
 use Rattle.gx_rules.specs.AtCoordinator.{ends_in as ends_session, is_in_block as is_block, next_line, rolls_back}
-use Rattle.gx_rules.specs.Coordinators.{Coord, Session, no_work, session_of, with_state, work_of}
+use Rattle.gx_rules.specs.Coordinators.{Coord, Session, Work, no_work, session_of, with_state, work_of}
 use Rattle.gx_laws.proofs.Sessions.{is_nothing_in}
 use Rattle.gx_laws.proofs.Turns.{self-test}
 use Rattle.gx_histories.specs.Standing.{IsOver, IsSession, IsStanding, Owns, Stands, is_busy, state_in}
 use Rattle.gx_histories.proofs.Ends.{of-fresh}
 use Rattle.gx_histories.proofs.Frame.{Does, sid}
+use Rattle.gx_histories.proofs.Outs.{CommandIs, OutIs, abort-plain}
 use Rattle.gx_histories.proofs.Said.{Said, said-calm}
 
 differ : false ≡ true → ⊥
@@ -115,6 +116,8 @@ module _ (script : Script) (steps : List Step) (c : Coord) (s : SessionId) (all 
         starts = started;
         stands = inr (ended, over (mark.Abort y.transaction ∷ []) (tt, tt));
         legal = λ later. (λ q. record { running = subst (λ m. is_ended m y.transaction ≡ false) (sym (append-nil ms)) own.running; cause = inr (record { session = s; event = refl; transaction = transaction }) }, tt);
+        outs = abort-plain script _ c.table y.transaction;
+        orders = λ h. subst (CommandIs script (ms ++ mark.Abort y.transaction ∷ [])) (sym (ap (λ (z : Work). z.command) (ap (λ q. if q then no_work else c.works y.transaction.0) (self-test y.transaction.0)))) tt;
       }
     where
       own : Owns s st.1.commands ms next y.state.block y.transaction (work_of c y.transaction)
@@ -136,11 +139,13 @@ module _ (script : Script) (steps : List Step) (c : Coord) (s : SessionId) (all 
         next = le-same next;
         whose = inr (le-same next);
         of = tt;
-        fresh = record { unended = λ h l. refl; unread = λ h l. refl };
+        fresh = record { unended = λ h l. refl; unread = λ h l. refl; unstarted = λ h l. refl };
         alone = others;
         starts = started;
         stands = inr (ended, over [] tt);
         legal = λ later. tt;
+        outs = tt;
+        orders = λ h. h;
       }
 
   pub end-does : (b : Block) → b ≡ y.state.block → Does script steps c (event.End s) (ends_session c s b)

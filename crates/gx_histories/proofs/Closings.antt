@@ -55,6 +55,7 @@ use Rattle.gx_histories.proofs.Busy.{Busy, alone-commit, block-commit, busy-unde
 use Rattle.gx_histories.proofs.Ends.{IsOf}
 use Rattle.gx_histories.proofs.Frame.{Does, Effect, Rests}
 use Rattle.gx_histories.proofs.Given.{Given}
+use Rattle.gx_histories.proofs.Outs.{CommandIs, OutIs, reply-plain}
 use Rattle.gx_histories.proofs.Replies.{ByWord, Works, both_of, done-does, failed-does, found-by, same-gxid, stand, works-on}
 use Rattle.gx_histories.proofs.Said.{CalmFor}
 use Rattle.gx_histories.proofs.Under.{Under, refuse-does}
@@ -62,10 +63,10 @@ use Rattle.gx_histories.proofs.Under.{Under, refuse-does}
 -- the item of a turn says nothing of sessions
 pub does-with : (script : Script) (steps : List Step) (c : Coord) (e : Event) (turn : CoordTurn) (item : Option JournalItem) → Does script steps c e turn → Does script steps c e (record turn { item = item })
 does-with script steps c e turn item d =
-    record { s = d.s; g = d.g; x = d.x; sessions = d.sessions; works = d.works; next = d.next; whose = d.whose; of = d.of; fresh = d.fresh; alone = d.alone; starts = d.starts; stands = d.stands; legal = d.legal }
+    record { s = d.s; g = d.g; x = d.x; sessions = d.sessions; works = d.works; next = d.next; whose = d.whose; of = d.of; fresh = d.fresh; alone = d.alone; starts = d.starts; stands = d.stands; legal = d.legal; outs = d.outs; orders = d.orders }
 
-pub rests-now : (c : Coord) (from to : Node) (number : ℕ) → Rests c (event.Receive from to number) (rests c)
-rests-now c from to number = record { sessions = λ j. refl; works = λ j. refl; next = refl; quiet = tt; alone = λ j. (refl, refl) }
+pub rests-now : (script : Script) (steps : List Step) (c : Coord) (from to : Node) (number : ℕ) → Rests script steps c (event.Receive from to number) (rests c)
+rests-now script steps c from to number = record { sessions = λ j. refl; works = λ j. refl; next = refl; quiet = tt; alone = λ j. (refl, refl); outs = λ h. tt }
 
 -- a segment's word is that its journal has failed
 has-failed : (steps : List Step) (e : Event) (earlier later : List Mark) (g : Gxid) (i : ℕ) → 1 ≤ i → Receives steps e (record { 0 = i }) the_coordinator (message.Answer g reply.Jfault) → Contains (marks_in steps ++ earlier) (mark.JournalFailed (record { 0 = i }) g) → HasJournalFailed (record { steps = steps; event = e; earlier = earlier; later = later }) g (record { 0 = i })
@@ -90,20 +91,20 @@ module _ (script : Script) (steps : List Step) (c : Coord) (k : Kept c) (all : (
 
   -- COMMANDS
   on-done-does : (cid : Cid) (wrote : Bool) (count : ℕ) (part : Part) (m : Option Command) → (work_of c g).command ≡ m → Effect script steps c e (on_done c g from cid wrote count part m)
-  on-done-does cid wrote count part None h = inr (rests-now c from to number)
+  on-done-does cid wrote count part None h = inr (rests-now script steps c from to number)
   on-done-does cid wrote count part (Some m) h = by_test (is_awaited m from cid && fits_part m.stmt part) refl
     where
       by_test : (b : Bool) → (is_awaited m from cid && fits_part m.stmt part) ≡ b → Effect script steps c e (if b then takes_done c g from wrote count part m else rests c)
       by_test true f = inl (done-does script steps c k all from to number g m h from (both_of _ _ (both_of _ _ f).0).1 wrote count part)
-      by_test false f = inr (rests-now c from to number)
+      by_test false f = inr (rests-now script steps c from to number)
 
   on-failed-does : (cid : Cid) (why : Cause) → Receives steps e from the_coordinator (message.Answer g (reply.Failed cid why)) → (m : Option Command) → (work_of c g).command ≡ m → Effect script steps c e (on_failed c g from cid why m)
-  on-failed-does cid why r None h = inr (rests-now c from to number)
+  on-failed-does cid why r None h = inr (rests-now script steps c from to number)
   on-failed-does cid why r (Some m) h = by_test (is_awaited m from cid) refl
     where
       by_test : (b : Bool) → is_awaited m from cid ≡ b → Effect script steps c e (if b then is_refused c g (on_abort c.table g) [] (reason_of why) else rests c)
       by_test true f = inl (failed-does script steps c k all from to number g m h from (both_of _ _ f).1 why cid (ap (λ (i : ℕ). let x : Cid = record { 0 = i } in x) (eqb-true m.cid.0 cid.0 (both_of _ _ f).0)) r)
-      by_test false f = inr (rests-now c from to number)
+      by_test false f = inr (rests-now script steps c from to number)
 
   -- STATUSES
   -- the session of a transaction that closes stands in one of two ways
@@ -146,11 +147,11 @@ module _ (script : Script) (steps : List Step) (c : Coord) (k : Kept c) (all : (
   under-same : (B : Block) (P : Pending) (line : Stmt) (q : Busy script steps c from to number g B P line) → Under script steps c e c s g (work_of c g) y (answer_count s ms) (state_in B q.stands.commands) (is_alone B P) line []
   under-same B P line q = busy-under script steps c from to number g B P line q c (work_of c g) refl refl (λ j h. refl) (λ j. refl) refl
 
-  commits-now : (turn : Turn) → turn.table.next.0 ≡ c.table.next.0 → AloneSo ⊎ BlockSo → Does script steps c e (is_closed c g turn)
-  commits-now turn next (inl z) =
-      alone-commit script steps c from to number g block.Outside pending.Command z.0.stmt z.1.is_busy_so c (work_of c g) z.0 turn (under-same block.Outside pending.Command z.0.stmt z.1.is_busy_so) refl refl z.1.has_it refl z.1.command next
-  commits-now turn next (inr z) =
-      block-commit script steps c from to number g (block.Open z.0) pending.Commit stmt.Commit z.1 c (work_of c g) turn z.0 (under-same (block.Open z.0) pending.Commit stmt.Commit z.1) refl refl refl next
+  commits-now : (turn : Turn) → turn.table.next.0 ≡ c.table.next.0 → ((marks : List Mark) → Each (OutIs script marks) turn.out.outs) → AloneSo ⊎ BlockSo → Does script steps c e (is_closed c g turn)
+  commits-now turn next outs (inl z) =
+      alone-commit script steps c from to number g block.Outside pending.Command z.0.stmt z.1.is_busy_so c (work_of c g) z.0 turn (under-same block.Outside pending.Command z.0.stmt z.1.is_busy_so) refl refl z.1.has_it refl z.1.command next outs
+  commits-now turn next outs (inr z) =
+      block-commit script steps c from to number g (block.Open z.0) pending.Commit stmt.Commit z.1 c (work_of c g) turn z.0 (under-same (block.Open z.0) pending.Commit stmt.Commit z.1) refl refl refl next outs
 
   -- marks that say why: none, or that the coordinator's journal has failed
   abbrev whys : Bool → List Mark
@@ -168,48 +169,48 @@ module _ (script : Script) (steps : List Step) (c : Coord) (k : Kept c) (all : (
   whys-given true later = (λ r. tt, tt)
   whys-given false later = tt
 
-  refuses-by : (turn : Turn) (b : Bool) (reason : Refused) (B : Block) (P : Pending) (line : Stmt) (q : Busy script steps c from to number g B P line) → turn.table.next.0 ≡ c.table.next.0 → is_refusable (state_in B q.stands.commands) line ≡ true → block_after_refusal B P ≡ block.Outside → state_after (state_in B q.stands.commands) line (told.Refused reason) ≡ Outside → ((later : List Mark) (l : Stmt) (v : Level) (cid : Cid) → IsCause (record { steps = steps; event = e; earlier = whys b ++ mark.Abort g ∷ []; later = later }) l v g cid reason) → Does script steps c e (is_refused c g turn (whys b) reason)
-  refuses-by turn b reason B P line q next may closed after cause =
+  refuses-by : (turn : Turn) (b : Bool) (reason : Refused) (B : Block) (P : Pending) (line : Stmt) (q : Busy script steps c from to number g B P line) → turn.table.next.0 ≡ c.table.next.0 → is_refusable (state_in B q.stands.commands) line ≡ true → block_after_refusal B P ≡ block.Outside → state_after (state_in B q.stands.commands) line (told.Refused reason) ≡ Outside → ((later : List Mark) (l : Stmt) (v : Level) (cid : Cid) → IsCause (record { steps = steps; event = e; earlier = whys b ++ mark.Abort g ∷ []; later = later }) l v g cid reason) → ((marks : List Mark) → Each (OutIs script marks) turn.out.outs) → Does script steps c e (is_refused c g turn (whys b) reason)
+  refuses-by turn b reason B P line q next may closed after cause outs =
       refuse-does script steps c e c s g (work_of c g) y (answer_count s ms) (state_in B q.stands.commands) (is_alone B P) line [] (under-same B P line q) turn (whys b) reason block.Outside next may
-      (ap (λ z. block_after_refusal z y.state.pending) q.in_block ∙ ap (block_after_refusal B) q.in_line ∙ closed) refl after (whys-of s.0 g.0 b) (whys-calm b) (running b) (whys-given b) (λ later rest. cause later line _ _)
+      (ap (λ z. block_after_refusal z y.state.pending) q.in_block ∙ ap (block_after_refusal B) q.in_line ∙ closed) refl after (whys-of s.0 g.0 b) (whys-calm b) (running b) (whys-given b) (λ later rest. cause later line _ _) outs
     where
       running : (t : Bool) → is_ended (ms ++ whys t) g ≡ false
       running false = (under-same B P line q).running
       running true = Rattle.gx_histories.proofs.Ends.ended-more ms (mark.JournalFailed the_coordinator g ∷ []) g (subst (λ m. is_ended m g ≡ false) (append-nil ms) (under-same B P line q).running) refl
 
-  refuses-now : (turn : Turn) (b : Bool) (reason : Refused) → turn.table.next.0 ≡ c.table.next.0 → ((later : List Mark) (l : Stmt) (v : Level) (cid : Cid) → IsCause (record { steps = steps; event = e; earlier = whys b ++ mark.Abort g ∷ []; later = later }) l v g cid reason) → AloneSo ⊎ BlockSo → Does script steps c e (is_refused c g turn (whys b) reason)
-  refuses-now turn b reason next cause (inl z) =
-      refuses-by turn b reason block.Outside pending.Command z.0.stmt z.1.is_busy_so next (command-refusable Outside z.0.stmt z.1.command) refl (done-outside z.0.stmt (told.Refused reason) z.1.command) cause
-  refuses-now turn b reason next cause (inr z) = refuses-by turn b reason (block.Open z.0) pending.Commit stmt.Commit z.1 next refl refl refl cause
+  refuses-now : (turn : Turn) (b : Bool) (reason : Refused) → turn.table.next.0 ≡ c.table.next.0 → ((later : List Mark) (l : Stmt) (v : Level) (cid : Cid) → IsCause (record { steps = steps; event = e; earlier = whys b ++ mark.Abort g ∷ []; later = later }) l v g cid reason) → ((marks : List Mark) → Each (OutIs script marks) turn.out.outs) → AloneSo ⊎ BlockSo → Does script steps c e (is_refused c g turn (whys b) reason)
+  refuses-now turn b reason next cause outs (inl z) =
+      refuses-by turn b reason block.Outside pending.Command z.0.stmt z.1.is_busy_so next (command-refusable Outside z.0.stmt z.1.command) refl (done-outside z.0.stmt (told.Refused reason) z.1.command) cause outs
+  refuses-now turn b reason next cause outs (inr z) = refuses-by turn b reason (block.Open z.0) pending.Commit stmt.Commit z.1 next refl refl refl cause outs
 
   module _ (r : Reply) (received : Receives steps e from the_coordinator (message.Answer g r)) (noted : r ≡ reply.Jfault → Contains ms (mark.JournalFailed from g)) where
     -- the coordinator's journal has failed, or the segment's
-    refused-now : (turn : Turn) (i : Node) → turn.table.next.0 ≡ c.table.next.0 → stage_of c g.0 ≡ Closing → ((r ≡ reply.Jfault) × (i ≡ from)) ⊎ (i ≡ the_coordinator) → Does script steps c e (is_refused c g turn (failure_marks i g) (refused.JournalFault i))
-    refused-now turn i next closing (inr h) =
+    refused-now : (turn : Turn) (i : Node) → turn.table.next.0 ≡ c.table.next.0 → ((marks : List Mark) → Each (OutIs script marks) turn.out.outs) → stage_of c g.0 ≡ Closing → ((r ≡ reply.Jfault) × (i ≡ from)) ⊎ (i ≡ the_coordinator) → Does script steps c e (is_refused c g turn (failure_marks i g) (refused.JournalFault i))
+    refused-now turn i next outs closing (inr h) =
         subst (λ j. Does script steps c e (is_refused c g turn (failure_marks j g) (refused.JournalFault j))) (sym h)
         (refuses-now turn true (refused.JournalFault the_coordinator) next
-        (λ later l v cid. Contains-append_left (mark.JournalFailed the_coordinator g ∷ []) (mark.Abort g ∷ []) (mark.JournalFailed the_coordinator g) (Contains-push [] (mark.JournalFailed the_coordinator g))) (closing-so closing))
-    refused-now turn i next closing (inl h) =
+        (λ later l v cid. Contains-append_left (mark.JournalFailed the_coordinator g ∷ []) (mark.Abort g ∷ []) (mark.JournalFailed the_coordinator g) (Contains-push [] (mark.JournalFailed the_coordinator g))) outs (closing-so closing))
+    refused-now turn i next outs closing (inl h) =
         subst (λ j. Does script steps c e (is_refused c g turn (failure_marks j g) (refused.JournalFault j))) (sym h.1)
         (subst (λ m. Does script steps c e (is_refused c g turn m (refused.JournalFault from))) (sym (ap whys (above from.0 some)))
         (refuses-now turn false (refused.JournalFault from) next
-        (λ later l v cid. has-failed steps e (mark.Abort g ∷ []) later g from.0 some (subst (λ x. Receives steps e from the_coordinator (message.Answer g x)) h.0 received) (Contains-append_left ms (mark.Abort g ∷ []) (mark.JournalFailed from g) (noted h.0))) (closing-so closing)))
+        (λ later l v cid. has-failed steps e (mark.Abort g ∷ []) later g from.0 some (subst (λ x. Receives steps e from the_coordinator (message.Answer g x)) h.0 received) (Contains-append_left ms (mark.Abort g ∷ []) (mark.JournalFailed from g) (noted h.0))) outs (closing-so closing)))
       where
         above : (a : ℕ) → 1 ≤ a → (a == 0) ≡ false
         above a l = grind (arith, nat_tests)
 
-    by-outcome : (turn : Turn) (item : Option JournalItem) (a b : Rattle.gx_laws.proofs.Statuses.Stage) → stage_of c g.0 ≡ a → turn.table.next ≡ c.table.next → (o : Outcome) → Moves a b o → ByWord from r o → Effect script steps c e (record (follows c g turn o) { item = item })
-    by-outcome turn item a b st next outcome.Pending h w = inr (record { sessions = λ j. refl; works = λ j. refl; next = ap (λ (z : Gxid). z.0) next; quiet = tt; alone = λ j. (refl, refl) })
-    by-outcome turn item a b st next outcome.Decided h w = inr (record { sessions = λ j. refl; works = λ j. refl; next = ap (λ (z : Gxid). z.0) next; quiet = (tt, tt); alone = λ j. (refl, refl) })
-    by-outcome turn item a b st next outcome.Ended h w = inr (record { sessions = λ j. refl; works = λ j. refl; next = ap (λ (z : Gxid). z.0) next; quiet = tt; alone = λ j. (refl, refl) })
-    by-outcome turn item a b st next outcome.Committed h w = inl (does-with script steps c e _ item (commits-now turn (ap (λ (z : Gxid). z.0) next) (closing-so (st ∙ h.0))))
-    by-outcome turn item a b st next (outcome.Refused i) h w = inl (does-with script steps c e _ item (refused-now turn i (ap (λ (z : Gxid). z.0) next) (st ∙ h.0) w))
+    by-outcome : (turn : Turn) (item : Option JournalItem) (a b : Rattle.gx_laws.proofs.Statuses.Stage) → stage_of c g.0 ≡ a → turn.table.next ≡ c.table.next → ((marks : List Mark) → Each (OutIs script marks) turn.out.outs) → (o : Outcome) → Moves a b o → ByWord from r o → Effect script steps c e (record (follows c g turn o) { item = item })
+    by-outcome turn item a b st next outs outcome.Pending h w = inr (record { sessions = λ j. refl; works = λ j. refl; next = ap (λ (z : Gxid). z.0) next; quiet = tt; alone = λ j. (refl, refl); outs = λ o. outs _ })
+    by-outcome turn item a b st next outs outcome.Decided h w = inr (record { sessions = λ j. refl; works = λ j. refl; next = ap (λ (z : Gxid). z.0) next; quiet = (tt, tt); alone = λ j. (refl, refl); outs = λ o. outs _ })
+    by-outcome turn item a b st next outs outcome.Ended h w = inr (record { sessions = λ j. refl; works = λ j. refl; next = ap (λ (z : Gxid). z.0) next; quiet = tt; alone = λ j. (refl, refl); outs = λ o. outs _ })
+    by-outcome turn item a b st next outs outcome.Committed h w = inl (does-with script steps c e _ item (commits-now turn (ap (λ (z : Gxid). z.0) next) outs (closing-so (st ∙ h.0))))
+    by-outcome turn item a b st next outs (outcome.Refused i) h w = inl (does-with script steps c e _ item (refused-now turn i (ap (λ (z : Gxid). z.0) next) outs (st ∙ h.0) w))
 
     status-does : (fails : Bool) → Effect script steps c e (on_status c g from r fails)
     status-does fails =
         let turn : Turn = on_reply c.table g from r fails in
         let t : Turned c.table g.0 (on_reply c.table g from r fails) Moves = reply-turns c.table g.0 from r fails k.whole in
-        by-outcome (on_reply c.table g from r fails) (item_for c.table g from r) (stage_of c g.0) (stage t.now) refl refl (on_reply c.table g from r fails).out.outcome t.how (found-by g from r fails (find_txn c.table g))
+        by-outcome (on_reply c.table g from r fails) (item_for c.table g from r) (stage_of c g.0) (stage t.now) refl refl (λ marks. reply-plain script marks c.table g from r fails) (on_reply c.table g from r fails).out.outcome t.how (found-by g from r fails (find_txn c.table g))
 
   answer-does : (fails : Bool) (r : Reply) → Receives steps e from the_coordinator (message.Answer g r) → (r ≡ reply.Jfault → Contains ms (mark.JournalFailed from g)) → Effect script steps c e (on_answer c g from fails r)
   answer-does fails (reply.Done cid wrote count part) h n = on-done-does cid wrote count part (work_of c g).command refl
@@ -238,11 +239,11 @@ message-does script steps c k all from some to number fails (message.Answer g r)
     noted reply.Again n e = absurd (cc)
     noted reply.Aborted n e = absurd (cc)
     noted reply.Forgotten n e = absurd (cc)
-message-does script steps c k all from some to number fails (message.Exec g cid level x h y) r n = inr (rests-now c from to number)
-message-does script steps c k all from some to number fails (message.Prepare g) r n = inr (rests-now c from to number)
-message-does script steps c k all from some to number fails (message.Commit g) r n = inr (rests-now c from to number)
-message-does script steps c k all from some to number fails (message.CommitPrepared g) r n = inr (rests-now c from to number)
-message-does script steps c k all from some to number fails (message.Abort g) r n = inr (rests-now c from to number)
-message-does script steps c k all from some to number fails (message.Forget g) r n = inr (rests-now c from to number)
-message-does script steps c k all from some to number fails (message.Collect round) r n = inr (rests-now c from to number)
-message-does script steps c k all from some to number fails (message.Graph round graph) r n = inr (rests-now c from to number)
+message-does script steps c k all from some to number fails (message.Exec g cid level x h y) r n = inr (rests-now script steps c from to number)
+message-does script steps c k all from some to number fails (message.Prepare g) r n = inr (rests-now script steps c from to number)
+message-does script steps c k all from some to number fails (message.Commit g) r n = inr (rests-now script steps c from to number)
+message-does script steps c k all from some to number fails (message.CommitPrepared g) r n = inr (rests-now script steps c from to number)
+message-does script steps c k all from some to number fails (message.Abort g) r n = inr (rests-now script steps c from to number)
+message-does script steps c k all from some to number fails (message.Forget g) r n = inr (rests-now script steps c from to number)
+message-does script steps c k all from some to number fails (message.Collect round) r n = inr (rests-now script steps c from to number)
+message-does script steps c k all from some to number fails (message.Graph round graph) r n = inr (rests-now script steps c from to number)

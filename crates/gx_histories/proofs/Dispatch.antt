@@ -3,7 +3,8 @@ use Rattle.std.proofs.Common.{◌≡◌, ◌<◌, ◌≤◌, inl, inr, ℕ, ◌+
 use Rattle.std.proofs.Math.Seq.{take-append_seam}
 use Rattle.std.proofs.lemmas.Bool.Decides.{nat_tests}
 use Rattle.std.proofs.lemmas.List.{append_assoc, length-append}
-use Rattle.std.specs.Prelude.{slice_get, take}
+use Rattle.std.proofs.lemmas.List.Elements.{Contains-append_left, Contains-append_right, Contains-push}
+use Rattle.std.specs.Prelude.{Contains, slice_get, take}
 use Rattle.gx_ids.specs.declared.ids.Cid.{Cid}
 use Rattle.gx_ids.specs.declared.ids.Gxid.{Gxid}
 use Rattle.gx_ids.specs.declared.ids.Node.{Node}
@@ -16,7 +17,7 @@ use Rattle.gx_tree.specs.declared.stmt.Stmt.{Stmt}
 use Rattle.gx_tree.specs.declared.stmt.Stmt.TheVariants as stmt
 use Rattle.gx_dsnap.specs.declared.snapshot.Snapshot.{Snapshot}
 use Rattle.gx_dtx.specs.Rules.{enlisted, on_abort}
-use Rattle.gx_dtx.specs.Table.{Table}
+use Rattle.gx_dtx.specs.Table.{Table, horizon_of}
 use Rattle.gx_eval.specs.Meaning.{and_then}
 use Rattle.gx_eval.specs.declared.fault.ArithFault.{ArithFault}
 use Rattle.gx_eval.specs.declared.fault.ArithFault.TheVariants as arithmetic
@@ -36,12 +37,12 @@ use Rattle.gx_store.specs.declared.mark.Mark.{Mark}
 use Rattle.gx_store.specs.declared.mark.Mark.TheVariants as mark
 use Rattle.gx_store.specs.declared.run.Step.{Step}
 use Rattle.gx_store.specs.Commands.{has_own_snapshot}
-use Rattle.gx_store.specs.Lines.{BlockState, cid_of, is_command, is_on_rows, level_of, state_after, stmt_of}
+use Rattle.gx_store.specs.Lines.{BlockState, cid_of, command_at, is_command, is_on_rows, level_of, state_after, stmt_of}
 use Rattle.gx_store.specs.Marks.{has_snapshot, is_aborted, is_ended, is_snapped}
 use Rattle.gx_store.specs.Points.{marks_in}
 use Rattle.gx_store.specs.Refusals.{IsCause}
 use Rattle.gx_store.specs.Writes.{dist_of}
-use Rattle.gx_rules.specs.AtCoordinator.{Reading, behind, dispatches, enlisted_all, fault_mark, faulting_from, goes, goes_out, kept_at, next_cid, reads_by, reads_for, refusal_of, table_of, takes_snapshot}
+use Rattle.gx_rules.specs.AtCoordinator.{Reading, behind, dispatches, enlisted_all, fault_mark, faulting_from, goes, goes_out, kept_at, next_cid, nodes_in, orders_of, reads_by, reads_for, refusal_of, table_of, takes_snapshot}
 use Rattle.gx_rules.specs.Coordinators.{Command, Coord, Session, Work, work_of}
 use Rattle.gx_rules.specs.Snapshots.{snapshot_of}
 use Rattle.gx_laws.proofs.Lists.{Each, each_append, get_kept, get_last}
@@ -49,7 +50,7 @@ use Rattle.gx_laws.proofs.Past.{Past, seen-now}
 use Rattle.gx_laws.proofs.Turns.{self-test}
 use Rattle.gx_histories.specs.Orders.{IsReadBy, IsServed}
 use Rattle.gx_histories.specs.Rest.{EachMark}
-use Rattle.gx_histories.specs.Standing.{HasSnapshot, IsTaken, Owns, Stands, is_alone, is_busy, is_open, is_sound, level_in, state_in, under_way}
+use Rattle.gx_histories.specs.Standing.{HasSnapshot, IsTaken, Owns, Roots, Stands, is_alone, is_busy, is_open, is_sound, level_in, state_in, under_way}
 use Rattle.gx_histories.proofs.Answers.{command-refusable, done-outside, refused-inside}
 use Rattle.gx_histories.proofs.AtLine.{AtLine, at-calm, legal-snap}
 use Rattle.gx_histories.proofs.AtLine as at_line
@@ -57,6 +58,8 @@ use Rattle.gx_histories.proofs.Ends.{IsOf, ended-more, keeps-snapshot, of-fresh,
 use Rattle.gx_histories.proofs.Faults.{constants-fault}
 use Rattle.gx_histories.proofs.Frame.{Does}
 use Rattle.gx_histories.proofs.Given.{Given, marks-append}
+use Rattle.gx_histories.proofs.Outs.{CommandIs, OutIs, abort-plain}
+use Rattle.gx_histories.proofs.Roots.{roots-level}
 use Rattle.gx_histories.proofs.Said.{CalmFor, Said}
 use Rattle.gx_histories.proofs.Under.{Under, refuse-does}
 
@@ -92,7 +95,8 @@ module _ (script : Script) (steps : List Step) (c c1 : Coord) (s : SessionId) (g
     (o : Under script steps c (event.Start s) c1 s g (work_of c1 g) x n (state_in B commands) (is_alone B pending.Command) line earlier)
     (xb : x.state.block ≡ B) (xp : x.state.pending ≡ pending.Command) (busy : is_busy B pending.Command ≡ true) (cmd : is_command (state_in B commands) line ≡ true)
     (owns : Owns s commands (marks_in steps ++ earlier) c1.table.next.0 B g (work_of c1 g)) (none : (work_of c1 g).command ≡ None) (cid : cid_of (state_in B commands) ≡ next_cid (work_of c1 g))
-    (past : Past c1 (marks_in steps ++ earlier)) where
+    (past : Past c1 (marks_in steps ++ earlier))
+    (roots : (m : Command) (v : Work) (ns : List Mark) → m.stmt ≡ line → m.cid ≡ next_cid (work_of c1 g) → v.last ≡ (work_of c1 g).last + 1 → v.command ≡ Some m → Roots script s ((marks_in steps ++ earlier) ++ ns) B pending.Command x.lines g v) where
   abbrev w : Work
   w = work_of c1 g
 
@@ -258,7 +262,7 @@ module _ (script : Script) (steps : List Step) (c c1 : Coord) (s : SessionId) (g
 
   abbrev sent-work : Reading → List Piece → Work → Work
   sent-work r pieces v =
-      record v { last = w.last + 1; command = Some (record { stmt = line; cid = next_cid w; orders = Rattle.gx_rules.specs.AtCoordinator.orders_of g (next_cid w) v.level r.snapshot (Rattle.gx_dtx.specs.Table.horizon_of r.coord.table) pieces; awaited = Rattle.gx_rules.specs.AtCoordinator.nodes_in pieces; count = 0; parts = [] }) }
+      record v { last = w.last + 1; command = Some (record { stmt = line; cid = next_cid w; orders = orders_of g (next_cid w) v.level r.snapshot (horizon_of r.coord.table) pieces; awaited = nodes_in pieces; count = 0; parts = [] }) }
 
   sent-owns : (r : Reading) (pieces : List Piece) (R : Reads r) → Owns s commands (marks_in steps ++ (earlier ++ r.marks)) (goes_out g (next_cid w) line pieces r).coord.table.next.0 B g (sent-work r pieces R.w2)
   sent-owns r pieces R =
@@ -266,7 +270,7 @@ module _ (script : Script) (steps : List Step) (c c1 : Coord) (s : SessionId) (g
         home = R.home ∙ o.home;
         started = (at-reading r R).said.started;
         level = R.level ∙ owns.level;
-        drawn = subst (λ i. g.0 < i) (sym (ap (λ (i : Gxid). i.0) (enlisted-next (Rattle.gx_rules.specs.AtCoordinator.nodes_in pieces) r.coord.table g ∙ R.next))) o.drawn;
+        drawn = subst (λ i. g.0 < i) (sym (ap (λ (i : Gxid). i.0) (enlisted-next (nodes_in pieces) r.coord.table g ∙ R.next))) o.drawn;
         running = running-there r R;
         counted = λ h. one-more commands w.last (sym (ap (λ q. commands + under_way q) none) ∙ owns.counted h);
         unsnapped = λ d l. subst (λ m. is_snapped m g d ≡ false) (append_assoc (marks_in steps) earlier r.marks) (snapped-more ms r.marks g d (owns.unsnapped d (below w.last d.0 l)) (R.unread d l));
@@ -279,8 +283,48 @@ module _ (script : Script) (steps : List Step) (c c1 : Coord) (s : SessionId) (g
       below : (a d : ℕ) → a + 1 < d → a < d
       below a d l = omega arith
 
-  out-does : (pieces : List Piece) (r : Reading) → Reads r → Does script steps c (event.Start s) (behind earlier (goes_out g (next_cid w) line pieces r))
-  out-does pieces r R =
+  -- each piece is an order
+  sent-command : Reading → List Piece → Work → Command
+  sent-command r pieces v = record { stmt = line; cid = next_cid w; orders = orders_of g (next_cid w) v.level r.snapshot (horizon_of r.coord.table) pieces; awaited = nodes_in pieces; count = 0; parts = [] }
+
+  sent-roots : (r : Reading) (pieces : List Piece) (R : Reads r) → Roots script s (marks_in steps ++ (earlier ++ r.marks)) B pending.Command x.lines g (sent-work r pieces R.w2)
+  unfolding sent-command
+  sent-roots r pieces R =
+      subst (λ m. Roots script s m B pending.Command x.lines g (sent-work r pieces R.w2)) (append_assoc (marks_in steps) earlier r.marks)
+      (roots (sent-command r pieces R.w2) (sent-work r pieces R.w2) r.marks refl refl refl refl)
+
+  out-orders : (all : List Piece) (r : Reading) (R : Reads r) (v : Work) → v.level ≡ w.level → plan_of script.segments (dist_of script.tables (table_of line)) g (next_cid w) line ≡ Ok all → (pieces : List Piece) → Each (Contains all) pieces → Each (OutIs script (marks_in steps ++ (earlier ++ r.marks))) (orders_of g (next_cid w) v.level r.snapshot (horizon_of r.coord.table) pieces)
+  out-orders all r R v lev plan [] e = tt
+  out-orders all r R v lev plan (q ∷ qs) e = (
+    λ n. record {
+      line = line;
+      of = ap (λ o. command_at script o (w.last + 1)) z.began ∙ z.now n (sent-command-of r all) refl;
+      level_is = lev ∙ owns.level ∙ roots-level script s (marks_in steps ++ (earlier ++ r.marks)) B x.lines g (sent-work r all R.w2) line commands z (ap (λ i. stmt_of s i script.lines) o.lines ∙ o.at.is_line) cmd;
+      counted = one-more w.last;
+      pieces = all;
+      plan = plan;
+      among = e.0;
+      read = subst (λ l. IsReadBy (marks_in steps ++ (earlier ++ r.marks)) l g (next_cid w) line r.snapshot) (sym lev) R.by;
+    },
+    out-orders all r R v lev plan qs e.1,
+  )
+    where
+      one-more : (a : ℕ) → 1 ≤ a + 1
+      one-more a = omega arith
+
+      z : Roots script s (marks_in steps ++ (earlier ++ r.marks)) B pending.Command x.lines g (sent-work r all R.w2)
+      z = sent-roots r all R
+
+      sent-command-of : Reading → List Piece → Command
+      sent-command-of r all = record { stmt = line; cid = next_cid w; orders = orders_of g (next_cid w) R.w2.level r.snapshot (horizon_of r.coord.table) all; awaited = nodes_in all; count = 0; parts = [] }
+
+  each-contained : (xs ys : List Piece) → Each (Contains (xs ++ ys)) ys
+  each-contained xs [] = tt
+  each-contained xs (y ∷ ys) =
+      (Contains-append_right xs (y ∷ ys) y (Contains-append_left (y ∷ []) ys y (Contains-push [] y)), subst (λ m. Each (Contains m) ys) (append_assoc xs (y ∷ []) ys) (each-contained (xs ++ y ∷ []) ys))
+
+  out-does : (pieces : List Piece) (r : Reading) → Reads r → plan_of script.segments (dist_of script.tables (table_of line)) g (next_cid w) line ≡ Ok pieces → Does script steps c (event.Start s) (behind earlier (goes_out g (next_cid w) line pieces r))
+  out-does pieces r R plan =
       record {
         s = s.0;
         g = g.0;
@@ -295,13 +339,21 @@ module _ (script : Script) (steps : List Step) (c c1 : Coord) (s : SessionId) (g
         starts = o.at.starts ∙ sym o.lines;
         stands = inl (o.ends, at_x (subst (λ v. Stands script s (marks_in steps ++ (earlier ++ r.marks)) late.coord.table.next.0 B pending.Command x.lines g v) (sym work-now) there));
         legal = λ later. marks-append (Given script) steps (event.Start s) [] earlier r.marks later (o.legal (r.marks ++ later)) (R.legal later);
+        outs = sent_orders;
+        orders = λ h. subst (CommandIs script (marks_in steps ++ (earlier ++ r.marks))) (sym command-now) sent_orders;
       }
     where
+      sent_orders : Each (OutIs script (marks_in steps ++ (earlier ++ r.marks))) (orders_of g (next_cid w) (work_of r.coord g).level r.snapshot (horizon_of r.coord.table) pieces)
+      sent_orders = out-orders pieces r R (work_of r.coord g) (ap (λ (v : Work). v.level) R.work ∙ R.level) plan pieces (each-contained [] pieces)
+
+      command-now : ((goes_out g (next_cid w) line pieces r).coord.works g.0).command ≡ Some (record { stmt = line; cid = next_cid w; orders = orders_of g (next_cid w) (work_of r.coord g).level r.snapshot (horizon_of r.coord.table) pieces; awaited = nodes_in pieces; count = 0; parts = [] })
+      command-now = ap (λ (v : Work). v.command) (ap (λ q. if q then sent-work r pieces (work_of r.coord g) else r.coord.works g.0) (self-test g.0))
+
       late : Rattle.gx_rules.specs.Coordinators.CoordTurn
       late = goes_out g (next_cid w) line pieces r
 
       next-is : late.coord.table.next ≡ c1.table.next
-      next-is = enlisted-next (Rattle.gx_rules.specs.AtCoordinator.nodes_in pieces) r.coord.table g ∙ R.next
+      next-is = enlisted-next (nodes_in pieces) r.coord.table g ∙ R.next
 
       work-now : late.coord.works g.0 ≡ sent-work r pieces R.w2
       work-now = ap (λ q. if q then sent-work r pieces (work_of r.coord g) else r.coord.works g.0) (self-test g.0) ∙ ap (sent-work r pieces) R.work
@@ -319,7 +371,7 @@ module _ (script : Script) (steps : List Step) (c c1 : Coord) (s : SessionId) (g
             state = (at-reading r R).said.state;
             begun = (at-reading r R).said.begun;
             sound = sounds B busy;
-            owns = λ h. (sent-owns r pieces R, (_, refl, ap (λ i. stmt_of s i script.lines) o.lines ∙ o.at.is_line, cmd, sym cid));
+            owns = λ h. (sent-owns r pieces R, (_, refl, ap (λ i. stmt_of s i script.lines) o.lines ∙ o.at.is_line, cmd, sym cid), sent-roots r pieces R);
           }
 
       at_x : Stands script s (marks_in steps ++ (earlier ++ r.marks)) late.coord.table.next.0 B pending.Command x.lines g (late.coord.works g.0) → Stands script s (marks_in steps ++ (earlier ++ r.marks)) late.coord.table.next.0 x.state.block x.state.pending x.lines x.transaction (late.coord.works x.transaction.0)
@@ -402,7 +454,7 @@ module _ (script : Script) (steps : List Step) (c c1 : Coord) (s : SessionId) (g
         (each_append (IsOf s.0 g.0) r.marks (noted ∷ []) R.of (tt, tt)) (each_append (CalmFor s) r.marks (noted ∷ []) R.calm (tt, tt))
         (subst (λ m. is_ended m g ≡ false) (append_assoc (marks_in steps) (earlier ++ r.marks) (noted ∷ []) ∙ ap (λ m. marks_in steps ++ m) (append_assoc earlier r.marks (noted ∷ []))) (ended-more seam (noted ∷ []) g (running-there r R) refl))
         (λ later. marks-append (Given script) steps (event.Start s) earlier r.marks (noted ∷ []) later (R.legal _) (λ q. live-fault later, tt))
-        (λ later q. cause later)
+        (λ later q. cause later) (λ marks. abort-plain script marks r.coord.table g)
       where
         not-busy : (q : Block) → is_busy (block_after_refusal q pending.Command) pending.Nothing ≡ false
         not-busy block.Outside = refl
@@ -415,7 +467,7 @@ module _ (script : Script) (steps : List Step) (c c1 : Coord) (s : SessionId) (g
         after block.Failed h e = absurd (differ h)
 
   goes-does : (r : Reading) → Reads r → (plan : Result (List Piece) ArithFault) → plan_of script.segments (dist_of script.tables (table_of line)) g (next_cid w) line ≡ plan → Does script steps c (event.Start s) (behind earlier (goes g (next_cid w) line r plan))
-  goes-does r R (Ok pieces) e = out-does pieces r R
+  goes-does r R (Ok pieces) e = out-does pieces r R e
   goes-does r R (Err fault) e = by_insert (plan-faults script.segments (dist_of script.tables (table_of line)) g (next_cid w) line fault e)
     where
       by_insert : ((table : Rattle.gx_ids.specs.declared.ids.Table.Table) × ((tuples : List (List Expr)) × (line ≡ stmt.Insert table tuples) × (rows_of g (next_cid w) tuples ≡ Err fault))) → Does script steps c (event.Start s) (behind earlier (goes g (next_cid w) line r (Err fault)))

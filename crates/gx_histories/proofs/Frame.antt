@@ -17,9 +17,11 @@ use Rattle.gx_store.specs.Points.{ends_by, ends_in, marks_in, starts_by, starts_
 use Rattle.gx_rules.specs.Coordinators.{Coord, CoordTurn, Session, Work, session_of, work_of}
 use Rattle.gx_laws.proofs.Lists.{Each}
 use Rattle.gx_histories.specs.Rest.{EachMark}
-use Rattle.gx_histories.specs.Standing.{IsLineOf, IsOver, IsSession, IsStanding, Owns, Stands, is_busy, waits}
+use Rattle.gx_histories.specs.Standing.{IsLineOf, IsOver, IsSession, IsStanding, Owns, Roots, Stands, is_busy, waits}
 use Rattle.gx_histories.proofs.Ends.{Fresh, IsOf, ended-more, keeps-snapshot, of-calm, of-ended, of-snapshot, snapped-more, unsnapped}
 use Rattle.gx_histories.proofs.Given.{Given}
+use Rattle.gx_histories.proofs.Outs.{CommandIs, OutIs}
+use Rattle.gx_histories.proofs.Roots.{roots-more}
 use Rattle.gx_histories.proofs.Said.{CalmFor, Said, said-calm}
 
 abbrev pub sid : ℕ → SessionId
@@ -51,7 +53,8 @@ stands-by script k ms ns next later b p lines g w v s calm l busy =
       state = said.state ∙ s.state;
       begun = said.begun ∙ s.begun;
       sound = s.sound;
-      owns = λ h. subst (λ q. Owns k s.commands (ms ++ ns) later b g q × IsLineOf script k lines b s.commands q p) (sym (busy h).0) (owns-more script k s.commands ms ns next later b g w (s.owns h).0 l said.started (busy h).1 (busy h).2, (s.owns h).1);
+      owns = λ h. subst (λ q. Owns k s.commands (ms ++ ns) later b g q × IsLineOf script k lines b s.commands q p × Roots script k (ms ++ ns) b p lines g q) (sym (busy h).0)
+          (owns-more script k s.commands ms ns next later b g w (s.owns h).0 l said.started (busy h).1 (busy h).2, (s.owns h).1, roots-more script k ms ns b p lines g w (s.owns h).2);
     }
   where
     said : Said script k (ms ++ ns) (answer_count k ms) (state_of script k ms) (is_begun k ms) (started_after k None ms)
@@ -82,21 +85,24 @@ pub record Does (script : Script) (steps : List Step) (c : Coord) (e : Event) (t
   pub starts : starts_in (sid s) steps + starts_by (sid s) e ≡ x.lines
   pub stands : IsStanding script (sid s) (marks_in steps ++ turn.marks) turn.coord.table.next.0 x.state.block x.state.pending x.lines x.transaction (turn.coord.works x.transaction.0) (ends_in (sid s) steps + ends_by (sid s) e)
   pub legal : (later : List Mark) → EachMark (Given script) steps e [] turn.marks later
+  pub outs : Each (OutIs script (marks_in steps ++ turn.marks)) turn.outs
+  pub orders : CommandIs script (marks_in steps ++ turn.marks) (c.works g).command → CommandIs script (marks_in steps ++ turn.marks) (turn.coord.works g).command
 
 -- AN EVENT OF NO SESSION
 abbrev pub Quiet : Mark → Type 0
 Quiet (mark.Decided g) = Unit {0}
 Quiet _ = ⊥
 
-pub record Rests (c : Coord) (e : Event) (turn : CoordTurn) : Type 0 where
+pub record Rests (script : Script) (steps : List Step) (c : Coord) (e : Event) (turn : CoordTurn) : Type 0 where
   pub sessions : (j : ℕ) → turn.coord.sessions j ≡ c.sessions j
   pub works : (j : ℕ) → turn.coord.works j ≡ c.works j
   pub next : turn.coord.table.next.0 ≡ c.table.next.0
   pub quiet : Each Quiet turn.marks
   pub alone : (k : SessionId) → (starts_by k e ≡ 0) × (ends_by k e ≡ 0)
+  pub outs : ((j : ℕ) → CommandIs script (marks_in steps ++ turn.marks) (c.works j).command) → Each (OutIs script (marks_in steps ++ turn.marks)) turn.outs
 
 abbrev pub Effect : Script → List Step → Coord → Event → CoordTurn → Type 0
-Effect script steps c e turn = Does script steps c e turn ⊎ Rests c e turn
+Effect script steps c e turn = Does script steps c e turn ⊎ Rests script steps c e turn
 
 pub quiet-calm : (k : SessionId) (ms : List Mark) → Each Quiet ms → Each (CalmFor k) ms
 quiet-calm k [] e = tt

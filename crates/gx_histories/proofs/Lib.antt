@@ -3,15 +3,16 @@ pub mod AtLine
 pub mod Answers
 pub mod Given
 pub mod Ends
+pub mod Faults
+pub mod Roots
+pub mod Outs
 pub mod Frame
 pub mod After
 pub mod Under
-pub mod Faults
 pub mod Dispatch
 pub mod Lines
 pub mod Closed
 pub mod Busy
-
 pub mod Replies
 pub mod Closings
 pub mod Notes

@@ -41,7 +41,7 @@ use Rattle.gx_store.specs.declared.event.Event.TheVariants as event
 use Rattle.gx_store.specs.declared.mark.Mark.{Mark}
 use Rattle.gx_store.specs.declared.mark.Mark.TheVariants as mark
 use Rattle.gx_store.specs.declared.run.Step.{Step}
-use Rattle.gx_store.specs.Lines.{BlockState, Outside, InBlock, Failed, cid_of, is_command, level_of, state_after, stmt_of}
+use Rattle.gx_store.specs.Lines.{BlockState, Outside, InBlock, Failed, cid_of, command_at, is_command, level_of, state_after, stmt_of}
 use Rattle.gx_store.specs.Marks.{answer_count, is_ended}
 use Rattle.gx_store.specs.Messages.{Receives}
 use Rattle.gx_store.specs.Points.{Point, ends_in, marks_in, starts_in}
@@ -60,6 +60,7 @@ use Rattle.gx_histories.proofs.Answers.{command-refusable, done-outside, refused
 use Rattle.gx_histories.proofs.AtLine.{at-calm, runs-command}
 use Rattle.gx_histories.proofs.Busy.{Busy, Likewise, alone-commit, block-answer, block-commit, busy-under, goes-on}
 use Rattle.gx_histories.proofs.Frame.{Does, Effect, Rests}
+use Rattle.gx_histories.proofs.Outs.{CommandIs, OutIs, abort-plain, commit-plain}
 use Rattle.gx_histories.proofs.Under.{Under, refuse-does}
 
 differ : false ≡ true → ⊥
@@ -208,10 +209,12 @@ module _ (script : Script) (steps : List Step) (c : Coord) (k : Kept c) (all : (
 
       likewise : (B : Block) (z : Works B m) → Likewise script steps c from to number g B pending.Command m.stmt z.is_busy_so w1
       likewise B z =
-          record { session = refl; level = refl; last = refl; snapshot = refl; under = sym (ap under_way has_it); its_line = (done, refl, z.is_busy_so.line_is, z.command, z.counted) }
+          record { session = refl; level = refl; last = refl; snapshot = refl; under = sym (ap under_way has_it); now_too = λ first h o f. subst (λ (v : Command). command_at script (Some (s, first)) v.cid.0 ≡ Some v.stmt) (some-same done o f) (h m has_it); its_line = (done, refl, z.is_busy_so.line_is, z.command, z.counted) }
 
-      on : (B : Block) → Works B m → (turn : CoordTurn) → turn.marks ≡ [] → turn.coord.works g.0 ≡ w1 → ((j : ℕ) → eqb j g.0 ≡ false → turn.coord.works j ≡ c.works j) → ((j : ℕ) → turn.coord.sessions j ≡ c.sessions j) → turn.coord.table.next.0 ≡ c.table.next.0 → Does script steps c e turn
-      on B z turn a b d f h = goes-on script steps c from to number g B pending.Command m.stmt z.is_busy_so turn w1 (likewise B z) a b d f h
+      on : (B : Block) → Works B m → (turn : CoordTurn) → turn.marks ≡ [] → turn.coord.works g.0 ≡ w1 → ((j : ℕ) → eqb j g.0 ≡ false → turn.coord.works j ≡ c.works j) → ((j : ℕ) → turn.coord.sessions j ≡ c.sessions j) → turn.coord.table.next.0 ≡ c.table.next.0 → Each (OutIs script (ms ++ turn.marks)) turn.outs → Does script steps c e turn
+      on B z turn a b d f h outs =
+          goes-on script steps c from to number g B pending.Command m.stmt z.is_busy_so turn w1 (likewise B z) a b d f h outs
+          (λ o. subst (CommandIs script (ms ++ turn.marks)) (sym (ap (λ (v : Work). v.command) b)) (subst (CommandIs script (ms ++ turn.marks)) has_it o))
 
       under : (B : Block) (z : Works B m) → Under script steps c e c1 s g w1 y (answer_count s ms) (state_in B z.is_busy_so.stands.commands) (is_alone B pending.Command) m.stmt []
       under B z = busy-under script steps c from to number g B pending.Command m.stmt z.is_busy_so c1 w1 work-now refl other-works (λ j. refl) refl
@@ -226,8 +229,8 @@ module _ (script : Script) (steps : List Step) (c : Coord) (k : Kept c) (all : (
           t = commit-turns c.table g.0 (work_of c1 g).writers k.whole runs-it.0
 
           by_outcome : (o : Outcome) → Closes (stage t.now) o → Does script steps c e (follows c1 g (on_commit c1.table g (work_of c1 g).writers) o)
-          by_outcome outcome.Pending h = on block.Outside z _ refl work-now other-works (λ j. refl) refl
-          by_outcome outcome.Committed h = alone-commit script steps c from to number g block.Outside pending.Command m.stmt z.is_busy_so c1 w1 done turn (under block.Outside z) refl refl refl refl z.command refl
+          by_outcome outcome.Pending h = on block.Outside z _ refl work-now other-works (λ j. refl) refl (commit-plain script (ms ++ []) c1.table g (work_of c1 g).writers)
+          by_outcome outcome.Committed h = alone-commit script steps c from to number g block.Outside pending.Command m.stmt z.is_busy_so c1 w1 done turn (under block.Outside z) refl refl refl refl z.command refl (λ marks. commit-plain script marks c1.table g (work_of c1 g).writers)
           by_outcome outcome.Decided h = absurd h
           by_outcome (outcome.Refused j) h = absurd h
           by_outcome outcome.Ended h = absurd h
@@ -241,8 +244,8 @@ module _ (script : Script) (steps : List Step) (c : Coord) (k : Kept c) (all : (
       by_block block.Failed eb = absurd (not-failed eb)
 
       waits-on : (B : Block) → y.state.block ≡ B → Does script steps c e (rests c1)
-      waits-on block.Outside eb = on block.Outside (works-in block.Outside eb refl) (rests c1) refl work-now other-works (λ j. refl) refl
-      waits-on (block.Open l) eb = on (block.Open l) (works-in (block.Open l) eb refl) (rests c1) refl work-now other-works (λ j. refl) refl
+      waits-on block.Outside eb = on block.Outside (works-in block.Outside eb refl) (rests c1) refl work-now other-works (λ j. refl) refl tt
+      waits-on (block.Open l) eb = on (block.Open l) (works-in (block.Open l) eb refl) (rests c1) refl work-now other-works (λ j. refl) refl tt
       waits-on block.Failed eb = absurd (not-failed eb)
 
       by_left : (left : List Node) → Does script steps c e (goes_on c1 g left)
@@ -257,7 +260,7 @@ module _ (script : Script) (steps : List Step) (c : Coord) (k : Kept c) (all : (
       refuses-in : (B : Block) → is_busy B pending.Command ≡ true → Works B m → Does script steps c e (is_refused c g (on_abort c.table g) [] (reason_of why))
       refuses-in B busy z =
           refuse-does script steps c e c s g (work_of c g) y (answer_count s ms) b (is_alone B pending.Command) m.stmt [] under0 (on_abort c.table g) [] (reason_of why) (block_after_refusal B pending.Command) refl (command-refusable b m.stmt z.command)
-          (ap (λ q. block_after_refusal q y.state.pending) z.is_busy_so.in_block ∙ ap (block_after_refusal B) z.is_busy_so.in_line) (idle B) (after B busy z.command) tt tt under0.running (λ later. tt) (λ later rest. by_cause why refl (told-so later rest))
+          (ap (λ q. block_after_refusal q y.state.pending) z.is_busy_so.in_block ∙ ap (block_after_refusal B) z.is_busy_so.in_line) (idle B) (after B busy z.command) tt tt under0.running (λ later. tt) (λ later rest. by_cause why refl (told-so later rest)) (λ marks. abort-plain script marks c.table g)
         where
           b : BlockState
           b = state_in B z.is_busy_so.stands.commands

@@ -38,6 +38,7 @@ use Rattle.gx_histories.proofs.AtLine.{AtLine, answered-now, at-calm, has_txn, l
 use Rattle.gx_histories.proofs.Ends.{Fresh, IsOf, of-fresh}
 use Rattle.gx_histories.proofs.Frame.{Does, sid}
 use Rattle.gx_histories.proofs.Given.{Given, marks-append}
+use Rattle.gx_histories.proofs.Outs.{CommandIs, OutIs}
 use Rattle.gx_histories.proofs.Said.{CalmFor, Said}
 
 -- the coordinator stands at c1, with these marks of the step so far: the line of session s is under way in transaction g
@@ -112,8 +113,8 @@ module _ (script : Script) (steps : List Step) (c : Coord) (e : Event) (c1 : Coo
 
   -- the session's line is answered by marks that stand behind the others, and nothing is known of its transaction any more
   pub closed-does : (turn : CoordTurn) (y : Session) (B : Block) → ((j : ℕ) → turn.coord.sessions j ≡ (if eqb j s.0 then y else c.sessions j)) → ((j : ℕ) → eqb j g.0 ≡ false → turn.coord.works j ≡ c.works j) → turn.coord.table.next.0 ≡ c1.table.next.0 → y.state.block ≡ B → y.state.pending ≡ pending.Nothing → y.lines ≡ n + 1 → is_busy B pending.Nothing ≡ false
-      → Each (IsOf s.0 g.0) turn.marks → ((later : List Mark) → EachMark (Given script) steps e earlier turn.marks later) → Said script s (marks_in steps ++ (earlier ++ turn.marks)) (n + 1) (state_in B 0) false (Some g) → Does script steps c e (behind earlier turn)
-  closed-does turn y B sessions works next yb yp yl idle of legal said =
+      → Each (IsOf s.0 g.0) turn.marks → ((later : List Mark) → EachMark (Given script) steps e earlier turn.marks later) → Said script s (marks_in steps ++ (earlier ++ turn.marks)) (n + 1) (state_in B 0) false (Some g) → Each (OutIs script (marks_in steps ++ (earlier ++ turn.marks))) turn.outs → (turn.coord.works g.0).command ≡ None → Does script steps c e (behind earlier turn)
+  closed-does turn y B sessions works next yb yp yl idle of legal said outs none =
       record {
         s = s.0;
         g = g.0;
@@ -130,6 +131,8 @@ module _ (script : Script) (steps : List Step) (c : Coord) (e : Event) (c1 : Coo
             (subst (λ q. Stands script s (marks_in steps ++ (earlier ++ turn.marks)) turn.coord.table.next.0 B q y.lines y.transaction (turn.coord.works y.transaction.0)) (sym yp)
             (stands-closed script s (marks_in steps ++ (earlier ++ turn.marks)) turn.coord.table.next.0 B y.lines (n + 1) y.transaction (turn.coord.works y.transaction.0) (Some g) idle yl said)));
         legal = λ later. marks-append (Given script) steps e [] earlier turn.marks later (o.legal (turn.marks ++ later)) (legal later);
+        outs = outs;
+        orders = λ h. subst (CommandIs script (marks_in steps ++ (earlier ++ turn.marks))) (sym none) tt;
       }
 
   session-set : (f : Session → Session) (j : ℕ) → with_at c1.sessions (work_of c1 g).session.0 (f (session_of c1 (work_of c1 g).session)) j ≡ (if eqb j s.0 then f x else c.sessions j)
@@ -143,14 +146,17 @@ module _ (script : Script) (steps : List Step) (c : Coord) (e : Event) (c1 : Coo
   works-set : (v : Work) (j : ℕ) → eqb j g.0 ≡ false → with_at c1.works g.0 v j ≡ c.works j
   works-set v j h = ap (λ q. if q then v else c1.works j) h ∙ o.works j h
 
+  reset-none : (v : Work) → v.command ≡ None → (with_at c1.works g.0 v g.0).command ≡ None
+  reset-none v h = ap (λ (z : Work). z.command) (ap (λ q. if q then v else c1.works g.0) (self-test g.0)) ∙ h
+
   -- COMMITS
   pub commit-does : (turn : Turn) → turn.table.next.0 ≡ c1.table.next.0 → may_commit b line ≡ true → (after_done x.state).block ≡ block.Outside → state_after b line (answer_at_commit (work_of c1 g) (session_of c1 (work_of c1 g).session).state.pending) ≡ Outside
       → ((later : List Mark) → RestAnswer script (record { steps = steps; event = e; earlier = earlier ++ mark.Commit g ∷ []; later = later }) s (answer_at_commit (work_of c1 g) (session_of c1 (work_of c1 g).session).state.pending) → IsAnswer script (record { steps = steps; event = e; earlier = earlier ++ mark.Commit g ∷ []; later = later }) s b line (answer_at_commit (work_of c1 g) (session_of c1 (work_of c1 g).session).state.pending))
-      → Does script steps c e (behind earlier (is_committed c1 g turn))
-  commit-does turn next may closed after told =
+      → ((marks : List Mark) → Each (OutIs script marks) turn.out.outs) → Does script steps c e (behind earlier (is_committed c1 g turn))
+  commit-does turn next may closed after told outs =
       closed-does (is_committed c1 g turn) (record x { state = after_done x.state }) block.Outside (session-set (λ z. record z { state = after_done z.state })) (works-set no_work) next closed refl o.lines refl
       (refl, (ap (λ (i : SessionId). i.0) home-is, tt)) legal
-      (subst (λ i. Said script s (marks_in steps ++ (earlier ++ mark.Commit g ∷ mark.Answer i (session_of c1 i).lines r ∷ [])) (n + 1) Outside false (Some g)) (sym home-is) said)
+      (subst (λ i. Said script s (marks_in steps ++ (earlier ++ mark.Commit g ∷ mark.Answer i (session_of c1 i).lines r ∷ [])) (n + 1) Outside false (Some g)) (sym home-is) said) (outs _) (reset-none no_work refl)
     where
       r : StmtAnswer
       r = answer_at_commit (work_of c1 g) (session_of c1 (work_of c1 g).session).state.pending
@@ -177,11 +183,11 @@ module _ (script : Script) (steps : List Step) (c : Coord) (e : Event) (c1 : Coo
   pub refuse-does : (turn : Turn) (why : List Mark) (reason : Refused) (B : Block) → turn.table.next.0 ≡ c1.table.next.0 → is_refusable b line ≡ true → (after_refused x.state).block ≡ B → is_busy B pending.Nothing ≡ false → state_after b line (told.Refused reason) ≡ state_in B 0 → Each (IsOf s.0 g.0) why → Each (CalmFor s) why → is_ended (marks_in steps ++ (earlier ++ why)) g ≡ false
       → ((later : List Mark) → EachMark (Given script) steps e earlier why later)
       → ((later : List Mark) → RestAnswer script (record { steps = steps; event = e; earlier = (earlier ++ why) ++ mark.Abort g ∷ []; later = later }) s (told.Refused reason) → IsCause (record { steps = steps; event = e; earlier = (earlier ++ why) ++ mark.Abort g ∷ []; later = later }) line (level_of b) g (cid_of b) reason)
-      → Does script steps c e (behind earlier (is_refused c1 g turn why reason))
-  refuse-does turn why reason B next may closed idle after of calm running first cause =
+      → ((marks : List Mark) → Each (OutIs script marks) turn.out.outs) → Does script steps c e (behind earlier (is_refused c1 g turn why reason))
+  refuse-does turn why reason B next may closed idle after of calm running first cause outs =
       closed-does (is_refused c1 g turn why reason) (record x { state = after_refused x.state }) B (session-set (λ z. record z { state = after_refused z.state })) (works-set no_work) next closed refl o.lines idle
       (each_append (IsOf s.0 g.0) why _ of (refl, (ap (λ (i : SessionId). i.0) home-is, tt))) legal
-      (subst (λ i. Said script s (marks_in steps ++ (earlier ++ (why ++ mark.Abort g ∷ mark.Answer i (session_of c1 i).lines r ∷ []))) (n + 1) (state_in B 0) false (Some g)) (sym home-is) said)
+      (subst (λ i. Said script s (marks_in steps ++ (earlier ++ (why ++ mark.Abort g ∷ mark.Answer i (session_of c1 i).lines r ∷ []))) (n + 1) (state_in B 0) false (Some g)) (sym home-is) said) (outs _) (reset-none no_work refl)
     where
       r : StmtAnswer
       r = told.Refused reason

@@ -1,3 +1,3 @@
+pub mod Orders
 pub mod Standing
 pub mod Rest
-pub mod Orders

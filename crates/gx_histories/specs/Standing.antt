@@ -1,5 +1,5 @@
 -- Where each session stands at the coordinator, by the marks of a run.
-use Rattle.std.specs.Prelude.{◌≡◌, ◌⊎◌, ℕ, ◌+◌, ◌<◌, Bool, true, false, List, slice_get, Some, None}
+use Rattle.std.specs.Prelude.{◌≡◌, ◌⊎◌, ℕ, ◌+◌, ◌<◌, ◌≤◌, Bool, true, false, List, [], slice_get, Some, None}
 use Rattle.std.specs.declared.option.Option.{Option}
 use Rattle.gx_ids.specs.declared.ids.Cid.{Cid}
 use Rattle.gx_ids.specs.declared.ids.Gxid.{Gxid}
@@ -16,11 +16,12 @@ use Rattle.gx_session.specs.declared.state.Pending.TheVariants as pending
 use Rattle.gx_store.specs.declared.mark.Mark.{Mark}
 use Rattle.gx_store.specs.declared.mark.Mark.TheVariants as mark
 use Rattle.gx_store.specs.declared.run.Step.{Step}
-use Rattle.gx_store.specs.Lines.{BlockState, Outside, InBlock, Failed, cid_of, is_command, state_of, stmt_of}
+use Rattle.gx_store.specs.Lines.{BlockState, Outside, InBlock, Failed, began_from, cid_of, command_at, is_command, nth_command, state_of, stmt_of}
 use Rattle.gx_store.specs.Marks.{answer_count, has_snapshot, is_begun, is_ended, is_snapped, started_after}
 use Rattle.gx_store.specs.Points.{ends_in, marks_in, starts_in}
 use Rattle.gx_rules.specs.Coordinators.{Command, Coord, Work, session_of, work_of}
 use Rattle.gx_rules.specs.Machine.{World}
+use Rattle.gx_histories.specs.Orders.{AreLinesNumbered}
 
 -- the block of a session after so many of its commands
 abbrev pub state_in : Block → ℕ → BlockState
@@ -93,6 +94,31 @@ pub record Owns (k : SessionId) (commands : ℕ) (marks : List Mark) (next : ℕ
   pub unsnapped : (c : Cid) → w.last < c.0 → is_snapped marks g c ≡ false
   pub snapshot : HasSnapshot w.level marks g w.snapshot
 
+-- the line of this number began the transaction: BEGIN, or the line under way
+abbrev pub IsFirst : Script → SessionId → ℕ → Block → ℕ → Type 0
+IsFirst script k lines (block.Open level) first = stmt_of k first script.lines ≡ Some (stmt.Begin level)
+IsFirst script k lines _ first = first ≡ lines
+
+-- the commands of the block behind its last are those of the lines that weren't started
+abbrev pub AreLeft : Script → SessionId → ℕ → Work → Block → Pending → ℕ → Type 0
+AreLeft script k lines w block.Outside p first = Unit {0}
+AreLeft script k lines w block.Failed p first = Unit {0}
+AreLeft script k lines w (block.Open level) pending.Commit first = Unit {0}
+AreLeft script k lines w (block.Open level) p first = (c : ℕ) → 1 ≤ c → nth_command k (first + 1) (w.last + c) script.lines ≡ nth_command k (lines + 1) c script.lines
+
+-- the command under way is the transaction's command of its number
+abbrev pub IsNow : Script → SessionId → Work → Pending → ℕ → Type 0
+IsNow script k w pending.Command first = (m : Command) → w.command ≡ Some m → command_at script (Some (k, first)) m.cid.0 ≡ Some m.stmt
+IsNow script k w _ first = Unit {0}
+
+-- where the transaction began, and which of its commands are left, if the script's lines are numbered
+pub record Roots (script : Script) (k : SessionId) (marks : List Mark) (b : Block) (p : Pending) (lines : ℕ) (g : Gxid) (w : Work) : Type 0 where
+  pub first : ℕ
+  pub began : began_from [] marks g ≡ Some (k, first)
+  pub opening : IsFirst script k lines b first
+  pub left : AreLinesNumbered [] script.lines → AreLeft script k lines w b p first
+  pub now : AreLinesNumbered [] script.lines → IsNow script k w p first
+
 -- A session that isn't over, in this block and with this pending: so many of its lines were started, and so many of its
 -- block's commands were answered.
 pub record Stands (script : Script) (k : SessionId) (marks : List Mark) (next : ℕ) (b : Block) (p : Pending) (lines : ℕ) (g : Gxid) (w : Work) : Type 0 where
@@ -101,7 +127,7 @@ pub record Stands (script : Script) (k : SessionId) (marks : List Mark) (next : 
   pub state : state_of script k marks ≡ state_in b commands
   pub begun : is_begun k marks ≡ is_alone b p
   pub sound : is_sound b p ≡ true
-  pub owns : is_busy b p ≡ true → Owns k commands marks next b g w × IsLineOf script k lines b commands w p
+  pub owns : is_busy b p ≡ true → Owns k commands marks next b g w × IsLineOf script k lines b commands w p × Roots script k marks b p lines g w
 
 -- a session that was ended in its block
 pub record IsOver (script : Script) (k : SessionId) (marks : List Mark) (b : Block) (p : Pending) (lines : ℕ) : Type 0 where
