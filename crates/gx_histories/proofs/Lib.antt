@@ -6,6 +6,7 @@ pub mod Ends
 pub mod Faults
 pub mod Roots
 pub mod Outs
+pub mod Gathers
 pub mod Frame
 pub mod After
 pub mod Under

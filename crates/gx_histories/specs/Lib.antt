@@ -1,3 +1,4 @@
 pub mod Orders
 pub mod Standing
+pub mod Gathering
 pub mod Rest
