@@ -34,12 +34,14 @@ use Rattle.gx_rules.specs.Coordinators.{Command, Coord, CoordTurn, Session, Work
 use Rattle.gx_rules.specs.Maps.{with_at}
 use Rattle.gx_laws.proofs.Lists.{Each}
 use Rattle.gx_laws.proofs.Turns.{self-test}
+use Rattle.gx_histories.specs.Gathering.{IsGathered}
 use Rattle.gx_histories.specs.Rest.{EachMark, RestAnswer}
 use Rattle.gx_histories.specs.Standing.{IsLineOf, IsNow, IsSession, Owns, Roots, Stands, is_alone, is_busy, is_open, is_sound, level_in, state_in, under_way, waits}
 use Rattle.gx_histories.proofs.Answers.{done-inside, done-is, done-outside, told-is}
 use Rattle.gx_histories.proofs.AtLine.{AtLine, answered-now, at-calm, has_txn, legal-answer, runs-command, transaction-is}
 use Rattle.gx_histories.proofs.Ends.{Fresh, IsOf, of-fresh}
 use Rattle.gx_histories.proofs.Frame.{Does, owns-more, sid}
+use Rattle.gx_histories.proofs.Gathers.{Gathers, GathersIn, HeardNow, gathered-is}
 use Rattle.gx_histories.proofs.Given.{Given}
 use Rattle.gx_histories.proofs.Outs.{CommandIs, OutIs}
 use Rattle.gx_histories.proofs.Roots.{roots-answered, roots-on}
@@ -171,8 +173,8 @@ module _ (script : Script) (steps : List Step) (c : Coord) (from : Node) (to : N
           snapshot = subst (λ x. Rattle.gx_histories.specs.Standing.HasSnapshot w.level ms g x) (sym k.snapshot) (subst (λ l. Rattle.gx_histories.specs.Standing.HasSnapshot l ms g (work_of c g).snapshot) (sym k.level) own.snapshot);
         })
 
-    pub goes-on : (turn : CoordTurn) (w : Work) → Likewise w → turn.marks ≡ [] → turn.coord.works g.0 ≡ w → ((j : ℕ) → eqb j g.0 ≡ false → turn.coord.works j ≡ c.works j) → ((j : ℕ) → turn.coord.sessions j ≡ c.sessions j) → turn.coord.table.next.0 ≡ c.table.next.0 → Each (OutIs script (ms ++ turn.marks)) turn.outs → (CommandIs script (ms ++ turn.marks) (c.works g.0).command → CommandIs script (ms ++ turn.marks) (turn.coord.works g.0).command) → Does script steps c e turn
-    goes-on turn w k none work works sessions next outs orders =
+    pub goes-on : (turn : CoordTurn) (w : Work) → Likewise w → turn.marks ≡ [] → turn.coord.works g.0 ≡ w → ((j : ℕ) → eqb j g.0 ≡ false → turn.coord.works j ≡ c.works j) → ((j : ℕ) → turn.coord.sessions j ≡ c.sessions j) → turn.coord.table.next.0 ≡ c.table.next.0 → Each (OutIs script (ms ++ turn.marks)) turn.outs → (CommandIs script (ms ++ turn.marks) (c.works g.0).command → CommandIs script (ms ++ turn.marks) (turn.coord.works g.0).command) → (GathersIn script (HeardNow steps e) g (c.works g.0).command → GathersIn script (HeardNow steps e) g (turn.coord.works g.0).command) → Does script steps c e turn
+    goes-on turn w k none work works sessions next outs orders gathers =
         record {
           s = s.0;
           g = g.0;
@@ -194,6 +196,7 @@ module _ (script : Script) (steps : List Step) (c : Coord) (from : Node) (to : N
           legal = λ later. subst (λ m. EachMark (Given script) steps e [] m later) (sym none) tt;
           outs = outs;
           orders = orders;
+          gathers = gathers;
         }
       where
         there : Stands script s (ms ++ []) c.table.next.0 B P y.lines g w
@@ -208,23 +211,28 @@ module _ (script : Script) (steps : List Step) (c : Coord) (from : Node) (to : N
             }
 
     -- A COMMAND OUTSIDE A BLOCK COMMITS
-    command-told : (earlier : List Mark) → AtLine script steps e s line n b (is_alone B P) (Some g) earlier → (later : List Mark) (m : Command) → is_command b line ≡ true → RestAnswer script (record { steps = steps; event = e; earlier = earlier; later = later }) s (command_answer m line) → Rattle.gx_store.specs.Answers.IsAtItsEnd b (record { steps = steps; event = e; earlier = earlier; later = later }) g → IsAnswer script (record { steps = steps; event = e; earlier = earlier; later = later }) s b line (command_answer m line)
-    command-told earlier a later m cmd rest end =
+    command-told : (earlier : List Mark) → AtLine script steps e s line n b (is_alone B P) (Some g) earlier → (later : List Mark) (m : Command) → IsGathered script (record { steps = steps; event = e; earlier = earlier; later = later }) g (cid_of b) line (command_answer m line) → is_command b line ≡ true → RestAnswer script (record { steps = steps; event = e; earlier = earlier; later = later }) s (command_answer m line) → Rattle.gx_store.specs.Answers.IsAtItsEnd b (record { steps = steps; event = e; earlier = earlier; later = later }) g → IsAnswer script (record { steps = steps; event = e; earlier = earlier; later = later }) s b line (command_answer m line)
+    command-told earlier a later m gathered cmd rest end =
         done-is script (record { steps = steps; event = e; earlier = earlier; later = later }) s b line m cmd
         (record {
           command = cmd;
           g = g;
           transaction = subst (λ z. transaction_of z s (ms ++ earlier) ≡ Some g) a.said.state (transaction-is script steps e s line n b (is_alone B P) (Some g) earlier a later g has-txn refl);
           end = end;
-          told = told-is script (record { steps = steps; event = e; earlier = earlier; later = later }) s b line m cmd rest line (level_of b) g (cid_of b) (runs-command script steps e s line n b (is_alone B P) (Some g) earlier a later g has-txn refl cmd);
+          told = told-is script (record { steps = steps; event = e; earlier = earlier; later = later }) s b line m cmd rest line (level_of b) g (cid_of b) (runs-command script steps e s line n b (is_alone B P) (Some g) earlier a later g has-txn refl cmd) gathered;
         })
 
-    pub alone-commit : (c1 : Coord) (w : Work) (m : Command) (turn : Turn) → Under script steps c e c1 s g w y n b (is_alone B P) line [] → B ≡ block.Outside → P ≡ pending.Command → w.command ≡ Some m → m.stmt ≡ line → is_command b line ≡ true → turn.table.next.0 ≡ c1.table.next.0 → ((marks : List Mark) → Each (OutIs script marks) turn.out.outs) → Does script steps c e (is_closed c1 g turn)
-    alone-commit c1 w m turn o outside working has same cmd next outs =
+    gathered-here : (m : Command) → Gathers script (HeardNow steps e) g m → m.awaited ≡ [] → m.cid ≡ cid_of b → m.stmt ≡ line → (earlier later : List Mark) → IsGathered script (record { steps = steps; event = e; earlier = earlier; later = later }) g (cid_of b) line (command_answer m line)
+    gathered-here m h none number same earlier later =
+        subst (λ l. IsGathered script (record { steps = steps; event = e; earlier = earlier; later = later }) g (cid_of b) l (command_answer m l)) same
+        (subst (λ k. IsGathered script (record { steps = steps; event = e; earlier = earlier; later = later }) g k m.stmt (command_answer m m.stmt)) number (gathered-is script steps e earlier later g m h none))
+
+    pub alone-commit : (c1 : Coord) (w : Work) (m : Command) (turn : Turn) → Gathers script (HeardNow steps e) g m → m.awaited ≡ [] → m.cid ≡ cid_of b → Under script steps c e c1 s g w y n b (is_alone B P) line [] → B ≡ block.Outside → P ≡ pending.Command → w.command ≡ Some m → m.stmt ≡ line → is_command b line ≡ true → turn.table.next.0 ≡ c1.table.next.0 → ((marks : List Mark) → Each (OutIs script marks) turn.out.outs) → Does script steps c e (is_closed c1 g turn)
+    alone-commit c1 w m turn gath none its_cid o outside working has same cmd next outs =
         commit-does script steps c e c1 s g w y n b (is_alone B P) line [] o turn next may closed
         (subst (λ x. state_after (state_in x q.stands.commands) line r ≡ Outside) (sym outside) (done-outside line r rows))
         (λ later rest. subst (λ z. IsAnswer script (record { steps = steps; event = e; earlier = mark.Commit g ∷ []; later = later }) s b line z) (sym told-as)
-        (command-told (mark.Commit g ∷ []) (at-calm script steps e s line n b (is_alone B P) (Some g) [] (mark.Commit g ∷ []) at-now (tt, tt)) later m cmd
+        (command-told (mark.Commit g ∷ []) (at-calm script steps e s line n b (is_alone B P) (Some g) [] (mark.Commit g ∷ []) at-now (tt, tt)) later m (gathered-here m gath none its_cid same (mark.Commit g ∷ []) later) cmd
         (subst (λ z. RestAnswer script (record { steps = steps; event = e; earlier = mark.Commit g ∷ []; later = later }) s z) told-as rest)
         (subst (λ x. Rattle.gx_store.specs.Answers.IsAtItsEnd (state_in x q.stands.commands) (record { steps = steps; event = e; earlier = mark.Commit g ∷ []; later = later }) g) (sym outside) (ap (λ t. t || false) (self-test g.0)))))
         outs
@@ -272,8 +280,8 @@ module _ (script : Script) (steps : List Step) (c : Coord) (from : Node) (to : N
         transaction later = subst (λ z. transaction_of z s (ms ++ mark.Commit g ∷ []) ≡ Some g) a2.said.state (transaction-is script steps e s line n b (is_alone B P) (Some g) (mark.Commit g ∷ []) a2 later g has-txn refl)
 
     -- A COMMAND IN A BLOCK IS ANSWERED
-    pub block-answer : (c1 : Coord) (w : Work) (m : Command) (l : Level) → Under script steps c e c1 s g w y n b (is_alone B P) line [] → Likewise w → B ≡ block.Open l → P ≡ pending.Command → w.command ≡ Some m → m.stmt ≡ line → is_command b line ≡ true → c1.table.next.0 ≡ c.table.next.0 → Does script steps c e (answers c1 g (work_of c1 g))
-    block-answer c1 w m l o k opened working has same cmd next =
+    pub block-answer : (c1 : Coord) (w : Work) (m : Command) (l : Level) → Gathers script (HeardNow steps e) g m → m.awaited ≡ [] → m.cid ≡ cid_of b → Under script steps c e c1 s g w y n b (is_alone B P) line [] → Likewise w → B ≡ block.Open l → P ≡ pending.Command → w.command ≡ Some m → m.stmt ≡ line → is_command b line ≡ true → c1.table.next.0 ≡ c.table.next.0 → Does script steps c e (answers c1 g (work_of c1 g))
+    block-answer c1 w m l gath none its_cid o k opened working has same cmd next =
         record {
           s = s.0;
           g = g.0;
@@ -292,6 +300,7 @@ module _ (script : Script) (steps : List Step) (c : Coord) (from : Node) (to : N
               (λ rest. legal-answer script steps e s line n b (is_alone B P) (Some g) [] at-now later (session_of c1 s).lines r numbered (is later rest), tt);
           outs = tt;
           orders = λ h. subst (CommandIs script late) (sym (ap (λ (v : Work). v.command) work-now)) tt;
+          gathers = λ h. subst (GathersIn script (HeardNow steps e) g) (sym (ap (λ (v : Work). v.command) work-now)) tt;
         }
       where
         home : (work_of c1 g).session ≡ s
@@ -329,7 +338,7 @@ module _ (script : Script) (steps : List Step) (c : Coord) (from : Node) (to : N
         is : (later : List Mark) → RestAnswer script (record { steps = steps; event = event.Receive from to number; earlier = []; later = later }) s (answer_of_command (work_of c1 g).command) → IsAnswer script (record { steps = steps; event = event.Receive from to number; earlier = []; later = later }) s b line (answer_of_command (work_of c1 g).command)
         is later rest =
             subst (λ z. IsAnswer script (record { steps = steps; event = e; earlier = []; later = later }) s b line z) (sym told-as)
-            (command-told [] at-now later m cmd (subst (λ z. RestAnswer script (record { steps = steps; event = e; earlier = []; later = later }) s z) told-as rest)
+            (command-told [] at-now later m (gathered-here m gath none its_cid same [] later) cmd (subst (λ z. RestAnswer script (record { steps = steps; event = e; earlier = []; later = later }) s z) told-as rest)
             (subst (λ x. Rattle.gx_store.specs.Answers.IsAtItsEnd (state_in x q.stands.commands) (record { steps = steps; event = e; earlier = []; later = later }) g) (sym opened) o.running))
 
         said : Said script s (ms ++ mark.Answer s (session_of c1 s).lines (answer_of_command (work_of c1 g).command) ∷ []) (n + 1) (InBlock l (q.stands.commands + 1)) false (Some g)

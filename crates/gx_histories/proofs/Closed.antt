@@ -27,6 +27,7 @@ use Rattle.gx_laws.proofs.Turns.{self-test}
 use Rattle.gx_histories.specs.Standing.{IsOver, IsSession, IsStanding, Owns, Stands, is_busy, state_in}
 use Rattle.gx_histories.proofs.Ends.{of-fresh}
 use Rattle.gx_histories.proofs.Frame.{Does, sid}
+use Rattle.gx_histories.proofs.Gathers.{GathersIn, HeardNow}
 use Rattle.gx_histories.proofs.Outs.{CommandIs, OutIs, abort-plain}
 use Rattle.gx_histories.proofs.Said.{Said, said-calm}
 
@@ -118,6 +119,7 @@ module _ (script : Script) (steps : List Step) (c : Coord) (s : SessionId) (all 
         legal = λ later. (λ q. record { running = subst (λ m. is_ended m y.transaction ≡ false) (sym (append-nil ms)) own.running; cause = inr (record { session = s; event = refl; transaction = transaction }) }, tt);
         outs = abort-plain script _ c.table y.transaction;
         orders = λ h. subst (CommandIs script (ms ++ mark.Abort y.transaction ∷ [])) (sym (ap (λ (z : Work). z.command) (ap (λ q. if q then no_work else c.works y.transaction.0) (self-test y.transaction.0)))) tt;
+        gathers = λ h. subst (GathersIn script (HeardNow steps (event.End s)) y.transaction) (sym (ap (λ (z : Work). z.command) (ap (λ q. if q then no_work else c.works y.transaction.0) (self-test y.transaction.0)))) tt;
       }
     where
       own : Owns s st.1.commands ms next y.state.block y.transaction (work_of c y.transaction)
@@ -146,6 +148,7 @@ module _ (script : Script) (steps : List Step) (c : Coord) (s : SessionId) (all 
         legal = λ later. tt;
         outs = tt;
         orders = λ h. h;
+        gathers = λ h. h;
       }
 
   pub end-does : (b : Block) → b ≡ y.state.block → Does script steps c (event.End s) (ends_session c s b)

@@ -57,6 +57,7 @@ use Rattle.gx_histories.proofs.AtLine as at_line
 use Rattle.gx_histories.proofs.Ends.{IsOf, ended-more, keeps-snapshot, of-fresh, snapped-more, snapshot-more, taken-more, unsnapped}
 use Rattle.gx_histories.proofs.Faults.{constants-fault}
 use Rattle.gx_histories.proofs.Frame.{Does}
+use Rattle.gx_histories.proofs.Gathers.{GathersIn, HeardNow}
 use Rattle.gx_histories.proofs.Given.{Given, marks-append}
 use Rattle.gx_histories.proofs.Outs.{CommandIs, OutIs, abort-plain}
 use Rattle.gx_histories.proofs.Roots.{roots-level}
@@ -341,8 +342,14 @@ module _ (script : Script) (steps : List Step) (c c1 : Coord) (s : SessionId) (g
         legal = λ later. marks-append (Given script) steps (event.Start s) [] earlier r.marks later (o.legal (r.marks ++ later)) (R.legal later);
         outs = sent_orders;
         orders = λ h. subst (CommandIs script (marks_in steps ++ (earlier ++ r.marks))) (sym command-now) sent_orders;
+        gathers = λ h. subst (GathersIn script (HeardNow steps (event.Start s)) g) (sym command-now)
+            (record { pieces = pieces; plan = plan; taken = []; heard = tt; fits = tt; apart = tt; all = λ i. or-none (Rattle.gx_dtx.specs.Nodes.has i (nodes_in pieces)); free = λ i q. refl; parts = refl; counted = refl });
       }
     where
+      or-none : (b : Bool) → b ≡ (b || false)
+      or-none true = refl
+      or-none false = refl
+
       sent_orders : Each (OutIs script (marks_in steps ++ (earlier ++ r.marks))) (orders_of g (next_cid w) (work_of r.coord g).level r.snapshot (horizon_of r.coord.table) pieces)
       sent_orders = out-orders pieces r R (work_of r.coord g) (ap (λ (v : Work). v.level) R.work ∙ R.level) plan pieces (each-contained [] pieces)
 

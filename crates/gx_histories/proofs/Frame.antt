@@ -16,9 +16,11 @@ use Rattle.gx_store.specs.Marks.{answer_count, has_snapshot, is_begun, is_ended,
 use Rattle.gx_store.specs.Points.{ends_by, ends_in, marks_in, starts_by, starts_in}
 use Rattle.gx_rules.specs.Coordinators.{Coord, CoordTurn, Session, Work, session_of, work_of}
 use Rattle.gx_laws.proofs.Lists.{Each}
+use Rattle.gx_laws.proofs.Stages.{gx}
 use Rattle.gx_histories.specs.Rest.{EachMark}
 use Rattle.gx_histories.specs.Standing.{IsLineOf, IsOver, IsSession, IsStanding, Owns, Roots, Stands, is_busy, waits}
 use Rattle.gx_histories.proofs.Ends.{Fresh, IsOf, ended-more, keeps-snapshot, of-calm, of-ended, of-snapshot, snapped-more, unsnapped}
+use Rattle.gx_histories.proofs.Gathers.{GathersIn, HeardNow}
 use Rattle.gx_histories.proofs.Given.{Given}
 use Rattle.gx_histories.proofs.Outs.{CommandIs, OutIs}
 use Rattle.gx_histories.proofs.Roots.{roots-more}
@@ -87,6 +89,7 @@ pub record Does (script : Script) (steps : List Step) (c : Coord) (e : Event) (t
   pub legal : (later : List Mark) → EachMark (Given script) steps e [] turn.marks later
   pub outs : Each (OutIs script (marks_in steps ++ turn.marks)) turn.outs
   pub orders : CommandIs script (marks_in steps ++ turn.marks) (c.works g).command → CommandIs script (marks_in steps ++ turn.marks) (turn.coord.works g).command
+  pub gathers : GathersIn script (HeardNow steps e) (gx g) (c.works g).command → GathersIn script (HeardNow steps e) (gx g) (turn.coord.works g).command
 
 -- AN EVENT OF NO SESSION
 abbrev pub Quiet : Mark → Type 0

@@ -47,6 +47,7 @@ use Rattle.gx_histories.proofs.AtLine.{AtLine, answered-now, at-calm, at-start, 
 use Rattle.gx_histories.proofs.Dispatch.{dispatch-does}
 use Rattle.gx_histories.proofs.Ends.{Fresh, IsOf, began-behind, ended-more, of-fresh, snapped-more, snapshot-more, unsnapped}
 use Rattle.gx_histories.proofs.Frame.{Does, owns-more, sid}
+use Rattle.gx_histories.proofs.Gathers.{GathersIn, HeardNow}
 use Rattle.gx_histories.proofs.Given.{Given}
 use Rattle.gx_histories.proofs.Outs.{CommandIs, OutIs, abort-plain, commit-plain}
 use Rattle.gx_histories.proofs.Roots.{roots-alone, roots-begin, roots-command, roots-commit, roots-other}
@@ -151,6 +152,7 @@ module _ (script : Script) (steps : List Step) (c : Coord) (k : Kept c) (p : Pas
           legal = λ later. (λ q. legal-answer script steps e s line y.lines (state_in y.state.block st.1.commands) false (started_after s None ms) [] at-zero later lines r numbered (is later), tt);
           outs = tt;
           orders = λ h. h;
+          gathers = λ h. h;
         }
       where
         lines : ℕ
@@ -258,6 +260,7 @@ module _ (script : Script) (steps : List Step) (c : Coord) (k : Kept c) (p : Pas
           legal = λ later. (λ q. start-given _ outside (ap (Rattle.gx_store.specs.Legal.draws Outside) is), (λ q. legal-answer script steps e s line y.lines Outside true (Some c.table.next) (begun ∷ []) (at-begun outside) later _ told.Begin numbered (subst (λ l. IsAnswer script (record { steps = steps; event = e; earlier = begun ∷ []; later = later }) s Outside l told.Begin) (sym is) (at-begun outside).said.begun), tt));
           outs = tt;
           orders = λ h. subst (CommandIs script late) (sym (ap (λ (v : Work). v.command) (fresh-work asked level))) tt;
+          gathers = λ h. subst (GathersIn script (HeardNow steps e) c.table.next) (sym (ap (λ (v : Work). v.command) (fresh-work asked level))) tt;
         }
       where
         asked : LineStep
@@ -385,6 +388,7 @@ module _ (script : Script) (steps : List Step) (c : Coord) (k : Kept c) (p : Pas
             legal = λ later. tt;
             outs = commit-plain script (ms ++ []) c.table g (work_of c g).writers;
             orders = λ h. h;
+            gathers = λ h. h;
           }
 
       ends-does : Does script steps c e (follows c1 g turn outcome.Committed)

@@ -51,6 +51,7 @@ use Rattle.gx_rules.specs.Coordinators.{Command, Coord, CoordTurn, Session, Work
 use Rattle.gx_rules.specs.Fits.{fits_part}
 use Rattle.gx_laws.proofs.Lists.{Each}
 use Rattle.gx_laws.proofs.Sessions.{Kept, is_closing_in, is_live_in, is_working_in, stage_of}
+use Rattle.gx_laws.proofs.Stages.{gx}
 use Rattle.gx_laws.proofs.Statuses.{Closes, Moves, Turned, commit-turns, reply-turns, stage}
 use Rattle.gx_laws.proofs.Statuses.Stage.{Live, Closing}
 use Rattle.gx_laws.proofs.Turns.{self-test}
@@ -60,6 +61,7 @@ use Rattle.gx_histories.proofs.Answers.{command-refusable, done-outside, refused
 use Rattle.gx_histories.proofs.AtLine.{at-calm, runs-command}
 use Rattle.gx_histories.proofs.Busy.{Busy, Likewise, alone-commit, block-answer, block-commit, busy-under, goes-on}
 use Rattle.gx_histories.proofs.Frame.{Does, Effect, Rests}
+use Rattle.gx_histories.proofs.Gathers.{Gathers, GathersIn, HeardNow, IsHeard, gathers-done, gathers-weaker, heard-now, hears}
 use Rattle.gx_histories.proofs.Outs.{CommandIs, OutIs, abort-plain, commit-plain}
 use Rattle.gx_histories.proofs.Under.{Under, refuse-does}
 
@@ -114,7 +116,7 @@ found-by g i r b (Some t) = by_test (is_expected t.phase i r)
     by_test true = takes-by g t.participants i b t.phase r
     by_test false = tt
 
-module _ (script : Script) (steps : List Step) (c : Coord) (k : Kept c) (all : (j : SessionId) → IsSession script j steps c) (from : Node) (to : Node) (number : ℕ) (g : Gxid) where
+module _ (script : Script) (steps : List Step) (c : Coord) (k : Kept c) (all : (j : SessionId) → IsSession script j steps c) (gath : (j : ℕ) → GathersIn script (IsHeard steps) (gx j) (c.works j).command) (from : Node) (to : Node) (number : ℕ) (g : Gxid) where
   abbrev e : Event
   e = event.Receive from to number
 
@@ -140,6 +142,10 @@ module _ (script : Script) (steps : List Step) (c : Coord) (k : Kept c) (all : (
 
   pub same-gxid : y.transaction.0 ≡ g.0 → y.transaction ≡ g
   same-gxid h = ap (λ (i : ℕ). let x : Gxid = record { 0 = i } in x) h
+
+  -- what the command has gathered before this event
+  pub gathers-old : (m : Command) → (work_of c g).command ≡ Some m → Gathers script (HeardNow steps e) g m
+  gathers-old m it = gathers-weaker script (IsHeard steps) (HeardNow steps e) g (Some m) (heard-now steps e) (subst (GathersIn script (IsHeard steps) g) it (gath g.0))
 
   -- A COMMAND IS UNDER WAY
   -- the session of a transaction whose session waits for a command
@@ -191,7 +197,7 @@ module _ (script : Script) (steps : List Step) (c : Coord) (k : Kept c) (all : (
         clash : (b : Block) (q : Pending) → b ≡ block.Failed → is_live_in b q ≡ true → ⊥
         clash b q h l = grind arith
 
-    module _ (wrote : Bool) (count : ℕ) (part : Part) where
+    module _ (wrote : Bool) (count : ℕ) (part : Part) (fit : fits_part m.stmt part ≡ true) (received : Receives steps e i the_coordinator (message.Answer g (reply.Done m.cid wrote count part))) where
       abbrev done : Command
       done = with_done m i count part
 
@@ -200,6 +206,9 @@ module _ (script : Script) (steps : List Step) (c : Coord) (k : Kept c) (all : (
 
       abbrev c1 : Coord
       c1 = with_work c g w1
+
+      gathers-now : Gathers script (HeardNow steps e) g done
+      gathers-now = gathers-done script (HeardNow steps e) g m i wrote count part (gathers-old m has_it) taken fit (hears steps e i _ received)
 
       work-now : work_of c1 g ≡ w1
       work-now = ap (λ q. if q then w1 else work_of c g) (self-test g.0)
@@ -215,12 +224,13 @@ module _ (script : Script) (steps : List Step) (c : Coord) (k : Kept c) (all : (
       on B z turn a b d f h outs =
           goes-on script steps c from to number g B pending.Command m.stmt z.is_busy_so turn w1 (likewise B z) a b d f h outs
           (λ o. subst (CommandIs script (ms ++ turn.marks)) (sym (ap (λ (v : Work). v.command) b)) (subst (CommandIs script (ms ++ turn.marks)) has_it o))
+          (λ o. subst (GathersIn script (HeardNow steps e) g) (sym (ap (λ (v : Work). v.command) b)) gathers-now)
 
       under : (B : Block) (z : Works B m) → Under script steps c e c1 s g w1 y (answer_count s ms) (state_in B z.is_busy_so.stands.commands) (is_alone B pending.Command) m.stmt []
       under B z = busy-under script steps c from to number g B pending.Command m.stmt z.is_busy_so c1 w1 work-now refl other-works (λ j. refl) refl
 
-      alone : Works block.Outside m → Does script steps c e (commits c1 g)
-      alone z = by_outcome turn.out.outcome t.how
+      alone : without i m.awaited ≡ [] → Works block.Outside m → Does script steps c e (commits c1 g)
+      alone last z = by_outcome turn.out.outcome t.how
         where
           turn : Turn
           turn = on_commit c1.table g (work_of c1 g).writers
@@ -230,30 +240,30 @@ module _ (script : Script) (steps : List Step) (c : Coord) (k : Kept c) (all : (
 
           by_outcome : (o : Outcome) → Closes (stage t.now) o → Does script steps c e (follows c1 g (on_commit c1.table g (work_of c1 g).writers) o)
           by_outcome outcome.Pending h = on block.Outside z _ refl work-now other-works (λ j. refl) refl (commit-plain script (ms ++ []) c1.table g (work_of c1 g).writers)
-          by_outcome outcome.Committed h = alone-commit script steps c from to number g block.Outside pending.Command m.stmt z.is_busy_so c1 w1 done turn (under block.Outside z) refl refl refl refl z.command refl (λ marks. commit-plain script marks c1.table g (work_of c1 g).writers)
+          by_outcome outcome.Committed h = alone-commit script steps c from to number g block.Outside pending.Command m.stmt z.is_busy_so c1 w1 done turn gathers-now last z.counted (under block.Outside z) refl refl refl refl z.command refl (λ marks. commit-plain script marks c1.table g (work_of c1 g).writers)
           by_outcome outcome.Decided h = absurd h
           by_outcome (outcome.Refused j) h = absurd h
           by_outcome outcome.Ended h = absurd h
 
-      inside : (l : Level) → Works (block.Open l) m → Does script steps c e (answers c1 g (work_of c1 g))
-      inside l z = block-answer script steps c from to number g (block.Open l) pending.Command m.stmt z.is_busy_so c1 w1 done l (under (block.Open l) z) (likewise (block.Open l) z) refl refl refl refl z.command refl
+      inside : without i m.awaited ≡ [] → (l : Level) → Works (block.Open l) m → Does script steps c e (answers c1 g (work_of c1 g))
+      inside last l z = block-answer script steps c from to number g (block.Open l) pending.Command m.stmt z.is_busy_so c1 w1 done l gathers-now last z.counted (under (block.Open l) z) (likewise (block.Open l) z) refl refl refl refl z.command refl
 
-      by_block : (B : Block) → y.state.block ≡ B → Does script steps c e (completes c1 g B)
-      by_block block.Outside eb = alone (works-in block.Outside eb refl)
-      by_block (block.Open l) eb = inside l (works-in (block.Open l) eb refl)
-      by_block block.Failed eb = absurd (not-failed eb)
+      by_block : without i m.awaited ≡ [] → (B : Block) → y.state.block ≡ B → Does script steps c e (completes c1 g B)
+      by_block last block.Outside eb = alone last (works-in block.Outside eb refl)
+      by_block last (block.Open l) eb = inside last l (works-in (block.Open l) eb refl)
+      by_block last block.Failed eb = absurd (not-failed eb)
 
       waits-on : (B : Block) → y.state.block ≡ B → Does script steps c e (rests c1)
       waits-on block.Outside eb = on block.Outside (works-in block.Outside eb refl) (rests c1) refl work-now other-works (λ j. refl) refl tt
       waits-on (block.Open l) eb = on (block.Open l) (works-in (block.Open l) eb refl) (rests c1) refl work-now other-works (λ j. refl) refl tt
       waits-on block.Failed eb = absurd (not-failed eb)
 
-      by_left : (left : List Node) → Does script steps c e (goes_on c1 g left)
-      by_left [] = by_block _ (ap (λ (v : Work). (c.sessions v.session.0).state.block) (sym work-now))
-      by_left (j ∷ js) = waits-on y.state.block refl
+      by_left : (left : List Node) → without i m.awaited ≡ left → Does script steps c e (goes_on c1 g left)
+      by_left [] last = by_block last _ (ap (λ (v : Work). (c.sessions v.session.0).state.block) (sym work-now))
+      by_left (j ∷ js) last = waits-on y.state.block refl
 
       pub done-does : Does script steps c e (takes_done c g i wrote count part m)
-      done-does = by_left (without i m.awaited)
+      done-does = by_left (without i m.awaited) refl
 
     -- FAILED
     module _ (why : Cause) (cid : Cid) (its_cid : m.cid ≡ cid) (received : Receives steps e i the_coordinator (message.Answer g (reply.Failed cid why))) where

@@ -37,6 +37,7 @@ use Rattle.gx_histories.proofs.Answers.{is_refusable, may-abort-refusable, refus
 use Rattle.gx_histories.proofs.AtLine.{AtLine, answered-now, at-calm, has_txn, legal-abort, legal-answer, legal-commit, transaction-is}
 use Rattle.gx_histories.proofs.Ends.{Fresh, IsOf, of-fresh}
 use Rattle.gx_histories.proofs.Frame.{Does, sid}
+use Rattle.gx_histories.proofs.Gathers.{GathersIn, HeardNow}
 use Rattle.gx_histories.proofs.Given.{Given, marks-append}
 use Rattle.gx_histories.proofs.Outs.{CommandIs, OutIs}
 use Rattle.gx_histories.proofs.Said.{CalmFor, Said}
@@ -133,6 +134,7 @@ module _ (script : Script) (steps : List Step) (c : Coord) (e : Event) (c1 : Coo
         legal = λ later. marks-append (Given script) steps e [] earlier turn.marks later (o.legal (turn.marks ++ later)) (legal later);
         outs = outs;
         orders = λ h. subst (CommandIs script (marks_in steps ++ (earlier ++ turn.marks))) (sym none) tt;
+        gathers = λ h. subst (GathersIn script (HeardNow steps e) g) (sym none) tt;
       }
 
   session-set : (f : Session → Session) (j : ℕ) → with_at c1.sessions (work_of c1 g).session.0 (f (session_of c1 (work_of c1 g).session)) j ≡ (if eqb j s.0 then f x else c.sessions j)

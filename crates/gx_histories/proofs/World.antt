@@ -58,6 +58,7 @@ use Rattle.gx_histories.proofs.Closed.{end-does, legal-end}
 use Rattle.gx_histories.proofs.Closings.{IsNoted, message-does}
 use Rattle.gx_histories.proofs.Ends.{Fresh, fresh-more}
 use Rattle.gx_histories.proofs.Frame.{Does, Effect, Quiet, Rests}
+use Rattle.gx_histories.proofs.Gathers.{GathersIn, HeardNow, IsHeard, gathers-weaker, heard-later, heard-now}
 use Rattle.gx_histories.proofs.Given.{Given, given-legal, marks-append, sent-given}
 use Rattle.gx_histories.proofs.Lines.{start-counts, start-does}
 use Rattle.gx_histories.proofs.Outs.{CommandIs, MessageIs, OutIs, command-more, order-more, outs-more}
@@ -249,6 +250,7 @@ pub record Holds (script : Script) (w : World) : Type 0 where
   pub letters : Each (IsToldOf (marks_in w.steps)) w.sent
   pub commands : (j : ℕ) → CommandIs script (marks_in w.steps) (w.coord.works j).command
   pub orders : Each (IsOrderLetter script (marks_in w.steps)) w.sent
+  pub gathers : (j : ℕ) → GathersIn script (IsHeard w.steps) (gx j) (w.coord.works j).command
 
 module _ (script : Script) (some : 1 ≤ script.segments) (w : World) (n : Knows script w) (h : Holds script w) (e : Event) (x : NodeEvent) (fails : Bool) where
   -- A STEP OF THE COORDINATOR
@@ -321,6 +323,21 @@ module _ (script : Script) (some : 1 ≤ script.segments) (w : World) (n : Knows
       by_test false q = subst (λ (v : Work). CommandIs script (marks_in (w.steps ++ step ∷ [])) v.command) (sym (d.works j q)) (commands-kept step j)
   coord-commands (inr d) j = subst (λ (v : Work). CommandIs script (marks_in (w.steps ++ step ∷ [])) v.command) (sym (d.works j)) (commands-kept step j)
 
+  gathers-at : (s : Step) → s.event ≡ e → (j : ℕ) (o : Option Command) → GathersIn script (HeardNow w.steps e) (gx j) o → GathersIn script (IsHeard (w.steps ++ s ∷ [])) (gx j) o
+  gathers-at s same j o g = gathers-weaker script (HeardNow w.steps e) (IsHeard (w.steps ++ s ∷ [])) (gx j) o (λ n m q. heard-later w.steps s e n m same q) g
+
+  gathers-before : (j : ℕ) → GathersIn script (HeardNow w.steps e) (gx j) (w.coord.works j).command
+  gathers-before j = gathers-weaker script (IsHeard w.steps) (HeardNow w.steps e) (gx j) (w.coord.works j).command (heard-now w.steps e) (h.gathers j)
+
+  coord-gathers : Effect script w.steps w.coord e turn → (j : ℕ) → GathersIn script (IsHeard (w.steps ++ step ∷ [])) (gx j) (turn.coord.works j).command
+  coord-gathers (inl d) j = by_test (eqb j d.g) refl
+    where
+      by_test : (b : Bool) → eqb j d.g ≡ b → GathersIn script (IsHeard (w.steps ++ step ∷ [])) (gx j) (turn.coord.works j).command
+      by_test true q =
+          subst (λ i. GathersIn script (IsHeard (w.steps ++ step ∷ [])) (gx i) (turn.coord.works i).command) (sym (eqb-true j d.g q)) (gathers-at step refl d.g (turn.coord.works d.g).command (d.gathers (gathers-before d.g)))
+      by_test false q = subst (λ (v : Work). GathersIn script (IsHeard (w.steps ++ step ∷ [])) (gx j) v.command) (sym (d.works j q)) (gathers-at step refl j (w.coord.works j).command (gathers-before j))
+  coord-gathers (inr d) j = subst (λ (v : Work). GathersIn script (IsHeard (w.steps ++ step ∷ [])) (gx j) v.command) (sym (d.works j)) (gathers-at step refl j (w.coord.works j).command (gathers-before j))
+
   coord-outs : Effect script w.steps w.coord e turn → Each (OutIs script (marks_in (w.steps ++ step ∷ []))) turn.outs
   coord-outs (inl d) = subst (λ m. Each (OutIs script m) turn.outs) turn-marks (outs-more script (marks_in w.steps ++ turn.marks) sent turn.outs d.outs)
   coord-outs (inr d) =
@@ -343,6 +360,7 @@ module _ (script : Script) (some : 1 ≤ script.segments) (w : World) (n : Knows
         notes = notes-kept step;
         letters = each-posted (IsToldOf (marks_in (w.steps ++ step ∷ []))) the_coordinator (clock_after w.coord.clock x) step.marks w.sent (coord-sent (marks_in (w.steps ++ step ∷ [])) (clock_after w.coord.clock x) step.marks) (letters-kept step);
         commands = coord-commands d;
+        gathers = coord-gathers d;
         orders = each-posted (IsOrderLetter script (marks_in (w.steps ++ step ∷ []))) the_coordinator (clock_after w.coord.clock x) step.marks w.sent (coord-orders d) (orders-kept step);
       }
 
@@ -357,6 +375,7 @@ module _ (script : Script) (some : 1 ≤ script.segments) (w : World) (n : Knows
         notes = at-both (λ j (t : Seg). SegNoted (marks_in (w.steps ++ late ∷ [])) (at j) t) w.segs i _ (λ j. own-notes j) (λ j no. notes-kept late j);
         letters = each-posted (IsToldOf (marks_in (w.steps ++ late ∷ []))) (at i) (clock_after (w.segs i).clock x) late.marks w.sent told (letters-kept late);
         commands = commands-kept late;
+        gathers = λ j. gathers-at late refl j (w.coord.works j).command (gathers-before j);
         orders = each-posted (IsOrderLetter script (marks_in (w.steps ++ late ∷ []))) (at i) (clock_after (w.segs i).clock x) late.marks w.sent (away-sent script (marks_in (w.steps ++ late ∷ [])) i (clock_after (w.segs i).clock x) place.0 late.marks) (orders-kept late);
       }
     where
@@ -430,7 +449,7 @@ module _ (script : Script) (some : 1 ≤ script.segments) where
     heard from to number envelope fails is f can =
         let t = found_is (IsToldOf (marks_in w.steps)) from to number w.sent envelope h.letters f in
         let one : 1 ≤ from.0 = at-least from.0 (both_of _ _ can).0 in
-        message-does script w.steps w.coord n.kept h.sessions from one to number fails envelope.message (received-so script w.steps from to number envelope is (found_is (IsLetter script w.steps) from to number w.sent envelope n.well.letters f))
+        message-does script w.steps w.coord n.kept h.sessions h.gathers from one to number fails envelope.message (received-so script w.steps from to number envelope is (found_is (IsLetter script w.steps) from to number w.sent envelope n.well.letters f))
         (subst (λ (a : Envelope). IsNoted (marks_in w.steps) from a.message) t.told (subst (λ a. IsNoted (marks_in w.steps) a t.letter.envelope.message) t.source (t.is (subst (λ (a : Node). 1 ≤ a.0) (sym t.source) one))))
       where
         at-least : (a : ℕ) → nat_le 1 a ≡ true → 1 ≤ a
@@ -545,6 +564,7 @@ module _ (script : Script) (some : 1 ≤ script.segments) where
         letters = tt;
         commands = λ j. tt;
         orders = tt;
+        gathers = λ j. tt;
       }
 
   pub world-holds : (es : List (Event × Bool)) → Holds script (world_of script es)
