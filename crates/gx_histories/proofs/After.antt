@@ -22,6 +22,7 @@ use Rattle.gx_store.proofs.Runs.{ends_in-push, marks_in-push, starts_in-push}
 use Rattle.gx_rules.specs.Coordinators.{Coord, CoordTurn, Session, Work, session_of, work_of}
 use Rattle.gx_rules.specs.Sending.{counted, numbered}
 use Rattle.gx_laws.proofs.Lists.{Each, each_append}
+use Rattle.gx_histories.specs.Alive.{IsSilent}
 use Rattle.gx_histories.specs.Rest.{EachMark}
 use Rattle.gx_histories.specs.Standing.{IsOver, IsSession, IsStanding, Stands, is_busy}
 use Rattle.gx_histories.proofs.Ends.{Fresh, IsOf, ended-more, fresh-more, of-calm, of-ended, of-snapshot, of-unstarted, snapshot-more}
@@ -29,16 +30,7 @@ use Rattle.gx_histories.proofs.Frame.{Does, Rests, Quiet, quiet-of, sid, standin
 use Rattle.gx_histories.proofs.Given.{Given}
 use Rattle.gx_histories.proofs.Said.{CalmFor}
 
--- marks that tell nothing of any session or transaction
-abbrev pub Silent : Mark → Type 0
-Silent (mark.Start g s) = ⊥
-Silent (mark.Snap g c x) = ⊥
-Silent (mark.Commit g) = ⊥
-Silent (mark.Abort g) = ⊥
-Silent (mark.Answer s n a) = ⊥
-Silent _ = Unit {0}
-
-pub silent-of : (s g : ℕ) (ms : List Mark) → Each Silent ms → Each (IsOf s g) ms
+pub silent-of : (s g : ℕ) (ms : List Mark) → Each IsSilent ms → Each (IsOf s g) ms
 silent-of s g [] e = tt
 silent-of s g (mark.Start h t ∷ ms) e = absurd e.0
 silent-of s g (mark.Snap h c x ∷ ms) e = absurd e.0
@@ -47,11 +39,11 @@ silent-of s g (mark.Abort h ∷ ms) e = absurd e.0
 silent-of s g (mark.Answer t n a ∷ ms) e = absurd e.0
 silent-of s g (m ∷ ms) e = (tt, silent-of s g ms e.1)
 
-pub sent-silent : (f : ℕ → ℕ) (outs : List Out) → Each Silent (numbered f outs)
+pub sent-silent : (f : ℕ → ℕ) (outs : List Out) → Each IsSilent (numbered f outs)
 sent-silent f [] = tt
 sent-silent f (o ∷ outs) = (tt, sent-silent (counted f o) outs)
 
-pub quiet-silent : (ms : List Mark) → Each Quiet ms → Each Silent ms
+pub quiet-silent : (ms : List Mark) → Each Quiet ms → Each IsSilent ms
 quiet-silent [] e = tt
 quiet-silent (mark.Decided g ∷ ms) e = (tt, quiet-silent ms e.1)
 quiet-silent (m ∷ ms) e = absurd e.0
@@ -59,16 +51,16 @@ quiet-silent (m ∷ ms) e = absurd e.0
 other-number : (a : ℕ) → eqb a (a + 1) ≡ false
 other-number a = grind (arith, nat_tests)
 
-pub silent-calm : (k : SessionId) (ms : List Mark) → Each Silent ms → Each (CalmFor k) ms
+pub silent-calm : (k : SessionId) (ms : List Mark) → Each IsSilent ms → Each (CalmFor k) ms
 silent-calm k ms e = of-calm (k.0 + 1) 0 k ms (other-number k.0) (silent-of (k.0 + 1) 0 ms e)
 
-pub silent-ended : (h : Gxid) (ms : List Mark) → Each Silent ms → is_ended ms h ≡ false
+pub silent-ended : (h : Gxid) (ms : List Mark) → Each IsSilent ms → is_ended ms h ≡ false
 silent-ended h ms e = of-ended 0 (h.0 + 1) h ms (other-number h.0) (silent-of 0 (h.0 + 1) ms e)
 
-pub silent-snapshot : (h : Gxid) (ms : List Mark) → Each Silent ms → has_snapshot ms h ≡ false
+pub silent-snapshot : (h : Gxid) (ms : List Mark) → Each IsSilent ms → has_snapshot ms h ≡ false
 silent-snapshot h ms e = of-snapshot 0 (h.0 + 1) h ms (other-number h.0) (silent-of 0 (h.0 + 1) ms e)
 
-pub silent-fresh : (next : ℕ) (ms : List Mark) → Each Silent ms → Fresh ms next
+pub silent-fresh : (next : ℕ) (ms : List Mark) → Each IsSilent ms → Fresh ms next
 silent-fresh next ms e = record { unended = λ h l. silent-ended h ms e; unread = λ h l. silent-snapshot h ms e; unstarted = λ h l. of-unstarted 0 (h.0 + 1) h ms (other-number h.0) (silent-of 0 (h.0 + 1) ms e) }
 
 le-same : (a : ℕ) → a ≤ a
@@ -123,7 +115,7 @@ module _ (script : Script) (steps : List Step) (c : Coord) (all : (k : SessionId
       by_standing (inr x) = absurd (not-over _ _ x.1.outside x.1.idle busy)
 
   -- A STEP OF ONE SESSION
-  module _ (turn : CoordTurn) (m : Does script steps c e turn) (sent : List Mark) (silent : Each Silent sent) (f : ℕ → ℕ) (clock : ℕ) (step : Step) (ev : step.event ≡ e) (mk : step.marks ≡ turn.marks ++ sent) where
+  module _ (turn : CoordTurn) (m : Does script steps c e turn) (sent : List Mark) (silent : Each IsSilent sent) (f : ℕ → ℕ) (clock : ℕ) (step : Step) (ev : step.event ≡ e) (mk : step.marks ≡ turn.marks ++ sent) where
     abbrev d : Coord
     d = record turn.coord { sent = f; clock = clock }
 
@@ -168,7 +160,7 @@ module _ (script : Script) (steps : List Step) (c : Coord) (all : (k : SessionId
         by_test false q = theirs k q
 
   -- A STEP OF NO SESSION
-  pub silent-sessions : (d : Coord) (step : Step) → ((j : ℕ) → d.sessions j ≡ c.sessions j) → ((j : ℕ) → d.works j ≡ c.works j) → d.table.next.0 ≡ c.table.next.0 → step.event ≡ e → Each Silent step.marks → ((k : SessionId) → (starts_by k e ≡ 0) × (ends_by k e ≡ 0)) → (k : SessionId) → IsSession script k (steps ++ step ∷ []) d
+  pub silent-sessions : (d : Coord) (step : Step) → ((j : ℕ) → d.sessions j ≡ c.sessions j) → ((j : ℕ) → d.works j ≡ c.works j) → d.table.next.0 ≡ c.table.next.0 → step.event ≡ e → Each IsSilent step.marks → ((k : SessionId) → (starts_by k e ≡ 0) × (ends_by k e ≡ 0)) → (k : SessionId) → IsSession script k (steps ++ step ∷ []) d
   silent-sessions d step sessions works next ev silent alone k =
       let r = other k step step.marks d.table.next.0 (d.sessions k.0) (d.works (d.sessions k.0).transaction.0) ev refl (sessions k.0) (alone k) (silent-calm k step.marks silent) (le-of next)
               (λ h. (ap (λ (z : Session). d.works z.transaction.0) (sessions k.0) ∙ works _, silent-ended _ step.marks silent, silent-snapshot _ step.marks silent)) in

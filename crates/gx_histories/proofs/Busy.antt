@@ -1,7 +1,8 @@
 -- A session whose line is under way hears of its transaction.
-use Rattle.std.proofs.Common.{◌≡◌, ◌<◌, ◌≤◌, inl, inr, ℕ, ◌+◌, List, [], ◌∷◌, ◌++◌, Option, Some, None, Bool, true, false, refl, sym, subst, ap, ◌∙◌, if◌then◌else◌, ◌||◌, arith, eqb, append-nil}
+use Rattle.std.proofs.Common.{◌≡◌, ◌<◌, ◌≤◌, ◌⊎◌, inl, inr, ℕ, ◌+◌, List, [], ◌∷◌, ◌++◌, Option, Some, None, Bool, true, false, refl, sym, subst, ap, ◌∙◌, if◌then◌else◌, ◌||◌, arith, eqb, append-nil}
 use Rattle.std.proofs.lemmas.Bool.{eqb-true}
 use Rattle.std.proofs.lemmas.Bool.Decides.{nat_tests}
+use Rattle.gx_ids.specs.declared.ids.Cid.{Cid}
 use Rattle.gx_ids.specs.declared.ids.Gxid.{Gxid}
 use Rattle.gx_ids.specs.declared.ids.Node.{Node}
 use Rattle.gx_ids.specs.declared.ids.SessionId.{SessionId}
@@ -34,16 +35,18 @@ use Rattle.gx_rules.specs.Coordinators.{Command, Coord, CoordTurn, Session, Work
 use Rattle.gx_rules.specs.Maps.{with_at}
 use Rattle.gx_laws.proofs.Lists.{Each}
 use Rattle.gx_laws.proofs.Turns.{self-test}
+use Rattle.gx_histories.specs.Alive.{HasAnswered}
 use Rattle.gx_histories.specs.Gathering.{IsGathered}
 use Rattle.gx_histories.specs.Rest.{EachMark, RestAnswer}
 use Rattle.gx_histories.specs.Standing.{IsLineOf, IsNow, IsSession, Owns, Roots, Stands, is_alone, is_busy, is_open, is_sound, level_in, state_in, under_way, waits}
 use Rattle.gx_histories.proofs.Answers.{done-inside, done-is, done-outside, told-is}
 use Rattle.gx_histories.proofs.AtLine.{AtLine, answered-now, at-calm, has_txn, legal-answer, runs-command, transaction-is}
+use Rattle.gx_histories.proofs.Awaited.{IsAwaited, IsSettled, OutAwaits, OwnIn, none-awaited, own-none}
 use Rattle.gx_histories.proofs.Ends.{Fresh, IsOf, of-fresh}
 use Rattle.gx_histories.proofs.Frame.{Does, owns-more, sid}
 use Rattle.gx_histories.proofs.Gathers.{Gathers, GathersIn, HeardNow, gathered-is}
 use Rattle.gx_histories.proofs.Given.{Given}
-use Rattle.gx_histories.proofs.Outs.{CommandIs, OutIs}
+use Rattle.gx_histories.proofs.Outs.{CommandIs, IsBare, OutIs}
 use Rattle.gx_histories.proofs.Roots.{roots-answered, roots-on}
 use Rattle.gx_histories.proofs.Said.{Said}
 use Rattle.gx_histories.proofs.Under.{Under, commit-does, home-is, x-is}
@@ -173,8 +176,8 @@ module _ (script : Script) (steps : List Step) (c : Coord) (from : Node) (to : N
           snapshot = subst (λ x. Rattle.gx_histories.specs.Standing.HasSnapshot w.level ms g x) (sym k.snapshot) (subst (λ l. Rattle.gx_histories.specs.Standing.HasSnapshot l ms g (work_of c g).snapshot) (sym k.level) own.snapshot);
         })
 
-    pub goes-on : (turn : CoordTurn) (w : Work) → Likewise w → turn.marks ≡ [] → turn.coord.works g.0 ≡ w → ((j : ℕ) → eqb j g.0 ≡ false → turn.coord.works j ≡ c.works j) → ((j : ℕ) → turn.coord.sessions j ≡ c.sessions j) → turn.coord.table.next.0 ≡ c.table.next.0 → Each (OutIs script (ms ++ turn.marks)) turn.outs → (CommandIs script (ms ++ turn.marks) (c.works g.0).command → CommandIs script (ms ++ turn.marks) (turn.coord.works g.0).command) → (GathersIn script (HeardNow steps e) g (c.works g.0).command → GathersIn script (HeardNow steps e) g (turn.coord.works g.0).command) → Does script steps c e turn
-    goes-on turn w k none work works sessions next outs orders gathers =
+    pub goes-on : (turn : CoordTurn) (w : Work) → Likewise w → turn.marks ≡ [] → turn.coord.works g.0 ≡ w → ((j : ℕ) → eqb j g.0 ≡ false → turn.coord.works j ≡ c.works j) → ((j : ℕ) → turn.coord.sessions j ≡ c.sessions j) → turn.coord.table.next.0 ≡ c.table.next.0 → Each (OutIs script (ms ++ turn.marks)) turn.outs → (CommandIs script (ms ++ turn.marks) (c.works g.0).command → CommandIs script (ms ++ turn.marks) (turn.coord.works g.0).command) → (GathersIn script (HeardNow steps e) g (c.works g.0).command → GathersIn script (HeardNow steps e) g (turn.coord.works g.0).command) → (OwnIn g (c.works g.0) → OwnIn g (turn.coord.works g.0)) → Each (OutAwaits turn.coord) turn.outs → ((a : Cid) (i : Node) (level : Level) → IsAwaited (c.works g.0) a i level → IsAwaited (turn.coord.works g.0) a i level ⊎ IsSettled (HeardNow steps e) turn.marks g a i) → Does script steps c e turn
+    goes-on turn w k none work works sessions next outs orders gathers owned sent keeps =
         record {
           s = s.0;
           g = g.0;
@@ -197,6 +200,9 @@ module _ (script : Script) (steps : List Step) (c : Coord) (from : Node) (to : N
           outs = outs;
           orders = orders;
           gathers = gathers;
+          owned = owned;
+          sent = sent;
+          keeps = keeps;
         }
       where
         there : Stands script s (ms ++ []) c.table.next.0 B P y.lines g w
@@ -227,15 +233,15 @@ module _ (script : Script) (steps : List Step) (c : Coord) (from : Node) (to : N
         subst (λ l. IsGathered script (record { steps = steps; event = e; earlier = earlier; later = later }) g (cid_of b) l (command_answer m l)) same
         (subst (λ k. IsGathered script (record { steps = steps; event = e; earlier = earlier; later = later }) g k m.stmt (command_answer m m.stmt)) number (gathered-is script steps e earlier later g m h none))
 
-    pub alone-commit : (c1 : Coord) (w : Work) (m : Command) (turn : Turn) → Gathers script (HeardNow steps e) g m → m.awaited ≡ [] → m.cid ≡ cid_of b → Under script steps c e c1 s g w y n b (is_alone B P) line [] → B ≡ block.Outside → P ≡ pending.Command → w.command ≡ Some m → m.stmt ≡ line → is_command b line ≡ true → turn.table.next.0 ≡ c1.table.next.0 → ((marks : List Mark) → Each (OutIs script marks) turn.out.outs) → Does script steps c e (is_closed c1 g turn)
-    alone-commit c1 w m turn gath none its_cid o outside working has same cmd next outs =
+    pub alone-commit : (c1 : Coord) (w : Work) (m : Command) (turn : Turn) → Gathers script (HeardNow steps e) g m → m.awaited ≡ [] → m.cid ≡ cid_of b → Under script steps c e c1 s g w y n b (is_alone B P) line [] → B ≡ block.Outside → P ≡ pending.Command → w.command ≡ Some m → m.stmt ≡ line → is_command b line ≡ true → turn.table.next.0 ≡ c1.table.next.0 → Each IsBare turn.out.outs → ((a : Cid) (i : Node) (level : Level) → IsAwaited (c.works g.0) a i level → HasAnswered (HeardNow steps e) i g a) → Does script steps c e (is_closed c1 g turn)
+    alone-commit c1 w m turn gath none its_cid o outside working has same cmd next outs over =
         commit-does script steps c e c1 s g w y n b (is_alone B P) line [] o turn next may closed
         (subst (λ x. state_after (state_in x q.stands.commands) line r ≡ Outside) (sym outside) (done-outside line r rows))
         (λ later rest. subst (λ z. IsAnswer script (record { steps = steps; event = e; earlier = mark.Commit g ∷ []; later = later }) s b line z) (sym told-as)
         (command-told (mark.Commit g ∷ []) (at-calm script steps e s line n b (is_alone B P) (Some g) [] (mark.Commit g ∷ []) at-now (tt, tt)) later m (gathered-here m gath none its_cid same (mark.Commit g ∷ []) later) cmd
         (subst (λ z. RestAnswer script (record { steps = steps; event = e; earlier = mark.Commit g ∷ []; later = later }) s z) told-as rest)
         (subst (λ x. Rattle.gx_store.specs.Answers.IsAtItsEnd (state_in x q.stands.commands) (record { steps = steps; event = e; earlier = mark.Commit g ∷ []; later = later }) g) (sym outside) (ap (λ t. t || false) (self-test g.0)))))
-        outs
+        outs over
       where
         r : StmtAnswer
         r = answer_at_commit (work_of c1 g) (session_of c1 (work_of c1 g).session).state.pending
@@ -255,7 +261,7 @@ module _ (script : Script) (steps : List Step) (c : Coord) (from : Node) (to : N
         closed = ap (λ z. block_after_done z y.state.pending) (q.in_block ∙ outside) ∙ ap (block_after_done block.Outside) (q.in_line ∙ working)
 
     -- A BLOCK COMMITS
-    pub block-commit : (c1 : Coord) (w : Work) (turn : Turn) (l : Level) → Under script steps c e c1 s g w y n b (is_alone B P) line [] → B ≡ block.Open l → P ≡ pending.Commit → line ≡ stmt.Commit → turn.table.next.0 ≡ c1.table.next.0 → ((marks : List Mark) → Each (OutIs script marks) turn.out.outs) → Does script steps c e (is_closed c1 g turn)
+    pub block-commit : (c1 : Coord) (w : Work) (turn : Turn) (l : Level) → Under script steps c e c1 s g w y n b (is_alone B P) line [] → B ≡ block.Open l → P ≡ pending.Commit → line ≡ stmt.Commit → turn.table.next.0 ≡ c1.table.next.0 → Each IsBare turn.out.outs → Does script steps c e (is_closed c1 g turn)
     block-commit c1 w turn l o opened closing is next outs =
         commit-does script steps c e c1 s g w y n b (is_alone B P) line [] o turn next (subst (λ x. Rattle.gx_store.specs.Legal.may_commit (state_in x q.stands.commands) line ≡ true) (sym opened) (subst (λ z. Rattle.gx_store.specs.Legal.may_commit (InBlock l q.stands.commands) z ≡ true) (sym is) refl))
         (ap (λ z. block_after_done y.state.block z) (q.in_line ∙ closing))
@@ -264,8 +270,16 @@ module _ (script : Script) (steps : List Step) (c : Coord) (from : Node) (to : N
         (subst (λ x. IsAnswer script (record { steps = steps; event = e; earlier = mark.Commit g ∷ []; later = later }) s (state_in x q.stands.commands) line told.Commit) (sym opened)
         (subst (λ z. IsAnswer script (record { steps = steps; event = e; earlier = mark.Commit g ∷ []; later = later }) s (InBlock l q.stands.commands) z told.Commit) (sym is)
         (record { g = g; transaction = subst (λ x. transaction_of (state_in x q.stands.commands) s (ms ++ mark.Commit g ∷ []) ≡ Some g) opened (transaction later); committed = ap (λ t. t || false) (self-test g.0) }))))
-        outs
+        outs (λ a i level z. absurd (none-awaited (c.works g.0) a i level no-command z))
       where
+        no-command : (work_of c g).command ≡ None
+        no-command = by_pending P closing (q.stands.owns q.busy).1
+          where
+            by_pending : (p : Pending) → p ≡ pending.Commit → IsLineOf script s y.lines B q.stands.commands (work_of c g) p → (work_of c g).command ≡ None
+            by_pending pending.Commit h l = l.0
+            by_pending pending.Nothing h l = l
+            by_pending pending.Command h l = absurd (cc)
+
         r : StmtAnswer
         r = answer_at_commit (work_of c1 g) (session_of c1 (work_of c1 g).session).state.pending
 
@@ -280,8 +294,8 @@ module _ (script : Script) (steps : List Step) (c : Coord) (from : Node) (to : N
         transaction later = subst (λ z. transaction_of z s (ms ++ mark.Commit g ∷ []) ≡ Some g) a2.said.state (transaction-is script steps e s line n b (is_alone B P) (Some g) (mark.Commit g ∷ []) a2 later g has-txn refl)
 
     -- A COMMAND IN A BLOCK IS ANSWERED
-    pub block-answer : (c1 : Coord) (w : Work) (m : Command) (l : Level) → Gathers script (HeardNow steps e) g m → m.awaited ≡ [] → m.cid ≡ cid_of b → Under script steps c e c1 s g w y n b (is_alone B P) line [] → Likewise w → B ≡ block.Open l → P ≡ pending.Command → w.command ≡ Some m → m.stmt ≡ line → is_command b line ≡ true → c1.table.next.0 ≡ c.table.next.0 → Does script steps c e (answers c1 g (work_of c1 g))
-    block-answer c1 w m l gath none its_cid o k opened working has same cmd next =
+    pub block-answer : (c1 : Coord) (w : Work) (m : Command) (l : Level) → Gathers script (HeardNow steps e) g m → m.awaited ≡ [] → m.cid ≡ cid_of b → Under script steps c e c1 s g w y n b (is_alone B P) line [] → Likewise w → B ≡ block.Open l → P ≡ pending.Command → w.command ≡ Some m → m.stmt ≡ line → is_command b line ≡ true → c1.table.next.0 ≡ c.table.next.0 → ((a : Cid) (i : Node) (level : Level) → IsAwaited (c.works g.0) a i level → HasAnswered (HeardNow steps e) i g a) → Does script steps c e (answers c1 g (work_of c1 g))
+    block-answer c1 w m l gath none its_cid o k opened working has same cmd next over =
         record {
           s = s.0;
           g = g.0;
@@ -299,6 +313,9 @@ module _ (script : Script) (steps : List Step) (c : Coord) (from : Node) (to : N
           legal = λ later. subst (λ i. EachMark (Given script) steps e [] (mark.Answer i (session_of c1 i).lines r ∷ []) later) (sym home)
               (λ rest. legal-answer script steps e s line n b (is_alone B P) (Some g) [] at-now later (session_of c1 s).lines r numbered (is later rest), tt);
           outs = tt;
+          owned = λ h. own-none g ((answers c1 g (work_of c1 g)).coord.works g.0) (ap (λ (v : Work). v.command) work-now);
+          sent = tt;
+          keeps = λ a i level z. inr (inl (over a i level z));
           orders = λ h. subst (CommandIs script late) (sym (ap (λ (v : Work). v.command) work-now)) tt;
           gathers = λ h. subst (GathersIn script (HeardNow steps e) g) (sym (ap (λ (v : Work). v.command) work-now)) tt;
         }

@@ -25,10 +25,11 @@ use Rattle.gx_rules.specs.Coordinators.{Coord, Session, Work, no_work, session_o
 use Rattle.gx_laws.proofs.Sessions.{is_nothing_in}
 use Rattle.gx_laws.proofs.Turns.{self-test}
 use Rattle.gx_histories.specs.Standing.{IsOver, IsSession, IsStanding, Owns, Stands, is_busy, state_in}
+use Rattle.gx_histories.proofs.Awaited.{bare-all, own-none}
 use Rattle.gx_histories.proofs.Ends.{of-fresh}
 use Rattle.gx_histories.proofs.Frame.{Does, sid}
 use Rattle.gx_histories.proofs.Gathers.{GathersIn, HeardNow}
-use Rattle.gx_histories.proofs.Outs.{CommandIs, OutIs, abort-plain}
+use Rattle.gx_histories.proofs.Outs.{CommandIs, abort-bare, bare-outs}
 use Rattle.gx_histories.proofs.Said.{Said, said-calm}
 
 differ : false ≡ true → ⊥
@@ -117,7 +118,10 @@ module _ (script : Script) (steps : List Step) (c : Coord) (s : SessionId) (all 
         starts = started;
         stands = inr (ended, over (mark.Abort y.transaction ∷ []) (tt, tt));
         legal = λ later. (λ q. record { running = subst (λ m. is_ended m y.transaction ≡ false) (sym (append-nil ms)) own.running; cause = inr (record { session = s; event = refl; transaction = transaction }) }, tt);
-        outs = abort-plain script _ c.table y.transaction;
+        outs = bare-outs script (ms ++ mark.Abort y.transaction ∷ []) _ (abort-bare c.table y.transaction);
+        owned = λ h. own-none y.transaction ((rolls_back (with_state c s idle_outside) y.transaction [] (on_abort c.table y.transaction)).coord.works y.transaction.0) (ap (λ (z : Work). z.command) (ap (λ q. if q then no_work else c.works y.transaction.0) (self-test y.transaction.0)));
+        sent = bare-all (rolls_back (with_state c s idle_outside) y.transaction [] (on_abort c.table y.transaction)).coord _ (abort-bare c.table y.transaction);
+        keeps = λ k i level a. inr (inr (ap (λ q. q || false) (self-test y.transaction.0)));
         orders = λ h. subst (CommandIs script (ms ++ mark.Abort y.transaction ∷ [])) (sym (ap (λ (z : Work). z.command) (ap (λ q. if q then no_work else c.works y.transaction.0) (self-test y.transaction.0)))) tt;
         gathers = λ h. subst (GathersIn script (HeardNow steps (event.End s)) y.transaction) (sym (ap (λ (z : Work). z.command) (ap (λ q. if q then no_work else c.works y.transaction.0) (self-test y.transaction.0)))) tt;
       }
@@ -147,6 +151,9 @@ module _ (script : Script) (steps : List Step) (c : Coord) (s : SessionId) (all 
         stands = inr (ended, over [] tt);
         legal = λ later. tt;
         outs = tt;
+        owned = λ h. h;
+        sent = tt;
+        keeps = λ k i level a. inl a;
         orders = λ h. h;
         gathers = λ h. h;
       }

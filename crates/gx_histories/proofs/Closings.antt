@@ -52,12 +52,14 @@ use Rattle.gx_laws.proofs.Statuses.Stage.{Live, Closing}
 use Rattle.gx_histories.specs.Rest.{EachMark}
 use Rattle.gx_histories.specs.Standing.{IsLineOf, IsSession, Stands, is_alone, is_busy, state_in}
 use Rattle.gx_histories.proofs.Answers.{command-refusable, done-outside, is_refusable}
+use Rattle.gx_histories.proofs.Awaited.{all-answered, bare-all}
 use Rattle.gx_histories.proofs.Busy.{Busy, alone-commit, block-commit, busy-under}
 use Rattle.gx_histories.proofs.Ends.{IsOf}
 use Rattle.gx_histories.proofs.Frame.{Does, Effect, Rests}
-use Rattle.gx_histories.proofs.Gathers.{GathersIn, IsHeard}
+use Rattle.gx_histories.specs.Alive.{IsHeard}
+use Rattle.gx_histories.proofs.Gathers.{GathersIn}
 use Rattle.gx_histories.proofs.Given.{Given}
-use Rattle.gx_histories.proofs.Outs.{CommandIs, OutIs, reply-plain}
+use Rattle.gx_histories.proofs.Outs.{IsBare, bare-outs, reply-bare}
 use Rattle.gx_histories.proofs.Replies.{ByWord, Works, both_of, done-does, failed-does, found-by, gathers-old, same-gxid, stand, works-on}
 use Rattle.gx_histories.proofs.Said.{CalmFor}
 use Rattle.gx_histories.proofs.Under.{Under, refuse-does}
@@ -65,10 +67,10 @@ use Rattle.gx_histories.proofs.Under.{Under, refuse-does}
 -- the item of a turn says nothing of sessions
 pub does-with : (script : Script) (steps : List Step) (c : Coord) (e : Event) (turn : CoordTurn) (item : Option JournalItem) → Does script steps c e turn → Does script steps c e (record turn { item = item })
 does-with script steps c e turn item d =
-    record { s = d.s; g = d.g; x = d.x; sessions = d.sessions; works = d.works; next = d.next; whose = d.whose; of = d.of; fresh = d.fresh; alone = d.alone; starts = d.starts; stands = d.stands; legal = d.legal; outs = d.outs; orders = d.orders; gathers = d.gathers }
+    record { s = d.s; g = d.g; x = d.x; sessions = d.sessions; works = d.works; next = d.next; whose = d.whose; of = d.of; fresh = d.fresh; alone = d.alone; starts = d.starts; stands = d.stands; legal = d.legal; outs = d.outs; orders = d.orders; gathers = d.gathers; owned = d.owned; sent = d.sent; keeps = d.keeps }
 
 pub rests-now : (script : Script) (steps : List Step) (c : Coord) (from to : Node) (number : ℕ) → Rests script steps c (event.Receive from to number) (rests c)
-rests-now script steps c from to number = record { sessions = λ j. refl; works = λ j. refl; next = refl; quiet = tt; alone = λ j. (refl, refl); outs = λ h. tt }
+rests-now script steps c from to number = record { sessions = λ j. refl; works = λ j. refl; next = refl; quiet = tt; alone = λ j. (refl, refl); outs = λ h. tt; sent = λ h. tt }
 
 -- a segment's word is that its journal has failed
 has-failed : (steps : List Step) (e : Event) (earlier later : List Mark) (g : Gxid) (i : ℕ) → 1 ≤ i → Receives steps e (record { 0 = i }) the_coordinator (message.Answer g reply.Jfault) → Contains (marks_in steps ++ earlier) (mark.JournalFailed (record { 0 = i }) g) → HasJournalFailed (record { steps = steps; event = e; earlier = earlier; later = later }) g (record { 0 = i })
@@ -164,9 +166,9 @@ module _ (script : Script) (steps : List Step) (c : Coord) (k : Kept c) (all : (
   under-same : (B : Block) (P : Pending) (line : Stmt) (q : Busy script steps c from to number g B P line) → Under script steps c e c s g (work_of c g) y (answer_count s ms) (state_in B q.stands.commands) (is_alone B P) line []
   under-same B P line q = busy-under script steps c from to number g B P line q c (work_of c g) refl refl (λ j h. refl) (λ j. refl) refl
 
-  commits-now : (turn : Turn) → turn.table.next.0 ≡ c.table.next.0 → ((marks : List Mark) → Each (OutIs script marks) turn.out.outs) → AloneSo ⊎ BlockSo → Does script steps c e (is_closed c g turn)
+  commits-now : (turn : Turn) → turn.table.next.0 ≡ c.table.next.0 → Each IsBare turn.out.outs → AloneSo ⊎ BlockSo → Does script steps c e (is_closed c g turn)
   commits-now turn next outs (inl z) =
-      alone-commit script steps c from to number g block.Outside pending.Command z.0.stmt z.1.is_busy_so c (work_of c g) z.0 turn (gathers-old script steps c k all gath from to number g z.0 z.1.has_it) z.2 z.1.counted (under-same block.Outside pending.Command z.0.stmt z.1.is_busy_so) refl refl z.1.has_it refl z.1.command next outs
+      alone-commit script steps c from to number g block.Outside pending.Command z.0.stmt z.1.is_busy_so c (work_of c g) z.0 turn (gathers-old script steps c k all gath from to number g z.0 z.1.has_it) z.2 z.1.counted (under-same block.Outside pending.Command z.0.stmt z.1.is_busy_so) refl refl z.1.has_it refl z.1.command next outs (λ a i level q. absurd (all-answered (work_of c g) z.0 a i level z.1.has_it z.2 q))
   commits-now turn next outs (inr z) =
       block-commit script steps c from to number g (block.Open z.0) pending.Commit stmt.Commit z.1 c (work_of c g) turn z.0 (under-same (block.Open z.0) pending.Commit stmt.Commit z.1) refl refl refl next outs
 
@@ -186,7 +188,7 @@ module _ (script : Script) (steps : List Step) (c : Coord) (k : Kept c) (all : (
   whys-given true later = (λ r. tt, tt)
   whys-given false later = tt
 
-  refuses-by : (turn : Turn) (b : Bool) (reason : Refused) (B : Block) (P : Pending) (line : Stmt) (q : Busy script steps c from to number g B P line) → turn.table.next.0 ≡ c.table.next.0 → is_refusable (state_in B q.stands.commands) line ≡ true → block_after_refusal B P ≡ block.Outside → state_after (state_in B q.stands.commands) line (told.Refused reason) ≡ Outside → ((later : List Mark) (l : Stmt) (v : Level) (cid : Cid) → IsCause (record { steps = steps; event = e; earlier = whys b ++ mark.Abort g ∷ []; later = later }) l v g cid reason) → ((marks : List Mark) → Each (OutIs script marks) turn.out.outs) → Does script steps c e (is_refused c g turn (whys b) reason)
+  refuses-by : (turn : Turn) (b : Bool) (reason : Refused) (B : Block) (P : Pending) (line : Stmt) (q : Busy script steps c from to number g B P line) → turn.table.next.0 ≡ c.table.next.0 → is_refusable (state_in B q.stands.commands) line ≡ true → block_after_refusal B P ≡ block.Outside → state_after (state_in B q.stands.commands) line (told.Refused reason) ≡ Outside → ((later : List Mark) (l : Stmt) (v : Level) (cid : Cid) → IsCause (record { steps = steps; event = e; earlier = whys b ++ mark.Abort g ∷ []; later = later }) l v g cid reason) → Each IsBare turn.out.outs → Does script steps c e (is_refused c g turn (whys b) reason)
   refuses-by turn b reason B P line q next may closed after cause outs =
       refuse-does script steps c e c s g (work_of c g) y (answer_count s ms) (state_in B q.stands.commands) (is_alone B P) line [] (under-same B P line q) turn (whys b) reason block.Outside next may
       (ap (λ z. block_after_refusal z y.state.pending) q.in_block ∙ ap (block_after_refusal B) q.in_line ∙ closed) refl after (whys-of s.0 g.0 b) (whys-calm b) (running b) (whys-given b) (λ later rest. cause later line _ _) outs
@@ -195,14 +197,14 @@ module _ (script : Script) (steps : List Step) (c : Coord) (k : Kept c) (all : (
       running false = (under-same B P line q).running
       running true = Rattle.gx_histories.proofs.Ends.ended-more ms (mark.JournalFailed the_coordinator g ∷ []) g (subst (λ m. is_ended m g ≡ false) (append-nil ms) (under-same B P line q).running) refl
 
-  refuses-now : (turn : Turn) (b : Bool) (reason : Refused) → turn.table.next.0 ≡ c.table.next.0 → ((later : List Mark) (l : Stmt) (v : Level) (cid : Cid) → IsCause (record { steps = steps; event = e; earlier = whys b ++ mark.Abort g ∷ []; later = later }) l v g cid reason) → ((marks : List Mark) → Each (OutIs script marks) turn.out.outs) → AloneSo ⊎ BlockSo → Does script steps c e (is_refused c g turn (whys b) reason)
+  refuses-now : (turn : Turn) (b : Bool) (reason : Refused) → turn.table.next.0 ≡ c.table.next.0 → ((later : List Mark) (l : Stmt) (v : Level) (cid : Cid) → IsCause (record { steps = steps; event = e; earlier = whys b ++ mark.Abort g ∷ []; later = later }) l v g cid reason) → Each IsBare turn.out.outs → AloneSo ⊎ BlockSo → Does script steps c e (is_refused c g turn (whys b) reason)
   refuses-now turn b reason next cause outs (inl z) =
       refuses-by turn b reason block.Outside pending.Command z.0.stmt z.1.is_busy_so next (command-refusable Outside z.0.stmt z.1.command) refl (done-outside z.0.stmt (told.Refused reason) z.1.command) cause outs
   refuses-now turn b reason next cause outs (inr z) = refuses-by turn b reason (block.Open z.0) pending.Commit stmt.Commit z.1 next refl refl refl cause outs
 
   module _ (r : Reply) (received : Receives steps e from the_coordinator (message.Answer g r)) (noted : r ≡ reply.Jfault → Contains ms (mark.JournalFailed from g)) where
     -- the coordinator's journal has failed, or the segment's
-    refused-now : (turn : Turn) (i : Node) → turn.table.next.0 ≡ c.table.next.0 → ((marks : List Mark) → Each (OutIs script marks) turn.out.outs) → stage_of c g.0 ≡ Closing → ((r ≡ reply.Jfault) × (i ≡ from)) ⊎ (i ≡ the_coordinator) → Does script steps c e (is_refused c g turn (failure_marks i g) (refused.JournalFault i))
+    refused-now : (turn : Turn) (i : Node) → turn.table.next.0 ≡ c.table.next.0 → Each IsBare turn.out.outs → stage_of c g.0 ≡ Closing → ((r ≡ reply.Jfault) × (i ≡ from)) ⊎ (i ≡ the_coordinator) → Does script steps c e (is_refused c g turn (failure_marks i g) (refused.JournalFault i))
     refused-now turn i next outs closing (inr h) =
         subst (λ j. Does script steps c e (is_refused c g turn (failure_marks j g) (refused.JournalFault j))) (sym h)
         (refuses-now turn true (refused.JournalFault the_coordinator) next
@@ -216,10 +218,10 @@ module _ (script : Script) (steps : List Step) (c : Coord) (k : Kept c) (all : (
         above : (a : ℕ) → 1 ≤ a → (a == 0) ≡ false
         above a l = grind (arith, nat_tests)
 
-    by-outcome : (turn : Turn) (item : Option JournalItem) (a b : Rattle.gx_laws.proofs.Statuses.Stage) → stage_of c g.0 ≡ a → turn.table.next ≡ c.table.next → ((marks : List Mark) → Each (OutIs script marks) turn.out.outs) → (o : Outcome) → Moves a b o → ByWord from r o → Effect script steps c e (record (follows c g turn o) { item = item })
-    by-outcome turn item a b st next outs outcome.Pending h w = inr (record { sessions = λ j. refl; works = λ j. refl; next = ap (λ (z : Gxid). z.0) next; quiet = tt; alone = λ j. (refl, refl); outs = λ o. outs _ })
-    by-outcome turn item a b st next outs outcome.Decided h w = inr (record { sessions = λ j. refl; works = λ j. refl; next = ap (λ (z : Gxid). z.0) next; quiet = (tt, tt); alone = λ j. (refl, refl); outs = λ o. outs _ })
-    by-outcome turn item a b st next outs outcome.Ended h w = inr (record { sessions = λ j. refl; works = λ j. refl; next = ap (λ (z : Gxid). z.0) next; quiet = tt; alone = λ j. (refl, refl); outs = λ o. outs _ })
+    by-outcome : (turn : Turn) (item : Option JournalItem) (a b : Rattle.gx_laws.proofs.Statuses.Stage) → stage_of c g.0 ≡ a → turn.table.next ≡ c.table.next → Each IsBare turn.out.outs → (o : Outcome) → Moves a b o → ByWord from r o → Effect script steps c e (record (follows c g turn o) { item = item })
+    by-outcome turn item a b st next outs outcome.Pending h w = inr (record { sessions = λ j. refl; works = λ j. refl; next = ap (λ (z : Gxid). z.0) next; quiet = tt; alone = λ j. (refl, refl); outs = λ o. bare-outs script _ turn.out.outs outs; sent = λ o. bare-all c turn.out.outs outs })
+    by-outcome turn item a b st next outs outcome.Decided h w = inr (record { sessions = λ j. refl; works = λ j. refl; next = ap (λ (z : Gxid). z.0) next; quiet = (tt, tt); alone = λ j. (refl, refl); outs = λ o. bare-outs script _ turn.out.outs outs; sent = λ o. bare-all c turn.out.outs outs })
+    by-outcome turn item a b st next outs outcome.Ended h w = inr (record { sessions = λ j. refl; works = λ j. refl; next = ap (λ (z : Gxid). z.0) next; quiet = tt; alone = λ j. (refl, refl); outs = λ o. bare-outs script _ turn.out.outs outs; sent = λ o. bare-all c turn.out.outs outs })
     by-outcome turn item a b st next outs outcome.Committed h w = inl (does-with script steps c e _ item (commits-now turn (ap (λ (z : Gxid). z.0) next) outs (closing-so (st ∙ h.0))))
     by-outcome turn item a b st next outs (outcome.Refused i) h w = inl (does-with script steps c e _ item (refused-now turn i (ap (λ (z : Gxid). z.0) next) outs (st ∙ h.0) w))
 
@@ -227,7 +229,7 @@ module _ (script : Script) (steps : List Step) (c : Coord) (k : Kept c) (all : (
     status-does fails =
         let turn : Turn = on_reply c.table g from r fails in
         let t : Turned c.table g.0 (on_reply c.table g from r fails) Moves = reply-turns c.table g.0 from r fails k.whole in
-        by-outcome (on_reply c.table g from r fails) (item_for c.table g from r) (stage_of c g.0) (stage t.now) refl refl (λ marks. reply-plain script marks c.table g from r fails) (on_reply c.table g from r fails).out.outcome t.how (found-by g from r fails (find_txn c.table g))
+        by-outcome (on_reply c.table g from r fails) (item_for c.table g from r) (stage_of c g.0) (stage t.now) refl refl (reply-bare c.table g from r fails) (on_reply c.table g from r fails).out.outcome t.how (found-by g from r fails (find_txn c.table g))
 
   answer-does : (fails : Bool) (r : Reply) → Receives steps e from the_coordinator (message.Answer g r) → (r ≡ reply.Jfault → Contains ms (mark.JournalFailed from g)) → Effect script steps c e (on_answer c g from fails r)
   answer-does fails (reply.Done cid wrote count part) h n = on-done-does cid wrote count part h (work_of c g).command refl

@@ -16,11 +16,13 @@ use Rattle.gx_tree.specs.declared.stmt.Level.TheVariants.{ReadCommitted, Repeata
 use Rattle.gx_tree.specs.declared.stmt.Stmt.{Stmt}
 use Rattle.gx_tree.specs.declared.stmt.Stmt.TheVariants as stmt
 use Rattle.gx_dsnap.specs.declared.snapshot.Snapshot.{Snapshot}
+use Rattle.gx_dtx.specs.Nodes.{has}
 use Rattle.gx_dtx.specs.Rules.{enlisted, on_abort}
 use Rattle.gx_dtx.specs.Table.{Table, horizon_of}
 use Rattle.gx_eval.specs.Meaning.{and_then}
 use Rattle.gx_eval.specs.declared.fault.ArithFault.{ArithFault}
 use Rattle.gx_eval.specs.declared.fault.ArithFault.TheVariants as arithmetic
+use Rattle.gx_msg.specs.declared.message.Out.{Out}
 use Rattle.gx_plan.specs.Constants.{rows_of}
 use Rattle.gx_plan.specs.Plan.{insert_pieces, plan_of}
 use Rattle.gx_plan.specs.declared.piece.Piece.{Piece}
@@ -54,12 +56,13 @@ use Rattle.gx_histories.specs.Standing.{HasSnapshot, IsTaken, Owns, Roots, Stand
 use Rattle.gx_histories.proofs.Answers.{command-refusable, done-outside, refused-inside}
 use Rattle.gx_histories.proofs.AtLine.{AtLine, at-calm, legal-snap}
 use Rattle.gx_histories.proofs.AtLine as at_line
+use Rattle.gx_histories.proofs.Awaited.{IsAwaited, IsOwn, OutAwaits}
 use Rattle.gx_histories.proofs.Ends.{IsOf, ended-more, keeps-snapshot, of-fresh, snapped-more, snapshot-more, taken-more, unsnapped}
 use Rattle.gx_histories.proofs.Faults.{constants-fault}
 use Rattle.gx_histories.proofs.Frame.{Does}
 use Rattle.gx_histories.proofs.Gathers.{GathersIn, HeardNow}
 use Rattle.gx_histories.proofs.Given.{Given, marks-append}
-use Rattle.gx_histories.proofs.Outs.{CommandIs, OutIs, abort-plain}
+use Rattle.gx_histories.proofs.Outs.{CommandIs, OutIs, abort-bare}
 use Rattle.gx_histories.proofs.Roots.{roots-level}
 use Rattle.gx_histories.proofs.Said.{CalmFor, Said}
 use Rattle.gx_histories.proofs.Under.{Under, refuse-does}
@@ -97,7 +100,8 @@ module _ (script : Script) (steps : List Step) (c c1 : Coord) (s : SessionId) (g
     (xb : x.state.block ≡ B) (xp : x.state.pending ≡ pending.Command) (busy : is_busy B pending.Command ≡ true) (cmd : is_command (state_in B commands) line ≡ true)
     (owns : Owns s commands (marks_in steps ++ earlier) c1.table.next.0 B g (work_of c1 g)) (none : (work_of c1 g).command ≡ None) (cid : cid_of (state_in B commands) ≡ next_cid (work_of c1 g))
     (past : Past c1 (marks_in steps ++ earlier))
-    (roots : (m : Command) (v : Work) (ns : List Mark) → m.stmt ≡ line → m.cid ≡ next_cid (work_of c1 g) → v.last ≡ (work_of c1 g).last + 1 → v.command ≡ Some m → Roots script s ((marks_in steps ++ earlier) ++ ns) B pending.Command x.lines g v) where
+    (roots : (m : Command) (v : Work) (ns : List Mark) → m.stmt ≡ line → m.cid ≡ next_cid (work_of c1 g) → v.last ≡ (work_of c1 g).last + 1 → v.command ≡ Some m → Roots script s ((marks_in steps ++ earlier) ++ ns) B pending.Command x.lines g v)
+    (unawaited : (k : Cid) (i : Node) (level : Level) → IsAwaited (c.works g.0) k i level → ⊥) where
   abbrev w : Work
   w = work_of c1 g
 
@@ -341,11 +345,38 @@ module _ (script : Script) (steps : List Step) (c c1 : Coord) (s : SessionId) (g
         stands = inl (o.ends, at_x (subst (λ v. Stands script s (marks_in steps ++ (earlier ++ r.marks)) late.coord.table.next.0 B pending.Command x.lines g v) (sym work-now) there));
         legal = λ later. marks-append (Given script) steps (event.Start s) [] earlier r.marks later (o.legal (r.marks ++ later)) (R.legal later);
         outs = sent_orders;
+        owned = λ h m q. subst (λ (z : Command). Each (λ (o : Out). IsOwn g z.cid ((goes_out g (next_cid w) line pieces r).coord.works g.0).level o.message) z.orders) (some-same _ m (sym command-now ∙ q)) (own-all pieces);
+        sent = awaited-all pieces (λ i h. h);
+        keeps = λ k i level a. absurd (unawaited k i level a);
         orders = λ h. subst (CommandIs script (marks_in steps ++ (earlier ++ r.marks))) (sym command-now) sent_orders;
         gathers = λ h. subst (GathersIn script (HeardNow steps (event.Start s)) g) (sym command-now)
-            (record { pieces = pieces; plan = plan; taken = []; heard = tt; fits = tt; apart = tt; all = λ i. or-none (Rattle.gx_dtx.specs.Nodes.has i (nodes_in pieces)); free = λ i q. refl; parts = refl; counted = refl });
+            (record { pieces = pieces; plan = plan; taken = []; heard = tt; fits = tt; apart = tt; all = λ i. or-none (has i (nodes_in pieces)); free = λ i q. refl; parts = refl; counted = refl });
       }
     where
+      some-same : (a b : Command) → Some a ≡ Some b → a ≡ b
+      some-same a b h = cc
+
+      own-all : (qs : List Piece) → Each (λ (o : Out). IsOwn g (next_cid w) ((goes_out g (next_cid w) line pieces r).coord.works g.0).level o.message) (orders_of g (next_cid w) (work_of r.coord g).level r.snapshot (horizon_of r.coord.table) qs)
+      own-all [] = tt
+      own-all (q ∷ qs) = ((refl, refl, sym (ap (λ (v : Work). v.level) (ap (λ t. if t then sent-work r pieces (work_of r.coord g) else r.coord.works g.0) (self-test g.0)))), own-all qs)
+
+      awaited-all : (qs : List Piece) → ((i : Node) → has i (nodes_in qs) ≡ true → has i (nodes_in pieces) ≡ true) → Each (OutAwaits (goes_out g (next_cid w) line pieces r).coord) (orders_of g (next_cid w) (work_of r.coord g).level r.snapshot (horizon_of r.coord.table) qs)
+      awaited-all [] f = tt
+      awaited-all (q ∷ qs) f = (
+        record {
+          its = record { stmt = line; cid = next_cid w; orders = orders_of g (next_cid w) (work_of r.coord g).level r.snapshot (horizon_of r.coord.table) pieces; awaited = nodes_in pieces; count = 0; parts = [] };
+          is = ap (λ (v : Work). v.command) (ap (λ t. if t then sent-work r pieces (work_of r.coord g) else r.coord.works g.0) (self-test g.0));
+          counted = refl;
+          awaits = f q.node (ap (λ t. t || has q.node (nodes_in qs)) (self-test q.node.0));
+          level_is = sym (ap (λ (v : Work). v.level) (ap (λ t. if t then sent-work r pieces (work_of r.coord g) else r.coord.works g.0) (self-test g.0)));
+        },
+        awaited-all qs (λ i h. f i (or-true (eqb q.node.0 i.0) h)),
+      )
+        where
+          or-true : (a : Bool) {b : Bool} → b ≡ true → (a || b) ≡ true
+          or-true true e = refl
+          or-true false e = e
+
       or-none : (b : Bool) → b ≡ (b || false)
       or-none true = refl
       or-none false = refl
@@ -461,7 +492,7 @@ module _ (script : Script) (steps : List Step) (c c1 : Coord) (s : SessionId) (g
         (each_append (IsOf s.0 g.0) r.marks (noted ∷ []) R.of (tt, tt)) (each_append (CalmFor s) r.marks (noted ∷ []) R.calm (tt, tt))
         (subst (λ m. is_ended m g ≡ false) (append_assoc (marks_in steps) (earlier ++ r.marks) (noted ∷ []) ∙ ap (λ m. marks_in steps ++ m) (append_assoc earlier r.marks (noted ∷ []))) (ended-more seam (noted ∷ []) g (running-there r R) refl))
         (λ later. marks-append (Given script) steps (event.Start s) earlier r.marks (noted ∷ []) later (R.legal _) (λ q. live-fault later, tt))
-        (λ later q. cause later) (λ marks. abort-plain script marks r.coord.table g)
+        (λ later q. cause later) (abort-bare r.coord.table g)
       where
         not-busy : (q : Block) → is_busy (block_after_refusal q pending.Command) pending.Nothing ≡ false
         not-busy block.Outside = refl

@@ -29,17 +29,11 @@ use Rattle.gx_rules.specs.AtCoordinator.{command_answer, nodes_in, table_of, wit
 use Rattle.gx_rules.specs.Coordinators.{Command}
 use Rattle.gx_rules.specs.Fits.{fits_part}
 use Rattle.gx_laws.proofs.Lists.{get_kept, get_last}
+use Rattle.gx_histories.specs.Alive.{IsHeard}
 use Rattle.gx_histories.specs.Gathering.{AreAll, AreApart, IsGathered, Taken, gathered_answer, nodes_taken, parts_taken, total}
 
 -- WHAT WAS HEARD
--- a message that one of the steps received
-pub record IsHeard (steps : List Step) (from : Node) (m : Message) : Type 0 where
-  pub place : ℕ
-  pub step : Step
-  pub at : slice_get steps place ≡ Some step
-  pub is : Receives (take place steps) step.event from the_coordinator m
-
--- or that this event receives behind them
+-- a message that one of the steps received, or that this event receives behind them
 abbrev pub HeardNow : List Step → Event → Node → Message → Type 0
 HeardNow steps e from m = HasReceived (record { steps = steps; event = e; earlier = []; later = [] }) from the_coordinator m
 

@@ -7,6 +7,7 @@ pub mod Faults
 pub mod Roots
 pub mod Outs
 pub mod Gathers
+pub mod Awaited
 pub mod Frame
 pub mod After
 pub mod Under

@@ -4,11 +4,13 @@ use Rattle.std.proofs.lemmas.Bool.Decides.{nat_tests}
 use Rattle.std.proofs.lemmas.List.{append_assoc}
 use Rattle.gx_ids.specs.declared.ids.Cid.{Cid}
 use Rattle.gx_ids.specs.declared.ids.Gxid.{Gxid}
+use Rattle.gx_ids.specs.declared.ids.Node.{Node}
 use Rattle.gx_ids.specs.declared.ids.SessionId.{SessionId}
 use Rattle.gx_tree.specs.declared.stmt.Level.{Level}
 use Rattle.gx_tree.specs.declared.stmt.Level.TheVariants.{ReadCommitted, RepeatableRead}
 use Rattle.gx_tree.specs.declared.stmt.Stmt.{Stmt}
 use Rattle.gx_tree.specs.declared.stmt.Stmt.TheVariants as stmt
+use Rattle.gx_dtx.specs.Nodes.{has}
 use Rattle.gx_dtx.specs.Rules.{Turn, on_abort, on_commit}
 use Rattle.gx_dtx.specs.declared.outcome.Outcome.{Outcome}
 use Rattle.gx_dtx.specs.declared.outcome.Outcome.TheVariants as outcome
@@ -36,20 +38,21 @@ use Rattle.gx_rules.specs.AtCoordinator.{answer_at_commit, answer_mark, answers_
 use Rattle.gx_rules.specs.Coordinators.{Command, Coord, Session, Work, new_work, no_work, rests, session_of, with_session, with_state, work_of}
 use Rattle.gx_laws.proofs.Ends.{past-begun}
 use Rattle.gx_laws.proofs.Lists.{Each}
-use Rattle.gx_laws.proofs.Past.{Past}
+use Rattle.gx_laws.proofs.Past.{Past, running-drawn}
 use Rattle.gx_laws.proofs.Sessions.{Kept, is_nothing_in, is_open_in, stage_of}
-use Rattle.gx_laws.proofs.Statuses.{Closes, Turned, commit-turns, stage}
+use Rattle.gx_laws.proofs.Statuses.{Closes, Turned, commit-turns, is_running, stage}
 use Rattle.gx_laws.proofs.Statuses.Stage.{Live}
 use Rattle.gx_laws.proofs.Turns.{merged, self-test}
 use Rattle.gx_histories.specs.Rest.{EachMark, RestAnswer}
 use Rattle.gx_histories.specs.Standing.{HasSnapshot, IsOver, IsSession, IsStanding, Owns, Roots, Stands, is_alone, is_busy, is_open, is_sound, level_in, state_in, under_way, waits}
 use Rattle.gx_histories.proofs.AtLine.{AtLine, answered-now, at-calm, at-start, legal-abort, legal-answer, legal-start, transaction-is}
+use Rattle.gx_histories.proofs.Awaited.{IsAwaited, bare-all, none-awaited, own-none}
 use Rattle.gx_histories.proofs.Dispatch.{dispatch-does}
 use Rattle.gx_histories.proofs.Ends.{Fresh, IsOf, began-behind, ended-more, of-fresh, snapped-more, snapshot-more, unsnapped}
 use Rattle.gx_histories.proofs.Frame.{Does, owns-more, sid}
 use Rattle.gx_histories.proofs.Gathers.{GathersIn, HeardNow}
 use Rattle.gx_histories.proofs.Given.{Given}
-use Rattle.gx_histories.proofs.Outs.{CommandIs, OutIs, abort-plain, commit-plain}
+use Rattle.gx_histories.proofs.Outs.{CommandIs, abort-bare, bare-outs, commit-bare}
 use Rattle.gx_histories.proofs.Roots.{roots-alone, roots-begin, roots-command, roots-commit, roots-other}
 use Rattle.gx_histories.proofs.Said.{Said}
 use Rattle.gx_histories.proofs.Under.{Under, answered-self, closed-does, commit-does, stands-closed, x-is, home-is}
@@ -151,6 +154,9 @@ module _ (script : Script) (steps : List Step) (c : Coord) (k : Kept c) (p : Pas
           stands = inl (ended, subst (λ q. Stands script s late next q (pending_after asked) (y.lines + 1) y.transaction (work_of c y.transaction)) (sym stays) (subst (λ q. Stands script s late next B q (y.lines + 1) y.transaction (work_of c y.transaction)) (sym waiting) there));
           legal = λ later. (λ q. legal-answer script steps e s line y.lines (state_in y.state.block st.1.commands) false (started_after s None ms) [] at-zero later lines r numbered (is later), tt);
           outs = tt;
+          owned = λ h. h;
+          sent = tt;
+          keeps = λ a i level q. inl q;
           orders = λ h. h;
           gathers = λ h. h;
         }
@@ -236,6 +242,19 @@ module _ (script : Script) (steps : List Step) (c : Coord) (k : Kept c) (p : Pas
         by_level ReadCommitted = refl
         by_level RepeatableRead = snapshot-more ms ns c.table.next (fr.unread c.table.next (le-same next)) unread
 
+    -- nothing is awaited of a transaction that isn't drawn
+    undrawn-unawaited : (a : Cid) (i : Node) (level : Level) → IsAwaited (c.works c.table.next.0) a i level → ⊥
+    undrawn-unawaited a i level q = not-less (running-drawn c c.table.next.0 k.whole (ap is_running ((k.tied c.table.next.0).awaits q.its q.is some-left).0)).1
+      where
+        none-has : has i [] ≡ true → ⊥
+        none-has z = grind arith
+
+        some-left : q.its.awaited ≡ [] → ⊥
+        some-left z = none-has (sym (ap (has i) z) ∙ q.awaits)
+
+        not-less : c.table.next.0 < c.table.next.0 → ⊥
+        not-less l = omega arith
+
     fresh-began : (ns : List Mark) → began_from [] (ms ++ begun ∷ ns) c.table.next ≡ Some (s, y.lines + 1)
     fresh-began ns =
         began-behind [] ms (begun ∷ ns) c.table.next (fr.unstarted c.table.next (le-same next))
@@ -259,6 +278,9 @@ module _ (script : Script) (steps : List Step) (c : Coord) (k : Kept c) (p : Pas
           stands = inl (ended, subst (λ q. Stands script s late (next + 1) (block_after q asked) pending.Nothing (y.lines + 1) c.table.next (c1.works next)) outside (subst (λ v. Stands script s late (next + 1) (block.Open level) pending.Nothing (y.lines + 1) c.table.next v) (sym (fresh-work asked level)) there));
           legal = λ later. (λ q. start-given _ outside (ap (Rattle.gx_store.specs.Legal.draws Outside) is), (λ q. legal-answer script steps e s line y.lines Outside true (Some c.table.next) (begun ∷ []) (at-begun outside) later _ told.Begin numbered (subst (λ l. IsAnswer script (record { steps = steps; event = e; earlier = begun ∷ []; later = later }) s Outside l told.Begin) (sym is) (at-begun outside).said.begun), tt));
           outs = tt;
+          owned = λ h. own-none c.table.next (c1.works c.table.next.0) (ap (λ (v : Work). v.command) (fresh-work asked level));
+          sent = tt;
+          keeps = λ a i level q. absurd (undrawn-unawaited a i level q);
           orders = λ h. subst (CommandIs script late) (sym (ap (λ (v : Work). v.command) (fresh-work asked level))) tt;
           gathers = λ h. subst (GathersIn script (HeardNow steps e) c.table.next) (sym (ap (λ (v : Work). v.command) (fresh-work asked level))) tt;
         }
@@ -297,7 +319,7 @@ module _ (script : Script) (steps : List Step) (c : Coord) (k : Kept c) (p : Pas
         dispatch-does script steps c c1 s c.table.next (fresh asked) y.lines block.Outside 0 line (begun ∷ []) under (ap (λ q. block_after q asked) (sym outside)) refl refl cmd
         (subst (λ v. Owns s 0 (ms ++ begun ∷ []) (next + 1) block.Outside c.table.next v) (sym (fresh-work asked ReadCommitted)) (fresh-owns ReadCommitted block.Outside 0 (begun ∷ []) refl refl (at-begun outside).said.started refl refl))
         (ap (λ (v : Work). v.command) (fresh-work asked ReadCommitted)) (ap (λ (v : Work). next_cid v) (sym (fresh-work asked ReadCommitted)))
-        (past-begun c c1 ms (begun ∷ []) p k.whole refl (tt, tt)) roots
+        (past-begun c c1 ms (begun ∷ []) p k.whole refl (tt, tt)) roots undrawn-unawaited
       where
         asked : LineStep
         asked = step.Command true
@@ -386,7 +408,10 @@ module _ (script : Script) (steps : List Step) (c : Coord) (k : Kept c) (p : Pas
                   owns = λ h. (own-late l eb, ((own l eb).1, is_next ∙ ap (λ q. Some q) is), roots-commit script s ms [] l y.lines g (work_of c g) (own-roots l eb));
                 }));
             legal = λ later. tt;
-            outs = commit-plain script (ms ++ []) c.table g (work_of c g).writers;
+            outs = bare-outs script (ms ++ []) _ (commit-bare c.table g (work_of c g).writers);
+            owned = λ h. h;
+            sent = bare-all (follows c1 g turn outcome.Pending).coord _ (commit-bare c.table g (work_of c g).writers);
+            keeps = λ a i level q. inl q;
             orders = λ h. h;
             gathers = λ h. h;
           }
@@ -397,7 +422,7 @@ module _ (script : Script) (steps : List Step) (c : Coord) (k : Kept c) (p : Pas
           (subst (λ q. Rattle.gx_store.specs.Legal.may_commit (InBlock l st.1.commands) q ≡ true) (sym is) refl) refl
           (subst (λ q. state_after (InBlock l st.1.commands) q r ≡ Outside) (sym is) refl)
           (λ later q. subst (λ z. IsAnswer script (point later) s (InBlock l st.1.commands) line z) (sym told-is) (subst (λ z. IsAnswer script (point later) s (InBlock l st.1.commands) z told.Commit) (sym is) (committed later)))
-          (λ marks. commit-plain script marks c.table g (work_of c g).writers)
+          (commit-bare c.table g (work_of c g).writers) (λ a i level q. absurd (none-awaited (work_of c g) a i level (own l eb).1 q))
         where
           r : StmtAnswer
           r = answer_at_commit (work_of (starts_line c s step.CommitBlock) g) (session_of (starts_line c s step.CommitBlock) (work_of (starts_line c s step.CommitBlock) g).session).state.pending
@@ -435,7 +460,7 @@ module _ (script : Script) (steps : List Step) (c : Coord) (k : Kept c) (p : Pas
         subst (λ q. Does script steps c e (rolls_back c1 q (answer_mark c1 s told.Rollback ∷ []) (on_abort c.table q))) (sym (transaction-now step.RollbackBlock))
         (closed-does script steps c e c1 s g (work_of c g) (moved step.RollbackBlock) y.lines (InBlock l st.1.commands) false line [] (under-own step.RollbackBlock l eb)
         (rolls_back c1 g (answer_mark c1 s told.Rollback ∷ []) (on_abort c.table g)) (moved step.RollbackBlock) block.Outside (λ j. refl) (λ j h. ap (λ q. if q then no_work else c.works j) h) refl
-        (subst (λ q. block_after q step.RollbackBlock ≡ block.Outside) eb refl) refl refl refl (refl, (refl, tt)) legal said (abort-plain script _ c.table g) (ap (λ (z : Work). z.command) (ap (λ q. if q then no_work else c.works g.0) (self-test g.0))))
+        (subst (λ q. block_after q step.RollbackBlock ≡ block.Outside) eb refl) refl refl refl (refl, (refl, tt)) legal said (abort-bare c.table g) (ap (λ (z : Work). z.command) (ap (λ q. if q then no_work else c.works g.0) (self-test g.0))) (λ a i level q. inr (ap (λ t. t || false) (self-test g.0))))
       where
         c1 : Coord
         c1 = starts_line c s step.RollbackBlock
@@ -470,7 +495,7 @@ module _ (script : Script) (steps : List Step) (c : Coord) (k : Kept c) (p : Pas
         (dispatch-does script steps c (starts_line c s (step.Command false)) s g (moved (step.Command false)) y.lines (block.Open l) st.1.commands line [] (under-own (step.Command false) l eb)
         (subst (λ q. block_after q (step.Command false) ≡ block.Open l) eb refl) refl refl cmd (own-late l eb) (own l eb).1
         (ap (λ i. let d : Cid = record { 0 = i + 1 } in d) (same-plus st.1.commands _ (sym (ap (λ q. st.1.commands + under_way q) (own l eb).1) ∙ (own l eb).0.counted refl)))
-        (subst (λ m. Past (starts_line c s (step.Command false)) m) (sym (append-nil ms)) (record { committed = p.committed; ended = p.ended; dropped = p.dropped; latest = p.latest; drawn = p.drawn })) roots)
+        (subst (λ m. Past (starts_line c s (step.Command false)) m) (sym (append-nil ms)) (record { committed = p.committed; ended = p.ended; dropped = p.dropped; latest = p.latest; drawn = p.drawn })) roots (λ a i level q. none-awaited (work_of c g) a i level (own l eb).1 q))
       where
         command-any : (q : Stmt) → is_command (InBlock l st.1.commands) q ≡ is_command (InBlock ReadCommitted 0) q
         command-any (stmt.Begin v) = refl

@@ -2,8 +2,11 @@
 use Rattle.std.proofs.Common.{◌≡◌, ◌<◌, ◌≤◌, ◌⊎◌, inl, inr, ℕ, ◌+◌, List, [], ◌∷◌, ◌++◌, Option, Some, None, Bool, true, false, refl, sym, subst, ap, ◌∙◌, if◌then◌else◌, ◌||◌, arith, eqb}
 use Rattle.std.proofs.lemmas.Bool.Decides.{nat_tests}
 use Rattle.std.proofs.lemmas.List.{append_assoc}
+use Rattle.gx_ids.specs.declared.ids.Cid.{Cid}
 use Rattle.gx_ids.specs.declared.ids.Gxid.{Gxid}
+use Rattle.gx_ids.specs.declared.ids.Node.{Node}
 use Rattle.gx_ids.specs.declared.ids.SessionId.{SessionId}
+use Rattle.gx_tree.specs.declared.stmt.Level.{Level}
 use Rattle.gx_tree.specs.declared.stmt.Stmt.{Stmt}
 use Rattle.gx_script.specs.declared.Script.{Script}
 use Rattle.gx_dtx.specs.Rules.{Turn}
@@ -31,15 +34,17 @@ use Rattle.gx_rules.specs.Maps.{with_at}
 use Rattle.gx_laws.proofs.Lists.{Each, each_append}
 use Rattle.gx_laws.proofs.Past.{aborted-append}
 use Rattle.gx_laws.proofs.Turns.{self-test}
+use Rattle.gx_histories.specs.Alive.{HasAnswered}
 use Rattle.gx_histories.specs.Rest.{EachMark, RestAnswer}
 use Rattle.gx_histories.specs.Standing.{Stands, is_alone, is_busy, is_sound, state_in}
 use Rattle.gx_histories.proofs.Answers.{is_refusable, may-abort-refusable, refused-is}
 use Rattle.gx_histories.proofs.AtLine.{AtLine, answered-now, at-calm, has_txn, legal-abort, legal-answer, legal-commit, transaction-is}
+use Rattle.gx_histories.proofs.Awaited.{IsAwaited, IsSettled, bare-all, own-none}
 use Rattle.gx_histories.proofs.Ends.{Fresh, IsOf, of-fresh}
 use Rattle.gx_histories.proofs.Frame.{Does, sid}
 use Rattle.gx_histories.proofs.Gathers.{GathersIn, HeardNow}
 use Rattle.gx_histories.proofs.Given.{Given, marks-append}
-use Rattle.gx_histories.proofs.Outs.{CommandIs, OutIs}
+use Rattle.gx_histories.proofs.Outs.{CommandIs, IsBare, bare-outs}
 use Rattle.gx_histories.proofs.Said.{CalmFor, Said}
 
 -- the coordinator stands at c1, with these marks of the step so far: the line of session s is under way in transaction g
@@ -99,6 +104,14 @@ abort-last e g = aborted-append e (mark.Abort g ∷ []) g ∙ or-true (is_aborte
     or-true true e = refl
     or-true false e = e
 
+aborts : (earlier why : List Mark) (g : Gxid) (ns : List Mark) → is_aborted (earlier ++ (why ++ mark.Abort g ∷ ns)) g ≡ true
+aborts earlier why g ns =
+    aborted-append earlier (why ++ mark.Abort g ∷ ns) g ∙ or-true (is_aborted earlier g) (aborted-append why (mark.Abort g ∷ ns) g ∙ or-true (is_aborted why g) (ap (λ q. q || is_aborted ns g) (self-test g.0)))
+  where
+    or-true : (a : Bool) {b : Bool} → b ≡ true → (a || b) ≡ true
+    or-true true e = refl
+    or-true false e = e
+
 pub answered-self : (k : SessionId) (i : ℕ) (r : StmtAnswer) (later : List Mark) → is_answered k (mark.Answer k i r ∷ later) ≡ true
 answered-self k i r later = ap (λ q. q || is_answered k later) (self-test k.0)
 
@@ -114,8 +127,8 @@ module _ (script : Script) (steps : List Step) (c : Coord) (e : Event) (c1 : Coo
 
   -- the session's line is answered by marks that stand behind the others, and nothing is known of its transaction any more
   pub closed-does : (turn : CoordTurn) (y : Session) (B : Block) → ((j : ℕ) → turn.coord.sessions j ≡ (if eqb j s.0 then y else c.sessions j)) → ((j : ℕ) → eqb j g.0 ≡ false → turn.coord.works j ≡ c.works j) → turn.coord.table.next.0 ≡ c1.table.next.0 → y.state.block ≡ B → y.state.pending ≡ pending.Nothing → y.lines ≡ n + 1 → is_busy B pending.Nothing ≡ false
-      → Each (IsOf s.0 g.0) turn.marks → ((later : List Mark) → EachMark (Given script) steps e earlier turn.marks later) → Said script s (marks_in steps ++ (earlier ++ turn.marks)) (n + 1) (state_in B 0) false (Some g) → Each (OutIs script (marks_in steps ++ (earlier ++ turn.marks))) turn.outs → (turn.coord.works g.0).command ≡ None → Does script steps c e (behind earlier turn)
-  closed-does turn y B sessions works next yb yp yl idle of legal said outs none =
+      → Each (IsOf s.0 g.0) turn.marks → ((later : List Mark) → EachMark (Given script) steps e earlier turn.marks later) → Said script s (marks_in steps ++ (earlier ++ turn.marks)) (n + 1) (state_in B 0) false (Some g) → Each IsBare turn.outs → (turn.coord.works g.0).command ≡ None → ((k : Cid) (i : Node) (level : Level) → IsAwaited (c.works g.0) k i level → IsSettled (HeardNow steps e) (earlier ++ turn.marks) g k i) → Does script steps c e (behind earlier turn)
+  closed-does turn y B sessions works next yb yp yl idle of legal said outs none over =
       record {
         s = s.0;
         g = g.0;
@@ -132,7 +145,10 @@ module _ (script : Script) (steps : List Step) (c : Coord) (e : Event) (c1 : Coo
             (subst (λ q. Stands script s (marks_in steps ++ (earlier ++ turn.marks)) turn.coord.table.next.0 B q y.lines y.transaction (turn.coord.works y.transaction.0)) (sym yp)
             (stands-closed script s (marks_in steps ++ (earlier ++ turn.marks)) turn.coord.table.next.0 B y.lines (n + 1) y.transaction (turn.coord.works y.transaction.0) (Some g) idle yl said)));
         legal = λ later. marks-append (Given script) steps e [] earlier turn.marks later (o.legal (turn.marks ++ later)) (legal later);
-        outs = outs;
+        outs = bare-outs script (marks_in steps ++ (earlier ++ turn.marks)) turn.outs outs;
+        owned = λ h. own-none g (turn.coord.works g.0) none;
+        sent = bare-all turn.coord turn.outs outs;
+        keeps = λ k i level a. inr (over k i level a);
         orders = λ h. subst (CommandIs script (marks_in steps ++ (earlier ++ turn.marks))) (sym none) tt;
         gathers = λ h. subst (GathersIn script (HeardNow steps e) g) (sym none) tt;
       }
@@ -154,11 +170,11 @@ module _ (script : Script) (steps : List Step) (c : Coord) (e : Event) (c1 : Coo
   -- COMMITS
   pub commit-does : (turn : Turn) → turn.table.next.0 ≡ c1.table.next.0 → may_commit b line ≡ true → (after_done x.state).block ≡ block.Outside → state_after b line (answer_at_commit (work_of c1 g) (session_of c1 (work_of c1 g).session).state.pending) ≡ Outside
       → ((later : List Mark) → RestAnswer script (record { steps = steps; event = e; earlier = earlier ++ mark.Commit g ∷ []; later = later }) s (answer_at_commit (work_of c1 g) (session_of c1 (work_of c1 g).session).state.pending) → IsAnswer script (record { steps = steps; event = e; earlier = earlier ++ mark.Commit g ∷ []; later = later }) s b line (answer_at_commit (work_of c1 g) (session_of c1 (work_of c1 g).session).state.pending))
-      → ((marks : List Mark) → Each (OutIs script marks) turn.out.outs) → Does script steps c e (behind earlier (is_committed c1 g turn))
-  commit-does turn next may closed after told outs =
+      → Each IsBare turn.out.outs → ((k : Cid) (i : Node) (level : Level) → IsAwaited (c.works g.0) k i level → HasAnswered (HeardNow steps e) i g k) → Does script steps c e (behind earlier (is_committed c1 g turn))
+  commit-does turn next may closed after told outs over =
       closed-does (is_committed c1 g turn) (record x { state = after_done x.state }) block.Outside (session-set (λ z. record z { state = after_done z.state })) (works-set no_work) next closed refl o.lines refl
       (refl, (ap (λ (i : SessionId). i.0) home-is, tt)) legal
-      (subst (λ i. Said script s (marks_in steps ++ (earlier ++ mark.Commit g ∷ mark.Answer i (session_of c1 i).lines r ∷ [])) (n + 1) Outside false (Some g)) (sym home-is) said) (outs _) (reset-none no_work refl)
+      (subst (λ i. Said script s (marks_in steps ++ (earlier ++ mark.Commit g ∷ mark.Answer i (session_of c1 i).lines r ∷ [])) (n + 1) Outside false (Some g)) (sym home-is) said) outs (reset-none no_work refl) (λ k i level a. inl (over k i level a))
     where
       r : StmtAnswer
       r = answer_at_commit (work_of c1 g) (session_of c1 (work_of c1 g).session).state.pending
@@ -185,11 +201,11 @@ module _ (script : Script) (steps : List Step) (c : Coord) (e : Event) (c1 : Coo
   pub refuse-does : (turn : Turn) (why : List Mark) (reason : Refused) (B : Block) → turn.table.next.0 ≡ c1.table.next.0 → is_refusable b line ≡ true → (after_refused x.state).block ≡ B → is_busy B pending.Nothing ≡ false → state_after b line (told.Refused reason) ≡ state_in B 0 → Each (IsOf s.0 g.0) why → Each (CalmFor s) why → is_ended (marks_in steps ++ (earlier ++ why)) g ≡ false
       → ((later : List Mark) → EachMark (Given script) steps e earlier why later)
       → ((later : List Mark) → RestAnswer script (record { steps = steps; event = e; earlier = (earlier ++ why) ++ mark.Abort g ∷ []; later = later }) s (told.Refused reason) → IsCause (record { steps = steps; event = e; earlier = (earlier ++ why) ++ mark.Abort g ∷ []; later = later }) line (level_of b) g (cid_of b) reason)
-      → ((marks : List Mark) → Each (OutIs script marks) turn.out.outs) → Does script steps c e (behind earlier (is_refused c1 g turn why reason))
+      → Each IsBare turn.out.outs → Does script steps c e (behind earlier (is_refused c1 g turn why reason))
   refuse-does turn why reason B next may closed idle after of calm running first cause outs =
       closed-does (is_refused c1 g turn why reason) (record x { state = after_refused x.state }) B (session-set (λ z. record z { state = after_refused z.state })) (works-set no_work) next closed refl o.lines idle
       (each_append (IsOf s.0 g.0) why _ of (refl, (ap (λ (i : SessionId). i.0) home-is, tt))) legal
-      (subst (λ i. Said script s (marks_in steps ++ (earlier ++ (why ++ mark.Abort g ∷ mark.Answer i (session_of c1 i).lines r ∷ []))) (n + 1) (state_in B 0) false (Some g)) (sym home-is) said) (outs _) (reset-none no_work refl)
+      (subst (λ i. Said script s (marks_in steps ++ (earlier ++ (why ++ mark.Abort g ∷ mark.Answer i (session_of c1 i).lines r ∷ []))) (n + 1) (state_in B 0) false (Some g)) (sym home-is) said) outs (reset-none no_work refl) (λ k i level a. inr (aborts earlier why g _))
     where
       r : StmtAnswer
       r = told.Refused reason

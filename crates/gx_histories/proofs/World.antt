@@ -1,12 +1,14 @@
 -- Over every run of the machine, sessions stand as the marks tell, and events and marks are legal if the rest is.
-use Rattle.std.proofs.Common.{◌≡◌, ◌<◌, ◌≤◌, ◌⊎◌, inl, inr, ℕ, ◌+◌, List, [], ◌∷◌, ◌++◌, Option, Some, None, Bool, true, false, refl, sym, subst, ap, ◌∙◌, if◌then◌else◌, ◌&&◌, not, arith, eqb, append-nil}
+use Rattle.std.proofs.Common.{◌≡◌, ◌<◌, ◌≤◌, ◌⊎◌, inl, inr, ℕ, ◌+◌, List, [], ◌∷◌, ◌++◌, Option, Some, None, Bool, true, false, refl, sym, subst, ap, ◌∙◌, if◌then◌else◌, ◌&&◌, ◌||◌, not, arith, eqb, append-nil}
 use Rattle.std.proofs.lemmas.Bool.{eqb-true}
 use Rattle.std.proofs.lemmas.Bool.Decides.{nat_tests}
 use Rattle.std.proofs.lemmas.List.{append_assoc}
 use Rattle.std.specs.Prelude.{IsSome, is_some, nat_le}
+use Rattle.gx_ids.specs.declared.ids.Cid.{Cid}
 use Rattle.gx_ids.specs.declared.ids.Gxid.{Gxid}
 use Rattle.gx_ids.specs.declared.ids.Node.{Node}
 use Rattle.gx_ids.specs.declared.ids.SessionId.{SessionId}
+use Rattle.gx_tree.specs.declared.stmt.Level.{Level}
 use Rattle.gx_tree.specs.declared.stmt.Stmt.{Stmt}
 use Rattle.gx_dtx.specs.Nodes.{has}
 use Rattle.gx_dtx.specs.Orders.{message_of}
@@ -15,6 +17,7 @@ use Rattle.gx_dtx.specs.declared.order.Order.{Order}
 use Rattle.gx_dtx.specs.declared.order.Order.TheVariants as order
 use Rattle.gx_msg.specs.declared.message.Envelope.{Envelope}
 use Rattle.gx_msg.specs.declared.message.Message.{Message}
+use Rattle.gx_msg.specs.declared.message.Message.TheVariants as message
 use Rattle.gx_msg.specs.declared.message.Out.{Out}
 use Rattle.gx_script.specs.declared.Script.{Script}
 use Rattle.gx_session.specs.declared.state.Pending.{Pending}
@@ -28,7 +31,7 @@ use Rattle.gx_store.specs.declared.run.Step.{Step}
 use Rattle.gx_store.specs.Journals.{is_same_node}
 use Rattle.gx_store.specs.Legal.{AreLegalSteps, LegalEvent}
 use Rattle.gx_store.specs.Lines.{next_stmt, stmt_of}
-use Rattle.gx_store.specs.Marks.{start_count}
+use Rattle.gx_store.specs.Marks.{is_aborted, start_count}
 use Rattle.gx_store.specs.Messages.{IsSending, Receives}
 use Rattle.gx_store.specs.Ordered.{IsAtNode, IsLink, IsSegment}
 use Rattle.gx_store.specs.Points.{ends_by, marks_in, starts_by}
@@ -45,6 +48,7 @@ use Rattle.gx_laws.proofs.AtSegments.{PlainAt, SegStays, seg_stays}
 use Rattle.gx_laws.proofs.Letters.{IsFound, IsLetter, found_is, same_node}
 use Rattle.gx_laws.proofs.Lists.{Each, each_append, each_weaker}
 use Rattle.gx_laws.proofs.Numbers.{NoStart, calm-more, event-numbered}
+use Rattle.gx_laws.proofs.Past.{aborted-append}
 use Rattle.gx_laws.proofs.Ordered.{Well, at-both, never_resumes, seg_marks}
 use Rattle.gx_laws.proofs.Sent.{at}
 use Rattle.gx_laws.proofs.Sessions.{is_nothing_in}
@@ -53,12 +57,14 @@ use Rattle.gx_laws.proofs.World.{Knows, marks-last, world_knows}
 use Rattle.gx_histories.specs.Orders.{AreLinesNumbered, AreOrders, AreOrdersOf}
 use Rattle.gx_histories.specs.Rest.{AreEventsLegal, AreRestLegal, EachMark, Rest}
 use Rattle.gx_histories.specs.Standing.{AreSessions, IsSession}
-use Rattle.gx_histories.proofs.After.{Silent, does-sessions, quiet-silent, sent-silent, silent-fresh, silent-sessions}
+use Rattle.gx_histories.proofs.After.{does-sessions, quiet-silent, sent-silent, silent-fresh, silent-sessions}
+use Rattle.gx_histories.proofs.Awaited.{IsAwaited, IsAwaitedOut, IsSettled, OutAwaits, OwnIn, StateOf, resent-awaits}
 use Rattle.gx_histories.proofs.Closed.{end-does, legal-end}
 use Rattle.gx_histories.proofs.Closings.{IsNoted, message-does}
 use Rattle.gx_histories.proofs.Ends.{Fresh, fresh-more}
 use Rattle.gx_histories.proofs.Frame.{Does, Effect, Quiet, Rests}
-use Rattle.gx_histories.proofs.Gathers.{GathersIn, HeardNow, IsHeard, gathers-weaker, heard-later, heard-now}
+use Rattle.gx_histories.specs.Alive.{AreAlive, AreOrdersAlive, IsHeard, IsSilent}
+use Rattle.gx_histories.proofs.Gathers.{GathersIn, HeardNow, gathers-weaker, heard-later, heard-now}
 use Rattle.gx_histories.proofs.Given.{Given, given-legal, marks-append, sent-given}
 use Rattle.gx_histories.proofs.Lines.{start-counts, start-does}
 use Rattle.gx_histories.proofs.Outs.{CommandIs, MessageIs, OutIs, command-more, order-more, outs-more}
@@ -85,7 +91,7 @@ given-steps script before [] e r = tt
 given-steps script before (s ∷ ss) e r = (record { event = e.0.0; marks = given-legal script before s.event [] s.marks [] e.0.1 r.0 }, given-steps script (before ++ s ∷ []) ss e.1 r.1)
 
 -- MARKS
-no-start : (ms : List Mark) → Each Silent ms → Each NoStart ms
+no-start : (ms : List Mark) → Each IsSilent ms → Each NoStart ms
 no-start [] e = tt
 no-start (mark.Start g s ∷ ms) e = absurd e.0
 no-start (m ∷ ms) e = (tt, no-start ms e.1)
@@ -96,7 +102,7 @@ quiet-given script steps e earlier (mark.Decided g ∷ ms) later h = (λ r. tt, 
 quiet-given script steps e earlier (m ∷ ms) later h = absurd h.0
 
 -- a segment's marks tell nothing of sessions
-segment-silent : (script : Script) (i : ℕ) → 1 ≤ i → (ms : List Mark) → Each (IsAtNode script (at i)) ms → Each Silent ms
+segment-silent : (script : Script) (i : ℕ) → 1 ≤ i → (ms : List Mark) → Each (IsAtNode script (at i)) ms → Each IsSilent ms
 segment-silent script i one [] e = tt
 segment-silent script i one (mark.Start g s ∷ ms) e = absurd (not-zero e.0)
   where
@@ -136,7 +142,7 @@ segment-silent script i one (mark.Answer s n a ∷ ms) e = absurd (not-zero e.0)
 segment-silent script i one (m ∷ ms) e = (tt, segment-silent script i one ms e.1)
 
 -- they are legal if the rest is, in a step that receives a message
-silent-given : (script : Script) (steps : List Step) (from to : Node) (number : ℕ) (earlier ms later : List Mark) → Each Silent ms → EachMark (Given script) steps (event.Receive from to number) earlier ms later
+silent-given : (script : Script) (steps : List Step) (from to : Node) (number : ℕ) (earlier ms later : List Mark) → Each IsSilent ms → EachMark (Given script) steps (event.Receive from to number) earlier ms later
 silent-given script steps from to number earlier [] later h = tt
 silent-given script steps from to number earlier (mark.Write g c n t r x ∷ ms) later h = (λ r. r, silent-given script steps from to number (earlier ++ mark.Write g c n t r x ∷ []) ms later h.1)
 silent-given script steps from to number earlier (mark.Skip g c r ∷ ms) later h = (λ r. r, silent-given script steps from to number (earlier ++ mark.Skip g c r ∷ []) ms later h.1)
@@ -186,6 +192,57 @@ le-same a = omega arith
 -- what the coordinator sent is an order
 abbrev IsOrderLetter : Script → List Mark → Letter → Type 0
 IsOrderLetter script marks l = l.from ≡ the_coordinator → MessageIs script marks l.to l.envelope.message
+
+-- whether the command of an EXEC is awaited, answered or aborted
+abbrev LetterState : Coord → List Step → Letter → Type 0
+LetterState c steps l = l.from ≡ the_coordinator → StateOf c (IsHeard steps) (marks_in steps) l.to l.envelope.message
+
+state-moves : (c d : Coord) (H K : Node → Message → Type 0) (ms ns : List Mark) (i : Node) (m : Message) → ((g : Gxid) (k : Cid) (level : Level) → IsAwaited (c.works g.0) k i level → IsAwaited (d.works g.0) k i level ⊎ IsSettled K (ms ++ ns) g k i) → ((n : Node) (t : Message) → H n t → K n t) → StateOf c H ms i m → StateOf d K (ms ++ ns) i m
+state-moves c d H K ms ns i (message.Exec g k level x h slice) f later (inl a) = f g k level a
+state-moves c d H K ms ns i (message.Exec g k level x h slice) f later (inr (inl a)) = inr (inl (a.0, (a.1.0, (a.1.1.0, later i _ a.1.1.1))))
+state-moves c d H K ms ns i (message.Exec g k level x h slice) f later (inr (inr a)) = inr (inr (aborted-append ms ns g ∙ ap (λ q. q || is_aborted ns g) a))
+state-moves c d H K ms ns i (message.Prepare g) f later a = tt
+state-moves c d H K ms ns i (message.Commit g) f later a = tt
+state-moves c d H K ms ns i (message.CommitPrepared g) f later a = tt
+state-moves c d H K ms ns i (message.Abort g) f later a = tt
+state-moves c d H K ms ns i (message.Forget g) f later a = tt
+state-moves c d H K ms ns i (message.Collect round) f later a = tt
+state-moves c d H K ms ns i (message.Answer g r) f later a = tt
+state-moves c d H K ms ns i (message.Graph round graph) f later a = tt
+
+awaited-state : (d : Coord) (H : Node → Message → Type 0) (marks : List Mark) (i : Node) (m : Message) → IsAwaitedOut d i m → StateOf d H marks i m
+awaited-state d H marks i (message.Exec g k level x h slice) a = inl a
+awaited-state d H marks i (message.Prepare g) a = tt
+awaited-state d H marks i (message.Commit g) a = tt
+awaited-state d H marks i (message.CommitPrepared g) a = tt
+awaited-state d H marks i (message.Abort g) a = tt
+awaited-state d H marks i (message.Forget g) a = tt
+awaited-state d H marks i (message.Collect round) a = tt
+awaited-state d H marks i (message.Answer g r) a = tt
+awaited-state d H marks i (message.Graph round graph) a = tt
+
+awaited-by : (c d : Coord) → ((j : ℕ) → d.works j ≡ c.works j) → (i : Node) (m : Message) → IsAwaitedOut c i m → IsAwaitedOut d i m
+awaited-by c d same i (message.Exec g k level x h slice) a = subst (λ v. IsAwaited v k i level) (sym (same g.0)) a
+awaited-by c d same i (message.Prepare g) a = tt
+awaited-by c d same i (message.Commit g) a = tt
+awaited-by c d same i (message.CommitPrepared g) a = tt
+awaited-by c d same i (message.Abort g) a = tt
+awaited-by c d same i (message.Forget g) a = tt
+awaited-by c d same i (message.Collect round) a = tt
+awaited-by c d same i (message.Answer g r) a = tt
+awaited-by c d same i (message.Graph round graph) a = tt
+
+states-sent : (d : Coord) (steps : List Step) (clock : ℕ) (outs : List Out) → Each (OutAwaits d) outs → Each (λ (o : Out). (number : ℕ) → LetterState d steps (record { from = the_coordinator; to = o.node; envelope = record { number = number; clock = clock; message = o.message } })) outs
+states-sent d steps clock [] e = tt
+states-sent d steps clock (o ∷ outs) e = (λ number same. awaited-state d (IsHeard steps) (marks_in steps) o.node o.message e.0, states-sent d steps clock outs e.1)
+
+away-states : (d : Coord) (steps : List Step) (i clock : ℕ) → 1 ≤ i → (ms : List Mark) → Each (SentIs (LetterState d steps) (at i) clock) ms
+away-states d steps i clock one [] = tt
+away-states d steps i clock one (mark.Sent to number told ∷ ms) = (λ same. absurd (zero-one i one (ap (λ (n : Node). n.0) same)), away-states d steps i clock one ms)
+  where
+    zero-one : (i : ℕ) → 1 ≤ i → i ≡ 0 → ⊥
+    zero-one i l e = omega arith
+away-states d steps i clock one (m ∷ ms) = (tt, away-states d steps i clock one ms)
 
 away-sent : (script : Script) (marks : List Mark) (i clock : ℕ) → 1 ≤ i → (ms : List Mark) → Each (SentIs (IsOrderLetter script marks) (at i) clock) ms
 away-sent script marks i clock one [] = tt
@@ -251,6 +308,8 @@ pub record Holds (script : Script) (w : World) : Type 0 where
   pub commands : (j : ℕ) → CommandIs script (marks_in w.steps) (w.coord.works j).command
   pub orders : Each (IsOrderLetter script (marks_in w.steps)) w.sent
   pub gathers : (j : ℕ) → GathersIn script (IsHeard w.steps) (gx j) (w.coord.works j).command
+  pub owned : (j : ℕ) → OwnIn (gx j) (w.coord.works j)
+  pub alive : Each (LetterState w.coord w.steps) w.sent
 
 module _ (script : Script) (some : 1 ≤ script.segments) (w : World) (n : Knows script w) (h : Holds script w) (e : Event) (x : NodeEvent) (fails : Bool) where
   -- A STEP OF THE COORDINATOR
@@ -263,7 +322,7 @@ module _ (script : Script) (some : 1 ≤ script.segments) (w : World) (n : Knows
   abbrev step : Step
   step = record { stamp = record { clock = clock_after w.coord.clock x; node = the_coordinator }; event = e; marks = (coord_rule script w.coord x fails).marks }
 
-  quiet-here : Each Silent sent
+  quiet-here : Each IsSilent sent
   quiet-here = sent-silent turn.coord.sent turn.outs
 
   coord-numbers : turn.coord.table.next.0 ≡ start_count (marks_in (w.steps ++ step ∷ [])) + 1
@@ -280,12 +339,12 @@ module _ (script : Script) (some : 1 ≤ script.segments) (w : World) (n : Knows
       (fresh-more (marks_in w.steps) (turn.marks ++ sent) w.coord.table.next.0 turn.coord.table.next.0 h.fresh d.next (fresh-more turn.marks sent turn.coord.table.next.0 turn.coord.table.next.0 d.fresh (le-same turn.coord.table.next.0) (silent-fresh turn.coord.table.next.0 sent quiet-here)))
   coord-fresh (inr d) =
       subst (λ m. Fresh m turn.coord.table.next.0) (sym (marks-last w.steps step))
-      (fresh-more (marks_in w.steps) (turn.marks ++ sent) w.coord.table.next.0 turn.coord.table.next.0 h.fresh (le-of d.next) (silent-fresh turn.coord.table.next.0 (turn.marks ++ sent) (each_append Silent turn.marks sent (quiet-silent turn.marks d.quiet) quiet-here)))
+      (fresh-more (marks_in w.steps) (turn.marks ++ sent) w.coord.table.next.0 turn.coord.table.next.0 h.fresh (le-of d.next) (silent-fresh turn.coord.table.next.0 (turn.marks ++ sent) (each_append IsSilent turn.marks sent (quiet-silent turn.marks d.quiet) quiet-here)))
 
   coord-sessions : Effect script w.steps w.coord e turn → (k : SessionId) → IsSession script k (w.steps ++ step ∷ []) (coord_rule script w.coord x fails).coord
   coord-sessions (inl d) = does-sessions script w.steps w.coord h.sessions e turn d sent quiet-here _ _ step refl refl
   coord-sessions (inr d) =
-      silent-sessions script w.steps w.coord h.sessions e (coord_rule script w.coord x fails).coord step d.sessions d.works d.next refl (each_append Silent turn.marks sent (quiet-silent turn.marks d.quiet) quiet-here) d.alone
+      silent-sessions script w.steps w.coord h.sessions e (coord_rule script w.coord x fails).coord step d.sessions d.works d.next refl (each_append IsSilent turn.marks sent (quiet-silent turn.marks d.quiet) quiet-here) d.alone
 
   coord-given : Effect script w.steps w.coord e turn → EachMark (Given script) w.steps e [] (turn.marks ++ sent) []
   coord-given (inl d) = marks-append (Given script) w.steps e [] turn.marks sent [] (d.legal (sent ++ [])) (sent-given script w.steps e turn.coord.sent turn.outs turn.marks [])
@@ -338,6 +397,55 @@ module _ (script : Script) (some : 1 ≤ script.segments) (w : World) (n : Knows
       by_test false q = subst (λ (v : Work). GathersIn script (IsHeard (w.steps ++ step ∷ [])) (gx j) v.command) (sym (d.works j q)) (gathers-at step refl j (w.coord.works j).command (gathers-before j))
   coord-gathers (inr d) j = subst (λ (v : Work). GathersIn script (IsHeard (w.steps ++ step ∷ [])) (gx j) v.command) (sym (d.works j)) (gathers-at step refl j (w.coord.works j).command (gathers-before j))
 
+  coord-owned : Effect script w.steps w.coord e turn → (j : ℕ) → OwnIn (gx j) (turn.coord.works j)
+  coord-owned (inl d) j = by_test (eqb j d.g) refl
+    where
+      by_test : (b : Bool) → eqb j d.g ≡ b → OwnIn (gx j) (turn.coord.works j)
+      by_test true q = subst (λ i. OwnIn (gx i) (turn.coord.works i)) (sym (eqb-true j d.g q)) (d.owned (h.owned d.g))
+      by_test false q = subst (OwnIn (gx j)) (sym (d.works j q)) (h.owned j)
+  coord-owned (inr d) j = subst (OwnIn (gx j)) (sym (d.works j)) (h.owned j)
+
+  -- a command that was awaited is, or was answered, or its transaction has aborted
+  awaited-moves : Effect script w.steps w.coord e turn → (i : Node) (g : Gxid) (k : Cid) (level : Level) → IsAwaited (w.coord.works g.0) k i level → IsAwaited (turn.coord.works g.0) k i level ⊎ IsSettled (IsHeard (w.steps ++ step ∷ [])) (marks_in w.steps ++ step.marks) g k i
+  awaited-moves (inr d) i g k level a = inl (subst (λ v. IsAwaited v k i level) (sym (d.works g.0)) a)
+  awaited-moves (inl d) i g k level a = by_test (eqb g.0 d.g) refl
+    where
+      settled : IsSettled (HeardNow w.steps e) turn.marks (gx d.g) k i → IsSettled (IsHeard (w.steps ++ step ∷ [])) (marks_in w.steps ++ step.marks) (gx d.g) k i
+      settled (inl z) = inl (z.0, (z.1.0, (z.1.1.0, heard-later w.steps step e i _ refl z.1.1.1)))
+      settled (inr z) = inr (aborted-append (marks_in w.steps) (turn.marks ++ sent) (gx d.g) ∙ or-true (is_aborted (marks_in w.steps) (gx d.g)) (aborted-append turn.marks sent (gx d.g) ∙ ap (λ q. q || is_aborted sent (gx d.g)) z))
+        where
+          or-true : (a : Bool) {b : Bool} → b ≡ true → (a || b) ≡ true
+          or-true true e = refl
+          or-true false e = e
+
+      moved : IsAwaited (turn.coord.works d.g) k i level ⊎ IsSettled (HeardNow w.steps e) turn.marks (gx d.g) k i → IsAwaited (turn.coord.works d.g) k i level ⊎ IsSettled (IsHeard (w.steps ++ step ∷ [])) (marks_in w.steps ++ step.marks) (gx d.g) k i
+      moved (inl z) = inl z
+      moved (inr z) = inr (settled z)
+
+      by_test : (b : Bool) → eqb g.0 d.g ≡ b → IsAwaited (turn.coord.works g.0) k i level ⊎ IsSettled (IsHeard (w.steps ++ step ∷ [])) (marks_in w.steps ++ step.marks) g k i
+      by_test true q =
+          subst (λ j. IsAwaited (turn.coord.works j) k i level ⊎ IsSettled (IsHeard (w.steps ++ step ∷ [])) (marks_in w.steps ++ step.marks) (gx j) k i) (sym (eqb-true g.0 d.g q))
+          (moved (d.keeps k i level (subst (λ j. IsAwaited (w.coord.works j) k i level) (eqb-true g.0 d.g q) a)))
+      by_test false q = inl (subst (λ v. IsAwaited v k i level) (sym (d.works g.0 q)) a)
+
+  states-kept : (d : Coord) (s : Step) → s.event ≡ e → ((i : Node) (g : Gxid) (k : Cid) (level : Level) → IsAwaited (w.coord.works g.0) k i level → IsAwaited (d.works g.0) k i level ⊎ IsSettled (IsHeard (w.steps ++ s ∷ [])) (marks_in w.steps ++ s.marks) g k i) → Each (LetterState d (w.steps ++ s ∷ [])) w.sent
+  states-kept d s same f =
+      each_weaker (LetterState w.coord w.steps) (LetterState d (w.steps ++ s ∷ []))
+      (λ l z q. subst (λ m. StateOf d (IsHeard (w.steps ++ s ∷ [])) m l.to l.envelope.message) (sym (marks-last w.steps s))
+      (state-moves w.coord d (IsHeard w.steps) (IsHeard (w.steps ++ s ∷ [])) (marks_in w.steps) s.marks l.to l.envelope.message (f l.to) (λ n t x. heard-later w.steps s e n t same (heard-now w.steps e n t x)) (z q))) w.sent h.alive
+
+  coord-awaits : Effect script w.steps w.coord e turn → Each (OutAwaits turn.coord) turn.outs
+  coord-awaits (inl d) = d.sent
+  coord-awaits (inr d) = each_weaker (OutAwaits w.coord) (OutAwaits turn.coord) (λ o z. awaited-by w.coord turn.coord d.works o.node o.message z) turn.outs (d.sent h.owned)
+
+  coord-states : Effect script w.steps w.coord e turn → Each (SentIs (LetterState (coord_rule script w.coord x fails).coord (w.steps ++ step ∷ [])) the_coordinator (clock_after w.coord.clock x)) step.marks
+  coord-states d =
+      each_append (SentIs (LetterState (coord_rule script w.coord x fails).coord (w.steps ++ step ∷ [])) the_coordinator (clock_after w.coord.clock x)) turn.marks sent
+      (plain-sent (LetterState (coord_rule script w.coord x fails).coord (w.steps ++ step ∷ [])) script the_coordinator (clock_after w.coord.clock x) turn.marks (coord_stays script some w.coord x fails n.well.coordinator).marks)
+      (numbered-sent (LetterState (coord_rule script w.coord x fails).coord (w.steps ++ step ∷ [])) the_coordinator (clock_after w.coord.clock x) turn.coord.sent turn.outs
+      (states-sent (coord_rule script w.coord x fails).coord (w.steps ++ step ∷ []) (clock_after w.coord.clock x) turn.outs
+      (each_weaker (OutAwaits turn.coord) (OutAwaits (coord_rule script w.coord x fails).coord) (λ o z. awaited-by turn.coord (coord_rule script w.coord x fails).coord (λ j. refl) o.node o.message z) turn.outs (coord-awaits d))))
+
   coord-outs : Effect script w.steps w.coord e turn → Each (OutIs script (marks_in (w.steps ++ step ∷ []))) turn.outs
   coord-outs (inl d) = subst (λ m. Each (OutIs script m) turn.outs) turn-marks (outs-more script (marks_in w.steps ++ turn.marks) sent turn.outs d.outs)
   coord-outs (inr d) =
@@ -361,6 +469,8 @@ module _ (script : Script) (some : 1 ≤ script.segments) (w : World) (n : Knows
         letters = each-posted (IsToldOf (marks_in (w.steps ++ step ∷ []))) the_coordinator (clock_after w.coord.clock x) step.marks w.sent (coord-sent (marks_in (w.steps ++ step ∷ [])) (clock_after w.coord.clock x) step.marks) (letters-kept step);
         commands = coord-commands d;
         gathers = coord-gathers d;
+        owned = coord-owned d;
+        alive = each-posted (LetterState (coord_rule script w.coord x fails).coord (w.steps ++ step ∷ [])) the_coordinator (clock_after w.coord.clock x) step.marks w.sent (coord-states d) (states-kept (coord_rule script w.coord x fails).coord step refl (awaited-moves d));
         orders = each-posted (IsOrderLetter script (marks_in (w.steps ++ step ∷ []))) the_coordinator (clock_after w.coord.clock x) step.marks w.sent (coord-orders d) (orders-kept step);
       }
 
@@ -376,6 +486,8 @@ module _ (script : Script) (some : 1 ≤ script.segments) (w : World) (n : Knows
         letters = each-posted (IsToldOf (marks_in (w.steps ++ late ∷ []))) (at i) (clock_after (w.segs i).clock x) late.marks w.sent told (letters-kept late);
         commands = commands-kept late;
         gathers = λ j. gathers-at late refl j (w.coord.works j).command (gathers-before j);
+        owned = h.owned;
+        alive = each-posted (LetterState w.coord (w.steps ++ late ∷ [])) (at i) (clock_after (w.segs i).clock x) late.marks w.sent (away-states w.coord (w.steps ++ late ∷ []) i (clock_after (w.segs i).clock x) place.0 late.marks) (states-kept w.coord late refl (λ j g k level a. inl a));
         orders = each-posted (IsOrderLetter script (marks_in (w.steps ++ late ∷ []))) (at i) (clock_after (w.segs i).clock x) late.marks w.sent (away-sent script (marks_in (w.steps ++ late ∷ [])) i (clock_after (w.segs i).clock x) place.0 late.marks) (orders-kept late);
       }
     where
@@ -385,7 +497,7 @@ module _ (script : Script) (some : 1 ≤ script.segments) (w : World) (n : Knows
       late : Step
       late = record { stamp = record { clock = clock_after (w.segs i).clock x; node = at i }; event = e; marks = (seg_rule script (w.segs i) x fails).marks }
 
-      silent : Each Silent (seg_rule script (w.segs i) x fails).marks
+      silent : Each IsSilent (seg_rule script (w.segs i) x fails).marks
       silent = segment-silent script i place.0 _ (seg_marks script w n.well e x fails i place)
 
       noted : Rattle.gx_histories.proofs.Notes.Notes (marks_in w.steps) (at i) (segment.on_event script (w.segs i) x fails)
@@ -486,15 +598,16 @@ module _ (script : Script) (some : 1 ≤ script.segments) where
         (inl (end-does script w.steps w.coord s (h.sessions s) z.0 z.1 z.2 (session_of w.coord s).state.block refl), legal-end script w.steps w.coord s (h.sessions s) z.0 z.1 z.2)
 
     again : (i : Node) (g : Gxid) (m : Option Message) → awaited w.coord g i ≡ m → Rests script w.steps w.coord (event.Resend i (Some g)) (resends w.coord i m)
-    again i g None e = record { sessions = λ j. refl; works = λ j. refl; next = refl; quiet = tt; alone = λ j. (refl, refl); outs = λ o. tt }
+    again i g None e = record { sessions = λ j. refl; works = λ j. refl; next = refl; quiet = tt; alone = λ j. (refl, refl); outs = λ o. tt; sent = λ o. tt }
     again i g (Some m) e =
         record {
           sessions = λ j. refl; works = λ j. refl; next = refl; quiet = tt; alone = λ j. (refl, refl);
           outs = λ o. (command-order-is script (marks_in w.steps ++ []) i g m (w.coord.works g.0).command (awaited_order w.coord.table g i) (o g.0) e, tt);
+          sent = λ o. (resent-awaits w.coord g i m (w.coord.works g.0).command (awaited_order w.coord.table g i) refl (o g.0) e, tt);
         }
 
     resend-effect : (i : Node) (g : Option Gxid) (fails : Bool) → Effect script w.steps w.coord (event.Resend i g) (on_event script w.coord (here.Resend i g) fails)
-    resend-effect i None fails = inr (record { sessions = λ j. refl; works = λ j. refl; next = refl; quiet = tt; alone = λ j. (refl, refl); outs = λ o. tt })
+    resend-effect i None fails = inr (record { sessions = λ j. refl; works = λ j. refl; next = refl; quiet = tt; alone = λ j. (refl, refl); outs = λ o. tt; sent = λ o. tt })
     resend-effect i (Some g) fails = inr (again i g (awaited w.coord g i) refl)
 
     received : (from to : Node) (number : ℕ) (envelope : Envelope) (fails : Bool) → found from to number w.sent ≡ Some envelope → can_here script w to (Some (here.Deliver from envelope)) ≡ true → Holds script (does script w (event.Receive from to number) to fails (Some (here.Deliver from envelope)))
@@ -533,7 +646,7 @@ module _ (script : Script) (some : 1 ≤ script.segments) where
     event-holds (event.Start s) fails ok = let z = start-effect s fails ok in coord-holds script some w n h (event.Start s) (here.Start s) fails z.0 z.1
     event-holds (event.End s) fails ok = let z = end-effect s fails ok in coord-holds script some w n h (event.End s) (here.End s) fails z.0 z.1
     event-holds (event.Resend i g) fails ok = coord-holds script some w n h (event.Resend i g) (here.Resend i g) fails (resend-effect i g fails) tt
-    event-holds event.Round fails ok = coord-holds script some w n h event.Round here.Round fails (inr (record { sessions = λ j. refl; works = λ j. refl; next = refl; quiet = tt; alone = λ j. (refl, refl); outs = λ o. tt })) tt
+    event-holds event.Round fails ok = coord-holds script some w n h event.Round here.Round fails (inr (record { sessions = λ j. refl; works = λ j. refl; next = refl; quiet = tt; alone = λ j. (refl, refl); outs = λ o. tt; sent = λ o. tt })) tt
 
     pub happens-holds : (e : Event) (fails : Bool) → Holds script (happens script w e fails)
     happens-holds e fails = by_can (can script w e) refl
@@ -565,6 +678,8 @@ module _ (script : Script) (some : 1 ≤ script.segments) where
         commands = λ j. tt;
         orders = tt;
         gathers = λ j. tt;
+        owned = λ j m e. absurd (cc);
+        alive = tt;
       }
 
   pub world-holds : (es : List (Event × Bool)) → Holds script (world_of script es)

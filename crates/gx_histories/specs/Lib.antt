@@ -2,3 +2,4 @@ pub mod Orders
 pub mod Standing
 pub mod Gathering
 pub mod Rest
+pub mod Alive
