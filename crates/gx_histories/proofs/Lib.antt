@@ -18,4 +18,5 @@ pub mod Busy
 pub mod Replies
 pub mod Closings
 pub mod Notes
+pub mod Alive
 pub mod World

@@ -58,6 +58,7 @@ use Rattle.gx_histories.specs.Orders.{AreLinesNumbered, AreOrders, AreOrdersOf}
 use Rattle.gx_histories.specs.Rest.{AreEventsLegal, AreRestLegal, EachMark, Rest}
 use Rattle.gx_histories.specs.Standing.{AreSessions, IsSession}
 use Rattle.gx_histories.proofs.After.{does-sessions, quiet-silent, sent-silent, silent-fresh, silent-sessions}
+use Rattle.gx_histories.proofs.Alive.{alive-all}
 use Rattle.gx_histories.proofs.Awaited.{IsAwaited, IsAwaitedOut, IsSettled, OutAwaits, OwnIn, StateOf, resent-awaits}
 use Rattle.gx_histories.proofs.Closed.{end-does, legal-end}
 use Rattle.gx_histories.proofs.Closings.{IsNoted, message-does}
@@ -696,3 +697,8 @@ module _ (script : Script) (some : 1 ≤ script.segments) where
 
   pub orders-are : (es : List (Event × Bool)) → AreLinesNumbered [] script.lines → AreOrdersOf script (world_of script es)
   orders-are es n = orders-all script (marks_in (world_of script es).steps) (world_of script es).sent n (world-holds es).orders
+
+  pub orders-alive : (es : List (Event × Bool)) → AreOrdersAlive script (world_of script es)
+  orders-alive es =
+      let h = world-holds es in
+      alive-all script (world_of script es) (world_knows script some es).kept h.sessions h.gathers (world_of script es).sent h.alive

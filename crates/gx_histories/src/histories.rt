@@ -1,5 +1,6 @@
 //! Laws of every run, whatever the network loses, repeats, delays and reorders, and whichever appends fail.
 ghost use Rattle.std.specs.Prelude.{◌≤◌, Bool, List, []};
+ghost use Rattle.gx_histories.specs.Alive.{AreOrdersAlive};
 ghost use Rattle.gx_histories.specs.Orders.{AreLinesNumbered, AreOrdersOf};
 ghost use Rattle.gx_histories.specs.Rest.{AreEventsLegal, AreRestLegal};
 ghost use Rattle.gx_histories.specs.Standing.{AreSessions};
@@ -34,4 +35,10 @@ pub fn orders_are_of_their_lines()
     ensures {
         (script : Script) (events : List (OneEvent × Bool)) → 1 ≤ script.segments → AreLinesNumbered [] script.lines → AreOrdersOf script (world_of script events)
     }
+{}
+
+/// The command of an EXEC that was ever sent is under way, or its node's answer to it was received, or its transaction has
+/// aborted.
+pub fn orders_are_under_way()
+    ensures { (script : Script) (events : List (OneEvent × Bool)) → 1 ≤ script.segments → AreOrdersAlive script (world_of script events) }
 {}
