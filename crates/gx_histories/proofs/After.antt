@@ -1,5 +1,5 @@
 -- All sessions after a step.
-use Rattle.std.proofs.Common.{◌≡◌, ◌<◌, ◌≤◌, ◌⊎◌, inl, inr, ℕ, ◌+◌, List, [], ◌∷◌, ◌++◌, Option, Some, None, Bool, true, false, refl, sym, subst, ap, ◌∙◌, if◌then◌else◌, arith, eqb}
+use Rattle.std.proofs.Common.{◌≡◌, ◌<◌, ◌≤◌, ◌⊎◌, inl, inr, ℕ, ◌+◌, List, [], ◌∷◌, ◌++◌, Bool, true, false, refl, sym, subst, ap, ◌∙◌, if◌then◌else◌, arith, eqb}
 use Rattle.std.proofs.lemmas.Bool.{eqb-true}
 use Rattle.std.proofs.lemmas.Bool.Decides.{nat_tests}
 use Rattle.std.proofs.lemmas.List.{append_assoc}
@@ -12,7 +12,6 @@ use Rattle.gx_session.specs.declared.state.Block.TheVariants as block
 use Rattle.gx_session.specs.declared.state.Pending.{Pending}
 use Rattle.gx_session.specs.declared.state.Pending.TheVariants as pending
 use Rattle.gx_store.specs.declared.event.Event.{Event}
-use Rattle.gx_store.specs.declared.event.Event.TheVariants as event
 use Rattle.gx_store.specs.declared.mark.Mark.{Mark}
 use Rattle.gx_store.specs.declared.mark.Mark.TheVariants as mark
 use Rattle.gx_store.specs.declared.run.Step.{Step}
@@ -23,11 +22,9 @@ use Rattle.gx_rules.specs.Coordinators.{Coord, CoordTurn, Session, Work, session
 use Rattle.gx_rules.specs.Sending.{counted, numbered}
 use Rattle.gx_laws.proofs.Lists.{Each, each_append}
 use Rattle.gx_histories.specs.Alive.{IsSilent}
-use Rattle.gx_histories.specs.Rest.{EachMark}
-use Rattle.gx_histories.specs.Standing.{IsOver, IsSession, IsStanding, Stands, is_busy}
-use Rattle.gx_histories.proofs.Ends.{Fresh, IsOf, ended-more, fresh-more, of-calm, of-ended, of-snapshot, of-unstarted, snapshot-more}
-use Rattle.gx_histories.proofs.Frame.{Does, Rests, Quiet, quiet-of, sid, standing-by}
-use Rattle.gx_histories.proofs.Given.{Given}
+use Rattle.gx_histories.specs.Standing.{IsSession, IsStanding, is_busy}
+use Rattle.gx_histories.proofs.Ends.{Fresh, IsOf, ended-more, of-calm, of-ended, of-snapshot, of-unstarted, snapshot-more}
+use Rattle.gx_histories.proofs.Frame.{Does, Quiet, sid, standing-by}
 use Rattle.gx_histories.proofs.Said.{CalmFor}
 
 pub silent-of : (s g : ℕ) (ms : List Mark) → Each IsSilent ms → Each (IsOf s g) ms
@@ -81,9 +78,9 @@ module _ (script : Script) (steps : List Step) (c : Coord) (all : (k : SessionId
   other k s ns next y v ev mk same none calm l busy = (
     plus-zero _ _ _ (starts_in-push k steps s) (ap (starts_by k) ev ∙ none.0) ∙ (all k).starts ∙ ap (λ (z : Session). z.lines) (sym same),
     subst (λ i. IsStanding script k (marks_in (steps ++ s ∷ [])) next y.state.block y.state.pending y.lines y.transaction v i) (sym (plus-zero _ _ _ (ends_in-push k steps s) (ap (ends_by k) ev ∙ none.1)))
-    (subst (λ m. IsStanding script k m next y.state.block y.state.pending y.lines y.transaction v (ends_in k steps)) (ap (λ x. marks_in steps ++ x) (sym mk) ∙ sym (marks_in-push steps s))
-    (subst (λ (z : Session). IsStanding script k (marks_in steps ++ ns) next z.state.block z.state.pending z.lines z.transaction v (ends_in k steps)) (sym same)
-    (standing-by script k (marks_in steps) ns c.table.next.0 next _ _ _ _ (work_of c (session_of c k).transaction) v (ends_in k steps) (all k).stands calm l busy))),
+        (subst (λ m. IsStanding script k m next y.state.block y.state.pending y.lines y.transaction v (ends_in k steps)) (ap (λ x. marks_in steps ++ x) (sym mk) ∙ sym (marks_in-push steps s))
+        (subst (λ (z : Session). IsStanding script k (marks_in steps ++ ns) next z.state.block z.state.pending z.lines z.transaction v (ends_in k steps)) (sym same)
+        (standing-by script k (marks_in steps) ns c.table.next.0 next _ _ _ _ (work_of c (session_of c k).transaction) v (ends_in k steps) (all k).stands calm l busy))),
   )
 
   -- a busy session has a transaction of its own
@@ -142,8 +139,8 @@ module _ (script : Script) (steps : List Step) (c : Coord) (all : (k : SessionId
     theirs : (k : SessionId) → eqb k.0 m.s ≡ false → IsSession script k (steps ++ step ∷ []) d
     theirs k n =
         let r = other k step (turn.marks ++ sent) turn.coord.table.next.0 (d.sessions k.0) (d.works (d.sessions k.0).transaction.0) ev mk same (m.alone k n)
-                (each_append (CalmFor k) turn.marks sent (of-calm m.s m.g k turn.marks n m.of) (silent-calm k sent silent)) m.next
-                (λ h. (work-same h, ended-more turn.marks sent _ (of-ended m.s m.g _ turn.marks (busy-apart k m.s m.g n m.whose h) m.of) (silent-ended _ sent silent), snapshot-more turn.marks sent _ (of-snapshot m.s m.g _ turn.marks (busy-apart k m.s m.g n m.whose h) m.of) (silent-snapshot _ sent silent))) in
+        (each_append (CalmFor k) turn.marks sent (of-calm m.s m.g k turn.marks n m.of) (silent-calm k sent silent)) m.next
+        (λ h. (work-same h, ended-more turn.marks sent _ (of-ended m.s m.g _ turn.marks (busy-apart k m.s m.g n m.whose h) m.of) (silent-ended _ sent silent), snapshot-more turn.marks sent _ (of-snapshot m.s m.g _ turn.marks (busy-apart k m.s m.g n m.whose h) m.of) (silent-snapshot _ sent silent))) in
         record { starts = r.0; stands = r.1 }
       where
         same : d.sessions k.0 ≡ c.sessions k.0
@@ -163,7 +160,7 @@ module _ (script : Script) (steps : List Step) (c : Coord) (all : (k : SessionId
   pub silent-sessions : (d : Coord) (step : Step) → ((j : ℕ) → d.sessions j ≡ c.sessions j) → ((j : ℕ) → d.works j ≡ c.works j) → d.table.next.0 ≡ c.table.next.0 → step.event ≡ e → Each IsSilent step.marks → ((k : SessionId) → (starts_by k e ≡ 0) × (ends_by k e ≡ 0)) → (k : SessionId) → IsSession script k (steps ++ step ∷ []) d
   silent-sessions d step sessions works next ev silent alone k =
       let r = other k step step.marks d.table.next.0 (d.sessions k.0) (d.works (d.sessions k.0).transaction.0) ev refl (sessions k.0) (alone k) (silent-calm k step.marks silent) (le-of next)
-              (λ h. (ap (λ (z : Session). d.works z.transaction.0) (sessions k.0) ∙ works _, silent-ended _ step.marks silent, silent-snapshot _ step.marks silent)) in
+      (λ h. (ap (λ (z : Session). d.works z.transaction.0) (sessions k.0) ∙ works _, silent-ended _ step.marks silent, silent-snapshot _ step.marks silent)) in
       record { starts = r.0; stands = r.1 }
     where
       le-of : {a b : ℕ} → a ≡ b → b ≤ a

@@ -1,5 +1,5 @@
 -- A command that is awaited is under way.
-use Rattle.std.proofs.Common.{◌≡◌, ◌⊎◌, inl, inr, ℕ, List, [], ◌∷◌, ◌++◌, Option, Some, None, Bool, true, false, refl, sym, subst, ap, ◌∙◌, arith, append-nil}
+use Rattle.std.proofs.Common.{◌≡◌, inl, inr, ℕ, List, [], ◌∷◌, Some, true, false, refl, sym, subst, ap, ◌∙◌, arith, append-nil}
 use Rattle.gx_ids.specs.declared.ids.Cid.{Cid}
 use Rattle.gx_ids.specs.declared.ids.Gxid.{Gxid}
 use Rattle.gx_ids.specs.declared.ids.Node.{Node}
@@ -15,14 +15,13 @@ use Rattle.gx_session.specs.declared.state.Pending.{Pending}
 use Rattle.gx_session.specs.declared.state.Pending.TheVariants as pending
 use Rattle.gx_store.specs.declared.event.Event.TheVariants as event
 use Rattle.gx_store.specs.declared.mark.Mark.{Mark}
-use Rattle.gx_store.specs.declared.mark.Mark.TheVariants as mark
 use Rattle.gx_store.specs.declared.run.Step.{Step}
 use Rattle.gx_store.specs.Commands.{IsUnderWay}
 use Rattle.gx_store.specs.Lines.{cid_of, command_at, level_of, stmt_of_command}
 use Rattle.gx_store.specs.Marks.{is_ended}
 use Rattle.gx_store.specs.Points.{marks_in}
 use Rattle.gx_store.specs.Refusals.{the_coordinator}
-use Rattle.gx_rules.specs.Coordinators.{Command, Coord, Session, Work, session_of, work_of}
+use Rattle.gx_rules.specs.Coordinators.{Command, Coord, Session, session_of, work_of}
 use Rattle.gx_rules.specs.Machine.{Letter, World}
 use Rattle.gx_laws.proofs.Lists.{Each}
 use Rattle.gx_laws.proofs.Sessions.{Kept, is_live_in, is_working_in, stage_of}
@@ -33,7 +32,7 @@ use Rattle.gx_histories.specs.Orders.{AreLinesNumbered}
 use Rattle.gx_histories.specs.Standing.{IsSession, is_alone, is_busy, level_in, state_in}
 use Rattle.gx_histories.proofs.After.{silent-calm, silent-ended}
 use Rattle.gx_histories.proofs.AtLine.{at-calm, under-way}
-use Rattle.gx_histories.proofs.Awaited.{IsAwaited, StateOf}
+use Rattle.gx_histories.proofs.Awaited.{StateOf}
 use Rattle.gx_histories.proofs.Busy.{busy-under}
 use Rattle.gx_histories.proofs.Ends.{ended-more}
 use Rattle.gx_histories.proofs.Gathers.{GathersIn}

@@ -1,7 +1,6 @@
 -- A session whose line is under way hears of its transaction.
-use Rattle.std.proofs.Common.{◌≡◌, ◌<◌, ◌≤◌, ◌⊎◌, inl, inr, ℕ, ◌+◌, List, [], ◌∷◌, ◌++◌, Option, Some, None, Bool, true, false, refl, sym, subst, ap, ◌∙◌, if◌then◌else◌, ◌||◌, arith, eqb, append-nil}
+use Rattle.std.proofs.Common.{◌≡◌, ◌<◌, ◌≤◌, ◌⊎◌, inl, inr, ℕ, ◌+◌, List, [], ◌∷◌, ◌++◌, Some, None, Bool, true, false, refl, sym, subst, ap, ◌∙◌, if◌then◌else◌, ◌||◌, arith, eqb, append-nil}
 use Rattle.std.proofs.lemmas.Bool.{eqb-true}
-use Rattle.std.proofs.lemmas.Bool.Decides.{nat_tests}
 use Rattle.gx_ids.specs.declared.ids.Cid.{Cid}
 use Rattle.gx_ids.specs.declared.ids.Gxid.{Gxid}
 use Rattle.gx_ids.specs.declared.ids.Node.{Node}
@@ -11,7 +10,6 @@ use Rattle.gx_tree.specs.declared.stmt.Level.TheVariants.{ReadCommitted, Repeata
 use Rattle.gx_tree.specs.declared.stmt.Stmt.{Stmt}
 use Rattle.gx_tree.specs.declared.stmt.Stmt.TheVariants as stmt
 use Rattle.gx_dtx.specs.Rules.{Turn}
-use Rattle.gx_dtx.specs.Table.{Table}
 use Rattle.gx_script.specs.declared.Script.{Script}
 use Rattle.gx_session.specs.Session.{after_done, block_after_done}
 use Rattle.gx_session.specs.declared.state.Block.{Block}
@@ -28,10 +26,9 @@ use Rattle.gx_store.specs.declared.run.Step.{Step}
 use Rattle.gx_store.specs.Answers.{IsAnswer, IsDone}
 use Rattle.gx_store.specs.Lines.{BlockState, Outside, InBlock, cid_of, is_command, level_of, state_after, stmt_of, transaction_of}
 use Rattle.gx_store.specs.Marks.{answer_count, is_committed, is_ended}
-use Rattle.gx_store.specs.Points.{Point, before, ends_by, ends_in, marks_in, starts_by, starts_in}
-use Rattle.gx_store.specs.Refusals.{the_coordinator}
-use Rattle.gx_rules.specs.AtCoordinator.{answer_at_commit, answer_mark, answer_of_command, answers, command_answer, is_committed as is_closed, unless_kept}
-use Rattle.gx_rules.specs.Coordinators.{Command, Coord, CoordTurn, Session, Work, session_of, with_work, work_of}
+use Rattle.gx_store.specs.Points.{ends_by, ends_in, marks_in, starts_by, starts_in}
+use Rattle.gx_rules.specs.AtCoordinator.{answer_at_commit, answer_of_command, answers, command_answer, is_committed as is_closed, unless_kept}
+use Rattle.gx_rules.specs.Coordinators.{Command, Coord, CoordTurn, Session, Work, session_of, work_of}
 use Rattle.gx_rules.specs.Maps.{with_at}
 use Rattle.gx_laws.proofs.Lists.{Each}
 use Rattle.gx_laws.proofs.Turns.{self-test}
@@ -42,8 +39,8 @@ use Rattle.gx_histories.specs.Standing.{IsLineOf, IsNow, IsSession, Owns, Roots,
 use Rattle.gx_histories.proofs.Answers.{done-inside, done-is, done-outside, told-is}
 use Rattle.gx_histories.proofs.AtLine.{AtLine, answered-now, at-calm, has_txn, legal-answer, runs-command, transaction-is}
 use Rattle.gx_histories.proofs.Awaited.{IsAwaited, IsSettled, OutAwaits, OwnIn, none-awaited, own-none}
-use Rattle.gx_histories.proofs.Ends.{Fresh, IsOf, of-fresh}
-use Rattle.gx_histories.proofs.Frame.{Does, owns-more, sid}
+use Rattle.gx_histories.proofs.Ends.{Fresh, IsOf}
+use Rattle.gx_histories.proofs.Frame.{Does, owns-more}
 use Rattle.gx_histories.proofs.Gathers.{Gathers, GathersIn, HeardNow, gathered-is}
 use Rattle.gx_histories.proofs.Given.{Given}
 use Rattle.gx_histories.proofs.Outs.{CommandIs, IsBare, OutIs}
@@ -190,12 +187,15 @@ module _ (script : Script) (steps : List Step) (c : Coord) (from : Node) (to : N
           fresh = subst (λ m. Fresh m turn.coord.table.next.0) (sym none) (record { unended = λ h l. refl; unread = λ h l. refl; unstarted = λ h l. refl });
           alone = λ j h. others j;
           starts = started;
-          stands = inl (ended, subst (λ m. Stands script s (ms ++ m) turn.coord.table.next.0 y.state.block y.state.pending y.lines y.transaction (turn.coord.works y.transaction.0)) (sym none)
-              (subst (λ i. Stands script s (ms ++ []) i y.state.block y.state.pending y.lines y.transaction (turn.coord.works y.transaction.0)) (sym next)
-              (subst (λ x. Stands script s (ms ++ []) c.table.next.0 x y.state.pending y.lines y.transaction (turn.coord.works y.transaction.0)) (sym q.in_block)
-              (subst (λ x. Stands script s (ms ++ []) c.table.next.0 B x y.lines y.transaction (turn.coord.works y.transaction.0)) (sym q.in_line)
-              (subst (λ (x : Gxid). Stands script s (ms ++ []) c.table.next.0 B P y.lines x (turn.coord.works x.0)) (sym q.its)
-              (subst (λ v. Stands script s (ms ++ []) c.table.next.0 B P y.lines g v) (sym work) there))))));
+          stands = inl (
+            ended,
+            subst (λ m. Stands script s (ms ++ m) turn.coord.table.next.0 y.state.block y.state.pending y.lines y.transaction (turn.coord.works y.transaction.0)) (sym none)
+                (subst (λ i. Stands script s (ms ++ []) i y.state.block y.state.pending y.lines y.transaction (turn.coord.works y.transaction.0)) (sym next)
+                (subst (λ x. Stands script s (ms ++ []) c.table.next.0 x y.state.pending y.lines y.transaction (turn.coord.works y.transaction.0)) (sym q.in_block)
+                (subst (λ x. Stands script s (ms ++ []) c.table.next.0 B x y.lines y.transaction (turn.coord.works y.transaction.0)) (sym q.in_line)
+                (subst (λ (x : Gxid). Stands script s (ms ++ []) c.table.next.0 B P y.lines x (turn.coord.works x.0)) (sym q.its)
+                (subst (λ v. Stands script s (ms ++ []) c.table.next.0 B P y.lines g v) (sym work) there))))),
+          );
           legal = λ later. subst (λ m. EachMark (Given script) steps e [] m later) (sym none) tt;
           outs = outs;
           orders = orders;
@@ -370,12 +370,17 @@ module _ (script : Script) (steps : List Step) (c : Coord) (from : Node) (to : N
         owns-done : Owns s (q.stands.commands + 1) (ms ++ mark.Answer s (session_of c1 s).lines (answer_of_command (work_of c1 g).command) ∷ []) c.table.next.0 (block.Open l) g (record w { command = None })
         owns-done =
             let z = owns-more script s q.stands.commands (ms ++ []) (mark.Answer s (session_of c1 s).lines (answer_of_command (work_of c1 g).command) ∷ []) c.table.next.0 c.table.next.0 B g w (likewise-owns w k) (le-same c.table.next.0)
-                    (ap (λ v. Rattle.gx_store.specs.Marks.started_after s None (v ++ mark.Answer s (session_of c1 s).lines (answer_of_command (work_of c1 g).command) ∷ [])) (append-nil ms) ∙ said.started ∙ sym (likewise-owns w k).started) refl refl in
+            (ap (λ v. Rattle.gx_store.specs.Marks.started_after s None (v ++ mark.Answer s (session_of c1 s).lines (answer_of_command (work_of c1 g).command) ∷ [])) (append-nil ms) ∙ said.started ∙ sym (likewise-owns w k).started) refl refl in
             let v = subst (λ a. Owns s q.stands.commands (a ++ mark.Answer s (session_of c1 s).lines (answer_of_command (work_of c1 g).command) ∷ []) c.table.next.0 B g w) (append-nil ms) z in
             record {
-              home = v.home; started = v.started; level = v.level ∙ ap level_in opened; drawn = v.drawn; running = v.running;
+              home = v.home;
+              started = v.started;
+              level = v.level ∙ ap level_in opened;
+              drawn = v.drawn;
+              running = v.running;
               counted = λ h. plus-zero (q.stands.commands + 1) ∙ ap (λ a. q.stands.commands + under_way a) (sym has) ∙ v.counted (ap is_open opened);
-              unsnapped = v.unsnapped; snapshot = v.snapshot;
+              unsnapped = v.unsnapped;
+              snapshot = v.snapshot;
             }
 
         there : Stands script s (ms ++ mark.Answer s (session_of c1 s).lines (answer_of_command (work_of c1 g).command) ∷ []) c.table.next.0 (block.Open l) pending.Nothing y.lines g (record w { command = None })

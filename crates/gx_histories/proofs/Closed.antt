@@ -1,9 +1,7 @@
 -- A session that ends.
-use Rattle.std.proofs.Common.{◌≡◌, ◌<◌, ◌≤◌, inl, inr, ℕ, ◌+◌, List, [], ◌∷◌, ◌++◌, Option, Some, None, Bool, true, false, refl, sym, subst, ap, ◌∙◌, if◌then◌else◌, ◌||◌, arith, eqb, append-nil}
+use Rattle.std.proofs.Common.{◌≡◌, ◌≤◌, inl, inr, ℕ, ◌+◌, List, [], ◌∷◌, ◌++◌, Some, None, true, false, refl, sym, subst, ap, ◌∙◌, if◌then◌else◌, ◌||◌, arith, eqb, append-nil}
 use Rattle.std.proofs.lemmas.Bool.Decides.{nat_tests}
-use Rattle.gx_ids.specs.declared.ids.Gxid.{Gxid}
 use Rattle.gx_ids.specs.declared.ids.SessionId.{SessionId}
-use Rattle.gx_tree.specs.declared.stmt.Stmt.{Stmt}
 use Rattle.gx_script.specs.declared.Script.{Script}
 use Rattle.gx_session.specs.Session.{idle_outside}
 use Rattle.gx_session.specs.declared.state.Block.{Block}
@@ -11,13 +9,12 @@ use Rattle.gx_session.specs.declared.state.Block.TheVariants as block
 use Rattle.gx_session.specs.declared.state.Pending.{Pending}
 use Rattle.gx_session.specs.declared.state.Pending.TheVariants as pending
 use Rattle.gx_dtx.specs.Rules.{on_abort}
-use Rattle.gx_store.specs.declared.event.Event.{Event}
 use Rattle.gx_store.specs.declared.event.Event.TheVariants as event
 use Rattle.gx_store.specs.declared.mark.Mark.{Mark}
 use Rattle.gx_store.specs.declared.mark.Mark.TheVariants as mark
 use Rattle.gx_store.specs.declared.run.Step.{Step}
-use Rattle.gx_store.specs.Legal.{LegalAbort, LegalEnd, is_in_block}
-use Rattle.gx_store.specs.Lines.{BlockState, InBlock, next_stmt, state_of, stmt_of, transaction_of}
+use Rattle.gx_store.specs.Legal.{LegalEnd, is_in_block}
+use Rattle.gx_store.specs.Lines.{state_of, stmt_of, transaction_of}
 use Rattle.gx_store.specs.Marks.{answer_count, is_ended, started_after}
 use Rattle.gx_store.specs.Points.{ends_by, ends_in, marks_in, starts_by, starts_in}
 use Rattle.gx_rules.specs.AtCoordinator.{ends_in as ends_session, is_in_block as is_block, next_line, rolls_back}
@@ -27,7 +24,7 @@ use Rattle.gx_laws.proofs.Turns.{self-test}
 use Rattle.gx_histories.specs.Standing.{IsOver, IsSession, IsStanding, Owns, Stands, is_busy, state_in}
 use Rattle.gx_histories.proofs.Awaited.{bare-all, own-none}
 use Rattle.gx_histories.proofs.Ends.{of-fresh}
-use Rattle.gx_histories.proofs.Frame.{Does, sid}
+use Rattle.gx_histories.proofs.Frame.{Does}
 use Rattle.gx_histories.proofs.Gathers.{GathersIn, HeardNow}
 use Rattle.gx_histories.proofs.Outs.{CommandIs, abort-bare, bare-outs}
 use Rattle.gx_histories.proofs.Said.{Said, said-calm}

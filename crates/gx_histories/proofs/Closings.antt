@@ -1,9 +1,9 @@
 -- Answers to PREPARE, COMMIT and the other orders, and every event of the coordinator.
-use Rattle.std.proofs.Common.{◌≡◌, ◌<◌, ◌≤◌, ◌⊎◌, inl, inr, ℕ, zero, suc, ◌+◌, List, [], ◌∷◌, ◌++◌, Option, Some, None, Bool, true, false, refl, sym, subst, ap, ◌∙◌, if◌then◌else◌, ◌||◌, ◌&&◌, ◌==◌, arith, eqb, append-nil}
+use Rattle.std.proofs.Common.{◌≡◌, ◌≤◌, ◌⊎◌, inl, inr, ℕ, zero, suc, List, [], ◌∷◌, ◌++◌, Option, Some, None, Bool, true, false, refl, sym, subst, ap, ◌∙◌, if◌then◌else◌, ◌&&◌, ◌==◌, arith, append-nil}
 use Rattle.std.proofs.lemmas.Bool.{eqb-true}
 use Rattle.std.proofs.lemmas.Bool.Decides.{nat_tests}
 use Rattle.std.proofs.lemmas.List.Elements.{Contains-append_left, Contains-push}
-use Rattle.std.specs.Prelude.{Contains, IsSome}
+use Rattle.std.specs.Prelude.{Contains}
 use Rattle.gx_ids.specs.declared.ids.Cid.{Cid}
 use Rattle.gx_ids.specs.declared.ids.Gxid.{Gxid}
 use Rattle.gx_ids.specs.declared.ids.Node.{Node}
@@ -36,13 +36,13 @@ use Rattle.gx_store.specs.declared.event.Event.TheVariants as event
 use Rattle.gx_store.specs.declared.mark.Mark.{Mark}
 use Rattle.gx_store.specs.declared.mark.Mark.TheVariants as mark
 use Rattle.gx_store.specs.declared.run.Step.{Step}
-use Rattle.gx_store.specs.Lines.{Outside, cid_of, is_command, level_of, state_after}
+use Rattle.gx_store.specs.Lines.{Outside, state_after}
 use Rattle.gx_store.specs.Marks.{answer_count, is_ended}
 use Rattle.gx_store.specs.Messages.{Receives}
-use Rattle.gx_store.specs.Points.{Point, marks_in}
+use Rattle.gx_store.specs.Points.{marks_in}
 use Rattle.gx_store.specs.Refusals.{HasJournalFailed, IsCause, the_coordinator}
 use Rattle.gx_rules.specs.AtCoordinator.{failure_marks, follows, is_awaited, is_committed as is_closed, is_refused, item_for, on_answer, on_done, on_failed, on_message, on_status, reason_of, takes_done}
-use Rattle.gx_rules.specs.Coordinators.{Command, Coord, CoordTurn, Session, Work, rests, session_of, work_of}
+use Rattle.gx_rules.specs.Coordinators.{Command, Coord, CoordTurn, Session, rests, session_of, work_of}
 use Rattle.gx_rules.specs.Fits.{fits_part}
 use Rattle.gx_laws.proofs.Lists.{Each}
 use Rattle.gx_laws.proofs.Sessions.{Kept, is_closing_in, stage_of}
@@ -50,7 +50,7 @@ use Rattle.gx_laws.proofs.Stages.{gx}
 use Rattle.gx_laws.proofs.Statuses.{Moves, Turned, reply-turns, stage}
 use Rattle.gx_laws.proofs.Statuses.Stage.{Live, Closing}
 use Rattle.gx_histories.specs.Rest.{EachMark}
-use Rattle.gx_histories.specs.Standing.{IsLineOf, IsSession, Stands, is_alone, is_busy, state_in}
+use Rattle.gx_histories.specs.Standing.{IsSession, is_alone, state_in}
 use Rattle.gx_histories.proofs.Answers.{command-refusable, done-outside, is_refusable}
 use Rattle.gx_histories.proofs.Awaited.{all-answered, bare-all}
 use Rattle.gx_histories.proofs.Busy.{Busy, alone-commit, block-commit, busy-under}

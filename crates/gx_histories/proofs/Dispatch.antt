@@ -1,5 +1,5 @@
 -- A command that goes out, or whose constants fault.
-use Rattle.std.proofs.Common.{◌≡◌, ◌<◌, ◌≤◌, inl, inr, ℕ, ◌+◌, List, [], ◌∷◌, ◌++◌, Option, Some, None, Result, Ok, Err, Bool, true, false, refl, sym, subst, ap, ◌∙◌, if◌then◌else◌, ◌||◌, ◌&&◌, arith, eqb, append-nil, length}
+use Rattle.std.proofs.Common.{◌≡◌, ◌<◌, ◌≤◌, inl, ℕ, ◌+◌, List, [], ◌∷◌, ◌++◌, Option, Some, None, Result, Ok, Err, Bool, true, false, refl, sym, subst, ap, ◌∙◌, if◌then◌else◌, ◌||◌, ◌&&◌, arith, eqb, append-nil, length}
 use Rattle.std.proofs.Math.Seq.{take-append_seam}
 use Rattle.std.proofs.lemmas.Bool.Decides.{nat_tests}
 use Rattle.std.proofs.lemmas.List.{append_assoc, length-append}
@@ -27,12 +27,10 @@ use Rattle.gx_plan.specs.Constants.{rows_of}
 use Rattle.gx_plan.specs.Plan.{insert_pieces, plan_of}
 use Rattle.gx_plan.specs.declared.piece.Piece.{Piece}
 use Rattle.gx_script.specs.declared.Script.{Script}
-use Rattle.gx_session.specs.Session.{after_refused, block_after_refusal}
+use Rattle.gx_session.specs.Session.{block_after_refusal}
 use Rattle.gx_session.specs.declared.state.Block.{Block}
 use Rattle.gx_session.specs.declared.state.Block.TheVariants as block
-use Rattle.gx_session.specs.declared.state.Pending.{Pending}
 use Rattle.gx_session.specs.declared.state.Pending.TheVariants as pending
-use Rattle.gx_store.specs.declared.answer.Refused.{Refused}
 use Rattle.gx_store.specs.declared.answer.StmtAnswer.TheVariants as told
 use Rattle.gx_store.specs.declared.event.Event.TheVariants as event
 use Rattle.gx_store.specs.declared.mark.Mark.{Mark}
@@ -47,24 +45,24 @@ use Rattle.gx_store.specs.Writes.{dist_of}
 use Rattle.gx_rules.specs.AtCoordinator.{Reading, behind, dispatches, enlisted_all, fault_mark, faulting_from, goes, goes_out, kept_at, next_cid, nodes_in, orders_of, reads_by, reads_for, refusal_of, table_of, takes_snapshot}
 use Rattle.gx_rules.specs.Coordinators.{Command, Coord, Session, Work, work_of}
 use Rattle.gx_rules.specs.Snapshots.{snapshot_of}
-use Rattle.gx_laws.proofs.Lists.{Each, each_append, get_kept, get_last}
+use Rattle.gx_laws.proofs.Lists.{Each, each_append, get_last}
 use Rattle.gx_laws.proofs.Past.{Past, seen-now}
 use Rattle.gx_laws.proofs.Turns.{self-test}
 use Rattle.gx_histories.specs.Orders.{IsReadBy, IsServed}
 use Rattle.gx_histories.specs.Rest.{EachMark}
-use Rattle.gx_histories.specs.Standing.{HasSnapshot, IsTaken, Owns, Roots, Stands, is_alone, is_busy, is_open, is_sound, level_in, state_in, under_way}
+use Rattle.gx_histories.specs.Standing.{HasSnapshot, Owns, Roots, Stands, is_alone, is_busy, is_sound, level_in, state_in, under_way}
 use Rattle.gx_histories.proofs.Answers.{command-refusable, done-outside, refused-inside}
 use Rattle.gx_histories.proofs.AtLine.{AtLine, at-calm, legal-snap}
 use Rattle.gx_histories.proofs.AtLine as at_line
 use Rattle.gx_histories.proofs.Awaited.{IsAwaited, IsOwn, OutAwaits}
-use Rattle.gx_histories.proofs.Ends.{IsOf, ended-more, keeps-snapshot, of-fresh, snapped-more, snapshot-more, taken-more, unsnapped}
+use Rattle.gx_histories.proofs.Ends.{IsOf, ended-more, of-fresh, snapped-more}
 use Rattle.gx_histories.proofs.Faults.{constants-fault}
 use Rattle.gx_histories.proofs.Frame.{Does}
 use Rattle.gx_histories.proofs.Gathers.{GathersIn, HeardNow}
 use Rattle.gx_histories.proofs.Given.{Given, marks-append}
 use Rattle.gx_histories.proofs.Outs.{CommandIs, OutIs, abort-bare}
 use Rattle.gx_histories.proofs.Roots.{roots-level}
-use Rattle.gx_histories.proofs.Said.{CalmFor, Said}
+use Rattle.gx_histories.proofs.Said.{CalmFor}
 use Rattle.gx_histories.proofs.Under.{Under, refuse-does}
 
 enlisted-next : (nodes : List Node) (d : Table) (g : Gxid) → (enlisted_all d g nodes).next ≡ d.next
@@ -142,8 +140,19 @@ module _ (script : Script) (steps : List Step) (c c1 : Coord) (s : SessionId) (g
   reads-kept : (y : Option Snapshot) → IsReadBy ms w.level g (next_cid w) line y → Reads (record { coord = c1; snapshot = y; marks = [] })
   reads-kept y by =
       record {
-        w2 = w; work = refl; home = refl; level = refl; works = λ j h. refl; sessions = λ j. refl; next = refl; of = tt; calm = tt; running = refl; unread = λ d l. refl;
-        snapshot = subst (λ m. HasSnapshot w.level m g w.snapshot) same-marks owns.snapshot; legal = λ later. tt;
+        w2 = w;
+        work = refl;
+        home = refl;
+        level = refl;
+        works = λ j h. refl;
+        sessions = λ j. refl;
+        next = refl;
+        of = tt;
+        calm = tt;
+        running = refl;
+        unread = λ d l. refl;
+        snapshot = subst (λ m. HasSnapshot w.level m g w.snapshot) same-marks owns.snapshot;
+        legal = λ later. tt;
         by = subst (λ m. IsReadBy m w.level g (next_cid w) line y) same-marks by;
       }
 
@@ -471,7 +480,10 @@ module _ (script : Script) (steps : List Step) (c c1 : Coord) (s : SessionId) (g
     live-fault : (later : List Mark) → Rattle.gx_store.specs.Faults.LegalFault script (record { steps = steps; event = event.Start s; earlier = earlier ++ r.marks; later = later }) g (next_cid w) rid None
     live-fault later =
         inl (record {
-          session = s; stmt = line; level = level_of b; fault = fault;
+          session = s;
+          stmt = line;
+          level = level_of b;
+          fault = fault;
           runs = subst (λ q. Rattle.gx_store.specs.Commands.IsUnderWay script (record { steps = steps; event = event.Start s; earlier = earlier ++ r.marks; later = later }) s line (level_of b) g q) cid
               (at_line.under-way script steps (event.Start s) s line n b (is_alone B pending.Command) (Some g) (earlier ++ r.marks) (at-reading r R) later g o.has refl cmd (running-there r R));
           faults = is-fault _;
@@ -480,9 +492,22 @@ module _ (script : Script) (steps : List Step) (c c1 : Coord) (s : SessionId) (g
     under2 : Under script steps c (event.Start s) r.coord s g R.w2 x n b (is_alone B pending.Command) line earlier
     under2 =
         record {
-          work = R.work; works = λ j h. R.works j h ∙ o.works j h; sessions = λ j. R.sessions j ∙ o.sessions j; home = R.home ∙ o.home; its = o.its; lines = o.lines;
-          next = subst (λ (i : Gxid). c.table.next.0 ≤ i.0) (sym R.next) o.next; drawn = subst (λ (i : Gxid). g.0 < i.0) (sym R.next) o.drawn; whose = o.whose; ends = o.ends; alone = o.alone;
-          at = o.at; has = o.has; running = o.running; of = o.of; legal = o.legal;
+          work = R.work;
+          works = λ j h. R.works j h ∙ o.works j h;
+          sessions = λ j. R.sessions j ∙ o.sessions j;
+          home = R.home ∙ o.home;
+          its = o.its;
+          lines = o.lines;
+          next = subst (λ (i : Gxid). c.table.next.0 ≤ i.0) (sym R.next) o.next;
+          drawn = subst (λ (i : Gxid). g.0 < i.0) (sym R.next) o.drawn;
+          whose = o.whose;
+          ends = o.ends;
+          alone = o.alone;
+          at = o.at;
+          has = o.has;
+          running = o.running;
+          of = o.of;
+          legal = o.legal;
         }
 
     faults-does : Does script steps c (event.Start s) (behind earlier (Rattle.gx_rules.specs.AtCoordinator.is_refused r.coord g (on_abort r.coord.table g) why (refusal_of fault)))

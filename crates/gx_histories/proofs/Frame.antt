@@ -1,7 +1,5 @@
 -- What an event leaves of the sessions that it isn't of.
-use Rattle.std.proofs.Common.{◌≡◌, ◌<◌, ◌≤◌, ◌⊎◌, inl, inr, ℕ, ◌+◌, List, [], ◌∷◌, ◌++◌, Option, Some, None, Bool, true, false, refl, sym, subst, ap, ◌∙◌, if◌then◌else◌, arith, eqb}
-use Rattle.std.proofs.lemmas.Bool.{eqb-true}
-use Rattle.std.proofs.lemmas.Bool.Decides.{nat_tests}
+use Rattle.std.proofs.Common.{◌≡◌, ◌<◌, ◌≤◌, ◌⊎◌, inl, inr, ℕ, ◌+◌, List, [], ◌∷◌, ◌++◌, None, true, false, refl, sym, subst, ap, ◌∙◌, if◌then◌else◌, arith, eqb}
 use Rattle.gx_ids.specs.declared.ids.Cid.{Cid}
 use Rattle.gx_ids.specs.declared.ids.Gxid.{Gxid}
 use Rattle.gx_ids.specs.declared.ids.Node.{Node}
@@ -14,16 +12,16 @@ use Rattle.gx_store.specs.declared.event.Event.{Event}
 use Rattle.gx_store.specs.declared.mark.Mark.{Mark}
 use Rattle.gx_store.specs.declared.mark.Mark.TheVariants as mark
 use Rattle.gx_store.specs.declared.run.Step.{Step}
-use Rattle.gx_store.specs.Lines.{Outside, state_of}
+use Rattle.gx_store.specs.Lines.{state_of}
 use Rattle.gx_store.specs.Marks.{answer_count, has_snapshot, is_begun, is_ended, started_after}
 use Rattle.gx_store.specs.Points.{ends_by, ends_in, marks_in, starts_by, starts_in}
-use Rattle.gx_rules.specs.Coordinators.{Coord, CoordTurn, Session, Work, session_of, work_of}
+use Rattle.gx_rules.specs.Coordinators.{Coord, CoordTurn, Session, Work}
 use Rattle.gx_laws.proofs.Lists.{Each}
 use Rattle.gx_laws.proofs.Stages.{gx}
 use Rattle.gx_histories.specs.Rest.{EachMark}
-use Rattle.gx_histories.specs.Standing.{IsLineOf, IsOver, IsSession, IsStanding, Owns, Roots, Stands, is_busy, waits}
+use Rattle.gx_histories.specs.Standing.{IsLineOf, IsOver, IsStanding, Owns, Roots, Stands, is_busy, waits}
 use Rattle.gx_histories.proofs.Awaited.{IsAwaited, IsSettled, OutAwaits, OwnIn}
-use Rattle.gx_histories.proofs.Ends.{Fresh, IsOf, ended-more, keeps-snapshot, of-calm, of-ended, of-snapshot, snapped-more, unsnapped}
+use Rattle.gx_histories.proofs.Ends.{Fresh, IsOf, ended-more, keeps-snapshot, snapped-more, unsnapped}
 use Rattle.gx_histories.proofs.Gathers.{GathersIn, HeardNow}
 use Rattle.gx_histories.proofs.Given.{Given}
 use Rattle.gx_histories.proofs.Outs.{CommandIs, OutIs}

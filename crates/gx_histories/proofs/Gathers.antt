@@ -1,10 +1,9 @@
 -- How a command gathers the answers of its segments.
-use Rattle.std.proofs.Common.{◌≡◌, ◌≤◌, ◌⊎◌, inl, inr, ℕ, zero, suc, ◌+◌, List, [], ◌∷◌, ◌++◌, Option, Some, None, Ok, Bool, true, false, refl, sym, subst, ap, ◌∙◌, ◌||◌, ◌&&◌, not, arith, eqb, length}
+use Rattle.std.proofs.Common.{◌≡◌, ◌≤◌, inl, inr, ℕ, zero, suc, ◌+◌, List, [], ◌∷◌, ◌++◌, Option, Some, None, Ok, Bool, true, false, refl, sym, subst, ap, ◌∙◌, ◌||◌, ◌&&◌, not, arith, eqb, length}
 use Rattle.std.proofs.Math.Seq.{take-append_seam}
-use Rattle.std.proofs.lemmas.Bool.{eqb-true}
 use Rattle.std.proofs.lemmas.Bool.Decides.{nat_tests}
 use Rattle.std.proofs.lemmas.List.{take-append-le}
-use Rattle.std.specs.Prelude.{map, slice_get, take}
+use Rattle.std.specs.Prelude.{slice_get}
 use Rattle.gx_ids.specs.declared.ids.Gxid.{Gxid}
 use Rattle.gx_ids.specs.declared.ids.Node.{Node}
 use Rattle.gx_tree.specs.declared.part.Part.{Part}
@@ -22,7 +21,6 @@ use Rattle.gx_store.specs.declared.event.Event.{Event}
 use Rattle.gx_store.specs.declared.mark.Mark.{Mark}
 use Rattle.gx_store.specs.declared.run.Step.{Step}
 use Rattle.gx_store.specs.Messages.{HasReceived, Receives}
-use Rattle.gx_store.specs.Points.{Point}
 use Rattle.gx_store.specs.Refusals.{the_coordinator}
 use Rattle.gx_store.specs.Writes.{dist_of}
 use Rattle.gx_rules.specs.AtCoordinator.{command_answer, nodes_in, table_of, with_done}
@@ -120,7 +118,16 @@ pub gathers-weaker : (script : Script) (H K : Node → Message → Type 0) (g : 
 gathers-weaker script H K g None f e = tt
 gathers-weaker script H K g (Some m) f e =
     record {
-      pieces = e.pieces; plan = e.plan; taken = e.taken; heard = all-weaker _ _ (λ t h. f t.node _ h) e.taken e.heard; fits = e.fits; apart = e.apart; all = e.all; free = e.free; parts = e.parts; counted = e.counted;
+      pieces = e.pieces;
+      plan = e.plan;
+      taken = e.taken;
+      heard = all-weaker _ _ (λ t h. f t.node _ h) e.taken e.heard;
+      fits = e.fits;
+      apart = e.apart;
+      all = e.all;
+      free = e.free;
+      parts = e.parts;
+      counted = e.counted;
     }
 
 -- one answer more

@@ -1,5 +1,5 @@
 -- Marks that are legal if the rest is, step by step.
-use Rattle.std.proofs.Common.{◌≡◌, ℕ, List, [], ◌∷◌, ◌++◌, sym, subst, append_assoc, append-nil}
+use Rattle.std.proofs.Common.{ℕ, List, [], ◌∷◌, ◌++◌, sym, subst, append_assoc, append-nil}
 use Rattle.gx_script.specs.declared.Script.{Script}
 use Rattle.gx_msg.specs.declared.message.Out.{Out}
 use Rattle.gx_store.specs.declared.event.Event.{Event}

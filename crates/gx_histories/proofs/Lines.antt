@@ -1,5 +1,5 @@
 -- Lines that start, and sessions that end.
-use Rattle.std.proofs.Common.{◌≡◌, ◌<◌, ◌≤◌, inl, inr, ℕ, ◌+◌, List, [], ◌∷◌, ◌++◌, Option, Some, None, Bool, true, false, refl, sym, subst, ap, ◌∙◌, if◌then◌else◌, ◌||◌, arith, eqb, append-nil}
+use Rattle.std.proofs.Common.{◌≡◌, ◌<◌, ◌≤◌, inl, inr, ℕ, ◌+◌, List, [], ◌∷◌, ◌++◌, Option, Some, None, true, false, refl, sym, subst, ap, ◌∙◌, if◌then◌else◌, ◌||◌, arith, eqb, append-nil}
 use Rattle.std.proofs.lemmas.Bool.Decides.{nat_tests}
 use Rattle.std.proofs.lemmas.List.{append_assoc}
 use Rattle.gx_ids.specs.declared.ids.Cid.{Cid}
@@ -15,7 +15,7 @@ use Rattle.gx_dtx.specs.Rules.{Turn, on_abort, on_commit}
 use Rattle.gx_dtx.specs.declared.outcome.Outcome.{Outcome}
 use Rattle.gx_dtx.specs.declared.outcome.Outcome.TheVariants as outcome
 use Rattle.gx_script.specs.declared.Script.{Script}
-use Rattle.gx_session.specs.Session.{after_line, block_after, idle_outside, line_step, pending_after}
+use Rattle.gx_session.specs.Session.{after_line, block_after, line_step, pending_after}
 use Rattle.gx_session.specs.declared.line_step.LineStep.{LineStep}
 use Rattle.gx_session.specs.declared.line_step.LineStep.TheVariants as step
 use Rattle.gx_session.specs.declared.line_step.Plain.TheVariants as plain
@@ -31,31 +31,29 @@ use Rattle.gx_store.specs.declared.mark.Mark.{Mark}
 use Rattle.gx_store.specs.declared.mark.Mark.TheVariants as mark
 use Rattle.gx_store.specs.declared.run.Step.{Step}
 use Rattle.gx_store.specs.Answers.{IsAnswer}
-use Rattle.gx_store.specs.Lines.{BlockState, Outside, InBlock, Failed, began_from, cid_of, closes_block, is_command, is_on_rows, state_after, stmt_of, transaction_of}
+use Rattle.gx_store.specs.Lines.{Outside, InBlock, began_from, closes_block, is_command, is_on_rows, state_after, transaction_of}
 use Rattle.gx_store.specs.Marks.{answer_count, is_committed, is_ended, start_count, started_after}
 use Rattle.gx_store.specs.Points.{Point, ends_by, ends_in, marks_in, starts_by, starts_in}
-use Rattle.gx_rules.specs.AtCoordinator.{answer_at_commit, answer_mark, answers_at_once, begins, behind, commits, dispatches, ends_in as ends_session, follows, next_cid, next_line, on_line, rolls_back, starts, starts_line}
-use Rattle.gx_rules.specs.Coordinators.{Command, Coord, Session, Work, new_work, no_work, rests, session_of, with_session, with_state, work_of}
+use Rattle.gx_rules.specs.AtCoordinator.{answer_at_commit, answer_mark, answers_at_once, begins, behind, commits, dispatches, follows, next_cid, next_line, on_line, rolls_back, starts, starts_line}
+use Rattle.gx_rules.specs.Coordinators.{Command, Coord, Session, Work, new_work, no_work, session_of, work_of}
 use Rattle.gx_laws.proofs.Ends.{past-begun}
-use Rattle.gx_laws.proofs.Lists.{Each}
 use Rattle.gx_laws.proofs.Past.{Past, running-drawn}
-use Rattle.gx_laws.proofs.Sessions.{Kept, is_nothing_in, is_open_in, stage_of}
+use Rattle.gx_laws.proofs.Sessions.{Kept, is_nothing_in, is_open_in}
 use Rattle.gx_laws.proofs.Statuses.{Closes, Turned, commit-turns, is_running, stage}
-use Rattle.gx_laws.proofs.Statuses.Stage.{Live}
 use Rattle.gx_laws.proofs.Turns.{merged, self-test}
-use Rattle.gx_histories.specs.Rest.{EachMark, RestAnswer}
-use Rattle.gx_histories.specs.Standing.{HasSnapshot, IsOver, IsSession, IsStanding, Owns, Roots, Stands, is_alone, is_busy, is_open, is_sound, level_in, state_in, under_way, waits}
+use Rattle.gx_histories.specs.Rest.{EachMark}
+use Rattle.gx_histories.specs.Standing.{HasSnapshot, IsSession, IsStanding, Owns, Roots, Stands, is_alone, is_busy, is_open, is_sound, level_in, state_in, under_way}
 use Rattle.gx_histories.proofs.AtLine.{AtLine, answered-now, at-calm, at-start, legal-abort, legal-answer, legal-start, transaction-is}
 use Rattle.gx_histories.proofs.Awaited.{IsAwaited, bare-all, none-awaited, own-none}
 use Rattle.gx_histories.proofs.Dispatch.{dispatch-does}
-use Rattle.gx_histories.proofs.Ends.{Fresh, IsOf, began-behind, ended-more, of-fresh, snapped-more, snapshot-more, unsnapped}
-use Rattle.gx_histories.proofs.Frame.{Does, owns-more, sid}
+use Rattle.gx_histories.proofs.Ends.{Fresh, began-behind, ended-more, of-fresh, snapped-more, snapshot-more, unsnapped}
+use Rattle.gx_histories.proofs.Frame.{Does, owns-more}
 use Rattle.gx_histories.proofs.Gathers.{GathersIn, HeardNow}
 use Rattle.gx_histories.proofs.Given.{Given}
 use Rattle.gx_histories.proofs.Outs.{CommandIs, abort-bare, bare-outs, commit-bare}
 use Rattle.gx_histories.proofs.Roots.{roots-alone, roots-begin, roots-command, roots-commit, roots-other}
 use Rattle.gx_histories.proofs.Said.{Said}
-use Rattle.gx_histories.proofs.Under.{Under, answered-self, closed-does, commit-does, stands-closed, x-is, home-is}
+use Rattle.gx_histories.proofs.Under.{Under, answered-self, closed-does, commit-does}
 
 differ : false ≡ true → ⊥
 differ e = cc
@@ -183,10 +181,12 @@ module _ (script : Script) (steps : List Step) (c : Coord) (k : Kept c) (p : Pas
 
         owns : is_busy B pending.Nothing ≡ true → Owns s st.1.commands (ms ++ answer_mark (starts_line c s asked) s r ∷ []) next B y.transaction (work_of c y.transaction) × ((work_of c y.transaction).command ≡ None) × Roots script s (ms ++ answer_mark (starts_line c s asked) s r ∷ []) B pending.Nothing (y.lines + 1) y.transaction (work_of c y.transaction)
         owns h =
-            let old = st.1.owns (subst (λ q. is_busy q pending.Nothing ≡ true) (sym (same (busy-open B h))) h) in
-            (subst (λ q. Owns s st.1.commands (ms ++ answer_mark (starts_line c s asked) s r ∷ []) next q y.transaction (work_of c y.transaction)) (same (busy-open B h)) (owns-more script s st.1.commands ms (answer_mark (starts_line c s asked) s r ∷ []) next next y.state.block y.transaction (work_of c y.transaction) old.0 (le-same next) said.started refl refl), old.1,
-            subst (λ q. Roots script s (ms ++ answer_mark (starts_line c s asked) s r ∷ []) q pending.Nothing (y.lines + 1) y.transaction (work_of c y.transaction)) (same (busy-open B h))
-            (roots-other script s ms (answer_mark (starts_line c s asked) s r ∷ []) y.state.block y.lines y.transaction (work_of c y.transaction) line (subst (λ q. is_open q ≡ true) (sym (same (busy-open B h))) (busy-open B h)) old.2 is_next (quiet (busy-open B h)).0 (quiet (busy-open B h)).1))
+            let old = st.1.owns (subst (λ q. is_busy q pending.Nothing ≡ true) (sym (same (busy-open B h))) h) in (
+              subst (λ q. Owns s st.1.commands (ms ++ answer_mark (starts_line c s asked) s r ∷ []) next q y.transaction (work_of c y.transaction)) (same (busy-open B h)) (owns-more script s st.1.commands ms (answer_mark (starts_line c s asked) s r ∷ []) next next y.state.block y.transaction (work_of c y.transaction) old.0 (le-same next) said.started refl refl),
+              old.1,
+              subst (λ q. Roots script s (ms ++ answer_mark (starts_line c s asked) s r ∷ []) q pending.Nothing (y.lines + 1) y.transaction (work_of c y.transaction)) (same (busy-open B h))
+                  (roots-other script s ms (answer_mark (starts_line c s asked) s r ∷ []) y.state.block y.lines y.transaction (work_of c y.transaction) line (subst (λ q. is_open q ≡ true) (sym (same (busy-open B h))) (busy-open B h)) old.2 is_next (quiet (busy-open B h)).0 (quiet (busy-open B h)).1),
+            )
 
         there : Stands script s (ms ++ answer_mark (starts_line c s asked) s r ∷ []) next B pending.Nothing (y.lines + 1) y.transaction (work_of c y.transaction)
         there =
@@ -308,9 +308,16 @@ module _ (script : Script) (steps : List Step) (c : Coord) (k : Kept c) (p : Pas
         there : Stands script s (ms ++ begun ∷ answer_mark (begins (starts_line c s (step.BeginBlock level)) s level) s told.Begin ∷ []) (next + 1) (block.Open level) pending.Nothing (y.lines + 1) c.table.next (new_work s level)
         there =
             record {
-              commands = 0; answered = same-plus _ _ said.answered; state = said.state; begun = said.begun; sound = refl;
-              owns = λ h. (fresh-owns level (block.Open level) 0 (begun ∷ answer_mark (begins (starts_line c s (step.BeginBlock level)) s level) s told.Begin ∷ []) refl refl said.started refl refl, refl,
-                  roots-begin script s (ms ++ begun ∷ answer_mark (begins (starts_line c s (step.BeginBlock level)) s level) s told.Begin ∷ []) level (y.lines + 1) c.table.next (new_work s level) (fresh-began _) (is_next ∙ ap (λ q. Some q) is) refl);
+              commands = 0;
+              answered = same-plus _ _ said.answered;
+              state = said.state;
+              begun = said.begun;
+              sound = refl;
+              owns = λ h. (
+                fresh-owns level (block.Open level) 0 (begun ∷ answer_mark (begins (starts_line c s (step.BeginBlock level)) s level) s told.Begin ∷ []) refl refl said.started refl refl,
+                refl,
+                roots-begin script s (ms ++ begun ∷ answer_mark (begins (starts_line c s (step.BeginBlock level)) s level) s told.Begin ∷ []) level (y.lines + 1) c.table.next (new_work s level) (fresh-began _) (is_next ∙ ap (λ q. Some q) is) refl,
+              );
             }
 
     -- A COMMAND OUTSIDE A BLOCK
@@ -379,8 +386,22 @@ module _ (script : Script) (steps : List Step) (c : Coord) (k : Kept c) (p : Pas
     under-own : (asked : LineStep) (l : Level) → block.Open l ≡ y.state.block → Under script steps c e (starts_line c s asked) s g (work_of c g) (moved asked) y.lines (InBlock l st.1.commands) false line []
     under-own asked l eb =
         record {
-          work = refl; works = λ j h. refl; sessions = λ j. refl; home = (own l eb).0.home; its = refl; lines = refl; next = le-same next; drawn = (own l eb).0.drawn;
-          whose = inl (ap (λ (i : SessionId). i.0) (own l eb).0.home); ends = ended; alone = others; at = at-own l eb; has = refl; running = (own-late l eb).running; of = tt; legal = λ later. tt;
+          work = refl;
+          works = λ j h. refl;
+          sessions = λ j. refl;
+          home = (own l eb).0.home;
+          its = refl;
+          lines = refl;
+          next = le-same next;
+          drawn = (own l eb).0.drawn;
+          whose = inl (ap (λ (i : SessionId). i.0) (own l eb).0.home);
+          ends = ended;
+          alone = others;
+          at = at-own l eb;
+          has = refl;
+          running = (own-late l eb).running;
+          of = tt;
+          legal = λ later. tt;
         }
 
     transaction-now : (asked : LineStep) → (session_of (starts_line c s asked) s).transaction ≡ g
@@ -400,13 +421,29 @@ module _ (script : Script) (steps : List Step) (c : Coord) (k : Kept c) (p : Pas
       waits-does : Does script steps c e (follows c1 g turn outcome.Pending)
       waits-does =
           record {
-            s = s.0; g = g.0; x = moved step.CommitBlock; sessions = λ j. refl; works = λ j h. refl; next = le-same next; whose = inl (ap (λ (i : SessionId). i.0) (own l eb).0.home); of = tt;
-            fresh = record { unended = λ h m. refl; unread = λ h m. refl; unstarted = λ h m. refl }; alone = others; starts = started;
-            stands = inl (ended, subst (λ q. Stands script s (ms ++ []) next (block_after q step.CommitBlock) pending.Commit (y.lines + 1) g (work_of c g)) eb
-                (record {
-                  commands = st.1.commands; answered = ap (λ i. i + 1) (at-own l eb).said.answered; state = (at-own l eb).said.state; begun = (at-own l eb).said.begun; sound = refl;
-                  owns = λ h. (own-late l eb, ((own l eb).1, is_next ∙ ap (λ q. Some q) is), roots-commit script s ms [] l y.lines g (work_of c g) (own-roots l eb));
-                }));
+            s = s.0;
+            g = g.0;
+            x = moved step.CommitBlock;
+            sessions = λ j. refl;
+            works = λ j h. refl;
+            next = le-same next;
+            whose = inl (ap (λ (i : SessionId). i.0) (own l eb).0.home);
+            of = tt;
+            fresh = record { unended = λ h m. refl; unread = λ h m. refl; unstarted = λ h m. refl };
+            alone = others;
+            starts = started;
+            stands = inl (
+              ended,
+              subst (λ q. Stands script s (ms ++ []) next (block_after q step.CommitBlock) pending.Commit (y.lines + 1) g (work_of c g)) eb
+                  (record {
+                    commands = st.1.commands;
+                    answered = ap (λ i. i + 1) (at-own l eb).said.answered;
+                    state = (at-own l eb).said.state;
+                    begun = (at-own l eb).said.begun;
+                    sound = refl;
+                    owns = λ h. (own-late l eb, ((own l eb).1, is_next ∙ ap (λ q. Some q) is), roots-commit script s ms [] l y.lines g (work_of c g) (own-roots l eb));
+                  }),
+            );
             legal = λ later. tt;
             outs = bare-outs script (ms ++ []) _ (commit-bare c.table g (work_of c g).writers);
             owned = λ h. h;
@@ -479,13 +516,16 @@ module _ (script : Script) (steps : List Step) (c : Coord) (k : Kept c) (p : Pas
         legal : (later : List Mark) → EachMark (Given script) steps (event.Start s) [] (mark.Abort g ∷ answer_mark (starts_line c s step.RollbackBlock) s told.Rollback ∷ []) later
         legal later = (
           λ q. legal-abort script steps e s line y.lines (InBlock l st.1.commands) false (Some g) [] (at-own l eb) (answer_mark (starts_line c s step.RollbackBlock) s told.Rollback ∷ later) g refl refl (own-late l eb).running (subst (λ z. Rattle.gx_store.specs.Legal.may_abort (InBlock l st.1.commands) z ≡ true) (sym is) refl) (answered-self s (session_of (starts_line c s step.RollbackBlock) s).lines told.Rollback later),
-          (λ q. legal-answer script steps e s line y.lines (InBlock l st.1.commands) false (Some g) (mark.Abort g ∷ []) a2 later (session_of (starts_line c s step.RollbackBlock) s).lines told.Rollback numbered
-          (subst (λ z. IsAnswer script (record { steps = steps; event = event.Start s; earlier = mark.Abort g ∷ []; later = later }) s (InBlock l st.1.commands) z told.Rollback) (sym is)
-          (record {
-            g = g;
-            transaction = subst (λ z. transaction_of z s (ms ++ mark.Abort g ∷ []) ≡ Some g) a2.said.state (transaction-is script steps e s line y.lines (InBlock l st.1.commands) false (Some g) (mark.Abort g ∷ []) a2 later g refl refl);
-            aborted = ap (λ q. q || false) (self-test g.0);
-          })), tt),
+          (
+            λ q. legal-answer script steps e s line y.lines (InBlock l st.1.commands) false (Some g) (mark.Abort g ∷ []) a2 later (session_of (starts_line c s step.RollbackBlock) s).lines told.Rollback numbered
+                (subst (λ z. IsAnswer script (record { steps = steps; event = event.Start s; earlier = mark.Abort g ∷ []; later = later }) s (InBlock l st.1.commands) z told.Rollback) (sym is)
+                (record {
+                  g = g;
+                  transaction = subst (λ z. transaction_of z s (ms ++ mark.Abort g ∷ []) ≡ Some g) a2.said.state (transaction-is script steps e s line y.lines (InBlock l st.1.commands) false (Some g) (mark.Abort g ∷ []) a2 later g refl refl);
+                  aborted = ap (λ q. q || false) (self-test g.0);
+                })),
+            tt,
+          ),
         )
 
     -- A COMMAND IN A BLOCK

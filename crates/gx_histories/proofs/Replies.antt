@@ -1,28 +1,20 @@
 -- Answers of segments.
-use Rattle.std.proofs.Common.{◌≡◌, ◌<◌, ◌≤◌, ◌⊎◌, inl, inr, ℕ, zero, suc, ◌+◌, List, [], ◌∷◌, ◌++◌, Option, Some, None, Bool, true, false, refl, sym, subst, ap, ◌∙◌, if◌then◌else◌, ◌||◌, ◌&&◌, ◌==◌, not, arith, eqb, append-nil}
+use Rattle.std.proofs.Common.{◌≡◌, ◌⊎◌, inl, inr, ℕ, List, [], ◌∷◌, ◌++◌, Option, Some, None, Bool, true, false, refl, sym, subst, ap, ◌∙◌, if◌then◌else◌, ◌&&◌, not, arith, eqb}
 use Rattle.std.proofs.lemmas.Bool.{eqb-true}
-use Rattle.std.proofs.lemmas.Bool.Decides.{nat_tests}
-use Rattle.std.proofs.lemmas.List.Elements.{Contains-append_left, Contains-append_right, Contains-push}
-use Rattle.std.specs.Prelude.{Contains}
 use Rattle.gx_ids.specs.declared.ids.Cid.{Cid}
 use Rattle.gx_ids.specs.declared.ids.Gxid.{Gxid}
 use Rattle.gx_ids.specs.declared.ids.Node.{Node}
 use Rattle.gx_ids.specs.declared.ids.SessionId.{SessionId}
 use Rattle.gx_tree.specs.declared.part.Part.{Part}
 use Rattle.gx_tree.specs.declared.stmt.Level.{Level}
-use Rattle.gx_tree.specs.declared.stmt.Stmt.{Stmt}
-use Rattle.gx_tree.specs.declared.stmt.Stmt.TheVariants as stmt
 use Rattle.gx_dtx.proofs.Has.{has-without}
 use Rattle.gx_dtx.specs.Nodes.{has, without}
-use Rattle.gx_dtx.specs.Rules.{Turn, ends_committed, finishes, forgets, gives_up, is_awaited as is_expected, on_abort, on_commit, on_reply, prepares, reply_found, stays, takes}
-use Rattle.gx_dtx.specs.Table.{find_txn}
+use Rattle.gx_dtx.specs.Rules.{Turn, ends_committed, finishes, forgets, gives_up, is_awaited as is_expected, on_abort, on_commit, prepares, reply_found, stays, takes}
 use Rattle.gx_dtx.specs.declared.outcome.Outcome.{Outcome}
 use Rattle.gx_dtx.specs.declared.outcome.Outcome.TheVariants as outcome
 use Rattle.gx_dtx.specs.declared.phase.Phase.{Phase}
-use Rattle.gx_dtx.specs.declared.phase.Phase.TheVariants.{Active, Preparing, CommittingOne, CommittingTwo, Ended, Aborting}
+use Rattle.gx_dtx.specs.declared.phase.Phase.TheVariants.{Preparing, CommittingOne, CommittingTwo, Ended, Aborting}
 use Rattle.gx_dtx.specs.declared.txn.Txn.{Txn}
-use Rattle.gx_msg.specs.declared.item.JournalItem.{JournalItem}
-use Rattle.gx_msg.specs.declared.message.Message.{Message}
 use Rattle.gx_msg.specs.declared.message.Message.TheVariants as message
 use Rattle.gx_msg.specs.declared.message.Out.{Out}
 use Rattle.gx_msg.specs.declared.reply.Cause.{Cause}
@@ -35,34 +27,32 @@ use Rattle.gx_session.specs.declared.state.Block.{Block}
 use Rattle.gx_session.specs.declared.state.Block.TheVariants as block
 use Rattle.gx_session.specs.declared.state.Pending.{Pending}
 use Rattle.gx_session.specs.declared.state.Pending.TheVariants as pending
-use Rattle.gx_store.specs.declared.answer.Refused.{Refused}
-use Rattle.gx_store.specs.declared.answer.Refused.TheVariants as refused
 use Rattle.gx_store.specs.declared.answer.StmtAnswer.TheVariants as told
 use Rattle.gx_store.specs.declared.event.Event.{Event}
 use Rattle.gx_store.specs.declared.event.Event.TheVariants as event
 use Rattle.gx_store.specs.declared.mark.Mark.{Mark}
 use Rattle.gx_store.specs.declared.mark.Mark.TheVariants as mark
 use Rattle.gx_store.specs.declared.run.Step.{Step}
-use Rattle.gx_store.specs.Lines.{BlockState, Outside, InBlock, Failed, cid_of, command_at, is_command, level_of, state_after, stmt_of}
-use Rattle.gx_store.specs.Marks.{answer_count, is_ended}
+use Rattle.gx_store.specs.Lines.{BlockState, cid_of, command_at, is_command, level_of, state_after}
+use Rattle.gx_store.specs.Marks.{answer_count}
 use Rattle.gx_store.specs.Messages.{Receives}
-use Rattle.gx_store.specs.Points.{Point, ends_in, marks_in, starts_in}
-use Rattle.gx_store.specs.Refusals.{HasJournalFailed, IsCause, the_coordinator}
-use Rattle.gx_rules.specs.AtCoordinator.{answers, commits, completes, failure_marks, follows, goes_on, is_awaited, is_refused, on_answer, on_done, on_failed, on_message, on_status, reason_of, takes_done, with_done, writers_with}
+use Rattle.gx_store.specs.Points.{Point, ends_in, marks_in}
+use Rattle.gx_store.specs.Refusals.{IsCause, the_coordinator}
+use Rattle.gx_rules.specs.AtCoordinator.{answers, commits, completes, follows, goes_on, is_refused, reason_of, takes_done, with_done, writers_with}
 use Rattle.gx_rules.specs.Coordinators.{Command, Coord, CoordTurn, Session, Work, rests, session_of, with_work, work_of}
 use Rattle.gx_rules.specs.Fits.{fits_part}
 use Rattle.gx_laws.proofs.Lists.{Each}
-use Rattle.gx_laws.proofs.Sessions.{Kept, is_closing_in, is_live_in, is_working_in, stage_of}
+use Rattle.gx_laws.proofs.Sessions.{Kept, is_live_in, is_working_in, stage_of}
 use Rattle.gx_laws.proofs.Stages.{gx}
-use Rattle.gx_laws.proofs.Statuses.{Closes, Moves, Turned, commit-turns, reply-turns, stage}
-use Rattle.gx_laws.proofs.Statuses.Stage.{Live, Closing}
+use Rattle.gx_laws.proofs.Statuses.{Closes, Turned, commit-turns, stage}
+use Rattle.gx_laws.proofs.Statuses.Stage.{Live}
 use Rattle.gx_laws.proofs.Turns.{self-test}
-use Rattle.gx_histories.specs.Rest.{EachMark, IsCaused, RestAnswer}
-use Rattle.gx_histories.specs.Standing.{IsLineOf, IsSession, IsStanding, Owns, Stands, is_alone, is_busy, is_open, state_in, under_way, waits}
+use Rattle.gx_histories.specs.Rest.{IsCaused, RestAnswer}
+use Rattle.gx_histories.specs.Standing.{IsLineOf, IsSession, IsStanding, Stands, is_alone, is_busy, state_in, under_way}
 use Rattle.gx_histories.proofs.Answers.{command-refusable, done-outside, refused-inside}
 use Rattle.gx_histories.proofs.AtLine.{at-calm, runs-command}
-use Rattle.gx_histories.proofs.Busy.{Busy, Likewise, alone-commit, block-answer, block-commit, busy-under, goes-on}
-use Rattle.gx_histories.proofs.Frame.{Does, Effect, Rests}
+use Rattle.gx_histories.proofs.Busy.{Busy, Likewise, alone-commit, block-answer, busy-under, goes-on}
+use Rattle.gx_histories.proofs.Frame.{Does}
 use Rattle.gx_histories.specs.Alive.{HasAnswered, IsHeard}
 use Rattle.gx_histories.proofs.Awaited.{IsAwaited, IsOwn, IsSettled, bare-all}
 use Rattle.gx_histories.proofs.Gathers.{Gathers, GathersIn, HeardNow, gathers-done, gathers-weaker, heard-now, hears}

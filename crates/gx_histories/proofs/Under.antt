@@ -1,6 +1,5 @@
 -- A session's line under way in its transaction, and the marks with which it ends.
 use Rattle.std.proofs.Common.{◌≡◌, ◌<◌, ◌≤◌, ◌⊎◌, inl, inr, ℕ, ◌+◌, List, [], ◌∷◌, ◌++◌, Option, Some, None, Bool, true, false, refl, sym, subst, ap, ◌∙◌, if◌then◌else◌, ◌||◌, arith, eqb}
-use Rattle.std.proofs.lemmas.Bool.Decides.{nat_tests}
 use Rattle.std.proofs.lemmas.List.{append_assoc}
 use Rattle.gx_ids.specs.declared.ids.Cid.{Cid}
 use Rattle.gx_ids.specs.declared.ids.Gxid.{Gxid}
@@ -13,7 +12,6 @@ use Rattle.gx_dtx.specs.Rules.{Turn}
 use Rattle.gx_session.specs.Session.{after_done, after_refused}
 use Rattle.gx_session.specs.declared.state.Block.{Block}
 use Rattle.gx_session.specs.declared.state.Block.TheVariants as block
-use Rattle.gx_session.specs.declared.state.Pending.{Pending}
 use Rattle.gx_session.specs.declared.state.Pending.TheVariants as pending
 use Rattle.gx_store.specs.declared.answer.Refused.{Refused}
 use Rattle.gx_store.specs.declared.answer.StmtAnswer.{StmtAnswer}
@@ -26,7 +24,7 @@ use Rattle.gx_store.specs.Answers.{IsAnswer}
 use Rattle.gx_store.specs.Legal.{may_commit}
 use Rattle.gx_store.specs.Lines.{BlockState, Outside, cid_of, level_of, state_after}
 use Rattle.gx_store.specs.Marks.{is_aborted, is_answered, is_ended}
-use Rattle.gx_store.specs.Points.{Point, ends_by, ends_in, marks_in, starts_by, starts_in}
+use Rattle.gx_store.specs.Points.{Point, ends_by, ends_in, marks_in, starts_by}
 use Rattle.gx_store.specs.Refusals.{IsCause}
 use Rattle.gx_rules.specs.AtCoordinator.{answer_at_commit, behind, is_committed, is_refused}
 use Rattle.gx_rules.specs.Coordinators.{Coord, CoordTurn, Session, Work, no_work, session_of, work_of}
@@ -40,8 +38,8 @@ use Rattle.gx_histories.specs.Standing.{Stands, is_alone, is_busy, is_sound, sta
 use Rattle.gx_histories.proofs.Answers.{is_refusable, may-abort-refusable, refused-is}
 use Rattle.gx_histories.proofs.AtLine.{AtLine, answered-now, at-calm, has_txn, legal-abort, legal-answer, legal-commit, transaction-is}
 use Rattle.gx_histories.proofs.Awaited.{IsAwaited, IsSettled, bare-all, own-none}
-use Rattle.gx_histories.proofs.Ends.{Fresh, IsOf, of-fresh}
-use Rattle.gx_histories.proofs.Frame.{Does, sid}
+use Rattle.gx_histories.proofs.Ends.{IsOf, of-fresh}
+use Rattle.gx_histories.proofs.Frame.{Does}
 use Rattle.gx_histories.proofs.Gathers.{GathersIn, HeardNow}
 use Rattle.gx_histories.proofs.Given.{Given, marks-append}
 use Rattle.gx_histories.proofs.Outs.{CommandIs, IsBare, bare-outs}
@@ -141,9 +139,12 @@ module _ (script : Script) (steps : List Step) (c : Coord) (e : Event) (c1 : Coo
         fresh = of-fresh s.0 g.0 turn.coord.table.next.0 (earlier ++ turn.marks) (subst (λ i. g.0 < i) (sym next) o.drawn) (each_append (IsOf s.0 g.0) earlier turn.marks o.of of);
         alone = o.alone;
         starts = o.at.starts ∙ sym yl;
-        stands = inl (o.ends, subst (λ q. Stands script s (marks_in steps ++ (earlier ++ turn.marks)) turn.coord.table.next.0 q y.state.pending y.lines y.transaction (turn.coord.works y.transaction.0)) (sym yb)
-            (subst (λ q. Stands script s (marks_in steps ++ (earlier ++ turn.marks)) turn.coord.table.next.0 B q y.lines y.transaction (turn.coord.works y.transaction.0)) (sym yp)
-            (stands-closed script s (marks_in steps ++ (earlier ++ turn.marks)) turn.coord.table.next.0 B y.lines (n + 1) y.transaction (turn.coord.works y.transaction.0) (Some g) idle yl said)));
+        stands = inl (
+          o.ends,
+          subst (λ q. Stands script s (marks_in steps ++ (earlier ++ turn.marks)) turn.coord.table.next.0 q y.state.pending y.lines y.transaction (turn.coord.works y.transaction.0)) (sym yb)
+              (subst (λ q. Stands script s (marks_in steps ++ (earlier ++ turn.marks)) turn.coord.table.next.0 B q y.lines y.transaction (turn.coord.works y.transaction.0)) (sym yp)
+              (stands-closed script s (marks_in steps ++ (earlier ++ turn.marks)) turn.coord.table.next.0 B y.lines (n + 1) y.transaction (turn.coord.works y.transaction.0) (Some g) idle yl said)),
+        );
         legal = λ later. marks-append (Given script) steps e [] earlier turn.marks later (o.legal (turn.marks ++ later)) (legal later);
         outs = bare-outs script (marks_in steps ++ (earlier ++ turn.marks)) turn.outs outs;
         owned = λ h. own-none g (turn.coord.works g.0) none;
@@ -193,9 +194,10 @@ module _ (script : Script) (steps : List Step) (c : Coord) (e : Event) (c1 : Coo
 
       legal : (later : List Mark) → EachMark (Given script) steps e earlier (is_committed c1 g turn).marks later
       legal later =
-          subst (λ i. EachMark (Given script) steps e earlier (mark.Commit g ∷ mark.Answer i (session_of c1 i).lines r ∷ []) later) (sym home-is)
-          (λ q. legal-commit script steps e s line n b u (Some g) earlier o.at _ g o.has refl o.running may (answered-self s (session_of c1 s).lines r later),
-          (λ q. legal-answer script steps e s line n b u (Some g) (earlier ++ mark.Commit g ∷ []) at2 _ (session_of c1 s).lines r number (told later q), tt))
+          subst (λ i. EachMark (Given script) steps e earlier (mark.Commit g ∷ mark.Answer i (session_of c1 i).lines r ∷ []) later) (sym home-is) (
+            λ q. legal-commit script steps e s line n b u (Some g) earlier o.at _ g o.has refl o.running may (answered-self s (session_of c1 s).lines r later),
+            (λ q. legal-answer script steps e s line n b u (Some g) (earlier ++ mark.Commit g ∷ []) at2 _ (session_of c1 s).lines r number (told later q), tt),
+          )
 
   -- REFUSALS
   pub refuse-does : (turn : Turn) (why : List Mark) (reason : Refused) (B : Block) → turn.table.next.0 ≡ c1.table.next.0 → is_refusable b line ≡ true → (after_refused x.state).block ≡ B → is_busy B pending.Nothing ≡ false → state_after b line (told.Refused reason) ≡ state_in B 0 → Each (IsOf s.0 g.0) why → Each (CalmFor s) why → is_ended (marks_in steps ++ (earlier ++ why)) g ≡ false
@@ -239,6 +241,7 @@ module _ (script : Script) (steps : List Step) (c : Coord) (e : Event) (c1 : Coo
       legal : (later : List Mark) → EachMark (Given script) steps e earlier (is_refused c1 g turn why reason).marks later
       legal later =
           subst (λ i. EachMark (Given script) steps e earlier (why ++ mark.Abort g ∷ mark.Answer i (session_of c1 i).lines r ∷ []) later) (sym home-is)
-          (marks-append (Given script) steps e earlier why (mark.Abort g ∷ mark.Answer s (session_of c1 s).lines r ∷ []) later (first _)
-          (λ q. legal-abort script steps e s line n b u (Some g) (earlier ++ why) at1 _ g o.has refl running (may-abort-refusable b line may) (answered-self s (session_of c1 s).lines r later),
-          (λ q. legal-answer script steps e s line n b u (Some g) ((earlier ++ why) ++ mark.Abort g ∷ []) at2 later (session_of c1 s).lines r number (is later q), tt)))
+          (marks-append (Given script) steps e earlier why (mark.Abort g ∷ mark.Answer s (session_of c1 s).lines r ∷ []) later (first _) (
+            λ q. legal-abort script steps e s line n b u (Some g) (earlier ++ why) at1 _ g o.has refl running (may-abort-refusable b line may) (answered-self s (session_of c1 s).lines r later),
+            (λ q. legal-answer script steps e s line n b u (Some g) ((earlier ++ why) ++ mark.Abort g ∷ []) at2 later (session_of c1 s).lines r number (is later q), tt),
+          ))

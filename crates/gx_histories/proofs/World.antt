@@ -1,9 +1,9 @@
 -- Over every run of the machine, sessions stand as the marks tell, and events and marks are legal if the rest is.
-use Rattle.std.proofs.Common.{◌≡◌, ◌<◌, ◌≤◌, ◌⊎◌, inl, inr, ℕ, ◌+◌, List, [], ◌∷◌, ◌++◌, Option, Some, None, Bool, true, false, refl, sym, subst, ap, ◌∙◌, if◌then◌else◌, ◌&&◌, ◌||◌, not, arith, eqb, append-nil}
+use Rattle.std.proofs.Common.{◌≡◌, ◌≤◌, ◌⊎◌, inl, inr, ℕ, ◌+◌, List, [], ◌∷◌, ◌++◌, Option, Some, None, Bool, true, false, refl, sym, subst, ap, ◌∙◌, if◌then◌else◌, ◌&&◌, ◌||◌, not, arith, eqb, append-nil}
 use Rattle.std.proofs.lemmas.Bool.{eqb-true}
 use Rattle.std.proofs.lemmas.Bool.Decides.{nat_tests}
 use Rattle.std.proofs.lemmas.List.{append_assoc}
-use Rattle.std.specs.Prelude.{IsSome, is_some, nat_le}
+use Rattle.std.specs.Prelude.{IsSome, nat_le}
 use Rattle.gx_ids.specs.declared.ids.Cid.{Cid}
 use Rattle.gx_ids.specs.declared.ids.Gxid.{Gxid}
 use Rattle.gx_ids.specs.declared.ids.Node.{Node}
@@ -30,7 +30,7 @@ use Rattle.gx_store.specs.declared.node.NodeEvent.TheVariants as here
 use Rattle.gx_store.specs.declared.run.Step.{Step}
 use Rattle.gx_store.specs.Journals.{is_same_node}
 use Rattle.gx_store.specs.Legal.{AreLegalSteps, LegalEvent}
-use Rattle.gx_store.specs.Lines.{next_stmt, stmt_of}
+use Rattle.gx_store.specs.Lines.{stmt_of}
 use Rattle.gx_store.specs.Marks.{is_aborted, start_count}
 use Rattle.gx_store.specs.Messages.{IsSending, Receives}
 use Rattle.gx_store.specs.Ordered.{IsAtNode, IsLink, IsSegment}
@@ -39,7 +39,7 @@ use Rattle.gx_store.specs.Refusals.{the_coordinator}
 use Rattle.gx_rules.specs.AtCoordinator.{awaited, command_order, coord_can, coord_rule, is_idle, is_in_block, is_left, is_nothing, next_line, on_event, order_to, resends, starts, status_order}
 use Rattle.gx_rules.specs.AtSegment as segment
 use Rattle.gx_rules.specs.AtSegment.{seg_rule}
-use Rattle.gx_rules.specs.Coordinators.{Command, Coord, CoordTurn, Work, rests, session_of}
+use Rattle.gx_rules.specs.Coordinators.{Command, Coord, CoordTurn, Work, session_of}
 use Rattle.gx_rules.specs.Machine.{Letter, World, after, at_node, can, can_here, coord_did, delivered, does, found, happens, new_world, node_of, posted, seg_can, seg_did, world_of}
 use Rattle.gx_rules.specs.Segments.{Seg, SegTurn}
 use Rattle.gx_rules.specs.Sending.{clock_after, counted, numbered}
@@ -49,13 +49,13 @@ use Rattle.gx_laws.proofs.Letters.{IsFound, IsLetter, found_is, same_node}
 use Rattle.gx_laws.proofs.Lists.{Each, each_append, each_weaker}
 use Rattle.gx_laws.proofs.Numbers.{NoStart, calm-more, event-numbered}
 use Rattle.gx_laws.proofs.Past.{aborted-append}
-use Rattle.gx_laws.proofs.Ordered.{Well, at-both, never_resumes, seg_marks}
+use Rattle.gx_laws.proofs.Ordered.{at-both, never_resumes, seg_marks}
 use Rattle.gx_laws.proofs.Sent.{at}
 use Rattle.gx_laws.proofs.Sessions.{is_nothing_in}
 use Rattle.gx_laws.proofs.Stages.{gx}
 use Rattle.gx_laws.proofs.World.{Knows, marks-last, world_knows}
 use Rattle.gx_histories.specs.Orders.{AreLinesNumbered, AreOrders, AreOrdersOf}
-use Rattle.gx_histories.specs.Rest.{AreEventsLegal, AreRestLegal, EachMark, Rest}
+use Rattle.gx_histories.specs.Rest.{AreEventsLegal, AreRestLegal, EachMark}
 use Rattle.gx_histories.specs.Standing.{AreSessions, IsSession}
 use Rattle.gx_histories.proofs.After.{does-sessions, quiet-silent, sent-silent, silent-fresh, silent-sessions}
 use Rattle.gx_histories.proofs.Alive.{alive-all}
@@ -63,8 +63,8 @@ use Rattle.gx_histories.proofs.Awaited.{IsAwaited, IsAwaitedOut, IsSettled, OutA
 use Rattle.gx_histories.proofs.Closed.{end-does, legal-end}
 use Rattle.gx_histories.proofs.Closings.{IsNoted, message-does}
 use Rattle.gx_histories.proofs.Ends.{Fresh, fresh-more}
-use Rattle.gx_histories.proofs.Frame.{Does, Effect, Quiet, Rests}
-use Rattle.gx_histories.specs.Alive.{AreAlive, AreOrdersAlive, IsHeard, IsSilent}
+use Rattle.gx_histories.proofs.Frame.{Effect, Quiet, Rests}
+use Rattle.gx_histories.specs.Alive.{AreOrdersAlive, IsHeard, IsSilent}
 use Rattle.gx_histories.proofs.Gathers.{GathersIn, HeardNow, gathers-weaker, heard-later, heard-now}
 use Rattle.gx_histories.proofs.Given.{Given, given-legal, marks-append, sent-given}
 use Rattle.gx_histories.proofs.Lines.{start-counts, start-does}
@@ -578,9 +578,10 @@ module _ (script : Script) (some : 1 ≤ script.segments) where
         by_next : (o : Option Stmt) → next_line script w.coord s ≡ o → is_left o ≡ true → Effect script w.steps w.coord (event.Start s) (starts script w.coord s o) × LegalEvent script w.steps (event.Start s)
         by_next None e q = absurd (cc)
         by_next (Some line) e q =
-            let counts = start-counts script w.steps w.coord n.kept n.past h.fresh h.numbers s (h.sessions s) idle line e in
-            (inl (start-does script w.steps w.coord n.kept n.past h.fresh h.numbers s (h.sessions s) idle line e),
-            (counts, subst IsSome (sym (ap (λ i. stmt_of s (i + 1) script.lines) (sym counts ∙ (h.sessions s).starts) ∙ e)) refl))
+            let counts = start-counts script w.steps w.coord n.kept n.past h.fresh h.numbers s (h.sessions s) idle line e in (
+              inl (start-does script w.steps w.coord n.kept n.past h.fresh h.numbers s (h.sessions s) idle line e),
+              (counts, subst IsSome (sym (ap (λ i. stmt_of s (i + 1) script.lines) (sym counts ∙ (h.sessions s).starts) ∙ e)) refl),
+            )
 
     -- a session ends
     ends-ok : (s : SessionId) → coord_can script w.coord (here.End s) ≡ true → (is_nothing_in (session_of w.coord s).state.pending ≡ true) × (next_line script w.coord s ≡ None) × (is_in_block (session_of w.coord s).state.block ≡ true)
@@ -602,7 +603,11 @@ module _ (script : Script) (some : 1 ≤ script.segments) where
     again i g None e = record { sessions = λ j. refl; works = λ j. refl; next = refl; quiet = tt; alone = λ j. (refl, refl); outs = λ o. tt; sent = λ o. tt }
     again i g (Some m) e =
         record {
-          sessions = λ j. refl; works = λ j. refl; next = refl; quiet = tt; alone = λ j. (refl, refl);
+          sessions = λ j. refl;
+          works = λ j. refl;
+          next = refl;
+          quiet = tt;
+          alone = λ j. (refl, refl);
           outs = λ o. (command-order-is script (marks_in w.steps ++ []) i g m (w.coord.works g.0).command (awaited_order w.coord.table g i) (o g.0) e, tt);
           sent = λ o. (resent-awaits w.coord g i m (w.coord.works g.0).command (awaited_order w.coord.table g i) refl (o g.0) e, tt);
         }

@@ -24,17 +24,13 @@ pub fn events_are_legal()
 /// A run is a legal history if what segments do of rows, what they refuse, and what the answers of commands that succeeded
 /// say are so.
 pub fn history_is_legal_with_the_rest()
-    ensures {
-        (script : Script) (events : List (OneEvent × Bool)) → 1 ≤ script.segments → AreRestLegal script [] (steps_after script events) → IsLegalHistory script (run_of (world_of script events))
-    }
+    ensures { (script : Script) (events : List (OneEvent × Bool)) → 1 ≤ script.segments → AreRestLegal script [] (steps_after script events) → IsLegalHistory script (run_of (world_of script events)) }
 {}
 
 /// Each EXEC that was ever sent is of a statement of its transaction's session: the one that the command's number says. It
 /// has the transaction's level, the node's piece of the statement's plan, and a snapshot that was taken for the command.
 pub fn orders_are_of_their_lines()
-    ensures {
-        (script : Script) (events : List (OneEvent × Bool)) → 1 ≤ script.segments → AreLinesNumbered [] script.lines → AreOrdersOf script (world_of script events)
-    }
+    ensures { (script : Script) (events : List (OneEvent × Bool)) → 1 ≤ script.segments → AreLinesNumbered [] script.lines → AreOrdersOf script (world_of script events) }
 {}
 
 /// The command of an EXEC that was ever sent is under way, or its node's answer to it was received, or its transaction has
