@@ -19,4 +19,7 @@ pub mod Replies
 pub mod Closings
 pub mod Notes
 pub mod Alive
+pub mod Steps
+pub mod Sendings
+pub mod Stepping
 pub mod World
