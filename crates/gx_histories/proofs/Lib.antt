@@ -11,8 +11,10 @@ pub mod Awaited
 pub mod Frame
 pub mod After
 pub mod Under
+pub mod Reading
 pub mod Dispatch
 pub mod Lines
+pub mod Blocks
 pub mod Closed
 pub mod Busy
 pub mod Replies

@@ -1,77 +1,54 @@
 -- What holds between steps, and how a step keeps it.
-use Rattle.std.proofs.Common.{◌≡◌, ◌≤◌, ◌⊎◌, inl, inr, ℕ, ◌+◌, List, [], ◌∷◌, ◌++◌, Option, Some, None, Bool, true, false, refl, sym, subst, ap, ◌∙◌, if◌then◌else◌, ◌&&◌, ◌||◌, not, arith, eqb, append-nil}
+use Rattle.std.proofs.Common.{◌≡◌, ◌≤◌, ◌⊎◌, inl, inr, ℕ, ◌+◌, List, [], ◌∷◌, ◌++◌, Option, Bool, true, false, refl, sym, subst, ap, ◌∙◌, ◌||◌, arith, eqb}
 use Rattle.std.proofs.lemmas.Bool.{eqb-true}
-use Rattle.std.proofs.lemmas.Bool.Decides.{nat_tests}
 use Rattle.std.proofs.lemmas.List.{append_assoc}
-use Rattle.std.specs.Prelude.{IsSome, nat_le}
 use Rattle.gx_ids.specs.declared.ids.Cid.{Cid}
 use Rattle.gx_ids.specs.declared.ids.Gxid.{Gxid}
 use Rattle.gx_ids.specs.declared.ids.Node.{Node}
 use Rattle.gx_ids.specs.declared.ids.SessionId.{SessionId}
 use Rattle.gx_tree.specs.declared.stmt.Level.{Level}
-use Rattle.gx_tree.specs.declared.stmt.Stmt.{Stmt}
-use Rattle.gx_dtx.specs.Nodes.{has}
-use Rattle.gx_dtx.specs.Orders.{message_of}
-use Rattle.gx_dtx.specs.Rules.{awaited_order}
-use Rattle.gx_dtx.specs.declared.order.Order.{Order}
-use Rattle.gx_dtx.specs.declared.order.Order.TheVariants as order
-use Rattle.gx_msg.specs.declared.message.Envelope.{Envelope}
-use Rattle.gx_msg.specs.declared.message.Message.{Message}
-use Rattle.gx_msg.specs.declared.message.Message.TheVariants as message
 use Rattle.gx_msg.specs.declared.message.Out.{Out}
 use Rattle.gx_script.specs.declared.Script.{Script}
-use Rattle.gx_session.specs.declared.state.Pending.{Pending}
 use Rattle.gx_store.specs.declared.event.Event.{Event}
 use Rattle.gx_store.specs.declared.event.Event.TheVariants as event
 use Rattle.gx_store.specs.declared.mark.Mark.{Mark}
-use Rattle.gx_store.specs.declared.mark.Mark.TheVariants as mark
 use Rattle.gx_store.specs.declared.node.NodeEvent.{NodeEvent}
-use Rattle.gx_store.specs.declared.node.NodeEvent.TheVariants as here
 use Rattle.gx_store.specs.declared.run.Step.{Step}
-use Rattle.gx_store.specs.Journals.{is_same_node}
-use Rattle.gx_store.specs.Legal.{AreLegalSteps, LegalEvent}
-use Rattle.gx_store.specs.Lines.{stmt_of}
+use Rattle.gx_store.specs.Legal.{LegalEvent}
 use Rattle.gx_store.specs.Marks.{is_aborted, start_count}
-use Rattle.gx_store.specs.Messages.{IsSending, Receives}
-use Rattle.gx_store.specs.Ordered.{IsAtNode, IsLink, IsSegment}
+use Rattle.gx_store.specs.Ordered.{IsSegment}
 use Rattle.gx_store.specs.Points.{ends_by, marks_in, starts_by}
 use Rattle.gx_store.specs.Refusals.{the_coordinator}
-use Rattle.gx_rules.specs.AtCoordinator.{awaited, command_order, coord_can, coord_rule, is_idle, is_in_block, is_left, is_nothing, next_line, on_event, order_to, resends, starts, status_order}
+use Rattle.gx_rules.specs.AtCoordinator.{coord_rule, on_event}
 use Rattle.gx_rules.specs.AtSegment as segment
 use Rattle.gx_rules.specs.AtSegment.{seg_rule}
-use Rattle.gx_rules.specs.Coordinators.{Command, Coord, CoordTurn, Work, session_of}
-use Rattle.gx_rules.specs.Machine.{Letter, World, after, at_node, can, can_here, coord_did, delivered, does, found, happens, new_world, node_of, posted, seg_can, seg_did, world_of}
+use Rattle.gx_rules.specs.Coordinators.{Command, Coord, CoordTurn, Work}
+use Rattle.gx_rules.specs.Machine.{World, coord_did, seg_did}
 use Rattle.gx_rules.specs.Segments.{Seg, SegTurn}
-use Rattle.gx_rules.specs.Sending.{clock_after, counted, numbered}
+use Rattle.gx_rules.specs.Sending.{clock_after, numbered}
 use Rattle.gx_laws.proofs.AtCoordinators.{coord_stays}
 use Rattle.gx_laws.proofs.AtSegments.{PlainAt, SegStays, seg_stays}
-use Rattle.gx_laws.proofs.Letters.{IsFound, IsLetter, found_is, same_node}
 use Rattle.gx_laws.proofs.Lists.{Each, each_append, each_weaker}
-use Rattle.gx_laws.proofs.Numbers.{NoStart, calm-more, event-numbered}
+use Rattle.gx_laws.proofs.Numbers.{calm-more, event-numbered}
 use Rattle.gx_laws.proofs.Past.{aborted-append}
-use Rattle.gx_laws.proofs.Ordered.{at-both, never_resumes, seg_marks}
+use Rattle.gx_laws.proofs.Ordered.{at-both, seg_marks}
 use Rattle.gx_laws.proofs.Sent.{at}
-use Rattle.gx_laws.proofs.Sessions.{is_nothing_in}
 use Rattle.gx_laws.proofs.Stages.{gx}
-use Rattle.gx_laws.proofs.World.{Knows, marks-last, world_knows}
-use Rattle.gx_histories.specs.Orders.{AreLinesNumbered, AreOrders, AreOrdersOf}
-use Rattle.gx_histories.specs.Rest.{AreEventsLegal, AreRestLegal, EachMark}
+use Rattle.gx_laws.proofs.World.{Knows, marks-last}
+use Rattle.gx_histories.specs.Rest.{EachMark}
 use Rattle.gx_histories.specs.Standing.{AreSessions, IsSession}
 use Rattle.gx_histories.proofs.After.{does-sessions, quiet-silent, sent-silent, silent-fresh, silent-sessions}
-use Rattle.gx_histories.proofs.Alive.{alive-all}
-use Rattle.gx_histories.proofs.Awaited.{IsAwaited, IsAwaitedOut, IsSettled, OutAwaits, OwnIn, StateOf, resent-awaits}
-use Rattle.gx_histories.proofs.Closed.{end-does, legal-end}
-use Rattle.gx_histories.proofs.Closings.{IsNoted, message-does}
+use Rattle.gx_histories.proofs.Awaited.{IsAwaited, IsSettled, OutAwaits, OwnIn, StateOf}
+use Rattle.gx_histories.proofs.Closings.{IsNoted}
 use Rattle.gx_histories.proofs.Ends.{Fresh, fresh-more}
-use Rattle.gx_histories.proofs.Frame.{Effect, Quiet, Rests}
-use Rattle.gx_histories.specs.Alive.{AreOrdersAlive, IsHeard, IsSilent}
+use Rattle.gx_histories.proofs.Frame.{Effect}
+use Rattle.gx_histories.specs.Alive.{IsHeard, IsSilent}
 use Rattle.gx_histories.proofs.Gathers.{GathersIn, HeardNow, gathers-weaker, heard-later, heard-now}
-use Rattle.gx_histories.proofs.Given.{Given, given-legal, marks-append, sent-given}
-use Rattle.gx_histories.proofs.Lines.{start-counts, start-does}
+use Rattle.gx_histories.proofs.Given.{Given, marks-append, sent-given}
 use Rattle.gx_histories.proofs.Outs.{CommandIs, MessageIs, OutIs, command-more, order-more, outs-more}
 use Rattle.gx_histories.proofs.Notes.{SegNoted, local-more, noted-more, seg-notes}
-use Rattle.gx_histories.proofs.Steps.{AreGiven, IsGivenStep, given-events, given-last, given-steps, no-start, quiet-given, segment-silent, silent-given}
-use Rattle.gx_histories.proofs.Sendings.{IsOrderLetter, IsToldOf, LetterState, SentIs, awaited-by, awaited-state, away-sent, away-states, command-order-is, coord-sent, each-posted, le-same, numbered-sent, order-to-is, orders-all, outs-sent, plain-sent, state-moves, states-sent, status-order-is}
+use Rattle.gx_histories.proofs.Steps.{AreGiven, given-last, no-start, quiet-given, segment-silent, silent-given}
+use Rattle.gx_histories.proofs.Sendings.{IsOrderLetter, IsToldOf, LetterState, SentIs, awaited-by, away-sent, away-states, coord-sent, each-posted, le-same, numbered-sent, outs-sent, plain-sent, state-moves, states-sent}
 
 -- WHAT HOLDS BETWEEN STEPS
 pub record Holds (script : Script) (w : World) : Type 0 where
