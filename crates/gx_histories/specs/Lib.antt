@@ -1,0 +1,5 @@
+pub mod Orders
+pub mod Standing
+pub mod Gathering
+pub mod Rest
+pub mod Alive
