@@ -12,9 +12,7 @@ use Rattle.gx_form.specs.Form.{is_of_form}
 use Rattle.gx_sql.specs.declared.refusal.Refusal.{Refusal}
 use Rattle.gx_sql.specs.Script.{Reads}
 use Rattle.gx_store.specs.declared.run.Run.{Run}
-use Rattle.gx_store.specs.Lines.{AreAllAnswered}
-use Rattle.gx_store.specs.Points.{marks_of}
-use Rattle.gx_store.specs.Runs.{AreAllClosed, AreAllEnded, IsLegalRun, IsWholeRun}
+use Rattle.gx_store.specs.Runs.{IsLegalRun, IsWholeRun}
 use Rattle.gx.specs.declared.top.Report.{Report}
 use Rattle.gx.specs.declared.attempt.Attempt.{Attempt}
 use Rattle.gx.specs.declared.attempt.Attempt.TheVariants.{Done, Refused, ReadFault, TooLarge, NotBuilt, OutOfMemory}
@@ -27,12 +25,6 @@ limit = 16777216
 
 abbrev pub no_run : Run
 no_run = record { steps = [] }
-
--- every line was answered, every block is closed, and every transaction has ended
-pub record IsOver (script : Script) (run : Run) : Type 0 where
-  pub whole : AreAllAnswered script (marks_of run)
-  pub closed : AreAllClosed script run
-  pub ended : AreAllEnded (marks_of run)
 
 -- every line of the script was answered in the run, and the text is that of the run and of the tables at its end
 pub record IsRunOf (script : Script) (run : Run) (text : List ℕ) : Type 0 where

@@ -1,17 +1,18 @@
 // The work before the writing: words, reading, script, run and text.
-ghost use Rattle.std.specs.Prelude.{◌≡◌, ◌≤◌, ◌⊎◌, [], length, true, OnOk, IfOk, IfErr};
+ghost use Rattle.std.specs.Prelude.{◌≡◌, ◌⊎◌, [], false, true, OnOk, IfOk, IfErr};
 ghost use Rattle.gx_form.specs.Form.{is_of_form};
 ghost use Rattle.gx_sql.specs.Language.{IsScript};
-ghost use Rattle.gx.specs.Top.{IsAttempt, IsOver, IsPartOf, IsRunOf};
+ghost use Rattle.gx_world.specs.World.{IsFinished};
+ghost use Rattle.gx.specs.Top.{IsAttempt, IsPartOf, IsRunOf};
 
 use crate::refused::refusal_text;
 use crate::tables::text;
 use gx_form::is_of_form;
-use gx_ids::{Mem, SessionId};
+use gx_ids::Mem;
 use gx_outside::{ReadFault, Source, read_up_to};
 use gx_script::Script;
 use gx_sql::parse_script;
-use gx_store::{Event, Run};
+use gx_store::Run;
 use gx_world::World;
 use std::alloc::Global;
 
@@ -29,14 +30,15 @@ pub enum Attempt {
     OutOfMemory(Run),
 }
 
-// Runs each line that is left.
-fn run_lines(world: &mut World) -> Mem<()>
-    requires { length world.old.run.steps ≤ length world.old.script.lines }
+// Does what may be done first, until nothing may be done any more: the lines in the order of the file, each once its session
+// is idle, and then the ends of sessions.
+fn run_all(world: &mut World) -> Mem<()>
+    requires { world.old.spent ≡ false }
     ensures script { world.new.script ≡ world.old.script }
-    ensures over { OnOk result (IsOver world.new.script world.new.run) }
+    ensures over { OnOk result (IsFinished world.new.script world.new.run) }
 {
-    'lines: while world.unfinished() {
-        world.step(Event::Start(SessionId(0)))?;
+    'events: while let Some(event) = world.first_enabled() {
+        world.step(event)?;
     }
     Ok(())
 }
@@ -52,7 +54,7 @@ fn run_script(alloc: Global, script: Script) -> Result<(Run, Vec<u8>), Run>
         Ok(world) => world,
         Err(_) => return Err(Run::new(alloc)),
     };
-    if run_lines(&mut world).is_err() {
+    if run_all(&mut world).is_err() {
         return Err(world.into_parts().1);
     }
     match told(alloc, &world) {
@@ -63,7 +65,7 @@ fn run_script(alloc: Global, script: Script) -> Result<(Run, Vec<u8>), Run>
 
 // The text of a world that has run its script.
 fn told(alloc: Global, world: &World) -> Mem<Vec<u8>>
-    requires { IsOver world.now.script world.now.run }
+    requires { IsFinished world.now.script world.now.run }
     ensures { IfOk result (λ text. IsRunOf world.now.script world.now.run text.items) }
 {
     let tables = world.final_tables()?;

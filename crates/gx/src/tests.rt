@@ -36,6 +36,30 @@ const TWO_TABLES_TEXT: &str =
 const FAULTS_EVERYWHERE: &str =
     "segments 2\ntable t (a bigint, b bigint) distributed by (a)\ns1: INSERT INTO t VALUES (1, 0), (2, 0), (4, 0)\ns1: SELECT * FROM t WHERE 1 / b = 0\n";
 
+const COMMITTED: &str =
+    "segments 2\ntable t (a bigint, b bigint) distributed by (a)\ns1: BEGIN\ns1: SELECT * FROM t\ns1: INSERT INTO t VALUES (4, 40)\ns1: COMMIT\n";
+
+const ROLLED_BACK: &str =
+    "segments 2\ntable t (a bigint, b bigint) distributed by (a)\ns1: BEGIN\ns1: INSERT INTO t VALUES (1, 1)\ns2: SELECT * FROM t\ns1: SELECT * FROM t\ns1: ROLLBACK\ns2: SELECT * FROM t\n";
+
+const ROLLED_BACK_TEXT: &str =
+    "s1.1 BEGIN\ns1.2 INSERT 1\ns1.3 SELECT 1\n  1|1\ns1.4 ROLLBACK\ns2.1 SELECT 0\ns2.2 SELECT 0\ntable t 0\n";
+
+const REPEATED: &str =
+    "segments 2\ntable t (a bigint) distributed by (a)\ns1: INSERT INTO t VALUES (1)\ns2: BEGIN ISOLATION LEVEL REPEATABLE READ\ns2: SELECT * FROM t\ns1: INSERT INTO t VALUES (2)\ns2: SELECT * FROM t\ns2: COMMIT\ns2: SELECT * FROM t\n";
+
+const REPEATED_TEXT: &str =
+    "s1.1 INSERT 1\ns1.2 INSERT 1\ns2.1 BEGIN\ns2.2 SELECT 1\n  1\ns2.3 SELECT 1\n  1\ns2.4 COMMIT\ns2.5 SELECT 2\n  1\n  2\ntable t 2\n  1\n  2\n";
+
+const FAILED_BLOCK: &str =
+    "segments 2\ntable t (a bigint, b bigint) distributed by (a)\ns1: BEGIN\ns1: INSERT INTO t VALUES (1, 0)\ns1: SELECT * FROM t WHERE 1 / b = 0\ns1: SELECT * FROM t\ns1: COMMIT\ns1: SELECT * FROM t\n";
+
+const FAILED_BLOCK_TEXT: &str =
+    "s1.1 BEGIN\ns1.2 INSERT 1\ns1.3 ERROR 4 division by zero\ns1.4 ERROR 5 block has failed\ns1.5 ROLLBACK\ns1.6 SELECT 0\ntable t 0\n";
+
+const LEFT_OPEN: &str =
+    "segments 2\ntable t (a bigint) distributed by (a)\ns1: BEGIN\ns1: INSERT INTO t VALUES (1)\ns2: INSERT INTO t VALUES (2)\n";
+
 const EMPTY: &str = "segments 2\ntable t (a bigint, b bigint) distributed by (a)\n";
 
 // The most bytes that a read moves: few, so that even a short script takes many reads.
@@ -110,6 +134,29 @@ fn scripts_give_their_texts(rt: HostRuntime) -> Result<(), Fail> {
     for (script, status, text) in cases {
         let (report, written) = outcome(&rt, &[], script.as_bytes(), &[], &[])?;
         assert_eq!(rt; report.status, status, "of {script}");
+        assert_eq!(rt; written.as_str(), text);
+    }
+    Ok(())
+}
+
+#[test]
+fn blocks_give_their_texts(rt: HostRuntime) -> Result<(), Fail> {
+    let cases = [
+        (
+            COMMITTED,
+            "s1.1 BEGIN\ns1.2 SELECT 0\ns1.3 INSERT 1\ns1.4 COMMIT\ntable t 1\n  4|40\n",
+        ),
+        (ROLLED_BACK, ROLLED_BACK_TEXT),
+        (REPEATED, REPEATED_TEXT),
+        (FAILED_BLOCK, FAILED_BLOCK_TEXT),
+        (
+            LEFT_OPEN,
+            "s1.1 BEGIN\ns1.2 INSERT 1\ns2.1 INSERT 1\ntable t 1\n  2\n",
+        ),
+    ];
+    for (script, text) in cases {
+        let (report, written) = outcome(&rt, &[], script.as_bytes(), &[], &[])?;
+        assert_eq!(rt; report.status, 0, "of {script}");
         assert_eq!(rt; written.as_str(), text);
     }
     Ok(())

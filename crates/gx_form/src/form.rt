@@ -47,7 +47,5 @@ fn are_of_form(lines: &[Line]) -> bool
 pub fn is_of_form(script: &Script) -> bool
     ensures { result ≡ of.is_of_form script.now }
 {
-    script.detector
-        && has_none(script.faults.as_slice())
-        && are_of_form(script.lines.as_slice())
+    script.detector && has_none(script.faults.as_slice()) && are_of_form(script.lines.as_slice())
 }

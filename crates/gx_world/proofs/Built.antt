@@ -61,10 +61,12 @@ indexed_none n = record { all = many n; each = λ k ps e. empty n k ps e; count 
     many : (n : ℕ) → length {A = List ℕ} (replicate n []) ≡ n
     many zero = refl
     many (suc n) = ap suc (many n)
+
     empty : (n k : ℕ) (ps : List ℕ) → slice_get (replicate n []) k ≡ Some ps → ps ≡ []
     empty zero k ps e = absurd (cc)
     empty (suc n) zero ps e = sym (some_same e)
     empty (suc n) (suc k) ps e = empty n k ps e
+
     none : (n : ℕ) → count_in (replicate n []) ≡ 0
     none zero = refl
     none (suc n) = omega (arith, none n)
@@ -88,6 +90,7 @@ indexed_more ls n places places' l p is at inside set = subst (AreIndexed (ls ++
   where
     plus : (m : ℕ) → m ≡ 0 + m
     plus m = omega arith
+
     old_at : (xs : List (List ℕ)) (i : ℕ) → i < length xs → (x : List ℕ) × (slice_get xs i ≡ Some x)
     old_at [] i l = absurd (omega arith)
     old_at (x ∷ xs) zero l = (x, refl)

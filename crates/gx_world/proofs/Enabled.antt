@@ -159,6 +159,7 @@ module _ (steps : List Step) where
     where
       some_not : {x : SessionId} → Some x ≡ None → ⊥
       some_not e = cc
+
       bound : (m n : ℕ) → m ≤ n → m ≢ n → m + 1 ≤ n
       bound m n l apart = grind (arith, nat_tests)
 
@@ -205,6 +206,7 @@ module _ (steps : List Step) where
         where
           some_none : {x : SessionId} → Some x ≡ None → ⊥
           some_none e = cc
+
           weaker : (m n : ℕ) (ks : List ℕ) → m ≤ n → AllByRecursion (λ key. n ≤ key) ks → AllByRecursion (λ key. m ≤ key) ks
           weaker m n [] l all = tt
           weaker m n (x ∷ xs) l all = (omega (arith, l, all.0), weaker m n xs l all.1)

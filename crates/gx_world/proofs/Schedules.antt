@@ -144,9 +144,9 @@ module _ (script : Script) (clock : ℕ) (steps : List Step) (o : AreInOrder clo
 
   resends-none : (segment : Node) → resends script steps segment ≡ []
   resends-none segment = cond_same (is_quiet script steps segment) _ [] (
-    ap (λ (gs : List Gxid). map (λ g. event.Resend segment (Some g)) gs ++ cond (is_graph_awaited steps segment) (event.Resend segment None ∷ []) []) (filter_none (may_resend steps segment) (gxids_of (marks_in steps)) (no_resend segment))
-    ∙ ap (λ (b : Bool). cond b (event.Resend segment None ∷ []) []) (no_graph segment)
-  )
+      ap (λ (gs : List Gxid). map (λ g. event.Resend segment (Some g)) gs ++ cond (is_graph_awaited steps segment) (event.Resend segment None ∷ []) []) (filter_none (may_resend steps segment) (gxids_of (marks_in steps)) (no_resend segment))
+      ∙ ap (λ (b : Bool). cond b (event.Resend segment None ∷ []) []) (no_graph segment)
+      )
 
   no_wait : is_any_wait script (marks_in steps) ≡ false
   no_wait = any_none (λ node. not (length (waits_at (marks_in steps) node) == 0)) (the_coordinator ∷ segments_of script) (λ node. ap (λ (ws : List Claim). not (length ws == 0)) (waits_from-none node (marks_in steps) h))

@@ -245,8 +245,10 @@ module _ (script : Script) (steps : List Step) (stores : List Store) (d : coordi
       where
         is_below : (m n : ℕ) → m < n → nat_lt m n ≡ true
         is_below m n l = grind (arith, nat_tests)
+
         not_below : (m n : ℕ) → n ≤ m → nat_lt m n ≡ false
         not_below m n l = grind (arith, nat_tests)
+
         below_or : (m n : ℕ) → (m < n) ⊎ (n ≤ m)
         below_or m n = grind (arith, nat_tests)
 
@@ -361,12 +363,16 @@ module _ (script : Script) (steps : List Step) (stores : List Store) (d : coordi
             where
               found : (i : ℕ) × (slice_get (places_from k.0 0 script.lines) i ≡ Some q) × (l.number ≡ i + 1)
               found = place_of_line k.0 script.lines q l h.language.numbers e its_own
+
               i : ℕ
               i = found.0
+
               in_ps : slice_get ps i ≡ Some q
               in_ps = ap (λ x. slice_get x i) own_places ∙ found.1
+
               session : l.session ≡ k
               session = ap session_at its_own
+
               same_index : (j r : ℕ) → IsLineOf k.0 script.lines j r → q ≡ r → i ≡ j
               same_index j r of same =
                   let f : of.line ≡ l = some_same (sym of.there ∙ ap (slice_get script.lines) (sym same) ∙ e) in

@@ -11,4 +11,3 @@ mod tables;
 pub mod world;
 
 pub use world::World;
-
