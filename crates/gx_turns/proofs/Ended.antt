@@ -11,7 +11,7 @@ use Rattle.gx_session.specs.declared.line_step.LineStep.TheVariants as step
 use Rattle.gx_session.specs.declared.state.Block.{Block}
 use Rattle.gx_session.specs.declared.state.Block.TheVariants as block
 use Rattle.gx_session.specs.declared.state.SessionState.{SessionState}
-use Rattle.gx_session.specs.Session.{after_done, after_line, after_refused, idle_in}
+use Rattle.gx_session.specs.Session.{idle_in}
 use Rattle.gx_dtx.specs.Rules.{ended_alone}
 use Rattle.gx_dtx.specs.Table as coordinator
 use Rattle.gx_local.specs.Store.{Store}
@@ -31,7 +31,7 @@ use Rattle.gx_turns.specs.declared.turn.Turn.{Turn}
 use Rattle.gx_turns.proofs.Asked.{asked_alone, asked_in_block}
 use Rattle.gx_turns.proofs.Ending.{MayEnd-found}
 use Rattle.gx_turns.proofs.Finishes.{made-alone, made-block, refused-alone, refused-block}
-use Rattle.gx_turns.proofs.Made.{made_as, session_as, state_as, with_answer, with_close}
+use Rattle.gx_turns.proofs.Made.{made_as, session_as, with_answer, with_close}
 
 -- a command's transaction may end
 pub may_end-reading : (was : Before) (command : Command) (marks : List Mark) (stores : List Store) (now : coordinator.Table) → IsReading was command marks stores now → MayEnd command.gxid stores now
@@ -48,22 +48,6 @@ module _ (was : Before) (turn : Turn) (s : Session) (its : IsItsTurn was turn s)
   in_block-asked asks level opened =
       let found = asked_in_block was.session.state.block was.line built asks in
       (found.2, its.state ∙ ap (λ (b : Block). block_of b was.session.commands) opened)
-
-  pub level-asked : asked was ≡ step.Command false → (level : Level) × (was.session.state.block ≡ block.Open level)
-  level-asked asks = let found = asked_in_block was.session.state.block was.line built asks in (found.0, found.1)
-
-  -- how it goes on
-  pub state-done_alone : (state : SessionState) → asked was ≡ step.Command true → state ≡ after_line was.session.state.block (asked was) → after_done state ≡ idle_in block.Outside
-  state-done_alone state asks is = ap after_done (state_as was turn s its block.Outside (step.Command true) state (outside-asked asks).0 asks is)
-
-  pub state-refused_alone : (state : SessionState) → asked was ≡ step.Command true → state ≡ after_line was.session.state.block (asked was) → after_refused state ≡ idle_in block.Outside
-  state-refused_alone state asks is = ap after_refused (state_as was turn s its block.Outside (step.Command true) state (outside-asked asks).0 asks is)
-
-  pub state-done_block : (state : SessionState) (level : Level) → was.session.state.block ≡ block.Open level → asked was ≡ step.Command false → state ≡ after_line was.session.state.block (asked was) → after_done state ≡ idle_in (block.Open level)
-  state-done_block state level opened asks is = ap after_done (state_as was turn s its (block.Open level) (step.Command false) state opened asks is)
-
-  pub state-refused_block : (state : SessionState) (level : Level) → was.session.state.block ≡ block.Open level → asked was ≡ step.Command false → state ≡ after_line was.session.state.block (asked was) → after_refused state ≡ idle_in block.Failed
-  state-refused_block state level opened asks is = ap after_refused (state_as was turn s its (block.Open level) (step.Command false) state opened asks is)
 
   module _ (command : Command) (marks : List Mark) (stores : List Store) (now : coordinator.Table) where
     -- OUTSIDE A BLOCK

@@ -1,10 +1,9 @@
 -- What lines make of the world, by what the calls answer.
-use Rattle.std.proofs.Common.{◌≡◌, ℕ, Bool, List, [], ◌∷◌, refl, sym, ap, ◌∙◌, subst}
+use Rattle.std.proofs.Common.{◌≡◌, ℕ, List, [], ◌∷◌, refl, sym, ap, ◌∙◌, subst}
 use Rattle.std.specs.Prelude.{Some, None}
 use Rattle.gx_ids.specs.declared.ids.Gxid.{Gxid}
 use Rattle.gx_ids.specs.declared.ids.SessionId.{SessionId}
 use Rattle.gx_tree.specs.declared.stmt.Level.{Level}
-use Rattle.gx_tree.specs.declared.stmt.Stmt.{Stmt}
 use Rattle.gx_xidmap.specs.declared.status.LocalStatus.TheVariants.{Committed, Aborted}
 use Rattle.gx_session.specs.declared.line_step.LineStep.{LineStep}
 use Rattle.gx_session.specs.declared.line_step.LineStep.TheVariants as step
@@ -12,7 +11,7 @@ use Rattle.gx_session.specs.declared.state.Block.{Block}
 use Rattle.gx_session.specs.declared.state.Block.TheVariants as block
 use Rattle.gx_session.specs.declared.state.SessionState.{SessionState}
 use Rattle.gx_session.specs.declared.state.Pending.TheVariants as pending
-use Rattle.gx_session.specs.Session.{after_done, after_line, idle_in, line_step, pending_after}
+use Rattle.gx_session.specs.Session.{after_done, after_line, idle_in, pending_after}
 use Rattle.gx_dtx.specs.Rules.{begun, ended_alone}
 use Rattle.gx_dtx.specs.Table as coordinator
 use Rattle.gx_local.specs.Store.{Store}
@@ -25,7 +24,7 @@ use Rattle.gx_views.specs.Changes.{AllHaveSet}
 use Rattle.gx_keeping.specs.declared.session.Session.{Session}
 use Rattle.gx_keeping.specs.Standing.{IsOpen}
 use Rattle.gx_keeping.proofs.Blocks.{IsLineDone-begin, IsLineDone-commit, IsLineDone-rollback}
-use Rattle.gx_keeping.proofs.Lines.{IsLineDone-plain, IsOpen-ready, Stands-ready}
+use Rattle.gx_keeping.proofs.Lines.{IsLineDone-plain, IsOpen-ready}
 use Rattle.gx_turns.specs.Commands.{Before, IsItsTurn, IsMade, asked}
 use Rattle.gx_turns.specs.Turns.{MayEnd, at_once}
 use Rattle.gx_turns.specs.declared.turn.Turn.{Turn}
@@ -49,34 +48,15 @@ made_as was s s' marks marks' stores stores' d d' es em et ed made =
     (subst (λ (x : List Mark). IsMade was s x stores' d') (sym em) (subst (λ (x : List Store). IsMade was s marks x d') (sym et) (subst (λ (x : coordinator.Table). IsMade was s marks stores x) (sym ed) made)))
 
 module _ (was : Before) (turn : Turn) (s : Session) (its : IsItsTurn was turn s) where
-  -- the session is idle, and this is what the line asks for
-  pub idle-turn : s.state.pending ≡ pending.Nothing
-  idle-turn = ap (λ (t : Session). t.state.pending) its.session ∙ (Stands-ready was.script was.steps was.k was.session was.line was.stores was.table its.ready).idle
-
-  block_as : s.state.block ≡ was.session.state.block
-  block_as = ap (λ (t : Session). t.state.block) its.session
-
-  pub asked-turn : (line : Stmt) → line ≡ was.line → line_step s.state.block line ≡ asked was
-  asked-turn line is = ap (λ (b : Block). line_step b line) block_as ∙ ap (line_step was.session.state.block) is
-
-  pub state-turn : (line : Stmt) → line ≡ was.line → after_line s.state.block (line_step s.state.block line) ≡ after_line was.session.state.block (asked was)
-  state-turn line is = ap (λ (b : Block). after_line b (line_step s.state.block line)) block_as ∙ ap (after_line was.session.state.block) (asked-turn line is)
-
   -- what it then waits for
   differ_commit : pending.Commit ≡ pending.Nothing → ⊥
   differ_commit e = cc
-
-  differ_command : pending.Command ≡ pending.Nothing → ⊥
-  differ_command e = cc
 
   waits_as : (x : LineStep) (state : SessionState) → asked was ≡ x → state ≡ after_line was.session.state.block (asked was) → state.pending ≡ pending_after x
   waits_as x state ex is = ap (λ (t : SessionState). t.pending) is ∙ ap pending_after ex
 
   pub busy-commit : (state : SessionState) → asked was ≡ step.CommitBlock → state ≡ after_line was.session.state.block (asked was) → state.pending ≡ pending.Nothing → ⊥
   busy-commit state ex is e = differ_commit (sym (waits_as step.CommitBlock state ex is) ∙ e)
-
-  pub busy-command : (alone : Bool) (state : SessionState) → asked was ≡ step.Command alone → state ≡ after_line was.session.state.block (asked was) → state.pending ≡ pending.Nothing → ⊥
-  busy-command alone state ex is e = differ_command (sym (waits_as (step.Command alone) state ex is) ∙ e)
 
   -- the block's state when the line asks for this
   pub state_as : (b : Block) (x : LineStep) (state : SessionState) → was.session.state.block ≡ b → asked was ≡ x → state ≡ after_line was.session.state.block (asked was) → state ≡ after_line b x

@@ -40,7 +40,7 @@ use Rattle.gx_store.specs.Lines.{BlockState, cid_of, level_of}
 use Rattle.gx_store.specs.Points.{marks_in}
 use Rattle.gx_views.specs.Changes.{HasWritten}
 use Rattle.gx_keeping.specs.declared.session.Session.{Session}
-use Rattle.gx_keeping.specs.Going.{IsGoing, IsSeeing}
+use Rattle.gx_keeping.specs.Going.{IsSeeing}
 use Rattle.gx_keeping.specs.Standing.{block_of}
 use Rattle.gx_keeping.specs.Under.{AreWritten}
 use Rattle.gx_keeping.specs.World.{IsLineDone, IsReady}
@@ -79,9 +79,6 @@ IsMade was s marks stores now = IsLineDone was.script was.steps was.k was.sessio
 -- the marks of all steps, with these of its own
 abbrev pub marks_with : Before → List Mark → List Mark
 marks_with was marks = marks_in was.steps ++ marks
-
-abbrev pub IsUnderWay : Before → Gxid → List Mark → List Store → coordinator.Table → Type 0
-IsUnderWay was g marks stores now = IsGoing was.script was.steps was.k was.session was.line was.state was.table g marks stores now
 
 -- the command reads by its snapshot
 abbrev pub IsReading : Before → Command → List Mark → List Store → coordinator.Table → Type 0

@@ -45,6 +45,7 @@ pub fn end_session(
     Ok(())
 }
 
+// The marks of a session's end, by its block.
 fn last_marks(alloc: Global, nodes: &mut Nodes, block: Block, gxid: Gxid) -> Mem<Vec<Mark>>
     requires { MayLeave block gxid nodes.old.segments.items nodes.old.dtx }
     ensures { IfOk result (λ marks. Leaves block gxid marks.items nodes.old.segments.items nodes.new.segments.items nodes.old.dtx nodes.new.dtx) }

@@ -90,6 +90,7 @@ fn start_in_block(
     })
 }
 
+// The block's snapshot, or a new one.
 fn snapshot_of(
     alloc: Global,
     nodes: &mut Nodes,
@@ -119,6 +120,7 @@ fn snapshot_of(
     }
 }
 
+// One that no command of the block has taken yet, or at read committed one of the command's own.
 fn new_snapshot(
     alloc: Global,
     nodes: &mut Nodes,

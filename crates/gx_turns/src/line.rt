@@ -40,6 +40,7 @@ pub fn run_line(
     push_line(alloc, script, run, nodes, session, turn, line)
 }
 
+// Makes the line's marks, and one step of them.
 fn push_line(
     alloc: Global,
     script: &Script,
@@ -66,7 +67,7 @@ fn push_line(
     push_step(run, turn, Event::Start(turn.session), marks)
 }
 
-// What the line does, and the marks of it.
+// Does what the line asks for in its block, and tells the marks of it.
 fn line_marks(
     alloc: Global,
     script: &Script,
