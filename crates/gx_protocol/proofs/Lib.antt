@@ -17,3 +17,7 @@ pub mod Completing
 pub mod Asked
 pub mod Complete
 pub mod Whole
+pub mod Lows
+pub mod Lowered
+pub mod Raised
+pub mod Low

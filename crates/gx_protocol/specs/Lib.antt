@@ -2,3 +2,4 @@ pub mod Standings
 pub mod Pairs
 pub mod Said
 pub mod Followed
+pub mod Horizons

@@ -5,6 +5,7 @@ ghost use Rattle.gx_script.specs.declared.Script.{Script};
 ghost use Rattle.gx_store.specs.declared.event.Event.{Event as OneEvent};
 ghost use Rattle.gx_laws.specs.Runs.{steps_after};
 ghost use Rattle.gx_store.specs.Protocol.{DoStepsFollow};
+ghost use Rattle.gx_protocol.specs.Horizons.{AreHorizonsLow};
 ghost use Rattle.gx_protocol.specs.Pairs.{DoAgree};
 ghost use Rattle.gx_protocol.specs.Said.{AreMeant};
 
@@ -23,4 +24,10 @@ pub fn messages_mean_what_they_say()
 /// segment that it was sent to is done.
 pub fn runs_follow_the_protocol()
     ensures { (script : Script) (events : List (OneEvent × Bool)) → 1 ≤ script.segments → DoStepsFollow script [] (steps_after script events) }
+{}
+
+/// No horizon is above what somebody still needs: that of each segment, and of each command that was ever sent, is at or below
+/// each transaction that runs or that somebody has not forgotten, the xmin of each live snapshot, and the gxids to come.
+pub fn horizons_are_low()
+    ensures { (script : Script) (events : List (OneEvent × Bool)) → 1 ≤ script.segments → AreHorizonsLow (world_of script events) }
 {}
