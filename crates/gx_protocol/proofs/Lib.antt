@@ -10,6 +10,7 @@ pub mod Replying
 pub mod Dispatching
 pub mod Events
 pub mod Following
+pub mod Telling
 pub mod Everywhere
 pub mod Always
 pub mod Answering

@@ -36,7 +36,8 @@ use Rattle.gx_laws.proofs.World.{Knows, happens_knows, new_knows}
 use Rattle.gx_protocol.specs.Horizons.{AreHorizonsLow, AreLowIn, IsLow, IsLowIn}
 use Rattle.gx_protocol.specs.Said.{is_answer}
 use Rattle.gx_protocol.proofs.Always.{each-zip}
-use Rattle.gx_protocol.proofs.Everywhere.{NoSent, posted-each}
+use Rattle.gx_protocol.proofs.Counts.{NoSent}
+use Rattle.gx_protocol.proofs.Everywhere.{posted-each}
 use Rattle.gx_protocol.proofs.Lowered.{Lowered, OrdersLow, event-low, message-goes}
 use Rattle.gx_protocol.proofs.Lows.{Fits, past-dense}
 use Rattle.gx_protocol.proofs.Raised.{OfHorizon, SegKeeps, message_keeps}

@@ -3,3 +3,4 @@ pub mod Pairs
 pub mod Said
 pub mod Followed
 pub mod Horizons
+pub mod Told

@@ -8,6 +8,7 @@ ghost use Rattle.gx_store.specs.Protocol.{DoStepsFollow};
 ghost use Rattle.gx_protocol.specs.Horizons.{AreHorizonsLow};
 ghost use Rattle.gx_protocol.specs.Pairs.{DoAgree};
 ghost use Rattle.gx_protocol.specs.Said.{AreMeant};
+ghost use Rattle.gx_protocol.specs.Told.{DoStepsTell};
 
 /// Of every transaction, the coordinator, each segment and the marks so far agree.
 pub fn nodes_agree()
@@ -17,6 +18,12 @@ pub fn nodes_agree()
 /// Every message that was ever sent says what is true, of who sent it and of who may receive it.
 pub fn messages_mean_what_they_say()
     ensures { (script : Script) (events : List (OneEvent × Bool)) → 1 ≤ script.segments → AreMeant (world_of script events) (world_of script events).sent }
+{}
+
+/// PREPARED and COMMITTED come behind the marks that they tell of, ABORT behind the Abort mark, and FORGET behind the Commit
+/// mark.
+pub fn messages_follow_their_marks()
+    ensures { (script : Script) (events : List (OneEvent × Bool)) → 1 ≤ script.segments → DoStepsTell [] (steps_after script events) }
 {}
 
 /// Every run follows the commit protocol: transactions promise, decide, commit and abort in one phase or in two, a journal's
