@@ -1,8 +1,6 @@
 -- Over every run of the machine, no horizon that was used is above what somebody still needs.
-use Rattle.std.proofs.Common.{◌≡◌, ◌≤◌, ◌<◌, ◌⊎◌, inl, inr, ℕ, ◌+◌, List, [], ◌∷◌, ◌++◌, Option, Some, None, Bool, true, false, refl, sym, subst, ap, ◌∙◌, if◌then◌else◌, arith, eqb}
-use Rattle.std.proofs.lemmas.Bool.{eqb-true}
+use Rattle.std.proofs.Common.{◌≡◌, ◌≤◌, inl, inr, ℕ, List, [], ◌∷◌, Option, Some, None, Bool, true, false, refl, sym, subst, ◌∙◌, if◌then◌else◌, arith, eqb}
 use Rattle.std.proofs.lemmas.Bool.Decides.{nat_tests}
-use Rattle.gx_ids.specs.declared.ids.Gxid.{Gxid}
 use Rattle.gx_ids.specs.declared.ids.Node.{Node}
 use Rattle.gx_dtx.specs.Table.{Table}
 use Rattle.gx_msg.specs.declared.message.Envelope.{Envelope}
@@ -24,9 +22,9 @@ use Rattle.gx_rules.specs.AtCoordinator.{coord_rule, on_event}
 use Rattle.gx_rules.specs.AtSegment as segment
 use Rattle.gx_rules.specs.AtSegment.{seg_rule}
 use Rattle.gx_rules.specs.Coordinators.{CoordTurn}
-use Rattle.gx_rules.specs.Machine.{Letter, World, after, at_node, can, can_here, coord_did, delivered, does, found, happens, new_world, node_of, posted, seg_can, seg_did, world_of}
-use Rattle.gx_rules.specs.Segments.{Seg, SegTurn}
-use Rattle.gx_rules.specs.Sending.{clock_after, numbered}
+use Rattle.gx_rules.specs.Machine.{Letter, World, after, at_node, can, coord_did, delivered, does, found, happens, new_world, node_of, seg_did, world_of}
+use Rattle.gx_rules.specs.Segments.{SegTurn}
+use Rattle.gx_rules.specs.Sending.{clock_after}
 use Rattle.gx_laws.proofs.AtCoordinators.{coord_stays}
 use Rattle.gx_laws.proofs.AtSegments.{PlainAt, seg_stays}
 use Rattle.gx_laws.proofs.Letters.{IsFound, IsLetter, found_is}
@@ -39,7 +37,7 @@ use Rattle.gx_protocol.proofs.Always.{each-zip}
 use Rattle.gx_protocol.proofs.Counts.{NoSent}
 use Rattle.gx_protocol.proofs.Everywhere.{posted-each}
 use Rattle.gx_protocol.proofs.Lowered.{Lowered, OrdersLow, event-low, message-goes}
-use Rattle.gx_protocol.proofs.Lows.{Fits, past-dense}
+use Rattle.gx_protocol.proofs.Lows.{past-dense}
 use Rattle.gx_protocol.proofs.Raised.{OfHorizon, SegKeeps, message_keeps}
 
 abbrev IsLowLetter : Table → Letter → Type 0

@@ -1,6 +1,5 @@
 -- Every event of the coordinator keeps each horizon that was used low.
-use Rattle.std.proofs.Common.{◌≡◌, ◌≤◌, ◌<◌, ℕ, ◌+◌, List, [], ◌∷◌, ◌++◌, Option, Some, None, Result, Ok, Err, Bool, true, false, refl, sym, subst, ap, ◌∙◌, if◌then◌else◌, ◌==◌, ◌&&◌, arith, eqb}
-use Rattle.std.proofs.lemmas.Bool.{eqb-true}
+use Rattle.std.proofs.Common.{◌≡◌, ℕ, List, [], ◌∷◌, ◌++◌, Option, Some, None, Result, Ok, Err, Bool, true, false, refl, subst, if◌then◌else◌, ◌==◌, ◌&&◌, eqb}
 use Rattle.gx_ids.specs.declared.ids.Cid.{Cid}
 use Rattle.gx_ids.specs.declared.ids.Gxid.{Gxid}
 use Rattle.gx_ids.specs.declared.ids.Node.{Node}
@@ -12,8 +11,7 @@ use Rattle.gx_tree.specs.declared.stmt.Stmt.{Stmt}
 use Rattle.gx_tree.specs.declared.stmt.Stmt.TheVariants as stmt
 use Rattle.gx_dsnap.specs.declared.snapshot.Snapshot.{Snapshot}
 use Rattle.gx_dtx.specs.Nodes.{has, to_each, without}
-use Rattle.gx_dtx.specs.Orders.{message_of}
-use Rattle.gx_dtx.specs.Rules.{abort_found, aborts, awaited_order, begun, changed, commit_found, commits as commit_change, decides, ends_committed, finishes, forgets, gives_up, is_awaited as is_awaited_in, on_abort, on_commit, on_reply, prepares, refuses, reply_found, stays, takes, turns, Turn}
+use Rattle.gx_dtx.specs.Rules.{abort_found, aborts, awaited_order, begun, changed, commit_found, commits as commit_change, decides, ends_committed, finishes, forgets, gives_up, is_awaited as is_awaited_in, on_abort, on_reply, prepares, reply_found, stays, takes, turns}
 use Rattle.gx_dtx.specs.Table.{Table, find_txn, horizon_of}
 use Rattle.gx_dtx.specs.declared.change.Change.{Change}
 use Rattle.gx_dtx.specs.declared.order.Order.{Order}
@@ -39,8 +37,6 @@ use Rattle.gx_session.specs.declared.line_step.LineStep.TheVariants as step
 use Rattle.gx_session.specs.declared.state.Block.{Block}
 use Rattle.gx_session.specs.declared.state.Block.TheVariants.{Outside, Open, Failed}
 use Rattle.gx_store.specs.declared.answer.Refused.{Refused}
-use Rattle.gx_store.specs.declared.answer.StmtAnswer.{StmtAnswer}
-use Rattle.gx_store.specs.declared.answer.StmtAnswer.TheVariants as told
 use Rattle.gx_store.specs.declared.mark.Mark.{Mark}
 use Rattle.gx_store.specs.declared.mark.Mark.TheVariants as mark
 use Rattle.gx_store.specs.declared.node.NodeEvent.{NodeEvent}
@@ -50,11 +46,9 @@ use Rattle.gx_rules.specs.AtCoordinator.{Reading, answer_mark, answers, answers_
 use Rattle.gx_rules.specs.Coordinators.{Command, Coord, CoordTurn, Session, Work, new_work, no_work, rests, session_of, with_session, with_state, with_work, work_of}
 use Rattle.gx_rules.specs.Fits.{fits_part}
 use Rattle.gx_rules.specs.Maps.{with_at}
-use Rattle.gx_laws.proofs.Lists.{Each, each_map, each_weaker}
+use Rattle.gx_laws.proofs.Lists.{Each, each_weaker}
 use Rattle.gx_laws.proofs.Stages.{IsWhole}
 use Rattle.gx_protocol.specs.Horizons.{IsLow, IsLowIn}
-use Rattle.gx_protocol.specs.Standings.{gx}
-use Rattle.gx_protocol.proofs.Calls.{self}
 use Rattle.gx_protocol.proofs.Lows.{Fits, IsDense, all-fits, begun-dense, begun-fits, changed-fits, horizon-fits, live-dense, live-fits, none-fits}
 
 -- MESSAGES WITHOUT A HORIZON

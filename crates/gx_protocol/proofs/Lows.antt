@@ -1,14 +1,14 @@
 -- What the coordinator's tables keep low.
-use Rattle.std.proofs.Common.{◌≡◌, ◌≤◌, ◌<◌, ℕ, zero, suc, ◌+◌, List, [], ◌∷◌, ◌++◌, Option, Some, None, Bool, true, false, refl, sym, subst, ap, ◌∙◌, if◌then◌else◌, cond, arith, eqb}
+use Rattle.std.proofs.Common.{◌≡◌, ◌≤◌, ◌<◌, ℕ, ◌+◌, List, [], ◌∷◌, Option, Some, None, Bool, true, false, refl, sym, subst, ap, ◌∙◌, if◌then◌else◌, arith, eqb}
 use Rattle.std.proofs.lemmas.Bool.{eqb-true}
 use Rattle.std.proofs.lemmas.Bool.Decides.{nat_tests}
-use Rattle.std.specs.Prelude.{filter, map, option_map, nat_lt}
+use Rattle.std.specs.Prelude.{option_map, nat_lt}
 use Rattle.std.specs.List.{flat_map}
 use Rattle.gx_ids.specs.declared.ids.Gxid.{Gxid}
 use Rattle.gx_ids.specs.declared.ids.Node.{Node}
 use Rattle.gx_dsnap.specs.Gxids.{after_ended, first_or, is_below}
-use Rattle.gx_dtx.specs.Nodes.{to_each, with_node, without}
-use Rattle.gx_dtx.specs.Rules.{begun, changed, ends, enlisted, greater_of, live_in, moved, with_ended, with_live}
+use Rattle.gx_dtx.specs.Nodes.{with_node}
+use Rattle.gx_dtx.specs.Rules.{begun, changed, ends, enlisted, live_in, moved, with_ended, with_live}
 use Rattle.gx_dtx.specs.Table.{Table, find_txn, holds_back, horizon_of, is_running, new_txn, xmax_of, xmin_of}
 use Rattle.gx_dtx.specs.declared.change.Change.{Change}
 use Rattle.gx_dtx.specs.declared.change.Step.{Step}
