@@ -1,0 +1,31 @@
+-- What is below a horizon counts as ended and seen by all: no horizon may be above what somebody still needs.
+use Rattle.std.specs.Prelude.{◌≡◌, ◌≤◌, ℕ, List, [], ◌∷◌, Some}
+use Rattle.gx_ids.specs.declared.ids.Gxid.{Gxid}
+use Rattle.gx_dtx.specs.Table.{Table, find_txn, xmax_of}
+use Rattle.gx_dtx.specs.declared.txn.Txn.{Txn}
+use Rattle.gx_msg.specs.declared.message.Message.{Message}
+use Rattle.gx_msg.specs.declared.message.Message.TheVariants as message
+use Rattle.gx_rules.specs.Machine.{Letter, World}
+use Rattle.gx_protocol.specs.Standings.{gx}
+
+-- a horizon is at or below each transaction that runs or that somebody has not forgotten, the xmin of each live snapshot, and
+-- the gxids that are drawn next, and all that a snapshot taken now doesn't see
+pub record IsLow (horizon : ℕ) (d : Table) : Type 0 where
+  pub next : horizon ≤ d.next.0
+  pub taken : horizon ≤ (xmax_of d).0
+  pub kept : (g : ℕ) (t : Txn) → find_txn d (gx g) ≡ Some t → horizon ≤ g
+  pub live : (g : ℕ) (t : Txn) (x : Gxid) → find_txn d (gx g) ≡ Some t → t.live ≡ Some x → horizon ≤ x.0
+
+-- the horizon of a command
+abbrev pub IsLowIn : Table → Message → Type 0
+IsLowIn d (message.Exec g c level snapshot horizon slice) = IsLow horizon.0 d
+IsLowIn d _ = Unit {0}
+
+abbrev pub AreLowIn : Table → List Letter → Type 0
+AreLowIn d [] = Unit {0}
+AreLowIn d (letter ∷ letters) = IsLowIn d letter.envelope.message × AreLowIn d letters
+
+-- that of each segment, and of each command that was ever sent
+pub record AreHorizonsLow (w : World) : Type 0 where
+  pub segments : (i : ℕ) → IsLow (w.segs i).horizon.0 w.coord.table
+  pub commands : AreLowIn w.coord.table w.sent
