@@ -91,6 +91,16 @@ module _ (script : Script) (point : Point) (k : SessionId) where
   told-is Failed stmt.Commit m e h = absurd (differ e)
   told-is Failed stmt.Rollback m e h = absurd (differ e)
 
+  pub rest-is : (line : Stmt) (m : Command) → IsTold script point k (command_answer m line) → RestAnswer script point k (command_answer m line)
+  rest-is (stmt.Select q) m h = h
+  rest-is (stmt.Insert t x) m h = h
+  rest-is (stmt.Update t x y) m h = h
+  rest-is (stmt.Delete t x) m h = h
+  rest-is (stmt.Lock t x) m h = h
+  rest-is (stmt.Begin level) m h = h
+  rest-is stmt.Commit m h = h
+  rest-is stmt.Rollback m h = h
+
 -- WHERE THE SESSION STANDS THEN
 pub done-outside : (line : Stmt) (r : StmtAnswer) → is_on_rows line ≡ true → state_after Outside line r ≡ Outside
 done-outside (stmt.Select q) r e = refl

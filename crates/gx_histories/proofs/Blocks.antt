@@ -38,7 +38,7 @@ use Rattle.gx_laws.proofs.Past.{Past}
 use Rattle.gx_laws.proofs.Sessions.{Kept, is_nothing_in, is_open_in}
 use Rattle.gx_laws.proofs.Statuses.{Closes, Turned, commit-turns, stage}
 use Rattle.gx_laws.proofs.Turns.{self-test}
-use Rattle.gx_histories.specs.Rest.{EachMark}
+use Rattle.gx_histories.specs.Rest.{EachMark, RestAnswer}
 use Rattle.gx_histories.specs.Standing.{IsSession, Owns, Roots, Stands, is_alone, is_busy, is_open, is_sound, state_in, under_way}
 use Rattle.gx_histories.proofs.AtLine.{AtLine, answered-now, at-calm, legal-abort, legal-answer, transaction-is}
 use Rattle.gx_histories.proofs.Awaited.{bare-all, none-awaited}
@@ -133,6 +133,7 @@ module _ (script : Script) (steps : List Step) (c : Coord) (k : Kept c) (p : Pas
           running = (own-late l eb).running;
           of = tt;
           legal = λ later. tt;
+          rests = λ later. tt;
         }
 
     transaction-now : (asked : LineStep) → (session_of (starts_line c s asked) s).transaction ≡ g
@@ -176,6 +177,7 @@ module _ (script : Script) (steps : List Step) (c : Coord) (k : Kept c) (p : Pas
                   }),
             );
             legal = λ later. tt;
+            rest = λ t later. tt;
             outs = bare-outs script (ms ++ []) _ (commit-bare c.table g (work_of c g).writers);
             owned = λ h. h;
             sent = bare-all (follows c1 g turn outcome.Pending).coord _ (commit-bare c.table g (work_of c g).writers);
@@ -191,6 +193,7 @@ module _ (script : Script) (steps : List Step) (c : Coord) (k : Kept c) (p : Pas
           (subst (λ q. state_after (InBlock l (st script steps c k p fr number s all idle line is_next).1.commands) q r ≡ Outside) (sym is) refl)
           (λ later q. subst (λ z. IsAnswer script (point later) s (InBlock l (st script steps c k p fr number s all idle line is_next).1.commands) line z) (sym told-is) (subst (λ z. IsAnswer script (point later) s (InBlock l (st script steps c k p fr number s all idle line is_next).1.commands) z told.Commit) (sym is) (committed later)))
           (commit-bare c.table g (work_of c g).writers) (λ a i level q. absurd (none-awaited (work_of c g) a i level (own l eb).1 q))
+          (λ t later. subst (λ z. RestAnswer script (point later) s z) (sym told-is) tt)
         where
           r : StmtAnswer
           r = answer_at_commit (work_of (starts_line c s step.CommitBlock) g) (session_of (starts_line c s step.CommitBlock) (work_of (starts_line c s step.CommitBlock) g).session).state.pending
@@ -228,7 +231,7 @@ module _ (script : Script) (steps : List Step) (c : Coord) (k : Kept c) (p : Pas
         subst (λ q. Does script steps c e (rolls_back c1 q (answer_mark c1 s told.Rollback ∷ []) (on_abort c.table q))) (sym (transaction-now step.RollbackBlock))
         (closed-does script steps c e c1 s g (work_of c g) (moved step.RollbackBlock) y.lines (InBlock l (st script steps c k p fr number s all idle line is_next).1.commands) false line [] (under-own step.RollbackBlock l eb)
         (rolls_back c1 g (answer_mark c1 s told.Rollback ∷ []) (on_abort c.table g)) (moved step.RollbackBlock) block.Outside (λ j. refl) (λ j h. ap (λ q. if q then no_work else c.works j) h) refl
-        (subst (λ q. block_after q step.RollbackBlock ≡ block.Outside) eb refl) refl refl refl (refl, (refl, tt)) legal said (abort-bare c.table g) (ap (λ (z : Work). z.command) (ap (λ q. if q then no_work else c.works g.0) (self-test g.0))) (λ a i level q. inr (ap (λ t. t || false) (self-test g.0))))
+        (subst (λ q. block_after q step.RollbackBlock ≡ block.Outside) eb refl) refl refl refl (refl, (refl, tt)) legal (λ t later. (tt, (tt, tt))) said (abort-bare c.table g) (ap (λ (z : Work). z.command) (ap (λ q. if q then no_work else c.works g.0) (self-test g.0))) (λ a i level q. inr (ap (λ t. t || false) (self-test g.0))))
       where
         c1 : Coord
         c1 = starts_line c s step.RollbackBlock
@@ -287,11 +290,11 @@ module _ (script : Script) (steps : List Step) (c : Coord) (k : Kept c) (p : Pas
         same-plus a n h = omega arith
 
     -- EACH LINE
-    simply : (b : Block) (asked : LineStep) (r : StmtAnswer) (l : Stmt) → b ≡ y.state.block → line ≡ l → pending_after asked ≡ pending.Nothing → (is_open (block_after b asked) ≡ true → b ≡ block_after b asked) → (is_open (block_after b asked) ≡ true → (is_command (InBlock ReadCommitted 0) l ≡ false) × (closes_block l ≡ false)) → ((later : List Mark) → IsAnswer script (record { steps = steps; event = e; earlier = []; later = later }) s (state_in b (st script steps c k p fr number s all idle line is_next).1.commands) l r) → state_after (state_in b (st script steps c k p fr number s all idle line is_next).1.commands) l r ≡ state_in (block_after b asked) (st script steps c k p fr number s all idle line is_next).1.commands → Does script steps c e (answers_at_once (starts_line c s asked) s r)
-    simply b asked r l eb el waiting same quiet is after =
+    simply : (b : Block) (asked : LineStep) (r : StmtAnswer) (l : Stmt) → b ≡ y.state.block → line ≡ l → pending_after asked ≡ pending.Nothing → (is_open (block_after b asked) ≡ true → b ≡ block_after b asked) → (is_open (block_after b asked) ≡ true → (is_command (InBlock ReadCommitted 0) l ≡ false) × (closes_block l ≡ false)) → ((later : List Mark) → IsAnswer script (record { steps = steps; event = e; earlier = []; later = later }) s (state_in b (st script steps c k p fr number s all idle line is_next).1.commands) l r) → state_after (state_in b (st script steps c k p fr number s all idle line is_next).1.commands) l r ≡ state_in (block_after b asked) (st script steps c k p fr number s all idle line is_next).1.commands → ((later : List Mark) → RestAnswer script (record { steps = steps; event = e; earlier = []; later = later }) s r) → Does script steps c e (answers_at_once (starts_line c s asked) s r)
+    simply b asked r l eb el waiting same quiet is after rest =
         (at-once script steps c k p fr number s all idle line is_next) asked r (block_after b asked) waiting (ap (λ q. block_after q asked) (sym eb)) (λ h. sym eb ∙ same h) (λ h. (ap (is_command (InBlock ReadCommitted 0)) el ∙ (quiet h).0, ap closes_block el ∙ (quiet h).1))
         (λ later. subst (λ q. IsAnswer script (record { steps = steps; event = e; earlier = []; later = later }) s (state_in q (st script steps c k p fr number s all idle line is_next).1.commands) line r) eb (subst (λ q. IsAnswer script (record { steps = steps; event = e; earlier = []; later = later }) s (state_in b (st script steps c k p fr number s all idle line is_next).1.commands) q r) (sym el) (is later)))
-        (subst (λ q. state_after (state_in q (st script steps c k p fr number s all idle line is_next).1.commands) line r ≡ state_in (block_after b asked) (st script steps c k p fr number s all idle line is_next).1.commands) eb (subst (λ q. state_after (state_in b (st script steps c k p fr number s all idle line is_next).1.commands) q r ≡ state_in (block_after b asked) (st script steps c k p fr number s all idle line is_next).1.commands) (sym el) after))
+        (subst (λ q. state_after (state_in q (st script steps c k p fr number s all idle line is_next).1.commands) line r ≡ state_in (block_after b asked) (st script steps c k p fr number s all idle line is_next).1.commands) eb (subst (λ q. state_after (state_in b (st script steps c k p fr number s all idle line is_next).1.commands) q r ≡ state_in (block_after b asked) (st script steps c k p fr number s all idle line is_next).1.commands) (sym el) after)) rest
 
     alone-line : (l : Stmt) → block.Outside ≡ y.state.block → line ≡ l → is_command Outside l ≡ true → Rattle.gx_store.specs.Legal.draws Outside l ≡ true → Does script steps c e (behind (begun ∷ []) (dispatches script (begins (starts_line c s (step.Command true)) s ReadCommitted) c.table.next l))
     alone-line l eb el cmd d =
@@ -305,14 +308,14 @@ module _ (script : Script) (steps : List Step) (c : Coord) (k : Kept c) (p : Pas
 
     line-does : (b : Block) (l : Stmt) → b ≡ y.state.block → line ≡ l → Does script steps c e (on_line script (starts_line c s (line_step b l)) s l (line_step b l))
     line-does block.Outside (stmt.Begin level) eb el = (begin-does script steps c k p fr number s all idle line is_next) level el eb
-    line-does block.Outside stmt.Commit eb el = simply block.Outside (step.Answer plain.Commit) told.Commit stmt.Commit eb el refl (λ h. refl) (λ h. absurd (differ h)) (λ later. tt) refl
-    line-does block.Outside stmt.Rollback eb el = simply block.Outside (step.Answer plain.Rollback) told.Rollback stmt.Rollback eb el refl (λ h. refl) (λ h. absurd (differ h)) (λ later. tt) refl
-    line-does block.Outside (stmt.Lock t m) eb el = simply block.Outside step.Refuse7 (told.Refused refused.NotInBlock) (stmt.Lock t m) eb el refl (λ h. refl) (λ h. absurd (differ h)) (λ later. tt) refl
+    line-does block.Outside stmt.Commit eb el = simply block.Outside (step.Answer plain.Commit) told.Commit stmt.Commit eb el refl (λ h. refl) (λ h. absurd (differ h)) (λ later. tt) refl (λ later. tt)
+    line-does block.Outside stmt.Rollback eb el = simply block.Outside (step.Answer plain.Rollback) told.Rollback stmt.Rollback eb el refl (λ h. refl) (λ h. absurd (differ h)) (λ later. tt) refl (λ later. tt)
+    line-does block.Outside (stmt.Lock t m) eb el = simply block.Outside step.Refuse7 (told.Refused refused.NotInBlock) (stmt.Lock t m) eb el refl (λ h. refl) (λ h. absurd (differ h)) (λ later. tt) refl (λ later. tt)
     line-does block.Outside (stmt.Select q) eb el = alone-line (stmt.Select q) eb el refl refl
     line-does block.Outside (stmt.Insert t x) eb el = alone-line (stmt.Insert t x) eb el refl refl
     line-does block.Outside (stmt.Update t x z) eb el = alone-line (stmt.Update t x z) eb el refl refl
     line-does block.Outside (stmt.Delete t x) eb el = alone-line (stmt.Delete t x) eb el refl refl
-    line-does (block.Open v) (stmt.Begin level) eb el = simply (block.Open v) (step.Answer plain.Begin) told.Begin (stmt.Begin level) eb el refl (λ h. refl) (λ h. (refl, refl)) (λ later. tt) refl
+    line-does (block.Open v) (stmt.Begin level) eb el = simply (block.Open v) (step.Answer plain.Begin) told.Begin (stmt.Begin level) eb el refl (λ h. refl) (λ h. (refl, refl)) (λ later. tt) refl (λ later. tt)
     line-does (block.Open v) stmt.Commit eb el = close-does v eb el
     line-does (block.Open v) stmt.Rollback eb el = back-does v eb el
     line-does (block.Open v) (stmt.Lock t m) eb el = inside-line v (stmt.Lock t m) eb el refl
@@ -320,14 +323,14 @@ module _ (script : Script) (steps : List Step) (c : Coord) (k : Kept c) (p : Pas
     line-does (block.Open v) (stmt.Insert t x) eb el = inside-line v (stmt.Insert t x) eb el refl
     line-does (block.Open v) (stmt.Update t x z) eb el = inside-line v (stmt.Update t x z) eb el refl
     line-does (block.Open v) (stmt.Delete t x) eb el = inside-line v (stmt.Delete t x) eb el refl
-    line-does block.Failed (stmt.Begin level) eb el = simply block.Failed step.Refuse5 (told.Refused refused.InFailedBlock) (stmt.Begin level) eb el refl (λ h. refl) (λ h. absurd (differ h)) (λ later. tt) refl
-    line-does block.Failed stmt.Commit eb el = simply block.Failed (step.Answer plain.Rollback) told.Rollback stmt.Commit eb el refl (λ h. absurd (differ h)) (λ h. absurd (differ h)) (λ later. tt) refl
-    line-does block.Failed stmt.Rollback eb el = simply block.Failed (step.Answer plain.Rollback) told.Rollback stmt.Rollback eb el refl (λ h. absurd (differ h)) (λ h. absurd (differ h)) (λ later. tt) refl
-    line-does block.Failed (stmt.Lock t m) eb el = simply block.Failed step.Refuse5 (told.Refused refused.InFailedBlock) (stmt.Lock t m) eb el refl (λ h. refl) (λ h. absurd (differ h)) (λ later. tt) refl
-    line-does block.Failed (stmt.Select q) eb el = simply block.Failed step.Refuse5 (told.Refused refused.InFailedBlock) (stmt.Select q) eb el refl (λ h. refl) (λ h. absurd (differ h)) (λ later. tt) refl
-    line-does block.Failed (stmt.Insert t x) eb el = simply block.Failed step.Refuse5 (told.Refused refused.InFailedBlock) (stmt.Insert t x) eb el refl (λ h. refl) (λ h. absurd (differ h)) (λ later. tt) refl
-    line-does block.Failed (stmt.Update t x z) eb el = simply block.Failed step.Refuse5 (told.Refused refused.InFailedBlock) (stmt.Update t x z) eb el refl (λ h. refl) (λ h. absurd (differ h)) (λ later. tt) refl
-    line-does block.Failed (stmt.Delete t x) eb el = simply block.Failed step.Refuse5 (told.Refused refused.InFailedBlock) (stmt.Delete t x) eb el refl (λ h. refl) (λ h. absurd (differ h)) (λ later. tt) refl
+    line-does block.Failed (stmt.Begin level) eb el = simply block.Failed step.Refuse5 (told.Refused refused.InFailedBlock) (stmt.Begin level) eb el refl (λ h. refl) (λ h. absurd (differ h)) (λ later. tt) refl (λ later. tt)
+    line-does block.Failed stmt.Commit eb el = simply block.Failed (step.Answer plain.Rollback) told.Rollback stmt.Commit eb el refl (λ h. absurd (differ h)) (λ h. absurd (differ h)) (λ later. tt) refl (λ later. tt)
+    line-does block.Failed stmt.Rollback eb el = simply block.Failed (step.Answer plain.Rollback) told.Rollback stmt.Rollback eb el refl (λ h. absurd (differ h)) (λ h. absurd (differ h)) (λ later. tt) refl (λ later. tt)
+    line-does block.Failed (stmt.Lock t m) eb el = simply block.Failed step.Refuse5 (told.Refused refused.InFailedBlock) (stmt.Lock t m) eb el refl (λ h. refl) (λ h. absurd (differ h)) (λ later. tt) refl (λ later. tt)
+    line-does block.Failed (stmt.Select q) eb el = simply block.Failed step.Refuse5 (told.Refused refused.InFailedBlock) (stmt.Select q) eb el refl (λ h. refl) (λ h. absurd (differ h)) (λ later. tt) refl (λ later. tt)
+    line-does block.Failed (stmt.Insert t x) eb el = simply block.Failed step.Refuse5 (told.Refused refused.InFailedBlock) (stmt.Insert t x) eb el refl (λ h. refl) (λ h. absurd (differ h)) (λ later. tt) refl (λ later. tt)
+    line-does block.Failed (stmt.Update t x z) eb el = simply block.Failed step.Refuse5 (told.Refused refused.InFailedBlock) (stmt.Update t x z) eb el refl (λ h. refl) (λ h. absurd (differ h)) (λ later. tt) refl (λ later. tt)
+    line-does block.Failed (stmt.Delete t x) eb el = simply block.Failed step.Refuse5 (told.Refused refused.InFailedBlock) (stmt.Delete t x) eb el refl (λ h. refl) (λ h. absurd (differ h)) (λ later. tt) refl (λ later. tt)
 
     pub start-does : Does script steps c e (starts script c s (Some line))
     start-does = line-does y.state.block line refl refl

@@ -23,20 +23,27 @@ use Rattle.gx_store.specs.declared.event.Event.TheVariants as event
 use Rattle.gx_store.specs.declared.mark.Mark.{Mark}
 use Rattle.gx_store.specs.declared.mark.Mark.TheVariants as mark
 use Rattle.gx_store.specs.declared.run.Step.{Step}
-use Rattle.gx_store.specs.Answers.{IsAnswer, IsDone}
+use Rattle.gx_store.specs.Answers.{IsAnswer, IsDone, Tells}
+use Rattle.gx_store.specs.Commands.{RunsCommand, state_at}
+use Rattle.gx_store.specs.Messages.{Receives}
+use Rattle.gx_store.specs.Refusals.{IsCause, the_coordinator}
+use Rattle.gx_msg.specs.declared.message.Message.TheVariants as message
+use Rattle.gx_msg.specs.declared.reply.Cause.{Cause}
+use Rattle.gx_msg.specs.declared.reply.Reply.TheVariants as reply
 use Rattle.gx_store.specs.Lines.{BlockState, Outside, InBlock, cid_of, is_command, level_of, state_after, stmt_of, transaction_of}
 use Rattle.gx_store.specs.Marks.{answer_count, is_committed, is_ended}
 use Rattle.gx_store.specs.Points.{ends_by, ends_in, marks_in, starts_by, starts_in}
-use Rattle.gx_rules.specs.AtCoordinator.{answer_at_commit, answer_of_command, answers, command_answer, is_committed as is_closed, unless_kept}
+use Rattle.gx_rules.specs.AtCoordinator.{answer_at_commit, answer_of_command, answers, command_answer, is_committed as is_closed, unless_kept, reason_of}
 use Rattle.gx_rules.specs.Coordinators.{Command, Coord, CoordTurn, Session, Work, session_of, work_of}
 use Rattle.gx_rules.specs.Maps.{with_at}
 use Rattle.gx_laws.proofs.Lists.{Each}
 use Rattle.gx_laws.proofs.Turns.{self-test}
 use Rattle.gx_histories.specs.Alive.{HasAnswered}
 use Rattle.gx_histories.specs.Gathering.{IsGathered}
-use Rattle.gx_histories.specs.Rest.{EachMark, RestAnswer}
+use Rattle.gx_histories.specs.Finish.{AreCommandsTold}
+use Rattle.gx_histories.specs.Rest.{EachMark, IsCaused, IsTold, Rest, RestAnswer}
 use Rattle.gx_histories.specs.Standing.{IsLineOf, IsNow, IsSession, Owns, Roots, Stands, is_alone, is_busy, is_open, is_sound, level_in, state_in, under_way, waits}
-use Rattle.gx_histories.proofs.Answers.{done-inside, done-is, done-outside, told-is}
+use Rattle.gx_histories.proofs.Answers.{done-inside, done-is, done-outside, rest-is, told-is}
 use Rattle.gx_histories.proofs.AtLine.{AtLine, answered-now, at-calm, has_txn, legal-answer, runs-command, transaction-is}
 use Rattle.gx_histories.proofs.Awaited.{IsAwaited, IsSettled, OutAwaits, OwnIn, none-awaited, own-none}
 use Rattle.gx_histories.proofs.Ends.{Fresh, IsOf}
@@ -139,6 +146,7 @@ module _ (script : Script) (steps : List Step) (c : Coord) (from : Node) (to : N
           running = subst (λ m. is_ended m g ≡ false) (sym (append-nil ms)) own.running;
           of = tt;
           legal = λ later. tt;
+          rests = λ later. tt;
         }
       where
         same-sessions : (j : ℕ) → c.sessions j ≡ (if eqb j s.0 then y else c.sessions j)
@@ -197,6 +205,7 @@ module _ (script : Script) (steps : List Step) (c : Coord) (from : Node) (to : N
                 (subst (λ v. Stands script s (ms ++ []) c.table.next.0 B P y.lines g v) (sym work) there))))),
           );
           legal = λ later. subst (λ m. EachMark (Given script) steps e [] m later) (sym none) tt;
+          rest = λ t later. subst (λ m. EachMark (Rest script) steps e [] m later) (sym none) tt;
           outs = outs;
           orders = orders;
           gathers = gathers;
@@ -233,6 +242,30 @@ module _ (script : Script) (steps : List Step) (c : Coord) (from : Node) (to : N
         subst (λ l. IsGathered script (record { steps = steps; event = e; earlier = earlier; later = later }) g (cid_of b) l (command_answer m l)) same
         (subst (λ k. IsGathered script (record { steps = steps; event = e; earlier = earlier; later = later }) g k m.stmt (command_answer m m.stmt)) number (gathered-is script steps e earlier later g m h none))
 
+    -- the transaction of the line is this one
+    same-txn : (earlier : List Mark) → AtLine script steps e s line n b (is_alone B P) (Some g) earlier → (later : List Mark) (h : Gxid) → transaction_of (state_at script s (record { steps = steps; event = e; earlier = earlier; later = later })) s (ms ++ earlier) ≡ Some h → g ≡ h
+    same-txn earlier a later h q = some-same g h (sym (transaction-is script steps e s line n b (is_alone B P) (Some g) earlier a later g has-txn refl) ∙ q)
+      where
+        some-same : (x y : Gxid) → Some x ≡ Some y → x ≡ y
+        some-same x y z = cc
+
+    -- what is left of its answer
+    told-committed : AreCommandsTold script steps → (m : Command) (later : List Mark) → IsTold script (record { steps = steps; event = e; earlier = mark.Commit g ∷ []; later = later }) s (command_answer m line)
+    told-committed t m later stmt level h cid runs gathered =
+        subst (λ x. RunsCommand script (record { steps = steps; event = e; earlier = mark.Commit g ∷ []; later = later }) s stmt level x cid → IsGathered script (record { steps = steps; event = e; earlier = mark.Commit g ∷ []; later = later }) x cid stmt (command_answer m line) → Tells script (ms ++ mark.Commit g ∷ []) level x cid stmt (command_answer m line))
+        (same-txn (mark.Commit g ∷ []) (at-calm script steps e s line n b (is_alone B P) (Some g) [] (mark.Commit g ∷ []) at-now (tt, tt)) later h runs.transaction)
+        (λ r q. t.committed from to number later s stmt level g cid (command_answer m line) r q) runs gathered
+
+    told-inside : AreCommandsTold script steps → (m : Command) (later : List Mark) → IsTold script (record { steps = steps; event = e; earlier = []; later = later }) s (command_answer m line)
+    told-inside t m later stmt level h cid runs gathered = t.told from to number later s stmt level h cid (command_answer m line) runs gathered
+
+    pub caused-by : AreCommandsTold script steps → (why : Cause) (later : List Mark) → IsCaused script (record { steps = steps; event = e; earlier = mark.Abort g ∷ []; later = later }) s (reason_of why)
+    caused-by t why later stmt level h cid segment cause runs received same =
+        subst (λ r. IsCause (record { steps = steps; event = e; earlier = mark.Abort g ∷ []; later = later }) stmt level h cid r) (sym same)
+        (subst (λ x. RunsCommand script (record { steps = steps; event = e; earlier = mark.Abort g ∷ []; later = later }) s stmt level x cid → Receives steps e segment the_coordinator (message.Answer x (reply.Failed cid cause)) → IsCause (record { steps = steps; event = e; earlier = mark.Abort g ∷ []; later = later }) stmt level x cid (reason_of cause))
+        (same-txn (mark.Abort g ∷ []) (at-calm script steps e s line n b (is_alone B P) (Some g) [] (mark.Abort g ∷ []) at-now (tt, tt)) later h runs.transaction)
+        (λ r q. t.refused from to number later s stmt level g cid segment cause r q) runs received)
+
     pub alone-commit : (c1 : Coord) (w : Work) (m : Command) (turn : Turn) → Gathers script (HeardNow steps e) g m → m.awaited ≡ [] → m.cid ≡ cid_of b → Under script steps c e c1 s g w y n b (is_alone B P) line [] → B ≡ block.Outside → P ≡ pending.Command → w.command ≡ Some m → m.stmt ≡ line → is_command b line ≡ true → turn.table.next.0 ≡ c1.table.next.0 → Each IsBare turn.out.outs → ((a : Cid) (i : Node) (level : Level) → IsAwaited (c.works g.0) a i level → HasAnswered (HeardNow steps e) i g a) → Does script steps c e (is_closed c1 g turn)
     alone-commit c1 w m turn gath none its_cid o outside working has same cmd next outs over =
         commit-does script steps c e c1 s g w y n b (is_alone B P) line [] o turn next may closed
@@ -241,7 +274,7 @@ module _ (script : Script) (steps : List Step) (c : Coord) (from : Node) (to : N
         (command-told (mark.Commit g ∷ []) (at-calm script steps e s line n b (is_alone B P) (Some g) [] (mark.Commit g ∷ []) at-now (tt, tt)) later m (gathered-here m gath none its_cid same (mark.Commit g ∷ []) later) cmd
         (subst (λ z. RestAnswer script (record { steps = steps; event = e; earlier = mark.Commit g ∷ []; later = later }) s z) told-as rest)
         (subst (λ x. Rattle.gx_store.specs.Answers.IsAtItsEnd (state_in x q.stands.commands) (record { steps = steps; event = e; earlier = mark.Commit g ∷ []; later = later }) g) (sym outside) (ap (λ t. t || false) (self-test g.0)))))
-        outs over
+        outs over (λ t later. subst (λ z. RestAnswer script (record { steps = steps; event = e; earlier = mark.Commit g ∷ []; later = later }) s z) (sym told-as) (rest-is script (record { steps = steps; event = e; earlier = mark.Commit g ∷ []; later = later }) s line m (told-committed t m later)))
       where
         r : StmtAnswer
         r = answer_at_commit (work_of c1 g) (session_of c1 (work_of c1 g).session).state.pending
@@ -271,6 +304,7 @@ module _ (script : Script) (steps : List Step) (c : Coord) (from : Node) (to : N
         (subst (λ z. IsAnswer script (record { steps = steps; event = e; earlier = mark.Commit g ∷ []; later = later }) s (InBlock l q.stands.commands) z told.Commit) (sym is)
         (record { g = g; transaction = subst (λ x. transaction_of (state_in x q.stands.commands) s (ms ++ mark.Commit g ∷ []) ≡ Some g) opened (transaction later); committed = ap (λ t. t || false) (self-test g.0) }))))
         outs (λ a i level z. absurd (none-awaited (c.works g.0) a i level no-command z))
+        (λ t later. subst (λ z. RestAnswer script (record { steps = steps; event = e; earlier = mark.Commit g ∷ []; later = later }) s z) (sym told-as) tt)
       where
         no-command : (work_of c g).command ≡ None
         no-command = by_pending P closing (q.stands.owns q.busy).1
@@ -312,6 +346,8 @@ module _ (script : Script) (steps : List Step) (c : Coord) (from : Node) (to : N
           stands = inl (ended, moved (subst (λ v. Stands script s late c.table.next.0 (block.Open l) pending.Nothing y.lines g v) (sym work-now) (subst (λ i. Stands script s (ms ++ mark.Answer i (session_of c1 i).lines r ∷ []) c.table.next.0 (block.Open l) pending.Nothing y.lines g done) (sym home) there)));
           legal = λ later. subst (λ i. EachMark (Given script) steps e [] (mark.Answer i (session_of c1 i).lines r ∷ []) later) (sym home)
               (λ rest. legal-answer script steps e s line n b (is_alone B P) (Some g) [] at-now later (session_of c1 s).lines r numbered (is later rest), tt);
+          rest = λ t later. subst (λ i. EachMark (Rest script) steps e [] (mark.Answer i (session_of c1 i).lines r ∷ []) later) (sym home)
+              (subst (λ z. RestAnswer script (record { steps = steps; event = e; earlier = []; later = later }) s z) (sym told-as) (rest-is script (record { steps = steps; event = e; earlier = []; later = later }) s line m (told-inside t m later)), tt);
           outs = tt;
           owned = λ h. own-none g ((answers c1 g (work_of c1 g)).coord.works g.0) (ap (λ (v : Work). v.command) work-now);
           sent = tt;

@@ -115,6 +115,7 @@ module _ (script : Script) (steps : List Step) (c : Coord) (s : SessionId) (all 
         starts = started;
         stands = inr (ended, over (mark.Abort y.transaction ∷ []) (tt, tt));
         legal = λ later. (λ q. record { running = subst (λ m. is_ended m y.transaction ≡ false) (sym (append-nil ms)) own.running; cause = inr (record { session = s; event = refl; transaction = transaction }) }, tt);
+        rest = λ t later. (tt, tt);
         outs = bare-outs script (ms ++ mark.Abort y.transaction ∷ []) _ (abort-bare c.table y.transaction);
         owned = λ h. own-none y.transaction ((rolls_back (with_state c s idle_outside) y.transaction [] (on_abort c.table y.transaction)).coord.works y.transaction.0) (ap (λ (z : Work). z.command) (ap (λ q. if q then no_work else c.works y.transaction.0) (self-test y.transaction.0)));
         sent = bare-all (rolls_back (with_state c s idle_outside) y.transaction [] (on_abort c.table y.transaction)).coord _ (abort-bare c.table y.transaction);
@@ -147,6 +148,7 @@ module _ (script : Script) (steps : List Step) (c : Coord) (s : SessionId) (all 
         starts = started;
         stands = inr (ended, over [] tt);
         legal = λ later. tt;
+        rest = λ t later. tt;
         outs = tt;
         owned = λ h. h;
         sent = tt;

@@ -49,7 +49,7 @@ use Rattle.gx_laws.proofs.Sessions.{Kept, is_closing_in, stage_of}
 use Rattle.gx_laws.proofs.Stages.{gx}
 use Rattle.gx_laws.proofs.Statuses.{Moves, Turned, reply-turns, stage}
 use Rattle.gx_laws.proofs.Statuses.Stage.{Live, Closing}
-use Rattle.gx_histories.specs.Rest.{EachMark}
+use Rattle.gx_histories.specs.Rest.{EachMark, Rest, RestAnswer}
 use Rattle.gx_histories.specs.Standing.{IsSession, is_alone, state_in}
 use Rattle.gx_histories.proofs.Answers.{command-refusable, done-outside, is_refusable}
 use Rattle.gx_histories.proofs.Awaited.{all-answered, bare-all}
@@ -67,7 +67,7 @@ use Rattle.gx_histories.proofs.Under.{Under, refuse-does}
 -- the item of a turn says nothing of sessions
 pub does-with : (script : Script) (steps : List Step) (c : Coord) (e : Event) (turn : CoordTurn) (item : Option JournalItem) → Does script steps c e turn → Does script steps c e (record turn { item = item })
 does-with script steps c e turn item d =
-    record { s = d.s; g = d.g; x = d.x; sessions = d.sessions; works = d.works; next = d.next; whose = d.whose; of = d.of; fresh = d.fresh; alone = d.alone; starts = d.starts; stands = d.stands; legal = d.legal; outs = d.outs; orders = d.orders; gathers = d.gathers; owned = d.owned; sent = d.sent; keeps = d.keeps }
+    record { s = d.s; g = d.g; x = d.x; sessions = d.sessions; works = d.works; next = d.next; whose = d.whose; of = d.of; fresh = d.fresh; alone = d.alone; starts = d.starts; stands = d.stands; legal = d.legal; outs = d.outs; orders = d.orders; gathers = d.gathers; rest = d.rest; owned = d.owned; sent = d.sent; keeps = d.keeps }
 
 pub rests-now : (script : Script) (steps : List Step) (c : Coord) (from to : Node) (number : ℕ) → Rests script steps c (event.Receive from to number) (rests c)
 rests-now script steps c from to number = record { sessions = λ j. refl; works = λ j. refl; next = refl; quiet = tt; alone = λ j. (refl, refl); outs = λ h. tt; sent = λ h. tt }
@@ -188,19 +188,23 @@ module _ (script : Script) (steps : List Step) (c : Coord) (k : Kept c) (all : (
   whys-given true later = (λ r. tt, tt)
   whys-given false later = tt
 
-  refuses-by : (turn : Turn) (b : Bool) (reason : Refused) (B : Block) (P : Pending) (line : Stmt) (q : Busy script steps c from to number g B P line) → turn.table.next.0 ≡ c.table.next.0 → is_refusable (state_in B q.stands.commands) line ≡ true → block_after_refusal B P ≡ block.Outside → state_after (state_in B q.stands.commands) line (told.Refused reason) ≡ Outside → ((later : List Mark) (l : Stmt) (v : Level) (cid : Cid) → IsCause (record { steps = steps; event = e; earlier = whys b ++ mark.Abort g ∷ []; later = later }) l v g cid reason) → Each IsBare turn.out.outs → Does script steps c e (is_refused c g turn (whys b) reason)
-  refuses-by turn b reason B P line q next may closed after cause outs =
+  whys-rest : (b : Bool) (later : List Mark) → EachMark (Rest script) steps e [] (whys b) later
+  whys-rest true later = (tt, tt)
+  whys-rest false later = tt
+
+  refuses-by : (turn : Turn) (b : Bool) (reason : Refused) (B : Block) (P : Pending) (line : Stmt) (q : Busy script steps c from to number g B P line) → turn.table.next.0 ≡ c.table.next.0 → is_refusable (state_in B q.stands.commands) line ≡ true → block_after_refusal B P ≡ block.Outside → state_after (state_in B q.stands.commands) line (told.Refused reason) ≡ Outside → ((later : List Mark) (l : Stmt) (v : Level) (cid : Cid) → IsCause (record { steps = steps; event = e; earlier = whys b ++ mark.Abort g ∷ []; later = later }) l v g cid reason) → Each IsBare turn.out.outs → ((later : List Mark) → RestAnswer script (record { steps = steps; event = e; earlier = whys b ++ mark.Abort g ∷ []; later = later }) s (told.Refused reason)) → Does script steps c e (is_refused c g turn (whys b) reason)
+  refuses-by turn b reason B P line q next may closed after cause outs plain =
       refuse-does script steps c e c s g (work_of c g) y (answer_count s ms) (state_in B q.stands.commands) (is_alone B P) line [] (under-same B P line q) turn (whys b) reason block.Outside next may
-      (ap (λ z. block_after_refusal z y.state.pending) q.in_block ∙ ap (block_after_refusal B) q.in_line ∙ closed) refl after (whys-of s.0 g.0 b) (whys-calm b) (running b) (whys-given b) (λ later rest. cause later line _ _) outs
+      (ap (λ z. block_after_refusal z y.state.pending) q.in_block ∙ ap (block_after_refusal B) q.in_line ∙ closed) refl after (whys-of s.0 g.0 b) (whys-calm b) (running b) (whys-given b) (λ later rest. cause later line _ _) outs (whys-rest b) (λ t later. plain later)
     where
       running : (t : Bool) → is_ended (ms ++ whys t) g ≡ false
       running false = (under-same B P line q).running
       running true = Rattle.gx_histories.proofs.Ends.ended-more ms (mark.JournalFailed the_coordinator g ∷ []) g (subst (λ m. is_ended m g ≡ false) (append-nil ms) (under-same B P line q).running) refl
 
-  refuses-now : (turn : Turn) (b : Bool) (reason : Refused) → turn.table.next.0 ≡ c.table.next.0 → ((later : List Mark) (l : Stmt) (v : Level) (cid : Cid) → IsCause (record { steps = steps; event = e; earlier = whys b ++ mark.Abort g ∷ []; later = later }) l v g cid reason) → Each IsBare turn.out.outs → AloneSo ⊎ BlockSo → Does script steps c e (is_refused c g turn (whys b) reason)
-  refuses-now turn b reason next cause outs (inl z) =
-      refuses-by turn b reason block.Outside pending.Command z.0.stmt z.1.is_busy_so next (command-refusable Outside z.0.stmt z.1.command) refl (done-outside z.0.stmt (told.Refused reason) z.1.command) cause outs
-  refuses-now turn b reason next cause outs (inr z) = refuses-by turn b reason (block.Open z.0) pending.Commit stmt.Commit z.1 next refl refl refl cause outs
+  refuses-now : (turn : Turn) (b : Bool) (reason : Refused) → turn.table.next.0 ≡ c.table.next.0 → ((later : List Mark) (l : Stmt) (v : Level) (cid : Cid) → IsCause (record { steps = steps; event = e; earlier = whys b ++ mark.Abort g ∷ []; later = later }) l v g cid reason) → Each IsBare turn.out.outs → ((later : List Mark) → RestAnswer script (record { steps = steps; event = e; earlier = whys b ++ mark.Abort g ∷ []; later = later }) s (told.Refused reason)) → AloneSo ⊎ BlockSo → Does script steps c e (is_refused c g turn (whys b) reason)
+  refuses-now turn b reason next cause outs plain (inl z) =
+      refuses-by turn b reason block.Outside pending.Command z.0.stmt z.1.is_busy_so next (command-refusable Outside z.0.stmt z.1.command) refl (done-outside z.0.stmt (told.Refused reason) z.1.command) cause outs plain
+  refuses-now turn b reason next cause outs plain (inr z) = refuses-by turn b reason (block.Open z.0) pending.Commit stmt.Commit z.1 next refl refl refl cause outs plain
 
   module _ (r : Reply) (received : Receives steps e from the_coordinator (message.Answer g r)) (noted : r ≡ reply.Jfault → Contains ms (mark.JournalFailed from g)) where
     -- the coordinator's journal has failed, or the segment's
@@ -208,12 +212,12 @@ module _ (script : Script) (steps : List Step) (c : Coord) (k : Kept c) (all : (
     refused-now turn i next outs closing (inr h) =
         subst (λ j. Does script steps c e (is_refused c g turn (failure_marks j g) (refused.JournalFault j))) (sym h)
         (refuses-now turn true (refused.JournalFault the_coordinator) next
-        (λ later l v cid. Contains-append_left (mark.JournalFailed the_coordinator g ∷ []) (mark.Abort g ∷ []) (mark.JournalFailed the_coordinator g) (Contains-push [] (mark.JournalFailed the_coordinator g))) outs (closing-so closing))
+        (λ later l v cid. Contains-append_left (mark.JournalFailed the_coordinator g ∷ []) (mark.Abort g ∷ []) (mark.JournalFailed the_coordinator g) (Contains-push [] (mark.JournalFailed the_coordinator g))) outs (λ later. tt) (closing-so closing))
     refused-now turn i next outs closing (inl h) =
         subst (λ j. Does script steps c e (is_refused c g turn (failure_marks j g) (refused.JournalFault j))) (sym h.1)
         (subst (λ m. Does script steps c e (is_refused c g turn m (refused.JournalFault from))) (sym (ap whys (above from.0 some)))
         (refuses-now turn false (refused.JournalFault from) next
-        (λ later l v cid. has-failed steps e (mark.Abort g ∷ []) later g from.0 some (subst (λ x. Receives steps e from the_coordinator (message.Answer g x)) h.0 received) (Contains-append_left ms (mark.Abort g ∷ []) (mark.JournalFailed from g) (noted h.0))) outs (closing-so closing)))
+        (λ later l v cid. has-failed steps e (mark.Abort g ∷ []) later g from.0 some (subst (λ x. Receives steps e from the_coordinator (message.Answer g x)) h.0 received) (Contains-append_left ms (mark.Abort g ∷ []) (mark.JournalFailed from g) (noted h.0))) outs (λ later. tt) (closing-so closing)))
       where
         above : (a : ℕ) → 1 ≤ a → (a == 0) ≡ false
         above a l = grind (arith, nat_tests)

@@ -45,6 +45,7 @@ use Rattle.gx_laws.proofs.Lists.{Each, each_append, get_last}
 use Rattle.gx_laws.proofs.Past.{Past}
 use Rattle.gx_laws.proofs.Turns.{self-test}
 use Rattle.gx_histories.specs.Orders.{IsReadBy}
+use Rattle.gx_histories.specs.Rest.{Rest}
 use Rattle.gx_histories.specs.Standing.{Owns, Roots, Stands, is_alone, is_busy, is_sound, state_in, under_way}
 use Rattle.gx_histories.proofs.Answers.{command-refusable, done-outside, refused-inside}
 use Rattle.gx_histories.proofs.AtLine.{AtLine, at-calm, legal-snap}
@@ -194,6 +195,7 @@ module _ (script : Script) (steps : List Step) (c c1 : Coord) (s : SessionId) (g
         starts = o.at.starts ∙ sym o.lines;
         stands = inl (o.ends, at_x (subst (λ v. Stands script s (marks_in steps ++ (earlier ++ r.marks)) late.coord.table.next.0 B pending.Command x.lines g v) (sym work-now) there));
         legal = λ later. marks-append (Given script) steps (event.Start s) [] earlier r.marks later (o.legal (r.marks ++ later)) (R.legal later);
+        rest = λ t later. marks-append (Rest script) steps (event.Start s) [] earlier r.marks later (o.rests (r.marks ++ later)) (R.rests later);
         outs = sent_orders;
         owned = λ h m q. subst (λ (z : Command). Each (λ (o : Out). IsOwn g z.cid ((goes_out g (next_cid w) line pieces r).coord.works g.0).level o.message) z.orders) (some-same _ m (sym command-now ∙ q)) (own-all pieces);
         sent = awaited-all pieces (λ i h. h);
@@ -349,6 +351,7 @@ module _ (script : Script) (steps : List Step) (c c1 : Coord) (s : SessionId) (g
           running = o.running;
           of = o.of;
           legal = o.legal;
+          rests = o.rests;
         }
 
     faults-does : Does script steps c (event.Start s) (behind earlier (Rattle.gx_rules.specs.AtCoordinator.is_refused r.coord g (on_abort r.coord.table g) why (refusal_of fault)))
@@ -359,7 +362,12 @@ module _ (script : Script) (steps : List Step) (c c1 : Coord) (s : SessionId) (g
         (subst (λ m. is_ended m g ≡ false) (append_assoc (marks_in steps) (earlier ++ r.marks) (noted ∷ []) ∙ ap (λ m. marks_in steps ++ m) (append_assoc earlier r.marks (noted ∷ []))) (ended-more seam (noted ∷ []) g (running-there r R) refl))
         (λ later. marks-append (Given script) steps (event.Start s) earlier r.marks (noted ∷ []) later (R.legal _) (λ q. live-fault later, tt))
         (λ later q. cause later) (abort-bare r.coord.table g)
+        (λ later. marks-append (Rest script) steps (event.Start s) earlier r.marks (noted ∷ []) later (R.rests _) (tt, tt)) (λ t later. by-start ((earlier ++ why) ++ mark.Abort g ∷ []) later fault)
       where
+        by-start : (earlier later : List Mark) (f : ArithFault) → Rattle.gx_histories.specs.Rest.RestAnswer script (record { steps = steps; event = event.Start s; earlier = earlier; later = later }) s (told.Refused (refusal_of f))
+        by-start earlier later arithmetic.Overflow = tt
+        by-start earlier later arithmetic.DivisionByZero = tt
+
         not-busy : (q : Block) → is_busy (block_after_refusal q pending.Command) pending.Nothing ≡ false
         not-busy block.Outside = refl
         not-busy (block.Open l) = refl

@@ -18,7 +18,8 @@ use Rattle.gx_store.specs.Points.{ends_by, ends_in, marks_in, starts_by, starts_
 use Rattle.gx_rules.specs.Coordinators.{Coord, CoordTurn, Session, Work}
 use Rattle.gx_laws.proofs.Lists.{Each}
 use Rattle.gx_laws.proofs.Stages.{gx}
-use Rattle.gx_histories.specs.Rest.{EachMark}
+use Rattle.gx_histories.specs.Finish.{AreCommandsTold}
+use Rattle.gx_histories.specs.Rest.{EachMark, Rest}
 use Rattle.gx_histories.specs.Standing.{IsLineOf, IsOver, IsStanding, Owns, Roots, Stands, is_busy, waits}
 use Rattle.gx_histories.proofs.Awaited.{IsAwaited, IsSettled, OutAwaits, OwnIn}
 use Rattle.gx_histories.proofs.Ends.{Fresh, IsOf, ended-more, keeps-snapshot, snapped-more, unsnapped}
@@ -89,6 +90,7 @@ pub record Does (script : Script) (steps : List Step) (c : Coord) (e : Event) (t
   pub starts : starts_in (sid s) steps + starts_by (sid s) e ≡ x.lines
   pub stands : IsStanding script (sid s) (marks_in steps ++ turn.marks) turn.coord.table.next.0 x.state.block x.state.pending x.lines x.transaction (turn.coord.works x.transaction.0) (ends_in (sid s) steps + ends_by (sid s) e)
   pub legal : (later : List Mark) → EachMark (Given script) steps e [] turn.marks later
+  pub rest : AreCommandsTold script steps → (later : List Mark) → EachMark (Rest script) steps e [] turn.marks later
   pub outs : Each (OutIs script (marks_in steps ++ turn.marks)) turn.outs
   pub orders : CommandIs script (marks_in steps ++ turn.marks) (c.works g).command → CommandIs script (marks_in steps ++ turn.marks) (turn.coord.works g).command
   pub gathers : GathersIn script (HeardNow steps e) (gx g) (c.works g).command → GathersIn script (HeardNow steps e) (gx g) (turn.coord.works g).command

@@ -24,6 +24,10 @@ pub sent-given : (script : Script) (steps : List Step) (event : Event) (f : ℕ 
 sent-given script steps event f [] earlier later = tt
 sent-given script steps event f (o ∷ outs) earlier later = (λ r. tt, sent-given script steps event (counted f o) outs _ later)
 
+pub sent-rest : (script : Script) (steps : List Step) (event : Event) (f : ℕ → ℕ) (outs : List Out) (earlier later : List Mark) → EachMark (Rest script) steps event earlier (numbered f outs) later
+sent-rest script steps event f [] earlier later = tt
+sent-rest script steps event f (o ∷ outs) earlier later = (tt, sent-rest script steps event (counted f o) outs _ later)
+
 pub given-legal : (script : Script) (steps : List Step) (event : Event) (earlier ms later : List Mark) → EachMark (Given script) steps event earlier ms later → EachMark (Rest script) steps event earlier ms later → AreLegalMarks script steps event earlier ms later
 given-legal script steps event earlier [] later g r = tt
 given-legal script steps event earlier (m ∷ ms) later g r = (g.0 r.0, given-legal script steps event (earlier ++ m ∷ []) ms later g.1 r.1)

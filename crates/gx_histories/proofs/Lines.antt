@@ -35,6 +35,7 @@ use Rattle.gx_laws.proofs.Past.{Past, running-drawn}
 use Rattle.gx_laws.proofs.Sessions.{Kept, is_nothing_in}
 use Rattle.gx_laws.proofs.Statuses.{is_running}
 use Rattle.gx_laws.proofs.Turns.{merged, self-test}
+use Rattle.gx_histories.specs.Rest.{RestAnswer}
 use Rattle.gx_histories.specs.Standing.{HasSnapshot, IsSession, IsStanding, Owns, Roots, Stands, is_alone, is_busy, is_open, is_sound, level_in, state_in}
 use Rattle.gx_histories.proofs.AtLine.{AtLine, answered-now, at-start, legal-answer, legal-start}
 use Rattle.gx_histories.proofs.Awaited.{IsAwaited, own-none}
@@ -127,8 +128,8 @@ module _ (script : Script) (steps : List Step) (c : Coord) (k : Kept c) (p : Pas
     session-now asked = ap (λ q. if q then moved asked else y) (self-test s.0)
 
     -- ANSWERED AT ONCE
-    pub at-once : (asked : LineStep) (r : StmtAnswer) (B : Block) → pending_after asked ≡ pending.Nothing → block_after y.state.block asked ≡ B → (is_open B ≡ true → y.state.block ≡ B) → (is_open B ≡ true → (is_command (InBlock ReadCommitted 0) line ≡ false) × (closes_block line ≡ false)) → ((later : List Mark) → IsAnswer script (record { steps = steps; event = e; earlier = []; later = later }) s (state_in y.state.block st.1.commands) line r) → state_after (state_in y.state.block st.1.commands) line r ≡ state_in B st.1.commands → Does script steps c e (answers_at_once (starts_line c s asked) s r)
-    at-once asked r B waiting stays same quiet is after =
+    pub at-once : (asked : LineStep) (r : StmtAnswer) (B : Block) → pending_after asked ≡ pending.Nothing → block_after y.state.block asked ≡ B → (is_open B ≡ true → y.state.block ≡ B) → (is_open B ≡ true → (is_command (InBlock ReadCommitted 0) line ≡ false) × (closes_block line ≡ false)) → ((later : List Mark) → IsAnswer script (record { steps = steps; event = e; earlier = []; later = later }) s (state_in y.state.block st.1.commands) line r) → state_after (state_in y.state.block st.1.commands) line r ≡ state_in B st.1.commands → ((later : List Mark) → RestAnswer script (record { steps = steps; event = e; earlier = []; later = later }) s r) → Does script steps c e (answers_at_once (starts_line c s asked) s r)
+    at-once asked r B waiting stays same quiet is after rest =
         record {
           s = s.0;
           g = next;
@@ -143,6 +144,7 @@ module _ (script : Script) (steps : List Step) (c : Coord) (k : Kept c) (p : Pas
           starts = started;
           stands = inl (ended, subst (λ q. Stands script s late next q (pending_after asked) (y.lines + 1) y.transaction (work_of c y.transaction)) (sym stays) (subst (λ q. Stands script s late next B q (y.lines + 1) y.transaction (work_of c y.transaction)) (sym waiting) there));
           legal = λ later. (λ q. legal-answer script steps e s line y.lines (state_in y.state.block st.1.commands) false (started_after s None ms) [] at-zero later lines r numbered (is later), tt);
+          rest = λ t later. (rest later, tt);
           outs = tt;
           owned = λ h. h;
           sent = tt;
@@ -269,6 +271,7 @@ module _ (script : Script) (steps : List Step) (c : Coord) (k : Kept c) (p : Pas
           starts = started;
           stands = inl (ended, subst (λ q. Stands script s late (next + 1) (block_after q asked) pending.Nothing (y.lines + 1) c.table.next (c1.works next)) outside (subst (λ v. Stands script s late (next + 1) (block.Open level) pending.Nothing (y.lines + 1) c.table.next v) (sym (fresh-work asked level)) there));
           legal = λ later. (λ q. start-given _ outside (ap (Rattle.gx_store.specs.Legal.draws Outside) is), (λ q. legal-answer script steps e s line y.lines Outside true (Some c.table.next) (begun ∷ []) (at-begun outside) later _ told.Begin numbered (subst (λ l. IsAnswer script (record { steps = steps; event = e; earlier = begun ∷ []; later = later }) s Outside l told.Begin) (sym is) (at-begun outside).said.begun), tt));
+          rest = λ t later. (tt, (tt, tt));
           outs = tt;
           owned = λ h. own-none c.table.next (c1.works c.table.next.0) (ap (λ (v : Work). v.command) (fresh-work asked level));
           sent = tt;
@@ -345,6 +348,7 @@ module _ (script : Script) (steps : List Step) (c : Coord) (k : Kept c) (p : Pas
               running = ended-more ms (begun ∷ []) c.table.next (fr.unended c.table.next (le-same next)) refl;
               of = ((refl, refl), tt);
               legal = λ later. (λ q. start-given _ outside d, tt);
+              rests = λ later. (tt, tt);
             }
 
         one : (a : ℕ) → a ≡ 0 → a + 1 ≡ 1

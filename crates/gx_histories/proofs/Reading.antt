@@ -30,7 +30,7 @@ use Rattle.gx_laws.proofs.Lists.{Each, get_last}
 use Rattle.gx_laws.proofs.Past.{Past, seen-now}
 use Rattle.gx_laws.proofs.Turns.{self-test}
 use Rattle.gx_histories.specs.Orders.{IsReadBy, IsServed}
-use Rattle.gx_histories.specs.Rest.{EachMark}
+use Rattle.gx_histories.specs.Rest.{EachMark, Rest}
 use Rattle.gx_histories.specs.Standing.{HasSnapshot, Owns, is_alone, is_busy, level_in, state_in}
 use Rattle.gx_histories.proofs.AtLine.{legal-snap}
 use Rattle.gx_histories.proofs.Ends.{IsOf}
@@ -78,6 +78,7 @@ module _ (script : Script) (steps : List Step) (c c1 : Coord) (s : SessionId) (g
     pub unread : (d : Cid) → w.last + 1 < d.0 → is_snapped r.marks g d ≡ false
     pub snapshot : HasSnapshot w2.level (marks_in steps ++ (earlier ++ r.marks)) g w2.snapshot
     pub legal : (later : List Mark) → EachMark (Given script) steps (event.Start s) earlier r.marks later
+    pub rests : (later : List Mark) → EachMark (Rest script) steps (event.Start s) earlier r.marks later
     pub by : IsReadBy (marks_in steps ++ (earlier ++ r.marks)) w.level g (next_cid w) line r.snapshot
 
   same-marks : ms ≡ marks_in steps ++ (earlier ++ [])
@@ -99,6 +100,7 @@ module _ (script : Script) (steps : List Step) (c c1 : Coord) (s : SessionId) (g
         unread = λ d l. refl;
         snapshot = subst (λ m. HasSnapshot w.level m g w.snapshot) same-marks owns.snapshot;
         legal = λ later. tt;
+        rests = λ later. tt;
         by = subst (λ m. IsReadBy m w.level g (next_cid w) line y) same-marks by;
       }
 
@@ -123,6 +125,7 @@ module _ (script : Script) (steps : List Step) (c c1 : Coord) (s : SessionId) (g
         unread = λ d l. not-later (w.last + 1) d.0 (eqb g.0 g.0) l;
         snapshot = kept w.level;
         legal = λ later. (λ q. snap later, tt);
+        rests = λ later. (tt, tt);
         by = by_line line rows;
       }
     where

@@ -51,7 +51,7 @@ use Rattle.gx_histories.specs.Rest.{IsCaused, RestAnswer}
 use Rattle.gx_histories.specs.Standing.{IsLineOf, IsSession, IsStanding, Stands, is_alone, is_busy, state_in, under_way}
 use Rattle.gx_histories.proofs.Answers.{command-refusable, done-outside, refused-inside}
 use Rattle.gx_histories.proofs.AtLine.{at-calm, runs-command}
-use Rattle.gx_histories.proofs.Busy.{Busy, Likewise, alone-commit, block-answer, busy-under, goes-on}
+use Rattle.gx_histories.proofs.Busy.{Busy, Likewise, alone-commit, caused-by, block-answer, busy-under, goes-on}
 use Rattle.gx_histories.proofs.Frame.{Does}
 use Rattle.gx_histories.specs.Alive.{HasAnswered, IsHeard}
 use Rattle.gx_histories.proofs.Awaited.{IsAwaited, IsOwn, IsSettled, bare-all}
@@ -296,7 +296,7 @@ module _ (script : Script) (steps : List Step) (c : Coord) (k : Kept c) (all : (
       refuses-in : (B : Block) → is_busy B pending.Command ≡ true → Works B m → Does script steps c e (is_refused c g (on_abort c.table g) [] (reason_of why))
       refuses-in B busy z =
           refuse-does script steps c e c s g (work_of c g) y (answer_count s ms) b (is_alone B pending.Command) m.stmt [] under0 (on_abort c.table g) [] (reason_of why) (block_after_refusal B pending.Command) refl (command-refusable b m.stmt z.command)
-          (ap (λ q. block_after_refusal q y.state.pending) z.is_busy_so.in_block ∙ ap (block_after_refusal B) z.is_busy_so.in_line) (idle B) (after B busy z.command) tt tt under0.running (λ later. tt) (λ later rest. by_cause why refl (told-so later rest)) (abort-bare c.table g)
+          (ap (λ q. block_after_refusal q y.state.pending) z.is_busy_so.in_block ∙ ap (block_after_refusal B) z.is_busy_so.in_line) (idle B) (after B busy z.command) tt tt under0.running (λ later. tt) (λ later rest. by_cause why refl (told-so later rest)) (abort-bare c.table g) (λ later. tt) (λ t later. as-rest later why (caused-by script steps c from to number g B pending.Command m.stmt z.is_busy_so t why later))
         where
           b : BlockState
           b = state_in B z.is_busy_so.stands.commands
@@ -321,6 +321,11 @@ module _ (script : Script) (steps : List Step) (c : Coord) (k : Kept c) (all : (
           as-caused later (cause.Serialization rid h) rest = rest
           as-caused later cause.Overflow rest = rest
           as-caused later cause.DivisionByZero rest = rest
+
+          as-rest : (later : List Mark) (w : Cause) → IsCaused script (point later) s (reason_of w) → RestAnswer script (point later) s (told.Refused (reason_of w))
+          as-rest later (cause.Serialization rid h) rest = rest
+          as-rest later cause.Overflow rest = rest
+          as-rest later cause.DivisionByZero rest = rest
 
           told-so : (later : List Mark) → RestAnswer script (record { steps = steps; event = event.Receive from to number; earlier = mark.Abort g ∷ []; later = later }) s (told.Refused (reason_of why)) → IsCause (record { steps = steps; event = event.Receive from to number; earlier = mark.Abort g ∷ []; later = later }) m.stmt (level_of (state_in B z.is_busy_so.stands.commands)) g (cid_of (state_in B z.is_busy_so.stands.commands)) (reason_of why)
           told-so later rest =

@@ -35,7 +35,8 @@ use Rattle.gx_laws.proofs.Ordered.{at-both, seg_marks}
 use Rattle.gx_laws.proofs.Sent.{at}
 use Rattle.gx_laws.proofs.Stages.{gx}
 use Rattle.gx_laws.proofs.World.{Knows, marks-last}
-use Rattle.gx_histories.specs.Rest.{EachMark}
+use Rattle.gx_histories.specs.Finish.{AreCommandsTold}
+use Rattle.gx_histories.specs.Rest.{EachMark, Rest}
 use Rattle.gx_histories.specs.Standing.{AreSessions, IsSession}
 use Rattle.gx_histories.proofs.After.{does-sessions, quiet-silent, sent-silent, silent-fresh, silent-sessions}
 use Rattle.gx_histories.proofs.Awaited.{IsAwaited, IsSettled, OutAwaits, OwnIn, StateOf}
@@ -44,10 +45,10 @@ use Rattle.gx_histories.proofs.Ends.{Fresh, fresh-more}
 use Rattle.gx_histories.proofs.Frame.{Effect}
 use Rattle.gx_histories.specs.Alive.{IsHeard, IsSilent}
 use Rattle.gx_histories.proofs.Gathers.{GathersIn, HeardNow, gathers-weaker, heard-later, heard-now}
-use Rattle.gx_histories.proofs.Given.{Given, marks-append, sent-given}
+use Rattle.gx_histories.proofs.Given.{Given, marks-append, sent-given, sent-rest}
 use Rattle.gx_histories.proofs.Outs.{CommandIs, MessageIs, OutIs, command-more, order-more, outs-more}
 use Rattle.gx_histories.proofs.Notes.{SegNoted, local-more, noted-more, seg-notes}
-use Rattle.gx_histories.proofs.Steps.{AreGiven, given-last, no-start, quiet-given, segment-silent, silent-given}
+use Rattle.gx_histories.proofs.Steps.{AreGiven, given-last, no-start, quiet-given, quiet-rest, segment-silent, silent-given}
 use Rattle.gx_histories.proofs.Sendings.{IsOrderLetter, IsToldOf, LetterState, SentIs, awaited-by, away-sent, away-states, coord-sent, each-posted, le-same, numbered-sent, outs-sent, plain-sent, state-moves, states-sent}
 
 -- WHAT HOLDS BETWEEN STEPS
@@ -210,6 +211,11 @@ module _ (script : Script) (some : 1 ≤ script.segments) (w : World) (n : Knows
       each_append (SentIs (IsOrderLetter script (marks_in (w.steps ++ step ∷ []))) the_coordinator (clock_after w.coord.clock x)) turn.marks sent
       (plain-sent (IsOrderLetter script (marks_in (w.steps ++ step ∷ []))) script the_coordinator (clock_after w.coord.clock x) turn.marks (coord_stays script some w.coord x fails n.well.coordinator).marks)
       (numbered-sent (IsOrderLetter script (marks_in (w.steps ++ step ∷ []))) the_coordinator (clock_after w.coord.clock x) turn.coord.sent turn.outs (outs-sent script (marks_in (w.steps ++ step ∷ [])) (clock_after w.coord.clock x) turn.outs (coord-outs d)))
+
+  -- what is left of the coordinator's marks
+  pub coord-rest : Effect script w.steps w.coord e turn → AreCommandsTold script w.steps → EachMark (Rest script) w.steps e [] (turn.marks ++ sent) []
+  coord-rest (inl d) t = marks-append (Rest script) w.steps e [] turn.marks sent [] (d.rest t (sent ++ [])) (sent-rest script w.steps e turn.coord.sent turn.outs turn.marks [])
+  coord-rest (inr d) t = marks-append (Rest script) w.steps e [] turn.marks sent [] (quiet-rest script w.steps e [] turn.marks (sent ++ []) d.quiet) (sent-rest script w.steps e turn.coord.sent turn.outs turn.marks [])
 
   pub coord-holds : Effect script w.steps w.coord e turn → LegalEvent script w.steps e → Holds script (coord_did w e (coord_rule script w.coord x fails))
   coord-holds d legal =

@@ -14,7 +14,7 @@ use Rattle.gx_store.specs.Refusals.{the_coordinator}
 use Rattle.gx_laws.proofs.Lists.{Each}
 use Rattle.gx_laws.proofs.Numbers.{NoStart}
 use Rattle.gx_laws.proofs.Sent.{at}
-use Rattle.gx_histories.specs.Rest.{AreEventsLegal, AreRestLegal, EachMark}
+use Rattle.gx_histories.specs.Rest.{AreEventsLegal, AreRestLegal, EachMark, Rest}
 use Rattle.gx_histories.proofs.Frame.{Quiet}
 use Rattle.gx_histories.specs.Alive.{IsSilent}
 use Rattle.gx_histories.proofs.Given.{Given, given-legal}
@@ -44,6 +44,16 @@ pub no-start : (ms : List Mark) → Each IsSilent ms → Each NoStart ms
 no-start [] e = tt
 no-start (mark.Start g s ∷ ms) e = absurd e.0
 no-start (m ∷ ms) e = (tt, no-start ms e.1)
+
+pub quiet-rest : (script : Script) (steps : List Step) (e : Event) (earlier ms later : List Mark) → Each Quiet ms → EachMark (Rest script) steps e earlier ms later
+quiet-rest script steps e earlier [] later h = tt
+quiet-rest script steps e earlier (mark.Decided g ∷ ms) later h = (tt, quiet-rest script steps e (earlier ++ mark.Decided g ∷ []) ms later h.1)
+quiet-rest script steps e earlier (m ∷ ms) later h = absurd h.0
+
+-- one step more of which the rest holds
+pub rest-last : (script : Script) (before ss : List Step) (s : Step) → AreRestLegal script before ss → EachMark (Rest script) (before ++ ss) s.event [] s.marks [] → AreRestLegal script before (ss ++ s ∷ [])
+rest-last script before [] s e h = (subst (λ x. EachMark (Rest script) x s.event [] s.marks []) (append-nil before) h, tt)
+rest-last script before (x ∷ ss) s e h = (e.0, rest-last script (before ++ x ∷ []) ss s e.1 (subst (λ y. EachMark (Rest script) y s.event [] s.marks []) (sym (append_assoc before (x ∷ []) ss)) h))
 
 pub quiet-given : (script : Script) (steps : List Step) (e : Event) (earlier ms later : List Mark) → Each Quiet ms → EachMark (Given script) steps e earlier ms later
 quiet-given script steps e earlier [] later h = tt

@@ -33,7 +33,8 @@ use Rattle.gx_laws.proofs.Lists.{Each, each_append}
 use Rattle.gx_laws.proofs.Past.{aborted-append}
 use Rattle.gx_laws.proofs.Turns.{self-test}
 use Rattle.gx_histories.specs.Alive.{HasAnswered}
-use Rattle.gx_histories.specs.Rest.{EachMark, RestAnswer}
+use Rattle.gx_histories.specs.Finish.{AreCommandsTold}
+use Rattle.gx_histories.specs.Rest.{EachMark, Rest, RestAnswer}
 use Rattle.gx_histories.specs.Standing.{Stands, is_alone, is_busy, is_sound, state_in}
 use Rattle.gx_histories.proofs.Answers.{is_refusable, may-abort-refusable, refused-is}
 use Rattle.gx_histories.proofs.AtLine.{AtLine, answered-now, at-calm, has_txn, legal-abort, legal-answer, legal-commit, transaction-is}
@@ -63,6 +64,7 @@ pub record Under (script : Script) (steps : List Step) (c : Coord) (e : Event) (
   pub running : is_ended (marks_in steps ++ earlier) g ≡ false
   pub of : Each (IsOf s.0 g.0) earlier
   pub legal : (later : List Mark) → EachMark (Given script) steps e [] earlier later
+  pub rests : (later : List Mark) → EachMark (Rest script) steps e [] earlier later
 
 -- a session without a transaction
 pub stands-closed : (script : Script) (k : SessionId) (ms : List Mark) (next : ℕ) (b : Block) (lines n : ℕ) (g : Gxid) (w : Work) (h : Option Gxid) → is_busy b pending.Nothing ≡ false → lines ≡ n → Said script k ms n (state_in b 0) false h → Stands script k ms next b pending.Nothing lines g w
@@ -125,8 +127,8 @@ module _ (script : Script) (steps : List Step) (c : Coord) (e : Event) (c1 : Coo
 
   -- the session's line is answered by marks that stand behind the others, and nothing is known of its transaction any more
   pub closed-does : (turn : CoordTurn) (y : Session) (B : Block) → ((j : ℕ) → turn.coord.sessions j ≡ (if eqb j s.0 then y else c.sessions j)) → ((j : ℕ) → eqb j g.0 ≡ false → turn.coord.works j ≡ c.works j) → turn.coord.table.next.0 ≡ c1.table.next.0 → y.state.block ≡ B → y.state.pending ≡ pending.Nothing → y.lines ≡ n + 1 → is_busy B pending.Nothing ≡ false
-      → Each (IsOf s.0 g.0) turn.marks → ((later : List Mark) → EachMark (Given script) steps e earlier turn.marks later) → Said script s (marks_in steps ++ (earlier ++ turn.marks)) (n + 1) (state_in B 0) false (Some g) → Each IsBare turn.outs → (turn.coord.works g.0).command ≡ None → ((k : Cid) (i : Node) (level : Level) → IsAwaited (c.works g.0) k i level → IsSettled (HeardNow steps e) (earlier ++ turn.marks) g k i) → Does script steps c e (behind earlier turn)
-  closed-does turn y B sessions works next yb yp yl idle of legal said outs none over =
+      → Each (IsOf s.0 g.0) turn.marks → ((later : List Mark) → EachMark (Given script) steps e earlier turn.marks later) → (AreCommandsTold script steps → (later : List Mark) → EachMark (Rest script) steps e earlier turn.marks later) → Said script s (marks_in steps ++ (earlier ++ turn.marks)) (n + 1) (state_in B 0) false (Some g) → Each IsBare turn.outs → (turn.coord.works g.0).command ≡ None → ((k : Cid) (i : Node) (level : Level) → IsAwaited (c.works g.0) k i level → IsSettled (HeardNow steps e) (earlier ++ turn.marks) g k i) → Does script steps c e (behind earlier turn)
+  closed-does turn y B sessions works next yb yp yl idle of legal rest said outs none over =
       record {
         s = s.0;
         g = g.0;
@@ -146,6 +148,7 @@ module _ (script : Script) (steps : List Step) (c : Coord) (e : Event) (c1 : Coo
               (stands-closed script s (marks_in steps ++ (earlier ++ turn.marks)) turn.coord.table.next.0 B y.lines (n + 1) y.transaction (turn.coord.works y.transaction.0) (Some g) idle yl said)),
         );
         legal = λ later. marks-append (Given script) steps e [] earlier turn.marks later (o.legal (turn.marks ++ later)) (legal later);
+        rest = λ t later. marks-append (Rest script) steps e [] earlier turn.marks later (o.rests (turn.marks ++ later)) (rest t later);
         outs = bare-outs script (marks_in steps ++ (earlier ++ turn.marks)) turn.outs outs;
         owned = λ h. own-none g (turn.coord.works g.0) none;
         sent = bare-all turn.coord turn.outs outs;
@@ -171,10 +174,12 @@ module _ (script : Script) (steps : List Step) (c : Coord) (e : Event) (c1 : Coo
   -- COMMITS
   pub commit-does : (turn : Turn) → turn.table.next.0 ≡ c1.table.next.0 → may_commit b line ≡ true → (after_done x.state).block ≡ block.Outside → state_after b line (answer_at_commit (work_of c1 g) (session_of c1 (work_of c1 g).session).state.pending) ≡ Outside
       → ((later : List Mark) → RestAnswer script (record { steps = steps; event = e; earlier = earlier ++ mark.Commit g ∷ []; later = later }) s (answer_at_commit (work_of c1 g) (session_of c1 (work_of c1 g).session).state.pending) → IsAnswer script (record { steps = steps; event = e; earlier = earlier ++ mark.Commit g ∷ []; later = later }) s b line (answer_at_commit (work_of c1 g) (session_of c1 (work_of c1 g).session).state.pending))
-      → Each IsBare turn.out.outs → ((k : Cid) (i : Node) (level : Level) → IsAwaited (c.works g.0) k i level → HasAnswered (HeardNow steps e) i g k) → Does script steps c e (behind earlier (is_committed c1 g turn))
-  commit-does turn next may closed after told outs over =
+      → Each IsBare turn.out.outs → ((k : Cid) (i : Node) (level : Level) → IsAwaited (c.works g.0) k i level → HasAnswered (HeardNow steps e) i g k)
+      → (AreCommandsTold script steps → (later : List Mark) → RestAnswer script (record { steps = steps; event = e; earlier = earlier ++ mark.Commit g ∷ []; later = later }) s (answer_at_commit (work_of c1 g) (session_of c1 (work_of c1 g).session).state.pending)) → Does script steps c e (behind earlier (is_committed c1 g turn))
+  commit-does turn next may closed after told outs over trest =
       closed-does (is_committed c1 g turn) (record x { state = after_done x.state }) block.Outside (session-set (λ z. record z { state = after_done z.state })) (works-set no_work) next closed refl o.lines refl
       (refl, (ap (λ (i : SessionId). i.0) home-is, tt)) legal
+      (λ t later. subst (λ i. EachMark (Rest script) steps e earlier (mark.Commit g ∷ mark.Answer i (session_of c1 i).lines r ∷ []) later) (sym home-is) (tt, (trest t later, tt)))
       (subst (λ i. Said script s (marks_in steps ++ (earlier ++ mark.Commit g ∷ mark.Answer i (session_of c1 i).lines r ∷ [])) (n + 1) Outside false (Some g)) (sym home-is) said) outs (reset-none no_work refl) (λ k i level a. inl (over k i level a))
     where
       r : StmtAnswer
@@ -203,10 +208,13 @@ module _ (script : Script) (steps : List Step) (c : Coord) (e : Event) (c1 : Coo
   pub refuse-does : (turn : Turn) (why : List Mark) (reason : Refused) (B : Block) → turn.table.next.0 ≡ c1.table.next.0 → is_refusable b line ≡ true → (after_refused x.state).block ≡ B → is_busy B pending.Nothing ≡ false → state_after b line (told.Refused reason) ≡ state_in B 0 → Each (IsOf s.0 g.0) why → Each (CalmFor s) why → is_ended (marks_in steps ++ (earlier ++ why)) g ≡ false
       → ((later : List Mark) → EachMark (Given script) steps e earlier why later)
       → ((later : List Mark) → RestAnswer script (record { steps = steps; event = e; earlier = (earlier ++ why) ++ mark.Abort g ∷ []; later = later }) s (told.Refused reason) → IsCause (record { steps = steps; event = e; earlier = (earlier ++ why) ++ mark.Abort g ∷ []; later = later }) line (level_of b) g (cid_of b) reason)
-      → Each IsBare turn.out.outs → Does script steps c e (behind earlier (is_refused c1 g turn why reason))
-  refuse-does turn why reason B next may closed idle after of calm running first cause outs =
+      → Each IsBare turn.out.outs → ((later : List Mark) → EachMark (Rest script) steps e earlier why later)
+      → (AreCommandsTold script steps → (later : List Mark) → RestAnswer script (record { steps = steps; event = e; earlier = (earlier ++ why) ++ mark.Abort g ∷ []; later = later }) s (told.Refused reason)) → Does script steps c e (behind earlier (is_refused c1 g turn why reason))
+  refuse-does turn why reason B next may closed idle after of calm running first cause outs wrest trest =
       closed-does (is_refused c1 g turn why reason) (record x { state = after_refused x.state }) B (session-set (λ z. record z { state = after_refused z.state })) (works-set no_work) next closed refl o.lines idle
       (each_append (IsOf s.0 g.0) why _ of (refl, (ap (λ (i : SessionId). i.0) home-is, tt))) legal
+      (λ t later. subst (λ i. EachMark (Rest script) steps e earlier (why ++ mark.Abort g ∷ mark.Answer i (session_of c1 i).lines r ∷ []) later) (sym home-is)
+      (marks-append (Rest script) steps e earlier why (mark.Abort g ∷ mark.Answer s (session_of c1 s).lines r ∷ []) later (wrest _) (tt, (trest t later, tt))))
       (subst (λ i. Said script s (marks_in steps ++ (earlier ++ (why ++ mark.Abort g ∷ mark.Answer i (session_of c1 i).lines r ∷ []))) (n + 1) (state_in B 0) false (Some g)) (sym home-is) said) outs (reset-none no_work refl) (λ k i level a. inr (aborts earlier why g _))
     where
       r : StmtAnswer

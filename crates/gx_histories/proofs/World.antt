@@ -32,6 +32,7 @@ use Rattle.gx_laws.proofs.Ordered.{never_resumes}
 use Rattle.gx_laws.proofs.Sessions.{is_nothing_in}
 use Rattle.gx_laws.proofs.World.{Knows, world_knows}
 use Rattle.gx_histories.specs.Orders.{AreLinesNumbered, AreOrdersOf}
+use Rattle.gx_histories.specs.Finish.{IsRestShown}
 use Rattle.gx_histories.specs.Rest.{AreEventsLegal, AreRestLegal}
 use Rattle.gx_histories.specs.Standing.{AreSessions}
 use Rattle.gx_histories.proofs.Alive.{alive-all}
@@ -41,9 +42,9 @@ use Rattle.gx_histories.proofs.Closings.{IsNoted, message-does}
 use Rattle.gx_histories.proofs.Frame.{Effect, Rests}
 use Rattle.gx_histories.specs.Alive.{AreOrdersAlive}
 use Rattle.gx_histories.proofs.Blocks.{start-counts, start-does}
-use Rattle.gx_histories.proofs.Steps.{given-events, given-steps}
+use Rattle.gx_histories.proofs.Steps.{given-events, given-steps, rest-last}
 use Rattle.gx_histories.proofs.Sendings.{IsToldOf, command-order-is, orders-all}
-use Rattle.gx_histories.proofs.Stepping.{Holds, coord-holds, seg-holds}
+use Rattle.gx_histories.proofs.Stepping.{Holds, coord-holds, coord-rest, seg-holds}
 
 -- ALL EVENTS
 both_of : (a b : Bool) → (a && b) ≡ true → (a ≡ true) × (b ≡ true)
@@ -221,3 +222,62 @@ module _ (script : Script) (some : 1 ≤ script.segments) where
   orders-alive es =
       let h = world-holds es in
       alive-all script (world_of script es) (world_knows script some es).kept h.sessions h.gathers (world_of script es).sent h.alive
+
+  -- WHAT IS LEFT
+  module _ (shown : IsRestShown script) (done : List (Event × Bool)) (rest : AreRestLegal script [] (world_of script done).steps) where
+    abbrev w : World
+    w = world_of script done
+
+    n : Knows script w
+    n = world_knows script some done
+
+    h : Holds script w
+    h = world-holds done
+
+    coord-shown : (e : Event) (x : NodeEvent) (fails : Bool) → Effect script w.steps w.coord e (on_event script w.coord x fails) → AreRestLegal script [] (coord_did w e (coord_rule script w.coord x fails)).steps
+    coord-shown e x fails d = rest-last script [] w.steps _ rest (coord-rest script some w n h e x fails d (shown.commands done))
+
+    received-shown : (from to : Node) (number : ℕ) (envelope : Envelope) (fails : Bool) → found from to number w.sent ≡ Some envelope → can_here script w to (Some (here.Deliver from envelope)) ≡ true → AreRestLegal script [] (does script w (event.Receive from to number) to fails (Some (here.Deliver from envelope))).steps
+    received-shown from to number envelope fails f ok = by_test (is_same_node to the_coordinator) refl ok
+      where
+        d : IsFound (IsLetter script (world_of script done).steps) from to number envelope
+        d = found_is (IsLetter script w.steps) from to number w.sent envelope n.well.letters f
+
+        place : is_same_node to the_coordinator ≡ false → IsLink script d.letter.from d.letter.to → IsSegment script to
+        place away (inl l) = subst (IsSegment script) d.target l.1
+        place away (inr l) = absurd (not-here to (sym d.target ∙ l.1) away)
+          where
+            not-here : (n : Node) → n ≡ the_coordinator → is_same_node n the_coordinator ≡ false → ⊥
+            not-here n same away = grind (arith, nat_tests)
+
+        by_test : (b : Bool) → is_same_node to the_coordinator ≡ b → (if b then coord_can script w.coord (here.Deliver from envelope) else seg_can (here.Deliver from envelope)) ≡ true → AreRestLegal script [] (if b then coord_did w (event.Receive from to number) (coord_rule script w.coord (here.Deliver from envelope) fails) else seg_did w to (event.Receive from to number) (seg_rule script (w.segs to.0) (here.Deliver from envelope) fails)).steps
+        by_test true is ok = coord-shown (event.Receive from to number) (here.Deliver from envelope) fails (heard w n h from to number envelope fails (same_node to the_coordinator is) f ok)
+        by_test false is ok = rest-last script [] w.steps _ rest (shown.segments done from to number envelope fails (place is d.is.link) f)
+
+    arrives-shown : (from to : Node) (number : ℕ) (fails : Bool) (o : Option Envelope) → found from to number w.sent ≡ o → can_here script w to (delivered from o) ≡ true → AreRestLegal script [] (does script w (event.Receive from to number) to fails (delivered from o)).steps
+    arrives-shown from to number fails None f ok = rest
+    arrives-shown from to number fails (Some envelope) f ok = received-shown from to number envelope fails f ok
+
+    event-shown : (e : Event) (fails : Bool) → can script w e ≡ true → AreRestLegal script [] (does script w e (node_of e) fails (at_node w e)).steps
+    event-shown (event.Receive from to number) fails ok = arrives-shown from to number fails (found from to number w.sent) refl ok
+    event-shown (event.Resume m g) fails ok = absurd (same_not w n h (can script w (event.Resume m g)) ok (never_resumes script some w m (here.Resume g) refl refl))
+    event-shown (event.Start s) fails ok = coord-shown (event.Start s) (here.Start s) fails (start-effect w n h s fails ok).0
+    event-shown (event.End s) fails ok = coord-shown (event.End s) (here.End s) fails (end-effect w n h s fails ok).0
+    event-shown (event.Resend i g) fails ok = coord-shown (event.Resend i g) (here.Resend i g) fails (resend-effect w n h i g fails)
+    event-shown event.Round fails ok = coord-shown event.Round here.Round fails (inr (record { sessions = λ j. refl; works = λ j. refl; next = refl; quiet = tt; alone = λ j. (refl, refl); outs = λ o. tt; sent = λ o. tt }))
+
+    pub happens-shown : (e : Event) (fails : Bool) → AreRestLegal script [] (happens script w e fails).steps
+    happens-shown e fails = by_can (can script w e) refl
+      where
+        by_can : (b : Bool) → can script w e ≡ b → AreRestLegal script [] (if b then does script w e (node_of e) fails (at_node w e) else w).steps
+        by_can true ok = event-shown e fails ok
+        by_can false ok = rest
+
+  after-shown : IsRestShown script → (done es : List (Event × Bool)) → AreRestLegal script [] (world_of script done).steps → AreRestLegal script [] (after script (world_of script done) es).steps
+  after-shown shown done [] h = h
+  after-shown shown done (x ∷ es) h =
+      subst (λ w. AreRestLegal script [] (after script w es).steps) (after-last new_world done x)
+      (after-shown shown (done ++ x ∷ []) es (subst (λ w. AreRestLegal script [] w.steps) (sym (after-last new_world done x)) (happens-shown shown done h x.0 x.1)))
+
+  pub all-legal : IsRestShown script → (es : List (Event × Bool)) → AreLegalSteps script [] (world_of script es).steps
+  all-legal shown es = legal-with-rest es (after-shown shown [] es tt)

@@ -3,3 +3,4 @@ pub mod Standing
 pub mod Gathering
 pub mod Rest
 pub mod Alive
+pub mod Finish
