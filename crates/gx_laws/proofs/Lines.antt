@@ -45,7 +45,7 @@ pub rest-good : (c : Coord) (before : List Mark) → Kept c → Past c before �
 rest-good c before k p = record { kept = k; past = subst (λ m. Past c m) (sym (append-nil before)) p; seen = tt }
 
 -- what a line asks for, by the block
-abbrev Asks : Block → LineStep → Type 0
+abbrev pub Asks : Block → LineStep → Type 0
 Asks b (step.Answer plain) = is_open_in (block_after b (step.Answer plain)) ≡ is_open_in b
 Asks b step.Refuse5 = Unit {0}
 Asks b step.Refuse7 = Unit {0}
@@ -55,7 +55,7 @@ Asks b step.RollbackBlock = is_open_in b ≡ true
 Asks b (step.Command true) = b ≡ Outside
 Asks b (step.Command false) = is_open_in b ≡ true
 
-asks : (b : Block) (line : Stmt) → Asks b (line_step b line)
+pub asks : (b : Block) (line : Stmt) → Asks b (line_step b line)
 asks Outside (stmt.Begin level) = refl
 asks Outside stmt.Commit = refl
 asks Outside stmt.Rollback = refl
@@ -111,7 +111,7 @@ base-own c s y k opened idle same =
     by_test j false q = refl
 
 -- A NEW TRANSACTION
-undrawn : (d : Table) → IsWhole d → find_txn d d.next ≡ None
+pub undrawn : (d : Table) → IsWhole d → find_txn d d.next ≡ None
 undrawn d w = none-at d.next.0 d.txns (apart d.txns w.drawn)
   where
     other : (n k : ℕ) → k < n → eqb n k ≡ false
@@ -121,7 +121,7 @@ undrawn d w = none-at d.next.0 d.txns (apart d.txns w.drawn)
     apart [] e = tt
     apart (x ∷ xs) e = (other d.next.0 x.0.0 e.0.1, apart xs e.1)
 
-begun-whole : (d : Table) → IsWhole d → IsWhole (begun d)
+pub begun-whole : (d : Table) → IsWhole d → IsWhole (begun d)
 begun-whole d w = record { first = more d.next.0 w.first; apart = apart d.txns w.apart w.drawn; drawn = drawn d.txns w.drawn }
   where
     more : (a : ℕ) → 1 ≤ a → 1 ≤ a + 1

@@ -77,7 +77,7 @@ pub record Past (c : Coord) (ms : List Mark) : Type 0 where
   pub drawn : latest_number c.table.latest_ended < c.table.next.0
 
 -- a transaction in the table was drawn
-there-drawn : (next h : ℕ) (es : List (Gxid × Txn)) (t : Txn) → Below next es → at_gxid h es ≡ Some t → (1 ≤ h) × (h < next)
+pub there-drawn : (next h : ℕ) (es : List (Gxid × Txn)) (t : Txn) → Below next es → at_gxid h es ≡ Some t → (1 ≤ h) × (h < next)
 there-drawn next h [] t b e = absurd (cc)
 there-drawn next h (x ∷ xs) t b e = by_test (eqb h x.0.0) refl (sym (first-at h x xs) ∙ e) (λ f. there-drawn next h xs t b.1 f)
   where

@@ -140,7 +140,7 @@ module _ (script : Script) where
   event_knows w event.Round fails k ok n some = coord-knows script w k event.Round here.Round fails ok n
 
   module _ (some : 1 ≤ script.segments) where
-    happens_knows : (w : World) (e : Event) (fails : Bool) → Knows script w → Knows script (happens script w e fails)
+    pub happens_knows : (w : World) (e : Event) (fails : Bool) → Knows script w → Knows script (happens script w e fails)
     happens_knows w e fails k = by_can (can script w e) refl (happens_well script some w e fails k.well)
       where
         by_can : (b : Bool) → can script w e ≡ b → Well script (if b then does script w e (node_of e) fails (at_node w e) else w) → Knows script (if b then does script w e (node_of e) fails (at_node w e) else w)
@@ -151,7 +151,7 @@ module _ (script : Script) where
     after_knows [] w k = k
     after_knows (e ∷ es) w k = after_knows es (happens script w e.0 e.1) (happens_knows w e.0 e.1 k)
 
-    new_knows : Knows script new_world
+    pub new_knows : Knows script new_world
     new_knows =
         record {
           well = new_well script some;

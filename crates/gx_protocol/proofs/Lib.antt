@@ -1,0 +1,14 @@
+pub mod Counts
+pub mod Parts
+pub mod Handled
+pub mod Nodes
+pub mod Shifts
+pub mod Commits
+pub mod Ways
+pub mod Calls
+pub mod Replying
+pub mod Dispatching
+pub mod Events
+pub mod Following
+pub mod Everywhere
+pub mod Always

@@ -1,0 +1,4 @@
+pub mod Standings
+pub mod Pairs
+pub mod Said
+pub mod Followed

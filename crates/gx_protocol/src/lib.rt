@@ -1,0 +1,4 @@
+//! The commit protocol in every run of the machine: laws over the rules of both nodes.
+#![tactic(auto)]
+
+pub mod runs;
