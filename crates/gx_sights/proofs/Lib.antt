@@ -1,0 +1,6 @@
+pub mod Heights
+pub mod Held
+pub mod Reading
+pub mod Plain
+pub mod Turns
+pub mod Going
