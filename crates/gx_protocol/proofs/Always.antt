@@ -35,12 +35,12 @@ use Rattle.gx_protocol.proofs.Everywhere.{Holds, coord-holds, parts_in, seg-hold
 abbrev IsPosted : Script → World → Letter → Type 0
 IsPosted script w l = IsLetter script w.steps l × SaidIn w l
 
-each-zip : {A : Type 0} (P Q : A → Type 0) (xs : List A) → Each P xs → Each Q xs → Each (λ x. P x × Q x) xs
+pub each-zip : {A : Type 0} (P Q : A → Type 0) (xs : List A) → Each P xs → Each Q xs → Each (λ x. P x × Q x) xs
 each-zip P Q [] e f = tt
 each-zip P Q (x ∷ xs) e f = ((e.0, f.0), each-zip P Q xs e.1 f.1)
 
 -- a letter's message, by who sends it
-answer-of : (w : World) (l : Letter) (b : Bool) → is_answer l.envelope.message ≡ b → SaidIn w l → SaidAt w.coord w.segs (marks_in w.steps) (if b then l.from.0 else l.to.0) l.envelope.message
+pub answer-of : (w : World) (l : Letter) (b : Bool) → is_answer l.envelope.message ≡ b → SaidIn w l → SaidAt w.coord w.segs (marks_in w.steps) (if b then l.from.0 else l.to.0) l.envelope.message
 answer-of w l b e s = subst (λ q. SaidAt w.coord w.segs (marks_in w.steps) (if q then l.from.0 else l.to.0) l.envelope.message) e s
 
 module _ (script : Script) (some : 1 ≤ script.segments) where

@@ -75,7 +75,7 @@ fol-sent-one : (script : Script) (ms : List Mark) (m : Mark) → FolAt script ms
 fol-sent-one script ms (mark.Sent to number told) e = e
 fol-sent-one script ms m e = tt
 
-fol-no-sent : (script : Script) (ms ns : List Mark) → Fol script ms ns → Each NoSent ns
+pub fol-no-sent : (script : Script) (ms ns : List Mark) → Fol script ms ns → Each NoSent ns
 fol-no-sent script ms [] e = tt
 fol-no-sent script ms (m ∷ ns) e = (fol-sent-one script ms m e.0, fol-no-sent script (ms ++ m ∷ []) ns e.1)
 
@@ -190,7 +190,7 @@ follows-no-end told k i g (mark.Abort h ∷ ns) e = absurd e.0
 follows-no-end told k i g (mark.Decided h ∷ ns) e = absurd e.0
 follows-no-end told k i g (m ∷ ns) e = (tt, follows-no-end told k i g ns e.1)
 
-follows-no-sent : (told : Message) (k : Known) (i g : ℕ) (ns : List Mark) → Each (Follows told k i g) ns → Each NoSent ns
+pub follows-no-sent : (told : Message) (k : Known) (i g : ℕ) (ns : List Mark) → Each (Follows told k i g) ns → Each NoSent ns
 follows-no-sent told k i g [] e = tt
 follows-no-sent told k i g (mark.Sent to number m ∷ ns) e = absurd e.0
 follows-no-sent told k i g (m ∷ ns) e = (tt, follows-no-sent told k i g ns e.1)
@@ -200,7 +200,7 @@ each-both P [] ys e f = f
 each-both P (x ∷ xs) ys e f = (e.0, each-both P xs ys e.1 f)
 
 -- what it tells is an answer that is said
-told-answer : (k : Known) (q : Part) (i g : ℕ) (marks : List Mark) (m : Message) → Tells k q i g marks m → (is_answer m ≡ true) × (gxid_in m ≡ g) × Said k q m
+pub told-answer : (k : Known) (q : Part) (i g : ℕ) (marks : List Mark) (m : Message) → Tells k q i g marks m → (is_answer m ≡ true) × (gxid_in m ≡ g) × Said k q m
 told-answer k q i g marks (message.Answer h reply.Again) e = (refl, e.0, tt)
 told-answer k q i g marks (message.Answer h (reply.Done c x y z)) e = (refl, e.0, e.1)
 told-answer k q i g marks (message.Answer h (reply.Failed c x)) e = (refl, e.0, tt)

@@ -4,3 +4,5 @@ pub mod Reading
 pub mod Plain
 pub mod Turns
 pub mod Going
+pub mod Steps
+pub mod Low
