@@ -75,7 +75,7 @@ one-enlists d g i =
       live = ap live_of here ∙ k.1;
     }
 
-all-enlist : (nodes : List Node) (d : Table) (g : ℕ) → Enlists d (enlisted_all d (gx g) nodes) g
+pub all-enlist : (nodes : List Node) (d : Table) (g : ℕ) → Enlists d (enlisted_all d (gx g) nodes) g
 all-enlist [] d g = record { finds = λ j e. refl; same = refl; live = refl }
 all-enlist (i ∷ is) d g = joined (one-enlists d g i) (all-enlist is (enlisted d (gx g) i) g)
   where
@@ -84,14 +84,14 @@ all-enlist (i ∷ is) d g = joined (one-enlists d g i) (all-enlist is (enlisted 
 
 -- READING
 module _ (c : Coord) (g : ℕ) (s : Stood c.table c.works) (latest : Latest c.table) where
-  record ReadsTo (r : Reading) : Type 0 where
-    rises : Rises c.table r.coord.table
-    finds : (j : ℕ) → eqb j g ≡ false → find_txn r.coord.table (gx j) ≡ find_txn c.table (gx j)
-    same : stage (find_txn r.coord.table (gx g)) ≡ stage (find_txn c.table (gx g))
-    works : (j : ℕ) → eqb j g ≡ false → r.coord.works j ≡ c.works j
-    plain : (r.coord.works g).level ≡ ReadCommitted → (r.coord.works g).snapshot ≡ None
-    kept : stage (find_txn r.coord.table (gx g)) ≡ Live → (x : Snapshot) → (r.coord.works g).snapshot ≡ Some x → Held (live_of (find_txn r.coord.table (gx g))) x
-    held : stage (find_txn r.coord.table (gx g)) ≡ Live → (x : Snapshot) → r.snapshot ≡ Some x → Held (live_of (find_txn r.coord.table (gx g))) x
+  pub record ReadsTo (r : Reading) : Type 0 where
+    pub rises : Rises c.table r.coord.table
+    pub finds : (j : ℕ) → eqb j g ≡ false → find_txn r.coord.table (gx j) ≡ find_txn c.table (gx j)
+    pub same : stage (find_txn r.coord.table (gx g)) ≡ stage (find_txn c.table (gx g))
+    pub works : (j : ℕ) → eqb j g ≡ false → r.coord.works j ≡ c.works j
+    pub plain : (r.coord.works g).level ≡ ReadCommitted → (r.coord.works g).snapshot ≡ None
+    pub kept : stage (find_txn r.coord.table (gx g)) ≡ Live → (x : Snapshot) → (r.coord.works g).snapshot ≡ Some x → Held (live_of (find_txn r.coord.table (gx g))) x
+    pub held : stage (find_txn r.coord.table (gx g)) ≡ Live → (x : Snapshot) → r.snapshot ≡ Some x → Held (live_of (find_txn r.coord.table (gx g))) x
 
   reads-nothing : ReadsTo (record { coord = c; snapshot = None; marks = [] })
   reads-nothing = record { rises = rises-same c.table s.sorted; finds = λ j e. refl; same = refl; works = λ j e. refl; plain = (s.reads g).plain; kept = (s.reads g).kept; held = λ l x e. absurd (cc) }
@@ -139,7 +139,7 @@ module _ (c : Coord) (g : ℕ) (s : Stood c.table c.works) (latest : Latest c.ta
   reads-by cid None e = reads-now cid
   reads-by cid (Some x) e = reads-kept x e
 
-  reads-for : (cid : Cid) (line : Stmt) → ReadsTo (reads_for c (gx g) cid (c.works g) line)
+  pub reads-for : (cid : Cid) (line : Stmt) → ReadsTo (reads_for c (gx g) cid (c.works g) line)
   reads-for cid (stmt.Lock t m) = reads-nothing
   reads-for cid (stmt.Begin level) = reads-by cid (c.works g).snapshot refl
   reads-for cid stmt.Commit = reads-by cid (c.works g).snapshot refl
@@ -234,7 +234,7 @@ module _ (c : Coord) (g : ℕ) (s : Stood c.table c.works) (latest : Latest c.ta
   dispatch-went script line = goes-went line _ (plan_of script.segments (dist_of script.tables (table_of line)) (gx g) (next_cid (c.works g)) line) (reads-for (next_cid (c.works g)) line)
 
 -- A TRANSACTION BEGINS
-begun-find : (d : Table) (j : ℕ) → Sorted d → find_txn (begun d) (gx j) ≡ cond (eqb j d.next.0) (Some new_txn) (find_txn d (gx j))
+pub begun-find : (d : Table) (j : ℕ) → Sorted d → find_txn (begun d) (gx j) ≡ cond (eqb j d.next.0) (Some new_txn) (find_txn d (gx j))
 begun-find d j s = find-push d.next (gx j) new_txn d.txns s.drawn
 
 module _ (d : Table) (ws : Works) (session : SessionId) (level : Level) (s : Stood d ws) where

@@ -6,3 +6,5 @@ pub mod Turns
 pub mod Going
 pub mod Steps
 pub mod Low
+pub mod Taken
+pub mod Ends

@@ -83,7 +83,7 @@ pub record Lows (w : World) : Type 0 where
 
 -- what is known of numbers
 module _ (script : Script) (w : World) (k : Knows script w) where
-  live-standing : (g i : ℕ) → stage (find_txn w.coord.table (gx g)) ≡ Running → (b : Bool) → standing b (find_txn w.coord.table (gx g)) i ≡ Live
+  pub live-standing : (g i : ℕ) → stage (find_txn w.coord.table (gx g)) ≡ Running → (b : Bool) → standing b (find_txn w.coord.table (gx g)) i ≡ Live
   live-standing g i l b = by_found (find_txn w.coord.table (gx g)) l
     where
       by_phase : (p : Status) → stage_in p ≡ Running → standing_in p i ≡ Live
