@@ -96,7 +96,7 @@ running-drawn c h w e = by_found (find_txn c.table (gx h)) refl e
     by_found (Some t) f r = there-drawn c.table.next.0 h c.table.txns t w.drawn f
 
 -- SNAPSHOTS
-listed-is : (p : Gxid → Bool) (a n h : ℕ) → is_listed (gx h) (filter p (gxids_from a n)) ≡ true → (a ≤ h) × (h < a + n) × (p (gx h) ≡ true)
+pub listed-is : (p : Gxid → Bool) (a n h : ℕ) → is_listed (gx h) (filter p (gxids_from a n)) ≡ true → (a ≤ h) × (h < a + n) × (p (gx h) ≡ true)
 listed-is p a zero h e = grind arith
 listed-is p a (suc n) h e = by_test (p (gx a)) refl e (λ f. listed-is p (suc a) n h f)
   where

@@ -183,7 +183,7 @@ follows-no-end told k i g (mark.Abort h ∷ ns) e = absurd e.0
 follows-no-end told k i g (mark.Decided h ∷ ns) e = absurd e.0
 follows-no-end told k i g (m ∷ ns) e = (tt, follows-no-end told k i g ns e.1)
 
-follows-no-sent : (told : Message) (k : Known) (i g : ℕ) (ns : List Mark) → Each (Follows told k i g) ns → Each NoSent ns
+pub follows-no-sent : (told : Message) (k : Known) (i g : ℕ) (ns : List Mark) → Each (Follows told k i g) ns → Each NoSent ns
 follows-no-sent told k i g [] e = tt
 follows-no-sent told k i g (mark.Sent to number m ∷ ns) e = absurd e.0
 follows-no-sent told k i g (m ∷ ns) e = (tt, follows-no-sent told k i g ns e.1)
@@ -193,7 +193,7 @@ each-both P [] ys e f = f
 each-both P (x ∷ xs) ys e f = (e.0, each-both P xs ys e.1 f)
 
 -- what it tells is an answer that is said
-told-answer : (k : Known) (q : Part) (i g : ℕ) (marks : List Mark) (m : Message) → Tells k q i g marks m → (is_answer m ≡ true) × (gxid_in m ≡ g) × Said k q m
+pub told-answer : (k : Known) (q : Part) (i g : ℕ) (marks : List Mark) (m : Message) → Tells k q i g marks m → (is_answer m ≡ true) × (gxid_in m ≡ g) × Said k q m
 told-answer k q i g marks (message.Answer h reply.Again) e = (refl, e.0, tt)
 told-answer k q i g marks (message.Answer h (reply.Done c x y z)) e = (refl, e.0, e.1)
 told-answer k q i g marks (message.Answer h (reply.Failed c x)) e = (refl, e.0, tt)
@@ -212,40 +212,40 @@ told-answer k q i g marks (message.Collect round) e = absurd e
 told-answer k q i g marks (message.Graph round graph) e = absurd e
 
 module _ (script : Script) (w : World) (n : Knows script w) (v : Holds script w) (e : Event) (fails : Bool) (i : ℕ) (from : Node) (envelope : Envelope) (received : Receives w.steps e the_coordinator (at i) envelope.message) (said : is_answer envelope.message ≡ false → Said (known_at w.coord (marks_in w.steps) i (gxid_in envelope.message)) (parts_in w i (gxid_in envelope.message)) envelope.message) where
-  abbrev msg : Message
+  abbrev pub msg : Message
   msg = envelope.message
 
-  abbrev g : ℕ
+  abbrev pub g : ℕ
   g = gxid_in envelope.message
 
-  abbrev ms2 : List Mark
+  abbrev pub ms2 : List Mark
   ms2 = marks_in w.steps
 
-  abbrev s : Seg
+  abbrev pub s : Seg
   s = w.segs i
 
-  abbrev turn2 : SegTurn
+  abbrev pub turn2 : SegTurn
   turn2 = segment.on_event script s (here.Deliver from envelope) fails
 
-  abbrev sent2 : List Mark
+  abbrev pub sent2 : List Mark
   sent2 = numbered (λ node. turn2.seg.sent) turn2.outs
 
-  abbrev step2 : Step
+  abbrev pub step2 : Step
   step2 = record { stamp = record { clock = clock_after s.clock (here.Deliver from envelope); node = at i }; event = e; marks = turn2.marks ++ sent2 }
 
-  abbrev seg_now : Seg
+  abbrev pub seg_now : Seg
   seg_now = (seg_rule script s (here.Deliver from envelope) fails).seg
 
-  abbrev next2 : World
+  abbrev pub next2 : World
   next2 = seg_did w (at i) e (seg_rule script s (here.Deliver from envelope) fails)
 
-  abbrev known : ℕ → ℕ → Known
+  abbrev pub known : ℕ → ℕ → Known
   known j h = known_at w.coord ms2 j h
 
   pub does-it : Does msg (known i g) s i g (n.well.names i) (is_writer ms2 (gx g) (at i)) (prepared_count ms2 (at i) (gx g)) (local_count ms2 (at i) (gx g)) (v.stands.pairs i g) turn2
   does-it = handled script fails (known i g) s i (n.well.names i) (is_writer ms2 (gx g) (at i)) (prepared_count ms2 (at i) (gx g)) (local_count ms2 (at i) (gx g)) msg (v.stands.pairs i g) said
 
-  abbrev new_part : Part
+  abbrev pub new_part : Part
   new_part = after_marks (turn2.seg.locals g) (is_writer ms2 (gx g) (at i)) (prepared_count ms2 (at i) (gx g)) (local_count ms2 (at i) (gx g)) i g turn2.marks
 
   quiet-sent : Each NoPart sent2
@@ -257,13 +257,13 @@ module _ (script : Script) (w : World) (n : Knows script w) (v : Holds script w)
   all2 : ms2 ++ (turn2.marks ++ sent2) ≡ marks_in next2.steps
   all2 = sym (marks-last w.steps step2)
 
-  same-known2 : (j h : ℕ) → known_at w.coord (marks_in next2.steps) j h ≡ known j h
+  pub same-known2 : (j h : ℕ) → known_at w.coord (marks_in next2.steps) j h ≡ known j h
   same-known2 j h = ap (λ q. known_at w.coord q j h) (sym all2) ∙ known-append script (parts_in w) w.coord ms2 (turn2.marks ++ sent2) j h no-ends
 
   self-test : (a : ℕ) → eqb a a ≡ true
   self-test a = grind (arith, nat_tests)
 
-  part-here : parts_in next2 i g ≡ new_part
+  pub part-here : parts_in next2 i g ≡ new_part
   part-here =
       ap (λ b. part_at (if b then (seg_rule script s (here.Deliver from envelope) fails).seg else w.segs i) (marks_in next2.steps) i g) (self-test i)
       ∙ ap (λ q. part_at turn2.seg q i g) (sym all2)
@@ -282,7 +282,7 @@ module _ (script : Script) (w : World) (n : Knows script w) (v : Holds script w)
       by_test true q = does-it.others h (second (eqb j i) (eqb h g) q apart) ∙ ap (λ (y : ℕ). (w.segs y).locals h) (sym (eqb-true j i q))
       by_test false q = refl
 
-  part-there : (j h : ℕ) → (eqb j i && eqb h g) ≡ false → parts_in next2 j h ≡ parts_in w j h
+  pub part-there : (j h : ℕ) → (eqb j i && eqb h g) ≡ false → parts_in next2 j h ≡ parts_in w j h
   part-there j h apart =
       ap (λ l. part_of l (is_writer (marks_in next2.steps) (gx h) (at j)) (prepared_count (marks_in next2.steps) (at j) (gx h)) (local_count (marks_in next2.steps) (at j) (gx h))) (local-there j h apart)
       ∙ ap (λ q. part_at (w.segs j) q j h) (sym all2)

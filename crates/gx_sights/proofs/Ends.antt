@@ -1,0 +1,226 @@
+-- What the marks say of a transaction's end, its segments say too, and nothing is written once it has committed.
+use Rattle.std.proofs.Common.{◌≡◌, ◌≤◌, ◌<◌, inl, inr, ℕ, ◌+◌, List, [], ◌∷◌, ◌++◌, Option, Some, None, Bool, true, false, refl, sym, subst, ap, ◌∙◌, if◌then◌else◌, ◌||◌, ◌&&◌, arith, eqb, append-nil}
+use Rattle.std.proofs.lemmas.Bool.{eqb-true}
+use Rattle.std.proofs.lemmas.Bool.Decides.{nat_tests}
+use Rattle.std.proofs.lemmas.List.{append_assoc}
+use Rattle.std.specs.Prelude.{nat_lt}
+use Rattle.gx_ids.specs.declared.ids.Cid.{Cid}
+use Rattle.gx_ids.specs.declared.ids.Gxid.{Gxid}
+use Rattle.gx_ids.specs.declared.ids.Node.{Node}
+use Rattle.gx_tree.specs.declared.slice.Slice.{Slice}
+use Rattle.gx_dsnap.specs.Gxids.{is_below}
+use Rattle.gx_dsnap.specs.declared.snapshot.Snapshot.{Snapshot}
+use Rattle.gx_dtx.specs.Table.{find_txn}
+use Rattle.gx_msg.specs.declared.message.Envelope.{Envelope}
+use Rattle.gx_msg.specs.declared.message.Message.{Message}
+use Rattle.gx_msg.specs.declared.message.Message.TheVariants as message
+use Rattle.gx_msg.specs.declared.message.Out.{Out}
+use Rattle.gx_msg.specs.declared.reply.Reply.{Reply}
+use Rattle.gx_script.specs.declared.Script.{Script}
+use Rattle.gx_store.specs.declared.event.Event.{Event}
+use Rattle.gx_store.specs.declared.mark.Mark.{Mark}
+use Rattle.gx_store.specs.declared.mark.Mark.TheVariants as mark
+use Rattle.gx_store.specs.declared.node.NodeEvent.{NodeEvent}
+use Rattle.gx_store.specs.declared.node.NodeEvent.TheVariants as here
+use Rattle.gx_store.specs.declared.run.Step.{Step}
+use Rattle.gx_store.specs.Marks.{is_aborted, is_committed}
+use Rattle.gx_store.specs.Messages.{Receives}
+use Rattle.gx_store.specs.Ordered.{IsSegment}
+use Rattle.gx_store.specs.Points.{marks_in}
+use Rattle.gx_store.specs.Protocol.{CommitsBy, is_writer, local_count, prepared_count, writers_of}
+use Rattle.gx_store.specs.Refusals.{the_coordinator}
+use Rattle.gx_rules.specs.AtCoordinator as coordinator
+use Rattle.gx_rules.specs.AtCoordinator.{coord_can, coord_rule}
+use Rattle.gx_rules.specs.AtSegment.{if_fits, on_event, on_exec, on_message, raised, repeats, seg_rule, takes, unless_below}
+use Rattle.gx_rules.specs.Coordinators.{Coord, CoordTurn}
+use Rattle.gx_rules.specs.Fits.{fits_exec}
+use Rattle.gx_rules.specs.Machine.{Letter, World, coord_did, new_world, seg_did, world_of}
+use Rattle.gx_rules.specs.Segments.{Local, Phase, Seg, SegTurn, has_committed, local_of, stays, tells_kept}
+use Rattle.gx_rules.specs.Segments.Phase.{Aborted, Committed, Forgotten, Prepared, Reading, Writing}
+use Rattle.gx_rules.specs.Sending.{clock_after, numbered}
+use Rattle.gx_rules.specs.Slices.{runs_slice}
+use Rattle.gx_laws.proofs.Letters.{IsFound}
+use Rattle.gx_laws.proofs.Lists.{Each, each_append, each_weaker}
+use Rattle.gx_laws.proofs.Past.{Past, aborted-append, committed-append}
+use Rattle.gx_laws.proofs.Sessions.{stage_of}
+use Rattle.gx_laws.proofs.Stages.{gx}
+use Rattle.gx_laws.proofs.Statuses.{Stage, is_running, stage}
+use Rattle.gx_laws.proofs.Statuses.Stage.{Live as Running}
+use Rattle.gx_laws.proofs.World.{Knows, marks-last}
+use Rattle.gx_protocol.specs.Pairs.{Pair, bit}
+use Rattle.gx_protocol.specs.Said.{IsCommand, Said, SaidIn, gxid_in, is_answer, segment_of}
+use Rattle.gx_protocol.specs.Standings.{Known, Part, at, known_at, part_of}
+use Rattle.gx_protocol.proofs.Counts.{NoEnd, NoPart, local-append, no-aborted, no-committed, no-local, no-writer, sent-no-end, sent-no-part, writer-append}
+use Rattle.gx_protocol.proofs.Events.{event-led}
+use Rattle.gx_protocol.proofs.Everywhere.{Holds, does-it, fol-no-sent, follows-no-sent, new_part, next2, part-here, part-there, parts_in, posted-each, same-known2, told-answer}
+use Rattle.gx_protocol.proofs.Handled.{Does, Follows, IsExecOf, Tells}
+use Rattle.gx_protocol.proofs.Ways.{Fol, Led, fol-no-part}
+use Rattle.gx_sights.proofs.Low.{Lows, world-lows}
+use Rattle.gx_sights.proofs.Steps.{SaidTo, world-keeps}
+use Rattle.gx_sights.proofs.Taken.{AllTaken, LiveMessage, Passes, event-pass}
+
+-- who has committed has its writes committed at each segment, and who was aborted nowhere
+pub record Ended (k : Known) (p : Part) : Type 0 where
+  pub committed : k.committed ≡ true → has_committed p.phase ≡ p.wrote
+  pub aborted : k.aborted ≡ true → has_committed p.phase ≡ false
+
+-- of who has committed, each segment has taken what was sent to it
+abbrev pub TakenAt : World → Node → Message → Type 0
+TakenAt w to (message.Exec g c level x h slice) = is_committed (marks_in w.steps) (gx g.0) ≡ true → c.0 ≤ ((w.segs to.0).locals g.0).last
+TakenAt w to _ = Unit {0}
+
+pub record Ends (w : World) : Type 0 where
+  pub ended : (i g : ℕ) → Ended (known_at w.coord (marks_in w.steps) i g) (parts_in w i g)
+  pub taken : Each (λ (l : Letter). TakenAt w l.to l.envelope.message) w.sent
+
+-- MARKS OF THE COORDINATOR
+commits-once : (xs : List Node) (ms : List Mark) (g : Gxid) (i : ℕ) → CommitsBy xs ms g → local_count ms (at i) g ≡ (if is_writer ms g (at i) then 1 else 0)
+commits-once [] ms g i c = c.local (at i)
+commits-once (x ∷ []) ms g i c = c.local (at i)
+commits-once (x ∷ y ∷ ys) ms g i c = c.local (at i)
+
+plus-none : (n : ℕ) → n + 0 ≡ n
+plus-none n = omega arith
+
+or-none : (b : Bool) → (b || false) ≡ b
+or-none true = refl
+or-none false = refl
+
+one-local : (ms : List Mark) (m : Mark) (i g : ℕ) → NoPart m → local_count (ms ++ m ∷ []) (at i) (gx g) ≡ local_count ms (at i) (gx g)
+one-local ms m i g e = local-append ms (m ∷ []) (at i) (gx g) ∙ ap (λ n. local_count ms (at i) (gx g) + n) (no-local (m ∷ []) (at i) (gx g) (e, tt)) ∙ plus-none (local_count ms (at i) (gx g))
+
+one-writer : (ms : List Mark) (m : Mark) (i g : ℕ) → NoPart m → is_writer (ms ++ m ∷ []) (gx g) (at i) ≡ is_writer ms (gx g) (at i)
+one-writer ms m i g e = writer-append ms (m ∷ []) (gx g) (at i) ∙ ap (λ b. is_writer ms (gx g) (at i) || b) (no-writer (m ∷ []) (gx g) (at i) (e, tt)) ∙ or-none (is_writer ms (gx g) (at i))
+
+module _ (script : Script) (i g : ℕ) where
+  abbrev Once : List Mark → Type 0
+  Once ms = local_count ms (at i) (gx g) ≡ (if is_writer ms (gx g) (at i) then 1 else 0)
+
+  once-back : (ms : List Mark) (m : Mark) → NoPart m → Once (ms ++ m ∷ []) → Once ms
+  once-back ms m e o = sym (one-local ms m i g e) ∙ o ∙ ap (λ b. if b then 1 else 0) (one-writer ms m i g e)
+
+  fol-committed : (ms ns : List Mark) → Fol script ms ns → is_committed ns (gx g) ≡ true → Once ms
+  fol-committed ms [] f e = absurd (cc)
+  fol-committed ms (mark.Commit h ∷ ns) f e = by_test (eqb h.0 g) refl e (λ z. once-back ms (mark.Commit h) tt (fol-committed (ms ++ mark.Commit h ∷ []) ns f.1 z))
+    where
+      by_test : (b : Bool) → eqb h.0 g ≡ b → (b || is_committed ns (gx g)) ≡ true → (is_committed ns (gx g) ≡ true → Once ms) → Once ms
+      by_test true q e more = subst (λ z. local_count ms (at i) (gx z) ≡ (if is_writer ms (gx z) (at i) then 1 else 0)) (eqb-true h.0 g q) (commits-once (writers_of script ms h) ms h i f.0)
+      by_test false q e more = more e
+  fol-committed ms (m ∷ ns) f e = once-back ms m (fol-no-part script ms (m ∷ ns) f).0 (fol-committed (ms ++ m ∷ []) ns f.1 e)
+
+  fol-aborted : (ms ns : List Mark) → Fol script ms ns → is_aborted ns (gx g) ≡ true → local_count ms (at i) (gx g) ≡ 0
+  fol-aborted ms [] f e = absurd (cc)
+  fol-aborted ms (mark.Abort h ∷ ns) f e = by_test (eqb h.0 g) refl e (λ z. sym (one-local ms (mark.Abort h) i g tt) ∙ fol-aborted (ms ++ mark.Abort h ∷ []) ns f.1 z)
+    where
+      by_test : (b : Bool) → eqb h.0 g ≡ b → (b || is_aborted ns (gx g)) ≡ true → (is_aborted ns (gx g) ≡ true → local_count ms (at i) (gx g) ≡ 0) → local_count ms (at i) (gx g) ≡ 0
+      by_test true q e more = subst (λ z. local_count ms (at i) (gx z) ≡ 0) (eqb-true h.0 g q) (f.0.1 (at i))
+      by_test false q e more = more e
+  fol-aborted ms (m ∷ ns) f e = sym (one-local ms m i g (fol-no-part script ms (m ∷ ns) f).0) ∙ fol-aborted (ms ++ m ∷ []) ns f.1 e
+
+bit-once : (a b : Bool) (n : ℕ) → n ≡ bit a → n ≡ (if b then 1 else 0) → a ≡ b
+bit-once true true n e f = refl
+bit-once false false n e f = refl
+bit-once true false n e f = absurd (differ n e f)
+  where
+    differ : (n : ℕ) → n ≡ 1 → n ≡ 0 → ⊥
+    differ n e f = omega arith
+bit-once false true n e f = absurd (differ n e f)
+  where
+    differ : (n : ℕ) → n ≡ 0 → n ≡ 1 → ⊥
+    differ n e f = omega arith
+
+split : (a b d : Bool) → d ≡ false → (x : Bool) → x ≡ (a || (b || d)) → x ≡ true → (a ≡ false → b ≡ true)
+split a b d n x e t f = grind arith
+
+-- A STEP OF THE COORDINATOR
+module _ (script : Script) (w : World) (k : Knows script w) (v : Holds script w) (l : Lows w) (q : Ends w) (e : Event) (x : NodeEvent) (fails : Bool) where
+  abbrev ms : List Mark
+  ms = marks_in w.steps
+
+  abbrev turn : CoordTurn
+  turn = coordinator.on_event script w.coord x fails
+
+  abbrev sent : List Mark
+  sent = numbered turn.coord.sent turn.outs
+
+  abbrev step : Step
+  step = record { stamp = record { clock = clock_after w.coord.clock x; node = the_coordinator }; event = e; marks = turn.marks ++ sent }
+
+  abbrev next : World
+  next = coord_did w e (coord_rule script w.coord x fails)
+
+  abbrev new : List Mark
+  new = marks_in next.steps
+
+  all : new ≡ ms ++ (turn.marks ++ sent)
+  all = marks-last w.steps step
+
+  committed-is : (g : ℕ) → is_committed new (gx g) ≡ is_committed ms (gx g) || (is_committed turn.marks (gx g) || is_committed sent (gx g))
+  committed-is g = ap (λ z. is_committed z (gx g)) all ∙ committed-append ms (turn.marks ++ sent) (gx g) ∙ ap (λ b. is_committed ms (gx g) || b) (committed-append turn.marks sent (gx g))
+
+  aborted-is : (g : ℕ) → is_aborted new (gx g) ≡ is_aborted ms (gx g) || (is_aborted turn.marks (gx g) || is_aborted sent (gx g))
+  aborted-is g = ap (λ z. is_aborted z (gx g)) all ∙ aborted-append ms (turn.marks ++ sent) (gx g) ∙ ap (λ b. is_aborted ms (gx g) || b) (aborted-append turn.marks sent (gx g))
+
+  module _ (f : Led script (parts_in w) w.coord (marks_in w.steps) (coordinator.on_event script w.coord x fails)) where
+    no-part : Each NoPart (turn.marks ++ sent)
+    no-part = each_append NoPart turn.marks sent (fol-no-part script ms turn.marks f.way.fol) (sent-no-part turn.coord.sent turn.outs)
+
+    writer-is : (i g : ℕ) → is_writer new (gx g) (at i) ≡ is_writer ms (gx g) (at i)
+    writer-is i g = ap (λ z. is_writer z (gx g) (at i)) all ∙ writer-append ms (turn.marks ++ sent) (gx g) (at i) ∙ ap (λ b. is_writer ms (gx g) (at i) || b) (no-writer (turn.marks ++ sent) (gx g) (at i) no-part) ∙ or-none (is_writer ms (gx g) (at i))
+
+    coord-ended : (i g : ℕ) → Ended (known_at next.coord new i g) (parts_in next i g)
+    coord-ended i g = record { committed = λ t. by_old t (is_committed ms (gx g)) refl ∙ sym (writer-is i g); aborted = λ t. by_old2 t (is_aborted ms (gx g)) refl }
+      where
+        by_old : is_committed new (gx g) ≡ true → (b : Bool) → is_committed ms (gx g) ≡ b → has_committed ((w.segs i).locals g).phase ≡ is_writer ms (gx g) (at i)
+        by_old t true o = (q.ended i g).committed o
+        by_old t false o =
+            bit-once _ _ (local_count ms (at i) (gx g)) (v.stands.pairs i g).committed
+            (fol-committed script i g ms turn.marks f.way.fol (split (is_committed ms (gx g)) (is_committed turn.marks (gx g)) (is_committed sent (gx g)) (no-committed sent (gx g) (sent-no-end turn.coord.sent turn.outs)) (is_committed new (gx g)) (committed-is g) t o))
+
+        by_old2 : is_aborted new (gx g) ≡ true → (b : Bool) → is_aborted ms (gx g) ≡ b → has_committed ((w.segs i).locals g).phase ≡ false
+        by_old2 t true o = (q.ended i g).aborted o
+        by_old2 t false o =
+            bit-once _ false (local_count ms (at i) (gx g)) (v.stands.pairs i g).committed
+            (fol-aborted script i g ms turn.marks f.way.fol (split (is_aborted ms (gx g)) (is_aborted turn.marks (gx g)) (is_aborted sent (gx g)) (no-aborted sent (gx g) (sent-no-end turn.coord.sent turn.outs)) (is_aborted new (gx g)) (aborted-is g) t o))
+
+    old-taken : Passes script w k v l (coordinator.on_event script w.coord x fails) → (from to : Node) (m : Message) → Said (known_at w.coord ms (if is_answer m then from.0 else to.0) (gxid_in m)) (parts_in w (if is_answer m then from.0 else to.0) (gxid_in m)) m → TakenAt w to m → TakenAt next to m
+    old-taken p from to (message.Exec g c level y h slice) s old = λ t. by_old t (is_committed ms (gx g.0)) refl
+      where
+        by_old : is_committed new (gx g.0) ≡ true → (b : Bool) → is_committed ms (gx g.0) ≡ b → c.0 ≤ ((w.segs to.0).locals g.0).last
+        by_old t true o = old o
+        by_old t false o = p.takes g.0 (split (is_committed ms (gx g.0)) (is_committed turn.marks (gx g.0)) (is_committed sent (gx g.0)) (no-committed sent (gx g.0) (sent-no-end turn.coord.sent turn.outs)) (is_committed new (gx g.0)) (committed-is g.0) t o) to.0 c.0 s
+    old-taken p from to (message.Prepare g) s old = tt
+    old-taken p from to (message.Commit g) s old = tt
+    old-taken p from to (message.CommitPrepared g) s old = tt
+    old-taken p from to (message.Abort g) s old = tt
+    old-taken p from to (message.Forget g) s old = tt
+    old-taken p from to (message.Answer g r) s old = tt
+    old-taken p from to (message.Collect round) s old = tt
+    old-taken p from to (message.Graph round graph) s old = tt
+
+    new-taken : Past next.coord new → (to : Node) (m : Message) → LiveMessage turn.coord.table m → TakenAt next to m
+    new-taken past to (message.Exec g c level y h slice) live = λ t. absurd (clash (sym (ap is_running live) ∙ (past.committed g.0 t).2))
+      where
+        clash : true ≡ false → ⊥
+        clash e = cc
+    new-taken past to (message.Prepare g) live = tt
+    new-taken past to (message.Commit g) live = tt
+    new-taken past to (message.CommitPrepared g) live = tt
+    new-taken past to (message.Abort g) live = tt
+    new-taken past to (message.Forget g) live = tt
+    new-taken past to (message.Answer g r) live = tt
+    new-taken past to (message.Collect round) live = tt
+    new-taken past to (message.Graph round graph) live = tt
+
+    both-each : {A : Type 0} (P R : A → Type 0) (xs : List A) → Each P xs → Each R xs → Each (λ y. P y × R y) xs
+    both-each P R [] a b = tt
+    both-each P R (y ∷ ys) a b = ((a.0, b.0), both-each P R ys a.1 b.1)
+
+    coord-ends : Passes script w k v l (coordinator.on_event script w.coord x fails) → Past next.coord new → Ends next
+    coord-ends p past =
+        record {
+          ended = coord-ended;
+          taken = posted-each (λ (z : Letter). TakenAt next z.to z.envelope.message) the_coordinator (clock_after w.coord.clock x) turn.marks turn.coord.sent turn.outs w.sent (fol-no-sent script ms turn.marks f.way.fol)
+              (each_weaker (λ (o : Out). LiveMessage turn.coord.table o.message) _ (λ o h number. new-taken past o.node o.message h) turn.outs p.outs)
+              (each_weaker (λ (z : Letter). SaidIn w z × TakenAt w z.to z.envelope.message) (λ (z : Letter). TakenAt next z.to z.envelope.message) (λ z h. old-taken p z.from z.to z.envelope.message h.0 h.1) w.sent (both-each (SaidIn w) (λ (z : Letter). TakenAt w z.to z.envelope.message) w.sent v.said q.taken));
+        }

@@ -1,0 +1,10 @@
+pub mod Heights
+pub mod Held
+pub mod Reading
+pub mod Plain
+pub mod Turns
+pub mod Going
+pub mod Steps
+pub mod Low
+pub mod Taken
+pub mod Ends

@@ -1,0 +1,4 @@
+//! What segments show in every run of the machine: laws over the rules of both nodes.
+#![tactic(auto)]
+
+pub mod runs;
