@@ -8,6 +8,11 @@ use Rattle.gx_ids.specs.declared.ids.Gxid.{Gxid}
 use Rattle.gx_ids.specs.declared.ids.Node.{Node}
 use Rattle.gx_ids.specs.declared.ids.SessionId.{SessionId}
 use Rattle.gx_tree.specs.declared.stmt.Stmt.{Stmt}
+use Rattle.gx_dtx.specs.Nodes.{has}
+use Rattle.gx_dtx.specs.Orders.{message_of}
+use Rattle.gx_dtx.specs.Rules.{awaited_order}
+use Rattle.gx_dtx.specs.declared.order.Order.{Order}
+use Rattle.gx_dtx.specs.declared.order.Order.TheVariants as order
 use Rattle.gx_msg.specs.declared.message.Envelope.{Envelope}
 use Rattle.gx_msg.specs.declared.message.Message.{Message}
 use Rattle.gx_msg.specs.declared.message.Out.{Out}
@@ -28,13 +33,14 @@ use Rattle.gx_store.specs.Messages.{IsSending, Receives}
 use Rattle.gx_store.specs.Ordered.{IsAtNode, IsLink, IsSegment}
 use Rattle.gx_store.specs.Points.{ends_by, marks_in, starts_by}
 use Rattle.gx_store.specs.Refusals.{the_coordinator}
-use Rattle.gx_rules.specs.AtCoordinator.{awaited, coord_can, coord_rule, is_idle, is_in_block, is_left, is_nothing, next_line, on_event, resends, starts}
+use Rattle.gx_rules.specs.AtCoordinator.{awaited, command_order, coord_can, coord_rule, is_idle, is_in_block, is_left, is_nothing, next_line, on_event, order_to, resends, starts, status_order}
 use Rattle.gx_rules.specs.AtSegment as segment
 use Rattle.gx_rules.specs.AtSegment.{seg_rule}
-use Rattle.gx_rules.specs.Coordinators.{Coord, CoordTurn, rests, session_of}
+use Rattle.gx_rules.specs.Coordinators.{Command, Coord, CoordTurn, Work, rests, session_of}
 use Rattle.gx_rules.specs.Machine.{Letter, World, after, at_node, can, can_here, coord_did, delivered, does, found, happens, new_world, node_of, posted, seg_can, seg_did, world_of}
 use Rattle.gx_rules.specs.Segments.{Seg, SegTurn}
 use Rattle.gx_rules.specs.Sending.{clock_after, counted, numbered}
+use Rattle.gx_laws.proofs.AtCoordinators.{coord_stays}
 use Rattle.gx_laws.proofs.AtSegments.{PlainAt, SegStays, seg_stays}
 use Rattle.gx_laws.proofs.Letters.{IsFound, IsLetter, found_is, same_node}
 use Rattle.gx_laws.proofs.Lists.{Each, each_append, each_weaker}
@@ -44,6 +50,7 @@ use Rattle.gx_laws.proofs.Sent.{at}
 use Rattle.gx_laws.proofs.Sessions.{is_nothing_in}
 use Rattle.gx_laws.proofs.Stages.{gx}
 use Rattle.gx_laws.proofs.World.{Knows, marks-last, world_knows}
+use Rattle.gx_histories.specs.Orders.{AreLinesNumbered, AreOrders, AreOrdersOf}
 use Rattle.gx_histories.specs.Rest.{AreEventsLegal, AreRestLegal, EachMark, Rest}
 use Rattle.gx_histories.specs.Standing.{AreSessions, IsSession}
 use Rattle.gx_histories.proofs.After.{Silent, does-sessions, quiet-silent, sent-silent, silent-fresh, silent-sessions}
@@ -53,6 +60,7 @@ use Rattle.gx_histories.proofs.Ends.{Fresh, fresh-more}
 use Rattle.gx_histories.proofs.Frame.{Does, Effect, Quiet, Rests}
 use Rattle.gx_histories.proofs.Given.{Given, given-legal, marks-append, sent-given}
 use Rattle.gx_histories.proofs.Lines.{start-counts, start-does}
+use Rattle.gx_histories.proofs.Outs.{CommandIs, MessageIs, OutIs, command-more, order-more, outs-more}
 use Rattle.gx_histories.proofs.Notes.{SegNoted, local-more, noted-more, seg-notes}
 
 -- STEPS
@@ -174,6 +182,63 @@ coord-sent marks clock (m ∷ ms) = (tt, coord-sent marks clock ms)
 le-same : (a : ℕ) → a ≤ a
 le-same a = omega arith
 
+-- what the coordinator sent is an order
+abbrev IsOrderLetter : Script → List Mark → Letter → Type 0
+IsOrderLetter script marks l = l.from ≡ the_coordinator → MessageIs script marks l.to l.envelope.message
+
+away-sent : (script : Script) (marks : List Mark) (i clock : ℕ) → 1 ≤ i → (ms : List Mark) → Each (SentIs (IsOrderLetter script marks) (at i) clock) ms
+away-sent script marks i clock one [] = tt
+away-sent script marks i clock one (mark.Sent to number told ∷ ms) = (λ same. absurd (zero-one i one (ap (λ (n : Node). n.0) same)), away-sent script marks i clock one ms)
+  where
+    zero-one : (i : ℕ) → 1 ≤ i → i ≡ 0 → ⊥
+    zero-one i l e = omega arith
+away-sent script marks i clock one (m ∷ ms) = (tt, away-sent script marks i clock one ms)
+
+outs-sent : (script : Script) (marks : List Mark) (clock : ℕ) (outs : List Out) → Each (OutIs script marks) outs → Each (λ (o : Out). (number : ℕ) → IsOrderLetter script marks (record { from = the_coordinator; to = o.node; envelope = record { number = number; clock = clock; message = o.message } })) outs
+outs-sent script marks clock [] e = tt
+outs-sent script marks clock (o ∷ outs) e = (λ number same. e.0, outs-sent script marks clock outs e.1)
+
+-- what is sent again was sent for the command, or is for the status
+order-to-is : (script : Script) (marks : List Mark) (i : Node) (told : Message) (outs : List Out) → Each (OutIs script marks) outs → order_to i outs ≡ Some told → MessageIs script marks i told
+order-to-is script marks i told [] e h = absurd (cc)
+order-to-is script marks i told (o ∷ outs) e h = by_test (eqb o.node.0 i.0) refl h (λ q. order-to-is script marks i told outs e.1 q)
+  where
+    some-same : (a b : Message) → Some a ≡ Some b → a ≡ b
+    some-same a b q = cc
+
+    here : o.node ≡ i → o.message ≡ told → MessageIs script marks i told
+    here a b = subst (λ n. MessageIs script marks n told) a (subst (λ m. MessageIs script marks o.node m) b e.0)
+
+    by_test : (q : Bool) → eqb o.node.0 i.0 ≡ q → (if q then Some o.message else order_to i outs) ≡ Some told → (order_to i outs ≡ Some told → MessageIs script marks i told) → MessageIs script marks i told
+    by_test true q f r = here (same_node o.node i q) (some-same o.message told f)
+    by_test false q f r = r f
+
+status-order-is : (script : Script) (marks : List Mark) (i : Node) (g : Gxid) (told : Message) (order : Option Order) → status_order g order ≡ Some told → MessageIs script marks i told
+status-order-is script marks i g told None e = absurd (cc)
+status-order-is script marks i g told (Some o) e = subst (λ m. MessageIs script marks i m) (some-same (message_of o g) told e) (by_order o)
+  where
+    some-same : (a b : Message) → Some a ≡ Some b → a ≡ b
+    some-same a b q = cc
+
+    by_order : (o : Order) → MessageIs script marks i (message_of o g)
+    by_order order.Prepare n = tt
+    by_order order.Commit n = tt
+    by_order order.CommitPrepared n = tt
+    by_order order.Abort n = tt
+    by_order order.Forget n = tt
+
+command-order-is : (script : Script) (marks : List Mark) (i : Node) (g : Gxid) (told : Message) (o : Option Command) (order : Option Order) → CommandIs script marks o → command_order o i (status_order g order) ≡ Some told → MessageIs script marks i told
+command-order-is script marks i g told None order c e = status-order-is script marks i g told order e
+command-order-is script marks i g told (Some m) order c e = by_test (has i m.awaited) e
+  where
+    by_test : (q : Bool) → (if q then order_to i m.orders else status_order g order) ≡ Some told → MessageIs script marks i told
+    by_test true e = order-to-is script marks i told m.orders c e
+    by_test false e = status-order-is script marks i g told order e
+
+orders-all : (script : Script) (marks : List Mark) (ls : List Letter) → AreLinesNumbered [] script.lines → Each (IsOrderLetter script marks) ls → AreOrders script marks ls
+orders-all script marks [] n e = tt
+orders-all script marks (l ∷ ls) n e = (λ same. e.0 same n, orders-all script marks ls n e.1)
+
 -- WHAT HOLDS BETWEEN STEPS
 pub record Holds (script : Script) (w : World) : Type 0 where
   pub numbers : w.coord.table.next.0 ≡ start_count (marks_in w.steps) + 1
@@ -182,8 +247,10 @@ pub record Holds (script : Script) (w : World) : Type 0 where
   pub given : AreGiven script [] w.steps
   pub notes : (i : ℕ) → SegNoted (marks_in w.steps) (at i) (w.segs i)
   pub letters : Each (IsToldOf (marks_in w.steps)) w.sent
+  pub commands : (j : ℕ) → CommandIs script (marks_in w.steps) (w.coord.works j).command
+  pub orders : Each (IsOrderLetter script (marks_in w.steps)) w.sent
 
-module _ (script : Script) (w : World) (n : Knows script w) (h : Holds script w) (e : Event) (x : NodeEvent) (fails : Bool) where
+module _ (script : Script) (some : 1 ≤ script.segments) (w : World) (n : Knows script w) (h : Holds script w) (e : Event) (x : NodeEvent) (fails : Bool) where
   -- A STEP OF THE COORDINATOR
   abbrev turn : CoordTurn
   turn = on_event script w.coord x fails
@@ -230,6 +297,42 @@ module _ (script : Script) (w : World) (n : Knows script w) (h : Holds script w)
       each_weaker (IsToldOf (marks_in w.steps)) (IsToldOf (marks_in (w.steps ++ s ∷ [])))
       (λ l k one. subst (λ m. IsNoted m l.from l.envelope.message) (sym (marks-last w.steps s)) (noted-more (marks_in w.steps) s.marks l.from l.envelope.message (k one))) w.sent h.letters
 
+  commands-kept : (s : Step) (j : ℕ) → CommandIs script (marks_in (w.steps ++ s ∷ [])) (w.coord.works j).command
+  commands-kept s j = subst (λ m. CommandIs script m (w.coord.works j).command) (sym (marks-last w.steps s)) (command-more script (marks_in w.steps) s.marks (w.coord.works j).command (h.commands j))
+
+  orders-kept : (s : Step) → Each (IsOrderLetter script (marks_in (w.steps ++ s ∷ []))) w.sent
+  orders-kept s =
+      each_weaker (IsOrderLetter script (marks_in w.steps)) (IsOrderLetter script (marks_in (w.steps ++ s ∷ [])))
+      (λ l k same. subst (λ m. MessageIs script m l.to l.envelope.message) (sym (marks-last w.steps s)) (order-more script (marks_in w.steps) s.marks l.to l.envelope.message (k same))) w.sent h.orders
+
+  turn-marks : (marks_in w.steps ++ turn.marks) ++ sent ≡ marks_in (w.steps ++ step ∷ [])
+  turn-marks = append_assoc (marks_in w.steps) turn.marks sent ∙ sym (marks-last w.steps step)
+
+  coord-commands : Effect script w.steps w.coord e turn → (j : ℕ) → CommandIs script (marks_in (w.steps ++ step ∷ [])) (turn.coord.works j).command
+  coord-commands (inl d) j = by_test (eqb j d.g) refl
+    where
+      its : CommandIs script (marks_in (w.steps ++ step ∷ [])) (turn.coord.works d.g).command
+      its =
+          subst (λ m. CommandIs script m (turn.coord.works d.g).command) turn-marks
+          (command-more script (marks_in w.steps ++ turn.marks) sent (turn.coord.works d.g).command (d.orders (command-more script (marks_in w.steps) turn.marks (w.coord.works d.g).command (h.commands d.g))))
+
+      by_test : (b : Bool) → eqb j d.g ≡ b → CommandIs script (marks_in (w.steps ++ step ∷ [])) (turn.coord.works j).command
+      by_test true q = subst (λ i. CommandIs script (marks_in (w.steps ++ step ∷ [])) (turn.coord.works i).command) (sym (eqb-true j d.g q)) its
+      by_test false q = subst (λ (v : Work). CommandIs script (marks_in (w.steps ++ step ∷ [])) v.command) (sym (d.works j q)) (commands-kept step j)
+  coord-commands (inr d) j = subst (λ (v : Work). CommandIs script (marks_in (w.steps ++ step ∷ [])) v.command) (sym (d.works j)) (commands-kept step j)
+
+  coord-outs : Effect script w.steps w.coord e turn → Each (OutIs script (marks_in (w.steps ++ step ∷ []))) turn.outs
+  coord-outs (inl d) = subst (λ m. Each (OutIs script m) turn.outs) turn-marks (outs-more script (marks_in w.steps ++ turn.marks) sent turn.outs d.outs)
+  coord-outs (inr d) =
+      subst (λ m. Each (OutIs script m) turn.outs) turn-marks
+      (outs-more script (marks_in w.steps ++ turn.marks) sent turn.outs (d.outs (λ j. command-more script (marks_in w.steps) turn.marks (w.coord.works j).command (h.commands j))))
+
+  coord-orders : Effect script w.steps w.coord e turn → Each (SentIs (IsOrderLetter script (marks_in (w.steps ++ step ∷ []))) the_coordinator (clock_after w.coord.clock x)) step.marks
+  coord-orders d =
+      each_append (SentIs (IsOrderLetter script (marks_in (w.steps ++ step ∷ []))) the_coordinator (clock_after w.coord.clock x)) turn.marks sent
+      (plain-sent (IsOrderLetter script (marks_in (w.steps ++ step ∷ []))) script the_coordinator (clock_after w.coord.clock x) turn.marks (coord_stays script some w.coord x fails n.well.coordinator).marks)
+      (numbered-sent (IsOrderLetter script (marks_in (w.steps ++ step ∷ []))) the_coordinator (clock_after w.coord.clock x) turn.coord.sent turn.outs (outs-sent script (marks_in (w.steps ++ step ∷ [])) (clock_after w.coord.clock x) turn.outs (coord-outs d)))
+
   pub coord-holds : Effect script w.steps w.coord e turn → LegalEvent script w.steps e → Holds script (coord_did w e (coord_rule script w.coord x fails))
   coord-holds d legal =
       record {
@@ -239,6 +342,8 @@ module _ (script : Script) (w : World) (n : Knows script w) (h : Holds script w)
         given = given-last script [] w.steps step h.given (legal, coord-given d);
         notes = notes-kept step;
         letters = each-posted (IsToldOf (marks_in (w.steps ++ step ∷ []))) the_coordinator (clock_after w.coord.clock x) step.marks w.sent (coord-sent (marks_in (w.steps ++ step ∷ [])) (clock_after w.coord.clock x) step.marks) (letters-kept step);
+        commands = coord-commands d;
+        orders = each-posted (IsOrderLetter script (marks_in (w.steps ++ step ∷ []))) the_coordinator (clock_after w.coord.clock x) step.marks w.sent (coord-orders d) (orders-kept step);
       }
 
   -- A STEP OF A SEGMENT
@@ -251,6 +356,8 @@ module _ (script : Script) (w : World) (n : Knows script w) (h : Holds script w)
         given = given-last script [] w.steps late h.given (subst (LegalEvent script w.steps) (sym is) tt, subst (λ a. EachMark (Given script) w.steps a [] late.marks []) (sym is) (silent-given script w.steps from to number [] late.marks [] silent));
         notes = at-both (λ j (t : Seg). SegNoted (marks_in (w.steps ++ late ∷ [])) (at j) t) w.segs i _ (λ j. own-notes j) (λ j no. notes-kept late j);
         letters = each-posted (IsToldOf (marks_in (w.steps ++ late ∷ []))) (at i) (clock_after (w.segs i).clock x) late.marks w.sent told (letters-kept late);
+        commands = commands-kept late;
+        orders = each-posted (IsOrderLetter script (marks_in (w.steps ++ late ∷ []))) (at i) (clock_after (w.segs i).clock x) late.marks w.sent (away-sent script (marks_in (w.steps ++ late ∷ [])) i (clock_after (w.segs i).clock x) place.0 late.marks) (orders-kept late);
       }
     where
       did : SegTurn
@@ -359,13 +466,17 @@ module _ (script : Script) (some : 1 ≤ script.segments) where
         let z = ends-ok s ok in
         (inl (end-does script w.steps w.coord s (h.sessions s) z.0 z.1 z.2 (session_of w.coord s).state.block refl), legal-end script w.steps w.coord s (h.sessions s) z.0 z.1 z.2)
 
-    again : (i : Node) (g : Option Gxid) (m : Option Message) → Rests w.coord (event.Resend i g) (resends w.coord i m)
-    again i g None = record { sessions = λ j. refl; works = λ j. refl; next = refl; quiet = tt; alone = λ j. (refl, refl) }
-    again i g (Some m) = record { sessions = λ j. refl; works = λ j. refl; next = refl; quiet = tt; alone = λ j. (refl, refl) }
+    again : (i : Node) (g : Gxid) (m : Option Message) → awaited w.coord g i ≡ m → Rests script w.steps w.coord (event.Resend i (Some g)) (resends w.coord i m)
+    again i g None e = record { sessions = λ j. refl; works = λ j. refl; next = refl; quiet = tt; alone = λ j. (refl, refl); outs = λ o. tt }
+    again i g (Some m) e =
+        record {
+          sessions = λ j. refl; works = λ j. refl; next = refl; quiet = tt; alone = λ j. (refl, refl);
+          outs = λ o. (command-order-is script (marks_in w.steps ++ []) i g m (w.coord.works g.0).command (awaited_order w.coord.table g i) (o g.0) e, tt);
+        }
 
     resend-effect : (i : Node) (g : Option Gxid) (fails : Bool) → Effect script w.steps w.coord (event.Resend i g) (on_event script w.coord (here.Resend i g) fails)
-    resend-effect i None fails = inr (record { sessions = λ j. refl; works = λ j. refl; next = refl; quiet = tt; alone = λ j. (refl, refl) })
-    resend-effect i (Some g) fails = inr (again i (Some g) (awaited w.coord g i))
+    resend-effect i None fails = inr (record { sessions = λ j. refl; works = λ j. refl; next = refl; quiet = tt; alone = λ j. (refl, refl); outs = λ o. tt })
+    resend-effect i (Some g) fails = inr (again i g (awaited w.coord g i) refl)
 
     received : (from to : Node) (number : ℕ) (envelope : Envelope) (fails : Bool) → found from to number w.sent ≡ Some envelope → can_here script w to (Some (here.Deliver from envelope)) ≡ true → Holds script (does script w (event.Receive from to number) to fails (Some (here.Deliver from envelope)))
     received from to number envelope fails f ok = by_test (is_same_node to the_coordinator) refl ok
@@ -387,8 +498,8 @@ module _ (script : Script) (some : 1 ≤ script.segments) where
             not-here n same away = grind (arith, nat_tests)
 
         by_test : (b : Bool) → is_same_node to the_coordinator ≡ b → (if b then coord_can script w.coord (here.Deliver from envelope) else seg_can (here.Deliver from envelope)) ≡ true → Holds script (if b then coord_did w (event.Receive from to number) (coord_rule script w.coord (here.Deliver from envelope) fails) else seg_did w to (event.Receive from to number) (seg_rule script (w.segs to.0) (here.Deliver from envelope) fails))
-        by_test true is ok = coord-holds script w n h (event.Receive from to number) (here.Deliver from envelope) fails (heard from to number envelope fails (same_node to the_coordinator is) f ok) tt
-        by_test false is ok = seg-holds script w n h (event.Receive from to number) (here.Deliver from envelope) fails from to number to.0 refl (place is d.is.link)
+        by_test true is ok = coord-holds script some w n h (event.Receive from to number) (here.Deliver from envelope) fails (heard from to number envelope fails (same_node to the_coordinator is) f ok) tt
+        by_test false is ok = seg-holds script some w n h (event.Receive from to number) (here.Deliver from envelope) fails from to number to.0 refl (place is d.is.link)
 
     arrives : (from to : Node) (number : ℕ) (fails : Bool) (o : Option Envelope) → found from to number w.sent ≡ o → can_here script w to (delivered from o) ≡ true → Holds script (does script w (event.Receive from to number) to fails (delivered from o))
     arrives from to number fails None f ok = h
@@ -400,10 +511,10 @@ module _ (script : Script) (some : 1 ≤ script.segments) where
     event-holds : (e : Event) (fails : Bool) → can script w e ≡ true → Holds script (does script w e (node_of e) fails (at_node w e))
     event-holds (event.Receive from to number) fails ok = arrives from to number fails (found from to number w.sent) refl ok
     event-holds (event.Resume m g) fails ok = absurd (same_not (can script w (event.Resume m g)) ok (never_resumes script some w m (here.Resume g) refl refl))
-    event-holds (event.Start s) fails ok = let z = start-effect s fails ok in coord-holds script w n h (event.Start s) (here.Start s) fails z.0 z.1
-    event-holds (event.End s) fails ok = let z = end-effect s fails ok in coord-holds script w n h (event.End s) (here.End s) fails z.0 z.1
-    event-holds (event.Resend i g) fails ok = coord-holds script w n h (event.Resend i g) (here.Resend i g) fails (resend-effect i g fails) tt
-    event-holds event.Round fails ok = coord-holds script w n h event.Round here.Round fails (inr (record { sessions = λ j. refl; works = λ j. refl; next = refl; quiet = tt; alone = λ j. (refl, refl) })) tt
+    event-holds (event.Start s) fails ok = let z = start-effect s fails ok in coord-holds script some w n h (event.Start s) (here.Start s) fails z.0 z.1
+    event-holds (event.End s) fails ok = let z = end-effect s fails ok in coord-holds script some w n h (event.End s) (here.End s) fails z.0 z.1
+    event-holds (event.Resend i g) fails ok = coord-holds script some w n h (event.Resend i g) (here.Resend i g) fails (resend-effect i g fails) tt
+    event-holds event.Round fails ok = coord-holds script some w n h event.Round here.Round fails (inr (record { sessions = λ j. refl; works = λ j. refl; next = refl; quiet = tt; alone = λ j. (refl, refl); outs = λ o. tt })) tt
 
     pub happens-holds : (e : Event) (fails : Bool) → Holds script (happens script w e fails)
     happens-holds e fails = by_can (can script w e) refl
@@ -427,11 +538,13 @@ module _ (script : Script) (some : 1 ≤ script.segments) where
   new-holds =
       record {
         numbers = refl;
-        fresh = record { unended = λ h l. refl; unread = λ h l. refl };
+        fresh = record { unended = λ h l. refl; unread = λ h l. refl; unstarted = λ h l. refl };
         sessions = λ k. record { starts = refl; stands = inl (refl, record { commands = 0; answered = refl; state = refl; begun = refl; sound = refl; owns = λ h. absurd (cc) }) };
         given = tt;
         notes = λ i j. record { answer = tt; vote = tt };
         letters = tt;
+        commands = λ j. tt;
+        orders = tt;
       }
 
   pub world-holds : (es : List (Event × Bool)) → Holds script (world_of script es)
@@ -445,3 +558,6 @@ module _ (script : Script) (some : 1 ≤ script.segments) where
 
   pub legal-with-rest : (es : List (Event × Bool)) → AreRestLegal script [] (world_of script es).steps → AreLegalSteps script [] (world_of script es).steps
   legal-with-rest es r = given-steps script [] (world_of script es).steps (world-holds es).given r
+
+  pub orders-are : (es : List (Event × Bool)) → AreLinesNumbered [] script.lines → AreOrdersOf script (world_of script es)
+  orders-are es n = orders-all script (marks_in (world_of script es).steps) (world_of script es).sent n (world-holds es).orders

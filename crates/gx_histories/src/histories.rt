@@ -1,1 +1,37 @@
-//! x
+//! Laws of every run, whatever the network loses, repeats, delays and reorders, and whichever appends fail.
+ghost use Rattle.std.specs.Prelude.{◌≤◌, Bool, List, []};
+ghost use Rattle.gx_histories.specs.Orders.{AreLinesNumbered, AreOrdersOf};
+ghost use Rattle.gx_histories.specs.Rest.{AreEventsLegal, AreRestLegal};
+ghost use Rattle.gx_histories.specs.Standing.{AreSessions};
+ghost use Rattle.gx_laws.specs.Runs.{steps_after};
+ghost use Rattle.gx_rules.specs.Machine.{run_of, world_of};
+ghost use Rattle.gx_script.specs.declared.Script.{Script};
+ghost use Rattle.gx_store.specs.Runs.{IsLegalHistory};
+ghost use Rattle.gx_store.specs.declared.event.Event.{Event as OneEvent};
+
+/// The marks tell where each session stands at the coordinator: how many of its lines were started and answered, its block,
+/// its transaction, and its line under way.
+pub fn sessions_stand()
+    ensures { (script : Script) (events : List (OneEvent × Bool)) → 1 ≤ script.segments → AreSessions script (world_of script events) }
+{}
+
+/// A session's line starts once the line before is answered, and the session is ended once no line is left.
+pub fn events_are_legal()
+    ensures { (script : Script) (events : List (OneEvent × Bool)) → 1 ≤ script.segments → AreEventsLegal script [] (steps_after script events) }
+{}
+
+/// A run is a legal history if what segments do of rows, what they refuse, and what the answers of commands that succeeded
+/// say are so.
+pub fn history_is_legal_with_the_rest()
+    ensures {
+        (script : Script) (events : List (OneEvent × Bool)) → 1 ≤ script.segments → AreRestLegal script [] (steps_after script events) → IsLegalHistory script (run_of (world_of script events))
+    }
+{}
+
+/// Each EXEC that was ever sent is of a statement of its transaction's session: the one that the command's number says. It
+/// has the transaction's level, the node's piece of the statement's plan, and a snapshot that was taken for the command.
+pub fn orders_are_of_their_lines()
+    ensures {
+        (script : Script) (events : List (OneEvent × Bool)) → 1 ≤ script.segments → AreLinesNumbered [] script.lines → AreOrdersOf script (world_of script events)
+    }
+{}
