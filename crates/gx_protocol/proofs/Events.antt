@@ -68,7 +68,7 @@ moved-stands script P c ms s x st = record { pairs = st.pairs; works = st.works;
 pub moved-led : (script : Script) (P : ℕ → ℕ → Part) (c : Coord) (ms : List Mark) (s : SessionId) (x : Session) (turn : CoordTurn) → Led script P (with_session c s x) ms turn → Led script P c ms turn
 moved-led script P c ms s x turn f = record { way = record { stands = f.way.stands; stays = f.way.stays; fol = f.way.fol }; outs = f.outs }
 
-live-stage : (c : Coord) (g : ℕ) → stage_of c g ≡ LiveStage → IsLive c g
+pub live-stage : (c : Coord) (g : ℕ) → stage_of c g ≡ LiveStage → IsLive c g
 live-stage c g e = by_found (find_txn c.table (gx g)) refl e
   where
     active : (p : Status) → stage_in p ≡ LiveStage → p ≡ status.Active
@@ -78,7 +78,7 @@ live-stage c g e = by_found (find_txn c.table (gx g)) refl e
     by_found None f e = absurd (cc)
     by_found (Some t) f e = record { txn = t; found = f; active = active t.phase e }
 
-both_of : (a b : Bool) → (a && b) ≡ true → (a ≡ true) × (b ≡ true)
+pub both_of : (a b : Bool) → (a && b) ≡ true → (a ≡ true) × (b ≡ true)
 both_of true b e = (refl, e)
 both_of false b e = grind arith
 
@@ -261,7 +261,7 @@ module _ (script : Script) (P : ℕ → ℕ → Part) (c : Coord) (ms : List Mar
     own-live : is_open_in block ≡ true → IsLive c (session_of c s).transaction.0
     own-live opened = live-stage c (session_of c s).transaction.0 ((k.placed s.0).free opened idle)
 
-    own-idle : is_open_in block ≡ true → IsIdle c (session_of c s).transaction.0
+    pub own-idle : is_open_in block ≡ true → IsIdle c (session_of c s).transaction.0
     own-idle opened i = by_command (c.works (session_of c s).transaction.0).command refl
       where
         not-work : (q : Pending) → is_nothing_in q ≡ true → is_working_in q ≡ true → ⊥
@@ -354,7 +354,7 @@ module _ (script : Script) (P : ℕ → ℕ → Part) (c : Coord) (ms : List Mar
         by_block Failed e = quiet-led (rests (with_state c s idle_outside)) s (record (session_of c s) { state = idle_outside }) refl tt
         by_block Outside e = rest
 
-  idle-first : (s : SessionId) (b : Bool) → (is_idle (session_of c s) && b) ≡ true → is_nothing_in (session_of c s).state.pending ≡ true
+  pub idle-first : (s : SessionId) (b : Bool) → (is_idle (session_of c s) && b) ≡ true → is_nothing_in (session_of c s).state.pending ≡ true
   idle-first s b e = by_pending (session_of c s).state.pending (both_of _ _ e).0
     where
       by_pending : (q : Pending) → is_nothing q ≡ true → is_nothing_in q ≡ true

@@ -12,3 +12,5 @@ pub mod Events
 pub mod Following
 pub mod Everywhere
 pub mod Always
+pub mod Answering
+pub mod Completing
