@@ -1,20 +1,16 @@
 -- Every run of the machine keeps what holds.
-use Rattle.std.proofs.Common.{◌≡◌, ◌≤◌, ◌<◌, ◌⊎◌, inl, inr, ℕ, ◌+◌, List, [], ◌∷◌, ◌++◌, Option, Some, None, Bool, true, false, refl, sym, subst, ap, ◌∙◌, if◌then◌else◌, arith, eqb}
+use Rattle.std.proofs.Common.{◌≡◌, ◌≤◌, inl, inr, ℕ, List, [], ◌∷◌, Option, Some, None, Bool, true, false, refl, sym, subst, ap, ◌∙◌, if◌then◌else◌, arith}
 use Rattle.std.proofs.lemmas.Bool.Decides.{nat_tests}
 use Rattle.std.specs.Prelude.{nat_le}
 use Rattle.gx_ids.specs.declared.ids.Node.{Node}
 use Rattle.gx_msg.specs.declared.message.Envelope.{Envelope}
-use Rattle.gx_msg.specs.declared.message.Message.{Message}
-use Rattle.gx_msg.specs.declared.reply.Reply.TheVariants as reply
 use Rattle.gx_script.specs.declared.Script.{Script}
 use Rattle.gx_store.specs.declared.event.Event.{Event}
 use Rattle.gx_store.specs.declared.event.Event.TheVariants as event
-use Rattle.gx_store.specs.declared.mark.Mark.{Mark}
 use Rattle.gx_store.specs.declared.node.NodeEvent.{NodeEvent}
 use Rattle.gx_store.specs.declared.node.NodeEvent.TheVariants as here
-use Rattle.gx_store.specs.declared.run.Step.{Step}
 use Rattle.gx_store.specs.Journals.{is_same_node}
-use Rattle.gx_store.specs.Messages.{IsSending, IsSent, Receives}
+use Rattle.gx_store.specs.Messages.{IsSending, IsSent}
 use Rattle.gx_store.specs.Ordered.{IsLink, IsSegment}
 use Rattle.gx_store.specs.Points.{marks_in}
 use Rattle.gx_store.specs.Refusals.{the_coordinator}
@@ -23,24 +19,23 @@ use Rattle.gx_rules.specs.AtSegment.{seg_rule}
 use Rattle.gx_rules.specs.Machine.{Letter, World, after, at_node, can, can_here, coord_did, delivered, does, found, happens, new_world, node_of, seg_can, seg_did, world_of}
 use Rattle.gx_laws.proofs.Letters.{IsFound, IsLetter, found_is}
 use Rattle.gx_laws.proofs.Lists.{Each}
-use Rattle.gx_laws.proofs.Ordered.{Well, never_resumes}
+use Rattle.gx_laws.proofs.Ordered.{never_resumes}
 use Rattle.gx_laws.proofs.World.{Knows, happens_knows, new_knows}
-use Rattle.gx_protocol.specs.Followed.{DoStepsEnd}
 use Rattle.gx_protocol.specs.Pairs.{Pair}
-use Rattle.gx_protocol.specs.Said.{AreMeant, Said, SaidAt, SaidIn, gxid_in, is_answer, segment_of}
-use Rattle.gx_protocol.specs.Standings.{Known, Part, Standing, at, gx, known_at, standing}
+use Rattle.gx_protocol.specs.Said.{AreMeant, Said, SaidAt, SaidIn, gxid_in, is_answer}
+use Rattle.gx_protocol.specs.Standings.{known_at}
 use Rattle.gx_protocol.specs.Standings.Standing.{Unborn, Over}
 use Rattle.gx_protocol.proofs.Everywhere.{Holds, coord-holds, parts_in, seg-holds}
 
-abbrev IsPosted : Script → World → Letter → Type 0
+abbrev pub IsPosted : Script → World → Letter → Type 0
 IsPosted script w l = IsLetter script w.steps l × SaidIn w l
 
-each-zip : {A : Type 0} (P Q : A → Type 0) (xs : List A) → Each P xs → Each Q xs → Each (λ x. P x × Q x) xs
+pub each-zip : {A : Type 0} (P Q : A → Type 0) (xs : List A) → Each P xs → Each Q xs → Each (λ x. P x × Q x) xs
 each-zip P Q [] e f = tt
 each-zip P Q (x ∷ xs) e f = ((e.0, f.0), each-zip P Q xs e.1 f.1)
 
 -- a letter's message, by who sends it
-answer-of : (w : World) (l : Letter) (b : Bool) → is_answer l.envelope.message ≡ b → SaidIn w l → SaidAt w.coord w.segs (marks_in w.steps) (if b then l.from.0 else l.to.0) l.envelope.message
+pub answer-of : (w : World) (l : Letter) (b : Bool) → is_answer l.envelope.message ≡ b → SaidIn w l → SaidAt w.coord w.segs (marks_in w.steps) (if b then l.from.0 else l.to.0) l.envelope.message
 answer-of w l b e s = subst (λ q. SaidAt w.coord w.segs (marks_in w.steps) (if q then l.from.0 else l.to.0) l.envelope.message) e s
 
 module _ (script : Script) (some : 1 ≤ script.segments) where
@@ -120,19 +115,49 @@ module _ (script : Script) (some : 1 ≤ script.segments) where
       by_test : (b : Bool) → Pair (record { at = (if b then Unborn else Over); writes = false; waits = false; last = 0; decided = 0; aborted = false; committed = false }) (parts_in new_world i g)
       by_test true =
           record {
-            promised = refl; committed = refl; written = λ x. refl; unpromised = λ x. refl; prepared = λ x. absurd (cc); kept = tt; vote = refl;
-            aborts = λ x. absurd (cc); ends = λ x. absurd (cc); either = λ x. refl; undecided = λ x. refl; decided = λ x. absurd (cc);
+            promised = refl;
+            committed = refl;
+            written = λ x. refl;
+            unpromised = λ x. refl;
+            prepared = λ x. absurd (cc);
+            kept = tt;
+            vote = refl;
+            aborts = λ x. absurd (cc);
+            ends = λ x. absurd (cc);
+            either = λ x. refl;
+            undecided = λ x. refl;
+            decided = λ x. absurd (cc);
             unborn = λ x. (refl, refl, refl, refl, refl);
-            live = λ x. absurd (cc); learns = λ x y. absurd (cc); learned = λ x y. refl; closing = λ x. refl;
-            asked = λ b x. absurd (cc); alone = λ b x. absurd (cc); both = λ b x. absurd (cc);
+            live = λ x. absurd (cc);
+            learns = λ x y. absurd (cc);
+            learned = λ x y. refl;
+            closing = λ x. refl;
+            asked = λ b x. absurd (cc);
+            alone = λ b x. absurd (cc);
+            both = λ b x. absurd (cc);
           }
       by_test false =
           record {
-            promised = refl; committed = refl; written = λ x. refl; unpromised = λ x. refl; prepared = λ x. absurd (cc); kept = tt; vote = refl;
-            aborts = λ x. refl; ends = λ x. refl; either = λ x. refl; undecided = λ x. refl; decided = λ x. absurd (cc);
+            promised = refl;
+            committed = refl;
+            written = λ x. refl;
+            unpromised = λ x. refl;
+            prepared = λ x. absurd (cc);
+            kept = tt;
+            vote = refl;
+            aborts = λ x. refl;
+            ends = λ x. refl;
+            either = λ x. refl;
+            undecided = λ x. refl;
+            decided = λ x. absurd (cc);
             unborn = λ x. absurd (cc);
-            live = λ x. absurd (cc); learns = λ x y. absurd (cc); learned = λ x y. refl; closing = λ x. refl;
-            asked = λ b x. absurd (cc); alone = λ b x. absurd (cc); both = λ b x. absurd (cc);
+            live = λ x. absurd (cc);
+            learns = λ x y. absurd (cc);
+            learned = λ x y. refl;
+            closing = λ x. refl;
+            asked = λ b x. absurd (cc);
+            alone = λ b x. absurd (cc);
+            both = λ b x. absurd (cc);
           }
 
   pub new-holds : Holds script new_world

@@ -1,28 +1,12 @@
 -- What stands when a session's line is answered: every command that was sent out for it has come back.
-use Rattle.std.proofs.Common.{◌≡◌, ◌≤◌, ◌<◌, ◌⊎◌, inl, inr, ℕ, ◌+◌, List, [], ◌∷◌, ◌++◌, Option, Some, None, Result, Ok, Err, Bool, true, false, refl, sym, subst, ap, ◌∙◌, if◌then◌else◌, ◌||◌, ◌==◌, ◌&&◌, arith, eqb, append-nil}
+use Rattle.std.proofs.Common.{◌≡◌, ◌⊎◌, inl, inr, ℕ, List, [], ◌∷◌, ◌++◌, Some, None, Bool, true, false, refl, sym, subst, ap, ◌∙◌, if◌then◌else◌, ◌||◌, eqb, append-nil}
 use Rattle.std.proofs.lemmas.Bool.{eqb-true}
-use Rattle.std.proofs.lemmas.Bool.Decides.{nat_tests}
 use Rattle.std.proofs.lemmas.List.{append_assoc}
-use Rattle.gx_ids.specs.declared.ids.Cid.{Cid}
-use Rattle.gx_ids.specs.declared.ids.Gxid.{Gxid}
-use Rattle.gx_ids.specs.declared.ids.Node.{Node}
 use Rattle.gx_ids.specs.declared.ids.SessionId.{SessionId}
-use Rattle.gx_tree.specs.declared.part.Part.{Part as QueryPart}
-use Rattle.gx_tree.specs.declared.stmt.Level.{Level}
-use Rattle.gx_tree.specs.declared.stmt.Level.TheVariants.{ReadCommitted, RepeatableRead}
 use Rattle.gx_tree.specs.declared.stmt.Stmt.{Stmt}
-use Rattle.gx_tree.specs.declared.stmt.Stmt.TheVariants as stmt
-use Rattle.gx_dsnap.specs.declared.snapshot.Snapshot.{Snapshot}
-use Rattle.gx_dtx.specs.Nodes.{has, without}
-use Rattle.gx_dtx.specs.Rules.{Turn, on_abort, on_commit, on_reply}
+use Rattle.gx_dtx.specs.Rules.{Turn}
 use Rattle.gx_dtx.specs.Table.{find_txn}
-use Rattle.gx_dtx.specs.declared.outcome.Outcome.{Outcome}
-use Rattle.gx_dtx.specs.declared.outcome.Outcome.TheVariants as outcome
-use Rattle.gx_dtx.specs.declared.txn.Txn.{Txn}
-use Rattle.gx_eval.specs.declared.fault.ArithFault.{ArithFault}
 use Rattle.gx_msg.specs.declared.message.Out.{Out}
-use Rattle.gx_msg.specs.declared.message.Message.{Message}
-use Rattle.gx_plan.specs.declared.piece.Piece.{Piece}
 use Rattle.gx_script.specs.declared.Script.{Script}
 use Rattle.gx_session.specs.declared.state.SessionState.{SessionState}
 use Rattle.gx_store.specs.declared.answer.Refused.{Refused}
@@ -32,13 +16,13 @@ use Rattle.gx_store.specs.declared.mark.Mark.{Mark}
 use Rattle.gx_store.specs.declared.mark.Mark.TheVariants as mark
 use Rattle.gx_store.specs.Lines.{BlockState, is_command}
 use Rattle.gx_store.specs.Marks.{is_aborted, started_after}
-use Rattle.gx_rules.specs.AtCoordinator.{Reading, answer_at_commit, answer_mark, answer_of_command, answers, commits, failure_marks, fault_mark, follows, goes, goes_out, is_committed as is_closed, is_refused, next_line, reads_by, reads_for, refusal_of, rolls_back, takes_snapshot}
-use Rattle.gx_rules.specs.Coordinators.{Command, Coord, CoordTurn, Session, Work, no_work, rests, session_of, with_work, work_of}
+use Rattle.gx_rules.specs.AtCoordinator.{answer_at_commit, answer_mark, answer_of_command, answers, is_committed as is_closed, is_refused, next_line, rolls_back}
+use Rattle.gx_rules.specs.Coordinators.{Coord, CoordTurn, Session, Work, no_work, session_of, work_of}
 use Rattle.gx_rules.specs.Maps.{with_at}
 use Rattle.gx_laws.proofs.Lists.{Each, each_append}
 use Rattle.gx_laws.proofs.Numbers.{NoStart}
 use Rattle.gx_laws.proofs.Past.{aborted-append}
-use Rattle.gx_protocol.specs.Standings.{at, gx, waits_in}
+use Rattle.gx_protocol.specs.Standings.{gx, waits_in}
 use Rattle.gx_protocol.proofs.Calls.{or-left, or-right, self}
 
 -- a mark that answers no line
@@ -101,7 +85,7 @@ module _ (script : Script) (c : Coord) (ms : List Mark) (Gets : ℕ → ℕ → 
   same-go ns h i e = inl (e, refl)
 
   -- all works but one are as before
-  one-go : (works : ℕ → Work) (ns : List Mark) (g : ℕ) → ((h : ℕ) → eqb h g ≡ false → works h ≡ c.works h) → ((i : ℕ) → waits_in (c.works g).command i ≡ true → ((waits_in (works g).command i ≡ true) × ((works g).last ≡ (c.works g).last)) ⊎ (is_aborted ns (gx g) ≡ true) ⊎ Gets i g (c.works g).last) → WorksGo works ns
+  pub one-go : (works : ℕ → Work) (ns : List Mark) (g : ℕ) → ((h : ℕ) → eqb h g ≡ false → works h ≡ c.works h) → ((i : ℕ) → waits_in (c.works g).command i ≡ true → ((waits_in (works g).command i ≡ true) × ((works g).last ≡ (c.works g).last)) ⊎ (is_aborted ns (gx g) ≡ true) ⊎ Gets i g (c.works g).last) → WorksGo works ns
   one-go works ns g others here h i e = by_test (eqb h g) refl
     where
       by_test : (b : Bool) → eqb h g ≡ b → ((waits_in (works h).command i ≡ true) × ((works h).last ≡ (c.works h).last)) ⊎ (is_aborted ns (gx h) ≡ true) ⊎ Gets i h (c.works h).last

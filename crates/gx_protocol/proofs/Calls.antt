@@ -5,41 +5,38 @@ use Rattle.std.proofs.lemmas.Bool.Decides.{nat_tests}
 use Rattle.std.specs.Prelude.{nat_le}
 use Rattle.gx_ids.specs.declared.ids.Gxid.{Gxid}
 use Rattle.gx_ids.specs.declared.ids.Node.{Node}
-use Rattle.gx_dtx.specs.Nodes.{has, to_each, without}
+use Rattle.gx_dtx.specs.Nodes.{has, to_each}
 use Rattle.gx_dtx.specs.Rules.{Turn, aborts, changed, commit_found, commits as commit_change, ends_committed, on_abort, on_commit, refuses, turns}
 use Rattle.gx_dtx.specs.Table.{Table, find_txn}
 use Rattle.gx_dtx.specs.declared.change.Change.{Change}
 use Rattle.gx_dtx.specs.declared.outcome.Outcome.TheVariants as outcome
-use Rattle.gx_dtx.specs.declared.phase.Phase.{Phase as Status}
 use Rattle.gx_dtx.specs.declared.phase.Phase.TheVariants as status
 use Rattle.gx_dtx.specs.declared.txn.Txn.{Txn}
 use Rattle.gx_msg.specs.declared.message.Message.{Message}
 use Rattle.gx_msg.specs.declared.message.Message.TheVariants as message
 use Rattle.gx_msg.specs.declared.message.Out.{Out}
 use Rattle.gx_msg.specs.declared.reply.Reply.{Reply}
-use Rattle.gx_msg.specs.declared.reply.Reply.TheVariants as reply
 use Rattle.gx_script.specs.declared.Script.{Script}
-use Rattle.gx_store.specs.declared.answer.Refused.{Refused}
 use Rattle.gx_store.specs.declared.mark.Mark.{Mark}
 use Rattle.gx_store.specs.declared.mark.Mark.TheVariants as mark
 use Rattle.gx_store.specs.Marks.{is_aborted, is_committed}
 use Rattle.gx_store.specs.Protocol.{CommitsBy, decided_count, is_writer, local_count, prepared_count, writers_of}
 use Rattle.gx_rules.specs.AtCoordinator.{answer_at_commit, answer_mark, commits, follows, is_committed as is_closed}
 use Rattle.gx_rules.specs.AtSegment.{was_prepared}
-use Rattle.gx_rules.specs.Coordinators.{Command, Coord, CoordTurn, Work, no_work, session_of, work_of}
+use Rattle.gx_rules.specs.Coordinators.{Coord, CoordTurn, Work, no_work, session_of, work_of}
 use Rattle.gx_rules.specs.Segments.{Phase, has_committed}
 use Rattle.gx_laws.proofs.Lists.{Each, each_map, each_weaker}
 use Rattle.gx_laws.proofs.Past.{aborted-append, committed-append, there-drawn}
 use Rattle.gx_laws.proofs.Stages.{IsWhole, changed-at, left_of}
-use Rattle.gx_protocol.specs.Pairs.{IsVote, Pair, bit, is_open}
-use Rattle.gx_protocol.specs.Said.{Answers, Said, gxid_in, is_answer}
+use Rattle.gx_protocol.specs.Pairs.{IsVote, Pair, bit}
+use Rattle.gx_protocol.specs.Said.{Said, gxid_in, is_answer}
 use Rattle.gx_protocol.specs.Standings.{Known, Part, Standing, at, gx, is_closing, known_at, known_of, standing, waits_in}
 use Rattle.gx_protocol.specs.Standings.Standing.{Unborn, Live, Preparing, One, Two, Over}
-use Rattle.gx_protocol.proofs.Commits.{AtMostOne, few, filter-few}
+use Rattle.gx_protocol.proofs.Commits.{few, filter-few}
 use Rattle.gx_protocol.proofs.Counts.{NoEnd, NoPart, decided-append, local-append, no-aborted, no-committed, no-decided, no-local}
 use Rattle.gx_protocol.proofs.Nodes.{each-has}
 use Rattle.gx_protocol.proofs.Shifts.{Shift, alone-shift, ask-shift, over-shift}
-use Rattle.gx_protocol.proofs.Ways.{Agrees, Fol, FolAt, IsMany, Led, One as OneChange, SaidOut, Stands, Way, Working, at-one, becomes, fol-append, known-here}
+use Rattle.gx_protocol.proofs.Ways.{Agrees, AsksFor, Fol, FolAt, IsMany, Led, One as OneChange, SaidOut, Stands, Working, at-one, becomes, fol-append, known-here}
 
 pub self : (a : ℕ) → eqb a a ≡ true
 self a = grind (arith, nat_tests)
@@ -190,13 +187,13 @@ module _ (script : Script) (P : ℕ → ℕ → Part) (c : Coord) (ms : List Mar
         by_test false e = refl
 
     -- WITHOUT A MARK
-    pub calm-led : (ch : Change) → ((i : ℕ) → Shift (known i) (known_of (standing (nat_le c.table.next.0 g) (left_of ch.step (Some t)) i) (c.works g) i (decided_count ms (gx g)) (is_aborted ms (gx g)) (is_committed ms (gx g))) (P i g)) → Agrees ms g (left_of ch.step (Some t)) (c.works g).writers → Each (λ (o : Out). (is_answer o.message ≡ false) × (gxid_in o.message ≡ g) × Said (known_of (standing (nat_le c.table.next.0 g) (left_of ch.step (Some t)) o.node.0) (c.works g) o.node.0 (decided_count ms (gx g)) (is_aborted ms (gx g)) (is_committed ms (gx g))) (P o.node.0 g) o.message) ch.out.outs → Led script P c ms (record { coord = record c { table = changed c.table (gx g) ch }; marks = []; outs = ch.out.outs; item = None })
+    pub calm-led : (ch : Change) → ((i : ℕ) → Shift (known i) (known_of (standing (nat_le c.table.next.0 g) (left_of ch.step (Some t)) i) (c.works g) i (decided_count ms (gx g)) (is_aborted ms (gx g)) (is_committed ms (gx g))) (P i g)) → Agrees ms g (left_of ch.step (Some t)) (c.works g).writers → Each (λ (o : Out). (is_answer o.message ≡ false) × (gxid_in o.message ≡ g) × Said (known_of (standing (nat_le c.table.next.0 g) (left_of ch.step (Some t)) o.node.0) (c.works g) o.node.0 (decided_count ms (gx g)) (is_aborted ms (gx g)) (is_committed ms (gx g))) (P o.node.0 g) o.message × ((d : Coord) → AsksFor d o.node.0 o.message)) ch.out.outs → Led script P c ms (record { coord = record c { table = changed c.table (gx g) ch }; marks = []; outs = ch.out.outs; item = None })
     calm-led ch shift agree outs =
         let d : Coord = record c { table = changed c.table (gx g) ch } in
         let o = one-change ch d [] (c.works g) refl same-works (record { others = λ h e. (refl, refl, refl) }) in
         record {
           way = at-one script P c d ms [] g (left_of ch.step (Some t)) (c.works g) o s (λ i. subst (λ k. Shift (known i) k (P i g)) (sym (becomes-calm [] (left_of ch.step (Some t)) (c.works g) i refl refl refl)) (shift i)) (s.works g) (subst (λ m. Agrees m g (left_of ch.step (Some t)) (c.works g).writers) (sym (append-nil ms)) agree) tt;
-          outs = each_weaker _ (SaidOut script P d (ms ++ [])) (λ q h. (h.0, moved d o q h)) ch.out.outs outs;
+          outs = each_weaker _ (SaidOut script P d (ms ++ [])) (λ q h. (h.0, moved d o q (h.0, h.1, h.2), h.3 d)) ch.out.outs outs;
         }
       where
         moved : (d : Coord) → OneChange script P c d ms [] g (left_of ch.step (Some t)) (c.works g) → (q : Out) → (is_answer q.message ≡ false) × (gxid_in q.message ≡ g) × Said (known_of (standing (nat_le c.table.next.0 g) (left_of ch.step (Some t)) q.node.0) (c.works g) q.node.0 (decided_count ms (gx g)) (is_aborted ms (gx g)) (is_committed ms (gx g))) (P q.node.0 g) q.message → Said (known_at d (ms ++ []) q.node.0 (gxid_in q.message)) (P q.node.0 (gxid_in q.message)) q.message
@@ -260,7 +257,7 @@ module _ (script : Script) (P : ℕ → ℕ → Part) (c : Coord) (ms : List Mar
             (λ v x. absurd (asked i v x)) (can.alone i) (can.both i)
 
         told : (d : Coord) (ns : List Mark) (x : Node) → SaidOut script P d (ms ++ mark.Commit (gx g) ∷ ns) (record { node = x; message = message.Forget (gx g) })
-        told d ns x = (refl, committed-append ms (mark.Commit (gx g) ∷ ns) (gx g) ∙ or-right (is_committed ms (gx g)) (eqb g g || is_committed ns (gx g)) (or-left (eqb g g) (is_committed ns (gx g)) (self g)))
+        told d ns x = (refl, committed-append ms (mark.Commit (gx g) ∷ ns) (gx g) ∙ or-right (is_committed ms (gx g)) (eqb g g || is_committed ns (gx g)) (or-left (eqb g g) (is_committed ns (gx g)) (self g)), tt)
 
         outs : (parts : List Node) → Each (SaidOut script P (is_closed c (gx g) (turns c.table (gx g) (ends_committed (gx g) parts))).coord (ms ++ (is_closed c (gx g) (turns c.table (gx g) (ends_committed (gx g) parts))).marks)) (ends_committed (gx g) parts).out.outs
         outs [] = tt
@@ -277,7 +274,7 @@ module _ (script : Script) (P : ℕ → ℕ → Part) (c : Coord) (ms : List Mar
         let o = one-change ch turn.coord turn.marks no_work e works others in
         record {
           way = at-one script P c turn.coord ms turn.marks g (left_of ch.step (Some t)) no_work o s shift (nothing-working g) agree fol;
-          outs = subst (Each (SaidOut script P turn.coord (ms ++ turn.marks))) (sym outs) (to-nodes _ (message.Abort (gx g)) parts (for-all _ (λ x. (refl, aborted-append ms turn.marks (gx g) ∙ or-right (is_aborted ms (gx g)) (is_aborted turn.marks (gx g)) ab)) parts));
+          outs = subst (Each (SaidOut script P turn.coord (ms ++ turn.marks))) (sym outs) (to-nodes _ (message.Abort (gx g)) parts (for-all _ (λ x. (refl, aborted-append ms turn.marks (gx g) ∙ or-right (is_aborted ms (gx g)) (is_aborted turn.marks (gx g)) ab, tt)) parts));
         }
       where
         none-committed : (i : ℕ) → (is_committed ms (gx g) || is_committed turn.marks (gx g)) ≡ false
@@ -379,10 +376,10 @@ module _ (script : Script) (P : ℕ → ℕ → Part) (c : Coord) (ms : List Mar
         never : (a : Standing) → a ≡ Live → a ≡ Preparing true → ⊥
         never a x y = grind arith
     commit-writers r (w ∷ []) e =
-        calm-led (commit_change (gx g) (w ∷ []) t) (λ i. let x = ready-shift r (w ∷ []) e i in alone-shift (eqb w.0 i) (known i) (P i g) (s.pairs i g) x.0 x.1 (sym (or-none (eqb w.0 i)) ∙ x.2)) tt ((refl, refl, λ v. ap One (self w.0)), tt)
+        calm-led (commit_change (gx g) (w ∷ []) t) (λ i. let x = ready-shift r (w ∷ []) e i in alone-shift (eqb w.0 i) (known i) (P i g) (s.pairs i g) x.0 x.1 (sym (or-none (eqb w.0 i)) ∙ x.2)) tt ((refl, refl, λ v. ap One (self w.0), λ d. tt), tt)
     commit-writers r (w ∷ x ∷ ws) e =
         calm-led (commit_change (gx g) (w ∷ x ∷ ws) t) (λ i. let y = ready-shift r (w ∷ x ∷ ws) e i in ask-shift (has (at i) (w ∷ x ∷ ws)) (known i) (P i g) (s.pairs i g) y.0 y.1 y.2) (sym e, subst IsMany (sym e) tt)
-        (to-nodes _ (message.Prepare (gx g)) (w ∷ x ∷ ws) (each_weaker (λ (y : Node). has y (w ∷ x ∷ ws) ≡ true) _ (λ y h. (refl, refl, λ v. Rattle.std.proofs.Common.inl (ap Preparing h))) (w ∷ x ∷ ws) (each-has (w ∷ x ∷ ws))))
+        (to-nodes _ (message.Prepare (gx g)) (w ∷ x ∷ ws) (each_weaker (λ (y : Node). has y (w ∷ x ∷ ws) ≡ true) _ (λ y h. (refl, refl, λ v. Rattle.std.proofs.Common.inl (ap Preparing h), λ d. tt)) (w ∷ x ∷ ws) (each-has (w ∷ x ∷ ws))))
 
     pub commits-ready : IsReady → Led script P c ms (commits c (gx g))
     commits-ready r =

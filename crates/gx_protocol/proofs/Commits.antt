@@ -1,15 +1,14 @@
 -- What stands before a commit: the writers, and the decision.
-use Rattle.std.proofs.Common.{◌≡◌, ◌≤◌, ◌<◌, ℕ, zero, suc, ◌+◌, List, [], ◌∷◌, ◌++◌, Option, Some, None, Bool, true, false, refl, sym, subst, ap, ◌∙◌, ◌||◌, cond, arith, eqb}
+use Rattle.std.proofs.Common.{◌≡◌, ◌≤◌, ◌<◌, ℕ, zero, suc, ◌+◌, List, [], ◌∷◌, ◌++◌, Some, Bool, true, false, refl, sym, subst, ap, ◌∙◌, ◌||◌, cond, arith, eqb}
 use Rattle.std.proofs.lemmas.Bool.{eqb-true}
 use Rattle.std.proofs.lemmas.Bool.Decides.{nat_tests}
 use Rattle.std.specs.Prelude.{filter, slice_get, take}
 use Rattle.gx_ids.specs.declared.ids.Node.{Node}
 use Rattle.gx_dtx.specs.Nodes.{has}
 use Rattle.gx_plan.specs.Plan.{nodes_from}
-use Rattle.gx_script.specs.declared.Script.{Script}
 use Rattle.gx_store.specs.declared.mark.Mark.{Mark}
 use Rattle.gx_store.specs.declared.mark.Mark.TheVariants as mark
-use Rattle.gx_store.specs.Protocol.{CommitsAtOnce, CommitsBy, CommitsInTwo, decided_count, is_writer, local_count, prepared_count}
+use Rattle.gx_store.specs.Protocol.{CommitsAtOnce, CommitsBy, CommitsInTwo, local_count, prepared_count}
 use Rattle.gx_laws.proofs.Lists.{get_kept}
 use Rattle.gx_protocol.specs.Pairs.{bit}
 use Rattle.gx_protocol.specs.Standings.{at, gx}
@@ -111,7 +110,7 @@ pub record Decision (ms : List Mark) (ws : List Node) (g : ℕ) : Type 0 where
   pub promised : (i : ℕ) → prepared_count (take place ms) (at i) (gx g) ≡ bit (has (at i) ws)
   pub uncommitted : (i : ℕ) → local_count (take place ms) (at i) (gx g) ≡ 0
 
-take-kept : {A : Type 0} (xs ys : List A) (k : ℕ) (x : A) → slice_get xs k ≡ Some x → take k (xs ++ ys) ≡ take k xs
+pub take-kept : {A : Type 0} (xs ys : List A) (k : ℕ) (x : A) → slice_get xs k ≡ Some x → take k (xs ++ ys) ≡ take k xs
 take-kept [] ys k x e = absurd (cc)
 take-kept (y ∷ xs) ys zero x e = refl
 take-kept (y ∷ xs) ys (suc k) x e = ap (λ zs. y ∷ zs) (take-kept xs ys k x e)

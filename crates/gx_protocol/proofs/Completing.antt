@@ -1,19 +1,11 @@
 -- Every event of the coordinator answers a line only when its commands have come back.
-use Rattle.std.proofs.Common.{◌≡◌, ◌≤◌, ◌<◌, ◌⊎◌, inl, inr, ℕ, ◌+◌, List, [], ◌∷◌, ◌++◌, Option, Some, None, Result, Ok, Err, Bool, true, false, refl, sym, subst, ap, ◌∙◌, if◌then◌else◌, ◌||◌, ◌==◌, ◌&&◌, arith, eqb, append-nil}
+use Rattle.std.proofs.Common.{◌≡◌, ◌⊎◌, inl, inr, ℕ, List, [], ◌∷◌, ◌++◌, Option, Some, None, Bool, true, false, refl, sym, subst, ap, ◌∙◌, if◌then◌else◌, ◌==◌, ◌&&◌, arith, eqb}
 use Rattle.std.proofs.lemmas.Bool.{eqb-true}
-use Rattle.std.proofs.lemmas.Bool.Decides.{nat_tests}
-use Rattle.std.proofs.lemmas.List.{append_assoc}
-use Rattle.std.specs.Prelude.{nat_le}
 use Rattle.gx_ids.specs.declared.ids.Cid.{Cid}
 use Rattle.gx_ids.specs.declared.ids.Gxid.{Gxid}
 use Rattle.gx_ids.specs.declared.ids.Node.{Node}
 use Rattle.gx_ids.specs.declared.ids.SessionId.{SessionId}
 use Rattle.gx_tree.specs.declared.part.Part.{Part as QueryPart}
-use Rattle.gx_tree.specs.declared.stmt.Level.{Level}
-use Rattle.gx_tree.specs.declared.stmt.Level.TheVariants.{ReadCommitted, RepeatableRead}
-use Rattle.gx_tree.specs.declared.stmt.Stmt.{Stmt}
-use Rattle.gx_tree.specs.declared.stmt.Stmt.TheVariants as stmt
-use Rattle.gx_dsnap.specs.declared.snapshot.Snapshot.{Snapshot}
 use Rattle.gx_dtx.specs.Nodes.{has, without}
 use Rattle.gx_dtx.specs.Rules.{Turn, on_abort, on_commit, on_reply}
 use Rattle.gx_dtx.specs.Table.{find_txn}
@@ -21,49 +13,33 @@ use Rattle.gx_dtx.specs.declared.outcome.Outcome.{Outcome}
 use Rattle.gx_dtx.specs.declared.outcome.Outcome.TheVariants as outcome
 use Rattle.gx_dtx.specs.declared.phase.Phase.{Phase as Status}
 use Rattle.gx_dtx.specs.declared.txn.Txn.{Txn}
-use Rattle.gx_eval.specs.declared.fault.ArithFault.{ArithFault}
 use Rattle.gx_msg.specs.declared.message.Message.{Message}
 use Rattle.gx_msg.specs.declared.message.Message.TheVariants as message
 use Rattle.gx_msg.specs.declared.reply.Cause.{Cause}
 use Rattle.gx_msg.specs.declared.reply.Reply.{Reply}
 use Rattle.gx_msg.specs.declared.reply.Reply.TheVariants as reply
-use Rattle.gx_plan.specs.Plan.{plan_of}
-use Rattle.gx_plan.specs.declared.piece.Piece.{Piece}
 use Rattle.gx_script.specs.declared.Script.{Script}
-use Rattle.gx_session.specs.Session.{after_line, idle_outside, line_step}
-use Rattle.gx_session.specs.declared.line_step.LineStep.{LineStep}
-use Rattle.gx_session.specs.declared.line_step.LineStep.TheVariants as step
-use Rattle.gx_session.specs.declared.line_step.Plain.{Plain}
 use Rattle.gx_session.specs.declared.state.Block.{Block}
 use Rattle.gx_session.specs.declared.state.Block.TheVariants.{Outside, Open, Failed}
-use Rattle.gx_session.specs.declared.state.Pending.{Pending}
-use Rattle.gx_store.specs.declared.answer.StmtAnswer.{StmtAnswer}
-use Rattle.gx_store.specs.declared.answer.StmtAnswer.TheVariants as told
 use Rattle.gx_store.specs.declared.mark.Mark.{Mark}
 use Rattle.gx_store.specs.declared.mark.Mark.TheVariants as mark
-use Rattle.gx_store.specs.declared.node.NodeEvent.{NodeEvent}
-use Rattle.gx_store.specs.declared.node.NodeEvent.TheVariants as event
 use Rattle.gx_store.specs.Marks.{is_aborted, started_after}
 use Rattle.gx_store.specs.Refusals.{the_coordinator}
-use Rattle.gx_store.specs.Writes.{dist_of}
-use Rattle.gx_rules.specs.AtCoordinator.{Reading, answer_mark, answers, answers_at_once, awaited, begins, behind, commits, completes, coord_can, dispatches, ends_in, failure_marks, fault_mark, follows, goes, goes_on, goes_out, is_awaited, is_refused, next_cid, next_line, on_answer, on_done, on_event, on_failed, on_line, on_message, on_status, reads_by, reads_for, reason_of, refusal_of, resends, rolls_back, starts, starts_line, table_of, takes_done, takes_snapshot, with_done, writers_with}
-use Rattle.gx_rules.specs.Coordinators.{Command, Coord, CoordTurn, Session, Work, new_work, rests, session_of, with_session, with_state, with_work, work_of}
+use Rattle.gx_rules.specs.AtCoordinator.{answers, commits, completes, failure_marks, follows, goes_on, is_awaited, is_refused, on_answer, on_done, on_failed, on_message, on_status, reason_of, resends, takes_done, with_done, writers_with}
+use Rattle.gx_rules.specs.Coordinators.{Command, Coord, CoordTurn, Session, Work, rests, session_of, with_work, work_of}
 use Rattle.gx_rules.specs.Fits.{fits_part}
-use Rattle.gx_laws.proofs.Lines.{Asks, asks}
 use Rattle.gx_laws.proofs.Lists.{Each}
 use Rattle.gx_laws.proofs.Numbers.{NoStart}
-use Rattle.gx_laws.proofs.Sessions.{Kept, is_closing_in, is_live_in, is_nothing_in, is_open_in, is_working_in, stage_of}
-use Rattle.gx_laws.proofs.Stages.{IsWhole}
+use Rattle.gx_laws.proofs.Sessions.{Kept, is_working_in, stage_of}
 use Rattle.gx_laws.proofs.Statuses.{Closes, Moves, Turned, commit-turns, reply-turns, stage, stage_in}
-use Rattle.gx_laws.proofs.Statuses.Stage.{Absent, Closing, Live as LiveStage}
+use Rattle.gx_laws.proofs.Statuses.Stage.{Closing, Live as LiveStage}
 use Rattle.gx_store.proofs.Marks.{started_after-append}
-use Rattle.gx_protocol.specs.Pairs.{Pair}
-use Rattle.gx_protocol.specs.Standings.{Known, Part, Standing, at, gx, is_closing, known_at, standing_in, waits_in}
-use Rattle.gx_protocol.specs.Standings.Standing.{Live, Over, Unborn}
-use Rattle.gx_protocol.proofs.Answering.{IsPlain, MayAll, MayAnswer, NoAnswer, Settles, Tidy, answered-tidy, closed-tidy, may-append, none-may, refused-tidy, rests-tidy, rolled-tidy}
+use Rattle.gx_protocol.specs.Standings.{Part, Standing, at, gx, known_at, standing_in, waits_in}
+use Rattle.gx_protocol.specs.Standings.Standing.{Live, Over}
+use Rattle.gx_protocol.proofs.Answering.{NoAnswer, Settles, Tidy, answered-tidy, closed-tidy, refused-tidy, rests-tidy}
 use Rattle.gx_protocol.proofs.Calls.{live-there, self, stands-as}
-use Rattle.gx_protocol.proofs.Dispatching.{IsIdle, IsLive}
-use Rattle.gx_protocol.proofs.Events.{both_of, idle-first, live-stage, own-idle}
+use Rattle.gx_protocol.proofs.Dispatching.{IsLive}
+use Rattle.gx_protocol.proofs.Events.{both_of, live-stage}
 use Rattle.gx_protocol.proofs.Nodes.{has-without}
 use Rattle.gx_protocol.proofs.Ways.{CommandOf, Stands}
 
@@ -97,22 +73,22 @@ module _ (script : Script) (P : ℕ → ℕ → Part) (c : Coord) (ms : List Mar
   same-others g h e = refl
 
   -- the session's last transaction
-  home-settles : (g : ℕ) (s : SessionId) (before : List Mark) → Each NoStart before → (session_of c s).transaction.0 ≡ g → SettlesIt g → (h : ℕ) → started_after s None (ms ++ before) ≡ Some (gx h) → SettlesIt h
+  pub home-settles : (g : ℕ) (s : SessionId) (before : List Mark) → Each NoStart before → (session_of c s).transaction.0 ≡ g → SettlesIt g → (h : ℕ) → started_after s None (ms ++ before) ≡ Some (gx h) → SettlesIt h
   home-settles g s before calm mine settles h e =
       subst SettlesIt (sym mine ∙ last_is s h (sym (started_after-append s None ms before ∙ calm-started s (started_after s None ms) before calm) ∙ e)) settles
 
-  rest-tidy : TidyFrom c.sessions [] (rests c)
+  pub rest-tidy : TidyFrom c.sessions [] (rests c)
   rest-tidy = rests-tidy script c ms Gets starting c 0 (same-others 0) [] c.table [] [] tt tt (λ i e. inl (e, refl))
 
   -- it isn't aborted while it runs
-  alive-at : (g : ℕ) → ((known_at c ms 0 g).at ≡ Over → ⊥) → is_aborted ms (gx g) ≡ false
+  pub alive-at : (g : ℕ) → ((known_at c ms 0 g).at ≡ Over → ⊥) → is_aborted ms (gx g) ≡ false
   alive-at g n = plain (is_aborted ms (gx g)) (λ e. n ((st.pairs 0 g).aborts e))
     where
       plain : (b : Bool) → (b ≡ true → ⊥) → b ≡ false
       plain true n = absurd (n refl)
       plain false n = refl
 
-  live-alive : (g : ℕ) → IsLive c g → is_aborted ms (gx g) ≡ false
+  pub live-alive : (g : ℕ) → IsLive c g → is_aborted ms (gx g) ≡ false
   live-alive g live = alive-at g (λ x. differ (known_at c ms 0 g).at (live-there script P c ms st k.whole g live.txn live.found live.active 0) x)
     where
       differ : (a : Standing) → a ≡ Live → a ≡ Over → ⊥
@@ -254,7 +230,7 @@ module _ (script : Script) (P : ℕ → ℕ → Part) (c : Coord) (ms : List Mar
       let x : TidyFrom c.sessions [] (follows c (gx g) (on_reply c.table (gx g) j r fails) (on_reply c.table (gx g) j r fails).out.outcome) = status-tidy g (on_reply c.table (gx g) j r fails) t (on_reply c.table (gx g) j r fails).out.outcome t t.how in
       record { lines = x.lines; transaction = x.transaction; marks = x.marks; works = x.works; may = x.may }
 
-  abbrev GetsBy : Node → Message → Type 0
+  abbrev pub GetsBy : Node → Message → Type 0
   GetsBy j (message.Answer g (reply.Done cid wrote count part)) = Gets j.0 g.0 cid.0
   GetsBy j _ = Unit {0}
 
@@ -268,7 +244,7 @@ module _ (script : Script) (P : ℕ → ℕ → Part) (c : Coord) (ms : List Mar
   answer-tidy g j fails reply.Aborted d = on-status-tidy g j reply.Aborted fails
   answer-tidy g j fails reply.Forgotten d = on-status-tidy g j reply.Forgotten fails
 
-  message-tidy : (j : Node) (fails : Bool) (m : Message) → GetsBy j m → TidyFrom c.sessions [] (on_message c j fails m)
+  pub message-tidy : (j : Node) (fails : Bool) (m : Message) → GetsBy j m → TidyFrom c.sessions [] (on_message c j fails m)
   message-tidy j fails (message.Answer g r) d = answer-tidy g.0 j fails r d
   message-tidy j fails (message.Exec g cid level x h y) d = rest-tidy
   message-tidy j fails (message.Prepare g) d = rest-tidy
@@ -279,6 +255,6 @@ module _ (script : Script) (P : ℕ → ℕ → Part) (c : Coord) (ms : List Mar
   message-tidy j fails (message.Collect round) d = rest-tidy
   message-tidy j fails (message.Graph round graph) d = rest-tidy
 
-  again-tidy : (i : Node) (o : Option Message) → TidyFrom c.sessions [] (resends c i o)
+  pub again-tidy : (i : Node) (o : Option Message) → TidyFrom c.sessions [] (resends c i o)
   again-tidy i None = rest-tidy
   again-tidy i (Some m) = rests-tidy script c ms Gets starting c 0 (same-others 0) [] c.table (record { node = i; message = m } ∷ []) [] tt tt (λ i e. inl (e, refl))

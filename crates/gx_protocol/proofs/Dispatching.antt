@@ -1,7 +1,6 @@
 -- Commands that go out, and what a transaction's commands come to.
-use Rattle.std.proofs.Common.{◌≡◌, ◌≤◌, ◌<◌, ◌⊎◌, inl, inr, ℕ, ◌+◌, List, [], ◌∷◌, ◌++◌, Option, Some, None, Result, Ok, Err, Bool, true, false, refl, sym, subst, ap, ◌∙◌, if◌then◌else◌, ◌||◌, ◌==◌, ◌&&◌, arith, eqb, append-nil}
+use Rattle.std.proofs.Common.{◌≡◌, ℕ, ◌+◌, List, [], ◌∷◌, ◌++◌, Option, Some, None, Result, Ok, Err, Bool, true, false, refl, sym, subst, ap, ◌∙◌, if◌then◌else◌, ◌||◌, ◌&&◌, eqb, append-nil}
 use Rattle.std.proofs.lemmas.Bool.{eqb-true}
-use Rattle.std.proofs.lemmas.Bool.Decides.{nat_tests}
 use Rattle.std.proofs.lemmas.List.{append_assoc}
 use Rattle.std.specs.Prelude.{map, nat_le, option_map}
 use Rattle.gx_ids.specs.declared.ids.Cid.{Cid}
@@ -14,13 +13,11 @@ use Rattle.gx_tree.specs.declared.stmt.Stmt.{Stmt}
 use Rattle.gx_tree.specs.declared.stmt.Stmt.TheVariants as stmt
 use Rattle.gx_dsnap.specs.declared.snapshot.Snapshot.{Snapshot}
 use Rattle.gx_dtx.specs.Nodes.{has, to_each, with_node, without}
-use Rattle.gx_dtx.specs.Rules.{abort_found, aborts, changed, enlisted, on_abort, turns, with_live}
+use Rattle.gx_dtx.specs.Rules.{abort_found, aborts, enlisted, on_abort, turns}
 use Rattle.gx_dtx.specs.Table.{Table, find_txn, horizon_of, xmin_of}
-use Rattle.gx_dtx.specs.declared.phase.Phase.{Phase as Status}
 use Rattle.gx_dtx.specs.declared.phase.Phase.TheVariants as status
 use Rattle.gx_dtx.specs.declared.txn.Txn.{Txn}
 use Rattle.gx_eval.specs.declared.fault.ArithFault.{ArithFault}
-use Rattle.gx_msg.specs.declared.message.Message.{Message}
 use Rattle.gx_msg.specs.declared.message.Message.TheVariants as message
 use Rattle.gx_msg.specs.declared.message.Out.{Out}
 use Rattle.gx_plan.specs.Plan.{plan_of}
@@ -35,21 +32,19 @@ use Rattle.gx_store.specs.declared.mark.Mark.TheVariants as mark
 use Rattle.gx_store.specs.Marks.{is_aborted, is_committed}
 use Rattle.gx_store.specs.Protocol.{decided_count, local_count}
 use Rattle.gx_store.specs.Writes.{dist_of}
-use Rattle.gx_rules.specs.AtCoordinator.{Reading, answer_mark, answer_of_command, answers, completes, dispatches, enlisted_all, fault_mark, goes, goes_on, goes_out, is_refused, kept_at, next_cid, nodes_in, order_of, orders_of, reads_by, reads_for, refusal_of, rolls_back, table_of, takes_done, takes_snapshot, unless_kept, with_done, writers_with}
-use Rattle.gx_rules.specs.Coordinators.{Command, Coord, CoordTurn, Work, no_work, rests, session_of, with_work, work_of}
-use Rattle.gx_rules.specs.Maps.{with_at}
+use Rattle.gx_rules.specs.AtCoordinator.{Reading, answer_mark, answer_of_command, answers, completes, dispatches, enlisted_all, fault_mark, goes, goes_on, goes_out, is_refused, kept_at, next_cid, nodes_in, orders_of, reads_by, reads_for, refusal_of, rolls_back, table_of, takes_done, takes_snapshot, unless_kept, with_done, writers_with}
+use Rattle.gx_rules.specs.Coordinators.{Command, Coord, Work, session_of, with_work, work_of}
 use Rattle.gx_rules.specs.Snapshots.{snapshot_of}
 use Rattle.gx_laws.proofs.Closings.{live-at, set_live}
-use Rattle.gx_laws.proofs.Lists.{Each, each_append, each_map, each_weaker}
-use Rattle.gx_laws.proofs.Stages.{At, IsWhole, changed-at, left_of, txn-at}
-use Rattle.gx_protocol.specs.Pairs.{Pair, bit}
-use Rattle.gx_protocol.specs.Said.{Answers, IsCommand, IsDone, Said, gxid_in, is_answer}
-use Rattle.gx_protocol.specs.Standings.{Known, Part, Standing, at, gx, is_undecided, known_at, known_of, standing, standing_in, waits_in}
+use Rattle.gx_laws.proofs.Lists.{Each}
+use Rattle.gx_laws.proofs.Stages.{At, IsWhole, left_of, txn-at}
+use Rattle.gx_protocol.specs.Said.{IsDone, Said}
+use Rattle.gx_protocol.specs.Standings.{Known, Part, at, gx, is_undecided, known_at, known_of, standing, standing_in, waits_in}
 use Rattle.gx_protocol.specs.Standings.Standing.{Live}
-use Rattle.gx_protocol.proofs.Calls.{CanEnd, Mute, abort-led, becomes-calm, commits-ready, dropped-over, live-calm, live-can, live-there, mute-aborted, mute-committed, mute-decided, mute-fol, self, stands-as}
+use Rattle.gx_protocol.proofs.Calls.{Mute, abort-led, becomes-calm, commits-ready, dropped-over, live-calm, live-can, live-there, mute-aborted, mute-committed, mute-decided, mute-fol, self, stands-as}
 use Rattle.gx_protocol.proofs.Nodes.{AreApart, apart-with, each-has, has-with, has-without}
-use Rattle.gx_protocol.proofs.Shifts.{Shift, is-sent, learn-shift, learning, send-shift, sending, shift-same}
-use Rattle.gx_protocol.proofs.Ways.{Agrees, AgreesIn, CommandOf, Fol, IsOrderOf, Led, One as OneChange, Same, SaidOut, Stands, Way, Working, at-one, becomes, known-here, rest-led, same-then, way-same, way-then}
+use Rattle.gx_protocol.proofs.Shifts.{Shift, is-sent, learn-shift, send-shift, sending, shift-same}
+use Rattle.gx_protocol.proofs.Ways.{Agrees, AgreesIn, CommandOf, IsOrderOf, Led, Same, SaidOut, Stands, Way, Working, at-one, rest-led, same-then, way-same, way-then}
 
 -- its commands run
 pub record IsLive (c : Coord) (g : ℕ) : Type 0 where
@@ -257,7 +252,7 @@ module _ (script : Script) (P : ℕ → ℕ → Part) (c : Coord) (ms : List Mar
       let w : Work = record (c.works g) { last = cid.0; command = Some (record { stmt = line; cid = cid; orders = orders_of (gx g) cid (c.works g).level x (horizon_of c.table) pieces; awaited = nodes_in pieces; count = 0; parts = [] }) } in
       let d : Coord = (goes_out (gx g) cid line pieces (record { coord = c; snapshot = x; marks = marks })).coord in
       let way : Way script P c ms d [] = keeps-way script P c ms s whole g live d [] e.now w e.phase e.at.next e.at.finds (λ h. refl) tt (record { apart = (s.works g).apart; command = (refl, orders-are cid (c.works g).level x (horizon_of c.table) pieces) })
-          (λ i. subst (λ n. Shift (k2 i) (record (sending (has (at i) (nodes_in pieces)) (k2 i)) { last = n }) (P i g)) (sym next) (send-shift (has (at i) (nodes_in pieces)) (k2 i) (P i g) (s.pairs i g) (live-at-all script P c ms s whole g live i) (idle i))) in
+      (λ i. subst (λ n. Shift (k2 i) (record (sending (has (at i) (nodes_in pieces)) (k2 i)) { last = n }) (P i g)) (sym next) (send-shift (has (at i) (nodes_in pieces)) (k2 i) (P i g) (s.pairs i g) (live-at-all script P c ms s whole g live i) (idle i))) in
       record { way = way; outs = subst (λ y. Each (SaidOut script P d y) (orders_of (gx g) cid (c.works g).level x (horizon_of c.table) pieces)) (sym (append-nil ms)) (all-sent d (c.works g).level (known-there e) pieces (each-unmap (λ (i : Node). has i (nodes_in pieces) ≡ true) (λ (p : Piece). p.node) pieces (each-has (nodes_in pieces)))) }
     where
       work_there : Work
@@ -281,7 +276,7 @@ module _ (script : Script) (P : ℕ → ℕ → Part) (c : Coord) (ms : List Mar
       all-sent d level there [] f = tt
       all-sent d level there (p ∷ ps) f =
           let q = there p.node.0 in
-          ((refl, is-sent (known_at d ms p.node.0 g) (P p.node.0 g) cid.0 q.at_live (q.awaits ∙ f.0) (sym q.numbered)), all-sent d level there ps f.1)
+          ((refl, is-sent (known_at d ms p.node.0 g) (P p.node.0 g) cid.0 q.at_live (q.awaits ∙ f.0) (sym q.numbered), (q.awaits ∙ f.0, sym q.numbered)), all-sent d level there ps f.1)
 
 -- A COMMAND, FROM ITS NUMBER ON
 module _ (script : Script) (P : ℕ → ℕ → Part) (c : Coord) (ms : List Mark) (s : Stands script P c ms) (whole : IsWhole c.table) (g : ℕ) (live : IsLive c g) (idle : IsIdle c g) where

@@ -1,10 +1,7 @@
 -- Every event of the coordinator.
-use Rattle.std.proofs.Common.{◌≡◌, ◌≤◌, ◌<◌, ◌⊎◌, inl, inr, ℕ, ◌+◌, List, [], ◌∷◌, ◌++◌, Option, Some, None, Bool, true, false, refl, sym, subst, ap, ◌∙◌, if◌then◌else◌, ◌||◌, ◌==◌, ◌&&◌, arith, eqb, append-nil}
+use Rattle.std.proofs.Common.{◌≡◌, inl, ℕ, ◌+◌, List, [], ◌∷◌, ◌++◌, Option, Some, None, Bool, true, false, refl, sym, subst, ap, ◌∙◌, if◌then◌else◌, ◌==◌, ◌&&◌, arith, eqb, append-nil}
 use Rattle.std.proofs.lemmas.Bool.{eqb-true}
-use Rattle.std.proofs.lemmas.Bool.Decides.{nat_tests}
-use Rattle.std.specs.Prelude.{nat_le, option_map}
 use Rattle.gx_ids.specs.declared.ids.Cid.{Cid}
-use Rattle.gx_ids.specs.declared.ids.Gxid.{Gxid}
 use Rattle.gx_ids.specs.declared.ids.Node.{Node}
 use Rattle.gx_ids.specs.declared.ids.SessionId.{SessionId}
 use Rattle.gx_tree.specs.declared.part.Part.{Part as QueryPart}
@@ -12,9 +9,8 @@ use Rattle.gx_tree.specs.declared.stmt.Level.{Level}
 use Rattle.gx_tree.specs.declared.stmt.Level.TheVariants.{ReadCommitted}
 use Rattle.gx_tree.specs.declared.stmt.Stmt.{Stmt}
 use Rattle.gx_dtx.specs.Nodes.{has}
-use Rattle.gx_dtx.specs.Orders.{message_of}
-use Rattle.gx_dtx.specs.Rules.{awaited_order, begun, on_abort, order_found, order_in}
-use Rattle.gx_dtx.specs.Table.{Table, find_txn, new_txn}
+use Rattle.gx_dtx.specs.Rules.{on_abort, order_found, order_in}
+use Rattle.gx_dtx.specs.Table.{find_txn, new_txn}
 use Rattle.gx_dtx.specs.declared.order.Order.{Order}
 use Rattle.gx_dtx.specs.declared.phase.Phase.{Phase as Status}
 use Rattle.gx_dtx.specs.declared.phase.Phase.TheVariants as status
@@ -38,28 +34,27 @@ use Rattle.gx_store.specs.declared.mark.Mark.{Mark}
 use Rattle.gx_store.specs.declared.mark.Mark.TheVariants as mark
 use Rattle.gx_store.specs.declared.node.NodeEvent.{NodeEvent}
 use Rattle.gx_store.specs.declared.node.NodeEvent.TheVariants as event
-use Rattle.gx_store.specs.Marks.{is_aborted, is_committed}
-use Rattle.gx_store.specs.Protocol.{decided_count}
+use Rattle.gx_store.specs.Marks.{is_committed}
 use Rattle.gx_rules.specs.AtCoordinator.{answer_mark, answers_at_once, awaited, begins, behind, command_order, commits, coord_can, dispatches, ends_in, is_awaited, is_idle, is_nothing, is_refused, next_line, on_answer, on_done, on_event, on_failed, on_line, on_message, order_to, reason_of, resends, rolls_back, starts, starts_line, status_order, takes_done}
-use Rattle.gx_rules.specs.Coordinators.{Command, Coord, CoordTurn, Session, Work, new_work, rests, session_of, with_session, with_state, work_of}
+use Rattle.gx_rules.specs.Coordinators.{Command, Coord, CoordTurn, Session, new_work, rests, session_of, with_session, with_state}
 use Rattle.gx_rules.specs.Fits.{fits_part}
 use Rattle.gx_laws.proofs.Ends.{begun-finds}
 use Rattle.gx_laws.proofs.Lines.{Asks, asks, begun-whole}
-use Rattle.gx_laws.proofs.Lists.{Each, each_weaker}
+use Rattle.gx_laws.proofs.Lists.{Each}
 use Rattle.gx_laws.proofs.Past.{Past}
 use Rattle.gx_laws.proofs.Sessions.{Kept, is_nothing_in, is_open_in, is_working_in, stage_of}
 use Rattle.gx_laws.proofs.Stages.{IsWhole}
 use Rattle.gx_laws.proofs.Statuses.{stage, stage_in}
-use Rattle.gx_laws.proofs.Statuses.Stage.{Live as LiveStage, Dropped}
+use Rattle.gx_laws.proofs.Statuses.Stage.{Live as LiveStage}
 use Rattle.gx_laws.proofs.Tables.{AreIn}
-use Rattle.gx_protocol.specs.Said.{Answers, IsCommand, IsDone, Said, gxid_in, is_answer}
-use Rattle.gx_protocol.specs.Standings.{Known, Part, Standing, at, gx, known_at, known_of, standing, standing_in, waits_in}
+use Rattle.gx_protocol.specs.Said.{Answers, IsDone, Said, gxid_in, is_answer}
+use Rattle.gx_protocol.specs.Standings.{Part, at, gx, known_at, standing_in, waits_in}
 use Rattle.gx_protocol.specs.Standings.Standing.{Live, One, Preparing, Two}
 use Rattle.gx_protocol.proofs.Calls.{Mute, becomes-calm, commits-ready, mute-aborted, mute-committed, mute-decided, mute-fol, self, stands-as}
 use Rattle.gx_protocol.proofs.Dispatching.{IsIdle, IsLive, dispatch-led, done-led, live-at-all, refusing-led, rolling-led}
 use Rattle.gx_protocol.proofs.Replying.{status-led}
 use Rattle.gx_protocol.proofs.Shifts.{Shift, is-sent, shift-same}
-use Rattle.gx_protocol.proofs.Ways.{Agrees, AgreesIn, CommandOf, IsOrderOf, Led, Same, SaidOut, Stands, Way, agrees-append, at-new, at-one, becomes, rest-led, way-then}
+use Rattle.gx_protocol.proofs.Ways.{Agrees, AgreesIn, AsksFor, CommandOf, IsOrderOf, Led, Stands, Way, agrees-append, at-new, at-one, rest-led, way-then}
 
 -- the same table and work, another session
 pub moved-stands : (script : Script) (P : ℕ → ℕ → Part) (c : Coord) (ms : List Mark) (s : SessionId) (x : Session) → Stands script P c ms → Stands script P (with_session c s x) ms
@@ -163,14 +158,14 @@ module _ (script : Script) (P : ℕ → ℕ → Part) (c : Coord) (ms : List Mar
 
   -- MESSAGES SENT AGAIN
   abbrev IsSaidTo : ℕ → Node → Message → Type 0
-  IsSaidTo g i m = (is_answer m ≡ false) × (gxid_in m ≡ g) × Said (known_at c ms i.0 g) (P i.0 g) m
+  IsSaidTo g i m = (is_answer m ≡ false) × (gxid_in m ≡ g) × Said (known_at c ms i.0 g) (P i.0 g) m × AsksFor c i.0 m
 
   abbrev AnySaid : ℕ → Node → Option Message → Type 0
   AnySaid g i None = Unit {0}
   AnySaid g i (Some m) = IsSaidTo g i m
 
   order-said : (g : ℕ) (i : Node) (last : ℕ) → (known_at c ms i.0 g).at ≡ Live → (known_at c ms i.0 g).waits ≡ true → last ≡ (known_at c ms i.0 g).last → (m : Message) → IsOrderOf g last m → IsSaidTo g i m
-  order-said g i last l w e (message.Exec h cid level x y z) o = (refl, o.0, is-sent (known_at c ms i.0 g) (P i.0 g) cid.0 l w (o.1 ∙ e))
+  order-said g i last l w e (message.Exec h cid level x y z) o = (refl, o.0, is-sent (known_at c ms i.0 g) (P i.0 g) cid.0 l w (o.1 ∙ e), subst (λ j. (waits_in (c.works j).command i.0 ≡ true) × (cid.0 ≡ (c.works j).last)) (sym o.0) (w, o.1 ∙ e))
   order-said g i last l w e (message.Prepare h) o = absurd o
   order-said g i last l w e (message.Commit h) o = absurd o
   order-said g i last l w e (message.CommitPrepared h) o = absurd o
@@ -193,17 +188,17 @@ module _ (script : Script) (P : ℕ → ℕ → Part) (c : Coord) (ms : List Mar
   status-said g i t f (status.Preparing ws aw) e = by_test (has i aw) refl
     where
       by_test : (b : Bool) → has i aw ≡ b → AnySaid g i (status_order (gx g) (if b then Some Rattle.gx_dtx.specs.declared.order.Order.TheVariants.Prepare else None))
-      by_test true h = (refl, refl, λ v. inl (stands-as script P c ms st k.whole g t f i.0 ∙ ap (λ q. standing_in q i.0) e ∙ ap Preparing h))
+      by_test true h = (refl, refl, λ v. inl (stands-as script P c ms st k.whole g t f i.0 ∙ ap (λ q. standing_in q i.0) e ∙ ap Preparing h), tt)
       by_test false h = tt
   status-said g i t f (status.CommittingOne w) e = by_test (w.0 == i.0) refl
     where
       by_test : (b : Bool) → (w.0 == i.0) ≡ b → AnySaid g i (status_order (gx g) (if b then Some Rattle.gx_dtx.specs.declared.order.Order.TheVariants.Commit else None))
-      by_test true h = (refl, refl, λ v. stands-as script P c ms st k.whole g t f i.0 ∙ ap (λ q. standing_in q i.0) e ∙ ap One h)
+      by_test true h = (refl, refl, λ v. stands-as script P c ms st k.whole g t f i.0 ∙ ap (λ q. standing_in q i.0) e ∙ ap One h, tt)
       by_test false h = tt
   status-said g i t f (status.CommittingTwo aw) e = by_test (has i aw) refl
     where
       by_test : (b : Bool) → has i aw ≡ b → AnySaid g i (status_order (gx g) (if b then Some Rattle.gx_dtx.specs.declared.order.Order.TheVariants.CommitPrepared else None))
-      by_test true h = (refl, refl, inl (stands-as script P c ms st k.whole g t f i.0 ∙ ap (λ q. standing_in q i.0) e ∙ ap Two h))
+      by_test true h = (refl, refl, inl (stands-as script P c ms st k.whole g t f i.0 ∙ ap (λ q. standing_in q i.0) e ∙ ap Two h), tt)
       by_test false h = tt
   status-said g i t f (status.Ended aw) e = by_test (has i aw)
     where
@@ -211,12 +206,12 @@ module _ (script : Script) (P : ℕ → ℕ → Part) (c : Coord) (ms : List Mar
       committed = subst (λ q. AgreesIn ms g q (c.works g).writers) e (subst (λ o. Agrees ms g o (c.works g).writers) f (st.agrees g))
 
       by_test : (b : Bool) → AnySaid g i (status_order (gx g) (if b then Some Rattle.gx_dtx.specs.declared.order.Order.TheVariants.Forget else None))
-      by_test true = (refl, refl, committed)
+      by_test true = (refl, refl, committed, tt)
       by_test false = tt
   status-said g i t f (status.Aborting aw) e = by_test (has i aw)
     where
       by_test : (b : Bool) → AnySaid g i (status_order (gx g) (if b then Some Rattle.gx_dtx.specs.declared.order.Order.TheVariants.Abort else None))
-      by_test true = (refl, refl, p.dropped g (ap stage f ∙ ap stage_in e))
+      by_test true = (refl, refl, p.dropped g (ap stage f ∙ ap stage_in e), tt)
       by_test false = tt
 
   found-said : (g : ℕ) (i : Node) (o : Option Txn) → find_txn c.table (gx g) ≡ o → AnySaid g i (status_order (gx g) (order_found i o))
@@ -238,7 +233,7 @@ module _ (script : Script) (P : ℕ → ℕ → Part) (c : Coord) (ms : List Mar
   again-led g i (Some m) d =
       record {
         way = rest.way;
-        outs = ((d.0, subst (λ j. Said (known_at c (ms ++ []) i.0 j) (P i.0 j) m) (sym d.1) (subst (λ x. Said (known_at c x i.0 g) (P i.0 g) m) (sym (append-nil ms)) d.2)), tt);
+        outs = ((d.0, subst (λ j. Said (known_at c (ms ++ []) i.0 j) (P i.0 j) m) (sym d.1) (subst (λ x. Said (known_at c x i.0 g) (P i.0 g) m) (sym (append-nil ms)) d.2), d.3), tt);
       }
 
   -- LINES

@@ -1,10 +1,8 @@
 -- Over every run of the machine: what always holds of transactions, messages and marks.
-use Rattle.std.proofs.Common.{◌≡◌, ◌≤◌, ◌<◌, ◌⊎◌, inl, inr, ℕ, ◌+◌, List, [], ◌∷◌, ◌++◌, Option, Some, None, Bool, true, false, refl, sym, subst, ap, ◌∙◌, if◌then◌else◌, ◌||◌, ◌&&◌, arith, eqb, append-nil}
+use Rattle.std.proofs.Common.{◌≡◌, ◌⊎◌, inl, inr, ℕ, ◌+◌, List, [], ◌∷◌, ◌++◌, Some, Bool, true, false, refl, sym, subst, ap, ◌∙◌, if◌then◌else◌, ◌||◌, ◌&&◌, arith, eqb, append-nil}
 use Rattle.std.proofs.lemmas.Bool.{eqb-true}
 use Rattle.std.proofs.lemmas.Bool.Decides.{nat_tests}
 use Rattle.std.proofs.lemmas.List.{append_assoc}
-use Rattle.std.specs.Prelude.{length, nat_le}
-use Rattle.gx_ids.specs.declared.ids.Gxid.{Gxid}
 use Rattle.gx_ids.specs.declared.ids.Node.{Node}
 use Rattle.gx_dtx.specs.Table.{find_txn}
 use Rattle.gx_msg.specs.declared.message.Envelope.{Envelope}
@@ -14,16 +12,13 @@ use Rattle.gx_msg.specs.declared.message.Out.{Out}
 use Rattle.gx_msg.specs.declared.reply.Reply.TheVariants as reply
 use Rattle.gx_script.specs.declared.Script.{Script}
 use Rattle.gx_store.specs.declared.event.Event.{Event}
-use Rattle.gx_store.specs.declared.event.Event.TheVariants as event
 use Rattle.gx_store.specs.declared.mark.Mark.{Mark}
 use Rattle.gx_store.specs.declared.mark.Mark.TheVariants as mark
 use Rattle.gx_store.specs.declared.node.NodeEvent.{NodeEvent}
 use Rattle.gx_store.specs.declared.node.NodeEvent.TheVariants as here
 use Rattle.gx_store.specs.declared.run.Step.{Step}
-use Rattle.gx_store.specs.Journals.{is_same_node}
 use Rattle.gx_store.specs.Marks.{is_aborted, is_committed}
-use Rattle.gx_store.specs.Messages.{IsSending, IsSent, Receives}
-use Rattle.gx_store.specs.Ordered.{IsLink, IsSegment}
+use Rattle.gx_store.specs.Messages.{Receives}
 use Rattle.gx_store.specs.Points.{marks_in}
 use Rattle.gx_store.specs.Protocol.{decided_count, is_writer, local_count, prepared_count}
 use Rattle.gx_store.specs.Refusals.{the_coordinator}
@@ -31,25 +26,22 @@ use Rattle.gx_rules.specs.AtCoordinator.{coord_can, coord_rule, on_event}
 use Rattle.gx_rules.specs.AtSegment as segment
 use Rattle.gx_rules.specs.AtSegment.{seg_rule}
 use Rattle.gx_rules.specs.Coordinators.{Coord, CoordTurn}
-use Rattle.gx_rules.specs.Machine.{Letter, World, after, at_node, can, can_here, coord_did, delivered, does, found, happens, new_world, node_of, posted, seg_can, seg_did, world_of}
-use Rattle.gx_rules.specs.Maps.{with_at}
-use Rattle.gx_rules.specs.Segments.{Local, Seg, SegTurn, new_local, stays}
+use Rattle.gx_rules.specs.Machine.{Letter, World, coord_did, posted, seg_did}
+use Rattle.gx_rules.specs.Segments.{Local, Seg, SegTurn}
 use Rattle.gx_rules.specs.Sending.{clock_after, counted, numbered}
-use Rattle.gx_laws.proofs.Letters.{IsFound, IsLetter, found_is}
 use Rattle.gx_laws.proofs.Lists.{Each, each_weaker}
-use Rattle.gx_laws.proofs.Ordered.{Well, never_resumes}
 use Rattle.gx_laws.proofs.Past.{aborted-append, committed-append}
-use Rattle.gx_laws.proofs.World.{Knows, happens_knows, marks-last, new_knows}
-use Rattle.gx_protocol.specs.Followed.{DoMarksEnd, DoStepsEnd}
+use Rattle.gx_laws.proofs.World.{Knows, marks-last}
+use Rattle.gx_protocol.specs.Followed.{DoStepsEnd}
 use Rattle.gx_protocol.specs.Pairs.{Pair}
-use Rattle.gx_protocol.specs.Said.{Answers, Said, SaidAt, SaidIn, gxid_in, is_answer, segment_of}
-use Rattle.gx_protocol.specs.Standings.{Known, Part, at, gx, known_at, known_of, part_at, part_of, standing}
+use Rattle.gx_protocol.specs.Said.{Said, SaidIn, gxid_in, is_answer, segment_of}
+use Rattle.gx_protocol.specs.Standings.{Known, Part, at, gx, known_at, part_at, part_of}
 use Rattle.gx_protocol.proofs.Counts.{NoEnd, NoPart, decided-append, local-append, no-aborted, no-committed, no-decided, no-local, no-prepared, no-writer, prepared-append, sent-no-end, sent-no-part, writer-append}
 use Rattle.gx_protocol.proofs.Events.{IsSaidIn, event-led}
 use Rattle.gx_protocol.proofs.Following.{coord-end, end-push, has-left, has-right, seg-end}
 use Rattle.gx_protocol.proofs.Handled.{Does, Follows, HasMark, Tells, after_marks, handled}
-use Rattle.gx_protocol.proofs.Parts.{Grows, said-grows}
-use Rattle.gx_protocol.proofs.Ways.{Agrees, Fol, FolAt, IsOf, Led, SaidOut, Stands, agrees-append, fol-no-part, known-eq}
+use Rattle.gx_protocol.proofs.Parts.{said-grows}
+use Rattle.gx_protocol.proofs.Ways.{Agrees, Fol, FolAt, Led, SaidOut, Stands, agrees-append, known-eq}
 
 abbrev pub parts_in : World → ℕ → ℕ → Part
 parts_in w i g = part_at (w.segs i) (marks_in w.steps) i g
@@ -75,7 +67,7 @@ fol-sent-one : (script : Script) (ms : List Mark) (m : Mark) → FolAt script ms
 fol-sent-one script ms (mark.Sent to number told) e = e
 fol-sent-one script ms m e = tt
 
-fol-no-sent : (script : Script) (ms ns : List Mark) → Fol script ms ns → Each NoSent ns
+pub fol-no-sent : (script : Script) (ms ns : List Mark) → Fol script ms ns → Each NoSent ns
 fol-no-sent script ms [] e = tt
 fol-no-sent script ms (m ∷ ns) e = (fol-sent-one script ms m e.0, fol-no-sent script (ms ++ m ∷ []) ns e.1)
 
@@ -183,7 +175,7 @@ module _ (told : Message) (k : Known) (i g : ℕ) (j h : ℕ) (apart : (eqb j i 
   no-local-there (mark.LocalCommit n a ∷ ns) e = if-none (eqb n.0 j && eqb a.0 h) (local_count ns (at j) (gx h)) (both-apart-back a.0 n.0 g i h j e.0.0 e.0.1 apart) (no-local-there ns e.1)
   no-local-there (m ∷ ns) e = no-local-there ns e.1
 
-follows-no-end : (told : Message) (k : Known) (i g : ℕ) (ns : List Mark) → Each (Follows told k i g) ns → Each NoEnd ns
+pub follows-no-end : (told : Message) (k : Known) (i g : ℕ) (ns : List Mark) → Each (Follows told k i g) ns → Each NoEnd ns
 follows-no-end told k i g [] e = tt
 follows-no-end told k i g (mark.Commit h ∷ ns) e = absurd e.0
 follows-no-end told k i g (mark.Abort h ∷ ns) e = absurd e.0
@@ -249,7 +241,7 @@ module _ (script : Script) (w : World) (n : Knows script w) (v : Holds script w)
   abbrev known : ℕ → ℕ → Known
   known j h = known_at w.coord ms2 j h
 
-  does-it : Does msg (known i g) s i g (n.well.names i) (is_writer ms2 (gx g) (at i)) (prepared_count ms2 (at i) (gx g)) (local_count ms2 (at i) (gx g)) (v.stands.pairs i g) turn2
+  pub does-it : Does msg (known i g) s i g (n.well.names i) (is_writer ms2 (gx g) (at i)) (prepared_count ms2 (at i) (gx g)) (local_count ms2 (at i) (gx g)) (v.stands.pairs i g) turn2
   does-it = handled script fails (known i g) s i (n.well.names i) (is_writer ms2 (gx g) (at i)) (prepared_count ms2 (at i) (gx g)) (local_count ms2 (at i) (gx g)) msg (v.stands.pairs i g) said
 
   abbrev new_part : Part
@@ -350,7 +342,7 @@ module _ (script : Script) (w : World) (n : Knows script w) (v : Holds script w)
       each-out [] y = tt
       each-out (o ∷ outs) y = (
         λ number. let z = told-answer (known i g) new_part i g turn2.marks o.message y.0 in
-        subst (λ b. Said (known_at w.coord (marks_in next2.steps) (if b then i else o.node.0) (gxid_in o.message)) (parts_in next2 (if b then i else o.node.0) (gxid_in o.message)) o.message) (sym z.0)
+            subst (λ b. Said (known_at w.coord (marks_in next2.steps) (if b then i else o.node.0) (gxid_in o.message)) (parts_in next2 (if b then i else o.node.0) (gxid_in o.message)) o.message) (sym z.0)
             (subst (λ a. Said (known_at w.coord (marks_in next2.steps) i a) (parts_in next2 i a) o.message) (sym z.1) (moved2 i g o.message (subst (λ p. Said (known i g) p o.message) (sym part-here) z.2))),
         each-out outs y.1,
       )

@@ -1,8 +1,6 @@
 -- From what a step's marks follow to the protocol over steps.
-use Rattle.std.proofs.Common.{◌≡◌, ◌≤◌, ◌<◌, ◌⊎◌, inl, inr, ℕ, zero, suc, ◌+◌, List, [], ◌∷◌, ◌++◌, Option, Some, None, Bool, true, false, refl, sym, subst, ap, ◌∙◌, if◌then◌else◌, ◌||◌, arith, append-nil}
-use Rattle.std.proofs.lemmas.Bool.Decides.{nat_tests}
+use Rattle.std.proofs.Common.{◌≡◌, ◌⊎◌, inl, inr, ℕ, suc, ◌+◌, List, [], ◌∷◌, ◌++◌, Some, Bool, false, refl, sym, subst, ap, ◌∙◌, ◌||◌, arith, append-nil}
 use Rattle.std.proofs.lemmas.List.{append_assoc}
-use Rattle.std.proofs.lemmas.List.Elements.{Contains-append_left, Contains-append_right}
 use Rattle.std.specs.Prelude.{length}
 use Rattle.std.specs.List.{Contains}
 use Rattle.gx_ids.specs.declared.ids.Gxid.{Gxid}
@@ -10,7 +8,6 @@ use Rattle.gx_ids.specs.declared.ids.Node.{Node}
 use Rattle.gx_msg.specs.declared.message.Message.{Message}
 use Rattle.gx_msg.specs.declared.message.Message.TheVariants as message
 use Rattle.gx_msg.specs.declared.message.Out.{Out}
-use Rattle.gx_msg.specs.declared.reply.Reply.{Reply}
 use Rattle.gx_msg.specs.declared.reply.Reply.TheVariants as reply
 use Rattle.gx_script.specs.declared.Script.{Script}
 use Rattle.gx_store.specs.declared.mark.Mark.{Mark}
@@ -19,7 +16,7 @@ use Rattle.gx_store.specs.declared.run.Step.{Step}
 use Rattle.gx_store.specs.Marks.{is_aborted, is_committed}
 use Rattle.gx_store.specs.Messages.{Receives}
 use Rattle.gx_store.specs.Points.{Point, before, marks_in}
-use Rattle.gx_store.specs.Protocol.{FollowsAt, IsExecuted}
+use Rattle.gx_store.specs.Protocol.{IsExecuted}
 use Rattle.gx_store.specs.Refusals.{the_coordinator}
 use Rattle.gx_rules.specs.Sending.{counted, numbered}
 use Rattle.gx_laws.proofs.Lists.{Each}

@@ -1,13 +1,11 @@
 -- What a segment's rule makes of its part of a transaction, message by message.
-use Rattle.std.proofs.Common.{◌≡◌, ◌⊎◌, inl, inr, ◌≤◌, ◌<◌, ℕ, ◌+◌, List, [], ◌∷◌, ◌++◌, Option, Some, None, Bool, true, false, refl, sym, subst, ap, ◌∙◌, if◌then◌else◌, ◌==◌, ◌||◌, ◌&&◌, nat_lt, arith, eqb}
-use Rattle.std.proofs.lemmas.Bool.{eqb-true}
+use Rattle.std.proofs.Common.{◌≡◌, ◌⊎◌, inl, inr, ◌≤◌, ◌<◌, ℕ, ◌+◌, List, [], ◌∷◌, Option, Some, None, Bool, true, false, refl, sym, subst, ap, ◌∙◌, if◌then◌else◌, ◌==◌, ◌||◌, ◌&&◌, nat_lt, arith, eqb}
 use Rattle.std.proofs.lemmas.Bool.Decides.{nat_tests}
 use Rattle.std.specs.Prelude.{fold, length}
 use Rattle.gx_ids.specs.declared.ids.Cid.{Cid}
 use Rattle.gx_ids.specs.declared.ids.Gxid.{Gxid}
 use Rattle.gx_ids.specs.declared.ids.Node.{Node}
 use Rattle.gx_ids.specs.declared.ids.Table.{Table}
-use Rattle.gx_tree.specs.declared.part.Part.TheVariants.{Rows}
 use Rattle.gx_tree.specs.declared.query.Query.{Query}
 use Rattle.gx_tree.specs.declared.row.KeyedRow.{KeyedRow}
 use Rattle.gx_tree.specs.declared.slice.Slice.{Slice}
@@ -15,7 +13,6 @@ use Rattle.gx_tree.specs.declared.slice.Slice.TheVariants as slice
 use Rattle.gx_dsnap.specs.Gxids.{is_below}
 use Rattle.gx_dsnap.specs.declared.snapshot.Snapshot.{Snapshot}
 use Rattle.gx_eval.specs.declared.fault.ArithFault.{ArithFault}
-use Rattle.gx_gather.specs.Answer.{keeps, part_of as query_part}
 use Rattle.gx_msg.specs.declared.item.JournalItem.{JournalItem}
 use Rattle.gx_msg.specs.declared.message.Message.{Message}
 use Rattle.gx_msg.specs.declared.message.Message.TheVariants as message
@@ -29,17 +26,17 @@ use Rattle.gx_store.specs.Protocol.{is_writer, local_count, prepared_count}
 use Rattle.gx_rules.specs.AtSegment.{changes, commits, finishes, if_fits, is_refused, on_abort, on_commit, on_commit_prepared, on_exec, on_forget, on_message, on_prepare, once, promises, raised, repeats, takes, unless_below, was_prepared}
 use Rattle.gx_rules.specs.Fits.{fits_exec}
 use Rattle.gx_rules.specs.Maps.{with_at}
-use Rattle.gx_rules.specs.Segments.{Local, Phase, Seg, SegTurn, has_committed, local_of, stays, tells, tells_kept}
+use Rattle.gx_rules.specs.Segments.{Local, Phase, Seg, SegTurn, has_committed, stays, tells, tells_kept}
 use Rattle.gx_rules.specs.Segments.Phase.{Reading, Writing, Prepared, Committed, Forgotten, Aborted}
 use Rattle.gx_rules.specs.Shown.{shown}
 use Rattle.gx_rules.specs.Slices.{Moved, answers, first_fault, has_written, inserted, inserts, inserts_row, runs_slice, selects}
 use Rattle.gx_laws.proofs.Lists.{Each, each_append}
 use Rattle.gx_protocol.specs.Pairs.{IsKept, IsVote, Pair, is_open}
-use Rattle.gx_protocol.specs.Said.{Answers, IsCommand, IsDone, Said, gxid_in, is_answer}
+use Rattle.gx_protocol.specs.Said.{Answers, IsCommand, Said, gxid_in, is_answer}
 use Rattle.gx_protocol.specs.Standings.{Known, Part, at, gx, part_of}
 use Rattle.gx_protocol.specs.Standings.Standing.{Unborn, Live, Over, One, Preparing, Two}
 use Rattle.gx_protocol.proofs.Counts.{local-append, prepared-append, writer-append}
-use Rattle.gx_protocol.proofs.Parts.{Next, commit-next, committing, end-next, ending, finish-next, finishing, grows-same, promise-next, promising, refuse-next, refusing, run-next, running}
+use Rattle.gx_protocol.proofs.Parts.{Next, commit-next, committing, end-next, finish-next, finishing, grows-same, promise-next, promising, refuse-next, refusing, run-next, running}
 
 -- a mark is among these
 abbrev pub HasMark : Mark → List Mark → Type 0

@@ -14,3 +14,6 @@ pub mod Everywhere
 pub mod Always
 pub mod Answering
 pub mod Completing
+pub mod Asked
+pub mod Complete
+pub mod Whole

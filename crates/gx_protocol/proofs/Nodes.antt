@@ -2,11 +2,9 @@
 use Rattle.std.proofs.Common.{◌≡◌, ℕ, List, [], ◌∷◌, ◌++◌, Bool, true, false, refl, sym, subst, ap, ◌∙◌, if◌then◌else◌, ◌||◌, cond, arith, eqb}
 use Rattle.std.proofs.lemmas.Bool.Decides.{nat_tests}
 use Rattle.std.proofs.lemmas.List.{append_assoc}
-use Rattle.std.specs.Prelude.{filter, map, nat_lt, not}
+use Rattle.std.specs.Prelude.{filter, nat_lt, not}
 use Rattle.gx_ids.specs.declared.ids.Node.{Node}
-use Rattle.gx_dtx.specs.Nodes.{has, to_each, with_node, without}
-use Rattle.gx_msg.specs.declared.message.Message.{Message}
-use Rattle.gx_msg.specs.declared.message.Out.{Out}
+use Rattle.gx_dtx.specs.Nodes.{has, with_node, without}
 use Rattle.gx_laws.proofs.Lists.{Each, each_append, each_filter}
 
 pub has-append : (i : Node) (xs ys : List Node) → has i (xs ++ ys) ≡ (has i xs || has i ys)

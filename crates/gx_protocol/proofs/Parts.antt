@@ -7,12 +7,12 @@ use Rattle.gx_msg.specs.declared.reply.Reply.{Reply}
 use Rattle.gx_msg.specs.declared.reply.Reply.TheVariants as reply
 use Rattle.gx_rules.specs.AtSegment.{was_prepared}
 use Rattle.gx_rules.specs.Segments.{Phase, has_committed}
-use Rattle.gx_rules.specs.Segments.Phase.{Reading, Writing, Prepared, Committed, Forgotten, Aborted}
+use Rattle.gx_rules.specs.Segments.Phase.{Prepared, Committed}
 use Rattle.gx_rules.specs.Slices.{has_written}
 use Rattle.gx_protocol.specs.Pairs.{IsKept, IsVote, Pair, bit, is_open}
 use Rattle.gx_protocol.specs.Said.{Answers, IsCommand, IsDone, Said}
-use Rattle.gx_protocol.specs.Standings.{Known, Part, Standing, is_closing, is_decided, is_undecided}
-use Rattle.gx_protocol.specs.Standings.Standing.{Unborn, Live, Preparing, One, Two, Over}
+use Rattle.gx_protocol.specs.Standings.{Known, Part, Standing, is_closing}
+use Rattle.gx_protocol.specs.Standings.Standing.{Preparing, One, Two, Over}
 
 pub record Grows (p q : Part) : Type 0 where
   pub last : p.last ≤ q.last

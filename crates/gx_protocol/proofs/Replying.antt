@@ -1,21 +1,18 @@
 -- Answers to PREPARE, COMMIT, COMMIT PREPARED, FORGET and ABORT.
-use Rattle.std.proofs.Common.{◌≡◌, ◌≤◌, ◌<◌, ◌⊎◌, inl, inr, ℕ, ◌+◌, List, [], ◌∷◌, ◌++◌, Option, Some, None, Bool, true, false, refl, sym, subst, ap, ◌∙◌, if◌then◌else◌, ◌||◌, ◌==◌, arith, eqb, append-nil}
+use Rattle.std.proofs.Common.{◌≡◌, inl, ℕ, ◌+◌, List, [], ◌∷◌, ◌++◌, Option, Some, None, Bool, true, false, refl, sym, subst, ap, ◌∙◌, if◌then◌else◌, ◌||◌, ◌==◌, arith, eqb}
 use Rattle.std.proofs.lemmas.Bool.{eqb-true}
 use Rattle.std.proofs.lemmas.Bool.Decides.{nat_tests}
-use Rattle.std.specs.Prelude.{length, nat_le, slice_get, take}
-use Rattle.gx_ids.specs.declared.ids.Gxid.{Gxid}
+use Rattle.std.specs.Prelude.{length, nat_le, take}
 use Rattle.gx_ids.specs.declared.ids.Node.{Node}
-use Rattle.gx_dtx.specs.Nodes.{has, to_each, without}
-use Rattle.gx_dtx.specs.Rules.{Turn, changed, decides, ends_committed, finishes, forgets, gives_up, is_awaited, on_reply, prepares, refuses, reply_found, stays, takes, turns}
-use Rattle.gx_dtx.specs.Table.{Table, find_txn}
+use Rattle.gx_dtx.specs.Nodes.{has, without}
+use Rattle.gx_dtx.specs.Rules.{decides, ends_committed, finishes, forgets, gives_up, is_awaited, prepares, refuses, reply_found, stays, takes, turns}
+use Rattle.gx_dtx.specs.Table.{find_txn}
 use Rattle.gx_dtx.specs.declared.change.Change.{Change}
 use Rattle.gx_dtx.specs.declared.outcome.Outcome.TheVariants as outcome
 use Rattle.gx_dtx.specs.declared.phase.Phase.{Phase as Status}
 use Rattle.gx_dtx.specs.declared.phase.Phase.TheVariants as status
 use Rattle.gx_dtx.specs.declared.txn.Txn.{Txn}
-use Rattle.gx_msg.specs.declared.message.Message.{Message}
 use Rattle.gx_msg.specs.declared.message.Message.TheVariants as message
-use Rattle.gx_msg.specs.declared.message.Out.{Out}
 use Rattle.gx_msg.specs.declared.reply.Reply.{Reply}
 use Rattle.gx_msg.specs.declared.reply.Reply.TheVariants as reply
 use Rattle.gx_script.specs.declared.Script.{Script}
@@ -24,27 +21,26 @@ use Rattle.gx_store.specs.declared.answer.StmtAnswer.TheVariants as told
 use Rattle.gx_store.specs.declared.mark.Mark.{Mark}
 use Rattle.gx_store.specs.declared.mark.Mark.TheVariants as mark
 use Rattle.gx_store.specs.Marks.{is_aborted, is_committed}
-use Rattle.gx_store.specs.Protocol.{CommitsBy, decided_count, is_writer, local_count, prepared_count, writers_of}
+use Rattle.gx_store.specs.Protocol.{decided_count, is_writer, local_count, prepared_count, writers_of}
 use Rattle.gx_store.specs.Refusals.{the_coordinator}
-use Rattle.gx_rules.specs.AtCoordinator.{answer_mark, failure_marks, follows, is_committed as is_closed, on_status}
+use Rattle.gx_rules.specs.AtCoordinator.{answer_mark, failure_marks, follows, on_status}
 use Rattle.gx_rules.specs.AtSegment.{was_prepared}
-use Rattle.gx_rules.specs.Coordinators.{Command, Coord, CoordTurn, Work, no_work, session_of, work_of}
+use Rattle.gx_rules.specs.Coordinators.{Coord, CoordTurn, work_of}
 use Rattle.gx_rules.specs.Segments.{Phase, has_committed}
-use Rattle.gx_laws.proofs.Lists.{Each, each_map, each_weaker, get_last}
-use Rattle.gx_laws.proofs.Places.{IsOneOf}
-use Rattle.gx_laws.proofs.Stages.{IsWhole, changed-at, left_of}
+use Rattle.gx_laws.proofs.Lists.{Each, each_weaker, get_last}
+use Rattle.gx_laws.proofs.Stages.{IsWhole, left_of}
 use Rattle.gx_laws.proofs.Tables.{AreIn}
-use Rattle.gx_protocol.specs.Pairs.{IsVote, Pair, bit, is_open}
-use Rattle.gx_protocol.specs.Said.{Answers, Said, gxid_in, is_answer}
+use Rattle.gx_protocol.specs.Pairs.{IsVote, Pair, bit}
+use Rattle.gx_protocol.specs.Said.{Answers}
 use Rattle.gx_protocol.specs.Standings.{Known, Part, Standing, at, gx, is_closing, is_undecided, known_at, known_of, standing, standing_in}
 use Rattle.gx_protocol.specs.Standings.Standing.{Unborn, Live, Preparing, One, Two, Over}
 use Rattle.gx_protocol.proofs.Calls.{CanEnd, Elsewhere, Mute, abort-led, becomes-calm, calm-led, committed-led, ended-follows, for-all, known, one-change, or-none, plus-none, self, stands-as, still-led, to-nodes, unaborted, uncommitted, not-self}
 use Rattle.gx_protocol.proofs.Commits.{AtMostOne, Decision, few, filter-few, filter-many, many}
 use Rattle.gx_protocol.proofs.Nodes.{AreApart, each-has, has-without}
 use Rattle.gx_protocol.proofs.Shifts.{Shift, decide-shift, deciding, finished-shift, promised-shift, shift-same}
-use Rattle.gx_protocol.proofs.Ways.{Agrees, AgreesIn, Fol, IsMany, Led, One as OneChange, SaidOut, Stands, Way, Working, at-one, becomes, known-here}
+use Rattle.gx_protocol.proofs.Ways.{Agrees, AgreesIn, IsMany, Led, Stands, at-one, becomes, known-here}
 
-take-length : {A : Type 0} (xs ys : List A) → take (length xs) (xs ++ ys) ≡ xs
+pub take-length : {A : Type 0} (xs ys : List A) → take (length xs) (xs ++ ys) ≡ xs
 take-length [] ys = refl
 take-length (x ∷ xs) ys = ap (λ zs. x ∷ zs) (take-length xs ys)
 
@@ -148,7 +144,7 @@ module _ (script : Script) (P : ℕ → ℕ → Part) (c : Coord) (ms : List Mar
             record {
               way = at-one script P c turn.coord ms turn.marks g (left_of ch.step (Some t)) (c.works g) o s (λ i. subst (λ q. Shift (k i) q (P i g)) (sym (known-now i)) (decide-shift (has (at i) aw) (has (at i) xs) (k i) (P i g) (pair i) (at-preparing i) (all-promised none i) (ap (has (at i)) (agrees-in (status.Preparing xs aw) e).0)))
                   (s.works g) ((agrees-in (status.Preparing xs aw) e).1, decision) (unaborted script P c ms s whole g t f (k 0) (P 0 g) (pair 0) (not-over 0 (preparing-closing 0)), tt);
-              outs = to-nodes _ (message.CommitPrepared (gx g)) xs (each_weaker (λ (y : Node). has y xs ≡ true) _ (λ y h. (refl, inl (ap (λ (q : Known). q.at) (known-here script P c turn.coord ms turn.marks g (left_of ch.step (Some t)) (c.works g) o y.0) ∙ ap Two h))) xs (each-has xs));
+              outs = to-nodes _ (message.CommitPrepared (gx g)) xs (each_weaker (λ (y : Node). has y xs ≡ true) _ (λ y h. (refl, inl (ap (λ (q : Known). q.at) (known-here script P c turn.coord ms turn.marks g (left_of ch.step (Some t)) (c.works g) o y.0) ∙ ap Two h), tt)) xs (each-has xs));
             }
           where
             same : (h : ℕ) (b : Bool) → eqb h g ≡ b → c.works h ≡ (if b then c.works g else c.works h)

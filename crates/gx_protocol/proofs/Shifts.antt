@@ -1,16 +1,15 @@
 -- How what the coordinator knows of a transaction at a segment changes, and what stays said.
-use Rattle.std.proofs.Common.{◌≡◌, ◌⊎◌, inl, inr, ◌≤◌, ◌<◌, ℕ, ◌+◌, Option, Some, None, Bool, true, false, refl, sym, ◌∙◌, ◌||◌, arith}
+use Rattle.std.proofs.Common.{◌≡◌, ◌⊎◌, inl, inr, ◌≤◌, ℕ, ◌+◌, None, Bool, true, false, ◌||◌, arith}
 use Rattle.std.proofs.lemmas.Bool.Decides.{nat_tests}
 use Rattle.gx_msg.specs.declared.message.Message.{Message}
 use Rattle.gx_msg.specs.declared.message.Message.TheVariants as message
 use Rattle.gx_msg.specs.declared.reply.Reply.{Reply}
 use Rattle.gx_msg.specs.declared.reply.Reply.TheVariants as reply
 use Rattle.gx_rules.specs.AtSegment.{was_prepared}
-use Rattle.gx_rules.specs.Segments.{Phase, has_committed}
-use Rattle.gx_rules.specs.Segments.Phase.{Reading, Writing}
-use Rattle.gx_protocol.specs.Pairs.{IsVote, Pair, is_open}
+use Rattle.gx_rules.specs.Segments.{has_committed}
+use Rattle.gx_protocol.specs.Pairs.{Pair}
 use Rattle.gx_protocol.specs.Said.{Answers, IsCommand, IsDone, Said}
-use Rattle.gx_protocol.specs.Standings.{Known, Part, Standing, is_closing, is_decided, is_undecided}
+use Rattle.gx_protocol.specs.Standings.{Known, Part, Standing, is_closing}
 use Rattle.gx_protocol.specs.Standings.Standing.{Unborn, Live, Preparing, One, Two, Over}
 
 pub record Shift (k n : Known) (p : Part) : Type 0 where

@@ -1,5 +1,5 @@
 -- What the coordinator's events keep: one transaction changes, and the others stay.
-use Rattle.std.proofs.Common.{◌≡◌, ◌≤◌, ◌<◌, ℕ, ◌+◌, List, [], ◌∷◌, ◌++◌, Option, Some, None, Bool, true, false, refl, sym, subst, ap, ◌∙◌, if◌then◌else◌, ◌||◌, arith, eqb, append-nil}
+use Rattle.std.proofs.Common.{◌≡◌, ℕ, ◌+◌, List, [], ◌∷◌, ◌++◌, Option, Some, None, Bool, true, false, refl, sym, subst, ap, ◌∙◌, if◌then◌else◌, ◌||◌, arith, eqb, append-nil}
 use Rattle.std.proofs.lemmas.Bool.{eqb-true}
 use Rattle.std.proofs.lemmas.Bool.Decides.{nat_tests}
 use Rattle.std.proofs.lemmas.List.{append_assoc}
@@ -19,7 +19,7 @@ use Rattle.gx_store.specs.declared.mark.Mark.{Mark}
 use Rattle.gx_store.specs.declared.mark.Mark.TheVariants as mark
 use Rattle.gx_store.specs.Marks.{is_aborted, is_committed}
 use Rattle.gx_store.specs.Protocol.{CommitsBy, decided_count, is_writer, local_count, prepared_count, writers_of}
-use Rattle.gx_rules.specs.Coordinators.{Command, Coord, CoordTurn, Work, new_work, rests}
+use Rattle.gx_rules.specs.Coordinators.{Command, Coord, CoordTurn, Work, rests}
 use Rattle.gx_laws.proofs.Ends.{begun-finds}
 use Rattle.gx_laws.proofs.Lines.{undrawn}
 use Rattle.gx_laws.proofs.Lists.{Each}
@@ -27,7 +27,7 @@ use Rattle.gx_laws.proofs.Past.{aborted-append, committed-append}
 use Rattle.gx_laws.proofs.Stages.{IsWhole}
 use Rattle.gx_protocol.specs.Pairs.{Pair}
 use Rattle.gx_protocol.specs.Said.{Said, gxid_in, is_answer}
-use Rattle.gx_protocol.specs.Standings.{Known, Part, Standing, at, gx, known_at, known_of, standing}
+use Rattle.gx_protocol.specs.Standings.{Known, Part, Standing, at, gx, known_at, known_of, standing, waits_in}
 use Rattle.gx_protocol.specs.Standings.Standing.{Unborn, Live}
 use Rattle.gx_protocol.proofs.Commits.{Decision, decision-append}
 use Rattle.gx_protocol.proofs.Counts.{NoPart, decided-append, local-append, no-local, no-prepared, no-writer, prepared-append, writer-append}
@@ -126,6 +126,11 @@ pub record Working (g : ℕ) (w : Work) : Type 0 where
   pub apart : AreApart w.writers
   pub command : CommandOf g w.last w.command
 
+-- a command that is sent is the one whose answer is awaited
+abbrev pub AsksFor : Coord → ℕ → Message → Type 0
+AsksFor d i (message.Exec g c level snapshot horizon slice) = (waits_in (d.works g.0).command i ≡ true) × (c.0 ≡ (d.works g.0).last)
+AsksFor d i _ = Unit {0}
+
 -- WHAT ALWAYS STANDS, AND HOW ONE LEADS TO THE NEXT
 module _ (script : Script) (P : ℕ → ℕ → Part) where
   pub record Stands (c : Coord) (ms : List Mark) : Type 0 where
@@ -145,7 +150,7 @@ module _ (script : Script) (P : ℕ → ℕ → Part) where
     pub fol : Fol script ms ns
 
   abbrev pub SaidOut : Coord → List Mark → Out → Type 0
-  SaidOut d ms o = (is_answer o.message ≡ false) × Said (known_at d ms o.node.0 (gxid_in o.message)) (P o.node.0 (gxid_in o.message)) o.message
+  SaidOut d ms o = (is_answer o.message ≡ false) × Said (known_at d ms o.node.0 (gxid_in o.message)) (P o.node.0 (gxid_in o.message)) o.message × AsksFor d o.node.0 o.message
 
   pub record Led (c : Coord) (ms : List Mark) (turn : CoordTurn) : Type 0 where
     pub way : Way c ms turn.coord turn.marks

@@ -1,6 +1,5 @@
 -- What a message that was ever sent says, of its sender and of its receiver.
 use Rattle.std.specs.Prelude.{◌≡◌, ◌⊎◌, ◌≤◌, ◌<◌, ℕ, Bool, true, false, if◌then◌else◌, List, [], ◌∷◌, None, Some}
-use Rattle.gx_ids.specs.declared.ids.Gxid.{Gxid}
 use Rattle.gx_msg.specs.declared.message.Message.{Message}
 use Rattle.gx_msg.specs.declared.message.Message.TheVariants as message
 use Rattle.gx_msg.specs.declared.reply.Reply.{Reply}
@@ -11,7 +10,7 @@ use Rattle.gx_rules.specs.AtSegment.{was_prepared}
 use Rattle.gx_rules.specs.Coordinators.{Coord}
 use Rattle.gx_rules.specs.Machine.{Letter, World}
 use Rattle.gx_rules.specs.Segments.{Seg, has_committed}
-use Rattle.gx_protocol.specs.Standings.{Known, Part, gx, is_closing, known_at, part_at}
+use Rattle.gx_protocol.specs.Standings.{Known, Part, is_closing, known_at, part_at}
 use Rattle.gx_protocol.specs.Standings.Standing.{Unborn, Live, Preparing, One, Two}
 
 -- an answer to a command that still counts
