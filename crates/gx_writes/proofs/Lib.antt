@@ -1,2 +1,5 @@
 pub mod Plans
 pub mod Turns
+pub mod Live
+pub mod Rows
+pub mod Placed
