@@ -3,3 +3,5 @@ pub mod Turns
 pub mod Live
 pub mod Rows
 pub mod Placed
+pub mod Told
+pub mod Legal
