@@ -5,3 +5,5 @@ pub mod Rows
 pub mod Placed
 pub mod Told
 pub mod Legal
+pub mod Moves
+pub mod World

@@ -55,13 +55,13 @@ abbrev pub IsWordOf : Script → List Mark → (ℕ → ℕ → Local) → Node 
 IsWordOf script ms locals node (message.Answer g r) = IsToldOf script ms (locals node.0 g.0).last node g r
 IsWordOf script ms locals node m = Unit {0}
 
--- what the marks of a node's step send
+-- what the marks of a node's step send, of a segment's
 abbrev pub SentTold : Script → List Mark → (ℕ → ℕ → Local) → Node → Mark → Type 0
 SentTold script ms locals node (mark.Sent to number m) = IsWordOf script ms locals node m
 SentTold script ms locals node m = Unit {0}
 
 abbrev pub StepTold : Script → List Mark → (ℕ → ℕ → Local) → Step → Type 0
-StepTold script ms locals s = Each (SentTold script ms locals s.stamp.node) s.marks
+StepTold script ms locals s = 1 ≤ s.stamp.node.0 → Each (SentTold script ms locals s.stamp.node) s.marks
 
 -- MORE MARKS, AND LATER COMMANDS
 or-first : (a b : Bool) → a ≡ true → (a || b) ≡ true
@@ -135,7 +135,7 @@ module _ (script : Script) (numbered : AreLinesNumbered [] script.lines) (ms ns 
     sent-more node (mark.Recheck x y z) d = tt
 
     pub steps-more : (steps : List Step) → Each (StepTold script ms f) steps → Each (StepTold script (ms ++ ns) h) steps
-    steps-more steps e = each_weaker (StepTold script ms f) (StepTold script (ms ++ ns) h) (λ s k. each_weaker (SentTold script ms f s.stamp.node) (SentTold script (ms ++ ns) h s.stamp.node) (λ m d. sent-more s.stamp.node m d) s.marks k) steps e
+    steps-more steps e = each_weaker (StepTold script ms f) (StepTold script (ms ++ ns) h) (λ s k one. each_weaker (SentTold script ms f s.stamp.node) (SentTold script (ms ++ ns) h s.stamp.node) (λ m d. sent-more s.stamp.node m d) s.marks (k one)) steps e
 
 -- LOOKED UP
 pub each-get : {A : Type 0} (P : A → Type 0) (xs : List A) (k : ℕ) (x : A) → Each P xs → slice_get xs k ≡ Some x → P x
@@ -158,10 +158,10 @@ take-get (suc n) [] k x e = absurd (none e)
 take-get (suc n) (y ∷ ys) zero x e = e
 take-get (suc n) (y ∷ ys) (suc k) x e = take-get n ys k x e
 
-pub sending-told : (script : Script) (ms : List Mark) (locals : ℕ → ℕ → Local) (steps : List Step) (step mark : ℕ) (from to : Node) (number : ℕ) (m : Message) → Each (StepTold script ms locals) steps → IsSending steps step mark from to number m → IsWordOf script ms locals from m
-sending-told script ms locals steps step mark from to number m e s =
-    subst (λ n. IsWordOf script ms locals n m) s.node (each-get (SentTold script ms locals s.sender.stamp.node) s.sender.marks mark _ (each-get (StepTold script ms locals) steps step s.sender e s.at) s.sent)
+pub sending-told : (script : Script) (ms : List Mark) (locals : ℕ → ℕ → Local) (steps : List Step) (step mark : ℕ) (from to : Node) (number : ℕ) (m : Message) → 1 ≤ from.0 → Each (StepTold script ms locals) steps → IsSending steps step mark from to number m → IsWordOf script ms locals from m
+sending-told script ms locals steps step mark from to number m one e s =
+    subst (λ n. IsWordOf script ms locals n m) s.node (each-get (SentTold script ms locals s.sender.stamp.node) s.sender.marks mark _ (each-get (StepTold script ms locals) steps step s.sender e s.at (subst (λ (n : Node). 1 ≤ n.0) (sym s.node) one)) s.sent)
 
-pub taken-told : (script : Script) (ms : List Mark) (locals : ℕ → ℕ → Local) (steps : List Step) (n step mark : ℕ) (from to : Node) (number : ℕ) (m : Message) → Each (StepTold script ms locals) steps → IsSending (take n steps) step mark from to number m → IsWordOf script ms locals from m
-taken-told script ms locals steps n step mark from to number m e s =
-    sending-told script ms locals steps step mark from to number m e (record { sender = s.sender; at = take-get n steps step s.sender s.at; node = s.node; sent = s.sent })
+pub taken-told : (script : Script) (ms : List Mark) (locals : ℕ → ℕ → Local) (steps : List Step) (n step mark : ℕ) (from to : Node) (number : ℕ) (m : Message) → 1 ≤ from.0 → Each (StepTold script ms locals) steps → IsSending (take n steps) step mark from to number m → IsWordOf script ms locals from m
+taken-told script ms locals steps n step mark from to number m one e s =
+    sending-told script ms locals steps step mark from to number m one e (record { sender = s.sender; at = take-get n steps step s.sender s.at; node = s.node; sent = s.sent })
