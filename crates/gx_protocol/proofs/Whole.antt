@@ -203,10 +203,10 @@ module _ (script : Script) (some : 1 ≤ script.segments) where
       by_can true ok = event-replied w e fails k v r ok
       by_can false ok = r
 
-  record Both (w : World) : Type 0 where
-    knows : Knows script w
-    holds : Holds script w
-    replied : Replied script w
+  pub record Both (w : World) : Type 0 where
+    pub knows : Knows script w
+    pub holds : Holds script w
+    pub replied : Replied script w
 
   after-both : (es : List (Event × Bool)) (w : World) → Both w → Both (after script w es)
   after-both [] w b = b
@@ -216,7 +216,7 @@ module _ (script : Script) (some : 1 ≤ script.segments) where
   new-replied : Replied script new_world
   new-replied = record { lines = λ t. refl; last = λ t h e. absurd (cc); back = tt; answers = tt }
 
-  world-both : (es : List (Event × Bool)) → Both (world_of script es)
+  pub world-both : (es : List (Event × Bool)) → Both (world_of script es)
   world-both es = after-both es new_world (record { knows = new_knows script some; holds = new-holds script some; replied = new-replied })
 
   -- THE WHOLE
