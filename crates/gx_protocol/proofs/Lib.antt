@@ -22,3 +22,4 @@ pub mod Lows
 pub mod Lowered
 pub mod Raised
 pub mod Low
+pub mod Held

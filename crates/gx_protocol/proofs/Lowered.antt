@@ -60,10 +60,10 @@ no-exec-low : (d : Table) (m : Message) → NoExec m → IsLowIn d m
 no-exec-low d (message.Exec g c level x h y) e = absurd e
 no-exec-low d m e = tt
 
-abbrev NoneOf : Change → Type 0
+abbrev pub NoneOf : Change → Type 0
 NoneOf ch = Each (λ (o : Out). NoExec o.message) ch.out.outs
 
-to-each-none : (m : Message) (nodes : List Node) → NoExec m → Each (λ (o : Out). NoExec o.message) (to_each m nodes)
+pub to-each-none : (m : Message) (nodes : List Node) → NoExec m → Each (λ (o : Out). NoExec o.message) (to_each m nodes)
 to-each-none m [] e = tt
 to-each-none m (i ∷ is) e = (e, to-each-none m is e)
 
