@@ -23,3 +23,4 @@ pub mod Lowered
 pub mod Raised
 pub mod Low
 pub mod Held
+pub mod Holding
