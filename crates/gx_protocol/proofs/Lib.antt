@@ -24,3 +24,4 @@ pub mod Raised
 pub mod Low
 pub mod Held
 pub mod Holding
+pub mod Ended
