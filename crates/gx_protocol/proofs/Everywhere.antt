@@ -183,7 +183,7 @@ follows-no-end told k i g (mark.Abort h ∷ ns) e = absurd e.0
 follows-no-end told k i g (mark.Decided h ∷ ns) e = absurd e.0
 follows-no-end told k i g (m ∷ ns) e = (tt, follows-no-end told k i g ns e.1)
 
-follows-no-sent : (told : Message) (k : Known) (i g : ℕ) (ns : List Mark) → Each (Follows told k i g) ns → Each NoSent ns
+pub follows-no-sent : (told : Message) (k : Known) (i g : ℕ) (ns : List Mark) → Each (Follows told k i g) ns → Each NoSent ns
 follows-no-sent told k i g [] e = tt
 follows-no-sent told k i g (mark.Sent to number m ∷ ns) e = absurd e.0
 follows-no-sent told k i g (m ∷ ns) e = (tt, follows-no-sent told k i g ns e.1)
@@ -193,7 +193,7 @@ each-both P [] ys e f = f
 each-both P (x ∷ xs) ys e f = (e.0, each-both P xs ys e.1 f)
 
 -- what it tells is an answer that is said
-told-answer : (k : Known) (q : Part) (i g : ℕ) (marks : List Mark) (m : Message) → Tells k q i g marks m → (is_answer m ≡ true) × (gxid_in m ≡ g) × Said k q m
+pub told-answer : (k : Known) (q : Part) (i g : ℕ) (marks : List Mark) (m : Message) → Tells k q i g marks m → (is_answer m ≡ true) × (gxid_in m ≡ g) × Said k q m
 told-answer k q i g marks (message.Answer h reply.Again) e = (refl, e.0, tt)
 told-answer k q i g marks (message.Answer h (reply.Done c x y z)) e = (refl, e.0, e.1)
 told-answer k q i g marks (message.Answer h (reply.Failed c x)) e = (refl, e.0, tt)
@@ -245,7 +245,7 @@ module _ (script : Script) (w : World) (n : Knows script w) (v : Holds script w)
   pub does-it : Does msg (known i g) s i g (n.well.names i) (is_writer ms2 (gx g) (at i)) (prepared_count ms2 (at i) (gx g)) (local_count ms2 (at i) (gx g)) (v.stands.pairs i g) turn2
   does-it = handled script fails (known i g) s i (n.well.names i) (is_writer ms2 (gx g) (at i)) (prepared_count ms2 (at i) (gx g)) (local_count ms2 (at i) (gx g)) msg (v.stands.pairs i g) said
 
-  abbrev new_part : Part
+  abbrev pub new_part : Part
   new_part = after_marks (turn2.seg.locals g) (is_writer ms2 (gx g) (at i)) (prepared_count ms2 (at i) (gx g)) (local_count ms2 (at i) (gx g)) i g turn2.marks
 
   quiet-sent : Each NoPart sent2

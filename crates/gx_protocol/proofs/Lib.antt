@@ -25,3 +25,4 @@ pub mod Low
 pub mod Held
 pub mod Holding
 pub mod Ended
+pub mod Holders
