@@ -45,23 +45,23 @@ use Rattle.gx_protocol.proofs.Held.{held_in, is_awaited_at, is_held}
 use Rattle.gx_protocol.proofs.Holding.{HeldFor, HeldOut, Holding, IsEndedIn, OrdersHeld, SaysBy, event-holds, held-goes}
 use Rattle.gx_protocol.proofs.Low.{plain-none, world-low}
 
-abbrev ended_at : (ℕ → Seg) → ℕ → ℕ → Bool
+abbrev pub ended_at : (ℕ → Seg) → ℕ → ℕ → Bool
 ended_at segs i g = has_ended ((segs i).locals g).phase
 
 -- what a segment has told of an end
-abbrev EndTold : (ℕ → Seg) → ℕ → Message → Type 0
+abbrev pub EndTold : (ℕ → Seg) → ℕ → Message → Type 0
 EndTold segs i (message.Answer g reply.Aborted) = ended_at segs i g.0 ≡ true
 EndTold segs i (message.Answer g reply.Forgotten) = ended_at segs i g.0 ≡ true
 EndTold segs i _ = Unit {0}
 
-record LetterHeld (w : World) (l : Letter) : Type 0 where
-  held : HeldFor (ended_at w.segs) w.coord.table l.to.0 l.envelope.message
-  told : 1 ≤ l.from.0 → EndTold w.segs l.from.0 l.envelope.message
+pub record LetterHeld (w : World) (l : Letter) : Type 0 where
+  pub held : HeldFor (ended_at w.segs) w.coord.table l.to.0 l.envelope.message
+  pub told : 1 ≤ l.from.0 → EndTold w.segs l.from.0 l.envelope.message
 
-record Waits (w : World) : Type 0 where
-  orders : OrdersHeld (ended_at w.segs) w.coord.table w.coord.works
-  locals : (i g : ℕ) → nat_lt 0 ((w.segs i).locals g).last ≡ true → ended_at w.segs i g ≡ false → held_in w.coord.table i g ≡ true
-  sent : Each (LetterHeld w) w.sent
+pub record Waits (w : World) : Type 0 where
+  pub orders : OrdersHeld (ended_at w.segs) w.coord.table w.coord.works
+  pub locals : (i g : ℕ) → nat_lt 0 ((w.segs i).locals g).last ≡ true → ended_at w.segs i g ≡ false → held_in w.coord.table i g ≡ true
+  pub sent : Each (LetterHeld w) w.sent
 
 clash : (b : Bool) → b ≡ true → b ≡ false → ⊥
 clash b e f = grind arith
@@ -74,7 +74,7 @@ module _ (script : Script) (some : 1 ≤ script.segments) (w : World) (n : Knows
   abbrev next : World
   next = coord_did w e (coord_rule script w.coord x fails)
 
-  coord-waits : coord_can script w.coord x ≡ true → IsEndedIn (ended_at w.segs) script w.coord n.kept v.orders x → Waits next
+  pub coord-waits : coord_can script w.coord x ≡ true → IsEndedIn (ended_at w.segs) script w.coord n.kept v.orders x → Waits next
   coord-waits ok d =
       let f : Holding (ended_at w.segs) w.coord turn = event-holds (ended_at w.segs) script w.coord n.kept v.orders x fails ok d in
       record {
@@ -228,7 +228,7 @@ module _ (script : Script) (w : World) (n : Knows script w) (v : Holds script w)
   told-next (message.Collect round) q z = tt
   told-next (message.Graph round graph) q z = tt
 
-  seg-waits : Waits seg_next
+  pub seg-waits : Waits seg_next
   seg-waits =
       let d = does-it script w n v e fails i from envelope received said in
       record {

@@ -26,3 +26,4 @@ pub mod Held
 pub mod Holding
 pub mod Ended
 pub mod Holders
+pub mod Above

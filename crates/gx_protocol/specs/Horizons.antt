@@ -32,7 +32,7 @@ pub record AreHorizonsLow (w : World) : Type 0 where
   pub segments : (i : ℕ) → IsLow (w.segs i).horizon.0 w.coord.table
   pub commands : AreLowIn w.coord.table w.sent
 
--- nor above a transaction that holds locks at the segment, so that no command is refused for its horizon
+-- nor above a transaction that holds locks at the segment, for which the segment would refuse a command
 abbrev pub IsBelowHolders : Seg → ℕ → Type 0
 IsBelowHolders s horizon = (g : ℕ) → holds_locks (s.locals g) ≡ true → horizon ≤ g
 
