@@ -1,5 +1,5 @@
 -- Over every run of the machine, whoever holds locks at a segment is waited for, and so no horizon is above it.
-use Rattle.std.proofs.Common.{◌≡◌, ◌≤◌, ◌<◌, ◌⊎◌, inl, inr, ℕ, ◌+◌, List, [], ◌∷◌, Option, Some, None, Bool, true, false, refl, sym, subst, ap, ◌∙◌, if◌then◌else◌, ◌&&◌, nat_lt, arith, eqb}
+use Rattle.std.proofs.Common.{◌≡◌, ◌≤◌, inl, inr, ℕ, List, [], ◌∷◌, Option, Some, None, Bool, true, false, refl, sym, subst, ap, ◌∙◌, if◌then◌else◌, ◌&&◌, nat_lt, arith}
 use Rattle.std.proofs.lemmas.Bool.Decides.{nat_tests}
 use Rattle.std.specs.Prelude.{not}
 use Rattle.gx_ids.specs.declared.ids.Node.{Node}
@@ -21,16 +21,13 @@ use Rattle.gx_store.specs.Points.{marks_in}
 use Rattle.gx_store.specs.Refusals.{the_coordinator}
 use Rattle.gx_rules.specs.AtCoordinator.{coord_can, coord_rule}
 use Rattle.gx_rules.specs.AtSegment.{seg_rule}
-use Rattle.gx_rules.specs.Fits.{holds_locks}
 use Rattle.gx_rules.specs.Machine.{Letter, World, after, at_node, can, can_here, coord_did, delivered, does, found, happens, new_world, node_of, seg_can, seg_did, world_of}
-use Rattle.gx_rules.specs.Segments.{Seg, has_ended}
 use Rattle.gx_laws.proofs.Letters.{IsFound, IsLetter, found_is}
-use Rattle.gx_laws.proofs.Lists.{Each}
 use Rattle.gx_laws.proofs.Ordered.{never_resumes}
 use Rattle.gx_laws.proofs.World.{Knows, happens_knows, new_knows}
 use Rattle.gx_protocol.specs.Horizons.{AreBelowIn, AreHorizonsLow, AreHoldersAbove, AreLowIn, IsBelowHolders, IsBelowIn, IsLow, IsLowIn}
 use Rattle.gx_protocol.specs.Said.{Said, SaidAt, SaidIn, gxid_in, is_answer}
-use Rattle.gx_protocol.specs.Standings.{at, gx, known_at}
+use Rattle.gx_protocol.specs.Standings.{gx, known_at}
 use Rattle.gx_protocol.proofs.Always.{IsPosted, answer-of, each-zip, happens-holds, new-holds}
 use Rattle.gx_protocol.proofs.Everywhere.{Holds, parts_in}
 use Rattle.gx_protocol.proofs.Held.{held_in, is_held}

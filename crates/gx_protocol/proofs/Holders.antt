@@ -1,11 +1,9 @@
 -- Over every run of the machine, no horizon is above a transaction that holds locks at the segment.
-use Rattle.std.proofs.Common.{◌≡◌, ◌≤◌, ◌<◌, ◌⊎◌, inl, inr, ℕ, ◌+◌, List, [], ◌∷◌, ◌++◌, Option, Some, None, Bool, true, false, refl, sym, subst, ap, ◌∙◌, if◌then◌else◌, ◌&&◌, nat_lt, arith, eqb}
+use Rattle.std.proofs.Common.{◌≡◌, ◌≤◌, ◌⊎◌, inl, inr, ℕ, List, [], ◌∷◌, Option, Some, None, Bool, true, false, refl, sym, subst, ap, ◌∙◌, if◌then◌else◌, nat_lt, arith, eqb}
 use Rattle.std.proofs.lemmas.Bool.{eqb-true}
 use Rattle.std.proofs.lemmas.Bool.Decides.{nat_tests}
-use Rattle.std.specs.Prelude.{not}
 use Rattle.gx_ids.specs.declared.ids.Node.{Node}
-use Rattle.gx_dtx.specs.Table.{Table, find_txn}
-use Rattle.gx_dtx.specs.declared.txn.Txn.{Txn}
+use Rattle.gx_dtx.specs.Table.{Table}
 use Rattle.gx_msg.specs.declared.message.Envelope.{Envelope}
 use Rattle.gx_msg.specs.declared.message.Message.{Message}
 use Rattle.gx_msg.specs.declared.message.Message.TheVariants as message
@@ -13,37 +11,28 @@ use Rattle.gx_msg.specs.declared.message.Out.{Out}
 use Rattle.gx_msg.specs.declared.reply.Reply.TheVariants as reply
 use Rattle.gx_script.specs.declared.Script.{Script}
 use Rattle.gx_store.specs.declared.event.Event.{Event}
-use Rattle.gx_store.specs.declared.event.Event.TheVariants as event
 use Rattle.gx_store.specs.declared.node.NodeEvent.{NodeEvent}
 use Rattle.gx_store.specs.declared.node.NodeEvent.TheVariants as here
-use Rattle.gx_store.specs.Journals.{is_same_node}
-use Rattle.gx_store.specs.Messages.{IsSending, IsSent, Receives}
-use Rattle.gx_store.specs.Ordered.{IsLink, IsSegment}
+use Rattle.gx_store.specs.Messages.{Receives}
 use Rattle.gx_store.specs.Points.{marks_in}
 use Rattle.gx_store.specs.Refusals.{the_coordinator}
 use Rattle.gx_rules.specs.AtCoordinator.{coord_can, coord_rule, on_event}
 use Rattle.gx_rules.specs.AtSegment as segment
 use Rattle.gx_rules.specs.AtSegment.{seg_rule}
 use Rattle.gx_rules.specs.Coordinators.{CoordTurn}
-use Rattle.gx_rules.specs.Fits.{holds_locks}
-use Rattle.gx_rules.specs.Machine.{Letter, World, after, at_node, can, can_here, coord_did, delivered, does, found, happens, new_world, node_of, seg_can, seg_did, world_of}
+use Rattle.gx_rules.specs.Machine.{Letter, World, coord_did, seg_did}
 use Rattle.gx_rules.specs.Segments.{Local, Seg, SegTurn, has_ended}
 use Rattle.gx_rules.specs.Sending.{clock_after}
 use Rattle.gx_laws.proofs.AtCoordinators.{coord_stays}
-use Rattle.gx_laws.proofs.Letters.{IsFound, IsLetter, found_is, same_node}
 use Rattle.gx_laws.proofs.Lists.{Each, each_weaker}
-use Rattle.gx_laws.proofs.Ordered.{never_resumes}
-use Rattle.gx_laws.proofs.World.{Knows, happens_knows, new_knows}
-use Rattle.gx_protocol.specs.Horizons.{AreBelowIn, AreHorizonsLow, AreHoldersAbove, AreLowIn, IsBelowHolders, IsBelowIn, IsLow, IsLowIn}
-use Rattle.gx_protocol.specs.Said.{Said, SaidAt, SaidIn, gxid_in, is_answer}
+use Rattle.gx_laws.proofs.World.{Knows}
+use Rattle.gx_protocol.specs.Said.{Said, gxid_in, is_answer}
 use Rattle.gx_protocol.specs.Standings.{at, gx, known_at}
-use Rattle.gx_protocol.proofs.Always.{IsPosted, answer-of, each-zip, happens-holds, new-holds}
-use Rattle.gx_protocol.proofs.Counts.{NoSent}
 use Rattle.gx_protocol.proofs.Ended.{EndsSo, IsExec, TellsEnd, ends-so}
 use Rattle.gx_protocol.proofs.Everywhere.{Holds, does-it, parts_in, posted-each}
-use Rattle.gx_protocol.proofs.Held.{held_in, is_awaited_at, is_held}
+use Rattle.gx_protocol.proofs.Held.{held_in}
 use Rattle.gx_protocol.proofs.Holding.{HeldFor, HeldOut, Holding, IsEndedIn, OrdersHeld, SaysBy, event-holds, held-goes}
-use Rattle.gx_protocol.proofs.Low.{plain-none, world-low}
+use Rattle.gx_protocol.proofs.Low.{plain-none}
 
 abbrev pub ended_at : (ℕ → Seg) → ℕ → ℕ → Bool
 ended_at segs i g = has_ended ((segs i).locals g).phase

@@ -1,7 +1,6 @@
 -- Every event of the coordinator goes on waiting for whoever has not ended.
 use Rattle.std.proofs.Common.{◌≡◌, ◌⊎◌, inl, inr, ℕ, ◌+◌, List, [], ◌∷◌, ◌++◌, Option, Some, None, Result, Ok, Err, Bool, true, false, refl, sym, subst, ap, ◌∙◌, if◌then◌else◌, ◌==◌, ◌&&◌, ◌||◌, arith, eqb}
 use Rattle.std.proofs.lemmas.Bool.{eqb-true}
-use Rattle.std.proofs.lemmas.Bool.Decides.{nat_tests}
 use Rattle.std.specs.Prelude.{option_map}
 use Rattle.gx_ids.specs.declared.ids.Cid.{Cid}
 use Rattle.gx_ids.specs.declared.ids.Gxid.{Gxid}
@@ -14,14 +13,13 @@ use Rattle.gx_tree.specs.declared.stmt.Stmt.{Stmt}
 use Rattle.gx_tree.specs.declared.stmt.Stmt.TheVariants as stmt
 use Rattle.gx_dsnap.specs.declared.snapshot.Snapshot.{Snapshot}
 use Rattle.gx_dtx.specs.Nodes.{has, with_node, without}
-use Rattle.gx_dtx.specs.Rules.{abort_found, awaited_order, begun, changed, commit_found, enlisted, on_abort, on_commit, on_reply, reply_found, turns, with_live}
+use Rattle.gx_dtx.specs.Rules.{abort_found, awaited_order, begun, changed, commit_found, enlisted, on_abort, on_reply, reply_found, turns, with_live}
 use Rattle.gx_dtx.specs.Table.{Table, find_txn, horizon_of, new_txn, xmin_of}
 use Rattle.gx_dtx.specs.declared.change.Change.{Change}
 use Rattle.gx_dtx.specs.declared.order.Order.{Order}
 use Rattle.gx_dtx.specs.declared.order.Order.TheVariants as order
 use Rattle.gx_dtx.specs.declared.outcome.Outcome.{Outcome}
 use Rattle.gx_dtx.specs.declared.outcome.Outcome.TheVariants as outcome
-use Rattle.gx_dtx.specs.declared.phase.Phase.{Phase as Status}
 use Rattle.gx_dtx.specs.declared.phase.Phase.TheVariants as status
 use Rattle.gx_dtx.specs.declared.txn.Txn.{Txn}
 use Rattle.gx_eval.specs.declared.fault.ArithFault.{ArithFault}
@@ -45,7 +43,7 @@ use Rattle.gx_store.specs.declared.mark.Mark.TheVariants as mark
 use Rattle.gx_store.specs.declared.node.NodeEvent.{NodeEvent}
 use Rattle.gx_store.specs.declared.node.NodeEvent.TheVariants as event
 use Rattle.gx_store.specs.Writes.{dist_of}
-use Rattle.gx_rules.specs.AtCoordinator.{Reading, answers, awaited, begins, behind, command_order, commits, completes, coord_can, dispatches, ends_in, enlisted_all, fault_mark, follows, goes, goes_on, goes_out, is_awaited, is_committed as is_closed, is_idle, is_nothing, is_refused, kept_at, next_cid, next_line, nodes_in, on_answer, on_done, on_event, on_failed, on_line, on_message, on_status, order_to, orders_of, reads_by, reads_for, reason_of, refusal_of, resends, rolls_back, starts, starts_line, status_order, table_of, takes_done, takes_snapshot, unless_kept, with_done, writers_with}
+use Rattle.gx_rules.specs.AtCoordinator.{Reading, answers, awaited, begins, behind, command_order, commits, completes, coord_can, dispatches, ends_in, enlisted_all, fault_mark, follows, goes, goes_on, is_awaited, is_committed as is_closed, is_idle, is_nothing, is_refused, kept_at, next_cid, next_line, nodes_in, on_answer, on_done, on_event, on_failed, on_line, on_message, on_status, order_to, orders_of, reads_by, reads_for, reason_of, refusal_of, resends, rolls_back, starts, starts_line, status_order, table_of, takes_done, takes_snapshot, unless_kept, with_done, writers_with}
 use Rattle.gx_rules.specs.Coordinators.{Command, Coord, CoordTurn, Session, Work, new_work, no_work, rests, session_of, with_session, with_state, with_work, work_of}
 use Rattle.gx_rules.specs.Fits.{fits_part}
 use Rattle.gx_rules.specs.Maps.{with_at}
@@ -54,7 +52,7 @@ use Rattle.gx_laws.proofs.Closings.{live-at, set_live}
 use Rattle.gx_laws.proofs.Ends.{begun-finds}
 use Rattle.gx_laws.proofs.Lines.{Asks, asks, begun-whole}
 use Rattle.gx_laws.proofs.Lists.{Each, each_weaker}
-use Rattle.gx_laws.proofs.Sessions.{Kept, is_nothing_in, is_open_in}
+use Rattle.gx_laws.proofs.Sessions.{Kept, is_nothing_in}
 use Rattle.gx_laws.proofs.Stages.{IsWhole, txn-at}
 use Rattle.gx_protocol.specs.Standings.{at, gx}
 use Rattle.gx_protocol.proofs.Calls.{self}
