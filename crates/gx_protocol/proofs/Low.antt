@@ -116,7 +116,7 @@ plain-one : (script : Script) (node : Node) (m : Mark) → PlainAt script node m
 plain-one script node (mark.Sent to number told) e = e
 plain-one script node m e = tt
 
-plain-none : (script : Script) (node : Node) (ms : List Mark) → Each (PlainAt script node) ms → Each NoSent ms
+pub plain-none : (script : Script) (node : Node) (ms : List Mark) → Each (PlainAt script node) ms → Each NoSent ms
 plain-none script node ms e = each_weaker (PlainAt script node) NoSent (plain-one script node) ms e
 
 module _ (script : Script) (some : 1 ≤ script.segments) where

@@ -5,7 +5,7 @@ ghost use Rattle.gx_script.specs.declared.Script.{Script};
 ghost use Rattle.gx_store.specs.declared.event.Event.{Event as OneEvent};
 ghost use Rattle.gx_laws.specs.Runs.{steps_after};
 ghost use Rattle.gx_store.specs.Protocol.{DoStepsFollow};
-ghost use Rattle.gx_protocol.specs.Horizons.{AreHorizonsLow};
+ghost use Rattle.gx_protocol.specs.Horizons.{AreHoldersAbove, AreHorizonsLow};
 ghost use Rattle.gx_protocol.specs.Pairs.{DoAgree};
 ghost use Rattle.gx_protocol.specs.Said.{AreMeant};
 ghost use Rattle.gx_protocol.specs.Told.{DoStepsTell};
@@ -37,4 +37,9 @@ pub fn runs_follow_the_protocol()
 /// each transaction that runs or that somebody has not forgotten, the xmin of each live snapshot, and the gxids to come.
 pub fn horizons_are_low()
     ensures { (script : Script) (events : List (OneEvent × Bool)) → 1 ≤ script.segments → AreHorizonsLow (world_of script events) }
+{}
+
+/// Nor is a horizon above a transaction that holds locks at the segment: no command is refused for who holds locks there.
+pub fn holders_are_above_horizons()
+    ensures { (script : Script) (events : List (OneEvent × Bool)) → 1 ≤ script.segments → AreHoldersAbove (world_of script events) }
 {}
