@@ -114,6 +114,9 @@ module _ (script : Script) (c : Coord) (x : NodeEvent) where
   pub record Completes (s : SessionId) (n : ℕ) : Type 0 where
     pub g : ℕ
     pub home : (c.works g).session ≡ s
+    pub from : Node
+    pub envelope : Envelope
+    pub heard : x ≡ event.Deliver from envelope
     pub m : Command
     pub says : command_answer m m.stmt ≡ told.Inserted n
     pub all : m.awaited ≡ []
@@ -369,6 +372,9 @@ module _ (script : Script) (c : Coord) (x : NodeEvent) where
         record {
           g = g;
           home = ap (λ (w : Work). w.session) (sym work-now);
+          from = i;
+          envelope = by.envelope;
+          heard = by.is;
           m = with_done m i count part;
           says = ap (λ (w : Work). answer_of_command w.command) (sym work-now) ∙ q;
           all = e;
@@ -427,20 +433,20 @@ module _ (script : Script) (c : Coord) (x : NodeEvent) where
         by_list [] p = p
         by_list (y ∷ ys) p = absurd (differ (sym closing ∙ ((k.tied g).awaits m e (some-one y ys p)).0))
 
-    status-ok : (g : ℕ) → stage_of c g ≡ Closing → AnswerOk (mark.Commit (gx g) ∷ []) (c.works g).session (answer_at_commit (c.works g) (session_of c (c.works g).session).state.pending)
-    status-ok g closing = at-commit c g (same-others g) [] (mark.Commit (gx g) ∷ []) (c.works g).session (c.works g) (session_of c (c.works g).session).state.pending (λ p n a. by_command (c.works g).command refl p n a)
+    status-ok : (g : ℕ) (i : Node) (envelope : Envelope) → x ≡ event.Deliver i envelope → stage_of c g ≡ Closing → AnswerOk (mark.Commit (gx g) ∷ []) (c.works g).session (answer_at_commit (c.works g) (session_of c (c.works g).session).state.pending)
+    status-ok g i envelope is closing = at-commit c g (same-others g) [] (mark.Commit (gx g) ∷ []) (c.works g).session (c.works g) (session_of c (c.works g).session).state.pending (λ p n a. by_command (c.works g).command refl p n a)
       where
         none : (n : ℕ) → told.Commit ≡ told.Inserted n → ⊥
         none n q = cc
 
         by_command : (o : Option Command) → (c.works g).command ≡ o → (session_of c (c.works g).session).state.pending ≡ pending.Command → (n : ℕ) → answer_of_command o ≡ told.Inserted n → Completes (c.works g).session n × Each Still (mark.Commit (gx g) ∷ [])
         by_command None e p n a = absurd (none n a)
-        by_command (Some m) e p n a = (record { g = g; home = refl; m = m; says = a; all = none-awaited g m e closing; how = inl (e, closing, p) }, (tt, tt))
+        by_command (Some m) e p n a = (record { g = g; home = refl; from = i; envelope = envelope; heard = is; m = m; says = a; all = none-awaited g m e closing; how = inl (e, closing, p) }, (tt, tt))
 
-    on-status-walk : (g : ℕ) (i : Node) (r : Reply) (fails : Bool) → Walk [] (on_status c (gx g) i r fails)
-    on-status-walk g i r fails =
+    on-status-walk : (g : ℕ) (i : Node) (r : Reply) (fails : Bool) (envelope : Envelope) → x ≡ event.Deliver i envelope → Walk [] (on_status c (gx g) i r fails)
+    on-status-walk g i r fails envelope is =
         let t : Turned c.table g (on_reply c.table (gx g) i r fails) Moves = reply-turns c.table g i r fails k.whole in
-        let y : Walk [] (follows c (gx g) (on_reply c.table (gx g) i r fails) (on_reply c.table (gx g) i r fails).out.outcome) = follows-walk c g (same-others g) [] (on_reply c.table (gx g) i r fails) (on_reply c.table (gx g) i r fails).out.outcome (λ ns. inl (refl, refl)) (λ q z. status-ok g (closing t z)) refl in
+        let y : Walk [] (follows c (gx g) (on_reply c.table (gx g) i r fails) (on_reply c.table (gx g) i r fails).out.outcome) = follows-walk c g (same-others g) [] (on_reply c.table (gx g) i r fails) (on_reply c.table (gx g) i r fails).out.outcome (λ ns. inl (refl, refl)) (λ q z. status-ok g i envelope is (closing t z)) refl in
         record { works = y.works; answers = y.answers }
       where
         closing : (t : Turned c.table g (on_reply c.table (gx g) i r fails) Moves) → (on_reply c.table (gx g) i r fails).out.outcome ≡ outcome.Committed → stage_of c g ≡ Closing
@@ -449,12 +455,12 @@ module _ (script : Script) (c : Coord) (x : NodeEvent) where
     answer-walk : (g : ℕ) (i : Node) (fails : Bool) (r : Reply) (envelope : Envelope) → x ≡ event.Deliver i envelope → envelope.message ≡ message.Answer (gx g) r → Walk [] (on_answer c (gx g) i fails r)
     answer-walk g i fails (reply.Done cid wrote count part) envelope is told = on-done-walk g i cid wrote count part envelope is told (c.works g).command refl
     answer-walk g i fails (reply.Failed cid cause) envelope is told = on-failed-walk g i cid cause (c.works g).command
-    answer-walk g i fails reply.Prepared envelope is told = on-status-walk g i reply.Prepared fails
-    answer-walk g i fails reply.Committed envelope is told = on-status-walk g i reply.Committed fails
-    answer-walk g i fails reply.Jfault envelope is told = on-status-walk g i reply.Jfault fails
-    answer-walk g i fails reply.Again envelope is told = on-status-walk g i reply.Again fails
-    answer-walk g i fails reply.Aborted envelope is told = on-status-walk g i reply.Aborted fails
-    answer-walk g i fails reply.Forgotten envelope is told = on-status-walk g i reply.Forgotten fails
+    answer-walk g i fails reply.Prepared envelope is told = on-status-walk g i reply.Prepared fails envelope is
+    answer-walk g i fails reply.Committed envelope is told = on-status-walk g i reply.Committed fails envelope is
+    answer-walk g i fails reply.Jfault envelope is told = on-status-walk g i reply.Jfault fails envelope is
+    answer-walk g i fails reply.Again envelope is told = on-status-walk g i reply.Again fails envelope is
+    answer-walk g i fails reply.Aborted envelope is told = on-status-walk g i reply.Aborted fails envelope is
+    answer-walk g i fails reply.Forgotten envelope is told = on-status-walk g i reply.Forgotten fails envelope is
 
     message-walk : (i : Node) (fails : Bool) (envelope : Envelope) → x ≡ event.Deliver i envelope → (m : Message) → envelope.message ≡ m → Walk [] (on_message c i fails m)
     message-walk i fails envelope is (message.Answer g r) told = answer-walk g.0 i fails r envelope is told
