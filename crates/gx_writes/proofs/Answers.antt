@@ -175,8 +175,8 @@ module _ (script : Script) (some : 1 ≤ script.segments) (numbered : AreLinesNu
       pub number : m.cid ≡ run.command.cid
       pub told : (table : Table) (tuples : List (List Expr)) → m.stmt ≡ stmt.Insert table tuples → Progress script table ms g (c.works g).level m tuples
 
-    answered : (s : SessionId) (n : ℕ) → (q : Completes script c x s n) → Answered q.g q.m
-    answered s n q = by_how q.how
+    pub answered : (s : SessionId) (a : StmtAnswer) → (q : Completes script c x s a) → Answered q.g q.m
+    answered s a q = by_how q.how
       where
         by_how : (((c.works q.g).command ≡ Some q.m) × (stage_of c q.g ≡ Rattle.gx_laws.proofs.Statuses.Stage.Closing) × ((session_of c s).state.pending ≡ pending.Command)) ⊎ ((k : Command) × (i : Node) × (count : ℕ) × (part : QueryPart) × ((c.works q.g).command ≡ Some k) × (q.m ≡ with_done k i count part) × IsDoneBy script c x q.g k i count) → Answered q.g q.m
         by_how (inl z) =
@@ -201,7 +201,7 @@ module _ (script : Script) (some : 1 ≤ script.segments) (numbered : AreLinesNu
     some-gxid : (a b : Gxid) → Some a ≡ Some b → a ≡ b
     some-gxid a b f = (cc)
 
-    tells : (earlier later : List Mark) (s : SessionId) (n : ℕ) (q : Completes script c x s n) → Each Still earlier → Answered q.g q.m → IsTold script (record { steps = w.steps; event = e; earlier = earlier; later = later }) s (told.Inserted n)
+    tells : (earlier later : List Mark) (s : SessionId) (n : ℕ) (q : Completes script c x s (told.Inserted n)) → Each Still earlier → Answered q.g q.m → IsTold script (record { steps = w.steps; event = e; earlier = earlier; later = later }) s (told.Inserted n)
     tells earlier later s n q calm a asked level g cid theirs =
         subst (λ y. Tells script (ms ++ earlier) level g cid y (told.Inserted n)) (sym line)
         (subst (λ y. Tells script (ms ++ earlier) y g cid q.m.stmt (told.Inserted n)) (sym level-is)
@@ -244,7 +244,7 @@ module _ (script : Script) (some : 1 ≤ script.segments) (numbered : AreLinesNu
         by_stmt stmt.Rollback f says = absurd (cc)
 
     answer-told : (earlier later : List Mark) (s : SessionId) (a : StmtAnswer) → Rattle.gx_writes.proofs.Walk.AnswerOk script c x earlier s a → Rattle.gx_writes.specs.Inserts.IsInsertTold script (record { steps = w.steps; event = e; earlier = earlier; later = later }) s a
-    answer-told earlier later s (told.Inserted n) q = tells earlier later s n q.0 q.1 (answered s n q.0)
+    answer-told earlier later s (told.Inserted n) q = tells earlier later s n q.0 q.1 (answered s (told.Inserted n) q.0)
     answer-told earlier later s told.Begin q = tt
     answer-told earlier later s told.Commit q = tt
     answer-told earlier later s told.Rollback q = tt
