@@ -129,8 +129,15 @@ module _ (script : Script) (c : Coord) (x : NodeEvent) where
   AnswerOk earlier s (told.Refused reason) = Unit {0}
   AnswerOk earlier s a = Completes s a × Each Still earlier
 
+  -- constants fault where their line starts
+  abbrev pub IsStarting : NodeEvent → Type 0
+  IsStarting (event.Start s) = Unit {0}
+  IsStarting _ = ⊥
+
   abbrev pub AnswerAt : List Mark → Mark → Type 0
   AnswerAt earlier (mark.Answer s n a) = AnswerOk earlier s a
+  AnswerAt earlier (mark.Fault g d r i) = IsStarting x
+  AnswerAt earlier (mark.Recheck round own verdict) = ⊥
   AnswerAt earlier m = Unit {0}
 
   abbrev pub AnswersOk : List Mark → List Mark → Type 0
@@ -139,10 +146,14 @@ module _ (script : Script) (c : Coord) (x : NodeEvent) where
 
   abbrev NoAnswer : Mark → Type 0
   NoAnswer (mark.Answer s n a) = ⊥
+  NoAnswer (mark.Fault g d r i) = IsStarting x
+  NoAnswer (mark.Recheck round own verdict) = ⊥
   NoAnswer _ = Unit {0}
 
   none-one : (earlier : List Mark) (m : Mark) → NoAnswer m → AnswerAt earlier m
   none-one earlier (mark.Answer s n a) e = absurd e
+  none-one earlier (mark.Fault g d r i) e = e
+  none-one earlier (mark.Recheck round own verdict) e = absurd e
   none-one earlier m e = tt
 
   none-ok : (earlier ns : List Mark) → Each NoAnswer ns → AnswersOk earlier ns
@@ -286,15 +297,15 @@ module _ (script : Script) (c : Coord) (x : NodeEvent) where
     reads cid (stmt.Update t a v) = reads-old cid _ (c1.works g).snapshot refl
     reads cid (stmt.Delete t v) = reads-old cid _ (c1.works g).snapshot refl
 
-    fault-none : (h : Gxid) (cid : Cid) (line : Stmt) → Each NoAnswer (fault_mark h cid line)
-    fault-none h cid (stmt.Insert t v) = (tt, tt)
-    fault-none h cid (stmt.Begin level) = tt
-    fault-none h cid stmt.Commit = tt
-    fault-none h cid stmt.Rollback = tt
-    fault-none h cid (stmt.Select q) = tt
-    fault-none h cid (stmt.Update t a v) = tt
-    fault-none h cid (stmt.Delete t v) = tt
-    fault-none h cid (stmt.Lock t m) = tt
+    fault-none : IsStarting x → (h : Gxid) (cid : Cid) (line : Stmt) → Each NoAnswer (fault_mark h cid line)
+    fault-none it h cid (stmt.Insert t v) = (it, tt)
+    fault-none it h cid (stmt.Begin level) = tt
+    fault-none it h cid stmt.Commit = tt
+    fault-none it h cid stmt.Rollback = tt
+    fault-none it h cid (stmt.Select q) = tt
+    fault-none it h cid (stmt.Update t a v) = tt
+    fault-none it h cid (stmt.Delete t v) = tt
+    fault-none it h cid (stmt.Lock t m) = tt
 
     -- the transaction's work is as before, or new
     abbrev Base : Type 0
@@ -315,8 +326,8 @@ module _ (script : Script) (c : Coord) (x : NodeEvent) where
     some-none : (y : Snapshot) → None ≡ Some y → ⊥
     some-none y e = cc
 
-    goes-walk : Base → (cid : Cid) (line : Stmt) (r : Reading) → Reads cid line r → (plan : Result (List Piece) ArithFault) → plan_of script.segments (dist_of script.tables (table_of line)) (gx g) cid line ≡ plan → Walk earlier (goes (gx g) cid line r plan)
-    goes-walk base cid line r f (Ok pieces) e =
+    goes-walk : IsStarting x → Base → (cid : Cid) (line : Stmt) (r : Reading) → Reads cid line r → (plan : Result (List Piece) ArithFault) → plan_of script.segments (dist_of script.tables (table_of line)) (gx g) cid line ≡ plan → Walk earlier (goes (gx g) cid line r plan)
+    goes-walk it base cid line r f (Ok pieces) e =
         record {
           works = one-goes (goes_out (gx g) cid line pieces r).coord.works (earlier ++ r.marks) g (λ h q. ap (λ b. if b then after else r.coord.works h) q ∙ f.works h q) (inr (inr (inr new)));
           answers = none-ok earlier r.marks f.marks;
@@ -340,8 +351,8 @@ module _ (script : Script) (c : Coord) (x : NodeEvent) where
               now = ap (λ (w : Work). w.command) here; plan = e;
               read = λ t tuples q. by_read base (f.read t tuples q);
             }
-    goes-walk base cid line r f (Err fault) e =
-        let y = refused-walk-at r.coord f.works (on_abort r.coord.table (gx g)) (r.marks ++ fault_mark (gx g) cid line) (refusal_of fault) (each_append NoAnswer r.marks (fault_mark (gx g) cid line) f.marks (fault-none (gx g) cid line)) in
+    goes-walk it base cid line r f (Err fault) e =
+        let y = refused-walk-at r.coord f.works (on_abort r.coord.table (gx g)) (r.marks ++ fault_mark (gx g) cid line) (refusal_of fault) (each_append NoAnswer r.marks (fault_mark (gx g) cid line) f.marks (fault-none it (gx g) cid line)) in
         record { works = y.works; answers = y.answers }
       where
         refused-walk-at : (d : Coord) → ((h : ℕ) → eqb h g ≡ false → d.works h ≡ c.works h) → (turn : Turn) (why : List Mark) (reason : Refused) → Each NoAnswer why → Walk earlier (is_refused d (gx g) turn why reason)
@@ -351,8 +362,8 @@ module _ (script : Script) (c : Coord) (x : NodeEvent) where
               answers = ok-append earlier why _ (none-ok earlier why n) (tt, (tt, tt));
             }
 
-    pub dispatch-walk : Base → (line : Stmt) → Walk earlier (dispatches script c1 (gx g) line)
-    dispatch-walk base line = goes-walk base (next_cid (c1.works g)) line _ (reads (next_cid (c1.works g)) line) (plan_of script.segments (dist_of script.tables (table_of line)) (gx g) (next_cid (c1.works g)) line) refl
+    pub dispatch-walk : IsStarting x → Base → (line : Stmt) → Walk earlier (dispatches script c1 (gx g) line)
+    dispatch-walk it base line = goes-walk it base (next_cid (c1.works g)) line _ (reads (next_cid (c1.works g)) line) (plan_of script.segments (dist_of script.tables (table_of line)) (gx g) (next_cid (c1.works g)) line) refl
 
   -- ANSWERS OF SEGMENTS
   module _ (k : Kept c) where
@@ -486,7 +497,7 @@ module _ (script : Script) (c : Coord) (x : NodeEvent) where
     again-walk i (Some m) = record { works = λ h. inl (refl, refl); answers = tt }
 
     -- LINES
-    module _ (s : SessionId) (idle : is_nothing_in (session_of c s).state.pending ≡ true) where
+    module _ (s : SessionId) (it : IsStarting x) (idle : is_nothing_in (session_of c s).state.pending ≡ true) where
       abbrev block : Block
       block = (session_of c s).state.block
 
@@ -525,7 +536,7 @@ module _ (script : Script) (c : Coord) (x : NodeEvent) where
       inside-line : (line : Stmt) → is_open_in block ≡ true → Walk [] (dispatches script (starts_line c s (step.Command false)) (session_of (starts_line c s (step.Command false)) s).transaction line)
       inside-line line opened =
           subst (λ g. Walk [] (dispatches script (starts_line c s (step.Command false)) g line)) (sym (transaction-now (step.Command false)))
-          (dispatch-walk (starts_line c s (step.Command false)) (session_of c s).transaction.0 (same-others (session_of c s).transaction.0) [] (inl (own-live opened, refl)) line)
+          (dispatch-walk (starts_line c s (step.Command false)) (session_of c s).transaction.0 (same-others (session_of c s).transaction.0) [] it (inl (own-live opened, refl)) line)
 
       -- a new transaction
       begun-others : (asked : LineStep) (level : Level) (h : ℕ) → eqb h c.table.next.0 ≡ false → (begins (starts_line c s asked) s level).works h ≡ c.works h
@@ -544,7 +555,7 @@ module _ (script : Script) (c : Coord) (x : NodeEvent) where
 
       alone-line : (line : Stmt) → Walk [] (behind (mark.Start c.table.next s ∷ []) (dispatches script (begins (starts_line c s (step.Command true)) s ReadCommitted) c.table.next line))
       alone-line line =
-          behind-walk _ (dispatch-walk (begins (starts_line c s (step.Command true)) s ReadCommitted) c.table.next.0 (begun-others (step.Command true) ReadCommitted) (mark.Start c.table.next s ∷ []) (inr (ap (λ (w : Work). w.snapshot) (begun-here (step.Command true) ReadCommitted))) line)
+          behind-walk _ (dispatch-walk (begins (starts_line c s (step.Command true)) s ReadCommitted) c.table.next.0 (begun-others (step.Command true) ReadCommitted) (mark.Start c.table.next s ∷ []) it (inr (ap (λ (w : Work). w.snapshot) (begun-here (step.Command true) ReadCommitted))) line)
 
       plain-ok : (p : Plain) → AnswerOk [] s (plain_answer_of p)
       plain-ok plain.Begin = tt
@@ -581,7 +592,7 @@ module _ (script : Script) (c : Coord) (x : NodeEvent) where
 
     pub event-walk : (y : NodeEvent) → x ≡ y → (fails : Bool) → coord_can script c y ≡ true → Walk [] (on_event script c y fails)
     event-walk (event.Deliver from envelope) is fails can = message-walk from fails envelope is envelope.message refl
-    event-walk (event.Start s) is fails can = start-walk s (idle-first s _ can) (next_line script c s)
+    event-walk (event.Start s) is fails can = start-walk s (subst IsStarting (sym is) tt) (idle-first s _ can) (next_line script c s)
     event-walk (event.End s) is fails can = end-walk s (session_of c s).state.block
     event-walk (event.Resend i (Some g)) is fails can = again-walk i (awaited c g i)
     event-walk (event.Resend i None) is fails can = rest-walk
