@@ -12,3 +12,5 @@ pub mod Counts
 pub mod Progress
 pub mod Answers
 pub mod Counted
+pub mod Inserting
+pub mod Join
