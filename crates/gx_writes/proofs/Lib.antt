@@ -7,3 +7,10 @@ pub mod Told
 pub mod Legal
 pub mod Moves
 pub mod World
+pub mod Walk
+pub mod Counts
+pub mod Progress
+pub mod Answers
+pub mod Counted
+pub mod Inserting
+pub mod Join

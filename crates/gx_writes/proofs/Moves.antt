@@ -46,8 +46,8 @@ use Rattle.gx_writes.proofs.Legal.{IsPastMark, IsPlacedMark, Late, Live, behind-
 use Rattle.gx_writes.proofs.Placed.{IsPlaced, IsPlacedRow, piece-rows, row-placed}
 use Rattle.gx_writes.proofs.Plans.{row-piece, rows-are}
 use Rattle.gx_writes.proofs.Rows.{Wrote, insert-wrote, row_mark}
-use Rattle.gx_writes.proofs.Told.{IsAnswerOf, IsDoneSlice, IsReport, IsToldOf, IsWritten, answer-more, order-later, told-more}
-use Rattle.gx_writes.proofs.Turns.{Inserted, IsOldReply, IsOldWord, IsSelected, NoWrite, Quiet, Selected}
+use Rattle.gx_writes.proofs.Told.{IsAnswerOf, IsDoneSlice, IsFailure, IsReport, IsToldOf, IsWritten, answer-more, order-later, told-more}
+use Rattle.gx_writes.proofs.Turns.{Inserted, IsOldReply, IsOldWord, IsSelected, NoRow, NoWrite, Quiet, Selected}
 
 -- what is told by the segment, as it stands then
 abbrev pub IsOutOf : Script → List Mark → (ℕ → ℕ) → Node → Message → Type 0
@@ -104,7 +104,9 @@ module _ (script : Script) (numbered : AreLinesNumbered [] script.lines) (ms : L
     old-told g (reply.Done c w n p) (inl o) =
         told-more script numbered ms turn.marks (s.locals g.0).last (turn.seg.locals g.0).last (at i) g (reply.Done c w n p) (same-le (q.lasts g.0)) (subst (IsAnswerOf script ms (s.locals g.0).last (at i) g) o (kept g.0))
     old-told g (reply.Done c w n p) (inr o) = absurd (subst (IsVote (s.locals g.0).phase) o (votes g.0))
-    old-told g (reply.Failed c x) o = tt
+    old-told g (reply.Failed c x) (inl o) =
+        told-more script numbered ms turn.marks (s.locals g.0).last (turn.seg.locals g.0).last (at i) g (reply.Failed c x) (same-le (q.lasts g.0)) (subst (IsAnswerOf script ms (s.locals g.0).last (at i) g) o (kept g.0))
+    old-told g (reply.Failed c x) (inr o) = absurd (subst (IsVote (s.locals g.0).phase) o (votes g.0))
     old-told g reply.Prepared o = tt
     old-told g reply.Committed o = tt
     old-told g reply.Jfault o = tt
@@ -123,15 +125,23 @@ module _ (script : Script) (numbered : AreLinesNumbered [] script.lines) (ms : L
     old-out (message.Collect round) o = tt
     old-out (message.Graph round graph) o = tt
 
+    no-row-write : (m : Mark) → NoRow m → NoWrite m
+    no-row-write (mark.Write g c n t r x) k = absurd k
+    no-row-write (mark.Skip g c r) k = absurd k
+    no-row-write m k = tt
+
+    writes-none : Each NoWrite turn.marks
+    writes-none = each_weaker NoRow NoWrite no-row-write turn.marks q.marks
+
     pub quiet-move : Moves turn
     quiet-move =
         record {
           lasts = λ h. same-le (q.lasts h);
-          placed = each_weaker NoWrite (IsPlacedMark script ms) (λ m n. no-write-placed script ms m n) turn.marks q.marks;
-          past = each_weaker NoWrite (IsPastHere (λ h. (turn.seg.locals h).last) (at i)) (λ m n. no-write-here (λ h. (turn.seg.locals h).last) (at i) m n) turn.marks q.marks;
+          placed = each_weaker NoWrite (IsPlacedMark script ms) (λ m n. no-write-placed script ms m n) turn.marks writes-none;
+          past = each_weaker NoWrite (IsPastHere (λ h. (turn.seg.locals h).last) (at i)) (λ m n. no-write-here (λ h. (turn.seg.locals h).last) (at i) m n) turn.marks writes-none;
           kept = λ h. subst (IsAnswerOf script (ms ++ turn.marks) (turn.seg.locals h).last (at i) (gx h)) (sym (q.answers h)) (answer-more script numbered ms turn.marks (s.locals h).last (turn.seg.locals h).last (at i) (gx h) (s.locals h).answer (same-le (q.lasts h)) (kept h));
           outs = each_weaker (λ (o : Out). IsOldWord s o.message) (λ (o : Out). IsOutOf script (ms ++ turn.marks) (λ h. (turn.seg.locals h).last) (at i) o.message) (λ o k. old-out o.message k) turn.outs q.outs;
-          legal = λ later. no-writes-legal script steps e [] turn.marks later q.marks;
+          legal = λ later. no-writes-legal script steps e [] turn.marks later writes-none;
         }
 
   -- A COMMAND RUNS
@@ -189,7 +199,7 @@ module _ (script : Script) (numbered : AreLinesNumbered [] script.lines) (ms : L
 
       told : (r : Reply) → IsSelected x.c r → IsToldOf script (ms ++ x.marks) x.c.0 (at i) x.g r
       told (reply.Done d w n p) k = (same-le (ap (λ (z : Cid). z.0) (sym k)), subst (λ z. IsReport script (ms ++ x.marks) (at i) x.g z n) (sym k) (record { level = x.level; snapshot = Some x.snapshot; slice = slice.Select x.query; order = order-later script numbered ms x.marks (at i) x.g x.c x.level (Some x.snapshot) (slice.Select x.query) order; done = tt }))
-      told (reply.Failed d y) k = tt
+      told (reply.Failed d y) k = (same-le (ap (λ (z : Cid). z.0) (sym k)), subst (IsFailure script (ms ++ x.marks) (at i) x.g) (sym k) (record { level = x.level; snapshot = Some x.snapshot; query = x.query; order = order-later script numbered ms x.marks (at i) x.g x.c x.level (Some x.snapshot) (slice.Select x.query) order }))
       told reply.Prepared k = absurd k
       told reply.Committed k = absurd k
       told reply.Jfault k = absurd k

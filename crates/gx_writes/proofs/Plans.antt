@@ -82,18 +82,18 @@ pub record IsPlan (n : ℕ) (dist : ℕ → Dist) (g : Gxid) (c : Cid) (line : S
   pub planned : rows_of g c tuples ≡ Ok all
   pub here : rows ≡ rows_at n (dist table.0) all node.0
 
+pub none-at-all : (node : Node) (ps : List Piece) (s : Slice) → (let o : Result (List Piece) ArithFault = Ok [] in o) ≡ Ok ps → Contains ps (record { node = node; slice = s }) → ⊥
+none-at-all node ps s e k = in-each (λ (p : Piece). ⊥) ps (record { node = node; slice = s }) (subst (Each (λ (p : Piece). ⊥)) (ok-same e) tt) k
+  where
+    ok-same : {xs ys : List Piece} → (let o : Result (List Piece) ArithFault = Ok xs in o) ≡ Ok ys → xs ≡ ys
+    ok-same q = cc
+
 module _ (n : ℕ) (dist : ℕ → Dist) (g : Gxid) (c : Cid) (node : Node) (table : Table) (rows : List KeyedRow) where
   abbrev its : Piece
   its = record { node = node; slice = slice.Insert table rows }
 
   none-same : (s : Slice) (nodes : List Node) (ps : List Piece) → (s ≡ slice.Insert table rows → ⊥) → (let o : Result (List Piece) ArithFault = Ok (map (piece s) nodes) in o) ≡ Ok ps → Contains ps its → ⊥
   none-same s nodes ps other e k = other (sym (in-each (λ (p : Piece). p.slice ≡ s) ps its (subst (Each (λ (p : Piece). p.slice ≡ s)) (ok-same e) (same-pieces s nodes)) k))
-    where
-      ok-same : {xs ys : List Piece} → (let o : Result (List Piece) ArithFault = Ok xs in o) ≡ Ok ys → xs ≡ ys
-      ok-same q = cc
-
-  none-at-all : (ps : List Piece) → (let o : Result (List Piece) ArithFault = Ok [] in o) ≡ Ok ps → Contains ps its → ⊥
-  none-at-all ps e k = in-each (λ (p : Piece). ⊥) ps its (subst (Each (λ (p : Piece). ⊥)) (ok-same e) tt) k
     where
       ok-same : {xs ys : List Piece} → (let o : Result (List Piece) ArithFault = Ok xs in o) ≡ Ok ys → xs ≡ ys
       ok-same q = cc
@@ -131,9 +131,17 @@ module _ (n : ℕ) (dist : ℕ → Dist) (g : Gxid) (c : Cid) (node : Node) (tab
     where
       no-lock : slice.Lock t m ≡ slice.Insert table rows → ⊥
       no-lock z = cc
-  piece-is (stmt.Begin l) ps e k = absurd (none-at-all ps e k)
-  piece-is stmt.Commit ps e k = absurd (none-at-all ps e k)
-  piece-is stmt.Rollback ps e k = absurd (none-at-all ps e k)
+  piece-is (stmt.Begin l) ps e k = absurd (none-at-all node ps (slice.Insert table rows) e k)
+  piece-is stmt.Commit ps e k = absurd (none-at-all node ps (slice.Insert table rows) e k)
+  piece-is stmt.Rollback ps e k = absurd (none-at-all node ps (slice.Insert table rows) e k)
+
+-- an INSERT's piece has the rows of its segment
+pub insert-slice : (n : ℕ) (dist : ℕ → Dist) (g : Gxid) (c : Cid) (node : Node) (t : Table) (tuples : List (List Expr)) (all : List KeyedRow) (ps : List Piece) (s : Slice) → rows_of g c tuples ≡ Ok all → plan_of n (dist t.0) g c (stmt.Insert t tuples) ≡ Ok ps → Contains ps (record { node = node; slice = s }) → s ≡ slice.Insert t (rows_at n (dist t.0) all node.0)
+insert-slice n dist g c node t tuples all ps s r e k =
+    in-each (IsPart n (dist t.0) t all) ps (record { node = node; slice = s }) (subst (Each (IsPart n (dist t.0) t all)) (ok-same (sym (ap (λ o. and_then o (λ xs. Ok (insert_pieces n (dist t.0) t xs))) r) ∙ e)) (parts-are n (dist t.0) t all (nodes_from 1 n))) k
+  where
+    ok-same : {xs ys : List Piece} → (let o : Result (List Piece) ArithFault = Ok xs in o) ≡ Ok ys → xs ≡ ys
+    ok-same q = cc
 
 -- THE ORDERS OF A RUN
 module _ (script : Script) (marks : List Mark) where

@@ -5,6 +5,7 @@ use Rattle.gx_ids.specs.declared.ids.Cid.{Cid}
 use Rattle.gx_ids.specs.declared.ids.Gxid.{Gxid}
 use Rattle.gx_ids.specs.declared.ids.Node.{Node}
 use Rattle.gx_ids.specs.declared.rid.Rid.{Rid}
+use Rattle.gx_tree.specs.declared.query.Query.{Query}
 use Rattle.gx_tree.specs.declared.row.KeyedRow.{KeyedRow}
 use Rattle.gx_tree.specs.declared.slice.Slice.{Slice}
 use Rattle.gx_tree.specs.declared.slice.Slice.TheVariants as slice
@@ -42,9 +43,17 @@ pub record IsReport (script : Script) (ms : List Mark) (node : Node) (g : Gxid) 
   pub order : IsOrder script ms node g c level snapshot slice
   pub done : IsDoneSlice ms slice count
 
+-- a command that has failed there is a SELECT
+pub record IsFailure (script : Script) (ms : List Mark) (node : Node) (g : Gxid) (c : Cid) : Type 0 where
+  pub level : Level
+  pub snapshot : Option Snapshot
+  pub query : Query
+  pub order : IsOrder script ms node g c level snapshot (slice.Select query)
+
 -- a reply of a segment whose last command of the transaction has this number
 abbrev pub IsToldOf : Script → List Mark → ℕ → Node → Gxid → Reply → Type 0
 IsToldOf script ms last node g (reply.Done c w count p) = (c.0 ≤ last) × IsReport script ms node g c count
+IsToldOf script ms last node g (reply.Failed c x) = (c.0 ≤ last) × IsFailure script ms node g c
 IsToldOf script ms last node g r = Unit {0}
 
 abbrev pub IsAnswerOf : Script → List Mark → ℕ → Node → Gxid → Option Reply → Type 0
@@ -88,9 +97,12 @@ module _ (script : Script) (numbered : AreLinesNumbered [] script.lines) (ms ns 
   pub report-more : (node : Node) (g : Gxid) (c : Cid) (count : ℕ) → IsReport script ms node g c count → IsReport script (ms ++ ns) node g c count
   report-more node g c count r = record { level = r.level; snapshot = r.snapshot; slice = r.slice; order = order-later node g c r.level r.snapshot r.slice r.order; done = done-more ms ns r.slice count r.done }
 
+  failure-more : (node : Node) (g : Gxid) (c : Cid) → IsFailure script ms node g c → IsFailure script (ms ++ ns) node g c
+  failure-more node g c r = record { level = r.level; snapshot = r.snapshot; query = r.query; order = order-later node g c r.level r.snapshot (slice.Select r.query) r.order }
+
   pub told-more : (a b : ℕ) (node : Node) (g : Gxid) (r : Reply) → a ≤ b → IsToldOf script ms a node g r → IsToldOf script (ms ++ ns) b node g r
   told-more a b node g (reply.Done c w count p) l d = (le-trans d.0 l, report-more node g c count d.1)
-  told-more a b node g (reply.Failed c x) l d = tt
+  told-more a b node g (reply.Failed c x) l d = (le-trans d.0 l, failure-more node g c d.1)
   told-more a b node g reply.Prepared l d = tt
   told-more a b node g reply.Committed l d = tt
   told-more a b node g reply.Jfault l d = tt

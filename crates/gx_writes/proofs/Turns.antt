@@ -39,9 +39,17 @@ NoWrite (mark.Write g c n t r x) = ⊥
 NoWrite (mark.Skip g c r) = ⊥
 NoWrite _ = Unit {0}
 
+-- a mark that tells of no row
+abbrev pub NoRow : Mark → Type 0
+NoRow (mark.Write g c n t r x) = ⊥
+NoRow (mark.Skip g c r) = ⊥
+NoRow (mark.Fault g c r x) = ⊥
+NoRow _ = Unit {0}
+
 -- an answer to a command that was kept
 abbrev pub IsOldReply : Seg → Gxid → Reply → Type 0
 IsOldReply s g (reply.Done c w n p) = ((s.locals g.0).answer ≡ Some (reply.Done c w n p)) ⊎ ((s.locals g.0).vote ≡ Some (reply.Done c w n p))
+IsOldReply s g (reply.Failed c x) = ((s.locals g.0).answer ≡ Some (reply.Failed c x)) ⊎ ((s.locals g.0).vote ≡ Some (reply.Failed c x))
 IsOldReply s g r = Unit {0}
 
 abbrev pub IsOldWord : Seg → Message → Type 0
@@ -49,7 +57,7 @@ IsOldWord s (message.Answer g r) = IsOldReply s g r
 IsOldWord s m = Unit {0}
 
 pub record Quiet (s : Seg) (turn : SegTurn) : Type 0 where
-  pub marks : Each NoWrite turn.marks
+  pub marks : Each NoRow turn.marks
   pub answers : (h : ℕ) → (turn.seg.locals h).answer ≡ (s.locals h).answer
   pub lasts : (h : ℕ) → (turn.seg.locals h).last ≡ (s.locals h).last
   pub outs : Each (λ (o : Out). IsOldWord s o.message) turn.outs
@@ -57,7 +65,7 @@ pub record Quiet (s : Seg) (turn : SegTurn) : Type 0 where
 -- the answer to a SELECT
 abbrev pub IsSelected : Cid → Reply → Type 0
 IsSelected c (reply.Done d w n p) = d ≡ c
-IsSelected c (reply.Failed d x) = Unit {0}
+IsSelected c (reply.Failed d x) = d ≡ c
 IsSelected c _ = ⊥
 
 pub record Selected (s : Seg) (m : Message) (turn : SegTurn) : Type 0 where
@@ -103,7 +111,7 @@ module _ (s : Seg) where
 
   answer-old : (g : Gxid) (r : Reply) → (s.locals g.0).answer ≡ Some r → IsOldReply s g r
   answer-old g (reply.Done c w n p) e = inl e
-  answer-old g (reply.Failed c x) e = tt
+  answer-old g (reply.Failed c x) e = inl e
   answer-old g reply.Prepared e = tt
   answer-old g reply.Committed e = tt
   answer-old g reply.Jfault e = tt
@@ -113,7 +121,7 @@ module _ (s : Seg) where
 
   vote-old : (g : Gxid) (r : Reply) → (s.locals g.0).vote ≡ Some r → IsOldReply s g r
   vote-old g (reply.Done c w n p) e = inr e
-  vote-old g (reply.Failed c x) e = tt
+  vote-old g (reply.Failed c x) e = inr e
   vote-old g reply.Prepared e = tt
   vote-old g reply.Committed e = tt
   vote-old g reply.Jfault e = tt
@@ -129,7 +137,7 @@ module _ (s : Seg) where
   kept-vote g None e = stay
   kept-vote g (Some r) e = tell g r (vote-old g r e)
 
-  change : (g : Gxid) (l : Local) (marks : List Mark) (r : Reply) (it : Option JournalItem) → Each NoWrite marks → l.answer ≡ (s.locals g.0).answer → l.last ≡ (s.locals g.0).last → IsOldReply s g r → Rests (changes s g l marks r it)
+  change : (g : Gxid) (l : Local) (marks : List Mark) (r : Reply) (it : Option JournalItem) → Each NoRow marks → l.answer ≡ (s.locals g.0).answer → l.last ≡ (s.locals g.0).last → IsOldReply s g r → Rests (changes s g l marks r it)
   change g l marks r it n a b o = record { marks = n; answers = λ h. answers-test h (eqb h g.0) refl; lasts = λ h. lasts-test h (eqb h g.0) refl; outs = (o, tt) }
     where
       answers-test : (h : ℕ) (q : Bool) → eqb h g.0 ≡ q → (if q then l else s.locals h).answer ≡ (s.locals h).answer
@@ -214,7 +222,7 @@ module _ (s : Seg) where
   module _ (g : Gxid) (c : Cid) (level : Level) (h : Gxid) (fresh : (s.locals g.0).last < c.0) (opened : is_open (s.locals g.0).phase ≡ true) where
     select : (x : Snapshot) (q : Query) (rows : List KeyedRow) (f : Option (KeyedRow × ArithFault)) → Selected s (message.Exec g c level (Some x) h (slice.Select q)) (selects (raised s h) g c q rows f)
     select x q rows None = record { g = g; c = c; level = level; snapshot = x; horizon = h; query = q; is = refl; fresh = fresh; marks = []; quiet = tt; told = _; kind = refl; ran = refl }
-    select x q rows (Some f) = record { g = g; c = c; level = level; snapshot = x; horizon = h; query = q; is = refl; fresh = fresh; marks = _; quiet = (tt, tt); told = _; kind = tt; ran = refl }
+    select x q rows (Some f) = record { g = g; c = c; level = level; snapshot = x; horizon = h; query = q; is = refl; fresh = fresh; marks = _; quiet = (tt, tt); told = _; kind = refl; ran = refl }
 
     lies : Quiet s (stays (raised s h))
     lies = record { marks = tt; answers = λ j. refl; lasts = λ j. refl; outs = tt }

@@ -5,11 +5,14 @@ ghost use Rattle.gx_ids.specs.declared.ids.Cid.{Cid as OneCid};
 ghost use Rattle.gx_ids.specs.declared.ids.Gxid.{Gxid as OneGxid};
 ghost use Rattle.gx_laws.specs.Runs.{steps_after};
 ghost use Rattle.gx_plan.specs.Constants.{rows_of};
-ghost use Rattle.gx_rules.specs.Machine.{world_of};
+ghost use Rattle.gx_rules.specs.Machine.{run_of, world_of};
 ghost use Rattle.gx_script.specs.declared.Script.{Script};
 ghost use Rattle.gx_store.specs.declared.event.Event.{Event as OneEvent};
+ghost use Rattle.gx_store.specs.Runs.{IsLegalHistory};
 ghost use Rattle.gx_tree.specs.declared.expr.Expr.{Expr as OneExpr};
 ghost use Rattle.gx_tree.specs.declared.row.KeyedRow.{KeyedRow as OneRow};
+ghost use Rattle.gx_writes.specs.Inserting.{AreInserting};
+ghost use Rattle.gx_writes.specs.Inserts.{AreInsertsTold};
 ghost use Rattle.gx_writes.specs.Rows.{ArePiecesOf, AreRowsOf};
 ghost use Rattle.gx_writes.specs.Writes.{AreWritesLegal};
 
@@ -30,5 +33,19 @@ pub fn rows_go_where_they_are_placed()
 pub fn writes_are_legal()
     ensures {
         (script : Script) (events : List (OneEvent × Bool)) → 1 ≤ script.segments → AreLinesNumbered [] script.lines → AreWritesLegal script [] (steps_after script events)
+    }
+{}
+
+/// An INSERT that is answered has written the row of each of its tuples, and the answer counts them.
+pub fn inserts_are_told()
+    ensures {
+        (script : Script) (events : List (OneEvent × Bool)) → 1 ≤ script.segments → AreLinesNumbered [] script.lines → AreInsertsTold script [] (steps_after script events)
+    }
+{}
+
+/// Every run of a script that only inserts is a legal history of one store.
+pub fn histories_of_inserts_are_legal()
+    ensures {
+        (script : Script) (events : List (OneEvent × Bool)) → 1 ≤ script.segments → AreLinesNumbered [] script.lines → AreInserting script.lines → IsLegalHistory script (run_of (world_of script events))
     }
 {}
