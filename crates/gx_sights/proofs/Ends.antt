@@ -41,10 +41,10 @@ use Rattle.gx_rules.specs.Sending.{clock_after, numbered}
 use Rattle.gx_rules.specs.Slices.{runs_slice}
 use Rattle.gx_laws.proofs.Letters.{IsFound}
 use Rattle.gx_laws.proofs.Lists.{Each, each_append, each_weaker}
-use Rattle.gx_laws.proofs.Past.{Past, aborted-append, committed-append}
+use Rattle.gx_laws.proofs.Past.{Past, aborted-append, committed-append, running-drawn}
 use Rattle.gx_laws.proofs.Replies.{event-good}
 use Rattle.gx_laws.proofs.Sessions.{stage_of}
-use Rattle.gx_laws.proofs.Stages.{gx}
+use Rattle.gx_laws.proofs.Stages.{IsWhole, gx}
 use Rattle.gx_laws.proofs.Statuses.{Stage, is_running, stage}
 use Rattle.gx_laws.proofs.Statuses.Stage.{Live as Running}
 use Rattle.gx_laws.proofs.World.{Knows, marks-last}
@@ -67,12 +67,13 @@ pub record Ended (k : Known) (p : Part) : Type 0 where
 
 -- of who has committed, each segment has taken what was sent to it
 abbrev pub TakenAt : World → Node → Message → Type 0
-TakenAt w to (message.Exec g c level x h slice) = is_committed (marks_in w.steps) (gx g.0) ≡ true → c.0 ≤ ((w.segs to.0).locals g.0).last
+TakenAt w to (message.Exec g c level x h slice) = (1 ≤ g.0) × (is_committed (marks_in w.steps) (gx g.0) ≡ true → c.0 ≤ ((w.segs to.0).locals g.0).last)
 TakenAt w to _ = Unit {0}
 
 pub record Ends (w : World) : Type 0 where
   pub ended : (i g : ℕ) → Ended (known_at w.coord (marks_in w.steps) i g) (parts_in w i g)
   pub taken : Each (λ (l : Letter). TakenAt w l.to l.envelope.message) w.sent
+  pub drawn : (i g : ℕ) → (parts_in w i g).wrote ≡ true → 1 ≤ g
 
 -- MARKS OF THE COORDINATOR
 commits-once : (xs : List Node) (ms : List Mark) (g : Gxid) (i : ℕ) → CommitsBy xs ms g → local_count ms (at i) g ≡ (if is_writer ms g (at i) then 1 else 0)
@@ -185,10 +186,10 @@ module _ (script : Script) (w : World) (k : Knows script w) (v : Holds script w)
             (fol-aborted script i g ms turn.marks f.way.fol (split (is_aborted ms (gx g)) (is_aborted turn.marks (gx g)) (is_aborted sent (gx g)) (no-aborted sent (gx g) (sent-no-end turn.coord.sent turn.outs)) (is_aborted new (gx g)) (aborted-is g) t o))
 
     old-taken : Passes script w k v l (coordinator.on_event script w.coord x fails) → (from to : Node) (m : Message) → Said (known_at w.coord ms (if is_answer m then from.0 else to.0) (gxid_in m)) (parts_in w (if is_answer m then from.0 else to.0) (gxid_in m)) m → TakenAt w to m → TakenAt next to m
-    old-taken p from to (message.Exec g c level y h slice) s old = λ t. by_old t (is_committed ms (gx g.0)) refl
+    old-taken p from to (message.Exec g c level y h slice) s old = (old.0, λ t. by_old t (is_committed ms (gx g.0)) refl)
       where
         by_old : is_committed new (gx g.0) ≡ true → (b : Bool) → is_committed ms (gx g.0) ≡ b → c.0 ≤ ((w.segs to.0).locals g.0).last
-        by_old t true o = old o
+        by_old t true o = old.1 o
         by_old t false o = p.takes g.0 (split (is_committed ms (gx g.0)) (is_committed turn.marks (gx g.0)) (is_committed sent (gx g.0)) (no-committed sent (gx g.0) (sent-no-end turn.coord.sent turn.outs)) (is_committed new (gx g.0)) (committed-is g.0) t o) to.0 c.0 s
     old-taken p from to (message.Prepare g) s old = tt
     old-taken p from to (message.Commit g) s old = tt
@@ -205,31 +206,32 @@ module _ (script : Script) (w : World) (k : Knows script w) (v : Holds script w)
         join : (a b d x : Bool) → x ≡ (a || (b || d)) → d ≡ false → x ≡ true → (a || b) ≡ true
         join a b d x e n t = grind arith
 
-    new-taken : Past turn.coord (ms ++ turn.marks) → (to : Node) (m : Message) → LiveMessage turn.coord.table m → TakenAt next to m
-    new-taken past to (message.Exec g c level y h slice) live = λ t. absurd (clash (sym (ap is_running live) ∙ (past.committed g.0 (turn-committed g.0 t)).2))
+    new-taken : Past turn.coord (ms ++ turn.marks) → IsWhole turn.coord.table → (to : Node) (m : Message) → LiveMessage turn.coord.table m → TakenAt next to m
+    new-taken past whole to (message.Exec g c level y h slice) live = ((running-drawn turn.coord g.0 whole (ap is_running live)).0, λ t. absurd (clash (sym (ap is_running live) ∙ (past.committed g.0 (turn-committed g.0 t)).2)))
       where
         clash : true ≡ false → ⊥
         clash e = cc
-    new-taken past to (message.Prepare g) live = tt
-    new-taken past to (message.Commit g) live = tt
-    new-taken past to (message.CommitPrepared g) live = tt
-    new-taken past to (message.Abort g) live = tt
-    new-taken past to (message.Forget g) live = tt
-    new-taken past to (message.Answer g r) live = tt
-    new-taken past to (message.Collect round) live = tt
-    new-taken past to (message.Graph round graph) live = tt
+    new-taken past whole to (message.Prepare g) live = tt
+    new-taken past whole to (message.Commit g) live = tt
+    new-taken past whole to (message.CommitPrepared g) live = tt
+    new-taken past whole to (message.Abort g) live = tt
+    new-taken past whole to (message.Forget g) live = tt
+    new-taken past whole to (message.Answer g r) live = tt
+    new-taken past whole to (message.Collect round) live = tt
+    new-taken past whole to (message.Graph round graph) live = tt
 
     both-each : {A : Type 0} (P R : A → Type 0) (xs : List A) → Each P xs → Each R xs → Each (λ y. P y × R y) xs
     both-each P R [] a b = tt
     both-each P R (y ∷ ys) a b = ((a.0, b.0), both-each P R ys a.1 b.1)
 
-    coord-ends : Passes script w k v l (coordinator.on_event script w.coord x fails) → Past turn.coord (ms ++ turn.marks) → Ends next
-    coord-ends p past =
+    coord-ends : Passes script w k v l (coordinator.on_event script w.coord x fails) → Past turn.coord (ms ++ turn.marks) → IsWhole turn.coord.table → Ends next
+    coord-ends p past whole =
         record {
           ended = coord-ended;
           taken = posted-each (λ (z : Letter). TakenAt next z.to z.envelope.message) the_coordinator (clock_after w.coord.clock x) turn.marks turn.coord.sent turn.outs w.sent (fol-no-sent script ms turn.marks f.way.fol)
-              (each_weaker (λ (o : Out). LiveMessage turn.coord.table o.message) _ (λ o h number. new-taken past o.node o.message h) turn.outs p.outs)
+              (each_weaker (λ (o : Out). LiveMessage turn.coord.table o.message) _ (λ o h number. new-taken past whole o.node o.message h) turn.outs p.outs)
               (each_weaker (λ (z : Letter). SaidIn w z × TakenAt w z.to z.envelope.message) (λ (z : Letter). TakenAt next z.to z.envelope.message) (λ z h. old-taken p z.from z.to z.envelope.message h.0 h.1) w.sent (both-each (SaidIn w) (λ (z : Letter). TakenAt w z.to z.envelope.message) w.sent v.said q.taken));
+          drawn = λ i g t. q.drawn i g (sym (writer-is i g) ∙ t);
         }
 
 -- A STEP OF A SEGMENT
@@ -345,7 +347,7 @@ module _ (script : Script) (w : World) (k : Knows script w) (v : Holds script w)
       exec : (h : Gxid) (c : Cid) (level : Rattle.gx_tree.specs.declared.stmt.Level.Level) (x : Option Snapshot) (y : Gxid) (z : Slice) → envelope.message ≡ message.Exec h c level x y z → is_writer turn3.marks (gx g) (at i) ≡ false
       exec h c level x y z f =
           ap (λ ns. is_writer ns (gx g) (at i))
-          (ap (λ m. (on_message script (w.segs i) fails m).marks) f ∙ old-quiet script (w.segs i) fails h c level x y z (subst (TakenAt w (at i)) f taken (subst (λ m. (known_at w.coord (marks_in w.steps) i (gxid_in m)).committed ≡ true) f a)))
+          (ap (λ m. (on_message script (w.segs i) fails m).marks) f ∙ old-quiet script (w.segs i) fails h c level x y z ((subst (TakenAt w (at i)) f taken).1 (subst (λ m. (known_at w.coord (marks_in w.steps) i (gxid_in m)).committed ≡ true) f a)))
 
       by_message : (m : Message) → envelope.message ≡ m → is_writer turn3.marks (gx g) (at i) ≡ false
       by_message (message.Exec h c level x y z) f = exec h c level x y z f
@@ -390,6 +392,32 @@ module _ (script : Script) (w : World) (k : Knows script w) (v : Holds script w)
       (subst (λ a. Ended (known_at w.coord (marks_in w.steps) i a) (parts_in late i a)) (sym (eqb-true h g x.1)) (subst (Ended kn) (sym (part-here script w k v e fails i from envelope received said)) here-ended))
   ended-next j h false f = subst (Ended (known_at w.coord (marks_in w.steps) j h)) (sym (part-there script w k v e fails i from envelope received said j h f)) (q.ended j h)
 
+  -- who writes was drawn
+  wrote-drawn : is_writer turn3.marks (gx g) (at i) ≡ true → 1 ≤ g
+  wrote-drawn t = by_mark turn3.marks does.marks t
+    where
+      exec-drawn : (c : Cid) → IsExecOf envelope.message g c → 1 ≤ g
+      exec-drawn c x = (subst (TakenAt w (at i)) x.is taken).0
+
+      by_mark : (ns : List Mark) → Each (Follows envelope.message kn i g) ns → is_writer ns (gx g) (at i) ≡ true → 1 ≤ g
+      by_mark [] f t = absurd (cc)
+      by_mark (mark.Write y c n a r x ∷ ns) f t = exec-drawn c f.0.2
+      by_mark (m ∷ ns) f t = by_mark ns f.1 t
+
+  drawn-next : (j h : ℕ) → (parts_in late j h).wrote ≡ true → (b : Bool) → (eqb j i && eqb h g) ≡ b → 1 ≤ h
+  drawn-next j h t true f =
+      let x = both-true (eqb j i) (eqb h g) f in
+      subst (λ a. 1 ≤ a) (sym (eqb-true h g x.1))
+      (by_either (is_writer (marks_in w.steps) (gx g) (at i)) refl (sym (ap (λ (p : Part). p.wrote) (part-here script w k v e fails i from envelope received said)) ∙ subst (λ a. (parts_in late i a).wrote ≡ true) (eqb-true h g x.1) (subst (λ a. (parts_in late a h).wrote ≡ true) (eqb-true j i x.0) t)))
+    where
+      by_either : (b : Bool) → is_writer (marks_in w.steps) (gx g) (at i) ≡ b → (is_writer (marks_in w.steps) (gx g) (at i) || is_writer turn3.marks (gx g) (at i)) ≡ true → 1 ≤ g
+      by_either true o t = q.drawn i g o
+      by_either false o t = wrote-drawn (later (is_writer (marks_in w.steps) (gx g) (at i)) (is_writer turn3.marks (gx g) (at i)) o t)
+        where
+          later : (a b : Bool) → a ≡ false → (a || b) ≡ true → b ≡ true
+          later a b o t = grind arith
+  drawn-next j h t false f = q.drawn j h (sym (ap (λ (p : Part). p.wrote) (part-there script w k v e fails i from envelope received said j h f)) ∙ t)
+
   -- the last command taken doesn't fall
   last-next : (j h n : ℕ) → n ≤ (parts_in w j h).last → (b : Bool) → (eqb j i && eqb h g) ≡ b → n ≤ (parts_in late j h).last
   last-next j h n z true f =
@@ -407,7 +435,7 @@ module _ (script : Script) (w : World) (k : Knows script w) (v : Holds script w)
   same-committed h = ap (λ (z : Known). z.committed) (same-known2 script w k v e fails i from envelope received said i h)
 
   taken-next : (to : Node) (m : Message) → TakenAt w to m → TakenAt late to m
-  taken-next to (message.Exec h c level x y z) old = λ t. last-next to.0 h.0 c.0 (old (sym (same-committed h.0) ∙ t)) (eqb to.0 i && eqb h.0 g) refl
+  taken-next to (message.Exec h c level x y z) old = (old.0, λ t. last-next to.0 h.0 c.0 (old.1 (sym (same-committed h.0) ∙ t)) (eqb to.0 i && eqb h.0 g) refl)
   taken-next to (message.Prepare h) old = tt
   taken-next to (message.Commit h) old = tt
   taken-next to (message.CommitPrepared h) old = tt
@@ -435,6 +463,7 @@ module _ (script : Script) (w : World) (k : Knows script w) (v : Holds script w)
         taken = posted-each (λ (z : Letter). TakenAt late z.to z.envelope.message) (at i) (clock_after (w.segs i).clock (here.Deliver from envelope)) turn3.marks (λ node. turn3.seg.sent) turn3.outs w.sent (follows-no-sent envelope.message kn i g turn3.marks does.marks)
             (each_weaker (λ (o : Out). Tells kn part2 i g turn3.marks o.message) _ (λ o h number. answer-taken o.node o.message (told-answer kn part2 i g turn3.marks o.message h).0) turn3.outs does.outs)
             (each_weaker (λ (z : Letter). TakenAt w z.to z.envelope.message) (λ (z : Letter). TakenAt late z.to z.envelope.message) (λ z h. taken-next z.to z.envelope.message h) w.sent q.taken);
+        drawn = λ j h t. drawn-next j h t (eqb j i && eqb h g) refl;
       }
 
 -- EVERY RUN
@@ -443,7 +472,7 @@ pub record Facts (w : World) : Type 0 where
   pub ends : Ends w
 
 new-ends : Ends new_world
-new-ends = record { ended = λ i g. record { committed = λ a. absurd (cc); aborted = λ a. absurd (cc) }; taken = tt }
+new-ends = record { ended = λ i g. record { committed = λ a. absurd (cc); aborted = λ a. absurd (cc) }; taken = tt; drawn = λ i g t. absurd (cc) }
 
 module _ (script : Script) (some : 1 ≤ script.segments) where
   coord-facts : (w : World) → Knows script w → Holds script w → Facts w → (e : Event) (x : NodeEvent) (fails : Bool) → coord_can script w.coord x ≡ true → SaidTo w x → Facts (coord_did w e (coord_rule script w.coord x fails))
@@ -451,7 +480,7 @@ module _ (script : Script) (some : 1 ≤ script.segments) where
       record {
         lows = coord-low script w k v q.lows e x fails ok d;
         ends = coord-ends script w k v q.lows q.ends e x fails (event-led script (parts_in w) w.coord (marks_in w.steps) v.stands k.kept k.past (λ g. (k.well.coordinator.works g).writers) x fails ok (said-in x d)) (event-pass script w k v q.lows x fails ok d)
-            (event-good script w.coord (marks_in w.steps) k.kept k.past x fails ok).past;
+            (event-good script w.coord (marks_in w.steps) k.kept k.past x fails ok).past (event-good script w.coord (marks_in w.steps) k.kept k.past x fails ok).kept.whole;
       }
     where
       said-in : (x : NodeEvent) → SaidTo w x → Rattle.gx_protocol.proofs.Events.IsSaidIn script (parts_in w) w.coord (marks_in w.steps) v.stands k.kept k.past (λ g. (k.well.coordinator.works g).writers) x
