@@ -9,3 +9,4 @@ pub mod Low
 pub mod Taken
 pub mod Ends
 pub mod Images
+pub mod Seeing

@@ -421,7 +421,7 @@ module _ (script : Script) (w : World) (k : Knows script w) (v : Holds script w)
     under-way None e = absurd (over ((w.segs i).locals g.0).last c.0 new (s.taken standing-is (ap (λ o. Rattle.gx_protocol.specs.Standings.waits_in o i) e)))
     under-way (Some z) e = (z, e, (subst (Rattle.gx_protocol.proofs.Ways.CommandOf g.0 (w.coord.works g.0).last) e (v.stands.works g.0).command).0 ∙ sym is-last)
 
-  low-seen : (limit : Gxid) (x : Snapshot) (y : ℕ) → limit.0 ≤ y → ((h : ℕ) → 1 ≤ h → h < y → sees x (gx h) ≡ true) → (h : Gxid) → 1 ≤ h.0 → (is_below limit h || sees x h) ≡ sees x h
+  pub low-seen : (limit : Gxid) (x : Snapshot) (y : ℕ) → limit.0 ≤ y → ((h : ℕ) → 1 ≤ h → h < y → sees x (gx h) ≡ true) → (h : Gxid) → 1 ≤ h.0 → (is_below limit h || sees x h) ≡ sees x h
   low-seen limit x y l f h one = by_test (is_below limit h) refl
     where
       less : (a b c : ℕ) → ltb a b ≡ true → b ≤ c → a < c

@@ -53,3 +53,17 @@ shown_to_all s snapshot table = rows_in (last_images (filter (λ v. (v.table.0 =
 pub record ShowsCommitted (w : World) (node : Node) (table : Table) : Type 0 where
   pub rising : AreRising (shown_to_all (w.segs node.0) (snapshot_of w.coord.table) table)
   pub images : (rid : Rid) → IsOnlyAt node rid (marks_in w.steps) → row_at (shown_to_all (w.segs node.0) (snapshot_of w.coord.table) table) rid ≡ image (marks_in w.steps) (marks_in w.steps) None table rid
+
+-- WHAT A SEGMENT SHOWS TO A COMMAND
+-- When a command comes to a segment that has still to run it, the segment shows to it each row that is written there alone as
+-- it is for the command at the place where its snapshot was taken.
+abbrev pub IsShownView : World → Node → Message → Type 0
+IsShownView w node (message.Exec g c level (Some snapshot) horizon slice) =
+    1 ≤ node.0 → IsToRun w node g c → (place : ℕ) (d : Cid) → slice_get (marks_in w.steps) place ≡ Some (mark.Snap g d snapshot) → (table : Table) (rid : Rid) → IsOnlyAt node rid (marks_in w.steps)
+    → row_at (shown (raised (w.segs node.0) horizon) snapshot g c table) rid ≡ image (marks_in w.steps) (take place (marks_in w.steps)) (Some (g, c)) table rid
+IsShownView w node _ = Unit {0}
+
+-- to each command that was ever sent
+abbrev pub AreShownViews : World → List Letter → Type 0
+AreShownViews w [] = Unit {0}
+AreShownViews w (letter ∷ letters) = IsShownView w letter.to letter.envelope.message × AreShownViews w letters
