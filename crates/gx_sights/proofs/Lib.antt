@@ -10,3 +10,4 @@ pub mod Taken
 pub mod Ends
 pub mod Images
 pub mod Seeing
+pub mod Staying

@@ -61,7 +61,6 @@ use Rattle.gx_laws.proofs.World.{Knows}
 use Rattle.gx_protocol.specs.Said.{IsCommand, Said, SaidIn, gxid_in, is_answer, segment_of}
 use Rattle.gx_protocol.specs.Standings.{Known, Part, Standing, at, known_at, standing, standing_in}
 use Rattle.gx_protocol.specs.Standings.Standing.{Unborn, Over, Live}
-use Rattle.gx_protocol.proofs.Events.{event-led}
 use Rattle.gx_protocol.proofs.Everywhere.{Holds, fol-no-sent, follows-no-sent, parts_in, posted-each, told-answer}
 use Rattle.gx_protocol.proofs.Handled.{Tells, handled}
 use Rattle.gx_sights.specs.Horizons.{AreHorizonsLow, AreLowIn, IsLowIn, IsNobodyDropped, IsSeenBelow, IsToRun}
@@ -70,7 +69,7 @@ use Rattle.gx_sights.proofs.Held.{Held, Latest}
 use Rattle.gx_sights.proofs.Going.{event-went}
 use Rattle.gx_sights.proofs.Plain.{NoExec}
 use Rattle.gx_sights.proofs.Reading.{CommandLow, CountedIn, Fine, FineIn, OutFine, Reads, Stood, Went, le-refl, low-then}
-use Rattle.gx_sights.proofs.Steps.{SaidTo, world-keeps}
+use Rattle.gx_sights.proofs.Steps.{SaidTo, event-leads, world-keeps}
 use Rattle.gx_sights.proofs.Turns.{WentBy, none-some}
 
 abbrev pub LetterLow : Table → (ℕ → Work) → Letter → Type 0
@@ -140,16 +139,8 @@ module _ (script : Script) (w : World) (k : Knows script w) (v : Holds script w)
   both-each P R (y ∷ ys) a b = ((a.0, b.0), both-each P R ys a.1 b.1)
 
   pub coord-low : coord_can script w.coord x ≡ true → SaidTo w x → Lows (coord_did w e (coord_rule script w.coord x fails))
-  coord-low ok d = by_led (event-led script (parts_in w) w.coord (marks_in w.steps) v.stands k.kept k.past (λ g. (k.well.coordinator.works g).writers) x fails ok (said-in x d))
+  coord-low ok d = by_led (event-leads script w k v x fails ok d)
     where
-      said-in : (x : NodeEvent) → SaidTo w x → Rattle.gx_protocol.proofs.Events.IsSaidIn script (parts_in w) w.coord (marks_in w.steps) v.stands k.kept k.past (λ g. (k.well.coordinator.works g).writers) x
-      said-in (here.Deliver from envelope) d = d
-      said-in (here.Start s) d = tt
-      said-in (here.End s) d = tt
-      said-in (here.Resend i g) d = tt
-      said-in (here.Resume g) d = tt
-      said-in here.Round d = tt
-
       le-trans : (a b c : ℕ) → a ≤ b → b ≤ c → a ≤ c
       le-trans a b c l m = omega arith
 

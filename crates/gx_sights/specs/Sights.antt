@@ -67,3 +67,11 @@ IsShownView w node _ = Unit {0}
 abbrev pub AreShownViews : World → List Letter → Type 0
 AreShownViews w [] = Unit {0}
 AreShownViews w (letter ∷ letters) = IsShownView w letter.to letter.envelope.message × AreShownViews w letters
+
+-- VIEWS STAY
+-- Once a node has taken a command, nothing that is written later changes what the command sees of the rows that stand there
+-- alone, at the place of any mark so far.
+abbrev pub DoViewsStay : World → World → Type 0
+DoViewsStay w late =
+    (node : Node) (g : Gxid) (c : Cid) (place : ℕ) (m : Mark) (table : Table) (rid : Rid) → c.0 ≤ (local_of (w.segs node.0) g).last → slice_get (marks_in w.steps) place ≡ Some m → IsOnlyAt node rid (marks_in late.steps)
+    → image (marks_in late.steps) (take place (marks_in late.steps)) (Some (g, c)) table rid ≡ image (marks_in w.steps) (take place (marks_in w.steps)) (Some (g, c)) table rid

@@ -1,13 +1,13 @@
 //! Laws of every run, whatever the network loses, repeats, delays and reorders, and whichever appends fail.
 ghost use Rattle.std.specs.Prelude.{◌≤◌, Bool, List};
-ghost use Rattle.gx_rules.specs.Machine.{world_of};
+ghost use Rattle.gx_rules.specs.Machine.{after, world_of};
 ghost use Rattle.gx_script.specs.declared.Script.{Script};
 ghost use Rattle.gx_store.specs.declared.event.Event.{Event as OneEvent};
 ghost use Rattle.gx_ids.specs.declared.ids.Gxid.{Gxid as OneGxid};
 ghost use Rattle.gx_ids.specs.declared.ids.Node.{Node as OneNode};
 ghost use Rattle.gx_ids.specs.declared.ids.Table.{Table as OneTable};
 ghost use Rattle.gx_sights.specs.Horizons.{AreHorizonsLow, IsNobodyDropped};
-ghost use Rattle.gx_sights.specs.Sights.{AreShownViews, DoesEndAt, ShowsCommitted};
+ghost use Rattle.gx_sights.specs.Sights.{AreShownViews, DoViewsStay, DoesEndAt, ShowsCommitted};
 
 /// No horizon, of a segment or of a command that was ever sent, is above a transaction that the coordinator still knows, or
 /// above the `xmin` of a live snapshot.
@@ -36,4 +36,9 @@ pub fn segments_show_the_view()
 /// committed writes left it: at the end of a run these are the final tables.
 pub fn segments_show_what_has_committed()
     ensures { (script : Script) (events : List (OneEvent × Bool)) (node : OneNode) (table : OneTable) → 1 ≤ script.segments → 1 ≤ node.0 → ShowsCommitted (world_of script events) node table }
+{}
+
+/// What a command that a node has taken sees of the rows that are written there alone never changes any more.
+pub fn views_stay()
+    ensures { (script : Script) (events : List (OneEvent × Bool)) (later : List (OneEvent × Bool)) → 1 ≤ script.segments → DoViewsStay (world_of script events) (after script (world_of script events) later) }
 {}
