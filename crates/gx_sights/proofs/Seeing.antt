@@ -47,7 +47,8 @@ use Rattle.gx_sights.specs.Sights.{AreShownViews, DoesEndAt, IsOnlyAt, IsShownVi
 use Rattle.gx_sights.proofs.Ends.{Ends, Facts, world-facts}
 use Rattle.gx_sights.proofs.Held.{held-now, horizon-xmin}
 use Rattle.gx_sights.proofs.Images.{row-is, versions-written}
-use Rattle.gx_sights.proofs.Low.{Lows, latest, low-seen, nobody-dropped}
+use Rattle.gx_sights.proofs.Below.{low-seen, nobody-dropped}
+use Rattle.gx_sights.proofs.Low.{Lows, latest}
 
 -- versions are the marks' writes, in every run
 module _ (script : Script) (some : 1 ≤ script.segments) where
@@ -116,7 +117,7 @@ module _ (script : Script) (w : World) (k : Knows script w) (v : Holds script w)
     x = snapshot_of w.coord.table
 
     below-seen : (h : Gxid) → 1 ≤ h.0 → (is_below (w.segs node.0).horizon h || sees x h) ≡ sees x h
-    below-seen = low-seen script w k v f.lows (w.segs node.0).horizon x (xmin_of w.coord.table).0 (le-trans (w.segs node.0).horizon.0 (horizon_of w.coord.table).0 (xmin_of w.coord.table).0 (f.lows.segs node.0) (horizon-xmin w.coord.table (latest script w k))) (held-now w.coord.table f.lows.stood.sorted)
+    below-seen = low-seen script w k v f (w.segs node.0).horizon x (xmin_of w.coord.table).0 (le-trans (w.segs node.0).horizon.0 (horizon_of w.coord.table).0 (xmin_of w.coord.table).0 (f.lows.segs node.0) (horizon-xmin w.coord.table (latest script w k))) (held-now w.coord.table f.lows.stood.sorted)
       where
         le-trans : (a b c : ℕ) → a ≤ b → b ≤ c → a ≤ c
         le-trans a b c l m = omega arith
@@ -185,7 +186,7 @@ module _ (script : Script) (w : World) (k : Knows script w) (v : Holds script w)
   each-view (l ∷ ls) e = (one-view l.to l.envelope.message e.0, each-view ls e.1)
 
   pub shown-views : AreShownViews w w.sent
-  shown-views = each-view w.sent (nobody-dropped script w k v f.lows)
+  shown-views = each-view w.sent (nobody-dropped script w k v f)
 
 -- IN EVERY RUN
 module _ (script : Script) (some : 1 ≤ script.segments) (es : List (Event × Bool)) where

@@ -15,7 +15,7 @@ pub fn horizons_are_low()
     ensures { (script : Script) (events : List (OneEvent × Bool)) → 1 ≤ script.segments → AreHorizonsLow (world_of script events) }
 {}
 
-/// A command that a segment has still to run, of a transaction whose commands run, sees whoever is below the horizon there.
+/// A command that a segment has still to run, of a transaction that wasn't aborted, sees whoever is below the horizon there.
 pub fn nobody_is_dropped_too_early()
     ensures { (script : Script) (events : List (OneEvent × Bool)) → 1 ≤ script.segments → IsNobodyDropped (world_of script events) (world_of script events).sent }
 {}
