@@ -33,6 +33,7 @@ use Rattle.gx_store.specs.declared.event.Event.{Event}
 use Rattle.gx_store.specs.declared.mark.Mark.{Mark}
 use Rattle.gx_store.specs.declared.node.NodeEvent.{NodeEvent}
 use Rattle.gx_store.specs.declared.node.NodeEvent.TheVariants as here
+use Rattle.gx_store.specs.Marks.{is_ended}
 use Rattle.gx_store.specs.Messages.{Receives}
 use Rattle.gx_store.specs.Ordered.{IsSegment}
 use Rattle.gx_store.specs.Points.{marks_in}
@@ -64,7 +65,7 @@ use Rattle.gx_protocol.specs.Standings.Standing.{Unborn, Over, Live}
 use Rattle.gx_protocol.proofs.Everywhere.{Holds, fol-no-sent, follows-no-sent, parts_in, posted-each, told-answer}
 use Rattle.gx_protocol.proofs.Handled.{Tells, handled}
 use Rattle.gx_sights.specs.Horizons.{AreHorizonsLow, AreLowIn, IsLowIn, IsNobodyDropped, IsSeenBelow, IsToRun}
-use Rattle.gx_sights.proofs.Heights.{Sorted}
+use Rattle.gx_sights.proofs.Heights.{Sorted, horizon-bounds}
 use Rattle.gx_sights.proofs.Held.{Held, Latest}
 use Rattle.gx_sights.proofs.Going.{event-went}
 use Rattle.gx_sights.proofs.Plain.{NoExec}
@@ -128,7 +129,7 @@ module _ (script : Script) (w : World) (k : Knows script w) (v : Holds script w)
   abbrev table2 : Table
   table2 = turn.coord.table
 
-  by : WentBy w.coord (coordinator.on_event script w.coord x fails)
+  pub by : WentBy w.coord (coordinator.on_event script w.coord x fails)
   by = event-went script w.coord q.stood (latest script w k) x fails
 
   kept-letter : (l : Letter) → SaidIn w l × LetterLow w.coord.table w.coord.works l → LetterLow turn.coord.table turn.coord.works l
@@ -355,11 +356,22 @@ sent-low : (d : Table) (ws : ℕ → Work) (ls : List Letter) → Each (LetterLo
 sent-low d ws [] e = tt
 sent-low d ws (l ∷ ls) e = (e.0.0, sent-low d ws ls e.1)
 
-pub lows-are : (w : World) → Lows w → AreHorizonsLow w
-lows-are w q =
+pub lows-are : (script : Script) (w : World) → Knows script w → Lows w → AreHorizonsLow w
+lows-are script w k q =
     record {
       sent = sent-low w.coord.table w.coord.works w.sent q.sent;
       segments = q.segs;
       known = λ g t e. found-low g t w.coord.table.txns e w.coord.table.next;
       live = λ g t x e f. live_found-low g t x w.coord.table.txns f e w.coord.table.next;
+      ended = λ h one e. by_found h one e (find_txn w.coord.table h) refl;
     }
+  where
+    less : (a b c : ℕ) → ltb a b ≡ true → b ≤ c → a < c
+    less a b c e l = grind (arith, nat_tests)
+
+    over : (a b : ℕ) → ltb a b ≡ true → b ≤ a → ⊥
+    over a b e l = grind (arith, nat_tests)
+
+    by_found : (h : Gxid) → 1 ≤ h.0 → is_below (horizon_of w.coord.table) h ≡ true → (o : Option Txn) → find_txn w.coord.table h ≡ o → is_ended (marks_in w.steps) h ≡ true
+    by_found h one e None f = k.past.ended h.0 one (less h.0 (horizon_of w.coord.table).0 w.coord.table.next.0 e (horizon-bounds w.coord.table).next) (ap (λ o. is_running (stage o)) f)
+    by_found h one e (Some t) f = absurd (over h.0 (horizon_of w.coord.table).0 e (found-low h t w.coord.table.txns f w.coord.table.next))

@@ -40,7 +40,10 @@ use Rattle.gx_protocol.specs.Standings.{at, known_at}
 use Rattle.gx_protocol.proofs.Always.{world-holds}
 use Rattle.gx_protocol.proofs.Counts.{NoPart, sent-no-part}
 use Rattle.gx_protocol.proofs.Everywhere.{Holds, parts_in}
+use Rattle.gx_dtx.specs.Table.{horizon_of}
+use Rattle.gx_sights.specs.Horizons.{HasRisen}
 use Rattle.gx_sights.specs.Sights.{DoViewsStay, IsOnlyAt}
+use Rattle.gx_sights.proofs.Low.{by}
 use Rattle.gx_sights.proofs.Ends.{Ends, Facts, NewWrite, TakenAt, all-marks, coord-facts, last-next, no-parts, seg-facts, world-facts, writes-new}
 use Rattle.gx_sights.proofs.Steps.{SaidTo, event-leads, keeps-after}
 
@@ -211,3 +214,22 @@ module _ (script : Script) (some : 1 ≤ script.segments) (es later : List (Even
       ap (λ z. image z (take place z) (Some (g, c)) table rid) s.are
       ∙ ap (λ z. image (marks_in w.steps ++ s.more) z (Some (g, c)) table rid) (take-kept (marks_in w.steps) s.more place m there)
       ∙ unseen-image node g c (take place (marks_in w.steps)) table rid (marks_in w.steps) s.more None (only-right node rid (marks_in w.steps) s.more (subst (IsOnlyAt node rid) s.are only)) s.unseen
+
+-- the horizon rises
+record Risen (n : ℕ) (w : World) : Type 0 where
+  facts : Facts w
+  low : n ≤ (horizon_of w.coord.table).0
+
+module _ (script : Script) (some : 1 ≤ script.segments) (es later : List (Event × Bool)) where
+  pub has-risen : HasRisen (world_of script es) (after script (world_of script es) later)
+  has-risen =
+      (keeps-after script some (Risen (horizon_of (world_of script es).coord.table).0)
+      (λ w k v s e x fails ok d. record { facts = coord-facts script some w k v s.facts e x fails ok d; low = le-trans (horizon_of (world_of script es).coord.table).0 (horizon_of w.coord.table).0 (horizon_of (coordinator.on_event script w.coord x fails).coord.table).0 s.low (by script w k v s.facts.lows e x fails).went.low })
+      (λ w k v s e fails i from number envelope place finds received said. record { facts = seg-facts script some w k v s.facts e fails i from number envelope place finds received said; low = s.low })
+      later (world_of script es) (world_knows script some es) (world-holds script some es) (record { facts = world-facts script some es; low = le-refl (horizon_of (world_of script es).coord.table).0 })).low
+    where
+      le-trans : (a b c : ℕ) → a ≤ b → b ≤ c → a ≤ c
+      le-trans a b c l m = omega arith
+
+      le-refl : (a : ℕ) → a ≤ a
+      le-refl a = omega arith
