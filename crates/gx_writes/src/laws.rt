@@ -13,6 +13,7 @@ ghost use Rattle.gx_tree.specs.declared.expr.Expr.{Expr as OneExpr};
 ghost use Rattle.gx_tree.specs.declared.row.KeyedRow.{KeyedRow as OneRow};
 ghost use Rattle.gx_writes.specs.Inserting.{AreInserting};
 ghost use Rattle.gx_writes.specs.Inserts.{AreInsertsTold};
+ghost use Rattle.gx_writes.specs.Left.{AreLeftLegal};
 ghost use Rattle.gx_writes.specs.Rows.{ArePiecesOf, AreRowsOf};
 ghost use Rattle.gx_writes.specs.Writes.{AreWritesLegal};
 
@@ -40,6 +41,14 @@ pub fn writes_are_legal()
 pub fn inserts_are_told()
     ensures {
         (script : Script) (events : List (OneEvent × Bool)) → 1 ≤ script.segments → AreLinesNumbered [] script.lines → AreInsertsTold script [] (steps_after script events)
+    }
+{}
+
+/// A run is a legal history if what SELECTs show and on what they fault, what segments refuse, and what the answers of commands
+/// that change rows or lock a table say are so.
+pub fn history_is_legal_with_what_is_left()
+    ensures {
+        (script : Script) (events : List (OneEvent × Bool)) → 1 ≤ script.segments → AreLinesNumbered [] script.lines → AreLeftLegal script [] (steps_after script events) → IsLegalHistory script (run_of (world_of script events))
     }
 {}
 
