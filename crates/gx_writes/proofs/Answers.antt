@@ -1,6 +1,5 @@
 -- An INSERT's answer tells what was done.
-use Rattle.std.proofs.Common.{◌≡◌, ◌≤◌, ◌<◌, ◌⊎◌, inl, inr, ℕ, ◌+◌, List, [], ◌∷◌, ◌++◌, Option, Some, None, Result, Ok, Err, Bool, true, false, refl, sym, subst, ap, ◌∙◌, if◌then◌else◌, ◌||◌, arith, eqb}
-use Rattle.std.proofs.lemmas.Bool.Decides.{nat_tests}
+use Rattle.std.proofs.Common.{◌≡◌, ◌≤◌, ◌⊎◌, inl, inr, ℕ, List, [], ◌∷◌, ◌++◌, Option, Some, None, Ok, Bool, true, refl, sym, subst, ap, ◌∙◌, ◌||◌, arith}
 use Rattle.gx_ids.specs.declared.ids.Cid.{Cid}
 use Rattle.gx_ids.specs.declared.ids.Gxid.{Gxid}
 use Rattle.gx_ids.specs.declared.ids.Node.{Node}
@@ -14,17 +13,14 @@ use Rattle.gx_tree.specs.declared.stmt.Level.TheVariants.{ReadCommitted, Repeata
 use Rattle.gx_tree.specs.declared.stmt.Stmt.{Stmt}
 use Rattle.gx_tree.specs.declared.stmt.Stmt.TheVariants as stmt
 use Rattle.gx_dsnap.specs.declared.snapshot.Snapshot.{Snapshot}
-use Rattle.gx_eval.specs.declared.fault.ArithFault.{ArithFault}
 use Rattle.gx_msg.specs.declared.message.Envelope.{Envelope}
 use Rattle.gx_msg.specs.declared.message.Message.TheVariants as message
 use Rattle.gx_msg.specs.declared.reply.Reply.TheVariants as reply
 use Rattle.gx_plan.specs.Constants.{rows_of}
 use Rattle.gx_plan.specs.Plan.{plan_of, rows_at}
-use Rattle.gx_plan.specs.declared.piece.Piece.{Piece}
 use Rattle.gx_script.specs.declared.Script.{Script}
 use Rattle.gx_session.specs.declared.state.Block.{Block}
 use Rattle.gx_session.specs.declared.state.Block.TheVariants as block
-use Rattle.gx_session.specs.declared.state.Pending.{Pending}
 use Rattle.gx_session.specs.declared.state.Pending.TheVariants as pending
 use Rattle.gx_store.specs.declared.answer.StmtAnswer.{StmtAnswer}
 use Rattle.gx_store.specs.declared.answer.StmtAnswer.TheVariants as told
@@ -35,9 +31,9 @@ use Rattle.gx_store.specs.declared.node.NodeEvent.{NodeEvent}
 use Rattle.gx_store.specs.declared.node.NodeEvent.TheVariants as here
 use Rattle.gx_store.specs.Answers.{Inserts, Tells}
 use Rattle.gx_store.specs.Commands.{RunsCommand, has_own_snapshot}
-use Rattle.gx_store.specs.Lines.{cid_of, level_of}
+use Rattle.gx_store.specs.Lines.{level_of}
 use Rattle.gx_store.specs.Marks.{has_snapshot, is_snapped}
-use Rattle.gx_store.specs.Points.{Point, before, marks_in, starts_by}
+use Rattle.gx_store.specs.Points.{Point, marks_in, starts_by}
 use Rattle.gx_store.specs.Writes.{dist_of}
 use Rattle.gx_store.proofs.Marks.{has_snapshot-append, is_snapped-append}
 use Rattle.gx_rules.specs.AtCoordinator.{command_answer, table_of, with_done}
@@ -49,9 +45,9 @@ use Rattle.gx_histories.specs.Orders.{AreLinesNumbered}
 use Rattle.gx_histories.specs.Rest.{EachMark, IsTold}
 use Rattle.gx_histories.specs.Standing.{AreSessions, HasSnapshot, Owns, is_busy, level_in, state_in}
 use Rattle.gx_histories.proofs.Said.{CalmFor}
-use Rattle.gx_protocol.specs.Standings.{at, gx, waits_in}
+use Rattle.gx_protocol.specs.Standings.{gx, waits_in}
 use Rattle.gx_writes.specs.Inserts.{InsertTold}
-use Rattle.gx_writes.proofs.Legal.{has-snap, line-is, own-more}
+use Rattle.gx_writes.proofs.Legal.{has-snap, line-is}
 use Rattle.gx_writes.proofs.Live.{Running, live-owns, running, running-in, runs}
 use Rattle.gx_writes.proofs.Plans.{insert-slice}
 use Rattle.gx_writes.proofs.Progress.{Progress, progress-done, progress-end, progress-more, progress-new}

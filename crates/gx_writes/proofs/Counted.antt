@@ -1,5 +1,5 @@
 -- Over every run of the machine, INSERTs are counted as they are written, and their answers tell what was done.
-use Rattle.std.proofs.Common.{◌≡◌, ◌≤◌, ◌⊎◌, inl, inr, ℕ, ◌+◌, List, [], ◌∷◌, ◌++◌, Option, Some, None, Bool, true, false, refl, sym, subst, ap, ◌∙◌, if◌then◌else◌, ◌&&◌, arith, eqb, append-nil}
+use Rattle.std.proofs.Common.{◌≡◌, ◌≤◌, inl, inr, ℕ, List, [], ◌∷◌, ◌++◌, Option, Some, None, Bool, true, false, refl, sym, subst, ap, ◌∙◌, if◌then◌else◌, ◌&&◌, arith, append-nil}
 use Rattle.std.proofs.lemmas.Bool.Decides.{nat_tests}
 use Rattle.std.proofs.lemmas.List.{append_assoc}
 use Rattle.std.specs.Prelude.{nat_le}
@@ -9,7 +9,6 @@ use Rattle.gx_ids.specs.declared.ids.Node.{Node}
 use Rattle.gx_ids.specs.declared.ids.SessionId.{SessionId}
 use Rattle.gx_tree.specs.declared.part.Part.{Part as QueryPart}
 use Rattle.gx_msg.specs.declared.message.Envelope.{Envelope}
-use Rattle.gx_msg.specs.declared.message.Message.{Message}
 use Rattle.gx_msg.specs.declared.message.Message.TheVariants as message
 use Rattle.gx_msg.specs.declared.message.Out.{Out}
 use Rattle.gx_msg.specs.declared.reply.Reply.TheVariants as reply
@@ -31,10 +30,10 @@ use Rattle.gx_rules.specs.AtSegment.{seg_rule}
 use Rattle.gx_rules.specs.Coordinators.{CoordTurn}
 use Rattle.gx_rules.specs.Machine.{World, after, at_node, can, can_here, coord_did, delivered, does, found, happens, new_world, node_of, seg_can, seg_did, world_of}
 use Rattle.gx_rules.specs.Sending.{clock_after, counted, numbered}
-use Rattle.gx_laws.proofs.Letters.{IsFound, IsLetter, found_is, same_node}
+use Rattle.gx_laws.proofs.Letters.{IsFound, IsLetter, found_is}
 use Rattle.gx_laws.proofs.Lists.{Each}
 use Rattle.gx_laws.proofs.Ordered.{never_resumes, seg_marks}
-use Rattle.gx_laws.proofs.World.{Knows, marks-last}
+use Rattle.gx_laws.proofs.World.{marks-last}
 use Rattle.gx_histories.specs.Orders.{AreLinesNumbered}
 use Rattle.gx_histories.specs.Rest.{EachMark}
 use Rattle.gx_histories.proofs.Given.{marks-append}

@@ -1,8 +1,8 @@
 -- Over every run of a script that only inserts: the history is legal.
-use Rattle.std.proofs.Common.{◌≡◌, ◌≤◌, ◌⊎◌, inl, inr, ℕ, ◌+◌, List, [], ◌∷◌, ◌++◌, Option, Some, None, Bool, true, false, refl, sym, subst, ap, ◌∙◌, if◌then◌else◌, ◌&&◌, arith, eqb, append-nil}
+use Rattle.std.proofs.Common.{◌≡◌, ◌≤◌, inl, inr, ℕ, List, [], ◌∷◌, ◌++◌, Option, Some, None, Bool, true, false, refl, sym, subst, ap, ◌∙◌, if◌then◌else◌, ◌&&◌, arith, append-nil}
 use Rattle.std.proofs.lemmas.Bool.Decides.{nat_tests}
 use Rattle.std.proofs.lemmas.List.{append_assoc}
-use Rattle.std.specs.Prelude.{length, map, nat_le}
+use Rattle.std.specs.Prelude.{map, nat_le}
 use Rattle.gx_ids.specs.declared.ids.Cid.{Cid}
 use Rattle.gx_ids.specs.declared.ids.Gxid.{Gxid}
 use Rattle.gx_ids.specs.declared.ids.Node.{Node}
@@ -11,8 +11,6 @@ use Rattle.gx_ids.specs.declared.ids.Table.{Table}
 use Rattle.gx_tree.specs.declared.expr.Expr.{Expr}
 use Rattle.gx_tree.specs.declared.part.Part.{Part as QueryPart}
 use Rattle.gx_tree.specs.declared.row.KeyedRow.{KeyedRow}
-use Rattle.gx_tree.specs.declared.slice.Slice.TheVariants as slice
-use Rattle.gx_tree.specs.declared.stmt.Stmt.{Stmt}
 use Rattle.gx_tree.specs.declared.stmt.Stmt.TheVariants as stmt
 use Rattle.gx_msg.specs.declared.message.Envelope.{Envelope}
 use Rattle.gx_msg.specs.declared.message.Message.{Message}
@@ -42,15 +40,14 @@ use Rattle.gx_store.specs.Refusals.{the_coordinator}
 use Rattle.gx_rules.specs.AtCoordinator.{command_answer, coord_can, coord_rule, on_event}
 use Rattle.gx_rules.specs.AtSegment as segment
 use Rattle.gx_rules.specs.AtSegment.{seg_rule}
-use Rattle.gx_rules.specs.Coordinators.{Command, Coord, CoordTurn}
+use Rattle.gx_rules.specs.Coordinators.{Coord, CoordTurn}
 use Rattle.gx_rules.specs.Machine.{Letter, World, after, at_node, can, can_here, coord_did, delivered, does, found, happens, new_world, node_of, seg_can, seg_did, world_of}
 use Rattle.gx_rules.specs.Segments.{Seg, SegTurn}
 use Rattle.gx_rules.specs.Sending.{clock_after, counted, numbered}
-use Rattle.gx_laws.proofs.Letters.{IsFound, IsLetter, found_is, same_node}
+use Rattle.gx_laws.proofs.Letters.{IsFound, IsLetter, found_is}
 use Rattle.gx_laws.proofs.Lists.{Each, each_append}
 use Rattle.gx_laws.proofs.Ordered.{never_resumes, seg_marks}
-use Rattle.gx_laws.proofs.World.{Knows, marks-last}
-use Rattle.gx_histories.specs.Orders.{AreLinesNumbered, IsOrder}
+use Rattle.gx_histories.specs.Orders.{AreLinesNumbered}
 use Rattle.gx_histories.specs.Rest.{AreRestLegal, EachMark, IsCaused, Rest, RestAnswer, RestRefusal, UnlessStart}
 use Rattle.gx_histories.proofs.Given.{marks-append}
 use Rattle.gx_histories.proofs.Outs.{MessageIs}
@@ -60,14 +57,13 @@ use Rattle.gx_protocol.specs.Standings.{at, gx}
 use Rattle.gx_protocol.proofs.Whole.{Both, world-both}
 use Rattle.gx_writes.specs.Inserting.{AreInserting}
 use Rattle.gx_writes.specs.Writes.{AreWritesLegal, WriteLegal}
-use Rattle.gx_writes.proofs.Answers.{Answered, answered, tells}
+use Rattle.gx_writes.proofs.Answers.{answered, tells}
 use Rattle.gx_writes.proofs.Counted.{Counted, world-counted}
 use Rattle.gx_writes.proofs.Inserting.{insert-only, no-select-order, stmt-inserting}
-use Rattle.gx_writes.proofs.Legal.{sent-no-write}
 use Rattle.gx_writes.proofs.Rows.{insert-wrote, row_mark}
 use Rattle.gx_writes.proofs.Told.{IsReport, IsWordOf, sending-told}
-use Rattle.gx_writes.proofs.Turns.{Inserted, NoRow, Quiet, Selected, Turns, message-turns}
-use Rattle.gx_writes.proofs.Walk.{AnswerAt, AnswerOk, AnswersOk, Completes, IsStarting, Still, Walk, event-walk}
+use Rattle.gx_writes.proofs.Turns.{NoRow, Turns, message-turns}
+use Rattle.gx_writes.proofs.Walk.{AnswerAt, AnswerOk, AnswersOk, Completes, IsStarting, Walk, event-walk}
 use Rattle.gx_writes.proofs.World as writes
 use Rattle.gx_writes.proofs.World.{locals_in, world-holds}
 

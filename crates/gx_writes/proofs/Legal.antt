@@ -1,9 +1,7 @@
 -- Each write of a segment's step is legal at its point.
-use Rattle.std.proofs.Common.{◌≡◌, ◌≤◌, ◌<◌, ◌⊎◌, inl, inr, ℕ, ◌+◌, List, [], ◌∷◌, ◌++◌, Option, Some, None, Bool, true, false, refl, sym, subst, ap, ◌∙◌, if◌then◌else◌, ◌||◌, ◌&&◌, ◌==◌, arith, eqb, append-nil, zero, suc}
-use Rattle.std.proofs.lemmas.Bool.{eqb-true}
+use Rattle.std.proofs.Common.{◌≡◌, ◌≤◌, ◌<◌, ◌⊎◌, inl, inr, ℕ, ◌+◌, List, [], ◌∷◌, ◌++◌, Option, Some, None, Bool, true, false, refl, sym, subst, ap, ◌∙◌, if◌then◌else◌, ◌||◌, ◌&&◌, arith, eqb, zero, suc}
 use Rattle.std.proofs.lemmas.Bool.Decides.{nat_tests}
-use Rattle.std.proofs.lemmas.List.{append_assoc}
-use Rattle.std.specs.Prelude.{length, map, slice_get}
+use Rattle.std.specs.Prelude.{map, slice_get}
 use Rattle.gx_ids.specs.declared.ids.Cid.{Cid}
 use Rattle.gx_ids.specs.declared.ids.Gxid.{Gxid}
 use Rattle.gx_ids.specs.declared.ids.Node.{Node}
@@ -28,16 +26,15 @@ use Rattle.gx_store.specs.declared.event.Event.{Event}
 use Rattle.gx_store.specs.declared.mark.Mark.{Mark}
 use Rattle.gx_store.specs.declared.mark.Mark.TheVariants as mark
 use Rattle.gx_store.specs.declared.run.Step.{Step}
-use Rattle.gx_store.specs.Commands.{IsUnderWay, Serves, has_own_snapshot}
+use Rattle.gx_store.specs.Commands.{IsUnderWay, has_own_snapshot}
 use Rattle.gx_store.specs.Lines.{began_from, command_at, level_of, stmt_of, stmt_of_command}
 use Rattle.gx_store.specs.Marks.{has_snapshot, is_aborted, is_ended, is_same_rid, is_snapped, is_written, node_of}
-use Rattle.gx_store.specs.Points.{Point, before, marks_in, starts_by}
-use Rattle.gx_store.specs.Writes.{IsAtHome, IsInserted, IsLateWrite, IsLiveWrite, IsWriteOf, LegalWrite}
+use Rattle.gx_store.specs.Points.{Point, marks_in, starts_by}
+use Rattle.gx_store.specs.Writes.{IsAtHome, IsInserted, IsWriteOf, LegalWrite}
 use Rattle.gx_store.proofs.Marks.{has_snapshot-append, is_aborted-append, is_ended-append, is_snapped-append, is_written-append}
-use Rattle.gx_rules.specs.Coordinators.{Command, Work}
 use Rattle.gx_rules.specs.Machine.{World}
 use Rattle.gx_rules.specs.Sending.{counted, numbered}
-use Rattle.gx_laws.proofs.Lists.{Each, each_append, each_weaker}
+use Rattle.gx_laws.proofs.Lists.{Each, each_append}
 use Rattle.gx_histories.specs.Orders.{AreLinesNumbered, IsOrder, IsReadBy, IsServed, level_by, level_of_began}
 use Rattle.gx_histories.specs.Rest.{EachMark}
 use Rattle.gx_histories.specs.Standing.{IsFirst, is_busy, state_in}

@@ -13,4 +13,5 @@ pub mod Progress
 pub mod Answers
 pub mod Counted
 pub mod Inserting
+pub mod Left
 pub mod Join

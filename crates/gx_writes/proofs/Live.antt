@@ -1,9 +1,6 @@
 -- A command whose answers are awaited is its session's line under way.
-use Rattle.std.proofs.Common.{◌≡◌, ◌<◌, ◌≤◌, ◌⊎◌, inl, inr, ℕ, ◌+◌, List, [], ◌∷◌, ◌++◌, Option, Some, None, Bool, true, false, refl, sym, subst, ap, ◌∙◌, if◌then◌else◌, arith, eqb, append-nil}
-use Rattle.std.proofs.lemmas.Bool.Decides.{nat_tests}
+use Rattle.std.proofs.Common.{◌≡◌, inl, inr, ℕ, ◌+◌, List, [], ◌++◌, Option, Some, None, Bool, true, false, refl, sym, subst, ap, ◌∙◌, if◌then◌else◌, arith}
 use Rattle.gx_ids.specs.declared.ids.Gxid.{Gxid}
-use Rattle.gx_ids.specs.declared.ids.Cid.{Cid}
-use Rattle.gx_ids.specs.declared.ids.Node.{Node}
 use Rattle.gx_ids.specs.declared.ids.SessionId.{SessionId}
 use Rattle.gx_dtx.specs.Nodes.{has}
 use Rattle.gx_script.specs.declared.Script.{Script}
@@ -14,15 +11,15 @@ use Rattle.gx_session.specs.declared.state.Pending.TheVariants as pending
 use Rattle.gx_store.specs.declared.event.Event.{Event}
 use Rattle.gx_store.specs.declared.mark.Mark.{Mark}
 use Rattle.gx_store.specs.Commands.{IsUnderWay, RunsCommand}
-use Rattle.gx_store.specs.Lines.{BlockState, Outside, InBlock, Failed, is_command, level_of, cid_of, next_stmt, state_of, stmt_of, transaction_of}
+use Rattle.gx_store.specs.Lines.{is_command, level_of, cid_of, state_of, stmt_of, transaction_of}
 use Rattle.gx_store.specs.Marks.{answer_count, is_begun, is_ended, started_after}
 use Rattle.gx_store.specs.Points.{Point, before, marks_in, starts_by, starts_in}
-use Rattle.gx_rules.specs.Coordinators.{Command, Coord, Session, Work, session_of, work_of}
+use Rattle.gx_rules.specs.Coordinators.{Command, Session, Work, session_of, work_of}
 use Rattle.gx_rules.specs.Machine.{World}
 use Rattle.gx_laws.proofs.Lists.{Each}
-use Rattle.gx_laws.proofs.Sessions.{Kept, Tied, is_live_in, is_working_in, stage_of}
+use Rattle.gx_laws.proofs.Sessions.{Kept, is_live_in, is_working_in, stage_of}
 use Rattle.gx_laws.proofs.Statuses.Stage.{Live as LiveStage}
-use Rattle.gx_histories.specs.Standing.{AreSessions, IsLineOf, IsSession, IsStanding, Owns, Roots, Stands, is_alone, is_busy, state_in}
+use Rattle.gx_histories.specs.Standing.{AreSessions, IsLineOf, IsStanding, Owns, Roots, Stands, is_alone, is_busy, state_in}
 use Rattle.gx_histories.proofs.Ends.{ended-more}
 use Rattle.gx_histories.proofs.Said.{CalmFor, Said, said-calm}
 use Rattle.gx_protocol.specs.Standings.{at, gx, waits_in}

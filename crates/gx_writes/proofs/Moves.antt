@@ -1,5 +1,5 @@
 -- What a segment's turn keeps: its writes are placed and legal, and what it tells of commands is so.
-use Rattle.std.proofs.Common.{◌≡◌, ◌≤◌, ◌<◌, ◌⊎◌, inl, inr, ℕ, ◌+◌, List, [], ◌∷◌, ◌++◌, Option, Some, None, Bool, true, false, refl, sym, subst, ap, ◌∙◌, if◌then◌else◌, ◌||◌, ◌&&◌, arith, eqb, append-nil}
+use Rattle.std.proofs.Common.{◌≡◌, ◌≤◌, ◌<◌, ◌⊎◌, inl, inr, ℕ, List, [], ◌∷◌, ◌++◌, Option, Some, None, Bool, true, false, refl, sym, subst, ap, ◌∙◌, if◌then◌else◌, ◌||◌, ◌&&◌, arith, eqb}
 use Rattle.std.proofs.lemmas.Bool.{eqb-true}
 use Rattle.std.proofs.lemmas.Bool.Decides.{nat_tests}
 use Rattle.std.specs.Prelude.{length, map}
@@ -14,7 +14,6 @@ use Rattle.gx_tree.specs.declared.row.KeyedRow.{KeyedRow}
 use Rattle.gx_tree.specs.declared.slice.Slice.TheVariants as slice
 use Rattle.gx_tree.specs.declared.stmt.Stmt.{Stmt}
 use Rattle.gx_tree.specs.declared.stmt.Stmt.TheVariants as stmt
-use Rattle.gx_tree.specs.declared.value.Value.{Value}
 use Rattle.gx_msg.specs.declared.message.Message.{Message}
 use Rattle.gx_msg.specs.declared.message.Message.TheVariants as message
 use Rattle.gx_msg.specs.declared.message.Out.{Out}
@@ -26,12 +25,12 @@ use Rattle.gx_store.specs.declared.mark.Mark.{Mark}
 use Rattle.gx_store.specs.declared.mark.Mark.TheVariants as mark
 use Rattle.gx_store.specs.declared.run.Step.{Step}
 use Rattle.gx_store.specs.Lines.{began_from, command_at, stmt_of_command}
-use Rattle.gx_store.specs.Marks.{is_aborted, is_same_rid, is_written}
+use Rattle.gx_store.specs.Marks.{is_same_rid, is_written}
 use Rattle.gx_store.specs.Points.{marks_in, starts_by}
 use Rattle.gx_store.proofs.Marks.{is_written-append}
 use Rattle.gx_rules.specs.AtSegment.{raised}
 use Rattle.gx_rules.specs.Machine.{World}
-use Rattle.gx_rules.specs.Segments.{Local, Phase, Seg, SegTurn, reply as reply_out}
+use Rattle.gx_rules.specs.Segments.{Local, Seg, SegTurn, reply as reply_out}
 use Rattle.gx_rules.specs.Slices.{answers, inserted, inserts}
 use Rattle.gx_laws.proofs.Lists.{Each, each_map, each_weaker}
 use Rattle.gx_histories.specs.Orders.{AreLinesNumbered, IsOrder}
@@ -40,13 +39,13 @@ use Rattle.gx_histories.proofs.Ends.{began-kept}
 use Rattle.gx_histories.proofs.Outs.{MessageIs}
 use Rattle.gx_protocol.specs.Pairs.{IsVote}
 use Rattle.gx_protocol.specs.Standings.{at, gx}
-use Rattle.gx_writes.specs.Rows.{AreRowsOf, IsRowPiece}
+use Rattle.gx_writes.specs.Rows.{IsRowPiece}
 use Rattle.gx_writes.specs.Writes.{WriteLegal}
 use Rattle.gx_writes.proofs.Legal.{IsPastMark, IsPlacedMark, Late, Live, behind-none, fresh-row, no-writes-legal, rows-legal}
 use Rattle.gx_writes.proofs.Placed.{IsPlaced, IsPlacedRow, piece-rows, row-placed}
 use Rattle.gx_writes.proofs.Plans.{row-piece, rows-are}
 use Rattle.gx_writes.proofs.Rows.{Wrote, insert-wrote, row_mark}
-use Rattle.gx_writes.proofs.Told.{IsAnswerOf, IsDoneSlice, IsFailure, IsReport, IsToldOf, IsWritten, answer-more, order-later, told-more}
+use Rattle.gx_writes.proofs.Told.{IsAnswerOf, IsFailure, IsReport, IsToldOf, IsWritten, answer-more, order-later, told-more}
 use Rattle.gx_writes.proofs.Turns.{Inserted, IsOldReply, IsOldWord, IsSelected, NoRow, NoWrite, Quiet, Selected}
 
 -- what is told by the segment, as it stands then
@@ -287,7 +286,12 @@ module _ (script : Script) (numbered : AreLinesNumbered [] script.lines) (w : Wo
         moves f =
             ran-move script numbered ms w.steps e i s kept x.g x.c (reply.Done x.c f.wrote (length x.rows) f.part) (inserts x.g x.c (length x.rows) (inserted (raised s x.horizon) x.g x.c x.table x.rows))
             (record {
-              fresh = x.fresh; last = f.last; answer = f.answer; other_lasts = f.other_lasts; other_answers = f.other_answers; outs = f.outs;
+              fresh = x.fresh;
+              last = f.last;
+              answer = f.answer;
+              other_lasts = f.other_lasts;
+              other_answers = f.other_answers;
+              outs = f.outs;
               told = subst (λ ns. IsToldOf script (ms ++ ns) x.c.0 (at i) x.g (reply.Done x.c f.wrote (length x.rows) f.part)) (sym same) (
                 same-le refl,
                 record {

@@ -1,8 +1,7 @@
 -- Each write is of a tuple of its statement, at the row's place; so a row is written at one node alone.
-use Rattle.std.proofs.Common.{◌≡◌, ◌≤◌, ◌<◌, ℕ, ◌+◌, ◌-◌, List, [], ◌∷◌, ◌++◌, Option, Some, None, Result, Ok, Err, Bool, true, false, refl, sym, subst, ap, ◌∙◌, if◌then◌else◌, ◌&&◌, ◌||◌, ◌==◌, arith, eqb, append-nil, zero, suc, cond}
+use Rattle.std.proofs.Common.{◌≡◌, ◌≤◌, ℕ, ◌+◌, ◌-◌, List, [], ◌∷◌, Option, Some, Result, Ok, Bool, true, false, refl, sym, subst, ap, ◌∙◌, ◌&&◌, ◌==◌, arith, suc, cond}
 use Rattle.std.proofs.lemmas.Bool.{eqb-true}
-use Rattle.std.proofs.lemmas.Bool.Decides.{nat_tests}
-use Rattle.std.specs.Prelude.{filter, length, map, slice_get}
+use Rattle.std.specs.Prelude.{filter, slice_get}
 use Rattle.gx_ids.specs.declared.ids.Cid.{Cid}
 use Rattle.gx_ids.specs.declared.ids.Gxid.{Gxid}
 use Rattle.gx_ids.specs.declared.ids.Node.{Node}
@@ -10,22 +9,19 @@ use Rattle.gx_ids.specs.declared.ids.Table.{Table}
 use Rattle.gx_ids.specs.declared.rid.Rid.{Rid}
 use Rattle.gx_tree.specs.declared.expr.Expr.{Expr}
 use Rattle.gx_tree.specs.declared.row.KeyedRow.{KeyedRow}
-use Rattle.gx_tree.specs.declared.schema.Dist.{Dist}
-use Rattle.gx_tree.specs.declared.stmt.Stmt.{Stmt}
 use Rattle.gx_tree.specs.declared.stmt.Stmt.TheVariants as stmt
 use Rattle.gx_tree.specs.declared.value.Value.{Value}
 use Rattle.gx_eval.specs.declared.fault.ArithFault.{ArithFault}
 use Rattle.gx_place.specs.Place.{row_place}
-use Rattle.gx_plan.specs.Constants.{keyed, rows_of, values_of}
+use Rattle.gx_plan.specs.Constants.{keyed, values_of}
 use Rattle.gx_plan.specs.Plan.{rows_at}
 use Rattle.gx_script.specs.declared.Script.{Script}
 use Rattle.gx_store.specs.declared.mark.Mark.{Mark}
-use Rattle.gx_store.specs.declared.mark.Mark.TheVariants as mark
 use Rattle.gx_store.specs.Lines.{stmt_of_command}
-use Rattle.gx_store.specs.Marks.{is_same_rid, is_written, node_of}
+use Rattle.gx_store.specs.Marks.{is_same_rid}
 use Rattle.gx_store.specs.Writes.{dist_of}
-use Rattle.gx_laws.proofs.Lists.{Each, each_filter}
-use Rattle.gx_writes.specs.Rows.{AreRowsOf, IsRowPiece}
+use Rattle.gx_laws.proofs.Lists.{Each}
+use Rattle.gx_writes.specs.Rows.{AreRowsOf}
 
 -- one row of the tuples from this ordinal on
 pub record IsRow (g : Gxid) (c : Cid) (k : ℕ) (tuples : List (List Expr)) (row : KeyedRow) : Type 0 where
@@ -127,9 +123,10 @@ each-passes p P Q f (r ∷ rs) e = by_test (p r) refl (each-passes p P Q f rs e.
     by_test false q h = h
 
 pub piece-rows : (script : Script) (g : Gxid) (c : Cid) (node : Node) (table : Table) (tuples : List (List Expr)) (all rows : List KeyedRow) → AreRowsOf g c 1 tuples all → rows ≡ rows_at script.segments (dist_of script.tables table.0) all node.0 → Each (IsPlacedRow script g c node table tuples) rows × Rising 1 rows
-piece-rows script g c node table tuples all rows a e =
-    (subst (Each (IsPlacedRow script g c node table tuples)) (sym e) (each-passes here (IsRow g c 1 tuples) (IsPlacedRow script g c node table tuples) (λ r q x. record { row_is = x; place = sym (eqb-true _ _ q) }) all (each-row g c 1 tuples all a)),
-    subst (Rising 1) (sym e) (filter-rises here 1 all (rows-rise g c 1 tuples all a)))
+piece-rows script g c node table tuples all rows a e = (
+  subst (Each (IsPlacedRow script g c node table tuples)) (sym e) (each-passes here (IsRow g c 1 tuples) (IsPlacedRow script g c node table tuples) (λ r q x. record { row_is = x; place = sym (eqb-true _ _ q) }) all (each-row g c 1 tuples all a)),
+  subst (Rising 1) (sym e) (filter-rises here 1 all (rows-rise g c 1 tuples all a)),
+)
   where
     here : KeyedRow → Bool
     here row = row_place script.segments (dist_of script.tables table.0) row.row row.rid == node.0

@@ -1,5 +1,5 @@
 -- What a segment has told of a command: that it ran, and, of an INSERT, that its rows are written.
-use Rattle.std.proofs.Common.{◌≡◌, ◌≤◌, ◌<◌, ◌⊎◌, inl, inr, ℕ, List, [], ◌∷◌, ◌++◌, Option, Some, None, Bool, true, false, refl, sym, subst, ap, ◌∙◌, if◌then◌else◌, ◌||◌, arith, zero, suc}
+use Rattle.std.proofs.Common.{◌≡◌, ◌≤◌, ℕ, List, [], ◌∷◌, ◌++◌, Option, Some, None, Bool, true, sym, subst, ◌∙◌, ◌||◌, arith, zero, suc}
 use Rattle.std.specs.Prelude.{length, slice_get, take}
 use Rattle.gx_ids.specs.declared.ids.Cid.{Cid}
 use Rattle.gx_ids.specs.declared.ids.Gxid.{Gxid}
@@ -22,7 +22,7 @@ use Rattle.gx_store.specs.declared.run.Step.{Step}
 use Rattle.gx_store.specs.Marks.{is_written}
 use Rattle.gx_store.specs.Messages.{IsSending}
 use Rattle.gx_store.proofs.Marks.{is_written-append}
-use Rattle.gx_rules.specs.Segments.{Local, Seg}
+use Rattle.gx_rules.specs.Segments.{Local}
 use Rattle.gx_laws.proofs.Lists.{Each, each_weaker}
 use Rattle.gx_histories.specs.Orders.{AreLinesNumbered, IsOrder}
 use Rattle.gx_histories.proofs.Outs.{order-more}

@@ -347,8 +347,12 @@ module _ (script : Script) (c : Coord) (x : NodeEvent) where
         new : New g (earlier ++ r.marks) (c.works g) ((goes_out (gx g) cid line pieces r).coord.works g)
         new =
             record {
-              line = line; cid = cid; pieces = pieces; orders = orders_of (gx g) cid (r.coord.works g).level r.snapshot (horizon_of r.coord.table) pieces;
-              now = ap (λ (w : Work). w.command) here; plan = e;
+              line = line;
+              cid = cid;
+              pieces = pieces;
+              orders = orders_of (gx g) cid (r.coord.works g).level r.snapshot (horizon_of r.coord.table) pieces;
+              now = ap (λ (w : Work). w.command) here;
+              plan = e;
               read = λ t tuples q. by_read base (f.read t tuples q);
             }
     goes-walk it base cid line r f (Err fault) e =

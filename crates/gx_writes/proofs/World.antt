@@ -1,13 +1,9 @@
 -- Over every run of the machine: writes are placed and legal, and what segments tell of commands is so.
-use Rattle.std.proofs.Common.{◌≡◌, ◌≤◌, ◌<◌, ◌⊎◌, inl, inr, ℕ, ◌+◌, List, [], ◌∷◌, ◌++◌, Option, Some, None, Bool, true, false, refl, sym, subst, ap, ◌∙◌, if◌then◌else◌, ◌||◌, ◌&&◌, arith, eqb, append-nil}
+use Rattle.std.proofs.Common.{◌≡◌, ◌≤◌, ◌<◌, ◌⊎◌, inl, inr, ℕ, List, [], ◌∷◌, ◌++◌, Option, Some, None, Bool, true, false, refl, sym, subst, ap, ◌∙◌, if◌then◌else◌, arith, eqb, append-nil}
 use Rattle.std.proofs.lemmas.Bool.{eqb-true}
 use Rattle.std.proofs.lemmas.Bool.Decides.{nat_tests}
 use Rattle.std.proofs.lemmas.List.{append_assoc}
-use Rattle.std.specs.Prelude.{length}
-use Rattle.gx_ids.specs.declared.ids.Cid.{Cid}
-use Rattle.gx_ids.specs.declared.ids.Gxid.{Gxid}
 use Rattle.gx_ids.specs.declared.ids.Node.{Node}
-use Rattle.gx_ids.specs.declared.ids.SessionId.{SessionId}
 use Rattle.gx_msg.specs.declared.message.Envelope.{Envelope}
 use Rattle.gx_msg.specs.declared.message.Message.{Message}
 use Rattle.gx_msg.specs.declared.message.Message.TheVariants as message
@@ -24,22 +20,21 @@ use Rattle.gx_store.specs.declared.run.Step.{Step}
 use Rattle.gx_store.specs.Journals.{is_same_node}
 use Rattle.gx_store.specs.Messages.{IsSending}
 use Rattle.gx_store.specs.Ordered.{IsAtNode, IsLink, IsSegment}
-use Rattle.gx_store.specs.Points.{marks_in, starts_by}
+use Rattle.gx_store.specs.Points.{marks_in}
 use Rattle.gx_store.specs.Refusals.{the_coordinator}
-use Rattle.gx_rules.specs.AtCoordinator.{coord_can, coord_rule}
+use Rattle.gx_rules.specs.AtCoordinator.{coord_rule}
 use Rattle.gx_rules.specs.AtSegment as segment
 use Rattle.gx_rules.specs.AtSegment.{seg_rule}
-use Rattle.gx_rules.specs.Coordinators.{Command}
-use Rattle.gx_rules.specs.Machine.{Letter, World, after, at_node, can, can_here, coord_did, delivered, does, found, happens, new_world, node_of, seg_can, seg_did, world_of}
+use Rattle.gx_rules.specs.Machine.{Letter, World, after, at_node, can, coord_did, delivered, does, found, happens, new_world, node_of, seg_did, world_of}
 use Rattle.gx_rules.specs.Maps.{with_at}
 use Rattle.gx_rules.specs.Segments.{Local, Seg, SegTurn}
 use Rattle.gx_rules.specs.Sending.{clock_after, counted, numbered}
 use Rattle.gx_laws.proofs.AtSegments.{PlainAt, seg_stays}
-use Rattle.gx_laws.proofs.Letters.{IsFound, IsLetter, found_is, same_node}
+use Rattle.gx_laws.proofs.Letters.{IsFound, IsLetter, found_is}
 use Rattle.gx_laws.proofs.Lists.{Each, each_append, each_weaker}
 use Rattle.gx_laws.proofs.Ordered.{Well, at_coordinator, never_resumes}
-use Rattle.gx_laws.proofs.World.{Knows, marks-last}
-use Rattle.gx_histories.specs.Orders.{AreLinesNumbered, IsOrder}
+use Rattle.gx_laws.proofs.World.{marks-last}
+use Rattle.gx_histories.specs.Orders.{AreLinesNumbered}
 use Rattle.gx_histories.specs.Rest.{EachMark}
 use Rattle.gx_histories.proofs.Given.{marks-append}
 use Rattle.gx_histories.proofs.Outs.{MessageIs}
@@ -47,16 +42,14 @@ use Rattle.gx_histories.proofs.World as histories
 use Rattle.gx_histories.proofs.World.{after-last}
 use Rattle.gx_protocol.specs.Standings.{at, gx}
 use Rattle.gx_protocol.proofs.Complete.{IsBack, SentBack, StepBack}
-use Rattle.gx_protocol.proofs.Everywhere as protocol
 use Rattle.gx_protocol.proofs.Ways.{CommandOf}
 use Rattle.gx_protocol.proofs.Whole.{Both, world-both}
 use Rattle.gx_writes.specs.Writes.{AreWritesLegal, WriteLegal}
 use Rattle.gx_writes.proofs.Legal.{IsPastMark, IsPlacedMark, Late, Live, no-writes-legal, order-live, sent-no-write}
 use Rattle.gx_writes.proofs.Live.{Running, running}
 use Rattle.gx_writes.proofs.Moves.{IsOutOf, IsPastHere, Move, insert-move, line-of, of-more, order, piece, quiet-move, select-move}
-use Rattle.gx_writes.proofs.Placed.{IsPlaced}
 use Rattle.gx_writes.proofs.Told.{IsAnswerOf, IsToldOf, IsWordOf, SentTold, StepTold, answer-more, each-get, steps-more, taken-told, told-more}
-use Rattle.gx_writes.proofs.Turns.{Inserted, NoWrite, Quiet, Selected, Turns, message-turns}
+use Rattle.gx_writes.proofs.Turns.{Inserted, NoWrite, Turns, message-turns}
 
 abbrev pub locals_in : (ℕ → Seg) → ℕ → ℕ → Local
 locals_in segs i g = (segs i).locals g

@@ -1,4 +1,4 @@
-use Rattle.gx_writes.proofs.Counted.{Counted, world-counted}
+use Rattle.gx_writes.proofs.Counted.{world-counted}
 use Rattle.gx_writes.proofs.laws.inserts_are_told.Goals as goal
 
 pub returns : goal.returns

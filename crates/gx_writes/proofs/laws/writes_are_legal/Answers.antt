@@ -1,4 +1,4 @@
-use Rattle.gx_writes.proofs.World.{Holds, world-holds}
+use Rattle.gx_writes.proofs.World.{world-holds}
 use Rattle.gx_writes.proofs.laws.writes_are_legal.Goals as goal
 
 pub returns : goal.returns
