@@ -381,9 +381,9 @@ module _ (script : Script) (w : World) (k : Knows script w) (v : Holds script w)
   here-ended =
       record {
         committed = λ a. bit-same (has_committed part.phase) (has_committed part2.phase) part.commits (local_count turn3.marks (at i) (gx g)) (v.stands.pairs i g).committed does.next.pair.committed (no-locals2 a (at i) (gx g))
-          ∙ (q.ended i g).committed a ∙ sym (ap (λ b. is_writer (marks_in w.steps) (gx g) (at i) || b) (no-writes a) ∙ or-none (is_writer (marks_in w.steps) (gx g) (at i)));
+            ∙ (q.ended i g).committed a ∙ sym (ap (λ b. is_writer (marks_in w.steps) (gx g) (at i) || b) (no-writes a) ∙ or-none (is_writer (marks_in w.steps) (gx g) (at i)));
         aborted = λ a. bit-same (has_committed part.phase) (has_committed part2.phase) part.commits (local_count turn3.marks (at i) (gx g)) (v.stands.pairs i g).committed does.next.pair.committed (no-locals true (λ z. refl) a (at i) (gx g))
-          ∙ (q.ended i g).aborted a;
+            ∙ (q.ended i g).aborted a;
       }
 
   both-true : (a b : Bool) → (a && b) ≡ true → (a ≡ true) × (b ≡ true)

@@ -347,8 +347,8 @@ module _ (script : Script) (some : 1 ≤ script.segments) where
   world-lows =
       world-keeps script some Lows (λ w k v q e x fails ok d. coord-low script w k v q e x fails ok d)
       (λ w k v q e fails i from number envelope place finds received said.
-        let f = finds (LetterLow w.coord.table w.coord.works) q.sent in
-        seg-low script w k v q e fails i from envelope said (subst (λ (z : Envelope). IsLowIn (horizon_of w.coord.table) z.message) f.told f.is.0))
+      let f = finds (LetterLow w.coord.table w.coord.works) q.sent in
+      seg-low script w k v q e fails i from envelope said (subst (λ (z : Envelope). IsLowIn (horizon_of w.coord.table) z.message) f.told f.is.0))
       new-lows
 
 -- THE LAWS

@@ -135,8 +135,8 @@ module _ (script : Script) (w : World) (k : Knows script w) (v : Holds script w)
         record {
           rising = rising-rows_in _ (in_order-last_images (filter (λ (y : Version). (y.table.0 == table.0) && counts_for_all (w.segs node.0) x y) (w.segs node.0).versions));
           images = λ rid only. shown-row (filter (λ (y : Version). (y.table.0 == table.0) && counts_for_all (w.segs node.0) x y) (w.segs node.0).versions) rid
-            ∙ ap (λ ys. row_of (last_image rid (filter (λ (y : Version). (y.table.0 == table.0) && counts_for_all (w.segs node.0) x y) ys))) (hold node.0 one).versions
-            ∙ row-is node table rid (counts_for_all (w.segs node.0) x) (is_shown_to None ms) ms only (each_weaker (λ (y : Version). is_writer ms y.gxid node ≡ true) (λ (y : Version). counts_for_all (w.segs node.0) x y ≡ is_shown_to None ms y.gxid y.cid) (λ y e. all-count y.gxid e) (writes_at node ms) (versions-written node ms));
+              ∙ ap (λ ys. row_of (last_image rid (filter (λ (y : Version). (y.table.0 == table.0) && counts_for_all (w.segs node.0) x y) ys))) (hold node.0 one).versions
+              ∙ row-is node table rid (counts_for_all (w.segs node.0) x) (is_shown_to None ms) ms only (each_weaker (λ (y : Version). is_writer ms y.gxid node ≡ true) (λ (y : Version). counts_for_all (w.segs node.0) x y ≡ is_shown_to None ms y.gxid y.cid) (λ y e. all-count y.gxid e) (writes_at node ms) (versions-written node ms));
         }
 
   -- to a command
