@@ -145,7 +145,7 @@ found-step script steps s sent ordered are from to number envelope p =
     new : p.sending.sender ≡ s → (found from to number (posted s.stamp.node s.stamp.clock s.marks sent) ≡ Some envelope) × (number ≤ sent_in from to (steps ++ s ∷ []))
     new same = (
       subst (λ x. found x to number (posted s.stamp.node s.stamp.clock s.marks sent) ≡ Some envelope) source
-      (found-new to number envelope.message s.stamp.node s.stamp.clock steps [] s.marks sent p.mark ordered.numbers told ∙ ap Some (sym (whole envelope p.counted clock))),
+          (found-new to number envelope.message s.stamp.node s.stamp.clock steps [] s.marks sent p.mark ordered.numbers told ∙ ap Some (sym (whole envelope p.counted clock))),
       subst (λ x. number ≤ sent_in x to (steps ++ s ∷ [])) source (own (count-all to number envelope.message s.stamp.node s.stamp.clock steps [] s.marks p.mark ordered.numbers told)),
     )
       where

@@ -59,7 +59,10 @@ fn a_slice_is_right_for_its_table(rt: HostRuntime) -> Result<(), Fail> {
     ];
     for (table, item, grouped, place, right) in cases {
         let slice = Slice::Select(query(alloc, table, item, grouped, place)?);
-        assert_eq!(rt; is_right_slice(tables.as_slice(), Gxid(3), Cid(1), &slice), right);
+        assert_eq!(rt;
+            is_right_slice(tables.as_slice(), Gxid(3), Cid(1), &slice),
+            right
+        );
     }
     Ok(())
 }
@@ -90,7 +93,10 @@ fn rows_are_of_their_command_and_their_columns(rt: HostRuntime) -> Result<(), Fa
     let tables = tables(alloc)?;
     for (gxid, further, right) in [(3, 0, true), (4, 0, false), (3, 1, false)] {
         let slice = insert(alloc, gxid, further)?;
-        assert_eq!(rt; is_right_slice(tables.as_slice(), Gxid(3), Cid(1), &slice), right);
+        assert_eq!(rt;
+            is_right_slice(tables.as_slice(), Gxid(3), Cid(1), &slice),
+            right
+        );
     }
     Ok(())
 }

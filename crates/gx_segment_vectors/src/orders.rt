@@ -37,7 +37,15 @@ fn a_promise_is_kept_and_forgotten(rt: HostRuntime) -> Result<(), Fail> {
     ];
     for (order, told, items) in expected {
         let kept = Seq::new(alloc);
-        let taken = take_order(alloc, Node(2), Gxid(7), order, &mut local, kept, &mut journal)?;
+        let taken = take_order(
+            alloc,
+            Node(2),
+            Gxid(7),
+            order,
+            &mut local,
+            kept,
+            &mut journal,
+        )?;
         assert_eq!(rt; kind(&taken.reply), told);
         assert_eq!(rt; journal.kept_items().len(), items);
     }
@@ -62,7 +70,15 @@ fn a_refused_promise_is_told_until_the_abort(rt: HostRuntime) -> Result<(), Fail
     ];
     for (order, told) in expected {
         let kept = Seq::new(alloc);
-        let taken = take_order(alloc, Node(2), Gxid(7), order, &mut local, kept, &mut journal)?;
+        let taken = take_order(
+            alloc,
+            Node(2),
+            Gxid(7),
+            order,
+            &mut local,
+            kept,
+            &mut journal,
+        )?;
         assert_eq!(rt; kind(&taken.reply), told);
     }
     assert_eq!(rt; journal.kept_items().len(), 0);
