@@ -1,5 +1,5 @@
 -- All sessions after a step.
-use Rattle.std.proofs.Common.{◌≡◌, ◌<◌, ◌≤◌, ◌⊎◌, inl, inr, ℕ, ◌+◌, List, [], ◌∷◌, ◌++◌, Option, Some, None, Bool, true, false, refl, sym, subst, ap, ◌∙◌, if◌then◌else◌, arith, eqb}
+use Rattle.std.proofs.Common.{◌≡◌, ◌<◌, ◌≤◌, ◌⊎◌, inl, inr, ℕ, ◌+◌, List, [], ◌∷◌, ◌++◌, Bool, true, false, refl, sym, subst, ap, ◌∙◌, if◌then◌else◌, arith, eqb}
 use Rattle.std.proofs.lemmas.Bool.{eqb-true}
 use Rattle.std.proofs.lemmas.Bool.Decides.{nat_tests}
 use Rattle.std.proofs.lemmas.List.{append_assoc}
@@ -12,7 +12,6 @@ use Rattle.gx_session.specs.declared.state.Block.TheVariants as block
 use Rattle.gx_session.specs.declared.state.Pending.{Pending}
 use Rattle.gx_session.specs.declared.state.Pending.TheVariants as pending
 use Rattle.gx_store.specs.declared.event.Event.{Event}
-use Rattle.gx_store.specs.declared.event.Event.TheVariants as event
 use Rattle.gx_store.specs.declared.mark.Mark.{Mark}
 use Rattle.gx_store.specs.declared.mark.Mark.TheVariants as mark
 use Rattle.gx_store.specs.declared.run.Step.{Step}
@@ -22,23 +21,13 @@ use Rattle.gx_store.proofs.Runs.{ends_in-push, marks_in-push, starts_in-push}
 use Rattle.gx_rules.specs.Coordinators.{Coord, CoordTurn, Session, Work, session_of, work_of}
 use Rattle.gx_rules.specs.Sending.{counted, numbered}
 use Rattle.gx_laws.proofs.Lists.{Each, each_append}
-use Rattle.gx_histories.specs.Rest.{EachMark}
-use Rattle.gx_histories.specs.Standing.{IsOver, IsSession, IsStanding, Stands, is_busy}
-use Rattle.gx_histories.proofs.Ends.{Fresh, IsOf, ended-more, fresh-more, of-calm, of-ended, of-snapshot, of-unstarted, snapshot-more}
-use Rattle.gx_histories.proofs.Frame.{Does, Rests, Quiet, quiet-of, sid, standing-by}
-use Rattle.gx_histories.proofs.Given.{Given}
+use Rattle.gx_histories.specs.Alive.{IsSilent}
+use Rattle.gx_histories.specs.Standing.{IsSession, IsStanding, is_busy}
+use Rattle.gx_histories.proofs.Ends.{Fresh, IsOf, ended-more, of-calm, of-ended, of-snapshot, of-unstarted, snapshot-more}
+use Rattle.gx_histories.proofs.Frame.{Does, Quiet, sid, standing-by}
 use Rattle.gx_histories.proofs.Said.{CalmFor}
 
--- marks that tell nothing of any session or transaction
-abbrev pub Silent : Mark → Type 0
-Silent (mark.Start g s) = ⊥
-Silent (mark.Snap g c x) = ⊥
-Silent (mark.Commit g) = ⊥
-Silent (mark.Abort g) = ⊥
-Silent (mark.Answer s n a) = ⊥
-Silent _ = Unit {0}
-
-pub silent-of : (s g : ℕ) (ms : List Mark) → Each Silent ms → Each (IsOf s g) ms
+pub silent-of : (s g : ℕ) (ms : List Mark) → Each IsSilent ms → Each (IsOf s g) ms
 silent-of s g [] e = tt
 silent-of s g (mark.Start h t ∷ ms) e = absurd e.0
 silent-of s g (mark.Snap h c x ∷ ms) e = absurd e.0
@@ -47,11 +36,11 @@ silent-of s g (mark.Abort h ∷ ms) e = absurd e.0
 silent-of s g (mark.Answer t n a ∷ ms) e = absurd e.0
 silent-of s g (m ∷ ms) e = (tt, silent-of s g ms e.1)
 
-pub sent-silent : (f : ℕ → ℕ) (outs : List Out) → Each Silent (numbered f outs)
+pub sent-silent : (f : ℕ → ℕ) (outs : List Out) → Each IsSilent (numbered f outs)
 sent-silent f [] = tt
 sent-silent f (o ∷ outs) = (tt, sent-silent (counted f o) outs)
 
-pub quiet-silent : (ms : List Mark) → Each Quiet ms → Each Silent ms
+pub quiet-silent : (ms : List Mark) → Each Quiet ms → Each IsSilent ms
 quiet-silent [] e = tt
 quiet-silent (mark.Decided g ∷ ms) e = (tt, quiet-silent ms e.1)
 quiet-silent (m ∷ ms) e = absurd e.0
@@ -59,16 +48,16 @@ quiet-silent (m ∷ ms) e = absurd e.0
 other-number : (a : ℕ) → eqb a (a + 1) ≡ false
 other-number a = grind (arith, nat_tests)
 
-pub silent-calm : (k : SessionId) (ms : List Mark) → Each Silent ms → Each (CalmFor k) ms
+pub silent-calm : (k : SessionId) (ms : List Mark) → Each IsSilent ms → Each (CalmFor k) ms
 silent-calm k ms e = of-calm (k.0 + 1) 0 k ms (other-number k.0) (silent-of (k.0 + 1) 0 ms e)
 
-pub silent-ended : (h : Gxid) (ms : List Mark) → Each Silent ms → is_ended ms h ≡ false
+pub silent-ended : (h : Gxid) (ms : List Mark) → Each IsSilent ms → is_ended ms h ≡ false
 silent-ended h ms e = of-ended 0 (h.0 + 1) h ms (other-number h.0) (silent-of 0 (h.0 + 1) ms e)
 
-pub silent-snapshot : (h : Gxid) (ms : List Mark) → Each Silent ms → has_snapshot ms h ≡ false
+pub silent-snapshot : (h : Gxid) (ms : List Mark) → Each IsSilent ms → has_snapshot ms h ≡ false
 silent-snapshot h ms e = of-snapshot 0 (h.0 + 1) h ms (other-number h.0) (silent-of 0 (h.0 + 1) ms e)
 
-pub silent-fresh : (next : ℕ) (ms : List Mark) → Each Silent ms → Fresh ms next
+pub silent-fresh : (next : ℕ) (ms : List Mark) → Each IsSilent ms → Fresh ms next
 silent-fresh next ms e = record { unended = λ h l. silent-ended h ms e; unread = λ h l. silent-snapshot h ms e; unstarted = λ h l. of-unstarted 0 (h.0 + 1) h ms (other-number h.0) (silent-of 0 (h.0 + 1) ms e) }
 
 le-same : (a : ℕ) → a ≤ a
@@ -89,9 +78,9 @@ module _ (script : Script) (steps : List Step) (c : Coord) (all : (k : SessionId
   other k s ns next y v ev mk same none calm l busy = (
     plus-zero _ _ _ (starts_in-push k steps s) (ap (starts_by k) ev ∙ none.0) ∙ (all k).starts ∙ ap (λ (z : Session). z.lines) (sym same),
     subst (λ i. IsStanding script k (marks_in (steps ++ s ∷ [])) next y.state.block y.state.pending y.lines y.transaction v i) (sym (plus-zero _ _ _ (ends_in-push k steps s) (ap (ends_by k) ev ∙ none.1)))
-    (subst (λ m. IsStanding script k m next y.state.block y.state.pending y.lines y.transaction v (ends_in k steps)) (ap (λ x. marks_in steps ++ x) (sym mk) ∙ sym (marks_in-push steps s))
-    (subst (λ (z : Session). IsStanding script k (marks_in steps ++ ns) next z.state.block z.state.pending z.lines z.transaction v (ends_in k steps)) (sym same)
-    (standing-by script k (marks_in steps) ns c.table.next.0 next _ _ _ _ (work_of c (session_of c k).transaction) v (ends_in k steps) (all k).stands calm l busy))),
+        (subst (λ m. IsStanding script k m next y.state.block y.state.pending y.lines y.transaction v (ends_in k steps)) (ap (λ x. marks_in steps ++ x) (sym mk) ∙ sym (marks_in-push steps s))
+        (subst (λ (z : Session). IsStanding script k (marks_in steps ++ ns) next z.state.block z.state.pending z.lines z.transaction v (ends_in k steps)) (sym same)
+        (standing-by script k (marks_in steps) ns c.table.next.0 next _ _ _ _ (work_of c (session_of c k).transaction) v (ends_in k steps) (all k).stands calm l busy))),
   )
 
   -- a busy session has a transaction of its own
@@ -123,7 +112,7 @@ module _ (script : Script) (steps : List Step) (c : Coord) (all : (k : SessionId
       by_standing (inr x) = absurd (not-over _ _ x.1.outside x.1.idle busy)
 
   -- A STEP OF ONE SESSION
-  module _ (turn : CoordTurn) (m : Does script steps c e turn) (sent : List Mark) (silent : Each Silent sent) (f : ℕ → ℕ) (clock : ℕ) (step : Step) (ev : step.event ≡ e) (mk : step.marks ≡ turn.marks ++ sent) where
+  module _ (turn : CoordTurn) (m : Does script steps c e turn) (sent : List Mark) (silent : Each IsSilent sent) (f : ℕ → ℕ) (clock : ℕ) (step : Step) (ev : step.event ≡ e) (mk : step.marks ≡ turn.marks ++ sent) where
     abbrev d : Coord
     d = record turn.coord { sent = f; clock = clock }
 
@@ -150,8 +139,8 @@ module _ (script : Script) (steps : List Step) (c : Coord) (all : (k : SessionId
     theirs : (k : SessionId) → eqb k.0 m.s ≡ false → IsSession script k (steps ++ step ∷ []) d
     theirs k n =
         let r = other k step (turn.marks ++ sent) turn.coord.table.next.0 (d.sessions k.0) (d.works (d.sessions k.0).transaction.0) ev mk same (m.alone k n)
-                (each_append (CalmFor k) turn.marks sent (of-calm m.s m.g k turn.marks n m.of) (silent-calm k sent silent)) m.next
-                (λ h. (work-same h, ended-more turn.marks sent _ (of-ended m.s m.g _ turn.marks (busy-apart k m.s m.g n m.whose h) m.of) (silent-ended _ sent silent), snapshot-more turn.marks sent _ (of-snapshot m.s m.g _ turn.marks (busy-apart k m.s m.g n m.whose h) m.of) (silent-snapshot _ sent silent))) in
+        (each_append (CalmFor k) turn.marks sent (of-calm m.s m.g k turn.marks n m.of) (silent-calm k sent silent)) m.next
+        (λ h. (work-same h, ended-more turn.marks sent _ (of-ended m.s m.g _ turn.marks (busy-apart k m.s m.g n m.whose h) m.of) (silent-ended _ sent silent), snapshot-more turn.marks sent _ (of-snapshot m.s m.g _ turn.marks (busy-apart k m.s m.g n m.whose h) m.of) (silent-snapshot _ sent silent))) in
         record { starts = r.0; stands = r.1 }
       where
         same : d.sessions k.0 ≡ c.sessions k.0
@@ -168,10 +157,10 @@ module _ (script : Script) (steps : List Step) (c : Coord) (all : (k : SessionId
         by_test false q = theirs k q
 
   -- A STEP OF NO SESSION
-  pub silent-sessions : (d : Coord) (step : Step) → ((j : ℕ) → d.sessions j ≡ c.sessions j) → ((j : ℕ) → d.works j ≡ c.works j) → d.table.next.0 ≡ c.table.next.0 → step.event ≡ e → Each Silent step.marks → ((k : SessionId) → (starts_by k e ≡ 0) × (ends_by k e ≡ 0)) → (k : SessionId) → IsSession script k (steps ++ step ∷ []) d
+  pub silent-sessions : (d : Coord) (step : Step) → ((j : ℕ) → d.sessions j ≡ c.sessions j) → ((j : ℕ) → d.works j ≡ c.works j) → d.table.next.0 ≡ c.table.next.0 → step.event ≡ e → Each IsSilent step.marks → ((k : SessionId) → (starts_by k e ≡ 0) × (ends_by k e ≡ 0)) → (k : SessionId) → IsSession script k (steps ++ step ∷ []) d
   silent-sessions d step sessions works next ev silent alone k =
       let r = other k step step.marks d.table.next.0 (d.sessions k.0) (d.works (d.sessions k.0).transaction.0) ev refl (sessions k.0) (alone k) (silent-calm k step.marks silent) (le-of next)
-              (λ h. (ap (λ (z : Session). d.works z.transaction.0) (sessions k.0) ∙ works _, silent-ended _ step.marks silent, silent-snapshot _ step.marks silent)) in
+      (λ h. (ap (λ (z : Session). d.works z.transaction.0) (sessions k.0) ∙ works _, silent-ended _ step.marks silent, silent-snapshot _ step.marks silent)) in
       record { starts = r.0; stands = r.1 }
     where
       le-of : {a b : ℕ} → a ≡ b → b ≤ a

@@ -4,15 +4,11 @@ use Rattle.gx_ids.specs.declared.ids.SessionId.{SessionId}
 use Rattle.gx_tree.specs.declared.stmt.Stmt.{Stmt}
 use Rattle.gx_tree.specs.declared.stmt.Stmt.TheVariants as stmt
 use Rattle.gx_script.specs.declared.Script.{Script}
-use Rattle.gx_session.specs.Session.{line_step}
-use Rattle.gx_session.specs.declared.state.Block.{Block}
-use Rattle.gx_session.specs.declared.state.Block.TheVariants as block
 use Rattle.gx_store.specs.declared.answer.Refused.{Refused}
-use Rattle.gx_store.specs.declared.answer.Refused.TheVariants as refused
 use Rattle.gx_store.specs.declared.answer.StmtAnswer.{StmtAnswer}
 use Rattle.gx_store.specs.declared.answer.StmtAnswer.TheVariants as told
 use Rattle.gx_store.specs.Answers.{IsAnswer, IsDone}
-use Rattle.gx_store.specs.Legal.{may_abort, may_commit}
+use Rattle.gx_store.specs.Legal.{may_abort}
 use Rattle.gx_store.specs.Lines.{BlockState, Outside, InBlock, Failed, is_command, is_on_rows, state_after}
 use Rattle.gx_store.specs.Points.{Point}
 use Rattle.gx_store.specs.Refusals.{IsRefusal}
@@ -94,6 +90,16 @@ module _ (script : Script) (point : Point) (k : SessionId) where
   told-is Failed (stmt.Begin level) m e h = absurd (differ e)
   told-is Failed stmt.Commit m e h = absurd (differ e)
   told-is Failed stmt.Rollback m e h = absurd (differ e)
+
+  pub rest-is : (line : Stmt) (m : Command) → IsTold script point k (command_answer m line) → RestAnswer script point k (command_answer m line)
+  rest-is (stmt.Select q) m h = h
+  rest-is (stmt.Insert t x) m h = h
+  rest-is (stmt.Update t x y) m h = h
+  rest-is (stmt.Delete t x) m h = h
+  rest-is (stmt.Lock t x) m h = h
+  rest-is (stmt.Begin level) m h = h
+  rest-is stmt.Commit m h = h
+  rest-is stmt.Rollback m h = h
 
 -- WHERE THE SESSION STANDS THEN
 pub done-outside : (line : Stmt) (r : StmtAnswer) → is_on_rows line ≡ true → state_after Outside line r ≡ Outside

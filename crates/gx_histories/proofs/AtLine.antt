@@ -1,7 +1,6 @@
 -- A session's line under way at a point of a step, and the marks that may stand there.
-use Rattle.std.proofs.Common.{◌≡◌, inl, inr, ℕ, ◌+◌, List, [], ◌∷◌, ◌++◌, Option, Some, None, Bool, true, false, refl, sym, subst, ap, ◌∙◌, if◌then◌else◌}
+use Rattle.std.proofs.Common.{◌≡◌, inl, ℕ, ◌+◌, List, [], ◌∷◌, ◌++◌, Option, Some, None, Bool, true, false, sym, subst, ap, ◌∙◌, if◌then◌else◌}
 use Rattle.std.proofs.lemmas.List.{append_assoc}
-use Rattle.gx_ids.specs.declared.ids.Cid.{Cid}
 use Rattle.gx_ids.specs.declared.ids.Gxid.{Gxid}
 use Rattle.gx_ids.specs.declared.ids.SessionId.{SessionId}
 use Rattle.gx_tree.specs.declared.stmt.Stmt.{Stmt}
@@ -15,7 +14,7 @@ use Rattle.gx_store.specs.declared.mark.Mark.TheVariants as mark
 use Rattle.gx_store.specs.declared.run.Step.{Step}
 use Rattle.gx_store.specs.Answers.{IsAnswer}
 use Rattle.gx_store.specs.Commands.{IsUnderWay, RunsCommand, RunsLine, has_own_snapshot, state_at}
-use Rattle.gx_store.specs.Legal.{AbortsWithLine, LegalAbort, LegalAnswer, LegalCommit, LegalSnap, LegalStart, draws, may_abort, may_commit}
+use Rattle.gx_store.specs.Legal.{LegalAbort, LegalAnswer, LegalCommit, LegalSnap, LegalStart, draws, may_abort, may_commit}
 use Rattle.gx_store.specs.Lines.{BlockState, Outside, InBlock, Failed, cid_of, is_command, is_on_rows, level_of, state_after_line, stmt_of, transaction_of}
 use Rattle.gx_store.specs.Marks.{is_answered, is_ended, start_count, started_after}
 use Rattle.gx_store.specs.Points.{Point, before, marks_in, starts_by, starts_in}

@@ -1,7 +1,7 @@
 -- A session whose line is under way hears of its transaction.
-use Rattle.std.proofs.Common.{◌≡◌, ◌<◌, ◌≤◌, inl, inr, ℕ, ◌+◌, List, [], ◌∷◌, ◌++◌, Option, Some, None, Bool, true, false, refl, sym, subst, ap, ◌∙◌, if◌then◌else◌, ◌||◌, arith, eqb, append-nil}
+use Rattle.std.proofs.Common.{◌≡◌, ◌<◌, ◌≤◌, ◌⊎◌, inl, inr, ℕ, ◌+◌, List, [], ◌∷◌, ◌++◌, Some, None, Bool, true, false, refl, sym, subst, ap, ◌∙◌, if◌then◌else◌, ◌||◌, arith, eqb, append-nil}
 use Rattle.std.proofs.lemmas.Bool.{eqb-true}
-use Rattle.std.proofs.lemmas.Bool.Decides.{nat_tests}
+use Rattle.gx_ids.specs.declared.ids.Cid.{Cid}
 use Rattle.gx_ids.specs.declared.ids.Gxid.{Gxid}
 use Rattle.gx_ids.specs.declared.ids.Node.{Node}
 use Rattle.gx_ids.specs.declared.ids.SessionId.{SessionId}
@@ -10,7 +10,6 @@ use Rattle.gx_tree.specs.declared.stmt.Level.TheVariants.{ReadCommitted, Repeata
 use Rattle.gx_tree.specs.declared.stmt.Stmt.{Stmt}
 use Rattle.gx_tree.specs.declared.stmt.Stmt.TheVariants as stmt
 use Rattle.gx_dtx.specs.Rules.{Turn}
-use Rattle.gx_dtx.specs.Table.{Table}
 use Rattle.gx_script.specs.declared.Script.{Script}
 use Rattle.gx_session.specs.Session.{after_done, block_after_done}
 use Rattle.gx_session.specs.declared.state.Block.{Block}
@@ -24,24 +23,34 @@ use Rattle.gx_store.specs.declared.event.Event.TheVariants as event
 use Rattle.gx_store.specs.declared.mark.Mark.{Mark}
 use Rattle.gx_store.specs.declared.mark.Mark.TheVariants as mark
 use Rattle.gx_store.specs.declared.run.Step.{Step}
-use Rattle.gx_store.specs.Answers.{IsAnswer, IsDone}
+use Rattle.gx_store.specs.Answers.{IsAnswer, IsDone, Tells}
+use Rattle.gx_store.specs.Commands.{RunsCommand, state_at}
+use Rattle.gx_store.specs.Messages.{Receives}
+use Rattle.gx_store.specs.Refusals.{IsCause, the_coordinator}
+use Rattle.gx_msg.specs.declared.message.Message.TheVariants as message
+use Rattle.gx_msg.specs.declared.reply.Cause.{Cause}
+use Rattle.gx_msg.specs.declared.reply.Reply.TheVariants as reply
 use Rattle.gx_store.specs.Lines.{BlockState, Outside, InBlock, cid_of, is_command, level_of, state_after, stmt_of, transaction_of}
 use Rattle.gx_store.specs.Marks.{answer_count, is_committed, is_ended}
-use Rattle.gx_store.specs.Points.{Point, before, ends_by, ends_in, marks_in, starts_by, starts_in}
-use Rattle.gx_store.specs.Refusals.{the_coordinator}
-use Rattle.gx_rules.specs.AtCoordinator.{answer_at_commit, answer_mark, answer_of_command, answers, command_answer, is_committed as is_closed, unless_kept}
-use Rattle.gx_rules.specs.Coordinators.{Command, Coord, CoordTurn, Session, Work, session_of, with_work, work_of}
+use Rattle.gx_store.specs.Points.{ends_by, ends_in, marks_in, starts_by, starts_in}
+use Rattle.gx_rules.specs.AtCoordinator.{answer_at_commit, answer_of_command, answers, command_answer, is_committed as is_closed, unless_kept, reason_of}
+use Rattle.gx_rules.specs.Coordinators.{Command, Coord, CoordTurn, Session, Work, session_of, work_of}
 use Rattle.gx_rules.specs.Maps.{with_at}
 use Rattle.gx_laws.proofs.Lists.{Each}
 use Rattle.gx_laws.proofs.Turns.{self-test}
-use Rattle.gx_histories.specs.Rest.{EachMark, RestAnswer}
+use Rattle.gx_histories.specs.Alive.{HasAnswered}
+use Rattle.gx_histories.specs.Gathering.{IsGathered}
+use Rattle.gx_histories.specs.Finish.{AreCommandsTold}
+use Rattle.gx_histories.specs.Rest.{EachMark, IsCaused, IsTold, Rest, RestAnswer}
 use Rattle.gx_histories.specs.Standing.{IsLineOf, IsNow, IsSession, Owns, Roots, Stands, is_alone, is_busy, is_open, is_sound, level_in, state_in, under_way, waits}
-use Rattle.gx_histories.proofs.Answers.{done-inside, done-is, done-outside, told-is}
+use Rattle.gx_histories.proofs.Answers.{done-inside, done-is, done-outside, rest-is, told-is}
 use Rattle.gx_histories.proofs.AtLine.{AtLine, answered-now, at-calm, has_txn, legal-answer, runs-command, transaction-is}
-use Rattle.gx_histories.proofs.Ends.{Fresh, IsOf, of-fresh}
-use Rattle.gx_histories.proofs.Frame.{Does, owns-more, sid}
+use Rattle.gx_histories.proofs.Awaited.{IsAwaited, IsSettled, OutAwaits, OwnIn, none-awaited, own-none}
+use Rattle.gx_histories.proofs.Ends.{Fresh, IsOf}
+use Rattle.gx_histories.proofs.Frame.{Does, owns-more}
+use Rattle.gx_histories.proofs.Gathers.{Gathers, GathersIn, HeardNow, gathered-is}
 use Rattle.gx_histories.proofs.Given.{Given}
-use Rattle.gx_histories.proofs.Outs.{CommandIs, OutIs}
+use Rattle.gx_histories.proofs.Outs.{CommandIs, IsBare, OutIs}
 use Rattle.gx_histories.proofs.Roots.{roots-answered, roots-on}
 use Rattle.gx_histories.proofs.Said.{Said}
 use Rattle.gx_histories.proofs.Under.{Under, commit-does, home-is, x-is}
@@ -137,6 +146,7 @@ module _ (script : Script) (steps : List Step) (c : Coord) (from : Node) (to : N
           running = subst (λ m. is_ended m g ≡ false) (sym (append-nil ms)) own.running;
           of = tt;
           legal = λ later. tt;
+          rests = λ later. tt;
         }
       where
         same-sessions : (j : ℕ) → c.sessions j ≡ (if eqb j s.0 then y else c.sessions j)
@@ -171,8 +181,8 @@ module _ (script : Script) (steps : List Step) (c : Coord) (from : Node) (to : N
           snapshot = subst (λ x. Rattle.gx_histories.specs.Standing.HasSnapshot w.level ms g x) (sym k.snapshot) (subst (λ l. Rattle.gx_histories.specs.Standing.HasSnapshot l ms g (work_of c g).snapshot) (sym k.level) own.snapshot);
         })
 
-    pub goes-on : (turn : CoordTurn) (w : Work) → Likewise w → turn.marks ≡ [] → turn.coord.works g.0 ≡ w → ((j : ℕ) → eqb j g.0 ≡ false → turn.coord.works j ≡ c.works j) → ((j : ℕ) → turn.coord.sessions j ≡ c.sessions j) → turn.coord.table.next.0 ≡ c.table.next.0 → Each (OutIs script (ms ++ turn.marks)) turn.outs → (CommandIs script (ms ++ turn.marks) (c.works g.0).command → CommandIs script (ms ++ turn.marks) (turn.coord.works g.0).command) → Does script steps c e turn
-    goes-on turn w k none work works sessions next outs orders =
+    pub goes-on : (turn : CoordTurn) (w : Work) → Likewise w → turn.marks ≡ [] → turn.coord.works g.0 ≡ w → ((j : ℕ) → eqb j g.0 ≡ false → turn.coord.works j ≡ c.works j) → ((j : ℕ) → turn.coord.sessions j ≡ c.sessions j) → turn.coord.table.next.0 ≡ c.table.next.0 → Each (OutIs script (ms ++ turn.marks)) turn.outs → (CommandIs script (ms ++ turn.marks) (c.works g.0).command → CommandIs script (ms ++ turn.marks) (turn.coord.works g.0).command) → (GathersIn script (HeardNow steps e) g (c.works g.0).command → GathersIn script (HeardNow steps e) g (turn.coord.works g.0).command) → (OwnIn g (c.works g.0) → OwnIn g (turn.coord.works g.0)) → Each (OutAwaits turn.coord) turn.outs → ((a : Cid) (i : Node) (level : Level) → IsAwaited (c.works g.0) a i level → IsAwaited (turn.coord.works g.0) a i level ⊎ IsSettled (HeardNow steps e) turn.marks g a i) → Does script steps c e turn
+    goes-on turn w k none work works sessions next outs orders gathers owned sent keeps =
         record {
           s = s.0;
           g = g.0;
@@ -185,15 +195,23 @@ module _ (script : Script) (steps : List Step) (c : Coord) (from : Node) (to : N
           fresh = subst (λ m. Fresh m turn.coord.table.next.0) (sym none) (record { unended = λ h l. refl; unread = λ h l. refl; unstarted = λ h l. refl });
           alone = λ j h. others j;
           starts = started;
-          stands = inl (ended, subst (λ m. Stands script s (ms ++ m) turn.coord.table.next.0 y.state.block y.state.pending y.lines y.transaction (turn.coord.works y.transaction.0)) (sym none)
-              (subst (λ i. Stands script s (ms ++ []) i y.state.block y.state.pending y.lines y.transaction (turn.coord.works y.transaction.0)) (sym next)
-              (subst (λ x. Stands script s (ms ++ []) c.table.next.0 x y.state.pending y.lines y.transaction (turn.coord.works y.transaction.0)) (sym q.in_block)
-              (subst (λ x. Stands script s (ms ++ []) c.table.next.0 B x y.lines y.transaction (turn.coord.works y.transaction.0)) (sym q.in_line)
-              (subst (λ (x : Gxid). Stands script s (ms ++ []) c.table.next.0 B P y.lines x (turn.coord.works x.0)) (sym q.its)
-              (subst (λ v. Stands script s (ms ++ []) c.table.next.0 B P y.lines g v) (sym work) there))))));
+          stands = inl (
+            ended,
+            subst (λ m. Stands script s (ms ++ m) turn.coord.table.next.0 y.state.block y.state.pending y.lines y.transaction (turn.coord.works y.transaction.0)) (sym none)
+                (subst (λ i. Stands script s (ms ++ []) i y.state.block y.state.pending y.lines y.transaction (turn.coord.works y.transaction.0)) (sym next)
+                (subst (λ x. Stands script s (ms ++ []) c.table.next.0 x y.state.pending y.lines y.transaction (turn.coord.works y.transaction.0)) (sym q.in_block)
+                (subst (λ x. Stands script s (ms ++ []) c.table.next.0 B x y.lines y.transaction (turn.coord.works y.transaction.0)) (sym q.in_line)
+                (subst (λ (x : Gxid). Stands script s (ms ++ []) c.table.next.0 B P y.lines x (turn.coord.works x.0)) (sym q.its)
+                (subst (λ v. Stands script s (ms ++ []) c.table.next.0 B P y.lines g v) (sym work) there))))),
+          );
           legal = λ later. subst (λ m. EachMark (Given script) steps e [] m later) (sym none) tt;
+          rest = λ t later. subst (λ m. EachMark (Rest script) steps e [] m later) (sym none) tt;
           outs = outs;
           orders = orders;
+          gathers = gathers;
+          owned = owned;
+          sent = sent;
+          keeps = keeps;
         }
       where
         there : Stands script s (ms ++ []) c.table.next.0 B P y.lines g w
@@ -208,26 +226,55 @@ module _ (script : Script) (steps : List Step) (c : Coord) (from : Node) (to : N
             }
 
     -- A COMMAND OUTSIDE A BLOCK COMMITS
-    command-told : (earlier : List Mark) → AtLine script steps e s line n b (is_alone B P) (Some g) earlier → (later : List Mark) (m : Command) → is_command b line ≡ true → RestAnswer script (record { steps = steps; event = e; earlier = earlier; later = later }) s (command_answer m line) → Rattle.gx_store.specs.Answers.IsAtItsEnd b (record { steps = steps; event = e; earlier = earlier; later = later }) g → IsAnswer script (record { steps = steps; event = e; earlier = earlier; later = later }) s b line (command_answer m line)
-    command-told earlier a later m cmd rest end =
+    command-told : (earlier : List Mark) → AtLine script steps e s line n b (is_alone B P) (Some g) earlier → (later : List Mark) (m : Command) → IsGathered script (record { steps = steps; event = e; earlier = earlier; later = later }) g (cid_of b) line (command_answer m line) → is_command b line ≡ true → RestAnswer script (record { steps = steps; event = e; earlier = earlier; later = later }) s (command_answer m line) → Rattle.gx_store.specs.Answers.IsAtItsEnd b (record { steps = steps; event = e; earlier = earlier; later = later }) g → IsAnswer script (record { steps = steps; event = e; earlier = earlier; later = later }) s b line (command_answer m line)
+    command-told earlier a later m gathered cmd rest end =
         done-is script (record { steps = steps; event = e; earlier = earlier; later = later }) s b line m cmd
         (record {
           command = cmd;
           g = g;
           transaction = subst (λ z. transaction_of z s (ms ++ earlier) ≡ Some g) a.said.state (transaction-is script steps e s line n b (is_alone B P) (Some g) earlier a later g has-txn refl);
           end = end;
-          told = told-is script (record { steps = steps; event = e; earlier = earlier; later = later }) s b line m cmd rest line (level_of b) g (cid_of b) (runs-command script steps e s line n b (is_alone B P) (Some g) earlier a later g has-txn refl cmd);
+          told = told-is script (record { steps = steps; event = e; earlier = earlier; later = later }) s b line m cmd rest line (level_of b) g (cid_of b) (runs-command script steps e s line n b (is_alone B P) (Some g) earlier a later g has-txn refl cmd) gathered;
         })
 
-    pub alone-commit : (c1 : Coord) (w : Work) (m : Command) (turn : Turn) → Under script steps c e c1 s g w y n b (is_alone B P) line [] → B ≡ block.Outside → P ≡ pending.Command → w.command ≡ Some m → m.stmt ≡ line → is_command b line ≡ true → turn.table.next.0 ≡ c1.table.next.0 → ((marks : List Mark) → Each (OutIs script marks) turn.out.outs) → Does script steps c e (is_closed c1 g turn)
-    alone-commit c1 w m turn o outside working has same cmd next outs =
+    gathered-here : (m : Command) → Gathers script (HeardNow steps e) g m → m.awaited ≡ [] → m.cid ≡ cid_of b → m.stmt ≡ line → (earlier later : List Mark) → IsGathered script (record { steps = steps; event = e; earlier = earlier; later = later }) g (cid_of b) line (command_answer m line)
+    gathered-here m h none number same earlier later =
+        subst (λ l. IsGathered script (record { steps = steps; event = e; earlier = earlier; later = later }) g (cid_of b) l (command_answer m l)) same
+        (subst (λ k. IsGathered script (record { steps = steps; event = e; earlier = earlier; later = later }) g k m.stmt (command_answer m m.stmt)) number (gathered-is script steps e earlier later g m h none))
+
+    -- the transaction of the line is this one
+    same-txn : (earlier : List Mark) → AtLine script steps e s line n b (is_alone B P) (Some g) earlier → (later : List Mark) (h : Gxid) → transaction_of (state_at script s (record { steps = steps; event = e; earlier = earlier; later = later })) s (ms ++ earlier) ≡ Some h → g ≡ h
+    same-txn earlier a later h q = some-same g h (sym (transaction-is script steps e s line n b (is_alone B P) (Some g) earlier a later g has-txn refl) ∙ q)
+      where
+        some-same : (x y : Gxid) → Some x ≡ Some y → x ≡ y
+        some-same x y z = cc
+
+    -- what is left of its answer
+    told-committed : AreCommandsTold script steps → (m : Command) (later : List Mark) → IsTold script (record { steps = steps; event = e; earlier = mark.Commit g ∷ []; later = later }) s (command_answer m line)
+    told-committed t m later stmt level h cid runs gathered =
+        subst (λ x. RunsCommand script (record { steps = steps; event = e; earlier = mark.Commit g ∷ []; later = later }) s stmt level x cid → IsGathered script (record { steps = steps; event = e; earlier = mark.Commit g ∷ []; later = later }) x cid stmt (command_answer m line) → Tells script (ms ++ mark.Commit g ∷ []) level x cid stmt (command_answer m line))
+        (same-txn (mark.Commit g ∷ []) (at-calm script steps e s line n b (is_alone B P) (Some g) [] (mark.Commit g ∷ []) at-now (tt, tt)) later h runs.transaction)
+        (λ r q. t.committed from to number later s stmt level g cid (command_answer m line) r q) runs gathered
+
+    told-inside : AreCommandsTold script steps → (m : Command) (later : List Mark) → IsTold script (record { steps = steps; event = e; earlier = []; later = later }) s (command_answer m line)
+    told-inside t m later stmt level h cid runs gathered = t.told from to number later s stmt level h cid (command_answer m line) runs gathered
+
+    pub caused-by : AreCommandsTold script steps → (why : Cause) (later : List Mark) → IsCaused script (record { steps = steps; event = e; earlier = mark.Abort g ∷ []; later = later }) s (reason_of why)
+    caused-by t why later stmt level h cid segment cause runs received same =
+        subst (λ r. IsCause (record { steps = steps; event = e; earlier = mark.Abort g ∷ []; later = later }) stmt level h cid r) (sym same)
+        (subst (λ x. RunsCommand script (record { steps = steps; event = e; earlier = mark.Abort g ∷ []; later = later }) s stmt level x cid → Receives steps e segment the_coordinator (message.Answer x (reply.Failed cid cause)) → IsCause (record { steps = steps; event = e; earlier = mark.Abort g ∷ []; later = later }) stmt level x cid (reason_of cause))
+        (same-txn (mark.Abort g ∷ []) (at-calm script steps e s line n b (is_alone B P) (Some g) [] (mark.Abort g ∷ []) at-now (tt, tt)) later h runs.transaction)
+        (λ r q. t.refused from to number later s stmt level g cid segment cause r q) runs received)
+
+    pub alone-commit : (c1 : Coord) (w : Work) (m : Command) (turn : Turn) → Gathers script (HeardNow steps e) g m → m.awaited ≡ [] → m.cid ≡ cid_of b → Under script steps c e c1 s g w y n b (is_alone B P) line [] → B ≡ block.Outside → P ≡ pending.Command → w.command ≡ Some m → m.stmt ≡ line → is_command b line ≡ true → turn.table.next.0 ≡ c1.table.next.0 → Each IsBare turn.out.outs → ((a : Cid) (i : Node) (level : Level) → IsAwaited (c.works g.0) a i level → HasAnswered (HeardNow steps e) i g a) → Does script steps c e (is_closed c1 g turn)
+    alone-commit c1 w m turn gath none its_cid o outside working has same cmd next outs over =
         commit-does script steps c e c1 s g w y n b (is_alone B P) line [] o turn next may closed
         (subst (λ x. state_after (state_in x q.stands.commands) line r ≡ Outside) (sym outside) (done-outside line r rows))
         (λ later rest. subst (λ z. IsAnswer script (record { steps = steps; event = e; earlier = mark.Commit g ∷ []; later = later }) s b line z) (sym told-as)
-        (command-told (mark.Commit g ∷ []) (at-calm script steps e s line n b (is_alone B P) (Some g) [] (mark.Commit g ∷ []) at-now (tt, tt)) later m cmd
+        (command-told (mark.Commit g ∷ []) (at-calm script steps e s line n b (is_alone B P) (Some g) [] (mark.Commit g ∷ []) at-now (tt, tt)) later m (gathered-here m gath none its_cid same (mark.Commit g ∷ []) later) cmd
         (subst (λ z. RestAnswer script (record { steps = steps; event = e; earlier = mark.Commit g ∷ []; later = later }) s z) told-as rest)
         (subst (λ x. Rattle.gx_store.specs.Answers.IsAtItsEnd (state_in x q.stands.commands) (record { steps = steps; event = e; earlier = mark.Commit g ∷ []; later = later }) g) (sym outside) (ap (λ t. t || false) (self-test g.0)))))
-        outs
+        outs over (λ t later. subst (λ z. RestAnswer script (record { steps = steps; event = e; earlier = mark.Commit g ∷ []; later = later }) s z) (sym told-as) (rest-is script (record { steps = steps; event = e; earlier = mark.Commit g ∷ []; later = later }) s line m (told-committed t m later)))
       where
         r : StmtAnswer
         r = answer_at_commit (work_of c1 g) (session_of c1 (work_of c1 g).session).state.pending
@@ -247,7 +294,7 @@ module _ (script : Script) (steps : List Step) (c : Coord) (from : Node) (to : N
         closed = ap (λ z. block_after_done z y.state.pending) (q.in_block ∙ outside) ∙ ap (block_after_done block.Outside) (q.in_line ∙ working)
 
     -- A BLOCK COMMITS
-    pub block-commit : (c1 : Coord) (w : Work) (turn : Turn) (l : Level) → Under script steps c e c1 s g w y n b (is_alone B P) line [] → B ≡ block.Open l → P ≡ pending.Commit → line ≡ stmt.Commit → turn.table.next.0 ≡ c1.table.next.0 → ((marks : List Mark) → Each (OutIs script marks) turn.out.outs) → Does script steps c e (is_closed c1 g turn)
+    pub block-commit : (c1 : Coord) (w : Work) (turn : Turn) (l : Level) → Under script steps c e c1 s g w y n b (is_alone B P) line [] → B ≡ block.Open l → P ≡ pending.Commit → line ≡ stmt.Commit → turn.table.next.0 ≡ c1.table.next.0 → Each IsBare turn.out.outs → Does script steps c e (is_closed c1 g turn)
     block-commit c1 w turn l o opened closing is next outs =
         commit-does script steps c e c1 s g w y n b (is_alone B P) line [] o turn next (subst (λ x. Rattle.gx_store.specs.Legal.may_commit (state_in x q.stands.commands) line ≡ true) (sym opened) (subst (λ z. Rattle.gx_store.specs.Legal.may_commit (InBlock l q.stands.commands) z ≡ true) (sym is) refl))
         (ap (λ z. block_after_done y.state.block z) (q.in_line ∙ closing))
@@ -256,8 +303,17 @@ module _ (script : Script) (steps : List Step) (c : Coord) (from : Node) (to : N
         (subst (λ x. IsAnswer script (record { steps = steps; event = e; earlier = mark.Commit g ∷ []; later = later }) s (state_in x q.stands.commands) line told.Commit) (sym opened)
         (subst (λ z. IsAnswer script (record { steps = steps; event = e; earlier = mark.Commit g ∷ []; later = later }) s (InBlock l q.stands.commands) z told.Commit) (sym is)
         (record { g = g; transaction = subst (λ x. transaction_of (state_in x q.stands.commands) s (ms ++ mark.Commit g ∷ []) ≡ Some g) opened (transaction later); committed = ap (λ t. t || false) (self-test g.0) }))))
-        outs
+        outs (λ a i level z. absurd (none-awaited (c.works g.0) a i level no-command z))
+        (λ t later. subst (λ z. RestAnswer script (record { steps = steps; event = e; earlier = mark.Commit g ∷ []; later = later }) s z) (sym told-as) tt)
       where
+        no-command : (work_of c g).command ≡ None
+        no-command = by_pending P closing (q.stands.owns q.busy).1
+          where
+            by_pending : (p : Pending) → p ≡ pending.Commit → IsLineOf script s y.lines B q.stands.commands (work_of c g) p → (work_of c g).command ≡ None
+            by_pending pending.Commit h l = l.0
+            by_pending pending.Nothing h l = l
+            by_pending pending.Command h l = absurd (cc)
+
         r : StmtAnswer
         r = answer_at_commit (work_of c1 g) (session_of c1 (work_of c1 g).session).state.pending
 
@@ -272,8 +328,8 @@ module _ (script : Script) (steps : List Step) (c : Coord) (from : Node) (to : N
         transaction later = subst (λ z. transaction_of z s (ms ++ mark.Commit g ∷ []) ≡ Some g) a2.said.state (transaction-is script steps e s line n b (is_alone B P) (Some g) (mark.Commit g ∷ []) a2 later g has-txn refl)
 
     -- A COMMAND IN A BLOCK IS ANSWERED
-    pub block-answer : (c1 : Coord) (w : Work) (m : Command) (l : Level) → Under script steps c e c1 s g w y n b (is_alone B P) line [] → Likewise w → B ≡ block.Open l → P ≡ pending.Command → w.command ≡ Some m → m.stmt ≡ line → is_command b line ≡ true → c1.table.next.0 ≡ c.table.next.0 → Does script steps c e (answers c1 g (work_of c1 g))
-    block-answer c1 w m l o k opened working has same cmd next =
+    pub block-answer : (c1 : Coord) (w : Work) (m : Command) (l : Level) → Gathers script (HeardNow steps e) g m → m.awaited ≡ [] → m.cid ≡ cid_of b → Under script steps c e c1 s g w y n b (is_alone B P) line [] → Likewise w → B ≡ block.Open l → P ≡ pending.Command → w.command ≡ Some m → m.stmt ≡ line → is_command b line ≡ true → c1.table.next.0 ≡ c.table.next.0 → ((a : Cid) (i : Node) (level : Level) → IsAwaited (c.works g.0) a i level → HasAnswered (HeardNow steps e) i g a) → Does script steps c e (answers c1 g (work_of c1 g))
+    block-answer c1 w m l gath none its_cid o k opened working has same cmd next over =
         record {
           s = s.0;
           g = g.0;
@@ -290,8 +346,14 @@ module _ (script : Script) (steps : List Step) (c : Coord) (from : Node) (to : N
           stands = inl (ended, moved (subst (λ v. Stands script s late c.table.next.0 (block.Open l) pending.Nothing y.lines g v) (sym work-now) (subst (λ i. Stands script s (ms ++ mark.Answer i (session_of c1 i).lines r ∷ []) c.table.next.0 (block.Open l) pending.Nothing y.lines g done) (sym home) there)));
           legal = λ later. subst (λ i. EachMark (Given script) steps e [] (mark.Answer i (session_of c1 i).lines r ∷ []) later) (sym home)
               (λ rest. legal-answer script steps e s line n b (is_alone B P) (Some g) [] at-now later (session_of c1 s).lines r numbered (is later rest), tt);
+          rest = λ t later. subst (λ i. EachMark (Rest script) steps e [] (mark.Answer i (session_of c1 i).lines r ∷ []) later) (sym home)
+              (subst (λ z. RestAnswer script (record { steps = steps; event = e; earlier = []; later = later }) s z) (sym told-as) (rest-is script (record { steps = steps; event = e; earlier = []; later = later }) s line m (told-inside t m later)), tt);
           outs = tt;
+          owned = λ h. own-none g ((answers c1 g (work_of c1 g)).coord.works g.0) (ap (λ (v : Work). v.command) work-now);
+          sent = tt;
+          keeps = λ a i level z. inr (inl (over a i level z));
           orders = λ h. subst (CommandIs script late) (sym (ap (λ (v : Work). v.command) work-now)) tt;
+          gathers = λ h. subst (GathersIn script (HeardNow steps e) g) (sym (ap (λ (v : Work). v.command) work-now)) tt;
         }
       where
         home : (work_of c1 g).session ≡ s
@@ -329,7 +391,7 @@ module _ (script : Script) (steps : List Step) (c : Coord) (from : Node) (to : N
         is : (later : List Mark) → RestAnswer script (record { steps = steps; event = event.Receive from to number; earlier = []; later = later }) s (answer_of_command (work_of c1 g).command) → IsAnswer script (record { steps = steps; event = event.Receive from to number; earlier = []; later = later }) s b line (answer_of_command (work_of c1 g).command)
         is later rest =
             subst (λ z. IsAnswer script (record { steps = steps; event = e; earlier = []; later = later }) s b line z) (sym told-as)
-            (command-told [] at-now later m cmd (subst (λ z. RestAnswer script (record { steps = steps; event = e; earlier = []; later = later }) s z) told-as rest)
+            (command-told [] at-now later m (gathered-here m gath none its_cid same [] later) cmd (subst (λ z. RestAnswer script (record { steps = steps; event = e; earlier = []; later = later }) s z) told-as rest)
             (subst (λ x. Rattle.gx_store.specs.Answers.IsAtItsEnd (state_in x q.stands.commands) (record { steps = steps; event = e; earlier = []; later = later }) g) (sym opened) o.running))
 
         said : Said script s (ms ++ mark.Answer s (session_of c1 s).lines (answer_of_command (work_of c1 g).command) ∷ []) (n + 1) (InBlock l (q.stands.commands + 1)) false (Some g)
@@ -344,12 +406,17 @@ module _ (script : Script) (steps : List Step) (c : Coord) (from : Node) (to : N
         owns-done : Owns s (q.stands.commands + 1) (ms ++ mark.Answer s (session_of c1 s).lines (answer_of_command (work_of c1 g).command) ∷ []) c.table.next.0 (block.Open l) g (record w { command = None })
         owns-done =
             let z = owns-more script s q.stands.commands (ms ++ []) (mark.Answer s (session_of c1 s).lines (answer_of_command (work_of c1 g).command) ∷ []) c.table.next.0 c.table.next.0 B g w (likewise-owns w k) (le-same c.table.next.0)
-                    (ap (λ v. Rattle.gx_store.specs.Marks.started_after s None (v ++ mark.Answer s (session_of c1 s).lines (answer_of_command (work_of c1 g).command) ∷ [])) (append-nil ms) ∙ said.started ∙ sym (likewise-owns w k).started) refl refl in
+            (ap (λ v. Rattle.gx_store.specs.Marks.started_after s None (v ++ mark.Answer s (session_of c1 s).lines (answer_of_command (work_of c1 g).command) ∷ [])) (append-nil ms) ∙ said.started ∙ sym (likewise-owns w k).started) refl refl in
             let v = subst (λ a. Owns s q.stands.commands (a ++ mark.Answer s (session_of c1 s).lines (answer_of_command (work_of c1 g).command) ∷ []) c.table.next.0 B g w) (append-nil ms) z in
             record {
-              home = v.home; started = v.started; level = v.level ∙ ap level_in opened; drawn = v.drawn; running = v.running;
+              home = v.home;
+              started = v.started;
+              level = v.level ∙ ap level_in opened;
+              drawn = v.drawn;
+              running = v.running;
               counted = λ h. plus-zero (q.stands.commands + 1) ∙ ap (λ a. q.stands.commands + under_way a) (sym has) ∙ v.counted (ap is_open opened);
-              unsnapped = v.unsnapped; snapshot = v.snapshot;
+              unsnapped = v.unsnapped;
+              snapshot = v.snapshot;
             }
 
         there : Stands script s (ms ++ mark.Answer s (session_of c1 s).lines (answer_of_command (work_of c1 g).command) ∷ []) c.table.next.0 (block.Open l) pending.Nothing y.lines g (record w { command = None })

@@ -1,9 +1,7 @@
 -- A session that ends.
-use Rattle.std.proofs.Common.{◌≡◌, ◌<◌, ◌≤◌, inl, inr, ℕ, ◌+◌, List, [], ◌∷◌, ◌++◌, Option, Some, None, Bool, true, false, refl, sym, subst, ap, ◌∙◌, if◌then◌else◌, ◌||◌, arith, eqb, append-nil}
+use Rattle.std.proofs.Common.{◌≡◌, ◌≤◌, inl, inr, ℕ, ◌+◌, List, [], ◌∷◌, ◌++◌, Some, None, true, false, refl, sym, subst, ap, ◌∙◌, if◌then◌else◌, ◌||◌, arith, eqb, append-nil}
 use Rattle.std.proofs.lemmas.Bool.Decides.{nat_tests}
-use Rattle.gx_ids.specs.declared.ids.Gxid.{Gxid}
 use Rattle.gx_ids.specs.declared.ids.SessionId.{SessionId}
-use Rattle.gx_tree.specs.declared.stmt.Stmt.{Stmt}
 use Rattle.gx_script.specs.declared.Script.{Script}
 use Rattle.gx_session.specs.Session.{idle_outside}
 use Rattle.gx_session.specs.declared.state.Block.{Block}
@@ -11,13 +9,12 @@ use Rattle.gx_session.specs.declared.state.Block.TheVariants as block
 use Rattle.gx_session.specs.declared.state.Pending.{Pending}
 use Rattle.gx_session.specs.declared.state.Pending.TheVariants as pending
 use Rattle.gx_dtx.specs.Rules.{on_abort}
-use Rattle.gx_store.specs.declared.event.Event.{Event}
 use Rattle.gx_store.specs.declared.event.Event.TheVariants as event
 use Rattle.gx_store.specs.declared.mark.Mark.{Mark}
 use Rattle.gx_store.specs.declared.mark.Mark.TheVariants as mark
 use Rattle.gx_store.specs.declared.run.Step.{Step}
-use Rattle.gx_store.specs.Legal.{LegalAbort, LegalEnd, is_in_block}
-use Rattle.gx_store.specs.Lines.{BlockState, InBlock, next_stmt, state_of, stmt_of, transaction_of}
+use Rattle.gx_store.specs.Legal.{LegalEnd, is_in_block}
+use Rattle.gx_store.specs.Lines.{state_of, stmt_of, transaction_of}
 use Rattle.gx_store.specs.Marks.{answer_count, is_ended, started_after}
 use Rattle.gx_store.specs.Points.{ends_by, ends_in, marks_in, starts_by, starts_in}
 use Rattle.gx_rules.specs.AtCoordinator.{ends_in as ends_session, is_in_block as is_block, next_line, rolls_back}
@@ -25,9 +22,11 @@ use Rattle.gx_rules.specs.Coordinators.{Coord, Session, Work, no_work, session_o
 use Rattle.gx_laws.proofs.Sessions.{is_nothing_in}
 use Rattle.gx_laws.proofs.Turns.{self-test}
 use Rattle.gx_histories.specs.Standing.{IsOver, IsSession, IsStanding, Owns, Stands, is_busy, state_in}
+use Rattle.gx_histories.proofs.Awaited.{bare-all, own-none}
 use Rattle.gx_histories.proofs.Ends.{of-fresh}
-use Rattle.gx_histories.proofs.Frame.{Does, sid}
-use Rattle.gx_histories.proofs.Outs.{CommandIs, OutIs, abort-plain}
+use Rattle.gx_histories.proofs.Frame.{Does}
+use Rattle.gx_histories.proofs.Gathers.{GathersIn, HeardNow}
+use Rattle.gx_histories.proofs.Outs.{CommandIs, abort-bare, bare-outs}
 use Rattle.gx_histories.proofs.Said.{Said, said-calm}
 
 differ : false ≡ true → ⊥
@@ -116,8 +115,13 @@ module _ (script : Script) (steps : List Step) (c : Coord) (s : SessionId) (all 
         starts = started;
         stands = inr (ended, over (mark.Abort y.transaction ∷ []) (tt, tt));
         legal = λ later. (λ q. record { running = subst (λ m. is_ended m y.transaction ≡ false) (sym (append-nil ms)) own.running; cause = inr (record { session = s; event = refl; transaction = transaction }) }, tt);
-        outs = abort-plain script _ c.table y.transaction;
+        rest = λ t later. (tt, tt);
+        outs = bare-outs script (ms ++ mark.Abort y.transaction ∷ []) _ (abort-bare c.table y.transaction);
+        owned = λ h. own-none y.transaction ((rolls_back (with_state c s idle_outside) y.transaction [] (on_abort c.table y.transaction)).coord.works y.transaction.0) (ap (λ (z : Work). z.command) (ap (λ q. if q then no_work else c.works y.transaction.0) (self-test y.transaction.0)));
+        sent = bare-all (rolls_back (with_state c s idle_outside) y.transaction [] (on_abort c.table y.transaction)).coord _ (abort-bare c.table y.transaction);
+        keeps = λ k i level a. inr (inr (ap (λ q. q || false) (self-test y.transaction.0)));
         orders = λ h. subst (CommandIs script (ms ++ mark.Abort y.transaction ∷ [])) (sym (ap (λ (z : Work). z.command) (ap (λ q. if q then no_work else c.works y.transaction.0) (self-test y.transaction.0)))) tt;
+        gathers = λ h. subst (GathersIn script (HeardNow steps (event.End s)) y.transaction) (sym (ap (λ (z : Work). z.command) (ap (λ q. if q then no_work else c.works y.transaction.0) (self-test y.transaction.0)))) tt;
       }
     where
       own : Owns s st.1.commands ms next y.state.block y.transaction (work_of c y.transaction)
@@ -144,8 +148,13 @@ module _ (script : Script) (steps : List Step) (c : Coord) (s : SessionId) (all 
         starts = started;
         stands = inr (ended, over [] tt);
         legal = λ later. tt;
+        rest = λ t later. tt;
         outs = tt;
+        owned = λ h. h;
+        sent = tt;
+        keeps = λ k i level a. inl a;
         orders = λ h. h;
+        gathers = λ h. h;
       }
 
   pub end-does : (b : Block) → b ≡ y.state.block → Does script steps c (event.End s) (ends_session c s b)

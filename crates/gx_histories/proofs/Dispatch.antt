@@ -1,7 +1,6 @@
 -- A command that goes out, or whose constants fault.
-use Rattle.std.proofs.Common.{◌≡◌, ◌<◌, ◌≤◌, inl, inr, ℕ, ◌+◌, List, [], ◌∷◌, ◌++◌, Option, Some, None, Result, Ok, Err, Bool, true, false, refl, sym, subst, ap, ◌∙◌, if◌then◌else◌, ◌||◌, ◌&&◌, arith, eqb, append-nil, length}
+use Rattle.std.proofs.Common.{◌≡◌, ◌<◌, ◌≤◌, inl, ℕ, ◌+◌, List, [], ◌∷◌, ◌++◌, Some, None, Result, Ok, Err, Bool, true, false, refl, sym, subst, ap, ◌∙◌, if◌then◌else◌, ◌||◌, arith, eqb, length}
 use Rattle.std.proofs.Math.Seq.{take-append_seam}
-use Rattle.std.proofs.lemmas.Bool.Decides.{nat_tests}
 use Rattle.std.proofs.lemmas.List.{append_assoc, length-append}
 use Rattle.std.proofs.lemmas.List.Elements.{Contains-append_left, Contains-append_right, Contains-push}
 use Rattle.std.specs.Prelude.{Contains, slice_get, take}
@@ -12,56 +11,56 @@ use Rattle.gx_ids.specs.declared.ids.SessionId.{SessionId}
 use Rattle.gx_tree.specs.declared.expr.Expr.{Expr}
 use Rattle.gx_tree.specs.declared.row.KeyedRow.{KeyedRow}
 use Rattle.gx_tree.specs.declared.stmt.Level.{Level}
-use Rattle.gx_tree.specs.declared.stmt.Level.TheVariants.{ReadCommitted, RepeatableRead}
 use Rattle.gx_tree.specs.declared.stmt.Stmt.{Stmt}
 use Rattle.gx_tree.specs.declared.stmt.Stmt.TheVariants as stmt
-use Rattle.gx_dsnap.specs.declared.snapshot.Snapshot.{Snapshot}
+use Rattle.gx_dtx.specs.Nodes.{has}
 use Rattle.gx_dtx.specs.Rules.{enlisted, on_abort}
 use Rattle.gx_dtx.specs.Table.{Table, horizon_of}
 use Rattle.gx_eval.specs.Meaning.{and_then}
 use Rattle.gx_eval.specs.declared.fault.ArithFault.{ArithFault}
 use Rattle.gx_eval.specs.declared.fault.ArithFault.TheVariants as arithmetic
+use Rattle.gx_msg.specs.declared.message.Out.{Out}
 use Rattle.gx_plan.specs.Constants.{rows_of}
 use Rattle.gx_plan.specs.Plan.{insert_pieces, plan_of}
 use Rattle.gx_plan.specs.declared.piece.Piece.{Piece}
 use Rattle.gx_script.specs.declared.Script.{Script}
-use Rattle.gx_session.specs.Session.{after_refused, block_after_refusal}
+use Rattle.gx_session.specs.Session.{block_after_refusal}
 use Rattle.gx_session.specs.declared.state.Block.{Block}
 use Rattle.gx_session.specs.declared.state.Block.TheVariants as block
-use Rattle.gx_session.specs.declared.state.Pending.{Pending}
 use Rattle.gx_session.specs.declared.state.Pending.TheVariants as pending
-use Rattle.gx_store.specs.declared.answer.Refused.{Refused}
 use Rattle.gx_store.specs.declared.answer.StmtAnswer.TheVariants as told
 use Rattle.gx_store.specs.declared.event.Event.TheVariants as event
 use Rattle.gx_store.specs.declared.mark.Mark.{Mark}
 use Rattle.gx_store.specs.declared.mark.Mark.TheVariants as mark
 use Rattle.gx_store.specs.declared.run.Step.{Step}
 use Rattle.gx_store.specs.Commands.{has_own_snapshot}
-use Rattle.gx_store.specs.Lines.{BlockState, cid_of, command_at, is_command, is_on_rows, level_of, state_after, stmt_of}
+use Rattle.gx_store.specs.Lines.{BlockState, cid_of, command_at, is_command, level_of, state_after, stmt_of}
 use Rattle.gx_store.specs.Marks.{has_snapshot, is_aborted, is_ended, is_snapped}
 use Rattle.gx_store.specs.Points.{marks_in}
 use Rattle.gx_store.specs.Refusals.{IsCause}
 use Rattle.gx_store.specs.Writes.{dist_of}
 use Rattle.gx_rules.specs.AtCoordinator.{Reading, behind, dispatches, enlisted_all, fault_mark, faulting_from, goes, goes_out, kept_at, next_cid, nodes_in, orders_of, reads_by, reads_for, refusal_of, table_of, takes_snapshot}
 use Rattle.gx_rules.specs.Coordinators.{Command, Coord, Session, Work, work_of}
-use Rattle.gx_rules.specs.Snapshots.{snapshot_of}
-use Rattle.gx_laws.proofs.Lists.{Each, each_append, get_kept, get_last}
-use Rattle.gx_laws.proofs.Past.{Past, seen-now}
+use Rattle.gx_laws.proofs.Lists.{Each, each_append, get_last}
+use Rattle.gx_laws.proofs.Past.{Past}
 use Rattle.gx_laws.proofs.Turns.{self-test}
-use Rattle.gx_histories.specs.Orders.{IsReadBy, IsServed}
-use Rattle.gx_histories.specs.Rest.{EachMark}
-use Rattle.gx_histories.specs.Standing.{HasSnapshot, IsTaken, Owns, Roots, Stands, is_alone, is_busy, is_open, is_sound, level_in, state_in, under_way}
+use Rattle.gx_histories.specs.Orders.{IsReadBy}
+use Rattle.gx_histories.specs.Rest.{Rest}
+use Rattle.gx_histories.specs.Standing.{Owns, Roots, Stands, is_alone, is_busy, is_sound, state_in, under_way}
 use Rattle.gx_histories.proofs.Answers.{command-refusable, done-outside, refused-inside}
 use Rattle.gx_histories.proofs.AtLine.{AtLine, at-calm, legal-snap}
 use Rattle.gx_histories.proofs.AtLine as at_line
-use Rattle.gx_histories.proofs.Ends.{IsOf, ended-more, keeps-snapshot, of-fresh, snapped-more, snapshot-more, taken-more, unsnapped}
+use Rattle.gx_histories.proofs.Awaited.{IsAwaited, IsOwn, OutAwaits}
+use Rattle.gx_histories.proofs.Ends.{IsOf, ended-more, of-fresh, snapped-more}
 use Rattle.gx_histories.proofs.Faults.{constants-fault}
 use Rattle.gx_histories.proofs.Frame.{Does}
+use Rattle.gx_histories.proofs.Gathers.{GathersIn, HeardNow}
 use Rattle.gx_histories.proofs.Given.{Given, marks-append}
-use Rattle.gx_histories.proofs.Outs.{CommandIs, OutIs, abort-plain}
+use Rattle.gx_histories.proofs.Outs.{CommandIs, OutIs, abort-bare}
 use Rattle.gx_histories.proofs.Roots.{roots-level}
-use Rattle.gx_histories.proofs.Said.{CalmFor, Said}
+use Rattle.gx_histories.proofs.Said.{CalmFor}
 use Rattle.gx_histories.proofs.Under.{Under, refuse-does}
+use Rattle.gx_histories.proofs.Reading.{Reads, reads-for}
 
 enlisted-next : (nodes : List Node) (d : Table) (g : Gxid) → (enlisted_all d g nodes).next ≡ d.next
 enlisted-next [] d g = refl
@@ -96,7 +95,8 @@ module _ (script : Script) (steps : List Step) (c c1 : Coord) (s : SessionId) (g
     (xb : x.state.block ≡ B) (xp : x.state.pending ≡ pending.Command) (busy : is_busy B pending.Command ≡ true) (cmd : is_command (state_in B commands) line ≡ true)
     (owns : Owns s commands (marks_in steps ++ earlier) c1.table.next.0 B g (work_of c1 g)) (none : (work_of c1 g).command ≡ None) (cid : cid_of (state_in B commands) ≡ next_cid (work_of c1 g))
     (past : Past c1 (marks_in steps ++ earlier))
-    (roots : (m : Command) (v : Work) (ns : List Mark) → m.stmt ≡ line → m.cid ≡ next_cid (work_of c1 g) → v.last ≡ (work_of c1 g).last + 1 → v.command ≡ Some m → Roots script s ((marks_in steps ++ earlier) ++ ns) B pending.Command x.lines g v) where
+    (roots : (m : Command) (v : Work) (ns : List Mark) → m.stmt ≡ line → m.cid ≡ next_cid (work_of c1 g) → v.last ≡ (work_of c1 g).last + 1 → v.command ≡ Some m → Roots script s ((marks_in steps ++ earlier) ++ ns) B pending.Command x.lines g v)
+    (unawaited : (k : Cid) (i : Node) (level : Level) → IsAwaited (c.works g.0) k i level → ⊥) where
   abbrev w : Work
   w = work_of c1 g
 
@@ -106,165 +106,21 @@ module _ (script : Script) (steps : List Step) (c c1 : Coord) (s : SessionId) (g
   abbrev ms : List Mark
   ms = marks_in steps ++ earlier
 
-  level-is : level_of b ≡ w.level
-  level-is = by_block B ∙ sym owns.level
-    where
-      by_block : (q : Block) → level_of (state_in q commands) ≡ level_in q
-      by_block block.Outside = refl
-      by_block (block.Open l) = refl
-      by_block block.Failed = refl
-
-  -- the command reads by a snapshot
-  pub record Reads (r : Reading) : Type 0 where
-    pub w2 : Work
-    pub work : work_of r.coord g ≡ w2
-    pub home : w2.session ≡ w.session
-    pub level : w2.level ≡ w.level
-    pub works : (j : ℕ) → eqb j g.0 ≡ false → r.coord.works j ≡ c1.works j
-    pub sessions : (j : ℕ) → r.coord.sessions j ≡ c1.sessions j
-    pub next : r.coord.table.next ≡ c1.table.next
-    pub of : Each (IsOf s.0 g.0) r.marks
-    pub calm : Each (CalmFor s) r.marks
-    pub running : is_ended r.marks g ≡ false
-    pub unread : (d : Cid) → w.last + 1 < d.0 → is_snapped r.marks g d ≡ false
-    pub snapshot : HasSnapshot w2.level (marks_in steps ++ (earlier ++ r.marks)) g w2.snapshot
-    pub legal : (later : List Mark) → EachMark (Given script) steps (event.Start s) earlier r.marks later
-    pub by : IsReadBy (marks_in steps ++ (earlier ++ r.marks)) w.level g (next_cid w) line r.snapshot
-
-  same-marks : ms ≡ marks_in steps ++ (earlier ++ [])
-  same-marks = ap (λ e. marks_in steps ++ e) (sym (append-nil earlier))
-
-  reads-kept : (y : Option Snapshot) → IsReadBy ms w.level g (next_cid w) line y → Reads (record { coord = c1; snapshot = y; marks = [] })
-  reads-kept y by =
-      record {
-        w2 = w; work = refl; home = refl; level = refl; works = λ j h. refl; sessions = λ j. refl; next = refl; of = tt; calm = tt; running = refl; unread = λ d l. refl;
-        snapshot = subst (λ m. HasSnapshot w.level m g w.snapshot) same-marks owns.snapshot; legal = λ later. tt;
-        by = subst (λ m. IsReadBy m w.level g (next_cid w) line y) same-marks by;
-      }
-
-  reads-none : (y : Option Snapshot) → (l : Level) → HasSnapshot l ms g y → y ≡ None → is_snapped ms g (next_cid w) ≡ false → has_own_snapshot l ms g (next_cid w) ≡ false
-  reads-none y ReadCommitted h e f = f
-  reads-none None RepeatableRead h e f = h
-  reads-none (Some z) RepeatableRead h e f = absurd (cc)
-
-  reads-new : is_on_rows line ≡ true → w.snapshot ≡ None → Reads (takes_snapshot c1 g (next_cid w) w)
-  reads-new rows fresh =
-      record {
-        w2 = record w { snapshot = kept_at w.level (snapshot_of c1.table) };
-        work = ap (λ q. if q then (record w { snapshot = kept_at w.level (snapshot_of c1.table) }) else w) (self-test g.0);
-        home = refl;
-        level = refl;
-        works = λ j h. ap (λ q. if q then (record w { snapshot = kept_at w.level (snapshot_of c1.table) }) else c1.works j) h;
-        sessions = λ j. refl;
-        next = refl;
-        of = (refl, tt);
-        calm = (tt, tt);
-        running = refl;
-        unread = λ d l. not-later (w.last + 1) d.0 (eqb g.0 g.0) l;
-        snapshot = kept w.level;
-        legal = λ later. (λ q. snap later, tt);
-        by = by_line line rows;
-      }
-    where
-      not-later : (a d : ℕ) (q : Bool) → a < d → ((q && eqb a d) || false) ≡ false
-      not-later a d q l = grind (arith, nat_tests)
-
-      shot : Snapshot
-      shot = snapshot_of c1.table
-
-      is-there : slice_get (marks_in steps ++ (earlier ++ mark.Snap g (next_cid w) shot ∷ [])) (length ms) ≡ Some (mark.Snap g (next_cid w) shot)
-      is-there = subst (λ m. slice_get m (length ms) ≡ Some (mark.Snap g (next_cid w) shot)) (append_assoc (marks_in steps) earlier (mark.Snap g (next_cid w) shot ∷ [])) (get_last ms [] (mark.Snap g (next_cid w) shot))
-
-      kept : (l : Level) → HasSnapshot l (marks_in steps ++ (earlier ++ mark.Snap g (next_cid w) shot ∷ [])) g (kept_at l shot)
-      kept ReadCommitted = refl
-      kept RepeatableRead = record { place = length ms; d = next_cid w; taken = is-there }
-
-      serves-itself : (l : Level) (d : Cid) → Rattle.gx_store.specs.Commands.Serves l d d
-      serves-itself ReadCommitted d = refl
-      serves-itself RepeatableRead d = tt
-
-      served : IsServed (marks_in steps ++ (earlier ++ mark.Snap g (next_cid w) shot ∷ [])) w.level g (next_cid w) shot
-      served = record { place = length ms; d = next_cid w; taken = is-there; serves = serves-itself w.level (next_cid w) }
-
-      by_line : (l : Stmt) → is_on_rows l ≡ true → IsReadBy (marks_in steps ++ (earlier ++ mark.Snap g (next_cid w) shot ∷ [])) w.level g (next_cid w) l (Some shot)
-      by_line (stmt.Select q) h = (shot, refl, served)
-      by_line (stmt.Insert t q) h = (shot, refl, served)
-      by_line (stmt.Update t a q) h = (shot, refl, served)
-      by_line (stmt.Delete t q) h = (shot, refl, served)
-      by_line (stmt.Begin level) h = absurd (differ h)
-      by_line stmt.Commit h = absurd (differ h)
-      by_line stmt.Rollback h = absurd (differ h)
-      by_line (stmt.Lock t m) h = absurd (differ h)
-
-      one-more : (a : ℕ) → a < a + 1
-      one-more a = omega arith
-
-      snap : (later : List Mark) → Rattle.gx_store.specs.Legal.LegalSnap script (record { steps = steps; event = event.Start s; earlier = earlier; later = later }) g (next_cid w) shot
-      snap later =
-          subst (λ q. Rattle.gx_store.specs.Legal.LegalSnap script (record { steps = steps; event = event.Start s; earlier = earlier; later = later }) g q shot) cid
-          (legal-snap script steps (event.Start s) s line n b (is_alone B pending.Command) (Some g) earlier o.at later g shot o.has refl cmd o.running rows
-          (subst (λ q. has_own_snapshot (level_of b) ms g q ≡ false) (sym cid) (subst (λ l. has_own_snapshot l ms g (next_cid w) ≡ false) (sym level-is)
-          (reads-none w.snapshot w.level owns.snapshot fresh (owns.unsnapped (next_cid w) (one-more w.last)))))
-          (seen-now c1 ms past))
-
-  reads-by : is_on_rows line ≡ true → (y : Option Snapshot) → w.snapshot ≡ y → Reads (reads_by c1 g (next_cid w) w y)
-  reads-by rows None e = reads-new rows e
-  reads-by rows (Some z) e = reads-kept (Some z) (by_line line rows)
-    where
-      by_level : (l : Level) → HasSnapshot l ms g (Some z) → IsServed ms l g (next_cid w) z
-      by_level ReadCommitted h = absurd (cc)
-      by_level RepeatableRead h = record { place = h.place; d = h.d; taken = h.taken; serves = tt }
-
-      served : IsServed ms w.level g (next_cid w) z
-      served = by_level w.level (subst (λ y. HasSnapshot w.level ms g y) e owns.snapshot)
-
-      by_line : (l : Stmt) → is_on_rows l ≡ true → IsReadBy ms w.level g (next_cid w) l (Some z)
-      by_line (stmt.Select q) h = (z, refl, served)
-      by_line (stmt.Insert t q) h = (z, refl, served)
-      by_line (stmt.Update t a q) h = (z, refl, served)
-      by_line (stmt.Delete t q) h = (z, refl, served)
-      by_line (stmt.Begin level) h = absurd (differ h)
-      by_line stmt.Commit h = absurd (differ h)
-      by_line stmt.Rollback h = absurd (differ h)
-      by_line (stmt.Lock t m) h = absurd (differ h)
-
-  pub reads-for : (l : Stmt) → line ≡ l → is_command b l ≡ true → Reads (reads_for c1 g (next_cid w) w l)
-  reads-for (stmt.Lock t m) e h = reads-kept None (subst (λ q. IsReadBy ms w.level g (next_cid w) q None) (sym e) refl)
-  reads-for (stmt.Select q) e h = reads-by (ap is_on_rows e) w.snapshot refl
-  reads-for (stmt.Insert t q) e h = reads-by (ap is_on_rows e) w.snapshot refl
-  reads-for (stmt.Update t a q) e h = reads-by (ap is_on_rows e) w.snapshot refl
-  reads-for (stmt.Delete t q) e h = reads-by (ap is_on_rows e) w.snapshot refl
-  reads-for (stmt.Begin level) e h = absurd (by_block B h)
-    where
-      by_block : (q : Block) → is_command (state_in q commands) (stmt.Begin level) ≡ true → ⊥
-      by_block block.Outside h = differ h
-      by_block (block.Open l) h = differ h
-      by_block block.Failed h = differ h
-  reads-for stmt.Commit e h = absurd (by_block B h)
-    where
-      by_block : (q : Block) → is_command (state_in q commands) stmt.Commit ≡ true → ⊥
-      by_block block.Outside h = differ h
-      by_block (block.Open l) h = differ h
-      by_block block.Failed h = differ h
-  reads-for stmt.Rollback e h = absurd (by_block B h)
-    where
-      by_block : (q : Block) → is_command (state_in q commands) stmt.Rollback ≡ true → ⊥
-      by_block block.Outside h = differ h
-      by_block (block.Open l) h = differ h
-      by_block block.Failed h = differ h
+  abbrev ReadsHere : Reading → Type 0
+  ReadsHere r = Reads script steps c c1 s g x n B commands line earlier o xb xp busy cmd owns none cid past r
 
   -- THE COMMAND GOES OUT
-  at-reading : (r : Reading) → Reads r → AtLine script steps (event.Start s) s line n b (is_alone B pending.Command) (Some g) (earlier ++ r.marks)
+  at-reading : (r : Reading) → ReadsHere r → AtLine script steps (event.Start s) s line n b (is_alone B pending.Command) (Some g) (earlier ++ r.marks)
   at-reading r R = at-calm script steps (event.Start s) s line n b (is_alone B pending.Command) (Some g) earlier r.marks o.at R.calm
 
-  running-there : (r : Reading) → Reads r → is_ended (marks_in steps ++ (earlier ++ r.marks)) g ≡ false
+  running-there : (r : Reading) → ReadsHere r → is_ended (marks_in steps ++ (earlier ++ r.marks)) g ≡ false
   running-there r R = subst (λ m. is_ended m g ≡ false) (append_assoc (marks_in steps) earlier r.marks) (ended-more ms r.marks g o.running R.running)
 
   abbrev sent-work : Reading → List Piece → Work → Work
   sent-work r pieces v =
       record v { last = w.last + 1; command = Some (record { stmt = line; cid = next_cid w; orders = orders_of g (next_cid w) v.level r.snapshot (horizon_of r.coord.table) pieces; awaited = nodes_in pieces; count = 0; parts = [] }) }
 
-  sent-owns : (r : Reading) (pieces : List Piece) (R : Reads r) → Owns s commands (marks_in steps ++ (earlier ++ r.marks)) (goes_out g (next_cid w) line pieces r).coord.table.next.0 B g (sent-work r pieces R.w2)
+  sent-owns : (r : Reading) (pieces : List Piece) (R : ReadsHere r) → Owns s commands (marks_in steps ++ (earlier ++ r.marks)) (goes_out g (next_cid w) line pieces r).coord.table.next.0 B g (sent-work r pieces R.w2)
   sent-owns r pieces R =
       record {
         home = R.home ∙ o.home;
@@ -287,13 +143,13 @@ module _ (script : Script) (steps : List Step) (c c1 : Coord) (s : SessionId) (g
   sent-command : Reading → List Piece → Work → Command
   sent-command r pieces v = record { stmt = line; cid = next_cid w; orders = orders_of g (next_cid w) v.level r.snapshot (horizon_of r.coord.table) pieces; awaited = nodes_in pieces; count = 0; parts = [] }
 
-  sent-roots : (r : Reading) (pieces : List Piece) (R : Reads r) → Roots script s (marks_in steps ++ (earlier ++ r.marks)) B pending.Command x.lines g (sent-work r pieces R.w2)
+  sent-roots : (r : Reading) (pieces : List Piece) (R : ReadsHere r) → Roots script s (marks_in steps ++ (earlier ++ r.marks)) B pending.Command x.lines g (sent-work r pieces R.w2)
   unfolding sent-command
   sent-roots r pieces R =
       subst (λ m. Roots script s m B pending.Command x.lines g (sent-work r pieces R.w2)) (append_assoc (marks_in steps) earlier r.marks)
       (roots (sent-command r pieces R.w2) (sent-work r pieces R.w2) r.marks refl refl refl refl)
 
-  out-orders : (all : List Piece) (r : Reading) (R : Reads r) (v : Work) → v.level ≡ w.level → plan_of script.segments (dist_of script.tables (table_of line)) g (next_cid w) line ≡ Ok all → (pieces : List Piece) → Each (Contains all) pieces → Each (OutIs script (marks_in steps ++ (earlier ++ r.marks))) (orders_of g (next_cid w) v.level r.snapshot (horizon_of r.coord.table) pieces)
+  out-orders : (all : List Piece) (r : Reading) (R : ReadsHere r) (v : Work) → v.level ≡ w.level → plan_of script.segments (dist_of script.tables (table_of line)) g (next_cid w) line ≡ Ok all → (pieces : List Piece) → Each (Contains all) pieces → Each (OutIs script (marks_in steps ++ (earlier ++ r.marks))) (orders_of g (next_cid w) v.level r.snapshot (horizon_of r.coord.table) pieces)
   out-orders all r R v lev plan [] e = tt
   out-orders all r R v lev plan (q ∷ qs) e = (
     λ n. record {
@@ -323,7 +179,7 @@ module _ (script : Script) (steps : List Step) (c c1 : Coord) (s : SessionId) (g
   each-contained xs (y ∷ ys) =
       (Contains-append_right xs (y ∷ ys) y (Contains-append_left (y ∷ []) ys y (Contains-push [] y)), subst (λ m. Each (Contains m) ys) (append_assoc xs (y ∷ []) ys) (each-contained (xs ++ y ∷ []) ys))
 
-  out-does : (pieces : List Piece) (r : Reading) → Reads r → plan_of script.segments (dist_of script.tables (table_of line)) g (next_cid w) line ≡ Ok pieces → Does script steps c (event.Start s) (behind earlier (goes_out g (next_cid w) line pieces r))
+  out-does : (pieces : List Piece) (r : Reading) → ReadsHere r → plan_of script.segments (dist_of script.tables (table_of line)) g (next_cid w) line ≡ Ok pieces → Does script steps c (event.Start s) (behind earlier (goes_out g (next_cid w) line pieces r))
   out-does pieces r R plan =
       record {
         s = s.0;
@@ -339,10 +195,44 @@ module _ (script : Script) (steps : List Step) (c c1 : Coord) (s : SessionId) (g
         starts = o.at.starts ∙ sym o.lines;
         stands = inl (o.ends, at_x (subst (λ v. Stands script s (marks_in steps ++ (earlier ++ r.marks)) late.coord.table.next.0 B pending.Command x.lines g v) (sym work-now) there));
         legal = λ later. marks-append (Given script) steps (event.Start s) [] earlier r.marks later (o.legal (r.marks ++ later)) (R.legal later);
+        rest = λ t later. marks-append (Rest script) steps (event.Start s) [] earlier r.marks later (o.rests (r.marks ++ later)) (R.rests later);
         outs = sent_orders;
+        owned = λ h m q. subst (λ (z : Command). Each (λ (o : Out). IsOwn g z.cid ((goes_out g (next_cid w) line pieces r).coord.works g.0).level o.message) z.orders) (some-same _ m (sym command-now ∙ q)) (own-all pieces);
+        sent = awaited-all pieces (λ i h. h);
+        keeps = λ k i level a. absurd (unawaited k i level a);
         orders = λ h. subst (CommandIs script (marks_in steps ++ (earlier ++ r.marks))) (sym command-now) sent_orders;
+        gathers = λ h. subst (GathersIn script (HeardNow steps (event.Start s)) g) (sym command-now)
+            (record { pieces = pieces; plan = plan; taken = []; heard = tt; fits = tt; apart = tt; all = λ i. or-none (has i (nodes_in pieces)); free = λ i q. refl; parts = refl; counted = refl });
       }
     where
+      some-same : (a b : Command) → Some a ≡ Some b → a ≡ b
+      some-same a b h = cc
+
+      own-all : (qs : List Piece) → Each (λ (o : Out). IsOwn g (next_cid w) ((goes_out g (next_cid w) line pieces r).coord.works g.0).level o.message) (orders_of g (next_cid w) (work_of r.coord g).level r.snapshot (horizon_of r.coord.table) qs)
+      own-all [] = tt
+      own-all (q ∷ qs) = ((refl, refl, sym (ap (λ (v : Work). v.level) (ap (λ t. if t then sent-work r pieces (work_of r.coord g) else r.coord.works g.0) (self-test g.0)))), own-all qs)
+
+      awaited-all : (qs : List Piece) → ((i : Node) → has i (nodes_in qs) ≡ true → has i (nodes_in pieces) ≡ true) → Each (OutAwaits (goes_out g (next_cid w) line pieces r).coord) (orders_of g (next_cid w) (work_of r.coord g).level r.snapshot (horizon_of r.coord.table) qs)
+      awaited-all [] f = tt
+      awaited-all (q ∷ qs) f = (
+        record {
+          its = record { stmt = line; cid = next_cid w; orders = orders_of g (next_cid w) (work_of r.coord g).level r.snapshot (horizon_of r.coord.table) pieces; awaited = nodes_in pieces; count = 0; parts = [] };
+          is = ap (λ (v : Work). v.command) (ap (λ t. if t then sent-work r pieces (work_of r.coord g) else r.coord.works g.0) (self-test g.0));
+          counted = refl;
+          awaits = f q.node (ap (λ t. t || has q.node (nodes_in qs)) (self-test q.node.0));
+          level_is = sym (ap (λ (v : Work). v.level) (ap (λ t. if t then sent-work r pieces (work_of r.coord g) else r.coord.works g.0) (self-test g.0)));
+        },
+        awaited-all qs (λ i h. f i (or-true (eqb q.node.0 i.0) h)),
+      )
+        where
+          or-true : (a : Bool) {b : Bool} → b ≡ true → (a || b) ≡ true
+          or-true true e = refl
+          or-true false e = e
+
+      or-none : (b : Bool) → b ≡ (b || false)
+      or-none true = refl
+      or-none false = refl
+
       sent_orders : Each (OutIs script (marks_in steps ++ (earlier ++ r.marks))) (orders_of g (next_cid w) (work_of r.coord g).level r.snapshot (horizon_of r.coord.table) pieces)
       sent_orders = out-orders pieces r R (work_of r.coord g) (ap (λ (v : Work). v.level) R.work ∙ R.level) plan pieces (each-contained [] pieces)
 
@@ -381,7 +271,7 @@ module _ (script : Script) (steps : List Step) (c c1 : Coord) (s : SessionId) (g
           (subst (λ (q : Gxid). Stands script s (marks_in steps ++ (earlier ++ r.marks)) late.coord.table.next.0 B pending.Command x.lines q (late.coord.works q.0)) (sym o.its) h))
 
   -- ITS CONSTANTS FAULT
-  module _ (r : Reading) (R : Reads r) (table : Rattle.gx_ids.specs.declared.ids.Table.Table) (tuples : List (List Expr)) (is_insert : line ≡ stmt.Insert table tuples) (fault : ArithFault) (faulty : rows_of g (next_cid w) tuples ≡ Err fault) where
+  module _ (r : Reading) (R : ReadsHere r) (table : Rattle.gx_ids.specs.declared.ids.Table.Table) (tuples : List (List Expr)) (is_insert : line ≡ stmt.Insert table tuples) (fault : ArithFault) (faulty : rows_of g (next_cid w) tuples ≡ Err fault) where
     abbrev rid : Rattle.gx_ids.specs.declared.rid.Rid.Rid
     rid = record { gxid = g; cid = next_cid w; ordinal = faulting_from 1 tuples }
 
@@ -433,7 +323,10 @@ module _ (script : Script) (steps : List Step) (c c1 : Coord) (s : SessionId) (g
     live-fault : (later : List Mark) → Rattle.gx_store.specs.Faults.LegalFault script (record { steps = steps; event = event.Start s; earlier = earlier ++ r.marks; later = later }) g (next_cid w) rid None
     live-fault later =
         inl (record {
-          session = s; stmt = line; level = level_of b; fault = fault;
+          session = s;
+          stmt = line;
+          level = level_of b;
+          fault = fault;
           runs = subst (λ q. Rattle.gx_store.specs.Commands.IsUnderWay script (record { steps = steps; event = event.Start s; earlier = earlier ++ r.marks; later = later }) s line (level_of b) g q) cid
               (at_line.under-way script steps (event.Start s) s line n b (is_alone B pending.Command) (Some g) (earlier ++ r.marks) (at-reading r R) later g o.has refl cmd (running-there r R));
           faults = is-fault _;
@@ -442,9 +335,23 @@ module _ (script : Script) (steps : List Step) (c c1 : Coord) (s : SessionId) (g
     under2 : Under script steps c (event.Start s) r.coord s g R.w2 x n b (is_alone B pending.Command) line earlier
     under2 =
         record {
-          work = R.work; works = λ j h. R.works j h ∙ o.works j h; sessions = λ j. R.sessions j ∙ o.sessions j; home = R.home ∙ o.home; its = o.its; lines = o.lines;
-          next = subst (λ (i : Gxid). c.table.next.0 ≤ i.0) (sym R.next) o.next; drawn = subst (λ (i : Gxid). g.0 < i.0) (sym R.next) o.drawn; whose = o.whose; ends = o.ends; alone = o.alone;
-          at = o.at; has = o.has; running = o.running; of = o.of; legal = o.legal;
+          work = R.work;
+          works = λ j h. R.works j h ∙ o.works j h;
+          sessions = λ j. R.sessions j ∙ o.sessions j;
+          home = R.home ∙ o.home;
+          its = o.its;
+          lines = o.lines;
+          next = subst (λ (i : Gxid). c.table.next.0 ≤ i.0) (sym R.next) o.next;
+          drawn = subst (λ (i : Gxid). g.0 < i.0) (sym R.next) o.drawn;
+          whose = o.whose;
+          ends = o.ends;
+          alone = o.alone;
+          at = o.at;
+          has = o.has;
+          running = o.running;
+          of = o.of;
+          legal = o.legal;
+          rests = o.rests;
         }
 
     faults-does : Does script steps c (event.Start s) (behind earlier (Rattle.gx_rules.specs.AtCoordinator.is_refused r.coord g (on_abort r.coord.table g) why (refusal_of fault)))
@@ -454,8 +361,13 @@ module _ (script : Script) (steps : List Step) (c c1 : Coord) (s : SessionId) (g
         (each_append (IsOf s.0 g.0) r.marks (noted ∷ []) R.of (tt, tt)) (each_append (CalmFor s) r.marks (noted ∷ []) R.calm (tt, tt))
         (subst (λ m. is_ended m g ≡ false) (append_assoc (marks_in steps) (earlier ++ r.marks) (noted ∷ []) ∙ ap (λ m. marks_in steps ++ m) (append_assoc earlier r.marks (noted ∷ []))) (ended-more seam (noted ∷ []) g (running-there r R) refl))
         (λ later. marks-append (Given script) steps (event.Start s) earlier r.marks (noted ∷ []) later (R.legal _) (λ q. live-fault later, tt))
-        (λ later q. cause later) (λ marks. abort-plain script marks r.coord.table g)
+        (λ later q. cause later) (abort-bare r.coord.table g)
+        (λ later. marks-append (Rest script) steps (event.Start s) earlier r.marks (noted ∷ []) later (R.rests _) (tt, tt)) (λ t later. by-start ((earlier ++ why) ++ mark.Abort g ∷ []) later fault)
       where
+        by-start : (earlier later : List Mark) (f : ArithFault) → Rattle.gx_histories.specs.Rest.RestAnswer script (record { steps = steps; event = event.Start s; earlier = earlier; later = later }) s (told.Refused (refusal_of f))
+        by-start earlier later arithmetic.Overflow = tt
+        by-start earlier later arithmetic.DivisionByZero = tt
+
         not-busy : (q : Block) → is_busy (block_after_refusal q pending.Command) pending.Nothing ≡ false
         not-busy block.Outside = refl
         not-busy (block.Open l) = refl
@@ -466,7 +378,7 @@ module _ (script : Script) (steps : List Step) (c c1 : Coord) (s : SessionId) (g
         after (block.Open l) h e = refused-inside l commands line (refusal_of fault) e
         after block.Failed h e = absurd (differ h)
 
-  goes-does : (r : Reading) → Reads r → (plan : Result (List Piece) ArithFault) → plan_of script.segments (dist_of script.tables (table_of line)) g (next_cid w) line ≡ plan → Does script steps c (event.Start s) (behind earlier (goes g (next_cid w) line r plan))
+  goes-does : (r : Reading) → ReadsHere r → (plan : Result (List Piece) ArithFault) → plan_of script.segments (dist_of script.tables (table_of line)) g (next_cid w) line ≡ plan → Does script steps c (event.Start s) (behind earlier (goes g (next_cid w) line r plan))
   goes-does r R (Ok pieces) e = out-does pieces r R e
   goes-does r R (Err fault) e = by_insert (plan-faults script.segments (dist_of script.tables (table_of line)) g (next_cid w) line fault e)
     where
@@ -476,4 +388,4 @@ module _ (script : Script) (steps : List Step) (c c1 : Coord) (s : SessionId) (g
           (faults-does r R h.0 h.1.0 h.1.1 fault h.1.2)
 
   pub dispatch-does : Does script steps c (event.Start s) (behind earlier (dispatches script c1 g line))
-  dispatch-does = goes-does _ (reads-for line refl cmd) (plan_of script.segments (dist_of script.tables (table_of line)) g (next_cid w) line) refl
+  dispatch-does = goes-does _ (reads-for script steps c c1 s g x n B commands line earlier o xb xp busy cmd owns none cid past line refl cmd) (plan_of script.segments (dist_of script.tables (table_of line)) g (next_cid w) line) refl

@@ -1,5 +1,5 @@
 -- Marks of one session and one transaction, and what they say of the others.
-use Rattle.std.proofs.Common.{◌≡◌, ◌<◌, ◌≤◌, ℕ, ◌+◌, List, [], ◌∷◌, ◌++◌, Option, Some, None, Bool, true, false, refl, sym, subst, ap, ◌∙◌, ◌||◌, ◌&&◌, if◌then◌else◌, arith, eqb, append-nil}
+use Rattle.std.proofs.Common.{◌≡◌, ◌<◌, ◌≤◌, ℕ, ◌+◌, List, [], ◌∷◌, ◌++◌, Option, Some, None, Bool, true, false, refl, sym, ap, ◌∙◌, ◌||◌, ◌&&◌, if◌then◌else◌, arith, eqb, append-nil}
 use Rattle.std.proofs.lemmas.List.{append_assoc}
 use Rattle.std.proofs.lemmas.Bool.Decides.{nat_tests}
 use Rattle.gx_ids.specs.declared.ids.Cid.{Cid}
@@ -11,7 +11,7 @@ use Rattle.gx_dsnap.specs.declared.snapshot.Snapshot.{Snapshot}
 use Rattle.gx_store.specs.declared.mark.Mark.{Mark}
 use Rattle.gx_store.specs.declared.mark.Mark.TheVariants as mark
 use Rattle.gx_store.specs.Lines.{began_from}
-use Rattle.gx_store.specs.Marks.{answer_count, has_snapshot, is_aborted, is_committed, is_command_of, is_ended, is_same_gxid, is_same_session, is_snapped, session_of}
+use Rattle.gx_store.specs.Marks.{answer_count, has_snapshot, is_aborted, is_committed, is_ended, is_same_gxid, is_snapped, session_of}
 use Rattle.gx_store.proofs.Marks.{has_snapshot-append, is_ended-append, is_snapped-append}
 use Rattle.gx_laws.proofs.Lists.{Each, get_kept}
 use Rattle.gx_histories.specs.Standing.{HasSnapshot, IsTaken}

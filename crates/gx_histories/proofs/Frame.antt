@@ -1,9 +1,10 @@
 -- What an event leaves of the sessions that it isn't of.
-use Rattle.std.proofs.Common.{◌≡◌, ◌<◌, ◌≤◌, ◌⊎◌, inl, inr, ℕ, ◌+◌, List, [], ◌∷◌, ◌++◌, Option, Some, None, Bool, true, false, refl, sym, subst, ap, ◌∙◌, if◌then◌else◌, arith, eqb}
-use Rattle.std.proofs.lemmas.Bool.{eqb-true}
-use Rattle.std.proofs.lemmas.Bool.Decides.{nat_tests}
+use Rattle.std.proofs.Common.{◌≡◌, ◌<◌, ◌≤◌, ◌⊎◌, inl, inr, ℕ, ◌+◌, List, [], ◌∷◌, ◌++◌, None, true, false, refl, sym, subst, ap, ◌∙◌, if◌then◌else◌, arith, eqb}
+use Rattle.gx_ids.specs.declared.ids.Cid.{Cid}
 use Rattle.gx_ids.specs.declared.ids.Gxid.{Gxid}
+use Rattle.gx_ids.specs.declared.ids.Node.{Node}
 use Rattle.gx_ids.specs.declared.ids.SessionId.{SessionId}
+use Rattle.gx_tree.specs.declared.stmt.Level.{Level}
 use Rattle.gx_script.specs.declared.Script.{Script}
 use Rattle.gx_session.specs.declared.state.Block.{Block}
 use Rattle.gx_session.specs.declared.state.Pending.{Pending}
@@ -11,14 +12,18 @@ use Rattle.gx_store.specs.declared.event.Event.{Event}
 use Rattle.gx_store.specs.declared.mark.Mark.{Mark}
 use Rattle.gx_store.specs.declared.mark.Mark.TheVariants as mark
 use Rattle.gx_store.specs.declared.run.Step.{Step}
-use Rattle.gx_store.specs.Lines.{Outside, state_of}
+use Rattle.gx_store.specs.Lines.{state_of}
 use Rattle.gx_store.specs.Marks.{answer_count, has_snapshot, is_begun, is_ended, started_after}
 use Rattle.gx_store.specs.Points.{ends_by, ends_in, marks_in, starts_by, starts_in}
-use Rattle.gx_rules.specs.Coordinators.{Coord, CoordTurn, Session, Work, session_of, work_of}
+use Rattle.gx_rules.specs.Coordinators.{Coord, CoordTurn, Session, Work}
 use Rattle.gx_laws.proofs.Lists.{Each}
-use Rattle.gx_histories.specs.Rest.{EachMark}
-use Rattle.gx_histories.specs.Standing.{IsLineOf, IsOver, IsSession, IsStanding, Owns, Roots, Stands, is_busy, waits}
-use Rattle.gx_histories.proofs.Ends.{Fresh, IsOf, ended-more, keeps-snapshot, of-calm, of-ended, of-snapshot, snapped-more, unsnapped}
+use Rattle.gx_laws.proofs.Stages.{gx}
+use Rattle.gx_histories.specs.Finish.{AreCommandsTold}
+use Rattle.gx_histories.specs.Rest.{EachMark, Rest}
+use Rattle.gx_histories.specs.Standing.{IsLineOf, IsOver, IsStanding, Owns, Roots, Stands, is_busy, waits}
+use Rattle.gx_histories.proofs.Awaited.{IsAwaited, IsSettled, OutAwaits, OwnIn}
+use Rattle.gx_histories.proofs.Ends.{Fresh, IsOf, ended-more, keeps-snapshot, snapped-more, unsnapped}
+use Rattle.gx_histories.proofs.Gathers.{GathersIn, HeardNow}
 use Rattle.gx_histories.proofs.Given.{Given}
 use Rattle.gx_histories.proofs.Outs.{CommandIs, OutIs}
 use Rattle.gx_histories.proofs.Roots.{roots-more}
@@ -85,8 +90,13 @@ pub record Does (script : Script) (steps : List Step) (c : Coord) (e : Event) (t
   pub starts : starts_in (sid s) steps + starts_by (sid s) e ≡ x.lines
   pub stands : IsStanding script (sid s) (marks_in steps ++ turn.marks) turn.coord.table.next.0 x.state.block x.state.pending x.lines x.transaction (turn.coord.works x.transaction.0) (ends_in (sid s) steps + ends_by (sid s) e)
   pub legal : (later : List Mark) → EachMark (Given script) steps e [] turn.marks later
+  pub rest : AreCommandsTold script steps → (later : List Mark) → EachMark (Rest script) steps e [] turn.marks later
   pub outs : Each (OutIs script (marks_in steps ++ turn.marks)) turn.outs
   pub orders : CommandIs script (marks_in steps ++ turn.marks) (c.works g).command → CommandIs script (marks_in steps ++ turn.marks) (turn.coord.works g).command
+  pub gathers : GathersIn script (HeardNow steps e) (gx g) (c.works g).command → GathersIn script (HeardNow steps e) (gx g) (turn.coord.works g).command
+  pub owned : OwnIn (gx g) (c.works g) → OwnIn (gx g) (turn.coord.works g)
+  pub sent : Each (OutAwaits turn.coord) turn.outs
+  pub keeps : (k : Cid) (i : Node) (level : Level) → IsAwaited (c.works g) k i level → IsAwaited (turn.coord.works g) k i level ⊎ IsSettled (HeardNow steps e) turn.marks (gx g) k i
 
 -- AN EVENT OF NO SESSION
 abbrev pub Quiet : Mark → Type 0
@@ -100,6 +110,7 @@ pub record Rests (script : Script) (steps : List Step) (c : Coord) (e : Event) (
   pub quiet : Each Quiet turn.marks
   pub alone : (k : SessionId) → (starts_by k e ≡ 0) × (ends_by k e ≡ 0)
   pub outs : ((j : ℕ) → CommandIs script (marks_in steps ++ turn.marks) (c.works j).command) → Each (OutIs script (marks_in steps ++ turn.marks)) turn.outs
+  pub sent : ((j : ℕ) → OwnIn (gx j) (c.works j)) → Each (OutAwaits c) turn.outs
 
 abbrev pub Effect : Script → List Step → Coord → Event → CoordTurn → Type 0
 Effect script steps c e turn = Does script steps c e turn ⊎ Rests script steps c e turn

@@ -1,5 +1,5 @@
 -- Marks that are legal if the rest is, step by step.
-use Rattle.std.proofs.Common.{◌≡◌, ℕ, List, [], ◌∷◌, ◌++◌, sym, subst, append_assoc, append-nil}
+use Rattle.std.proofs.Common.{ℕ, List, [], ◌∷◌, ◌++◌, sym, subst, append_assoc, append-nil}
 use Rattle.gx_script.specs.declared.Script.{Script}
 use Rattle.gx_msg.specs.declared.message.Out.{Out}
 use Rattle.gx_store.specs.declared.event.Event.{Event}
@@ -23,6 +23,10 @@ marks-append P steps event earlier (x ∷ xs) ys later h k = (
 pub sent-given : (script : Script) (steps : List Step) (event : Event) (f : ℕ → ℕ) (outs : List Out) (earlier later : List Mark) → EachMark (Given script) steps event earlier (numbered f outs) later
 sent-given script steps event f [] earlier later = tt
 sent-given script steps event f (o ∷ outs) earlier later = (λ r. tt, sent-given script steps event (counted f o) outs _ later)
+
+pub sent-rest : (script : Script) (steps : List Step) (event : Event) (f : ℕ → ℕ) (outs : List Out) (earlier later : List Mark) → EachMark (Rest script) steps event earlier (numbered f outs) later
+sent-rest script steps event f [] earlier later = tt
+sent-rest script steps event f (o ∷ outs) earlier later = (tt, sent-rest script steps event (counted f o) outs _ later)
 
 pub given-legal : (script : Script) (steps : List Step) (event : Event) (earlier ms later : List Mark) → EachMark (Given script) steps event earlier ms later → EachMark (Rest script) steps event earlier ms later → AreLegalMarks script steps event earlier ms later
 given-legal script steps event earlier [] later g r = tt

@@ -1,27 +1,23 @@
 -- Lines that start, and sessions that end.
-use Rattle.std.proofs.Common.{◌≡◌, ◌<◌, ◌≤◌, inl, inr, ℕ, ◌+◌, List, [], ◌∷◌, ◌++◌, Option, Some, None, Bool, true, false, refl, sym, subst, ap, ◌∙◌, if◌then◌else◌, ◌||◌, arith, eqb, append-nil}
+use Rattle.std.proofs.Common.{◌≡◌, ◌<◌, ◌≤◌, inl, inr, ℕ, ◌+◌, List, [], ◌∷◌, ◌++◌, Option, Some, None, true, false, refl, sym, subst, ap, ◌∙◌, if◌then◌else◌, arith, eqb, append-nil}
 use Rattle.std.proofs.lemmas.Bool.Decides.{nat_tests}
 use Rattle.std.proofs.lemmas.List.{append_assoc}
 use Rattle.gx_ids.specs.declared.ids.Cid.{Cid}
-use Rattle.gx_ids.specs.declared.ids.Gxid.{Gxid}
+use Rattle.gx_ids.specs.declared.ids.Node.{Node}
 use Rattle.gx_ids.specs.declared.ids.SessionId.{SessionId}
 use Rattle.gx_tree.specs.declared.stmt.Level.{Level}
 use Rattle.gx_tree.specs.declared.stmt.Level.TheVariants.{ReadCommitted, RepeatableRead}
 use Rattle.gx_tree.specs.declared.stmt.Stmt.{Stmt}
 use Rattle.gx_tree.specs.declared.stmt.Stmt.TheVariants as stmt
-use Rattle.gx_dtx.specs.Rules.{Turn, on_abort, on_commit}
-use Rattle.gx_dtx.specs.declared.outcome.Outcome.{Outcome}
-use Rattle.gx_dtx.specs.declared.outcome.Outcome.TheVariants as outcome
+use Rattle.gx_dtx.specs.Nodes.{has}
 use Rattle.gx_script.specs.declared.Script.{Script}
-use Rattle.gx_session.specs.Session.{after_line, block_after, idle_outside, line_step, pending_after}
+use Rattle.gx_session.specs.Session.{after_line, block_after, pending_after}
 use Rattle.gx_session.specs.declared.line_step.LineStep.{LineStep}
 use Rattle.gx_session.specs.declared.line_step.LineStep.TheVariants as step
-use Rattle.gx_session.specs.declared.line_step.Plain.TheVariants as plain
 use Rattle.gx_session.specs.declared.state.Block.{Block}
 use Rattle.gx_session.specs.declared.state.Block.TheVariants as block
 use Rattle.gx_session.specs.declared.state.Pending.{Pending}
 use Rattle.gx_session.specs.declared.state.Pending.TheVariants as pending
-use Rattle.gx_store.specs.declared.answer.Refused.TheVariants as refused
 use Rattle.gx_store.specs.declared.answer.StmtAnswer.{StmtAnswer}
 use Rattle.gx_store.specs.declared.answer.StmtAnswer.TheVariants as told
 use Rattle.gx_store.specs.declared.event.Event.TheVariants as event
@@ -29,29 +25,28 @@ use Rattle.gx_store.specs.declared.mark.Mark.{Mark}
 use Rattle.gx_store.specs.declared.mark.Mark.TheVariants as mark
 use Rattle.gx_store.specs.declared.run.Step.{Step}
 use Rattle.gx_store.specs.Answers.{IsAnswer}
-use Rattle.gx_store.specs.Lines.{BlockState, Outside, InBlock, Failed, began_from, cid_of, closes_block, is_command, is_on_rows, state_after, stmt_of, transaction_of}
+use Rattle.gx_store.specs.Lines.{Outside, InBlock, began_from, closes_block, is_command, is_on_rows, state_after}
 use Rattle.gx_store.specs.Marks.{answer_count, is_committed, is_ended, start_count, started_after}
-use Rattle.gx_store.specs.Points.{Point, ends_by, ends_in, marks_in, starts_by, starts_in}
-use Rattle.gx_rules.specs.AtCoordinator.{answer_at_commit, answer_mark, answers_at_once, begins, behind, commits, dispatches, ends_in as ends_session, follows, next_cid, next_line, on_line, rolls_back, starts, starts_line}
-use Rattle.gx_rules.specs.Coordinators.{Command, Coord, Session, Work, new_work, no_work, rests, session_of, with_session, with_state, work_of}
+use Rattle.gx_store.specs.Points.{ends_by, ends_in, marks_in, starts_by, starts_in}
+use Rattle.gx_rules.specs.AtCoordinator.{answer_mark, answers_at_once, begins, behind, dispatches, next_cid, next_line, starts_line}
+use Rattle.gx_rules.specs.Coordinators.{Command, Coord, Session, Work, new_work, session_of, work_of}
 use Rattle.gx_laws.proofs.Ends.{past-begun}
-use Rattle.gx_laws.proofs.Lists.{Each}
-use Rattle.gx_laws.proofs.Past.{Past}
-use Rattle.gx_laws.proofs.Sessions.{Kept, is_nothing_in, is_open_in, stage_of}
-use Rattle.gx_laws.proofs.Statuses.{Closes, Turned, commit-turns, stage}
-use Rattle.gx_laws.proofs.Statuses.Stage.{Live}
+use Rattle.gx_laws.proofs.Past.{Past, running-drawn}
+use Rattle.gx_laws.proofs.Sessions.{Kept, is_nothing_in}
+use Rattle.gx_laws.proofs.Statuses.{is_running}
 use Rattle.gx_laws.proofs.Turns.{merged, self-test}
-use Rattle.gx_histories.specs.Rest.{EachMark, RestAnswer}
-use Rattle.gx_histories.specs.Standing.{HasSnapshot, IsOver, IsSession, IsStanding, Owns, Roots, Stands, is_alone, is_busy, is_open, is_sound, level_in, state_in, under_way, waits}
-use Rattle.gx_histories.proofs.AtLine.{AtLine, answered-now, at-calm, at-start, legal-abort, legal-answer, legal-start, transaction-is}
+use Rattle.gx_histories.specs.Rest.{RestAnswer}
+use Rattle.gx_histories.specs.Standing.{HasSnapshot, IsSession, IsStanding, Owns, Roots, Stands, is_alone, is_busy, is_open, is_sound, level_in, state_in}
+use Rattle.gx_histories.proofs.AtLine.{AtLine, answered-now, at-start, legal-answer, legal-start}
+use Rattle.gx_histories.proofs.Awaited.{IsAwaited, own-none}
 use Rattle.gx_histories.proofs.Dispatch.{dispatch-does}
-use Rattle.gx_histories.proofs.Ends.{Fresh, IsOf, began-behind, ended-more, of-fresh, snapped-more, snapshot-more, unsnapped}
-use Rattle.gx_histories.proofs.Frame.{Does, owns-more, sid}
-use Rattle.gx_histories.proofs.Given.{Given}
-use Rattle.gx_histories.proofs.Outs.{CommandIs, OutIs, abort-plain, commit-plain}
-use Rattle.gx_histories.proofs.Roots.{roots-alone, roots-begin, roots-command, roots-commit, roots-other}
+use Rattle.gx_histories.proofs.Ends.{Fresh, began-behind, ended-more, of-fresh, snapped-more, snapshot-more, unsnapped}
+use Rattle.gx_histories.proofs.Frame.{Does, owns-more}
+use Rattle.gx_histories.proofs.Gathers.{GathersIn, HeardNow}
+use Rattle.gx_histories.proofs.Outs.{CommandIs}
+use Rattle.gx_histories.proofs.Roots.{roots-alone, roots-begin, roots-other}
 use Rattle.gx_histories.proofs.Said.{Said}
-use Rattle.gx_histories.proofs.Under.{Under, answered-self, closed-does, commit-does, stands-closed, x-is, home-is}
+use Rattle.gx_histories.proofs.Under.{Under}
 
 differ : false ≡ true → ⊥
 differ e = cc
@@ -99,28 +94,28 @@ module _ (script : Script) (steps : List Step) (c : Coord) (k : Kept c) (p : Pas
         none-some : (let o : Option Stmt = None in o) ≡ Some line → ⊥
         none-some h = cc
 
-    st : (ends_in s steps ≡ 0) × Stands script s ms next y.state.block pending.Nothing y.lines y.transaction (work_of c y.transaction)
+    pub st : (ends_in s steps ≡ 0) × Stands script s ms next y.state.block pending.Nothing y.lines y.transaction (work_of c y.transaction)
     st = open-line all.stands
 
     commands : ℕ
     commands = st.1.commands
 
-    plus-none : (a n : ℕ) → a + 0 ≡ n → a ≡ n
+    pub plus-none : (a n : ℕ) → a + 0 ≡ n → a ≡ n
     plus-none a n h = omega arith
 
-    started : starts_in s steps + starts_by s e ≡ y.lines + 1
+    pub started : starts_in s steps + starts_by s e ≡ y.lines + 1
     started = ap (λ q. starts_in s steps + (if q then 1 else 0)) (self-test s.0) ∙ ap (λ i. i + 1) all.starts
 
-    ended : ends_in s steps + ends_by s e ≡ 0
+    pub ended : ends_in s steps + ends_by s e ≡ 0
     ended = more (ends_in s steps) st.0
       where
         more : (a : ℕ) → a ≡ 0 → a + 0 ≡ 0
         more a h = omega arith
 
-    others : (j : SessionId) → eqb j.0 s.0 ≡ false → (starts_by j e ≡ 0) × (ends_by j e ≡ 0)
+    pub others : (j : SessionId) → eqb j.0 s.0 ≡ false → (starts_by j e ≡ 0) × (ends_by j e ≡ 0)
     others j h = (ap (λ q. if q then 1 else 0) (test-apart j.0 s.0 h), refl)
 
-    at-zero : AtLine script steps e s line y.lines (state_in y.state.block st.1.commands) false (started_after s None ms) []
+    pub at-zero : AtLine script steps e s line y.lines (state_in y.state.block st.1.commands) false (started_after s None ms) []
     at-zero =
         record {
           said = subst (λ m. Said script s m y.lines (state_in y.state.block st.1.commands) false (started_after s None ms)) (sym (append-nil ms))
@@ -129,12 +124,12 @@ module _ (script : Script) (steps : List Step) (c : Coord) (k : Kept c) (p : Pas
           is_line = is_next;
         }
 
-    session-now : (asked : LineStep) → session_of (starts_line c s asked) s ≡ moved asked
+    pub session-now : (asked : LineStep) → session_of (starts_line c s asked) s ≡ moved asked
     session-now asked = ap (λ q. if q then moved asked else y) (self-test s.0)
 
     -- ANSWERED AT ONCE
-    at-once : (asked : LineStep) (r : StmtAnswer) (B : Block) → pending_after asked ≡ pending.Nothing → block_after y.state.block asked ≡ B → (is_open B ≡ true → y.state.block ≡ B) → (is_open B ≡ true → (is_command (InBlock ReadCommitted 0) line ≡ false) × (closes_block line ≡ false)) → ((later : List Mark) → IsAnswer script (record { steps = steps; event = e; earlier = []; later = later }) s (state_in y.state.block st.1.commands) line r) → state_after (state_in y.state.block st.1.commands) line r ≡ state_in B st.1.commands → Does script steps c e (answers_at_once (starts_line c s asked) s r)
-    at-once asked r B waiting stays same quiet is after =
+    pub at-once : (asked : LineStep) (r : StmtAnswer) (B : Block) → pending_after asked ≡ pending.Nothing → block_after y.state.block asked ≡ B → (is_open B ≡ true → y.state.block ≡ B) → (is_open B ≡ true → (is_command (InBlock ReadCommitted 0) line ≡ false) × (closes_block line ≡ false)) → ((later : List Mark) → IsAnswer script (record { steps = steps; event = e; earlier = []; later = later }) s (state_in y.state.block st.1.commands) line r) → state_after (state_in y.state.block st.1.commands) line r ≡ state_in B st.1.commands → ((later : List Mark) → RestAnswer script (record { steps = steps; event = e; earlier = []; later = later }) s r) → Does script steps c e (answers_at_once (starts_line c s asked) s r)
+    at-once asked r B waiting stays same quiet is after rest =
         record {
           s = s.0;
           g = next;
@@ -149,8 +144,13 @@ module _ (script : Script) (steps : List Step) (c : Coord) (k : Kept c) (p : Pas
           starts = started;
           stands = inl (ended, subst (λ q. Stands script s late next q (pending_after asked) (y.lines + 1) y.transaction (work_of c y.transaction)) (sym stays) (subst (λ q. Stands script s late next B q (y.lines + 1) y.transaction (work_of c y.transaction)) (sym waiting) there));
           legal = λ later. (λ q. legal-answer script steps e s line y.lines (state_in y.state.block st.1.commands) false (started_after s None ms) [] at-zero later lines r numbered (is later), tt);
+          rest = λ t later. (rest later, tt);
           outs = tt;
+          owned = λ h. h;
+          sent = tt;
+          keeps = λ a i level q. inl q;
           orders = λ h. h;
+          gathers = λ h. h;
         }
       where
         lines : ℕ
@@ -175,10 +175,12 @@ module _ (script : Script) (steps : List Step) (c : Coord) (k : Kept c) (p : Pas
 
         owns : is_busy B pending.Nothing ≡ true → Owns s st.1.commands (ms ++ answer_mark (starts_line c s asked) s r ∷ []) next B y.transaction (work_of c y.transaction) × ((work_of c y.transaction).command ≡ None) × Roots script s (ms ++ answer_mark (starts_line c s asked) s r ∷ []) B pending.Nothing (y.lines + 1) y.transaction (work_of c y.transaction)
         owns h =
-            let old = st.1.owns (subst (λ q. is_busy q pending.Nothing ≡ true) (sym (same (busy-open B h))) h) in
-            (subst (λ q. Owns s st.1.commands (ms ++ answer_mark (starts_line c s asked) s r ∷ []) next q y.transaction (work_of c y.transaction)) (same (busy-open B h)) (owns-more script s st.1.commands ms (answer_mark (starts_line c s asked) s r ∷ []) next next y.state.block y.transaction (work_of c y.transaction) old.0 (le-same next) said.started refl refl), old.1,
-            subst (λ q. Roots script s (ms ++ answer_mark (starts_line c s asked) s r ∷ []) q pending.Nothing (y.lines + 1) y.transaction (work_of c y.transaction)) (same (busy-open B h))
-            (roots-other script s ms (answer_mark (starts_line c s asked) s r ∷ []) y.state.block y.lines y.transaction (work_of c y.transaction) line (subst (λ q. is_open q ≡ true) (sym (same (busy-open B h))) (busy-open B h)) old.2 is_next (quiet (busy-open B h)).0 (quiet (busy-open B h)).1))
+            let old = st.1.owns (subst (λ q. is_busy q pending.Nothing ≡ true) (sym (same (busy-open B h))) h) in (
+              subst (λ q. Owns s st.1.commands (ms ++ answer_mark (starts_line c s asked) s r ∷ []) next q y.transaction (work_of c y.transaction)) (same (busy-open B h)) (owns-more script s st.1.commands ms (answer_mark (starts_line c s asked) s r ∷ []) next next y.state.block y.transaction (work_of c y.transaction) old.0 (le-same next) said.started refl refl),
+              old.1,
+              subst (λ q. Roots script s (ms ++ answer_mark (starts_line c s asked) s r ∷ []) q pending.Nothing (y.lines + 1) y.transaction (work_of c y.transaction)) (same (busy-open B h))
+                  (roots-other script s ms (answer_mark (starts_line c s asked) s r ∷ []) y.state.block y.lines y.transaction (work_of c y.transaction) line (subst (λ q. is_open q ≡ true) (sym (same (busy-open B h))) (busy-open B h)) old.2 is_next (quiet (busy-open B h)).0 (quiet (busy-open B h)).1),
+            )
 
         there : Stands script s (ms ++ answer_mark (starts_line c s asked) s r ∷ []) next B pending.Nothing (y.lines + 1) y.transaction (work_of c y.transaction)
         there =
@@ -234,13 +236,26 @@ module _ (script : Script) (steps : List Step) (c : Coord) (k : Kept c) (p : Pas
         by_level ReadCommitted = refl
         by_level RepeatableRead = snapshot-more ms ns c.table.next (fr.unread c.table.next (le-same next)) unread
 
+    -- nothing is awaited of a transaction that isn't drawn
+    undrawn-unawaited : (a : Cid) (i : Node) (level : Level) → IsAwaited (c.works c.table.next.0) a i level → ⊥
+    undrawn-unawaited a i level q = not-less (running-drawn c c.table.next.0 k.whole (ap is_running ((k.tied c.table.next.0).awaits q.its q.is some-left).0)).1
+      where
+        none-has : has i [] ≡ true → ⊥
+        none-has z = grind arith
+
+        some-left : q.its.awaited ≡ [] → ⊥
+        some-left z = none-has (sym (ap (has i) z) ∙ q.awaits)
+
+        not-less : c.table.next.0 < c.table.next.0 → ⊥
+        not-less l = omega arith
+
     fresh-began : (ns : List Mark) → began_from [] (ms ++ begun ∷ ns) c.table.next ≡ Some (s, y.lines + 1)
     fresh-began ns =
         began-behind [] ms (begun ∷ ns) c.table.next (fr.unstarted c.table.next (le-same next))
         ∙ ap (λ q. if q then (let o : Option (SessionId × ℕ) = Some (s, answer_count s ms + 1) in o) else began_from (ms ++ begun ∷ []) ns c.table.next) (self-test c.table.next.0)
         ∙ ap (λ i. let o : Option (SessionId × ℕ) = Some (s, i + 1) in o) (plus-none _ _ st.1.answered)
 
-    begin-does : (level : Level) → line ≡ stmt.Begin level → block.Outside ≡ y.state.block → Does script steps c e (behind (begun ∷ []) (answers_at_once (begins (starts_line c s (step.BeginBlock level)) s level) s told.Begin))
+    pub begin-does : (level : Level) → line ≡ stmt.Begin level → block.Outside ≡ y.state.block → Does script steps c e (behind (begun ∷ []) (answers_at_once (begins (starts_line c s (step.BeginBlock level)) s level) s told.Begin))
     begin-does level is outside =
         record {
           s = s.0;
@@ -256,8 +271,13 @@ module _ (script : Script) (steps : List Step) (c : Coord) (k : Kept c) (p : Pas
           starts = started;
           stands = inl (ended, subst (λ q. Stands script s late (next + 1) (block_after q asked) pending.Nothing (y.lines + 1) c.table.next (c1.works next)) outside (subst (λ v. Stands script s late (next + 1) (block.Open level) pending.Nothing (y.lines + 1) c.table.next v) (sym (fresh-work asked level)) there));
           legal = λ later. (λ q. start-given _ outside (ap (Rattle.gx_store.specs.Legal.draws Outside) is), (λ q. legal-answer script steps e s line y.lines Outside true (Some c.table.next) (begun ∷ []) (at-begun outside) later _ told.Begin numbered (subst (λ l. IsAnswer script (record { steps = steps; event = e; earlier = begun ∷ []; later = later }) s Outside l told.Begin) (sym is) (at-begun outside).said.begun), tt));
+          rest = λ t later. (tt, (tt, tt));
           outs = tt;
+          owned = λ h. own-none c.table.next (c1.works c.table.next.0) (ap (λ (v : Work). v.command) (fresh-work asked level));
+          sent = tt;
+          keeps = λ a i level q. absurd (undrawn-unawaited a i level q);
           orders = λ h. subst (CommandIs script late) (sym (ap (λ (v : Work). v.command) (fresh-work asked level))) tt;
+          gathers = λ h. subst (GathersIn script (HeardNow steps e) c.table.next) (sym (ap (λ (v : Work). v.command) (fresh-work asked level))) tt;
         }
       where
         asked : LineStep
@@ -283,18 +303,25 @@ module _ (script : Script) (steps : List Step) (c : Coord) (k : Kept c) (p : Pas
         there : Stands script s (ms ++ begun ∷ answer_mark (begins (starts_line c s (step.BeginBlock level)) s level) s told.Begin ∷ []) (next + 1) (block.Open level) pending.Nothing (y.lines + 1) c.table.next (new_work s level)
         there =
             record {
-              commands = 0; answered = same-plus _ _ said.answered; state = said.state; begun = said.begun; sound = refl;
-              owns = λ h. (fresh-owns level (block.Open level) 0 (begun ∷ answer_mark (begins (starts_line c s (step.BeginBlock level)) s level) s told.Begin ∷ []) refl refl said.started refl refl, refl,
-                  roots-begin script s (ms ++ begun ∷ answer_mark (begins (starts_line c s (step.BeginBlock level)) s level) s told.Begin ∷ []) level (y.lines + 1) c.table.next (new_work s level) (fresh-began _) (is_next ∙ ap (λ q. Some q) is) refl);
+              commands = 0;
+              answered = same-plus _ _ said.answered;
+              state = said.state;
+              begun = said.begun;
+              sound = refl;
+              owns = λ h. (
+                fresh-owns level (block.Open level) 0 (begun ∷ answer_mark (begins (starts_line c s (step.BeginBlock level)) s level) s told.Begin ∷ []) refl refl said.started refl refl,
+                refl,
+                roots-begin script s (ms ++ begun ∷ answer_mark (begins (starts_line c s (step.BeginBlock level)) s level) s told.Begin ∷ []) level (y.lines + 1) c.table.next (new_work s level) (fresh-began _) (is_next ∙ ap (λ q. Some q) is) refl,
+              );
             }
 
     -- A COMMAND OUTSIDE A BLOCK
-    alone-does : block.Outside ≡ y.state.block → is_command Outside line ≡ true → Rattle.gx_store.specs.Legal.draws Outside line ≡ true → Does script steps c e (behind (begun ∷ []) (dispatches script (begins (starts_line c s (step.Command true)) s ReadCommitted) c.table.next line))
+    pub alone-does : block.Outside ≡ y.state.block → is_command Outside line ≡ true → Rattle.gx_store.specs.Legal.draws Outside line ≡ true → Does script steps c e (behind (begun ∷ []) (dispatches script (begins (starts_line c s (step.Command true)) s ReadCommitted) c.table.next line))
     alone-does outside cmd d =
         dispatch-does script steps c c1 s c.table.next (fresh asked) y.lines block.Outside 0 line (begun ∷ []) under (ap (λ q. block_after q asked) (sym outside)) refl refl cmd
         (subst (λ v. Owns s 0 (ms ++ begun ∷ []) (next + 1) block.Outside c.table.next v) (sym (fresh-work asked ReadCommitted)) (fresh-owns ReadCommitted block.Outside 0 (begun ∷ []) refl refl (at-begun outside).said.started refl refl))
         (ap (λ (v : Work). v.command) (fresh-work asked ReadCommitted)) (ap (λ (v : Work). next_cid v) (sym (fresh-work asked ReadCommitted)))
-        (past-begun c c1 ms (begun ∷ []) p k.whole refl (tt, tt)) roots
+        (past-begun c c1 ms (begun ∷ []) p k.whole refl (tt, tt)) roots undrawn-unawaited
       where
         asked : LineStep
         asked = step.Command true
@@ -321,6 +348,7 @@ module _ (script : Script) (steps : List Step) (c : Coord) (k : Kept c) (p : Pas
               running = ended-more ms (begun ∷ []) c.table.next (fr.unended c.table.next (le-same next)) refl;
               of = ((refl, refl), tt);
               legal = λ later. (λ q. start-given _ outside d, tt);
+              rests = λ later. (tt, tt);
             }
 
         one : (a : ℕ) → a ≡ 0 → a + 1 ≡ 1
@@ -330,210 +358,3 @@ module _ (script : Script) (steps : List Step) (c : Coord) (k : Kept c) (p : Pas
         roots m v ns same number last has =
             roots-alone script s ((ms ++ begun ∷ []) ++ ns) (y.lines + 1) c.table.next v m (ap (λ z. began_from [] z c.table.next) (append_assoc ms (begun ∷ []) ns) ∙ fresh-began ns) (is_next ∙ ap (λ q. Some q) (sym same)) (ap is_on_rows same ∙ cmd) has
             (ap (λ (z : Cid). z.0) number ∙ one _ (ap (λ (z : Work). z.last) (fresh-work (step.Command true) ReadCommitted)))
-
-    -- A LINE IN A BLOCK
-    abbrev g : Gxid
-    g = y.transaction
-
-    own : (l : Level) → block.Open l ≡ y.state.block → Owns s st.1.commands ms next (block.Open l) g (work_of c g) × ((work_of c g).command ≡ None)
-    own l eb =
-        let o = st.1.owns (subst (λ q. is_busy q pending.Nothing ≡ true) eb refl) in
-        (subst (λ q. Owns s st.1.commands ms next q g (work_of c g)) (sym eb) o.0, o.1)
-
-    own-roots : (l : Level) → block.Open l ≡ y.state.block → Roots script s ms (block.Open l) pending.Nothing y.lines g (work_of c g)
-    own-roots l eb = subst (λ q. Roots script s ms q pending.Nothing y.lines g (work_of c g)) (sym eb) (st.1.owns (subst (λ q. is_busy q pending.Nothing ≡ true) eb refl)).2
-
-    at-own : (l : Level) → block.Open l ≡ y.state.block → AtLine script steps e s line y.lines (InBlock l st.1.commands) false (Some g) []
-    at-own l eb =
-        subst (λ q. AtLine script steps e s line y.lines (InBlock l st.1.commands) false q []) (own l eb).0.started
-        (subst (λ q. AtLine script steps e s line y.lines (state_in q st.1.commands) false (started_after s None ms) []) (sym eb) at-zero)
-
-    own-late : (l : Level) → block.Open l ≡ y.state.block → Owns s st.1.commands (ms ++ []) next (block.Open l) g (work_of c g)
-    own-late l eb = subst (λ m. Owns s st.1.commands m next (block.Open l) g (work_of c g)) (sym (append-nil ms)) (own l eb).0
-
-    under-own : (asked : LineStep) (l : Level) → block.Open l ≡ y.state.block → Under script steps c e (starts_line c s asked) s g (work_of c g) (moved asked) y.lines (InBlock l st.1.commands) false line []
-    under-own asked l eb =
-        record {
-          work = refl; works = λ j h. refl; sessions = λ j. refl; home = (own l eb).0.home; its = refl; lines = refl; next = le-same next; drawn = (own l eb).0.drawn;
-          whose = inl (ap (λ (i : SessionId). i.0) (own l eb).0.home); ends = ended; alone = others; at = at-own l eb; has = refl; running = (own-late l eb).running; of = tt; legal = λ later. tt;
-        }
-
-    transaction-now : (asked : LineStep) → (session_of (starts_line c s asked) s).transaction ≡ g
-    transaction-now asked = ap (λ (z : Session). z.transaction) (session-now asked)
-
-    -- COMMIT
-    module _ (l : Level) (eb : block.Open l ≡ y.state.block) (is : line ≡ stmt.Commit) where
-      abbrev c1 : Coord
-      c1 = starts_line c s step.CommitBlock
-
-      abbrev turn : Turn
-      turn = on_commit c.table g (work_of c g).writers
-
-      closes-now : Turned c.table g.0 turn (λ a b o. Closes b o)
-      closes-now = commit-turns c.table g.0 (work_of c g).writers k.whole ((k.placed s.0).free (subst (λ q. is_open_in q ≡ true) eb refl) idle)
-
-      waits-does : Does script steps c e (follows c1 g turn outcome.Pending)
-      waits-does =
-          record {
-            s = s.0; g = g.0; x = moved step.CommitBlock; sessions = λ j. refl; works = λ j h. refl; next = le-same next; whose = inl (ap (λ (i : SessionId). i.0) (own l eb).0.home); of = tt;
-            fresh = record { unended = λ h m. refl; unread = λ h m. refl; unstarted = λ h m. refl }; alone = others; starts = started;
-            stands = inl (ended, subst (λ q. Stands script s (ms ++ []) next (block_after q step.CommitBlock) pending.Commit (y.lines + 1) g (work_of c g)) eb
-                (record {
-                  commands = st.1.commands; answered = ap (λ i. i + 1) (at-own l eb).said.answered; state = (at-own l eb).said.state; begun = (at-own l eb).said.begun; sound = refl;
-                  owns = λ h. (own-late l eb, ((own l eb).1, is_next ∙ ap (λ q. Some q) is), roots-commit script s ms [] l y.lines g (work_of c g) (own-roots l eb));
-                }));
-            legal = λ later. tt;
-            outs = commit-plain script (ms ++ []) c.table g (work_of c g).writers;
-            orders = λ h. h;
-          }
-
-      ends-does : Does script steps c e (follows c1 g turn outcome.Committed)
-      ends-does =
-          commit-does script steps c e c1 s g (work_of c g) (moved step.CommitBlock) y.lines (InBlock l st.1.commands) false line [] (under-own step.CommitBlock l eb) turn refl
-          (subst (λ q. Rattle.gx_store.specs.Legal.may_commit (InBlock l st.1.commands) q ≡ true) (sym is) refl) refl
-          (subst (λ q. state_after (InBlock l st.1.commands) q r ≡ Outside) (sym is) refl)
-          (λ later q. subst (λ z. IsAnswer script (point later) s (InBlock l st.1.commands) line z) (sym told-is) (subst (λ z. IsAnswer script (point later) s (InBlock l st.1.commands) z told.Commit) (sym is) (committed later)))
-          (λ marks. commit-plain script marks c.table g (work_of c g).writers)
-        where
-          r : StmtAnswer
-          r = answer_at_commit (work_of (starts_line c s step.CommitBlock) g) (session_of (starts_line c s step.CommitBlock) (work_of (starts_line c s step.CommitBlock) g).session).state.pending
-
-          point : List Mark → Point
-          point later = record { steps = steps; event = event.Start s; earlier = mark.Commit g ∷ []; later = later }
-
-          told-is : answer_at_commit (work_of (starts_line c s step.CommitBlock) g) (session_of (starts_line c s step.CommitBlock) (work_of (starts_line c s step.CommitBlock) g).session).state.pending ≡ told.Commit
-          told-is =
-              ap (λ i. answer_at_commit (work_of c g) (session_of (starts_line c s step.CommitBlock) i).state.pending) (own l eb).0.home
-              ∙ ap (λ (z : Session). answer_at_commit (work_of c g) z.state.pending) (session-now step.CommitBlock)
-
-          committed : (later : List Mark) → IsAnswer script (record { steps = steps; event = event.Start s; earlier = mark.Commit g ∷ []; later = later }) s (InBlock l st.1.commands) stmt.Commit told.Commit
-          committed later =
-              let a2 = at-calm script steps e s line y.lines (InBlock l st.1.commands) false (Some g) [] (mark.Commit g ∷ []) (at-own l eb) (tt, tt) in
-              record {
-                g = g;
-                transaction = subst (λ z. transaction_of z s (ms ++ mark.Commit g ∷ []) ≡ Some g) a2.said.state (transaction-is script steps e s line y.lines (InBlock l st.1.commands) false (Some g) (mark.Commit g ∷ []) a2 later g refl refl);
-                committed = ap (λ q. q || false) (self-test g.0);
-              }
-
-      by_outcome : (o : Outcome) → turn.out.outcome ≡ o → Closes (stage closes-now.now) o → Does script steps c e (follows c1 g turn o)
-      by_outcome outcome.Pending q h = waits-does
-      by_outcome outcome.Committed q h = ends-does
-      by_outcome outcome.Decided q h = absurd h
-      by_outcome (outcome.Refused i) q h = absurd h
-      by_outcome outcome.Ended q h = absurd h
-
-      close-does : Does script steps c e (commits c1 (session_of c1 s).transaction)
-      close-does = subst (λ q. Does script steps c e (commits c1 q)) (sym (transaction-now step.CommitBlock)) (by_outcome turn.out.outcome refl closes-now.how)
-
-    -- ROLLBACK
-    back-does : (l : Level) → block.Open l ≡ y.state.block → line ≡ stmt.Rollback → Does script steps c e (rolls_back (starts_line c s step.RollbackBlock) (session_of (starts_line c s step.RollbackBlock) s).transaction (answer_mark (starts_line c s step.RollbackBlock) s told.Rollback ∷ []) (on_abort c.table (session_of (starts_line c s step.RollbackBlock) s).transaction))
-    back-does l eb is =
-        subst (λ q. Does script steps c e (rolls_back c1 q (answer_mark c1 s told.Rollback ∷ []) (on_abort c.table q))) (sym (transaction-now step.RollbackBlock))
-        (closed-does script steps c e c1 s g (work_of c g) (moved step.RollbackBlock) y.lines (InBlock l st.1.commands) false line [] (under-own step.RollbackBlock l eb)
-        (rolls_back c1 g (answer_mark c1 s told.Rollback ∷ []) (on_abort c.table g)) (moved step.RollbackBlock) block.Outside (λ j. refl) (λ j h. ap (λ q. if q then no_work else c.works j) h) refl
-        (subst (λ q. block_after q step.RollbackBlock ≡ block.Outside) eb refl) refl refl refl (refl, (refl, tt)) legal said (abort-plain script _ c.table g) (ap (λ (z : Work). z.command) (ap (λ q. if q then no_work else c.works g.0) (self-test g.0))))
-      where
-        c1 : Coord
-        c1 = starts_line c s step.RollbackBlock
-
-        numbered : (session_of (starts_line c s step.RollbackBlock) s).lines ≡ y.lines + 1
-        numbered = ap (λ (z : Session). z.lines) (session-now step.RollbackBlock)
-
-        a2 : AtLine script steps (event.Start s) s line y.lines (InBlock l st.1.commands) false (Some g) (mark.Abort g ∷ [])
-        a2 = at-calm script steps e s line y.lines (InBlock l st.1.commands) false (Some g) [] (mark.Abort g ∷ []) (at-own l eb) (tt, tt)
-
-        said : Said script s (ms ++ mark.Abort g ∷ answer_mark (starts_line c s step.RollbackBlock) s told.Rollback ∷ []) (y.lines + 1) Outside false (Some g)
-        said =
-            subst (λ q. Said script s (ms ++ mark.Abort g ∷ answer_mark (starts_line c s step.RollbackBlock) s told.Rollback ∷ []) (y.lines + 1) (state_after (InBlock l st.1.commands) q told.Rollback) false (Some g)) is
-            (answered-now script steps e s line y.lines (InBlock l st.1.commands) false (Some g) (mark.Abort g ∷ []) a2 _ told.Rollback numbered)
-
-        legal : (later : List Mark) → EachMark (Given script) steps (event.Start s) [] (mark.Abort g ∷ answer_mark (starts_line c s step.RollbackBlock) s told.Rollback ∷ []) later
-        legal later = (
-          λ q. legal-abort script steps e s line y.lines (InBlock l st.1.commands) false (Some g) [] (at-own l eb) (answer_mark (starts_line c s step.RollbackBlock) s told.Rollback ∷ later) g refl refl (own-late l eb).running (subst (λ z. Rattle.gx_store.specs.Legal.may_abort (InBlock l st.1.commands) z ≡ true) (sym is) refl) (answered-self s (session_of (starts_line c s step.RollbackBlock) s).lines told.Rollback later),
-          (λ q. legal-answer script steps e s line y.lines (InBlock l st.1.commands) false (Some g) (mark.Abort g ∷ []) a2 later (session_of (starts_line c s step.RollbackBlock) s).lines told.Rollback numbered
-          (subst (λ z. IsAnswer script (record { steps = steps; event = event.Start s; earlier = mark.Abort g ∷ []; later = later }) s (InBlock l st.1.commands) z told.Rollback) (sym is)
-          (record {
-            g = g;
-            transaction = subst (λ z. transaction_of z s (ms ++ mark.Abort g ∷ []) ≡ Some g) a2.said.state (transaction-is script steps e s line y.lines (InBlock l st.1.commands) false (Some g) (mark.Abort g ∷ []) a2 later g refl refl);
-            aborted = ap (λ q. q || false) (self-test g.0);
-          })), tt),
-        )
-
-    -- A COMMAND IN A BLOCK
-    inside-does : (l : Level) → block.Open l ≡ y.state.block → is_command (InBlock l st.1.commands) line ≡ true → Does script steps c e (dispatches script (starts_line c s (step.Command false)) (session_of (starts_line c s (step.Command false)) s).transaction line)
-    inside-does l eb cmd =
-        subst (λ q. Does script steps c e (dispatches script (starts_line c s (step.Command false)) q line)) (sym (transaction-now (step.Command false)))
-        (dispatch-does script steps c (starts_line c s (step.Command false)) s g (moved (step.Command false)) y.lines (block.Open l) st.1.commands line [] (under-own (step.Command false) l eb)
-        (subst (λ q. block_after q (step.Command false) ≡ block.Open l) eb refl) refl refl cmd (own-late l eb) (own l eb).1
-        (ap (λ i. let d : Cid = record { 0 = i + 1 } in d) (same-plus st.1.commands _ (sym (ap (λ q. st.1.commands + under_way q) (own l eb).1) ∙ (own l eb).0.counted refl)))
-        (subst (λ m. Past (starts_line c s (step.Command false)) m) (sym (append-nil ms)) (record { committed = p.committed; ended = p.ended; dropped = p.dropped; latest = p.latest; drawn = p.drawn })) roots)
-      where
-        command-any : (q : Stmt) → is_command (InBlock l st.1.commands) q ≡ is_command (InBlock ReadCommitted 0) q
-        command-any (stmt.Begin v) = refl
-        command-any stmt.Commit = refl
-        command-any stmt.Rollback = refl
-        command-any (stmt.Select q) = refl
-        command-any (stmt.Insert t x) = refl
-        command-any (stmt.Update t x z) = refl
-        command-any (stmt.Delete t x) = refl
-        command-any (stmt.Lock t m) = refl
-
-        roots : (m : Command) (v : Work) (ns : List Mark) → m.stmt ≡ line → m.cid ≡ next_cid (work_of c g) → v.last ≡ (work_of c g).last + 1 → v.command ≡ Some m → Roots script s ((ms ++ []) ++ ns) (block.Open l) pending.Command (y.lines + 1) g v
-        roots m v ns same number last has =
-            subst (λ z. Roots script s (z ++ ns) (block.Open l) pending.Command (y.lines + 1) g v) (sym (append-nil ms))
-            (roots-command script s ms ns l y.lines g (work_of c g) v m (own-roots l eb) (is_next ∙ ap (λ q. Some q) (sym same)) (ap (is_command (InBlock ReadCommitted 0)) same ∙ sym (command-any line) ∙ cmd) last has (ap (λ (z : Cid). z.0) number))
-
-        same-plus : (a n : ℕ) → a + 0 ≡ n → a ≡ n
-        same-plus a n h = omega arith
-
-    -- EACH LINE
-    simply : (b : Block) (asked : LineStep) (r : StmtAnswer) (l : Stmt) → b ≡ y.state.block → line ≡ l → pending_after asked ≡ pending.Nothing → (is_open (block_after b asked) ≡ true → b ≡ block_after b asked) → (is_open (block_after b asked) ≡ true → (is_command (InBlock ReadCommitted 0) l ≡ false) × (closes_block l ≡ false)) → ((later : List Mark) → IsAnswer script (record { steps = steps; event = e; earlier = []; later = later }) s (state_in b st.1.commands) l r) → state_after (state_in b st.1.commands) l r ≡ state_in (block_after b asked) st.1.commands → Does script steps c e (answers_at_once (starts_line c s asked) s r)
-    simply b asked r l eb el waiting same quiet is after =
-        at-once asked r (block_after b asked) waiting (ap (λ q. block_after q asked) (sym eb)) (λ h. sym eb ∙ same h) (λ h. (ap (is_command (InBlock ReadCommitted 0)) el ∙ (quiet h).0, ap closes_block el ∙ (quiet h).1))
-        (λ later. subst (λ q. IsAnswer script (record { steps = steps; event = e; earlier = []; later = later }) s (state_in q st.1.commands) line r) eb (subst (λ q. IsAnswer script (record { steps = steps; event = e; earlier = []; later = later }) s (state_in b st.1.commands) q r) (sym el) (is later)))
-        (subst (λ q. state_after (state_in q st.1.commands) line r ≡ state_in (block_after b asked) st.1.commands) eb (subst (λ q. state_after (state_in b st.1.commands) q r ≡ state_in (block_after b asked) st.1.commands) (sym el) after))
-
-    alone-line : (l : Stmt) → block.Outside ≡ y.state.block → line ≡ l → is_command Outside l ≡ true → Rattle.gx_store.specs.Legal.draws Outside l ≡ true → Does script steps c e (behind (begun ∷ []) (dispatches script (begins (starts_line c s (step.Command true)) s ReadCommitted) c.table.next l))
-    alone-line l eb el cmd d =
-        subst (λ q. Does script steps c e (behind (begun ∷ []) (dispatches script (begins (starts_line c s (step.Command true)) s ReadCommitted) c.table.next q))) el
-        (alone-does eb (ap (is_command Outside) el ∙ cmd) (ap (Rattle.gx_store.specs.Legal.draws Outside) el ∙ d))
-
-    inside-line : (l : Level) (q : Stmt) → block.Open l ≡ y.state.block → line ≡ q → is_command (InBlock l st.1.commands) q ≡ true → Does script steps c e (dispatches script (starts_line c s (step.Command false)) (session_of (starts_line c s (step.Command false)) s).transaction q)
-    inside-line l q eb el cmd =
-        subst (λ z. Does script steps c e (dispatches script (starts_line c s (step.Command false)) (session_of (starts_line c s (step.Command false)) s).transaction z)) el
-        (inside-does l eb (ap (is_command (InBlock l st.1.commands)) el ∙ cmd))
-
-    line-does : (b : Block) (l : Stmt) → b ≡ y.state.block → line ≡ l → Does script steps c e (on_line script (starts_line c s (line_step b l)) s l (line_step b l))
-    line-does block.Outside (stmt.Begin level) eb el = begin-does level el eb
-    line-does block.Outside stmt.Commit eb el = simply block.Outside (step.Answer plain.Commit) told.Commit stmt.Commit eb el refl (λ h. refl) (λ h. absurd (differ h)) (λ later. tt) refl
-    line-does block.Outside stmt.Rollback eb el = simply block.Outside (step.Answer plain.Rollback) told.Rollback stmt.Rollback eb el refl (λ h. refl) (λ h. absurd (differ h)) (λ later. tt) refl
-    line-does block.Outside (stmt.Lock t m) eb el = simply block.Outside step.Refuse7 (told.Refused refused.NotInBlock) (stmt.Lock t m) eb el refl (λ h. refl) (λ h. absurd (differ h)) (λ later. tt) refl
-    line-does block.Outside (stmt.Select q) eb el = alone-line (stmt.Select q) eb el refl refl
-    line-does block.Outside (stmt.Insert t x) eb el = alone-line (stmt.Insert t x) eb el refl refl
-    line-does block.Outside (stmt.Update t x z) eb el = alone-line (stmt.Update t x z) eb el refl refl
-    line-does block.Outside (stmt.Delete t x) eb el = alone-line (stmt.Delete t x) eb el refl refl
-    line-does (block.Open v) (stmt.Begin level) eb el = simply (block.Open v) (step.Answer plain.Begin) told.Begin (stmt.Begin level) eb el refl (λ h. refl) (λ h. (refl, refl)) (λ later. tt) refl
-    line-does (block.Open v) stmt.Commit eb el = close-does v eb el
-    line-does (block.Open v) stmt.Rollback eb el = back-does v eb el
-    line-does (block.Open v) (stmt.Lock t m) eb el = inside-line v (stmt.Lock t m) eb el refl
-    line-does (block.Open v) (stmt.Select q) eb el = inside-line v (stmt.Select q) eb el refl
-    line-does (block.Open v) (stmt.Insert t x) eb el = inside-line v (stmt.Insert t x) eb el refl
-    line-does (block.Open v) (stmt.Update t x z) eb el = inside-line v (stmt.Update t x z) eb el refl
-    line-does (block.Open v) (stmt.Delete t x) eb el = inside-line v (stmt.Delete t x) eb el refl
-    line-does block.Failed (stmt.Begin level) eb el = simply block.Failed step.Refuse5 (told.Refused refused.InFailedBlock) (stmt.Begin level) eb el refl (λ h. refl) (λ h. absurd (differ h)) (λ later. tt) refl
-    line-does block.Failed stmt.Commit eb el = simply block.Failed (step.Answer plain.Rollback) told.Rollback stmt.Commit eb el refl (λ h. absurd (differ h)) (λ h. absurd (differ h)) (λ later. tt) refl
-    line-does block.Failed stmt.Rollback eb el = simply block.Failed (step.Answer plain.Rollback) told.Rollback stmt.Rollback eb el refl (λ h. absurd (differ h)) (λ h. absurd (differ h)) (λ later. tt) refl
-    line-does block.Failed (stmt.Lock t m) eb el = simply block.Failed step.Refuse5 (told.Refused refused.InFailedBlock) (stmt.Lock t m) eb el refl (λ h. refl) (λ h. absurd (differ h)) (λ later. tt) refl
-    line-does block.Failed (stmt.Select q) eb el = simply block.Failed step.Refuse5 (told.Refused refused.InFailedBlock) (stmt.Select q) eb el refl (λ h. refl) (λ h. absurd (differ h)) (λ later. tt) refl
-    line-does block.Failed (stmt.Insert t x) eb el = simply block.Failed step.Refuse5 (told.Refused refused.InFailedBlock) (stmt.Insert t x) eb el refl (λ h. refl) (λ h. absurd (differ h)) (λ later. tt) refl
-    line-does block.Failed (stmt.Update t x z) eb el = simply block.Failed step.Refuse5 (told.Refused refused.InFailedBlock) (stmt.Update t x z) eb el refl (λ h. refl) (λ h. absurd (differ h)) (λ later. tt) refl
-    line-does block.Failed (stmt.Delete t x) eb el = simply block.Failed step.Refuse5 (told.Refused refused.InFailedBlock) (stmt.Delete t x) eb el refl (λ h. refl) (λ h. absurd (differ h)) (λ later. tt) refl
-
-    pub start-does : Does script steps c e (starts script c s (Some line))
-    start-does = line-does y.state.block line refl refl
-
-    pub start-idle : ends_in s steps ≡ 0
-    start-idle = st.0
-
-    pub start-counts : starts_in s steps ≡ Rattle.gx_store.specs.Marks.answer_count s ms
-    start-counts = all.starts ∙ sym (plus-none _ _ st.1.answered)

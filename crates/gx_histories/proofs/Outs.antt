@@ -1,5 +1,5 @@
 -- Orders that the coordinator sends.
-use Rattle.std.proofs.Common.{◌≡◌, ℕ, List, [], ◌∷◌, ◌++◌, Option, Some, None, Bool, true, false, refl, sym, subst, ap, ◌∙◌, if◌then◌else◌}
+use Rattle.std.proofs.Common.{◌≡◌, ℕ, List, [], ◌∷◌, ◌++◌, Option, Some, None, Bool, true, false, refl, sym, ap, ◌∙◌, if◌then◌else◌}
 use Rattle.gx_ids.specs.declared.ids.Cid.{Cid}
 use Rattle.gx_ids.specs.declared.ids.Gxid.{Gxid}
 use Rattle.gx_ids.specs.declared.ids.Node.{Node}
@@ -12,7 +12,7 @@ use Rattle.gx_dtx.specs.Nodes.{to_each, without}
 use Rattle.gx_dtx.specs.Rules.{abort_found, aborts, commit_found, commits, decides, ends_committed, finishes, forgets, gives_up, is_awaited, on_abort, on_commit, on_reply, prepares, reply_found, stays, takes}
 use Rattle.gx_dtx.specs.Table.{Table, find_txn}
 use Rattle.gx_dtx.specs.declared.phase.Phase.{Phase}
-use Rattle.gx_dtx.specs.declared.phase.Phase.TheVariants.{Active, Preparing, CommittingOne, CommittingTwo, Ended, Aborting}
+use Rattle.gx_dtx.specs.declared.phase.Phase.TheVariants.{Preparing, CommittingOne, CommittingTwo, Ended, Aborting}
 use Rattle.gx_dtx.specs.declared.txn.Txn.{Txn}
 use Rattle.gx_msg.specs.declared.message.Message.{Message}
 use Rattle.gx_msg.specs.declared.message.Message.TheVariants as message
@@ -92,7 +92,7 @@ command-more script ms ns None e = tt
 command-more script ms ns (Some m) e = outs-more script ms ns m.orders e
 
 -- WHAT IS SENT FOR STATUSES IS NO EXEC
-abbrev NoExec : Message → Type 0
+abbrev pub NoExec : Message → Type 0
 NoExec (message.Exec g c l x h s) = ⊥
 NoExec _ = Unit {0}
 
@@ -107,79 +107,84 @@ no-exec script marks node (message.Collect round) e n = tt
 no-exec script marks node (message.Answer g r) e n = tt
 no-exec script marks node (message.Graph round graph) e n = tt
 
-module _ (script : Script) (marks : List Mark) where
-  abbrev Plain : List Out → Type 0
-  Plain outs = Each (OutIs script marks) outs
+abbrev pub IsBare : Out → Type 0
+IsBare o = NoExec o.message
 
-  to-each : (m : Message) (nodes : List Node) → NoExec m → Plain (to_each m nodes)
-  to-each m [] e = tt
-  to-each m (i ∷ is) e = (no-exec script marks i m e, to-each m is e)
+pub bare-outs : (script : Script) (marks : List Mark) (outs : List Out) → Each IsBare outs → Each (OutIs script marks) outs
+bare-outs script marks outs e = each_weaker IsBare (OutIs script marks) (λ o h. no-exec script marks o.node o.message h) outs e
 
-  ends-plain : (g : Gxid) (nodes : List Node) → Plain (ends_committed g nodes).out.outs
-  ends-plain g [] = tt
-  ends-plain g (i ∷ is) = to-each (message.Forget g) (i ∷ is) tt
+abbrev Plain : List Out → Type 0
+Plain outs = Each IsBare outs
 
-  commits-plain : (g : Gxid) (writers : List Node) (t : Txn) → Plain (commits g writers t).out.outs
-  commits-plain g [] t = ends-plain g t.participants
-  commits-plain g (i ∷ []) t = to-each (message.Commit g) (i ∷ []) tt
-  commits-plain g (i ∷ j ∷ is) t = to-each (message.Prepare g) (i ∷ j ∷ is) tt
+to-each : (m : Message) (nodes : List Node) → NoExec m → Plain (to_each m nodes)
+to-each m [] e = tt
+to-each m (i ∷ is) e = (e, to-each m is e)
 
-  aborts-plain : (g : Gxid) (nodes : List Node) → Plain (aborts g nodes).out.outs
-  aborts-plain g [] = tt
-  aborts-plain g (i ∷ is) = to-each (message.Abort g) (i ∷ is) tt
+ends-plain : (g : Gxid) (nodes : List Node) → Plain (ends_committed g nodes).out.outs
+ends-plain g [] = tt
+ends-plain g (i ∷ is) = to-each (message.Forget g) (i ∷ is) tt
 
-  decides-plain : (g : Gxid) (ws ps : List Node) (b : Bool) → Plain (decides g ws ps b).out.outs
-  decides-plain g ws ps false = to-each (message.CommitPrepared g) ws tt
-  decides-plain g ws ps true = to-each (message.Abort g) ps tt
+commits-plain : (g : Gxid) (writers : List Node) (t : Txn) → Plain (commits g writers t).out.outs
+commits-plain g [] t = ends-plain g t.participants
+commits-plain g (i ∷ []) t = to-each (message.Commit g) (i ∷ []) tt
+commits-plain g (i ∷ j ∷ is) t = to-each (message.Prepare g) (i ∷ j ∷ is) tt
 
-  prepares-plain : (g : Gxid) (ws ps rest : List Node) (b : Bool) → Plain (prepares g ws ps rest b).out.outs
-  prepares-plain g ws ps [] b = decides-plain g ws ps b
-  prepares-plain g ws ps (i ∷ is) b = tt
+aborts-plain : (g : Gxid) (nodes : List Node) → Plain (aborts g nodes).out.outs
+aborts-plain g [] = tt
+aborts-plain g (i ∷ is) = to-each (message.Abort g) (i ∷ is) tt
 
-  finishes-plain : (g : Gxid) (ps rest : List Node) → Plain (finishes g ps rest).out.outs
-  finishes-plain g ps [] = ends-plain g ps
-  finishes-plain g ps (i ∷ is) = tt
+decides-plain : (g : Gxid) (ws ps : List Node) (b : Bool) → Plain (decides g ws ps b).out.outs
+decides-plain g ws ps false = to-each (message.CommitPrepared g) ws tt
+decides-plain g ws ps true = to-each (message.Abort g) ps tt
 
-  forgets-plain : (rest : List Node) → Plain (forgets rest).out.outs
-  forgets-plain [] = tt
-  forgets-plain (i ∷ is) = tt
+prepares-plain : (g : Gxid) (ws ps rest : List Node) (b : Bool) → Plain (prepares g ws ps rest b).out.outs
+prepares-plain g ws ps [] b = decides-plain g ws ps b
+prepares-plain g ws ps (i ∷ is) b = tt
 
-  gives-plain : (rest : List Node) → Plain (gives_up rest).out.outs
-  gives-plain [] = tt
-  gives-plain (i ∷ is) = tt
+finishes-plain : (g : Gxid) (ps rest : List Node) → Plain (finishes g ps rest).out.outs
+finishes-plain g ps [] = ends-plain g ps
+finishes-plain g ps (i ∷ is) = tt
 
-  takes-plain : (g : Gxid) (ps : List Node) (i : Node) (b : Bool) (p : Phase) (r : Reply) → Plain (takes g ps i b p r).out.outs
-  takes-plain g ps i b (Preparing ws a) reply.Prepared = prepares-plain g ws ps (without i a) b
-  takes-plain g ps i b (Preparing ws a) reply.Jfault = to-each (message.Abort g) ps tt
-  takes-plain g ps i b (CommittingOne w) reply.Committed = ends-plain g ps
-  takes-plain g ps i b (CommittingOne w) reply.Jfault = to-each (message.Abort g) ps tt
-  takes-plain g ps i b (CommittingTwo a) reply.Committed = finishes-plain g ps (without i a)
-  takes-plain g ps i b (Ended a) reply.Forgotten = forgets-plain (without i a)
-  takes-plain g ps i b (Aborting a) reply.Aborted = gives-plain (without i a)
-  takes-plain g ps i b p r = tt
+forgets-plain : (rest : List Node) → Plain (forgets rest).out.outs
+forgets-plain [] = tt
+forgets-plain (i ∷ is) = tt
 
-  -- calls
-  pub commit-plain : (d : Table) (g : Gxid) (writers : List Node) → Plain (on_commit d g writers).out.outs
-  commit-plain d g writers = by_found (find_txn d g)
-    where
-      by_found : (t : Option Txn) → Plain (commit_found g writers t).out.outs
-      by_found None = tt
-      by_found (Some t) = commits-plain g writers t
+gives-plain : (rest : List Node) → Plain (gives_up rest).out.outs
+gives-plain [] = tt
+gives-plain (i ∷ is) = tt
 
-  pub abort-plain : (d : Table) (g : Gxid) → Plain (on_abort d g).out.outs
-  abort-plain d g = by_found (find_txn d g)
-    where
-      by_found : (t : Option Txn) → Plain (abort_found g t).out.outs
-      by_found None = tt
-      by_found (Some t) = aborts-plain g t.participants
+takes-plain : (g : Gxid) (ps : List Node) (i : Node) (b : Bool) (p : Phase) (r : Reply) → Plain (takes g ps i b p r).out.outs
+takes-plain g ps i b (Preparing ws a) reply.Prepared = prepares-plain g ws ps (without i a) b
+takes-plain g ps i b (Preparing ws a) reply.Jfault = to-each (message.Abort g) ps tt
+takes-plain g ps i b (CommittingOne w) reply.Committed = ends-plain g ps
+takes-plain g ps i b (CommittingOne w) reply.Jfault = to-each (message.Abort g) ps tt
+takes-plain g ps i b (CommittingTwo a) reply.Committed = finishes-plain g ps (without i a)
+takes-plain g ps i b (Ended a) reply.Forgotten = forgets-plain (without i a)
+takes-plain g ps i b (Aborting a) reply.Aborted = gives-plain (without i a)
+takes-plain g ps i b p r = tt
 
-  pub reply-plain : (d : Table) (g : Gxid) (i : Node) (r : Reply) (b : Bool) → Plain (on_reply d g i r b).out.outs
-  reply-plain d g i r b = by_found (find_txn d g)
-    where
-      by_test : (t : Txn) (q : Bool) → Plain (if q then takes g t.participants i b t.phase r else stays).out.outs
-      by_test t true = takes-plain g t.participants i b t.phase r
-      by_test t false = tt
+-- calls
+pub commit-bare : (d : Table) (g : Gxid) (writers : List Node) → Plain (on_commit d g writers).out.outs
+commit-bare d g writers = by_found (find_txn d g)
+  where
+    by_found : (t : Option Txn) → Plain (commit_found g writers t).out.outs
+    by_found None = tt
+    by_found (Some t) = commits-plain g writers t
 
-      by_found : (t : Option Txn) → Plain (reply_found g i r b t).out.outs
-      by_found None = tt
-      by_found (Some t) = by_test t (is_awaited t.phase i r)
+pub abort-bare : (d : Table) (g : Gxid) → Plain (on_abort d g).out.outs
+abort-bare d g = by_found (find_txn d g)
+  where
+    by_found : (t : Option Txn) → Plain (abort_found g t).out.outs
+    by_found None = tt
+    by_found (Some t) = aborts-plain g t.participants
+
+pub reply-bare : (d : Table) (g : Gxid) (i : Node) (r : Reply) (b : Bool) → Plain (on_reply d g i r b).out.outs
+reply-bare d g i r b = by_found (find_txn d g)
+  where
+    by_test : (t : Txn) (q : Bool) → Plain (if q then takes g t.participants i b t.phase r else stays).out.outs
+    by_test t true = takes-plain g t.participants i b t.phase r
+    by_test t false = tt
+
+    by_found : (t : Option Txn) → Plain (reply_found g i r b t).out.outs
+    by_found None = tt
+    by_found (Some t) = by_test t (is_awaited t.phase i r)

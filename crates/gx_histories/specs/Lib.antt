@@ -1,3 +1,6 @@
 pub mod Orders
 pub mod Standing
+pub mod Gathering
 pub mod Rest
+pub mod Alive
+pub mod Finish

@@ -1,15 +1,12 @@
 -- A history by its coordinator and its segments: what the coordinator alone doesn't decide of a mark is what segments do of
 -- rows, what they refuse, and what the answers of commands that succeeded say.
-use Rattle.std.specs.Prelude.{◌≡◌, List, [], ◌∷◌, ◌++◌, Some, None}
-use Rattle.std.specs.declared.option.Option.{Option}
+use Rattle.std.specs.Prelude.{◌≡◌, List, [], ◌∷◌, ◌++◌}
 use Rattle.gx_ids.specs.declared.ids.Cid.{Cid}
 use Rattle.gx_ids.specs.declared.ids.Gxid.{Gxid}
 use Rattle.gx_ids.specs.declared.ids.Node.{Node}
 use Rattle.gx_ids.specs.declared.ids.SessionId.{SessionId}
-use Rattle.gx_ids.specs.declared.rid.Rid.{Rid}
 use Rattle.gx_tree.specs.declared.stmt.Level.{Level}
 use Rattle.gx_tree.specs.declared.stmt.Stmt.{Stmt}
-use Rattle.gx_tree.specs.declared.value.Value.{Value}
 use Rattle.gx_script.specs.declared.Script.{Script}
 use Rattle.gx_msg.specs.declared.message.Message.TheVariants as message
 use Rattle.gx_msg.specs.declared.reply.Cause.{Cause}
@@ -32,6 +29,7 @@ use Rattle.gx_store.specs.Points.{Point, before}
 use Rattle.gx_store.specs.Refusals.{IsCause, the_coordinator}
 use Rattle.gx_store.specs.Writes.{LegalSkip, LegalWrite}
 use Rattle.gx_rules.specs.AtCoordinator.{reason_of}
+use Rattle.gx_histories.specs.Gathering.{IsGathered}
 
 -- this holds of each mark of a step at its point
 abbrev pub EachMark : (Point → Mark → Type 0) → List Step → Event → List Mark → List Mark → List Mark → Type 0
@@ -39,10 +37,10 @@ EachMark P steps event earlier [] later = Unit {0}
 EachMark P steps event earlier (m ∷ ms) later =
     P (record { steps = steps; event = event; earlier = earlier; later = ms ++ later }) m × EachMark P steps event (earlier ++ m ∷ []) ms later
 
--- the command under way at the point has done what its answer says
+-- the command under way at the point has done what its answer says, which is gathered from the answers of its segments
 abbrev pub IsTold : Script → Point → SessionId → StmtAnswer → Type 0
 IsTold script point session answer =
-    (stmt : Stmt) (level : Level) (g : Gxid) (c : Cid) → RunsCommand script point session stmt level g c → Tells script (before point) level g c stmt answer
+    (stmt : Stmt) (level : Level) (g : Gxid) (c : Cid) → RunsCommand script point session stmt level g c → IsGathered script point g c stmt answer → Tells script (before point) level g c stmt answer
 
 -- the command under way at the point is refused for its cause, in the step that receives a segment's word of it
 abbrev pub IsCaused : Script → Point → SessionId → Refused → Type 0
