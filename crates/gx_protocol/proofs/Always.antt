@@ -167,6 +167,7 @@ module _ (script : Script) (some : 1 ≤ script.segments) where
         said = tt;
         failed = λ i g e. absurd (cc);
         ends = tt;
+        tells = tt;
       }
 
   pub world-holds : (es : List (Event × Bool)) → Holds script (world_of script es)

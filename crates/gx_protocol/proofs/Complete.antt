@@ -46,7 +46,8 @@ use Rattle.gx_protocol.proofs.Calls.{or-left, or-right}
 use Rattle.gx_protocol.proofs.Commits.{take-kept}
 use Rattle.gx_protocol.proofs.Completing.{calm-started}
 use Rattle.gx_protocol.proofs.Events.{IsSaidIn, event-led}
-use Rattle.gx_protocol.proofs.Everywhere.{Holds, NoSent, does-it, parts_in}
+use Rattle.gx_protocol.proofs.Counts.{NoSent}
+use Rattle.gx_protocol.proofs.Everywhere.{Holds, does-it, parts_in}
 use Rattle.gx_protocol.proofs.Replying.{take-length}
 use Rattle.gx_protocol.proofs.Ways.{AsksFor, Led, SaidOut}
 

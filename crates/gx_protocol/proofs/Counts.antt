@@ -91,3 +91,8 @@ sent-no-part f (o ∷ outs) = (tt, sent-no-part (counted f o) outs)
 pub sent-no-end : (f : ℕ → ℕ) (outs : List Out) → Each NoEnd (numbered f outs)
 sent-no-end f [] = tt
 sent-no-end f (o ∷ outs) = (tt, sent-no-end (counted f o) outs)
+
+-- marks that send nothing
+abbrev pub NoSent : Mark → Type 0
+NoSent (mark.Sent to number told) = ⊥
+NoSent _ = Unit {0}

@@ -36,7 +36,9 @@ use Rattle.gx_protocol.specs.Followed.{DoStepsEnd}
 use Rattle.gx_protocol.specs.Pairs.{Pair}
 use Rattle.gx_protocol.specs.Said.{Said, SaidIn, gxid_in, is_answer, segment_of}
 use Rattle.gx_protocol.specs.Standings.{Known, Part, at, gx, known_at, part_at, part_of}
-use Rattle.gx_protocol.proofs.Counts.{NoEnd, NoPart, decided-append, local-append, no-aborted, no-committed, no-decided, no-local, no-prepared, no-writer, prepared-append, sent-no-end, sent-no-part, writer-append}
+use Rattle.gx_protocol.specs.Told.{DoStepsTell, IsTold}
+use Rattle.gx_protocol.proofs.Telling.{coord-told, seg-told, step-told, tell-push}
+use Rattle.gx_protocol.proofs.Counts.{NoEnd, NoPart, NoSent, decided-append, local-append, no-aborted, no-committed, no-decided, no-local, no-prepared, no-writer, prepared-append, sent-no-end, sent-no-part, writer-append}
 use Rattle.gx_protocol.proofs.Events.{IsSaidIn, event-led}
 use Rattle.gx_protocol.proofs.Following.{coord-end, end-push, has-left, has-right, seg-end}
 use Rattle.gx_protocol.proofs.Handled.{Does, Follows, HasMark, Tells, after_marks, handled}
@@ -51,12 +53,9 @@ pub record Holds (script : Script) (w : World) : Type 0 where
   pub said : Each (SaidIn w) w.sent
   pub failed : (i g : ℕ) → ((w.segs i).locals g).vote ≡ Some reply.Jfault → HasMark (mark.JournalFailed (at i) (gx g)) (marks_in w.steps)
   pub ends : DoStepsEnd script [] w.steps
+  pub tells : DoStepsTell [] w.steps
 
 -- SENDINGS
-abbrev pub NoSent : Mark → Type 0
-NoSent (mark.Sent to number told) = ⊥
-NoSent _ = Unit {0}
-
 pub posted-each : (Q : Letter → Type 0) (from : Node) (clock : ℕ) (xs : List Mark) (f : ℕ → ℕ) (outs : List Out) (sent : List Letter) → Each NoSent xs → Each (λ (o : Out). (n : ℕ) → Q (record { from = from; to = o.node; envelope = record { number = n; clock = clock; message = o.message } })) outs → Each Q sent → Each Q (posted from clock (xs ++ numbered f outs) sent)
 posted-each Q from clock [] f [] sent e h s = s
 posted-each Q from clock [] f (o ∷ outs) sent e h s = posted-each Q from clock [] (counted f o) outs _ tt h.1 (h.0 (f o.node.0 + 1), s)
@@ -127,6 +126,8 @@ module _ (script : Script) (w : World) (n : Knows script w) (v : Holds script w)
                 (each_weaker (SaidOut script (parts_in w) turn.coord (ms ++ turn.marks)) _ (λ o h number. subst (λ b. Said (known_at last (marks_in next.steps) (if b then 0 else o.node.0) (gxid_in o.message)) (parts_in next (if b then 0 else o.node.0) (gxid_in o.message)) o.message) (sym h.0) (moved o.node.0 (gxid_in o.message) o.message h.1)) turn.outs f.outs)
                 (each_weaker (SaidIn w) (SaidIn next) (λ l h. moved (segment_of l) (gxid_in l.envelope.message) l.envelope.message (f.way.stays (segment_of l) (gxid_in l.envelope.message) l.envelope.message h)) w.sent v.said);
             failed = λ i g q. subst (HasMark (mark.JournalFailed (at i) (gx g))) all (has-left (mark.JournalFailed (at i) (gx g)) ms (turn.marks ++ sent) (v.failed i g q));
+            tells = tell-push [] w.steps step v.tells (step-told the_coordinator ms turn.marks turn.coord.sent turn.outs (fol-no-sent script ms turn.marks f.way.fol)
+                (each_weaker (SaidOut script (parts_in w) turn.coord (ms ++ turn.marks)) (λ (o : Out). IsTold the_coordinator (ms ++ turn.marks) o.message) (λ o h. coord-told (known_at turn.coord (ms ++ turn.marks) o.node.0 (gxid_in o.message)) (parts_in w o.node.0 (gxid_in o.message)) (ms ++ turn.marks) o.message refl refl h.0 h.1) turn.outs f.outs));
             ends = end-push script [] w.steps step v.ends (coord-end script w.steps step [] turn.marks turn.coord.sent turn.outs (subst (λ q. Fol script q turn.marks) (sym (append-nil ms)) f.way.fol) (each_weaker (SaidOut script (parts_in w) turn.coord (ms ++ turn.marks)) (λ (o : Out). is_answer o.message ≡ false) (λ o h. h.0) turn.outs f.outs));
           }
         where
@@ -182,7 +183,7 @@ follows-no-end told k i g (mark.Abort h ∷ ns) e = absurd e.0
 follows-no-end told k i g (mark.Decided h ∷ ns) e = absurd e.0
 follows-no-end told k i g (m ∷ ns) e = (tt, follows-no-end told k i g ns e.1)
 
-follows-no-sent : (told : Message) (k : Known) (i g : ℕ) (ns : List Mark) → Each (Follows told k i g) ns → Each NoSent ns
+pub follows-no-sent : (told : Message) (k : Known) (i g : ℕ) (ns : List Mark) → Each (Follows told k i g) ns → Each NoSent ns
 follows-no-sent told k i g [] e = tt
 follows-no-sent told k i g (mark.Sent to number m ∷ ns) e = absurd e.0
 follows-no-sent told k i g (m ∷ ns) e = (tt, follows-no-sent told k i g ns e.1)
@@ -192,7 +193,7 @@ each-both P [] ys e f = f
 each-both P (x ∷ xs) ys e f = (e.0, each-both P xs ys e.1 f)
 
 -- what it tells is an answer that is said
-told-answer : (k : Known) (q : Part) (i g : ℕ) (marks : List Mark) (m : Message) → Tells k q i g marks m → (is_answer m ≡ true) × (gxid_in m ≡ g) × Said k q m
+pub told-answer : (k : Known) (q : Part) (i g : ℕ) (marks : List Mark) (m : Message) → Tells k q i g marks m → (is_answer m ≡ true) × (gxid_in m ≡ g) × Said k q m
 told-answer k q i g marks (message.Answer h reply.Again) e = (refl, e.0, tt)
 told-answer k q i g marks (message.Answer h (reply.Done c x y z)) e = (refl, e.0, e.1)
 told-answer k q i g marks (message.Answer h (reply.Failed c x)) e = (refl, e.0, tt)
@@ -244,7 +245,7 @@ module _ (script : Script) (w : World) (n : Knows script w) (v : Holds script w)
   pub does-it : Does msg (known i g) s i g (n.well.names i) (is_writer ms2 (gx g) (at i)) (prepared_count ms2 (at i) (gx g)) (local_count ms2 (at i) (gx g)) (v.stands.pairs i g) turn2
   does-it = handled script fails (known i g) s i (n.well.names i) (is_writer ms2 (gx g) (at i)) (prepared_count ms2 (at i) (gx g)) (local_count ms2 (at i) (gx g)) msg (v.stands.pairs i g) said
 
-  abbrev new_part : Part
+  abbrev pub new_part : Part
   new_part = after_marks (turn2.seg.locals g) (is_writer ms2 (gx g) (at i)) (prepared_count ms2 (at i) (gx g)) (local_count ms2 (at i) (gx g)) i g turn2.marks
 
   quiet-sent : Each NoPart sent2
@@ -334,6 +335,8 @@ module _ (script : Script) (w : World) (n : Knows script w) (v : Holds script w)
             (each-out turn2.outs does-it.outs)
             (each_weaker (SaidIn w) (SaidIn next2) (λ l y. moved2 (segment_of l) (gxid_in l.envelope.message) l.envelope.message (said-next (segment_of l) (gxid_in l.envelope.message) l.envelope.message y (eqb (segment_of l) i && eqb (gxid_in l.envelope.message) g) refl)) w.sent v.said);
         failed = λ j h y. subst (HasMark (mark.JournalFailed (at j) (gx h))) (append_assoc ms2 turn2.marks sent2 ∙ all2) (has-left _ (ms2 ++ turn2.marks) sent2 (failed-next j h y (eqb j i && eqb h g) refl));
+        tells = tell-push [] w.steps step2 v.tells (step-told (at i) ms2 turn2.marks (λ node. turn2.seg.sent) turn2.outs (follows-no-sent msg (known i g) i g turn2.marks does-it.marks)
+            (each_weaker (λ (o : Out). Tells (known i g) new_part i g turn2.marks o.message) (λ (o : Out). IsTold (at i) (ms2 ++ turn2.marks) o.message) (λ o h. seg-told (known i g) new_part i g turn2.marks (ms2 ++ turn2.marks) does-it.next.pair (sym (prepared-append ms2 turn2.marks (at i) (gx g))) (sym (local-append ms2 turn2.marks (at i) (gx g))) o.message h) turn2.outs does-it.outs));
         ends = end-push script [] w.steps step2 v.ends (seg-end script w.steps step2 msg (known i g) i g refl received refl refl new_part turn2.marks
             (λ y. failed-next i g (ap (λ b. ((if b then seg_now else s).locals g).vote) (self-test i) ∙ y) (eqb i i && eqb g g) refl) (λ node. turn2.seg.sent) turn2.outs does-it.marks does-it.outs);
       }

@@ -10,6 +10,7 @@ pub mod Replying
 pub mod Dispatching
 pub mod Events
 pub mod Following
+pub mod Telling
 pub mod Everywhere
 pub mod Always
 pub mod Answering
@@ -17,3 +18,12 @@ pub mod Completing
 pub mod Asked
 pub mod Complete
 pub mod Whole
+pub mod Lows
+pub mod Lowered
+pub mod Raised
+pub mod Low
+pub mod Held
+pub mod Holding
+pub mod Ended
+pub mod Holders
+pub mod Above
