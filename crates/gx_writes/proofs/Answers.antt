@@ -42,11 +42,11 @@ use Rattle.gx_rules.specs.Machine.{World}
 use Rattle.gx_laws.proofs.Lists.{Each, each_weaker}
 use Rattle.gx_laws.proofs.Sessions.{Kept, is_closing_in, stage_of}
 use Rattle.gx_histories.specs.Orders.{AreLinesNumbered}
-use Rattle.gx_histories.specs.Rest.{EachMark, IsTold}
+use Rattle.gx_histories.specs.Rest.{EachMark}
 use Rattle.gx_histories.specs.Standing.{AreSessions, HasSnapshot, Owns, is_busy, level_in, state_in}
 use Rattle.gx_histories.proofs.Said.{CalmFor}
 use Rattle.gx_protocol.specs.Standings.{gx, waits_in}
-use Rattle.gx_writes.specs.Inserts.{InsertTold}
+use Rattle.gx_writes.specs.Inserts.{HasInserted, InsertTold}
 use Rattle.gx_writes.proofs.Legal.{has-snap, line-is}
 use Rattle.gx_writes.proofs.Live.{Running, live-owns, running, running-in, runs}
 use Rattle.gx_writes.proofs.Plans.{insert-slice}
@@ -197,7 +197,7 @@ module _ (script : Script) (some : 1 ≤ script.segments) (numbered : AreLinesNu
     some-gxid : (a b : Gxid) → Some a ≡ Some b → a ≡ b
     some-gxid a b f = (cc)
 
-    pub tells : (earlier later : List Mark) (s : SessionId) (n : ℕ) (q : Completes script c x s (told.Inserted n)) → Each Still earlier → Answered q.g q.m → IsTold script (record { steps = w.steps; event = e; earlier = earlier; later = later }) s (told.Inserted n)
+    pub tells : (earlier later : List Mark) (s : SessionId) (n : ℕ) (q : Completes script c x s (told.Inserted n)) → Each Still earlier → Answered q.g q.m → HasInserted script (record { steps = w.steps; event = e; earlier = earlier; later = later }) s n
     tells earlier later s n q calm a asked level g cid theirs =
         subst (λ y. Tells script (ms ++ earlier) level g cid y (told.Inserted n)) (sym line)
         (subst (λ y. Tells script (ms ++ earlier) y g cid q.m.stmt (told.Inserted n)) (sym level-is)

@@ -51,6 +51,7 @@ use Rattle.gx_histories.specs.Orders.{AreLinesNumbered}
 use Rattle.gx_histories.specs.Rest.{AreRestLegal, EachMark, IsCaused, Rest, RestAnswer, RestRefusal, UnlessStart}
 use Rattle.gx_histories.proofs.Given.{marks-append}
 use Rattle.gx_histories.proofs.Outs.{MessageIs}
+use Rattle.gx_histories.proofs.Stepping as stepping
 use Rattle.gx_histories.proofs.World as histories
 use Rattle.gx_histories.proofs.World.{after-last, legal-with-rest}
 use Rattle.gx_protocol.specs.Standings.{at, gx}
@@ -145,7 +146,7 @@ module _ (script : Script) (some : 1 ≤ script.segments) (numbered_lines : AreL
   no-faults ms i s m turn o (inr (inl x)) = absurd (no-select-order script inserting ms (at i) x.g x.c x.level (Some x.snapshot) x.query (subst (λ (y : Message). MessageIs script ms (at i) y) x.is o numbered_lines))
   no-faults ms i s m turn o (inr (inr x)) = subst (λ (y : SegTurn). Each NoFault y.marks) (sym x.ran) (subst (Each NoFault) (sym (insert-wrote s x.horizon x.g x.c x.table x.rows).marks) (rows-no-fault x.g x.c s.node x.table x.rows))
 
-  module _ (w : World) (b : Both script some w) (k : histories.Holds script w) (h : writes.Holds script w.segs w.steps) (n : Counted script w) where
+  module _ (w : World) (b : Both script some w) (k : stepping.Holds script w) (h : writes.Holds script w.segs w.steps) (n : Counted script w) where
     -- A STEP OF THE COORDINATOR
     module _ (e : Event) (x : NodeEvent) (report : (i : Node) (envelope : Envelope) (g : ℕ) (cid : Cid) (wrote : Bool) (count : ℕ) (part : QueryPart) → x ≡ here.Deliver i envelope → envelope.message ≡ message.Answer (gx g) (reply.Done cid wrote count part) → IsReport script (marks_in w.steps) i (gx g) cid count)
         (quiet : (i : Node) (envelope : Envelope) → x ≡ here.Deliver i envelope → (s : SessionId) → starts_by s e ≡ 0) (starts : IsStarting script w.coord x x → (A : Type 0) → UnlessStart e A) (heard : (from : Node) (number : ℕ) → e ≡ event.Receive from the_coordinator number → 1 ≤ from.0) where
@@ -185,7 +186,7 @@ module _ (script : Script) (some : 1 ≤ script.segments) (numbered_lines : AreL
       answer-rest earlier later s told.Commit q = tt
       answer-rest earlier later s told.Rollback q = tt
       answer-rest earlier later s (told.Refused reason) q = refused-rest earlier later s reason
-      answer-rest earlier later s (told.Inserted m) q = tells script some numbered_lines w b.knows.kept k.sessions x n.commands report e quiet earlier later s m q.0 q.1 (answered script some numbered_lines w b.knows.kept k.sessions x n.commands report e quiet s (told.Inserted m) q.0)
+      answer-rest earlier later s (told.Inserted m) q = λ line level g cid runs gathered. tells script some numbered_lines w b.knows.kept k.sessions x n.commands report e quiet earlier later s m q.0 q.1 (answered script some numbered_lines w b.knows.kept k.sessions x n.commands report e quiet s (told.Inserted m) q.0) line level g cid runs
       answer-rest earlier later s told.Locked q = absurd (no-other s told.Locked (λ m z. differ m z) q.0)
         where
           differ : (m : ℕ) → told.Locked ≡ told.Inserted m → ⊥

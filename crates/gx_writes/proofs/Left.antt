@@ -21,7 +21,7 @@ use Rattle.gx_writes.proofs.Counted.{world-counted}
 use Rattle.gx_writes.proofs.World.{world-holds}
 
 answer-one : (script : Script) (point : Point) (s : SessionId) (a : StmtAnswer) → IsInsertTold script point s a → LeftAnswer script point s a → RestAnswer script point s a
-answer-one script point s (told.Inserted n) i l = i
+answer-one script point s (told.Inserted n) i l = λ line level g c runs gathered. i line level g c runs
 answer-one script point s told.Begin i l = l
 answer-one script point s told.Commit i l = l
 answer-one script point s told.Rollback i l = l
