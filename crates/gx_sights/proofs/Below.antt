@@ -1,80 +1,41 @@
 -- A command that a segment has still to run sees whoever is below the horizon.
-use Rattle.std.proofs.Common.{◌≡◌, ◌≤◌, ◌<◌, inl, inr, ℕ, ◌+◌, List, [], ◌∷◌, ◌++◌, Option, Some, None, Bool, true, false, refl, sym, subst, ap, ◌∙◌, if◌then◌else◌, ◌||◌, ltb, arith, eqb, append-nil}
-use Rattle.std.proofs.lemmas.Bool.{eqb-true}
+use Rattle.std.proofs.Common.{◌≡◌, ◌≤◌, ◌<◌, ℕ, List, [], ◌∷◌, Option, Some, None, Bool, true, false, refl, sym, subst, ap, ◌∙◌, if◌then◌else◌, ◌||◌, ltb, arith}
 use Rattle.std.proofs.lemmas.Bool.Decides.{nat_tests}
-use Rattle.std.specs.Prelude.{fold, length, nat_le, nat_lt, option_map}
+use Rattle.std.specs.Prelude.{nat_le}
 use Rattle.gx_ids.specs.declared.ids.Cid.{Cid}
 use Rattle.gx_ids.specs.declared.ids.Gxid.{Gxid}
 use Rattle.gx_ids.specs.declared.ids.Node.{Node}
-use Rattle.gx_ids.specs.declared.ids.Table.{Table as TableId}
-use Rattle.gx_tree.specs.declared.query.Query.{Query}
-use Rattle.gx_tree.specs.declared.row.KeyedRow.{KeyedRow}
-use Rattle.gx_tree.specs.declared.slice.Slice.{Slice}
-use Rattle.gx_tree.specs.declared.slice.Slice.TheVariants as slice
 use Rattle.gx_dsnap.specs.Gxids.{is_below}
 use Rattle.gx_dsnap.specs.Snapshot.{sees}
 use Rattle.gx_dsnap.specs.declared.snapshot.Snapshot.{Snapshot}
 use Rattle.gx_dtx.specs.Lives.{live_of}
-use Rattle.gx_dtx.specs.Table.{IsActive, Table, find_txn, horizon_of, new_table, runs}
-use Rattle.gx_dtx.specs.declared.phase.Phase.{Phase as Status}
-use Rattle.gx_dtx.specs.declared.phase.Phase.TheVariants as status
+use Rattle.gx_dtx.specs.Table.{find_txn, horizon_of}
 use Rattle.gx_dtx.specs.declared.txn.Txn.{Txn}
-use Rattle.gx_dtx.proofs.Low.{found-low, live_found-low}
-use Rattle.gx_eval.specs.declared.fault.ArithFault.{ArithFault}
-use Rattle.gx_msg.specs.declared.item.JournalItem.{JournalItem}
-use Rattle.gx_msg.specs.declared.message.Envelope.{Envelope}
+use Rattle.gx_dtx.proofs.Low.{live_found-low}
 use Rattle.gx_msg.specs.declared.message.Message.{Message}
 use Rattle.gx_msg.specs.declared.message.Message.TheVariants as message
-use Rattle.gx_msg.specs.declared.message.Out.{Out}
-use Rattle.gx_msg.specs.declared.reply.Reply.{Reply}
-use Rattle.gx_msg.specs.declared.reply.Reply.TheVariants as reply
 use Rattle.gx_script.specs.declared.Script.{Script}
-use Rattle.gx_store.specs.declared.event.Event.{Event}
-use Rattle.gx_store.specs.declared.mark.Mark.{Mark}
-use Rattle.gx_store.specs.declared.node.NodeEvent.{NodeEvent}
-use Rattle.gx_store.specs.declared.node.NodeEvent.TheVariants as here
-use Rattle.gx_store.specs.Messages.{Receives}
-use Rattle.gx_store.specs.Ordered.{IsSegment}
 use Rattle.gx_store.specs.Points.{marks_in}
-use Rattle.gx_store.specs.Protocol.{is_writer, local_count, prepared_count}
-use Rattle.gx_store.specs.Refusals.{the_coordinator}
-use Rattle.gx_rules.specs.AtCoordinator as coordinator
-use Rattle.gx_rules.specs.AtCoordinator.{coord_can, coord_rule}
-use Rattle.gx_rules.specs.AtSegment.{changes, commits, finishes, if_fits, is_refused, on_abort, on_commit, on_commit_prepared, on_event, on_exec, on_forget, on_message, on_prepare, once, promises, raised, repeats, seg_rule, takes, unless_below, was_prepared}
-use Rattle.gx_rules.specs.Coordinators.{Command, Coord, CoordTurn, Work, no_work}
-use Rattle.gx_rules.specs.Fits.{fits_exec}
-use Rattle.gx_rules.specs.Machine.{Letter, World, coord_did, new_world, seg_did, world_of}
-use Rattle.gx_rules.specs.Maps.{with_at}
-use Rattle.gx_rules.specs.Segments.{Local, Phase, Seg, SegTurn, local_of, stays, tells, tells_kept}
-use Rattle.gx_rules.specs.Segments.Phase.{Aborted, Committed, Forgotten, Prepared, Reading, Writing}
-use Rattle.gx_rules.specs.Sending.{clock_after, numbered}
-use Rattle.gx_rules.specs.Shown.{shown}
-use Rattle.gx_rules.specs.Slices.{Moved, first_fault, inserted, inserts, inserts_row, runs_slice, selects}
-use Rattle.gx_laws.proofs.Letters.{IsFound}
-use Rattle.gx_laws.proofs.Lists.{Each, each_weaker}
-use Rattle.gx_laws.proofs.Past.{Past, there-drawn}
+use Rattle.gx_rules.specs.AtSegment.{raised}
+use Rattle.gx_rules.specs.Coordinators.{Command}
+use Rattle.gx_rules.specs.Machine.{Letter, World}
+use Rattle.gx_laws.proofs.Lists.{Each}
 use Rattle.gx_laws.proofs.Sessions.{stage_of}
 use Rattle.gx_laws.proofs.Stages.{gx}
-use Rattle.gx_laws.proofs.Statuses.{Stage, is_running, runs-stage, stage, stage_in}
+use Rattle.gx_laws.proofs.Statuses.{Stage, is_running, stage}
 use Rattle.gx_laws.proofs.Statuses.Stage.{Live as Running}
 use Rattle.gx_laws.proofs.World.{Knows}
-use Rattle.gx_protocol.specs.Said.{IsCommand, Said, SaidIn, gxid_in, is_answer, segment_of}
+use Rattle.gx_protocol.specs.Said.{IsCommand, Said, SaidIn, gxid_in, is_answer}
 use Rattle.gx_protocol.specs.Standings.{Known, Part, Standing, at, known_at, standing, standing_in}
 use Rattle.gx_protocol.specs.Standings.Standing.{Unborn, Over, Live}
-use Rattle.gx_protocol.proofs.Everywhere.{Holds, fol-no-sent, follows-no-sent, parts_in, posted-each, told-answer}
-use Rattle.gx_protocol.proofs.Handled.{Tells, handled}
-use Rattle.gx_sights.specs.Horizons.{AreHorizonsLow, AreLowIn, IsLowIn, IsNobodyDropped, IsSeenBelow, IsToRun}
-use Rattle.gx_sights.proofs.Heights.{Sorted}
-use Rattle.gx_sights.proofs.Held.{Held, Latest}
-use Rattle.gx_sights.proofs.Going.{event-went}
-use Rattle.gx_sights.proofs.Plain.{NoExec}
-use Rattle.gx_sights.proofs.Reading.{CommandLow, CountedIn, Fine, FineIn, OutFine, Reads, Stood, Went, le-refl, low-then}
-use Rattle.gx_sights.proofs.Steps.{SaidTo, event-leads, world-keeps}
-use Rattle.gx_sights.proofs.Turns.{WentBy, none-some}
+use Rattle.gx_protocol.proofs.Everywhere.{Holds, parts_in}
+use Rattle.gx_sights.specs.Horizons.{IsLowIn, IsNobodyDropped, IsSeenBelow}
+use Rattle.gx_sights.proofs.Held.{Held}
+use Rattle.gx_sights.proofs.Reading.{FineIn}
 use Rattle.gx_sights.proofs.Low.{LetterLow, Lows, drawn-is, live-standing, raised-under}
 use Rattle.gx_sights.proofs.Taken.{closing-taken}
-use Rattle.gx_sights.proofs.Ends.{Ends, Facts, TakenAt}
-use Rattle.gx_store.specs.Marks.{is_aborted, is_committed, is_ended}
+use Rattle.gx_sights.proofs.Ends.{Facts, TakenAt}
+use Rattle.gx_store.specs.Marks.{is_aborted, is_committed}
 use Rattle.gx_laws.proofs.Statuses.Stage.{Absent, Closing, Dropped, Finished}
 
 -- a command that its segment has still to run is the one under way, and its snapshot's xmin lives

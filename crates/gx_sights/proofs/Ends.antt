@@ -1,8 +1,7 @@
 -- What the marks say of a transaction's end, its segments say too, and nothing is written once it has committed.
-use Rattle.std.proofs.Common.{◌≡◌, ◌≤◌, ◌<◌, inl, inr, ℕ, ◌+◌, List, [], ◌∷◌, ◌++◌, Option, Some, None, Bool, true, false, refl, sym, subst, ap, ◌∙◌, if◌then◌else◌, ◌||◌, ◌&&◌, arith, eqb, append-nil}
+use Rattle.std.proofs.Common.{◌≡◌, ◌≤◌, ◌<◌, ℕ, ◌+◌, List, [], ◌∷◌, ◌++◌, Option, Some, None, Bool, true, false, refl, sym, subst, ap, ◌∙◌, if◌then◌else◌, ◌||◌, ◌&&◌, arith, eqb}
 use Rattle.std.proofs.lemmas.Bool.{eqb-true}
 use Rattle.std.proofs.lemmas.Bool.Decides.{nat_tests}
-use Rattle.std.proofs.lemmas.List.{append_assoc}
 use Rattle.std.specs.Prelude.{nat_lt}
 use Rattle.gx_ids.specs.declared.ids.Cid.{Cid}
 use Rattle.gx_ids.specs.declared.ids.Gxid.{Gxid}
@@ -32,7 +31,7 @@ use Rattle.gx_store.specs.Refusals.{the_coordinator}
 use Rattle.gx_rules.specs.AtCoordinator as coordinator
 use Rattle.gx_rules.specs.AtCoordinator.{coord_can, coord_rule}
 use Rattle.gx_rules.specs.AtSegment.{if_fits, on_event, on_exec, on_message, raised, repeats, seg_rule, takes, unless_below}
-use Rattle.gx_rules.specs.Coordinators.{Coord, CoordTurn}
+use Rattle.gx_rules.specs.Coordinators.{CoordTurn}
 use Rattle.gx_rules.specs.Fits.{fits_exec}
 use Rattle.gx_rules.specs.Machine.{Letter, World, coord_did, new_world, seg_did, world_of}
 use Rattle.gx_rules.specs.Segments.{Local, Phase, Seg, SegTurn, has_committed, local_of, stays, tells_kept}
@@ -43,21 +42,19 @@ use Rattle.gx_laws.proofs.Letters.{IsFound}
 use Rattle.gx_laws.proofs.Lists.{Each, each_append, each_weaker}
 use Rattle.gx_laws.proofs.Past.{Past, aborted-append, committed-append, running-drawn}
 use Rattle.gx_laws.proofs.Replies.{event-good}
-use Rattle.gx_laws.proofs.Sessions.{stage_of}
 use Rattle.gx_laws.proofs.Stages.{IsWhole, gx}
-use Rattle.gx_laws.proofs.Statuses.{Stage, is_running, stage}
-use Rattle.gx_laws.proofs.Statuses.Stage.{Live as Running}
+use Rattle.gx_laws.proofs.Statuses.{is_running}
 use Rattle.gx_laws.proofs.World.{Knows, marks-last}
-use Rattle.gx_protocol.specs.Pairs.{Pair, bit}
-use Rattle.gx_protocol.specs.Said.{IsCommand, Said, SaidIn, gxid_in, is_answer, segment_of}
-use Rattle.gx_protocol.specs.Standings.{Known, Part, at, known_at, part_of}
-use Rattle.gx_protocol.proofs.Counts.{NoEnd, NoPart, local-append, no-aborted, no-committed, no-local, no-writer, sent-no-end, sent-no-part, writer-append}
+use Rattle.gx_protocol.specs.Pairs.{bit}
+use Rattle.gx_protocol.specs.Said.{Said, SaidIn, gxid_in, is_answer}
+use Rattle.gx_protocol.specs.Standings.{Known, Part, at, known_at}
+use Rattle.gx_protocol.proofs.Counts.{NoPart, local-append, no-aborted, no-committed, no-local, no-writer, sent-no-end, sent-no-part, writer-append}
 use Rattle.gx_protocol.proofs.Everywhere.{Holds, does-it, fol-no-sent, follows-no-sent, new_part, next2, part-here, part-there, parts_in, posted-each, same-known2, told-answer}
 use Rattle.gx_protocol.proofs.Handled.{Does, Follows, IsExecOf, Tells}
 use Rattle.gx_protocol.proofs.Ways.{Fol, Led, fol-no-part}
 use Rattle.gx_sights.proofs.Low.{LetterLow, Lows, coord-low, new-lows, seg-low}
 use Rattle.gx_sights.proofs.Steps.{SaidTo, event-leads, world-keeps}
-use Rattle.gx_sights.proofs.Taken.{AllTaken, LiveMessage, Passes, event-pass}
+use Rattle.gx_sights.proofs.Taken.{LiveMessage, Passes, event-pass}
 
 -- who has committed has its writes committed at each segment, and who was aborted nowhere
 pub record Ended (k : Known) (p : Part) : Type 0 where

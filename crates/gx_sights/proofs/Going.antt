@@ -1,8 +1,7 @@
 -- Commands that go out, lines, and all events of the coordinator.
-use Rattle.std.proofs.Common.{◌≡◌, ◌≤◌, ◌<◌, ℕ, ◌+◌, List, [], ◌∷◌, Option, Some, None, Result, Ok, Err, Bool, true, false, refl, sym, subst, ap, ◌∙◌, cond, if◌then◌else◌, ◌&&◌, arith, eqb}
-use Rattle.std.proofs.lemmas.Bool.{eqb-true}
+use Rattle.std.proofs.Common.{◌≡◌, ◌≤◌, ◌<◌, ℕ, ◌+◌, List, [], ◌∷◌, Option, Some, None, Result, Ok, Err, Bool, true, false, refl, sym, subst, ap, ◌∙◌, cond, if◌then◌else◌, arith, eqb}
 use Rattle.std.proofs.lemmas.Bool.Decides.{nat_tests}
-use Rattle.std.specs.Prelude.{map, option_map}
+use Rattle.std.specs.Prelude.{option_map}
 use Rattle.gx_ids.specs.declared.ids.Cid.{Cid}
 use Rattle.gx_ids.specs.declared.ids.Gxid.{Gxid}
 use Rattle.gx_ids.specs.declared.ids.Node.{Node}
@@ -15,7 +14,7 @@ use Rattle.gx_dsnap.specs.declared.snapshot.Snapshot.{Snapshot}
 use Rattle.gx_dtx.specs.Lives.{live_of}
 use Rattle.gx_dtx.specs.Nodes.{has, with_node}
 use Rattle.gx_dtx.specs.Orders.{message_of}
-use Rattle.gx_dtx.specs.Rules.{abort_found, awaited_order, begun, changed, enlisted, on_abort, with_live}
+use Rattle.gx_dtx.specs.Rules.{abort_found, awaited_order, begun, changed, enlisted, with_live}
 use Rattle.gx_dtx.specs.Table.{Table, find_txn, horizon_of, new_txn, runs, xmin_of}
 use Rattle.gx_dtx.specs.declared.order.Order.{Order}
 use Rattle.gx_dtx.specs.declared.order.Order.TheVariants as order
@@ -34,10 +33,9 @@ use Rattle.gx_session.specs.declared.line_step.LineStep.TheVariants as step
 use Rattle.gx_session.specs.declared.state.Block.{Block}
 use Rattle.gx_session.specs.declared.state.Block.TheVariants.{Failed, Open, Outside}
 use Rattle.gx_store.specs.Writes.{dist_of}
-use Rattle.gx_store.specs.declared.mark.Mark.{Mark}
 use Rattle.gx_store.specs.declared.node.NodeEvent.{NodeEvent}
 use Rattle.gx_store.specs.declared.node.NodeEvent.TheVariants as event
-use Rattle.gx_rules.specs.AtCoordinator.{Reading, awaited, begins, command_order, dispatches, ends_in, enlisted_all, fault_mark, goes, goes_out, kept_at, next_cid, next_line, nodes_in, on_event, on_line, order_of, order_to, orders_of, reads_by, reads_for, refusal_of, resends, starts, starts_line, status_order, table_of, takes_snapshot}
+use Rattle.gx_rules.specs.AtCoordinator.{Reading, awaited, begins, command_order, dispatches, ends_in, enlisted_all, goes, goes_out, kept_at, next_cid, next_line, nodes_in, on_event, on_line, order_to, orders_of, reads_by, reads_for, resends, starts, starts_line, status_order, table_of, takes_snapshot}
 use Rattle.gx_rules.specs.Coordinators.{Command, Coord, CoordTurn, Work, new_work, no_work, session_of, work_of}
 use Rattle.gx_rules.specs.Maps.{with_at}
 use Rattle.gx_rules.specs.Snapshots.{snapshot_of}
@@ -45,11 +43,10 @@ use Rattle.gx_laws.proofs.Lists.{Each}
 use Rattle.gx_laws.proofs.Stages.{gx}
 use Rattle.gx_laws.proofs.Statuses.{Stage, stage}
 use Rattle.gx_laws.proofs.Statuses.Stage.{Live}
-use Rattle.gx_sights.specs.Horizons.{IsLowIn}
 use Rattle.gx_sights.proofs.Heights.{Rises, Sorted, begun-rises, changed-rises, enlisted-rises, live-rises, rises-same, rises-then}
 use Rattle.gx_sights.proofs.Held.{Held, Latest, held-now, horizon-xmin}
-use Rattle.gx_sights.proofs.Plain.{Mild, NoExec, abort-mild, sent-fine}
-use Rattle.gx_sights.proofs.Reading.{CommandLow, CountedIn, Fine, FineIn, OrderHeld, OrderLow, OutFine, Reads, Stood, Went, Works, apart-same, at-self, command-low, le-refl, low-then, one-went, reads-none, self, step-apart}
+use Rattle.gx_sights.proofs.Plain.{abort-mild, sent-fine}
+use Rattle.gx_sights.proofs.Reading.{CommandLow, CountedIn, Fine, OrderHeld, OrderLow, OutFine, Reads, Stood, Went, Works, apart-same, at-self, one-went, reads-none, self, step-apart}
 use Rattle.gx_sights.proofs.Turns.{WentBy, commits-went, counted-by, live-apart, live-here, message-went, none-some, rest-went, rolled-went, some-same, went-then}
 
 -- ENLISTING

@@ -1,7 +1,6 @@
 -- The horizon of the coordinator's transactions never falls.
-use Rattle.std.proofs.Common.{◌≡◌, ◌≤◌, ◌<◌, ℕ, ◌+◌, List, [], ◌∷◌, ◌++◌, Option, Some, None, Bool, true, false, refl, sym, subst, ap, ◌∙◌, cond, arith}
+use Rattle.std.proofs.Common.{◌≡◌, ◌≤◌, ◌<◌, ℕ, ◌+◌, List, [], ◌∷◌, Option, Some, None, Bool, true, false, refl, sym, subst, cond, arith}
 use Rattle.std.proofs.lemmas.Bool.Decides.{nat_tests}
-use Rattle.std.specs.Prelude.{fold}
 use Rattle.std.specs.List.{flat_map}
 use Rattle.std.specs.BTreeMap.{is_at}
 use Rattle.std.specs.Map.{lookup, remove_entry, set_value}
@@ -9,8 +8,8 @@ use Rattle.gx_ids.specs.declared.ids.Gxid.{Gxid}
 use Rattle.gx_ids.specs.declared.ids.Node.{Node}
 use Rattle.gx_dsnap.specs.Gxids.{gxid_cmp, least_of, lesser}
 use Rattle.gx_dtx.specs.Nodes.{with_node}
-use Rattle.gx_dtx.specs.Rules.{begun, changed, enlisted, live_in, moved, with_found, with_live, with_step, with_txn}
-use Rattle.gx_dtx.specs.Table.{Table, find_txn, holds_back, horizon_of, live_xmin, new_txn}
+use Rattle.gx_dtx.specs.Rules.{begun, changed, enlisted, moved, with_found, with_live, with_step, with_txn}
+use Rattle.gx_dtx.specs.Table.{Table, holds_back, horizon_of, live_xmin, new_txn}
 use Rattle.gx_dtx.specs.Whole.{AreDrawn, AreRisen}
 use Rattle.gx_dtx.specs.declared.change.Change.{Change}
 use Rattle.gx_dtx.specs.declared.change.Step.{Step}
@@ -19,7 +18,7 @@ use Rattle.gx_dtx.specs.declared.phase.Phase.{Phase}
 use Rattle.gx_dtx.specs.declared.phase.Phase.TheVariants.{Aborting, Active, CommittingOne, CommittingTwo, Ended, Preparing}
 use Rattle.gx_dtx.specs.declared.txn.Txn.{Txn}
 use Rattle.gx_dtx.proofs.Entries.{drawn-push, drawn-remove, drawn-with, risen-push, risen-remove, risen-with}
-use Rattle.gx_dtx.proofs.Least.{least_of-append, least_of-le_other, lesser-le_left, lesser-le_right}
+use Rattle.gx_dtx.proofs.Least.{least_of-append}
 use Rattle.gx_laws.proofs.Lists.{Each, each_append}
 use Rattle.gx_rules.specs.AtCoordinator.{enlisted_all}
 

@@ -2,13 +2,11 @@
 use Rattle.std.proofs.Common.{◌≡◌, ◌≤◌, ◌<◌, ℕ, ◌+◌, List, [], ◌∷◌, Option, Some, None, Bool, true, false, refl, sym, subst, ap, ◌∙◌, cond, if◌then◌else◌, ◌&&◌, not, ltb, arith, eqb, map, filter}
 use Rattle.std.proofs.lemmas.Bool.{eqb-true}
 use Rattle.std.proofs.lemmas.Bool.Decides.{nat_tests}
-use Rattle.std.specs.BTreeMap.{is_at}
-use Rattle.std.specs.Map.{lookup}
 use Rattle.gx_ids.specs.declared.ids.Gxid.{Gxid}
-use Rattle.gx_dsnap.specs.Gxids.{after_ended, first_or, gxid_cmp, is_below, is_listed}
+use Rattle.gx_dsnap.specs.Gxids.{after_ended, first_or, is_below, is_listed}
 use Rattle.gx_dsnap.specs.Snapshot.{sees}
 use Rattle.gx_dsnap.specs.declared.snapshot.Snapshot.{Snapshot}
-use Rattle.gx_dtx.specs.Table.{Table, find_txn, horizon_of, is_running, listed_of, runs, xmax_of, xmin_of}
+use Rattle.gx_dtx.specs.Table.{Table, find_txn, horizon_of, is_running, runs, xmax_of, xmin_of}
 use Rattle.gx_dtx.specs.Whole.{AreRisen, IsBelowAll}
 use Rattle.gx_dtx.specs.declared.txn.Txn.{Txn}
 use Rattle.gx_rules.specs.Snapshots.{latest_number, running_below, snapshot_of}

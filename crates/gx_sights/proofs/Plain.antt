@@ -1,5 +1,5 @@
 -- What changes of a transaction's status send, and that they leave nobody whose commands run.
-use Rattle.std.proofs.Common.{◌≡◌, ℕ, List, [], ◌∷◌, Option, Some, None, Bool, true, false, refl, if◌then◌else◌}
+use Rattle.std.proofs.Common.{◌≡◌, List, [], ◌∷◌, Option, Some, None, Bool, true, false, refl, if◌then◌else◌}
 use Rattle.gx_ids.specs.declared.ids.Gxid.{Gxid}
 use Rattle.gx_ids.specs.declared.ids.Node.{Node}
 use Rattle.gx_dtx.specs.Nodes.{to_each, without}
@@ -7,7 +7,7 @@ use Rattle.gx_dtx.specs.Rules.{abort_found, aborts, commit_found, commits, decid
 use Rattle.gx_dtx.specs.Table.{Table}
 use Rattle.gx_dtx.specs.declared.change.Change.{Change}
 use Rattle.gx_dtx.specs.declared.phase.Phase.{Phase}
-use Rattle.gx_dtx.specs.declared.phase.Phase.TheVariants.{Aborting, Active, CommittingOne, CommittingTwo, Ended, Preparing}
+use Rattle.gx_dtx.specs.declared.phase.Phase.TheVariants.{Aborting, CommittingOne, CommittingTwo, Ended, Preparing}
 use Rattle.gx_dtx.specs.declared.txn.Txn.{Txn}
 use Rattle.gx_msg.specs.declared.message.Message.{Message}
 use Rattle.gx_msg.specs.declared.message.Message.TheVariants as message
@@ -15,11 +15,8 @@ use Rattle.gx_msg.specs.declared.message.Out.{Out}
 use Rattle.gx_msg.specs.declared.reply.Reply.{Reply}
 use Rattle.gx_msg.specs.declared.reply.Reply.TheVariants as reply
 use Rattle.gx_laws.proofs.Lists.{Each, each_weaker}
-use Rattle.gx_laws.proofs.Stages.{left_of}
-use Rattle.gx_laws.proofs.Statuses.{Stage, stage}
 use Rattle.gx_laws.proofs.Statuses.Stage.{Absent, Closing, Dropped, Finished, Live}
-use Rattle.gx_sights.specs.Horizons.{IsLowIn}
-use Rattle.gx_sights.proofs.Reading.{FineIn, OutFine, Quiet, Works}
+use Rattle.gx_sights.proofs.Reading.{OutFine, Quiet, Works}
 
 abbrev pub NoExec : Message → Type 0
 NoExec (message.Exec g c l x h s) = ⊥

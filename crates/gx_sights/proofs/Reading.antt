@@ -1,40 +1,33 @@
 -- What the coordinator knows of the snapshots by which commands read, and how its calls keep it.
-use Rattle.std.proofs.Common.{◌≡◌, ◌≤◌, ◌<◌, ℕ, ◌+◌, List, [], ◌∷◌, Option, Some, None, Bool, true, false, refl, sym, subst, ap, ◌∙◌, cond, if◌then◌else◌, arith, eqb}
+use Rattle.std.proofs.Common.{◌≡◌, ◌≤◌, ◌<◌, ℕ, Option, Some, None, Bool, true, false, refl, sym, subst, ap, ◌∙◌, cond, if◌then◌else◌, arith, eqb}
 use Rattle.std.proofs.lemmas.Bool.{eqb-true}
 use Rattle.std.proofs.lemmas.Bool.Decides.{nat_tests}
 use Rattle.std.specs.Prelude.{option_map}
 use Rattle.std.specs.Map.{lookup}
 use Rattle.std.specs.BTreeMap.{is_at}
 use Rattle.gx_ids.specs.declared.ids.Gxid.{Gxid}
-use Rattle.gx_ids.specs.declared.ids.Node.{Node}
-use Rattle.gx_tree.specs.declared.stmt.Level.{Level}
-use Rattle.gx_tree.specs.declared.stmt.Level.TheVariants.{ReadCommitted, RepeatableRead}
+use Rattle.gx_tree.specs.declared.stmt.Level.TheVariants.{ReadCommitted}
 use Rattle.gx_dsnap.specs.Gxids.{gxid_cmp}
 use Rattle.gx_dsnap.specs.declared.snapshot.Snapshot.{Snapshot}
 use Rattle.gx_dtx.specs.Lives.{live_of}
-use Rattle.gx_dtx.specs.Nodes.{without}
-use Rattle.gx_dtx.specs.Rules.{abort_found, aborts, begun, changed, commit_found, commits, decides, ends_committed, finishes, forgets, gives_up, is_awaited, moved, on_abort, on_commit, on_reply, prepares, reply_found, stays, takes, with_step}
-use Rattle.gx_dtx.specs.Table.{Table, find_txn, horizon_of, new_txn}
+use Rattle.gx_dtx.specs.Rules.{changed, moved, with_step}
+use Rattle.gx_dtx.specs.Table.{Table, find_txn, horizon_of}
 use Rattle.gx_dtx.specs.declared.change.Change.{Change}
 use Rattle.gx_dtx.specs.declared.change.Step.{Step}
 use Rattle.gx_dtx.specs.declared.change.Step.TheVariants.{GoesTo, Leaves, Stays}
-use Rattle.gx_dtx.specs.declared.phase.Phase.{Phase}
-use Rattle.gx_dtx.specs.declared.phase.Phase.TheVariants.{Aborting, Active, CommittingOne, CommittingTwo, Ended, Preparing}
 use Rattle.gx_dtx.specs.declared.txn.Txn.{Txn}
-use Rattle.gx_dtx.proofs.Finds.{find-push, find-remove, find-with}
+use Rattle.gx_dtx.proofs.Finds.{find-remove, find-with}
 use Rattle.gx_msg.specs.declared.message.Message.{Message}
 use Rattle.gx_msg.specs.declared.message.Message.TheVariants as message
 use Rattle.gx_msg.specs.declared.message.Out.{Out}
-use Rattle.gx_msg.specs.declared.reply.Reply.{Reply}
-use Rattle.gx_msg.specs.declared.reply.Reply.TheVariants as reply
 use Rattle.gx_rules.specs.Coordinators.{Command, Work, no_work}
 use Rattle.gx_rules.specs.Maps.{with_at}
 use Rattle.gx_laws.proofs.Lists.{Each, each_weaker}
 use Rattle.gx_laws.proofs.Stages.{gx, left_of}
-use Rattle.gx_laws.proofs.Statuses.{Stage, stage}
+use Rattle.gx_laws.proofs.Statuses.{stage}
 use Rattle.gx_laws.proofs.Statuses.Stage.{Live}
 use Rattle.gx_sights.specs.Horizons.{IsLowIn}
-use Rattle.gx_sights.proofs.Heights.{Rises, Sorted, begun-rises, changed-rises, rises-same}
+use Rattle.gx_sights.proofs.Heights.{Rises, Sorted, changed-rises}
 use Rattle.gx_sights.proofs.Held.{Held}
 
 -- ONE TRANSACTION

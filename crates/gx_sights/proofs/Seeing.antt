@@ -1,5 +1,5 @@
 -- What counts for a reader at a segment is what the marks before its point say.
-use Rattle.std.proofs.Common.{◌≡◌, ◌≤◌, ◌<◌, ℕ, ◌+◌, zero, suc, List, [], ◌∷◌, ◌++◌, Option, Some, None, Bool, true, false, refl, sym, subst, ap, ◌∙◌, if◌then◌else◌, ◌==◌, ◌&&◌, ◌||◌, nat_lt, arith, eqb, append-nil}
+use Rattle.std.proofs.Common.{◌≡◌, ◌≤◌, ℕ, ◌+◌, zero, suc, List, [], ◌∷◌, ◌++◌, Option, Some, None, Bool, true, false, refl, sym, subst, ap, ◌∙◌, ◌==◌, ◌&&◌, ◌||◌, nat_lt, arith, eqb, append-nil}
 use Rattle.std.proofs.lemmas.Bool.Decides.{nat_tests}
 use Rattle.std.proofs.lemmas.List.{append_assoc}
 use Rattle.std.specs.Prelude.{filter, slice_get, take}
@@ -18,7 +18,7 @@ use Rattle.gx_script.specs.declared.Script.{Script}
 use Rattle.gx_store.specs.declared.event.Event.{Event}
 use Rattle.gx_store.specs.declared.mark.Mark.{Mark}
 use Rattle.gx_store.specs.declared.mark.Mark.TheVariants as mark
-use Rattle.gx_store.specs.Marks.{is_aborted, is_committed, is_ended, is_same_gxid}
+use Rattle.gx_store.specs.Marks.{is_aborted, is_committed, is_same_gxid}
 use Rattle.gx_store.specs.Points.{marks_in}
 use Rattle.gx_store.specs.Protocol.{is_writer}
 use Rattle.gx_store.specs.Rows.{row_at}
@@ -28,30 +28,29 @@ use Rattle.std.specs.declared.vec.Vec.{Vec}
 use Rattle.gx_tree.specs.declared.row.KeyedRow.{KeyedRow}
 use Rattle.gx_rules.specs.AtSegment.{raised}
 use Rattle.gx_rules.specs.Machine.{Letter, World, after, happens, new_world, world_of}
-use Rattle.gx_rules.specs.Segments.{Seg, Version, has_committed, local_of}
+use Rattle.gx_rules.specs.Segments.{Version, has_committed}
 use Rattle.gx_rules.specs.Shown.{counts, last_images, rows_in, shown}
 use Rattle.gx_rules.specs.Snapshots.{snapshot_of}
 use Rattle.gx_laws.specs.Seen.{AreEndedSeen, SeesEnded}
 use Rattle.gx_laws.proofs.Journals.{Hold, happens-after, new-hold}
-use Rattle.gx_laws.proofs.Lists.{Each, each_weaker}
+use Rattle.gx_laws.proofs.Lists.{each_weaker}
 use Rattle.gx_laws.proofs.Ordered.{Well, happens_well, new_well}
 use Rattle.gx_laws.proofs.Past.{aborted-append, committed-append, seen-now}
 use Rattle.gx_laws.proofs.SegItems.{writes_at}
-use Rattle.gx_laws.proofs.Stages.{gx}
 use Rattle.gx_laws.proofs.World.{Knows, world_knows}
-use Rattle.gx_protocol.specs.Standings.{Part, at}
+use Rattle.gx_protocol.specs.Standings.{at}
 use Rattle.gx_protocol.proofs.Always.{world-holds}
-use Rattle.gx_protocol.proofs.Everywhere.{Holds, parts_in}
+use Rattle.gx_protocol.proofs.Everywhere.{Holds}
 use Rattle.gx_shown.specs.Last.{last_image, row_of}
 use Rattle.gx_shown.proofs.Kept.{image_in-last_images, in_order-last_images}
 use Rattle.gx_shown.proofs.Rows.{rising-rows_in, row_at-rows_in}
-use Rattle.gx_sights.specs.Horizons.{IsNobodyDropped, IsSeenBelow, IsToRun}
-use Rattle.gx_sights.specs.Sights.{AreAtHome, AreRowsOfAll, AreShownViews, DoesEndAt, IsOnlyAt, IsShownView, ShowsCommitted, counts_for_all, shown_to_all}
+use Rattle.gx_sights.specs.Horizons.{IsNobodyDropped, IsSeenBelow}
+use Rattle.gx_sights.specs.Sights.{AreAtHome, AreRowsOfAll, AreShownViews, DoesEndAt, IsOnlyAt, IsShownView, ShowsCommitted, counts_for_all}
 use Rattle.gx_sights.proofs.Ends.{Ends, Facts, world-facts}
 use Rattle.gx_sights.proofs.Held.{held-now, horizon-xmin}
 use Rattle.gx_sights.proofs.Images.{row-is, versions-written}
 use Rattle.gx_sights.proofs.Below.{low-seen, nobody-dropped}
-use Rattle.gx_sights.proofs.Low.{Lows, latest}
+use Rattle.gx_sights.proofs.Low.{latest}
 
 -- versions are the marks' writes, in every run
 module _ (script : Script) (some : 1 ≤ script.segments) where

@@ -1,6 +1,5 @@
 -- What a command sees at a node stays, whatever comes later.
 use Rattle.std.proofs.Common.{◌≡◌, ◌≤◌, ◌<◌, ℕ, zero, suc, List, [], ◌∷◌, ◌++◌, Option, Some, None, Bool, true, false, refl, sym, subst, ap, ◌∙◌, if◌then◌else◌, ◌==◌, ◌&&◌, ◌||◌, nat_lt, arith, eqb, append-nil}
-use Rattle.std.proofs.lemmas.Bool.{eqb-true}
 use Rattle.std.proofs.lemmas.Bool.Decides.{nat_tests}
 use Rattle.std.proofs.lemmas.List.{append_assoc}
 use Rattle.std.specs.Prelude.{slice_get, take}
@@ -44,7 +43,7 @@ use Rattle.gx_dtx.specs.Table.{horizon_of}
 use Rattle.gx_sights.specs.Horizons.{HasRisen}
 use Rattle.gx_sights.specs.Sights.{DoViewsStay, IsOnlyAt}
 use Rattle.gx_sights.proofs.Low.{by}
-use Rattle.gx_sights.proofs.Ends.{Ends, Facts, NewWrite, TakenAt, all-marks, coord-facts, last-next, no-parts, seg-facts, world-facts, writes-new}
+use Rattle.gx_sights.proofs.Ends.{Facts, NewWrite, TakenAt, all-marks, coord-facts, last-next, no-parts, seg-facts, world-facts, writes-new}
 use Rattle.gx_sights.proofs.Steps.{SaidTo, event-leads, keeps-after}
 
 take-kept : {A : Type 0} (xs ys : List A) (k : ℕ) (x : A) → slice_get xs k ≡ Some x → take k (xs ++ ys) ≡ take k xs

@@ -1,9 +1,8 @@
 -- What each step keeps holds in every run of the machine.
-use Rattle.std.proofs.Common.{◌≡◌, ◌≤◌, ◌⊎◌, inl, inr, ℕ, List, [], ◌∷◌, Option, Some, None, Bool, true, false, refl, sym, subst, ap, ◌∙◌, if◌then◌else◌, arith}
+use Rattle.std.proofs.Common.{◌≡◌, ◌≤◌, inl, inr, ℕ, List, [], ◌∷◌, Option, Some, None, Bool, true, false, refl, sym, subst, ap, ◌∙◌, if◌then◌else◌, arith}
 use Rattle.std.proofs.lemmas.Bool.Decides.{nat_tests}
 use Rattle.gx_ids.specs.declared.ids.Node.{Node}
 use Rattle.gx_msg.specs.declared.message.Envelope.{Envelope}
-use Rattle.gx_msg.specs.declared.message.Message.{Message}
 use Rattle.gx_script.specs.declared.Script.{Script}
 use Rattle.gx_store.specs.declared.event.Event.{Event}
 use Rattle.gx_store.specs.declared.event.Event.TheVariants as event
@@ -21,7 +20,7 @@ use Rattle.gx_laws.proofs.Letters.{IsFound, IsLetter, found_is}
 use Rattle.gx_laws.proofs.Lists.{Each}
 use Rattle.gx_laws.proofs.Ordered.{never_resumes}
 use Rattle.gx_laws.proofs.World.{Knows, happens_knows, new_knows}
-use Rattle.gx_protocol.specs.Said.{Said, SaidAt, SaidIn, gxid_in, is_answer, segment_of}
+use Rattle.gx_protocol.specs.Said.{Said, SaidAt, SaidIn, gxid_in, is_answer}
 use Rattle.gx_protocol.specs.Standings.{at, known_at}
 use Rattle.gx_protocol.proofs.Always.{answer-of, each-zip, happens-holds, new-holds}
 use Rattle.gx_protocol.proofs.Events.{event-led}

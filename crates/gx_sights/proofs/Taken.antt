@@ -14,14 +14,13 @@ use Rattle.gx_tree.specs.declared.stmt.Stmt.TheVariants as stmt
 use Rattle.gx_dsnap.specs.declared.snapshot.Snapshot.{Snapshot}
 use Rattle.gx_dtx.specs.Nodes.{has, without}
 use Rattle.gx_dtx.specs.Orders.{message_of}
-use Rattle.gx_dtx.specs.Rules.{Turn, abort_found, awaited_order, commit_found, on_abort, on_commit, on_reply, reply_found}
+use Rattle.gx_dtx.specs.Rules.{Turn, awaited_order, on_abort, on_commit, on_reply}
 use Rattle.gx_dtx.specs.Table.{Table, find_txn, horizon_of, new_txn}
 use Rattle.gx_dtx.specs.declared.order.Order.{Order}
 use Rattle.gx_dtx.specs.declared.order.Order.TheVariants as order
 use Rattle.gx_dtx.specs.declared.outcome.Outcome.{Outcome}
 use Rattle.gx_dtx.specs.declared.outcome.Outcome.TheVariants as outcome
 use Rattle.gx_dtx.specs.declared.phase.Phase.{Phase as Status}
-use Rattle.gx_dtx.specs.declared.phase.Phase.TheVariants as status
 use Rattle.gx_dtx.specs.declared.txn.Txn.{Txn}
 use Rattle.gx_eval.specs.declared.fault.ArithFault.{ArithFault}
 use Rattle.gx_msg.specs.declared.message.Message.{Message}
@@ -49,20 +48,19 @@ use Rattle.gx_store.specs.Points.{marks_in}
 use Rattle.gx_store.specs.Writes.{dist_of}
 use Rattle.gx_rules.specs.AtCoordinator as coordinator
 use Rattle.gx_rules.specs.AtCoordinator.{Reading, answer_mark, answers, awaited, begins, command_order, completes, coord_can, dispatches, ends_in, enlisted_all, failure_marks, fault_mark, follows, goes, goes_on, goes_out, is_awaited, is_idle, is_nothing, is_refused, next_cid, next_line, nodes_in, on_answer, on_done, on_failed, on_line, on_message, on_status, order_to, orders_of, reads_by, reads_for, reason_of, refusal_of, resends, rolls_back, starts, starts_line, status_order, table_of, takes_done, takes_snapshot, with_done}
-use Rattle.gx_rules.specs.Coordinators.{Command, Coord, CoordTurn, Session, Work, new_work, rests, session_of, with_state, with_work, work_of}
+use Rattle.gx_rules.specs.Coordinators.{Command, Coord, CoordTurn, Session, rests, session_of, with_state, with_work, work_of}
 use Rattle.gx_rules.specs.Fits.{fits_part}
 use Rattle.gx_rules.specs.Machine.{World}
-use Rattle.gx_rules.specs.Maps.{with_at}
 use Rattle.gx_laws.proofs.Lists.{Each, each_append, each_weaker}
 use Rattle.gx_laws.proofs.Lines.{asks}
 use Rattle.gx_laws.proofs.Past.{committed-append}
 use Rattle.gx_laws.proofs.Sessions.{is_nothing_in, is_open_in, is_working_in, stage_of}
 use Rattle.gx_laws.proofs.Stages.{gx}
-use Rattle.gx_laws.proofs.Statuses.{Moves, Stage, Turned, reply-turns, stage, stage_in}
+use Rattle.gx_laws.proofs.Statuses.{Moves, Turned, reply-turns, stage, stage_in}
 use Rattle.gx_laws.proofs.Statuses.Stage.{Closing, Live as Running}
 use Rattle.gx_laws.proofs.World.{Knows}
 use Rattle.gx_protocol.specs.Said.{Answers, IsCommand, IsDone, Said, gxid_in, is_answer}
-use Rattle.gx_protocol.specs.Standings.{Known, Part, at, is_closing, known_at, standing, standing_in, waits_in}
+use Rattle.gx_protocol.specs.Standings.{Known, at, is_closing, known_at, standing, standing_in, waits_in}
 use Rattle.gx_protocol.specs.Standings.Standing.{Live}
 use Rattle.gx_protocol.proofs.Everywhere.{Holds, parts_in}
 use Rattle.gx_protocol.proofs.Nodes.{has-without}

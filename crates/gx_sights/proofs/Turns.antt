@@ -1,64 +1,43 @@
 -- What the coordinator's events keep of the snapshots by which commands read.
-use Rattle.std.proofs.Common.{◌≡◌, ◌≤◌, ◌<◌, ℕ, ◌+◌, List, [], ◌∷◌, Option, Some, None, Result, Ok, Err, Bool, true, false, refl, sym, subst, ap, ◌∙◌, cond, if◌then◌else◌, ◌&&◌, arith, eqb}
+use Rattle.std.proofs.Common.{◌≡◌, ◌≤◌, ◌<◌, ℕ, List, [], ◌∷◌, Option, Some, None, Bool, true, false, refl, sym, subst, ap, ◌∙◌, cond, if◌then◌else◌, ◌&&◌, arith, eqb}
 use Rattle.std.proofs.lemmas.Bool.{eqb-true}
-use Rattle.std.proofs.lemmas.Bool.Decides.{nat_tests}
-use Rattle.std.specs.Prelude.{map, option_map}
+use Rattle.std.specs.Prelude.{option_map}
 use Rattle.gx_ids.specs.declared.ids.Cid.{Cid}
 use Rattle.gx_ids.specs.declared.ids.Gxid.{Gxid}
 use Rattle.gx_ids.specs.declared.ids.Node.{Node}
-use Rattle.gx_ids.specs.declared.ids.SessionId.{SessionId}
 use Rattle.gx_tree.specs.declared.part.Part.{Part}
 use Rattle.gx_tree.specs.declared.stmt.Level.{Level}
 use Rattle.gx_tree.specs.declared.stmt.Level.TheVariants.{ReadCommitted, RepeatableRead}
-use Rattle.gx_tree.specs.declared.stmt.Stmt.{Stmt}
-use Rattle.gx_tree.specs.declared.stmt.Stmt.TheVariants as stmt
 use Rattle.gx_dsnap.specs.declared.snapshot.Snapshot.{Snapshot}
 use Rattle.gx_dtx.specs.Lives.{live_of}
-use Rattle.gx_dtx.specs.Nodes.{has, with_node, without}
-use Rattle.gx_dtx.specs.Orders.{message_of}
-use Rattle.gx_dtx.specs.Rules.{Turn, abort_found, begun, changed, commit_found, enlisted, on_abort, on_commit, on_reply, reply_found, turns, with_live}
-use Rattle.gx_dtx.specs.Table.{Table, find_txn, horizon_of, new_txn, runs, xmin_of}
+use Rattle.gx_dtx.specs.Nodes.{without}
+use Rattle.gx_dtx.specs.Rules.{abort_found, changed, commit_found, on_abort, on_commit, on_reply, reply_found, turns, with_live}
+use Rattle.gx_dtx.specs.Table.{Table, find_txn, horizon_of}
 use Rattle.gx_dtx.specs.declared.change.Change.{Change}
-use Rattle.gx_dtx.specs.declared.order.Order.{Order}
-use Rattle.gx_dtx.specs.declared.order.Order.TheVariants as order
 use Rattle.gx_dtx.specs.declared.outcome.Outcome.{Outcome}
 use Rattle.gx_dtx.specs.declared.outcome.Outcome.TheVariants as outcome
 use Rattle.gx_dtx.specs.declared.txn.Txn.{Txn}
-use Rattle.gx_dtx.proofs.Finds.{find-push, find-with}
-use Rattle.gx_eval.specs.declared.fault.ArithFault.{ArithFault}
+use Rattle.gx_dtx.proofs.Finds.{find-with}
 use Rattle.gx_msg.specs.declared.message.Message.{Message}
 use Rattle.gx_msg.specs.declared.message.Message.TheVariants as message
 use Rattle.gx_msg.specs.declared.message.Out.{Out}
 use Rattle.gx_msg.specs.declared.reply.Cause.{Cause}
 use Rattle.gx_msg.specs.declared.reply.Reply.{Reply}
 use Rattle.gx_msg.specs.declared.reply.Reply.TheVariants as reply
-use Rattle.gx_plan.specs.Plan.{plan_of}
-use Rattle.gx_plan.specs.declared.piece.Piece.{Piece}
-use Rattle.gx_script.specs.declared.Script.{Script}
-use Rattle.gx_session.specs.Session.{line_step}
-use Rattle.gx_session.specs.declared.line_step.LineStep.{LineStep}
-use Rattle.gx_session.specs.declared.line_step.LineStep.TheVariants as step
 use Rattle.gx_session.specs.declared.state.Block.{Block}
 use Rattle.gx_session.specs.declared.state.Block.TheVariants.{Failed, Open, Outside}
-use Rattle.gx_store.specs.Writes.{dist_of}
 use Rattle.gx_store.specs.declared.answer.Refused.{Refused}
 use Rattle.gx_store.specs.declared.mark.Mark.{Mark}
-use Rattle.gx_store.specs.declared.node.NodeEvent.{NodeEvent}
-use Rattle.gx_store.specs.declared.node.NodeEvent.TheVariants as event
 use Rattle.gx_rules.specs.AtCoordinator.{Reading, answers, awaited, begins, command_order, completes, dispatches, ends_in, enlisted_all, fault_mark, follows, goes, goes_on, goes_out, is_awaited, is_refused, kept_at, next_cid, next_line, nodes_in, on_answer, on_done, on_event, on_failed, on_line, on_message, on_status, order_of, order_to, orders_of, reads_by, reads_for, reason_of, refusal_of, resends, rolls_back, starts, starts_line, status_order, table_of, takes_done, takes_snapshot, unless_kept, with_done, writers_with}
-use Rattle.gx_rules.specs.Coordinators.{Command, Coord, CoordTurn, Session, Work, new_work, no_work, rests, session_of, with_work, work_of}
+use Rattle.gx_rules.specs.Coordinators.{Command, Coord, CoordTurn, Work, no_work, rests, session_of, with_work, work_of}
 use Rattle.gx_rules.specs.Fits.{fits_part}
 use Rattle.gx_rules.specs.Maps.{with_at}
-use Rattle.gx_rules.specs.Snapshots.{snapshot_of}
-use Rattle.gx_laws.proofs.Lists.{Each, each_weaker}
+use Rattle.gx_laws.proofs.Lists.{Each}
 use Rattle.gx_laws.proofs.Stages.{gx}
-use Rattle.gx_laws.proofs.Statuses.{Stage, stage}
-use Rattle.gx_laws.proofs.Statuses.Stage.{Absent, Live}
-use Rattle.gx_sights.specs.Horizons.{IsLowIn}
-use Rattle.gx_sights.proofs.Heights.{Rises, Sorted, begun-rises, changed-rises, enlisted-rises, live-rises, rises-same, rises-then}
-use Rattle.gx_sights.proofs.Held.{Held, Latest, held-now, horizon-xmin}
-use Rattle.gx_sights.proofs.Plain.{Mild, NoExec, abort-mild, commit-mild, reply-mild, sent-fine}
-use Rattle.gx_sights.proofs.Reading.{CommandLow, CountedIn, Fine, FineIn, OrderHeld, OrderLow, OutFine, Quiet, Reads, Stood, Went, Works, apart-same, at-self, command-low, le-refl, low-then, one-went, over-went, quiet-went, reads-none, self, step-apart, went-same}
+use Rattle.gx_laws.proofs.Statuses.{stage}
+use Rattle.gx_sights.proofs.Heights.{live-rises, rises-same}
+use Rattle.gx_sights.proofs.Plain.{Mild, abort-mild, commit-mild, reply-mild, sent-fine}
+use Rattle.gx_sights.proofs.Reading.{CommandLow, CountedIn, Fine, OrderHeld, OutFine, Reads, Stood, Went, Works, apart-same, at-self, le-refl, one-went, over-went, quiet-went, self, went-same}
 
 -- what an event has made of what is known
 pub record WentBy (c : Coord) (turn : CoordTurn) : Type 0 where

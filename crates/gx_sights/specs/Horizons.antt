@@ -1,11 +1,10 @@
 -- Horizons: what stands below one counts as ended, so nobody below it may still be needed.
-use Rattle.std.specs.Prelude.{◌≡◌, ◌≤◌, ◌<◌, ◌||◌, ℕ, Bool, true, false, List, [], ◌∷◌, None, Some}
+use Rattle.std.specs.Prelude.{◌≡◌, ◌≤◌, ◌<◌, ◌||◌, ℕ, true, false, List, [], ◌∷◌, Some}
 use Rattle.gx_ids.specs.declared.ids.Cid.{Cid}
 use Rattle.gx_ids.specs.declared.ids.Gxid.{Gxid}
 use Rattle.gx_ids.specs.declared.ids.Node.{Node}
 use Rattle.gx_dsnap.specs.Gxids.{is_below}
 use Rattle.gx_dsnap.specs.Snapshot.{sees}
-use Rattle.gx_dsnap.specs.declared.snapshot.Snapshot.{Snapshot}
 use Rattle.gx_dtx.specs.Table.{find_txn, horizon_of}
 use Rattle.gx_dtx.specs.declared.txn.Txn.{Txn}
 use Rattle.gx_msg.specs.declared.message.Message.{Message}

@@ -21,7 +21,7 @@ use Rattle.gx_store.specs.Marks.{is_aborted, is_committed, is_same_rid}
 use Rattle.gx_store.specs.Points.{marks_in}
 use Rattle.gx_store.specs.Protocol.{is_writer}
 use Rattle.gx_store.specs.Rows.{row_at}
-use Rattle.gx_store.specs.View.{IsView, image}
+use Rattle.gx_store.specs.View.{image}
 use Rattle.gx_rules.specs.AtSegment.{raised}
 use Rattle.gx_rules.specs.Machine.{Letter, World}
 use Rattle.gx_rules.specs.Segments.{Seg, Version, has_committed, local_of}
