@@ -7,3 +7,4 @@ pub mod Told
 pub mod Legal
 pub mod Moves
 pub mod World
+pub mod Walk
