@@ -133,7 +133,7 @@ or-left a b e = grind arith
 and-both : (a b : Bool) → a ≡ true → b ≡ true → (a && b) ≡ true
 and-both a b e f = grind arith
 
-has-snap : (ms : List Mark) (k : ℕ) (g : Gxid) (d : Cid) (x : Snapshot) → slice_get ms k ≡ Some (mark.Snap g d x) → (has_snapshot ms g ≡ true) × (is_snapped ms g d ≡ true)
+pub has-snap : (ms : List Mark) (k : ℕ) (g : Gxid) (d : Cid) (x : Snapshot) → slice_get ms k ≡ Some (mark.Snap g d x) → (has_snapshot ms g ≡ true) × (is_snapped ms g d ≡ true)
 has-snap [] k g d x e = absurd (cc)
 has-snap (m ∷ ms) zero g d x e = subst (λ (y : Mark). (has_snapshot (y ∷ ms) g ≡ true) × (is_snapped (y ∷ ms) g d ≡ true)) (some-same (mark.Snap g d x) m (sym e)) (or-left _ _ (self-test g.0), or-left _ _ (and-both _ _ (self-test g.0) (self-test d.0)))
   where
@@ -177,7 +177,7 @@ module _ (script : Script) (numbered : AreLinesNumbered [] script.lines) (w : Wo
   pub level-is : (t : Table) (tuples : List (List Expr)) → r.command.stmt ≡ stmt.Insert t tuples → level_of_began script (began_from [] ms (gx g)) ≡ level_of (state_in r.block r.commands)
   level-is t tuples q = ap (level_of_began script) r.roots.began ∙ first-level r.block r.roots.first _ r.commands r.command.stmt t tuples r.busy r.roots.opening r.line q
 
-read-served : (ms : List Mark) (level : Level) (g : Gxid) (c : Cid) (t : Table) (tuples : List (List Expr)) (line : Stmt) (x : Option Snapshot) → line ≡ stmt.Insert t tuples → IsReadBy ms level g c line x → has_own_snapshot level ms g c ≡ true
+pub read-served : (ms : List Mark) (level : Level) (g : Gxid) (c : Cid) (t : Table) (tuples : List (List Expr)) (line : Stmt) (x : Option Snapshot) → line ≡ stmt.Insert t tuples → IsReadBy ms level g c line x → has_own_snapshot level ms g c ≡ true
 read-served ms level g c t tuples line x e r = from (subst (λ l. IsReadBy ms level g c l x) e r)
   where
     from : (y : Snapshot) × (x ≡ Some y) × IsServed ms level g c y → has_own_snapshot level ms g c ≡ true

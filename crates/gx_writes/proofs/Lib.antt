@@ -8,3 +8,7 @@ pub mod Legal
 pub mod Moves
 pub mod World
 pub mod Walk
+pub mod Counts
+pub mod Progress
+pub mod Answers
+pub mod Counted

@@ -104,6 +104,31 @@ module _ (script : Script) (w : World) (sessions : AreSessions script w) (g : �
           differ : pending.Command ≡ pending.Nothing → ⊥
           differ z = cc
 
+  -- what is known of a transaction whose commands run
+  pub live-owns : Kept w.coord → stage_of w.coord g ≡ LiveStage → (n : ℕ) × (b : Block) × Owns home n ms w.coord.table.next.0 b (gx g) work
+  live-owns k live = by_standing (sessions home).stands
+    where
+      l : (x.transaction.0 ≡ g) × (is_live_in x.state.block x.state.pending ≡ true)
+      l = (k.tied g).live live
+
+      same : x.transaction ≡ gx g
+      same = ap (λ (n : ℕ). gx n) l.0
+
+      busy : is_busy x.state.block x.state.pending ≡ true
+      busy = any-busy x.state.block x.state.pending l.1
+        where
+          any-busy : (b : Block) (p : Pending) → is_live_in b p ≡ true → is_busy b p ≡ true
+          any-busy b p e = grind arith
+
+      not-over : (b : Block) (p : Pending) → is_live_in b p ≡ true → b ≡ block.Outside → p ≡ pending.Nothing → ⊥
+      not-over b p e f h = grind arith
+
+      by_standing : IsStanding script home ms w.coord.table.next.0 x.state.block x.state.pending x.lines x.transaction (work_of w.coord x.transaction) (Rattle.gx_store.specs.Points.ends_in home w.steps) → (n : ℕ) × (b : Block) × Owns home n ms w.coord.table.next.0 b (gx g) work
+      by_standing (inl s) =
+          let t : Stands script home ms w.coord.table.next.0 x.state.block x.state.pending x.lines (gx g) work = subst (λ (y : Gxid). Stands script home ms w.coord.table.next.0 x.state.block x.state.pending x.lines y (work_of w.coord y)) same s.1 in
+          (t.commands, x.state.block, (t.owns busy).0)
+      by_standing (inr o) = absurd (not-over x.state.block x.state.pending l.1 o.1.outside o.1.idle)
+
   pub running : Kept w.coord → (i : ℕ) → waits_in work.command i ≡ true → Running script w g
   running k i e = by_command work.command refl e
     where
@@ -134,7 +159,7 @@ module _ (script : Script) (w : World) (g : ℕ) (r : Running script w g) (e : E
   transaction-is (block.Open l) m busy u f o h s begun started = started ∙ h
   transaction-is block.Failed m busy u f o h s begun started = absurd (cc)
 
-  runs : RunsCommand script point k r.command.stmt (level_of (state_in r.block r.commands)) (gx g) r.command.cid
+  pub runs : RunsCommand script point k r.command.stmt (level_of (state_in r.block r.commands)) (gx g) r.command.cid
   runs =
       record {
         line = record { started = sum n (starts_in k w.steps) (starts_by k e) r.starts r.answered quiet ∙ ap (λ i. i + 1) (sym said.answered); line = ap (λ i. stmt_of k (i + 1) script.lines) said.answered ∙ ap (λ i. stmt_of k i script.lines) r.answered ∙ r.line };

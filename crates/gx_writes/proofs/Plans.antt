@@ -135,6 +135,14 @@ module _ (n : ℕ) (dist : ℕ → Dist) (g : Gxid) (c : Cid) (node : Node) (tab
   piece-is stmt.Commit ps e k = absurd (none-at-all ps e k)
   piece-is stmt.Rollback ps e k = absurd (none-at-all ps e k)
 
+-- an INSERT's piece has the rows of its segment
+pub insert-slice : (n : ℕ) (dist : ℕ → Dist) (g : Gxid) (c : Cid) (node : Node) (t : Table) (tuples : List (List Expr)) (all : List KeyedRow) (ps : List Piece) (s : Slice) → rows_of g c tuples ≡ Ok all → plan_of n (dist t.0) g c (stmt.Insert t tuples) ≡ Ok ps → Contains ps (record { node = node; slice = s }) → s ≡ slice.Insert t (rows_at n (dist t.0) all node.0)
+insert-slice n dist g c node t tuples all ps s r e k =
+    in-each (IsPart n (dist t.0) t all) ps (record { node = node; slice = s }) (subst (Each (IsPart n (dist t.0) t all)) (ok-same (sym (ap (λ o. and_then o (λ xs. Ok (insert_pieces n (dist t.0) t xs))) r) ∙ e)) (parts-are n (dist t.0) t all (nodes_from 1 n))) k
+  where
+    ok-same : {xs ys : List Piece} → (let o : Result (List Piece) ArithFault = Ok xs in o) ≡ Ok ys → xs ≡ ys
+    ok-same q = cc
+
 -- THE ORDERS OF A RUN
 module _ (script : Script) (marks : List Mark) where
   pub row-piece : (node : Node) (g : Gxid) (c : Cid) (level : Level) (snapshot : Option Snapshot) (table : Table) (rows : List KeyedRow) → IsOrder script marks node g c level snapshot (slice.Insert table rows) → IsRowPiece script marks node g c table rows

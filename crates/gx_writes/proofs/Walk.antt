@@ -111,17 +111,23 @@ module _ (script : Script) (c : Coord) (x : NodeEvent) where
   Goes g ns old new = ((new.command ≡ old.command) × (new.level ≡ old.level)) ⊎ (new.command ≡ None) ⊎ Took g old new ⊎ New g ns old new
 
   -- a command that is answered: nothing of it is awaited any more
-  pub record Completes (s : SessionId) (n : ℕ) : Type 0 where
+  pub record Completes (s : SessionId) (a : StmtAnswer) : Type 0 where
     pub g : ℕ
     pub home : (c.works g).session ≡ s
+    pub from : Node
+    pub envelope : Envelope
+    pub heard : x ≡ event.Deliver from envelope
     pub m : Command
-    pub says : command_answer m m.stmt ≡ told.Inserted n
+    pub says : command_answer m m.stmt ≡ a
     pub all : m.awaited ≡ []
     pub how : (((c.works g).command ≡ Some m) × (stage_of c g ≡ Closing) × ((session_of c s).state.pending ≡ pending.Command)) ⊎ ((k : Command) × (i : Node) × (count : ℕ) × (part : QueryPart) × ((c.works g).command ≡ Some k) × (m ≡ with_done k i count part) × IsDoneBy g k i count)
 
   abbrev pub AnswerOk : List Mark → SessionId → StmtAnswer → Type 0
-  AnswerOk earlier s (told.Inserted n) = Completes s n × Each Still earlier
-  AnswerOk earlier s a = Unit {0}
+  AnswerOk earlier s told.Begin = Unit {0}
+  AnswerOk earlier s told.Commit = Unit {0}
+  AnswerOk earlier s told.Rollback = Unit {0}
+  AnswerOk earlier s (told.Refused reason) = Unit {0}
+  AnswerOk earlier s a = Completes s a × Each Still earlier
 
   abbrev pub AnswerAt : List Mark → Mark → Type 0
   AnswerAt earlier (mark.Answer s n a) = AnswerOk earlier s a
@@ -161,6 +167,14 @@ module _ (script : Script) (c : Coord) (x : NodeEvent) where
   rest-walk : Walk [] (rests c)
   rest-walk = record { works = λ h. inl (refl, refl); answers = tt }
 
+  -- the answer to a command that succeeded
+  abbrev is_success : StmtAnswer → Bool
+  is_success told.Begin = false
+  is_success told.Commit = false
+  is_success told.Rollback = false
+  is_success (told.Refused reason) = false
+  is_success a = true
+
   -- TURNS of a coordinator on the way, whose works but one are as before
   module _ (c1 : Coord) (g : ℕ) (others : (h : ℕ) → eqb h g ≡ false → c1.works h ≡ c.works h) (earlier : List Mark) where
     with-others : (w : Work) (h : ℕ) → eqb h g ≡ false → with_at c1.works g w h ≡ c.works h
@@ -170,18 +184,18 @@ module _ (script : Script) (c : Coord) (x : NodeEvent) where
     with-here w = ap (λ b. if b then w else c1.works g) (self-test g)
 
     -- an answer to a command
-    by-answer : (before : List Mark) (s : SessionId) (a : StmtAnswer) → ((n : ℕ) → a ≡ told.Inserted n → Completes s n × Each Still before) → AnswerOk before s a
-    by-answer before s (told.Inserted n) f = f n refl
+    by-answer : (before : List Mark) (s : SessionId) (a : StmtAnswer) → (is_success a ≡ true → Completes s a × Each Still before) → AnswerOk before s a
+    by-answer before s (told.Inserted n) f = f refl
     by-answer before s told.Begin f = tt
     by-answer before s told.Commit f = tt
     by-answer before s told.Rollback f = tt
-    by-answer before s told.Locked f = tt
-    by-answer before s (told.Updated n) f = tt
-    by-answer before s (told.Deleted n) f = tt
-    by-answer before s (told.Rows rows) f = tt
+    by-answer before s told.Locked f = f refl
+    by-answer before s (told.Updated n) f = f refl
+    by-answer before s (told.Deleted n) f = f refl
+    by-answer before s (told.Rows rows) f = f refl
     by-answer before s (told.Refused r) f = tt
 
-    at-commit : (before : List Mark) (s : SessionId) (w : Work) (p : Pending) → (p ≡ pending.Command → (n : ℕ) → answer_of_command w.command ≡ told.Inserted n → Completes s n × Each Still before) → AnswerOk before s (answer_at_commit w p)
+    at-commit : (before : List Mark) (s : SessionId) (w : Work) (p : Pending) → (p ≡ pending.Command → is_success (answer_of_command w.command) ≡ true → Completes s (answer_of_command w.command) × Each Still before) → AnswerOk before s (answer_at_commit w p)
     at-commit before s w pending.Command f = by-answer before s (answer_of_command w.command) (f refl)
     at-commit before s w pending.Nothing f = tt
     at-commit before s w pending.Commit f = tt
@@ -364,13 +378,16 @@ module _ (script : Script) (c : Coord) (x : NodeEvent) where
       took : (ns : List Mark) → Goes g ns (c.works g) (c1.works g)
       took ns = inr (inr (inl (record { m = m; i = i; count = count; part = part; has_it = has_it; now = ap (λ (w : Work). w.command) work-now; by = by; level = ap (λ (w : Work). w.level) work-now })))
 
-      completes-it : without i m.awaited ≡ [] → (before : List Mark) → Each Still before → (n : ℕ) → answer_of_command (c1.works g).command ≡ told.Inserted n → Completes (c1.works g).session n × Each Still before
-      completes-it e before still n q = (
+      completes-it : without i m.awaited ≡ [] → (before : List Mark) → Each Still before → Completes (c1.works g).session (answer_of_command (c1.works g).command) × Each Still before
+      completes-it e before still = (
         record {
           g = g;
           home = ap (λ (w : Work). w.session) (sym work-now);
+          from = i;
+          envelope = by.envelope;
+          heard = by.is;
           m = with_done m i count part;
-          says = ap (λ (w : Work). answer_of_command w.command) (sym work-now) ∙ q;
+          says = ap (λ (w : Work). answer_of_command w.command) (sym work-now);
           all = e;
           how = inr (m, i, count, part, has_it, refl, by);
         },
@@ -378,10 +395,10 @@ module _ (script : Script) (c : Coord) (x : NodeEvent) where
       )
 
       commit-walk : without i m.awaited ≡ [] → Walk [] (commits c1 (gx g))
-      commit-walk e = follows-walk c1 g others1 [] (on_commit c1.table (gx g) (work_of c1 (gx g)).writers) _ took (λ q r. at-commit c1 g others1 [] (mark.Commit (gx g) ∷ []) (c1.works g).session (c1.works g) _ (λ p n a. completes-it e (mark.Commit (gx g) ∷ []) (tt, tt) n a)) refl
+      commit-walk e = follows-walk c1 g others1 [] (on_commit c1.table (gx g) (work_of c1 (gx g)).writers) _ took (λ q r. at-commit c1 g others1 [] (mark.Commit (gx g) ∷ []) (c1.works g).session (c1.works g) _ (λ p a. completes-it e (mark.Commit (gx g) ∷ []) (tt, tt))) refl
 
       inside-walk : without i m.awaited ≡ [] → Walk [] (answers c1 (gx g) (work_of c1 (gx g)))
-      inside-walk e = answered-walk c1 g others1 [] (by-answer c1 g others1 [] [] (c1.works g).session (answer_of_command (c1.works g).command) (λ n a. completes-it e [] tt n a))
+      inside-walk e = answered-walk c1 g others1 [] (by-answer c1 g others1 [] [] (c1.works g).session (answer_of_command (c1.works g).command) (λ a. completes-it e [] tt))
 
       complete-walk : (b : Block) → without i m.awaited ≡ [] → Walk [] (completes c1 (gx g) b)
       complete-walk Outside e = commit-walk e
@@ -427,20 +444,17 @@ module _ (script : Script) (c : Coord) (x : NodeEvent) where
         by_list [] p = p
         by_list (y ∷ ys) p = absurd (differ (sym closing ∙ ((k.tied g).awaits m e (some-one y ys p)).0))
 
-    status-ok : (g : ℕ) → stage_of c g ≡ Closing → AnswerOk (mark.Commit (gx g) ∷ []) (c.works g).session (answer_at_commit (c.works g) (session_of c (c.works g).session).state.pending)
-    status-ok g closing = at-commit c g (same-others g) [] (mark.Commit (gx g) ∷ []) (c.works g).session (c.works g) (session_of c (c.works g).session).state.pending (λ p n a. by_command (c.works g).command refl p n a)
+    status-ok : (g : ℕ) (i : Node) (envelope : Envelope) → x ≡ event.Deliver i envelope → stage_of c g ≡ Closing → AnswerOk (mark.Commit (gx g) ∷ []) (c.works g).session (answer_at_commit (c.works g) (session_of c (c.works g).session).state.pending)
+    status-ok g i envelope is closing = at-commit c g (same-others g) [] (mark.Commit (gx g) ∷ []) (c.works g).session (c.works g) (session_of c (c.works g).session).state.pending (λ p a. by_command (c.works g).command refl p a)
       where
-        none : (n : ℕ) → told.Commit ≡ told.Inserted n → ⊥
-        none n q = cc
+        by_command : (o : Option Command) → (c.works g).command ≡ o → (session_of c (c.works g).session).state.pending ≡ pending.Command → is_success (answer_of_command o) ≡ true → Completes (c.works g).session (answer_of_command o) × Each Still (mark.Commit (gx g) ∷ [])
+        by_command None e p a = absurd (cc)
+        by_command (Some m) e p a = (record { g = g; home = refl; from = i; envelope = envelope; heard = is; m = m; says = refl; all = none-awaited g m e closing; how = inl (e, closing, p) }, (tt, tt))
 
-        by_command : (o : Option Command) → (c.works g).command ≡ o → (session_of c (c.works g).session).state.pending ≡ pending.Command → (n : ℕ) → answer_of_command o ≡ told.Inserted n → Completes (c.works g).session n × Each Still (mark.Commit (gx g) ∷ [])
-        by_command None e p n a = absurd (none n a)
-        by_command (Some m) e p n a = (record { g = g; home = refl; m = m; says = a; all = none-awaited g m e closing; how = inl (e, closing, p) }, (tt, tt))
-
-    on-status-walk : (g : ℕ) (i : Node) (r : Reply) (fails : Bool) → Walk [] (on_status c (gx g) i r fails)
-    on-status-walk g i r fails =
+    on-status-walk : (g : ℕ) (i : Node) (r : Reply) (fails : Bool) (envelope : Envelope) → x ≡ event.Deliver i envelope → Walk [] (on_status c (gx g) i r fails)
+    on-status-walk g i r fails envelope is =
         let t : Turned c.table g (on_reply c.table (gx g) i r fails) Moves = reply-turns c.table g i r fails k.whole in
-        let y : Walk [] (follows c (gx g) (on_reply c.table (gx g) i r fails) (on_reply c.table (gx g) i r fails).out.outcome) = follows-walk c g (same-others g) [] (on_reply c.table (gx g) i r fails) (on_reply c.table (gx g) i r fails).out.outcome (λ ns. inl (refl, refl)) (λ q z. status-ok g (closing t z)) refl in
+        let y : Walk [] (follows c (gx g) (on_reply c.table (gx g) i r fails) (on_reply c.table (gx g) i r fails).out.outcome) = follows-walk c g (same-others g) [] (on_reply c.table (gx g) i r fails) (on_reply c.table (gx g) i r fails).out.outcome (λ ns. inl (refl, refl)) (λ q z. status-ok g i envelope is (closing t z)) refl in
         record { works = y.works; answers = y.answers }
       where
         closing : (t : Turned c.table g (on_reply c.table (gx g) i r fails) Moves) → (on_reply c.table (gx g) i r fails).out.outcome ≡ outcome.Committed → stage_of c g ≡ Closing
@@ -449,12 +463,12 @@ module _ (script : Script) (c : Coord) (x : NodeEvent) where
     answer-walk : (g : ℕ) (i : Node) (fails : Bool) (r : Reply) (envelope : Envelope) → x ≡ event.Deliver i envelope → envelope.message ≡ message.Answer (gx g) r → Walk [] (on_answer c (gx g) i fails r)
     answer-walk g i fails (reply.Done cid wrote count part) envelope is told = on-done-walk g i cid wrote count part envelope is told (c.works g).command refl
     answer-walk g i fails (reply.Failed cid cause) envelope is told = on-failed-walk g i cid cause (c.works g).command
-    answer-walk g i fails reply.Prepared envelope is told = on-status-walk g i reply.Prepared fails
-    answer-walk g i fails reply.Committed envelope is told = on-status-walk g i reply.Committed fails
-    answer-walk g i fails reply.Jfault envelope is told = on-status-walk g i reply.Jfault fails
-    answer-walk g i fails reply.Again envelope is told = on-status-walk g i reply.Again fails
-    answer-walk g i fails reply.Aborted envelope is told = on-status-walk g i reply.Aborted fails
-    answer-walk g i fails reply.Forgotten envelope is told = on-status-walk g i reply.Forgotten fails
+    answer-walk g i fails reply.Prepared envelope is told = on-status-walk g i reply.Prepared fails envelope is
+    answer-walk g i fails reply.Committed envelope is told = on-status-walk g i reply.Committed fails envelope is
+    answer-walk g i fails reply.Jfault envelope is told = on-status-walk g i reply.Jfault fails envelope is
+    answer-walk g i fails reply.Again envelope is told = on-status-walk g i reply.Again fails envelope is
+    answer-walk g i fails reply.Aborted envelope is told = on-status-walk g i reply.Aborted fails envelope is
+    answer-walk g i fails reply.Forgotten envelope is told = on-status-walk g i reply.Forgotten fails envelope is
 
     message-walk : (i : Node) (fails : Bool) (envelope : Envelope) → x ≡ event.Deliver i envelope → (m : Message) → envelope.message ≡ m → Walk [] (on_message c i fails m)
     message-walk i fails envelope is (message.Answer g r) told = answer-walk g.0 i fails r envelope is told
@@ -488,7 +502,7 @@ module _ (script : Script) (c : Coord) (x : NodeEvent) where
       commit-line : is_open_in block ≡ true → Walk [] (commits (starts_line c s step.CommitBlock) (session_of (starts_line c s step.CommitBlock) s).transaction)
       commit-line opened =
           subst (λ g. Walk [] (commits (starts_line c s step.CommitBlock) g)) (sym (transaction-now step.CommitBlock))
-          (follows-walk d g (same-others g) [] (on_commit d.table (gx g) (work_of d (gx g)).writers) _ (λ ns. inl (refl, refl)) (λ q z. at-commit d g (same-others g) [] (mark.Commit (gx g) ∷ []) (c.works g).session (c.works g) (session_of d (c.works g).session).state.pending (λ p n a. absurd (differ (sym commit-pending ∙ p)))) refl)
+          (follows-walk d g (same-others g) [] (on_commit d.table (gx g) (work_of d (gx g)).writers) _ (λ ns. inl (refl, refl)) (λ q z. at-commit d g (same-others g) [] (mark.Commit (gx g) ∷ []) (c.works g).session (c.works g) (session_of d (c.works g).session).state.pending (λ p a. absurd (differ (sym commit-pending ∙ p)))) refl)
         where
           g : ℕ
           g = (session_of c s).transaction.0

@@ -10,6 +10,7 @@ ghost use Rattle.gx_script.specs.declared.Script.{Script};
 ghost use Rattle.gx_store.specs.declared.event.Event.{Event as OneEvent};
 ghost use Rattle.gx_tree.specs.declared.expr.Expr.{Expr as OneExpr};
 ghost use Rattle.gx_tree.specs.declared.row.KeyedRow.{KeyedRow as OneRow};
+ghost use Rattle.gx_writes.specs.Inserts.{AreInsertsTold};
 ghost use Rattle.gx_writes.specs.Rows.{ArePiecesOf, AreRowsOf};
 ghost use Rattle.gx_writes.specs.Writes.{AreWritesLegal};
 
@@ -30,5 +31,12 @@ pub fn rows_go_where_they_are_placed()
 pub fn writes_are_legal()
     ensures {
         (script : Script) (events : List (OneEvent × Bool)) → 1 ≤ script.segments → AreLinesNumbered [] script.lines → AreWritesLegal script [] (steps_after script events)
+    }
+{}
+
+/// An INSERT that is answered has written the row of each of its tuples, and the answer counts them.
+pub fn inserts_are_told()
+    ensures {
+        (script : Script) (events : List (OneEvent × Bool)) → 1 ≤ script.segments → AreLinesNumbered [] script.lines → AreInsertsTold script [] (steps_after script events)
     }
 {}
