@@ -37,7 +37,7 @@ use Rattle.gx_laws.proofs.Stages.{gx}
 use Rattle.gx_laws.proofs.World.{marks-last}
 
 -- what the segments hold of the marks
-abbrev Hold : World → Type 0
+abbrev pub Hold : World → Type 0
 Hold w = (i : ℕ) → 1 ≤ i → Holds (at i) (w.segs i) (marks_in w.steps)
 
 numbered-dull : (f : ℕ → ℕ) (outs : List Out) → Each Dull (numbered f outs)
@@ -90,9 +90,9 @@ holds-other script here j s before ms n e k =
     or-off a e = grind arith
 
 -- ONE STEP, FOR THE JOURNAL OF A NODE
-record After (w v : World) (i : ℕ) (added : List JournalItem) : Type 0 where
-  hold : Hold v
-  items : items_of (at i) (marks_in v.steps) ≡ items_of (at i) (marks_in w.steps) ++ added
+pub record After (w v : World) (i : ℕ) (added : List JournalItem) : Type 0 where
+  pub hold : Hold v
+  pub items : items_of (at i) (marks_in v.steps) ≡ items_of (at i) (marks_in w.steps) ++ added
 
 more-items : (i : ℕ) (steps : List Step) (s : Step) (added : List JournalItem) → items_from (at i) (marks_in steps) s.marks ≡ added → items_of (at i) (marks_in (steps ++ s ∷ [])) ≡ items_of (at i) (marks_in steps) ++ added
 more-items i steps s added e = ap (items_of (at i)) (marks-last steps s) ∙ items-append (at i) [] (marks_in steps) s.marks ∙ ap (λ q. items_of (at i) (marks_in steps) ++ q) e
@@ -219,7 +219,7 @@ module _ (script : Script) (some : 1 ≤ script.segments) (i : ℕ) where
   event-after w (event.Resend j g) fails well hold ok = coord-after script some w well hold (event.Resend j g) (here.Resend j g) fails i
   event-after w event.Round fails well hold ok = coord-after script some w well hold event.Round here.Round fails i
 
-  happens-after : (w : World) (e : Event) (fails : Bool) → Well script w → Hold w → After w (happens script w e fails) i (takes script w e fails (at i))
+  pub happens-after : (w : World) (e : Event) (fails : Bool) → Well script w → Hold w → After w (happens script w e fails) i (takes script w e fails (at i))
   happens-after w e fails well hold = by_can (can script w e) refl
     where
       by_can : (b : Bool) → can script w e ≡ b → After w (if b then does script w e (node_of e) fails (at_node w e) else w) i (if b then Taken w e (node_of e) fails (at_node w e) else [])
@@ -232,7 +232,7 @@ module _ (script : Script) (some : 1 ≤ script.segments) (i : ℕ) where
       let a = happens-after w x.0 x.1 well hold in
       journal-is es (happens script w x.0 x.1) (held ++ takes script w x.0 x.1 (at i)) (happens_well script some w x.0 x.1 well) a.hold (ap (λ q. q ++ takes script w x.0 x.1 (at i)) e ∙ sym a.items)
 
-  new-hold : Hold new_world
+  pub new-hold : Hold new_world
   new-hold j one = record { versions = refl; bound = λ h. refl }
 
   pub journal-holds : (es : List (Event × Bool)) → journal_after script (at i) es ≡ items_of (at i) (marks_in (world_of script es).steps)

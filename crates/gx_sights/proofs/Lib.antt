@@ -8,3 +8,5 @@ pub mod Steps
 pub mod Low
 pub mod Taken
 pub mod Ends
+pub mod Images
+pub mod Seeing

@@ -139,7 +139,7 @@ module _ (script : Script) (w : World) (k : Knows script w) (v : Holds script w)
   both-each P R [] a b = tt
   both-each P R (y ∷ ys) a b = ((a.0, b.0), both-each P R ys a.1 b.1)
 
-  coord-low : coord_can script w.coord x ≡ true → SaidTo w x → Lows (coord_did w e (coord_rule script w.coord x fails))
+  pub coord-low : coord_can script w.coord x ≡ true → SaidTo w x → Lows (coord_did w e (coord_rule script w.coord x fails))
   coord-low ok d = by_led (event-led script (parts_in w) w.coord (marks_in w.steps) v.stands k.kept k.past (λ g. (k.well.coordinator.works g).writers) x fails ok (said-in x d))
     where
       said-in : (x : NodeEvent) → SaidTo w x → Rattle.gx_protocol.proofs.Events.IsSaidIn script (parts_in w) w.coord (marks_in w.steps) v.stands k.kept k.past (λ g. (k.well.coordinator.works g).writers) x
@@ -326,7 +326,7 @@ module _ (script : Script) (w : World) (k : Knows script w) (v : Holds script w)
       by_message (message.Collect round) a = (tt, tt)
       by_message (message.Graph round graph) a = (tt, tt)
 
-  seg-low : Lows (seg_did w (at i) e (seg_rule script (w.segs i) (here.Deliver from envelope) fails))
+  pub seg-low : Lows (seg_did w (at i) e (seg_rule script (w.segs i) (here.Deliver from envelope) fails))
   seg-low =
       record {
         stood = q.stood;
@@ -342,7 +342,7 @@ module _ (script : Script) (w : World) (k : Knows script w) (v : Holds script w)
       by_test j true f = message-under (horizon_of w.coord.table).0 script (w.segs i) fails envelope.message (q.segs i) low
       by_test j false f = q.segs j
 
-new-lows : Lows new_world
+pub new-lows : Lows new_world
 new-lows =
     record {
       stood = record { sorted = record { first = omega arith; risen = tt; drawn = tt }; reads = λ g. record { plain = λ e. refl; kept = λ l x e. absurd (none-some no_work.snapshot x refl e); ordered = λ l m e. absurd (none-some no_work.command m refl e) }; orders = λ g. tt };
@@ -421,7 +421,7 @@ module _ (script : Script) (w : World) (k : Knows script w) (v : Holds script w)
     under-way None e = absurd (over ((w.segs i).locals g.0).last c.0 new (s.taken standing-is (ap (λ o. Rattle.gx_protocol.specs.Standings.waits_in o i) e)))
     under-way (Some z) e = (z, e, (subst (Rattle.gx_protocol.proofs.Ways.CommandOf g.0 (w.coord.works g.0).last) e (v.stands.works g.0).command).0 ∙ sym is-last)
 
-  low-seen : (limit : Gxid) (x : Snapshot) (y : ℕ) → limit.0 ≤ y → ((h : ℕ) → 1 ≤ h → h < y → sees x (gx h) ≡ true) → (h : Gxid) → 1 ≤ h.0 → (is_below limit h || sees x h) ≡ sees x h
+  pub low-seen : (limit : Gxid) (x : Snapshot) (y : ℕ) → limit.0 ≤ y → ((h : ℕ) → 1 ≤ h → h < y → sees x (gx h) ≡ true) → (h : Gxid) → 1 ≤ h.0 → (is_below limit h || sees x h) ≡ sees x h
   low-seen limit x y l f h one = by_test (is_below limit h) refl
     where
       less : (a b c : ℕ) → ltb a b ≡ true → b ≤ c → a < c
