@@ -22,3 +22,6 @@ pub mod Lows
 pub mod Lowered
 pub mod Raised
 pub mod Low
+pub mod Held
+pub mod Holding
+pub mod Ended

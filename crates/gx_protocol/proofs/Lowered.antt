@@ -60,10 +60,10 @@ no-exec-low : (d : Table) (m : Message) → NoExec m → IsLowIn d m
 no-exec-low d (message.Exec g c level x h y) e = absurd e
 no-exec-low d m e = tt
 
-abbrev NoneOf : Change → Type 0
+abbrev pub NoneOf : Change → Type 0
 NoneOf ch = Each (λ (o : Out). NoExec o.message) ch.out.outs
 
-to-each-none : (m : Message) (nodes : List Node) → NoExec m → Each (λ (o : Out). NoExec o.message) (to_each m nodes)
+pub to-each-none : (m : Message) (nodes : List Node) → NoExec m → Each (λ (o : Out). NoExec o.message) (to_each m nodes)
 to-each-none m [] e = tt
 to-each-none m (i ∷ is) e = (e, to-each-none m is e)
 
@@ -110,15 +110,15 @@ takes-none g ps j b (status.Ended aw) reply.Forgotten = forgets-none (without j 
 takes-none g ps j b (status.Aborting aw) reply.Aborted = gives-up-none (without j aw)
 takes-none g ps j b p r = tt
 
-commit-none : (g : Gxid) (ws : List Node) (o : Option Txn) → NoneOf (commit_found g ws o)
+pub commit-none : (g : Gxid) (ws : List Node) (o : Option Txn) → NoneOf (commit_found g ws o)
 commit-none g ws None = tt
 commit-none g ws (Some t) = commits-none g ws t
 
-abort-none : (g : Gxid) (o : Option Txn) → NoneOf (abort_found g o)
+pub abort-none : (g : Gxid) (o : Option Txn) → NoneOf (abort_found g o)
 abort-none g None = tt
 abort-none g (Some t) = aborts-none g t.participants
 
-reply-none : (g : Gxid) (j : Node) (r : Reply) (b : Bool) (o : Option Txn) → NoneOf (reply_found g j r b o)
+pub reply-none : (g : Gxid) (j : Node) (r : Reply) (b : Bool) (o : Option Txn) → NoneOf (reply_found g j r b o)
 reply-none g j r b None = tt
 reply-none g j r b (Some t) = by_test (is_awaited_in t.phase j r)
   where
