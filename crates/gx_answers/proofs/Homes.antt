@@ -29,7 +29,7 @@ use Rattle.gx_answers.specs.Keyed.{AreInsertsKeyed}
 
 -- ---- a tuple's values are as many as the tuple
 values-step : (k : ℕ) (x : Expr) (xs : List Expr) (values : List Value) (one : Result Value ArithFault) (rest : Result (List Value) ArithFault) → ((ys : List Value) → rest ≡ Ok ys → length ys ≡ length xs) → and_then one (λ y. and_then rest (λ ys. Ok (y ∷ ys))) ≡ Ok values → length values ≡ length (x ∷ xs)
-values-step k x xs values (Ok y) (Ok ys) more e = ap length (ok-same values (y ∷ ys) (sym e)) ∙ ap suc (more ys refl)
+values-step k x xs values (Ok y) (Ok ys) more e = ap length (ok-same values (y ∷ ys) e) ∙ ap suc (more ys refl)
   where
     ok-same : (a b : List Value) → (let o : Result (List Value) ArithFault = Ok b in o) ≡ Ok a → a ≡ b
     ok-same a b f = cc
@@ -77,17 +77,17 @@ module _ (script : Script) (keyed : AreInsertsKeyed script) (all : List Mark) (s
     pub table_is : by.t ≡ table
     pub image_is : by.x ≡ Some row
 
-  here : (g : Gxid) (c : Cid) (n : Node) (t : Table) (r : Rid) (x : Option (List Value)) → is_same_rid r rid ≡ true → IsPlaced script all g c n t r x → IsOf n
+  abbrev here : (g : Gxid) (c : Cid) (n : Node) (t : Table) (r : Rid) (x : Option (List Value)) → is_same_rid r rid ≡ true → IsPlaced script all g c n t r x → IsOf n
   here g c n t r x e p = record { g = g; c = c; t = t; x = x; placed = subst (λ q. IsPlaced script all g c n t q x) (same_rid r rid e) p }
 
   -- the first write
   first-is : (ms : List Mark) (node : Node) → Each (IsPlacedMark script all) ms → node_of ms rid ≡ Some node → IsOf node
   first-is [] node e f = absurd (cc)
-  first-is (mark.Write g c n t r x ∷ ms) node e f = by_test (is_same_rid r rid) refl f
+  first-is (mark.Write g c n t r x ∷ ms) node e f = by_test (is_same_rid r rid) refl f (first-is ms node e.1)
     where
-      by_test : (b : Bool) → is_same_rid r rid ≡ b → (if b then Some n else node_of ms rid) ≡ Some node → IsOf node
-      by_test true s q = subst IsOf (some-same n node q) (here g c n t r x s e.0)
-      by_test false s q = first-is ms node e.1 q
+      by_test : (b : Bool) → is_same_rid r rid ≡ b → (if b then Some n else node_of ms rid) ≡ Some node → (node_of ms rid ≡ Some node → IsOf node) → IsOf node
+      by_test true s q more = subst IsOf (some-same n node q) (here g c n t r x s e.0)
+      by_test false s q more = more q
   first-is (m ∷ ms) node e f = first-is ms node e.1 f
 
   -- the write of the image that is shown
@@ -116,11 +116,11 @@ module _ (script : Script) (keyed : AreInsertsKeyed script) (all : List Mark) (s
 
   never : (image : Option (List Value)) (ms : List Mark) → node_of ms rid ≡ None → image_after shown table rid image ms ≡ image
   never image [] e = refl
-  never image (mark.Write g c n t r x ∷ ms) e = by_test (is_same_rid r rid) refl e
+  never image (mark.Write g c n t r x ∷ ms) e = by_test (is_same_rid r rid) refl e (λ i q. never i ms q)
     where
-      by_test : (b : Bool) → is_same_rid r rid ≡ b → (if b then Some n else node_of ms rid) ≡ None → image_after shown table rid (if shown g c && ((t.0 == table.0) && is_same_rid r rid) then x else image) ms ≡ image
-      by_test true s q = absurd (cc)
-      by_test false s q = never _ ms q ∙ no-write (shown g c) (eqb t.0 table.0) (is_same_rid r rid) x image s
+      by_test : (b : Bool) → is_same_rid r rid ≡ b → (if b then Some n else node_of ms rid) ≡ None → ((i : Option (List Value)) → node_of ms rid ≡ None → image_after shown table rid i ms ≡ i) → image_after shown table rid (if shown g c && ((t.0 == table.0) && is_same_rid r rid) then x else image) ms ≡ image
+      by_test true s q more = absurd (cc)
+      by_test false s q more = more (if shown g c && ((t.0 == table.0) && is_same_rid r rid) then x else image) q ∙ no-write (shown g c) (eqb t.0 table.0) (is_same_rid r rid) x image s
   never image (m ∷ ms) e = never image ms e
 
   home-of : (row : List Value) (node : Node) → IsOf node → Wrote row → IsHome script table rid row node

@@ -1,3 +1,5 @@
 pub mod Merging
 pub mod Views
 pub mod Homes
+pub mod Rising
+pub mod Dealt

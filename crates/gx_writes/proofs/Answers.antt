@@ -202,7 +202,7 @@ module _ (script : Script) (some : 1 ≤ script.segments) (numbered : AreLinesNu
     some-gxid a b f = (cc)
 
     tells : (earlier later : List Mark) (s : SessionId) (n : ℕ) (q : Completes script c x s (told.Inserted n)) → Each Still earlier → Answered q.g q.m → IsTold script (record { steps = w.steps; event = e; earlier = earlier; later = later }) s (told.Inserted n)
-    tells earlier later s n q calm a asked level g cid theirs =
+    tells earlier later s n q calm a asked level g cid theirs gathered =
         subst (λ y. Tells script (ms ++ earlier) level g cid y (told.Inserted n)) (sym line)
         (subst (λ y. Tells script (ms ++ earlier) y g cid q.m.stmt (told.Inserted n)) (sym level-is)
         (subst (λ y. Tells script (ms ++ earlier) (c.works q.g).level y cid q.m.stmt (told.Inserted n)) (sym gxid)

@@ -38,6 +38,7 @@ use Rattle.gx_laws.proofs.World.{Knows, marks-last}
 use Rattle.gx_histories.specs.Orders.{AreLinesNumbered}
 use Rattle.gx_histories.specs.Rest.{EachMark}
 use Rattle.gx_histories.proofs.Given.{marks-append}
+use Rattle.gx_histories.proofs.Stepping as stepping
 use Rattle.gx_histories.proofs.World as histories
 use Rattle.gx_histories.proofs.World.{after-last}
 use Rattle.gx_protocol.specs.Standings.{at, gx}
@@ -71,7 +72,7 @@ away-told script i one steps e earlier (mark.Answer s n a ∷ ms) later h = absu
 away-told script i one steps e earlier (m ∷ ms) later h = (tt, away-told script i one steps e (earlier ++ m ∷ []) ms later h.1)
 
 module _ (script : Script) (some : 1 ≤ script.segments) (numbered_lines : AreLinesNumbered [] script.lines) where
-  module _ (w : World) (b : Both script some w) (k : histories.Holds script w) (h : writes.Holds script w.segs w.steps) (n : Counted script w) where
+  module _ (w : World) (b : Both script some w) (k : stepping.Holds script w) (h : writes.Holds script w.segs w.steps) (n : Counted script w) where
     -- A STEP OF THE COORDINATOR
     coord-counted : (e : Event) (x : NodeEvent) (fails : Bool) → coord_can script w.coord x ≡ true → ((i : Node) (envelope : Envelope) (g : ℕ) (cid : Cid) (wrote : Bool) (count : ℕ) (part : QueryPart) → x ≡ here.Deliver i envelope → envelope.message ≡ message.Answer (gx g) (reply.Done cid wrote count part) → IsReport script (marks_in w.steps) i (gx g) cid count)
         → ((i : Node) (envelope : Envelope) → x ≡ here.Deliver i envelope → (s : SessionId) → starts_by s e ≡ 0) → Counted script (coord_did w e (coord_rule script w.coord x fails))

@@ -43,6 +43,7 @@ use Rattle.gx_histories.specs.Orders.{AreLinesNumbered, IsOrder}
 use Rattle.gx_histories.specs.Rest.{EachMark}
 use Rattle.gx_histories.proofs.Given.{marks-append}
 use Rattle.gx_histories.proofs.Outs.{MessageIs}
+use Rattle.gx_histories.proofs.Stepping as stepping
 use Rattle.gx_histories.proofs.World as histories
 use Rattle.gx_histories.proofs.World.{after-last}
 use Rattle.gx_protocol.specs.Standings.{at, gx}
@@ -178,7 +179,7 @@ module _ (script : Script) (some : 1 ≤ script.segments) (numbered_lines : AreL
       none = here-no-write script (coord_rule script w.coord x fails).marks (at_coordinator script some w n e x fails)
 
   -- A STEP OF A SEGMENT
-  module _ (w : World) (b : Both script some w) (k : histories.Holds script w) (h : Holds script w.segs w.steps) (from to : Node) (number i : ℕ) (place : IsSegment script (at i)) (envelope : Envelope) (fails : Bool) (order_is : MessageIs script (marks_in w.steps) (at i) envelope.message) (back : SentBack w.coord w.steps the_coordinator (mark.Sent (at i) number envelope.message)) where
+  module _ (w : World) (b : Both script some w) (k : stepping.Holds script w) (h : Holds script w.segs w.steps) (from to : Node) (number i : ℕ) (place : IsSegment script (at i)) (envelope : Envelope) (fails : Bool) (order_is : MessageIs script (marks_in w.steps) (at i) envelope.message) (back : SentBack w.coord w.steps the_coordinator (mark.Sent (at i) number envelope.message)) where
     abbrev e : Event
     e = event.Receive from to number
 
@@ -329,7 +330,7 @@ module _ (script : Script) (some : 1 ≤ script.segments) (numbered_lines : AreL
             legal = marks-append (WriteLegal script) w.steps e [] turn.marks sent [] (v.legal (sent ++ [])) (no-writes-legal script w.steps e turn.marks sent [] quiet)
 
   -- ALL EVENTS
-  module _ (w : World) (b : Both script some w) (k : histories.Holds script w) (h : Holds script w.segs w.steps) where
+  module _ (w : World) (b : Both script some w) (k : stepping.Holds script w) (h : Holds script w.segs w.steps) where
     abbrev IsPost : Letter → Type 0
     IsPost l = IsLetter script w.steps l × (l.from ≡ the_coordinator → MessageIs script (marks_in w.steps) l.to l.envelope.message)
 
