@@ -3,3 +3,4 @@ pub mod Views
 pub mod Homes
 pub mod Rising
 pub mod Dealt
+pub mod Select
