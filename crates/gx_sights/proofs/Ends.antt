@@ -52,12 +52,11 @@ use Rattle.gx_protocol.specs.Pairs.{Pair, bit}
 use Rattle.gx_protocol.specs.Said.{IsCommand, Said, SaidIn, gxid_in, is_answer, segment_of}
 use Rattle.gx_protocol.specs.Standings.{Known, Part, at, known_at, part_of}
 use Rattle.gx_protocol.proofs.Counts.{NoEnd, NoPart, local-append, no-aborted, no-committed, no-local, no-writer, sent-no-end, sent-no-part, writer-append}
-use Rattle.gx_protocol.proofs.Events.{event-led}
 use Rattle.gx_protocol.proofs.Everywhere.{Holds, does-it, fol-no-sent, follows-no-sent, new_part, next2, part-here, part-there, parts_in, posted-each, same-known2, told-answer}
 use Rattle.gx_protocol.proofs.Handled.{Does, Follows, IsExecOf, Tells}
 use Rattle.gx_protocol.proofs.Ways.{Fol, Led, fol-no-part}
 use Rattle.gx_sights.proofs.Low.{LetterLow, Lows, coord-low, new-lows, seg-low}
-use Rattle.gx_sights.proofs.Steps.{SaidTo, world-keeps}
+use Rattle.gx_sights.proofs.Steps.{SaidTo, event-leads, world-keeps}
 use Rattle.gx_sights.proofs.Taken.{AllTaken, LiveMessage, Passes, event-pass}
 
 -- who has committed has its writes committed at each segment, and who was aborted nowhere
@@ -154,6 +153,9 @@ module _ (script : Script) (w : World) (k : Knows script w) (v : Holds script w)
   abbrev new : List Mark
   new = marks_in next.steps
 
+  pub all-marks : marks_in (coord_did w e (coord_rule script w.coord x fails)).steps ≡ marks_in w.steps ++ ((coordinator.on_event script w.coord x fails).marks ++ numbered (coordinator.on_event script w.coord x fails).coord.sent (coordinator.on_event script w.coord x fails).outs)
+  all-marks = marks-last w.steps step
+
   all : new ≡ ms ++ (turn.marks ++ sent)
   all = marks-last w.steps step
 
@@ -164,6 +166,9 @@ module _ (script : Script) (w : World) (k : Knows script w) (v : Holds script w)
   aborted-is g = ap (λ z. is_aborted z (gx g)) all ∙ aborted-append ms (turn.marks ++ sent) (gx g) ∙ ap (λ b. is_aborted ms (gx g) || b) (aborted-append turn.marks sent (gx g))
 
   module _ (f : Led script (parts_in w) w.coord (marks_in w.steps) (coordinator.on_event script w.coord x fails)) where
+    pub no-parts : Each NoPart ((coordinator.on_event script w.coord x fails).marks ++ numbered (coordinator.on_event script w.coord x fails).coord.sent (coordinator.on_event script w.coord x fails).outs)
+    no-parts = each_append NoPart turn.marks sent (fol-no-part script ms turn.marks f.way.fol) (sent-no-part turn.coord.sent turn.outs)
+
     no-part : Each NoPart (turn.marks ++ sent)
     no-part = each_append NoPart turn.marks sent (fol-no-part script ms turn.marks f.way.fol) (sent-no-part turn.coord.sent turn.outs)
 
@@ -282,7 +287,7 @@ old-quiet : (script : Script) (s : Seg) (fails : Bool) (g : Gxid) (c : Cid) (lev
 old-quiet script s fails g c level x h y old = unless-quiet s g c _ (fits-quiet s g c (fits_exec script s g c x h y) _ (exec-quiet s g c x h y (local_of s g) old (local_of s g).phase))
 
 module _ (script : Script) (w : World) (k : Knows script w) (v : Holds script w) (q : Ends w) (e : Event) (fails : Bool) (i : ℕ) (from : Node) (envelope : Envelope) (received : Receives w.steps e the_coordinator (at i) envelope.message) (said : is_answer envelope.message ≡ false → Said (known_at w.coord (marks_in w.steps) i (gxid_in envelope.message)) (parts_in w i (gxid_in envelope.message)) envelope.message) (taken : TakenAt w (at i) envelope.message) where
-  abbrev g : ℕ
+  abbrev pub g : ℕ
   g = gxid_in envelope.message
 
   abbrev turn3 : SegTurn
@@ -297,7 +302,7 @@ module _ (script : Script) (w : World) (k : Knows script w) (v : Holds script w)
   abbrev part2 : Part
   part2 = new_part script w k v e fails i from envelope received said
 
-  abbrev late : World
+  abbrev pub late : World
   late = next2 script w k v e fails i from envelope received said
 
   does : Does envelope.message kn (w.segs i) i g (k.well.names i) (is_writer (marks_in w.steps) (gx g) (at i)) (prepared_count (marks_in w.steps) (at i) (gx g)) (local_count (marks_in w.steps) (at i) (gx g)) (v.stands.pairs i g) turn3
@@ -419,7 +424,7 @@ module _ (script : Script) (w : World) (k : Knows script w) (v : Holds script w)
   drawn-next j h t false f = q.drawn j h (sym (ap (λ (p : Part). p.wrote) (part-there script w k v e fails i from envelope received said j h f)) ∙ t)
 
   -- the last command taken doesn't fall
-  last-next : (j h n : ℕ) → n ≤ (parts_in w j h).last → (b : Bool) → (eqb j i && eqb h g) ≡ b → n ≤ (parts_in late j h).last
+  pub last-next : (j h n : ℕ) → n ≤ (parts_in w j h).last → (b : Bool) → (eqb j i && eqb h g) ≡ b → n ≤ (parts_in late j h).last
   last-next j h n z true f =
       let x = both-true (eqb j i) (eqb h g) f in
       subst (λ a. n ≤ (parts_in late a h).last) (sym (eqb-true j i x.0))
@@ -466,6 +471,89 @@ module _ (script : Script) (w : World) (k : Knows script w) (v : Holds script w)
         drawn = λ j h t. drawn-next j h t (eqb j i && eqb h g) refl;
       }
 
+-- NEW WRITES
+-- a write of a segment is of a command later than its last there, of a transaction that hasn't committed
+abbrev pub NewWrite : World → ℕ → ℕ → Mark → Type 0
+NewWrite w i g (mark.Write h c n t r x) = (h.0 ≡ g) × (n.0 ≡ i) × (((w.segs i).locals g).last < c.0) × (is_committed (marks_in w.steps) (gx g) ≡ false)
+NewWrite w i g _ = Unit {0}
+
+module _ (script : Script) (w : World) (k : Knows script w) (v : Holds script w) (q : Ends w) (e : Event) (fails : Bool) (i : ℕ) (from : Node) (envelope : Envelope) (received : Receives w.steps e the_coordinator (at i) envelope.message) (said : is_answer envelope.message ≡ false → Said (known_at w.coord (marks_in w.steps) i (gxid_in envelope.message)) (parts_in w i (gxid_in envelope.message)) envelope.message) (taken : TakenAt w (at i) envelope.message) where
+  abbrev told : Message
+  told = envelope.message
+
+  abbrev its : ℕ
+  its = gxid_in envelope.message
+
+  abbrev marks3 : List Mark
+  marks3 = (on_event script (w.segs i) (here.Deliver from envelope) fails).marks
+
+  followed : Each (Follows envelope.message (known_at w.coord (marks_in w.steps) i its) i its) marks3
+  followed = (does-it script w k v e fails i from envelope received said).marks
+
+  exec-cid : Message → ℕ
+  exec-cid (message.Exec h c level x y z) = c.0
+  exec-cid _ = 0
+
+  none-new : ((c : Cid) → IsExecOf envelope.message its c → ⊥) → (ns : List Mark) → Each (Follows envelope.message (known_at w.coord (marks_in w.steps) i its) i its) ns → Each (NewWrite w i its) ns
+  none-new f [] h = tt
+  none-new f (mark.Write y c n t r x ∷ ns) h = absurd (f c h.0.2)
+  none-new f (m ∷ ns) h = (tt, none-new f ns h.1)
+
+  each-new : (c : Cid) → ((d : Cid) → IsExecOf envelope.message its d → d.0 ≡ c.0) → ((w.segs i).locals its).last < c.0 → is_committed (marks_in w.steps) (gx its) ≡ false → (ns : List Mark) → Each (Follows envelope.message (known_at w.coord (marks_in w.steps) i its) i its) ns → Each (NewWrite w i its) ns
+  each-new c same less open_ [] h = tt
+  each-new c same less open_ (mark.Write y d n t r x ∷ ns) h = ((h.0.0, h.0.1, subst (λ z. ((w.segs i).locals its).last < z) (sym (same d h.0.2)) less, open_), each-new c same less open_ ns h.1)
+  each-new c same less open_ (m ∷ ns) h = (tt, each-new c same less open_ ns h.1)
+
+  not-exec-new : (m : Message) → envelope.message ≡ m → is_exec m ≡ false → Each (NewWrite w i its) marks3
+  not-exec-new m z f = none-new (λ c x. differ (sym (ap is_exec (sym z ∙ x.is)) ∙ f)) marks3 followed
+    where
+      differ : true ≡ false → ⊥
+      differ e = cc
+
+  exec-new : (h : Gxid) (c : Cid) (level : Rattle.gx_tree.specs.declared.stmt.Level.Level) (x : Option Snapshot) (y : Gxid) (z : Slice) → envelope.message ≡ message.Exec h c level x y z → Each (NewWrite w i its) marks3
+  unfolding exec-cid
+  exec-new h c level x y z f = by_old (nat_lt ((w.segs i).locals its).last c.0) refl
+    where
+      same : (d : Cid) → IsExecOf envelope.message its d → d.0 ≡ c.0
+      same d q = sym (ap exec-cid q.is) ∙ ap exec-cid f
+
+      less : (a b : ℕ) → nat_lt a b ≡ true → a < b
+      less a b e = grind (arith, nat_tests)
+
+      at-most : (a b : ℕ) → nat_lt a b ≡ false → b ≤ a
+      at-most a b e = grind (arith, nat_tests)
+
+      over : (a b : ℕ) → a < b → b ≤ a → ⊥
+      over a b l m = omega arith
+
+      here_is : its ≡ h.0
+      here_is = ap gxid_in f
+
+      running : (b : Bool) → is_committed (marks_in w.steps) (gx its) ≡ b → ((w.segs i).locals its).last < c.0 → b ≡ false
+      running false e l = refl
+      running true e l =
+          absurd (over ((w.segs i).locals its).last c.0 l (subst (λ j. c.0 ≤ ((w.segs i).locals j).last) (sym here_is) ((subst (TakenAt w (at i)) f taken).1 (subst (λ j. is_committed (marks_in w.steps) (gx j) ≡ true) here_is e))))
+
+      by_old : (b : Bool) → nat_lt ((w.segs i).locals its).last c.0 ≡ b → Each (NewWrite w i its) marks3
+      by_old true e = each-new c same (less ((w.segs i).locals its).last c.0 e) (running (is_committed (marks_in w.steps) (gx its)) refl (less ((w.segs i).locals its).last c.0 e)) marks3 followed
+      by_old false e =
+          subst (Each (NewWrite w i its))
+          (sym (ap (λ m. (on_message script (w.segs i) fails m).marks) f ∙ old-quiet script (w.segs i) fails h c level x y z (subst (λ j. c.0 ≤ ((w.segs i).locals j).last) here_is (at-most ((w.segs i).locals its).last c.0 e)))) tt
+
+  pub writes-new : Each (NewWrite w i (gxid_in envelope.message)) (on_event script (w.segs i) (here.Deliver from envelope) fails).marks
+  writes-new = by_message envelope.message refl
+    where
+      by_message : (m : Message) → envelope.message ≡ m → Each (NewWrite w i its) marks3
+      by_message (message.Exec h c level x y z) f = exec-new h c level x y z f
+      by_message (message.Prepare h) f = not-exec-new _ f refl
+      by_message (message.Commit h) f = not-exec-new _ f refl
+      by_message (message.CommitPrepared h) f = not-exec-new _ f refl
+      by_message (message.Abort h) f = not-exec-new _ f refl
+      by_message (message.Forget h) f = not-exec-new _ f refl
+      by_message (message.Answer h r) f = not-exec-new _ f refl
+      by_message (message.Collect round) f = not-exec-new _ f refl
+      by_message (message.Graph round graph) f = not-exec-new _ f refl
+
 -- EVERY RUN
 pub record Facts (w : World) : Type 0 where
   pub lows : Lows w
@@ -475,23 +563,15 @@ new-ends : Ends new_world
 new-ends = record { ended = λ i g. record { committed = λ a. absurd (cc); aborted = λ a. absurd (cc) }; taken = tt; drawn = λ i g t. absurd (cc) }
 
 module _ (script : Script) (some : 1 ≤ script.segments) where
-  coord-facts : (w : World) → Knows script w → Holds script w → Facts w → (e : Event) (x : NodeEvent) (fails : Bool) → coord_can script w.coord x ≡ true → SaidTo w x → Facts (coord_did w e (coord_rule script w.coord x fails))
+  pub coord-facts : (w : World) → Knows script w → Holds script w → Facts w → (e : Event) (x : NodeEvent) (fails : Bool) → coord_can script w.coord x ≡ true → SaidTo w x → Facts (coord_did w e (coord_rule script w.coord x fails))
   coord-facts w k v q e x fails ok d =
       record {
         lows = coord-low script w k v q.lows e x fails ok d;
-        ends = coord-ends script w k v q.lows q.ends e x fails (event-led script (parts_in w) w.coord (marks_in w.steps) v.stands k.kept k.past (λ g. (k.well.coordinator.works g).writers) x fails ok (said-in x d)) (event-pass script w k v q.lows x fails ok d)
+        ends = coord-ends script w k v q.lows q.ends e x fails (event-leads script w k v x fails ok d) (event-pass script w k v q.lows x fails ok d)
             (event-good script w.coord (marks_in w.steps) k.kept k.past x fails ok).past (event-good script w.coord (marks_in w.steps) k.kept k.past x fails ok).kept.whole;
       }
-    where
-      said-in : (x : NodeEvent) → SaidTo w x → Rattle.gx_protocol.proofs.Events.IsSaidIn script (parts_in w) w.coord (marks_in w.steps) v.stands k.kept k.past (λ g. (k.well.coordinator.works g).writers) x
-      said-in (here.Deliver from envelope) d = d
-      said-in (here.Start s) d = tt
-      said-in (here.End s) d = tt
-      said-in (here.Resend i g) d = tt
-      said-in (here.Resume g) d = tt
-      said-in here.Round d = tt
 
-  seg-facts : (w : World) → Knows script w → Holds script w → Facts w → (e : Event) (fails : Bool) (i : ℕ) (from : Node) (number : ℕ) (envelope : Envelope) → IsSegment script (at i) → ((P : Letter → Type 0) → Each P w.sent → IsFound P from (at i) number envelope) → Receives w.steps e the_coordinator (at i) envelope.message → (is_answer envelope.message ≡ false → Said (known_at w.coord (marks_in w.steps) i (gxid_in envelope.message)) (parts_in w i (gxid_in envelope.message)) envelope.message) → Facts (seg_did w (at i) e (seg_rule script (w.segs i) (here.Deliver from envelope) fails))
+  pub seg-facts : (w : World) → Knows script w → Holds script w → Facts w → (e : Event) (fails : Bool) (i : ℕ) (from : Node) (number : ℕ) (envelope : Envelope) → IsSegment script (at i) → ((P : Letter → Type 0) → Each P w.sent → IsFound P from (at i) number envelope) → Receives w.steps e the_coordinator (at i) envelope.message → (is_answer envelope.message ≡ false → Said (known_at w.coord (marks_in w.steps) i (gxid_in envelope.message)) (parts_in w i (gxid_in envelope.message)) envelope.message) → Facts (seg_did w (at i) e (seg_rule script (w.segs i) (here.Deliver from envelope) fails))
   seg-facts w k v q e fails i from number envelope place finds received said =
       let f = finds (LetterLow w.coord.table w.coord.works) q.lows.sent in
       let t = finds (λ (l : Letter). TakenAt w l.to l.envelope.message) q.ends.taken in

@@ -8,5 +8,7 @@ pub mod Steps
 pub mod Low
 pub mod Taken
 pub mod Ends
+pub mod Below
 pub mod Images
 pub mod Seeing
+pub mod Staying

@@ -33,6 +33,7 @@ use Rattle.gx_store.specs.declared.event.Event.{Event}
 use Rattle.gx_store.specs.declared.mark.Mark.{Mark}
 use Rattle.gx_store.specs.declared.node.NodeEvent.{NodeEvent}
 use Rattle.gx_store.specs.declared.node.NodeEvent.TheVariants as here
+use Rattle.gx_store.specs.Marks.{is_ended}
 use Rattle.gx_store.specs.Messages.{Receives}
 use Rattle.gx_store.specs.Ordered.{IsSegment}
 use Rattle.gx_store.specs.Points.{marks_in}
@@ -61,16 +62,15 @@ use Rattle.gx_laws.proofs.World.{Knows}
 use Rattle.gx_protocol.specs.Said.{IsCommand, Said, SaidIn, gxid_in, is_answer, segment_of}
 use Rattle.gx_protocol.specs.Standings.{Known, Part, Standing, at, known_at, standing, standing_in}
 use Rattle.gx_protocol.specs.Standings.Standing.{Unborn, Over, Live}
-use Rattle.gx_protocol.proofs.Events.{event-led}
 use Rattle.gx_protocol.proofs.Everywhere.{Holds, fol-no-sent, follows-no-sent, parts_in, posted-each, told-answer}
 use Rattle.gx_protocol.proofs.Handled.{Tells, handled}
 use Rattle.gx_sights.specs.Horizons.{AreHorizonsLow, AreLowIn, IsLowIn, IsNobodyDropped, IsSeenBelow, IsToRun}
-use Rattle.gx_sights.proofs.Heights.{Sorted}
+use Rattle.gx_sights.proofs.Heights.{Sorted, horizon-bounds}
 use Rattle.gx_sights.proofs.Held.{Held, Latest}
 use Rattle.gx_sights.proofs.Going.{event-went}
 use Rattle.gx_sights.proofs.Plain.{NoExec}
 use Rattle.gx_sights.proofs.Reading.{CommandLow, CountedIn, Fine, FineIn, OutFine, Reads, Stood, Went, le-refl, low-then}
-use Rattle.gx_sights.proofs.Steps.{SaidTo, world-keeps}
+use Rattle.gx_sights.proofs.Steps.{SaidTo, event-leads, world-keeps}
 use Rattle.gx_sights.proofs.Turns.{WentBy, none-some}
 
 abbrev pub LetterLow : Table → (ℕ → Work) → Letter → Type 0
@@ -93,7 +93,7 @@ module _ (script : Script) (w : World) (k : Knows script w) where
       by_found None e = absurd (cc)
       by_found (Some t) e = by_phase t.phase e
 
-  drawn-is : (g i : ℕ) → (standing (nat_le w.coord.table.next.0 g) (find_txn w.coord.table (gx g)) i ≡ Unborn → ⊥) → g < w.coord.table.next.0
+  pub drawn-is : (g i : ℕ) → (standing (nat_le w.coord.table.next.0 g) (find_txn w.coord.table (gx g)) i ≡ Unborn → ⊥) → g < w.coord.table.next.0
   drawn-is g i n = by_found (find_txn w.coord.table (gx g)) refl n
     where
       less : (a b : ℕ) → nat_le a b ≡ false → b < a
@@ -129,7 +129,7 @@ module _ (script : Script) (w : World) (k : Knows script w) (v : Holds script w)
   abbrev table2 : Table
   table2 = turn.coord.table
 
-  by : WentBy w.coord (coordinator.on_event script w.coord x fails)
+  pub by : WentBy w.coord (coordinator.on_event script w.coord x fails)
   by = event-went script w.coord q.stood (latest script w k) x fails
 
   kept-letter : (l : Letter) → SaidIn w l × LetterLow w.coord.table w.coord.works l → LetterLow turn.coord.table turn.coord.works l
@@ -140,16 +140,8 @@ module _ (script : Script) (w : World) (k : Knows script w) (v : Holds script w)
   both-each P R (y ∷ ys) a b = ((a.0, b.0), both-each P R ys a.1 b.1)
 
   pub coord-low : coord_can script w.coord x ≡ true → SaidTo w x → Lows (coord_did w e (coord_rule script w.coord x fails))
-  coord-low ok d = by_led (event-led script (parts_in w) w.coord (marks_in w.steps) v.stands k.kept k.past (λ g. (k.well.coordinator.works g).writers) x fails ok (said-in x d))
+  coord-low ok d = by_led (event-leads script w k v x fails ok d)
     where
-      said-in : (x : NodeEvent) → SaidTo w x → Rattle.gx_protocol.proofs.Events.IsSaidIn script (parts_in w) w.coord (marks_in w.steps) v.stands k.kept k.past (λ g. (k.well.coordinator.works g).writers) x
-      said-in (here.Deliver from envelope) d = d
-      said-in (here.Start s) d = tt
-      said-in (here.End s) d = tt
-      said-in (here.Resend i g) d = tt
-      said-in (here.Resume g) d = tt
-      said-in here.Round d = tt
-
       le-trans : (a b c : ℕ) → a ≤ b → b ≤ c → a ≤ c
       le-trans a b c l m = omega arith
 
@@ -364,102 +356,22 @@ sent-low : (d : Table) (ws : ℕ → Work) (ls : List Letter) → Each (LetterLo
 sent-low d ws [] e = tt
 sent-low d ws (l ∷ ls) e = (e.0.0, sent-low d ws ls e.1)
 
-pub lows-are : (w : World) → Lows w → AreHorizonsLow w
-lows-are w q =
+pub lows-are : (script : Script) (w : World) → Knows script w → Lows w → AreHorizonsLow w
+lows-are script w k q =
     record {
       sent = sent-low w.coord.table w.coord.works w.sent q.sent;
       segments = q.segs;
       known = λ g t e. found-low g t w.coord.table.txns e w.coord.table.next;
       live = λ g t x e f. live_found-low g t x w.coord.table.txns f e w.coord.table.next;
+      ended = λ h one e. by_found h one e (find_txn w.coord.table h) refl;
     }
+  where
+    less : (a b c : ℕ) → ltb a b ≡ true → b ≤ c → a < c
+    less a b c e l = grind (arith, nat_tests)
 
--- a command that its segment has still to run is the one under way, and its snapshot's xmin lives
-module _ (script : Script) (w : World) (k : Knows script w) (v : Holds script w) (q : Lows w) where
-  active-live : (g : Gxid) → IsActive w.coord.table g → stage (find_txn w.coord.table (gx g.0)) ≡ Running
-  active-live g e = by_found (find_txn w.coord.table g) e
-    where
-      by_phase : (p : Status) → (let o : Option Rattle.gx_dtx.specs.declared.status.Status.Status = Some (Rattle.gx_dtx.specs.Table.status_in p) in o) ≡ Some Rattle.gx_dtx.specs.declared.status.Status.TheVariants.Active → stage_in p ≡ Running
-      by_phase status.Active e = refl
-      by_phase (status.Preparing a b) e = absurd (cc)
-      by_phase (status.CommittingOne a) e = absurd (cc)
-      by_phase (status.CommittingTwo a) e = absurd (cc)
-      by_phase (status.Ended a) e = absurd (cc)
-      by_phase (status.Aborting a) e = absurd (cc)
+    over : (a b : ℕ) → ltb a b ≡ true → b ≤ a → ⊥
+    over a b e l = grind (arith, nat_tests)
 
-      by_found : (o : Option Txn) → option_map (λ (t : Txn). Rattle.gx_dtx.specs.Table.status_in t.phase) o ≡ Some Rattle.gx_dtx.specs.declared.status.Status.TheVariants.Active → stage o ≡ Running
-      by_found None e = absurd (cc)
-      by_found (Some t) e = by_phase t.phase e
-
-  module _ (i : ℕ) (g : Gxid) (c : Cid) (s : IsCommand (known_at w.coord (marks_in w.steps) i g.0) (parts_in w i g.0) c.0) (live : stage (find_txn w.coord.table (gx g.0)) ≡ Running) (new : ((w.segs i).locals g.0).last < c.0) where
-    abbrev kn : Known
-    kn = known_at w.coord (marks_in w.steps) i g.0
-
-    standing-is : kn.at ≡ Live
-    standing-is = live-standing script w k g.0 i live (nat_le w.coord.table.next.0 g.0)
-
-    over : (a b : ℕ) → a < b → b ≤ a → ⊥
-    over a b l m = omega arith
-
-    is-last : c.0 ≡ (w.coord.works g.0).last
-    is-last = equal c.0 (w.coord.works g.0).last (s.last standing-is) (λ l. over ((w.segs i).locals g.0).last c.0 new (s.older standing-is l))
-      where
-        equal : (a b : ℕ) → a ≤ b → (a < b → ⊥) → a ≡ b
-        equal a b l n = by_test (ltb a b) refl
-          where
-            less : (a b : ℕ) → ltb a b ≡ true → a < b
-            less a b e = grind (arith, nat_tests)
-
-            same : (a b : ℕ) → a ≤ b → ltb a b ≡ false → a ≡ b
-            same a b l e = grind (arith, nat_tests)
-
-            by_test : (t : Bool) → ltb a b ≡ t → a ≡ b
-            by_test true e = absurd (n (less a b e))
-            by_test false e = same a b l e
-
-    -- and its command is under way
-    pub under-way : (m : Option Command) → (w.coord.works g.0).command ≡ m → (z : Command) × ((w.coord.works g.0).command ≡ Some z) × (z.cid.0 ≡ c.0)
-    under-way None e = absurd (over ((w.segs i).locals g.0).last c.0 new (s.taken standing-is (ap (λ o. Rattle.gx_protocol.specs.Standings.waits_in o i) e)))
-    under-way (Some z) e = (z, e, (subst (Rattle.gx_protocol.proofs.Ways.CommandOf g.0 (w.coord.works g.0).last) e (v.stands.works g.0).command).0 ∙ sym is-last)
-
-  pub low-seen : (limit : Gxid) (x : Snapshot) (y : ℕ) → limit.0 ≤ y → ((h : ℕ) → 1 ≤ h → h < y → sees x (gx h) ≡ true) → (h : Gxid) → 1 ≤ h.0 → (is_below limit h || sees x h) ≡ sees x h
-  low-seen limit x y l f h one = by_test (is_below limit h) refl
-    where
-      less : (a b c : ℕ) → ltb a b ≡ true → b ≤ c → a < c
-      less a b c e l = grind (arith, nat_tests)
-
-      by_test : (b : Bool) → is_below limit h ≡ b → (b || sees x h) ≡ sees x h
-      by_test true e = sym (f h.0 one (less h.0 limit.0 y e l))
-      by_test false e = refl
-
-  held-seen : (g : Gxid) (limit : Gxid) (x : Snapshot) → limit.0 ≤ (horizon_of w.coord.table).0 → (o : Option Txn) → find_txn w.coord.table g ≡ o → Held (live_of o) x → (h : Gxid) → 1 ≤ h.0 → (is_below limit h || sees x h) ≡ sees x h
-  held-seen g limit x l None e held = absurd held
-  held-seen g limit x l (Some t) e held = by_live t.live refl held
-    where
-      le-trans : (a b c : ℕ) → a ≤ b → b ≤ c → a ≤ c
-      le-trans a b c l m = omega arith
-
-      by_live : (y : Option Gxid) → t.live ≡ y → Held y x → (h : Gxid) → 1 ≤ h.0 → (is_below limit h || sees x h) ≡ sees x h
-      by_live None f held = absurd held
-      by_live (Some y) f held = low-seen limit x y.0 (le-trans limit.0 (horizon_of w.coord.table).0 y.0 l (live_found-low g t y w.coord.table.txns f e w.coord.table.next)) held
-
-  seen-one : (from to : Node) (m : Message) → Said (known_at w.coord (marks_in w.steps) (if is_answer m then from.0 else to.0) (gxid_in m)) (parts_in w (if is_answer m then from.0 else to.0) (gxid_in m)) m → IsLowIn (horizon_of w.coord.table) m → FineIn w.coord.table w.coord.works m → IsSeenBelow w to m
-  seen-one from to (message.Exec g c level (Some x) horizon slice) s low fine =
-      λ run. let live : stage (find_txn w.coord.table (gx g.0)) ≡ Running = active-live g run.active in
-      let z = under-way to.0 g c s live run.new (w.coord.works g.0).command refl in
-      held-seen g (raised (w.segs to.0) horizon).horizon x (raised-under (horizon_of w.coord.table).0 (w.segs to.0) horizon (q.segs to.0) low) (find_txn w.coord.table g) refl (fine live z.0 z.1 z.2)
-  seen-one from to (message.Exec g c level None horizon slice) s low fine = tt
-  seen-one from to (message.Prepare g) s low fine = tt
-  seen-one from to (message.Commit g) s low fine = tt
-  seen-one from to (message.CommitPrepared g) s low fine = tt
-  seen-one from to (message.Abort g) s low fine = tt
-  seen-one from to (message.Forget g) s low fine = tt
-  seen-one from to (message.Answer g r) s low fine = tt
-  seen-one from to (message.Collect round) s low fine = tt
-  seen-one from to (message.Graph round graph) s low fine = tt
-
-  each-seen : (ls : List Letter) → Each (SaidIn w) ls → Each (LetterLow w.coord.table w.coord.works) ls → IsNobodyDropped w ls
-  each-seen [] a b = tt
-  each-seen (l ∷ ls) a b = (seen-one l.from l.to l.envelope.message a.0 b.0.0 b.0.1, each-seen ls a.1 b.1)
-
-  pub nobody-dropped : IsNobodyDropped w w.sent
-  nobody-dropped = each-seen w.sent v.said q.sent
+    by_found : (h : Gxid) → 1 ≤ h.0 → is_below (horizon_of w.coord.table) h ≡ true → (o : Option Txn) → find_txn w.coord.table h ≡ o → is_ended (marks_in w.steps) h ≡ true
+    by_found h one e None f = k.past.ended h.0 one (less h.0 (horizon_of w.coord.table).0 w.coord.table.next.0 e (horizon-bounds w.coord.table).next) (ap (λ o. is_running (stage o)) f)
+    by_found h one e (Some t) f = absurd (over h.0 (horizon_of w.coord.table).0 e (found-low h t w.coord.table.txns f w.coord.table.next))

@@ -1,5 +1,5 @@
 -- What counts for a reader at a segment is what the marks before its point say.
-use Rattle.std.proofs.Common.{◌≡◌, ◌≤◌, ◌<◌, ℕ, zero, suc, List, [], ◌∷◌, ◌++◌, Option, Some, None, Bool, true, false, refl, sym, subst, ap, ◌∙◌, if◌then◌else◌, ◌==◌, ◌&&◌, ◌||◌, nat_lt, arith, eqb, append-nil}
+use Rattle.std.proofs.Common.{◌≡◌, ◌≤◌, ◌<◌, ℕ, ◌+◌, zero, suc, List, [], ◌∷◌, ◌++◌, Option, Some, None, Bool, true, false, refl, sym, subst, ap, ◌∙◌, if◌then◌else◌, ◌==◌, ◌&&◌, ◌||◌, nat_lt, arith, eqb, append-nil}
 use Rattle.std.proofs.lemmas.Bool.Decides.{nat_tests}
 use Rattle.std.proofs.lemmas.List.{append_assoc}
 use Rattle.std.specs.Prelude.{filter, slice_get, take}
@@ -22,7 +22,10 @@ use Rattle.gx_store.specs.Marks.{is_aborted, is_committed, is_ended, is_same_gxi
 use Rattle.gx_store.specs.Points.{marks_in}
 use Rattle.gx_store.specs.Protocol.{is_writer}
 use Rattle.gx_store.specs.Rows.{row_at}
-use Rattle.gx_store.specs.View.{image, is_shown_to}
+use Rattle.gx_store.specs.View.{AreFinalFrom, image, is_shown_to}
+use Rattle.std.specs.declared.alloc.Global.{Global}
+use Rattle.std.specs.declared.vec.Vec.{Vec}
+use Rattle.gx_tree.specs.declared.row.KeyedRow.{KeyedRow}
 use Rattle.gx_rules.specs.AtSegment.{raised}
 use Rattle.gx_rules.specs.Machine.{Letter, World, after, happens, new_world, world_of}
 use Rattle.gx_rules.specs.Segments.{Seg, Version, has_committed, local_of}
@@ -43,11 +46,12 @@ use Rattle.gx_shown.specs.Last.{last_image, row_of}
 use Rattle.gx_shown.proofs.Kept.{image_in-last_images, in_order-last_images}
 use Rattle.gx_shown.proofs.Rows.{rising-rows_in, row_at-rows_in}
 use Rattle.gx_sights.specs.Horizons.{IsNobodyDropped, IsSeenBelow, IsToRun}
-use Rattle.gx_sights.specs.Sights.{AreShownViews, DoesEndAt, IsOnlyAt, IsShownView, ShowsCommitted, counts_for_all, shown_to_all}
+use Rattle.gx_sights.specs.Sights.{AreAtHome, AreRowsOfAll, AreShownViews, DoesEndAt, IsOnlyAt, IsShownView, ShowsCommitted, counts_for_all, shown_to_all}
 use Rattle.gx_sights.proofs.Ends.{Ends, Facts, world-facts}
 use Rattle.gx_sights.proofs.Held.{held-now, horizon-xmin}
 use Rattle.gx_sights.proofs.Images.{row-is, versions-written}
-use Rattle.gx_sights.proofs.Low.{Lows, latest, low-seen, nobody-dropped}
+use Rattle.gx_sights.proofs.Below.{low-seen, nobody-dropped}
+use Rattle.gx_sights.proofs.Low.{Lows, latest}
 
 -- versions are the marks' writes, in every run
 module _ (script : Script) (some : 1 ≤ script.segments) where
@@ -116,7 +120,7 @@ module _ (script : Script) (w : World) (k : Knows script w) (v : Holds script w)
     x = snapshot_of w.coord.table
 
     below-seen : (h : Gxid) → 1 ≤ h.0 → (is_below (w.segs node.0).horizon h || sees x h) ≡ sees x h
-    below-seen = low-seen script w k v f.lows (w.segs node.0).horizon x (xmin_of w.coord.table).0 (le-trans (w.segs node.0).horizon.0 (horizon_of w.coord.table).0 (xmin_of w.coord.table).0 (f.lows.segs node.0) (horizon-xmin w.coord.table (latest script w k))) (held-now w.coord.table f.lows.stood.sorted)
+    below-seen = low-seen script w k v f (w.segs node.0).horizon x (xmin_of w.coord.table).0 (le-trans (w.segs node.0).horizon.0 (horizon_of w.coord.table).0 (xmin_of w.coord.table).0 (f.lows.segs node.0) (horizon-xmin w.coord.table (latest script w k))) (held-now w.coord.table f.lows.stood.sorted)
       where
         le-trans : (a b c : ℕ) → a ≤ b → b ≤ c → a ≤ c
         le-trans a b c l m = omega arith
@@ -185,7 +189,7 @@ module _ (script : Script) (w : World) (k : Knows script w) (v : Holds script w)
   each-view (l ∷ ls) e = (one-view l.to l.envelope.message e.0, each-view ls e.1)
 
   pub shown-views : AreShownViews w w.sent
-  shown-views = each-view w.sent (nobody-dropped script w k v f.lows)
+  shown-views = each-view w.sent (nobody-dropped script w k v f)
 
 -- IN EVERY RUN
 module _ (script : Script) (some : 1 ≤ script.segments) (es : List (Event × Bool)) where
@@ -197,3 +201,10 @@ module _ (script : Script) (some : 1 ≤ script.segments) (es : List (Event × B
 
   pub world-views : AreShownViews (world_of script es) (world_of script es).sent
   world-views = shown-views script (world_of script es) (world_knows script some es) (world-holds script some es) (world-facts script some es) (world-hold script some es)
+
+  pub world-tables : (tables : List (Vec KeyedRow Global)) (k : ℕ) → AreAtHome (marks_in (world_of script es).steps) → AreRowsOfAll k (world_of script es) tables → AreFinalFrom k (marks_in (world_of script es).steps) tables
+  world-tables [] k homes e = tt
+  world-tables (rows ∷ tables) k homes e = (
+    record { rising = e.0.rising; images = λ rid. let h = homes rid in e.0.shown h.0 rid h.1 h.2 ∙ (world-shows h.0 (record { 0 = k }) h.1).images rid h.2 },
+    world-tables tables (k + 1) homes e.1,
+  )

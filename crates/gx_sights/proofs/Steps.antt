@@ -14,7 +14,7 @@ use Rattle.gx_store.specs.Messages.{IsSending, IsSent, Receives}
 use Rattle.gx_store.specs.Ordered.{IsLink, IsSegment}
 use Rattle.gx_store.specs.Points.{marks_in}
 use Rattle.gx_store.specs.Refusals.{the_coordinator}
-use Rattle.gx_rules.specs.AtCoordinator.{coord_can, coord_rule}
+use Rattle.gx_rules.specs.AtCoordinator.{coord_can, coord_rule, on_event}
 use Rattle.gx_rules.specs.AtSegment.{seg_rule}
 use Rattle.gx_rules.specs.Machine.{Letter, World, after, at_node, can, can_here, coord_did, delivered, does, found, happens, new_world, node_of, seg_can, seg_did, world_of}
 use Rattle.gx_laws.proofs.Letters.{IsFound, IsLetter, found_is}
@@ -24,7 +24,9 @@ use Rattle.gx_laws.proofs.World.{Knows, happens_knows, new_knows}
 use Rattle.gx_protocol.specs.Said.{Said, SaidAt, SaidIn, gxid_in, is_answer, segment_of}
 use Rattle.gx_protocol.specs.Standings.{at, known_at}
 use Rattle.gx_protocol.proofs.Always.{answer-of, each-zip, happens-holds, new-holds}
+use Rattle.gx_protocol.proofs.Events.{event-led}
 use Rattle.gx_protocol.proofs.Everywhere.{Holds, parts_in}
+use Rattle.gx_protocol.proofs.Ways.{Led}
 
 -- what is delivered to the coordinator was said
 abbrev pub SaidTo : World → NodeEvent → Type 0
@@ -109,5 +111,21 @@ module _ (script : Script) (some : 1 ≤ script.segments) (Q : World → Type 0)
   after-keeps [] w k v q = q
   after-keeps (e ∷ es) w k v q = after-keeps es (happens script w e.0 e.1) (happens_knows script some w e.0 e.1 k) (happens-holds script some w e.0 e.1 k v) (happens-keeps w e.0 e.1 k v q)
 
+  pub keeps-after : (es : List (Event × Bool)) (w : World) → Knows script w → Holds script w → Q w → Q (after script w es)
+  keeps-after = after-keeps
+
   pub world-keeps : Q new_world → (es : List (Event × Bool)) → Q (world_of script es)
   world-keeps new es = after-keeps es new_world (new_knows script some) (new-holds script some) new
+
+-- the coordinator's events lead by the protocol
+module _ (script : Script) (w : World) (k : Knows script w) (v : Holds script w) where
+  said-in : (x : NodeEvent) → SaidTo w x → Rattle.gx_protocol.proofs.Events.IsSaidIn script (parts_in w) w.coord (marks_in w.steps) v.stands k.kept k.past (λ g. (k.well.coordinator.works g).writers) x
+  said-in (here.Deliver from envelope) d = d
+  said-in (here.Start s) d = tt
+  said-in (here.End s) d = tt
+  said-in (here.Resend i g) d = tt
+  said-in (here.Resume g) d = tt
+  said-in here.Round d = tt
+
+  pub event-leads : (x : NodeEvent) (fails : Bool) → coord_can script w.coord x ≡ true → SaidTo w x → Led script (parts_in w) w.coord (marks_in w.steps) (on_event script w.coord x fails)
+  event-leads x fails ok d = event-led script (parts_in w) w.coord (marks_in w.steps) v.stands k.kept k.past (λ g. (k.well.coordinator.works g).writers) x fails ok (said-in x d)

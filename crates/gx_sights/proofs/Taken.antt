@@ -169,7 +169,7 @@ module _ (script : Script) (w : World) (k : Knows script w) (v : Holds script w)
   at-live g i l = live-standing script w k g i l (nat_le w.coord.table.next.0 g)
 
   -- STATUSES
-  closing-taken : (g : ℕ) → stage_of w.coord g ≡ Closing → AllTaken g
+  pub closing-taken : (g : ℕ) → stage_of w.coord g ≡ Closing → AllTaken g
   closing-taken g e i n s = s.closed (by_found (find_txn w.coord.table (gx g)) e (nat_le w.coord.table.next.0 g))
     where
       by_phase : (p : Status) → stage_in p ≡ Closing → is_closing (standing_in p i) ≡ true

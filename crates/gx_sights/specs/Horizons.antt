@@ -1,15 +1,17 @@
 -- Horizons: what stands below one counts as ended, so nobody below it may still be needed.
-use Rattle.std.specs.Prelude.{◌≡◌, ◌≤◌, ◌<◌, ◌||◌, ℕ, Bool, true, List, [], ◌∷◌, None, Some}
+use Rattle.std.specs.Prelude.{◌≡◌, ◌≤◌, ◌<◌, ◌||◌, ℕ, Bool, true, false, List, [], ◌∷◌, None, Some}
 use Rattle.gx_ids.specs.declared.ids.Cid.{Cid}
 use Rattle.gx_ids.specs.declared.ids.Gxid.{Gxid}
 use Rattle.gx_ids.specs.declared.ids.Node.{Node}
 use Rattle.gx_dsnap.specs.Gxids.{is_below}
 use Rattle.gx_dsnap.specs.Snapshot.{sees}
 use Rattle.gx_dsnap.specs.declared.snapshot.Snapshot.{Snapshot}
-use Rattle.gx_dtx.specs.Table.{IsActive, Table, find_txn, horizon_of}
+use Rattle.gx_dtx.specs.Table.{find_txn, horizon_of}
 use Rattle.gx_dtx.specs.declared.txn.Txn.{Txn}
 use Rattle.gx_msg.specs.declared.message.Message.{Message}
 use Rattle.gx_msg.specs.declared.message.Message.TheVariants as message
+use Rattle.gx_store.specs.Marks.{is_aborted, is_ended}
+use Rattle.gx_store.specs.Points.{marks_in}
 use Rattle.gx_rules.specs.AtSegment.{raised}
 use Rattle.gx_rules.specs.Machine.{Letter, World}
 use Rattle.gx_rules.specs.Segments.{local_of}
@@ -24,16 +26,17 @@ AreLowIn limit [] = Unit {0}
 AreLowIn limit (letter ∷ letters) = IsLowIn limit letter.envelope.message × AreLowIn limit letters
 
 -- No horizon is above that of the coordinator's transactions, and so above one that runs or that a participant hasn't
--- forgotten, nor above the xmin of a live snapshot.
+-- forgotten, nor above the xmin of a live snapshot; and whoever is below has ended.
 pub record AreHorizonsLow (w : World) : Type 0 where
   pub sent : AreLowIn (horizon_of w.coord.table) w.sent
   pub segments : (i : ℕ) → (w.segs i).horizon.0 ≤ (horizon_of w.coord.table).0
   pub known : (g : Gxid) (t : Txn) → find_txn w.coord.table g ≡ Some t → (horizon_of w.coord.table).0 ≤ g.0
   pub live : (g : Gxid) (t : Txn) (xmin : Gxid) → find_txn w.coord.table g ≡ Some t → t.live ≡ Some xmin → (horizon_of w.coord.table).0 ≤ xmin.0
+  pub ended : (h : Gxid) → 1 ≤ h.0 → is_below (horizon_of w.coord.table) h ≡ true → is_ended (marks_in w.steps) h ≡ true
 
--- the node has still to run the command, whose transaction's commands run
+-- the node has still to run the command, whose transaction wasn't aborted
 pub record IsToRun (w : World) (node : Node) (g : Gxid) (c : Cid) : Type 0 where
-  pub active : IsActive w.coord.table g
+  pub unaborted : is_aborted (marks_in w.steps) g ≡ false
   pub new : (local_of (w.segs node.0) g).last < c.0
 
 -- such a command sees whoever is below the horizon that the node then has
@@ -46,3 +49,7 @@ IsSeenBelow w node _ = Unit {0}
 abbrev pub IsNobodyDropped : World → List Letter → Type 0
 IsNobodyDropped w [] = Unit {0}
 IsNobodyDropped w (letter ∷ letters) = IsSeenBelow w letter.to letter.envelope.message × IsNobodyDropped w letters
+
+-- the horizon of the coordinator's transactions never falls
+abbrev pub HasRisen : World → World → Type 0
+HasRisen w late = (horizon_of w.coord.table).0 ≤ (horizon_of late.coord.table).0

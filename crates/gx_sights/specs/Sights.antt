@@ -1,5 +1,7 @@
 -- What segments show, and what they should.
-use Rattle.std.specs.Prelude.{◌≡◌, ◌≤◌, ◌==◌, ℕ, Bool, true, false, ◌&&◌, ◌||◌, List, [], ◌∷◌, filter, slice_get, take, None, Some}
+use Rattle.std.specs.Prelude.{◌≡◌, ◌≤◌, ◌==◌, ◌+◌, ℕ, Bool, true, false, ◌&&◌, ◌||◌, List, [], ◌∷◌, filter, slice_get, take, None, Some}
+use Rattle.std.specs.declared.alloc.Global.{Global}
+use Rattle.std.specs.declared.vec.Vec.{Vec}
 use Rattle.gx_ids.specs.declared.ids.Cid.{Cid}
 use Rattle.gx_ids.specs.declared.ids.Gxid.{Gxid}
 use Rattle.gx_ids.specs.declared.ids.Node.{Node}
@@ -54,6 +56,20 @@ pub record ShowsCommitted (w : World) (node : Node) (table : Table) : Type 0 whe
   pub rising : AreRising (shown_to_all (w.segs node.0) (snapshot_of w.coord.table) table)
   pub images : (rid : Rid) → IsOnlyAt node rid (marks_in w.steps) → row_at (shown_to_all (w.segs node.0) (snapshot_of w.coord.table) table) rid ≡ image (marks_in w.steps) (marks_in w.steps) None table rid
 
+-- each row is written at one segment alone
+abbrev pub AreAtHome : List Mark → Type 0
+AreAtHome marks = (rid : Rid) → (node : Node) × (1 ≤ node.0) × IsOnlyAt node rid marks
+
+-- these are the committed rows of a table that all segments show, in the order of their identities
+pub record AreRowsOf (w : World) (table : Table) (rows : List KeyedRow) : Type 0 where
+  pub rising : AreRising rows
+  pub shown : (node : Node) (rid : Rid) → 1 ≤ node.0 → IsOnlyAt node rid (marks_in w.steps) → row_at rows rid ≡ row_at (shown_to_all (w.segs node.0) (snapshot_of w.coord.table) table) rid
+
+-- and of each table from the one of this number on
+abbrev pub AreRowsOfAll : ℕ → World → List (Vec KeyedRow Global) → Type 0
+AreRowsOfAll k w [] = Unit {0}
+AreRowsOfAll k w (rows ∷ tables) = AreRowsOf w (record { 0 = k }) rows.items × AreRowsOfAll (k + 1) w tables
+
 -- WHAT A SEGMENT SHOWS TO A COMMAND
 -- When a command comes to a segment that has still to run it, the segment shows to it each row that is written there alone as
 -- it is for the command at the place where its snapshot was taken.
@@ -67,3 +83,11 @@ IsShownView w node _ = Unit {0}
 abbrev pub AreShownViews : World → List Letter → Type 0
 AreShownViews w [] = Unit {0}
 AreShownViews w (letter ∷ letters) = IsShownView w letter.to letter.envelope.message × AreShownViews w letters
+
+-- VIEWS STAY
+-- Once a node has taken a command, nothing that is written later changes what the command sees of the rows that stand there
+-- alone, at the place of any mark so far.
+abbrev pub DoViewsStay : World → World → Type 0
+DoViewsStay w late =
+    (node : Node) (g : Gxid) (c : Cid) (place : ℕ) (m : Mark) (table : Table) (rid : Rid) → c.0 ≤ (local_of (w.segs node.0) g).last → slice_get (marks_in w.steps) place ≡ Some m → IsOnlyAt node rid (marks_in late.steps)
+    → image (marks_in late.steps) (take place (marks_in late.steps)) (Some (g, c)) table rid ≡ image (marks_in w.steps) (take place (marks_in w.steps)) (Some (g, c)) table rid

@@ -1,0 +1,183 @@
+-- A command that a segment has still to run sees whoever is below the horizon.
+use Rattle.std.proofs.Common.{◌≡◌, ◌≤◌, ◌<◌, inl, inr, ℕ, ◌+◌, List, [], ◌∷◌, ◌++◌, Option, Some, None, Bool, true, false, refl, sym, subst, ap, ◌∙◌, if◌then◌else◌, ◌||◌, ltb, arith, eqb, append-nil}
+use Rattle.std.proofs.lemmas.Bool.{eqb-true}
+use Rattle.std.proofs.lemmas.Bool.Decides.{nat_tests}
+use Rattle.std.specs.Prelude.{fold, length, nat_le, nat_lt, option_map}
+use Rattle.gx_ids.specs.declared.ids.Cid.{Cid}
+use Rattle.gx_ids.specs.declared.ids.Gxid.{Gxid}
+use Rattle.gx_ids.specs.declared.ids.Node.{Node}
+use Rattle.gx_ids.specs.declared.ids.Table.{Table as TableId}
+use Rattle.gx_tree.specs.declared.query.Query.{Query}
+use Rattle.gx_tree.specs.declared.row.KeyedRow.{KeyedRow}
+use Rattle.gx_tree.specs.declared.slice.Slice.{Slice}
+use Rattle.gx_tree.specs.declared.slice.Slice.TheVariants as slice
+use Rattle.gx_dsnap.specs.Gxids.{is_below}
+use Rattle.gx_dsnap.specs.Snapshot.{sees}
+use Rattle.gx_dsnap.specs.declared.snapshot.Snapshot.{Snapshot}
+use Rattle.gx_dtx.specs.Lives.{live_of}
+use Rattle.gx_dtx.specs.Table.{IsActive, Table, find_txn, horizon_of, new_table, runs}
+use Rattle.gx_dtx.specs.declared.phase.Phase.{Phase as Status}
+use Rattle.gx_dtx.specs.declared.phase.Phase.TheVariants as status
+use Rattle.gx_dtx.specs.declared.txn.Txn.{Txn}
+use Rattle.gx_dtx.proofs.Low.{found-low, live_found-low}
+use Rattle.gx_eval.specs.declared.fault.ArithFault.{ArithFault}
+use Rattle.gx_msg.specs.declared.item.JournalItem.{JournalItem}
+use Rattle.gx_msg.specs.declared.message.Envelope.{Envelope}
+use Rattle.gx_msg.specs.declared.message.Message.{Message}
+use Rattle.gx_msg.specs.declared.message.Message.TheVariants as message
+use Rattle.gx_msg.specs.declared.message.Out.{Out}
+use Rattle.gx_msg.specs.declared.reply.Reply.{Reply}
+use Rattle.gx_msg.specs.declared.reply.Reply.TheVariants as reply
+use Rattle.gx_script.specs.declared.Script.{Script}
+use Rattle.gx_store.specs.declared.event.Event.{Event}
+use Rattle.gx_store.specs.declared.mark.Mark.{Mark}
+use Rattle.gx_store.specs.declared.node.NodeEvent.{NodeEvent}
+use Rattle.gx_store.specs.declared.node.NodeEvent.TheVariants as here
+use Rattle.gx_store.specs.Messages.{Receives}
+use Rattle.gx_store.specs.Ordered.{IsSegment}
+use Rattle.gx_store.specs.Points.{marks_in}
+use Rattle.gx_store.specs.Protocol.{is_writer, local_count, prepared_count}
+use Rattle.gx_store.specs.Refusals.{the_coordinator}
+use Rattle.gx_rules.specs.AtCoordinator as coordinator
+use Rattle.gx_rules.specs.AtCoordinator.{coord_can, coord_rule}
+use Rattle.gx_rules.specs.AtSegment.{changes, commits, finishes, if_fits, is_refused, on_abort, on_commit, on_commit_prepared, on_event, on_exec, on_forget, on_message, on_prepare, once, promises, raised, repeats, seg_rule, takes, unless_below, was_prepared}
+use Rattle.gx_rules.specs.Coordinators.{Command, Coord, CoordTurn, Work, no_work}
+use Rattle.gx_rules.specs.Fits.{fits_exec}
+use Rattle.gx_rules.specs.Machine.{Letter, World, coord_did, new_world, seg_did, world_of}
+use Rattle.gx_rules.specs.Maps.{with_at}
+use Rattle.gx_rules.specs.Segments.{Local, Phase, Seg, SegTurn, local_of, stays, tells, tells_kept}
+use Rattle.gx_rules.specs.Segments.Phase.{Aborted, Committed, Forgotten, Prepared, Reading, Writing}
+use Rattle.gx_rules.specs.Sending.{clock_after, numbered}
+use Rattle.gx_rules.specs.Shown.{shown}
+use Rattle.gx_rules.specs.Slices.{Moved, first_fault, inserted, inserts, inserts_row, runs_slice, selects}
+use Rattle.gx_laws.proofs.Letters.{IsFound}
+use Rattle.gx_laws.proofs.Lists.{Each, each_weaker}
+use Rattle.gx_laws.proofs.Past.{Past, there-drawn}
+use Rattle.gx_laws.proofs.Sessions.{stage_of}
+use Rattle.gx_laws.proofs.Stages.{gx}
+use Rattle.gx_laws.proofs.Statuses.{Stage, is_running, runs-stage, stage, stage_in}
+use Rattle.gx_laws.proofs.Statuses.Stage.{Live as Running}
+use Rattle.gx_laws.proofs.World.{Knows}
+use Rattle.gx_protocol.specs.Said.{IsCommand, Said, SaidIn, gxid_in, is_answer, segment_of}
+use Rattle.gx_protocol.specs.Standings.{Known, Part, Standing, at, known_at, standing, standing_in}
+use Rattle.gx_protocol.specs.Standings.Standing.{Unborn, Over, Live}
+use Rattle.gx_protocol.proofs.Everywhere.{Holds, fol-no-sent, follows-no-sent, parts_in, posted-each, told-answer}
+use Rattle.gx_protocol.proofs.Handled.{Tells, handled}
+use Rattle.gx_sights.specs.Horizons.{AreHorizonsLow, AreLowIn, IsLowIn, IsNobodyDropped, IsSeenBelow, IsToRun}
+use Rattle.gx_sights.proofs.Heights.{Sorted}
+use Rattle.gx_sights.proofs.Held.{Held, Latest}
+use Rattle.gx_sights.proofs.Going.{event-went}
+use Rattle.gx_sights.proofs.Plain.{NoExec}
+use Rattle.gx_sights.proofs.Reading.{CommandLow, CountedIn, Fine, FineIn, OutFine, Reads, Stood, Went, le-refl, low-then}
+use Rattle.gx_sights.proofs.Steps.{SaidTo, event-leads, world-keeps}
+use Rattle.gx_sights.proofs.Turns.{WentBy, none-some}
+use Rattle.gx_sights.proofs.Low.{LetterLow, Lows, drawn-is, live-standing, raised-under}
+use Rattle.gx_sights.proofs.Taken.{closing-taken}
+use Rattle.gx_sights.proofs.Ends.{Ends, Facts, TakenAt}
+use Rattle.gx_store.specs.Marks.{is_aborted, is_committed, is_ended}
+use Rattle.gx_laws.proofs.Statuses.Stage.{Absent, Closing, Dropped, Finished}
+
+-- a command that its segment has still to run is the one under way, and its snapshot's xmin lives
+module _ (script : Script) (w : World) (k : Knows script w) (v : Holds script w) (facts : Facts w) where
+  abbrev q : Lows w
+  q = facts.lows
+
+  -- a transaction that isn't aborted, of which a command is still to run, runs its commands
+  runs-still : (i : ℕ) (g : Gxid) (c : Cid) → IsCommand (known_at w.coord (marks_in w.steps) i g.0) (parts_in w i g.0) c.0 → 1 ≤ g.0 → (is_committed (marks_in w.steps) (gx g.0) ≡ true → c.0 ≤ ((w.segs i).locals g.0).last) → is_aborted (marks_in w.steps) g ≡ false → ((w.segs i).locals g.0).last < c.0 → stage (find_txn w.coord.table (gx g.0)) ≡ Running
+  runs-still i g c s one taken unaborted new = by_stage (stage (find_txn w.coord.table (gx g.0))) refl
+    where
+      over : (a b : ℕ) → a < b → b ≤ a → ⊥
+      over a b l m = omega arith
+
+      clash : (b : Bool) → b ≡ false → b ≡ true → ⊥
+      clash b e f = grind arith
+
+      left : (a b : Bool) → b ≡ false → (a || b) ≡ true → a ≡ true
+      left a b e f = grind arith
+
+      drawn : g.0 < w.coord.table.next.0
+      drawn = drawn-is script w k g.0 i s.drawn
+
+      over-now : is_running (stage_of w.coord g.0) ≡ false → ⊥
+      over-now e = over ((w.segs i).locals g.0).last c.0 new (taken (left (is_committed (marks_in w.steps) g) (is_aborted (marks_in w.steps) g) unaborted (k.past.ended g.0 one drawn e)))
+
+      by_stage : (a : Stage) → stage (find_txn w.coord.table (gx g.0)) ≡ a → a ≡ Running
+      by_stage Running e = refl
+      by_stage Closing e = absurd (over ((w.segs i).locals g.0).last c.0 new (closing-taken script w k v q g.0 e i c.0 s))
+      by_stage Finished e = absurd (over-now (ap is_running e))
+      by_stage Absent e = absurd (over-now (ap is_running e))
+      by_stage Dropped e = absurd (clash (is_aborted (marks_in w.steps) g) unaborted (k.past.dropped g.0 e))
+
+  module _ (i : ℕ) (g : Gxid) (c : Cid) (s : IsCommand (known_at w.coord (marks_in w.steps) i g.0) (parts_in w i g.0) c.0) (live : stage (find_txn w.coord.table (gx g.0)) ≡ Running) (new : ((w.segs i).locals g.0).last < c.0) where
+    abbrev kn : Known
+    kn = known_at w.coord (marks_in w.steps) i g.0
+
+    standing-is : kn.at ≡ Live
+    standing-is = live-standing script w k g.0 i live (nat_le w.coord.table.next.0 g.0)
+
+    over : (a b : ℕ) → a < b → b ≤ a → ⊥
+    over a b l m = omega arith
+
+    is-last : c.0 ≡ (w.coord.works g.0).last
+    is-last = equal c.0 (w.coord.works g.0).last (s.last standing-is) (λ l. over ((w.segs i).locals g.0).last c.0 new (s.older standing-is l))
+      where
+        equal : (a b : ℕ) → a ≤ b → (a < b → ⊥) → a ≡ b
+        equal a b l n = by_test (ltb a b) refl
+          where
+            less : (a b : ℕ) → ltb a b ≡ true → a < b
+            less a b e = grind (arith, nat_tests)
+
+            same : (a b : ℕ) → a ≤ b → ltb a b ≡ false → a ≡ b
+            same a b l e = grind (arith, nat_tests)
+
+            by_test : (t : Bool) → ltb a b ≡ t → a ≡ b
+            by_test true e = absurd (n (less a b e))
+            by_test false e = same a b l e
+
+    -- and its command is under way
+    pub under-way : (m : Option Command) → (w.coord.works g.0).command ≡ m → (z : Command) × ((w.coord.works g.0).command ≡ Some z) × (z.cid.0 ≡ c.0)
+    under-way None e = absurd (over ((w.segs i).locals g.0).last c.0 new (s.taken standing-is (ap (λ o. Rattle.gx_protocol.specs.Standings.waits_in o i) e)))
+    under-way (Some z) e = (z, e, (subst (Rattle.gx_protocol.proofs.Ways.CommandOf g.0 (w.coord.works g.0).last) e (v.stands.works g.0).command).0 ∙ sym is-last)
+
+  pub low-seen : (limit : Gxid) (x : Snapshot) (y : ℕ) → limit.0 ≤ y → ((h : ℕ) → 1 ≤ h → h < y → sees x (gx h) ≡ true) → (h : Gxid) → 1 ≤ h.0 → (is_below limit h || sees x h) ≡ sees x h
+  low-seen limit x y l f h one = by_test (is_below limit h) refl
+    where
+      less : (a b c : ℕ) → ltb a b ≡ true → b ≤ c → a < c
+      less a b c e l = grind (arith, nat_tests)
+
+      by_test : (b : Bool) → is_below limit h ≡ b → (b || sees x h) ≡ sees x h
+      by_test true e = sym (f h.0 one (less h.0 limit.0 y e l))
+      by_test false e = refl
+
+  held-seen : (g : Gxid) (limit : Gxid) (x : Snapshot) → limit.0 ≤ (horizon_of w.coord.table).0 → (o : Option Txn) → find_txn w.coord.table g ≡ o → Held (live_of o) x → (h : Gxid) → 1 ≤ h.0 → (is_below limit h || sees x h) ≡ sees x h
+  held-seen g limit x l None e held = absurd held
+  held-seen g limit x l (Some t) e held = by_live t.live refl held
+    where
+      le-trans : (a b c : ℕ) → a ≤ b → b ≤ c → a ≤ c
+      le-trans a b c l m = omega arith
+
+      by_live : (y : Option Gxid) → t.live ≡ y → Held y x → (h : Gxid) → 1 ≤ h.0 → (is_below limit h || sees x h) ≡ sees x h
+      by_live None f held = absurd held
+      by_live (Some y) f held = low-seen limit x y.0 (le-trans limit.0 (horizon_of w.coord.table).0 y.0 l (live_found-low g t y w.coord.table.txns f e w.coord.table.next)) held
+
+  seen-one : (from to : Node) (m : Message) → Said (known_at w.coord (marks_in w.steps) (if is_answer m then from.0 else to.0) (gxid_in m)) (parts_in w (if is_answer m then from.0 else to.0) (gxid_in m)) m → IsLowIn (horizon_of w.coord.table) m → FineIn w.coord.table w.coord.works m → TakenAt w to m → IsSeenBelow w to m
+  seen-one from to (message.Exec g c level (Some x) horizon slice) s low fine taken =
+      λ run. let live : stage (find_txn w.coord.table (gx g.0)) ≡ Running = runs-still to.0 g c s taken.0 taken.1 run.unaborted run.new in
+      let z = under-way to.0 g c s live run.new (w.coord.works g.0).command refl in
+      held-seen g (raised (w.segs to.0) horizon).horizon x (raised-under (horizon_of w.coord.table).0 (w.segs to.0) horizon (q.segs to.0) low) (find_txn w.coord.table g) refl (fine live z.0 z.1 z.2)
+  seen-one from to (message.Exec g c level None horizon slice) s low fine taken = tt
+  seen-one from to (message.Prepare g) s low fine taken = tt
+  seen-one from to (message.Commit g) s low fine taken = tt
+  seen-one from to (message.CommitPrepared g) s low fine taken = tt
+  seen-one from to (message.Abort g) s low fine taken = tt
+  seen-one from to (message.Forget g) s low fine taken = tt
+  seen-one from to (message.Answer g r) s low fine taken = tt
+  seen-one from to (message.Collect round) s low fine taken = tt
+  seen-one from to (message.Graph round graph) s low fine taken = tt
+
+  each-seen : (ls : List Letter) → Each (SaidIn w) ls → Each (LetterLow w.coord.table w.coord.works) ls → Each (λ (l : Letter). TakenAt w l.to l.envelope.message) ls → IsNobodyDropped w ls
+  each-seen [] a b d = tt
+  each-seen (l ∷ ls) a b d = (seen-one l.from l.to l.envelope.message a.0 b.0.0 b.0.1 d.0, each-seen ls a.1 b.1 d.1)
+
+  pub nobody-dropped : IsNobodyDropped w w.sent
+  nobody-dropped = each-seen w.sent v.said q.sent facts.ends.taken
