@@ -8,3 +8,5 @@ pub mod Turns
 pub mod Plans
 pub mod Shown
 pub mod Truths
+pub mod Origins
+pub mod Always
