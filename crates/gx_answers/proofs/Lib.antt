@@ -10,3 +10,5 @@ pub mod Shown
 pub mod Truths
 pub mod Origins
 pub mod Always
+pub mod Commands
+pub mod Heard

@@ -1,3 +1,4 @@
 pub mod Keyed
 pub mod Parts
 pub mod Truth
+pub mod Once
