@@ -12,3 +12,6 @@ pub mod Origins
 pub mod Always
 pub mod Commands
 pub mod Heard
+pub mod Told
+pub mod Segs
+pub mod Join

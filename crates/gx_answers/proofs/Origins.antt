@@ -174,7 +174,7 @@ module _ (g : Gxid) (c : Cid) (table : Table) where
       other true q = cc
       other false q = refl
 
-  insert-quiet : (rows : List KeyedRow) (m : Moved) → Each NoFault m.marks → Each NoFault (fold (inserts_row g c table) m rows).marks
+  pub insert-quiet : (rows : List KeyedRow) (m : Moved) → Each NoFault m.marks → Each NoFault (fold (inserts_row g c table) m rows).marks
   insert-quiet [] m e = e
   insert-quiet (row ∷ rows) m e = insert-quiet rows (inserts_row g c table m row) (each_append NoFault m.marks _ e (tt, tt))
 

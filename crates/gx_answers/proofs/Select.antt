@@ -89,7 +89,7 @@ or-later : (a b : Bool) → b ≡ true → (a || b) ≡ true
 or-later true b e = refl
 or-later false b e = e
 
-has-from : (k from count : ℕ) → from ≤ k → k < from + count → has (at k) (nodes_from from count) ≡ true
+pub has-from : (k from count : ℕ) → from ≤ k → k < from + count → has (at k) (nodes_from from count) ≡ true
 has-from k from zero low high = absurd (omega (arith, low, high))
 has-from k from (suc count) low high = by_test (eqb from k) refl (has-from k (from + 1) count)
   where
