@@ -142,7 +142,7 @@ module _ (script : Script) (some : 1 ≤ script.segments) (numbered : AreLinesNu
       segment : IsSegment script from
       segment = no-self from (subst (λ k. IsLink script k the_coordinator) x.node (by-recursion-get (IsAtNode script x.sender.stamp.node) x.sender.marks place _ (ordered-at script [] (world_of script es).steps step x.sender (world-both script some es).knows.well.steps there) x.sent))
 
-  take-whole : {A : Type 0} (xs : List A) → take (length xs) xs ≡ xs
+  pub take-whole : {A : Type 0} (xs : List A) → take (length xs) xs ≡ xs
   take-whole [] = refl
   take-whole (x ∷ xs) = ap (λ l. x ∷ l) (take-whole xs)
 

@@ -28,15 +28,16 @@ use Rattle.gx_histories.specs.Orders.{AreLinesNumbered}
 use Rattle.gx_histories.proofs.Said.{CalmFor}
 use Rattle.gx_histories.proofs.World.{all-legal, sessions-stand}
 use Rattle.gx_writes.proofs.Turns.{NoWrite}
-use Rattle.gx_answers.specs.Keyed.{AreInsertsKeyed}
-use Rattle.gx_answers.specs.Once.{AreInsertsGathered, AreSnapshotsOne}
+use Rattle.gx_answers.specs.Keyed.{AreInsertsFilled, AreInsertsKeyed}
+use Rattle.gx_answers.specs.Once.{AreSnapshotsOne}
 use Rattle.gx_answers.proofs.Commands.{IsOf, command-is}
+use Rattle.gx_answers.proofs.Gathered.{insert-tells}
 use Rattle.gx_answers.proofs.Heard.{heard-now}
 use Rattle.gx_answers.proofs.Origins.{Events}
 use Rattle.gx_answers.proofs.Segs.{segments-legal}
 use Rattle.gx_answers.proofs.Told.{caused, tells-by}
 
-module _ (script : Script) (some : 1 ≤ script.segments) (numbered : AreLinesNumbered [] script.lines) (keyed : AreInsertsKeyed script) (once : AreSnapshotsOne script) (inserts : AreInsertsGathered script) where
+module _ (script : Script) (some : 1 ≤ script.segments) (numbered : AreLinesNumbered [] script.lines) (keyed : AreInsertsKeyed script) (once : AreSnapshotsOne script) (filled : AreInsertsFilled script) where
   module _ (es : Events) where
     abbrev steps : List Step
     steps = (world_of script es).steps
@@ -48,13 +49,11 @@ module _ (script : Script) (some : 1 ≤ script.segments) (numbered : AreLinesNu
     told = record {
       told = λ from to number later session stmt level g c answer runs x.
           tells-by script some numbered keyed es (once es) from to number [] later session level g c answer tt tt stmt (its from to number [] later session stmt level g c tt runs) runs x
-          (λ t v e. inserts es from to number [] later session t v level g c answer (inl refl)
-          (subst (λ l. RunsCommand script (point_at steps (event.Receive from to number) [] later) session l level g c) e runs)
+          (λ t v e. insert-tells script some numbered filled es t v level g c (subst (λ l. IsOf script (marks_in steps) l level g c) e (its from to number [] later session stmt level g c tt runs)) from to number [] later answer
           (subst (λ l. IsGathered script (point_at steps (event.Receive from to number) [] later) g c l answer) e x));
       committed = λ from to number later session stmt level g c answer runs x.
           tells-by script some numbered keyed es (once es) from to number (mark.Commit g ∷ []) later session level g c answer (tt, tt) (tt, tt) stmt (its from to number (mark.Commit g ∷ []) later session stmt level g c (tt, tt) runs) runs x
-          (λ t v e. inserts es from to number (mark.Commit g ∷ []) later session t v level g c answer (inr refl)
-          (subst (λ l. RunsCommand script (point_at steps (event.Receive from to number) (mark.Commit g ∷ []) later) session l level g c) e runs)
+          (λ t v e. insert-tells script some numbered filled es t v level g c (subst (λ l. IsOf script (marks_in steps) l level g c) e (its from to number (mark.Commit g ∷ []) later session stmt level g c (tt, tt) runs)) from to number (mark.Commit g ∷ []) later answer
           (subst (λ l. IsGathered script (point_at steps (event.Receive from to number) (mark.Commit g ∷ []) later) g c l answer) e x));
       refused = λ from to number later session stmt level g c segment cause runs x.
           caused script some numbered keyed es from to number later level g c segment stmt (its from to number (mark.Abort g ∷ []) later session stmt level g c (tt, tt) runs) cause (heard-now script some numbered es segment _ x.number x.sent).true_word;

@@ -15,3 +15,4 @@ pub mod Heard
 pub mod Told
 pub mod Segs
 pub mod Join
+pub mod Gathered

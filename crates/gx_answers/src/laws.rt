@@ -1,7 +1,7 @@
 //! Laws of every run, whatever the network loses, repeats, delays and reorders, and whichever appends fail.
 ghost use Rattle.std.specs.Prelude.{◌≡◌, ◌≤◌, Bool, List, []};
-ghost use Rattle.gx_answers.specs.Keyed.{AreInsertsKeyed};
-ghost use Rattle.gx_answers.specs.Once.{AreInsertsGathered, AreSnapshotsOne};
+ghost use Rattle.gx_answers.specs.Keyed.{AreInsertsFilled, AreInsertsKeyed};
+ghost use Rattle.gx_answers.specs.Once.{AreSnapshotsOne};
 ghost use Rattle.gx_gather.specs.Answer.{ArePartsOf, answer_of};
 ghost use Rattle.gx_histories.specs.Finish.{AreSegmentsLegal};
 ghost use Rattle.gx_histories.specs.Orders.{AreLinesNumbered};
@@ -27,10 +27,11 @@ pub fn segments_marks_are_legal()
     ensures { (script : Script) (events : List (OneEvent × Bool)) → 1 ≤ script.segments → AreLinesNumbered [] script.lines → AreSegmentsLegal script (world_of script events) }
 {}
 
-/// Every run is a legal history, where one snapshot serves each command and INSERTs that were gathered have written their rows.
+/// Every run is a legal history, where one snapshot serves each command: for scripts whose INSERTs have tuples, each with a value
+/// for the distribution column.
 pub fn every_run_is_a_legal_history()
     ensures {
-        (script : Script) (events : List (OneEvent × Bool)) → 1 ≤ script.segments → AreLinesNumbered [] script.lines → AreInsertsKeyed script → AreSnapshotsOne script → AreInsertsGathered script
+        (script : Script) (events : List (OneEvent × Bool)) → 1 ≤ script.segments → AreLinesNumbered [] script.lines → AreInsertsKeyed script → AreSnapshotsOne script → AreInsertsFilled script
         → IsLegalHistory script (run_of (world_of script events))
     }
 {}
@@ -38,7 +39,7 @@ pub fn every_run_is_a_legal_history()
 /// So is every run of the system of nodes.
 pub fn every_system_run_is_a_legal_history()
     ensures {
-        (script : Script) (run : OneRun) → 1 ≤ script.segments → AreLinesNumbered [] script.lines → AreInsertsKeyed script → AreSnapshotsOne script → AreInsertsGathered script → IsSystemRun script run
+        (script : Script) (run : OneRun) → 1 ≤ script.segments → AreLinesNumbered [] script.lines → AreInsertsKeyed script → AreSnapshotsOne script → AreInsertsFilled script → IsSystemRun script run
         → IsLegalHistory script run
     }
 {}
