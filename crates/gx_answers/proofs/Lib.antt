@@ -16,3 +16,4 @@ pub mod Told
 pub mod Segs
 pub mod Join
 pub mod Gathered
+pub mod Whole

@@ -2,3 +2,4 @@ pub mod Keyed
 pub mod Parts
 pub mod Truth
 pub mod Once
+pub mod Whole

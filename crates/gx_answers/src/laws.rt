@@ -1,7 +1,7 @@
 //! Laws of every run, whatever the network loses, repeats, delays and reorders, and whichever appends fail.
 ghost use Rattle.std.specs.Prelude.{◌≡◌, ◌≤◌, Bool, List, []};
-ghost use Rattle.gx_answers.specs.Keyed.{AreInsertsFilled, AreInsertsKeyed};
 ghost use Rattle.gx_answers.specs.Once.{AreSnapshotsOne};
+ghost use Rattle.gx_answers.specs.Whole.{AreInsertsWhole};
 ghost use Rattle.gx_gather.specs.Answer.{ArePartsOf, answer_of};
 ghost use Rattle.gx_histories.specs.Finish.{AreSegmentsLegal};
 ghost use Rattle.gx_histories.specs.Orders.{AreLinesNumbered};
@@ -31,7 +31,7 @@ pub fn segments_marks_are_legal()
 /// for the distribution column.
 pub fn every_run_is_a_legal_history()
     ensures {
-        (script : Script) (events : List (OneEvent × Bool)) → 1 ≤ script.segments → AreLinesNumbered [] script.lines → AreInsertsKeyed script → AreSnapshotsOne script → AreInsertsFilled script
+        (script : Script) (events : List (OneEvent × Bool)) → 1 ≤ script.segments → AreLinesNumbered [] script.lines → AreInsertsWhole script.tables script.lines → AreSnapshotsOne script
         → IsLegalHistory script (run_of (world_of script events))
     }
 {}
@@ -39,7 +39,7 @@ pub fn every_run_is_a_legal_history()
 /// So is every run of the system of nodes.
 pub fn every_system_run_is_a_legal_history()
     ensures {
-        (script : Script) (run : OneRun) → 1 ≤ script.segments → AreLinesNumbered [] script.lines → AreInsertsKeyed script → AreSnapshotsOne script → AreInsertsFilled script → IsSystemRun script run
+        (script : Script) (run : OneRun) → 1 ≤ script.segments → AreLinesNumbered [] script.lines → AreInsertsWhole script.tables script.lines → AreSnapshotsOne script → IsSystemRun script run
         → IsLegalHistory script run
     }
 {}
