@@ -9,6 +9,7 @@ ghost use Rattle.gx_rules.specs.Machine.{run_of, world_of};
 ghost use Rattle.gx_rules.specs.Merged.{merged_answer};
 ghost use Rattle.gx_rules.specs.System.{IsSystemRun};
 ghost use Rattle.gx_script.specs.declared.Script.{Script};
+ghost use Rattle.gx_store.specs.Protocol.{DoStepsFollow};
 ghost use Rattle.gx_store.specs.Runs.{IsLegalHistory};
 ghost use Rattle.gx_store.specs.declared.event.Event.{Event as OneEvent};
 ghost use Rattle.gx_store.specs.declared.run.Run.{Run as OneRun};
@@ -30,16 +31,17 @@ pub fn segments_marks_are_legal()
 /// Every run is a legal history, where one snapshot serves each command: for scripts whose INSERTs have tuples, each with a value
 /// for the distribution column.
 pub fn every_run_is_a_legal_history()
-    ensures {
-        (script : Script) (events : List (OneEvent × Bool)) → 1 ≤ script.segments → AreLinesNumbered [] script.lines → AreInsertsWhole script.tables script.lines → AreSnapshotsOne script
-        → IsLegalHistory script (run_of (world_of script events))
-    }
+    ensures { (script : Script) (events : List (OneEvent × Bool)) → 1 ≤ script.segments → AreLinesNumbered [] script.lines → AreInsertsWhole script.tables script.lines → AreSnapshotsOne script
+        → IsLegalHistory script (run_of (world_of script events)) }
 {}
 
 /// So is every run of the system of nodes.
 pub fn every_system_run_is_a_legal_history()
-    ensures {
-        (script : Script) (run : OneRun) → 1 ≤ script.segments → AreLinesNumbered [] script.lines → AreInsertsWhole script.tables script.lines → AreSnapshotsOne script → IsSystemRun script run
-        → IsLegalHistory script run
-    }
+    ensures { (script : Script) (run : OneRun) → 1 ≤ script.segments → AreLinesNumbered [] script.lines → AreInsertsWhole script.tables script.lines → AreSnapshotsOne script → IsSystemRun script run
+        → IsLegalHistory script run }
+{}
+
+/// Every run of the system of nodes follows the commit protocol.
+pub fn every_system_run_follows_the_protocol()
+    ensures { (script : Script) (run : OneRun) → 1 ≤ script.segments → IsSystemRun script run → DoStepsFollow script [] run.steps }
 {}
