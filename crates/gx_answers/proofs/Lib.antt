@@ -17,3 +17,4 @@ pub mod Segs
 pub mod Join
 pub mod Gathered
 pub mod Whole
+pub mod Snaps
