@@ -35,6 +35,7 @@ use Rattle.gx_answers.proofs.Gathered.{insert-tells}
 use Rattle.gx_answers.proofs.Heard.{heard-now}
 use Rattle.gx_answers.proofs.Origins.{Events}
 use Rattle.gx_answers.proofs.Segs.{segments-legal}
+use Rattle.gx_answers.proofs.Snaps.{one-snapshot}
 use Rattle.gx_answers.proofs.Told.{caused, tells-by}
 
 module _ (script : Script) (some : 1 ≤ script.segments) (numbered : AreLinesNumbered [] script.lines) (keyed : AreInsertsKeyed script) (once : AreSnapshotsOne script) (filled : AreInsertsFilled script) where
@@ -48,11 +49,11 @@ module _ (script : Script) (some : 1 ≤ script.segments) (numbered : AreLinesNu
     told : AreCommandsTold script (world_of script es).steps
     told = record {
       told = λ from to number later session stmt level g c answer runs x.
-          tells-by script some numbered keyed es (once es) from to number [] later session level g c answer tt tt stmt (its from to number [] later session stmt level g c tt runs) runs x
+          tells-by script some numbered keyed es (one-snapshot script some once es) from to number [] later session level g c answer tt tt stmt (its from to number [] later session stmt level g c tt runs) runs x
           (λ t v e. insert-tells script some numbered filled es t v level g c (subst (λ l. IsOf script (marks_in steps) l level g c) e (its from to number [] later session stmt level g c tt runs)) from to number [] later answer
           (subst (λ l. IsGathered script (point_at steps (event.Receive from to number) [] later) g c l answer) e x));
       committed = λ from to number later session stmt level g c answer runs x.
-          tells-by script some numbered keyed es (once es) from to number (mark.Commit g ∷ []) later session level g c answer (tt, tt) (tt, tt) stmt (its from to number (mark.Commit g ∷ []) later session stmt level g c (tt, tt) runs) runs x
+          tells-by script some numbered keyed es (one-snapshot script some once es) from to number (mark.Commit g ∷ []) later session level g c answer (tt, tt) (tt, tt) stmt (its from to number (mark.Commit g ∷ []) later session stmt level g c (tt, tt) runs) runs x
           (λ t v e. insert-tells script some numbered filled es t v level g c (subst (λ l. IsOf script (marks_in steps) l level g c) e (its from to number (mark.Commit g ∷ []) later session stmt level g c (tt, tt) runs)) from to number (mark.Commit g ∷ []) later answer
           (subst (λ l. IsGathered script (point_at steps (event.Receive from to number) (mark.Commit g ∷ []) later) g c l answer) e x));
       refused = λ from to number later session stmt level g c segment cause runs x.

@@ -1,5 +1,5 @@
 -- At read committed a command takes one snapshot.
-use Rattle.std.proofs.Common.{◌≡◌, ◌<◌, ◌⊎◌, inl, inr, ℕ, zero, suc, List, [], ◌∷◌, ◌++◌, Some, Bool, true, false, refl, sym, subst, ap, ◌∙◌, ◌||◌, ◌&&◌, arith, eqb, append_assoc, append-nil}
+use Rattle.std.proofs.Common.{◌≡◌, ◌≤◌, ◌<◌, ◌⊎◌, inl, inr, ℕ, zero, suc, List, [], ◌∷◌, ◌++◌, Some, Bool, true, false, refl, sym, subst, ap, ◌∙◌, ◌||◌, ◌&&◌, arith, eqb, append_assoc, append-nil}
 use Rattle.std.proofs.lemmas.Bool.Decides.{nat_tests}
 use Rattle.std.specs.Prelude.{slice_get, take}
 use Rattle.gx_ids.specs.declared.ids.Cid.{Cid}
@@ -21,6 +21,10 @@ use Rattle.gx_histories.specs.Rest.{EachMark}
 use Rattle.gx_histories.proofs.Given.{Given}
 use Rattle.gx_histories.proofs.Steps.{AreGiven}
 use Rattle.gx_histories.proofs.World as histories
+use Rattle.gx_histories.specs.Orders.{level_of_began}
+use Rattle.gx_store.specs.Lines.{began_from}
+use Rattle.gx_answers.specs.Once.{AreSnapshotsOne, IsOneSnapshot}
+use Rattle.gx_answers.proofs.Origins.{Events}
 
 pub record Once (ms : List Mark) (g : Gxid) (d : Cid) : Type 0 where
   pub level : Level
@@ -76,3 +80,52 @@ is-snapped g c x (m ∷ ms) zero (suc q) l e = subst (λ y. is_snapped (y ∷ ta
     some-mark a b f = cc
 is-snapped g c x (mark.Snap h d y ∷ ms) (suc p) (suc q) l e = or-later _ _ (is-snapped g c x ms p q (omega (arith, l)) e)
 is-snapped g c x (m ∷ ms) (suc p) (suc q) l e = is-snapped g c x ms p q (omega (arith, l)) e
+
+has-snapped : (g : Gxid) (c : Cid) (ms : List Mark) → is_snapped ms g c ≡ true → has_snapshot ms g ≡ true
+has-snapped g c [] e = cc
+has-snapped g c (mark.Snap h d y ∷ ms) e = either (is_same_gxid h g) (eqb d.0 c.0) (is_snapped ms g c) (has_snapshot ms g) e (has-snapped g c ms)
+  where
+    either : (a b t u : Bool) → ((a && b) || t) ≡ true → (t ≡ true → u ≡ true) → (a || u) ≡ true
+    either true b t u q f = refl
+    either false b t u q f = f q
+has-snapped g c (m ∷ ms) e = has-snapped g c ms e
+
+module _ (script : Script) (some : 1 ≤ script.segments) (es : Events) (g : Gxid) (c : Cid) where
+  abbrev ms : List Mark
+  ms = marks_in (world_of script es).steps
+
+  clash : (b : Bool) → b ≡ true → b ≡ false → ⊥
+  clash b e f = grind arith
+
+  by-level : (l : Level) (before : List Mark) → has_own_snapshot l before g c ≡ false → is_snapped before g c ≡ true → ⊥
+  by-level ReadCommitted before e f = clash (is_snapped before g c) f e
+  by-level RepeatableRead before e f = clash (has_snapshot before g) (has-snapped g c before f) e
+
+  no-two : (p q : ℕ) (x y : Snapshot) → p < q → slice_get ms p ≡ Some (mark.Snap g c x) → slice_get ms q ≡ Some (mark.Snap g c y) → ⊥
+  no-two p q x y l e f =
+      let o = snap-once script g c y [] (world_of script es).steps q (histories.world-holds script some es).given f in
+      by-level o.level (take q ms) o.once (is-snapped g c x ms p q l e)
+
+  same-place : (p q : ℕ) (x y : Snapshot) → slice_get ms p ≡ Some (mark.Snap g c x) → slice_get ms q ≡ Some (mark.Snap g c y) → p ≡ q
+  same-place p q x y e f = by_test (eqb p q) (Rattle.std.specs.Prelude.nat_lt p q) refl refl
+    where
+      same : eqb p q ≡ true → p ≡ q
+      same z = grind (arith, nat_tests)
+
+      less : Rattle.std.specs.Prelude.nat_lt p q ≡ true → p < q
+      less z = grind (arith, nat_tests)
+
+      more : eqb p q ≡ false → Rattle.std.specs.Prelude.nat_lt p q ≡ false → q < p
+      more y z = grind (arith, nat_tests)
+
+      by_test : (a b : Bool) → eqb p q ≡ a → Rattle.std.specs.Prelude.nat_lt p q ≡ b → p ≡ q
+      by_test true b z u = same z
+      by_test false true z u = absurd (no-two p q x y (less u) e f)
+      by_test false false z u = absurd (no-two q p y x (more z u) f e)
+
+pub one-snapshot : (script : Script) (some : 1 ≤ script.segments) (once : AreSnapshotsOne script) (es : Events) → IsOneSnapshot script (marks_in (world_of script es).steps)
+one-snapshot script some once es = λ g c p q. by-level' g c p q (level_of_began script (began_from [] (marks_in (world_of script es).steps) g)) refl
+  where
+    by-level' : (g : Gxid) (c : Cid) (p q : ℕ) (l : Level) → level_of_began script (began_from [] (marks_in (world_of script es).steps) g) ≡ l → IsSnapshotAt (marks_in (world_of script es).steps) l g c p → IsSnapshotAt (marks_in (world_of script es).steps) l g c q → p ≡ q
+    by-level' g c p q ReadCommitted e a b = same-place script some es g c p q a.snapshot b.snapshot (a.taken ∙ ap (λ d. Some (mark.Snap g d a.snapshot)) a.serves) (b.taken ∙ ap (λ d. Some (mark.Snap g d b.snapshot)) b.serves)
+    by-level' g c p q RepeatableRead e a b = once es g p q e (record { d = a.d; snapshot = a.snapshot; taken = a.taken; serves = tt }) (record { d = b.d; snapshot = b.snapshot; taken = b.taken; serves = tt })

@@ -54,7 +54,7 @@ use Rattle.gx_histories.proofs.World as histories
 use Rattle.gx_writes.proofs.Turns.{NoWrite}
 use Rattle.gx_writes.proofs.World as writes
 use Rattle.gx_answers.specs.Keyed.{AreInsertsKeyed}
-use Rattle.gx_answers.specs.Once.{AreSnapshotsOne, IsOneSnapshot}
+use Rattle.gx_answers.specs.Once.{IsOneSnapshot}
 use Rattle.gx_answers.specs.Parts.{SaysItsPart}
 use Rattle.gx_answers.specs.Truth.{IsTrueFault, IsTruePart, IsTruth}
 use Rattle.gx_answers.proofs.Commands.{IsOf, command-is}

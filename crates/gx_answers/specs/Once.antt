@@ -2,7 +2,7 @@
 use Rattle.std.specs.Prelude.{◌≡◌, ℕ, Bool, List, []}
 use Rattle.gx_ids.specs.declared.ids.Cid.{Cid}
 use Rattle.gx_ids.specs.declared.ids.Gxid.{Gxid}
-use Rattle.gx_tree.specs.declared.stmt.Level.{Level}
+use Rattle.gx_tree.specs.declared.stmt.Level.TheVariants.{RepeatableRead}
 use Rattle.gx_script.specs.declared.Script.{Script}
 use Rattle.gx_store.specs.declared.event.Event.{Event}
 use Rattle.gx_store.specs.declared.mark.Mark.{Mark}
@@ -17,5 +17,8 @@ abbrev pub IsOneSnapshot : Script → List Mark → Type 0
 IsOneSnapshot script marks =
     (g : Gxid) (c : Cid) (p q : ℕ) → IsSnapshotAt marks (level_of_began script (began_from [] marks g)) g c p → IsSnapshotAt marks (level_of_began script (began_from [] marks g)) g c q → p ≡ q
 
+-- a repeatable-read transaction takes one snapshot
 abbrev pub AreSnapshotsOne : Script → Type 0
-AreSnapshotsOne script = (events : List (Event × Bool)) → IsOneSnapshot script (marks_in (world_of script events).steps)
+AreSnapshotsOne script =
+    (events : List (Event × Bool)) (g : Gxid) (p q : ℕ) → level_of_began script (began_from [] (marks_in (world_of script events).steps) g) ≡ RepeatableRead → IsSnapshotAt (marks_in (world_of script events).steps) RepeatableRead g (record { 0 = 1 }) p
+    → IsSnapshotAt (marks_in (world_of script events).steps) RepeatableRead g (record { 0 = 1 }) q → p ≡ q

@@ -28,8 +28,8 @@ pub fn segments_marks_are_legal()
     ensures { (script : Script) (events : List (OneEvent × Bool)) → 1 ≤ script.segments → AreLinesNumbered [] script.lines → AreSegmentsLegal script (world_of script events) }
 {}
 
-/// Every run is a legal history, where one snapshot serves each command: for scripts whose INSERTs have tuples, each with a value
-/// for the distribution column.
+/// Every run is a legal history, where each repeatable-read transaction takes one snapshot: for scripts whose INSERTs have tuples,
+/// each with a value for the distribution column.
 pub fn every_run_is_a_legal_history()
     ensures { (script : Script) (events : List (OneEvent × Bool)) → 1 ≤ script.segments → AreLinesNumbered [] script.lines → AreInsertsWhole script.tables script.lines → AreSnapshotsOne script
         → IsLegalHistory script (run_of (world_of script events)) }
