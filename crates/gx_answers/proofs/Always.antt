@@ -1,28 +1,10 @@
 -- In every run, every answer of a command that a segment sends was true when it was sent first.
-use Rattle.std.proofs.Common.{◌≡◌, ◌≤◌, ◌<◌, ◌==◌, ◌⊎◌, inl, inr, ℕ, List, [], ◌∷◌, ◌++◌, length, Option, Some, None, Bool, true, false, refl, sym, subst, ap, ◌∙◌, cond, if◌then◌else◌, eqb, arith, append_assoc, append-nil}
+use Rattle.std.proofs.Common.{◌≡◌, ◌≤◌, inl, inr, ℕ, List, [], ◌∷◌, ◌++◌, Option, Some, None, Bool, true, false, refl, sym, subst, ap, ◌∙◌, if◌then◌else◌, eqb, arith, append_assoc, append-nil}
 use Rattle.std.proofs.lemmas.Bool.{eqb-true}
 use Rattle.std.proofs.lemmas.Bool.Decides.{nat_tests}
-use Rattle.std.specs.Prelude.{fold, slice_get, take}
-use Rattle.gx_ids.specs.declared.ids.Cid.{Cid}
-use Rattle.gx_ids.specs.declared.ids.Gxid.{Gxid}
 use Rattle.gx_ids.specs.declared.ids.Node.{Node}
-use Rattle.gx_ids.specs.declared.ids.Table.{Table}
-use Rattle.gx_ids.specs.declared.rid.Rid.{Rid}
-use Rattle.gx_tree.specs.declared.query.Query.{Query}
-use Rattle.gx_tree.specs.declared.row.KeyedRow.{KeyedRow}
-use Rattle.gx_tree.specs.declared.slice.Slice.{Slice}
-use Rattle.gx_tree.specs.declared.slice.Slice.TheVariants as slice
-use Rattle.gx_tree.specs.declared.stmt.Level.{Level}
-use Rattle.gx_tree.specs.declared.stmt.Stmt.{Stmt}
-use Rattle.gx_tree.specs.declared.stmt.Stmt.TheVariants as stmt
-use Rattle.gx_dsnap.specs.declared.snapshot.Snapshot.{Snapshot}
-use Rattle.gx_eval.specs.declared.fault.ArithFault.{ArithFault}
 use Rattle.gx_msg.specs.declared.message.Envelope.{Envelope}
-use Rattle.gx_msg.specs.declared.message.Message.{Message}
-use Rattle.gx_msg.specs.declared.message.Message.TheVariants as message
 use Rattle.gx_msg.specs.declared.message.Out.{Out}
-use Rattle.gx_msg.specs.declared.reply.Reply.{Reply}
-use Rattle.gx_msg.specs.declared.reply.Reply.TheVariants as reply
 use Rattle.gx_script.specs.declared.Script.{Script}
 use Rattle.gx_store.specs.declared.event.Event.{Event}
 use Rattle.gx_store.specs.declared.event.Event.TheVariants as event
@@ -31,41 +13,27 @@ use Rattle.gx_store.specs.declared.mark.Mark.TheVariants as mark
 use Rattle.gx_store.specs.declared.node.NodeEvent.{NodeEvent}
 use Rattle.gx_store.specs.declared.node.NodeEvent.TheVariants as here
 use Rattle.gx_store.specs.declared.run.Step.{Step}
-use Rattle.gx_store.specs.Commands.{IsSnapshotAt}
 use Rattle.gx_store.specs.Journals.{is_same_node}
-use Rattle.gx_store.specs.Marks.{is_aborted}
 use Rattle.gx_store.specs.Ordered.{IsLink, IsSegment}
 use Rattle.gx_store.specs.Points.{marks_in}
 use Rattle.gx_store.specs.Refusals.{the_coordinator}
-use Rattle.gx_store.specs.View.{image}
-use Rattle.gx_rules.specs.AtCoordinator.{coord_can, coord_rule}
-use Rattle.gx_rules.specs.AtSegment.{on_message, raised, seg_rule}
-use Rattle.gx_rules.specs.Machine.{Letter, World, after, at_node, can, coord_did, delivered, does, found, happens, new_world, node_of, seg_did, world_of}
-use Rattle.gx_rules.specs.Segments.{Local, Seg, SegTurn, local_of}
-use Rattle.gx_rules.specs.Sending.{clock_after, counted, numbered}
-use Rattle.gx_rules.specs.Shown.{shown}
-use Rattle.gx_rules.specs.Slices.{Moved, first_fault, has_written, inserted, inserts, inserts_row, selects}
+use Rattle.gx_rules.specs.AtCoordinator.{coord_rule}
+use Rattle.gx_rules.specs.AtSegment.{on_message, seg_rule}
+use Rattle.gx_rules.specs.Machine.{Letter, World, at_node, can, coord_did, delivered, does, found, happens, new_world, node_of, seg_did, world_of}
+use Rattle.gx_rules.specs.Segments.{Seg, SegTurn}
+use Rattle.gx_rules.specs.Sending.{counted, numbered}
 use Rattle.gx_laws.proofs.AtSegments.{PlainAt, seg_stays}
 use Rattle.gx_laws.proofs.Letters.{IsFound, IsLetter, found_is}
 use Rattle.gx_laws.proofs.Lists.{Each, each_append, each_weaker}
 use Rattle.gx_laws.proofs.Ordered.{never_resumes}
-use Rattle.gx_laws.proofs.World.{marks-last}
-use Rattle.gx_histories.specs.Orders.{AreLinesNumbered, IsOrder, IsReadBy, IsServed}
-use Rattle.gx_histories.proofs.Outs.{MessageIs, order-more}
-use Rattle.gx_histories.proofs.Stepping as stepping
+use Rattle.gx_histories.specs.Orders.{AreLinesNumbered}
+use Rattle.gx_histories.proofs.Outs.{MessageIs}
 use Rattle.gx_histories.proofs.World as histories
 use Rattle.gx_histories.proofs.World.{after-last}
-use Rattle.gx_protocol.specs.Pairs.{IsVote}
 use Rattle.gx_protocol.specs.Standings.{at, gx}
-use Rattle.gx_protocol.proofs.Whole.{Both, world-both}
-use Rattle.gx_sights.specs.Horizons.{IsToRun}
-use Rattle.gx_sights.specs.Sights.{AreShownViews, IsOnlyAt, IsShownView}
-use Rattle.gx_sights.proofs.Seeing.{world-hold, world-views}
-use Rattle.gx_writes.proofs.Legal.{IsPlacedMark, sent-no-write}
-use Rattle.gx_writes.proofs.Turns as writing
-use Rattle.gx_writes.proofs.World as writes
-use Rattle.gx_answers.specs.Parts.{IsPartOf}
-use Rattle.gx_answers.specs.Truth.{IsTruth}
+use Rattle.gx_protocol.proofs.Whole.{world-both}
+use Rattle.gx_sights.specs.Sights.{AreShownViews, IsShownView}
+use Rattle.gx_sights.proofs.Seeing.{world-views}
 use Rattle.gx_answers.proofs.Origins.{Events, IsTrueKept, IsTrueSent, IsTrueStep, IsTrueWord, TurnTrue, Trues, kept-later, step-later, turn-true}
 
 module _ (script : Script) (some : 1 ≤ script.segments) (numbered_lines : AreLinesNumbered [] script.lines) where

@@ -1,5 +1,5 @@
 -- The command under way at a point of a step that receives: its statement and its level are those of its transaction's command.
-use Rattle.std.proofs.Common.{◌≡◌, ◌⊎◌, inl, inr, ℕ, ◌+◌, List, [], ◌∷◌, ◌++◌, Option, Some, None, Bool, true, false, refl, sym, subst, ap, ◌∙◌, if◌then◌else◌, arith}
+use Rattle.std.proofs.Common.{◌≡◌, inl, inr, ℕ, ◌+◌, List, [], ◌++◌, Some, None, true, false, refl, sym, subst, ap, ◌∙◌, if◌then◌else◌, arith}
 use Rattle.gx_ids.specs.declared.ids.Cid.{Cid}
 use Rattle.gx_ids.specs.declared.ids.Gxid.{Gxid}
 use Rattle.gx_ids.specs.declared.ids.Node.{Node}
@@ -15,12 +15,11 @@ use Rattle.gx_session.specs.declared.state.Pending.{Pending}
 use Rattle.gx_session.specs.declared.state.Pending.TheVariants as pending
 use Rattle.gx_store.specs.declared.event.Event.TheVariants as event
 use Rattle.gx_store.specs.declared.mark.Mark.{Mark}
-use Rattle.gx_store.specs.declared.run.Step.{Step}
 use Rattle.gx_store.specs.Commands.{RunsCommand}
 use Rattle.gx_store.specs.Lines.{BlockState, Outside, InBlock, Failed, began_from, cid_of, command_at, is_command, is_on_rows, level_of, state_of, stmt_of, stmt_of_command, transaction_of}
 use Rattle.gx_store.specs.Marks.{answer_count, is_begun, is_ended, started_after}
-use Rattle.gx_store.specs.Points.{Point, ends_in, marks_in, starts_in}
-use Rattle.gx_rules.specs.Coordinators.{Command, Work, session_of, work_of}
+use Rattle.gx_store.specs.Points.{ends_in, marks_in, starts_in}
+use Rattle.gx_rules.specs.Coordinators.{Work, session_of, work_of}
 use Rattle.gx_rules.specs.Machine.{World}
 use Rattle.gx_laws.proofs.Lists.{Each}
 use Rattle.gx_histories.specs.Finish.{point_at}

@@ -1,11 +1,10 @@
 -- An INSERT that was gathered has written its rows.
-use Rattle.std.proofs.Common.{◌≡◌, ◌≤◌, ◌⊎◌, inl, inr, ℕ, zero, suc, ◌+◌, List, [], ◌∷◌, ◌++◌, length, Option, Some, None, Result, Ok, Err, Bool, true, false, refl, sym, subst, ap, ◌∙◌, if◌then◌else◌, ◌||◌, arith, eqb}
+use Rattle.std.proofs.Common.{◌≡◌, ◌≤◌, inl, inr, ℕ, ◌+◌, List, [], ◌∷◌, ◌++◌, length, Some, Result, Ok, Err, Bool, true, false, refl, sym, subst, ap, ◌∙◌, if◌then◌else◌, ◌||◌, arith, eqb}
 use Rattle.std.proofs.lemmas.Bool.Decides.{nat_tests}
 use Rattle.std.proofs.lemmas.Bool.{eqb-true}
 use Rattle.gx_ids.specs.declared.ids.Cid.{Cid}
 use Rattle.gx_ids.specs.declared.ids.Gxid.{Gxid}
 use Rattle.gx_ids.specs.declared.ids.Node.{Node}
-use Rattle.gx_ids.specs.declared.ids.SessionId.{SessionId}
 use Rattle.gx_ids.specs.declared.ids.Table.{Table}
 use Rattle.gx_tree.specs.declared.expr.Expr.{Expr}
 use Rattle.gx_tree.specs.declared.row.KeyedRow.{KeyedRow}
@@ -23,7 +22,6 @@ use Rattle.gx_plan.specs.Plan.{insert_pieces, plan_of}
 use Rattle.gx_plan.specs.declared.piece.Piece.{Piece}
 use Rattle.gx_script.specs.declared.Script.{Script}
 use Rattle.gx_store.specs.declared.answer.StmtAnswer.{StmtAnswer}
-use Rattle.gx_store.specs.declared.answer.StmtAnswer.TheVariants as told
 use Rattle.gx_store.specs.declared.event.Event.TheVariants as event
 use Rattle.gx_store.specs.declared.mark.Mark.{Mark}
 use Rattle.gx_store.specs.Answers.{Inserts, Tells}
@@ -35,15 +33,14 @@ use Rattle.gx_store.specs.Writes.{dist_of}
 use Rattle.gx_rules.specs.AtCoordinator.{nodes_in, with_done}
 use Rattle.gx_rules.specs.Coordinators.{Command}
 use Rattle.gx_rules.specs.Machine.{world_of}
-use Rattle.gx_laws.proofs.Lists.{Each}
 use Rattle.gx_histories.specs.Finish.{point_at}
 use Rattle.gx_histories.specs.Gathering.{AreAll, AreApart, IsGathered, Taken, nodes_taken, total}
-use Rattle.gx_histories.specs.Orders.{AreLinesNumbered, IsOrder}
+use Rattle.gx_histories.specs.Orders.{AreLinesNumbered}
 use Rattle.gx_protocol.proofs.Nodes.{has-without}
-use Rattle.gx_writes.proofs.Counts.{all-there, waits_for}
+use Rattle.gx_writes.proofs.Counts.{all-there}
 use Rattle.gx_writes.proofs.Legal.{own-more, read-served}
 use Rattle.gx_writes.proofs.Plans.{insert-slice, rows-are}
-use Rattle.gx_writes.proofs.Progress.{Progress, place_of, progress-done, progress-end, progress-more, progress-new}
+use Rattle.gx_writes.proofs.Progress.{Progress, place_of, progress-done, progress-end, progress-new}
 use Rattle.gx_writes.proofs.Told.{IsDoneSlice, IsReport, taken-told, written-more}
 use Rattle.gx_writes.specs.Rows.{AreRowsOf}
 use Rattle.gx_writes.proofs.World as writes
@@ -51,7 +48,6 @@ use Rattle.gx_answers.specs.Keyed.{AreInsertsFilled}
 use Rattle.gx_answers.proofs.Commands.{IsOf}
 use Rattle.gx_answers.proofs.Heard.{Heard, heard}
 use Rattle.gx_answers.proofs.Origins.{Events}
-use Rattle.gx_histories.specs.Orders.{IsReadBy}
 
 -- ---- nodes
 without-at : (i j : Node) (xs : List Node) (b : Bool) → has i xs ≡ (eqb j.0 i.0 || b) → (eqb j.0 i.0 ≡ true → b ≡ false) → has i (without j xs) ≡ b

@@ -1,5 +1,5 @@
 -- What was heard of a command is true, also now.
-use Rattle.std.proofs.Common.{◌≡◌, ◌≤◌, ◌<◌, ◌⊎◌, inl, inr, ℕ, zero, suc, ◌+◌, List, [], ◌∷◌, ◌++◌, length, Option, Some, None, Bool, true, false, refl, sym, subst, ap, ◌∙◌, if◌then◌else◌, ◌||◌, arith, append_assoc, append-nil}
+use Rattle.std.proofs.Common.{◌≡◌, ◌≤◌, inl, inr, ℕ, zero, suc, List, [], ◌∷◌, ◌++◌, length, Option, Some, None, Bool, true, false, refl, sym, subst, ap, ◌∙◌, if◌then◌else◌, ◌||◌, arith, append_assoc, append-nil}
 use Rattle.std.proofs.lemmas.List.Elements.{recursion_from_All}
 use Rattle.std.specs.List.{AllByRecursion}
 use Rattle.std.specs.Prelude.{slice_get, take}
@@ -8,11 +8,7 @@ use Rattle.gx_ids.specs.declared.ids.Gxid.{Gxid}
 use Rattle.gx_ids.specs.declared.ids.Node.{Node}
 use Rattle.gx_tree.specs.declared.query.Query.{Query}
 use Rattle.gx_tree.specs.declared.part.Part.{Part}
-use Rattle.gx_tree.specs.declared.slice.Slice.{Slice}
-use Rattle.gx_tree.specs.declared.slice.Slice.TheVariants as slice
 use Rattle.gx_tree.specs.declared.stmt.Level.{Level}
-use Rattle.gx_tree.specs.declared.stmt.Stmt.{Stmt}
-use Rattle.gx_tree.specs.declared.stmt.Stmt.TheVariants as stmt
 use Rattle.gx_msg.specs.declared.message.Message.{Message}
 use Rattle.gx_msg.specs.declared.message.Message.TheVariants as message
 use Rattle.gx_msg.specs.declared.reply.Reply.{Reply}
@@ -21,22 +17,18 @@ use Rattle.gx_store.specs.declared.event.Event.{Event}
 use Rattle.gx_store.specs.declared.mark.Mark.{Mark}
 use Rattle.gx_store.specs.declared.mark.Mark.TheVariants as mark
 use Rattle.gx_store.specs.declared.run.Step.{Step}
-use Rattle.gx_store.specs.Commands.{IsSnapshotAt}
-use Rattle.gx_store.specs.Lines.{began_from, stmt_of_command}
 use Rattle.gx_store.specs.Marks.{is_aborted, is_committed, is_ended}
 use Rattle.gx_store.specs.Messages.{HasReceived, IsSending, IsSent}
 use Rattle.gx_store.specs.Ordered.{AreOrdered, IsAtNode, IsLink, IsSegment}
-use Rattle.gx_store.specs.Points.{Point, marks_in}
+use Rattle.gx_store.specs.Points.{marks_in}
 use Rattle.gx_store.specs.Refusals.{the_coordinator}
 use Rattle.gx_rules.specs.AtCoordinator.{coord_rule}
 use Rattle.gx_rules.specs.AtSegment.{seg_rule}
 use Rattle.gx_rules.specs.Machine.{World, after, at_node, can, does, happens, new_world, node_of, world_of}
-use Rattle.gx_rules.specs.Segments.{local_of}
 use Rattle.gx_store.specs.Journals.{is_same_node}
 use Rattle.gx_store.specs.declared.node.NodeEvent.{NodeEvent}
 use Rattle.gx_laws.proofs.Lists.{Each}
-use Rattle.gx_laws.proofs.World.{marks-last}
-use Rattle.gx_histories.specs.Orders.{AreLinesNumbered, IsOrder, level_of_began}
+use Rattle.gx_histories.specs.Orders.{AreLinesNumbered, IsOrder}
 use Rattle.gx_histories.proofs.Outs.{order-more}
 use Rattle.gx_protocol.proofs.Whole.{world-both}
 use Rattle.gx_sights.specs.Sights.{DoViewsStay}
@@ -44,8 +36,7 @@ use Rattle.gx_sights.proofs.Staying.{views-stay}
 use Rattle.gx_writes.proofs.Legal.{IsPlacedMark}
 use Rattle.gx_writes.proofs.Told.{each-get}
 use Rattle.gx_writes.proofs.World as writes
-use Rattle.gx_answers.specs.Parts.{SaysItsPart}
-use Rattle.gx_answers.specs.Truth.{IsTrueFault, IsTruePart, IsTruth}
+use Rattle.gx_answers.specs.Truth.{IsTruePart}
 use Rattle.gx_answers.proofs.Always.{world-trues}
 use Rattle.gx_answers.proofs.Origins.{Events, IsTrueReply, IsTrueSent, IsTrueStep, IsTrueWord}
 use Rattle.gx_answers.proofs.Truths.{aborted-more, part-later, snapshot-more}

@@ -1,14 +1,12 @@
 -- Every run is a legal history.
-use Rattle.std.proofs.Common.{◌≡◌, ◌≤◌, ◌⊎◌, inl, inr, ℕ, List, [], ◌∷◌, ◌++◌, Some, Bool, refl, sym, subst, ap, ◌∙◌}
+use Rattle.std.proofs.Common.{◌≤◌, ℕ, List, [], ◌∷◌, subst}
 use Rattle.gx_ids.specs.declared.ids.Cid.{Cid}
 use Rattle.gx_ids.specs.declared.ids.Gxid.{Gxid}
 use Rattle.gx_ids.specs.declared.ids.Node.{Node}
 use Rattle.gx_ids.specs.declared.ids.SessionId.{SessionId}
 use Rattle.gx_tree.specs.declared.stmt.Level.{Level}
 use Rattle.gx_tree.specs.declared.stmt.Stmt.{Stmt}
-use Rattle.gx_msg.specs.declared.reply.Cause.{Cause}
 use Rattle.gx_script.specs.declared.Script.{Script}
-use Rattle.gx_store.specs.declared.answer.StmtAnswer.{StmtAnswer}
 use Rattle.gx_store.specs.declared.event.Event.TheVariants as event
 use Rattle.gx_store.specs.declared.mark.Mark.{Mark}
 use Rattle.gx_store.specs.declared.mark.Mark.TheVariants as mark
@@ -27,7 +25,6 @@ use Rattle.gx_histories.specs.Gathering.{IsGathered}
 use Rattle.gx_histories.specs.Orders.{AreLinesNumbered}
 use Rattle.gx_histories.proofs.Said.{CalmFor}
 use Rattle.gx_histories.proofs.World.{all-legal, sessions-stand}
-use Rattle.gx_writes.proofs.Turns.{NoWrite}
 use Rattle.gx_answers.specs.Keyed.{AreInsertsFilled, AreInsertsKeyed}
 use Rattle.gx_answers.specs.Once.{AreSnapshotsOne}
 use Rattle.gx_answers.proofs.Commands.{IsOf, command-is}

@@ -1,13 +1,12 @@
 -- The answer that the coordinator merges is that of the query on the whole.
-use Rattle.std.proofs.Common.{ℕ, ◌≡◌, ◌∙◌, Bool, true, false, cond, List, [], ◌∷◌, ◌++◌, filter, map, refl, ap, sym, subst, ◌||◌}
+use Rattle.std.proofs.Common.{ℕ, ◌≡◌, ◌∙◌, Bool, true, false, cond, List, [], ◌∷◌, ◌++◌, filter, map, refl, ap, sym, ◌||◌}
 use Rattle.std.proofs.lemmas.Cmp.{tied_itself}
 use Rattle.std.proofs.lemmas.List.Folds.{list_any-append}
 use Rattle.std.proofs.lemmas.List.Sorted.{IsPermutation-trans}
 use Rattle.std.specs.List.{flat_map, list_any}
 use Rattle.std.specs.List.Sorted.{IsPermutation}
 use Rattle.std.specs.Ordering.{is_eq}
-use Rattle.std.specs.Prelude.{Option, Some, None, unwrap_or}
-use Rattle.gx_tree.specs.declared.cell.Cell.{Cell}
+use Rattle.std.specs.Prelude.{Some, None, unwrap_or}
 use Rattle.gx_tree.specs.declared.part.Group.{Group}
 use Rattle.gx_tree.specs.declared.part.Part.{Part}
 use Rattle.gx_tree.specs.declared.part.Part.TheVariants.{Rows, Groups}
@@ -19,7 +18,7 @@ use Rattle.gx_gather.specs.Answer.{ArePartsOf, AreRising, answer_of, group_keys,
 use Rattle.gx_gather.specs.Groups.{is_same_key, key_of, keys_of, members}
 use Rattle.gx_gather.specs.Laws.{rising-total}
 use Rattle.gx_gather.specs.Order.{group_order, in_order, rising, row_order}
-use Rattle.gx_gather.specs.Tallies.{has_group, is_only, out_row, tally, total_at}
+use Rattle.gx_gather.specs.Tallies.{has_group, is_only, out_row}
 use Rattle.gx_gather.specs.declared.order.SortKey.{SortKey}
 use Rattle.gx_gather.proofs.InOrder.{filter-in_order, rises_in_order, rises_same}
 use Rattle.gx_gather.proofs.Keys.{filter-keys_of, filter-once, if_there}

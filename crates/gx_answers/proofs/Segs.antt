@@ -1,11 +1,7 @@
 -- The marks of a segment's step that receives a message may stand there.
-use Rattle.std.proofs.Common.{◌≡◌, ◌≤◌, ◌<◌, ◌⊎◌, inl, inr, ℕ, List, [], ◌∷◌, ◌++◌, length, Option, Some, None, Bool, true, false, refl, sym, subst, ap, ◌∙◌, if◌then◌else◌, arith, append_assoc, append-nil}
-use Rattle.std.specs.Prelude.{take}
-use Rattle.gx_ids.specs.declared.ids.Cid.{Cid}
-use Rattle.gx_ids.specs.declared.ids.Gxid.{Gxid}
+use Rattle.std.proofs.Common.{◌≡◌, ◌≤◌, ◌<◌, ◌⊎◌, inl, inr, ℕ, List, [], ◌∷◌, ◌++◌, Option, Some, None, Bool, true, false, refl, sym, subst, ap, ◌∙◌, arith, append_assoc, append-nil}
 use Rattle.gx_ids.specs.declared.ids.Node.{Node}
 use Rattle.gx_tree.specs.declared.row.KeyedRow.{KeyedRow}
-use Rattle.gx_tree.specs.declared.slice.Slice.TheVariants as slice
 use Rattle.gx_tree.specs.declared.stmt.Stmt.{Stmt}
 use Rattle.gx_tree.specs.declared.stmt.Stmt.TheVariants as stmt
 use Rattle.gx_eval.specs.declared.fault.ArithFault.{ArithFault}
@@ -26,11 +22,11 @@ use Rattle.gx_store.specs.Ordered.{IsSegment}
 use Rattle.gx_store.specs.Points.{Point, marks_in}
 use Rattle.gx_store.specs.Refusals.{the_coordinator}
 use Rattle.gx_rules.specs.AtSegment.{on_message, raised, seg_rule}
-use Rattle.gx_rules.specs.Machine.{Letter, World, found, seg_did, world_of}
+use Rattle.gx_rules.specs.Machine.{Letter, World, found, world_of}
 use Rattle.gx_rules.specs.Segments.{Seg, SegTurn}
 use Rattle.gx_rules.specs.Sending.{numbered}
 use Rattle.gx_rules.specs.Shown.{shown}
-use Rattle.gx_rules.specs.Slices.{first_fault, inserted, selects}
+use Rattle.gx_rules.specs.Slices.{first_fault, selects}
 use Rattle.gx_laws.proofs.AtSegments.{PlainAt, seg_stays}
 use Rattle.gx_laws.proofs.Letters.{IsFound, found_is}
 use Rattle.gx_laws.proofs.Lists.{Each}
@@ -45,9 +41,9 @@ use Rattle.gx_writes.specs.Writes.{AreWritesLegal, WriteLegal}
 use Rattle.gx_writes.proofs.Told.{taken-told}
 use Rattle.gx_writes.proofs.World as writes
 use Rattle.gx_answers.proofs.Always.{Came, came}
-use Rattle.gx_answers.proofs.Origins.{Events, insert-quiet, is-late, rows-part, select-is, select-order, served, snapshot-at}
+use Rattle.gx_answers.proofs.Origins.{Events, insert-quiet, is-late, rows-part, select-is, select-order, snapshot-at}
 use Rattle.gx_answers.proofs.Truths.{seen-fault}
-use Rattle.gx_answers.proofs.Turns.{Inserted, NoFault, Quiet, Selected, Turns, message-turns}
+use Rattle.gx_answers.proofs.Turns.{NoFault, Selected, Turns, message-turns}
 
 abbrev FaultLegal : Script → Point → Mark → Type 0
 FaultLegal script point (mark.Fault g c rid image) = LegalFault script point g c rid image

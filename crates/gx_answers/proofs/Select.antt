@@ -1,27 +1,22 @@
 -- A SELECT that is gathered from the parts of the nodes of its plan answers its query on the rows that it sees.
-use Rattle.std.proofs.Common.{ℕ, ◌+◌, ◌%◌, ◌<◌, ◌≤◌, ◌≡◌, ◌≢◌, ◌==◌, ◌⊎◌, inl, inr, ◌∙◌, ◌||◌, Bool, true, false, cond, if◌then◌else◌, not, List, [], ◌∷◌, ◌++◌, filter, map, length, Option, Some, None, Result, Ok, Err, refl, ap, sym, subst, arith, eqb, zero, suc}
+use Rattle.std.proofs.Common.{ℕ, ◌+◌, ◌%◌, ◌<◌, ◌≤◌, ◌≡◌, ◌≢◌, ◌==◌, ◌⊎◌, inl, inr, ◌∙◌, ◌||◌, Bool, true, false, cond, if◌then◌else◌, List, [], ◌∷◌, filter, map, Option, Some, None, Ok, refl, ap, sym, subst, arith, eqb, zero, suc}
 use Rattle.std.proofs.lemmas.Bool.Decides.{nat_tests}
 use Rattle.std.proofs.lemmas.List.Elements.{All-from_recursion, filter_passes, recursion_from_All}
 use Rattle.std.proofs.lemmas.Nat.{mod_below}
-use Rattle.std.specs.List.{All, AllByRecursion}
-use Rattle.std.specs.Prelude.{ℤ, pos, negsuc, slice_get, take, ◌-◌}
+use Rattle.std.specs.List.{AllByRecursion}
+use Rattle.std.specs.Prelude.{ℤ, pos, negsuc, slice_get, ◌-◌}
 use Rattle.gx_ids.specs.declared.ids.Cid.{Cid}
 use Rattle.gx_ids.specs.declared.ids.Gxid.{Gxid}
 use Rattle.gx_ids.specs.declared.ids.Node.{Node}
-use Rattle.gx_ids.specs.declared.ids.Table.{Table}
 use Rattle.gx_ids.specs.declared.rid.Rid.{Rid}
-use Rattle.gx_tree.specs.declared.cell.Cell.{Cell}
 use Rattle.gx_tree.specs.declared.cond.Cond.{Cond}
-use Rattle.gx_tree.specs.declared.part.Part.{Part}
 use Rattle.gx_tree.specs.declared.query.Query.{Query}
 use Rattle.gx_tree.specs.declared.row.KeyedRow.{KeyedRow}
 use Rattle.gx_tree.specs.declared.schema.Dist.{Dist}
 use Rattle.gx_tree.specs.declared.schema.Dist.TheVariants.{By, Randomly}
-use Rattle.gx_tree.specs.declared.slice.Slice.{Slice}
 use Rattle.gx_tree.specs.declared.value.Value.{Value}
 use Rattle.gx_tree.specs.declared.value.Value.TheVariants.{Int, Text}
 use Rattle.gx_dtx.specs.Nodes.{has}
-use Rattle.gx_eval.specs.Meaning.{truth_of}
 use Rattle.gx_gather.specs.Answer.{ArePartsOf, AreRising, answer_of, grouped_answer, keeps, limited, part_of, plain_answer}
 use Rattle.gx_place.specs.Place.{IsWithin, hash_of, key_place, remainder, row_place, value_place}
 use Rattle.gx_place.specs.Target.{IsFalseOutside, target_of}

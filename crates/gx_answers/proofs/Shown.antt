@@ -1,13 +1,12 @@
 -- What a segment shows to a command is the node's part of what the command sees.
-use Rattle.std.proofs.Common.{◌≡◌, ◌≤◌, ◌<◌, ◌==◌, ◌⊎◌, inl, inr, ℕ, List, [], ◌∷◌, ◌++◌, length, Option, Some, None, Result, Ok, Err, Bool, true, false, refl, sym, subst, ap, ◌∙◌, cond, if◌then◌else◌, ◌&&◌, eqb, arith}
+use Rattle.std.proofs.Common.{◌≡◌, ◌==◌, ℕ, List, [], ◌∷◌, Option, Some, None, Result, Ok, Err, Bool, true, false, refl, sym, subst, ap, ◌∙◌, cond, if◌then◌else◌, ◌&&◌, eqb, arith}
 use Rattle.std.proofs.lemmas.Bool.{eqb-true}
 use Rattle.std.proofs.lemmas.Bool.Decides.{nat_tests}
-use Rattle.std.proofs.lemmas.List.{take-append-le}
 use Rattle.std.proofs.lemmas.List.Elements.{All-from_recursion}
 use Rattle.std.specs.List.{AllByRecursion}
 use Rattle.std.specs.List.Sorted.{IsStrictlySortedBy}
 use Rattle.std.specs.Option.{option_or}
-use Rattle.std.specs.Prelude.{filter, map, slice_get, take}
+use Rattle.std.specs.Prelude.{filter, map, take}
 use Rattle.std.specs.declared.cmp.Ordering.TheVariants.{Less}
 use Rattle.gx_ids.specs.declared.ids.Cid.{Cid}
 use Rattle.gx_ids.specs.declared.ids.Gxid.{Gxid}
@@ -30,10 +29,9 @@ use Rattle.gx_store.specs.Journals.{is_same_node}
 use Rattle.gx_store.specs.Marks.{is_same_rid, node_of}
 use Rattle.gx_store.specs.Rows.{row_at}
 use Rattle.gx_store.specs.View.{image, image_after, is_shown_to}
-use Rattle.gx_store.proofs.Marks.{image_after-append}
 use Rattle.gx_store.proofs.Rows.{is_same_rid-refl, same_rid}
 use Rattle.gx_rules.specs.Segments.{Seg, Version}
-use Rattle.gx_rules.specs.Shown.{counts, last_images, rows_in, shown}
+use Rattle.gx_rules.specs.Shown.{counts, last_images, shown}
 use Rattle.gx_rules.specs.Slices.{first_fault, or_fault}
 use Rattle.gx_laws.proofs.Lists.{Each}
 use Rattle.gx_laws.proofs.SegItems.{writes_at}
@@ -44,7 +42,7 @@ use Rattle.gx_shown.proofs.Rows.{rising-rows_in, row_at-rows_in}
 use Rattle.gx_sights.specs.Sights.{IsOnlyAt}
 use Rattle.gx_writes.proofs.Legal.{IsPlacedMark}
 use Rattle.gx_writes.proofs.Placed.{IsPlaced, same-place}
-use Rattle.gx_answers.specs.Parts.{IsPartOf, SaysItsPart, is_home}
+use Rattle.gx_answers.specs.Parts.{IsPartOf, is_home}
 
 -- ---- where a row stands alone
 no-test : (b : Bool) → b ≡ true → b ≡ false → ⊥

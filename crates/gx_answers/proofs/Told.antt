@@ -1,7 +1,6 @@
 -- A gathered SELECT shows what its answer says, and a command that a segment failed has faulted so.
-use Rattle.std.proofs.Common.{◌≡◌, ◌≤◌, ◌<◌, ◌⊎◌, inl, inr, ℕ, ◌+◌, List, [], ◌∷◌, ◌++◌, length, Option, Some, None, Result, Ok, Bool, true, false, refl, sym, subst, ap, ◌∙◌, ◌||◌, if◌then◌else◌, arith, eqb, append-nil, map, zero, suc}
+use Rattle.std.proofs.Common.{◌≡◌, ◌≤◌, inl, inr, ℕ, List, [], ◌∷◌, ◌++◌, Some, None, Result, Ok, Bool, true, false, refl, sym, subst, ap, ◌∙◌, ◌||◌, arith, eqb, map}
 use Rattle.std.proofs.lemmas.Bool.Decides.{nat_tests}
-use Rattle.std.proofs.lemmas.List.{take-append-le}
 use Rattle.std.specs.Prelude.{slice_get, take}
 use Rattle.gx_ids.specs.declared.ids.Cid.{Cid}
 use Rattle.gx_ids.specs.declared.ids.Gxid.{Gxid}
@@ -24,11 +23,10 @@ use Rattle.gx_msg.specs.declared.reply.Reply.TheVariants as reply
 use Rattle.gx_place.specs.Target.{target_of}
 use Rattle.gx_place.specs.declared.segments.Target.{Target}
 use Rattle.gx_place.specs.declared.segments.Target.TheVariants.{One, All as AllOfThem}
-use Rattle.gx_plan.specs.Plan.{nodes_from, nodes_of, piece, plan_of}
+use Rattle.gx_plan.specs.Plan.{nodes_of, piece, plan_of}
 use Rattle.gx_plan.specs.declared.piece.Piece.{Piece}
 use Rattle.gx_script.specs.declared.Script.{Script}
 use Rattle.gx_store.specs.declared.answer.StmtAnswer.{StmtAnswer}
-use Rattle.gx_store.specs.declared.answer.StmtAnswer.TheVariants as told
 use Rattle.gx_store.specs.declared.event.Event.TheVariants as event
 use Rattle.gx_store.specs.declared.mark.Mark.{Mark}
 use Rattle.gx_store.specs.declared.mark.Mark.TheVariants as mark
@@ -36,12 +34,12 @@ use Rattle.gx_store.specs.Answers.{Shows, Tells}
 use Rattle.gx_store.specs.Commands.{IsSnapshotAt, RunsCommand}
 use Rattle.gx_store.specs.Lines.{began_from, stmt_of_command}
 use Rattle.gx_store.specs.Marks.{is_aborted}
-use Rattle.gx_store.specs.Messages.{HasReceived, Receives}
+use Rattle.gx_store.specs.Messages.{HasReceived}
 use Rattle.gx_store.specs.Points.{marks_in}
 use Rattle.gx_store.specs.Refusals.{HasFaulted, IsCause, the_coordinator}
 use Rattle.gx_store.specs.View.{image, is_shown_to}
 use Rattle.gx_store.specs.Writes.{dist_of}
-use Rattle.gx_rules.specs.AtCoordinator.{nodes_in, reason_of, table_of}
+use Rattle.gx_rules.specs.AtCoordinator.{nodes_in, reason_of}
 use Rattle.gx_rules.specs.Machine.{world_of}
 use Rattle.gx_rules.specs.Merged.{merged_answer}
 use Rattle.gx_rules.specs.Slices.{cause_of}
@@ -50,19 +48,18 @@ use Rattle.gx_histories.specs.Finish.{point_at}
 use Rattle.gx_histories.specs.Gathering.{AreAll, AreApart, IsGathered, Taken, nodes_taken, parts_taken}
 use Rattle.gx_histories.specs.Orders.{AreLinesNumbered, level_of_began}
 use Rattle.gx_histories.proofs.Said.{CalmFor}
-use Rattle.gx_histories.proofs.World as histories
 use Rattle.gx_writes.proofs.Turns.{NoWrite}
 use Rattle.gx_writes.proofs.World as writes
 use Rattle.gx_answers.specs.Keyed.{AreInsertsKeyed}
 use Rattle.gx_answers.specs.Once.{IsOneSnapshot}
 use Rattle.gx_answers.specs.Parts.{SaysItsPart}
 use Rattle.gx_answers.specs.Truth.{IsTrueFault, IsTruePart, IsTruth}
-use Rattle.gx_answers.proofs.Commands.{IsOf, command-is}
-use Rattle.gx_answers.proofs.Heard.{Heard, heard, heard-now, marks-are, more, order-now, part-now, unaborted-then}
+use Rattle.gx_answers.proofs.Commands.{IsOf}
+use Rattle.gx_answers.proofs.Heard.{heard, marks-are, more, order-now, part-now, unaborted-then}
 use Rattle.gx_answers.proofs.Origins.{Events, IsTrueReply}
 use Rattle.gx_answers.proofs.Plans.{IsSliceOf, slice-is}
 use Rattle.gx_answers.proofs.Select.{has-from, merged, seen, whole}
-use Rattle.gx_answers.proofs.Truths.{get-inside, image-more, snapshot-more, take-kept}
+use Rattle.gx_answers.proofs.Truths.{image-more, snapshot-more, take-kept}
 use Rattle.gx_answers.proofs.Views.{view-is}
 
 -- ---- what a SELECT shows stays, where nothing is written

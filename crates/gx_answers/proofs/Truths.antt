@@ -1,5 +1,5 @@
 -- What is true of a segment's answer stays true.
-use Rattle.std.proofs.Common.{◌≡◌, ◌≤◌, ◌<◌, ◌==◌, ◌⊎◌, inl, inr, ℕ, zero, suc, List, [], ◌∷◌, ◌++◌, length, Option, Some, None, Bool, true, false, refl, sym, subst, ap, ◌∙◌, cond, if◌then◌else◌, ◌&&◌, ◌||◌, eqb, arith, append_assoc}
+use Rattle.std.proofs.Common.{◌≡◌, ◌≤◌, ◌==◌, inr, ℕ, zero, suc, List, [], ◌∷◌, ◌++◌, length, Option, Some, None, Bool, true, false, refl, sym, subst, ap, ◌∙◌, cond, if◌then◌else◌, ◌&&◌, ◌||◌, eqb, arith}
 use Rattle.std.proofs.Math.Seq.{take-append_seam}
 use Rattle.std.proofs.lemmas.Bool.{eqb-true}
 use Rattle.std.proofs.lemmas.List.{take-append-le}
@@ -17,7 +17,7 @@ use Rattle.gx_tree.specs.declared.slice.Slice.TheVariants as slice
 use Rattle.gx_tree.specs.declared.stmt.Level.{Level}
 use Rattle.gx_tree.specs.declared.value.Value.{Value}
 use Rattle.gx_eval.specs.declared.fault.ArithFault.{ArithFault}
-use Rattle.gx_gather.specs.Answer.{AreRising, keeps, part_of}
+use Rattle.gx_gather.specs.Answer.{keeps, part_of}
 use Rattle.gx_msg.specs.declared.reply.Reply.{Reply}
 use Rattle.gx_msg.specs.declared.reply.Reply.TheVariants as reply
 use Rattle.gx_script.specs.declared.Script.{Script}
@@ -27,7 +27,6 @@ use Rattle.gx_store.specs.Commands.{IsSnapshotAt}
 use Rattle.gx_store.specs.Faults.{FaultsOnSeen}
 use Rattle.gx_store.specs.Journals.{is_same_node}
 use Rattle.gx_store.specs.Marks.{is_aborted, is_same_rid, node_of}
-use Rattle.gx_store.specs.Rows.{row_at}
 use Rattle.gx_store.specs.View.{image, image_after, is_shown_to}
 use Rattle.gx_store.proofs.Marks.{image_after-append, is_aborted-append}
 use Rattle.gx_rules.specs.Slices.{cause_of, first_fault}
@@ -36,7 +35,7 @@ use Rattle.gx_sights.specs.Sights.{IsOnlyAt}
 use Rattle.gx_writes.proofs.Legal.{IsPlacedMark}
 use Rattle.gx_writes.proofs.Turns.{NoWrite}
 use Rattle.gx_answers.specs.Parts.{IsPartOf, SaysItsPart, is_home}
-use Rattle.gx_answers.specs.Truth.{IsTrueFault, IsTruePart, IsTruth}
+use Rattle.gx_answers.specs.Truth.{IsTruePart, IsTruth}
 use Rattle.gx_answers.proofs.Shown.{IsFirst, faults-on-none, first-is, only-at}
 use Rattle.gx_answers.proofs.Views.{view-is, view_rows}
 
