@@ -1,0 +1,5 @@
+pub mod Keyed
+pub mod Parts
+pub mod Truth
+pub mod Once
+pub mod Whole
