@@ -17,4 +17,5 @@ pub mod Segs
 pub mod Join
 pub mod Gathered
 pub mod Whole
+pub mod Single
 pub mod Snaps

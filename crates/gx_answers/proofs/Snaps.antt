@@ -25,6 +25,7 @@ use Rattle.gx_histories.specs.Orders.{level_of_began}
 use Rattle.gx_store.specs.Lines.{began_from}
 use Rattle.gx_answers.specs.Once.{AreSnapshotsOne, IsOneSnapshot}
 use Rattle.gx_answers.proofs.Origins.{Events}
+use Rattle.gx_answers.proofs.Single.{are-readers}
 
 pub record Once (ms : List Mark) (g : Gxid) (d : Cid) : Type 0 where
   pub level : Level
@@ -129,3 +130,29 @@ one-snapshot script some once es = λ g c p q. by-level' g c p q (level_of_began
     by-level' : (g : Gxid) (c : Cid) (p q : ℕ) (l : Level) → level_of_began script (began_from [] (marks_in (world_of script es).steps) g) ≡ l → IsSnapshotAt (marks_in (world_of script es).steps) l g c p → IsSnapshotAt (marks_in (world_of script es).steps) l g c q → p ≡ q
     by-level' g c p q ReadCommitted e a b = same-place script some es g c p q a.snapshot b.snapshot (a.taken ∙ ap (λ d. Some (mark.Snap g d a.snapshot)) a.serves) (b.taken ∙ ap (λ d. Some (mark.Snap g d b.snapshot)) b.serves)
     by-level' g c p q RepeatableRead e a b = once es g p q e (record { d = a.d; snapshot = a.snapshot; taken = a.taken; serves = tt }) (record { d = b.d; snapshot = b.snapshot; taken = b.taken; serves = tt })
+
+-- a repeatable-read transaction takes one snapshot
+pub snapshots-one : (script : Script) → 1 ≤ script.segments → AreSnapshotsOne script
+snapshots-one script some es g p q rr a b = by_test (eqb p q) (Rattle.std.specs.Prelude.nat_lt p q) refl refl
+  where
+    both : (l : Level) → l ≡ ReadCommitted → l ≡ RepeatableRead → ⊥
+    both l e f = cc
+
+    apart : (i j : ℕ) → i < j → IsSnapshotAt (marks_in (world_of script es).steps) RepeatableRead g (record { 0 = 1 }) i → IsSnapshotAt (marks_in (world_of script es).steps) RepeatableRead g (record { 0 = 1 }) j → ⊥
+    apart i j l s t =
+        let r = are-readers script some es g i j s.d t.d s.snapshot t.snapshot l s.taken t.taken in
+        both (level_of_began script (began_from [] (marks_in (world_of script es).steps) g)) (ap (level_of_began script) r.is ∙ r.level) rr
+
+    same : eqb p q ≡ true → p ≡ q
+    same z = grind (arith, nat_tests)
+
+    less : Rattle.std.specs.Prelude.nat_lt p q ≡ true → p < q
+    less z = grind (arith, nat_tests)
+
+    more : eqb p q ≡ false → Rattle.std.specs.Prelude.nat_lt p q ≡ false → q < p
+    more y z = grind (arith, nat_tests)
+
+    by_test : (x y : Bool) → eqb p q ≡ x → Rattle.std.specs.Prelude.nat_lt p q ≡ y → p ≡ q
+    by_test true y z u = same z
+    by_test false true z u = absurd (apart p q (less u) a b)
+    by_test false false z u = absurd (apart q p (more z u) b a)

@@ -1,6 +1,5 @@
 //! Laws of every run, whatever the network loses, repeats, delays and reorders, and whichever appends fail.
 ghost use Rattle.std.specs.Prelude.{◌≡◌, ◌≤◌, Bool, List, []};
-ghost use Rattle.gx_answers.specs.Once.{AreSnapshotsOne};
 ghost use Rattle.gx_answers.specs.Whole.{AreInsertsWhole};
 ghost use Rattle.gx_gather.specs.Answer.{ArePartsOf, answer_of};
 ghost use Rattle.gx_histories.specs.Finish.{AreSegmentsLegal};
@@ -28,16 +27,16 @@ pub fn segments_marks_are_legal()
     ensures { (script : Script) (events : List (OneEvent × Bool)) → 1 ≤ script.segments → AreLinesNumbered [] script.lines → AreSegmentsLegal script (world_of script events) }
 {}
 
-/// Every run is a legal history, where each repeatable-read transaction takes one snapshot: for scripts whose INSERTs have tuples,
-/// each with a value for the distribution column.
+/// Every run is a legal history of one store without segments, whatever the network does and whichever appends fail: for scripts
+/// whose INSERTs have tuples, each with a value for the distribution column.
 pub fn every_run_is_a_legal_history()
-    ensures { (script : Script) (events : List (OneEvent × Bool)) → 1 ≤ script.segments → AreLinesNumbered [] script.lines → AreInsertsWhole script.tables script.lines → AreSnapshotsOne script
+    ensures { (script : Script) (events : List (OneEvent × Bool)) → 1 ≤ script.segments → AreLinesNumbered [] script.lines → AreInsertsWhole script.tables script.lines
         → IsLegalHistory script (run_of (world_of script events)) }
 {}
 
 /// So is every run of the system of nodes.
 pub fn every_system_run_is_a_legal_history()
-    ensures { (script : Script) (run : OneRun) → 1 ≤ script.segments → AreLinesNumbered [] script.lines → AreInsertsWhole script.tables script.lines → AreSnapshotsOne script → IsSystemRun script run
+    ensures { (script : Script) (run : OneRun) → 1 ≤ script.segments → AreLinesNumbered [] script.lines → AreInsertsWhole script.tables script.lines → IsSystemRun script run
         → IsLegalHistory script run }
 {}
 
