@@ -17,5 +17,6 @@ pub mod Segs
 pub mod Join
 pub mod Gathered
 pub mod Whole
+pub mod AtHome
 pub mod Single
 pub mod Snaps

@@ -48,7 +48,7 @@ use Rattle.gx_answers.specs.Parts.{IsPartOf, is_home}
 no-test : (b : Bool) → b ≡ true → b ≡ false → ⊥
 no-test b e f = grind arith
 
-never-only : (node : Node) (rid : Rid) (ms : List Mark) → node_of ms rid ≡ None → IsOnlyAt node rid ms
+pub never-only : (node : Node) (rid : Rid) (ms : List Mark) → node_of ms rid ≡ None → IsOnlyAt node rid ms
 never-only node rid [] e = tt
 never-only node rid (mark.Write g c n t r x ∷ ms) e = by_test (is_same_rid r rid) refl e (never-only node rid ms)
   where
@@ -59,17 +59,17 @@ never-only node rid (m ∷ ms) e = never-only node rid ms e
 
 module _ (script : Script) (all : List Mark) (node : Node) (rid : Rid) where
   -- a write of the row at the node
-  record IsAt : Type 0 where
-    g : Gxid
-    c : Cid
-    t : Table
-    x : Option (List Value)
-    placed : IsPlaced script all g c node t rid x
+  pub record IsAt : Type 0 where
+    pub g : Gxid
+    pub c : Cid
+    pub t : Table
+    pub x : Option (List Value)
+    pub placed : IsPlaced script all g c node t rid x
 
   some-same : {A : Type 0} (a b : A) → Some a ≡ Some b → a ≡ b
   some-same a b e = cc
 
-  first-at : (ms : List Mark) → Each (IsPlacedMark script all) ms → node_of ms rid ≡ Some node → IsAt
+  pub first-at : (ms : List Mark) → Each (IsPlacedMark script all) ms → node_of ms rid ≡ Some node → IsAt
   first-at [] e f = absurd (cc)
   first-at (mark.Write g c n t r x ∷ ms) e f = by_test (is_same_rid r rid) refl f (first-at ms e.1)
     where

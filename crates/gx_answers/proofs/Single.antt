@@ -42,15 +42,15 @@ use Rattle.gx_store.specs.Points.{marks_in}
 use Rattle.gx_store.specs.Writes.{dist_of}
 use Rattle.gx_store.specs.Refusals.{the_coordinator}
 use Rattle.gx_rules.specs.AtCoordinator.{Reading, awaited, begins, commits, completes, coord_rule, dispatches, ends_in, fault_mark, follows, goes, goes_on, is_refused, next_cid, next_line, on_answer, on_event, on_failed, on_done, on_line, on_message, on_status, reads_by, reads_for, resends, starts, starts_line, table_of, takes_done, with_done, writers_with}
-use Rattle.gx_rules.specs.Coordinators.{Command, Coord, Session, Work, rests, session_of, with_work, work_of}
+use Rattle.gx_rules.specs.Coordinators.{Command, Coord, Work, rests, session_of, with_work, work_of}
 use Rattle.gx_rules.specs.AtSegment.{seg_rule}
 use Rattle.gx_rules.specs.Machine.{World, after, at_node, can, coord_did, does, happens, new_world, node_of, seg_did, world_of}
 use Rattle.gx_rules.specs.Sending.{counted, numbered}
 use Rattle.gx_laws.proofs.Ordered.{Well, happens_well}
 use Rattle.gx_laws.proofs.Turns.{self-test}
 use Rattle.gx_laws.proofs.World.{Knows, marks-last, world_knows}
-use Rattle.gx_histories.specs.Orders.{level_by, level_of_began}
-use Rattle.gx_histories.specs.Standing.{HasSnapshot, IsFirst, IsStanding, Owns, Roots, Stands, level_in}
+use Rattle.gx_histories.specs.Orders.{level_by}
+use Rattle.gx_histories.specs.Standing.{HasSnapshot, IsStanding, Owns, Roots, Stands}
 use Rattle.gx_histories.proofs.Ends.{began-kept}
 use Rattle.gx_histories.proofs.Stepping.{Holds}
 use Rattle.gx_histories.proofs.World.{after-last, world-holds}

@@ -9,7 +9,12 @@ ghost use Rattle.gx_rules.specs.Merged.{merged_answer};
 ghost use Rattle.gx_rules.specs.System.{IsSystemRun};
 ghost use Rattle.gx_script.specs.declared.Script.{Script};
 ghost use Rattle.gx_store.specs.Protocol.{DoStepsFollow};
+ghost use Rattle.gx_sights.specs.Sights.{AreRowsOfAll};
+ghost use Rattle.gx_store.specs.Points.{marks_in};
 ghost use Rattle.gx_store.specs.Runs.{IsLegalHistory};
+ghost use Rattle.gx_store.specs.View.{AreFinalFrom};
+ghost use Rattle.std.specs.declared.alloc.Global.{Global as OneGlobal};
+ghost use Rattle.std.specs.declared.vec.Vec.{Vec as OneVec};
 ghost use Rattle.gx_store.specs.declared.event.Event.{Event as OneEvent};
 ghost use Rattle.gx_store.specs.declared.run.Run.{Run as OneRun};
 ghost use Rattle.gx_tree.specs.declared.part.Part.{Part as OnePart};
@@ -38,6 +43,13 @@ pub fn every_run_is_a_legal_history()
 pub fn every_system_run_is_a_legal_history()
     ensures { (script : Script) (run : OneRun) → 1 ≤ script.segments → AreLinesNumbered [] script.lines → AreInsertsWhole script.tables script.lines → IsSystemRun script run
         → IsLegalHistory script run }
+{}
+
+/// The rows that the segments show to nobody's transaction, by a snapshot that is taken at the end of a run, are the final
+/// tables.
+pub fn segments_show_the_final_tables()
+    ensures { (script : Script) (events : List (OneEvent × Bool)) (tables : List (OneVec OneRow OneGlobal)) → 1 ≤ script.segments → AreLinesNumbered [] script.lines → AreRowsOfAll 0 (world_of script events) tables
+        → AreFinalFrom 0 (marks_in (world_of script events).steps) tables }
 {}
 
 /// Every run of the system of nodes follows the commit protocol.
