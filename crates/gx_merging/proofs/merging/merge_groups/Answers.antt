@@ -1,0 +1,12 @@
+use Rattle.std.proofs.Common.{◌∙◌, ap, map}
+use Rattle.std.proofs.lemmas.Result.{IfOk-weaker}
+use Rattle.gx_gather.specs.Tallies.{entry_group, out_row}
+use Rattle.gx_merging.proofs.Listed.{Entry}
+use Rattle.gx_merging.proofs.Whole.{groups_answered}
+use Rattle.gx_merging.proofs.merging.merge_groups.Goals as goal
+
+pub returns : goal.returns
+returns c =
+    IfOk-weaker c.entries_out.result _ _ (λ out made.
+    made ∙ ap (map (λ (e : Entry). out_row c.args.query.now (entry_group e))) (c.as_slice.ensures.value ∙ c.cut.ensures)
+    ∙ groups_answered c.args.query.now _ c.in_ok-entries.entries.items c.in_ok-entries.ensures) c.entries_out.ensures

@@ -1,0 +1,99 @@
+ghost use Rattle.std.specs.Prelude.{◌≡◌, ◌++◌, IfOk, OnOk, map};
+ghost use Rattle.std.specs.List.{flat_map};
+ghost use Rattle.gx_gather.specs.Answer.{groups_in, limited, plain_answer, row_keys, rows_in};
+ghost use Rattle.gx_gather.specs.Order.{in_order, row_order};
+ghost use Rattle.gx_gather.specs.Tallies.{entry_group};
+ghost use Rattle.gx_merging.specs.Answered.{ordered_groups};
+ghost use Rattle.gx_rules.specs.Merged.{merged_answer, merged_groups};
+
+use crate::groups::{Entry, answered, groups_of};
+use crate::order::{group_places, row_places, sort_entries, sort_rows};
+use crate::output::{entries_out, rows_out};
+use gx_ids::Mem;
+use gx_tree::{KeyedRow, OutRow, Part, Query};
+use std::alloc::Global;
+
+/// A query's answer from parts in any number and order. Nothing is asked of the parts: rows may come twice, and rows that
+/// tie wholly stand in the order in which they came.
+pub fn merge_parts(alloc: Global, query: &Query, parts: &[Part]) -> Mem<Vec<OutRow>>
+    ensures { IfOk result (λ out. out.items ≡ merged_answer query.now parts.now) }
+{
+    if query.grouped {
+        merge_groups(alloc, query, parts)
+    } else {
+        merge_rows(alloc, query, parts)
+    }
+}
+
+fn merge_rows(alloc: Global, query: &Query, parts: &[Part]) -> Mem<Vec<OutRow>>
+    ensures { IfOk result (λ out. out.items ≡ limited query.now.limit (plain_answer query.now (flat_map rows_in parts.now))) }
+{
+    let mut rows = ordered_rows(alloc, query, parts)?;
+    cut(&mut rows, query.limit);
+    rows_out(alloc, query.items.as_slice(), rows.as_slice())
+}
+
+fn ordered_rows<'a>(alloc: Global, query: &Query, parts: &'a [Part]) -> Mem<Vec<&'a KeyedRow>>
+    ensures { IfOk result (λ rows. map (λ row. row.now) rows.items ≡ in_order (row_order (row_keys query.now.order)) (flat_map rows_in parts.now)) }
+{
+    let mut rows = rows_of(alloc, parts)?;
+    let places = row_places(alloc, query.order.as_slice())?;
+    sort_rows(places.as_slice(), &mut rows)?;
+    Ok(rows)
+}
+
+// The rows of all parts.
+fn rows_of<'a>(alloc: Global, parts: &'a [Part]) -> Mem<Vec<&'a KeyedRow>>
+    ensures { IfOk result (λ rows. map (λ row. row.now) rows.items ≡ flat_map rows_in parts.now) }
+{
+    let mut rows = Vec::new(alloc);
+    for part in parts {
+        add_rows(&mut rows, part_rows(part))?;
+    }
+    Ok(rows)
+}
+
+fn part_rows(part: &Part) -> &[KeyedRow]
+    ensures { result.now ≡ rows_in part.now }
+{
+    match part {
+        Part::Rows(rows) => rows.as_slice(),
+        Part::Groups(_) => &[],
+    }
+}
+
+fn add_rows<'a>(rows: &mut Vec<&'a KeyedRow>, more: &'a [KeyedRow]) -> Mem<()>
+    ensures { OnOk result (map (λ row. row.now) rows.new.items ≡ map (λ row. row.now) rows.old.items ++ more.now) }
+{
+    for row in more {
+        rows.push(row)?;
+    }
+    Ok(())
+}
+
+fn merge_groups(alloc: Global, query: &Query, parts: &[Part]) -> Mem<Vec<OutRow>>
+    ensures { IfOk result (λ out. out.items ≡ limited query.now.limit (merged_groups query.now (flat_map groups_in parts.now))) }
+{
+    let mut entries = ordered_entries(alloc, query, parts)?;
+    cut(&mut entries, query.limit);
+    entries_out(alloc, query, entries.as_slice())
+}
+
+fn ordered_entries<'a>(alloc: Global, query: &Query, parts: &'a [Part]) -> Mem<Vec<Entry<'a>>>
+    ensures { IfOk result (λ entries. map entry_group entries.items ≡ ordered_groups query.now (flat_map groups_in parts.now)) }
+{
+    let columns = query.group.as_slice();
+    let groups = groups_of(alloc, query, parts)?;
+    let mut entries = answered(alloc, columns, groups)?;
+    let places = group_places(alloc, columns, query.order.as_slice())?;
+    sort_entries(places.as_slice(), &mut entries)?;
+    Ok(entries)
+}
+
+fn cut<T: Drop>(items: &mut Vec<T>, limit: Option<u64>)
+    ensures { items.new.items ≡ limited limit items.old.items }
+{
+    if let Some(limit) = limit {
+        items.truncate(limit as usize);
+    }
+}

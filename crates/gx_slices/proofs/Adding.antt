@@ -1,0 +1,172 @@
+-- One row more.
+use Rattle.std.proofs.Common.{◌≡◌, ◌≢◌, Bool, true, false, if◌then◌else◌, eqb, ◌&&◌, ◌||◌, List, [], ◌∷◌, ◌++◌, Option, Some, None, map, filter, append-nil, refl, sym, ap, ◌∙◌, subst}
+use Rattle.std.proofs.lemmas.List.{map-append}
+use Rattle.std.proofs.lemmas.List.Elements.{filter-append}
+use Rattle.std.proofs.lemmas.List.Folds.{list_any-append}
+use Rattle.std.proofs.lemmas.List.Sums.{fold-append}
+use Rattle.std.specs.Prelude.{is_some, unwrap_or}
+use Rattle.gx_ids.specs.declared.ids.Cid.{Cid}
+use Rattle.gx_ids.specs.declared.ids.Gxid.{Gxid}
+use Rattle.gx_ids.specs.declared.ids.Node.{Node}
+use Rattle.gx_ids.specs.declared.ids.Table.{Table}
+use Rattle.gx_ids.specs.declared.rid.Rid.{Rid}
+use Rattle.gx_tree.specs.declared.row.KeyedRow.{KeyedRow}
+use Rattle.gx_msg.specs.declared.item.Kept.{Kept}
+use Rattle.gx_visible.specs.Counts.{is_committed}
+use Rattle.gx_xidmap.specs.declared.status.LocalStatus.{LocalStatus}
+use Rattle.gx_xidmap.specs.declared.status.LocalStatus.TheVariants.{Running}
+use Rattle.gx_local.specs.Store.{Store, Write, passes, status_of, writes_of}
+use Rattle.gx_phases.specs.Phases.{local_of}
+use Rattle.gx_store.specs.Marks.{is_same_gxid, is_same_rid}
+use Rattle.gx_store.specs.declared.mark.Mark.{Mark}
+use Rattle.gx_rules.specs.Segments as rule
+use Rattle.gx_rules.specs.Segments.{Phase, Reading, Writing, Prepared, Committed, Forgotten, Aborted, Seg, Version, has_committed, with_local}
+use Rattle.gx_rules.specs.Shown.{kept_of, kept_one, last_images}
+use Rattle.gx_rules.specs.Slices.{version}
+use Rattle.gx_slices.specs.Agrees.{has_version, is_of_row, write_of}
+use Rattle.gx_slices.specs.Apart.{IsApart}
+use Rattle.gx_slices.specs.Inserts.{IsPut}
+use Rattle.gx_slices.specs.Ran.{is_open}
+use Rattle.gx_slices.specs.declared.held.Entry.{Entry}
+use Rattle.gx_slices.proofs.Gxids.{apart, differ, itself, other_row, other_table, row_itself, same_gxid, same_row, same_table, turned}
+
+-- TESTS
+open_uncommitted : (p : Phase) → is_open p ≡ true → has_committed p ≡ false
+open_uncommitted Reading e = refl
+open_uncommitted Writing e = refl
+open_uncommitted Prepared e = absurd (cc)
+open_uncommitted Committed e = absurd (cc)
+open_uncommitted (Forgotten c) e = absurd (cc)
+open_uncommitted Aborted e = absurd (cc)
+
+or_true : (a : Bool) → (a || (true || false)) ≡ true
+or_true true = refl
+or_true false = refl
+
+or_false : (a : Bool) → (a || (false || false)) ≡ a
+or_false true = refl
+or_false false = refl
+
+and_false : (a : Bool) → (a && false) ≡ false
+and_false true = refl
+and_false false = refl
+
+passes_running : (o : Option LocalStatus) → passes is_committed (Some (unwrap_or o Running)) ≡ passes is_committed o
+passes_running None = refl
+passes_running (Some st) = refl
+
+-- the data with one version more
+abbrev pub with_row : Seg → Gxid → Version → Seg
+with_row s g v = record (with_local s g (record (rule.local_of s g) { phase = Writing })) { versions = s.versions ++ v ∷ [] }
+
+module _ (start : Seg) (g : Gxid) (c : Cid) (node : Node) (table : Table) (row : KeyedRow) (s : Seg) (store store' : Store) (entry entry' : Entry) (marks marks' : List Mark) (is : IsApart start store entry g s) (put : IsPut g c node table row store store' entry entry' marks marks') where
+  abbrev v : Version
+  v = version g c table row
+
+  abbrev s' : Seg
+  s' = with_row s g v
+
+  -- THE TRANSACTIONS
+  local_itself : rule.local_of s' g ≡ record (rule.local_of s g) { phase = Writing }
+  local_itself = ap (λ (b : Bool). if b then record (rule.local_of s g) { phase = Writing } else rule.local_of s g) (itself g.0)
+
+  local_other : (h : Gxid) → eqb h.0 g.0 ≡ false → rule.local_of s' h ≡ rule.local_of s h
+  local_other h e = ap (λ (b : Bool). if b then record (rule.local_of s g) { phase = Writing } else rule.local_of s h) e
+
+  has_version-put : (h : Gxid) → has_version s' h ≡ (has_version s h || (is_same_gxid g h || false))
+  has_version-put h = list_any-append (λ u. is_same_gxid u.gxid h) s.versions (v ∷ [])
+
+  has_version-other : (h : Gxid) → eqb h.0 g.0 ≡ false → has_version s' h ≡ has_version s h
+  has_version-other h e = has_version-put h ∙ ap (λ (b : Bool). has_version s h || (b || false)) (turned g.0 h.0 ∙ e) ∙ or_false (has_version s h)
+
+  has_version-itself : has_version s' g ≡ true
+  has_version-itself = has_version-put g ∙ ap (λ (b : Bool). has_version s g || (b || false)) (itself g.0) ∙ or_true (has_version s g)
+
+  -- THE STORE
+  wrote : (h : Gxid) (b : Bool) → eqb h.0 g.0 ≡ b → is_some (status_of store' h) ≡ has_version s' h
+  wrote h true e = subst (λ (k : Gxid). is_some (status_of store' k) ≡ has_version s' k) (same_gxid g h e) (ap is_some put.status ∙ sym has_version-itself)
+  wrote h false e = ap is_some (put.others h (differ h.0 g.0 e)) ∙ is.stored.wrote h ∙ sym (has_version-other h e)
+
+  committed_itself : passes is_committed (status_of store' g) ≡ (has_version s' g && has_committed (rule.local_of s' g).phase)
+  committed_itself =
+      ap (passes is_committed) put.status
+      ∙ passes_running (status_of store g)
+      ∙ is.stored.committed g
+      ∙ ap (λ (b : Bool). has_version s g && b) (open_uncommitted (rule.local_of s g).phase is.open_here)
+      ∙ and_false (has_version s g)
+      ∙ sym (and_false (has_version s' g))
+      ∙ sym (ap (λ (l : rule.Local). has_version s' g && has_committed l.phase) local_itself)
+
+  committed : (h : Gxid) (b : Bool) → eqb h.0 g.0 ≡ b → passes is_committed (status_of store' h) ≡ (has_version s' h && has_committed (rule.local_of s' h).phase)
+  committed h true e = subst (λ (k : Gxid). passes is_committed (status_of store' k) ≡ (has_version s' k && has_committed (rule.local_of s' k).phase)) (same_gxid g h e) committed_itself
+  committed h false e =
+      ap (passes is_committed) (put.others h (differ h.0 g.0 e))
+      ∙ is.stored.committed h
+      ∙ ap (λ (b : Bool). b && has_committed (rule.local_of s h).phase) (sym (has_version-other h e))
+      ∙ ap (λ (l : rule.Local). has_version s' h && has_committed l.phase) (sym (local_other h e))
+
+  -- what stands at a row
+  writes_split : (t : Table) (r : Rid) → map write_of (filter (is_of_row t r) s'.versions) ≡ map write_of (filter (is_of_row t r) s.versions) ++ map write_of (filter (is_of_row t r) (v ∷ []))
+  writes_split t r =
+      ap (map write_of) (filter-append (is_of_row t r) s.versions (v ∷ []))
+      ∙ map-append write_of (filter (is_of_row t r) s.versions) (filter (is_of_row t r) (v ∷ []))
+
+  not_there : (t : Table) (r : Rid) → is_of_row t r v ≡ false → writes_of store' t r ≡ writes_of store t r → writes_of store' t r ≡ map write_of (filter (is_of_row t r) s'.versions)
+  not_there t r e same =
+      same
+      ∙ is.stored.writes t r
+      ∙ sym (append-nil (map write_of (filter (is_of_row t r) s.versions)))
+      ∙ ap (λ (b : Bool). map write_of (filter (is_of_row t r) s.versions) ++ map write_of (if b then v ∷ [] else [])) (sym e)
+      ∙ sym (writes_split t r)
+
+  there : writes_of store' table row.rid ≡ map write_of (filter (is_of_row table row.rid) s'.versions)
+  there =
+      put.written
+      ∙ ap (λ (ws : List Write). ws ++ write_of v ∷ []) (is.stored.writes table row.rid)
+      ∙ ap (λ (b : Bool). map write_of (filter (is_of_row table row.rid) s.versions) ++ map write_of (if b then v ∷ [] else [])) (sym own)
+      ∙ sym (writes_split table row.rid)
+    where
+      own : is_of_row table row.rid v ≡ true
+      own = ap (λ (b : Bool). b && is_same_rid row.rid row.rid) (itself table.0) ∙ row_itself row.rid
+
+  writes : (t : Table) (r : Rid) (a : Bool) → eqb table.0 t.0 ≡ a → (b : Bool) → is_same_rid row.rid r ≡ b → writes_of store' t r ≡ map write_of (filter (is_of_row t r) s'.versions)
+  writes t r true e true f =
+      subst
+      (λ (q : Rid). writes_of store' t q ≡ map write_of (filter (is_of_row t q) s'.versions))
+      (same_row row.rid r f)
+      (subst (λ (u : Table). writes_of store' u row.rid ≡ map write_of (filter (is_of_row u row.rid) s'.versions)) (same_table table t e) there)
+  writes t r true e false f =
+      not_there t r (ap (λ (b : Bool). b && is_same_rid row.rid r) e ∙ f)
+      (subst (λ (u : Table). writes_of store' u r ≡ writes_of store u r) (same_table table t e) (put.rows r (other_row row.rid r f)))
+  writes t r false e b f = not_there t r (ap (λ (b : Bool). b && is_same_rid row.rid r) e) (put.tables t r (other_table table t e))
+
+  -- WHAT IS KEPT
+  own_versions : (h : Gxid) (b : Bool) → is_same_gxid g h ≡ b → filter (λ u. is_same_gxid u.gxid h) s'.versions ≡ filter (λ u. is_same_gxid u.gxid h) s.versions ++ (if b then v ∷ [] else [])
+  own_versions h b e =
+      filter-append (λ u. is_same_gxid u.gxid h) s.versions (v ∷ [])
+      ∙ ap (λ (b : Bool). filter (λ u. is_same_gxid u.gxid h) s.versions ++ (if b then v ∷ [] else [])) e
+
+  kept_itself : kept_of s' g ≡ kept_one (kept_of s g) v
+  kept_itself = ap last_images (own_versions g true (itself g.0)) ∙ fold-append kept_one [] (filter (λ u. is_same_gxid u.gxid g) s.versions) (v ∷ [])
+
+  kept_other : (h : Gxid) → h.0 ≢ g.0 → kept_of s' h ≡ kept_of s h
+  kept_other h other =
+      ap last_images (own_versions h false (turned g.0 h.0 ∙ apart h.0 g.0 other) ∙ append-nil (filter (λ u. is_same_gxid u.gxid h) s.versions))
+
+  -- ALL OF IT
+  pub IsApart-put : IsApart start store' entry' g s'
+  IsApart-put = record {
+    stored = record {
+      horizon = put.horizon ∙ is.stored.horizon;
+      writes = λ t r. writes t r (eqb table.0 t.0) refl (is_same_rid row.rid r) refl;
+      wrote = λ h. wrote h (eqb h.0 g.0) refl;
+      committed = λ h. committed h (eqb h.0 g.0) refl;
+    };
+    local = ap local_of put.local ∙ ap (λ (l : rule.Local). let m : rule.Local = record l { phase = Writing } in m) is.local ∙ sym local_itself;
+    kept = put.kept ∙ ap (λ (ks : List Kept). kept_one ks v) is.kept ∙ sym kept_itself;
+    open_here = ap (λ (l : rule.Local). is_open l.phase) local_itself;
+    node = is.node;
+    horizon = is.horizon;
+    other_locals = λ h other. local_other h (apart h.0 g.0 other) ∙ is.other_locals h other;
+    other_rows = λ h other. kept_other h other ∙ is.other_rows h other;
+  }

@@ -1,0 +1,91 @@
+-- What the store shows to a command is what the rule shows.
+use Rattle.std.proofs.Common.{◌≡◌, Bool, true, false, cond, if◌then◌else◌, eqb, ltb, ◌&&◌, ◌||◌, List, [], ◌∷◌, Option, Some, None, map, filter, refl, sym, ap, ◌∙◌}
+use Rattle.std.specs.Prelude.{option_map, option_and_then}
+use Rattle.std.specs.List.{AllByRecursion, list_any}
+use Rattle.std.specs.Option.{option_or}
+use Rattle.gx_ids.specs.declared.ids.Cid.{Cid}
+use Rattle.gx_ids.specs.declared.ids.Gxid.{Gxid}
+use Rattle.gx_ids.specs.declared.ids.Table.{Table}
+use Rattle.gx_ids.specs.declared.rid.Rid.{Rid}
+use Rattle.gx_tree.specs.declared.row.KeyedRow.{KeyedRow}
+use Rattle.gx_tree.specs.declared.value.Value.{Value}
+use Rattle.gx_dsnap.specs.Snapshot.{sees}
+use Rattle.gx_dsnap.specs.declared.snapshot.Snapshot.{Snapshot}
+use Rattle.gx_gather.specs.Answer.{AreRising}
+use Rattle.gx_rows.specs.Rows.{last_passing}
+use Rattle.gx_local.specs.Store.{Store, Write, is_shown_from, shown_row_from}
+use Rattle.gx_store.specs.Marks.{is_same_gxid, is_same_rid}
+use Rattle.gx_store.specs.Rows.{row_at}
+use Rattle.gx_rules.specs.Segments.{Seg, Version, has_committed, local_of}
+use Rattle.gx_rules.specs.Shown.{counts, last_images, shown}
+use Rattle.gx_shown.specs.Last.{counting, last_image, row_of}
+use Rattle.gx_shown.proofs.Kept.{image_in-last_images, in_order-last_images}
+use Rattle.gx_shown.proofs.Rows.{rising-rows_in, row_at-rows_in, rows-same}
+use Rattle.gx_slices.specs.Agrees.{has_version, is_of_row, write_of}
+use Rattle.gx_slices.specs.Apart.{IsStored}
+use Rattle.gx_slices.proofs.Gxids.{itself}
+use Rattle.gx_slices.proofs.Lists.{all_map, last_passing-cons, or_any, or_none}
+
+-- THE LAST THAT PASSES
+mapped_or : (o : Option Write) (w : Write) → option_map (λ x. x.image) (option_or o (Some w)) ≡ option_or (option_map (λ x. x.image) o) (Some w.image)
+mapped_or None w = refl
+mapped_or (Some x) w = refl
+
+module _ (p : Write → Bool) (q : Version → Bool) (table : Table) (rid : Rid) where
+  abbrev image_of : List Version → Option (Option (List Value))
+  image_of vs = option_map (λ w. w.image) (last_passing p (map write_of vs))
+
+  more : (v : Version) (vs us : List Version) (t r x : Bool) → is_same_rid v.rid rid ≡ r → p (write_of v) ≡ x → image_of vs ≡ last_image rid us → image_of (if t && r then v ∷ vs else vs) ≡ last_image rid (if t && x then v ∷ us else us)
+  more v vs us false r x e f same = same
+  more v vs us true true true e f same =
+      ap (option_map (λ w. w.image)) (last_passing-cons p (write_of v) (map write_of vs) ∙ ap (λ (b : Bool). option_or (last_passing p (map write_of vs)) (cond b (Some (write_of v)) None)) f)
+      ∙ mapped_or (last_passing p (map write_of vs)) (write_of v)
+      ∙ ap (λ o. option_or o (Some v.image)) same
+      ∙ ap (λ (b : Bool). option_or (last_image rid us) (if b then Some v.image else None)) (sym e)
+  more v vs us true true false e f same =
+      ap
+      (option_map (λ w. w.image))
+      (last_passing-cons p (write_of v) (map write_of vs) ∙ ap (λ (b : Bool). option_or (last_passing p (map write_of vs)) (cond b (Some (write_of v)) None)) f ∙ or_none (last_passing p (map write_of vs)))
+      ∙ same
+  more v vs us true false true e f same = same ∙ sym (ap (λ (b : Bool). option_or (last_image rid us) (if b then Some v.image else None)) e ∙ or_none (last_image rid us))
+  more v vs us true false false e f same = same
+
+  -- the last write that passes tells of the last version that counts
+  last_image-passing : (vs : List Version) → AllByRecursion (λ v. p (write_of v) ≡ q v) vs → image_of (filter (is_of_row table rid) vs) ≡ last_image rid (filter (λ v. (eqb v.table.0 table.0) && q v) vs)
+  last_image-passing [] all = refl
+  last_image-passing (v ∷ vs) all =
+      more v (filter (is_of_row table rid) vs) (filter (λ v. (eqb v.table.0 table.0) && q v) vs) (eqb v.table.0 table.0) (is_same_rid v.rid rid) (q v) refl all.0 (last_image-passing vs all.1)
+
+-- who wrote a version has written
+all_there : (vs : List Version) → AllByRecursion (λ v. list_any (λ u. is_same_gxid u.gxid v.gxid) vs ≡ true) vs
+all_there [] = tt
+all_there (v ∷ vs) = (
+  ap (λ (b : Bool). b || list_any (λ u. is_same_gxid u.gxid v.gxid) vs) (itself v.gxid.0),
+  all_map (λ w e. ap (λ (b : Bool). is_same_gxid v.gxid w.gxid || b) e ∙ or_any (is_same_gxid v.gxid w.gxid)) vs (all_there vs),
+)
+
+as_row : (o : Option Write) → option_and_then (λ w. w.image) o ≡ row_of (option_map (λ w. w.image) o)
+as_row None = refl
+as_row (Some w) = refl
+
+module _ (store : Store) (s : Seg) (is : IsStored store s) (snap : Snapshot) (g : Gxid) (c : Cid) where
+  -- a write is shown where its version counts
+  agrees : (v : Version) → has_version s v.gxid ≡ true → is_shown_from store snap (Some g) c (write_of v) ≡ counts s snap g c v
+  agrees v there =
+      let own = eqb v.gxid.0 g.0 && ltb v.cid.0 c.0 in
+      ap (λ (b : Bool). own || (b && (ltb v.gxid.0 store.horizon.0 || sees snap v.gxid))) (is.committed v.gxid ∙ ap (λ (b : Bool). b && has_committed (local_of s v.gxid).phase) there)
+      ∙ ap (λ (h : Gxid). own || (has_committed (local_of s v.gxid).phase && (ltb v.gxid.0 h.0 || sees snap v.gxid))) is.horizon
+
+  module _ (table : Table) where
+    shown_row_from-counting : (rid : Rid) → shown_row_from store snap (Some g) c table rid ≡ row_of (last_image rid (counting s snap g c table))
+    shown_row_from-counting rid =
+        ap (λ (ws : List Write). option_and_then (λ w. w.image) (last_passing (is_shown_from store snap (Some g) c) ws)) (is.writes table rid)
+        ∙ as_row (last_passing (is_shown_from store snap (Some g) c) (map write_of (filter (is_of_row table rid) s.versions)))
+        ∙ ap row_of (last_image-passing (is_shown_from store snap (Some g) c) (counts s snap g c) table rid s.versions (all_map agrees s.versions (all_there s.versions)))
+
+    -- the rows that the store shows are the rule's
+    pub rows-shown : (rows : List KeyedRow) → AreRising rows → ((rid : Rid) → row_at rows rid ≡ shown_row_from store snap (Some g) c table rid) → rows ≡ shown s snap g c table
+    rows-shown rows rising images =
+        let vs = counting s snap g c table in
+        rows-same rows (shown s snap g c table) rising (rising-rows_in (last_images vs) (in_order-last_images vs))
+        (λ rid. images rid ∙ shown_row_from-counting rid ∙ sym (row_at-rows_in (last_images vs) rid (in_order-last_images vs) ∙ ap row_of (image_in-last_images vs rid)))

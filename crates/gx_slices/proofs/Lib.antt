@@ -1,0 +1,9 @@
+pub mod Adding
+pub mod Closing
+pub mod Counting
+pub mod Gxids
+pub mod Lists
+pub mod Placing
+pub mod Rightness
+pub mod Turning
+pub mod Unconditional

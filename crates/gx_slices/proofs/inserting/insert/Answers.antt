@@ -1,0 +1,40 @@
+use Rattle.std.proofs.Common.{◌∙◌, ℕ, Bool, List, [], length, refl, subst, ap}
+use Rattle.gx_tree.specs.declared.part.Part.TheVariants.{Rows}
+use Rattle.gx_tree.specs.declared.row.KeyedRow.{KeyedRow}
+use Rattle.gx_msg.specs.declared.reply.Reply.{Reply}
+use Rattle.gx_msg.specs.declared.reply.Reply.TheVariants.{Done}
+use Rattle.gx_rules.specs.Segments.{Local, local_of}
+use Rattle.gx_rules.specs.Slices.{has_written, inserted}
+use Rattle.gx_slices.specs.Inserts.{IsInserted}
+use Rattle.gx_slices.specs.declared.held.Held.{Held}
+use Rattle.gx_slices.specs.declared.running.Ran.{Ran}
+use Rattle.gx_slices.proofs.Closing.{IsHeld-back}
+use Rattle.gx_slices.proofs.Rightness.{right-insert, typed-inserted}
+use Rattle.gx_slices.proofs.Turning.{HasRun-answers}
+use Rattle.gx_slices.proofs.inserting.insert.Goals as goal
+
+pub returns : goal.returns
+returns g c =
+    let tables = c.args.tables.now in
+    let held = c.args.held.now in
+    let gxid = c.args.gxid in
+    let cid = c.args.cid in
+    let rows = c.args.rows in
+    let is = c.requires.0 in
+    let may = c.requires.1.0 in
+    let store = c.insert_rows.new.store in
+    let entry = c.insert_rows.new.entry in
+    let new = c.keep_answer.new.held in
+    let m = inserted g.s gxid cid c.args.table rows in
+    let put = subst (λ (l : List KeyedRow). IsInserted g.s gxid cid c.args.table l store entry c.in_ok-marks.marks.items) c.into_vec.ensures c.in_ok-marks.ensures in
+    let typed = typed-inserted tables gxid cid c.args.table g.s rows is.typed (right-insert tables gxid cid c.args.table rows may.right) in
+    let mid : Held = record { store = store; entries = c.take_entry-entry.new.entries; holders = held.holders } in
+    let reply : Reply = Done cid c.has_written.result c.len-count.result (Rows c.new.result) in
+    let back = IsHeld-back tables held mid new g.s m.seg gxid cid entry reply is put.apart c.take_entry-entry.ensures.others refl c.in_ok-keep_answer.ensures typed in
+    let ran : Ran = record { marks = c.from_vec.result; reply = reply } in
+    let wrote = c.has_written.ensures ∙ ap (λ (l : Local). has_written l.phase) put.apart.local in
+    HasRun-answers tables new gxid cid m.seg ran m.marks (Done cid (has_written (local_of m.seg gxid).phase) (length rows) (Rows [])) back
+    (c.from_vec.ensures ∙ put.told)
+    (ap (λ (b : Bool). Done cid b c.len-count.result (Rows c.new.result)) wrote
+    ∙ ap (λ (n : ℕ). Done cid (has_written (local_of m.seg gxid).phase) n (Rows c.new.result)) c.len-count.ensures
+    ∙ ap (λ (l : List KeyedRow). Done cid (has_written (local_of m.seg gxid).phase) (length rows) (Rows l)) c.new.ensures)

@@ -1,0 +1,68 @@
+-- What a segment holds, against the data of its rule. Of transactions below the horizon only the versions and who has
+-- committed are asked for; their records may have been dropped.
+use Rattle.std.specs.Prelude.{◌≡◌, ◌≤◌, ◌==◌, Bool, true, false, ◌&&◌, is_some, List, [], filter, map, All, IsTrue, slice_get, Some, None}
+use Rattle.std.specs.declared.option.Option.{Option}
+use Rattle.std.specs.List.{list_any}
+use Rattle.std.specs.Map.{lookup}
+use Rattle.std.specs.BTreeMap.{is_at}
+use Rattle.std.specs.BTreeSet.{contains}
+use Rattle.gx_ids.specs.declared.ids.Gxid.{Gxid}
+use Rattle.gx_ids.specs.declared.ids.Table.{Table}
+use Rattle.gx_ids.specs.declared.rid.Rid.{Rid}
+use Rattle.gx_tree.specs.declared.schema.Schema.{Schema}
+use Rattle.gx_tree.specs.declared.value.Value.{Value}
+use Rattle.gx_dsnap.specs.Gxids.{gxid_cmp}
+use Rattle.gx_msg.specs.declared.item.Kept.{Kept}
+use Rattle.gx_store.specs.Marks.{is_same_gxid, is_same_rid}
+use Rattle.gx_visible.specs.Counts.{is_committed}
+use Rattle.gx_local.specs.Store.{Write, passes, status_of, writes_of}
+use Rattle.gx_phases.specs.Phases.{local_of}
+use Rattle.gx_rules.specs.Fits.{holds_locks, is_right_row, kinds_in}
+use Rattle.gx_rules.specs.Segments as rule
+use Rattle.gx_rules.specs.Segments.{Seg, Version, has_committed, new_local}
+use Rattle.gx_rules.specs.Shown.{kept_of}
+use Rattle.gx_slices.specs.declared.held.Entry.{Entry}
+use Rattle.gx_slices.specs.declared.held.Held.{Held}
+
+-- TRANSACTIONS
+abbrev pub local_in : Option Entry → rule.Local
+local_in None = new_local
+local_in (Some e) = local_of e.local
+
+abbrev pub rows_in : Option Entry → List Kept
+rows_in None = []
+rows_in (Some e) = e.kept
+
+abbrev pub entry_at : Held → Gxid → Option Entry
+entry_at held g = lookup (is_at (gxid_cmp g)) held.entries.entries
+
+-- VERSIONS
+abbrev pub write_of : Version → Write
+write_of v = record { gxid = v.gxid; cid = v.cid; image = v.image }
+
+abbrev pub is_of_row : Table → Rid → Version → Bool
+is_of_row table rid v = (v.table.0 == table.0) && is_same_rid v.rid rid
+
+-- the transaction has written here
+abbrev pub has_version : Seg → Gxid → Bool
+has_version s g = list_any (λ v. is_same_gxid v.gxid g) s.versions
+
+-- a row has a value of each of its table's kinds
+abbrev pub is_right_image : Option Schema → Option (List Value) → Bool
+is_right_image (Some schema) (Some row) = is_right_row (kinds_in schema) row
+is_right_image (Some schema) None = true
+is_right_image None image = false
+
+abbrev pub is_right_version : List Schema → Version → Bool
+is_right_version tables v = is_right_image (slice_get tables v.table.0) v.image
+
+-- what is held says the same as the rule's data
+pub record IsHeld (tables : List Schema) (held : Held) (s : Seg) : Type 0 where
+  pub horizon : held.store.horizon ≡ s.horizon
+  pub locals : (g : Gxid) → s.horizon.0 ≤ g.0 → local_in (entry_at held g) ≡ rule.local_of s g
+  pub kept : (g : Gxid) → s.horizon.0 ≤ g.0 → rows_in (entry_at held g) ≡ kept_of s g
+  pub holders : (g : Gxid) → contains gxid_cmp held.holders g ≡ holds_locks (rule.local_of s g)
+  pub writes : (table : Table) (rid : Rid) → writes_of held.store table rid ≡ map write_of (filter (is_of_row table rid) s.versions)
+  pub wrote : (g : Gxid) → is_some (status_of held.store g) ≡ has_version s g
+  pub committed : (g : Gxid) → passes is_committed (status_of held.store g) ≡ (has_version s g && has_committed (rule.local_of s g).phase)
+  pub typed : All (λ v. IsTrue (is_right_version tables v)) s.versions

@@ -1,0 +1,6 @@
+pub mod Kept
+pub mod Agrees
+pub mod Ran
+pub mod Apart
+pub mod Inserts
+pub mod Picked

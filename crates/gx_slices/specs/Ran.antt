@@ -1,0 +1,29 @@
+-- When a command may run at a segment, and that it has run.
+use Rattle.std.specs.Prelude.{◌≡◌, ◌≤◌, Bool, true, false, List, [], ◌∷◌, None}
+use Rattle.gx_ids.specs.declared.ids.Cid.{Cid}
+use Rattle.gx_ids.specs.declared.ids.Gxid.{Gxid}
+use Rattle.gx_tree.specs.declared.schema.Schema.{Schema}
+use Rattle.gx_tree.specs.declared.slice.Slice.{Slice}
+use Rattle.gx_fits.specs.Right.{IsRightFor}
+use Rattle.gx_rules.specs.Segments.{Phase, Reading, Writing, Seg, SegTurn, local_of, reply}
+use Rattle.gx_slices.specs.Agrees.{IsHeld}
+use Rattle.gx_slices.specs.declared.held.Held.{Held}
+use Rattle.gx_slices.specs.declared.running.Ran.{Ran}
+
+-- the transaction has neither promised anything nor ended here
+abbrev pub is_open : Phase → Bool
+is_open Reading = true
+is_open Writing = true
+is_open _ = false
+
+pub record MayRun (tables : List Schema) (s : Seg) (g : Gxid) (c : Cid) (slice : Slice) : Type 0 where
+  pub alive : s.horizon.0 ≤ g.0
+  pub open_here : is_open (local_of s g).phase ≡ true
+  pub right : IsRightFor tables g c slice true
+
+-- what is held afterwards, the marks and the answer are the turn's
+pub record HasRun (tables : List Schema) (held : Held) (g : Gxid) (ran : Ran) (turn : SegTurn) : Type 0 where
+  pub agrees : IsHeld tables held turn.seg
+  pub marks : ran.marks ≡ turn.marks
+  pub outs : turn.outs ≡ reply g ran.reply ∷ []
+  pub item : turn.item ≡ None

@@ -1,0 +1,38 @@
+// The answer of a command is kept.
+ghost use Rattle.std.specs.Prelude.{◌≡◌, OnOk};
+ghost use Rattle.gx_phases.specs.Phases.{phase_of};
+ghost use Rattle.gx_rules.specs.Slices as rule;
+ghost use Rattle.gx_slices.specs.Apart.{IsBack, answered};
+
+use crate::entries::{put_entry, set_holder};
+use crate::held::{Entry, Held};
+use gx_ids::{Cid, Duplicate, Gxid, Mem};
+use gx_msg::Reply;
+use gx_phases::Phase;
+use std::alloc::Global;
+
+pub(crate) fn has_written(phase: Phase) -> bool
+    ensures { result ≡ rule.has_written (phase_of phase) }
+{
+    match phase {
+        Phase::Reading => false,
+        _ => true,
+    }
+}
+
+// Puts back the entry of a transaction that has neither promised nor ended here, with its last command and the answer to it.
+pub(crate) fn keep_answer(
+    alloc: Global,
+    held: &mut Held,
+    gxid: Gxid,
+    cid: Cid,
+    mut entry: Entry,
+    reply: &Reply,
+) -> Mem<()>
+    ensures { OnOk result (IsBack held.old held.new gxid cid (answered entry cid reply.now)) }
+{
+    entry.local.last = cid.0;
+    entry.local.answer = Some(reply.copy(alloc)?);
+    put_entry(&mut held.entries, gxid, entry)?;
+    set_holder(&mut held.holders, gxid, cid.0 > 0)
+}

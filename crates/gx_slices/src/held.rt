@@ -1,0 +1,21 @@
+use crate::kept::KeptRows;
+use gx_ids::Gxid;
+use gx_local::LocalStore;
+use gx_phases::Local;
+use std::collections::{BTreeMap, BTreeSet};
+
+/// A transaction at a segment: where it stands, and what it wrote here.
+#[derive(Drop)]
+pub struct Entry {
+    pub local: Local,
+    pub kept: KeptRows,
+}
+
+/// What a segment holds: the rows, the transactions that aren't below the horizon, and those that hold locks here. The
+/// horizon is the store's.
+#[derive(Drop)]
+pub struct Held {
+    pub store: LocalStore,
+    pub entries: BTreeMap<Gxid, Entry>,
+    pub holders: BTreeSet<Gxid>,
+}

@@ -1,0 +1,48 @@
+ghost use Rattle.std.specs.Prelude.{◌≡◌, Some, IfOk};
+ghost use Rattle.gx_rules.specs.Segments.{Seg};
+ghost use Rattle.gx_rules.specs.Slices.{runs_slice};
+ghost use Rattle.gx_slices.specs.Agrees.{IsHeld};
+ghost use Rattle.gx_slices.specs.Ran.{HasRun, MayRun};
+
+use crate::held::Held;
+use crate::inserting::insert;
+use crate::selecting::select;
+use gx_dsnap::Snapshot;
+use gx_ids::{Cid, Gxid, Mem, Node, Seq};
+use gx_msg::Reply;
+use gx_store::Mark;
+use gx_tree::{Schema, Slice};
+use std::alloc::Global;
+
+/// What a command did here: its marks in order, and its answer, which is kept besides as the transaction's last.
+#[derive(Debug, Drop)]
+pub struct Ran {
+    pub marks: Seq<Mark>,
+    pub reply: Reply,
+}
+
+/// Runs a command's slice for a transaction that reads or writes here, and keeps its answer. A SELECT answers the rows that
+/// the snapshot shows and on which its condition is true, or FAILED for the first fault; an INSERT adds its rows. After want
+/// of memory what is held is spent.
+pub fn run_slice(
+    alloc: Global,
+    tables: &[Schema],
+    node: Node,
+    held: &mut Held,
+    gxid: Gxid,
+    cid: Cid,
+    snapshot: &Snapshot,
+    slice: Slice,
+) -> Mem<Ran>
+    ghost s: { Seg }
+    requires held { IsHeld tables.now held.old s }
+    requires may { MayRun tables.now s gxid cid slice }
+    requires node { node ≡ s.node }
+    ensures { IfOk result (λ ran. HasRun tables.now held.new gxid ran (runs_slice s gxid cid (Some snapshot.now) slice)) }
+{
+    match slice {
+        Slice::Select(query) => select(alloc, tables, held, gxid, cid, snapshot, query),
+        Slice::Insert(table, rows) => { insert(alloc, tables, node, held, gxid, cid, table, rows) }
+        _ => unreachable!(),
+    }
+}

@@ -1,0 +1,104 @@
+// A SELECT at a segment.
+ghost use Rattle.std.specs.Prelude.{◌≡◌, Some, IfOk};
+ghost use Rattle.gx_rules.specs.Segments.{Seg};
+ghost use Rattle.gx_rules.specs.Slices.{cause_of, runs_slice};
+ghost use Rattle.gx_tree.specs.declared.slice.Slice.TheVariants as slice;
+ghost use Rattle.gx_slices.specs.Agrees.{IsHeld};
+ghost use Rattle.gx_slices.specs.Picked.{AreTypedOn, IsFaulted, IsSelected};
+ghost use Rattle.gx_slices.specs.Ran.{HasRun, MayRun};
+
+use crate::answering::{has_written, keep_answer};
+use crate::entries::take_entry;
+use crate::held::Held;
+use crate::picking::{Picked, pick};
+use crate::running::Ran;
+use gx_dsnap::Snapshot;
+use gx_eval::ArithFault;
+use gx_gather::partial;
+use gx_ids::{Cid, Gxid, Mem, Seq};
+use gx_msg::{Cause, Reply};
+use gx_store::Mark;
+use gx_tree::{KeyedRow, Query, Schema};
+use std::alloc::Global;
+
+pub(crate) fn select(
+    alloc: Global,
+    tables: &[Schema],
+    held: &mut Held,
+    gxid: Gxid,
+    cid: Cid,
+    snapshot: &Snapshot,
+    query: Query,
+) -> Mem<Ran>
+    ghost s: { Seg }
+    requires held { IsHeld tables.now held.old s }
+    requires may { MayRun tables.now s gxid cid (slice.Select query) }
+    ensures { IfOk result (λ ran. HasRun tables.now held.new gxid ran (runs_slice s gxid cid (Some snapshot.now) (slice.Select query))) }
+{
+    let rows = held
+        .store
+        .shown_rows_from(query.table, snapshot, Some(gxid), cid)?;
+    let entry = take_entry(alloc, &mut held.entries, gxid);
+    let wrote = has_written(entry.local.phase);
+    let ran = selection(alloc, gxid, cid, wrote, &query, rows)?;
+    keep_answer(alloc, held, gxid, cid, entry, &ran.reply)?;
+    Ok(ran)
+}
+
+// What the query comes to on the rows that are shown.
+fn selection(
+    alloc: Global,
+    gxid: Gxid,
+    cid: Cid,
+    wrote: bool,
+    query: &Query,
+    rows: Vec<KeyedRow>,
+) -> Mem<Ran>
+    requires { AreTypedOn query.now.cond rows.items }
+    ensures { IfOk result (IsSelected gxid cid wrote query.now rows.items) }
+{
+    match pick(alloc, &query.cond, rows)? {
+        Picked::Rows(kept) => {
+            let part = partial(alloc, query, kept.as_slice())?;
+            Ok(Ran {
+                marks: Seq::new(alloc),
+                reply: Reply::Done {
+                    cid,
+                    wrote,
+                    count: 0,
+                    part,
+                },
+            })
+        }
+        Picked::Fault(row, fault) => faulted(alloc, gxid, cid, row, fault),
+    }
+}
+
+fn faulted(alloc: Global, gxid: Gxid, cid: Cid, row: KeyedRow, fault: ArithFault) -> Mem<Ran>
+    ensures { IfOk result (IsFaulted gxid cid row fault) }
+{
+    let KeyedRow { rid, row } = row;
+    let mut marks = Seq::new(alloc);
+    marks.push(Mark::Fault {
+        gxid,
+        cid,
+        rid,
+        image: Some(row),
+    })?;
+    Ok(Ran {
+        marks,
+        reply: Reply::Failed {
+            cid,
+            cause: cause(fault),
+        },
+    })
+}
+
+fn cause(fault: ArithFault) -> Cause
+    ensures { result ≡ cause_of fault }
+{
+    match fault {
+        ArithFault::Overflow => Cause::Overflow,
+        ArithFault::DivisionByZero => Cause::DivisionByZero,
+    }
+}
