@@ -1,0 +1,140 @@
+-- What a message came to.
+use Rattle.std.proofs.Common.{◌≡◌, ℕ, ◌≤◌, Bool, true, false, if◌then◌else◌, Option, Some, None, List, [], refl, sym, ap, ◌∙◌, subst, arith}
+use Rattle.std.proofs.lemmas.Bool.Decides.{nat_tests}
+use Rattle.gx_ids.specs.declared.ids.Cid.{Cid}
+use Rattle.gx_ids.specs.declared.ids.Gxid.{Gxid}
+use Rattle.gx_ids.specs.declared.ids.Node.{Node}
+use Rattle.std.specs.Prelude.{◌&&◌, not, nat_le}
+use Rattle.gx_tree.specs.declared.schema.Schema.{Schema}
+use Rattle.gx_tree.specs.declared.slice.Slice.{Slice}
+use Rattle.gx_dsnap.specs.Gxids.{is_below}
+use Rattle.gx_dsnap.specs.declared.snapshot.Snapshot.{Snapshot}
+use Rattle.gx_dtx.specs.declared.order.Order.{Order}
+use Rattle.gx_msg.specs.declared.item.JournalItem.{JournalItem}
+use Rattle.gx_msg.specs.declared.item.Kept.{Kept}
+use Rattle.gx_msg.specs.declared.reply.Reply.{Reply}
+use Rattle.gx_phases.specs.Changes.{Change, change_of, marks_in, outs_in, turn_of}
+use Rattle.gx_phases.specs.Orders.{AreItems}
+use Rattle.gx_phases.specs.declared.local.Taken.{Taken}
+use Rattle.gx_phases.proofs.Turns.{turn-makes}
+use Rattle.gx_rules.specs.AtSegment.{if_fits, on_exec}
+use Rattle.gx_rules.specs.Fits.{holds_locks, is_right_slice}
+use Rattle.gx_rules.specs.Maps.{each_below}
+use Rattle.gx_rules.specs.Segments.{Local, Seg, SegTurn, local_of, stays, tells_kept}
+use Rattle.gx_rules.specs.Shown.{kept_of}
+use Rattle.gx_rules.specs.Slices.{runs_slice}
+use Rattle.gx_script.specs.declared.Script.{Script}
+use Rattle.gx_slices.specs.Agrees.{IsHeld, entry_at, local_in, rows_in}
+use Rattle.gx_slices.specs.Ran.{HasRun}
+use Rattle.gx_slices.specs.declared.held.Held.{Held}
+use Rattle.gx_slices.specs.declared.running.Ran.{Ran}
+use Rattle.gx_segment.specs.Done.{HasDone, answer_of, to_coordinator}
+use Rattle.gx_segment.specs.Moves.{HasMoved, order_turn}
+use Rattle.gx_segment.specs.Ways.{exec_turn}
+use Rattle.gx_segment.specs.declared.done.Done.{Done}
+use Rattle.gx_segment.proofs.Following.{follows-change_of}
+use Rattle.gx_segment.proofs.Keeping.{horizon-runs_slice}
+use Rattle.gx_segment.proofs.Moving.{IsHeld-moved}
+
+out-answer_of : (g : Gxid) (r : Option Reply) → to_coordinator (answer_of g r) ≡ outs_in g r
+out-answer_of g None = refl
+out-answer_of g (Some r) = refl
+
+abbrev pub no_done : Done
+no_done = record { marks = []; answer = None; fails = false }
+
+HasDone-stays : (tables : List Schema) (held : Held) (horizon : Gxid) (s : Seg) → IsHeld tables held s → horizon ≡ s.horizon → HasDone tables held horizon no_done (stays s)
+HasDone-stays tables held horizon s is e = record { held = is; horizon = e; marks = refl; outs = refl }
+
+HasDone-kept : (tables : List Schema) (held : Held) (horizon : Gxid) (s : Seg) (g : Gxid) (answer : Option Reply) → IsHeld tables held s → horizon ≡ s.horizon → HasDone tables held horizon (record { marks = []; answer = answer_of g answer; fails = false }) (tells_kept s g answer)
+HasDone-kept tables held horizon s g None is e = record { held = is; horizon = e; marks = refl; outs = refl }
+HasDone-kept tables held horizon s g (Some r) is e = record { held = is; horizon = e; marks = refl; outs = refl }
+
+-- ORDERS
+module _ (o : Order) (s : Seg) (g : Gxid) (fails : Bool) where
+  abbrev made : Change
+  made = change_of o s.node g (kept_of s g) fails (local_of s g)
+
+  above : s.horizon.0 ≤ g.0 → order_turn o s g fails ≡ turn_of o s g fails (local_of s g)
+  above alive = ap (λ (b : Bool). if b then stays s else turn_of o s g fails (local_of s g)) (not_below alive)
+    where
+      not_below : s.horizon.0 ≤ g.0 → is_below s.horizon g ≡ false
+      not_below alive = grind (arith, nat_tests)
+
+  -- the change that was made is the rule's
+  made-held : (tables : List Schema) (held : Held) (node : Node) → IsHeld tables held s → node ≡ s.node → s.horizon.0 ≤ g.0 → change_of o node g (rows_in (entry_at held g)) fails (local_in (entry_at held g)) ≡ made
+  made-held tables held node is e alive =
+      ap (λ (i : Node). change_of o i g (rows_in (entry_at held g)) fails (local_in (entry_at held g))) e
+      ∙ ap (λ (ks : List Kept). change_of o s.node g ks fails (local_in (entry_at held g))) (is.kept g alive)
+      ∙ ap (λ (l : Local). change_of o s.node g (kept_of s g) fails l) (is.locals g alive)
+
+  HasDone-ordered : (tables : List Schema) (held held' : Held) (horizon : Gxid) (change : Change) (taken : Taken) (done : Done) → IsHeld tables held s → horizon ≡ s.horizon → s.horizon.0 ≤ g.0 → HasMoved held held' g change taken → change ≡ made → done ≡ record { marks = marks_in taken.mark; answer = answer_of g taken.reply; fails = fails } → HasDone tables held' horizon done (order_turn o s g fails)
+  HasDone-ordered tables held held' horizon change taken done is e alive moved same d =
+      let makes = turn-makes o s g fails in
+      let m : HasMoved held held' g made taken = subst (λ (c : Change). HasMoved held held' g c taken) same moved in
+      subst (HasDone tables held' horizon done) (sym (above alive)) (record {
+        held = IsHeld-moved tables held held' s g made taken (turn_of o s g fails (local_of s g)) is m makes (follows-change_of o s.node g (kept_of s g) fails (local_of s g));
+        horizon = e ∙ sym (ap (λ (x : Seg). x.horizon) makes.others);
+        marks = ap (λ (x : Done). x.marks) d ∙ ap marks_in m.mark ∙ sym makes.marks;
+        outs = ap (λ (x : Done). to_coordinator x.answer) d ∙ out-answer_of g taken.reply ∙ ap (outs_in g) m.reply ∙ sym makes.outs;
+      })
+
+  item-ordered : (change : Change) → s.horizon.0 ≤ g.0 → change ≡ made → change.item ≡ (order_turn o s g fails).item
+  item-ordered change alive same =
+      let makes = turn-makes o s g fails in ap (λ (c : Change). c.item) same ∙ sym makes.item ∙ sym (ap (λ (t : SegTurn). t.item) (above alive))
+
+-- SLICES
+HasDone-ran : (tables : List Schema) (held : Held) (horizon : Gxid) (g : Gxid) (ran : Ran) (turn : SegTurn) → HasRun tables held g ran turn → horizon ≡ turn.seg.horizon → HasDone tables held horizon (record { marks = ran.marks; answer = answer_of g (Some ran.reply); fails = false }) turn
+HasDone-ran tables held horizon g ran turn run e = record { held = run.agrees; horizon = e; marks = run.marks; outs = sym run.outs }
+
+pub HasDone-run : (tables tables' : List Schema) (held : Held) (horizon : Gxid) (s s' : Seg) (g : Gxid) (c : Cid) (snapshot : Snapshot) (slice : Slice) (ran : Ran) (done : Done) → HasRun tables' held g ran (runs_slice s' g c (Some snapshot) slice) → tables' ≡ tables → s' ≡ s → horizon ≡ s.horizon → done ≡ record { marks = ran.marks; answer = answer_of g (Some ran.reply); fails = false } → HasDone tables held horizon done (runs_slice s g c (Some snapshot) slice)
+HasDone-run tables tables' held horizon s s' g c snapshot slice ran done run t same e d =
+    let turn = runs_slice s g c (Some snapshot) slice in
+    let r : HasRun tables held g ran turn = subst (λ (ts : List Schema). HasRun ts held g ran turn) t (subst (λ (x : Seg). HasRun tables' held g ran (runs_slice x g c (Some snapshot) slice)) same run) in
+    subst (λ (x : Done). HasDone tables held horizon x turn) (sym d) (HasDone-ran tables held horizon g ran turn r (e ∙ sym (horizon-runs_slice s g c (Some snapshot) slice)))
+
+pub HasDone-told : (tables : List Schema) (held : Held) (s : Seg) (g : Gxid) (r : Option Reply) (done : Done) → IsHeld tables held s → s.horizon.0 ≤ g.0 → r ≡ (local_in (entry_at held g)).answer → done ≡ record { marks = []; answer = answer_of g r; fails = false } → HasDone tables held s.horizon done (tells_kept s g (local_of s g).answer)
+HasDone-told tables held s g r done is alive e d =
+    let same : r ≡ (local_of s g).answer = e ∙ ap (λ (l : Local). l.answer) (is.locals g alive) in
+    subst (λ (x : Done). HasDone tables held s.horizon x (tells_kept s g (local_of s g).answer)) (sym d)
+    (subst (λ (x : Option Reply). HasDone tables held s.horizon (record { marks = []; answer = answer_of g r; fails = false }) (tells_kept s g x)) same (HasDone-kept tables held s.horizon s g r is refl))
+
+-- without a snapshot nothing is done
+never : (a b c : Bool) → (a && (b && (false && c))) ≡ false
+never true true c = refl
+never true false c = refl
+never false b c = refl
+
+either : (s : Seg) (b : Bool) (turn : SegTurn) → (if b then stays s else (if_fits s false turn)) ≡ stays s
+either s true turn = refl
+either s false turn = refl
+
+exec_turn-none : (script : Script) (s : Seg) (g : Gxid) (c : Cid) (h : Gxid) (slice : Slice) → exec_turn script s g c None h slice ≡ stays s
+exec_turn-none script s g c h slice =
+    let turn = on_exec s g c None h slice (local_of s g) (local_of s g).phase in
+    ap (λ (b : Bool). if is_below s.horizon g then stays s else if_fits s b turn) (never (nat_le h.0 g.0) (each_below h.0 (λ n. not (holds_locks (s.locals n)))) (is_right_slice script g c slice))
+    ∙ either s (is_below s.horizon g) turn
+
+-- AN ORDER IS DONE
+module _ (o : Order) (s : Seg) (g : Gxid) (tables : List Schema) (held : Held) (node : Node) (taken : Taken) (done : Done) (is : IsHeld tables held s) (n : node ≡ s.node) (alive : s.horizon.0 ≤ g.0) (d : done ≡ record { marks = marks_in taken.mark; answer = answer_of g taken.reply; fails = taken.fails }) where
+  abbrev change : Change
+  change = change_of o node g (rows_in (entry_at held g)) taken.fails (local_in (entry_at held g))
+
+  abbrev turn : Bool → SegTurn
+  turn b = order_turn o s g b
+
+  pub HasDone-order : (held' : Held) (horizon : Gxid) → horizon ≡ s.horizon → HasMoved held held' g change taken → HasDone tables held' horizon done (turn done.fails)
+  HasDone-order held' horizon e moved =
+      subst (λ (b : Bool). HasDone tables held' horizon done (turn b)) (sym (ap (λ (x : Done). x.fails) d))
+      (HasDone-ordered o s g taken.fails tables held held' horizon change taken done is e alive moved (made-held o s g taken.fails tables held node is n alive) d)
+
+  pub AreItems-order : (before after : List (List ℕ)) → AreItems before after taken.fails change.item → AreItems before after done.fails (turn done.fails).item
+  AreItems-order before after items =
+      subst (λ (b : Bool). AreItems before after b (turn b).item) (sym (ap (λ (x : Done). x.fails) d))
+      (subst (λ (it : Option JournalItem). AreItems before after taken.fails it) (item-ordered o s g taken.fails change alive (made-held o s g taken.fails tables held node is n alive)) items)
+
+pub HasDone-none : (script : Script) (s : Seg) (g : Gxid) (c : Cid) (snapshot : Option Snapshot) (h : Gxid) (slice : Slice) (tables : List Schema) (held : Held) (horizon : Gxid) (done : Done) → IsHeld tables held s → horizon ≡ s.horizon → snapshot ≡ None → done ≡ no_done → HasDone tables held horizon done (exec_turn script s g c snapshot h slice)
+HasDone-none script s g c snapshot h slice tables held horizon done is e none d =
+    subst (λ (o : Option Snapshot). HasDone tables held horizon done (exec_turn script s g c o h slice)) (sym none)
+    (subst (λ (t : SegTurn). HasDone tables held horizon done t) (sym (exec_turn-none script s g c h slice))
+    (subst (λ (x : Done). HasDone tables held horizon x (stays s)) (sym d) (HasDone-stays tables held horizon s is e)))

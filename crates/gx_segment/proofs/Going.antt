@@ -1,0 +1,101 @@
+-- Which way a command goes.
+use Rattle.std.proofs.Common.{◌≡◌, ◌≤◌, Bool, true, false, if◌then◌else◌, List, refl, sym, ap, ◌∙◌, eqb, arith, subst}
+use Rattle.std.proofs.lemmas.Bool.Decides.{nat_tests}
+use Rattle.std.specs.Prelude.{◌&&◌, not, nat_le, nat_lt, Some, slice_get}
+use Rattle.gx_ids.specs.declared.ids.Cid.{Cid}
+use Rattle.gx_ids.specs.declared.ids.Gxid.{Gxid}
+use Rattle.gx_tree.specs.declared.schema.Schema.{Schema}
+use Rattle.gx_tree.specs.declared.slice.Slice.{Slice}
+use Rattle.gx_tree.specs.declared.slice.Slice.TheVariants as slice
+use Rattle.gx_dsnap.specs.Gxids.{is_below}
+use Rattle.gx_dsnap.specs.declared.snapshot.Snapshot.{Snapshot}
+use Rattle.gx_fits.specs.Right.{IsRightFor}
+use Rattle.gx_script.specs.declared.Script.{Script}
+use Rattle.gx_rules.specs.AtSegment.{if_fits, on_exec, raised, repeats}
+use Rattle.gx_rules.specs.Fits.{holds_locks, is_right_on, is_right_slice}
+use Rattle.gx_rules.specs.Maps.{each_below}
+use Rattle.gx_rules.specs.Segments.{Local, Phase, Reading, Writing, Prepared, Committed, Forgotten, Aborted, Seg, SegTurn, local_of, stays}
+use Rattle.gx_slices.specs.Ran.{is_open}
+use Rattle.gx_segment.specs.Ways.{Goes, IsWay, again_at, exec_turn, fits_here, turn_by, way_in, way_of}
+use Rattle.gx_segment.specs.declared.commands.Way.{Way}
+use Rattle.gx_segment.specs.declared.commands.Way.TheVariants.{Runs, Repeats, Nothing}
+
+-- what is right is right for each script of these tables
+right-tables : (script other : Script) (g : Gxid) (c : Cid) (sl : Slice) → other.tables ≡ script.tables → is_right_slice script g c sl ≡ is_right_slice other g c sl
+right-tables script other g c (slice.Select query) e = ap (λ (ts : List Schema). is_right_on g c (slice_get ts query.table.0) (slice.Select query)) (sym e)
+right-tables script other g c (slice.Insert table rows) e = ap (λ (ts : List Schema). is_right_on g c (slice_get ts table.0) (slice.Insert table rows)) (sym e)
+right-tables script other g c (slice.Update table assigns cond) e = refl
+right-tables script other g c (slice.Delete table cond) e = refl
+right-tables script other g c (slice.Lock table mode) e = refl
+
+third : (a b c : Bool) → (a && (b && c)) ≡ true → c ≡ true
+third true true c e = e
+third true false c e = absurd (cc)
+third false b c e = absurd (cc)
+
+first : (a b : Bool) → (a && b) ≡ true → a ≡ true
+first true b e = refl
+first false b e = e
+
+module _ (script : Script) (s : Seg) (g : Gxid) (c : Cid) (h : Gxid) (sl : Slice) where
+  abbrev l : Local
+  l = local_of s g
+
+  abbrev after : Snapshot → Phase → SegTurn
+  after snapshot p = on_exec s g c (Some snapshot) h sl l p
+
+  again-turn : (snapshot : Snapshot) (b : Bool) → eqb c.0 l.last ≡ b → repeats s g c l ≡ turn_by (if b then Repeats else Nothing) s g c (Some snapshot) h sl
+  again-turn snapshot true e = rw e refl
+  again-turn snapshot false e = rw e refl
+
+  takes-turn : (snapshot : Snapshot) (b : Bool) → nat_lt l.last c.0 ≡ b → after snapshot Reading ≡ turn_by (if b then Runs else again_at l.last c) s g c (Some snapshot) h sl
+  takes-turn snapshot true e = rw e refl
+  takes-turn snapshot false e = rw e (again-turn snapshot (eqb c.0 l.last) refl)
+
+  way-turn : (snapshot : Snapshot) (p : Phase) → after snapshot p ≡ turn_by (way_in l.last c p) s g c (Some snapshot) h sl
+  way-turn snapshot Reading = takes-turn snapshot (nat_lt l.last c.0) refl
+  way-turn snapshot Writing = takes-turn snapshot (nat_lt l.last c.0) refl
+  way-turn snapshot Prepared = again-turn snapshot (eqb c.0 l.last) refl
+  way-turn snapshot Committed = again-turn snapshot (eqb c.0 l.last) refl
+  way-turn snapshot (Forgotten committed) = refl
+  way-turn snapshot Aborted = refl
+
+  low-raised : s.horizon.0 ≤ g.0 → h.0 ≤ g.0 → (raised s h).horizon.0 ≤ g.0
+  low-raised alive e = grind (arith, nat_tests)
+
+  low : fits_here script s g c h sl ≡ true → h.0 ≤ g.0
+  low fits = let t : nat_le h.0 g.0 ≡ true = first (nat_le h.0 g.0) (each_below h.0 (λ n. not (holds_locks (s.locals n))) && is_right_slice script g c sl) fits in grind (arith, nat_tests)
+
+  right : fits_here script s g c h sl ≡ true → IsRightFor script.tables g c sl true
+  right fits = λ other e. sym (third (nat_le h.0 g.0) (each_below h.0 (λ n. not (holds_locks (s.locals n)))) (is_right_slice script g c sl) fits) ∙ right-tables script other g c sl e
+
+  module _ (alive : s.horizon.0 ≤ g.0) (fits : fits_here script s g c h sl ≡ true) where
+    again-goes : (b : Bool) → Goes script s g c h sl (if b then Repeats else Nothing)
+    again-goes true = alive
+    again-goes false = tt
+
+    takes-goes : is_open l.phase ≡ true → (b : Bool) → Goes script s g c h sl (if b then Runs else again_at l.last c)
+    takes-goes is true = record { alive = low-raised alive (low fits); open_here = is; right = right fits }
+    takes-goes is false = again-goes (eqb c.0 l.last)
+
+    way-goes : (p : Phase) → is_open l.phase ≡ is_open p → Goes script s g c h sl (way_in l.last c p)
+    way-goes Reading e = takes-goes e (nat_lt l.last c.0)
+    way-goes Writing e = takes-goes e (nat_lt l.last c.0)
+    way-goes Prepared e = again-goes (eqb c.0 l.last)
+    way-goes Committed e = again-goes (eqb c.0 l.last)
+    way-goes (Forgotten committed) e = tt
+    way-goes Aborted e = tt
+
+  not_below : s.horizon.0 ≤ g.0 → is_below s.horizon g ≡ false
+  not_below alive = grind (arith, nat_tests)
+
+  past : (snapshot : Snapshot) → is_below s.horizon g ≡ false → (b : Bool) → fits_here script s g c h sl ≡ b → exec_turn script s g c (Some snapshot) h sl ≡ if_fits s b (after snapshot l.phase)
+  past snapshot e b f =
+      ap (λ (x : Bool). if x then stays s else if_fits s (fits_here script s g c h sl) (after snapshot l.phase)) e ∙ ap (λ (x : Bool). if_fits s x (after snapshot l.phase)) f
+
+  -- it goes by the transaction's record
+  pub way-held : s.horizon.0 ≤ g.0 → fits_here script s g c h sl ≡ true → (way : Way) → way ≡ way_of l c → IsWay script s g c h sl way
+  way-held alive fits way e = subst (IsWay script s g c h sl) (sym e) (record {
+    turn = λ snapshot. past snapshot (not_below alive) true fits ∙ way-turn snapshot l.phase;
+    goes = way-goes alive fits l.phase refl;
+  })

@@ -1,0 +1,87 @@
+-- A step, from what its event came to and what was sent.
+use Rattle.std.proofs.Common.{Global, ◌≡◌, ℕ, ◌+◌, true, false, List, ◌++◌, length, sym, ap, ◌∙◌, subst}
+use Rattle.std.specs.declared.sync.Arc.{Arc}
+use Rattle.gx_ids.specs.declared.ids.Gxid.{Gxid}
+use Rattle.gx_tree.specs.declared.schema.Schema.{Schema}
+use Rattle.gx_msg.specs.declared.message.Out.{Out}
+use Rattle.gx_outside.specs.Causes.{Rose}
+use Rattle.gx_phases.specs.Orders.{AreItems}
+use Rattle.gx_script.specs.declared.Script.{Script}
+use Rattle.gx_store.specs.declared.mark.Mark.{Mark}
+use Rattle.gx_store.specs.declared.node.NodeEvent.{NodeEvent}
+use Rattle.gx_store.specs.declared.node.NodeOut.{NodeOut}
+use Rattle.gx_rules.specs.AtSegment.{on_event, seg_rule}
+use Rattle.gx_rules.specs.Segments.{Seg, SegTurn}
+use Rattle.gx_rules.specs.Sending.{clock_after, numbered}
+use Rattle.gx_slices.specs.Agrees.{IsHeld}
+use Rattle.gx_slices.specs.declared.held.Held.{Held}
+use Rattle.gx_segment.specs.Before.{Before}
+use Rattle.gx_segment.specs.Done.{HasDone, to_coordinator}
+use Rattle.gx_segment.specs.Steps.{HasGone, HasStepped, IsSegment}
+use Rattle.gx_segment.specs.declared.done.Done.{Done}
+use Rattle.gx_segment.specs.declared.segment.Segment.{Segment}
+use Rattle.gx_segment.proofs.Keeping.{event-keeps}
+
+-- what is held doesn't speak of messages and clocks
+held-sends : (tables : List Schema) (held : Held) (s : Seg) (sent clock : ℕ) → IsHeld tables held s → IsHeld tables held (record s { sent = sent; clock = clock })
+held-sends tables held s sent clock is = record {
+  horizon = is.horizon;
+  locals = is.locals;
+  kept = is.kept;
+  holders = is.holders;
+  writes = is.writes;
+  wrote = is.wrote;
+  committed = is.committed;
+  typed = is.typed;
+}
+
+module _ (was : Before) (event : NodeEvent) (now : Held) (low : Gxid) (sent sent' clock clock' : ℕ) (before after : List (List ℕ)) (faults faults' : ℕ) (done : Done) (out : NodeOut) where
+  abbrev turn : SegTurn
+  turn = on_event was.script was.seg event done.fails
+
+  pub HasGone-made : HasDone was.script.tables now low done turn → AreItems before after done.fails turn.item → (done.fails ≡ true → Rose faults faults') → sent ≡ was.seg.sent → clock ≡ was.seg.clock → clock' ≡ clock_after clock event → out.marks ≡ done.marks ++ numbered (λ node. sent) (to_coordinator done.answer) → out.outs ≡ to_coordinator done.answer → out.clock ≡ clock' → sent' ≡ sent + length (to_coordinator done.answer) → HasGone was event now low sent' clock' before after faults faults' out
+  HasGone-made is items caused count time ticks marks outs told counted =
+      let keeps = event-keeps was.script was.seg event done.fails in
+      let same : sent ≡ turn.seg.sent = count ∙ sym keeps.sent in
+      record {
+        fails = done.fails;
+        held = held-sends was.script.tables now turn.seg (turn.seg.sent + length turn.outs) (clock_after was.seg.clock event) is.held;
+        horizon = is.horizon;
+        sent = counted ∙ ap (λ (n : ℕ). n + length (to_coordinator done.answer)) same ∙ ap (λ (os : List Out). turn.seg.sent + length os) is.outs;
+        clock = ticks ∙ ap (λ (n : ℕ). clock_after n event) time;
+        told = told;
+        marks =
+            marks
+            ∙ ap (λ (ms : List Mark). ms ++ numbered (λ node. sent) (to_coordinator done.answer)) is.marks
+            ∙ ap (λ (os : List Out). turn.marks ++ numbered (λ node. sent) os) is.outs
+            ∙ ap (λ (n : ℕ). turn.marks ++ numbered (λ node. n) turn.outs) same;
+        outs = outs ∙ is.outs;
+        items = items;
+        caused = caused;
+      }
+
+abbrev before_of : Script → Seg → Before
+before_of script s = record { script = script; seg = s }
+
+pub HasStepped-made : (old new : Segment) (s : Seg) (event : NodeEvent) (before after : List (List ℕ)) (faults faults' : ℕ) (out : NodeOut) (script : Script) → script ≡ old.script.value → IsSegment old s → HasGone (before_of script s) event new.held new.horizon new.sent new.clock before after faults faults' out → new.node ≡ old.node → new.script ≡ old.script → new.spent ≡ false → HasStepped old new s event before after faults faults' out
+HasStepped-made old new s event before after faults faults' out script e is gone node same usable =
+    let g : HasGone (before_of old.script.value s) event new.held new.horizon new.sent new.clock before after faults faults' out =
+    subst (λ (x : Script). HasGone (before_of x s) event new.held new.horizon new.sent new.clock before after faults faults' out) e gone in
+    let keeps = event-keeps old.script.value s event g.fails in
+    record {
+      fails = g.fails;
+      is = record {
+        node = node ∙ is.node ∙ sym keeps.node;
+        held = subst (λ (x : Arc Script Global). IsHeld x.value.tables new.held (seg_rule old.script.value s event g.fails).seg) (sym same) g.held;
+        horizon = g.horizon;
+        sent = g.sent;
+        clock = g.clock;
+      };
+      script = same;
+      usable = usable;
+      marks = g.marks;
+      outs = g.outs;
+      clock = g.told;
+      items = g.items;
+      caused = g.caused;
+    }

@@ -1,0 +1,120 @@
+-- What no message changes of a segment: its node, and how many messages it has sent before.
+use Rattle.std.proofs.Common.{◌≡◌, Bool, true, false, if◌then◌else◌, Option, Some, None, List, [], ◌∷◌, refl, ap, eqb}
+use Rattle.std.specs.Prelude.{fold, nat_lt}
+use Rattle.gx_ids.specs.declared.ids.Cid.{Cid}
+use Rattle.gx_ids.specs.declared.ids.Gxid.{Gxid}
+use Rattle.gx_ids.specs.declared.ids.Table.{Table}
+use Rattle.gx_tree.specs.declared.query.Query.{Query}
+use Rattle.gx_tree.specs.declared.row.KeyedRow.{KeyedRow}
+use Rattle.gx_tree.specs.declared.slice.Slice.{Slice}
+use Rattle.gx_tree.specs.declared.slice.Slice.TheVariants as slice
+use Rattle.gx_dsnap.specs.Gxids.{is_below}
+use Rattle.gx_dsnap.specs.declared.snapshot.Snapshot.{Snapshot}
+use Rattle.gx_dtx.specs.declared.order.Order.{Order}
+use Rattle.gx_dtx.specs.declared.order.Order.TheVariants as order
+use Rattle.gx_eval.specs.declared.fault.ArithFault.{ArithFault}
+use Rattle.gx_msg.specs.declared.message.Message.{Message}
+use Rattle.gx_msg.specs.declared.message.Message.TheVariants as message
+use Rattle.gx_msg.specs.declared.reply.Reply.{Reply}
+use Rattle.gx_phases.specs.Changes.{turn_of}
+use Rattle.gx_phases.proofs.Turns.{turn-makes}
+use Rattle.gx_script.specs.declared.Script.{Script}
+use Rattle.gx_store.specs.declared.node.NodeEvent.{NodeEvent}
+use Rattle.gx_store.specs.declared.node.NodeEvent.TheVariants as node
+use Rattle.gx_rules.specs.AtSegment.{if_fits, on_event, on_exec, on_message, raised, repeats, unless_below}
+use Rattle.gx_rules.specs.Fits.{fits_exec}
+use Rattle.gx_rules.specs.Segments.{Local, Phase, Reading, Writing, Prepared, Committed, Forgotten, Aborted, Seg, SegTurn, local_of, stays, tells_kept}
+use Rattle.gx_rules.specs.Shown.{shown}
+use Rattle.gx_rules.specs.Slices.{Moved, first_fault, inserts_row, runs_slice, selects}
+
+pub record Keeps (s now : Seg) : Type 0 where
+  pub node : now.node ≡ s.node
+  pub sent : now.sent ≡ s.sent
+
+itself : (s : Seg) → Keeps s s
+itself s = record { node = refl; sent = refl }
+
+kept-keeps : (s : Seg) (g : Gxid) (answer : Option Reply) → Keeps s (tells_kept s g answer).seg
+kept-keeps s g None = itself s
+kept-keeps s g (Some r) = itself s
+
+-- SLICES
+-- the horizon stays besides
+record Stands (s now : Seg) : Type 0 where
+  node : now.node ≡ s.node
+  sent : now.sent ≡ s.sent
+  horizon : now.horizon ≡ s.horizon
+
+rows-stand : (g : Gxid) (c : Cid) (table : Table) (rows : List KeyedRow) (m : Moved) → Stands m.seg (fold (inserts_row g c table) m rows).seg
+rows-stand g c table [] m = record { node = refl; sent = refl; horizon = refl }
+rows-stand g c table (row ∷ rows) m =
+    let more = rows-stand g c table rows (inserts_row g c table m row) in record { node = more.node; sent = more.sent; horizon = more.horizon }
+
+selects-stand : (s : Seg) (g : Gxid) (c : Cid) (query : Query) (rows : List KeyedRow) (fault : Option (KeyedRow × ArithFault)) → Stands s (selects s g c query rows fault).seg
+selects-stand s g c query rows None = record { node = refl; sent = refl; horizon = refl }
+selects-stand s g c query rows (Some fault) = record { node = refl; sent = refl; horizon = refl }
+
+slice-stands : (s : Seg) (g : Gxid) (c : Cid) (snapshot : Option Snapshot) (sl : Slice) → Stands s (runs_slice s g c snapshot sl).seg
+slice-stands s g c (Some snapshot) (slice.Select query) =
+    selects-stand s g c query (shown s snapshot g c query.table) (first_fault query.cond (shown s snapshot g c query.table))
+slice-stands s g c (Some snapshot) (slice.Insert table rows) =
+    let more = rows-stand g c table rows (record { seg = s; marks = [] }) in record { node = more.node; sent = more.sent; horizon = more.horizon }
+slice-stands s g c (Some snapshot) (slice.Update table assigns cond) = record { node = refl; sent = refl; horizon = refl }
+slice-stands s g c (Some snapshot) (slice.Delete table cond) = record { node = refl; sent = refl; horizon = refl }
+slice-stands s g c (Some snapshot) (slice.Lock table mode) = record { node = refl; sent = refl; horizon = refl }
+slice-stands s g c None sl = record { node = refl; sent = refl; horizon = refl }
+
+pub horizon-runs_slice : (s : Seg) (g : Gxid) (c : Cid) (snapshot : Option Snapshot) (sl : Slice) → (runs_slice s g c snapshot sl).seg.horizon ≡ s.horizon
+horizon-runs_slice s g c snapshot sl = (slice-stands s g c snapshot sl).horizon
+
+-- EXEC
+module _ (s : Seg) (g : Gxid) (c : Cid) (snapshot : Option Snapshot) (h : Gxid) (sl : Slice) (l : Local) where
+  repeats-keeps : (b : Bool) → Keeps s (if b then tells_kept s g l.answer else stays s).seg
+  repeats-keeps true = kept-keeps s g l.answer
+  repeats-keeps false = itself s
+
+  takes-keeps : (b : Bool) → Keeps s (if b then runs_slice (raised s h) g c snapshot sl else repeats s g c l).seg
+  takes-keeps true = let stand = slice-stands (raised s h) g c snapshot sl in record { node = stand.node; sent = stand.sent }
+  takes-keeps false = repeats-keeps (eqb c.0 l.last)
+
+  exec-keeps : (p : Phase) → Keeps s (on_exec s g c snapshot h sl l p).seg
+  exec-keeps Reading = takes-keeps (nat_lt l.last c.0)
+  exec-keeps Writing = takes-keeps (nat_lt l.last c.0)
+  exec-keeps Prepared = repeats-keeps (eqb c.0 l.last)
+  exec-keeps Committed = repeats-keeps (eqb c.0 l.last)
+  exec-keeps (Forgotten committed) = itself s
+  exec-keeps Aborted = itself s
+
+-- MESSAGES
+fits-keeps : (s : Seg) (turn : SegTurn) (b : Bool) → Keeps s turn.seg → Keeps s (if_fits s b turn).seg
+fits-keeps s turn true k = k
+fits-keeps s turn false k = itself s
+
+below-keeps : (s : Seg) (turn : SegTurn) (b : Bool) → Keeps s turn.seg → Keeps s (if b then stays s else turn).seg
+below-keeps s turn true k = itself s
+below-keeps s turn false k = k
+
+order-keeps : (o : Order) (s : Seg) (g : Gxid) (fails : Bool) → Keeps s (unless_below s g (turn_of o s g fails (local_of s g))).seg
+order-keeps o s g fails =
+    let makes = turn-makes o s g fails in
+    below-keeps s (turn_of o s g fails (local_of s g)) (is_below s.horizon g) (record { node = ap (λ (x : Seg). x.node) makes.others; sent = ap (λ (x : Seg). x.sent) makes.others })
+
+message-keeps : (script : Script) (s : Seg) (fails : Bool) (m : Message) → Keeps s (on_message script s fails m).seg
+message-keeps script s fails (message.Exec g c level snapshot h sl) =
+    below-keeps s _ (is_below s.horizon g) (fits-keeps s _ (fits_exec script s g c snapshot h sl) (exec-keeps s g c snapshot h sl (local_of s g) (local_of s g).phase))
+message-keeps script s fails (message.Prepare g) = order-keeps order.Prepare s g fails
+message-keeps script s fails (message.Commit g) = order-keeps order.Commit s g fails
+message-keeps script s fails (message.CommitPrepared g) = order-keeps order.CommitPrepared s g fails
+message-keeps script s fails (message.Abort g) = order-keeps order.Abort s g fails
+message-keeps script s fails (message.Forget g) = order-keeps order.Forget s g fails
+message-keeps script s fails (message.Collect round) = itself s
+message-keeps script s fails (message.Answer g r) = itself s
+message-keeps script s fails (message.Graph round graph) = itself s
+
+pub event-keeps : (script : Script) (s : Seg) (e : NodeEvent) (fails : Bool) → Keeps s (on_event script s e fails).seg
+event-keeps script s (node.Deliver from envelope) fails = message-keeps script s fails envelope.message
+event-keeps script s (node.Resume g) fails = itself s
+event-keeps script s (node.Start n) fails = itself s
+event-keeps script s (node.End n) fails = itself s
+event-keeps script s (node.Resend i g) fails = itself s
+event-keeps script s node.Round fails = itself s

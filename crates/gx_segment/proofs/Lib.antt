@@ -1,0 +1,10 @@
+pub mod Below
+pub mod Doing
+pub mod Final
+pub mod Following
+pub mod Going
+pub mod Gone
+pub mod Gxids
+pub mod Keeping
+pub mod Moving
+pub mod Obeying

@@ -1,0 +1,113 @@
+-- What is held after an order was taken.
+use Rattle.std.proofs.Common.{◌≡◌, ℕ, ◌≤◌, Bool, true, false, if◌then◌else◌, Option, Some, None, List, map, refl, sym, ap, ◌∙◌, subst, eqb, arith}
+use Rattle.std.proofs.lemmas.Bool.Decides.{nat_tests}
+use Rattle.std.specs.BTreeSet.{contains}
+use Rattle.std.specs.Prelude.{◌&&◌, not, nat_lt, is_some, option_map, filter, All, IsTrue}
+use Rattle.gx_ids.specs.declared.ids.Gxid.{Gxid}
+use Rattle.gx_tree.specs.declared.schema.Schema.{Schema}
+use Rattle.gx_dsnap.specs.Gxids.{gxid_cmp}
+use Rattle.gx_local.specs.Store.{kept_at, passes, status_of}
+use Rattle.gx_phases.specs.Changes.{Change, Makes}
+use Rattle.gx_phases.specs.declared.local.Taken.{Taken}
+use Rattle.gx_rules.specs.Fits.{holds_locks}
+use Rattle.gx_rules.specs.Segments.{Local, Phase, Reading, Writing, Prepared, Committed, Forgotten, Aborted, Seg, SegTurn, Version, has_committed, has_ended}
+use Rattle.gx_rules.specs.Shown.{last_images}
+use Rattle.gx_store.specs.Marks.{is_same_gxid}
+use Rattle.gx_slices.specs.Agrees.{IsHeld, entry_at, has_version, is_of_row, is_right_version, local_in, write_of}
+use Rattle.gx_slices.specs.declared.held.Held.{Held}
+use Rattle.gx_visible.specs.Counts.{is_committed}
+use Rattle.gx_xidmap.specs.declared.status.LocalStatus.{LocalStatus}
+use Rattle.gx_segment.specs.Moves.{HasMoved, status_in}
+use Rattle.gx_segment.proofs.Following.{Follows}
+use Rattle.gx_segment.proofs.Gxids.{apart, same_gxid}
+
+still_there : (status : LocalStatus) (old : Option LocalStatus) → is_some (option_map (λ _. status) old) ≡ is_some old
+still_there status None = refl
+still_there status (Some s) = refl
+
+in_phase : (p : Phase) → is_committed (status_in p) ≡ has_committed p
+in_phase Reading = refl
+in_phase Writing = refl
+in_phase Prepared = refl
+in_phase Committed = refl
+in_phase (Forgotten true) = refl
+in_phase (Forgotten false) = refl
+in_phase Aborted = refl
+
+by_phase : (p : Phase) (old : Option LocalStatus) → passes is_committed (option_map (λ _. status_in p) old) ≡ (is_some old && has_committed p)
+by_phase p None = refl
+by_phase p (Some s) = in_phase p
+
+-- who has ended leaves the holders
+left : (ended was : Bool) (n m : ℕ) → m ≡ n → (ended ≡ false → was ≡ false) → (if ended && true then false else (nat_lt 0 n && not was)) ≡ (nat_lt 0 m && not ended)
+left true was n m e f = grind (arith, nat_tests)
+left false was n m e f = let w : was ≡ false = f refl in grind (arith, nat_tests)
+
+module _ (tables : List Schema) (held held' : Held) (s : Seg) (g : Gxid) (change : Change) (taken : Taken) (turn : SegTurn) (was : IsHeld tables held s) (moved : HasMoved held held' g change taken) (makes : Makes s g turn change) where
+  abbrev now : Seg
+  now = turn.seg
+
+  versions : now.versions ≡ s.versions
+  versions = ap (λ (x : Seg). x.versions) makes.others
+
+  horizon : now.horizon ≡ s.horizon
+  horizon = ap (λ (x : Seg). x.horizon) makes.others
+
+  high : (h : Gxid) → now.horizon.0 ≤ h.0 → s.horizon.0 ≤ h.0
+  high h up = subst (λ (x : Gxid). x.0 ≤ h.0) horizon up
+
+  its : (h : Gxid) → eqb h.0 g.0 ≡ true → now.locals h.0 ≡ change.now
+  its h e = makes.locals h.0 ∙ ap (λ (b : Bool). if b then change.now else s.locals h.0) e
+
+  others : (h : Gxid) → eqb h.0 g.0 ≡ false → now.locals h.0 ≡ s.locals h.0
+  others h e = makes.locals h.0 ∙ ap (λ (b : Bool). if b then change.now else s.locals h.0) e
+
+  locals-moved : (h : Gxid) → s.horizon.0 ≤ h.0 → (b : Bool) → eqb h.0 g.0 ≡ b → local_in (entry_at held' h) ≡ now.locals h.0
+  locals-moved h up true e = subst (λ (x : Gxid). local_in (entry_at held' x) ≡ change.now) (same_gxid g h e) moved.local ∙ sym (its h e)
+  locals-moved h up false e = moved.locals h (apart g h e) ∙ was.locals h up ∙ sym (others h e)
+
+  wrote-moved : (h : Gxid) (b : Bool) → eqb h.0 g.0 ≡ b → is_some (status_of held'.store h) ≡ is_some (status_of held.store h)
+  wrote-moved h true e =
+      subst (λ (x : Gxid). is_some (status_of held'.store x) ≡ is_some (status_of held.store x)) (same_gxid g h e)
+      (ap (λ (o : Option LocalStatus). is_some o) moved.status ∙ still_there (status_in change.now.phase) (status_of held.store g))
+  wrote-moved h false e = ap (λ (o : Option LocalStatus). is_some o) (moved.statuses h (apart g h e))
+
+  committed-moved : (h : Gxid) (b : Bool) → eqb h.0 g.0 ≡ b → passes is_committed (status_of held'.store h) ≡ (has_version s h && has_committed (now.locals h.0).phase)
+  committed-moved h true e =
+      subst (λ (x : Gxid). passes is_committed (status_of held'.store x) ≡ (is_some (status_of held.store x) && has_committed change.now.phase)) (same_gxid g h e)
+      (ap (passes is_committed) moved.status ∙ by_phase change.now.phase (status_of held.store g))
+      ∙ ap (λ (b : Bool). b && has_committed change.now.phase) (was.wrote h)
+      ∙ ap (λ (l : Local). has_version s h && has_committed l.phase) (sym (its h e))
+  committed-moved h false e =
+      ap (passes is_committed) (moved.statuses h (apart g h e)) ∙ was.committed h ∙ ap (λ (l : Local). has_version s h && has_committed l.phase) (sym (others h e))
+
+  holders-moved : Follows (s.locals g.0) change.now → (h : Gxid) (b : Bool) → eqb h.0 g.0 ≡ b → contains gxid_cmp held'.holders h ≡ holds_locks (now.locals h.0)
+  holders-moved follows h true e =
+      moved.holders h
+      ∙ ap (λ (b : Bool). if has_ended change.now.phase && b then false else contains gxid_cmp held.holders h) e
+      ∙ ap (λ (b : Bool). if has_ended change.now.phase && true then false else b) (was.holders h ∙ ap (λ (x : Gxid). holds_locks (s.locals x.0)) (sym (same_gxid g h e)))
+      ∙ left (has_ended change.now.phase) (has_ended (s.locals g.0).phase) (s.locals g.0).last change.now.last follows.last follows.ended
+      ∙ ap holds_locks (sym (its h e))
+  holders-moved follows h false e =
+      moved.holders h
+      ∙ ap (λ (b : Bool). if has_ended change.now.phase && b then false else contains gxid_cmp held.holders h) e
+      ∙ stays (has_ended change.now.phase) (contains gxid_cmp held.holders h)
+      ∙ was.holders h
+      ∙ ap holds_locks (sym (others h e))
+    where
+      stays : (a b : Bool) → (if a && false then false else b) ≡ b
+      stays true b = refl
+      stays false b = refl
+
+  pub IsHeld-moved : Follows (s.locals g.0) change.now → IsHeld tables held' turn.seg
+  IsHeld-moved follows = record {
+    horizon = moved.horizon ∙ was.horizon ∙ sym horizon;
+    locals = λ h up. locals-moved h (high h up) (eqb h.0 g.0) refl;
+    kept = λ h up. moved.rows h ∙ was.kept h (high h up) ∙ ap (λ (vs : List Version). last_images (filter (λ v. is_same_gxid v.gxid h) vs)) (sym versions);
+    holders = λ h. holders-moved follows h (eqb h.0 g.0) refl;
+    writes = λ table rid.
+        ap (λ ts. kept_at ts table rid) moved.tables ∙ was.writes table rid ∙ ap (λ (vs : List Version). map write_of (filter (is_of_row table rid) vs)) (sym versions);
+    wrote = λ h. wrote-moved h (eqb h.0 g.0) refl ∙ was.wrote h ∙ ap (λ (x : Seg). has_version x h) (sym makes.others);
+    committed = λ h. committed-moved h (eqb h.0 g.0) refl ∙ ap (λ (b : Bool). b && has_committed (now.locals h.0).phase) (ap (λ (x : Seg). has_version x h) (sym makes.others));
+    typed = subst (λ (vs : List Version). All (λ v. IsTrue (is_right_version tables v)) vs) (sym versions) was.typed;
+  }

@@ -1,0 +1,5 @@
+pub mod Before
+pub mod Done
+pub mod Moves
+pub mod Steps
+pub mod Ways

@@ -1,0 +1,42 @@
+-- What an order changes of what is held.
+use Rattle.std.specs.Prelude.{◌≡◌, ◌≢◌, ◌==◌, ◌&&◌, Bool, true, false, if◌then◌else◌, option_map}
+use Rattle.std.specs.BTreeSet.{contains}
+use Rattle.gx_ids.specs.declared.ids.Gxid.{Gxid}
+use Rattle.gx_dsnap.specs.Gxids.{gxid_cmp}
+use Rattle.gx_dtx.specs.declared.order.Order.{Order}
+use Rattle.gx_local.specs.Store.{status_of}
+use Rattle.gx_phases.specs.Changes.{Change, turn_of}
+use Rattle.gx_phases.specs.declared.local.Taken.{Taken}
+use Rattle.gx_rules.specs.AtSegment.{unless_below}
+use Rattle.gx_rules.specs.Segments.{Phase, Reading, Writing, Prepared, Committed, Forgotten, Aborted, Seg, SegTurn, has_ended, local_of}
+use Rattle.gx_slices.specs.Agrees.{entry_at, local_in, rows_in}
+use Rattle.gx_slices.specs.declared.held.Held.{Held}
+use Rattle.gx_xidmap.specs.declared.status.LocalStatus.{LocalStatus}
+use Rattle.gx_xidmap.specs.declared.status.LocalStatus.TheVariants as status
+
+-- the rule of an order's message
+abbrev pub order_turn : Order → Seg → Gxid → Bool → SegTurn
+order_turn order s g fails = unless_below s g (turn_of order s g fails (local_of s g))
+
+-- what the store says of who has written
+abbrev pub status_in : Phase → LocalStatus
+status_in Reading = status.Running
+status_in Writing = status.Running
+status_in Prepared = status.Prepared
+status_in Committed = status.Committed
+status_in (Forgotten true) = status.Committed
+status_in (Forgotten false) = status.Aborted
+status_in Aborted = status.Aborted
+
+-- the transaction's record is that of the change, and nothing else has changed
+pub record HasMoved (old new : Held) (g : Gxid) (change : Change) (taken : Taken) : Type 0 where
+  pub horizon : new.store.horizon ≡ old.store.horizon
+  pub tables : new.store.tables ≡ old.store.tables
+  pub status : status_of new.store g ≡ option_map (λ _. status_in change.now.phase) (status_of old.store g)
+  pub statuses : (h : Gxid) → h.0 ≢ g.0 → status_of new.store h ≡ status_of old.store h
+  pub local : local_in (entry_at new g) ≡ change.now
+  pub locals : (h : Gxid) → h.0 ≢ g.0 → local_in (entry_at new h) ≡ local_in (entry_at old h)
+  pub rows : (h : Gxid) → rows_in (entry_at new h) ≡ rows_in (entry_at old h)
+  pub holders : (h : Gxid) → contains gxid_cmp new.holders h ≡ (if has_ended change.now.phase && (h.0 == g.0) then false else contains gxid_cmp old.holders h)
+  pub mark : taken.mark ≡ change.mark
+  pub reply : taken.reply ≡ change.reply

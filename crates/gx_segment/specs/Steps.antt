@@ -1,0 +1,56 @@
+-- A segment against its rule, and what a step of it is.
+use Rattle.std.specs.Prelude.{◌≡◌, ℕ, ◌++◌, Bool, true, false, List, map}
+use Rattle.gx_ids.specs.declared.ids.Cid.{Cid}
+use Rattle.gx_ids.specs.declared.ids.Gxid.{Gxid}
+use Rattle.gx_msg.specs.ItemBytes.{bytes_of_item}
+use Rattle.gx_outside.specs.Causes.{Rose}
+use Rattle.gx_store.specs.declared.node.NodeEvent.{NodeEvent}
+use Rattle.gx_store.specs.declared.node.NodeOut.{NodeOut}
+use Rattle.gx_rules.specs.AtSegment.{seg_rule}
+use Rattle.gx_rules.specs.Machine.{kept_item}
+use Rattle.gx_rules.specs.Segments.{Seg}
+use Rattle.gx_slices.specs.Agrees.{IsHeld}
+use Rattle.gx_slices.specs.declared.held.Held.{Held}
+use Rattle.gx_segment.specs.Before.{Before}
+use Rattle.gx_segment.specs.declared.segment.Segment.{Segment}
+
+-- the segment holds what the rule's data says
+pub record IsSegment (segment : Segment) (s : Seg) : Type 0 where
+  pub node : segment.node ≡ s.node
+  pub held : IsHeld segment.script.value.tables segment.held s
+  pub horizon : segment.horizon ≡ s.horizon
+  pub sent : segment.sent ≡ s.sent
+  pub clock : segment.clock ≡ s.clock
+
+-- a reader that is nobody's transaction
+abbrev pub nobody : Gxid
+nobody = record { 0 = 0 }
+
+abbrev pub no_command : Cid
+no_command = record { 0 = 0 }
+
+-- The step is the rule's, for an append that fails or not: the data, the marks, the messages, the clock and the journal's
+-- items. Where it fails, the journal's count rose.
+pub record HasStepped (old new : Segment) (s : Seg) (event : NodeEvent) (before after : List (List ℕ)) (faults faults' : ℕ) (out : NodeOut) : Type 0 where
+  pub fails : Bool
+  pub is : IsSegment new (seg_rule old.script.value s event fails).seg
+  pub script : new.script ≡ old.script
+  pub usable : new.spent ≡ false
+  pub marks : out.marks ≡ (seg_rule old.script.value s event fails).marks
+  pub outs : out.outs ≡ (seg_rule old.script.value s event fails).outs
+  pub clock : out.clock ≡ new.clock
+  pub items : after ≡ before ++ map bytes_of_item (kept_item fails (seg_rule old.script.value s event fails).item)
+  pub caused : fails ≡ true → Rose faults faults'
+
+-- the same of a segment's parts
+pub record HasGone (was : Before) (event : NodeEvent) (now : Held) (low : Gxid) (count time : ℕ) (before after : List (List ℕ)) (faults faults' : ℕ) (out : NodeOut) : Type 0 where
+  pub fails : Bool
+  pub held : IsHeld was.script.tables now (seg_rule was.script was.seg event fails).seg
+  pub horizon : low ≡ (seg_rule was.script was.seg event fails).seg.horizon
+  pub sent : count ≡ (seg_rule was.script was.seg event fails).seg.sent
+  pub clock : time ≡ (seg_rule was.script was.seg event fails).seg.clock
+  pub told : out.clock ≡ time
+  pub marks : out.marks ≡ (seg_rule was.script was.seg event fails).marks
+  pub outs : out.outs ≡ (seg_rule was.script was.seg event fails).outs
+  pub items : after ≡ before ++ map bytes_of_item (kept_item fails (seg_rule was.script was.seg event fails).item)
+  pub caused : fails ≡ true → Rose faults faults'

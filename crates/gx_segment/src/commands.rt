@@ -1,0 +1,109 @@
+// What becomes of a command that comes.
+ghost use Rattle.std.specs.Prelude.{◌≡◌, not};
+ghost use Rattle.std.specs.BTreeMap.{get};
+ghost use Rattle.std.specs.BTreeSet.{contains};
+ghost use Rattle.gx_dsnap.specs.Gxids.{gxid_cmp};
+ghost use Rattle.gx_phases.specs.Phases.{local_of};
+ghost use Rattle.gx_rules.specs.Maps.{each_below};
+ghost use Rattle.gx_slices.specs.Agrees.{IsHeld, local_in};
+ghost use Rattle.gx_segment.specs.Before.{Before};
+ghost use Rattle.gx_segment.specs.Ways.{IsWay, again_at, fits_here, way_of};
+
+use crate::entries::Entries;
+use gx_fits::is_right_slice;
+use gx_ids::{Cid, Gxid};
+use gx_phases::{Local, Phase};
+use gx_script::Script;
+use gx_slices::Held;
+use gx_tree::Slice;
+use std::collections::BTreeSet;
+
+/// A command that is new runs, the last one is answered again, and any other is nothing.
+#[derive(Clone, Copy, Debug)]
+pub enum Way {
+    Runs,
+    Repeats,
+    Nothing,
+}
+
+// The way of a command with a snapshot.
+pub(crate) fn find_way(
+    script: &Script,
+    held: &Held,
+    horizon: Gxid,
+    gxid: Gxid,
+    cid: Cid,
+    low: Gxid,
+    slice: &Slice,
+) -> Way
+    ghost was: { Before }
+    requires script { script.now ≡ was.script }
+    requires held { IsHeld was.script.tables held.now was.seg }
+    requires horizon { horizon ≡ was.seg.horizon }
+    ensures { IsWay was.script was.seg gxid cid low slice.now result }
+{
+    if gxid < horizon {
+        return Way::Nothing;
+    }
+    if !fits(script, held, gxid, cid, low, slice) {
+        return Way::Nothing;
+    }
+    way_at(&held.entries, gxid, cid)
+}
+
+// Whether the command fits, given that it has a snapshot.
+fn fits(script: &Script, held: &Held, gxid: Gxid, cid: Cid, low: Gxid, slice: &Slice) -> bool
+    ghost was: { Before }
+    requires script { script.now ≡ was.script }
+    requires held { IsHeld was.script.tables held.now was.seg }
+    ensures { result ≡ fits_here was.script was.seg gxid cid low slice.now }
+{
+    low <= gxid
+        && is_none_below(&held.holders, low)
+        && is_right_slice(script.tables.as_slice(), gxid, cid, slice)
+}
+
+// Nobody below a gxid is in the set.
+fn is_none_below(holders: &BTreeSet<Gxid>, low: Gxid) -> bool
+    ensures { result ≡ each_below low.0 (λ n. not (contains gxid_cmp holders.now (record { 0 = n }))) }
+{
+    match holders.first() {
+        Some(first) => low <= *first,
+        None => true,
+    }
+}
+
+fn way_at(entries: &Entries, gxid: Gxid, cid: Cid) -> Way
+    ensures { result ≡ way_of (local_in (get gxid_cmp entries.now gxid)) cid }
+{
+    match entries.get(&gxid) {
+        Some(entry) => way_in(&entry.local, cid),
+        None => way_in(&Local::new(), cid),
+    }
+}
+
+fn way_in(local: &Local, cid: Cid) -> Way
+    ensures { result ≡ way_of (local_of local.now) cid }
+{
+    match local.phase {
+        Phase::Reading | Phase::Writing => {
+            if local.last < cid.0 {
+                Way::Runs
+            } else {
+                again(local.last, cid)
+            }
+        }
+        Phase::Prepared | Phase::Committed => again(local.last, cid),
+        Phase::Forgotten(_) | Phase::Aborted => Way::Nothing,
+    }
+}
+
+fn again(last: u32, cid: Cid) -> Way
+    ensures { result ≡ again_at last cid }
+{
+    if cid.0 == last {
+        Way::Repeats
+    } else {
+        Way::Nothing
+    }
+}

@@ -1,0 +1,47 @@
+// What a message came to.
+ghost use Rattle.std.specs.Prelude.{◌≡◌, [], false, None};
+ghost use Rattle.gx_segment.specs.Done.{answer_of};
+
+use gx_ids::{Gxid, Seq};
+use gx_msg::{Message, Reply};
+use gx_store::Mark;
+use std::alloc::Global;
+
+/// What a message came to: its marks in order, the answer to the coordinator, and whether the journal failed to take an item.
+#[derive(Debug, Drop)]
+pub struct Done {
+    pub marks: Seq<Mark>,
+    pub answer: Option<Message>,
+    pub fails: bool,
+}
+
+pub(crate) fn nothing(alloc: Global) -> Done
+    ensures { result ≡ record { marks = []; answer = None; fails = false } }
+{
+    Done {
+        marks: Seq::new(alloc),
+        answer: None,
+        fails: false,
+    }
+}
+
+// The answer about a transaction.
+pub(crate) fn answer(gxid: Gxid, reply: Option<Reply>) -> Option<Message>
+    ensures { result ≡ answer_of gxid reply }
+{
+    match reply {
+        Some(reply) => Some(Message::Answer(gxid, reply)),
+        None => None,
+    }
+}
+
+// An answer, and nothing else.
+pub(crate) fn tell(alloc: Global, gxid: Gxid, reply: Option<Reply>) -> Done
+    ensures { result ≡ record { marks = []; answer = answer_of gxid reply; fails = false } }
+{
+    Done {
+        marks: Seq::new(alloc),
+        answer: answer(gxid, reply),
+        fails: false,
+    }
+}

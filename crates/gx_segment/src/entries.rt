@@ -1,0 +1,68 @@
+// The transactions by gxid.
+ghost use Rattle.std.specs.Prelude.{◌≡◌, ◌≤◌, Some, None, IfOk, IfSome, OnOk, slice_get};
+ghost use Rattle.std.specs.Map.{lookup};
+ghost use Rattle.std.specs.BTreeMap.{Updates, get, keys};
+ghost use Rattle.gx_ids.specs.declared.ids.Gxid.{Gxid};
+ghost use Rattle.gx_dsnap.specs.Gxids.{gxid_cmp};
+ghost use Rattle.gx_phases.specs.Phases.{local_of};
+ghost use Rattle.gx_slices.specs.Agrees.{local_in, rows_in};
+
+use gx_ids::{Duplicate, Gxid, Mem};
+use gx_msg::Reply;
+use gx_phases::Local;
+use gx_slices::{Entry, KeptRows};
+use std::alloc::Global;
+use std::collections::BTreeMap;
+
+pub(crate) type Entries = BTreeMap<Gxid, Entry>;
+
+// Takes a transaction's entry out, or makes one of which nothing has come here.
+pub(crate) fn take_out(alloc: Global, entries: &mut Entries, gxid: Gxid) -> Entry
+    ensures gone { Updates gxid_cmp entries.old entries.new gxid None }
+    ensures local { local_of result.local ≡ local_in (get gxid_cmp entries.old gxid) }
+    ensures kept { result.kept ≡ rows_in (get gxid_cmp entries.old gxid) }
+{
+    match entries.remove(&gxid) {
+        Some(entry) => entry,
+        None => Entry {
+            local: Local::new(),
+            kept: KeptRows::new(alloc),
+        },
+    }
+}
+
+pub(crate) fn put_in(entries: &mut Entries, gxid: Gxid, entry: Entry) -> Mem<()>
+    ensures { OnOk result (Updates gxid_cmp entries.old entries.new gxid (Some entry)) }
+{
+    entries.insert(gxid, entry)?;
+    Ok(())
+}
+
+// What was answered to a transaction's last command.
+pub(crate) fn kept_answer(alloc: Global, entries: &Entries, gxid: Gxid) -> Mem<Option<Reply>>
+    ensures { IfOk result (λ reply. reply ≡ (local_in (get gxid_cmp entries.now gxid)).answer) }
+{
+    match entries.get(&gxid) {
+        Some(entry) => entry.local.answer.copy(alloc),
+        None => Ok(None),
+    }
+}
+
+// Takes out the entries below the horizon.
+pub(crate) fn drop_below(entries: &mut Entries, horizon: Gxid)
+    ensures { (g : Gxid) → horizon.0 ≤ g.0 → get gxid_cmp entries.new g ≡ get gxid_cmp entries.old g }
+{
+    while let Some(first) = first_key(entries) {
+        if horizon <= first {
+            return;
+        }
+        entries.pop_first();
+    }
+}
+
+fn first_key(entries: &Entries) -> Option<Gxid>
+    ensures { IfSome result (λ g. slice_get (keys entries.now) 0 ≡ Some g) }
+{
+    let (gxid, _) = entries.first_key_value()?;
+    Some(*gxid)
+}

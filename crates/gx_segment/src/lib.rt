@@ -1,0 +1,14 @@
+//! A segment: what comes by a link changes it by its rule.
+#![tactic(auto)]
+
+mod commands;
+mod done;
+mod entries;
+mod executing;
+mod messages;
+mod ordering;
+pub mod segment;
+mod sending;
+mod stepping;
+
+pub use segment::Segment;

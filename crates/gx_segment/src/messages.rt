@@ -1,0 +1,114 @@
+// What comes to a segment, message by message.
+ghost use Rattle.std.specs.Prelude.{◌≡◌, ◌≤◌, true, IfOk};
+ghost use Rattle.gx_outside.specs.Causes.{Rose};
+ghost use Rattle.gx_phases.specs.Orders.{AreItems};
+ghost use Rattle.gx_rules.specs.AtSegment.{on_event, on_message};
+ghost use Rattle.gx_slices.specs.Agrees.{IsHeld};
+ghost use Rattle.gx_segment.specs.Before.{Before};
+ghost use Rattle.gx_segment.specs.Done.{HasDone};
+
+use crate::done::{Done, nothing};
+use crate::executing::exec;
+use crate::ordering::take;
+use gx_dtx::order::Order;
+use gx_ids::{Gxid, Mem, Node};
+use gx_msg::Message;
+use gx_outside::{Gate, Journal};
+use gx_script::Script;
+use gx_slices::Held;
+use gx_store::NodeEvent;
+use std::alloc::Global;
+
+// Takes an event. Only deliveries come to a segment.
+pub(crate) fn take_event<J: Journal, G: Gate>(
+    alloc: Global,
+    node: Node,
+    script: &Script,
+    held: &mut Held,
+    horizon: &mut Gxid,
+    event: NodeEvent,
+    journal: &mut J,
+    gate: &G,
+) -> Mem<Done>
+    ghost was: { Before }
+    requires node { node ≡ was.seg.node }
+    requires script { script.now ≡ was.script }
+    requires held { IsHeld was.script.tables held.old was.seg }
+    requires horizon { horizon.old ≡ was.seg.horizon }
+    ensures done { IfOk result (λ done. HasDone was.script.tables held.new horizon.new done (on_event was.script was.seg event done.fails)) }
+    ensures items { IfOk result (λ done. AreItems (J.items journal.old) (J.items journal.new) done.fails (on_event was.script was.seg event done.fails).item) }
+    ensures caused { IfOk result (λ done. done.fails ≡ true → Rose (J.fault_count journal.old) (J.fault_count journal.new)) }
+    ensures later { J.fault_count journal.old ≤ J.fault_count journal.new }
+{
+    match event {
+        NodeEvent::Deliver { from: _, envelope } => {
+            take_message(
+                alloc,
+                node,
+                script,
+                held,
+                horizon,
+                envelope.message,
+                journal,
+                gate,
+            )
+        }
+        _ => Ok(nothing(alloc)),
+    }
+}
+
+fn take_message<J: Journal, G: Gate>(
+    alloc: Global,
+    node: Node,
+    script: &Script,
+    held: &mut Held,
+    horizon: &mut Gxid,
+    message: Message,
+    journal: &mut J,
+    gate: &G,
+) -> Mem<Done>
+    ghost was: { Before }
+    requires node { node ≡ was.seg.node }
+    requires script { script.now ≡ was.script }
+    requires held { IsHeld was.script.tables held.old was.seg }
+    requires horizon { horizon.old ≡ was.seg.horizon }
+    ensures done { IfOk result (λ done. HasDone was.script.tables held.new horizon.new done (on_message was.script was.seg done.fails message)) }
+    ensures items { IfOk result (λ done. AreItems (J.items journal.old) (J.items journal.new) done.fails (on_message was.script was.seg done.fails message).item) }
+    ensures caused { IfOk result (λ done. done.fails ≡ true → Rose (J.fault_count journal.old) (J.fault_count journal.new)) }
+    ensures later { J.fault_count journal.old ≤ J.fault_count journal.new }
+{
+    match message {
+        Message::Exec {
+            gxid,
+            cid,
+            level: _,
+            snapshot,
+            horizon: low,
+            slice,
+        } => {
+            exec(
+                alloc, node, script, held, horizon, gxid, cid, snapshot, low, slice, gate,
+            )
+        }
+        Message::Prepare(gxid) => {
+            take(alloc, node, held, *horizon, gxid, Order::Prepare, journal)
+        }
+        Message::Commit(gxid) => take(alloc, node, held, *horizon, gxid, Order::Commit, journal),
+        Message::CommitPrepared(gxid) => {
+            take(
+                alloc,
+                node,
+                held,
+                *horizon,
+                gxid,
+                Order::CommitPrepared,
+                journal,
+            )
+        }
+        Message::Abort(gxid) => take(alloc, node, held, *horizon, gxid, Order::Abort, journal),
+        Message::Forget(gxid) => take(alloc, node, held, *horizon, gxid, Order::Forget, journal),
+        Message::Collect(_) => Ok(nothing(alloc)),
+        Message::Answer(_, _reply) => Ok(nothing(alloc)),
+        Message::Graph(_, _graph) => Ok(nothing(alloc)),
+    }
+}

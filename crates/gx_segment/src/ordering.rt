@@ -1,0 +1,156 @@
+// PREPARE, COMMIT, COMMIT PREPARED, ABORT and FORGET.
+ghost use Rattle.std.specs.Prelude.{◌≡◌, ◌≤◌, ◌==◌, ◌&&◌, Bool, true, false, if◌then◌else◌, IfOk};
+ghost use Rattle.std.specs.BTreeSet.{contains};
+ghost use Rattle.gx_ids.specs.declared.ids.Gxid.{Gxid};
+ghost use Rattle.gx_dsnap.specs.Gxids.{gxid_cmp};
+ghost use Rattle.gx_outside.specs.Causes.{Rose};
+ghost use Rattle.gx_phases.specs.Changes.{Does, change_of, marks_in};
+ghost use Rattle.gx_phases.specs.Orders.{AreItems};
+ghost use Rattle.gx_phases.specs.Phases.{local_of, phase_of};
+ghost use Rattle.gx_rules.specs.Segments.{has_ended};
+ghost use Rattle.gx_rules.specs.Segments as rule;
+ghost use Rattle.gx_slices.specs.Agrees.{IsHeld, entry_at, local_in, rows_in};
+ghost use Rattle.gx_segment.specs.Before.{Before};
+ghost use Rattle.gx_segment.specs.Done.{HasDone, answer_of};
+ghost use Rattle.gx_segment.specs.Moves.{HasMoved, order_turn, status_in};
+
+use crate::done::{Done, answer, nothing};
+use crate::entries::{put_in, take_out};
+use gx_dtx::order::Order;
+use gx_ids::{Gxid, Mem, Node, Seq};
+use gx_msg::Kept;
+use gx_outside::Journal;
+use gx_phases::{Phase, Taken, take_order};
+use gx_slices::{Entry, Held, KeptRows};
+use gx_store::Mark;
+use gx_xidmap::LocalStatus;
+use std::alloc::Global;
+use std::collections::BTreeSet;
+
+// Takes an order for a transaction.
+pub(crate) fn take<J: Journal>(
+    alloc: Global,
+    node: Node,
+    held: &mut Held,
+    horizon: Gxid,
+    gxid: Gxid,
+    order: Order,
+    journal: &mut J,
+) -> Mem<Done>
+    ghost was: { Before }
+    requires node { node ≡ was.seg.node }
+    requires held { IsHeld was.script.tables held.old was.seg }
+    requires horizon { horizon ≡ was.seg.horizon }
+    ensures done { IfOk result (λ done. HasDone was.script.tables held.new horizon done (order_turn order was.seg gxid done.fails)) }
+    ensures items { IfOk result (λ done. AreItems (J.items journal.old) (J.items journal.new) done.fails (order_turn order was.seg gxid done.fails).item) }
+    ensures caused { IfOk result (λ done. done.fails ≡ true → Rose (J.fault_count journal.old) (J.fault_count journal.new)) }
+    ensures later { J.fault_count journal.old ≤ J.fault_count journal.new }
+{
+    if gxid < horizon {
+        return Ok(nothing(alloc));
+    }
+    let taken = obey(alloc, node, held, gxid, order, journal)?;
+    let done = done_of(alloc, gxid, taken)?;
+    Ok(done)
+}
+
+fn done_of(alloc: Global, gxid: Gxid, taken: Taken) -> Mem<Done>
+    ensures { IfOk result (λ done. done ≡ record { marks = marks_in taken.mark; answer = answer_of gxid taken.reply; fails = taken.fails }) }
+{
+    let marks = listed(alloc, taken.mark)?;
+    Ok(Done {
+        marks,
+        answer: answer(gxid, taken.reply),
+        fails: taken.fails,
+    })
+}
+
+fn listed(alloc: Global, mark: Option<Mark>) -> Mem<Seq<Mark>>
+    ensures { IfOk result (λ marks. marks ≡ marks_in mark) }
+{
+    let mut marks = Seq::new(alloc);
+    if let Some(mark) = mark {
+        marks.push(mark)?;
+    }
+    Ok(marks)
+}
+
+// Takes the order, and notes what it made of the transaction.
+fn obey<J: Journal>(
+    alloc: Global,
+    node: Node,
+    held: &mut Held,
+    gxid: Gxid,
+    order: Order,
+    journal: &mut J,
+) -> Mem<Taken>
+    requires { held.old.store.horizon.0 ≤ gxid.0 }
+    ensures moved { IfOk result (λ taken. HasMoved held.old held.new gxid (change_of order node gxid (rows_in (entry_at held.old gxid)) taken.fails (local_in (entry_at held.old gxid))) taken) }
+    ensures items { IfOk result (λ taken. AreItems (J.items journal.old) (J.items journal.new) taken.fails (change_of order node gxid (rows_in (entry_at held.old gxid)) taken.fails (local_in (entry_at held.old gxid))).item) }
+    ensures caused { IfOk result (λ taken. taken.fails ≡ true → Rose (J.fault_count journal.old) (J.fault_count journal.new)) }
+    ensures later { J.fault_count journal.old ≤ J.fault_count journal.new }
+{
+    let mut entry = take_out(alloc, &mut held.entries, gxid);
+    let taken = take_at(alloc, node, gxid, order, &mut entry, journal)?;
+    let phase = entry.local.phase;
+    put_in(&mut held.entries, gxid, entry)?;
+    held.store.set_status(gxid, status(phase));
+    leave_ended(&mut held.holders, gxid, phase);
+    Ok(taken)
+}
+
+fn take_at<J: Journal>(
+    alloc: Global,
+    node: Node,
+    gxid: Gxid,
+    order: Order,
+    entry: &mut Entry,
+    journal: &mut J,
+) -> Mem<Taken>
+    ensures does { IfOk result (λ taken. Does (change_of order node gxid entry.old.kept taken.fails (local_of entry.old.local)) (local_of entry.new.local) taken) }
+    ensures kept { entry.new.kept ≡ entry.old.kept }
+    ensures items { IfOk result (λ taken. AreItems (J.items journal.old) (J.items journal.new) taken.fails (change_of order node gxid entry.old.kept taken.fails (local_of entry.old.local)).item) }
+    ensures caused { IfOk result (λ taken. taken.fails ≡ true → Rose (J.fault_count journal.old) (J.fault_count journal.new)) }
+    ensures later { J.fault_count journal.old ≤ J.fault_count journal.new }
+{
+    let kept = kept_for(alloc, order, &entry.kept)?;
+    take_order(alloc, node, gxid, order, &mut entry.local, kept, journal)
+}
+
+// The rows that the order's item has.
+fn kept_for(alloc: Global, order: Order, rows: &KeptRows) -> Mem<Seq<Kept>>
+    ensures { IfOk result (λ kept. (node : Node) (g : Gxid) (fails : Bool) (l : rule.Local) → change_of order node g kept fails l ≡ change_of order node g rows.now fails l) }
+{
+    match order {
+        Order::Prepare | Order::Commit => rows.list(),
+        Order::CommitPrepared | Order::Abort | Order::Forget => Ok(Seq::new(alloc)),
+    }
+}
+
+// What the store says of a transaction in a phase.
+fn status(phase: Phase) -> LocalStatus
+    ensures { result ≡ status_in (phase_of phase) }
+{
+    match phase {
+        Phase::Reading | Phase::Writing => LocalStatus::Running,
+        Phase::Prepared => LocalStatus::Prepared,
+        Phase::Committed | Phase::Forgotten(true) => LocalStatus::Committed,
+        Phase::Forgotten(false) | Phase::Aborted => LocalStatus::Aborted,
+    }
+}
+
+// Who has ended here holds no locks any more.
+fn leave_ended(holders: &mut BTreeSet<Gxid>, gxid: Gxid, phase: Phase)
+    ensures { (g : Gxid) → contains gxid_cmp holders.new g ≡ (if has_ended (phase_of phase) && (g.0 == gxid.0) then false else contains gxid_cmp holders.old g) }
+{
+    match phase {
+        Phase::Forgotten(_) | Phase::Aborted => leave(holders, gxid),
+        _ => {}
+    }
+}
+
+fn leave(holders: &mut BTreeSet<Gxid>, gxid: Gxid)
+    ensures { (g : Gxid) → contains gxid_cmp holders.new g ≡ (if g.0 == gxid.0 then false else contains gxid_cmp holders.old g) }
+{
+    holders.remove(&gxid);
+}

@@ -1,0 +1,113 @@
+ghost use Rattle.std.specs.Prelude.{◌≡◌, ◌<◌, ◌≤◌, ◌^◌, true, false, None, IfOk, OnErr};
+ghost use Rattle.gx_gather.specs.Answer.{AreRising};
+ghost use Rattle.gx_rules.specs.Machine.{seg_can};
+ghost use Rattle.gx_rules.specs.Segments.{Seg, new_segment};
+ghost use Rattle.gx_rules.specs.Sending.{heard_in};
+ghost use Rattle.gx_rules.specs.Shown.{shown};
+ghost use Rattle.gx_segment.specs.Steps.{HasStepped, IsSegment, nobody, no_command};
+
+use crate::stepping::step_on;
+use gx_dsnap::Snapshot;
+use gx_ids::{Cid, Gxid, Mem, Node, OutOfMemory, Table};
+use gx_local::LocalStore;
+use gx_outside::{Gate, Journal};
+use gx_script::Script;
+use gx_slices::Held;
+use gx_store::{NodeEvent, NodeOut};
+use gx_tree::KeyedRow;
+use std::alloc::Global;
+use std::collections::{BTreeMap, BTreeSet};
+use std::sync::Arc;
+
+/// A segment of a script: the rows that are placed there, and the transactions that have come to it. The horizon is that of
+/// the rows' store, which doesn't tell it. Once memory has run out in a step the segment is spent, and answers the same from
+/// then on.
+#[derive(Drop)]
+pub struct Segment {
+    alloc: Global,
+    pub node: Node,
+    pub script: Arc<Script, Global>,
+    pub held: Held,
+    pub horizon: Gxid,
+    pub sent: u64,
+    pub clock: u64,
+    pub spent: bool,
+}
+
+impl Segment {
+    /// A segment to which nothing has come.
+    pub fn new(alloc: Global, node: Node, script: Arc<Script, Global>) -> Mem<Segment>
+        ensures new { IfOk result (λ segment. IsSegment segment (new_segment node)) }
+        ensures fresh { IfOk result (λ segment. segment.spent ≡ false) }
+        ensures script { IfOk result (λ segment. segment.script ≡ script) }
+    {
+        let held = Held {
+            store: LocalStore::new(alloc)?,
+            entries: BTreeMap::new(alloc),
+            holders: BTreeSet::new(alloc),
+        };
+        Ok(Segment {
+            alloc,
+            node,
+            script,
+            held,
+            horizon: Gxid(0),
+            sent: 0,
+            clock: 0,
+            spent: false,
+        })
+    }
+
+    /// Does one event, a delivery, by the segment's rule. What the envelope holds is tested here; what doesn't fit changes
+    /// nothing but the clock. The journal takes the items of PREPARE, COMMIT and COMMIT PREPARED before they are answered.
+    /// The gate is entered at the start of each slice.
+    pub fn step<J: Journal, G: Gate>(
+        &mut self,
+        event: NodeEvent,
+        journal: &mut J,
+        gate: &G,
+    ) -> Mem<NodeOut>
+        ghost s: { Seg }
+        requires is { self.old.spent ≡ false → IsSegment self.old s }
+        requires admitted { seg_can event ≡ true }
+        requires clock { self.old.clock < 2 ^ 62 }
+        requires heard { heard_in event < 2 ^ 62 }
+        requires numbers { self.old.sent < 2 ^ 62 }
+        ensures stepped { IfOk result (λ out. HasStepped self.old self.new s event (J.items journal.old) (J.items journal.new) (J.fault_count journal.old) (J.fault_count journal.new) out) }
+        ensures later { J.fault_count journal.old ≤ J.fault_count journal.new }
+        ensures spent { OnErr result (self.new.spent ≡ true) }
+        ensures again { self.old.spent ≡ true → OnErr result (J.items journal.new ≡ J.items journal.old) }
+    {
+        if self.spent {
+            return Err(OutOfMemory);
+        }
+        self.spent = true;
+        let out = step_on(
+            self.alloc,
+            self.node,
+            &self.script,
+            &mut self.held,
+            &mut self.horizon,
+            &mut self.sent,
+            &mut self.clock,
+            event,
+            journal,
+            gate,
+        )?;
+        self.spent = false;
+        Ok(out)
+    }
+
+    /// The rows of a table that a reader without a transaction is shown, by their identities.
+    pub fn final_rows(&self, snapshot: &Snapshot, table: Table) -> Mem<Vec<KeyedRow>>
+        ghost s: { Seg }
+        requires { IsSegment self.now s }
+        ensures rows { IfOk result (λ rows. rows.items ≡ shown s snapshot.now nobody no_command table) }
+    {
+        let rows = self
+            .held
+            .store
+            .shown_rows_from(table, snapshot, None, Cid(0))?;
+        Ok(rows)
+    }
+}

@@ -1,0 +1,66 @@
+// One step on a segment's parts.
+ghost use Rattle.std.specs.Prelude.{◌≡◌, ◌≤◌, ◌<◌, ◌+◌, ◌^◌, nat_lt, if◌then◌else◌, IfOk};
+ghost use Rattle.gx_rules.specs.Sending.{heard_in};
+ghost use Rattle.gx_slices.specs.Agrees.{IsHeld};
+ghost use Rattle.gx_segment.specs.Before.{Before};
+ghost use Rattle.gx_segment.specs.Steps.{HasGone};
+
+use crate::messages::take_event;
+use crate::sending::send;
+use gx_ids::{Gxid, Mem, Node};
+use gx_outside::{Gate, Journal};
+use gx_script::Script;
+use gx_slices::Held;
+use gx_store::{NodeEvent, NodeOut};
+use std::alloc::Global;
+
+// Takes the event and sends the answer.
+pub(crate) fn step_on<J: Journal, G: Gate>(
+    alloc: Global,
+    node: Node,
+    script: &Script,
+    held: &mut Held,
+    horizon: &mut Gxid,
+    sent: &mut u64,
+    clock: &mut u64,
+    event: NodeEvent,
+    journal: &mut J,
+    gate: &G,
+) -> Mem<NodeOut>
+    ghost was: { Before }
+    requires node { node ≡ was.seg.node }
+    requires script { script.now ≡ was.script }
+    requires held { IsHeld was.script.tables held.old was.seg }
+    requires horizon { horizon.old ≡ was.seg.horizon }
+    requires sent { sent.old ≡ was.seg.sent }
+    requires clock { clock.old ≡ was.seg.clock }
+    requires numbers { sent.old < 2 ^ 62 }
+    requires early { clock.old < 2 ^ 62 }
+    requires heard { heard_in event < 2 ^ 62 }
+    ensures gone { IfOk result (λ out. HasGone was event held.new horizon.new sent.new clock.new (J.items journal.old) (J.items journal.new) (J.fault_count journal.old) (J.fault_count journal.new) out) }
+    ensures later { J.fault_count journal.old ≤ J.fault_count journal.new }
+{
+    *clock = clock_behind(*clock, heard(&event));
+    let done = take_event(alloc, node, script, held, horizon, event, journal, gate)?;
+    let out = send(alloc, done, sent, *clock)?;
+    Ok(out)
+}
+
+// The clock that an event brings.
+fn heard(event: &NodeEvent) -> u64
+    ensures { result ≡ heard_in event.now }
+{
+    match event {
+        NodeEvent::Deliver { from: _, envelope } => envelope.clock,
+        _ => 0,
+    }
+}
+
+// One more than the greater of the two.
+fn clock_behind(clock: u64, heard: u64) -> u64
+    requires early { clock < 2 ^ 62 }
+    requires heard { heard < 2 ^ 62 }
+    ensures { result ≡ (if nat_lt clock heard then heard else clock) + 1 }
+{
+    if clock < heard { heard + 1 } else { clock + 1 }
+}
