@@ -1,0 +1,5 @@
+pub mod Numbers
+pub mod Filled
+pub mod Kept
+pub mod Whole
+pub mod Runs
