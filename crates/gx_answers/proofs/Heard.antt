@@ -34,21 +34,12 @@ use Rattle.gx_protocol.proofs.Whole.{world-both}
 use Rattle.gx_sights.specs.Sights.{DoViewsStay}
 use Rattle.gx_sights.proofs.Staying.{views-stay}
 use Rattle.gx_writes.proofs.Legal.{IsPlacedMark}
-use Rattle.gx_writes.proofs.Told.{each-get}
+use Rattle.gx_writes.proofs.Told.{each-get, take-get}
 use Rattle.gx_writes.proofs.World as writes
 use Rattle.gx_answers.specs.Truth.{IsTruePart}
 use Rattle.gx_answers.proofs.Always.{world-trues}
 use Rattle.gx_answers.proofs.Origins.{Events, IsTrueReply, IsTrueSent, IsTrueStep, IsTrueWord}
 use Rattle.gx_answers.proofs.Truths.{aborted-more, part-later, snapshot-more}
-
-take-get : {A : Type 0} (n : ℕ) (xs : List A) (k : ℕ) (x : A) → slice_get (take n xs) k ≡ Some x → slice_get xs k ≡ Some x
-take-get zero xs k x e = absurd (none e)
-  where
-    none : {A : Type 0} {x : A} → slice_get [] k ≡ Some x → ⊥
-    none q = cc
-take-get (suc n) [] k x e = e
-take-get (suc n) (y ∷ xs) zero x e = e
-take-get (suc n) (y ∷ xs) (suc k) x e = take-get n xs k x e
 
 by-recursion-get : {A : Type 0} (P : A → Type 0) (xs : List A) (k : ℕ) (x : A) → AllByRecursion P xs → slice_get xs k ≡ Some x → P x
 by-recursion-get P [] k x e f = absurd (cc)

@@ -40,7 +40,7 @@ use Rattle.gx_rules.specs.Segments.{Local, Seg, SegTurn, local_of}
 use Rattle.gx_rules.specs.Sending.{numbered}
 use Rattle.gx_rules.specs.Shown.{shown}
 use Rattle.gx_rules.specs.Slices.{Moved, first_fault, has_written, inserted, inserts, inserts_row, selects}
-use Rattle.gx_laws.proofs.Lists.{Each, each_append, each_weaker}
+use Rattle.gx_laws.proofs.Lists.{Each, each_weaker}
 use Rattle.gx_laws.proofs.World.{marks-last}
 use Rattle.gx_histories.specs.Orders.{AreLinesNumbered, IsOrder, IsReadBy, IsServed}
 use Rattle.gx_histories.proofs.Outs.{MessageIs, order-more}
@@ -50,14 +50,13 @@ use Rattle.gx_protocol.specs.Standings.{at, gx}
 use Rattle.gx_sights.specs.Sights.{IsShownView}
 use Rattle.gx_sights.proofs.Seeing.{world-hold}
 use Rattle.gx_writes.proofs.Legal.{IsPlacedMark, sent-no-write}
-use Rattle.gx_writes.proofs.Turns as writing
+use Rattle.gx_writes.proofs.Turns.{Inserted, IsOldReply, IsOldWord, NoWrite, Quiet, Selected, Turns, message-turns}
 use Rattle.gx_writes.proofs.World as writes
 use Rattle.gx_answers.specs.Parts.{IsPartOf}
 use Rattle.gx_answers.specs.Truth.{IsTruth}
 use Rattle.gx_answers.proofs.Plans.{select-line, slice-is}
 use Rattle.gx_answers.proofs.Shown.{shown-part}
 use Rattle.gx_answers.proofs.Truths.{aborted-more, marks_of, reply_of, select-truth}
-use Rattle.gx_answers.proofs.Turns.{Inserted, IsOldReply, IsOldWord, NoFault, Quiet, Selected, Turns, message-turns}
 
 abbrev pub Events : Type 0
 Events = List (Event × Bool)
@@ -161,10 +160,6 @@ module _ (g : Gxid) (c : Cid) (table : Table) where
       other : (b : Bool) → b ≡ false → (if b then record (local_of m.seg g) { phase = Rattle.gx_rules.specs.Segments.Phase.Writing } else m.seg.locals h).answer ≡ (m.seg.locals h).answer
       other true q = cc
       other false q = refl
-
-  pub insert-quiet : (rows : List KeyedRow) (m : Moved) → Each NoFault m.marks → Each NoFault (fold (inserts_row g c table) m rows).marks
-  insert-quiet [] m e = e
-  insert-quiet (row ∷ rows) m e = insert-quiet rows (inserts_row g c table m row) (each_append NoFault m.marks _ e (tt, tt))
 
 -- A SEGMENT'S TURN
 module _ (script : Script) (some : 1 ≤ script.segments) (numbered_lines : AreLinesNumbered [] script.lines) (es : Events) (from to : Node) (number : ℕ) (envelope : Envelope) (fails : Bool) (place : IsSegment script to) (is_found : found from to number (world_of script es).sent ≡ Some envelope) (order_is : MessageIs script (marks_in (world_of script es).steps) to envelope.message) (view_is : IsShownView (world_of script es) to envelope.message) where
@@ -322,7 +317,7 @@ module _ (script : Script) (some : 1 ≤ script.segments) (numbered_lines : AreL
         by_test h true q = subst (λ k. IsTrueKept script (es ++ e ∷ []) to (gx k) (Some r)) (sym (eqb-true h g.0 q)) is-true
         by_test h false q = subst (IsTrueKept script (es ++ e ∷ []) to (gx h)) (sym (others h q)) (kept-more h)
 
-    quiet-sent : Each writing.NoWrite sent
+    quiet-sent : Each NoWrite sent
     quiet-sent = sent-no-write (λ node. turn.seg.sent) turn.outs
 
     select-true : Selected s envelope.message turn → TurnTrue

@@ -48,6 +48,7 @@ use Rattle.gx_histories.specs.Finish.{point_at}
 use Rattle.gx_histories.specs.Gathering.{AreAll, AreApart, IsGathered, Taken, nodes_taken, parts_taken}
 use Rattle.gx_histories.specs.Orders.{AreLinesNumbered, level_of_began}
 use Rattle.gx_histories.proofs.Said.{CalmFor}
+use Rattle.gx_protocol.proofs.Commits.{take-kept}
 use Rattle.gx_writes.proofs.Turns.{NoWrite}
 use Rattle.gx_writes.proofs.World as writes
 use Rattle.gx_answers.specs.Keyed.{AreInsertsKeyed}
@@ -59,7 +60,7 @@ use Rattle.gx_answers.proofs.Heard.{heard, marks-are, more, order-now, part-now,
 use Rattle.gx_answers.proofs.Origins.{Events, IsTrueReply}
 use Rattle.gx_answers.proofs.Plans.{IsSliceOf, slice-is}
 use Rattle.gx_answers.proofs.Select.{has-from, merged, seen, whole}
-use Rattle.gx_answers.proofs.Truths.{image-more, snapshot-more, take-kept}
+use Rattle.gx_answers.proofs.Truths.{image-more, snapshot-more}
 use Rattle.gx_answers.proofs.Views.{view-is}
 
 -- ---- what a SELECT shows stays, where nothing is written
