@@ -42,8 +42,9 @@ use Rattle.gx_writes.proofs.Rows.{insert-no-fault}
 use Rattle.gx_writes.proofs.Told.{taken-told}
 use Rattle.gx_writes.proofs.Turns.{NoFault, Selected, Turns, message-turns, row-no-fault}
 use Rattle.gx_writes.proofs.World as writes
+use Rattle.gx_answers.specs.Earned.{Events}
 use Rattle.gx_answers.proofs.Always.{Came, came}
-use Rattle.gx_answers.proofs.Origins.{Events, is-late, rows-part, select-is, select-order, snapshot-at}
+use Rattle.gx_answers.proofs.Origins.{is-late, rows-part, select-is, select-order, snapshot-at}
 use Rattle.gx_answers.proofs.Truths.{seen-fault}
 
 abbrev FaultLegal : Script → Point → Mark → Type 0

@@ -24,8 +24,8 @@ use Rattle.gx_histories.proofs.Steps.{AreGiven}
 use Rattle.gx_histories.proofs.World as histories
 use Rattle.gx_histories.specs.Orders.{level_of_began}
 use Rattle.gx_store.specs.Lines.{began_from}
+use Rattle.gx_answers.specs.Earned.{Events}
 use Rattle.gx_answers.specs.Once.{AreSnapshotsOne, IsOneSnapshot}
-use Rattle.gx_answers.proofs.Origins.{Events}
 use Rattle.gx_answers.proofs.Single.{are-readers}
 
 pub record Once (ms : List Mark) (g : Gxid) (d : Cid) : Type 0 where

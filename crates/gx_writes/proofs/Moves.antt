@@ -227,11 +227,11 @@ module _ (script : Script) (numbered : AreLinesNumbered [] script.lines) (ms : L
     select-move = subst Moves (sym x.ran) (by-fault (shown (raised s x.horizon) x.snapshot x.g x.c x.query.table) (first_fault x.query.cond (shown (raised s x.horizon) x.snapshot x.g x.c x.query.table)))
 
 -- an INSERT's writes
-mark-written : (g : Gxid) (c : Cid) (node : Node) (table : Table) (ms : List Mark) (done rows : List KeyedRow) → Each (IsWritten (ms ++ map (row_mark g c node table) rows)) rows
-mark-written g c node table ms done [] = tt
-mark-written g c node table ms done (r ∷ rs) = (
+pub mark-written : (g : Gxid) (c : Cid) (node : Node) (table : Table) (ms : List Mark) (rows : List KeyedRow) → Each (IsWritten (ms ++ map (row_mark g c node table) rows)) rows
+mark-written g c node table ms [] = tt
+mark-written g c node table ms (r ∷ rs) = (
   is_written-append ms (row_mark g c node table r ∷ map (row_mark g c node table) rs) r.rid ∙ or-right (is_written ms r.rid) _ (or-left (is_same_rid r.rid r.rid) _ (same-rid r.rid)),
-  each_weaker (IsWritten (ms ++ map (row_mark g c node table) rs)) (IsWritten (ms ++ row_mark g c node table r ∷ map (row_mark g c node table) rs)) (λ x k. is_written-append ms (row_mark g c node table r ∷ map (row_mark g c node table) rs) x.rid ∙ middle (is_written ms x.rid) (is_same_rid r.rid x.rid) (is_written (map (row_mark g c node table) rs) x.rid) (sym (is_written-append ms (map (row_mark g c node table) rs) x.rid) ∙ k)) rs (mark-written g c node table ms done rs),
+  each_weaker (IsWritten (ms ++ map (row_mark g c node table) rs)) (IsWritten (ms ++ row_mark g c node table r ∷ map (row_mark g c node table) rs)) (λ x k. is_written-append ms (row_mark g c node table r ∷ map (row_mark g c node table) rs) x.rid ∙ middle (is_written ms x.rid) (is_same_rid r.rid x.rid) (is_written (map (row_mark g c node table) rs) x.rid) (sym (is_written-append ms (map (row_mark g c node table) rs) x.rid) ∙ k)) rs (mark-written g c node table ms rs),
 )
   where
     or-right : (a b : Bool) → b ≡ true → (a || b) ≡ true
@@ -304,7 +304,7 @@ module _ (script : Script) (numbered : AreLinesNumbered [] script.lines) (w : Wo
                   snapshot = Some x.snapshot;
                   slice = slice.Insert x.table x.rows;
                   order = order-later script numbered ms (map (row_mark x.g x.c (at i) x.table) x.rows) (at i) x.g x.c x.level (Some x.snapshot) (slice.Insert x.table x.rows) order;
-                  done = (refl, mark-written x.g x.c (at i) x.table ms [] x.rows);
+                  done = (refl, mark-written x.g x.c (at i) x.table ms x.rows);
                 },
               );
             })

@@ -54,7 +54,7 @@ module _ (g : Gxid) (c : Cid) (table : Table) where
       by_test true e = (a ∙ ap (λ j. (m.seg.locals j).last) (sym (eqb-true h g.0 e)), b ∙ ap (λ j. (m.seg.locals j).answer) (sym (eqb-true h g.0 e)))
       by_test false e = (refl, refl)
 
-  rows-locals : (rows : List KeyedRow) (m : Moved) (h : ℕ) → (((fold (inserts_row g c table) m rows).seg.locals h).last ≡ (m.seg.locals h).last) × (((fold (inserts_row g c table) m rows).seg.locals h).answer ≡ (m.seg.locals h).answer)
+  pub rows-locals : (rows : List KeyedRow) (m : Moved) (h : ℕ) → (((fold (inserts_row g c table) m rows).seg.locals h).last ≡ (m.seg.locals h).last) × (((fold (inserts_row g c table) m rows).seg.locals h).answer ≡ (m.seg.locals h).answer)
   rows-locals [] m h = (refl, refl)
   rows-locals (r ∷ rs) m h =
       let x = rows-locals rs (inserts_row g c table m r) h in
