@@ -2,16 +2,16 @@
 use Rattle.std.proofs.Common.{◌≡◌, ◌≤◌, inl, inr, ℕ, List, [], ◌∷◌, ◌++◌, Option, Some, None, Bool, true, false, refl, sym, subst, ap, ◌∙◌, if◌then◌else◌, eqb, arith, append_assoc, append-nil}
 use Rattle.std.proofs.lemmas.Bool.{eqb-true}
 use Rattle.std.proofs.lemmas.Bool.Decides.{nat_tests}
+use Rattle.gx_ids.specs.declared.ids.Gxid.{Gxid}
 use Rattle.gx_ids.specs.declared.ids.Node.{Node}
 use Rattle.gx_msg.specs.declared.message.Envelope.{Envelope}
-use Rattle.gx_msg.specs.declared.message.Message.{Message}
 use Rattle.gx_msg.specs.declared.message.Message.TheVariants as message
 use Rattle.gx_msg.specs.declared.message.Out.{Out}
+use Rattle.gx_msg.specs.declared.reply.Reply.{Reply}
 use Rattle.gx_script.specs.declared.Script.{Script}
 use Rattle.gx_store.specs.declared.event.Event.{Event}
 use Rattle.gx_store.specs.declared.event.Event.TheVariants as event
 use Rattle.gx_store.specs.declared.mark.Mark.{Mark}
-use Rattle.gx_store.specs.declared.mark.Mark.TheVariants as mark
 use Rattle.gx_store.specs.declared.node.NodeEvent.{NodeEvent}
 use Rattle.gx_store.specs.declared.node.NodeEvent.TheVariants as here
 use Rattle.gx_store.specs.declared.run.Step.{Step}
@@ -38,7 +38,7 @@ use Rattle.gx_protocol.proofs.Whole.{world-both}
 use Rattle.gx_sights.specs.Sights.{AreShownViews, IsShownView}
 use Rattle.gx_sights.proofs.Seeing.{world-views}
 use Rattle.gx_writes.proofs.Told.{each-get}
-use Rattle.gx_answers.specs.Earned.{AreAnswersEarned, Events}
+use Rattle.gx_answers.specs.Earned.{AreAnswersEarned, Events, IsReplyEarned}
 use Rattle.gx_answers.proofs.Origins.{AreEarned, IsKeptEarned, IsSentEarned, IsStepEarned, IsWordEarned, TurnEarned, kept-later, step-later, turn-earned}
 
 module _ (script : Script) (some : 1 ≤ script.segments) (numbered_lines : AreLinesNumbered [] script.lines) where
@@ -127,12 +127,11 @@ module _ (script : Script) (some : 1 ≤ script.segments) (numbered_lines : AreL
 
     sent-earned : (g : ℕ → ℕ) (outs : List Out) → Each (λ (o : Out). IsWordEarned script (es ++ e ∷ []) to o.message) outs → Each (IsSentEarned script (es ++ e ∷ []) to) (numbered g outs)
     sent-earned g [] h = tt
-    sent-earned g (o ∷ outs) h = (h.0, sent-earned (counted g o) outs h.1)
+    sent-earned g (o ∷ outs) h = ((λ n k j r q. h.0 j r (cc)), sent-earned (counted g o) outs h.1)
 
     plain-earned : (xs : List Mark) → Each (PlainAt script to) xs → Each (IsSentEarned script (es ++ e ∷ []) to) xs
     plain-earned [] d = tt
-    plain-earned (mark.Sent n k told ∷ xs) d = absurd d.0
-    plain-earned (m ∷ xs) d = (tt, plain-earned xs d.1)
+    plain-earned (m ∷ xs) d = ((λ n k g r q. absurd (subst (PlainAt script to) q d.0)), plain-earned xs d.1)
 
     plain : Each (PlainAt script to) turn.marks
     plain = subst (λ node. Each (PlainAt script node) turn.marks) ((world-both script some es).knows.well.names to.0) (seg_stays script s (subst (IsSegment script) (sym ((world-both script some es).knows.well.names to.0)) place) (here.Deliver from envelope) fails).marks
@@ -211,10 +210,10 @@ module _ (script : Script) (some : 1 ≤ script.segments) (numbered_lines : AreL
   world-earned es = after-earned [] es (record { sent = tt; kept = λ i h one. tt })
 
   -- WHAT WAS SENT
-  pub word-earned : (es : Events) (from to : Node) (step place number : ℕ) (m : Message) → 1 ≤ from.0 → IsSending (world_of script es).steps step place from to number m → IsWordEarned script es from m
-  word-earned es from to step place number m one x =
-      subst (λ k. IsSentEarned script es k (mark.Sent to number m)) x.node
-      (each-get (IsSentEarned script es x.sender.stamp.node) x.sender.marks place _ (each-get (IsStepEarned script es) (world_of script es).steps step x.sender (world-earned es).sent x.at (subst (λ (k : Node). 1 ≤ k.0) (sym x.node) one)) x.sent)
+  pub word-earned : (es : Events) (from to : Node) (step place number : ℕ) (g : Gxid) (r : Reply) → 1 ≤ from.0 → IsSending (world_of script es).steps step place from to number (message.Answer g r) → IsReplyEarned script es from g r
+  word-earned es from to step place number g r one x =
+      subst (λ k. IsReplyEarned script es k g r) x.node
+      (each-get (IsSentEarned script es x.sender.stamp.node) x.sender.marks place _ (each-get (IsStepEarned script es) (world_of script es).steps step x.sender (world-earned es).sent x.at (subst (λ (k : Node). 1 ≤ k.0) (sym x.node) one)) x.sent to number g r refl)
 
   pub all-earned : (es : Events) → AreAnswersEarned script es
-  all-earned es segment to number g answer place sent = word-earned es segment to sent.step sent.mark number (message.Answer g answer) place.0 sent.sending
+  all-earned es segment to number g answer place sent = word-earned es segment to sent.step sent.mark number g answer place.0 sent.sending

@@ -115,7 +115,7 @@ module _ (script : Script) (some : 1 ≤ script.segments) (numbered : AreLinesNu
   from-sending n step place from number m x =
       record {
         segment = segment;
-        word_earned = word-earned script some numbered es from the_coordinator step place number m segment.0 (record { sender = x.sender; at = there; node = x.node; sent = x.sent });
+        word_earned = λ g r q. word-earned script some numbered es from the_coordinator step place number g r segment.0 (subst (IsSending (world_of script es).steps step place from the_coordinator number) q (record { sender = x.sender; at = there; node = x.node; sent = x.sent }));
       }
     where
       there : slice_get (world_of script es).steps step ≡ Some x.sender

@@ -65,13 +65,12 @@ abbrev pub IsKeptEarned : Script → Events → Node → Gxid → Option Reply �
 IsKeptEarned script es node g None = Unit {0}
 IsKeptEarned script es node g (Some r) = IsReplyEarned script es node g r
 
+-- what it says if it is an answer
 abbrev pub IsWordEarned : Script → Events → Node → Message → Type 0
-IsWordEarned script es node (message.Answer g r) = IsReplyEarned script es node g r
-IsWordEarned script es node m = Unit {0}
+IsWordEarned script es node m = (g : Gxid) (r : Reply) → m ≡ message.Answer g r → IsReplyEarned script es node g r
 
 abbrev pub IsSentEarned : Script → Events → Node → Mark → Type 0
-IsSentEarned script es node (mark.Sent to number m) = IsWordEarned script es node m
-IsSentEarned script es node m = Unit {0}
+IsSentEarned script es node m = (to : Node) (number : ℕ) (g : Gxid) (r : Reply) → m ≡ mark.Sent to number (message.Answer g r) → IsReplyEarned script es node g r
 
 abbrev pub IsStepEarned : Script → Events → Step → Type 0
 IsStepEarned script es s = 1 ≤ s.stamp.node.0 → Each (IsSentEarned script es s.stamp.node) s.marks
@@ -85,7 +84,7 @@ module _ (script : Script) (es : Events) (x : Event × Bool) (node : Node) where
   earned-later g c r t =
       record { upto = t.upto; rest = t.rest ++ x ∷ []; split = ap (λ z. z ++ x ∷ []) t.split ∙ append_assoc t.upto t.rest (x ∷ []); level = t.level; snapshot = t.snapshot; slice = t.slice; given = t.given; order = t.order; taken = t.taken; truth = t.truth }
 
-  answer-later : (g : Gxid) (r : Reply) → IsReplyEarned script es node g r → IsReplyEarned script (es ++ x ∷ []) node g r
+  pub answer-later : (g : Gxid) (r : Reply) → IsReplyEarned script es node g r → IsReplyEarned script (es ++ x ∷ []) node g r
   answer-later g (reply.Done c w n p) t = earned-later g c (reply.Done c w n p) t
   answer-later g (reply.Failed c z) t = earned-later g c (reply.Failed c z) t
   answer-later g reply.Prepared t = tt
@@ -99,36 +98,8 @@ module _ (script : Script) (es : Events) (x : Event × Bool) (node : Node) where
   kept-later g None t = tt
   kept-later g (Some r) t = answer-later g r t
 
-  sent-later : (m : Mark) → IsSentEarned script es node m → IsSentEarned script (es ++ x ∷ []) node m
-  sent-later (mark.Sent to number (message.Answer g r)) t = answer-later g r t
-  sent-later (mark.Sent to number (message.Exec g c l a b d)) t = tt
-  sent-later (mark.Sent to number (message.Prepare g)) t = tt
-  sent-later (mark.Sent to number (message.Commit g)) t = tt
-  sent-later (mark.Sent to number (message.CommitPrepared g)) t = tt
-  sent-later (mark.Sent to number (message.Abort g)) t = tt
-  sent-later (mark.Sent to number (message.Forget g)) t = tt
-  sent-later (mark.Sent to number (message.Collect round)) t = tt
-  sent-later (mark.Sent to number (message.Graph round graph)) t = tt
-  sent-later (mark.Start a t') t = tt
-  sent-later (mark.Snap a d z) t = tt
-  sent-later (mark.Write g c n u r z) t = tt
-  sent-later (mark.Skip a d r) t = tt
-  sent-later (mark.Fault a d r z) t = tt
-  sent-later (mark.Commit a) t = tt
-  sent-later (mark.Abort a) t = tt
-  sent-later (mark.Answer u n a) t = tt
-  sent-later (mark.Hold n a z m) t = tt
-  sent-later (mark.Wait n a z m) t = tt
-  sent-later (mark.Release n a z m) t = tt
-  sent-later (mark.Prepared n a) t = tt
-  sent-later (mark.LocalCommit n a) t = tt
-  sent-later (mark.Decided a) t = tt
-  sent-later (mark.JournalFailed n a) t = tt
-  sent-later (mark.Report n z y) t = tt
-  sent-later (mark.Recheck z y u) t = tt
-
 pub step-later : (script : Script) (es : Events) (x : Event × Bool) (s : Step) → IsStepEarned script es s → IsStepEarned script (es ++ x ∷ []) s
-step-later script es x s t one = each_weaker (IsSentEarned script es s.stamp.node) (IsSentEarned script (es ++ x ∷ []) s.stamp.node) (λ m h. sent-later script es x s.stamp.node m h) s.marks (t one)
+step-later script es x s t one = each_weaker (IsSentEarned script es s.stamp.node) (IsSentEarned script (es ++ x ∷ []) s.stamp.node) (λ m h to number g r q. answer-later script es x s.stamp.node g r (h to number g r q)) s.marks (t one)
 
 pub record AreEarned (script : Script) (es : Events) (w : World) : Type 0 where
   pub sent : Each (IsStepEarned script es) w.steps
@@ -259,22 +230,11 @@ module _ (script : Script) (some : 1 ≤ script.segments) (numbered_lines : AreL
     old-earned g reply.Aborted o = tt
     old-earned g reply.Forgotten o = tt
 
-    old-word : (m : Message) → IsOldWord s m → IsWordEarned script (es ++ e ∷ []) to m
-    old-word (message.Answer g r) o = old-earned g r o
-    old-word (message.Exec g c l x y z) o = tt
-    old-word (message.Prepare g) o = tt
-    old-word (message.Commit g) o = tt
-    old-word (message.CommitPrepared g) o = tt
-    old-word (message.Abort g) o = tt
-    old-word (message.Forget g) o = tt
-    old-word (message.Collect round) o = tt
-    old-word (message.Graph round graph) o = tt
-
     quiet-earned : Quiet s turn → TurnEarned
     quiet-earned q =
         record {
           kept = λ h. subst (IsKeptEarned script (es ++ e ∷ []) to (gx h)) (sym (q.answers h)) (kept-more h);
-          outs = each_weaker (λ (o : Out). IsOldWord s o.message) (λ (o : Out). IsWordEarned script (es ++ e ∷ []) to o.message) (λ o k. old-word o.message k) turn.outs q.outs;
+          outs = each_weaker (λ (o : Out). IsOldWord s o.message) (λ (o : Out). IsWordEarned script (es ++ e ∷ []) to o.message) (λ o k g r q. old-earned g r (subst (IsOldWord s) q k)) turn.outs q.outs;
         }
 
     -- it runs a command
@@ -282,7 +242,7 @@ module _ (script : Script) (some : 1 ≤ script.segments) (numbered_lines : AreL
     ran-earned g c r base xs ran others now =
         record {
           kept = λ h. subst (λ (t : SegTurn). IsKeptEarned script (es ++ e ∷ []) to (gx h) (t.seg.locals h).answer) (sym ran) (by_test h (eqb h g.0) refl);
-          outs = subst (λ (t : SegTurn). Each (λ (o : Out). IsWordEarned script (es ++ e ∷ []) to o.message) t.outs) (sym ran) (earned, tt);
+          outs = subst (λ (t : SegTurn). Each (λ (o : Out). IsWordEarned script (es ++ e ∷ []) to o.message) t.outs) (sym ran) (said, tt);
         }
       where
         self-test : (a : ℕ) → eqb a a ≡ true
@@ -296,6 +256,15 @@ module _ (script : Script) (some : 1 ≤ script.segments) (numbered_lines : AreL
 
         earned : IsReplyEarned script (es ++ e ∷ []) to g r
         earned = now (le-same _ _ (ap (λ (t : SegTurn). (t.seg.locals g.0).last) ran ∙ ap (λ b. (if b then after else base.locals g.0).last) (self-test g.0)))
+
+        said : (h : Gxid) (a : Reply) → message.Answer g r ≡ message.Answer h a → IsReplyEarned script (es ++ e ∷ []) to h a
+        said h a q = subst (IsReplyEarned script (es ++ e ∷ []) to h) (same-reply q) (subst (λ k. IsReplyEarned script (es ++ e ∷ []) to k r) (same-gxid q) earned)
+          where
+            same-reply : message.Answer g r ≡ message.Answer h a → r ≡ a
+            same-reply q = cc
+
+            same-gxid : message.Answer g r ≡ message.Answer h a → g ≡ h
+            same-gxid q = cc
 
         by_test : (h : ℕ) (b : Bool) → eqb h g.0 ≡ b → IsKeptEarned script (es ++ e ∷ []) to (gx h) (if b then after else base.locals h).answer
         by_test h true q = subst (λ k. IsKeptEarned script (es ++ e ∷ []) to (gx k) (Some r)) (sym (eqb-true h g.0 q)) earned

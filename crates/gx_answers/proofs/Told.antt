@@ -172,7 +172,7 @@ module _ (script : Script) (some : 1 ≤ script.segments) (numbered : AreLinesNu
   module _ (once : IsOneSnapshot script ms) (from to : Node) (number : ℕ) (earlier later : List Mark) (session : SessionId) (level : Level) (g : Gxid) (c : Cid) (answer : StmtAnswer) (calm : Each (CalmFor session) earlier) (quiet : Each NoWrite earlier) where
     true-replies : (taken : List Taken) → AreAll (λ t. HasReceived (point_at (world_of script es).steps (event.Receive from to number) earlier later) t.node the_coordinator (message.Answer g (reply.Done c t.wrote t.count t.part))) taken → AreAll (λ t. IsEarned script es t.node g c (reply.Done c t.wrote t.count t.part)) taken
     true-replies [] h = tt
-    true-replies (t ∷ ts) h = ((heard script some numbered es (event.Receive from to number) earlier later t.node _ h.0).word_earned, true-replies ts h.1)
+    true-replies (t ∷ ts) h = ((heard script some numbered es (event.Receive from to number) earlier later t.node _ h.0).word_earned g (reply.Done c t.wrote t.count t.part) refl, true-replies ts h.1)
 
     -- segments don't run the others yet
     never : (line : Stmt) (s : Slice) → IsOf script ms line level g c → ((x : Slice) → IsSliceOf line x → x ≡ s) → ((marks : List Mark) (node : Node) (l : Level) (r : Reply) → IsTruth marks node l g c s r → ⊥) → (nodes : List Node) → (i : Node) × (has i nodes ≡ true) → (taken : List Taken) → AreAll (λ t. IsEarned script es t.node g c (reply.Done c t.wrote t.count t.part)) taken → ((i : Node) → has i nodes ≡ has i (nodes_taken taken)) → ⊥
