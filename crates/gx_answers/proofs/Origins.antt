@@ -194,11 +194,11 @@ module _ (script : Script) (some : 1 ≤ script.segments) (numbered_lines : AreL
     pub outs : Each (λ (o : Out). IsWordEarned script (es ++ e ∷ []) to o.message) turn.outs
 
   -- a command that is new there
-  module _ (g : Gxid) (c : Cid) (level : Level) (x : Snapshot) (horizon : Gxid) (y : Slice) (told : envelope.message ≡ message.Exec g c level (Some x) horizon y) (fresh : (s.locals g.0).last < c.0) where
+  module _ (g : Gxid) (c : Cid) (level : Level) (x : Snapshot) (horizon : Gxid) (y : Slice) (told : envelope.message ≡ message.Exec g c level (Some x) horizon y) (fresh : (s.locals g.0).last < c.0) (ran : turn ≡ runs_slice (raised s horizon) g c (Some x) y) where
     order : IsOrder script ms to g c level (Some x) y
     order = subst (MessageIs script ms to) told order_is numbered_lines
 
-    pub new-reply : (r : Reply) (xs : List Mark) → (runs_slice (raised s horizon) g c (Some x) y).outs ≡ reply_out g r ∷ [] → turn.marks ≡ xs → IsTruth (ms ++ (xs ++ sent)) to level g c y r → c.0 ≤ (turn.seg.locals g.0).last → IsEarned script (es ++ e ∷ []) to g c r
+    pub new-reply : (r : Reply) (xs : List Mark) → turn.outs ≡ reply_out g r ∷ [] → turn.marks ≡ xs → IsTruth (ms ++ (xs ++ sent)) to level g c y r → c.0 ≤ (turn.seg.locals g.0).last → IsEarned script (es ++ e ∷ []) to g c r
     new-reply r xs given same truth taken =
         record {
           upto = es ++ e ∷ [];
@@ -207,7 +207,7 @@ module _ (script : Script) (some : 1 ≤ script.segments) (numbered_lines : AreL
           level = level;
           snapshot = x;
           slice = y;
-          given = record { before = es; from = from; number = number; fails = fails; last = refl; envelope = envelope; posted = is_found; horizon = horizon; told = told; new = fresh; given = given };
+          given = record { before = es; from = from; number = number; fails = fails; last = refl; envelope = envelope; posted = is_found; horizon = horizon; told = told; new = fresh; ran = ran; given = given };
           order = subst (λ v. IsOrder script (marks_in v.steps) to g c level (Some x) y) (sym is-late) (subst (λ m. IsOrder script m to g c level (Some x) y) (sym late-marks) (order-more script ms (turn.marks ++ sent) to (message.Exec g c level (Some x) g y) (λ n. order) numbered_lines));
           taken = subst (λ v. c.0 ≤ (local_of (v.segs to.0) g).last) (sym is-late) (subst (λ b. c.0 ≤ ((if b then (seg_rule script s (here.Deliver from envelope) fails).seg else s).locals g.0).last) (sym self) taken);
           truth = subst (λ v. IsTruth (marks_in v.steps) to level g c y r) (sym is-late) (subst (λ m. IsTruth m to level g c y r) (sym late-marks) (subst (λ m. IsTruth (ms ++ (m ++ sent)) to level g c y r) (sym same) truth));
@@ -284,17 +284,14 @@ module _ (script : Script) (some : 1 ≤ script.segments) (numbered_lines : AreL
             by_abort (Some fault) f true a = inl (aborted-more ms _ z.g a)
             by_abort o f false a = select-truth ms sent quiet-sent to z.level z.g z.c a (served z).place (snapshot-at z) z.query (rows z) (rows-part z a) _ o f
 
-        outs-are : (o : Option (KeyedRow × ArithFault)) → first_fault z.query.cond (rows z) ≡ o → (runs_slice (raised s z.horizon) z.g z.c (Some z.snapshot) (slice.Select z.query)).outs ≡ (selects (raised s z.horizon) z.g z.c z.query (rows z) o).outs
-        outs-are o f = ap (λ a. (selects (raised s z.horizon) z.g z.c z.query (rows z) a).outs) f
-
         by_fault : (o : Option (KeyedRow × ArithFault)) → first_fault z.query.cond (rows z) ≡ o → turn ≡ selects (raised s z.horizon) z.g z.c z.query (rows z) o → TurnEarned
-        by_fault None f ran = ran-earned z.g z.c _ (raised s z.horizon) [] ran (λ h. refl) (new-reply z.g z.c z.level z.snapshot z.horizon (slice.Select z.query) z.is z.fresh _ [] (outs-are None f) (ap (λ (t : SegTurn). t.marks) ran) (truth None f))
-        by_fault (Some fault) f ran = ran-earned z.g z.c _ (raised s z.horizon) _ ran (λ h. refl) (new-reply z.g z.c z.level z.snapshot z.horizon (slice.Select z.query) z.is z.fresh _ _ (outs-are (Some fault) f) (ap (λ (t : SegTurn). t.marks) ran) (truth (Some fault) f))
+        by_fault None f ran = ran-earned z.g z.c _ (raised s z.horizon) [] ran (λ h. refl) (new-reply z.g z.c z.level z.snapshot z.horizon (slice.Select z.query) z.is z.fresh z.ran _ [] (ap (λ (t : SegTurn). t.outs) ran) (ap (λ (t : SegTurn). t.marks) ran) (truth None f))
+        by_fault (Some fault) f ran = ran-earned z.g z.c _ (raised s z.horizon) _ ran (λ h. refl) (new-reply z.g z.c z.level z.snapshot z.horizon (slice.Select z.query) z.is z.fresh z.ran _ _ (ap (λ (t : SegTurn). t.outs) ran) (ap (λ (t : SegTurn). t.marks) ran) (truth (Some fault) f))
 
     insert-earned : Inserted s envelope.message turn → TurnEarned
     insert-earned z =
         ran-earned z.g z.c _ (inserted (raised s z.horizon) z.g z.c z.table z.rows).seg _ z.ran (λ h. (rows-locals z.g z.c z.table z.rows (record { seg = raised s z.horizon; marks = [] }) h).1)
-        (new-reply z.g z.c z.level z.snapshot z.horizon (slice.Insert z.table z.rows) z.is z.fresh _ (inserted (raised s z.horizon) z.g z.c z.table z.rows).marks refl (ap (λ (t : SegTurn). t.marks) z.ran) truth)
+        (new-reply z.g z.c z.level z.snapshot z.horizon (slice.Insert z.table z.rows) z.is z.fresh z.ran _ (inserted (raised s z.horizon) z.g z.c z.table z.rows).marks (ap (λ (t : SegTurn). t.outs) z.ran) (ap (λ (t : SegTurn). t.marks) z.ran) truth)
       where
         marks : List Mark
         marks = (inserted (raised s z.horizon) z.g z.c z.table z.rows).marks

@@ -16,7 +16,7 @@ use Rattle.gx_store.specs.declared.event.Event.TheVariants.{Receive}
 use Rattle.gx_store.specs.Messages.{IsSent}
 use Rattle.gx_store.specs.Ordered.{IsSegment}
 use Rattle.gx_store.specs.Points.{marks_in}
-use Rattle.gx_rules.specs.AtSegment.{raised}
+use Rattle.gx_rules.specs.AtSegment.{on_message, raised}
 use Rattle.gx_rules.specs.Machine.{found, world_of}
 use Rattle.gx_rules.specs.Segments.{local_of, reply}
 use Rattle.gx_rules.specs.Slices.{runs_slice}
@@ -27,7 +27,8 @@ use Rattle.gx_answers.specs.Truth.{IsTruth}
 abbrev pub Events : Type 0
 Events = List (Event × Bool)
 
--- in the last of these events an EXEC came to the segment, of a command that was new there, and by the rule it was answered so
+-- In the last of these events an EXEC came to the segment, of a command that was new there; its slice ran by the rule, and so it
+-- was answered.
 pub record IsGiven (script : Script) (events : Events) (segment : Node) (g : Gxid) (c : Cid) (level : Level) (snapshot : Snapshot) (slice : Slice) (answer : Reply) : Type 0 where
   pub before : Events
   pub from : Node
@@ -39,7 +40,8 @@ pub record IsGiven (script : Script) (events : Events) (segment : Node) (g : Gxi
   pub horizon : Gxid
   pub told : envelope.message ≡ Exec g c level (Some snapshot) horizon slice
   pub new : (local_of ((world_of script before).segs segment.0) g).last < c.0
-  pub given : (runs_slice (raised ((world_of script before).segs segment.0) horizon) g c (Some snapshot) slice).outs ≡ reply g answer ∷ []
+  pub ran : on_message script ((world_of script before).segs segment.0) fails envelope.message ≡ runs_slice (raised ((world_of script before).segs segment.0) horizon) g c (Some snapshot) slice
+  pub given : (on_message script ((world_of script before).segs segment.0) fails envelope.message).outs ≡ reply g answer ∷ []
 
 -- Behind some of the events the segment was given the answer by its rule, for a command that was its transaction's, and what the
 -- answer says was so.
