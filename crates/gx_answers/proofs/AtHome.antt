@@ -15,7 +15,7 @@ use Rattle.gx_rules.specs.Machine.{world_of}
 use Rattle.gx_histories.specs.Orders.{AreLinesNumbered}
 use Rattle.gx_sights.specs.Sights.{AreAtHome, IsOnlyAt}
 use Rattle.gx_writes.proofs.World as writes
-use Rattle.gx_answers.proofs.Origins.{Events}
+use Rattle.gx_answers.specs.Earned.{Events}
 use Rattle.gx_answers.proofs.Shown.{first-at, never-only, only-at}
 
 value_place-least : (n : ℕ) (v : Value) → 1 ≤ value_place n v

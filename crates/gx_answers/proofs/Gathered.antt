@@ -44,10 +44,10 @@ use Rattle.gx_writes.proofs.Progress.{Progress, place_of, progress-done, progres
 use Rattle.gx_writes.proofs.Told.{IsDoneSlice, IsReport, taken-told, written-more}
 use Rattle.gx_writes.specs.Rows.{AreRowsOf}
 use Rattle.gx_writes.proofs.World as writes
+use Rattle.gx_answers.specs.Earned.{Events}
 use Rattle.gx_answers.specs.Keyed.{AreInsertsFilled}
 use Rattle.gx_answers.proofs.Commands.{IsOf}
 use Rattle.gx_answers.proofs.Heard.{Heard, heard}
-use Rattle.gx_answers.proofs.Origins.{Events}
 
 -- ---- nodes
 without-at : (i j : Node) (xs : List Node) (b : Bool) → has i xs ≡ (eqb j.0 i.0 || b) → (eqb j.0 i.0 ≡ true → b ≡ false) → has i (without j xs) ≡ b

@@ -15,7 +15,6 @@ use Rattle.gx_msg.specs.declared.reply.Reply.{Reply}
 use Rattle.gx_script.specs.declared.Script.{Script}
 use Rattle.gx_store.specs.declared.event.Event.{Event}
 use Rattle.gx_store.specs.declared.mark.Mark.{Mark}
-use Rattle.gx_store.specs.declared.mark.Mark.TheVariants as mark
 use Rattle.gx_store.specs.declared.run.Step.{Step}
 use Rattle.gx_store.specs.Marks.{is_aborted, is_committed, is_ended}
 use Rattle.gx_store.specs.Messages.{HasReceived, IsSending, IsSent}
@@ -34,21 +33,13 @@ use Rattle.gx_protocol.proofs.Whole.{world-both}
 use Rattle.gx_sights.specs.Sights.{DoViewsStay}
 use Rattle.gx_sights.proofs.Staying.{views-stay}
 use Rattle.gx_writes.proofs.Legal.{IsPlacedMark}
-use Rattle.gx_writes.proofs.Told.{each-get}
+use Rattle.gx_writes.proofs.Told.{take-get}
 use Rattle.gx_writes.proofs.World as writes
+use Rattle.gx_answers.specs.Earned.{Events, IsEarned}
 use Rattle.gx_answers.specs.Truth.{IsTruePart}
-use Rattle.gx_answers.proofs.Always.{world-trues}
-use Rattle.gx_answers.proofs.Origins.{Events, IsTrueReply, IsTrueSent, IsTrueStep, IsTrueWord}
+use Rattle.gx_answers.proofs.Always.{word-earned}
+use Rattle.gx_answers.proofs.Origins.{IsWordEarned}
 use Rattle.gx_answers.proofs.Truths.{aborted-more, part-later, snapshot-more}
-
-take-get : {A : Type 0} (n : ℕ) (xs : List A) (k : ℕ) (x : A) → slice_get (take n xs) k ≡ Some x → slice_get xs k ≡ Some x
-take-get zero xs k x e = absurd (none e)
-  where
-    none : {A : Type 0} {x : A} → slice_get [] k ≡ Some x → ⊥
-    none q = cc
-take-get (suc n) [] k x e = e
-take-get (suc n) (y ∷ xs) zero x e = e
-take-get (suc n) (y ∷ xs) (suc k) x e = take-get n xs k x e
 
 by-recursion-get : {A : Type 0} (P : A → Type 0) (xs : List A) (k : ℕ) (x : A) → AllByRecursion P xs → slice_get xs k ≡ Some x → P x
 by-recursion-get P [] k x e f = absurd (cc)
@@ -111,7 +102,7 @@ module _ (script : Script) (some : 1 ≤ script.segments) (numbered : AreLinesNu
 
   pub record Heard (from : Node) (m : Message) : Type 0 where
     pub segment : IsSegment script from
-    pub true_word : IsTrueWord script es from m
+    pub word_earned : IsWordEarned script es from m
 
   no-self : (n : Node) → IsLink script n the_coordinator → IsSegment script n
   no-self n (inl l) = absurd (zero-one l.1.0)
@@ -124,7 +115,7 @@ module _ (script : Script) (some : 1 ≤ script.segments) (numbered : AreLinesNu
   from-sending n step place from number m x =
       record {
         segment = segment;
-        true_word = subst (λ k. IsTrueSent script es k (mark.Sent the_coordinator number m)) x.node (each-get (IsTrueSent script es x.sender.stamp.node) x.sender.marks place _ (each-get (IsTrueStep script es) (world_of script es).steps step x.sender (world-trues script some numbered es).sent there (subst (λ (k : Node). 1 ≤ k.0) (sym x.node) segment.0)) x.sent);
+        word_earned = λ g r q. word-earned script some numbered es from the_coordinator step place number g r segment.0 (subst (IsSending (world_of script es).steps step place from the_coordinator number) q (record { sender = x.sender; at = there; node = x.node; sent = x.sent }));
       }
     where
       there : slice_get (world_of script es).steps step ≡ Some x.sender
@@ -145,7 +136,7 @@ module _ (script : Script) (some : 1 ≤ script.segments) (numbered : AreLinesNu
   heard e earlier later from m (k, inr x) = heard-now from m x.1.number x.1.sent
 
   -- WHAT WAS TRUE STAYS SO
-  module _ (node : Node) (g : Gxid) (c : Cid) (r : Reply) (t : IsTrueReply script es node g c r) where
+  module _ (node : Node) (g : Gxid) (c : Cid) (r : Reply) (t : IsEarned script es node g c r) where
     abbrev then_ : World
     then_ = world_of script t.upto
 

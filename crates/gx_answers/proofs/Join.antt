@@ -1,11 +1,12 @@
 -- Every run is a legal history.
-use Rattle.std.proofs.Common.{◌≤◌, ℕ, List, [], ◌∷◌, subst}
+use Rattle.std.proofs.Common.{◌≤◌, ℕ, List, [], ◌∷◌, refl, subst}
 use Rattle.gx_ids.specs.declared.ids.Cid.{Cid}
 use Rattle.gx_ids.specs.declared.ids.Gxid.{Gxid}
 use Rattle.gx_ids.specs.declared.ids.Node.{Node}
 use Rattle.gx_ids.specs.declared.ids.SessionId.{SessionId}
 use Rattle.gx_tree.specs.declared.stmt.Level.{Level}
 use Rattle.gx_tree.specs.declared.stmt.Stmt.{Stmt}
+use Rattle.gx_msg.specs.declared.reply.Reply.TheVariants as reply
 use Rattle.gx_script.specs.declared.Script.{Script}
 use Rattle.gx_store.specs.declared.event.Event.TheVariants as event
 use Rattle.gx_store.specs.declared.mark.Mark.{Mark}
@@ -25,12 +26,12 @@ use Rattle.gx_histories.specs.Gathering.{IsGathered}
 use Rattle.gx_histories.specs.Orders.{AreLinesNumbered}
 use Rattle.gx_histories.proofs.Said.{CalmFor}
 use Rattle.gx_histories.proofs.World.{all-legal, sessions-stand}
+use Rattle.gx_answers.specs.Earned.{Events}
 use Rattle.gx_answers.specs.Keyed.{AreInsertsFilled, AreInsertsKeyed}
 use Rattle.gx_answers.specs.Once.{AreSnapshotsOne}
 use Rattle.gx_answers.proofs.Commands.{IsOf, command-is}
 use Rattle.gx_answers.proofs.Gathered.{insert-tells}
 use Rattle.gx_answers.proofs.Heard.{heard-now}
-use Rattle.gx_answers.proofs.Origins.{Events}
 use Rattle.gx_answers.proofs.Segs.{segments-legal}
 use Rattle.gx_answers.proofs.Snaps.{one-snapshot}
 use Rattle.gx_answers.proofs.Told.{caused, tells-by}
@@ -54,7 +55,7 @@ module _ (script : Script) (some : 1 ≤ script.segments) (numbered : AreLinesNu
           (λ t v e. insert-tells script some numbered filled es t v level g c (subst (λ l. IsOf script (marks_in steps) l level g c) e (its from to number (mark.Commit g ∷ []) later session stmt level g c (tt, tt) runs)) from to number (mark.Commit g ∷ []) later answer
           (subst (λ l. IsGathered script (point_at steps (event.Receive from to number) (mark.Commit g ∷ []) later) g c l answer) e x));
       refused = λ from to number later session stmt level g c segment cause runs x.
-          caused script some numbered keyed es from to number later level g c segment stmt (its from to number (mark.Abort g ∷ []) later session stmt level g c (tt, tt) runs) cause (heard-now script some numbered es segment _ x.number x.sent).true_word;
+          caused script some numbered keyed es from to number later level g c segment stmt (its from to number (mark.Abort g ∷ []) later session stmt level g c (tt, tt) runs) cause ((heard-now script some numbered es segment _ x.number x.sent).word_earned g (reply.Failed c cause) refl);
     }
 
   rest-shown : IsRestShown script

@@ -4,7 +4,6 @@ pub mod Homes
 pub mod Rising
 pub mod Dealt
 pub mod Select
-pub mod Turns
 pub mod Plans
 pub mod Shown
 pub mod Truths

@@ -1,12 +1,11 @@
--- Every answer of a command that a segment sends was true when it was sent first.
-use Rattle.std.proofs.Common.{◌≡◌, ◌≤◌, inl, inr, ℕ, List, [], ◌∷◌, ◌++◌, Option, Some, None, Bool, true, false, refl, sym, subst, ap, ◌∙◌, if◌then◌else◌, eqb, arith, append_assoc, append-nil}
+-- Every answer to a command that a segment sends was earned when it was sent first.
+use Rattle.std.proofs.Common.{◌≡◌, ◌≤◌, ◌<◌, inl, inr, ℕ, List, [], ◌∷◌, ◌++◌, Option, Some, None, Bool, true, false, refl, sym, subst, ap, ◌∙◌, if◌then◌else◌, eqb, arith, append_assoc, append-nil}
 use Rattle.std.proofs.lemmas.Bool.{eqb-true}
 use Rattle.std.proofs.lemmas.Bool.Decides.{nat_tests}
-use Rattle.std.specs.Prelude.{fold, take}
+use Rattle.std.specs.Prelude.{length, take}
 use Rattle.gx_ids.specs.declared.ids.Cid.{Cid}
 use Rattle.gx_ids.specs.declared.ids.Gxid.{Gxid}
 use Rattle.gx_ids.specs.declared.ids.Node.{Node}
-use Rattle.gx_ids.specs.declared.ids.Table.{Table}
 use Rattle.gx_tree.specs.declared.row.KeyedRow.{KeyedRow}
 use Rattle.gx_tree.specs.declared.slice.Slice.{Slice}
 use Rattle.gx_tree.specs.declared.slice.Slice.TheVariants as slice
@@ -36,11 +35,11 @@ use Rattle.gx_store.specs.Refusals.{the_coordinator}
 use Rattle.gx_rules.specs.AtCoordinator.{coord_can, coord_rule}
 use Rattle.gx_rules.specs.AtSegment.{on_message, raised, seg_rule}
 use Rattle.gx_rules.specs.Machine.{Letter, World, after, at_node, can, coord_did, delivered, does, found, happens, new_world, node_of, seg_did, world_of}
-use Rattle.gx_rules.specs.Segments.{Local, Seg, SegTurn, local_of}
+use Rattle.gx_rules.specs.Segments.{Local, Seg, SegTurn, local_of, reply as reply_out}
 use Rattle.gx_rules.specs.Sending.{numbered}
 use Rattle.gx_rules.specs.Shown.{shown}
-use Rattle.gx_rules.specs.Slices.{Moved, first_fault, has_written, inserted, inserts, inserts_row, selects}
-use Rattle.gx_laws.proofs.Lists.{Each, each_append, each_weaker}
+use Rattle.gx_rules.specs.Slices.{answers, first_fault, has_written, inserted, runs_slice, selects}
+use Rattle.gx_laws.proofs.Lists.{Each, each_weaker}
 use Rattle.gx_laws.proofs.World.{marks-last}
 use Rattle.gx_histories.specs.Orders.{AreLinesNumbered, IsOrder, IsReadBy, IsServed}
 use Rattle.gx_histories.proofs.Outs.{MessageIs, order-more}
@@ -50,121 +49,66 @@ use Rattle.gx_protocol.specs.Standings.{at, gx}
 use Rattle.gx_sights.specs.Sights.{IsShownView}
 use Rattle.gx_sights.proofs.Seeing.{world-hold}
 use Rattle.gx_writes.proofs.Legal.{IsPlacedMark, sent-no-write}
-use Rattle.gx_writes.proofs.Turns as writing
+use Rattle.gx_writes.proofs.Moves.{mark-written}
+use Rattle.gx_writes.proofs.Rows.{insert-wrote, rows-locals}
+use Rattle.gx_writes.proofs.Told.{IsWritten, written-more}
+use Rattle.gx_writes.proofs.Turns.{Inserted, IsOldReply, IsOldWord, NoWrite, Quiet, Selected, Turns, message-turns}
 use Rattle.gx_writes.proofs.World as writes
+use Rattle.gx_answers.specs.Earned.{Events, IsEarned, IsReplyEarned}
 use Rattle.gx_answers.specs.Parts.{IsPartOf}
-use Rattle.gx_answers.specs.Truth.{IsTruth}
+use Rattle.gx_answers.specs.Truth.{AreWritten, IsTruth}
 use Rattle.gx_answers.proofs.Plans.{select-line, slice-is}
 use Rattle.gx_answers.proofs.Shown.{shown-part}
 use Rattle.gx_answers.proofs.Truths.{aborted-more, marks_of, reply_of, select-truth}
-use Rattle.gx_answers.proofs.Turns.{Inserted, IsOldReply, IsOldWord, NoFault, Quiet, Selected, Turns, message-turns}
 
-abbrev pub Events : Type 0
-Events = List (Event × Bool)
+abbrev pub IsKeptEarned : Script → Events → Node → Gxid → Option Reply → Type 0
+IsKeptEarned script es node g None = Unit {0}
+IsKeptEarned script es node g (Some r) = IsReplyEarned script es node g r
 
--- when a segment sent the answer first, and what was true then
-pub record IsTrueReply (script : Script) (es : Events) (node : Node) (g : Gxid) (c : Cid) (r : Reply) : Type 0 where
-  pub upto : Events
-  pub rest : Events
-  pub split : es ≡ upto ++ rest
-  pub level : Level
-  pub snapshot : Snapshot
-  pub slice : Slice
-  pub order : IsOrder script (marks_in (world_of script upto).steps) node g c level (Some snapshot) slice
-  pub taken : c.0 ≤ (local_of ((world_of script upto).segs node.0) g).last
-  pub truth : IsTruth (marks_in (world_of script upto).steps) node level g c slice r
+-- what it says if it is an answer
+abbrev pub IsWordEarned : Script → Events → Node → Message → Type 0
+IsWordEarned script es node m = (g : Gxid) (r : Reply) → m ≡ message.Answer g r → IsReplyEarned script es node g r
 
-abbrev pub IsTrue : Script → Events → Node → Gxid → Reply → Type 0
-IsTrue script es node g (reply.Done c wrote count part) = IsTrueReply script es node g c (reply.Done c wrote count part)
-IsTrue script es node g (reply.Failed c cause) = IsTrueReply script es node g c (reply.Failed c cause)
-IsTrue script es node g r = Unit {0}
+abbrev pub IsSentEarned : Script → Events → Node → Mark → Type 0
+IsSentEarned script es node m = (to : Node) (number : ℕ) (g : Gxid) (r : Reply) → m ≡ mark.Sent to number (message.Answer g r) → IsReplyEarned script es node g r
 
-abbrev pub IsTrueKept : Script → Events → Node → Gxid → Option Reply → Type 0
-IsTrueKept script es node g None = Unit {0}
-IsTrueKept script es node g (Some r) = IsTrue script es node g r
-
-abbrev pub IsTrueWord : Script → Events → Node → Message → Type 0
-IsTrueWord script es node (message.Answer g r) = IsTrue script es node g r
-IsTrueWord script es node m = Unit {0}
-
-abbrev pub IsTrueSent : Script → Events → Node → Mark → Type 0
-IsTrueSent script es node (mark.Sent to number m) = IsTrueWord script es node m
-IsTrueSent script es node m = Unit {0}
-
-abbrev pub IsTrueStep : Script → Events → Step → Type 0
-IsTrueStep script es s = 1 ≤ s.stamp.node.0 → Each (IsTrueSent script es s.stamp.node) s.marks
+abbrev pub IsStepEarned : Script → Events → Step → Type 0
+IsStepEarned script es s = 1 ≤ s.stamp.node.0 → Each (IsSentEarned script es s.stamp.node) s.marks
 
 -- MORE EVENTS
 module _ (script : Script) (es : Events) (x : Event × Bool) (node : Node) where
   abbrev later : Events
   later = es ++ x ∷ []
 
-  reply-later : (g : Gxid) (c : Cid) (r : Reply) → IsTrueReply script es node g c r → IsTrueReply script (es ++ x ∷ []) node g c r
-  reply-later g c r t =
-      record { upto = t.upto; rest = t.rest ++ x ∷ []; split = ap (λ z. z ++ x ∷ []) t.split ∙ append_assoc t.upto t.rest (x ∷ []); level = t.level; snapshot = t.snapshot; slice = t.slice; order = t.order; taken = t.taken; truth = t.truth }
+  earned-later : (g : Gxid) (c : Cid) (r : Reply) → IsEarned script es node g c r → IsEarned script (es ++ x ∷ []) node g c r
+  earned-later g c r t =
+      record { upto = t.upto; rest = t.rest ++ x ∷ []; split = ap (λ z. z ++ x ∷ []) t.split ∙ append_assoc t.upto t.rest (x ∷ []); level = t.level; snapshot = t.snapshot; slice = t.slice; given = t.given; order = t.order; taken = t.taken; truth = t.truth }
 
-  true-later : (g : Gxid) (r : Reply) → IsTrue script es node g r → IsTrue script (es ++ x ∷ []) node g r
-  true-later g (reply.Done c w n p) t = reply-later g c (reply.Done c w n p) t
-  true-later g (reply.Failed c z) t = reply-later g c (reply.Failed c z) t
-  true-later g reply.Prepared t = tt
-  true-later g reply.Committed t = tt
-  true-later g reply.Jfault t = tt
-  true-later g reply.Again t = tt
-  true-later g reply.Aborted t = tt
-  true-later g reply.Forgotten t = tt
+  pub answer-later : (g : Gxid) (r : Reply) → IsReplyEarned script es node g r → IsReplyEarned script (es ++ x ∷ []) node g r
+  answer-later g (reply.Done c w n p) t = earned-later g c (reply.Done c w n p) t
+  answer-later g (reply.Failed c z) t = earned-later g c (reply.Failed c z) t
+  answer-later g reply.Prepared t = tt
+  answer-later g reply.Committed t = tt
+  answer-later g reply.Jfault t = tt
+  answer-later g reply.Again t = tt
+  answer-later g reply.Aborted t = tt
+  answer-later g reply.Forgotten t = tt
 
-  pub kept-later : (g : Gxid) (o : Option Reply) → IsTrueKept script es node g o → IsTrueKept script (es ++ x ∷ []) node g o
+  pub kept-later : (g : Gxid) (o : Option Reply) → IsKeptEarned script es node g o → IsKeptEarned script (es ++ x ∷ []) node g o
   kept-later g None t = tt
-  kept-later g (Some r) t = true-later g r t
+  kept-later g (Some r) t = answer-later g r t
 
-  sent-later : (m : Mark) → IsTrueSent script es node m → IsTrueSent script (es ++ x ∷ []) node m
-  sent-later (mark.Sent to number (message.Answer g r)) t = true-later g r t
-  sent-later (mark.Sent to number (message.Exec g c l a b d)) t = tt
-  sent-later (mark.Sent to number (message.Prepare g)) t = tt
-  sent-later (mark.Sent to number (message.Commit g)) t = tt
-  sent-later (mark.Sent to number (message.CommitPrepared g)) t = tt
-  sent-later (mark.Sent to number (message.Abort g)) t = tt
-  sent-later (mark.Sent to number (message.Forget g)) t = tt
-  sent-later (mark.Sent to number (message.Collect round)) t = tt
-  sent-later (mark.Sent to number (message.Graph round graph)) t = tt
-  sent-later (mark.Start a t') t = tt
-  sent-later (mark.Snap a d z) t = tt
-  sent-later (mark.Write g c n u r z) t = tt
-  sent-later (mark.Skip a d r) t = tt
-  sent-later (mark.Fault a d r z) t = tt
-  sent-later (mark.Commit a) t = tt
-  sent-later (mark.Abort a) t = tt
-  sent-later (mark.Answer u n a) t = tt
-  sent-later (mark.Hold n a z m) t = tt
-  sent-later (mark.Wait n a z m) t = tt
-  sent-later (mark.Release n a z m) t = tt
-  sent-later (mark.Prepared n a) t = tt
-  sent-later (mark.LocalCommit n a) t = tt
-  sent-later (mark.Decided a) t = tt
-  sent-later (mark.JournalFailed n a) t = tt
-  sent-later (mark.Report n z y) t = tt
-  sent-later (mark.Recheck z y u) t = tt
+pub step-later : (script : Script) (es : Events) (x : Event × Bool) (s : Step) → IsStepEarned script es s → IsStepEarned script (es ++ x ∷ []) s
+step-later script es x s t one = each_weaker (IsSentEarned script es s.stamp.node) (IsSentEarned script (es ++ x ∷ []) s.stamp.node) (λ m h to number g r q. answer-later script es x s.stamp.node g r (h to number g r q)) s.marks (t one)
 
-pub step-later : (script : Script) (es : Events) (x : Event × Bool) (s : Step) → IsTrueStep script es s → IsTrueStep script (es ++ x ∷ []) s
-step-later script es x s t one = each_weaker (IsTrueSent script es s.stamp.node) (IsTrueSent script (es ++ x ∷ []) s.stamp.node) (λ m h. sent-later script es x s.stamp.node m h) s.marks (t one)
+pub record AreEarned (script : Script) (es : Events) (w : World) : Type 0 where
+  pub sent : Each (IsStepEarned script es) w.steps
+  pub kept : (i h : ℕ) → 1 ≤ i → IsKeptEarned script es (at i) (gx h) ((w.segs i).locals h).answer
 
-pub record Trues (script : Script) (es : Events) (w : World) : Type 0 where
-  pub sent : Each (IsTrueStep script es) w.steps
-  pub kept : (i h : ℕ) → 1 ≤ i → IsTrueKept script es (at i) (gx h) ((w.segs i).locals h).answer
-
--- INSERTS
-module _ (g : Gxid) (c : Cid) (table : Table) where
-  insert-others : (rows : List KeyedRow) (m : Moved) (h : ℕ) → eqb h g.0 ≡ false → ((fold (inserts_row g c table) m rows).seg.locals h).answer ≡ (m.seg.locals h).answer
-  insert-others [] m h e = refl
-  insert-others (row ∷ rows) m h e = insert-others rows (inserts_row g c table m row) h e ∙ other (eqb h g.0) e
-    where
-      other : (b : Bool) → b ≡ false → (if b then record (local_of m.seg g) { phase = Rattle.gx_rules.specs.Segments.Phase.Writing } else m.seg.locals h).answer ≡ (m.seg.locals h).answer
-      other true q = cc
-      other false q = refl
-
-  pub insert-quiet : (rows : List KeyedRow) (m : Moved) → Each NoFault m.marks → Each NoFault (fold (inserts_row g c table) m rows).marks
-  insert-quiet [] m e = e
-  insert-quiet (row ∷ rows) m e = insert-quiet rows (inserts_row g c table m row) (each_append NoFault m.marks _ e (tt, tt))
+-- rows that are written
+are-written : (marks : List Mark) (rows : List KeyedRow) → Each (IsWritten marks) rows → AreWritten marks rows
+are-written marks [] h = tt
+are-written marks (r ∷ rs) h = (h.0, are-written marks rs h.1)
 
 -- A SEGMENT'S TURN
 module _ (script : Script) (some : 1 ≤ script.segments) (numbered_lines : AreLinesNumbered [] script.lines) (es : Events) (from to : Node) (number : ℕ) (envelope : Envelope) (fails : Bool) (place : IsSegment script to) (is_found : found from to number (world_of script es).sent ≡ Some envelope) (order_is : MessageIs script (marks_in (world_of script es).steps) to envelope.message) (view_is : IsShownView (world_of script es) to envelope.message) where
@@ -245,65 +189,60 @@ module _ (script : Script) (some : 1 ≤ script.segments) (numbered_lines : AreL
       self-test : (a : ℕ) → eqb a a ≡ true
       self-test a = grind (arith, nat_tests)
 
-  pub record TurnTrue : Type 0 where
-    pub kept : (h : ℕ) → IsTrueKept script (es ++ e ∷ []) to (gx h) (turn.seg.locals h).answer
-    pub outs : Each (λ (o : Out). IsTrueWord script (es ++ e ∷ []) to o.message) turn.outs
+  pub record TurnEarned : Type 0 where
+    pub kept : (h : ℕ) → IsKeptEarned script (es ++ e ∷ []) to (gx h) (turn.seg.locals h).answer
+    pub outs : Each (λ (o : Out). IsWordEarned script (es ++ e ∷ []) to o.message) turn.outs
 
-  new-reply : (g : Gxid) (c : Cid) (r : Reply) (level : Level) (x : Snapshot) (y : Slice) → IsOrder script ms to g c level (Some x) y → c.0 ≤ (turn.seg.locals g.0).last → IsTruth (ms ++ (turn.marks ++ sent)) to level g c y r → IsTrueReply script (es ++ e ∷ []) to g c r
-  new-reply g c r level x y order taken truth =
-      record {
-        upto = es ++ e ∷ [];
-        rest = [];
-        split = sym (append-nil (es ++ e ∷ []));
-        level = level;
-        snapshot = x;
-        slice = y;
-        order = subst (λ v. IsOrder script (marks_in v.steps) to g c level (Some x) y) (sym is-late) (subst (λ m. IsOrder script m to g c level (Some x) y) (sym late-marks) (order-more script ms (turn.marks ++ sent) to (message.Exec g c level (Some x) g y) (λ n. order) numbered_lines));
-        taken = subst (λ v. c.0 ≤ (local_of (v.segs to.0) g).last) (sym is-late) (subst (λ b. c.0 ≤ ((if b then (seg_rule script s (here.Deliver from envelope) fails).seg else s).locals g.0).last) (sym self) taken);
-        truth = subst (λ v. IsTruth (marks_in v.steps) to level g c y r) (sym is-late) (subst (λ m. IsTruth m to level g c y r) (sym late-marks) truth);
-      }
+  -- a command that is new there
+  module _ (g : Gxid) (c : Cid) (level : Level) (x : Snapshot) (horizon : Gxid) (y : Slice) (told : envelope.message ≡ message.Exec g c level (Some x) horizon y) (fresh : (s.locals g.0).last < c.0) (ran : turn ≡ runs_slice (raised s horizon) g c (Some x) y) where
+    order : IsOrder script ms to g c level (Some x) y
+    order = subst (MessageIs script ms to) told order_is numbered_lines
 
-  module _ (kept : (h : ℕ) → IsTrueKept script es to (gx h) (s.locals h).answer) (votes : (h : ℕ) → IsVote (s.locals h).phase (s.locals h).vote) where
-    kept-more : (h : ℕ) → IsTrueKept script (es ++ e ∷ []) to (gx h) (s.locals h).answer
+    pub new-reply : (r : Reply) (xs : List Mark) → turn.outs ≡ reply_out g r ∷ [] → turn.marks ≡ xs → IsTruth (ms ++ (xs ++ sent)) to level g c y r → c.0 ≤ (turn.seg.locals g.0).last → IsEarned script (es ++ e ∷ []) to g c r
+    new-reply r xs given same truth taken =
+        record {
+          upto = es ++ e ∷ [];
+          rest = [];
+          split = sym (append-nil (es ++ e ∷ []));
+          level = level;
+          snapshot = x;
+          slice = y;
+          given = record { before = es; from = from; number = number; fails = fails; last = refl; envelope = envelope; posted = is_found; horizon = horizon; told = told; new = fresh; ran = ran; given = given };
+          order = subst (λ v. IsOrder script (marks_in v.steps) to g c level (Some x) y) (sym is-late) (subst (λ m. IsOrder script m to g c level (Some x) y) (sym late-marks) (order-more script ms (turn.marks ++ sent) to (message.Exec g c level (Some x) g y) (λ n. order) numbered_lines));
+          taken = subst (λ v. c.0 ≤ (local_of (v.segs to.0) g).last) (sym is-late) (subst (λ b. c.0 ≤ ((if b then (seg_rule script s (here.Deliver from envelope) fails).seg else s).locals g.0).last) (sym self) taken);
+          truth = subst (λ v. IsTruth (marks_in v.steps) to level g c y r) (sym is-late) (subst (λ m. IsTruth m to level g c y r) (sym late-marks) (subst (λ m. IsTruth (ms ++ (m ++ sent)) to level g c y r) (sym same) truth));
+        }
+
+  module _ (kept : (h : ℕ) → IsKeptEarned script es to (gx h) (s.locals h).answer) (votes : (h : ℕ) → IsVote (s.locals h).phase (s.locals h).vote) where
+    kept-more : (h : ℕ) → IsKeptEarned script (es ++ e ∷ []) to (gx h) (s.locals h).answer
     kept-more h = kept-later script es e to (gx h) (s.locals h).answer (kept h)
 
     -- it repeats
-    old-true : (g : Gxid) (r : Reply) → IsOldReply s g r → IsTrue script (es ++ e ∷ []) to g r
-    old-true g (reply.Done c w n p) (inl o) = subst (IsTrueKept script (es ++ e ∷ []) to g) o (kept-more g.0)
-    old-true g (reply.Done c w n p) (inr o) = absurd (subst (IsVote (s.locals g.0).phase) o (votes g.0))
-    old-true g (reply.Failed c x) (inl o) = subst (IsTrueKept script (es ++ e ∷ []) to g) o (kept-more g.0)
-    old-true g (reply.Failed c x) (inr o) = absurd (subst (IsVote (s.locals g.0).phase) o (votes g.0))
-    old-true g reply.Prepared o = tt
-    old-true g reply.Committed o = tt
-    old-true g reply.Jfault o = tt
-    old-true g reply.Again o = tt
-    old-true g reply.Aborted o = tt
-    old-true g reply.Forgotten o = tt
+    old-earned : (g : Gxid) (r : Reply) → IsOldReply s g r → IsReplyEarned script (es ++ e ∷ []) to g r
+    old-earned g (reply.Done c w n p) (inl o) = subst (IsKeptEarned script (es ++ e ∷ []) to g) o (kept-more g.0)
+    old-earned g (reply.Done c w n p) (inr o) = absurd (subst (IsVote (s.locals g.0).phase) o (votes g.0))
+    old-earned g (reply.Failed c x) (inl o) = subst (IsKeptEarned script (es ++ e ∷ []) to g) o (kept-more g.0)
+    old-earned g (reply.Failed c x) (inr o) = absurd (subst (IsVote (s.locals g.0).phase) o (votes g.0))
+    old-earned g reply.Prepared o = tt
+    old-earned g reply.Committed o = tt
+    old-earned g reply.Jfault o = tt
+    old-earned g reply.Again o = tt
+    old-earned g reply.Aborted o = tt
+    old-earned g reply.Forgotten o = tt
 
-    old-word : (m : Message) → IsOldWord s m → IsTrueWord script (es ++ e ∷ []) to m
-    old-word (message.Answer g r) o = old-true g r o
-    old-word (message.Exec g c l x y z) o = tt
-    old-word (message.Prepare g) o = tt
-    old-word (message.Commit g) o = tt
-    old-word (message.CommitPrepared g) o = tt
-    old-word (message.Abort g) o = tt
-    old-word (message.Forget g) o = tt
-    old-word (message.Collect round) o = tt
-    old-word (message.Graph round graph) o = tt
-
-    quiet-true : Quiet s turn → TurnTrue
-    quiet-true q =
+    quiet-earned : Quiet s turn → TurnEarned
+    quiet-earned q =
         record {
-          kept = λ h. subst (IsTrueKept script (es ++ e ∷ []) to (gx h)) (sym (q.answers h)) (kept-more h);
-          outs = each_weaker (λ (o : Out). IsOldWord s o.message) (λ (o : Out). IsTrueWord script (es ++ e ∷ []) to o.message) (λ o k. old-word o.message k) turn.outs q.outs;
+          kept = λ h. subst (IsKeptEarned script (es ++ e ∷ []) to (gx h)) (sym (q.answers h)) (kept-more h);
+          outs = each_weaker (λ (o : Out). IsOldWord s o.message) (λ (o : Out). IsWordEarned script (es ++ e ∷ []) to o.message) (λ o k g r q. old-earned g r (subst (IsOldWord s) q k)) turn.outs q.outs;
         }
 
     -- it runs a command
-    ran-true : (g : Gxid) (c : Cid) (r : Reply) (level : Level) (x : Snapshot) (y : Slice) (base : Seg) (xs : List Mark) → IsOrder script ms to g c level (Some x) y → ((h : ℕ) → eqb h g.0 ≡ false → (base.locals h).answer ≡ (s.locals h).answer) → turn ≡ Rattle.gx_rules.specs.Slices.answers base g c xs r → IsTruth (ms ++ (xs ++ sent)) to level g c y r → (IsTrueReply script (es ++ e ∷ []) to g c r → IsTrue script (es ++ e ∷ []) to g r) → TurnTrue
-    ran-true g c r level x y base xs order others ran truth it =
+    ran-earned : (g : Gxid) (c : Cid) (r : Reply) (base : Seg) (xs : List Mark) → turn ≡ answers base g c xs r → ((h : ℕ) → (base.locals h).answer ≡ (s.locals h).answer) → (c.0 ≤ (turn.seg.locals g.0).last → IsReplyEarned script (es ++ e ∷ []) to g r) → TurnEarned
+    ran-earned g c r base xs ran others now =
         record {
-          kept = λ h. subst (λ (t : SegTurn). IsTrueKept script (es ++ e ∷ []) to (gx h) (t.seg.locals h).answer) (sym ran) (by_test h (eqb h g.0) refl);
-          outs = subst (λ (t : SegTurn). Each (λ (o : Out). IsTrueWord script (es ++ e ∷ []) to o.message) t.outs) (sym ran) (is-true, tt);
+          kept = λ h. subst (λ (t : SegTurn). IsKeptEarned script (es ++ e ∷ []) to (gx h) (t.seg.locals h).answer) (sym ran) (by_test h (eqb h g.0) refl);
+          outs = subst (λ (t : SegTurn). Each (λ (o : Out). IsWordEarned script (es ++ e ∷ []) to o.message) t.outs) (sym ran) (said, tt);
         }
       where
         self-test : (a : ℕ) → eqb a a ≡ true
@@ -312,43 +251,61 @@ module _ (script : Script) (some : 1 ≤ script.segments) (numbered_lines : AreL
         le-same : (a b : ℕ) → a ≡ b → b ≤ a
         le-same a b q = omega (arith, q)
 
-        last : (turn.seg.locals g.0).last ≡ c.0
-        last = ap (λ (t : SegTurn). (t.seg.locals g.0).last) ran ∙ ap (λ b. (if b then record (local_of base g) { last = c.0; answer = Some r } else base.locals g.0).last) (self-test g.0)
+        after : Local
+        after = record (local_of base g) { last = c.0; answer = Some r }
 
-        is-true : IsTrue script (es ++ e ∷ []) to g r
-        is-true = it (new-reply g c r level x y order (le-same _ _ last) (subst (λ (t : SegTurn). IsTruth (ms ++ (t.marks ++ sent)) to level g c y r) (sym ran) truth))
+        earned : IsReplyEarned script (es ++ e ∷ []) to g r
+        earned = now (le-same _ _ (ap (λ (t : SegTurn). (t.seg.locals g.0).last) ran ∙ ap (λ b. (if b then after else base.locals g.0).last) (self-test g.0)))
 
-        by_test : (h : ℕ) (b : Bool) → eqb h g.0 ≡ b → IsTrueKept script (es ++ e ∷ []) to (gx h) (if b then record (local_of base g) { last = c.0; answer = Some r } else base.locals h).answer
-        by_test h true q = subst (λ k. IsTrueKept script (es ++ e ∷ []) to (gx k) (Some r)) (sym (eqb-true h g.0 q)) is-true
-        by_test h false q = subst (IsTrueKept script (es ++ e ∷ []) to (gx h)) (sym (others h q)) (kept-more h)
+        said : (h : Gxid) (a : Reply) → message.Answer g r ≡ message.Answer h a → IsReplyEarned script (es ++ e ∷ []) to h a
+        said h a q = subst (IsReplyEarned script (es ++ e ∷ []) to h) (same-reply q) (subst (λ k. IsReplyEarned script (es ++ e ∷ []) to k r) (same-gxid q) earned)
+          where
+            same-reply : message.Answer g r ≡ message.Answer h a → r ≡ a
+            same-reply q = cc
 
-    quiet-sent : Each writing.NoWrite sent
+            same-gxid : message.Answer g r ≡ message.Answer h a → g ≡ h
+            same-gxid q = cc
+
+        by_test : (h : ℕ) (b : Bool) → eqb h g.0 ≡ b → IsKeptEarned script (es ++ e ∷ []) to (gx h) (if b then after else base.locals h).answer
+        by_test h true q = subst (λ k. IsKeptEarned script (es ++ e ∷ []) to (gx k) (Some r)) (sym (eqb-true h g.0 q)) earned
+        by_test h false q = subst (IsKeptEarned script (es ++ e ∷ []) to (gx h)) (sym (others h)) (kept-more h)
+
+    quiet-sent : Each NoWrite sent
     quiet-sent = sent-no-write (λ node. turn.seg.sent) turn.outs
 
-    select-true : Selected s envelope.message turn → TurnTrue
-    select-true z = by_fault (first_fault z.query.cond (rows z)) refl z.ran
+    select-earned : Selected s envelope.message turn → TurnEarned
+    select-earned z = by_fault (first_fault z.query.cond (rows z)) refl z.ran
       where
         truth : (o : Option (KeyedRow × ArithFault)) → first_fault z.query.cond (rows z) ≡ o → IsTruth (ms ++ (marks_of z.g z.c o ++ sent)) to z.level z.g z.c (slice.Select z.query) (reply_of z.c (has_written (local_of (raised s z.horizon) z.g).phase) z.query (rows z) o)
         truth o q = by_abort o q (is_aborted ms z.g) refl
           where
             by_abort : (o : Option (KeyedRow × ArithFault)) → first_fault z.query.cond (rows z) ≡ o → (b : Bool) → is_aborted ms z.g ≡ b → IsTruth (ms ++ (marks_of z.g z.c o ++ sent)) to z.level z.g z.c (slice.Select z.query) (reply_of z.c (has_written (local_of (raised s z.horizon) z.g).phase) z.query (rows z) o)
             by_abort None f true a = inl (aborted-more ms _ z.g a)
-            by_abort (Some found) f true a = inl (aborted-more ms _ z.g a)
+            by_abort (Some fault) f true a = inl (aborted-more ms _ z.g a)
             by_abort o f false a = select-truth ms sent quiet-sent to z.level z.g z.c a (served z).place (snapshot-at z) z.query (rows z) (rows-part z a) _ o f
 
-        by_fault : (o : Option (KeyedRow × ArithFault)) → first_fault z.query.cond (rows z) ≡ o → turn ≡ selects (raised s z.horizon) z.g z.c z.query (rows z) o → TurnTrue
-        by_fault None f ran = ran-true z.g z.c _ z.level z.snapshot (slice.Select z.query) (raised s z.horizon) [] (select-order z) (λ h q. refl) ran (truth None f) (λ t. t)
-        by_fault (Some found) f ran = ran-true z.g z.c _ z.level z.snapshot (slice.Select z.query) (raised s z.horizon) _ (select-order z) (λ h q. refl) ran (truth (Some found) f) (λ t. t)
+        by_fault : (o : Option (KeyedRow × ArithFault)) → first_fault z.query.cond (rows z) ≡ o → turn ≡ selects (raised s z.horizon) z.g z.c z.query (rows z) o → TurnEarned
+        by_fault None f ran = ran-earned z.g z.c _ (raised s z.horizon) [] ran (λ h. refl) (new-reply z.g z.c z.level z.snapshot z.horizon (slice.Select z.query) z.is z.fresh z.ran _ [] (ap (λ (t : SegTurn). t.outs) ran) (ap (λ (t : SegTurn). t.marks) ran) (truth None f))
+        by_fault (Some fault) f ran = ran-earned z.g z.c _ (raised s z.horizon) _ ran (λ h. refl) (new-reply z.g z.c z.level z.snapshot z.horizon (slice.Select z.query) z.is z.fresh z.ran _ _ (ap (λ (t : SegTurn). t.outs) ran) (ap (λ (t : SegTurn). t.marks) ran) (truth (Some fault) f))
 
-    insert-true : Inserted s envelope.message turn → TurnTrue
-    insert-true z =
-        ran-true z.g z.c _ z.level z.snapshot (slice.Insert z.table z.rows) (inserted (raised s z.horizon) z.g z.c z.table z.rows).seg _ (subst (MessageIs script ms to) z.is order_is numbered_lines)
-        (λ h q. insert-others z.g z.c z.table z.rows (record { seg = raised s z.horizon; marks = [] }) h q) z.ran tt (λ t. t)
-
-    pub turn-true : TurnTrue
-    turn-true = by_turn (message-turns s script fails envelope.message)
+    insert-earned : Inserted s envelope.message turn → TurnEarned
+    insert-earned z =
+        ran-earned z.g z.c _ (inserted (raised s z.horizon) z.g z.c z.table z.rows).seg _ z.ran (λ h. (rows-locals z.g z.c z.table z.rows (record { seg = raised s z.horizon; marks = [] }) h).1)
+        (new-reply z.g z.c z.level z.snapshot z.horizon (slice.Insert z.table z.rows) z.is z.fresh z.ran _ (inserted (raised s z.horizon) z.g z.c z.table z.rows).marks (ap (λ (t : SegTurn). t.outs) z.ran) (ap (λ (t : SegTurn). t.marks) z.ran) truth)
       where
-        by_turn : Turns s envelope.message turn → TurnTrue
-        by_turn (inl q) = quiet-true q
-        by_turn (inr (inl z)) = select-true z
-        by_turn (inr (inr z)) = insert-true z
+        marks : List Mark
+        marks = (inserted (raised s z.horizon) z.g z.c z.table z.rows).marks
+
+        written : Each (IsWritten (ms ++ marks)) z.rows
+        written = subst (λ ns. Each (IsWritten (ms ++ ns)) z.rows) (sym (insert-wrote s z.horizon z.g z.c z.table z.rows).marks) (mark-written z.g z.c s.node z.table ms z.rows)
+
+        truth : (length z.rows ≡ length z.rows) × AreWritten (ms ++ (marks ++ sent)) z.rows
+        truth = (refl, subst (λ m. AreWritten m z.rows) (append_assoc ms marks sent) (are-written ((ms ++ marks) ++ sent) z.rows (each_weaker (IsWritten (ms ++ marks)) (IsWritten ((ms ++ marks) ++ sent)) (λ r k. written-more (ms ++ marks) sent r.rid k) z.rows written)))
+
+    pub turn-earned : TurnEarned
+    turn-earned = by_turn (message-turns s script fails envelope.message)
+      where
+        by_turn : Turns s envelope.message turn → TurnEarned
+        by_turn (inl q) = quiet-earned q
+        by_turn (inr (inl z)) = select-earned z
+        by_turn (inr (inr z)) = insert-earned z

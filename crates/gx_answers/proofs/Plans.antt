@@ -1,8 +1,7 @@
 -- What the pieces of a plan are of.
-use Rattle.std.proofs.Common.{◌≡◌, ℕ, List, [], ◌∷◌, Result, Ok, Err, refl, subst, ap}
-use Rattle.std.proofs.lemmas.List.Elements.{All-contains, All-from_recursion}
+use Rattle.std.proofs.Common.{◌≡◌, ℕ, List, [], ◌∷◌, Result, Ok, Err, subst, ap}
 use Rattle.std.specs.Prelude.{map, Contains}
-use Rattle.std.specs.List.{AllByRecursion, flat_map}
+use Rattle.std.specs.List.{flat_map}
 use Rattle.gx_ids.specs.declared.ids.Cid.{Cid}
 use Rattle.gx_ids.specs.declared.ids.Gxid.{Gxid}
 use Rattle.gx_ids.specs.declared.ids.Node.{Node}
@@ -21,6 +20,7 @@ use Rattle.gx_plan.specs.Constants.{rows_of}
 use Rattle.gx_plan.specs.Plan.{insert_pieces, nodes_from, piece, plan_of, row_pieces, rows_at}
 use Rattle.gx_plan.specs.declared.piece.Piece.{Piece}
 use Rattle.gx_laws.proofs.Lists.{Each, each_append}
+use Rattle.gx_writes.proofs.Plans.{in-each, same-pieces}
 
 -- the slice of a statement
 abbrev pub IsSliceOf : Stmt → Slice → Type 0
@@ -30,17 +30,6 @@ IsSliceOf (stmt.Update table assigns cond) s = s ≡ slice.Update table assigns 
 IsSliceOf (stmt.Delete table cond) s = s ≡ slice.Delete table cond
 IsSliceOf (stmt.Lock table mode) s = s ≡ slice.Lock table mode
 IsSliceOf _ s = ⊥
-
-each-all : (P : Piece → Type 0) (ps : List Piece) → Each P ps → AllByRecursion P ps
-each-all P [] e = tt
-each-all P (p ∷ ps) e = (e.0, each-all P ps e.1)
-
-in-each : (P : Piece → Type 0) (ps : List Piece) (p : Piece) → Each P ps → Contains ps p → P p
-in-each P ps p e k = All-contains P ps p (All-from_recursion P ps (each-all P ps e)) k
-
-same-pieces : (s : Slice) (nodes : List Node) → Each (λ (p : Piece). p.slice ≡ s) (map (piece s) nodes)
-same-pieces s [] = tt
-same-pieces s (node ∷ nodes) = (refl, same-pieces s nodes)
 
 row-part : (line : Stmt) (table : Table) (tuples : List (List Expr)) (node : Node) (rows : List KeyedRow) → Each (λ (p : Piece). IsSliceOf (stmt.Insert table tuples) p.slice) (row_pieces table node rows)
 row-part line table tuples node [] = tt

@@ -38,12 +38,14 @@ use Rattle.gx_histories.proofs.Given.{marks-append, sent-rest}
 use Rattle.gx_histories.proofs.World.{orders-alive}
 use Rattle.gx_protocol.proofs.Whole.{world-both}
 use Rattle.gx_writes.specs.Writes.{AreWritesLegal, WriteLegal}
+use Rattle.gx_writes.proofs.Rows.{insert-no-fault}
 use Rattle.gx_writes.proofs.Told.{taken-told}
+use Rattle.gx_writes.proofs.Turns.{NoFault, Selected, Turns, message-turns, row-no-fault}
 use Rattle.gx_writes.proofs.World as writes
+use Rattle.gx_answers.specs.Earned.{Events}
 use Rattle.gx_answers.proofs.Always.{Came, came}
-use Rattle.gx_answers.proofs.Origins.{Events, insert-quiet, is-late, rows-part, select-is, select-order, snapshot-at}
+use Rattle.gx_answers.proofs.Origins.{is-late, rows-part, select-is, select-order, snapshot-at}
 use Rattle.gx_answers.proofs.Truths.{seen-fault}
-use Rattle.gx_answers.proofs.Turns.{NoFault, Selected, Turns, message-turns}
 
 abbrev FaultLegal : Script → Point → Mark → Type 0
 FaultLegal script point (mark.Fault g c rid image) = LegalFault script point g c rid image
@@ -167,11 +169,9 @@ module _ (script : Script) (some : 1 ≤ script.segments) (numbered_lines : AreL
       select-faults later (Some fault) q ran = subst (λ (t : SegTurn). EachMark (FaultLegal script) (world_of script es).steps (event.Receive from to number) [] t.marks later) (sym ran) (fault-legal fault later q, tt)
 
     faults : (later : List Mark) → Turns s envelope.message turn → EachMark (FaultLegal script) (world_of script es).steps (event.Receive from to number) [] turn.marks later
-    faults later (inl q) = no-faults script (world_of script es).steps from to number place.0 [] turn.marks later q.marks
+    faults later (inl q) = no-faults script (world_of script es).steps from to number place.0 [] turn.marks later (row-no-fault turn.marks q.marks)
     faults later (inr (inl z)) = select-faults z later (first_fault z.query.cond (rows z)) refl z.ran
-    faults later (inr (inr z)) =
-        subst (λ (t : SegTurn). EachMark (FaultLegal script) (world_of script es).steps (event.Receive from to number) [] t.marks later) (sym z.ran)
-        (no-faults script (world_of script es).steps from to number place.0 [] _ later (insert-quiet z.g z.c z.table z.rows (record { seg = raised s z.horizon; marks = [] }) tt))
+    faults later (inr (inr z)) = no-faults script (world_of script es).steps from to number place.0 [] turn.marks later (insert-no-fault s envelope.message turn z)
 
     plain : Each (PlainAt script to) turn.marks
     plain = subst (λ node. Each (PlainAt script node) turn.marks) ((world-both script some es).knows.well.names to.0) (seg_stays script s (subst (IsSegment script) (sym ((world-both script some es).knows.well.names to.0)) place) (here.Deliver from envelope) fails).marks

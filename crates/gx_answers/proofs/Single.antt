@@ -54,7 +54,7 @@ use Rattle.gx_histories.specs.Standing.{HasSnapshot, IsStanding, Owns, Roots, St
 use Rattle.gx_histories.proofs.Ends.{began-kept}
 use Rattle.gx_histories.proofs.Stepping.{Holds}
 use Rattle.gx_histories.proofs.World.{after-last, world-holds}
-use Rattle.gx_answers.proofs.Origins.{Events}
+use Rattle.gx_answers.specs.Earned.{Events}
 
 -- MARKS WITH ONE SNAPSHOT AT MOST
 abbrev NoSnaps : List Mark → Type 0

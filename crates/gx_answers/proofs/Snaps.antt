@@ -17,14 +17,15 @@ use Rattle.gx_store.specs.Legal.{LegalSnap}
 use Rattle.gx_store.specs.Marks.{has_snapshot, is_same_gxid, is_snapped}
 use Rattle.gx_store.specs.Points.{marks_in}
 use Rattle.gx_rules.specs.Machine.{world_of}
+use Rattle.gx_laws.proofs.World.{marks-last}
 use Rattle.gx_histories.specs.Rest.{EachMark}
 use Rattle.gx_histories.proofs.Given.{Given}
 use Rattle.gx_histories.proofs.Steps.{AreGiven}
 use Rattle.gx_histories.proofs.World as histories
 use Rattle.gx_histories.specs.Orders.{level_of_began}
 use Rattle.gx_store.specs.Lines.{began_from}
+use Rattle.gx_answers.specs.Earned.{Events}
 use Rattle.gx_answers.specs.Once.{AreSnapshotsOne, IsOneSnapshot}
-use Rattle.gx_answers.proofs.Origins.{Events}
 use Rattle.gx_answers.proofs.Single.{are-readers}
 
 pub record Once (ms : List Mark) (g : Gxid) (d : Cid) : Type 0 where
@@ -52,16 +53,13 @@ module _ (script : Script) (g : Gxid) (d : Cid) (x : Snapshot) where
       more (inl a) = inl (a.0, ap (λ l. y ∷ l) a.1)
       more (inr a) = inr (a.0, a.1, ap (λ l. y ∷ l) a.2)
 
-  marks-push : (steps : List Step) (s : Step) → marks_in (steps ++ s ∷ []) ≡ marks_in steps ++ s.marks
-  marks-push steps s = Rattle.gx_laws.proofs.World.marks-last steps s
-
   snap-once : (before ss : List Step) (q : ℕ) → AreGiven script before ss → slice_get (marks_in ss) q ≡ Some (mark.Snap g d x) → Once (marks_in before ++ take q (marks_in ss)) g d
   snap-once before [] q h f = absurd (cc)
   snap-once before (s ∷ ss) q h f = by_split (split s.marks (marks_in ss) q f) (λ j k. snap-once (before ++ s ∷ []) ss j h.1 k)
     where
       by_split : ((slice_get s.marks q ≡ Some (mark.Snap g d x)) × (take q (s.marks ++ marks_in ss) ≡ take q s.marks)) ⊎ ((j : ℕ) × (slice_get (marks_in ss) j ≡ Some (mark.Snap g d x)) × (take q (s.marks ++ marks_in ss) ≡ s.marks ++ take j (marks_in ss))) → ((j : ℕ) → slice_get (marks_in ss) j ≡ Some (mark.Snap g d x) → Once (marks_in (before ++ s ∷ []) ++ take j (marks_in ss)) g d) → Once (marks_in before ++ take q (s.marks ++ marks_in ss)) g d
       by_split (inl a) more = subst (λ z. Once z g d) (ap (λ z. z ++ take q s.marks) (append-nil (marks_in before)) ∙ ap (λ z. marks_in before ++ z) (sym a.1)) (in-step before s.event [] s.marks [] q h.0.1 a.0)
-      by_split (inr a) more = subst (λ z. Once z g d) (ap (λ z. z ++ take a.0 (marks_in ss)) (marks-push before s) ∙ append_assoc (marks_in before) s.marks (take a.0 (marks_in ss)) ∙ ap (λ z. marks_in before ++ z) (sym a.2)) (more a.0 a.1)
+      by_split (inr a) more = subst (λ z. Once z g d) (ap (λ z. z ++ take a.0 (marks_in ss)) (marks-last before s) ∙ append_assoc (marks_in before) s.marks (take a.0 (marks_in ss)) ∙ ap (λ z. marks_in before ++ z) (sym a.2)) (more a.0 a.1)
 
 self : (g : Gxid) (c : Cid) → (is_same_gxid g g && eqb c.0 c.0) ≡ true
 self g c = grind (arith, nat_tests)

@@ -48,18 +48,19 @@ use Rattle.gx_histories.specs.Finish.{point_at}
 use Rattle.gx_histories.specs.Gathering.{AreAll, AreApart, IsGathered, Taken, nodes_taken, parts_taken}
 use Rattle.gx_histories.specs.Orders.{AreLinesNumbered, level_of_began}
 use Rattle.gx_histories.proofs.Said.{CalmFor}
+use Rattle.gx_protocol.proofs.Commits.{take-kept}
 use Rattle.gx_writes.proofs.Turns.{NoWrite}
 use Rattle.gx_writes.proofs.World as writes
+use Rattle.gx_answers.specs.Earned.{Events, IsEarned}
 use Rattle.gx_answers.specs.Keyed.{AreInsertsKeyed}
 use Rattle.gx_answers.specs.Once.{IsOneSnapshot}
 use Rattle.gx_answers.specs.Parts.{SaysItsPart}
 use Rattle.gx_answers.specs.Truth.{IsTrueFault, IsTruePart, IsTruth}
 use Rattle.gx_answers.proofs.Commands.{IsOf}
 use Rattle.gx_answers.proofs.Heard.{heard, marks-are, more, order-now, part-now, unaborted-then}
-use Rattle.gx_answers.proofs.Origins.{Events, IsTrueReply}
 use Rattle.gx_answers.proofs.Plans.{IsSliceOf, slice-is}
 use Rattle.gx_answers.proofs.Select.{has-from, merged, seen, whole}
-use Rattle.gx_answers.proofs.Truths.{image-more, snapshot-more, take-kept}
+use Rattle.gx_answers.proofs.Truths.{image-more, snapshot-more}
 use Rattle.gx_answers.proofs.Views.{view-is}
 
 -- ---- what a SELECT shows stays, where nothing is written
@@ -109,7 +110,7 @@ module _ (script : Script) (some : 1 ≤ script.segments) (numbered : AreLinesNu
   some-stmt a b e = cc
 
   -- what a true answer is of, where its command runs
-  module _ (node : Node) (line : Stmt) (level : Level) (g : Gxid) (c : Cid) (is : IsOf script ms line level g c) (r : Reply) (t : IsTrueReply script es node g c r) where
+  module _ (node : Node) (line : Stmt) (level : Level) (g : Gxid) (c : Cid) (is : IsOf script ms line level g c) (r : Reply) (t : IsEarned script es node g c r) where
     line-is : (order-now script some numbered es node g c r t).line ≡ line
     line-is = some-stmt _ line (sym (order-now script some numbered es node g c r t).of ∙ is.of)
 
@@ -121,14 +122,14 @@ module _ (script : Script) (some : 1 ≤ script.segments) (numbered : AreLinesNu
 
   -- A SELECT
   module _ (once : IsOneSnapshot script ms) (query : Query) (level : Level) (g : Gxid) (c : Cid) (is : IsOf script ms (stmt.Select query) level g c) where
-    true-part : (t : Taken) → IsTrueReply script es t.node g c (reply.Done c t.wrote t.count t.part) → IsTruePart ms t.node level g c query t.part
+    true-part : (t : Taken) → IsEarned script es t.node g c (reply.Done c t.wrote t.count t.part) → IsTruePart ms t.node level g c query t.part
     true-part t x = by_truth (subst (λ s. IsTruth (marks_in (world_of script x.upto).steps) t.node x.level g c s (reply.Done c t.wrote t.count t.part)) (its-slice t.node (stmt.Select query) level g c is _ x) x.truth)
       where
         by_truth : IsTruth (marks_in (world_of script x.upto).steps) t.node x.level g c (slice.Select query) (reply.Done c t.wrote t.count t.part) → IsTruePart ms t.node level g c query t.part
         by_truth (inl a) = absurd (unaborted-then script some numbered es t.node g c _ x is.running a)
         by_truth (inr p) = subst (λ l. IsTruePart ms t.node l g c query t.part) (its-level t.node (stmt.Select query) level g c is _ x) (part-now script some numbered es t.node g c _ x x.level query t.part p)
 
-    true-parts : (taken : List Taken) → AreAll (λ t. IsTrueReply script es t.node g c (reply.Done c t.wrote t.count t.part)) taken → AreAll (λ t. IsTruePart ms t.node level g c query t.part) taken
+    true-parts : (taken : List Taken) → AreAll (λ t. IsEarned script es t.node g c (reply.Done c t.wrote t.count t.part)) taken → AreAll (λ t. IsTruePart ms t.node level g c query t.part) taken
     true-parts [] h = tt
     true-parts (t ∷ ts) h = (true-part t h.0, true-parts ts h.1)
 
@@ -169,12 +170,12 @@ module _ (script : Script) (some : 1 ≤ script.segments) (numbered : AreLinesNu
 
   -- A COMMAND THAT WAS GATHERED
   module _ (once : IsOneSnapshot script ms) (from to : Node) (number : ℕ) (earlier later : List Mark) (session : SessionId) (level : Level) (g : Gxid) (c : Cid) (answer : StmtAnswer) (calm : Each (CalmFor session) earlier) (quiet : Each NoWrite earlier) where
-    true-replies : (taken : List Taken) → AreAll (λ t. HasReceived (point_at (world_of script es).steps (event.Receive from to number) earlier later) t.node the_coordinator (message.Answer g (reply.Done c t.wrote t.count t.part))) taken → AreAll (λ t. IsTrueReply script es t.node g c (reply.Done c t.wrote t.count t.part)) taken
+    true-replies : (taken : List Taken) → AreAll (λ t. HasReceived (point_at (world_of script es).steps (event.Receive from to number) earlier later) t.node the_coordinator (message.Answer g (reply.Done c t.wrote t.count t.part))) taken → AreAll (λ t. IsEarned script es t.node g c (reply.Done c t.wrote t.count t.part)) taken
     true-replies [] h = tt
-    true-replies (t ∷ ts) h = ((heard script some numbered es (event.Receive from to number) earlier later t.node _ h.0).true_word, true-replies ts h.1)
+    true-replies (t ∷ ts) h = ((heard script some numbered es (event.Receive from to number) earlier later t.node _ h.0).word_earned g (reply.Done c t.wrote t.count t.part) refl, true-replies ts h.1)
 
     -- segments don't run the others yet
-    never : (line : Stmt) (s : Slice) → IsOf script ms line level g c → ((x : Slice) → IsSliceOf line x → x ≡ s) → ((marks : List Mark) (node : Node) (l : Level) (r : Reply) → IsTruth marks node l g c s r → ⊥) → (nodes : List Node) → (i : Node) × (has i nodes ≡ true) → (taken : List Taken) → AreAll (λ t. IsTrueReply script es t.node g c (reply.Done c t.wrote t.count t.part)) taken → ((i : Node) → has i nodes ≡ has i (nodes_taken taken)) → ⊥
+    never : (line : Stmt) (s : Slice) → IsOf script ms line level g c → ((x : Slice) → IsSliceOf line x → x ≡ s) → ((marks : List Mark) (node : Node) (l : Level) (r : Reply) → IsTruth marks node l g c s r → ⊥) → (nodes : List Node) → (i : Node) × (has i nodes ≡ true) → (taken : List Taken) → AreAll (λ t. IsEarned script es t.node g c (reply.Done c t.wrote t.count t.part)) taken → ((i : Node) → has i nodes ≡ has i (nodes_taken taken)) → ⊥
     never line s is same false_ nodes i [] h all = no-one (sym (all i.0) ∙ i.1)
       where
         no-one : false ≡ true → ⊥
@@ -223,7 +224,7 @@ module _ (script : Script) (some : 1 ≤ script.segments) (numbered : AreLinesNu
     behind = mark.Abort g ∷ []
 
     -- the fault, at the point
-    faulted : (query : Query) → IsOf script ms (stmt.Select query) level g c → (r : Reply) (x : IsTrueReply script es segment g c r) (cause : Cause) (f : IsTrueFault (marks_in (world_of script x.upto).steps) level g c query cause) → HasFaulted (point_at (world_of script es).steps (event.Receive from to number) behind later) (stmt.Select query) level g c f.fault
+    faulted : (query : Query) → IsOf script ms (stmt.Select query) level g c → (r : Reply) (x : IsEarned script es segment g c r) (cause : Cause) (f : IsTrueFault (marks_in (world_of script x.upto).steps) level g c query cause) → HasFaulted (point_at (world_of script es).steps (event.Receive from to number) behind later) (stmt.Select query) level g c f.fault
     faulted query is r x cause f =
         record {
           place = f.place;
@@ -251,7 +252,7 @@ module _ (script : Script) (some : 1 ≤ script.segments) (numbered : AreLinesNu
     by-fault query cause arith_fault.Overflow e h = subst (λ z. IsCause (point_at (world_of script es).steps (event.Receive from to number) behind later) (stmt.Select query) level g c (reason_of z)) (sym e) h
     by-fault query cause arith_fault.DivisionByZero e h = subst (λ z. IsCause (point_at (world_of script es).steps (event.Receive from to number) behind later) (stmt.Select query) level g c (reason_of z)) (sym e) h
 
-    pub caused : (line : Stmt) → IsOf script ms line level g c → (cause : Cause) (x : IsTrueReply script es segment g c (reply.Failed c cause)) → IsCause (point_at (world_of script es).steps (event.Receive from to number) behind later) line level g c (reason_of cause)
+    pub caused : (line : Stmt) → IsOf script ms line level g c → (cause : Cause) (x : IsEarned script es segment g c (reply.Failed c cause)) → IsCause (point_at (world_of script es).steps (event.Receive from to number) behind later) line level g c (reason_of cause)
     caused (stmt.Select q) is cause x = by_truth (subst (λ s. IsTruth (marks_in (world_of script x.upto).steps) segment x.level g c s (reply.Failed c cause)) (its-slice segment (stmt.Select q) level g c is _ x) x.truth)
       where
         by_truth : IsTruth (marks_in (world_of script x.upto).steps) segment x.level g c (slice.Select q) (reply.Failed c cause) → IsCause (point_at (world_of script es).steps (event.Receive from to number) behind later) (stmt.Select q) level g c (reason_of cause)

@@ -1,10 +1,9 @@
 -- What is true of a segment's answer stays true.
-use Rattle.std.proofs.Common.{◌≡◌, ◌≤◌, ◌==◌, inr, ℕ, zero, suc, List, [], ◌∷◌, ◌++◌, length, Option, Some, None, Bool, true, false, refl, sym, subst, ap, ◌∙◌, cond, if◌then◌else◌, ◌&&◌, ◌||◌, eqb, arith}
+use Rattle.std.proofs.Common.{◌≡◌, ◌==◌, inr, ℕ, List, [], ◌∷◌, ◌++◌, length, Option, Some, None, Bool, true, false, refl, sym, subst, ap, ◌∙◌, cond, if◌then◌else◌, ◌&&◌, ◌||◌, eqb, arith}
 use Rattle.std.proofs.Math.Seq.{take-append_seam}
 use Rattle.std.proofs.lemmas.Bool.{eqb-true}
-use Rattle.std.proofs.lemmas.List.{take-append-le}
 use Rattle.std.specs.Option.{option_or}
-use Rattle.std.specs.Prelude.{filter, slice_get, take}
+use Rattle.std.specs.Prelude.{filter, take}
 use Rattle.gx_ids.specs.declared.ids.Cid.{Cid}
 use Rattle.gx_ids.specs.declared.ids.Gxid.{Gxid}
 use Rattle.gx_ids.specs.declared.ids.Node.{Node}
@@ -31,6 +30,7 @@ use Rattle.gx_store.specs.View.{image, image_after, is_shown_to}
 use Rattle.gx_store.proofs.Marks.{image_after-append, is_aborted-append}
 use Rattle.gx_rules.specs.Slices.{cause_of, first_fault}
 use Rattle.gx_laws.proofs.Lists.{Each, get_kept, get_last}
+use Rattle.gx_protocol.proofs.Commits.{take-kept}
 use Rattle.gx_sights.specs.Sights.{IsOnlyAt}
 use Rattle.gx_writes.proofs.Legal.{IsPlacedMark}
 use Rattle.gx_writes.proofs.Turns.{NoWrite}
@@ -38,15 +38,6 @@ use Rattle.gx_answers.specs.Parts.{IsPartOf, SaysItsPart, is_home}
 use Rattle.gx_answers.specs.Truth.{IsTruePart, IsTruth}
 use Rattle.gx_answers.proofs.Shown.{IsFirst, faults-on-none, first-is, only-at}
 use Rattle.gx_answers.proofs.Views.{view-is, view_rows}
-
--- ---- lists
-pub get-inside : {A : Type 0} (xs : List A) (k : ℕ) (x : A) → slice_get xs k ≡ Some x → k ≤ length xs
-get-inside [] k x e = absurd (cc)
-get-inside (y ∷ xs) zero x e = omega arith
-get-inside (y ∷ xs) (suc k) x e = omega (arith, get-inside xs k x e)
-
-pub take-kept : {A : Type 0} (xs ys : List A) (k : ℕ) (x : A) → slice_get xs k ≡ Some x → take k (xs ++ ys) ≡ take k xs
-take-kept xs ys k x e = take-append-le k xs ys (get-inside xs k x e)
 
 -- ---- marks that write nothing
 image-alone : (shown : Gxid → Cid → Bool) (table : Table) (rid : Rid) (start : Option (List Value)) (ys : List Mark) → Each NoWrite ys → image_after shown table rid start ys ≡ start

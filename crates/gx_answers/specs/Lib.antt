@@ -1,5 +1,6 @@
 pub mod Keyed
 pub mod Parts
 pub mod Truth
+pub mod Earned
 pub mod Once
 pub mod Whole

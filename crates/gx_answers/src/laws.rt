@@ -1,5 +1,6 @@
 //! Laws of every run, whatever the network loses, repeats, delays and reorders, and whichever appends fail.
 ghost use Rattle.std.specs.Prelude.{◌≡◌, ◌≤◌, Bool, List, []};
+ghost use Rattle.gx_answers.specs.Earned.{AreAnswersEarned};
 ghost use Rattle.gx_answers.specs.Whole.{AreInsertsWhole};
 ghost use Rattle.gx_gather.specs.Answer.{ArePartsOf, answer_of};
 ghost use Rattle.gx_histories.specs.Finish.{AreSegmentsLegal};
@@ -24,6 +25,13 @@ ghost use Rattle.gx_tree.specs.declared.row.KeyedRow.{KeyedRow as OneRow};
 /// From the parts of any division of the rows that a query keeps, in any order of the parts, the merged answer is the query's.
 pub fn parts_give_the_answer()
     ensures { (query : OneQuery) (whole : List OneRow) (parts : List OnePart) → ArePartsOf query whole parts → merged_answer query parts ≡ answer_of query whole }
+{}
+
+/// Each answer to a command that a segment ever sent was earned: its rule gave it when the command came, as one that was new
+/// there, and what it says was so then. A SELECT's is its part of what the command sees, or a fault of its condition on it, unless
+/// the transaction had aborted; an INSERT's counts the rows that it was sent, all written.
+pub fn every_answer_was_earned()
+    ensures { (script : Script) (events : List (OneEvent × Bool)) → 1 ≤ script.segments → AreLinesNumbered [] script.lines → AreAnswersEarned script events }
 {}
 
 /// The marks of a segment's step may stand there: its writes, and each fault of a SELECT's condition, which is one on a row that

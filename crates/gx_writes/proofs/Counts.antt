@@ -19,7 +19,7 @@ use Rattle.gx_plan.specs.Plan.{insert_pieces, nodes_from, row_pieces, rows_at}
 use Rattle.gx_plan.specs.declared.piece.Piece.{Piece}
 use Rattle.gx_rules.specs.AtCoordinator.{nodes_in}
 use Rattle.gx_laws.proofs.Lists.{Each}
-use Rattle.gx_protocol.proofs.Nodes.{has-without}
+use Rattle.gx_protocol.proofs.Nodes.{has-append, has-without}
 use Rattle.gx_protocol.specs.Standings.{at}
 
 -- ROWS THAT ARE AWAITED
@@ -113,14 +113,6 @@ row-within n (By column) row rid l = key-within n (slice_get row column) l
 row-within n Randomly row rid l = above (mod-lt (rid.gxid.0 + rid.ordinal) l)
 
 -- EACH ROW'S SEGMENT HAS A PIECE
-has-append : (i : Node) (xs ys : List Node) → has i (xs ++ ys) ≡ (has i xs || has i ys)
-has-append i [] ys = refl
-has-append i (x ∷ xs) ys = ap (λ b. eqb x.0 i.0 || b) (has-append i xs ys) ∙ or-or (eqb x.0 i.0) (has i xs) (has i ys)
-  where
-    or-or : (a b c : Bool) → (a || (b || c)) ≡ ((a || b) || c)
-    or-or true b c = refl
-    or-or false b c = refl
-
 nodes-append : (xs ys : List Piece) → nodes_in (xs ++ ys) ≡ nodes_in xs ++ nodes_in ys
 nodes-append [] ys = refl
 nodes-append (x ∷ xs) ys = ap (λ q. x.node ∷ q) (nodes-append xs ys)

@@ -2,7 +2,7 @@
 use Rattle.std.proofs.Common.{◌≡◌, ◌≤◌, inl, inr, ℕ, List, [], ◌∷◌, ◌++◌, Option, Some, None, Bool, true, false, refl, sym, subst, ap, ◌∙◌, if◌then◌else◌, ◌&&◌, arith, append-nil}
 use Rattle.std.proofs.lemmas.Bool.Decides.{nat_tests}
 use Rattle.std.proofs.lemmas.List.{append_assoc}
-use Rattle.std.specs.Prelude.{map, nat_le}
+use Rattle.std.specs.Prelude.{nat_le}
 use Rattle.gx_ids.specs.declared.ids.Cid.{Cid}
 use Rattle.gx_ids.specs.declared.ids.Gxid.{Gxid}
 use Rattle.gx_ids.specs.declared.ids.Node.{Node}
@@ -10,7 +10,6 @@ use Rattle.gx_ids.specs.declared.ids.SessionId.{SessionId}
 use Rattle.gx_ids.specs.declared.ids.Table.{Table}
 use Rattle.gx_tree.specs.declared.expr.Expr.{Expr}
 use Rattle.gx_tree.specs.declared.part.Part.{Part as QueryPart}
-use Rattle.gx_tree.specs.declared.row.KeyedRow.{KeyedRow}
 use Rattle.gx_tree.specs.declared.stmt.Stmt.TheVariants as stmt
 use Rattle.gx_msg.specs.declared.message.Envelope.{Envelope}
 use Rattle.gx_msg.specs.declared.message.Message.{Message}
@@ -61,9 +60,9 @@ use Rattle.gx_writes.specs.Writes.{AreWritesLegal, WriteLegal}
 use Rattle.gx_writes.proofs.Answers.{answered, tells}
 use Rattle.gx_writes.proofs.Counted.{Counted, world-counted}
 use Rattle.gx_writes.proofs.Inserting.{insert-only, no-select-order, stmt-inserting}
-use Rattle.gx_writes.proofs.Rows.{insert-wrote, row_mark}
+use Rattle.gx_writes.proofs.Rows.{insert-no-fault}
 use Rattle.gx_writes.proofs.Told.{IsReport, IsWordOf, sending-told}
-use Rattle.gx_writes.proofs.Turns.{NoRow, Turns, message-turns}
+use Rattle.gx_writes.proofs.Turns.{NoFault, Turns, message-turns, row-no-fault}
 use Rattle.gx_writes.proofs.Walk.{AnswerAt, AnswerOk, AnswersOk, Completes, IsStarting, Walk, event-walk}
 use Rattle.gx_writes.proofs.World as writes
 use Rattle.gx_writes.proofs.World.{locals_in, world-holds}
@@ -105,19 +104,6 @@ sent-others script steps e f [] earlier later = tt
 sent-others script steps e f (o ∷ outs) earlier later = (tt, sent-others script steps e (counted f o) outs _ later)
 
 -- AT A SEGMENT
-abbrev NoFault : Mark → Type 0
-NoFault (mark.Fault g c r x) = ⊥
-NoFault _ = Unit {0}
-
-row-no-fault : (ms : List Mark) → Each NoRow ms → Each NoFault ms
-row-no-fault [] e = tt
-row-no-fault (mark.Fault g c r x ∷ ms) e = absurd e.0
-row-no-fault (m ∷ ms) e = (tt, row-no-fault ms e.1)
-
-rows-no-fault : (g : Gxid) (c : Cid) (node : Node) (table : Table) (rows : List KeyedRow) → Each NoFault (map (row_mark g c node table) rows)
-rows-no-fault g c node table [] = tt
-rows-no-fault g c node table (r ∷ rs) = (tt, rows-no-fault g c node table rs)
-
 zero-one : (i : ℕ) → 1 ≤ i → i ≡ 0 → ⊥
 zero-one i l e = omega arith
 
@@ -144,7 +130,7 @@ module _ (script : Script) (some : 1 ≤ script.segments) (numbered_lines : AreL
   no-faults : (ms : List Mark) (i : ℕ) (s : Seg) (m : Message) (turn : SegTurn) → MessageIs script ms (at i) m → Turns s m turn → Each NoFault turn.marks
   no-faults ms i s m turn o (inl q) = row-no-fault turn.marks q.marks
   no-faults ms i s m turn o (inr (inl x)) = absurd (no-select-order script inserting ms (at i) x.g x.c x.level (Some x.snapshot) x.query (subst (λ (y : Message). MessageIs script ms (at i) y) x.is o numbered_lines))
-  no-faults ms i s m turn o (inr (inr x)) = subst (λ (y : SegTurn). Each NoFault y.marks) (sym x.ran) (subst (Each NoFault) (sym (insert-wrote s x.horizon x.g x.c x.table x.rows).marks) (rows-no-fault x.g x.c s.node x.table x.rows))
+  no-faults ms i s m turn o (inr (inr x)) = insert-no-fault s m turn x
 
   module _ (w : World) (b : Both script some w) (k : stepping.Holds script w) (h : writes.Holds script w.segs w.steps) (n : Counted script w) where
     -- A STEP OF THE COORDINATOR

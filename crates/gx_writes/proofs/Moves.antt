@@ -14,6 +14,7 @@ use Rattle.gx_tree.specs.declared.row.KeyedRow.{KeyedRow}
 use Rattle.gx_tree.specs.declared.slice.Slice.TheVariants as slice
 use Rattle.gx_tree.specs.declared.stmt.Stmt.{Stmt}
 use Rattle.gx_tree.specs.declared.stmt.Stmt.TheVariants as stmt
+use Rattle.gx_eval.specs.declared.fault.ArithFault.{ArithFault}
 use Rattle.gx_msg.specs.declared.message.Message.{Message}
 use Rattle.gx_msg.specs.declared.message.Message.TheVariants as message
 use Rattle.gx_msg.specs.declared.message.Out.{Out}
@@ -31,7 +32,8 @@ use Rattle.gx_store.proofs.Marks.{is_written-append}
 use Rattle.gx_rules.specs.AtSegment.{raised}
 use Rattle.gx_rules.specs.Machine.{World}
 use Rattle.gx_rules.specs.Segments.{Local, Seg, SegTurn, reply as reply_out}
-use Rattle.gx_rules.specs.Slices.{answers, inserted, inserts}
+use Rattle.gx_rules.specs.Shown.{shown}
+use Rattle.gx_rules.specs.Slices.{answers, first_fault, inserted, inserts, selects}
 use Rattle.gx_laws.proofs.Lists.{Each, each_map, each_weaker}
 use Rattle.gx_histories.specs.Orders.{AreLinesNumbered, IsOrder}
 use Rattle.gx_histories.specs.Rest.{EachMark}
@@ -45,8 +47,8 @@ use Rattle.gx_writes.proofs.Legal.{IsPastMark, IsPlacedMark, Late, Live, behind-
 use Rattle.gx_writes.proofs.Placed.{IsPlaced, IsPlacedRow, piece-rows, row-placed}
 use Rattle.gx_writes.proofs.Plans.{row-piece, rows-are}
 use Rattle.gx_writes.proofs.Rows.{Wrote, insert-wrote, row_mark}
-use Rattle.gx_writes.proofs.Told.{IsAnswerOf, IsFailure, IsReport, IsToldOf, IsWritten, answer-more, order-later, told-more}
-use Rattle.gx_writes.proofs.Turns.{Inserted, IsOldReply, IsOldWord, IsSelected, NoRow, NoWrite, Quiet, Selected}
+use Rattle.gx_writes.proofs.Told.{IsAnswerOf, IsToldOf, IsWritten, answer-more, order-later, told-more}
+use Rattle.gx_writes.proofs.Turns.{Inserted, IsOldReply, IsOldWord, NoRow, NoWrite, Quiet, Selected}
 
 -- what is told by the segment, as it stands then
 abbrev pub IsOutOf : Script → List Mark → (ℕ → ℕ) → Node → Message → Type 0
@@ -76,7 +78,7 @@ of-more script ms ns g c line e = by_began (began_from [] ms g) refl e
     by_began None b e = absurd (none e)
     by_began (Some z) b e = ap (λ o. command_at script o c.0) (began-kept [] ms ns g z b) ∙ e
 
-no-write-placed : (script : Script) (ms : List Mark) (m : Mark) → NoWrite m → IsPlacedMark script ms m
+pub no-write-placed : (script : Script) (ms : List Mark) (m : Mark) → NoWrite m → IsPlacedMark script ms m
 no-write-placed script ms (mark.Write g c n t r x) e = absurd e
 no-write-placed script ms m e = tt
 
@@ -187,46 +189,49 @@ module _ (script : Script) (numbered : AreLinesNumbered [] script.lines) (ms : L
         }
 
   -- a SELECT
-  pub select-move : (m : Message) (turn : SegTurn) → MessageIs script ms (at i) m → Selected s m turn → Moves turn
-  select-move m turn o x = subst Moves (sym x.ran) (ran-move x.g x.c x.told now ran (each_weaker NoWrite (IsPlacedMark script ms) (λ m n. no-write-placed script ms m n) x.marks x.quiet) (each_weaker NoWrite (IsPastHere (λ h. (now.seg.locals h).last) (at i)) (λ m n. no-write-here (λ h. (now.seg.locals h).last) (at i) m n) x.marks x.quiet) (λ later. no-writes-legal script steps e [] x.marks later x.quiet))
-    where
-      now : SegTurn
-      now = answers (raised s x.horizon) x.g x.c x.marks x.told
+  module _ (m : Message) (turn : SegTurn) (o : MessageIs script ms (at i) m) (x : Selected s m turn) where
+    select-order : IsOrder script ms (at i) x.g x.c x.level (Some x.snapshot) (slice.Select x.query)
+    select-order = subst (λ (y : Message). MessageIs script ms (at i) y) x.is o numbered
 
-      order : IsOrder script ms (at i) x.g x.c x.level (Some x.snapshot) (slice.Select x.query)
-      order = subst (λ (y : Message). MessageIs script ms (at i) y) x.is o numbered
+    order-then : (marks : List Mark) → IsOrder script (ms ++ marks) (at i) x.g x.c x.level (Some x.snapshot) (slice.Select x.query)
+    order-then marks = order-later script numbered ms marks (at i) x.g x.c x.level (Some x.snapshot) (slice.Select x.query) select-order
 
-      told : (r : Reply) → IsSelected x.c r → IsToldOf script (ms ++ x.marks) x.c.0 (at i) x.g r
-      told (reply.Done d w n p) k = (same-le (ap (λ (z : Cid). z.0) (sym k)), subst (λ z. IsReport script (ms ++ x.marks) (at i) x.g z n) (sym k) (record { level = x.level; snapshot = Some x.snapshot; slice = slice.Select x.query; order = order-later script numbered ms x.marks (at i) x.g x.c x.level (Some x.snapshot) (slice.Select x.query) order; done = tt }))
-      told (reply.Failed d y) k = (same-le (ap (λ (z : Cid). z.0) (sym k)), subst (IsFailure script (ms ++ x.marks) (at i) x.g) (sym k) (record { level = x.level; snapshot = Some x.snapshot; query = x.query; order = order-later script numbered ms x.marks (at i) x.g x.c x.level (Some x.snapshot) (slice.Select x.query) order }))
-      told reply.Prepared k = absurd k
-      told reply.Committed k = absurd k
-      told reply.Jfault k = absurd k
-      told reply.Again k = absurd k
-      told reply.Aborted k = absurd k
-      told reply.Forgotten k = absurd k
+    select-ran : (marks : List Mark) (r : Reply) → IsToldOf script (ms ++ marks) x.c.0 (at i) x.g r → Ran x.g x.c r (answers (raised s x.horizon) x.g x.c marks r)
+    select-ran marks r told =
+        record {
+          fresh = x.fresh;
+          last = ap (λ q. (if q then after else s.locals x.g.0).last) (self-test x.g.0);
+          answer = ap (λ q. (if q then after else s.locals x.g.0).answer) (self-test x.g.0);
+          other_lasts = λ h q. ap (λ b. (if b then after else s.locals h).last) q;
+          other_answers = λ h q. ap (λ b. (if b then after else s.locals h).answer) q;
+          outs = refl;
+          told = told;
+        }
+      where
+        after : Local
+        after = record (s.locals x.g.0) { last = x.c.0; answer = Some r }
 
-      ran : Ran x.g x.c x.told (answers (raised s x.horizon) x.g x.c x.marks x.told)
-      ran =
-          record {
-            fresh = x.fresh;
-            last = ap (λ q. (if q then after else s.locals x.g.0).last) (self-test x.g.0);
-            answer = ap (λ q. (if q then after else s.locals x.g.0).answer) (self-test x.g.0);
-            other_lasts = λ h q. ap (λ b. (if b then after else s.locals h).last) q;
-            other_answers = λ h q. ap (λ b. (if b then after else s.locals h).answer) q;
-            outs = refl;
-            told = told x.told x.kind;
-          }
-        where
-          after : Local
-          after = record (s.locals x.g.0) { last = x.c.0; answer = Some x.told }
+    answered : (marks : List Mark) (r : Reply) → Each NoWrite marks → IsToldOf script (ms ++ marks) x.c.0 (at i) x.g r → Moves (answers (raised s x.horizon) x.g x.c marks r)
+    answered marks r quiet told =
+        ran-move x.g x.c r now (select-ran marks r told) (each_weaker NoWrite (IsPlacedMark script ms) (λ m n. no-write-placed script ms m n) marks quiet)
+        (each_weaker NoWrite (IsPastHere (λ h. (now.seg.locals h).last) (at i)) (λ m n. no-write-here (λ h. (now.seg.locals h).last) (at i) m n) marks quiet) (λ later. no-writes-legal script steps e [] marks later quiet)
+      where
+        now : SegTurn
+        now = answers (raised s x.horizon) x.g x.c marks r
+
+    by-fault : (rows : List KeyedRow) (f : Option (KeyedRow × ArithFault)) → Moves (selects (raised s x.horizon) x.g x.c x.query rows f)
+    by-fault rows None = answered [] _ tt (same-le refl, record { level = x.level; snapshot = Some x.snapshot; slice = slice.Select x.query; order = order-then []; done = tt })
+    by-fault rows (Some f) = answered _ _ (tt, tt) (same-le refl, record { level = x.level; snapshot = Some x.snapshot; query = x.query; order = order-then _ })
+
+    pub select-move : Moves turn
+    select-move = subst Moves (sym x.ran) (by-fault (shown (raised s x.horizon) x.snapshot x.g x.c x.query.table) (first_fault x.query.cond (shown (raised s x.horizon) x.snapshot x.g x.c x.query.table)))
 
 -- an INSERT's writes
-mark-written : (g : Gxid) (c : Cid) (node : Node) (table : Table) (ms : List Mark) (done rows : List KeyedRow) → Each (IsWritten (ms ++ map (row_mark g c node table) rows)) rows
-mark-written g c node table ms done [] = tt
-mark-written g c node table ms done (r ∷ rs) = (
+pub mark-written : (g : Gxid) (c : Cid) (node : Node) (table : Table) (ms : List Mark) (rows : List KeyedRow) → Each (IsWritten (ms ++ map (row_mark g c node table) rows)) rows
+mark-written g c node table ms [] = tt
+mark-written g c node table ms (r ∷ rs) = (
   is_written-append ms (row_mark g c node table r ∷ map (row_mark g c node table) rs) r.rid ∙ or-right (is_written ms r.rid) _ (or-left (is_same_rid r.rid r.rid) _ (same-rid r.rid)),
-  each_weaker (IsWritten (ms ++ map (row_mark g c node table) rs)) (IsWritten (ms ++ row_mark g c node table r ∷ map (row_mark g c node table) rs)) (λ x k. is_written-append ms (row_mark g c node table r ∷ map (row_mark g c node table) rs) x.rid ∙ middle (is_written ms x.rid) (is_same_rid r.rid x.rid) (is_written (map (row_mark g c node table) rs) x.rid) (sym (is_written-append ms (map (row_mark g c node table) rs) x.rid) ∙ k)) rs (mark-written g c node table ms done rs),
+  each_weaker (IsWritten (ms ++ map (row_mark g c node table) rs)) (IsWritten (ms ++ row_mark g c node table r ∷ map (row_mark g c node table) rs)) (λ x k. is_written-append ms (row_mark g c node table r ∷ map (row_mark g c node table) rs) x.rid ∙ middle (is_written ms x.rid) (is_same_rid r.rid x.rid) (is_written (map (row_mark g c node table) rs) x.rid) (sym (is_written-append ms (map (row_mark g c node table) rs) x.rid) ∙ k)) rs (mark-written g c node table ms rs),
 )
   where
     or-right : (a b : Bool) → b ≡ true → (a || b) ≡ true
@@ -299,7 +304,7 @@ module _ (script : Script) (numbered : AreLinesNumbered [] script.lines) (w : Wo
                   snapshot = Some x.snapshot;
                   slice = slice.Insert x.table x.rows;
                   order = order-later script numbered ms (map (row_mark x.g x.c (at i) x.table) x.rows) (at i) x.g x.c x.level (Some x.snapshot) (slice.Insert x.table x.rows) order;
-                  done = (refl, mark-written x.g x.c (at i) x.table ms [] x.rows);
+                  done = (refl, mark-written x.g x.c (at i) x.table ms x.rows);
                 },
               );
             })

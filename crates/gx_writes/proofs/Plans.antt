@@ -66,11 +66,11 @@ parts-are n dist table all [] = tt
 parts-are n dist table all (node ∷ nodes) = each_append (IsPart n dist table all) _ _ (row-part n dist table all node (rows_at n dist all node.0) refl) (parts-are n dist table all nodes)
 
 -- pieces that all have one slice
-same-pieces : (s : Slice) (nodes : List Node) → Each (λ (p : Piece). p.slice ≡ s) (map (piece s) nodes)
+pub same-pieces : (s : Slice) (nodes : List Node) → Each (λ (p : Piece). p.slice ≡ s) (map (piece s) nodes)
 same-pieces s [] = tt
 same-pieces s (node ∷ nodes) = (refl, same-pieces s nodes)
 
-in-each : (P : Piece → Type 0) (ps : List Piece) (p : Piece) → Each P ps → Contains ps p → P p
+pub in-each : (P : Piece → Type 0) (ps : List Piece) (p : Piece) → Each P ps → Contains ps p → P p
 in-each P ps p e k = All-contains P ps p (each-all P ps e) k
 
 -- a piece with rows is one of an INSERT

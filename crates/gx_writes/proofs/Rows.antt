@@ -1,5 +1,5 @@
 -- What an INSERT does at a segment: a write a row, in their order, and an answer that counts them.
-use Rattle.std.proofs.Common.{◌≡◌, ℕ, List, [], ◌∷◌, ◌++◌, Some, Bool, true, false, refl, sym, ap, ◌∙◌, if◌then◌else◌, arith, eqb, append-nil}
+use Rattle.std.proofs.Common.{◌≡◌, ℕ, List, [], ◌∷◌, ◌++◌, Some, Bool, true, false, refl, sym, subst, ap, ◌∙◌, if◌then◌else◌, arith, eqb, append-nil}
 use Rattle.std.proofs.lemmas.Bool.{eqb-true}
 use Rattle.std.proofs.lemmas.Bool.Decides.{nat_tests}
 use Rattle.std.proofs.lemmas.List.{append_assoc}
@@ -10,6 +10,7 @@ use Rattle.gx_ids.specs.declared.ids.Node.{Node}
 use Rattle.gx_ids.specs.declared.ids.Table.{Table}
 use Rattle.gx_tree.specs.declared.part.Part.{Part}
 use Rattle.gx_tree.specs.declared.row.KeyedRow.{KeyedRow}
+use Rattle.gx_msg.specs.declared.message.Message.{Message}
 use Rattle.gx_msg.specs.declared.reply.Reply.TheVariants as reply
 use Rattle.gx_store.specs.declared.mark.Mark.{Mark}
 use Rattle.gx_store.specs.declared.mark.Mark.TheVariants as mark
@@ -17,6 +18,8 @@ use Rattle.gx_rules.specs.AtSegment.{raised}
 use Rattle.gx_rules.specs.Maps.{with_at}
 use Rattle.gx_rules.specs.Segments.{Local, Seg, SegTurn, reply as reply_out}
 use Rattle.gx_rules.specs.Slices.{Moved, inserted, inserts, inserts_row}
+use Rattle.gx_laws.proofs.Lists.{Each}
+use Rattle.gx_writes.proofs.Turns.{Inserted, NoFault}
 
 -- the write of a row
 abbrev pub row_mark : Gxid → Cid → Node → Table → KeyedRow → Mark
@@ -51,7 +54,7 @@ module _ (g : Gxid) (c : Cid) (table : Table) where
       by_test true e = (a ∙ ap (λ j. (m.seg.locals j).last) (sym (eqb-true h g.0 e)), b ∙ ap (λ j. (m.seg.locals j).answer) (sym (eqb-true h g.0 e)))
       by_test false e = (refl, refl)
 
-  rows-locals : (rows : List KeyedRow) (m : Moved) (h : ℕ) → (((fold (inserts_row g c table) m rows).seg.locals h).last ≡ (m.seg.locals h).last) × (((fold (inserts_row g c table) m rows).seg.locals h).answer ≡ (m.seg.locals h).answer)
+  pub rows-locals : (rows : List KeyedRow) (m : Moved) (h : ℕ) → (((fold (inserts_row g c table) m rows).seg.locals h).last ≡ (m.seg.locals h).last) × (((fold (inserts_row g c table) m rows).seg.locals h).answer ≡ (m.seg.locals h).answer)
   rows-locals [] m h = (refl, refl)
   rows-locals (r ∷ rs) m h =
       let x = rows-locals rs (inserts_row g c table m r) h in
@@ -79,3 +82,12 @@ insert-wrote s horizon g c table rows =
 
     after : Local
     after = record (done.seg.locals g.0) { last = c.0; answer = Some (reply.Done c (Rattle.gx_rules.specs.Slices.has_written (done.seg.locals g.0).phase) (length rows) (Rattle.gx_tree.specs.declared.part.Part.TheVariants.Rows [])) }
+
+-- it faults on no row
+rows-no-fault : (g : Gxid) (c : Cid) (node : Node) (table : Table) (rows : List KeyedRow) → Each NoFault (map (row_mark g c node table) rows)
+rows-no-fault g c node table [] = tt
+rows-no-fault g c node table (r ∷ rs) = (tt, rows-no-fault g c node table rs)
+
+pub insert-no-fault : (s : Seg) (m : Message) (turn : SegTurn) → Inserted s m turn → Each NoFault turn.marks
+insert-no-fault s m turn x =
+    subst (λ (y : SegTurn). Each NoFault y.marks) (sym x.ran) (subst (Each NoFault) (sym (insert-wrote s x.horizon x.g x.c x.table x.rows).marks) (rows-no-fault x.g x.c s.node x.table x.rows))

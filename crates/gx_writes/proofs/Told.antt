@@ -158,7 +158,7 @@ each-get P (y ∷ ys) zero x e f = subst P (some-same y x f) e.0
     some-same a b e = (cc)
 each-get P (y ∷ ys) (suc k) x e f = each-get P ys k x e.1 f
 
-take-get : {A : Type 0} (n : ℕ) (xs : List A) (k : ℕ) (x : A) → slice_get (take n xs) k ≡ Some x → slice_get xs k ≡ Some x
+pub take-get : {A : Type 0} (n : ℕ) (xs : List A) (k : ℕ) (x : A) → slice_get (take n xs) k ≡ Some x → slice_get xs k ≡ Some x
 take-get zero xs k x e = absurd (none e)
   where
     none : slice_get [] k ≡ Some x → ⊥

@@ -1,5 +1,5 @@
 -- What a segment does when a message comes: it runs a command's slice, or it writes nothing and repeats what it kept.
-use Rattle.std.proofs.Common.{◌≡◌, ◌<◌, ◌⊎◌, inl, inr, ℕ, List, [], Option, Some, None, Bool, true, false, refl, sym, ap, ◌∙◌, if◌then◌else◌, ◌==◌, arith, eqb}
+use Rattle.std.proofs.Common.{◌≡◌, ◌<◌, ◌⊎◌, inl, inr, ℕ, List, [], ◌∷◌, Option, Some, None, Bool, true, false, refl, sym, ap, ◌∙◌, if◌then◌else◌, ◌==◌, arith, eqb}
 use Rattle.std.proofs.lemmas.Bool.{eqb-true}
 use Rattle.std.proofs.lemmas.Bool.Decides.{nat_tests}
 use Rattle.std.specs.Prelude.{length, nat_lt}
@@ -13,7 +13,6 @@ use Rattle.gx_tree.specs.declared.slice.Slice.TheVariants as slice
 use Rattle.gx_tree.specs.declared.stmt.Level.{Level}
 use Rattle.gx_dsnap.specs.Gxids.{is_below}
 use Rattle.gx_dsnap.specs.declared.snapshot.Snapshot.{Snapshot}
-use Rattle.gx_eval.specs.declared.fault.ArithFault.{ArithFault}
 use Rattle.gx_msg.specs.declared.item.JournalItem.{JournalItem}
 use Rattle.gx_msg.specs.declared.message.Message.{Message}
 use Rattle.gx_msg.specs.declared.message.Message.TheVariants as message
@@ -28,7 +27,7 @@ use Rattle.gx_rules.specs.Fits.{fits_exec}
 use Rattle.gx_rules.specs.Segments.{Local, Phase, Seg, SegTurn, local_of, stays, tells, tells_kept}
 use Rattle.gx_rules.specs.Segments.Phase.{Reading, Writing, Prepared, Committed, Forgotten, Aborted}
 use Rattle.gx_rules.specs.Shown.{shown}
-use Rattle.gx_rules.specs.Slices.{answers, first_fault, inserted, inserts, runs_slice, selects}
+use Rattle.gx_rules.specs.Slices.{first_fault, inserted, inserts, runs_slice, selects}
 use Rattle.gx_laws.proofs.Lists.{Each}
 use Rattle.gx_protocol.specs.Pairs.{is_open}
 
@@ -43,6 +42,15 @@ NoRow (mark.Write g c n t r x) = ⊥
 NoRow (mark.Skip g c r) = ⊥
 NoRow (mark.Fault g c r x) = ⊥
 NoRow _ = Unit {0}
+
+abbrev pub NoFault : Mark → Type 0
+NoFault (mark.Fault g c r x) = ⊥
+NoFault _ = Unit {0}
+
+pub row-no-fault : (ms : List Mark) → Each NoRow ms → Each NoFault ms
+row-no-fault [] e = tt
+row-no-fault (mark.Fault g c r x ∷ ms) e = absurd e.0
+row-no-fault (m ∷ ms) e = (tt, row-no-fault ms e.1)
 
 -- an answer to a command that was kept
 abbrev pub IsOldReply : Seg → Gxid → Reply → Type 0
@@ -60,12 +68,7 @@ pub record Quiet (s : Seg) (turn : SegTurn) : Type 0 where
   pub lasts : (h : ℕ) → (turn.seg.locals h).last ≡ (s.locals h).last
   pub outs : Each (λ (o : Out). IsOldWord s o.message) turn.outs
 
--- the answer to a SELECT
-abbrev pub IsSelected : Cid → Reply → Type 0
-IsSelected c (reply.Done d w n p) = d ≡ c
-IsSelected c (reply.Failed d x) = d ≡ c
-IsSelected c _ = ⊥
-
+-- a SELECT runs on the rows that the segment shows
 pub record Selected (s : Seg) (m : Message) (turn : SegTurn) : Type 0 where
   pub g : Gxid
   pub c : Cid
@@ -75,11 +78,7 @@ pub record Selected (s : Seg) (m : Message) (turn : SegTurn) : Type 0 where
   pub query : Query
   pub is : m ≡ message.Exec g c level (Some snapshot) horizon (slice.Select query)
   pub fresh : (s.locals g.0).last < c.0
-  pub marks : List Mark
-  pub quiet : Each NoWrite marks
-  pub told : Reply
-  pub kind : IsSelected c told
-  pub ran : turn ≡ answers (raised s horizon) g c marks told
+  pub ran : turn ≡ selects (raised s horizon) g c query (shown (raised s horizon) snapshot g c query.table) (first_fault query.cond (shown (raised s horizon) snapshot g c query.table))
 
 pub record Inserted (s : Seg) (m : Message) (turn : SegTurn) : Type 0 where
   pub g : Gxid
@@ -218,15 +217,11 @@ module _ (s : Seg) where
 
   -- SLICES
   module _ (g : Gxid) (c : Cid) (level : Level) (h : Gxid) (fresh : (s.locals g.0).last < c.0) (opened : is_open (s.locals g.0).phase ≡ true) where
-    select : (x : Snapshot) (q : Query) (rows : List KeyedRow) (f : Option (KeyedRow × ArithFault)) → Selected s (message.Exec g c level (Some x) h (slice.Select q)) (selects (raised s h) g c q rows f)
-    select x q rows None = record { g = g; c = c; level = level; snapshot = x; horizon = h; query = q; is = refl; fresh = fresh; marks = []; quiet = tt; told = _; kind = refl; ran = refl }
-    select x q rows (Some f) = record { g = g; c = c; level = level; snapshot = x; horizon = h; query = q; is = refl; fresh = fresh; marks = _; quiet = (tt, tt); told = _; kind = refl; ran = refl }
-
     lies : Quiet s (stays (raised s h))
     lies = record { marks = tt; answers = λ j. refl; lasts = λ j. refl; outs = tt }
 
     run : (x : Option Snapshot) (y : Slice) → Turns s (message.Exec g c level x h y) (runs_slice (raised s h) g c x y)
-    run (Some x) (slice.Select q) = inr (inl (select x q (shown (raised s h) x g c q.table) (first_fault q.cond (shown (raised s h) x g c q.table))))
+    run (Some x) (slice.Select q) = inr (inl (record { g = g; c = c; level = level; snapshot = x; horizon = h; query = q; is = refl; fresh = fresh; ran = refl }))
     run (Some x) (slice.Insert t rows) = inr (inr (record { g = g; c = c; level = level; snapshot = x; horizon = h; table = t; rows = rows; is = refl; opened = opened; fresh = fresh; ran = refl }))
     run (Some x) (slice.Update t a d) = inl lies
     run (Some x) (slice.Delete t d) = inl lies

@@ -48,7 +48,7 @@ use Rattle.gx_protocol.proofs.Whole.{Both, world-both}
 use Rattle.gx_writes.specs.Writes.{AreWritesLegal, WriteLegal}
 use Rattle.gx_writes.proofs.Legal.{IsPastMark, IsPlacedMark, Late, Live, no-writes-legal, order-live, sent-no-write}
 use Rattle.gx_writes.proofs.Live.{Running, running}
-use Rattle.gx_writes.proofs.Moves.{IsOutOf, IsPastHere, Move, insert-move, line-of, of-more, order, piece, quiet-move, select-move}
+use Rattle.gx_writes.proofs.Moves.{IsOutOf, IsPastHere, Move, insert-move, line-of, no-write-placed, of-more, order, piece, quiet-move, select-move}
 use Rattle.gx_writes.proofs.Told.{IsAnswerOf, IsToldOf, IsWordOf, SentTold, StepTold, answer-more, each-get, steps-more, taken-told, told-more}
 use Rattle.gx_writes.proofs.Turns.{Inserted, NoWrite, Turns, message-turns}
 
@@ -140,10 +140,6 @@ here-no-write script [] e = tt
 here-no-write script (mark.Write g c n t r x ∷ ms) e = absurd (none-here script e.0.1)
 here-no-write script (mark.Skip g c r ∷ ms) e = absurd (none-here script e.0)
 here-no-write script (m ∷ ms) e = (tt, here-no-write script ms e.1)
-
-no-write-placed : (script : Script) (ms : List Mark) (m : Mark) → NoWrite m → IsPlacedMark script ms m
-no-write-placed script ms (mark.Write g c n t r x) e = absurd e
-no-write-placed script ms m e = tt
 
 no-write-past : (lasts : ℕ → ℕ → ℕ) (m : Mark) → NoWrite m → IsPastMark lasts m
 no-write-past lasts (mark.Write g c n t r x) e = absurd e
