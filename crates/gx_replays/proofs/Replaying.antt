@@ -16,21 +16,32 @@ use Rattle.gx_rules.specs.Coordinators.{Coord, CoordTurn}
 use Rattle.gx_rules.specs.Machine.{Letter, World, after, at_node, can, coord_did, delivered, does, found, happens, new_world, node_of, posted, seg_did, world_of}
 use Rattle.gx_rules.specs.Segments.{Seg, SegTurn}
 use Rattle.gx_laws.proofs.Ordered.{at-both}
-use Rattle.gx_replays.specs.Replays.{AreReplayed, coordinator_after, coordinator_by, coordinator_from, coordinator_next, coordinator_step, has_failed, here_at, letters_after, letters_from, segment_after, segment_by, segment_from, segment_next, segment_step}
+use Rattle.gx_replays.specs.Replays.{AreReplayed, coordinator_after, coordinator_by, coordinator_from, coordinator_next, has_failed, here_at, letters_after, letters_from, segment_after, segment_by, segment_from, segment_next}
 use Rattle.gx_replays.proofs.Failing.{coordinator-tells, segment-tells}
 
+-- a step of a node's turn
+abbrev pub coordinator_step : Event → CoordTurn → Step
+coordinator_step e turn = record { stamp = record { clock = turn.coord.clock; node = the_coordinator }; event = e; marks = turn.marks }
+
+abbrev pub segment_step : Node → Event → SegTurn → Step
+segment_step node e turn = record { stamp = record { clock = turn.seg.clock; node = node }; event = e; marks = turn.marks }
+
+-- what a world's nodes hold is what its own steps tell
+abbrev pub IsReplayed : Script → World → Type 0
+IsReplayed script w = AreReplayed script w.steps w
+
 -- ONE STEP MORE
-letters-last : (sent : List Letter) (ss : List Step) (s : Step) → letters_from sent (ss ++ s ∷ []) ≡ posted s.stamp.node s.stamp.clock s.marks (letters_from sent ss)
+pub letters-last : (sent : List Letter) (ss : List Step) (s : Step) → letters_from sent (ss ++ s ∷ []) ≡ posted s.stamp.node s.stamp.clock s.marks (letters_from sent ss)
 letters-last sent [] s = refl
 letters-last sent (x ∷ ss) s = letters-last (posted x.stamp.node x.stamp.clock x.marks sent) ss s
 
-coordinator-last : (script : Script) (c : Coord) (before ss : List Step) (s : Step) → coordinator_from script c before (ss ++ s ∷ []) ≡ coordinator_next script (before ++ ss) s (coordinator_from script c before ss)
+pub coordinator-last : (script : Script) (c : Coord) (before ss : List Step) (s : Step) → coordinator_from script c before (ss ++ s ∷ []) ≡ coordinator_next script (before ++ ss) s (coordinator_from script c before ss)
 coordinator-last script c before [] s = ap (λ b. coordinator_next script b s c) (sym (append-nil before))
 coordinator-last script c before (x ∷ ss) s =
     coordinator-last script (coordinator_next script before x c) (before ++ x ∷ []) ss s
     ∙ ap (λ b. coordinator_next script b s (coordinator_from script c before (x ∷ ss))) (append_assoc before (x ∷ []) ss)
 
-segment-last : (script : Script) (node : Node) (seg : Seg) (before ss : List Step) (s : Step) → segment_from script node seg before (ss ++ s ∷ []) ≡ segment_next script node (before ++ ss) s (segment_from script node seg before ss)
+pub segment-last : (script : Script) (node : Node) (seg : Seg) (before ss : List Step) (s : Step) → segment_from script node seg before (ss ++ s ∷ []) ≡ segment_next script node (before ++ ss) s (segment_from script node seg before ss)
 segment-last script node seg before [] s = ap (λ b. segment_next script node b s seg) (sym (append-nil before))
 segment-last script node seg before (x ∷ ss) s =
     segment-last script node (segment_next script node before x seg) (before ++ x ∷ []) ss s
@@ -46,11 +57,11 @@ at-here w (event.Resend i g) q = refl
 at-here w event.Round q = refl
 
 -- ONE EVENT
-module _ (script : Script) (w : World) (r : AreReplayed script w) (e : Event) (x : NodeEvent) (is : at_node w e ≡ Some x) (fails : Bool) where
+module _ (script : Script) (w : World) (r : IsReplayed script w) (e : Event) (x : NodeEvent) (is : at_node w e ≡ Some x) (fails : Bool) where
   now : here_at w.steps e ≡ Some x
   now = sym (at-here w e r.sent) ∙ is
 
-  coord-replayed : AreReplayed script (coord_did w e (coord_rule script w.coord x fails))
+  coord-replayed : IsReplayed script (coord_did w e (coord_rule script w.coord x fails))
   coord-replayed =
       record {
         coordinator = sym (
@@ -77,7 +88,7 @@ module _ (script : Script) (w : World) (r : AreReplayed script w) (e : Event) (x
           let seg : Seg = segment_after script (record { 0 = i }) w.steps in
           ap (λ (b : Bool). if b then segment_by script seg (here_at w.steps e) (has_failed turn.marks) else seg) (away i one)
 
-  seg-replayed : (node : Node) → is_same_node node the_coordinator ≡ false → AreReplayed script (seg_did w node e (seg_rule script (w.segs node.0) x fails))
+  seg-replayed : (node : Node) → is_same_node node the_coordinator ≡ false → IsReplayed script (seg_did w node e (seg_rule script (w.segs node.0) x fails))
   seg-replayed node away =
       record {
         coordinator = r.coordinator ∙ sym (coordinator-last script _ [] w.steps step ∙ passed);
@@ -120,24 +131,24 @@ module _ (script : Script) (w : World) (r : AreReplayed script w) (e : Event) (x
           )
 
 module _ (script : Script) where
-  does-replayed : (w : World) (e : Event) (fails : Bool) (o : Option NodeEvent) → at_node w e ≡ o → AreReplayed script w → AreReplayed script (does script w e (node_of e) fails o)
+  does-replayed : (w : World) (e : Event) (fails : Bool) (o : Option NodeEvent) → at_node w e ≡ o → IsReplayed script w → IsReplayed script (does script w e (node_of e) fails o)
   does-replayed w e fails None is r = r
   does-replayed w e fails (Some x) is r = by_node (is_same_node (node_of e) the_coordinator) refl
     where
-      by_node : (b : Bool) → is_same_node (node_of e) the_coordinator ≡ b → AreReplayed script (if b then coord_did w e (coord_rule script w.coord x fails) else seg_did w (node_of e) e (seg_rule script (w.segs (node_of e).0) x fails))
+      by_node : (b : Bool) → is_same_node (node_of e) the_coordinator ≡ b → IsReplayed script (if b then coord_did w e (coord_rule script w.coord x fails) else seg_did w (node_of e) e (seg_rule script (w.segs (node_of e).0) x fails))
       by_node true same = coord-replayed script w r e x is fails
       by_node false away = seg-replayed script w r e x is fails (node_of e) away
 
-  happens-replayed : (w : World) (e : Event) (fails : Bool) → AreReplayed script w → AreReplayed script (happens script w e fails)
+  happens-replayed : (w : World) (e : Event) (fails : Bool) → IsReplayed script w → IsReplayed script (happens script w e fails)
   happens-replayed w e fails r = by_can (can script w e)
     where
-      by_can : (b : Bool) → AreReplayed script (if b then does script w e (node_of e) fails (at_node w e) else w)
+      by_can : (b : Bool) → IsReplayed script (if b then does script w e (node_of e) fails (at_node w e) else w)
       by_can true = does-replayed w e fails (at_node w e) refl r
       by_can false = r
 
-  after-replayed : (es : List (Event × Bool)) (w : World) → AreReplayed script w → AreReplayed script (after script w es)
+  after-replayed : (es : List (Event × Bool)) (w : World) → IsReplayed script w → IsReplayed script (after script w es)
   after-replayed [] w r = r
   after-replayed (e ∷ es) w r = after-replayed es (happens script w e.0 e.1) (happens-replayed w e.0 e.1 r)
 
-  pub world-replayed : (es : List (Event × Bool)) → AreReplayed script (world_of script es)
+  pub world-replayed : (es : List (Event × Bool)) → IsReplayed script (world_of script es)
   world-replayed es = after-replayed es new_world (record { coordinator = refl; segments = λ i one. refl; sent = refl })

@@ -3,19 +3,22 @@
 use Rattle.std.specs.Prelude.{◌≡◌, ◌≤◌, ℕ, Bool, true, false, if◌then◌else◌, List, [], ◌∷◌, ◌++◌, Some, None}
 use Rattle.std.specs.declared.option.Option.{Option}
 use Rattle.gx_ids.specs.declared.ids.Node.{Node}
+use Rattle.gx_msg.specs.declared.message.Envelope.{Envelope}
 use Rattle.gx_script.specs.declared.Script.{Script}
 use Rattle.gx_store.specs.declared.event.Event.{Event}
+use Rattle.gx_store.specs.declared.event.Event.TheVariants.{Receive}
 use Rattle.gx_store.specs.declared.mark.Mark.{Mark}
 use Rattle.gx_store.specs.declared.mark.Mark.TheVariants.{JournalFailed}
 use Rattle.gx_store.specs.declared.node.NodeEvent.{NodeEvent}
+use Rattle.gx_store.specs.declared.node.NodeEvent.TheVariants.{Deliver}
 use Rattle.gx_store.specs.declared.run.Step.{Step}
 use Rattle.gx_store.specs.Journals.{is_same_node}
 use Rattle.gx_store.specs.Refusals.{the_coordinator}
 use Rattle.gx_rules.specs.AtCoordinator.{coord_can, coord_rule}
 use Rattle.gx_rules.specs.AtSegment.{seg_rule}
-use Rattle.gx_rules.specs.Coordinators.{Coord, CoordTurn, new_coordinator}
-use Rattle.gx_rules.specs.Machine.{Letter, World, at_node, new_world, node_of, posted, seg_can}
-use Rattle.gx_rules.specs.Segments.{Seg, SegTurn, new_segment}
+use Rattle.gx_rules.specs.Coordinators.{Coord, new_coordinator}
+use Rattle.gx_rules.specs.Machine.{Letter, World, at_node, found, new_world, node_of, posted, seg_can}
+use Rattle.gx_rules.specs.Segments.{Seg, new_segment}
 
 -- a journal failed in these marks
 abbrev pub has_failed : List Mark → Bool
@@ -68,13 +71,13 @@ abbrev pub segment_after : Script → Node → List Step → Seg
 segment_after script node steps = segment_from script node (new_segment node) [] steps
 
 -- ALL NODES
--- what the machine's nodes hold is what its steps tell
-pub record AreReplayed (script : Script) (w : World) : Type 0 where
-  pub coordinator : w.coord ≡ coordinator_after script w.steps
-  pub segments : (i : ℕ) → 1 ≤ i → w.segs i ≡ segment_after script (record { 0 = i }) w.steps
-  pub sent : w.sent ≡ letters_after w.steps
+-- what the machine's nodes hold is what these steps tell
+pub record AreReplayed (script : Script) (steps : List Step) (w : World) : Type 0 where
+  pub coordinator : w.coord ≡ coordinator_after script steps
+  pub segments : (i : ℕ) → 1 ≤ i → w.segs i ≡ segment_after script (record { 0 = i }) steps
+  pub sent : w.sent ≡ letters_after steps
 
--- ONE STEP MORE
+-- WHAT MAY COME NEXT
 -- what is admitted behind these steps
 abbrev pub can_behind : Script → List Step → Node → Option NodeEvent → Bool
 can_behind script steps node None = false
@@ -83,9 +86,25 @@ can_behind script steps node (Some here) = if is_same_node node the_coordinator 
 abbrev pub is_admitted : Script → List Step → Event → Bool
 is_admitted script steps e = can_behind script steps (node_of e) (here_at steps e)
 
--- the step of a node's turn
-abbrev pub coordinator_step : Event → CoordTurn → Step
-coordinator_step e turn = record { stamp = record { clock = turn.coord.clock; node = the_coordinator }; event = e; marks = turn.marks }
+-- a step of the coordinator behind these steps: an event that it admits, done by its rule on what it holds
+pub record IsNextAtCoordinator (script : Script) (steps : List Step) (step : Step) : Type 0 where
+  pub node : step.stamp.node ≡ the_coordinator
+  pub at : node_of step.event ≡ the_coordinator
+  pub here : NodeEvent
+  pub fails : Bool
+  pub is : here_at steps step.event ≡ Some here
+  pub admitted : coord_can script (coordinator_after script steps) here ≡ true
+  pub marks : step.marks ≡ (coord_rule script (coordinator_after script steps) here fails).marks
+  pub clock : step.stamp.clock ≡ (coord_rule script (coordinator_after script steps) here fails).coord.clock
 
-abbrev pub segment_step : Node → Event → SegTurn → Step
-segment_step node e turn = record { stamp = record { clock = turn.seg.clock; node = node }; event = e; marks = turn.marks }
+-- and one of a segment: a message that was posted to it, taken by its rule on what it holds
+pub record IsNextAtSegment (script : Script) (steps : List Step) (step : Step) : Type 0 where
+  pub node : 1 ≤ step.stamp.node.0
+  pub from : Node
+  pub number : ℕ
+  pub envelope : Envelope
+  pub fails : Bool
+  pub at : step.event ≡ Receive from step.stamp.node number
+  pub is : found from step.stamp.node number (letters_after steps) ≡ Some envelope
+  pub marks : step.marks ≡ (seg_rule script (segment_after script step.stamp.node steps) (Deliver from envelope) fails).marks
+  pub clock : step.stamp.clock ≡ (seg_rule script (segment_after script step.stamp.node steps) (Deliver from envelope) fails).seg.clock

@@ -1,0 +1,7 @@
+use Rattle.gx_rules.specs.Machine.{world_of}
+use Rattle.gx_replays.proofs.Leading.{can-told}
+use Rattle.gx_replays.proofs.Replaying.{world-replayed}
+use Rattle.gx_replays.proofs.laws.steps_tell_what_is_admitted.Goals as goal
+
+pub returns : goal.returns
+returns c = λ script events event. can-told script (world_of script events) (world-replayed script events) event
