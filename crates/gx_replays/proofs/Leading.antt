@@ -16,7 +16,7 @@ use Rattle.gx_rules.specs.AtSegment.{seg_rule}
 use Rattle.gx_rules.specs.Coordinators.{Coord}
 use Rattle.gx_rules.specs.Machine.{World, after, at_node, can, can_here, coord_did, delivered, does, happens, new_world, node_of, seg_can, seg_did, world_of}
 use Rattle.gx_laws.specs.Runs.{steps_after}
-use Rattle.gx_replays.specs.Replays.{IsNextAtCoordinator, IsNextAtSegment, can_behind, coordinator_after, here_at, is_admitted, segment_after}
+use Rattle.gx_replays.specs.Replays.{IsNextAtCoordinator, IsNextAtSegment, coordinator_after, here_at, is_admitted, segment_after, world_behind}
 use Rattle.gx_replays.proofs.Replaying.{IsReplayed, at-here, coordinator_step, segment_step, world-replayed}
 
 -- one event more
@@ -34,12 +34,12 @@ same-step s c n e ms a b d f =
 
 module _ (script : Script) (w : World) (r : IsReplayed script w) where
   -- what is admitted
-  can-behind : (node : Node) (o : Option NodeEvent) → can_here script w node o ≡ can_behind script w.steps node o
+  can-behind : (node : Node) (o : Option NodeEvent) → can_here script w node o ≡ can_here script (world_behind script w.steps) node o
   can-behind node None = refl
   can-behind node (Some x) = ap (λ (c : Coord). if is_same_node node the_coordinator then coord_can script c x else seg_can x) r.coordinator
 
   pub can-told : (e : Event) → can script w e ≡ is_admitted script w.steps e
-  can-told e = can-behind (node_of e) (at_node w e) ∙ ap (can_behind script w.steps (node_of e)) (at-here w e r.sent)
+  can-told e = can-behind (node_of e) (at_node w e) ∙ ap (can_here script (world_behind script w.steps) (node_of e)) (at-here w e r.sent)
 
   -- what is admitted is done
   module _ (e : Event) (x : NodeEvent) (fails : Bool) (is : here_at w.steps e ≡ Some x) (ok : is_admitted script w.steps e ≡ true) where
@@ -71,7 +71,7 @@ module _ (script : Script) (w : World) (r : IsReplayed script w) where
       ∙ ap (λ s. w.steps ++ s ∷ []) (sym (same-step step _ _ step.event _ n.clock n.node refl n.marks))
     where
       ok : is_admitted script w.steps step.event ≡ true
-      ok = ap (λ m. can_behind script w.steps m (here_at w.steps step.event)) n.at ∙ ap (can_behind script w.steps the_coordinator) n.is ∙ n.admitted
+      ok = ap (λ m. can_here script (world_behind script w.steps) m (here_at w.steps step.event)) n.at ∙ ap (can_here script (world_behind script w.steps) the_coordinator) n.is ∙ n.admitted
 
   pub segment-next : (step : Step) (n : IsNextAtSegment script w.steps step) → (happens script w step.event n.fails).steps ≡ w.steps ++ step ∷ []
   segment-next step n =
@@ -89,7 +89,7 @@ module _ (script : Script) (w : World) (r : IsReplayed script w) where
       away m one = grind (arith, nat_tests)
 
       ok : is_admitted script w.steps e ≡ true
-      ok = ap (can_behind script w.steps step.stamp.node) is
+      ok = ap (can_here script (world_behind script w.steps) step.stamp.node) is
           ∙ ap (λ (b : Bool). if b then coord_can script (coordinator_after script w.steps) (Deliver n.from n.envelope) else true) (away step.stamp.node n.node)
 
 module _ (script : Script) (es : List (Event × Bool)) (step : Step) where

@@ -1,3 +1,5 @@
 pub mod Failing
 pub mod Replaying
 pub mod Leading
+pub mod Moving
+pub mod Reaching

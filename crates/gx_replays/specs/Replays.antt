@@ -17,7 +17,7 @@ use Rattle.gx_store.specs.Refusals.{the_coordinator}
 use Rattle.gx_rules.specs.AtCoordinator.{coord_can, coord_rule}
 use Rattle.gx_rules.specs.AtSegment.{seg_rule}
 use Rattle.gx_rules.specs.Coordinators.{Coord, new_coordinator}
-use Rattle.gx_rules.specs.Machine.{Letter, World, at_node, found, new_world, node_of, posted, seg_can}
+use Rattle.gx_rules.specs.Machine.{Letter, World, at_node, can, found, new_world, node_of, posted}
 use Rattle.gx_rules.specs.Segments.{Seg, new_segment}
 
 -- a journal failed in these marks
@@ -77,14 +77,14 @@ pub record AreReplayed (script : Script) (steps : List Step) (w : World) : Type 
   pub segments : (i : ℕ) → 1 ≤ i → w.segs i ≡ segment_after script (record { 0 = i }) steps
   pub sent : w.sent ≡ letters_after steps
 
--- WHAT MAY COME NEXT
--- what is admitted behind these steps
-abbrev pub can_behind : Script → List Step → Node → Option NodeEvent → Bool
-can_behind script steps node None = false
-can_behind script steps node (Some here) = if is_same_node node the_coordinator then coord_can script (coordinator_after script steps) here else seg_can here
+-- the machine as these steps tell it
+abbrev pub world_behind : Script → List Step → World
+world_behind script steps = record { coord = coordinator_after script steps; segs = λ i. segment_after script (record { 0 = i }) steps; steps = steps; sent = letters_after steps }
 
+-- WHAT MAY COME NEXT
+-- what it admits
 abbrev pub is_admitted : Script → List Step → Event → Bool
-is_admitted script steps e = can_behind script steps (node_of e) (here_at steps e)
+is_admitted script steps e = can script (world_behind script steps) e
 
 -- a step of the coordinator behind these steps: an event that it admits, done by its rule on what it holds
 pub record IsNextAtCoordinator (script : Script) (steps : List Step) (step : Step) : Type 0 where
