@@ -1,5 +1,5 @@
 -- What a node's rule makes of what the steps tell is the machine's next step.
-use Rattle.std.proofs.Common.{◌≡◌, ◌≤◌, ℕ, List, [], ◌∷◌, ◌++◌, Option, Some, None, Bool, true, false, refl, sym, ap, ◌∙◌, if◌then◌else◌, arith}
+use Rattle.std.proofs.Common.{◌≡◌, ◌≤◌, ℕ, List, [], ◌∷◌, ◌++◌, Some, Bool, true, false, refl, sym, ap, ◌∙◌, if◌then◌else◌, arith}
 use Rattle.std.proofs.lemmas.Bool.Decides.{nat_tests}
 use Rattle.gx_ids.specs.declared.ids.Node.{Node}
 use Rattle.gx_script.specs.declared.Script.{Script}
@@ -13,14 +13,14 @@ use Rattle.gx_store.specs.Journals.{is_same_node}
 use Rattle.gx_store.specs.Refusals.{the_coordinator}
 use Rattle.gx_rules.specs.AtCoordinator.{coord_can, coord_rule}
 use Rattle.gx_rules.specs.AtSegment.{seg_rule}
-use Rattle.gx_rules.specs.Coordinators.{Coord}
-use Rattle.gx_rules.specs.Machine.{World, after, at_node, can, can_here, coord_did, delivered, does, happens, new_world, node_of, seg_can, seg_did, world_of}
+use Rattle.gx_rules.specs.Machine.{World, after, at_node, can_here, coord_did, delivered, does, happens, new_world, node_of, seg_did, world_of}
 use Rattle.gx_laws.specs.Runs.{steps_after}
 use Rattle.gx_replays.specs.Replays.{IsNextAtCoordinator, IsNextAtSegment, coordinator_after, here_at, is_admitted, segment_after, world_behind}
+use Rattle.gx_replays.proofs.Telling.{can-told}
 use Rattle.gx_replays.proofs.Replaying.{IsReplayed, at-here, coordinator_step, segment_step, world-replayed}
 
 -- one event more
-after-last : (script : Script) (w : World) (es : List (Event × Bool)) (x : Event × Bool) → after script w (es ++ x ∷ []) ≡ happens script (after script w es) x.0 x.1
+pub after-last : (script : Script) (w : World) (es : List (Event × Bool)) (x : Event × Bool) → after script w (es ++ x ∷ []) ≡ happens script (after script w es) x.0 x.1
 after-last script w [] x = refl
 after-last script w (e ∷ es) x = after-last script (happens script w e.0 e.1) es x
 
@@ -33,19 +33,11 @@ same-step s c n e ms a b d f =
     ∙ ap (λ x. let y : Step = record { stamp = record { clock = c; node = n }; event = e; marks = x } in y) f
 
 module _ (script : Script) (w : World) (r : IsReplayed script w) where
-  -- what is admitted
-  can-behind : (node : Node) (o : Option NodeEvent) → can_here script w node o ≡ can_here script (world_behind script w.steps) node o
-  can-behind node None = refl
-  can-behind node (Some x) = ap (λ (c : Coord). if is_same_node node the_coordinator then coord_can script c x else seg_can x) r.coordinator
-
-  pub can-told : (e : Event) → can script w e ≡ is_admitted script w.steps e
-  can-told e = can-behind (node_of e) (at_node w e) ∙ ap (can_here script (world_behind script w.steps) (node_of e)) (at-here w e r.sent)
-
   -- what is admitted is done
   module _ (e : Event) (x : NodeEvent) (fails : Bool) (is : here_at w.steps e ≡ Some x) (ok : is_admitted script w.steps e ≡ true) where
     happened : happens script w e fails ≡ does script w e (node_of e) fails (Some x)
     happened =
-        ap (λ (b : Bool). if b then does script w e (node_of e) fails (at_node w e) else w) (can-told e ∙ ok)
+        ap (λ (b : Bool). if b then does script w e (node_of e) fails (at_node w e) else w) (can-told script w.steps w r refl e ∙ ok)
         ∙ ap (does script w e (node_of e) fails) (at-here w e r.sent ∙ is)
 
     pub coord-happened : node_of e ≡ the_coordinator → (happens script w e fails).steps ≡ w.steps ++ coordinator_step e (coord_rule script (coordinator_after script w.steps) x fails) ∷ []

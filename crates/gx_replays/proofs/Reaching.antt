@@ -13,7 +13,7 @@ use Rattle.gx_store.specs.Points.{marks_in}
 use Rattle.gx_store.specs.Rows.{row_at}
 use Rattle.gx_store.specs.Schedule.{enabled}
 use Rattle.gx_rules.specs.Coordinators.{Coord}
-use Rattle.gx_rules.specs.Machine.{Letter, World, can, world_of}
+use Rattle.gx_rules.specs.Machine.{Letter, World, can, happens, new_world, world_of}
 use Rattle.gx_rules.specs.Segments.{Seg}
 use Rattle.gx_rules.specs.Snapshots.{snapshot_of}
 use Rattle.gx_laws.proofs.Letters.{found_is}
@@ -24,8 +24,9 @@ use Rattle.gx_schedules.proofs.Enabled.{all-admitted, enabled-same}
 use Rattle.gx_schedules.proofs.Room.{Stays, world-stays}
 use Rattle.gx_replays.specs.Reached.{HasRoomAfter, IsReached}
 use Rattle.gx_replays.specs.Replays.{AreReplayed, IsNextAtCoordinator, IsNextAtSegment, coordinator_after, is_admitted, letters_after, world_behind}
-use Rattle.gx_replays.proofs.Leading.{can-told, coordinator-leads, segment-leads}
+use Rattle.gx_replays.proofs.Leading.{after-last, coordinator-leads, segment-leads}
 use Rattle.gx_replays.proofs.Replaying.{world-replayed}
+use Rattle.gx_replays.proofs.Telling.{can-told, happens-alike}
 
 module _ (script : Script) (steps : List Step) (is : IsReached script steps) where
   abbrev w : World
@@ -49,6 +50,10 @@ module _ (script : Script) (steps : List Step) (is : IsReached script steps) whe
       let n : IsNextAtSegment script w.steps step = subst (λ ss. IsNextAtSegment script ss step) (sym is.is) next in
       record { events = is.events ++ (step.event, n.fails) ∷ []; is = segment-leads script is.events step n ∙ ap (λ ss. ss ++ step ∷ []) is.is }
 
+  pub event-reached : (e : Event) (fails : Bool) → IsReached script (happens script (world_behind script steps) e fails).steps
+  event-reached e fails =
+      record { events = is.events ++ (e, fails) ∷ []; is = ap (λ (v : World). v.steps) (after-last script new_world is.events (e, fails)) ∙ happens-alike script steps w replayed is.is e fails }
+
 -- WHAT IS ENABLED
 all-same : (p q : Event → Bool) (xs : List Event) → ((x : Event) → p x ≡ q x) → list_all p xs ≡ list_all q xs
 all-same p q [] same = refl
@@ -57,7 +62,7 @@ all-same p q (x ∷ xs) same = ap (λ b. b && list_all p xs) (same x) ∙ ap (λ
 pub enabled-admitted : (script : Script) (some : 1 ≤ script.segments) (es : List (Event × Bool)) → list_all (is_admitted script (world_of script es).steps) (enabled script (world_of script es).steps) ≡ true
 enabled-admitted script some es =
     let w : World = world_of script es in
-    sym (all-same (can script w) (is_admitted script w.steps) (enabled script w.steps) (can-told script w (world-replayed script es)))
+    sym (all-same (can script w) (is_admitted script w.steps) (enabled script w.steps) (can-told script w.steps w (world-replayed script es) refl))
     ∙ ap (list_all (can script w)) (enabled-same script some es) ∙ all-admitted script some es
 
 -- COUNTS

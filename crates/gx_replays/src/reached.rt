@@ -7,7 +7,7 @@ ghost use Rattle.gx_answers.specs.Whole.{AreInsertsWhole};
 ghost use Rattle.gx_histories.specs.Orders.{AreLinesNumbered};
 ghost use Rattle.gx_replays.specs.Reached.{HasRoomAfter, IsReached};
 ghost use Rattle.gx_replays.specs.Replays.{AreReplayed, IsNextAtCoordinator, IsNextAtSegment, is_admitted, world_behind};
-ghost use Rattle.gx_rules.specs.Machine.{world_of};
+ghost use Rattle.gx_rules.specs.Machine.{happens, world_of};
 ghost use Rattle.gx_rules.specs.System.{IsSystemRun};
 ghost use Rattle.gx_script.specs.declared.Script.{Script};
 ghost use Rattle.gx_sights.specs.Sights.{AreRowsOfAll};
@@ -17,6 +17,7 @@ ghost use Rattle.gx_store.specs.Protocol.{DoStepsFollow};
 ghost use Rattle.gx_store.specs.Runs.{IsLegalHistory};
 ghost use Rattle.gx_store.specs.Schedule.{enabled};
 ghost use Rattle.gx_store.specs.View.{AreFinalFrom};
+ghost use Rattle.gx_store.specs.declared.event.Event.{Event as OneEvent};
 ghost use Rattle.gx_store.specs.declared.run.Run.{Run as OneRun};
 ghost use Rattle.gx_store.specs.declared.run.Step.{Step as OneStep};
 ghost use Rattle.gx_tree.specs.declared.row.KeyedRow.{KeyedRow as OneRow};
@@ -34,6 +35,11 @@ pub fn coordinators_steps_are_reached()
 /// So it is with a step of a segment more.
 pub fn segments_steps_are_reached()
     ensures { (script : Script) (steps : List OneStep) (step : OneStep) → IsReached script steps → IsNextAtSegment script steps step → IsReached script (steps ++ step ∷ []) }
+{}
+
+/// So it is with any event more that is admitted, whether its append fails or not.
+pub fn events_are_reached()
+    ensures { (script : Script) (steps : List OneStep) (event : OneEvent) (fails : Bool) → IsReached script steps → IsReached script (happens script (world_behind script steps) event fails).steps }
 {}
 
 /// Every run of the system of nodes is reached.
