@@ -12,13 +12,13 @@ use Rattle.gx_store.specs.Schedule.{deliveries, first_of, is_left, left_on, rece
 use Rattle.gx_cursors.specs.declared.cursor.Cursor.{Cursor}
 use Rattle.gx_cursors.specs.declared.cursors.Cursors.{Cursors}
 use Rattle.gx_cursors.specs.declared.faults.Faults.{Faults}
-use Rattle.gx_cursors.specs.Agrees.{Agree, IsLinkAt, cursor_at, is_delivery}
+use Rattle.gx_cursors.specs.Agrees.{Agree, IsLinkAt, cursor_at}
 use Rattle.gx_cursors.specs.Faults.{AreFaultsOf, Follows}
 use Rattle.gx_cursors.specs.Fresh.{AreFresh, IsFresh}
 use Rattle.gx_cursors.specs.Links.{link_of}
 use Rattle.gx_cursors.proofs.Leftovers.{first_left, first_number, left_first, none_left}
 use Rattle.gx_cursors.proofs.Numbers.{is_below, isnt_below, stands_inside, stands_pushed}
-use Rattle.gx_cursors.proofs.Receipts.{received_elsewhere, received_here, received_none, received_other, the_link}
+use Rattle.gx_cursors.proofs.Receipts.{received_elsewhere, received_here, received_other, the_link}
 use Rattle.gx_cursors.proofs.Standing.{Turns, stands_after, stands_fresh, stands_same}
 
 link_within : (script : Script) (from to : Node) → IsLink script from to → link_of from to < 2 * script.segments + 2
@@ -70,14 +70,6 @@ module _ (script : Script) (steps : List Step) (from to : Node) (cursor : Cursor
       (λ far. next (omega arith))
 
 -- ONE STEP MORE
-pub agree_none : (script : Script) (steps : List Step) (step : Step) (cursors : Cursors) → Agree script steps cursors → is_delivery step.event ≡ false → Agree script (steps ++ step ∷ []) cursors
-agree_none script steps step cursors agree not =
-    record {
-      faults = agree.faults;
-      whole = agree.whole;
-      links = λ from to link. stands_same (λ n. received_count from to n steps) (λ n. received_count from to n (steps ++ step ∷ [])) (deliveries script from to) (cursor_at cursors (link_of from to)) (λ n. received_none from to n steps step not) (agree.links from to link);
-    }
-
 -- what a delivery makes of the cursors
 pub record Delivers (old new : Cursors) (link : ℕ) (cursor : Cursor) : Type 0 where
   pub faults : new.faults ≡ old.faults

@@ -1,5 +1,6 @@
 -- The first of some numbers in a row that passes a test.
-use Rattle.std.proofs.Common.{◌≡◌, ◌⊎◌, inl, inr, ℕ, suc, zero, ◌+◌, ◌<◌, ◌≤◌, Bool, true, false, cond, map, refl, sym, ap, ◌∙◌, subst, List, [], ◌∷◌, take, arith}
+use Rattle.std.proofs.Common.{◌≡◌, ◌≢◌, ◌⊎◌, inl, inr, ℕ, suc, zero, ◌+◌, ◌<◌, ◌≤◌, Bool, true, false, not, eqb, length, cond, map, refl, sym, ap, ◌∙◌, subst, List, [], ◌∷◌, take, arith}
+use Rattle.std.proofs.lemmas.Bool.Decides.{nat_tests}
 use Rattle.std.proofs.lemmas.List.{take-map}
 use Rattle.std.specs.List.{filter, range_with_len}
 use Rattle.gx_ids.specs.declared.ids.Node.{Node}
@@ -72,3 +73,12 @@ left_first p sent done number none found is = by_place (three number done)
 pub first_number : (from to : Node) (number : ℕ) (ns : List ℕ) → take 1 (map (Receive from to) ns) ≡ Receive from to number ∷ [] → take 1 ns ≡ number ∷ []
 first_number from to number [] e = absurd (cc)
 first_number from to number (n ∷ ns) e = let same : n ≡ number = cc in ap (λ k. k ∷ []) same
+
+-- nothing is left where there is no first
+pub some_left : {X : Type 0} (xs : List X) (x : X) → x ∷ [] ≡ take 1 xs → true ≡ not (eqb (length xs) 0)
+some_left [] x e = absurd (cc)
+some_left (y ∷ ys) x e = let n : length (y ∷ ys) ≢ 0 = omega arith in grind (arith, nat_tests)
+
+pub nothing_left : {X : Type 0} (xs : List X) → [] ≡ take 1 xs → false ≡ not (eqb (length xs) 0)
+nothing_left [] e = refl
+nothing_left (y ∷ ys) e = absurd (cc)

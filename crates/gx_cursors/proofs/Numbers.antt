@@ -14,9 +14,6 @@ is_below a b below = grind (arith, nat_tests)
 pub isnt_below : (a b : ℕ) → a ≡ b → nat_lt a b ≡ false
 isnt_below a b same = grind (arith, nat_tests)
 
-pub below_by : (a b : ℕ) → nat_lt a b ≡ true → a < b
-below_by a b is = grind (arith, nat_tests)
-
 -- what stands at a place inside
 pub stands_inside : {X : Type 0} (xs : List X) (k : ℕ) (d : X) → k < length xs → slice_get xs k ≡ Some (unwrap_or (slice_get xs k) d)
 stands_inside xs k d within = slice_get-get_or xs k d within ∙ ap Some (sym (unwrap_or-slice_get xs k d))

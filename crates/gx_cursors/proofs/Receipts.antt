@@ -5,12 +5,10 @@ use Rattle.std.proofs.lemmas.List.Elements.{filter-append}
 use Rattle.std.specs.List.{filter}
 use Rattle.gx_ids.specs.declared.ids.Node.{Node}
 use Rattle.gx_script.specs.declared.Script.{Script}
-use Rattle.gx_store.specs.declared.event.Event.{Event}
-use Rattle.gx_store.specs.declared.event.Event.TheVariants.{Receive, Resume, Start, End, Resend, Round}
+use Rattle.gx_store.specs.declared.event.Event.TheVariants.{Receive}
 use Rattle.gx_store.specs.declared.run.Step.{Step}
 use Rattle.gx_store.specs.Ordered.{IsLink}
 use Rattle.gx_store.specs.Schedule.{is_receipt_of, received_count}
-use Rattle.gx_cursors.specs.Agrees.{is_delivery}
 use Rattle.gx_cursors.specs.Links.{link_of}
 use Rattle.gx_cursors.proofs.Deliveries.{AreEnds, link_ends}
 
@@ -28,23 +26,11 @@ pub received_same : (from to : Node) (n : ℕ) (steps : List Step) (step : Step)
 received_same from to n steps step not =
     received_push from to n steps step ∙ ap (λ b. received_count from to n steps + cond b 1 0) not ∙ (grind arith)
 
-no_receipt : (from to : Node) (n : ℕ) (event : Event) → is_delivery event ≡ false → is_receipt_of from to n event ≡ false
-no_receipt from to n (Receive f t m) not = absurd (cc)
-no_receipt from to n (Resume node g) not = refl
-no_receipt from to n (Start s) not = refl
-no_receipt from to n (End s) not = refl
-no_receipt from to n (Resend s g) not = refl
-no_receipt from to n Round not = refl
-
 ends_differ : (f t from to n m : ℕ) → AreEnds f t → AreEnds from to → cond (eqb f 0) (2 * t) (2 * f + 1) ≢ cond (eqb from 0) (2 * to) (2 * from + 1) → (eqb from f && (eqb to t && eqb m n)) ≡ false
 ends_differ f t from to n m a b apart = grind (arith, nat_tests)
 
 ends_same : (f t from to : ℕ) → AreEnds f t → AreEnds from to → cond (eqb f 0) (2 * t) (2 * f + 1) ≡ cond (eqb from 0) (2 * to) (2 * from + 1) → (f ≡ from) × (t ≡ to)
 ends_same f t from to a b same = (grind (arith, nat_tests), grind (arith, nat_tests))
-
--- a step that delivers nothing
-pub received_none : (from to : Node) (n : ℕ) (steps : List Step) (step : Step) → is_delivery step.event ≡ false → received_count from to n (steps ++ step ∷ []) ≡ received_count from to n steps
-received_none from to n steps step not = received_same from to n steps step (no_receipt from to n step.event not)
 
 module _ (script : Script) (from to : Node) (link : IsLink script from to) where
   -- a step that delivers a message of another link

@@ -1,4 +1,4 @@
-ghost use Rattle.std.specs.Prelude.{◌≡◌, ◌≢◌, ◌<◌, ◌+◌, ◌*◌, ◌^◌, ◌++◌, ◌∷◌, [], ℕ, List, length, false, IfOk, option_map};
+ghost use Rattle.std.specs.Prelude.{◌≡◌, ◌≢◌, ◌<◌, ◌+◌, ◌*◌, ◌^◌, ◌++◌, ◌∷◌, [], ℕ, List, length, false, IfOk, option_map, is_some, not, ◌==◌, ◌≤◌, IfSome};
 ghost use Rattle.std.specs.Option.{option_to_list};
 ghost use Rattle.gx_ids.specs.declared.ids.Node.{Node};
 ghost use Rattle.gx_script.specs.declared.Script.{Script};
@@ -36,7 +36,9 @@ impl Cursors {
 
     /// The number of a link's next delivery, of so many messages sent on it; none where nothing is left.
     pub fn next(&self, from: Node, to: Node, sent: u64) -> Option<u64>
-        ensures { (script : Script) (steps : List Step) → Agree script steps self.now → IsLink script from to → sent ≡ sent_in from to steps → option_to_list (option_map (Receive from to) result) ≡ first_of (left_on script steps from to) }
+        ensures first { (script : Script) (steps : List Step) → Agree script steps self.now → IsLink script from to → sent ≡ sent_in from to steps → option_to_list (option_map (Receive from to) result) ≡ first_of (left_on script steps from to) }
+        ensures left { (script : Script) (steps : List Step) → Agree script steps self.now → IsLink script from to → sent ≡ sent_in from to steps → is_some result ≡ not (length (left_on script steps from to) == 0) }
+        ensures within { IfSome result (λ number. (0 < number) × (number ≤ sent)) }
     {
         let cursor = self.cursor(link_between(from, to));
         if cursor.done < sent {
