@@ -1,0 +1,5 @@
+//! Tests of what links deliver.
+#![tactic(auto)]
+
+#[cfg(test)]
+mod deliveries;
