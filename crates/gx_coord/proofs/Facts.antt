@@ -1,0 +1,107 @@
+-- What soundness gives where a transaction is called on.
+use Rattle.std.proofs.Common.{◌≡◌, ℕ, List, [], ◌∷◌, Option, Some, None, Bool, true, false, refl, ap, ◌&&◌, ◌||◌, arith, eqb, All, IsTrue}
+use Rattle.std.proofs.lemmas.Bool.Decides.{nat_tests}
+use Rattle.std.proofs.lemmas.List.Elements.{All-nil, All-cons}
+use Rattle.std.specs.Prelude.{option_map}
+use Rattle.gx_ids.specs.declared.ids.Cid.{Cid}
+use Rattle.gx_ids.specs.declared.ids.Node.{Node}
+use Rattle.gx_dtx.specs.Nodes.{has}
+use Rattle.gx_dtx.specs.Rules.{AreWriters, on_reply}
+use Rattle.gx_dtx.specs.Table.{IsActive, find_txn, participants_in, participants_of, status_in}
+use Rattle.gx_dtx.specs.declared.outcome.Outcome.{Outcome}
+use Rattle.gx_dtx.specs.declared.outcome.Outcome.TheVariants as outcome
+use Rattle.gx_dtx.specs.declared.phase.Phase.{Phase}
+use Rattle.gx_dtx.specs.declared.phase.Phase.TheVariants.{Active, Preparing, CommittingOne, CommittingTwo, Ended, Aborting}
+use Rattle.gx_dtx.specs.declared.status.Status.TheVariants as status
+use Rattle.gx_dtx.specs.declared.txn.Txn.{Txn}
+use Rattle.gx_msg.specs.declared.reply.Reply.{Reply}
+use Rattle.gx_session.specs.declared.state.Block.{Block}
+use Rattle.gx_session.specs.declared.state.Pending.{Pending}
+use Rattle.gx_session.specs.declared.state.Pending.TheVariants as pending
+use Rattle.gx_rules.specs.Coordinators.{Command, Coord, Work}
+use Rattle.gx_laws.proofs.Sessions.{Kept, is_closing_in, is_working_in, stage_of}
+use Rattle.gx_laws.proofs.Stages.{gx}
+use Rattle.gx_laws.proofs.Statuses.{Moves, Stage, reply-turns, stage, stage_in}
+use Rattle.gx_laws.proofs.Statuses.Stage.{Live, Closing}
+use Rattle.gx_coord.specs.Sound.{AreSoundIn, IsSoundWork}
+use Rattle.gx_coord.specs.Turns.{IsBusy, IsFit, answers_line, asks}
+
+both_of : (a b : Bool) → (a && b) ≡ true → (a ≡ true) × (b ≡ true)
+both_of true b e = (refl, e)
+both_of false b e = grind arith
+
+-- a transaction whose commands run
+phase-active : (p : Phase) → stage_in p ≡ Live → status_in p ≡ status.Active
+phase-active Active e = refl
+phase-active (Preparing a b) e = absurd (cc)
+phase-active (CommittingOne a) e = absurd (cc)
+phase-active (CommittingTwo a) e = absurd (cc)
+phase-active (Ended a) e = absurd (cc)
+phase-active (Aborting a) e = absurd (cc)
+
+found-active : (t : Option Txn) → stage t ≡ Live → option_map (λ t. status_in t.phase) t ≡ Some status.Active
+found-active None e = absurd (cc)
+found-active (Some t) e = ap Some (phase-active t.phase e)
+
+pub live-active : (c : Coord) (g : ℕ) → stage_of c g ≡ Live → IsActive c.table (gx g)
+live-active c g e = found-active (find_txn c.table (gx g)) e
+
+-- a session that waits
+working-busy : (p : Pending) → is_working_in p ≡ true → p ≡ pending.Nothing → ⊥
+working-busy p e n = grind arith
+
+closing-busy : (b : Block) (p : Pending) → is_closing_in b p ≡ true → p ≡ pending.Nothing → ⊥
+closing-busy b p e n = grind arith
+
+some-awaited : (i : Node) (nodes : List Node) → has i nodes ≡ true → nodes ≡ [] → ⊥
+some-awaited i [] h e = absurd (cc)
+some-awaited i (j ∷ js) h e = absurd (cc)
+
+module _ (c : Coord) (kept : Kept c) (g : ℕ) where
+  -- an answer to its command is awaited
+  asked : (i : Node) (cid : Cid) (k : Option Command) → (c.works g).command ≡ k → asks k i cid ≡ true → (stage_of c g ≡ Live) × (is_working_in (c.sessions (c.works g).session.0).state.pending ≡ true)
+  asked i cid None q e = absurd (cc)
+  asked i cid (Some k) q e = (kept.tied g).awaits k q (some-awaited i k.awaited (both_of (eqb k.cid.0 cid.0) _ e).1)
+
+  pub asked-live : (i : Node) (cid : Cid) → asks (c.works g).command i cid ≡ true → stage_of c g ≡ Live
+  asked-live i cid e = (asked i cid _ refl e).0
+
+  pub asked-active : (i : Node) (cid : Cid) → asks (c.works g).command i cid ≡ true → IsActive c.table (gx g)
+  asked-active i cid e = live-active c g (asked i cid _ refl e).0
+
+  pub asked-busy : (i : Node) (cid : Cid) → asks (c.works g).command i cid ≡ true → IsBusy c g
+  asked-busy i cid e idle = working-busy _ (asked i cid _ refl e).1 idle
+
+  -- an answer for its status comes to an end of its line
+  closing : (o : Outcome) (b : Stage) → Moves (stage_of c g) b o → answers_line o ≡ true → stage_of c g ≡ Closing
+  closing outcome.Pending b m e = absurd (cc)
+  closing outcome.Decided b m e = absurd (cc)
+  closing outcome.Committed b m e = m.0
+  closing (outcome.Refused i) b m e = m.0
+  closing outcome.Ended b m e = absurd (cc)
+
+  pub status-busy : (i : Node) (r : Reply) (fails : Bool) → answers_line (on_reply c.table (gx g) i r fails).out.outcome ≡ true → IsBusy c g
+  status-busy i r fails e idle =
+      let t = reply-turns c.table g i r fails kept.whole in
+      closing-busy _ _ ((kept.tied g).closing (closing (on_reply c.table (gx g) i r fails).out.outcome (stage t.now) t.how e)).1 idle
+
+-- writers that rise and are participants
+all-has : (ws all : List Node) → ((j : Node) → has j ws ≡ true → has j all ≡ true) → All (λ w. IsTrue (has w all)) ws
+all-has [] all f = All-nil (λ w. IsTrue (has w all))
+all-has (w ∷ ws) all f = All-cons (λ w. IsTrue (has w all)) w ws (f w (first w.0 (has w ws))) (all-has ws all (λ j e. f j (later (eqb w.0 j.0) (has j ws) e)))
+  where
+    first : (n : ℕ) (b : Bool) → (eqb n n || b) ≡ true
+    first n b = grind (arith, nat_tests)
+
+    later : (a b : Bool) → b ≡ true → (a || b) ≡ true
+    later a b e = grind arith
+
+fit-of : (k : Option Command) (participants : List Node) (now : Stage) → AreSoundIn k participants now → IsFit k
+fit-of None p s h = tt
+fit-of (Some k) p s h = h.fits
+
+pub sound-fit : (w : Work) (lines : ℕ) (t : Option Txn) → IsSoundWork w lines t → IsFit w.command
+sound-fit w lines t h = fit-of w.command (participants_in t) (stage t) h.command
+
+pub sound-writers : (c : Coord) (g lines : ℕ) (w : Work) → IsSoundWork w lines (find_txn c.table (gx g)) → stage_of c g ≡ Live → AreWriters c.table (gx g) w.writers
+sound-writers c g lines w h l = record { rising = h.writers; among = all-has w.writers (participants_of c.table (gx g)) (h.among l) }

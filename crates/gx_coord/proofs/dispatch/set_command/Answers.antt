@@ -1,0 +1,16 @@
+use Rattle.std.proofs.Common.{◌∙◌, Some, ap, sym}
+use Rattle.gx_rules.specs.Coordinators.{Work}
+use Rattle.gx_rules.specs.Maps.{with_at}
+use Rattle.gx_coord.specs.Books.{command_of, coord_of, found}
+use Rattle.gx_coord.proofs.Changes.{found-at, found-through}
+use Rattle.gx_coord.proofs.dispatch.set_command.Goals as goal
+
+pub returns-in-Some-clause-coord : goal.returns-in-Some-clause-coord
+returns-in-Some-clause-coord c =
+    let old = c.args.coord.now in
+    let lines = old.script.value.lines in
+    let work = c.in-Some.work.now in
+    let now = record work { last = c.args.command.cid.0; command = Some c.args.command } in
+    ap (λ f. record (coord_of old) { works = f })
+    (found-through lines old.works (c.get_mut.follows.lender now) c.args.gxid work now c.in-Some.ensures.value (c.get_mut.follows.holds now)
+    ∙ ap (λ (v : Work). with_at (found lines old.works.entries) c.args.gxid.0 (record v { last = c.args.command.cid.0; command = Some (command_of lines c.args.command) })) (sym (found-at lines old.works c.args.gxid work c.in-Some.ensures.value)))

@@ -1,0 +1,6 @@
+use Rattle.std.proofs.Common.{◌≡◌, take}
+use Rattle.gx_rules.specs.AtCoordinator.{orders_of}
+use Rattle.gx_coord.proofs.orders.orders.Given as goal
+
+abbrev pub invariant-loop-piece : goal.invariant-loop-piece
+invariant-loop-piece l = l.outs.items ≡ orders_of l.of.gxid l.of.cid l.of.level l.of.snapshot l.of.horizon (take l.piece-index l.pieces)

@@ -1,0 +1,93 @@
+// What is admitted.
+ghost use Rattle.std.specs.Prelude.{◌≡◌, IfOk, is_some, length};
+ghost use Rattle.gx_sql.specs.Language.{IsScript};
+ghost use Rattle.gx_rules.specs.AtCoordinator as turns;
+ghost use Rattle.gx_coord.specs.Books.{coord_of};
+ghost use Rattle.gx_coord.specs.Places.{AreIndexed};
+
+use crate::again::awaited;
+use crate::books::find_session;
+use crate::coord::Coord;
+use crate::starting::next_place;
+use crate::work::Session;
+use gx_ids::{Gxid, Mem, Node, SessionId};
+use gx_script::Script;
+use gx_session::state::{Block, Pending};
+use gx_store::NodeEvent;
+use std::alloc::Global;
+
+fn is_segment(script: &Script, node: Node) -> bool
+    ensures { result ≡ turns.is_segment script.now node }
+{
+    1 <= node.0 && node.0 <= script.segments
+}
+
+fn is_idle(session: Session) -> bool
+    ensures { result ≡ turns.is_nothing session.state.pending }
+{
+    match session.state.pending {
+        Pending::Nothing => true,
+        _ => false,
+    }
+}
+
+fn is_in_block(session: Session) -> bool
+    ensures { result ≡ turns.is_in_block session.state.block }
+{
+    match session.state.block {
+        Block::Outside => false,
+        _ => true,
+    }
+}
+
+// Whether a session has a line left.
+fn is_left(coord: &Coord, id: SessionId) -> bool
+    requires language { IsScript coord.now.script.value }
+    requires places { AreIndexed coord.now.script.value.lines (length coord.now.script.value.sessions) coord.now.places.items }
+    ensures { result ≡ is_some (turns.next_line coord.now.script.value (coord_of coord.now) id) }
+{
+    next_place(coord, id).is_some()
+}
+
+fn can_start(coord: &Coord, id: SessionId) -> bool
+    requires language { IsScript coord.now.script.value }
+    requires places { AreIndexed coord.now.script.value.lines (length coord.now.script.value.sessions) coord.now.places.items }
+    ensures { result ≡ turns.coord_can coord.now.script.value (coord_of coord.now) (NodeEvent.Start id) }
+{
+    is_idle(find_session(coord, id)) && is_left(coord, id)
+}
+
+fn can_end(coord: &Coord, id: SessionId) -> bool
+    requires language { IsScript coord.now.script.value }
+    requires places { AreIndexed coord.now.script.value.lines (length coord.now.script.value.sessions) coord.now.places.items }
+    ensures { result ≡ turns.coord_can coord.now.script.value (coord_of coord.now) (NodeEvent.End id) }
+{
+    let session = find_session(coord, id);
+    is_idle(session) && !is_left(coord, id) && is_in_block(session)
+}
+
+fn can_resend(alloc: Global, coord: &Coord, node: Node, gxid: Gxid) -> Mem<bool>
+    ensures { IfOk result (λ can. can ≡ is_some (turns.awaited (coord_of coord.now) gxid node)) }
+{
+    let message = awaited(alloc, coord, gxid, node)?;
+    Ok(message.is_some())
+}
+
+// Whether the event may happen.
+pub(crate) fn can(alloc: Global, coord: &Coord, event: &NodeEvent) -> Mem<bool>
+    requires language { IsScript coord.now.script.value }
+    requires places { AreIndexed coord.now.script.value.lines (length coord.now.script.value.sessions) coord.now.places.items }
+    ensures { IfOk result (λ can. can ≡ turns.coord_can coord.now.script.value (coord_of coord.now) event.now) }
+{
+    match event {
+        NodeEvent::Deliver { from, .. } => Ok(is_segment(&coord.script, *from)),
+        NodeEvent::Start(id) => Ok(can_start(coord, *id)),
+        NodeEvent::End(id) => Ok(can_end(coord, *id)),
+        NodeEvent::Resend(node, of) => match of {
+            Some(gxid) => can_resend(alloc, coord, *node, *gxid),
+            None => Ok(false),
+        },
+        NodeEvent::Resume(_) => Ok(false),
+        NodeEvent::Round => Ok(false),
+    }
+}

@@ -1,0 +1,67 @@
+// Messages that are sent again.
+ghost use Rattle.std.specs.Prelude.{◌≡◌, IfOk};
+ghost use Rattle.gx_rules.specs.AtCoordinator as turns;
+ghost use Rattle.gx_dtx.specs.Rules.{awaited_order};
+ghost use Rattle.gx_coord.specs.Books.{coord_of};
+ghost use Rattle.gx_coord.specs.Turns.{has_order, order_in};
+
+use crate::coord::Coord;
+use crate::nodes::has;
+use gx_ids::{Duplicate, Gxid, Mem, Node};
+use gx_msg::{Message, Out};
+use std::alloc::Global;
+
+// The order to a node.
+fn order_to(alloc: Global, node: Node, orders: &[Out]) -> Mem<Option<Message>>
+    ensures { IfOk result (λ found. found ≡ turns.order_to node orders.now) }
+{
+    for out in orders {
+        if out.node == node {
+            return Ok(Some(out.message.copy(alloc)?));
+        }
+    }
+    Ok(None)
+}
+
+// Whether a command of the transaction awaits the node's answer.
+fn is_ordered(coord: &Coord, gxid: Gxid, node: Node) -> bool
+    ensures { result ≡ has_order ((coord_of coord.now).works gxid.0).command node }
+{
+    match coord.works.get(&gxid) {
+        None => false,
+        Some(work) => match &work.command {
+            None => false,
+            Some(command) => has(node, command.awaited.as_slice()),
+        },
+    }
+}
+
+fn command_order(alloc: Global, coord: &Coord, gxid: Gxid, node: Node) -> Mem<Option<Message>>
+    ensures { IfOk result (λ found. found ≡ order_in ((coord_of coord.now).works gxid.0).command node) }
+{
+    match coord.works.get(&gxid) {
+        None => Ok(None),
+        Some(work) => match &work.command {
+            None => Ok(None),
+            Some(command) => order_to(alloc, node, command.orders.as_slice()),
+        },
+    }
+}
+
+fn status_order(coord: &Coord, gxid: Gxid, node: Node) -> Mem<Option<Message>>
+    ensures { IfOk result (λ found. found ≡ turns.status_order gxid (awaited_order coord.now.dtx gxid node)) }
+{
+    let out = coord.dtx.resend(gxid, node)?;
+    Ok(out.map(|out| out.message))
+}
+
+// The message to a node whose answer is awaited.
+pub(crate) fn awaited(alloc: Global, coord: &Coord, gxid: Gxid, node: Node) -> Mem<Option<Message>>
+    ensures { IfOk result (λ found. found ≡ turns.awaited (coord_of coord.now) gxid node) }
+{
+    if is_ordered(coord, gxid, node) {
+        command_order(alloc, coord, gxid, node)
+    } else {
+        status_order(coord, gxid, node)
+    }
+}

@@ -1,0 +1,112 @@
+ghost use Rattle.std.specs.Prelude.{◌≡◌, ◌<◌, ◌≤◌, ◌^◌, All, true, false, IfOk, OnErr};
+ghost use Rattle.gx_rules.specs.AtCoordinator.{coord_can};
+ghost use Rattle.gx_rules.specs.Coordinators.{Coord as RuleCoord, new_coordinator};
+ghost use Rattle.gx_rules.specs.Sending.{heard_in};
+ghost use Rattle.gx_sql.specs.Language.{IsScript};
+ghost use Rattle.gx_rules.specs.Snapshots.{snapshot_of as rule_snapshot};
+ghost use Rattle.gx_coord.specs.Steps.{HasStepped, IsCoord};
+
+use crate::admitted;
+use crate::making::{new_sessions, nothing_sent};
+use crate::places::places_of;
+use crate::snapshots::snapshot_of;
+use crate::stepping::step_on;
+use crate::work::{Session, Work};
+use gx_dsnap::Snapshot;
+use gx_dtx::Dtx;
+use gx_ids::{Gxid, Mem, OutOfMemory, Seq};
+use gx_outside::Journal;
+use gx_script::Script;
+use gx_store::{NodeEvent, NodeOut};
+use std::alloc::Global;
+use std::collections::BTreeMap;
+use std::sync::Arc;
+
+/// The coordinator of a script: its transactions, its sessions, and how many messages it has sent to each segment. Once memory
+/// has run out in a step it is spent, and answers the same from then on.
+#[derive(Drop)]
+pub struct Coord {
+    pub(crate) alloc: Global,
+    pub script: Arc<Script, Global>,
+    pub places: Vec<Seq<usize>>,
+    pub dtx: Dtx,
+    pub works: BTreeMap<Gxid, Work>,
+    pub sessions: Vec<Session>,
+    pub sent: Vec<u64>,
+    pub clock: u64,
+    pub spent: bool,
+}
+
+impl Coord {
+    /// A coordinator that has done nothing.
+    pub fn new(alloc: Global, script: Arc<Script, Global>) -> Mem<Coord>
+        requires { IsScript script.value }
+        ensures new { IfOk result (λ coord. IsCoord coord new_coordinator) }
+        ensures fresh { IfOk result (λ coord. coord.spent ≡ false) }
+        ensures script { IfOk result (λ coord. coord.script ≡ script) }
+    {
+        let places = places_of(alloc, script.lines.as_slice(), script.sessions.len())?;
+        let sessions = new_sessions(alloc, script.sessions.len())?;
+        let sent = nothing_sent(alloc, script.segments)?;
+        let dtx = Dtx::new(alloc)?;
+        Ok(Coord {
+            alloc,
+            script,
+            places,
+            dtx,
+            works: BTreeMap::new(alloc),
+            sessions,
+            sent,
+            clock: 0,
+            spent: false,
+        })
+    }
+
+    /// Does one event by the coordinator's rule. What an envelope holds is tested here; what isn't awaited or doesn't fit changes
+    /// nothing but the clock. The journal takes the item of a decision before COMMIT PREPARED is sent.
+    pub fn step<J: Journal>(&mut self, event: NodeEvent, journal: &mut J) -> Mem<NodeOut>
+        ghost c: { RuleCoord }
+        requires is { self.old.spent ≡ false → IsCoord self.old c }
+        requires admitted { self.old.spent ≡ false → coord_can self.old.script.value c event ≡ true }
+        requires clock { self.old.clock < 2 ^ 62 }
+        requires heard { heard_in event < 2 ^ 62 }
+        requires numbers { All (λ sent. sent < 2 ^ 62) self.old.sent.items }
+        requires drawn { self.old.dtx.next.0 < 2 ^ 62 }
+        ensures stepped { IfOk result (λ out. HasStepped self.old self.new c event (J.items journal.old) (J.items journal.new) (J.fault_count journal.old) (J.fault_count journal.new) out) }
+        ensures later { J.fault_count journal.old ≤ J.fault_count journal.new }
+        ensures spent { OnErr result (self.new.spent ≡ true) }
+        ensures again { self.old.spent ≡ true → OnErr result (J.items journal.new ≡ J.items journal.old) }
+    {
+        if self.spent {
+            return Err(OutOfMemory);
+        }
+        match step_on(self, event, journal) {
+            Ok(out) => {
+                self.spent = false;
+                Ok(out)
+            }
+            Err(_) => {
+                self.spent = true;
+                Err(OutOfMemory)
+            }
+        }
+    }
+
+    /// Whether the event may happen now.
+    pub fn can(&self, event: &NodeEvent) -> Mem<bool>
+        ghost c: { RuleCoord }
+        requires { IsCoord self.now c }
+        ensures { IfOk result (λ can. can ≡ coord_can self.now.script.value c event.now) }
+    {
+        admitted::can(self.alloc, self, event)
+    }
+
+    /// The snapshot that a reader without a transaction takes now.
+    pub fn final_snapshot(&self) -> Mem<Snapshot>
+        ghost c: { RuleCoord }
+        requires { IsCoord self.now c }
+        ensures { IfOk result (λ snapshot. snapshot ≡ rule_snapshot c.table) }
+    {
+        snapshot_of(&self.dtx)
+    }
+}

@@ -1,0 +1,286 @@
+// A command goes out.
+ghost use Rattle.std.specs.Prelude.{◌≡◌, ◌<◌, ◌+◌, ◌^◌, [], Err, IfOk, None, OnOk, Ok, Some, length, slice_get};
+ghost use Rattle.gx_dtx.specs.Table.{IsActive};
+ghost use Rattle.gx_eval.specs.Faults.{eval_fault};
+ghost use Rattle.gx_eval.specs.declared.fault.ArithFault.{ArithFault as Fault};
+ghost use Rattle.gx_resolve.specs.Rules.{IsStmtOf};
+ghost use Rattle.gx_rules.specs.AtCoordinator as turns;
+ghost use Rattle.gx_rules.specs.Coordinators.{with_work};
+ghost use Rattle.gx_sql.specs.Language.{IsScript};
+ghost use Rattle.gx_coord.specs.Books.{IsFramed, command_of, coord_of, stmt_at};
+ghost use Rattle.gx_coord.specs.Faults.{HasConstants, IsCommand, is_short as has_short, planned as rule_plan};
+ghost use Rattle.gx_coord.specs.Sound.{IsDrawn};
+ghost use Rattle.gx_coord.specs.Turns.{IsBusy, IsTurn};
+
+use crate::answers::refusal;
+use crate::books::set_work;
+use crate::completing::level_of;
+use crate::coord::Coord;
+use crate::faults::push_fault;
+use crate::orders::{Ordering, enlist_all, nodes, orders};
+use crate::replies::refuse;
+use crate::snapshots::read_for;
+use crate::work::{Command, Work};
+use gx_dsnap::Snapshot;
+use gx_eval::{ArithFault, EvalFault};
+use gx_ids::{Cid, Duplicate, Gxid, Mem, OutOfMemory, Seq, SessionId, Table};
+use gx_msg::Out;
+use gx_plan::{Piece, plan};
+use gx_script::Script;
+use gx_store::Mark;
+use gx_tree::{Level, Schema, Stmt};
+use std::alloc::Global;
+use std::sync::Arc;
+
+// The number of a transaction's next command.
+fn next_cid(coord: &Coord, gxid: Gxid) -> Cid
+    requires { ((coord_of coord.now).works gxid.0).last + 1 < 2 ^ 32 }
+    ensures { result ≡ turns.next_cid ((coord_of coord.now).works gxid.0) }
+{
+    match coord.works.get(&gxid) {
+        Some(work) => Cid(work.last + 1),
+        None => Cid(1),
+    }
+}
+
+// A command is under way.
+fn set_command(alloc: Global, coord: &mut Coord, gxid: Gxid, command: Command) -> Mem<()>
+    ensures framed { OnOk result (IsFramed coord.old coord.new) }
+    ensures coord { OnOk result (coord_of coord.new ≡ with_work (coord_of coord.old) gxid (record ((coord_of coord.old).works gxid.0) { last = command.cid.0; command = Some (command_of coord.old.script.value.lines command) })) }
+{
+    if let Some(work) = coord.works.get_mut(&gxid) {
+        work.last = command.cid.0;
+        work.command = Some(command);
+        return Ok(());
+    }
+    let work = Work {
+        session: SessionId(0),
+        level: Level::ReadCommitted,
+        last: command.cid.0,
+        snapshot: None,
+        writers: Seq::new(alloc),
+        command: Some(command),
+    };
+    set_work(coord, gxid, work)
+}
+
+// Its pieces go out. The horizon is that of a moment at which the snapshot lives.
+fn send(
+    alloc: Global,
+    coord: &mut Coord,
+    gxid: Gxid,
+    cid: Cid,
+    place: usize,
+    snapshot: Option<Snapshot>,
+    pieces: &[Piece],
+) -> Mem<Seq<Out>>
+    requires active { IsActive coord.old.dtx gxid }
+    ensures framed { OnOk result (IsFramed coord.old coord.new) }
+    ensures coord { OnOk result (coord_of coord.new ≡ (turns.goes_out gxid cid (stmt_at coord.old.script.value.lines place) pieces.now (record { coord = coord_of coord.old; snapshot = snapshot; marks = [] })).coord) }
+    ensures outs { IfOk result (λ outs. outs ≡ (turns.goes_out gxid cid (stmt_at coord.old.script.value.lines place) pieces.now (record { coord = coord_of coord.old; snapshot = snapshot; marks = [] })).outs) }
+{
+    let of = Ordering {
+        gxid,
+        cid,
+        level: level_of(coord, gxid),
+        snapshot,
+        horizon: coord.dtx.horizon(),
+    };
+    let orders = orders(alloc, &of, pieces)?;
+    let outs = orders.copy(alloc)?;
+    let awaited = nodes(alloc, pieces)?;
+    enlist_all(&mut coord.dtx, gxid, awaited.as_slice())?;
+    let command = Command {
+        line: place,
+        cid,
+        orders,
+        awaited,
+        count: 0,
+        parts: Seq::new(alloc),
+    };
+    set_command(alloc, coord, gxid, command)?;
+    Ok(outs)
+}
+
+// A constant faults before anything is sent.
+fn fault(
+    alloc: Global,
+    coord: &mut Coord,
+    gxid: Gxid,
+    cid: Cid,
+    line: &Stmt,
+    fault: ArithFault,
+    marks: &mut Vec<Mark>,
+) -> Mem<Seq<Out>>
+    requires constants { HasConstants line.now }
+    requires active { IsActive coord.old.dtx gxid }
+    requires busy { IsBusy (coord_of coord.old) gxid.0 }
+    ensures turn { OnOk result (IsTurn coord.old coord.new marks.old.items marks.new.items (turns.goes gxid cid line.now (record { coord = coord_of coord.old; snapshot = None; marks = [] }) (Err fault))) }
+    ensures outs { IfOk result (λ outs. outs ≡ (turns.goes gxid cid line.now (record { coord = coord_of coord.old; snapshot = None; marks = [] }) (Err fault)).outs) }
+{
+    push_fault(alloc, gxid, cid, line, marks)?;
+    refuse(coord, gxid, refusal(fault), marks)
+}
+
+// Its pieces go out, or its first fault refuses it.
+fn go(
+    alloc: Global,
+    script: &Script,
+    coord: &mut Coord,
+    gxid: Gxid,
+    cid: Cid,
+    place: usize,
+    line: &Stmt,
+    snapshot: Option<Snapshot>,
+    planned: Result<Vec<Piece>, EvalFault>,
+    marks: &mut Vec<Mark>,
+) -> Mem<Seq<Out>>
+    requires line { line.now ≡ stmt_at coord.old.script.value.lines place }
+    requires constants { HasConstants line.now }
+    requires active { IsActive coord.old.dtx gxid }
+    requires busy { IsBusy (coord_of coord.old) gxid.0 }
+    requires pieces { IfOk planned (λ pieces. rule_plan script.now gxid cid line.now ≡ Ok pieces.items) }
+    requires fault { (fault : Fault) → planned ≡ Err (eval_fault fault) → rule_plan script.now gxid cid line.now ≡ Err fault }
+    ensures turn { OnOk result (IsTurn coord.old coord.new marks.old.items marks.new.items (turns.goes gxid cid line.now (record { coord = coord_of coord.old; snapshot = snapshot; marks = [] }) (rule_plan script.now gxid cid line.now))) }
+    ensures outs { IfOk result (λ outs. outs ≡ (turns.goes gxid cid line.now (record { coord = coord_of coord.old; snapshot = snapshot; marks = [] }) (rule_plan script.now gxid cid line.now)).outs) }
+{
+    match planned {
+        Ok(pieces) => send(alloc, coord, gxid, cid, place, snapshot, pieces.as_slice()),
+        Err(EvalFault::Overflow) => {
+            fault(alloc, coord, gxid, cid, line, ArithFault::Overflow, marks)
+        }
+        Err(EvalFault::DivisionByZero) => {
+            fault(
+                alloc,
+                coord,
+                gxid,
+                cid,
+                line,
+                ArithFault::DivisionByZero,
+                marks,
+            )
+        }
+        Err(EvalFault::OutOfMemory) => Err(OutOfMemory),
+    }
+}
+
+// The table of a command.
+fn table_of(line: &Stmt) -> Table
+    ensures { result.0 ≡ turns.table_of line.now }
+{
+    match line {
+        Stmt::Select(query) => query.table,
+        Stmt::Insert(table, _) => *table,
+        Stmt::Update(table, _, _) => *table,
+        Stmt::Delete(table, _) => *table,
+        Stmt::Lock(table, _) => *table,
+        Stmt::Begin(_) | Stmt::Commit | Stmt::Rollback => Table(0),
+    }
+}
+
+// Whether the rows of its tuples have numbers.
+fn is_short(line: &Stmt) -> bool
+    ensures { result ≡ has_short line.now }
+{
+    match line {
+        Stmt::Insert(_, tuples) => tuples.len() < 4_294_967_296,
+        _ => true,
+    }
+}
+
+fn schema_of<'a>(script: &'a Script, line: &Stmt) -> &'a Schema
+    requires command { IsCommand line.now }
+    requires line { IsStmtOf script.now.tables line.now }
+    ensures { slice_get script.now.tables (turns.table_of line.now) ≡ Some result.now }
+{
+    let table = table_of(line);
+    match script.tables.as_slice().get(usize::from(table.0)) {
+        Some(schema) => schema,
+        None => unreachable!(),
+    }
+}
+
+// The pieces of a command, or its first fault. Rows without numbers have no room.
+fn plan_line(
+    alloc: Global,
+    script: &Script,
+    gxid: Gxid,
+    cid: Cid,
+    line: &Stmt,
+) -> Result<Vec<Piece>, EvalFault>
+    requires language { IsScript script.now }
+    requires command { IsCommand line.now }
+    requires line { IsStmtOf script.now.tables line.now }
+    ensures pieces { IfOk result (λ pieces. rule_plan script.now gxid cid line.now ≡ Ok pieces.items) }
+    ensures fault { (fault : Fault) → result ≡ Err (eval_fault fault) → rule_plan script.now gxid cid line.now ≡ Err fault }
+{
+    if !is_short(line) {
+        return Err(EvalFault::OutOfMemory);
+    }
+    let schema = schema_of(script, line);
+    plan(alloc, line, schema, gxid, cid, script.segments)
+}
+
+// The statement of the line at a place.
+fn line_at(script: &Script, place: usize) -> &Stmt
+    requires { place < length script.now.lines }
+    ensures { result.now ≡ stmt_at script.now.lines place }
+{
+    &script.lines.as_slice()[place].stmt
+}
+
+// Where its snapshot is taken, its pieces go out, or its first fault refuses it.
+fn read_and_go(
+    alloc: Global,
+    script: &Script,
+    coord: &mut Coord,
+    gxid: Gxid,
+    cid: Cid,
+    place: usize,
+    line: &Stmt,
+    planned: Result<Vec<Piece>, EvalFault>,
+    marks: &mut Vec<Mark>,
+) -> Mem<Seq<Out>>
+    requires line { line.now ≡ stmt_at coord.old.script.value.lines place }
+    requires constants { HasConstants line.now }
+    requires active { IsActive coord.old.dtx gxid }
+    requires drawn { IsDrawn coord.old.dtx }
+    requires busy { IsBusy (coord_of coord.old) gxid.0 }
+    requires pieces { IfOk planned (λ pieces. rule_plan script.now gxid cid line.now ≡ Ok pieces.items) }
+    requires fault { (fault : Fault) → planned ≡ Err (eval_fault fault) → rule_plan script.now gxid cid line.now ≡ Err fault }
+    ensures turn { OnOk result (IsTurn coord.old coord.new marks.old.items marks.new.items (turns.goes gxid cid line.now (turns.reads_for (coord_of coord.old) gxid cid ((coord_of coord.old).works gxid.0) line.now) (rule_plan script.now gxid cid line.now))) }
+    ensures outs { IfOk result (λ outs. outs ≡ (turns.goes gxid cid line.now (turns.reads_for (coord_of coord.old) gxid cid ((coord_of coord.old).works gxid.0) line.now) (rule_plan script.now gxid cid line.now)).outs) }
+{
+    let snapshot = read_for(alloc, coord, gxid, cid, line, marks)?;
+    go(
+        alloc, script, coord, gxid, cid, place, line, snapshot, planned, marks,
+    )
+}
+
+// A command of a transaction goes out to its segments, or its first fault refuses it. The line stands at this place of the
+// script.
+pub(crate) fn dispatch(
+    alloc: Global,
+    coord: &mut Coord,
+    gxid: Gxid,
+    place: usize,
+    marks: &mut Vec<Mark>,
+) -> Mem<Seq<Out>>
+    requires language { IsScript coord.old.script.value }
+    requires inside { place < length coord.old.script.value.lines }
+    requires command { IsCommand (stmt_at coord.old.script.value.lines place) }
+    requires room { ((coord_of coord.old).works gxid.0).last + 1 < 2 ^ 32 }
+    requires active { IsActive coord.old.dtx gxid }
+    requires drawn { IsDrawn coord.old.dtx }
+    requires busy { IsBusy (coord_of coord.old) gxid.0 }
+    ensures turn { OnOk result (IsTurn coord.old coord.new marks.old.items marks.new.items (turns.dispatches coord.old.script.value (coord_of coord.old) gxid (stmt_at coord.old.script.value.lines place))) }
+    ensures outs { IfOk result (λ outs. outs ≡ (turns.dispatches coord.old.script.value (coord_of coord.old) gxid (stmt_at coord.old.script.value.lines place)).outs) }
+{
+    let script = Arc::try_clone(&coord.script)?;
+    let line = line_at(&script, place);
+    let cid = next_cid(coord, gxid);
+    let planned = plan_line(alloc, &script, gxid, cid, line);
+    read_and_go(
+        alloc, &script, coord, gxid, cid, place, line, planned, marks,
+    )
+}

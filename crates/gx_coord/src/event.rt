@@ -1,0 +1,114 @@
+// One event, before its messages are numbered.
+ghost use Rattle.std.specs.Prelude.{◌≡◌, ◌≤◌, ◌∷◌, ◌^◌, [], length, true, IfOk, OnOk};
+ghost use Rattle.gx_sql.specs.Language.{IsScript};
+ghost use Rattle.gx_rules.specs.AtCoordinator as turns;
+ghost use Rattle.gx_coord.specs.Books.{coord_of};
+ghost use Rattle.gx_coord.specs.Places.{AreIndexed};
+ghost use Rattle.gx_coord.specs.Sound.{IsSmall, IsSound};
+ghost use Rattle.gx_coord.specs.Turns.{CanEnd, HasAppended, IsTurn};
+
+use crate::again::awaited;
+use crate::books::{find_session, set_state};
+use crate::coord::Coord;
+use crate::lines::roll_back;
+use crate::messages::{take_message, unfailing};
+use crate::starting::start;
+use crate::statuses::Turned;
+use gx_ids::{Gxid, Mem, Node, Seq, SessionId};
+use gx_msg::{Envelope, Message, Out};
+use gx_outside::Journal;
+use gx_script::Script;
+use gx_session::SessionState;
+use gx_session::state::Block;
+use gx_store::{Mark, NodeEvent};
+use std::alloc::Global;
+
+fn one_out(alloc: Global, node: Node, message: Message) -> Mem<Seq<Out>>
+    ensures { IfOk result (λ outs. outs ≡ record { node = node; message = message } ∷ []) }
+{
+    let mut outs = Seq::new(alloc);
+    outs.push(Out { node, message })?;
+    Ok(outs)
+}
+
+// The awaited message to a segment is sent again.
+pub(crate) fn resend(alloc: Global, coord: &Coord, node: Node, gxid: Gxid) -> Mem<Seq<Out>>
+    ensures { IfOk result (λ outs. outs ≡ (turns.resends (coord_of coord.now) node (turns.awaited (coord_of coord.now) gxid node)).outs) }
+{
+    match awaited(alloc, coord, gxid, node)? {
+        Some(message) => one_out(alloc, node, message),
+        None => Ok(Seq::new(alloc)),
+    }
+}
+
+// A session ends: its open block aborts, and one that has failed is closed.
+pub(crate) fn end(
+    alloc: Global,
+    coord: &mut Coord,
+    id: SessionId,
+    marks: &mut Vec<Mark>,
+) -> Mem<Seq<Out>>
+    requires { CanEnd (coord_of coord.old) id }
+    ensures turn { OnOk result (IsTurn coord.old coord.new marks.old.items marks.new.items (turns.ends_in (coord_of coord.old) id ((coord_of coord.old).sessions id.0).state.block)) }
+    ensures outs { IfOk result (λ outs. outs ≡ (turns.ends_in (coord_of coord.old) id ((coord_of coord.old).sessions id.0).state.block).outs) }
+{
+    let session = find_session(coord, id);
+    match session.state.block {
+        Block::Open(_) => {
+            set_state(coord, id, SessionState::new());
+            roll_back(coord, session.transaction, marks)
+        }
+        Block::Failed => {
+            set_state(coord, id, SessionState::new());
+            Ok(Seq::new(alloc))
+        }
+        Block::Outside => Ok(Seq::new(alloc)),
+    }
+}
+
+// An event by its kind. What comes in an envelope isn't told by its number or its clock.
+pub(crate) fn take_event<J: Journal>(
+    alloc: Global,
+    script: &Script,
+    coord: &mut Coord,
+    event: NodeEvent,
+    journal: &mut J,
+    marks: &mut Vec<Mark>,
+) -> Mem<Turned>
+    requires same { coord.old.script.value ≡ script.now }
+    requires language { IsScript script.now }
+    requires places { AreIndexed script.now.lines (length script.now.sessions) coord.old.places.items }
+    requires sound { IsSound script.now (coord_of coord.old) }
+    requires drawn { coord.old.dtx.next.0 ≤ 2 ^ 62 }
+    requires sessions { length coord.old.sessions.items ≡ length script.now.sessions }
+    requires admitted { turns.coord_can script.now (coord_of coord.old) event ≡ true }
+    ensures turn { IfOk result (λ turned. IsTurn coord.old coord.new marks.old.items marks.new.items (turns.on_event script.now (coord_of coord.old) event turned.fails)) }
+    ensures outs { IfOk result (λ turned. turned.outs ≡ (turns.on_event script.now (coord_of coord.old) event turned.fails).outs) }
+    ensures journal { IfOk result (λ turned. HasAppended (turns.on_event script.now (coord_of coord.old) event turned.fails) turned.fails (J.items journal.old) (J.items journal.new) (J.fault_count journal.old) (J.fault_count journal.new)) }
+    ensures later { J.fault_count journal.old ≤ J.fault_count journal.new }
+    ensures small { IsSmall event }
+{
+    match event {
+        NodeEvent::Deliver { from, envelope } => {
+            let Envelope { message, .. } = envelope;
+            take_message(alloc, script, coord, from, message, journal, marks)
+        }
+        NodeEvent::Start(id) => {
+            let outs = start(alloc, script, coord, id, marks)?;
+            Ok(unfailing(outs))
+        }
+        NodeEvent::End(id) => {
+            let outs = end(alloc, coord, id, marks)?;
+            Ok(unfailing(outs))
+        }
+        NodeEvent::Resend(node, of) => match of {
+            Some(gxid) => {
+                let outs = resend(alloc, coord, node, gxid)?;
+                Ok(unfailing(outs))
+            }
+            None => Ok(unfailing(Seq::new(alloc))),
+        },
+        NodeEvent::Resume(_) => Ok(unfailing(Seq::new(alloc))),
+        NodeEvent::Round => Ok(unfailing(Seq::new(alloc))),
+    }
+}

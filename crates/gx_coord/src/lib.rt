@@ -1,0 +1,30 @@
+//! The coordinator: what a session or a link brings changes it by its rule.
+#![tactic(auto)]
+
+mod admitted;
+mod again;
+mod answers;
+mod asking;
+mod books;
+mod completing;
+pub mod coord;
+mod dispatch;
+mod ends;
+mod event;
+mod faults;
+mod lines;
+mod making;
+mod messages;
+mod nodes;
+mod orders;
+mod places;
+mod replies;
+mod sending;
+mod snapshots;
+mod starting;
+mod statuses;
+mod stepping;
+pub mod work;
+
+pub use coord::Coord;
+pub use work::{Command, Session, Work};

@@ -1,0 +1,176 @@
+// What segments tell.
+ghost use Rattle.std.specs.Prelude.{◌≡◌, ◌≤◌, ◌<◌, ◌^◌, true, false, IfOk, OnOk};
+ghost use Rattle.gx_dtx.specs.Table.{IsActive};
+ghost use Rattle.gx_rules.specs.AtCoordinator as turns;
+ghost use Rattle.gx_coord.specs.Books.{coord_of};
+ghost use Rattle.gx_coord.specs.Sound.{IsSmallMessage, IsSmallReply, IsSound};
+ghost use Rattle.gx_coord.specs.Turns.{HasAppended, IsBusy, IsReady, IsTurn, answer_in, asks, is_over, left_in};
+
+use crate::completing::complete;
+use crate::coord::Coord;
+use crate::replies::{Done, is_asked, is_done, is_taken, note_done, refuse};
+use crate::statuses::{Turned, take_status};
+use gx_ids::{Cid, Gxid, Mem, Node, Seq};
+use gx_msg::{Cause, Message, Out, Reply};
+use gx_outside::Journal;
+use gx_script::Script;
+use gx_store::{Mark, Refused};
+use gx_tree::Part;
+use std::alloc::Global;
+
+// A command goes on, or is complete.
+fn go_on(
+    alloc: Global,
+    script: &Script,
+    coord: &mut Coord,
+    gxid: Gxid,
+    marks: &mut Vec<Mark>,
+) -> Mem<Seq<Out>>
+    requires same { coord.old.script.value ≡ script.now }
+    requires last { is_over ((coord_of coord.old).works gxid.0).command ≡ true → IsReady (coord_of coord.old) gxid }
+    ensures turn { OnOk result (IsTurn coord.old coord.new marks.old.items marks.new.items (turns.goes_on (coord_of coord.old) gxid (left_in ((coord_of coord.old).works gxid.0).command))) }
+    ensures outs { IfOk result (λ outs. outs ≡ (turns.goes_on (coord_of coord.old) gxid (left_in ((coord_of coord.old).works gxid.0).command)).outs) }
+{
+    if is_done(coord, gxid) {
+        complete(alloc, script, coord, gxid, marks)
+    } else {
+        Ok(Seq::new(alloc))
+    }
+}
+
+// A command is done at a segment.
+fn take_done(
+    alloc: Global,
+    script: &Script,
+    coord: &mut Coord,
+    gxid: Gxid,
+    node: Node,
+    done: Done,
+    part: Part,
+    marks: &mut Vec<Mark>,
+) -> Mem<Seq<Out>>
+    requires same { coord.old.script.value ≡ script.now }
+    requires sound { IsSound script.now (coord_of coord.old) }
+    ensures turn { OnOk result (IsTurn coord.old coord.new marks.old.items marks.new.items (turns.on_done (coord_of coord.old) gxid node done.cid done.wrote done.count part ((coord_of coord.old).works gxid.0).command)) }
+    ensures outs { IfOk result (λ outs. outs ≡ (turns.on_done (coord_of coord.old) gxid node done.cid done.wrote done.count part ((coord_of coord.old).works gxid.0).command).outs) }
+    ensures small { done.count < 2 ^ 64 }
+{
+    if is_taken(script, coord, gxid, node, done.cid, &part) {
+        note_done(alloc, coord, gxid, node, done, part)?;
+        go_on(alloc, script, coord, gxid, marks)
+    } else {
+        Ok(Seq::new(alloc))
+    }
+}
+
+fn reason(cause: Cause) -> Refused
+    ensures { result ≡ turns.reason_of cause }
+{
+    match cause {
+        Cause::Serialization(rid, gxid) => Refused::Serialization(rid, gxid),
+        Cause::Overflow => Refused::Overflow,
+        Cause::DivisionByZero => Refused::DivisionByZero,
+    }
+}
+
+// The first segment that can't do a command refuses it.
+fn take_failure(
+    alloc: Global,
+    coord: &mut Coord,
+    gxid: Gxid,
+    node: Node,
+    cid: Cid,
+    cause: Cause,
+    marks: &mut Vec<Mark>,
+) -> Mem<Seq<Out>>
+    requires active { asks ((coord_of coord.old).works gxid.0).command node cid ≡ true → IsActive coord.old.dtx gxid }
+    requires busy { asks ((coord_of coord.old).works gxid.0).command node cid ≡ true → IsBusy (coord_of coord.old) gxid.0 }
+    ensures turn { OnOk result (IsTurn coord.old coord.new marks.old.items marks.new.items (turns.on_failed (coord_of coord.old) gxid node cid cause ((coord_of coord.old).works gxid.0).command)) }
+    ensures outs { IfOk result (λ outs. outs ≡ (turns.on_failed (coord_of coord.old) gxid node cid cause ((coord_of coord.old).works gxid.0).command).outs) }
+{
+    if is_asked(coord, gxid, node, cid) {
+        refuse(coord, gxid, reason(cause), marks)
+    } else {
+        Ok(Seq::new(alloc))
+    }
+}
+
+pub(crate) fn unfailing(outs: Seq<Out>) -> Turned
+    ensures { result ≡ record { outs = outs; fails = false } }
+{
+    Turned { outs, fails: false }
+}
+
+// An answer is for a command, or for the transaction's status.
+fn take_reply<J: Journal>(
+    alloc: Global,
+    script: &Script,
+    coord: &mut Coord,
+    gxid: Gxid,
+    node: Node,
+    reply: Reply,
+    journal: &mut J,
+    marks: &mut Vec<Mark>,
+) -> Mem<Turned>
+    requires same { coord.old.script.value ≡ script.now }
+    requires sound { IsSound script.now (coord_of coord.old) }
+    requires segment { 0 < node.0 }
+    ensures turn { IfOk result (λ turned. IsTurn coord.old coord.new marks.old.items marks.new.items (turns.on_answer (coord_of coord.old) gxid node turned.fails reply)) }
+    ensures outs { IfOk result (λ turned. turned.outs ≡ (turns.on_answer (coord_of coord.old) gxid node turned.fails reply).outs) }
+    ensures journal { IfOk result (λ turned. HasAppended (turns.on_answer (coord_of coord.old) gxid node turned.fails reply) turned.fails (J.items journal.old) (J.items journal.new) (J.fault_count journal.old) (J.fault_count journal.new)) }
+    ensures later { J.fault_count journal.old ≤ J.fault_count journal.new }
+    ensures small { IsSmallReply reply }
+{
+    match reply {
+        Reply::Done {
+            cid,
+            wrote,
+            count,
+            part,
+        } => {
+            let done = Done { cid, wrote, count };
+            let outs = take_done(alloc, script, coord, gxid, node, done, part, marks)?;
+            Ok(unfailing(outs))
+        }
+        Reply::Failed { cid, cause } => {
+            let outs = take_failure(alloc, coord, gxid, node, cid, cause, marks)?;
+            Ok(unfailing(outs))
+        }
+        status => take_status(alloc, script, coord, gxid, node, status, journal, marks),
+    }
+}
+
+fn into_answer(message: Message) -> Option<(Gxid, Reply)>
+    ensures { result ≡ answer_in message }
+{
+    match message {
+        Message::Answer(gxid, reply) => Some((gxid, reply)),
+        _ => None,
+    }
+}
+
+pub(crate) fn take_message<J: Journal>(
+    alloc: Global,
+    script: &Script,
+    coord: &mut Coord,
+    from: Node,
+    message: Message,
+    journal: &mut J,
+    marks: &mut Vec<Mark>,
+) -> Mem<Turned>
+    requires same { coord.old.script.value ≡ script.now }
+    requires sound { IsSound script.now (coord_of coord.old) }
+    requires segment { 0 < from.0 }
+    ensures turn { IfOk result (λ turned. IsTurn coord.old coord.new marks.old.items marks.new.items (turns.on_message (coord_of coord.old) from turned.fails message)) }
+    ensures outs { IfOk result (λ turned. turned.outs ≡ (turns.on_message (coord_of coord.old) from turned.fails message).outs) }
+    ensures journal { IfOk result (λ turned. HasAppended (turns.on_message (coord_of coord.old) from turned.fails message) turned.fails (J.items journal.old) (J.items journal.new) (J.fault_count journal.old) (J.fault_count journal.new)) }
+    ensures later { J.fault_count journal.old ≤ J.fault_count journal.new }
+    ensures small { IsSmallMessage message }
+{
+    match into_answer(message) {
+        Some((gxid, reply)) => {
+            take_reply(alloc, script, coord, gxid, from, reply, journal, marks)
+        }
+        None => Ok(unfailing(Seq::new(alloc))),
+    }
+}

@@ -1,0 +1,75 @@
+// What a command sends.
+ghost use Rattle.std.specs.Prelude.{◌≡◌, IfOk, OnOk, OnErr};
+ghost use Rattle.gx_dtx.specs.Table.{IsActive};
+ghost use Rattle.gx_rules.specs.AtCoordinator.{enlisted_all, nodes_in, order_of, orders_of};
+
+use gx_dsnap::Snapshot;
+use gx_dtx::Dtx;
+use gx_ids::{Cid, Duplicate, Gxid, Mem, Node, Seq};
+use gx_msg::{Message, Out};
+use gx_plan::Piece;
+use gx_tree::Level;
+use std::alloc::Global;
+
+// What each order of a command has besides its slice.
+#[derive(Debug, Drop)]
+pub struct Ordering {
+    pub gxid: Gxid,
+    pub cid: Cid,
+    pub level: Level,
+    pub snapshot: Option<Snapshot>,
+    pub horizon: Gxid,
+}
+
+// The EXEC of a piece.
+fn order(alloc: Global, of: &Ordering, piece: &Piece) -> Mem<Out>
+    ensures { IfOk result (λ out. out ≡ order_of of.now.gxid of.now.cid of.now.level of.now.snapshot of.now.horizon piece.now) }
+{
+    let snapshot = of.snapshot.copy(alloc)?;
+    let slice = piece.slice.copy(alloc)?;
+    Ok(Out {
+        node: piece.node,
+        message: Message::Exec {
+            gxid: of.gxid,
+            cid: of.cid,
+            level: of.level,
+            snapshot,
+            horizon: of.horizon,
+            slice,
+        },
+    })
+}
+
+// The EXECs of the pieces, in their order.
+pub(crate) fn orders(alloc: Global, of: &Ordering, pieces: &[Piece]) -> Mem<Seq<Out>>
+    ensures { IfOk result (λ outs. outs ≡ orders_of of.now.gxid of.now.cid of.now.level of.now.snapshot of.now.horizon pieces.now) }
+{
+    let mut outs = Vec::with_capacity(alloc, pieces.len())?;
+    for piece in pieces {
+        outs.push(order(alloc, of, piece)?)?;
+    }
+    Ok(Seq::from_vec(outs))
+}
+
+// The nodes that they go to.
+pub(crate) fn nodes(alloc: Global, pieces: &[Piece]) -> Mem<Seq<Node>>
+    ensures { IfOk result (λ nodes. nodes ≡ nodes_in pieces.now) }
+{
+    let mut nodes = Vec::with_capacity(alloc, pieces.len())?;
+    for piece in pieces {
+        nodes.push(piece.node)?;
+    }
+    Ok(Seq::from_vec(nodes))
+}
+
+// These nodes become participants.
+#[tactic(auto, using(crate::proofs::Enlisting::active_enlisted))]
+pub(crate) fn enlist_all(dtx: &mut Dtx, gxid: Gxid, nodes: &[Node]) -> Mem<()>
+    requires { IsActive dtx.old gxid }
+    ensures { OnOk result (dtx.new ≡ enlisted_all dtx.old gxid nodes.now) }
+{
+    for node in nodes {
+        dtx.enlist(gxid, *node)?;
+    }
+    Ok(())
+}

@@ -1,0 +1,58 @@
+// Answers of segments for a transaction's status.
+ghost use Rattle.std.specs.Prelude.{◌≡◌, ◌<◌, ◌≤◌, Bool, true, IfOk};
+ghost use Rattle.gx_dtx.specs.Rules.{on_reply};
+ghost use Rattle.gx_rules.specs.AtCoordinator as turns;
+ghost use Rattle.gx_coord.specs.Books.{coord_of};
+ghost use Rattle.gx_coord.specs.Turns.{IsFit, HasAppended, IsBusy, IsTurn, answers_line, own_failure};
+
+use crate::coord::Coord;
+use crate::ends::follow;
+use gx_dtx::Outcome;
+use gx_ids::{Gxid, Mem, Node, Seq};
+use gx_msg::{Out, Reply};
+use gx_outside::Journal;
+use gx_script::Script;
+use gx_store::Mark;
+use std::alloc::Global;
+
+// What a turn sends, and whether the coordinator's journal failed to take its item.
+#[derive(Drop)]
+pub struct Turned {
+    pub outs: Seq<Out>,
+    pub fails: bool,
+}
+
+fn is_own(outcome: Outcome) -> bool
+    ensures { result ≡ own_failure outcome }
+{
+    match outcome {
+        Outcome::Refused(node) => node.0 == 0,
+        _ => false,
+    }
+}
+
+// The answer is for the transaction's status. With the last promise the journal has to take the decision.
+pub(crate) fn take_status<J: Journal>(
+    alloc: Global,
+    script: &Script,
+    coord: &mut Coord,
+    gxid: Gxid,
+    node: Node,
+    reply: Reply,
+    journal: &mut J,
+    marks: &mut Vec<Mark>,
+) -> Mem<Turned>
+    requires same { coord.old.script.value ≡ script.now }
+    requires segment { 0 < node.0 }
+    requires busy { (fails : Bool) → answers_line (on_reply coord.old.dtx gxid node reply fails).out.outcome ≡ true → IsBusy (coord_of coord.old) gxid.0 }
+    requires fits { IsFit ((coord_of coord.old).works gxid.0).command }
+    ensures turn { IfOk result (λ turned. IsTurn coord.old coord.new marks.old.items marks.new.items (turns.on_status (coord_of coord.old) gxid node reply turned.fails)) }
+    ensures outs { IfOk result (λ turned. turned.outs ≡ (turns.on_status (coord_of coord.old) gxid node reply turned.fails).outs) }
+    ensures journal { IfOk result (λ turned. HasAppended (turns.on_status (coord_of coord.old) gxid node reply turned.fails) turned.fails (J.items journal.old) (J.items journal.new) (J.fault_count journal.old) (J.fault_count journal.new)) }
+    ensures later { J.fault_count journal.old ≤ J.fault_count journal.new }
+{
+    let out = coord.dtx.reply(gxid, node, reply, journal)?;
+    let fails = is_own(out.outcome);
+    let outs = follow(alloc, script, coord, gxid, out, marks)?;
+    Ok(Turned { outs, fails })
+}
