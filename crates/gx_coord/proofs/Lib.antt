@@ -25,3 +25,4 @@ pub mod Few
 pub mod Gone
 pub mod MayAsk
 pub mod Started
+pub mod Unfinished

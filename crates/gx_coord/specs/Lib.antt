@@ -5,3 +5,4 @@ pub mod Sound
 pub mod Faults
 pub mod Places
 pub mod Lines
+pub mod Unfinished

@@ -22,7 +22,7 @@ fn is_segment(script: &Script, node: Node) -> bool
     1 <= node.0 && node.0 <= script.segments
 }
 
-fn is_idle(session: Session) -> bool
+pub(crate) fn is_idle(session: Session) -> bool
     ensures { result ≡ turns.is_nothing session.state.pending }
 {
     match session.state.pending {
@@ -31,7 +31,7 @@ fn is_idle(session: Session) -> bool
     }
 }
 
-fn is_in_block(session: Session) -> bool
+pub(crate) fn is_in_block(session: Session) -> bool
     ensures { result ≡ turns.is_in_block session.state.block }
 {
     match session.state.block {
@@ -41,7 +41,7 @@ fn is_in_block(session: Session) -> bool
 }
 
 // Whether a session has a line left.
-fn is_left(coord: &Coord, id: SessionId) -> bool
+pub(crate) fn is_left(coord: &Coord, id: SessionId) -> bool
     requires language { IsScript coord.now.script.value }
     requires places { AreIndexed coord.now.script.value.lines (length coord.now.script.value.sessions) coord.now.places.items }
     ensures { result ≡ is_some (turns.next_line coord.now.script.value (coord_of coord.now) id) }

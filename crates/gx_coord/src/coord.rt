@@ -1,17 +1,19 @@
-ghost use Rattle.std.specs.Prelude.{◌≡◌, ◌<◌, ◌≤◌, ◌^◌, All, true, false, IfOk, OnErr};
+ghost use Rattle.std.specs.Prelude.{◌≡◌, ◌<◌, ◌≤◌, ◌^◌, All, length, true, false, IfOk, OnErr};
 ghost use Rattle.gx_rules.specs.AtCoordinator.{coord_can};
 ghost use Rattle.gx_rules.specs.Coordinators.{Coord as RuleCoord, new_coordinator};
 ghost use Rattle.gx_rules.specs.Sending.{heard_in};
+ghost use Rattle.gx_ids.specs.declared.ids.SessionId.{SessionId as Id};
 ghost use Rattle.gx_sql.specs.Language.{IsScript};
 ghost use Rattle.gx_rules.specs.Snapshots.{snapshot_of as rule_snapshot};
+ghost use Rattle.gx_coord.specs.Unfinished.{is_unfinished};
 ghost use Rattle.gx_coord.specs.Steps.{HasStepped, IsCoord};
 
-use crate::admitted;
 use crate::making::{new_sessions, nothing_sent};
 use crate::places::places_of;
 use crate::snapshots::snapshot_of;
 use crate::stepping::step_on;
 use crate::work::{Session, Work};
+use crate::{admitted, finished};
 use gx_dsnap::Snapshot;
 use gx_dtx::Dtx;
 use gx_ids::{Gxid, Mem, OutOfMemory, Seq};
@@ -99,6 +101,16 @@ impl Coord {
         ensures { IfOk result (λ can. can ≡ coord_can self.now.script.value c event.now) }
     {
         admitted::can(self.alloc, self, event)
+    }
+
+    /// Whether some session has a line without an answer, an open or failed block, or a line left.
+    pub fn unfinished(&self) -> bool
+        ghost c: { RuleCoord }
+        requires { IsCoord self.now c }
+        ensures none { result ≡ false → (id : Id) → id.0 < length self.now.script.value.sessions → is_unfinished self.now.script.value c id ≡ false }
+        ensures some { result ≡ true → (id : Id) × (is_unfinished self.now.script.value c id ≡ true) }
+    {
+        finished::unfinished(self)
     }
 
     /// The snapshot that a reader without a transaction takes now.

@@ -12,6 +12,7 @@ mod dispatch;
 mod ends;
 mod event;
 mod faults;
+mod finished;
 mod lines;
 mod making;
 mod messages;

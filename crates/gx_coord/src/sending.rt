@@ -1,11 +1,23 @@
 // How messages are numbered.
-ghost use Rattle.std.specs.Prelude.{◌≡◌, ◌+◌, ◌<◌, ◌++◌, ◌^◌, All, length, slice_index, OnOk};
+ghost use Rattle.std.specs.Prelude.{◌≡◌, ◌+◌, ◌<◌, ◌++◌, ◌^◌, All, get_or, length, slice_index, slice_set, OnOk};
 ghost use Rattle.gx_rules.specs.Sending.{clock_after as after_event, counted_all, heard_in, numbered};
 
 use gx_ids::{Duplicate, Mem};
 use gx_msg::Out;
 use gx_store::{Mark, NodeEvent};
 use std::alloc::Global;
+
+// The number of a link's next message.
+fn count(sent: &mut Vec<u64>, node: usize) -> u64
+    requires inside { node < length sent.old.items }
+    requires room { get_or sent.old.items node 0 + 1 < 2 ^ 64 }
+    ensures number { result ≡ get_or sent.old.items node 0 + 1 }
+    ensures sent { sent.new.items ≡ slice_set sent.old.items node result }
+{
+    let number = sent[node] + 1;
+    sent[node] = number;
+    number
+}
 
 // Each message has the next number of its link.
 pub(crate) fn number(
@@ -22,8 +34,7 @@ pub(crate) fn number(
 {
     for out in outs {
         let node = usize::from(out.node.0);
-        let number = sent[node] + 1;
-        sent[node] = number;
+        let number = count(sent, node);
         marks.push(Mark::Sent {
             to: out.node,
             number,

@@ -1,0 +1,5 @@
+pub mod Worlds
+pub mod Networks
+pub mod Made
+pub mod Turns
+pub mod Tables
