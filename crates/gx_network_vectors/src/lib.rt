@@ -1,0 +1,5 @@
+//! Tests of worlds over messages, event by event.
+#![tactic(auto)]
+
+#[cfg(test)]
+mod worlds;
