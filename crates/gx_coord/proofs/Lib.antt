@@ -26,3 +26,4 @@ pub mod Gone
 pub mod MayAsk
 pub mod Started
 pub mod Unfinished
+pub mod Sent

@@ -19,6 +19,7 @@ mod messages;
 mod nodes;
 mod orders;
 mod places;
+mod probe;
 mod replies;
 mod sending;
 mod snapshots;

@@ -5,3 +5,4 @@ mod Printed
 mod Runs
 mod Stays
 mod Written
+pub mod Sent

@@ -8,3 +8,4 @@ pub mod Gxids
 pub mod Keeping
 pub mod Moving
 pub mod Obeying
+pub mod Sent

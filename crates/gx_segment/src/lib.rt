@@ -7,6 +7,7 @@ mod entries;
 mod executing;
 mod messages;
 mod ordering;
+mod probe;
 pub mod segment;
 mod sending;
 mod stepping;
