@@ -1,0 +1,4 @@
+pub mod Changes
+pub mod Firsts
+pub mod Resending
+pub mod Steps

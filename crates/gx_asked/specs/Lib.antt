@@ -1,0 +1,4 @@
+pub mod Requests
+pub mod Expected
+pub mod Awaited
+pub mod Following

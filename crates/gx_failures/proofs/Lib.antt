@@ -1,0 +1,4 @@
+pub mod Marks
+pub mod AtSegments
+pub mod AtCoordinators
+pub mod Steps

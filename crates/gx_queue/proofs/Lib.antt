@@ -1,0 +1,5 @@
+pub mod Lists
+pub mod Firsts
+pub mod Growing
+pub mod Advancing
+pub mod Noting

@@ -1,0 +1,4 @@
+pub mod Places
+pub mod Queued
+pub mod Fresh
+pub mod Moves
