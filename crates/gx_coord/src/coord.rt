@@ -108,7 +108,7 @@ impl Coord {
         ghost c: { RuleCoord }
         requires { IsCoord self.now c }
         ensures none { result ≡ false → (id : Id) → id.0 < length self.now.script.value.sessions → is_unfinished self.now.script.value c id ≡ false }
-        ensures some { result ≡ true → (id : Id) × (is_unfinished self.now.script.value c id ≡ true) }
+        ensures some { result ≡ true → (id : Id) × (id.0 < length self.now.script.value.sessions) × (is_unfinished self.now.script.value c id ≡ true) }
     {
         finished::unfinished(self)
     }

@@ -33,7 +33,7 @@ pub(crate) fn unfinished(coord: &Coord) -> bool
     requires places { AreIndexed coord.now.script.value.lines (length coord.now.script.value.sessions) coord.now.places.items }
     requires sessions { length coord.now.sessions.items ≡ length coord.now.script.value.sessions }
     ensures none { result ≡ false → (id : Id) → id.0 < length coord.now.script.value.sessions → is_unfinished coord.now.script.value (coord_of coord.now) id ≡ false }
-    ensures some { result ≡ true → (id : Id) × (is_unfinished coord.now.script.value (coord_of coord.now) id ≡ true) }
+    ensures some { result ≡ true → (id : Id) × (id.0 < length coord.now.script.value.sessions) × (is_unfinished coord.now.script.value (coord_of coord.now) id ≡ true) }
 {
     for place in 0..coord.sessions.len() {
         if has_more(coord, id_at(place)) {

@@ -1,10 +1,10 @@
-ghost use Rattle.std.specs.Prelude.{◌≡◌, ◌<◌, ◌+◌, ◌++◌, ◌∷◌, ℕ, nat_eq, false, Some, length, replicate, [], All, IfOk, OnOk, if◌then◌else◌};
+ghost use Rattle.std.specs.Prelude.{◌≡◌, ◌<◌, ◌+◌, ◌++◌, ◌∷◌, ℕ, nat_eq, false, Some, length, replicate, [], All, IfOk, OnOk, if◌then◌else◌, option_copied, option_map};
 ghost use Rattle.gx_ids.specs.declared.ids.Node.{Node};
 ghost use Rattle.gx_store.specs.Journals.{is_same_node};
 ghost use Rattle.gx_letters.specs.Links.{IsAddressed, IsLong, letter_at, link_in, nth_link, nth_place, places_from, sent_in_step, stands_at};
 
 use gx_ids::{Duplicate, Mem, Node, Seq};
-use gx_msg::Envelope;
+use gx_msg::{Envelope, Message};
 use gx_store::{Mark, Step};
 use std::alloc::Global;
 
@@ -64,6 +64,26 @@ impl Letters {
             Some(place) => envelope_at(alloc, steps, place, number),
             None => Ok(None),
         }
+    }
+
+    /// The message of a number on a link, from 1, as it stands in the run; none where there is no such message.
+    pub fn message<'a>(
+        &self,
+        steps: &'a [Step],
+        from: Node,
+        to: Node,
+        number: u64,
+    ) -> Option<&'a Message>
+        ensures { option_copied result ≡ option_map (λ letter. letter.message) (letter_at steps.now (link_in self.now from to) number) }
+    {
+        message_at(steps, place_in(self.link(from, to), number)?)
+    }
+
+    /// How many messages were sent on a link.
+    pub fn count(&self, from: Node, to: Node) -> u64
+        ensures { result ≡ length (link_in self.now from to) }
+    {
+        self.link(from, to).len() as u64
     }
 
     // The places of a link's messages.
@@ -147,6 +167,22 @@ fn envelope_at(alloc: Global, steps: &[Step], place: Place, number: u64) -> Mem<
     match steps.get(place.step) {
         Some(step) => envelope_of(alloc, step, place.mark, number),
         None => Ok(None),
+    }
+}
+
+// A message where it stands.
+fn message_at(steps: &[Step], place: Place) -> Option<&Message>
+    ensures { (number : ℕ) → option_copied result ≡ option_map (λ letter. letter.message) (stands_at steps.now number (Some place)) }
+{
+    match steps.get(place.step)?.marks.as_slice().get(place.mark) {
+        Some(
+            Mark::Sent {
+                to: _,
+                number: _,
+                message,
+            },
+        ) => Some(message),
+        _ => None,
     }
 }
 

@@ -1,5 +1,5 @@
 -- What a world is, to those who call it, and what a step of it is.
-use Rattle.std.specs.Prelude.{◌≡◌, ℕ, ◌++◌, ◌∷◌, [], Bool, true, false, List, length, map, slice_get, Some}
+use Rattle.std.specs.Prelude.{◌≡◌, ◌≤◌, ℕ, ◌++◌, ◌∷◌, [], Bool, true, false, List, length, map, slice_get, Some}
 use Rattle.gx_ids.specs.declared.ids.Node.{Node}
 use Rattle.gx_msg.specs.ItemBytes.{bytes_of_item}
 use Rattle.gx_outside.specs.Causes.{Rose}
@@ -33,6 +33,11 @@ pub record HasTaken (script : Script) (w : machine.World) (event : Event) (fails
   pub items : after.items ≡ before.items ++ map bytes_of_item (takes script w event fails node)
   pub caused : is_same_node (node_of event) node ≡ true → fails ≡ true → Rose before.faults after.faults
   pub faults : is_same_node (node_of event) node ≡ false → after.faults ≡ before.faults
+
+-- no journal's count of failures has fallen
+pub record AreLater (before after : List Shelf) : Type 0 where
+  pub count : length after ≡ length before
+  pub each : (k : ℕ) (b a : Shelf) → slice_get before k ≡ Some b → slice_get after k ≡ Some a → b.faults ≤ a.faults
 
 -- one more step was done, with this event, by the rule of its node, for an append that fails or not; the journals took what it adds
 pub record HasStepped (script : Script) (old new : List Step) (event : Event) (before after : List Shelf) : Type 0 where

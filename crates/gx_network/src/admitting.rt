@@ -1,7 +1,7 @@
 // What is admitted.
 ghost use Rattle.std.specs.Prelude.{◌≡◌, true, false, if◌then◌else◌, IfOk, length};
 ghost use Rattle.gx_coord.specs.Steps.{IsCoord};
-ghost use Rattle.gx_letters.specs.Links.{link_in, nth_link};
+ghost use Rattle.gx_letters.specs.Links.{link_in};
 ghost use Rattle.gx_replays.specs.Replays.{coordinator_after, is_admitted};
 ghost use Rattle.gx_rules.specs.AtCoordinator.{coord_can, is_segment};
 ghost use Rattle.gx_rules.specs.Coordinators.{Coord as RuleCoord};
@@ -12,8 +12,8 @@ ghost use Rattle.gx_store.specs.declared.event.Event.TheVariants.{Receive};
 ghost use Rattle.gx_network.specs.Networks.{IsNetwork};
 
 use crate::network::Network;
-use gx_ids::{Mem, Node, Seq};
-use gx_letters::{Letters, Place};
+use gx_ids::{Mem, Node};
+use gx_letters::Letters;
 use gx_script::Script;
 use gx_store::{Event, NodeEvent};
 
@@ -71,27 +71,5 @@ fn is_heard(script: &Script, from: Node, to: Node) -> bool
 fn was_sent(letters: &Letters, from: Node, to: Node, number: u64) -> bool
     ensures { result ≡ is_number number (length (link_in letters.now from to)) }
 {
-    1 <= number && number <= link(letters, from, to).len() as u64
-}
-
-// The places of a link's messages.
-fn link(letters: &Letters, from: Node, to: Node) -> &[Place]
-    ensures { result.now ≡ link_in letters.now from to }
-{
-    if from.0 == 0 {
-        places_at(letters.to.as_slice(), to)
-    } else if to.0 == 0 {
-        places_at(letters.from.as_slice(), from)
-    } else {
-        &[]
-    }
-}
-
-fn places_at(links: &[Seq<Place>], at: Node) -> &[Place]
-    ensures { result.now ≡ nth_link links.now at.0 }
-{
-    match links.get(usize::from(at.0)) {
-        Some(places) => places.as_slice(),
-        None => &[],
-    }
+    1 <= number && number <= letters.count(from, to)
 }

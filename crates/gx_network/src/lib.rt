@@ -3,6 +3,7 @@
 
 mod admitting;
 mod arriving;
+mod looking;
 mod making;
 mod moves;
 mod network;

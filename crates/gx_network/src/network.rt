@@ -2,7 +2,7 @@ ghost use Rattle.std.specs.Prelude.{◌≡◌, ◌<◌, ◌^◌, [], true, false
 ghost use Rattle.gx_replays.specs.Replays.{is_admitted};
 ghost use Rattle.gx_sql.specs.Language.{IsScript};
 ghost use Rattle.gx_network.specs.Networks.{HasDone, IsNetwork};
-ghost use Rattle.gx_network.specs.Worlds.{shelf};
+ghost use Rattle.gx_network.specs.Worlds.{AreLater, shelf};
 
 use crate::making::new_segments;
 use crate::moves::do_event;
@@ -66,6 +66,7 @@ impl Network {
         requires room { self.old.spent ≡ false → length self.old.run.steps < 2 ^ 40 }
         ensures is { IsNetwork self.new }
         ensures done { OnOk result (HasDone self.old self.new event (map (λ j. shelf (J.items j) (J.fault_count j)) journals.old) (map (λ j. shelf (J.items j) (J.fault_count j)) journals.new)) }
+        ensures later { AreLater (map (λ j. shelf (J.items j) (J.fault_count j)) journals.old) (map (λ j. shelf (J.items j) (J.fault_count j)) journals.new) }
         ensures script { self.new.script ≡ self.old.script }
         ensures run { OnErr result (self.new.run ≡ self.old.run) }
         ensures spent { OnErr result (self.new.spent ≡ true) }
@@ -80,5 +81,21 @@ impl Network {
             Err(_) => self.spent = true,
         }
         done
+    }
+
+    /// The run.
+    pub fn into_run(self) -> Run
+        ensures { result ≡ self.run }
+    {
+        let Network {
+            alloc: _,
+            script: _,
+            coord: _,
+            segments: _,
+            letters: _,
+            run,
+            spent: _,
+        } = self;
+        run
     }
 }

@@ -15,10 +15,10 @@ ghost use Rattle.gx_network.specs.Turns.{HasSteppedAt, IsNext};
 ghost use Rattle.gx_network.specs.Networks.{HasRoom, HasTurned, Stands};
 
 use crate::network::Network;
-use gx_ids::{Mem, Node, Stamp};
+use gx_ids::{Mem, Node, Seq, Stamp};
 use gx_outside::{Gate, Journal};
 use gx_segment::Segment;
-use gx_store::{Event, NodeEvent, NodeOut, Step};
+use gx_store::{Event, Mark, NodeEvent, NodeOut, Step};
 
 // The coordinator does an event.
 pub(crate) fn coord_turn<J: Journal>(
@@ -34,6 +34,7 @@ pub(crate) fn coord_turn<J: Journal>(
     requires heard { heard_in there < 2 ^ 62 }
     requires room { HasRoom network.old }
     ensures turned { OnOk result (HasTurned network.old.script.value w event the_coordinator there network.new (J.items journal.old) (J.items journal.new) (J.fault_count journal.old) (J.fault_count journal.new)) }
+    ensures later { J.fault_count journal.old ≤ J.fault_count journal.new }
     ensures script { network.new.script ≡ network.old.script }
     ensures err { OnErr result (network.new.run ≡ network.old.run) }
 {
@@ -59,6 +60,7 @@ pub(crate) fn seg_turn<J: Journal, G: Gate>(
     requires heard { heard_in there < 2 ^ 62 }
     requires room { HasRoom network.old }
     ensures turned { OnOk result (HasTurned network.old.script.value w event at there network.new (J.items journal.old) (J.items journal.new) (J.fault_count journal.old) (J.fault_count journal.new)) }
+    ensures later { J.fault_count journal.old ≤ J.fault_count journal.new }
     ensures script { network.new.script ≡ network.old.script }
     ensures err { OnErr result (network.new.run ≡ network.old.run) }
 {
@@ -107,6 +109,15 @@ fn push_step(network: &mut Network, node: Node, event: Event, out: NodeOut) -> M
             node,
         },
         event,
-        marks: out.marks,
+        marks: fitted(out.marks),
     })
+}
+
+// The marks without spare room, since a run keeps them.
+fn fitted(marks: Seq<Mark>) -> Seq<Mark>
+    ensures { result ≡ marks }
+{
+    let mut items = marks.into_vec();
+    items.shrink_to_fit();
+    Seq::from_vec(items)
 }

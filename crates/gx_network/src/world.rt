@@ -1,21 +1,25 @@
-ghost use Rattle.std.specs.Prelude.{◌≡◌, ◌<◌, ◌^◌, true, false, [], IfOk, IsErr, OnOk, OnErr, length, map};
+ghost use Rattle.std.specs.Prelude.{◌≡◌, ◌<◌, ◌^◌, true, false, [], IfOk, IsErr, OnOk, OnErr, length, map, option_copied};
 ghost use Rattle.gx_answers.specs.Whole.{AreInsertsWhole};
 ghost use Rattle.gx_replays.specs.Reached.{IsReached};
-ghost use Rattle.gx_replays.specs.Replays.{is_admitted};
+ghost use Rattle.gx_coord.specs.Unfinished.{is_unfinished};
+ghost use Rattle.gx_ids.specs.declared.ids.SessionId.{SessionId as Id};
+ghost use Rattle.gx_replays.specs.Replays.{coordinator_after, is_admitted};
 ghost use Rattle.gx_rules.specs.System.{IsSystemRun};
 ghost use Rattle.gx_sql.specs.Language.{IsScript};
-ghost use Rattle.gx_store.specs.Ordered.{AreOrdered};
+ghost use Rattle.gx_store.specs.Ordered.{AreOrdered, sent_in};
 ghost use Rattle.gx_store.specs.Points.{marks_of};
 ghost use Rattle.gx_store.specs.Protocol.{DoStepsFollow};
 ghost use Rattle.gx_store.specs.Runs.{IsLegalHistory};
+ghost use Rattle.gx_store.specs.Schedule.{sent_message};
 ghost use Rattle.gx_store.specs.View.{AreFinalFrom};
-ghost use Rattle.gx_network.specs.Worlds.{HasStepped, shelf};
+ghost use Rattle.gx_network.specs.Worlds.{AreLater, HasStepped, shelf};
 
 use crate::admitting::can;
-use crate::moves::do_event;
+use crate::looking::{is_unfinished, message, sent};
 use crate::network::Network;
 use crate::tables::tables;
-use gx_ids::{Mem, OutOfMemory};
+use gx_ids::{Mem, Node, OutOfMemory};
+use gx_msg::Message;
 use gx_outside::{Gate, Journal};
 use gx_script::Script;
 use gx_store::{Event, Run};
@@ -74,6 +78,30 @@ impl World {
         &self.network.run
     }
 
+    /// How many messages were sent from one node to another. It is told while the world isn't spent.
+    pub fn sent(&self, from: Node, to: Node) -> u64
+        ensures { self.now.spent ≡ false → result ≡ sent_in from to self.now.run.steps }
+    {
+        sent(&self.network, from, to)
+    }
+
+    /// The message of a number, from 1, among those that were sent from one node to another; none where there is none. It is
+    /// told while the world isn't spent.
+    pub fn message(&self, from: Node, to: Node, number: u64) -> Option<&Message>
+        ensures { self.now.spent ≡ false → option_copied result ≡ sent_message from to number self.now.run.steps }
+    {
+        message(&self.network, from, to, number)
+    }
+
+    /// Whether some session has a line without an answer, an open or failed block, or a line left. It is told while the world
+    /// isn't spent.
+    pub fn unfinished(&self) -> bool
+        ensures none { self.now.spent ≡ false → result ≡ false → (id : Id) → id.0 < length self.now.script.sessions → is_unfinished self.now.script (coordinator_after self.now.script self.now.run.steps) id ≡ false }
+        ensures some { self.now.spent ≡ false → result ≡ true → (id : Id) × (id.0 < length self.now.script.sessions) × (is_unfinished self.now.script (coordinator_after self.now.script self.now.run.steps) id ≡ true) }
+    {
+        !self.network.spent && is_unfinished(&self.network)
+    }
+
     /// Whether an event may be done now.
     pub fn can(&self, event: &Event) -> Mem<bool>
         ensures value { IfOk result (λ can. can ≡ is_admitted self.now.script self.now.run.steps event.now) }
@@ -102,6 +130,7 @@ impl World {
         ensures ordered { OnOk result (AreOrdered self.old.script [] self.new.run.steps) }
         ensures system { OnOk result (IsSystemRun self.old.script self.new.run) }
         ensures unspent { OnOk result (self.new.spent ≡ false) }
+        ensures later { AreLater (map (λ j. shelf (J.items j) (J.fault_count j)) journals.old) (map (λ j. shelf (J.items j) (J.fault_count j)) journals.new) }
         ensures script { self.new.script ≡ self.old.script }
         ensures err { OnErr result (self.new ≡ record self.old { spent = true }) }
         ensures again { self.old.spent ≡ true → IsErr result }
@@ -119,5 +148,14 @@ impl World {
             return Err(OutOfMemory);
         }
         tables(&self.network)
+    }
+
+    /// The run, when nothing more is to be done.
+    pub fn into_run(self) -> Run
+        ensures value { result ≡ self.run }
+        ensures reached { IsReached self.script self.run.steps }
+    {
+        let World { network } = self;
+        network.into_run()
     }
 }
