@@ -1,1 +1,4 @@
+pub mod Attempts
+pub mod Kept
 pub mod Refusals
+pub mod Runs

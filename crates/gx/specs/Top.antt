@@ -1,5 +1,5 @@
 -- What the top call answers, and when.
-use Rattle.std.specs.Prelude.{◌≡◌, ℕ, ◌<◌, ◌≤◌, true, false, List, [], length, Some, Result, Ok, Err, ◌⊎◌, codes}
+use Rattle.std.specs.Prelude.{◌≡◌, ℕ, ◌<◌, ◌≤◌, Bool, true, false, List, [], length, Some, Result, Ok, Err, ◌⊎◌, codes}
 use Rattle.std.specs.declared.option.Option.{Option}
 use Rattle.std.specs.declared.string.String.{String}
 use Rattle.std.specs.declared.alloc.Global.{Global}
@@ -12,12 +12,21 @@ use Rattle.gx_form.specs.Form.{is_of_form}
 use Rattle.gx_sql.specs.declared.refusal.Refusal.{Refusal}
 use Rattle.gx_sql.specs.Script.{Reads}
 use Rattle.gx_store.specs.declared.run.Run.{Run}
-use Rattle.gx_store.specs.Runs.{IsLegalRun, IsWholeRun}
+use Rattle.gx_store.specs.declared.run.Step.{Step}
+use Rattle.gx_store.specs.Ordered.{AreOrdered}
+use Rattle.gx_store.specs.Points.{marks_of}
+use Rattle.gx_store.specs.Protocol.{DoStepsFollow}
+use Rattle.gx_store.specs.Runs.{IsLegalHistory}
+use Rattle.gx_store.specs.View.{AreFinalFrom}
+use Rattle.gx_rules.specs.System.{IsSystemRun}
+use Rattle.gx_endings.specs.Endings.{IsFinished, is_any_unfinished}
+use Rattle.gx_network.specs.Worlds.{Shelf}
+use Rattle.gx_drive.specs.Ordered.{AreFailuresFew, AreFirst, AreHeld}
 use Rattle.gx.specs.declared.top.Report.{Report}
 use Rattle.gx.specs.declared.attempt.Attempt.{Attempt}
-use Rattle.gx.specs.declared.attempt.Attempt.TheVariants.{Done, Refused, ReadFault, TooLarge, NotBuilt, OutOfMemory}
+use Rattle.gx.specs.declared.attempt.Attempt.TheVariants.{Done, Stopped, Refused, ReadFault, TooLarge, NotBuilt, OutOfMemory}
 use Rattle.gx.specs.Refused.{refusal_text}
-use Rattle.gx.specs.Text.{text_of}
+use Rattle.gx_report.specs.Text.{stopped_text, text_of}
 
 -- the most bytes of a script
 abbrev pub limit : ℕ
@@ -26,15 +35,52 @@ limit = 16777216
 abbrev pub no_run : Run
 no_run = record { steps = [] }
 
--- every line of the script was answered in the run, and the text is that of the run and of the tables at its end
-pub record IsRunOf (script : Script) (run : Run) (text : List ℕ) : Type 0 where
+-- how often the driver asks at most what may be done
+abbrev pub turns : ℕ
+turns = 1000000
+
+-- The run is a legal history of one store without segments. Its nodes follow their rules and the commit protocol, its messages are
+-- numbered and arrive after they were sent, clocks rise, and each event is the first of what is enabled then.
+pub record IsRunOf (script : Script) (run : Run) : Type 0 where
+  pub legal : IsLegalHistory script run
+  pub ordered : AreOrdered script [] run.steps
+  pub system : IsSystemRun script run
+  pub protocol : DoStepsFollow script [] run.steps
+  pub driven : AreFirst script [] run.steps
+
+-- every line was answered in it, every block is closed, every transaction has ended, these are the tables at its end, and the text is that of
+-- both
+pub record IsWholeRunOf (script : Script) (run : Run) (text : List ℕ) : Type 0 where
+  pub is : IsRunOf script run
+  pub over : IsFinished script run
   pub tables : List (Vec KeyedRow Global)
-  pub whole : IsWholeRun script run tables
+  pub all : length tables ≡ length script.tables
+  pub final : AreFinalFrom 0 (marks_of run) tables
   pub told : text ≡ text_of script run tables
 
--- nothing was run, or a part of a legal history of the script
+-- all turns were taken, a session is unfinished, and the text is that of the answers so far
+pub record IsStoppedRunOf (script : Script) (run : Run) (text : List ℕ) : Type 0 where
+  pub is : IsRunOf script run
+  pub all : length run.steps ≡ turns
+  pub unfinished : is_any_unfinished script run.steps ≡ true
+  pub told : text ≡ stopped_text script run
+
+-- nothing was run, or a part of a run of the script
 abbrev pub IsPartOf : Script → Run → Type 0
-IsPartOf script run = (run ≡ no_run) ⊎ IsLegalRun script run
+IsPartOf script run = (run ≡ no_run) ⊎ IsRunOf script run
+
+-- what became of a script that was run
+abbrev pub IsRan : Script → Attempt → Type 0
+IsRan script (Done run text) = IsWholeRunOf script run text.items
+IsRan script (Stopped run text) = IsStoppedRunOf script run text.items
+IsRan script (OutOfMemory run) = IsPartOf script run
+IsRan script _ = ⊥
+
+-- what is said of bytes that are no script for this reason
+abbrev pub IsRefusedFor : Refusal → Attempt → Type 0
+IsRefusedFor refusal (Refused text) = refusal_text refusal ≡ Some text.items
+IsRefusedFor refusal (OutOfMemory run) = run ≡ no_run
+IsRefusedFor refusal _ = ⊥
 
 -- the source was read to its end, and its bytes are this script, or no script for this reason
 pub record IsRead (left after : Option (List ℕ)) (said : Result Script Refusal) : Type 0 where
@@ -44,12 +90,12 @@ pub record IsRead (left after : Option (List ℕ)) (said : Result Script Refusal
   pub few : length bytes ≤ limit
   pub is : Reads bytes said
 
--- a script of the form that is built was read, and the run is a part of a legal history of it
+-- a script of the form that is built was read, and this is a run of it, up to some step
 pub record IsBegun (left after : Option (List ℕ)) (run : Run) : Type 0 where
   pub script : Script
   pub read : IsRead left after (Ok script)
   pub built : is_of_form script ≡ true
-  pub legal : IsLegalRun script run
+  pub is : IsRunOf script run
 
 -- nothing was run, or a part of the script that was read
 abbrev pub IsPartRun : Option (List ℕ) → Option (List ℕ) → Run → Type 0
@@ -61,7 +107,15 @@ pub record IsDone (words : List (String Global)) (left after : Option (List ℕ)
   pub script : Script
   pub read : IsRead left after (Ok script)
   pub built : is_of_form script ≡ true
-  pub is : IsRunOf script run text
+  pub is : IsWholeRunOf script run text
+
+-- there were no words, a script of the form that is built was read, and its run stopped once all turns were taken
+pub record IsStopped (words : List (String Global)) (left after : Option (List ℕ)) (run : Run) (text : List ℕ) : Type 0 where
+  pub none : words ≡ []
+  pub script : Script
+  pub read : IsRead left after (Ok script)
+  pub built : is_of_form script ≡ true
+  pub is : IsStoppedRunOf script run text
 
 -- there were no words, the bytes that were read are no script, nothing was run, and the text says why
 pub record IsRefused (words : List (String Global)) (left after : Option (List ℕ)) (run : Run) (text : List ℕ) : Type 0 where
@@ -106,11 +160,30 @@ pub record IsNotBuilt (words : List (String Global)) (left after : Option (List 
 -- what the work before the writing came to
 abbrev pub IsAttempt : List (String Global) → Option (List ℕ) → Option (List ℕ) → ℕ → ℕ → Attempt → Type 0
 IsAttempt words left after before now (Done run text) = IsDone words left after run text.items
+IsAttempt words left after before now (Stopped run text) = IsStopped words left after run text.items
 IsAttempt words left after before now (Refused text) = IsRefused words left after no_run text.items
 IsAttempt words left after before now ReadFault = (words ≡ []) × Rose before now
 IsAttempt words left after before now TooLarge = (words ≡ []) × IsTooMuch left after
 IsAttempt words left after before now NotBuilt = (words ≡ [] → ⊥) ⊎ IsOther left after
 IsAttempt words left after before now (OutOfMemory run) = IsPartRun left after run
+
+-- its run; nothing was run where there is none
+abbrev pub run_in : Attempt → Run
+run_in (Done run text) = run
+run_in (Stopped run text) = run
+run_in (OutOfMemory run) = run
+run_in _ = no_run
+
+-- it came to an end, or else memory ran out
+abbrev pub is_over : Attempt → Bool
+is_over (OutOfMemory run) = false
+is_over _ = true
+
+-- what became of the journals: no node has more JournalFailed marks than its journal's count has risen, and where the work came to its end each journal
+-- holds the items that the marks of its node stand for, and nothing else
+pub record AreKept (steps : List Step) (over : Bool) (before after : List Shelf) : Type 0 where
+  pub failures : AreFailuresFew steps before after
+  pub held : over ≡ true → AreHeld steps after
 
 -- a text of this kind was written
 pub record IsWritten (IsText : List ℕ → Type 0) (written after : Option (List ℕ)) : Type 0 where
@@ -124,12 +197,12 @@ pub record IsTold (status : ℕ) (run : Run) (text : List ℕ) (written after : 
   pub ended : ((report.status ≡ status) × Appends written after text) ⊎ ((report.status ≡ 5) × (Rose before now × WritesPrefix written after text))
 
 abbrev pub IsStatus : ℕ → Type 0
-IsStatus n = ((((((n ≡ 0) ⊎ (n ≡ 3)) ⊎ (n ≡ 4)) ⊎ (n ≡ 5)) ⊎ (n ≡ 6)) ⊎ (n ≡ 9)) ⊎ (n ≡ 10)
+IsStatus n = (((((((n ≡ 0) ⊎ (n ≡ 3)) ⊎ (n ≡ 4)) ⊎ (n ≡ 5)) ⊎ (n ≡ 6)) ⊎ (n ≡ 7)) ⊎ (n ≡ 9)) ⊎ (n ≡ 10)
 
 -- the text that is due at some end of the work
 abbrev pub IsDue : List (String Global) → Option (List ℕ) → Option (List ℕ) → ℕ → ℕ → Run → List ℕ → Type 0
 IsDue words left after before now run text =
-    (((IsDone words left after run text ⊎ IsRefused words left after run text) ⊎ IsReadFault words before now run text)
+    ((((IsDone words left after run text ⊎ IsStopped words left after run text) ⊎ IsRefused words left after run text) ⊎ IsReadFault words before now run text)
     ⊎ IsTooLarge words left after run text) ⊎ IsNotBuilt words left after run text
 
 -- the sink failed, and a part of the text that was due stands there, from its front

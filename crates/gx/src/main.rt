@@ -2,11 +2,11 @@
 //! tables.
 #![tactic(auto)]
 
+ghost use Rattle.std.specs.Prelude.{◌≡◌, [], All, IfOk, length};
+
 mod attempt;
-mod error;
 mod refused;
-mod report;
-mod tables;
+mod running;
 mod top;
 
 use gx_ids::Mem;
@@ -17,9 +17,12 @@ use std::{env, io};
 use top::run_gx;
 
 // Journals for the coordinator and 16 segments.
-fn journals(alloc: Global) -> Mem<Vec<JournalMem>> {
+fn journals(alloc: Global) -> Mem<Vec<JournalMem>>
+    ensures count { IfOk result (λ journals. length journals.items ≡ 17) }
+    ensures empty { IfOk result (λ journals. All (λ j. j.items ≡ []) journals.items) }
+{
     let mut journals = Vec::new(alloc);
-    for _node in 0..17 {
+    for _node in 0..17usize {
         journals.push(JournalMem::new(alloc, Vec::new(alloc))?)?;
     }
     Ok(journals)
@@ -51,3 +54,5 @@ fn main(rt: HostRuntime) -> ExitCode {
 
 #[cfg(test)]
 mod tests;
+#[cfg(test)]
+mod turns;

@@ -3,8 +3,8 @@ ghost use Rattle.std.specs.Prelude.{◌≡◌, ◌++◌, OnOk, IfOk, Some, codes
 ghost use Rattle.std.specs.Fmt.{decimal};
 ghost use Rattle.gx.specs.Refused as of;
 
-use crate::report::{push_bytes, push_count};
 use gx_ids::{Mem, OutOfMemory};
+use gx_report::{push_bytes, push_count};
 use gx_sql::{Limit, Refusal};
 use std::alloc::Global;
 

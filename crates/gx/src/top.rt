@@ -1,6 +1,8 @@
 // The top call.
-ghost use Rattle.std.specs.Prelude.{◌≡◌};
-ghost use Rattle.gx.specs.Top.{IsCutShort, IsDone, IsDue, IsNotBuilt, IsPartRun, IsReadFault, IsRefused, IsStatus, IsTold, IsTooLarge, IsWritten};
+ghost use Rattle.std.specs.Prelude.{◌≡◌, ◌≢◌, [], All, length, map};
+ghost use Rattle.gx_drive.specs.Ordered.{AreFailuresFew, AreHeld};
+ghost use Rattle.gx_network.specs.Worlds.{shelf};
+ghost use Rattle.gx.specs.Top.{IsCutShort, IsDone, IsDue, IsNotBuilt, IsPartRun, IsReadFault, IsRefused, IsStatus, IsStopped, IsTold, IsTooLarge, IsWritten};
 
 use crate::attempt::{Attempt, make_attempt};
 use gx_outside::{Failed, Gate, Journal, Sink, Source, write_whole};
@@ -8,7 +10,7 @@ use gx_store::Run;
 use std::alloc::Global;
 
 /// What a call did: its status, and the run that it made. 0 is done, 3 a refused script, 4 a read fault, 5 a write fault, 6
-/// want of memory, 9 too many bytes, and 10 a form that isn't built yet.
+/// want of memory, 7 a run that took all its turns, 9 too many bytes, and 10 a form that isn't built yet.
 #[derive(Debug, Drop)]
 pub struct Report {
     pub status: u8,
@@ -26,19 +28,22 @@ fn told<K: Sink>(status: u8, run: Run, text: &[u8], sink: &mut K) -> Report
 }
 
 /// Reads a script from the source, runs it, and writes the text of its run to the sink, which is built whole before the
-/// first write. The words are those of the command line behind the program's name. Journals and gate aren't used yet.
+/// first write. The words are those of the command line behind the program's name. The journals are those of the coordinator and of 16
+/// segments, by their numbers, and hold nothing. The gate is entered by each slice.
 pub fn run_gx<S: Source, K: Sink, J: Journal, G: Gate>(
     alloc: Global,
     words: &[String],
     source: &mut S,
     sink: &mut K,
     journals: &mut Vec<J>,
-    _gate: &G,
+    gate: &G,
 ) -> Report
+    requires journals { length journals.old.items ≡ 17 }
+    requires empty { All (λ j. J.items j ≡ []) journals.old.items }
     ensures known { IsStatus result.status }
 
     // The source was read to its end and its bytes are a script of the form that is built; the run is a legal history of one store in which each line
-    // of it has its answer; and the text of that run and of the tables at its end was written.
+    // of it has its answer, made by the system of nodes in the order of the schedule; and the text of that run and of the tables at its end was written.
     ensures done { result.status ≡ 0 → IsWritten (IsDone words.now (S.left source.old) (S.left source.new) result.run) (K.written sink.old) (K.written sink.new) }
 
     // The bytes are no script, and the text says why.
@@ -53,13 +58,22 @@ pub fn run_gx<S: Source, K: Sink, J: Journal, G: Gate>(
     // Nothing was written, and what was run is a part of a legal history of the script.
     ensures memory { result.status ≡ 6 → (K.written sink.new ≡ K.written sink.old) × IsPartRun (S.left source.old) (S.left source.new) result.run }
 
+    // The run has as many steps as turns and a session is unfinished; the text of the answers so far was written, and that it stopped.
+    ensures stopped { result.status ≡ 7 → IsWritten (IsStopped words.now (S.left source.old) (S.left source.new) result.run) (K.written sink.old) (K.written sink.new) }
+
     ensures too_large { result.status ≡ 9 → IsWritten (IsTooLarge words.now (S.left source.old) (S.left source.new) result.run) (K.written sink.old) (K.written sink.new) }
 
     ensures not_built { result.status ≡ 10 → IsWritten (IsNotBuilt words.now (S.left source.old) (S.left source.new) result.run) (K.written sink.old) (K.written sink.new) }
-    ensures journals { journals.new.items ≡ journals.old.items }
+
+    // Each journal holds the items that the marks of its node stand for, and nothing else.
+    ensures held { result.status ≢ 6 → AreHeld result.run.steps (map (λ j. shelf (J.items j) (J.fault_count j)) journals.new.items) }
+
+    // No node has more JournalFailed marks than its journal's count has risen.
+    ensures failures { AreFailuresFew result.run.steps (map (λ j. shelf (J.items j) (J.fault_count j)) journals.old.items) (map (λ j. shelf (J.items j) (J.fault_count j)) journals.new.items) }
 {
-    match make_attempt(alloc, words, source) {
+    match make_attempt(alloc, words, source, journals, gate) {
         Attempt::Done(run, text) => told(0, run, text.as_slice(), sink),
+        Attempt::Stopped(run, text) => told(7, run, text.as_slice(), sink),
         Attempt::Refused(text) => told(3, Run::new(alloc), text.as_slice(), sink),
         Attempt::ReadFault => told(4, Run::new(alloc), b"read fault\n", sink),
         Attempt::TooLarge => told(9, Run::new(alloc), b"too large\n", sink),

@@ -1,5 +1,4 @@
--- Which scripts are of the form that is run for now: no faults of links, the detector on, and lines that open or close a
--- block, INSERTs and queries of rows.
+-- Which scripts are of the form that is run for now: those whose lines open or close a block, or are INSERTs or queries of rows.
 use Rattle.std.specs.Prelude.{◌^◌, nat_lt, Bool, true, false, ◌&&◌, not, is_none, List, [], ◌∷◌, length}
 use Rattle.std.specs.List.{list_all}
 use Rattle.gx_tree.specs.declared.query.Query.{Query}
@@ -29,4 +28,4 @@ abbrev pub is_line_of_form : Line → Bool
 is_line_of_form line = is_stmt_of_form line.stmt
 
 abbrev pub is_of_form : Script → Bool
-is_of_form script = script.detector && has_none script.faults && list_all is_line_of_form script.lines
+is_of_form script = list_all is_line_of_form script.lines

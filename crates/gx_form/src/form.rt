@@ -42,10 +42,9 @@ fn are_of_form(lines: &[Line]) -> bool
     lines.iter().all(|line| is_stmt_of_form(&line.stmt))
 }
 
-/// Whether the script is of the form that is run for now: the detector on and no faults of links, and lines that are BEGIN,
-/// COMMIT, ROLLBACK, INSERTs, or SELECTs without aggregate, GROUP BY, ORDER BY and LIMIT.
+/// Whether the script is of the form that is run for now: lines that are BEGIN, COMMIT, ROLLBACK, INSERTs, or SELECTs without aggregate, GROUP BY, ORDER BY and LIMIT.
 pub fn is_of_form(script: &Script) -> bool
     ensures { result ≡ of.is_of_form script.now }
 {
-    script.detector && has_none(script.faults.as_slice()) && are_of_form(script.lines.as_slice())
+    are_of_form(script.lines.as_slice())
 }

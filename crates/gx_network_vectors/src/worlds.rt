@@ -209,16 +209,35 @@ fn world(alloc: Global) -> Mem<World> {
     }
 }
 
-#[test]
-fn a_reader_between_two_local_commits(rt: HostRuntime) -> Result<(), Fail> {
-    let alloc = rt.alloc();
+// How many events happened and tables there are, and what was answered.
+#[derive(Drop)]
+struct Told {
+    events: usize,
+    tables: usize,
+    answers: Vec<usize>,
+}
+
+fn run(alloc: Global) -> Mem<Told> {
     let mut world = world(alloc)?;
     let mut journals = journals(alloc)?;
-    let count = drive(&mut world, journals.as_mut_slice(), &BETWEEN)?;
-    assert_eq!(rt; count, 27);
-    let told = answers(alloc, &world)?;
-    assert_eq!(rt; told.as_slice(), [0usize, 100, 2].as_slice());
+    let events = drive(&mut world, journals.as_mut_slice(), &BETWEEN)?;
+    Ok(Told {
+        events,
+        tables: table_count(&world)?,
+        answers: answers(alloc, &world)?,
+    })
+}
+
+fn table_count(world: &World) -> Mem<usize> {
     let tables = world.final_tables()?;
-    assert_eq!(rt; tables.len(), 1);
+    Ok(tables.len())
+}
+
+#[test]
+fn a_reader_between_two_local_commits(rt: HostRuntime) -> Result<(), Fail> {
+    let told = run(rt.alloc())?;
+    assert_eq!(rt; told.events, 27);
+    assert_eq!(rt; told.answers.as_slice(), [0usize, 100, 2].as_slice());
+    assert_eq!(rt; told.tables, 1);
     Ok(())
 }

@@ -1,0 +1,41 @@
+-- What became of the journals.
+use Rattle.std.proofs.Common.{◌≡◌, ℕ, List, [], ◌++◌, Bool, true, refl, sym, ap, ◌∙◌, subst, take, length}
+use Rattle.std.proofs.Math.Seq.{take-append_seam}
+use Rattle.std.specs.Prelude.{All, map}
+use Rattle.gx_store.specs.declared.run.Step.{Step}
+use Rattle.gx_network.specs.Worlds.{Shelf, shelf}
+use Rattle.gx_drive.specs.Ordered.{AreFailuresFew, AreHeld}
+use Rattle.gx_drive.proofs.Journals.{none-failed, none-held}
+use Rattle.gx_sql.specs.declared.refusal.Refusal.{Refusal}
+use Rattle.gx_store.specs.declared.run.Run.{Run}
+use Rattle.gx.specs.declared.attempt.Attempt.{Attempt}
+use Rattle.gx.specs.declared.attempt.Attempt.TheVariants.{Done, Stopped, Refused, ReadFault, TooLarge, NotBuilt, OutOfMemory}
+use Rattle.gx.specs.Top.{AreKept, IsRefusedFor, no_run, run_in}
+
+-- nothing was run
+pub none-kept : {A : Type 0} (items : A → List (List ℕ)) (faults : A → ℕ) (js : List A) (over : Bool) → All (λ j. items j ≡ []) js → AreKept [] over (map (λ j. shelf (items j) (faults j)) js) (map (λ j. shelf (items j) (faults j)) js)
+none-kept items faults js over empty = record { failures = none-failed (map (λ j. shelf (items j) (faults j)) js); held = λ _. none-held items faults js empty }
+
+refused-run : (refusal : Refusal) (a : Attempt) → IsRefusedFor refusal a → run_in a ≡ no_run
+refused-run refusal (Refused text) is = refl
+refused-run refusal (OutOfMemory run) is = is
+refused-run refusal (Done run text) is = absurd is
+refused-run refusal (Stopped run text) is = absurd is
+refused-run refusal ReadFault is = absurd is
+refused-run refusal TooLarge is = absurd is
+refused-run refusal NotBuilt is = absurd is
+
+pub refused-kept : {A : Type 0} (items : A → List (List ℕ)) (faults : A → ℕ) (js : List A) (refusal : Refusal) (a : Attempt) (over : Bool) → IsRefusedFor refusal a → All (λ j. items j ≡ []) js
+    → AreKept (run_in a).steps over (map (λ j. shelf (items j) (faults j)) js) (map (λ j. shelf (items j) (faults j)) js)
+refused-kept items faults js refusal a over is empty =
+    subst (λ (r : Run). AreKept r.steps over (map (λ j. shelf (items j) (faults j)) js) (map (λ j. shelf (items j) (faults j)) js)) (sym (refused-run refusal a is)) (none-kept items faults js over empty)
+
+-- journals that were lent to the driver, and have come back
+pub kept-back : {A : Type 0} (f : A → Shelf) (old lent new rest : List A) (n : ℕ) (steps : List Step) (run : Run) (over : Bool) → lent ≡ old → n ≡ length new → run.steps ≡ steps → AreFailuresFew steps (map f lent) (map f new) → (over ≡ true → AreHeld steps (map f new))
+    → AreKept run.steps over (map f old) (map f (take n (new ++ rest)))
+kept-back f old lent new rest n steps run over same long is few held =
+    subst (λ js. AreKept run.steps over (map f old) (map f js)) (sym back)
+    (subst (λ ss. AreKept ss over (map f old) (map f new)) (sym is) (record { failures = subst (λ js. AreFailuresFew steps (map f js) (map f new)) same few; held = held }))
+  where
+    back : take n (new ++ rest) ≡ new
+    back = ap (λ k. take k (new ++ rest)) long ∙ take-append_seam new rest

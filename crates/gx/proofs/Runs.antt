@@ -1,0 +1,57 @@
+-- A run that is reached by the schedule is one of the script.
+use Rattle.std.proofs.Common.{◌≡◌, ◌<◌, ℕ, List, [], ◌∷◌, false, subst, sym, length}
+use Rattle.std.proofs.lemmas.List.Elements.{All-from_recursion, recursion_from_All}
+use Rattle.std.specs.List.{AllByRecursion}
+use Rattle.gx_script.specs.declared.Script.{Script}
+use Rattle.gx_script.specs.declared.Line.{Line}
+use Rattle.gx_sql.specs.Language.{IsLine, IsScript}
+use Rattle.gx_tree.specs.declared.schema.Schema.{Schema}
+use Rattle.gx_store.specs.declared.run.Run.{Run}
+use Rattle.gx_store.specs.declared.run.Step.{Step}
+use Rattle.gx_store.specs.Ordered.{AreOrdered}
+use Rattle.gx_store.specs.Protocol.{DoStepsFollow}
+use Rattle.gx_store.specs.Runs.{IsLegalHistory}
+use Rattle.gx_rules.specs.System.{IsSystemRun}
+use Rattle.gx_laws.proofs.Follows.{world_follows}
+use Rattle.gx_laws.proofs.Ordered.{world_well}
+use Rattle.gx_protocol.proofs.Whole.{world-follows}
+use Rattle.gx_answers.specs.Whole.{AreInsertsWhole}
+use Rattle.gx_answers.proofs.Join.{legal}
+use Rattle.gx_answers.proofs.Snaps.{snapshots-one}
+use Rattle.gx_answers.proofs.Whole.{filled, keyed}
+use Rattle.gx_scripts.proofs.Numbers.{lines_numbered}
+use Rattle.gx_replays.specs.Reached.{IsReached}
+use Rattle.gx_replays.proofs.Reaching.{by-events}
+use Rattle.gx_endings.specs.Endings.{IsFinished, is_any_unfinished}
+use Rattle.gx_endings.proofs.Finishing.{whole}
+use Rattle.gx_network.specs.Worlds.{WorldState}
+use Rattle.gx_drive.specs.Ordered.{AreFirst}
+use Rattle.gx.specs.Top.{IsRunOf}
+
+pub run-of : (script : Script) (run : Run) → IsScript script → AreInsertsWhole script.tables script.lines → IsReached script run.steps → AreFirst script [] run.steps → IsRunOf script run
+run-of script run language inserts is driven =
+    record {
+      legal = by-events script run.steps is (λ ss. IsLegalHistory script (record { steps = ss }))
+          (legal script language.some_segments (lines_numbered [] script.lines language.numbers) (keyed script inserts) (snapshots-one script language.some_segments) (filled script inserts));
+      ordered = by-events script run.steps is (AreOrdered script []) (λ es. (world_well script language.some_segments es).steps);
+      system = by-events script run.steps is (λ ss. IsSystemRun script (record { steps = ss })) (world_follows script language.some_segments);
+      protocol = by-events script run.steps is (DoStepsFollow script []) (world-follows script language.some_segments);
+      driven = driven;
+    }
+
+-- so is the run of a world that has the script
+pub run-in : (script : Script) (world : WorldState) (run : Run) → world.script ≡ script → run ≡ world.run → IsScript script → AreInsertsWhole script.tables script.lines → IsReached world.script world.run.steps → AreFirst script [] world.run.steps → IsRunOf script run
+run-in script world run of is language inserts reached driven =
+    run-of script run language inserts (subst (λ (r : Run). IsReached script r.steps) (sym is) (subst (λ (s : Script). IsReached s world.run.steps) of reached)) (subst (λ (r : Run). AreFirst script [] r.steps) (sym is) driven)
+
+sessions-there : (tables : List Schema) (n : ℕ) (ls : List Line) → AllByRecursion (IsLine tables n) ls → AllByRecursion (λ line. line.session.0 < n) ls
+sessions-there tables n [] all = tt
+sessions-there tables n (l ∷ ls) all = (all.0.0, sessions-there tables n ls all.1)
+
+-- a run in which no session is unfinished is whole
+pub finished : (script : Script) (steps : List Step) → IsScript script → IsReached script steps → is_any_unfinished script steps ≡ false → IsFinished script (record { steps = steps })
+finished script steps language is over =
+    by-events script steps is (λ ss. is_any_unfinished script ss ≡ false → IsFinished script (record { steps = ss }))
+    (whole script language.some_segments (lines_numbered [] script.lines language.numbers)
+    (All-from_recursion (λ line. line.session.0 < length script.sessions) script.lines
+    (sessions-there script.tables (length script.sessions) script.lines (recursion_from_All (IsLine script.tables (length script.sessions)) script.lines language.lines)))) over

@@ -1,0 +1,18 @@
+use Rattle.std.proofs.Common.{◌≡◌, ◌∙◌, ap, inr, refl, sym, true, length}
+use Rattle.gx_store.specs.declared.run.Run.{Run}
+use Rattle.gx_endings.specs.Endings.{is_any_unfinished}
+use Rattle.gx_report.specs.Text.{stopped_text}
+use Rattle.gx.proofs.Runs.{run-in}
+use Rattle.gx.proofs.running.stopped.Goals as goal
+
+pub returns-in-Ok-clause-ran : goal.returns-in-Ok-clause-ran
+returns-in-Ok-clause-ran c = record {
+  is = run-in c.args.world.script c.args.world c.into_run.result refl c.into_run.ensures.value c.requires.language c.requires.inserts c.into_run.ensures.reached c.requires.driven;
+  all = ap (λ (r : Run). length r.steps) c.into_run.ensures.value ∙ c.requires.all;
+  unfinished = ap (λ (r : Run). is_any_unfinished c.args.world.script r.steps) c.into_run.ensures.value ∙ c.requires.unfinished;
+  told = c.in-Ok.ensures ∙ ap (stopped_text c.args.world.script) (sym c.into_run.ensures.value);
+}
+
+pub returns-in-Err-clause-ran : goal.returns-in-Err-clause-ran
+returns-in-Err-clause-ran c =
+    inr (run-in c.args.world.script c.args.world c.into_run-in-Err.result refl c.into_run-in-Err.ensures.value c.requires.language c.requires.inserts c.into_run-in-Err.ensures.reached c.requires.driven)

@@ -1,0 +1,110 @@
+// Running a script that was read, and telling its run.
+ghost use Rattle.std.specs.Prelude.{◌≡◌, [], true, false, All, IfOk, length, map};
+ghost use Rattle.gx_answers.specs.Whole.{AreInsertsWhole};
+ghost use Rattle.gx_drive.specs.Ordered.{AreFirst, IsEnd};
+ghost use Rattle.gx_endings.specs.Endings.{is_any_unfinished};
+ghost use Rattle.gx_network.specs.Worlds.{shelf};
+ghost use Rattle.gx_sql.specs.Language.{IsScript};
+ghost use Rattle.gx_report.specs.Text.{stopped_text as of_stopped};
+ghost use Rattle.gx.specs.Top.{AreKept, IsRan, IsWholeRunOf, is_over, run_in, turns};
+
+use crate::attempt::Attempt;
+use gx_drive::{End, run_ordered};
+use gx_ids::Mem;
+use gx_network::World;
+use gx_outside::{Gate, Journal};
+use gx_report::{text, text_of_stopped};
+use gx_script::Script;
+use gx_store::Run;
+use std::alloc::Global;
+
+// How many turns the driver takes at most.
+const TURNS: u64 = 1_000_000;
+
+/// Runs a script by the ordered schedule, and tells its run.
+pub fn run_script<J: Journal, G: Gate>(
+    alloc: Global,
+    script: Script,
+    journals: &mut Vec<J>,
+    gate: &G,
+) -> Attempt
+    requires language { IsScript script }
+    requires inserts { AreInsertsWhole script.tables script.lines }
+    requires journals { length journals.old.items ≡ 17 }
+    requires empty { All (λ j. J.items j ≡ []) journals.old.items }
+    ensures ran { IsRan script result }
+    ensures kept { AreKept (run_in result).steps (is_over result) (map (λ j. shelf (J.items j) (J.fault_count j)) journals.old.items) (map (λ j. shelf (J.items j) (J.fault_count j)) journals.new.items) }
+{
+    let mut world = match World::new(alloc, script) {
+        Ok(world) => world,
+        Err(_) => return Attempt::OutOfMemory(Run::new(alloc)),
+    };
+    match run_ordered(alloc, &mut world, journals, gate, TURNS) {
+        Ok(end) => ended(alloc, world, end),
+        Err(_) => Attempt::OutOfMemory(world.into_run()),
+    }
+}
+
+// What a run that came to an end is told as.
+fn ended(alloc: Global, world: World, end: End) -> Attempt
+    requires usable { world.spent ≡ false }
+    requires language { IsScript world.script }
+    requires inserts { AreInsertsWhole world.script.tables world.script.lines }
+    requires driven { AreFirst world.script [] world.run.steps }
+    requires ended { IsEnd world.script world.run.steps turns end }
+    ensures ran { IsRan world.script result }
+    ensures run { run_in result ≡ world.run }
+{
+    match end {
+        End::Done => finished(alloc, world),
+        End::Turns => stopped(alloc, world),
+    }
+}
+
+fn finished(alloc: Global, world: World) -> Attempt
+    requires usable { world.spent ≡ false }
+    requires language { IsScript world.script }
+    requires inserts { AreInsertsWhole world.script.tables world.script.lines }
+    requires driven { AreFirst world.script [] world.run.steps }
+    requires over { is_any_unfinished world.script world.run.steps ≡ false }
+    ensures ran { IsRan world.script result }
+    ensures run { run_in result ≡ world.run }
+{
+    match finished_text(alloc, &world) {
+        Ok(text) => Attempt::Done(world.into_run(), text),
+        Err(_) => Attempt::OutOfMemory(world.into_run()),
+    }
+}
+
+fn finished_text(alloc: Global, world: &World) -> Mem<Vec<u8>>
+    requires usable { world.now.spent ≡ false }
+    requires language { IsScript world.now.script }
+    requires inserts { AreInsertsWhole world.now.script.tables world.now.script.lines }
+    requires driven { AreFirst world.now.script [] world.now.run.steps }
+    requires over { is_any_unfinished world.now.script world.now.run.steps ≡ false }
+    ensures { IfOk result (λ text. IsWholeRunOf world.now.script world.now.run text.items) }
+{
+    let tables = world.final_tables()?;
+    text(alloc, world.script(), world.run(), tables.as_slice())
+}
+
+fn stopped(alloc: Global, world: World) -> Attempt
+    requires language { IsScript world.script }
+    requires inserts { AreInsertsWhole world.script.tables world.script.lines }
+    requires driven { AreFirst world.script [] world.run.steps }
+    requires all { length world.run.steps ≡ turns }
+    requires unfinished { is_any_unfinished world.script world.run.steps ≡ true }
+    ensures ran { IsRan world.script result }
+    ensures run { run_in result ≡ world.run }
+{
+    match stopped_text(alloc, &world) {
+        Ok(text) => Attempt::Stopped(world.into_run(), text),
+        Err(_) => Attempt::OutOfMemory(world.into_run()),
+    }
+}
+
+fn stopped_text(alloc: Global, world: &World) -> Mem<Vec<u8>>
+    ensures { IfOk result (λ text. text.items ≡ of_stopped world.now.script world.now.run) }
+{
+    text_of_stopped(alloc, world.script(), world.run())
+}

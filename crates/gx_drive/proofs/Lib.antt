@@ -1,0 +1,11 @@
+pub mod Firsts
+pub mod Enabled
+pub mod Asked
+pub mod Held
+pub mod Turning
+pub mod Driving
+pub mod Journals
+pub mod Unfinished
+pub mod Noting
+pub mod Answers
+pub mod Dues

@@ -1,0 +1,104 @@
+-- A turn that was done.
+use Rattle.std.proofs.Common.{◌≡◌, ◌≤◌, ◌<◌, ◌⊎◌, inl, inr, ℕ, zero, suc, ◌+◌, ◌-◌, ◌^◌, List, [], ◌∷◌, ◌++◌, Option, Some, None, Bool, true, false, if◌then◌else◌, ◌&&◌, refl, sym, ap, ◌∙◌, subst, arith, length, append-nil}
+use Rattle.std.proofs.lemmas.Bool.Decides.{nat_tests}
+use Rattle.std.proofs.lemmas.List.{append_assoc}
+use Rattle.std.specs.Prelude.{map, min, slice_get}
+use Rattle.gx_ids.specs.declared.ids.Node.{Node}
+use Rattle.gx_msg.specs.ItemBytes.{bytes_of_item}
+use Rattle.gx_msg.specs.declared.item.JournalItem.{JournalItem}
+use Rattle.gx_outside.specs.Causes.{Rose}
+use Rattle.gx_script.specs.declared.Script.{Script}
+use Rattle.gx_store.specs.declared.event.Event.{Event}
+use Rattle.gx_store.specs.declared.mark.Mark.{Mark}
+use Rattle.gx_store.specs.declared.mark.Mark.TheVariants.{JournalFailed}
+use Rattle.gx_store.specs.declared.run.Step.{Step}
+use Rattle.gx_store.specs.Journals.{is_same_node, items_of}
+use Rattle.gx_store.specs.Points.{marks_in}
+use Rattle.gx_rules.specs.Machine.{happens, node_of}
+use Rattle.gx_laws.specs.Journals.{takes}
+use Rattle.gx_network.specs.Worlds.{AreLater, HasStepped, Shelf}
+use Rattle.gx_replays.specs.Reached.{IsReached}
+use Rattle.gx_replays.specs.Replays.{world_behind}
+use Rattle.gx_replays.proofs.Reaching.{event-reached}
+use Rattle.gx_laws.proofs.World.{marks-last}
+use Rattle.gx_failures.specs.Failures.{failures_in}
+use Rattle.gx_failures.proofs.Steps.{behind-few}
+use Rattle.gx_drive.specs.Agrees.{IsNextStep}
+use Rattle.gx_drive.specs.Ordered.{AreFailuresFew, AreFirst, AreHeld, IsFirst}
+use Rattle.gx_drive.proofs.Held.{items-after}
+
+-- one step more is the first of what is enabled
+pub first-more : (script : Script) (before ss : List Step) (s : Step) → AreFirst script before ss → IsFirst script (before ++ ss) s.event → AreFirst script before (ss ++ s ∷ [])
+first-more script before [] s all first = (subst (λ xs. IsFirst script xs s.event) (append-nil before) first, tt)
+first-more script before (x ∷ ss) s all first = (all.0, first-more script (before ++ x ∷ []) ss s all.1 (subst (λ xs. IsFirst script xs s.event) (sym (append_assoc before (x ∷ []) ss)) first))
+
+same-some : {A : Type 0} (a b : A) → Some a ≡ Some b → a ≡ b
+same-some a b e = cc
+
+-- a place of a list is one of another list of the same length
+there-too : (xs ys : List Shelf) (k : ℕ) (y : Shelf) → length xs ≡ length ys → slice_get ys k ≡ Some y → (x : Shelf) × (slice_get xs k ≡ Some x)
+there-too [] [] k y e h = absurd (cc)
+there-too [] (z ∷ ys) k y e h = absurd (omega (arith, e))
+there-too (x ∷ xs) [] k y e h = absurd (cc)
+there-too (x ∷ xs) (z ∷ ys) zero y e h = (x, refl)
+there-too (x ∷ xs) (z ∷ ys) (suc k) y e h = there-too xs ys k y (omega (arith, e)) h
+
+failures-append : (node : Node) (xs ys : List Mark) → failures_in node (xs ++ ys) ≡ failures_in node xs + failures_in node ys
+failures-append node [] ys = omega arith
+failures-append node (JournalFailed at g ∷ xs) ys = by (is_same_node at node) (failures-append node xs ys)
+  where
+    by : (b : Bool) → failures_in node (xs ++ ys) ≡ failures_in node xs + failures_in node ys → (if b then failures_in node (xs ++ ys) + 1 else failures_in node (xs ++ ys)) ≡ (if b then failures_in node xs + 1 else failures_in node xs) + failures_in node ys
+    by true e = omega (arith, e)
+    by false e = e
+failures-append node (x ∷ xs) ys = failures-append node xs ys
+
+module _ (script : Script) (some : 1 ≤ script.segments) (old new : List Step) (is : IsReached script old) (event : Event) (before after : List Shelf) (h : HasStepped script old new event before after) where
+  pub stepped-reached : IsReached script new
+  stepped-reached = subst (IsReached script) (sym h.by_rule) (event-reached script old is event h.fails)
+
+  pub stepped-next : IsFirst script old event → IsNextStep script old new
+  stepped-next first = record { step = h.step; is = h.is; first = subst (IsFirst script old) (sym h.of) first }
+
+  pub stepped-held : AreHeld old before → AreHeld new after
+  stepped-held held node a there =
+      let was = there-too before after node.0 a (sym h.count) there in
+      (h.journals node was.0 a was.1 there).items
+      ∙ ap (λ xs. xs ++ map bytes_of_item (takes script (world_behind script old) event h.fails node)) (held node was.0 was.1)
+      ∙ sym (map-append (items_of node (marks_in old)) (takes script (world_behind script old) event h.fails node))
+      ∙ ap (map bytes_of_item) (sym (items-after script some old is event h.fails node) ∙ ap (λ ss. items_of node (marks_in ss)) (sym h.by_rule))
+    where
+      map-append : (xs ys : List JournalItem) → map bytes_of_item (xs ++ ys) ≡ map bytes_of_item xs ++ map bytes_of_item ys
+      map-append [] ys = refl
+      map-append (x ∷ xs) ys = ap (λ zs. bytes_of_item x ∷ zs) (map-append xs ys)
+
+  -- no more failures are told than counts rose
+  pub stepped-few : AreLater before after → (start : List Shelf) → AreFailuresFew old start before → AreFailuresFew new start after
+  stepped-few later start few node b a was now =
+      subst (λ (n : ℕ). min (n + b.faults) (2 ^ 64 - 1) ≤ a.faults) (sym counted)
+      (by (is_same_node (node_of event) node) h.fails refl refl (behind-few script old event h.fails h.step node some is (sym h.by_rule ∙ h.is)))
+    where
+      mid : (x : Shelf) × (slice_get before node.0 ≡ Some x)
+      mid = there-too before after node.0 a (sym h.count) now
+
+      counted : failures_in node (marks_in new) ≡ failures_in node (marks_in old) + failures_in node h.step.marks
+      counted = ap (λ ss. failures_in node (marks_in ss)) h.is ∙ ap (failures_in node) (marks-last old h.step) ∙ failures-append node (marks_in old) h.step.marks
+
+      one : (f c m n s : ℕ) → min (f + c) (2 ^ 64 - 1) ≤ m → min (m + 1) (2 ^ 64 - 1) ≤ n → s ≤ 1 → min (f + s + c) (2 ^ 64 - 1) ≤ n
+      one f c m n s h k l = omega (arith, h, k, l)
+
+      none : (f c m n s : ℕ) → min (f + c) (2 ^ 64 - 1) ≤ m → m ≤ n → s ≤ 0 → min (f + s + c) (2 ^ 64 - 1) ≤ n
+      none f c m n s h k l = omega (arith, h, k, l)
+
+      by : (x y : Bool) → is_same_node (node_of event) node ≡ x → h.fails ≡ y → failures_in node h.step.marks ≤ (if x && y then 1 else 0) → min (failures_in node (marks_in old) + failures_in node h.step.marks + b.faults) (2 ^ 64 - 1) ≤ a.faults
+      by true true same fails bound = one _ b.faults mid.0.faults a.faults _ (few node b mid.0 was mid.1) ((h.journals node mid.0 a mid.1 now).caused same fails) bound
+      by true false same fails bound = none _ b.faults mid.0.faults a.faults _ (few node b mid.0 was mid.1) (later.each node.0 mid.0 a mid.1 now) bound
+      by false y same fails bound = none _ b.faults mid.0.faults a.faults _ (few node b mid.0 was mid.1) (later.each node.0 mid.0 a mid.1 now) bound
+
+-- a turn in which nothing was done
+pub still-few : (steps : List Step) (before after : List Shelf) → AreLater before after → (start : List Shelf) → AreFailuresFew steps start before → AreFailuresFew steps start after
+still-few steps before after later start few node b a was now =
+    let mid = there-too before after node.0 a (sym later.count) now in
+    below (few node b mid.0 was mid.1) (later.each node.0 mid.0 a mid.1 now)
+  where
+    below : {x y z : ℕ} → x ≤ y → y ≤ z → x ≤ z
+    below h k = omega (arith, h, k)

@@ -1,0 +1,20 @@
+use Rattle.std.proofs.Common.{◌∷◌, ◌++◌, [], ap, ◌∙◌, length, ◌-◌, subst, sym}
+use Rattle.std.specs.Prelude.{slice_get}
+use Rattle.gx_queue.specs.Queued.{AreCounted}
+use Rattle.gx_store.specs.declared.run.Run.{Run}
+use Rattle.gx_drive.specs.Agrees.{IsAgreed}
+use Rattle.gx_drive.proofs.Answers.{on_ok}
+use Rattle.gx_drive.proofs.Noting.{counted, last-all, last-due, last-is, last-told}
+use Rattle.gx_drive.proofs.turn.note.Goals as goal
+
+pub returns-in-Some : goal.returns-in-Some
+returns-in-Some c =
+    on_ok c.note.result _ _ c.note.ensures
+    (λ noted steps step same agreed due admitted reached.
+    let script = c.args.world.now.script in
+    let some = c.requires.language.some_segments in
+    let is = last-is c.args.world.now.run.steps steps step c.in-Some.step.now same (c.in-Some.ensures.value ∙ ap (λ ss. slice_get ss (length ss - 1)) (c.as_slice.ensures ∙ ap (λ (r : Run). r.steps) c.run.ensures.value)) in
+    let whole = last-all script some c.args.world.now.run.steps steps step c.in-Some.step.now same is in
+    subst (λ ss. IsAgreed script ss c.note.new.self) whole
+    (noted script steps agreed (last-due script some c.args.world.now.run.steps steps step c.in-Some.step.now same is due) (subst AreCounted (sym whole) (counted script some c.args.world.now.run.steps c.requires.reached c.requires.room))
+    (c.told.ensures ∙ last-told script some c.args.world.now.run.steps steps step c.in-Some.step.now same is reached admitted)))

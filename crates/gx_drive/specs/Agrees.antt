@@ -1,0 +1,64 @@
+-- What the driver keeps, against the steps of a run, and what a turn does.
+use Rattle.std.specs.Prelude.{◌≡◌, ◌⊎◌, ℕ, ◌+◌, ◌∷◌, ◌++◌, [], false, List, length}
+use Rattle.std.specs.List.{flat_map}
+use Rattle.gx_script.specs.declared.Script.{Script}
+use Rattle.gx_store.specs.declared.event.Event.{Event}
+use Rattle.gx_store.specs.declared.event.Event.TheVariants.{Receive}
+use Rattle.gx_store.specs.declared.run.Step.{Step}
+use Rattle.gx_store.specs.Ordered.{IsLink}
+use Rattle.gx_store.specs.Refusals.{the_coordinator}
+use Rattle.gx_store.specs.Schedule.{first_of, left_on, segments_of}
+use Rattle.gx_asked.specs.Awaited.{AreAsked}
+use Rattle.gx_cursors.specs.Agrees.{Agree}
+use Rattle.gx_network.specs.Worlds.{Shelf, WorldState}
+use Rattle.gx_queue.specs.Queued.{AreQueued}
+use Rattle.gx_replays.specs.Reached.{IsReached}
+use Rattle.gx_drive.specs.Ordered.{AreFailuresFew, AreFirst, AreHeld, IsFirst}
+use Rattle.gx_drive.specs.declared.agenda.Agenda.{Agenda}
+
+-- links, lines and awaited answers are where the steps have led
+pub record IsAgreed (script : Script) (steps : List Step) (agenda : Agenda) : Type 0 where
+  pub cursors : Agree script steps agenda.cursors
+  pub queue : AreQueued script steps agenda.queue
+  pub asked : AreAsked steps agenda.asked
+
+-- a receipt is the next delivery of its link
+abbrev pub IsDue : Script → List Step → Event → Type 0
+IsDue script steps (Receive from to number) = IsLink script from to × (first_of (left_on script steps from to) ≡ Receive from to number ∷ [])
+IsDue script steps _ = Unit {0}
+
+-- the next delivery of each link: those to the coordinator first
+abbrev pub deliveries_of : Script → List Step → List Event
+deliveries_of script steps =
+    flat_map (λ segment. first_of (left_on script steps segment the_coordinator)) (segments_of script)
+    ++ flat_map (λ segment. first_of (left_on script steps the_coordinator segment)) (segments_of script)
+
+-- nothing was done, or what was first
+pub record IsNextStep (script : Script) (old new : List Step) : Type 0 where
+  pub step : Step
+  pub is : new ≡ old ++ step ∷ []
+  pub first : IsFirst script old step.event
+
+abbrev pub IsNoMore : Script → List Step → List Step → Type 0
+IsNoMore script old new = (new ≡ old) ⊎ IsNextStep script old new
+
+-- a turn was done: the world can go on, the run has a step more, and the journals hold what they held besides
+pub record HasTurned (old new : WorldState) (agenda : Agenda) (before after : List Shelf) : Type 0 where
+  pub unspent : new.spent ≡ false
+  pub reached : IsReached new.script new.run.steps
+  pub count : length new.run.steps ≡ length old.run.steps + 1
+  pub agreed : IsAgreed new.script new.run.steps agenda
+  pub journals : length after ≡ length before
+  pub held : AreHeld old.run.steps before → AreHeld new.run.steps after
+
+-- so many turns were done in a world that was new, with these journals before and now
+pub record IsUnderWay (script : Script) (turns : ℕ) (world : WorldState) (agenda : Agenda) (start now : List Shelf) : Type 0 where
+  pub same : world.script ≡ script
+  pub usable : world.spent ≡ false
+  pub reached : IsReached script world.run.steps
+  pub count : length world.run.steps ≡ turns
+  pub agreed : IsAgreed script world.run.steps agenda
+  pub first : AreFirst script [] world.run.steps
+  pub journals : length now ≡ 17
+  pub held : AreHeld world.run.steps now
+  pub few : AreFailuresFew world.run.steps start now

@@ -1,0 +1,39 @@
+-- The run of the ordered driver.
+use Rattle.std.specs.Prelude.{◌≡◌, ◌≤◌, ℕ, ◌+◌, ◌-◌, ◌^◌, min, ◌∷◌, ◌++◌, [], true, false, List, length, map, slice_get, Some}
+use Rattle.gx_ids.specs.declared.ids.Node.{Node}
+use Rattle.gx_msg.specs.ItemBytes.{bytes_of_item}
+use Rattle.gx_script.specs.declared.Script.{Script}
+use Rattle.gx_store.specs.declared.event.Event.{Event}
+use Rattle.gx_store.specs.declared.run.Step.{Step}
+use Rattle.gx_store.specs.Journals.{items_of}
+use Rattle.gx_store.specs.Points.{marks_in}
+use Rattle.gx_store.specs.Schedule.{enabled, first_of}
+use Rattle.gx_endings.specs.Endings.{is_any_unfinished}
+use Rattle.gx_failures.specs.Failures.{failures_in}
+use Rattle.gx_network.specs.Worlds.{Shelf}
+use Rattle.gx_drive.specs.declared.end.End.{End}
+use Rattle.gx_drive.specs.declared.end.End.TheVariants.{Done, Turns}
+
+-- a session is unfinished, and the event is the first of what is enabled
+pub record IsFirst (script : Script) (before : List Step) (event : Event) : Type 0 where
+  pub unfinished : is_any_unfinished script before ≡ true
+  pub first : first_of (enabled script before) ≡ event ∷ []
+
+-- each step does what is first where the steps before it have led
+abbrev pub AreFirst : Script → List Step → List Step → Type 0
+AreFirst script before [] = Unit {0}
+AreFirst script before (s ∷ ss) = IsFirst script before s.event × AreFirst script (before ++ s ∷ []) ss
+
+-- each journal holds the items that the marks of its node stand for, and nothing else
+abbrev pub AreHeld : List Step → List Shelf → Type 0
+AreHeld steps shelves = (node : Node) (shelf : Shelf) → slice_get shelves node.0 ≡ Some shelf → shelf.items ≡ map bytes_of_item (items_of node (marks_in steps))
+
+-- no node has more JournalFailed marks than the count of its journal has risen, unless that stands at the end of its type
+abbrev pub AreFailuresFew : List Step → List Shelf → List Shelf → Type 0
+AreFailuresFew steps before after =
+    (node : Node) (b a : Shelf) → slice_get before node.0 ≡ Some b → slice_get after node.0 ≡ Some a → min (failures_in node (marks_in steps) + b.faults) (2 ^ 64 - 1) ≤ a.faults
+
+-- how it ended: no session is unfinished, or there are as many steps as turns and some session is
+abbrev pub IsEnd : Script → List Step → ℕ → End → Type 0
+IsEnd script steps turns Done = is_any_unfinished script steps ≡ false
+IsEnd script steps turns Turns = (length steps ≡ turns) × (is_any_unfinished script steps ≡ true)

@@ -1,0 +1,142 @@
+ghost use Rattle.std.specs.Prelude.{◌≡◌, ◌++◌, ◌∷◌, [], List, false, IfOk, OnOk, IfSome, option_copied};
+ghost use Rattle.std.specs.List.{flat_map};
+ghost use Rattle.std.specs.Option.{option_to_list};
+ghost use Rattle.gx_asked.specs.Awaited.{told_in};
+ghost use Rattle.gx_cursors.specs.Agrees.{Agree};
+ghost use Rattle.gx_queue.specs.Queued.{AreCounted};
+ghost use Rattle.gx_replays.specs.Reached.{IsReached};
+ghost use Rattle.gx_script.specs.declared.Script.{Script as OneScript};
+ghost use Rattle.gx_sql.specs.Language.{IsScript};
+ghost use Rattle.gx_store.specs.declared.event.Event.TheVariants.{Receive};
+ghost use Rattle.gx_store.specs.declared.run.Step.{Step as OneStep};
+ghost use Rattle.gx_store.specs.Ordered.{IsLink};
+ghost use Rattle.gx_store.specs.Refusals.{the_coordinator};
+ghost use Rattle.gx_store.specs.Schedule.{enabled, ends, first_of, left_on, resends, segments_of, starts};
+ghost use Rattle.gx_drive.specs.Agrees.{IsAgreed, IsDue, deliveries_of};
+
+use crate::ends::first_end;
+use crate::links::{first_from, first_to};
+use gx_asked::Asked;
+use gx_cursors::Cursors;
+use gx_ids::{Mem, Node};
+use gx_msg::Message;
+use gx_network::World;
+use gx_queue::Queue;
+use gx_script::Script;
+use gx_store::{Event, Step};
+use std::alloc::Global;
+
+/// What a driver keeps of a run besides it: where each link stands, the next lines, and the answers that are awaited.
+#[derive(Drop)]
+pub struct Agenda {
+    pub cursors: Cursors,
+    pub queue: Queue,
+    pub asked: Asked,
+}
+
+impl Agenda {
+    /// The agenda of a run without steps.
+    pub fn new(alloc: Global, script: &Script) -> Mem<Agenda>
+        requires { IsScript script.now }
+        ensures { IfOk result (λ agenda. IsAgreed script.now [] agenda) }
+    {
+        let cursors = Cursors::new(alloc, script)?;
+        let queue = Queue::new(alloc, script)?;
+        let asked = Asked::new(alloc);
+        Ok(Agenda {
+            cursors,
+            queue,
+            asked,
+        })
+    }
+
+    /// The first of what is enabled; none where nothing is.
+    pub fn first(&self, world: &World) -> Mem<Option<Event>>
+        requires usable { world.now.spent ≡ false }
+        requires language { IsScript world.now.script }
+        requires reached { IsReached world.now.script world.now.run.steps }
+        requires agreed { IsAgreed world.now.script world.now.run.steps self.now }
+        ensures first { IfOk result (λ event. option_to_list event ≡ first_of (enabled world.now.script world.now.run.steps)) }
+        ensures due { IfOk result (λ event. IfSome event (IsDue world.now.script world.now.run.steps)) }
+    {
+        match self.received(world) {
+            Some(event) => Ok(Some(event)),
+            None => self.asked_for(world),
+        }
+    }
+
+    // The first delivery: those to the coordinator come first.
+    fn received(&self, world: &World) -> Option<Event>
+        requires usable { world.now.spent ≡ false }
+        requires agreed { IsAgreed world.now.script world.now.run.steps self.now }
+        ensures first { option_to_list result ≡ first_of (deliveries_of world.now.script world.now.run.steps) }
+        ensures due { IfSome result (IsDue world.now.script world.now.run.steps) }
+    {
+        match first_from(&self.cursors, world) {
+            Some(event) => Some(event),
+            None => first_to(&self.cursors, world),
+        }
+    }
+
+    // What is sent again, where nothing is left on any link, or else what a session does.
+    fn asked_for(&self, world: &World) -> Mem<Option<Event>>
+        requires usable { world.now.spent ≡ false }
+        requires language { IsScript world.now.script }
+        requires reached { IsReached world.now.script world.now.run.steps }
+        requires agreed { IsAgreed world.now.script world.now.run.steps self.now }
+        requires none { first_of (deliveries_of world.now.script world.now.run.steps) ≡ [] }
+        ensures first { IfOk result (λ event. option_to_list event ≡ first_of (enabled world.now.script world.now.run.steps)) }
+        ensures due { IfOk result (λ event. IfSome event (IsDue world.now.script world.now.run.steps)) }
+    {
+        match self.asked.first() {
+            Some(request) => Ok(Some(Event::Resend {
+                segment: request.segment,
+                gxid: Some(request.gxid),
+            })),
+            None => self.begun(world),
+        }
+    }
+
+    // The first line, or else the first end of a session.
+    fn begun(&self, world: &World) -> Mem<Option<Event>>
+        requires usable { world.now.spent ≡ false }
+        requires language { IsScript world.now.script }
+        requires reached { IsReached world.now.script world.now.run.steps }
+        requires agreed { IsAgreed world.now.script world.now.run.steps self.now }
+        requires none { first_of (deliveries_of world.now.script world.now.run.steps) ≡ [] }
+        requires asked { first_of (flat_map (resends world.now.script world.now.run.steps) (segments_of world.now.script)) ≡ [] }
+        ensures first { IfOk result (λ event. option_to_list event ≡ first_of (enabled world.now.script world.now.run.steps)) }
+        ensures due { IfOk result (λ event. IfSome event (IsDue world.now.script world.now.run.steps)) }
+    {
+        match self.queue.first() {
+            Some(session) => Ok(Some(Event::Start(session))),
+            None => first_end(world),
+        }
+    }
+
+    /// A step was done, and what its event received, if it received a message, is told.
+    pub fn note(&mut self, step: &Step, told: Option<&Message>) -> Mem<()>
+        ensures { OnOk result ((script : OneScript) (steps : List OneStep) → IsAgreed script steps self.old → IsDue script steps step.now.event → AreCounted (steps ++ step.now ∷ []) → option_copied told.entry ≡ told_in steps step.now.event → IsAgreed script (steps ++ step.now ∷ []) self.new) }
+    {
+        deliver(&mut self.cursors, step);
+        self.queue.note(step)?;
+        self.asked.note(step, told)
+    }
+}
+
+// The link of a receipt goes on.
+fn deliver(cursors: &mut Cursors, step: &Step)
+    ensures { (script : OneScript) (steps : List OneStep) → Agree script steps cursors.old → IsDue script steps step.now.event → Agree script (steps ++ step.now ∷ []) cursors.new }
+{
+    match step.event {
+        Event::Receive { from, to, number } => go_on(cursors, from, to, number),
+        _ => cursors.undelivered(),
+    }
+}
+
+// The link goes on by a message of this number.
+fn go_on(cursors: &mut Cursors, from: Node, to: Node, _number: u64)
+    ensures { (script : OneScript) (steps : List OneStep) (step : OneStep) → Agree script steps cursors.old → IsLink script from to → first_of (left_on script steps from to) ≡ Receive from to _number ∷ [] → step.event ≡ Receive from to _number → Agree script (steps ++ step ∷ []) cursors.new }
+{
+    cursors.delivered(from, to);
+}

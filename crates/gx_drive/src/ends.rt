@@ -1,0 +1,31 @@
+// The first session that is to be ended.
+ghost use Rattle.std.specs.Prelude.{◌≡◌, ◌<◌, false, IfOk};
+ghost use Rattle.std.specs.Option.{option_to_list};
+ghost use Rattle.gx_replays.specs.Reached.{IsReached};
+ghost use Rattle.gx_store.specs.Schedule.{ends, first_of};
+ghost use Rattle.gx_store.specs.declared.event.Event.TheVariants.{End};
+
+use gx_ids::{Mem, SessionId};
+use gx_network::World;
+use gx_store::Event;
+
+fn end_of(place: usize) -> Event
+    requires { place < 256 }
+    ensures { result ≡ End (record { 0 = place }) }
+{
+    Event::End(SessionId(place as u8))
+}
+
+pub(crate) fn first_end(world: &World) -> Mem<Option<Event>>
+    requires usable { world.now.spent ≡ false }
+    requires reached { IsReached world.now.script world.now.run.steps }
+    ensures { IfOk result (λ event. option_to_list event ≡ first_of (ends world.now.script world.now.run.steps)) }
+{
+    for place in 0..world.script().sessions.len() {
+        let event = end_of(place);
+        if world.can(&event)? {
+            return Ok(Some(event));
+        }
+    }
+    Ok(None)
+}

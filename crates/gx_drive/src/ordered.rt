@@ -1,0 +1,69 @@
+ghost use Rattle.std.specs.Prelude.{◌≡◌, ◌≤◌, [], false, All, IfOk, OnOk, length, map};
+ghost use Rattle.gx_answers.specs.Whole.{AreInsertsWhole};
+ghost use Rattle.gx_endings.specs.Endings.{is_any_unfinished};
+ghost use Rattle.gx_network.specs.Worlds.{shelf};
+ghost use Rattle.gx_replays.specs.Reached.{IsReached};
+ghost use Rattle.gx_drive.specs.Ordered.{AreFailuresFew, AreFirst, AreHeld, IsEnd};
+
+use crate::agenda::Agenda;
+use crate::end::End;
+use crate::turn::turn;
+use gx_ids::Mem;
+use gx_network::World;
+use gx_outside::{Gate, Journal};
+use std::alloc::Global;
+
+/// Runs a new world by the ordered schedule: it does the first of what is enabled at each turn, until no session is unfinished or
+/// so many turns were taken. The journals are those of the coordinator and 16 segments, and hold nothing.
+pub fn run_ordered<J: Journal, G: Gate>(
+    alloc: Global,
+    world: &mut World,
+    journals: &mut [J],
+    gate: &G,
+    turns: u64,
+) -> Mem<End>
+    requires new { world.old.run.steps ≡ [] }
+    requires usable { world.old.spent ≡ false }
+    requires inserts { AreInsertsWhole world.old.script.tables world.old.script.lines }
+    requires journals { length journals.old ≡ 17 }
+    requires empty { All (λ j. J.items j ≡ []) journals.old }
+    requires turns { turns ≤ 10000000 }
+    ensures script { world.new.script ≡ world.old.script }
+    ensures first { AreFirst world.old.script [] world.new.run.steps }
+    ensures failures { AreFailuresFew world.new.run.steps (map (λ j. shelf (J.items j) (J.fault_count j)) journals.old) (map (λ j. shelf (J.items j) (J.fault_count j)) journals.new) }
+    ensures end { IfOk result (IsEnd world.old.script world.new.run.steps turns) }
+    ensures held { OnOk result (AreHeld world.new.run.steps (map (λ j. shelf (J.items j) (J.fault_count j)) journals.new)) }
+    ensures unspent { OnOk result (world.new.spent ≡ false) }
+{
+    let mut agenda = Agenda::new(alloc, world.script())?;
+    for _turn in 0..turns {
+        if !is_unfinished(world) {
+            return Ok(End::Done);
+        }
+        turn(world, &mut agenda, journals, gate)?;
+    }
+    Ok(end_of(world))
+}
+
+// How a run ended whose turns are spent.
+fn end_of(world: &World) -> End
+    requires usable { world.now.spent ≡ false }
+    requires reached { IsReached world.now.script world.now.run.steps }
+    ensures { IsEnd world.now.script world.now.run.steps (length world.now.run.steps) result }
+{
+    if is_unfinished(world) {
+        End::Turns
+    } else {
+        End::Done
+    }
+}
+
+// Whether some session has something left.
+fn is_unfinished(world: &World) -> bool
+    requires usable { world.now.spent ≡ false }
+    requires reached { IsReached world.now.script world.now.run.steps }
+    ensures { result ≡ is_any_unfinished world.now.script world.now.run.steps }
+{
+    let _script = world.script();
+    world.unfinished()
+}

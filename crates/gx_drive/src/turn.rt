@@ -1,0 +1,87 @@
+// One turn: the first of what is enabled is done.
+ghost use Rattle.std.specs.Prelude.{◌≡◌, ◌<◌, ◌^◌, ◌++◌, ◌∷◌, [], List, true, false, IfOk, OnOk, length, map, option_copied};
+ghost use Rattle.gx_answers.specs.Whole.{AreInsertsWhole};
+ghost use Rattle.gx_asked.specs.Awaited.{told_in};
+ghost use Rattle.gx_endings.specs.Endings.{is_any_unfinished};
+ghost use Rattle.gx_network.specs.Worlds.{Shelf, shelf};
+ghost use Rattle.gx_replays.specs.Reached.{IsReached};
+ghost use Rattle.gx_replays.specs.Replays.{is_admitted};
+ghost use Rattle.gx_sql.specs.Language.{IsScript};
+ghost use Rattle.gx_store.specs.declared.run.Step.{Step as OneStep};
+ghost use Rattle.gx_drive.specs.Agrees.{HasTurned, IsAgreed, IsDue, IsNoMore};
+ghost use Rattle.gx_drive.specs.Ordered.{AreFailuresFew, IsFirst};
+
+use crate::agenda::Agenda;
+use gx_ids::Mem;
+use gx_msg::Message;
+use gx_network::World;
+use gx_outside::{Gate, Journal};
+use gx_store::Event;
+
+// What is first, where a session is unfinished.
+fn next_event(world: &World, agenda: &Agenda) -> Mem<Event>
+    requires usable { world.now.spent ≡ false }
+    requires language { IsScript world.now.script }
+    requires inserts { AreInsertsWhole world.now.script.tables world.now.script.lines }
+    requires reached { IsReached world.now.script world.now.run.steps }
+    requires agreed { IsAgreed world.now.script world.now.run.steps agenda.now }
+    requires unfinished { is_any_unfinished world.now.script world.now.run.steps ≡ true }
+    ensures first { IfOk result (IsFirst world.now.script world.now.run.steps) }
+    ensures due { IfOk result (IsDue world.now.script world.now.run.steps) }
+    ensures admitted { IfOk result (λ event. is_admitted world.now.script world.now.run.steps event ≡ true) }
+{
+    match agenda.first(world)? {
+        Some(event) => Ok(event),
+        None => unreachable!(),
+    }
+}
+
+// The message that an event received.
+fn told(world: &World, event: Event) -> Option<&Message>
+    requires usable { world.now.spent ≡ false }
+    ensures { option_copied result ≡ told_in world.now.run.steps event }
+{
+    match event {
+        Event::Receive { from, to, number } => world.message(from, to, number),
+        _ => None,
+    }
+}
+
+// The agenda takes what the last step did.
+fn note(world: &World, agenda: &mut Agenda) -> Mem<()>
+    requires usable { world.now.spent ≡ false }
+    requires language { IsScript world.now.script }
+    requires reached { IsReached world.now.script world.now.run.steps }
+    requires room { length world.now.run.steps < 2 ^ 62 }
+    ensures { OnOk result ((steps : List OneStep) (step : OneStep) → world.now.run.steps ≡ steps ++ step ∷ [] → IsAgreed world.now.script steps agenda.old → IsDue world.now.script steps step.event → is_admitted world.now.script steps step.event ≡ true → IsReached world.now.script steps → IsAgreed world.now.script world.now.run.steps agenda.new) }
+{
+    match world.run().steps.as_slice().last() {
+        Some(step) => agenda.note(step, told(world, step.event)),
+        None => Ok(()),
+    }
+}
+
+// Does what is first.
+pub(crate) fn turn<J: Journal, G: Gate>(
+    world: &mut World,
+    agenda: &mut Agenda,
+    journals: &mut [J],
+    gate: &G,
+) -> Mem<()>
+    requires usable { world.old.spent ≡ false }
+    requires language { IsScript world.old.script }
+    requires inserts { AreInsertsWhole world.old.script.tables world.old.script.lines }
+    requires reached { IsReached world.old.script world.old.run.steps }
+    requires agreed { IsAgreed world.old.script world.old.run.steps agenda.old }
+    requires unfinished { is_any_unfinished world.old.script world.old.run.steps ≡ true }
+    requires journals { length journals.old ≡ 17 }
+    requires room { length world.old.run.steps < 2 ^ 40 }
+    ensures script { world.new.script ≡ world.old.script }
+    ensures first { IsNoMore world.old.script world.old.run.steps world.new.run.steps }
+    ensures failures { (start : List Shelf) → AreFailuresFew world.old.run.steps start (map (λ j. shelf (J.items j) (J.fault_count j)) journals.old) → AreFailuresFew world.new.run.steps start (map (λ j. shelf (J.items j) (J.fault_count j)) journals.new) }
+    ensures turned { OnOk result (HasTurned world.old world.new agenda.new (map (λ j. shelf (J.items j) (J.fault_count j)) journals.old) (map (λ j. shelf (J.items j) (J.fault_count j)) journals.new)) }
+{
+    let event = next_event(world, agenda)?;
+    world.step(event, journals, gate)?;
+    note(world, agenda)
+}

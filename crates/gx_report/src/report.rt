@@ -1,0 +1,138 @@
+// The text of answers.
+ghost use Rattle.std.specs.Prelude.{◌≡◌, ◌++◌, OnOk, map};
+ghost use Rattle.std.specs.List.{flat_map};
+ghost use Rattle.std.specs.Fmt.{decimal, signed_decimal};
+ghost use Rattle.gx_report.specs.Text.{answer_text, cell_text, cells_text, counted_text, line_text, quoted_byte, quoted_text, row_line};
+
+use crate::error::push_error;
+use gx_ids::Mem;
+use gx_store::StmtAnswer;
+use gx_tree::{Cell, OutRow};
+use itoa::Buffer;
+
+/// Adds bytes as they are.
+pub fn push_bytes(text: &mut Vec<u8>, bytes: &[u8]) -> Mem<()>
+    ensures { OnOk result (text.new.items ≡ text.old.items ++ bytes.now) }
+{
+    text.extend_from_slice(bytes)?;
+    Ok(())
+}
+
+/// Adds the decimal digits of a count.
+pub fn push_count(text: &mut Vec<u8>, number: u128) -> Mem<()>
+    ensures { OnOk result (text.new.items ≡ text.old.items ++ decimal number) }
+{
+    let mut digits = Buffer::new();
+    push_bytes(text, digits.format(number).as_bytes())
+}
+
+/// Adds the decimal digits of a whole number, behind its sign where it is negative.
+pub fn push_integer(text: &mut Vec<u8>, number: i128) -> Mem<()>
+    ensures { OnOk result (text.new.items ≡ text.old.items ++ signed_decimal number) }
+{
+    let mut digits = Buffer::new();
+    push_bytes(text, digits.format(number).as_bytes())
+}
+
+// A byte between quotes: a quote is doubled.
+fn push_quoted_byte(text: &mut Vec<u8>, byte: u8) -> Mem<()>
+    ensures { OnOk result (text.new.items ≡ text.old.items ++ quoted_byte byte) }
+{
+    if byte == b'\'' {
+        push_bytes(text, b"''")
+    } else {
+        push_bytes(text, &[byte])
+    }
+}
+
+/// Adds a text in single quotes.
+pub fn push_quoted(text: &mut Vec<u8>, bytes: &[u8]) -> Mem<()>
+    ensures { OnOk result (text.new.items ≡ text.old.items ++ quoted_text bytes.now) }
+{
+    push_bytes(text, b"'")?;
+    for byte in bytes {
+        push_quoted_byte(text, *byte)?;
+    }
+    push_bytes(text, b"'")
+}
+
+fn push_cell(text: &mut Vec<u8>, cell: &Cell) -> Mem<()>
+    ensures { OnOk result (text.new.items ≡ text.old.items ++ cell_text cell.now) }
+{
+    match cell {
+        Cell::Int(number) => push_integer(text, *number),
+        Cell::Text(bytes) => push_quoted(text, bytes.as_slice()),
+        Cell::Null => push_bytes(text, b"null"),
+    }
+}
+
+fn push_cells(text: &mut Vec<u8>, cells: &[Cell]) -> Mem<()>
+    ensures { OnOk result (text.new.items ≡ text.old.items ++ cells_text cells.now) }
+{
+    let [first, others @ ..] = cells else {
+        return Ok(());
+    };
+    push_cell(text, first)?;
+    for cell in others {
+        push_bytes(text, b"|")?;
+        push_cell(text, cell)?;
+    }
+    Ok(())
+}
+
+// A row of an answer, on a line of its own.
+fn push_row(text: &mut Vec<u8>, cells: &[Cell]) -> Mem<()>
+    ensures { OnOk result (text.new.items ≡ text.old.items ++ row_line cells.now) }
+{
+    push_bytes(text, b"  ")?;
+    push_cells(text, cells)?;
+    push_bytes(text, b"\n")
+}
+
+fn push_rows(text: &mut Vec<u8>, rows: &[OutRow]) -> Mem<()>
+    ensures { OnOk result (text.new.items ≡ text.old.items ++ flat_map row_line rows.now) }
+{
+    for row in rows {
+        push_row(text, row.as_slice())?;
+    }
+    Ok(())
+}
+
+// A statement's name and the number of its rows, on a line of its own.
+fn push_counted(text: &mut Vec<u8>, name: &[u8], count: u128) -> Mem<()>
+    ensures { OnOk result (text.new.items ≡ text.old.items ++ counted_text name.now count) }
+{
+    push_bytes(text, name)?;
+    push_count(text, count)?;
+    push_bytes(text, b"\n")
+}
+
+fn push_answer(text: &mut Vec<u8>, answer: &StmtAnswer) -> Mem<()>
+    ensures { OnOk result (text.new.items ≡ text.old.items ++ answer_text answer.now) }
+{
+    match answer {
+        StmtAnswer::Begin => push_bytes(text, b"BEGIN\n"),
+        StmtAnswer::Commit => push_bytes(text, b"COMMIT\n"),
+        StmtAnswer::Rollback => push_bytes(text, b"ROLLBACK\n"),
+        StmtAnswer::Locked => push_bytes(text, b"LOCK TABLE\n"),
+        StmtAnswer::Inserted(count) => push_counted(text, b"INSERT ", *count),
+        StmtAnswer::Updated(count) => push_counted(text, b"UPDATE ", *count),
+        StmtAnswer::Deleted(count) => push_counted(text, b"DELETE ", *count),
+        StmtAnswer::Rows(rows) => {
+            push_counted(text, b"SELECT ", rows.len() as u128)?;
+            push_rows(text, rows.as_slice())
+        }
+        StmtAnswer::Refused(refused) => push_error(text, *refused),
+    }
+}
+
+/// Adds an answer behind its line's session and number.
+pub fn push_line(text: &mut Vec<u8>, name: &[u8], number: u32, answer: &StmtAnswer) -> Mem<()>
+    ensures { OnOk result (text.new.items ≡ text.old.items ++ line_text name.now number answer.now) }
+{
+    push_bytes(text, name)?;
+    push_bytes(text, b".")?;
+    push_count(text, u128::from(number))?;
+    push_bytes(text, b" ")?;
+    push_answer(text, answer)
+}

@@ -1,4 +1,0 @@
-pub mod Commands
-pub mod Evaluations
-pub mod Reads
-pub mod Turns

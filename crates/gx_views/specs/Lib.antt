@@ -1,4 +1,0 @@
-pub mod Pairs
-pub mod Changes
-pub mod Stored
-pub mod Reading

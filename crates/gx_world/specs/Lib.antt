@@ -1,3 +1,0 @@
-pub mod Finals
-pub mod Running
-pub mod World
