@@ -2,7 +2,7 @@
 use Rattle.std.proofs.Common.{◌≡◌, ◌⊎◌, inl, inr, ℕ, List, [], Option, true, Ok, Err, Bool, false}
 use Rattle.std.specs.declared.alloc.Global.{Global}
 use Rattle.std.specs.declared.string.String.{String}
-use Rattle.gx_form.specs.Form.{is_of_form}
+use Rattle.gx.specs.Form.{is_of_form}
 use Rattle.gx_script.specs.declared.Script.{Script}
 use Rattle.gx.specs.declared.attempt.Attempt.{Attempt}
 use Rattle.gx.specs.declared.attempt.Attempt.TheVariants.{Done, Stopped, Refused, ReadFault, TooLarge, NotBuilt, OutOfMemory}

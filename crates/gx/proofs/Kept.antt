@@ -3,7 +3,7 @@ use Rattle.std.proofs.Common.{◌≡◌, ℕ, List, [], ◌++◌, Bool, true, re
 use Rattle.std.proofs.Math.Seq.{take-append_seam}
 use Rattle.std.specs.Prelude.{All, map}
 use Rattle.gx_store.specs.declared.run.Step.{Step}
-use Rattle.gx_network.specs.Worlds.{Shelf, shelf}
+use Rattle.gx_world.specs.Worlds.{Shelf, shelf}
 use Rattle.gx_drive.specs.Ordered.{AreFailuresFew, AreHeld}
 use Rattle.gx_drive.proofs.Journals.{none-failed, none-held}
 use Rattle.gx_sql.specs.declared.refusal.Refusal.{Refusal}

@@ -12,19 +12,19 @@ use Rattle.gx_store.specs.Ordered.{AreOrdered}
 use Rattle.gx_store.specs.Protocol.{DoStepsFollow}
 use Rattle.gx_store.specs.Runs.{IsLegalHistory}
 use Rattle.gx_rules.specs.System.{IsSystemRun}
-use Rattle.gx_laws.proofs.Follows.{world_follows}
-use Rattle.gx_laws.proofs.Ordered.{world_well}
-use Rattle.gx_protocol.proofs.Whole.{world-follows}
-use Rattle.gx_answers.specs.Whole.{AreInsertsWhole}
-use Rattle.gx_answers.proofs.Join.{legal}
-use Rattle.gx_answers.proofs.Snaps.{snapshots-one}
-use Rattle.gx_answers.proofs.Whole.{filled, keyed}
-use Rattle.gx_scripts.proofs.Numbers.{lines_numbered}
-use Rattle.gx_replays.specs.Reached.{IsReached}
-use Rattle.gx_replays.proofs.Reaching.{by-events}
-use Rattle.gx_endings.specs.Endings.{IsFinished, is_any_unfinished}
-use Rattle.gx_endings.proofs.Finishing.{whole}
-use Rattle.gx_network.specs.Worlds.{WorldState}
+use Rattle.gx_law_order.proofs.Follows.{world_follows}
+use Rattle.gx_law_order.proofs.Ordered.{world_well}
+use Rattle.gx_law_commit.proofs.Whole.{world-follows}
+use Rattle.gx_law_answers.specs.Whole.{AreInsertsWhole}
+use Rattle.gx_law_answers.proofs.Join.{legal}
+use Rattle.gx_law_answers.proofs.Snaps.{snapshots-one}
+use Rattle.gx_law_answers.proofs.Whole.{filled, keyed}
+use Rattle.gx_law_scripts.proofs.Numbers.{lines_numbered}
+use Rattle.gx_law_runs.specs.Reached.{IsReached}
+use Rattle.gx_law_runs.proofs.Reaching.{by-events}
+use Rattle.gx_law_runs.specs.Endings.{IsFinished, is_any_unfinished}
+use Rattle.gx_law_runs.proofs.Finishing.{whole}
+use Rattle.gx_world.specs.Worlds.{WorldState}
 use Rattle.gx_drive.specs.Ordered.{AreFirst}
 use Rattle.gx.specs.Top.{IsRunOf}
 

@@ -1,7 +1,7 @@
 // The top call.
 ghost use Rattle.std.specs.Prelude.{◌≡◌, ◌≢◌, [], All, length, map};
 ghost use Rattle.gx_drive.specs.Ordered.{AreFailuresFew, AreHeld};
-ghost use Rattle.gx_network.specs.Worlds.{shelf};
+ghost use Rattle.gx_world.specs.Worlds.{shelf};
 ghost use Rattle.gx.specs.Top.{IsCutShort, IsDone, IsDue, IsNotBuilt, IsPartRun, IsReadFault, IsRefused, IsStatus, IsStopped, IsTold, IsTooLarge, IsWritten};
 
 use crate::attempt::{Attempt, make_attempt};

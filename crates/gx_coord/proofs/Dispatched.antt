@@ -32,10 +32,10 @@ use Rattle.gx_rules.specs.AtCoordinator.{Reading, begins, dispatches, ends_in, e
 use Rattle.gx_rules.specs.Coordinators.{Command, Coord, Session, Work, new_work, session_of, with_state}
 use Rattle.gx_rules.specs.Maps.{with_at}
 use Rattle.gx_rules.specs.Snapshots.{snapshot_of}
-use Rattle.gx_laws.proofs.Closings.{live-at, set_live}
-use Rattle.gx_laws.proofs.Lines.{Asks, asks, begun-whole}
-use Rattle.gx_laws.proofs.Sessions.{Kept, is_open_in}
-use Rattle.gx_laws.proofs.Stages.{IsWhole, append-at, gx}
+use Rattle.gx_law_order.proofs.Closings.{live-at, set_live}
+use Rattle.gx_law_order.proofs.Lines.{Asks, asks, begun-whole}
+use Rattle.gx_law_order.proofs.Sessions.{Kept, is_open_in}
+use Rattle.gx_law_order.proofs.Stages.{IsWhole, append-at, gx}
 use Rattle.gx_coord.specs.Sound.{AreSound, IsSoundWork}
 use Rattle.gx_coord.proofs.Keeping.{commits-sound, refused-sound, rolled-sound}
 use Rattle.gx_coord.proofs.Sound.{itself, more-lines, none-sound, others, session-lines, sound-after, with_at-other, with_at-same}

@@ -19,10 +19,10 @@ use Rattle.gx_session.specs.declared.state.Block.{Block}
 use Rattle.gx_session.specs.declared.state.Pending.{Pending}
 use Rattle.gx_session.specs.declared.state.Pending.TheVariants as pending
 use Rattle.gx_rules.specs.Coordinators.{Command, Coord, Work}
-use Rattle.gx_laws.proofs.Sessions.{Kept, is_closing_in, is_working_in, stage_of}
-use Rattle.gx_laws.proofs.Stages.{gx}
-use Rattle.gx_laws.proofs.Statuses.{Moves, Stage, reply-turns, stage, stage_in}
-use Rattle.gx_laws.proofs.Statuses.Stage.{Live, Closing}
+use Rattle.gx_law_order.proofs.Sessions.{Kept, is_closing_in, is_working_in, stage_of}
+use Rattle.gx_law_order.proofs.Stages.{gx}
+use Rattle.gx_law_order.proofs.Statuses.{Moves, Stage, reply-turns, stage, stage_in}
+use Rattle.gx_law_order.proofs.Statuses.Stage.{Live, Closing}
 use Rattle.gx_coord.specs.Sound.{AreSoundIn, IsSoundWork}
 use Rattle.gx_coord.specs.Turns.{IsBusy, IsFit, answers_line, asks}
 

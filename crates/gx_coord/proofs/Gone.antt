@@ -8,9 +8,9 @@ use Rattle.gx_store.specs.declared.node.NodeEvent.{NodeEvent}
 use Rattle.gx_store.specs.declared.node.NodeOut.{NodeOut}
 use Rattle.gx_rules.specs.AtCoordinator.{coord_can, coord_rule, on_event}
 use Rattle.gx_rules.specs.Coordinators as rule
-use Rattle.gx_laws.proofs.AtCoordinators.{coord_stays}
-use Rattle.gx_laws.proofs.Lists.{Each}
-use Rattle.gx_laws.proofs.Tables.{OutIn}
+use Rattle.gx_law_order.proofs.AtCoordinators.{coord_stays}
+use Rattle.gx_law_order.proofs.Lists.{Each}
+use Rattle.gx_law_order.proofs.Tables.{OutIn}
 use Rattle.gx_coord.specs.Books.{coord_of}
 use Rattle.gx_coord.specs.Places.{AreIndexed}
 use Rattle.gx_coord.specs.Sound.{IsSound}

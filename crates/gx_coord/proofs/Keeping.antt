@@ -24,10 +24,10 @@ use Rattle.gx_store.specs.declared.answer.Refused.TheVariants as refused
 use Rattle.gx_rules.specs.AtCoordinator.{answers, commits, completes, failure_marks, follows, is_committed, is_refused, rolls_back, unless_kept}
 use Rattle.gx_rules.specs.Coordinators.{Coord, Session, Work, no_work, session_of, with_state, with_work}
 use Rattle.gx_rules.specs.Maps.{with_at}
-use Rattle.gx_laws.proofs.Closings.{live-at, set_live}
-use Rattle.gx_laws.proofs.Stages.{At, IsWhole, changed-at, gx, left_of}
-use Rattle.gx_laws.proofs.Statuses.{Moves, Stage, reply-turns, stage, stage_in}
-use Rattle.gx_laws.proofs.Statuses.Stage.{Absent, Live, Finished, Dropped}
+use Rattle.gx_law_order.proofs.Closings.{live-at, set_live}
+use Rattle.gx_law_order.proofs.Stages.{At, IsWhole, changed-at, gx, left_of}
+use Rattle.gx_law_order.proofs.Statuses.{Moves, Stage, reply-turns, stage, stage_in}
+use Rattle.gx_law_order.proofs.Statuses.Stage.{Absent, Live, Finished, Dropped}
 use Rattle.gx_coord.specs.Sound.{AreSound, IsSoundWork}
 use Rattle.gx_coord.proofs.Sound.{itself, moved-sound, none-sound, others, session-lines, sound-after, with_at-other, with_at-same}
 

@@ -11,7 +11,7 @@ use Rattle.gx_rules.specs.Coordinators as rule
 use Rattle.gx_rules.specs.Coordinators.{new_coordinator, new_session, no_work}
 use Rattle.gx_rules.specs.Machine.{new_world}
 use Rattle.gx_store.specs.Points.{marks_in}
-use Rattle.gx_laws.proofs.World.{new_knows}
+use Rattle.gx_law_order.proofs.World.{new_knows}
 use Rattle.gx_coord.specs.Books.{coord_of, found, fresh_session, session_at, session_in}
 use Rattle.gx_coord.specs.Places.{AreIndexed}
 use Rattle.gx_coord.specs.Sound.{IsSound}

@@ -17,11 +17,11 @@ use Rattle.gx_session.specs.declared.state.Pending.TheVariants as pending
 use Rattle.gx_rules.specs.AtCoordinator.{begins, starts_line}
 use Rattle.gx_rules.specs.Coordinators.{Coord, Session, Work, new_work, session_of}
 use Rattle.gx_rules.specs.Snapshots.{latest_number}
-use Rattle.gx_laws.proofs.Lines.{Asks, asks, begun-whole}
-use Rattle.gx_laws.proofs.Sessions.{is_nothing_in, is_open_in, stage_of}
-use Rattle.gx_laws.proofs.Stages.{append-at, gx}
-use Rattle.gx_laws.proofs.Statuses.{stage}
-use Rattle.gx_laws.proofs.Statuses.Stage.{Live}
+use Rattle.gx_law_order.proofs.Lines.{Asks, asks, begun-whole}
+use Rattle.gx_law_order.proofs.Sessions.{is_nothing_in, is_open_in, stage_of}
+use Rattle.gx_law_order.proofs.Stages.{append-at, gx}
+use Rattle.gx_law_order.proofs.Statuses.{stage}
+use Rattle.gx_law_order.proofs.Statuses.Stage.{Live}
 use Rattle.gx_coord.specs.Faults.{IsCommand}
 use Rattle.gx_coord.specs.Lines.{MayAsk, MaySend}
 use Rattle.gx_coord.specs.Sound.{IsSound}

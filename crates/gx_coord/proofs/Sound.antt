@@ -10,9 +10,9 @@ use Rattle.gx_dtx.specs.Table.{Table, find_txn, participants_in}
 use Rattle.gx_dtx.specs.declared.txn.Txn.{Txn}
 use Rattle.gx_rules.specs.Coordinators.{Command, Coord, Session, Work, new_work}
 use Rattle.gx_rules.specs.Maps.{with_at}
-use Rattle.gx_laws.proofs.Stages.{At, gx}
-use Rattle.gx_laws.proofs.Statuses.{stage}
-use Rattle.gx_laws.proofs.Statuses.Stage.{Live}
+use Rattle.gx_law_order.proofs.Stages.{At, gx}
+use Rattle.gx_law_order.proofs.Statuses.{stage}
+use Rattle.gx_law_order.proofs.Statuses.Stage.{Live}
 use Rattle.gx_coord.specs.Sound.{AreSound, AreSoundIn, IsSoundWork}
 
 -- what is known of one transaction changes, and no session's lines fall

@@ -7,8 +7,8 @@ use Rattle.gx_store.specs.declared.node.NodeEvent.{NodeEvent}
 use Rattle.gx_store.specs.declared.node.NodeEvent.TheVariants as event
 use Rattle.gx_rules.specs.AtCoordinator.{awaited, coord_can, coord_rule, next_line, on_event, resends}
 use Rattle.gx_rules.specs.Coordinators.{Coord, session_of}
-use Rattle.gx_laws.proofs.AtCoordinators.{coord_stays}
-use Rattle.gx_laws.proofs.Replies.{event-good}
+use Rattle.gx_law_order.proofs.AtCoordinators.{coord_stays}
+use Rattle.gx_law_order.proofs.Replies.{event-good}
 use Rattle.gx_coord.specs.Sound.{AreSound, IsSmall, IsSound}
 use Rattle.gx_coord.proofs.Answered.{message-sound}
 use Rattle.gx_coord.proofs.Dispatched.{end-sound, start-sound}

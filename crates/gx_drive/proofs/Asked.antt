@@ -22,14 +22,14 @@ use Rattle.gx_store.specs.Refusals.{the_coordinator}
 use Rattle.gx_store.specs.Schedule.{asked, asked_by, asked_from, first_of, gxids_of, is_about, is_graph_awaited, is_quiet, left_on, segments_of, unless_answered, waits_of}
 use Rattle.gx_rules.specs.AtCoordinator.{awaited}
 use Rattle.gx_rules.specs.Machine.{world_of}
-use Rattle.gx_laws.proofs.Ordered.{world_well}
-use Rattle.gx_schedules.proofs.Awaited.{world-asks}
-use Rattle.gx_schedules.proofs.Enabled.{unknown-none}
-use Rattle.gx_schedules.proofs.Room.{world-stays}
-use Rattle.gx_schedules.proofs.Waits.{no-graph, no-wait-of}
-use Rattle.gx_replays.specs.Reached.{IsReached}
-use Rattle.gx_replays.proofs.Reaching.{by-events}
-use Rattle.gx_asked.specs.Awaited.{AreResendable}
+use Rattle.gx_law_order.proofs.Ordered.{world_well}
+use Rattle.gx_law_schedules.proofs.Awaited.{world-asks}
+use Rattle.gx_law_schedules.proofs.Enabled.{unknown-none}
+use Rattle.gx_law_schedules.proofs.Room.{world-stays}
+use Rattle.gx_law_schedules.proofs.Waits.{no-graph, no-wait-of}
+use Rattle.gx_law_runs.specs.Reached.{IsReached}
+use Rattle.gx_law_runs.proofs.Reaching.{by-events}
+use Rattle.gx_agenda.specs.Awaited.{AreResendable}
 use Rattle.gx_drive.specs.Agrees.{deliveries_of}
 use Rattle.gx_drive.proofs.Firsts.{first-none, none-left, none-right, nodes-none}
 

@@ -4,9 +4,9 @@ use Rattle.gx_script.specs.declared.Script.{Script}
 use Rattle.gx_store.specs.declared.run.Step.{Step}
 use Rattle.std.specs.Prelude.{All, map}
 use Rattle.gx_store.specs.declared.event.Event.{Event}
-use Rattle.gx_network.specs.Worlds.{HasStepped, Shelf, WorldState, shelf}
-use Rattle.gx_replays.specs.Replays.{is_admitted}
-use Rattle.gx_replays.specs.Reached.{IsReached}
+use Rattle.gx_world.specs.Worlds.{HasStepped, Shelf, WorldState, shelf}
+use Rattle.gx_law_runs.specs.Replays.{is_admitted}
+use Rattle.gx_law_runs.specs.Reached.{IsReached}
 use Rattle.gx_drive.specs.declared.agenda.Agenda.{Agenda}
 use Rattle.gx_drive.specs.Agrees.{HasTurned, IsAgreed, IsDue, IsNextStep, IsNoMore, IsUnderWay}
 use Rattle.gx_drive.specs.Ordered.{AreFailuresFew, AreFirst, AreHeld}

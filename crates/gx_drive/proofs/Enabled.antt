@@ -13,15 +13,15 @@ use Rattle.gx_store.specs.Points.{marks_in}
 use Rattle.gx_store.specs.Refusals.{the_coordinator}
 use Rattle.gx_store.specs.Schedule.{at_segment, enabled, ends, first_of, is_to_end, left_on, resends, resumptions, rounds, segments_of, starts}
 use Rattle.gx_rules.specs.Machine.{world_of}
-use Rattle.gx_histories.proofs.World.{sessions-stand}
-use Rattle.gx_schedules.proofs.Room.{world-stays}
-use Rattle.gx_schedules.proofs.Sessions.{end-alike}
-use Rattle.gx_schedules.proofs.Waits.{no-resumption, no-rounds}
-use Rattle.gx_replays.specs.Reached.{IsReached}
-use Rattle.gx_replays.specs.Replays.{is_admitted}
-use Rattle.gx_replays.proofs.Reaching.{by-events, enabled-admitted, replayed}
-use Rattle.gx_replays.proofs.Replaying.{world-replayed}
-use Rattle.gx_replays.proofs.Telling.{can-told}
+use Rattle.gx_law_sessions.proofs.World.{sessions-stand}
+use Rattle.gx_law_schedules.proofs.Room.{world-stays}
+use Rattle.gx_law_schedules.proofs.Sessions.{end-alike}
+use Rattle.gx_law_schedules.proofs.Waits.{no-resumption, no-rounds}
+use Rattle.gx_law_runs.specs.Reached.{IsReached}
+use Rattle.gx_law_runs.specs.Replays.{is_admitted}
+use Rattle.gx_law_runs.proofs.Reaching.{by-events, enabled-admitted, replayed}
+use Rattle.gx_law_runs.proofs.Replaying.{world-replayed}
+use Rattle.gx_law_runs.proofs.Telling.{can-told}
 use Rattle.gx_drive.specs.Agrees.{deliveries_of}
 use Rattle.gx_drive.proofs.Firsts.{first-before, first-behind, first-none, first-twice}
 

@@ -16,13 +16,13 @@ use Rattle.gx_rules.specs.AtSegment.{seg_rule}
 use Rattle.gx_rules.specs.Coordinators.{Coord}
 use Rattle.gx_rules.specs.Machine.{World, after, at_node, can, delivered, found, happens, kept_item, new_world, node_of, world_of}
 use Rattle.gx_rules.specs.Segments.{Seg}
-use Rattle.gx_laws.specs.Journals.{item_at, journal_after, journal_from, takes}
-use Rattle.gx_laws.proofs.Journals.{journal-holds}
-use Rattle.gx_replays.specs.Reached.{IsReached}
-use Rattle.gx_replays.specs.Replays.{AreReplayed, world_behind}
-use Rattle.gx_replays.proofs.Leading.{after-last}
-use Rattle.gx_replays.proofs.Reaching.{replayed}
-use Rattle.gx_replays.proofs.Telling.{can-told, happens-alike}
+use Rattle.gx_law_order.specs.Journals.{item_at, journal_after, journal_from, takes}
+use Rattle.gx_law_order.proofs.Journals.{journal-holds}
+use Rattle.gx_law_runs.specs.Reached.{IsReached}
+use Rattle.gx_law_runs.specs.Replays.{AreReplayed, world_behind}
+use Rattle.gx_law_runs.proofs.Leading.{after-last}
+use Rattle.gx_law_runs.proofs.Reaching.{replayed}
+use Rattle.gx_law_runs.proofs.Telling.{can-told, happens-alike}
 
 journal-last : (script : Script) (node : Node) (es : List (Event × Bool)) (x : Event × Bool) (w : World) (held : List JournalItem) → journal_from script w node held (es ++ x ∷ []) ≡ journal_from script w node held es ++ takes script (after script w es) x.0 x.1 node
 journal-last script node [] x w held = refl

@@ -5,7 +5,7 @@ use Rattle.std.proofs.lemmas.List.Elements.{recursion_from_All}
 use Rattle.std.specs.List.{AllByRecursion}
 use Rattle.std.specs.Prelude.{All, map, min, slice_get}
 use Rattle.gx_ids.specs.declared.ids.Node.{Node}
-use Rattle.gx_network.specs.Worlds.{Shelf, shelf}
+use Rattle.gx_world.specs.Worlds.{Shelf, shelf}
 use Rattle.gx_drive.specs.Ordered.{AreFailuresFew, AreHeld}
 
 same-some : (a b : Shelf) → Some a ≡ Some b → a ≡ b

@@ -13,16 +13,16 @@ use Rattle.gx_store.specs.Marks.{answer_count}
 use Rattle.gx_store.specs.Points.{marks_in, starts_in}
 use Rattle.gx_store.specs.Schedule.{sent_message}
 use Rattle.gx_rules.specs.Machine.{can_here, delivered, found}
-use Rattle.gx_schedules.specs.Links.{message_of}
-use Rattle.gx_schedules.proofs.Links.{sent_message-kept}
-use Rattle.gx_schedules.proofs.World.{world-letters}
-use Rattle.gx_replays.specs.Reached.{IsReached}
-use Rattle.gx_replays.specs.Replays.{is_admitted, letters_after, world_behind}
-use Rattle.gx_replays.proofs.Reaching.{by-events, replayed}
-use Rattle.gx_endings.proofs.Finishing.{room}
-use Rattle.gx_asked.specs.Awaited.{told_in}
-use Rattle.gx_queue.specs.Queued.{AreCounted}
-use Rattle.gx_laws.proofs.Lists.{get_last}
+use Rattle.gx_law_schedules.specs.Links.{message_of}
+use Rattle.gx_law_schedules.proofs.Links.{sent_message-kept}
+use Rattle.gx_law_schedules.proofs.World.{world-letters}
+use Rattle.gx_law_runs.specs.Reached.{IsReached}
+use Rattle.gx_law_runs.specs.Replays.{is_admitted, letters_after, world_behind}
+use Rattle.gx_law_runs.proofs.Reaching.{by-events, replayed}
+use Rattle.gx_law_runs.proofs.Finishing.{room}
+use Rattle.gx_agenda.specs.Awaited.{told_in}
+use Rattle.gx_agenda.specs.Queued.{AreCounted}
+use Rattle.gx_law_order.proofs.Lists.{get_last}
 use Rattle.gx_drive.specs.Agrees.{IsDue}
 
 module _ (script : Script) (some : 1 ≤ script.segments) where

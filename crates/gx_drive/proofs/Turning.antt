@@ -15,14 +15,14 @@ use Rattle.gx_store.specs.declared.run.Step.{Step}
 use Rattle.gx_store.specs.Journals.{is_same_node, items_of}
 use Rattle.gx_store.specs.Points.{marks_in}
 use Rattle.gx_rules.specs.Machine.{happens, node_of}
-use Rattle.gx_laws.specs.Journals.{takes}
-use Rattle.gx_network.specs.Worlds.{AreLater, HasStepped, Shelf}
-use Rattle.gx_replays.specs.Reached.{IsReached}
-use Rattle.gx_replays.specs.Replays.{world_behind}
-use Rattle.gx_replays.proofs.Reaching.{event-reached}
-use Rattle.gx_laws.proofs.World.{marks-last}
-use Rattle.gx_failures.specs.Failures.{failures_in}
-use Rattle.gx_failures.proofs.Steps.{behind-few}
+use Rattle.gx_law_order.specs.Journals.{takes}
+use Rattle.gx_world.specs.Worlds.{AreLater, HasStepped, Shelf}
+use Rattle.gx_law_runs.specs.Reached.{IsReached}
+use Rattle.gx_law_runs.specs.Replays.{world_behind}
+use Rattle.gx_law_runs.proofs.Reaching.{event-reached}
+use Rattle.gx_law_order.proofs.World.{marks-last}
+use Rattle.gx_law_runs.specs.Failures.{failures_in}
+use Rattle.gx_law_runs.proofs.Steps.{behind-few}
 use Rattle.gx_drive.specs.Agrees.{IsNextStep}
 use Rattle.gx_drive.specs.Ordered.{AreFailuresFew, AreFirst, AreHeld, IsFirst}
 use Rattle.gx_drive.proofs.Held.{items-after}

@@ -10,14 +10,14 @@ use Rattle.gx_script.specs.declared.Script.{Script}
 use Rattle.gx_sql.specs.Language.{IsScript}
 use Rattle.gx_store.specs.declared.run.Step.{Step}
 use Rattle.gx_store.specs.Schedule.{enabled}
-use Rattle.gx_answers.specs.Whole.{AreInsertsWhole}
-use Rattle.gx_scripts.proofs.Numbers.{lines_numbered}
-use Rattle.gx_endings.specs.Endings.{is_any_unfinished, is_unfinished, is_unfinished_there, sessions_of}
-use Rattle.gx_endings.proofs.Finishing.{replayed-alike}
-use Rattle.gx_progress.proofs.Going.{goes-on}
-use Rattle.gx_replays.specs.Reached.{IsReached}
-use Rattle.gx_replays.specs.Replays.{coordinator_after}
-use Rattle.gx_replays.proofs.Reaching.{by-events}
+use Rattle.gx_law_answers.specs.Whole.{AreInsertsWhole}
+use Rattle.gx_law_scripts.proofs.Numbers.{lines_numbered}
+use Rattle.gx_law_runs.specs.Endings.{is_any_unfinished, is_unfinished, is_unfinished_there, sessions_of}
+use Rattle.gx_law_runs.proofs.Finishing.{replayed-alike}
+use Rattle.gx_law_runs.proofs.Going.{goes-on}
+use Rattle.gx_law_runs.specs.Reached.{IsReached}
+use Rattle.gx_law_runs.specs.Replays.{coordinator_after}
+use Rattle.gx_law_runs.proofs.Reaching.{by-events}
 
 abbrev ids : ℕ → ℕ → List SessionId
 ids k n = map (λ m. record { 0 = m }) (range_with_len k n)

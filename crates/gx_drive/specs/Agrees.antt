@@ -8,11 +8,11 @@ use Rattle.gx_store.specs.declared.run.Step.{Step}
 use Rattle.gx_store.specs.Ordered.{IsLink}
 use Rattle.gx_store.specs.Refusals.{the_coordinator}
 use Rattle.gx_store.specs.Schedule.{first_of, left_on, segments_of}
-use Rattle.gx_asked.specs.Awaited.{AreAsked}
-use Rattle.gx_cursors.specs.Agrees.{Agree}
-use Rattle.gx_network.specs.Worlds.{Shelf, WorldState}
-use Rattle.gx_queue.specs.Queued.{AreQueued}
-use Rattle.gx_replays.specs.Reached.{IsReached}
+use Rattle.gx_agenda.specs.Awaited.{AreAsked}
+use Rattle.gx_agenda.specs.Agrees.{Agree}
+use Rattle.gx_world.specs.Worlds.{Shelf, WorldState}
+use Rattle.gx_agenda.specs.Queued.{AreQueued}
+use Rattle.gx_law_runs.specs.Reached.{IsReached}
 use Rattle.gx_drive.specs.Ordered.{AreFailuresFew, AreFirst, AreHeld, IsFirst}
 use Rattle.gx_drive.specs.declared.agenda.Agenda.{Agenda}
 

@@ -8,9 +8,9 @@ use Rattle.gx_store.specs.declared.run.Step.{Step}
 use Rattle.gx_store.specs.Journals.{items_of}
 use Rattle.gx_store.specs.Points.{marks_in}
 use Rattle.gx_store.specs.Schedule.{enabled, first_of}
-use Rattle.gx_endings.specs.Endings.{is_any_unfinished}
-use Rattle.gx_failures.specs.Failures.{failures_in}
-use Rattle.gx_network.specs.Worlds.{Shelf}
+use Rattle.gx_law_runs.specs.Endings.{is_any_unfinished}
+use Rattle.gx_law_runs.specs.Failures.{failures_in}
+use Rattle.gx_world.specs.Worlds.{Shelf}
 use Rattle.gx_drive.specs.declared.end.End.{End}
 use Rattle.gx_drive.specs.declared.end.End.TheVariants.{Done, Turns}
 

@@ -1,12 +1,12 @@
 // The first session that is to be ended.
 ghost use Rattle.std.specs.Prelude.{◌≡◌, ◌<◌, false, IfOk};
 ghost use Rattle.std.specs.Option.{option_to_list};
-ghost use Rattle.gx_replays.specs.Reached.{IsReached};
+ghost use Rattle.gx_law_runs.specs.Reached.{IsReached};
 ghost use Rattle.gx_store.specs.Schedule.{ends, first_of};
 ghost use Rattle.gx_store.specs.declared.event.Event.TheVariants.{End};
 
 use gx_ids::{Mem, SessionId};
-use gx_network::World;
+use gx_world::World;
 use gx_store::Event;
 
 fn end_of(place: usize) -> Event

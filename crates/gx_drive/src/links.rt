@@ -2,15 +2,15 @@
 ghost use Rattle.std.specs.Prelude.{◌≡◌, ◌++◌, false, IfSome};
 ghost use Rattle.std.specs.List.{flat_map};
 ghost use Rattle.std.specs.Option.{option_to_list};
-ghost use Rattle.gx_cursors.specs.Agrees.{Agree};
+ghost use Rattle.gx_agenda.specs.Agrees.{Agree};
 ghost use Rattle.gx_store.specs.Ordered.{IsLink};
 ghost use Rattle.gx_store.specs.Refusals.{the_coordinator};
 ghost use Rattle.gx_store.specs.Schedule.{first_of, left_on, segments_of};
 ghost use Rattle.gx_drive.specs.Agrees.{IsDue};
 
-use gx_cursors::Cursors;
+use gx_agenda::Cursors;
 use gx_ids::Node;
-use gx_network::World;
+use gx_world::World;
 use gx_store::Event;
 
 // The next delivery of a link.

@@ -1,15 +1,15 @@
 ghost use Rattle.std.specs.Prelude.{◌≡◌, ◌≤◌, [], false, All, IfOk, OnOk, length, map};
-ghost use Rattle.gx_answers.specs.Whole.{AreInsertsWhole};
-ghost use Rattle.gx_endings.specs.Endings.{is_any_unfinished};
-ghost use Rattle.gx_network.specs.Worlds.{shelf};
-ghost use Rattle.gx_replays.specs.Reached.{IsReached};
+ghost use Rattle.gx_law_answers.specs.Whole.{AreInsertsWhole};
+ghost use Rattle.gx_law_runs.specs.Endings.{is_any_unfinished};
+ghost use Rattle.gx_world.specs.Worlds.{shelf};
+ghost use Rattle.gx_law_runs.specs.Reached.{IsReached};
 ghost use Rattle.gx_drive.specs.Ordered.{AreFailuresFew, AreFirst, AreHeld, IsEnd};
 
 use crate::agenda::Agenda;
 use crate::end::End;
 use crate::turn::turn;
 use gx_ids::Mem;
-use gx_network::World;
+use gx_world::World;
 use gx_outside::{Gate, Journal};
 use std::alloc::Global;
 

@@ -5,7 +5,7 @@ use gx_grammar::{Limits, read_expr};
 use gx_ids::Mem;
 use gx_lex::cut_line;
 use gx_tree::{Column, Expr, Kind, Txt, Value};
-use gx_typing::{Typed, find_column, type_expression};
+use gx_resolve::{Typed, find_column, type_expression};
 use std::alloc::Global;
 use std::process::Abort;
 use std::test::Fail;

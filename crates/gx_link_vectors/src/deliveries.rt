@@ -1,5 +1,5 @@
 // A link that loses some messages and repeats others.
-use gx_cursors::Cursors;
+use gx_agenda::Cursors;
 use gx_ids::{Mem, Node, Seq};
 use gx_script::{LinkFault, Script};
 use std::alloc::Global;

@@ -6,7 +6,7 @@ use Rattle.gx_tree.specs.declared.schema.Column.{Column}
 use Rattle.gx_tree.specs.declared.schema.Kind.{Kind}
 use Rattle.gx_tree.specs.declared.query.Item.TheVariants as item
 use Rattle.gx_lines.specs.declared.syn.ItemSyn.{ItemSyn}
-use Rattle.gx_typing.specs.Columns.{column_from, column_of}
+use Rattle.gx_resolve.specs.Columns.{column_from, column_of}
 use Rattle.gx_resolve.specs.declared.fault.NameFault.TheVariants.{UnknownColumn}
 use Rattle.gx_resolve.specs.Results.{◌>>=◌, each}
 use Rattle.gx_resolve.specs.Naming.{Used, item_names, is_column, names_right}

@@ -20,3 +20,4 @@ pub mod TidyWithin
 pub mod StmtCleared
 pub mod StmtResolved
 pub mod TableNames
+pub mod LineKept

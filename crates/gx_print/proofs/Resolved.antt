@@ -20,10 +20,10 @@ use Rattle.gx_lines.specs.declared.syn.ItemSyn.TheVariants as item_syn
 use Rattle.gx_lines.specs.declared.syn.KeySyn.{KeySyn}
 use Rattle.gx_lines.specs.declared.syn.TupleSyn.{TupleSyn}
 use Rattle.gx_lines.specs.declared.syn.AssignSyn.{AssignSyn}
-use Rattle.gx_typing.specs.Columns.{column_of}
-use Rattle.gx_typing.specs.Typing.{typed_of}
-use Rattle.gx_typing.specs.declared.typed.Typed.{Typed}
-use Rattle.gx_typing.specs.declared.typed.Typed.TheVariants as typed
+use Rattle.gx_resolve.specs.Columns.{column_of}
+use Rattle.gx_resolve.specs.Typing.{typed_of}
+use Rattle.gx_resolve.specs.declared.typed.Typed.{Typed}
+use Rattle.gx_resolve.specs.declared.typed.Typed.TheVariants as typed
 use Rattle.gx_resolve.specs.declared.fault.NameFault.TheVariants.{UnknownColumn}
 use Rattle.gx_resolve.specs.Results.{Answer, ◌>>=◌, each}
 use Rattle.gx_resolve.specs.Kinding.{column_at, value_as, cond_as, where_as, constant_as, values_as, tuple_as, assign_as}

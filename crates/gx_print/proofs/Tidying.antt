@@ -17,10 +17,10 @@ use Rattle.gx_grammar.specs.declared.syn.Syn.TheVariants as syn
 use Rattle.gx_grammar.specs.declared.syn.Syn.TheVariants.{rolls-Number, rolls-Text, rolls-Column, rolls-Neg, rolls-Not, rolls-Bin}
 use Rattle.gx_grammar.specs.declared.syn.Syn.TheOpen.{Syn-F}
 use Rattle.gx_grammar.specs.declared.syn.Syn.TheFolds.{fold-Syn, fold-roll-Syn, ind-Syn, map-Syn}
-use Rattle.gx_typing.specs.Columns.{column_from, column_of}
-use Rattle.gx_typing.specs.Typing.{number_typed, column_typed, neg_typed, not_typed, beside, wrong, arith_typed, cmp_typed, and_typed, or_typed, bin_typed, typed_step, typed_of}
-use Rattle.gx_typing.specs.declared.typed.Typed.{Typed}
-use Rattle.gx_typing.specs.declared.typed.Typed.TheVariants.{Value, Cond, Unknown, Mismatch}
+use Rattle.gx_resolve.specs.Columns.{column_from, column_of}
+use Rattle.gx_resolve.specs.Typing.{number_typed, column_typed, neg_typed, not_typed, beside, wrong, arith_typed, cmp_typed, and_typed, or_typed, bin_typed, typed_step, typed_of}
+use Rattle.gx_resolve.specs.declared.typed.Typed.{Typed}
+use Rattle.gx_resolve.specs.declared.typed.Typed.TheVariants.{Value, Cond, Unknown, Mismatch}
 use Rattle.gx_resolve.specs.Naming.{names_step, names_in}
 use Rattle.gx_grammar.specs.Grammar.{Shape, parens, level, left_level}
 use Rattle.gx_print.specs.Shapes.{IsName, IsClear}

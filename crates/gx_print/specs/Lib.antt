@@ -5,3 +5,4 @@ pub mod Limited
 pub mod Written
 pub mod Levels
 pub mod Reading
+pub mod Reprinting

@@ -1,7 +1,7 @@
 // The printed form of a line follows from the same rules as that of a statement, over the script's own tables.
 
 use gx_ids::Mem;
-use gx_reprint::print_line;
+use gx_print::print_line;
 use gx_script::Script;
 use gx_sql::{Refusal, parse_script};
 use std::alloc::Global;

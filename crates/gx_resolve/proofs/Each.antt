@@ -13,9 +13,9 @@ use Rattle.gx_tree.specs.declared.query.Item.{Item}
 use Rattle.gx_tree.specs.declared.query.Item.TheVariants as item
 use Rattle.gx_tree.specs.declared.schema.Kind.{Kind}
 use Rattle.gx_tree.specs.declared.schema.Kind.TheVariants as kind
-use Rattle.gx_typing.specs.Typing.{typed_of}
-use Rattle.gx_typing.specs.declared.typed.Typed.{Typed}
-use Rattle.gx_typing.specs.declared.typed.Typed.TheVariants as typed
+use Rattle.gx_resolve.specs.Typing.{typed_of}
+use Rattle.gx_resolve.specs.declared.typed.Typed.{Typed}
+use Rattle.gx_resolve.specs.declared.typed.Typed.TheVariants as typed
 use Rattle.gx_resolve.specs.Selecting.{columns_from}
 use Rattle.gx_resolve.specs.Kinding.{value_as, constant_as, values_as}
 

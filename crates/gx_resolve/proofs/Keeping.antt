@@ -26,10 +26,10 @@ use Rattle.gx_lines.specs.declared.syn.KeySyn.{KeySyn}
 use Rattle.gx_lines.specs.declared.syn.SelectSyn.{SelectSyn}
 use Rattle.gx_lines.specs.declared.syn.TupleSyn.{TupleSyn}
 use Rattle.gx_lines.specs.declared.syn.AssignSyn.{AssignSyn}
-use Rattle.gx_typing.specs.Columns.{column_of}
-use Rattle.gx_typing.specs.Typing.{typed_of}
-use Rattle.gx_typing.specs.declared.typed.Typed.{Typed}
-use Rattle.gx_typing.specs.declared.typed.Typed.TheVariants as typed
+use Rattle.gx_resolve.specs.Columns.{column_of}
+use Rattle.gx_resolve.specs.Typing.{typed_of}
+use Rattle.gx_resolve.specs.declared.typed.Typed.{Typed}
+use Rattle.gx_resolve.specs.declared.typed.Typed.TheVariants as typed
 use Rattle.gx_eval.specs.Kinds.{kind_of, is_typed}
 use Rattle.gx_resolve.specs.declared.fault.NameFault.TheVariants.{UnknownColumn}
 use Rattle.gx_resolve.specs.Results.{Answer, ◌>>=◌, each}

@@ -9,10 +9,10 @@ use Rattle.gx_tree.specs.declared.stmt.Assign.{Assign}
 use Rattle.gx_grammar.specs.declared.syn.Syn.{Syn}
 use Rattle.gx_lines.specs.declared.syn.TupleSyn.{TupleSyn}
 use Rattle.gx_lines.specs.declared.syn.AssignSyn.{AssignSyn}
-use Rattle.gx_typing.specs.Columns.{column_of}
-use Rattle.gx_typing.specs.Typing.{typed_of}
-use Rattle.gx_typing.specs.declared.typed.Typed.{Typed}
-use Rattle.gx_typing.specs.declared.typed.Typed.TheVariants as typed
+use Rattle.gx_resolve.specs.Columns.{column_of}
+use Rattle.gx_resolve.specs.Typing.{typed_of}
+use Rattle.gx_resolve.specs.declared.typed.Typed.{Typed}
+use Rattle.gx_resolve.specs.declared.typed.Typed.TheVariants as typed
 use Rattle.gx_resolve.specs.declared.fault.NameFault.TheVariants.{UnknownColumn, TypeMismatch}
 use Rattle.gx_resolve.specs.Results.{Answer, ◌>>=◌}
 

@@ -4,3 +4,5 @@ pub mod Kinding
 pub mod Selecting
 pub mod Resolving
 pub mod Rules
+pub mod Columns
+pub mod Typing

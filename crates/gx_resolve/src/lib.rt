@@ -2,14 +2,21 @@
 //! kinds.
 #![tactic(auto)]
 
+pub mod columns;
+pub mod expression;
 pub mod fault;
 pub mod laws;
 mod naming;
+pub mod node;
 mod parts;
 mod select;
 mod statement;
 mod table;
+pub mod typed;
 
+pub use columns::find_column;
+pub use expression::type_expression;
 pub use fault::{NameFault, ResolveError};
 pub use statement::{named_table, resolve_stmt};
 pub use table::resolve_table;
+pub use typed::Typed;

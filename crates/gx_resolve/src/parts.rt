@@ -10,7 +10,7 @@ use gx_grammar::Syn;
 use gx_ids::Seq;
 use gx_lines::{AssignSyn, TupleSyn};
 use gx_tree::{Assign, Column, Cond, Expr, Kind, Txt};
-use gx_typing::{Typed, find_column, type_expression};
+use crate::{Typed, find_column, type_expression};
 use std::alloc::Global;
 
 /// What is something else over the columns of its table than as it is written.

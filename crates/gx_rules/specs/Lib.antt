@@ -14,3 +14,4 @@ pub mod Machine
 pub mod System
 pub mod Rows
 pub mod Expected
+pub mod Last

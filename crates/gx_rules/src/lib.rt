@@ -3,3 +3,6 @@
 #![tactic(auto)]
 
 pub mod rows;
+pub mod views;
+
+pub use views::{kept_rows_are_the_last, rows_are_their_images, shown_rows_are_the_last};

@@ -18,9 +18,9 @@ use Rattle.gx_store.specs.Marks.{is_same_gxid, is_same_rid}
 use Rattle.gx_store.specs.Rows.{row_at}
 use Rattle.gx_rules.specs.Segments.{Seg, Version, has_committed, local_of}
 use Rattle.gx_rules.specs.Shown.{counts, last_images, shown}
-use Rattle.gx_shown.specs.Last.{counting, last_image, row_of}
-use Rattle.gx_shown.proofs.Kept.{image_in-last_images, in_order-last_images}
-use Rattle.gx_shown.proofs.Rows.{rising-rows_in, row_at-rows_in, rows-same}
+use Rattle.gx_rules.specs.Last.{counting, last_image, row_of}
+use Rattle.gx_rules.proofs.KeptImages.{image_in-last_images, in_order-last_images}
+use Rattle.gx_rules.proofs.ShownRows.{rising-rows_in, row_at-rows_in, rows-same}
 use Rattle.gx_slices.specs.Agrees.{has_version, is_of_row, write_of}
 use Rattle.gx_slices.specs.Apart.{IsStored}
 use Rattle.gx_slices.proofs.Gxids.{itself}

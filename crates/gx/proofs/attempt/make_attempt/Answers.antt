@@ -1,5 +1,5 @@
 use Rattle.std.proofs.Common.{true}
-use Rattle.gx_scripts.proofs.Whole.{inserts_whole}
+use Rattle.gx_law_scripts.proofs.Whole.{inserts_whole}
 use Rattle.gx.proofs.Kept.{none-kept, refused-kept}
 use Rattle.gx.proofs.attempt.make_attempt.Goals as goal
 

@@ -1,5 +1,5 @@
 use Rattle.std.proofs.Common.{◌∙◌, ap, refl, subst}
-use Rattle.gx_replays.specs.Reached.{IsReached}
+use Rattle.gx_law_runs.specs.Reached.{IsReached}
 use Rattle.gx_report.specs.Text.{text_of}
 use Rattle.gx_store.specs.declared.run.Run.{Run}
 use Rattle.gx_drive.proofs.Answers.{if_ok}

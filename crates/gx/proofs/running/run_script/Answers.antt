@@ -1,5 +1,5 @@
 use Rattle.std.proofs.Common.{[], ◌∙◌, ap, arith, false, inr, subst, sym}
-use Rattle.gx_network.specs.Worlds.{WorldState, shelf}
+use Rattle.gx_world.specs.Worlds.{WorldState, shelf}
 use Rattle.gx_script.specs.declared.Script.{Script}
 use Rattle.gx_drive.specs.Ordered.{AreFirst}
 use Rattle.gx.specs.Top.{is_over, run_in}

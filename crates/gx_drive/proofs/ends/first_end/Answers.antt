@@ -1,6 +1,6 @@
 use Rattle.std.proofs.Common.{ap, ◌∙◌, ◌∷◌, [], sym, arith, length}
 use Rattle.gx_script.specs.declared.Script.{Script}
-use Rattle.gx_replays.specs.Replays.{is_admitted}
+use Rattle.gx_law_runs.specs.Replays.{is_admitted}
 use Rattle.gx_store.specs.Schedule.{first_of, is_to_end}
 use Rattle.gx_drive.proofs.Enabled.{end-admitted}
 use Rattle.gx_drive.proofs.Firsts.{passing-skips, passing-takes}

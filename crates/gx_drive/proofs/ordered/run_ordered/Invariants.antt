@@ -1,5 +1,5 @@
 use Rattle.std.specs.Prelude.{map}
-use Rattle.gx_network.specs.Worlds.{shelf}
+use Rattle.gx_world.specs.Worlds.{shelf}
 use Rattle.gx_drive.specs.Agrees.{IsUnderWay}
 use Rattle.gx_drive.proofs.ordered.run_ordered.Given as goal
 

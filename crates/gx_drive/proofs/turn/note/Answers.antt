@@ -1,6 +1,6 @@
 use Rattle.std.proofs.Common.{◌∷◌, ◌++◌, [], ap, ◌∙◌, length, ◌-◌, subst, sym}
 use Rattle.std.specs.Prelude.{slice_get}
-use Rattle.gx_queue.specs.Queued.{AreCounted}
+use Rattle.gx_agenda.specs.Queued.{AreCounted}
 use Rattle.gx_store.specs.declared.run.Run.{Run}
 use Rattle.gx_drive.specs.Agrees.{IsAgreed}
 use Rattle.gx_drive.proofs.Answers.{on_ok}

@@ -1,6 +1,6 @@
 use Rattle.std.proofs.Common.{subst, sym}
 use Rattle.gx_script.specs.declared.Script.{Script}
-use Rattle.gx_replays.specs.Reached.{IsReached}
+use Rattle.gx_law_runs.specs.Reached.{IsReached}
 use Rattle.gx_drive.proofs.Answers.{on_ok}
 use Rattle.gx_drive.proofs.Driving.{turned-by}
 use Rattle.gx_drive.proofs.Turning.{stepped-few, stepped-reached}

@@ -1,0 +1,16 @@
+pub mod Adding
+pub mod Agreeing
+pub mod Deliveries
+pub mod Leftovers
+pub mod Numbers
+pub mod Receipts
+pub mod Standing
+pub mod Lists
+pub mod FirstLines
+pub mod Growing
+pub mod Advancing
+pub mod Noting
+pub mod Changes
+pub mod FirstAsked
+pub mod Resending
+pub mod Steps

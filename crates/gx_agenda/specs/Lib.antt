@@ -1,0 +1,12 @@
+pub mod Links
+pub mod Faults
+pub mod Agrees
+pub mod FreshLinks
+pub mod LinePlaces
+pub mod Queued
+pub mod FreshQueue
+pub mod Moves
+pub mod Requests
+pub mod Expected
+pub mod Awaited
+pub mod Following

@@ -1,0 +1,14 @@
+-- Requests in order, and the event that repeats one.
+use Rattle.std.specs.Prelude.{Some}
+use Rattle.std.specs.declared.cmp.Ordering.{Ordering}
+use Rattle.std.specs.Ordering.{nat_cmp, ordering_then}
+use Rattle.gx_store.specs.declared.event.Event.{Event}
+use Rattle.gx_store.specs.declared.event.Event.TheVariants.{Resend}
+use Rattle.gx_agenda.specs.declared.request.Request.{Request}
+
+-- by segment, and then by transaction
+abbrev pub request_cmp : Request → Request → Ordering
+request_cmp a b = ordering_then (nat_cmp a.segment.0 b.segment.0) (nat_cmp a.gxid.0 b.gxid.0)
+
+abbrev pub resend_of : Request → Event
+resend_of request = Resend request.segment (Some request.gxid)

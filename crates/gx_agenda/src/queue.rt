@@ -1,0 +1,128 @@
+ghost use Rattle.std.specs.Prelude.{◌≡◌, ◌<◌, ◌+◌, ◌++◌, ◌∷◌, [], ℕ, List, length, IfOk, OnOk, option_map, slice_get, Some};
+ghost use Rattle.std.specs.Option.{option_to_list};
+ghost use Rattle.gx_ids.specs.declared.ids.SessionId.{SessionId as OneSession};
+ghost use Rattle.gx_script.specs.declared.Line.{Line as OneLine};
+ghost use Rattle.gx_script.specs.declared.Script.{Script};
+ghost use Rattle.gx_sql.specs.Language.{IsScript};
+ghost use Rattle.gx_store.specs.declared.event.Event.TheVariants.{Start};
+ghost use Rattle.gx_store.specs.declared.run.Step.{Step};
+ghost use Rattle.gx_store.specs.Marks.{answer_count};
+ghost use Rattle.gx_store.specs.Points.{starts_by};
+ghost use Rattle.gx_store.specs.Schedule.{first_of, starts};
+ghost use Rattle.gx_agenda.specs.declared.standing.Standing.{Standing as OneStanding};
+ghost use Rattle.gx_agenda.specs.Moves.{AreFew, IsAdvancedAt, more_for, session_answered, session_started};
+ghost use Rattle.gx_agenda.specs.Queued.{AreCounted, AreQueued, AreQueuedBy};
+
+use crate::making::{first_lines, fresh_standings};
+use crate::places::go_on;
+use crate::standing::{Move, Standing};
+use gx_ids::{Mem, SessionId};
+use gx_script::Script;
+use gx_store::{Event, Mark, Step};
+use std::alloc::Global;
+use std::collections::BTreeMap;
+
+/// The next line of each session that is idle, by its place in the file.
+#[derive(Drop)]
+pub struct Queue {
+    pub standings: Vec<Standing>,
+    pub next: BTreeMap<usize, SessionId>,
+}
+
+impl Queue {
+    /// The queue of a run without steps: the first line of each session.
+    pub fn new(alloc: Global, script: &Script) -> Mem<Queue>
+        requires { IsScript script.now }
+        ensures { IfOk result (λ queue. AreQueued script.now [] queue) }
+    {
+        let lines = script.lines.as_slice();
+        let standings = fresh_standings(alloc, lines, script.sessions.len())?;
+        let next = first_lines(alloc, lines)?;
+        Ok(Queue { standings, next })
+    }
+
+    /// The session whose next line stands first in the file; none where no session is idle with a line left.
+    pub fn first(&self) -> Option<SessionId>
+        ensures { (script : Script) (steps : List Step) → AreQueued script steps self.now → option_to_list (option_map Start result) ≡ first_of (starts script steps) }
+    {
+        match self.next.first_key_value() {
+            Some((_, session)) => Some(*session),
+            None => None,
+        }
+    }
+
+    /// A step of the run was done.
+    pub fn note(&mut self, step: &Step) -> Mem<()>
+        ensures { OnOk result ((script : Script) (steps : List Step) → AreQueued script steps self.old → AreCounted (steps ++ step.now ∷ []) → AreQueued script (steps ++ step.now ∷ []) self.new) }
+    {
+        self.note_event(step.event)?;
+        self.note_marks(step.marks.as_slice())
+    }
+
+    // An event may start a line.
+    fn note_event(&mut self, event: Event) -> Mem<()>
+        ensures { OnOk result ((lines : List OneLine) (started answered : OneSession → ℕ) → AreQueuedBy lines started answered self.old → AreFew (λ s. started s + starts_by s event) → AreFew answered → AreQueuedBy lines (λ s. started s + starts_by s event) answered self.new) }
+    {
+        match started_session(event) {
+            Some(session) => self.count(session, 1, 0),
+            None => Ok(()),
+        }
+    }
+
+    // Marks may answer lines.
+    fn note_marks(&mut self, marks: &[Mark]) -> Mem<()>
+        ensures { OnOk result ((lines : List OneLine) (started answered : OneSession → ℕ) → AreQueuedBy lines started answered self.old → AreFew started → AreFew (λ s. answered s + answer_count s marks.now) → AreQueuedBy lines started (λ s. answered s + answer_count s marks.now) self.new) }
+    {
+        for mark in marks {
+            self.note_mark(mark)?;
+        }
+        Ok(())
+    }
+
+    fn note_mark(&mut self, mark: &Mark) -> Mem<()>
+        ensures { OnOk result ((lines : List OneLine) (started answered : OneSession → ℕ) → AreQueuedBy lines started answered self.old → AreFew started → AreFew (λ s. answered s + answer_count s (mark.now ∷ [])) → AreQueuedBy lines started (λ s. answered s + answer_count s (mark.now ∷ [])) self.new) }
+    {
+        match answered_session(mark) {
+            Some(session) => self.count(session, 0, 1),
+            None => Ok(()),
+        }
+    }
+
+    // So many more of a session's lines were started, and so many answered; a session that the script lacks has none.
+    fn count(&mut self, session: SessionId, starts: usize, answers: usize) -> Mem<()>
+        ensures { OnOk result ((lines : List OneLine) (started answered : OneSession → ℕ) → AreQueuedBy lines started answered self.old → AreFew (more_for session starts started) → AreFew (more_for session answers answered) → AreQueuedBy lines (more_for session starts started) (more_for session answers answered) self.new) }
+    {
+        let number = usize::from(session.0);
+        if number < self.standings.len() {
+            let moved = advance(&mut self.standings, number, starts, answers);
+            go_on(&mut self.next, moved, session)?;
+        }
+        Ok(())
+    }
+}
+
+// Counts for the session of a number.
+fn advance(standings: &mut Vec<Standing>, number: usize, starts: usize, answers: usize) -> Move
+    requires { number < length standings.old.items }
+    ensures { (was : OneStanding) → slice_get standings.old.items number ≡ Some was → IsAdvancedAt number standings.old.items standings.new.items was starts answers result }
+{
+    standings[number].advance(starts, answers)
+}
+
+fn started_session(event: Event) -> Option<SessionId>
+    ensures { result ≡ session_started event }
+{
+    match event {
+        Event::Start(session) => Some(session),
+        _ => None,
+    }
+}
+
+fn answered_session(mark: &Mark) -> Option<SessionId>
+    ensures { result ≡ session_answered mark.now }
+{
+    match mark {
+        Mark::Answer { session, .. } => Some(*session),
+        _ => None,
+    }
+}

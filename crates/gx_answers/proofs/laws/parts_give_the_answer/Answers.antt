@@ -1,5 +1,0 @@
-use Rattle.gx_answers.proofs.Merging.{merged-answer}
-use Rattle.gx_answers.proofs.laws.parts_give_the_answer.Goals as goal
-
-pub returns : goal.returns
-returns c = λ query whole parts of. merged-answer query whole parts of

@@ -1,4 +1,0 @@
-pub mod Changes
-pub mod Firsts
-pub mod Resending
-pub mod Steps

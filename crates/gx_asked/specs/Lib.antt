@@ -1,4 +1,0 @@
-pub mod Requests
-pub mod Expected
-pub mod Awaited
-pub mod Following

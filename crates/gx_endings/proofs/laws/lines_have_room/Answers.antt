@@ -1,9 +1,0 @@
-use Rattle.std.proofs.Common.{◌≤◌, length}
-use Rattle.gx_store.specs.Marks.{answer_count}
-use Rattle.gx_store.specs.Points.{marks_in, starts_in}
-use Rattle.gx_replays.proofs.Reaching.{by-events}
-use Rattle.gx_endings.proofs.Finishing.{room}
-use Rattle.gx_endings.proofs.laws.lines_have_room.Goals as goal
-
-pub returns : goal.returns
-returns c = λ script steps session some is. by-events script steps is (λ ss. (answer_count session (marks_in ss) ≤ starts_in session ss) × (starts_in session ss ≤ length ss)) (room script some session)

@@ -1,4 +1,0 @@
-pub mod Marks
-pub mod AtSegments
-pub mod AtCoordinators
-pub mod Steps

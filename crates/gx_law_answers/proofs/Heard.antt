@@ -1,0 +1,193 @@
+-- What was heard of a command is true, also now.
+use Rattle.std.proofs.Common.{◌≡◌, ◌≤◌, inl, inr, ℕ, zero, suc, List, [], ◌∷◌, ◌++◌, length, Option, Some, None, Bool, true, false, refl, sym, subst, ap, ◌∙◌, if◌then◌else◌, ◌||◌, arith, append_assoc, append-nil}
+use Rattle.std.proofs.lemmas.List.Elements.{recursion_from_All}
+use Rattle.std.specs.List.{AllByRecursion}
+use Rattle.std.specs.Prelude.{slice_get, take}
+use Rattle.gx_ids.specs.declared.ids.Cid.{Cid}
+use Rattle.gx_ids.specs.declared.ids.Gxid.{Gxid}
+use Rattle.gx_ids.specs.declared.ids.Node.{Node}
+use Rattle.gx_tree.specs.declared.query.Query.{Query}
+use Rattle.gx_tree.specs.declared.part.Part.{Part}
+use Rattle.gx_tree.specs.declared.stmt.Level.{Level}
+use Rattle.gx_msg.specs.declared.message.Message.{Message}
+use Rattle.gx_msg.specs.declared.message.Message.TheVariants as message
+use Rattle.gx_msg.specs.declared.reply.Reply.{Reply}
+use Rattle.gx_script.specs.declared.Script.{Script}
+use Rattle.gx_store.specs.declared.event.Event.{Event}
+use Rattle.gx_store.specs.declared.mark.Mark.{Mark}
+use Rattle.gx_store.specs.declared.run.Step.{Step}
+use Rattle.gx_store.specs.Marks.{is_aborted, is_committed, is_ended}
+use Rattle.gx_store.specs.Messages.{HasReceived, IsSending, IsSent}
+use Rattle.gx_store.specs.Ordered.{AreOrdered, IsAtNode, IsLink, IsSegment}
+use Rattle.gx_store.specs.Points.{marks_in}
+use Rattle.gx_store.specs.Refusals.{the_coordinator}
+use Rattle.gx_rules.specs.AtCoordinator.{coord_rule}
+use Rattle.gx_rules.specs.AtSegment.{seg_rule}
+use Rattle.gx_rules.specs.Machine.{World, after, at_node, can, does, happens, new_world, node_of, world_of}
+use Rattle.gx_store.specs.Journals.{is_same_node}
+use Rattle.gx_store.specs.declared.node.NodeEvent.{NodeEvent}
+use Rattle.gx_law_order.proofs.Lists.{Each}
+use Rattle.gx_law_sessions.specs.Orders.{AreLinesNumbered, IsOrder}
+use Rattle.gx_law_sessions.proofs.Outs.{order-more}
+use Rattle.gx_law_commit.proofs.Whole.{world-both}
+use Rattle.gx_law_reads.specs.Sights.{DoViewsStay}
+use Rattle.gx_law_reads.proofs.Staying.{views-stay}
+use Rattle.gx_law_writes.proofs.Legal.{IsPlacedMark}
+use Rattle.gx_law_writes.proofs.Told.{take-get}
+use Rattle.gx_law_writes.proofs.World as writes
+use Rattle.gx_law_answers.specs.Earned.{Events, IsEarned}
+use Rattle.gx_law_answers.specs.Truth.{IsTruePart}
+use Rattle.gx_law_answers.proofs.Always.{word-earned}
+use Rattle.gx_law_answers.proofs.Origins.{IsWordEarned}
+use Rattle.gx_law_answers.proofs.Truths.{aborted-more, part-later, snapshot-more}
+
+by-recursion-get : {A : Type 0} (P : A → Type 0) (xs : List A) (k : ℕ) (x : A) → AllByRecursion P xs → slice_get xs k ≡ Some x → P x
+by-recursion-get P [] k x e f = absurd (cc)
+by-recursion-get P (y ∷ ys) zero x e f = subst P (some-same y x f) e.0
+  where
+    some-same : {A : Type 0} (a b : A) → Some a ≡ Some b → a ≡ b
+    some-same a b q = cc
+by-recursion-get P (y ∷ ys) (suc k) x e f = by-recursion-get P ys k x e.1 f
+
+ordered-at : (script : Script) (before ss : List Step) (k : ℕ) (s : Step) → AreOrdered script before ss → slice_get ss k ≡ Some s → AllByRecursion (IsAtNode script s.stamp.node) s.marks
+ordered-at script before [] k s o e = absurd (cc)
+ordered-at script before (x ∷ ss) zero s o e = subst (λ (y : Step). AllByRecursion (IsAtNode script y.stamp.node) y.marks) (some-same x s e) (recursion_from_All (IsAtNode script x.stamp.node) x.marks o.0.marks)
+  where
+    some-same : (a b : Step) → Some a ≡ Some b → a ≡ b
+    some-same a b q = cc
+ordered-at script before (x ∷ ss) (suc k) s o e = ordered-at script (before ++ x ∷ []) ss k s o.1 e
+
+-- ---- more events
+after-append : (script : Script) (w : World) (xs ys : Events) → after script w (xs ++ ys) ≡ after script (after script w xs) ys
+after-append script w [] ys = refl
+after-append script w (x ∷ xs) ys = after-append script (happens script w x.0 x.1) xs ys
+
+record Grown (w v : World) : Type 0 where
+  extra : List Step
+  is : v.steps ≡ w.steps ++ extra
+
+same-grown : (w : World) → Grown w w
+same-grown w = record { extra = []; is = sym (append-nil w.steps) }
+
+happens-grown : (script : Script) (w : World) (e : Event) (fails : Bool) → Grown w (happens script w e fails)
+happens-grown script w e fails = by_can (can script w e) (at_node w e)
+  where
+    by_node : (b : Bool) (x : NodeEvent) → Grown w (if b then Rattle.gx_rules.specs.Machine.coord_did w e (coord_rule script w.coord x fails) else Rattle.gx_rules.specs.Machine.seg_did w (node_of e) e (seg_rule script (w.segs (node_of e).0) x fails))
+    by_node true x = record { extra = _; is = refl }
+    by_node false x = record { extra = _; is = refl }
+
+    by_can : (b : Bool) (o : Option NodeEvent) → Grown w (if b then does script w e (node_of e) fails o else w)
+    by_can true None = same-grown w
+    by_can true (Some x) = by_node (is_same_node (node_of e) the_coordinator) x
+    by_can false o = same-grown w
+
+after-grown : (script : Script) (w : World) (es : Events) → Grown w (after script w es)
+after-grown script w [] = same-grown w
+after-grown script w (x ∷ es) =
+    let a = happens-grown script w x.0 x.1 in
+    let b = after-grown script (happens script w x.0 x.1) es in
+    record { extra = a.extra ++ b.extra; is = b.is ∙ ap (λ z. z ++ b.extra) a.is ∙ append_assoc w.steps a.extra b.extra }
+
+marks-append : (xs ys : List Step) → marks_in (xs ++ ys) ≡ marks_in xs ++ marks_in ys
+marks-append [] ys = refl
+marks-append (s ∷ xs) ys = ap (λ z. s.marks ++ z) (marks-append xs ys) ∙ sym (append_assoc s.marks (marks_in xs) (marks_in ys))
+
+-- ---- what was heard
+module _ (script : Script) (some : 1 ≤ script.segments) (numbered : AreLinesNumbered [] script.lines) (es : Events) where
+  abbrev w : World
+  w = world_of script es
+
+  abbrev ms : List Mark
+  ms = marks_in (world_of script es).steps
+
+  pub record Heard (from : Node) (m : Message) : Type 0 where
+    pub segment : IsSegment script from
+    pub word_earned : IsWordEarned script es from m
+
+  no-self : (n : Node) → IsLink script n the_coordinator → IsSegment script n
+  no-self n (inl l) = absurd (zero-one l.1.0)
+    where
+      zero-one : 1 ≤ 0 → ⊥
+      zero-one z = omega (arith, z)
+  no-self n (inr l) = l.0
+
+  from-sending : (n step place : ℕ) (from : Node) (number : ℕ) (m : Message) → IsSending (take n (world_of script es).steps) step place from the_coordinator number m → Heard from m
+  from-sending n step place from number m x =
+      record {
+        segment = segment;
+        word_earned = λ g r q. word-earned script some numbered es from the_coordinator step place number g r segment.0 (subst (IsSending (world_of script es).steps step place from the_coordinator number) q (record { sender = x.sender; at = there; node = x.node; sent = x.sent }));
+      }
+    where
+      there : slice_get (world_of script es).steps step ≡ Some x.sender
+      there = take-get n (world_of script es).steps step x.sender x.at
+
+      segment : IsSegment script from
+      segment = no-self from (subst (λ k. IsLink script k the_coordinator) x.node (by-recursion-get (IsAtNode script x.sender.stamp.node) x.sender.marks place _ (ordered-at script [] (world_of script es).steps step x.sender (world-both script some es).knows.well.steps there) x.sent))
+
+  pub take-whole : {A : Type 0} (xs : List A) → take (length xs) xs ≡ xs
+  take-whole [] = refl
+  take-whole (x ∷ xs) = ap (λ l. x ∷ l) (take-whole xs)
+
+  pub heard-now : (from : Node) (m : Message) (number : ℕ) → IsSent (world_of script es).steps from the_coordinator number m → Heard from m
+  heard-now from m number x = from-sending (length (world_of script es).steps) x.step x.mark from number m (subst (λ ss. IsSending ss x.step x.mark from the_coordinator number m) (sym (take-whole (world_of script es).steps)) x.sending)
+
+  pub heard : (e : Event) (earlier later : List Mark) (from : Node) (m : Message) → HasReceived (record { steps = (world_of script es).steps; event = e; earlier = earlier; later = later }) from the_coordinator m → Heard from m
+  heard e earlier later from m (k, inl x) = from-sending k x.2.sent.step x.2.sent.mark from x.2.number m x.2.sent.sending
+  heard e earlier later from m (k, inr x) = heard-now from m x.1.number x.1.sent
+
+  -- WHAT WAS TRUE STAYS SO
+  module _ (node : Node) (g : Gxid) (c : Cid) (r : Reply) (t : IsEarned script es node g c r) where
+    abbrev then_ : World
+    then_ = world_of script t.upto
+
+    late-is : after script (world_of script t.upto) t.rest ≡ world_of script es
+    late-is = sym (after-append script new_world t.upto t.rest) ∙ ap (world_of script) (sym t.split)
+
+    grown : Grown (world_of script t.upto) (after script (world_of script t.upto) t.rest)
+    grown = after-grown script (world_of script t.upto) t.rest
+
+    pub more : List Mark
+    more = marks_in grown.extra
+
+    pub marks-are : ms ≡ marks_in (world_of script t.upto).steps ++ more
+    unfolding more
+    marks-are = ap (λ (v : World). marks_in v.steps) (sym late-is) ∙ ap marks_in grown.is ∙ marks-append (world_of script t.upto).steps grown.extra
+
+    -- its order
+    pub order-now : IsOrder script ms node g c t.level (Some t.snapshot) t.slice
+    order-now =
+        subst (λ m. IsOrder script m node g c t.level (Some t.snapshot) t.slice) (sym marks-are)
+        (order-more script (marks_in (world_of script t.upto).steps) more node (message.Exec g c t.level (Some t.snapshot) g t.slice) (λ n. t.order) numbered)
+
+    -- whoever runs hadn't aborted
+    pub unaborted-then : is_ended ms g ≡ false → is_aborted (marks_in (world_of script t.upto).steps) g ≡ true → ⊥
+    unaborted-then e a = clash (is_committed ms g) (is_aborted ms g) e (ap (λ m. is_aborted m g) marks-are ∙ aborted-more (marks_in (world_of script t.upto).steps) more g a)
+      where
+        clash : (a b : Bool) → (a || b) ≡ false → b ≡ true → ⊥
+        clash a b e f = grind arith
+
+    placed : Each (IsPlacedMark script ms) ms
+    placed = (writes.world-holds script some numbered es).placed
+
+    stays : DoViewsStay (world_of script t.upto) (world_of script es)
+    stays = subst (DoViewsStay (world_of script t.upto)) late-is (views-stay script some t.upto t.rest)
+
+    -- its part
+    pub part-now : (level : Level) (query : Query) (part : Part) → IsTruePart (marks_in (world_of script t.upto).steps) node level g c query part → IsTruePart ms node level g c query part
+    part-now level query part p =
+        subst (λ m. IsTruePart m node level g c query part) (sym marks-are)
+        (record {
+          place = p.place;
+          taken = snapshot-more before more level g c p.place p.taken;
+          says = record {
+            rows = p.says.rows;
+            of = part-later script before more (subst (λ m. Each (IsPlacedMark script m) m) marks-are placed) node level g c p.place p.taken query.table
+                (λ rid only. subst (λ m. Rattle.gx_store.specs.View.image m (take p.place m) (Some (g, c)) query.table rid ≡ Rattle.gx_store.specs.View.image before (take p.place before) (Some (g, c)) query.table rid) marks-are (stays node g c p.place _ query.table rid t.taken p.taken.taken (subst (Rattle.gx_law_reads.specs.Sights.IsOnlyAt node rid) (sym marks-are) only)))
+                p.says.rows p.says.of;
+            whole = p.says.whole;
+            said = p.says.said;
+          };
+        })
+      where
+        before : List Mark
+        before = marks_in (world_of script t.upto).steps

@@ -1,0 +1,311 @@
+-- Every answer to a command that a segment sends was earned when it was sent first.
+use Rattle.std.proofs.Common.{◌≡◌, ◌≤◌, ◌<◌, inl, inr, ℕ, List, [], ◌∷◌, ◌++◌, Option, Some, None, Bool, true, false, refl, sym, subst, ap, ◌∙◌, if◌then◌else◌, eqb, arith, append_assoc, append-nil}
+use Rattle.std.proofs.lemmas.Bool.{eqb-true}
+use Rattle.std.proofs.lemmas.Bool.Decides.{nat_tests}
+use Rattle.std.specs.Prelude.{length, take}
+use Rattle.gx_ids.specs.declared.ids.Cid.{Cid}
+use Rattle.gx_ids.specs.declared.ids.Gxid.{Gxid}
+use Rattle.gx_ids.specs.declared.ids.Node.{Node}
+use Rattle.gx_tree.specs.declared.row.KeyedRow.{KeyedRow}
+use Rattle.gx_tree.specs.declared.slice.Slice.{Slice}
+use Rattle.gx_tree.specs.declared.slice.Slice.TheVariants as slice
+use Rattle.gx_tree.specs.declared.stmt.Level.{Level}
+use Rattle.gx_tree.specs.declared.stmt.Stmt.TheVariants as stmt
+use Rattle.gx_dsnap.specs.declared.snapshot.Snapshot.{Snapshot}
+use Rattle.gx_eval.specs.declared.fault.ArithFault.{ArithFault}
+use Rattle.gx_msg.specs.declared.message.Envelope.{Envelope}
+use Rattle.gx_msg.specs.declared.message.Message.{Message}
+use Rattle.gx_msg.specs.declared.message.Message.TheVariants as message
+use Rattle.gx_msg.specs.declared.message.Out.{Out}
+use Rattle.gx_msg.specs.declared.reply.Reply.{Reply}
+use Rattle.gx_msg.specs.declared.reply.Reply.TheVariants as reply
+use Rattle.gx_script.specs.declared.Script.{Script}
+use Rattle.gx_store.specs.declared.event.Event.{Event}
+use Rattle.gx_store.specs.declared.event.Event.TheVariants as event
+use Rattle.gx_store.specs.declared.mark.Mark.{Mark}
+use Rattle.gx_store.specs.declared.mark.Mark.TheVariants as mark
+use Rattle.gx_store.specs.declared.node.NodeEvent.TheVariants as here
+use Rattle.gx_store.specs.declared.run.Step.{Step}
+use Rattle.gx_store.specs.Commands.{IsSnapshotAt}
+use Rattle.gx_store.specs.Journals.{is_same_node}
+use Rattle.gx_store.specs.Marks.{is_aborted}
+use Rattle.gx_store.specs.Ordered.{IsSegment}
+use Rattle.gx_store.specs.Points.{marks_in}
+use Rattle.gx_store.specs.Refusals.{the_coordinator}
+use Rattle.gx_rules.specs.AtCoordinator.{coord_can, coord_rule}
+use Rattle.gx_rules.specs.AtSegment.{on_message, raised, seg_rule}
+use Rattle.gx_rules.specs.Machine.{Letter, World, after, at_node, can, coord_did, delivered, does, found, happens, new_world, node_of, seg_did, world_of}
+use Rattle.gx_rules.specs.Segments.{Local, Seg, SegTurn, local_of, reply as reply_out}
+use Rattle.gx_rules.specs.Sending.{numbered}
+use Rattle.gx_rules.specs.Shown.{shown}
+use Rattle.gx_rules.specs.Slices.{answers, first_fault, has_written, inserted, runs_slice, selects}
+use Rattle.gx_law_order.proofs.Lists.{Each, each_weaker}
+use Rattle.gx_law_order.proofs.World.{marks-last}
+use Rattle.gx_law_sessions.specs.Orders.{AreLinesNumbered, IsOrder, IsReadBy, IsServed}
+use Rattle.gx_law_sessions.proofs.Outs.{MessageIs, order-more}
+use Rattle.gx_law_sessions.proofs.World.{after-last}
+use Rattle.gx_law_commit.specs.Pairs.{IsVote}
+use Rattle.gx_law_commit.specs.Standings.{at, gx}
+use Rattle.gx_law_reads.specs.Sights.{IsShownView}
+use Rattle.gx_law_reads.proofs.Seeing.{world-hold}
+use Rattle.gx_law_writes.proofs.Legal.{IsPlacedMark, sent-no-write}
+use Rattle.gx_law_writes.proofs.Moves.{mark-written}
+use Rattle.gx_law_writes.proofs.Rows.{insert-wrote, rows-locals}
+use Rattle.gx_law_writes.proofs.Told.{IsWritten, written-more}
+use Rattle.gx_law_writes.proofs.Turns.{Inserted, IsOldReply, IsOldWord, NoWrite, Quiet, Selected, Turns, message-turns}
+use Rattle.gx_law_writes.proofs.World as writes
+use Rattle.gx_law_answers.specs.Earned.{Events, IsEarned, IsReplyEarned}
+use Rattle.gx_law_answers.specs.Parts.{IsPartOf}
+use Rattle.gx_law_answers.specs.Truth.{AreWritten, IsTruth}
+use Rattle.gx_law_answers.proofs.Plans.{select-line, slice-is}
+use Rattle.gx_law_answers.proofs.Shown.{shown-part}
+use Rattle.gx_law_answers.proofs.Truths.{aborted-more, marks_of, reply_of, select-truth}
+
+abbrev pub IsKeptEarned : Script → Events → Node → Gxid → Option Reply → Type 0
+IsKeptEarned script es node g None = Unit {0}
+IsKeptEarned script es node g (Some r) = IsReplyEarned script es node g r
+
+-- what it says if it is an answer
+abbrev pub IsWordEarned : Script → Events → Node → Message → Type 0
+IsWordEarned script es node m = (g : Gxid) (r : Reply) → m ≡ message.Answer g r → IsReplyEarned script es node g r
+
+abbrev pub IsSentEarned : Script → Events → Node → Mark → Type 0
+IsSentEarned script es node m = (to : Node) (number : ℕ) (g : Gxid) (r : Reply) → m ≡ mark.Sent to number (message.Answer g r) → IsReplyEarned script es node g r
+
+abbrev pub IsStepEarned : Script → Events → Step → Type 0
+IsStepEarned script es s = 1 ≤ s.stamp.node.0 → Each (IsSentEarned script es s.stamp.node) s.marks
+
+-- MORE EVENTS
+module _ (script : Script) (es : Events) (x : Event × Bool) (node : Node) where
+  abbrev later : Events
+  later = es ++ x ∷ []
+
+  earned-later : (g : Gxid) (c : Cid) (r : Reply) → IsEarned script es node g c r → IsEarned script (es ++ x ∷ []) node g c r
+  earned-later g c r t =
+      record { upto = t.upto; rest = t.rest ++ x ∷ []; split = ap (λ z. z ++ x ∷ []) t.split ∙ append_assoc t.upto t.rest (x ∷ []); level = t.level; snapshot = t.snapshot; slice = t.slice; given = t.given; order = t.order; taken = t.taken; truth = t.truth }
+
+  pub answer-later : (g : Gxid) (r : Reply) → IsReplyEarned script es node g r → IsReplyEarned script (es ++ x ∷ []) node g r
+  answer-later g (reply.Done c w n p) t = earned-later g c (reply.Done c w n p) t
+  answer-later g (reply.Failed c z) t = earned-later g c (reply.Failed c z) t
+  answer-later g reply.Prepared t = tt
+  answer-later g reply.Committed t = tt
+  answer-later g reply.Jfault t = tt
+  answer-later g reply.Again t = tt
+  answer-later g reply.Aborted t = tt
+  answer-later g reply.Forgotten t = tt
+
+  pub kept-later : (g : Gxid) (o : Option Reply) → IsKeptEarned script es node g o → IsKeptEarned script (es ++ x ∷ []) node g o
+  kept-later g None t = tt
+  kept-later g (Some r) t = answer-later g r t
+
+pub step-later : (script : Script) (es : Events) (x : Event × Bool) (s : Step) → IsStepEarned script es s → IsStepEarned script (es ++ x ∷ []) s
+step-later script es x s t one = each_weaker (IsSentEarned script es s.stamp.node) (IsSentEarned script (es ++ x ∷ []) s.stamp.node) (λ m h to number g r q. answer-later script es x s.stamp.node g r (h to number g r q)) s.marks (t one)
+
+pub record AreEarned (script : Script) (es : Events) (w : World) : Type 0 where
+  pub sent : Each (IsStepEarned script es) w.steps
+  pub kept : (i h : ℕ) → 1 ≤ i → IsKeptEarned script es (at i) (gx h) ((w.segs i).locals h).answer
+
+-- rows that are written
+are-written : (marks : List Mark) (rows : List KeyedRow) → Each (IsWritten marks) rows → AreWritten marks rows
+are-written marks [] h = tt
+are-written marks (r ∷ rs) h = (h.0, are-written marks rs h.1)
+
+-- A SEGMENT'S TURN
+module _ (script : Script) (some : 1 ≤ script.segments) (numbered_lines : AreLinesNumbered [] script.lines) (es : Events) (from to : Node) (number : ℕ) (envelope : Envelope) (fails : Bool) (place : IsSegment script to) (is_found : found from to number (world_of script es).sent ≡ Some envelope) (order_is : MessageIs script (marks_in (world_of script es).steps) to envelope.message) (view_is : IsShownView (world_of script es) to envelope.message) where
+  abbrev w : World
+  w = world_of script es
+
+  abbrev ms : List Mark
+  ms = marks_in (world_of script es).steps
+
+  abbrev s : Seg
+  s = (world_of script es).segs to.0
+
+  abbrev turn : SegTurn
+  turn = on_message script ((world_of script es).segs to.0) fails envelope.message
+
+  abbrev sent : List Mark
+  sent = numbered (λ node. turn.seg.sent) turn.outs
+
+  abbrev e : Event × Bool
+  e = (event.Receive from to number, fails)
+
+  abbrev late : World
+  late = seg_did (world_of script es) to (event.Receive from to number) (seg_rule script ((world_of script es).segs to.0) (here.Deliver from envelope) fails)
+
+  placed : Each (IsPlacedMark script ms) ms
+  placed = (writes.world-holds script some numbered_lines es).placed
+
+  late-marks : marks_in late.steps ≡ ms ++ (turn.marks ++ sent)
+  late-marks = marks-last (world_of script es).steps _
+
+  -- a SELECT
+  module _ (z : Selected s envelope.message turn) where
+    abbrev rows : List KeyedRow
+    rows = shown (raised s z.horizon) z.snapshot z.g z.c z.query.table
+
+    pub select-order : IsOrder script ms to z.g z.c z.level (Some z.snapshot) (slice.Select z.query)
+    select-order = subst (MessageIs script ms to) z.is order_is numbered_lines
+
+    pub select-is : select-order.line ≡ stmt.Select z.query
+    select-is = select-line select-order.line z.query (slice-is _ _ z.g z.c select-order.line select-order.pieces _ select-order.plan select-order.among)
+
+    pub served : IsServed ms z.level z.g z.c z.snapshot
+    served = from-read (subst (λ l. IsReadBy ms z.level z.g z.c l (Some z.snapshot)) select-is select-order.read)
+      where
+        some-same : (a b : Snapshot) → Some a ≡ Some b → a ≡ b
+        some-same a b q = cc
+
+        from-read : (y : Snapshot) × (Some z.snapshot ≡ Some y) × IsServed ms z.level z.g z.c y → IsServed ms z.level z.g z.c z.snapshot
+        from-read y = subst (IsServed ms z.level z.g z.c) (sym (some-same z.snapshot y.0 y.1)) y.2
+
+    pub snapshot-at : IsSnapshotAt ms z.level z.g z.c served.place
+    snapshot-at = record { d = served.d; snapshot = z.snapshot; taken = served.taken; serves = served.serves }
+
+    pub rows-part : is_aborted ms z.g ≡ false → IsPartOf ms (take served.place ms) to z.g z.c z.query.table rows
+    rows-part unaborted =
+        shown-part script ms placed served.place to (raised s z.horizon) (world-hold script some es to.0 place.0).versions z.snapshot z.g z.c z.query.table
+        (λ rid only. subst (IsShownView w to) z.is view_is place.0 (record { unaborted = unaborted; new = z.fresh }) served.place served.d served.taken z.query.table rid only)
+
+  -- the world behind the step
+  away : is_same_node to the_coordinator ≡ false
+  away = not-zero to.0 place.0
+    where
+      not-zero : (n : ℕ) → 1 ≤ n → eqb n 0 ≡ false
+      not-zero n l = grind (arith, nat_tests)
+
+  pub is-late : world_of script (es ++ e ∷ []) ≡ late
+  is-late =
+      after-last script some new_world es e
+      ∙ ap (λ o. if (can_of o) then does script w (event.Receive from to number) to fails (delivered from o) else w) is_found
+      ∙ ap (λ b. if (if b then coord_can script w.coord (here.Deliver from envelope) else true) then (if b then coord_did w (event.Receive from to number) (coord_rule script w.coord (here.Deliver from envelope) fails) else late) else w) away
+    where
+      can_of : Option Envelope → Bool
+      can_of o = Rattle.gx_rules.specs.Machine.can_here script w to (delivered from o)
+
+  self : eqb to.0 to.0 ≡ true
+  self = self-test to.0
+    where
+      self-test : (a : ℕ) → eqb a a ≡ true
+      self-test a = grind (arith, nat_tests)
+
+  pub record TurnEarned : Type 0 where
+    pub kept : (h : ℕ) → IsKeptEarned script (es ++ e ∷ []) to (gx h) (turn.seg.locals h).answer
+    pub outs : Each (λ (o : Out). IsWordEarned script (es ++ e ∷ []) to o.message) turn.outs
+
+  -- a command that is new there
+  module _ (g : Gxid) (c : Cid) (level : Level) (x : Snapshot) (horizon : Gxid) (y : Slice) (told : envelope.message ≡ message.Exec g c level (Some x) horizon y) (fresh : (s.locals g.0).last < c.0) (ran : turn ≡ runs_slice (raised s horizon) g c (Some x) y) where
+    order : IsOrder script ms to g c level (Some x) y
+    order = subst (MessageIs script ms to) told order_is numbered_lines
+
+    pub new-reply : (r : Reply) (xs : List Mark) → turn.outs ≡ reply_out g r ∷ [] → turn.marks ≡ xs → IsTruth (ms ++ (xs ++ sent)) to level g c y r → c.0 ≤ (turn.seg.locals g.0).last → IsEarned script (es ++ e ∷ []) to g c r
+    new-reply r xs given same truth taken =
+        record {
+          upto = es ++ e ∷ [];
+          rest = [];
+          split = sym (append-nil (es ++ e ∷ []));
+          level = level;
+          snapshot = x;
+          slice = y;
+          given = record { before = es; from = from; number = number; fails = fails; last = refl; envelope = envelope; posted = is_found; horizon = horizon; told = told; new = fresh; ran = ran; given = given };
+          order = subst (λ v. IsOrder script (marks_in v.steps) to g c level (Some x) y) (sym is-late) (subst (λ m. IsOrder script m to g c level (Some x) y) (sym late-marks) (order-more script ms (turn.marks ++ sent) to (message.Exec g c level (Some x) g y) (λ n. order) numbered_lines));
+          taken = subst (λ v. c.0 ≤ (local_of (v.segs to.0) g).last) (sym is-late) (subst (λ b. c.0 ≤ ((if b then (seg_rule script s (here.Deliver from envelope) fails).seg else s).locals g.0).last) (sym self) taken);
+          truth = subst (λ v. IsTruth (marks_in v.steps) to level g c y r) (sym is-late) (subst (λ m. IsTruth m to level g c y r) (sym late-marks) (subst (λ m. IsTruth (ms ++ (m ++ sent)) to level g c y r) (sym same) truth));
+        }
+
+  module _ (kept : (h : ℕ) → IsKeptEarned script es to (gx h) (s.locals h).answer) (votes : (h : ℕ) → IsVote (s.locals h).phase (s.locals h).vote) where
+    kept-more : (h : ℕ) → IsKeptEarned script (es ++ e ∷ []) to (gx h) (s.locals h).answer
+    kept-more h = kept-later script es e to (gx h) (s.locals h).answer (kept h)
+
+    -- it repeats
+    old-earned : (g : Gxid) (r : Reply) → IsOldReply s g r → IsReplyEarned script (es ++ e ∷ []) to g r
+    old-earned g (reply.Done c w n p) (inl o) = subst (IsKeptEarned script (es ++ e ∷ []) to g) o (kept-more g.0)
+    old-earned g (reply.Done c w n p) (inr o) = absurd (subst (IsVote (s.locals g.0).phase) o (votes g.0))
+    old-earned g (reply.Failed c x) (inl o) = subst (IsKeptEarned script (es ++ e ∷ []) to g) o (kept-more g.0)
+    old-earned g (reply.Failed c x) (inr o) = absurd (subst (IsVote (s.locals g.0).phase) o (votes g.0))
+    old-earned g reply.Prepared o = tt
+    old-earned g reply.Committed o = tt
+    old-earned g reply.Jfault o = tt
+    old-earned g reply.Again o = tt
+    old-earned g reply.Aborted o = tt
+    old-earned g reply.Forgotten o = tt
+
+    quiet-earned : Quiet s turn → TurnEarned
+    quiet-earned q =
+        record {
+          kept = λ h. subst (IsKeptEarned script (es ++ e ∷ []) to (gx h)) (sym (q.answers h)) (kept-more h);
+          outs = each_weaker (λ (o : Out). IsOldWord s o.message) (λ (o : Out). IsWordEarned script (es ++ e ∷ []) to o.message) (λ o k g r q. old-earned g r (subst (IsOldWord s) q k)) turn.outs q.outs;
+        }
+
+    -- it runs a command
+    ran-earned : (g : Gxid) (c : Cid) (r : Reply) (base : Seg) (xs : List Mark) → turn ≡ answers base g c xs r → ((h : ℕ) → (base.locals h).answer ≡ (s.locals h).answer) → (c.0 ≤ (turn.seg.locals g.0).last → IsReplyEarned script (es ++ e ∷ []) to g r) → TurnEarned
+    ran-earned g c r base xs ran others now =
+        record {
+          kept = λ h. subst (λ (t : SegTurn). IsKeptEarned script (es ++ e ∷ []) to (gx h) (t.seg.locals h).answer) (sym ran) (by_test h (eqb h g.0) refl);
+          outs = subst (λ (t : SegTurn). Each (λ (o : Out). IsWordEarned script (es ++ e ∷ []) to o.message) t.outs) (sym ran) (said, tt);
+        }
+      where
+        self-test : (a : ℕ) → eqb a a ≡ true
+        self-test a = grind (arith, nat_tests)
+
+        le-same : (a b : ℕ) → a ≡ b → b ≤ a
+        le-same a b q = omega (arith, q)
+
+        after : Local
+        after = record (local_of base g) { last = c.0; answer = Some r }
+
+        earned : IsReplyEarned script (es ++ e ∷ []) to g r
+        earned = now (le-same _ _ (ap (λ (t : SegTurn). (t.seg.locals g.0).last) ran ∙ ap (λ b. (if b then after else base.locals g.0).last) (self-test g.0)))
+
+        said : (h : Gxid) (a : Reply) → message.Answer g r ≡ message.Answer h a → IsReplyEarned script (es ++ e ∷ []) to h a
+        said h a q = subst (IsReplyEarned script (es ++ e ∷ []) to h) (same-reply q) (subst (λ k. IsReplyEarned script (es ++ e ∷ []) to k r) (same-gxid q) earned)
+          where
+            same-reply : message.Answer g r ≡ message.Answer h a → r ≡ a
+            same-reply q = cc
+
+            same-gxid : message.Answer g r ≡ message.Answer h a → g ≡ h
+            same-gxid q = cc
+
+        by_test : (h : ℕ) (b : Bool) → eqb h g.0 ≡ b → IsKeptEarned script (es ++ e ∷ []) to (gx h) (if b then after else base.locals h).answer
+        by_test h true q = subst (λ k. IsKeptEarned script (es ++ e ∷ []) to (gx k) (Some r)) (sym (eqb-true h g.0 q)) earned
+        by_test h false q = subst (IsKeptEarned script (es ++ e ∷ []) to (gx h)) (sym (others h)) (kept-more h)
+
+    quiet-sent : Each NoWrite sent
+    quiet-sent = sent-no-write (λ node. turn.seg.sent) turn.outs
+
+    select-earned : Selected s envelope.message turn → TurnEarned
+    select-earned z = by_fault (first_fault z.query.cond (rows z)) refl z.ran
+      where
+        truth : (o : Option (KeyedRow × ArithFault)) → first_fault z.query.cond (rows z) ≡ o → IsTruth (ms ++ (marks_of z.g z.c o ++ sent)) to z.level z.g z.c (slice.Select z.query) (reply_of z.c (has_written (local_of (raised s z.horizon) z.g).phase) z.query (rows z) o)
+        truth o q = by_abort o q (is_aborted ms z.g) refl
+          where
+            by_abort : (o : Option (KeyedRow × ArithFault)) → first_fault z.query.cond (rows z) ≡ o → (b : Bool) → is_aborted ms z.g ≡ b → IsTruth (ms ++ (marks_of z.g z.c o ++ sent)) to z.level z.g z.c (slice.Select z.query) (reply_of z.c (has_written (local_of (raised s z.horizon) z.g).phase) z.query (rows z) o)
+            by_abort None f true a = inl (aborted-more ms _ z.g a)
+            by_abort (Some fault) f true a = inl (aborted-more ms _ z.g a)
+            by_abort o f false a = select-truth ms sent quiet-sent to z.level z.g z.c a (served z).place (snapshot-at z) z.query (rows z) (rows-part z a) _ o f
+
+        by_fault : (o : Option (KeyedRow × ArithFault)) → first_fault z.query.cond (rows z) ≡ o → turn ≡ selects (raised s z.horizon) z.g z.c z.query (rows z) o → TurnEarned
+        by_fault None f ran = ran-earned z.g z.c _ (raised s z.horizon) [] ran (λ h. refl) (new-reply z.g z.c z.level z.snapshot z.horizon (slice.Select z.query) z.is z.fresh z.ran _ [] (ap (λ (t : SegTurn). t.outs) ran) (ap (λ (t : SegTurn). t.marks) ran) (truth None f))
+        by_fault (Some fault) f ran = ran-earned z.g z.c _ (raised s z.horizon) _ ran (λ h. refl) (new-reply z.g z.c z.level z.snapshot z.horizon (slice.Select z.query) z.is z.fresh z.ran _ _ (ap (λ (t : SegTurn). t.outs) ran) (ap (λ (t : SegTurn). t.marks) ran) (truth (Some fault) f))
+
+    insert-earned : Inserted s envelope.message turn → TurnEarned
+    insert-earned z =
+        ran-earned z.g z.c _ (inserted (raised s z.horizon) z.g z.c z.table z.rows).seg _ z.ran (λ h. (rows-locals z.g z.c z.table z.rows (record { seg = raised s z.horizon; marks = [] }) h).1)
+        (new-reply z.g z.c z.level z.snapshot z.horizon (slice.Insert z.table z.rows) z.is z.fresh z.ran _ (inserted (raised s z.horizon) z.g z.c z.table z.rows).marks (ap (λ (t : SegTurn). t.outs) z.ran) (ap (λ (t : SegTurn). t.marks) z.ran) truth)
+      where
+        marks : List Mark
+        marks = (inserted (raised s z.horizon) z.g z.c z.table z.rows).marks
+
+        written : Each (IsWritten (ms ++ marks)) z.rows
+        written = subst (λ ns. Each (IsWritten (ms ++ ns)) z.rows) (sym (insert-wrote s z.horizon z.g z.c z.table z.rows).marks) (mark-written z.g z.c s.node z.table ms z.rows)
+
+        truth : (length z.rows ≡ length z.rows) × AreWritten (ms ++ (marks ++ sent)) z.rows
+        truth = (refl, subst (λ m. AreWritten m z.rows) (append_assoc ms marks sent) (are-written ((ms ++ marks) ++ sent) z.rows (each_weaker (IsWritten (ms ++ marks)) (IsWritten ((ms ++ marks) ++ sent)) (λ r k. written-more (ms ++ marks) sent r.rid k) z.rows written)))
+
+    pub turn-earned : TurnEarned
+    turn-earned = by_turn (message-turns s script fails envelope.message)
+      where
+        by_turn : Turns s envelope.message turn → TurnEarned
+        by_turn (inl q) = quiet-earned q
+        by_turn (inr (inl z)) = select-earned z
+        by_turn (inr (inr z)) = insert-earned z

@@ -1,0 +1,276 @@
+-- A gathered SELECT shows what its answer says, and a command that a segment failed has faulted so.
+use Rattle.std.proofs.Common.{◌≡◌, ◌≤◌, inl, inr, ℕ, List, [], ◌∷◌, ◌++◌, Some, None, Result, Ok, Bool, true, false, refl, sym, subst, ap, ◌∙◌, ◌||◌, arith, eqb, map}
+use Rattle.std.proofs.lemmas.Bool.Decides.{nat_tests}
+use Rattle.std.specs.Prelude.{slice_get, take}
+use Rattle.gx_ids.specs.declared.ids.Cid.{Cid}
+use Rattle.gx_ids.specs.declared.ids.Gxid.{Gxid}
+use Rattle.gx_ids.specs.declared.ids.Node.{Node}
+use Rattle.gx_ids.specs.declared.ids.SessionId.{SessionId}
+use Rattle.gx_tree.specs.declared.cell.Cell.{Cell}
+use Rattle.gx_tree.specs.declared.query.Query.{Query}
+use Rattle.gx_tree.specs.declared.slice.Slice.{Slice}
+use Rattle.gx_tree.specs.declared.slice.Slice.TheVariants as slice
+use Rattle.gx_tree.specs.declared.stmt.Level.{Level}
+use Rattle.gx_tree.specs.declared.stmt.Stmt.{Stmt}
+use Rattle.gx_tree.specs.declared.stmt.Stmt.TheVariants as stmt
+use Rattle.gx_dtx.specs.Nodes.{has}
+use Rattle.gx_eval.specs.declared.fault.ArithFault.{ArithFault}
+use Rattle.gx_eval.specs.declared.fault.ArithFault.TheVariants as arith_fault
+use Rattle.gx_msg.specs.declared.message.Message.TheVariants as message
+use Rattle.gx_msg.specs.declared.reply.Cause.{Cause}
+use Rattle.gx_msg.specs.declared.reply.Reply.{Reply}
+use Rattle.gx_msg.specs.declared.reply.Reply.TheVariants as reply
+use Rattle.gx_place.specs.Target.{target_of}
+use Rattle.gx_place.specs.declared.segments.Target.{Target}
+use Rattle.gx_place.specs.declared.segments.Target.TheVariants.{One, All as AllOfThem}
+use Rattle.gx_plan.specs.Plan.{nodes_of, piece, plan_of}
+use Rattle.gx_plan.specs.declared.piece.Piece.{Piece}
+use Rattle.gx_script.specs.declared.Script.{Script}
+use Rattle.gx_store.specs.declared.answer.StmtAnswer.{StmtAnswer}
+use Rattle.gx_store.specs.declared.event.Event.TheVariants as event
+use Rattle.gx_store.specs.declared.mark.Mark.{Mark}
+use Rattle.gx_store.specs.declared.mark.Mark.TheVariants as mark
+use Rattle.gx_store.specs.Answers.{Shows, Tells}
+use Rattle.gx_store.specs.Commands.{IsSnapshotAt, RunsCommand}
+use Rattle.gx_store.specs.Lines.{began_from, stmt_of_command}
+use Rattle.gx_store.specs.Marks.{is_aborted}
+use Rattle.gx_store.specs.Messages.{HasReceived}
+use Rattle.gx_store.specs.Points.{marks_in}
+use Rattle.gx_store.specs.Refusals.{HasFaulted, IsCause, the_coordinator}
+use Rattle.gx_store.specs.View.{image, is_shown_to}
+use Rattle.gx_store.specs.Writes.{dist_of}
+use Rattle.gx_rules.specs.AtCoordinator.{nodes_in, reason_of}
+use Rattle.gx_rules.specs.Machine.{world_of}
+use Rattle.gx_rules.specs.Merged.{merged_answer}
+use Rattle.gx_rules.specs.Slices.{cause_of}
+use Rattle.gx_law_order.proofs.Lists.{Each, get_kept}
+use Rattle.gx_law_sessions.specs.Finish.{point_at}
+use Rattle.gx_law_sessions.specs.Gathering.{AreAll, AreApart, IsGathered, Taken, nodes_taken, parts_taken}
+use Rattle.gx_law_sessions.specs.Orders.{AreLinesNumbered, level_of_began}
+use Rattle.gx_law_sessions.proofs.Said.{CalmFor}
+use Rattle.gx_law_commit.proofs.Commits.{take-kept}
+use Rattle.gx_law_writes.proofs.Turns.{NoWrite}
+use Rattle.gx_law_writes.proofs.World as writes
+use Rattle.gx_law_answers.specs.Earned.{Events, IsEarned}
+use Rattle.gx_law_answers.specs.Keyed.{AreInsertsKeyed}
+use Rattle.gx_law_answers.specs.Once.{IsOneSnapshot}
+use Rattle.gx_law_answers.specs.Parts.{SaysItsPart}
+use Rattle.gx_law_answers.specs.Truth.{IsTrueFault, IsTruePart, IsTruth}
+use Rattle.gx_law_answers.proofs.Commands.{IsOf}
+use Rattle.gx_law_answers.proofs.Heard.{heard, marks-are, more, order-now, part-now, unaborted-then}
+use Rattle.gx_law_answers.proofs.Plans.{IsSliceOf, slice-is}
+use Rattle.gx_law_answers.proofs.Select.{has-from, merged, seen, whole}
+use Rattle.gx_law_answers.proofs.Truths.{image-more, snapshot-more}
+use Rattle.gx_law_answers.proofs.Views.{view-is}
+
+-- ---- what a SELECT shows stays, where nothing is written
+pub shows-more : (ms extra : List Mark) → Each NoWrite extra → (level : Level) (g : Gxid) (c : Cid) (query : Query) (answer : List (List Cell)) → Shows ms level g c query answer → Shows (ms ++ extra) level g c query answer
+shows-more ms extra quiet level g c query answer s =
+    record {
+      rows = s.rows;
+      sees = record {
+        place = s.sees.place;
+        taken = snapshot-more ms extra level g c s.sees.place s.sees.taken;
+        view = record {
+          rising = s.sees.view.rising;
+          images = λ rid.
+              s.sees.view.images rid
+              ∙ sym (image-more (is_shown_to (Some (g, c)) (take s.sees.place (ms ++ extra))) query.table rid None ms extra quiet
+              ∙ ap (λ b. image ms b (Some (g, c)) query.table rid) (take-kept ms extra s.sees.place _ s.sees.taken.taken));
+        };
+      };
+      whole = s.whole;
+      answered = s.answered;
+    }
+
+-- ---- the nodes of a plan
+nodes-of-pieces : (s : Slice) (nodes : List Node) → nodes_in (map (piece s) nodes) ≡ nodes
+nodes-of-pieces s [] = refl
+nodes-of-pieces s (n ∷ ns) = ap (λ l. n ∷ l) (nodes-of-pieces s ns)
+
+some-node : (n : ℕ) (target : Target) → 1 ≤ n → (i : Node) × (has i (nodes_of n target) ≡ true)
+some-node n (One node) some = (node, first (eqb node.0 node.0) (self node.0))
+  where
+    self : (a : ℕ) → eqb a a ≡ true
+    self a = grind (arith, nat_tests)
+
+    first : (b : Bool) → b ≡ true → (b || false) ≡ true
+    first true e = refl
+    first false e = cc
+some-node n AllOfThem some = (record { 0 = 1 }, has-from 1 1 n (omega arith) (omega (arith, some)))
+
+ok-same : {xs ys : List Piece} → (let o : Result (List Piece) ArithFault = Ok xs in o) ≡ Ok ys → xs ≡ ys
+ok-same q = cc
+
+module _ (script : Script) (some : 1 ≤ script.segments) (numbered : AreLinesNumbered [] script.lines) (keyed : AreInsertsKeyed script) (es : Events) where
+  abbrev ms : List Mark
+  ms = marks_in (world_of script es).steps
+
+  some-stmt : (a b : Stmt) → Some a ≡ Some b → a ≡ b
+  some-stmt a b e = cc
+
+  -- what a true answer is of, where its command runs
+  module _ (node : Node) (line : Stmt) (level : Level) (g : Gxid) (c : Cid) (is : IsOf script ms line level g c) (r : Reply) (t : IsEarned script es node g c r) where
+    line-is : (order-now script some numbered es node g c r t).line ≡ line
+    line-is = some-stmt _ line (sym (order-now script some numbered es node g c r t).of ∙ is.of)
+
+    pub its-slice : IsSliceOf line t.slice
+    its-slice = subst (λ l. IsSliceOf l t.slice) line-is (slice-is _ _ g c _ (order-now script some numbered es node g c r t).pieces _ (order-now script some numbered es node g c r t).plan (order-now script some numbered es node g c r t).among)
+
+    pub its-level : t.level ≡ level
+    its-level = (order-now script some numbered es node g c r t).level_is ∙ sym is.level_is
+
+  -- A SELECT
+  module _ (once : IsOneSnapshot script ms) (query : Query) (level : Level) (g : Gxid) (c : Cid) (is : IsOf script ms (stmt.Select query) level g c) where
+    true-part : (t : Taken) → IsEarned script es t.node g c (reply.Done c t.wrote t.count t.part) → IsTruePart ms t.node level g c query t.part
+    true-part t x = by_truth (subst (λ s. IsTruth (marks_in (world_of script x.upto).steps) t.node x.level g c s (reply.Done c t.wrote t.count t.part)) (its-slice t.node (stmt.Select query) level g c is _ x) x.truth)
+      where
+        by_truth : IsTruth (marks_in (world_of script x.upto).steps) t.node x.level g c (slice.Select query) (reply.Done c t.wrote t.count t.part) → IsTruePart ms t.node level g c query t.part
+        by_truth (inl a) = absurd (unaborted-then script some numbered es t.node g c _ x is.running a)
+        by_truth (inr p) = subst (λ l. IsTruePart ms t.node l g c query t.part) (its-level t.node (stmt.Select query) level g c is _ x) (part-now script some numbered es t.node g c _ x x.level query t.part p)
+
+    true-parts : (taken : List Taken) → AreAll (λ t. IsEarned script es t.node g c (reply.Done c t.wrote t.count t.part)) taken → AreAll (λ t. IsTruePart ms t.node level g c query t.part) taken
+    true-parts [] h = tt
+    true-parts (t ∷ ts) h = (true-part t h.0, true-parts ts h.1)
+
+    -- all by one snapshot
+    at-place : (place : ℕ) → IsSnapshotAt ms level g c place → (taken : List Taken) → AreAll (λ t. IsTruePart ms t.node level g c query t.part) taken → AreAll (λ t. SaysItsPart ms (take place ms) t.node g c query t.part) taken
+    at-place place s [] h = tt
+    at-place place s (t ∷ ts) h = (subst (λ p. SaysItsPart ms (take p ms) t.node g c query t.part) (once g c h.0.place place (by_level h.0.place h.0.taken) (by_level place s)) h.0.says, at-place place s ts h.1)
+      where
+        by_level : (p : ℕ) → IsSnapshotAt ms level g c p → IsSnapshotAt ms (level_of_began script (began_from [] ms g)) g c p
+        by_level p x = subst (λ l. IsSnapshotAt ms l g c p) is.level_is x
+
+    no : false ≡ true → ⊥
+    no e = cc
+
+    shows : (pieces : List Piece) → plan_of script.segments (dist_of script.tables query.table.0) g c (stmt.Select query) ≡ Ok pieces → (taken : List Taken) → AreAll (λ t. IsTruePart ms t.node level g c query t.part) taken → AreApart taken → ((i : Node) → has i (nodes_in pieces) ≡ has i (nodes_taken taken)) → Shows ms level g c query (merged_answer query (parts_taken taken))
+    shows pieces plan [] h distinct all =
+        let i = some-node script.segments (target_of script.segments (dist_of script.tables query.table.0) query.cond) some in
+        absurd (no (sym (all i.0) ∙ ap (has i.0) (ap nodes_in (sym (ok-same plan)) ∙ nodes-of-pieces (slice.Select query) _) ∙ i.1))
+    shows pieces plan (t ∷ ts) h distinct all =
+        record {
+          rows = seen script some keyed ms before placed g c query;
+          sees = record { place = h.0.place; taken = h.0.taken; view = view-is ms before (Some (g, c)) query.table };
+          whole = whole script some keyed ms before placed g c query (t ∷ ts) says distinct covers;
+          answered = merged script some keyed ms before placed g c query (t ∷ ts) says distinct covers;
+        }
+      where
+        before : List Mark
+        before = take h.0.place ms
+
+        placed : Each (Rattle.gx_law_writes.proofs.Legal.IsPlacedMark script ms) ms
+        placed = (writes.world-holds script some numbered es).placed
+
+        says : AreAll (λ t. SaysItsPart ms (take h.0.place ms) t.node g c query t.part) (t ∷ ts)
+        says = at-place h.0.place h.0.taken (t ∷ ts) h
+
+        covers : (i : Node) → has i (nodes_of script.segments (target_of script.segments (dist_of script.tables query.table.0) query.cond)) ≡ has i (nodes_taken (t ∷ ts))
+        covers i = sym (ap (has i) (ap nodes_in (sym (ok-same plan)) ∙ nodes-of-pieces (slice.Select query) _)) ∙ all i
+
+  -- A COMMAND THAT WAS GATHERED
+  module _ (once : IsOneSnapshot script ms) (from to : Node) (number : ℕ) (earlier later : List Mark) (session : SessionId) (level : Level) (g : Gxid) (c : Cid) (answer : StmtAnswer) (calm : Each (CalmFor session) earlier) (quiet : Each NoWrite earlier) where
+    true-replies : (taken : List Taken) → AreAll (λ t. HasReceived (point_at (world_of script es).steps (event.Receive from to number) earlier later) t.node the_coordinator (message.Answer g (reply.Done c t.wrote t.count t.part))) taken → AreAll (λ t. IsEarned script es t.node g c (reply.Done c t.wrote t.count t.part)) taken
+    true-replies [] h = tt
+    true-replies (t ∷ ts) h = ((heard script some numbered es (event.Receive from to number) earlier later t.node _ h.0).word_earned g (reply.Done c t.wrote t.count t.part) refl, true-replies ts h.1)
+
+    -- segments don't run the others yet
+    never : (line : Stmt) (s : Slice) → IsOf script ms line level g c → ((x : Slice) → IsSliceOf line x → x ≡ s) → ((marks : List Mark) (node : Node) (l : Level) (r : Reply) → IsTruth marks node l g c s r → ⊥) → (nodes : List Node) → (i : Node) × (has i nodes ≡ true) → (taken : List Taken) → AreAll (λ t. IsEarned script es t.node g c (reply.Done c t.wrote t.count t.part)) taken → ((i : Node) → has i nodes ≡ has i (nodes_taken taken)) → ⊥
+    never line s is same false_ nodes i [] h all = no-one (sym (all i.0) ∙ i.1)
+      where
+        no-one : false ≡ true → ⊥
+        no-one e = cc
+    never line s is same false_ nodes i (t ∷ ts) h all =
+        false_ (marks_in (world_of script h.0.upto).steps) t.node h.0.level (reply.Done c t.wrote t.count t.part) (subst (λ y. IsTruth (marks_in (world_of script h.0.upto).steps) t.node h.0.level g c y (reply.Done c t.wrote t.count t.part)) (same h.0.slice (its-slice t.node line level g c is _ h.0)) h.0.truth)
+
+    covers-pieces : (s : Slice) (nodes : List Node) (pieces : List Piece) (taken : List Taken) → (let o : Result (List Piece) ArithFault = Ok (map (piece s) nodes) in o) ≡ Ok pieces → ((i : Node) → has i (nodes_in pieces) ≡ has i (nodes_taken taken)) → (i : Node) → has i nodes ≡ has i (nodes_taken taken)
+    covers-pieces s nodes pieces taken plan all i = sym (ap (has i) (ap nodes_in (sym (ok-same plan)) ∙ nodes-of-pieces s nodes)) ∙ all i
+
+    pub tells-by : (line : Stmt) → IsOf script ms line level g c → RunsCommand script (point_at (world_of script es).steps (event.Receive from to number) earlier later) session line level g c → IsGathered script (point_at (world_of script es).steps (event.Receive from to number) earlier later) g c line answer
+        → ((table : _) (tuples : _) → line ≡ stmt.Insert table tuples → Tells script (ms ++ earlier) level g c (stmt.Insert table tuples) answer) → Tells script (ms ++ earlier) level g c line answer
+    tells-by (stmt.Select q) is runs x inserts =
+        subst (Tells script (ms ++ earlier) level g c (stmt.Select q)) (sym x.is)
+        (shows-more ms earlier quiet level g c q (merged_answer q (parts_taken x.taken))
+        (shows once q level g c is x.pieces x.plan x.taken (true-parts once q level g c is x.taken (true-replies x.taken x.received)) x.apart x.all))
+    tells-by (stmt.Insert t v) is runs x inserts = inserts t v refl
+    tells-by (stmt.Update t a d) is runs x inserts =
+        absurd (never (stmt.Update t a d) (slice.Update t a d) is (λ s e. e) (λ m n l r z. z) (nodes_of script.segments (target_of script.segments (dist_of script.tables t.0) d)) (some-node script.segments _ some) x.taken (true-replies x.taken x.received) (covers-pieces (slice.Update t a d) _ x.pieces x.taken x.plan x.all))
+    tells-by (stmt.Delete t d) is runs x inserts =
+        absurd (never (stmt.Delete t d) (slice.Delete t d) is (λ s e. e) (λ m n l r z. z) (nodes_of script.segments (target_of script.segments (dist_of script.tables t.0) d)) (some-node script.segments _ some) x.taken (true-replies x.taken x.received) (covers-pieces (slice.Delete t d) _ x.pieces x.taken x.plan x.all))
+    tells-by (stmt.Lock t m) is runs x inserts =
+        absurd (never (stmt.Lock t m) (slice.Lock t m) is (λ s e. e) (λ m n l r z. z) (nodes_of script.segments AllOfThem) (some-node script.segments AllOfThem some) x.taken (true-replies x.taken x.received) (covers-pieces (slice.Lock t m) _ x.pieces x.taken x.plan x.all))
+    tells-by (stmt.Begin l) is runs x inserts = absurd (no-begin _ l runs.command)
+      where
+        no-begin : (b : Rattle.gx_store.specs.Lines.BlockState) (l : Level) → Rattle.gx_store.specs.Lines.is_command b (stmt.Begin l) ≡ true → ⊥
+        no-begin Rattle.gx_store.specs.Lines.Outside l e = cc
+        no-begin (Rattle.gx_store.specs.Lines.InBlock k n) l e = cc
+        no-begin Rattle.gx_store.specs.Lines.Failed l e = cc
+    tells-by stmt.Commit is runs x inserts = absurd (no-commit _ runs.command)
+      where
+        no-commit : (b : Rattle.gx_store.specs.Lines.BlockState) → Rattle.gx_store.specs.Lines.is_command b stmt.Commit ≡ true → ⊥
+        no-commit Rattle.gx_store.specs.Lines.Outside e = cc
+        no-commit (Rattle.gx_store.specs.Lines.InBlock k n) e = cc
+        no-commit Rattle.gx_store.specs.Lines.Failed e = cc
+    tells-by stmt.Rollback is runs x inserts = absurd (no-rollback _ runs.command)
+      where
+        no-rollback : (b : Rattle.gx_store.specs.Lines.BlockState) → Rattle.gx_store.specs.Lines.is_command b stmt.Rollback ≡ true → ⊥
+        no-rollback Rattle.gx_store.specs.Lines.Outside e = cc
+        no-rollback (Rattle.gx_store.specs.Lines.InBlock k n) e = cc
+        no-rollback Rattle.gx_store.specs.Lines.Failed e = cc
+
+  -- A COMMAND THAT FAILED
+  module _ (from to : Node) (number : ℕ) (later : List Mark) (level : Level) (g : Gxid) (c : Cid) (segment : Node) where
+    abbrev behind : List Mark
+    behind = mark.Abort g ∷ []
+
+    -- the fault, at the point
+    faulted : (query : Query) → IsOf script ms (stmt.Select query) level g c → (r : Reply) (x : IsEarned script es segment g c r) (cause : Cause) (f : IsTrueFault (marks_in (world_of script x.upto).steps) level g c query cause) → HasFaulted (point_at (world_of script es).steps (event.Receive from to number) behind later) (stmt.Select query) level g c f.fault
+    faulted query is r x cause f =
+        record {
+          place = f.place;
+          rid = f.rid;
+          image = f.image;
+          noted = get_kept ms behind f.place _ there;
+          unaborted = ap (λ m. is_aborted m g) same ∙ f.unaborted;
+          faults = subst (λ m. Rattle.gx_store.specs.Faults.FaultsOnSeen m level g c query.table query.cond f.rid f.image f.fault) (sym same) f.faults;
+          within = tt;
+        }
+      where
+        before : List Mark
+        before = marks_in (world_of script x.upto).steps
+
+        rest : List Mark
+        rest = more script some numbered es segment g c r x
+
+        there : slice_get ms f.place ≡ Some (mark.Fault g c f.rid f.image)
+        there = ap (λ m. slice_get m f.place) (marks-are script some numbered es segment g c r x) ∙ get_kept before rest f.place _ f.noted
+
+        same : take f.place (ms ++ behind) ≡ take f.place before
+        same = take-kept ms behind f.place _ there ∙ ap (take f.place) (marks-are script some numbered es segment g c r x) ∙ take-kept before rest f.place _ f.noted
+
+    by-fault : (query : Query) (cause : Cause) (f : ArithFault) → cause ≡ cause_of f → HasFaulted (point_at (world_of script es).steps (event.Receive from to number) behind later) (stmt.Select query) level g c f → IsCause (point_at (world_of script es).steps (event.Receive from to number) behind later) (stmt.Select query) level g c (reason_of cause)
+    by-fault query cause arith_fault.Overflow e h = subst (λ z. IsCause (point_at (world_of script es).steps (event.Receive from to number) behind later) (stmt.Select query) level g c (reason_of z)) (sym e) h
+    by-fault query cause arith_fault.DivisionByZero e h = subst (λ z. IsCause (point_at (world_of script es).steps (event.Receive from to number) behind later) (stmt.Select query) level g c (reason_of z)) (sym e) h
+
+    pub caused : (line : Stmt) → IsOf script ms line level g c → (cause : Cause) (x : IsEarned script es segment g c (reply.Failed c cause)) → IsCause (point_at (world_of script es).steps (event.Receive from to number) behind later) line level g c (reason_of cause)
+    caused (stmt.Select q) is cause x = by_truth (subst (λ s. IsTruth (marks_in (world_of script x.upto).steps) segment x.level g c s (reply.Failed c cause)) (its-slice segment (stmt.Select q) level g c is _ x) x.truth)
+      where
+        by_truth : IsTruth (marks_in (world_of script x.upto).steps) segment x.level g c (slice.Select q) (reply.Failed c cause) → IsCause (point_at (world_of script es).steps (event.Receive from to number) behind later) (stmt.Select q) level g c (reason_of cause)
+        by_truth (inl a) = absurd (unaborted-then script some numbered es segment g c _ x is.running a)
+        by_truth (inr f) =
+            let h = subst (λ l. IsTrueFault (marks_in (world_of script x.upto).steps) l g c q cause) (its-level segment (stmt.Select q) level g c is _ x) f in
+            by-fault q cause h.fault h.is (faulted q is _ x cause h)
+    caused (stmt.Insert t v) is cause x = absurd (no-insert x.slice (its-slice segment (stmt.Insert t v) level g c is _ x) x.truth)
+      where
+        no-insert : (s : Slice) → IsSliceOf (stmt.Insert t v) s → IsTruth (marks_in (world_of script x.upto).steps) segment x.level g c s (reply.Failed c cause) → ⊥
+        no-insert (slice.Insert u rows) e z = z
+        no-insert (slice.Select q) e z = e
+        no-insert (slice.Update u a d) e z = e
+        no-insert (slice.Delete u d) e z = e
+        no-insert (slice.Lock u m) e z = e
+    caused (stmt.Update t a d) is cause x = absurd (subst (λ s. IsTruth (marks_in (world_of script x.upto).steps) segment x.level g c s (reply.Failed c cause)) (its-slice segment (stmt.Update t a d) level g c is _ x) x.truth)
+    caused (stmt.Delete t d) is cause x = absurd (subst (λ s. IsTruth (marks_in (world_of script x.upto).steps) segment x.level g c s (reply.Failed c cause)) (its-slice segment (stmt.Delete t d) level g c is _ x) x.truth)
+    caused (stmt.Lock t m) is cause x = absurd (subst (λ s. IsTruth (marks_in (world_of script x.upto).steps) segment x.level g c s (reply.Failed c cause)) (its-slice segment (stmt.Lock t m) level g c is _ x) x.truth)
+    caused (stmt.Begin l) is cause x = absurd (its-slice segment (stmt.Begin l) level g c is _ x)
+    caused stmt.Commit is cause x = absurd (its-slice segment stmt.Commit level g c is _ x)
+    caused stmt.Rollback is cause x = absurd (its-slice segment stmt.Rollback level g c is _ x)

@@ -1,0 +1,203 @@
+-- What is true of a segment's answer stays true.
+use Rattle.std.proofs.Common.{◌≡◌, ◌==◌, inr, ℕ, List, [], ◌∷◌, ◌++◌, length, Option, Some, None, Bool, true, false, refl, sym, subst, ap, ◌∙◌, cond, if◌then◌else◌, ◌&&◌, ◌||◌, eqb, arith}
+use Rattle.std.proofs.Math.Seq.{take-append_seam}
+use Rattle.std.proofs.lemmas.Bool.{eqb-true}
+use Rattle.std.specs.Option.{option_or}
+use Rattle.std.specs.Prelude.{filter, take}
+use Rattle.gx_ids.specs.declared.ids.Cid.{Cid}
+use Rattle.gx_ids.specs.declared.ids.Gxid.{Gxid}
+use Rattle.gx_ids.specs.declared.ids.Node.{Node}
+use Rattle.gx_ids.specs.declared.ids.Table.{Table}
+use Rattle.gx_ids.specs.declared.rid.Rid.{Rid}
+use Rattle.gx_tree.specs.declared.part.Part.{Part}
+use Rattle.gx_tree.specs.declared.query.Query.{Query}
+use Rattle.gx_tree.specs.declared.row.KeyedRow.{KeyedRow}
+use Rattle.gx_tree.specs.declared.slice.Slice.TheVariants as slice
+use Rattle.gx_tree.specs.declared.stmt.Level.{Level}
+use Rattle.gx_tree.specs.declared.value.Value.{Value}
+use Rattle.gx_eval.specs.declared.fault.ArithFault.{ArithFault}
+use Rattle.gx_gather.specs.Answer.{keeps, part_of}
+use Rattle.gx_msg.specs.declared.reply.Reply.{Reply}
+use Rattle.gx_msg.specs.declared.reply.Reply.TheVariants as reply
+use Rattle.gx_script.specs.declared.Script.{Script}
+use Rattle.gx_store.specs.declared.mark.Mark.{Mark}
+use Rattle.gx_store.specs.declared.mark.Mark.TheVariants as mark
+use Rattle.gx_store.specs.Commands.{IsSnapshotAt}
+use Rattle.gx_store.specs.Faults.{FaultsOnSeen}
+use Rattle.gx_store.specs.Journals.{is_same_node}
+use Rattle.gx_store.specs.Marks.{is_aborted, is_same_rid, node_of}
+use Rattle.gx_store.specs.View.{image, image_after, is_shown_to}
+use Rattle.gx_store.proofs.Marks.{image_after-append, is_aborted-append}
+use Rattle.gx_rules.specs.Slices.{cause_of, first_fault}
+use Rattle.gx_law_order.proofs.Lists.{Each, get_kept, get_last}
+use Rattle.gx_law_commit.proofs.Commits.{take-kept}
+use Rattle.gx_law_reads.specs.Sights.{IsOnlyAt}
+use Rattle.gx_law_writes.proofs.Legal.{IsPlacedMark}
+use Rattle.gx_law_writes.proofs.Turns.{NoWrite}
+use Rattle.gx_law_answers.specs.Parts.{IsPartOf, SaysItsPart, is_home}
+use Rattle.gx_law_answers.specs.Truth.{IsTruePart, IsTruth}
+use Rattle.gx_law_answers.proofs.Shown.{IsFirst, faults-on-none, first-is, only-at}
+use Rattle.gx_law_answers.proofs.Views.{view-is, view_rows}
+
+-- ---- marks that write nothing
+image-alone : (shown : Gxid → Cid → Bool) (table : Table) (rid : Rid) (start : Option (List Value)) (ys : List Mark) → Each NoWrite ys → image_after shown table rid start ys ≡ start
+image-alone shown table rid start [] e = refl
+image-alone shown table rid start (mark.Write g c n t r x ∷ ys) e = absurd e.0
+image-alone shown table rid start (m ∷ ys) e = image-alone shown table rid start ys e.1
+
+pub image-more : (shown : Gxid → Cid → Bool) (table : Table) (rid : Rid) (start : Option (List Value)) (xs ys : List Mark) → Each NoWrite ys → image_after shown table rid start (xs ++ ys) ≡ image_after shown table rid start xs
+image-more shown table rid start xs ys e = image_after-append shown table rid start xs ys ∙ image-alone shown table rid (image_after shown table rid start xs) ys e
+
+or-node : (b : Bool) (n : Node) (o p : Option Node) → cond b (Some n) (option_or o p) ≡ option_or (cond b (Some n) o) p
+or-node true n o p = refl
+or-node false n o p = refl
+
+node-append : (xs ys : List Mark) (rid : Rid) → node_of (xs ++ ys) rid ≡ option_or (node_of xs rid) (node_of ys rid)
+node-append [] ys rid = refl
+node-append (mark.Write g c n u q image ∷ xs) ys rid =
+    ap (cond (is_same_rid q rid) (Some n)) (node-append xs ys rid) ∙ or-node (is_same_rid q rid) n (node_of xs rid) (node_of ys rid)
+node-append (m ∷ xs) ys rid = node-append xs ys rid
+
+node-alone : (ys : List Mark) (rid : Rid) → Each NoWrite ys → node_of ys rid ≡ None
+node-alone [] rid e = refl
+node-alone (mark.Write g c n u q image ∷ ys) rid e = absurd e.0
+node-alone (m ∷ ys) rid e = node-alone ys rid e.1
+
+or-none : (o : Option Node) → option_or o None ≡ o
+or-none None = refl
+or-none (Some n) = refl
+
+node-more : (xs ys : List Mark) (rid : Rid) → Each NoWrite ys → node_of (xs ++ ys) rid ≡ node_of xs rid
+node-more xs ys rid e = node-append xs ys rid ∙ ap (option_or (node_of xs rid)) (node-alone ys rid e) ∙ or-none (node_of xs rid)
+
+pub snapshot-more : (ms extra : List Mark) (level : Level) (g : Gxid) (c : Cid) (place : ℕ) → IsSnapshotAt ms level g c place → IsSnapshotAt (ms ++ extra) level g c place
+snapshot-more ms extra level g c place t = record { d = t.d; snapshot = t.snapshot; taken = get_kept ms extra place _ t.taken; serves = t.serves }
+
+module _ (ms extra : List Mark) (quiet : Each NoWrite extra) (level : Level) (g : Gxid) (c : Cid) (place : ℕ) (t : IsSnapshotAt ms level g c place) where
+  abbrev all : List Mark
+  all = ms ++ extra
+
+  before-is : take place (ms ++ extra) ≡ take place ms
+  before-is = take-kept ms extra place _ t.taken
+
+  image-is : (table : Table) (rid : Rid) → image (ms ++ extra) (take place (ms ++ extra)) (Some (g, c)) table rid ≡ image ms (take place ms) (Some (g, c)) table rid
+  image-is table rid =
+      image-more (is_shown_to (Some (g, c)) (take place (ms ++ extra))) table rid None ms extra quiet
+      ∙ ap (λ b. image_after (is_shown_to (Some (g, c)) b) table rid None ms) before-is
+
+  pub part-more : (node : Node) (table : Table) (rows : List KeyedRow) → IsPartOf ms (take place ms) node g c table rows → IsPartOf (ms ++ extra) (take place (ms ++ extra)) node g c table rows
+  part-more node table rows p =
+      record {
+        rising = p.rising;
+        images = λ rid.
+            p.images rid
+            ∙ ap (λ o. if is_home o node then image ms (take place ms) (Some (g, c)) table rid else None) (sym (node-more ms extra rid quiet))
+            ∙ ap (λ v. if is_home (node_of (ms ++ extra) rid) node then v else None) (sym (image-is table rid));
+      }
+
+  pub says-more : (node : Node) (query : Query) (part : Part) → SaysItsPart ms (take place ms) node g c query part → SaysItsPart (ms ++ extra) (take place (ms ++ extra)) node g c query part
+  says-more node query part s = record { rows = s.rows; of = part-more node query.table s.rows s.of; whole = s.whole; said = s.said }
+
+pub true-more : (ms extra : List Mark) → Each NoWrite extra → (node : Node) (level : Level) (g : Gxid) (c : Cid) (query : Query) (part : Part) → IsTruePart ms node level g c query part → IsTruePart (ms ++ extra) node level g c query part
+true-more ms extra quiet node level g c query part t =
+    record { place = t.place; taken = snapshot-more ms extra level g c t.place t.taken; says = says-more ms extra quiet level g c t.place t.taken node query part t.says }
+
+-- ---- later marks, while the command's view stays
+module _ (script : Script) (ms more : List Mark) (placed : Each (IsPlacedMark script (ms ++ more)) (ms ++ more)) (node : Node) (level : Level) (g : Gxid) (c : Cid) (place : ℕ) (t : IsSnapshotAt ms level g c place) (table : Table) (stay : (rid : Rid) → IsOnlyAt node rid (ms ++ more) → image (ms ++ more) (take place (ms ++ more)) (Some (g, c)) table rid ≡ image ms (take place ms) (Some (g, c)) table rid) where
+  abbrev here : Rid → Option (List Value)
+  here rid = image ms (take place ms) (Some (g, c)) table rid
+
+  abbrev later : Rid → Option (List Value)
+  later rid = image (ms ++ more) (take place (ms ++ more)) (Some (g, c)) table rid
+
+  off : (a b d : Bool) → d ≡ false → (a && (b && d)) ≡ false
+  off a b d e = grind arith
+
+  never : (shows : Gxid → Cid → Bool) (rid : Rid) (xs : List Mark) (start : Option (List Value)) → node_of xs rid ≡ None → image_after shows table rid start xs ≡ start
+  never shows rid [] start e = refl
+  never shows rid (mark.Write h d n u r y ∷ xs) start e = by_test (is_same_rid r rid) refl e (λ i q. never shows rid xs i q)
+    where
+      by_test : (b : Bool) → is_same_rid r rid ≡ b → (if b then Some n else node_of xs rid) ≡ None → ((i : Option (List Value)) → node_of xs rid ≡ None → image_after shows table rid i xs ≡ i) → image_after shows table rid (if shows h d && ((u.0 == table.0) && is_same_rid r rid) then y else start) xs ≡ start
+      by_test true q n more' = absurd (cc)
+      by_test false q n more' = ap (λ b. image_after shows table rid (if b then y else start) xs) (off (shows h d) (eqb u.0 table.0) (is_same_rid r rid) q) ∙ more' start n
+  never shows rid (m ∷ xs) start e = never shows rid xs start e
+
+  node-is : (a b : Node) → is_same_node a b ≡ true → a ≡ b
+  node-is a b q = ap (λ n. let r : Node = record { 0 = n } in r) (eqb-true a.0 b.0 q)
+
+  at-home : (rid : Rid) (first : Node) → node_of (ms ++ more) rid ≡ Some first → is_same_node first node ≡ true → later rid ≡ here rid
+  at-home rid first e q = stay rid (only-at script (ms ++ more) node rid (ms ++ more) placed (e ∙ ap Some (node-is first node q)))
+
+  stays : (rid : Rid) (o : Option Node) → node_of ms rid ≡ o → (if is_home o node then here rid else None) ≡ (if is_home (node_of (ms ++ more) rid) node then later rid else None)
+  stays rid (Some first) e = by_test (is_same_node first node) refl ∙ ap (λ o. if is_home o node then later rid else None) (sym first-is')
+    where
+      first-is' : node_of (ms ++ more) rid ≡ Some first
+      first-is' = node-append ms more rid ∙ ap (λ o. option_or o (node_of more rid)) e
+
+      by_test : (b : Bool) → is_same_node first node ≡ b → (if is_same_node first node then here rid else None) ≡ (if is_same_node first node then later rid else None)
+      by_test true q = ap (λ v. if is_same_node first node then v else None) (sym (at-home rid first first-is' q))
+      by_test false q = ap (λ b. if b then here rid else None) q ∙ sym (ap (λ b. if b then later rid else None) q)
+  stays rid None e = by_node (node_of (ms ++ more) rid) refl
+    where
+      by_test : (first : Node) → node_of (ms ++ more) rid ≡ Some first → (b : Bool) → is_same_node first node ≡ b → None ≡ (if b then later rid else None)
+      by_test first f true q = sym (at-home rid first f q ∙ never (is_shown_to (Some (g, c)) (take place ms)) rid ms None e)
+      by_test first f false q = refl
+
+      by_node : (o : Option Node) → node_of (ms ++ more) rid ≡ o → None ≡ (if is_home o node then later rid else None)
+      by_node None f = refl
+      by_node (Some first) f = by_test first f (is_same_node first node) refl
+
+  pub part-later : (rows : List KeyedRow) → IsPartOf ms (take place ms) node g c table rows → IsPartOf (ms ++ more) (take place (ms ++ more)) node g c table rows
+  part-later rows p = record { rising = p.rising; images = λ rid. p.images rid ∙ stays rid (node_of ms rid) refl }
+
+-- ---- the step that answers
+abbrev pub reply_of : Cid → Bool → Query → List KeyedRow → Option (KeyedRow × ArithFault) → Reply
+reply_of c wrote query rows None = reply.Done c wrote 0 (part_of query (filter (keeps query.cond) rows))
+reply_of c wrote query rows (Some fault) = reply.Failed c (cause_of fault.1)
+
+abbrev pub marks_of : Gxid → Cid → Option (KeyedRow × ArithFault) → List Mark
+marks_of g c None = []
+marks_of g c (Some fault) = mark.Fault g c fault.0.rid (Some fault.0.row) ∷ []
+
+pub seen-fault : (ms : List Mark) (node : Node) (level : Level) (g : Gxid) (c : Cid) (place : ℕ) (t : IsSnapshotAt ms level g c place) (query : Query) (rows : List KeyedRow) (p : IsPartOf ms (take place ms) node g c query.table rows) (found : KeyedRow × ArithFault) → first_fault query.cond rows ≡ Some found → FaultsOnSeen ms level g c query.table query.cond found.0.rid (Some found.0.row) found.1
+seen-fault ms node level g c place t query rows p found e =
+    record {
+      rows = view_rows ms (take place ms) (Some (g, c)) query.table;
+      sees = record { place = place; taken = t; view = view-is ms (take place ms) (Some (g, c)) query.table };
+      row = found.0.row;
+      shown = (view-is ms (take place ms) (Some (g, c)) query.table).images found.0.rid ∙ by_home (is_home (node_of ms found.0.rid) node) (sym (p.images found.0.rid) ∙ first.there);
+      meant = refl;
+      faults = first.faults;
+    }
+  where
+    first : IsFirst query.cond rows found
+    first = first-is query.cond rows found p.rising e
+
+    by_home : (b : Bool) → (if b then image ms (take place ms) (Some (g, c)) query.table found.0.rid else None) ≡ Some found.0.row → image ms (take place ms) (Some (g, c)) query.table found.0.rid ≡ Some found.0.row
+    by_home true q = q
+    by_home false q = absurd (cc)
+
+pub select-truth : (ms sent : List Mark) → Each NoWrite sent → (node : Node) (level : Level) (g : Gxid) (c : Cid) → is_aborted ms g ≡ false → (place : ℕ) (t : IsSnapshotAt ms level g c place) (query : Query) (rows : List KeyedRow) → IsPartOf ms (take place ms) node g c query.table rows → (wrote : Bool) (o : Option (KeyedRow × ArithFault)) → first_fault query.cond rows ≡ o → IsTruth (ms ++ (marks_of g c o ++ sent)) node level g c (slice.Select query) (reply_of c wrote query rows o)
+select-truth ms sent quiet node level g c unaborted place t query rows p wrote None e =
+    inr (true-more ms sent quiet node level g c query _ (record { place = place; taken = t; says = record { rows = rows; of = p; whole = faults-on-none query.cond rows e; said = refl } }))
+select-truth ms sent quiet node level g c unaborted place t query rows p wrote (Some found) e =
+    inr (record {
+      place = length ms;
+      rid = found.0.rid;
+      image = Some found.0.row;
+      fault = found.1;
+      noted = get_last ms sent (mark.Fault g c found.0.rid (Some found.0.row));
+      unaborted = ap (λ b. is_aborted b g) (take-append_seam ms all) ∙ unaborted;
+      faults = subst (λ b. FaultsOnSeen b level g c query.table query.cond found.0.rid (Some found.0.row) found.1) (sym (take-append_seam ms all)) (seen-fault ms node level g c place t query rows p found e);
+      is = refl;
+    })
+  where
+    all : List Mark
+    all = mark.Fault g c found.0.rid (Some found.0.row) ∷ sent
+
+-- who has aborted has aborted
+pub aborted-more : (ms extra : List Mark) (g : Gxid) → is_aborted ms g ≡ true → is_aborted (ms ++ extra) g ≡ true
+aborted-more ms extra g e = is_aborted-append ms extra g ∙ or-first (is_aborted ms g) (is_aborted extra g) e
+  where
+    or-first : (a b : Bool) → a ≡ true → (a || b) ≡ true
+    or-first a b q = grind arith

@@ -1,0 +1,54 @@
+-- What is true of a segment's answer to a command, by the marks behind the step that sent it first.
+use Rattle.std.specs.Prelude.{◌≡◌, ◌⊎◌, ℕ, true, false, List, [], ◌∷◌, length, take, slice_get, Some}
+use Rattle.std.specs.declared.option.Option.{Option}
+use Rattle.gx_ids.specs.declared.ids.Cid.{Cid}
+use Rattle.gx_ids.specs.declared.ids.Gxid.{Gxid}
+use Rattle.gx_ids.specs.declared.ids.Node.{Node}
+use Rattle.gx_ids.specs.declared.rid.Rid.{Rid}
+use Rattle.gx_tree.specs.declared.part.Part.{Part}
+use Rattle.gx_tree.specs.declared.query.Query.{Query}
+use Rattle.gx_tree.specs.declared.row.KeyedRow.{KeyedRow}
+use Rattle.gx_tree.specs.declared.slice.Slice.{Slice}
+use Rattle.gx_tree.specs.declared.slice.Slice.TheVariants as slice
+use Rattle.gx_tree.specs.declared.stmt.Level.{Level}
+use Rattle.gx_tree.specs.declared.value.Value.{Value}
+use Rattle.gx_eval.specs.declared.fault.ArithFault.{ArithFault}
+use Rattle.gx_msg.specs.declared.reply.Cause.{Cause}
+use Rattle.gx_msg.specs.declared.reply.Reply.{Reply}
+use Rattle.gx_msg.specs.declared.reply.Reply.TheVariants as reply
+use Rattle.gx_store.specs.declared.mark.Mark.{Mark}
+use Rattle.gx_store.specs.declared.mark.Mark.TheVariants as mark
+use Rattle.gx_store.specs.Commands.{IsSnapshotAt}
+use Rattle.gx_store.specs.Faults.{FaultsOnSeen}
+use Rattle.gx_store.specs.Marks.{is_aborted, is_written}
+use Rattle.gx_rules.specs.Slices.{cause_of}
+use Rattle.gx_law_answers.specs.Parts.{SaysItsPart}
+
+-- the part is of the node's rows of what the command sees
+pub record IsTruePart (marks : List Mark) (node : Node) (level : Level) (g : Gxid) (c : Cid) (query : Query) (part : Part) : Type 0 where
+  pub place : ℕ
+  pub taken : IsSnapshotAt marks level g c place
+  pub says : SaysItsPart marks (take place marks) node g c query part
+
+-- the condition has faulted so on a row that the command sees, before its transaction was aborted
+pub record IsTrueFault (marks : List Mark) (level : Level) (g : Gxid) (c : Cid) (query : Query) (cause : Cause) : Type 0 where
+  pub place : ℕ
+  pub rid : Rid
+  pub image : Option (List Value)
+  pub fault : ArithFault
+  pub noted : slice_get marks place ≡ Some (mark.Fault g c rid image)
+  pub unaborted : is_aborted (take place marks) g ≡ false
+  pub faults : FaultsOnSeen (take place marks) level g c query.table query.cond rid image fault
+  pub is : cause ≡ cause_of fault
+
+abbrev pub AreWritten : List Mark → List KeyedRow → Type 0
+AreWritten marks [] = Unit {0}
+AreWritten marks (row ∷ rows) = (is_written marks row.rid ≡ true) × AreWritten marks rows
+
+-- A SELECT's answer is its part, or the fault of its condition, unless its transaction has aborted; an INSERT's counts the rows
+-- that were sent to it, which are all written.
+abbrev pub IsTruth : List Mark → Node → Level → Gxid → Cid → Slice → Reply → Type 0
+IsTruth marks node level g c (slice.Select query) (reply.Done d wrote count part) = (is_aborted marks g ≡ true) ⊎ IsTruePart marks node level g c query part
+IsTruth marks node level g c (slice.Select query) (reply.Failed d cause) = (is_aborted marks g ≡ true) ⊎ IsTrueFault marks level g c query cause
+IsTruth marks node level g c (slice.Insert table rows) (reply.Done d wrote count part) = (count ≡ length rows) × AreWritten marks rows
+IsTruth marks node level g c slice r = ⊥

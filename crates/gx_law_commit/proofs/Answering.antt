@@ -1,0 +1,176 @@
+-- What stands when a session's line is answered: every command that was sent out for it has come back.
+use Rattle.std.proofs.Common.{◌≡◌, ◌⊎◌, inl, inr, ℕ, List, [], ◌∷◌, ◌++◌, Some, None, Bool, true, false, refl, sym, subst, ap, ◌∙◌, if◌then◌else◌, ◌||◌, eqb, append-nil}
+use Rattle.std.proofs.lemmas.Bool.{eqb-true}
+use Rattle.std.proofs.lemmas.List.{append_assoc}
+use Rattle.gx_ids.specs.declared.ids.SessionId.{SessionId}
+use Rattle.gx_tree.specs.declared.stmt.Stmt.{Stmt}
+use Rattle.gx_dtx.specs.Rules.{Turn}
+use Rattle.gx_dtx.specs.Table.{find_txn}
+use Rattle.gx_msg.specs.declared.message.Out.{Out}
+use Rattle.gx_script.specs.declared.Script.{Script}
+use Rattle.gx_session.specs.declared.state.SessionState.{SessionState}
+use Rattle.gx_store.specs.declared.answer.Refused.{Refused}
+use Rattle.gx_store.specs.declared.answer.StmtAnswer.{StmtAnswer}
+use Rattle.gx_store.specs.declared.answer.StmtAnswer.TheVariants as told
+use Rattle.gx_store.specs.declared.mark.Mark.{Mark}
+use Rattle.gx_store.specs.declared.mark.Mark.TheVariants as mark
+use Rattle.gx_store.specs.Lines.{BlockState, is_command}
+use Rattle.gx_store.specs.Marks.{is_aborted, started_after}
+use Rattle.gx_rules.specs.AtCoordinator.{answer_at_commit, answer_mark, answer_of_command, answers, is_committed as is_closed, is_refused, next_line, rolls_back}
+use Rattle.gx_rules.specs.Coordinators.{Coord, CoordTurn, Session, Work, no_work, session_of, work_of}
+use Rattle.gx_rules.specs.Maps.{with_at}
+use Rattle.gx_law_order.proofs.Lists.{Each, each_append}
+use Rattle.gx_law_order.proofs.Numbers.{NoStart}
+use Rattle.gx_law_order.proofs.Past.{aborted-append}
+use Rattle.gx_law_commit.specs.Standings.{gx, waits_in}
+use Rattle.gx_law_commit.proofs.Calls.{or-left, or-right, self}
+
+-- a mark that answers no line
+abbrev pub NoAnswer : Mark → Type 0
+NoAnswer (mark.Answer s n a) = ⊥
+NoAnswer _ = Unit {0}
+
+-- `Gets i g n`: the event is the segment's answer to the transaction's command of this number
+module _ (script : Script) (c : Coord) (ms : List Mark) (Gets : ℕ → ℕ → ℕ → Type 0) (starts : ℕ → Type 0) where
+  -- whatever the transaction's commands wait for comes with the event, and it isn't aborted
+  pub record Settles (g : ℕ) : Type 0 where
+    pub waits : (i : ℕ) → waits_in (c.works g).command i ≡ true → Gets i g (c.works g).last
+    pub alive : is_aborted ms (gx g) ≡ false
+
+  -- the session's line is no command
+  pub record IsPlain (s : SessionId) : Type 0 where
+    pub line : Stmt
+    pub next : next_line script c s ≡ Some line
+    pub plain : (state : BlockState) → is_command state line ≡ false
+    pub starts_it : starts s.0
+
+  -- a line may be answered so behind these marks of the event
+  abbrev pub MayAnswer : List Mark → SessionId → StmtAnswer → Type 0
+  MayAnswer earlier s (told.Refused reason) = Unit {0}
+  MayAnswer earlier s answer = ((g : ℕ) → started_after s None (ms ++ earlier) ≡ Some (gx g) → Settles g) ⊎ IsPlain s
+
+  abbrev pub MayAt : List Mark → Mark → Type 0
+  MayAt earlier (mark.Answer s n a) = MayAnswer earlier s a
+  MayAt earlier m = Unit {0}
+
+  abbrev pub MayAll : List Mark → List Mark → Type 0
+  MayAll earlier [] = Unit {0}
+  MayAll earlier (m ∷ ns) = MayAt earlier m × MayAll (earlier ++ m ∷ []) ns
+
+  pub may-append : (earlier xs ys : List Mark) → MayAll earlier xs → MayAll (earlier ++ xs) ys → MayAll earlier (xs ++ ys)
+  may-append earlier [] ys e f = subst (λ b. MayAll b ys) (append-nil earlier) f
+  may-append earlier (x ∷ xs) ys e f = (e.0, may-append (earlier ++ x ∷ []) xs ys e.1 (subst (λ b. MayAll b ys) (sym (append_assoc earlier (x ∷ []) xs)) f))
+
+  none-one : (earlier : List Mark) (m : Mark) → NoAnswer m → MayAt earlier m
+  none-one earlier (mark.Answer s n a) e = absurd e
+  none-one earlier m e = tt
+
+  pub none-may : (earlier ns : List Mark) → Each NoAnswer ns → MayAll earlier ns
+  none-may earlier [] e = tt
+  none-may earlier (m ∷ ns) e = (none-one earlier m e.0, none-may (earlier ++ m ∷ []) ns e.1)
+
+  -- what becomes of the works and of the sessions
+  abbrev pub WorksGo : (ℕ → Work) → List Mark → Type 0
+  WorksGo works ns = (h i : ℕ) → waits_in (c.works h).command i ≡ true → ((waits_in (works h).command i ≡ true) × ((works h).last ≡ (c.works h).last)) ⊎ (is_aborted ns (gx h) ≡ true) ⊎ Gets i h (c.works h).last
+
+  pub record Tidy (sessions : ℕ → Session) (earlier : List Mark) (turn : CoordTurn) : Type 0 where
+    pub lines : (t : ℕ) → (turn.coord.sessions t).lines ≡ (sessions t).lines
+    pub transaction : (t : ℕ) → (turn.coord.sessions t).transaction ≡ (sessions t).transaction
+    pub marks : Each NoStart turn.marks
+    pub works : WorksGo turn.coord.works turn.marks
+    pub may : MayAll earlier turn.marks
+
+  -- ONE WORK
+  same-go : (ns : List Mark) → WorksGo c.works ns
+  same-go ns h i e = inl (e, refl)
+
+  -- all works but one are as before
+  pub one-go : (works : ℕ → Work) (ns : List Mark) (g : ℕ) → ((h : ℕ) → eqb h g ≡ false → works h ≡ c.works h) → ((i : ℕ) → waits_in (c.works g).command i ≡ true → ((waits_in (works g).command i ≡ true) × ((works g).last ≡ (c.works g).last)) ⊎ (is_aborted ns (gx g) ≡ true) ⊎ Gets i g (c.works g).last) → WorksGo works ns
+  one-go works ns g others here h i e = by_test (eqb h g) refl
+    where
+      by_test : (b : Bool) → eqb h g ≡ b → ((waits_in (works h).command i ≡ true) × ((works h).last ≡ (c.works h).last)) ⊎ (is_aborted ns (gx h) ≡ true) ⊎ Gets i h (c.works h).last
+      by_test true q =
+          subst (λ j. ((waits_in (works j).command i ≡ true) × ((works j).last ≡ (c.works j).last)) ⊎ (is_aborted ns (gx j) ≡ true) ⊎ Gets i j (c.works j).last) (sym (eqb-true h g q))
+          (here i (subst (λ j. waits_in (c.works j).command i ≡ true) (eqb-true h g q) e))
+      by_test false q = inl (ap (λ (w : Work). waits_in w.command i) (others h q) ∙ e, ap (λ (w : Work). w.last) (others h q))
+
+  -- SESSIONS
+  lines-state : (f : ℕ → Session) (s t : ℕ) (x : SessionState) → (with_at f s (record (f s) { state = x }) t).lines ≡ (f t).lines
+  lines-state f s t x = by_test (eqb t s) refl
+    where
+      by_test : (b : Bool) → eqb t s ≡ b → (if b then record (f s) { state = x } else f t).lines ≡ (f t).lines
+      by_test true e = ap (λ j. (f j).lines) (sym (eqb-true t s e))
+      by_test false e = refl
+
+  txn-state : (f : ℕ → Session) (s t : ℕ) (x : SessionState) → (with_at f s (record (f s) { state = x }) t).transaction ≡ (f t).transaction
+  txn-state f s t x = by_test (eqb t s) refl
+    where
+      by_test : (b : Bool) → eqb t s ≡ b → (if b then record (f s) { state = x } else f t).transaction ≡ (f t).transaction
+      by_test true e = ap (λ j. (f j).transaction) (sym (eqb-true t s e))
+      by_test false e = refl
+
+  -- TURNS, from a coordinator on the way whose works but one are as before
+  module _ (c1 : Coord) (g : ℕ) (others : (h : ℕ) → eqb h g ≡ false → c1.works h ≡ c.works h) (earlier : List Mark) where
+    with-others : (w : Work) (h : ℕ) → eqb h g ≡ false → with_at c1.works g w h ≡ c.works h
+    with-others w h e = ap (λ b. if b then w else c1.works h) e ∙ others h e
+
+    -- its line is answered
+    abbrev pub HomeSettles : List Mark → Type 0
+    HomeSettles before = (h : ℕ) → started_after (work_of c1 (gx g)).session None (ms ++ before) ≡ Some (gx h) → Settles h
+
+    pub answer-may : (before : List Mark) (n : ℕ) (a : StmtAnswer) → HomeSettles before → MayAnswer before (work_of c1 (gx g)).session a
+    answer-may before n (told.Refused reason) s = tt
+    answer-may before n told.Begin s = inl s
+    answer-may before n told.Commit s = inl s
+    answer-may before n told.Rollback s = inl s
+    answer-may before n told.Locked s = inl s
+    answer-may before n (told.Inserted x) s = inl s
+    answer-may before n (told.Updated x) s = inl s
+    answer-may before n (told.Deleted x) s = inl s
+    answer-may before n (told.Rows x) s = inl s
+
+    pub closed-tidy : (turn : Turn) → Settles g → HomeSettles (earlier ++ mark.Commit (gx g) ∷ []) → Tidy c1.sessions earlier (is_closed c1 (gx g) turn)
+    closed-tidy turn s home =
+        record {
+          lines = λ t. lines-state c1.sessions (work_of c1 (gx g)).session.0 t _;
+          transaction = λ t. txn-state c1.sessions (work_of c1 (gx g)).session.0 t _;
+          marks = (tt, (tt, tt));
+          works = one-go _ (is_closed c1 (gx g) turn).marks g (with-others no_work) (λ i e. inr (inr (s.waits i e)));
+          may = (tt, (answer-may (earlier ++ mark.Commit (gx g) ∷ []) 0 (answer_at_commit (work_of c1 (gx g)) (session_of c1 (work_of c1 (gx g)).session).state.pending) home, tt));
+        }
+
+    abort-told : (why rest : List Mark) → is_aborted (why ++ mark.Abort (gx g) ∷ rest) (gx g) ≡ true
+    abort-told why rest = aborted-append why (mark.Abort (gx g) ∷ rest) (gx g) ∙ or-right (is_aborted why (gx g)) (eqb g g || is_aborted rest (gx g)) (or-left (eqb g g) (is_aborted rest (gx g)) (self g))
+
+    pub refused-tidy : (turn : Turn) (why : List Mark) (reason : Refused) → Each NoStart why → Each NoAnswer why → Tidy c1.sessions earlier (is_refused c1 (gx g) turn why reason)
+    refused-tidy turn why reason n a =
+        record {
+          lines = λ t. lines-state c1.sessions (work_of c1 (gx g)).session.0 t _;
+          transaction = λ t. txn-state c1.sessions (work_of c1 (gx g)).session.0 t _;
+          marks = each_append NoStart why _ n (tt, (tt, tt));
+          works = one-go _ (is_refused c1 (gx g) turn why reason).marks g (with-others no_work) (λ i e. inr (inl (abort-told why (answer_mark c1 (work_of c1 (gx g)).session (told.Refused reason) ∷ []))));
+          may = may-append earlier why _ (none-may earlier why a) (tt, (tt, tt));
+        }
+
+    pub rolled-tidy : (turn : Turn) (marks : List Mark) → Each NoStart marks → MayAll (earlier ++ mark.Abort (gx g) ∷ []) marks → Tidy c1.sessions earlier (rolls_back c1 (gx g) marks turn)
+    rolled-tidy turn marks n a =
+        record { lines = λ t. refl; transaction = λ t. refl; marks = (tt, n); works = one-go _ (mark.Abort (gx g) ∷ marks) g (with-others no_work) (λ i e. inr (inl (abort-told [] marks))); may = (tt, a) }
+
+    pub answered-tidy : Settles g → HomeSettles earlier → Tidy c1.sessions earlier (answers c1 (gx g) (work_of c1 (gx g)))
+    answered-tidy s home =
+        record {
+          lines = λ t. lines-state c1.sessions (work_of c1 (gx g)).session.0 t _;
+          transaction = λ t. txn-state c1.sessions (work_of c1 (gx g)).session.0 t _;
+          marks = (tt, tt);
+          works = one-go _ (answers c1 (gx g) (work_of c1 (gx g))).marks g (with-others (record (work_of c1 (gx g)) { command = None })) (λ i e. inr (inr (s.waits i e)));
+          may = (answer-may earlier 0 (answer_of_command (work_of c1 (gx g)).command) home, tt);
+        }
+
+    -- the works as they stand on the way
+    pub rests-tidy : (table : Rattle.gx_dtx.specs.Table.Table) (outs : List Out) (ns : List Mark) → Each NoStart ns → Each NoAnswer ns → ((i : ℕ) → waits_in (c.works g).command i ≡ true → ((waits_in (c1.works g).command i ≡ true) × ((c1.works g).last ≡ (c.works g).last)) ⊎ Gets i g (c.works g).last) → Tidy c1.sessions earlier (record { coord = record c1 { table = table }; marks = ns; outs = outs; item = None })
+    rests-tidy table outs ns n a here =
+        record { lines = λ t. refl; transaction = λ t. refl; marks = n; works = one-go c1.works ns g others (λ i e. either i (here i e)); may = none-may earlier ns a }
+      where
+        either : (i : ℕ) → ((waits_in (c1.works g).command i ≡ true) × ((c1.works g).last ≡ (c.works g).last)) ⊎ Gets i g (c.works g).last → ((waits_in (c1.works g).command i ≡ true) × ((c1.works g).last ≡ (c.works g).last)) ⊎ (is_aborted ns (gx g) ≡ true) ⊎ Gets i g (c.works g).last
+        either i (inl x) = inl x
+        either i (inr x) = inr (inr x)

@@ -1,0 +1,351 @@
+-- Over every run of the machine: what always holds of transactions, messages and marks.
+use Rattle.std.proofs.Common.{◌≡◌, ◌⊎◌, inl, inr, ℕ, ◌+◌, List, [], ◌∷◌, ◌++◌, Some, Bool, true, false, refl, sym, subst, ap, ◌∙◌, if◌then◌else◌, ◌||◌, ◌&&◌, arith, eqb, append-nil}
+use Rattle.std.proofs.lemmas.Bool.{eqb-true}
+use Rattle.std.proofs.lemmas.Bool.Decides.{nat_tests}
+use Rattle.std.proofs.lemmas.List.{append_assoc}
+use Rattle.gx_ids.specs.declared.ids.Node.{Node}
+use Rattle.gx_dtx.specs.Table.{find_txn}
+use Rattle.gx_msg.specs.declared.message.Envelope.{Envelope}
+use Rattle.gx_msg.specs.declared.message.Message.{Message}
+use Rattle.gx_msg.specs.declared.message.Message.TheVariants as message
+use Rattle.gx_msg.specs.declared.message.Out.{Out}
+use Rattle.gx_msg.specs.declared.reply.Reply.TheVariants as reply
+use Rattle.gx_script.specs.declared.Script.{Script}
+use Rattle.gx_store.specs.declared.event.Event.{Event}
+use Rattle.gx_store.specs.declared.mark.Mark.{Mark}
+use Rattle.gx_store.specs.declared.mark.Mark.TheVariants as mark
+use Rattle.gx_store.specs.declared.node.NodeEvent.{NodeEvent}
+use Rattle.gx_store.specs.declared.node.NodeEvent.TheVariants as here
+use Rattle.gx_store.specs.declared.run.Step.{Step}
+use Rattle.gx_store.specs.Marks.{is_aborted, is_committed}
+use Rattle.gx_store.specs.Messages.{Receives}
+use Rattle.gx_store.specs.Points.{marks_in}
+use Rattle.gx_store.specs.Protocol.{decided_count, is_writer, local_count, prepared_count}
+use Rattle.gx_store.specs.Refusals.{the_coordinator}
+use Rattle.gx_rules.specs.AtCoordinator.{coord_can, coord_rule, on_event}
+use Rattle.gx_rules.specs.AtSegment as segment
+use Rattle.gx_rules.specs.AtSegment.{seg_rule}
+use Rattle.gx_rules.specs.Coordinators.{Coord, CoordTurn}
+use Rattle.gx_rules.specs.Machine.{Letter, World, coord_did, posted, seg_did}
+use Rattle.gx_rules.specs.Segments.{Local, Seg, SegTurn}
+use Rattle.gx_rules.specs.Sending.{clock_after, counted, numbered}
+use Rattle.gx_law_order.proofs.Lists.{Each, each_weaker}
+use Rattle.gx_law_order.proofs.Past.{aborted-append, committed-append}
+use Rattle.gx_law_order.proofs.World.{Knows, marks-last}
+use Rattle.gx_law_commit.specs.Followed.{DoStepsEnd}
+use Rattle.gx_law_commit.specs.Pairs.{Pair}
+use Rattle.gx_law_commit.specs.Said.{Said, SaidIn, gxid_in, is_answer, segment_of}
+use Rattle.gx_law_commit.specs.Standings.{Known, Part, at, gx, known_at, part_at, part_of}
+use Rattle.gx_law_commit.specs.Told.{DoStepsTell, IsTold}
+use Rattle.gx_law_commit.proofs.Telling.{coord-told, seg-told, step-told, tell-push}
+use Rattle.gx_law_commit.proofs.Counts.{NoEnd, NoPart, NoSent, decided-append, local-append, no-aborted, no-committed, no-decided, no-local, no-prepared, no-writer, prepared-append, sent-no-end, sent-no-part, writer-append}
+use Rattle.gx_law_commit.proofs.Events.{IsSaidIn, event-led}
+use Rattle.gx_law_commit.proofs.Following.{coord-end, end-push, has-left, has-right, seg-end}
+use Rattle.gx_law_commit.proofs.Handled.{Does, Follows, HasMark, Tells, after_marks, handled}
+use Rattle.gx_law_commit.proofs.Parts.{said-grows}
+use Rattle.gx_law_commit.proofs.Ways.{Agrees, Fol, FolAt, Led, SaidOut, Stands, agrees-append, known-eq}
+
+abbrev pub parts_in : World → ℕ → ℕ → Part
+parts_in w i g = part_at (w.segs i) (marks_in w.steps) i g
+
+pub record Holds (script : Script) (w : World) : Type 0 where
+  pub stands : Stands script (parts_in w) w.coord (marks_in w.steps)
+  pub said : Each (SaidIn w) w.sent
+  pub failed : (i g : ℕ) → ((w.segs i).locals g).vote ≡ Some reply.Jfault → HasMark (mark.JournalFailed (at i) (gx g)) (marks_in w.steps)
+  pub ends : DoStepsEnd script [] w.steps
+  pub tells : DoStepsTell [] w.steps
+
+-- SENDINGS
+pub posted-each : (Q : Letter → Type 0) (from : Node) (clock : ℕ) (xs : List Mark) (f : ℕ → ℕ) (outs : List Out) (sent : List Letter) → Each NoSent xs → Each (λ (o : Out). (n : ℕ) → Q (record { from = from; to = o.node; envelope = record { number = n; clock = clock; message = o.message } })) outs → Each Q sent → Each Q (posted from clock (xs ++ numbered f outs) sent)
+posted-each Q from clock [] f [] sent e h s = s
+posted-each Q from clock [] f (o ∷ outs) sent e h s = posted-each Q from clock [] (counted f o) outs _ tt h.1 (h.0 (f o.node.0 + 1), s)
+posted-each Q from clock (mark.Sent to number told ∷ xs) f outs sent e h s = absurd e.0
+posted-each Q from clock (m ∷ xs) f outs sent e h s = posted-each Q from clock xs f outs sent e.1 h s
+
+fol-sent-one : (script : Script) (ms : List Mark) (m : Mark) → FolAt script ms m → NoSent m
+fol-sent-one script ms (mark.Sent to number told) e = e
+fol-sent-one script ms m e = tt
+
+pub fol-no-sent : (script : Script) (ms ns : List Mark) → Fol script ms ns → Each NoSent ns
+fol-no-sent script ms [] e = tt
+fol-no-sent script ms (m ∷ ns) e = (fol-sent-one script ms m e.0, fol-no-sent script (ms ++ m ∷ []) ns e.1)
+
+-- MARKS THAT TELL OF NO END
+or-none : (b : Bool) → (b || false) ≡ b
+or-none true = refl
+or-none false = refl
+
+plus-none : (n : ℕ) → n + 0 ≡ n
+plus-none n = omega arith
+
+known-append : (script : Script) (P : ℕ → ℕ → Part) (c : Coord) (ms ns : List Mark) (i g : ℕ) → Each NoEnd ns → known_at c (ms ++ ns) i g ≡ known_at c ms i g
+known-append script P c ms ns i g e =
+    known-eq script P i _ _ (c.works g) (c.works g) _ _ _ _ _ _ refl refl (decided-append ms ns (gx g) ∙ ap (λ n. decided_count ms (gx g) + n) (no-decided ns (gx g) e) ∙ plus-none (decided_count ms (gx g)))
+    (aborted-append ms ns (gx g) ∙ ap (λ b. is_aborted ms (gx g) || b) (no-aborted ns (gx g) e) ∙ or-none (is_aborted ms (gx g)))
+    (committed-append ms ns (gx g) ∙ ap (λ b. is_committed ms (gx g) || b) (no-committed ns (gx g) e) ∙ or-none (is_committed ms (gx g)))
+
+part-eq : (l : Local) (a b : Bool) (p q x y : ℕ) → a ≡ b → p ≡ q → x ≡ y → part_of l a p x ≡ part_of l b q y
+part-eq l a b p q x y e f h = ap (λ a. part_of l a p x) e ∙ ap (λ p. part_of l b p x) f ∙ ap (λ x. part_of l b q x) h
+
+-- A STEP OF THE COORDINATOR
+module _ (script : Script) (w : World) (n : Knows script w) (v : Holds script w) (e : Event) (x : NodeEvent) (fails : Bool) where
+  abbrev ms : List Mark
+  ms = marks_in w.steps
+
+  abbrev turn : CoordTurn
+  turn = on_event script w.coord x fails
+
+  abbrev sent : List Mark
+  sent = numbered turn.coord.sent turn.outs
+
+  abbrev last : Coord
+  last = (coord_rule script w.coord x fails).coord
+
+  abbrev step : Step
+  step = record { stamp = record { clock = clock_after w.coord.clock x; node = the_coordinator }; event = e; marks = turn.marks ++ sent }
+
+  abbrev next : World
+  next = coord_did w e (coord_rule script w.coord x fails)
+
+  pub coord-holds : coord_can script w.coord x ≡ true → IsSaidIn script (parts_in w) w.coord ms v.stands n.kept n.past (λ g. (n.well.coordinator.works g).writers) x → Holds script next
+  coord-holds ok d = from-led (event-led script (parts_in w) w.coord ms v.stands n.kept n.past (λ g. (n.well.coordinator.works g).writers) x fails ok d)
+    where
+      all : ms ++ (turn.marks ++ sent) ≡ marks_in next.steps
+      all = sym (marks-last w.steps step)
+
+      from-led : Led script (parts_in w) w.coord ms (on_event script w.coord x fails) → Holds script (coord_did w e (coord_rule script w.coord x fails))
+      from-led f =
+          record {
+            stands = record {
+              pairs = λ i g. subst (λ p. Pair (known_at last (marks_in next.steps) i g) p) (sym (same-part i g)) (subst (λ k. Pair k (parts_in w i g)) (sym (same-known i g)) (f.way.stands.pairs i g));
+              works = f.way.stands.works;
+              agrees = λ g. subst (λ q. Agrees q g (find_txn last.table (gx g)) (last.works g).writers) (append_assoc ms turn.marks sent ∙ all) (agrees-append (ms ++ turn.marks) sent g (find_txn last.table (gx g)) (last.works g).writers (f.way.stands.agrees g));
+              parts = λ i g. record { wrote = refl; promises = refl; commits = refl };
+            };
+            said = posted-each (SaidIn next) the_coordinator (clock_after w.coord.clock x) turn.marks turn.coord.sent turn.outs w.sent (fol-no-sent script ms turn.marks f.way.fol)
+                (each_weaker (SaidOut script (parts_in w) turn.coord (ms ++ turn.marks)) _ (λ o h number. subst (λ b. Said (known_at last (marks_in next.steps) (if b then 0 else o.node.0) (gxid_in o.message)) (parts_in next (if b then 0 else o.node.0) (gxid_in o.message)) o.message) (sym h.0) (moved o.node.0 (gxid_in o.message) o.message h.1)) turn.outs f.outs)
+                (each_weaker (SaidIn w) (SaidIn next) (λ l h. moved (segment_of l) (gxid_in l.envelope.message) l.envelope.message (f.way.stays (segment_of l) (gxid_in l.envelope.message) l.envelope.message h)) w.sent v.said);
+            failed = λ i g q. subst (HasMark (mark.JournalFailed (at i) (gx g))) all (has-left (mark.JournalFailed (at i) (gx g)) ms (turn.marks ++ sent) (v.failed i g q));
+            tells = tell-push [] w.steps step v.tells (step-told the_coordinator ms turn.marks turn.coord.sent turn.outs (fol-no-sent script ms turn.marks f.way.fol)
+                (each_weaker (SaidOut script (parts_in w) turn.coord (ms ++ turn.marks)) (λ (o : Out). IsTold the_coordinator (ms ++ turn.marks) o.message) (λ o h. coord-told (known_at turn.coord (ms ++ turn.marks) o.node.0 (gxid_in o.message)) (parts_in w o.node.0 (gxid_in o.message)) (ms ++ turn.marks) o.message refl refl h.0 h.1) turn.outs f.outs));
+            ends = end-push script [] w.steps step v.ends (coord-end script w.steps step [] turn.marks turn.coord.sent turn.outs (subst (λ q. Fol script q turn.marks) (sym (append-nil ms)) f.way.fol) (each_weaker (SaidOut script (parts_in w) turn.coord (ms ++ turn.marks)) (λ (o : Out). is_answer o.message ≡ false) (λ o h. h.0) turn.outs f.outs));
+          }
+        where
+          same-known : (i g : ℕ) → known_at last (marks_in next.steps) i g ≡ known_at turn.coord (ms ++ turn.marks) i g
+          same-known i g = ap (λ q. known_at turn.coord q i g) (sym (append_assoc ms turn.marks sent ∙ all)) ∙ known-append script (parts_in w) turn.coord (ms ++ turn.marks) sent i g (sent-no-end turn.coord.sent turn.outs)
+
+          same-part : (i g : ℕ) → parts_in next i g ≡ parts_in w i g
+          same-part i g =
+              let o = f.way.stands.parts i g in
+              let quiet : Each NoPart sent = sent-no-part turn.coord.sent turn.outs in
+              ap (λ q. part_at (w.segs i) q i g) (sym (append_assoc ms turn.marks sent ∙ all))
+              ∙ part-eq ((w.segs i).locals g) _ _ _ _ _ _
+              (writer-append (ms ++ turn.marks) sent (gx g) (at i) ∙ ap (λ b. is_writer (ms ++ turn.marks) (gx g) (at i) || b) (no-writer sent (gx g) (at i) quiet) ∙ or-none (is_writer (ms ++ turn.marks) (gx g) (at i)) ∙ o.wrote)
+              (prepared-append (ms ++ turn.marks) sent (at i) (gx g) ∙ ap (λ m. prepared_count (ms ++ turn.marks) (at i) (gx g) + m) (no-prepared sent (at i) (gx g) quiet) ∙ plus-none (prepared_count (ms ++ turn.marks) (at i) (gx g)) ∙ o.promises)
+              (local-append (ms ++ turn.marks) sent (at i) (gx g) ∙ ap (λ m. local_count (ms ++ turn.marks) (at i) (gx g) + m) (no-local sent (at i) (gx g) quiet) ∙ plus-none (local_count (ms ++ turn.marks) (at i) (gx g)) ∙ o.commits)
+
+          moved : (i g : ℕ) (m : Message) → Said (known_at turn.coord (ms ++ turn.marks) i g) (parts_in w i g) m → Said (known_at last (marks_in next.steps) i g) (parts_in next i g) m
+          moved i g m q = subst (λ p. Said (known_at last (marks_in next.steps) i g) p m) (sym (same-part i g)) (subst (λ k. Said k (parts_in w i g) m) (sym (same-known i g)) q)
+
+-- A STEP OF A SEGMENT
+both-apart : (a n g i h j : ℕ) → a ≡ g → n ≡ i → (eqb j i && eqb h g) ≡ false → (eqb a h && eqb n j) ≡ false
+both-apart a n g i h j e f q = grind (arith, nat_tests)
+
+both-apart-back : (a n g i h j : ℕ) → a ≡ g → n ≡ i → (eqb j i && eqb h g) ≡ false → (eqb n j && eqb a h) ≡ false
+both-apart-back a n g i h j e f q = grind (arith, nat_tests)
+
+or-both : (a b : Bool) → a ≡ false → b ≡ false → (a || b) ≡ false
+or-both a b e f = grind arith
+
+if-none : (b : Bool) (n : ℕ) → b ≡ false → n ≡ 0 → (if b then n + 1 else n) ≡ 0
+if-none b n e f = grind arith
+
+module _ (told : Message) (k : Known) (i g : ℕ) (j h : ℕ) (apart : (eqb j i && eqb h g) ≡ false) where
+  no-writer-there : (ns : List Mark) → Each (Follows told k i g) ns → is_writer ns (gx h) (at j) ≡ false
+  no-writer-there [] e = refl
+  no-writer-there (mark.Write a c n t r x ∷ ns) e = or-both (eqb a.0 h && eqb n.0 j) (is_writer ns (gx h) (at j)) (both-apart a.0 n.0 g i h j e.0.0 e.0.1 apart) (no-writer-there ns e.1)
+  no-writer-there (m ∷ ns) e = no-writer-there ns e.1
+
+  no-prepared-there : (ns : List Mark) → Each (Follows told k i g) ns → prepared_count ns (at j) (gx h) ≡ 0
+  no-prepared-there [] e = refl
+  no-prepared-there (mark.Prepared n a ∷ ns) e = if-none (eqb n.0 j && eqb a.0 h) (prepared_count ns (at j) (gx h)) (both-apart-back a.0 n.0 g i h j e.0.0 e.0.1 apart) (no-prepared-there ns e.1)
+  no-prepared-there (m ∷ ns) e = no-prepared-there ns e.1
+
+  no-local-there : (ns : List Mark) → Each (Follows told k i g) ns → local_count ns (at j) (gx h) ≡ 0
+  no-local-there [] e = refl
+  no-local-there (mark.LocalCommit n a ∷ ns) e = if-none (eqb n.0 j && eqb a.0 h) (local_count ns (at j) (gx h)) (both-apart-back a.0 n.0 g i h j e.0.0 e.0.1 apart) (no-local-there ns e.1)
+  no-local-there (m ∷ ns) e = no-local-there ns e.1
+
+pub follows-no-end : (told : Message) (k : Known) (i g : ℕ) (ns : List Mark) → Each (Follows told k i g) ns → Each NoEnd ns
+follows-no-end told k i g [] e = tt
+follows-no-end told k i g (mark.Commit h ∷ ns) e = absurd e.0
+follows-no-end told k i g (mark.Abort h ∷ ns) e = absurd e.0
+follows-no-end told k i g (mark.Decided h ∷ ns) e = absurd e.0
+follows-no-end told k i g (m ∷ ns) e = (tt, follows-no-end told k i g ns e.1)
+
+pub follows-no-sent : (told : Message) (k : Known) (i g : ℕ) (ns : List Mark) → Each (Follows told k i g) ns → Each NoSent ns
+follows-no-sent told k i g [] e = tt
+follows-no-sent told k i g (mark.Sent to number m ∷ ns) e = absurd e.0
+follows-no-sent told k i g (m ∷ ns) e = (tt, follows-no-sent told k i g ns e.1)
+
+each-both : (P : Mark → Type 0) (xs ys : List Mark) → Each P xs → Each P ys → Each P (xs ++ ys)
+each-both P [] ys e f = f
+each-both P (x ∷ xs) ys e f = (e.0, each-both P xs ys e.1 f)
+
+-- what it tells is an answer that is said
+pub told-answer : (k : Known) (q : Part) (i g : ℕ) (marks : List Mark) (m : Message) → Tells k q i g marks m → (is_answer m ≡ true) × (gxid_in m ≡ g) × Said k q m
+told-answer k q i g marks (message.Answer h reply.Again) e = (refl, e.0, tt)
+told-answer k q i g marks (message.Answer h (reply.Done c x y z)) e = (refl, e.0, e.1)
+told-answer k q i g marks (message.Answer h (reply.Failed c x)) e = (refl, e.0, tt)
+told-answer k q i g marks (message.Answer h reply.Prepared) e = (refl, e.0, e.1)
+told-answer k q i g marks (message.Answer h reply.Committed) e = (refl, e.0, e.1)
+told-answer k q i g marks (message.Answer h reply.Jfault) e = (refl, e.0, e.1)
+told-answer k q i g marks (message.Answer h reply.Aborted) e = (refl, e.0, tt)
+told-answer k q i g marks (message.Answer h reply.Forgotten) e = (refl, e.0, tt)
+told-answer k q i g marks (message.Exec h c level x y z) e = absurd e
+told-answer k q i g marks (message.Prepare h) e = absurd e
+told-answer k q i g marks (message.Commit h) e = absurd e
+told-answer k q i g marks (message.CommitPrepared h) e = absurd e
+told-answer k q i g marks (message.Abort h) e = absurd e
+told-answer k q i g marks (message.Forget h) e = absurd e
+told-answer k q i g marks (message.Collect round) e = absurd e
+told-answer k q i g marks (message.Graph round graph) e = absurd e
+
+module _ (script : Script) (w : World) (n : Knows script w) (v : Holds script w) (e : Event) (fails : Bool) (i : ℕ) (from : Node) (envelope : Envelope) (received : Receives w.steps e the_coordinator (at i) envelope.message) (said : is_answer envelope.message ≡ false → Said (known_at w.coord (marks_in w.steps) i (gxid_in envelope.message)) (parts_in w i (gxid_in envelope.message)) envelope.message) where
+  abbrev pub msg : Message
+  msg = envelope.message
+
+  abbrev pub g : ℕ
+  g = gxid_in envelope.message
+
+  abbrev pub ms2 : List Mark
+  ms2 = marks_in w.steps
+
+  abbrev pub s : Seg
+  s = w.segs i
+
+  abbrev pub turn2 : SegTurn
+  turn2 = segment.on_event script s (here.Deliver from envelope) fails
+
+  abbrev pub sent2 : List Mark
+  sent2 = numbered (λ node. turn2.seg.sent) turn2.outs
+
+  abbrev pub step2 : Step
+  step2 = record { stamp = record { clock = clock_after s.clock (here.Deliver from envelope); node = at i }; event = e; marks = turn2.marks ++ sent2 }
+
+  abbrev pub seg_now : Seg
+  seg_now = (seg_rule script s (here.Deliver from envelope) fails).seg
+
+  abbrev pub next2 : World
+  next2 = seg_did w (at i) e (seg_rule script s (here.Deliver from envelope) fails)
+
+  abbrev pub known : ℕ → ℕ → Known
+  known j h = known_at w.coord ms2 j h
+
+  pub does-it : Does msg (known i g) s i g (n.well.names i) (is_writer ms2 (gx g) (at i)) (prepared_count ms2 (at i) (gx g)) (local_count ms2 (at i) (gx g)) (v.stands.pairs i g) turn2
+  does-it = handled script fails (known i g) s i (n.well.names i) (is_writer ms2 (gx g) (at i)) (prepared_count ms2 (at i) (gx g)) (local_count ms2 (at i) (gx g)) msg (v.stands.pairs i g) said
+
+  abbrev pub new_part : Part
+  new_part = after_marks (turn2.seg.locals g) (is_writer ms2 (gx g) (at i)) (prepared_count ms2 (at i) (gx g)) (local_count ms2 (at i) (gx g)) i g turn2.marks
+
+  quiet-sent : Each NoPart sent2
+  quiet-sent = sent-no-part (λ node. turn2.seg.sent) turn2.outs
+
+  no-ends : Each NoEnd (turn2.marks ++ sent2)
+  no-ends = each-both NoEnd turn2.marks sent2 (follows-no-end msg (known i g) i g turn2.marks does-it.marks) (sent-no-end (λ node. turn2.seg.sent) turn2.outs)
+
+  all2 : ms2 ++ (turn2.marks ++ sent2) ≡ marks_in next2.steps
+  all2 = sym (marks-last w.steps step2)
+
+  pub same-known2 : (j h : ℕ) → known_at w.coord (marks_in next2.steps) j h ≡ known j h
+  same-known2 j h = ap (λ q. known_at w.coord q j h) (sym all2) ∙ known-append script (parts_in w) w.coord ms2 (turn2.marks ++ sent2) j h no-ends
+
+  self-test : (a : ℕ) → eqb a a ≡ true
+  self-test a = grind (arith, nat_tests)
+
+  pub part-here : parts_in next2 i g ≡ new_part
+  part-here =
+      ap (λ b. part_at (if b then (seg_rule script s (here.Deliver from envelope) fails).seg else w.segs i) (marks_in next2.steps) i g) (self-test i)
+      ∙ ap (λ q. part_at turn2.seg q i g) (sym all2)
+      ∙ part-eq (turn2.seg.locals g) _ _ _ _ _ _
+      (writer-append ms2 (turn2.marks ++ sent2) (gx g) (at i) ∙ ap (λ b. is_writer ms2 (gx g) (at i) || b) (writer-append turn2.marks sent2 (gx g) (at i) ∙ ap (λ b. is_writer turn2.marks (gx g) (at i) || b) (no-writer sent2 (gx g) (at i) quiet-sent) ∙ or-none (is_writer turn2.marks (gx g) (at i))))
+      (prepared-append ms2 (turn2.marks ++ sent2) (at i) (gx g) ∙ ap (λ m. prepared_count ms2 (at i) (gx g) + m) (prepared-append turn2.marks sent2 (at i) (gx g) ∙ ap (λ m. prepared_count turn2.marks (at i) (gx g) + m) (no-prepared sent2 (at i) (gx g) quiet-sent) ∙ plus-none (prepared_count turn2.marks (at i) (gx g))))
+      (local-append ms2 (turn2.marks ++ sent2) (at i) (gx g) ∙ ap (λ m. local_count ms2 (at i) (gx g) + m) (local-append turn2.marks sent2 (at i) (gx g) ∙ ap (λ m. local_count turn2.marks (at i) (gx g) + m) (no-local sent2 (at i) (gx g) quiet-sent) ∙ plus-none (local_count turn2.marks (at i) (gx g))))
+
+  local-there : (j h : ℕ) → (eqb j i && eqb h g) ≡ false → (next2.segs j).locals h ≡ (w.segs j).locals h
+  local-there j h apart = by_test (eqb j i) refl
+    where
+      second : (a b : Bool) → a ≡ true → (a && b) ≡ false → b ≡ false
+      second a b x y = grind arith
+
+      by_test : (b : Bool) → eqb j i ≡ b → (if b then seg_now else w.segs j).locals h ≡ (w.segs j).locals h
+      by_test true q = does-it.others h (second (eqb j i) (eqb h g) q apart) ∙ ap (λ (y : ℕ). (w.segs y).locals h) (sym (eqb-true j i q))
+      by_test false q = refl
+
+  pub part-there : (j h : ℕ) → (eqb j i && eqb h g) ≡ false → parts_in next2 j h ≡ parts_in w j h
+  part-there j h apart =
+      ap (λ l. part_of l (is_writer (marks_in next2.steps) (gx h) (at j)) (prepared_count (marks_in next2.steps) (at j) (gx h)) (local_count (marks_in next2.steps) (at j) (gx h))) (local-there j h apart)
+      ∙ ap (λ q. part_at (w.segs j) q j h) (sym all2)
+      ∙ part-eq ((w.segs j).locals h) _ _ _ _ _ _
+      (writer-append ms2 (turn2.marks ++ sent2) (gx h) (at j) ∙ ap (λ b. is_writer ms2 (gx h) (at j) || b) (writer-append turn2.marks sent2 (gx h) (at j) ∙ or-both (is_writer turn2.marks (gx h) (at j)) (is_writer sent2 (gx h) (at j)) (no-writer-there msg (known i g) i g j h apart turn2.marks does-it.marks) (no-writer sent2 (gx h) (at j) quiet-sent)) ∙ or-none (is_writer ms2 (gx h) (at j)))
+      (prepared-append ms2 (turn2.marks ++ sent2) (at j) (gx h) ∙ ap (λ m. prepared_count ms2 (at j) (gx h) + m) (prepared-append turn2.marks sent2 (at j) (gx h) ∙ ap (λ m. m + prepared_count sent2 (at j) (gx h)) (no-prepared-there msg (known i g) i g j h apart turn2.marks does-it.marks) ∙ ap (λ m. 0 + m) (no-prepared sent2 (at j) (gx h) quiet-sent)) ∙ plus-none (prepared_count ms2 (at j) (gx h)))
+      (local-append ms2 (turn2.marks ++ sent2) (at j) (gx h) ∙ ap (λ m. local_count ms2 (at j) (gx h) + m) (local-append turn2.marks sent2 (at j) (gx h) ∙ ap (λ m. m + local_count sent2 (at j) (gx h)) (no-local-there msg (known i g) i g j h apart turn2.marks does-it.marks) ∙ ap (λ m. 0 + m) (no-local sent2 (at j) (gx h) quiet-sent)) ∙ plus-none (local_count ms2 (at j) (gx h)))
+
+  first-of : (a b : Bool) → (a && b) ≡ true → (a ≡ true) × (b ≡ true)
+  first-of true b x = (refl, x)
+  first-of false b x = grind arith
+
+  pair-next : (j h : ℕ) (b : Bool) → (eqb j i && eqb h g) ≡ b → Pair (known j h) (parts_in next2 j h)
+  pair-next j h true q =
+      let x = first-of (eqb j i) (eqb h g) q in
+      subst (λ a. Pair (known a h) (parts_in next2 a h)) (sym (eqb-true j i x.0)) (subst (λ a. Pair (known i a) (parts_in next2 i a)) (sym (eqb-true h g x.1)) (subst (Pair (known i g)) (sym part-here) does-it.next.pair))
+  pair-next j h false q = subst (Pair (known j h)) (sym (part-there j h q)) (v.stands.pairs j h)
+
+  said-next : (j h : ℕ) (m : Message) → Said (known j h) (parts_in w j h) m → (b : Bool) → (eqb j i && eqb h g) ≡ b → Said (known j h) (parts_in next2 j h) m
+  said-next j h m y true q =
+      let x = first-of (eqb j i) (eqb h g) q in
+      subst (λ a. Said (known a h) (parts_in next2 a h) m) (sym (eqb-true j i x.0)) (subst (λ a. Said (known i a) (parts_in next2 i a) m) (sym (eqb-true h g x.1))
+      (subst (λ p. Said (known i g) p m) (sym part-here) (said-grows (known i g) (parts_in w i g) new_part m does-it.next.grows does-it.next.pair (subst (λ a. Said (known i a) (parts_in w i a) m) (eqb-true h g x.1) (subst (λ a. Said (known a h) (parts_in w a h) m) (eqb-true j i x.0) y)))))
+  said-next j h m y false q = subst (λ p. Said (known j h) p m) (sym (part-there j h q)) y
+
+  moved2 : (j h : ℕ) (m : Message) → Said (known j h) (parts_in next2 j h) m → Said (known_at w.coord (marks_in next2.steps) j h) (parts_in next2 j h) m
+  moved2 j h m y = subst (λ k. Said k (parts_in next2 j h) m) (sym (same-known2 j h)) y
+
+  failed-next : (j h : ℕ) → ((next2.segs j).locals h).vote ≡ Some reply.Jfault → (b : Bool) → (eqb j i && eqb h g) ≡ b → HasMark (mark.JournalFailed (at j) (gx h)) (ms2 ++ turn2.marks)
+  failed-next j h y true q =
+      let x = first-of (eqb j i) (eqb h g) q in
+      subst (λ a. HasMark (mark.JournalFailed (at a) (gx h)) (ms2 ++ turn2.marks)) (sym (eqb-true j i x.0)) (subst (λ a. HasMark (mark.JournalFailed (at i) (gx a)) (ms2 ++ turn2.marks)) (sym (eqb-true h g x.1))
+      (either (does-it.fails (ap (λ b. ((if b then seg_now else s).locals g).vote) (sym (self-test i)) ∙ subst (λ a. ((next2.segs i).locals a).vote ≡ Some reply.Jfault) (eqb-true h g x.1) (subst (λ a. ((next2.segs a).locals h).vote ≡ Some reply.Jfault) (eqb-true j i x.0) y)))))
+    where
+      either : ((s.locals g).vote ≡ Some reply.Jfault) ⊎ HasMark (mark.JournalFailed (at i) (gx g)) turn2.marks → HasMark (mark.JournalFailed (at i) (gx g)) (ms2 ++ turn2.marks)
+      either (inl z) = has-left _ ms2 turn2.marks (v.failed i g z)
+      either (inr z) = has-right _ ms2 turn2.marks z
+  failed-next j h y false q = has-left _ ms2 turn2.marks (v.failed j h (ap (λ (l : Local). l.vote) (sym (local-there j h q)) ∙ y))
+
+  pub seg-holds : Holds script next2
+  seg-holds =
+      record {
+        stands = record {
+          pairs = λ j h. subst (λ k. Pair k (parts_in next2 j h)) (sym (same-known2 j h)) (pair-next j h (eqb j i && eqb h g) refl);
+          works = v.stands.works;
+          agrees = λ h. subst (λ q. Agrees q h (find_txn w.coord.table (gx h)) (w.coord.works h).writers) all2 (agrees-append ms2 (turn2.marks ++ sent2) h (find_txn w.coord.table (gx h)) (w.coord.works h).writers (v.stands.agrees h));
+          parts = λ j h. record { wrote = refl; promises = refl; commits = refl };
+        };
+        said = posted-each (SaidIn next2) (at i) (clock_after s.clock (here.Deliver from envelope)) turn2.marks (λ node. turn2.seg.sent) turn2.outs w.sent (follows-no-sent msg (known i g) i g turn2.marks does-it.marks)
+            (each-out turn2.outs does-it.outs)
+            (each_weaker (SaidIn w) (SaidIn next2) (λ l y. moved2 (segment_of l) (gxid_in l.envelope.message) l.envelope.message (said-next (segment_of l) (gxid_in l.envelope.message) l.envelope.message y (eqb (segment_of l) i && eqb (gxid_in l.envelope.message) g) refl)) w.sent v.said);
+        failed = λ j h y. subst (HasMark (mark.JournalFailed (at j) (gx h))) (append_assoc ms2 turn2.marks sent2 ∙ all2) (has-left _ (ms2 ++ turn2.marks) sent2 (failed-next j h y (eqb j i && eqb h g) refl));
+        tells = tell-push [] w.steps step2 v.tells (step-told (at i) ms2 turn2.marks (λ node. turn2.seg.sent) turn2.outs (follows-no-sent msg (known i g) i g turn2.marks does-it.marks)
+            (each_weaker (λ (o : Out). Tells (known i g) new_part i g turn2.marks o.message) (λ (o : Out). IsTold (at i) (ms2 ++ turn2.marks) o.message) (λ o h. seg-told (known i g) new_part i g turn2.marks (ms2 ++ turn2.marks) does-it.next.pair (sym (prepared-append ms2 turn2.marks (at i) (gx g))) (sym (local-append ms2 turn2.marks (at i) (gx g))) o.message h) turn2.outs does-it.outs));
+        ends = end-push script [] w.steps step2 v.ends (seg-end script w.steps step2 msg (known i g) i g refl received refl refl new_part turn2.marks
+            (λ y. failed-next i g (ap (λ b. ((if b then seg_now else s).locals g).vote) (self-test i) ∙ y) (eqb i i && eqb g g) refl) (λ node. turn2.seg.sent) turn2.outs does-it.marks does-it.outs);
+      }
+    where
+      each-out : (outs : List Out) → Each (λ (o : Out). Tells (known i g) new_part i g turn2.marks o.message) outs → Each (λ (o : Out). (number : ℕ) → SaidIn next2 (record { from = at i; to = o.node; envelope = record { number = number; clock = clock_after s.clock (here.Deliver from envelope); message = o.message } })) outs
+      each-out [] y = tt
+      each-out (o ∷ outs) y = (
+        λ number. let z = told-answer (known i g) new_part i g turn2.marks o.message y.0 in
+            subst (λ b. Said (known_at w.coord (marks_in next2.steps) (if b then i else o.node.0) (gxid_in o.message)) (parts_in next2 (if b then i else o.node.0) (gxid_in o.message)) o.message) (sym z.0)
+            (subst (λ a. Said (known_at w.coord (marks_in next2.steps) i a) (parts_in next2 i a) o.message) (sym z.1) (moved2 i g o.message (subst (λ p. Said (known i g) p o.message) (sym part-here) z.2))),
+        each-out outs y.1,
+      )

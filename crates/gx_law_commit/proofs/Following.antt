@@ -1,0 +1,190 @@
+-- From what a step's marks follow to the protocol over steps.
+use Rattle.std.proofs.Common.{◌≡◌, ◌⊎◌, inl, inr, ℕ, suc, ◌+◌, List, [], ◌∷◌, ◌++◌, Some, Bool, false, refl, sym, subst, ap, ◌∙◌, ◌||◌, arith, append-nil}
+use Rattle.std.proofs.lemmas.List.{append_assoc}
+use Rattle.std.specs.Prelude.{length}
+use Rattle.std.specs.List.{Contains}
+use Rattle.gx_ids.specs.declared.ids.Gxid.{Gxid}
+use Rattle.gx_ids.specs.declared.ids.Node.{Node}
+use Rattle.gx_msg.specs.declared.message.Message.{Message}
+use Rattle.gx_msg.specs.declared.message.Message.TheVariants as message
+use Rattle.gx_msg.specs.declared.message.Out.{Out}
+use Rattle.gx_msg.specs.declared.reply.Reply.TheVariants as reply
+use Rattle.gx_script.specs.declared.Script.{Script}
+use Rattle.gx_store.specs.declared.mark.Mark.{Mark}
+use Rattle.gx_store.specs.declared.mark.Mark.TheVariants as mark
+use Rattle.gx_store.specs.declared.run.Step.{Step}
+use Rattle.gx_store.specs.Marks.{is_aborted, is_committed}
+use Rattle.gx_store.specs.Messages.{Receives}
+use Rattle.gx_store.specs.Points.{Point, before, marks_in}
+use Rattle.gx_store.specs.Protocol.{IsExecuted}
+use Rattle.gx_store.specs.Refusals.{the_coordinator}
+use Rattle.gx_rules.specs.Sending.{counted, numbered}
+use Rattle.gx_law_order.proofs.Lists.{Each}
+use Rattle.gx_law_order.proofs.Past.{aborted-append, committed-append}
+use Rattle.gx_law_commit.specs.Followed.{DoMarksEnd, DoStepsEnd, EndsAt}
+use Rattle.gx_law_commit.specs.Said.{is_answer}
+use Rattle.gx_law_commit.specs.Standings.{Known, Part, at, gx}
+use Rattle.gx_law_commit.proofs.Counts.{NoEnd, no-aborted, no-committed}
+use Rattle.gx_law_commit.proofs.Handled.{Follows, HasMark, IsExecOf, Tells}
+use Rattle.gx_law_commit.proofs.Ways.{Fol, FolAt}
+
+pub is-contained : (m : Mark) (xs : List Mark) → HasMark m xs → Contains xs m
+is-contained m [] h = absurd h
+is-contained m (x ∷ xs) (inl e) = (0, omega arith, sym e)
+is-contained m (x ∷ xs) (inr h) = let c = is-contained m xs h in (suc c.0, omega arith, c.2)
+
+pub has-right : (m : Mark) (xs ys : List Mark) → HasMark m ys → HasMark m (xs ++ ys)
+has-right m [] ys h = h
+has-right m (x ∷ xs) ys h = inr (has-right m xs ys h)
+
+pub has-left : (m : Mark) (xs ys : List Mark) → HasMark m xs → HasMark m (xs ++ ys)
+has-left m [] ys h = absurd h
+has-left m (x ∷ xs) ys (inl e) = inl e
+has-left m (x ∷ xs) ys (inr h) = inr (has-left m xs ys h)
+
+-- one step more
+pub end-push : (script : Script) (before ss : List Step) (s : Step) → DoStepsEnd script before ss → DoMarksEnd script (before ++ ss) s [] s.marks → DoStepsEnd script before (ss ++ s ∷ [])
+end-push script before [] s e h = (subst (λ x. DoMarksEnd script x s [] s.marks) (append-nil before) h, tt)
+end-push script before (x ∷ ss) s e h = (e.0, end-push script (before ++ x ∷ []) ss s e.1 (subst (λ y. DoMarksEnd script y s [] s.marks) (sym (append_assoc before (x ∷ []) ss)) h))
+
+-- THE COORDINATOR
+module _ (script : Script) (steps : List Step) (step : Step) where
+  abbrev point : List Mark → List Mark → Point
+  point earlier later = record { steps = steps; event = step.event; earlier = earlier; later = later }
+
+  -- sendings that are no answers
+  sent-one : (earlier later : List Mark) (to : Node) (number : ℕ) (m : Message) → is_answer m ≡ false → EndsAt script step.stamp.node (point earlier later) (mark.Sent to number m)
+  sent-one earlier later to number (message.Answer g r) e = absurd (cc)
+  sent-one earlier later to number (message.Exec g c level x h y) e = tt
+  sent-one earlier later to number (message.Prepare g) e = tt
+  sent-one earlier later to number (message.Commit g) e = tt
+  sent-one earlier later to number (message.CommitPrepared g) e = tt
+  sent-one earlier later to number (message.Abort g) e = tt
+  sent-one earlier later to number (message.Forget g) e = tt
+  sent-one earlier later to number (message.Collect round) e = tt
+  sent-one earlier later to number (message.Graph round graph) e = tt
+
+  sent-end : (earlier : List Mark) (f : ℕ → ℕ) (outs : List Out) → Each (λ (o : Out). is_answer o.message ≡ false) outs → DoMarksEnd script steps step earlier (numbered f outs)
+  sent-end earlier f [] e = tt
+  sent-end earlier f (o ∷ outs) e = (sent-one earlier (numbered (counted f o) outs) o.node (f o.node.0 + 1) o.message e.0, sent-end (earlier ++ mark.Sent o.node (f o.node.0 + 1) o.message ∷ []) (counted f o) outs e.1)
+
+  fol-one : (earlier later : List Mark) (m : Mark) → FolAt script (marks_in steps ++ earlier) m → EndsAt script step.stamp.node (point earlier later) m
+  fol-one earlier later (mark.Commit g) e = e
+  fol-one earlier later (mark.Decided g) e = e
+  fol-one earlier later (mark.Abort g) e = e
+  fol-one earlier later (mark.Write g c n t r x) e = absurd e
+  fol-one earlier later (mark.Prepared n g) e = absurd e
+  fol-one earlier later (mark.LocalCommit n g) e = absurd e
+  fol-one earlier later (mark.Sent to number told) e = absurd e
+  fol-one earlier later (mark.Answer s n a) e = tt
+  fol-one earlier later m e = tt
+
+  pub coord-end : (earlier ns : List Mark) (f : ℕ → ℕ) (outs : List Out) → Fol script (marks_in steps ++ earlier) ns → Each (λ (o : Out). is_answer o.message ≡ false) outs → DoMarksEnd script steps step earlier (ns ++ numbered f outs)
+  coord-end earlier [] f outs e h = sent-end earlier f outs h
+  coord-end earlier (m ∷ ns) f outs e h = (
+    fol-one earlier (ns ++ numbered f outs) m e.0,
+    coord-end (earlier ++ m ∷ []) ns f outs (subst (λ x. Fol script x ns) (append_assoc (marks_in steps) earlier (m ∷ [])) e.1) h,
+  )
+
+  -- A SEGMENT
+  module _ (told : Message) (k : Known) (i g : ℕ) (here : step.stamp.node ≡ at i) (received : Receives steps step.event the_coordinator (at i) told) (aborted : k.aborted ≡ is_aborted (marks_in steps) (gx g)) (committed : k.committed ≡ is_committed (marks_in steps) (gx g)) where
+    or-false : (a b c : Bool) → a ≡ false → b ≡ false → c ≡ a → (c || b) ≡ false
+    or-false a b c e f q = grind arith
+
+    not-aborted : (earlier : List Mark) → Each NoEnd earlier → k.aborted ≡ false → is_aborted (marks_in steps ++ earlier) (gx g) ≡ false
+    not-aborted earlier e n = aborted-append (marks_in steps) earlier (gx g) ∙ or-false k.aborted (is_aborted earlier (gx g)) (is_aborted (marks_in steps) (gx g)) n (no-aborted earlier (gx g) e) (sym aborted)
+
+    not-committed : (earlier : List Mark) → Each NoEnd earlier → k.committed ≡ false → is_committed (marks_in steps ++ earlier) (gx g) ≡ false
+    not-committed earlier e n = committed-append (marks_in steps) earlier (gx g) ∙ or-false k.committed (is_committed earlier (gx g)) (is_committed (marks_in steps) (gx g)) n (no-committed earlier (gx g) e) (sym committed)
+
+    same-gxid : (h : Gxid) → h.0 ≡ g → gx g ≡ h
+    same-gxid h e = ap (λ n. gx n) (sym e)
+
+    same-at : (n : Node) → n.0 ≡ i → at i ≡ n
+    same-at n e = ap (λ j. at j) (sym e)
+
+    gets : (m : Message) → told ≡ m → Receives steps step.event the_coordinator (at i) m
+    gets m e = subst (Receives steps step.event the_coordinator (at i)) e received
+
+    executed : (earlier later : List Mark) (c : Rattle.gx_ids.specs.declared.ids.Cid.Cid) → IsExecOf told g c → IsExecuted (point earlier later) (gx g) c (at i)
+    executed earlier later c x = record { level = x.level; snapshot = x.snapshot; horizon = x.horizon; slice = x.slice; received = (length steps, inr (refl, gets _ x.is)) }
+
+    commits-by : (told ≡ message.Commit (gx g)) ⊎ (told ≡ message.CommitPrepared (gx g)) → Receives steps step.event the_coordinator (at i) (message.Commit (gx g)) ⊎ Receives steps step.event the_coordinator (at i) (message.CommitPrepared (gx g))
+    commits-by (inl e) = inl (gets _ e)
+    commits-by (inr e) = inr (gets _ e)
+
+    follow-one : (earlier later : List Mark) (m : Mark) → Each NoEnd earlier → Follows told k i g m → EndsAt script step.stamp.node (point earlier later) m
+    follow-one earlier later (mark.Write h c n t r x) e f = subst (λ (y : Gxid). IsExecuted (point earlier later) y c n) (same-gxid h f.0) (subst (λ (y : Node). IsExecuted (point earlier later) (gx g) c y) (same-at n f.1) (executed earlier later c f.2))
+    follow-one earlier later (mark.Prepared n h) e f =
+        subst (λ (y : Gxid). (is_committed (marks_in steps ++ earlier) y ≡ false) × Receives steps step.event the_coordinator n (message.Prepare y)) (same-gxid h f.0)
+        (not-committed earlier e f.3, subst (λ (y : Node). Receives steps step.event the_coordinator y (message.Prepare (gx g))) (same-at n f.1) (gets _ f.2))
+    follow-one earlier later (mark.LocalCommit n h) e f =
+        subst (λ (y : Gxid). (is_aborted (marks_in steps ++ earlier) y ≡ false) × (is_committed (marks_in steps ++ earlier) y ≡ false) × (Receives steps step.event the_coordinator n (message.Commit y) ⊎ Receives steps step.event the_coordinator n (message.CommitPrepared y))) (same-gxid h f.0)
+        (not-aborted earlier e f.3, not-committed earlier e f.4, subst (λ (y : Node). Receives steps step.event the_coordinator y (message.Commit (gx g)) ⊎ Receives steps step.event the_coordinator y (message.CommitPrepared (gx g))) (same-at n f.1) (commits-by f.2))
+    follow-one earlier later (mark.Fault h c r x) e f = tt
+    follow-one earlier later (mark.JournalFailed n h) e f = tt
+    follow-one earlier later (mark.Start h s) e f = absurd f
+    follow-one earlier later (mark.Snap h c x) e f = absurd f
+    follow-one earlier later (mark.Skip h c r) e f = absurd f
+    follow-one earlier later (mark.Commit h) e f = absurd f
+    follow-one earlier later (mark.Abort h) e f = absurd f
+    follow-one earlier later (mark.Answer s n a) e f = absurd f
+    follow-one earlier later (mark.Hold n h o x) e f = absurd f
+    follow-one earlier later (mark.Wait n h o x) e f = absurd f
+    follow-one earlier later (mark.Release n h o x) e f = absurd f
+    follow-one earlier later (mark.Decided h) e f = absurd f
+    follow-one earlier later (mark.Sent to number m) e f = absurd f
+    follow-one earlier later m e f = absurd f
+
+    no-end-one : (m : Mark) → Follows told k i g m → NoEnd m
+    no-end-one (mark.Commit h) f = f
+    no-end-one (mark.Abort h) f = f
+    no-end-one (mark.Decided h) f = f
+    no-end-one m f = tt
+
+    each-last : (xs : List Mark) (m : Mark) → Each NoEnd xs → NoEnd m → Each NoEnd (xs ++ m ∷ [])
+    each-last [] m e f = (f, tt)
+    each-last (x ∷ xs) m e f = (e.0, each-last xs m e.1 f)
+
+    -- its sendings, behind its marks
+    module _ (q : Part) (marks : List Mark) (failed : q.vote ≡ Some reply.Jfault → HasMark (mark.JournalFailed (at i) (gx g)) (marks_in steps ++ marks)) where
+      tells-one : (more later : List Mark) (to : Node) (number : ℕ) (m : Message) → Tells k q i g marks m → EndsAt script step.stamp.node (point (marks ++ more) later) (mark.Sent to number m)
+      tells-one more later to number (message.Answer h reply.Jfault) e =
+          subst (λ (y : Gxid). Contains (marks_in steps ++ (marks ++ more)) (mark.JournalFailed step.stamp.node y)) (same-gxid h e.0)
+          (subst (λ (y : Node). Contains (marks_in steps ++ (marks ++ more)) (mark.JournalFailed y (gx g))) (sym here)
+          (subst (λ x. Contains x (mark.JournalFailed (at i) (gx g))) (append_assoc (marks_in steps) marks more) (is-contained _ _ (has-left _ (marks_in steps ++ marks) more (failed e.1)))))
+      tells-one more later to number (message.Answer h reply.Again) e =
+          subst (λ (y : Gxid). Contains (marks ++ more) (mark.JournalFailed step.stamp.node y)) (same-gxid h e.0)
+          (subst (λ (y : Node). Contains (marks ++ more) (mark.JournalFailed y (gx g))) (sym here) (is-contained _ _ (has-left _ marks more e.1)))
+      tells-one more later to number (message.Answer h (reply.Done c x y z)) e = tt
+      tells-one more later to number (message.Answer h (reply.Failed c x)) e = tt
+      tells-one more later to number (message.Answer h reply.Prepared) e = tt
+      tells-one more later to number (message.Answer h reply.Committed) e = tt
+      tells-one more later to number (message.Answer h reply.Aborted) e = tt
+      tells-one more later to number (message.Answer h reply.Forgotten) e = tt
+      tells-one more later to number (message.Exec h c level x y z) e = tt
+      tells-one more later to number (message.Prepare h) e = tt
+      tells-one more later to number (message.Commit h) e = tt
+      tells-one more later to number (message.CommitPrepared h) e = tt
+      tells-one more later to number (message.Abort h) e = tt
+      tells-one more later to number (message.Forget h) e = tt
+      tells-one more later to number (message.Collect round) e = tt
+      tells-one more later to number (message.Graph round graph) e = tt
+
+      tells-end : (more : List Mark) (f : ℕ → ℕ) (outs : List Out) → Each (λ (o : Out). Tells k q i g marks o.message) outs → DoMarksEnd script steps step (marks ++ more) (numbered f outs)
+      tells-end more f [] e = tt
+      tells-end more f (o ∷ outs) e = (
+        tells-one more (numbered (counted f o) outs) o.node (f o.node.0 + 1) o.message e.0,
+        subst (λ x. DoMarksEnd script steps step x (numbered (counted f o) outs)) (sym (append_assoc marks more (mark.Sent o.node (f o.node.0 + 1) o.message ∷ []))) (tells-end (more ++ mark.Sent o.node (f o.node.0 + 1) o.message ∷ []) (counted f o) outs e.1),
+      )
+
+      marks-end : (earlier ns : List Mark) (f : ℕ → ℕ) (outs : List Out) → earlier ++ ns ≡ marks → Each NoEnd earlier → Each (Follows told k i g) ns → Each (λ (o : Out). Tells k q i g marks o.message) outs → DoMarksEnd script steps step earlier (ns ++ numbered f outs)
+      marks-end earlier [] f outs same e m h =
+          subst (λ x. DoMarksEnd script steps step x (numbered f outs)) (append-nil marks ∙ sym same ∙ append-nil earlier) (tells-end [] f outs h)
+      marks-end earlier (x ∷ ns) f outs same e m h = (
+        follow-one earlier (ns ++ numbered f outs) x e m.0,
+        marks-end (earlier ++ x ∷ []) ns f outs (append_assoc earlier (x ∷ []) ns ∙ same) (each-last earlier x e (no-end-one x m.0)) m.1 h,
+      )
+
+      pub seg-end : (f : ℕ → ℕ) (outs : List Out) → Each (Follows told k i g) marks → Each (λ (o : Out). Tells k q i g marks o.message) outs → DoMarksEnd script steps step [] (marks ++ numbered f outs)
+      seg-end f outs m h = marks-end [] marks f outs refl tt m h

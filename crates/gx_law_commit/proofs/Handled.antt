@@ -1,0 +1,483 @@
+-- What a segment's rule makes of its part of a transaction, message by message.
+use Rattle.std.proofs.Common.{◌≡◌, ◌⊎◌, inl, inr, ◌≤◌, ◌<◌, ℕ, ◌+◌, List, [], ◌∷◌, Option, Some, None, Bool, true, false, refl, sym, subst, ap, ◌∙◌, if◌then◌else◌, ◌==◌, ◌||◌, ◌&&◌, nat_lt, arith, eqb}
+use Rattle.std.proofs.lemmas.Bool.Decides.{nat_tests}
+use Rattle.std.specs.Prelude.{fold, length}
+use Rattle.gx_ids.specs.declared.ids.Cid.{Cid}
+use Rattle.gx_ids.specs.declared.ids.Gxid.{Gxid}
+use Rattle.gx_ids.specs.declared.ids.Node.{Node}
+use Rattle.gx_ids.specs.declared.ids.Table.{Table}
+use Rattle.gx_tree.specs.declared.query.Query.{Query}
+use Rattle.gx_tree.specs.declared.row.KeyedRow.{KeyedRow}
+use Rattle.gx_tree.specs.declared.slice.Slice.{Slice}
+use Rattle.gx_tree.specs.declared.slice.Slice.TheVariants as slice
+use Rattle.gx_dsnap.specs.Gxids.{is_below}
+use Rattle.gx_dsnap.specs.declared.snapshot.Snapshot.{Snapshot}
+use Rattle.gx_eval.specs.declared.fault.ArithFault.{ArithFault}
+use Rattle.gx_msg.specs.declared.item.JournalItem.{JournalItem}
+use Rattle.gx_msg.specs.declared.message.Message.{Message}
+use Rattle.gx_msg.specs.declared.message.Message.TheVariants as message
+use Rattle.gx_msg.specs.declared.message.Out.{Out}
+use Rattle.gx_msg.specs.declared.reply.Reply.{Reply}
+use Rattle.gx_msg.specs.declared.reply.Reply.TheVariants as reply
+use Rattle.gx_script.specs.declared.Script.{Script}
+use Rattle.gx_store.specs.declared.mark.Mark.{Mark}
+use Rattle.gx_store.specs.declared.mark.Mark.TheVariants as mark
+use Rattle.gx_store.specs.Protocol.{is_writer, local_count, prepared_count}
+use Rattle.gx_rules.specs.AtSegment.{changes, commits, finishes, if_fits, is_refused, on_abort, on_commit, on_commit_prepared, on_exec, on_forget, on_message, on_prepare, once, promises, raised, repeats, takes, unless_below, was_prepared}
+use Rattle.gx_rules.specs.Fits.{fits_exec}
+use Rattle.gx_rules.specs.Maps.{with_at}
+use Rattle.gx_rules.specs.Segments.{Local, Phase, Seg, SegTurn, has_committed, stays, tells, tells_kept}
+use Rattle.gx_rules.specs.Segments.Phase.{Reading, Writing, Prepared, Committed, Forgotten, Aborted}
+use Rattle.gx_rules.specs.Shown.{shown}
+use Rattle.gx_rules.specs.Slices.{Moved, answers, first_fault, has_written, inserted, inserts, inserts_row, runs_slice, selects}
+use Rattle.gx_law_order.proofs.Lists.{Each, each_append}
+use Rattle.gx_law_commit.specs.Pairs.{IsKept, IsVote, Pair, is_open}
+use Rattle.gx_law_commit.specs.Said.{Answers, IsCommand, Said, gxid_in, is_answer}
+use Rattle.gx_law_commit.specs.Standings.{Known, Part, at, gx, part_of}
+use Rattle.gx_law_commit.specs.Standings.Standing.{Unborn, Live, Over, One, Preparing, Two}
+use Rattle.gx_law_commit.proofs.Counts.{local-append, prepared-append, writer-append}
+use Rattle.gx_law_commit.proofs.Parts.{Next, commit-next, committing, end-next, finish-next, finishing, grows-same, promise-next, promising, refuse-next, refusing, run-next, running}
+
+-- a mark is among these
+abbrev pub HasMark : Mark → List Mark → Type 0
+HasMark m [] = ⊥
+HasMark m (x ∷ xs) = (m ≡ x) ⊎ HasMark m xs
+
+-- the message is this command
+pub record IsExecOf (told : Message) (g : ℕ) (c : Cid) : Type 0 where
+  pub level : Rattle.gx_tree.specs.declared.stmt.Level.Level
+  pub snapshot : Option Snapshot
+  pub horizon : Gxid
+  pub slice : Slice
+  pub is : told ≡ message.Exec (gx g) c level snapshot horizon slice
+
+-- what a mark of the segment answers
+abbrev pub Follows : Message → Known → ℕ → ℕ → Mark → Type 0
+Follows told k i g (mark.Write h c n t r x) = (h.0 ≡ g) × (n.0 ≡ i) × IsExecOf told g c
+Follows told k i g (mark.Prepared n h) = (h.0 ≡ g) × (n.0 ≡ i) × (told ≡ message.Prepare (gx g)) × (k.committed ≡ false)
+Follows told k i g (mark.LocalCommit n h) = (h.0 ≡ g) × (n.0 ≡ i) × ((told ≡ message.Commit (gx g)) ⊎ (told ≡ message.CommitPrepared (gx g))) × (k.aborted ≡ false) × (k.committed ≡ false)
+Follows told k i g (mark.Fault h c r x) = Unit {0}
+Follows told k i g (mark.JournalFailed n h) = Unit {0}
+Follows told k i g _ = ⊥
+
+-- what it sends
+abbrev pub Tells : Known → Part → ℕ → ℕ → List Mark → Message → Type 0
+Tells k q i g marks (message.Answer h reply.Again) = (h.0 ≡ g) × HasMark (mark.JournalFailed (at i) (gx g)) marks
+Tells k q i g marks (message.Answer h r) = (h.0 ≡ g) × Answers k q r
+Tells k q i g marks _ = ⊥
+
+abbrev pub after_marks : Local → Bool → ℕ → ℕ → ℕ → ℕ → List Mark → Part
+after_marks l w pc lc i g ms = part_of l (w || is_writer ms (gx g) (at i)) (pc + prepared_count ms (at i) (gx g)) (lc + local_count ms (at i) (gx g))
+
+module _ (told : Message) (k : Known) (s : Seg) (i g : ℕ) (named : s.node ≡ at i) (w : Bool) (pc lc : ℕ) (e : Pair k (part_of (s.locals g) w pc lc)) where
+  abbrev l : Local
+  l = s.locals g
+
+  abbrev p : Part
+  p = part_of l w pc lc
+
+  abbrev after : SegTurn → Part
+  after turn = after_marks (turn.seg.locals g) w pc lc i g turn.marks
+
+  pub record Does (turn : SegTurn) : Type 0 where
+    pub others : (h : ℕ) → eqb h g ≡ false → turn.seg.locals h ≡ s.locals h
+    pub next : Next k p (after turn)
+    pub marks : Each (Follows told k i g) turn.marks
+    pub outs : Each (λ (o : Out). Tells k (after turn) i g turn.marks o.message) turn.outs
+    pub fails : (turn.seg.locals g).vote ≡ Some reply.Jfault → (l.vote ≡ Some reply.Jfault) ⊎ HasMark (mark.JournalFailed (at i) (gx g)) turn.marks
+
+  -- no mark of it
+  none-after : (x : Local) → part_of x (w || false) (pc + 0) (lc + 0) ≡ part_of x w pc lc
+  none-after x = ap (λ b. part_of x b (pc + 0) (lc + 0)) (or-none w) ∙ ap (λ n. part_of x w n (lc + 0)) (plus-none pc) ∙ ap (λ n. part_of x w pc n) (plus-none lc)
+    where
+      or-none : (b : Bool) → (b || false) ≡ b
+      or-none true = refl
+      or-none false = refl
+
+      plus-none : (n : ℕ) → n + 0 ≡ n
+      plus-none n = omega arith
+
+  same-next : Next k p (part_of l (w || false) (pc + 0) (lc + 0))
+  same-next = subst (Next k p) (sym (none-after l)) (record { pair = e; grows = grows-same p })
+
+  stay : Does (stays s)
+  stay = record { others = λ h d. refl; next = same-next; marks = tt; outs = tt; fails = λ v. inl v }
+
+  -- an answer that changes nothing
+  abbrev not-again : Reply → Bool
+  not-again reply.Again = false
+  not-again _ = true
+
+  told-of : (k : Known) (q : Part) (ms : List Mark) (r : Reply) → not-again r ≡ true → Answers k q r → Tells k q i g ms (message.Answer (gx g) r)
+  told-of k q ms reply.Again n a = absurd (cc)
+  told-of k q ms (reply.Done c x y z) n a = (refl, a)
+  told-of k q ms (reply.Failed c x) n a = (refl, tt)
+  told-of k q ms reply.Prepared n a = (refl, a)
+  told-of k q ms reply.Committed n a = (refl, a)
+  told-of k q ms reply.Jfault n a = (refl, a)
+  told-of k q ms reply.Aborted n a = (refl, tt)
+  told-of k q ms reply.Forgotten n a = (refl, tt)
+
+  tell : (r : Reply) → not-again r ≡ true → Answers k p r → Does (tells s (gx g) r)
+  tell r n a = record { others = λ h d. refl; next = same-next; marks = tt; outs = (subst (λ q. Tells k q i g [] (message.Answer (gx g) r)) (sym (none-after l)) (told-of k p [] r n a), tt); fails = λ v. inl v }
+
+  vote-not-again : (ph : Phase) (r : Reply) → IsVote ph (Some r) → not-again r ≡ true
+  vote-not-again ph reply.Again v = absurd v
+  vote-not-again ph (reply.Done c x y z) v = refl
+  vote-not-again ph (reply.Failed c x) v = refl
+  vote-not-again ph reply.Prepared v = refl
+  vote-not-again ph reply.Committed v = refl
+  vote-not-again ph reply.Jfault v = refl
+  vote-not-again ph reply.Aborted v = refl
+  vote-not-again ph reply.Forgotten v = refl
+
+  vote-answers : (r : Reply) → l.vote ≡ Some r → IsVote l.phase (Some r) → Answers k p r
+  vote-answers reply.Again f v = tt
+  vote-answers (reply.Done c x y z) f v = absurd v
+  vote-answers (reply.Failed c x) f v = tt
+  vote-answers reply.Prepared f v = ap was_prepared f
+  vote-answers reply.Committed f v = v
+  vote-answers reply.Jfault f v = f
+  vote-answers reply.Aborted f v = tt
+  vote-answers reply.Forgotten f v = tt
+
+  tell-vote : (r : Reply) → l.vote ≡ Some r → Does (tells s (gx g) r)
+  tell-vote r f = let v : IsVote l.phase (Some r) = subst (IsVote l.phase) f e.vote in tell r (vote-not-again l.phase r v) (vote-answers r f v)
+
+  kept-vote : (v : Option Reply) → l.vote ≡ v → Does (tells_kept s (gx g) v)
+  kept-vote None f = stay
+  kept-vote (Some r) f = tell-vote r f
+
+  once-votes : (v : Option Reply) (turn : SegTurn) → l.vote ≡ v → (l.vote ≡ None → Does turn) → Does (once s (gx g) v turn)
+  once-votes None turn f new = new f
+  once-votes (Some r) turn f new = tell-vote r f
+
+  -- a change of the record
+  here : (x : Local) → with_at s.locals g x g ≡ x
+  here x = ap (λ b. if b then x else l) (self g)
+    where
+      self : (a : ℕ) → eqb a a ≡ true
+      self a = grind (arith, nat_tests)
+
+  change : (x : Local) (ms : List Mark) (r : Reply) (it : Option JournalItem) → Next k p (after_marks x w pc lc i g ms) → Each (Follows told k i g) ms → Tells k (after_marks x w pc lc i g ms) i g ms (message.Answer (gx g) r) → (x.vote ≡ Some reply.Jfault → (l.vote ≡ Some reply.Jfault) ⊎ HasMark (mark.JournalFailed (at i) (gx g)) ms) → Does (changes s (gx g) x ms r it)
+  change x ms r it n m t f =
+      record {
+        others = λ h d. ap (λ b. if b then x else s.locals h) d;
+        next = subst (λ y. Next k p (after_marks y w pc lc i g ms)) (sym (here x)) n;
+        marks = m;
+        outs = (subst (λ y. Tells k (after_marks y w pc lc i g ms) i g ms (message.Answer (gx g) r)) (sym (here x)) t, tt);
+        fails = λ v. f (subst (λ (y : Local). y.vote ≡ Some reply.Jfault) (here x) v);
+      }
+
+  -- the journal's failure
+  failed-here : HasMark (mark.JournalFailed (at i) (gx g)) (mark.JournalFailed s.node (gx g) ∷ [])
+  failed-here = inl (ap (λ n. mark.JournalFailed n (gx g)) (sym named))
+
+  refuse : (it : JournalItem) → l.vote ≡ None → is_open l.phase ≡ true → (k.at ≡ Preparing true) ⊎ (k.at ≡ One true) ⊎ (k.aborted ≡ true) → Does (is_refused s (gx g) l it)
+  refuse it v o st =
+      let n : Next k p (refusing p) = refuse-next k p e v o st in
+      change (record l { vote = Some reply.Jfault }) (mark.JournalFailed s.node (gx g) ∷ []) reply.Jfault (Some it)
+      (subst (Next k p) (sym (none-after (record l { vote = Some reply.Jfault }))) n) (tt, tt) (refl, refl) (λ x. inr failed-here)
+
+  -- counts of one mark
+  node-is : eqb s.node.0 i ≡ true
+  node-is = ap (λ (n : Node). eqb n.0 i) named ∙ self i
+    where
+      self : (a : ℕ) → eqb a a ≡ true
+      self a = grind (arith, nat_tests)
+
+  counted-one : (n : ℕ) → n + (if (eqb s.node.0 i && eqb g g) then 0 + 1 else 0) ≡ n + 1
+  counted-one n = ap (λ b. n + (if (b && eqb g g) then 0 + 1 else 0)) node-is ∙ ap (λ b. n + (if b then 0 + 1 else 0)) (self g)
+    where
+      self : (a : ℕ) → eqb a a ≡ true
+      self a = grind (arith, nat_tests)
+
+  or-none : (b : Bool) → (b || false) ≡ b
+  or-none true = refl
+  or-none false = refl
+
+  plus-none : (n : ℕ) → n + 0 ≡ n
+  plus-none n = omega arith
+
+  prepared-after : (x : Local) → after_marks x w pc lc i g (mark.Prepared s.node (gx g) ∷ []) ≡ part_of x w (pc + 1) lc
+  prepared-after x = ap (λ b. part_of x b (pc + prepared_count (mark.Prepared s.node (gx g) ∷ []) (at i) (gx g)) (lc + 0)) (or-none w) ∙ ap (λ n. part_of x w n (lc + 0)) (counted-one pc) ∙ ap (λ n. part_of x w (pc + 1) n) (plus-none lc)
+
+  local-after : (x : Local) → after_marks x w pc lc i g (mark.LocalCommit s.node (gx g) ∷ []) ≡ part_of x w pc (lc + 1)
+  local-after x = ap (λ b. part_of x b (pc + 0) (lc + local_count (mark.LocalCommit s.node (gx g) ∷ []) (at i) (gx g))) (or-none w) ∙ ap (λ n. part_of x w n (lc + local_count (mark.LocalCommit s.node (gx g) ∷ []) (at i) (gx g))) (plus-none pc) ∙ ap (λ n. part_of x w pc n) (counted-one lc)
+
+  at-node : s.node.0 ≡ i
+  at-node = ap (λ (n : Node). n.0) named
+
+  -- PREPARE
+  promised : (fails : Bool) → told ≡ message.Prepare (gx g) → l.vote ≡ None → is_open l.phase ≡ true → (k.at ≡ Preparing true) ⊎ (k.aborted ≡ true) → k.committed ≡ false → Does (promises s (gx g) fails l)
+  promised true m v o st c = refuse _ v o (wider st)
+    where
+      wider : (k.at ≡ Preparing true) ⊎ (k.aborted ≡ true) → (k.at ≡ Preparing true) ⊎ (k.at ≡ One true) ⊎ (k.aborted ≡ true)
+      wider (inl x) = inl x
+      wider (inr x) = inr (inr x)
+  promised false m v o st c =
+      let n : Next k p (promising p) = promise-next k p e v o st in
+      change (record l { phase = Prepared; vote = Some reply.Prepared }) (mark.Prepared s.node (gx g) ∷ []) reply.Prepared _
+      (subst (Next k p) (sym (prepared-after (record l { phase = Prepared; vote = Some reply.Prepared }))) n) ((refl, at-node, m, c), tt) (refl, refl) (λ x. absurd (cc))
+
+  not-ended-prepare : (k.at ≡ Preparing true) ⊎ (k.aborted ≡ true) → k.committed ≡ false
+  not-ended-prepare st = plain k.committed k.aborted st e.either e.ends
+    where
+      plain : (c a : Bool) → (k.at ≡ Preparing true) ⊎ (a ≡ true) → (c ≡ true → a ≡ false) → (c ≡ true → k.at ≡ Over) → c ≡ false
+      plain c a st x y = grind (arith, nat_tests)
+
+  prepare : (fails : Bool) (ph : Phase) → l.phase ≡ ph → told ≡ message.Prepare (gx g) → Said k p (message.Prepare (gx g)) → Does (on_prepare s (gx g) fails l ph)
+  prepare fails Reading f m st = once-votes l.vote _ refl (λ v. promised fails m v (ap is_open f) (st v) (not-ended-prepare (st v)))
+  prepare fails Writing f m st = once-votes l.vote _ refl (λ v. promised fails m v (ap is_open f) (st v) (not-ended-prepare (st v)))
+  prepare fails Prepared f m st = kept-vote l.vote refl
+  prepare fails Committed f m st = kept-vote l.vote refl
+  prepare fails (Forgotten b) f m st = kept-vote l.vote refl
+  prepare fails Aborted f m st = stay
+
+  -- COMMIT
+  live-marks : (st : k.at ≡ Over → ⊥) → (k.aborted ≡ false) × (k.committed ≡ false)
+  live-marks st = (plain k.aborted (λ x. st (e.aborts x)), plain k.committed (λ x. st (e.ends x)))
+    where
+      plain : (b : Bool) → (b ≡ true → ⊥) → b ≡ false
+      plain true n = absurd (n refl)
+      plain false n = refl
+
+  one-not-over : k.at ≡ One true → k.at ≡ Over → ⊥
+  one-not-over x y = differ (sym x ∙ y)
+    where
+      differ : One true ≡ Over → ⊥
+      differ z = cc
+
+  two-not-over : k.at ≡ Two true → k.at ≡ Over → ⊥
+  two-not-over x y = differ (sym x ∙ y)
+    where
+      differ : Two true ≡ Over → ⊥
+      differ z = cc
+
+  committed : (fails : Bool) → told ≡ message.Commit (gx g) → l.vote ≡ None → is_open l.phase ≡ true → k.at ≡ One true → Does (commits s (gx g) fails l)
+  committed true m v o st = refuse _ v o (inr (inl st))
+  committed false m v o st =
+      let n : Next k p (committing p) = commit-next k p e v o st in
+      let x = live-marks (one-not-over st) in
+      change (record l { phase = Committed; vote = Some reply.Committed }) (mark.LocalCommit s.node (gx g) ∷ []) reply.Committed _
+      (subst (Next k p) (sym (local-after (record l { phase = Committed; vote = Some reply.Committed }))) n) ((refl, at-node, inl m, x.0, x.1), tt) (refl, refl) (λ x. absurd (cc))
+
+  unless-prepared : (b : Bool) → Does (if b then stays s else tells_kept s (gx g) l.vote)
+  unless-prepared true = stay
+  unless-prepared false = kept-vote l.vote refl
+
+  commit : (fails : Bool) (ph : Phase) → l.phase ≡ ph → told ≡ message.Commit (gx g) → Said k p (message.Commit (gx g)) → Does (on_commit s (gx g) fails l ph)
+  commit fails Reading f m st = once-votes l.vote _ refl (λ v. committed fails m v (ap is_open f) (st v))
+  commit fails Writing f m st = once-votes l.vote _ refl (λ v. committed fails m v (ap is_open f) (st v))
+  commit fails Prepared f m st = stay
+  commit fails Committed f m st = unless-prepared (was_prepared l.vote)
+  commit fails (Forgotten b) f m st = unless-prepared (was_prepared l.vote)
+  commit fails Aborted f m st = stay
+
+  -- COMMIT PREPARED
+  finished : (fails : Bool) → told ≡ message.CommitPrepared (gx g) → l.phase ≡ Prepared → k.at ≡ Two true → Does (finishes s (gx g) fails l)
+  finished true m f st =
+      change l (mark.JournalFailed s.node (gx g) ∷ []) reply.Again _ same-next (tt, tt) (refl, failed-here) (λ v. inl v)
+  finished false m f st =
+      let n : Next k p (finishing p) = finish-next k p e f st in
+      let x = live-marks (two-not-over st) in
+      change (record l { phase = Committed }) (mark.LocalCommit s.node (gx g) ∷ []) reply.Committed _
+      (subst (Next k p) (sym (local-after (record l { phase = Committed }))) n) ((refl, at-node, inr m, x.0, x.1), tt) (refl, refl) (λ v. inl v)
+
+  decided-still : (ph : Phase) → l.phase ≡ ph → has_committed ph ≡ false → (k.at ≡ Two true) ⊎ (has_committed l.phase ≡ true) → k.at ≡ Two true
+  decided-still ph f n (inl x) = x
+  decided-still ph f n (inr x) = absurd (clash (has_committed ph) (sym (ap has_committed f) ∙ x) n)
+    where
+      clash : (b : Bool) → b ≡ true → b ≡ false → ⊥
+      clash b x y = grind arith
+
+  commit-prepared : (fails : Bool) (ph : Phase) → l.phase ≡ ph → told ≡ message.CommitPrepared (gx g) → Said k p (message.CommitPrepared (gx g)) → Does (on_commit_prepared s (gx g) fails l ph)
+  commit-prepared fails Reading f m st = stay
+  commit-prepared fails Writing f m st = stay
+  commit-prepared fails Prepared f m st = finished fails m f (decided-still Prepared f refl st)
+  commit-prepared fails Committed f m st = tell reply.Committed refl (ap has_committed f)
+  commit-prepared fails (Forgotten true) f m st = tell reply.Committed refl (ap has_committed f)
+  commit-prepared fails (Forgotten false) f m st = stay
+  commit-prepared fails Aborted f m st = stay
+
+  -- ABORT and FORGET
+  ended : (ph : Phase) (r : Reply) → not-again r ≡ true → ((q : Part) → Answers k q r) → is_open ph ≡ false → (ph ≡ Prepared → ⊥) → has_committed ph ≡ has_committed l.phase → k.at ≡ Over → Does (changes s (gx g) (record l { phase = ph }) [] r None)
+  ended ph r n a o d c st =
+      change (record l { phase = ph }) [] r None (subst (Next k p) (sym (none-after (record l { phase = ph }))) (end-next k p ph e o d c st)) tt (told-of k _ [] r n (a _)) (λ v. inl v)
+
+  abort : (ph : Phase) → l.phase ≡ ph → Said k p (message.Abort (gx g)) → Does (on_abort s (gx g) l ph)
+  abort Reading f st = ended Aborted reply.Aborted refl (λ q. tt) refl (λ x. absurd (cc)) (sym (ap has_committed f)) (e.aborts st)
+  abort Writing f st = ended Aborted reply.Aborted refl (λ q. tt) refl (λ x. absurd (cc)) (sym (ap has_committed f)) (e.aborts st)
+  abort Prepared f st = ended Aborted reply.Aborted refl (λ q. tt) refl (λ x. absurd (cc)) (sym (ap has_committed f)) (e.aborts st)
+  abort Committed f st = stay
+  abort (Forgotten b) f st = stay
+  abort Aborted f st = tell reply.Aborted refl tt
+
+  forgotten : Said k p (message.Forget (gx g)) → Does (changes s (gx g) (record l { phase = Forgotten (has_committed l.phase) }) [] reply.Forgotten None)
+  forgotten st = ended (Forgotten (has_committed l.phase)) reply.Forgotten refl (λ q. tt) refl (λ x. absurd (cc)) refl (e.ends st)
+
+  forget : (ph : Phase) → l.phase ≡ ph → Said k p (message.Forget (gx g)) → Does (on_forget s (gx g) l ph)
+  forget Reading f st = forgotten st
+  forget Writing f st = forgotten st
+  forget Prepared f st = forgotten st
+  forget Committed f st = forgotten st
+  forget (Forgotten b) f st = tell reply.Forgotten refl tt
+  forget Aborted f st = stay
+
+  -- EXEC
+  kept-answers : (k.at ≡ Unborn → ⊥) → (q : Part) (r : Reply) → Pair k q → q.answer ≡ Some r → Answers k q r
+  kept-answers born q r f a = by_reply r (subst (IsKept q.last q.wrote) a f.kept) (λ x. (f.live x).2)
+    where
+      same-le : (a b c : ℕ) → a ≡ b → b ≤ c → a ≤ c
+      same-le a b c x y = omega arith
+
+      by_reply : (r : Reply) → IsKept q.last q.wrote (Some r) → (k.at ≡ Live → q.last ≤ k.last) → Answers k q r
+      by_reply (reply.Done c x y z) h l = record { drawn = born; last = λ v. same-le c.0 q.last k.last h.0 (l v); same = λ v j. (sym h.0, h.1) }
+      by_reply (reply.Failed c x) h l = tt
+      by_reply reply.Prepared h l = absurd h
+      by_reply reply.Committed h l = absurd h
+      by_reply reply.Jfault h l = absurd h
+      by_reply reply.Again h l = tt
+      by_reply reply.Aborted h l = tt
+      by_reply reply.Forgotten h l = tt
+
+  kept-not-again : (n : ℕ) (b : Bool) (r : Reply) → IsKept n b (Some r) → not-again r ≡ true
+  kept-not-again n b reply.Again v = absurd v
+  kept-not-again n b (reply.Done c x y z) v = refl
+  kept-not-again n b (reply.Failed c x) v = refl
+  kept-not-again n b reply.Prepared v = refl
+  kept-not-again n b reply.Committed v = refl
+  kept-not-again n b reply.Jfault v = refl
+  kept-not-again n b reply.Aborted v = refl
+  kept-not-again n b reply.Forgotten v = refl
+
+  kept-answer : (k.at ≡ Unborn → ⊥) → (v : Option Reply) → l.answer ≡ v → Does (tells_kept s (gx g) v)
+  kept-answer born None f = stay
+  kept-answer born (Some r) f = tell r (kept-not-again p.last p.wrote r (subst (IsKept p.last p.wrote) f e.kept)) (kept-answers born p r e f)
+
+  repeat-if : (k.at ≡ Unborn → ⊥) → (b : Bool) → Does (if b then tells_kept s (gx g) l.answer else stays s)
+  repeat-if born true = kept-answer born l.answer refl
+  repeat-if born false = stay
+
+  repeat : (k.at ≡ Unborn → ⊥) → (c : Cid) → Does (repeats s (gx g) c l)
+  repeat born c = repeat-if born (c.0 == l.last)
+
+  module _ (c : Cid) (m : IsExecOf told g c) (st : IsCommand k p c.0) (h : Gxid) (o : is_open l.phase ≡ true) (new : l.last < c.0) where
+    -- on the way through its rows
+    record Inserting (x : Moved) : Type 0 where
+      others : (j : ℕ) → eqb j g ≡ false → x.seg.locals j ≡ s.locals j
+      phase : Phase
+      local : x.seg.locals g ≡ record l { phase = phase }
+      opens : is_open phase ≡ true
+      wrote : has_written phase ≡ (w || is_writer x.marks (gx g) (at i))
+      marks : Each (Follows told k i g) x.marks
+      promises : prepared_count x.marks (at i) (gx g) ≡ 0
+      commits : local_count x.marks (at i) (gx g) ≡ 0
+      node : x.seg.node ≡ s.node
+
+    ran : (x : Moved) (r : Reply) → Inserting x → IsKept c.0 (w || is_writer x.marks (gx g) (at i)) (Some r) → Does (answers x.seg (gx g) c x.marks r)
+    ran x r f a =
+        let y : Local = record (x.seg.locals g) { last = c.0; answer = Some r } in
+        let n : Next k p (running f.phase c.0 (Some r) (is_writer x.marks (gx g) (at i)) p) = run-next k p f.phase c.0 (Some r) (is_writer x.marks (gx g) (at i)) e o f.opens f.wrote new a st in
+        let same : after_marks y w pc lc i g x.marks ≡ running f.phase c.0 (Some r) (is_writer x.marks (gx g) (at i)) p
+        = ap (λ (z : Local). after_marks (record z { last = c.0; answer = Some r }) w pc lc i g x.marks) f.local
+        ∙ ap (λ n. part_of (record l { phase = f.phase; last = c.0; answer = Some r }) (w || is_writer x.marks (gx g) (at i)) (pc + n) (lc + local_count x.marks (at i) (gx g))) f.promises
+        ∙ ap (λ n. part_of (record l { phase = f.phase; last = c.0; answer = Some r }) (w || is_writer x.marks (gx g) (at i)) (pc + 0) (lc + n)) f.commits
+        ∙ ap (λ n. part_of (record l { phase = f.phase; last = c.0; answer = Some r }) (w || is_writer x.marks (gx g) (at i)) n (lc + 0)) (plus-none pc)
+        ∙ ap (λ n. part_of (record l { phase = f.phase; last = c.0; answer = Some r }) (w || is_writer x.marks (gx g) (at i)) pc n) (plus-none lc) in
+        let set : with_at x.seg.locals g y g ≡ y = ap (λ b. if b then y else x.seg.locals g) (self g) in
+        record {
+          others = λ j d. ap (λ b. if b then y else x.seg.locals j) d ∙ f.others j d;
+          next = subst (λ z. Next k p (after_marks z w pc lc i g x.marks)) (sym set) (subst (Next k p) (sym same) n);
+          marks = f.marks;
+          outs = (subst (λ z. Tells k (after_marks z w pc lc i g x.marks) i g x.marks (message.Answer (gx g) r)) (sym set) (subst (λ q. Tells k q i g x.marks (message.Answer (gx g) r)) (sym same) (told-of k _ x.marks r (kept-not-again c.0 _ r a) (kept-answers st.drawn _ r n.pair refl))), tt);
+          fails = λ v. inl (subst (λ (z : Local). z.vote ≡ Some reply.Jfault) f.local (subst (λ (z : Local). z.vote ≡ Some reply.Jfault) set v));
+        }
+      where
+        self : (a : ℕ) → eqb a a ≡ true
+        self a = grind (arith, nat_tests)
+
+    quiet : (ms : List Mark) → is_writer ms (gx g) (at i) ≡ false → prepared_count ms (at i) (gx g) ≡ 0 → local_count ms (at i) (gx g) ≡ 0 → Each (Follows told k i g) ms → Inserting (record { seg = raised s h; marks = ms })
+    quiet ms a b d f =
+        record { others = λ j q. refl; phase = l.phase; local = refl; opens = o; wrote = e.written o ∙ sym (or-none w) ∙ ap (λ x. w || x) (sym a); marks = f; promises = b; commits = d; node = refl }
+
+    select : (q : Query) (rows : List KeyedRow) (f : Option (KeyedRow × ArithFault)) → Does (selects (raised s h) (gx g) c q rows f)
+    select q rows None = ran (record { seg = raised s h; marks = [] }) _ (quiet [] refl refl refl tt) (refl, e.written o ∙ sym (or-none w))
+    select q rows (Some f) = ran (record { seg = raised s h; marks = mark.Fault (gx g) c f.0.rid (Some f.0.row) ∷ [] }) _ (quiet _ refl refl refl (tt, tt)) tt
+
+    insert-row : (table : Table) (x : Moved) (row : KeyedRow) → Inserting x → Inserting (inserts_row (gx g) c table x row)
+    insert-row table x row f =
+        record {
+          others = λ j d. ap (λ b. if b then record (x.seg.locals g) { phase = Writing } else x.seg.locals j) d ∙ f.others j d;
+          phase = Writing;
+          local = ap (λ b. if b then record (x.seg.locals g) { phase = Writing } else x.seg.locals g) (self g) ∙ ap (λ (z : Local). record z { phase = Writing }) f.local;
+          opens = refl;
+          wrote = sym (ap (λ b. w || b) (writer-append x.marks (mark.Write (gx g) c x.seg.node table row.rid (Some row.row) ∷ []) (gx g) (at i)) ∙ all-true w (is_writer x.marks (gx g) (at i)) (eqb g g) (eqb x.seg.node.0 i) (self g) (ap (λ (n : Node). eqb n.0 i) f.node ∙ node-is));
+          marks = each_append (Follows told k i g) x.marks _ f.marks ((refl, ap (λ (n : Node). n.0) f.node ∙ at-node, m), tt);
+          promises = prepared-append x.marks (mark.Write (gx g) c x.seg.node table row.rid (Some row.row) ∷ []) (at i) (gx g) ∙ plus-none _ ∙ f.promises;
+          commits = local-append x.marks (mark.Write (gx g) c x.seg.node table row.rid (Some row.row) ∷ []) (at i) (gx g) ∙ plus-none _ ∙ f.commits;
+          node = f.node;
+        }
+      where
+        self : (a : ℕ) → eqb a a ≡ true
+        self a = grind (arith, nat_tests)
+
+        all-true : (a b c d : Bool) → c ≡ true → d ≡ true → (a || (b || ((c && d) || false))) ≡ true
+        all-true a b c d x y = grind arith
+
+    insert-rows : (table : Table) (rows : List KeyedRow) (x : Moved) → Inserting x → Inserting (fold (inserts_row (gx g) c table) x rows)
+    insert-rows table [] x f = f
+    insert-rows table (r ∷ rs) x f = insert-rows table rs (inserts_row (gx g) c table x r) (insert-row table x r f)
+
+    insert : (count : ℕ) (x : Moved) → Inserting x → Does (inserts (gx g) c count x)
+    insert count x f = ran x _ f (refl, ap (λ (z : Local). has_written z.phase) f.local ∙ f.wrote)
+
+    raised-stay : Does (stays (raised s h))
+    raised-stay = record { others = λ j d. refl; next = same-next; marks = tt; outs = tt; fails = λ v. inl v }
+
+    slice-runs : (x : Option Snapshot) (y : Slice) → Does (runs_slice (raised s h) (gx g) c x y)
+    slice-runs (Some x) (slice.Select q) = select q (shown (raised s h) x (gx g) c q.table) (first_fault q.cond (shown (raised s h) x (gx g) c q.table))
+    slice-runs (Some x) (slice.Insert table rows) = insert (length rows) (inserted (raised s h) (gx g) c table rows) (insert-rows table rows (record { seg = raised s h; marks = [] }) (quiet [] refl refl refl tt))
+    slice-runs x y = raised-stay
+
+  take : (c : Cid) → IsExecOf told g c → IsCommand k p c.0 → (x : Option Snapshot) (h : Gxid) (y : Slice) → is_open l.phase ≡ true → Does (takes s (gx g) c x h y l)
+  take c m st x h y o = by_test (nat_lt l.last c.0) refl
+    where
+      lower : (a b : ℕ) → nat_lt a b ≡ true → a < b
+      lower a b q = grind (arith, nat_tests)
+
+      by_test : (b : Bool) → nat_lt l.last c.0 ≡ b → Does (if b then runs_slice (raised s h) (gx g) c x y else repeats s (gx g) c l)
+      by_test true q = slice-runs c m st h o (lower l.last c.0 q) x y
+      by_test false q = repeat st.drawn c
+
+  exec : (c : Cid) → IsExecOf told g c → IsCommand k p c.0 → (x : Option Snapshot) (h : Gxid) (y : Slice) (ph : Phase) → l.phase ≡ ph → Does (on_exec s (gx g) c x h y l ph)
+  exec c m st x h y Reading f = take c m st x h y (ap is_open f)
+  exec c m st x h y Writing f = take c m st x h y (ap is_open f)
+  exec c m st x h y Prepared f = repeat st.drawn c
+  exec c m st x h y Committed f = repeat st.drawn c
+  exec c m st x h y (Forgotten b) f = stay
+  exec c m st x h y Aborted f = stay
+
+  unless-low : (turn : SegTurn) → Does turn → Does (unless_below s (gx g) turn)
+  unless-low turn d = by_test (is_below s.horizon (gx g))
+    where
+      by_test : (b : Bool) → Does (if b then stays s else turn)
+      by_test true = stay
+      by_test false = d
+
+  if-fit : (b : Bool) (turn : SegTurn) → Does turn → Does (if_fits s b turn)
+  if-fit true turn d = d
+  if-fit false turn d = stay
+
+-- every message of the transaction
+pub handled : (script : Script) (fails : Bool) (k : Known) (s : Seg) (i : ℕ) (named : s.node ≡ at i) (w : Bool) (pc lc : ℕ) (told : Message) (e : Pair k (part_of (s.locals (gxid_in told)) w pc lc)) → (is_answer told ≡ false → Said k (part_of (s.locals (gxid_in told)) w pc lc) told) → Does told k s i (gxid_in told) named w pc lc e (on_message script s fails told)
+handled script fails k s i named w pc lc (message.Exec g c level x h y) e st =
+    unless-low _ k s i g.0 named w pc lc e _ (if-fit _ k s i g.0 named w pc lc e (fits_exec script s g c x h y) _ (exec _ k s i g.0 named w pc lc e c (record { level = level; snapshot = x; horizon = h; slice = y; is = refl }) (st refl) x h y (s.locals g.0).phase refl))
+handled script fails k s i named w pc lc (message.Prepare g) e st = unless-low _ k s i g.0 named w pc lc e _ (prepare _ k s i g.0 named w pc lc e fails (s.locals g.0).phase refl refl (st refl))
+handled script fails k s i named w pc lc (message.Commit g) e st = unless-low _ k s i g.0 named w pc lc e _ (commit _ k s i g.0 named w pc lc e fails (s.locals g.0).phase refl refl (st refl))
+handled script fails k s i named w pc lc (message.CommitPrepared g) e st = unless-low _ k s i g.0 named w pc lc e _ (commit-prepared _ k s i g.0 named w pc lc e fails (s.locals g.0).phase refl refl (st refl))
+handled script fails k s i named w pc lc (message.Abort g) e st = unless-low _ k s i g.0 named w pc lc e _ (abort _ k s i g.0 named w pc lc e (s.locals g.0).phase refl (st refl))
+handled script fails k s i named w pc lc (message.Forget g) e st = unless-low _ k s i g.0 named w pc lc e _ (forget _ k s i g.0 named w pc lc e (s.locals g.0).phase refl (st refl))
+handled script fails k s i named w pc lc (message.Answer g r) e st = stay (message.Answer g r) k s i g.0 named w pc lc e
+handled script fails k s i named w pc lc (message.Collect round) e st = stay (message.Collect round) k s i 0 named w pc lc e
+handled script fails k s i named w pc lc (message.Graph round graph) e st = stay (message.Graph round graph) k s i 0 named w pc lc e

@@ -1,0 +1,187 @@
+-- What a segment's rule keeps, and where its marks stand.
+use Rattle.std.proofs.Common.{◌≡◌, ℕ, List, [], ◌∷◌, Option, Some, None, Bool, true, false, refl, nat_lt, ◌==◌, if◌then◌else◌}
+use Rattle.std.specs.Prelude.{fold, length}
+use Rattle.gx_ids.specs.declared.ids.Cid.{Cid}
+use Rattle.gx_ids.specs.declared.ids.Gxid.{Gxid}
+use Rattle.gx_ids.specs.declared.ids.Node.{Node}
+use Rattle.gx_ids.specs.declared.ids.Table.{Table}
+use Rattle.gx_tree.specs.declared.query.Query.{Query}
+use Rattle.gx_tree.specs.declared.row.KeyedRow.{KeyedRow}
+use Rattle.gx_tree.specs.declared.slice.Slice.{Slice}
+use Rattle.gx_tree.specs.declared.slice.Slice.TheVariants as slice
+use Rattle.gx_dsnap.specs.Gxids.{is_below}
+use Rattle.gx_dsnap.specs.declared.snapshot.Snapshot.{Snapshot}
+use Rattle.gx_eval.specs.declared.fault.ArithFault.{ArithFault}
+use Rattle.gx_msg.specs.declared.item.JournalItem.{JournalItem}
+use Rattle.gx_msg.specs.declared.message.Message.{Message}
+use Rattle.gx_msg.specs.declared.message.Message.TheVariants as message
+use Rattle.gx_msg.specs.declared.reply.Reply.{Reply}
+use Rattle.gx_script.specs.declared.Script.{Script}
+use Rattle.gx_store.specs.declared.mark.Mark.{Mark}
+use Rattle.gx_store.specs.declared.mark.Mark.TheVariants as mark
+use Rattle.gx_store.specs.declared.node.NodeEvent.{NodeEvent}
+use Rattle.gx_store.specs.declared.node.NodeEvent.TheVariants as event
+use Rattle.gx_store.specs.Ordered.{IsAtNode, IsSegment}
+use Rattle.gx_store.specs.Refusals.{the_coordinator}
+use Rattle.gx_rules.specs.AtSegment.{commits, finishes, if_fits, on_abort, on_commit, on_commit_prepared, on_event, on_exec, on_forget, on_message, on_prepare, once, promises, raised, repeats, takes, unless_below, was_prepared}
+use Rattle.gx_rules.specs.Segments.{Local, Phase, Seg, SegTurn, local_of, stays, tells, tells_kept}
+use Rattle.gx_rules.specs.Segments.Phase.{Aborted, Committed, Forgotten, Prepared, Reading, Writing}
+use Rattle.gx_rules.specs.Slices.{Moved, first_fault, inserted, inserts, inserts_row, runs_slice, selects}
+use Rattle.gx_rules.specs.Shown.{shown}
+use Rattle.gx_rules.specs.Fits.{fits_exec}
+use Rattle.gx_law_order.proofs.Lists.{Each, each_append}
+
+-- a mark that stands at its node and sends nothing
+abbrev pub PlainAt : Script → Node → Mark → Type 0
+PlainAt script node (mark.Sent to number told) = ⊥
+PlainAt script node m = IsAtNode script node m
+
+-- what an event of a segment keeps, and where what it does stands
+pub record SegStays (script : Script) (s : Seg) (turn : SegTurn) : Type 0 where
+  pub node : turn.seg.node ≡ s.node
+  pub sent : turn.seg.sent ≡ s.sent
+  pub marks : Each (PlainAt script s.node) turn.marks
+  pub outs : Each (λ o. o.node ≡ the_coordinator) turn.outs
+
+module _ (script : Script) (s : Seg) (at : IsSegment script s.node) where
+  abbrev Stays : SegTurn → Type 0
+  Stays turn = SegStays script s turn
+
+  stay : Stays (stays s)
+  stay = record { node = refl; sent = refl; marks = tt; outs = tt }
+
+  tell : (g : Gxid) (r : Reply) → Stays (tells s g r)
+  tell g r = record { node = refl; sent = refl; marks = tt; outs = (refl, tt) }
+
+  kept : (g : Gxid) (r : Option Reply) → Stays (tells_kept s g r)
+  kept g None = stay
+  kept g (Some r) = tell g r
+
+  -- slices, where the horizon was raised before
+  select : (h g : Gxid) (c : Cid) (q : Query) (rows : List KeyedRow) (f : Option (KeyedRow × ArithFault)) → Stays (selects (raised s h) g c q rows f)
+  select h g c q rows None = record { node = refl; sent = refl; marks = tt; outs = (refl, tt) }
+  select h g c q rows (Some f) = record { node = refl; sent = refl; marks = (tt, tt); outs = (refl, tt) }
+
+  pub record MovedFrom (m : Moved) : Type 0 where
+    pub node : m.seg.node ≡ s.node
+    pub sent : m.seg.sent ≡ s.sent
+    pub marks : Each (PlainAt script s.node) m.marks
+
+  insert_rows : (g : Gxid) (c : Cid) (table : Table) (rows : List KeyedRow) (m : Moved) → MovedFrom m → MovedFrom (fold (inserts_row g c table) m rows)
+  insert_rows g c table [] m f = f
+  insert_rows g c table (r ∷ rs) m f =
+      insert_rows g c table rs (inserts_row g c table m r)
+      (record { node = f.node; sent = f.sent; marks = each_append (PlainAt script s.node) m.marks _ f.marks ((f.node, at), tt) })
+
+  insert : (g : Gxid) (c : Cid) (count : ℕ) (m : Moved) → MovedFrom m → Stays (inserts g c count m)
+  insert g c count m f = record { node = f.node; sent = f.sent; marks = f.marks; outs = (refl, tt) }
+
+  slice_runs : (h g : Gxid) (c : Cid) (snapshot : Option Snapshot) (x : Slice) → Stays (runs_slice (raised s h) g c snapshot x)
+  slice_runs h g c (Some snapshot) (slice.Select q) = select h g c q (shown (raised s h) snapshot g c q.table) (first_fault q.cond (shown (raised s h) snapshot g c q.table))
+  slice_runs h g c (Some snapshot) (slice.Insert table rows) =
+      insert g c (length rows) (inserted (raised s h) g c table rows) (insert_rows g c table rows (record { seg = raised s h; marks = [] }) (record { node = refl; sent = refl; marks = tt }))
+  slice_runs h g c snapshot x = record { node = refl; sent = refl; marks = tt; outs = tt }
+
+  both : (b : Bool) (x y : SegTurn) → Stays x → Stays y → Stays (if b then x else y)
+  both true x y e f = e
+  both false x y e f = f
+
+  repeat : (g : Gxid) (c : Cid) (l : Local) → Stays (repeats s g c l)
+  repeat g c l = both (c.0 == l.last) _ _ (kept g l.answer) stay
+
+  take : (g : Gxid) (c : Cid) (snapshot : Option Snapshot) (h : Gxid) (x : Slice) (l : Local) → Stays (takes s g c snapshot h x l)
+  take g c snapshot h x l = both (nat_lt l.last c.0) _ _ (slice_runs h g c snapshot x) (repeat g c l)
+
+  exec : (g : Gxid) (c : Cid) (snapshot : Option Snapshot) (h : Gxid) (x : Slice) (l : Local) (p : Phase) → Stays (on_exec s g c snapshot h x l p)
+  exec g c snapshot h x l Reading = take g c snapshot h x l
+  exec g c snapshot h x l Writing = take g c snapshot h x l
+  exec g c snapshot h x l Prepared = repeat g c l
+  exec g c snapshot h x l Committed = repeat g c l
+  exec g c snapshot h x l (Forgotten b) = stay
+  exec g c snapshot h x l Aborted = stay
+
+  only : (g : Gxid) (v : Option Reply) (turn : SegTurn) → Stays turn → Stays (once s g v turn)
+  only g None turn e = e
+  only g (Some v) turn e = tell g v
+
+  promise : (g : Gxid) (fails : Bool) (l : Local) → Stays (promises s g fails l)
+  promise g true l = record { node = refl; sent = refl; marks = (refl, tt); outs = (refl, tt) }
+  promise g false l = record { node = refl; sent = refl; marks = ((refl, at), tt); outs = (refl, tt) }
+
+  prepare : (g : Gxid) (fails : Bool) (l : Local) (p : Phase) → Stays (on_prepare s g fails l p)
+  prepare g fails l Reading = only g l.vote _ (promise g fails l)
+  prepare g fails l Writing = only g l.vote _ (promise g fails l)
+  prepare g fails l Prepared = kept g l.vote
+  prepare g fails l Committed = kept g l.vote
+  prepare g fails l (Forgotten b) = kept g l.vote
+  prepare g fails l Aborted = stay
+
+  commit_one : (g : Gxid) (fails : Bool) (l : Local) → Stays (commits s g fails l)
+  commit_one g true l = record { node = refl; sent = refl; marks = (refl, tt); outs = (refl, tt) }
+  commit_one g false l = record { node = refl; sent = refl; marks = ((refl, at), tt); outs = (refl, tt) }
+
+  commit : (g : Gxid) (fails : Bool) (l : Local) (p : Phase) → Stays (on_commit s g fails l p)
+  commit g fails l Reading = only g l.vote _ (commit_one g fails l)
+  commit g fails l Writing = only g l.vote _ (commit_one g fails l)
+  commit g fails l Prepared = stay
+  commit g fails l Committed = both (was_prepared l.vote) _ _ stay (kept g l.vote)
+  commit g fails l (Forgotten b) = both (was_prepared l.vote) _ _ stay (kept g l.vote)
+  commit g fails l Aborted = stay
+
+  finish : (g : Gxid) (fails : Bool) (l : Local) → Stays (finishes s g fails l)
+  finish g true l = record { node = refl; sent = refl; marks = (refl, tt); outs = (refl, tt) }
+  finish g false l = record { node = refl; sent = refl; marks = ((refl, at), tt); outs = (refl, tt) }
+
+  commit_prepared : (g : Gxid) (fails : Bool) (l : Local) (p : Phase) → Stays (on_commit_prepared s g fails l p)
+  commit_prepared g fails l Reading = stay
+  commit_prepared g fails l Writing = stay
+  commit_prepared g fails l Prepared = finish g fails l
+  commit_prepared g fails l Committed = tell g _
+  commit_prepared g fails l (Forgotten true) = tell g _
+  commit_prepared g fails l (Forgotten false) = stay
+  commit_prepared g fails l Aborted = stay
+
+  answered : (g : Gxid) (l : Local) (r : Reply) (it : Option JournalItem) → Stays (Rattle.gx_rules.specs.AtSegment.changes s g l [] r it)
+  answered g l r it = record { node = refl; sent = refl; marks = tt; outs = (refl, tt) }
+
+  abort : (g : Gxid) (l : Local) (p : Phase) → Stays (on_abort s g l p)
+  abort g l Reading = answered g _ _ _
+  abort g l Writing = answered g _ _ _
+  abort g l Prepared = answered g _ _ _
+  abort g l Committed = stay
+  abort g l (Forgotten b) = stay
+  abort g l Aborted = tell g _
+
+  forget : (g : Gxid) (l : Local) (p : Phase) → Stays (on_forget s g l p)
+  forget g l Reading = answered g _ _ _
+  forget g l Writing = answered g _ _ _
+  forget g l Prepared = answered g _ _ _
+  forget g l Committed = answered g _ _ _
+  forget g l (Forgotten b) = tell g _
+  forget g l Aborted = stay
+
+  below : (g : Gxid) (turn : SegTurn) → Stays turn → Stays (unless_below s g turn)
+  below g turn e = both (is_below s.horizon g) _ _ stay e
+
+  fits : (b : Bool) (turn : SegTurn) → Stays turn → Stays (if_fits s b turn)
+  fits true turn e = e
+  fits false turn e = stay
+
+  message_stays : (fails : Bool) (m : Message) → Stays (on_message script s fails m)
+  message_stays fails (message.Exec g c level snapshot h x) = below g _ (fits (fits_exec script s g c snapshot h x) _ (exec g c snapshot h x (local_of s g) (local_of s g).phase))
+  message_stays fails (message.Prepare g) = below g _ (prepare g fails (local_of s g) (local_of s g).phase)
+  message_stays fails (message.Commit g) = below g _ (commit g fails (local_of s g) (local_of s g).phase)
+  message_stays fails (message.CommitPrepared g) = below g _ (commit_prepared g fails (local_of s g) (local_of s g).phase)
+  message_stays fails (message.Abort g) = below g _ (abort g (local_of s g) (local_of s g).phase)
+  message_stays fails (message.Forget g) = below g _ (forget g (local_of s g) (local_of s g).phase)
+  message_stays fails (message.Collect round) = stay
+  message_stays fails (message.Answer g r) = stay
+  message_stays fails (message.Graph round graph) = stay
+
+  pub seg_stays : (e : NodeEvent) (fails : Bool) → Stays (on_event script s e fails)
+  seg_stays (event.Deliver from envelope) fails = message_stays fails envelope.message
+  seg_stays (event.Resume g) fails = stay
+  seg_stays (event.Start x) fails = stay
+  seg_stays (event.End x) fails = stay
+  seg_stays (event.Resend i g) fails = stay
+  seg_stays event.Round fails = stay

@@ -1,0 +1,172 @@
+-- Commands that go out, and lines that start.
+use Rattle.std.proofs.Common.{◌≡◌, inl, ℕ, List, [], ◌∷◌, ◌++◌, Option, Some, None, Result, Ok, Err, Bool, true, false, refl, sym, subst, ap, ◌∙◌, if◌then◌else◌, arith, eqb, append-nil}
+use Rattle.std.proofs.lemmas.Bool.{eqb-true}
+use Rattle.std.proofs.lemmas.List.{append_assoc}
+use Rattle.std.specs.Prelude.{option_map}
+use Rattle.gx_ids.specs.declared.ids.Cid.{Cid}
+use Rattle.gx_ids.specs.declared.ids.Gxid.{Gxid}
+use Rattle.gx_ids.specs.declared.ids.Node.{Node}
+use Rattle.gx_tree.specs.declared.stmt.Stmt.{Stmt}
+use Rattle.gx_tree.specs.declared.stmt.Stmt.TheVariants as stmt
+use Rattle.gx_dsnap.specs.declared.snapshot.Snapshot.{Snapshot}
+use Rattle.gx_dtx.specs.Nodes.{with_node}
+use Rattle.gx_dtx.specs.Rules.{enlisted, on_abort}
+use Rattle.gx_dtx.specs.Table.{Table, find_txn, xmin_of}
+use Rattle.gx_dtx.specs.declared.txn.Txn.{Txn}
+use Rattle.gx_eval.specs.declared.fault.ArithFault.{ArithFault}
+use Rattle.gx_plan.specs.Plan.{plan_of}
+use Rattle.gx_plan.specs.declared.piece.Piece.{Piece}
+use Rattle.gx_script.specs.declared.Script.{Script}
+use Rattle.gx_session.specs.declared.state.Pending.{Pending}
+use Rattle.gx_store.specs.declared.mark.Mark.{Mark}
+use Rattle.gx_store.specs.declared.mark.Mark.TheVariants as mark
+use Rattle.gx_store.specs.Writes.{dist_of}
+use Rattle.gx_rules.specs.AtCoordinator.{Reading, dispatches, enlisted_all, fault_mark, goes, goes_out, is_refused, kept_at, next_cid, nodes_in, reads_by, reads_for, refusal_of, table_of, takes_snapshot}
+use Rattle.gx_rules.specs.Coordinators.{Coord, Session, Work}
+use Rattle.gx_rules.specs.Snapshots.{snapshot_of}
+use Rattle.gx_law_order.specs.Seen.{AreEndedSeen}
+use Rattle.gx_law_order.proofs.Closings.{behind-good, kept-stage, live-at, past-same, refuses-good, set_live}
+use Rattle.gx_law_order.proofs.Lists.{Each}
+use Rattle.gx_law_order.proofs.Past.{Past, Still, seen-now}
+use Rattle.gx_law_order.proofs.Sessions.{Kept, Placed, Tied, is_live_in, is_nothing_in, is_working_in, stage_of}
+use Rattle.gx_law_order.proofs.Stages.{At, IsWhole, gx, txn-at}
+use Rattle.gx_law_order.proofs.Statuses.{Stage, stage}
+use Rattle.gx_law_order.proofs.Statuses.Stage.{Live, Closing}
+use Rattle.gx_law_order.proofs.Turns.{Base, Good, base-kept, home-is, merged, same-sessions, self-test, stage-is}
+
+-- looking up what is there
+pub same-finds : (d : Table) (g j : ℕ) → find_txn d (gx j) ≡ (if eqb j g then find_txn d (gx g) else find_txn d (gx j))
+same-finds d g j = by_test (eqb j g) refl
+  where
+    by_test : (q : Bool) → eqb j g ≡ q → find_txn d (gx j) ≡ (if q then find_txn d (gx g) else find_txn d (gx j))
+    by_test true q = ap (λ i. find_txn d (gx i)) (eqb-true j g q)
+    by_test false q = refl
+
+-- ENLISTING KEEPS THE STAGE
+pub record Enlists (d u : Table) (g : ℕ) : Type 0 where
+  pub now : Option Txn
+  pub at : At d u g now
+  pub same : stage now ≡ stage (find_txn d (gx g))
+  pub latest : u.latest_ended ≡ d.latest_ended
+
+abbrev with_part : Node → Txn → Txn
+with_part i t = record t { participants = with_node i t.participants }
+
+one-enlists : (d : Table) (g : ℕ) (i : Node) → IsWhole d → Enlists d (enlisted d (gx g) i) g
+one-enlists d g i w =
+    let a = txn-at d g (with_part i) w in
+    record { now = option_map (with_part i) (find_txn d (gx g)); at = record { whole = record { first = a.whole.first; apart = a.whole.apart; drawn = a.whole.drawn }; next = refl; finds = a.finds }; same = kept-stage (with_part i) (λ t. refl) (find_txn d (gx g)); latest = refl }
+
+all-enlists : (nodes : List Node) (d : Table) (g : ℕ) → IsWhole d → Enlists d (enlisted_all d (gx g) nodes) g
+all-enlists [] d g w = record { now = find_txn d (gx g); at = record { whole = w; next = refl; finds = same-finds d g }; same = refl; latest = refl }
+all-enlists (i ∷ is) d g w = joined (one-enlists d g i w) (all-enlists is (enlisted d (gx g) i) g (one-enlists d g i w).at.whole)
+  where
+    joined : (a : Enlists d (enlisted d (gx g) i) g) → Enlists (enlisted d (gx g) i) (enlisted_all (enlisted d (gx g) i) (gx g) is) g → Enlists d (enlisted_all (enlisted d (gx g) i) (gx g) is) g
+    joined a b =
+        record {
+          now = b.now;
+          at = record { whole = b.at.whole; next = b.at.next ∙ a.at.next; finds = λ h. b.at.finds h ∙ merged (eqb h g) b.now a.now (find_txn d (gx h)) (find_txn (enlisted d (gx g) i) (gx h)) (a.at.finds h) };
+          same = b.same ∙ ap stage (a.at.finds g ∙ ap (λ q. if q then a.now else find_txn d (gx g)) (self-test g)) ∙ a.same;
+          latest = b.latest ∙ a.latest;
+        }
+
+fault-still : (g : Gxid) (cid : Cid) (line : Stmt) → Each Still (fault_mark g cid line)
+fault-still g cid (stmt.Insert t x) = (tt, tt)
+fault-still g cid (stmt.Begin level) = tt
+fault-still g cid stmt.Commit = tt
+fault-still g cid stmt.Rollback = tt
+fault-still g cid (stmt.Select q) = tt
+fault-still g cid (stmt.Update t x y) = tt
+fault-still g cid (stmt.Delete t x) = tt
+fault-still g cid (stmt.Lock t m) = tt
+
+working-waits : (p : Pending) → is_working_in p ≡ true → is_nothing_in p ≡ false
+working-waits p e = grind arith
+
+module _ (c c1 : Coord) (g s : ℕ) (w1 : Work) (y : Session) (k : Kept c) (b : Base c c1 g s w1 y Live) (before : List Mark) (p : Past c1 before) where
+  -- with the snapshot by which the command reads
+  record ReadsWell (r : Reading) : Type 0 where
+    w2 : Work
+    base : Base c r.coord g s w2 y Live
+    past : Past r.coord (before ++ r.marks)
+    seen : AreEndedSeen before r.marks
+
+  keeps-reading : (x : Option Snapshot) → ReadsWell (record { coord = c1; snapshot = x; marks = [] })
+  keeps-reading x = record { w2 = w1; base = b; past = subst (λ m. Past c1 m) (sym (append-nil before)) p; seen = tt }
+
+  takes-reading : (cid : Cid) → ReadsWell (takes_snapshot c1 (gx g) cid (c1.works g))
+  takes-reading cid =
+      let a = live-at c1.table g (Some (xmin_of c1.table)) b.whole1 in
+      let st : stage (option_map (set_live (Some (xmin_of c1.table))) (find_txn c1.table (gx g))) ≡ stage_of c1 g = kept-stage (set_live (Some (xmin_of c1.table))) (λ t. refl) (find_txn c1.table (gx g)) in
+      let w : Work = record (c1.works g) { snapshot = kept_at (c1.works g).level (snapshot_of c1.table) } in
+      record {
+        w2 = w;
+        base = record {
+          whole1 = a.whole;
+          now1 = option_map (set_live (Some (xmin_of c1.table))) (find_txn c1.table (gx g));
+          stage1 = st ∙ stage-is c c1 g s w1 y Live k b;
+          finds1 = λ j. a.finds j ∙ merged (eqb j g) _ b.now1 (find_txn c.table (gx j)) (find_txn c1.table (gx j)) (b.finds1 j);
+          works1 = λ j. merged (eqb j g) w w1 (c.works j) (c1.works j) (b.works1 j);
+          sessions1 = b.sessions1;
+          kind = b.kind;
+          same_txn = b.same_txn;
+          home1 = home-is c c1 g s w1 y Live k b;
+        };
+        past = past-same c1 _ before (mark.Snap (gx g) cid (snapshot_of c1.table) ∷ []) g _ p refl a.finds st refl (λ h. refl);
+        seen = (seen-now c1 before p, tt);
+      }
+
+  by-reading : (cid : Cid) (x : Option Snapshot) → ReadsWell (reads_by c1 (gx g) cid (c1.works g) x)
+  by-reading cid None = takes-reading cid
+  by-reading cid (Some x) = keeps-reading (Some x)
+
+  for-reading : (cid : Cid) (line : Stmt) → ReadsWell (reads_for c1 (gx g) cid (c1.works g) line)
+  for-reading cid (stmt.Lock t m) = keeps-reading None
+  for-reading cid (stmt.Begin level) = by-reading cid (c1.works g).snapshot
+  for-reading cid stmt.Commit = by-reading cid (c1.works g).snapshot
+  for-reading cid stmt.Rollback = by-reading cid (c1.works g).snapshot
+  for-reading cid (stmt.Select q) = by-reading cid (c1.works g).snapshot
+  for-reading cid (stmt.Insert t x) = by-reading cid (c1.works g).snapshot
+  for-reading cid (stmt.Update t x z) = by-reading cid (c1.works g).snapshot
+  for-reading cid (stmt.Delete t x) = by-reading cid (c1.works g).snapshot
+
+  module _ (live : is_live_in y.state.block y.state.pending ≡ true) (working : is_working_in y.state.pending ≡ true) where
+    out-good : (cid : Cid) (line : Stmt) (pieces : List Piece) (r : Reading) → ReadsWell r → Good before (goes_out (gx g) cid line pieces r)
+    out-good cid line pieces r f =
+        let e = all-enlists (nodes_in pieces) r.coord.table g f.base.whole1 in
+        let here : stage e.now ≡ Live = e.same ∙ stage-is c r.coord g s f.w2 y Live k f.base in
+        let w : Work = (goes_out (gx g) cid line pieces r).coord.works g in
+        let d : Coord = (goes_out (gx g) cid line pieces r).coord in
+        record {
+          kept = base-kept c r.coord g s f.w2 y Live k f.base d e.now (sent r cid line pieces) y e.at.whole e.at.finds (λ j. refl) (same-sessions c r.coord g s f.w2 y Live k f.base)
+              (λ z q. tied r cid line pieces (home-is c r.coord g s f.w2 y Live k f.base) (stage e.now) here z q) f.base.same_txn (sits r cid line pieces (home-is c r.coord g s f.w2 y Live k f.base) (stage e.now) here);
+          past = subst (λ m. Past d m) (append-nil (before ++ r.marks)) (past-same r.coord d (before ++ r.marks) [] g e.now f.past e.at.next e.at.finds e.same e.latest (λ h. refl));
+          seen = f.seen;
+        }
+      where
+        differ : Live ≡ Closing → ⊥
+        differ z = cc
+
+        clash : (q : Pending) → is_working_in q ≡ true → is_nothing_in q ≡ true → ⊥
+        clash q e f = grind arith
+
+        sent : Reading → Cid → Stmt → List Piece → Work
+        sent r cid line pieces = record (r.coord.works g) { last = cid.0; command = Some (record { stmt = line; cid = cid; orders = (goes_out (gx g) cid line pieces r).outs; awaited = nodes_in pieces; count = 0; parts = [] }) }
+
+        tied : (r : Reading) (cid : Cid) (line : Stmt) (pieces : List Piece) → (r.coord.works g).session.0 ≡ s → (a : Stage) → a ≡ Live → (z : Session) → z ≡ (if eqb (r.coord.works g).session.0 s then y else c.sessions (r.coord.works g).session.0) → Tied a g (sent r cid line pieces) z
+        tied r cid line pieces home a l z q =
+            subst (λ x. Tied a g (sent r cid line pieces) x) (sym (q ∙ ap (λ x. if x then y else c.sessions (r.coord.works g).session.0) (ap (λ x. eqb x s) home ∙ self-test s)))
+            (record { live = λ m. (b.same_txn, live); closing = λ m. absurd (differ (sym l ∙ m)); awaits = λ m f n. (l, working) })
+
+        sits : (r : Reading) (cid : Cid) (line : Stmt) (pieces : List Piece) → (r.coord.works g).session.0 ≡ s → (a : Stage) → a ≡ Live → Placed s y a (sent r cid line pieces)
+        sits r cid line pieces home a l = record { stands = λ o. (inl l, home); free = λ o n. absurd (clash y.state.pending working n) }
+
+    goes-good : (cid : Cid) (line : Stmt) (r : Reading) (plan : Result (List Piece) ArithFault) → ReadsWell r → Good before (goes (gx g) cid line r plan)
+    goes-good cid line r (Ok pieces) f = out-good cid line pieces r f
+    goes-good cid line r (Err fault) f =
+        behind-good before r.marks (is_refused r.coord (gx g) (on_abort r.coord.table (gx g)) (fault_mark (gx g) cid line) (refusal_of fault)) (goes (gx g) cid line r (Err fault)) f.seen
+        (refuses-good c r.coord g s f.w2 y Live k f.base (before ++ r.marks) f.past refl (fault_mark (gx g) cid line) (refusal_of fault) (fault-still (gx g) cid line) (working-waits y.state.pending working))
+        refl (append_assoc r.marks (fault_mark (gx g) cid line) _)
+
+    pub dispatch-good : (script : Script) (line : Stmt) → Good before (dispatches script c1 (gx g) line)
+    dispatch-good script line = goes-good (next_cid (c1.works g)) line _ (plan_of script.segments (dist_of script.tables (table_of line)) (gx g) (next_cid (c1.works g)) line) (for-reading (next_cid (c1.works g)) line)

@@ -1,0 +1,239 @@
+-- Over every run of the machine, a journal holds the items that the marks stand for.
+use Rattle.std.proofs.Common.{◌≡◌, ◌≤◌, inl, inr, ℕ, List, [], ◌∷◌, ◌++◌, Option, Some, None, Bool, true, false, refl, sym, subst, ap, ◌∙◌, if◌then◌else◌, ◌==◌, ◌&&◌, ◌||◌, arith, eqb, append-nil}
+use Rattle.std.proofs.lemmas.Bool.Decides.{nat_tests}
+use Rattle.std.proofs.lemmas.List.{append_assoc}
+use Rattle.gx_ids.specs.declared.ids.Node.{Node}
+use Rattle.gx_msg.specs.declared.item.JournalItem.{JournalItem}
+use Rattle.gx_msg.specs.declared.item.JournalItem.TheVariants as item
+use Rattle.gx_msg.specs.declared.message.Envelope.{Envelope}
+use Rattle.gx_msg.specs.declared.message.Out.{Out}
+use Rattle.gx_script.specs.declared.Script.{Script}
+use Rattle.gx_store.specs.declared.event.Event.{Event}
+use Rattle.gx_store.specs.declared.event.Event.TheVariants as event
+use Rattle.gx_store.specs.declared.mark.Mark.{Mark}
+use Rattle.gx_store.specs.declared.mark.Mark.TheVariants as mark
+use Rattle.gx_store.specs.declared.node.NodeEvent.{NodeEvent}
+use Rattle.gx_store.specs.declared.node.NodeEvent.TheVariants as here
+use Rattle.gx_store.specs.declared.run.Step.{Step}
+use Rattle.gx_store.specs.Journals.{is_prepared, is_same_node, items_from, items_of, kept_at}
+use Rattle.gx_store.specs.Ordered.{IsAtNode, IsLink, IsSegment}
+use Rattle.gx_store.specs.Points.{marks_in}
+use Rattle.gx_store.specs.Refusals.{the_coordinator}
+use Rattle.gx_rules.specs.AtCoordinator.{coord_rule, on_event}
+use Rattle.gx_rules.specs.AtSegment.{seg_rule}
+use Rattle.gx_rules.specs.AtSegment as segment
+use Rattle.gx_rules.specs.Coordinators.{CoordTurn}
+use Rattle.gx_rules.specs.Machine.{World, after, at_node, can, coord_did, delivered, does, found, happens, kept_item, new_world, node_of, seg_did, world_of}
+use Rattle.gx_rules.specs.Segments.{Seg, SegTurn}
+use Rattle.gx_rules.specs.Sending.{clock_after, counted, numbered}
+use Rattle.gx_law_order.specs.Journals.{item_at, journal_after, journal_from, takes}
+use Rattle.gx_law_order.proofs.CoordItems.{event-stands}
+use Rattle.gx_law_order.proofs.Letters.{IsFound, IsLetter, found_is, same_node}
+use Rattle.gx_law_order.proofs.Lists.{Each}
+use Rattle.gx_law_order.proofs.Ordered.{Well, at-both, at_coordinator, happens_well, never_resumes, new_well, seg_marks}
+use Rattle.gx_law_order.proofs.SegItems.{Bound, Dull, Holds, Items, dull-items, dull-prepared, event_items, items-append, prepared-append, writes-append, writes_at}
+use Rattle.gx_law_order.proofs.Sent.{at}
+use Rattle.gx_law_order.proofs.Stages.{gx}
+use Rattle.gx_law_order.proofs.World.{marks-last}
+
+-- what the segments hold of the marks
+abbrev pub Hold : World → Type 0
+Hold w = (i : ℕ) → 1 ≤ i → Holds (at i) (w.segs i) (marks_in w.steps)
+
+numbered-dull : (f : ℕ → ℕ) (outs : List Out) → Each Dull (numbered f outs)
+numbered-dull f [] = tt
+numbered-dull f (o ∷ outs) = (tt, numbered-dull (counted f o) outs)
+
+numbered-unwritten : (node : Node) (f : ℕ → ℕ) (outs : List Out) → writes_at node (numbered f outs) ≡ []
+numbered-unwritten node f [] = refl
+numbered-unwritten node f (o ∷ outs) = numbered-unwritten node (counted f o) outs
+
+-- marks at another node stand for nothing
+other-items : (script : Script) (here other : Node) (before ms : List Mark) → is_same_node here other ≡ false → (here ≡ the_coordinator → (other.0 == 0) ≡ false) → Each (IsAtNode script here) ms → items_from other before ms ≡ []
+other-items script here other before [] n z e = refl
+other-items script here other before (mark.Prepared m g ∷ ms) n z e =
+    ap (λ q. (if q then item.Prepare g (kept_at other g before) ∷ [] else []) ++ items_from other (before ++ mark.Prepared m g ∷ []) ms) (ap (λ x. is_same_node x other) e.0.0 ∙ n)
+    ∙ other-items script here other (before ++ mark.Prepared m g ∷ []) ms n z e.1
+other-items script here other before (mark.LocalCommit m g ∷ ms) n z e =
+    ap (λ q. (if q then (if is_prepared before other g then item.Finish g ∷ [] else item.Commit g (kept_at other g before) ∷ []) else []) ++ items_from other (before ++ mark.LocalCommit m g ∷ []) ms) (ap (λ x. is_same_node x other) e.0.0 ∙ n)
+    ∙ other-items script here other (before ++ mark.LocalCommit m g ∷ []) ms n z e.1
+other-items script here other before (mark.Decided g ∷ ms) n z e =
+    ap (λ q. (if q then item.Decide g ∷ [] else []) ++ items_from other (before ++ mark.Decided g ∷ []) ms) (z e.0)
+    ∙ other-items script here other (before ++ mark.Decided g ∷ []) ms n z e.1
+other-items script here other before (m ∷ ms) n z e = other-items script here other (before ++ m ∷ []) ms n z e.1
+
+-- marks at another node write and promise nothing here
+other-writes : (script : Script) (here other : Node) (ms : List Mark) → is_same_node here other ≡ false → Each (IsAtNode script here) ms → writes_at other ms ≡ []
+other-writes script here other [] n e = refl
+other-writes script here other (mark.Write g c m t rid image ∷ ms) n e =
+    ap (λ q. if q then record { gxid = g; cid = c; table = t; rid = rid; image = image } ∷ writes_at other ms else writes_at other ms) (ap (λ x. is_same_node x other) e.0.0 ∙ n) ∙ other-writes script here other ms n e.1
+other-writes script here other (m ∷ ms) n e = other-writes script here other ms n e.1
+
+other-prepared : (script : Script) (here other : Node) (ms : List Mark) (h : ℕ) → is_same_node here other ≡ false → Each (IsAtNode script here) ms → is_prepared ms other (gx h) ≡ false
+other-prepared script here other [] h n e = refl
+other-prepared script here other (mark.Prepared m g ∷ ms) h n e =
+    or-off (is_same_node m other) (eqb g.0 h) (is_prepared ms other (gx h)) (ap (λ x. is_same_node x other) e.0.0 ∙ n) (other-prepared script here other ms h n e.1)
+  where
+    or-off : (a b c : Bool) → a ≡ false → c ≡ false → ((a && b) || c) ≡ false
+    or-off a b c e f = grind arith
+other-prepared script here other (m ∷ ms) h n e = other-prepared script here other ms h n e.1
+
+-- what others do leaves a segment's facts
+holds-other : (script : Script) (here : Node) (j : ℕ) (s : Seg) (before ms : List Mark) → is_same_node here (at j) ≡ false → Each (IsAtNode script here) ms → Holds (at j) s before → Holds (at j) s (before ++ ms)
+holds-other script here j s before ms n e k =
+    record {
+      versions = k.versions ∙ sym (writes-append (at j) before ms ∙ ap (λ vs. writes_at (at j) before ++ vs) (other-writes script here (at j) ms n e) ∙ append-nil (writes_at (at j) before));
+      bound = λ h. subst (λ q. Bound q (s.locals h).phase) (sym (prepared-append before ms (at j) (gx h) ∙ or-off (is_prepared before (at j) (gx h)) (other-prepared script here (at j) ms h n e))) (k.bound h);
+    }
+  where
+    or-off : (a : Bool) {b : Bool} → b ≡ false → (a || b) ≡ a
+    or-off a e = grind arith
+
+-- ONE STEP, FOR THE JOURNAL OF A NODE
+pub record After (w v : World) (i : ℕ) (added : List JournalItem) : Type 0 where
+  pub hold : Hold v
+  pub items : items_of (at i) (marks_in v.steps) ≡ items_of (at i) (marks_in w.steps) ++ added
+
+more-items : (i : ℕ) (steps : List Step) (s : Step) (added : List JournalItem) → items_from (at i) (marks_in steps) s.marks ≡ added → items_of (at i) (marks_in (steps ++ s ∷ [])) ≡ items_of (at i) (marks_in steps) ++ added
+more-items i steps s added e = ap (items_of (at i)) (marks-last steps s) ∙ items-append (at i) [] (marks_in steps) s.marks ∙ ap (λ q. items_of (at i) (marks_in steps) ++ q) e
+
+with-sent : (node : Node) (before ms : List Mark) (f : ℕ → ℕ) (outs : List Out) (its : List JournalItem) → items_from node before ms ≡ its → items_from node before (ms ++ numbered f outs) ≡ its
+with-sent node before ms f outs its e = items-append node before ms (numbered f outs) ∙ ap (λ q. items_from node before ms ++ q) (dull-items node (before ++ ms) (numbered f outs) (numbered-dull f outs)) ∙ append-nil (items_from node before ms) ∙ e
+
+module _ (script : Script) (some : 1 ≤ script.segments) (w : World) (well : Well script w) (hold : Hold w) (e : Event) (x : NodeEvent) (fails : Bool) (i : ℕ) where
+  coord-after : After w (coord_did w e (coord_rule script w.coord x fails)) i (if is_same_node the_coordinator (at i) then kept_item fails (coord_rule script w.coord x fails).item else [])
+  coord-after =
+      record {
+        hold = λ j one. subst (λ m. Holds (at j) (w.segs j) m) (sym (marks-last w.steps step)) (holds-other script the_coordinator j (w.segs j) (marks_in w.steps) step.marks (apart j one) (at_coordinator script some w well e x fails) (hold j one));
+        items = more-items i w.steps step _ (by_test (is_same_node the_coordinator (at i)) refl);
+      }
+    where
+      step : Step
+      step = record { stamp = record { clock = clock_after w.coord.clock x; node = the_coordinator }; event = e; marks = (coord_rule script w.coord x fails).marks }
+
+      turn : CoordTurn
+      turn = on_event script w.coord x fails
+
+      apart : (j : ℕ) → 1 ≤ j → is_same_node the_coordinator (at j) ≡ false
+      apart j one = grind (arith, nat_tests)
+
+      back : (j : ℕ) → is_same_node the_coordinator (at j) ≡ false → eqb j 0 ≡ false
+      back j n = grind (arith, nat_tests)
+
+      by_test : (b : Bool) → is_same_node the_coordinator (at i) ≡ b → items_from (at i) (marks_in w.steps) step.marks ≡ (if b then kept_item fails turn.item else [])
+      by_test true q = subst (λ n. items_from n (marks_in w.steps) step.marks ≡ kept_item fails turn.item) (same_node the_coordinator (at i) q) (with-sent the_coordinator (marks_in w.steps) turn.marks turn.coord.sent turn.outs _ (event-stands script w.coord (marks_in w.steps) x fails))
+      by_test false q = other-items script the_coordinator (at i) (marks_in w.steps) step.marks q (λ z. back i q) (at_coordinator script some w well e x fails)
+
+  seg-after : (j : ℕ) → (place : IsSegment script (at j)) → After w (seg_did w (at j) e (seg_rule script (w.segs j) x fails)) i (if is_same_node (at j) (at i) then kept_item fails (seg_rule script (w.segs j) x fails).item else [])
+  seg-after j place =
+      record {
+        hold = at-both (λ m (t : Seg). 1 ≤ m → Holds (at m) t (marks_in (w.steps ++ step ∷ []))) w.segs j (seg_rule script (w.segs j) x fails).seg
+            (λ one. subst (λ m. Holds (at j) (seg_rule script (w.segs j) x fails).seg m) (sym (marks-last w.steps step)) own)
+            (λ m away one. subst (λ y. Holds (at m) (w.segs m) y) (sym (marks-last w.steps step)) (holds-other script (at j) m (w.segs m) (marks_in w.steps) step.marks (apart j m away) marks_at (hold m one)));
+        items = more-items i w.steps step _ (by_test (is_same_node (at j) (at i)) refl);
+      }
+    where
+      step : Step
+      step = record { stamp = record { clock = clock_after (w.segs j).clock x; node = at j }; event = e; marks = (seg_rule script (w.segs j) x fails).marks }
+
+      turn : SegTurn
+      turn = segment.on_event script (w.segs j) x fails
+
+      sent : List Mark
+      sent = numbered (λ node. turn.seg.sent) turn.outs
+
+      marks_at : Each (IsAtNode script (at j)) step.marks
+      marks_at = seg_marks script w well e x fails j place
+
+      apart : (a b : ℕ) → (b ≡ a → ⊥) → is_same_node (at a) (at b) ≡ false
+      apart a b n = grind (arith, nat_tests)
+
+      not-coordinator : at j ≡ the_coordinator → (i == 0) ≡ false
+      not-coordinator z = absurd (no-zero j place.0 (ap (λ (n : Node). n.0) z))
+        where
+          no-zero : (a : ℕ) → 1 ≤ a → a ≡ 0 → ⊥
+          no-zero a l e = omega arith
+
+      its : Items (at j) (marks_in w.steps) fails turn
+      its = subst (λ n. Items n (marks_in w.steps) fails turn) (well.names j) (event_items script (w.segs j) (marks_in w.steps) (subst (λ n. Holds n (w.segs j) (marks_in w.steps)) (sym (well.names j)) (hold j place.0)) x fails)
+
+      or-off : (a : Bool) {b : Bool} → b ≡ false → (a || b) ≡ a
+      or-off a e = grind arith
+
+      own : Holds (at j) (seg_rule script (w.segs j) x fails).seg (marks_in w.steps ++ step.marks)
+      own =
+          record {
+            versions = its.holds.versions ∙ sym (ap (writes_at (at j)) (sym (append_assoc (marks_in w.steps) turn.marks sent)) ∙ writes-append (at j) (marks_in w.steps ++ turn.marks) sent ∙ ap (λ vs. writes_at (at j) (marks_in w.steps ++ turn.marks) ++ vs) (numbered-unwritten (at j) (λ node. turn.seg.sent) turn.outs) ∙ append-nil (writes_at (at j) (marks_in w.steps ++ turn.marks)));
+            bound = λ h. subst (λ q. Bound q (turn.seg.locals h).phase) (sym (ap (λ m. is_prepared m (at j) (gx h)) (sym (append_assoc (marks_in w.steps) turn.marks sent)) ∙ prepared-append (marks_in w.steps ++ turn.marks) sent (at j) (gx h) ∙ or-off (is_prepared (marks_in w.steps ++ turn.marks) (at j) (gx h)) (dull-prepared sent (at j) (gx h) (numbered-dull (λ node. turn.seg.sent) turn.outs)))) (its.holds.bound h);
+          }
+
+      by_test : (b : Bool) → is_same_node (at j) (at i) ≡ b → items_from (at i) (marks_in w.steps) step.marks ≡ (if b then kept_item fails turn.item else [])
+      by_test true q = subst (λ n. items_from n (marks_in w.steps) step.marks ≡ kept_item fails turn.item) (same_node (at j) (at i) q) (with-sent (at j) (marks_in w.steps) turn.marks (λ node. turn.seg.sent) turn.outs _ its.items)
+      by_test false q = other-items script (at j) (at i) (marks_in w.steps) step.marks q not-coordinator marks_at
+
+-- ALL STEPS
+module _ (script : Script) (some : 1 ≤ script.segments) (i : ℕ) where
+  nothing-after : (w : World) → Hold w → After w w i []
+  nothing-after w h = record { hold = h; items = sym (append-nil (items_of (at i) (marks_in w.steps))) }
+
+  never-taken : (b : Bool) (fails : Bool) → (if b then kept_item fails None else []) ≡ []
+  never-taken true true = refl
+  never-taken true false = refl
+  never-taken false fails = refl
+
+  abbrev Taken : World → Event → Node → Bool → Option NodeEvent → List JournalItem
+  Taken w e n fails x = if is_same_node n (at i) then kept_item fails (item_at script w n fails x) else []
+
+  received : (w : World) (from to : Node) (number : ℕ) (envelope : Envelope) (fails : Bool) → Well script w → Hold w → IsFound (IsLetter script w.steps) from to number envelope → After w (does script w (event.Receive from to number) to fails (Some (here.Deliver from envelope))) i (Taken w (event.Receive from to number) to fails (Some (here.Deliver from envelope)))
+  received w from to number envelope fails well hold d = by_test (is_same_node to the_coordinator) refl
+    where
+      e : Event
+      e = event.Receive from to number
+
+      x : NodeEvent
+      x = here.Deliver from envelope
+
+      place : is_same_node to the_coordinator ≡ false → IsLink script d.letter.from d.letter.to → IsSegment script to
+      place away (inl l) = subst (IsSegment script) d.target l.1
+      place away (inr l) = absurd (not-here to (sym d.target ∙ l.1) away)
+        where
+          not-here : (n : Node) → n ≡ the_coordinator → is_same_node n the_coordinator ≡ false → ⊥
+          not-here n same away = grind (arith, nat_tests)
+
+      by_test : (b : Bool) → is_same_node to the_coordinator ≡ b → After w (if b then coord_did w e (coord_rule script w.coord x fails) else seg_did w to e (seg_rule script (w.segs to.0) x fails)) i (if is_same_node to (at i) then kept_item fails (if b then (coord_rule script w.coord x fails).item else (seg_rule script (w.segs to.0) x fails).item) else [])
+      by_test true is = subst (λ n. After w (coord_did w e (coord_rule script w.coord x fails)) i (if is_same_node n (at i) then kept_item fails (coord_rule script w.coord x fails).item else [])) (sym (same_node to the_coordinator is)) (coord-after script some w well hold e x fails i)
+      by_test false is = seg-after script some w well hold e x fails i to.0 (place is d.is.link)
+
+  arrives : (w : World) (from to : Node) (number : ℕ) (fails : Bool) (o : Option Envelope) → found from to number w.sent ≡ o → Well script w → Hold w → After w (does script w (event.Receive from to number) to fails (delivered from o)) i (Taken w (event.Receive from to number) to fails (delivered from o))
+  arrives w from to number fails None e well hold = subst (λ q. After w w i q) (sym (never-taken (is_same_node to (at i)) fails)) (nothing-after w hold)
+  arrives w from to number fails (Some envelope) e well hold = received w from to number envelope fails well hold (found_is (IsLetter script w.steps) from to number w.sent envelope well.letters e)
+
+  same_not : (b : Bool) → b ≡ true → b ≡ false → ⊥
+  same_not b e h = grind arith
+
+  event-after : (w : World) (e : Event) (fails : Bool) → Well script w → Hold w → can script w e ≡ true → After w (does script w e (node_of e) fails (at_node w e)) i (Taken w e (node_of e) fails (at_node w e))
+  event-after w (event.Receive from to number) fails well hold ok = arrives w from to number fails (found from to number w.sent) refl well hold
+  event-after w (event.Resume m g) fails well hold ok = absurd (same_not (can script w (event.Resume m g)) ok (never_resumes script some w m (here.Resume g) refl refl))
+  event-after w (event.Start x) fails well hold ok = coord-after script some w well hold (event.Start x) (here.Start x) fails i
+  event-after w (event.End x) fails well hold ok = coord-after script some w well hold (event.End x) (here.End x) fails i
+  event-after w (event.Resend j g) fails well hold ok = coord-after script some w well hold (event.Resend j g) (here.Resend j g) fails i
+  event-after w event.Round fails well hold ok = coord-after script some w well hold event.Round here.Round fails i
+
+  pub happens-after : (w : World) (e : Event) (fails : Bool) → Well script w → Hold w → After w (happens script w e fails) i (takes script w e fails (at i))
+  happens-after w e fails well hold = by_can (can script w e) refl
+    where
+      by_can : (b : Bool) → can script w e ≡ b → After w (if b then does script w e (node_of e) fails (at_node w e) else w) i (if b then Taken w e (node_of e) fails (at_node w e) else [])
+      by_can true ok = event-after w e fails well hold ok
+      by_can false ok = nothing-after w hold
+
+  journal-is : (es : List (Event × Bool)) (w : World) (held : List JournalItem) → Well script w → Hold w → held ≡ items_of (at i) (marks_in w.steps) → journal_from script w (at i) held es ≡ items_of (at i) (marks_in (after script w es).steps)
+  journal-is [] w held well hold e = e
+  journal-is (x ∷ es) w held well hold e =
+      let a = happens-after w x.0 x.1 well hold in
+      journal-is es (happens script w x.0 x.1) (held ++ takes script w x.0 x.1 (at i)) (happens_well script some w x.0 x.1 well) a.hold (ap (λ q. q ++ takes script w x.0 x.1 (at i)) e ∙ sym a.items)
+
+  pub new-hold : Hold new_world
+  new-hold j one = record { versions = refl; bound = λ h. refl }
+
+  pub journal-holds : (es : List (Event × Bool)) → journal_after script (at i) es ≡ items_of (at i) (marks_in (world_of script es).steps)
+  journal-holds es = journal-is es new_world [] (new_well script some) new-hold refl

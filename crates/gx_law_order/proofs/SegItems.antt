@@ -1,0 +1,387 @@
+-- What a segment's journal takes is what its marks stand for.
+use Rattle.std.proofs.Common.{◌≡◌, ℕ, List, [], ◌∷◌, ◌++◌, Option, Some, None, Bool, true, false, refl, sym, subst, ap, ◌∙◌, if◌then◌else◌, cond, ◌==◌, ◌||◌, ◌&&◌, nat_lt, arith, eqb, append-nil}
+use Rattle.std.proofs.lemmas.Bool.{eqb-true}
+use Rattle.std.proofs.lemmas.Bool.Decides.{nat_tests}
+use Rattle.std.proofs.lemmas.List.{append_assoc}
+use Rattle.std.specs.Prelude.{filter, fold, length}
+use Rattle.gx_ids.specs.declared.ids.Cid.{Cid}
+use Rattle.gx_ids.specs.declared.ids.Gxid.{Gxid}
+use Rattle.gx_ids.specs.declared.ids.Node.{Node}
+use Rattle.gx_ids.specs.declared.ids.Table.{Table}
+use Rattle.gx_tree.specs.declared.query.Query.{Query}
+use Rattle.gx_tree.specs.declared.row.KeyedRow.{KeyedRow}
+use Rattle.gx_tree.specs.declared.slice.Slice.{Slice}
+use Rattle.gx_tree.specs.declared.slice.Slice.TheVariants as slice
+use Rattle.gx_dsnap.specs.Gxids.{is_below}
+use Rattle.gx_dsnap.specs.declared.snapshot.Snapshot.{Snapshot}
+use Rattle.gx_eval.specs.declared.fault.ArithFault.{ArithFault}
+use Rattle.gx_msg.specs.declared.item.JournalItem.{JournalItem}
+use Rattle.gx_msg.specs.declared.item.JournalItem.TheVariants as item
+use Rattle.gx_msg.specs.declared.item.Kept.{Kept}
+use Rattle.gx_msg.specs.declared.message.Message.{Message}
+use Rattle.gx_msg.specs.declared.message.Message.TheVariants as message
+use Rattle.gx_msg.specs.declared.reply.Reply.{Reply}
+use Rattle.gx_msg.specs.declared.reply.Reply.TheVariants as answer
+use Rattle.gx_script.specs.declared.Script.{Script}
+use Rattle.gx_store.specs.declared.mark.Mark.{Mark}
+use Rattle.gx_store.specs.declared.mark.Mark.TheVariants as mark
+use Rattle.gx_store.specs.declared.node.NodeEvent.{NodeEvent}
+use Rattle.gx_store.specs.declared.node.NodeEvent.TheVariants as event
+use Rattle.gx_store.specs.Journals.{is_prepared, is_same_node, item_of, items_from, kept_at, kept_from, kept_with}
+use Rattle.gx_store.specs.Marks.{is_same_gxid}
+use Rattle.gx_rules.specs.AtSegment.{changes, commits, finishes, if_fits, on_abort, on_commit, on_commit_prepared, on_event, on_exec, on_forget, on_message, on_prepare, once, promises, raised, repeats, takes, unless_below, was_prepared}
+use Rattle.gx_rules.specs.Fits.{fits_exec}
+use Rattle.gx_rules.specs.Machine.{kept_item}
+use Rattle.gx_rules.specs.Maps.{with_at}
+use Rattle.gx_rules.specs.Segments.{Local, Phase, Seg, SegTurn, Version, local_of, stays, tells, tells_kept}
+use Rattle.gx_rules.specs.Segments.Phase.{Aborted, Committed, Forgotten, Prepared, Reading, Writing}
+use Rattle.gx_rules.specs.Shown.{kept_of, kept_one, last_images, shown}
+use Rattle.gx_rules.specs.Slices.{Moved, first_fault, inserted, inserts, inserts_row, runs_slice, selects}
+use Rattle.gx_law_order.proofs.Lists.{Each}
+use Rattle.gx_law_order.proofs.Stages.{gx}
+
+-- WHAT THE MARKS SAY
+abbrev pub writes_at : Node → List Mark → List Version
+writes_at node [] = []
+writes_at node (mark.Write g c n table rid image ∷ ms) =
+    if is_same_node n node then record { gxid = g; cid = c; table = table; rid = rid; image = image } ∷ writes_at node ms else writes_at node ms
+writes_at node (_ ∷ ms) = writes_at node ms
+
+pub writes-append : (node : Node) (xs ys : List Mark) → writes_at node (xs ++ ys) ≡ writes_at node xs ++ writes_at node ys
+writes-append node [] ys = refl
+writes-append node (mark.Write g c n table rid image ∷ xs) ys = by_test (is_same_node n node) (writes-append node xs ys)
+  where
+    v : Version
+    v = record { gxid = g; cid = c; table = table; rid = rid; image = image }
+
+    by_test : (b : Bool) → writes_at node (xs ++ ys) ≡ writes_at node xs ++ writes_at node ys → (if b then v ∷ writes_at node (xs ++ ys) else writes_at node (xs ++ ys)) ≡ (if b then v ∷ writes_at node xs else writes_at node xs) ++ writes_at node ys
+    by_test true e = ap (λ vs. v ∷ vs) e
+    by_test false e = e
+writes-append node (m ∷ xs) ys = writes-append node xs ys
+
+kept-is : (node : Node) (g : Gxid) (k : List Kept) (ms : List Mark) → kept_from node g k ms ≡ fold kept_one k (filter (λ (v : Version). is_same_gxid v.gxid g) (writes_at node ms))
+kept-is node g k [] = refl
+kept-is node g k (mark.Write h c n table rid image ∷ ms) = by_tests (is_same_node n node) (is_same_gxid h g) refl (kept-is node g k ms) (kept-is node g (kept_with (record { rid = rid; table = table; image = image }) k) ms)
+  where
+    v : Version
+    v = record { gxid = h; cid = c; table = table; rid = rid; image = image }
+
+    new : Kept
+    new = record { rid = rid; table = table; image = image }
+
+    by_tests : (a b : Bool) → is_same_gxid h g ≡ b → kept_from node g k ms ≡ fold kept_one k (filter (λ (v : Version). is_same_gxid v.gxid g) (writes_at node ms)) → kept_from node g (kept_with new k) ms ≡ fold kept_one (kept_with new k) (filter (λ (v : Version). is_same_gxid v.gxid g) (writes_at node ms)) → kept_from node g (if b && a then kept_with new k else k) ms ≡ fold kept_one k (filter (λ (v : Version). is_same_gxid v.gxid g) (if a then v ∷ writes_at node ms else writes_at node ms))
+    by_tests true true e old more = more ∙ ap (λ q. fold kept_one k (cond q (v ∷ filter (λ (v : Version). is_same_gxid v.gxid g) (writes_at node ms)) (filter (λ (v : Version). is_same_gxid v.gxid g) (writes_at node ms)))) (sym e)
+    by_tests true false e old more = old ∙ ap (λ q. fold kept_one k (cond q (v ∷ filter (λ (v : Version). is_same_gxid v.gxid g) (writes_at node ms)) (filter (λ (v : Version). is_same_gxid v.gxid g) (writes_at node ms)))) (sym e)
+    by_tests false true e old more = old
+    by_tests false false e old more = old
+kept-is node g k (m ∷ ms) = kept-is node g k ms
+
+pub prepared-append : (xs ys : List Mark) (node : Node) (g : Gxid) → is_prepared (xs ++ ys) node g ≡ is_prepared xs node g || is_prepared ys node g
+prepared-append [] ys node g = refl
+prepared-append (mark.Prepared n h ∷ xs) ys node g = ap (λ b. (is_same_node n node && is_same_gxid h g) || b) (prepared-append xs ys node g) ∙ or-or (is_same_node n node && is_same_gxid h g) (is_prepared xs node g) (is_prepared ys node g)
+  where
+    or-or : (a b c : Bool) → (a || (b || c)) ≡ ((a || b) || c)
+    or-or true b c = refl
+    or-or false b c = refl
+prepared-append (m ∷ xs) ys node g = prepared-append xs ys node g
+
+pub items-append : (node : Node) (before xs ys : List Mark) → items_from node before (xs ++ ys) ≡ items_from node before xs ++ items_from node (before ++ xs) ys
+items-append node before [] ys = ap (λ m. items_from node m ys) (sym (append-nil before))
+items-append node before (m ∷ xs) ys =
+    ap (λ q. item_of node before m ++ q) (items-append node (before ++ m ∷ []) xs ys ∙ ap (λ q. items_from node (before ++ m ∷ []) xs ++ items_from node q ys) (append_assoc before (m ∷ []) xs))
+    ∙ sym (append_assoc (item_of node before m) (items_from node (before ++ m ∷ []) xs) (items_from node (before ++ m ∷ xs) ys))
+
+-- marks that stand for no item
+abbrev pub Dull : Mark → Type 0
+Dull (mark.Prepared n g) = ⊥
+Dull (mark.LocalCommit n g) = ⊥
+Dull (mark.Decided g) = ⊥
+Dull _ = Unit {0}
+
+pub dull-items : (node : Node) (before ms : List Mark) → Each Dull ms → items_from node before ms ≡ []
+dull-items node before [] e = refl
+dull-items node before (mark.Prepared n g ∷ ms) e = absurd e.0
+dull-items node before (mark.LocalCommit n g ∷ ms) e = absurd e.0
+dull-items node before (mark.Decided g ∷ ms) e = absurd e.0
+dull-items node before (m ∷ ms) e = dull-items node (before ++ m ∷ []) ms e.1
+
+pub dull-prepared : (ms : List Mark) (node : Node) (g : Gxid) → Each Dull ms → is_prepared ms node g ≡ false
+dull-prepared [] node g e = refl
+dull-prepared (mark.Prepared n h ∷ ms) node g e = absurd e.0
+dull-prepared (m ∷ ms) node g e = dull-prepared ms node g e.1
+
+-- WHAT A SEGMENT KEEPS OF THEM
+-- who has promised stands there as prepared, and who runs hasn't promised
+abbrev pub Bound : Bool → Phase → Type 0
+Bound b Reading = b ≡ false
+Bound b Writing = b ≡ false
+Bound b Prepared = b ≡ true
+Bound b _ = Unit {0}
+
+pub record Holds (node : Node) (s : Seg) (before : List Mark) : Type 0 where
+  pub versions : s.versions ≡ writes_at node before
+  pub bound : (h : ℕ) → Bound (is_prepared before node (gx h)) (s.locals h).phase
+
+pub record Items (node : Node) (before : List Mark) (fails : Bool) (turn : SegTurn) : Type 0 where
+  pub items : items_from node before turn.marks ≡ kept_item fails turn.item
+  pub holds : Holds node turn.seg (before ++ turn.marks)
+
+node-self : (n : Node) → is_same_node n n ≡ true
+node-self n = grind (arith, nat_tests)
+
+bound-with : (f : ℕ → Local) (g : ℕ) (l : Local) (b : ℕ → Bool) → ((h : ℕ) → Bound (b h) (f h).phase) → Bound (b g) l.phase → (h : ℕ) → Bound (b h) (with_at f g l h).phase
+bound-with f g l b all one h = by_test (eqb h g) refl
+  where
+    by_test : (q : Bool) → eqb h g ≡ q → Bound (b h) (if q then l else f h).phase
+    by_test true e = subst (λ j. Bound (b j) l.phase) (sym (eqb-true h g e)) one
+    by_test false e = all h
+
+module _ (script : Script) (s : Seg) (before : List Mark) (k : Holds s.node s before) where
+  abbrev Well : Bool → SegTurn → Type 0
+  Well fails turn = Items s.node before fails turn
+
+  kept-same : (g : Gxid) → kept_at s.node g before ≡ kept_of s g
+  kept-same g = kept-is s.node g [] before ∙ ap (λ vs. last_images (filter (λ (v : Version). is_same_gxid v.gxid g) vs)) (sym k.versions)
+
+  -- no promise, no write
+  same-prepared : (ms : List Mark) → Each Dull ms → (h : ℕ) → is_prepared (before ++ ms) s.node (gx h) ≡ is_prepared before s.node (gx h)
+  same-prepared ms e h = prepared-append before ms s.node (gx h) ∙ ap (λ q. is_prepared before s.node (gx h) || q) (dull-prepared ms s.node (gx h) e) ∙ or-false (is_prepared before s.node (gx h))
+    where
+      or-false : (a : Bool) → (a || false) ≡ a
+      or-false true = refl
+      or-false false = refl
+
+  -- the transaction's record changes, and nothing is written
+  dull-turn : (fails : Bool) (turn : SegTurn) → Each Dull turn.marks → writes_at s.node turn.marks ≡ [] → kept_item fails turn.item ≡ [] → turn.seg.versions ≡ s.versions → ((h : ℕ) → Bound (is_prepared before s.node (gx h)) (turn.seg.locals h).phase) → Well fails turn
+  dull-turn fails turn e w i v b =
+      record {
+        items = dull-items s.node before turn.marks e ∙ sym i;
+        holds = record {
+          versions = v ∙ k.versions ∙ sym (writes-append s.node before turn.marks ∙ ap (λ vs. writes_at s.node before ++ vs) w ∙ append-nil (writes_at s.node before));
+          bound = λ h. subst (λ q. Bound q (turn.seg.locals h).phase) (sym (same-prepared turn.marks e h)) (b h);
+        };
+      }
+
+  none-kept : (fails : Bool) → kept_item fails None ≡ []
+  none-kept true = refl
+  none-kept false = refl
+
+  stay : (fails : Bool) → Well fails (stays s)
+  stay fails = dull-turn fails (stays s) tt refl (none-kept fails) refl k.bound
+
+  tell : (fails : Bool) (g : Gxid) (r : Reply) → Well fails (tells s g r)
+  tell fails g r = dull-turn fails (tells s g r) tt refl (none-kept fails) refl k.bound
+
+  kept : (fails : Bool) (g : Gxid) (r : Option Reply) → Well fails (tells_kept s g r)
+  kept fails g None = stay fails
+  kept fails g (Some r) = tell fails g r
+
+  both : (fails : Bool) (b : Bool) (x y : SegTurn) → Well fails x → Well fails y → Well fails (if b then x else y)
+  both fails true x y e f = e
+  both fails false x y e f = f
+
+  -- slices
+  select : (fails : Bool) (h g : Gxid) (c : Cid) (q : Query) (rows : List KeyedRow) (f : Option (KeyedRow × ArithFault)) → Well fails (selects (raised s h) g c q rows f)
+  select fails h g c q rows None = dull-turn fails _ tt refl (none-kept fails) refl (bound-with s.locals g.0 _ (λ i. is_prepared before s.node (gx i)) k.bound (k.bound g.0))
+  select fails h g c q rows (Some f) = dull-turn fails _ (tt, tt) refl (none-kept fails) refl (bound-with s.locals g.0 _ (λ i. is_prepared before s.node (gx i)) k.bound (k.bound g.0))
+
+  pub record Added (g : Gxid) (m : Moved) : Type 0 where
+    pub node : m.seg.node ≡ s.node
+    pub dull : Each Dull m.marks
+    pub versions : m.seg.versions ≡ s.versions ++ writes_at s.node m.marks
+    pub bound : (h : ℕ) → Bound (is_prepared before s.node (gx h)) (m.seg.locals h).phase
+
+  each-last : (ms : List Mark) (m : Mark) → Each Dull ms → Dull m → Each Dull (ms ++ m ∷ [])
+  each-last [] m e f = (f, tt)
+  each-last (x ∷ xs) m e f = (e.0, each-last xs m e.1 f)
+
+  add-row : (g : Gxid) (c : Cid) (table : Table) (m : Moved) (r : KeyedRow) → is_prepared before s.node g ≡ false → Added g m → Added g (inserts_row g c table m r)
+  add-row g c table m r n f =
+      record {
+        node = f.node;
+        dull = each-last m.marks _ f.dull tt;
+        versions = ap (λ vs. vs ++ v ∷ []) f.versions ∙ append_assoc s.versions (writes_at s.node m.marks) (v ∷ []) ∙ ap (λ vs. s.versions ++ vs) (sym (writes-append s.node m.marks (mark.Write g c m.seg.node table r.rid (Some r.row) ∷ []) ∙ ap (λ vs. writes_at s.node m.marks ++ vs) here));
+        bound = bound-with m.seg.locals g.0 _ (λ i. is_prepared before s.node (gx i)) f.bound n;
+      }
+    where
+      v : Version
+      v = record { gxid = g; cid = c; table = table; rid = r.rid; image = Some r.row }
+
+      here : writes_at s.node (mark.Write g c m.seg.node table r.rid (Some r.row) ∷ []) ≡ v ∷ []
+      here = ap (λ q. if q then v ∷ [] else []) (ap (λ z. is_same_node z s.node) f.node ∙ node-self s.node)
+
+  add-rows : (g : Gxid) (c : Cid) (table : Table) (rows : List KeyedRow) (m : Moved) → is_prepared before s.node g ≡ false → Added g m → Added g (fold (inserts_row g c table) m rows)
+  add-rows g c table [] m n f = f
+  add-rows g c table (r ∷ rs) m n f = add-rows g c table rs (inserts_row g c table m r) n (add-row g c table m r n f)
+
+  insert : (fails : Bool) (g : Gxid) (c : Cid) (count : ℕ) (m : Moved) → Added g m → Well fails (inserts g c count m)
+  insert fails g c count m f =
+      record {
+        items = dull-items s.node before m.marks f.dull ∙ sym (none-kept fails);
+        holds = record {
+          versions = f.versions ∙ ap (λ vs. vs ++ writes_at s.node m.marks) k.versions ∙ sym (writes-append s.node before m.marks);
+          bound = λ h. subst (λ q. Bound q ((inserts g c count m).seg.locals h).phase) (sym (same-prepared m.marks f.dull h)) (bound-with m.seg.locals g.0 _ (λ i. is_prepared before s.node (gx i)) f.bound (f.bound g.0) h);
+        };
+      }
+
+  slice_runs : (fails : Bool) (h g : Gxid) (c : Cid) (snapshot : Option Snapshot) (x : Slice) → is_prepared before s.node g ≡ false → Well fails (runs_slice (raised s h) g c snapshot x)
+  slice_runs fails h g c (Some snapshot) (slice.Select q) n = select fails h g c q (shown (raised s h) snapshot g c q.table) (first_fault q.cond (shown (raised s h) snapshot g c q.table))
+  slice_runs fails h g c (Some snapshot) (slice.Insert table rows) n =
+      insert fails g c (length rows) (inserted (raised s h) g c table rows) (add-rows g c table rows (record { seg = raised s h; marks = [] }) n (record { node = refl; dull = tt; versions = sym (append-nil s.versions); bound = k.bound }))
+  slice_runs fails h g c snapshot x n = dull-turn fails (stays (raised s h)) tt refl (none-kept fails) refl k.bound
+
+  repeat : (fails : Bool) (g : Gxid) (c : Cid) (l : Local) → Well fails (repeats s g c l)
+  repeat fails g c l = both fails (c.0 == l.last) _ _ (kept fails g l.answer) (stay fails)
+
+  take : (fails : Bool) (g : Gxid) (c : Cid) (snapshot : Option Snapshot) (h : Gxid) (x : Slice) (l : Local) → is_prepared before s.node g ≡ false → Well fails (takes s g c snapshot h x l)
+  take fails g c snapshot h x l n = both fails (nat_lt l.last c.0) _ _ (slice_runs fails h g c snapshot x n) (repeat fails g c l)
+
+  exec : (fails : Bool) (g : Gxid) (c : Cid) (snapshot : Option Snapshot) (h : Gxid) (x : Slice) (l : Local) (p : Phase) → Bound (is_prepared before s.node g) p → Well fails (on_exec s g c snapshot h x l p)
+  exec fails g c snapshot h x l Reading n = take fails g c snapshot h x l n
+  exec fails g c snapshot h x l Writing n = take fails g c snapshot h x l n
+  exec fails g c snapshot h x l Prepared n = repeat fails g c l
+  exec fails g c snapshot h x l Committed n = repeat fails g c l
+  exec fails g c snapshot h x l (Forgotten b) n = stay fails
+  exec fails g c snapshot h x l Aborted n = stay fails
+
+  -- endings
+  changed : (fails : Bool) (g : Gxid) (l : Local) (ms : List Mark) (r : Reply) (it : Option JournalItem) → Each Dull ms → writes_at s.node ms ≡ [] → kept_item fails it ≡ [] → Bound (is_prepared before s.node g) l.phase → Well fails (changes s g l ms r it)
+  changed fails g l ms r it e w i b = dull-turn fails (changes s g l ms r it) e w i refl (bound-with s.locals g.0 l (λ j. is_prepared before s.node (gx j)) k.bound b)
+
+  only : (fails : Bool) (g : Gxid) (v : Option Reply) (turn : SegTurn) → Well fails turn → Well fails (once s g v turn)
+  only fails g None turn e = e
+  only fails g (Some v) turn e = tell fails g v
+
+  -- one mark that stands for an item
+  noted : (g : Gxid) (l : Local) (m : Mark) (r : Reply) (it : JournalItem) → item_of s.node before m ≡ it ∷ [] → writes_at s.node (m ∷ []) ≡ [] → ((h : ℕ) → Bound (is_prepared (before ++ m ∷ []) s.node (gx h)) (with_at s.locals g.0 l h).phase) → Well false (changes s g l (m ∷ []) r (Some it))
+  noted g l m r it e w b =
+      record {
+        items = ap (λ q. q ++ []) e;
+        holds = record { versions = k.versions ∙ sym (writes-append s.node before (m ∷ []) ∙ ap (λ vs. writes_at s.node before ++ vs) w ∙ append-nil (writes_at s.node before)); bound = b };
+      }
+
+  prepare_item : (g : Gxid) → item_of s.node before (mark.Prepared s.node g) ≡ item.Prepare g (kept_of s g) ∷ []
+  prepare_item g = ap (λ q. if q then item.Prepare g (kept_at s.node g before) ∷ [] else []) (node-self s.node) ∙ ap (λ q. item.Prepare g q ∷ []) (kept-same g)
+
+  prepared-more : (g h : ℕ) → is_prepared (before ++ mark.Prepared s.node (gx g) ∷ []) s.node (gx h) ≡ is_prepared before s.node (gx h) || eqb g h
+  prepared-more g h = prepared-append before (mark.Prepared s.node (gx g) ∷ []) s.node (gx h) ∙ ap (λ q. is_prepared before s.node (gx h) || ((q && eqb g h) || false)) (node-self s.node) ∙ ap (λ q. is_prepared before s.node (gx h) || q) (or-false (eqb g h))
+    where
+      or-false : (a : Bool) → (a || false) ≡ a
+      or-false true = refl
+      or-false false = refl
+
+  promise : (fails : Bool) (g : Gxid) (l : Local) → Bound (is_prepared before s.node g) l.phase → Well fails (promises s g fails l)
+  promise true g l b = changed true g _ (mark.JournalFailed s.node g ∷ []) _ _ (tt, tt) refl refl b
+  promise false g l b = noted g _ (mark.Prepared s.node g) _ (item.Prepare g (kept_of s g)) (prepare_item g) refl bounds
+    where
+      new : Local
+      new = record l { phase = Prepared; vote = Some answer.Prepared }
+
+      or-true : (a : Bool) {b : Bool} → b ≡ true → (a || b) ≡ true
+      or-true true e = refl
+      or-true false e = e
+
+      or-false : (a b : Bool) → b ≡ false → a ≡ (a || b)
+      or-false a b e = grind arith
+
+      back : (a b : ℕ) (q : Bool) → eqb a b ≡ q → eqb b a ≡ q
+      back a b q e = grind (arith, nat_tests)
+
+      by_test : (h : ℕ) (q : Bool) → eqb h g.0 ≡ q → Bound (is_prepared (before ++ mark.Prepared s.node g ∷ []) s.node (gx h)) (if q then new else s.locals h).phase
+      by_test h true e = prepared-more g.0 h ∙ or-true (is_prepared before s.node (gx h)) (back h g.0 true e)
+      by_test h false e = subst (λ q. Bound q (s.locals h).phase) (or-false (is_prepared before s.node (gx h)) (eqb g.0 h) (back h g.0 false e) ∙ sym (prepared-more g.0 h)) (k.bound h)
+
+      bounds : (h : ℕ) → Bound (is_prepared (before ++ mark.Prepared s.node g ∷ []) s.node (gx h)) (with_at s.locals g.0 new h).phase
+      bounds h = by_test h (eqb h g.0) refl
+
+  commit_item : (g : Gxid) → is_prepared before s.node g ≡ false → item_of s.node before (mark.LocalCommit s.node g) ≡ item.Commit g (kept_of s g) ∷ []
+  commit_item g n =
+      ap (λ q. if q then (if is_prepared before s.node g then item.Finish g ∷ [] else item.Commit g (kept_at s.node g before) ∷ []) else []) (node-self s.node)
+      ∙ ap (λ q. if q then item.Finish g ∷ [] else item.Commit g (kept_at s.node g before) ∷ []) n ∙ ap (λ q. item.Commit g q ∷ []) (kept-same g)
+
+  finish_item : (g : Gxid) → is_prepared before s.node g ≡ true → item_of s.node before (mark.LocalCommit s.node g) ≡ item.Finish g ∷ []
+  finish_item g n =
+      ap (λ q. if q then (if is_prepared before s.node g then item.Finish g ∷ [] else item.Commit g (kept_at s.node g before) ∷ []) else []) (node-self s.node)
+      ∙ ap (λ q. if q then item.Finish g ∷ [] else item.Commit g (kept_at s.node g before) ∷ []) n
+
+  commit-bound : (g : Gxid) (l : Local) → Bound (is_prepared before s.node g) l.phase → (h : ℕ) → Bound (is_prepared (before ++ mark.LocalCommit s.node g ∷ []) s.node (gx h)) (with_at s.locals g.0 l h).phase
+  commit-bound g l b h = subst (λ q. Bound q (with_at s.locals g.0 l h).phase) (sym (prepared-append before (mark.LocalCommit s.node g ∷ []) s.node (gx h) ∙ or-false (is_prepared before s.node (gx h)))) (bound-with s.locals g.0 l (λ j. is_prepared before s.node (gx j)) k.bound b h)
+    where
+      or-false : (a : Bool) → (a || false) ≡ a
+      or-false true = refl
+      or-false false = refl
+
+  commit_one : (fails : Bool) (g : Gxid) (l : Local) → is_prepared before s.node g ≡ false → Bound (is_prepared before s.node g) l.phase → Well fails (commits s g fails l)
+  commit_one true g l n b = changed true g _ (mark.JournalFailed s.node g ∷ []) _ _ (tt, tt) refl refl b
+  commit_one false g l n b = noted g _ (mark.LocalCommit s.node g) _ (item.Commit g (kept_of s g)) (commit_item g n) refl (commit-bound g (record l { phase = Committed; vote = Some answer.Committed }) tt)
+
+  finish : (fails : Bool) (g : Gxid) (l : Local) → is_prepared before s.node g ≡ true → Bound (is_prepared before s.node g) l.phase → Well fails (finishes s g fails l)
+  finish true g l n b = changed true g l (mark.JournalFailed s.node g ∷ []) _ _ (tt, tt) refl refl b
+  finish false g l n b = noted g _ (mark.LocalCommit s.node g) _ (item.Finish g) (finish_item g n) refl (commit-bound g (record l { phase = Committed }) tt)
+
+  prepare : (fails : Bool) (g : Gxid) (l : Local) (p : Phase) → l.phase ≡ p → Bound (is_prepared before s.node g) p → Well fails (on_prepare s g fails l p)
+  prepare fails g l Reading e b = only fails g l.vote _ (promise fails g l (subst (Bound (is_prepared before s.node g)) (sym e) b))
+  prepare fails g l Writing e b = only fails g l.vote _ (promise fails g l (subst (Bound (is_prepared before s.node g)) (sym e) b))
+  prepare fails g l Prepared e b = kept fails g l.vote
+  prepare fails g l Committed e b = kept fails g l.vote
+  prepare fails g l (Forgotten q) e b = kept fails g l.vote
+  prepare fails g l Aborted e b = stay fails
+
+  commit : (fails : Bool) (g : Gxid) (l : Local) (p : Phase) → l.phase ≡ p → Bound (is_prepared before s.node g) p → Well fails (on_commit s g fails l p)
+  commit fails g l Reading e b = only fails g l.vote _ (commit_one fails g l b (subst (Bound (is_prepared before s.node g)) (sym e) b))
+  commit fails g l Writing e b = only fails g l.vote _ (commit_one fails g l b (subst (Bound (is_prepared before s.node g)) (sym e) b))
+  commit fails g l Prepared e b = stay fails
+  commit fails g l Committed e b = both fails (was_prepared l.vote) _ _ (stay fails) (kept fails g l.vote)
+  commit fails g l (Forgotten q) e b = both fails (was_prepared l.vote) _ _ (stay fails) (kept fails g l.vote)
+  commit fails g l Aborted e b = stay fails
+
+  commit_prepared : (fails : Bool) (g : Gxid) (l : Local) (p : Phase) → l.phase ≡ p → Bound (is_prepared before s.node g) p → Well fails (on_commit_prepared s g fails l p)
+  commit_prepared fails g l Reading e b = stay fails
+  commit_prepared fails g l Writing e b = stay fails
+  commit_prepared fails g l Prepared e b = finish fails g l b (subst (Bound (is_prepared before s.node g)) (sym e) b)
+  commit_prepared fails g l Committed e b = tell fails g _
+  commit_prepared fails g l (Forgotten true) e b = tell fails g _
+  commit_prepared fails g l (Forgotten false) e b = stay fails
+  commit_prepared fails g l Aborted e b = stay fails
+
+  abort : (fails : Bool) (g : Gxid) (l : Local) (p : Phase) → Well fails (on_abort s g l p)
+  abort fails g l Reading = changed fails g _ [] _ None tt refl (none-kept fails) tt
+  abort fails g l Writing = changed fails g _ [] _ None tt refl (none-kept fails) tt
+  abort fails g l Prepared = changed fails g _ [] _ None tt refl (none-kept fails) tt
+  abort fails g l Committed = stay fails
+  abort fails g l (Forgotten b) = stay fails
+  abort fails g l Aborted = tell fails g _
+
+  forget : (fails : Bool) (g : Gxid) (l : Local) (p : Phase) → Well fails (on_forget s g l p)
+  forget fails g l Reading = changed fails g _ [] _ None tt refl (none-kept fails) tt
+  forget fails g l Writing = changed fails g _ [] _ None tt refl (none-kept fails) tt
+  forget fails g l Prepared = changed fails g _ [] _ None tt refl (none-kept fails) tt
+  forget fails g l Committed = changed fails g _ [] _ None tt refl (none-kept fails) tt
+  forget fails g l (Forgotten b) = tell fails g _
+  forget fails g l Aborted = stay fails
+
+  below : (fails : Bool) (g : Gxid) (turn : SegTurn) → Well fails turn → Well fails (unless_below s g turn)
+  below fails g turn e = both fails (is_below s.horizon g) _ _ (stay fails) e
+
+  fits : (fails : Bool) (b : Bool) (turn : SegTurn) → Well fails turn → Well fails (if_fits s b turn)
+  fits fails true turn e = e
+  fits fails false turn e = stay fails
+
+  message_items : (fails : Bool) (m : Message) → Well fails (on_message script s fails m)
+  message_items fails (message.Exec g c level snapshot h x) = below fails g _ (fits fails (fits_exec script s g c snapshot h x) _ (exec fails g c snapshot h x (local_of s g) (local_of s g).phase (k.bound g.0)))
+  message_items fails (message.Prepare g) = below fails g _ (prepare fails g (local_of s g) (local_of s g).phase refl (k.bound g.0))
+  message_items fails (message.Commit g) = below fails g _ (commit fails g (local_of s g) (local_of s g).phase refl (k.bound g.0))
+  message_items fails (message.CommitPrepared g) = below fails g _ (commit_prepared fails g (local_of s g) (local_of s g).phase refl (k.bound g.0))
+  message_items fails (message.Abort g) = below fails g _ (abort fails g (local_of s g) (local_of s g).phase)
+  message_items fails (message.Forget g) = below fails g _ (forget fails g (local_of s g) (local_of s g).phase)
+  message_items fails (message.Collect round) = stay fails
+  message_items fails (message.Answer g r) = stay fails
+  message_items fails (message.Graph round graph) = stay fails
+
+  pub event_items : (x : NodeEvent) (fails : Bool) → Well fails (on_event script s x fails)
+  event_items (event.Deliver from envelope) fails = message_items fails envelope.message
+  event_items (event.Resume g) fails = stay fails
+  event_items (event.Start x) fails = stay fails
+  event_items (event.End x) fails = stay fails
+  event_items (event.Resend i g) fails = stay fails
+  event_items event.Round fails = stay fails

@@ -1,0 +1,144 @@
+-- A command that a segment has still to run sees whoever is below the horizon.
+use Rattle.std.proofs.Common.{◌≡◌, ◌≤◌, ◌<◌, ℕ, List, [], ◌∷◌, Option, Some, None, Bool, true, false, refl, sym, subst, ap, ◌∙◌, if◌then◌else◌, ◌||◌, ltb, arith}
+use Rattle.std.proofs.lemmas.Bool.Decides.{nat_tests}
+use Rattle.std.specs.Prelude.{nat_le}
+use Rattle.gx_ids.specs.declared.ids.Cid.{Cid}
+use Rattle.gx_ids.specs.declared.ids.Gxid.{Gxid}
+use Rattle.gx_ids.specs.declared.ids.Node.{Node}
+use Rattle.gx_dsnap.specs.Gxids.{is_below}
+use Rattle.gx_dsnap.specs.Snapshot.{sees}
+use Rattle.gx_dsnap.specs.declared.snapshot.Snapshot.{Snapshot}
+use Rattle.gx_dtx.specs.Lives.{live_of}
+use Rattle.gx_dtx.specs.Table.{find_txn, horizon_of}
+use Rattle.gx_dtx.specs.declared.txn.Txn.{Txn}
+use Rattle.gx_dtx.proofs.Low.{live_found-low}
+use Rattle.gx_msg.specs.declared.message.Message.{Message}
+use Rattle.gx_msg.specs.declared.message.Message.TheVariants as message
+use Rattle.gx_script.specs.declared.Script.{Script}
+use Rattle.gx_store.specs.Points.{marks_in}
+use Rattle.gx_rules.specs.AtSegment.{raised}
+use Rattle.gx_rules.specs.Coordinators.{Command}
+use Rattle.gx_rules.specs.Machine.{Letter, World}
+use Rattle.gx_law_order.proofs.Lists.{Each}
+use Rattle.gx_law_order.proofs.Sessions.{stage_of}
+use Rattle.gx_law_order.proofs.Stages.{gx}
+use Rattle.gx_law_order.proofs.Statuses.{Stage, is_running, stage}
+use Rattle.gx_law_order.proofs.Statuses.Stage.{Live as Running}
+use Rattle.gx_law_order.proofs.World.{Knows}
+use Rattle.gx_law_commit.specs.Said.{IsCommand, Said, SaidIn, gxid_in, is_answer}
+use Rattle.gx_law_commit.specs.Standings.{Known, Part, Standing, at, known_at, standing, standing_in}
+use Rattle.gx_law_commit.specs.Standings.Standing.{Unborn, Over, Live}
+use Rattle.gx_law_commit.proofs.Everywhere.{Holds, parts_in}
+use Rattle.gx_law_reads.specs.Horizons.{IsLowIn, IsNobodyDropped, IsSeenBelow}
+use Rattle.gx_law_reads.proofs.Held.{Held}
+use Rattle.gx_law_reads.proofs.Reading.{FineIn}
+use Rattle.gx_law_reads.proofs.Low.{LetterLow, Lows, drawn-is, live-standing, raised-under}
+use Rattle.gx_law_reads.proofs.Taken.{closing-taken}
+use Rattle.gx_law_reads.proofs.Ends.{Facts, TakenAt}
+use Rattle.gx_store.specs.Marks.{is_aborted, is_committed}
+use Rattle.gx_law_order.proofs.Statuses.Stage.{Absent, Closing, Dropped, Finished}
+
+-- a command that its segment has still to run is the one under way, and its snapshot's xmin lives
+module _ (script : Script) (w : World) (k : Knows script w) (v : Holds script w) (facts : Facts w) where
+  abbrev q : Lows w
+  q = facts.lows
+
+  -- a transaction that isn't aborted, of which a command is still to run, runs its commands
+  runs-still : (i : ℕ) (g : Gxid) (c : Cid) → IsCommand (known_at w.coord (marks_in w.steps) i g.0) (parts_in w i g.0) c.0 → 1 ≤ g.0 → (is_committed (marks_in w.steps) (gx g.0) ≡ true → c.0 ≤ ((w.segs i).locals g.0).last) → is_aborted (marks_in w.steps) g ≡ false → ((w.segs i).locals g.0).last < c.0 → stage (find_txn w.coord.table (gx g.0)) ≡ Running
+  runs-still i g c s one taken unaborted new = by_stage (stage (find_txn w.coord.table (gx g.0))) refl
+    where
+      over : (a b : ℕ) → a < b → b ≤ a → ⊥
+      over a b l m = omega arith
+
+      clash : (b : Bool) → b ≡ false → b ≡ true → ⊥
+      clash b e f = grind arith
+
+      left : (a b : Bool) → b ≡ false → (a || b) ≡ true → a ≡ true
+      left a b e f = grind arith
+
+      drawn : g.0 < w.coord.table.next.0
+      drawn = drawn-is script w k g.0 i s.drawn
+
+      over-now : is_running (stage_of w.coord g.0) ≡ false → ⊥
+      over-now e = over ((w.segs i).locals g.0).last c.0 new (taken (left (is_committed (marks_in w.steps) g) (is_aborted (marks_in w.steps) g) unaborted (k.past.ended g.0 one drawn e)))
+
+      by_stage : (a : Stage) → stage (find_txn w.coord.table (gx g.0)) ≡ a → a ≡ Running
+      by_stage Running e = refl
+      by_stage Closing e = absurd (over ((w.segs i).locals g.0).last c.0 new (closing-taken script w k v q g.0 e i c.0 s))
+      by_stage Finished e = absurd (over-now (ap is_running e))
+      by_stage Absent e = absurd (over-now (ap is_running e))
+      by_stage Dropped e = absurd (clash (is_aborted (marks_in w.steps) g) unaborted (k.past.dropped g.0 e))
+
+  module _ (i : ℕ) (g : Gxid) (c : Cid) (s : IsCommand (known_at w.coord (marks_in w.steps) i g.0) (parts_in w i g.0) c.0) (live : stage (find_txn w.coord.table (gx g.0)) ≡ Running) (new : ((w.segs i).locals g.0).last < c.0) where
+    abbrev kn : Known
+    kn = known_at w.coord (marks_in w.steps) i g.0
+
+    standing-is : kn.at ≡ Live
+    standing-is = live-standing script w k g.0 i live (nat_le w.coord.table.next.0 g.0)
+
+    over : (a b : ℕ) → a < b → b ≤ a → ⊥
+    over a b l m = omega arith
+
+    is-last : c.0 ≡ (w.coord.works g.0).last
+    is-last = equal c.0 (w.coord.works g.0).last (s.last standing-is) (λ l. over ((w.segs i).locals g.0).last c.0 new (s.older standing-is l))
+      where
+        equal : (a b : ℕ) → a ≤ b → (a < b → ⊥) → a ≡ b
+        equal a b l n = by_test (ltb a b) refl
+          where
+            less : (a b : ℕ) → ltb a b ≡ true → a < b
+            less a b e = grind (arith, nat_tests)
+
+            same : (a b : ℕ) → a ≤ b → ltb a b ≡ false → a ≡ b
+            same a b l e = grind (arith, nat_tests)
+
+            by_test : (t : Bool) → ltb a b ≡ t → a ≡ b
+            by_test true e = absurd (n (less a b e))
+            by_test false e = same a b l e
+
+    -- and its command is under way
+    pub under-way : (m : Option Command) → (w.coord.works g.0).command ≡ m → (z : Command) × ((w.coord.works g.0).command ≡ Some z) × (z.cid.0 ≡ c.0)
+    under-way None e = absurd (over ((w.segs i).locals g.0).last c.0 new (s.taken standing-is (ap (λ o. Rattle.gx_law_commit.specs.Standings.waits_in o i) e)))
+    under-way (Some z) e = (z, e, (subst (Rattle.gx_law_commit.proofs.Ways.CommandOf g.0 (w.coord.works g.0).last) e (v.stands.works g.0).command).0 ∙ sym is-last)
+
+  pub low-seen : (limit : Gxid) (x : Snapshot) (y : ℕ) → limit.0 ≤ y → ((h : ℕ) → 1 ≤ h → h < y → sees x (gx h) ≡ true) → (h : Gxid) → 1 ≤ h.0 → (is_below limit h || sees x h) ≡ sees x h
+  low-seen limit x y l f h one = by_test (is_below limit h) refl
+    where
+      less : (a b c : ℕ) → ltb a b ≡ true → b ≤ c → a < c
+      less a b c e l = grind (arith, nat_tests)
+
+      by_test : (b : Bool) → is_below limit h ≡ b → (b || sees x h) ≡ sees x h
+      by_test true e = sym (f h.0 one (less h.0 limit.0 y e l))
+      by_test false e = refl
+
+  held-seen : (g : Gxid) (limit : Gxid) (x : Snapshot) → limit.0 ≤ (horizon_of w.coord.table).0 → (o : Option Txn) → find_txn w.coord.table g ≡ o → Held (live_of o) x → (h : Gxid) → 1 ≤ h.0 → (is_below limit h || sees x h) ≡ sees x h
+  held-seen g limit x l None e held = absurd held
+  held-seen g limit x l (Some t) e held = by_live t.live refl held
+    where
+      le-trans : (a b c : ℕ) → a ≤ b → b ≤ c → a ≤ c
+      le-trans a b c l m = omega arith
+
+      by_live : (y : Option Gxid) → t.live ≡ y → Held y x → (h : Gxid) → 1 ≤ h.0 → (is_below limit h || sees x h) ≡ sees x h
+      by_live None f held = absurd held
+      by_live (Some y) f held = low-seen limit x y.0 (le-trans limit.0 (horizon_of w.coord.table).0 y.0 l (live_found-low g t y w.coord.table.txns f e w.coord.table.next)) held
+
+  seen-one : (from to : Node) (m : Message) → Said (known_at w.coord (marks_in w.steps) (if is_answer m then from.0 else to.0) (gxid_in m)) (parts_in w (if is_answer m then from.0 else to.0) (gxid_in m)) m → IsLowIn (horizon_of w.coord.table) m → FineIn w.coord.table w.coord.works m → TakenAt w to m → IsSeenBelow w to m
+  seen-one from to (message.Exec g c level (Some x) horizon slice) s low fine taken =
+      λ run. let live : stage (find_txn w.coord.table (gx g.0)) ≡ Running = runs-still to.0 g c s taken.0 taken.1 run.unaborted run.new in
+      let z = under-way to.0 g c s live run.new (w.coord.works g.0).command refl in
+      held-seen g (raised (w.segs to.0) horizon).horizon x (raised-under (horizon_of w.coord.table).0 (w.segs to.0) horizon (q.segs to.0) low) (find_txn w.coord.table g) refl (fine live z.0 z.1 z.2)
+  seen-one from to (message.Exec g c level None horizon slice) s low fine taken = tt
+  seen-one from to (message.Prepare g) s low fine taken = tt
+  seen-one from to (message.Commit g) s low fine taken = tt
+  seen-one from to (message.CommitPrepared g) s low fine taken = tt
+  seen-one from to (message.Abort g) s low fine taken = tt
+  seen-one from to (message.Forget g) s low fine taken = tt
+  seen-one from to (message.Answer g r) s low fine taken = tt
+  seen-one from to (message.Collect round) s low fine taken = tt
+  seen-one from to (message.Graph round graph) s low fine taken = tt
+
+  each-seen : (ls : List Letter) → Each (SaidIn w) ls → Each (LetterLow w.coord.table w.coord.works) ls → Each (λ (l : Letter). TakenAt w l.to l.envelope.message) ls → IsNobodyDropped w ls
+  each-seen [] a b d = tt
+  each-seen (l ∷ ls) a b d = (seen-one l.from l.to l.envelope.message a.0 b.0.0 b.0.1 d.0, each-seen ls a.1 b.1 d.1)
+
+  pub nobody-dropped : IsNobodyDropped w w.sent
+  nobody-dropped = each-seen w.sent v.said q.sent facts.ends.taken

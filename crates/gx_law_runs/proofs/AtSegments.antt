@@ -1,0 +1,139 @@
+-- What a segment's journal fails to take.
+use Rattle.std.proofs.Common.{◌==◌, Bool, true, false, if◌then◌else◌, List, [], ◌∷◌, nat_lt, refl}
+use Rattle.std.specs.Prelude.{fold, None, Option, Some}
+use Rattle.gx_ids.specs.declared.ids.Cid.{Cid}
+use Rattle.gx_ids.specs.declared.ids.Gxid.{Gxid}
+use Rattle.gx_ids.specs.declared.ids.Table.{Table}
+use Rattle.gx_tree.specs.declared.query.Query.{Query}
+use Rattle.gx_tree.specs.declared.row.KeyedRow.{KeyedRow}
+use Rattle.gx_tree.specs.declared.slice.Slice.{Slice}
+use Rattle.gx_tree.specs.declared.slice.Slice.TheVariants as slice
+use Rattle.gx_dsnap.specs.Gxids.{is_below}
+use Rattle.gx_dsnap.specs.declared.snapshot.Snapshot.{Snapshot}
+use Rattle.gx_eval.specs.declared.fault.ArithFault.{ArithFault}
+use Rattle.gx_msg.specs.declared.message.Message.{Message}
+use Rattle.gx_msg.specs.declared.message.Message.TheVariants as message
+use Rattle.gx_msg.specs.declared.reply.Reply.{Reply}
+use Rattle.gx_script.specs.declared.Script.{Script}
+use Rattle.gx_store.specs.declared.node.NodeEvent.{NodeEvent}
+use Rattle.gx_store.specs.declared.node.NodeEvent.TheVariants as here
+use Rattle.gx_rules.specs.AtSegment.{commits, finishes, if_fits, on_abort, on_commit, on_commit_prepared, on_event, on_exec, on_forget, on_message, on_prepare, once, promises, raised, repeats, seg_rule, takes, unless_below, was_prepared}
+use Rattle.gx_rules.specs.Fits.{fits_exec}
+use Rattle.gx_rules.specs.Segments.{Local, Phase, Seg, SegTurn, local_of, stays, tells_kept}
+use Rattle.gx_rules.specs.Segments.Phase.{Reading, Writing, Prepared, Committed, Forgotten, Aborted}
+use Rattle.gx_rules.specs.Shown.{shown}
+use Rattle.gx_rules.specs.Slices.{Moved, first_fault, inserts_row, runs_slice, selects}
+use Rattle.gx_law_runs.proofs.Marks.{MayFail, NoFailures, may-none, may-sent, none-append}
+
+-- SLICES
+select-none : (s : Seg) (g : Gxid) (c : Cid) (q : Query) (rows : List KeyedRow) (f : Option (KeyedRow × ArithFault)) → NoFailures (selects s g c q rows f).marks
+select-none s g c q rows None = tt
+select-none s g c q rows (Some f) = tt
+
+rows-none : (g : Gxid) (c : Cid) (table : Table) (rows : List KeyedRow) (m : Moved) → NoFailures m.marks → NoFailures (fold (inserts_row g c table) m rows).marks
+rows-none g c table [] m none = none
+rows-none g c table (row ∷ rows) m none = rows-none g c table rows (inserts_row g c table m row) (none-append m.marks _ none tt)
+
+slice-none : (s : Seg) (g : Gxid) (c : Cid) (snapshot : Option Snapshot) (x : Slice) → NoFailures (runs_slice s g c snapshot x).marks
+slice-none s g c (Some snapshot) (slice.Select q) = select-none s g c q (shown s snapshot g c q.table) (first_fault q.cond (shown s snapshot g c q.table))
+slice-none s g c (Some snapshot) (slice.Insert table rows) = rows-none g c table rows (record { seg = s; marks = [] }) tt
+slice-none s g c snapshot x = tt
+
+-- MESSAGES
+module _ (s : Seg) (g : Gxid) (fails : Bool) where
+  abbrev May : SegTurn → Type 0
+  May turn = MayFail s.node fails turn.marks
+
+  both : (b : Bool) (x y : SegTurn) → May x → May y → May (if b then x else y)
+  both true x y a b = a
+  both false x y a b = b
+
+  kept : (r : Option Reply) → May (tells_kept s g r)
+  kept None = tt
+  kept (Some r) = tt
+
+  only : (vote : Option Reply) (turn : SegTurn) → May turn → May (once s g vote turn)
+  only None turn may = may
+  only (Some vote) turn may = tt
+
+  unless : (turn : SegTurn) → May turn → May (unless_below s g turn)
+  unless turn may = both (is_below s.horizon g) (stays s) turn tt may
+
+  fitting : (b : Bool) (turn : SegTurn) → May turn → May (if_fits s b turn)
+  fitting true turn may = may
+  fitting false turn may = tt
+
+  repeat : (c : Cid) (l : Local) → May (repeats s g c l)
+  repeat c l = both (c.0 == l.last) (tells_kept s g l.answer) (stays s) (kept l.answer) tt
+
+  take : (c : Cid) (snapshot : Option Snapshot) (h : Gxid) (x : Slice) (l : Local) → May (takes s g c snapshot h x l)
+  take c snapshot h x l = both (nat_lt l.last c.0) (runs_slice (raised s h) g c snapshot x) (repeats s g c l) (may-none s.node fails (runs_slice (raised s h) g c snapshot x).marks (slice-none (raised s h) g c snapshot x)) (repeat c l)
+
+  exec : (c : Cid) (snapshot : Option Snapshot) (h : Gxid) (x : Slice) (l : Local) (p : Phase) → May (on_exec s g c snapshot h x l p)
+  exec c snapshot h x l Reading = take c snapshot h x l
+  exec c snapshot h x l Writing = take c snapshot h x l
+  exec c snapshot h x l Prepared = repeat c l
+  exec c snapshot h x l Committed = repeat c l
+  exec c snapshot h x l (Forgotten b) = tt
+  exec c snapshot h x l Aborted = tt
+
+-- these append an item
+promise : (s : Seg) (g : Gxid) (fails : Bool) (l : Local) → MayFail s.node fails (promises s g fails l).marks
+promise s g true l = (refl, refl, tt)
+promise s g false l = tt
+
+commit-one : (s : Seg) (g : Gxid) (fails : Bool) (l : Local) → MayFail s.node fails (commits s g fails l).marks
+commit-one s g true l = (refl, refl, tt)
+commit-one s g false l = tt
+
+finish : (s : Seg) (g : Gxid) (fails : Bool) (l : Local) → MayFail s.node fails (finishes s g fails l).marks
+finish s g true l = (refl, refl, tt)
+finish s g false l = tt
+
+module _ (s : Seg) (g : Gxid) (fails : Bool) where
+  prepare : (l : Local) (p : Phase) → May s g fails (on_prepare s g fails l p)
+  prepare l Reading = only s g fails l.vote (promises s g fails l) (promise s g fails l)
+  prepare l Writing = only s g fails l.vote (promises s g fails l) (promise s g fails l)
+  prepare l Aborted = tt
+  prepare l p = kept s g fails l.vote
+
+  commit : (l : Local) (p : Phase) → May s g fails (on_commit s g fails l p)
+  commit l Reading = only s g fails l.vote (commits s g fails l) (commit-one s g fails l)
+  commit l Writing = only s g fails l.vote (commits s g fails l) (commit-one s g fails l)
+  commit l Committed = both s g fails (was_prepared l.vote) (stays s) (tells_kept s g l.vote) tt (kept s g fails l.vote)
+  commit l (Forgotten b) = both s g fails (was_prepared l.vote) (stays s) (tells_kept s g l.vote) tt (kept s g fails l.vote)
+  commit l p = tt
+
+  commit-prepared : (l : Local) (p : Phase) → May s g fails (on_commit_prepared s g fails l p)
+  commit-prepared l Prepared = finish s g fails l
+  commit-prepared l (Forgotten true) = tt
+  commit-prepared l (Forgotten false) = tt
+  commit-prepared l p = tt
+
+  abort : (l : Local) (p : Phase) → May s g fails (on_abort s g l p)
+  abort l Reading = tt
+  abort l Writing = tt
+  abort l Prepared = tt
+  abort l p = tt
+
+  forget : (l : Local) (p : Phase) → May s g fails (on_forget s g l p)
+  forget l Aborted = tt
+  forget l (Forgotten b) = tt
+  forget l p = tt
+
+told : (script : Script) (s : Seg) (fails : Bool) (m : Message) → MayFail s.node fails (on_message script s fails m).marks
+told script s fails (message.Exec g c level snapshot h x) =
+    unless s g fails (if_fits s (fits_exec script s g c snapshot h x) (on_exec s g c snapshot h x (local_of s g) (local_of s g).phase)) (fitting s g fails (fits_exec script s g c snapshot h x) (on_exec s g c snapshot h x (local_of s g) (local_of s g).phase) (exec s g fails c snapshot h x (local_of s g) (local_of s g).phase))
+told script s fails (message.Prepare g) = unless s g fails (on_prepare s g fails (local_of s g) (local_of s g).phase) (prepare s g fails (local_of s g) (local_of s g).phase)
+told script s fails (message.Commit g) = unless s g fails (on_commit s g fails (local_of s g) (local_of s g).phase) (commit s g fails (local_of s g) (local_of s g).phase)
+told script s fails (message.CommitPrepared g) = unless s g fails (on_commit_prepared s g fails (local_of s g) (local_of s g).phase) (commit-prepared s g fails (local_of s g) (local_of s g).phase)
+told script s fails (message.Abort g) = unless s g fails (on_abort s g (local_of s g) (local_of s g).phase) (abort s g fails (local_of s g) (local_of s g).phase)
+told script s fails (message.Forget g) = unless s g fails (on_forget s g (local_of s g) (local_of s g).phase) (forget s g fails (local_of s g) (local_of s g).phase)
+told script s fails m = tt
+
+event-may : (script : Script) (s : Seg) (x : NodeEvent) (fails : Bool) → MayFail s.node fails (on_event script s x fails).marks
+event-may script s (here.Deliver from envelope) fails = told script s fails envelope.message
+event-may script s x fails = tt
+
+pub segment-may : (script : Script) (s : Seg) (x : NodeEvent) (fails : Bool) → MayFail s.node fails (seg_rule script s x fails).marks
+segment-may script s x fails = may-sent s.node fails (on_event script s x fails).marks (λ node. (on_event script s x fails).seg.sent) (on_event script s x fails).outs (event-may script s x fails)

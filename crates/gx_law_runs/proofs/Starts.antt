@@ -1,0 +1,217 @@
+-- What the start of a line and the end of a session make of it: it is idle, or it waits for some node's answer.
+use Rattle.std.proofs.Common.{◌≡◌, ◌≤◌, inl, inr, ℕ, ◌+◌, List, [], ◌∷◌, ◌++◌, Option, Some, None, Result, Ok, Err, Bool, true, false, refl, sym, subst, ap, ◌∙◌, if◌then◌else◌, arith, eqb}
+use Rattle.std.specs.Prelude.{is_some}
+use Rattle.gx_ids.specs.declared.ids.Cid.{Cid}
+use Rattle.gx_ids.specs.declared.ids.SessionId.{SessionId}
+use Rattle.gx_tree.specs.declared.schema.Schema.{Schema}
+use Rattle.gx_tree.specs.declared.stmt.Level.{Level}
+use Rattle.gx_tree.specs.declared.stmt.Level.TheVariants.{ReadCommitted}
+use Rattle.gx_tree.specs.declared.stmt.Stmt.{Stmt}
+use Rattle.gx_tree.specs.declared.stmt.Stmt.TheVariants as stmt
+use Rattle.gx_dsnap.specs.declared.snapshot.Snapshot.{Snapshot}
+use Rattle.gx_dtx.specs.Rules.{on_abort}
+use Rattle.gx_dtx.specs.Table.{horizon_of}
+use Rattle.gx_eval.specs.declared.fault.ArithFault.{ArithFault}
+use Rattle.gx_plan.specs.declared.piece.Piece.{Piece}
+use Rattle.gx_script.specs.declared.Script.{Script}
+use Rattle.gx_session.specs.Session.{after_line, idle_outside, line_step}
+use Rattle.gx_session.specs.declared.line_step.LineStep.{LineStep}
+use Rattle.gx_session.specs.declared.line_step.LineStep.TheVariants as step
+use Rattle.gx_session.specs.declared.state.Block.{Block}
+use Rattle.gx_session.specs.declared.state.Block.TheVariants.{Outside, Open, Failed}
+use Rattle.gx_session.specs.declared.state.Pending.{Pending}
+use Rattle.gx_store.specs.declared.mark.Mark.TheVariants as mark
+use Rattle.gx_store.specs.Writes.{dist_of}
+use Rattle.gx_rules.specs.AtCoordinator.{Reading, begins, behind, commits, dispatches, ends_in, fault_mark, goes, is_idle, kept_at, next_cid, nodes_in, on_line, order_of, order_to, orders_of, reads_by, reads_for, refusal_of, starts_line, table_of}
+use Rattle.gx_rules.specs.Coordinators.{Command, Coord, CoordTurn, Session, new_work, session_of, work_of}
+use Rattle.gx_rules.specs.Snapshots.{snapshot_of}
+use Rattle.gx_law_answers.specs.Whole.{IsWholeStmt}
+use Rattle.gx_law_order.proofs.Lines.{Asks as Admits}
+use Rattle.gx_law_order.proofs.Sessions.{Kept, is_nothing_in, is_open_in, is_working_in}
+use Rattle.gx_law_order.proofs.Stages.{gx}
+use Rattle.gx_law_commit.proofs.Dispatching.{IsLive}
+use Rattle.gx_law_commit.proofs.Events.{live-stage}
+use Rattle.gx_law_schedules.proofs.Asking.{self}
+use Rattle.gx_law_schedules.proofs.Neat.{IsDone, clash}
+use Rattle.gx_law_runs.proofs.Asked.{IsAsked, command-asked, done-unless, has-first}
+use Rattle.gx_law_runs.proofs.Plans.{IsFilled, IsPlanFull, plan-full}
+use Rattle.gx_law_runs.proofs.Turns.{Goes, commits-goes, goes-by, refused-settles}
+
+-- a command whose INSERT has a tuple
+pub command-filled : (tables : List Schema) (b : Block) (line : Stmt) (alone : Bool) → line_step b line ≡ step.Command alone → IsWholeStmt tables line → IsFilled line
+command-filled tables b (stmt.Select q) alone e w = tt
+command-filled tables b (stmt.Insert t []) alone e w = absurd w
+command-filled tables b (stmt.Insert t (x ∷ xs)) alone e w = tt
+command-filled tables b (stmt.Update t x y) alone e w = tt
+command-filled tables b (stmt.Delete t x) alone e w = tt
+command-filled tables b (stmt.Lock t m) alone e w = tt
+command-filled tables Outside (stmt.Begin l) alone e w = absurd (cc)
+command-filled tables (Open o) (stmt.Begin l) alone e w = absurd (cc)
+command-filled tables Failed (stmt.Begin l) alone e w = absurd (cc)
+command-filled tables Outside stmt.Commit alone e w = absurd (cc)
+command-filled tables (Open o) stmt.Commit alone e w = absurd (cc)
+command-filled tables Failed stmt.Commit alone e w = absurd (cc)
+command-filled tables Outside stmt.Rollback alone e w = absurd (cc)
+command-filled tables (Open o) stmt.Rollback alone e w = absurd (cc)
+command-filled tables Failed stmt.Rollback alone e w = absurd (cc)
+
+-- A COMMAND GOES OUT
+module _ (script : Script) (some : 1 ≤ script.segments) (c : Coord) (g : ℕ) where
+  -- a snapshot changes no session
+  record Reads (r : Reading) : Type 0 where
+    sessions : r.coord.sessions ≡ c.sessions
+    home : (r.coord.works g).session ≡ (c.works g).session
+
+  reads-by : (cid : Cid) (o : Option Snapshot) → Reads (reads_by c (gx g) cid (work_of c (gx g)) o)
+  reads-by cid None = record { sessions = refl; home = ap (λ (b : Bool). (if b then record (work_of c (gx g)) { snapshot = kept_at (work_of c (gx g)).level (snapshot_of c.table) } else c.works g).session) (self g) }
+  reads-by cid (Some x) = record { sessions = refl; home = refl }
+
+  reads-so : (cid : Cid) (line : Stmt) → Reads (reads_for c (gx g) cid (work_of c (gx g)) line)
+  reads-so cid (stmt.Lock t m) = record { sessions = refl; home = refl }
+  reads-so cid (stmt.Begin l) = reads-by cid _
+  reads-so cid stmt.Commit = reads-by cid _
+  reads-so cid stmt.Rollback = reads-by cid _
+  reads-so cid (stmt.Select q) = reads-by cid _
+  reads-so cid (stmt.Insert t x) = reads-by cid _
+  reads-so cid (stmt.Update t x y) = reads-by cid _
+  reads-so cid (stmt.Delete t x) = reads-by cid _
+
+  goes-so : (cid : Cid) (line : Stmt) (r : Reading) (plan : Result (List Piece) ArithFault) → IsPlanFull plan → Goes (Unit {0}) r.coord g (goes (gx g) cid line r plan)
+  goes-so cid line r (Err fault) f = inr (refused-settles (Unit {0}) r.coord g (on_abort r.coord.table (gx g)) (r.marks ++ fault_mark (gx g) cid line) (refusal_of fault))
+  goes-so cid line r (Ok []) f = absurd f
+  goes-so cid line r (Ok (p ∷ ps)) f = inl (record { sessions = λ j. refl; asked = λ b. command-asked turn.coord g m p.node own (has-first p.node (nodes_in ps)) first })
+    where
+      turn : CoordTurn
+      turn = goes (gx g) cid line r (Ok (p ∷ ps))
+
+      m : Command
+      m = record { stmt = line; cid = cid; orders = orders_of (gx g) cid (work_of r.coord (gx g)).level r.snapshot (horizon_of r.coord.table) (p ∷ ps); awaited = nodes_in (p ∷ ps); count = 0; parts = [] }
+
+      own : (turn.coord.works g).command ≡ Some m
+      own = ap (λ (b : Bool). (if b then record (work_of r.coord (gx g)) { last = cid.0; command = Some m } else r.coord.works g).command) (self g)
+
+      first : is_some (order_to p.node m.orders) ≡ true
+      first = ap (λ (b : Bool). is_some (if b then Some (order_of (gx g) cid (work_of r.coord (gx g)).level r.snapshot (horizon_of r.coord.table) p).message else order_to p.node (orders_of (gx g) cid (work_of r.coord (gx g)).level r.snapshot (horizon_of r.coord.table) ps))) (self p.node.0)
+
+  dispatch-goes : (line : Stmt) → IsFilled line → Goes (Unit {0}) c g (dispatches script c (gx g) line)
+  dispatch-goes line f =
+      let cid : Cid = next_cid (work_of c (gx g)) in
+      let r = reads-so cid line in
+      goes-by (Unit {0}) (reads_for c (gx g) cid (work_of c (gx g)) line).coord c g _ r.sessions r.home
+      (goes-so cid line (reads_for c (gx g) cid (work_of c (gx g)) line) _ (plan-full script.segments some (dist_of script.tables (table_of line)) (gx g) cid line f))
+
+-- THE SESSION
+module _ (c : Coord) (s : SessionId) where
+  pub record Stays (turn : CoordTurn) : Type 0 where
+    pub others : (j : ℕ) → eqb j s.0 ≡ false → turn.coord.sessions j ≡ c.sessions j
+    pub asked : is_idle (turn.coord.sessions s.0) ≡ false → IsAsked turn.coord (turn.coord.sessions s.0).transaction.0
+
+  -- it is idle
+  quiet : (turn : CoordTurn) (y : Session) → ((j : ℕ) → turn.coord.sessions j ≡ (if eqb j s.0 then y else c.sessions j)) → is_idle y ≡ true → Stays turn
+  quiet turn y all i =
+      record {
+        others = λ j e. all j ∙ ap (λ (b : Bool). if b then y else c.sessions j) e;
+        asked = λ e. clash (is_idle (turn.coord.sessions s.0)) (ap is_idle (all s.0 ∙ ap (λ (b : Bool). if b then y else c.sessions s.0) (self s.0)) ∙ i) e;
+      }
+
+  -- its transaction does something, from data in which this session alone has changed
+  does : (d : Coord) (g : ℕ) (turn : CoordTurn) → ((j : ℕ) → eqb j s.0 ≡ false → d.sessions j ≡ c.sessions j) → (d.works g).session ≡ s → (d.sessions s.0).transaction.0 ≡ g → Goes (Unit {0}) d g turn → Stays turn
+  does d g turn same home own (inl w) =
+      record {
+        others = λ j e. w.sessions j ∙ same j e;
+        asked = λ e. subst (IsAsked turn.coord) (sym (ap (λ (y : Session). y.transaction.0) (w.sessions s.0) ∙ own)) (w.asked tt);
+      }
+  does d g turn same home own (inr t) =
+      record {
+        others = λ j e. t.others j (ap (λ (x : SessionId). eqb j x.0) home ∙ e) ∙ same j e;
+        asked = λ e. clash (is_idle (turn.coord.sessions s.0)) (subst (λ (x : SessionId). is_idle (turn.coord.sessions x.0) ≡ true) home t.idle) e;
+      }
+
+-- LINES
+module _ (script : Script) (some : 1 ≤ script.segments) (c : Coord) (k : Kept c) (s : SessionId) (idle : is_nothing_in (session_of c s).state.pending ≡ true) where
+  abbrev block : Block
+  block = (session_of c s).state.block
+
+  abbrev own : ℕ
+  own = (session_of c s).transaction.0
+
+  own-live : is_open_in block ≡ true → IsLive c own
+  own-live opened = live-stage c own ((k.placed s.0).free opened idle)
+
+  own-home : is_open_in block ≡ true → (c.works own).session ≡ s
+  own-home opened = ap (λ n. let x : SessionId = record { 0 = n } in x) ((k.placed s.0).stands opened).1
+
+  -- it is idle, so no answer to a command is awaited
+  own-done : is_open_in block ≡ true → IsDone (c.works own).command
+  own-done opened =
+      done-unless (c.works own).command
+      (λ m e waits. not-work (session_of c s).state.pending idle (subst (λ j. is_working_in (c.sessions j).state.pending ≡ true) ((k.placed s.0).stands opened).1 ((k.tied own).awaits m e waits).1))
+    where
+      not-work : (q : Pending) → is_nothing_in q ≡ true → is_working_in q ≡ true → ⊥
+      not-work q e f = grind arith
+
+  -- where the line has led the session
+  abbrev led : LineStep → Session
+  led asked = record (session_of c s) { lines = (session_of c s).lines + 1; state = after_line block asked }
+
+  led-now : (asked : LineStep) → session_of (starts_line c s asked) s ≡ led asked
+  led-now asked = ap (λ (b : Bool). if b then led asked else session_of c s) (self s.0)
+
+  led-others : (asked : LineStep) (j : ℕ) → eqb j s.0 ≡ false → (starts_line c s asked).sessions j ≡ c.sessions j
+  led-others asked j e = ap (λ (b : Bool). if b then led asked else c.sessions j) e
+
+  -- a transaction of its own
+  abbrev fresh : LineStep → Level → Coord
+  fresh asked level = begins (starts_line c s asked) s level
+
+  fresh-at : (asked : LineStep) (level : Level) (j : ℕ) → (fresh asked level).sessions j ≡ (if eqb j s.0 then record (led asked) { transaction = c.table.next } else c.sessions j)
+  fresh-at asked level j = ap (λ (y : Session). if eqb j s.0 then record y { transaction = c.table.next } else (if eqb j s.0 then led asked else c.sessions j)) (led-now asked) ∙ twice (eqb j s.0)
+    where
+      twice : (b : Bool) → (if b then record (led asked) { transaction = c.table.next } else (if b then led asked else c.sessions j)) ≡ (if b then record (led asked) { transaction = c.table.next } else c.sessions j)
+      twice true = refl
+      twice false = refl
+
+  alone-stays : (line : Stmt) → IsFilled line → Stays c s (behind (mark.Start c.table.next s ∷ []) (dispatches script (fresh (step.Command true) ReadCommitted) c.table.next line))
+  alone-stays line f =
+      does c s (fresh (step.Command true) ReadCommitted) c.table.next.0 _
+      (λ j e. fresh-at (step.Command true) ReadCommitted j ∙ ap (λ (b : Bool). if b then record (led (step.Command true)) { transaction = c.table.next } else c.sessions j) e)
+      (ap (λ (b : Bool). (if b then new_work s ReadCommitted else c.works c.table.next.0).session) (self c.table.next.0))
+      (ap (λ (y : Session). y.transaction.0) (fresh-at (step.Command true) ReadCommitted s.0 ∙ ap (λ (b : Bool). if b then record (led (step.Command true)) { transaction = c.table.next } else c.sessions s.0) (self s.0)))
+      (behind-goes (dispatch-goes script some (fresh (step.Command true) ReadCommitted) c.table.next.0 line f))
+    where
+      behind-goes : Goes (Unit {0}) (fresh (step.Command true) ReadCommitted) c.table.next.0 (dispatches script (fresh (step.Command true) ReadCommitted) c.table.next line) → Goes (Unit {0}) (fresh (step.Command true) ReadCommitted) c.table.next.0 (behind (mark.Start c.table.next s ∷ []) (dispatches script (fresh (step.Command true) ReadCommitted) c.table.next line))
+      behind-goes (inl w) = inl (record { sessions = w.sessions; asked = w.asked })
+      behind-goes (inr t) = inr (record { others = t.others; idle = t.idle })
+
+  transaction-now : (asked : LineStep) → (session_of (starts_line c s asked) s).transaction ≡ (session_of c s).transaction
+  transaction-now asked = ap (λ (y : Session). y.transaction) (led-now asked)
+
+  -- in its block
+  inside : (asked : LineStep) (turn : CoordTurn) → is_open_in block ≡ true → Goes (Unit {0}) (starts_line c s asked) own turn → Stays c s turn
+  inside asked turn opened z = does c s (starts_line c s asked) own turn (led-others asked) (own-home opened) (ap (λ (y : Session). y.transaction.0) (led-now asked)) z
+
+  inside-stays : (line : Stmt) → IsFilled line → is_open_in block ≡ true → Stays c s (dispatches script (starts_line c s (step.Command false)) (session_of (starts_line c s (step.Command false)) s).transaction line)
+  inside-stays line f opened =
+      subst (λ g. Stays c s (dispatches script (starts_line c s (step.Command false)) g line)) (sym (transaction-now (step.Command false)))
+      (inside (step.Command false) _ opened (dispatch-goes script some (starts_line c s (step.Command false)) own line f))
+
+  commit-stays : is_open_in block ≡ true → Stays c s (commits (starts_line c s step.CommitBlock) (session_of (starts_line c s step.CommitBlock) s).transaction)
+  commit-stays opened =
+      let l = own-live opened in
+      subst (λ g. Stays c s (commits (starts_line c s step.CommitBlock) g)) (sym (transaction-now step.CommitBlock))
+      (inside step.CommitBlock _ opened (commits-goes (Unit {0}) (starts_line c s step.CommitBlock) own k.whole (record { txn = l.txn; found = l.found; active = l.active }) (own-done opened)))
+
+  pub line-stays : (line : Stmt) (asked : LineStep) → line_step block line ≡ asked → Admits block asked → IsWholeStmt script.tables line → Stays c s (on_line script (starts_line c s asked) s line asked)
+  line-stays line (step.Answer plain) e a w = quiet c s _ (led (step.Answer plain)) (λ j. refl) refl
+  line-stays line step.Refuse5 e a w = quiet c s _ (led step.Refuse5) (λ j. refl) refl
+  line-stays line step.Refuse7 e a w = quiet c s _ (led step.Refuse7) (λ j. refl) refl
+  line-stays line (step.BeginBlock level) e a w = quiet c s _ (record (led (step.BeginBlock level)) { transaction = c.table.next }) (fresh-at (step.BeginBlock level) level) refl
+  line-stays line step.CommitBlock e a w = commit-stays a
+  line-stays line step.RollbackBlock e a w = quiet c s _ (led step.RollbackBlock) (λ j. refl) refl
+  line-stays line (step.Command true) e a w = alone-stays line (command-filled script.tables block line true e w)
+  line-stays line (step.Command false) e a w = inside-stays line (command-filled script.tables block line false e w) a
+
+  pub end-stays : is_idle (session_of c s) ≡ true → (b : Block) → Stays c s (ends_in c s b)
+  end-stays i (Open level) = quiet c s _ (record (session_of c s) { state = idle_outside }) (λ j. refl) refl
+  end-stays i Failed = quiet c s _ (record (session_of c s) { state = idle_outside }) (λ j. refl) refl
+  end-stays i Outside = record { others = λ j e. refl; asked = λ e. clash (is_idle (session_of c s)) i e }

@@ -1,0 +1,5 @@
+pub mod Replays
+pub mod Reached
+pub mod Endings
+pub mod Awaiting
+pub mod Failures

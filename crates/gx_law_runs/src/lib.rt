@@ -1,0 +1,9 @@
+//! What the nodes hold, told by the steps alone: each node's data is its rule over its own steps. So a run that a node's step
+//! is put behind, done by its rule on that data, is a run of the machine once more.
+#![tactic(auto)]
+
+pub mod endings;
+pub mod failures;
+pub mod progress;
+pub mod reached;
+pub mod replays;

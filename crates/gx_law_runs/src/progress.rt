@@ -1,0 +1,30 @@
+//! Laws of every run, whatever the network loses, repeats, delays and reorders, and whichever appends fail.
+ghost use Rattle.std.specs.Prelude.{◌≡◌, ◌≤◌, ◌<◌, Bool, true, false, List, [], length};
+ghost use Rattle.gx_ids.specs.declared.ids.SessionId.{SessionId as OneSession};
+ghost use Rattle.gx_law_answers.specs.Whole.{AreInsertsWhole};
+ghost use Rattle.gx_law_runs.specs.Endings.{is_unfinished_there};
+ghost use Rattle.gx_law_sessions.specs.Orders.{AreLinesNumbered};
+ghost use Rattle.gx_law_runs.specs.Awaiting.{IsAwaiting};
+ghost use Rattle.gx_law_runs.specs.Reached.{IsReached};
+ghost use Rattle.gx_law_runs.specs.Replays.{coordinator_after};
+ghost use Rattle.gx_rules.specs.AtCoordinator.{is_idle};
+ghost use Rattle.gx_rules.specs.Coordinators.{session_of};
+ghost use Rattle.gx_rules.specs.Machine.{world_of};
+ghost use Rattle.gx_script.specs.declared.Script.{Script};
+ghost use Rattle.gx_store.specs.Schedule.{enabled};
+ghost use Rattle.gx_store.specs.declared.event.Event.{Event as OneEvent};
+ghost use Rattle.gx_store.specs.declared.run.Step.{Step as OneStep};
+
+/// A session that has something left to do at the coordinator has a line under way whose answers are awaited, or something of
+/// it is enabled; so while one is unfinished something is enabled. That holds of scripts whose INSERTs have tuples: one without
+/// goes to no segment, and is never answered.
+pub fn unfinished_runs_go_on()
+    ensures { (script : Script) (steps : List OneStep) (session : OneSession) → 1 ≤ script.segments → AreLinesNumbered [] script.lines → AreInsertsWhole script.tables script.lines → IsReached script steps
+        → session.0 < length script.sessions → is_unfinished_there script (coordinator_after script steps) session ≡ true → enabled script steps ≡ [] → ⊥ }
+{}
+
+/// A session that isn't idle awaits an answer: of some segment, for its transaction.
+pub fn busy_sessions_await_an_answer()
+    ensures { (script : Script) (events : List (OneEvent × Bool)) (session : OneSession) → 1 ≤ script.segments → AreInsertsWhole script.tables script.lines
+        → is_idle (session_of (world_of script events).coord session) ≡ false → IsAwaiting script (world_of script events).coord session }
+{}

@@ -1,0 +1,210 @@
+-- What a segment answers is what it keeps, or says of no rows, or has a part that is right for the slice.
+use Rattle.std.proofs.Common.{◌≡◌, ℕ, List, [], ◌∷◌, Option, Some, None, Bool, true, false, refl, sym, subst, ap, ◌∙◌, nat_lt, ◌==◌, if◌then◌else◌, eqb}
+use Rattle.std.proofs.lemmas.Bool.{eqb-true}
+use Rattle.std.specs.Prelude.{filter, fold, length}
+use Rattle.gx_ids.specs.declared.ids.Cid.{Cid}
+use Rattle.gx_ids.specs.declared.ids.Gxid.{Gxid}
+use Rattle.gx_ids.specs.declared.ids.Table.{Table}
+use Rattle.gx_tree.specs.declared.query.Query.{Query}
+use Rattle.gx_tree.specs.declared.row.KeyedRow.{KeyedRow}
+use Rattle.gx_tree.specs.declared.slice.Slice.{Slice}
+use Rattle.gx_tree.specs.declared.slice.Slice.TheVariants as slice
+use Rattle.gx_dsnap.specs.Gxids.{is_below}
+use Rattle.gx_dsnap.specs.declared.snapshot.Snapshot.{Snapshot}
+use Rattle.gx_eval.specs.declared.fault.ArithFault.{ArithFault}
+use Rattle.gx_msg.specs.declared.item.JournalItem.{JournalItem}
+use Rattle.gx_msg.specs.declared.message.Message.{Message}
+use Rattle.gx_msg.specs.declared.message.Message.TheVariants as message
+use Rattle.gx_msg.specs.declared.reply.Reply.{Reply}
+use Rattle.gx_msg.specs.declared.reply.Reply.TheVariants as reply
+use Rattle.gx_msg.specs.declared.message.Out.{Out}
+use Rattle.gx_script.specs.declared.Script.{Script}
+use Rattle.gx_store.specs.declared.mark.Mark.{Mark}
+use Rattle.gx_rules.specs.AtSegment.{changes, commits, finishes, if_fits, on_abort, on_commit, on_commit_prepared, on_event, on_exec, on_forget, on_message, on_prepare, once, promises, raised, repeats, takes, unless_below, was_prepared}
+use Rattle.gx_rules.specs.Segments.{Local, Phase, Seg, SegTurn, local_of, stays, tells, tells_kept}
+use Rattle.gx_rules.specs.Segments.Phase.{Aborted, Committed, Forgotten, Prepared, Reading, Writing}
+use Rattle.gx_rules.specs.Slices.{Moved, first_fault, inserted, inserts, inserts_row, runs_slice, selects}
+use Rattle.gx_rules.specs.Shown.{shown}
+use Rattle.gx_rules.specs.Fits.{fits_exec}
+use Rattle.gx_law_order.proofs.Lists.{Each}
+use Rattle.gx_tree.specs.declared.part.Part.TheVariants.{Rows}
+use Rattle.gx_gather.specs.Answer.{keeps, part_of}
+use Rattle.gx_law_schedules.proofs.Parts.{is_right_part, part-right}
+
+-- a reply that gives no part
+abbrev pub IsPartless : Reply → Type 0
+IsPartless (reply.Done c wrote count part) = ⊥
+IsPartless _ = Unit {0}
+
+-- of every transaction, this holds of what is said of it
+module _ (P : ℕ → Reply → Type 0) (partless : (g : ℕ) (r : Reply) → IsPartless r → P g r) where
+  abbrev pub SaysSo : Message → Type 0
+  SaysSo (message.Answer g r) = P g.0 r
+  SaysSo _ = Unit {0}
+
+  abbrev pub KeptSo : ℕ → Option Reply → Type 0
+  KeptSo g None = Unit {0}
+  KeptSo g (Some r) = P g r
+
+  pub record LocalSo (g : ℕ) (l : Local) : Type 0 where
+    pub answer : KeptSo g l.answer
+    pub vote : KeptSo g l.vote
+
+  pub record TurnSo (turn : SegTurn) : Type 0 where
+    pub locals : (h : ℕ) → LocalSo h (turn.seg.locals h)
+    pub outs : Each (λ (o : Out). SaysSo o.message) turn.outs
+
+  module _ (s : Seg) (so : (h : ℕ) → LocalSo h (s.locals h)) where
+    stay : TurnSo (stays s)
+    stay = record { locals = so; outs = tt }
+
+    tell : (g : Gxid) (r : Reply) → P g.0 r → TurnSo (tells s g r)
+    tell g r p = record { locals = so; outs = (p, tt) }
+
+    kept : (g : Gxid) (r : Option Reply) → KeptSo g.0 r → TurnSo (tells_kept s g r)
+    kept g None p = stay
+    kept g (Some r) p = tell g r p
+
+    with-so : (locals : ℕ → Local) → ((h : ℕ) → LocalSo h (locals h)) → (g : ℕ) (l : Local) → LocalSo g l → (h : ℕ) → LocalSo h (if eqb h g then l else locals h)
+    with-so locals old g l new h = by_test (eqb h g) refl
+      where
+        by_test : (b : Bool) → eqb h g ≡ b → LocalSo h (if b then l else locals h)
+        by_test true e = subst (λ k. LocalSo k l) (sym (eqb-true h g e)) new
+        by_test false e = old h
+
+    both : (b : Bool) (x y : SegTurn) → TurnSo x → TurnSo y → TurnSo (if b then x else y)
+    both true x y e f = e
+    both false x y e f = f
+
+    -- a change of the record, with an answer that gives no part
+    changed : (g : Gxid) (l : Local) (ms : List Mark) (r : Reply) (it : Option JournalItem) → LocalSo g.0 l → P g.0 r → TurnSo (changes s g l ms r it)
+    changed g l ms r it so-l p = record { locals = with-so s.locals so g.0 l so-l; outs = (p, tt) }
+
+    -- COMMANDS
+    repeat : (g : Gxid) (c : Cid) → TurnSo (repeats s g c (local_of s g))
+    repeat g c = both (c.0 == (local_of s g).last) _ _ (kept g (local_of s g).answer (so g.0).answer) stay
+
+    module _ (g : Gxid) (c : Cid) (x : Slice) (right : (wrote : Bool) (count : ℕ) (part : Rattle.gx_tree.specs.declared.part.Part.Part) → is_right_part x part ≡ true → P g.0 (reply.Done c wrote count part)) where
+      answered : (t : Seg) (ms : List Mark) (r : Reply) → ((h : ℕ) → LocalSo h (t.locals h)) → P g.0 r → TurnSo (Rattle.gx_rules.specs.Slices.answers t g c ms r)
+      answered t ms r old p = record { locals = with-so t.locals old g.0 (record (local_of t g) { last = c.0; answer = Some r }) (record { answer = p; vote = (old g.0).vote }); outs = (p, tt) }
+
+      select : (h : Gxid) (q : Query) (rows : List KeyedRow) (f : Option (KeyedRow × ArithFault)) → x ≡ slice.Select q → TurnSo (selects (raised s h) g c q rows f)
+      select h q rows None e = answered (raised s h) [] _ so (right _ 0 (part_of q (filter (keeps q.cond) rows)) (ap (λ (y : Slice). is_right_part y (part_of q (filter (keeps q.cond) rows))) e ∙ part-right q (filter (keeps q.cond) rows)))
+      select h q rows (Some f) e = answered (raised s h) _ _ so (partless g.0 (reply.Failed c (Rattle.gx_rules.specs.Slices.cause_of f.1)) tt)
+
+      insert-rows : (table : Table) (rows : List KeyedRow) (m : Moved) → ((h : ℕ) → LocalSo h (m.seg.locals h)) → (h : ℕ) → LocalSo h ((fold (inserts_row g c table) m rows).seg.locals h)
+      insert-rows table [] m f = f
+      insert-rows table (r ∷ rs) m f = insert-rows table rs (inserts_row g c table m r) (with-so m.seg.locals f g.0 (record (local_of m.seg g) { phase = Writing }) (record { answer = (f g.0).answer; vote = (f g.0).vote }))
+
+      insert : (table : Table) (rows : List KeyedRow) (m : Moved) → ((h : ℕ) → LocalSo h (m.seg.locals h)) → x ≡ slice.Insert table rows → TurnSo (inserts g c (length rows) m)
+      insert table rows m f e = answered m.seg m.marks _ f (right _ (length rows) (Rows []) (ap (λ (y : Slice). is_right_part y (Rows [])) e))
+
+      slice-runs : (h : Gxid) (snapshot : Option Snapshot) (y : Slice) → x ≡ y → TurnSo (runs_slice (raised s h) g c snapshot y)
+      slice-runs h (Some snapshot) (slice.Select q) e = select h q (shown (raised s h) snapshot g c q.table) (first_fault q.cond (shown (raised s h) snapshot g c q.table)) e
+      slice-runs h (Some snapshot) (slice.Insert table rows) e = insert table rows (inserted (raised s h) g c table rows) (insert-rows table rows (record { seg = raised s h; marks = [] }) so) e
+      slice-runs h snapshot y e = record { locals = so; outs = tt }
+
+      take : (snapshot : Option Snapshot) (h : Gxid) → TurnSo (takes s g c snapshot h x (local_of s g))
+      take snapshot h = both (nat_lt (local_of s g).last c.0) _ _ (slice-runs h snapshot x refl) (repeat g c)
+
+      exec : (snapshot : Option Snapshot) (h : Gxid) (p : Phase) → TurnSo (on_exec s g c snapshot h x (local_of s g) p)
+      exec snapshot h Reading = take snapshot h
+      exec snapshot h Writing = take snapshot h
+      exec snapshot h Prepared = repeat g c
+      exec snapshot h Committed = repeat g c
+      exec snapshot h (Forgotten b) = stay
+      exec snapshot h Aborted = stay
+
+    -- THE STATUS
+    abbrev own : Gxid → Local
+    own g = local_of s g
+
+    so-by : (g : Gxid) (v : Option Reply) (l : Local) → l.answer ≡ (own g).answer → l.vote ≡ v → KeptSo g.0 v → LocalSo g.0 l
+    so-by g v l a e p = record { answer = subst (KeptSo g.0) (sym a) (so g.0).answer; vote = subst (KeptSo g.0) (sym e) p }
+
+    only : (g : Gxid) (v : Option Reply) (turn : SegTurn) → KeptSo g.0 v → TurnSo turn → TurnSo (once s g v turn)
+    only g None turn p e = e
+    only g (Some v) turn p e = tell g v p
+
+    promise : (g : Gxid) (fails : Bool) → TurnSo (promises s g fails (own g))
+    promise g true = changed g _ _ reply.Jfault _ (so-by g (Some reply.Jfault) _ refl refl (partless g.0 reply.Jfault tt)) (partless g.0 reply.Jfault tt)
+    promise g false = changed g _ _ reply.Prepared _ (so-by g (Some reply.Prepared) _ refl refl (partless g.0 reply.Prepared tt)) (partless g.0 reply.Prepared tt)
+
+    prepare : (g : Gxid) (fails : Bool) (p : Phase) → TurnSo (on_prepare s g fails (own g) p)
+    prepare g fails Reading = only g (own g).vote _ (so g.0).vote (promise g fails)
+    prepare g fails Writing = only g (own g).vote _ (so g.0).vote (promise g fails)
+    prepare g fails Prepared = kept g (own g).vote (so g.0).vote
+    prepare g fails Committed = kept g (own g).vote (so g.0).vote
+    prepare g fails (Forgotten b) = kept g (own g).vote (so g.0).vote
+    prepare g fails Aborted = stay
+
+    commit-one : (g : Gxid) (fails : Bool) → TurnSo (commits s g fails (own g))
+    commit-one g true = changed g _ _ reply.Jfault _ (so-by g (Some reply.Jfault) _ refl refl (partless g.0 reply.Jfault tt)) (partless g.0 reply.Jfault tt)
+    commit-one g false = changed g _ _ reply.Committed _ (so-by g (Some reply.Committed) _ refl refl (partless g.0 reply.Committed tt)) (partless g.0 reply.Committed tt)
+
+    commit : (g : Gxid) (fails : Bool) (p : Phase) → TurnSo (on_commit s g fails (own g) p)
+    commit g fails Reading = only g (own g).vote _ (so g.0).vote (commit-one g fails)
+    commit g fails Writing = only g (own g).vote _ (so g.0).vote (commit-one g fails)
+    commit g fails Prepared = stay
+    commit g fails Committed = both (was_prepared (own g).vote) _ _ stay (kept g (own g).vote (so g.0).vote)
+    commit g fails (Forgotten b) = both (was_prepared (own g).vote) _ _ stay (kept g (own g).vote (so g.0).vote)
+    commit g fails Aborted = stay
+
+    finish : (g : Gxid) (fails : Bool) → TurnSo (finishes s g fails (own g))
+    finish g true = changed g _ _ reply.Again _ (so g.0) (partless g.0 reply.Again tt)
+    finish g false = changed g _ _ reply.Committed _ (so-by g (own g).vote _ refl refl (so g.0).vote) (partless g.0 reply.Committed tt)
+
+    commit-prepared : (g : Gxid) (fails : Bool) (p : Phase) → TurnSo (on_commit_prepared s g fails (own g) p)
+    commit-prepared g fails Reading = stay
+    commit-prepared g fails Writing = stay
+    commit-prepared g fails Prepared = finish g fails
+    commit-prepared g fails Committed = tell g reply.Committed (partless g.0 reply.Committed tt)
+    commit-prepared g fails (Forgotten true) = tell g reply.Committed (partless g.0 reply.Committed tt)
+    commit-prepared g fails (Forgotten false) = stay
+    commit-prepared g fails Aborted = stay
+
+    abort-one : (g : Gxid) → TurnSo (Rattle.gx_rules.specs.AtSegment.aborts s g (own g))
+    abort-one g = changed g _ _ reply.Aborted _ (so-by g (own g).vote _ refl refl (so g.0).vote) (partless g.0 reply.Aborted tt)
+
+    abort : (g : Gxid) (p : Phase) → TurnSo (on_abort s g (own g) p)
+    abort g Reading = abort-one g
+    abort g Writing = abort-one g
+    abort g Prepared = abort-one g
+    abort g Committed = stay
+    abort g (Forgotten b) = stay
+    abort g Aborted = tell g reply.Aborted (partless g.0 reply.Aborted tt)
+
+    forget-one : (g : Gxid) → TurnSo (Rattle.gx_rules.specs.AtSegment.forgets s g (own g))
+    forget-one g = changed g _ _ reply.Forgotten _ (so-by g (own g).vote _ refl refl (so g.0).vote) (partless g.0 reply.Forgotten tt)
+
+    forget : (g : Gxid) (p : Phase) → TurnSo (on_forget s g (own g) p)
+    forget g Reading = forget-one g
+    forget g Writing = forget-one g
+    forget g Prepared = forget-one g
+    forget g Committed = forget-one g
+    forget g (Forgotten b) = tell g reply.Forgotten (partless g.0 reply.Forgotten tt)
+    forget g Aborted = stay
+
+    -- ALL MESSAGES
+    below : (g : Gxid) (turn : SegTurn) → TurnSo turn → TurnSo (unless_below s g turn)
+    below g turn e = both (is_below s.horizon g) _ _ stay e
+
+    fits : (b : Bool) (turn : SegTurn) → TurnSo turn → TurnSo (if_fits s b turn)
+    fits true turn e = e
+    fits false turn e = stay
+
+    -- the answer to the message's command
+    abbrev pub RightFor : Message → Type 0
+    RightFor (message.Exec g c level snapshot horizon x) = (wrote : Bool) (count : ℕ) (part : Rattle.gx_tree.specs.declared.part.Part.Part) → is_right_part x part ≡ true → P g.0 (reply.Done c wrote count part)
+    RightFor _ = Unit {0}
+
+    pub message-so : (script : Script) (fails : Bool) (m : Message) → RightFor m → TurnSo (on_message script s fails m)
+    message-so script fails (message.Exec g c level snapshot h x) r = below g _ (fits (fits_exec script s g c snapshot h x) _ (exec g c x r snapshot h (local_of s g).phase))
+    message-so script fails (message.Prepare g) r = below g _ (prepare g fails (local_of s g).phase)
+    message-so script fails (message.Commit g) r = below g _ (commit g fails (local_of s g).phase)
+    message-so script fails (message.CommitPrepared g) r = below g _ (commit-prepared g fails (local_of s g).phase)
+    message-so script fails (message.Abort g) r = below g _ (abort g (local_of s g).phase)
+    message-so script fails (message.Forget g) r = below g _ (forget g (local_of s g).phase)
+    message-so script fails (message.Collect round) r = stay
+    message-so script fails (message.Answer g a) r = stay
+    message-so script fails (message.Graph round graph) r = stay

@@ -1,0 +1,87 @@
+-- What each step keeps holds in every run of the machine, with the events that led there.
+use Rattle.std.proofs.Common.{◌≡◌, ◌≤◌, inl, inr, ℕ, List, [], ◌∷◌, ◌++◌, Option, Some, None, Bool, true, false, refl, sym, subst, ap, ◌∙◌, if◌then◌else◌, arith}
+use Rattle.std.proofs.lemmas.Bool.Decides.{nat_tests}
+use Rattle.gx_ids.specs.declared.ids.Node.{Node}
+use Rattle.gx_msg.specs.declared.message.Envelope.{Envelope}
+use Rattle.gx_script.specs.declared.Script.{Script}
+use Rattle.gx_store.specs.declared.event.Event.{Event}
+use Rattle.gx_store.specs.declared.event.Event.TheVariants as event
+use Rattle.gx_store.specs.declared.node.NodeEvent.{NodeEvent}
+use Rattle.gx_store.specs.declared.node.NodeEvent.TheVariants as here
+use Rattle.gx_store.specs.Journals.{is_same_node}
+use Rattle.gx_store.specs.Ordered.{IsLink, IsSegment}
+use Rattle.gx_store.specs.Refusals.{the_coordinator}
+use Rattle.gx_rules.specs.AtCoordinator.{coord_can, coord_rule}
+use Rattle.gx_rules.specs.AtSegment.{seg_rule}
+use Rattle.gx_rules.specs.Machine.{World, after, at_node, can, can_here, coord_did, delivered, does, found, happens, new_world, node_of, seg_can, seg_did, world_of}
+use Rattle.gx_law_order.proofs.Letters.{IsFound, IsLetter, found_is, same_node}
+use Rattle.gx_law_order.proofs.Ordered.{never_resumes, world_well}
+use Rattle.gx_law_sessions.proofs.World.{after-last}
+
+-- the event is the coordinator's, and this happens there
+pub record IsHere (script : Script) (w : World) (e : Event) (x : NodeEvent) : Type 0 where
+  pub admitted : coord_can script w.coord x ≡ true
+  pub node : node_of e ≡ the_coordinator
+  pub is : at_node w e ≡ Some x
+
+-- the coordinator's message of this number to a segment
+pub record IsThere (script : Script) (w : World) (from to : Node) (number : ℕ) (envelope : Envelope) : Type 0 where
+  pub source : from ≡ the_coordinator
+  pub place : IsSegment script to
+  pub is : found from to number w.sent ≡ Some envelope
+
+module _ (script : Script) (some : 1 ≤ script.segments) (Q : World → Type 0)
+    (at-coord : (es : List (Event × Bool)) → Q (world_of script es) → (e : Event) (x : NodeEvent) (fails : Bool) → IsHere script (world_of script es) e x → Q (coord_did (world_of script es) e (coord_rule script (world_of script es).coord x fails)))
+    (at-seg : (es : List (Event × Bool)) → Q (world_of script es) → (from to : Node) (number : ℕ) (envelope : Envelope) (fails : Bool) → IsThere script (world_of script es) from to number envelope → Q (seg_did (world_of script es) to (event.Receive from to number) (seg_rule script ((world_of script es).segs to.0) (here.Deliver from envelope) fails)))
+  where
+    module _ (es : List (Event × Bool)) (q : Q (world_of script es)) where
+      abbrev w : World
+      w = world_of script es
+
+      received : (from to : Node) (number : ℕ) (envelope : Envelope) (fails : Bool) → found from to number w.sent ≡ Some envelope → can_here script w to (Some (here.Deliver from envelope)) ≡ true → Q (does script w (event.Receive from to number) to fails (Some (here.Deliver from envelope)))
+      received from to number envelope fails fd ok = by_test (is_same_node to the_coordinator) refl ok
+        where
+          d : IsFound (IsLetter script (world_of script es).steps) from to number envelope
+          d = found_is (IsLetter script (world_of script es).steps) from to number (world_of script es).sent envelope (world_well script some es).letters fd
+
+          not-here : (n : Node) → n ≡ the_coordinator → is_same_node n the_coordinator ≡ false → ⊥
+          not-here n same away = grind (arith, nat_tests)
+
+          there : is_same_node to the_coordinator ≡ false → IsLink script d.letter.from d.letter.to → IsThere script (world_of script es) from to number envelope
+          there away (inl l) = record { source = sym d.source ∙ l.0; place = subst (IsSegment script) d.target l.1; is = fd }
+          there away (inr l) = absurd (not-here to (sym d.target ∙ l.1) away)
+
+          by_test : (b : Bool) → is_same_node to the_coordinator ≡ b → (if b then coord_can script w.coord (here.Deliver from envelope) else seg_can (here.Deliver from envelope)) ≡ true → Q (if b then coord_did w (event.Receive from to number) (coord_rule script w.coord (here.Deliver from envelope) fails) else seg_did w to (event.Receive from to number) (seg_rule script (w.segs to.0) (here.Deliver from envelope) fails))
+          by_test true is ok = at-coord es q (event.Receive from to number) (here.Deliver from envelope) fails (record { admitted = ok; node = same_node to the_coordinator is; is = ap (delivered from) fd })
+          by_test false is ok = at-seg es q from to number envelope fails (there is d.is.link)
+
+      arrives : (from to : Node) (number : ℕ) (fails : Bool) (o : Option Envelope) → found from to number w.sent ≡ o → can_here script w to (delivered from o) ≡ true → Q (does script w (event.Receive from to number) to fails (delivered from o))
+      arrives from to number fails None e ok = q
+      arrives from to number fails (Some envelope) e ok = received from to number envelope fails e ok
+
+      same_not : (b : Bool) → b ≡ true → b ≡ false → ⊥
+      same_not b e h = grind arith
+
+      admitted : (e : Event) (fails : Bool) → can script w e ≡ true → Q (does script w e (node_of e) fails (at_node w e))
+      admitted (event.Receive from to number) fails ok = arrives from to number fails (found from to number w.sent) refl ok
+      admitted (event.Resume m g) fails ok = absurd (same_not (can script w (event.Resume m g)) ok (never_resumes script some w m (here.Resume g) refl refl))
+      admitted (event.Start s) fails ok = at-coord es q (event.Start s) (here.Start s) fails (record { admitted = ok; node = refl; is = refl })
+      admitted (event.End s) fails ok = at-coord es q (event.End s) (here.End s) fails (record { admitted = ok; node = refl; is = refl })
+      admitted (event.Resend i g) fails ok = at-coord es q (event.Resend i g) (here.Resend i g) fails (record { admitted = ok; node = refl; is = refl })
+      admitted event.Round fails ok = at-coord es q event.Round here.Round fails (record { admitted = ok; node = refl; is = refl })
+
+      next-holds : (e : Event) (fails : Bool) → Q (happens script w e fails)
+      next-holds e fails = by_can (can script w e) refl
+        where
+          by_can : (b : Bool) → can script w e ≡ b → Q (if b then does script w e (node_of e) fails (at_node w e) else w)
+          by_can true ok = admitted e fails ok
+          by_can false ok = q
+
+    on : (done es : List (Event × Bool)) → Q (world_of script done) → Q (after script (world_of script done) es)
+    on done [] q = q
+    on done (x ∷ es) q =
+        subst (λ w. Q (after script w es)) (after-last script some new_world done x)
+        (on (done ++ x ∷ []) es (subst Q (sym (after-last script some new_world done x)) (next-holds done q x.0 x.1)))
+
+    pub always : Q new_world → (es : List (Event × Bool)) → Q (world_of script es)
+    always new es = on [] es new

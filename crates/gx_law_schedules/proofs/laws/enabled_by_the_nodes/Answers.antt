@@ -1,0 +1,5 @@
+use Rattle.gx_law_schedules.proofs.Enabled.{enabled-same}
+use Rattle.gx_law_schedules.proofs.laws.enabled_by_the_nodes.Goals as goal
+
+pub returns : goal.returns
+returns c = λ script events some. enabled-same script some events

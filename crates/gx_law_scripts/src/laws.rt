@@ -1,0 +1,38 @@
+//! Laws of every script that was read.
+ghost use Rattle.std.specs.Prelude.{◌≡◌, ◌≤◌, ℕ, Bool, List, [], Ok};
+ghost use Rattle.gx_law_answers.specs.Whole.{AreInsertsWhole};
+ghost use Rattle.gx_law_sessions.specs.Orders.{AreLinesNumbered};
+ghost use Rattle.gx_rules.specs.Machine.{run_of, world_of};
+ghost use Rattle.gx_rules.specs.System.{IsSystemRun};
+ghost use Rattle.gx_script.specs.declared.Script.{Script};
+ghost use Rattle.gx_sql.specs.Language.{IsScript};
+ghost use Rattle.gx_sql.specs.Script.{Reads};
+ghost use Rattle.gx_store.specs.Runs.{IsLegalHistory};
+ghost use Rattle.gx_store.specs.declared.event.Event.{Event as OneEvent};
+ghost use Rattle.gx_store.specs.declared.run.Run.{Run as OneRun};
+
+/// A script of the language has a segment, and its lines are numbered for each session from 1.
+pub fn scripts_have_segments_and_numbers()
+    ensures { (script : Script) → IsScript script → (1 ≤ script.segments) × AreLinesNumbered [] script.lines }
+{}
+
+/// A script that was read keeps the rules and the limits of the language.
+pub fn scripts_keep_the_language()
+    ensures { (bytes : List ℕ) (script : Script) → Reads bytes (Ok script) → IsScript script }
+{}
+
+/// Each INSERT of a script that was read has a tuple, and each of its tuples a value for the distribution column.
+pub fn inserts_are_whole()
+    ensures { (bytes : List ℕ) (script : Script) → Reads bytes (Ok script) → AreInsertsWhole script.tables script.lines }
+{}
+
+/// Every run of a script that was read is a legal history of one store without segments, whatever the network does and
+/// whichever appends fail.
+pub fn every_run_is_a_legal_history()
+    ensures { (bytes : List ℕ) (script : Script) (events : List (OneEvent × Bool)) → Reads bytes (Ok script) → IsLegalHistory script (run_of (world_of script events)) }
+{}
+
+/// So is every run of the system of nodes.
+pub fn every_system_run_is_a_legal_history()
+    ensures { (bytes : List ℕ) (script : Script) (run : OneRun) → Reads bytes (Ok script) → IsSystemRun script run → IsLegalHistory script run }
+{}

@@ -1,0 +1,241 @@
+-- A segment that says that its journal has failed has a mark of it.
+use Rattle.std.proofs.Common.{◌≡◌, ℕ, List, [], ◌∷◌, ◌++◌, Option, Some, None, Bool, true, false, refl, sym, subst, if◌then◌else◌, ◌==◌, eqb}
+use Rattle.std.proofs.lemmas.Bool.{eqb-true}
+use Rattle.std.proofs.lemmas.List.Elements.{Contains-append_left, Contains-push}
+use Rattle.std.specs.Prelude.{Contains, fold, nat_lt}
+use Rattle.gx_ids.specs.declared.ids.Cid.{Cid}
+use Rattle.gx_ids.specs.declared.ids.Gxid.{Gxid}
+use Rattle.gx_ids.specs.declared.ids.Node.{Node}
+use Rattle.gx_ids.specs.declared.ids.Table.{Table}
+use Rattle.gx_tree.specs.declared.query.Query.{Query}
+use Rattle.gx_tree.specs.declared.row.KeyedRow.{KeyedRow}
+use Rattle.gx_tree.specs.declared.slice.Slice.{Slice}
+use Rattle.gx_tree.specs.declared.slice.Slice.TheVariants as slice
+use Rattle.gx_dsnap.specs.Gxids.{is_below}
+use Rattle.gx_dsnap.specs.declared.snapshot.Snapshot.{Snapshot}
+use Rattle.gx_eval.specs.declared.fault.ArithFault.{ArithFault}
+use Rattle.gx_msg.specs.declared.item.JournalItem.{JournalItem}
+use Rattle.gx_msg.specs.declared.message.Message.{Message}
+use Rattle.gx_msg.specs.declared.message.Message.TheVariants as message
+use Rattle.gx_msg.specs.declared.message.Out.{Out}
+use Rattle.gx_msg.specs.declared.reply.Reply.{Reply}
+use Rattle.gx_msg.specs.declared.reply.Reply.TheVariants as reply
+use Rattle.gx_script.specs.declared.Script.{Script}
+use Rattle.gx_store.specs.declared.mark.Mark.{Mark}
+use Rattle.gx_store.specs.declared.mark.Mark.TheVariants as mark
+use Rattle.gx_store.specs.declared.node.NodeEvent.{NodeEvent}
+use Rattle.gx_store.specs.declared.node.NodeEvent.TheVariants as event
+use Rattle.gx_rules.specs.AtSegment.{commits, finishes, if_fits, on_abort, on_commit, on_commit_prepared, on_event, on_exec, on_forget, on_message, on_prepare, once, promises, raised, repeats, takes, unless_below, was_prepared, changes}
+use Rattle.gx_rules.specs.Fits.{fits_exec}
+use Rattle.gx_rules.specs.Segments.{Local, Phase, Seg, SegTurn, local_of, stays, tells, tells_kept, with_local}
+use Rattle.gx_rules.specs.Segments.Phase.{Reading, Writing, Prepared, Committed, Forgotten, Aborted}
+use Rattle.gx_rules.specs.Shown.{shown}
+use Rattle.gx_rules.specs.Slices.{Moved, answers, first_fault, inserted, inserts_row, runs_slice, selects}
+use Rattle.gx_law_order.proofs.Lists.{Each}
+use Rattle.gx_law_order.proofs.Stages.{gx}
+use Rattle.gx_law_sessions.proofs.Closings.{IsNoted}
+
+abbrev pub IsNotedIn : List Mark → Node → Gxid → Option Reply → Type 0
+IsNotedIn marks node g None = Unit {0}
+IsNotedIn marks node g (Some r) = IsNoted marks node (message.Answer g r)
+
+pub record LocalNoted (marks : List Mark) (node : Node) (g : Gxid) (l : Local) : Type 0 where
+  pub answer : IsNotedIn marks node g l.answer
+  pub vote : IsNotedIn marks node g l.vote
+
+abbrev pub SegNoted : List Mark → Node → Seg → Type 0
+SegNoted marks node s = (h : ℕ) → LocalNoted marks node (gx h) (s.locals h)
+
+-- more marks
+reply-more : (ms ns : List Mark) (node : Node) (g : Gxid) (r : Reply) → IsNoted ms node (message.Answer g r) → IsNoted (ms ++ ns) node (message.Answer g r)
+reply-more ms ns node g reply.Jfault h = Contains-append_left ms ns (mark.JournalFailed node g) h
+reply-more ms ns node g (reply.Done a b d f) h = tt
+reply-more ms ns node g (reply.Failed a b) h = tt
+reply-more ms ns node g reply.Prepared h = tt
+reply-more ms ns node g reply.Committed h = tt
+reply-more ms ns node g reply.Again h = tt
+reply-more ms ns node g reply.Aborted h = tt
+reply-more ms ns node g reply.Forgotten h = tt
+
+pub noted-more : (ms ns : List Mark) (node : Node) (m : Message) → IsNoted ms node m → IsNoted (ms ++ ns) node m
+noted-more ms ns node (message.Answer g r) h = reply-more ms ns node g r h
+noted-more ms ns node (message.Exec g c l x y z) h = tt
+noted-more ms ns node (message.Prepare g) h = tt
+noted-more ms ns node (message.Commit g) h = tt
+noted-more ms ns node (message.CommitPrepared g) h = tt
+noted-more ms ns node (message.Abort g) h = tt
+noted-more ms ns node (message.Forget g) h = tt
+noted-more ms ns node (message.Collect round) h = tt
+noted-more ms ns node (message.Graph round graph) h = tt
+
+in-more : (ms ns : List Mark) (node : Node) (g : Gxid) (o : Option Reply) → IsNotedIn ms node g o → IsNotedIn (ms ++ ns) node g o
+in-more ms ns node g None h = tt
+in-more ms ns node g (Some r) h = reply-more ms ns node g r h
+
+pub local-more : (ms ns : List Mark) (node : Node) (g : Gxid) (l : Local) → LocalNoted ms node g l → LocalNoted (ms ++ ns) node g l
+local-more ms ns node g l h = record { answer = in-more ms ns node g l.answer h.answer; vote = in-more ms ns node g l.vote h.vote }
+
+module _ (ms : List Mark) (node : Node) where
+  pub record Notes (turn : SegTurn) : Type 0 where
+    pub locals : SegNoted (ms ++ turn.marks) node turn.seg
+    pub outs : Each (λ (o : Out). IsNoted (ms ++ turn.marks) node o.message) turn.outs
+
+  -- a change at one transaction
+  local-at : (marks : List Mark) (s : Seg) (g : Gxid) (l : Local) → SegNoted marks node s → LocalNoted marks node g l → SegNoted marks node (with_local s g l)
+  local-at marks s g l all new h = by_test (eqb h g.0) refl
+    where
+      by_test : (b : Bool) → eqb h g.0 ≡ b → LocalNoted marks node (gx h) (if b then l else s.locals h)
+      by_test true e = subst (λ i. LocalNoted marks node (gx i) l) (sym (eqb-true h g.0 e)) new
+      by_test false e = all h
+
+  module _ (s : Seg) (is : s.node ≡ node) (all : SegNoted ms node s) where
+    more-all : (ns : List Mark) → SegNoted (ms ++ ns) node s
+    more-all ns h = local-more ms ns node (gx h) (s.locals h) (all h)
+
+    stay : Notes (stays s)
+    stay = record { locals = more-all []; outs = tt }
+
+    tell : (g : Gxid) (r : Reply) → IsNoted ms node (message.Answer g r) → Notes (tells s g r)
+    tell g r h = record { locals = more-all []; outs = (reply-more ms [] node g r h, tt) }
+
+    kept : (g : Gxid) (r : Option Reply) → IsNotedIn ms node g r → Notes (tells_kept s g r)
+    kept g None h = stay
+    kept g (Some r) h = tell g r h
+
+    change : (g : Gxid) (l : Local) (marks : List Mark) (r : Reply) (it : Option JournalItem) → LocalNoted (ms ++ marks) node g l → IsNoted (ms ++ marks) node (message.Answer g r) → Notes (changes s g l marks r it)
+    change g l marks r it h n = record { locals = local-at (ms ++ marks) s g l (more-all marks) h; outs = (n, tt) }
+
+    both : (b : Bool) (x y : SegTurn) → Notes x → Notes y → Notes (if b then x else y)
+    both true x y e f = e
+    both false x y e f = f
+
+    repeat : (g : Gxid) (c : Cid) (l : Local) → LocalNoted ms node g l → Notes (repeats s g c l)
+    repeat g c l h = both (c.0 == l.last) _ _ (kept g l.answer h.answer) stay
+
+    failed-mark : (g : Gxid) → Contains (ms ++ mark.JournalFailed s.node g ∷ []) (mark.JournalFailed node g)
+    failed-mark g = subst (λ n. Contains (ms ++ mark.JournalFailed n g ∷ []) (mark.JournalFailed node g)) (sym is) (Contains-push ms (mark.JournalFailed node g))
+
+    refuse : (g : Gxid) (l : Local) (it : JournalItem) → LocalNoted ms node g l → Notes (Rattle.gx_rules.specs.AtSegment.is_refused s g l it)
+    refuse g l it h =
+        change g _ (mark.JournalFailed s.node g ∷ []) reply.Jfault (Some it) (record { answer = in-more ms (mark.JournalFailed s.node g ∷ []) node g l.answer h.answer; vote = failed-mark g }) (failed-mark g)
+
+    only : (g : Gxid) (v : Option Reply) (turn : SegTurn) → IsNotedIn ms node g v → Notes turn → Notes (once s g v turn)
+    only g None turn h e = e
+    only g (Some v) turn h e = tell g v h
+
+    promise : (g : Gxid) (fails : Bool) (l : Local) → LocalNoted ms node g l → Notes (promises s g fails l)
+    promise g true l h = refuse g l _ h
+    promise g false l h = change g _ (mark.Prepared s.node g ∷ []) reply.Prepared _ (record { answer = in-more ms (mark.Prepared s.node g ∷ []) node g l.answer h.answer; vote = tt }) tt
+
+    prepare : (g : Gxid) (fails : Bool) (l : Local) (p : Phase) → LocalNoted ms node g l → Notes (on_prepare s g fails l p)
+    prepare g fails l Reading h = only g l.vote _ h.vote (promise g fails l h)
+    prepare g fails l Writing h = only g l.vote _ h.vote (promise g fails l h)
+    prepare g fails l Prepared h = kept g l.vote h.vote
+    prepare g fails l Committed h = kept g l.vote h.vote
+    prepare g fails l (Forgotten b) h = kept g l.vote h.vote
+    prepare g fails l Aborted h = stay
+
+    commit-one : (g : Gxid) (fails : Bool) (l : Local) → LocalNoted ms node g l → Notes (commits s g fails l)
+    commit-one g true l h = refuse g l _ h
+    commit-one g false l h = change g _ (mark.LocalCommit s.node g ∷ []) reply.Committed _ (record { answer = in-more ms (mark.LocalCommit s.node g ∷ []) node g l.answer h.answer; vote = tt }) tt
+
+    commit : (g : Gxid) (fails : Bool) (l : Local) (p : Phase) → LocalNoted ms node g l → Notes (on_commit s g fails l p)
+    commit g fails l Reading h = only g l.vote _ h.vote (commit-one g fails l h)
+    commit g fails l Writing h = only g l.vote _ h.vote (commit-one g fails l h)
+    commit g fails l Prepared h = stay
+    commit g fails l Committed h = both (was_prepared l.vote) _ _ stay (kept g l.vote h.vote)
+    commit g fails l (Forgotten b) h = both (was_prepared l.vote) _ _ stay (kept g l.vote h.vote)
+    commit g fails l Aborted h = stay
+
+    finish : (g : Gxid) (fails : Bool) (l : Local) → LocalNoted ms node g l → Notes (finishes s g fails l)
+    finish g true l h = change g l (mark.JournalFailed s.node g ∷ []) reply.Again _ (local-more ms (mark.JournalFailed s.node g ∷ []) node g l h) tt
+    finish g false l h = change g _ (mark.LocalCommit s.node g ∷ []) reply.Committed _ (record { answer = in-more ms (mark.LocalCommit s.node g ∷ []) node g l.answer h.answer; vote = in-more ms (mark.LocalCommit s.node g ∷ []) node g l.vote h.vote }) tt
+
+    commit-prepared : (g : Gxid) (fails : Bool) (l : Local) (p : Phase) → LocalNoted ms node g l → Notes (on_commit_prepared s g fails l p)
+    commit-prepared g fails l Reading h = stay
+    commit-prepared g fails l Writing h = stay
+    commit-prepared g fails l Prepared h = finish g fails l h
+    commit-prepared g fails l Committed h = tell g _ tt
+    commit-prepared g fails l (Forgotten true) h = tell g _ tt
+    commit-prepared g fails l (Forgotten false) h = stay
+    commit-prepared g fails l Aborted h = stay
+
+    -- a change of the phase alone
+    moved : (g : Gxid) (l : Local) (p : Phase) → LocalNoted ms node g l → LocalNoted (ms ++ []) node g (record l { phase = p })
+    moved g l p h = record { answer = in-more ms [] node g l.answer h.answer; vote = in-more ms [] node g l.vote h.vote }
+
+    abort : (g : Gxid) (l : Local) (p : Phase) → LocalNoted ms node g l → Notes (on_abort s g l p)
+    abort g l Reading h = change g _ [] reply.Aborted None (moved g l Aborted h) tt
+    abort g l Writing h = change g _ [] reply.Aborted None (moved g l Aborted h) tt
+    abort g l Prepared h = change g _ [] reply.Aborted None (moved g l Aborted h) tt
+    abort g l Committed h = stay
+    abort g l (Forgotten b) h = stay
+    abort g l Aborted h = tell g _ tt
+
+    forget : (g : Gxid) (l : Local) (p : Phase) → LocalNoted ms node g l → Notes (on_forget s g l p)
+    forget g l Reading h = change g _ [] reply.Forgotten None (moved g l _ h) tt
+    forget g l Writing h = change g _ [] reply.Forgotten None (moved g l _ h) tt
+    forget g l Prepared h = change g _ [] reply.Forgotten None (moved g l _ h) tt
+    forget g l Committed h = change g _ [] reply.Forgotten None (moved g l _ h) tt
+    forget g l (Forgotten b) h = tell g _ tt
+    forget g l Aborted h = stay
+
+  -- SLICES
+  answered : (s : Seg) → SegNoted ms node s → (g : Gxid) (c : Cid) (marks : List Mark) (r : Reply) → IsNoted (ms ++ marks) node (message.Answer g r) → Notes (answers s g c marks r)
+  answered s all g c marks r n =
+      record {
+        locals = local-at (ms ++ marks) s g _ (λ h. local-more ms marks node (gx h) (s.locals h) (all h)) (record { answer = n; vote = in-more ms marks node g (local_of s g).vote (all g.0).vote });
+        outs = (n, tt);
+      }
+
+  select : (s : Seg) → SegNoted ms node s → (g : Gxid) (c : Cid) (q : Query) (rows : List KeyedRow) (f : Option (KeyedRow × ArithFault)) → Notes (selects s g c q rows f)
+  select s all g c q rows None = answered s all g c [] _ tt
+  select s all g c q rows (Some f) = answered s all g c _ _ tt
+
+  row-noted : (g : Gxid) (c : Cid) (table : Table) (rows : List KeyedRow) (m : Moved) → SegNoted ms node m.seg → SegNoted ms node (fold (inserts_row g c table) m rows).seg
+  row-noted g c table [] m all = all
+  row-noted g c table (r ∷ rs) m all = row-noted g c table rs (inserts_row g c table m r) (local-at ms m.seg g _ all (record { answer = (all g.0).answer; vote = (all g.0).vote }))
+
+  slice-noted : (s : Seg) (h : Gxid) → SegNoted ms node s → (g : Gxid) (c : Cid) (snapshot : Option Snapshot) (x : Slice) → Notes (runs_slice (raised s h) g c snapshot x)
+  slice-noted s h all g c (Some snapshot) (slice.Select q) = select (raised s h) all g c q (shown (raised s h) snapshot g c q.table) (first_fault q.cond (shown (raised s h) snapshot g c q.table))
+  slice-noted s h all g c (Some snapshot) (slice.Insert table rows) =
+      answered (inserted (raised s h) g c table rows).seg (row-noted g c table rows (record { seg = raised s h; marks = [] }) all) g c (inserted (raised s h) g c table rows).marks _ tt
+  slice-noted s h all g c snapshot x = record { locals = λ j. local-more ms [] node (gx j) (s.locals j) (all j); outs = tt }
+
+  module _ (script : Script) (s : Seg) (is : s.node ≡ node) (all : SegNoted ms node s) where
+    take : (g : Gxid) (c : Cid) (snapshot : Option Snapshot) (h : Gxid) (x : Slice) (l : Local) → LocalNoted ms node g l → Notes (takes s g c snapshot h x l)
+    take g c snapshot h x l n = both s is all (nat_lt l.last c.0) _ _ (slice-noted s h all g c snapshot x) (repeat s is all g c l n)
+
+    exec : (g : Gxid) (c : Cid) (snapshot : Option Snapshot) (h : Gxid) (x : Slice) (l : Local) (p : Phase) → LocalNoted ms node g l → Notes (on_exec s g c snapshot h x l p)
+    exec g c snapshot h x l Reading n = take g c snapshot h x l n
+    exec g c snapshot h x l Writing n = take g c snapshot h x l n
+    exec g c snapshot h x l Prepared n = repeat s is all g c l n
+    exec g c snapshot h x l Committed n = repeat s is all g c l n
+    exec g c snapshot h x l (Forgotten b) n = stay s is all
+    exec g c snapshot h x l Aborted n = stay s is all
+
+    below : (g : Gxid) (turn : SegTurn) → Notes turn → Notes (unless_below s g turn)
+    below g turn e = both s is all (is_below s.horizon g) _ _ (stay s is all) e
+
+    fits : (b : Bool) (turn : SegTurn) → Notes turn → Notes (if_fits s b turn)
+    fits true turn e = e
+    fits false turn e = stay s is all
+
+    message-notes : (fails : Bool) (m : Message) → Notes (on_message script s fails m)
+    message-notes fails (message.Exec g c level snapshot h x) = below g _ (fits (fits_exec script s g c snapshot h x) _ (exec g c snapshot h x (local_of s g) (local_of s g).phase (all g.0)))
+    message-notes fails (message.Prepare g) = below g _ (prepare s is all g fails (local_of s g) (local_of s g).phase (all g.0))
+    message-notes fails (message.Commit g) = below g _ (commit s is all g fails (local_of s g) (local_of s g).phase (all g.0))
+    message-notes fails (message.CommitPrepared g) = below g _ (commit-prepared s is all g fails (local_of s g) (local_of s g).phase (all g.0))
+    message-notes fails (message.Abort g) = below g _ (abort s is all g (local_of s g) (local_of s g).phase (all g.0))
+    message-notes fails (message.Forget g) = below g _ (forget s is all g (local_of s g) (local_of s g).phase (all g.0))
+    message-notes fails (message.Collect round) = stay s is all
+    message-notes fails (message.Answer g r) = stay s is all
+    message-notes fails (message.Graph round graph) = stay s is all
+
+    pub seg-notes : (x : NodeEvent) (fails : Bool) → Notes (on_event script s x fails)
+    seg-notes (event.Deliver from envelope) fails = message-notes fails envelope.message
+    seg-notes (event.Resume g) fails = stay s is all
+    seg-notes (event.Start j) fails = stay s is all
+    seg-notes (event.End j) fails = stay s is all
+    seg-notes (event.Resend i g) fails = stay s is all
+    seg-notes event.Round fails = stay s is all

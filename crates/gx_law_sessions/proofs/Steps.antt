@@ -1,0 +1,115 @@
+-- Steps whose marks are legal if the rest is.
+use Rattle.std.proofs.Common.{◌≡◌, ◌≤◌, ℕ, List, [], ◌∷◌, ◌++◌, sym, subst, ap, arith, append-nil}
+use Rattle.std.proofs.lemmas.List.{append_assoc}
+use Rattle.gx_ids.specs.declared.ids.Node.{Node}
+use Rattle.gx_script.specs.declared.Script.{Script}
+use Rattle.gx_store.specs.declared.event.Event.{Event}
+use Rattle.gx_store.specs.declared.event.Event.TheVariants as event
+use Rattle.gx_store.specs.declared.mark.Mark.{Mark}
+use Rattle.gx_store.specs.declared.mark.Mark.TheVariants as mark
+use Rattle.gx_store.specs.declared.run.Step.{Step}
+use Rattle.gx_store.specs.Legal.{AreLegalSteps, LegalEvent}
+use Rattle.gx_store.specs.Ordered.{IsAtNode}
+use Rattle.gx_store.specs.Refusals.{the_coordinator}
+use Rattle.gx_law_order.proofs.Lists.{Each}
+use Rattle.gx_law_order.proofs.Numbers.{NoStart}
+use Rattle.gx_law_order.proofs.Sent.{at}
+use Rattle.gx_law_sessions.specs.Rest.{AreEventsLegal, AreRestLegal, EachMark, Rest}
+use Rattle.gx_law_sessions.proofs.Frame.{Quiet}
+use Rattle.gx_law_sessions.specs.Alive.{IsSilent}
+use Rattle.gx_law_sessions.proofs.Given.{Given, given-legal}
+
+-- STEPS
+abbrev pub IsGivenStep : Script → List Step → Step → Type 0
+IsGivenStep script before s = LegalEvent script before s.event × EachMark (Given script) before s.event [] s.marks []
+
+abbrev pub AreGiven : Script → List Step → List Step → Type 0
+AreGiven script before [] = Unit {0}
+AreGiven script before (s ∷ ss) = IsGivenStep script before s × AreGiven script (before ++ s ∷ []) ss
+
+pub given-last : (script : Script) (before ss : List Step) (s : Step) → AreGiven script before ss → IsGivenStep script (before ++ ss) s → AreGiven script before (ss ++ s ∷ [])
+given-last script before [] s e h = (subst (λ x. IsGivenStep script x s) (append-nil before) h, tt)
+given-last script before (x ∷ ss) s e h = (e.0, given-last script (before ++ x ∷ []) ss s e.1 (subst (λ y. IsGivenStep script y s) (sym (append_assoc before (x ∷ []) ss)) h))
+
+pub given-events : (script : Script) (before ss : List Step) → AreGiven script before ss → AreEventsLegal script before ss
+given-events script before [] e = tt
+given-events script before (s ∷ ss) e = (e.0.0, given-events script (before ++ s ∷ []) ss e.1)
+
+pub given-steps : (script : Script) (before ss : List Step) → AreGiven script before ss → AreRestLegal script before ss → AreLegalSteps script before ss
+given-steps script before [] e r = tt
+given-steps script before (s ∷ ss) e r = (record { event = e.0.0; marks = given-legal script before s.event [] s.marks [] e.0.1 r.0 }, given-steps script (before ++ s ∷ []) ss e.1 r.1)
+
+-- MARKS
+pub no-start : (ms : List Mark) → Each IsSilent ms → Each NoStart ms
+no-start [] e = tt
+no-start (mark.Start g s ∷ ms) e = absurd e.0
+no-start (m ∷ ms) e = (tt, no-start ms e.1)
+
+pub quiet-rest : (script : Script) (steps : List Step) (e : Event) (earlier ms later : List Mark) → Each Quiet ms → EachMark (Rest script) steps e earlier ms later
+quiet-rest script steps e earlier [] later h = tt
+quiet-rest script steps e earlier (mark.Decided g ∷ ms) later h = (tt, quiet-rest script steps e (earlier ++ mark.Decided g ∷ []) ms later h.1)
+quiet-rest script steps e earlier (m ∷ ms) later h = absurd h.0
+
+-- one step more of which the rest holds
+pub rest-last : (script : Script) (before ss : List Step) (s : Step) → AreRestLegal script before ss → EachMark (Rest script) (before ++ ss) s.event [] s.marks [] → AreRestLegal script before (ss ++ s ∷ [])
+rest-last script before [] s e h = (subst (λ x. EachMark (Rest script) x s.event [] s.marks []) (append-nil before) h, tt)
+rest-last script before (x ∷ ss) s e h = (e.0, rest-last script (before ++ x ∷ []) ss s e.1 (subst (λ y. EachMark (Rest script) y s.event [] s.marks []) (sym (append_assoc before (x ∷ []) ss)) h))
+
+pub quiet-given : (script : Script) (steps : List Step) (e : Event) (earlier ms later : List Mark) → Each Quiet ms → EachMark (Given script) steps e earlier ms later
+quiet-given script steps e earlier [] later h = tt
+quiet-given script steps e earlier (mark.Decided g ∷ ms) later h = (λ r. tt, quiet-given script steps e (earlier ++ mark.Decided g ∷ []) ms later h.1)
+quiet-given script steps e earlier (m ∷ ms) later h = absurd h.0
+
+-- a segment's marks tell nothing of sessions
+pub segment-silent : (script : Script) (i : ℕ) → 1 ≤ i → (ms : List Mark) → Each (IsAtNode script (at i)) ms → Each IsSilent ms
+segment-silent script i one [] e = tt
+segment-silent script i one (mark.Start g s ∷ ms) e = absurd (not-zero e.0)
+  where
+    not-zero : at i ≡ the_coordinator → ⊥
+    not-zero q = zero-one i one (ap (λ (n : Node). n.0) q)
+      where
+        zero-one : (i : ℕ) → 1 ≤ i → i ≡ 0 → ⊥
+        zero-one i l e = omega arith
+segment-silent script i one (mark.Snap g c x ∷ ms) e = absurd (not-zero e.0)
+  where
+    not-zero : at i ≡ the_coordinator → ⊥
+    not-zero q = zero-one i one (ap (λ (n : Node). n.0) q)
+      where
+        zero-one : (i : ℕ) → 1 ≤ i → i ≡ 0 → ⊥
+        zero-one i l e = omega arith
+segment-silent script i one (mark.Commit g ∷ ms) e = absurd (not-zero e.0)
+  where
+    not-zero : at i ≡ the_coordinator → ⊥
+    not-zero q = zero-one i one (ap (λ (n : Node). n.0) q)
+      where
+        zero-one : (i : ℕ) → 1 ≤ i → i ≡ 0 → ⊥
+        zero-one i l e = omega arith
+segment-silent script i one (mark.Abort g ∷ ms) e = absurd (not-zero e.0)
+  where
+    not-zero : at i ≡ the_coordinator → ⊥
+    not-zero q = zero-one i one (ap (λ (n : Node). n.0) q)
+      where
+        zero-one : (i : ℕ) → 1 ≤ i → i ≡ 0 → ⊥
+        zero-one i l e = omega arith
+segment-silent script i one (mark.Answer s n a ∷ ms) e = absurd (not-zero e.0)
+  where
+    not-zero : at i ≡ the_coordinator → ⊥
+    not-zero q = zero-one i one (ap (λ (n : Node). n.0) q)
+      where
+        zero-one : (i : ℕ) → 1 ≤ i → i ≡ 0 → ⊥
+        zero-one i l e = omega arith
+segment-silent script i one (m ∷ ms) e = (tt, segment-silent script i one ms e.1)
+
+-- they are legal if the rest is, in a step that receives a message
+pub silent-given : (script : Script) (steps : List Step) (from to : Node) (number : ℕ) (earlier ms later : List Mark) → Each IsSilent ms → EachMark (Given script) steps (event.Receive from to number) earlier ms later
+silent-given script steps from to number earlier [] later h = tt
+silent-given script steps from to number earlier (mark.Write g c n t r x ∷ ms) later h = (λ r. r, silent-given script steps from to number (earlier ++ mark.Write g c n t r x ∷ []) ms later h.1)
+silent-given script steps from to number earlier (mark.Skip g c r ∷ ms) later h = (λ r. r, silent-given script steps from to number (earlier ++ mark.Skip g c r ∷ []) ms later h.1)
+silent-given script steps from to number earlier (mark.Fault g c r x ∷ ms) later h = (λ r. r, silent-given script steps from to number (earlier ++ mark.Fault g c r x ∷ []) ms later h.1)
+silent-given script steps from to number earlier (mark.Recheck round own verdict ∷ ms) later h = (λ r. r, silent-given script steps from to number (earlier ++ mark.Recheck round own verdict ∷ []) ms later h.1)
+silent-given script steps from to number earlier (mark.Start g s ∷ ms) later h = absurd h.0
+silent-given script steps from to number earlier (mark.Snap g c x ∷ ms) later h = absurd h.0
+silent-given script steps from to number earlier (mark.Commit g ∷ ms) later h = absurd h.0
+silent-given script steps from to number earlier (mark.Abort g ∷ ms) later h = absurd h.0
+silent-given script steps from to number earlier (mark.Answer s n a ∷ ms) later h = absurd h.0
+silent-given script steps from to number earlier (m ∷ ms) later h = (λ r. tt, silent-given script steps from to number (earlier ++ m ∷ []) ms later h.1)

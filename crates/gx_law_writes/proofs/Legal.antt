@@ -1,0 +1,281 @@
+-- Each write of a segment's step is legal at its point.
+use Rattle.std.proofs.Common.{◌≡◌, ◌≤◌, ◌<◌, ◌⊎◌, inl, inr, ℕ, ◌+◌, List, [], ◌∷◌, ◌++◌, Option, Some, None, Bool, true, false, refl, sym, subst, ap, ◌∙◌, if◌then◌else◌, ◌||◌, ◌&&◌, arith, eqb, zero, suc}
+use Rattle.std.proofs.lemmas.Bool.Decides.{nat_tests}
+use Rattle.std.specs.Prelude.{map, slice_get}
+use Rattle.gx_ids.specs.declared.ids.Cid.{Cid}
+use Rattle.gx_ids.specs.declared.ids.Gxid.{Gxid}
+use Rattle.gx_ids.specs.declared.ids.Node.{Node}
+use Rattle.gx_ids.specs.declared.ids.SessionId.{SessionId}
+use Rattle.gx_ids.specs.declared.ids.Table.{Table}
+use Rattle.gx_ids.specs.declared.rid.Rid.{Rid}
+use Rattle.gx_tree.specs.declared.expr.Expr.{Expr}
+use Rattle.gx_tree.specs.declared.row.KeyedRow.{KeyedRow}
+use Rattle.gx_tree.specs.declared.slice.Slice.TheVariants as slice
+use Rattle.gx_tree.specs.declared.stmt.Level.{Level}
+use Rattle.gx_tree.specs.declared.stmt.Level.TheVariants.{ReadCommitted, RepeatableRead}
+use Rattle.gx_tree.specs.declared.stmt.Stmt.{Stmt}
+use Rattle.gx_tree.specs.declared.stmt.Stmt.TheVariants as stmt
+use Rattle.gx_tree.specs.declared.value.Value.{Value}
+use Rattle.gx_dsnap.specs.declared.snapshot.Snapshot.{Snapshot}
+use Rattle.gx_msg.specs.declared.message.Out.{Out}
+use Rattle.gx_script.specs.declared.Script.{Script}
+use Rattle.gx_session.specs.declared.state.Block.{Block}
+use Rattle.gx_session.specs.declared.state.Block.TheVariants as block
+use Rattle.gx_session.specs.declared.state.Pending.TheVariants as pending
+use Rattle.gx_store.specs.declared.event.Event.{Event}
+use Rattle.gx_store.specs.declared.mark.Mark.{Mark}
+use Rattle.gx_store.specs.declared.mark.Mark.TheVariants as mark
+use Rattle.gx_store.specs.declared.run.Step.{Step}
+use Rattle.gx_store.specs.Commands.{IsUnderWay, has_own_snapshot}
+use Rattle.gx_store.specs.Lines.{began_from, command_at, level_of, stmt_of, stmt_of_command}
+use Rattle.gx_store.specs.Marks.{has_snapshot, is_aborted, is_ended, is_same_rid, is_snapped, is_written, node_of}
+use Rattle.gx_store.specs.Points.{Point, marks_in, starts_by}
+use Rattle.gx_store.specs.Writes.{IsAtHome, IsInserted, IsWriteOf, LegalWrite}
+use Rattle.gx_store.proofs.Marks.{has_snapshot-append, is_aborted-append, is_ended-append, is_snapped-append, is_written-append}
+use Rattle.gx_rules.specs.Machine.{World}
+use Rattle.gx_rules.specs.Sending.{counted, numbered}
+use Rattle.gx_law_order.proofs.Lists.{Each, each_append}
+use Rattle.gx_law_sessions.specs.Orders.{AreLinesNumbered, IsOrder, IsReadBy, IsServed, level_by, level_of_began}
+use Rattle.gx_law_sessions.specs.Rest.{EachMark}
+use Rattle.gx_law_sessions.specs.Standing.{IsFirst, is_busy, state_in}
+use Rattle.gx_law_sessions.proofs.Said.{CalmFor}
+use Rattle.gx_law_commit.specs.Standings.{gx}
+use Rattle.gx_law_writes.specs.Writes.{WriteLegal}
+use Rattle.gx_law_writes.proofs.Live.{Running, under-way}
+use Rattle.gx_law_writes.proofs.Placed.{IsPlaced, IsPlacedRow, Rising, row-placed, same-place}
+use Rattle.gx_law_writes.proofs.Rows.{row_mark}
+use Rattle.gx_law_writes.proofs.Turns.{NoWrite}
+
+-- MARKS THAT WRITE NOTHING
+no-write-legal : (script : Script) (point : Point) (m : Mark) → NoWrite m → WriteLegal script point m
+no-write-legal script point (mark.Write g c n t r x) e = absurd e
+no-write-legal script point (mark.Skip g c r) e = absurd e
+no-write-legal script point m e = tt
+
+pub no-writes-legal : (script : Script) (steps : List Step) (e : Event) (earlier ms later : List Mark) → Each NoWrite ms → EachMark (WriteLegal script) steps e earlier ms later
+no-writes-legal script steps e earlier [] later h = tt
+no-writes-legal script steps e earlier (m ∷ ms) later h = (no-write-legal script (record { steps = steps; event = e; earlier = earlier; later = ms ++ later }) m h.0, no-writes-legal script steps e (earlier ++ m ∷ []) ms later h.1)
+
+pub sent-no-write : (f : ℕ → ℕ) (outs : List Out) → Each NoWrite (numbered f outs)
+sent-no-write f [] = tt
+sent-no-write f (o ∷ outs) = (tt, sent-no-write (counted f o) outs)
+
+-- A ROW THAT ISN'T WRITTEN
+-- it has no node yet
+pub unwritten-node : (ms : List Mark) (rid : Rid) → is_written ms rid ≡ false → node_of ms rid ≡ None
+unwritten-node [] rid e = refl
+unwritten-node (mark.Write g c n t r x ∷ ms) rid e = by_test (is_same_rid r rid) (λ q. unwritten-node ms rid q) e
+  where
+    by_test : (b : Bool) → (is_written ms rid ≡ false → node_of ms rid ≡ None) → (b || is_written ms rid) ≡ false → (if b then Some n else node_of ms rid) ≡ None
+    by_test true later e = absurd (cc)
+    by_test false later e = later e
+unwritten-node (m ∷ ms) rid e = unwritten-node ms rid e
+
+or-none : (a b : Bool) → a ≡ false → b ≡ false → (a || b) ≡ false
+or-none a b e f = grind arith
+
+-- a command's rows aren't written before it runs: each write of the row is of that command, at its node
+abbrev pub IsPlacedMark : Script → List Mark → Mark → Type 0
+IsPlacedMark script ms (mark.Write g c n t r x) = IsPlaced script ms g c n t r x
+IsPlacedMark script ms m = Unit {0}
+
+abbrev pub IsPastMark : (ℕ → ℕ → ℕ) → Mark → Type 0
+IsPastMark lasts (mark.Write g c n t r x) = c.0 ≤ lasts n.0 g.0
+IsPastMark lasts m = Unit {0}
+
+module _ (script : Script) (ms : List Mark) (lasts : ℕ → ℕ → ℕ) (g : Gxid) (c : Cid) (node : Node) (table : Table) (rid : Rid) (image : Option (List Value)) (p : IsPlaced script ms g c node table rid image) (fresh : lasts node.0 g.0 < c.0) where
+  beyond : (a b : ℕ) → a < b → b ≤ a → ⊥
+  beyond a b x y = omega arith
+
+  pub fresh-row : (xs : List Mark) → Each (IsPlacedMark script ms) xs → Each (IsPastMark lasts) xs → is_written xs rid ≡ false
+  fresh-row [] e f = refl
+  fresh-row (mark.Write h d m u r x ∷ xs) e f = or-none (is_same_rid r rid) (is_written xs rid) (by_test (is_same_rid r rid) refl) (fresh-row xs e.1 f.1)
+    where
+      clash : is_same_rid r rid ≡ true → ⊥
+      clash q =
+          let s = same-place script ms g h c d node m table u rid r image x p e.0 q in
+          beyond (lasts node.0 g.0) c.0 fresh (subst (λ (z : Cid). z.0 ≤ lasts node.0 g.0) s.cid (subst (λ (z : Gxid). d.0 ≤ lasts node.0 z.0) s.gxid (subst (λ (z : Node). d.0 ≤ lasts z.0 h.0) s.node f.0)))
+
+      by_test : (b : Bool) → is_same_rid r rid ≡ b → b ≡ false
+      by_test true q = absurd (clash q)
+      by_test false q = refl
+  fresh-row (mark.Start h s ∷ xs) e f = fresh-row xs e.1 f.1
+  fresh-row (mark.Snap h d x ∷ xs) e f = fresh-row xs e.1 f.1
+  fresh-row (mark.Skip h d r ∷ xs) e f = fresh-row xs e.1 f.1
+  fresh-row (mark.Fault h d r x ∷ xs) e f = fresh-row xs e.1 f.1
+  fresh-row (mark.Commit h ∷ xs) e f = fresh-row xs e.1 f.1
+  fresh-row (mark.Abort h ∷ xs) e f = fresh-row xs e.1 f.1
+  fresh-row (mark.Answer s n a ∷ xs) e f = fresh-row xs e.1 f.1
+  fresh-row (mark.Hold n h x m ∷ xs) e f = fresh-row xs e.1 f.1
+  fresh-row (mark.Wait n h x m ∷ xs) e f = fresh-row xs e.1 f.1
+  fresh-row (mark.Release n h x m ∷ xs) e f = fresh-row xs e.1 f.1
+  fresh-row (mark.Prepared n h ∷ xs) e f = fresh-row xs e.1 f.1
+  fresh-row (mark.LocalCommit n h ∷ xs) e f = fresh-row xs e.1 f.1
+  fresh-row (mark.Decided h ∷ xs) e f = fresh-row xs e.1 f.1
+  fresh-row (mark.JournalFailed n h ∷ xs) e f = fresh-row xs e.1 f.1
+  fresh-row (mark.Sent a b d ∷ xs) e f = fresh-row xs e.1 f.1
+  fresh-row (mark.Report n x y ∷ xs) e f = fresh-row xs e.1 f.1
+  fresh-row (mark.Recheck x y z ∷ xs) e f = fresh-row xs e.1 f.1
+
+-- THE COMMAND'S SNAPSHOT
+self-test : (a : ℕ) → eqb a a ≡ true
+self-test a = grind (arith, nat_tests)
+
+or-right : (a b : Bool) → b ≡ true → (a || b) ≡ true
+or-right a b e = grind arith
+
+or-left : (a b : Bool) → a ≡ true → (a || b) ≡ true
+or-left a b e = grind arith
+
+and-both : (a b : Bool) → a ≡ true → b ≡ true → (a && b) ≡ true
+and-both a b e f = grind arith
+
+pub has-snap : (ms : List Mark) (k : ℕ) (g : Gxid) (d : Cid) (x : Snapshot) → slice_get ms k ≡ Some (mark.Snap g d x) → (has_snapshot ms g ≡ true) × (is_snapped ms g d ≡ true)
+has-snap [] k g d x e = absurd (cc)
+has-snap (m ∷ ms) zero g d x e = subst (λ (y : Mark). (has_snapshot (y ∷ ms) g ≡ true) × (is_snapped (y ∷ ms) g d ≡ true)) (some-same (mark.Snap g d x) m (sym e)) (or-left _ _ (self-test g.0), or-left _ _ (and-both _ _ (self-test g.0) (self-test d.0)))
+  where
+    some-same : (a b : Mark) → Some a ≡ Some b → a ≡ b
+    some-same a b q = cc
+has-snap (m ∷ ms) (suc k) g d x e = let y = has-snap ms k g d x e in (has-more m y.0, snapped-more m y.1)
+  where
+    has-more : (m : Mark) → has_snapshot ms g ≡ true → has_snapshot (m ∷ ms) g ≡ true
+    has-more m q = has_snapshot-append (m ∷ []) ms g ∙ or-right (has_snapshot (m ∷ []) g) (has_snapshot ms g) q
+
+    snapped-more : (m : Mark) → is_snapped ms g d ≡ true → is_snapped (m ∷ ms) g d ≡ true
+    snapped-more m q = is_snapped-append (m ∷ []) ms g d ∙ or-right (is_snapped (m ∷ []) g d) (is_snapped ms g d) q
+
+served-has : (level : Level) (ms : List Mark) (g : Gxid) (c : Cid) (x : Snapshot) → IsServed ms level g c x → has_own_snapshot level ms g c ≡ true
+served-has ReadCommitted ms g c x s = subst (λ d. is_snapped ms g d ≡ true) s.serves (has-snap ms s.place g s.d x s.taken).1
+served-has RepeatableRead ms g c x s = (has-snap ms s.place g s.d x s.taken).0
+
+pub own-more : (level : Level) (ms ns : List Mark) (g : Gxid) (c : Cid) → has_own_snapshot level ms g c ≡ true → has_own_snapshot level (ms ++ ns) g c ≡ true
+own-more ReadCommitted ms ns g c e = is_snapped-append ms ns g c ∙ or-left (is_snapped ms g c) (is_snapped ns g c) e
+own-more RepeatableRead ms ns g c e = has_snapshot-append ms ns g ∙ or-left (has_snapshot ms g) (has_snapshot ns g) e
+
+-- AN ORDER IS OF THE COMMAND UNDER WAY
+some-stmt : (a b : Stmt) → Some a ≡ Some b → a ≡ b
+some-stmt a b e = (cc)
+
+module _ (script : Script) (numbered : AreLinesNumbered [] script.lines) (w : World) (g : ℕ) (r : Running script w g) where
+  abbrev ms : List Mark
+  ms = marks_in w.steps
+
+  pub its-line : stmt_of_command script ms (gx g) r.command.cid ≡ Some r.command.stmt
+  its-line = ap (λ o. command_at script o r.command.cid.0) r.roots.began ∙ r.roots.now numbered r.command r.has_it
+
+  pub line-is : (c : Cid) (line : Stmt) → c.0 ≡ r.command.cid.0 → stmt_of_command script ms (gx g) c ≡ Some line → r.command.stmt ≡ line
+  line-is c line same of = some-stmt r.command.stmt line (sym its-line ∙ ap (λ n. command_at script (began_from [] ms (gx g)) n) (sym same) ∙ of)
+
+  first-level : (b : Block) (first lines commands : ℕ) (line : Stmt) (t : Table) (tuples : List (List Expr)) → is_busy b pending.Command ≡ true → IsFirst script (w.coord.works g).session lines b first → stmt_of (w.coord.works g).session lines script.lines ≡ Some line → line ≡ stmt.Insert t tuples → level_by (stmt_of (w.coord.works g).session first script.lines) ≡ level_of (state_in b commands)
+  first-level (block.Open l) first lines commands line t tuples busy f e q = ap level_by f
+  first-level block.Outside first lines commands line t tuples busy f e q = ap (λ n. level_by (stmt_of (w.coord.works g).session n script.lines)) f ∙ ap level_by e ∙ ap (λ z. level_by (Some z)) q
+  first-level block.Failed first lines commands line t tuples busy f e q = absurd (cc)
+
+  pub level-is : (t : Table) (tuples : List (List Expr)) → r.command.stmt ≡ stmt.Insert t tuples → level_of_began script (began_from [] ms (gx g)) ≡ level_of (state_in r.block r.commands)
+  level-is t tuples q = ap (level_of_began script) r.roots.began ∙ first-level r.block r.roots.first _ r.commands r.command.stmt t tuples r.busy r.roots.opening r.line q
+
+pub read-served : (ms : List Mark) (level : Level) (g : Gxid) (c : Cid) (t : Table) (tuples : List (List Expr)) (line : Stmt) (x : Option Snapshot) → line ≡ stmt.Insert t tuples → IsReadBy ms level g c line x → has_own_snapshot level ms g c ≡ true
+read-served ms level g c t tuples line x e r = from (subst (λ l. IsReadBy ms level g c l x) e r)
+  where
+    from : (y : Snapshot) × (x ≡ Some y) × IsServed ms level g c y → has_own_snapshot level ms g c ≡ true
+    from z = served-has level ms g c z.0 z.2
+
+-- WRITES OF ONE STEP
+-- marks of the step before the row of this ordinal
+pub record Behind (g : Gxid) (c : Cid) (k : ℕ) (earlier : List Mark) : Type 0 where
+  pub calm : (s : SessionId) → Each (CalmFor s) earlier
+  pub running : is_ended earlier g ≡ false
+  pub unwritten : (rid : Rid) → k ≤ rid.ordinal → is_written earlier rid ≡ false
+
+pub behind-none : (g : Gxid) (c : Cid) → Behind g c 1 []
+behind-none g c = record { calm = λ s. tt; running = refl; unwritten = λ rid l. refl }
+
+behind-next : (g : Gxid) (c : Cid) (k : ℕ) (earlier : List Mark) (node : Node) (table : Table) (row : KeyedRow) → Behind g c k earlier → k ≤ row.rid.ordinal → Behind g c (row.rid.ordinal + 1) (earlier ++ row_mark g c node table row ∷ [])
+behind-next g c k earlier node table row b l =
+    record {
+      calm = λ s. each_append (CalmFor s) earlier (row_mark g c node table row ∷ []) (b.calm s) (tt, tt);
+      running = is_ended-append earlier (row_mark g c node table row ∷ []) g ∙ or-none (is_ended earlier g) false b.running refl;
+      unwritten = λ rid m. is_written-append earlier (row_mark g c node table row ∷ []) rid ∙ or-none (is_written earlier rid) (is_same_rid row.rid rid || false) (b.unwritten rid (le-trans l m)) (or-none (is_same_rid row.rid rid) false (apart row.rid rid m) refl);
+    }
+  where
+    le-trans : {a b d : ℕ} → a ≤ b → b + 1 ≤ d → a ≤ d
+    le-trans x y = omega arith
+
+    apart : (a b : Rid) → a.ordinal + 1 ≤ b.ordinal → is_same_rid a b ≡ false
+    apart a b m = three (eqb a.gxid.0 b.gxid.0) (eqb a.cid.0 b.cid.0) a.ordinal b.ordinal m
+      where
+        three : (p q : Bool) (i j : ℕ) → i + 1 ≤ j → (p && (q && eqb i j)) ≡ false
+        three p q i j m = grind (arith, nat_tests)
+
+-- the command is under way, or its transaction has aborted
+module _ (script : Script) (numbered : AreLinesNumbered [] script.lines) (w : World) (g : ℕ) (c : Cid) (node : Node) (table : Table) (tuples : List (List Expr)) (e : Event) (quiet : (s : SessionId) → starts_by s e ≡ 0) where
+  abbrev now : List Mark
+  now = marks_in w.steps
+
+  pub record Live : Type 0 where
+    pub runs : Running script w g
+    pub number : c ≡ runs.command.cid
+    pub line : runs.command.stmt ≡ stmt.Insert table tuples
+    pub snapped : has_own_snapshot (level_of (state_in runs.block runs.commands)) now (gx g) c ≡ true
+
+  pub record Late : Type 0 where
+    pub aborted : is_aborted now (gx g) ≡ true
+
+  module _ (of : stmt_of_command script now (gx g) c ≡ Some (stmt.Insert table tuples)) (stays : (ns : List Mark) → stmt_of_command script (now ++ ns) (gx g) c ≡ Some (stmt.Insert table tuples)) (how : Live ⊎ Late) where
+    -- one row
+    one-legal : (earlier later : List Mark) (k : ℕ) (row : KeyedRow) → IsPlacedRow script (gx g) c node table tuples row → Behind (gx g) c k earlier → k ≤ row.rid.ordinal → is_written now row.rid ≡ false → LegalWrite script (record { steps = w.steps; event = e; earlier = earlier; later = later }) (gx g) c node table row.rid (Some row.row)
+    one-legal earlier later k row p b l fresh = by_how how
+      where
+        point : Point
+        point = record { steps = w.steps; event = e; earlier = earlier; later = later }
+
+        once : is_written (now ++ earlier) row.rid ≡ false
+        once = is_written-append now earlier row.rid ∙ or-none (is_written now row.rid) (is_written earlier row.rid) fresh (b.unwritten row.rid l)
+
+        placed : IsPlaced script now (gx g) c node table row.rid (Some row.row)
+        placed = row-placed script now (gx g) c node table tuples row of p
+
+        writes : (table ≡ table) × IsInserted script (now ++ earlier) (gx g) c table tuples node row.rid (Some row.row)
+        writes = (
+          refl,
+          record { own = p.row_is.own; counted = p.row_is.counted; tuple = p.row_is.tuple; among = p.row_is.among; values = row.row; constants = p.row_is.constants; written = refl; place = p.place; once = once },
+        )
+
+        by_how : Live ⊎ Late → LegalWrite script point (gx g) c node table row.rid (Some row.row)
+        by_how (inl v) =
+            inl (record {
+              session = (w.coord.works g).session;
+              stmt = v.runs.command.stmt;
+              level = level_of (state_in v.runs.block v.runs.commands);
+              runs = subst (IsUnderWay script point (w.coord.works g).session v.runs.command.stmt (level_of (state_in v.runs.block v.runs.commands)) (gx g)) (sym v.number) (under-way script w g v.runs e earlier later (quiet (w.coord.works g).session) (b.calm (w.coord.works g).session) b.running);
+              snapped = own-more (level_of (state_in v.runs.block v.runs.commands)) now earlier (gx g) c v.snapped;
+              writes = subst (λ q. IsWriteOf script (now ++ earlier) (level_of (state_in v.runs.block v.runs.commands)) (gx g) c q node table row.rid (Some row.row)) (sym v.line) writes;
+            })
+        by_how (inr v) =
+            inr (record {
+              stmt = stmt.Insert table tuples;
+              late = record { aborted = is_aborted-append now earlier (gx g) ∙ or-left (is_aborted now (gx g)) (is_aborted earlier (gx g)) v.aborted; command = stays earlier };
+              own_table = refl;
+              home = subst (λ o. IsAtHome o node) (sym (unwritten-node (now ++ earlier) row.rid once)) tt;
+            })
+
+    -- all rows
+    pub rows-legal : (rows : List KeyedRow) (k : ℕ) (earlier later : List Mark) → Each (IsPlacedRow script (gx g) c node table tuples) rows → Rising k rows → Each (λ (row : KeyedRow). is_written now row.rid ≡ false) rows → Behind (gx g) c k earlier → EachMark (WriteLegal script) w.steps e earlier (map (row_mark (gx g) c node table) rows) later
+    rows-legal [] k earlier later p o f b = tt
+    rows-legal (r ∷ rs) k earlier later p o f b = (
+      one-legal earlier (map (row_mark (gx g) c node table) rs ++ later) k r p.0 b o.0 f.0,
+      rows-legal rs (r.rid.ordinal + 1) (earlier ++ row_mark (gx g) c node table r ∷ []) later p.1 o.1 f.1 (behind-next (gx g) c k earlier node table r b o.0),
+    )
+
+-- an order that is awaited is live
+pub order-live : (script : Script) (numbered : AreLinesNumbered [] script.lines) (w : World) (g : ℕ) (c : Cid) (node : Node) (table : Table) (tuples : List (List Expr)) (e : Event) (quiet : (s : SessionId) → starts_by s e ≡ 0) (level : Level) (x : Option Snapshot) (rows : List KeyedRow) (r : Running script w g) → c.0 ≡ r.command.cid.0 → (o : IsOrder script (marks_in w.steps) node (gx g) c level x (slice.Insert table rows)) → o.line ≡ stmt.Insert table tuples → Live script numbered w g c node table tuples e quiet
+order-live script numbered w g c node table tuples e quiet level x rows r same o of =
+    record {
+      runs = r;
+      number = ap (λ n. let d : Cid = record { 0 = n } in d) same;
+      line = line;
+      snapped = subst (λ l. has_own_snapshot l (marks_in w.steps) (gx g) c ≡ true) (o.level_is ∙ level-is script numbered w g r table tuples line) (read-served (marks_in w.steps) level (gx g) c table tuples o.line x of o.read);
+    }
+  where
+    line : r.command.stmt ≡ stmt.Insert table tuples
+    line = line-is script numbered w g r c o.line same o.of ∙ of

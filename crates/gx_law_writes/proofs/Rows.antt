@@ -1,0 +1,93 @@
+-- What an INSERT does at a segment: a write a row, in their order, and an answer that counts them.
+use Rattle.std.proofs.Common.{◌≡◌, ℕ, List, [], ◌∷◌, ◌++◌, Some, Bool, true, false, refl, sym, subst, ap, ◌∙◌, if◌then◌else◌, arith, eqb, append-nil}
+use Rattle.std.proofs.lemmas.Bool.{eqb-true}
+use Rattle.std.proofs.lemmas.Bool.Decides.{nat_tests}
+use Rattle.std.proofs.lemmas.List.{append_assoc}
+use Rattle.std.specs.Prelude.{fold, length, map}
+use Rattle.gx_ids.specs.declared.ids.Cid.{Cid}
+use Rattle.gx_ids.specs.declared.ids.Gxid.{Gxid}
+use Rattle.gx_ids.specs.declared.ids.Node.{Node}
+use Rattle.gx_ids.specs.declared.ids.Table.{Table}
+use Rattle.gx_tree.specs.declared.part.Part.{Part}
+use Rattle.gx_tree.specs.declared.row.KeyedRow.{KeyedRow}
+use Rattle.gx_msg.specs.declared.message.Message.{Message}
+use Rattle.gx_msg.specs.declared.reply.Reply.TheVariants as reply
+use Rattle.gx_store.specs.declared.mark.Mark.{Mark}
+use Rattle.gx_store.specs.declared.mark.Mark.TheVariants as mark
+use Rattle.gx_rules.specs.AtSegment.{raised}
+use Rattle.gx_rules.specs.Maps.{with_at}
+use Rattle.gx_rules.specs.Segments.{Local, Seg, SegTurn, reply as reply_out}
+use Rattle.gx_rules.specs.Slices.{Moved, inserted, inserts, inserts_row}
+use Rattle.gx_law_order.proofs.Lists.{Each}
+use Rattle.gx_law_writes.proofs.Turns.{Inserted, NoFault}
+
+-- the write of a row
+abbrev pub row_mark : Gxid → Cid → Node → Table → KeyedRow → Mark
+row_mark g c node table row = mark.Write g c node table row.rid (Some row.row)
+
+pub record Wrote (s : Seg) (g : Gxid) (c : Cid) (table : Table) (rows : List KeyedRow) (turn : SegTurn) : Type 0 where
+  pub marks : turn.marks ≡ map (row_mark g c s.node table) rows
+  pub wrote : Bool
+  pub part : Part
+  pub outs : turn.outs ≡ reply_out g (reply.Done c wrote (length rows) part) ∷ []
+  pub last : (turn.seg.locals g.0).last ≡ c.0
+  pub answer : (turn.seg.locals g.0).answer ≡ Some (reply.Done c wrote (length rows) part)
+  pub other_lasts : (h : ℕ) → eqb h g.0 ≡ false → (turn.seg.locals h).last ≡ (s.locals h).last
+  pub other_answers : (h : ℕ) → eqb h g.0 ≡ false → (turn.seg.locals h).answer ≡ (s.locals h).answer
+
+self-test : (a : ℕ) → eqb a a ≡ true
+self-test a = grind (arith, nat_tests)
+
+module _ (g : Gxid) (c : Cid) (table : Table) where
+  rows-node : (rows : List KeyedRow) (m : Moved) → (fold (inserts_row g c table) m rows).seg.node ≡ m.seg.node
+  rows-node [] m = refl
+  rows-node (r ∷ rs) m = rows-node rs (inserts_row g c table m r)
+
+  rows-marks : (rows : List KeyedRow) (m : Moved) → (fold (inserts_row g c table) m rows).marks ≡ m.marks ++ map (row_mark g c m.seg.node table) rows
+  rows-marks [] m = sym (append-nil m.marks)
+  rows-marks (r ∷ rs) m = rows-marks rs (inserts_row g c table m r) ∙ append_assoc m.marks (row_mark g c m.seg.node table r ∷ []) (map (row_mark g c m.seg.node table) rs)
+
+  one-local : (m : Moved) (l : Local) (h : ℕ) → l.last ≡ (m.seg.locals g.0).last → l.answer ≡ (m.seg.locals g.0).answer → ((with_at m.seg.locals g.0 l h).last ≡ (m.seg.locals h).last) × ((with_at m.seg.locals g.0 l h).answer ≡ (m.seg.locals h).answer)
+  one-local m l h a b = by_test (eqb h g.0) refl
+    where
+      by_test : (q : Bool) → eqb h g.0 ≡ q → ((if q then l else m.seg.locals h).last ≡ (m.seg.locals h).last) × ((if q then l else m.seg.locals h).answer ≡ (m.seg.locals h).answer)
+      by_test true e = (a ∙ ap (λ j. (m.seg.locals j).last) (sym (eqb-true h g.0 e)), b ∙ ap (λ j. (m.seg.locals j).answer) (sym (eqb-true h g.0 e)))
+      by_test false e = (refl, refl)
+
+  pub rows-locals : (rows : List KeyedRow) (m : Moved) (h : ℕ) → (((fold (inserts_row g c table) m rows).seg.locals h).last ≡ (m.seg.locals h).last) × (((fold (inserts_row g c table) m rows).seg.locals h).answer ≡ (m.seg.locals h).answer)
+  rows-locals [] m h = (refl, refl)
+  rows-locals (r ∷ rs) m h =
+      let x = rows-locals rs (inserts_row g c table m r) h in
+      let y = one-local m (record (m.seg.locals g.0) { phase = Rattle.gx_rules.specs.Segments.Phase.Writing }) h refl refl in
+      (x.0 ∙ y.0, x.1 ∙ y.1)
+
+pub insert-wrote : (s : Seg) (horizon : Gxid) (g : Gxid) (c : Cid) (table : Table) (rows : List KeyedRow) → Wrote s g c table rows (inserts g c (length rows) (inserted (raised s horizon) g c table rows))
+insert-wrote s horizon g c table rows =
+    record {
+      marks = rows-marks g c table rows m;
+      wrote = Rattle.gx_rules.specs.Slices.has_written (done.seg.locals g.0).phase;
+      part = Rattle.gx_tree.specs.declared.part.Part.TheVariants.Rows [];
+      outs = refl;
+      last = ap (λ q. (if q then after else done.seg.locals g.0).last) (self-test g.0);
+      answer = ap (λ q. (if q then after else done.seg.locals g.0).answer) (self-test g.0);
+      other_lasts = λ h e. ap (λ q. (if q then after else done.seg.locals h).last) e ∙ (rows-locals g c table rows m h).0;
+      other_answers = λ h e. ap (λ q. (if q then after else done.seg.locals h).answer) e ∙ (rows-locals g c table rows m h).1;
+    }
+  where
+    m : Moved
+    m = record { seg = raised s horizon; marks = [] }
+
+    done : Moved
+    done = inserted (raised s horizon) g c table rows
+
+    after : Local
+    after = record (done.seg.locals g.0) { last = c.0; answer = Some (reply.Done c (Rattle.gx_rules.specs.Slices.has_written (done.seg.locals g.0).phase) (length rows) (Rattle.gx_tree.specs.declared.part.Part.TheVariants.Rows [])) }
+
+-- it faults on no row
+rows-no-fault : (g : Gxid) (c : Cid) (node : Node) (table : Table) (rows : List KeyedRow) → Each NoFault (map (row_mark g c node table) rows)
+rows-no-fault g c node table [] = tt
+rows-no-fault g c node table (r ∷ rs) = (tt, rows-no-fault g c node table rs)
+
+pub insert-no-fault : (s : Seg) (m : Message) (turn : SegTurn) → Inserted s m turn → Each NoFault turn.marks
+insert-no-fault s m turn x =
+    subst (λ (y : SegTurn). Each NoFault y.marks) (sym x.ran) (subst (Each NoFault) (sym (insert-wrote s x.horizon x.g x.c x.table x.rows).marks) (rows-no-fault x.g x.c s.node x.table x.rows))

@@ -1,0 +1,269 @@
+-- What a segment does when a message comes: it runs a command's slice, or it writes nothing and repeats what it kept.
+use Rattle.std.proofs.Common.{◌≡◌, ◌<◌, ◌⊎◌, inl, inr, ℕ, List, [], ◌∷◌, Option, Some, None, Bool, true, false, refl, sym, ap, ◌∙◌, if◌then◌else◌, ◌==◌, arith, eqb}
+use Rattle.std.proofs.lemmas.Bool.{eqb-true}
+use Rattle.std.proofs.lemmas.Bool.Decides.{nat_tests}
+use Rattle.std.specs.Prelude.{length, nat_lt}
+use Rattle.gx_ids.specs.declared.ids.Cid.{Cid}
+use Rattle.gx_ids.specs.declared.ids.Gxid.{Gxid}
+use Rattle.gx_ids.specs.declared.ids.Table.{Table}
+use Rattle.gx_tree.specs.declared.query.Query.{Query}
+use Rattle.gx_tree.specs.declared.row.KeyedRow.{KeyedRow}
+use Rattle.gx_tree.specs.declared.slice.Slice.{Slice}
+use Rattle.gx_tree.specs.declared.slice.Slice.TheVariants as slice
+use Rattle.gx_tree.specs.declared.stmt.Level.{Level}
+use Rattle.gx_dsnap.specs.Gxids.{is_below}
+use Rattle.gx_dsnap.specs.declared.snapshot.Snapshot.{Snapshot}
+use Rattle.gx_msg.specs.declared.item.JournalItem.{JournalItem}
+use Rattle.gx_msg.specs.declared.message.Message.{Message}
+use Rattle.gx_msg.specs.declared.message.Message.TheVariants as message
+use Rattle.gx_msg.specs.declared.message.Out.{Out}
+use Rattle.gx_msg.specs.declared.reply.Reply.{Reply}
+use Rattle.gx_msg.specs.declared.reply.Reply.TheVariants as reply
+use Rattle.gx_script.specs.declared.Script.{Script}
+use Rattle.gx_store.specs.declared.mark.Mark.{Mark}
+use Rattle.gx_store.specs.declared.mark.Mark.TheVariants as mark
+use Rattle.gx_rules.specs.AtSegment.{changes, commits, finishes, if_fits, is_refused, on_abort, on_commit, on_commit_prepared, on_exec, on_forget, on_message, on_prepare, once, promises, raised, repeats, takes, unless_below, was_prepared}
+use Rattle.gx_rules.specs.Fits.{fits_exec}
+use Rattle.gx_rules.specs.Segments.{Local, Phase, Seg, SegTurn, local_of, stays, tells, tells_kept}
+use Rattle.gx_rules.specs.Segments.Phase.{Reading, Writing, Prepared, Committed, Forgotten, Aborted}
+use Rattle.gx_rules.specs.Shown.{shown}
+use Rattle.gx_rules.specs.Slices.{first_fault, inserted, inserts, runs_slice, selects}
+use Rattle.gx_law_order.proofs.Lists.{Each}
+use Rattle.gx_law_commit.specs.Pairs.{is_open}
+
+abbrev pub NoWrite : Mark → Type 0
+NoWrite (mark.Write g c n t r x) = ⊥
+NoWrite (mark.Skip g c r) = ⊥
+NoWrite _ = Unit {0}
+
+-- a mark that tells of no row
+abbrev pub NoRow : Mark → Type 0
+NoRow (mark.Write g c n t r x) = ⊥
+NoRow (mark.Skip g c r) = ⊥
+NoRow (mark.Fault g c r x) = ⊥
+NoRow _ = Unit {0}
+
+abbrev pub NoFault : Mark → Type 0
+NoFault (mark.Fault g c r x) = ⊥
+NoFault _ = Unit {0}
+
+pub row-no-fault : (ms : List Mark) → Each NoRow ms → Each NoFault ms
+row-no-fault [] e = tt
+row-no-fault (mark.Fault g c r x ∷ ms) e = absurd e.0
+row-no-fault (m ∷ ms) e = (tt, row-no-fault ms e.1)
+
+-- an answer to a command that was kept
+abbrev pub IsOldReply : Seg → Gxid → Reply → Type 0
+IsOldReply s g (reply.Done c w n p) = ((s.locals g.0).answer ≡ Some (reply.Done c w n p)) ⊎ ((s.locals g.0).vote ≡ Some (reply.Done c w n p))
+IsOldReply s g (reply.Failed c x) = ((s.locals g.0).answer ≡ Some (reply.Failed c x)) ⊎ ((s.locals g.0).vote ≡ Some (reply.Failed c x))
+IsOldReply s g r = Unit {0}
+
+abbrev pub IsOldWord : Seg → Message → Type 0
+IsOldWord s (message.Answer g r) = IsOldReply s g r
+IsOldWord s m = Unit {0}
+
+pub record Quiet (s : Seg) (turn : SegTurn) : Type 0 where
+  pub marks : Each NoRow turn.marks
+  pub answers : (h : ℕ) → (turn.seg.locals h).answer ≡ (s.locals h).answer
+  pub lasts : (h : ℕ) → (turn.seg.locals h).last ≡ (s.locals h).last
+  pub outs : Each (λ (o : Out). IsOldWord s o.message) turn.outs
+
+-- a SELECT runs on the rows that the segment shows
+pub record Selected (s : Seg) (m : Message) (turn : SegTurn) : Type 0 where
+  pub g : Gxid
+  pub c : Cid
+  pub level : Level
+  pub snapshot : Snapshot
+  pub horizon : Gxid
+  pub query : Query
+  pub is : m ≡ message.Exec g c level (Some snapshot) horizon (slice.Select query)
+  pub fresh : (s.locals g.0).last < c.0
+  pub ran : turn ≡ selects (raised s horizon) g c query (shown (raised s horizon) snapshot g c query.table) (first_fault query.cond (shown (raised s horizon) snapshot g c query.table))
+
+pub record Inserted (s : Seg) (m : Message) (turn : SegTurn) : Type 0 where
+  pub g : Gxid
+  pub c : Cid
+  pub level : Level
+  pub snapshot : Snapshot
+  pub horizon : Gxid
+  pub table : Table
+  pub rows : List KeyedRow
+  pub is : m ≡ message.Exec g c level (Some snapshot) horizon (slice.Insert table rows)
+  pub opened : is_open (s.locals g.0).phase ≡ true
+  pub fresh : (s.locals g.0).last < c.0
+  pub ran : turn ≡ inserts g c (length rows) (inserted (raised s horizon) g c table rows)
+
+abbrev pub Turns : Seg → Message → SegTurn → Type 0
+Turns s m turn = Quiet s turn ⊎ Selected s m turn ⊎ Inserted s m turn
+
+module _ (s : Seg) where
+  abbrev Rests : SegTurn → Type 0
+  Rests turn = Quiet s turn
+
+  stay : Rests (stays s)
+  stay = record { marks = tt; answers = λ h. refl; lasts = λ h. refl; outs = tt }
+
+  tell : (g : Gxid) (r : Reply) → IsOldReply s g r → Rests (tells s g r)
+  tell g r o = record { marks = tt; answers = λ h. refl; lasts = λ h. refl; outs = (o, tt) }
+
+  answer-old : (g : Gxid) (r : Reply) → (s.locals g.0).answer ≡ Some r → IsOldReply s g r
+  answer-old g (reply.Done c w n p) e = inl e
+  answer-old g (reply.Failed c x) e = inl e
+  answer-old g reply.Prepared e = tt
+  answer-old g reply.Committed e = tt
+  answer-old g reply.Jfault e = tt
+  answer-old g reply.Again e = tt
+  answer-old g reply.Aborted e = tt
+  answer-old g reply.Forgotten e = tt
+
+  vote-old : (g : Gxid) (r : Reply) → (s.locals g.0).vote ≡ Some r → IsOldReply s g r
+  vote-old g (reply.Done c w n p) e = inr e
+  vote-old g (reply.Failed c x) e = inr e
+  vote-old g reply.Prepared e = tt
+  vote-old g reply.Committed e = tt
+  vote-old g reply.Jfault e = tt
+  vote-old g reply.Again e = tt
+  vote-old g reply.Aborted e = tt
+  vote-old g reply.Forgotten e = tt
+
+  kept-answer : (g : Gxid) (r : Option Reply) → (s.locals g.0).answer ≡ r → Rests (tells_kept s g r)
+  kept-answer g None e = stay
+  kept-answer g (Some r) e = tell g r (answer-old g r e)
+
+  kept-vote : (g : Gxid) (r : Option Reply) → (s.locals g.0).vote ≡ r → Rests (tells_kept s g r)
+  kept-vote g None e = stay
+  kept-vote g (Some r) e = tell g r (vote-old g r e)
+
+  change : (g : Gxid) (l : Local) (marks : List Mark) (r : Reply) (it : Option JournalItem) → Each NoRow marks → l.answer ≡ (s.locals g.0).answer → l.last ≡ (s.locals g.0).last → IsOldReply s g r → Rests (changes s g l marks r it)
+  change g l marks r it n a b o = record { marks = n; answers = λ h. answers-test h (eqb h g.0) refl; lasts = λ h. lasts-test h (eqb h g.0) refl; outs = (o, tt) }
+    where
+      answers-test : (h : ℕ) (q : Bool) → eqb h g.0 ≡ q → (if q then l else s.locals h).answer ≡ (s.locals h).answer
+      answers-test h true e = a ∙ ap (λ j. (s.locals j).answer) (sym (eqb-true h g.0 e))
+      answers-test h false e = refl
+
+      lasts-test : (h : ℕ) (q : Bool) → eqb h g.0 ≡ q → (if q then l else s.locals h).last ≡ (s.locals h).last
+      lasts-test h true e = b ∙ ap (λ j. (s.locals j).last) (sym (eqb-true h g.0 e))
+      lasts-test h false e = refl
+
+  both : (b : Bool) (x y : SegTurn) → Rests x → Rests y → Rests (if b then x else y)
+  both true x y e f = e
+  both false x y e f = f
+
+  repeat : (g : Gxid) (c : Cid) → Rests (repeats s g c (s.locals g.0))
+  repeat g c = both (c.0 == (s.locals g.0).last) _ _ (kept-answer g (s.locals g.0).answer refl) stay
+
+  refuse : (g : Gxid) (it : JournalItem) → Rests (is_refused s g (s.locals g.0) it)
+  refuse g it = change g _ _ reply.Jfault (Some it) (tt, tt) refl refl tt
+
+  only : (g : Gxid) (v : Option Reply) (turn : SegTurn) → (s.locals g.0).vote ≡ v → Rests turn → Rests (once s g v turn)
+  only g None turn e f = f
+  only g (Some v) turn e f = tell g v (vote-old g v e)
+
+  promise : (g : Gxid) (fails : Bool) → Rests (promises s g fails (s.locals g.0))
+  promise g true = refuse g _
+  promise g false = change g _ _ reply.Prepared _ (tt, tt) refl refl tt
+
+  prepare : (g : Gxid) (fails : Bool) (p : Phase) → Rests (on_prepare s g fails (s.locals g.0) p)
+  prepare g fails Reading = only g _ _ refl (promise g fails)
+  prepare g fails Writing = only g _ _ refl (promise g fails)
+  prepare g fails Prepared = kept-vote g _ refl
+  prepare g fails Committed = kept-vote g _ refl
+  prepare g fails (Forgotten b) = kept-vote g _ refl
+  prepare g fails Aborted = stay
+
+  commit-one : (g : Gxid) (fails : Bool) → Rests (commits s g fails (s.locals g.0))
+  commit-one g true = refuse g _
+  commit-one g false = change g _ _ reply.Committed _ (tt, tt) refl refl tt
+
+  commit : (g : Gxid) (fails : Bool) (p : Phase) → Rests (on_commit s g fails (s.locals g.0) p)
+  commit g fails Reading = only g _ _ refl (commit-one g fails)
+  commit g fails Writing = only g _ _ refl (commit-one g fails)
+  commit g fails Prepared = stay
+  commit g fails Committed = both (was_prepared (s.locals g.0).vote) _ _ stay (kept-vote g _ refl)
+  commit g fails (Forgotten b) = both (was_prepared (s.locals g.0).vote) _ _ stay (kept-vote g _ refl)
+  commit g fails Aborted = stay
+
+  finish : (g : Gxid) (fails : Bool) → Rests (finishes s g fails (s.locals g.0))
+  finish g true = change g _ _ reply.Again _ (tt, tt) refl refl tt
+  finish g false = change g _ _ reply.Committed _ (tt, tt) refl refl tt
+
+  commit-prepared : (g : Gxid) (fails : Bool) (p : Phase) → Rests (on_commit_prepared s g fails (s.locals g.0) p)
+  commit-prepared g fails Reading = stay
+  commit-prepared g fails Writing = stay
+  commit-prepared g fails Prepared = finish g fails
+  commit-prepared g fails Committed = tell g _ tt
+  commit-prepared g fails (Forgotten true) = tell g _ tt
+  commit-prepared g fails (Forgotten false) = stay
+  commit-prepared g fails Aborted = stay
+
+  moved : (g : Gxid) (p : Phase) (r : Reply) → IsOldReply s g r → Rests (changes s g (record (s.locals g.0) { phase = p }) [] r None)
+  moved g p r o = change g _ [] r None tt refl refl o
+
+  abort : (g : Gxid) (p : Phase) → Rests (on_abort s g (s.locals g.0) p)
+  abort g Reading = moved g Aborted reply.Aborted tt
+  abort g Writing = moved g Aborted reply.Aborted tt
+  abort g Prepared = moved g Aborted reply.Aborted tt
+  abort g Committed = stay
+  abort g (Forgotten b) = stay
+  abort g Aborted = tell g _ tt
+
+  forget : (g : Gxid) (p : Phase) → Rests (on_forget s g (s.locals g.0) p)
+  forget g Reading = moved g _ reply.Forgotten tt
+  forget g Writing = moved g _ reply.Forgotten tt
+  forget g Prepared = moved g _ reply.Forgotten tt
+  forget g Committed = moved g _ reply.Forgotten tt
+  forget g (Forgotten b) = tell g _ tt
+  forget g Aborted = stay
+
+  -- SLICES
+  module _ (g : Gxid) (c : Cid) (level : Level) (h : Gxid) (fresh : (s.locals g.0).last < c.0) (opened : is_open (s.locals g.0).phase ≡ true) where
+    lies : Quiet s (stays (raised s h))
+    lies = record { marks = tt; answers = λ j. refl; lasts = λ j. refl; outs = tt }
+
+    run : (x : Option Snapshot) (y : Slice) → Turns s (message.Exec g c level x h y) (runs_slice (raised s h) g c x y)
+    run (Some x) (slice.Select q) = inr (inl (record { g = g; c = c; level = level; snapshot = x; horizon = h; query = q; is = refl; fresh = fresh; ran = refl }))
+    run (Some x) (slice.Insert t rows) = inr (inr (record { g = g; c = c; level = level; snapshot = x; horizon = h; table = t; rows = rows; is = refl; opened = opened; fresh = fresh; ran = refl }))
+    run (Some x) (slice.Update t a d) = inl lies
+    run (Some x) (slice.Delete t d) = inl lies
+    run (Some x) (slice.Lock t m) = inl lies
+    run None y = inl lies
+
+  below-is : (a b : ℕ) → nat_lt a b ≡ true → a < b
+  below-is a b e = grind (arith, nat_tests)
+
+  take : (g : Gxid) (c : Cid) (level : Level) (x : Option Snapshot) (h : Gxid) (y : Slice) → is_open (s.locals g.0).phase ≡ true → Turns s (message.Exec g c level x h y) (takes s g c x h y (s.locals g.0))
+  take g c level x h y o = by_test (nat_lt (s.locals g.0).last c.0) refl
+    where
+      by_test : (b : Bool) → nat_lt (s.locals g.0).last c.0 ≡ b → Turns s (message.Exec g c level x h y) (if b then runs_slice (raised s h) g c x y else repeats s g c (s.locals g.0))
+      by_test true e = run g c level h (below-is _ _ e) o x y
+      by_test false e = inl (repeat g c)
+
+  exec : (g : Gxid) (c : Cid) (level : Level) (x : Option Snapshot) (h : Gxid) (y : Slice) (p : Phase) → (s.locals g.0).phase ≡ p → Turns s (message.Exec g c level x h y) (on_exec s g c x h y (s.locals g.0) p)
+  exec g c level x h y Reading e = take g c level x h y (ap is_open e)
+  exec g c level x h y Writing e = take g c level x h y (ap is_open e)
+  exec g c level x h y Prepared e = inl (repeat g c)
+  exec g c level x h y Committed e = inl (repeat g c)
+  exec g c level x h y (Forgotten b) e = inl stay
+  exec g c level x h y Aborted e = inl stay
+
+  below : (m : Message) (g : Gxid) (turn : SegTurn) → Turns s m turn → Turns s m (unless_below s g turn)
+  below m g turn e = by_test (is_below s.horizon g)
+    where
+      by_test : (b : Bool) → Turns s m (if b then stays s else turn)
+      by_test true = inl stay
+      by_test false = e
+
+  fits : (m : Message) (b : Bool) (turn : SegTurn) → Turns s m turn → Turns s m (if_fits s b turn)
+  fits m true turn e = e
+  fits m false turn e = inl stay
+
+  pub message-turns : (script : Script) (fails : Bool) (m : Message) → Turns s m (on_message script s fails m)
+  message-turns script fails (message.Exec g c level x h y) = below _ g _ (fits _ (fits_exec script s g c x h y) _ (exec g c level x h y (local_of s g).phase refl))
+  message-turns script fails (message.Prepare g) = below _ g _ (inl (prepare g fails _))
+  message-turns script fails (message.Commit g) = below _ g _ (inl (commit g fails _))
+  message-turns script fails (message.CommitPrepared g) = below _ g _ (inl (commit-prepared g fails _))
+  message-turns script fails (message.Abort g) = below _ g _ (inl (abort g _))
+  message-turns script fails (message.Forget g) = below _ g _ (inl (forget g _))
+  message-turns script fails (message.Collect round) = inl stay
+  message-turns script fails (message.Answer g r) = inl stay
+  message-turns script fails (message.Graph round graph) = inl stay

@@ -1,0 +1,394 @@
+-- Over every run of the machine: writes are placed and legal, and what segments tell of commands is so.
+use Rattle.std.proofs.Common.{◌≡◌, ◌≤◌, ◌<◌, ◌⊎◌, inl, inr, ℕ, List, [], ◌∷◌, ◌++◌, Option, Some, None, Bool, true, false, refl, sym, subst, ap, ◌∙◌, if◌then◌else◌, arith, eqb, append-nil}
+use Rattle.std.proofs.lemmas.Bool.{eqb-true}
+use Rattle.std.proofs.lemmas.Bool.Decides.{nat_tests}
+use Rattle.std.proofs.lemmas.List.{append_assoc}
+use Rattle.gx_ids.specs.declared.ids.Node.{Node}
+use Rattle.gx_msg.specs.declared.message.Envelope.{Envelope}
+use Rattle.gx_msg.specs.declared.message.Message.{Message}
+use Rattle.gx_msg.specs.declared.message.Message.TheVariants as message
+use Rattle.gx_msg.specs.declared.message.Out.{Out}
+use Rattle.gx_msg.specs.declared.reply.Reply.TheVariants as reply
+use Rattle.gx_script.specs.declared.Script.{Script}
+use Rattle.gx_store.specs.declared.event.Event.{Event}
+use Rattle.gx_store.specs.declared.event.Event.TheVariants as event
+use Rattle.gx_store.specs.declared.mark.Mark.{Mark}
+use Rattle.gx_store.specs.declared.mark.Mark.TheVariants as mark
+use Rattle.gx_store.specs.declared.node.NodeEvent.{NodeEvent}
+use Rattle.gx_store.specs.declared.node.NodeEvent.TheVariants as here
+use Rattle.gx_store.specs.declared.run.Step.{Step}
+use Rattle.gx_store.specs.Journals.{is_same_node}
+use Rattle.gx_store.specs.Messages.{IsSending}
+use Rattle.gx_store.specs.Ordered.{IsAtNode, IsLink, IsSegment}
+use Rattle.gx_store.specs.Points.{marks_in}
+use Rattle.gx_store.specs.Refusals.{the_coordinator}
+use Rattle.gx_rules.specs.AtCoordinator.{coord_rule}
+use Rattle.gx_rules.specs.AtSegment as segment
+use Rattle.gx_rules.specs.AtSegment.{seg_rule}
+use Rattle.gx_rules.specs.Machine.{Letter, World, after, at_node, can, coord_did, delivered, does, found, happens, new_world, node_of, seg_did, world_of}
+use Rattle.gx_rules.specs.Maps.{with_at}
+use Rattle.gx_rules.specs.Segments.{Local, Seg, SegTurn}
+use Rattle.gx_rules.specs.Sending.{clock_after, counted, numbered}
+use Rattle.gx_law_order.proofs.AtSegments.{PlainAt, seg_stays}
+use Rattle.gx_law_order.proofs.Letters.{IsFound, IsLetter, found_is}
+use Rattle.gx_law_order.proofs.Lists.{Each, each_append, each_weaker}
+use Rattle.gx_law_order.proofs.Ordered.{Well, at_coordinator, never_resumes}
+use Rattle.gx_law_order.proofs.World.{marks-last}
+use Rattle.gx_law_sessions.specs.Orders.{AreLinesNumbered}
+use Rattle.gx_law_sessions.specs.Rest.{EachMark}
+use Rattle.gx_law_sessions.proofs.Given.{marks-append}
+use Rattle.gx_law_sessions.proofs.Outs.{MessageIs}
+use Rattle.gx_law_sessions.proofs.Stepping as stepping
+use Rattle.gx_law_sessions.proofs.World as histories
+use Rattle.gx_law_sessions.proofs.World.{after-last}
+use Rattle.gx_law_commit.specs.Standings.{at, gx}
+use Rattle.gx_law_commit.proofs.Complete.{IsBack, SentBack, StepBack}
+use Rattle.gx_law_commit.proofs.Ways.{CommandOf}
+use Rattle.gx_law_commit.proofs.Whole.{Both, world-both}
+use Rattle.gx_law_writes.specs.Writes.{AreWritesLegal, WriteLegal}
+use Rattle.gx_law_writes.proofs.Legal.{IsPastMark, IsPlacedMark, Late, Live, no-writes-legal, order-live, sent-no-write}
+use Rattle.gx_law_writes.proofs.Live.{Running, running}
+use Rattle.gx_law_writes.proofs.Moves.{IsOutOf, IsPastHere, Move, insert-move, line-of, no-write-placed, of-more, order, piece, quiet-move, select-move}
+use Rattle.gx_law_writes.proofs.Told.{IsAnswerOf, IsToldOf, IsWordOf, SentTold, StepTold, answer-more, each-get, steps-more, taken-told, told-more}
+use Rattle.gx_law_writes.proofs.Turns.{Inserted, NoWrite, Turns, message-turns}
+
+abbrev pub locals_in : (ℕ → Seg) → ℕ → ℕ → Local
+locals_in segs i g = (segs i).locals g
+
+abbrev pub lasts_in : (ℕ → Seg) → ℕ → ℕ → ℕ
+lasts_in segs i g = ((segs i).locals g).last
+
+pub record Holds (script : Script) (segs : ℕ → Seg) (steps : List Step) : Type 0 where
+  pub placed : Each (IsPlacedMark script (marks_in steps)) (marks_in steps)
+  pub past : Each (IsPastMark (lasts_in segs)) (marks_in steps)
+  pub told : Each (StepTold script (marks_in steps) (locals_in segs)) steps
+  pub kept : (i h : ℕ) → IsAnswerOf script (marks_in steps) ((segs i).locals h).last (at i) (gx h) ((segs i).locals h).answer
+  pub legal : AreWritesLegal script [] steps
+
+-- ONE STEP MORE
+legal-push : (script : Script) (before ss : List Step) (s : Step) → AreWritesLegal script before ss → EachMark (WriteLegal script) (before ++ ss) s.event [] s.marks [] → AreWritesLegal script before (ss ++ s ∷ [])
+legal-push script before [] s e h = (subst (λ b. EachMark (WriteLegal script) b s.event [] s.marks []) (append-nil before) h, tt)
+legal-push script before (x ∷ ss) s e h = (e.0, legal-push script (before ++ x ∷ []) ss s e.1 (subst (λ b. EachMark (WriteLegal script) b s.event [] s.marks []) (sym (append_assoc before (x ∷ []) ss)) h))
+
+placed-more : (script : Script) (ms ns : List Mark) (m : Mark) → IsPlacedMark script ms m → IsPlacedMark script (ms ++ ns) m
+placed-more script ms ns (mark.Write g c n t r x) p =
+    record { tuples = p.tuples; of = of-more script ms ns g c _ p.of; own = p.own; counted = p.counted; tuple = p.tuple; among = p.among; values = p.values; constants = p.constants; written = p.written; place = p.place }
+placed-more script ms ns (mark.Start h s) p = tt
+placed-more script ms ns (mark.Snap h d x) p = tt
+placed-more script ms ns (mark.Skip h d r) p = tt
+placed-more script ms ns (mark.Fault h d r x) p = tt
+placed-more script ms ns (mark.Commit h) p = tt
+placed-more script ms ns (mark.Abort h) p = tt
+placed-more script ms ns (mark.Answer s n a) p = tt
+placed-more script ms ns (mark.Hold n h x m) p = tt
+placed-more script ms ns (mark.Wait n h x m) p = tt
+placed-more script ms ns (mark.Release n h x m) p = tt
+placed-more script ms ns (mark.Prepared n h) p = tt
+placed-more script ms ns (mark.LocalCommit n h) p = tt
+placed-more script ms ns (mark.Decided h) p = tt
+placed-more script ms ns (mark.JournalFailed n h) p = tt
+placed-more script ms ns (mark.Sent a b d) p = tt
+placed-more script ms ns (mark.Report n x y) p = tt
+placed-more script ms ns (mark.Recheck x y z) p = tt
+
+le-trans : {a b c : ℕ} → a ≤ b → b ≤ c → a ≤ c
+le-trans x y = omega arith
+
+past-later : (f h : ℕ → ℕ → ℕ) (later : (i g : ℕ) → f i g ≤ h i g) (m : Mark) → IsPastMark f m → IsPastMark h m
+past-later f h later (mark.Write g c n t r x) p = le-trans p (later n.0 g.0)
+past-later f h later (mark.Start a s) p = tt
+past-later f h later (mark.Snap a d x) p = tt
+past-later f h later (mark.Skip a d r) p = tt
+past-later f h later (mark.Fault a d r x) p = tt
+past-later f h later (mark.Commit a) p = tt
+past-later f h later (mark.Abort a) p = tt
+past-later f h later (mark.Answer s n a) p = tt
+past-later f h later (mark.Hold n a x m) p = tt
+past-later f h later (mark.Wait n a x m) p = tt
+past-later f h later (mark.Release n a x m) p = tt
+past-later f h later (mark.Prepared n a) p = tt
+past-later f h later (mark.LocalCommit n a) p = tt
+past-later f h later (mark.Decided a) p = tt
+past-later f h later (mark.JournalFailed n a) p = tt
+past-later f h later (mark.Sent a b d) p = tt
+past-later f h later (mark.Report n x y) p = tt
+past-later f h later (mark.Recheck x y z) p = tt
+
+module _ (script : Script) (numbered_lines : AreLinesNumbered [] script.lines) (segs next : ℕ → Seg) (steps : List Step) (s : Step) (later : (i g : ℕ) → lasts_in segs i g ≤ lasts_in next i g) where
+  pub one-more : Holds script segs steps → Each (IsPlacedMark script (marks_in steps)) s.marks → Each (IsPastMark (lasts_in next)) s.marks → StepTold script (marks_in steps ++ s.marks) (locals_in next) s → ((i h : ℕ) → IsAnswerOf script (marks_in steps ++ s.marks) ((next i).locals h).last (at i) (gx h) ((next i).locals h).answer) → EachMark (WriteLegal script) steps s.event [] s.marks [] → Holds script next (steps ++ s ∷ [])
+  one-more h placed past told kept legal =
+      record {
+        placed = subst (λ q. Each (IsPlacedMark script q) q) all (each_append (IsPlacedMark script (marks_in steps ++ s.marks)) (marks_in steps) s.marks (each_weaker (IsPlacedMark script (marks_in steps)) _ (λ m p. placed-more script (marks_in steps) s.marks m p) (marks_in steps) h.placed) (each_weaker (IsPlacedMark script (marks_in steps)) _ (λ m p. placed-more script (marks_in steps) s.marks m p) s.marks placed));
+        past = subst (Each (IsPastMark (lasts_in next))) all (each_append (IsPastMark (lasts_in next)) (marks_in steps) s.marks (each_weaker (IsPastMark (lasts_in segs)) (IsPastMark (lasts_in next)) (λ m p. past-later (lasts_in segs) (lasts_in next) later m p) (marks_in steps) h.past) past);
+        told = subst (λ q. Each (StepTold script q (locals_in next)) (steps ++ s ∷ [])) all (each_append (StepTold script (marks_in steps ++ s.marks) (locals_in next)) steps (s ∷ []) (steps-more script numbered_lines (marks_in steps) s.marks (locals_in segs) (locals_in next) later steps h.told) (told, tt));
+        kept = λ i g. subst (λ q. IsAnswerOf script q ((next i).locals g).last (at i) (gx g) ((next i).locals g).answer) all (kept i g);
+        legal = legal-push script [] steps s h.legal legal;
+      }
+    where
+      all : marks_in steps ++ s.marks ≡ marks_in (steps ++ s ∷ [])
+      all = sym (marks-last steps s)
+
+-- A STEP OF THE COORDINATOR
+none-here : (script : Script) → IsSegment script the_coordinator → ⊥
+none-here script e = zero-one e.0
+  where
+    zero-one : 1 ≤ 0 → ⊥
+    zero-one l = omega arith
+
+here-no-write : (script : Script) (ms : List Mark) → Each (IsAtNode script the_coordinator) ms → Each NoWrite ms
+here-no-write script [] e = tt
+here-no-write script (mark.Write g c n t r x ∷ ms) e = absurd (none-here script e.0.1)
+here-no-write script (mark.Skip g c r ∷ ms) e = absurd (none-here script e.0)
+here-no-write script (m ∷ ms) e = (tt, here-no-write script ms e.1)
+
+no-write-past : (lasts : ℕ → ℕ → ℕ) (m : Mark) → NoWrite m → IsPastMark lasts m
+no-write-past lasts (mark.Write g c n t r x) e = absurd e
+no-write-past lasts m e = tt
+
+le-same : (a : ℕ) → a ≤ a
+le-same a = omega arith
+
+zero-one : 1 ≤ 0 → ⊥
+zero-one l = omega arith
+
+module _ (script : Script) (some : 1 ≤ script.segments) (numbered_lines : AreLinesNumbered [] script.lines) where
+  pub coord-holds : (w : World) → Well script w → Holds script w.segs w.steps → (e : Event) (x : NodeEvent) (fails : Bool) → Holds script w.segs (coord_did w e (coord_rule script w.coord x fails)).steps
+  coord-holds w n h e x fails =
+      one-more script numbered_lines w.segs w.segs w.steps step (λ i g. le-same (lasts_in w.segs i g)) h
+      (each_weaker NoWrite (IsPlacedMark script (marks_in w.steps)) (λ m k. no-write-placed script (marks_in w.steps) m k) step.marks none)
+      (each_weaker NoWrite (IsPastMark (lasts_in w.segs)) (λ m k. no-write-past (lasts_in w.segs) m k) step.marks none)
+      (λ one. absurd (zero-one one))
+      (λ i g. answer-more script numbered_lines (marks_in w.steps) step.marks _ _ (at i) (gx g) ((w.segs i).locals g).answer (le-same (lasts_in w.segs i g)) (h.kept i g))
+      (no-writes-legal script w.steps e [] step.marks [] none)
+    where
+      step : Step
+      step = record { stamp = record { clock = clock_after w.coord.clock x; node = the_coordinator }; event = e; marks = (coord_rule script w.coord x fails).marks }
+
+      none : Each NoWrite (coord_rule script w.coord x fails).marks
+      none = here-no-write script (coord_rule script w.coord x fails).marks (at_coordinator script some w n e x fails)
+
+  -- A STEP OF A SEGMENT
+  module _ (w : World) (b : Both script some w) (k : stepping.Holds script w) (h : Holds script w.segs w.steps) (from to : Node) (number i : ℕ) (place : IsSegment script (at i)) (envelope : Envelope) (fails : Bool) (order_is : MessageIs script (marks_in w.steps) (at i) envelope.message) (back : SentBack w.coord w.steps the_coordinator (mark.Sent (at i) number envelope.message)) where
+    abbrev e : Event
+    e = event.Receive from to number
+
+    abbrev ms : List Mark
+    ms = marks_in w.steps
+
+    abbrev s : Seg
+    s = w.segs i
+
+    abbrev turn : SegTurn
+    turn = segment.on_message script (w.segs i) fails envelope.message
+
+    abbrev sent : List Mark
+    sent = numbered (λ node. turn.seg.sent) turn.outs
+
+    abbrev step : Step
+    step = record { stamp = record { clock = clock_after s.clock (here.Deliver from envelope); node = at i }; event = e; marks = turn.marks ++ sent }
+
+    abbrev next : ℕ → Seg
+    next = with_at w.segs i (seg_rule script (w.segs i) (here.Deliver from envelope) fails).seg
+
+    -- the EXEC is awaited, or its transaction has aborted
+    how : (x : Inserted s envelope.message turn) → (Live script numbered_lines w x.g.0 x.c (at i) x.table (piece script numbered_lines w e (λ t. refl) i s (b.knows.well.names i) (h.kept i) (lasts_in w.segs) (λ g. refl) h.placed h.past envelope.message turn order_is x).tuples e (λ t. refl)) ⊎ (Late script numbered_lines w x.g.0 x.c (at i) x.table (piece script numbered_lines w e (λ t. refl) i s (b.knows.well.names i) (h.kept i) (lasts_in w.segs) (λ g. refl) h.placed h.past envelope.message turn order_is x).tuples e (λ t. refl))
+    how x = by_back (subst (λ (m : Message). SentBack w.coord w.steps the_coordinator (mark.Sent (at i) number m)) x.is back refl)
+      where
+        beyond : (a b : ℕ) → a < b → b ≤ a → ⊥
+        beyond a b p q = omega arith
+
+        by_running : Running script w x.g.0 → x.c.0 ≡ (w.coord.works x.g.0).last → Live script numbered_lines w x.g.0 x.c (at i) x.table (piece script numbered_lines w e (λ t. refl) i s (b.knows.well.names i) (h.kept i) (lasts_in w.segs) (λ g. refl) h.placed h.past envelope.message turn order_is x).tuples e (λ t. refl)
+        by_running r same =
+            order-live script numbered_lines w x.g.0 x.c (at i) x.table (piece script numbered_lines w e (λ t. refl) i s (b.knows.well.names i) (h.kept i) (lasts_in w.segs) (λ g. refl) h.placed h.past envelope.message turn order_is x).tuples e (λ t. refl) x.level (Some x.snapshot) x.rows r
+            (same ∙ sym (subst (CommandOf x.g.0 (w.coord.works x.g.0).last) r.has_it (b.holds.stands.works x.g.0).command).0)
+            (order script numbered_lines w e (λ t. refl) i s (b.knows.well.names i) (h.kept i) (lasts_in w.segs) (λ g. refl) h.placed h.past envelope.message turn order_is x)
+            (line-of script numbered_lines w e (λ t. refl) i s (b.knows.well.names i) (h.kept i) (lasts_in w.segs) (λ g. refl) h.placed h.past envelope.message turn order_is x)
+
+        by_back : IsBack w.coord w.steps i x.g.0 x.c.0 → (Live script numbered_lines w x.g.0 x.c (at i) x.table (piece script numbered_lines w e (λ t. refl) i s (b.knows.well.names i) (h.kept i) (lasts_in w.segs) (λ g. refl) h.placed h.past envelope.message turn order_is x).tuples e (λ t. refl)) ⊎ (Late script numbered_lines w x.g.0 x.c (at i) x.table (piece script numbered_lines w e (λ t. refl) i s (b.knows.well.names i) (h.kept i) (lasts_in w.segs) (λ g. refl) h.placed h.past envelope.message turn order_is x).tuples e (λ t. refl))
+        by_back (inl z) = inl (by_running (running script w k.sessions x.g.0 b.knows.kept i z.0) z.1)
+        by_back (inr (inl z)) = absurd (beyond _ _ x.fresh (taken-told script ms (locals_in w.segs) w.steps z.place z.received.sent.step z.received.sent.mark (at i) the_coordinator z.received.number (message.Answer (gx x.g.0) (reply.Done (record { 0 = x.c.0 }) z.wrote z.count z.part)) place.0 h.told z.received.sent.sending).0)
+        by_back (inr (inr z)) = inr (record { aborted = z })
+
+    move : Move script ms w.steps e (at i) s turn
+    move = by_turn (message-turns s script fails envelope.message)
+      where
+        by_turn : Turns s envelope.message turn → Move script ms w.steps e (at i) s turn
+        by_turn (inl q) = quiet-move script numbered_lines ms w.steps e i s (h.kept i) (λ g. (b.holds.stands.pairs i g).vote) turn q
+        by_turn (inr (inl x)) = select-move script numbered_lines ms w.steps e i s (h.kept i) envelope.message turn order_is x
+        by_turn (inr (inr x)) = insert-move script numbered_lines w e (λ t. refl) i s (b.knows.well.names i) (h.kept i) (lasts_in w.segs) (λ g. refl) h.placed h.past envelope.message turn order_is x (how x)
+
+    pub seg-holds : Holds script next (w.steps ++ step ∷ [])
+    seg-holds = from-move move
+      where
+        quiet : Each NoWrite (numbered (λ node. turn.seg.sent) turn.outs)
+        quiet = sent-no-write (λ node. turn.seg.sent) turn.outs
+
+        self-test : (a : ℕ) → eqb a a ≡ true
+        self-test a = grind (arith, nat_tests)
+
+        late-lasts : Move script ms w.steps e (at i) s turn → (j g : ℕ) → lasts_in w.segs j g ≤ lasts_in next j g
+        late-lasts v j g = by_test (eqb j i) refl
+          where
+            by_test : (q : Bool) → eqb j i ≡ q → ((w.segs j).locals g).last ≤ ((if q then (seg_rule script (w.segs i) (here.Deliver from envelope) fails).seg else w.segs j).locals g).last
+            by_test true q = subst (λ a. ((w.segs a).locals g).last ≤ (turn.seg.locals g).last) (sym (eqb-true j i q)) (v.lasts g)
+            by_test false q = le-same ((w.segs j).locals g).last
+
+        last-here : (g : ℕ) → lasts_in next i g ≡ (turn.seg.locals g).last
+        last-here g = ap (λ q. ((if q then (seg_rule script (w.segs i) (here.Deliver from envelope) fails).seg else w.segs i).locals g).last) (self-test i)
+
+        past-one : (m : Mark) → IsPastHere (λ g. (turn.seg.locals g).last) (at i) m → IsPastMark (lasts_in next) m
+        past-one (mark.Write g c n t r x) p = subst (λ (a : Node). c.0 ≤ lasts_in next a.0 g.0) (sym p.0) (subst (λ a. c.0 ≤ a) (sym (last-here g.0)) p.1)
+        past-one (mark.Start a t) p = tt
+        past-one (mark.Snap a d x) p = tt
+        past-one (mark.Skip a d r) p = tt
+        past-one (mark.Fault a d r x) p = tt
+        past-one (mark.Commit a) p = tt
+        past-one (mark.Abort a) p = tt
+        past-one (mark.Answer t n a) p = tt
+        past-one (mark.Hold n a x m) p = tt
+        past-one (mark.Wait n a x m) p = tt
+        past-one (mark.Release n a x m) p = tt
+        past-one (mark.Prepared n a) p = tt
+        past-one (mark.LocalCommit n a) p = tt
+        past-one (mark.Decided a) p = tt
+        past-one (mark.JournalFailed n a) p = tt
+        past-one (mark.Sent a c d) p = tt
+        past-one (mark.Report n x y) p = tt
+        past-one (mark.Recheck x y z) p = tt
+
+        word-one : (ns : List Mark) (m : Message) → IsOutOf script ns (λ g. (turn.seg.locals g).last) (at i) m → IsWordOf script ns (locals_in next) (at i) m
+        word-one ns (message.Answer g r) d = subst (λ n. IsToldOf script ns n (at i) g r) (sym (last-here g.0)) d
+        word-one ns (message.Exec g c l x y z) d = tt
+        word-one ns (message.Prepare g) d = tt
+        word-one ns (message.Commit g) d = tt
+        word-one ns (message.CommitPrepared g) d = tt
+        word-one ns (message.Abort g) d = tt
+        word-one ns (message.Forget g) d = tt
+        word-one ns (message.Collect round) d = tt
+        word-one ns (message.Graph round graph) d = tt
+
+        sent-told : (ns : List Mark) (f : ℕ → ℕ) (outs : List Out) → Each (λ (o : Out). IsOutOf script ns (λ g. (turn.seg.locals g).last) (at i) o.message) outs → Each (SentTold script ns (locals_in next) (at i)) (numbered f outs)
+        sent-told ns f [] d = tt
+        sent-told ns f (o ∷ outs) d = (word-one ns o.message d.0, sent-told ns (counted f o) outs d.1)
+
+        -- the turn's own marks send nothing
+        plain-told : (ns xs : List Mark) → Each (PlainAt script (at i)) xs → Each (SentTold script ns (locals_in next) (at i)) xs
+        plain-told ns [] d = tt
+        plain-told ns (mark.Sent to number told ∷ xs) d = absurd d.0
+        plain-told ns (m ∷ xs) d = (tt, plain-told ns xs d.1)
+
+        plain : Each (PlainAt script (at i)) turn.marks
+        plain = subst (λ node. Each (PlainAt script node) turn.marks) (b.knows.well.names i) (seg_stays script (w.segs i) (subst (IsSegment script) (sym (b.knows.well.names i)) place) (here.Deliver from envelope) fails).marks
+
+        out-more : (m : Message) → IsOutOf script (ms ++ turn.marks) (λ g. (turn.seg.locals g).last) (at i) m → IsOutOf script (ms ++ (turn.marks ++ sent)) (λ g. (turn.seg.locals g).last) (at i) m
+        out-more (message.Answer g r) d = subst (λ ns. IsToldOf script ns (turn.seg.locals g.0).last (at i) g r) (append_assoc ms turn.marks sent) (told-more script numbered_lines (ms ++ turn.marks) sent _ _ (at i) g r (le-same (turn.seg.locals g.0).last) d)
+        out-more (message.Exec g c l x y z) d = tt
+        out-more (message.Prepare g) d = tt
+        out-more (message.Commit g) d = tt
+        out-more (message.CommitPrepared g) d = tt
+        out-more (message.Abort g) d = tt
+        out-more (message.Forget g) d = tt
+        out-more (message.Collect round) d = tt
+        out-more (message.Graph round graph) d = tt
+
+        from-move : Move script ms w.steps e (at i) s turn → Holds script next (w.steps ++ step ∷ [])
+        from-move v = one-more script numbered_lines w.segs next w.steps step (late-lasts v) h placed past told kept legal
+          where
+            placed : Each (IsPlacedMark script ms) (turn.marks ++ sent)
+            placed = each_append (IsPlacedMark script ms) turn.marks sent v.placed (each_weaker NoWrite (IsPlacedMark script ms) (λ m q. no-write-placed script ms m q) sent quiet)
+
+            past : Each (IsPastMark (lasts_in next)) (turn.marks ++ sent)
+            past = each_append (IsPastMark (lasts_in next)) turn.marks sent (each_weaker (IsPastHere (λ g. (turn.seg.locals g).last) (at i)) (IsPastMark (lasts_in next)) past-one turn.marks v.past) (each_weaker NoWrite (IsPastMark (lasts_in next)) (λ m q. no-write-past (lasts_in next) m q) sent quiet)
+
+            told : StepTold script (ms ++ (turn.marks ++ sent)) (locals_in next) step
+            told one =
+                each_append (SentTold script (ms ++ (turn.marks ++ sent)) (locals_in next) (at i)) turn.marks sent (plain-told (ms ++ (turn.marks ++ sent)) turn.marks plain)
+                (sent-told (ms ++ (turn.marks ++ sent)) (λ node. turn.seg.sent) turn.outs
+                (each_weaker (λ (o : Out). IsOutOf script (ms ++ turn.marks) (λ g. (turn.seg.locals g).last) (at i) o.message) (λ (o : Out). IsOutOf script (ms ++ (turn.marks ++ sent)) (λ g. (turn.seg.locals g).last) (at i) o.message) (λ o d. out-more o.message d) turn.outs v.outs))
+
+            kept : (j g : ℕ) → IsAnswerOf script (ms ++ (turn.marks ++ sent)) ((next j).locals g).last (at j) (gx g) ((next j).locals g).answer
+            kept j g = by_test (eqb j i) refl
+              where
+                by_test : (q : Bool) → eqb j i ≡ q → IsAnswerOf script (ms ++ (turn.marks ++ sent)) ((if q then (seg_rule script (w.segs i) (here.Deliver from envelope) fails).seg else w.segs j).locals g).last (at j) (gx g) ((if q then (seg_rule script (w.segs i) (here.Deliver from envelope) fails).seg else w.segs j).locals g).answer
+                by_test true q =
+                    subst (λ a. IsAnswerOf script (ms ++ (turn.marks ++ sent)) (turn.seg.locals g).last (at a) (gx g) (turn.seg.locals g).answer) (sym (eqb-true j i q))
+                    (subst (λ ns. IsAnswerOf script ns (turn.seg.locals g).last (at i) (gx g) (turn.seg.locals g).answer) (append_assoc ms turn.marks sent) (answer-more script numbered_lines (ms ++ turn.marks) sent _ _ (at i) (gx g) (turn.seg.locals g).answer (le-same (turn.seg.locals g).last) (v.kept g)))
+                by_test false q = answer-more script numbered_lines ms (turn.marks ++ sent) _ _ (at j) (gx g) ((w.segs j).locals g).answer (le-same ((w.segs j).locals g).last) (h.kept j g)
+
+            legal : EachMark (WriteLegal script) w.steps e [] (turn.marks ++ sent) []
+            legal = marks-append (WriteLegal script) w.steps e [] turn.marks sent [] (v.legal (sent ++ [])) (no-writes-legal script w.steps e turn.marks sent [] quiet)
+
+  -- ALL EVENTS
+  module _ (w : World) (b : Both script some w) (k : stepping.Holds script w) (h : Holds script w.segs w.steps) where
+    abbrev IsPost : Letter → Type 0
+    IsPost l = IsLetter script w.steps l × (l.from ≡ the_coordinator → MessageIs script (marks_in w.steps) l.to l.envelope.message)
+
+    each-both : (P Q : Letter → Type 0) (ls : List Letter) → Each P ls → Each Q ls → Each (λ l. P l × Q l) ls
+    each-both P Q [] e f = tt
+    each-both P Q (l ∷ ls) e f = ((e.0, f.0), each-both P Q ls e.1 f.1)
+
+    received : (from to : Node) (number : ℕ) (envelope : Envelope) (fails : Bool) → IsFound IsPost from to number envelope → let v : World = does script w (event.Receive from to number) to fails (Some (here.Deliver from envelope)) in Holds script v.segs v.steps
+    received from to number envelope fails d = by_test (is_same_node to the_coordinator) refl
+      where
+        e : Event
+        e = event.Receive from to number
+
+        x : NodeEvent
+        x = here.Deliver from envelope
+
+        not-here : (n : Node) → n ≡ the_coordinator → is_same_node n the_coordinator ≡ false → ⊥
+        not-here n same away = grind (arith, nat_tests)
+
+        place : is_same_node to the_coordinator ≡ false → IsLink script d.letter.from d.letter.to → IsSegment script to × (d.letter.from ≡ the_coordinator)
+        place away (inl l) = (subst (IsSegment script) d.target l.1, l.0)
+        place away (inr l) = absurd (not-here to (sym d.target ∙ l.1) away)
+
+        sending : IsSending w.steps d.is.0.step d.is.0.mark d.letter.from to number envelope.message
+        sending =
+            subst (λ a. IsSending w.steps d.is.0.step d.is.0.mark d.letter.from a number envelope.message) d.target
+            (subst (λ a. IsSending w.steps d.is.0.step d.is.0.mark d.letter.from d.letter.to a envelope.message) d.counted
+            (subst (λ (a : Envelope). IsSending w.steps d.is.0.step d.is.0.mark d.letter.from d.letter.to d.letter.envelope.number a.message) d.told d.is.0.sending))
+
+        back : d.letter.from ≡ the_coordinator → SentBack w.coord w.steps the_coordinator (mark.Sent to number envelope.message)
+        back it = subst (λ n. SentBack w.coord w.steps n (mark.Sent to number envelope.message)) (sending.node ∙ it) (each-get (SentBack w.coord w.steps sending.sender.stamp.node) sending.sender.marks d.is.0.mark _ (each-get (StepBack w.coord w.steps) w.steps d.is.0.step sending.sender b.replied.back sending.at) sending.sent)
+
+        order_is : d.letter.from ≡ the_coordinator → MessageIs script (marks_in w.steps) to envelope.message
+        order_is it = subst (λ n. MessageIs script (marks_in w.steps) n envelope.message) d.target (subst (λ (a : Envelope). MessageIs script (marks_in w.steps) d.letter.to a.message) d.told (d.is.1 it))
+
+        by_test : (q : Bool) → is_same_node to the_coordinator ≡ q → let v : World = if q then coord_did w e (coord_rule script w.coord x fails) else seg_did w to e (seg_rule script (w.segs to.0) x fails) in Holds script v.segs v.steps
+        by_test true q = coord-holds w b.knows.well h e x fails
+        by_test false q = let p = place q d.is.0.link in seg-holds w b k h from to number to.0 p.0 envelope fails (order_is p.1) (back p.1)
+
+    arrives : (from to : Node) (number : ℕ) (fails : Bool) (o : Option Envelope) → found from to number w.sent ≡ o → let v : World = does script w (event.Receive from to number) to fails (delivered from o) in Holds script v.segs v.steps
+    arrives from to number fails None f = h
+    arrives from to number fails (Some envelope) f = received from to number envelope fails (found_is IsPost from to number w.sent envelope (each-both (IsLetter script w.steps) _ w.sent b.knows.well.letters k.orders) f)
+
+    same_not : (q : Bool) → q ≡ true → q ≡ false → ⊥
+    same_not q e f = grind arith
+
+    event-holds : (e : Event) (fails : Bool) → can script w e ≡ true → let v : World = does script w e (node_of e) fails (at_node w e) in Holds script v.segs v.steps
+    event-holds (event.Receive from to number) fails ok = arrives from to number fails (found from to number w.sent) refl
+    event-holds (event.Resume m g) fails ok = absurd (same_not (can script w (event.Resume m g)) ok (never_resumes script some w m (here.Resume g) refl refl))
+    event-holds (event.Start t) fails ok = coord-holds w b.knows.well h (event.Start t) (here.Start t) fails
+    event-holds (event.End t) fails ok = coord-holds w b.knows.well h (event.End t) (here.End t) fails
+    event-holds (event.Resend i g) fails ok = coord-holds w b.knows.well h (event.Resend i g) (here.Resend i g) fails
+    event-holds event.Round fails ok = coord-holds w b.knows.well h event.Round here.Round fails
+
+    happens-holds : (e : Event) (fails : Bool) → let v : World = happens script w e fails in Holds script v.segs v.steps
+    happens-holds e fails = by_can (can script w e) refl
+      where
+        by_can : (q : Bool) → can script w e ≡ q → let v : World = if q then does script w e (node_of e) fails (at_node w e) else w in Holds script v.segs v.steps
+        by_can true ok = event-holds e fails ok
+        by_can false ok = h
+
+  abbrev HoldsIn : World → Type 0
+  HoldsIn w = Holds script w.segs w.steps
+
+  after-holds : (done es : List (Event × Bool)) → HoldsIn (world_of script done) → HoldsIn (after script (world_of script done) es)
+  after-holds done [] h = h
+  after-holds done (x ∷ es) h =
+      subst (λ w. HoldsIn (after script w es)) (after-last script some new_world done x)
+      (after-holds (done ++ x ∷ []) es (subst HoldsIn (sym (after-last script some new_world done x)) (happens-holds (world_of script done) (world-both script some done) (histories.world-holds script some done) h x.0 x.1)))
+
+  pub world-holds : (es : List (Event × Bool)) → Holds script (world_of script es).segs (world_of script es).steps
+  world-holds es = after-holds [] es (record { placed = tt; past = tt; told = tt; kept = λ i h. tt; legal = tt })

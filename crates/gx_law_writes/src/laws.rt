@@ -1,0 +1,50 @@
+//! Laws of every run, whatever the network loses, repeats, delays and reorders, and whichever appends fail.
+ghost use Rattle.std.specs.Prelude.{◌≡◌, ◌≤◌, Bool, List, [], Ok};
+ghost use Rattle.gx_law_sessions.specs.Orders.{AreLinesNumbered};
+ghost use Rattle.gx_ids.specs.declared.ids.Cid.{Cid as OneCid};
+ghost use Rattle.gx_ids.specs.declared.ids.Gxid.{Gxid as OneGxid};
+ghost use Rattle.gx_law_order.specs.Runs.{steps_after};
+ghost use Rattle.gx_plan.specs.Constants.{rows_of};
+ghost use Rattle.gx_rules.specs.Machine.{run_of, world_of};
+ghost use Rattle.gx_script.specs.declared.Script.{Script};
+ghost use Rattle.gx_store.specs.declared.event.Event.{Event as OneEvent};
+ghost use Rattle.gx_store.specs.Runs.{IsLegalHistory};
+ghost use Rattle.gx_tree.specs.declared.expr.Expr.{Expr as OneExpr};
+ghost use Rattle.gx_tree.specs.declared.row.KeyedRow.{KeyedRow as OneRow};
+ghost use Rattle.gx_law_writes.specs.Inserting.{AreInserting};
+ghost use Rattle.gx_law_writes.specs.Inserts.{AreInsertsTold};
+ghost use Rattle.gx_law_writes.specs.Left.{AreLeftLegal};
+ghost use Rattle.gx_law_writes.specs.Rows.{ArePiecesOf, AreRowsOf};
+ghost use Rattle.gx_law_writes.specs.Writes.{AreWritesLegal};
+
+/// An INSERT's rows are those of its tuples, in their order, with ordinals from 1.
+pub fn rows_are_of_their_tuples()
+    ensures { (g : OneGxid) (c : OneCid) (tuples : List (List OneExpr)) (rows : List OneRow) → rows_of g c tuples ≡ Ok rows → AreRowsOf g c 1 tuples rows }
+{}
+
+/// An EXEC of an INSERT has the rows of its statement that are placed at the segment, all of them, in their order.
+pub fn rows_go_where_they_are_placed()
+    ensures { (script : Script) (events : List (OneEvent × Bool)) → 1 ≤ script.segments → AreLinesNumbered [] script.lines → ArePiecesOf script (world_of script events) }
+{}
+
+/// Every write is legal at its point: its command is under way and has its snapshot, or its transaction has aborted, and the row
+/// is one of the statement's, written for the first time at its place. No row is skipped that may not be.
+pub fn writes_are_legal()
+    ensures { (script : Script) (events : List (OneEvent × Bool)) → 1 ≤ script.segments → AreLinesNumbered [] script.lines → AreWritesLegal script [] (steps_after script events) }
+{}
+
+/// An INSERT that is answered has written the row of each of its tuples, and the answer counts them.
+pub fn inserts_are_told()
+    ensures { (script : Script) (events : List (OneEvent × Bool)) → 1 ≤ script.segments → AreLinesNumbered [] script.lines → AreInsertsTold script [] (steps_after script events) }
+{}
+
+/// A run is a legal history if what SELECTs show and on what they fault, what segments refuse, and what the answers of commands
+/// that change rows or lock a table say are so.
+pub fn history_is_legal_with_what_is_left()
+    ensures { (script : Script) (events : List (OneEvent × Bool)) → 1 ≤ script.segments → AreLinesNumbered [] script.lines → AreLeftLegal script [] (steps_after script events) → IsLegalHistory script (run_of (world_of script events)) }
+{}
+
+/// Every run of a script that only inserts is a legal history of one store.
+pub fn histories_of_inserts_are_legal()
+    ensures { (script : Script) (events : List (OneEvent × Bool)) → 1 ≤ script.segments → AreLinesNumbered [] script.lines → AreInserting script.lines → IsLegalHistory script (run_of (world_of script events)) }
+{}

@@ -1,4 +1,0 @@
-use Rattle.gx_network.proofs.admitting.can_at_coordinator.Given as goal
-
-abbrev pub ghost-can : goal.ghost-can
-ghost-can g a = g.c

@@ -1,4 +1,0 @@
-use Rattle.gx_network.proofs.looking.is_unfinished_there.Given as goal
-
-abbrev pub ghost-unfinished : goal.ghost-unfinished
-ghost-unfinished g a = g.c

@@ -1,4 +1,0 @@
-use Rattle.gx_network.proofs.turning.push_step.Given as goal
-
-abbrev pub ghost-note : goal.ghost-note
-ghost-note g a = g.segments

@@ -1,5 +1,0 @@
-pub mod Worlds
-pub mod Networks
-pub mod Made
-pub mod Turns
-pub mod Tables

@@ -1,9 +1,0 @@
-pub mod Plans
-pub mod Asked
-pub mod Turns
-pub mod Replies
-pub mod Starts
-pub mod Carried
-pub mod Busy
-pub mod Nothing
-pub mod Going

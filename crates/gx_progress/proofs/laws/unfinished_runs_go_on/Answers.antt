@@ -1,5 +1,0 @@
-use Rattle.gx_progress.proofs.Going.{goes-on}
-use Rattle.gx_progress.proofs.laws.unfinished_runs_go_on.Goals as goal
-
-pub returns : goal.returns
-returns c = λ script steps session some numbered inserts is l unfinished nothing. goes-on script steps session some inserts is l unfinished nothing

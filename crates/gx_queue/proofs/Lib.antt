@@ -1,5 +1,0 @@
-pub mod Lists
-pub mod Firsts
-pub mod Growing
-pub mod Advancing
-pub mod Noting

@@ -1,6 +1,0 @@
-use Rattle.std.proofs.Common.{take}
-use Rattle.gx_queue.specs.Fresh.{AreFresh}
-use Rattle.gx_queue.proofs.making.fresh_standings.Given as goal
-
-abbrev pub invariant-loop-place : goal.invariant-loop-place
-invariant-loop-place l = AreFresh (take l.place l.lines) l.sessions l.standings.items

@@ -1,4 +1,0 @@
-pub mod Places
-pub mod Queued
-pub mod Fresh
-pub mod Moves

@@ -1,5 +1,0 @@
-use Rattle.gx_replays.proofs.Leading.{coordinator-leads}
-use Rattle.gx_replays.proofs.laws.coordinators_steps_lead_on.Goals as goal
-
-pub returns : goal.returns
-returns c = λ script events step next. coordinator-leads script events step next

@@ -1,5 +1,0 @@
-use Rattle.gx_replays.proofs.Moving.{coordinator-moved}
-use Rattle.gx_replays.proofs.laws.coordinators_steps_move_it.Goals as goal
-
-pub returns : goal.returns
-returns c = λ script steps step next. coordinator-moved script steps step next

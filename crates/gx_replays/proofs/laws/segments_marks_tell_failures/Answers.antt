@@ -1,5 +1,0 @@
-use Rattle.gx_replays.proofs.Failing.{segment-tells}
-use Rattle.gx_replays.proofs.laws.segments_marks_tell_failures.Goals as goal
-
-pub returns : goal.returns
-returns c = λ script seg here fails. segment-tells script seg here fails

@@ -1,5 +1,0 @@
-use Rattle.gx_replays.proofs.Moving.{segment-moved}
-use Rattle.gx_replays.proofs.laws.segments_steps_move_it.Goals as goal
-
-pub returns : goal.returns
-returns c = λ script steps step next. segment-moved script steps step next

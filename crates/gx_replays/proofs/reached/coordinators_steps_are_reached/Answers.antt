@@ -1,5 +1,0 @@
-use Rattle.gx_replays.proofs.Reaching.{coordinator-reached}
-use Rattle.gx_replays.proofs.reached.coordinators_steps_are_reached.Goals as goal
-
-pub returns : goal.returns
-returns c = λ script steps step is next. coordinator-reached script steps is step next

@@ -1,9 +1,0 @@
-use Rattle.std.proofs.Common.{◌≡◌, true}
-use Rattle.std.specs.List.{list_all}
-use Rattle.gx_store.specs.Schedule.{enabled}
-use Rattle.gx_replays.specs.Replays.{is_admitted}
-use Rattle.gx_replays.proofs.Reaching.{by-events, enabled-admitted}
-use Rattle.gx_replays.proofs.reached.enabled_events_are_admitted.Goals as goal
-
-pub returns : goal.returns
-returns c = λ script steps some is. by-events script steps is (λ ss. list_all (is_admitted script ss) (enabled script ss) ≡ true) (enabled-admitted script some)

@@ -1,5 +1,0 @@
-use Rattle.std.proofs.Common.{[], refl}
-use Rattle.gx_replays.proofs.reached.new_runs_are_reached.Goals as goal
-
-pub returns : goal.returns
-returns c = λ script. record { events = []; is = refl }

@@ -1,5 +1,0 @@
-use Rattle.gx_replays.proofs.Reaching.{segment-reached}
-use Rattle.gx_replays.proofs.reached.segments_steps_are_reached.Goals as goal
-
-pub returns : goal.returns
-returns c = λ script steps step is next. segment-reached script steps is step next

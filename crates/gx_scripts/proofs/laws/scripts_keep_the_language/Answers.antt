@@ -1,5 +1,0 @@
-use Rattle.gx_scripts.proofs.Kept.{script-is}
-use Rattle.gx_scripts.proofs.laws.scripts_keep_the_language.Goals as goal
-
-pub returns : goal.returns
-returns c = λ bytes script read. script-is bytes script read

@@ -1,5 +1,0 @@
-use Rattle.gx_shown.proofs.Rows.{rows-same}
-use Rattle.gx_shown.proofs.laws.rows_are_their_images.Goals as goal
-
-pub returns : goal.returns
-returns c = λ xs ys rx ry same. rows-same xs ys rx ry same

@@ -1,5 +1,0 @@
-use Rattle.gx_sights.proofs.Seeing.{world-views}
-use Rattle.gx_sights.proofs.runs.segments_show_the_view.Goals as goal
-
-pub returns : goal.returns
-returns c = λ script events some. world-views script some events

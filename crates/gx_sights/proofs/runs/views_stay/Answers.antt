@@ -1,5 +1,0 @@
-use Rattle.gx_sights.proofs.Staying.{views-stay}
-use Rattle.gx_sights.proofs.runs.views_stay.Goals as goal
-
-pub returns : goal.returns
-returns c = λ script events later some. views-stay script some events later

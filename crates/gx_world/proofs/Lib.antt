@@ -1,0 +1,16 @@
+pub mod Alike
+pub mod Answers
+pub mod Doing
+pub mod Events
+pub mod Gathered
+pub mod Journals
+pub mod Laws
+pub mod Links
+pub mod Posted
+pub mod Receipts
+pub mod Room
+pub mod Segs
+pub mod Shows
+pub mod Starting
+pub mod Turned
+pub mod Places

@@ -1,0 +1,151 @@
+-- A segment's step, as its code does it, is one of the machine.
+use Rattle.std.proofs.Common.{◌≡◌, ◌≤◌, ◌⊎◌, inl, inr, ⊎_elim, ℕ, zero, suc, ◌+◌, ◌-◌, List, [], ◌∷◌, ◌++◌, Some, Bool, true, false, eqb, refl, sym, subst, ap, ◌∙◌, if◌then◌else◌, arith, length, All}
+use Rattle.std.proofs.lemmas.Bool.Decides.{nat_tests}
+use Rattle.std.specs.Prelude.{map, slice_get, slice_set}
+use Rattle.gx_ids.specs.declared.ids.Node.{Node}
+use Rattle.gx_msg.specs.ItemBytes.{bytes_of_item}
+use Rattle.gx_script.specs.declared.Script.{Script}
+use Rattle.gx_store.specs.declared.event.Event.{Event}
+use Rattle.gx_store.specs.declared.node.NodeEvent.{NodeEvent}
+use Rattle.gx_store.specs.declared.node.NodeOut.{NodeOut}
+use Rattle.gx_store.specs.Journals.{is_same_node}
+use Rattle.gx_store.specs.Refusals.{the_coordinator}
+use Rattle.gx_rules.specs.AtCoordinator.{coord_rule}
+use Rattle.gx_rules.specs.AtSegment.{seg_rule}
+use Rattle.gx_rules.specs.Machine as machine
+use Rattle.gx_rules.specs.Machine.{coord_did, does, kept_item, noted, seg_did}
+use Rattle.gx_rules.specs.Maps.{with_at}
+use Rattle.gx_rules.specs.Segments.{Seg}
+use Rattle.gx_segment.specs.declared.segment.Segment.{Segment}
+use Rattle.gx_segment.specs.Steps as segment
+use Rattle.gx_world.specs.Links.{IsAddressed}
+use Rattle.gx_world.specs.declared.network.Network.{Network}
+use Rattle.gx_world.specs.Turns.{HasSteppedAt, IsFit, IsNext}
+use Rattle.gx_world.specs.Networks.{HasTurned, IsAt, Stands}
+use Rattle.gx_world.proofs.Turned.{AreKept, IsPushed, addressed, are-kept}
+
+pub some-same : {A : Type 0} (a b : A) → Some a ≡ Some b → a ≡ b
+some-same a b e = (cc)
+
+-- a place in a list with one changed
+pub get-set : {A : Type 0} (xs : List A) (i k : ℕ) (y x : A) → slice_get (slice_set xs i y) k ≡ Some x → ((k ≡ i) × (x ≡ y)) ⊎ ((k ≡ i → ⊥) × (slice_get xs k ≡ Some x))
+get-set [] i k y x e = absurd (cc)
+get-set (z ∷ xs) zero zero y x e = inl (refl, sym (some-same y x e))
+get-set (z ∷ xs) zero (suc k) y x e = inr (λ h. absurd (omega (arith, h)), e)
+get-set (z ∷ xs) (suc i) zero y x e = inr (λ h. absurd (omega (arith, h)), e)
+get-set (z ∷ xs) (suc i) (suc k) y x e = ⊎_elim (λ (h : (k ≡ i) × (x ≡ y)). inl (ap suc h.0, h.1)) (λ (h : (k ≡ i → ⊥) × (slice_get xs k ≡ Some x)). inr (λ same. h.0 (omega (arith, same)), h.1)) (get-set xs i k y x e)
+
+pub length-set : {A : Type 0} (xs : List A) (i : ℕ) (y : A) → length (slice_set xs i y) ≡ length xs
+length-set [] i y = refl
+length-set (z ∷ xs) zero y = refl
+length-set (z ∷ xs) (suc i) y = ap suc (length-set xs i y)
+
+one-back : (i : ℕ) → 1 ≤ i → i - 1 + 1 ≡ i
+one-back i h = omega arith
+
+here-at : {A : Type 0} (f : ℕ → A) (i : ℕ) (x : A) → with_at f i x i ≡ x
+here-at f i x = ap (λ (b : Bool). if b then x else f i) (self i)
+  where
+    self : (k : ℕ) → eqb k k ≡ true
+    self k = grind (arith, nat_tests)
+
+elsewhere-at : {A : Type 0} (f : ℕ → A) (i : ℕ) (x : A) (j : ℕ) → (j ≡ i → ⊥) → with_at f i x j ≡ f j
+elsewhere-at f i x j differ = ap (λ (b : Bool). if b then x else f j) (apart j i differ)
+  where
+    apart : (a b : ℕ) → (a ≡ b → ⊥) → eqb a b ≡ false
+    apart a b h = grind (arith, nat_tests)
+
+pub stepped-over : {k : ℕ} {xs ys new : List Segment} {s : Seg} {event : NodeEvent} {before after : List (List ℕ)} {faults faults' : ℕ} {out : NodeOut} → xs ≡ ys → HasSteppedAt k xs new s event before after faults faults' out → HasSteppedAt k ys new s event before after faults faults' out
+stepped-over {k = k} e h = record { was = h.was; there = ap (λ zs. slice_get zs k) (sym e) ∙ h.there; now = h.now; all = h.all ∙ ap (λ zs. slice_set zs k h.now) e; stepped = h.stepped }
+
+module _ (script : Script) (w : machine.World) (old : Network) (stands : Stands script w old) (at : Node) (some : 1 ≤ at.0) where
+  pub seg-usable : (s : Segment) → slice_get old.segments.items (at.0 - 1) ≡ Some s → s.spent ≡ false
+  seg-usable s e = (stands.segments (at.0 - 1) s e).usable
+
+  pub seg-is : (s : Segment) → slice_get old.segments.items (at.0 - 1) ≡ Some s → segment.IsSegment s (w.segs at.0)
+  seg-is s e = subst (λ k. segment.IsSegment s (w.segs k)) (one-back at.0 some) (stands.segments (at.0 - 1) s e).is
+
+  pub seg-inside : at.0 ≤ script.segments → at.0 ≤ length old.segments.items
+  seg-inside few = omega (arith, few, stands.count)
+
+  away : is_same_node at the_coordinator ≡ false
+  away = not_zero at some
+    where
+      not_zero : (n : Node) → 1 ≤ n.0 → is_same_node n the_coordinator ≡ false
+      not_zero n h = grind (arith, nat_tests)
+
+  module _ (event : Event) (here : NodeEvent) (before after : List (List ℕ)) (faults faults' : ℕ) (out : NodeOut) (items : List Segment) (next : IsNext script w event at here) (h : HasSteppedAt (at.0 - 1) old.segments.items items (w.segs at.0) here before after faults faults' out) where
+    abbrev turn : Bool → Rattle.gx_rules.specs.Segments.SegTurn
+    turn fails = seg_rule script (w.segs at.0) here fails
+
+    abbrev segs : ℕ → Seg
+    segs = with_at w.segs at.0 (turn h.stepped.fails).seg
+
+    was_script : h.was.script.value ≡ script
+    was_script = (stands.segments (at.0 - 1) h.was h.there).of
+
+    seg_marks : out.marks ≡ (turn h.stepped.fails).marks
+    seg_marks = subst (λ x. out.marks ≡ (seg_rule x (w.segs at.0) here h.stepped.fails).marks) was_script h.stepped.marks
+
+    seg_now : segment.IsSegment h.now (turn h.stepped.fails).seg
+    seg_now = subst (λ x. segment.IsSegment h.now (seg_rule x (w.segs at.0) here h.stepped.fails).seg) was_script h.stepped.is
+
+    abbrev after_turn : Bool → machine.World
+    after_turn b = if b then coord_did w event (coord_rule script w.coord here h.stepped.fails) else seg_did w at event (turn h.stepped.fails)
+
+    seg_fit : IsFit script w.steps at (turn h.stepped.fails).marks
+    seg_fit = next h.stepped.fails (record { stamp = record { clock = (turn h.stepped.fails).seg.clock; node = at }; event = event; marks = (turn h.stepped.fails).marks }) (ap (λ (b : Bool). (after_turn b).steps) away)
+
+    pub seg-addressed : All (IsAddressed script.segments at) out.marks
+    seg-addressed = subst (All (IsAddressed script.segments at)) (sym seg_marks) (addressed script at _ seg_fit.at)
+
+    pub seg-turned : (new : Network) → IsPushed script old new at event out → new.segments.items ≡ items → new.coord ≡ old.coord → new.script ≡ old.script → new.spent ≡ old.spent → HasTurned script w event at here new before after faults faults'
+    seg-turned new pushed same_segments same_coord same_script same_spent =
+        record {
+          fails = h.stepped.fails;
+          is = subst (λ v. Stands script v new) (sym (ap after_turn away)) stands_now;
+          items = subst (λ x. after ≡ before ++ map bytes_of_item (kept_item h.stepped.fails x)) (sym (ap (λ (b : Bool). if b then (coord_rule script w.coord here h.stepped.fails).item else (turn h.stepped.fails).item) away))
+              (subst (λ x. after ≡ before ++ map bytes_of_item (kept_item h.stepped.fails (seg_rule x (w.segs at.0) here h.stepped.fails).item)) was_script h.stepped.items);
+          caused = h.stepped.caused;
+        }
+      where
+        kept : AreKept (noted w at (turn h.stepped.fails).seg.clock event (turn h.stepped.fails).marks) new
+        kept = are-kept script w old new stands at event out _ _ (h.stepped.clock ∙ seg_now.clock) seg_marks seg_fit pushed
+
+        next_after : {k : ℕ} → k ≡ at.0 - 1 → k + 1 ≡ at.0
+        next_after e = omega (arith, e, some)
+
+        not_after : {k : ℕ} → (k ≡ at.0 - 1 → ⊥) → k + 1 ≡ at.0 → ⊥
+        not_after differ e = differ (omega (arith, e, some))
+
+        one : (k : ℕ) (s : Segment) → ((k ≡ at.0 - 1) × (s ≡ h.now)) ⊎ ((k ≡ at.0 - 1 → ⊥) × (slice_get old.segments.items k ≡ Some s)) → IsAt script (seg_did w at event (turn h.stepped.fails)) (k + 1) s
+        one k s (inl e) =
+            record {
+              is = subst (λ (x : Segment). segment.IsSegment x (segs (k + 1))) (sym e.1) (subst (λ j. segment.IsSegment h.now (segs j)) (sym (next_after e.0)) (subst (segment.IsSegment h.now) (sym (here-at w.segs at.0 (turn h.stepped.fails).seg)) seg_now));
+              of = ap (λ (x : Segment). x.script.value) e.1 ∙ ap (λ a. a.value) h.stepped.script ∙ was_script;
+              usable = ap (λ (x : Segment). x.spent) e.1 ∙ h.stepped.usable;
+            }
+        one k s (inr e) =
+            let a = stands.segments k s e.1 in
+            record {
+              is = subst (segment.IsSegment s) (sym (elsewhere-at w.segs at.0 (turn h.stepped.fails).seg (k + 1) (not_after e.0))) a.is;
+              of = a.of;
+              usable = a.usable;
+            }
+
+        stands_now : Stands script (seg_did w at event (turn h.stepped.fails)) new
+        stands_now =
+            record {
+              language = stands.language;
+              of = ap (λ a. a.value) same_script ∙ stands.of;
+              coord = subst (λ x. Rattle.gx_coord.specs.Steps.IsCoord x w.coord) (sym same_coord) stands.coord;
+              coord_script = ap (λ x. x.script.value) same_coord ∙ stands.coord_script;
+              coord_usable = ap (λ x. x.spent) same_coord ∙ stands.coord_usable;
+              count = ap length (same_segments ∙ h.all) ∙ length-set old.segments.items (at.0 - 1) h.now ∙ stands.count;
+              segments = λ k s e. one k s (get-set old.segments.items (at.0 - 1) k h.now s (subst (λ xs. slice_get xs k ≡ Some s) (same_segments ∙ h.all) e));
+              run = kept.run;
+              long = pushed.long;
+              letters = kept.letters;
+              placed = kept.placed;
+              usable = same_spent ∙ stands.usable;
+            }

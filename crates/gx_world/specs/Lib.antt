@@ -1,0 +1,6 @@
+pub mod Worlds
+pub mod Networks
+pub mod Made
+pub mod Turns
+pub mod Tables
+pub mod Links

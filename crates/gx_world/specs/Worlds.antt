@@ -1,0 +1,50 @@
+-- What a world is, to those who call it, and what a step of it is.
+use Rattle.std.specs.Prelude.{◌≡◌, ◌≤◌, ℕ, ◌++◌, ◌∷◌, [], Bool, true, false, List, length, map, slice_get, Some}
+use Rattle.gx_ids.specs.declared.ids.Node.{Node}
+use Rattle.gx_msg.specs.ItemBytes.{bytes_of_item}
+use Rattle.gx_outside.specs.Causes.{Rose}
+use Rattle.gx_script.specs.declared.Script.{Script}
+use Rattle.gx_store.specs.declared.event.Event.{Event}
+use Rattle.gx_store.specs.declared.run.Run.{Run}
+use Rattle.gx_store.specs.declared.run.Step.{Step}
+use Rattle.gx_store.specs.Journals.{is_same_node}
+use Rattle.gx_rules.specs.Machine as machine
+use Rattle.gx_rules.specs.Machine.{happens, node_of}
+use Rattle.gx_law_order.specs.Journals.{takes}
+use Rattle.gx_law_runs.specs.Replays.{world_behind}
+
+-- it is spent once memory has run out in a step
+pub record WorldState : Type 0 where
+  pub script : Script
+  pub run : Run
+  pub spent : Bool
+
+-- what a journal holds, and how often it failed
+pub record Shelf : Type 0 where
+  pub items : List (List ℕ)
+  pub faults : ℕ
+
+abbrev pub shelf : List (List ℕ) → ℕ → Shelf
+shelf items faults = record { items = items; faults = faults }
+
+-- what an event made of a node's journal: it holds the items that the event adds there, and where an append failed at the
+-- event's node, its count rose
+pub record HasTaken (script : Script) (w : machine.World) (event : Event) (fails : Bool) (node : Node) (before after : Shelf) : Type 0 where
+  pub items : after.items ≡ before.items ++ map bytes_of_item (takes script w event fails node)
+  pub caused : is_same_node (node_of event) node ≡ true → fails ≡ true → Rose before.faults after.faults
+  pub faults : is_same_node (node_of event) node ≡ false → after.faults ≡ before.faults
+
+-- no journal's count of failures has fallen
+pub record AreLater (before after : List Shelf) : Type 0 where
+  pub count : length after ≡ length before
+  pub each : (k : ℕ) (b a : Shelf) → slice_get before k ≡ Some b → slice_get after k ≡ Some a → b.faults ≤ a.faults
+
+-- one more step was done, with this event, by the rule of its node, for an append that fails or not; the journals took what it adds
+pub record HasStepped (script : Script) (old new : List Step) (event : Event) (before after : List Shelf) : Type 0 where
+  pub step : Step
+  pub of : step.event ≡ event
+  pub is : new ≡ old ++ step ∷ []
+  pub fails : Bool
+  pub by_rule : new ≡ (happens script (world_behind script old) event fails).steps
+  pub count : length after ≡ length before
+  pub journals : (node : Node) (b a : Shelf) → slice_get before node.0 ≡ Some b → slice_get after node.0 ≡ Some a → HasTaken script (world_behind script old) event fails node b a

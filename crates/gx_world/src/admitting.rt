@@ -1,0 +1,75 @@
+// What is admitted.
+ghost use Rattle.std.specs.Prelude.{◌≡◌, true, false, if◌then◌else◌, IfOk, length};
+ghost use Rattle.gx_coord.specs.Steps.{IsCoord};
+ghost use Rattle.gx_world.specs.Links.{link_in};
+ghost use Rattle.gx_law_runs.specs.Replays.{coordinator_after, is_admitted};
+ghost use Rattle.gx_rules.specs.AtCoordinator.{coord_can, is_segment};
+ghost use Rattle.gx_rules.specs.Coordinators.{Coord as RuleCoord};
+ghost use Rattle.gx_law_schedules.specs.Links.{is_number};
+ghost use Rattle.gx_store.specs.Journals.{is_same_node};
+ghost use Rattle.gx_store.specs.Refusals.{the_coordinator};
+ghost use Rattle.gx_store.specs.declared.event.Event.TheVariants.{Receive};
+ghost use Rattle.gx_world.specs.Networks.{IsNetwork};
+
+use crate::network::Network;
+use gx_ids::{Mem, Node};
+use crate::Letters;
+use gx_script::Script;
+use gx_store::{Event, NodeEvent};
+
+// Whether the event may be done now.
+pub(crate) fn can(network: &Network, event: Event) -> Mem<bool>
+    requires is { IsNetwork network.now }
+    requires usable { network.now.spent ≡ false }
+    ensures { IfOk result (λ can. can ≡ is_admitted network.now.script.value network.now.run.steps event) }
+{
+    match event {
+        Event::Receive { from, to, number } => Ok(can_receive(network, from, to, number)),
+        Event::Start(session) => can_begin(network, NodeEvent::Start(session)),
+        Event::End(session) => can_begin(network, NodeEvent::End(session)),
+        Event::Resend { segment, gxid } => { can_begin(network, NodeEvent::Resend(segment, gxid)) }
+        Event::Round => can_begin(network, NodeEvent::Round),
+        Event::Resume { node: _, gxid: _ } => Ok(false),
+    }
+}
+
+fn can_begin(network: &Network, there: NodeEvent) -> Mem<bool>
+    requires is { IsNetwork network.now }
+    requires usable { network.now.spent ≡ false }
+    ensures { IfOk result (λ can. can ≡ coord_can network.now.script.value (coordinator_after network.now.script.value network.now.run.steps) there) }
+{
+    can_at_coordinator(network, there)
+}
+
+fn can_at_coordinator(network: &Network, there: NodeEvent) -> Mem<bool>
+    ghost c: { RuleCoord }
+    requires is { IsCoord network.now.coord c }
+    ensures { IfOk result (λ can. can ≡ coord_can network.now.coord.script.value c there) }
+{
+    network.coord.can(&there)
+}
+
+// A message can be received that was sent to a segment, or by one to the coordinator.
+fn can_receive(network: &Network, from: Node, to: Node, number: u64) -> bool
+    requires is { IsNetwork network.now }
+    requires usable { network.now.spent ≡ false }
+    ensures { result ≡ is_admitted network.now.script.value network.now.run.steps (Receive from to number) }
+{
+    was_sent(&network.letters, from, to, number) && is_heard(&network.script, from, to)
+}
+
+fn is_heard(script: &Script, from: Node, to: Node) -> bool
+    ensures { result ≡ (if is_same_node to the_coordinator then is_segment script.now from else true) }
+{
+    if to.0 == 0 {
+        1 <= from.0 && from.0 <= script.segments
+    } else {
+        true
+    }
+}
+
+fn was_sent(letters: &Letters, from: Node, to: Node, number: u64) -> bool
+    ensures { result ≡ is_number number (length (link_in letters.now from to)) }
+{
+    1 <= number && number <= letters.count(from, to)
+}

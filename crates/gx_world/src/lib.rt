@@ -1,0 +1,16 @@
+//! The nodes of a script and every message ever sent between them: a run grows event by event.
+#![tactic(auto)]
+
+mod admitting;
+mod arriving;
+pub mod letters;
+mod looking;
+mod making;
+mod moves;
+mod network;
+mod tables;
+mod turning;
+pub mod world;
+
+pub use letters::{Letters, Place};
+pub use world::World;

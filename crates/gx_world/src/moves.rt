@@ -1,0 +1,75 @@
+// A network goes on by one event.
+ghost use Rattle.std.specs.Prelude.{◌≡◌, ◌≤◌, ◌<◌, ◌^◌, length, map, true, false, Some, OnOk, OnErr};
+ghost use Rattle.gx_law_runs.specs.Replays.{is_admitted};
+ghost use Rattle.gx_rules.specs.Machine as machine;
+ghost use Rattle.gx_rules.specs.Machine.{can_here};
+ghost use Rattle.gx_rules.specs.Sending.{heard_in};
+ghost use Rattle.gx_world.specs.Turns.{IsNext};
+ghost use Rattle.gx_world.specs.Networks.{HasDone, HasMoved, HasRoom, IsNetwork, Stands};
+ghost use Rattle.gx_world.specs.Worlds.{AreLater, shelf};
+
+use crate::arriving::{event_node, event_there};
+use crate::network::Network;
+use crate::turning::{coord_turn, seg_turn};
+use gx_ids::{Mem, Node};
+use gx_outside::{Gate, Journal};
+use gx_store::{Event, NodeEvent};
+
+// Does an event that may happen.
+pub(crate) fn do_event<J: Journal, G: Gate>(
+    network: &mut Network,
+    event: Event,
+    journals: &mut [J],
+    gate: &G,
+) -> Mem<()>
+    requires is { IsNetwork network.old }
+    requires usable { network.old.spent ≡ false }
+    requires admitted { is_admitted network.old.script.value network.old.run.steps event ≡ true }
+    requires journals { length journals.old ≡ 17 }
+    requires room { length network.old.run.steps < 2 ^ 40 }
+    ensures done { OnOk result (HasDone network.old network.new event (map (λ j. shelf (J.items j) (J.fault_count j)) journals.old) (map (λ j. shelf (J.items j) (J.fault_count j)) journals.new)) }
+    ensures later { AreLater (map (λ j. shelf (J.items j) (J.fault_count j)) journals.old) (map (λ j. shelf (J.items j) (J.fault_count j)) journals.new) }
+    ensures script { network.new.script ≡ network.old.script }
+    ensures err { OnErr result (network.new.run ≡ network.old.run) }
+{
+    match event_there(network, event)? {
+        Some(there) => turn(network, event, event_node(event), there, journals, gate),
+        None => unreachable!(),
+    }
+}
+
+// A node does an event that is admitted there.
+fn turn<J: Journal, G: Gate>(
+    network: &mut Network,
+    event: Event,
+    at: Node,
+    there: NodeEvent,
+    journals: &mut [J],
+    gate: &G,
+) -> Mem<()>
+    ghost w: { machine.World }
+    requires stands { Stands network.old.script.value w network.old }
+    requires few { at.0 ≤ network.old.script.value.segments }
+    requires admitted { can_here network.old.script.value w at (Some there) ≡ true }
+    requires next { IsNext network.old.script.value w event at there }
+    requires heard { heard_in there < 2 ^ 62 }
+    requires journals { length journals.old ≡ 17 }
+    requires room { HasRoom network.old }
+    ensures moved { OnOk result (HasMoved network.old.script.value w event at there network.new (map (λ j. shelf (J.items j) (J.fault_count j)) journals.old) (map (λ j. shelf (J.items j) (J.fault_count j)) journals.new)) }
+    ensures later { AreLater (map (λ j. shelf (J.items j) (J.fault_count j)) journals.old) (map (λ j. shelf (J.items j) (J.fault_count j)) journals.new) }
+    ensures script { network.new.script ≡ network.old.script }
+    ensures err { OnErr result (network.new.run ≡ network.old.run) }
+{
+    if at.0 == 0 {
+        coord_turn(network, event, there, &mut journals[0])
+    } else {
+        seg_turn(
+            network,
+            event,
+            at,
+            there,
+            &mut journals[usize::from(at.0)],
+            gate,
+        )
+    }
+}

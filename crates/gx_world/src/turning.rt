@@ -1,0 +1,123 @@
+// A node does an event, and what it has done becomes a step of the run.
+ghost use Rattle.std.specs.Prelude.{◌≡◌, ◌≤◌, ◌<◌, ◌^◌, ◌-◌, ◌++◌, ◌∷◌, [], ℕ, true, false, if◌then◌else◌, All, Bool, Some, IfOk, OnOk, OnErr, length, slice_get};
+ghost use Rattle.gx_ids.specs.declared.ids.Node.{Node as OneNode};
+ghost use Rattle.gx_world.specs.Links.{IsAddressed, IsLong, link_in, places_from};
+ghost use Rattle.gx_rules.specs.AtCoordinator.{coord_can};
+ghost use Rattle.gx_rules.specs.Machine as machine;
+ghost use Rattle.gx_rules.specs.Machine.{node_of, seg_can};
+ghost use Rattle.gx_rules.specs.Sending.{heard_in};
+ghost use Rattle.gx_store.specs.Journals.{is_same_node};
+ghost use Rattle.gx_store.specs.Refusals.{the_coordinator};
+ghost use Rattle.gx_rules.specs.Segments.{Seg};
+ghost use Rattle.gx_segment.specs.Steps.{IsSegment};
+ghost use Rattle.gx_segment.specs.declared.segment.Segment.{Segment as OneSegment};
+ghost use Rattle.gx_world.specs.Turns.{HasSteppedAt, IsNext};
+ghost use Rattle.gx_world.specs.Networks.{HasRoom, HasTurned, Stands};
+
+use crate::network::Network;
+use gx_ids::{Mem, Node, Seq, Stamp};
+use gx_outside::{Gate, Journal};
+use gx_segment::Segment;
+use gx_store::{Event, Mark, NodeEvent, NodeOut, Step};
+
+// The coordinator does an event.
+pub(crate) fn coord_turn<J: Journal>(
+    network: &mut Network,
+    event: Event,
+    there: NodeEvent,
+    journal: &mut J,
+) -> Mem<()>
+    ghost w: { machine.World }
+    requires stands { Stands network.old.script.value w network.old }
+    requires admitted { coord_can network.old.script.value w.coord there ≡ true }
+    requires next { IsNext network.old.script.value w event the_coordinator there }
+    requires heard { heard_in there < 2 ^ 62 }
+    requires room { HasRoom network.old }
+    ensures turned { OnOk result (HasTurned network.old.script.value w event the_coordinator there network.new (J.items journal.old) (J.items journal.new) (J.fault_count journal.old) (J.fault_count journal.new)) }
+    ensures later { J.fault_count journal.old ≤ J.fault_count journal.new }
+    ensures script { network.new.script ≡ network.old.script }
+    ensures err { OnErr result (network.new.run ≡ network.old.run) }
+{
+    let out = network.coord.step(there, journal)?;
+    push_step(network, Node(0), event, out)
+}
+
+// A segment does an event.
+pub(crate) fn seg_turn<J: Journal, G: Gate>(
+    network: &mut Network,
+    event: Event,
+    at: Node,
+    there: NodeEvent,
+    journal: &mut J,
+    gate: &G,
+) -> Mem<()>
+    ghost w: { machine.World }
+    requires stands { Stands network.old.script.value w network.old }
+    requires some { 1 ≤ at.0 }
+    requires few { at.0 ≤ network.old.script.value.segments }
+    requires admitted { seg_can there ≡ true }
+    requires next { IsNext network.old.script.value w event at there }
+    requires heard { heard_in there < 2 ^ 62 }
+    requires room { HasRoom network.old }
+    ensures turned { OnOk result (HasTurned network.old.script.value w event at there network.new (J.items journal.old) (J.items journal.new) (J.fault_count journal.old) (J.fault_count journal.new)) }
+    ensures later { J.fault_count journal.old ≤ J.fault_count journal.new }
+    ensures script { network.new.script ≡ network.old.script }
+    ensures err { OnErr result (network.new.run ≡ network.old.run) }
+{
+    let out = seg_step(&mut network.segments, at, there, journal, gate)?;
+    push_step(network, at, event, out)
+}
+
+// The segment of a number, from 1, does an event.
+fn seg_step<J: Journal, G: Gate>(
+    segments: &mut Vec<Segment>,
+    at: Node,
+    there: NodeEvent,
+    journal: &mut J,
+    gate: &G,
+) -> Mem<NodeOut>
+    ghost s: { Seg }
+    requires some { 1 ≤ at.0 }
+    requires few { at.0 ≤ length segments.old.items }
+    requires usable { (segment : OneSegment) → slice_get segments.old.items (at.0 - 1) ≡ Some segment → segment.spent ≡ false }
+    requires is { (segment : OneSegment) → slice_get segments.old.items (at.0 - 1) ≡ Some segment → IsSegment segment s }
+    requires room { All (λ segment. (segment.clock < 2 ^ 62) × (segment.sent < 2 ^ 62)) segments.old.items }
+    requires admitted { seg_can there ≡ true }
+    requires heard { heard_in there < 2 ^ 62 }
+    ensures stepped { IfOk result (λ out. HasSteppedAt (at.0 - 1) segments.old.items segments.new.items s there (J.items journal.old) (J.items journal.new) (J.fault_count journal.old) (J.fault_count journal.new) out) }
+    ensures later { J.fault_count journal.old ≤ J.fault_count journal.new }
+{
+    segments[usize::from(at.0) - 1].step(there, journal, gate)
+}
+
+// What a node has done becomes a step of the run, and where its messages stand is noted.
+fn push_step(network: &mut Network, node: Node, event: Event, out: NodeOut) -> Mem<()>
+    ghost segments: { ℕ }
+    requires long { IsLong segments network.old.letters }
+    requires addressed { All (IsAddressed segments node) out.marks }
+    ensures run { OnOk result (network.new.run.steps ≡ network.old.run.steps ++ record { stamp = record { clock = out.clock; node = node }; event = event; marks = out.marks } ∷ []) }
+    ensures err { OnErr result (network.new.run ≡ network.old.run) }
+    ensures long { OnOk result (IsLong segments network.new.letters) }
+    ensures links { OnOk result ((f t : OneNode) → link_in network.new.letters f t ≡ link_in network.old.letters f t ++ (if is_same_node f node then places_from (length network.old.run.steps) 0 t out.marks else [])) }
+    ensures others { network.new ≡ record network.old { letters = network.new.letters; run = network.new.run } }
+{
+    let step = network.run.steps.len();
+    network.letters.note(node, step, out.marks.as_slice())?;
+    network.run.steps.push(Step {
+        stamp: Stamp {
+            clock: out.clock,
+            node,
+        },
+        event,
+        marks: fitted(out.marks),
+    })
+}
+
+// The marks without spare room, since a run keeps them.
+fn fitted(marks: Seq<Mark>) -> Seq<Mark>
+    ensures { result ≡ marks }
+{
+    let mut items = marks.into_vec();
+    items.shrink_to_fit();
+    Seq::from_vec(items)
+}
