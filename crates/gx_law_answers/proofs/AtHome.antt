@@ -7,7 +7,7 @@ use Rattle.gx_tree.specs.declared.schema.Dist.{Dist}
 use Rattle.gx_tree.specs.declared.schema.Dist.TheVariants.{By, Randomly}
 use Rattle.gx_tree.specs.declared.value.Value.{Value}
 use Rattle.gx_tree.specs.declared.value.Value.TheVariants.{Int, Text}
-use Rattle.gx_place.specs.Place.{key_place, row_place, value_place}
+use Rattle.gx_meaning.specs.Place.{key_place, row_place, value_place}
 use Rattle.gx_script.specs.declared.Script.{Script}
 use Rattle.gx_store.specs.Marks.{node_of}
 use Rattle.gx_store.specs.Points.{marks_in}

@@ -4,7 +4,7 @@ use Rattle.gx_ids.specs.declared.ids.Node.{Node}
 use Rattle.gx_tree.specs.declared.row.KeyedRow.{KeyedRow}
 use Rattle.gx_tree.specs.declared.stmt.Stmt.{Stmt}
 use Rattle.gx_tree.specs.declared.stmt.Stmt.TheVariants as stmt
-use Rattle.gx_eval.specs.declared.fault.ArithFault.{ArithFault}
+use Rattle.gx_meaning.specs.declared.fault.ArithFault.{ArithFault}
 use Rattle.gx_msg.specs.declared.message.Envelope.{Envelope}
 use Rattle.gx_msg.specs.declared.message.Message.TheVariants as message
 use Rattle.gx_msg.specs.declared.reply.Reply.TheVariants as reply

@@ -5,7 +5,7 @@ use Rattle.gx_tree.specs.declared.schema.Dist.{Dist}
 use Rattle.gx_tree.specs.declared.schema.Schema.{Schema}
 use Rattle.gx_tree.specs.declared.stmt.Stmt.{Stmt}
 use Rattle.gx_tree.specs.declared.stmt.Stmt.TheVariants as stmt
-use Rattle.gx_plan.specs.Constants.{HasKey}
+use Rattle.gx_meaning.specs.Constants.{HasKey}
 use Rattle.gx_script.specs.declared.Line.{Line}
 use Rattle.gx_store.specs.Writes.{dist_of}
 

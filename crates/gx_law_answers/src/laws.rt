@@ -2,7 +2,7 @@
 ghost use Rattle.std.specs.Prelude.{◌≡◌, ◌≤◌, Bool, List, []};
 ghost use Rattle.gx_law_answers.specs.Earned.{AreAnswersEarned};
 ghost use Rattle.gx_law_answers.specs.Whole.{AreInsertsWhole};
-ghost use Rattle.gx_gather.specs.Answer.{ArePartsOf, answer_of};
+ghost use Rattle.gx_meaning.specs.Answer.{ArePartsOf, answer_of};
 ghost use Rattle.gx_law_sessions.specs.Finish.{AreSegmentsLegal};
 ghost use Rattle.gx_law_sessions.specs.Orders.{AreLinesNumbered};
 ghost use Rattle.gx_rules.specs.Machine.{run_of, world_of};

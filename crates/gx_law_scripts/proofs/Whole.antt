@@ -10,8 +10,8 @@ use Rattle.gx_tree.specs.declared.schema.Dist.TheVariants as dist
 use Rattle.gx_tree.specs.declared.schema.Schema.{Schema}
 use Rattle.gx_tree.specs.declared.stmt.Stmt.{Stmt}
 use Rattle.gx_tree.specs.declared.stmt.Stmt.TheVariants as stmt
-use Rattle.gx_eval.specs.Kinds.{kind_of}
-use Rattle.gx_plan.specs.Constants.{HasKey}
+use Rattle.gx_meaning.specs.Kinds.{kind_of}
+use Rattle.gx_meaning.specs.Constants.{HasKey}
 use Rattle.gx_resolve.specs.Rules.{column_kind, column_kinds, IsDist, IsStmtOf, IsTuple}
 use Rattle.gx_script.specs.declared.Line.{Line}
 use Rattle.gx_script.specs.declared.Script.{Script}

@@ -21,7 +21,7 @@ use Rattle.gx_visible.specs.Counts.{shown_of}
 use Rattle.gx_rows.specs.declared.version.Version.{Version}
 use Rattle.gx_rows.specs.Rids.{rid_cmp}
 use Rattle.gx_rows.specs.Rows.{is_of_table, rids_of, versions_of}
-use Rattle.gx_gather.specs.Answer.{AreRising}
+use Rattle.gx_meaning.specs.Answer.{AreRising}
 use Rattle.gx_store.specs.Marks.{is_same_rid}
 use Rattle.gx_store.specs.Rows.{row_at}
 use Rattle.gx_local.specs.Filed.{IsFiled, image_at, keyed, rows_at}

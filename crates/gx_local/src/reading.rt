@@ -1,7 +1,7 @@
 ghost use Rattle.std.specs.Prelude.{◌≡◌, ◌++◌, IfOk, OnOk, option_map, option_and_then};
 ghost use Rattle.std.specs.List.{flat_map};
 ghost use Rattle.std.specs.Option.{option_copied};
-ghost use Rattle.gx_gather.specs.Answer.{AreRising};
+ghost use Rattle.gx_meaning.specs.Answer.{AreRising};
 ghost use Rattle.gx_xidmap.specs.Xids.{lxid_of};
 ghost use Rattle.gx_local.specs.Store.{kept_at};
 ghost use Rattle.gx_local.specs.Filed.{current_at, image_at, keyed, last_unaborted, rows_at, versions_in};

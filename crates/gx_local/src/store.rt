@@ -3,7 +3,7 @@ ghost use Rattle.std.specs.Option.{ForSome, option_copied};
 ghost use Rattle.gx_ids.specs.declared.ids.Gxid.{Gxid};
 ghost use Rattle.gx_ids.specs.declared.ids.Table.{Table};
 ghost use Rattle.gx_ids.specs.declared.rid.Rid.{Rid};
-ghost use Rattle.gx_gather.specs.Answer.{AreRising};
+ghost use Rattle.gx_meaning.specs.Answer.{AreRising};
 ghost use Rattle.gx_store.specs.Rows.{row_at};
 ghost use Rattle.gx_local.specs.Store.{empty, writes_of, status_of, shown_row, shown_row_from, newest_of, current_of, greater};
 

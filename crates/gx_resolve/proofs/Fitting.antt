@@ -15,8 +15,8 @@ use Rattle.gx_grammar.specs.declared.syn.Syn.{Syn, map-Syn}
 use Rattle.gx_grammar.specs.declared.syn.Syn.TheOpen.{Syn-F}
 use Rattle.gx_grammar.specs.declared.syn.Syn.TheViews.{roll-Syn}
 use Rattle.gx_grammar.specs.declared.syn.Syn.TheFolds.{fold-roll-Syn, ind-Syn}
-use Rattle.gx_eval.specs.Kinds.{kind_of, is_typed}
-use Rattle.gx_eval.proofs.Nodes.{kind_of-lit, kind_of-col, kind_of-neg, kind_of-bin, is_typed-cmp, is_typed-and, is_typed-or, is_typed-not}
+use Rattle.gx_meaning.specs.Kinds.{kind_of, is_typed}
+use Rattle.gx_meaning.proofs.Nodes.{kind_of-lit, kind_of-col, kind_of-neg, kind_of-bin, is_typed-cmp, is_typed-and, is_typed-or, is_typed-not}
 use Rattle.gx_resolve.specs.Columns.{column_from, column_of}
 use Rattle.gx_resolve.specs.Typing as of
 use Rattle.gx_resolve.specs.declared.typed.Typed.{Typed}

@@ -30,7 +30,7 @@ use Rattle.gx_resolve.specs.Columns.{column_of}
 use Rattle.gx_resolve.specs.Typing.{typed_of}
 use Rattle.gx_resolve.specs.declared.typed.Typed.{Typed}
 use Rattle.gx_resolve.specs.declared.typed.Typed.TheVariants as typed
-use Rattle.gx_eval.specs.Kinds.{kind_of, is_typed}
+use Rattle.gx_meaning.specs.Kinds.{kind_of, is_typed}
 use Rattle.gx_resolve.specs.declared.fault.NameFault.TheVariants.{UnknownColumn}
 use Rattle.gx_resolve.specs.Results.{Answer, ◌>>=◌, each}
 use Rattle.gx_resolve.specs.Kinding.{column_at, value_as, cond_as, where_as, constant_as, values_as, tuple_as, assign_as}

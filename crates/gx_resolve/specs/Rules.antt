@@ -16,7 +16,7 @@ use Rattle.gx_tree.specs.declared.query.Query.{Query}
 use Rattle.gx_tree.specs.declared.stmt.Assign.{Assign}
 use Rattle.gx_tree.specs.declared.stmt.Stmt.{Stmt}
 use Rattle.gx_tree.specs.declared.stmt.Stmt.TheVariants as stmt
-use Rattle.gx_eval.specs.Kinds.{kind_of, IsTyped}
+use Rattle.gx_meaning.specs.Kinds.{kind_of, IsTyped}
 
 -- LISTS
 abbrev pub IsOneOf : {A : Type 0} → A → List A → Type 0

@@ -1,5 +1,5 @@
 ghost use Rattle.std.specs.Prelude.{◌≡◌, ◌<◌, ◌≤◌, ◌^◌, true, false, None, IfOk, OnErr};
-ghost use Rattle.gx_gather.specs.Answer.{AreRising};
+ghost use Rattle.gx_meaning.specs.Answer.{AreRising};
 ghost use Rattle.gx_rules.specs.Machine.{seg_can};
 ghost use Rattle.gx_rules.specs.Segments.{Seg, new_segment};
 ghost use Rattle.gx_rules.specs.Sending.{heard_in};

@@ -2,7 +2,7 @@ use Rattle.std.proofs.Common.{sym, subst}
 use Rattle.std.proofs.lemmas.Result.{IfOk-weaker}
 use Rattle.std.specs.List.Sorted.{IsStrictlySortedBy}
 use Rattle.gx_rows.specs.Rids.{rid_cmp}
-use Rattle.gx_gather.specs.Answer.{AreRising}
+use Rattle.gx_meaning.specs.Answer.{AreRising}
 use Rattle.gx_local.specs.Filed.{image_at}
 use Rattle.gx_local.proofs.Shown.{AreRising-keyed}
 use Rattle.gx_local.proofs.reading.rows_shown.Goals as goal

@@ -9,7 +9,7 @@ use Rattle.gx_ids.specs.declared.rid.Rid.{Rid}
 use Rattle.gx_tree.specs.Value.{value_order}
 use Rattle.gx_tree.specs.declared.row.KeyedRow.{KeyedRow}
 use Rattle.gx_tree.specs.declared.value.Value.{Value}
-use Rattle.gx_gather.specs.declared.order.SortKey.{SortKey}
+use Rattle.gx_meaning.specs.declared.sort_key.SortKey.{SortKey}
 
 -- the other way round under DESC
 abbrev pub directed : Bool → Ordering → Ordering

@@ -2,7 +2,7 @@
 use Rattle.std.specs.Prelude.{◌≡◌, ◌==◌, All, ℕ, Bool, true, false, if◌then◌else◌, List, [], map, filter, take, slice_get, Option, Some, None, Result, Ok, Err}
 use Rattle.std.specs.List.{flat_map, range_with_len}
 use Rattle.std.specs.List.Sorted.{IsPermutation, IsStrictlySortedBy}
-use Rattle.gx_eval.specs.Meaning.{truth_of}
+use Rattle.gx_meaning.specs.Expressions.{truth_of}
 use Rattle.gx_tree.specs.declared.cell.Cell.{Cell}
 use Rattle.gx_tree.specs.declared.cell.Cell.TheVariants as cell
 use Rattle.gx_tree.specs.declared.cond.Cond.{Cond}
@@ -15,10 +15,10 @@ use Rattle.gx_tree.specs.declared.query.Key.{Key}
 use Rattle.gx_tree.specs.declared.query.Query.{Query}
 use Rattle.gx_tree.specs.declared.row.KeyedRow.{KeyedRow}
 use Rattle.gx_tree.specs.declared.value.Value.{Value}
-use Rattle.gx_gather.specs.declared.order.SortKey.{SortKey}
-use Rattle.gx_gather.specs.Aggregates.{aggregate, cell_at}
-use Rattle.gx_gather.specs.Groups.{group_cell, keys_of, members, place_of}
-use Rattle.gx_gather.specs.Order.{group_order, in_order, rid_order, rising, row_order}
+use Rattle.gx_meaning.specs.declared.sort_key.SortKey.{SortKey}
+use Rattle.gx_meaning.specs.Aggregates.{aggregate, cell_at}
+use Rattle.gx_meaning.specs.Groups.{group_cell, keys_of, members, place_of}
+use Rattle.gx_meaning.specs.Order.{group_order, in_order, rid_order, rising, row_order}
 
 -- the condition, if there is one, is true on the row
 abbrev pub keeps : Option Cond → KeyedRow → Bool

@@ -8,9 +8,9 @@ use Rattle.gx_tree.specs.declared.query.Query.{Query}
 use Rattle.gx_tree.specs.declared.query.Item.TheVariants.{Col}
 use Rattle.gx_tree.specs.declared.row.KeyedRow.{KeyedRow}
 use Rattle.gx_tree.specs.declared.value.Value.{Value}
-use Rattle.gx_gather.specs.Cells.{combine_all}
-use Rattle.gx_gather.specs.Aggregates.{aggregate, cell_at}
-use Rattle.gx_gather.specs.Groups.{is_same_key, key_of, members, place_of}
+use Rattle.gx_meaning.specs.Cells.{combine_all}
+use Rattle.gx_meaning.specs.Aggregates.{aggregate, cell_at}
+use Rattle.gx_meaning.specs.Groups.{is_same_key, key_of, members, place_of}
 
 -- without GROUP BY there is one group, whatever the rows
 abbrev pub is_only : List ℕ → List Value → Bool

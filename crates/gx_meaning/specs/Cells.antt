@@ -11,7 +11,7 @@ use Rattle.gx_tree.specs.declared.query.Item.{Item}
 use Rattle.gx_tree.specs.declared.query.Item.TheVariants.{Col, Count, Sum, Min, Max}
 use Rattle.gx_tree.specs.declared.value.Value.{Value}
 use Rattle.gx_tree.specs.declared.value.Value.TheVariants as value
-use Rattle.gx_gather.specs.Aggregates.{number_cell}
+use Rattle.gx_meaning.specs.Aggregates.{number_cell}
 
 -- a value's number; a text has none
 abbrev pub number_at : Option Value → Cell

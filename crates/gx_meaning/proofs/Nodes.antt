@@ -12,9 +12,9 @@ use Rattle.gx_tree.specs.declared.cond.Cond.{Cond, Cmp, And, Or, Not}
 use Rattle.gx_tree.specs.declared.cond.Cond.TheVariants.{rolls-Cmp, rolls-And, rolls-Or, rolls-Not}
 use Rattle.gx_tree.specs.declared.cond.Cond.TheOpen.{Cond-F}
 use Rattle.gx_tree.specs.declared.cond.Cond.TheFolds.{fold-roll-Cond}
-use Rattle.gx_eval.specs.Kinds.{value_kind, kind_of, kind_step, number_kind, is_typed, typed_step, are_comparable}
-use Rattle.gx_eval.specs.Meaning.{value_of, value_step, truth_of, truth_step, order_of, compared, and_then, in_range, number_in, arithmetic, column_of}
-use Rattle.gx_eval.specs.declared.fault.ArithFault.{ArithFault}
+use Rattle.gx_meaning.specs.Kinds.{value_kind, kind_of, kind_step, number_kind, is_typed, typed_step, are_comparable}
+use Rattle.gx_meaning.specs.Expressions.{value_of, value_step, truth_of, truth_step, order_of, compared, and_then, in_range, number_in, arithmetic, column_of}
+use Rattle.gx_meaning.specs.declared.fault.ArithFault.{ArithFault}
 
 abbrev Valued : Type 0
 Valued = Result Value ArithFault

@@ -9,10 +9,10 @@ use Rattle.gx_tree.specs.declared.cond.CmpOp.TheVariants as op
 use Rattle.gx_tree.specs.declared.cond.Cond.{Cond}
 use Rattle.gx_tree.specs.declared.cond.Cond.TheOpen.{Cond-F}
 use Rattle.gx_tree.specs.declared.cond.Cond.TheFolds.{fold-Cond}
-use Rattle.gx_eval.specs.Meaning.{truth_of}
-use Rattle.gx_place.specs.Place.{value_place, row_place, IsWithin}
-use Rattle.gx_place.specs.declared.segments.Target.{Target}
-use Rattle.gx_place.specs.declared.segments.Target.TheVariants.{One, All}
+use Rattle.gx_meaning.specs.Expressions.{truth_of}
+use Rattle.gx_meaning.specs.Place.{value_place, row_place, IsWithin}
+use Rattle.gx_meaning.specs.declared.target.Target.{Target}
+use Rattle.gx_meaning.specs.declared.target.Target.TheVariants.{One, All}
 
 -- the literal that the key column is compared with, on either side
 abbrev pub literal_of : ℕ → Expr → Expr → Option Value

@@ -7,9 +7,9 @@ use Rattle.gx_tree.specs.declared.row.KeyedRow.{KeyedRow}
 use Rattle.gx_tree.specs.declared.schema.Dist.{Dist}
 use Rattle.gx_tree.specs.declared.schema.Dist.TheVariants.{By, Randomly}
 use Rattle.gx_tree.specs.declared.value.Value.{Value}
-use Rattle.gx_eval.specs.declared.fault.ArithFault.{ArithFault}
-use Rattle.gx_eval.specs.Kinds.{kind_of}
-use Rattle.gx_eval.specs.Meaning.{and_then, value_of}
+use Rattle.gx_meaning.specs.declared.fault.ArithFault.{ArithFault}
+use Rattle.gx_meaning.specs.Kinds.{kind_of}
+use Rattle.gx_meaning.specs.Expressions.{and_then, value_of}
 
 -- what each item gives, by its number, or the first fault
 abbrev pub each_from : {A B : Type 0} → (ℕ → A → Result B ArithFault) → ℕ → List A → Result (List B) ArithFault

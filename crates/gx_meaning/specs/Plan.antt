@@ -11,14 +11,14 @@ use Rattle.gx_tree.specs.declared.slice.Slice.{Slice}
 use Rattle.gx_tree.specs.declared.slice.Slice.TheVariants as slice
 use Rattle.gx_tree.specs.declared.stmt.Stmt.{Stmt}
 use Rattle.gx_tree.specs.declared.stmt.Stmt.TheVariants.{Select, Insert, Update, Delete, Lock}
-use Rattle.gx_eval.specs.declared.fault.ArithFault.{ArithFault}
-use Rattle.gx_eval.specs.Meaning.{and_then}
-use Rattle.gx_place.specs.Place.{row_place}
-use Rattle.gx_place.specs.Target.{target_of}
-use Rattle.gx_place.specs.declared.segments.Target.{Target}
-use Rattle.gx_place.specs.declared.segments.Target.TheVariants.{One, All as AllOfThem}
-use Rattle.gx_plan.specs.Constants.{rows_of, IsTuple}
-use Rattle.gx_plan.specs.declared.piece.Piece.{Piece}
+use Rattle.gx_meaning.specs.declared.fault.ArithFault.{ArithFault}
+use Rattle.gx_meaning.specs.Expressions.{and_then}
+use Rattle.gx_meaning.specs.Place.{row_place}
+use Rattle.gx_meaning.specs.Target.{target_of}
+use Rattle.gx_meaning.specs.declared.target.Target.{Target}
+use Rattle.gx_meaning.specs.declared.target.Target.TheVariants.{One, All as AllOfThem}
+use Rattle.gx_meaning.specs.Constants.{rows_of, IsTuple}
+use Rattle.gx_meaning.specs.declared.piece.Piece.{Piece}
 
 -- so many segments from a number on
 abbrev pub nodes_from : ℕ → ℕ → List Node

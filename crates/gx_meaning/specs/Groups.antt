@@ -1,14 +1,14 @@
 -- The groups of rows by the values of their GROUP BY columns.
 use Rattle.std.specs.Prelude.{ℕ, suc, Bool, not, ◌==◌, if◌then◌else◌, List, [], ◌∷◌, map, filter, slice_get}
 use Rattle.std.specs.Ordering.{is_eq}
-use Rattle.gx_eval.specs.Meaning.{column_of}
+use Rattle.gx_meaning.specs.Expressions.{column_of}
 use Rattle.gx_tree.specs.declared.cell.Cell.{Cell}
 use Rattle.gx_tree.specs.declared.query.Item.{Item}
 use Rattle.gx_tree.specs.declared.query.Item.TheVariants.{Col}
 use Rattle.gx_tree.specs.declared.row.KeyedRow.{KeyedRow}
 use Rattle.gx_tree.specs.declared.value.Value.{Value}
-use Rattle.gx_gather.specs.Aggregates.{aggregate, cell_at}
-use Rattle.gx_gather.specs.Order.{rising}
+use Rattle.gx_meaning.specs.Aggregates.{aggregate, cell_at}
+use Rattle.gx_meaning.specs.Order.{rising}
 
 -- the values of a row's GROUP BY columns
 abbrev pub key_of : List ℕ → KeyedRow → List Value

@@ -16,8 +16,8 @@ use Rattle.gx_tree.specs.declared.cond.CmpOp.TheVariants.{Eq, Ne, Lt, Le, Gt, Ge
 use Rattle.gx_tree.specs.declared.cond.Cond.{Cond}
 use Rattle.gx_tree.specs.declared.cond.Cond.TheOpen.{Cond-F}
 use Rattle.gx_tree.specs.declared.cond.Cond.TheFolds.{fold-Cond}
-use Rattle.gx_eval.specs.declared.fault.ArithFault.{ArithFault}
-use Rattle.gx_eval.specs.declared.fault.ArithFault.TheVariants.{Overflow, DivisionByZero}
+use Rattle.gx_meaning.specs.declared.fault.ArithFault.{ArithFault}
+use Rattle.gx_meaning.specs.declared.fault.ArithFault.TheVariants.{Overflow, DivisionByZero}
 
 -- from -2^63 to 2^63 - 1
 abbrev pub is_in_range : ℤ → Bool

@@ -5,9 +5,9 @@ use Rattle.gx_tree.specs.declared.schema.Kind.{Kind}
 use Rattle.gx_tree.specs.declared.schema.Kind.TheVariants as kind
 use Rattle.gx_tree.specs.declared.expr.ArithOp.{ArithOp}
 use Rattle.gx_tree.specs.declared.expr.Expr.{Expr, Neg, Bin, Col}
-use Rattle.gx_eval.specs.Kinds.{value_kind, kinds_of, kind_of, number_kind}
-use Rattle.gx_eval.specs.Meaning.{column_of}
-use Rattle.gx_eval.proofs.Nodes.{kind_of-col, kind_of-lit, kind_of-neg, kind_of-bin}
+use Rattle.gx_meaning.specs.Kinds.{value_kind, kinds_of, kind_of, number_kind}
+use Rattle.gx_meaning.specs.Expressions.{column_of}
+use Rattle.gx_meaning.proofs.Nodes.{kind_of-col, kind_of-lit, kind_of-neg, kind_of-bin}
 
 number_kind-number : (j k : Option Kind) (m : Kind) → number_kind j k ≡ Some m → (j ≡ Some kind.Int) × (k ≡ Some kind.Int) × (m ≡ kind.Int)
 number_kind-number (Some kind.Int) (Some kind.Int) m e = (refl, refl, cc)
