@@ -3,10 +3,10 @@ ghost use Rattle.std.specs.Prelude.{◌≡◌, ◌<◌, ◌+◌, ◌^◌, [], Er
 ghost use Rattle.gx_dtx.specs.Table.{IsActive};
 ghost use Rattle.gx_eval.specs.Faults.{eval_fault};
 ghost use Rattle.gx_meaning.specs.declared.fault.ArithFault.{ArithFault as Fault};
-ghost use Rattle.gx_resolve.specs.Rules.{IsStmtOf};
+ghost use Rattle.gx_meaning.specs.Statements.{IsStmtOf};
 ghost use Rattle.gx_rules.specs.AtCoordinator as turns;
 ghost use Rattle.gx_rules.specs.Coordinators.{with_work};
-ghost use Rattle.gx_sql.specs.Language.{IsScript};
+ghost use Rattle.gx_store.specs.Language.{IsScript};
 ghost use Rattle.gx_coord.specs.Books.{IsFramed, command_of, coord_of, stmt_at};
 ghost use Rattle.gx_coord.specs.Faults.{HasConstants, IsCommand, is_short as has_short, planned as rule_plan};
 ghost use Rattle.gx_coord.specs.Sound.{IsDrawn};

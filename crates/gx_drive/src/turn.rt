@@ -6,7 +6,7 @@ ghost use Rattle.gx_law_runs.specs.Endings.{is_any_unfinished};
 ghost use Rattle.gx_world.specs.Worlds.{Shelf, shelf};
 ghost use Rattle.gx_law_runs.specs.Reached.{IsReached};
 ghost use Rattle.gx_law_runs.specs.Replays.{is_admitted};
-ghost use Rattle.gx_sql.specs.Language.{IsScript};
+ghost use Rattle.gx_store.specs.Language.{IsScript};
 ghost use Rattle.gx_store.specs.declared.run.Step.{Step as OneStep};
 ghost use Rattle.gx_drive.specs.Agrees.{HasTurned, IsAgreed, IsDue, IsNoMore};
 ghost use Rattle.gx_drive.specs.Ordered.{AreFailuresFew, IsFirst};

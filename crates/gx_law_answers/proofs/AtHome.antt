@@ -12,7 +12,7 @@ use Rattle.gx_script.specs.declared.Script.{Script}
 use Rattle.gx_store.specs.Marks.{node_of}
 use Rattle.gx_store.specs.Points.{marks_in}
 use Rattle.gx_rules.specs.Machine.{world_of}
-use Rattle.gx_law_sessions.specs.Orders.{AreLinesNumbered}
+use Rattle.gx_store.specs.Language.{AreLinesNumbered}
 use Rattle.gx_law_reads.specs.Sights.{AreAtHome, IsOnlyAt}
 use Rattle.gx_law_writes.proofs.World as writes
 use Rattle.gx_law_answers.specs.Earned.{Events}

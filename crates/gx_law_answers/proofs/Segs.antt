@@ -32,7 +32,7 @@ use Rattle.gx_law_order.proofs.Letters.{IsFound, found_is}
 use Rattle.gx_law_order.proofs.Lists.{Each}
 use Rattle.gx_law_sessions.specs.Alive.{AreAlive, HasAnswered, IsAlive, IsHeard, IsUnderWayBehind}
 use Rattle.gx_law_sessions.specs.Finish.{AreSegmentsLegal}
-use Rattle.gx_law_sessions.specs.Orders.{AreLinesNumbered}
+use Rattle.gx_store.specs.Language.{AreLinesNumbered}
 use Rattle.gx_law_sessions.specs.Rest.{EachMark, Rest}
 use Rattle.gx_law_sessions.proofs.Given.{marks-append, sent-rest}
 use Rattle.gx_law_sessions.proofs.World.{orders-alive}

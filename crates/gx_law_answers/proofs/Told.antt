@@ -46,7 +46,8 @@ use Rattle.gx_rules.specs.Slices.{cause_of}
 use Rattle.gx_law_order.proofs.Lists.{Each, get_kept}
 use Rattle.gx_law_sessions.specs.Finish.{point_at}
 use Rattle.gx_law_sessions.specs.Gathering.{AreAll, AreApart, IsGathered, Taken, nodes_taken, parts_taken}
-use Rattle.gx_law_sessions.specs.Orders.{AreLinesNumbered, level_of_began}
+use Rattle.gx_law_sessions.specs.Orders.{level_of_began}
+use Rattle.gx_store.specs.Language.{AreLinesNumbered}
 use Rattle.gx_law_sessions.proofs.Said.{CalmFor}
 use Rattle.gx_law_commit.proofs.Commits.{take-kept}
 use Rattle.gx_law_writes.proofs.Turns.{NoWrite}

@@ -4,7 +4,7 @@ ghost use Rattle.std.specs.List.{list_all};
 ghost use Rattle.std.specs.declared.alloc.Global.{Global as OneGlobal};
 ghost use Rattle.std.specs.declared.vec.Vec.{Vec as OneVec};
 ghost use Rattle.gx_law_answers.specs.Whole.{AreInsertsWhole};
-ghost use Rattle.gx_law_sessions.specs.Orders.{AreLinesNumbered};
+ghost use Rattle.gx_store.specs.Language.{AreLinesNumbered};
 ghost use Rattle.gx_law_runs.specs.Reached.{HasRoomAfter, IsReached};
 ghost use Rattle.gx_law_runs.specs.Replays.{AreReplayed, IsNextAtCoordinator, IsNextAtSegment, is_admitted, world_behind};
 ghost use Rattle.gx_rules.specs.Machine.{happens, world_of};

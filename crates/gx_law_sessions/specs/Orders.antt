@@ -39,16 +39,6 @@ abbrev pub IsReadBy : List Mark → Level → Gxid → Cid → Stmt → Option S
 IsReadBy marks level g c (stmt.Lock table mode) snapshot = snapshot ≡ None
 IsReadBy marks level g c line snapshot = (x : Snapshot) × (snapshot ≡ Some x) × IsServed marks level g c x
 
--- how many of the lines are of the session
-abbrev pub lines_in : ℕ → List Line → ℕ
-lines_in session [] = 0
-lines_in session (l ∷ ls) = if l.session.0 == session then lines_in session ls + 1 else lines_in session ls
-
--- behind these lines, each line's number is one more than the lines of its session before it
-abbrev pub AreLinesNumbered : List Line → List Line → Type 0
-AreLinesNumbered before [] = Unit {0}
-AreLinesNumbered before (l ∷ ls) = (l.number ≡ lines_in l.session.0 before + 1) × AreLinesNumbered (before ++ l ∷ []) ls
-
 -- the level of the transaction that a line began
 abbrev pub level_by : Option Stmt → Level
 level_by (Some (stmt.Begin level)) = level

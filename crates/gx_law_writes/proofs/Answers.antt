@@ -41,7 +41,7 @@ use Rattle.gx_rules.specs.Coordinators.{Command, Coord, Work, session_of}
 use Rattle.gx_rules.specs.Machine.{World}
 use Rattle.gx_law_order.proofs.Lists.{Each, each_weaker}
 use Rattle.gx_law_order.proofs.Sessions.{Kept, is_closing_in, stage_of}
-use Rattle.gx_law_sessions.specs.Orders.{AreLinesNumbered}
+use Rattle.gx_store.specs.Language.{AreLinesNumbered}
 use Rattle.gx_law_sessions.specs.Rest.{EachMark}
 use Rattle.gx_law_sessions.specs.Standing.{AreSessions, HasSnapshot, Owns, is_busy, level_in, state_in}
 use Rattle.gx_law_sessions.proofs.Said.{CalmFor}

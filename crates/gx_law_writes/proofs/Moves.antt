@@ -35,7 +35,8 @@ use Rattle.gx_rules.specs.Segments.{Local, Seg, SegTurn, reply as reply_out}
 use Rattle.gx_rules.specs.Shown.{shown}
 use Rattle.gx_rules.specs.Slices.{answers, first_fault, inserted, inserts, selects}
 use Rattle.gx_law_order.proofs.Lists.{Each, each_map, each_weaker}
-use Rattle.gx_law_sessions.specs.Orders.{AreLinesNumbered, IsOrder}
+use Rattle.gx_law_sessions.specs.Orders.{IsOrder}
+use Rattle.gx_store.specs.Language.{AreLinesNumbered}
 use Rattle.gx_law_sessions.specs.Rest.{EachMark}
 use Rattle.gx_law_sessions.proofs.Ends.{began-kept}
 use Rattle.gx_law_sessions.proofs.Outs.{MessageIs}

@@ -8,5 +8,6 @@ pub mod Kinds
 pub mod Order
 pub mod Place
 pub mod Plan
+pub mod Statements
 pub mod Tallies
 pub mod Target

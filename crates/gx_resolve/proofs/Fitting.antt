@@ -21,7 +21,7 @@ use Rattle.gx_resolve.specs.Columns.{column_from, column_of}
 use Rattle.gx_resolve.specs.Typing as of
 use Rattle.gx_resolve.specs.declared.typed.Typed.{Typed}
 use Rattle.gx_resolve.specs.declared.typed.Typed.TheVariants.{Value, Cond, Unknown, Mismatch}
-use Rattle.gx_resolve.specs.Rules.{column_kinds, HasColumn}
+use Rattle.gx_meaning.specs.Statements.{column_kinds, HasColumn}
 
 -- the column that is found stands at its place, with its kind and its name
 pub record Stands (columns : List Column) (place : ℕ) (name : List ℕ) (kind : Kind) : Type 0 where

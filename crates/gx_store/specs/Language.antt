@@ -4,7 +4,7 @@ use Rattle.gx_tree.specs.declared.schema.Schema.{Schema}
 use Rattle.gx_script.specs.declared.Line.{Line}
 use Rattle.gx_script.specs.declared.LinkFault.{LinkFault}
 use Rattle.gx_script.specs.declared.Script.{Script}
-use Rattle.gx_resolve.specs.Rules.{AreDistinct, column_text, IsSchema, IsStmtOf}
+use Rattle.gx_meaning.specs.Statements.{AreDistinct, column_text, IsSchema, IsStmtOf}
 
 abbrev pub table_name : Schema → List ℕ
 table_name table = table.name
@@ -28,9 +28,9 @@ lines_in session [] = 0
 lines_in session (l ∷ ls) = if l.session.0 == session then lines_in session ls + 1 else lines_in session ls
 
 -- behind these lines, each line's number is one more than the lines of its session before it
-abbrev pub AreNumbered : List Line → List Line → Type 0
-AreNumbered before [] = Unit {0}
-AreNumbered before (l ∷ ls) = (l.number ≡ lines_in l.session.0 before + 1) × AreNumbered (before ++ l ∷ []) ls
+abbrev pub AreLinesNumbered : List Line → List Line → Type 0
+AreLinesNumbered before [] = Unit {0}
+AreLinesNumbered before (l ∷ ls) = (l.number ≡ lines_in l.session.0 before + 1) × AreLinesNumbered (before ++ l ∷ []) ls
 
 -- where so many sessions have begun, each line is of one of them or begins the next, until all have begun
 abbrev pub BeginInOrder : ℕ → List Line → ℕ → Type 0
@@ -52,6 +52,6 @@ pub record IsScript (script : Script) : Type 0 where
   pub few_sessions : length script.sessions ≤ 64
   pub lines : All (IsLine script.tables (length script.sessions)) script.lines
   pub few_lines : length script.lines ≤ 100000
-  pub numbers : AreNumbered [] script.lines
+  pub numbers : AreLinesNumbered [] script.lines
   pub order : BeginInOrder 0 script.lines (length script.sessions)
   pub faults : All (IsFault script.segments) script.faults
