@@ -15,7 +15,7 @@ use Rattle.gx_rules.specs.System.{IsSystemRun}
 use Rattle.gx_law_order.proofs.Follows.{world_follows}
 use Rattle.gx_law_order.proofs.Ordered.{world_well}
 use Rattle.gx_law_commit.proofs.Whole.{world-follows}
-use Rattle.gx_law_answers.specs.Whole.{AreInsertsWhole}
+use Rattle.gx_store.specs.Whole.{AreInsertsWhole}
 use Rattle.gx_law_answers.proofs.Join.{legal}
 use Rattle.gx_law_answers.proofs.Snaps.{snapshots-one}
 use Rattle.gx_law_answers.proofs.Whole.{filled, keyed}

@@ -1,6 +1,6 @@
 // Running a script that was read, and telling its run.
 ghost use Rattle.std.specs.Prelude.{◌≡◌, [], true, false, All, IfOk, length, map};
-ghost use Rattle.gx_law_answers.specs.Whole.{AreInsertsWhole};
+ghost use Rattle.gx_store.specs.Whole.{AreInsertsWhole};
 ghost use Rattle.gx_drive.specs.Ordered.{AreFirst, IsEnd};
 ghost use Rattle.gx_law_runs.specs.Endings.{is_any_unfinished};
 ghost use Rattle.gx_world.specs.Worlds.{shelf};

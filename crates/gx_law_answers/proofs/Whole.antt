@@ -15,7 +15,7 @@ use Rattle.gx_store.specs.Lines.{InBlock, began_from, closes_block, command_at, 
 use Rattle.gx_store.specs.Marks.{is_same_session}
 use Rattle.gx_store.specs.Writes.{dist_of}
 use Rattle.gx_law_answers.specs.Keyed.{AreInsertsFilled, AreInsertsKeyed}
-use Rattle.gx_law_answers.specs.Whole.{AreInsertsWhole, HaveKeys, IsWholeStmt}
+use Rattle.gx_store.specs.Whole.{AreInsertsWhole, HaveKeys, IsWholeStmt}
 
 module _ (script : Script) (all : AreInsertsWhole script.tables script.lines) where
   abbrev Is : Option Stmt → Type 0

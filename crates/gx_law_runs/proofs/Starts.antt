@@ -25,7 +25,7 @@ use Rattle.gx_store.specs.Writes.{dist_of}
 use Rattle.gx_rules.specs.AtCoordinator.{Reading, begins, behind, commits, dispatches, ends_in, fault_mark, goes, is_idle, kept_at, next_cid, nodes_in, on_line, order_of, order_to, orders_of, reads_by, reads_for, refusal_of, starts_line, table_of}
 use Rattle.gx_rules.specs.Coordinators.{Command, Coord, CoordTurn, Session, new_work, session_of, work_of}
 use Rattle.gx_rules.specs.Snapshots.{snapshot_of}
-use Rattle.gx_law_answers.specs.Whole.{IsWholeStmt}
+use Rattle.gx_store.specs.Whole.{IsWholeStmt}
 use Rattle.gx_law_order.proofs.Lines.{Asks as Admits}
 use Rattle.gx_law_order.proofs.Sessions.{Kept, is_nothing_in, is_open_in, is_working_in}
 use Rattle.gx_law_order.proofs.Stages.{gx}

@@ -18,7 +18,7 @@ use Rattle.gx_script.specs.declared.Script.{Script}
 use Rattle.gx_store.specs.Language.{IsLine, IsTable}
 use Rattle.gx_sql.specs.Script.{Reads}
 use Rattle.gx_store.specs.Writes.{dist_of}
-use Rattle.gx_law_answers.specs.Whole.{AreInsertsWhole, HaveKeys, IsWholeStmt}
+use Rattle.gx_store.specs.Whole.{AreInsertsWhole, HaveKeys, IsWholeStmt}
 use Rattle.gx_law_scripts.proofs.Filled.{IsFilled}
 use Rattle.gx_law_scripts.proofs.Kept.{AreFilled, script-filled, script-is}
 

@@ -20,3 +20,4 @@ pub mod Told
 pub mod Rounds
 pub mod Schedule
 pub mod Language
+pub mod Whole

@@ -1,5 +1,5 @@
 ghost use Rattle.std.specs.Prelude.{◌≡◌, ◌<◌, ◌^◌, true, false, [], IfOk, IsErr, OnOk, OnErr, length, map, option_copied};
-ghost use Rattle.gx_law_answers.specs.Whole.{AreInsertsWhole};
+ghost use Rattle.gx_store.specs.Whole.{AreInsertsWhole};
 ghost use Rattle.gx_law_runs.specs.Reached.{IsReached};
 ghost use Rattle.gx_coord.specs.Unfinished.{is_unfinished};
 ghost use Rattle.gx_ids.specs.declared.ids.SessionId.{SessionId as Id};
