@@ -8,8 +8,8 @@ ghost use Rattle.gx_meaning.specs.Expressions.{value_of};
 use crate::arith::{arith, negated};
 use crate::column::{column_value, number, text};
 use crate::fault::EvalFault;
-use gx_meaning::ArithFault;
 use gx_ids::Duplicate;
+use gx_meaning::ArithFault;
 use gx_tree::{Expr, Row, Txt, Value};
 use std::alloc::Global;
 

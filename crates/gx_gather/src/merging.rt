@@ -14,9 +14,9 @@ ghost use Rattle.gx_meaning.specs.Tallies.{tally, total_at};
 use crate::groups::{Groups, add_group, listed, new_groups};
 use crate::key::GroupKey;
 use crate::order::{compare_groups, compare_rows, group_sort_keys, row_sort_keys};
-use gx_meaning::SortKey;
 use crate::output::{groups_out, rows_out};
 use gx_ids::{Duplicate, Mem};
+use gx_meaning::SortKey;
 use gx_tree::{Group, Item, KeyedRow, OutRow, Part, Query};
 use std::alloc::Global;
 

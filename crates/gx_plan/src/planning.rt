@@ -4,10 +4,10 @@ ghost use Rattle.gx_eval.specs.Faults.{eval_fault};
 ghost use Rattle.gx_meaning.specs.Plan.{IsCommand, IsSame, plan_of};
 
 use crate::insertion::{dealt_rows, insert_pieces};
-use gx_meaning::Piece;
 use crate::sending::{send, send_to_all};
 use gx_eval::EvalFault;
 use gx_ids::{Cid, Duplicate, Gxid, Mem};
+use gx_meaning::Piece;
 use gx_tree::{Schema, Slice, Stmt};
 use std::alloc::Global;
 
