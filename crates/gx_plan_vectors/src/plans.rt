@@ -8,9 +8,9 @@ ghost use Rattle.gx_meaning.specs.Plan.{IsCommand};
 
 use gx_eval::EvalFault;
 use gx_ids::{Boxed, Cid, Gxid, Mem, Rid, Seq, Table};
+use gx_meaning::Piece;
 use gx_modes::Mode;
 use gx_plan::plan;
-use gx_meaning::Piece;
 use gx_tree::{
     ArithOp, Assign, CmpOp, Cond, Dist, Expr, Item, KeyedRow, Query, Row, Schema, Slice, Stmt, Txt,
     Value,
