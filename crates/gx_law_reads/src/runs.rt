@@ -55,6 +55,6 @@ pub fn views_stay()
 
 /// Where each row is written at one segment alone, the rows that the segments show to nobody's transaction, by a snapshot
 /// that is taken at the end of a run, are the final tables.
-pub fn segments_show_the_final_tables()
+pub fn rows_at_home_are_the_final_tables()
     ensures { (script : Script) (events : List (OneEvent × Bool)) (tables : List (OneVec OneRow OneGlobal)) → 1 ≤ script.segments → AreAtHome (marks_in (world_of script events).steps) → AreRowsOfAll 0 (world_of script events) tables → AreFinalFrom 0 (marks_in (world_of script events).steps) tables }
 {}
