@@ -3,7 +3,7 @@ ghost use Rattle.std.specs.Option.{option_to_list};
 ghost use Rattle.gx_ids.specs.declared.ids.SessionId.{SessionId as OneSession};
 ghost use Rattle.gx_script.specs.declared.Line.{Line as OneLine};
 ghost use Rattle.gx_script.specs.declared.Script.{Script};
-ghost use Rattle.gx_sql.specs.Language.{IsScript};
+ghost use Rattle.gx_store.specs.Language.{IsScript};
 ghost use Rattle.gx_store.specs.declared.event.Event.TheVariants.{Start};
 ghost use Rattle.gx_store.specs.declared.run.Step.{Step};
 ghost use Rattle.gx_store.specs.Marks.{answer_count};

@@ -7,7 +7,7 @@ ghost use Rattle.gx_coord.specs.Turns.{AreFit, IsFit, told_by};
 
 use crate::coord::Coord;
 use crate::work::Command;
-use gx_eval::ArithFault;
+use gx_meaning::ArithFault;
 use gx_ids::{Gxid, Mem, Seq, SessionId};
 use gx_merging::merge_parts;
 use gx_script::Script;

@@ -7,7 +7,7 @@ use gx_dsnap::Snapshot;
 use gx_dtx::Dtx;
 use gx_ids::{Cid, Duplicate, Gxid, Mem, Node, Seq};
 use gx_msg::{Message, Out};
-use gx_plan::Piece;
+use gx_meaning::Piece;
 use gx_tree::Level;
 use std::alloc::Global;
 

@@ -6,7 +6,7 @@ ghost use Rattle.gx_agenda.specs.Agrees.{Agree};
 ghost use Rattle.gx_agenda.specs.Queued.{AreCounted};
 ghost use Rattle.gx_law_runs.specs.Reached.{IsReached};
 ghost use Rattle.gx_script.specs.declared.Script.{Script as OneScript};
-ghost use Rattle.gx_sql.specs.Language.{IsScript};
+ghost use Rattle.gx_store.specs.Language.{IsScript};
 ghost use Rattle.gx_store.specs.declared.event.Event.TheVariants.{Receive};
 ghost use Rattle.gx_store.specs.declared.run.Step.{Step as OneStep};
 ghost use Rattle.gx_store.specs.Ordered.{IsLink};

@@ -14,12 +14,12 @@ use Rattle.gx_tree.specs.declared.part.Group.{Group}
 use Rattle.gx_tree.specs.declared.query.Query.{Query}
 use Rattle.gx_tree.specs.declared.row.KeyedRow.{KeyedRow}
 use Rattle.gx_tree.specs.declared.value.Value.{Value}
-use Rattle.gx_gather.specs.Answer.{group_of}
-use Rattle.gx_gather.specs.Groups.{is_same_key, keys_of}
+use Rattle.gx_meaning.specs.Answer.{group_of}
+use Rattle.gx_meaning.specs.Groups.{is_same_key, keys_of}
 use Rattle.gx_gather.specs.Laws.{rising-total}
-use Rattle.gx_gather.specs.Order.{group_order, in_order, rising}
-use Rattle.gx_gather.specs.Tallies.{entry_group, has_group, total_at}
-use Rattle.gx_gather.specs.declared.order.SortKey.{SortKey}
+use Rattle.gx_meaning.specs.Order.{group_order, in_order, rising}
+use Rattle.gx_meaning.specs.Tallies.{entry_group, has_group, total_at}
+use Rattle.gx_meaning.specs.declared.sort_key.SortKey.{SortKey}
 use Rattle.gx_gather.proofs.InOrder.{Equal-from, Rises, filter-in_order, rises_from_sorted, rises_in_order, rises_same}
 use Rattle.gx_gather.proofs.Keys.{filter-keys_of, if_there}
 use Rattle.gx_gather.proofs.Orders.{group-tie, group_order-total, same-exact}

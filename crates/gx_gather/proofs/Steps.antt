@@ -16,12 +16,12 @@ use Rattle.gx_tree.specs.declared.query.Item.{Item}
 use Rattle.gx_tree.specs.declared.query.Query.{Query}
 use Rattle.gx_tree.specs.declared.row.KeyedRow.{KeyedRow}
 use Rattle.gx_tree.specs.declared.value.Value.{Value}
-use Rattle.gx_gather.specs.Aggregates.{aggregate}
-use Rattle.gx_gather.specs.Answer.{ArePartsOf, AreRising, answer_of, group_keys, group_of, grouped_answer, groups_in, keeps, limited, part_of, plain_answer, row_cell, row_keys, rows_in, together}
-use Rattle.gx_gather.specs.Groups.{is_same_key, key_of, keys_of}
-use Rattle.gx_gather.specs.Order.{group_order, in_order, rising, row_order}
-use Rattle.gx_gather.specs.Tallies.{entry_group, joined, out_row, row_group, tally, total_at}
-use Rattle.gx_gather.specs.declared.order.SortKey.{SortKey}
+use Rattle.gx_meaning.specs.Aggregates.{aggregate}
+use Rattle.gx_meaning.specs.Answer.{ArePartsOf, AreRising, answer_of, group_keys, group_of, grouped_answer, groups_in, keeps, limited, part_of, plain_answer, row_cell, row_keys, rows_in, together}
+use Rattle.gx_meaning.specs.Groups.{is_same_key, key_of, keys_of}
+use Rattle.gx_meaning.specs.Order.{group_order, in_order, rising, row_order}
+use Rattle.gx_meaning.specs.Tallies.{entry_group, joined, out_row, row_group, tally, total_at}
+use Rattle.gx_meaning.specs.declared.sort_key.SortKey.{SortKey}
 use Rattle.gx_gather.proofs.Listing.{listed_is, sorted_groups}
 use Rattle.gx_gather.proofs.Totals.{tally-append, tally-parts, tally-rows}
 use Rattle.gx_gather.proofs.Whole.{keys-same, out-same, rows-parts, sorted_rows}

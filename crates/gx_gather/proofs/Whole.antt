@@ -12,12 +12,12 @@ use Rattle.gx_tree.specs.declared.query.Item.TheVariants.{Col, Count, Sum, Min, 
 use Rattle.gx_tree.specs.declared.query.Query.{Query}
 use Rattle.gx_tree.specs.declared.row.KeyedRow.{KeyedRow}
 use Rattle.gx_tree.specs.declared.value.Value.{Value}
-use Rattle.gx_gather.specs.Aggregates.{aggregate}
-use Rattle.gx_gather.specs.Answer.{AreRising, group_of, part_of, rows_in, together}
-use Rattle.gx_gather.specs.Groups.{group_cell, is_same_key, key_of, keys_of, members}
-use Rattle.gx_gather.specs.Order.{group_order, in_order, rid_order, row_order}
-use Rattle.gx_gather.specs.Tallies.{has_group, is_only, out_cell, out_row}
-use Rattle.gx_gather.specs.declared.order.SortKey.{SortKey}
+use Rattle.gx_meaning.specs.Aggregates.{aggregate}
+use Rattle.gx_meaning.specs.Answer.{AreRising, group_of, part_of, rows_in, together}
+use Rattle.gx_meaning.specs.Groups.{group_cell, is_same_key, key_of, keys_of, members}
+use Rattle.gx_meaning.specs.Order.{group_order, in_order, rid_order, row_order}
+use Rattle.gx_meaning.specs.Tallies.{has_group, is_only, out_cell, out_row}
+use Rattle.gx_meaning.specs.declared.sort_key.SortKey.{SortKey}
 use Rattle.gx_gather.proofs.Dividing.{aggregate-same, at-permutation}
 use Rattle.gx_gather.proofs.InOrder.{filter-in_order, in_order_is, rises_in_order, rises_same}
 use Rattle.gx_gather.proofs.Keys.{filter-keys_of, if_there}

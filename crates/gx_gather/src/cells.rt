@@ -1,7 +1,7 @@
 ghost use Rattle.std.specs.Prelude.{◌≡◌, ◌∷◌, [], ◌+ℤ◌, IfOk, map, slice_get};
 ghost use Rattle.std.specs.Int.{int_wrap, w128};
-ghost use Rattle.gx_gather.specs.Aggregates.{aggregate, cell_at, cell_of};
-ghost use Rattle.gx_gather.specs.Cells.{add, cell_order, combine, combine_all, greater_cell, is_null, lesser_cell, number_at};
+ghost use Rattle.gx_meaning.specs.Aggregates.{aggregate, cell_at, cell_of};
+ghost use Rattle.gx_meaning.specs.Cells.{add, cell_order, combine, combine_all, greater_cell, is_null, lesser_cell, number_at};
 
 use gx_ids::{Duplicate, Mem, Seq};
 use gx_tree::{Cell, Item, KeyedRow, Value};

@@ -1,10 +1,10 @@
 ghost use Rattle.std.specs.Prelude.{◌≡◌, [], List, IfOk, OnOk, map, if◌then◌else◌};
 ghost use Rattle.std.specs.BTreeMap.{get, IsOrdered};
 ghost use Rattle.gx_tree.specs.declared.value.Value.{Value as RowValue};
-ghost use Rattle.gx_eval.specs.Meaning.{column_of};
-ghost use Rattle.gx_gather.specs.Groups.{is_same_key, key_of};
-ghost use Rattle.gx_gather.specs.Order.{rising};
-ghost use Rattle.gx_gather.specs.Tallies.{entry_group, joined, total_at};
+ghost use Rattle.gx_meaning.specs.Expressions.{column_of};
+ghost use Rattle.gx_meaning.specs.Groups.{is_same_key, key_of};
+ghost use Rattle.gx_meaning.specs.Order.{rising};
+ghost use Rattle.gx_meaning.specs.Tallies.{entry_group, joined, total_at};
 
 use crate::cells::{combined_cells, empty_aggregates};
 use crate::key::GroupKey;

@@ -37,7 +37,7 @@ impl GroupKey {
 
 impl PartialEq for GroupKey {
     ghost use Rattle.std.specs.Ordering.{eq_by_cmp};
-    ghost use Rattle.gx_gather.specs.Order.{rising};
+    ghost use Rattle.gx_meaning.specs.Order.{rising};
     ghost use Rattle.gx_gather.specs.Laws.{rising-per};
 
     ghost eq = { eq_by_cmp rising };
@@ -57,7 +57,7 @@ impl Eq for GroupKey {
 
 impl Ord for GroupKey {
     ghost use Rattle.std.specs.Prelude.{refl};
-    ghost use Rattle.gx_gather.specs.Order.{rising};
+    ghost use Rattle.gx_meaning.specs.Order.{rising};
     ghost use Rattle.gx_gather.specs.Laws.{rising-total};
 
     ghost cmp = { rising };
@@ -75,7 +75,7 @@ impl Ord for GroupKey {
 
 impl PartialOrd for GroupKey {
     ghost use Rattle.std.specs.Prelude.{Some};
-    ghost use Rattle.gx_gather.specs.Order.{rising};
+    ghost use Rattle.gx_meaning.specs.Order.{rising};
     ghost use Rattle.gx_gather.specs.Laws.{rising-po};
 
     ghost partial_cmp = { λ a b. Some (rising a b) };

@@ -6,16 +6,17 @@ ghost use Rattle.std.specs.Ordering.{is_lt};
 ghost use Rattle.gx_tree.specs.declared.part.Group.{Group as OneGroup};
 ghost use Rattle.gx_tree.specs.declared.row.KeyedRow.{KeyedRow as Keyed};
 ghost use Rattle.gx_tree.specs.declared.value.Value.{Value as RowValue};
-ghost use Rattle.gx_gather.specs.Answer.{ArePartsOf, AreRising, answer_of, group_keys, group_of, grouped_answer, groups_in, limited, part_of, plain_answer, row_keys, rows_in, together};
-ghost use Rattle.gx_gather.specs.Groups.{keys_of};
-ghost use Rattle.gx_gather.specs.Order.{group_order, in_order, rising, row_order};
-ghost use Rattle.gx_gather.specs.Tallies.{tally, total_at};
+ghost use Rattle.gx_meaning.specs.Answer.{ArePartsOf, AreRising, answer_of, group_keys, group_of, grouped_answer, groups_in, limited, part_of, plain_answer, row_keys, rows_in, together};
+ghost use Rattle.gx_meaning.specs.Groups.{keys_of};
+ghost use Rattle.gx_meaning.specs.Order.{group_order, in_order, rising, row_order};
+ghost use Rattle.gx_meaning.specs.Tallies.{tally, total_at};
 
 use crate::groups::{Groups, add_group, listed, new_groups};
 use crate::key::GroupKey;
-use crate::order::{SortKey, compare_groups, compare_rows, group_sort_keys, row_sort_keys};
+use crate::order::{compare_groups, compare_rows, group_sort_keys, row_sort_keys};
 use crate::output::{groups_out, rows_out};
 use gx_ids::{Duplicate, Mem};
+use gx_meaning::SortKey;
 use gx_tree::{Group, Item, KeyedRow, OutRow, Part, Query};
 use std::alloc::Global;
 

@@ -1,19 +1,13 @@
 ghost use Rattle.std.specs.Prelude.{◌≡◌, IfOk};
-ghost use Rattle.gx_gather.specs.Answer.{group_keys, row_keys};
-ghost use Rattle.gx_gather.specs.Groups.{place_of};
-ghost use Rattle.gx_gather.specs.Order.{by_place, by_places, group_order, row_order};
+ghost use Rattle.gx_meaning.specs.Answer.{group_keys, row_keys};
+ghost use Rattle.gx_meaning.specs.Groups.{place_of};
+ghost use Rattle.gx_meaning.specs.Order.{by_place, by_places, group_order, row_order};
 
 use gx_ids::Mem;
+use gx_meaning::SortKey;
 use gx_tree::{Group, Key, KeyedRow, Value};
 use std::alloc::Global;
 use std::cmp::Ordering;
-
-/// A place in lists of values by which they are ordered.
-#[derive(Clone, Copy, Debug)]
-pub struct SortKey {
-    pub place: usize,
-    pub desc: bool,
-}
 
 // Rows by places, and those that tie by identity.
 pub fn compare_rows(keys: &[SortKey], left: &KeyedRow, right: &KeyedRow) -> Ordering

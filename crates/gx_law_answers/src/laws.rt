@@ -1,10 +1,10 @@
 //! Laws of every run, whatever the network loses, repeats, delays and reorders, and whichever appends fail.
 ghost use Rattle.std.specs.Prelude.{◌≡◌, ◌≤◌, Bool, List, []};
 ghost use Rattle.gx_law_answers.specs.Earned.{AreAnswersEarned};
-ghost use Rattle.gx_law_answers.specs.Whole.{AreInsertsWhole};
-ghost use Rattle.gx_gather.specs.Answer.{ArePartsOf, answer_of};
+ghost use Rattle.gx_store.specs.Whole.{AreInsertsWhole};
+ghost use Rattle.gx_meaning.specs.Answer.{ArePartsOf, answer_of};
 ghost use Rattle.gx_law_sessions.specs.Finish.{AreSegmentsLegal};
-ghost use Rattle.gx_law_sessions.specs.Orders.{AreLinesNumbered};
+ghost use Rattle.gx_store.specs.Language.{AreLinesNumbered};
 ghost use Rattle.gx_rules.specs.Machine.{run_of, world_of};
 ghost use Rattle.gx_rules.specs.Merged.{merged_answer};
 ghost use Rattle.gx_rules.specs.System.{IsSystemRun};

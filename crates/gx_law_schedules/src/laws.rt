@@ -4,7 +4,7 @@ ghost use Rattle.std.specs.List.{list_all, list_any};
 ghost use Rattle.gx_ids.specs.declared.ids.Gxid.{Gxid as OneGxid};
 ghost use Rattle.gx_ids.specs.declared.ids.Node.{Node as OneNode};
 ghost use Rattle.gx_ids.specs.declared.ids.SessionId.{SessionId as OneSession};
-ghost use Rattle.gx_law_sessions.specs.Orders.{AreLinesNumbered};
+ghost use Rattle.gx_store.specs.Language.{AreLinesNumbered};
 ghost use Rattle.gx_rules.specs.AtCoordinator.{awaited, coord_can, is_idle, next_line};
 ghost use Rattle.gx_rules.specs.Coordinators.{session_of};
 ghost use Rattle.gx_rules.specs.Machine.{can, found, world_of};

@@ -1,11 +1,11 @@
 //! Laws of every script that was read.
 ghost use Rattle.std.specs.Prelude.{◌≡◌, ◌≤◌, ℕ, Bool, List, [], Ok};
-ghost use Rattle.gx_law_answers.specs.Whole.{AreInsertsWhole};
-ghost use Rattle.gx_law_sessions.specs.Orders.{AreLinesNumbered};
+ghost use Rattle.gx_store.specs.Whole.{AreInsertsWhole};
+ghost use Rattle.gx_store.specs.Language.{AreLinesNumbered};
 ghost use Rattle.gx_rules.specs.Machine.{run_of, world_of};
 ghost use Rattle.gx_rules.specs.System.{IsSystemRun};
 ghost use Rattle.gx_script.specs.declared.Script.{Script};
-ghost use Rattle.gx_sql.specs.Language.{IsScript};
+ghost use Rattle.gx_store.specs.Language.{IsScript};
 ghost use Rattle.gx_sql.specs.Script.{Reads};
 ghost use Rattle.gx_store.specs.Runs.{IsLegalHistory};
 ghost use Rattle.gx_store.specs.declared.event.Event.{Event as OneEvent};

@@ -1,10 +1,10 @@
 //! Laws of every run, whatever the network loses, repeats, delays and reorders, and whichever appends fail.
 ghost use Rattle.std.specs.Prelude.{◌≡◌, ◌≤◌, Bool, List, [], Ok};
-ghost use Rattle.gx_law_sessions.specs.Orders.{AreLinesNumbered};
+ghost use Rattle.gx_store.specs.Language.{AreLinesNumbered};
 ghost use Rattle.gx_ids.specs.declared.ids.Cid.{Cid as OneCid};
 ghost use Rattle.gx_ids.specs.declared.ids.Gxid.{Gxid as OneGxid};
 ghost use Rattle.gx_law_order.specs.Runs.{steps_after};
-ghost use Rattle.gx_plan.specs.Constants.{rows_of};
+ghost use Rattle.gx_meaning.specs.Constants.{rows_of};
 ghost use Rattle.gx_rules.specs.Machine.{run_of, world_of};
 ghost use Rattle.gx_script.specs.declared.Script.{Script};
 ghost use Rattle.gx_store.specs.declared.event.Event.{Event as OneEvent};

@@ -13,10 +13,10 @@ use Rattle.gx_tree.specs.declared.part.Group.{Group}
 use Rattle.gx_tree.specs.declared.query.Item.{Item}
 use Rattle.gx_tree.specs.declared.query.Query.{Query}
 use Rattle.gx_tree.specs.declared.value.Value.{Value}
-use Rattle.gx_gather.specs.Groups.{is_same_key}
+use Rattle.gx_meaning.specs.Groups.{is_same_key}
 use Rattle.gx_gather.specs.Laws.{rising-total}
-use Rattle.gx_gather.specs.Order.{rising}
-use Rattle.gx_gather.specs.Tallies.{is_only, joined, tally, total_at}
+use Rattle.gx_meaning.specs.Order.{rising}
+use Rattle.gx_meaning.specs.Tallies.{is_only, joined, tally, total_at}
 use Rattle.gx_gather.proofs.InOrder.{Equal-from}
 use Rattle.gx_gather.proofs.Keys.{filter-none, filter-once, filter-through, if_there}
 use Rattle.gx_gather.proofs.Orders.{same-exact}

@@ -6,7 +6,7 @@ use Rattle.std.specs.Ordering.{is_eq, is_gt, is_lt, ordering_reverse}
 use Rattle.std.specs.Prelude.{◌&&◌}
 use Rattle.std.specs.declared.cmp.Ordering.{Ordering}
 use Rattle.std.specs.declared.cmp.Ordering.TheVariants.{Less, Equal, Greater}
-use Rattle.gx_gather.specs.Order.{in_order, placed}
+use Rattle.gx_meaning.specs.Order.{in_order, placed}
 use Rattle.gx_gather.proofs.InOrder.{filter-in_order, in_order_is, rises_in_order, rises_same}
 
 neither-reverse : (o : Ordering) → (not (is_lt (ordering_reverse o)) && not (is_lt o)) ≡ is_eq (ordering_reverse o)

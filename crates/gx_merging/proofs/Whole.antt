@@ -9,10 +9,10 @@ use Rattle.gx_tree.specs.declared.part.Group.{Group}
 use Rattle.gx_tree.specs.declared.query.Query.{Query}
 use Rattle.gx_tree.specs.declared.row.KeyedRow.{KeyedRow}
 use Rattle.gx_tree.specs.declared.value.Value.{Value}
-use Rattle.gx_gather.specs.Answer.{group_keys, limited, plain_answer, row_cell, row_keys}
-use Rattle.gx_gather.specs.Order.{group_order, in_order, rising, row_order}
-use Rattle.gx_gather.specs.Tallies.{entry_group, out_row, tally, total_at}
-use Rattle.gx_gather.specs.declared.order.SortKey.{SortKey}
+use Rattle.gx_meaning.specs.Answer.{group_keys, limited, plain_answer, row_cell, row_keys}
+use Rattle.gx_meaning.specs.Order.{group_order, in_order, rising, row_order}
+use Rattle.gx_meaning.specs.Tallies.{entry_group, out_row, tally, total_at}
+use Rattle.gx_meaning.specs.declared.sort_key.SortKey.{SortKey}
 use Rattle.gx_gather.proofs.Listing.{by-key}
 use Rattle.gx_gather.proofs.Orders.{group_order-total}
 use Rattle.gx_rules.specs.Merged.{keys_in, merged_group, merged_groups}

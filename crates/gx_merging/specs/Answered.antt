@@ -3,8 +3,8 @@ use Rattle.std.specs.Prelude.{ℕ, ◌==◌, Bool, not, ◌||◌, List, length, 
 use Rattle.gx_tree.specs.declared.part.Group.{Group}
 use Rattle.gx_tree.specs.declared.query.Query.{Query}
 use Rattle.gx_tree.specs.declared.value.Value.{Value}
-use Rattle.gx_gather.specs.Answer.{group_keys}
-use Rattle.gx_gather.specs.Order.{group_order, in_order}
+use Rattle.gx_meaning.specs.Answer.{group_keys}
+use Rattle.gx_meaning.specs.Order.{group_order, in_order}
 use Rattle.gx_rules.specs.Merged.{keys_in, merged_group}
 
 -- without GROUP BY only the group without values is one of the query's

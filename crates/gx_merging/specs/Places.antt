@@ -1,6 +1,6 @@
 -- The places by which lists of values are ordered, as sort keys.
 use Rattle.std.specs.Prelude.{List, map}
-use Rattle.gx_gather.specs.declared.order.SortKey.{SortKey}
+use Rattle.gx_meaning.specs.declared.sort_key.SortKey.{SortKey}
 use Rattle.gx_merging.specs.declared.order.Place.{Place}
 
 abbrev pub sort_key : Place → SortKey

@@ -1,5 +1,5 @@
 ghost use Rattle.std.specs.Prelude.{◌≡◌, [], IfOk, map, slice_get};
-ghost use Rattle.gx_gather.specs.Aggregates.{aggregate, cell_at, cell_of};
+ghost use Rattle.gx_meaning.specs.Aggregates.{aggregate, cell_at, cell_of};
 
 use gx_ids::{Duplicate, Mem, Seq};
 use gx_tree::{Cell, Item, Value};

@@ -1,6 +1,6 @@
 ghost use Rattle.std.specs.Prelude.{◌≡◌, ◌+ℤ◌, IfOk};
 ghost use Rattle.std.specs.Int.{int_wrap, w128};
-ghost use Rattle.gx_gather.specs.Cells.{add, cell_order, combine, combine_all, greater_cell, is_null, lesser_cell};
+ghost use Rattle.gx_meaning.specs.Cells.{add, cell_order, combine, combine_all, greater_cell, is_null, lesser_cell};
 
 use gx_ids::{Mem, Seq};
 use gx_tree::{Cell, Item};

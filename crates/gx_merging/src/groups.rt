@@ -2,10 +2,10 @@ ghost use Rattle.std.specs.Prelude.{◌≡◌, [], List, IfOk, OnOk, filter, if�
 ghost use Rattle.std.specs.BTreeMap.{get, IsOrdered};
 ghost use Rattle.std.specs.List.{flat_map};
 ghost use Rattle.gx_tree.specs.declared.value.Value.{Value as RowValue};
-ghost use Rattle.gx_gather.specs.Answer.{groups_in};
-ghost use Rattle.gx_gather.specs.Groups.{is_same_key};
-ghost use Rattle.gx_gather.specs.Order.{rising};
-ghost use Rattle.gx_gather.specs.Tallies.{joined, tally, total_at};
+ghost use Rattle.gx_meaning.specs.Answer.{groups_in};
+ghost use Rattle.gx_meaning.specs.Groups.{is_same_key};
+ghost use Rattle.gx_meaning.specs.Order.{rising};
+ghost use Rattle.gx_meaning.specs.Tallies.{joined, tally, total_at};
 ghost use Rattle.gx_merging.specs.Answered.{is_answered};
 
 use crate::cells::empty_cells;

@@ -36,7 +36,7 @@ impl<'a> GroupKey<'a> {
 
 impl<'a> PartialEq for GroupKey<'a> {
     ghost use Rattle.std.specs.Ordering.{eq_by_cmp};
-    ghost use Rattle.gx_gather.specs.Order.{rising};
+    ghost use Rattle.gx_meaning.specs.Order.{rising};
     ghost use Rattle.gx_gather.specs.Laws.{rising-per};
 
     ghost eq = { eq_by_cmp rising };
@@ -56,7 +56,7 @@ impl<'a> Eq for GroupKey<'a> {
 
 impl<'a> Ord for GroupKey<'a> {
     ghost use Rattle.std.specs.Prelude.{refl};
-    ghost use Rattle.gx_gather.specs.Order.{rising};
+    ghost use Rattle.gx_meaning.specs.Order.{rising};
     ghost use Rattle.gx_gather.specs.Laws.{rising-total};
 
     ghost cmp = { rising };
@@ -74,7 +74,7 @@ impl<'a> Ord for GroupKey<'a> {
 
 impl<'a> PartialOrd for GroupKey<'a> {
     ghost use Rattle.std.specs.Prelude.{Some};
-    ghost use Rattle.gx_gather.specs.Order.{rising};
+    ghost use Rattle.gx_meaning.specs.Order.{rising};
     ghost use Rattle.gx_gather.specs.Laws.{rising-po};
 
     ghost partial_cmp = { λ a b. Some (rising a b) };

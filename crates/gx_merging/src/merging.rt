@@ -1,8 +1,8 @@
 ghost use Rattle.std.specs.Prelude.{◌≡◌, ◌++◌, IfOk, OnOk, map};
 ghost use Rattle.std.specs.List.{flat_map};
-ghost use Rattle.gx_gather.specs.Answer.{groups_in, limited, plain_answer, row_keys, rows_in};
-ghost use Rattle.gx_gather.specs.Order.{in_order, row_order};
-ghost use Rattle.gx_gather.specs.Tallies.{entry_group};
+ghost use Rattle.gx_meaning.specs.Answer.{groups_in, limited, plain_answer, row_keys, rows_in};
+ghost use Rattle.gx_meaning.specs.Order.{in_order, row_order};
+ghost use Rattle.gx_meaning.specs.Tallies.{entry_group};
 ghost use Rattle.gx_merging.specs.Answered.{ordered_groups};
 ghost use Rattle.gx_rules.specs.Merged.{merged_answer, merged_groups};
 

@@ -1,7 +1,7 @@
 ghost use Rattle.std.specs.Prelude.{◌≡◌, IfOk, OnOk, map};
-ghost use Rattle.gx_gather.specs.Answer.{group_keys, row_keys};
-ghost use Rattle.gx_gather.specs.Groups.{place_of};
-ghost use Rattle.gx_gather.specs.Order.{by_place, by_places, group_order, in_order, row_order};
+ghost use Rattle.gx_meaning.specs.Answer.{group_keys, row_keys};
+ghost use Rattle.gx_meaning.specs.Groups.{place_of};
+ghost use Rattle.gx_meaning.specs.Order.{by_place, by_places, group_order, in_order, row_order};
 ghost use Rattle.gx_merging.specs.Places.{sort_key, sort_keys};
 
 use crate::groups::Entry;

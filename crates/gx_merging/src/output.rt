@@ -1,6 +1,6 @@
 ghost use Rattle.std.specs.Prelude.{◌≡◌, IfOk, map};
-ghost use Rattle.gx_gather.specs.Answer.{row_cell};
-ghost use Rattle.gx_gather.specs.Tallies.{entry_group, out_cell, out_row};
+ghost use Rattle.gx_meaning.specs.Answer.{row_cell};
+ghost use Rattle.gx_meaning.specs.Tallies.{entry_group, out_cell, out_row};
 
 use crate::cells::cell_at;
 use crate::groups::Entry;

@@ -3,12 +3,13 @@
 
 ghost use Rattle.std.specs.Prelude.{◌≡◌, IfOk};
 ghost use Rattle.gx_tree.specs.declared.schema.Dist.TheVariants.{By, Randomly};
-ghost use Rattle.gx_plan.specs.Constants.{IsConstant, IsTuple};
-ghost use Rattle.gx_plan.specs.Plan.{IsCommand};
+ghost use Rattle.gx_meaning.specs.Constants.{IsConstant, IsTuple};
+ghost use Rattle.gx_meaning.specs.Plan.{IsCommand};
 
 use gx_eval::EvalFault;
 use gx_ids::{Boxed, Cid, Gxid, Mem, Rid, Seq, Table};
-use gx_plan::{Piece, plan};
+use gx_plan::plan;
+use gx_meaning::Piece;
 use gx_tree::{
     ArithOp, Assign, CmpOp, Cond, Dist, Expr, Item, KeyedRow, Query, Row, Schema, Slice, Stmt, Txt,
     Value,
@@ -130,14 +131,14 @@ enum Constant {
     Divides,
 }
 
-#[tactic(auto, using(gx_eval::proofs::Nodes::expression_kinds))]
+#[tactic(auto, using(gx_meaning::proofs::Nodes::expression_kinds))]
 fn number(number: i64) -> Expr
     ensures { IsConstant result }
 {
     Expr::Lit(Value::Int(number))
 }
 
-#[tactic(auto, using(gx_eval::proofs::Nodes::expression_kinds))]
+#[tactic(auto, using(gx_meaning::proofs::Nodes::expression_kinds))]
 fn operation(alloc: Global, op: ArithOp, left: i64, right: i64) -> Mem<Expr>
     ensures { IfOk result (λ expr. IsConstant expr) }
 {

@@ -23,7 +23,7 @@ use Rattle.gx_resolve.specs.Naming.{Name, Used, names_of, names_right}
 use Rattle.gx_resolve.specs.Kinding.{where_as, tuple_as, assign_as}
 use Rattle.gx_resolve.specs.Selecting.{query_as}
 use Rattle.gx_resolve.specs.Resolving.{kinded, sets_key, key_kept, over_found, table_after, stmt_of}
-use Rattle.gx_resolve.specs.Rules.{AreDistinct, column_text}
+use Rattle.gx_meaning.specs.Statements.{AreDistinct, column_text}
 use Rattle.gx_print.specs.Limited.{Each, Some_each, IsWithin, StmtClear}
 use Rattle.gx_print.specs.Written.{name_of_schema, columns_of_schema, table_name, columns_of, cond_syn, tuple_syn, assign_syn, select_syn, mode_at, written}
 use Rattle.gx_print.proofs.Tidied.{tidy, tidy_select, tidy_tuple, tidy_assign, tidied}

@@ -13,7 +13,7 @@ ghost use Rattle.gx_lines.specs.declared.syn.LineSyn.TheVariants.{Table};
 ghost use Rattle.gx_lines.specs.Heads.{table};
 ghost use Rattle.gx_lines.specs.Statements.{stmt};
 ghost use Rattle.gx_resolve.specs.Resolving.{new_table, stmt_of};
-ghost use Rattle.gx_resolve.specs.Rules.{IsSchema};
+ghost use Rattle.gx_meaning.specs.Statements.{IsSchema};
 ghost use Rattle.gx_print.specs.Forms.{IsShallow};
 ghost use Rattle.gx_print.specs.Statements.{stmt_tokens, stmt_text};
 ghost use Rattle.gx_print.specs.Limited.{IsWithin, StmtClear, IsPrintedAs};

@@ -15,7 +15,7 @@ use Rattle.gx_store.specs.declared.mark.Mark.{Mark}
 use Rattle.gx_store.specs.declared.mark.Mark.TheVariants.{Answer}
 use Rattle.gx_store.specs.declared.run.Run.{Run}
 use Rattle.gx_store.specs.declared.run.Step.{Step}
-use Rattle.gx_gather.specs.Aggregates.{cell_of}
+use Rattle.gx_meaning.specs.Aggregates.{cell_of}
 use Rattle.gx_report.specs.Error.{error_text}
 
 -- a quote is doubled

@@ -33,7 +33,7 @@ use Rattle.gx_resolve.specs.Naming.{Name, is_column, is_among, where_names, assi
 use Rattle.gx_resolve.specs.Kinding.{column_at, where_as, assign_as, tuple_as}
 use Rattle.gx_resolve.specs.Selecting.{query_as}
 use Rattle.gx_resolve.specs.Resolving.{kinded, assigns_to, sets_key, key_kept, over_table, over_found, stmt_from, stmt_of, table_named, table_after, column_as, columns_new, dist_as, new_table, table_from}
-use Rattle.gx_resolve.specs.Rules.{IsOneOf, AreDistinct, IsAssign, assigned_column, KeepsKey, IsOver, table_of, IsAt, IsStmtOf, IsFound, column_text, IsDist, IsSchema}
+use Rattle.gx_meaning.specs.Statements.{IsOneOf, AreDistinct, IsAssign, assigned_column, KeepsKey, IsOver, table_of, IsAt, IsStmtOf, IsFound, column_text, IsDist, IsSchema}
 use Rattle.gx_resolve.proofs.Fitting.{Stands}
 use Rattle.gx_resolve.proofs.Names.{known, names_right-then, names_right-assign, assign_first}
 use Rattle.gx_resolve.proofs.Keeping.{bind-ok, same_ok, either-false, each-all, column_within, where-cond, assign-keeps, tuples-keep, query-keeps}

@@ -6,10 +6,10 @@ use Rattle.gx_tree.specs.declared.part.Group.{Group}
 use Rattle.gx_tree.specs.declared.part.Part.{Part}
 use Rattle.gx_tree.specs.declared.query.Query.{Query}
 use Rattle.gx_tree.specs.declared.value.Value.{Value}
-use Rattle.gx_gather.specs.Answer.{group_keys, groups_in, limited, plain_answer, rows_in}
-use Rattle.gx_gather.specs.Groups.{is_same_key, once}
-use Rattle.gx_gather.specs.Order.{group_order, in_order}
-use Rattle.gx_gather.specs.Tallies.{out_row, tally, total_at}
+use Rattle.gx_meaning.specs.Answer.{group_keys, groups_in, limited, plain_answer, rows_in}
+use Rattle.gx_meaning.specs.Groups.{is_same_key, once}
+use Rattle.gx_meaning.specs.Order.{group_order, in_order}
+use Rattle.gx_meaning.specs.Tallies.{out_row, tally, total_at}
 
 -- each key of the groups once; without GROUP BY there is one group
 abbrev pub keys_in : List ℕ → List Group → List (List Value)

@@ -5,7 +5,7 @@ ghost use Rattle.gx_ids.specs.declared.ids.Table.{Table};
 ghost use Rattle.gx_ids.specs.declared.rid.Rid.{Rid};
 ghost use Rattle.gx_tree.specs.declared.row.KeyedRow.{KeyedRow};
 ghost use Rattle.gx_dsnap.specs.declared.snapshot.Snapshot.{Snapshot};
-ghost use Rattle.gx_gather.specs.Answer.{AreRising};
+ghost use Rattle.gx_meaning.specs.Answer.{AreRising};
 ghost use Rattle.gx_store.specs.Marks.{is_same_gxid};
 ghost use Rattle.gx_store.specs.Rows.{row_at};
 ghost use Rattle.gx_rules.specs.Segments.{Seg};

@@ -13,7 +13,7 @@ use crate::entries::take_entry;
 use crate::held::{Entry, Held};
 use crate::running::Ran;
 use gx_ids::{Cid, Duplicate, Gxid, Mem, Node, Seq, Table};
-use gx_local::LocalStore;
+use crate::store::LocalStore;
 use gx_msg::Reply;
 use gx_phases::Phase;
 use gx_store::Mark;

@@ -13,7 +13,7 @@ use crate::held::Held;
 use crate::picking::{Picked, pick};
 use crate::running::Ran;
 use gx_dsnap::Snapshot;
-use gx_eval::ArithFault;
+use gx_meaning::ArithFault;
 use gx_gather::partial;
 use gx_ids::{Cid, Gxid, Mem, Seq};
 use gx_msg::{Cause, Reply};

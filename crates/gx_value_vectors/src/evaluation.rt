@@ -4,9 +4,10 @@
 
 ghost use Rattle.std.specs.Prelude.{◌≡◌, IfOk, Some, []};
 ghost use Rattle.gx_tree.specs.declared.schema.Kind.TheVariants as kind;
-ghost use Rattle.gx_eval.specs.Kinds.{IsTyped, kind_of};
+ghost use Rattle.gx_meaning.specs.Kinds.{IsTyped, kind_of};
 
-use gx_eval::{ArithFault, EvalFault, decide, eval, eval_int, holds};
+use gx_eval::{EvalFault, decide, eval, eval_int, holds};
+use gx_meaning::ArithFault;
 use gx_ids::{Boxed, Mem};
 use gx_tree::{ArithOp, CmpOp, Cond, Expr, Row, Txt, Value};
 use std::alloc::Global;
@@ -21,14 +22,14 @@ const ZERO: Outcome = Err(ArithFault::DivisionByZero);
 
 const ENDS: [i64; 6] = [i64::MIN, -3, -1, 0, 2, i64::MAX];
 
-#[tactic(auto, using(gx_eval::proofs::Nodes::expression_kinds))]
+#[tactic(auto, using(gx_meaning::proofs::Nodes::expression_kinds))]
 fn number(number: i64) -> Expr
     ensures { kind_of [] result ≡ Some kind.Int }
 {
     Expr::Lit(Value::Int(number))
 }
 
-#[tactic(auto, using(gx_eval::proofs::Nodes::expression_kinds))]
+#[tactic(auto, using(gx_meaning::proofs::Nodes::expression_kinds))]
 fn operation(alloc: Global, op: ArithOp, a: i64, b: i64) -> Mem<Expr>
     ensures { IfOk result (λ expr. kind_of [] expr ≡ Some kind.Int) }
 {
@@ -37,7 +38,7 @@ fn operation(alloc: Global, op: ArithOp, a: i64, b: i64) -> Mem<Expr>
     Ok(Expr::Bin(op, left, right))
 }
 
-#[tactic(auto, using(gx_eval::proofs::Nodes::expression_kinds))]
+#[tactic(auto, using(gx_meaning::proofs::Nodes::expression_kinds))]
 fn negation(alloc: Global, a: i64) -> Mem<Expr>
     ensures { IfOk result (λ expr. kind_of [] expr ≡ Some kind.Int) }
 {
@@ -70,7 +71,7 @@ enum Part {
     Divides,
 }
 
-#[tactic(auto, using(gx_eval::proofs::Nodes::typings))]
+#[tactic(auto, using(gx_meaning::proofs::Nodes::typings))]
 fn leaf(alloc: Global, part: Part) -> Mem<Cond>
     ensures { IfOk result (λ cond. IsTyped [] cond) }
 {
@@ -83,7 +84,7 @@ fn leaf(alloc: Global, part: Part) -> Mem<Cond>
     Ok(Cond::Cmp(CmpOp::Eq, left, number(0)))
 }
 
-#[tactic(auto, using(gx_eval::proofs::Nodes::typings))]
+#[tactic(auto, using(gx_meaning::proofs::Nodes::typings))]
 fn joined(alloc: Global, left: Part, is_and: bool, right: Part) -> Mem<Cond>
     ensures { IfOk result (λ cond. IsTyped [] cond) }
 {
@@ -96,21 +97,21 @@ fn joined(alloc: Global, left: Part, is_and: bool, right: Part) -> Mem<Cond>
     })
 }
 
-#[tactic(auto, using(gx_eval::proofs::Nodes::typings))]
+#[tactic(auto, using(gx_meaning::proofs::Nodes::typings))]
 fn negated(alloc: Global, inner: Part) -> Mem<Cond>
     ensures { IfOk result (λ cond. IsTyped [] cond) }
 {
     Ok(Cond::Not(Boxed::new(alloc, leaf(alloc, inner)?)?))
 }
 
-#[tactic(auto, using(gx_eval::proofs::Nodes::typings))]
+#[tactic(auto, using(gx_meaning::proofs::Nodes::typings))]
 fn of_numbers(op: CmpOp, left: i64, right: i64) -> Cond
     ensures { IsTyped [] result }
 {
     Cond::Cmp(op, number(left), number(right))
 }
 
-#[tactic(auto, using(gx_eval::proofs::Nodes::expression_kinds))]
+#[tactic(auto, using(gx_meaning::proofs::Nodes::expression_kinds))]
 fn text(alloc: Global, text: &str) -> Mem<Expr>
     ensures { IfOk result (λ expr. kind_of [] expr ≡ Some kind.Text) }
 {
@@ -118,7 +119,7 @@ fn text(alloc: Global, text: &str) -> Mem<Expr>
     Ok(Expr::Lit(Value::Text(Txt::from_vec(bytes))))
 }
 
-#[tactic(auto, using(gx_eval::proofs::Nodes::typings))]
+#[tactic(auto, using(gx_meaning::proofs::Nodes::typings))]
 fn of_texts(alloc: Global, op: CmpOp, left: &str, right: &str) -> Mem<Cond>
     ensures { IfOk result (λ cond. IsTyped [] cond) }
 {

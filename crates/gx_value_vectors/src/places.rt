@@ -2,7 +2,8 @@
 // values for '', 'a' and 'foobar' are cbf29ce484222325, af63dc4c8601ec8c and 85944171f73967e8.
 
 use gx_ids::{Boxed, Cid, Gxid, Mem, Node, Rid, Seq};
-use gx_place::{Target, place, place_value, target};
+use gx_place::{place, place_value, target};
+use gx_meaning::Target;
 use gx_tree::{CmpOp, Cond, Dist, Expr, Row, Schema, Txt, Value};
 use std::alloc::Global;
 use std::test::Fail;

@@ -1,6 +1,6 @@
 ghost use Rattle.std.specs.Prelude.{◌≡◌, ◌<◌, ◌^◌, [], true, false, IfOk, IsErr, OnOk, OnErr, length, map};
 ghost use Rattle.gx_law_runs.specs.Replays.{is_admitted};
-ghost use Rattle.gx_sql.specs.Language.{IsScript};
+ghost use Rattle.gx_store.specs.Language.{IsScript};
 ghost use Rattle.gx_world.specs.Networks.{HasDone, IsNetwork};
 ghost use Rattle.gx_world.specs.Worlds.{AreLater, shelf};
 

@@ -1,8 +1,8 @@
 use Rattle.std.proofs.Common.{◌≡◌, List, drop}
 use Rattle.std.specs.BTreeMap.{get}
 use Rattle.gx_tree.specs.declared.value.Value.{Value}
-use Rattle.gx_gather.specs.Order.{rising}
-use Rattle.gx_gather.specs.Tallies.{tally}
+use Rattle.gx_meaning.specs.Order.{rising}
+use Rattle.gx_meaning.specs.Tallies.{tally}
 use Rattle.gx_gather.proofs.merging.add_groups.Given as goal
 
 abbrev pub invariant-loop-group : goal.invariant-loop-group

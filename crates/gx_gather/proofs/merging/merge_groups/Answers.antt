@@ -2,9 +2,9 @@ use Rattle.std.proofs.Common.{◌∙◌, ap, map, subst}
 use Rattle.std.proofs.lemmas.Result.{IfOk-weaker}
 use Rattle.std.specs.List.Sorted.{IsSortedBy}
 use Rattle.std.specs.Ordering.{is_lt}
-use Rattle.gx_gather.specs.Answer.{group_keys}
-use Rattle.gx_gather.specs.Order.{group_order}
-use Rattle.gx_gather.specs.Tallies.{out_row}
+use Rattle.gx_meaning.specs.Answer.{group_keys}
+use Rattle.gx_meaning.specs.Order.{group_order}
+use Rattle.gx_meaning.specs.Tallies.{out_row}
 use Rattle.gx_gather.proofs.Steps.{groups_merged}
 use Rattle.gx_gather.proofs.merging.merge_groups.Goals as goal
 

@@ -2,8 +2,8 @@ use Rattle.std.proofs.Common.{◌∙◌, ap, map, subst}
 use Rattle.std.proofs.lemmas.Result.{IfOk-weaker}
 use Rattle.std.specs.List.Sorted.{IsSortedBy}
 use Rattle.std.specs.Ordering.{is_lt}
-use Rattle.gx_gather.specs.Answer.{row_cell, row_keys}
-use Rattle.gx_gather.specs.Order.{row_order}
+use Rattle.gx_meaning.specs.Answer.{row_cell, row_keys}
+use Rattle.gx_meaning.specs.Order.{row_order}
 use Rattle.gx_gather.proofs.Steps.{rows_merged}
 use Rattle.gx_gather.proofs.merging.merge_rows.Goals as goal
 

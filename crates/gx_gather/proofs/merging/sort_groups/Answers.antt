@@ -2,7 +2,7 @@ use Rattle.std.proofs.Common.{rules}
 use Rattle.std.proofs.lemmas.List.Sorted.{ranks_by}
 use Rattle.std.specs.Ordering.{is_lt}
 use Rattle.gx_tree.specs.declared.part.Group.{Group}
-use Rattle.gx_gather.specs.Order.{group_order}
+use Rattle.gx_meaning.specs.Order.{group_order}
 use Rattle.gx_gather.proofs.Orders.{group_order-total}
 use Rattle.std.proofs.lemmas.Fn.{always_returns_same}
 use Rattle.gx_gather.proofs.merging.sort_groups.Goals as goal

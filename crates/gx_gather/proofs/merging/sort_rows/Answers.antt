@@ -2,7 +2,7 @@ use Rattle.std.proofs.Common.{rules, Bor}
 use Rattle.std.proofs.lemmas.List.Sorted.{IsPermutation-map, ranks_by}
 use Rattle.std.specs.Ordering.{is_lt}
 use Rattle.gx_tree.specs.declared.row.KeyedRow.{KeyedRow}
-use Rattle.gx_gather.specs.Order.{row_order}
+use Rattle.gx_meaning.specs.Order.{row_order}
 use Rattle.gx_gather.proofs.Orders.{row_order-total}
 use Rattle.gx_gather.proofs.Whole.{sorted_map}
 use Rattle.std.proofs.lemmas.Fn.{always_returns_same}

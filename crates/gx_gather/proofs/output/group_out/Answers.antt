@@ -1,6 +1,6 @@
 use Rattle.std.proofs.Common.{◌≡◌, ◌∙◌, ◌⊎◌, inl, inr, ◌++◌, List, [], ◌∷◌, length, map, refl, ap, sym, arith, append-nil}
 use Rattle.std.specs.List.{zip}
-use Rattle.gx_gather.specs.Tallies.{out_cell}
+use Rattle.gx_meaning.specs.Tallies.{out_cell}
 use Rattle.gx_gather.proofs.output.group_out.Goals as goal
 
 -- where one of two lists is at its end

@@ -1,10 +1,10 @@
 use Rattle.std.proofs.Common.{◌≡◌, List, [], drop}
 use Rattle.std.specs.BTreeMap.{get}
 use Rattle.gx_tree.specs.declared.value.Value.{Value}
-use Rattle.gx_gather.specs.Order.{rising}
+use Rattle.gx_meaning.specs.Order.{rising}
 use Rattle.std.specs.List.{flat_map}
-use Rattle.gx_gather.specs.Answer.{groups_in}
-use Rattle.gx_gather.specs.Tallies.{tally, total_at}
+use Rattle.gx_meaning.specs.Answer.{groups_in}
+use Rattle.gx_meaning.specs.Tallies.{tally, total_at}
 use Rattle.gx_merging.proofs.groups.groups_of.Given as goal
 
 abbrev pub invariant-loop-part : goal.invariant-loop-part

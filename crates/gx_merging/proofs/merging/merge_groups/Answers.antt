@@ -1,6 +1,6 @@
 use Rattle.std.proofs.Common.{◌∙◌, ap, map}
 use Rattle.std.proofs.lemmas.Result.{IfOk-weaker}
-use Rattle.gx_gather.specs.Tallies.{entry_group, out_row}
+use Rattle.gx_meaning.specs.Tallies.{entry_group, out_row}
 use Rattle.gx_merging.proofs.Listed.{Entry}
 use Rattle.gx_merging.proofs.Whole.{groups_answered}
 use Rattle.gx_merging.proofs.merging.merge_groups.Goals as goal

@@ -2,7 +2,7 @@ use Rattle.std.proofs.Common.{◌∙◌, Bor, ap, map}
 use Rattle.std.proofs.lemmas.Result.{IfOk-weaker}
 use Rattle.std.specs.List.{flat_map}
 use Rattle.gx_tree.specs.declared.row.KeyedRow.{KeyedRow}
-use Rattle.gx_gather.specs.Answer.{row_cell, rows_in}
+use Rattle.gx_meaning.specs.Answer.{row_cell, rows_in}
 use Rattle.gx_merging.proofs.Whole.{rows_answered}
 use Rattle.gx_merging.proofs.merging.merge_rows.Goals as goal
 

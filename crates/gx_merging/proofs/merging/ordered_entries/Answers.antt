@@ -1,6 +1,6 @@
 use Rattle.std.proofs.Common.{◌∙◌, ap, filter}
-use Rattle.gx_gather.specs.Answer.{group_keys}
-use Rattle.gx_gather.specs.Order.{group_order, in_order}
+use Rattle.gx_meaning.specs.Answer.{group_keys}
+use Rattle.gx_meaning.specs.Order.{group_order, in_order}
 use Rattle.gx_merging.specs.Answered.{is_answered}
 use Rattle.gx_merging.specs.Places.{sort_keys}
 use Rattle.gx_merging.proofs.Listed.{Entry}

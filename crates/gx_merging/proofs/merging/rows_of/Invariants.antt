@@ -1,6 +1,6 @@
 use Rattle.std.proofs.Common.{◌≡◌, ◌++◌, map, drop}
 use Rattle.std.specs.List.{flat_map}
-use Rattle.gx_gather.specs.Answer.{rows_in}
+use Rattle.gx_meaning.specs.Answer.{rows_in}
 use Rattle.gx_merging.proofs.merging.rows_of.Given as goal
 
 abbrev pub invariant-loop-part : goal.invariant-loop-part

@@ -1,5 +1,5 @@
 use Rattle.std.proofs.Common.{◌≡◌, take}
-use Rattle.gx_gather.specs.Answer.{row_keys}
+use Rattle.gx_meaning.specs.Answer.{row_keys}
 use Rattle.gx_merging.specs.Places.{sort_keys}
 use Rattle.gx_merging.proofs.order.row_places.Given as goal
 

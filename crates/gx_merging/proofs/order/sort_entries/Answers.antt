@@ -3,7 +3,7 @@ use Rattle.std.proofs.lemmas.Fn.{always_returns_same}
 use Rattle.std.proofs.lemmas.List.Sorted.{ranks_by}
 use Rattle.std.specs.Cmp.{on_total}
 use Rattle.std.specs.Ordering.{is_lt}
-use Rattle.gx_gather.specs.Order.{group_order}
+use Rattle.gx_meaning.specs.Order.{group_order}
 use Rattle.gx_gather.proofs.Orders.{group_order-total}
 use Rattle.gx_merging.specs.Places.{sort_keys}
 use Rattle.gx_merging.proofs.Listed.{Entry}

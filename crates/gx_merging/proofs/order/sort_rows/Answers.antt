@@ -4,7 +4,7 @@ use Rattle.std.proofs.lemmas.List.Sorted.{ranks_by}
 use Rattle.std.specs.Cmp.{on_total}
 use Rattle.std.specs.Ordering.{is_lt}
 use Rattle.gx_tree.specs.declared.row.KeyedRow.{KeyedRow}
-use Rattle.gx_gather.specs.Order.{row_order}
+use Rattle.gx_meaning.specs.Order.{row_order}
 use Rattle.gx_gather.proofs.Orders.{row_order-total}
 use Rattle.gx_merging.specs.Places.{sort_keys}
 use Rattle.gx_merging.proofs.Stable.{map-in_order, stably_sorted}

@@ -1,5 +1,5 @@
 use Rattle.std.proofs.Common.{◌≡◌, map, take}
-use Rattle.gx_gather.specs.Tallies.{entry_group, out_row}
+use Rattle.gx_meaning.specs.Tallies.{entry_group, out_row}
 use Rattle.gx_merging.proofs.output.entries_out.Given as goal
 
 abbrev pub invariant-loop-entry : goal.invariant-loop-entry

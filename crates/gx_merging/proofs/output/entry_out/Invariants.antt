@@ -1,6 +1,6 @@
 use Rattle.std.proofs.Common.{◌≡◌, ◌++◌, map}
 use Rattle.std.specs.List.{zip}
-use Rattle.gx_gather.specs.Tallies.{entry_group, out_cell, out_row}
+use Rattle.gx_meaning.specs.Tallies.{entry_group, out_cell, out_row}
 use Rattle.gx_merging.proofs.output.entry_out.Given as goal
 
 abbrev pub invariant-loop-item : goal.invariant-loop-item

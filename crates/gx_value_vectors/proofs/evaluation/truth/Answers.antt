@@ -1,6 +1,6 @@
 use Rattle.std.proofs.Common.{◌≡◌, ◌∙◌, sym, subst, List, []}
 use Rattle.gx_tree.specs.declared.value.Value.{Value}
-use Rattle.gx_eval.specs.Kinds.{IsTyped, kinds_of}
+use Rattle.gx_meaning.specs.Kinds.{IsTyped, kinds_of}
 use Rattle.gx_value_vectors.proofs.evaluation.truth.Goals as goal
 
 pub decide-requires : goal.decide-requires
