@@ -1,6 +1,5 @@
 -- The answer over the whole from that over the parts of a division.
-use Rattle.std.proofs.Common.{◌||◌, ℕ, ◌+◌, ◌<◌, ◌≤◌, ◌≡◌, ◌∙◌, Bool, true, false, cond, List, [], ◌∷◌, ◌++◌, filter, map, length, get_or, refl, ap, sym, arith}
-use Rattle.std.proofs.lemmas.List.{get_or-map, length-map}
+use Rattle.std.proofs.Common.{◌||◌, ℕ, ◌+◌, ◌≤◌, ◌≡◌, ◌∙◌, Bool, true, false, cond, List, [], ◌∷◌, ◌++◌, filter, map, length, refl, ap, sym, arith}
 use Rattle.std.proofs.lemmas.List.Sorted.{list_any-IsPermutation}
 use Rattle.std.specs.List.{flat_map, zip}
 use Rattle.std.specs.List.Sorted.{IsPermutation, IsSortedBy}
@@ -35,15 +34,6 @@ fewer-step x l m false false within less = less
 fewer : {X : Type 0} (p r : X → Bool) → ((x : X) → p x ≡ true → r x ≡ true) → (xs : List X) → length (filter p xs) ≤ length (filter r xs)
 fewer p r within [] = omega arith
 fewer p r within (x ∷ xs) = fewer-step x (filter p xs) (filter r xs) (p x) (r x) (within x) (fewer p r within xs)
-
--- a list that is sorted by what f gives of its items gives a sorted list
-pub sorted_map : {X Y : Type 0} (f : X → Y) (lt : Y → Y → Bool) (xs : List X) → IsSortedBy (λ a b. lt (f a) (f b)) xs → IsSortedBy lt (map f xs)
-sorted_map f lt [] sorted = λ k d low high. absurd (omega (arith, high))
-sorted_map f lt (x ∷ xs) sorted = λ k d low high.
-    let within : k + 1 < length (x ∷ xs) = omega (arith, high, length-map (x ∷ xs) f) in
-    ap (λ y. lt y (get_or (map f (x ∷ xs)) k d)) (get_or-map f (x ∷ xs) (k + 1) x d within)
-    ∙ ap (λ y. lt (f (get_or (x ∷ xs) (k + 1) x)) y) (get_or-map f (x ∷ xs) k x d (omega (arith, within)))
-    ∙ sorted k x (omega arith) within
 
 -- rows that are sorted are the whole in order
 pub sorted_rows : (keys : List SortKey) (whole rows : List KeyedRow) → AreRising whole → IsPermutation whole rows → IsSortedBy (λ a b. is_lt (row_order keys a b)) rows → rows ≡ in_order (row_order keys) whole

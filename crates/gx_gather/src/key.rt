@@ -1,6 +1,6 @@
 ghost use Rattle.std.specs.Prelude.{◌≡◌};
 
-use gx_tree::Row;
+use gx_tree::{Row, Value};
 use std::cmp::Ordering;
 use std::marker::Model;
 
@@ -25,6 +25,12 @@ impl GroupKey {
         ensures { result ≡ row }
     {
         GroupKey { row }
+    }
+
+    pub fn as_slice(&self) -> &[Value]
+        ensures { result.now ≡ self.now }
+    {
+        self.row.as_slice()
     }
 
     pub fn into_row(self) -> Row

@@ -28,7 +28,7 @@ use Rattle.gx_gather.proofs.Orders.{group_order-total, row_order-total}
 use Rattle.gx_gather.proofs.Steps.{answer-grouped, answer-plain, found_rows}
 use Rattle.gx_gather.proofs.Totals.{tally-parts}
 use Rattle.gx_gather.proofs.Whole.{keys-same, out-same, sorted_rows}
-use Rattle.gx_rules.specs.Merged.{keys_in, merged_answer, merged_group, merged_groups}
+use Rattle.gx_meaning.specs.Merged.{keys_in, merged_answer, merged_group, merged_groups}
 
 -- ---- rows
 plain-same : (query : Query) (whole found : List KeyedRow) → AreRising whole → IsPermutation whole found → plain_answer query found ≡ plain_answer query whole

@@ -32,7 +32,7 @@ use Rattle.gx_store.specs.Marks.{node_of}
 use Rattle.gx_store.specs.Rows.{row_at}
 use Rattle.gx_store.specs.View.{image, is_shown_to}
 use Rattle.gx_store.specs.Writes.{dist_of}
-use Rattle.gx_rules.specs.Merged.{merged_answer}
+use Rattle.gx_meaning.specs.Merged.{merged_answer}
 use Rattle.gx_law_order.proofs.Lists.{Each}
 use Rattle.gx_rules.proofs.ShownRows.{rows-same}
 use Rattle.gx_law_sessions.specs.Gathering.{AreAll, AreApart, Taken, nodes_taken, parts_taken}

@@ -6,7 +6,7 @@ ghost use Rattle.gx_meaning.specs.Answer.{ArePartsOf, answer_of};
 ghost use Rattle.gx_law_sessions.specs.Finish.{AreSegmentsLegal};
 ghost use Rattle.gx_store.specs.Language.{AreLinesNumbered};
 ghost use Rattle.gx_rules.specs.Machine.{run_of, world_of};
-ghost use Rattle.gx_rules.specs.Merged.{merged_answer};
+ghost use Rattle.gx_meaning.specs.Merged.{merged_answer};
 ghost use Rattle.gx_rules.specs.System.{IsSystemRun};
 ghost use Rattle.gx_script.specs.declared.Script.{Script};
 ghost use Rattle.gx_store.specs.Protocol.{DoStepsFollow};

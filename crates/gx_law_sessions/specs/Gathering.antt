@@ -20,7 +20,7 @@ use Rattle.gx_store.specs.Refusals.{the_coordinator}
 use Rattle.gx_store.specs.Writes.{dist_of}
 use Rattle.gx_rules.specs.AtCoordinator.{nodes_in, table_of}
 use Rattle.gx_rules.specs.Fits.{fits_part}
-use Rattle.gx_rules.specs.Merged.{merged_answer}
+use Rattle.gx_meaning.specs.Merged.{merged_answer}
 
 -- a segment's answer to a command
 pub record Taken : Type 0 where

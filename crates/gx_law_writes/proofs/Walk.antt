@@ -8,6 +8,7 @@ use Rattle.gx_ids.specs.declared.ids.Gxid.{Gxid}
 use Rattle.gx_ids.specs.declared.ids.Node.{Node}
 use Rattle.gx_ids.specs.declared.ids.SessionId.{SessionId}
 use Rattle.gx_ids.specs.declared.ids.Table.{Table}
+use Rattle.gx_modes.specs.declared.modes.Mode.{Mode}
 use Rattle.gx_tree.specs.declared.expr.Expr.{Expr}
 use Rattle.gx_tree.specs.declared.part.Part.{Part as QueryPart}
 use Rattle.gx_tree.specs.declared.stmt.Level.{Level}
@@ -281,7 +282,7 @@ module _ (script : Script) (c : Coord) (x : NodeEvent) where
     reads-old cid line None e = reads-new cid line
     reads-old cid line (Some y) e = record { works = others; level = refl; marks = tt; read = λ t tuples f. inr (y, e) }
 
-    reads-lock : (cid : Cid) (t : Table) (m : ℕ) → Reads cid (stmt.Lock t m) (record { coord = c1; snapshot = None; marks = [] })
+    reads-lock : (cid : Cid) (t : Table) (m : Mode) → Reads cid (stmt.Lock t m) (record { coord = c1; snapshot = None; marks = [] })
     reads-lock cid t m = record { works = others; level = refl; marks = tt; read = λ u tuples e. absurd (differ u tuples e) }
       where
         differ : (u : Table) (tuples : List (List Expr)) → stmt.Lock t m ≡ stmt.Insert u tuples → ⊥

@@ -214,7 +214,7 @@ fn written(stmt: &Stmt) -> (u8, usize, u8) {
             None => (table.0, 0, 0),
         },
         Stmt::Delete(table, _) => (table.0, 0, 0),
-        Stmt::Lock(table, mode) => (table.0, 0, *mode),
+        Stmt::Lock(table, mode) => (table.0, 0, mode.number()),
         Stmt::Select(_) => (0, 0, 0),
         Stmt::Begin(_) => (0, 0, 0),
         Stmt::Commit => (0, 0, 0),

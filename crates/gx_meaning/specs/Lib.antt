@@ -5,6 +5,7 @@ pub mod Constants
 pub mod Expressions
 pub mod Groups
 pub mod Kinds
+pub mod Merged
 pub mod Order
 pub mod Place
 pub mod Plan

@@ -117,7 +117,6 @@ IsOver schema (stmt.Select query) = IsQuery schema.columns query
 IsOver schema (stmt.Insert table tuples) = All (IsTuple schema.columns) tuples
 IsOver schema (stmt.Update table assigns cond) = IsUpdate schema assigns cond
 IsOver schema (stmt.Delete table cond) = IsCond schema.columns cond
-IsOver schema (stmt.Lock table mode) = (1 ≤ mode) × (mode ≤ 8)
 IsOver schema _ = Unit {0}
 
 -- the table of a statement that has one

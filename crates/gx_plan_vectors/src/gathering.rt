@@ -2,9 +2,8 @@
 // GROUP BY columns where there are groups. Each is asked of one to four parts and of a part without rows besides.
 // Items are written as a letter (`c` a column, `n` a count, `s` a sum, `m` the least, `x` the greatest) and a column.
 
-use gx_gather::{merge, partial};
+use gx_gather::{merge_parts, partial};
 use gx_ids::{Cid, Gxid, Mem, Rid, Seq, Table};
-use gx_merging::merge_parts;
 use gx_tree::{Cell, Item, Key, KeyedRow, OutRow, Part, Query, Row, Txt, Value};
 use std::alloc::Global;
 use std::process::Abort;
@@ -411,28 +410,14 @@ fn part_rows(
     Ok(rows)
 }
 
-// The parts of a division are merged by a call of their own, or by the one for any parts.
-#[derive(Clone, Copy)]
-enum Way {
-    Division,
-    AnyParts,
-}
-
-fn merged(alloc: Global, query: &Query, parts: &[Part], way: Way) -> Mem<Vec<OutRow>> {
-    match way {
-        Way::Division => merge(alloc, query, parts),
-        Way::AnyParts => merge_parts(alloc, query, parts),
-    }
-}
-
-fn gathered(alloc: Global, lines: &[Line], case: &Case, parts: u32, way: Way) -> Mem<Vec<OutRow>> {
+fn gathered(alloc: Global, lines: &[Line], case: &Case, parts: u32) -> Mem<Vec<OutRow>> {
     let query = query(alloc, case)?;
     let mut found = Vec::new(alloc);
     for part in 0..=parts {
         let rows = part_rows(alloc, lines, case.4, parts, part)?;
         found.push(partial(alloc, &query, rows.as_slice())?)?;
     }
-    merged(alloc, &query, found.as_slice(), way)
+    merge_parts(alloc, &query, found.as_slice())
 }
 
 fn push_cell(alloc: Global, text: &mut Vec<u8>, cell: &Cell) -> Mem<()> {
@@ -457,23 +442,17 @@ fn push_row(alloc: Global, text: &mut Vec<u8>, row: &OutRow) -> Mem<()> {
     Ok(())
 }
 
-fn answer(alloc: Global, lines: &[Line], case: &Case, parts: u32, way: Way) -> Mem<Vec<u8>> {
+fn answer(alloc: Global, lines: &[Line], case: &Case, parts: u32) -> Mem<Vec<u8>> {
     let mut text = Vec::new(alloc);
-    for row in gathered(alloc, lines, case, parts, way)? {
+    for row in gathered(alloc, lines, case, parts)? {
         push_row(alloc, &mut text, &row)?;
     }
     Ok(text)
 }
 
-fn check_case(
-    rt: &impl Abort,
-    alloc: Global,
-    lines: &[Line],
-    case: &Case,
-    way: Way,
-) -> Result<(), Fail> {
+fn check_case(rt: &impl Abort, alloc: Global, lines: &[Line], case: &Case) -> Result<(), Fail> {
     for parts in 1..5 {
-        let found = answer(alloc, lines, case, parts, way)?;
+        let found = answer(alloc, lines, case, parts)?;
         assert_eq!(rt;
             found.as_slice(),
             case.5.as_bytes(),
@@ -486,8 +465,7 @@ fn check_case(
 
 fn check(rt: &impl Abort, alloc: Global, lines: &[Line], cases: &[Case]) -> Result<(), Fail> {
     for case in cases {
-        check_case(rt, alloc, lines, case, Way::Division)?;
-        check_case(rt, alloc, lines, case, Way::AnyParts)?;
+        check_case(rt, alloc, lines, case)?;
     }
     Ok(())
 }

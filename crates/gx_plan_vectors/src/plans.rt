@@ -8,8 +8,9 @@ ghost use Rattle.gx_meaning.specs.Plan.{IsCommand};
 
 use gx_eval::EvalFault;
 use gx_ids::{Boxed, Cid, Gxid, Mem, Rid, Seq, Table};
-use gx_plan::plan;
 use gx_meaning::Piece;
+use gx_modes::Mode;
+use gx_plan::plan;
 use gx_tree::{
     ArithOp, Assign, CmpOp, Cond, Dist, Expr, Item, KeyedRow, Query, Row, Schema, Slice, Stmt, Txt,
     Value,
@@ -70,7 +71,7 @@ fn command(alloc: Global, kind: Kind, column: u8, number: i64) -> Mem<Stmt>
         Kind::Select => Ok(Stmt::Select(query(alloc, cond)?)),
         Kind::Update => Ok(Stmt::Update(Table(0), assigns(alloc)?, Some(cond))),
         Kind::Delete => Ok(Stmt::Delete(Table(0), Some(cond))),
-        Kind::Lock => Ok(Stmt::Lock(Table(0), 5)),
+        Kind::Lock => Ok(Stmt::Lock(Table(0), Mode::Share)),
     }
 }
 

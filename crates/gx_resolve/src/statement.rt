@@ -70,7 +70,7 @@ fn kinded(
             update_as(alloc, table, columns, assigns.as_slice(), cond)
         }
         StmtSyn::Delete(_, cond) => Ok(Stmt::Delete(table, where_as(alloc, columns, cond)?)),
-        StmtSyn::Lock(_, mode) => Ok(Stmt::Lock(table, mode.number())),
+        StmtSyn::Lock(_, mode) => Ok(Stmt::Lock(table, *mode)),
     }
 }
 

@@ -58,7 +58,7 @@ use Rattle.gx_store.specs.Refusals.{the_coordinator}
 use Rattle.gx_store.specs.Writes.{dist_of}
 use Rattle.gx_rules.specs.Coordinators.{Command, Coord, CoordTurn, Session, Work, new_work, no_work, rests, session_of, with_session, with_state, with_work, work_of}
 use Rattle.gx_rules.specs.Fits.{fits_part}
-use Rattle.gx_rules.specs.Merged.{merged_answer}
+use Rattle.gx_meaning.specs.Merged.{merged_answer}
 use Rattle.gx_rules.specs.Sending.{clock_after, counted_all, numbered}
 use Rattle.gx_rules.specs.Snapshots.{snapshot_of}
 

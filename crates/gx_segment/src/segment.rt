@@ -9,9 +9,9 @@ ghost use Rattle.gx_segment.specs.Steps.{HasStepped, IsSegment, nobody, no_comma
 use crate::stepping::step_on;
 use gx_dsnap::Snapshot;
 use gx_ids::{Cid, Gxid, Mem, Node, OutOfMemory, Table};
-use gx_slices::{Held, LocalStore};
 use gx_outside::{Gate, Journal};
 use gx_script::Script;
+use gx_slices::{Held, LocalStore};
 use gx_store::{NodeEvent, NodeOut};
 use gx_tree::KeyedRow;
 use std::alloc::Global;

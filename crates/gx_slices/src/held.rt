@@ -1,6 +1,6 @@
 use crate::kept::KeptRows;
-use gx_ids::Gxid;
 use crate::store::LocalStore;
+use gx_ids::Gxid;
 use gx_phases::Local;
 use std::collections::{BTreeMap, BTreeSet};
 

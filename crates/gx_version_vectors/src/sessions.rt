@@ -2,6 +2,7 @@
 // command's refusal makes its block fail, and a commit closes it either way.
 
 use gx_ids::{Seq, Table};
+use gx_modes::Mode;
 use gx_session::{LineStep, Plain, SessionState};
 use gx_tree::{Level, Query, Stmt};
 use std::alloc::Global;
@@ -126,7 +127,7 @@ fn stmt(alloc: Global, word: Word) -> Stmt {
         Word::Insert => Stmt::Insert(Table(0), Seq::new(alloc)),
         Word::Update => Stmt::Update(Table(0), Seq::new(alloc), None),
         Word::Delete => Stmt::Delete(Table(0), None),
-        Word::Lock => Stmt::Lock(Table(0), 5),
+        Word::Lock => Stmt::Lock(Table(0), Mode::Share),
     }
 }
 
