@@ -3,9 +3,9 @@ ghost use Rattle.std.specs.Prelude.{◌≡◌, [], All, length, map};
 ghost use Rattle.gx_world.specs.Worlds.{shelf};
 ghost use Rattle.gx.specs.Top.{AreKept, IsAttempt, IsRefusedFor, is_over, run_in};
 
+use crate::form::is_of_form;
 use crate::refused::refusal_text;
 use crate::running::run_script;
-use crate::form::is_of_form;
 use gx_outside::{Gate, Journal, ReadFault, Source, read_up_to};
 use gx_sql::{Refusal, parse_script};
 use gx_store::Run;

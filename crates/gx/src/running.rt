@@ -11,11 +11,11 @@ ghost use Rattle.gx.specs.Top.{AreKept, IsRan, IsWholeRunOf, is_over, run_in, tu
 use crate::attempt::Attempt;
 use gx_drive::{End, run_ordered};
 use gx_ids::Mem;
-use gx_world::World;
 use gx_outside::{Gate, Journal};
 use gx_report::{text, text_of_stopped};
 use gx_script::Script;
 use gx_store::Run;
+use gx_world::World;
 use std::alloc::Global;
 
 // How many turns the driver takes at most.
