@@ -1,5 +1,0 @@
-//! Tests of the coordinator's transactions.
-#![tactic(auto)]
-
-#[cfg(test)]
-mod transactions;

@@ -1,5 +1,0 @@
-//! Tests of what links deliver.
-#![tactic(auto)]
-
-#[cfg(test)]
-mod deliveries;

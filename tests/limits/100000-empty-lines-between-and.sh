@@ -1,0 +1,2 @@
+# So many empty lines stand between.
+{ yes "" | head -n 100000; } | "$1"

@@ -1,0 +1,2 @@
+# So many empty lines stand between.
+{ printf 'segments 1\ns: !'; yes "" | head -n 100000; } | "$1"

@@ -1,0 +1,2 @@
+# A folder can be opened, and not be read.
+"$1" < tests
