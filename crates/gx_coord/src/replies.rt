@@ -11,9 +11,9 @@ ghost use Rattle.gx_coord.specs.Turns.{AreCounted, IsBusy, IsTurn, asks, done_wo
 
 use crate::coord::Coord;
 use crate::ends::refuse_line;
-use crate::nodes::{has, with_node, without};
 use crate::work::{Command, Work};
 use gx_dtx::DtxOut;
+use gx_dtx::nodes::{has, with_node, without};
 use gx_fits::fits_part;
 use gx_ids::{Cid, Gxid, Mem, Node, Seq};
 use gx_msg::Out;

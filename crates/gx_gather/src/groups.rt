@@ -7,7 +7,7 @@ ghost use Rattle.gx_meaning.specs.Order.{rising};
 ghost use Rattle.gx_meaning.specs.Tallies.{entry_group, joined, total_at};
 
 use crate::cells::empty_aggregates;
-use crate::combining::combined_cells;
+use crate::combined::combined_cells;
 use crate::key::GroupKey;
 use gx_ids::{Duplicate, Mem, Seq};
 use gx_tree::{Cell, Group, Item, KeyedRow, Query, Row, Value};

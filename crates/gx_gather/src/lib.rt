@@ -3,7 +3,7 @@
 #![tactic(auto)]
 
 mod cells;
-mod combining;
+mod combined;
 mod groups;
 mod key;
 mod laws;

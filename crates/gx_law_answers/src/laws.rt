@@ -56,7 +56,8 @@ pub fn every_system_run_is_a_legal_history()
 /// The rows that the segments show to nobody's transaction, by a snapshot that is taken at the end of a run, are the final
 /// tables.
 pub fn segments_show_the_final_tables()
-    ensures { (script : Script) (events : List (OneEvent × Bool)) (tables : List (OneVec OneRow OneGlobal)) → 1 ≤ script.segments → AreLinesNumbered [] script.lines → AreRowsOfAll 0 (world_of script events) tables
+    ensures { (script : Script) (events : List (OneEvent × Bool)) (tables : List (OneVec OneRow OneGlobal)) → 1 ≤ script.segments
+        → AreLinesNumbered [] script.lines → AreRowsOfAll 0 (world_of script events) tables
         → AreFinalFrom 0 (marks_in (world_of script events).steps) tables }
 {}
 

@@ -18,7 +18,8 @@ pub fn unfinished_sessions_are_unfinished_there()
 
 /// Where no session is unfinished every line was answered, every block is closed, and every transaction has ended.
 pub fn finished_runs_are_whole()
-    ensures { (script : Script) (steps : List OneStep) → 1 ≤ script.segments → AreLinesNumbered [] script.lines → All (λ line. line.session.0 < length script.sessions) script.lines → IsReached script steps
+    ensures { (script : Script) (steps : List OneStep) → 1 ≤ script.segments → AreLinesNumbered [] script.lines
+        → All (λ line. line.session.0 < length script.sessions) script.lines → IsReached script steps
         → is_any_unfinished script steps ≡ false → IsFinished script (record { steps = steps }) }
 {}
 

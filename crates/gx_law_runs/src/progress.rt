@@ -19,7 +19,8 @@ ghost use Rattle.gx_store.specs.declared.run.Step.{Step as OneStep};
 /// it is enabled; so while one is unfinished something is enabled. That holds of scripts whose INSERTs have tuples: one without
 /// goes to no segment, and is never answered.
 pub fn unfinished_runs_go_on()
-    ensures { (script : Script) (steps : List OneStep) (session : OneSession) → 1 ≤ script.segments → AreLinesNumbered [] script.lines → AreInsertsWhole script.tables script.lines → IsReached script steps
+    ensures { (script : Script) (steps : List OneStep) (session : OneSession) → 1 ≤ script.segments → AreLinesNumbered [] script.lines
+        → AreInsertsWhole script.tables script.lines → IsReached script steps
         → session.0 < length script.sessions → is_unfinished_there script (coordinator_after script steps) session ≡ true → enabled script steps ≡ [] → ⊥ }
 {}
 

@@ -23,12 +23,14 @@ ghost use Rattle.gx_law_schedules.specs.Room.{HasRoom};
 
 /// As many messages were sent to a segment as the coordinator counts.
 pub fn coordinator_counts_its_messages()
-    ensures { (script : Script) (events : List (OneEvent × Bool)) (i : ℕ) → 1 ≤ script.segments → sent_in the_coordinator (record { 0 = i }) (world_of script events).steps ≡ (world_of script events).coord.sent i }
+    ensures { (script : Script) (events : List (OneEvent × Bool)) (i : ℕ) → 1 ≤ script.segments
+        → sent_in the_coordinator (record { 0 = i }) (world_of script events).steps ≡ (world_of script events).coord.sent i }
 {}
 
 /// As many messages were sent by a segment as it counts.
 pub fn segments_count_their_messages()
-    ensures { (script : Script) (events : List (OneEvent × Bool)) (i : ℕ) → 1 ≤ script.segments → 1 ≤ i → sent_in (record { 0 = i }) the_coordinator (world_of script events).steps ≡ ((world_of script events).segs i).sent }
+    ensures { (script : Script) (events : List (OneEvent × Bool)) (i : ℕ) → 1 ≤ script.segments → 1 ≤ i
+        → sent_in (record { 0 = i }) the_coordinator (world_of script events).steps ≡ ((world_of script events).segs i).sent }
 {}
 
 /// The message of a number on a link is the one that is found by it.

@@ -28,11 +28,11 @@ pub fn inserts_are_whole()
 
 /// Every run of a script that was read is a legal history of one store without segments, whatever the network does and
 /// whichever appends fail.
-pub fn every_run_is_a_legal_history()
+pub fn every_run_of_a_script_is_a_legal_history()
     ensures { (bytes : List ℕ) (script : Script) (events : List (OneEvent × Bool)) → Reads bytes (Ok script) → IsLegalHistory script (run_of (world_of script events)) }
 {}
 
 /// So is every run of the system of nodes.
-pub fn every_system_run_is_a_legal_history()
+pub fn every_system_run_of_a_script_is_a_legal_history()
     ensures { (bytes : List ℕ) (script : Script) (run : OneRun) → Reads bytes (Ok script) → IsSystemRun script run → IsLegalHistory script run }
 {}

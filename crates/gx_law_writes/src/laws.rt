@@ -41,10 +41,12 @@ pub fn inserts_are_told()
 /// A run is a legal history if what SELECTs show and on what they fault, what segments refuse, and what the answers of commands
 /// that change rows or lock a table say are so.
 pub fn history_is_legal_with_what_is_left()
-    ensures { (script : Script) (events : List (OneEvent × Bool)) → 1 ≤ script.segments → AreLinesNumbered [] script.lines → AreLeftLegal script [] (steps_after script events) → IsLegalHistory script (run_of (world_of script events)) }
+    ensures { (script : Script) (events : List (OneEvent × Bool)) → 1 ≤ script.segments → AreLinesNumbered [] script.lines
+        → AreLeftLegal script [] (steps_after script events) → IsLegalHistory script (run_of (world_of script events)) }
 {}
 
 /// Every run of a script that only inserts is a legal history of one store.
 pub fn histories_of_inserts_are_legal()
-    ensures { (script : Script) (events : List (OneEvent × Bool)) → 1 ≤ script.segments → AreLinesNumbered [] script.lines → AreInserting script.lines → IsLegalHistory script (run_of (world_of script events)) }
+    ensures { (script : Script) (events : List (OneEvent × Bool)) → 1 ≤ script.segments → AreLinesNumbered [] script.lines
+        → AreInserting script.lines → IsLegalHistory script (run_of (world_of script events)) }
 {}

@@ -63,7 +63,8 @@ fn deal(
     requires few { n ≤ 16 }
     requires tuple { IsTuple schema.now.dist tuple.now }
     requires buckets { vec_len buckets.old ≡ n }
-    ensures row { OnOk result ((row : List Value) × (values_of tuple.now ≡ Ok row) × ((rows : List Keyed) → buckets.old.items ≡ dealt n schema.now.dist rows → buckets.new.items ≡ dealt n schema.now.dist (rows ++ record { rid = rid; row = row } ∷ []))) }
+    ensures row { OnOk result ((row : List Value) × (values_of tuple.now ≡ Ok row) × ((rows : List Keyed)
+        → buckets.old.items ≡ dealt n schema.now.dist rows → buckets.new.items ≡ dealt n schema.now.dist (rows ++ record { rid = rid; row = row } ∷ []))) }
     ensures fault { (fault : ArithFault) → result ≡ Err (eval_fault fault) → values_of tuple.now ≡ Err fault }
 {
     let row = tuple_values(alloc, tuple)?;

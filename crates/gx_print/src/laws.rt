@@ -44,7 +44,8 @@ pub fn read_is_within()
 /// A statement that was read over tables is printed as bytes that are cut and spelled within the limits, and what they
 /// spell reads as the same statement over the same tables.
 pub fn printed_reads_again()
-    ensures { (d : Limits) (tables : List Schema) (s : StmtSyn) (x : Stmt) (ts : List Token) → AreTables d tables → stmt d s ts → stmt_of tables s ≡ Ok x → HasSize x → IsPrintedAs d (written tables x) (printed tables x) × (stmt_of tables (written tables x) ≡ Ok x) }
+    ensures { (d : Limits) (tables : List Schema) (s : StmtSyn) (x : Stmt) (ts : List Token) → AreTables d tables → stmt d s ts
+        → stmt_of tables s ≡ Ok x → HasSize x → IsPrintedAs d (written tables x) (printed tables x) × (stmt_of tables (written tables x) ≡ Ok x) }
 {}
 
 /// A table that a line declares is one over which statements are read: its names are those of the language.

@@ -7,13 +7,13 @@ ghost use Rattle.gx_print.specs.Statements as of;
 ghost use Rattle.gx_print.specs.Limited.{IsWithin, StmtClear, IsPrintedAs};
 ghost use Rattle.gx_print.specs.Written.{cond_syn, tuple_syn, assign_syn, written, printed};
 
-use crate::bytes::push_bytes;
 use crate::exprs::push_expr;
 use crate::lists::{Printed, push_list};
 use crate::names::{column_name, columns_of, table_name};
 use crate::queries::{push_select, push_where};
 use gx_ids::{Mem, Seq, Table};
 use gx_modes::Mode;
+use gx_text::push_bytes;
 use gx_tree::{Assign, Column, Cond, Expr, Level, Schema, Stmt};
 use std::alloc::Global;
 

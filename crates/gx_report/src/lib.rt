@@ -7,7 +7,6 @@ mod report;
 mod sessions;
 mod tables;
 
-pub use report::{push_bytes, push_count};
 pub use tables::{text, text_of_stopped};
 
 #[cfg(test)]

@@ -16,7 +16,8 @@ ghost use Rattle.gx_rules.specs.Last.{AreKeptInOrder, counting, image_in, last_i
 /// say of it, unless that is gone.
 pub fn shown_rows_are_the_last()
     ensures rising { (s : Seg) (snapshot : Snapshot) (g : Gxid) (c : Cid) (table : Table) → AreRising (shown s snapshot g c table) }
-    ensures images { (s : Seg) (snapshot : Snapshot) (g : Gxid) (c : Cid) (table : Table) (rid : Rid) → row_at (shown s snapshot g c table) rid ≡ row_of (last_image rid (counting s snapshot g c table)) }
+    ensures images { (s : Seg) (snapshot : Snapshot) (g : Gxid) (c : Cid) (table : Table) (rid : Rid)
+        → row_at (shown s snapshot g c table) rid ≡ row_of (last_image rid (counting s snapshot g c table)) }
 {}
 
 /// What a segment keeps of a transaction for its journal rises by identities, and is the last that the transaction's

@@ -13,7 +13,7 @@ use Rattle.gx_rows.specs.Rows.{added}
 use Rattle.gx_rows.proofs.Entries.{set_value-insert_entry}
 use Rattle.gx_slices.specs.Store.{table_cmp}
 use Rattle.gx_slices.specs.Filed.{filed}
-use Rattle.gx_slices.proofs.Kept.{table_cmp-total}
+use Rattle.gx_slices.proofs.KeptVersions.{table_cmp-total}
 
 module _ (tables tables' : List (Table × List (Rid × List Version))) (table : Table) where
   -- where the version was added to the table's, the tables have the version more

@@ -8,7 +8,7 @@ pub mod Rightness
 pub mod Turning
 pub mod Unconditional
 pub mod AddingVersions
-pub mod Kept
+pub mod KeptVersions
 pub mod Lxids
 pub mod Readers
 pub mod Shown

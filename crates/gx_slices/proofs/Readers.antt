@@ -25,7 +25,7 @@ use Rattle.gx_visible.proofs.Dropped.{counts-truncated}
 use Rattle.gx_slices.specs.declared.current.Current.{Current}
 use Rattle.gx_slices.specs.Store.{Write, current_of, is_own, is_seen_from, is_shown, is_shown_from, kept_at, newest_of, passes, shown_row, shown_row_from, status_of, writes_of}
 use Rattle.gx_slices.specs.Filed.{IsFiled, IsSound, current_at, gxid_at, last_unaborted, store_of, write_of}
-use Rattle.gx_slices.proofs.Kept.{kept_at-map}
+use Rattle.gx_slices.proofs.KeptVersions.{kept_at-map}
 use Rattle.gx_slices.proofs.Lxids.{at_lxid-lxid_in, lxid_of-high}
 use Rattle.gx_slices.proofs.Statuses.{status_of-found}
 

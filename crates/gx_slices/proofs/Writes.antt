@@ -18,7 +18,7 @@ use Rattle.gx_xidmap.specs.Xids.{Xids, assigned, lxid_in, lxid_of}
 use Rattle.gx_rows.specs.declared.version.Version.{Version}
 use Rattle.gx_slices.specs.Store.{Store, Write, Writer, kept_at, status_of, writes_of}
 use Rattle.gx_slices.specs.Filed.{IsFiled, IsSound, IsWritten, filed, gxid_at, store_of, with_writer, write_of}
-use Rattle.gx_slices.proofs.Kept.{kept_at-filed, kept_at-filed_row, kept_at-filed_table, kept_at-map}
+use Rattle.gx_slices.proofs.KeptVersions.{kept_at-filed, kept_at-filed_row, kept_at-filed_table, kept_at-map}
 use Rattle.gx_slices.proofs.Lxids.{AllByRecursion-push, IsFiled-push, gxid_at-lxid_in, lxid_in-lxid_of, write_of-push}
 use Rattle.gx_slices.proofs.Statuses.{status_in-entered, status_in-other, status_of-found, writers_of-push}
 

@@ -2,7 +2,7 @@ use Rattle.std.proofs.Common.{◌≡◌, ◌∙◌, IfOk, refl, rules, subst}
 use Rattle.std.proofs.lemmas.Iterator.{YieldsList-from_map, YieldsList-from_slice, YieldsList-from_zip, items_from_collect}
 use Rattle.std.proofs.lemmas.Iterator.Adapters.{YieldsList-from_vec}
 use Rattle.gx_meaning.specs.Cells.{combine, combine_all}
-use Rattle.gx_gather.proofs.combining.combined_cells.Goals as goal
+use Rattle.gx_gather.proofs.combined.combined_cells.Goals as goal
 
 pub returns : goal.returns
 returns c =
