@@ -9,6 +9,3 @@ mod tables;
 
 pub use report::{push_bytes, push_count};
 pub use tables::{text, text_of_stopped};
-
-#[cfg(test)]
-mod tests;
