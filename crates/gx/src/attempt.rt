@@ -16,7 +16,7 @@ const LIMIT: usize = 16_777_216;
 
 /// How the work before the writing ended: with a run and its text, with one that stopped once its turns were taken, with the text of
 /// a refusal, or with neither.
-#[derive(Debug, Drop)]
+#[derive(Drop)]
 pub enum Attempt {
     Done(Run, Vec<u8>),
     Stopped(Run, Vec<u8>),

@@ -52,8 +52,3 @@ fn main(rt: HostRuntime) -> ExitCode {
     );
     ExitCode::from(report.status)
 }
-
-#[cfg(test)]
-mod tests;
-#[cfg(test)]
-mod turns;

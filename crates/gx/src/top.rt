@@ -11,7 +11,7 @@ use std::alloc::Global;
 
 /// What a call did: its status, and the run that it made. 0 is done, 3 a refused script, 4 a read fault, 5 a write fault, 6
 /// want of memory, 7 a run that took all its turns, 9 too many bytes, and 10 a form that isn't built yet.
-#[derive(Debug, Drop)]
+#[derive(Drop)]
 pub struct Report {
     pub status: u8,
     pub run: Run,

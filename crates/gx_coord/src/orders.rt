@@ -12,7 +12,7 @@ use gx_tree::Level;
 use std::alloc::Global;
 
 // What each order of a command has besides its slice.
-#[derive(Debug, Drop)]
+#[derive(Drop)]
 pub struct Ordering {
     pub gxid: Gxid,
     pub cid: Cid,

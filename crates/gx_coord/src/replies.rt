@@ -23,7 +23,7 @@ use gx_tree::{Part, Stmt};
 use std::alloc::Global;
 
 // What a segment says of a command that is done there, besides its part.
-#[derive(Clone, Copy, Debug)]
+#[derive(Clone, Copy)]
 pub(crate) struct Done {
     pub cid: Cid,
     pub wrote: bool,

@@ -6,7 +6,7 @@ use std::marker::Model;
 
 // The values of the GROUP BY columns in a group's rows. Contracts see it as the list of them. Its order is that of the
 // first difference.
-#[derive(Debug, Drop)]
+#[derive(Drop)]
 pub struct GroupKey {
     row: Row,
 }

@@ -8,6 +8,3 @@ mod sessions;
 mod tables;
 
 pub use tables::{text, text_of_stopped};
-
-#[cfg(test)]
-mod tests;

@@ -1,167 +1,120 @@
-// A walk over the steps of a run of the script of orders, which knows what each SELECT has to see and may see.
-use crate::writers::{NONE, Writers, seen};
-use gx_ids::{Mem, SessionId};
+// A walk over the steps of a run of the script of orders for one of its writers, which knows what each SELECT has to show and
+// may show of it: both of its rows or none, both where it was answered before the SELECT's line began, none before it began
+// itself, and in the repeatable-read block what was shown there before.
+use gx_ids::SessionId;
 use gx_store::{Event, Mark, Step, StmtAnswer};
-use std::alloc::Global;
+use gx_tree::{Cell, OutRow};
 
-// The session of the repeatable-read block.
+// The session that reads at read committed, and that of the repeatable-read block.
+const READER: SessionId = SessionId(4);
+
 const BLOCK: SessionId = SessionId(5);
-
-// Writers at the start of a SELECT, and at its answer.
-#[derive(Clone, Copy, Debug)]
-struct Bounds {
-    due: Writers,
-    allowed: Writers,
-}
 
 #[derive(Clone, Copy, Debug)]
 pub(crate) struct Judge {
-    // Writers whose last line was started.
-    begun: Writers,
-    // Writers whose last line was answered, or whose rows were seen: each SELECT that is started later sees them.
-    ended: Writers,
-    // The lines that the fourth writer has started. The last is its COMMIT.
-    fourth_lines: usize,
-    // What the reader's SELECT has to see.
-    due: Writers,
-    // What the first SELECT of the block has to see.
-    due_in_block: Writers,
-    // What that SELECT saw.
-    block: Option<Writers>,
-    // How many SELECTs were answered as they have to be.
+    writer: SessionId,
+    // The number that its two rows have.
+    number: i128,
+    // Whether it has begun, and whether it was answered, or shown.
+    begun: bool,
+    ended: bool,
+    // Whether the SELECT of each reader has to show it.
+    due: bool,
+    due_in_block: bool,
+    in_block: Option<bool>,
+    // How many SELECTs show what they have to.
     right: usize,
 }
 
+fn has(row: &OutRow, number: i128) -> bool {
+    matches!(row.as_slice(), [_, Cell::Int(written)] if *written == number)
+}
+
+// Whether the rows of a number are shown; nothing where one of two is.
+fn shown(rows: &[OutRow], number: i128) -> Option<bool> {
+    match rows.iter().filter(|row| has(row, number)).count() {
+        0 => Some(false),
+        2 => Some(true),
+        _ => None,
+    }
+}
+
 impl Judge {
-    pub(crate) fn new() -> Judge {
+    pub(crate) fn new(writer: SessionId, number: i128) -> Judge {
         Judge {
-            begun: NONE,
-            ended: NONE,
-            fourth_lines: 0,
-            due: NONE,
-            due_in_block: NONE,
-            block: None,
+            writer,
+            number,
+            begun: false,
+            ended: false,
+            due: false,
+            due_in_block: false,
+            in_block: None,
             right: 0,
         }
     }
 
-    // Whether all five SELECTs were answered as they have to be.
+    // Whether all five SELECTs show what they have to.
     pub(crate) fn is_content(&self) -> bool {
         self.right == 5
     }
 
-    pub(crate) fn look_at(&mut self, alloc: Global, step: &Step) -> Mem<()> {
-        self.see(step.event);
+    pub(crate) fn look_at(&mut self, step: &Step) {
+        if let Event::Start(session) = step.event {
+            self.start(session);
+        }
         for mark in step.marks.as_slice() {
-            self.hear(alloc, mark)?;
-        }
-        Ok(())
-    }
-
-    fn see(&mut self, event: Event) {
-        match event {
-            Event::Start(session) => self.start(session),
-            _ => {}
-        }
-    }
-
-    // A session's next line starts.
-    fn start(&mut self, session: SessionId) {
-        match session {
-            SessionId(0) => self.begun.first = true,
-            SessionId(1) => self.begun.second = true,
-            SessionId(3) => self.start_fourth(),
-            SessionId(4) => self.due = self.ended,
-            SessionId(5) => self.due_in_block = self.ended,
-            _ => {}
-        }
-    }
-
-    fn start_fourth(&mut self) {
-        self.fourth_lines = self.fourth_lines.wrapping_add(1);
-        self.begun.fourth = self.fourth_lines == 4;
-    }
-
-    fn hear(&mut self, alloc: Global, mark: &Mark) -> Mem<()> {
-        match mark {
-            Mark::Answer {
+            if let Mark::Answer {
                 session,
                 number: _,
                 answer,
-            } => self.answer(alloc, *session, answer),
-            _ => Ok(()),
+            } = mark
+            {
+                self.answer(*session, answer);
+            }
         }
     }
 
-    fn answer(&mut self, alloc: Global, session: SessionId, answer: &StmtAnswer) -> Mem<()> {
+    fn start(&mut self, session: SessionId) {
+        if session == self.writer {
+            self.begun = true;
+        } else if session == READER {
+            self.due = self.ended;
+        } else if session == BLOCK {
+            self.due_in_block = self.in_block.unwrap_or(self.ended);
+        }
+    }
+
+    fn answer(&mut self, session: SessionId, answer: &StmtAnswer) {
         match answer {
-            StmtAnswer::Rows(rows) => {
-                let seen = seen(alloc, rows.as_slice())?;
-                self.judge(session, seen);
-                Ok(())
+            StmtAnswer::Rows(rows) => self.judge(session, shown(rows.as_slice(), self.number)),
+            StmtAnswer::Inserted(2) | StmtAnswer::Commit => {
+                self.ended = self.ended || session == self.writer;
             }
-            StmtAnswer::Inserted(2) => {
-                self.end_alone(session);
-                Ok(())
-            }
-            StmtAnswer::Commit => {
-                self.end_block(session);
-                Ok(())
-            }
-            _ => Ok(()),
-        }
-    }
-
-    fn end_alone(&mut self, session: SessionId) {
-        match session {
-            SessionId(0) => self.ended.first = true,
-            SessionId(1) => self.ended.second = true,
             _ => {}
         }
     }
 
-    fn end_block(&mut self, session: SessionId) {
-        match session {
-            SessionId(3) => self.ended.fourth = true,
-            _ => {}
+    // A SELECT shows the writer's rows, or doesn't, or shows one of them.
+    fn judge(&mut self, session: SessionId, shown: Option<bool>) {
+        let Some(shown) = shown else {
+            return;
+        };
+        let is_due = if session == BLOCK {
+            self.due_in_block
+        } else {
+            self.due
+        };
+        let may_show = if session == BLOCK {
+            self.in_block.unwrap_or(self.begun)
+        } else {
+            self.begun
+        };
+        if (shown || !is_due) && (!shown || may_show) {
+            self.right = self.right.wrapping_add(1);
         }
-    }
-
-    // A SELECT was answered by the rows of some writers, or by rows that aren't whole.
-    fn judge(&mut self, session: SessionId, seen: Option<Writers>) {
-        if let Some(writers) = seen {
-            let bounds = self.bounds(session);
-            if bounds.due.are_among(writers) && writers.are_among(bounds.allowed) {
-                self.right = self.right.wrapping_add(1);
-            }
-            self.ended = self.ended.and(writers);
-            self.keep(session, writers);
-        }
-    }
-
-    fn keep(&mut self, session: SessionId, writers: Writers) {
+        self.ended = self.ended || shown;
         if session == BLOCK {
-            self.block = Some(writers);
-        }
-    }
-
-    // What a SELECT of the session has to see and may see: in the block, what was seen there before.
-    fn bounds(&self, session: SessionId) -> Bounds {
-        if session != BLOCK {
-            return Bounds {
-                due: self.due,
-                allowed: self.begun,
-            };
-        }
-        match self.block {
-            Some(before) => Bounds {
-                due: before,
-                allowed: before,
-            },
-            None => Bounds {
-                due: self.due_in_block,
-                allowed: self.begun,
-            },
+            self.in_block = Some(shown);
         }
     }
 }

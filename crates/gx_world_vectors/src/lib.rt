@@ -1,4 +1,4 @@
-//! Tests of worlds over messages, event by event.
+//! Tests of worlds over messages, event by event: orders of delivery, and journals that refuse.
 #![tactic(auto)]
 
 #[cfg(test)]
@@ -8,8 +8,6 @@ mod judging;
 #[cfg(test)]
 mod orders;
 #[cfg(test)]
-mod refused;
+mod trial;
 #[cfg(test)]
 mod worlds;
-#[cfg(test)]
-mod writers;

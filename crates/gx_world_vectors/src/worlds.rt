@@ -1,243 +1,127 @@
-// Worked scripts through the world's step, event by event.
-use gx_ids::{Mem, Node, OutOfMemory, SessionId};
-use gx_world::World;
-use gx_outside::{JournalMem, PassGate};
-use gx_sql::parse_script;
-use gx_store::{Event, Mark, StmtAnswer};
-use std::alloc::Global;
+// Worked orders of delivery, by their exact events.
+use crate::trial::{Trial, make_trial};
+use gx_ids::{Mem, Node, SessionId};
+use gx_store::Event;
 use std::test::Fail;
 
-const SCRIPT: &[u8] =
-    b"segments 2\ntable t (a bigint, b bigint) distributed by (a)\ns1: INSERT INTO t VALUES (0, 1), (1, 1)\ns2: SELECT * FROM t\ns2: SELECT * FROM t\n";
+// Who sends to whom, and the message's number.
+type Receipt = (u8, u8, u64);
 
-// A reader that comes between the local commits of two segments sees nothing of the writer, and one behind the commit all.
-const BETWEEN: [Event; 27] = [
-    Event::Start(SessionId(0)),
-    Event::Receive {
-        from: Node(0),
-        to: Node(1),
-        number: 1,
-    },
-    Event::Receive {
-        from: Node(0),
-        to: Node(2),
-        number: 1,
-    },
-    Event::Receive {
-        from: Node(1),
-        to: Node(0),
-        number: 1,
-    },
-    Event::Receive {
-        from: Node(2),
-        to: Node(0),
-        number: 1,
-    },
-    Event::Receive {
-        from: Node(0),
-        to: Node(1),
-        number: 2,
-    },
-    Event::Receive {
-        from: Node(0),
-        to: Node(2),
-        number: 2,
-    },
-    Event::Receive {
-        from: Node(1),
-        to: Node(0),
-        number: 2,
-    },
-    Event::Receive {
-        from: Node(2),
-        to: Node(0),
-        number: 2,
-    },
-    Event::Receive {
-        from: Node(0),
-        to: Node(1),
-        number: 3,
-    },
-    Event::Start(SessionId(1)),
-    Event::Receive {
-        from: Node(0),
-        to: Node(1),
-        number: 4,
-    },
-    Event::Receive {
-        from: Node(0),
-        to: Node(2),
-        number: 4,
-    },
-    Event::Receive {
-        from: Node(1),
-        to: Node(0),
-        number: 4,
-    },
-    Event::Receive {
-        from: Node(2),
-        to: Node(0),
-        number: 3,
-    },
-    Event::Receive {
-        from: Node(0),
-        to: Node(2),
-        number: 3,
-    },
-    Event::Receive {
-        from: Node(1),
-        to: Node(0),
-        number: 3,
-    },
-    Event::Receive {
-        from: Node(2),
-        to: Node(0),
-        number: 4,
-    },
-    Event::Start(SessionId(1)),
-    Event::Receive {
-        from: Node(0),
-        to: Node(1),
-        number: 7,
-    },
-    Event::Receive {
-        from: Node(0),
-        to: Node(2),
-        number: 7,
-    },
-    Event::Receive {
-        from: Node(1),
-        to: Node(0),
-        number: 5,
-    },
-    Event::Receive {
-        from: Node(2),
-        to: Node(0),
-        number: 5,
-    },
-    Event::Receive {
-        from: Node(0),
-        to: Node(1),
-        number: 1,
-    },
-    Event::Receive {
-        from: Node(0),
-        to: Node(2),
-        number: 2,
-    },
-    Event::Receive {
-        from: Node(1),
-        to: Node(0),
-        number: 1,
-    },
-    Event::Receive {
-        from: Node(2),
-        to: Node(0),
-        number: 4,
-    },
-];
-
-fn journals(alloc: Global) -> Mem<Vec<JournalMem>> {
-    let mut journals = Vec::new(alloc);
-    for _node in 0..17 {
-        journals.push(JournalMem::new(alloc, Vec::new(alloc))?)?;
-    }
-    Ok(journals)
+fn start(trial: &mut Trial, session: u8) -> Mem<bool> {
+    trial.happens(Event::Start(SessionId(session)))
 }
 
-// Does an event, if it is admitted.
-fn happens(world: &mut World, journals: &mut [JournalMem], event: Event) -> Mem<bool> {
-    if journals.len() != 17 || world.run().steps.len() >= 1000 || !world.can(&event)? {
-        return Ok(false);
+// Whether all of the messages are received, in this order.
+fn receive(trial: &mut Trial, receipts: &[Receipt]) -> Mem<bool> {
+    for (from, to, number) in receipts {
+        let event = Event::Receive {
+            from: Node(*from),
+            to: Node(*to),
+            number: *number,
+        };
+        if !trial.happens(event)? {
+            return Ok(false);
+        }
     }
-    world.step(event, journals, &PassGate)?;
     Ok(true)
 }
 
-// How many of the events happened.
-fn drive(world: &mut World, journals: &mut [JournalMem], events: &[Event]) -> Mem<usize> {
-    let mut count = 0usize;
-    for event in events {
-        if happens(world, journals, *event)? {
-            count = count.wrapping_add(1);
-        }
-    }
-    Ok(count)
-}
+const BETWEEN: &[u8] =
+    b"segments 2\ntable t (a bigint, b bigint) distributed by (a)\ns1: INSERT INTO t VALUES (0, 1), (1, 1)\ns2: SELECT * FROM t\ns2: SELECT * FROM t\n";
 
-// The rows that an answer has, or the count that it tells.
-fn rows(answer: &StmtAnswer) -> usize {
-    match answer {
-        StmtAnswer::Rows(rows) => rows.len(),
-        StmtAnswer::Inserted(_count) => 100,
-        _ => 1000,
-    }
-}
+// Both segments promise, and the first commits.
+const COMMITTED_AT_ONE: [Receipt; 9] = [
+    (0, 1, 1),
+    (0, 2, 1),
+    (1, 0, 1),
+    (2, 0, 1),
+    (0, 1, 2),
+    (0, 2, 2),
+    (1, 0, 2),
+    (2, 0, 2),
+    (0, 1, 3),
+];
 
-fn answer(mark: &Mark) -> Option<usize> {
-    match mark {
-        Mark::Answer {
-            session: _,
-            number: _,
-            answer,
-        } => Some(rows(answer)),
-        _ => None,
-    }
-}
+// The reader's first command comes to the second segment before the writer's commit does.
+const READ_BETWEEN: [Receipt; 7] = [
+    (0, 1, 4),
+    (0, 2, 4),
+    (1, 0, 4),
+    (2, 0, 3),
+    (0, 2, 3),
+    (1, 0, 3),
+    (2, 0, 4),
+];
 
-fn push_answers(told: &mut Vec<usize>, marks: &[Mark]) -> Mem<()> {
-    for mark in marks {
-        if let Some(rows) = answer(mark) {
-            told.push(rows)?;
-        }
-    }
+// Its second command, and messages that come twice.
+const READ_BEHIND: [Receipt; 8] = [
+    (0, 1, 7),
+    (0, 2, 7),
+    (1, 0, 5),
+    (2, 0, 5),
+    (0, 1, 1),
+    (0, 2, 2),
+    (1, 0, 1),
+    (2, 0, 4),
+];
+
+const BETWEEN_TEXT: &str =
+    "s1.1 INSERT 2\ns2.1 SELECT 0\ns2.2 SELECT 2\n  0|1\n  1|1\ntable t 2\n  0|1\n  1|1\n";
+
+// A reader that comes between the local commits of two segments sees nothing of the writer, and one behind the commit all.
+#[test]
+fn a_reader_between_two_local_commits(rt: HostRuntime) -> Result<(), Fail> {
+    let mut trial = make_trial(rt.alloc(), BETWEEN, &[])?;
+    assert!(rt; start(&mut trial, 0)?);
+    assert!(rt; receive(&mut trial, &COMMITTED_AT_ONE)?);
+    assert!(rt; start(&mut trial, 1)?);
+    assert!(rt; receive(&mut trial, &READ_BETWEEN)?);
+    assert!(rt; start(&mut trial, 1)?);
+    assert!(rt; receive(&mut trial, &READ_BEHIND)?);
+    let text = trial.text(rt.alloc())?;
+    assert_eq!(rt; text.as_slice(), BETWEEN_TEXT.as_bytes());
     Ok(())
 }
 
-fn answers(alloc: Global, world: &World) -> Mem<Vec<usize>> {
-    let mut told = Vec::new(alloc);
-    for step in world.run().steps.as_slice() {
-        push_answers(&mut told, step.marks.as_slice())?;
-    }
-    Ok(told)
-}
+const REFUSED: &[u8] =
+    b"segments 2\ntable t (a bigint, b bigint) distributed by (a)\ns1: INSERT INTO t VALUES (0, 1), (1, 1)\ns1: SELECT * FROM t\n";
 
-fn world(alloc: Global) -> Mem<World> {
-    match parse_script(alloc, SCRIPT) {
-        Ok(script) => World::new(alloc, script),
-        Err(_refusal) => Err(OutOfMemory),
-    }
-}
+// Both segments write, and are asked for their promises; then they read.
+const ASKED: [Receipt; 8] = [
+    (0, 1, 1),
+    (0, 2, 1),
+    (1, 0, 1),
+    (2, 0, 1),
+    (0, 1, 2),
+    (0, 2, 2),
+    (1, 0, 2),
+    (2, 0, 2),
+];
 
-// How many events happened and tables there are, and what was answered.
-#[derive(Drop)]
-struct Told {
-    events: usize,
-    tables: usize,
-    answers: Vec<usize>,
-}
+const READ: [Receipt; 6] = [
+    (0, 1, 3),
+    (0, 2, 3),
+    (0, 1, 4),
+    (0, 2, 4),
+    (1, 0, 4),
+    (2, 0, 4),
+];
 
-fn run(alloc: Global) -> Mem<Told> {
-    let mut world = world(alloc)?;
-    let mut journals = journals(alloc)?;
-    let events = drive(&mut world, journals.as_mut_slice(), &BETWEEN)?;
-    Ok(Told {
-        events,
-        tables: table_count(&world)?,
-        answers: answers(alloc, &world)?,
-    })
-}
+const REFUSED_TEXT: &str = "s1.1 ERROR 6 journal of node 2 failed\ns1.2 SELECT 0\ntable t 0\n";
 
-fn table_count(world: &World) -> Mem<usize> {
-    let tables = world.final_tables()?;
-    Ok(tables.len())
-}
-
+// The journal of segment 2 refuses its promise: the line is refused, and nothing is left of it but the other's promise.
 #[test]
-fn a_reader_between_two_local_commits(rt: HostRuntime) -> Result<(), Fail> {
-    let told = run(rt.alloc())?;
-    assert_eq!(rt; told.events, 27);
-    assert_eq!(rt; told.answers.as_slice(), [0usize, 100, 2].as_slice());
-    assert_eq!(rt; told.tables, 1);
+fn a_refused_promise_aborts(rt: HostRuntime) -> Result<(), Fail> {
+    let mut trial = make_trial(rt.alloc(), REFUSED, &[1])?;
+    assert!(rt; start(&mut trial, 0)?);
+    assert!(rt; receive(&mut trial, &ASKED)?);
+    assert!(rt; start(&mut trial, 0)?);
+    assert!(rt; receive(&mut trial, &READ)?);
+    let text = trial.text(rt.alloc())?;
+    assert_eq!(rt; text.as_slice(), REFUSED_TEXT.as_bytes());
+    for (node, journal) in trial.journals.iter().enumerate() {
+        let items = if node == 1 { 1 } else { 0 };
+        assert_eq!(rt; journal.kept_items().len(), items, "of node {node}");
+    }
     Ok(())
 }
