@@ -16,14 +16,12 @@ ghost use Rattle.gx_drive.specs.Agrees.{IsAgreed, IsDue, deliveries_of};
 
 use crate::ends::first_end;
 use crate::links::{first_from, first_to};
-use gx_agenda::Asked;
-use gx_agenda::Cursors;
+use gx_agenda::{Asked, Cursors, Queue};
 use gx_ids::{Mem, Node};
 use gx_msg::Message;
-use gx_world::World;
-use gx_agenda::Queue;
 use gx_script::Script;
 use gx_store::{Event, Step};
+use gx_world::World;
 use std::alloc::Global;
 
 /// What a driver keeps of a run besides it: where each link stands, the next lines, and the answers that are awaited.

@@ -9,8 +9,8 @@ use crate::agenda::Agenda;
 use crate::end::End;
 use crate::turn::turn;
 use gx_ids::Mem;
-use gx_world::World;
 use gx_outside::{Gate, Journal};
+use gx_world::World;
 use std::alloc::Global;
 
 /// Runs a new world by the ordered schedule: it does the first of what is enabled at each turn, until no session is unfinished or

@@ -14,9 +14,9 @@ ghost use Rattle.gx_drive.specs.Ordered.{AreFailuresFew, IsFirst};
 use crate::agenda::Agenda;
 use gx_ids::Mem;
 use gx_msg::Message;
-use gx_world::World;
 use gx_outside::{Gate, Journal};
 use gx_store::Event;
+use gx_world::World;
 
 // What is first, where a session is unfinished.
 fn next_event(world: &World, agenda: &Agenda) -> Mem<Event>
