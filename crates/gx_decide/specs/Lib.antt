@@ -1,0 +1,6 @@
+pub mod Calls
+pub mod Deciding
+pub mod Disk
+pub mod Kept
+pub mod Log
+pub mod Memory

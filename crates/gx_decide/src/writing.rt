@@ -1,0 +1,55 @@
+// The writes that keep a pair, and the one that shuts a gate.
+ghost use Rattle.std.specs.Prelude.{◌≡◌, ◌≤◌, ◌+◌, ◌*◌, ◌++◌, ◌∷◌, [], OnOk, OnErr};
+ghost use Rattle.std.specs.Int.{w64, to_le_bytes};
+ghost use Rattle.gx_outside.specs.Causes.{HasCause};
+ghost use Rattle.gx_decide.specs.Log.{byte_of};
+ghost use Rattle.gx_decide.specs.Calls.{AreMade, AreMadePartly, settling, shutting};
+
+use crate::decision::Decision;
+use crate::disk::Disk;
+use crate::slot::{GATE, OPEN, SLOT};
+use gx_ids::Gxid;
+use gx_outside::Failed;
+
+// Keeps a pair in a slot. The pair is on the disk before its gate is opened.
+pub(crate) fn write_pair<D: Disk>(
+    disk: &mut D,
+    slot: u32,
+    gxid: Gxid,
+    decision: Decision,
+) -> Result<(), Failed>
+    requires { 16 * slot + 16 ≤ (D.state disk.old).size }
+    ensures ok { OnOk result (AreMade (settling slot gxid.0 decision) (D.state disk.old) (D.state disk.new)) }
+    ensures err { OnErr result (AreMadePartly (settling slot gxid.0 decision) (D.state disk.old) (D.state disk.new)) }
+    ensures cause { HasCause (D.fault_count disk.old) (D.fault_count disk.new) result }
+{
+    let at = SLOT * slot as u64;
+    disk.write(at, &pair_bytes(gxid, decision))?;
+    disk.sync()?;
+    disk.write(at + GATE, &[OPEN])?;
+    disk.sync()?;
+    Ok(())
+}
+
+// Shuts the gate of a slot.
+pub(crate) fn shut_gate<D: Disk>(disk: &mut D, slot: u32) -> Result<(), Failed>
+    requires { 16 * slot + 16 ≤ (D.state disk.old).size }
+    ensures ok { OnOk result (AreMade (shutting slot) (D.state disk.old) (D.state disk.new)) }
+    ensures err { OnErr result (AreMadePartly (shutting slot) (D.state disk.old) (D.state disk.new)) }
+    ensures cause { HasCause (D.fault_count disk.old) (D.fault_count disk.new) result }
+{
+    disk.write(SLOT * slot as u64 + GATE, &[0])?;
+    disk.sync()?;
+    Ok(())
+}
+
+fn pair_bytes(gxid: Gxid, decision: Decision) -> [u8; 9]
+    ensures { result ≡ to_le_bytes w64 gxid.0 ++ byte_of decision ∷ [] }
+{
+    let [a, b, c, d, e, f, g, h] = gxid.0.to_le_bytes();
+    let verdict = match decision {
+        Decision::Commit => 1,
+        Decision::Abort => 2,
+    };
+    [a, b, c, d, e, f, g, h, verdict]
+}
