@@ -1,1 +1,5 @@
+mod Images
+mod Pairs
 mod Slots
+mod Steps
+mod Verdicts

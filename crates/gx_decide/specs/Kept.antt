@@ -1,11 +1,14 @@
 -- What a decider knows, and what a settle comes to.
-use Rattle.std.specs.Prelude.{◌≡◌, ◌≢◌, ℕ, ◌+◌, ◌<◌, false, Option, None}
+use Rattle.std.specs.Prelude.{◌≡◌, ◌≢◌, ℕ, ◌<◌, false, Option, None}
 use Rattle.std.specs.Ordering.{nat_cmp}
 use Rattle.std.specs.BTreeMap.{get}
 use Rattle.gx_decide.specs.declared.decision.Decision.{Decision}
+use Rattle.gx_outside.specs.Causes.{Rose}
+use Rattle.gx_decide.specs.declared.decide_fault.DecideFault.{DecideFault}
+use Rattle.gx_decide.specs.declared.decide_fault.DecideFault.TheVariants.{Disk, Full, NotLog, OutOfMemory}
 use Rattle.gx_decide.specs.declared.decider.Decider.{Decider}
-use Rattle.gx_decide.specs.Disk.{DiskState}
-use Rattle.gx_decide.specs.Log.{IsEnd, gate_at, pairs_before, slots_of, verdict_in}
+use Rattle.gx_decide.specs.Disk.{DiskState, Synced}
+use Rattle.gx_decide.specs.Log.{IsEnd, IsFirstBad, gate_at, pairs_before, slots_of, verdict_in}
 
 -- the verdict that it has for a transaction
 abbrev pub verdict_by : Decider → ℕ → Option Decision
@@ -25,3 +28,23 @@ pub record Knows (decider : Decider) (disk : DiskState) : Type 0 where
   pub behind : (slot : ℕ) → used_by decider < slot → slot < slots_by decider → gate_at disk.seen slot ≢ 1
   pub verdicts : (gxid : ℕ) → verdict_by decider gxid ≡ verdict_in (pairs_before disk.seen (used_by decider)) gxid
   pub durable : (place : ℕ) → disk.pending place ≡ false
+
+-- Why an open is refused. Nothing is written before memory runs out, nor where the disk is no log.
+abbrev pub IsOpenRefused : DiskState → DiskState → ℕ → ℕ → DecideFault → Type 0
+IsOpenRefused old new before now Disk = Rose before now
+IsOpenRefused old new before now (Full most) = ⊥
+IsOpenRefused old new before now (NotLog bad) = IsFirstBad (slots_of old.size) old.seen bad × Synced old new
+IsOpenRefused old new before now OutOfMemory = Synced old new
+
+-- the transaction has no verdict, and there is no slot for one
+pub record IsFull (decider : Decider) (gxid many : ℕ) : Type 0 where
+  pub none : verdict_by decider gxid ≡ None
+  pub used : used_by decider ≡ slots_by decider
+  pub most : many ≡ slots_by decider
+
+-- Why a settle is refused. Nothing is written before memory runs out, nor where the log is full.
+abbrev pub IsSettleRefused : Decider → ℕ → DiskState → DiskState → ℕ → ℕ → DecideFault → Type 0
+IsSettleRefused decider gxid old new before now Disk = Rose before now
+IsSettleRefused decider gxid old new before now (Full most) = IsFull decider gxid most × (new ≡ old)
+IsSettleRefused decider gxid old new before now (NotLog bad) = ⊥
+IsSettleRefused decider gxid old new before now OutOfMemory = new ≡ old

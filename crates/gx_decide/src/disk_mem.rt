@@ -2,7 +2,7 @@ ghost use Rattle.std.specs.Prelude.{◌≡◌, ℕ, ◌+◌, ◌*◌, ◌≤◌,
 ghost use Rattle.gx_outside.specs.Causes.{HasCause};
 ghost use Rattle.gx_outside.specs.Memory.{IsFailingNext, IsCounted};
 ghost use Rattle.gx_decide.specs.Disk.{DiskState, IsRead, IsOutside, Written, Touched, Synced, Stayed, StopLeaves};
-ghost use Rattle.gx_decide.specs.Memory.{state_of};
+ghost use Rattle.gx_decide.specs.Memory.{IsMarked, state_of};
 
 use crate::disk::Disk;
 use gx_ids::Mem;
@@ -96,14 +96,33 @@ impl Disk for DiskMem {
         self.bytes.len() as u64
     }
 
-    fn read(&mut self, at: u64, buf: &mut [u8]) -> Result<(), Failed> {
+    fn read(&mut self, at: u64, buf: &mut [u8]) -> Result<(), Failed>
+        requires { at + length buf.old ≤ length self.old.bytes }
+        ensures length { length buf.new ≡ length buf.old }
+        ensures ok { OnOk result (IsRead (state_of self.old).seen at buf.new) }
+        ensures state { state_of self.new ≡ state_of self.old }
+        ensures cause { HasCause self.old.faults self.new.faults result }
+        ensures fails { IsErr result ↔ IsFailingNext self.old.calls self.old.fail }
+        ensures counted { IsCounted self.old.calls self.new.calls self.old.faults self.new.faults result }
+        ensures same { self.new.fail ≡ self.old.fail }
+    {
         self.count()?;
         let at = at as usize;
         buf.copy_from_slice(&self.bytes[at..at + buf.len()]);
         Ok(())
     }
 
-    fn write(&mut self, at: u64, bytes: &[u8]) -> Result<(), Failed> {
+    fn write(&mut self, at: u64, bytes: &[u8]) -> Result<(), Failed>
+        requires { at + length bytes.now ≤ length self.old.bytes }
+        ensures ok { OnOk result (Written at bytes.now (state_of self.old) (state_of self.new)) }
+        ensures err { OnErr result (Touched at (length bytes.now) (state_of self.old) (state_of self.new)) }
+        ensures cause { HasCause self.old.faults self.new.faults result }
+        ensures unwritten { OnErr result (self.new.bytes ≡ self.old.bytes) }
+        ensures pending { IsMarked at (length bytes.now) self.old.pending self.new.pending }
+        ensures fails { IsErr result ↔ IsFailingNext self.old.calls self.old.fail }
+        ensures counted { IsCounted self.old.calls self.new.calls self.old.faults self.new.faults result }
+        ensures same { self.new.fail ≡ self.old.fail }
+    {
         let counted = self.count();
         mark(&mut self.pending, at as usize, bytes.len());
         counted?;
@@ -111,7 +130,15 @@ impl Disk for DiskMem {
         Ok(())
     }
 
-    fn sync(&mut self) -> Result<(), Failed> {
+    fn sync(&mut self) -> Result<(), Failed>
+        ensures ok { OnOk result (Synced (state_of self.old) (state_of self.new)) }
+        ensures err { OnErr result (Stayed (state_of self.old) (state_of self.new)) }
+        ensures cause { HasCause self.old.faults self.new.faults result }
+        ensures pending { OnErr result (self.new.pending ≡ self.old.pending) }
+        ensures fails { IsErr result ↔ IsFailingNext self.old.calls self.old.fail }
+        ensures counted { IsCounted self.old.calls self.new.calls self.old.faults self.new.faults result }
+        ensures same { (self.new.bytes ≡ self.old.bytes) × (self.new.fail ≡ self.old.fail) }
+    {
         self.count()?;
         self.pending.fill(false);
         Ok(())
@@ -126,7 +153,7 @@ impl Disk for DiskMem {
 fn mark(pending: &mut [bool], at: usize, count: usize)
     requires { at + count ≤ length pending.old }
     ensures length { length pending.new ≡ length pending.old }
-    ensures elsewhere { (place : ℕ) → IsOutside at count place → get_or pending.new place false ≡ get_or pending.old place false }
+    ensures marked { IsMarked at count pending.old pending.new }
 {
     pending[at..at + count].fill(true);
 }

@@ -6,6 +6,7 @@ pub mod decider;
 pub mod decision;
 pub mod disk;
 pub mod disk_mem;
+mod law;
 pub mod open;
 mod slot;
 mod writing;
@@ -15,6 +16,7 @@ pub use decider::Decider;
 pub use decision::Decision;
 pub use disk::Disk;
 pub use disk_mem::DiskMem;
+pub use law::verdict_log;
 pub use open::open_log;
 
 #[cfg(test)]
