@@ -1,5 +1,6 @@
 mod Images
 mod Pairs
+mod Settling
 mod Slots
 mod Steps
 mod Verdicts

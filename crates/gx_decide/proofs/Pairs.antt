@@ -63,7 +63,7 @@ no-slot image (suc end) gxid none slot below e =
     cases None is = inl is
     cases (Some d) is = inr (d, is)
 
-decision-byte : (decision : Decision) → decision_of (byte_of decision) ≡ decision
+pub decision-byte : (decision : Decision) → decision_of (byte_of decision) ≡ decision
 decision-byte Commit = refl
 decision-byte Abort = refl
 

@@ -55,6 +55,7 @@ impl Decider {
         ensures durable { IfOk result (λ answer. (events : List Event) → Led events (D.state disk.old) true → GoesOn (Settled gxid.0 wish answer.1) events (D.state disk.new) true) }
         ensures durable_err { OnErr result ((events : List Event) → Led events (D.state disk.old) true → GoesOn (SettleBroken gxid.0 wish) events (D.state disk.new) false) }
     {
+        let number = gxid.0;
         if let Some(kept) = self.kept(gxid) {
             return Ok((self, kept));
         }
@@ -62,17 +63,17 @@ impl Decider {
             return Err(DecideFault::Full(self.slots));
         }
         let slot = self.used;
-        let decider = self.with(gxid, wish)?;
-        write_pair(disk, slot, gxid, wish)?;
+        let decider = self.with(number, wish)?;
+        write_pair(disk, slot, number, wish)?;
         Ok((decider, wish))
     }
 
     // The decider with a pair more.
-    fn with(self, gxid: Gxid, decision: Decision) -> Result<Decider, DecideFault>
+    fn with(self, gxid: u64, decision: Decision) -> Result<Decider, DecideFault>
         requires room { self.used < self.slots }
         ensures slots { IfOk result (λ decider. decider.slots ≡ self.slots) }
         ensures used { IfOk result (λ decider. decider.used ≡ self.used + 1) }
-        ensures verdicts { IfOk result (λ decider. Updates nat_cmp self.verdicts decider.verdicts gxid.0 (Some decision)) }
+        ensures verdicts { IfOk result (λ decider. Updates nat_cmp self.verdicts decider.verdicts gxid (Some decision)) }
         ensures memory { IfErr result (λ fault. fault ≡ DecideFault.OutOfMemory) }
     {
         let Decider {
@@ -80,7 +81,7 @@ impl Decider {
             used,
             mut verdicts,
         } = self;
-        verdicts.insert(gxid.0, decision)?;
+        verdicts.insert(gxid, decision)?;
         Ok(Decider {
             slots,
             used: used + 1,

@@ -8,19 +8,18 @@ ghost use Rattle.gx_decide.specs.Calls.{AreMade, AreMadePartly, settling, shutti
 use crate::decision::Decision;
 use crate::disk::Disk;
 use crate::slot::{GATE, OPEN, SLOT};
-use gx_ids::Gxid;
 use gx_outside::Failed;
 
 // Keeps a pair in a slot. The pair is on the disk before its gate is opened.
 pub(crate) fn write_pair<D: Disk>(
     disk: &mut D,
     slot: u32,
-    gxid: Gxid,
+    gxid: u64,
     decision: Decision,
 ) -> Result<(), Failed>
     requires { 16 * slot + 16 ≤ (D.state disk.old).size }
-    ensures ok { OnOk result (AreMade (settling slot gxid.0 decision) (D.state disk.old) (D.state disk.new)) }
-    ensures err { OnErr result (AreMadePartly (settling slot gxid.0 decision) (D.state disk.old) (D.state disk.new)) }
+    ensures ok { OnOk result (AreMade (settling slot gxid decision) (D.state disk.old) (D.state disk.new)) }
+    ensures err { OnErr result (AreMadePartly (settling slot gxid decision) (D.state disk.old) (D.state disk.new)) }
     ensures cause { HasCause (D.fault_count disk.old) (D.fault_count disk.new) result }
 {
     let at = SLOT * slot as u64;
@@ -43,10 +42,10 @@ pub(crate) fn shut_gate<D: Disk>(disk: &mut D, slot: u32) -> Result<(), Failed>
     Ok(())
 }
 
-fn pair_bytes(gxid: Gxid, decision: Decision) -> [u8; 9]
-    ensures { result ≡ to_le_bytes w64 gxid.0 ++ byte_of decision ∷ [] }
+fn pair_bytes(gxid: u64, decision: Decision) -> [u8; 9]
+    ensures { result ≡ to_le_bytes w64 gxid ++ byte_of decision ∷ [] }
 {
-    let [a, b, c, d, e, f, g, h] = gxid.0.to_le_bytes();
+    let [a, b, c, d, e, f, g, h] = gxid.to_le_bytes();
     let verdict = match decision {
         Decision::Commit => 1,
         Decision::Abort => 2,
