@@ -1,5 +1,7 @@
 mod Images
+mod Opening
 mod Pairs
+mod Reading
 mod Settling
 mod Slots
 mod Steps

@@ -93,7 +93,7 @@ zeros disk ready blank off = record {
   settled = λ on. absurd (cc (sym off ∙ on));
 }
 
-is-end-same : (slots end : ℕ) (old new : Image) → ((place : ℕ) → new place ≡ old place) → IsEnd slots old end → IsEnd slots new end
+pub is-end-same : (slots end : ℕ) (old new : Image) → ((place : ℕ) → new place ≡ old place) → IsEnd slots old end → IsEnd slots new end
 is-end-same slots end old new same is = record {
   within = is.within;
   gates = λ slot below. same (16 * slot + 9) ∙ is.gates slot below;

@@ -32,11 +32,11 @@ pub record IsSoundSlot (slot : Slot) (decision : Decision) : Type 0 where
   pub blank : slot.is_blank ≡ true
 
 -- the slots before the end, and the gate there
-pub record IsFront (slots : ℕ) (image : Image) (end gate : ℕ) : Type 0 where
+pub record IsFront (slots : ℕ) (image : Image) (end shown : ℕ) : Type 0 where
   pub is_end : IsEnd slots image end
   pub sound : (slot : ℕ) → slot < end → IsSound image slot
-  pub gate : end < slots → gate ≡ gate_at image end
-  pub none : slots ≤ end → gate ≡ 0
+  pub gate : end < slots → shown ≡ gate_at image end
+  pub none : slots ≤ end → shown ≡ 0
 
 -- the first slot that is bad, before the end
 pub record IsBadFront (slots : ℕ) (image : Image) (bad : ℕ) : Type 0 where

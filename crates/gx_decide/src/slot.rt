@@ -15,6 +15,9 @@ pub(crate) const GATE: u64 = 9;
 // The gate of a pair that is kept.
 pub(crate) const OPEN: u8 = 1;
 
+// The gate at the end of a log.
+pub(crate) const SHUT: u8 = 0;
+
 #[derive(Clone, Copy)]
 pub struct Slot {
     pub gxid: u64,

@@ -1,5 +1,5 @@
 // The writes that keep a pair, and the one that shuts a gate.
-ghost use Rattle.std.specs.Prelude.{◌≡◌, ◌≤◌, ◌+◌, ◌*◌, ◌++◌, ◌∷◌, [], OnOk, OnErr};
+ghost use Rattle.std.specs.Prelude.{◌≡◌, ◌≢◌, ◌≤◌, ◌+◌, ◌*◌, ◌++◌, ◌∷◌, [], ◌==◌, if◌then◌else◌, OnOk, OnErr};
 ghost use Rattle.std.specs.Int.{w64, to_le_bytes};
 ghost use Rattle.gx_outside.specs.Causes.{HasCause};
 ghost use Rattle.gx_decide.specs.Log.{byte_of};
@@ -7,7 +7,7 @@ ghost use Rattle.gx_decide.specs.Calls.{AreMade, AreMadePartly, settling, shutti
 
 use crate::decision::Decision;
 use crate::disk::Disk;
-use crate::slot::{GATE, OPEN, SLOT};
+use crate::slot::{GATE, OPEN, SHUT, SLOT};
 use gx_outside::Failed;
 
 // Keeps a pair in a slot. The pair is on the disk before its gate is opened.
@@ -30,14 +30,17 @@ pub(crate) fn write_pair<D: Disk>(
     Ok(())
 }
 
-// Shuts the gate of a slot.
-pub(crate) fn shut_gate<D: Disk>(disk: &mut D, slot: u32) -> Result<(), Failed>
-    requires { 16 * slot + 16 ≤ (D.state disk.old).size }
-    ensures ok { OnOk result (AreMade (shutting slot) (D.state disk.old) (D.state disk.new)) }
-    ensures err { OnErr result (AreMadePartly (shutting slot) (D.state disk.old) (D.state disk.new)) }
+// Shuts a slot's gate, unless it is shut.
+pub(crate) fn shut_gate<D: Disk>(disk: &mut D, slot: u32, gate: u8) -> Result<(), Failed>
+    requires { gate ≢ 0 → 16 * slot + 16 ≤ (D.state disk.old).size }
+    ensures ok { OnOk result (AreMade (if gate == 0 then [] else shutting slot) (D.state disk.old) (D.state disk.new)) }
+    ensures err { OnErr result (AreMadePartly (if gate == 0 then [] else shutting slot) (D.state disk.old) (D.state disk.new)) }
     ensures cause { HasCause (D.fault_count disk.old) (D.fault_count disk.new) result }
 {
-    disk.write(SLOT * slot as u64 + GATE, &[0])?;
+    if gate == SHUT {
+        return Ok(());
+    }
+    disk.write(SLOT * slot as u64 + GATE, &[SHUT])?;
     disk.sync()?;
     Ok(())
 }
