@@ -1,4 +1,5 @@
 pub mod Attempts
 pub mod Kept
 pub mod Refusals
+pub mod Reports
 pub mod Runs

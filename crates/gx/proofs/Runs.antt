@@ -4,7 +4,7 @@ use Rattle.std.proofs.lemmas.List.Elements.{All-from_recursion, recursion_from_A
 use Rattle.std.specs.List.{AllByRecursion}
 use Rattle.gx_script.specs.declared.Script.{Script}
 use Rattle.gx_script.specs.declared.Line.{Line}
-use Rattle.gx_sql.specs.Language.{IsLine, IsScript}
+use Rattle.gx_store.specs.Language.{IsLine, IsScript}
 use Rattle.gx_tree.specs.declared.schema.Schema.{Schema}
 use Rattle.gx_store.specs.declared.run.Run.{Run}
 use Rattle.gx_store.specs.declared.run.Step.{Step}
@@ -15,11 +15,10 @@ use Rattle.gx_rules.specs.System.{IsSystemRun}
 use Rattle.gx_law_order.proofs.Follows.{world_follows}
 use Rattle.gx_law_order.proofs.Ordered.{world_well}
 use Rattle.gx_law_commit.proofs.Whole.{world-follows}
-use Rattle.gx_law_answers.specs.Whole.{AreInsertsWhole}
+use Rattle.gx_store.specs.Whole.{AreInsertsWhole}
 use Rattle.gx_law_answers.proofs.Join.{legal}
 use Rattle.gx_law_answers.proofs.Snaps.{snapshots-one}
 use Rattle.gx_law_answers.proofs.Whole.{filled, keyed}
-use Rattle.gx_law_scripts.proofs.Numbers.{lines_numbered}
 use Rattle.gx_law_runs.specs.Reached.{IsReached}
 use Rattle.gx_law_runs.proofs.Reaching.{by-events}
 use Rattle.gx_law_runs.specs.Endings.{IsFinished, is_any_unfinished}
@@ -32,7 +31,7 @@ pub run-of : (script : Script) (run : Run) → IsScript script → AreInsertsWho
 run-of script run language inserts is driven =
     record {
       legal = by-events script run.steps is (λ ss. IsLegalHistory script (record { steps = ss }))
-          (legal script language.some_segments (lines_numbered [] script.lines language.numbers) (keyed script inserts) (snapshots-one script language.some_segments) (filled script inserts));
+          (legal script language.some_segments language.numbers (keyed script inserts) (snapshots-one script language.some_segments) (filled script inserts));
       ordered = by-events script run.steps is (AreOrdered script []) (λ es. (world_well script language.some_segments es).steps);
       system = by-events script run.steps is (λ ss. IsSystemRun script (record { steps = ss })) (world_follows script language.some_segments);
       protocol = by-events script run.steps is (DoStepsFollow script []) (world-follows script language.some_segments);
@@ -52,6 +51,6 @@ sessions-there tables n (l ∷ ls) all = (all.0.0, sessions-there tables n ls al
 pub finished : (script : Script) (steps : List Step) → IsScript script → IsReached script steps → is_any_unfinished script steps ≡ false → IsFinished script (record { steps = steps })
 finished script steps language is over =
     by-events script steps is (λ ss. is_any_unfinished script ss ≡ false → IsFinished script (record { steps = ss }))
-    (whole script language.some_segments (lines_numbered [] script.lines language.numbers)
+    (whole script language.some_segments language.numbers
     (All-from_recursion (λ line. line.session.0 < length script.sessions) script.lines
     (sessions-there script.tables (length script.sessions) script.lines (recursion_from_All (IsLine script.tables (length script.sessions)) script.lines language.lines)))) over

@@ -174,6 +174,26 @@ run_in (Stopped run text) = run
 run_in (OutOfMemory run) = run
 run_in _ = no_run
 
+-- the status that tells it
+abbrev pub status_in : Attempt → ℕ
+status_in (Done run text) = 0
+status_in (Stopped run text) = 7
+status_in (Refused text) = 3
+status_in ReadFault = 4
+status_in TooLarge = 9
+status_in NotBuilt = 10
+status_in (OutOfMemory run) = 6
+
+-- the text that tells it; none where memory ran out
+abbrev pub text_in : Attempt → List ℕ
+text_in (Done run text) = text.items
+text_in (Stopped run text) = text.items
+text_in (Refused text) = text.items
+text_in ReadFault = codes "read fault\n"
+text_in TooLarge = codes "too large\n"
+text_in NotBuilt = codes "not built\n"
+text_in (OutOfMemory run) = []
+
 -- it came to an end, or else memory ran out
 abbrev pub is_over : Attempt → Bool
 is_over (OutOfMemory run) = false
@@ -195,6 +215,11 @@ pub record IsWritten (IsText : List ℕ → Type 0) (written after : Option (Lis
 pub record IsTold (status : ℕ) (run : Run) (text : List ℕ) (written after : Option (List ℕ)) (before now : ℕ) (report : Report) : Type 0 where
   pub same : report.run ≡ run
   pub ended : ((report.status ≡ status) × Appends written after text) ⊎ ((report.status ≡ 5) × (Rose before now × WritesPrefix written after text))
+
+-- what the work came to was told: by its text, or by its status alone where memory ran out
+abbrev pub IsToldOf : Attempt → Option (List ℕ) → Option (List ℕ) → ℕ → ℕ → Report → Type 0
+IsToldOf (OutOfMemory run) written after before now report = (report.status ≡ 6) × (report.run ≡ run) × (after ≡ written)
+IsToldOf attempt written after before now report = IsTold (status_in attempt) (run_in attempt) (text_in attempt) written after before now report
 
 abbrev pub IsStatus : ℕ → Type 0
 IsStatus n = (((((((n ≡ 0) ⊎ (n ≡ 3)) ⊎ (n ≡ 4)) ⊎ (n ≡ 5)) ⊎ (n ≡ 6)) ⊎ (n ≡ 7)) ⊎ (n ≡ 9)) ⊎ (n ≡ 10)

@@ -3,9 +3,9 @@ ghost use Rattle.std.specs.Prelude.{◌≡◌, [], All, length, map};
 ghost use Rattle.gx_world.specs.Worlds.{shelf};
 ghost use Rattle.gx.specs.Top.{AreKept, IsAttempt, IsRefusedFor, is_over, run_in};
 
+use crate::form::is_of_form;
 use crate::refused::refusal_text;
 use crate::running::run_script;
-use crate::form::is_of_form;
 use gx_outside::{Gate, Journal, ReadFault, Source, read_up_to};
 use gx_sql::{Refusal, parse_script};
 use gx_store::Run;
@@ -16,7 +16,7 @@ const LIMIT: usize = 16_777_216;
 
 /// How the work before the writing ended: with a run and its text, with one that stopped once its turns were taken, with the text of
 /// a refusal, or with neither.
-#[derive(Debug, Drop)]
+#[derive(Drop)]
 pub enum Attempt {
     Done(Run, Vec<u8>),
     Stopped(Run, Vec<u8>),

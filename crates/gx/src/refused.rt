@@ -4,8 +4,8 @@ ghost use Rattle.std.specs.Fmt.{decimal};
 ghost use Rattle.gx.specs.Refused as of;
 
 use gx_ids::{Mem, OutOfMemory};
-use gx_report::{push_bytes, push_count};
 use gx_sql::{Limit, Refusal};
+use gx_text::{push_bytes, push_count};
 use std::alloc::Global;
 
 fn push_limit(text: &mut Vec<u8>, limit: Limit) -> Mem<()>

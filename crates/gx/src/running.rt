@@ -1,21 +1,21 @@
 // Running a script that was read, and telling its run.
 ghost use Rattle.std.specs.Prelude.{◌≡◌, [], true, false, All, IfOk, length, map};
-ghost use Rattle.gx_law_answers.specs.Whole.{AreInsertsWhole};
+ghost use Rattle.gx_store.specs.Whole.{AreInsertsWhole};
 ghost use Rattle.gx_drive.specs.Ordered.{AreFirst, IsEnd};
 ghost use Rattle.gx_law_runs.specs.Endings.{is_any_unfinished};
 ghost use Rattle.gx_world.specs.Worlds.{shelf};
-ghost use Rattle.gx_sql.specs.Language.{IsScript};
+ghost use Rattle.gx_store.specs.Language.{IsScript};
 ghost use Rattle.gx_report.specs.Text.{stopped_text as of_stopped};
 ghost use Rattle.gx.specs.Top.{AreKept, IsRan, IsWholeRunOf, is_over, run_in, turns};
 
 use crate::attempt::Attempt;
 use gx_drive::{End, run_ordered};
 use gx_ids::Mem;
-use gx_world::World;
 use gx_outside::{Gate, Journal};
 use gx_report::{text, text_of_stopped};
 use gx_script::Script;
 use gx_store::Run;
+use gx_world::World;
 use std::alloc::Global;
 
 // How many turns the driver takes at most.

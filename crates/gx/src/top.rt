@@ -2,7 +2,7 @@
 ghost use Rattle.std.specs.Prelude.{◌≡◌, ◌≢◌, [], All, length, map};
 ghost use Rattle.gx_drive.specs.Ordered.{AreFailuresFew, AreHeld};
 ghost use Rattle.gx_world.specs.Worlds.{shelf};
-ghost use Rattle.gx.specs.Top.{IsCutShort, IsDone, IsDue, IsNotBuilt, IsPartRun, IsReadFault, IsRefused, IsStatus, IsStopped, IsTold, IsTooLarge, IsWritten};
+ghost use Rattle.gx.specs.Top.{IsCutShort, IsDone, IsDue, IsNotBuilt, IsPartRun, IsReadFault, IsRefused, IsStatus, IsStopped, IsTold, IsToldOf, IsTooLarge, IsWritten};
 
 use crate::attempt::{Attempt, make_attempt};
 use gx_outside::{Failed, Gate, Journal, Sink, Source, write_whole};
@@ -11,7 +11,7 @@ use std::alloc::Global;
 
 /// What a call did: its status, and the run that it made. 0 is done, 3 a refused script, 4 a read fault, 5 a write fault, 6
 /// want of memory, 7 a run that took all its turns, 9 too many bytes, and 10 a form that isn't built yet.
-#[derive(Debug, Drop)]
+#[derive(Drop)]
 pub struct Report {
     pub status: u8,
     pub run: Run,
@@ -24,6 +24,21 @@ fn told<K: Sink>(status: u8, run: Run, text: &[u8], sink: &mut K) -> Report
     match write_whole(sink, text) {
         Ok(()) => Report { status, run },
         Err(Failed) => Report { status: 5, run },
+    }
+}
+
+// Tells what the work came to.
+fn told_of<K: Sink>(alloc: Global, attempt: Attempt, sink: &mut K) -> Report
+    ensures { IsToldOf attempt (K.written sink.old) (K.written sink.new) (K.fault_count sink.old) (K.fault_count sink.new) result }
+{
+    match attempt {
+        Attempt::Done(run, text) => told(0, run, text.as_slice(), sink),
+        Attempt::Stopped(run, text) => told(7, run, text.as_slice(), sink),
+        Attempt::Refused(text) => told(3, Run::new(alloc), text.as_slice(), sink),
+        Attempt::ReadFault => told(4, Run::new(alloc), b"read fault\n", sink),
+        Attempt::TooLarge => told(9, Run::new(alloc), b"too large\n", sink),
+        Attempt::NotBuilt => told(10, Run::new(alloc), b"not built\n", sink),
+        Attempt::OutOfMemory(run) => Report { status: 6, run },
     }
 }
 
@@ -71,13 +86,6 @@ pub fn run_gx<S: Source, K: Sink, J: Journal, G: Gate>(
     // No node has more JournalFailed marks than its journal's count has risen.
     ensures failures { AreFailuresFew result.run.steps (map (λ j. shelf (J.items j) (J.fault_count j)) journals.old.items) (map (λ j. shelf (J.items j) (J.fault_count j)) journals.new.items) }
 {
-    match make_attempt(alloc, words, source, journals, gate) {
-        Attempt::Done(run, text) => told(0, run, text.as_slice(), sink),
-        Attempt::Stopped(run, text) => told(7, run, text.as_slice(), sink),
-        Attempt::Refused(text) => told(3, Run::new(alloc), text.as_slice(), sink),
-        Attempt::ReadFault => told(4, Run::new(alloc), b"read fault\n", sink),
-        Attempt::TooLarge => told(9, Run::new(alloc), b"too large\n", sink),
-        Attempt::NotBuilt => told(10, Run::new(alloc), b"not built\n", sink),
-        Attempt::OutOfMemory(run) => Report { status: 6, run },
-    }
+    let attempt = make_attempt(alloc, words, source, journals, gate);
+    told_of(alloc, attempt, sink)
 }

@@ -19,7 +19,7 @@ use Rattle.gx_agenda.specs.Links.{link_of}
 use Rattle.gx_agenda.proofs.Leftovers.{first_left, first_number, left_first, none_left}
 use Rattle.gx_agenda.proofs.Numbers.{is_below, isnt_below, stands_inside, stands_pushed}
 use Rattle.gx_agenda.proofs.Receipts.{received_elsewhere, received_here, received_other, the_link}
-use Rattle.gx_agenda.proofs.Standing.{Turns, stands_after, stands_fresh, stands_same}
+use Rattle.gx_agenda.proofs.LinkStands.{Turns, stands_after, stands_fresh, stands_same}
 
 link_within : (script : Script) (from to : Node) → IsLink script from to → link_of from to < 2 * script.segments + 2
 link_within script from to (inl (e, s)) = let z : from.0 ≡ 0 = ap (λ (n : Node). n.0) e in let h = s.1 in below from.0 to.0 script.segments z h

@@ -7,7 +7,7 @@ use Rattle.std.proofs.lemmas.Option.{same_Some}
 use Rattle.std.specs.Prelude.{Some, replicate}
 use Rattle.gx_ids.specs.declared.ids.SessionId.{SessionId}
 use Rattle.gx_script.specs.declared.Line.{Line}
-use Rattle.gx_sql.specs.Language.{AreNumbered, lines_in}
+use Rattle.gx_store.specs.Language.{AreLinesNumbered, lines_in}
 use Rattle.gx_agenda.specs.declared.queue.Queue.{Queue}
 use Rattle.gx_agenda.specs.declared.standing.Standing.{Standing}
 use Rattle.gx_agenda.specs.FreshQueue.{AreFresh, IsFresh, new_standing, with_place}
@@ -16,7 +16,7 @@ use Rattle.gx_agenda.specs.Queued.{AreFirst, AreQueuedBy}
 use Rattle.gx_agenda.proofs.Lists.{apart_from, kept, last, length-set, pushed, same_number, set-here, set-other}
 
 -- NUMBERS
-pub numbered_at : (before ls : List Line) (i : ℕ) (l : Line) → AreNumbered before ls → slice_get ls i ≡ Some l → l.number ≡ lines_in l.session.0 (before ++ take i ls) + 1
+pub numbered_at : (before ls : List Line) (i : ℕ) (l : Line) → AreLinesNumbered before ls → slice_get ls i ≡ Some l → l.number ≡ lines_in l.session.0 (before ++ take i ls) + 1
 numbered_at before [] i l numbered e = absurd (cc)
 numbered_at before (x ∷ xs) zero l numbered e =
     let same : x ≡ l = same_Some x l e in

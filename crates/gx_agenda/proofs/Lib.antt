@@ -4,7 +4,7 @@ pub mod Deliveries
 pub mod Leftovers
 pub mod Numbers
 pub mod Receipts
-pub mod Standing
+pub mod LinkStands
 pub mod Lists
 pub mod FirstLines
 pub mod Growing

@@ -2,7 +2,7 @@
 use Rattle.std.specs.Prelude.{◌≡◌, ℕ, List, [], ◌∷◌, ◌++◌, length, slice_get, Some}
 use Rattle.gx_ids.specs.declared.ids.SessionId.{SessionId}
 use Rattle.gx_script.specs.declared.Line.{Line}
-use Rattle.gx_sql.specs.Language.{lines_in}
+use Rattle.gx_store.specs.Language.{lines_in}
 use Rattle.gx_agenda.specs.declared.standing.Standing.{Standing}
 use Rattle.gx_agenda.specs.LinePlaces.{ArePlaces}
 

@@ -52,7 +52,8 @@ impl Asked {
 
     /// The first awaited answer, by segment and then by transaction.
     pub fn first(&self) -> Option<Request>
-        ensures { (script : Script) (steps : List Step) → AreAsked steps self.now → AreResendable script steps → option_to_list (option_map resend_of result) ≡ first_of (flat_map (resends script steps) (segments_of script)) }
+        ensures { (script : Script) (steps : List Step) → AreAsked steps self.now → AreResendable script steps
+            → option_to_list (option_map resend_of result) ≡ first_of (flat_map (resends script steps) (segments_of script)) }
     {
         first_key(&self.pending)
     }

@@ -36,8 +36,10 @@ impl Cursors {
 
     /// The number of a link's next delivery, of so many messages sent on it; none where nothing is left.
     pub fn next(&self, from: Node, to: Node, sent: u64) -> Option<u64>
-        ensures first { (script : Script) (steps : List Step) → Agree script steps self.now → IsLink script from to → sent ≡ sent_in from to steps → option_to_list (option_map (Receive from to) result) ≡ first_of (left_on script steps from to) }
-        ensures left { (script : Script) (steps : List Step) → Agree script steps self.now → IsLink script from to → sent ≡ sent_in from to steps → is_some result ≡ not (length (left_on script steps from to) == 0) }
+        ensures first { (script : Script) (steps : List Step) → Agree script steps self.now → IsLink script from to → sent ≡ sent_in from to steps
+            → option_to_list (option_map (Receive from to) result) ≡ first_of (left_on script steps from to) }
+        ensures left { (script : Script) (steps : List Step) → Agree script steps self.now → IsLink script from to → sent ≡ sent_in from to steps
+            → is_some result ≡ not (length (left_on script steps from to) == 0) }
         ensures within { IfSome result (λ number. (0 < number) × (number ≤ sent)) }
     {
         let cursor = self.cursor(link_between(from, to));
@@ -50,7 +52,9 @@ impl Cursors {
 
     /// A link's next delivery happens.
     pub fn delivered(&mut self, from: Node, to: Node)
-        ensures agree { (script : Script) (steps : List Step) (step : Step) (number : ℕ) → Agree script steps self.old → IsLink script from to → number < 2 ^ 64 → first_of (left_on script steps from to) ≡ Receive from to number ∷ [] → step.event ≡ Receive from to number → Agree script (steps ++ step ∷ []) self.new }
+        ensures agree { (script : Script) (steps : List Step) (step : Step) (number : ℕ) → Agree script steps self.old → IsLink script from to
+            → number < 2 ^ 64 → first_of (left_on script steps from to) ≡ Receive from to number ∷ [] → step.event ≡ Receive from to number
+            → Agree script (steps ++ step ∷ []) self.new }
         ensures others { (link : ℕ) → link ≢ link_of from to → cursor_at self.new link ≡ cursor_at self.old link }
         ensures faults { self.new.faults ≡ self.old.faults }
     {

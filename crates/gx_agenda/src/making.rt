@@ -1,6 +1,6 @@
 // The queue of lines of which none was started.
 ghost use Rattle.std.specs.Prelude.{◌≡◌, ◌<◌, ℕ, All, IfOk, OnOk, [], length, replicate, slice_get, slice_set, Some};
-ghost use Rattle.gx_sql.specs.Language.{AreNumbered};
+ghost use Rattle.gx_store.specs.Language.{AreLinesNumbered};
 ghost use Rattle.gx_agenda.specs.declared.standing.Standing.{Standing as OneStanding};
 ghost use Rattle.gx_agenda.specs.FreshQueue.{AreFresh, new_standing, with_place};
 ghost use Rattle.gx_agenda.specs.Queued.{AreFirst};
@@ -15,7 +15,7 @@ use std::collections::BTreeMap;
 // For each of so many sessions the places of its lines.
 pub(crate) fn fresh_standings(alloc: Global, lines: &[Line], sessions: usize) -> Mem<Vec<Standing>>
     requires within { All (λ line. line.session.0 < sessions) lines.now }
-    requires numbers { AreNumbered [] lines.now }
+    requires numbers { AreLinesNumbered [] lines.now }
     ensures { IfOk result (λ standings. AreFresh lines.now sessions standings.items) }
 {
     let mut standings = new_standings(alloc, sessions)?;

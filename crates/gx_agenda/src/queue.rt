@@ -3,7 +3,7 @@ ghost use Rattle.std.specs.Option.{option_to_list};
 ghost use Rattle.gx_ids.specs.declared.ids.SessionId.{SessionId as OneSession};
 ghost use Rattle.gx_script.specs.declared.Line.{Line as OneLine};
 ghost use Rattle.gx_script.specs.declared.Script.{Script};
-ghost use Rattle.gx_sql.specs.Language.{IsScript};
+ghost use Rattle.gx_store.specs.Language.{IsScript};
 ghost use Rattle.gx_store.specs.declared.event.Event.TheVariants.{Start};
 ghost use Rattle.gx_store.specs.declared.run.Step.{Step};
 ghost use Rattle.gx_store.specs.Marks.{answer_count};
@@ -61,7 +61,8 @@ impl Queue {
 
     // An event may start a line.
     fn note_event(&mut self, event: Event) -> Mem<()>
-        ensures { OnOk result ((lines : List OneLine) (started answered : OneSession → ℕ) → AreQueuedBy lines started answered self.old → AreFew (λ s. started s + starts_by s event) → AreFew answered → AreQueuedBy lines (λ s. started s + starts_by s event) answered self.new) }
+        ensures { OnOk result ((lines : List OneLine) (started answered : OneSession → ℕ) → AreQueuedBy lines started answered self.old
+            → AreFew (λ s. started s + starts_by s event) → AreFew answered → AreQueuedBy lines (λ s. started s + starts_by s event) answered self.new) }
     {
         match started_session(event) {
             Some(session) => self.count(session, 1, 0),
@@ -71,7 +72,9 @@ impl Queue {
 
     // Marks may answer lines.
     fn note_marks(&mut self, marks: &[Mark]) -> Mem<()>
-        ensures { OnOk result ((lines : List OneLine) (started answered : OneSession → ℕ) → AreQueuedBy lines started answered self.old → AreFew started → AreFew (λ s. answered s + answer_count s marks.now) → AreQueuedBy lines started (λ s. answered s + answer_count s marks.now) self.new) }
+        ensures { OnOk result ((lines : List OneLine) (started answered : OneSession → ℕ) → AreQueuedBy lines started answered self.old
+            → AreFew started → AreFew (λ s. answered s + answer_count s marks.now)
+            → AreQueuedBy lines started (λ s. answered s + answer_count s marks.now) self.new) }
     {
         for mark in marks {
             self.note_mark(mark)?;
@@ -80,7 +83,9 @@ impl Queue {
     }
 
     fn note_mark(&mut self, mark: &Mark) -> Mem<()>
-        ensures { OnOk result ((lines : List OneLine) (started answered : OneSession → ℕ) → AreQueuedBy lines started answered self.old → AreFew started → AreFew (λ s. answered s + answer_count s (mark.now ∷ [])) → AreQueuedBy lines started (λ s. answered s + answer_count s (mark.now ∷ [])) self.new) }
+        ensures { OnOk result ((lines : List OneLine) (started answered : OneSession → ℕ) → AreQueuedBy lines started answered self.old
+            → AreFew started → AreFew (λ s. answered s + answer_count s (mark.now ∷ []))
+            → AreQueuedBy lines started (λ s. answered s + answer_count s (mark.now ∷ [])) self.new) }
     {
         match answered_session(mark) {
             Some(session) => self.count(session, 0, 1),
@@ -90,7 +95,9 @@ impl Queue {
 
     // So many more of a session's lines were started, and so many answered; a session that the script lacks has none.
     fn count(&mut self, session: SessionId, starts: usize, answers: usize) -> Mem<()>
-        ensures { OnOk result ((lines : List OneLine) (started answered : OneSession → ℕ) → AreQueuedBy lines started answered self.old → AreFew (more_for session starts started) → AreFew (more_for session answers answered) → AreQueuedBy lines (more_for session starts started) (more_for session answers answered) self.new) }
+        ensures { OnOk result ((lines : List OneLine) (started answered : OneSession → ℕ) → AreQueuedBy lines started answered self.old
+            → AreFew (more_for session starts started) → AreFew (more_for session answers answered)
+            → AreQueuedBy lines (more_for session starts started) (more_for session answers answered) self.new) }
     {
         let number = usize::from(session.0);
         if number < self.standings.len() {

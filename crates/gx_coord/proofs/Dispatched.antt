@@ -18,9 +18,9 @@ use Rattle.gx_dtx.specs.Nodes.{has, with_node}
 use Rattle.gx_dtx.specs.Rules.{abort_found, begun, enlisted, with_live}
 use Rattle.gx_dtx.specs.Table.{Table, find_txn, new_txn, xmin_of}
 use Rattle.gx_dtx.specs.declared.txn.Txn.{Txn}
-use Rattle.gx_eval.specs.declared.fault.ArithFault.{ArithFault}
-use Rattle.gx_plan.specs.Plan.{plan_of}
-use Rattle.gx_plan.specs.declared.piece.Piece.{Piece}
+use Rattle.gx_meaning.specs.declared.fault.ArithFault.{ArithFault}
+use Rattle.gx_meaning.specs.Plan.{plan_of}
+use Rattle.gx_meaning.specs.declared.piece.Piece.{Piece}
 use Rattle.gx_script.specs.declared.Script.{Script}
 use Rattle.gx_session.specs.Session.{idle_outside, line_step}
 use Rattle.gx_session.specs.declared.line_step.LineStep.{LineStep}

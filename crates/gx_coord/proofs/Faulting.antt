@@ -14,15 +14,15 @@ use Rattle.gx_tree.specs.declared.schema.Schema.{Schema}
 use Rattle.gx_tree.specs.declared.stmt.Stmt.{Stmt}
 use Rattle.gx_tree.specs.declared.stmt.Stmt.TheVariants as stmt
 use Rattle.gx_tree.specs.declared.value.Value.{Value}
-use Rattle.gx_eval.specs.Kinds.{kind_of}
-use Rattle.gx_eval.specs.Meaning.{and_then, value_of}
-use Rattle.gx_eval.specs.declared.fault.ArithFault.{ArithFault}
-use Rattle.gx_plan.specs.Constants.{HasKey, IsConstant, constant, each_from, values_of}
-use Rattle.gx_plan.specs.Plan as plan_of
-use Rattle.gx_resolve.specs.Rules.{IsDist, IsOver, IsStmtOf, IsTuple, column_kind, column_kinds}
+use Rattle.gx_meaning.specs.Kinds.{kind_of}
+use Rattle.gx_meaning.specs.Expressions.{and_then, value_of}
+use Rattle.gx_meaning.specs.declared.fault.ArithFault.{ArithFault}
+use Rattle.gx_meaning.specs.Constants.{HasKey, IsConstant, constant, each_from, values_of}
+use Rattle.gx_meaning.specs.Plan as plan_of
+use Rattle.gx_meaning.specs.Statements.{IsDist, IsOver, IsStmtOf, IsTuple, column_kind, column_kinds}
 use Rattle.gx_script.specs.declared.Line.{Line}
 use Rattle.gx_script.specs.declared.Script.{Script}
-use Rattle.gx_sql.specs.Language.{IsLine, IsScript, IsTable}
+use Rattle.gx_store.specs.Language.{IsLine, IsScript, IsTable}
 use Rattle.gx_store.specs.Writes.{dist_of}
 use Rattle.gx_rules.specs.AtCoordinator.{faulting_from, table_of}
 use Rattle.gx_coord.specs.Books.{stmt_at}

@@ -11,9 +11,9 @@ use Rattle.gx_dtx.proofs.Finds.{find-with}
 use Rattle.gx_dtx.specs.Rules.{with_live}
 use Rattle.gx_dtx.specs.Table.{IsActive, Table, find_txn, status_in, xmin_of}
 use Rattle.gx_dtx.specs.declared.txn.Txn.{Txn}
-use Rattle.gx_eval.specs.declared.fault.ArithFault.{ArithFault}
+use Rattle.gx_meaning.specs.declared.fault.ArithFault.{ArithFault}
 use Rattle.gx_msg.specs.declared.message.Out.{Out}
-use Rattle.gx_plan.specs.declared.piece.Piece.{Piece}
+use Rattle.gx_meaning.specs.declared.piece.Piece.{Piece}
 use Rattle.gx_script.specs.declared.Script.{Script}
 use Rattle.gx_session.specs.Session.{IsIdle}
 use Rattle.gx_store.specs.declared.mark.Mark.{Mark}

@@ -3,7 +3,7 @@ use Rattle.std.proofs.Common.{◌≡◌, ℕ, ◌+◌, ◌≤◌, ◌==◌, zero
 use Rattle.std.proofs.lemmas.Bool.Decides.{nat_tests}
 use Rattle.std.specs.Prelude.{None, Some}
 use Rattle.gx_ids.specs.declared.ids.SessionId.{SessionId}
-use Rattle.gx_sql.specs.Language.{AreNumbered, lines_in}
+use Rattle.gx_store.specs.Language.{AreLinesNumbered, lines_in}
 use Rattle.gx_script.specs.declared.Line.{Line}
 use Rattle.gx_store.specs.Lines.{line_count, stmt_of}
 use Rattle.gx_coord.specs.Places.{places_from}
@@ -105,7 +105,7 @@ module _ (session : ℕ) where
       (0, omega (arith, at), record { line = l; there = refl; of = of; number = n; stmt = met (session_at session) (c + 0 + 1) l ls (both_same l.session.0 session l.number (c + 0 + 1) of n) })
 
   -- what stands at each of the places
-  pub placed : (before ls : List Line) (o i p : ℕ) → AreNumbered before ls → slice_get (places_from session o ls) i ≡ Some p → Placed ls o (lines_in session before) i p
+  pub placed : (before ls : List Line) (o i p : ℕ) → AreLinesNumbered before ls → slice_get (places_from session o ls) i ≡ Some p → Placed ls o (lines_in session before) i p
   placed before [] o i p numbered e = absurd (cc)
   placed before (l ∷ ls) o i p numbered e = first (l.session.0 == session) refl i e (λ j f. placed (before ++ l ∷ []) ls (o + 1) j p numbered.1 f)
     where
@@ -119,7 +119,7 @@ module _ (session : ℕ) where
   HasPlace ls o c q l = (i : ℕ) × (slice_get (places_from session o ls) i ≡ Some (o + q)) × (l.number ≡ c + i + 1)
 
   -- each line of the session stands at one of them
-  pub has_place : (before ls : List Line) (o q : ℕ) (l : Line) → AreNumbered before ls → slice_get ls q ≡ Some l → l.session.0 ≡ session → HasPlace ls o (lines_in session before) q l
+  pub has_place : (before ls : List Line) (o q : ℕ) (l : Line) → AreLinesNumbered before ls → slice_get ls q ≡ Some l → l.session.0 ≡ session → HasPlace ls o (lines_in session before) q l
   has_place before [] o q l numbered e of = absurd (cc)
   has_place before (x ∷ ls) o zero l numbered e of =
       let same : x ≡ l = cc in
@@ -146,7 +146,7 @@ module _ (session : ℕ) where
       first false e = e
 
   -- and past them there is none
-  pub none_past : (before ls : List Line) (o i : ℕ) → AreNumbered before ls → length (places_from session o ls) ≤ i → stmt_of (session_at session) (lines_in session before + i + 1) ls ≡ None
+  pub none_past : (before ls : List Line) (o i : ℕ) → AreLinesNumbered before ls → length (places_from session o ls) ≤ i → stmt_of (session_at session) (lines_in session before + i + 1) ls ≡ None
   none_past before [] o i numbered past = refl
   none_past before (l ∷ ls) o i numbered past = first (l.session.0 == session) refl i past (λ j f. none_past (before ++ l ∷ []) ls (o + 1) j numbered.1 f)
     where
@@ -185,7 +185,7 @@ pub record IsLineOf (session : ℕ) (ls : List Line) (i p : ℕ) : Type 0 where
 from_zero : (i : ℕ) → 0 + i + 1 ≡ i + 1
 from_zero i = omega arith
 
-pub line_at : (session : ℕ) (ls : List Line) (i p : ℕ) → AreNumbered [] ls → slice_get (places_from session 0 ls) i ≡ Some p → IsLineOf session ls i p
+pub line_at : (session : ℕ) (ls : List Line) (i p : ℕ) → AreLinesNumbered [] ls → slice_get (places_from session 0 ls) i ≡ Some p → IsLineOf session ls i p
 line_at session ls i p numbered e =
     let found = placed session [] ls 0 i p numbered e in
     let at : found.0 ≡ p = omega (arith, found.1) in
@@ -197,10 +197,10 @@ line_at session ls i p numbered e =
       stmt = subst (λ n. stmt_of (session_at session) n ls ≡ Some found.2.line.stmt) (from_zero i) found.2.stmt;
     }
 
-pub place_of_line : (session : ℕ) (ls : List Line) (p : ℕ) (l : Line) → AreNumbered [] ls → slice_get ls p ≡ Some l → l.session.0 ≡ session → (i : ℕ) × (slice_get (places_from session 0 ls) i ≡ Some p) × (l.number ≡ i + 1)
+pub place_of_line : (session : ℕ) (ls : List Line) (p : ℕ) (l : Line) → AreLinesNumbered [] ls → slice_get ls p ≡ Some l → l.session.0 ≡ session → (i : ℕ) × (slice_get (places_from session 0 ls) i ≡ Some p) × (l.number ≡ i + 1)
 place_of_line session ls p l numbered e of =
     let found = has_place session [] ls 0 p l numbered e of in
     (found.0, found.1 ∙ ap Some (omega arith), found.2 ∙ from_zero found.0)
 
-pub none_behind : (session : ℕ) (ls : List Line) (i : ℕ) → AreNumbered [] ls → length (places_from session 0 ls) ≤ i → stmt_of (session_at session) (i + 1) ls ≡ None
+pub none_behind : (session : ℕ) (ls : List Line) (i : ℕ) → AreLinesNumbered [] ls → length (places_from session 0 ls) ≤ i → stmt_of (session_at session) (i + 1) ls ≡ None
 none_behind session ls i numbered past = subst (λ n. stmt_of (session_at session) n ls ≡ None) (from_zero i) (none_past session [] ls 0 i numbered past)

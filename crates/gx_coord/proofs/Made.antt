@@ -6,7 +6,7 @@ use Rattle.gx_ids.specs.declared.ids.Gxid.{Gxid}
 use Rattle.gx_tree.specs.declared.stmt.Level.TheVariants.{ReadCommitted}
 use Rattle.gx_dtx.specs.Table.{Table, new_table}
 use Rattle.gx_script.specs.declared.Script.{Script}
-use Rattle.gx_sql.specs.Language.{IsScript}
+use Rattle.gx_store.specs.Language.{IsScript}
 use Rattle.gx_rules.specs.Coordinators as rule
 use Rattle.gx_rules.specs.Coordinators.{new_coordinator, new_session, no_work}
 use Rattle.gx_rules.specs.Machine.{new_world}

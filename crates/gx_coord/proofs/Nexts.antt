@@ -7,7 +7,7 @@ use Rattle.std.specs.Prelude.{option_map}
 use Rattle.gx_tree.specs.declared.stmt.Stmt.TheVariants as stmt
 use Rattle.gx_script.specs.declared.Line.{Line}
 use Rattle.gx_script.specs.declared.Script.{Script}
-use Rattle.gx_sql.specs.Language.{IsLine, IsScript}
+use Rattle.gx_store.specs.Language.{IsLine, IsScript}
 use Rattle.gx_store.specs.Lines.{stmt_of}
 use Rattle.gx_coord.specs.Books.{stmt_at}
 use Rattle.gx_coord.specs.Places.{AreIndexed, at_index, places_from}

@@ -8,7 +8,7 @@ use Rattle.gx_rules.specs.AtCoordinator.{coord_rule}
 use Rattle.gx_rules.specs.Coordinators as rule
 use Rattle.gx_rules.specs.Machine.{kept_item}
 use Rattle.gx_coord.specs.declared.coord.Coord.{Coord}
-use Rattle.gx_sql.specs.Language.{IsScript}
+use Rattle.gx_store.specs.Language.{IsScript}
 use Rattle.gx_coord.specs.Books.{coord_of, found, session_of}
 use Rattle.gx_coord.specs.Places.{AreIndexed}
 use Rattle.gx_coord.specs.Sound.{IsSmall, IsSound}

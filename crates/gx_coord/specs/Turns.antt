@@ -29,7 +29,7 @@ use Rattle.gx_rules.specs.AtCoordinator.{is_awaited, order_to, with_done, writer
 use Rattle.gx_rules.specs.Coordinators as rule
 use Rattle.gx_rules.specs.Fits.{fits_part}
 use Rattle.gx_rules.specs.Machine.{kept_item}
-use Rattle.gx_rules.specs.Merged.{merged_answer}
+use Rattle.gx_meaning.specs.Merged.{merged_answer}
 use Rattle.gx_coord.specs.declared.coord.Coord.{Coord}
 use Rattle.gx_coord.specs.Books.{IsFramed, coord_of}
 

@@ -1,6 +1,6 @@
 // What is admitted.
 ghost use Rattle.std.specs.Prelude.{◌≡◌, IfOk, is_some, length};
-ghost use Rattle.gx_sql.specs.Language.{IsScript};
+ghost use Rattle.gx_store.specs.Language.{IsScript};
 ghost use Rattle.gx_rules.specs.AtCoordinator as turns;
 ghost use Rattle.gx_coord.specs.Books.{coord_of};
 ghost use Rattle.gx_coord.specs.Places.{AreIndexed};

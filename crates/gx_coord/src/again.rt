@@ -6,7 +6,7 @@ ghost use Rattle.gx_coord.specs.Books.{coord_of};
 ghost use Rattle.gx_coord.specs.Turns.{has_order, order_in};
 
 use crate::coord::Coord;
-use crate::nodes::has;
+use gx_dtx::nodes::has;
 use gx_ids::{Duplicate, Gxid, Mem, Node};
 use gx_msg::{Message, Out};
 use std::alloc::Global;

@@ -7,9 +7,9 @@ ghost use Rattle.gx_coord.specs.Turns.{AreFit, IsFit, told_by};
 
 use crate::coord::Coord;
 use crate::work::Command;
-use gx_eval::ArithFault;
+use gx_gather::merge_parts;
 use gx_ids::{Gxid, Mem, Seq, SessionId};
-use gx_merging::merge_parts;
+use gx_meaning::ArithFault;
 use gx_script::Script;
 use gx_session::state::Pending;
 use gx_store::{Mark, Refused, StmtAnswer};

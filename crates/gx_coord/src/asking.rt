@@ -1,7 +1,7 @@
 // What a line does that has started.
 ghost use Rattle.std.specs.Prelude.{◌≡◌, ◌≤◌, ◌<◌, ◌^◌, ◌∷◌, [], length, IfOk, OnOk};
 ghost use Rattle.gx_dtx.specs.Table.{IsActive};
-ghost use Rattle.gx_sql.specs.Language.{IsScript};
+ghost use Rattle.gx_store.specs.Language.{IsScript};
 ghost use Rattle.gx_rules.specs.AtCoordinator as turns;
 ghost use Rattle.gx_coord.specs.Books.{coord_of, stmt_at};
 ghost use Rattle.gx_coord.specs.Lines.{MayAsk, MaySend, closes_block};

@@ -3,7 +3,7 @@ ghost use Rattle.gx_rules.specs.AtCoordinator.{coord_can};
 ghost use Rattle.gx_rules.specs.Coordinators.{Coord as RuleCoord, new_coordinator};
 ghost use Rattle.gx_rules.specs.Sending.{heard_in};
 ghost use Rattle.gx_ids.specs.declared.ids.SessionId.{SessionId as Id};
-ghost use Rattle.gx_sql.specs.Language.{IsScript};
+ghost use Rattle.gx_store.specs.Language.{IsScript};
 ghost use Rattle.gx_rules.specs.Snapshots.{snapshot_of as rule_snapshot};
 ghost use Rattle.gx_coord.specs.Unfinished.{is_unfinished};
 ghost use Rattle.gx_coord.specs.Steps.{HasStepped, IsCoord};

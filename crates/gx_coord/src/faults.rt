@@ -1,7 +1,7 @@
 // The first tuple of an INSERT whose constants fault.
 ghost use Rattle.std.specs.Prelude.{◌≡◌, ◌+◌, ◌++◌, [], All, IfOk, OnOk};
-ghost use Rattle.gx_eval.specs.Meaning.{value_of};
-ghost use Rattle.gx_plan.specs.Constants.{IsConstant};
+ghost use Rattle.gx_meaning.specs.Expressions.{value_of};
+ghost use Rattle.gx_meaning.specs.Constants.{IsConstant};
 ghost use Rattle.gx_rules.specs.AtCoordinator.{fault_mark};
 ghost use Rattle.gx_coord.specs.Faults.{AreConstants, HasConstants, Means, faulting, has_value, has_values as have_values};
 

@@ -1,7 +1,7 @@
 // Whether sessions have done all of their lines.
 ghost use Rattle.std.specs.Prelude.{◌≡◌, ◌<◌, length, true, false};
 ghost use Rattle.gx_ids.specs.declared.ids.SessionId.{SessionId as Id};
-ghost use Rattle.gx_sql.specs.Language.{IsScript};
+ghost use Rattle.gx_store.specs.Language.{IsScript};
 ghost use Rattle.gx_coord.specs.Books.{coord_of};
 ghost use Rattle.gx_coord.specs.Places.{AreIndexed};
 ghost use Rattle.gx_coord.specs.Unfinished.{is_unfinished};

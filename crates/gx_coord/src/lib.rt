@@ -16,7 +16,6 @@ mod finished;
 mod lines;
 mod making;
 mod messages;
-mod nodes;
 mod orders;
 mod places;
 mod probe;

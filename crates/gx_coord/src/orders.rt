@@ -6,13 +6,13 @@ ghost use Rattle.gx_rules.specs.AtCoordinator.{enlisted_all, nodes_in, order_of,
 use gx_dsnap::Snapshot;
 use gx_dtx::Dtx;
 use gx_ids::{Cid, Duplicate, Gxid, Mem, Node, Seq};
+use gx_meaning::Piece;
 use gx_msg::{Message, Out};
-use gx_plan::Piece;
 use gx_tree::Level;
 use std::alloc::Global;
 
 // What each order of a command has besides its slice.
-#[derive(Debug, Drop)]
+#[derive(Drop)]
 pub struct Ordering {
     pub gxid: Gxid,
     pub cid: Cid,

@@ -11,9 +11,9 @@ ghost use Rattle.gx_coord.specs.Turns.{AreCounted, IsBusy, IsTurn, asks, done_wo
 
 use crate::coord::Coord;
 use crate::ends::refuse_line;
-use crate::nodes::{has, with_node, without};
 use crate::work::{Command, Work};
 use gx_dtx::DtxOut;
+use gx_dtx::nodes::{has, with_node, without};
 use gx_fits::fits_part;
 use gx_ids::{Cid, Gxid, Mem, Node, Seq};
 use gx_msg::Out;
@@ -23,7 +23,7 @@ use gx_tree::{Part, Stmt};
 use std::alloc::Global;
 
 // What a segment says of a command that is done there, besides its part.
-#[derive(Clone, Copy, Debug)]
+#[derive(Clone, Copy)]
 pub(crate) struct Done {
     pub cid: Cid,
     pub wrote: bool,

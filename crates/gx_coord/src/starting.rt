@@ -1,7 +1,7 @@
 // A session's next line.
 ghost use Rattle.std.specs.Prelude.{◌≡◌, ◌+◌, ◌<◌, ◌≤◌, ◌^◌, length, option_map, slice_get, true, IfOk, OnOk, Some};
 ghost use Rattle.gx_session.specs.Session.{IsIdle, line_step};
-ghost use Rattle.gx_sql.specs.Language.{IsScript};
+ghost use Rattle.gx_store.specs.Language.{IsScript};
 ghost use Rattle.gx_rules.specs.AtCoordinator as turns;
 ghost use Rattle.gx_coord.specs.Books.{IsFramed, coord_of, stmt_at};
 ghost use Rattle.gx_coord.specs.Places.{AreIndexed, at_index};

@@ -1,6 +1,6 @@
 // One step on the coordinator's parts.
 ghost use Rattle.std.specs.Prelude.{◌≡◌, ◌+◌, ◌<◌, ◌≤◌, ◌++◌, ◌^◌, All, length, slice_index, true, IfOk, OnOk};
-ghost use Rattle.gx_sql.specs.Language.{IsScript};
+ghost use Rattle.gx_store.specs.Language.{IsScript};
 ghost use Rattle.gx_rules.specs.AtCoordinator.{coord_can};
 ghost use Rattle.gx_rules.specs.Sending.{counted_all, heard_in, numbered};
 ghost use Rattle.gx_coord.specs.Books.{coord_of};

@@ -7,11 +7,10 @@ use Rattle.std.specs.List.{list_any, range_with_len}
 use Rattle.std.specs.Prelude.{map}
 use Rattle.gx_ids.specs.declared.ids.SessionId.{SessionId}
 use Rattle.gx_script.specs.declared.Script.{Script}
-use Rattle.gx_sql.specs.Language.{IsScript}
+use Rattle.gx_store.specs.Language.{IsScript}
 use Rattle.gx_store.specs.declared.run.Step.{Step}
 use Rattle.gx_store.specs.Schedule.{enabled}
-use Rattle.gx_law_answers.specs.Whole.{AreInsertsWhole}
-use Rattle.gx_law_scripts.proofs.Numbers.{lines_numbered}
+use Rattle.gx_store.specs.Whole.{AreInsertsWhole}
 use Rattle.gx_law_runs.specs.Endings.{is_any_unfinished, is_unfinished, is_unfinished_there, sessions_of}
 use Rattle.gx_law_runs.proofs.Finishing.{replayed-alike}
 use Rattle.gx_law_runs.proofs.Going.{goes-on}
@@ -48,7 +47,7 @@ module _ (script : Script) (language : IsScript script) (steps : List Step) (is 
   alike : (session : SessionId) → is_unfinished script steps session ≡ is_unfinished_there script (coordinator_after script steps) session
   alike session =
       by-events script steps is (λ ss. is_unfinished script ss session ≡ is_unfinished_there script (coordinator_after script ss) session)
-      (replayed-alike script language.some_segments (lines_numbered [] script.lines language.numbers) session)
+      (replayed-alike script language.some_segments language.numbers session)
 
   pub unfinished-none : ((id : SessionId) → id.0 < length script.sessions → is_unfinished_there script (coordinator_after script steps) id ≡ false) → is_any_unfinished script steps ≡ false
   unfinished-none none = any-none (is_unfinished script steps) (length script.sessions) (λ id h. alike id ∙ none id h)

@@ -6,7 +6,7 @@ ghost use Rattle.gx_agenda.specs.Agrees.{Agree};
 ghost use Rattle.gx_agenda.specs.Queued.{AreCounted};
 ghost use Rattle.gx_law_runs.specs.Reached.{IsReached};
 ghost use Rattle.gx_script.specs.declared.Script.{Script as OneScript};
-ghost use Rattle.gx_sql.specs.Language.{IsScript};
+ghost use Rattle.gx_store.specs.Language.{IsScript};
 ghost use Rattle.gx_store.specs.declared.event.Event.TheVariants.{Receive};
 ghost use Rattle.gx_store.specs.declared.run.Step.{Step as OneStep};
 ghost use Rattle.gx_store.specs.Ordered.{IsLink};
@@ -16,14 +16,12 @@ ghost use Rattle.gx_drive.specs.Agrees.{IsAgreed, IsDue, deliveries_of};
 
 use crate::ends::first_end;
 use crate::links::{first_from, first_to};
-use gx_agenda::Asked;
-use gx_agenda::Cursors;
+use gx_agenda::{Asked, Cursors, Queue};
 use gx_ids::{Mem, Node};
 use gx_msg::Message;
-use gx_world::World;
-use gx_agenda::Queue;
 use gx_script::Script;
 use gx_store::{Event, Step};
+use gx_world::World;
 use std::alloc::Global;
 
 /// What a driver keeps of a run besides it: where each link stands, the next lines, and the answers that are awaited.

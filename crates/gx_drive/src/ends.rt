@@ -6,8 +6,8 @@ ghost use Rattle.gx_store.specs.Schedule.{ends, first_of};
 ghost use Rattle.gx_store.specs.declared.event.Event.TheVariants.{End};
 
 use gx_ids::{Mem, SessionId};
-use gx_world::World;
 use gx_store::Event;
+use gx_world::World;
 
 fn end_of(place: usize) -> Event
     requires { place < 256 }

@@ -10,8 +10,8 @@ ghost use Rattle.gx_drive.specs.Agrees.{IsDue};
 
 use gx_agenda::Cursors;
 use gx_ids::Node;
-use gx_world::World;
 use gx_store::Event;
+use gx_world::World;
 
 // The next delivery of a link.
 fn delivery(cursors: &Cursors, world: &World, from: Node, to: Node) -> Option<Event>

@@ -1,5 +1,5 @@
 ghost use Rattle.std.specs.Prelude.{◌≡◌, ◌≤◌, [], false, All, IfOk, OnOk, length, map};
-ghost use Rattle.gx_law_answers.specs.Whole.{AreInsertsWhole};
+ghost use Rattle.gx_store.specs.Whole.{AreInsertsWhole};
 ghost use Rattle.gx_law_runs.specs.Endings.{is_any_unfinished};
 ghost use Rattle.gx_world.specs.Worlds.{shelf};
 ghost use Rattle.gx_law_runs.specs.Reached.{IsReached};
@@ -9,8 +9,8 @@ use crate::agenda::Agenda;
 use crate::end::End;
 use crate::turn::turn;
 use gx_ids::Mem;
-use gx_world::World;
 use gx_outside::{Gate, Journal};
+use gx_world::World;
 use std::alloc::Global;
 
 /// Runs a new world by the ordered schedule: it does the first of what is enabled at each turn, until no session is unfinished or

@@ -1,12 +1,12 @@
 // One turn: the first of what is enabled is done.
 ghost use Rattle.std.specs.Prelude.{◌≡◌, ◌<◌, ◌^◌, ◌++◌, ◌∷◌, [], List, true, false, IfOk, OnOk, length, map, option_copied};
-ghost use Rattle.gx_law_answers.specs.Whole.{AreInsertsWhole};
+ghost use Rattle.gx_store.specs.Whole.{AreInsertsWhole};
 ghost use Rattle.gx_agenda.specs.Awaited.{told_in};
 ghost use Rattle.gx_law_runs.specs.Endings.{is_any_unfinished};
 ghost use Rattle.gx_world.specs.Worlds.{Shelf, shelf};
 ghost use Rattle.gx_law_runs.specs.Reached.{IsReached};
 ghost use Rattle.gx_law_runs.specs.Replays.{is_admitted};
-ghost use Rattle.gx_sql.specs.Language.{IsScript};
+ghost use Rattle.gx_store.specs.Language.{IsScript};
 ghost use Rattle.gx_store.specs.declared.run.Step.{Step as OneStep};
 ghost use Rattle.gx_drive.specs.Agrees.{HasTurned, IsAgreed, IsDue, IsNoMore};
 ghost use Rattle.gx_drive.specs.Ordered.{AreFailuresFew, IsFirst};
@@ -14,9 +14,9 @@ ghost use Rattle.gx_drive.specs.Ordered.{AreFailuresFew, IsFirst};
 use crate::agenda::Agenda;
 use gx_ids::Mem;
 use gx_msg::Message;
-use gx_world::World;
 use gx_outside::{Gate, Journal};
 use gx_store::Event;
+use gx_world::World;
 
 // What is first, where a session is unfinished.
 fn next_event(world: &World, agenda: &Agenda) -> Mem<Event>

@@ -45,7 +45,8 @@ pub(crate) fn reply<J: Journal>(
 ) -> Mem<Change>
     ensures value { IfOk result (λ change. change ≡ reply_found gxid node answer.now (is_refused change.out.outcome) (option_copied txn.entry)) }
     ensures items { IfOk result (λ change. J.items journal.new ≡ J.items journal.old ++ decide_items gxid change.out.outcome) }
-    ensures refused { IfOk result (λ change. decides_found (option_copied txn.entry) node answer.now ≡ true → is_refused change.out.outcome ≡ true → Rose (J.fault_count journal.old) (J.fault_count journal.new)) }
+    ensures refused { IfOk result (λ change. decides_found (option_copied txn.entry) node answer.now ≡ true → is_refused change.out.outcome ≡ true
+        → Rose (J.fault_count journal.old) (J.fault_count journal.new)) }
     ensures untouched { decides_found (option_copied txn.entry) node answer.now ≡ false → journal.new ≡ journal.old }
     ensures later { J.fault_count journal.old ≤ J.fault_count journal.new }
     ensures kept { OnErr result (J.items journal.new ≡ J.items journal.old) }

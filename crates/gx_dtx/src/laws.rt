@@ -50,7 +50,8 @@ pub fn unawaited_answers_change_nothing()
 
 /// What an answer comes to has its cause.
 pub fn outcomes_have_causes()
-    ensures { (calls : List Call) (g : Gxid) (i : Node) (answer : Reply) (refused : Bool) → IsRun calls → HasCause (after calls) g i answer refused (on_reply (after calls) g i answer refused).out.outcome }
+    ensures { (calls : List Call) (g : Gxid) (i : Node) (answer : Reply) (refused : Bool) → IsRun calls
+        → HasCause (after calls) g i answer refused (on_reply (after calls) g i answer refused).out.outcome }
 {}
 
 /// An awaited JFAULT refuses, and an answer that decides is decided or refused, as the journal says.

@@ -9,7 +9,7 @@ pub mod laws;
 pub mod live;
 mod lives;
 mod map;
-mod nodes;
+pub mod nodes;
 pub mod order;
 pub mod outcome;
 pub mod phase;

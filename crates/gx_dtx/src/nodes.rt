@@ -5,15 +5,15 @@ ghost use Rattle.gx_dtx.specs.Nodes.{has as is_one_of, without as all_but, with_
 use gx_ids::{Duplicate, Mem, Node, Seq};
 use std::alloc::Global;
 
-// Whether a node is one of these.
-pub(crate) fn has(node: Node, nodes: &[Node]) -> bool
+/// Whether a node is one of these.
+pub fn has(node: Node, nodes: &[Node]) -> bool
     ensures { result ≡ is_one_of node nodes.now }
 {
     nodes.iter().any(|other| *other == node)
 }
 
-// The nodes but one.
-pub(crate) fn without(alloc: Global, node: Node, nodes: &[Node]) -> Mem<Seq<Node>>
+/// The nodes but one.
+pub fn without(alloc: Global, node: Node, nodes: &[Node]) -> Mem<Seq<Node>>
     ensures { IfOk result (λ rest. rest ≡ all_but node nodes.now) }
 {
     let rest: Vec<Node> = nodes
@@ -24,8 +24,8 @@ pub(crate) fn without(alloc: Global, node: Node, nodes: &[Node]) -> Mem<Seq<Node
     Ok(Seq::from_vec(rest))
 }
 
-// The nodes with one among them.
-pub(crate) fn with_node(alloc: Global, node: Node, nodes: &Seq<Node>) -> Mem<Seq<Node>>
+/// The nodes with one among them, in their order.
+pub fn with_node(alloc: Global, node: Node, nodes: &Seq<Node>) -> Mem<Seq<Node>>
     ensures { IfOk result (λ all. all ≡ all_with node nodes.now) }
 {
     if has(node, nodes.as_slice()) {

@@ -1,8 +1,8 @@
 use Rattle.std.specs.Prelude.{ℤ, Result, Ok, Err}
 use Rattle.gx_tree.specs.declared.value.Value.{Value}
 use Rattle.gx_tree.specs.declared.value.Value.TheVariants.{Int}
-use Rattle.gx_eval.specs.declared.fault.ArithFault.{ArithFault}
-use Rattle.gx_eval.specs.declared.fault.ArithFault.TheVariants as arith
+use Rattle.gx_meaning.specs.declared.fault.ArithFault.{ArithFault}
+use Rattle.gx_meaning.specs.declared.fault.ArithFault.TheVariants as arith
 use Rattle.gx_eval.specs.declared.fault.EvalFault.{EvalFault}
 use Rattle.gx_eval.specs.declared.fault.EvalFault.TheVariants as eval
 

@@ -1,8 +1,8 @@
 ghost use Rattle.std.specs.Prelude.{◌≡◌, ◌≢◌, pos, neg_ℤ, int_div, int_rem};
-ghost use Rattle.gx_eval.specs.Meaning.{arithmetic, in_range};
+ghost use Rattle.gx_meaning.specs.Expressions.{arithmetic, in_range};
 ghost use Rattle.gx_eval.specs.Faults.{value_result};
 
-use crate::fault::ArithFault;
+use gx_meaning::ArithFault;
 use gx_tree::ArithOp;
 
 // An operation on two numbers.

@@ -1,8 +1,8 @@
 ghost use Rattle.std.specs.Prelude.{◌≡◌, ◌<◌, length, MatchOption};
 ghost use Rattle.gx_tree.specs.declared.schema.Kind.TheVariants as kind;
 ghost use Rattle.gx_tree.specs.declared.value.Value.TheVariants.{Int, Text};
-ghost use Rattle.gx_eval.specs.Kinds.{value_kind};
-ghost use Rattle.gx_eval.specs.Meaning.{column_of};
+ghost use Rattle.gx_meaning.specs.Kinds.{value_kind};
+ghost use Rattle.gx_meaning.specs.Expressions.{column_of};
 
 use gx_tree::{Row, Txt, Value};
 

@@ -1,9 +1,10 @@
 ghost use Rattle.std.specs.Prelude.{◌≡◌, ◌≢◌, ◌↔◌, Ok, Err, IfOk, IsErrOf, IsTrue};
-ghost use Rattle.gx_eval.specs.Kinds.{IsTyped, are_comparable, kind_of, kinds_of};
-ghost use Rattle.gx_eval.specs.Meaning.{compared, order_of, truth_of};
+ghost use Rattle.gx_meaning.specs.Kinds.{IsTyped, are_comparable, kind_of, kinds_of};
+ghost use Rattle.gx_meaning.specs.Expressions.{compared, order_of, truth_of};
 
 use crate::expression::{eval_int, text_of};
-use crate::fault::{ArithFault, EvalFault};
+use crate::fault::EvalFault;
+use gx_meaning::ArithFault;
 use gx_tree::{CmpOp, Cond, Expr, Row};
 use std::alloc::Global;
 use std::cmp::Ordering;
@@ -22,7 +23,7 @@ pub fn holds(_alloc: Global, cond: &Cond, row: &Row) -> Result<bool, EvalFault>
 
 /// Whether a condition is true on a row, or its first fault from the left. It takes no memory. The recursion goes as deep
 /// as the condition is nested, which the script language limits.
-#[tactic(auto, using(crate::proofs::Nodes::truths, crate::proofs::Nodes::typings))]
+#[tactic(auto, using(gx_meaning::proofs::Nodes::truths, gx_meaning::proofs::Nodes::typings))]
 pub fn decide(cond: &Cond, row: &Row) -> Result<bool, ArithFault>
     requires { IsTyped (kinds_of row.now) cond.now }
     ensures { result ≡ truth_of row.now cond.now }

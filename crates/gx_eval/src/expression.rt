@@ -2,13 +2,14 @@ ghost use Rattle.std.specs.Prelude.{◌≡◌, ◌↔◌, Some, Ok, IsSome, IfOk
 ghost use Rattle.gx_tree.specs.declared.schema.Kind.TheVariants as kind;
 ghost use Rattle.gx_tree.specs.declared.value.Value.TheVariants.{Text};
 ghost use Rattle.gx_eval.specs.Faults.{value_result};
-ghost use Rattle.gx_eval.specs.Kinds.{kind_of, kinds_of};
-ghost use Rattle.gx_eval.specs.Meaning.{value_of};
+ghost use Rattle.gx_meaning.specs.Kinds.{kind_of, kinds_of};
+ghost use Rattle.gx_meaning.specs.Expressions.{value_of};
 
 use crate::arith::{arith, negated};
 use crate::column::{column_value, number, text};
-use crate::fault::{ArithFault, EvalFault};
+use crate::fault::EvalFault;
 use gx_ids::Duplicate;
+use gx_meaning::ArithFault;
 use gx_tree::{Expr, Row, Txt, Value};
 use std::alloc::Global;
 
@@ -29,7 +30,7 @@ pub fn eval(alloc: Global, expr: &Expr, row: &Row) -> Result<Value, EvalFault>
 
 /// The value of a whole-number expression on a row, or its first fault from the left. It takes no memory. The recursion
 /// goes as deep as the expression is nested, which the script language limits.
-#[tactic(auto, using(crate::proofs::Nodes::values, crate::proofs::KindLemmas::kinds))]
+#[tactic(auto, using(gx_meaning::proofs::Nodes::values, gx_meaning::proofs::KindLemmas::kinds))]
 pub fn eval_int(expr: &Expr, row: &Row) -> Result<i64, ArithFault>
     requires { kind_of (kinds_of row.now) expr.now ≡ Some kind.Int }
     ensures { value_of row.now expr.now ≡ value_result result }

@@ -3,16 +3,8 @@ ghost use Rattle.gx_eval.specs.Faults.{eval_fault};
 ghost use Rattle.gx_eval.specs.declared.fault.EvalFault.TheVariants.{OutOfMemory as NoMemory};
 
 use gx_ids::OutOfMemory;
+use gx_meaning::ArithFault;
 use thiserror::Error;
-
-/// A fault of whole-number evaluation.
-#[derive(Clone, Copy, Debug, PartialEq, Eq, Error)]
-pub enum ArithFault {
-    #[error("overflow")]
-    Overflow,
-    #[error("division by zero")]
-    DivisionByZero,
-}
 
 /// A fault of evaluation: that of its meaning, or want of memory for the copy of a text.
 #[derive(Clone, Copy, Debug, PartialEq, Eq, Error)]

@@ -9,4 +9,4 @@ mod fault;
 
 pub use condition::{decide, holds};
 pub use expression::{eval, eval_int};
-pub use fault::{ArithFault, EvalFault};
+pub use fault::EvalFault;

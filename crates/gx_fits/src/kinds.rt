@@ -1,6 +1,6 @@
 // The kinds of expressions over a table's columns, and conditions that compare what can be compared.
 ghost use Rattle.std.specs.Prelude.{◌≡◌, map, slice_get};
-ghost use Rattle.gx_eval.specs.Kinds.{are_comparable, is_typed, kind_of, number_kind, value_kind};
+ghost use Rattle.gx_meaning.specs.Kinds.{are_comparable, is_typed, kind_of, number_kind, value_kind};
 ghost use Rattle.gx_rules.specs.Fits.{is_right_cond, is_same_kind};
 
 use gx_tree::{Column, Cond, Expr, Kind, Value};
@@ -30,7 +30,7 @@ fn of_numbers(left: Option<Kind>, right: Option<Kind>) -> Option<Kind>
 }
 
 // The kind of an expression, if it has one.
-#[tactic(auto, using(gx_eval::proofs::Nodes::expression_kinds))]
+#[tactic(auto, using(gx_meaning::proofs::Nodes::expression_kinds))]
 fn kind_of_expr(columns: &[Column], expr: &Expr) -> Option<Kind>
     ensures { result ≡ kind_of (map (λ c. c.kind) columns.now) expr.now }
 {
@@ -59,7 +59,7 @@ fn comparable(left: Option<Kind>, right: Option<Kind>) -> bool
 }
 
 // Whether each comparison is of two expressions of one kind.
-#[tactic(auto, using(gx_eval::proofs::Nodes::typings))]
+#[tactic(auto, using(gx_meaning::proofs::Nodes::typings))]
 fn compares_kinds(columns: &[Column], cond: &Cond) -> bool
     ensures { result ≡ is_typed (map (λ c. c.kind) columns.now) cond.now }
 {

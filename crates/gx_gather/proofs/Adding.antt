@@ -7,11 +7,11 @@ use Rattle.std.specs.Ordering.{is_eq}
 use Rattle.gx_tree.specs.declared.cell.Cell.{Cell}
 use Rattle.gx_tree.specs.declared.query.Item.{Item}
 use Rattle.gx_tree.specs.declared.value.Value.{Value}
-use Rattle.gx_gather.specs.Cells.{combine_all}
-use Rattle.gx_gather.specs.Groups.{is_same_key}
+use Rattle.gx_meaning.specs.Cells.{combine_all}
+use Rattle.gx_meaning.specs.Groups.{is_same_key}
 use Rattle.gx_gather.specs.Laws.{rising-equiv, rising-total}
-use Rattle.gx_gather.specs.Order.{rising}
-use Rattle.gx_gather.specs.Tallies.{joined}
+use Rattle.gx_meaning.specs.Order.{rising}
+use Rattle.gx_meaning.specs.Tallies.{joined}
 use Rattle.gx_gather.proofs.InOrder.{Equal-from}
 
 -- keys that are the same have the same in a map

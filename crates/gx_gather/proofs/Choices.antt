@@ -4,7 +4,7 @@ use Rattle.std.specs.Ordering.{is_gt}
 use Rattle.std.specs.Prelude.{Option, None, Some}
 use Rattle.gx_tree.specs.Value.{value_order}
 use Rattle.gx_tree.specs.declared.value.Value.{Value}
-use Rattle.gx_gather.specs.Aggregates.{chosen, either, greater, lesser}
+use Rattle.gx_meaning.specs.Aggregates.{chosen, either, greater, lesser}
 use Rattle.gx_gather.proofs.Orders.{gt-trans, not_gt-trans, gt-once, tie-once}
 
 abbrev above : Value → Value → Bool

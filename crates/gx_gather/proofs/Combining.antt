@@ -15,8 +15,8 @@ use Rattle.gx_tree.specs.declared.query.Item.TheVariants.{Col, Count, Sum, Min, 
 use Rattle.gx_tree.specs.declared.row.KeyedRow.{KeyedRow}
 use Rattle.gx_tree.specs.declared.value.Value.{Value}
 use Rattle.gx_tree.specs.declared.value.Value.TheVariants.{Int, Text}
-use Rattle.gx_gather.specs.Aggregates.{aggregate, cell_at, cell_of, chosen, column, either, greater, lesser, number_cell, numbers_in, sum_cell, total}
-use Rattle.gx_gather.specs.Cells.{add, combine, combine_all, greater_cell, lesser_cell}
+use Rattle.gx_meaning.specs.Aggregates.{aggregate, cell_at, cell_of, chosen, column, either, greater, lesser, number_cell, numbers_in, sum_cell, total}
+use Rattle.gx_meaning.specs.Cells.{add, combine, combine_all, greater_cell, lesser_cell}
 use Rattle.gx_gather.proofs.Choices.{greatest-append, greatest-comm, least-append, least-comm}
 
 column-append : (place : ℕ) (xs ys : List KeyedRow) → column place (xs ++ ys) ≡ column place xs ++ column place ys

@@ -6,7 +6,7 @@ use Rattle.std.proofs.lemmas.List.Sorted.{IsPermutation-append_right, IsPermutat
 use Rattle.std.specs.List.{All, AllByRecursion, range_with_len}
 use Rattle.std.specs.List.Sorted.{IsPermutation}
 use Rattle.gx_tree.specs.declared.row.KeyedRow.{KeyedRow}
-use Rattle.gx_gather.specs.Answer.{dealt_by, together}
+use Rattle.gx_meaning.specs.Answer.{dealt_by, together}
 use Rattle.gx_gather.proofs.Keys.{filter-through}
 
 module _ (owner : KeyedRow → ℕ) where

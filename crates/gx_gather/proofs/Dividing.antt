@@ -7,9 +7,9 @@ use Rattle.std.specs.Ordering.{is_eq}
 use Rattle.gx_ids.specs.declared.rid.Rid.{Rid}
 use Rattle.gx_tree.specs.declared.query.Item.{Item}
 use Rattle.gx_tree.specs.declared.row.KeyedRow.{KeyedRow}
-use Rattle.gx_gather.specs.Aggregates.{aggregate}
-use Rattle.gx_gather.specs.Answer.{AreRising}
-use Rattle.gx_gather.specs.Order.{rid_order}
+use Rattle.gx_meaning.specs.Aggregates.{aggregate}
+use Rattle.gx_meaning.specs.Answer.{AreRising}
+use Rattle.gx_meaning.specs.Order.{rid_order}
 use Rattle.gx_gather.proofs.Combining.{aggregate-behind, aggregate-move}
 use Rattle.gx_gather.proofs.InOrder.{Equal-from}
 use Rattle.gx_gather.proofs.Orders.{rid_order-total}

@@ -8,7 +8,7 @@ use Rattle.std.specs.Ordering.{is_eq, is_gt, is_lt, ordering_reverse}
 use Rattle.std.specs.declared.cmp.Ordering.{Ordering}
 use Rattle.std.specs.declared.cmp.Ordering.TheVariants.{Less, Equal, Greater}
 use native.Mathlib.Numerals.{unary_clauses}
-use Rattle.gx_gather.specs.Order.{in_order, placed}
+use Rattle.gx_meaning.specs.Order.{in_order, placed}
 
 pub Equal-from : (o : Ordering) → is_eq o ≡ true → o ≡ Equal
 Equal-from Less e = cc

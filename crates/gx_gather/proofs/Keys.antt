@@ -3,9 +3,9 @@ use Rattle.std.proofs.Common.{◌||◌, ℕ, ◌≡◌, ◌∙◌, Bool, true, f
 use Rattle.std.specs.List.{list_any}
 use Rattle.gx_tree.specs.declared.row.KeyedRow.{KeyedRow}
 use Rattle.gx_tree.specs.declared.value.Value.{Value}
-use Rattle.gx_gather.specs.Groups.{is_same_key, key_of, keys_of, once}
+use Rattle.gx_meaning.specs.Groups.{is_same_key, key_of, keys_of, once}
 use Rattle.gx_gather.specs.Laws.{rising-equiv}
-use Rattle.gx_gather.specs.Tallies.{has_group}
+use Rattle.gx_meaning.specs.Tallies.{has_group}
 use Rattle.gx_gather.proofs.Orders.{same-exact}
 
 -- ---- a filter of a filter

@@ -5,10 +5,13 @@ pub mod Dealing
 pub mod Dividing
 pub mod InOrder
 pub mod Keys
+pub mod Listed
 pub mod Listing
+pub mod Merges
 pub mod Ordered
 pub mod Orders
 pub mod Permuted
+pub mod Stable
 pub mod Steps
 pub mod Totals
 pub mod Whole

@@ -1,11 +1,11 @@
 -- The groups of a map as a list, and that list in the order of the answer.
-use Rattle.std.proofs.Common.{◌≤◌, ◌≡◌, ◌∙◌, Bool, true, false, cond, List, [], ◌∷◌, filter, map, length, refl, ap, sym, subst, arith}
+use Rattle.std.proofs.Common.{◌≡◌, ◌∙◌, Bool, true, false, cond, List, [], ◌∷◌, filter, map, refl, ap, sym, subst}
 use Rattle.std.specs.BTreeMap.{is_at}
 use Rattle.std.specs.Cmp.{IsTotalOrder, on_total}
 use Rattle.std.specs.List.{AllByRecursion}
-use Rattle.std.specs.List.Sorted.{IsPermutation, IsSortedBy, IsStrictlySortedBy}
+use Rattle.std.specs.List.Sorted.{IsStrictlySortedBy}
 use Rattle.std.specs.Map.{keys_of as keys_in, lookup}
-use Rattle.std.specs.Ordering.{is_eq, is_gt, is_lt}
+use Rattle.std.specs.Ordering.{is_eq, is_gt}
 use Rattle.std.specs.Prelude.{Option, None, Some}
 use Rattle.std.specs.declared.cmp.Ordering.{Ordering}
 use Rattle.std.specs.declared.cmp.Ordering.TheVariants.{Less, Equal}
@@ -14,16 +14,15 @@ use Rattle.gx_tree.specs.declared.part.Group.{Group}
 use Rattle.gx_tree.specs.declared.query.Query.{Query}
 use Rattle.gx_tree.specs.declared.row.KeyedRow.{KeyedRow}
 use Rattle.gx_tree.specs.declared.value.Value.{Value}
-use Rattle.gx_gather.specs.Answer.{group_of}
-use Rattle.gx_gather.specs.Groups.{is_same_key, keys_of}
+use Rattle.gx_meaning.specs.Answer.{group_of}
+use Rattle.gx_meaning.specs.Groups.{is_same_key, keys_of}
 use Rattle.gx_gather.specs.Laws.{rising-total}
-use Rattle.gx_gather.specs.Order.{group_order, in_order, rising}
-use Rattle.gx_gather.specs.Tallies.{entry_group, has_group, total_at}
-use Rattle.gx_gather.specs.declared.order.SortKey.{SortKey}
-use Rattle.gx_gather.proofs.InOrder.{Equal-from, Rises, filter-in_order, rises_from_sorted, rises_in_order, rises_same}
+use Rattle.gx_meaning.specs.Order.{group_order, in_order, rising}
+use Rattle.gx_meaning.specs.Tallies.{entry_group, has_group, total_at}
+use Rattle.gx_meaning.specs.declared.sort_key.SortKey.{SortKey}
+use Rattle.gx_gather.proofs.InOrder.{Equal-from, Rises, filter-in_order, rises_in_order, rises_same}
 use Rattle.gx_gather.proofs.Keys.{filter-keys_of, if_there}
-use Rattle.gx_gather.proofs.Orders.{group-tie, group_order-total, same-exact}
-use Rattle.gx_gather.proofs.Permuted.{filter-permutation}
+use Rattle.gx_gather.proofs.Orders.{group-tie, same-exact}
 use Rattle.gx_gather.proofs.Totals.{filter-map}
 
 -- ---- lists in order by the keys of their items
@@ -87,34 +86,6 @@ module _ (query : Query) (rows : List KeyedRow) where
       (λ g. filter-entries g.key es sorted ∙ ap (λ o. entry o g.key) (totals g.key) ∙ total-entry g.key (has_group query.group rows g.key)
       ∙ sym (at-key g.key ks (filter-in_order rising-total g.key (keys_of query.group rows) ∙ filter-keys_of query.group rows g.key)))
 
-  few : (q : List Value) (b : Bool) → length (map (group_of query rows) (if_there b q)) ≤ 1
-  few q true = omega arith
-  few q false = omega arith
-
 -- a test for a tie is a test for the same key
 pub by-key : {X : Type 0} (keys : List SortKey) (key : X → List Value) (q : List Value) (xs : List X) → filter (λ x. is_eq (group_order keys q (key x))) xs ≡ filter (λ x. is_same_key q (key x)) xs
 by-key keys key q xs = λ i. filter (λ x. group-tie keys q (key x) i) xs
-
-module _ (query : Query) (rows : List KeyedRow) (keys : List SortKey) where
-  rising-at : (q : List Value) → filter (λ (h : Group). is_same_key q h.key) (map (group_of query rows) (in_order rising (keys_of query.group rows))) ≡ map (group_of query rows) (if_there (has_group query.group rows q) q)
-  rising-at q = at-key query rows q (in_order rising (keys_of query.group rows)) (filter-in_order rising-total q (keys_of query.group rows) ∙ filter-keys_of query.group rows q)
-
-  ordered-at : (q : List Value) → filter (λ (h : Group). is_eq (group_order keys q h.key)) (map (group_of query rows) (in_order (group_order keys) (keys_of query.group rows))) ≡ map (group_of query rows) (if_there (has_group query.group rows q) q)
-  ordered-at q =
-      filter-map (λ (h : Group). is_eq (group_order keys q h.key)) (group_of query rows) (in_order (group_order keys) (keys_of query.group rows))
-      ∙ ap (map (group_of query rows)) (filter-in_order (group_order-total keys) q (keys_of query.group rows) ∙ by-key keys (λ k. k) q (keys_of query.group rows) ∙ filter-keys_of query.group rows q)
-
-  -- those groups in the order of the answer
-  pub sorted_groups : (us : List Group) → IsPermutation (map (group_of query rows) (in_order rising (keys_of query.group rows))) us → IsSortedBy (λ a b. is_lt (group_order keys a.key b.key)) us → us ≡ map (group_of query rows) (in_order (group_order keys) (keys_of query.group rows))
-  sorted_groups us perm sorted =
-      let o = on_total (λ (g : Group). g.key) (group_order-total keys) in
-      let ks = in_order rising (keys_of query.group rows) in
-      let vs = in_order (group_order keys) (keys_of query.group rows) in
-      rises_same o us (map (group_of query rows) vs)
-      (rises_from_sorted o us sorted)
-      (rises_map (group_order-total keys) (λ (g : Group). g.key) (group_of query rows) (λ k. refl) vs (rises_in_order (group_order-total keys) (keys_of query.group rows)))
-      (λ g. by-key keys (λ (h : Group). h.key) g.key us
-      ∙ filter-permutation (λ (h : Group). is_same_key g.key h.key) (map (group_of query rows) ks) us perm
-      (subst (λ l. length l ≤ 1) (sym (rising-at g.key)) (few query rows g.key (has_group query.group rows g.key)))
-      ∙ rising-at g.key
-      ∙ sym (ordered-at g.key))

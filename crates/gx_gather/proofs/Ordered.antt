@@ -6,7 +6,7 @@ use Rattle.std.specs.List.Sorted.{IsPermutation, IsSorted}
 use Rattle.std.specs.Ordering.{is_gt, is_lt, ordering_reverse}
 use Rattle.std.specs.declared.cmp.Ordering.{Ordering}
 use Rattle.std.specs.declared.cmp.Ordering.TheVariants.{Less, Equal, Greater}
-use Rattle.gx_gather.specs.Order.{in_order, placed}
+use Rattle.gx_meaning.specs.Order.{in_order, placed}
 use Rattle.gx_gather.proofs.InOrder.{Rises, rises_in_order}
 
 not_less-reverse : (o : Ordering) → is_gt o ≡ false → is_lt (ordering_reverse o) ≡ false

@@ -14,8 +14,8 @@ use Rattle.gx_tree.specs.declared.row.KeyedRow.{KeyedRow}
 use Rattle.gx_tree.specs.declared.value.Value.{Value}
 use Rattle.gx_tree.specs.declared.value.Value.TheVariants.{Int, Text}
 use Rattle.gx_gather.specs.Laws.{rising-total, value_order-total}
-use Rattle.gx_gather.specs.Order.{by_place, by_places, directed, group_order, rid_order, rising, row_order}
-use Rattle.gx_gather.specs.declared.order.SortKey.{SortKey}
+use Rattle.gx_meaning.specs.Order.{by_place, by_places, directed, group_order, rid_order, rising, row_order}
+use Rattle.gx_meaning.specs.declared.sort_key.SortKey.{SortKey}
 use Rattle.gx_gather.proofs.InOrder.{Equal-from, tied-from}
 
 pub value_order-exact : (a b : Value) → value_order a b ≡ Equal → a ≡ b

@@ -1,13 +1,11 @@
--- The steps of the loops, and what the calls of a merge give together.
-use Rattle.std.proofs.Common.{ℕ, zero, suc, ◌+◌, ◌<◌, ◌≡◌, ◌∙◌, Bool, true, false, cond, List, [], ◌∷◌, ◌++◌, filter, map, length, get_or, take, drop, refl, ap, sym, subst, add-one, drop-cons, append_assoc}
+-- The steps of the loops, and what a query answers on rows that it keeps.
+use Rattle.std.proofs.Common.{ℕ, suc, ◌+◌, ◌<◌, ◌≡◌, ◌∙◌, Bool, true, false, cond, List, [], ◌∷◌, ◌++◌, filter, map, length, get_or, drop, refl, ap, sym, subst, add-one, drop-cons, append_assoc}
 use Rattle.std.proofs.lemmas.List.Elements.{recursion_from_All}
-use Rattle.std.proofs.lemmas.List.Sorted.{IsPermutation-trans}
 use Rattle.std.specs.BTreeMap.{is_at}
 use Rattle.std.specs.List.{All, AllByRecursion, flat_map}
-use Rattle.std.specs.List.Sorted.{IsPermutation, IsSortedBy, IsStrictlySortedBy}
+use Rattle.std.specs.List.Sorted.{IsPermutation, IsStrictlySortedBy}
 use Rattle.std.specs.Map.{keys_of as keys_in, lookup}
-use Rattle.std.specs.Ordering.{is_lt}
-use Rattle.std.specs.Prelude.{Option, None, Some}
+use Rattle.std.specs.Prelude.{Option}
 use Rattle.gx_tree.specs.declared.cell.Cell.{Cell}
 use Rattle.gx_tree.specs.declared.part.Group.{Group}
 use Rattle.gx_tree.specs.declared.part.Part.{Part}
@@ -16,15 +14,14 @@ use Rattle.gx_tree.specs.declared.query.Item.{Item}
 use Rattle.gx_tree.specs.declared.query.Query.{Query}
 use Rattle.gx_tree.specs.declared.row.KeyedRow.{KeyedRow}
 use Rattle.gx_tree.specs.declared.value.Value.{Value}
-use Rattle.gx_gather.specs.Aggregates.{aggregate}
-use Rattle.gx_gather.specs.Answer.{ArePartsOf, AreRising, answer_of, group_keys, group_of, grouped_answer, groups_in, keeps, limited, part_of, plain_answer, row_cell, row_keys, rows_in, together}
-use Rattle.gx_gather.specs.Groups.{is_same_key, key_of, keys_of}
-use Rattle.gx_gather.specs.Order.{group_order, in_order, rising, row_order}
-use Rattle.gx_gather.specs.Tallies.{entry_group, joined, out_row, row_group, tally, total_at}
-use Rattle.gx_gather.specs.declared.order.SortKey.{SortKey}
-use Rattle.gx_gather.proofs.Listing.{listed_is, sorted_groups}
-use Rattle.gx_gather.proofs.Totals.{tally-append, tally-parts, tally-rows}
-use Rattle.gx_gather.proofs.Whole.{keys-same, out-same, rows-parts, sorted_rows}
+use Rattle.gx_meaning.specs.Aggregates.{aggregate}
+use Rattle.gx_meaning.specs.Answer.{ArePartsOf, answer_of, group_of, grouped_answer, groups_in, keeps, limited, part_of, plain_answer, rows_in}
+use Rattle.gx_meaning.specs.Groups.{is_same_key, key_of, keys_of}
+use Rattle.gx_meaning.specs.Order.{in_order, rising}
+use Rattle.gx_meaning.specs.Tallies.{entry_group, joined, row_group, tally, total_at}
+use Rattle.gx_gather.proofs.Listing.{listed_is}
+use Rattle.gx_gather.proofs.Totals.{tally-append, tally-rows}
+use Rattle.gx_gather.proofs.Whole.{rows-parts}
 
 pub drop_next : {X : Type 0} (xs : List X) (i : ℕ) (x : X) → i < length xs → x ≡ get_or xs i x → drop i xs ≡ x ∷ drop (i + 1) xs
 drop_next xs i x low is = rw (add-one) (drop-cons xs i x low ∙ ap (λ y. y ∷ drop (suc i) xs) (sym is))
@@ -53,50 +50,8 @@ part_added items q parts i part items' groups old new all low is same_items same
     ∙ sym (tally-append items q old (groups_in part) (flat_map groups_in (drop (i + 1) parts)))
     ∙ sym (ap (λ l. tally items q old (flat_map groups_in l)) (drop_next parts i part low is)) ∙ before
 
--- ---- limits
-take-map : {X Y : Type 0} (f : X → Y) (n : ℕ) (xs : List X) → map f (take n xs) ≡ take n (map f xs)
-take-map f zero xs = refl
-take-map f (suc n) [] = refl
-take-map f (suc n) (x ∷ xs) = ap (λ l. f x ∷ l) (take-map f n xs)
-
-limited-map : {X Y : Type 0} (f : X → Y) (limit : Option ℕ) (xs : List X) → map f (limited limit xs) ≡ limited limit (map f xs)
-limited-map f None xs = refl
-limited-map f (Some n) xs = take-map f n xs
-
-map-map : {X Y Z : Type 0} (g : Y → Z) (f : X → Y) (xs : List X) → map (λ x. g (f x)) xs ≡ map g (map f xs)
-map-map g f [] = refl
-map-map g f (x ∷ xs) = ap (λ l. g (f x) ∷ l) (map-map g f xs)
-
--- ---- rows without groups
-pub rows_merged : {X : Type 0} (f : X → KeyedRow) (query : Query) (whole found : List KeyedRow) (rows sorted cut : List X) (keys : List SortKey) (out : List (List Cell))
-    → AreRising whole → IsPermutation whole found → map f rows ≡ found → keys ≡ row_keys query.order → IsPermutation (map f rows) (map f sorted) → IsSortedBy (λ a b. is_lt (row_order keys a b)) (map f sorted)
-    → cut ≡ limited query.limit sorted → out ≡ map (λ x. map (row_cell (f x)) query.items) cut → out ≡ limited query.limit (plain_answer query whole)
-rows_merged f query whole found rows sorted cut keys out rises perm is keyed moved up cuts made =
-    let from_whole : IsPermutation whole (map f sorted) = IsPermutation-trans whole found (map f sorted) perm (subst (λ l. IsPermutation l (map f sorted)) is moved) in
-    let ordered : map f sorted ≡ in_order (row_order (row_keys query.order)) whole = sorted_rows keys whole (map f sorted) rises from_whole up ∙ ap (λ k. in_order (row_order k) whole) keyed in
-    made ∙ ap (map (λ x. map (row_cell (f x)) query.items)) cuts
-    ∙ limited-map (λ x. map (row_cell (f x)) query.items) query.limit sorted
-    ∙ ap (limited query.limit) (map-map (λ row. map (row_cell row) query.items) f sorted ∙ ap (map (λ row. map (row_cell row) query.items)) ordered)
-
 pub found_rows : (query : Query) (whole : List KeyedRow) (parts : List Part) → query.grouped ≡ false → ArePartsOf query whole parts → IsPermutation whole (flat_map rows_in parts)
 found_rows query whole parts plain p = subst (IsPermutation whole) (sym (ap (flat_map rows_in) p.each ∙ rows-parts query plain p.dealt)) p.division
-
--- ---- groups
-pub groups_merged : (query : Query) (whole : List KeyedRow) (parts : List Part) (es : List (List Value × List Cell)) (groups sorted cut : List Group) (keys : List SortKey) (out : List (List Cell))
-    → ArePartsOf query whole parts → query.grouped ≡ true → IsStrictlySortedBy rising (keys_in es) → ((q : List Value) → lookup (is_at (rising q)) es ≡ tally query.items q (total_at query [] q) (flat_map groups_in parts))
-    → groups ≡ map entry_group es → keys ≡ group_keys query.group query.order → IsPermutation groups sorted → IsSortedBy (λ a b. is_lt (group_order keys a.key b.key)) sorted
-    → cut ≡ limited query.limit sorted → out ≡ map (out_row query) cut → out ≡ limited query.limit (grouped_answer query whole)
-groups_merged query whole parts es groups sorted cut keys out p grouped rises totals listed keyed moved up cuts made =
-    let cs = together p.dealt in
-    let of_cs : map entry_group es ≡ map (group_of query cs) (in_order rising (keys_of query.group cs)) =
-    listed_is query cs es rises (λ q. totals q ∙ ap (λ l. tally query.items q (total_at query [] q) (flat_map groups_in l)) p.each ∙ tally-parts query q grouped [] p.dealt) in
-    let ordered : sorted ≡ map (group_of query cs) (in_order (group_order keys) (keys_of query.group cs)) =
-    sorted_groups query cs keys sorted (subst (λ l. IsPermutation l sorted) (listed ∙ of_cs) moved) up in
-    let ks : in_order (group_order keys) (keys_of query.group cs) ≡ in_order (group_order (group_keys query.group query.order)) (keys_of query.group whole) =
-    keys-same whole cs p.rising p.division query.group keys ∙ ap (λ k. in_order (group_order k) (keys_of query.group whole)) keyed in
-    made ∙ ap (map (out_row query)) cuts ∙ limited-map (out_row query) query.limit sorted
-    ∙ ap (limited query.limit) (ap (map (out_row query)) (ordered ∙ ap (map (group_of query cs)) ks)
-    ∙ out-same whole cs p.rising p.division query (in_order (group_order (group_keys query.group query.order)) (keys_of query.group whole)))
 
 part-grouped : (b : Bool) (rows : List KeyedRow) (groups : List Group) → b ≡ true → Groups groups ≡ cond b (Groups groups) (Rows rows)
 part-grouped true rows groups e = refl

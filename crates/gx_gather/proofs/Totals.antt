@@ -13,12 +13,12 @@ use Rattle.gx_tree.specs.declared.query.Item.{Item}
 use Rattle.gx_tree.specs.declared.query.Query.{Query}
 use Rattle.gx_tree.specs.declared.row.KeyedRow.{KeyedRow}
 use Rattle.gx_tree.specs.declared.value.Value.{Value}
-use Rattle.gx_gather.specs.Aggregates.{aggregate}
-use Rattle.gx_gather.specs.Answer.{group_of, groups_in, part_of, together}
-use Rattle.gx_gather.specs.Groups.{is_same_key, key_of, keys_of, members}
+use Rattle.gx_meaning.specs.Aggregates.{aggregate}
+use Rattle.gx_meaning.specs.Answer.{group_of, groups_in, part_of, together}
+use Rattle.gx_meaning.specs.Groups.{is_same_key, key_of, keys_of, members}
 use Rattle.gx_gather.specs.Laws.{rising-total}
-use Rattle.gx_gather.specs.Order.{in_order, rising}
-use Rattle.gx_gather.specs.Tallies.{has_group, is_only, joined, row_group, tally, total_at}
+use Rattle.gx_meaning.specs.Order.{in_order, rising}
+use Rattle.gx_meaning.specs.Tallies.{has_group, is_only, joined, row_group, tally, total_at}
 use Rattle.gx_gather.proofs.Combining.{aggregates-append}
 use Rattle.gx_gather.proofs.InOrder.{filter-in_order}
 use Rattle.gx_gather.proofs.Keys.{filter-keys_of, if_there}

@@ -1,6 +1,5 @@
 -- The answer over the whole from that over the parts of a division.
-use Rattle.std.proofs.Common.{◌||◌, ℕ, ◌+◌, ◌<◌, ◌≤◌, ◌≡◌, ◌∙◌, Bool, true, false, cond, List, [], ◌∷◌, ◌++◌, filter, map, length, get_or, refl, ap, sym, arith}
-use Rattle.std.proofs.lemmas.List.{get_or-map, length-map}
+use Rattle.std.proofs.Common.{◌||◌, ℕ, ◌+◌, ◌≤◌, ◌≡◌, ◌∙◌, Bool, true, false, cond, List, [], ◌∷◌, ◌++◌, filter, map, length, refl, ap, sym, arith}
 use Rattle.std.proofs.lemmas.List.Sorted.{list_any-IsPermutation}
 use Rattle.std.specs.List.{flat_map, zip}
 use Rattle.std.specs.List.Sorted.{IsPermutation, IsSortedBy}
@@ -12,12 +11,12 @@ use Rattle.gx_tree.specs.declared.query.Item.TheVariants.{Col, Count, Sum, Min, 
 use Rattle.gx_tree.specs.declared.query.Query.{Query}
 use Rattle.gx_tree.specs.declared.row.KeyedRow.{KeyedRow}
 use Rattle.gx_tree.specs.declared.value.Value.{Value}
-use Rattle.gx_gather.specs.Aggregates.{aggregate}
-use Rattle.gx_gather.specs.Answer.{AreRising, group_of, part_of, rows_in, together}
-use Rattle.gx_gather.specs.Groups.{group_cell, is_same_key, key_of, keys_of, members}
-use Rattle.gx_gather.specs.Order.{group_order, in_order, rid_order, row_order}
-use Rattle.gx_gather.specs.Tallies.{has_group, is_only, out_cell, out_row}
-use Rattle.gx_gather.specs.declared.order.SortKey.{SortKey}
+use Rattle.gx_meaning.specs.Aggregates.{aggregate}
+use Rattle.gx_meaning.specs.Answer.{AreRising, group_of, part_of, rows_in, together}
+use Rattle.gx_meaning.specs.Groups.{group_cell, is_same_key, key_of, keys_of, members}
+use Rattle.gx_meaning.specs.Order.{group_order, in_order, rid_order, row_order}
+use Rattle.gx_meaning.specs.Tallies.{has_group, is_only, out_cell, out_row}
+use Rattle.gx_meaning.specs.declared.sort_key.SortKey.{SortKey}
 use Rattle.gx_gather.proofs.Dividing.{aggregate-same, at-permutation}
 use Rattle.gx_gather.proofs.InOrder.{filter-in_order, in_order_is, rises_in_order, rises_same}
 use Rattle.gx_gather.proofs.Keys.{filter-keys_of, if_there}
@@ -35,15 +34,6 @@ fewer-step x l m false false within less = less
 fewer : {X : Type 0} (p r : X → Bool) → ((x : X) → p x ≡ true → r x ≡ true) → (xs : List X) → length (filter p xs) ≤ length (filter r xs)
 fewer p r within [] = omega arith
 fewer p r within (x ∷ xs) = fewer-step x (filter p xs) (filter r xs) (p x) (r x) (within x) (fewer p r within xs)
-
--- a list that is sorted by what f gives of its items gives a sorted list
-pub sorted_map : {X Y : Type 0} (f : X → Y) (lt : Y → Y → Bool) (xs : List X) → IsSortedBy (λ a b. lt (f a) (f b)) xs → IsSortedBy lt (map f xs)
-sorted_map f lt [] sorted = λ k d low high. absurd (omega (arith, high))
-sorted_map f lt (x ∷ xs) sorted = λ k d low high.
-    let within : k + 1 < length (x ∷ xs) = omega (arith, high, length-map (x ∷ xs) f) in
-    ap (λ y. lt y (get_or (map f (x ∷ xs)) k d)) (get_or-map f (x ∷ xs) (k + 1) x d within)
-    ∙ ap (λ y. lt (f (get_or (x ∷ xs) (k + 1) x)) y) (get_or-map f (x ∷ xs) k x d (omega (arith, within)))
-    ∙ sorted k x (omega arith) within
 
 -- rows that are sorted are the whole in order
 pub sorted_rows : (keys : List SortKey) (whole rows : List KeyedRow) → AreRising whole → IsPermutation whole rows → IsSortedBy (λ a b. is_lt (row_order keys a b)) rows → rows ≡ in_order (row_order keys) whole

@@ -9,7 +9,7 @@ use Rattle.std.specs.declared.cmp.Ordering.TheVariants.{Less, Equal, Greater}
 use Rattle.gx_tree.specs.Value.{value_order}
 use Rattle.gx_tree.specs.declared.value.Value.{Value}
 use Rattle.gx_tree.specs.declared.value.Value.TheVariants.{Int, Text}
-use Rattle.gx_gather.specs.Order.{rising}
+use Rattle.gx_meaning.specs.Order.{rising}
 
 -- whether it is a text, its number and its text, by which values are ordered in turn
 abbrev pub rank : Value → ℕ

@@ -1,7 +1,2 @@
-pub mod Aggregates
-pub mod Answer
-pub mod Cells
-pub mod Groups
+pub mod Answered
 pub mod Laws
-pub mod Order
-pub mod Tallies

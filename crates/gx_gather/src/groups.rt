@@ -1,12 +1,13 @@
 ghost use Rattle.std.specs.Prelude.{◌≡◌, [], List, IfOk, OnOk, map, if◌then◌else◌};
 ghost use Rattle.std.specs.BTreeMap.{get, IsOrdered};
 ghost use Rattle.gx_tree.specs.declared.value.Value.{Value as RowValue};
-ghost use Rattle.gx_eval.specs.Meaning.{column_of};
-ghost use Rattle.gx_gather.specs.Groups.{is_same_key, key_of};
-ghost use Rattle.gx_gather.specs.Order.{rising};
-ghost use Rattle.gx_gather.specs.Tallies.{entry_group, joined, total_at};
+ghost use Rattle.gx_meaning.specs.Expressions.{column_of};
+ghost use Rattle.gx_meaning.specs.Groups.{is_same_key, key_of};
+ghost use Rattle.gx_meaning.specs.Order.{rising};
+ghost use Rattle.gx_meaning.specs.Tallies.{entry_group, joined, total_at};
 
-use crate::cells::{combined_cells, empty_aggregates};
+use crate::cells::empty_aggregates;
+use crate::combined::combined_cells;
 use crate::key::GroupKey;
 use gx_ids::{Duplicate, Mem, Seq};
 use gx_tree::{Cell, Group, Item, KeyedRow, Query, Row, Value};

@@ -1,12 +1,12 @@
 ghost use Rattle.std.specs.Prelude.{◌≡◌};
 
-use gx_tree::Row;
+use gx_tree::{Row, Value};
 use std::cmp::Ordering;
 use std::marker::Model;
 
 // The values of the GROUP BY columns in a group's rows. Contracts see it as the list of them. Its order is that of the
 // first difference.
-#[derive(Debug, Drop)]
+#[derive(Drop)]
 pub struct GroupKey {
     row: Row,
 }
@@ -27,6 +27,12 @@ impl GroupKey {
         GroupKey { row }
     }
 
+    pub fn as_slice(&self) -> &[Value]
+        ensures { result.now ≡ self.now }
+    {
+        self.row.as_slice()
+    }
+
     pub fn into_row(self) -> Row
         ensures { result ≡ self }
     {
@@ -37,7 +43,7 @@ impl GroupKey {
 
 impl PartialEq for GroupKey {
     ghost use Rattle.std.specs.Ordering.{eq_by_cmp};
-    ghost use Rattle.gx_gather.specs.Order.{rising};
+    ghost use Rattle.gx_meaning.specs.Order.{rising};
     ghost use Rattle.gx_gather.specs.Laws.{rising-per};
 
     ghost eq = { eq_by_cmp rising };
@@ -57,7 +63,7 @@ impl Eq for GroupKey {
 
 impl Ord for GroupKey {
     ghost use Rattle.std.specs.Prelude.{refl};
-    ghost use Rattle.gx_gather.specs.Order.{rising};
+    ghost use Rattle.gx_meaning.specs.Order.{rising};
     ghost use Rattle.gx_gather.specs.Laws.{rising-total};
 
     ghost cmp = { rising };
@@ -75,7 +81,7 @@ impl Ord for GroupKey {
 
 impl PartialOrd for GroupKey {
     ghost use Rattle.std.specs.Prelude.{Some};
-    ghost use Rattle.gx_gather.specs.Order.{rising};
+    ghost use Rattle.gx_meaning.specs.Order.{rising};
     ghost use Rattle.gx_gather.specs.Laws.{rising-po};
 
     ghost partial_cmp = { λ a b. Some (rising a b) };

@@ -2,9 +2,9 @@ ghost use Rattle.std.specs.Prelude.{ℕ, ◌<◌, All, List};
 ghost use Rattle.std.specs.List.Sorted.{IsPermutation, IsSorted};
 ghost use Rattle.gx_tree.specs.declared.row.KeyedRow.{KeyedRow};
 ghost use Rattle.gx_tree.specs.declared.value.Value.{Value};
-ghost use Rattle.gx_gather.specs.Answer.{dealt_by, together};
-ghost use Rattle.gx_gather.specs.Order.{group_order, in_order, row_order};
-ghost use Rattle.gx_gather.specs.declared.order.SortKey.{SortKey};
+ghost use Rattle.gx_meaning.specs.Answer.{dealt_by, together};
+ghost use Rattle.gx_meaning.specs.Order.{group_order, in_order, row_order};
+ghost use Rattle.gx_meaning.specs.declared.sort_key.SortKey.{SortKey};
 
 /// Rows that an owner deals to so many parts are divided by it: `merge` may be given the parts' answers. So it is with the
 /// segments' rows, whose owner is their place.

@@ -1,32 +1,25 @@
-ghost use Rattle.std.specs.Prelude.{◌≡◌, IfOk};
-ghost use Rattle.gx_gather.specs.Answer.{group_keys, row_keys};
-ghost use Rattle.gx_gather.specs.Groups.{place_of};
-ghost use Rattle.gx_gather.specs.Order.{by_place, by_places, group_order, row_order};
+ghost use Rattle.std.specs.Prelude.{◌≡◌, IfOk, OnOk, map};
+ghost use Rattle.gx_meaning.specs.Answer.{group_keys, row_keys};
+ghost use Rattle.gx_meaning.specs.Groups.{place_of};
+ghost use Rattle.gx_meaning.specs.Order.{by_place, by_places, group_order, in_order, row_order};
 
+use crate::merged::Entry;
 use gx_ids::Mem;
-use gx_tree::{Group, Key, KeyedRow, Value};
+use gx_meaning::SortKey;
+use gx_tree::{Key, KeyedRow, Value};
 use std::alloc::Global;
 use std::cmp::Ordering;
 
-/// A place in lists of values by which they are ordered.
-#[derive(Clone, Copy, Debug)]
-pub struct SortKey {
-    pub place: usize,
-    pub desc: bool,
-}
-
 // Rows by places, and those that tie by identity.
-pub fn compare_rows(keys: &[SortKey], left: &KeyedRow, right: &KeyedRow) -> Ordering
+fn compare_rows(keys: &[SortKey], left: &KeyedRow, right: &KeyedRow) -> Ordering
     ensures { result ≡ row_order keys.now left.now right.now }
 {
     compare_at(keys, left.row.as_slice(), right.row.as_slice()).then(left.rid.cmp(&right.rid))
 }
 
-// Groups by places in their keys, and those that tie by their keys.
-pub fn compare_groups(keys: &[SortKey], left: &Group, right: &Group) -> Ordering
-    ensures { result ≡ group_order keys.now left.now.key right.now.key }
+fn compare_keys(keys: &[SortKey], left: &[Value], right: &[Value]) -> Ordering
+    ensures { result ≡ group_order keys.now left.now right.now }
 {
-    let (left, right) = (left.key.as_slice(), right.key.as_slice());
     compare_at(keys, left, right).then(left.cmp(right))
 }
 
@@ -88,4 +81,20 @@ pub fn place_of(group: &[u8], column: u8) -> usize
         }
     }
     group.len()
+}
+
+// Rows by the places, then by identity. Those that tie wholly stay in the order in which they came.
+pub fn sort_rows(keys: &[SortKey], rows: &mut Vec<&KeyedRow>) -> Mem<()>
+    ensures { OnOk result (map (λ row. row.now) rows.new.items ≡ in_order (row_order keys.now) (map (λ row. row.now) rows.old.items)) }
+{
+    rows.sort_by(|left, right| compare_rows(keys, left, right))?;
+    Ok(())
+}
+
+// Groups by the places in their keys, then by their keys.
+pub fn sort_entries(keys: &[SortKey], entries: &mut Vec<Entry>) -> Mem<()>
+    ensures { OnOk result (entries.new.items ≡ in_order (λ a b. group_order keys.now a.0 b.0) entries.old.items) }
+{
+    entries.sort_by(|left, right| { compare_keys(keys, left.0.as_slice(), right.0.as_slice()) })?;
+    Ok(())
 }

@@ -1,11 +1,12 @@
 ghost use Rattle.std.specs.Prelude.{◌≡◌, IfOk, map};
-ghost use Rattle.gx_gather.specs.Answer.{row_cell};
-ghost use Rattle.gx_gather.specs.Tallies.{out_cell, out_row};
+ghost use Rattle.gx_meaning.specs.Answer.{row_cell};
+ghost use Rattle.gx_meaning.specs.Tallies.{entry_group, out_cell, out_row};
 
 use crate::cells::cell_at_place;
+use crate::merged::Entry;
 use crate::order::place_of;
 use gx_ids::{Duplicate, Mem};
-use gx_tree::{Cell, Group, Item, KeyedRow, OutRow, Query};
+use gx_tree::{Cell, Item, KeyedRow, OutRow, Query, Value};
 use std::alloc::Global;
 
 // The items of each row.
@@ -39,34 +40,32 @@ fn row_cell(alloc: Global, item: Item, row: &KeyedRow) -> Mem<Cell>
 }
 
 // The items of each group.
-pub fn groups_out(alloc: Global, query: &Query, groups: &[Group]) -> Mem<Vec<OutRow>>
-    ensures { IfOk result (λ out. out.items ≡ map (out_row query.now) groups.now) }
+pub fn entries_out(alloc: Global, query: &Query, entries: &[Entry]) -> Mem<Vec<OutRow>>
+    ensures { IfOk result (λ out. out.items ≡ map (λ entry. out_row query.now (entry_group entry)) entries.now) }
 {
-    let mut out = Vec::with_capacity(alloc, groups.len())?;
-    for group in groups {
-        out.push(group_out(alloc, query, group)?)?;
+    let mut out = Vec::with_capacity(alloc, entries.len())?;
+    for entry in entries {
+        out.push(entry_out(alloc, query, entry)?)?;
     }
     Ok(out)
 }
 
-fn group_out(alloc: Global, query: &Query, group: &Group) -> Mem<OutRow>
-    ensures { IfOk result (λ out. out ≡ out_row query.now group.now) }
+fn entry_out(alloc: Global, query: &Query, entry: &Entry) -> Mem<OutRow>
+    ensures { IfOk result (λ out. out ≡ out_row query.now (entry_group entry.now)) }
 {
-    let columns = query.group.as_slice();
-    let mut cells = Vec::with_capacity(alloc, query.items.len())?;
-    for (item, cell) in query.items.as_slice().iter().zip(group.cells.as_slice()) {
-        cells.push(out_cell(alloc, columns, *item, group, cell)?)?;
+    let (columns, key) = (query.group.as_slice(), entry.0.as_slice());
+    let mut out = Vec::with_capacity(alloc, query.items.len())?;
+    for (item, cell) in query.items.as_slice().iter().zip(entry.1.as_slice()) {
+        out.push(out_cell(alloc, columns, key, *item, cell)?)?;
     }
-    Ok(OutRow::from_vec(cells))
+    Ok(OutRow::from_vec(out))
 }
 
-fn out_cell(alloc: Global, columns: &[u8], item: Item, group: &Group, cell: &Cell) -> Mem<Cell>
-    ensures { IfOk result (λ out. out ≡ out_cell columns.now group.now.key item cell.now) }
+fn out_cell(alloc: Global, columns: &[u8], key: &[Value], item: Item, cell: &Cell) -> Mem<Cell>
+    ensures { IfOk result (λ out. out ≡ out_cell columns.now key.now item cell.now) }
 {
     match item {
-        Item::Col(column) => {
-            cell_at_place(alloc, group.key.as_slice(), place_of(columns, column))
-        }
+        Item::Col(column) => cell_at_place(alloc, key, place_of(columns, column)),
         _ => cell.copy(alloc),
     }
 }

@@ -1,9 +1,9 @@
 ghost use Rattle.std.specs.Prelude.{◌≡◌, [], List, IfOk, map};
 ghost use Rattle.std.specs.BTreeMap.{get};
 ghost use Rattle.gx_tree.specs.declared.value.Value.{Value as RowValue};
-ghost use Rattle.gx_gather.specs.Answer.{part_of};
-ghost use Rattle.gx_gather.specs.Order.{rising};
-ghost use Rattle.gx_gather.specs.Tallies.{row_group, tally, total_at};
+ghost use Rattle.gx_meaning.specs.Answer.{part_of};
+ghost use Rattle.gx_meaning.specs.Order.{rising};
+ghost use Rattle.gx_meaning.specs.Tallies.{row_group, tally, total_at};
 
 use crate::cells::row_aggregates;
 use crate::groups::{Groups, add_group, listed, new_groups, row_key};

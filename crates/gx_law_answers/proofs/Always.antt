@@ -29,7 +29,7 @@ use Rattle.gx_law_order.proofs.AtSegments.{PlainAt, seg_stays}
 use Rattle.gx_law_order.proofs.Letters.{IsFound, IsLetter, found_is}
 use Rattle.gx_law_order.proofs.Lists.{Each, each_append, each_weaker}
 use Rattle.gx_law_order.proofs.Ordered.{never_resumes}
-use Rattle.gx_law_sessions.specs.Orders.{AreLinesNumbered}
+use Rattle.gx_store.specs.Language.{AreLinesNumbered}
 use Rattle.gx_law_sessions.proofs.Outs.{MessageIs}
 use Rattle.gx_law_sessions.proofs.World as histories
 use Rattle.gx_law_sessions.proofs.World.{after-last}

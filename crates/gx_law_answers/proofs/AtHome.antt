@@ -7,12 +7,12 @@ use Rattle.gx_tree.specs.declared.schema.Dist.{Dist}
 use Rattle.gx_tree.specs.declared.schema.Dist.TheVariants.{By, Randomly}
 use Rattle.gx_tree.specs.declared.value.Value.{Value}
 use Rattle.gx_tree.specs.declared.value.Value.TheVariants.{Int, Text}
-use Rattle.gx_place.specs.Place.{key_place, row_place, value_place}
+use Rattle.gx_meaning.specs.Place.{key_place, row_place, value_place}
 use Rattle.gx_script.specs.declared.Script.{Script}
 use Rattle.gx_store.specs.Marks.{node_of}
 use Rattle.gx_store.specs.Points.{marks_in}
 use Rattle.gx_rules.specs.Machine.{world_of}
-use Rattle.gx_law_sessions.specs.Orders.{AreLinesNumbered}
+use Rattle.gx_store.specs.Language.{AreLinesNumbered}
 use Rattle.gx_law_reads.specs.Sights.{AreAtHome, IsOnlyAt}
 use Rattle.gx_law_writes.proofs.World as writes
 use Rattle.gx_law_answers.specs.Earned.{Events}

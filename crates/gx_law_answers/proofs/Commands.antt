@@ -23,7 +23,8 @@ use Rattle.gx_rules.specs.Coordinators.{Work, session_of, work_of}
 use Rattle.gx_rules.specs.Machine.{World}
 use Rattle.gx_law_order.proofs.Lists.{Each}
 use Rattle.gx_law_sessions.specs.Finish.{point_at}
-use Rattle.gx_law_sessions.specs.Orders.{AreLinesNumbered, level_by, level_of_began}
+use Rattle.gx_law_sessions.specs.Orders.{level_by, level_of_began}
+use Rattle.gx_store.specs.Language.{AreLinesNumbered}
 use Rattle.gx_law_sessions.specs.Standing.{AreSessions, IsFirst, IsLineOf, IsOver, IsStanding, Owns, Roots, Stands, is_alone, is_busy, state_in}
 use Rattle.gx_law_sessions.proofs.Said.{CalmFor, Said, said-calm}
 

@@ -7,7 +7,7 @@ use Rattle.std.specs.List.Sorted.{IsPermutation}
 use Rattle.gx_ids.specs.declared.ids.Node.{Node}
 use Rattle.gx_tree.specs.declared.row.KeyedRow.{KeyedRow}
 use Rattle.gx_dtx.specs.Nodes.{has}
-use Rattle.gx_gather.specs.Answer.{together}
+use Rattle.gx_meaning.specs.Answer.{together}
 use Rattle.gx_gather.proofs.Keys.{filter-through}
 use Rattle.gx_law_answers.proofs.Rising.{to-filter}
 

@@ -12,14 +12,14 @@ use Rattle.gx_tree.specs.declared.slice.Slice.TheVariants as slice
 use Rattle.gx_tree.specs.declared.stmt.Level.{Level}
 use Rattle.gx_tree.specs.declared.stmt.Stmt.{Stmt}
 use Rattle.gx_tree.specs.declared.stmt.Stmt.TheVariants as stmt
-use Rattle.gx_eval.specs.Meaning.{and_then}
-use Rattle.gx_eval.specs.declared.fault.ArithFault.{ArithFault}
+use Rattle.gx_meaning.specs.Expressions.{and_then}
+use Rattle.gx_meaning.specs.declared.fault.ArithFault.{ArithFault}
 use Rattle.gx_dtx.specs.Nodes.{has, without}
 use Rattle.gx_msg.specs.declared.message.Message.TheVariants as message
 use Rattle.gx_msg.specs.declared.reply.Reply.TheVariants as reply
-use Rattle.gx_plan.specs.Constants.{rows_of}
-use Rattle.gx_plan.specs.Plan.{insert_pieces, plan_of}
-use Rattle.gx_plan.specs.declared.piece.Piece.{Piece}
+use Rattle.gx_meaning.specs.Constants.{rows_of}
+use Rattle.gx_meaning.specs.Plan.{insert_pieces, plan_of}
+use Rattle.gx_meaning.specs.declared.piece.Piece.{Piece}
 use Rattle.gx_script.specs.declared.Script.{Script}
 use Rattle.gx_store.specs.declared.answer.StmtAnswer.{StmtAnswer}
 use Rattle.gx_store.specs.declared.event.Event.TheVariants as event
@@ -35,7 +35,7 @@ use Rattle.gx_rules.specs.Coordinators.{Command}
 use Rattle.gx_rules.specs.Machine.{world_of}
 use Rattle.gx_law_sessions.specs.Finish.{point_at}
 use Rattle.gx_law_sessions.specs.Gathering.{AreAll, AreApart, IsGathered, Taken, nodes_taken, total}
-use Rattle.gx_law_sessions.specs.Orders.{AreLinesNumbered}
+use Rattle.gx_store.specs.Language.{AreLinesNumbered}
 use Rattle.gx_law_commit.proofs.Nodes.{has-without}
 use Rattle.gx_law_writes.proofs.Counts.{all-there}
 use Rattle.gx_law_writes.proofs.Legal.{own-more, read-served}
@@ -106,10 +106,10 @@ module _ (script : Script) (some : 1 ≤ script.segments) (numbered : AreLinesNu
       planned : plan_of script.segments (dist_of script.tables table.0) g c (stmt.Insert table tuples) ≡ Ok reported.0.order.pieces
       planned = subst (λ l. plan_of script.segments (dist_of script.tables (Rattle.gx_rules.specs.AtCoordinator.table_of l)) g c l ≡ Ok reported.0.order.pieces) (line-is t reported.0) reported.0.order.plan
 
-      slice-is : reported.0.slice ≡ slice.Insert table (Rattle.gx_plan.specs.Plan.rows_at script.segments (dist_of script.tables table.0) p.rows t.node.0)
+      slice-is : reported.0.slice ≡ slice.Insert table (Rattle.gx_meaning.specs.Plan.rows_at script.segments (dist_of script.tables table.0) p.rows t.node.0)
       slice-is = insert-slice script.segments (dist_of script.tables) g c t.node table tuples p.rows reported.0.order.pieces reported.0.slice (subst (λ d. rows_of g d tuples ≡ Ok p.rows) same p.planned) planned reported.0.order.among
 
-      done : IsDoneSlice ms (slice.Insert table (Rattle.gx_plan.specs.Plan.rows_at script.segments (dist_of script.tables table.0) p.rows t.node.0)) t.count
+      done : IsDoneSlice ms (slice.Insert table (Rattle.gx_meaning.specs.Plan.rows_at script.segments (dist_of script.tables table.0) p.rows t.node.0)) t.count
       done = subst (λ s. IsDoneSlice ms s t.count) slice-is reported.0.done
 
   -- what the segments have told

@@ -27,7 +27,8 @@ use Rattle.gx_rules.specs.Machine.{World, after, at_node, can, does, happens, ne
 use Rattle.gx_store.specs.Journals.{is_same_node}
 use Rattle.gx_store.specs.declared.node.NodeEvent.{NodeEvent}
 use Rattle.gx_law_order.proofs.Lists.{Each}
-use Rattle.gx_law_sessions.specs.Orders.{AreLinesNumbered, IsOrder}
+use Rattle.gx_law_sessions.specs.Orders.{IsOrder}
+use Rattle.gx_store.specs.Language.{AreLinesNumbered}
 use Rattle.gx_law_sessions.proofs.Outs.{order-more}
 use Rattle.gx_law_commit.proofs.Whole.{world-both}
 use Rattle.gx_law_reads.specs.Sights.{DoViewsStay}

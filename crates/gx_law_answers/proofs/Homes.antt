@@ -10,10 +10,10 @@ use Rattle.gx_tree.specs.declared.expr.Expr.{Expr}
 use Rattle.gx_tree.specs.declared.schema.Dist.{Dist}
 use Rattle.gx_tree.specs.declared.schema.Dist.TheVariants.{By, Randomly}
 use Rattle.gx_tree.specs.declared.value.Value.{Value}
-use Rattle.gx_eval.specs.Meaning.{and_then}
-use Rattle.gx_eval.specs.declared.fault.ArithFault.{ArithFault}
-use Rattle.gx_place.specs.Place.{IsWithin, row_place}
-use Rattle.gx_plan.specs.Constants.{HasKey, constant, each_from, values_of}
+use Rattle.gx_meaning.specs.Expressions.{and_then}
+use Rattle.gx_meaning.specs.declared.fault.ArithFault.{ArithFault}
+use Rattle.gx_meaning.specs.Place.{IsWithin, row_place}
+use Rattle.gx_meaning.specs.Constants.{HasKey, constant, each_from, values_of}
 use Rattle.gx_script.specs.declared.Script.{Script}
 use Rattle.gx_store.specs.declared.mark.Mark.{Mark}
 use Rattle.gx_store.specs.declared.mark.Mark.TheVariants as mark

@@ -23,7 +23,7 @@ use Rattle.gx_law_order.proofs.Lists.{Each}
 use Rattle.gx_law_order.proofs.Machines.{system-led}
 use Rattle.gx_law_sessions.specs.Finish.{AreCommandsTold, IsRestShown, point_at}
 use Rattle.gx_law_sessions.specs.Gathering.{IsGathered}
-use Rattle.gx_law_sessions.specs.Orders.{AreLinesNumbered}
+use Rattle.gx_store.specs.Language.{AreLinesNumbered}
 use Rattle.gx_law_sessions.proofs.Said.{CalmFor}
 use Rattle.gx_law_sessions.proofs.World.{all-legal, sessions-stand}
 use Rattle.gx_law_answers.specs.Earned.{Events}

@@ -13,13 +13,13 @@ use Rattle.gx_tree.specs.declared.part.Part.TheVariants.{Rows, Groups}
 use Rattle.gx_tree.specs.declared.query.Query.{Query}
 use Rattle.gx_tree.specs.declared.row.KeyedRow.{KeyedRow}
 use Rattle.gx_tree.specs.declared.value.Value.{Value}
-use Rattle.gx_gather.specs.Aggregates.{aggregate}
-use Rattle.gx_gather.specs.Answer.{ArePartsOf, AreRising, answer_of, group_keys, group_of, grouped_answer, groups_in, limited, part_of, plain_answer, row_cell, row_keys, rows_in, together}
-use Rattle.gx_gather.specs.Groups.{is_same_key, key_of, keys_of, members}
+use Rattle.gx_meaning.specs.Aggregates.{aggregate}
+use Rattle.gx_meaning.specs.Answer.{ArePartsOf, AreRising, answer_of, group_keys, group_of, grouped_answer, groups_in, limited, part_of, plain_answer, row_cell, row_keys, rows_in, together}
+use Rattle.gx_meaning.specs.Groups.{is_same_key, key_of, keys_of, members}
 use Rattle.gx_gather.specs.Laws.{rising-total}
-use Rattle.gx_gather.specs.Order.{group_order, in_order, rising, row_order}
-use Rattle.gx_gather.specs.Tallies.{has_group, is_only, out_row}
-use Rattle.gx_gather.specs.declared.order.SortKey.{SortKey}
+use Rattle.gx_meaning.specs.Order.{group_order, in_order, rising, row_order}
+use Rattle.gx_meaning.specs.Tallies.{has_group, is_only, out_row}
+use Rattle.gx_meaning.specs.declared.sort_key.SortKey.{SortKey}
 use Rattle.gx_gather.proofs.InOrder.{filter-in_order, rises_in_order, rises_same}
 use Rattle.gx_gather.proofs.Keys.{filter-keys_of, filter-once, if_there}
 use Rattle.gx_gather.proofs.Listing.{by-key}
@@ -28,7 +28,7 @@ use Rattle.gx_gather.proofs.Orders.{group_order-total, row_order-total}
 use Rattle.gx_gather.proofs.Steps.{answer-grouped, answer-plain, found_rows}
 use Rattle.gx_gather.proofs.Totals.{tally-parts}
 use Rattle.gx_gather.proofs.Whole.{keys-same, out-same, sorted_rows}
-use Rattle.gx_rules.specs.Merged.{keys_in, merged_answer, merged_group, merged_groups}
+use Rattle.gx_meaning.specs.Merged.{keys_in, merged_answer, merged_group, merged_groups}
 
 -- ---- rows
 plain-same : (query : Query) (whole found : List KeyedRow) → AreRising whole → IsPermutation whole found → plain_answer query found ≡ plain_answer query whole

@@ -12,7 +12,7 @@ use Rattle.gx_tree.specs.declared.slice.Slice.TheVariants as slice
 use Rattle.gx_tree.specs.declared.stmt.Level.{Level}
 use Rattle.gx_tree.specs.declared.stmt.Stmt.TheVariants as stmt
 use Rattle.gx_dsnap.specs.declared.snapshot.Snapshot.{Snapshot}
-use Rattle.gx_eval.specs.declared.fault.ArithFault.{ArithFault}
+use Rattle.gx_meaning.specs.declared.fault.ArithFault.{ArithFault}
 use Rattle.gx_msg.specs.declared.message.Envelope.{Envelope}
 use Rattle.gx_msg.specs.declared.message.Message.{Message}
 use Rattle.gx_msg.specs.declared.message.Message.TheVariants as message
@@ -41,7 +41,8 @@ use Rattle.gx_rules.specs.Shown.{shown}
 use Rattle.gx_rules.specs.Slices.{answers, first_fault, has_written, inserted, runs_slice, selects}
 use Rattle.gx_law_order.proofs.Lists.{Each, each_weaker}
 use Rattle.gx_law_order.proofs.World.{marks-last}
-use Rattle.gx_law_sessions.specs.Orders.{AreLinesNumbered, IsOrder, IsReadBy, IsServed}
+use Rattle.gx_law_sessions.specs.Orders.{IsOrder, IsReadBy, IsServed}
+use Rattle.gx_store.specs.Language.{AreLinesNumbered}
 use Rattle.gx_law_sessions.proofs.Outs.{MessageIs, order-more}
 use Rattle.gx_law_sessions.proofs.World.{after-last}
 use Rattle.gx_law_commit.specs.Pairs.{IsVote}

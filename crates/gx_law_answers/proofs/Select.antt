@@ -17,13 +17,13 @@ use Rattle.gx_tree.specs.declared.schema.Dist.TheVariants.{By, Randomly}
 use Rattle.gx_tree.specs.declared.value.Value.{Value}
 use Rattle.gx_tree.specs.declared.value.Value.TheVariants.{Int, Text}
 use Rattle.gx_dtx.specs.Nodes.{has}
-use Rattle.gx_gather.specs.Answer.{ArePartsOf, AreRising, answer_of, grouped_answer, keeps, limited, part_of, plain_answer}
-use Rattle.gx_place.specs.Place.{IsWithin, hash_of, key_place, remainder, row_place, value_place}
-use Rattle.gx_place.specs.Target.{IsFalseOutside, target_of}
-use Rattle.gx_place.specs.declared.segments.Target.{Target}
-use Rattle.gx_place.specs.declared.segments.Target.TheVariants.{One, All as AllOfThem}
+use Rattle.gx_meaning.specs.Answer.{ArePartsOf, AreRising, answer_of, grouped_answer, keeps, limited, part_of, plain_answer}
+use Rattle.gx_meaning.specs.Place.{IsWithin, hash_of, key_place, remainder, row_place, value_place}
+use Rattle.gx_meaning.specs.Target.{IsFalseOutside, target_of}
+use Rattle.gx_meaning.specs.declared.target.Target.{Target}
+use Rattle.gx_meaning.specs.declared.target.Target.TheVariants.{One, All as AllOfThem}
 use Rattle.gx_place.proofs.Outside.{target_of-outside}
-use Rattle.gx_plan.specs.Plan.{nodes_from, nodes_of}
+use Rattle.gx_meaning.specs.Plan.{nodes_from, nodes_of}
 use Rattle.gx_script.specs.declared.Script.{Script}
 use Rattle.gx_store.specs.declared.mark.Mark.{Mark}
 use Rattle.gx_store.specs.Answers.{FaultsOnNone}
@@ -32,7 +32,7 @@ use Rattle.gx_store.specs.Marks.{node_of}
 use Rattle.gx_store.specs.Rows.{row_at}
 use Rattle.gx_store.specs.View.{image, is_shown_to}
 use Rattle.gx_store.specs.Writes.{dist_of}
-use Rattle.gx_rules.specs.Merged.{merged_answer}
+use Rattle.gx_meaning.specs.Merged.{merged_answer}
 use Rattle.gx_law_order.proofs.Lists.{Each}
 use Rattle.gx_rules.proofs.ShownRows.{rows-same}
 use Rattle.gx_law_sessions.specs.Gathering.{AreAll, AreApart, Taken, nodes_taken, parts_taken}

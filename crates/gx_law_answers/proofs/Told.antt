@@ -14,17 +14,17 @@ use Rattle.gx_tree.specs.declared.stmt.Level.{Level}
 use Rattle.gx_tree.specs.declared.stmt.Stmt.{Stmt}
 use Rattle.gx_tree.specs.declared.stmt.Stmt.TheVariants as stmt
 use Rattle.gx_dtx.specs.Nodes.{has}
-use Rattle.gx_eval.specs.declared.fault.ArithFault.{ArithFault}
-use Rattle.gx_eval.specs.declared.fault.ArithFault.TheVariants as arith_fault
+use Rattle.gx_meaning.specs.declared.fault.ArithFault.{ArithFault}
+use Rattle.gx_meaning.specs.declared.fault.ArithFault.TheVariants as arith_fault
 use Rattle.gx_msg.specs.declared.message.Message.TheVariants as message
 use Rattle.gx_msg.specs.declared.reply.Cause.{Cause}
 use Rattle.gx_msg.specs.declared.reply.Reply.{Reply}
 use Rattle.gx_msg.specs.declared.reply.Reply.TheVariants as reply
-use Rattle.gx_place.specs.Target.{target_of}
-use Rattle.gx_place.specs.declared.segments.Target.{Target}
-use Rattle.gx_place.specs.declared.segments.Target.TheVariants.{One, All as AllOfThem}
-use Rattle.gx_plan.specs.Plan.{nodes_of, piece, plan_of}
-use Rattle.gx_plan.specs.declared.piece.Piece.{Piece}
+use Rattle.gx_meaning.specs.Target.{target_of}
+use Rattle.gx_meaning.specs.declared.target.Target.{Target}
+use Rattle.gx_meaning.specs.declared.target.Target.TheVariants.{One, All as AllOfThem}
+use Rattle.gx_meaning.specs.Plan.{nodes_of, piece, plan_of}
+use Rattle.gx_meaning.specs.declared.piece.Piece.{Piece}
 use Rattle.gx_script.specs.declared.Script.{Script}
 use Rattle.gx_store.specs.declared.answer.StmtAnswer.{StmtAnswer}
 use Rattle.gx_store.specs.declared.event.Event.TheVariants as event
@@ -41,12 +41,13 @@ use Rattle.gx_store.specs.View.{image, is_shown_to}
 use Rattle.gx_store.specs.Writes.{dist_of}
 use Rattle.gx_rules.specs.AtCoordinator.{nodes_in, reason_of}
 use Rattle.gx_rules.specs.Machine.{world_of}
-use Rattle.gx_rules.specs.Merged.{merged_answer}
+use Rattle.gx_meaning.specs.Merged.{merged_answer}
 use Rattle.gx_rules.specs.Slices.{cause_of}
 use Rattle.gx_law_order.proofs.Lists.{Each, get_kept}
 use Rattle.gx_law_sessions.specs.Finish.{point_at}
 use Rattle.gx_law_sessions.specs.Gathering.{AreAll, AreApart, IsGathered, Taken, nodes_taken, parts_taken}
-use Rattle.gx_law_sessions.specs.Orders.{AreLinesNumbered, level_of_began}
+use Rattle.gx_law_sessions.specs.Orders.{level_of_began}
+use Rattle.gx_store.specs.Language.{AreLinesNumbered}
 use Rattle.gx_law_sessions.proofs.Said.{CalmFor}
 use Rattle.gx_law_commit.proofs.Commits.{take-kept}
 use Rattle.gx_law_writes.proofs.Turns.{NoWrite}

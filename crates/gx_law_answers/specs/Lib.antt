@@ -3,4 +3,3 @@ pub mod Parts
 pub mod Truth
 pub mod Earned
 pub mod Once
-pub mod Whole

@@ -9,7 +9,7 @@ use Rattle.gx_ids.specs.declared.rid.Rid.{Rid}
 use Rattle.gx_tree.specs.declared.part.Part.{Part}
 use Rattle.gx_tree.specs.declared.query.Query.{Query}
 use Rattle.gx_tree.specs.declared.row.KeyedRow.{KeyedRow}
-use Rattle.gx_gather.specs.Answer.{AreRising, keeps, part_of}
+use Rattle.gx_meaning.specs.Answer.{AreRising, keeps, part_of}
 use Rattle.std.specs.Prelude.{filter}
 use Rattle.gx_store.specs.declared.mark.Mark.{Mark}
 use Rattle.gx_store.specs.Answers.{FaultsOnNone}

@@ -1,12 +1,12 @@
 //! Laws of every run, whatever the network loses, repeats, delays and reorders, and whichever appends fail.
 ghost use Rattle.std.specs.Prelude.{◌≡◌, ◌≤◌, Bool, List, []};
 ghost use Rattle.gx_law_answers.specs.Earned.{AreAnswersEarned};
-ghost use Rattle.gx_law_answers.specs.Whole.{AreInsertsWhole};
-ghost use Rattle.gx_gather.specs.Answer.{ArePartsOf, answer_of};
+ghost use Rattle.gx_store.specs.Whole.{AreInsertsWhole};
+ghost use Rattle.gx_meaning.specs.Answer.{ArePartsOf, answer_of};
 ghost use Rattle.gx_law_sessions.specs.Finish.{AreSegmentsLegal};
-ghost use Rattle.gx_law_sessions.specs.Orders.{AreLinesNumbered};
+ghost use Rattle.gx_store.specs.Language.{AreLinesNumbered};
 ghost use Rattle.gx_rules.specs.Machine.{run_of, world_of};
-ghost use Rattle.gx_rules.specs.Merged.{merged_answer};
+ghost use Rattle.gx_meaning.specs.Merged.{merged_answer};
 ghost use Rattle.gx_rules.specs.System.{IsSystemRun};
 ghost use Rattle.gx_script.specs.declared.Script.{Script};
 ghost use Rattle.gx_store.specs.Protocol.{DoStepsFollow};
@@ -56,7 +56,8 @@ pub fn every_system_run_is_a_legal_history()
 /// The rows that the segments show to nobody's transaction, by a snapshot that is taken at the end of a run, are the final
 /// tables.
 pub fn segments_show_the_final_tables()
-    ensures { (script : Script) (events : List (OneEvent × Bool)) (tables : List (OneVec OneRow OneGlobal)) → 1 ≤ script.segments → AreLinesNumbered [] script.lines → AreRowsOfAll 0 (world_of script events) tables
+    ensures { (script : Script) (events : List (OneEvent × Bool)) (tables : List (OneVec OneRow OneGlobal)) → 1 ≤ script.segments
+        → AreLinesNumbered [] script.lines → AreRowsOfAll 0 (world_of script events) tables
         → AreFinalFrom 0 (marks_in (world_of script events).steps) tables }
 {}
 

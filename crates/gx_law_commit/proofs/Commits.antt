@@ -5,7 +5,7 @@ use Rattle.std.proofs.lemmas.Bool.Decides.{nat_tests}
 use Rattle.std.specs.Prelude.{filter, slice_get, take}
 use Rattle.gx_ids.specs.declared.ids.Node.{Node}
 use Rattle.gx_dtx.specs.Nodes.{has}
-use Rattle.gx_plan.specs.Plan.{nodes_from}
+use Rattle.gx_meaning.specs.Plan.{nodes_from}
 use Rattle.gx_store.specs.declared.mark.Mark.{Mark}
 use Rattle.gx_store.specs.declared.mark.Mark.TheVariants as mark
 use Rattle.gx_store.specs.Protocol.{CommitsAtOnce, CommitsBy, CommitsInTwo, local_count, prepared_count}

@@ -13,9 +13,9 @@ use Rattle.gx_dtx.specs.Nodes.{with_node}
 use Rattle.gx_dtx.specs.Rules.{enlisted, on_abort}
 use Rattle.gx_dtx.specs.Table.{Table, find_txn, xmin_of}
 use Rattle.gx_dtx.specs.declared.txn.Txn.{Txn}
-use Rattle.gx_eval.specs.declared.fault.ArithFault.{ArithFault}
-use Rattle.gx_plan.specs.Plan.{plan_of}
-use Rattle.gx_plan.specs.declared.piece.Piece.{Piece}
+use Rattle.gx_meaning.specs.declared.fault.ArithFault.{ArithFault}
+use Rattle.gx_meaning.specs.Plan.{plan_of}
+use Rattle.gx_meaning.specs.declared.piece.Piece.{Piece}
 use Rattle.gx_script.specs.declared.Script.{Script}
 use Rattle.gx_session.specs.declared.state.Pending.{Pending}
 use Rattle.gx_store.specs.declared.mark.Mark.{Mark}

@@ -15,15 +15,15 @@ use Rattle.gx_tree.specs.declared.stmt.Stmt.{Stmt}
 use Rattle.gx_tree.specs.declared.stmt.Stmt.TheVariants.{Begin, Commit, Rollback, Select, Insert, Update, Delete, Lock}
 use Rattle.gx_tree.specs.declared.value.Value.{Value}
 use Rattle.gx_tree.specs.declared.value.Value.TheVariants.{Int, Text}
-use Rattle.gx_eval.specs.Meaning.{and_then}
-use Rattle.gx_eval.specs.declared.fault.ArithFault.{ArithFault}
-use Rattle.gx_place.specs.Place.{hash_of, value_place}
-use Rattle.gx_place.specs.Target.{key_of, key_target, target_of}
-use Rattle.gx_place.specs.declared.segments.Target.{Target}
-use Rattle.gx_place.specs.declared.segments.Target.TheVariants.{All}
-use Rattle.gx_plan.specs.Constants.{rows_of}
-use Rattle.gx_plan.specs.Plan.{insert_pieces, nodes_from, nodes_of, piece, pieces, plan_of, row_pieces, rows_at}
-use Rattle.gx_plan.specs.declared.piece.Piece.{Piece}
+use Rattle.gx_meaning.specs.Expressions.{and_then}
+use Rattle.gx_meaning.specs.declared.fault.ArithFault.{ArithFault}
+use Rattle.gx_meaning.specs.Place.{hash_of, value_place}
+use Rattle.gx_meaning.specs.Target.{key_of, key_target, target_of}
+use Rattle.gx_meaning.specs.declared.target.Target.{Target}
+use Rattle.gx_meaning.specs.declared.target.Target.TheVariants.{All}
+use Rattle.gx_meaning.specs.Constants.{rows_of}
+use Rattle.gx_meaning.specs.Plan.{insert_pieces, nodes_from, nodes_of, piece, pieces, plan_of, row_pieces, rows_at}
+use Rattle.gx_meaning.specs.declared.piece.Piece.{Piece}
 use Rattle.gx_law_order.proofs.Lists.{Each, each_flat, each_map, each_weaker}
 
 -- one of n segments

@@ -14,7 +14,7 @@ use Rattle.gx_tree.specs.declared.slice.Slice.{Slice}
 use Rattle.gx_tree.specs.declared.slice.Slice.TheVariants as slice
 use Rattle.gx_dsnap.specs.Gxids.{is_below}
 use Rattle.gx_dsnap.specs.declared.snapshot.Snapshot.{Snapshot}
-use Rattle.gx_eval.specs.declared.fault.ArithFault.{ArithFault}
+use Rattle.gx_meaning.specs.declared.fault.ArithFault.{ArithFault}
 use Rattle.gx_msg.specs.declared.item.JournalItem.{JournalItem}
 use Rattle.gx_msg.specs.declared.item.JournalItem.TheVariants as item
 use Rattle.gx_msg.specs.declared.item.Kept.{Kept}

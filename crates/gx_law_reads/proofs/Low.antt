@@ -16,7 +16,7 @@ use Rattle.gx_dtx.specs.Table.{Table, find_txn, horizon_of}
 use Rattle.gx_dtx.specs.declared.phase.Phase.{Phase as Status}
 use Rattle.gx_dtx.specs.declared.txn.Txn.{Txn}
 use Rattle.gx_dtx.proofs.Low.{found-low, live_found-low}
-use Rattle.gx_eval.specs.declared.fault.ArithFault.{ArithFault}
+use Rattle.gx_meaning.specs.declared.fault.ArithFault.{ArithFault}
 use Rattle.gx_msg.specs.declared.message.Envelope.{Envelope}
 use Rattle.gx_msg.specs.declared.message.Message.{Message}
 use Rattle.gx_msg.specs.declared.message.Message.TheVariants as message

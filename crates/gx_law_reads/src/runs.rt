@@ -22,7 +22,8 @@ pub fn horizons_are_low()
 
 /// The horizon of the coordinator's transactions never falls.
 pub fn the_horizon_never_falls()
-    ensures { (script : Script) (events : List (OneEvent × Bool)) (later : List (OneEvent × Bool)) → 1 ≤ script.segments → HasRisen (world_of script events) (after script (world_of script events) later) }
+    ensures { (script : Script) (events : List (OneEvent × Bool)) (later : List (OneEvent × Bool)) → 1 ≤ script.segments
+        → HasRisen (world_of script events) (after script (world_of script events) later) }
 {}
 
 /// A command that a segment has still to run, of a transaction that wasn't aborted, sees whoever is below the horizon there.
@@ -50,11 +51,14 @@ pub fn segments_show_what_has_committed()
 
 /// What a command that a node has taken sees of the rows that are written there alone never changes any more.
 pub fn views_stay()
-    ensures { (script : Script) (events : List (OneEvent × Bool)) (later : List (OneEvent × Bool)) → 1 ≤ script.segments → DoViewsStay (world_of script events) (after script (world_of script events) later) }
+    ensures { (script : Script) (events : List (OneEvent × Bool)) (later : List (OneEvent × Bool)) → 1 ≤ script.segments
+        → DoViewsStay (world_of script events) (after script (world_of script events) later) }
 {}
 
 /// Where each row is written at one segment alone, the rows that the segments show to nobody's transaction, by a snapshot
 /// that is taken at the end of a run, are the final tables.
-pub fn segments_show_the_final_tables()
-    ensures { (script : Script) (events : List (OneEvent × Bool)) (tables : List (OneVec OneRow OneGlobal)) → 1 ≤ script.segments → AreAtHome (marks_in (world_of script events).steps) → AreRowsOfAll 0 (world_of script events) tables → AreFinalFrom 0 (marks_in (world_of script events).steps) tables }
+pub fn rows_at_home_are_the_final_tables()
+    ensures { (script : Script) (events : List (OneEvent × Bool)) (tables : List (OneVec OneRow OneGlobal)) → 1 ≤ script.segments
+        → AreAtHome (marks_in (world_of script events).steps) → AreRowsOfAll 0 (world_of script events) tables
+        → AreFinalFrom 0 (marks_in (world_of script events).steps) tables }
 {}

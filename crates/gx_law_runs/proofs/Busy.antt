@@ -26,7 +26,7 @@ use Rattle.gx_store.specs.Points.{ends_in, marks_in}
 use Rattle.gx_rules.specs.AtCoordinator.{awaited, coord_rule, is_idle, is_nothing, next_line, on_event, on_message, resends, starts}
 use Rattle.gx_rules.specs.Coordinators.{Coord, Session, session_of, work_of}
 use Rattle.gx_rules.specs.Machine.{World, coord_did, world_of}
-use Rattle.gx_law_answers.specs.Whole.{AreInsertsWhole, IsWholeStmt}
+use Rattle.gx_store.specs.Whole.{AreInsertsWhole, IsWholeStmt}
 use Rattle.gx_law_sessions.specs.Standing.{IsStanding, is_busy, is_sound}
 use Rattle.gx_law_sessions.proofs.World.{sessions-stand}
 use Rattle.gx_law_order.proofs.Lines.{asks as admits}

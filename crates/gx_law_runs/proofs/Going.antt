@@ -17,7 +17,7 @@ use Rattle.gx_store.specs.Schedule.{enabled, first_of, is_next, is_quiet, left_o
 use Rattle.gx_rules.specs.AtCoordinator.{awaited, coord_can, is_idle, is_in_block, is_left, next_line}
 use Rattle.gx_rules.specs.Coordinators.{Coord, session_of}
 use Rattle.gx_rules.specs.Machine.{World, world_of}
-use Rattle.gx_law_answers.specs.Whole.{AreInsertsWhole}
+use Rattle.gx_store.specs.Whole.{AreInsertsWhole}
 use Rattle.gx_law_runs.specs.Endings.{is_unfinished_there}
 use Rattle.gx_law_sessions.proofs.World.{sessions-stand}
 use Rattle.gx_law_commit.proofs.Dispatching.{each-unmap}

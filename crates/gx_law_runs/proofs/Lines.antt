@@ -8,7 +8,7 @@ use Rattle.gx_ids.specs.declared.ids.SessionId.{SessionId}
 use Rattle.gx_script.specs.declared.Line.{Line}
 use Rattle.gx_tree.specs.declared.stmt.Stmt.{Stmt}
 use Rattle.gx_store.specs.Lines.{line_count, stmt_of}
-use Rattle.gx_law_sessions.specs.Orders.{AreLinesNumbered, lines_in}
+use Rattle.gx_store.specs.Language.{AreLinesNumbered, lines_in}
 
 lines_in-push : (k : ℕ) (before : List Line) (l : Line) → lines_in k (before ++ l ∷ []) ≡ lines_in k before + (if l.session.0 == k then 1 else 0)
 lines_in-push k [] l = grind (arith, nat_tests)

@@ -5,7 +5,7 @@ use Rattle.std.proofs.lemmas.Bool.Decides.{nat_tests}
 use Rattle.std.specs.Prelude.{filter, map}
 use Rattle.std.specs.List.{flat_map, list_any, range_with_len}
 use Rattle.gx_ids.specs.declared.ids.Node.{Node}
-use Rattle.gx_plan.specs.Plan.{nodes_from}
+use Rattle.gx_meaning.specs.Plan.{nodes_from}
 use Rattle.gx_store.specs.declared.event.Event.{Event}
 use Rattle.gx_store.specs.Schedule.{first_of}
 use Rattle.gx_law_order.proofs.Lists.{Each}

@@ -14,12 +14,12 @@ use Rattle.gx_tree.specs.declared.stmt.Stmt.{Stmt}
 use Rattle.gx_tree.specs.declared.stmt.Stmt.TheVariants.{Begin, Commit, Rollback, Select, Insert, Update, Delete, Lock}
 use Rattle.gx_tree.specs.declared.value.Value.{Value}
 use Rattle.gx_dtx.specs.Nodes.{has}
-use Rattle.gx_eval.specs.Meaning.{and_then}
-use Rattle.gx_eval.specs.declared.fault.ArithFault.{ArithFault}
-use Rattle.gx_place.specs.Target.{key_of, key_target, target_of}
-use Rattle.gx_plan.specs.Constants.{each_from, tuple_row}
-use Rattle.gx_plan.specs.Plan.{insert_pieces, nodes_from, nodes_of, plan_of}
-use Rattle.gx_plan.specs.declared.piece.Piece.{Piece}
+use Rattle.gx_meaning.specs.Expressions.{and_then}
+use Rattle.gx_meaning.specs.declared.fault.ArithFault.{ArithFault}
+use Rattle.gx_meaning.specs.Target.{key_of, key_target, target_of}
+use Rattle.gx_meaning.specs.Constants.{each_from, tuple_row}
+use Rattle.gx_meaning.specs.Plan.{insert_pieces, nodes_from, nodes_of, plan_of}
+use Rattle.gx_meaning.specs.declared.piece.Piece.{Piece}
 use Rattle.gx_rules.specs.AtCoordinator.{nodes_in}
 use Rattle.gx_law_writes.proofs.Counts.{all-there}
 

@@ -2,7 +2,7 @@
 ghost use Rattle.std.specs.Prelude.{◌≡◌, ◌≤◌, ◌<◌, All, false, List, [], length};
 ghost use Rattle.gx_ids.specs.declared.ids.SessionId.{SessionId as OneSession};
 ghost use Rattle.gx_law_runs.specs.Endings.{IsFinished, is_any_unfinished, is_unfinished, is_unfinished_there};
-ghost use Rattle.gx_law_sessions.specs.Orders.{AreLinesNumbered};
+ghost use Rattle.gx_store.specs.Language.{AreLinesNumbered};
 ghost use Rattle.gx_law_runs.specs.Reached.{IsReached};
 ghost use Rattle.gx_law_runs.specs.Replays.{coordinator_after};
 ghost use Rattle.gx_script.specs.declared.Script.{Script};
@@ -18,7 +18,8 @@ pub fn unfinished_sessions_are_unfinished_there()
 
 /// Where no session is unfinished every line was answered, every block is closed, and every transaction has ended.
 pub fn finished_runs_are_whole()
-    ensures { (script : Script) (steps : List OneStep) → 1 ≤ script.segments → AreLinesNumbered [] script.lines → All (λ line. line.session.0 < length script.sessions) script.lines → IsReached script steps
+    ensures { (script : Script) (steps : List OneStep) → 1 ≤ script.segments → AreLinesNumbered [] script.lines
+        → All (λ line. line.session.0 < length script.sessions) script.lines → IsReached script steps
         → is_any_unfinished script steps ≡ false → IsFinished script (record { steps = steps }) }
 {}
 

@@ -12,6 +12,7 @@ ghost use Rattle.gx_store.specs.declared.run.Step.{Step as OneStep};
 
 /// A step behind a run that is reached has a failure of a node's journal at most once, and only where the append failed there.
 pub fn failures_are_caused()
-    ensures { (script : Script) (steps : List OneStep) (event : OneEvent) (fails : Bool) (step : OneStep) (node : OneNode) → 1 ≤ script.segments → IsReached script steps → (happens script (world_behind script steps) event fails).steps ≡ steps ++ step ∷ []
+    ensures { (script : Script) (steps : List OneStep) (event : OneEvent) (fails : Bool) (step : OneStep) (node : OneNode) → 1 ≤ script.segments
+        → IsReached script steps → (happens script (world_behind script steps) event fails).steps ≡ steps ++ step ∷ []
         → failures_in node step.marks ≤ (if is_same_node (node_of event) node && fails then 1 else 0) }
 {}

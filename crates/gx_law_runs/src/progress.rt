@@ -1,9 +1,9 @@
 //! Laws of every run, whatever the network loses, repeats, delays and reorders, and whichever appends fail.
 ghost use Rattle.std.specs.Prelude.{◌≡◌, ◌≤◌, ◌<◌, Bool, true, false, List, [], length};
 ghost use Rattle.gx_ids.specs.declared.ids.SessionId.{SessionId as OneSession};
-ghost use Rattle.gx_law_answers.specs.Whole.{AreInsertsWhole};
+ghost use Rattle.gx_store.specs.Whole.{AreInsertsWhole};
 ghost use Rattle.gx_law_runs.specs.Endings.{is_unfinished_there};
-ghost use Rattle.gx_law_sessions.specs.Orders.{AreLinesNumbered};
+ghost use Rattle.gx_store.specs.Language.{AreLinesNumbered};
 ghost use Rattle.gx_law_runs.specs.Awaiting.{IsAwaiting};
 ghost use Rattle.gx_law_runs.specs.Reached.{IsReached};
 ghost use Rattle.gx_law_runs.specs.Replays.{coordinator_after};
@@ -19,7 +19,8 @@ ghost use Rattle.gx_store.specs.declared.run.Step.{Step as OneStep};
 /// it is enabled; so while one is unfinished something is enabled. That holds of scripts whose INSERTs have tuples: one without
 /// goes to no segment, and is never answered.
 pub fn unfinished_runs_go_on()
-    ensures { (script : Script) (steps : List OneStep) (session : OneSession) → 1 ≤ script.segments → AreLinesNumbered [] script.lines → AreInsertsWhole script.tables script.lines → IsReached script steps
+    ensures { (script : Script) (steps : List OneStep) (session : OneSession) → 1 ≤ script.segments → AreLinesNumbered [] script.lines
+        → AreInsertsWhole script.tables script.lines → IsReached script steps
         → session.0 < length script.sessions → is_unfinished_there script (coordinator_after script steps) session ≡ true → enabled script steps ≡ [] → ⊥ }
 {}
 

@@ -1,26 +1,17 @@
 //! Laws of the runs that the machine reaches.
 ghost use Rattle.std.specs.Prelude.{◌≡◌, ◌≤◌, Bool, true, List, [], ◌∷◌, ◌++◌};
 ghost use Rattle.std.specs.List.{list_all};
-ghost use Rattle.std.specs.declared.alloc.Global.{Global as OneGlobal};
-ghost use Rattle.std.specs.declared.vec.Vec.{Vec as OneVec};
-ghost use Rattle.gx_law_answers.specs.Whole.{AreInsertsWhole};
-ghost use Rattle.gx_law_sessions.specs.Orders.{AreLinesNumbered};
 ghost use Rattle.gx_law_runs.specs.Reached.{HasRoomAfter, IsReached};
 ghost use Rattle.gx_law_runs.specs.Replays.{AreReplayed, IsNextAtCoordinator, IsNextAtSegment, is_admitted, world_behind};
 ghost use Rattle.gx_rules.specs.Machine.{happens, world_of};
 ghost use Rattle.gx_rules.specs.System.{IsSystemRun};
 ghost use Rattle.gx_script.specs.declared.Script.{Script};
-ghost use Rattle.gx_law_reads.specs.Sights.{AreRowsOfAll};
 ghost use Rattle.gx_store.specs.Ordered.{AreOrdered};
-ghost use Rattle.gx_store.specs.Points.{marks_in};
 ghost use Rattle.gx_store.specs.Protocol.{DoStepsFollow};
-ghost use Rattle.gx_store.specs.Runs.{IsLegalHistory};
 ghost use Rattle.gx_store.specs.Schedule.{enabled};
-ghost use Rattle.gx_store.specs.View.{AreFinalFrom};
 ghost use Rattle.gx_store.specs.declared.event.Event.{Event as OneEvent};
 ghost use Rattle.gx_store.specs.declared.run.Run.{Run as OneRun};
 ghost use Rattle.gx_store.specs.declared.run.Step.{Step as OneStep};
-ghost use Rattle.gx_tree.specs.declared.row.KeyedRow.{KeyedRow as OneRow};
 
 /// A run without a step is reached.
 pub fn new_runs_are_reached()
@@ -75,16 +66,4 @@ pub fn reached_runs_are_system_runs()
 /// It follows the commit protocol.
 pub fn reached_runs_follow_the_protocol()
     ensures { (script : Script) (steps : List OneStep) → 1 ≤ script.segments → IsReached script steps → DoStepsFollow script [] steps }
-{}
-
-/// And it is a legal history of one store, for scripts whose INSERTs have tuples, each with a value for the distribution column.
-pub fn reached_runs_are_legal_histories()
-    ensures { (script : Script) (steps : List OneStep) → 1 ≤ script.segments → AreLinesNumbered [] script.lines → AreInsertsWhole script.tables script.lines → IsReached script steps
-        → IsLegalHistory script (record { steps = steps }) }
-{}
-
-/// The rows that the segments show after it to nobody's transaction, by a snapshot that is taken then, are the final tables.
-pub fn reached_segments_show_the_final_tables()
-    ensures { (script : Script) (steps : List OneStep) (tables : List (OneVec OneRow OneGlobal)) → 1 ≤ script.segments → AreLinesNumbered [] script.lines → IsReached script steps → AreRowsOfAll 0 (world_behind script steps) tables
-        → AreFinalFrom 0 (marks_in steps) tables }
 {}

@@ -18,12 +18,14 @@ ghost use Rattle.gx_store.specs.declared.node.NodeEvent.TheVariants as here;
 
 /// The marks of a coordinator's turn tell whether its journal failed, where that makes a difference.
 pub fn coordinators_marks_tell_failures()
-    ensures { (script : Script) (c : OneCoordinator) (here : OneNodeEvent) (fails : Bool) → coord_rule script c here (has_failed (coord_rule script c here fails).marks) ≡ coord_rule script c here fails }
+    ensures { (script : Script) (c : OneCoordinator) (here : OneNodeEvent) (fails : Bool)
+        → coord_rule script c here (has_failed (coord_rule script c here fails).marks) ≡ coord_rule script c here fails }
 {}
 
 /// So do those of a segment's turn.
 pub fn segments_marks_tell_failures()
-    ensures { (script : Script) (seg : OneSegment) (here : OneNodeEvent) (fails : Bool) → seg_rule script seg here (has_failed (seg_rule script seg here fails).marks) ≡ seg_rule script seg here fails }
+    ensures { (script : Script) (seg : OneSegment) (here : OneNodeEvent) (fails : Bool)
+        → seg_rule script seg here (has_failed (seg_rule script seg here fails).marks) ≡ seg_rule script seg here fails }
 {}
 
 /// What the nodes hold after a run is told by its steps: each node's data is its rule over its own steps.

@@ -7,7 +7,7 @@ use Rattle.std.specs.List.{flat_map, list_all, list_any, range_with_len}
 use Rattle.gx_ids.specs.declared.ids.Gxid.{Gxid}
 use Rattle.gx_ids.specs.declared.ids.Node.{Node}
 use Rattle.gx_msg.specs.declared.message.Envelope.{Envelope}
-use Rattle.gx_plan.specs.Plan.{nodes_from}
+use Rattle.gx_meaning.specs.Plan.{nodes_from}
 use Rattle.gx_script.specs.declared.Line.{Line}
 use Rattle.gx_script.specs.declared.Script.{Script}
 use Rattle.gx_store.specs.declared.event.Event.{Event}

@@ -11,7 +11,7 @@ use Rattle.gx_tree.specs.declared.slice.Slice.{Slice}
 use Rattle.gx_tree.specs.declared.slice.Slice.TheVariants as slice
 use Rattle.gx_dsnap.specs.Gxids.{is_below}
 use Rattle.gx_dsnap.specs.declared.snapshot.Snapshot.{Snapshot}
-use Rattle.gx_eval.specs.declared.fault.ArithFault.{ArithFault}
+use Rattle.gx_meaning.specs.declared.fault.ArithFault.{ArithFault}
 use Rattle.gx_msg.specs.declared.item.JournalItem.{JournalItem}
 use Rattle.gx_msg.specs.declared.message.Message.{Message}
 use Rattle.gx_msg.specs.declared.message.Message.TheVariants as message
@@ -28,7 +28,7 @@ use Rattle.gx_rules.specs.Shown.{shown}
 use Rattle.gx_rules.specs.Fits.{fits_exec}
 use Rattle.gx_law_order.proofs.Lists.{Each}
 use Rattle.gx_tree.specs.declared.part.Part.TheVariants.{Rows}
-use Rattle.gx_gather.specs.Answer.{keeps, part_of}
+use Rattle.gx_meaning.specs.Answer.{keeps, part_of}
 use Rattle.gx_law_schedules.proofs.Parts.{is_right_part, part-right}
 
 -- a reply that gives no part

@@ -14,7 +14,7 @@ use Rattle.gx_store.specs.Schedule.{is_next}
 use Rattle.gx_rules.specs.AtCoordinator.{next_line}
 use Rattle.gx_rules.specs.Coordinators.{Coord}
 use Rattle.gx_law_order.proofs.Lists.{Each, each_weaker}
-use Rattle.gx_law_sessions.specs.Orders.{AreLinesNumbered, lines_in}
+use Rattle.gx_store.specs.Language.{AreLinesNumbered, lines_in}
 use Rattle.gx_law_sessions.specs.Standing.{IsSession}
 use Rattle.gx_law_commit.proofs.Always.{each-zip}
 use Rattle.gx_law_schedules.proofs.Sessions.{next-alike}

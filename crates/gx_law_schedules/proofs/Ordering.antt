@@ -13,12 +13,12 @@ use Rattle.gx_dsnap.specs.declared.snapshot.Snapshot.{Snapshot}
 use Rattle.gx_dtx.specs.Nodes.{has}
 use Rattle.gx_dtx.specs.Rules.{awaited_order}
 use Rattle.gx_dtx.specs.Table.{find_txn, horizon_of, participants_in}
-use Rattle.gx_eval.specs.declared.fault.ArithFault.{ArithFault}
+use Rattle.gx_meaning.specs.declared.fault.ArithFault.{ArithFault}
 use Rattle.gx_msg.specs.declared.message.Message.{Message}
 use Rattle.gx_msg.specs.declared.message.Message.TheVariants as message
 use Rattle.gx_msg.specs.declared.message.Out.{Out}
-use Rattle.gx_plan.specs.Plan.{plan_of}
-use Rattle.gx_plan.specs.declared.piece.Piece.{Piece}
+use Rattle.gx_meaning.specs.Plan.{plan_of}
+use Rattle.gx_meaning.specs.declared.piece.Piece.{Piece}
 use Rattle.gx_script.specs.declared.Script.{Script}
 use Rattle.gx_session.specs.Session.{after_line, idle_outside, line_step}
 use Rattle.gx_session.specs.declared.line_step.LineStep.{LineStep}

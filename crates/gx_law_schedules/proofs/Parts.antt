@@ -19,16 +19,16 @@ use Rattle.gx_tree.specs.declared.slice.Slice.TheVariants as slice
 use Rattle.gx_tree.specs.declared.stmt.Stmt.{Stmt}
 use Rattle.gx_tree.specs.declared.stmt.Stmt.TheVariants.{Begin, Commit, Rollback, Select, Insert, Update, Delete, Lock}
 use Rattle.gx_tree.specs.declared.value.Value.{Value}
-use Rattle.gx_eval.specs.Meaning.{and_then}
-use Rattle.gx_eval.specs.declared.fault.ArithFault.{ArithFault}
-use Rattle.gx_gather.specs.Answer.{group_of, part_of}
-use Rattle.gx_gather.specs.Groups.{is_same_key, key_of, keys_of, once}
-use Rattle.gx_gather.specs.Order.{in_order, placed, rising}
-use Rattle.gx_place.specs.Target.{target_of}
-use Rattle.gx_place.specs.declared.segments.Target.TheVariants.{All}
-use Rattle.gx_plan.specs.Constants.{rows_of}
-use Rattle.gx_plan.specs.Plan.{insert_pieces, nodes_from, nodes_of, piece, plan_of, row_pieces, rows_at}
-use Rattle.gx_plan.specs.declared.piece.Piece.{Piece}
+use Rattle.gx_meaning.specs.Expressions.{and_then}
+use Rattle.gx_meaning.specs.declared.fault.ArithFault.{ArithFault}
+use Rattle.gx_meaning.specs.Answer.{group_of, part_of}
+use Rattle.gx_meaning.specs.Groups.{is_same_key, key_of, keys_of, once}
+use Rattle.gx_meaning.specs.Order.{in_order, placed, rising}
+use Rattle.gx_meaning.specs.Target.{target_of}
+use Rattle.gx_meaning.specs.declared.target.Target.TheVariants.{All}
+use Rattle.gx_meaning.specs.Constants.{rows_of}
+use Rattle.gx_meaning.specs.Plan.{insert_pieces, nodes_from, nodes_of, piece, plan_of, row_pieces, rows_at}
+use Rattle.gx_meaning.specs.declared.piece.Piece.{Piece}
 use Rattle.gx_rules.specs.Fits.{fits_group, fits_part, fits_query, is_no_rows}
 use Rattle.gx_law_order.proofs.Lists.{Each, each_filter, each_flat, each_map}
 

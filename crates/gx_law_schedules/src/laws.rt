@@ -4,7 +4,7 @@ ghost use Rattle.std.specs.List.{list_all, list_any};
 ghost use Rattle.gx_ids.specs.declared.ids.Gxid.{Gxid as OneGxid};
 ghost use Rattle.gx_ids.specs.declared.ids.Node.{Node as OneNode};
 ghost use Rattle.gx_ids.specs.declared.ids.SessionId.{SessionId as OneSession};
-ghost use Rattle.gx_law_sessions.specs.Orders.{AreLinesNumbered};
+ghost use Rattle.gx_store.specs.Language.{AreLinesNumbered};
 ghost use Rattle.gx_rules.specs.AtCoordinator.{awaited, coord_can, is_idle, next_line};
 ghost use Rattle.gx_rules.specs.Coordinators.{session_of};
 ghost use Rattle.gx_rules.specs.Machine.{can, found, world_of};
@@ -23,12 +23,14 @@ ghost use Rattle.gx_law_schedules.specs.Room.{HasRoom};
 
 /// As many messages were sent to a segment as the coordinator counts.
 pub fn coordinator_counts_its_messages()
-    ensures { (script : Script) (events : List (OneEvent × Bool)) (i : ℕ) → 1 ≤ script.segments → sent_in the_coordinator (record { 0 = i }) (world_of script events).steps ≡ (world_of script events).coord.sent i }
+    ensures { (script : Script) (events : List (OneEvent × Bool)) (i : ℕ) → 1 ≤ script.segments
+        → sent_in the_coordinator (record { 0 = i }) (world_of script events).steps ≡ (world_of script events).coord.sent i }
 {}
 
 /// As many messages were sent by a segment as it counts.
 pub fn segments_count_their_messages()
-    ensures { (script : Script) (events : List (OneEvent × Bool)) (i : ℕ) → 1 ≤ script.segments → 1 ≤ i → sent_in (record { 0 = i }) the_coordinator (world_of script events).steps ≡ ((world_of script events).segs i).sent }
+    ensures { (script : Script) (events : List (OneEvent × Bool)) (i : ℕ) → 1 ≤ script.segments → 1 ≤ i
+        → sent_in (record { 0 = i }) the_coordinator (world_of script events).steps ≡ ((world_of script events).segs i).sent }
 {}
 
 /// The message of a number on a link is the one that is found by it.

@@ -13,7 +13,6 @@ use Rattle.gx_grammar.specs.declared.fault.Limits.{Limits}
 use Rattle.gx_lines.specs.declared.syn.StmtSyn.{StmtSyn}
 use Rattle.gx_lines.specs.declared.syn.StmtSyn.TheVariants as stmt_syn
 use Rattle.gx_lines.specs.Statements as rule
-use Rattle.gx_modes.specs.Table.{number_of}
 use Rattle.gx_resolve.specs.Results.{Answer, each}
 use Rattle.gx_resolve.specs.Naming.{names_of, names_right}
 use Rattle.gx_resolve.specs.Kinding.{where_as, tuple_as, assign_as}
@@ -78,7 +77,7 @@ kinded-filled table columns (stmt_syn.Update name assigns cond) r h one =
 kinded-filled table columns (stmt_syn.Delete name cond) r h one =
     let found = bind-ok (where_as columns cond) _ r h in
     subst IsFilled (same_ok (stmt.Delete table found.0) r found.2) tt
-kinded-filled table columns (stmt_syn.Lock name mode) r h one = subst IsFilled (same_ok (stmt.Lock table (number_of mode)) r h) tt
+kinded-filled table columns (stmt_syn.Lock name mode) r h one = subst IsFilled (same_ok (stmt.Lock table mode) r h) tt
 
 kept-same : (d : Dist) (r s : Stmt) → key_kept d r ≡ Ok s → r ≡ s
 kept-same d r s h = by_test (sets_key d r) h

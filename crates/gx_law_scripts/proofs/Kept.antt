@@ -16,7 +16,7 @@ use Rattle.gx_sql.specs.declared.refusal.LineFault.{LineFault}
 use Rattle.gx_sql.specs.declared.refusal.LineFault.TheVariants as fault
 use Rattle.gx_sql.specs.declared.refusal.Refusal.TheVariants as refusal
 use Rattle.gx_sql.specs.Counts.{PassesInHead, PassesInLine}
-use Rattle.gx_sql.specs.Language.{IsScript}
+use Rattle.gx_store.specs.Language.{IsScript}
 use Rattle.gx_sql.specs.Lines.{lines_of, is_skipped}
 use Rattle.gx_sql.specs.Progress.{Progress, start, giving, is_known, is_on, with_line, with_segments, with_line_syn}
 use Rattle.gx_sql.specs.Script.{the_limits, Follows, Counts, Told, TokensSay, LineSays, Goes, Where, ended, script_of, ReadsOn, Reads}

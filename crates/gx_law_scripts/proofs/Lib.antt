@@ -1,4 +1,3 @@
-pub mod Numbers
 pub mod Filled
 pub mod Kept
 pub mod Whole

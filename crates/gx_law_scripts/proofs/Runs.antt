@@ -11,7 +11,6 @@ use Rattle.gx_law_answers.proofs.Join.{legal, system-legal}
 use Rattle.gx_law_answers.proofs.Snaps.{snapshots-one}
 use Rattle.gx_law_answers.proofs.Whole.{filled, keyed}
 use Rattle.gx_law_scripts.proofs.Kept.{script-is}
-use Rattle.gx_law_scripts.proofs.Numbers.{lines_numbered}
 use Rattle.gx_law_scripts.proofs.Whole.{inserts_whole}
 
 module _ (bytes : List ℕ) (script : Script) (read : Reads bytes (Ok script)) where
@@ -19,10 +18,10 @@ module _ (bytes : List ℕ) (script : Script) (read : Reads bytes (Ok script)) w
   run-legal events =
       let is = script-is bytes script read in
       let inserts = inserts_whole bytes script read in
-      legal script is.some_segments (lines_numbered [] script.lines is.numbers) (keyed script inserts) (snapshots-one script is.some_segments) (filled script inserts) events
+      legal script is.some_segments is.numbers (keyed script inserts) (snapshots-one script is.some_segments) (filled script inserts) events
 
   pub system_run-legal : (run : Run) → IsSystemRun script run → IsLegalHistory script run
   system_run-legal run system =
       let is = script-is bytes script read in
       let inserts = inserts_whole bytes script read in
-      system-legal script is.some_segments (lines_numbered [] script.lines is.numbers) (keyed script inserts) (snapshots-one script is.some_segments) (filled script inserts) run system
+      system-legal script is.some_segments is.numbers (keyed script inserts) (snapshots-one script is.some_segments) (filled script inserts) run system

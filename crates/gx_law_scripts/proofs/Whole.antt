@@ -10,15 +10,15 @@ use Rattle.gx_tree.specs.declared.schema.Dist.TheVariants as dist
 use Rattle.gx_tree.specs.declared.schema.Schema.{Schema}
 use Rattle.gx_tree.specs.declared.stmt.Stmt.{Stmt}
 use Rattle.gx_tree.specs.declared.stmt.Stmt.TheVariants as stmt
-use Rattle.gx_eval.specs.Kinds.{kind_of}
-use Rattle.gx_plan.specs.Constants.{HasKey}
-use Rattle.gx_resolve.specs.Rules.{column_kind, column_kinds, IsDist, IsStmtOf, IsTuple}
+use Rattle.gx_meaning.specs.Kinds.{kind_of}
+use Rattle.gx_meaning.specs.Constants.{HasKey}
+use Rattle.gx_meaning.specs.Statements.{column_kind, column_kinds, IsDist, IsStmtOf, IsTuple}
 use Rattle.gx_script.specs.declared.Line.{Line}
 use Rattle.gx_script.specs.declared.Script.{Script}
-use Rattle.gx_sql.specs.Language.{IsLine, IsTable}
+use Rattle.gx_store.specs.Language.{IsLine, IsTable}
 use Rattle.gx_sql.specs.Script.{Reads}
 use Rattle.gx_store.specs.Writes.{dist_of}
-use Rattle.gx_law_answers.specs.Whole.{AreInsertsWhole, HaveKeys, IsWholeStmt}
+use Rattle.gx_store.specs.Whole.{AreInsertsWhole, HaveKeys, IsWholeStmt}
 use Rattle.gx_law_scripts.proofs.Filled.{IsFilled}
 use Rattle.gx_law_scripts.proofs.Kept.{AreFilled, script-filled, script-is}
 

@@ -1,11 +1,11 @@
 //! Laws of every script that was read.
 ghost use Rattle.std.specs.Prelude.{◌≡◌, ◌≤◌, ℕ, Bool, List, [], Ok};
-ghost use Rattle.gx_law_answers.specs.Whole.{AreInsertsWhole};
-ghost use Rattle.gx_law_sessions.specs.Orders.{AreLinesNumbered};
+ghost use Rattle.gx_store.specs.Whole.{AreInsertsWhole};
+ghost use Rattle.gx_store.specs.Language.{AreLinesNumbered};
 ghost use Rattle.gx_rules.specs.Machine.{run_of, world_of};
 ghost use Rattle.gx_rules.specs.System.{IsSystemRun};
 ghost use Rattle.gx_script.specs.declared.Script.{Script};
-ghost use Rattle.gx_sql.specs.Language.{IsScript};
+ghost use Rattle.gx_store.specs.Language.{IsScript};
 ghost use Rattle.gx_sql.specs.Script.{Reads};
 ghost use Rattle.gx_store.specs.Runs.{IsLegalHistory};
 ghost use Rattle.gx_store.specs.declared.event.Event.{Event as OneEvent};
@@ -28,11 +28,11 @@ pub fn inserts_are_whole()
 
 /// Every run of a script that was read is a legal history of one store without segments, whatever the network does and
 /// whichever appends fail.
-pub fn every_run_is_a_legal_history()
+pub fn every_run_of_a_script_is_a_legal_history()
     ensures { (bytes : List ℕ) (script : Script) (events : List (OneEvent × Bool)) → Reads bytes (Ok script) → IsLegalHistory script (run_of (world_of script events)) }
 {}
 
 /// So is every run of the system of nodes.
-pub fn every_system_run_is_a_legal_history()
+pub fn every_system_run_of_a_script_is_a_legal_history()
     ensures { (bytes : List ℕ) (script : Script) (run : OneRun) → Reads bytes (Ok script) → IsSystemRun script run → IsLegalHistory script run }
 {}

@@ -28,7 +28,7 @@ use Rattle.gx_law_order.proofs.Sessions.{Kept, is_live_in, is_working_in, stage_
 use Rattle.gx_law_order.proofs.Stages.{gx}
 use Rattle.gx_law_order.proofs.Statuses.Stage.{Live}
 use Rattle.gx_law_sessions.specs.Alive.{AreAlive, AreSilent, IsAlive, IsHeard, IsSilent, IsUnderWayBehind}
-use Rattle.gx_law_sessions.specs.Orders.{AreLinesNumbered}
+use Rattle.gx_store.specs.Language.{AreLinesNumbered}
 use Rattle.gx_law_sessions.specs.Standing.{IsSession, is_alone, is_busy, level_in, state_in}
 use Rattle.gx_law_sessions.proofs.After.{silent-calm, silent-ended}
 use Rattle.gx_law_sessions.proofs.AtLine.{at-calm, under-way}

@@ -16,13 +16,13 @@ use Rattle.gx_tree.specs.declared.stmt.Stmt.TheVariants as stmt
 use Rattle.gx_dtx.specs.Nodes.{has}
 use Rattle.gx_dtx.specs.Rules.{enlisted, on_abort}
 use Rattle.gx_dtx.specs.Table.{Table, horizon_of}
-use Rattle.gx_eval.specs.Meaning.{and_then}
-use Rattle.gx_eval.specs.declared.fault.ArithFault.{ArithFault}
-use Rattle.gx_eval.specs.declared.fault.ArithFault.TheVariants as arithmetic
+use Rattle.gx_meaning.specs.Expressions.{and_then}
+use Rattle.gx_meaning.specs.declared.fault.ArithFault.{ArithFault}
+use Rattle.gx_meaning.specs.declared.fault.ArithFault.TheVariants as arithmetic
 use Rattle.gx_msg.specs.declared.message.Out.{Out}
-use Rattle.gx_plan.specs.Constants.{rows_of}
-use Rattle.gx_plan.specs.Plan.{insert_pieces, plan_of}
-use Rattle.gx_plan.specs.declared.piece.Piece.{Piece}
+use Rattle.gx_meaning.specs.Constants.{rows_of}
+use Rattle.gx_meaning.specs.Plan.{insert_pieces, plan_of}
+use Rattle.gx_meaning.specs.declared.piece.Piece.{Piece}
 use Rattle.gx_script.specs.declared.Script.{Script}
 use Rattle.gx_session.specs.Session.{block_after_refusal}
 use Rattle.gx_session.specs.declared.state.Block.{Block}

@@ -6,9 +6,9 @@ use Rattle.gx_ids.specs.declared.ids.Gxid.{Gxid}
 use Rattle.gx_tree.specs.declared.expr.Expr.{Expr}
 use Rattle.gx_tree.specs.declared.row.KeyedRow.{KeyedRow}
 use Rattle.gx_tree.specs.declared.value.Value.{Value}
-use Rattle.gx_eval.specs.Meaning.{and_then}
-use Rattle.gx_eval.specs.declared.fault.ArithFault.{ArithFault}
-use Rattle.gx_plan.specs.Constants.{each_from, keyed, rows_of, tuple_row, values_of}
+use Rattle.gx_meaning.specs.Expressions.{and_then}
+use Rattle.gx_meaning.specs.declared.fault.ArithFault.{ArithFault}
+use Rattle.gx_meaning.specs.Constants.{each_from, keyed, rows_of, tuple_row, values_of}
 use Rattle.gx_store.specs.Faults.{FaultsInConstants}
 use Rattle.gx_rules.specs.AtCoordinator.{faulting_from}
 

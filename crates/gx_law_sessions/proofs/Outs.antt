@@ -24,7 +24,8 @@ use Rattle.gx_store.specs.declared.mark.Mark.{Mark}
 use Rattle.gx_store.specs.Lines.{began_from, command_at}
 use Rattle.gx_rules.specs.Coordinators.{Command}
 use Rattle.gx_law_order.proofs.Lists.{Each, each_weaker, get_kept}
-use Rattle.gx_law_sessions.specs.Orders.{AreLinesNumbered, IsOrder, IsOrderOf, IsReadBy, IsServed, level_of_began}
+use Rattle.gx_law_sessions.specs.Orders.{IsOrder, IsOrderOf, IsReadBy, IsServed, level_of_began}
+use Rattle.gx_store.specs.Language.{AreLinesNumbered}
 use Rattle.gx_law_sessions.proofs.Ends.{began-kept}
 
 -- what is sent is an order, if the script's lines are numbered

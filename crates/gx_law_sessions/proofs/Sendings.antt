@@ -27,7 +27,8 @@ use Rattle.gx_law_order.proofs.Letters.{same_node}
 use Rattle.gx_law_order.proofs.Lists.{Each}
 use Rattle.gx_law_order.proofs.Past.{aborted-append}
 use Rattle.gx_law_order.proofs.Sent.{at}
-use Rattle.gx_law_sessions.specs.Orders.{AreLinesNumbered, AreOrders}
+use Rattle.gx_law_sessions.specs.Orders.{AreOrders}
+use Rattle.gx_store.specs.Language.{AreLinesNumbered}
 use Rattle.gx_law_sessions.proofs.Awaited.{IsAwaited, IsAwaitedOut, IsSettled, OutAwaits, StateOf}
 use Rattle.gx_law_sessions.proofs.Closings.{IsNoted}
 use Rattle.gx_law_sessions.specs.Alive.{IsHeard}

@@ -31,7 +31,8 @@ use Rattle.gx_law_order.proofs.Letters.{IsFound, IsLetter, found_is, same_node}
 use Rattle.gx_law_order.proofs.Ordered.{never_resumes}
 use Rattle.gx_law_order.proofs.Sessions.{is_nothing_in}
 use Rattle.gx_law_order.proofs.World.{Knows, world_knows}
-use Rattle.gx_law_sessions.specs.Orders.{AreLinesNumbered, AreOrdersOf}
+use Rattle.gx_law_sessions.specs.Orders.{AreOrdersOf}
+use Rattle.gx_store.specs.Language.{AreLinesNumbered}
 use Rattle.gx_law_sessions.specs.Finish.{IsRestShown}
 use Rattle.gx_law_sessions.specs.Rest.{AreEventsLegal, AreRestLegal}
 use Rattle.gx_law_sessions.specs.Standing.{AreSessions}

@@ -22,7 +22,7 @@ use Rattle.gx_store.specs.Messages.{Receives}
 use Rattle.gx_store.specs.Points.{marks_in}
 use Rattle.gx_store.specs.Refusals.{the_coordinator}
 use Rattle.gx_rules.specs.Machine.{Letter, World}
-use Rattle.gx_law_sessions.specs.Orders.{AreLinesNumbered}
+use Rattle.gx_store.specs.Language.{AreLinesNumbered}
 
 -- marks that tell nothing of any session, snapshot or end
 abbrev pub IsSilent : Mark → Type 0

@@ -13,8 +13,8 @@ use Rattle.gx_tree.specs.declared.stmt.Stmt.TheVariants as stmt
 use Rattle.gx_dsnap.specs.declared.snapshot.Snapshot.{Snapshot}
 use Rattle.gx_msg.specs.declared.message.Message.{Message}
 use Rattle.gx_msg.specs.declared.message.Message.TheVariants as message
-use Rattle.gx_plan.specs.Plan.{plan_of}
-use Rattle.gx_plan.specs.declared.piece.Piece.{Piece}
+use Rattle.gx_meaning.specs.Plan.{plan_of}
+use Rattle.gx_meaning.specs.declared.piece.Piece.{Piece}
 use Rattle.gx_script.specs.declared.Line.{Line}
 use Rattle.gx_script.specs.declared.Script.{Script}
 use Rattle.gx_store.specs.declared.mark.Mark.{Mark}
@@ -38,16 +38,6 @@ pub record IsServed (marks : List Mark) (level : Level) (g : Gxid) (c : Cid) (sn
 abbrev pub IsReadBy : List Mark → Level → Gxid → Cid → Stmt → Option Snapshot → Type 0
 IsReadBy marks level g c (stmt.Lock table mode) snapshot = snapshot ≡ None
 IsReadBy marks level g c line snapshot = (x : Snapshot) × (snapshot ≡ Some x) × IsServed marks level g c x
-
--- how many of the lines are of the session
-abbrev pub lines_in : ℕ → List Line → ℕ
-lines_in session [] = 0
-lines_in session (l ∷ ls) = if l.session.0 == session then lines_in session ls + 1 else lines_in session ls
-
--- behind these lines, each line's number is one more than the lines of its session before it
-abbrev pub AreLinesNumbered : List Line → List Line → Type 0
-AreLinesNumbered before [] = Unit {0}
-AreLinesNumbered before (l ∷ ls) = (l.number ≡ lines_in l.session.0 before + 1) × AreLinesNumbered (before ++ l ∷ []) ls
 
 -- the level of the transaction that a line began
 abbrev pub level_by : Option Stmt → Level

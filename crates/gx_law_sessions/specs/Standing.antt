@@ -21,7 +21,7 @@ use Rattle.gx_store.specs.Marks.{answer_count, has_snapshot, is_begun, is_ended,
 use Rattle.gx_store.specs.Points.{ends_in, marks_in, starts_in}
 use Rattle.gx_rules.specs.Coordinators.{Command, Coord, Work, session_of, work_of}
 use Rattle.gx_rules.specs.Machine.{World}
-use Rattle.gx_law_sessions.specs.Orders.{AreLinesNumbered}
+use Rattle.gx_store.specs.Language.{AreLinesNumbered}
 
 -- the block of a session after so many of its commands
 abbrev pub state_in : Block → ℕ → BlockState

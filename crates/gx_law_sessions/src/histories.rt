@@ -2,7 +2,8 @@
 ghost use Rattle.std.specs.Prelude.{◌≤◌, Bool, List, []};
 ghost use Rattle.gx_law_sessions.specs.Alive.{AreOrdersAlive};
 ghost use Rattle.gx_law_sessions.specs.Finish.{IsRestShown};
-ghost use Rattle.gx_law_sessions.specs.Orders.{AreLinesNumbered, AreOrdersOf};
+ghost use Rattle.gx_law_sessions.specs.Orders.{AreOrdersOf};
+ghost use Rattle.gx_store.specs.Language.{AreLinesNumbered};
 ghost use Rattle.gx_law_sessions.specs.Rest.{AreEventsLegal, AreRestLegal};
 ghost use Rattle.gx_law_sessions.specs.Standing.{AreSessions};
 ghost use Rattle.gx_law_order.specs.Runs.{steps_after};

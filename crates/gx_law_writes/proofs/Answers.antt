@@ -16,8 +16,8 @@ use Rattle.gx_dsnap.specs.declared.snapshot.Snapshot.{Snapshot}
 use Rattle.gx_msg.specs.declared.message.Envelope.{Envelope}
 use Rattle.gx_msg.specs.declared.message.Message.TheVariants as message
 use Rattle.gx_msg.specs.declared.reply.Reply.TheVariants as reply
-use Rattle.gx_plan.specs.Constants.{rows_of}
-use Rattle.gx_plan.specs.Plan.{plan_of, rows_at}
+use Rattle.gx_meaning.specs.Constants.{rows_of}
+use Rattle.gx_meaning.specs.Plan.{plan_of, rows_at}
 use Rattle.gx_script.specs.declared.Script.{Script}
 use Rattle.gx_session.specs.declared.state.Block.{Block}
 use Rattle.gx_session.specs.declared.state.Block.TheVariants as block
@@ -41,7 +41,7 @@ use Rattle.gx_rules.specs.Coordinators.{Command, Coord, Work, session_of}
 use Rattle.gx_rules.specs.Machine.{World}
 use Rattle.gx_law_order.proofs.Lists.{Each, each_weaker}
 use Rattle.gx_law_order.proofs.Sessions.{Kept, is_closing_in, stage_of}
-use Rattle.gx_law_sessions.specs.Orders.{AreLinesNumbered}
+use Rattle.gx_store.specs.Language.{AreLinesNumbered}
 use Rattle.gx_law_sessions.specs.Rest.{EachMark}
 use Rattle.gx_law_sessions.specs.Standing.{AreSessions, HasSnapshot, Owns, is_busy, level_in, state_in}
 use Rattle.gx_law_sessions.proofs.Said.{CalmFor}

@@ -14,9 +14,9 @@ use Rattle.gx_tree.specs.declared.schema.Dist.TheVariants.{By, Randomly}
 use Rattle.gx_tree.specs.declared.value.Value.{Value}
 use Rattle.gx_tree.specs.declared.value.Value.TheVariants.{Int, Text}
 use Rattle.gx_dtx.specs.Nodes.{has, without}
-use Rattle.gx_place.specs.Place.{hash_of, key_place, remainder, row_place, value_place}
-use Rattle.gx_plan.specs.Plan.{insert_pieces, nodes_from, row_pieces, rows_at}
-use Rattle.gx_plan.specs.declared.piece.Piece.{Piece}
+use Rattle.gx_meaning.specs.Place.{hash_of, key_place, remainder, row_place, value_place}
+use Rattle.gx_meaning.specs.Plan.{insert_pieces, nodes_from, row_pieces, rows_at}
+use Rattle.gx_meaning.specs.declared.piece.Piece.{Piece}
 use Rattle.gx_rules.specs.AtCoordinator.{nodes_in}
 use Rattle.gx_law_order.proofs.Lists.{Each}
 use Rattle.gx_law_commit.proofs.Nodes.{has-append, has-without}

@@ -11,7 +11,7 @@ use Rattle.gx_store.specs.declared.run.Step.{Step}
 use Rattle.gx_store.specs.Legal.{AreLegalSteps}
 use Rattle.gx_store.specs.Points.{Point}
 use Rattle.gx_rules.specs.Machine.{world_of}
-use Rattle.gx_law_sessions.specs.Orders.{AreLinesNumbered}
+use Rattle.gx_store.specs.Language.{AreLinesNumbered}
 use Rattle.gx_law_sessions.specs.Rest.{AreRestLegal, EachMark, Rest, RestAnswer}
 use Rattle.gx_law_sessions.proofs.World.{legal-with-rest}
 use Rattle.gx_law_writes.specs.Inserts.{AreInsertsTold, InsertTold, IsInsertTold}

@@ -35,7 +35,8 @@ use Rattle.gx_store.proofs.Marks.{has_snapshot-append, is_aborted-append, is_end
 use Rattle.gx_rules.specs.Machine.{World}
 use Rattle.gx_rules.specs.Sending.{counted, numbered}
 use Rattle.gx_law_order.proofs.Lists.{Each, each_append}
-use Rattle.gx_law_sessions.specs.Orders.{AreLinesNumbered, IsOrder, IsReadBy, IsServed, level_by, level_of_began}
+use Rattle.gx_law_sessions.specs.Orders.{IsOrder, IsReadBy, IsServed, level_by, level_of_began}
+use Rattle.gx_store.specs.Language.{AreLinesNumbered}
 use Rattle.gx_law_sessions.specs.Rest.{EachMark}
 use Rattle.gx_law_sessions.specs.Standing.{IsFirst, is_busy, state_in}
 use Rattle.gx_law_sessions.proofs.Said.{CalmFor}

@@ -11,10 +11,10 @@ use Rattle.gx_tree.specs.declared.expr.Expr.{Expr}
 use Rattle.gx_tree.specs.declared.row.KeyedRow.{KeyedRow}
 use Rattle.gx_tree.specs.declared.stmt.Stmt.TheVariants as stmt
 use Rattle.gx_tree.specs.declared.value.Value.{Value}
-use Rattle.gx_eval.specs.declared.fault.ArithFault.{ArithFault}
-use Rattle.gx_place.specs.Place.{row_place}
-use Rattle.gx_plan.specs.Constants.{keyed, values_of}
-use Rattle.gx_plan.specs.Plan.{rows_at}
+use Rattle.gx_meaning.specs.declared.fault.ArithFault.{ArithFault}
+use Rattle.gx_meaning.specs.Place.{row_place}
+use Rattle.gx_meaning.specs.Constants.{keyed, values_of}
+use Rattle.gx_meaning.specs.Plan.{rows_at}
 use Rattle.gx_script.specs.declared.Script.{Script}
 use Rattle.gx_store.specs.declared.mark.Mark.{Mark}
 use Rattle.gx_store.specs.Lines.{stmt_of_command}

@@ -24,7 +24,8 @@ use Rattle.gx_store.specs.Messages.{IsSending}
 use Rattle.gx_store.proofs.Marks.{is_written-append}
 use Rattle.gx_rules.specs.Segments.{Local}
 use Rattle.gx_law_order.proofs.Lists.{Each, each_weaker}
-use Rattle.gx_law_sessions.specs.Orders.{AreLinesNumbered, IsOrder}
+use Rattle.gx_law_sessions.specs.Orders.{IsOrder}
+use Rattle.gx_store.specs.Language.{AreLinesNumbered}
 use Rattle.gx_law_sessions.proofs.Outs.{order-more}
 
 abbrev pub IsWritten : List Mark → KeyedRow → Type 0

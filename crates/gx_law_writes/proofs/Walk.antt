@@ -8,6 +8,7 @@ use Rattle.gx_ids.specs.declared.ids.Gxid.{Gxid}
 use Rattle.gx_ids.specs.declared.ids.Node.{Node}
 use Rattle.gx_ids.specs.declared.ids.SessionId.{SessionId}
 use Rattle.gx_ids.specs.declared.ids.Table.{Table}
+use Rattle.gx_modes.specs.declared.modes.Mode.{Mode}
 use Rattle.gx_tree.specs.declared.expr.Expr.{Expr}
 use Rattle.gx_tree.specs.declared.part.Part.{Part as QueryPart}
 use Rattle.gx_tree.specs.declared.stmt.Level.{Level}
@@ -20,7 +21,7 @@ use Rattle.gx_dtx.specs.Rules.{Turn, on_abort, on_commit, on_reply}
 use Rattle.gx_dtx.specs.Table.{horizon_of}
 use Rattle.gx_dtx.specs.declared.outcome.Outcome.{Outcome}
 use Rattle.gx_dtx.specs.declared.outcome.Outcome.TheVariants as outcome
-use Rattle.gx_eval.specs.declared.fault.ArithFault.{ArithFault}
+use Rattle.gx_meaning.specs.declared.fault.ArithFault.{ArithFault}
 use Rattle.gx_msg.specs.declared.message.Envelope.{Envelope}
 use Rattle.gx_msg.specs.declared.message.Message.{Message}
 use Rattle.gx_msg.specs.declared.message.Message.TheVariants as message
@@ -28,8 +29,8 @@ use Rattle.gx_msg.specs.declared.message.Out.{Out}
 use Rattle.gx_msg.specs.declared.reply.Cause.{Cause}
 use Rattle.gx_msg.specs.declared.reply.Reply.{Reply}
 use Rattle.gx_msg.specs.declared.reply.Reply.TheVariants as reply
-use Rattle.gx_plan.specs.Plan.{plan_of}
-use Rattle.gx_plan.specs.declared.piece.Piece.{Piece}
+use Rattle.gx_meaning.specs.Plan.{plan_of}
+use Rattle.gx_meaning.specs.declared.piece.Piece.{Piece}
 use Rattle.gx_script.specs.declared.Script.{Script}
 use Rattle.gx_session.specs.Session.{after_line, idle_outside, line_step}
 use Rattle.gx_session.specs.declared.line_step.LineStep.{LineStep}
@@ -281,7 +282,7 @@ module _ (script : Script) (c : Coord) (x : NodeEvent) where
     reads-old cid line None e = reads-new cid line
     reads-old cid line (Some y) e = record { works = others; level = refl; marks = tt; read = λ t tuples f. inr (y, e) }
 
-    reads-lock : (cid : Cid) (t : Table) (m : ℕ) → Reads cid (stmt.Lock t m) (record { coord = c1; snapshot = None; marks = [] })
+    reads-lock : (cid : Cid) (t : Table) (m : Mode) → Reads cid (stmt.Lock t m) (record { coord = c1; snapshot = None; marks = [] })
     reads-lock cid t m = record { works = others; level = refl; marks = tt; read = λ u tuples e. absurd (differ u tuples e) }
       where
         differ : (u : Table) (tuples : List (List Expr)) → stmt.Lock t m ≡ stmt.Insert u tuples → ⊥

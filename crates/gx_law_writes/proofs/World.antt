@@ -34,7 +34,7 @@ use Rattle.gx_law_order.proofs.Letters.{IsFound, IsLetter, found_is}
 use Rattle.gx_law_order.proofs.Lists.{Each, each_append, each_weaker}
 use Rattle.gx_law_order.proofs.Ordered.{Well, at_coordinator, never_resumes}
 use Rattle.gx_law_order.proofs.World.{marks-last}
-use Rattle.gx_law_sessions.specs.Orders.{AreLinesNumbered}
+use Rattle.gx_store.specs.Language.{AreLinesNumbered}
 use Rattle.gx_law_sessions.specs.Rest.{EachMark}
 use Rattle.gx_law_sessions.proofs.Given.{marks-append}
 use Rattle.gx_law_sessions.proofs.Outs.{MessageIs}

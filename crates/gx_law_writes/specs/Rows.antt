@@ -12,8 +12,8 @@ use Rattle.gx_tree.specs.declared.stmt.Stmt.TheVariants as stmt
 use Rattle.gx_tree.specs.declared.value.Value.{Value}
 use Rattle.gx_msg.specs.declared.message.Message.{Message}
 use Rattle.gx_msg.specs.declared.message.Message.TheVariants as message
-use Rattle.gx_plan.specs.Constants.{keyed, rows_of, values_of}
-use Rattle.gx_plan.specs.Plan.{rows_at}
+use Rattle.gx_meaning.specs.Constants.{keyed, rows_of, values_of}
+use Rattle.gx_meaning.specs.Plan.{rows_at}
 use Rattle.gx_script.specs.declared.Script.{Script}
 use Rattle.gx_store.specs.declared.mark.Mark.{Mark}
 use Rattle.gx_store.specs.Lines.{stmt_of_command}

@@ -12,7 +12,7 @@ use gx_tree::Txt;
 use std::alloc::Global;
 
 /// What the reader is in.
-#[derive(Debug, Drop)]
+#[derive(Drop)]
 enum Mid {
     Gap,
     InWord(Vec<u8>, bool),

@@ -1,7 +1,7 @@
 use gx_waits::Claim;
 
 /// A lock that is held. Later holds have greater numbers.
-#[derive(Clone, Copy, Debug, PartialEq, Eq)]
+#[derive(Clone, Copy)]
 pub struct Hold {
     pub number: u64,
     pub claim: Claim,

@@ -11,7 +11,7 @@ use gx_waits::Claim;
 use std::alloc::Global;
 
 /// A place in the ledger: a hold, and whether it still stands.
-#[derive(Clone, Copy, Debug, PartialEq, Eq)]
+#[derive(Clone, Copy)]
 pub struct Slot {
     pub hold: Hold,
     pub stands: bool,

@@ -15,7 +15,8 @@ use Rattle.gx_msg.specs.declared.mid.Field.{Field}
 use Rattle.gx_msg.specs.declared.mid.Field.TheVariants as field
 use Rattle.gx_msg.specs.declared.mid.Mid.{Mid}
 use Rattle.gx_msg.specs.declared.mid.Mid.TheVariants as mid
-use Rattle.gx_msg.specs.ItemBytes.{bytes_of_byte, bytes_of_value, line_of_kept, bytes_of_item}
+use Rattle.gx_text.specs.Quoted.{quoted_byte}
+use Rattle.gx_msg.specs.ItemBytes.{bytes_of_value, line_of_kept, bytes_of_item}
 use Rattle.gx_msg.specs.Reading.{Each, IsValue, IsKept, IsItem}
 use Rattle.gx_msg.specs.Steps.{name_of_listed, name_of_lone, letters_of, most, is_negative}
 
@@ -65,8 +66,8 @@ printed mid.Start = []
 printed (mid.Word w place) = front_of_word w ++ take place (letters_of w)
 printed (mid.Digits f n) = front_of f ++ digits_of n
 printed (mid.Value spot values) = front_of_values spot values
-printed (mid.Text spot values text) = front_of_values spot values ++ (39 ∷ flat_map bytes_of_byte text)
-printed (mid.Quoted spot values text) = front_of_values spot values ++ (39 ∷ (flat_map bytes_of_byte text ++ 39 ∷ []))
+printed (mid.Text spot values text) = front_of_values spot values ++ (39 ∷ flat_map quoted_byte text)
+printed (mid.Quoted spot values text) = front_of_values spot values ++ (39 ∷ (flat_map quoted_byte text ++ 39 ∷ []))
 printed (mid.Done i) = bytes_of_item i
 
 pub record IsRows (rows : Rows) : Type 0 where

@@ -21,7 +21,8 @@ use Rattle.gx_msg.specs.declared.mid.Word.TheVariants as word
 use Rattle.std.proofs.lemmas.Grind.{flat_map-append}
 use Rattle.std.proofs.lemmas.List.{take_all}
 use Rattle.std.proofs.lemmas.Option.{none-some, same_Some}
-use Rattle.gx_msg.specs.ItemBytes.{bytes_of_byte, bytes_of_value, behind_bar, bytes_of_row, bytes_of_image}
+use Rattle.gx_text.specs.Quoted.{quoted_byte}
+use Rattle.gx_msg.specs.ItemBytes.{bytes_of_value, behind_bar, bytes_of_row, bytes_of_image}
 use Rattle.gx_msg.specs.Reading.{Each, IsValue, IsImage, IsKept}
 use Rattle.gx_msg.specs.Steps.{letters_of, listed_item, lone_item, rows_from, line_ended, value_ended, int_ended, signed, at, grown, within, is_digit, is_negative, most, digits_on, number_ended, next_digit, word_ended, letter_is, next_letter, begin, begin_value, next}
 use Rattle.gx_msg.proofs.Choices.{pick, if_false, same_number, by_le, by_lt, digit_bounds, decimal-more, decimal-first}
@@ -245,10 +246,10 @@ keeps_begun spot values b is all =
     and_right : (a c : Bool) → (a && c) ≡ true → c ≡ true
     and_right a c e = grind arith
 
-text_more : (front text : List ℕ) (b : ℕ) (bs : List ℕ) → bytes_of_byte b ≡ bs → front ++ (39 ∷ flat_map bytes_of_byte (text ++ b ∷ [])) ≡ (front ++ (39 ∷ flat_map bytes_of_byte text)) ++ bs
+text_more : (front text : List ℕ) (b : ℕ) (bs : List ℕ) → quoted_byte b ≡ bs → front ++ (39 ∷ flat_map quoted_byte (text ++ b ∷ [])) ≡ (front ++ (39 ∷ flat_map quoted_byte text)) ++ bs
 text_more front text b bs e =
-    ap (λ (x : List ℕ). front ++ (39 ∷ x)) (flat_map-append bytes_of_byte text (b ∷ []) ∙ ap (λ (x : List ℕ). flat_map bytes_of_byte text ++ x) (append-nil (bytes_of_byte b) ∙ e))
-    ∙ sym (append_assoc front (39 ∷ flat_map bytes_of_byte text) bs)
+    ap (λ (x : List ℕ). front ++ (39 ∷ x)) (flat_map-append quoted_byte text (b ∷ []) ∙ ap (λ (x : List ℕ). flat_map quoted_byte text ++ x) (append-nil (quoted_byte b) ∙ e))
+    ∙ sym (append_assoc front (39 ∷ flat_map quoted_byte text) bs)
 
 pub keeps : (m : Mid) (b : ℕ) → IsMid m → Keeps (printed m) b (next m b)
 keeps mid.Start b is = keeps_begin b
@@ -256,14 +257,14 @@ keeps (mid.Word w place) b is = keeps_letter w place b is.0
 keeps (mid.Digits f n) b is = keeps_digit f n b is.0 is.1
 keeps (mid.Value spot values) b is = keeps_begun spot values b is.0 is.1
 keeps (mid.Text spot values text) b is =
-    let front : List ℕ = front_of_values spot values ++ (39 ∷ flat_map bytes_of_byte text) in
+    let front : List ℕ = front_of_values spot values ++ (39 ∷ flat_map quoted_byte text) in
     pick (λ (x : Option Mid). Keeps front b x) (b == 39) _ _
-    (λ e. (is, sym (append_assoc (front_of_values spot values) (39 ∷ flat_map bytes_of_byte text) (39 ∷ [])) ∙ ap (λ (x : ℕ). front ++ x ∷ []) (sym (same_number b 39 e))))
+    (λ e. (is, sym (append_assoc (front_of_values spot values) (39 ∷ flat_map quoted_byte text) (39 ∷ [])) ∙ ap (λ (x : ℕ). front ++ x ∷ []) (sym (same_number b 39 e))))
     (λ e. (is, text_more (front_of_values spot values) text b (b ∷ []) (if_false (b == 39) _ _ e)))
 keeps (mid.Quoted spot values text) b is =
-    let front : List ℕ = front_of_values spot values ++ (39 ∷ (flat_map bytes_of_byte text ++ 39 ∷ [])) in
+    let front : List ℕ = front_of_values spot values ++ (39 ∷ (flat_map quoted_byte text ++ 39 ∷ [])) in
     pick (λ (x : Option Mid). Keeps front b x) (b == 39) _ _
-    (λ e. (is, text_more (front_of_values spot values) text 39 (39 ∷ 39 ∷ []) refl ∙ quotes (front_of_values spot values) (flat_map bytes_of_byte text) ∙ ap (λ (x : ℕ). front ++ x ∷ []) (sym (same_number b 39 e))))
+    (λ e. (is, text_more (front_of_values spot values) text 39 (39 ∷ 39 ∷ []) refl ∙ quotes (front_of_values spot values) (flat_map quoted_byte text) ∙ ap (λ (x : ℕ). front ++ x ∷ []) (sym (same_number b 39 e))))
     (λ e. keeps_value spot values (value.Text text) b is.0 is.1 tt)
   where
     quotes : (a t : List ℕ) → (a ++ (39 ∷ t)) ++ 39 ∷ 39 ∷ [] ≡ (a ++ (39 ∷ (t ++ 39 ∷ []))) ++ 39 ∷ []

@@ -20,10 +20,11 @@ use Rattle.gx_msg.specs.declared.mid.Field.{Field}
 use Rattle.gx_msg.specs.declared.mid.Field.TheVariants as field
 use Rattle.gx_msg.specs.declared.mid.Mid.{Mid}
 use Rattle.gx_msg.specs.declared.mid.Mid.TheVariants as mid
-use Rattle.gx_msg.specs.ItemBytes.{bytes_of_byte, bytes_of_value, behind_bar, bytes_of_image, line_of_kept, lines_of_rows, bytes_of_item}
+use Rattle.gx_text.specs.Quoted.{quoted_byte}
+use Rattle.gx_msg.specs.ItemBytes.{bytes_of_value, behind_bar, bytes_of_image, line_of_kept, lines_of_rows, bytes_of_item}
 use Rattle.gx_msg.specs.Reading.{Each, IsValue, IsImage, IsKept, IsItem}
 use Rattle.gx_msg.specs.Steps as Steps
-use Rattle.gx_msg.specs.Steps.{listed_item, lone_item, rows_from, line_ended, value_ended, number_ended, int_ended, signed, is_negative, most, within, grown, is_digit, digits_on, next}
+use Rattle.gx_msg.specs.Steps.{listed_item, lone_item, rows_from, line_ended, value_ended, number_ended, int_ended, is_negative, most, within, grown, is_digit, digits_on, next}
 use Rattle.gx_msg.proofs.Choices.{if_true, if_false, same_number}
 use Rattle.gx_msg.proofs.Runs.{onward, run, run-append}
 use Rattle.gx_msg.proofs.Ending.{below, rows_more}
@@ -91,10 +92,10 @@ module _ (spot : Spot) where
   byte_by values acc b true e = ap (λ (x : ℕ). Some (mid.Text spot values (acc ++ x ∷ []))) (sym (same_number b 39 e))
   byte_by values acc b false e = one_step b (mid.Text spot values acc) (mid.Text spot values (acc ++ b ∷ [])) (if_false (b == 39) _ _ e)
 
-  text_fed : (values : List Value) (t acc : List ℕ) → run (flat_map bytes_of_byte t) (mid.Text spot values acc) ≡ Some (mid.Text spot values (acc ++ t))
+  text_fed : (values : List Value) (t acc : List ℕ) → run (flat_map quoted_byte t) (mid.Text spot values acc) ≡ Some (mid.Text spot values (acc ++ t))
   text_fed values [] acc = ap (λ (x : List ℕ). Some (mid.Text spot values x)) (sym (append-nil acc))
   text_fed values (b ∷ t) acc =
-      join (bytes_of_byte b) (flat_map bytes_of_byte t) (mid.Text spot values acc) (mid.Text spot values (acc ++ b ∷ [])) (mid.Text spot values ((acc ++ b ∷ []) ++ t)) (byte_by values acc b (b == 39) refl) (text_fed values t (acc ++ b ∷ []))
+      join (quoted_byte b) (flat_map quoted_byte t) (mid.Text spot values acc) (mid.Text spot values (acc ++ b ∷ [])) (mid.Text spot values ((acc ++ b ∷ []) ++ t)) (byte_by values acc b (b == 39) refl) (text_fed values t (acc ++ b ∷ []))
       ∙ ap (λ (x : List ℕ). Some (mid.Text spot values x)) (append_assoc acc (b ∷ []) t)
 
   -- a value that begins with a digit is a number
@@ -118,7 +119,7 @@ module _ (spot : Spot) where
   value_fed : (values : List Value) (v : Value) (e : ℕ) → IsValue v → (e == 39) ≡ false → is_digit e ≡ false → run (bytes_of_value v ++ e ∷ []) (mid.Value spot values) ≡ value_ended spot (values ++ v ∷ []) e
   value_fed values (value.Text t) e is q d =
       run-append (bytes_of_value (value.Text t)) (e ∷ []) (mid.Value spot values)
-      ∙ ap (onward (run (e ∷ []))) (join (39 ∷ flat_map bytes_of_byte t) (39 ∷ []) (mid.Value spot values) (mid.Text spot values t) (mid.Quoted spot values t) (text_fed values t []) refl)
+      ∙ ap (onward (run (e ∷ []))) (join (39 ∷ flat_map quoted_byte t) (39 ∷ []) (mid.Value spot values) (mid.Text spot values t) (mid.Quoted spot values t) (text_fed values t []) refl)
       ∙ then_some (next (mid.Quoted spot values t) e)
       ∙ if_false (e == 39) _ _ q
   value_fed values (value.Int (pos n)) e is q d =

@@ -1,23 +1,20 @@
 -- A journal item as bytes: lines, each ended by a line feed.
-use Rattle.std.specs.Prelude.{ℕ, ◌==◌, if◌then◌else◌, List, [], ◌∷◌, ◌++◌, length, codes, Option, None, Some}
+use Rattle.std.specs.Prelude.{ℕ, List, [], ◌∷◌, ◌++◌, length, codes, Option, None, Some}
 use Rattle.std.specs.List.{flat_map}
 use Rattle.std.specs.Fmt.{decimal, signed_decimal}
 use Rattle.gx_ids.specs.Rid.{text_of}
 use Rattle.gx_ids.specs.declared.ids.Gxid.{Gxid}
+use Rattle.gx_text.specs.Quoted.{quoted}
 use Rattle.gx_tree.specs.declared.value.Value.{Value}
 use Rattle.gx_tree.specs.declared.value.Value.TheVariants.{Int, Text}
 use Rattle.gx_msg.specs.declared.item.JournalItem.{JournalItem}
 use Rattle.gx_msg.specs.declared.item.JournalItem.TheVariants.{Prepare, Commit, Finish, Decide}
 use Rattle.gx_msg.specs.declared.item.Kept.{Kept}
 
--- a quote is doubled
-abbrev pub bytes_of_byte : ℕ → List ℕ
-bytes_of_byte b = if b == 39 then codes "''" else b ∷ []
-
 -- a number in decimal, a text in single quotes
 abbrev pub bytes_of_value : Value → List ℕ
 bytes_of_value (Int z) = signed_decimal z
-bytes_of_value (Text t) = codes "'" ++ flat_map bytes_of_byte t ++ codes "'"
+bytes_of_value (Text t) = quoted t
 
 abbrev pub behind_bar : Value → List ℕ
 behind_bar value = codes "|" ++ bytes_of_value value

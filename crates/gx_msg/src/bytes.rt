@@ -1,45 +1,21 @@
 // A journal item as bytes.
 ghost use Rattle.std.specs.Prelude.{◌≡◌, ◌++◌, OnOk, IfOk, codes};
-ghost use Rattle.std.specs.List.{flat_map};
 ghost use Rattle.std.specs.Fmt.{decimal};
 ghost use Rattle.gx_ids.specs.Rid.{text_of};
-ghost use Rattle.gx_msg.specs.ItemBytes.{bytes_of_byte, bytes_of_value, bytes_of_row, bytes_of_image, line_of_kept, lines_of_rows, bytes_of_item};
+ghost use Rattle.gx_msg.specs.ItemBytes.{bytes_of_value, bytes_of_row, bytes_of_image, line_of_kept, lines_of_rows, bytes_of_item};
 
 use crate::item::{JournalItem, Kept};
-use crate::push::{push_bytes, push_integer, push_number};
 use gx_ids::{Gxid, Mem, Rid};
+use gx_text::{push_bytes, push_count, push_integer, push_quoted};
 use gx_tree::{Row, Value};
 use std::alloc::Global;
-
-fn push_byte(text: &mut Vec<u8>, byte: u8) -> Mem<()>
-    ensures { OnOk result (text.new.items ≡ text.old.items ++ bytes_of_byte byte) }
-{
-    if byte == b'\'' {
-        push_bytes(text, b"''")
-    } else {
-        push_bytes(text, &[byte])
-    }
-}
-
-fn push_inner(text: &mut Vec<u8>, bytes: &[u8]) -> Mem<()>
-    ensures { OnOk result (text.new.items ≡ text.old.items ++ flat_map bytes_of_byte bytes.now) }
-{
-    for byte in bytes {
-        push_byte(text, *byte)?;
-    }
-    Ok(())
-}
 
 fn push_value(text: &mut Vec<u8>, value: &Value) -> Mem<()>
     ensures { OnOk result (text.new.items ≡ text.old.items ++ bytes_of_value value.now) }
 {
     match value {
-        Value::Int(number) => push_integer(text, *number),
-        Value::Text(bytes) => {
-            push_bytes(text, b"'")?;
-            push_inner(text, bytes.as_slice())?;
-            push_bytes(text, b"'")
-        }
+        Value::Int(number) => push_integer(text, i128::from(*number)),
+        Value::Text(bytes) => push_quoted(text, bytes.as_slice()),
     }
 }
 
@@ -69,11 +45,11 @@ fn push_image(text: &mut Vec<u8>, image: &Option<Row>) -> Mem<()>
 fn push_rid(text: &mut Vec<u8>, rid: &Rid) -> Mem<()>
     ensures { OnOk result (text.new.items ≡ text.old.items ++ text_of rid.now) }
 {
-    push_number(text, rid.gxid.0)?;
+    push_count(text, u128::from(rid.gxid.0))?;
     push_bytes(text, b".")?;
-    push_number(text, u64::from(rid.cid.0))?;
+    push_count(text, u128::from(rid.cid.0))?;
     push_bytes(text, b".")?;
-    push_number(text, u64::from(rid.ordinal))
+    push_count(text, u128::from(rid.ordinal))
 }
 
 fn push_kept(text: &mut Vec<u8>, kept: &Kept) -> Mem<()>
@@ -81,7 +57,7 @@ fn push_kept(text: &mut Vec<u8>, kept: &Kept) -> Mem<()>
 {
     push_rid(text, &kept.rid)?;
     push_bytes(text, b" ")?;
-    push_number(text, u64::from(kept.table.0))?;
+    push_count(text, u128::from(kept.table.0))?;
     push_bytes(text, b" ")?;
     push_image(text, &kept.image)?;
     push_bytes(text, b"\n")
@@ -90,9 +66,9 @@ fn push_kept(text: &mut Vec<u8>, kept: &Kept) -> Mem<()>
 fn push_rows(text: &mut Vec<u8>, gxid: Gxid, rows: &[Kept]) -> Mem<()>
     ensures { OnOk result (text.new.items ≡ text.old.items ++ lines_of_rows gxid rows.now) }
 {
-    push_number(text, gxid.0)?;
+    push_count(text, u128::from(gxid.0))?;
     push_bytes(text, b" ")?;
-    push_number(text, rows.len() as u64)?;
+    push_count(text, rows.len() as u128)?;
     push_bytes(text, b"\n")?;
     for kept in rows {
         push_kept(text, kept)?;
@@ -104,7 +80,7 @@ fn push_line(text: &mut Vec<u8>, name: &[u8], gxid: Gxid) -> Mem<()>
     ensures { OnOk result (text.new.items ≡ text.old.items ++ name.now ++ decimal gxid.0 ++ codes "\n") }
 {
     push_bytes(text, name)?;
-    push_number(text, gxid.0)?;
+    push_count(text, u128::from(gxid.0))?;
     push_bytes(text, b"\n")
 }
 

@@ -5,7 +5,6 @@ pub mod bytes;
 pub mod item;
 pub mod message;
 mod mid;
-mod push;
 pub mod read;
 pub mod reply;
 mod step;

@@ -4,21 +4,21 @@ use gx_ids::{Cid, Gxid, Rid, Seq, Table};
 use gx_tree::Value;
 
 // An item with rows.
-#[derive(Clone, Copy, Debug)]
+#[derive(Clone, Copy)]
 pub(crate) enum Listed {
     Prepare,
     Commit,
 }
 
 // An item without rows.
-#[derive(Clone, Copy, Debug)]
+#[derive(Clone, Copy)]
 pub(crate) enum Lone {
     Finish,
     Decide,
 }
 
 // The rows that are read, and how many come behind the one that is being read.
-#[derive(Debug, Drop)]
+#[derive(Drop)]
 pub(crate) struct Rows {
     pub(crate) listed: Listed,
     pub(crate) gxid: Gxid,
@@ -27,7 +27,7 @@ pub(crate) struct Rows {
 }
 
 // A row's line, before its image.
-#[derive(Debug, Drop)]
+#[derive(Drop)]
 pub(crate) struct Spot {
     pub(crate) rows: Rows,
     pub(crate) rid: Rid,
@@ -35,7 +35,7 @@ pub(crate) struct Spot {
 }
 
 // Letters that stand as they are: an item's name with the space behind it, or an image that is gone with the line's end.
-#[derive(Debug, Drop)]
+#[derive(Drop)]
 pub(crate) enum Word {
     Listed(Listed),
     Lone(Lone),
@@ -44,7 +44,7 @@ pub(crate) enum Word {
 
 // What a number is: the item's transaction, the count of its rows, a part of a row's identity, a row's table, or a value
 // that is negative or not, behind others.
-#[derive(Debug, Drop)]
+#[derive(Drop)]
 pub(crate) enum Field {
     Listed(Listed),
     Lone(Lone),
@@ -58,7 +58,7 @@ pub(crate) enum Field {
 
 // What the reader is in. A word has the number of its letters that are read, a text the bytes of it, and a quote in a
 // text may be its end or the first of two.
-#[derive(Debug, Drop)]
+#[derive(Drop)]
 pub(crate) enum Mid {
     Start,
     Word(Word, usize),

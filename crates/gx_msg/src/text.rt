@@ -1,12 +1,11 @@
 // The text of a message in a trace.
 ghost use Rattle.std.specs.Prelude.{◌≡◌, ◌++◌, OnOk, IfOk};
-ghost use Rattle.std.specs.Fmt.{decimal};
 ghost use Rattle.gx_msg.specs.MessageText.{text_of_message, text_of_reply, named, named_command};
 
 use crate::message::Message;
-use crate::push::{push_bytes, push_number};
 use crate::reply::Reply;
 use gx_ids::{Cid, Gxid, Mem};
+use gx_text::{push_bytes, push_count};
 use std::alloc::Global;
 
 // Adds a name and its number.
@@ -15,7 +14,7 @@ fn push_named(text: &mut Vec<u8>, name: &[u8], number: u64) -> Mem<()>
 {
     push_bytes(text, name)?;
     push_bytes(text, b" ")?;
-    push_number(text, number)
+    push_count(text, u128::from(number))
 }
 
 // Adds a name, its transaction and its command.
@@ -24,7 +23,7 @@ fn push_command(text: &mut Vec<u8>, name: &[u8], gxid: Gxid, cid: Cid) -> Mem<()
 {
     push_named(text, name, gxid.0)?;
     push_bytes(text, b" ")?;
-    push_number(text, u64::from(cid.0))
+    push_count(text, u128::from(cid.0))
 }
 
 fn push_reply(text: &mut Vec<u8>, gxid: Gxid, reply: &Reply) -> Mem<()>

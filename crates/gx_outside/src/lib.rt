@@ -9,7 +9,7 @@ pub mod source;
 pub mod streams;
 pub mod whole;
 
-pub use gate::{Gate, PassGate};
+pub use gate::{Gate, PassGate, Passed, pass};
 pub use journal::{AppendFault, Journal};
 pub use memory::{JournalMem, SinkMem, SourceMem};
 pub use sink::Sink;

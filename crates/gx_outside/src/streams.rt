@@ -1,5 +1,5 @@
-// The standard streams as a source and a sink: the trusted edge, which tells no content.
-ghost use Rattle.std.specs.Prelude.{None, ◌≡◌};
+// The standard streams as a source and a sink: their bytes are those that the reader has left and the writer holds.
+ghost use Rattle.std.specs.Prelude.{◌≡◌};
 
 use crate::sink::Sink;
 use crate::source::{Failed, Source};
@@ -22,7 +22,7 @@ impl<R: Read> StdinSource<R> {
 }
 
 impl<R: Read> Source for StdinSource<R> {
-    ghost left = { λ _. None };
+    ghost left = { λ source. R.remaining source.reader };
 
     ghost fault_count = { λ source. source.faults };
 
@@ -58,7 +58,7 @@ impl<W: Write> StdoutSink<W> {
 }
 
 impl<W: Write> Sink for StdoutSink<W> {
-    ghost written = { λ _. None };
+    ghost written = { λ sink. W.contents sink.writer };
 
     ghost fault_count = { λ sink. sink.faults };
 

@@ -17,11 +17,11 @@ use Rattle.gx_tree.specs.declared.cond.Cond.{Cond, map-Cond}
 use Rattle.gx_tree.specs.declared.cond.Cond.TheOpen.{Cond-F}
 use Rattle.gx_tree.specs.declared.cond.Cond.TheViews.{roll-Cond}
 use Rattle.gx_tree.specs.declared.cond.Cond.TheFolds.{fold-roll-Cond, ind-Cond}
-use Rattle.gx_eval.specs.Meaning.{truth_of, truth_step, and_then, value_of, order_of, column_of}
-use Rattle.gx_eval.specs.declared.fault.ArithFault.{ArithFault}
-use Rattle.gx_eval.proofs.Nodes.{value_of-lit, value_of-col}
-use Rattle.gx_place.specs.Target.{IsFalseOutside, key_of, key_step, key_target, literal_of, target_of}
-use Rattle.gx_place.specs.Place.{key_place}
+use Rattle.gx_meaning.specs.Expressions.{truth_of, truth_step, and_then, value_of, order_of, column_of}
+use Rattle.gx_meaning.specs.declared.fault.ArithFault.{ArithFault}
+use Rattle.gx_meaning.proofs.Nodes.{value_of-lit, value_of-col}
+use Rattle.gx_meaning.specs.Target.{IsFalseOutside, key_of, key_step, key_target, literal_of, target_of}
+use Rattle.gx_meaning.specs.Place.{key_place}
 
 same_value : (a b : Value) → value_order a b ≡ Equal → a ≡ b
 same_value (Int m) (Int n) h = ap Int (exact_signed m n h)

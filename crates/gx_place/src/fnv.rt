@@ -1,5 +1,5 @@
 ghost use Rattle.std.specs.Prelude.{◌≡◌};
-ghost use Rattle.gx_place.specs.Place.{hash_of};
+ghost use Rattle.gx_meaning.specs.Place.{hash_of};
 
 const START: u64 = 14695981039346656037;
 

@@ -3,9 +3,7 @@
 
 mod fnv;
 mod placement;
-mod segments;
 mod targets;
 
 pub use placement::{place, place_value};
-pub use segments::Target;
 pub use targets::target;

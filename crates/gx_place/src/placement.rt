@@ -1,5 +1,5 @@
 ghost use Rattle.std.specs.Prelude.{◌≡◌, ◌≤◌, ◌<◌, ◌%◌, ◌+◌};
-ghost use Rattle.gx_place.specs.Place.{IsWithin, remainder, row_place, value_place};
+ghost use Rattle.gx_meaning.specs.Place.{IsWithin, remainder, row_place, value_place};
 
 use crate::fnv::hash;
 use gx_ids::{Node, Rid};

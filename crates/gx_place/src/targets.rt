@@ -1,9 +1,9 @@
 ghost use Rattle.std.specs.Prelude.{◌≡◌, ◌≤◌};
 ghost use Rattle.std.specs.Option.{option_copied};
-ghost use Rattle.gx_place.specs.Target.{IsFalseOutside, key_of, key_target, literal_of, target_of};
+ghost use Rattle.gx_meaning.specs.Target.{IsFalseOutside, key_of, key_target, literal_of, target_of};
 
 use crate::placement::place_value;
-use crate::segments::Target;
+use gx_meaning::Target;
 use gx_tree::{CmpOp, Cond, Dist, Expr, Schema, Value};
 
 /// The target of a condition among `n` segments: one segment where the leftmost conjunct of its top-level AND chain sets

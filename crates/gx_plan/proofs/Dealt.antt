@@ -11,10 +11,10 @@ use Rattle.gx_tree.specs.declared.slice.Slice.TheVariants as slice
 use Rattle.gx_tree.specs.declared.schema.Dist.{Dist}
 use Rattle.gx_tree.specs.declared.schema.Dist.TheVariants.{By, Randomly}
 use Rattle.gx_tree.specs.declared.value.Value.{Value}
-use Rattle.gx_place.specs.Place.{row_place, IsWithin}
-use Rattle.gx_plan.specs.Constants.{HasKey, constant, values_of}
-use Rattle.gx_plan.specs.Plan.{nodes_from, rows_at, dealt, put_at, row_pieces, bucket_pieces, piece, insert_pieces}
-use Rattle.gx_plan.specs.declared.piece.Piece.{Piece}
+use Rattle.gx_meaning.specs.Place.{row_place, IsWithin}
+use Rattle.gx_meaning.specs.Constants.{HasKey, constant, values_of}
+use Rattle.gx_meaning.specs.Plan.{nodes_from, rows_at, dealt, put_at, row_pieces, bucket_pieces, piece, insert_pieces}
+use Rattle.gx_meaning.specs.declared.piece.Piece.{Piece}
 use Rattle.gx_plan.proofs.Each.{length-each_from}
 
 pub replicate-more : {A : Type 0} (n : ℕ) (x : A) → replicate (n + 1) x ≡ replicate n x ++ x ∷ []

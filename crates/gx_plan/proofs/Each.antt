@@ -1,8 +1,8 @@
 -- What a loop over items knows of what each gives, at an item and at a fault.
 use Rattle.std.proofs.Common.{ℕ, zero, suc, ◌≡◌, ◌∙◌, ◌+◌, ◌<◌, sym, ap, refl, subst, arith, List, [], ◌∷◌, ◌++◌, length, take, get_or, Result, Ok, Err}
-use Rattle.gx_eval.specs.declared.fault.ArithFault.{ArithFault}
-use Rattle.gx_eval.specs.Meaning.{and_then}
-use Rattle.gx_plan.specs.Constants.{each_from}
+use Rattle.gx_meaning.specs.declared.fault.ArithFault.{ArithFault}
+use Rattle.gx_meaning.specs.Expressions.{and_then}
+use Rattle.gx_meaning.specs.Constants.{each_from}
 
 and_then-ok : {A B : Type 0} (r : Result A ArithFault) (next : A → Result B ArithFault) (b : B) → and_then r next ≡ Ok b → (a : A) × (r ≡ Ok a) × (next a ≡ Ok b)
 and_then-ok (Ok a) next b h = (a, refl, h)

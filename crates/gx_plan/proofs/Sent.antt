@@ -2,8 +2,8 @@
 use Rattle.std.proofs.Common.{ℕ, zero, suc, ◌≡◌, ◌∙◌, ◌+◌, sym, ap, arith, List, [], ◌∷◌, ◌++◌}
 use Rattle.std.specs.Prelude.{map}
 use Rattle.gx_tree.specs.declared.slice.Slice.{Slice}
-use Rattle.gx_plan.specs.Plan.{nodes_from, piece}
-use Rattle.gx_plan.specs.declared.piece.Piece.{Piece}
+use Rattle.gx_meaning.specs.Plan.{nodes_from, piece}
+use Rattle.gx_meaning.specs.declared.piece.Piece.{Piece}
 
 sent_from : (s : Slice) (k count : ℕ) → map (piece s) (nodes_from k (suc count)) ≡ map (piece s) (nodes_from k count) ++ piece s (record { 0 = k + count }) ∷ []
 sent_from s k zero = let same : k ≡ k + 0 = omega arith in ap (λ j. piece s (record { 0 = j }) ∷ []) same

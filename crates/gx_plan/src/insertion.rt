@@ -1,15 +1,15 @@
 ghost use Rattle.std.specs.Prelude.{◌≡◌, ◌≤◌, ◌<◌, ◌^◌, [], All, IfOk, OnOk, Ok, Err, List, length, vec_len, replicate, ◌+◌, ◌++◌, ◌∷◌};
 ghost use Rattle.gx_tree.specs.declared.value.Value.{Value};
 ghost use Rattle.gx_tree.specs.declared.row.KeyedRow.{KeyedRow as Keyed};
-ghost use Rattle.gx_eval.specs.declared.fault.ArithFault.{ArithFault};
+ghost use Rattle.gx_meaning.specs.declared.fault.ArithFault.{ArithFault};
 ghost use Rattle.gx_eval.specs.Faults.{eval_fault};
-ghost use Rattle.gx_plan.specs.Constants.{IsTuple, rows_of, values_of};
-ghost use Rattle.gx_plan.specs.Plan.{bucket_pieces, dealt, put_at};
+ghost use Rattle.gx_meaning.specs.Constants.{IsTuple, rows_of, values_of};
+ghost use Rattle.gx_meaning.specs.Plan.{bucket_pieces, dealt, put_at};
 
-use crate::piece::Piece;
 use crate::tuple::tuple_values;
 use gx_eval::EvalFault;
 use gx_ids::{Cid, Gxid, Mem, Node, Rid, Seq, Table};
+use gx_meaning::Piece;
 use gx_place::place;
 use gx_tree::{Expr, KeyedRow, Schema, Slice};
 use std::alloc::Global;
@@ -63,7 +63,8 @@ fn deal(
     requires few { n ≤ 16 }
     requires tuple { IsTuple schema.now.dist tuple.now }
     requires buckets { vec_len buckets.old ≡ n }
-    ensures row { OnOk result ((row : List Value) × (values_of tuple.now ≡ Ok row) × ((rows : List Keyed) → buckets.old.items ≡ dealt n schema.now.dist rows → buckets.new.items ≡ dealt n schema.now.dist (rows ++ record { rid = rid; row = row } ∷ []))) }
+    ensures row { OnOk result ((row : List Value) × (values_of tuple.now ≡ Ok row) × ((rows : List Keyed)
+        → buckets.old.items ≡ dealt n schema.now.dist rows → buckets.new.items ≡ dealt n schema.now.dist (rows ++ record { rid = rid; row = row } ∷ []))) }
     ensures fault { (fault : ArithFault) → result ≡ Err (eval_fault fault) → values_of tuple.now ≡ Err fault }
 {
     let row = tuple_values(alloc, tuple)?;

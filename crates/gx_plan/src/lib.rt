@@ -2,10 +2,8 @@
 #![tactic(auto)]
 
 mod insertion;
-mod piece;
 mod planning;
 mod sending;
 mod tuple;
 
-pub use piece::Piece;
 pub use planning::plan;

@@ -1,13 +1,13 @@
 ghost use Rattle.std.specs.Prelude.{◌≡◌, ◌≤◌, IfOk, Ok, Err};
-ghost use Rattle.gx_eval.specs.declared.fault.ArithFault.{ArithFault};
+ghost use Rattle.gx_meaning.specs.declared.fault.ArithFault.{ArithFault};
 ghost use Rattle.gx_eval.specs.Faults.{eval_fault};
-ghost use Rattle.gx_plan.specs.Plan.{IsCommand, IsSame, plan_of};
+ghost use Rattle.gx_meaning.specs.Plan.{IsCommand, IsSame, plan_of};
 
 use crate::insertion::{dealt_rows, insert_pieces};
-use crate::piece::Piece;
 use crate::sending::{send, send_to_all};
 use gx_eval::EvalFault;
 use gx_ids::{Cid, Duplicate, Gxid, Mem};
+use gx_meaning::Piece;
 use gx_tree::{Schema, Slice, Stmt};
 use std::alloc::Global;
 

@@ -1,12 +1,12 @@
 ghost use Rattle.std.specs.Prelude.{◌≡◌, ◌≤◌, ◌∷◌, [], IfOk};
 ghost use Rattle.std.specs.Option.{option_copied};
-ghost use Rattle.gx_place.specs.Target.{target_of};
-ghost use Rattle.gx_place.specs.declared.segments.Target.TheVariants.{All as AllOfThem};
-ghost use Rattle.gx_plan.specs.Plan.{piece, pieces};
+ghost use Rattle.gx_meaning.specs.Target.{target_of};
+ghost use Rattle.gx_meaning.specs.declared.target.Target.TheVariants.{All as AllOfThem};
+ghost use Rattle.gx_meaning.specs.Plan.{piece, pieces};
 
-use crate::piece::Piece;
 use gx_ids::{Duplicate, Mem, Node};
-use gx_place::{Target, target};
+use gx_meaning::{Piece, Target};
+use gx_place::target;
 use gx_tree::{Cond, Schema, Slice};
 use std::alloc::Global;
 

@@ -1,8 +1,8 @@
 ghost use Rattle.std.specs.Prelude.{◌≡◌, [], All, IfOk, Ok, Err};
-ghost use Rattle.gx_eval.specs.declared.fault.ArithFault.{ArithFault};
+ghost use Rattle.gx_meaning.specs.declared.fault.ArithFault.{ArithFault};
 ghost use Rattle.gx_eval.specs.Faults.{eval_fault};
-ghost use Rattle.gx_eval.specs.Meaning.{value_of};
-ghost use Rattle.gx_plan.specs.Constants.{IsConstant, values_of};
+ghost use Rattle.gx_meaning.specs.Expressions.{value_of};
+ghost use Rattle.gx_meaning.specs.Constants.{IsConstant, values_of};
 
 use gx_eval::{EvalFault, eval};
 use gx_ids::Seq;

@@ -12,7 +12,7 @@ use Rattle.gx_resolve.specs.Results.{◌>>=◌, each}
 use Rattle.gx_resolve.specs.Naming.{Used, item_names, is_column, names_right}
 use Rattle.gx_resolve.specs.Kinding.{column_at}
 use Rattle.gx_resolve.specs.Selecting.{item_as, columns_from, is_aggregate}
-use Rattle.gx_resolve.specs.Rules.{IsOneOf, AreDistinct, column_text}
+use Rattle.gx_meaning.specs.Statements.{IsOneOf, AreDistinct, column_text}
 use Rattle.gx_print.specs.Written.{column_name, item_syn_of}
 use Rattle.gx_print.proofs.Tidied.{column_item}
 use Rattle.gx_print.proofs.Tidying.{same_text}

@@ -1,6 +1,8 @@
 -- Bytes that are cut into tokens before whatever begins with a break.
-use Rattle.std.proofs.Common.{◌≡◌, ◌⊎◌, inl, inr, ⊎_elim, ℕ, ◌+◌, ◌-◌, ◌*◌, ◌/◌, ◌%◌, ◌<◌, ◌≤◌, ◌^◌, ◌==◌, Bool, true, false, ◌&&◌, ◌||◌, List, [], ◌∷◌, ◌++◌, Option, Some, None, refl, sym, ◌∙◌, ap, subst, arith, append_assoc}
+use Rattle.std.proofs.Common.{◌≡◌, ◌⊎◌, inl, inr, ⊎_elim, ℕ, ◌+◌, ◌-◌, ◌*◌, ◌/◌, ◌%◌, ◌<◌, ◌≤◌, ◌^◌, ◌==◌, Bool, true, false, cond, ◌&&◌, ◌||◌, List, [], ◌∷◌, ◌++◌, Option, Some, None, refl, sym, ◌∙◌, ap, subst, arith, append_assoc}
 use Rattle.std.specs.Fmt.{decimal}
+use Rattle.std.specs.List.{flat_map}
+use Rattle.std.specs.Prelude.{codes}
 use Rattle.std.proofs.lemmas.Fmt.{decimal_by_steps}
 use Rattle.gx_lex.specs.declared.word.Word.{Word}
 use Rattle.gx_lex.specs.declared.symbol.Symbol.{Symbol}
@@ -8,8 +10,9 @@ use Rattle.gx_lex.specs.declared.symbol.Symbol.TheVariants as symbol
 use Rattle.gx_lex.specs.declared.token.Token.{Token}
 use Rattle.gx_lex.specs.declared.token.Token.TheVariants as token
 use Rattle.gx_lex.specs.Words.{keyword_of}
-use Rattle.gx_lex.specs.Lexing.{is_blank, is_capital, is_letter, is_digit, is_word_byte, is_quote, is_either, is_equal, every, any, Without, Begins, small, smalls, number_behind, fitting, Lexeme, word, digits, text, sign, bytes_of, IsLexeme, word_of, token_of, Lexes}
-use Rattle.gx_print.specs.Shapes.{is_small_letter, is_name_byte, IsName, IsNumber, quoted, number_text}
+use Rattle.gx_lex.specs.Lexing.{is_blank, is_capital, is_letter, is_digit, is_word_byte, is_quote, is_either, is_equal, every, any, Without, Begins, small, smalls, doubled, number_behind, fitting, Lexeme, word, digits, text, sign, bytes_of, IsLexeme, word_of, token_of, Lexes}
+use Rattle.gx_print.specs.Shapes.{is_small_letter, is_name_byte, IsName, IsNumber, number_text}
+use Rattle.gx_text.specs.Quoted.{quoted, quoted_byte}
 
 -- each word, number, text and sign ends before it
 abbrev pub is_break : ℕ → Bool
@@ -223,5 +226,14 @@ number_cuts (Some n) i =
     is_token (token_of (digits (decimal n))) (token.Number (Some n)) (decimal n) (ap (λ (x : ℕ). token.Number (fitting x)) r.means ∙ ap token.Number (fits n i)) (one_cuts (digits (decimal n)) (λ rest b. (r.begins, digits_end rest b)))
 
 -- texts
+doubled-step : (b : ℕ) (bs : List ℕ) (c : Bool) → doubled bs ≡ flat_map quoted_byte bs → cond c (39 ∷ 39 ∷ doubled bs) (b ∷ doubled bs) ≡ cond c (codes "''") (b ∷ []) ++ flat_map quoted_byte bs
+doubled-step b bs true ih = ap (λ (l : List ℕ). 39 ∷ 39 ∷ l) ih
+doubled-step b bs false ih = ap (λ (l : List ℕ). b ∷ l) ih
+
+-- the reader's doubled quotes are the printed ones
+doubled-quoted : (t : List ℕ) → doubled t ≡ flat_map quoted_byte t
+doubled-quoted [] = refl
+doubled-quoted (b ∷ bs) = doubled-step b bs (is_quote b) (doubled-quoted bs)
+
 pub text_cuts : (t : List ℕ) → Cuts (token.Text t ∷ []) (quoted t)
-text_cuts t = one_cuts (text t) text_ends
+text_cuts t = subst (Cuts (token.Text t ∷ [])) (ap (λ (l : List ℕ). 39 ∷ (l ++ 39 ∷ [])) (doubled-quoted t)) (one_cuts (text t) text_ends)

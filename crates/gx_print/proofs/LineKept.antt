@@ -19,7 +19,7 @@ use Rattle.gx_lines.specs.Heads.{segments, head_line, session_line, detector, ta
 use Rattle.gx_resolve.specs.declared.fault.NameFault.{NameFault}
 use Rattle.gx_resolve.specs.Results.{Answer}
 use Rattle.gx_resolve.specs.Resolving.{stmt_of, table_from, new_table}
-use Rattle.gx_resolve.specs.Rules.{IsSchema}
+use Rattle.gx_meaning.specs.Statements.{IsSchema}
 use Rattle.gx_resolve.proofs.Promised.{table_promise}
 use Rattle.gx_print.specs.Limited.{Each}
 use Rattle.gx_print.specs.Reading.{IsTable, AreTables, HasSize}

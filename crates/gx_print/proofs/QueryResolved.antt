@@ -18,7 +18,7 @@ use Rattle.gx_lines.specs.declared.syn.SelectSyn.{SelectSyn}
 use Rattle.gx_resolve.specs.Results.{Answer, ◌>>=◌, each}
 use Rattle.gx_resolve.specs.Kinding.{where_as}
 use Rattle.gx_resolve.specs.Selecting.{item_as, items_as, name_as, group_as, key_as, order_as, size_as, limit_as, has_aggregate, is_grouped, is_listed, is_group_item, is_group_key, keeps_groups, groups_kept, query_as}
-use Rattle.gx_resolve.specs.Rules.{AreDistinct, column_text}
+use Rattle.gx_meaning.specs.Statements.{AreDistinct, column_text}
 use Rattle.gx_print.proofs.Tidying.{HasName}
 use Rattle.gx_print.specs.Limited.{Each, Some_each, Maybe, IsShort, KeyWithin, SelectWithin}
 use Rattle.gx_print.specs.Written.{column_name, cond_syn, item_syn_of, key_syn, unless_empty, to_size, select_syn}

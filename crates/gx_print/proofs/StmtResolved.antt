@@ -7,9 +7,7 @@ use Rattle.gx_tree.specs.declared.schema.Column.{Column}
 use Rattle.gx_tree.specs.declared.schema.Schema.{Schema}
 use Rattle.gx_tree.specs.declared.stmt.Stmt.{Stmt}
 use Rattle.gx_tree.specs.declared.stmt.Stmt.TheVariants as stmt
-use Rattle.gx_modes.specs.Table.{number_of}
 use Rattle.gx_modes.specs.declared.modes.Mode.{Mode}
-use Rattle.gx_modes.specs.declared.modes.Mode.TheVariants as mode
 use Rattle.gx_grammar.specs.declared.fault.Limits.{Limits}
 use Rattle.gx_grammar.specs.declared.syn.Syn.{Syn}
 use Rattle.gx_lines.specs.declared.syn.SelectSyn.{SelectSyn}
@@ -23,9 +21,9 @@ use Rattle.gx_resolve.specs.Naming.{Name, Used, names_of, names_right}
 use Rattle.gx_resolve.specs.Kinding.{where_as, tuple_as, assign_as}
 use Rattle.gx_resolve.specs.Selecting.{query_as}
 use Rattle.gx_resolve.specs.Resolving.{kinded, sets_key, key_kept, over_found, table_after, stmt_of}
-use Rattle.gx_resolve.specs.Rules.{AreDistinct, column_text}
+use Rattle.gx_meaning.specs.Statements.{AreDistinct, column_text}
 use Rattle.gx_print.specs.Limited.{Each, Some_each, IsWithin, StmtClear}
-use Rattle.gx_print.specs.Written.{name_of_schema, columns_of_schema, table_name, columns_of, cond_syn, tuple_syn, assign_syn, select_syn, mode_at, written}
+use Rattle.gx_print.specs.Written.{name_of_schema, columns_of_schema, table_name, columns_of, cond_syn, tuple_syn, assign_syn, select_syn, written}
 use Rattle.gx_print.proofs.Tidied.{tidy, tidy_select, tidy_tuple, tidy_assign, tidied}
 use Rattle.gx_print.specs.Reading.{IsColumnOf, IsTable, AreTables, HasSize}
 use Rattle.gx_print.specs.Shapes.{IsName}
@@ -85,16 +83,6 @@ kept_is : (b : Bool) (r x : Stmt) → ◌≡◌ {A = Answer Stmt} (if b then Err
 kept_is true r x h = absurd (cc)
 kept_is false r x h = same_ok r x h
 
-mode_again : (m : Mode) → mode_at (number_of m) ≡ m
-mode_again mode.AccessShare = refl
-mode_again mode.RowShare = refl
-mode_again mode.RowExclusive = refl
-mode_again mode.ShareUpdateExclusive = refl
-mode_again mode.Share = refl
-mode_again mode.ShareRowExclusive = refl
-mode_again mode.Exclusive = refl
-mode_again mode.AccessExclusive = refl
-
 -- what is written of a statement over a table of a name and of columns
 abbrev written_over : List ℕ → List Column → Stmt → StmtSyn
 written_over name columns (stmt.Begin l) = stmt_syn.Begin l
@@ -104,7 +92,7 @@ written_over name columns (stmt.Select q) = stmt_syn.Select (select_syn name col
 written_over name columns (stmt.Insert t tuples) = stmt_syn.Insert name (map (tuple_syn columns) tuples)
 written_over name columns (stmt.Update t assigns cond) = stmt_syn.Update name (map (assign_syn columns) assigns) (option_map (cond_syn columns) cond)
 written_over name columns (stmt.Delete t cond) = stmt_syn.Delete name (option_map (cond_syn columns) cond)
-written_over name columns (stmt.Lock t m) = stmt_syn.Lock name (mode_at m)
+written_over name columns (stmt.Lock t m) = stmt_syn.Lock name m
 
 -- the statement's table is this one
 abbrev IsOf : ℕ → Stmt → Type 0
@@ -174,7 +162,7 @@ module _ (d : Limits) (table : Table) (columns : List Column) (clear : Each HasN
       })
 
   lock_kinded : (t : List ℕ) (m : Mode) (x : Stmt) → kinded table columns (stmt_syn.Lock t m) ≡ Ok x → KindedAgain table t columns (stmt_syn.Lock t m) x
-  lock_kinded t m x h = subst (KindedAgain table t columns (stmt_syn.Lock t m)) (same_ok (stmt.Lock table (number_of m)) x h) (record { of = refl; written = ap (λ (k : Mode). stmt_syn.Lock t k) (mode_again m); again = refl })
+  lock_kinded t m x h = subst (KindedAgain table t columns (stmt_syn.Lock t m)) (same_ok (stmt.Lock table m) x h) (record { of = refl; written = refl; again = refl })
 
 -- STATEMENTS OVER A TABLE
 record OverAgain (d : Limits) (tables : List Schema) (name : List ℕ) (s : StmtSyn) (x : Stmt) : Type 0 where

@@ -19,7 +19,7 @@ use Rattle.gx_lines.specs.Queries as query
 use Rattle.gx_lines.specs.Heads as head
 use Rattle.gx_resolve.specs.Results.{◌>>=◌}
 use Rattle.gx_resolve.specs.Resolving.{column_as, columns_new, dist_as, new_table}
-use Rattle.gx_resolve.specs.Rules.{IsSchema}
+use Rattle.gx_meaning.specs.Statements.{IsSchema}
 use Rattle.gx_print.specs.Shapes.{is_small_letter, is_name_byte, IsName}
 use Rattle.gx_print.specs.Limited.{Each, Some_each}
 use Rattle.gx_print.specs.Reading.{IsNamed, IsColumnOf, IsTable}

@@ -5,7 +5,7 @@ use Rattle.gx_tree.specs.declared.stmt.Stmt.TheVariants as stmt
 use Rattle.gx_tree.specs.declared.schema.Column.{Column}
 use Rattle.gx_tree.specs.declared.schema.Schema.{Schema}
 use Rattle.gx_grammar.specs.declared.fault.Limits.{Limits}
-use Rattle.gx_resolve.specs.Rules.{AreDistinct, column_text}
+use Rattle.gx_meaning.specs.Statements.{AreDistinct, column_text}
 use Rattle.gx_print.specs.Shapes.{IsName}
 use Rattle.gx_print.specs.Limited.{Each, Some_each, IsShort}
 

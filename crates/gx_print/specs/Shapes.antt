@@ -2,14 +2,11 @@
 use Rattle.std.specs.Prelude.{◌≡◌, ℕ, ◌≤◌, ◌==◌, nat_le, Bool, ◌&&◌, ◌||◌, List, [], ◌++◌, codes, Option, Some, None}
 use Rattle.std.specs.Fmt.{decimal}
 use Rattle.gx_lex.specs.Words.{keyword_of}
-use Rattle.gx_lex.specs.Lexing.{is_digit, Begins, doubled}
+use Rattle.gx_lex.specs.Lexing.{is_digit, Begins}
+use Rattle.gx_text.specs.Quoted.{quoted}
 use Rattle.gx_grammar.specs.declared.syn.Op.{Op}
 use Rattle.gx_grammar.specs.declared.syn.Op.TheVariants.{Or, And, Equal, NotEqual, Less, LessEqual, Greater, GreaterEqual, Add, Sub, Mul, Div, Rem}
 use Rattle.gx_grammar.specs.Grammar.{Shape, digits, minus_digits, text, column, parens, minus, negated, both}
-
--- a text in single quotes, each of its own quotes twice
-abbrev pub quoted : List ℕ → List ℕ
-quoted t = codes "'" ++ (doubled t ++ codes "'")
 
 -- a number in decimal; one of more than 64 bits has no printed form
 abbrev pub number_text : Option ℕ → List ℕ

@@ -22,8 +22,6 @@ use Rattle.gx_tree.specs.declared.query.Query.{Query}
 use Rattle.gx_tree.specs.declared.stmt.Assign.{Assign}
 use Rattle.gx_tree.specs.declared.stmt.Stmt.{Stmt}
 use Rattle.gx_tree.specs.declared.stmt.Stmt.TheVariants as stmt
-use Rattle.gx_modes.specs.declared.modes.Mode.{Mode}
-use Rattle.gx_modes.specs.declared.modes.Mode.TheVariants as mode
 use Rattle.gx_grammar.specs.declared.syn.Op.{Op}
 use Rattle.gx_grammar.specs.declared.syn.Op.TheVariants as op
 use Rattle.gx_grammar.specs.declared.syn.Syn.{Syn}
@@ -150,10 +148,6 @@ tuple_syn columns es = record { values = map (expr_syn columns) es }
 abbrev pub assign_syn : List Column → Assign → AssignSyn
 assign_syn columns a = record { column = column_name columns a.col; value = expr_syn columns a.expr }
 
--- the mode of a number, the strongest where no other has it
-abbrev pub mode_at : ℕ → Mode
-mode_at n = if n == 1 then mode.AccessShare else if n == 2 then mode.RowShare else if n == 3 then mode.RowExclusive else if n == 4 then mode.ShareUpdateExclusive else if n == 5 then mode.Share else if n == 6 then mode.ShareRowExclusive else if n == 7 then mode.Exclusive else mode.AccessExclusive
-
 -- a statement as it is written; `*` is kept as its columns
 abbrev pub written : List Schema → Stmt → StmtSyn
 written tables (stmt.Begin l) = stmt_syn.Begin l
@@ -163,7 +157,7 @@ written tables (stmt.Select q) = stmt_syn.Select (query_syn tables q)
 written tables (stmt.Insert t tuples) = stmt_syn.Insert (table_name tables t.0) (map (tuple_syn (columns_of tables t.0)) tuples)
 written tables (stmt.Update t assigns cond) = stmt_syn.Update (table_name tables t.0) (map (assign_syn (columns_of tables t.0)) assigns) (option_map (cond_syn (columns_of tables t.0)) cond)
 written tables (stmt.Delete t cond) = stmt_syn.Delete (table_name tables t.0) (option_map (cond_syn (columns_of tables t.0)) cond)
-written tables (stmt.Lock t m) = stmt_syn.Lock (table_name tables t.0) (mode_at m)
+written tables (stmt.Lock t m) = stmt_syn.Lock (table_name tables t.0) m
 
 -- the printed form of a statement over its tables
 abbrev pub printed : List Schema → Stmt → List ℕ

@@ -7,9 +7,9 @@ ghost use Rattle.gx_print.specs.Statements.{expr_text};
 ghost use Rattle.gx_print.specs.Levels as levels;
 ghost use Rattle.gx_print.specs.Written.{cmp_op, expr_syn, cond_syn};
 
-use crate::bytes::push_bytes;
 use crate::exprs::push_expr;
 use gx_ids::Mem;
+use gx_text::push_bytes;
 use gx_tree::{CmpOp, Column, Cond, Expr};
 
 // An operator between spaces.

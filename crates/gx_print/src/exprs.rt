@@ -7,9 +7,9 @@ ghost use Rattle.gx_print.specs.Statements.{expr_text};
 ghost use Rattle.gx_print.specs.Levels as levels;
 ghost use Rattle.gx_print.specs.Written.{arith_op, value_syn, expr_syn};
 
-use crate::bytes::{push_bytes, push_number, push_quoted};
 use crate::names::column_name;
 use gx_ids::Mem;
+use gx_text::{push_bytes, push_integer, push_quoted};
 use gx_tree::{ArithOp, Column, Expr, Value};
 
 // An operator between spaces.
@@ -73,7 +73,7 @@ fn push_value(text: &mut Vec<u8>, value: &Value) -> Mem<()>
     ensures { OnOk result (text.new.items ≡ text.old.items ++ expr_text (value_syn value.now)) }
 {
     match value {
-        Value::Int(number) => push_number(text, *number),
+        Value::Int(number) => push_integer(text, i128::from(*number)),
         Value::Text(bytes) => push_quoted(text, bytes.as_slice()),
     }
 }

@@ -13,7 +13,7 @@ ghost use Rattle.gx_lines.specs.declared.syn.LineSyn.TheVariants.{Table};
 ghost use Rattle.gx_lines.specs.Heads.{table};
 ghost use Rattle.gx_lines.specs.Statements.{stmt};
 ghost use Rattle.gx_resolve.specs.Resolving.{new_table, stmt_of};
-ghost use Rattle.gx_resolve.specs.Rules.{IsSchema};
+ghost use Rattle.gx_meaning.specs.Statements.{IsSchema};
 ghost use Rattle.gx_print.specs.Forms.{IsShallow};
 ghost use Rattle.gx_print.specs.Statements.{stmt_tokens, stmt_text};
 ghost use Rattle.gx_print.specs.Limited.{IsWithin, StmtClear, IsPrintedAs};
@@ -44,7 +44,8 @@ pub fn read_is_within()
 /// A statement that was read over tables is printed as bytes that are cut and spelled within the limits, and what they
 /// spell reads as the same statement over the same tables.
 pub fn printed_reads_again()
-    ensures { (d : Limits) (tables : List Schema) (s : StmtSyn) (x : Stmt) (ts : List Token) → AreTables d tables → stmt d s ts → stmt_of tables s ≡ Ok x → HasSize x → IsPrintedAs d (written tables x) (printed tables x) × (stmt_of tables (written tables x) ≡ Ok x) }
+    ensures { (d : Limits) (tables : List Schema) (s : StmtSyn) (x : Stmt) (ts : List Token) → AreTables d tables → stmt d s ts
+        → stmt_of tables s ≡ Ok x → HasSize x → IsPrintedAs d (written tables x) (printed tables x) × (stmt_of tables (written tables x) ≡ Ok x) }
 {}
 
 /// A table that a line declares is one over which statements are read: its names are those of the language.

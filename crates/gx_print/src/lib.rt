@@ -1,7 +1,6 @@
 //! The printed form of a statement, and that it reads back.
 #![tactic(auto)]
 
-pub mod bytes;
 pub mod conds;
 pub mod exprs;
 pub mod laws;

@@ -5,8 +5,8 @@ ghost use Rattle.gx_print.specs.Written.{printed};
 ghost use Rattle.gx_sql.specs.Script.{Reads};
 ghost use Rattle.gx_print.specs.Reprinting.{Among, ReadsAs};
 
-use gx_ids::Mem;
 use crate::print_stmt;
+use gx_ids::Mem;
 use gx_script::{Line, Script};
 use gx_tree::Stmt;
 use std::alloc::Global;

@@ -4,8 +4,8 @@ ghost use Rattle.std.specs.List.{flat_map};
 ghost use Rattle.gx_tree.specs.declared.schema.Column.{Column};
 ghost use Rattle.gx_print.specs.Statements.{list_text};
 
-use crate::bytes::push_bytes;
 use gx_ids::Mem;
+use gx_text::push_bytes;
 use gx_tree::Column;
 
 /// What the parts of a list may be: how each is written over the columns of a table, and the bytes of what is written.

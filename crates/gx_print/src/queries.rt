@@ -4,11 +4,11 @@ ghost use Rattle.std.specs.Option.{option_map};
 ghost use Rattle.gx_print.specs.Statements as of;
 ghost use Rattle.gx_print.specs.Written.{column_name, cond_syn, item_syn_of, key_syn, unless_empty, to_size, select_syn, query_syn};
 
-use crate::bytes::{push_bytes, push_count};
 use crate::conds::push_cond;
 use crate::lists::{Printed, push_list};
 use crate::names::{column_name, columns_of, table_name};
 use gx_ids::Mem;
+use gx_text::{push_bytes, push_count};
 use gx_tree::{Column, Cond, Item, Key, Query, Schema};
 
 // Adds a call of an aggregate on a column.
@@ -122,7 +122,7 @@ fn push_limit(text: &mut Vec<u8>, limit: Option<u64>) -> Mem<()>
         None => Ok(()),
         Some(limit) => {
             push_bytes(text, b" LIMIT ")?;
-            push_count(text, limit)
+            push_count(text, u128::from(limit))
         }
     }
 }

@@ -5,14 +5,15 @@ ghost use Rattle.gx_lines.specs.declared.syn.StmtSyn.TheVariants.{Insert, Update
 ghost use Rattle.gx_grammar.specs.declared.fault.Limits.{Limits};
 ghost use Rattle.gx_print.specs.Statements as of;
 ghost use Rattle.gx_print.specs.Limited.{IsWithin, StmtClear, IsPrintedAs};
-ghost use Rattle.gx_print.specs.Written.{cond_syn, tuple_syn, assign_syn, mode_at, written, printed};
+ghost use Rattle.gx_print.specs.Written.{cond_syn, tuple_syn, assign_syn, written, printed};
 
-use crate::bytes::push_bytes;
 use crate::exprs::push_expr;
 use crate::lists::{Printed, push_list};
 use crate::names::{column_name, columns_of, table_name};
 use crate::queries::{push_select, push_where};
 use gx_ids::{Mem, Seq, Table};
+use gx_modes::Mode;
+use gx_text::push_bytes;
 use gx_tree::{Assign, Column, Cond, Expr, Level, Schema, Stmt};
 use std::alloc::Global;
 
@@ -78,19 +79,18 @@ fn begin_words(level: Level) -> &'static [u8]
     }
 }
 
-// The words of the mode of a number.
-fn mode_words(number: u8) -> &'static [u8]
-    ensures { result.now ≡ of.mode_text (mode_at number) }
+fn mode_words(mode: Mode) -> &'static [u8]
+    ensures { result.now ≡ of.mode_text mode }
 {
-    match number {
-        1 => b"ACCESS SHARE",
-        2 => b"ROW SHARE",
-        3 => b"ROW EXCLUSIVE",
-        4 => b"SHARE UPDATE EXCLUSIVE",
-        5 => b"SHARE",
-        6 => b"SHARE ROW EXCLUSIVE",
-        7 => b"EXCLUSIVE",
-        _ => b"ACCESS EXCLUSIVE",
+    match mode {
+        Mode::AccessShare => b"ACCESS SHARE",
+        Mode::RowShare => b"ROW SHARE",
+        Mode::RowExclusive => b"ROW EXCLUSIVE",
+        Mode::ShareUpdateExclusive => b"SHARE UPDATE EXCLUSIVE",
+        Mode::Share => b"SHARE",
+        Mode::ShareRowExclusive => b"SHARE ROW EXCLUSIVE",
+        Mode::Exclusive => b"EXCLUSIVE",
+        Mode::AccessExclusive => b"ACCESS EXCLUSIVE",
     }
 }
 

@@ -4,7 +4,7 @@ use gx_ids::{Gxid, Node};
 use gx_waits::PlacedEdge;
 
 /// Where a transaction waits.
-#[derive(Clone, Copy, Debug, PartialEq, Eq, PartialOrd, Ord)]
+#[derive(Clone, Copy, PartialEq, Eq, PartialOrd, Ord)]
 pub enum Place {
     Anywhere(Gxid),
     At(Node, Gxid),

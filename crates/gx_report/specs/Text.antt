@@ -4,6 +4,7 @@ use Rattle.std.specs.List.{flat_map}
 use Rattle.std.specs.Fmt.{decimal, signed_decimal}
 use Rattle.std.specs.declared.vec.Vec.{Vec}
 use Rattle.std.specs.declared.alloc.Global.{Global}
+use Rattle.gx_text.specs.Quoted.{quoted}
 use Rattle.gx_tree.specs.declared.cell.Cell.{Cell}
 use Rattle.gx_tree.specs.declared.cell.Cell.TheVariants.{Int, Text, Null}
 use Rattle.gx_tree.specs.declared.row.KeyedRow.{KeyedRow}
@@ -15,20 +16,12 @@ use Rattle.gx_store.specs.declared.mark.Mark.{Mark}
 use Rattle.gx_store.specs.declared.mark.Mark.TheVariants.{Answer}
 use Rattle.gx_store.specs.declared.run.Run.{Run}
 use Rattle.gx_store.specs.declared.run.Step.{Step}
-use Rattle.gx_gather.specs.Aggregates.{cell_of}
+use Rattle.gx_meaning.specs.Aggregates.{cell_of}
 use Rattle.gx_report.specs.Error.{error_text}
-
--- a quote is doubled
-abbrev pub quoted_byte : ℕ → List ℕ
-quoted_byte b = if b == 39 then codes "''" else b ∷ []
-
--- a text in single quotes
-abbrev pub quoted_text : List ℕ → List ℕ
-quoted_text t = codes "'" ++ flat_map quoted_byte t ++ codes "'"
 
 abbrev pub cell_text : Cell → List ℕ
 cell_text (Int z) = signed_decimal z
-cell_text (Text t) = quoted_text t
+cell_text (Text t) = quoted t
 cell_text Null = codes "null"
 
 abbrev pub behind_bar : Cell → List ℕ

@@ -2,9 +2,9 @@
 ghost use Rattle.std.specs.Prelude.{◌≡◌, ◌++◌, OnOk};
 ghost use Rattle.gx_report.specs.Error.{error_text, journal_text, numbered_text, row_text, serialization_text, victim_text};
 
-use crate::report::{push_bytes, push_count};
 use gx_ids::{Gxid, Mem, Node, Rid};
 use gx_store::Refused;
+use gx_text::{push_bytes, push_count};
 
 // A number between two texts.
 fn push_numbered(text: &mut Vec<u8>, before: &[u8], number: u64, behind: &[u8]) -> Mem<()>

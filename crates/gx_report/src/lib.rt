@@ -7,5 +7,4 @@ mod report;
 mod sessions;
 mod tables;
 
-pub use report::{push_bytes, push_count};
 pub use tables::{text, text_of_stopped};

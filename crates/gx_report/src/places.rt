@@ -7,7 +7,7 @@ use gx_store::{Mark, Step};
 use std::alloc::Global;
 
 /// Where an answer stands in a run: the step, and the mark in it, from 0.
-#[derive(Clone, Copy, Debug, PartialEq, Eq)]
+#[derive(Clone, Copy)]
 pub struct Place {
     pub step: usize,
     pub mark: usize,

@@ -1,60 +1,13 @@
 // The text of answers.
-ghost use Rattle.std.specs.Prelude.{◌≡◌, ◌++◌, OnOk, map};
+ghost use Rattle.std.specs.Prelude.{◌≡◌, ◌++◌, OnOk};
 ghost use Rattle.std.specs.List.{flat_map};
-ghost use Rattle.std.specs.Fmt.{decimal, signed_decimal};
-ghost use Rattle.gx_report.specs.Text.{answer_text, cell_text, cells_text, counted_text, line_text, quoted_byte, quoted_text, row_line};
+ghost use Rattle.gx_report.specs.Text.{answer_text, cell_text, cells_text, counted_text, line_text, row_line};
 
 use crate::error::push_error;
 use gx_ids::Mem;
 use gx_store::StmtAnswer;
+use gx_text::{push_bytes, push_count, push_integer, push_quoted};
 use gx_tree::{Cell, OutRow};
-use itoa::Buffer;
-
-/// Adds bytes as they are.
-pub fn push_bytes(text: &mut Vec<u8>, bytes: &[u8]) -> Mem<()>
-    ensures { OnOk result (text.new.items ≡ text.old.items ++ bytes.now) }
-{
-    text.extend_from_slice(bytes)?;
-    Ok(())
-}
-
-/// Adds the decimal digits of a count.
-pub fn push_count(text: &mut Vec<u8>, number: u128) -> Mem<()>
-    ensures { OnOk result (text.new.items ≡ text.old.items ++ decimal number) }
-{
-    let mut digits = Buffer::new();
-    push_bytes(text, digits.format(number).as_bytes())
-}
-
-/// Adds the decimal digits of a whole number, behind its sign where it is negative.
-pub fn push_integer(text: &mut Vec<u8>, number: i128) -> Mem<()>
-    ensures { OnOk result (text.new.items ≡ text.old.items ++ signed_decimal number) }
-{
-    let mut digits = Buffer::new();
-    push_bytes(text, digits.format(number).as_bytes())
-}
-
-// A byte between quotes: a quote is doubled.
-fn push_quoted_byte(text: &mut Vec<u8>, byte: u8) -> Mem<()>
-    ensures { OnOk result (text.new.items ≡ text.old.items ++ quoted_byte byte) }
-{
-    if byte == b'\'' {
-        push_bytes(text, b"''")
-    } else {
-        push_bytes(text, &[byte])
-    }
-}
-
-/// Adds a text in single quotes.
-pub fn push_quoted(text: &mut Vec<u8>, bytes: &[u8]) -> Mem<()>
-    ensures { OnOk result (text.new.items ≡ text.old.items ++ quoted_text bytes.now) }
-{
-    push_bytes(text, b"'")?;
-    for byte in bytes {
-        push_quoted_byte(text, *byte)?;
-    }
-    push_bytes(text, b"'")
-}
 
 fn push_cell(text: &mut Vec<u8>, cell: &Cell) -> Mem<()>
     ensures { OnOk result (text.new.items ≡ text.old.items ++ cell_text cell.now) }

@@ -1,13 +1,13 @@
 // The text of the final tables, and of a whole run.
 ghost use Rattle.std.specs.Prelude.{◌≡◌, ◌++◌, OnOk, IfOk, map};
-ghost use Rattle.gx_gather.specs.Aggregates.{cell_of};
+ghost use Rattle.gx_meaning.specs.Aggregates.{cell_of};
 ghost use Rattle.gx_report.specs.Text.{cell_text, cells_text, keyed_line, stopped_text, table_text, tables_text, text_of};
 
-use crate::report::{push_bytes, push_count, push_integer, push_quoted};
 use crate::sessions::push_sessions;
 use gx_ids::Mem;
 use gx_script::Script;
 use gx_store::Run;
+use gx_text::{push_bytes, push_count, push_integer, push_quoted};
 use gx_tree::{KeyedRow, Schema, Value};
 use std::alloc::Global;
 

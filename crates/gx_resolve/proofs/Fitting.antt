@@ -15,13 +15,13 @@ use Rattle.gx_grammar.specs.declared.syn.Syn.{Syn, map-Syn}
 use Rattle.gx_grammar.specs.declared.syn.Syn.TheOpen.{Syn-F}
 use Rattle.gx_grammar.specs.declared.syn.Syn.TheViews.{roll-Syn}
 use Rattle.gx_grammar.specs.declared.syn.Syn.TheFolds.{fold-roll-Syn, ind-Syn}
-use Rattle.gx_eval.specs.Kinds.{kind_of, is_typed}
-use Rattle.gx_eval.proofs.Nodes.{kind_of-lit, kind_of-col, kind_of-neg, kind_of-bin, is_typed-cmp, is_typed-and, is_typed-or, is_typed-not}
+use Rattle.gx_meaning.specs.Kinds.{kind_of, is_typed}
+use Rattle.gx_meaning.proofs.Nodes.{kind_of-lit, kind_of-col, kind_of-neg, kind_of-bin, is_typed-cmp, is_typed-and, is_typed-or, is_typed-not}
 use Rattle.gx_resolve.specs.Columns.{column_from, column_of}
 use Rattle.gx_resolve.specs.Typing as of
 use Rattle.gx_resolve.specs.declared.typed.Typed.{Typed}
 use Rattle.gx_resolve.specs.declared.typed.Typed.TheVariants.{Value, Cond, Unknown, Mismatch}
-use Rattle.gx_resolve.specs.Rules.{column_kinds, HasColumn}
+use Rattle.gx_meaning.specs.Statements.{column_kinds, HasColumn}
 
 -- the column that is found stands at its place, with its kind and its name
 pub record Stands (columns : List Column) (place : ℕ) (name : List ℕ) (kind : Kind) : Type 0 where

@@ -30,12 +30,12 @@ use Rattle.gx_resolve.specs.Columns.{column_of}
 use Rattle.gx_resolve.specs.Typing.{typed_of}
 use Rattle.gx_resolve.specs.declared.typed.Typed.{Typed}
 use Rattle.gx_resolve.specs.declared.typed.Typed.TheVariants as typed
-use Rattle.gx_eval.specs.Kinds.{kind_of, is_typed}
+use Rattle.gx_meaning.specs.Kinds.{kind_of, is_typed}
 use Rattle.gx_resolve.specs.declared.fault.NameFault.TheVariants.{UnknownColumn}
 use Rattle.gx_resolve.specs.Results.{Answer, ◌>>=◌, each}
 use Rattle.gx_resolve.specs.Kinding.{column_at, value_as, cond_as, where_as, constant_as, values_as, tuple_as, assign_as}
 use Rattle.gx_resolve.specs.Selecting.{agg_as, item_as, columns_from, items_as, name_as, group_as, key_as, order_as, limit_as, is_aggregate, has_aggregate, is_grouped, is_listed, is_in, is_group_item, is_group_key, are_group_parts, keeps_groups, groups_kept, query_as}
-use Rattle.gx_resolve.specs.Rules.{column_kinds, IsColumn, HasColumn, HasKind, IsCond, IsItem, IsPlain, IsGroupItem, IsGroupKey, IsKey, KeepsGroups, IsQuery, IsTuple, IsOneOf}
+use Rattle.gx_meaning.specs.Statements.{column_kinds, IsColumn, HasColumn, HasKind, IsCond, IsItem, IsPlain, IsGroupItem, IsGroupKey, IsKey, KeepsGroups, IsQuery, IsTuple, IsOneOf}
 use Rattle.gx_resolve.proofs.Fitting.{Stands, stands, has_column, Fits, typed_fits}
 
 pub bind-ok : {A B : Type 0} (answer : Answer A) (next : A → Answer B) (b : B) → (answer >>= next) ≡ Ok b → (a : A) × (answer ≡ Ok a) × (next a ≡ Ok b)

@@ -16,9 +16,6 @@ use Rattle.gx_tree.specs.declared.cond.Cond.{Cond}
 use Rattle.gx_tree.specs.declared.stmt.Assign.{Assign}
 use Rattle.gx_tree.specs.declared.stmt.Stmt.{Stmt}
 use Rattle.gx_tree.specs.declared.stmt.Stmt.TheVariants as stmt
-use Rattle.gx_modes.specs.declared.modes.Mode.{Mode}
-use Rattle.gx_modes.specs.declared.modes.Mode.TheVariants as mode
-use Rattle.gx_modes.specs.Table.{number_of}
 use Rattle.gx_lines.specs.declared.syn.AssignSyn.{AssignSyn}
 use Rattle.gx_lines.specs.declared.syn.ColumnSyn.{ColumnSyn}
 use Rattle.gx_lines.specs.declared.syn.DistSyn.{DistSyn}
@@ -33,7 +30,7 @@ use Rattle.gx_resolve.specs.Naming.{Name, is_column, is_among, where_names, assi
 use Rattle.gx_resolve.specs.Kinding.{column_at, where_as, assign_as, tuple_as}
 use Rattle.gx_resolve.specs.Selecting.{query_as}
 use Rattle.gx_resolve.specs.Resolving.{kinded, assigns_to, sets_key, key_kept, over_table, over_found, stmt_from, stmt_of, table_named, table_after, column_as, columns_new, dist_as, new_table, table_from}
-use Rattle.gx_resolve.specs.Rules.{IsOneOf, AreDistinct, IsAssign, assigned_column, KeepsKey, IsOver, table_of, IsAt, IsStmtOf, IsFound, column_text, IsDist, IsSchema}
+use Rattle.gx_meaning.specs.Statements.{IsOneOf, AreDistinct, IsAssign, assigned_column, KeepsKey, IsOver, table_of, IsAt, IsStmtOf, IsFound, column_text, IsDist, IsSchema}
 use Rattle.gx_resolve.proofs.Fitting.{Stands}
 use Rattle.gx_resolve.proofs.Names.{known, names_right-then, names_right-assign, assign_first}
 use Rattle.gx_resolve.proofs.Keeping.{bind-ok, same_ok, either-false, each-all, column_within, where-cond, assign-keeps, tuples-keep, query-keeps}
@@ -173,16 +170,6 @@ kept d r s h = by_test (sets_key d r) refl h where
 abbrev pub IsAbout : Table → Schema → Stmt → Type 0
 IsAbout table schema s = MatchOption (table_of s) (Unit {0}) (λ t. t ≡ table) × IsOver schema s
 
-mode-range : (m : Mode) → (1 ≤ number_of m) × (number_of m ≤ 8)
-mode-range mode.AccessShare = (omega arith, omega arith)
-mode-range mode.RowShare = (omega arith, omega arith)
-mode-range mode.RowExclusive = (omega arith, omega arith)
-mode-range mode.ShareUpdateExclusive = (omega arith, omega arith)
-mode-range mode.Share = (omega arith, omega arith)
-mode-range mode.ShareRowExclusive = (omega arith, omega arith)
-mode-range mode.Exclusive = (omega arith, omega arith)
-mode-range mode.AccessExclusive = (omega arith, omega arith)
-
 about : (table : Table) (schema : Schema) (written : StmtSyn) (r : Stmt) → names_right schema.columns [] (names_of written) ≡ Ok tt → kinded table schema.columns written ≡ Ok r → sets_key schema.dist r ≡ false → IsAbout table schema r
 about table schema (stmt_syn.Begin level) r right h key = subst (IsAbout table schema) (same_ok _ r h) (tt, tt)
 about table schema stmt_syn.Commit r right h key = subst (IsAbout table schema) (same_ok _ r h) (tt, tt)
@@ -210,7 +197,7 @@ about table schema (stmt_syn.Update name written cond) r right h key =
 about table schema (stmt_syn.Delete name cond) r right h key =
     let found = bind-ok (where_as schema.columns cond) _ r h in
     subst (IsAbout table schema) (same_ok _ r found.2) (refl, where-cond schema.columns cond found.0 found.1)
-about table schema (stmt_syn.Lock name m) r right h key = subst (IsAbout table schema) (same_ok _ r h) (refl, mode-range m)
+about table schema (stmt_syn.Lock name m) r right h key = subst (IsAbout table schema) (same_ok _ r h) (refl, tt)
 
 over_table-keeps : (table : Table) (schema : Schema) (written : StmtSyn) (s : Stmt) → over_table table schema written ≡ Ok s → IsAbout table schema s
 over_table-keeps table schema written s h =

@@ -3,6 +3,5 @@ pub mod Naming
 pub mod Kinding
 pub mod Selecting
 pub mod Resolving
-pub mod Rules
 pub mod Columns
 pub mod Typing

@@ -13,7 +13,6 @@ use Rattle.gx_tree.specs.declared.schema.Schema.{Schema}
 use Rattle.gx_tree.specs.declared.stmt.Assign.{Assign}
 use Rattle.gx_tree.specs.declared.stmt.Stmt.{Stmt}
 use Rattle.gx_tree.specs.declared.stmt.Stmt.TheVariants as stmt
-use Rattle.gx_modes.specs.Table.{number_of}
 use Rattle.gx_lines.specs.declared.classes.KindSyn.{KindSyn}
 use Rattle.gx_lines.specs.declared.classes.KindSyn.TheVariants as kind_syn
 use Rattle.gx_grammar.specs.declared.syn.Syn.{Syn}
@@ -61,7 +60,7 @@ kinded table columns (stmt_syn.Update _ assigns cond) = update_as table columns 
 kinded table columns (stmt_syn.Delete _ cond) = do
   found ← where_as columns cond
   Ok (stmt.Delete table found)
-kinded table columns (stmt_syn.Lock _ mode) = Ok (stmt.Lock table (number_of mode))
+kinded table columns (stmt_syn.Lock _ mode) = Ok (stmt.Lock table mode)
 
 abbrev pub assigns_to : List Assign → ℕ → Bool
 assigns_to assigns key = list_any (λ a. a.col == key) assigns

@@ -5,7 +5,7 @@ ghost use Rattle.gx_tree.specs.declared.schema.Schema.{Schema};
 ghost use Rattle.gx_tree.specs.declared.stmt.Stmt.{Stmt};
 ghost use Rattle.gx_lines.specs.declared.syn.StmtSyn.{StmtSyn};
 ghost use Rattle.gx_resolve.specs.Resolving.{stmt_of, table_after};
-ghost use Rattle.gx_resolve.specs.Rules.{IsAt, IsStmtOf};
+ghost use Rattle.gx_meaning.specs.Statements.{IsAt, IsStmtOf};
 
 /// A table that is found by its name stands at its place.
 pub fn found_tables_stand()

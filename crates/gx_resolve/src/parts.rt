@@ -6,11 +6,11 @@ ghost use Rattle.gx_resolve.specs.Results.{Says, each};
 ghost use Rattle.gx_resolve.specs.Kinding as of;
 
 use crate::fault::{NameFault, ResolveError};
+use crate::{Typed, find_column, type_expression};
 use gx_grammar::Syn;
 use gx_ids::Seq;
 use gx_lines::{AssignSyn, TupleSyn};
 use gx_tree::{Assign, Column, Cond, Expr, Kind, Txt};
-use crate::{Typed, find_column, type_expression};
 use std::alloc::Global;
 
 /// What is something else over the columns of its table than as it is written.

@@ -3,7 +3,7 @@ ghost use Rattle.std.specs.Prelude.{◌≡◌, ◌≤◌, length, List, Option, 
 ghost use Rattle.std.specs.Option.{option_copied, option_map, ForSome};
 ghost use Rattle.gx_resolve.specs.Results.{Says};
 ghost use Rattle.gx_resolve.specs.Resolving as of;
-ghost use Rattle.gx_resolve.specs.Rules.{IsFound, IsStmtOf};
+ghost use Rattle.gx_meaning.specs.Statements.{IsFound, IsStmtOf};
 ghost use Rattle.gx_tree.specs.declared.schema.Schema.{Schema as SchemaOf};
 
 use crate::fault::{NameFault, ResolveError};
@@ -70,7 +70,7 @@ fn kinded(
             update_as(alloc, table, columns, assigns.as_slice(), cond)
         }
         StmtSyn::Delete(_, cond) => Ok(Stmt::Delete(table, where_as(alloc, columns, cond)?)),
-        StmtSyn::Lock(_, mode) => Ok(Stmt::Lock(table, mode.number())),
+        StmtSyn::Lock(_, mode) => Ok(Stmt::Lock(table, *mode)),
     }
 }
 

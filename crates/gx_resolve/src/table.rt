@@ -5,7 +5,7 @@ ghost use Rattle.std.specs.Cmp.Lexicographic.{pointwise};
 ghost use Rattle.gx_resolve.specs.Results.{Says};
 ghost use Rattle.gx_resolve.specs.Naming.{is_among};
 ghost use Rattle.gx_resolve.specs.Resolving as of;
-ghost use Rattle.gx_resolve.specs.Rules.{IsSchema};
+ghost use Rattle.gx_meaning.specs.Statements.{IsSchema};
 
 use crate::fault::{NameFault, ResolveError};
 use crate::parts::column_at;

@@ -6,7 +6,7 @@ use Rattle.std.specs.Ordering.{is_lt}
 use Rattle.std.specs.declared.cmp.Ordering.TheVariants.{Less, Equal, Greater}
 use Rattle.std.specs.declared.cmp.Ordering.{Ordering}
 use Rattle.gx_ids.specs.declared.rid.Rid.{Rid}
-use Rattle.gx_gather.specs.Order.{rid_order}
+use Rattle.gx_meaning.specs.Order.{rid_order}
 use Rattle.gx_store.specs.Marks.{is_same_rid}
 
 pub less_trans : (a b c : Rid) → rid_order a b ≡ Less → rid_order b c ≡ Less → rid_order a c ≡ Less

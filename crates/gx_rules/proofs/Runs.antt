@@ -6,15 +6,15 @@ use Rattle.gx_tree.specs.declared.value.Value.TheVariants as value
 use Rattle.gx_tree.specs.declared.stmt.Level.TheVariants.{ReadCommitted}
 use Rattle.gx_tree.specs.declared.stmt.Stmt.{Stmt}
 use Rattle.gx_tree.specs.declared.row.KeyedRow.{KeyedRow}
-use Rattle.gx_eval.proofs.Nodes.{value_of-lit}
-use Rattle.gx_eval.specs.Meaning.{and_then}
-use Rattle.gx_eval.specs.declared.fault.ArithFault.{ArithFault}
+use Rattle.gx_meaning.proofs.Nodes.{value_of-lit}
+use Rattle.gx_meaning.specs.Expressions.{and_then}
+use Rattle.gx_meaning.specs.declared.fault.ArithFault.{ArithFault}
 use Rattle.gx_ids.specs.declared.ids.Gxid.{Gxid}
 use Rattle.gx_ids.specs.declared.ids.Cid.{Cid}
 use Rattle.gx_ids.specs.declared.ids.SessionId.{SessionId}
-use Rattle.gx_plan.specs.Constants.{constant, each_from, keyed, tuple_row, values_of}
-use Rattle.gx_plan.specs.Plan.{insert_pieces, plan_of}
-use Rattle.gx_plan.specs.declared.piece.Piece.{Piece}
+use Rattle.gx_meaning.specs.Constants.{constant, each_from, keyed, tuple_row, values_of}
+use Rattle.gx_meaning.specs.Plan.{insert_pieces, plan_of}
+use Rattle.gx_meaning.specs.declared.piece.Piece.{Piece}
 use Rattle.gx_tree.specs.declared.schema.Dist.TheVariants.{By}
 use Rattle.gx_store.specs.declared.event.Event.{Event}
 use Rattle.gx_store.specs.declared.event.Event.TheVariants as event

@@ -7,8 +7,8 @@ use Rattle.std.specs.declared.cmp.Ordering.TheVariants.{Less}
 use Rattle.gx_ids.specs.declared.rid.Rid.{Rid}
 use Rattle.gx_tree.specs.declared.row.KeyedRow.{KeyedRow}
 use Rattle.gx_tree.specs.declared.value.Value.{Value}
-use Rattle.gx_gather.specs.Answer.{AreRising}
-use Rattle.gx_gather.specs.Order.{rid_order}
+use Rattle.gx_meaning.specs.Answer.{AreRising}
+use Rattle.gx_meaning.specs.Order.{rid_order}
 use Rattle.gx_msg.specs.declared.item.Kept.{Kept}
 use Rattle.gx_store.proofs.Rows.{is_same_rid-refl, same_rid}
 use Rattle.gx_store.specs.Marks.{is_same_rid}

@@ -21,8 +21,8 @@ use Rattle.gx_dtx.specs.Orders.{message_of}
 use Rattle.gx_dtx.specs.declared.order.Order.{Order}
 use Rattle.gx_dtx.specs.declared.outcome.Outcome.{Outcome}
 use Rattle.gx_dtx.specs.declared.outcome.Outcome.TheVariants as outcome
-use Rattle.gx_eval.specs.declared.fault.ArithFault.{ArithFault}
-use Rattle.gx_eval.specs.declared.fault.ArithFault.TheVariants as arith
+use Rattle.gx_meaning.specs.declared.fault.ArithFault.{ArithFault}
+use Rattle.gx_meaning.specs.declared.fault.ArithFault.TheVariants as arith
 use Rattle.gx_msg.specs.declared.item.JournalItem.{JournalItem}
 use Rattle.gx_msg.specs.declared.item.JournalItem.TheVariants as item
 use Rattle.gx_msg.specs.declared.message.Message.{Message}
@@ -32,9 +32,9 @@ use Rattle.gx_msg.specs.declared.reply.Cause.{Cause}
 use Rattle.gx_msg.specs.declared.reply.Cause.TheVariants as cause
 use Rattle.gx_msg.specs.declared.reply.Reply.{Reply}
 use Rattle.gx_msg.specs.declared.reply.Reply.TheVariants as answer
-use Rattle.gx_plan.specs.Constants.{values_of}
-use Rattle.gx_plan.specs.Plan.{plan_of}
-use Rattle.gx_plan.specs.declared.piece.Piece.{Piece}
+use Rattle.gx_meaning.specs.Constants.{values_of}
+use Rattle.gx_meaning.specs.Plan.{plan_of}
+use Rattle.gx_meaning.specs.declared.piece.Piece.{Piece}
 use Rattle.gx_script.specs.declared.Script.{Script}
 use Rattle.gx_session.specs.Session.{after_done, after_line, after_refused, idle_outside, line_step}
 use Rattle.gx_session.specs.declared.line_step.LineStep.{LineStep}
@@ -58,7 +58,7 @@ use Rattle.gx_store.specs.Refusals.{the_coordinator}
 use Rattle.gx_store.specs.Writes.{dist_of}
 use Rattle.gx_rules.specs.Coordinators.{Command, Coord, CoordTurn, Session, Work, new_work, no_work, rests, session_of, with_session, with_state, with_work, work_of}
 use Rattle.gx_rules.specs.Fits.{fits_part}
-use Rattle.gx_rules.specs.Merged.{merged_answer}
+use Rattle.gx_meaning.specs.Merged.{merged_answer}
 use Rattle.gx_rules.specs.Sending.{clock_after, counted_all, numbered}
 use Rattle.gx_rules.specs.Snapshots.{snapshot_of}
 

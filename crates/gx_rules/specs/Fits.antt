@@ -21,7 +21,7 @@ use Rattle.gx_tree.specs.declared.stmt.Stmt.{Stmt}
 use Rattle.gx_tree.specs.declared.stmt.Stmt.TheVariants as stmt
 use Rattle.gx_tree.specs.declared.value.Value.{Value}
 use Rattle.gx_dsnap.specs.declared.snapshot.Snapshot.{Snapshot}
-use Rattle.gx_eval.specs.Kinds.{is_typed, value_kind}
+use Rattle.gx_meaning.specs.Kinds.{is_typed, value_kind}
 use Rattle.gx_script.specs.declared.Script.{Script}
 use Rattle.gx_rules.specs.Maps.{each_below}
 use Rattle.gx_rules.specs.Segments.{Local, Seg, has_ended}

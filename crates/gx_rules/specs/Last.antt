@@ -8,7 +8,7 @@ use Rattle.gx_ids.specs.declared.ids.Table.{Table}
 use Rattle.gx_ids.specs.declared.rid.Rid.{Rid}
 use Rattle.gx_tree.specs.declared.value.Value.{Value}
 use Rattle.gx_dsnap.specs.declared.snapshot.Snapshot.{Snapshot}
-use Rattle.gx_gather.specs.Order.{rid_order}
+use Rattle.gx_meaning.specs.Order.{rid_order}
 use Rattle.gx_msg.specs.declared.item.Kept.{Kept}
 use Rattle.gx_store.specs.Marks.{is_same_rid}
 use Rattle.gx_rules.specs.Segments.{Seg, Version}

@@ -7,7 +7,6 @@ pub mod Shown
 pub mod Slices
 pub mod Fits
 pub mod AtSegment
-pub mod Merged
 pub mod Coordinators
 pub mod AtCoordinator
 pub mod Machine

@@ -5,7 +5,7 @@ ghost use Rattle.gx_ids.specs.declared.ids.Table.{Table};
 ghost use Rattle.gx_ids.specs.declared.rid.Rid.{Rid};
 ghost use Rattle.gx_tree.specs.declared.row.KeyedRow.{KeyedRow};
 ghost use Rattle.gx_dsnap.specs.declared.snapshot.Snapshot.{Snapshot};
-ghost use Rattle.gx_gather.specs.Answer.{AreRising};
+ghost use Rattle.gx_meaning.specs.Answer.{AreRising};
 ghost use Rattle.gx_store.specs.Marks.{is_same_gxid};
 ghost use Rattle.gx_store.specs.Rows.{row_at};
 ghost use Rattle.gx_rules.specs.Segments.{Seg};
@@ -16,7 +16,8 @@ ghost use Rattle.gx_rules.specs.Last.{AreKeptInOrder, counting, image_in, last_i
 /// say of it, unless that is gone.
 pub fn shown_rows_are_the_last()
     ensures rising { (s : Seg) (snapshot : Snapshot) (g : Gxid) (c : Cid) (table : Table) → AreRising (shown s snapshot g c table) }
-    ensures images { (s : Seg) (snapshot : Snapshot) (g : Gxid) (c : Cid) (table : Table) (rid : Rid) → row_at (shown s snapshot g c table) rid ≡ row_of (last_image rid (counting s snapshot g c table)) }
+    ensures images { (s : Seg) (snapshot : Snapshot) (g : Gxid) (c : Cid) (table : Table) (rid : Rid)
+        → row_at (shown s snapshot g c table) rid ≡ row_of (last_image rid (counting s snapshot g c table)) }
 {}
 
 /// What a segment keeps of a transaction for its journal rises by identities, and is the last that the transaction's

@@ -7,8 +7,8 @@ use Rattle.gx_ids.specs.declared.rid.Rid.{Rid}
 use Rattle.gx_tree.specs.declared.row.KeyedRow.{KeyedRow}
 use Rattle.gx_tree.specs.declared.schema.Schema.{Schema}
 use Rattle.gx_dsnap.specs.declared.snapshot.Snapshot.{Snapshot}
-use Rattle.gx_gather.specs.Answer.{AreRising}
-use Rattle.gx_local.specs.Store.{Write, is_shown_from, shown_row_from, writes_of}
+use Rattle.gx_meaning.specs.Answer.{AreRising}
+use Rattle.gx_slices.specs.Store.{Write, is_shown_from, shown_row_from, writes_of}
 use Rattle.gx_store.specs.Rows.{row_at}
 use Rattle.gx_rules.specs.Segments.{Seg}
 use Rattle.gx_rules.specs.Shown.{shown}

@@ -6,7 +6,7 @@ use Rattle.std.specs.Prelude.{◌&&◌, not, nat_lt, is_some, option_map, filter
 use Rattle.gx_ids.specs.declared.ids.Gxid.{Gxid}
 use Rattle.gx_tree.specs.declared.schema.Schema.{Schema}
 use Rattle.gx_dsnap.specs.Gxids.{gxid_cmp}
-use Rattle.gx_local.specs.Store.{kept_at, passes, status_of}
+use Rattle.gx_slices.specs.Store.{kept_at, passes, status_of}
 use Rattle.gx_phases.specs.Changes.{Change, Makes}
 use Rattle.gx_phases.specs.declared.local.Taken.{Taken}
 use Rattle.gx_rules.specs.Fits.{holds_locks}

@@ -7,7 +7,7 @@ use Rattle.gx_ids.specs.declared.ids.Gxid.{Gxid}
 use Rattle.gx_ids.specs.declared.ids.Node.{Node}
 use Rattle.gx_dtx.specs.declared.order.Order.{Order}
 use Rattle.gx_dsnap.specs.Gxids.{gxid_cmp}
-use Rattle.gx_local.specs.Store.{Store, status_of}
+use Rattle.gx_slices.specs.Store.{Store, status_of}
 use Rattle.gx_msg.specs.declared.item.Kept.{Kept}
 use Rattle.gx_phases.specs.Changes.{Change, Does, change_of}
 use Rattle.gx_phases.specs.Phases.{local_of, phase_of}

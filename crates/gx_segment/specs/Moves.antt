@@ -4,7 +4,7 @@ use Rattle.std.specs.BTreeSet.{contains}
 use Rattle.gx_ids.specs.declared.ids.Gxid.{Gxid}
 use Rattle.gx_dsnap.specs.Gxids.{gxid_cmp}
 use Rattle.gx_dtx.specs.declared.order.Order.{Order}
-use Rattle.gx_local.specs.Store.{status_of}
+use Rattle.gx_slices.specs.Store.{status_of}
 use Rattle.gx_phases.specs.Changes.{Change, turn_of}
 use Rattle.gx_phases.specs.declared.local.Taken.{Taken}
 use Rattle.gx_rules.specs.AtSegment.{unless_below}

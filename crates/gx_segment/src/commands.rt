@@ -19,7 +19,7 @@ use gx_tree::Slice;
 use std::collections::BTreeSet;
 
 /// A command that is new runs, the last one is answered again, and any other is nothing.
-#[derive(Clone, Copy, Debug)]
+#[derive(Clone, Copy)]
 pub enum Way {
     Runs,
     Repeats,

@@ -8,7 +8,7 @@ use gx_store::Mark;
 use std::alloc::Global;
 
 /// What a message came to: its marks in order, the answer to the coordinator, and whether the journal failed to take an item.
-#[derive(Debug, Drop)]
+#[derive(Drop)]
 pub struct Done {
     pub marks: Seq<Mark>,
     pub answer: Option<Message>,

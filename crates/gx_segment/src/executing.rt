@@ -3,7 +3,7 @@ ghost use Rattle.std.specs.Prelude.{◌≡◌, ◌≤◌, [], false, None, Some,
 ghost use Rattle.std.specs.BTreeMap.{get};
 ghost use Rattle.gx_ids.specs.declared.ids.Gxid.{Gxid};
 ghost use Rattle.gx_dsnap.specs.Gxids.{gxid_cmp};
-ghost use Rattle.gx_local.specs.Store.{greater};
+ghost use Rattle.gx_slices.specs.Store.{greater};
 ghost use Rattle.gx_rules.specs.AtSegment.{raised};
 ghost use Rattle.gx_rules.specs.Segments.{local_of, tells_kept};
 ghost use Rattle.gx_rules.specs.Slices.{runs_slice};

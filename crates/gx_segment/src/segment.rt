@@ -1,5 +1,5 @@
 ghost use Rattle.std.specs.Prelude.{◌≡◌, ◌<◌, ◌≤◌, ◌^◌, true, false, None, IfOk, OnErr};
-ghost use Rattle.gx_gather.specs.Answer.{AreRising};
+ghost use Rattle.gx_meaning.specs.Answer.{AreRising};
 ghost use Rattle.gx_rules.specs.Machine.{seg_can};
 ghost use Rattle.gx_rules.specs.Segments.{Seg, new_segment};
 ghost use Rattle.gx_rules.specs.Sending.{heard_in};
@@ -9,10 +9,9 @@ ghost use Rattle.gx_segment.specs.Steps.{HasStepped, IsSegment, nobody, no_comma
 use crate::stepping::step_on;
 use gx_dsnap::Snapshot;
 use gx_ids::{Cid, Gxid, Mem, Node, OutOfMemory, Table};
-use gx_local::LocalStore;
 use gx_outside::{Gate, Journal};
 use gx_script::Script;
-use gx_slices::Held;
+use gx_slices::{Held, LocalStore};
 use gx_store::{NodeEvent, NodeOut};
 use gx_tree::KeyedRow;
 use std::alloc::Global;

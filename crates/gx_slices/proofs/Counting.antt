@@ -11,9 +11,9 @@ use Rattle.gx_tree.specs.declared.row.KeyedRow.{KeyedRow}
 use Rattle.gx_tree.specs.declared.value.Value.{Value}
 use Rattle.gx_dsnap.specs.Snapshot.{sees}
 use Rattle.gx_dsnap.specs.declared.snapshot.Snapshot.{Snapshot}
-use Rattle.gx_gather.specs.Answer.{AreRising}
+use Rattle.gx_meaning.specs.Answer.{AreRising}
 use Rattle.gx_rows.specs.Rows.{last_passing}
-use Rattle.gx_local.specs.Store.{Store, Write, is_shown_from, shown_row_from}
+use Rattle.gx_slices.specs.Store.{Store, Write, is_shown_from, shown_row_from}
 use Rattle.gx_store.specs.Marks.{is_same_gxid, is_same_rid}
 use Rattle.gx_store.specs.Rows.{row_at}
 use Rattle.gx_rules.specs.Segments.{Seg, Version, has_committed, local_of}

@@ -7,3 +7,10 @@ pub mod Placing
 pub mod Rightness
 pub mod Turning
 pub mod Unconditional
+pub mod AddingVersions
+pub mod KeptVersions
+pub mod Lxids
+pub mod Readers
+pub mod Shown
+pub mod Statuses
+pub mod Writes

@@ -6,7 +6,7 @@ use Rattle.std.specs.Ordering.{is_lt, match_ordering}
 use Rattle.std.specs.declared.cmp.Ordering.{Ordering}
 use Rattle.std.specs.declared.cmp.Ordering.TheVariants.{Less, Equal, Greater}
 use Rattle.gx_ids.specs.declared.rid.Rid.{Rid}
-use Rattle.gx_gather.specs.Order.{rid_order}
+use Rattle.gx_meaning.specs.Order.{rid_order}
 use Rattle.gx_store.specs.Journals.{kept_with}
 use Rattle.gx_store.specs.Marks.{is_same_rid}
 use Rattle.gx_slices.specs.Kept.{kept_in, listed}

@@ -2,7 +2,7 @@
 use Rattle.std.proofs.Common.{◌≡◌, List, [], ◌∷◌, Option, None, filter, refl, sym, ap, subst}
 use Rattle.gx_tree.specs.declared.cond.Cond.{Cond}
 use Rattle.gx_tree.specs.declared.row.KeyedRow.{KeyedRow}
-use Rattle.gx_gather.specs.Answer.{keeps}
+use Rattle.gx_meaning.specs.Answer.{keeps}
 use Rattle.gx_rules.specs.Slices.{first_fault}
 
 none_faults : (rows : List KeyedRow) → first_fault None rows ≡ None

@@ -4,3 +4,5 @@ pub mod Ran
 pub mod Apart
 pub mod Inserts
 pub mod Picked
+pub mod Store
+pub mod Filed

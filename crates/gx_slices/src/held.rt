@@ -1,6 +1,6 @@
 use crate::kept::KeptRows;
+use crate::store::LocalStore;
 use gx_ids::Gxid;
-use gx_local::LocalStore;
 use gx_phases::Local;
 use std::collections::{BTreeMap, BTreeSet};
 

@@ -3,8 +3,9 @@ ghost use Rattle.std.specs.Prelude.{◌≡◌, Some, IfOk, OnOk};
 ghost use Rattle.std.specs.List.{AllByRecursion};
 ghost use Rattle.gx_slices.specs.Picked.{AreTypedOn, IsPicked, IsTypedOn, kept_if};
 
-use gx_eval::{ArithFault, decide};
+use gx_eval::decide;
 use gx_ids::Mem;
+use gx_meaning::ArithFault;
 use gx_tree::{Cond, KeyedRow};
 use std::alloc::Global;
 

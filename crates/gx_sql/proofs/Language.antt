@@ -24,7 +24,7 @@ use Rattle.gx_script.specs.declared.Line.{Line}
 use Rattle.gx_script.specs.declared.LinkFault.{LinkFault}
 use Rattle.gx_script.specs.declared.Script.{Script}
 use Rattle.gx_resolve.specs.Results.{Answer}
-use Rattle.gx_resolve.specs.Rules.{IsOneOf, AreDistinct, column_text, IsStmtOf}
+use Rattle.gx_meaning.specs.Statements.{IsOneOf, AreDistinct, column_text, IsStmtOf}
 use Rattle.gx_resolve.specs.Resolving.{column_as, stmt_of, table_from}
 use Rattle.gx_resolve.proofs.Promised.{table_promise, stmt_of-keeps}
 use Rattle.gx_sql.specs.declared.refusal.Limit.TheVariants as limit
@@ -37,7 +37,7 @@ use Rattle.gx_sql.specs.Counts.{is_session}
 use Rattle.gx_sql.specs.Held.{HasRoom}
 use Rattle.gx_sql.specs.Progress.{Progress, start, giving, is_on, is_known, link_fault, place_of, count_of, counted, next_line, with_detector, with_table, with_link, with_line, with_session, with_line_syn}
 use Rattle.gx_sql.specs.Script.{the_limits, Told, TokensSay, LineSays, Goes, Where, ReadsOn, script_of, ended}
-use Rattle.gx_sql.specs.Language.{table_name, IsName, IsTable, IsLine, lines_in, AreNumbered, BeginInOrder, IsFault, IsScript}
+use Rattle.gx_store.specs.Language.{table_name, IsName, IsTable, IsLine, lines_in, AreLinesNumbered, BeginInOrder, IsFault, IsScript}
 use Rattle.gx_sql.proofs.Held.{length_snoc}
 use Rattle.gx_sql.proofs.Named.{made_columns, table_made}
 use Rattle.gx_sql.proofs.Room.{head_room, line_room}
@@ -170,7 +170,7 @@ record Keeps (number : ℕ) (p : Progress) : Type 0 where
   pub few_sessions : length p.sessions ≤ 64
   pub lines : All (IsLine p.tables (length p.sessions)) p.lines
   pub few_lines : length p.lines < number
-  pub numbers : AreNumbered [] p.lines
+  pub numbers : AreLinesNumbered [] p.lines
   pub order : BeginInOrder 0 p.lines (length p.sessions)
   pub counts : AreCounted 0 p.sessions p.lines
   pub faults : KeepsFaults p.segments p.faults

@@ -5,11 +5,11 @@ use Rattle.gx_ids.specs.declared.ids.Table.{Table}
 use Rattle.gx_tree.specs.declared.schema.Schema.{Schema}
 use Rattle.gx_tree.specs.declared.stmt.Stmt.{Stmt}
 use Rattle.gx_script.specs.declared.Line.{Line}
-use Rattle.gx_resolve.specs.Rules.{IsOneOf, AreDistinct, IsAt, IsOver, IsStmtOf, table_of}
+use Rattle.gx_meaning.specs.Statements.{IsOneOf, AreDistinct, IsAt, IsOver, IsStmtOf, table_of}
 use Rattle.gx_resolve.specs.Resolving.{table_after}
 use Rattle.gx_sql.specs.Counts.{is_session}
 use Rattle.gx_sql.specs.Progress.{place_of, count_of, counted}
-use Rattle.gx_sql.specs.Language.{table_name, lines_in, AreNumbered, BeginInOrder}
+use Rattle.gx_store.specs.Language.{table_name, lines_in, AreLinesNumbered, BeginInOrder}
 
 -- NAMES
 one_snoc : {A : Type 0} (x y : A) (xs : List A) → IsOneOf x (xs ++ y ∷ []) → IsOneOf x xs ⊎ (x ≡ y)
@@ -194,6 +194,6 @@ order_new b [] n l same e = inr (omega arith, omega arith)
 order_new b (k ∷ ls) n l same (inl (a, h)) = inl (a, order_new b ls n l same h)
 order_new b (k ∷ ls) n l same (inr (a, h)) = inr (a, order_new (b + 1) ls n l same h)
 
-pub numbered_snoc : (before ls : List Line) (l : Line) → l.number ≡ lines_in l.session.0 (before ++ ls) + 1 → AreNumbered before ls → AreNumbered before (ls ++ l ∷ [])
+pub numbered_snoc : (before ls : List Line) (l : Line) → l.number ≡ lines_in l.session.0 (before ++ ls) + 1 → AreLinesNumbered before ls → AreLinesNumbered before (ls ++ l ∷ [])
 numbered_snoc before [] l e h = (subst (λ (t : List Line). l.number ≡ lines_in l.session.0 t + 1) (append-nil before) e, tt)
 numbered_snoc before (k ∷ ls) l e h = (h.0, numbered_snoc (before ++ k ∷ []) ls l (subst (λ (t : List Line). l.number ≡ lines_in l.session.0 t + 1) (sym (append_assoc before (k ∷ []) ls)) e) h.1)

@@ -7,4 +7,3 @@ pub mod Progress
 pub mod Script
 pub mod Counts
 pub mod Begun
-pub mod Language

@@ -3,7 +3,7 @@ ghost use Rattle.std.specs.Prelude.{◌≡◌, ◌≤◌, ◌<◌, ◌+◌, ◌-
 ghost use Rattle.gx_script.specs.declared.Script.{Script};
 ghost use Rattle.gx_sql.specs.Answering.{Answers, Is, Steps};
 ghost use Rattle.gx_sql.specs.Held.{named, schemas, progress_of, IsHeld};
-ghost use Rattle.gx_sql.specs.Language.{IsScript};
+ghost use Rattle.gx_store.specs.Language.{IsScript};
 ghost use Rattle.gx_sql.specs.Lines.{lines_of};
 ghost use Rattle.gx_sql.specs.Progress.{start};
 ghost use Rattle.gx_sql.specs.Script as of;

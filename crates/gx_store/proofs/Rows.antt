@@ -10,7 +10,7 @@ use Rattle.gx_ids.specs.declared.ids.Cid.{Cid}
 use Rattle.gx_ids.specs.declared.rid.Rid.{Rid}
 use Rattle.gx_tree.specs.declared.row.KeyedRow.{KeyedRow}
 use Rattle.gx_store.specs.Marks.{is_same_rid}
-use Rattle.gx_gather.specs.Order.{rid_order}
+use Rattle.gx_meaning.specs.Order.{rid_order}
 use Rattle.gx_store.specs.Rows.{row_at}
 
 pub bool_cases : (b : Bool) (P : Type 0) → (b ≡ true → P) → (b ≡ false → P) → P

@@ -16,10 +16,9 @@ use Rattle.gx_tree.specs.declared.stmt.Level.{Level}
 use Rattle.gx_tree.specs.declared.stmt.Stmt.{Stmt}
 use Rattle.gx_tree.specs.declared.stmt.Stmt.TheVariants as stmt
 use Rattle.gx_tree.specs.declared.value.Value.{Value}
-use Rattle.gx_gather.specs.Answer.{answer_of}
+use Rattle.gx_meaning.specs.Answer.{answer_of}
 use Rattle.gx_modes.specs.declared.modes.Mode.{Mode}
-use Rattle.gx_modes.specs.Table.{number_of}
-use Rattle.gx_plan.specs.Constants.{values_of}
+use Rattle.gx_meaning.specs.Constants.{values_of}
 use Rattle.gx_script.specs.declared.Script.{Script}
 use Rattle.gx_waits.specs.declared.object.Object.TheVariants.{Relation}
 use Rattle.gx_store.specs.declared.answer.Refused.TheVariants.{InFailedBlock, NotInBlock}
@@ -64,9 +63,8 @@ pub record Changes (marks : List Mark) (level : Level) (g : Gxid) (c : Cid) (tab
   pub each : (rid : Rid) (row : List Value) → row_at rows rid ≡ Some row → condition_on cond row ≡ Ok true → is_processed marks g c rid ≡ true
 
 -- LOCK TABLE holds its mode at the coordinator and at every segment
-abbrev pub Locks : Script → List Mark → Gxid → Table → ℕ → Type 0
-Locks script marks g table number =
-    (mode : Mode) × (number ≡ number_of mode) × ((node : Node) → node.0 ≤ script.segments → is_held marks node g (Relation table) mode ≡ true)
+abbrev pub Locks : Script → List Mark → Gxid → Table → Mode → Type 0
+Locks script marks g table mode = (node : Node) → node.0 ≤ script.segments → is_held marks node g (Relation table) mode ≡ true
 
 -- a command did what its answer says
 abbrev pub Tells : Script → List Mark → Level → Gxid → Cid → Stmt → StmtAnswer → Type 0

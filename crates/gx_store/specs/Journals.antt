@@ -3,7 +3,7 @@ use Rattle.std.specs.Prelude.{◌==◌, Bool, false, if◌then◌else◌, ◌&&�
 use Rattle.std.specs.Ordering.{is_lt}
 use Rattle.gx_ids.specs.declared.ids.Gxid.{Gxid}
 use Rattle.gx_ids.specs.declared.ids.Node.{Node}
-use Rattle.gx_gather.specs.Order.{rid_order}
+use Rattle.gx_meaning.specs.Order.{rid_order}
 use Rattle.gx_msg.specs.declared.item.JournalItem.{JournalItem}
 use Rattle.gx_msg.specs.declared.item.JournalItem.TheVariants as item
 use Rattle.gx_msg.specs.declared.item.Kept.{Kept}

@@ -19,3 +19,5 @@ pub mod Ordered
 pub mod Told
 pub mod Rounds
 pub mod Schedule
+pub mod Language
+pub mod Whole

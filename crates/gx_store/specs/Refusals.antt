@@ -13,8 +13,8 @@ use Rattle.gx_tree.specs.declared.stmt.Level.TheVariants.{RepeatableRead}
 use Rattle.gx_tree.specs.declared.stmt.Stmt.{Stmt}
 use Rattle.gx_tree.specs.declared.stmt.Stmt.TheVariants.{Insert, Update, Delete}
 use Rattle.gx_tree.specs.declared.value.Value.{Value}
-use Rattle.gx_eval.specs.declared.fault.ArithFault.{ArithFault}
-use Rattle.gx_eval.specs.declared.fault.ArithFault.TheVariants as arith
+use Rattle.gx_meaning.specs.declared.fault.ArithFault.{ArithFault}
+use Rattle.gx_meaning.specs.declared.fault.ArithFault.TheVariants as arith
 use Rattle.gx_msg.specs.declared.message.Message.TheVariants as message
 use Rattle.gx_msg.specs.declared.reply.Cause.TheVariants as cause
 use Rattle.gx_msg.specs.declared.reply.Reply.TheVariants as reply

@@ -10,7 +10,7 @@ use Rattle.gx_msg.specs.declared.message.Message.{Message}
 use Rattle.gx_msg.specs.declared.message.Message.TheVariants as message
 use Rattle.gx_msg.specs.declared.reply.Reply.{Reply}
 use Rattle.gx_msg.specs.declared.reply.Reply.TheVariants as reply
-use Rattle.gx_plan.specs.Plan.{nodes_from}
+use Rattle.gx_meaning.specs.Plan.{nodes_from}
 use Rattle.gx_script.specs.declared.Line.{Line}
 use Rattle.gx_script.specs.declared.LinkFault.{LinkFault}
 use Rattle.gx_script.specs.declared.Script.{Script}

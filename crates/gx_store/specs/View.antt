@@ -10,7 +10,7 @@ use Rattle.gx_ids.specs.declared.ids.Table.{Table}
 use Rattle.gx_ids.specs.declared.rid.Rid.{Rid}
 use Rattle.gx_tree.specs.declared.row.KeyedRow.{KeyedRow}
 use Rattle.gx_tree.specs.declared.value.Value.{Value}
-use Rattle.gx_gather.specs.Answer.{AreRising}
+use Rattle.gx_meaning.specs.Answer.{AreRising}
 use Rattle.gx_store.specs.declared.mark.Mark.{Mark}
 use Rattle.gx_store.specs.declared.mark.Mark.TheVariants.{Write}
 use Rattle.gx_store.specs.Marks.{is_committed, is_same_gxid, is_same_rid}

@@ -3,6 +3,7 @@ use crate::query::Query;
 use crate::row::KeyedRow;
 use crate::stmt::Assign;
 use gx_ids::{Duplicate, Mem, Seq, Table};
+use gx_modes::Mode;
 use std::alloc::Global;
 
 /// A statement's part for one segment. INSERT has the rows that are placed there.
@@ -12,7 +13,7 @@ pub enum Slice {
     Insert(Table, Seq<KeyedRow>),
     Update(Table, Seq<Assign>, Option<Cond>),
     Delete(Table, Option<Cond>),
-    Lock(Table, u8),
+    Lock(Table, Mode),
 }
 
 impl Duplicate for Slice {

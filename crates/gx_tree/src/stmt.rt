@@ -2,6 +2,7 @@ use crate::cond::Cond;
 use crate::expr::Expr;
 use crate::query::Query;
 use gx_ids::{Duplicate, Mem, Seq, Table};
+use gx_modes::Mode;
 use std::alloc::Global;
 
 /// An isolation level (PostgreSQL manual 13.2).
@@ -18,7 +19,7 @@ pub struct Assign {
     pub expr: Expr,
 }
 
-/// A statement of a session. INSERT has its tuples; the number of LOCK TABLE is the mode's.
+/// A statement of a session. INSERT has its tuples.
 #[derive(Debug, Drop, PartialEq, Eq)]
 pub enum Stmt {
     Begin(Level),
@@ -28,7 +29,7 @@ pub enum Stmt {
     Insert(Table, Seq<Seq<Expr>>),
     Update(Table, Seq<Assign>, Option<Cond>),
     Delete(Table, Option<Cond>),
-    Lock(Table, u8),
+    Lock(Table, Mode),
 }
 
 impl Duplicate for Assign {

@@ -1,9 +1,7 @@
 -- What the laws of every run say of a network's run.
-use Rattle.std.proofs.Common.{◌≡◌, ℕ, ◌+◌, ◌==◌, if◌then◌else◌, List, [], ◌∷◌, ◌++◌, refl, subst, ap, ◌∙◌}
-use Rattle.gx_script.specs.declared.Line.{Line}
+use Rattle.std.proofs.Common.{◌≡◌, List, [], subst}
 use Rattle.gx_script.specs.declared.Script.{Script}
-use Rattle.gx_sql.specs.Language as language_of
-use Rattle.gx_sql.specs.Language.{AreNumbered, IsScript}
+use Rattle.gx_store.specs.Language.{IsScript}
 use Rattle.gx_store.specs.Ordered.{AreOrdered}
 use Rattle.gx_store.specs.Protocol.{DoStepsFollow}
 use Rattle.gx_store.specs.Runs.{IsLegalHistory}
@@ -11,9 +9,7 @@ use Rattle.gx_rules.specs.System.{IsSystemRun}
 use Rattle.gx_law_order.proofs.Follows.{world_follows}
 use Rattle.gx_law_order.proofs.Ordered.{world_well}
 use Rattle.gx_law_commit.proofs.Whole.{world-follows}
-use Rattle.gx_law_sessions.specs.Orders as orders
-use Rattle.gx_law_sessions.specs.Orders.{AreLinesNumbered}
-use Rattle.gx_law_answers.specs.Whole.{AreInsertsWhole}
+use Rattle.gx_store.specs.Whole.{AreInsertsWhole}
 use Rattle.gx_law_answers.proofs.Join.{legal}
 use Rattle.gx_law_answers.proofs.Snaps.{snapshots-one}
 use Rattle.gx_law_answers.proofs.Whole.{filled, keyed}
@@ -31,15 +27,6 @@ use Rattle.gx_law_runs.specs.Replays.{world_behind}
 use Rattle.gx_law_runs.proofs.Reaching.{by-events, replayed, rows-of-all}
 use Rattle.gx_world.specs.declared.network.Network.{Network}
 use Rattle.gx_world.specs.Networks.{IsNetwork}
-
--- the reader's promise on lines is the law's premise
-same-lines : (k : ℕ) (ls : List Line) → language_of.lines_in k ls ≡ orders.lines_in k ls
-same-lines k [] = refl
-same-lines k (l ∷ ls) = ap (λ n. if l.session.0 == k then n + 1 else n) (same-lines k ls)
-
-numbered : (before ls : List Line) → AreNumbered before ls → AreLinesNumbered before ls
-numbered before [] h = tt
-numbered before (l ∷ ls) h = (h.0 ∙ ap (λ n. n + 1) (same-lines l.session.0 before), numbered (before ++ l ∷ []) ls h.1)
 
 module _ (script : Script) (network : Network) (is : IsNetwork network) (of : network.script.value ≡ script) where
   language : IsScript script
@@ -60,11 +47,11 @@ module _ (script : Script) (network : Network) (is : IsNetwork network) (of : ne
   pub run-legal : AreInsertsWhole script.tables script.lines → IsLegalHistory script network.run
   run-legal inserts =
       by-events script network.run.steps reached (λ ss. IsLegalHistory script (record { steps = ss }))
-      (legal script language.some_segments (numbered [] script.lines language.numbers) (keyed script inserts) (snapshots-one script language.some_segments) (filled script inserts))
+      (legal script language.some_segments language.numbers (keyed script inserts) (snapshots-one script language.some_segments) (filled script inserts))
 
   pub run-tables : (tables : List (Vec KeyedRow Global)) → AreRowsOfAll 0 (world_behind script network.run.steps) tables → AreFinalFrom 0 (marks_in network.run.steps) tables
   run-tables tables rows =
       let is : IsReached script network.run.steps = reached in
       subst (λ ss. AreFinalFrom 0 (marks_in ss) tables) is.is
-      (world-tables script language.some_segments is.events tables 0 (at-home script language.some_segments (numbered [] script.lines language.numbers) is.events)
+      (world-tables script language.some_segments is.events tables 0 (at-home script language.some_segments language.numbers is.events)
       (rows-of-all script network.run.steps (world_of script is.events) (replayed script network.run.steps is) is.is 0 tables rows))

@@ -14,8 +14,8 @@ use Rattle.gx_tree.specs.declared.row.KeyedRow.{KeyedRow}
 use Rattle.gx_dsnap.specs.Gxids.{is_below}
 use Rattle.gx_dsnap.specs.Snapshot.{sees}
 use Rattle.gx_dsnap.specs.declared.snapshot.Snapshot.{Snapshot}
-use Rattle.gx_gather.specs.Answer.{AreRising}
-use Rattle.gx_gather.specs.Order.{rid_order}
+use Rattle.gx_meaning.specs.Answer.{AreRising}
+use Rattle.gx_meaning.specs.Order.{rid_order}
 use Rattle.gx_script.specs.declared.Script.{Script}
 use Rattle.gx_store.proofs.Rows.{same_rid}
 use Rattle.gx_store.specs.declared.mark.Mark.{Mark}

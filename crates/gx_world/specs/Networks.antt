@@ -4,7 +4,7 @@ use Rattle.gx_ids.specs.declared.ids.Node.{Node}
 use Rattle.gx_msg.specs.ItemBytes.{bytes_of_item}
 use Rattle.gx_outside.specs.Causes.{Rose}
 use Rattle.gx_script.specs.declared.Script.{Script}
-use Rattle.gx_sql.specs.Language.{IsScript}
+use Rattle.gx_store.specs.Language.{IsScript}
 use Rattle.gx_store.specs.declared.event.Event.{Event}
 use Rattle.gx_store.specs.declared.node.NodeEvent.{NodeEvent}
 use Rattle.gx_store.specs.declared.run.Step.{Step}

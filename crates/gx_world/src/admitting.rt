@@ -11,9 +11,9 @@ ghost use Rattle.gx_store.specs.Refusals.{the_coordinator};
 ghost use Rattle.gx_store.specs.declared.event.Event.TheVariants.{Receive};
 ghost use Rattle.gx_world.specs.Networks.{IsNetwork};
 
+use crate::Letters;
 use crate::network::Network;
 use gx_ids::{Mem, Node};
-use crate::Letters;
 use gx_script::Script;
 use gx_store::{Event, NodeEvent};
 

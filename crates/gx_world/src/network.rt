@@ -1,14 +1,14 @@
 ghost use Rattle.std.specs.Prelude.{◌≡◌, ◌<◌, ◌^◌, [], true, false, IfOk, IsErr, OnOk, OnErr, length, map};
 ghost use Rattle.gx_law_runs.specs.Replays.{is_admitted};
-ghost use Rattle.gx_sql.specs.Language.{IsScript};
+ghost use Rattle.gx_store.specs.Language.{IsScript};
 ghost use Rattle.gx_world.specs.Networks.{HasDone, IsNetwork};
 ghost use Rattle.gx_world.specs.Worlds.{AreLater, shelf};
 
+use crate::Letters;
 use crate::making::new_segments;
 use crate::moves::do_event;
 use gx_coord::Coord;
 use gx_ids::{Mem, OutOfMemory};
-use crate::Letters;
 use gx_outside::{Gate, Journal};
 use gx_script::Script;
 use gx_segment::Segment;

@@ -3,7 +3,7 @@ ghost use Rattle.std.specs.Prelude.{◌≡◌, ◌<◌, ◌+◌, false, Some, if
 ghost use Rattle.std.specs.BTreeMap.{get, IsOrdered};
 ghost use Rattle.std.specs.Option.{option_or};
 ghost use Rattle.gx_coord.specs.Steps.{IsCoord};
-ghost use Rattle.gx_gather.specs.Order.{rid_order};
+ghost use Rattle.gx_meaning.specs.Order.{rid_order};
 ghost use Rattle.gx_ids.specs.declared.rid.Rid.{Rid as RowId};
 ghost use Rattle.gx_law_runs.specs.Replays.{coordinator_after, segment_after, world_behind};
 ghost use Rattle.gx_rules.specs.Coordinators.{Coord as RuleCoord};

@@ -102,11 +102,15 @@ module _ (gxids : List Gxid) (g : Gxid) where
       let n : 1 + length gxids ≡ k + 1 = omega (arith, last) in
       subst (λ (q : Gxid). position_from (λ t. eqb t.0 q.0) 1 (gxids ++ g ∷ []) ≡ Some (k + 1)) e (position_from-push_new (λ t. eqb t.0 g.0) 1 gxids g (same_itself g) (missing (position_from (λ t. eqb t.0 g.0) 1 gxids) fresh) ∙ ap Some n)
 
+below_other : (g q horizon : Gxid) → q.0 < horizon.0 → horizon.0 ≤ g.0 → eqb g.0 q.0 ≡ false
+below_other g q horizon low high = grind (arith, nat_tests)
+
 -- an entry more keeps the map whole
-pub IsWhole-assigned : (horizon : Gxid) (gxids : List Gxid) (statuses : List LocalStatus) (m n : BTreeMap Gxid Lxid) (g : Gxid) (l : Lxid) → IsWhole horizon gxids statuses m → lxid_in gxids g ≡ None → l.0 ≡ length gxids + 1 → Updates gxid_cmp m n g (Some l) → IsWhole horizon (gxids ++ g ∷ []) (statuses ++ Running ∷ []) n
-IsWhole-assigned horizon gxids statuses m n g l whole fresh next updates = record {
+pub IsWhole-assigned : (horizon : Gxid) (gxids : List Gxid) (statuses : List LocalStatus) (m n : BTreeMap Gxid Lxid) (g : Gxid) (l : Lxid) → IsWhole horizon gxids statuses m → lxid_in gxids g ≡ None → horizon.0 ≤ g.0 → l.0 ≡ length gxids + 1 → Updates gxid_cmp m n g (Some l) → IsWhole horizon (gxids ++ g ∷ []) (statuses ++ Running ∷ []) n
+IsWhole-assigned horizon gxids statuses m n g l whole fresh high next updates = record {
   paired = simp length-append (omega (arith, whole.paired));
-  found = λ q high. found_after gxids g l m n q (eqb g.0 q.0) refl (whole.found q high) fresh next (updates.0 q);
+  found = λ q up. found_after gxids g l m n q (eqb g.0 q.0) refl (whole.found q up) fresh next (updates.0 q);
+  gone = λ q low. updates.0 q ∙ ap (λ b. cond b (Some l) (get gxid_cmp m q)) (is_at-other g q (below_other g q horizon low high)) ∙ whole.gone q low;
   distinct = λ k h there.
       ⊎_elim
       (λ (inside : k < length gxids). old_place gxids g k h inside there whole.distinct)
@@ -119,14 +123,15 @@ pub IsWhole-same : (horizon : Gxid) (gxids gxids' : List Gxid) (statuses statuse
 IsWhole-same horizon gxids gxids' statuses statuses' m n whole e f unchanged = record {
   paired = ap length f ∙ whole.paired ∙ sym (ap length e);
   found = λ q high. ap (lookup (is_at (gxid_cmp q))) unchanged ∙ whole.found q high ∙ ap (λ (xs : List Gxid). lxid_in xs q) (sym e);
+  gone = λ q low. ap (lookup (is_at (gxid_cmp q))) unchanged ∙ whole.gone q low;
   distinct = subst (λ (xs : List Gxid). (k : ℕ) (g : Gxid) → slice_get xs k ≡ Some g → position_from (λ h. eqb h.0 g.0) 1 xs ≡ Some (k + 1)) (sym e) whole.distinct;
 }
 
 -- the map is whole after a try to add an entry, whatever came of it
-pub IsWhole-tried : (horizon : Gxid) (gxids gxids' : List Gxid) (statuses statuses' : List LocalStatus) (m n : BTreeMap Gxid Lxid) (g : Gxid) (r : Result Lxid OutOfMemory) → IsWhole horizon gxids statuses m → lxid_in gxids g ≡ None → IfOk r (λ l. l.0 ≡ length gxids + 1) → OnOk r (gxids' ≡ gxids ++ g ∷ []) → OnOk r (statuses' ≡ statuses ++ Running ∷ []) → IfOk r (λ l. Updates gxid_cmp m n g (Some l)) → OnErr r (gxids' ≡ gxids) → OnErr r (statuses' ≡ statuses) → OnErr r (IsUnchanged m n) → IsWhole horizon gxids' statuses' n
-IsWhole-tried horizon gxids gxids' statuses statuses' m n g (Ok l) whole fresh next e f updates e' f' same =
-    subst (λ (xs : List Gxid). IsWhole horizon xs statuses' n) (sym e) (subst (λ (ss : List LocalStatus). IsWhole horizon (gxids ++ g ∷ []) ss n) (sym f) (IsWhole-assigned horizon gxids statuses m n g l whole fresh next updates))
-IsWhole-tried horizon gxids gxids' statuses statuses' m n g (Err o) whole fresh next e f updates e' f' same = IsWhole-same horizon gxids gxids' statuses statuses' m n whole e' f' same
+pub IsWhole-tried : (horizon : Gxid) (gxids gxids' : List Gxid) (statuses statuses' : List LocalStatus) (m n : BTreeMap Gxid Lxid) (g : Gxid) (r : Result Lxid OutOfMemory) → IsWhole horizon gxids statuses m → lxid_in gxids g ≡ None → horizon.0 ≤ g.0 → IfOk r (λ l. l.0 ≡ length gxids + 1) → OnOk r (gxids' ≡ gxids ++ g ∷ []) → OnOk r (statuses' ≡ statuses ++ Running ∷ []) → IfOk r (λ l. Updates gxid_cmp m n g (Some l)) → OnErr r (gxids' ≡ gxids) → OnErr r (statuses' ≡ statuses) → OnErr r (IsUnchanged m n) → IsWhole horizon gxids' statuses' n
+IsWhole-tried horizon gxids gxids' statuses statuses' m n g (Ok l) whole fresh high next e f updates e' f' same =
+    subst (λ (xs : List Gxid). IsWhole horizon xs statuses' n) (sym e) (subst (λ (ss : List LocalStatus). IsWhole horizon (gxids ++ g ∷ []) ss n) (sym f) (IsWhole-assigned horizon gxids statuses m n g l whole fresh high next updates))
+IsWhole-tried horizon gxids gxids' statuses statuses' m n g (Err o) whole fresh high next e f updates e' f' same = IsWhole-same horizon gxids gxids' statuses statuses' m n whole e' f' same
 
 lxid_of-high : (x : Xids) (g : Gxid) → x.horizon.0 ≤ g.0 → lxid_of x g ≡ lxid_in x.gxids g
 lxid_of-high x g high = grind (arith, nat_tests)

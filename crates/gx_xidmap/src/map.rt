@@ -1,10 +1,11 @@
-ghost use Rattle.std.specs.Prelude.{◌≡◌, ◌≢◌, ◌+◌, ◌≤◌, [], ◌∷◌, ◌++◌, length, None, Some, IfOk, OnOk, OnErr, IfSome, slice_get, option_and_then};
-ghost use Rattle.std.specs.BTreeMap.{get, keys, Updates, IsUnchanged};
+ghost use Rattle.std.specs.Prelude.{◌≡◌, ◌≢◌, ◌+◌, ◌≤◌, [], ◌∷◌, ◌++◌, length, None, Some, IfOk, OnOk, OnErr, IfSome, option_and_then};
+ghost use Rattle.std.specs.BTreeMap.{Updates, IsUnchanged};
 ghost use Rattle.gx_ids.specs.declared.ids.Gxid.{Gxid};
 ghost use Rattle.gx_ids.specs.declared.ids.Lxid.{Lxid};
 ghost use Rattle.gx_xidmap.specs.Xids.{IsGiven, gxid_of, lxid_of, status_of, kept, assigned, with_status, truncated};
 ghost use Rattle.gx_xidmap.specs.Keys.{gxid_cmp};
 
+use crate::below::drop_below;
 use crate::status::LocalStatus;
 use gx_ids::{Gxid, Lxid, Mem};
 use std::alloc::Global;
@@ -140,23 +141,4 @@ fn add_entry(
     gxids.push(gxid)?;
     statuses.push(LocalStatus::Running)?;
     Ok(lxid)
-}
-
-// Takes out the keys below the horizon.
-fn drop_below(lxids: &mut BTreeMap<Gxid, Lxid>, horizon: Gxid)
-    ensures { (g : Gxid) → horizon.0 ≤ g.0 → get gxid_cmp lxids.new g ≡ get gxid_cmp lxids.old g }
-{
-    while let Some(first) = first_key(lxids) {
-        if horizon <= first {
-            return;
-        }
-        lxids.pop_first();
-    }
-}
-
-fn first_key(lxids: &BTreeMap<Gxid, Lxid>) -> Option<Gxid>
-    ensures { IfSome result (λ g. slice_get (keys lxids.now) 0 ≡ Some g) }
-{
-    let (gxid, _) = lxids.first_key_value()?;
-    Some(*gxid)
 }

@@ -1,24 +1,22 @@
-use Rattle.std.proofs.Common.{arith, inl, inr}
+use Rattle.gx.proofs.Reports.{at_status, cut_short, failures, held, known, memory}
 use Rattle.gx.proofs.top.run_gx.Goals as goal
 
-pub returns-in-Done-clause-write_fault : goal.returns-in-Done-clause-write_fault
-returns-in-Done-clause-write_fault g c = λ five. elim c.told.ensures.ended [
-  | inl done ↦ absurd (omega (arith, done.0, five))
-  | inr cut ↦ record {
-    text = c.as_slice.result.now;
-    is = rw (c.told.ensures.same, c.as_slice.ensures.value) (inl (inl (inl (inl (inl c.in-Done.ensures.is)))));
-    rose = cut.1.0;
-    part = cut.1.1;
-  }
-]
-
-pub returns-in-Stopped-clause-write_fault : goal.returns-in-Stopped-clause-write_fault
-returns-in-Stopped-clause-write_fault g c = λ five. elim c.told-in-Stopped.ensures.ended [
-  | inl done ↦ absurd (omega (arith, done.0, five))
-  | inr cut ↦ record {
-    text = c.as_slice-in-Stopped.result.now;
-    is = rw (c.told-in-Stopped.ensures.same, c.as_slice-in-Stopped.ensures.value) (inl (inl (inl (inl (inr c.in-Stopped.ensures.is)))));
-    rose = cut.1.0;
-    part = cut.1.1;
-  }
-]
+pub returns : goal.returns
+returns g c =
+    let a = c.make_attempt-attempt.result in
+    let of = c.make_attempt-attempt.ensures.is in
+    let kept = c.make_attempt-attempt.ensures.kept in
+    let is = c.told_of.ensures in
+    record {
+      known = known _ _ _ _ _ a is;
+      done = λ e. at_status _ _ _ _ _ _ _ _ _ _ 0 a of is e (λ q. cc) (λ q. cc);
+      refused = λ e. at_status _ _ _ _ _ _ _ _ _ _ 3 a of is e (λ q. cc) (λ q. cc);
+      read_fault = λ e. at_status _ _ _ _ _ _ _ _ _ _ 4 a of is e (λ q. cc) (λ q. cc);
+      write_fault = cut_short _ _ _ _ _ _ _ _ _ _ a of is;
+      memory = memory _ _ _ _ _ _ _ _ _ _ a of is;
+      stopped = λ e. at_status _ _ _ _ _ _ _ _ _ _ 7 a of is e (λ q. cc) (λ q. cc);
+      too_large = λ e. at_status _ _ _ _ _ _ _ _ _ _ 9 a of is e (λ q. cc) (λ q. cc);
+      not_built = λ e. at_status _ _ _ _ _ _ _ _ _ _ 10 a of is e (λ q. cc) (λ q. cc);
+      held = held _ _ _ _ _ _ _ a is kept;
+      failures = failures _ _ _ _ _ _ _ a is kept;
+    }

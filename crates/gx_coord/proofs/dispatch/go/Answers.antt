@@ -3,7 +3,7 @@ use Rattle.std.proofs.lemmas.Grind.{common_steps}
 use Rattle.gx_rules.specs.AtCoordinator.{goes}
 use Rattle.gx_coord.specs.Books.{coord_of}
 use Rattle.gx_coord.specs.Turns.{IsTurn}
-use Rattle.gx_eval.specs.declared.fault.ArithFault.TheVariants.{DivisionByZero, Overflow}
+use Rattle.gx_meaning.specs.declared.fault.ArithFault.TheVariants.{DivisionByZero, Overflow}
 use Rattle.gx_eval.specs.declared.fault.EvalFault.TheVariants as eval
 use Rattle.gx_coord.proofs.dispatch.go.Goals as goal
 

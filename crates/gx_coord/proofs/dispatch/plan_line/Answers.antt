@@ -1,7 +1,7 @@
 use Rattle.std.proofs.Common.{◌≡◌, IfOk, Ok, true, arith, subst, sym}
 use Rattle.std.proofs.lemmas.Grind.{common_steps}
 use Rattle.gx_tree.specs.declared.schema.Dist.{Dist}
-use Rattle.gx_plan.specs.Plan.{plan_of}
+use Rattle.gx_meaning.specs.Plan.{plan_of}
 use Rattle.gx_rules.specs.AtCoordinator.{table_of}
 use Rattle.gx_coord.specs.Faults.{is_short}
 use Rattle.gx_coord.proofs.Faulting.{dist-at, planned-command}

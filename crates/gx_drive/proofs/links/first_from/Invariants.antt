@@ -1,7 +1,7 @@
 use Rattle.std.proofs.Common.{◌≡◌, ◌+◌, ◌-◌}
 use Rattle.std.specs.List.{flat_map}
 use Rattle.gx_ids.specs.declared.ids.Node.{Node}
-use Rattle.gx_plan.specs.Plan.{nodes_from}
+use Rattle.gx_meaning.specs.Plan.{nodes_from}
 use Rattle.gx_store.specs.Refusals.{the_coordinator}
 use Rattle.gx_store.specs.Schedule.{first_of, left_on, segments_of}
 use Rattle.gx_drive.proofs.links.first_from.Given as goal

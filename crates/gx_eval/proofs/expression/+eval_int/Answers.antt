@@ -1,5 +1,5 @@
 use Rattle.std.proofs.Common.{IsSome, refl, subst, sym}
-use Rattle.gx_eval.proofs.KindLemmas.{column_within, kind_of-column}
+use Rattle.gx_meaning.proofs.KindLemmas.{column_within, kind_of-column}
 use Rattle.gx_eval.proofs.expression.+eval_int.Goals as goal
 
 pub column_value-requires : goal.column_value-requires

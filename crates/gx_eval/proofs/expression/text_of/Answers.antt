@@ -1,8 +1,8 @@
 use Rattle.std.proofs.Common.{◌≡◌, ◌∙◌, ap, None, Some, Ok, Option, MatchOption}
-use Rattle.gx_eval.specs.Kinds.{kind_of, kinds_of, value_kind}
-use Rattle.gx_eval.specs.Meaning.{value_of}
-use Rattle.gx_eval.proofs.KindLemmas.{column_within, kind_of-column}
-use Rattle.gx_eval.proofs.Nodes.{value_of-col}
+use Rattle.gx_meaning.specs.Kinds.{kind_of, kinds_of, value_kind}
+use Rattle.gx_meaning.specs.Expressions.{value_of}
+use Rattle.gx_meaning.proofs.KindLemmas.{column_within, kind_of-column}
+use Rattle.gx_meaning.proofs.Nodes.{value_of-col}
 use Rattle.gx_eval.proofs.expression.text_of.Goals as goal
 
 pub column_value-requires : goal.column_value-requires

@@ -1,5 +1,5 @@
 use Rattle.std.proofs.Common.{◌≡◌, map, [], ◌∷◌, take}
-use Rattle.gx_gather.specs.Aggregates.{aggregate}
+use Rattle.gx_meaning.specs.Aggregates.{aggregate}
 use Rattle.gx_gather.proofs.cells.row_aggregates.Given as goal
 
 abbrev pub invariant-loop-item : goal.invariant-loop-item

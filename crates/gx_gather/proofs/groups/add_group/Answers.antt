@@ -1,9 +1,9 @@
 use Rattle.std.proofs.Common.{◌≡◌, cond, refl, ap, sym, subst, ◌∙◌}
 use Rattle.std.specs.Prelude.{IsSome, Some}
 use Rattle.std.specs.BTreeMap.{get}
-use Rattle.gx_gather.specs.Cells.{combine_all}
-use Rattle.gx_gather.specs.Groups.{is_same_key}
-use Rattle.gx_gather.specs.Order.{rising}
+use Rattle.gx_meaning.specs.Cells.{combine_all}
+use Rattle.gx_meaning.specs.Groups.{is_same_key}
+use Rattle.gx_meaning.specs.Order.{rising}
 use Rattle.gx_gather.proofs.Adding.{added_more, added_new, lookup-same}
 use Rattle.gx_gather.proofs.groups.add_group.Goals as goal
 

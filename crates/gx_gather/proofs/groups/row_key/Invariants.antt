@@ -1,5 +1,5 @@
 use Rattle.std.proofs.Common.{◌≡◌, take}
-use Rattle.gx_gather.specs.Groups.{key_of}
+use Rattle.gx_meaning.specs.Groups.{key_of}
 use Rattle.gx_gather.proofs.groups.row_key.Given as goal
 
 abbrev pub invariant-loop-column : goal.invariant-loop-column

@@ -1,5 +1,5 @@
 use Rattle.std.proofs.Common.{◌≡◌, drop}
-use Rattle.gx_gather.specs.Order.{by_places}
+use Rattle.gx_meaning.specs.Order.{by_places}
 use Rattle.gx_gather.proofs.order.compare_at.Given as goal
 
 abbrev pub invariant-loop-key : goal.invariant-loop-key

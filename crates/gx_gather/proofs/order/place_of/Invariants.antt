@@ -1,5 +1,5 @@
 use Rattle.std.proofs.Common.{◌≡◌, ◌+◌, drop}
-use Rattle.gx_gather.specs.Groups.{place_of}
+use Rattle.gx_meaning.specs.Groups.{place_of}
 use Rattle.gx_gather.proofs.order.place_of.Given as goal
 
 abbrev pub invariant-loop-place : goal.invariant-loop-place

@@ -1,5 +1,5 @@
 use Rattle.std.proofs.Common.{◌≡◌, map, take}
-use Rattle.gx_gather.specs.Answer.{row_cell}
+use Rattle.gx_meaning.specs.Answer.{row_cell}
 use Rattle.gx_gather.proofs.output.row_out.Given as goal
 
 abbrev pub invariant-loop-item : goal.invariant-loop-item

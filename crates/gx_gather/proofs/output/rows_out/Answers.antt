@@ -1,7 +1,7 @@
 use Rattle.gx_gather.proofs.Steps.{push_next}
 use Rattle.gx_gather.proofs.output.rows_out.Goals as goal
 use Rattle.std.proofs.Common.{ap, ◌∙◌, ◌++◌, map, drop, ◌+◌}
-use Rattle.gx_gather.specs.Answer.{row_cell}
+use Rattle.gx_meaning.specs.Answer.{row_cell}
 
 pub loop-row-preserved : goal.loop-row-preserved
 loop-row-preserved c =

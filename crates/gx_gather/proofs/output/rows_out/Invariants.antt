@@ -1,5 +1,5 @@
 use Rattle.std.proofs.Common.{◌≡◌, ◌++◌, map, drop}
-use Rattle.gx_gather.specs.Answer.{row_cell}
+use Rattle.gx_meaning.specs.Answer.{row_cell}
 use Rattle.gx_gather.proofs.output.rows_out.Given as goal
 
 abbrev pub invariant-loop-row : goal.invariant-loop-row

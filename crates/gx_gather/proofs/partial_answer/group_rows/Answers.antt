@@ -1,8 +1,8 @@
 use Rattle.gx_gather.proofs.Steps.{row_added}
 use Rattle.gx_gather.proofs.partial_answer.group_rows.Goals as goal
 use Rattle.std.proofs.Common.{◌∙◌, ap, sym, map, [], ◌∷◌}
-use Rattle.gx_gather.specs.Groups.{key_of}
-use Rattle.gx_gather.specs.Aggregates.{aggregate}
+use Rattle.gx_meaning.specs.Groups.{key_of}
+use Rattle.gx_meaning.specs.Aggregates.{aggregate}
 
 pub loop-row-preserved : goal.loop-row-preserved
 loop-row-preserved c = λ q.

@@ -1,8 +1,8 @@
 use Rattle.std.proofs.Common.{◌≡◌, List, [], map, drop}
 use Rattle.std.specs.BTreeMap.{get}
 use Rattle.gx_tree.specs.declared.value.Value.{Value}
-use Rattle.gx_gather.specs.Order.{rising}
-use Rattle.gx_gather.specs.Tallies.{row_group, tally, total_at}
+use Rattle.gx_meaning.specs.Order.{rising}
+use Rattle.gx_meaning.specs.Tallies.{row_group, tally, total_at}
 use Rattle.gx_gather.proofs.partial_answer.group_rows.Given as goal
 
 abbrev pub invariant-loop-row : goal.invariant-loop-row

@@ -1,6 +1,5 @@
 use Rattle.std.proofs.Common.{[]}
-use Rattle.gx_law_scripts.proofs.Numbers.{lines_numbered}
 use Rattle.gx_law_scripts.proofs.laws.scripts_have_segments_and_numbers.Goals as goal
 
 pub returns : goal.returns
-returns c = λ script is. (is.some_segments, lines_numbered [] script.lines is.numbers)
+returns c = λ script is. (is.some_segments, is.numbers)

@@ -1,5 +1,5 @@
 use Rattle.std.proofs.Common.{◌≡◌, take}
-use Rattle.gx_place.specs.Place.{hash_of}
+use Rattle.gx_meaning.specs.Place.{hash_of}
 use Rattle.gx_place.proofs.fnv.hash.Given as goal
 
 abbrev pub invariant-loop-byte : goal.invariant-loop-byte

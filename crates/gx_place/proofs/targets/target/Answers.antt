@@ -1,6 +1,6 @@
 use Rattle.std.proofs.Common.{◌≡◌, rules, subst, sym}
 use Rattle.std.specs.Option.{option_copied}
-use Rattle.gx_place.specs.Target.{IsFalseOutside, target_of}
+use Rattle.gx_meaning.specs.Target.{IsFalseOutside, target_of}
 use Rattle.gx_place.proofs.Outside.{target_of-outside}
 use Rattle.gx_place.proofs.targets.target.Goals as goal
 

@@ -1,7 +1,7 @@
 use Rattle.std.proofs.Common.{◌≡◌, ◌∙◌, ◌≤◌, ◌+◌, ◌-◌, ap, arith}
 use Rattle.gx_tree.specs.declared.row.KeyedRow.{KeyedRow}
-use Rattle.gx_place.specs.Place.{row_place}
-use Rattle.gx_plan.specs.Plan.{put_at}
+use Rattle.gx_meaning.specs.Place.{row_place}
+use Rattle.gx_meaning.specs.Plan.{put_at}
 use Rattle.gx_plan.proofs.Dealt.{within, put_at-dealt}
 use Rattle.gx_plan.proofs.insertion.deal.Goals as goal
 

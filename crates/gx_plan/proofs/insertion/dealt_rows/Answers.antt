@@ -1,7 +1,7 @@
 use Rattle.std.proofs.Common.{◌+◌, ◌≡◌, ◌∙◌, [], ◌∷◌, ◌++◌, Ok, Err, ap, refl, subst, length, arith}
 use Rattle.std.proofs.lemmas.Grind.{common_steps}
 use Rattle.gx_eval.specs.Faults.{eval_fault}
-use Rattle.gx_plan.specs.Constants.{tuple_row, keyed, values_of}
+use Rattle.gx_meaning.specs.Constants.{tuple_row, keyed, values_of}
 use Rattle.gx_plan.proofs.Dealt.{dealt-none, length-dealt}
 use Rattle.gx_plan.proofs.Each.{each_from-fault, each_from-push, fault_first}
 use Rattle.gx_plan.proofs.insertion.dealt_rows.Goals as goal

@@ -1,6 +1,6 @@
 use Rattle.std.proofs.Common.{◌≡◌, ◌++◌, length}
 use Rattle.std.specs.Vec.Iter.{into_iter_items}
-use Rattle.gx_plan.specs.Plan.{bucket_pieces}
+use Rattle.gx_meaning.specs.Plan.{bucket_pieces}
 use Rattle.gx_plan.proofs.insertion.insert_pieces.Given as goal
 
 abbrev pub invariant-loop-rows : goal.invariant-loop-rows

@@ -1,8 +1,8 @@
 use Rattle.std.proofs.Common.{◌≡◌, ◌∙◌, Ok, ap, sym, subst, length, arith}
 use Rattle.std.proofs.lemmas.Grind.{common_steps}
-use Rattle.gx_eval.specs.Meaning.{and_then}
-use Rattle.gx_plan.specs.Constants.{rows_of}
-use Rattle.gx_plan.specs.Plan.{bucket_pieces, insert_pieces, plan_of}
+use Rattle.gx_meaning.specs.Expressions.{and_then}
+use Rattle.gx_meaning.specs.Constants.{rows_of}
+use Rattle.gx_meaning.specs.Plan.{bucket_pieces, insert_pieces, plan_of}
 use Rattle.gx_plan.proofs.Dealt.{bucket_pieces-dealt, length-dealt}
 use Rattle.gx_plan.proofs.planning.plan.Goals as goal
 

@@ -1,5 +1,5 @@
 use Rattle.std.proofs.Common.{◌∙◌, ◌+◌, ◌++◌, ◌∷◌, [], ap}
-use Rattle.gx_plan.specs.Plan.{piece}
+use Rattle.gx_meaning.specs.Plan.{piece}
 use Rattle.gx_plan.proofs.Sent.{sent_more}
 use Rattle.gx_plan.proofs.sending.copies.Goals as goal
 

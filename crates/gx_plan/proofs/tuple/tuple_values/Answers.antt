@@ -1,7 +1,7 @@
 use Rattle.std.proofs.Common.{◌≡◌, Err, subst, arith}
 use Rattle.std.proofs.lemmas.Grind.{common_steps}
 use Rattle.gx_eval.specs.Faults.{eval_fault}
-use Rattle.gx_plan.specs.Constants.{constant}
+use Rattle.gx_meaning.specs.Constants.{constant}
 use Rattle.gx_plan.proofs.Each.{each_from-fault, each_from-push}
 use Rattle.gx_plan.proofs.tuple.tuple_values.Goals as goal
 

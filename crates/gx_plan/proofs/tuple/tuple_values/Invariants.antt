@@ -1,5 +1,5 @@
 use Rattle.std.proofs.Common.{◌≡◌, Ok, take}
-use Rattle.gx_plan.specs.Constants.{values_of}
+use Rattle.gx_meaning.specs.Constants.{values_of}
 use Rattle.gx_plan.proofs.tuple.tuple_values.Given as goal
 
 abbrev pub invariant-loop-expr : goal.invariant-loop-expr

@@ -1,6 +1,6 @@
 use Rattle.std.proofs.Common.{◌≡◌, ◌++◌, take, map}
 use Rattle.std.specs.List.{flat_map}
-use Rattle.gx_gather.specs.Aggregates.{cell_of}
+use Rattle.gx_meaning.specs.Aggregates.{cell_of}
 use Rattle.gx_report.specs.Text.{behind_bar}
 use Rattle.gx_report.proofs.tables.push_values.Given as goal
 

@@ -1,7 +1,7 @@
 use Rattle.std.proofs.Common.{ap, ◌∙◌}
 use Rattle.gx_ids.specs.declared.ids.Gxid.{Gxid}
 use Rattle.gx_script.specs.declared.Script.{Script}
-use Rattle.gx_local.specs.Store.{Store, greater}
+use Rattle.gx_slices.specs.Store.{Store, greater}
 use Rattle.gx_rules.specs.AtSegment.{raised}
 use Rattle.gx_rules.specs.Segments.{Seg}
 use Rattle.gx_segment.proofs.Doing.{HasDone-run}

@@ -1,7 +1,7 @@
 use Rattle.std.proofs.Common.{◌≡◌, ◌++◌, Some, filter}
 use Rattle.std.specs.List.{AllByRecursion}
 use Rattle.std.specs.Vec.Iter.{into_iter_items}
-use Rattle.gx_gather.specs.Answer.{keeps}
+use Rattle.gx_meaning.specs.Answer.{keeps}
 use Rattle.gx_rules.specs.Slices.{first_fault}
 use Rattle.gx_slices.specs.Picked.{IsTypedOn}
 use Rattle.gx_slices.proofs.picking.pick_by.Given as goal

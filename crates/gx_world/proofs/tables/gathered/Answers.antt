@@ -1,7 +1,7 @@
 use Rattle.std.proofs.Common.{ap, ◌∙◌}
 use Rattle.std.specs.BTreeMap.{get}
 use Rattle.std.specs.Option.{option_or}
-use Rattle.gx_gather.specs.Order.{rid_order}
+use Rattle.gx_meaning.specs.Order.{rid_order}
 use Rattle.gx_world.specs.Tables.{last_at}
 use Rattle.gx_world.proofs.Gathered.{one-more}
 use Rattle.gx_world.proofs.tables.gathered.Goals as goal

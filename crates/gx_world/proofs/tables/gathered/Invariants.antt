@@ -1,6 +1,6 @@
 use Rattle.std.proofs.Common.{◌≡◌}
 use Rattle.std.specs.BTreeMap.{get}
-use Rattle.gx_gather.specs.Order.{rid_order}
+use Rattle.gx_meaning.specs.Order.{rid_order}
 use Rattle.gx_ids.specs.declared.rid.Rid.{Rid}
 use Rattle.gx_world.specs.Tables.{last_at, shown_by}
 use Rattle.gx_world.proofs.tables.gathered.Given as goal

@@ -1,5 +1,5 @@
 use Rattle.std.proofs.Common.{length, subst}
-use Rattle.gx_sql.specs.Language.{IsLine}
+use Rattle.gx_store.specs.Language.{IsLine}
 use Rattle.gx_agenda.specs.FreshQueue.{AreFresh}
 use Rattle.gx_agenda.specs.Queued.{AreFirst}
 use Rattle.gx_agenda.proofs.Growing.{fresh-queued}

@@ -17,7 +17,7 @@ is_fresh c = fresh_in (xids c) c.args.gxid (subst (λ (x : Xids). lxid_of x c.ar
 pub invariant_of-self : goal.invariant_of-self
 invariant_of-self c =
     let e = c.add_entry.ensures in
-    IsWhole-tried _ _ _ _ _ _ _ c.args.gxid c.add_entry.result c.self.invariant (is_fresh c) e.next e.gxids e.statuses e.lxids e.gxids_stay e.statuses_stay e.lxids_stay
+    IsWhole-tried _ _ _ _ _ _ _ c.args.gxid c.add_entry.result c.self.invariant (is_fresh c) (is_high c) e.next e.gxids e.statuses e.lxids e.gxids_stay e.statuses_stay e.lxids_stay
 
 pub returns-clause-found : goal.returns-clause-found
 returns-clause-found c =

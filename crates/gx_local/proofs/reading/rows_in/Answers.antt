@@ -1,5 +1,0 @@
-use Rattle.gx_local.proofs.Shown.{AreRising-nil}
-use Rattle.gx_local.proofs.reading.rows_in.Goals as goal
-
-pub returns-in-None-clause-rising : goal.returns-in-None-clause-rising
-returns-in-None-clause-rising c = AreRising-nil c.new.result.items c.new.ensures.items

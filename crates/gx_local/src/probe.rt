@@ -1,9 +1,0 @@
-// What a node holds may go to its thread.
-
-use crate::store::LocalStore;
-
-fn is_send<T: Send>(_value: &T) {}
-
-pub(crate) fn store_is_send(store: &LocalStore) {
-    is_send(store);
-}

@@ -1,0 +1,14 @@
+pub mod Aggregates
+pub mod Answer
+pub mod Cells
+pub mod Constants
+pub mod Expressions
+pub mod Groups
+pub mod Kinds
+pub mod Merged
+pub mod Order
+pub mod Place
+pub mod Plan
+pub mod Statements
+pub mod Tallies
+pub mod Target

@@ -1,0 +1,10 @@
+use thiserror::Error;
+
+/// A fault of whole-number evaluation.
+#[derive(Clone, Copy, Debug, PartialEq, Eq, Error)]
+pub enum ArithFault {
+    #[error("overflow")]
+    Overflow,
+    #[error("division by zero")]
+    DivisionByZero,
+}

@@ -1,0 +1,6 @@
+/// A place in lists of values by which they are ordered.
+#[derive(Clone, Copy, Debug)]
+pub struct SortKey {
+    pub place: usize,
+    pub desc: bool,
+}

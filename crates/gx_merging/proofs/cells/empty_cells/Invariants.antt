@@ -1,6 +1,0 @@
-use Rattle.std.proofs.Common.{◌≡◌, map, [], take}
-use Rattle.gx_gather.specs.Aggregates.{aggregate}
-use Rattle.gx_merging.proofs.cells.empty_cells.Given as goal
-
-abbrev pub invariant-loop-item : goal.invariant-loop-item
-invariant-loop-item l = l.cells.items ≡ map (aggregate []) (take l.item-index l.items)

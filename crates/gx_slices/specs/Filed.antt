@@ -1,0 +1,94 @@
+-- How the store is kept: versions name their writers by lxids.
+use Rattle.std.specs.Prelude.{◌≡◌, List, [], ◌∷◌, length, map, Option, None, Some, unwrap_or, option_and_then, is_some, if◌then◌else◌}
+use Rattle.std.specs.List.{flat_map, AllByRecursion}
+use Rattle.std.specs.Map.{lookup}
+use Rattle.std.specs.BTreeMap.{is_at, insert_entry}
+use Rattle.gx_ids.specs.declared.ids.Gxid.{Gxid}
+use Rattle.gx_ids.specs.declared.ids.Lxid.{Lxid}
+use Rattle.gx_ids.specs.declared.ids.Table.{Table}
+use Rattle.gx_ids.specs.declared.ids.Cid.{Cid}
+use Rattle.gx_ids.specs.declared.rid.Rid.{Rid}
+use Rattle.gx_tree.specs.declared.row.KeyedRow.{KeyedRow}
+use Rattle.gx_tree.specs.declared.value.Value.{Value}
+use Rattle.gx_dsnap.specs.declared.snapshot.Snapshot.{Snapshot}
+use Rattle.gx_xidmap.specs.declared.status.LocalStatus.{LocalStatus}
+use Rattle.gx_xidmap.specs.Xids.{Xids, at_lxid, lxid_in, lxid_of, gxid_of, assigned, status_of, with_status}
+use Rattle.gx_rows.specs.declared.version.Version.{Version}
+use Rattle.gx_rows.specs.Rows.{versions_of, added, rids_of, last_passing, is_unaborted}
+use Rattle.gx_visible.specs.Counts.{shown_of}
+use Rattle.gx_slices.specs.Store.{Store, Write, Writer, kept_at, table_cmp}
+use Rattle.gx_slices.specs.declared.current.Current.{Current}
+
+-- the gxid of an lxid, dropped or not
+abbrev pub gxid_at : List Gxid → Lxid → Gxid
+gxid_at gxids l = unwrap_or (at_lxid gxids l) (record { 0 = 0 })
+
+abbrev pub write_of : List Gxid → Version → Write
+write_of gxids v = record { gxid = gxid_at gxids v.lxid; cid = v.cid; image = v.image }
+
+abbrev pub writers_of : List Gxid → List LocalStatus → List Writer
+writers_of [] statuses = []
+writers_of (g ∷ gxids) [] = []
+writers_of (g ∷ gxids) (s ∷ statuses) = (record { gxid = g; status = s }) ∷ writers_of gxids statuses
+
+-- the store of these versions
+abbrev pub store_of : List (Table × List (Rid × List Version)) → Xids → Store
+store_of tables x = record {
+  tables = map (λ t. (t.0, map (λ r. (r.0, map (write_of x.gxids) r.1)) t.1)) tables;
+  writers = writers_of x.gxids x.statuses;
+  horizon = x.horizon;
+}
+
+-- a version stands in its table, and its lxid is that of its writer
+abbrev pub IsFiled : List Gxid → Table → Version → Type 0
+IsFiled gxids table v = (v.table.0 ≡ table.0) × (lxid_in gxids (gxid_at gxids v.lxid) ≡ Some v.lxid)
+
+-- each transaction has a status, and each version is filed
+pub record IsSound (tables : List (Table × List (Rid × List Version))) (x : Xids) : Type 0 where
+  pub paired : length x.statuses ≡ length x.gxids
+  pub filed : (table : Table) (rid : Rid) → AllByRecursion (IsFiled x.gxids table) (kept_at tables table rid)
+
+-- the versions of the rows of a table
+abbrev pub versions_in : List (Table × List (Rid × List Version)) → Table → List (Rid × List Version)
+versions_in tables table = unwrap_or (lookup (is_at (table_cmp table)) tables) []
+
+-- with one version more
+abbrev pub filed : List (Table × List (Rid × List Version)) → Table → Rid → Version → List (Table × List (Rid × List Version))
+filed tables table rid v = insert_entry table_cmp tables table (added (versions_in tables table) rid v)
+
+-- with a transaction that is new here or not
+abbrev pub with_writer : Xids → Gxid → Xids
+with_writer x g = if is_some (lxid_of x g) then x else assigned x g
+
+-- the row that a rid shows to a reader which has this lxid
+abbrev pub image_at : List (Rid × List Version) → Xids → Snapshot → Option Lxid → Cid → Rid → Option (List Value)
+image_at versions x snap own cid rid = option_and_then (λ v. v.image) (shown_of (versions_of versions rid) x snap own cid)
+
+-- a row with its identity, if it is there
+abbrev pub keyed : Rid → Option (List Value) → List KeyedRow
+keyed rid None = []
+keyed rid (Some row) = (record { rid = rid; row = row }) ∷ []
+
+-- the rows of a table that are shown
+abbrev pub rows_at : List (Rid × List Version) → Xids → Table → Snapshot → Option Lxid → Cid → List KeyedRow
+rows_at versions x table snap own cid = flat_map (λ rid. keyed rid (image_at versions x snap own cid rid)) (rids_of versions table)
+
+-- the last of the versions that isn't aborted
+abbrev pub last_unaborted : List Version → Xids → Option Version
+last_unaborted versions x = last_passing (λ v. is_unaborted (status_of x v.lxid)) versions
+
+-- who wrote a version, where that is known, and by which command
+abbrev pub current_at : Xids → Version → Current
+current_at x v = record { writer = gxid_of x v.lxid; cid = v.cid }
+
+-- with this status of a transaction, if it is here
+abbrev pub with_status_at : Option Lxid → Xids → LocalStatus → Xids
+with_status_at None x s = x
+with_status_at (Some l) x s = with_status x l s
+
+-- the tables and the transactions with one version more, which has its writer's lxid
+pub record IsWritten (tables tables' : List (Table × List (Rid × List Version))) (x x' : Xids) (g : Gxid) (c : Cid) (table : Table) (rid : Rid) (image : Option (List Value)) : Type 0 where
+  pub lxid : Lxid
+  pub found : lxid_of x' g ≡ Some lxid
+  pub writer : x' ≡ with_writer x g
+  pub version : tables' ≡ filed tables table rid (record { image = image; table = table; lxid = lxid; cid = c })

@@ -1,0 +1,169 @@
+ghost use Rattle.std.specs.Prelude.{◌≡◌, ◌≢◌, ◌≤◌, ◌⊎◌, ◌++◌, ◌∷◌, [], Some, IsSome, IfOk, OnOk, OnErr, unwrap_or, is_some, option_map, option_and_then};
+ghost use Rattle.std.specs.Option.{ForSome, option_copied};
+ghost use Rattle.gx_ids.specs.declared.ids.Gxid.{Gxid};
+ghost use Rattle.gx_ids.specs.declared.ids.Table.{Table};
+ghost use Rattle.gx_ids.specs.declared.rid.Rid.{Rid};
+ghost use Rattle.gx_meaning.specs.Answer.{AreRising};
+ghost use Rattle.gx_store.specs.Rows.{row_at};
+ghost use Rattle.gx_slices.specs.Store.{empty, writes_of, status_of, shown_row, shown_row_from, newest_of, current_of, greater};
+
+use crate::current::Current;
+use crate::reading::{current_in, current_row_in, own_lxid, rows_in};
+use crate::writing::{set_status_in, status_in, write_in};
+use gx_dsnap::Snapshot;
+use gx_ids::{Cid, Gxid, Mem, Rid, Table};
+use gx_rows::Versions;
+use gx_tree::{KeyedRow, Row};
+use gx_xidmap::{LocalStatus, XidMap};
+use std::alloc::Global;
+use std::collections::BTreeMap;
+use std::marker::Model;
+
+/// What one segment keeps of rows: the writes to each row of each table, what became here of each transaction that wrote
+/// here, and the horizon, below which nobody asks for a transaction any more (Lyu et al., SIGMOD 2021). Contracts see all
+/// of it by gxids.
+#[derive(Drop)]
+pub struct LocalStore {
+    alloc: Global,
+    tables: BTreeMap<Table, Versions>,
+    xids: XidMap,
+}
+
+impl Model for LocalStore {
+    ghost use Rattle.gx_slices.specs.Store.{Store};
+    ghost use Rattle.gx_slices.specs.Filed.{store_of, IsSound};
+
+    ghost Value = { Store };
+
+    ghost view = { λ a. store_of a.tables.entries a.xids };
+
+    ghost invariant = { λ a. IsSound a.tables.entries a.xids };
+}
+
+impl LocalStore {
+    /// A store without writes, and a horizon below each transaction.
+    pub fn new(alloc: Global) -> Mem<LocalStore>
+        ensures { IfOk result (λ store. store ≡ empty) }
+    {
+        Ok(LocalStore {
+            alloc,
+            tables: BTreeMap::new(alloc),
+            xids: XidMap::new(alloc)?,
+        })
+    }
+
+    /// Adds a write to a row, at the end of the row's. A transaction that writes here for the first time is running here
+    /// from then on; after want of memory it may be so too, though nothing was written.
+    pub fn write(
+        &mut self,
+        gxid: Gxid,
+        cid: Cid,
+        table: Table,
+        rid: Rid,
+        image: Option<Row>,
+    ) -> Mem<()>
+        requires { self.old.horizon.0 ≤ gxid.0 }
+        ensures written { OnOk result (writes_of self.new table rid ≡ writes_of self.old table rid ++ (record { gxid = gxid; cid = cid; image = image }) ∷ []) }
+        ensures rows { OnOk result ((r : Rid) → r ≢ rid → writes_of self.new table r ≡ writes_of self.old table r) }
+        ensures tables { OnOk result ((t : Table) (r : Rid) → t ≢ table → writes_of self.new t r ≡ writes_of self.old t r) }
+        ensures status { OnOk result (status_of self.new gxid ≡ Some (unwrap_or (status_of self.old gxid) LocalStatus.Running)) }
+        ensures others { (g : Gxid) → g.0 ≢ gxid.0 → status_of self.new g ≡ status_of self.old g }
+        ensures horizon { self.new.horizon ≡ self.old.horizon }
+        ensures err { OnErr result ((t : Table) (r : Rid) → writes_of self.new t r ≡ writes_of self.old t r) }
+        ensures tried { OnErr result ((status_of self.new gxid ≡ status_of self.old gxid) ⊎ (status_of self.new gxid ≡ Some (unwrap_or (status_of self.old gxid) LocalStatus.Running))) }
+    {
+        write_in(
+            self.alloc,
+            &mut self.tables,
+            &mut self.xids,
+            gxid,
+            cid,
+            table,
+            rid,
+            image,
+        )
+    }
+
+    /// Whether the transaction has written here.
+    pub fn has_written(&self, gxid: Gxid) -> bool
+        requires { self.now.horizon.0 ≤ gxid.0 }
+        ensures { result ≡ is_some (status_of self.now gxid) }
+    {
+        status_in(&self.xids, gxid).is_some()
+    }
+
+    /// What became of a transaction here, none where it never wrote here.
+    pub fn status(&self, gxid: Gxid) -> Option<LocalStatus>
+        requires { self.now.horizon.0 ≤ gxid.0 }
+        ensures { result ≡ status_of self.now gxid }
+    {
+        status_in(&self.xids, gxid)
+    }
+
+    /// Sets what became of a transaction that wrote here. Of one that didn't, nothing is kept.
+    pub fn set_status(&mut self, gxid: Gxid, status: LocalStatus)
+        requires { self.old.horizon.0 ≤ gxid.0 }
+        ensures set { status_of self.new gxid ≡ option_map (λ _. status) (status_of self.old gxid) }
+        ensures others { (g : Gxid) → g.0 ≢ gxid.0 → status_of self.new g ≡ status_of self.old g }
+        ensures writes { self.new.tables ≡ self.old.tables }
+        ensures horizon { self.new.horizon ≡ self.old.horizon }
+    {
+        set_status_in(&mut self.xids, gxid, status);
+    }
+
+    /// Raises the horizon, where this one is greater, and forgets who the transactions below it are.
+    pub fn raise_horizon(&mut self, horizon: Gxid)
+        ensures { self.new ≡ record self.old { horizon = greater self.old.horizon horizon } }
+    {
+        self.xids.truncate(horizon);
+    }
+
+    /// The rows of a table that a reader is shown, rising by their identities (PostgreSQL manual 13.2): `own` is its
+    /// transaction, where it has one, and `cid` its command. The horizon has to be low enough for it.
+    pub fn shown_rows(
+        &self,
+        table: Table,
+        snap: &Snapshot,
+        own: Option<Gxid>,
+        cid: Cid,
+    ) -> Mem<Vec<KeyedRow>>
+        requires low { self.now.horizon.0 ≤ snap.now.xmin.0 }
+        requires alive { ForSome own (λ g. self.now.horizon.0 ≤ g.0) }
+        ensures rising { IfOk result (λ rows. AreRising rows.items) }
+        ensures images { IfOk result (λ rows. (rid : Rid) → row_at rows.items rid ≡ shown_row self.now snap.now own cid table rid) }
+    {
+        let own = own_lxid(&self.xids, own);
+        rows_in(self.alloc, &self.tables, &self.xids, table, snap, own, cid)
+    }
+
+    /// The same for a reader whose snapshot may be older than the horizon, as that of a command which comes late for a
+    /// transaction that has ended elsewhere.
+    pub fn shown_rows_from(
+        &self,
+        table: Table,
+        snap: &Snapshot,
+        own: Option<Gxid>,
+        cid: Cid,
+    ) -> Mem<Vec<KeyedRow>>
+        requires alive { ForSome own (λ g. self.now.horizon.0 ≤ g.0) }
+        ensures rising { IfOk result (λ rows. AreRising rows.items) }
+        ensures images { IfOk result (λ rows. (rid : Rid) → row_at rows.items rid ≡ shown_row_from self.now snap.now own cid table rid) }
+    {
+        let own = own_lxid(&self.xids, own);
+        rows_in(self.alloc, &self.tables, &self.xids, table, snap, own, cid)
+    }
+
+    /// The newest write to a row that isn't aborted here, none where there is none.
+    pub fn current(&self, table: Table, rid: Rid) -> Option<Current>
+        ensures { result ≡ option_map (current_of self.now) (newest_of self.now table rid) }
+    {
+        current_in(&self.tables, &self.xids, table, rid)
+    }
+
+    /// The row that the newest write which isn't aborted here left, none where that is gone or there is no such write.
+    pub fn current_row(&self, table: Table, rid: Rid) -> Option<&Row>
+        ensures { option_copied result ≡ option_and_then (λ w. w.image) (newest_of self.now table rid) }
+    {
+        current_row_in(&self.tables, &self.xids, table, rid)
+    }
+}

@@ -1,0 +1,85 @@
+ghost use Rattle.std.specs.Prelude.{◌≡◌, ◌≤◌, ◌⊎◌, Some, IfOk, OnOk, OnErr, option_map};
+ghost use Rattle.std.specs.BTreeMap.{IsUnchanged};
+ghost use Rattle.gx_xidmap.specs.Xids.{lxid_of, status_of};
+ghost use Rattle.gx_slices.specs.Filed.{IsWritten, filed, with_status_at, with_writer};
+
+use gx_ids::{Cid, Gxid, Lxid, Mem, Rid, Table};
+use gx_rows::Versions;
+use gx_tree::Row;
+use gx_xidmap::{LocalStatus, XidMap};
+use std::alloc::Global;
+use std::collections::BTreeMap;
+
+// Gives the writer its lxid, where it has none, and adds the version.
+pub(crate) fn write_in(
+    alloc: Global,
+    tables: &mut BTreeMap<Table, Versions>,
+    xids: &mut XidMap,
+    gxid: Gxid,
+    cid: Cid,
+    table: Table,
+    rid: Rid,
+    image: Option<Row>,
+) -> Mem<()>
+    requires { xids.old.horizon.0 ≤ gxid.0 }
+    ensures ok { OnOk result (IsWritten tables.old.entries tables.new.entries xids.old xids.new gxid cid table rid image) }
+    ensures err { OnErr result (IsUnchanged tables.old tables.new) }
+    ensures tried { OnErr result ((xids.new ≡ xids.old) ⊎ (xids.new ≡ with_writer xids.old gxid)) }
+{
+    let lxid = lxid_for(xids, gxid)?;
+    add_version(alloc, tables, table, rid, image, lxid, cid)
+}
+
+// The transaction's lxid, which it is given where it has none.
+fn lxid_for(xids: &mut XidMap, gxid: Gxid) -> Mem<Lxid>
+    requires { xids.old.horizon.0 ≤ gxid.0 }
+    ensures ok { OnOk result (xids.new ≡ with_writer xids.old gxid) }
+    ensures lxid { IfOk result (λ lxid. lxid_of xids.new gxid ≡ Some lxid) }
+    ensures err { OnErr result (xids.new ≡ xids.old) }
+{
+    match xids.lxid_of(gxid) {
+        Some(lxid) => Ok(lxid),
+        None => xids.assign(gxid),
+    }
+}
+
+// Adds a version at the end of its row's.
+fn add_version(
+    alloc: Global,
+    tables: &mut BTreeMap<Table, Versions>,
+    table: Table,
+    rid: Rid,
+    image: Option<Row>,
+    lxid: Lxid,
+    cid: Cid,
+) -> Mem<()>
+    ensures ok { OnOk result (tables.new.entries ≡ filed tables.old.entries table rid (record { image = image; table = table; lxid = lxid; cid = cid })) }
+    ensures err { OnErr result (IsUnchanged tables.old tables.new) }
+{
+    match tables.get_mut(&table) {
+        Some(versions) => versions.add(rid, table, image, lxid, cid),
+        None => {
+            let mut versions = Versions::new(alloc)?;
+            versions.add(rid, table, image, lxid, cid)?;
+            tables.insert(table, versions)?;
+            Ok(())
+        }
+    }
+}
+
+// What became of a transaction here, if it has an entry.
+pub(crate) fn status_in(xids: &XidMap, gxid: Gxid) -> Option<LocalStatus>
+    ensures { result ≡ option_map (status_of xids.now) (lxid_of xids.now gxid) }
+{
+    let lxid = xids.lxid_of(gxid)?;
+    Some(xids.status(lxid))
+}
+
+// Sets it, if it has an entry.
+pub(crate) fn set_status_in(xids: &mut XidMap, gxid: Gxid, status: LocalStatus)
+    ensures { xids.new ≡ with_status_at (lxid_of xids.old gxid) xids.old status }
+{
+    if let Some(lxid) = xids.lxid_of(gxid) {
+        xids.set_status(lxid, status);
+    }
+}
