@@ -1,68 +1,59 @@
-// Wait graphs, their reduction, the core of what is stuck, and the victims.
+// Wait graphs and their victims. An edge is its node, its waiter, its holder, and whether it is dotted.
 use gx_ids::{Gxid, Mem, Node};
-use gx_reduce::{core, reduce, victims};
+use gx_reduce::victims;
 use gx_waits::{Edge, LocalGraph};
 use std::alloc::Global;
 use std::test::Fail;
 
-fn solid(waiter: u64, holder: u64) -> Edge {
-    Edge {
-        waiter: Gxid(waiter),
-        holder: Gxid(holder),
-        dotted: false,
-    }
-}
+type Case = (u8, u64, u64, bool);
 
-fn dotted(waiter: u64, holder: u64) -> Edge {
-    Edge {
-        waiter: Gxid(waiter),
-        holder: Gxid(holder),
-        dotted: true,
-    }
-}
+// 2, 3 and 4 wait in a cycle that a tuple lock opens; 5 and 6 are in a deadlock, which keeps it closed.
+const CYCLE: [Case; 6] = [
+    (1, 2, 6, true),
+    (1, 3, 2, false),
+    (1, 4, 3, true),
+    (1, 6, 5, false),
+    (2, 3, 4, false),
+    (2, 5, 6, false),
+];
 
-fn graph(alloc: Global, node: u8, edges: &[Edge]) -> Mem<LocalGraph> {
+// Without the deadlock nothing keeps it closed.
+const OPEN: [Case; 3] = [(1, 3, 2, false), (1, 4, 3, true), (2, 3, 4, false)];
+
+const TWO_DEADLOCKS: [Case; 5] = [
+    (1, 2, 3, false),
+    (1, 9, 4, false),
+    (1, 4, 5, false),
+    (2, 3, 2, false),
+    (2, 5, 4, false),
+];
+
+fn graph(alloc: Global, node: u8, cases: &[Case]) -> Mem<LocalGraph> {
     let mut graph = LocalGraph::new(alloc, Node(node))?;
-    for edge in edges {
-        graph.add(*edge)?;
+    for (at, waiter, holder, dotted) in cases {
+        if *at == node {
+            graph.add(Edge {
+                waiter: Gxid(*waiter),
+                holder: Gxid(*holder),
+                dotted: *dotted,
+            })?;
+        }
     }
     Ok(graph)
 }
 
-fn two_graphs(alloc: Global, first: &[Edge], second: &[Edge]) -> Mem<Vec<LocalGraph>> {
-    let graphs = vec![in alloc; graph(alloc, 1, first)?, graph(alloc, 2, second)?]?;
-    Ok(graphs)
-}
-
-// 2, 3 and 4 wait in a cycle that a tuple lock opens; 5 and 6 are in a deadlock, which keeps it closed.
-#[test]
-fn a_cycle_of_edges_is_no_deadlock_by_itself(rt: HostRuntime) -> Result<(), Fail> {
-    let alloc = rt.alloc();
-    let first = [dotted(2, 6), solid(3, 2), dotted(4, 3), solid(6, 5)];
-    let graphs = two_graphs(
-        alloc,
-        first.as_slice(),
-        [solid(3, 4), solid(5, 6)].as_slice(),
-    )?;
-    assert!(rt; reduce(alloc, &graphs)? == graphs);
-    assert_eq!(rt; core(alloc, &graphs)?.len(), 5);
-    assert_eq!(rt; victims(alloc, &graphs)?.as_slice(), [Gxid(6)].as_slice());
-    let mut rest = Vec::new(alloc);
-    for graph in &graphs {
-        rest.push(graph.without(alloc, Gxid(6))?)?;
-    }
-    assert!(rt; victims(alloc, &rest)?.is_empty());
-    Ok(())
+fn chosen(alloc: Global, cases: &[Case]) -> Mem<Vec<Gxid>> {
+    let graphs = [graph(alloc, 1, cases)?, graph(alloc, 2, cases)?];
+    victims(alloc, graphs.as_slice())
 }
 
 #[test]
-fn two_deadlocks_have_two_victims(rt: HostRuntime) -> Result<(), Fail> {
+fn victims_are_of_deadlocks_alone(rt: HostRuntime) -> Result<(), Fail> {
     let alloc = rt.alloc();
-    let first = [solid(2, 3), solid(9, 4), solid(4, 5)];
-    let second = [solid(3, 2), solid(5, 4)];
-    let graphs = two_graphs(alloc, first.as_slice(), second.as_slice())?;
+    assert_eq!(rt; chosen(alloc, &CYCLE)?.as_slice(), [Gxid(6)].as_slice());
+    assert!(rt; chosen(alloc, &OPEN)?.is_empty());
     assert_eq!(rt;
-        victims(alloc, &graphs)?.as_slice(),
+        chosen(alloc, &TWO_DEADLOCKS)?.as_slice(),
         [Gxid(5), Gxid(3)].as_slice()
     );
     Ok(())

@@ -1,9 +1,9 @@
 //! Tests of what no script reaches yet: the public calls of crates that the program's runs don't call, the outside where it
 //! fails, and definitions beside values from outside.
+//!
+//! A value that would be let go is forgotten: what frees it would be proved here once more.
 #![tactic(auto)]
 
-#[cfg(test)]
-mod gathering;
 #[cfg(test)]
 mod graphs;
 #[cfg(test)]
@@ -13,10 +13,6 @@ mod locks;
 #[cfg(test)]
 mod memory;
 #[cfg(test)]
-mod messages;
-#[cfg(test)]
 mod places;
 #[cfg(test)]
 mod printing;
-#[cfg(test)]
-mod reading;

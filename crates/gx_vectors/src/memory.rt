@@ -6,25 +6,18 @@ use gx_outside::{
 use std::test::Fail;
 
 #[test]
-fn a_source_fails_at_its_call_and_goes_on(rt: HostRuntime) -> Result<(), Fail> {
+fn streams_fail_at_their_calls(rt: HostRuntime) -> Result<(), Fail> {
     let alloc = rt.alloc();
     let bytes = Vec::from_slice(alloc, b"abcde")?;
     let mut source = SourceMem::new(bytes, 2, Vec::from_slice(alloc, &[2])?);
     let read = read_up_to(alloc, &mut source, 100);
     assert!(rt; matches!(read, Err(ReadFault::Failed)));
-    assert_eq!(rt; source.faults(), 1);
     let rest = read_up_to(alloc, &mut source, 100)?;
     assert_eq!(rt; rest.as_slice(), b"cde".as_slice());
-    Ok(())
-}
-
-#[test]
-fn a_sink_takes_what_fits(rt: HostRuntime) -> Result<(), Fail> {
-    let alloc = rt.alloc();
     let mut sink = SinkMem::new(alloc, 3, 2, Vec::new(alloc))?;
     assert_eq!(rt; write_whole(&mut sink, b"abcd"), Err(Failed));
     assert_eq!(rt; sink.written(), b"abc".as_slice());
-    assert_eq!(rt; sink.faults(), 1);
+    assert_eq!(rt; (source.faults(), sink.faults()), (1, 1));
     Ok(())
 }
 
@@ -36,6 +29,5 @@ fn a_journal_keeps_its_items(rt: HostRuntime) -> Result<(), Fail> {
     assert_eq!(rt; journal.append(b"two"), Err(AppendFault::Failed));
     assert_eq!(rt; journal.append(b"three"), Ok(()));
     assert_eq!(rt; journal.kept_items().len(), 2);
-    assert_eq!(rt; journal.faults(), 1);
     Ok(())
 }

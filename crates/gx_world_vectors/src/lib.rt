@@ -2,10 +2,6 @@
 #![tactic(auto)]
 
 #[cfg(test)]
-mod drawing;
-#[cfg(test)]
-mod judging;
-#[cfg(test)]
 mod orders;
 #[cfg(test)]
 mod trial;

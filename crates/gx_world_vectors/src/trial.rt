@@ -1,11 +1,13 @@
-// A script's world, with its journals.
+// A script's world, with its journals. It is forgotten in the end: what frees it would be proved here once more.
+ghost use Rattle.std.specs.Prelude.{◌≡◌, IfOk, length};
+
 use gx_ids::{Mem, OutOfMemory};
 use gx_outside::{JournalMem, PassGate};
-use gx_report::text;
 use gx_sql::parse_script;
 use gx_store::Event;
 use gx_world::World;
 use std::alloc::Global;
+use std::mem::forget;
 
 #[derive(Drop)]
 pub(crate) struct Trial {
@@ -19,26 +21,41 @@ fn journal(alloc: Global, node: usize, fail: &[u64]) -> Mem<JournalMem> {
     JournalMem::new(alloc, Vec::from_slice(alloc, fail)?)
 }
 
-pub(crate) fn make_trial(alloc: Global, script: &[u8], fail: &[u64]) -> Mem<Trial> {
+fn journals(alloc: Global, fail: &[u64]) -> Mem<Vec<JournalMem>>
+    ensures { IfOk result (λ journals. length journals.items ≡ 17) }
+{
+    let mut journals = Vec::new(alloc);
+    for node in 0..17usize {
+        journals.push(journal(alloc, node, fail)?)?;
+    }
+    Ok(journals)
+}
+
+pub(crate) fn make_trial(alloc: Global, script: &[u8], fail: &[u64]) -> Mem<Trial>
+    ensures { IfOk result (λ trial. length trial.journals.items ≡ 17) }
+{
     if script.len() >= 1000 {
         return Err(OutOfMemory);
     }
+    let journals = journals(alloc, fail)?;
     let Ok(script) = parse_script(alloc, script) else {
+        forget(journals);
         return Err(OutOfMemory);
     };
-    let mut journals = Vec::new(alloc);
-    for node in 0..17 {
-        journals.push(journal(alloc, node, fail)?)?;
+    match World::new(alloc, script) {
+        Ok(world) => Ok(Trial { world, journals }),
+        Err(error) => {
+            forget(journals);
+            Err(error)
+        }
     }
-    Ok(Trial {
-        world: World::new(alloc, script)?,
-        journals,
-    })
 }
 
 impl Trial {
     // Does an event, if it is admitted.
-    pub(crate) fn happens(&mut self, event: Event) -> Mem<bool> {
+    pub(crate) fn happens(&mut self, event: Event) -> Mem<bool>
+        ensures { self.new.world.script ≡ self.old.world.script }
+    {
         let journals = self.journals.as_mut_slice();
         if journals.len() != 17
             || self.world.run().steps.len() >= 1_000_000
@@ -48,16 +65,5 @@ impl Trial {
         }
         self.world.step(event, journals, &PassGate)?;
         Ok(true)
-    }
-
-    // The answers so far, and the tables.
-    pub(crate) fn text(&self, alloc: Global) -> Mem<Vec<u8>> {
-        let tables = self.world.final_tables()?;
-        text(
-            alloc,
-            self.world.script(),
-            self.world.run(),
-            tables.as_slice(),
-        )
     }
 }
