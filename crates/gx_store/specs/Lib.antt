@@ -19,3 +19,4 @@ pub mod Ordered
 pub mod Told
 pub mod Rounds
 pub mod Schedule
+pub mod RefusedRunsB
