@@ -9,10 +9,10 @@ use Rattle.gx_ids.specs.declared.ids.SessionId.{SessionId}
 use Rattle.gx_script.specs.declared.Script.{Script}
 use Rattle.gx_sql.specs.Language.{IsScript}
 use Rattle.gx_store.specs.declared.run.Step.{Step}
-use Rattle.gx_store.specs.Schedule.{enabled}
+use Rattle.gx_store.specs.Schedule.{enabled, is_any_unfinished, is_unfinished, sessions_of}
 use Rattle.gx_law_answers.specs.Whole.{AreInsertsWhole}
 use Rattle.gx_law_scripts.proofs.Numbers.{lines_numbered}
-use Rattle.gx_law_runs.specs.Endings.{is_any_unfinished, is_unfinished, is_unfinished_there, sessions_of}
+use Rattle.gx_rules.specs.AtCoordinator.{is_unfinished_there}
 use Rattle.gx_law_runs.proofs.Finishing.{replayed-alike}
 use Rattle.gx_law_runs.proofs.Going.{goes-on}
 use Rattle.gx_law_runs.specs.Reached.{IsReached}
