@@ -21,7 +21,8 @@ use Rattle.gx_law_answers.proofs.Snaps.{snapshots-one}
 use Rattle.gx_law_answers.proofs.Whole.{filled, keyed}
 use Rattle.gx_law_runs.specs.Reached.{IsReached}
 use Rattle.gx_law_runs.proofs.Reaching.{by-events}
-use Rattle.gx_law_runs.specs.Endings.{IsFinished, is_any_unfinished}
+use Rattle.gx_store.specs.Schedule.{is_any_unfinished}
+use Rattle.gx_law_runs.specs.Endings.{IsFinished}
 use Rattle.gx_law_runs.proofs.Finishing.{whole}
 use Rattle.gx_world.specs.Worlds.{WorldState}
 use Rattle.gx_drive.specs.Ordered.{AreFirst}

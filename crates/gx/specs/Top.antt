@@ -19,7 +19,8 @@ use Rattle.gx_store.specs.Protocol.{DoStepsFollow}
 use Rattle.gx_store.specs.Runs.{IsLegalHistory}
 use Rattle.gx_store.specs.View.{AreFinalFrom}
 use Rattle.gx_rules.specs.System.{IsSystemRun}
-use Rattle.gx_law_runs.specs.Endings.{IsFinished, is_any_unfinished}
+use Rattle.gx_store.specs.Schedule.{is_any_unfinished}
+use Rattle.gx_law_runs.specs.Endings.{IsFinished}
 use Rattle.gx_world.specs.Worlds.{Shelf}
 use Rattle.gx_drive.specs.Ordered.{AreFailuresFew, AreFirst, AreHeld}
 use Rattle.gx.specs.declared.top.Report.{Report}

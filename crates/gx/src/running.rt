@@ -2,7 +2,7 @@
 ghost use Rattle.std.specs.Prelude.{◌≡◌, [], true, false, All, IfOk, length, map};
 ghost use Rattle.gx_store.specs.Whole.{AreInsertsWhole};
 ghost use Rattle.gx_drive.specs.Ordered.{AreFirst, IsEnd};
-ghost use Rattle.gx_law_runs.specs.Endings.{is_any_unfinished};
+ghost use Rattle.gx_store.specs.Schedule.{is_any_unfinished};
 ghost use Rattle.gx_world.specs.Worlds.{shelf};
 ghost use Rattle.gx_store.specs.Language.{IsScript};
 ghost use Rattle.gx_report.specs.Text.{stopped_text as of_stopped};

@@ -16,7 +16,8 @@ use Rattle.gx_store.specs.declared.event.Event.TheVariants.{Resend}
 use Rattle.gx_store.specs.declared.run.Step.{Step}
 use Rattle.gx_store.specs.Points.{marks_in}
 use Rattle.gx_store.specs.Schedule as schedule
-use Rattle.gx_store.specs.Schedule.{begun_count, first_of, gxids_of, is_exec, is_graph_awaited, is_quiet, may_resend, resends, segments_of, waits_of}
+use Rattle.gx_store.specs.Marks.{start_count}
+use Rattle.gx_store.specs.Schedule.{first_of, gxids_of, is_exec, is_graph_awaited, is_quiet, may_resend, resends, segments_of, waits_of}
 use Rattle.gx_agenda.specs.declared.asked.Asked.{Asked}
 use Rattle.gx_agenda.specs.declared.request.Request.{Request}
 use Rattle.gx_agenda.specs.Awaited.{AreAsked, AreResendable, expected_at}
@@ -44,7 +45,7 @@ module _ (script : Script) (steps : List Step) (fit : AreResendable script steps
   is_asked s g = is_some (schedule.asked steps s g)
 
   abbrev begun : ℕ
-  begun = begun_count (marks_in steps)
+  begun = start_count (marks_in steps)
 
   abbrev again : Node → Gxid → Event
   again s g = Resend s (Some g)

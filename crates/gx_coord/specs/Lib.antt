@@ -5,4 +5,3 @@ pub mod Sound
 pub mod Faults
 pub mod Places
 pub mod Lines
-pub mod Unfinished

@@ -1,11 +1,10 @@
 ghost use Rattle.std.specs.Prelude.{◌≡◌, ◌<◌, ◌≤◌, ◌^◌, All, length, true, false, IfOk, OnErr};
-ghost use Rattle.gx_rules.specs.AtCoordinator.{coord_can};
+ghost use Rattle.gx_rules.specs.AtCoordinator.{coord_can, is_unfinished_there};
 ghost use Rattle.gx_rules.specs.Coordinators.{Coord as RuleCoord, new_coordinator};
 ghost use Rattle.gx_rules.specs.Sending.{heard_in};
 ghost use Rattle.gx_ids.specs.declared.ids.SessionId.{SessionId as Id};
 ghost use Rattle.gx_store.specs.Language.{IsScript};
 ghost use Rattle.gx_rules.specs.Snapshots.{snapshot_of as rule_snapshot};
-ghost use Rattle.gx_coord.specs.Unfinished.{is_unfinished};
 ghost use Rattle.gx_coord.specs.Steps.{HasStepped, IsCoord};
 
 use crate::making::{new_sessions, nothing_sent};
@@ -107,8 +106,8 @@ impl Coord {
     pub fn unfinished(&self) -> bool
         ghost c: { RuleCoord }
         requires { IsCoord self.now c }
-        ensures none { result ≡ false → (id : Id) → id.0 < length self.now.script.value.sessions → is_unfinished self.now.script.value c id ≡ false }
-        ensures some { result ≡ true → (id : Id) × (id.0 < length self.now.script.value.sessions) × (is_unfinished self.now.script.value c id ≡ true) }
+        ensures none { result ≡ false → (id : Id) → id.0 < length self.now.script.value.sessions → is_unfinished_there self.now.script.value c id ≡ false }
+        ensures some { result ≡ true → (id : Id) × (id.0 < length self.now.script.value.sessions) × (is_unfinished_there self.now.script.value c id ≡ true) }
     {
         finished::unfinished(self)
     }

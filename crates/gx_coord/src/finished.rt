@@ -4,7 +4,7 @@ ghost use Rattle.gx_ids.specs.declared.ids.SessionId.{SessionId as Id};
 ghost use Rattle.gx_store.specs.Language.{IsScript};
 ghost use Rattle.gx_coord.specs.Books.{coord_of};
 ghost use Rattle.gx_coord.specs.Places.{AreIndexed};
-ghost use Rattle.gx_coord.specs.Unfinished.{is_unfinished};
+ghost use Rattle.gx_rules.specs.AtCoordinator.{is_unfinished_there};
 
 use crate::admitted::{is_idle, is_in_block, is_left};
 use crate::books::find_session;
@@ -14,7 +14,7 @@ use gx_ids::SessionId;
 fn has_more(coord: &Coord, id: SessionId) -> bool
     requires language { IsScript coord.now.script.value }
     requires places { AreIndexed coord.now.script.value.lines (length coord.now.script.value.sessions) coord.now.places.items }
-    ensures { result ≡ is_unfinished coord.now.script.value (coord_of coord.now) id }
+    ensures { result ≡ is_unfinished_there coord.now.script.value (coord_of coord.now) id }
 {
     let session = find_session(coord, id);
     !is_idle(session) || is_in_block(session) || is_left(coord, id)
@@ -32,8 +32,8 @@ pub(crate) fn unfinished(coord: &Coord) -> bool
     requires language { IsScript coord.now.script.value }
     requires places { AreIndexed coord.now.script.value.lines (length coord.now.script.value.sessions) coord.now.places.items }
     requires sessions { length coord.now.sessions.items ≡ length coord.now.script.value.sessions }
-    ensures none { result ≡ false → (id : Id) → id.0 < length coord.now.script.value.sessions → is_unfinished coord.now.script.value (coord_of coord.now) id ≡ false }
-    ensures some { result ≡ true → (id : Id) × (id.0 < length coord.now.script.value.sessions) × (is_unfinished coord.now.script.value (coord_of coord.now) id ≡ true) }
+    ensures none { result ≡ false → (id : Id) → id.0 < length coord.now.script.value.sessions → is_unfinished_there coord.now.script.value (coord_of coord.now) id ≡ false }
+    ensures some { result ≡ true → (id : Id) × (id.0 < length coord.now.script.value.sessions) × (is_unfinished_there coord.now.script.value (coord_of coord.now) id ≡ true) }
 {
     for place in 0..coord.sessions.len() {
         if has_more(coord, id_at(place)) {

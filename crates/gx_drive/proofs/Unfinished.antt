@@ -9,9 +9,9 @@ use Rattle.gx_ids.specs.declared.ids.SessionId.{SessionId}
 use Rattle.gx_script.specs.declared.Script.{Script}
 use Rattle.gx_store.specs.Language.{IsScript}
 use Rattle.gx_store.specs.declared.run.Step.{Step}
-use Rattle.gx_store.specs.Schedule.{enabled}
+use Rattle.gx_store.specs.Schedule.{enabled, is_any_unfinished, is_unfinished, sessions_of}
 use Rattle.gx_store.specs.Whole.{AreInsertsWhole}
-use Rattle.gx_law_runs.specs.Endings.{is_any_unfinished, is_unfinished, is_unfinished_there, sessions_of}
+use Rattle.gx_rules.specs.AtCoordinator.{is_unfinished_there}
 use Rattle.gx_law_runs.proofs.Finishing.{replayed-alike}
 use Rattle.gx_law_runs.proofs.Going.{goes-on}
 use Rattle.gx_law_runs.specs.Reached.{IsReached}

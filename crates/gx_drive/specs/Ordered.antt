@@ -7,8 +7,7 @@ use Rattle.gx_store.specs.declared.event.Event.{Event}
 use Rattle.gx_store.specs.declared.run.Step.{Step}
 use Rattle.gx_store.specs.Journals.{items_of}
 use Rattle.gx_store.specs.Points.{marks_in}
-use Rattle.gx_store.specs.Schedule.{enabled, first_of}
-use Rattle.gx_law_runs.specs.Endings.{is_any_unfinished}
+use Rattle.gx_store.specs.Schedule.{enabled, first_of, is_any_unfinished}
 use Rattle.gx_law_runs.specs.Failures.{failures_in}
 use Rattle.gx_world.specs.Worlds.{Shelf}
 use Rattle.gx_drive.specs.declared.end.End.{End}

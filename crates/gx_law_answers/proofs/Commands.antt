@@ -16,12 +16,13 @@ use Rattle.gx_session.specs.declared.state.Pending.TheVariants as pending
 use Rattle.gx_store.specs.declared.event.Event.TheVariants as event
 use Rattle.gx_store.specs.declared.mark.Mark.{Mark}
 use Rattle.gx_store.specs.Commands.{RunsCommand}
-use Rattle.gx_store.specs.Lines.{BlockState, Outside, InBlock, Failed, began_from, cid_of, command_at, is_command, is_on_rows, level_of, state_of, stmt_of, stmt_of_command, transaction_of}
+use Rattle.gx_store.specs.Lines.{BlockState, Outside, InBlock, Failed, cid_of, is_command, is_on_rows, level_of, state_of, stmt_of, transaction_of}
 use Rattle.gx_store.specs.Marks.{answer_count, is_begun, is_ended, started_after}
 use Rattle.gx_store.specs.Points.{ends_in, marks_in, starts_in}
 use Rattle.gx_rules.specs.Coordinators.{Work, session_of, work_of}
 use Rattle.gx_rules.specs.Machine.{World}
 use Rattle.gx_law_order.proofs.Lists.{Each}
+use Rattle.gx_law_sessions.specs.Scanned.{began_from, command_at, stmt_of_command}
 use Rattle.gx_law_sessions.specs.Finish.{point_at}
 use Rattle.gx_law_sessions.specs.Orders.{level_by, level_of_began}
 use Rattle.gx_store.specs.Language.{AreLinesNumbered}

@@ -15,8 +15,8 @@ use Rattle.gx_store.specs.declared.mark.Mark.{Mark}
 use Rattle.gx_store.specs.declared.mark.Mark.TheVariants as mark
 use Rattle.gx_store.specs.declared.node.NodeEvent.TheVariants as here
 use Rattle.gx_store.specs.declared.run.Step.{Step}
+use Rattle.gx_store.specs.Commands.{IsUnderWay}
 use Rattle.gx_store.specs.Faults.{IsFaultOf, LegalFault}
-use Rattle.gx_store.specs.Lines.{stmt_of_command}
 use Rattle.gx_store.specs.Marks.{is_aborted}
 use Rattle.gx_store.specs.Ordered.{IsSegment}
 use Rattle.gx_store.specs.Points.{Point, marks_in}
@@ -30,12 +30,13 @@ use Rattle.gx_rules.specs.Slices.{first_fault, selects}
 use Rattle.gx_law_order.proofs.AtSegments.{PlainAt, seg_stays}
 use Rattle.gx_law_order.proofs.Letters.{IsFound, found_is}
 use Rattle.gx_law_order.proofs.Lists.{Each}
-use Rattle.gx_law_sessions.specs.Alive.{AreAlive, HasAnswered, IsAlive, IsHeard, IsUnderWayBehind}
+use Rattle.gx_law_sessions.specs.Scanned.{stmt_of_command}
+use Rattle.gx_law_sessions.specs.Alive.{HasRun, HaveRun, WasUnderWay, AreAlive, HasAnswered, IsAlive, IsHeard, IsUnderWayBehind}
 use Rattle.gx_law_sessions.specs.Finish.{AreSegmentsLegal}
 use Rattle.gx_store.specs.Language.{AreLinesNumbered}
 use Rattle.gx_law_sessions.specs.Rest.{EachMark, Rest}
 use Rattle.gx_law_sessions.proofs.Given.{marks-append, sent-rest}
-use Rattle.gx_law_sessions.proofs.World.{orders-alive}
+use Rattle.gx_law_sessions.proofs.World.{orders-alive, orders-ran}
 use Rattle.gx_law_commit.proofs.Whole.{world-both}
 use Rattle.gx_law_writes.specs.Writes.{AreWritesLegal, WriteLegal}
 use Rattle.gx_law_writes.proofs.Rows.{insert-no-fault}
@@ -125,6 +126,16 @@ module _ (script : Script) (some : 1 ≤ script.segments) (numbered_lines : AreL
         d : IsFound (λ l. l.from ≡ the_coordinator → IsAlive script (world_of script es) l.to l.envelope.message) from to number envelope
         d = found_is _ from to number (world_of script es).sent envelope (each-alive (world_of script es).sent (orders-alive script some es)) f
 
+    each-ran : (ls : List Letter) → HaveRun script (world_of script es).steps ls → Each (λ l. l.from ≡ the_coordinator → HasRun script (world_of script es).steps l.envelope.message) ls
+    each-ran [] h = tt
+    each-ran (l ∷ ls) h = (h.0, each-ran ls h.1)
+
+    ran_is : HasRun script (world_of script es).steps envelope.message
+    ran_is = subst (λ (a : Envelope). HasRun script (world_of script es).steps a.message) d.told (d.is (d.source ∙ it-came.source))
+      where
+        d : IsFound (λ l. l.from ≡ the_coordinator → HasRun script (world_of script es).steps l.envelope.message) from to number envelope
+        d = found_is _ from to number (world_of script es).sent envelope (each-ran (world_of script es).sent (orders-ran script some es)) f
+
     some-stmt : (a b : Stmt) → Some a ≡ Some b → a ≡ b
     some-stmt a b q = cc
 
@@ -142,7 +153,21 @@ module _ (script : Script) (some : 1 ≤ script.segments) (numbered_lines : AreL
           none-more P h = subst P (sym (append-nil ms)) h
 
           late : is_aborted ms z.g ≡ true → LegalFault script (record { steps = (world_of script es).steps; event = event.Receive from to number; earlier = []; later = later }) z.g z.c fault.0.rid (Some fault.0.row)
-          late a = inr (record { stmt = stmt.Select z.query; late = record { aborted = none-more (λ m. is_aborted m z.g ≡ true) a; command = none-more (λ m. stmt_of_command script m z.g z.c ≡ Some (stmt.Select z.query)) the-line } })
+          late a =
+              inr (record {
+                stmt = stmt.Select z.query;
+                late = record {
+                  aborted = none-more (λ m. is_aborted m z.g ≡ true) a;
+                  early = was.point;
+                  earlier = inl was.among;
+                  session = was.session;
+                  level = was.level;
+                  ran = subst (λ q. IsUnderWay script was.point was.session q was.level z.g z.c) (some-stmt was.line (stmt.Select z.query) (sym (was.of numbered_lines) ∙ the-line)) was.ran;
+                };
+              })
+            where
+              was : WasUnderWay script (world_of script es).steps z.g z.c
+              was = subst (HasRun script (world_of script es).steps) z.is ran_is
 
           beyond : (a b : ℕ) → a < b → b ≤ a → ⊥
           beyond a b x y = omega (arith, x, y)

@@ -35,7 +35,7 @@ use Rattle.gx_store.specs.declared.node.NodeEvent.{NodeEvent}
 use Rattle.gx_store.specs.declared.node.NodeEvent.TheVariants as here
 use Rattle.gx_store.specs.declared.run.Step.{Step}
 use Rattle.gx_store.specs.Journals.{is_same_node}
-use Rattle.gx_store.specs.Lines.{began_from, stmt_of}
+use Rattle.gx_store.specs.Lines.{stmt_of}
 use Rattle.gx_store.specs.Marks.{has_snapshot, is_same_gxid}
 use Rattle.gx_store.specs.Ordered.{AreOrdered, IsAtNode, IsOrderedStep}
 use Rattle.gx_store.specs.Points.{marks_in}
@@ -49,6 +49,7 @@ use Rattle.gx_rules.specs.Sending.{counted, numbered}
 use Rattle.gx_law_order.proofs.Ordered.{Well, happens_well}
 use Rattle.gx_law_order.proofs.Turns.{self-test}
 use Rattle.gx_law_order.proofs.World.{Knows, marks-last, world_knows}
+use Rattle.gx_law_sessions.specs.Scanned.{began_from}
 use Rattle.gx_law_sessions.specs.Orders.{level_by}
 use Rattle.gx_law_sessions.specs.Standing.{HasSnapshot, IsStanding, Owns, Roots, Stands}
 use Rattle.gx_law_sessions.proofs.Ends.{began-kept}

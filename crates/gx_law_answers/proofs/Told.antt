@@ -32,7 +32,6 @@ use Rattle.gx_store.specs.declared.mark.Mark.{Mark}
 use Rattle.gx_store.specs.declared.mark.Mark.TheVariants as mark
 use Rattle.gx_store.specs.Answers.{Shows, Tells}
 use Rattle.gx_store.specs.Commands.{IsSnapshotAt, RunsCommand}
-use Rattle.gx_store.specs.Lines.{began_from, stmt_of_command}
 use Rattle.gx_store.specs.Marks.{is_aborted}
 use Rattle.gx_store.specs.Messages.{HasReceived}
 use Rattle.gx_store.specs.Points.{marks_in}
@@ -44,6 +43,7 @@ use Rattle.gx_rules.specs.Machine.{world_of}
 use Rattle.gx_meaning.specs.Merged.{merged_answer}
 use Rattle.gx_rules.specs.Slices.{cause_of}
 use Rattle.gx_law_order.proofs.Lists.{Each, get_kept}
+use Rattle.gx_law_sessions.specs.Scanned.{began_from, stmt_of_command}
 use Rattle.gx_law_sessions.specs.Finish.{point_at}
 use Rattle.gx_law_sessions.specs.Gathering.{AreAll, AreApart, IsGathered, Taken, nodes_taken, parts_taken}
 use Rattle.gx_law_sessions.specs.Orders.{level_of_began}

@@ -11,11 +11,12 @@ use Rattle.gx_tree.specs.declared.stmt.Stmt.TheVariants as stmt
 use Rattle.gx_meaning.specs.Constants.{HasKey}
 use Rattle.gx_script.specs.declared.Line.{Line}
 use Rattle.gx_script.specs.declared.Script.{Script}
-use Rattle.gx_store.specs.Lines.{InBlock, began_from, closes_block, command_at, command_from, is_command, nth_command, stmt_of}
+use Rattle.gx_store.specs.Lines.{InBlock, is_command, stmt_of}
 use Rattle.gx_store.specs.Marks.{is_same_session}
 use Rattle.gx_store.specs.Writes.{dist_of}
 use Rattle.gx_law_answers.specs.Keyed.{AreInsertsFilled, AreInsertsKeyed}
 use Rattle.gx_store.specs.Whole.{AreInsertsWhole, HaveKeys, IsWholeStmt}
+use Rattle.gx_law_sessions.specs.Scanned.{began_from, closes_block, command_at, command_from, nth_command}
 
 module _ (script : Script) (all : AreInsertsWhole script.tables script.lines) where
   abbrev Is : Option Stmt → Type 0

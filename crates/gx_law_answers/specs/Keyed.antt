@@ -8,8 +8,8 @@ use Rattle.gx_tree.specs.declared.stmt.Stmt.TheVariants as stmt
 use Rattle.gx_meaning.specs.Constants.{HasKey}
 use Rattle.gx_script.specs.declared.Script.{Script}
 use Rattle.gx_store.specs.declared.mark.Mark.{Mark}
-use Rattle.gx_store.specs.Lines.{stmt_of_command}
 use Rattle.gx_store.specs.Writes.{dist_of}
+use Rattle.gx_law_sessions.specs.Scanned.{stmt_of_command}
 
 -- each tuple of an INSERT that is a transaction's command
 abbrev pub AreInsertsKeyed : Script → Type 0

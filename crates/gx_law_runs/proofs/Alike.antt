@@ -12,11 +12,11 @@ use Rattle.gx_store.specs.Legal as legal
 use Rattle.gx_store.specs.Lines.{BlockState, Outside, InBlock, Failed, line_count, state_of}
 use Rattle.gx_store.specs.Marks.{answer_count}
 use Rattle.gx_store.specs.Points.{ends_in, marks_in, starts_in}
-use Rattle.gx_rules.specs.AtCoordinator.{is_in_block, is_nothing}
+use Rattle.gx_rules.specs.AtCoordinator.{is_in_block, is_nothing, is_unfinished_there}
 use Rattle.gx_rules.specs.Coordinators.{Coord, session_of, work_of}
 use Rattle.gx_store.specs.Language.{AreLinesNumbered}
 use Rattle.gx_law_sessions.specs.Standing.{IsSession, IsStanding, state_in, waits}
-use Rattle.gx_law_runs.specs.Endings.{is_unfinished, is_unfinished_there}
+use Rattle.gx_store.specs.Schedule.{is_unfinished}
 use Rattle.gx_law_runs.proofs.Lines.{left-counted}
 
 block-of : (b : Block) (commands : ℕ) → legal.is_in_block (state_in b commands) ≡ is_in_block b

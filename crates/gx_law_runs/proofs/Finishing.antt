@@ -20,7 +20,9 @@ use Rattle.gx_store.specs.Language.{AreLinesNumbered}
 use Rattle.gx_law_sessions.proofs.World.{events-legal, sessions-stand, world-holds}
 use Rattle.gx_law_runs.specs.Replays.{coordinator_after}
 use Rattle.gx_law_runs.proofs.Replaying.{world-replayed}
-use Rattle.gx_law_runs.specs.Endings.{IsFinished, is_any_unfinished, is_unfinished, is_unfinished_there, sessions_of}
+use Rattle.gx_rules.specs.AtCoordinator.{is_unfinished_there}
+use Rattle.gx_store.specs.Schedule.{is_any_unfinished, is_unfinished, sessions_of}
+use Rattle.gx_law_runs.specs.Endings.{IsFinished}
 use Rattle.gx_law_runs.proofs.Alike.{answers-room, closed-if, unfinished-alike}
 use Rattle.gx_law_runs.proofs.Lines.{line_count-past}
 use Rattle.gx_law_runs.proofs.Running.{all-ended}

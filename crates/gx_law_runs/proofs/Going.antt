@@ -14,11 +14,10 @@ use Rattle.gx_store.specs.declared.run.Step.{Step}
 use Rattle.gx_store.specs.Marks.{is_same_session}
 use Rattle.gx_store.specs.Refusals.{the_coordinator}
 use Rattle.gx_store.specs.Schedule.{enabled, first_of, is_next, is_quiet, left_on, segments_of}
-use Rattle.gx_rules.specs.AtCoordinator.{awaited, coord_can, is_idle, is_in_block, is_left, next_line}
+use Rattle.gx_rules.specs.AtCoordinator.{awaited, coord_can, is_idle, is_in_block, is_left, next_line, is_unfinished_there}
 use Rattle.gx_rules.specs.Coordinators.{Coord, session_of}
 use Rattle.gx_rules.specs.Machine.{World, world_of}
 use Rattle.gx_store.specs.Whole.{AreInsertsWhole}
-use Rattle.gx_law_runs.specs.Endings.{is_unfinished_there}
 use Rattle.gx_law_sessions.proofs.World.{sessions-stand}
 use Rattle.gx_law_commit.proofs.Dispatching.{each-unmap}
 use Rattle.gx_law_order.proofs.Lists.{Each, each_weaker}

@@ -6,14 +6,13 @@ use Rattle.gx_session.specs.declared.state.Block.{Block}
 use Rattle.gx_session.specs.declared.state.Pending.{Pending}
 use Rattle.gx_store.specs.declared.mark.Mark.{Mark}
 use Rattle.gx_store.specs.Marks.{is_committed, is_ended}
-use Rattle.gx_rules.specs.AtCoordinator.{is_in_block, is_left, is_nothing, next_line}
+use Rattle.gx_rules.specs.AtCoordinator.{is_in_block, is_left, is_nothing, next_line, is_unfinished_there}
 use Rattle.gx_rules.specs.Coordinators.{Coord, Session, session_of, work_of}
 use Rattle.gx_law_order.proofs.Past.{Past}
 use Rattle.gx_law_order.proofs.Sessions.{Kept, is_closing_in, is_live_in, stage_of}
 use Rattle.gx_law_order.proofs.Stages.{gx}
 use Rattle.gx_law_order.proofs.Statuses.{Stage, is_running}
 use Rattle.gx_law_order.proofs.Statuses.Stage.{Absent, Live, Closing, Finished, Dropped}
-use Rattle.gx_law_runs.specs.Endings.{is_unfinished_there}
 
 live-unfinished : (b : Block) (p : Pending) (x : Bool) → is_live_in b p ≡ true → (not (is_nothing p) || (is_in_block b || x)) ≡ true
 live-unfinished b p x e = grind arith

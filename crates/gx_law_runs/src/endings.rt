@@ -1,7 +1,9 @@
 //! Laws of the runs that are reached: when they are over, and what then holds.
 ghost use Rattle.std.specs.Prelude.{◌≡◌, ◌≤◌, ◌<◌, All, false, List, [], length};
 ghost use Rattle.gx_ids.specs.declared.ids.SessionId.{SessionId as OneSession};
-ghost use Rattle.gx_law_runs.specs.Endings.{IsFinished, is_any_unfinished, is_unfinished, is_unfinished_there};
+ghost use Rattle.gx_law_runs.specs.Endings.{IsFinished};
+ghost use Rattle.gx_store.specs.Schedule.{is_any_unfinished, is_unfinished};
+ghost use Rattle.gx_rules.specs.AtCoordinator.{is_unfinished_there};
 ghost use Rattle.gx_store.specs.Language.{AreLinesNumbered};
 ghost use Rattle.gx_law_runs.specs.Reached.{IsReached};
 ghost use Rattle.gx_law_runs.specs.Replays.{coordinator_after};

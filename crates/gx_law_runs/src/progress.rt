@@ -2,12 +2,11 @@
 ghost use Rattle.std.specs.Prelude.{◌≡◌, ◌≤◌, ◌<◌, Bool, true, false, List, [], length};
 ghost use Rattle.gx_ids.specs.declared.ids.SessionId.{SessionId as OneSession};
 ghost use Rattle.gx_store.specs.Whole.{AreInsertsWhole};
-ghost use Rattle.gx_law_runs.specs.Endings.{is_unfinished_there};
 ghost use Rattle.gx_store.specs.Language.{AreLinesNumbered};
 ghost use Rattle.gx_law_runs.specs.Awaiting.{IsAwaiting};
 ghost use Rattle.gx_law_runs.specs.Reached.{IsReached};
 ghost use Rattle.gx_law_runs.specs.Replays.{coordinator_after};
-ghost use Rattle.gx_rules.specs.AtCoordinator.{is_idle};
+ghost use Rattle.gx_rules.specs.AtCoordinator.{is_idle, is_unfinished_there};
 ghost use Rattle.gx_rules.specs.Coordinators.{session_of};
 ghost use Rattle.gx_rules.specs.Machine.{world_of};
 ghost use Rattle.gx_script.specs.declared.Script.{Script};

@@ -20,7 +20,7 @@ use Rattle.gx_store.specs.Marks.{is_same_gxid, is_same_session, start_count}
 use Rattle.gx_store.specs.Ordered.{sent_in}
 use Rattle.gx_store.specs.Points.{marks_in}
 use Rattle.gx_store.specs.Refusals.{the_coordinator}
-use Rattle.gx_store.specs.Schedule.{asked, at_segment, begun_count, enabled, ends, first_of, gxids_of, is_exec, is_left, is_next, is_quiet, is_to_end, left_on, may_resend, resends, resumptions, rounds, segments_of, starts}
+use Rattle.gx_store.specs.Schedule.{asked, at_segment, enabled, ends, first_of, gxids_of, is_exec, is_left, is_next, is_quiet, is_to_end, left_on, may_resend, resends, resumptions, rounds, segments_of, starts}
 use Rattle.gx_rules.specs.AtCoordinator.{awaited, coord_can, is_segment}
 use Rattle.gx_rules.specs.Machine.{World, can, can_here, delivered, found, world_of}
 use Rattle.gx_law_order.proofs.Lists.{Each, each_append, each_flat, each_map, each_weaker}
@@ -94,11 +94,6 @@ any-there t (z ∷ xs) x ys e = right (t z) (list_any t (xs ++ x ∷ ys)) (any-t
     right a b e = grind arith
 
 -- THE GXIDS THAT WERE DRAWN
-begun-starts : (ms : List Mark) → begun_count ms ≡ start_count ms
-begun-starts [] = refl
-begun-starts (mark.Start g s ∷ ms) = ap (λ n. n + 1) (begun-starts ms)
-begun-starts (m ∷ ms) = begun-starts ms
-
 module _ (script : Script) (some : 1 ≤ script.segments) (es : List (Event × Bool)) where
   abbrev w : World
   w = world_of script es
@@ -107,7 +102,7 @@ module _ (script : Script) (some : 1 ≤ script.segments) (es : List (Event × B
   ms = marks_in w.steps
 
   pub drawn-alike : gxids_of (marks_in (world_of script es).steps) ≡ drawn (world_of script es).coord
-  drawn-alike = ap (λ n. map (λ k. let g : Gxid = record { 0 = k } in g) (range_with_len 1 n)) (begun-starts ms ∙ less (start_count ms) w.coord.table.next.0 (world-holds script some es).numbers)
+  drawn-alike = ap (λ n. map (λ k. let g : Gxid = record { 0 = k } in g) (range_with_len 1 n)) (less (start_count ms) w.coord.table.next.0 (world-holds script some es).numbers)
     where
       less : (a b : ℕ) → b ≡ a + 1 → a ≡ b - 1
       less a b e = omega arith

@@ -17,7 +17,7 @@ use Rattle.gx_store.specs.declared.event.Event.TheVariants as event
 use Rattle.gx_store.specs.declared.mark.Mark.{Mark}
 use Rattle.gx_store.specs.declared.run.Step.{Step}
 use Rattle.gx_store.specs.Commands.{IsUnderWay}
-use Rattle.gx_store.specs.Lines.{cid_of, command_at, level_of, stmt_of_command}
+use Rattle.gx_store.specs.Lines.{cid_of, level_of}
 use Rattle.gx_store.specs.Marks.{is_ended}
 use Rattle.gx_store.specs.Points.{marks_in}
 use Rattle.gx_store.specs.Refusals.{the_coordinator}
@@ -27,6 +27,7 @@ use Rattle.gx_law_order.proofs.Lists.{Each}
 use Rattle.gx_law_order.proofs.Sessions.{Kept, is_live_in, is_working_in, stage_of}
 use Rattle.gx_law_order.proofs.Stages.{gx}
 use Rattle.gx_law_order.proofs.Statuses.Stage.{Live}
+use Rattle.gx_law_sessions.specs.Scanned.{command_at, stmt_of_command}
 use Rattle.gx_law_sessions.specs.Alive.{AreAlive, AreSilent, IsAlive, IsHeard, IsSilent, IsUnderWayBehind}
 use Rattle.gx_store.specs.Language.{AreLinesNumbered}
 use Rattle.gx_law_sessions.specs.Standing.{IsSession, is_alone, is_busy, level_in, state_in}

@@ -29,7 +29,7 @@ use Rattle.gx_store.specs.declared.mark.Mark.{Mark}
 use Rattle.gx_store.specs.declared.mark.Mark.TheVariants as mark
 use Rattle.gx_store.specs.declared.run.Step.{Step}
 use Rattle.gx_store.specs.Answers.{IsAnswer}
-use Rattle.gx_store.specs.Lines.{Outside, InBlock, closes_block, is_command, state_after, transaction_of}
+use Rattle.gx_store.specs.Lines.{Outside, InBlock, is_command, state_after, transaction_of}
 use Rattle.gx_store.specs.Marks.{answer_count, is_committed, is_ended, start_count, started_after}
 use Rattle.gx_store.specs.Points.{Point, ends_in, marks_in, starts_in}
 use Rattle.gx_rules.specs.AtCoordinator.{answer_at_commit, answer_mark, answers_at_once, begins, behind, commits, dispatches, follows, next_cid, next_line, on_line, rolls_back, starts, starts_line}
@@ -38,6 +38,7 @@ use Rattle.gx_law_order.proofs.Past.{Past}
 use Rattle.gx_law_order.proofs.Sessions.{Kept, is_nothing_in, is_open_in}
 use Rattle.gx_law_order.proofs.Statuses.{Closes, Turned, commit-turns, stage}
 use Rattle.gx_law_order.proofs.Turns.{self-test}
+use Rattle.gx_law_sessions.specs.Scanned.{closes_block}
 use Rattle.gx_law_sessions.specs.Rest.{EachMark, RestAnswer}
 use Rattle.gx_law_sessions.specs.Standing.{IsSession, Owns, Roots, Stands, is_alone, is_busy, is_open, is_sound, state_in, under_way}
 use Rattle.gx_law_sessions.proofs.AtLine.{AtLine, answered-now, at-calm, legal-abort, legal-answer, transaction-is}

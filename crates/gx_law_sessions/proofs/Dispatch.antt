@@ -34,7 +34,7 @@ use Rattle.gx_store.specs.declared.mark.Mark.{Mark}
 use Rattle.gx_store.specs.declared.mark.Mark.TheVariants as mark
 use Rattle.gx_store.specs.declared.run.Step.{Step}
 use Rattle.gx_store.specs.Commands.{has_own_snapshot}
-use Rattle.gx_store.specs.Lines.{BlockState, cid_of, command_at, is_command, level_of, state_after, stmt_of}
+use Rattle.gx_store.specs.Lines.{BlockState, cid_of, is_command, level_of, state_after, stmt_of}
 use Rattle.gx_store.specs.Marks.{has_snapshot, is_aborted, is_ended, is_snapped}
 use Rattle.gx_store.specs.Points.{marks_in}
 use Rattle.gx_store.specs.Refusals.{IsCause}
@@ -44,6 +44,7 @@ use Rattle.gx_rules.specs.Coordinators.{Command, Coord, Session, Work, work_of}
 use Rattle.gx_law_order.proofs.Lists.{Each, each_append, get_last}
 use Rattle.gx_law_order.proofs.Past.{Past}
 use Rattle.gx_law_order.proofs.Turns.{self-test}
+use Rattle.gx_law_sessions.specs.Scanned.{command_at}
 use Rattle.gx_law_sessions.specs.Orders.{IsReadBy}
 use Rattle.gx_law_sessions.specs.Rest.{Rest}
 use Rattle.gx_law_sessions.specs.Standing.{Owns, Roots, Stands, is_alone, is_busy, is_sound, state_in, under_way}

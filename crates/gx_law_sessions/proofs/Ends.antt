@@ -10,10 +10,10 @@ use Rattle.gx_tree.specs.declared.stmt.Level.TheVariants.{ReadCommitted, Repeata
 use Rattle.gx_dsnap.specs.declared.snapshot.Snapshot.{Snapshot}
 use Rattle.gx_store.specs.declared.mark.Mark.{Mark}
 use Rattle.gx_store.specs.declared.mark.Mark.TheVariants as mark
-use Rattle.gx_store.specs.Lines.{began_from}
 use Rattle.gx_store.specs.Marks.{answer_count, has_snapshot, is_aborted, is_committed, is_ended, is_same_gxid, is_snapped, session_of}
 use Rattle.gx_store.proofs.Marks.{has_snapshot-append, is_ended-append, is_snapped-append}
 use Rattle.gx_law_order.proofs.Lists.{Each, get_kept}
+use Rattle.gx_law_sessions.specs.Scanned.{began_from}
 use Rattle.gx_law_sessions.specs.Standing.{HasSnapshot, IsTaken}
 use Rattle.gx_law_sessions.proofs.Said.{CalmFor}
 

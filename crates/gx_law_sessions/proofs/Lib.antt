@@ -21,6 +21,7 @@ pub mod Replies
 pub mod Closings
 pub mod Notes
 pub mod Alive
+pub mod Ran
 pub mod Steps
 pub mod Sendings
 pub mod Stepping

@@ -25,7 +25,7 @@ use Rattle.gx_store.specs.declared.mark.Mark.{Mark}
 use Rattle.gx_store.specs.declared.mark.Mark.TheVariants as mark
 use Rattle.gx_store.specs.declared.run.Step.{Step}
 use Rattle.gx_store.specs.Answers.{IsAnswer}
-use Rattle.gx_store.specs.Lines.{Outside, InBlock, began_from, closes_block, is_command, is_on_rows, state_after}
+use Rattle.gx_store.specs.Lines.{Outside, InBlock, is_command, is_on_rows, state_after}
 use Rattle.gx_store.specs.Marks.{answer_count, is_committed, is_ended, start_count, started_after}
 use Rattle.gx_store.specs.Points.{ends_by, ends_in, marks_in, starts_by, starts_in}
 use Rattle.gx_rules.specs.AtCoordinator.{answer_mark, answers_at_once, begins, behind, dispatches, next_cid, next_line, starts_line}
@@ -35,6 +35,7 @@ use Rattle.gx_law_order.proofs.Past.{Past, running-drawn}
 use Rattle.gx_law_order.proofs.Sessions.{Kept, is_nothing_in}
 use Rattle.gx_law_order.proofs.Statuses.{is_running}
 use Rattle.gx_law_order.proofs.Turns.{merged, self-test}
+use Rattle.gx_law_sessions.specs.Scanned.{began_from, closes_block}
 use Rattle.gx_law_sessions.specs.Rest.{RestAnswer}
 use Rattle.gx_law_sessions.specs.Standing.{HasSnapshot, IsSession, IsStanding, Owns, Roots, Stands, is_alone, is_busy, is_open, is_sound, level_in, state_in}
 use Rattle.gx_law_sessions.proofs.AtLine.{AtLine, answered-now, at-start, legal-answer, legal-start}

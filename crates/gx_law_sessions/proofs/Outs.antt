@@ -21,11 +21,11 @@ use Rattle.gx_msg.specs.declared.reply.Reply.{Reply}
 use Rattle.gx_msg.specs.declared.reply.Reply.TheVariants as reply
 use Rattle.gx_script.specs.declared.Script.{Script}
 use Rattle.gx_store.specs.declared.mark.Mark.{Mark}
-use Rattle.gx_store.specs.Lines.{began_from, command_at}
 use Rattle.gx_rules.specs.Coordinators.{Command}
 use Rattle.gx_law_order.proofs.Lists.{Each, each_weaker, get_kept}
 use Rattle.gx_law_sessions.specs.Orders.{IsOrder, IsOrderOf, IsReadBy, IsServed, level_of_began}
 use Rattle.gx_store.specs.Language.{AreLinesNumbered}
+use Rattle.gx_law_sessions.specs.Scanned.{began_from, command_at, stmt_of_command}
 use Rattle.gx_law_sessions.proofs.Ends.{began-kept}
 
 -- what is sent is an order, if the script's lines are numbered
@@ -61,6 +61,11 @@ began-some script None c st e = absurd (none e)
     none q = cc
 began-some script (Some z) c st e = (z, refl)
 
+pub of-more : (script : Script) (ms ns : List Mark) (g : Gxid) (c : Cid) (line : Stmt) → stmt_of_command script ms g c ≡ Some line → stmt_of_command script (ms ++ ns) g c ≡ Some line
+of-more script ms ns g c line e =
+    let z = began-some script (began_from [] ms g) c.0 line e in
+    ap (λ o. command_at script o c.0) (began-kept [] ms ns g z.0 z.1 ∙ sym z.1) ∙ e
+
 pub order-more : (script : Script) (ms ns : List Mark) (node : Node) (m : Message) → MessageIs script ms node m → MessageIs script (ms ++ ns) node m
 order-more script ms ns node (message.Exec g c level x h slice) f n =
     let o : IsOrder script ms node g c level x slice = f n in
@@ -68,7 +73,7 @@ order-more script ms ns node (message.Exec g c level x h slice) f n =
     let same : began_from [] (ms ++ ns) g ≡ began_from [] ms g = began-kept [] ms ns g z.0 z.1 ∙ sym z.1 in
     record {
       line = o.line;
-      of = ap (λ b. command_at script b c.0) same ∙ o.of;
+      of = of-more script ms ns g c o.line o.of;
       level_is = o.level_is ∙ ap (level_of_began script) (sym same);
       counted = o.counted;
       pieces = o.pieces;

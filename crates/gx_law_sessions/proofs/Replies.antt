@@ -33,7 +33,7 @@ use Rattle.gx_store.specs.declared.event.Event.TheVariants as event
 use Rattle.gx_store.specs.declared.mark.Mark.{Mark}
 use Rattle.gx_store.specs.declared.mark.Mark.TheVariants as mark
 use Rattle.gx_store.specs.declared.run.Step.{Step}
-use Rattle.gx_store.specs.Lines.{BlockState, cid_of, command_at, is_command, level_of, state_after}
+use Rattle.gx_store.specs.Lines.{BlockState, cid_of, is_command, level_of, state_after}
 use Rattle.gx_store.specs.Marks.{answer_count}
 use Rattle.gx_store.specs.Messages.{Receives}
 use Rattle.gx_store.specs.Points.{Point, ends_in, marks_in}
@@ -47,6 +47,7 @@ use Rattle.gx_law_order.proofs.Stages.{gx}
 use Rattle.gx_law_order.proofs.Statuses.{Closes, Turned, commit-turns, stage}
 use Rattle.gx_law_order.proofs.Statuses.Stage.{Live}
 use Rattle.gx_law_order.proofs.Turns.{self-test}
+use Rattle.gx_law_sessions.specs.Scanned.{command_at}
 use Rattle.gx_law_sessions.specs.Rest.{IsCaused, RestAnswer}
 use Rattle.gx_law_sessions.specs.Standing.{IsLineOf, IsSession, IsStanding, Stands, is_alone, is_busy, state_in, under_way}
 use Rattle.gx_law_sessions.proofs.Answers.{command-refusable, done-outside, refused-inside}

@@ -16,11 +16,12 @@ use Rattle.gx_session.specs.declared.state.Block.TheVariants as block
 use Rattle.gx_session.specs.declared.state.Pending.{Pending}
 use Rattle.gx_session.specs.declared.state.Pending.TheVariants as pending
 use Rattle.gx_store.specs.declared.mark.Mark.{Mark}
-use Rattle.gx_store.specs.Lines.{InBlock, began_from, closes_block, command_at, command_from, is_command, is_on_rows, nth_command, stmt_of}
+use Rattle.gx_store.specs.Lines.{InBlock, is_command, is_on_rows, stmt_of}
 use Rattle.gx_store.specs.Marks.{is_same_session}
 use Rattle.gx_rules.specs.Coordinators.{Command, Work}
 use Rattle.gx_law_sessions.specs.Orders.{level_by, level_of_began}
 use Rattle.gx_store.specs.Language.{AreLinesNumbered, lines_in}
+use Rattle.gx_law_sessions.specs.Scanned.{began_from, closes_block, command_at, command_from, nth_command}
 use Rattle.gx_law_sessions.specs.Standing.{AreLeft, IsNow, Roots, is_open, level_in, state_in}
 use Rattle.gx_law_sessions.proofs.Ends.{began-kept}
 

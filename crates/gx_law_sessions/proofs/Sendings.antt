@@ -115,21 +115,14 @@ pub states-sent : (d : Coord) (steps : List Step) (clock : ℕ) (outs : List Out
 states-sent d steps clock [] e = tt
 states-sent d steps clock (o ∷ outs) e = (λ number same. awaited-state d (IsHeard steps) (marks_in steps) o.node o.message e.0, states-sent d steps clock outs e.1)
 
-pub away-states : (d : Coord) (steps : List Step) (i clock : ℕ) → 1 ≤ i → (ms : List Mark) → Each (SentIs (LetterState d steps) (at i) clock) ms
-away-states d steps i clock one [] = tt
-away-states d steps i clock one (mark.Sent to number told ∷ ms) = (λ same. absurd (zero-one i one (ap (λ (n : Node). n.0) same)), away-states d steps i clock one ms)
+-- what a segment sends isn't the coordinator's
+pub away-all : (P : Letter → Type 0) (i clock : ℕ) → 1 ≤ i → (ms : List Mark) → Each (SentIs (λ l. l.from ≡ the_coordinator → P l) (at i) clock) ms
+away-all P i clock one [] = tt
+away-all P i clock one (mark.Sent to number told ∷ ms) = (λ same. absurd (zero-one i one (ap (λ (n : Node). n.0) same)), away-all P i clock one ms)
   where
     zero-one : (i : ℕ) → 1 ≤ i → i ≡ 0 → ⊥
     zero-one i l e = omega arith
-away-states d steps i clock one (m ∷ ms) = (tt, away-states d steps i clock one ms)
-
-pub away-sent : (script : Script) (marks : List Mark) (i clock : ℕ) → 1 ≤ i → (ms : List Mark) → Each (SentIs (IsOrderLetter script marks) (at i) clock) ms
-away-sent script marks i clock one [] = tt
-away-sent script marks i clock one (mark.Sent to number told ∷ ms) = (λ same. absurd (zero-one i one (ap (λ (n : Node). n.0) same)), away-sent script marks i clock one ms)
-  where
-    zero-one : (i : ℕ) → 1 ≤ i → i ≡ 0 → ⊥
-    zero-one i l e = omega arith
-away-sent script marks i clock one (m ∷ ms) = (tt, away-sent script marks i clock one ms)
+away-all P i clock one (m ∷ ms) = (tt, away-all P i clock one ms)
 
 pub outs-sent : (script : Script) (marks : List Mark) (clock : ℕ) (outs : List Out) → Each (OutIs script marks) outs → Each (λ (o : Out). (number : ℕ) → IsOrderLetter script marks (record { from = the_coordinator; to = o.node; envelope = record { number = number; clock = clock; message = o.message } })) outs
 outs-sent script marks clock [] e = tt

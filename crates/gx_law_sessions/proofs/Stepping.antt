@@ -47,9 +47,10 @@ use Rattle.gx_law_sessions.specs.Alive.{IsHeard, IsSilent}
 use Rattle.gx_law_sessions.proofs.Gathers.{GathersIn, HeardNow, gathers-weaker, heard-later, heard-now}
 use Rattle.gx_law_sessions.proofs.Given.{Given, marks-append, sent-given, sent-rest}
 use Rattle.gx_law_sessions.proofs.Outs.{CommandIs, MessageIs, OutIs, command-more, order-more, outs-more}
+use Rattle.gx_law_sessions.proofs.Ran.{LetterRan, RanOf, ran-later, rans-sent}
 use Rattle.gx_law_sessions.proofs.Notes.{SegNoted, local-more, noted-more, seg-notes}
 use Rattle.gx_law_sessions.proofs.Steps.{AreGiven, given-last, no-start, quiet-given, quiet-rest, segment-silent, silent-given}
-use Rattle.gx_law_sessions.proofs.Sendings.{IsOrderLetter, IsToldOf, LetterState, SentIs, awaited-by, away-sent, away-states, coord-sent, each-posted, le-same, numbered-sent, outs-sent, plain-sent, state-moves, states-sent}
+use Rattle.gx_law_sessions.proofs.Sendings.{IsOrderLetter, IsToldOf, LetterState, SentIs, awaited-by, away-all, coord-sent, each-posted, le-same, numbered-sent, outs-sent, plain-sent, state-moves, states-sent}
 
 -- WHAT HOLDS BETWEEN STEPS
 pub record Holds (script : Script) (w : World) : Type 0 where
@@ -64,6 +65,7 @@ pub record Holds (script : Script) (w : World) : Type 0 where
   pub gathers : (j : ℕ) → GathersIn script (IsHeard w.steps) (gx j) (w.coord.works j).command
   pub owned : (j : ℕ) → OwnIn (gx j) (w.coord.works j)
   pub alive : Each (LetterState w.coord w.steps) w.sent
+  pub ran : Each (LetterRan script w.coord w.steps) w.sent
 
 module _ (script : Script) (some : 1 ≤ script.segments) (w : World) (n : Knows script w) (h : Holds script w) (e : Event) (x : NodeEvent) (fails : Bool) where
   -- A STEP OF THE COORDINATOR
@@ -192,13 +194,27 @@ module _ (script : Script) (some : 1 ≤ script.segments) (w : World) (n : Knows
   coord-awaits (inl d) = d.sent
   coord-awaits (inr d) = each_weaker (OutAwaits w.coord) (OutAwaits turn.coord) (λ o z. awaited-by w.coord turn.coord d.works o.node o.message z) turn.outs (d.sent h.owned)
 
+  awaits-now : Effect script w.steps w.coord e turn → Each (OutAwaits (coord_rule script w.coord x fails).coord) turn.outs
+  awaits-now d = each_weaker (OutAwaits turn.coord) (OutAwaits (coord_rule script w.coord x fails).coord) (λ o z. awaited-by turn.coord (coord_rule script w.coord x fails).coord (λ j. refl) o.node o.message z) turn.outs (coord-awaits d)
+
   coord-states : Effect script w.steps w.coord e turn → Each (SentIs (LetterState (coord_rule script w.coord x fails).coord (w.steps ++ step ∷ [])) the_coordinator (clock_after w.coord.clock x)) step.marks
   coord-states d =
       each_append (SentIs (LetterState (coord_rule script w.coord x fails).coord (w.steps ++ step ∷ [])) the_coordinator (clock_after w.coord.clock x)) turn.marks sent
       (plain-sent (LetterState (coord_rule script w.coord x fails).coord (w.steps ++ step ∷ [])) script the_coordinator (clock_after w.coord.clock x) turn.marks (coord_stays script some w.coord x fails n.well.coordinator).marks)
       (numbered-sent (LetterState (coord_rule script w.coord x fails).coord (w.steps ++ step ∷ [])) the_coordinator (clock_after w.coord.clock x) turn.coord.sent turn.outs
       (states-sent (coord_rule script w.coord x fails).coord (w.steps ++ step ∷ []) (clock_after w.coord.clock x) turn.outs
-      (each_weaker (OutAwaits turn.coord) (OutAwaits (coord_rule script w.coord x fails).coord) (λ o z. awaited-by turn.coord (coord_rule script w.coord x fails).coord (λ j. refl) o.node o.message z) turn.outs (coord-awaits d))))
+      (awaits-now d)))
+
+  coord-rans : Effect script w.steps w.coord e turn → Each (SentIs (LetterRan script (coord_rule script w.coord x fails).coord (w.steps ++ step ∷ [])) the_coordinator (clock_after w.coord.clock x)) step.marks
+  coord-rans d =
+      each_append (SentIs (LetterRan script (coord_rule script w.coord x fails).coord (w.steps ++ step ∷ [])) the_coordinator (clock_after w.coord.clock x)) turn.marks sent
+      (plain-sent (LetterRan script (coord_rule script w.coord x fails).coord (w.steps ++ step ∷ [])) script the_coordinator (clock_after w.coord.clock x) turn.marks (coord_stays script some w.coord x fails n.well.coordinator).marks)
+      (numbered-sent (LetterRan script (coord_rule script w.coord x fails).coord (w.steps ++ step ∷ [])) the_coordinator (clock_after w.coord.clock x) turn.coord.sent turn.outs
+      (rans-sent script (coord_rule script w.coord x fails).coord (w.steps ++ step ∷ []) (clock_after w.coord.clock x) turn.outs (awaits-now d)))
+
+  rans-kept : (d : Coord) (s : Step) → Each (LetterRan script d (w.steps ++ s ∷ [])) w.sent
+  rans-kept d s =
+      each_weaker (LetterRan script w.coord w.steps) (LetterRan script d (w.steps ++ s ∷ [])) (λ l r same. ran-later script w.coord w.steps n.kept h.sessions h.gathers d s l.to l.envelope.message (r same)) w.sent h.ran
 
   coord-outs : Effect script w.steps w.coord e turn → Each (OutIs script (marks_in (w.steps ++ step ∷ []))) turn.outs
   coord-outs (inl d) = subst (λ m. Each (OutIs script m) turn.outs) turn-marks (outs-more script (marks_in w.steps ++ turn.marks) sent turn.outs d.outs)
@@ -230,6 +246,7 @@ module _ (script : Script) (some : 1 ≤ script.segments) (w : World) (n : Knows
         gathers = coord-gathers d;
         owned = coord-owned d;
         alive = each-posted (LetterState (coord_rule script w.coord x fails).coord (w.steps ++ step ∷ [])) the_coordinator (clock_after w.coord.clock x) step.marks w.sent (coord-states d) (states-kept (coord_rule script w.coord x fails).coord step refl (awaited-moves d));
+        ran = each-posted (LetterRan script (coord_rule script w.coord x fails).coord (w.steps ++ step ∷ [])) the_coordinator (clock_after w.coord.clock x) step.marks w.sent (coord-rans d) (rans-kept (coord_rule script w.coord x fails).coord step);
         orders = each-posted (IsOrderLetter script (marks_in (w.steps ++ step ∷ []))) the_coordinator (clock_after w.coord.clock x) step.marks w.sent (coord-orders d) (orders-kept step);
       }
 
@@ -246,8 +263,9 @@ module _ (script : Script) (some : 1 ≤ script.segments) (w : World) (n : Knows
         commands = commands-kept late;
         gathers = λ j. gathers-at late refl j (w.coord.works j).command (gathers-before j);
         owned = h.owned;
-        alive = each-posted (LetterState w.coord (w.steps ++ late ∷ [])) (at i) (clock_after (w.segs i).clock x) late.marks w.sent (away-states w.coord (w.steps ++ late ∷ []) i (clock_after (w.segs i).clock x) place.0 late.marks) (states-kept w.coord late refl (λ j g k level a. inl a));
-        orders = each-posted (IsOrderLetter script (marks_in (w.steps ++ late ∷ []))) (at i) (clock_after (w.segs i).clock x) late.marks w.sent (away-sent script (marks_in (w.steps ++ late ∷ [])) i (clock_after (w.segs i).clock x) place.0 late.marks) (orders-kept late);
+        alive = each-posted (LetterState w.coord (w.steps ++ late ∷ [])) (at i) (clock_after (w.segs i).clock x) late.marks w.sent (away-all (λ l. StateOf w.coord (IsHeard (w.steps ++ late ∷ [])) (marks_in (w.steps ++ late ∷ [])) l.to l.envelope.message) i (clock_after (w.segs i).clock x) place.0 late.marks) (states-kept w.coord late refl (λ j g k level a. inl a));
+        ran = each-posted (LetterRan script w.coord (w.steps ++ late ∷ [])) (at i) (clock_after (w.segs i).clock x) late.marks w.sent (away-all (λ l. RanOf script w.coord (w.steps ++ late ∷ []) l.to l.envelope.message) i (clock_after (w.segs i).clock x) place.0 late.marks) (rans-kept w.coord late);
+        orders = each-posted (IsOrderLetter script (marks_in (w.steps ++ late ∷ []))) (at i) (clock_after (w.segs i).clock x) late.marks w.sent (away-all (λ l. MessageIs script (marks_in (w.steps ++ late ∷ [])) l.to l.envelope.message) i (clock_after (w.segs i).clock x) place.0 late.marks) (orders-kept late);
       }
     where
       did : SegTurn

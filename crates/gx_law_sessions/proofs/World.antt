@@ -37,11 +37,12 @@ use Rattle.gx_law_sessions.specs.Finish.{IsRestShown}
 use Rattle.gx_law_sessions.specs.Rest.{AreEventsLegal, AreRestLegal}
 use Rattle.gx_law_sessions.specs.Standing.{AreSessions}
 use Rattle.gx_law_sessions.proofs.Alive.{alive-all}
+use Rattle.gx_law_sessions.proofs.Ran.{have-run}
 use Rattle.gx_law_sessions.proofs.Awaited.{resent-awaits}
 use Rattle.gx_law_sessions.proofs.Closed.{end-does, legal-end}
 use Rattle.gx_law_sessions.proofs.Closings.{IsNoted, message-does}
 use Rattle.gx_law_sessions.proofs.Frame.{Effect, Rests}
-use Rattle.gx_law_sessions.specs.Alive.{AreOrdersAlive}
+use Rattle.gx_law_sessions.specs.Alive.{HaveOrdersRun, AreOrdersAlive}
 use Rattle.gx_law_sessions.proofs.Blocks.{start-counts, start-does}
 use Rattle.gx_law_sessions.proofs.Steps.{given-events, given-steps, rest-last}
 use Rattle.gx_law_sessions.proofs.Sendings.{IsToldOf, command-order-is, orders-all}
@@ -202,6 +203,7 @@ module _ (script : Script) (some : 1 ≤ script.segments) where
         gathers = λ j. tt;
         owned = λ j m e. absurd (cc);
         alive = tt;
+        ran = tt;
       }
 
   pub world-holds : (es : List (Event × Bool)) → Holds script (world_of script es)
@@ -223,6 +225,11 @@ module _ (script : Script) (some : 1 ≤ script.segments) where
   orders-alive es =
       let h = world-holds es in
       alive-all script (world_of script es) (world_knows script some es).kept h.sessions h.gathers (world_of script es).sent h.alive
+
+  pub orders-ran : (es : List (Event × Bool)) → HaveOrdersRun script (world_of script es)
+  orders-ran es =
+      let h = world-holds es in
+      have-run script (world_of script es).coord (world_of script es).steps (world_knows script some es).kept h.sessions h.gathers (world_of script es).sent h.ran
 
   -- WHAT IS LEFT
   module _ (shown : IsRestShown script) (done : List (Event × Bool)) (rest : AreRestLegal script [] (world_of script done).steps) where

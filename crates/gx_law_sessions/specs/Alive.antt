@@ -1,4 +1,4 @@
--- Whether the command of an EXEC is still under way.
+-- Whether the command of an EXEC is still under way, and that it was.
 use Rattle.std.specs.Prelude.{◌≡◌, ◌⊎◌, ℕ, Bool, true, List, [], ◌∷◌, slice_get, take, Some}
 use Rattle.gx_ids.specs.declared.ids.Cid.{Cid}
 use Rattle.gx_ids.specs.declared.ids.Gxid.{Gxid}
@@ -16,13 +16,13 @@ use Rattle.gx_store.specs.declared.mark.Mark.{Mark}
 use Rattle.gx_store.specs.declared.mark.Mark.TheVariants as mark
 use Rattle.gx_store.specs.declared.run.Step.{Step}
 use Rattle.gx_store.specs.Commands.{IsUnderWay}
-use Rattle.gx_store.specs.Lines.{stmt_of_command}
 use Rattle.gx_store.specs.Marks.{is_aborted}
 use Rattle.gx_store.specs.Messages.{Receives}
-use Rattle.gx_store.specs.Points.{marks_in}
+use Rattle.gx_store.specs.Points.{IsPointOf, Point, marks_in}
 use Rattle.gx_store.specs.Refusals.{the_coordinator}
 use Rattle.gx_rules.specs.Machine.{Letter, World}
 use Rattle.gx_store.specs.Language.{AreLinesNumbered}
+use Rattle.gx_law_sessions.specs.Scanned.{stmt_of_command}
 
 -- marks that tell nothing of any session, snapshot or end
 abbrev pub IsSilent : Mark → Type 0
@@ -69,3 +69,25 @@ AreAlive script w (l ∷ ls) = (l.from ≡ the_coordinator → IsAlive script w 
 
 abbrev pub AreOrdersAlive : Script → World → Type 0
 AreOrdersAlive script w = AreAlive script w w.sent
+
+-- at a point of these steps the command was under way, with the statement that its number says
+pub record WasUnderWay (script : Script) (steps : List Step) (g : Gxid) (c : Cid) : Type 0 where
+  pub line : Stmt
+  pub of : AreLinesNumbered [] script.lines → stmt_of_command script (marks_in steps) g c ≡ Some line
+  pub point : Point
+  pub among : IsPointOf steps point
+  pub session : SessionId
+  pub level : Level
+  pub ran : IsUnderWay script point session line level g c
+
+-- the command of each EXEC that the coordinator ever sent was
+abbrev pub HasRun : Script → List Step → Message → Type 0
+HasRun script steps (message.Exec g c level snapshot horizon slice) = WasUnderWay script steps g c
+HasRun script steps _ = Unit {0}
+
+abbrev pub HaveRun : Script → List Step → List Letter → Type 0
+HaveRun script steps [] = Unit {0}
+HaveRun script steps (l ∷ ls) = (l.from ≡ the_coordinator → HasRun script steps l.envelope.message) × HaveRun script steps ls
+
+abbrev pub HaveOrdersRun : Script → World → Type 0
+HaveOrdersRun script w = HaveRun script w.steps w.sent

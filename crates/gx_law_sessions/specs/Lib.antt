@@ -1,3 +1,4 @@
+pub mod Scanned
 pub mod Orders
 pub mod Standing
 pub mod Gathering

@@ -20,12 +20,13 @@ use Rattle.gx_script.specs.declared.Script.{Script}
 use Rattle.gx_store.specs.declared.mark.Mark.{Mark}
 use Rattle.gx_store.specs.declared.mark.Mark.TheVariants as mark
 use Rattle.gx_store.specs.Commands.{Serves}
-use Rattle.gx_store.specs.Lines.{began_from, stmt_of, stmt_of_command}
+use Rattle.gx_store.specs.Lines.{stmt_of}
 use Rattle.gx_store.specs.Points.{marks_in}
 use Rattle.gx_store.specs.Refusals.{the_coordinator}
 use Rattle.gx_store.specs.Writes.{dist_of}
 use Rattle.gx_rules.specs.AtCoordinator.{table_of}
 use Rattle.gx_rules.specs.Machine.{Letter, World}
+use Rattle.gx_law_sessions.specs.Scanned.{began_from, stmt_of_command}
 
 -- the snapshot was taken for a command of the transaction that it serves with this one
 pub record IsServed (marks : List Mark) (level : Level) (g : Gxid) (c : Cid) (snapshot : Snapshot) : Type 0 where

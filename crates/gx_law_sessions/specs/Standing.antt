@@ -16,12 +16,13 @@ use Rattle.gx_session.specs.declared.state.Pending.TheVariants as pending
 use Rattle.gx_store.specs.declared.mark.Mark.{Mark}
 use Rattle.gx_store.specs.declared.mark.Mark.TheVariants as mark
 use Rattle.gx_store.specs.declared.run.Step.{Step}
-use Rattle.gx_store.specs.Lines.{BlockState, Outside, InBlock, Failed, began_from, cid_of, command_at, is_command, nth_command, state_of, stmt_of}
+use Rattle.gx_store.specs.Lines.{BlockState, Outside, InBlock, Failed, cid_of, is_command, state_of, stmt_of}
 use Rattle.gx_store.specs.Marks.{answer_count, has_snapshot, is_begun, is_ended, is_snapped, started_after}
 use Rattle.gx_store.specs.Points.{ends_in, marks_in, starts_in}
 use Rattle.gx_rules.specs.Coordinators.{Command, Coord, Work, session_of, work_of}
 use Rattle.gx_rules.specs.Machine.{World}
 use Rattle.gx_store.specs.Language.{AreLinesNumbered}
+use Rattle.gx_law_sessions.specs.Scanned.{began_from, command_at, nth_command}
 
 -- the block of a session after so many of its commands
 abbrev pub state_in : Block → ℕ → BlockState

@@ -1,6 +1,6 @@
 //! Laws of every run, whatever the network loses, repeats, delays and reorders, and whichever appends fail.
 ghost use Rattle.std.specs.Prelude.{◌≤◌, Bool, List, []};
-ghost use Rattle.gx_law_sessions.specs.Alive.{AreOrdersAlive};
+ghost use Rattle.gx_law_sessions.specs.Alive.{AreOrdersAlive, HaveOrdersRun};
 ghost use Rattle.gx_law_sessions.specs.Finish.{IsRestShown};
 ghost use Rattle.gx_law_sessions.specs.Orders.{AreOrdersOf};
 ghost use Rattle.gx_store.specs.Language.{AreLinesNumbered};
@@ -45,4 +45,9 @@ pub fn orders_are_of_their_lines()
 /// aborted.
 pub fn orders_are_under_way()
     ensures { (script : Script) (events : List (OneEvent × Bool)) → 1 ≤ script.segments → AreOrdersAlive script (world_of script events) }
+{}
+
+/// The command of an EXEC that was ever sent was under way at an earlier point of the run.
+pub fn orders_were_under_way()
+    ensures { (script : Script) (events : List (OneEvent × Bool)) → 1 ≤ script.segments → HaveOrdersRun script (world_of script events) }
 {}

@@ -23,10 +23,11 @@ use Rattle.gx_meaning.specs.declared.piece.Piece.{Piece}
 use Rattle.gx_script.specs.declared.Line.{Line}
 use Rattle.gx_script.specs.declared.Script.{Script}
 use Rattle.gx_store.specs.declared.mark.Mark.{Mark}
-use Rattle.gx_store.specs.Lines.{BlockState, InBlock, Outside, Failed, began_from, closes_block, command_at, command_from, is_command, nth_command, stmt_of}
+use Rattle.gx_store.specs.Lines.{BlockState, InBlock, Outside, Failed, is_command, stmt_of}
 use Rattle.gx_store.specs.Marks.{is_same_session}
 use Rattle.gx_store.specs.Writes.{dist_of}
 use Rattle.gx_rules.specs.AtCoordinator.{table_of}
+use Rattle.gx_law_sessions.specs.Scanned.{began_from, closes_block, command_at, command_from, nth_command}
 use Rattle.gx_law_sessions.specs.Orders.{IsOrder}
 use Rattle.gx_law_writes.specs.Inserting.{AreInserting, is_inserting}
 use Rattle.gx_law_writes.proofs.Plans.{insert-slice, none-at-all}

@@ -27,7 +27,7 @@ use Rattle.gx_store.specs.declared.mark.Mark.{Mark}
 use Rattle.gx_store.specs.declared.mark.Mark.TheVariants as mark
 use Rattle.gx_store.specs.declared.run.Step.{Step}
 use Rattle.gx_store.specs.Commands.{IsUnderWay, has_own_snapshot}
-use Rattle.gx_store.specs.Lines.{began_from, command_at, level_of, stmt_of, stmt_of_command}
+use Rattle.gx_store.specs.Lines.{level_of, stmt_of}
 use Rattle.gx_store.specs.Marks.{has_snapshot, is_aborted, is_ended, is_same_rid, is_snapped, is_written, node_of}
 use Rattle.gx_store.specs.Points.{Point, marks_in, starts_by}
 use Rattle.gx_store.specs.Writes.{IsAtHome, IsInserted, IsWriteOf, LegalWrite}
@@ -37,6 +37,8 @@ use Rattle.gx_rules.specs.Sending.{counted, numbered}
 use Rattle.gx_law_order.proofs.Lists.{Each, each_append}
 use Rattle.gx_law_sessions.specs.Orders.{IsOrder, IsReadBy, IsServed, level_by, level_of_began}
 use Rattle.gx_store.specs.Language.{AreLinesNumbered}
+use Rattle.gx_law_sessions.specs.Scanned.{began_from, command_at, stmt_of_command}
+use Rattle.gx_law_sessions.specs.Alive.{WasUnderWay}
 use Rattle.gx_law_sessions.specs.Rest.{EachMark}
 use Rattle.gx_law_sessions.specs.Standing.{IsFirst, is_busy, state_in}
 use Rattle.gx_law_sessions.proofs.Said.{CalmFor}
@@ -221,8 +223,9 @@ module _ (script : Script) (numbered : AreLinesNumbered [] script.lines) (w : Wo
 
   pub record Late : Type 0 where
     pub aborted : is_aborted now (gx g) ≡ true
+    pub was : WasUnderWay script w.steps (gx g) c
 
-  module _ (of : stmt_of_command script now (gx g) c ≡ Some (stmt.Insert table tuples)) (stays : (ns : List Mark) → stmt_of_command script (now ++ ns) (gx g) c ≡ Some (stmt.Insert table tuples)) (how : Live ⊎ Late) where
+  module _ (of : stmt_of_command script now (gx g) c ≡ Some (stmt.Insert table tuples)) (how : Live ⊎ Late) where
     -- one row
     one-legal : (earlier later : List Mark) (k : ℕ) (row : KeyedRow) → IsPlacedRow script (gx g) c node table tuples row → Behind (gx g) c k earlier → k ≤ row.rid.ordinal → is_written now row.rid ≡ false → LegalWrite script (record { steps = w.steps; event = e; earlier = earlier; later = later }) (gx g) c node table row.rid (Some row.row)
     one-legal earlier later k row p b l fresh = by_how how
@@ -255,7 +258,14 @@ module _ (script : Script) (numbered : AreLinesNumbered [] script.lines) (w : Wo
         by_how (inr v) =
             inr (record {
               stmt = stmt.Insert table tuples;
-              late = record { aborted = is_aborted-append now earlier (gx g) ∙ or-left (is_aborted now (gx g)) (is_aborted earlier (gx g)) v.aborted; command = stays earlier };
+              late = record {
+                aborted = is_aborted-append now earlier (gx g) ∙ or-left (is_aborted now (gx g)) (is_aborted earlier (gx g)) v.aborted;
+                early = v.was.point;
+                earlier = inl v.was.among;
+                session = v.was.session;
+                level = v.was.level;
+                ran = subst (λ q. IsUnderWay script v.was.point v.was.session q v.was.level (gx g) c) (some-stmt v.was.line (stmt.Insert table tuples) (sym (v.was.of numbered) ∙ of)) v.was.ran;
+              };
               own_table = refl;
               home = subst (λ o. IsAtHome o node) (sym (unwritten-node (now ++ earlier) row.rid once)) tt;
             })

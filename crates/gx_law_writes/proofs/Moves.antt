@@ -25,7 +25,6 @@ use Rattle.gx_store.specs.declared.event.Event.{Event}
 use Rattle.gx_store.specs.declared.mark.Mark.{Mark}
 use Rattle.gx_store.specs.declared.mark.Mark.TheVariants as mark
 use Rattle.gx_store.specs.declared.run.Step.{Step}
-use Rattle.gx_store.specs.Lines.{began_from, command_at, stmt_of_command}
 use Rattle.gx_store.specs.Marks.{is_same_rid, is_written}
 use Rattle.gx_store.specs.Points.{marks_in, starts_by}
 use Rattle.gx_store.proofs.Marks.{is_written-append}
@@ -38,7 +37,6 @@ use Rattle.gx_law_order.proofs.Lists.{Each, each_map, each_weaker}
 use Rattle.gx_law_sessions.specs.Orders.{IsOrder}
 use Rattle.gx_store.specs.Language.{AreLinesNumbered}
 use Rattle.gx_law_sessions.specs.Rest.{EachMark}
-use Rattle.gx_law_sessions.proofs.Ends.{began-kept}
 use Rattle.gx_law_sessions.proofs.Outs.{MessageIs}
 use Rattle.gx_law_commit.specs.Pairs.{IsVote}
 use Rattle.gx_law_commit.specs.Standings.{at, gx}
@@ -67,17 +65,6 @@ pub record Move (script : Script) (ms : List Mark) (steps : List Step) (e : Even
   pub kept : (h : ℕ) → IsAnswerOf script (ms ++ turn.marks) (turn.seg.locals h).last node (gx h) (turn.seg.locals h).answer
   pub outs : Each (λ (o : Out). IsOutOf script (ms ++ turn.marks) (λ h. (turn.seg.locals h).last) node o.message) turn.outs
   pub legal : (later : List Mark) → EachMark (WriteLegal script) steps e [] turn.marks later
-
--- a transaction that has a command has begun, once for all
-pub of-more : (script : Script) (ms ns : List Mark) (g : Gxid) (c : Cid) (line : Stmt) → stmt_of_command script ms g c ≡ Some line → stmt_of_command script (ms ++ ns) g c ≡ Some line
-of-more script ms ns g c line e = by_began (began_from [] ms g) refl e
-  where
-    none : (let o : Option Stmt = None in o) ≡ Some line → ⊥
-    none q = cc
-
-    by_began : (o : Option (SessionId × ℕ)) → began_from [] ms g ≡ o → command_at script o c.0 ≡ Some line → stmt_of_command script (ms ++ ns) g c ≡ Some line
-    by_began None b e = absurd (none e)
-    by_began (Some z) b e = ap (λ o. command_at script o c.0) (began-kept [] ms ns g z b) ∙ e
 
 pub no-write-placed : (script : Script) (ms : List Mark) (m : Mark) → NoWrite m → IsPlacedMark script ms m
 no-write-placed script ms (mark.Write g c n t r x) e = absurd e
@@ -311,7 +298,7 @@ module _ (script : Script) (numbered : AreLinesNumbered [] script.lines) (w : Wo
             })
             (subst (Each (IsPlacedMark script ms)) (sym same) (each_map (IsPlacedMark script ms) (row_mark x.g x.c (at i) x.table) x.rows (each_weaker (IsPlacedRow script x.g x.c (at i) x.table piece.tuples) _ (λ r p. row-placed script ms x.g x.c (at i) x.table piece.tuples r piece.of p) x.rows rows-ok.0)))
             (subst (Each (IsPastHere (λ h. ((inserts x.g x.c (length x.rows) (inserted (raised s x.horizon) x.g x.c x.table x.rows)).seg.locals h).last) (at i))) (sym same) (each_map _ (row_mark x.g x.c (at i) x.table) x.rows (each_weaker (IsPlacedRow script x.g x.c (at i) x.table piece.tuples) _ (λ r p. (refl, same-le f.last)) x.rows rows-ok.0)))
-            (λ later. subst (λ ns. EachMark (WriteLegal script) w.steps e [] ns later) (sym same) (rows-legal script numbered w x.g.0 x.c (at i) x.table piece.tuples e quiet piece.of (λ ns. of-more script ms ns x.g x.c (stmt.Insert x.table piece.tuples) piece.of) how x.rows 1 [] later rows-ok.0 rows-ok.1 unwritten (behind-none x.g x.c)))
+            (λ later. subst (λ ns. EachMark (WriteLegal script) w.steps e [] ns later) (sym same) (rows-legal script numbered w x.g.0 x.c (at i) x.table piece.tuples e quiet piece.of how x.rows 1 [] later rows-ok.0 rows-ok.1 unwritten (behind-none x.g x.c)))
           where
             same : (inserts x.g x.c (length x.rows) (inserted (raised s x.horizon) x.g x.c x.table x.rows)).marks ≡ map (row_mark x.g x.c (at i) x.table) x.rows
             same = f.marks ∙ ap (λ n. map (row_mark x.g x.c n x.table) x.rows) named

@@ -17,11 +17,11 @@ use Rattle.gx_meaning.specs.Constants.{keyed, values_of}
 use Rattle.gx_meaning.specs.Plan.{rows_at}
 use Rattle.gx_script.specs.declared.Script.{Script}
 use Rattle.gx_store.specs.declared.mark.Mark.{Mark}
-use Rattle.gx_store.specs.Lines.{stmt_of_command}
 use Rattle.gx_store.specs.Marks.{is_same_rid}
 use Rattle.gx_store.specs.Writes.{dist_of}
 use Rattle.gx_law_order.proofs.Lists.{Each}
 use Rattle.gx_law_writes.specs.Rows.{AreRowsOf}
+use Rattle.gx_law_sessions.specs.Scanned.{stmt_of_command}
 
 -- one row of the tuples from this ordinal on
 pub record IsRow (g : Gxid) (c : Cid) (k : ℕ) (tuples : List (List Expr)) (row : KeyedRow) : Type 0 where

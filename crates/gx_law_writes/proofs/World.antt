@@ -35,9 +35,11 @@ use Rattle.gx_law_order.proofs.Lists.{Each, each_append, each_weaker}
 use Rattle.gx_law_order.proofs.Ordered.{Well, at_coordinator, never_resumes}
 use Rattle.gx_law_order.proofs.World.{marks-last}
 use Rattle.gx_store.specs.Language.{AreLinesNumbered}
+use Rattle.gx_law_sessions.specs.Alive.{HasRun}
 use Rattle.gx_law_sessions.specs.Rest.{EachMark}
 use Rattle.gx_law_sessions.proofs.Given.{marks-append}
-use Rattle.gx_law_sessions.proofs.Outs.{MessageIs}
+use Rattle.gx_law_sessions.proofs.Outs.{MessageIs, of-more}
+use Rattle.gx_law_sessions.proofs.Ran.{LetterRan, has-run}
 use Rattle.gx_law_sessions.proofs.Stepping as stepping
 use Rattle.gx_law_sessions.proofs.World as histories
 use Rattle.gx_law_sessions.proofs.World.{after-last}
@@ -48,7 +50,7 @@ use Rattle.gx_law_commit.proofs.Whole.{Both, world-both}
 use Rattle.gx_law_writes.specs.Writes.{AreWritesLegal, WriteLegal}
 use Rattle.gx_law_writes.proofs.Legal.{IsPastMark, IsPlacedMark, Late, Live, no-writes-legal, order-live, sent-no-write}
 use Rattle.gx_law_writes.proofs.Live.{Running, running}
-use Rattle.gx_law_writes.proofs.Moves.{IsOutOf, IsPastHere, Move, insert-move, line-of, no-write-placed, of-more, order, piece, quiet-move, select-move}
+use Rattle.gx_law_writes.proofs.Moves.{IsOutOf, IsPastHere, Move, insert-move, line-of, no-write-placed, order, piece, quiet-move, select-move}
 use Rattle.gx_law_writes.proofs.Told.{IsAnswerOf, IsToldOf, IsWordOf, SentTold, StepTold, answer-more, each-get, steps-more, taken-told, told-more}
 use Rattle.gx_law_writes.proofs.Turns.{Inserted, NoWrite, Turns, message-turns}
 
@@ -168,7 +170,7 @@ module _ (script : Script) (some : 1 ≤ script.segments) (numbered_lines : AreL
       none = here-no-write script (coord_rule script w.coord x fails).marks (at_coordinator script some w n e x fails)
 
   -- A STEP OF A SEGMENT
-  module _ (w : World) (b : Both script some w) (k : stepping.Holds script w) (h : Holds script w.segs w.steps) (from to : Node) (number i : ℕ) (place : IsSegment script (at i)) (envelope : Envelope) (fails : Bool) (order_is : MessageIs script (marks_in w.steps) (at i) envelope.message) (back : SentBack w.coord w.steps the_coordinator (mark.Sent (at i) number envelope.message)) where
+  module _ (w : World) (b : Both script some w) (k : stepping.Holds script w) (h : Holds script w.segs w.steps) (from to : Node) (number i : ℕ) (place : IsSegment script (at i)) (envelope : Envelope) (fails : Bool) (order_is : MessageIs script (marks_in w.steps) (at i) envelope.message) (ran_is : HasRun script w.steps envelope.message) (back : SentBack w.coord w.steps the_coordinator (mark.Sent (at i) number envelope.message)) where
     abbrev e : Event
     e = event.Receive from to number
 
@@ -207,7 +209,7 @@ module _ (script : Script) (some : 1 ≤ script.segments) (numbered_lines : AreL
         by_back : IsBack w.coord w.steps i x.g.0 x.c.0 → (Live script numbered_lines w x.g.0 x.c (at i) x.table (piece script numbered_lines w e (λ t. refl) i s (b.knows.well.names i) (h.kept i) (lasts_in w.segs) (λ g. refl) h.placed h.past envelope.message turn order_is x).tuples e (λ t. refl)) ⊎ (Late script numbered_lines w x.g.0 x.c (at i) x.table (piece script numbered_lines w e (λ t. refl) i s (b.knows.well.names i) (h.kept i) (lasts_in w.segs) (λ g. refl) h.placed h.past envelope.message turn order_is x).tuples e (λ t. refl))
         by_back (inl z) = inl (by_running (running script w k.sessions x.g.0 b.knows.kept i z.0) z.1)
         by_back (inr (inl z)) = absurd (beyond _ _ x.fresh (taken-told script ms (locals_in w.segs) w.steps z.place z.received.sent.step z.received.sent.mark (at i) the_coordinator z.received.number (message.Answer (gx x.g.0) (reply.Done (record { 0 = x.c.0 }) z.wrote z.count z.part)) place.0 h.told z.received.sent.sending).0)
-        by_back (inr (inr z)) = inr (record { aborted = z })
+        by_back (inr (inr z)) = inr (record { aborted = z; was = subst (HasRun script w.steps) x.is ran_is })
 
     move : Move script ms w.steps e (at i) s turn
     move = by_turn (message-turns s script fails envelope.message)
@@ -321,11 +323,11 @@ module _ (script : Script) (some : 1 ≤ script.segments) (numbered_lines : AreL
   -- ALL EVENTS
   module _ (w : World) (b : Both script some w) (k : stepping.Holds script w) (h : Holds script w.segs w.steps) where
     abbrev IsPost : Letter → Type 0
-    IsPost l = IsLetter script w.steps l × (l.from ≡ the_coordinator → MessageIs script (marks_in w.steps) l.to l.envelope.message)
+    IsPost l = IsLetter script w.steps l × (l.from ≡ the_coordinator → MessageIs script (marks_in w.steps) l.to l.envelope.message) × (l.from ≡ the_coordinator → HasRun script w.steps l.envelope.message)
 
-    each-both : (P Q : Letter → Type 0) (ls : List Letter) → Each P ls → Each Q ls → Each (λ l. P l × Q l) ls
-    each-both P Q [] e f = tt
-    each-both P Q (l ∷ ls) e f = ((e.0, f.0), each-both P Q ls e.1 f.1)
+    each-post : (ls : List Letter) → Each (IsLetter script w.steps) ls → Each (λ l. l.from ≡ the_coordinator → MessageIs script (marks_in w.steps) l.to l.envelope.message) ls → Each (LetterRan script w.coord w.steps) ls → Each IsPost ls
+    each-post [] e f r = tt
+    each-post (l ∷ ls) e f r = ((e.0, f.0, λ same. has-run script w.coord w.steps b.knows.kept k.sessions k.gathers l.to l.envelope.message (r.0 same)), each-post ls e.1 f.1 r.1)
 
     received : (from to : Node) (number : ℕ) (envelope : Envelope) (fails : Bool) → IsFound IsPost from to number envelope → let v : World = does script w (event.Receive from to number) to fails (Some (here.Deliver from envelope)) in Holds script v.segs v.steps
     received from to number envelope fails d = by_test (is_same_node to the_coordinator) refl
@@ -357,11 +359,11 @@ module _ (script : Script) (some : 1 ≤ script.segments) (numbered_lines : AreL
 
         by_test : (q : Bool) → is_same_node to the_coordinator ≡ q → let v : World = if q then coord_did w e (coord_rule script w.coord x fails) else seg_did w to e (seg_rule script (w.segs to.0) x fails) in Holds script v.segs v.steps
         by_test true q = coord-holds w b.knows.well h e x fails
-        by_test false q = let p = place q d.is.0.link in seg-holds w b k h from to number to.0 p.0 envelope fails (order_is p.1) (back p.1)
+        by_test false q = let p = place q d.is.0.link in seg-holds w b k h from to number to.0 p.0 envelope fails (order_is p.1) (subst (λ (a : Envelope). HasRun script w.steps a.message) d.told (d.is.2 p.1)) (back p.1)
 
     arrives : (from to : Node) (number : ℕ) (fails : Bool) (o : Option Envelope) → found from to number w.sent ≡ o → let v : World = does script w (event.Receive from to number) to fails (delivered from o) in Holds script v.segs v.steps
     arrives from to number fails None f = h
-    arrives from to number fails (Some envelope) f = received from to number envelope fails (found_is IsPost from to number w.sent envelope (each-both (IsLetter script w.steps) _ w.sent b.knows.well.letters k.orders) f)
+    arrives from to number fails (Some envelope) f = received from to number envelope fails (found_is IsPost from to number w.sent envelope (each-post w.sent b.knows.well.letters k.orders k.ran) f)
 
     same_not : (q : Bool) → q ≡ true → q ≡ false → ⊥
     same_not q e f = grind arith

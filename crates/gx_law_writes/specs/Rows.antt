@@ -16,11 +16,11 @@ use Rattle.gx_meaning.specs.Constants.{keyed, rows_of, values_of}
 use Rattle.gx_meaning.specs.Plan.{rows_at}
 use Rattle.gx_script.specs.declared.Script.{Script}
 use Rattle.gx_store.specs.declared.mark.Mark.{Mark}
-use Rattle.gx_store.specs.Lines.{stmt_of_command}
 use Rattle.gx_store.specs.Points.{marks_in}
 use Rattle.gx_store.specs.Refusals.{the_coordinator}
 use Rattle.gx_store.specs.Writes.{dist_of}
 use Rattle.gx_rules.specs.Machine.{Letter, World}
+use Rattle.gx_law_sessions.specs.Scanned.{stmt_of_command}
 
 -- the rows have the values of the tuples, one each, with ordinals from this one on
 abbrev pub AreRowsOf : Gxid → Cid → ℕ → List (List Expr) → List KeyedRow → Type 0

@@ -1,6 +1,6 @@
 -- What the coordinator does when a session's line starts, when an answer comes, when a session ends, and when a message is
 -- to be sent again.
-use Rattle.std.specs.Prelude.{ℕ, ◌+◌, ◌==◌, nat_le, Bool, true, false, not, if◌then◌else◌, ◌&&◌, List, [], ◌∷◌, ◌++◌, map, fold, is_some, option_map, Some, None, Result, Ok, Err}
+use Rattle.std.specs.Prelude.{ℕ, ◌+◌, ◌==◌, nat_le, Bool, true, false, not, if◌then◌else◌, ◌&&◌, ◌||◌, List, [], ◌∷◌, ◌++◌, map, fold, is_some, option_map, Some, None, Result, Ok, Err}
 use Rattle.std.specs.declared.option.Option.{Option}
 use Rattle.gx_ids.specs.declared.ids.Cid.{Cid}
 use Rattle.gx_ids.specs.declared.ids.Gxid.{Gxid}
@@ -399,6 +399,11 @@ is_in_block _ = true
 
 abbrev pub is_left : Option Stmt → Bool
 is_left line = is_some line
+
+-- a session has a line under way, an open or failed block, or a line left
+abbrev pub is_unfinished_there : Script → Coord → SessionId → Bool
+is_unfinished_there script c session =
+    not (is_idle (session_of c session)) || (is_in_block (session_of c session).state.block || is_left (next_line script c session))
 
 abbrev pub is_segment : Script → Node → Bool
 is_segment script i = nat_le 1 i.0 && nat_le i.0 script.segments

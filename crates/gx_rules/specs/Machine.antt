@@ -59,7 +59,10 @@ found from to number (letter ∷ letters) = if is_at from to number letter then 
 abbrev pub node_of : Event → Node
 node_of (event.Receive from to number) = to
 node_of (event.Resume n g) = n
-node_of _ = the_coordinator
+node_of (event.Start session) = the_coordinator
+node_of (event.End session) = the_coordinator
+node_of (event.Resend segment g) = the_coordinator
+node_of event.Round = the_coordinator
 
 -- what happens at that node; a delivery names a message that was sent
 abbrev pub delivered : Node → Option Envelope → Option NodeEvent

@@ -33,7 +33,7 @@ use Rattle.gx_store.specs.Legal.{is_in_block}
 use Rattle.gx_store.specs.Lines.{line_count, state_of}
 use Rattle.gx_store.specs.Marks.{answer_count}
 use Rattle.gx_store.specs.Points.{ends_in, marks_in}
-use Rattle.gx_store.specs.Schedule.{enabled, first_of}
+use Rattle.gx_store.specs.Schedule.{enabled, first_of, is_any_unfinished}
 use Rattle.gx_rules.specs.Machine.{World, happens}
 
 -- SCRIPTS
@@ -73,14 +73,6 @@ abbrev pub select_all : Stmt
 select_all = stmt.Select (record { table = the_table; items = Col 0 ∷ Col 1 ∷ []; cond = None; group = []; grouped = false; order = []; limit = None })
 
 -- RUNS
--- a session has a line without an answer, or an open block
-abbrev pub is_unfinished : Script → List Step → SessionId → Bool
-is_unfinished script steps s =
-    not (answer_count s (marks_in steps) == line_count s script.lines) || (is_in_block (state_of script s (marks_in steps)) && (ends_in s steps == 0))
-
-abbrev pub is_any_unfinished : Script → List Step → Bool
-is_any_unfinished script steps = list_any (λ n. is_unfinished script steps (session n)) (range_with_len 0 (length script.sessions))
-
 -- What the ordered driver does: the first of what is enabled, until no session is unfinished, at most so often. A test says at
 -- which events a journal fails.
 abbrev pub next_event : Script → List Step → List Event
@@ -126,14 +118,6 @@ is_write _ = false
 
 abbrev pub write_marks : World → ℕ
 write_marks w = length (filter is_write (marks_in w.steps))
-
--- what went to a segment, in order
-abbrev pub sent_in : Node → Mark → List Message
-sent_in to (mark.Sent t number told) = if is_same_node t to then told ∷ [] else []
-sent_in to _ = []
-
-abbrev pub sent_to : World → Node → List Message
-sent_to w to = flat_map (sent_in to) (marks_in w.steps)
 
 -- the marks of the last step
 abbrev pub last_in : List Mark → List Step → List Mark

@@ -3,3 +3,8 @@ pub mod Rows
 pub mod Lines
 pub mod Legal
 pub mod Runs
+pub mod Points
+mod NeverStarted
+mod NothingReported
+mod ReleasedEarly
+mod Exclusive

@@ -1,5 +1,5 @@
 -- Runs that grow by a step.
-use Rattle.std.proofs.Common.{◌≡◌, ℕ, ◌+◌, ◌<◌, List, [], ◌∷◌, ◌++◌, refl, sym, subst, ap, ◌∙◌, arith, append_assoc, append-nil}
+use Rattle.std.proofs.Common.{◌≡◌, ◌+◌, List, [], ◌∷◌, ◌++◌, sym, subst, ap, ◌∙◌, arith, append_assoc, append-nil}
 use Rattle.std.proofs.lemmas.List.Concat.{flat_map-append}
 use Rattle.gx_store.specs.declared.mark.Mark.{Mark}
 use Rattle.gx_store.specs.declared.run.Step.{Step}
@@ -7,8 +7,6 @@ use Rattle.gx_ids.specs.declared.ids.SessionId.{SessionId}
 use Rattle.gx_script.specs.declared.Script.{Script}
 use Rattle.gx_store.specs.Legal.{AreLegalSteps, IsLegalStep}
 use Rattle.gx_store.specs.Points.{ends_by, ends_in, marks_in, starts_by, starts_in}
-use Rattle.gx_store.specs.Refusals.{the_coordinator}
-use Rattle.gx_store.specs.Runs.{AreInOrder, IsWholeLine, clock_after}
 
 pub marks_in-push : (steps : List Step) (step : Step) → marks_in (steps ++ step ∷ []) ≡ marks_in steps ++ step.marks
 marks_in-push steps step = flat_map-append (λ (s : Step). s.marks) steps (step ∷ []) ∙ ap (λ (m : List Mark). marks_in steps ++ m) (append-nil step.marks)
@@ -26,11 +24,3 @@ AreLegalSteps-push script before [] step h l = let P : List Step → Type 0 = λ
 AreLegalSteps-push script before (s ∷ ss) step h l =
     let P : List Step → Type 0 = λ b. IsLegalStep script b step in
     (h.0, AreLegalSteps-push script (before ++ s ∷ []) ss step h.1 (subst P (sym (append_assoc before (s ∷ []) ss)) l))
-
-pub clock_after-push : (clock : ℕ) (steps : List Step) (step : Step) → clock_after clock (steps ++ step ∷ []) ≡ step.stamp.clock
-clock_after-push clock [] step = refl
-clock_after-push clock (s ∷ ss) step = clock_after-push s.stamp.clock ss step
-
-pub AreInOrder-push : (clock : ℕ) (steps : List Step) (step : Step) → AreInOrder clock steps → clock_after clock steps < step.stamp.clock → step.stamp.node ≡ the_coordinator → IsWholeLine step.event step.marks → AreInOrder clock (steps ++ step ∷ [])
-AreInOrder-push clock [] step h l n w = (l, n, w, tt)
-AreInOrder-push clock (s ∷ ss) step h l n w = (h.0, h.1, h.2, AreInOrder-push s.stamp.clock ss step h.3 l n w)

@@ -22,7 +22,7 @@ use Rattle.gx_store.specs.declared.mark.Mark.{Mark}
 use Rattle.gx_store.specs.Commands.{IsUnderWay, Sees, condition_on}
 use Rattle.gx_store.specs.Points.{Point, before}
 use Rattle.gx_store.specs.Rows.{row_at}
-use Rattle.gx_store.specs.Writes.{IsCurrentFor, IsLate, IsSelected, set_row}
+use Rattle.gx_store.specs.Writes.{IsCurrentFor, IsLate, IsSelectedAndFree, set_row}
 
 -- the condition faults on a row that the command sees
 pub record FaultsOnSeen (marks : List Mark) (level : Level) (g : Gxid) (c : Cid) (table : Table) (cond : Option Cond) (rid : Rid) (image : Option (List Value)) (fault : ArithFault) : Type 0 where
@@ -36,7 +36,7 @@ pub record FaultsOnSeen (marks : List Mark) (level : Level) (g : Gxid) (c : Cid)
 -- at read committed, the condition faults on the current image of a selected row
 pub record FaultsOnCurrent (marks : List Mark) (level : Level) (g : Gxid) (c : Cid) (table : Table) (cond : Option Cond) (rid : Rid) (image : Option (List Value)) (fault : ArithFault) : Type 0 where
   pub isolation : level ≡ ReadCommitted
-  pub selected : IsSelected marks level g c table cond rid
+  pub selected : IsSelectedAndFree marks level g c table cond rid
   pub old : List Value
   pub image_before : selected.write.image ≡ Some old
   pub meant : image ≡ Some old
@@ -44,7 +44,7 @@ pub record FaultsOnCurrent (marks : List Mark) (level : Level) (g : Gxid) (c : C
 
 -- the SET list faults on the current image of a selected row that would be written
 pub record FaultsInSet (marks : List Mark) (level : Level) (g : Gxid) (c : Cid) (table : Table) (assigns : List Assign) (cond : Option Cond) (rid : Rid) (image : Option (List Value)) (fault : ArithFault) : Type 0 where
-  pub selected : IsSelected marks level g c table cond rid
+  pub selected : IsSelectedAndFree marks level g c table cond rid
   pub old : List Value
   pub image_before : selected.write.image ≡ Some old
   pub current : IsCurrentFor marks level g c cond rid selected.place selected.write old
@@ -81,7 +81,7 @@ pub record IsLiveFault (script : Script) (point : Point) (g : Gxid) (c : Cid) (r
 
 pub record IsLateFault (script : Script) (point : Point) (g : Gxid) (c : Cid) : Type 0 where
   pub stmt : Stmt
-  pub late : IsLate script (before point) g c stmt
+  pub late : IsLate script point g c stmt
 
 abbrev pub LegalFault : Script → Point → Gxid → Cid → Rid → Option (List Value) → Type 0
 LegalFault script point g c rid image = IsLiveFault script point g c rid image ⊎ IsLateFault script point g c

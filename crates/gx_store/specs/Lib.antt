@@ -21,3 +21,4 @@ pub mod Rounds
 pub mod Schedule
 pub mod Language
 pub mod Whole
+pub mod RefusedRunsB

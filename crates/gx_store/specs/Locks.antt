@@ -21,7 +21,7 @@ use Rattle.gx_store.specs.declared.event.Event.{Event}
 use Rattle.gx_store.specs.declared.mark.Mark.{Mark}
 use Rattle.gx_store.specs.declared.mark.Mark.TheVariants.{Write, Answer, Hold, Wait, Release}
 use Rattle.gx_store.specs.declared.run.Step.{Step}
-use Rattle.gx_store.specs.Commands.{IsUnderWay, RunsCommand}
+use Rattle.gx_store.specs.Commands.{RunsCommand}
 use Rattle.gx_store.specs.Marks.{is_aborted, is_ended, is_snapped}
 use Rattle.gx_store.specs.Points.{Point, before, marks_in}
 use Rattle.gx_store.specs.Refusals.{the_coordinator}
@@ -73,19 +73,14 @@ LocksAt script point (Write g c node table rid image) = (is_aborted (before poin
 LocksAt script point (Answer session number answer) = HoldsAtAnswer script point session answer
 LocksAt script point _ = Unit {0}
 
--- from its own snapshot on, a command holds its table
+-- from its own snapshot to its answer, a command holds its table, whoever has ended in between
 abbrev pub LocksWhileReading : Script → Point → Type 0
 LocksWhileReading script point =
-    (session : SessionId) (line : Stmt) (level : Level) (g : Gxid) (c : Cid) → IsUnderWay script point session line level g c → is_snapped (before point) g c ≡ true → HoldsTable script (before point) g line
-
--- no two transactions hold conflicting modes on one object at one node
-abbrev pub AreExclusive : List Mark → Type 0
-AreExclusive marks = (node : Node) → AllPairs (λ a b. Meets a b → ⊥) (holds_at marks node)
+    (session : SessionId) (line : Stmt) (level : Level) (g : Gxid) (c : Cid) → RunsCommand script point session line level g c → is_snapped (before point) g c ≡ true → HoldsTable script (before point) g line
 
 pub record LegalLocksAt (script : Script) (point : Point) (mark : Mark) : Type 0 where
   pub here : LocksAt script point mark
   pub reading : LocksWhileReading script point
-  pub exclusive : AreExclusive (before point)
 
 abbrev pub AreLockedMarks : Script → List Step → Event → List Mark → List Mark → Type 0
 AreLockedMarks script steps event earlier [] = Unit {0}
@@ -103,3 +98,7 @@ abbrev pub AreLockedSteps : Script → List Step → List Step → Type 0
 AreLockedSteps script before [] = Unit {0}
 AreLockedSteps script before (s ∷ ss) =
     AreLockedMarks script before s.event [] s.marks × HoldOwn (marks_in before) (marks_in before ++ s.marks) s.marks × AreLockedSteps script (before ++ s ∷ []) ss
+
+-- no two transactions hold conflicting modes on one object at one node; this holds at each point of a run with legal locks
+abbrev pub AreExclusive : List Mark → Type 0
+AreExclusive marks = (node : Node) → AllPairs (λ earlier later. Meets later earlier → ⊥) (holds_at marks node)

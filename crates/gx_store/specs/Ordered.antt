@@ -32,7 +32,13 @@ IsAtNode script node (mark.Report n round graph) = n ≡ node
 IsAtNode script node (mark.Sent to number told) = IsLink script node to
 IsAtNode script node (mark.Skip g c rid) = IsSegment script node
 IsAtNode script node (mark.Fault g c rid image) = Unit {0}
-IsAtNode script node _ = node ≡ the_coordinator
+IsAtNode script node (mark.Start g session) = node ≡ the_coordinator
+IsAtNode script node (mark.Snap g c snapshot) = node ≡ the_coordinator
+IsAtNode script node (mark.Commit g) = node ≡ the_coordinator
+IsAtNode script node (mark.Abort g) = node ≡ the_coordinator
+IsAtNode script node (mark.Answer session number answer) = node ≡ the_coordinator
+IsAtNode script node (mark.Decided g) = node ≡ the_coordinator
+IsAtNode script node (mark.Recheck round own verdict) = node ≡ the_coordinator
 
 -- how many messages the marks of a node have sent to another
 abbrev pub sent_count : Node → List Mark → ℕ
@@ -64,7 +70,10 @@ pub record IsDelivery (script : Script) (steps : List Step) (clock : ℕ) (from 
 abbrev pub IsEventAt : Script → List Step → Step → Event → Type 0
 IsEventAt script steps step (event.Receive from to number) = (step.stamp.node ≡ to) × IsDelivery script steps step.stamp.clock from to number
 IsEventAt script steps step (event.Resume node g) = step.stamp.node ≡ node
-IsEventAt script steps step _ = step.stamp.node ≡ the_coordinator
+IsEventAt script steps step (event.Start session) = step.stamp.node ≡ the_coordinator
+IsEventAt script steps step (event.End session) = step.stamp.node ≡ the_coordinator
+IsEventAt script steps step (event.Resend segment g) = step.stamp.node ≡ the_coordinator
+IsEventAt script steps step event.Round = step.stamp.node ≡ the_coordinator
 
 -- the clock of a node's last step, or 0
 abbrev pub clock_of : Node → List Step → ℕ

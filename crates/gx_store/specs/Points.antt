@@ -1,5 +1,5 @@
 -- A point of a run: a place between two marks, with the steps before it and its own step.
-use Rattle.std.specs.Prelude.{ℕ, ◌+◌, if◌then◌else◌, List, [], ◌∷◌, ◌++◌}
+use Rattle.std.specs.Prelude.{◌≡◌, ◌⊎◌, ℕ, ◌+◌, if◌then◌else◌, List, [], ◌∷◌, ◌++◌}
 use Rattle.std.specs.List.{flat_map}
 use Rattle.gx_ids.specs.declared.ids.SessionId.{SessionId}
 use Rattle.gx_store.specs.declared.event.Event.{Event}
@@ -48,3 +48,22 @@ ends_by session _ = 0
 abbrev pub ends_in : SessionId → List Step → ℕ
 ends_in session [] = 0
 ends_in session (s ∷ ss) = ends_by session s.event + ends_in session ss
+
+-- EARLIER POINTS
+-- a point of one of these steps: before one of its marks, or behind them all
+pub record IsPointOf (steps : List Step) (point : Point) : Type 0 where
+  pub step : Step
+  pub rest : List Step
+  pub among : steps ≡ point.steps ++ step ∷ rest
+  pub event : point.event ≡ step.event
+  pub marks : step.marks ≡ point.earlier ++ point.later
+
+-- a point of the same step, before the other or the same
+pub record IsBeforeInStep (early point : Point) : Type 0 where
+  pub steps : early.steps ≡ point.steps
+  pub event : early.event ≡ point.event
+  pub between : List Mark
+  pub marks : point.earlier ≡ early.earlier ++ between
+
+abbrev pub IsNoLater : Point → Point → Type 0
+IsNoLater early point = IsPointOf point.steps early ⊎ IsBeforeInStep early point

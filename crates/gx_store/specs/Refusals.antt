@@ -31,7 +31,7 @@ use Rattle.gx_store.specs.Lines.{BlockState, cid_of, level_of, transaction_of}
 use Rattle.gx_store.specs.Marks.{is_aborted, is_committed}
 use Rattle.gx_store.specs.Messages.{IsFirstSent, Receives}
 use Rattle.gx_store.specs.Points.{Point, before, marks_in}
-use Rattle.gx_store.specs.Writes.{IsSelected}
+use Rattle.gx_store.specs.Writes.{IsSelectedAndFree}
 
 abbrev pub the_coordinator : Node
 the_coordinator = record { 0 = 0 }
@@ -59,7 +59,7 @@ IsChange _ table cond = ⊥
 
 -- a selected row's current write is of a transaction that committed after the snapshot
 pub record IsOvertakenRow (marks : List Mark) (level : Level) (g : Gxid) (c : Cid) (table : Table) (cond : Option Cond) (rid : Rid) (h : Gxid) : Type 0 where
-  pub selected : IsSelected marks level g c table cond rid
+  pub selected : IsSelectedAndFree marks level g c table cond rid
   pub writer : selected.write.gxid ≡ h
   pub committed : is_committed marks h ≡ true
   pub unseen : is_committed (take selected.place marks) h ≡ false

@@ -6,8 +6,8 @@ use Rattle.gx_ids.specs.declared.ids.Gxid.{Gxid}
 use Rattle.gx_ids.specs.declared.ids.Node.{Node}
 use Rattle.gx_msg.specs.declared.message.Message.TheVariants as message
 use Rattle.gx_script.specs.declared.Script.{Script}
+use Rattle.gx_waits.specs.Claim.{AreEdges, IsEdge}
 use Rattle.gx_waits.specs.Closed.{IsClosed}
-use Rattle.gx_waits.specs.declared.edge.Edge.{Edge}
 use Rattle.gx_waits.specs.declared.graph.LocalGraph.{LocalGraph}
 use Rattle.gx_waits.specs.declared.placed_edge.PlacedEdge.{PlacedEdge}
 use Rattle.gx_waits.specs.Victims.{IsVerdict}
@@ -20,7 +20,7 @@ use Rattle.gx_store.specs.Marks.{is_ended, is_same_gxid}
 use Rattle.gx_store.specs.Messages.{ReceivesAt}
 use Rattle.gx_store.specs.Points.{Point, before, marks_in}
 use Rattle.gx_store.specs.Refusals.{the_coordinator}
-use Rattle.gx_store.specs.Waits.{IsWaitEdge}
+use Rattle.gx_store.specs.Waits.{holds_at, waits_at}
 
 abbrev pub is_started : List Mark → Gxid → Bool
 is_started [] g = false
@@ -38,9 +38,9 @@ is_committing (_ ∷ ms) g = is_committing ms g
 abbrev pub is_active : List Mark → Gxid → Bool
 is_active marks g = is_started marks g && (not (is_ended marks g) && not (is_committing marks g))
 
--- the edge stands at its node
+-- the edge stands at its node: a wait there meets a hold
 abbrev pub StandsAt : List Mark → PlacedEdge → Type 0
-StandsAt marks placed = IsWaitEdge marks placed.node placed.edge
+StandsAt marks placed = IsEdge (waits_at marks placed.node) (holds_at marks placed.node) placed.edge
 
 -- a closed set of waits of transactions that may still be cancelled: none of them goes on unless one of them aborts
 pub record IsBlocked (marks : List Mark) (edges : List PlacedEdge) : Type 0 where
@@ -48,11 +48,10 @@ pub record IsBlocked (marks : List Mark) (edges : List PlacedEdge) : Type 0 wher
   pub standing : All (StandsAt marks) edges
   pub active : All (λ placed. (is_active marks placed.edge.waiter ≡ true) × (is_active marks placed.edge.holder ≡ true)) edges
 
--- a graph has just the edges that stand at its node
+-- a graph has just the edges of the waits and holds that stand at its node, each once
 pub record IsGraphAt (marks : List Mark) (node : Node) (graph : LocalGraph) : Type 0 where
   pub place : graph.node ≡ node
-  pub all_of_them : (edge : Edge) → IsWaitEdge marks node edge → Contains graph.edges edge
-  pub no_others : (edge : Edge) → Contains graph.edges edge → IsWaitEdge marks node edge
+  pub edges : AreEdges (waits_at marks node) (holds_at marks node) graph.edges
 
 -- a report tells what stands at its node when it is taken
 abbrev pub AreReports : List Mark → List Mark → Type 0
@@ -99,8 +98,8 @@ AreRechecksIn script steps event earlier (mark.Recheck round own verdict ∷ ms)
     IsRecheck script (record { steps = steps; event = event; earlier = earlier; later = ms }) round own verdict × AreRechecksIn script steps event (earlier ++ mark.Recheck round own verdict ∷ []) ms
 AreRechecksIn script steps event earlier (m ∷ ms) = AreRechecksIn script steps event (earlier ++ m ∷ []) ms
 
--- the rounds of a run, step by step
+-- the rounds of a run, step by step: what is reported, what is sent of it, and what each round decides
 abbrev pub AreRounds : Script → List Step → List Step → Type 0
 AreRounds script steps [] = Unit {0}
 AreRounds script steps (s ∷ ss) =
-    AreRechecksIn script steps s.event [] s.marks × SendNoted s.stamp.node (marks_in steps) s.marks × AreRounds script (steps ++ s ∷ []) ss
+    AreReports (marks_in steps) s.marks × SendNoted s.stamp.node (marks_in steps) s.marks × AreRechecksIn script steps s.event [] s.marks × AreRounds script (steps ++ s ∷ []) ss

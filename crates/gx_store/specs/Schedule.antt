@@ -5,7 +5,6 @@ use Rattle.std.specs.List.{flat_map, list_any, range_with_len}
 use Rattle.gx_ids.specs.declared.ids.Gxid.{Gxid}
 use Rattle.gx_ids.specs.declared.ids.Node.{Node}
 use Rattle.gx_ids.specs.declared.ids.SessionId.{SessionId}
-use Rattle.gx_modes.specs.Table.{conflict}
 use Rattle.gx_msg.specs.declared.message.Message.{Message}
 use Rattle.gx_msg.specs.declared.message.Message.TheVariants as message
 use Rattle.gx_msg.specs.declared.reply.Reply.{Reply}
@@ -15,6 +14,7 @@ use Rattle.gx_script.specs.declared.Line.{Line}
 use Rattle.gx_script.specs.declared.LinkFault.{LinkFault}
 use Rattle.gx_script.specs.declared.Script.{Script}
 use Rattle.gx_waits.specs.declared.claim.Claim.{Claim}
+use Rattle.gx_waits.specs.Claim.{meets}
 use Rattle.gx_store.specs.declared.event.Event.{Event}
 use Rattle.gx_store.specs.declared.event.Event.TheVariants.{Receive, Resume, Start, End, Resend, Round}
 use Rattle.gx_store.specs.declared.mark.Mark.{Mark}
@@ -22,12 +22,12 @@ use Rattle.gx_store.specs.declared.mark.Mark.TheVariants as mark
 use Rattle.gx_store.specs.declared.run.Step.{Step}
 use Rattle.gx_store.specs.Journals.{is_same_node}
 use Rattle.gx_store.specs.Legal.{is_in_block}
-use Rattle.gx_store.specs.Lines.{next_stmt, state_of}
-use Rattle.gx_store.specs.Marks.{answer_count, is_same_gxid}
+use Rattle.gx_store.specs.Lines.{line_count, next_stmt, state_of}
+use Rattle.gx_store.specs.Marks.{answer_count, is_same_gxid, start_count}
 use Rattle.gx_store.specs.Ordered.{sent_in}
 use Rattle.gx_store.specs.Points.{ends_in, marks_in, starts_in}
 use Rattle.gx_store.specs.Refusals.{the_coordinator}
-use Rattle.gx_store.specs.Waits.{holds_at, is_same_object, waits_at}
+use Rattle.gx_store.specs.Waits.{holds_at, waits_at}
 
 -- MESSAGES THAT ARE LEFT
 -- how often a message is to be delivered: a link may lose it, or deliver it twice
@@ -124,9 +124,6 @@ is_exec (Some (message.Exec g c level snapshot horizon slice)) = true
 is_exec _ = false
 
 -- WAITS THAT ARE READY
-abbrev pub meets : Claim → Claim → Bool
-meets wait hold = not (is_same_gxid wait.gxid hold.gxid) && (is_same_object wait.object hold.object && conflict wait.mode hold.mode)
-
 abbrev pub is_ready : List Claim → Claim → Bool
 is_ready holds wait = not (list_any (meets wait) holds)
 
@@ -134,13 +131,8 @@ abbrev pub waits_of : List Mark → Node → Gxid → List Claim
 waits_of marks node g = filter (λ wait. is_same_gxid wait.gxid g) (waits_at marks node)
 
 -- the transactions that have begun, from the least
-abbrev pub begun_count : List Mark → ℕ
-begun_count [] = 0
-begun_count (mark.Start g session ∷ ms) = begun_count ms + 1
-begun_count (_ ∷ ms) = begun_count ms
-
 abbrev pub gxids_of : List Mark → List Gxid
-gxids_of marks = map (λ n. record { 0 = n }) (range_with_len 1 (begun_count marks))
+gxids_of marks = map (λ n. record { 0 = n }) (range_with_len 1 (start_count marks))
 
 -- the least transaction with a ready wait at the node resumes
 abbrev pub resumptions : List Mark → Node → List Event
@@ -217,8 +209,11 @@ abbrev pub is_to_end : Script → List Step → SessionId → Bool
 is_to_end script steps session =
     is_idle steps session && (not (is_some (next_stmt session script (marks_in steps))) && (is_in_block (state_of script session (marks_in steps)) && (ends_in session steps == 0)))
 
+abbrev pub sessions_of : Script → List SessionId
+sessions_of script = map (λ n. record { 0 = n }) (range_with_len 0 (length script.sessions))
+
 abbrev pub ends : Script → List Step → List Event
-ends script steps = map End (filter (is_to_end script steps) (map (λ n. record { 0 = n }) (range_with_len 0 (length script.sessions))))
+ends script steps = map End (filter (is_to_end script steps) (sessions_of script))
 
 abbrev pub is_any_wait : Script → List Mark → Bool
 is_any_wait script marks = list_any (λ node. not (length (waits_at marks node) == 0)) (the_coordinator ∷ segments_of script)
@@ -239,3 +234,13 @@ enabled script steps =
     ++ starts script steps
     ++ ends script steps
     ++ rounds script steps
+
+-- WHEN A RUN IS OVER
+-- a session has a line without an answer, or stands in a block, a failed one included, that wasn't ended
+abbrev pub is_unfinished : Script → List Step → SessionId → Bool
+is_unfinished script steps session =
+    not (answer_count session (marks_in steps) == line_count session script.lines)
+    || (is_in_block (state_of script session (marks_in steps)) && (ends_in session steps == 0))
+
+abbrev pub is_any_unfinished : Script → List Step → Bool
+is_any_unfinished script steps = list_any (is_unfinished script steps) (sessions_of script)

@@ -27,9 +27,8 @@ use Rattle.gx_script.specs.declared.Script.{Script}
 use Rattle.gx_store.specs.declared.mark.Mark.{Mark}
 use Rattle.gx_store.specs.declared.mark.Mark.TheVariants.{Write}
 use Rattle.gx_store.specs.Commands.{IsSnapshotAt, IsUnderWay, condition_on, has_own_snapshot}
-use Rattle.gx_store.specs.Lines.{stmt_of_command}
 use Rattle.gx_store.specs.Marks.{is_aborted, is_committed, is_processed, is_same_gxid, is_same_rid, is_written, node_of}
-use Rattle.gx_store.specs.Points.{Point, before}
+use Rattle.gx_store.specs.Points.{IsNoLater, Point, before}
 use Rattle.gx_store.specs.Rows.{row_at}
 use Rattle.gx_store.specs.View.{IsView, is_shown_to}
 
@@ -69,7 +68,7 @@ is_free_for marks g write = is_same_gxid write.gxid g || is_committed marks writ
 -- UPDATE AND DELETE
 -- The command has selected the row: it sees it, and the condition is true on what it sees. The row's current write is free
 -- for it.
-pub record IsSelected (marks : List Mark) (level : Level) (g : Gxid) (c : Cid) (table : Table) (cond : Option Cond) (rid : Rid) : Type 0 where
+pub record IsSelectedAndFree (marks : List Mark) (level : Level) (g : Gxid) (c : Cid) (table : Table) (cond : Option Cond) (rid : Rid) : Type 0 where
   pub place : ℕ
   pub taken : IsSnapshotAt marks level g c place
   pub rows : List KeyedRow
@@ -97,7 +96,7 @@ set_row assigns old = set_from old old assigns
 
 -- UPDATE writes what its SET list makes of the current image
 pub record IsUpdated (marks : List Mark) (level : Level) (g : Gxid) (c : Cid) (table : Table) (assigns : List Assign) (cond : Option Cond) (rid : Rid) (image : Option (List Value)) : Type 0 where
-  pub selected : IsSelected marks level g c table cond rid
+  pub selected : IsSelectedAndFree marks level g c table cond rid
   pub old : List Value
   pub new : List Value
   pub image_before : selected.write.image ≡ Some old
@@ -107,7 +106,7 @@ pub record IsUpdated (marks : List Mark) (level : Level) (g : Gxid) (c : Cid) (t
 
 -- DELETE writes that the row is gone
 pub record IsDeleted (marks : List Mark) (level : Level) (g : Gxid) (c : Cid) (table : Table) (cond : Option Cond) (rid : Rid) (image : Option (List Value)) : Type 0 where
-  pub selected : IsSelected marks level g c table cond rid
+  pub selected : IsSelectedAndFree marks level g c table cond rid
   pub old : List Value
   pub image_before : selected.write.image ≡ Some old
   pub current : IsCurrentFor marks level g c cond rid selected.place selected.write old
@@ -116,7 +115,7 @@ pub record IsDeleted (marks : List Mark) (level : Level) (g : Gxid) (c : Cid) (t
 -- at read committed a selected row is left alone that is gone by now, or on whose current image the condition is false
 pub record IsSkipped (marks : List Mark) (level : Level) (g : Gxid) (c : Cid) (table : Table) (cond : Option Cond) (rid : Rid) : Type 0 where
   pub isolation : level ≡ ReadCommitted
-  pub selected : IsSelected marks level g c table cond rid
+  pub selected : IsSelectedAndFree marks level g c table cond rid
   pub left : (selected.write.image ≡ None) ⊎ ((old : List Value) × (selected.write.image ≡ Some old) × (condition_on cond old ≡ Ok false))
 
 -- INSERT
@@ -147,10 +146,15 @@ IsSkipOf marks level g c (Update table assigns cond) rid = (is_processed marks g
 IsSkipOf marks level g c (Delete table cond) rid = (is_processed marks g c rid ≡ false) × IsSkipped marks level g c table cond rid
 IsSkipOf marks level g c _ rid = ⊥
 
--- a mark of a transaction that has aborted already counts for nothing, but it is of one of its commands
-pub record IsLate (script : Script) (marks : List Mark) (g : Gxid) (c : Cid) (stmt : Stmt) : Type 0 where
-  pub aborted : is_aborted marks g ≡ true
-  pub command : stmt_of_command script marks g c ≡ Some stmt
+-- A mark of a transaction that has aborted already counts for nothing, but it is of one of its commands: of one that was
+-- under way at an earlier point of the run.
+pub record IsLate (script : Script) (point : Point) (g : Gxid) (c : Cid) (stmt : Stmt) : Type 0 where
+  pub aborted : is_aborted (before point) g ≡ true
+  pub early : Point
+  pub earlier : IsNoLater early point
+  pub session : SessionId
+  pub level : Level
+  pub ran : IsUnderWay script early session stmt level g c
 
 -- the table that a statement writes
 abbrev pub written_table : Stmt → Option Table
@@ -175,7 +179,7 @@ pub record IsLiveWrite (script : Script) (point : Point) (g : Gxid) (c : Cid) (n
 
 pub record IsLateWrite (script : Script) (point : Point) (g : Gxid) (c : Cid) (node : Node) (table : Table) (rid : Rid) : Type 0 where
   pub stmt : Stmt
-  pub late : IsLate script (before point) g c stmt
+  pub late : IsLate script point g c stmt
   pub own_table : written_table stmt ≡ Some table
   pub home : IsAtHome (node_of (before point) rid) node
 
@@ -194,7 +198,7 @@ may_skip _ = false
 
 pub record IsLateSkip (script : Script) (point : Point) (g : Gxid) (c : Cid) : Type 0 where
   pub stmt : Stmt
-  pub late : IsLate script (before point) g c stmt
+  pub late : IsLate script point g c stmt
   pub kind : may_skip stmt ≡ true
 
 abbrev pub LegalWrite : Script → Point → Gxid → Cid → Node → Table → Rid → Option (List Value) → Type 0

@@ -1,7 +1,7 @@
 // What the network tells of its messages and sessions.
 ghost use Rattle.std.specs.Prelude.{◌≡◌, ◌<◌, true, false, length, option_copied};
 ghost use Rattle.gx_coord.specs.Steps.{IsCoord};
-ghost use Rattle.gx_coord.specs.Unfinished.{is_unfinished as is_left};
+ghost use Rattle.gx_rules.specs.AtCoordinator.{is_unfinished_there as is_left};
 ghost use Rattle.gx_ids.specs.declared.ids.SessionId.{SessionId as Id};
 ghost use Rattle.gx_law_runs.specs.Replays.{coordinator_after};
 ghost use Rattle.gx_rules.specs.Coordinators.{Coord as RuleCoord};

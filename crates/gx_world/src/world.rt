@@ -1,7 +1,7 @@
 ghost use Rattle.std.specs.Prelude.{◌≡◌, ◌<◌, ◌^◌, true, false, [], IfOk, IsErr, OnOk, OnErr, length, map, option_copied};
 ghost use Rattle.gx_store.specs.Whole.{AreInsertsWhole};
 ghost use Rattle.gx_law_runs.specs.Reached.{IsReached};
-ghost use Rattle.gx_coord.specs.Unfinished.{is_unfinished};
+ghost use Rattle.gx_rules.specs.AtCoordinator.{is_unfinished_there};
 ghost use Rattle.gx_ids.specs.declared.ids.SessionId.{SessionId as Id};
 ghost use Rattle.gx_law_runs.specs.Replays.{coordinator_after, is_admitted};
 ghost use Rattle.gx_rules.specs.System.{IsSystemRun};
@@ -96,8 +96,8 @@ impl World {
     /// Whether some session has a line without an answer, an open or failed block, or a line left. It is told while the world
     /// isn't spent.
     pub fn unfinished(&self) -> bool
-        ensures none { self.now.spent ≡ false → result ≡ false → (id : Id) → id.0 < length self.now.script.sessions → is_unfinished self.now.script (coordinator_after self.now.script self.now.run.steps) id ≡ false }
-        ensures some { self.now.spent ≡ false → result ≡ true → (id : Id) × (id.0 < length self.now.script.sessions) × (is_unfinished self.now.script (coordinator_after self.now.script self.now.run.steps) id ≡ true) }
+        ensures none { self.now.spent ≡ false → result ≡ false → (id : Id) → id.0 < length self.now.script.sessions → is_unfinished_there self.now.script (coordinator_after self.now.script self.now.run.steps) id ≡ false }
+        ensures some { self.now.spent ≡ false → result ≡ true → (id : Id) × (id.0 < length self.now.script.sessions) × (is_unfinished_there self.now.script (coordinator_after self.now.script self.now.run.steps) id ≡ true) }
     {
         !self.network.spent && is_unfinished(&self.network)
     }

@@ -1,6 +1,6 @@
 use Rattle.std.proofs.Common.{◌≡◌, ◌∙◌, ap, inr, refl, sym, true, length}
 use Rattle.gx_store.specs.declared.run.Run.{Run}
-use Rattle.gx_law_runs.specs.Endings.{is_any_unfinished}
+use Rattle.gx_store.specs.Schedule.{is_any_unfinished}
 use Rattle.gx_report.specs.Text.{stopped_text}
 use Rattle.gx.proofs.Runs.{run-in}
 use Rattle.gx.proofs.running.stopped.Goals as goal

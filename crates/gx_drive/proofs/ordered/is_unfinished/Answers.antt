@@ -1,5 +1,5 @@
 use Rattle.std.proofs.Common.{Bool, true, false, ◌≡◌, refl, sym, ◌∙◌}
-use Rattle.gx_law_runs.specs.Endings.{is_any_unfinished}
+use Rattle.gx_store.specs.Schedule.{is_any_unfinished}
 use Rattle.gx_drive.proofs.Unfinished.{unfinished-none, unfinished-some}
 use Rattle.gx_drive.proofs.ordered.is_unfinished.Goals as goal
 
