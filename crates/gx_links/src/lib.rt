@@ -1,13 +1,19 @@
-// A library with one function.
+//! Links between nodes: what one end receives is what the other sent, in order and once, whatever the order in which two threads
+//! work.
 #![tactic(auto)]
 
-ghost use Rattle.std.specs.Prelude.{◌≡◌};
-ghost use Rattle.gx_links.specs.Echo.{echo_of};
+pub mod ends;
+pub mod line;
+mod probe;
+pub mod receiver;
+pub mod record;
+pub mod roles;
+pub mod sender;
 
-// The `ensures` clause is the contract: what `echo` returns is `echo_of` of its argument, a definition
-// in `specs/Echo.antt`, which a caller's clause can cite too.
-pub fn echo(x: usize) -> usize
-    ensures { result ≡ echo_of x }
-{
-    x
-}
+pub use ends::{close, link};
+pub use receiver::LinkIn;
+pub use record::LinkRecord;
+pub use sender::LinkOut;
+
+#[cfg(test)]
+mod tests;
