@@ -1,0 +1,6 @@
+pub mod Counts
+pub mod Fresh
+pub mod Runs
+pub mod Sessions
+pub mod Told
+pub mod Whole

@@ -1,0 +1,6 @@
+use Rattle.std.proofs.Common.{length, sym, subst}
+use Rattle.gx_groups.proofs.Fresh.{whole-fresh}
+use Rattle.gx_groups.proofs.groups.Groups.new.Goals as goal
+
+pub invariant_of-result : goal.invariant_of-result
+invariant_of-result c = rw (c.in_ok-groups.ensures, c.in_ok-seats.ensures) (whole-fresh c.args.of.now c.args.limits.now c.requires.within)

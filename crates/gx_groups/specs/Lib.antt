@@ -1,0 +1,4 @@
+pub mod Slots
+pub mod Seats
+pub mod Table
+pub mod Calls

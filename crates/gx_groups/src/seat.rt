@@ -1,0 +1,36 @@
+ghost use Rattle.std.specs.Prelude.{◌≡◌, true, slice_get, slice_set, Some};
+ghost use Rattle.gx_groups.specs.Seats.{is_known_at};
+ghost use Rattle.gx_groups.specs.declared.seat.Seat.TheVariants.{Alone};
+
+use gx_ids::SessionId;
+
+/// What a session does about a slot.
+#[derive(Clone, Copy, Debug, PartialEq, Eq)]
+pub enum Standing {
+    Idle,
+    Asking,
+    Holding,
+}
+
+/// Where a session stands: in the group of a place, which knows what it does, or alone, where nobody holds it up.
+#[derive(Clone, Copy, Debug, PartialEq, Eq)]
+pub enum Seat {
+    Grouped(u8),
+    Alone(Standing),
+}
+
+// The seat of a session that there is.
+pub(crate) fn seat_of(seats: &[Seat], session: SessionId) -> Seat
+    requires { is_known_at (slice_get seats.now session.0) ≡ true }
+    ensures { slice_get seats.now session.0 ≡ Some result }
+{
+    seats[usize::from(session.0)]
+}
+
+// A session without a group does something else.
+pub(crate) fn stand(seats: &mut Vec<Seat>, session: SessionId, standing: Standing)
+    requires { is_known_at (slice_get seats.old.items session.0) ≡ true }
+    ensures { seats.new.items ≡ slice_set seats.old.items session.0 (Alone standing) }
+{
+    seats[usize::from(session.0)] = Seat::Alone(standing);
+}

@@ -1,0 +1,19 @@
+//! Links between nodes: what one end receives is what the other sent, in order and once, whatever the order in which two threads
+//! work.
+#![tactic(auto)]
+
+pub mod ends;
+pub mod line;
+mod probe;
+pub mod receiver;
+pub mod record;
+pub mod roles;
+pub mod sender;
+
+pub use ends::{close, link};
+pub use receiver::LinkIn;
+pub use record::LinkRecord;
+pub use sender::LinkOut;
+
+#[cfg(test)]
+mod tests;
