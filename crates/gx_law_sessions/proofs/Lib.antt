@@ -22,6 +22,7 @@ pub mod Closings
 pub mod Notes
 pub mod Alive
 pub mod Steps
+pub mod Drawn
 pub mod Sendings
 pub mod Stepping
 pub mod World

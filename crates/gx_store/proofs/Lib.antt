@@ -3,3 +3,4 @@ pub mod Rows
 pub mod Lines
 pub mod Legal
 pub mod Runs
+pub mod RefusedRuns

@@ -16,6 +16,6 @@ pub mod Locks
 pub mod Journals
 pub mod Protocol
 pub mod Ordered
-pub mod Told
 pub mod Rounds
 pub mod Schedule
+pub mod RefusedRuns

@@ -5,6 +5,7 @@ pub mod answer;
 pub mod event;
 pub mod mark;
 pub mod node;
+pub mod refused_runs;
 pub mod run;
 
 pub use answer::{Refused, StmtAnswer};
