@@ -55,7 +55,7 @@ module _ (script : Script) (some : 1 ≤ script.segments) (numbered : AreLinesNu
           (λ t v e. insert-tells script some numbered filled es t v level g c (subst (λ l. IsOf script (marks_in steps) l level g c) e (its from to number (mark.Commit g ∷ []) later session stmt level g c (tt, tt) runs)) from to number (mark.Commit g ∷ []) later answer
           (subst (λ l. IsGathered script (point_at steps (event.Receive from to number) (mark.Commit g ∷ []) later) g c l answer) e x));
       refused = λ from to number later session stmt level g c segment cause runs x.
-          caused script some numbered keyed es from to number later level g c segment stmt (its from to number (mark.Abort g ∷ []) later session stmt level g c (tt, tt) runs) cause ((heard-now script some numbered es segment _ x.number x.sent).word_earned g (reply.Failed c cause) refl);
+          caused script some numbered keyed es from to number later level g c segment stmt (its from to number (mark.Abort g ∷ []) later session stmt level g c (tt, tt) runs) cause x ((heard-now script some numbered es segment _ x.number x.sent).word_earned g (reply.Failed c cause) refl);
     }
 
   rest-shown : IsRestShown script

@@ -50,7 +50,8 @@ use Rattle.gx_law_commit.specs.Standings.{at, gx}
 use Rattle.gx_law_reads.specs.Sights.{IsShownView}
 use Rattle.gx_law_reads.proofs.Seeing.{world-hold}
 use Rattle.gx_law_writes.proofs.Legal.{IsPlacedMark, sent-no-write}
-use Rattle.gx_law_writes.proofs.Moves.{mark-written}
+use Rattle.gx_law_writes.proofs.Moves.{mark-written, own-rows}
+use Rattle.gx_law_writes.proofs.Plans.{row-piece}
 use Rattle.gx_law_writes.proofs.Rows.{insert-wrote, rows-locals}
 use Rattle.gx_law_writes.proofs.Told.{IsWritten, written-more}
 use Rattle.gx_law_writes.proofs.Turns.{Inserted, IsOldReply, IsOldWord, NoWrite, Quiet, Selected, Turns, message-turns}
@@ -298,7 +299,7 @@ module _ (script : Script) (some : 1 ≤ script.segments) (numbered_lines : AreL
         marks = (inserted (raised s z.horizon) z.g z.c z.table z.rows).marks
 
         written : Each (IsWritten (ms ++ marks)) z.rows
-        written = subst (λ ns. Each (IsWritten (ms ++ ns)) z.rows) (sym (insert-wrote s z.horizon z.g z.c z.table z.rows).marks) (mark-written z.g z.c s.node z.table ms z.rows)
+        written = subst (λ ns. Each (IsWritten (ms ++ ns)) z.rows) (sym (insert-wrote s z.horizon z.g z.c z.table z.rows).marks) (mark-written z.g z.c s.node z.table ms z.rows (own-rows script ms to z.g z.c z.table z.rows (row-piece script ms to z.g z.c z.level (Some z.snapshot) z.table z.rows (subst (λ (y : Message). MessageIs script ms to y) z.is order_is numbered_lines))))
 
         truth : (length z.rows ≡ length z.rows) × AreWritten (ms ++ (marks ++ sent)) z.rows
         truth = (refl, subst (λ m. AreWritten m z.rows) (append_assoc ms marks sent) (are-written ((ms ++ marks) ++ sent) z.rows (each_weaker (IsWritten (ms ++ marks)) (IsWritten ((ms ++ marks) ++ sent)) (λ r k. written-more (ms ++ marks) sent r.rid k) z.rows written)))

@@ -33,7 +33,7 @@ use Rattle.gx_store.specs.declared.mark.Mark.TheVariants as mark
 use Rattle.gx_store.specs.Answers.{Shows, Tells}
 use Rattle.gx_store.specs.Commands.{IsSnapshotAt, RunsCommand}
 use Rattle.gx_store.specs.Marks.{is_aborted}
-use Rattle.gx_store.specs.Messages.{HasReceived}
+use Rattle.gx_store.specs.Messages.{HasReceived, Receives}
 use Rattle.gx_store.specs.Points.{marks_in}
 use Rattle.gx_store.specs.Refusals.{HasFaulted, IsCause, the_coordinator}
 use Rattle.gx_store.specs.View.{image, is_shown_to}
@@ -224,9 +224,13 @@ module _ (script : Script) (some : 1 ≤ script.segments) (numbered : AreLinesNu
     abbrev behind : List Mark
     behind = mark.Abort g ∷ []
 
+    -- the segment's word
+    abbrev Says : Cause → Type 0
+    Says cause = Receives (world_of script es).steps (event.Receive from to number) segment the_coordinator (message.Answer g (reply.Failed c cause))
+
     -- the fault, at the point
-    faulted : (query : Query) → IsOf script ms (stmt.Select query) level g c → (r : Reply) (x : IsEarned script es segment g c r) (cause : Cause) (f : IsTrueFault (marks_in (world_of script x.upto).steps) level g c query cause) → HasFaulted (point_at (world_of script es).steps (event.Receive from to number) behind later) (stmt.Select query) level g c f.fault
-    faulted query is r x cause f =
+    faulted : (query : Query) → IsOf script ms (stmt.Select query) level g c → (r : Reply) (x : IsEarned script es segment g c r) (cause : Cause) (f : IsTrueFault (marks_in (world_of script x.upto).steps) level g c query cause) → Says cause → HasFaulted (point_at (world_of script es).steps (event.Receive from to number) behind later) (stmt.Select query) level g c f.fault (cause_of f.fault)
+    faulted query is r x cause f got =
         record {
           place = f.place;
           rid = f.rid;
@@ -234,7 +238,7 @@ module _ (script : Script) (some : 1 ≤ script.segments) (numbered : AreLinesNu
           noted = get_kept ms behind f.place _ there;
           unaborted = ap (λ m. is_aborted m g) same ∙ f.unaborted;
           faults = subst (λ m. Rattle.gx_store.specs.Faults.FaultsOnSeen m level g c query.table query.cond f.rid f.image f.fault) (sym same) f.faults;
-          within = tt;
+          heard = (segment, subst Says f.is got);
         }
       where
         before : List Mark
@@ -249,19 +253,19 @@ module _ (script : Script) (some : 1 ≤ script.segments) (numbered : AreLinesNu
         same : take f.place (ms ++ behind) ≡ take f.place before
         same = take-kept ms behind f.place _ there ∙ ap (take f.place) (marks-are script some numbered es segment g c r x) ∙ take-kept before rest f.place _ f.noted
 
-    by-fault : (query : Query) (cause : Cause) (f : ArithFault) → cause ≡ cause_of f → HasFaulted (point_at (world_of script es).steps (event.Receive from to number) behind later) (stmt.Select query) level g c f → IsCause (point_at (world_of script es).steps (event.Receive from to number) behind later) (stmt.Select query) level g c (reason_of cause)
+    by-fault : (query : Query) (cause : Cause) (f : ArithFault) → cause ≡ cause_of f → HasFaulted (point_at (world_of script es).steps (event.Receive from to number) behind later) (stmt.Select query) level g c f (cause_of f) → IsCause (point_at (world_of script es).steps (event.Receive from to number) behind later) (stmt.Select query) level g c (reason_of cause)
     by-fault query cause arith_fault.Overflow e h = subst (λ z. IsCause (point_at (world_of script es).steps (event.Receive from to number) behind later) (stmt.Select query) level g c (reason_of z)) (sym e) h
     by-fault query cause arith_fault.DivisionByZero e h = subst (λ z. IsCause (point_at (world_of script es).steps (event.Receive from to number) behind later) (stmt.Select query) level g c (reason_of z)) (sym e) h
 
-    pub caused : (line : Stmt) → IsOf script ms line level g c → (cause : Cause) (x : IsEarned script es segment g c (reply.Failed c cause)) → IsCause (point_at (world_of script es).steps (event.Receive from to number) behind later) line level g c (reason_of cause)
-    caused (stmt.Select q) is cause x = by_truth (subst (λ s. IsTruth (marks_in (world_of script x.upto).steps) segment x.level g c s (reply.Failed c cause)) (its-slice segment (stmt.Select q) level g c is _ x) x.truth)
+    pub caused : (line : Stmt) → IsOf script ms line level g c → (cause : Cause) → Says cause → (x : IsEarned script es segment g c (reply.Failed c cause)) → IsCause (point_at (world_of script es).steps (event.Receive from to number) behind later) line level g c (reason_of cause)
+    caused (stmt.Select q) is cause got x = by_truth (subst (λ s. IsTruth (marks_in (world_of script x.upto).steps) segment x.level g c s (reply.Failed c cause)) (its-slice segment (stmt.Select q) level g c is _ x) x.truth)
       where
         by_truth : IsTruth (marks_in (world_of script x.upto).steps) segment x.level g c (slice.Select q) (reply.Failed c cause) → IsCause (point_at (world_of script es).steps (event.Receive from to number) behind later) (stmt.Select q) level g c (reason_of cause)
         by_truth (inl a) = absurd (unaborted-then script some numbered es segment g c _ x is.running a)
         by_truth (inr f) =
             let h = subst (λ l. IsTrueFault (marks_in (world_of script x.upto).steps) l g c q cause) (its-level segment (stmt.Select q) level g c is _ x) f in
-            by-fault q cause h.fault h.is (faulted q is _ x cause h)
-    caused (stmt.Insert t v) is cause x = absurd (no-insert x.slice (its-slice segment (stmt.Insert t v) level g c is _ x) x.truth)
+            by-fault q cause h.fault h.is (faulted q is _ x cause h got)
+    caused (stmt.Insert t v) is cause got x = absurd (no-insert x.slice (its-slice segment (stmt.Insert t v) level g c is _ x) x.truth)
       where
         no-insert : (s : Slice) → IsSliceOf (stmt.Insert t v) s → IsTruth (marks_in (world_of script x.upto).steps) segment x.level g c s (reply.Failed c cause) → ⊥
         no-insert (slice.Insert u rows) e z = z
@@ -269,9 +273,9 @@ module _ (script : Script) (some : 1 ≤ script.segments) (numbered : AreLinesNu
         no-insert (slice.Update u a d) e z = e
         no-insert (slice.Delete u d) e z = e
         no-insert (slice.Lock u m) e z = e
-    caused (stmt.Update t a d) is cause x = absurd (subst (λ s. IsTruth (marks_in (world_of script x.upto).steps) segment x.level g c s (reply.Failed c cause)) (its-slice segment (stmt.Update t a d) level g c is _ x) x.truth)
-    caused (stmt.Delete t d) is cause x = absurd (subst (λ s. IsTruth (marks_in (world_of script x.upto).steps) segment x.level g c s (reply.Failed c cause)) (its-slice segment (stmt.Delete t d) level g c is _ x) x.truth)
-    caused (stmt.Lock t m) is cause x = absurd (subst (λ s. IsTruth (marks_in (world_of script x.upto).steps) segment x.level g c s (reply.Failed c cause)) (its-slice segment (stmt.Lock t m) level g c is _ x) x.truth)
-    caused (stmt.Begin l) is cause x = absurd (its-slice segment (stmt.Begin l) level g c is _ x)
-    caused stmt.Commit is cause x = absurd (its-slice segment stmt.Commit level g c is _ x)
-    caused stmt.Rollback is cause x = absurd (its-slice segment stmt.Rollback level g c is _ x)
+    caused (stmt.Update t a d) is cause got x = absurd (subst (λ s. IsTruth (marks_in (world_of script x.upto).steps) segment x.level g c s (reply.Failed c cause)) (its-slice segment (stmt.Update t a d) level g c is _ x) x.truth)
+    caused (stmt.Delete t d) is cause got x = absurd (subst (λ s. IsTruth (marks_in (world_of script x.upto).steps) segment x.level g c s (reply.Failed c cause)) (its-slice segment (stmt.Delete t d) level g c is _ x) x.truth)
+    caused (stmt.Lock t m) is cause got x = absurd (subst (λ s. IsTruth (marks_in (world_of script x.upto).steps) segment x.level g c s (reply.Failed c cause)) (its-slice segment (stmt.Lock t m) level g c is _ x) x.truth)
+    caused (stmt.Begin l) is cause got x = absurd (its-slice segment (stmt.Begin l) level g c is _ x)
+    caused stmt.Commit is cause got x = absurd (its-slice segment stmt.Commit level g c is _ x)
+    caused stmt.Rollback is cause got x = absurd (its-slice segment stmt.Rollback level g c is _ x)

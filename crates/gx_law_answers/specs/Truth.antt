@@ -20,8 +20,9 @@ use Rattle.gx_store.specs.declared.mark.Mark.{Mark}
 use Rattle.gx_store.specs.declared.mark.Mark.TheVariants as mark
 use Rattle.gx_store.specs.Commands.{IsSnapshotAt}
 use Rattle.gx_store.specs.Faults.{FaultsOnSeen}
-use Rattle.gx_store.specs.Marks.{is_aborted, is_written}
+use Rattle.gx_store.specs.Marks.{is_aborted}
 use Rattle.gx_rules.specs.Slices.{cause_of}
+use Rattle.gx_law_writes.specs.Rows.{is_own_written}
 use Rattle.gx_law_answers.specs.Parts.{SaysItsPart}
 
 -- the part is of the node's rows of what the command sees
@@ -43,7 +44,7 @@ pub record IsTrueFault (marks : List Mark) (level : Level) (g : Gxid) (c : Cid) 
 
 abbrev pub AreWritten : List Mark → List KeyedRow → Type 0
 AreWritten marks [] = Unit {0}
-AreWritten marks (row ∷ rows) = (is_written marks row.rid ≡ true) × AreWritten marks rows
+AreWritten marks (row ∷ rows) = (is_own_written marks row.rid ≡ true) × AreWritten marks rows
 
 -- A SELECT's answer is its part, or the fault of its condition, unless its transaction has aborted; an INSERT's counts the rows
 -- that were sent to it, which are all written.

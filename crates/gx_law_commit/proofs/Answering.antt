@@ -30,6 +30,10 @@ abbrev pub NoAnswer : Mark → Type 0
 NoAnswer (mark.Answer s n a) = ⊥
 NoAnswer _ = Unit {0}
 
+-- no answer to a command of it is awaited
+abbrev pub IsRested : Work → Type 0
+IsRested w = (i : ℕ) → waits_in w.command i ≡ false
+
 -- `Gets i g n`: the event is the segment's answer to the transaction's command of this number
 module _ (script : Script) (c : Coord) (ms : List Mark) (Gets : ℕ → ℕ → ℕ → Type 0) (starts : ℕ → Type 0) where
   -- whatever the transaction's commands wait for comes with the event, and it isn't aborted
@@ -44,30 +48,30 @@ module _ (script : Script) (c : Coord) (ms : List Mark) (Gets : ℕ → ℕ → 
     pub plain : (state : BlockState) → is_command state line ≡ false
     pub starts_it : starts s.0
 
-  -- a line may be answered so behind these marks of the event
-  abbrev pub MayAnswer : List Mark → SessionId → StmtAnswer → Type 0
-  MayAnswer earlier s (told.Refused reason) = Unit {0}
-  MayAnswer earlier s answer = ((g : ℕ) → started_after s None (ms ++ earlier) ≡ Some (gx g) → Settles g) ⊎ IsPlain s
+  -- a line may be answered so behind these marks of the event, which leaves these works
+  abbrev pub MayAnswer : (ℕ → Work) → List Mark → SessionId → StmtAnswer → Type 0
+  MayAnswer works earlier s (told.Refused reason) = Unit {0}
+  MayAnswer works earlier s answer = ((g : ℕ) → started_after s None (ms ++ earlier) ≡ Some (gx g) → Settles g × IsRested (works g)) ⊎ IsPlain s
 
-  abbrev pub MayAt : List Mark → Mark → Type 0
-  MayAt earlier (mark.Answer s n a) = MayAnswer earlier s a
-  MayAt earlier m = Unit {0}
+  abbrev pub MayAt : (ℕ → Work) → List Mark → Mark → Type 0
+  MayAt works earlier (mark.Answer s n a) = MayAnswer works earlier s a
+  MayAt works earlier m = Unit {0}
 
-  abbrev pub MayAll : List Mark → List Mark → Type 0
-  MayAll earlier [] = Unit {0}
-  MayAll earlier (m ∷ ns) = MayAt earlier m × MayAll (earlier ++ m ∷ []) ns
+  abbrev pub MayAll : (ℕ → Work) → List Mark → List Mark → Type 0
+  MayAll works earlier [] = Unit {0}
+  MayAll works earlier (m ∷ ns) = MayAt works earlier m × MayAll works (earlier ++ m ∷ []) ns
 
-  pub may-append : (earlier xs ys : List Mark) → MayAll earlier xs → MayAll (earlier ++ xs) ys → MayAll earlier (xs ++ ys)
-  may-append earlier [] ys e f = subst (λ b. MayAll b ys) (append-nil earlier) f
-  may-append earlier (x ∷ xs) ys e f = (e.0, may-append (earlier ++ x ∷ []) xs ys e.1 (subst (λ b. MayAll b ys) (sym (append_assoc earlier (x ∷ []) xs)) f))
+  pub may-append : (works : ℕ → Work) (earlier xs ys : List Mark) → MayAll works earlier xs → MayAll works (earlier ++ xs) ys → MayAll works earlier (xs ++ ys)
+  may-append works earlier [] ys e f = subst (λ b. MayAll works b ys) (append-nil earlier) f
+  may-append works earlier (x ∷ xs) ys e f = (e.0, may-append works (earlier ++ x ∷ []) xs ys e.1 (subst (λ b. MayAll works b ys) (sym (append_assoc earlier (x ∷ []) xs)) f))
 
-  none-one : (earlier : List Mark) (m : Mark) → NoAnswer m → MayAt earlier m
-  none-one earlier (mark.Answer s n a) e = absurd e
-  none-one earlier m e = tt
+  none-one : (works : ℕ → Work) (earlier : List Mark) (m : Mark) → NoAnswer m → MayAt works earlier m
+  none-one works earlier (mark.Answer s n a) e = absurd e
+  none-one works earlier m e = tt
 
-  pub none-may : (earlier ns : List Mark) → Each NoAnswer ns → MayAll earlier ns
-  none-may earlier [] e = tt
-  none-may earlier (m ∷ ns) e = (none-one earlier m e.0, none-may (earlier ++ m ∷ []) ns e.1)
+  pub none-may : (works : ℕ → Work) (earlier ns : List Mark) → Each NoAnswer ns → MayAll works earlier ns
+  none-may works earlier [] e = tt
+  none-may works earlier (m ∷ ns) e = (none-one works earlier m e.0, none-may works (earlier ++ m ∷ []) ns e.1)
 
   -- what becomes of the works and of the sessions
   abbrev pub WorksGo : (ℕ → Work) → List Mark → Type 0
@@ -78,7 +82,7 @@ module _ (script : Script) (c : Coord) (ms : List Mark) (Gets : ℕ → ℕ → 
     pub transaction : (t : ℕ) → (turn.coord.sessions t).transaction ≡ (sessions t).transaction
     pub marks : Each NoStart turn.marks
     pub works : WorksGo turn.coord.works turn.marks
-    pub may : MayAll earlier turn.marks
+    pub may : MayAll turn.coord.works earlier turn.marks
 
   -- ONE WORK
   same-go : (ns : List Mark) → WorksGo c.works ns
@@ -114,20 +118,23 @@ module _ (script : Script) (c : Coord) (ms : List Mark) (Gets : ℕ → ℕ → 
     with-others : (w : Work) (h : ℕ) → eqb h g ≡ false → with_at c1.works g w h ≡ c.works h
     with-others w h e = ap (λ b. if b then w else c1.works h) e ∙ others h e
 
+    rested : (w : Work) → w.command ≡ None → IsRested (with_at c1.works g w g)
+    rested w e i = ap (λ q. waits_in (if q then w else c1.works g).command i) (self g) ∙ ap (λ o. waits_in o i) e
+
     -- its line is answered
     abbrev pub HomeSettles : List Mark → Type 0
-    HomeSettles before = (h : ℕ) → started_after (work_of c1 (gx g)).session None (ms ++ before) ≡ Some (gx h) → Settles h
+    HomeSettles before = (h : ℕ) → started_after (work_of c1 (gx g)).session None (ms ++ before) ≡ Some (gx h) → Settles h × (h ≡ g)
 
-    pub answer-may : (before : List Mark) (n : ℕ) (a : StmtAnswer) → HomeSettles before → MayAnswer before (work_of c1 (gx g)).session a
-    answer-may before n (told.Refused reason) s = tt
-    answer-may before n told.Begin s = inl s
-    answer-may before n told.Commit s = inl s
-    answer-may before n told.Rollback s = inl s
-    answer-may before n told.Locked s = inl s
-    answer-may before n (told.Inserted x) s = inl s
-    answer-may before n (told.Updated x) s = inl s
-    answer-may before n (told.Deleted x) s = inl s
-    answer-may before n (told.Rows x) s = inl s
+    pub answer-may : (works : ℕ → Work) (before : List Mark) (a : StmtAnswer) → HomeSettles before → IsRested (works g) → MayAnswer works before (work_of c1 (gx g)).session a
+    answer-may works before (told.Refused reason) s r = tt
+    answer-may works before told.Begin s r = inl (λ h e. let y = s h e in (y.0, subst (λ j. IsRested (works j)) (sym y.1) r))
+    answer-may works before told.Commit s r = inl (λ h e. let y = s h e in (y.0, subst (λ j. IsRested (works j)) (sym y.1) r))
+    answer-may works before told.Rollback s r = inl (λ h e. let y = s h e in (y.0, subst (λ j. IsRested (works j)) (sym y.1) r))
+    answer-may works before told.Locked s r = inl (λ h e. let y = s h e in (y.0, subst (λ j. IsRested (works j)) (sym y.1) r))
+    answer-may works before (told.Inserted x) s r = inl (λ h e. let y = s h e in (y.0, subst (λ j. IsRested (works j)) (sym y.1) r))
+    answer-may works before (told.Updated x) s r = inl (λ h e. let y = s h e in (y.0, subst (λ j. IsRested (works j)) (sym y.1) r))
+    answer-may works before (told.Deleted x) s r = inl (λ h e. let y = s h e in (y.0, subst (λ j. IsRested (works j)) (sym y.1) r))
+    answer-may works before (told.Rows x) s r = inl (λ h e. let y = s h e in (y.0, subst (λ j. IsRested (works j)) (sym y.1) r))
 
     pub closed-tidy : (turn : Turn) → Settles g → HomeSettles (earlier ++ mark.Commit (gx g) ∷ []) → Tidy c1.sessions earlier (is_closed c1 (gx g) turn)
     closed-tidy turn s home =
@@ -136,7 +143,7 @@ module _ (script : Script) (c : Coord) (ms : List Mark) (Gets : ℕ → ℕ → 
           transaction = λ t. txn-state c1.sessions (work_of c1 (gx g)).session.0 t _;
           marks = (tt, (tt, tt));
           works = one-go _ (is_closed c1 (gx g) turn).marks g (with-others no_work) (λ i e. inr (inr (s.waits i e)));
-          may = (tt, (answer-may (earlier ++ mark.Commit (gx g) ∷ []) 0 (answer_at_commit (work_of c1 (gx g)) (session_of c1 (work_of c1 (gx g)).session).state.pending) home, tt));
+          may = (tt, (answer-may (is_closed c1 (gx g) turn).coord.works (earlier ++ mark.Commit (gx g) ∷ []) (answer_at_commit (work_of c1 (gx g)) (session_of c1 (work_of c1 (gx g)).session).state.pending) home (rested no_work refl), tt));
         }
 
     abort-told : (why rest : List Mark) → is_aborted (why ++ mark.Abort (gx g) ∷ rest) (gx g) ≡ true
@@ -149,10 +156,10 @@ module _ (script : Script) (c : Coord) (ms : List Mark) (Gets : ℕ → ℕ → 
           transaction = λ t. txn-state c1.sessions (work_of c1 (gx g)).session.0 t _;
           marks = each_append NoStart why _ n (tt, (tt, tt));
           works = one-go _ (is_refused c1 (gx g) turn why reason).marks g (with-others no_work) (λ i e. inr (inl (abort-told why (answer_mark c1 (work_of c1 (gx g)).session (told.Refused reason) ∷ []))));
-          may = may-append earlier why _ (none-may earlier why a) (tt, (tt, tt));
+          may = may-append (is_refused c1 (gx g) turn why reason).coord.works earlier why _ (none-may (is_refused c1 (gx g) turn why reason).coord.works earlier why a) (tt, (tt, tt));
         }
 
-    pub rolled-tidy : (turn : Turn) (marks : List Mark) → Each NoStart marks → MayAll (earlier ++ mark.Abort (gx g) ∷ []) marks → Tidy c1.sessions earlier (rolls_back c1 (gx g) marks turn)
+    pub rolled-tidy : (turn : Turn) (marks : List Mark) → Each NoStart marks → MayAll (rolls_back c1 (gx g) marks turn).coord.works (earlier ++ mark.Abort (gx g) ∷ []) marks → Tidy c1.sessions earlier (rolls_back c1 (gx g) marks turn)
     rolled-tidy turn marks n a =
         record { lines = λ t. refl; transaction = λ t. refl; marks = (tt, n); works = one-go _ (mark.Abort (gx g) ∷ marks) g (with-others no_work) (λ i e. inr (inl (abort-told [] marks))); may = (tt, a) }
 
@@ -163,13 +170,13 @@ module _ (script : Script) (c : Coord) (ms : List Mark) (Gets : ℕ → ℕ → 
           transaction = λ t. txn-state c1.sessions (work_of c1 (gx g)).session.0 t _;
           marks = (tt, tt);
           works = one-go _ (answers c1 (gx g) (work_of c1 (gx g))).marks g (with-others (record (work_of c1 (gx g)) { command = None })) (λ i e. inr (inr (s.waits i e)));
-          may = (answer-may earlier 0 (answer_of_command (work_of c1 (gx g)).command) home, tt);
+          may = (answer-may (answers c1 (gx g) (work_of c1 (gx g))).coord.works earlier (answer_of_command (work_of c1 (gx g)).command) home (rested (record (work_of c1 (gx g)) { command = None }) refl), tt);
         }
 
     -- the works as they stand on the way
     pub rests-tidy : (table : Rattle.gx_dtx.specs.Table.Table) (outs : List Out) (ns : List Mark) → Each NoStart ns → Each NoAnswer ns → ((i : ℕ) → waits_in (c.works g).command i ≡ true → ((waits_in (c1.works g).command i ≡ true) × ((c1.works g).last ≡ (c.works g).last)) ⊎ Gets i g (c.works g).last) → Tidy c1.sessions earlier (record { coord = record c1 { table = table }; marks = ns; outs = outs; item = None })
     rests-tidy table outs ns n a here =
-        record { lines = λ t. refl; transaction = λ t. refl; marks = n; works = one-go c1.works ns g others (λ i e. either i (here i e)); may = none-may earlier ns a }
+        record { lines = λ t. refl; transaction = λ t. refl; marks = n; works = one-go c1.works ns g others (λ i e. either i (here i e)); may = none-may c1.works earlier ns a }
       where
         either : (i : ℕ) → ((waits_in (c1.works g).command i ≡ true) × ((c1.works g).last ≡ (c.works g).last)) ⊎ Gets i g (c.works g).last → ((waits_in (c1.works g).command i ≡ true) × ((c1.works g).last ≡ (c.works g).last)) ⊎ (is_aborted ns (gx g) ≡ true) ⊎ Gets i g (c.works g).last
         either i (inl x) = inl x

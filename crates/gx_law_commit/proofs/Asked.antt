@@ -147,7 +147,7 @@ module _ (script : Script) (P : ℕ → ℕ → Part) (c : Coord) (ms : List Mar
           transaction = λ t. ap (λ (x : Session). x.transaction) (f.same_sessions t);
           marks = f.no_start;
           works = one-go script c ms Gets starting (goes_out (gx g) cid line pieces r).coord.works r.marks g (λ h e. ap (λ b. if b then record (r.coord.works g) { last = cid.0; command = Some (record { stmt = line; cid = cid; orders = orders_of (gx g) cid (r.coord.works g).level r.snapshot (horizon_of r.coord.table) pieces; awaited = nodes_in pieces; count = 0; parts = [] }) } else r.coord.works h) e ∙ f.same_works h e) (λ i e. absurd (clash (waits_in (c.works g).command i) e (idle i)));
-          may = none-may script c ms Gets starting earlier r.marks f.no_answer;
+          may = none-may script c ms Gets starting (goes_out (gx g) cid line pieces r).coord.works earlier r.marks f.no_answer;
         }
     goes-tidy cid line r (Err fault) f =
         let x = refused-tidy script c ms Gets starting r.coord g f.same_works earlier (on_abort r.coord.table (gx g)) (r.marks ++ fault_mark (gx g) cid line) (refusal_of fault) (each_append NoStart r.marks (fault_mark (gx g) cid line) f.no_start (fault-no-start (gx g) cid line)) (each_append NoAnswer r.marks (fault_mark (gx g) cid line) f.no_answer (fault-no-answer (gx g) cid line)) in
@@ -167,7 +167,7 @@ module _ (script : Script) (P : ℕ → ℕ → Part) (c : Coord) (ms : List Mar
     pub lines : (t : ℕ) → (turn.coord.sessions t).lines ≡ (c.sessions t).lines + count t
     pub last : (t : SessionId) (h : ℕ) → started_after t None (ms ++ turn.marks) ≡ Some (gx h) → (session_of turn.coord t).transaction.0 ≡ h
     pub works : WorksGo script c ms Gets starting turn.coord.works turn.marks
-    pub may : MayAll script c ms Gets starting [] turn.marks
+    pub may : MayAll script c ms Gets starting turn.coord.works [] turn.marks
 
   -- no transaction begins
   tidy-told : (f : ℕ → Session) (count : ℕ → ℕ) (turn : CoordTurn) → ((t : ℕ) → (f t).lines ≡ (c.sessions t).lines + count t) → ((t : ℕ) → (f t).transaction ≡ (c.sessions t).transaction) → TidyIn f [] turn → Told count turn
@@ -257,7 +257,7 @@ module _ (script : Script) (P : ℕ → ℕ → Part) (c : Coord) (ms : List Mar
         by_outcome (outcome.Refused i) q h = absurd h
         by_outcome outcome.Ended q h = absurd h
 
-    at-once : (asked : LineStep) (a : StmtAnswer) → MayAnswer script c ms Gets starting [] s a → Told one_line (answers_at_once (starts_line c s asked) s a)
+    at-once : (asked : LineStep) (a : StmtAnswer) → MayAnswer script c ms Gets starting c.works [] s a → Told one_line (answers_at_once (starts_line c s asked) s a)
     at-once asked a x =
         line-told asked (answers_at_once (starts_line c s asked) s a) (record { lines = λ t. refl; transaction = λ t. refl; marks = (tt, tt); works = λ h i e. inl (e, refl); may = (x, tt) })
 
@@ -328,7 +328,7 @@ module _ (script : Script) (P : ℕ → ℕ → Part) (c : Coord) (ms : List Mar
     rollback-told opened q =
         line-told step.RollbackBlock _ (rolled-tidy script c ms Gets starting (starts_line c s step.RollbackBlock) (session_of (starts_line c s step.RollbackBlock) s).transaction.0 (same-others step.RollbackBlock _) [] (on_abort c.table (session_of (starts_line c s step.RollbackBlock) s).transaction) (answer_mark (starts_line c s step.RollbackBlock) s told.Rollback ∷ []) (tt, tt) (inr q, tt))
 
-    plain-may : (plain : Plain) → IsPlain script c ms Gets starting s → MayAnswer script c ms Gets starting [] s (plain_answer_of plain)
+    plain-may : (plain : Plain) → IsPlain script c ms Gets starting s → MayAnswer script c ms Gets starting c.works [] s (plain_answer_of plain)
     plain-may plain.Begin q = inr q
     plain-may plain.Commit q = inr q
     plain-may plain.Rollback q = inr q

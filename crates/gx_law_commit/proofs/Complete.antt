@@ -1,7 +1,7 @@
 -- Over every run of the machine: a command is answered only when every segment that it was sent to is done.
 use Rattle.std.proofs.Common.{◌≡◌, ◌⊎◌, inl, inr, ℕ, zero, suc, ◌+◌, List, [], ◌∷◌, ◌++◌, Option, Some, None, Bool, true, false, refl, sym, subst, ap, ◌∙◌, if◌then◌else◌, arith, append-nil}
 use Rattle.std.proofs.lemmas.List.{append_assoc}
-use Rattle.std.specs.Prelude.{length, slice_get, take}
+use Rattle.std.specs.Prelude.{◌<◌, Contains, length, slice_get, slice_index_or, take}
 use Rattle.gx_ids.specs.declared.ids.Cid.{Cid}
 use Rattle.gx_ids.specs.declared.ids.Gxid.{Gxid}
 use Rattle.gx_ids.specs.declared.ids.Node.{Node}
@@ -27,7 +27,7 @@ use Rattle.gx_store.specs.Lines.BlockState.{Outside, InBlock, Failed}
 use Rattle.gx_store.specs.Marks.{answer_count, is_aborted, is_begun, started_after}
 use Rattle.gx_store.specs.Messages.{IsSending, Receives}
 use Rattle.gx_store.specs.Points.{Point, before, marks_in, starts_by, starts_in}
-use Rattle.gx_store.specs.Protocol.{IsDispatched, IsReturned}
+use Rattle.gx_store.specs.Protocol.{IsDispatched, IsReturned, IsSentBy}
 use Rattle.gx_store.specs.Refusals.{the_coordinator}
 use Rattle.gx_store.proofs.Marks.{started_after-append}
 use Rattle.gx_rules.specs.AtCoordinator.{coord_can, coord_rule, on_event}
@@ -40,7 +40,7 @@ use Rattle.gx_law_order.proofs.World.{Knows, marks-last}
 use Rattle.gx_law_order.proofs.Numbers.{NoStart}
 use Rattle.gx_law_commit.specs.Followed.{AnswersAt, DoMarksAnswer, DoStepsAnswer}
 use Rattle.gx_law_commit.specs.Standings.{at, gx, waits_in}
-use Rattle.gx_law_commit.proofs.Answering.{IsPlain, MayAll, MayAt, NoAnswer, Settles}
+use Rattle.gx_law_commit.proofs.Answering.{IsPlain, IsRested, MayAll, MayAt, NoAnswer, Settles}
 use Rattle.gx_law_commit.proofs.Asked.{IsGot, Told, counted as counted_by, event-told}
 use Rattle.gx_law_commit.proofs.Calls.{or-left, or-right}
 use Rattle.gx_law_commit.proofs.Commits.{take-kept}
@@ -122,6 +122,20 @@ each-get P (y ∷ ys) zero x e f = subst P (some-same y x f) e.0
     some-same a b e = (cc)
 each-get P (y ∷ ys) (suc k) x e f = each-get P ys k x e.1 f
 
+below : (k n : ℕ) → suc k < suc n → k < n
+below k n l = omega arith
+
+each-at : {A : Type 0} (P : A → Type 0) (xs : List A) (k : ℕ) (x : A) → Each P xs → k < length xs → slice_index_or xs k x ≡ x → P x
+each-at P [] k x e l q = absurd (none k l)
+  where
+    none : (k : ℕ) → k < 0 → ⊥
+    none k l = omega arith
+each-at P (y ∷ ys) zero x e l q = subst P q e.0
+each-at P (y ∷ ys) (suc k) x e l q = each-at P ys k x e.1 (below k (length ys) l) q
+
+each-contained : {A : Type 0} (P : A → Type 0) (xs : List A) (x : A) → Each P xs → Contains xs x → P x
+each-contained P xs x e c = each-at P xs c.0 x e c.1 c.2
+
 pub answer-push : (script : Script) (before ss : List Step) (s : Step) → DoStepsAnswer script before ss → DoMarksAnswer script (before ++ ss) s [] s.marks → DoStepsAnswer script before (ss ++ s ∷ [])
 answer-push script before [] s e h = (subst (λ x. DoMarksAnswer script x s [] s.marks) (append-nil before) h, tt)
 answer-push script before (x ∷ ss) s e h = (e.0, answer-push script (before ++ x ∷ []) ss s e.1 (subst (λ y. DoMarksAnswer script y s [] s.marks) (sym (append_assoc before (x ∷ []) ss)) h))
@@ -172,6 +186,20 @@ asked-one d steps to (message.Graph round graph) a = tt
 sent-back : (d : Coord) (steps : List Step) (node : Node) (f : ℕ → ℕ) (outs : List Out) → Each (λ (o : Out). AsksFor d o.node.0 o.message) outs → Each (SentBack d steps node) (numbered f outs)
 sent-back d steps node f [] e = tt
 sent-back d steps node f (o ∷ outs) e = (λ q. asked-one d steps o.node o.message e.0, sent-back d steps node (counted f o) outs e.1)
+
+-- what a turn sends is awaited behind it
+abbrev SentAsks : Coord → Mark → Type 0
+SentAsks d (mark.Sent to number m) = AsksFor d to.0 m
+SentAsks d _ = Unit {0}
+
+no-sent-asks : (d : Coord) (ns : List Mark) → Each NoSent ns → Each (SentAsks d) ns
+no-sent-asks d [] e = tt
+no-sent-asks d (mark.Sent to number m ∷ ns) e = absurd e.0
+no-sent-asks d (m ∷ ns) e = (tt, no-sent-asks d ns e.1)
+
+sent-asks : (d : Coord) (f : ℕ → ℕ) (outs : List Out) → Each (λ (o : Out). AsksFor d o.node.0 o.message) outs → Each (SentAsks d) (numbered f outs)
+sent-asks d f [] e = tt
+sent-asks d f (o ∷ outs) e = (e.0, sent-asks d (counted f o) outs e.1)
 
 pub away-back : (d : Coord) (steps : List Step) (node : Node) → (node ≡ the_coordinator → ⊥) → (ns : List Mark) → Each (SentBack d steps node) ns
 away-back d steps node n [] = tt
@@ -224,9 +252,8 @@ module _ (script : Script) (w : World) (n : Knows script w) (v : Holds script w)
   sent-there : (node : Node) (number step mark : ℕ) (g : Gxid) (c : Cid) (level : Level) (snapshot : Option Rattle.gx_dsnap.specs.declared.snapshot.Snapshot.Snapshot) (horizon : Gxid) (slice : Rattle.gx_tree.specs.declared.slice.Slice.Slice) → IsSending w.steps step mark the_coordinator node number (message.Exec g c level snapshot horizon slice) → IsBack w.coord w.steps node.0 g.0 c.0
   sent-there node number step mark g c level snapshot horizon slice s = each-get (SentBack w.coord w.steps s.sender.stamp.node) s.sender.marks mark _ (each-get (StepBack w.coord w.steps) w.steps step s.sender r.back s.at) s.sent s.node
 
-  complete-one : (earlier later : List Mark) (s : SessionId) (a : StmtAnswer) → ((g : ℕ) → started_after s None (ms ++ earlier) ≡ Some (gx g) → Settles script w.coord ms Gets starting g) ⊎ IsPlain script w.coord ms Gets starting s → (line : Stmt) (level : Level) (g : Gxid) (c : Cid) (node : Node) → RunsCommand script (record { steps = w.steps; event = e; earlier = earlier; later = later }) s line level g c → IsDispatched (record { steps = w.steps; event = e; earlier = earlier; later = later }) g c node → IsReturned (record { steps = w.steps; event = e; earlier = earlier; later = later }) g c node
-  complete-one earlier later s a (inl settle) line level g c node runs sent =
-      by_back (settle g.0 (started (state_at script s (record { steps = w.steps; event = e; earlier = earlier; later = later })) runs.transaction)) (sent-there node sent.number sent.sent.step sent.sent.mark g c sent.level sent.snapshot sent.horizon sent.slice sent.sent.sending)
+  complete-one : (earlier later : List Mark) (s : SessionId) (a : StmtAnswer) → Each (SentAsks turn.coord) (earlier ++ later) → ((g : ℕ) → started_after s None (ms ++ earlier) ≡ Some (gx g) → Settles script w.coord ms Gets starting g × IsRested (turn.coord.works g)) ⊎ IsPlain script w.coord ms Gets starting s → (line : Stmt) (level : Level) (g : Gxid) (c : Cid) (node : Node) → RunsCommand script (record { steps = w.steps; event = e; earlier = earlier; later = later }) s line level g c → IsDispatched (record { steps = w.steps; event = e; earlier = earlier; later = later }) g c node → IsReturned (record { steps = w.steps; event = e; earlier = earlier; later = later }) g c node
+  complete-one earlier later s a asks (inl settle) line level g c node runs sent = by_sent sent.sent
     where
       started : (state : BlockState) → transaction_of state s (ms ++ earlier) ≡ Some g → started_after s None (ms ++ earlier) ≡ Some g
       started Outside f = by_begun (is_begun s (ms ++ earlier)) f
@@ -244,7 +271,15 @@ module _ (script : Script) (w : World) (n : Knows script w) (v : Holds script w)
       by_back y (inl z) = returned earlier later node g.0 c.0 (subst (Comes w.steps e node.0 g.0) (sym z.1) (y.waits node.0 z.0))
       by_back y (inr (inl z)) = returned-before earlier later node g.0 c.0 z
       by_back y (inr (inr z)) = absurd (clash (is_aborted ms g) z y.alive)
-  complete-one earlier later s a (inr plain) line level g c node runs sent =
+
+      settled : Settles script w.coord ms Gets starting g.0 × IsRested (turn.coord.works g.0)
+      settled = settle g.0 (started (state_at script s (record { steps = w.steps; event = e; earlier = earlier; later = later })) runs.transaction)
+
+      -- what this step sends is awaited behind it
+      by_sent : IsSentBy (record { steps = w.steps; event = e; earlier = earlier; later = later }) node sent.number (message.Exec g c sent.level sent.snapshot sent.horizon sent.slice) → IsReturned (record { steps = w.steps; event = e; earlier = earlier; later = later }) g c node
+      by_sent (inl z) = by_back settled.0 (sent-there node sent.number z.step z.mark g c sent.level sent.snapshot sent.horizon sent.slice z.sending)
+      by_sent (inr z) = absurd (clash (waits_in (turn.coord.works g.0).command node.0) (each-contained (SentAsks turn.coord) (earlier ++ later) _ asks z).0 (settled.1 node.0))
+  complete-one earlier later s a asks (inr plain) line level g c node runs sent =
       absurd (clash (is_command (state_at script s point) plain.line) (subst (λ q. is_command (state_at script s point) q ≡ true) same runs.command) (plain.plain (state_at script s point)))
     where
       point : Point
@@ -262,21 +297,21 @@ module _ (script : Script) (w : World) (n : Knows script w) (v : Holds script w)
       same : line ≡ plain.line
       same = some-same line plain.line (sym runs.line.line ∙ ap (λ q. stmt_of s q script.lines) number ∙ plain.next)
 
-  may-one : (earlier later : List Mark) (m : Mark) → MayAt script w.coord ms Gets starting earlier m → AnswersAt script the_coordinator (record { steps = w.steps; event = e; earlier = earlier; later = later }) m
-  may-one earlier later (mark.Answer s k (told.Refused reason)) f = tt
-  may-one earlier later (mark.Answer s k told.Begin) f = complete-one earlier later s told.Begin f
-  may-one earlier later (mark.Answer s k told.Commit) f = complete-one earlier later s told.Commit f
-  may-one earlier later (mark.Answer s k told.Rollback) f = complete-one earlier later s told.Rollback f
-  may-one earlier later (mark.Answer s k told.Locked) f = complete-one earlier later s told.Locked f
-  may-one earlier later (mark.Answer s k (told.Inserted y)) f = complete-one earlier later s (told.Inserted y) f
-  may-one earlier later (mark.Answer s k (told.Updated y)) f = complete-one earlier later s (told.Updated y) f
-  may-one earlier later (mark.Answer s k (told.Deleted y)) f = complete-one earlier later s (told.Deleted y) f
-  may-one earlier later (mark.Answer s k (told.Rows y)) f = complete-one earlier later s (told.Rows y) f
-  may-one earlier later m f = tt
+  may-one : (earlier later : List Mark) (m : Mark) → Each (SentAsks turn.coord) (earlier ++ later) → MayAt script w.coord ms Gets starting turn.coord.works earlier m → AnswersAt script the_coordinator (record { steps = w.steps; event = e; earlier = earlier; later = later }) m
+  may-one earlier later (mark.Answer s k (told.Refused reason)) q f = tt
+  may-one earlier later (mark.Answer s k told.Begin) q f = complete-one earlier later s told.Begin q f
+  may-one earlier later (mark.Answer s k told.Commit) q f = complete-one earlier later s told.Commit q f
+  may-one earlier later (mark.Answer s k told.Rollback) q f = complete-one earlier later s told.Rollback q f
+  may-one earlier later (mark.Answer s k told.Locked) q f = complete-one earlier later s told.Locked q f
+  may-one earlier later (mark.Answer s k (told.Inserted y)) q f = complete-one earlier later s (told.Inserted y) q f
+  may-one earlier later (mark.Answer s k (told.Updated y)) q f = complete-one earlier later s (told.Updated y) q f
+  may-one earlier later (mark.Answer s k (told.Deleted y)) q f = complete-one earlier later s (told.Deleted y) q f
+  may-one earlier later (mark.Answer s k (told.Rows y)) q f = complete-one earlier later s (told.Rows y) q f
+  may-one earlier later m q f = tt
 
-  may-answers : (earlier ns : List Mark) (f : ℕ → ℕ) (outs : List Out) → MayAll script w.coord ms Gets starting earlier ns → DoMarksAnswer script w.steps step earlier (ns ++ numbered f outs)
-  may-answers earlier [] f outs y = sent-answers script w.steps step earlier f outs
-  may-answers earlier (m ∷ ns) f outs y = (may-one earlier (ns ++ numbered f outs) m y.0, may-answers (earlier ++ m ∷ []) ns f outs y.1)
+  may-answers : (earlier ns : List Mark) (f : ℕ → ℕ) (outs : List Out) → Each (SentAsks turn.coord) earlier → Each (SentAsks turn.coord) (ns ++ numbered f outs) → MayAll script w.coord ms Gets starting turn.coord.works earlier ns → DoMarksAnswer script w.steps step earlier (ns ++ numbered f outs)
+  may-answers earlier [] f outs a b y = sent-answers script w.steps step earlier f outs
+  may-answers earlier (m ∷ ns) f outs a b y = (may-one earlier (ns ++ numbered f outs) m (each_append (SentAsks turn.coord) earlier (ns ++ numbered f outs) a b.1) y.0, may-answers (earlier ++ m ∷ []) ns f outs (each_append (SentAsks turn.coord) earlier (m ∷ []) a (b.0, tt)) b.1 y.1)
 
   all : ms ++ (turn.marks ++ sent) ≡ marks_in next.steps
   all = sym (marks-last w.steps step)
@@ -295,7 +330,9 @@ module _ (script : Script) (w : World) (n : Knows script w) (v : Holds script w)
             last = λ s h q. t.last s h (sym (started_after-append s None (ms ++ turn.marks) sent ∙ calm-started s _ sent (no-start-sent turn.coord.sent turn.outs)) ∙ ap (started_after s None) (append_assoc ms turn.marks sent ∙ all) ∙ q);
             back = each_append (StepBack last_coord next.steps) w.steps (step ∷ []) (back-all w.coord last_coord w.steps (step ∷ []) w.steps stays r.back)
                 (each_append (SentBack last_coord next.steps the_coordinator) turn.marks sent (no-sent-back last_coord next.steps the_coordinator turn.marks (Rattle.gx_law_commit.proofs.Everywhere.fol-no-sent script ms turn.marks f.way.fol)) (sent-back last_coord next.steps the_coordinator turn.coord.sent turn.outs (each_weaker (SaidOut script (parts_in w) turn.coord (ms ++ turn.marks)) (λ (o : Out). AsksFor last_coord o.node.0 o.message) (λ o q. asks o.message o.node.0 q.2) turn.outs f.outs)), tt);
-            answers = answer-push script [] w.steps step r.answers (may-answers [] turn.marks turn.coord.sent turn.outs t.may);
+            answers = answer-push script [] w.steps step r.answers (may-answers [] turn.marks turn.coord.sent turn.outs tt
+                (each_append (SentAsks turn.coord) turn.marks sent (no-sent-asks turn.coord turn.marks (Rattle.gx_law_commit.proofs.Everywhere.fol-no-sent script ms turn.marks f.way.fol))
+                (sent-asks turn.coord turn.coord.sent turn.outs (each_weaker (SaidOut script (parts_in w) turn.coord (ms ++ turn.marks)) (λ (o : Out). AsksFor turn.coord o.node.0 o.message) (λ o q. q.2) turn.outs f.outs))) t.may);
           }
         where
           asks : (m : Message) (i : ℕ) → AsksFor turn.coord i m → AsksFor last_coord i m

@@ -73,9 +73,9 @@ module _ (script : Script) (P : ℕ → ℕ → Part) (c : Coord) (ms : List Mar
   same-others g h e = refl
 
   -- the session's last transaction
-  pub home-settles : (g : ℕ) (s : SessionId) (before : List Mark) → Each NoStart before → (session_of c s).transaction.0 ≡ g → SettlesIt g → (h : ℕ) → started_after s None (ms ++ before) ≡ Some (gx h) → SettlesIt h
+  pub home-settles : (g : ℕ) (s : SessionId) (before : List Mark) → Each NoStart before → (session_of c s).transaction.0 ≡ g → SettlesIt g → (h : ℕ) → started_after s None (ms ++ before) ≡ Some (gx h) → SettlesIt h × (h ≡ g)
   home-settles g s before calm mine settles h e =
-      subst SettlesIt (sym mine ∙ last_is s h (sym (started_after-append s None ms before ∙ calm-started s (started_after s None ms) before calm) ∙ e)) settles
+      let same : g ≡ h = sym mine ∙ last_is s h (sym (started_after-append s None ms before ∙ calm-started s (started_after s None ms) before calm) ∙ e) in (subst SettlesIt same settles, sym same)
 
   pub rest-tidy : TidyFrom c.sessions [] (rests c)
   rest-tidy = rests-tidy script c ms Gets starting c 0 (same-others 0) [] c.table [] [] tt tt (λ i e. inl (e, refl))
@@ -151,7 +151,7 @@ module _ (script : Script) (P : ℕ → ℕ → Part) (c : Coord) (ms : List Mar
         by_same i true q h = subst (λ n. Gets n g (c.works g).last) (eqb-true j.0 i q) gets
         by_same i false q h = absurd (clash (has (at i) m.awaited) h (sym (none i false q)))
 
-    home-here : without j m.awaited ≡ [] → (before : List Mark) → Each NoStart before → (h : ℕ) → started_after (work_of c1 (gx g)).session None (ms ++ before) ≡ Some (gx h) → SettlesIt h
+    home-here : without j m.awaited ≡ [] → (before : List Mark) → Each NoStart before → (h : ℕ) → started_after (work_of c1 (gx g)).session None (ms ++ before) ≡ Some (gx h) → SettlesIt h × (h ≡ g)
     home-here e before calm h q =
         home-settles g (c.works g).session before calm mine (all-back e) h (subst (λ (w : Work). started_after w.session None (ms ++ before) ≡ Some (gx h)) work-now q)
 

@@ -143,13 +143,16 @@ module _ (script : Script) (P : ℕ → ℕ → Part) (c : Coord) (ms : List Mar
             let o = one-change script P c ms s whole g t f ch turn.coord turn.marks (c.works g) refl (λ h. same h (eqb h g) refl) (record { others = λ h n. (other h (not-self g h n), refl, refl) }) in
             record {
               way = at-one script P c turn.coord ms turn.marks g (left_of ch.step (Some t)) (c.works g) o s (λ i. subst (λ q. Shift (k i) q (P i g)) (sym (known-now i)) (decide-shift (has (at i) aw) (has (at i) xs) (k i) (P i g) (pair i) (at-preparing i) (all-promised none i) (ap (has (at i)) (agrees-in (status.Preparing xs aw) e).0)))
-                  (s.works g) ((agrees-in (status.Preparing xs aw) e).1, decision) (unaborted script P c ms s whole g t f (k 0) (P 0 g) (pair 0) (not-over 0 (preparing-closing 0)), tt);
+                  (s.works g) ((agrees-in (status.Preparing xs aw) e).1, decision) ((neither (is_committed ms (gx g)) (is_aborted ms (gx g)) (uncommitted script P c ms s whole g t f (k 0) (P 0 g) (pair 0) (not-over 0 (preparing-closing 0))) (unaborted script P c ms s whole g t f (k 0) (P 0 g) (pair 0) (not-over 0 (preparing-closing 0))), (pair 0).undecided (ap is_undecided (at-preparing 0))), tt);
               outs = to-nodes _ (message.CommitPrepared (gx g)) xs (each_weaker (λ (y : Node). has y xs ≡ true) _ (λ y h. (refl, inl (ap (λ (q : Known). q.at) (known-here script P c turn.coord ms turn.marks g (left_of ch.step (Some t)) (c.works g) o y.0) ∙ ap Two h), tt)) xs (each-has xs));
             }
           where
             same : (h : ℕ) (b : Bool) → eqb h g ≡ b → c.works h ≡ (if b then c.works g else c.works h)
             same h true q = ap c.works (eqb-true h g q)
             same h false q = refl
+
+            neither : (a b : Bool) → a ≡ false → b ≡ false → (a || b) ≡ false
+            neither a b x y = grind arith
 
             other : (h : ℕ) → eqb g h ≡ false → decided_count (mark.Decided (gx g) ∷ []) (gx h) ≡ 0
             other h q = ap (λ b. if b then 0 + 1 else 0) q

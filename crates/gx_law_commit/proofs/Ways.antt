@@ -17,7 +17,7 @@ use Rattle.gx_msg.specs.declared.message.Out.{Out}
 use Rattle.gx_script.specs.declared.Script.{Script}
 use Rattle.gx_store.specs.declared.mark.Mark.{Mark}
 use Rattle.gx_store.specs.declared.mark.Mark.TheVariants as mark
-use Rattle.gx_store.specs.Marks.{is_aborted, is_committed}
+use Rattle.gx_store.specs.Marks.{is_aborted, is_committed, is_ended}
 use Rattle.gx_store.specs.Protocol.{CommitsBy, decided_count, is_writer, local_count, prepared_count, writers_of}
 use Rattle.gx_rules.specs.Coordinators.{Command, Coord, CoordTurn, Work, rests}
 use Rattle.gx_law_order.proofs.Ends.{begun-finds}
@@ -58,7 +58,7 @@ part-append p ms ns i g e o =
 -- WHAT THE COORDINATOR'S MARKS FOLLOW
 abbrev pub FolAt : Script → List Mark → Mark → Type 0
 FolAt script ms (mark.Commit g) = CommitsBy (writers_of script ms g) ms g
-FolAt script ms (mark.Decided g) = is_aborted ms g ≡ false
+FolAt script ms (mark.Decided g) = (is_ended ms g ≡ false) × (decided_count ms g ≡ 0)
 FolAt script ms (mark.Abort g) = (decided_count ms g ≡ 0) × ((segment : Node) → local_count ms segment g ≡ 0)
 FolAt script ms (mark.Write g c n t r x) = ⊥
 FolAt script ms (mark.Prepared n g) = ⊥

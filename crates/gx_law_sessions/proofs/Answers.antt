@@ -5,6 +5,7 @@ use Rattle.gx_tree.specs.declared.stmt.Stmt.{Stmt}
 use Rattle.gx_tree.specs.declared.stmt.Stmt.TheVariants as stmt
 use Rattle.gx_script.specs.declared.Script.{Script}
 use Rattle.gx_store.specs.declared.answer.Refused.{Refused}
+use Rattle.gx_store.specs.declared.answer.Refused.TheVariants as refused
 use Rattle.gx_store.specs.declared.answer.StmtAnswer.{StmtAnswer}
 use Rattle.gx_store.specs.declared.answer.StmtAnswer.TheVariants as told
 use Rattle.gx_store.specs.Answers.{IsAnswer, IsDone}
@@ -16,28 +17,32 @@ use Rattle.gx_rules.specs.AtCoordinator.{command_answer}
 use Rattle.gx_rules.specs.Coordinators.{Command}
 use Rattle.gx_law_sessions.specs.Rest.{IsTold, RestAnswer}
 
--- a line that may be refused for a cause: a command, or COMMIT in its block
-abbrev pub is_refusable : BlockState → Stmt → Bool
-is_refusable (InBlock level commands) stmt.Commit = true
-is_refusable state line = is_command state line
-
-pub command-refusable : (b : BlockState) (line : Stmt) → is_command b line ≡ true → is_refusable b line ≡ true
-command-refusable Outside line e = e
-command-refusable (InBlock l c) stmt.Commit e = refl
-command-refusable (InBlock l c) (stmt.Begin level) e = e
-command-refusable (InBlock l c) stmt.Rollback e = e
-command-refusable (InBlock l c) (stmt.Select q) e = e
-command-refusable (InBlock l c) (stmt.Insert t x) e = e
-command-refusable (InBlock l c) (stmt.Update t x y) e = e
-command-refusable (InBlock l c) (stmt.Delete t x) e = e
-command-refusable (InBlock l c) (stmt.Lock t m) e = e
-command-refusable Failed line e = e
-
 differ : false ≡ true → ⊥
 differ e = cc
 
+abbrev pub is_journal : Refused → Bool
+is_journal (refused.JournalFault node) = true
+is_journal _ = false
+
+-- a line that may be refused for this: a command, or COMMIT in its block for a journal
+abbrev pub is_refusable : BlockState → Stmt → Refused → Bool
+is_refusable (InBlock level commands) stmt.Commit reason = is_journal reason
+is_refusable state line reason = is_command state line
+
+pub command-refusable : (b : BlockState) (line : Stmt) (reason : Refused) → is_command b line ≡ true → is_refusable b line reason ≡ true
+command-refusable Outside line reason e = e
+command-refusable (InBlock l c) stmt.Commit reason e = absurd (differ e)
+command-refusable (InBlock l c) (stmt.Begin level) reason e = e
+command-refusable (InBlock l c) stmt.Rollback reason e = e
+command-refusable (InBlock l c) (stmt.Select q) reason e = e
+command-refusable (InBlock l c) (stmt.Insert t x) reason e = e
+command-refusable (InBlock l c) (stmt.Update t x y) reason e = e
+command-refusable (InBlock l c) (stmt.Delete t x) reason e = e
+command-refusable (InBlock l c) (stmt.Lock t m) reason e = e
+command-refusable Failed line reason e = e
+
 module _ (script : Script) (point : Point) (k : SessionId) where
-  pub refused-is : (b : BlockState) (line : Stmt) (reason : Refused) → is_refusable b line ≡ true → IsRefusal script point k b line reason → IsAnswer script point k b line (told.Refused reason)
+  pub refused-is : (b : BlockState) (line : Stmt) (reason : Refused) → is_refusable b line reason ≡ true → IsRefusal script point k b line reason → IsAnswer script point k b line (told.Refused reason)
   refused-is Outside (stmt.Select q) reason e h = h
   refused-is Outside (stmt.Insert t x) reason e h = h
   refused-is Outside (stmt.Update t x y) reason e h = h
@@ -51,7 +56,13 @@ module _ (script : Script) (point : Point) (k : SessionId) where
   refused-is (InBlock l c) (stmt.Update t x y) reason e h = h
   refused-is (InBlock l c) (stmt.Delete t x) reason e h = h
   refused-is (InBlock l c) (stmt.Lock t m) reason e h = h
-  refused-is (InBlock l c) stmt.Commit reason e h = h
+  refused-is (InBlock l c) stmt.Commit (refused.Serialization rid g) e h = absurd (differ e)
+  refused-is (InBlock l c) stmt.Commit (refused.Victim round) e h = absurd (differ e)
+  refused-is (InBlock l c) stmt.Commit refused.Overflow e h = absurd (differ e)
+  refused-is (InBlock l c) stmt.Commit refused.DivisionByZero e h = absurd (differ e)
+  refused-is (InBlock l c) stmt.Commit refused.InFailedBlock e h = absurd (differ e)
+  refused-is (InBlock l c) stmt.Commit refused.NotInBlock e h = absurd (differ e)
+  refused-is (InBlock l c) stmt.Commit (refused.JournalFault node) e h = h
   refused-is (InBlock l c) (stmt.Begin level) reason e h = absurd (differ e)
   refused-is (InBlock l c) stmt.Rollback reason e h = absurd (differ e)
   refused-is Failed line reason e h = absurd (differ e)
@@ -132,14 +143,14 @@ refused-inside l n (stmt.Begin level) r e = absurd (differ e)
 refused-inside l n stmt.Commit r e = absurd (differ e)
 refused-inside l n stmt.Rollback r e = absurd (differ e)
 
-pub may-abort-refusable : (b : BlockState) (line : Stmt) → is_refusable b line ≡ true → may_abort b line ≡ true
-may-abort-refusable Outside line e = e
-may-abort-refusable (InBlock l c) stmt.Commit e = refl
-may-abort-refusable (InBlock l c) stmt.Rollback e = refl
-may-abort-refusable (InBlock l c) (stmt.Begin level) e = e
-may-abort-refusable (InBlock l c) (stmt.Select q) e = e
-may-abort-refusable (InBlock l c) (stmt.Insert t x) e = e
-may-abort-refusable (InBlock l c) (stmt.Update t x y) e = e
-may-abort-refusable (InBlock l c) (stmt.Delete t x) e = e
-may-abort-refusable (InBlock l c) (stmt.Lock t m) e = e
-may-abort-refusable Failed line e = e
+pub may-abort-refusable : (b : BlockState) (line : Stmt) (reason : Refused) → is_refusable b line reason ≡ true → may_abort b line ≡ true
+may-abort-refusable Outside line reason e = e
+may-abort-refusable (InBlock l c) stmt.Commit reason e = refl
+may-abort-refusable (InBlock l c) stmt.Rollback reason e = refl
+may-abort-refusable (InBlock l c) (stmt.Begin level) reason e = e
+may-abort-refusable (InBlock l c) (stmt.Select q) reason e = e
+may-abort-refusable (InBlock l c) (stmt.Insert t x) reason e = e
+may-abort-refusable (InBlock l c) (stmt.Update t x y) reason e = e
+may-abort-refusable (InBlock l c) (stmt.Delete t x) reason e = e
+may-abort-refusable (InBlock l c) (stmt.Lock t m) reason e = e
+may-abort-refusable Failed line reason e = e

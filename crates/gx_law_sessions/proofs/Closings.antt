@@ -192,7 +192,7 @@ module _ (script : Script) (steps : List Step) (c : Coord) (k : Kept c) (all : (
   whys-rest true later = (tt, tt)
   whys-rest false later = tt
 
-  refuses-by : (turn : Turn) (b : Bool) (reason : Refused) (B : Block) (P : Pending) (line : Stmt) (q : Busy script steps c from to number g B P line) → turn.table.next.0 ≡ c.table.next.0 → is_refusable (state_in B q.stands.commands) line ≡ true → block_after_refusal B P ≡ block.Outside → state_after (state_in B q.stands.commands) line (told.Refused reason) ≡ Outside → ((later : List Mark) (l : Stmt) (v : Level) (cid : Cid) → IsCause (record { steps = steps; event = e; earlier = whys b ++ mark.Abort g ∷ []; later = later }) l v g cid reason) → Each IsBare turn.out.outs → ((later : List Mark) → RestAnswer script (record { steps = steps; event = e; earlier = whys b ++ mark.Abort g ∷ []; later = later }) s (told.Refused reason)) → Does script steps c e (is_refused c g turn (whys b) reason)
+  refuses-by : (turn : Turn) (b : Bool) (reason : Refused) (B : Block) (P : Pending) (line : Stmt) (q : Busy script steps c from to number g B P line) → turn.table.next.0 ≡ c.table.next.0 → is_refusable (state_in B q.stands.commands) line reason ≡ true → block_after_refusal B P ≡ block.Outside → state_after (state_in B q.stands.commands) line (told.Refused reason) ≡ Outside → ((later : List Mark) (l : Stmt) (v : Level) (cid : Cid) → IsCause (record { steps = steps; event = e; earlier = whys b ++ mark.Abort g ∷ []; later = later }) l v g cid reason) → Each IsBare turn.out.outs → ((later : List Mark) → RestAnswer script (record { steps = steps; event = e; earlier = whys b ++ mark.Abort g ∷ []; later = later }) s (told.Refused reason)) → Does script steps c e (is_refused c g turn (whys b) reason)
   refuses-by turn b reason B P line q next may closed after cause outs plain =
       refuse-does script steps c e c s g (work_of c g) y (answer_count s ms) (state_in B q.stands.commands) (is_alone B P) line [] (under-same B P line q) turn (whys b) reason block.Outside next may
       (ap (λ z. block_after_refusal z y.state.pending) q.in_block ∙ ap (block_after_refusal B) q.in_line ∙ closed) refl after (whys-of s.0 g.0 b) (whys-calm b) (running b) (whys-given b) (λ later rest. cause later line _ _) outs (whys-rest b) (λ t later. plain later)
@@ -201,22 +201,22 @@ module _ (script : Script) (steps : List Step) (c : Coord) (k : Kept c) (all : (
       running false = (under-same B P line q).running
       running true = Rattle.gx_law_sessions.proofs.Ends.ended-more ms (mark.JournalFailed the_coordinator g ∷ []) g (subst (λ m. is_ended m g ≡ false) (append-nil ms) (under-same B P line q).running) refl
 
-  refuses-now : (turn : Turn) (b : Bool) (reason : Refused) → turn.table.next.0 ≡ c.table.next.0 → ((later : List Mark) (l : Stmt) (v : Level) (cid : Cid) → IsCause (record { steps = steps; event = e; earlier = whys b ++ mark.Abort g ∷ []; later = later }) l v g cid reason) → Each IsBare turn.out.outs → ((later : List Mark) → RestAnswer script (record { steps = steps; event = e; earlier = whys b ++ mark.Abort g ∷ []; later = later }) s (told.Refused reason)) → AloneSo ⊎ BlockSo → Does script steps c e (is_refused c g turn (whys b) reason)
-  refuses-now turn b reason next cause outs plain (inl z) =
-      refuses-by turn b reason block.Outside pending.Command z.0.stmt z.1.is_busy_so next (command-refusable Outside z.0.stmt z.1.command) refl (done-outside z.0.stmt (told.Refused reason) z.1.command) cause outs plain
-  refuses-now turn b reason next cause outs plain (inr z) = refuses-by turn b reason (block.Open z.0) pending.Commit stmt.Commit z.1 next refl refl refl cause outs plain
+  refuses-now : (turn : Turn) (b : Bool) (i : Node) → turn.table.next.0 ≡ c.table.next.0 → ((later : List Mark) (l : Stmt) (v : Level) (cid : Cid) → IsCause (record { steps = steps; event = e; earlier = whys b ++ mark.Abort g ∷ []; later = later }) l v g cid (refused.JournalFault i)) → Each IsBare turn.out.outs → ((later : List Mark) → RestAnswer script (record { steps = steps; event = e; earlier = whys b ++ mark.Abort g ∷ []; later = later }) s (told.Refused (refused.JournalFault i))) → AloneSo ⊎ BlockSo → Does script steps c e (is_refused c g turn (whys b) (refused.JournalFault i))
+  refuses-now turn b i next cause outs plain (inl z) =
+      refuses-by turn b (refused.JournalFault i) block.Outside pending.Command z.0.stmt z.1.is_busy_so next (command-refusable Outside z.0.stmt (refused.JournalFault i) z.1.command) refl (done-outside z.0.stmt (told.Refused (refused.JournalFault i)) z.1.command) cause outs plain
+  refuses-now turn b i next cause outs plain (inr z) = refuses-by turn b (refused.JournalFault i) (block.Open z.0) pending.Commit stmt.Commit z.1 next refl refl refl cause outs plain
 
   module _ (r : Reply) (received : Receives steps e from the_coordinator (message.Answer g r)) (noted : r ≡ reply.Jfault → Contains ms (mark.JournalFailed from g)) where
     -- the coordinator's journal has failed, or the segment's
     refused-now : (turn : Turn) (i : Node) → turn.table.next.0 ≡ c.table.next.0 → Each IsBare turn.out.outs → stage_of c g.0 ≡ Closing → ((r ≡ reply.Jfault) × (i ≡ from)) ⊎ (i ≡ the_coordinator) → Does script steps c e (is_refused c g turn (failure_marks i g) (refused.JournalFault i))
     refused-now turn i next outs closing (inr h) =
         subst (λ j. Does script steps c e (is_refused c g turn (failure_marks j g) (refused.JournalFault j))) (sym h)
-        (refuses-now turn true (refused.JournalFault the_coordinator) next
+        (refuses-now turn true the_coordinator next
         (λ later l v cid. Contains-append_left (mark.JournalFailed the_coordinator g ∷ []) (mark.Abort g ∷ []) (mark.JournalFailed the_coordinator g) (Contains-push [] (mark.JournalFailed the_coordinator g))) outs (λ later. tt) (closing-so closing))
     refused-now turn i next outs closing (inl h) =
         subst (λ j. Does script steps c e (is_refused c g turn (failure_marks j g) (refused.JournalFault j))) (sym h.1)
         (subst (λ m. Does script steps c e (is_refused c g turn m (refused.JournalFault from))) (sym (ap whys (above from.0 some)))
-        (refuses-now turn false (refused.JournalFault from) next
+        (refuses-now turn false from next
         (λ later l v cid. has-failed steps e (mark.Abort g ∷ []) later g from.0 some (subst (λ x. Receives steps e from the_coordinator (message.Answer g x)) h.0 received) (Contains-append_left ms (mark.Abort g ∷ []) (mark.JournalFailed from g) (noted h.0))) outs (λ later. tt) (closing-so closing)))
       where
         above : (a : ℕ) → 1 ≤ a → (a == 0) ≡ false

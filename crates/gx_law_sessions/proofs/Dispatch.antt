@@ -41,6 +41,7 @@ use Rattle.gx_store.specs.Refusals.{IsCause}
 use Rattle.gx_store.specs.Writes.{dist_of}
 use Rattle.gx_rules.specs.AtCoordinator.{Reading, behind, dispatches, enlisted_all, fault_mark, faulting_from, goes, goes_out, kept_at, next_cid, nodes_in, orders_of, reads_by, reads_for, refusal_of, table_of, takes_snapshot}
 use Rattle.gx_rules.specs.Coordinators.{Command, Coord, Session, Work, work_of}
+use Rattle.gx_rules.specs.Slices.{cause_of}
 use Rattle.gx_law_order.proofs.Lists.{Each, each_append, get_last}
 use Rattle.gx_law_order.proofs.Past.{Past}
 use Rattle.gx_law_order.proofs.Turns.{self-test}
@@ -299,7 +300,7 @@ module _ (script : Script) (steps : List Step) (c c1 : Coord) (s : SessionId) (g
         right : (p q : Bool) → (p || q) ≡ false → q ≡ false
         right p q e = grind arith
 
-    has-faulted : (later : List Mark) → Rattle.gx_store.specs.Refusals.HasFaulted (record { steps = steps; event = event.Start s; earlier = (earlier ++ why) ++ mark.Abort g ∷ []; later = later }) line (level_of b) g (next_cid w) fault
+    has-faulted : (later : List Mark) → Rattle.gx_store.specs.Refusals.HasFaulted (record { steps = steps; event = event.Start s; earlier = (earlier ++ why) ++ mark.Abort g ∷ []; later = later }) line (level_of b) g (next_cid w) fault (cause_of fault)
     has-faulted later =
         record {
           place = length seam;
@@ -308,7 +309,7 @@ module _ (script : Script) (steps : List Step) (c c1 : Coord) (s : SessionId) (g
           noted = subst (λ m. slice_get m (length seam) ≡ Some noted) (sym joined) (get_last seam (mark.Abort g ∷ []) noted);
           unaborted = subst (λ m. is_aborted (take (length seam) m) g ≡ false) (sym joined) (subst (λ m. is_aborted m g ≡ false) (sym (take-append_seam seam (noted ∷ mark.Abort g ∷ []))) (not-aborted seam (running-there r R)));
           faults = is-fault _;
-          within = subst (λ l. Rattle.gx_store.specs.Refusals.IsWithin l steps (length seam)) (sym is_insert) (at-least (length (marks_in steps)) (length (earlier ++ r.marks)) (length seam) (length-append (marks_in steps) (earlier ++ r.marks)));
+          heard = subst (λ l. Rattle.gx_store.specs.Refusals.IsHeard (record { steps = steps; event = event.Start s; earlier = (earlier ++ why) ++ mark.Abort g ∷ []; later = later }) (length seam) l g (next_cid w) (cause_of fault)) (sym is_insert) (at-least (length (marks_in steps)) (length (earlier ++ r.marks)) (length seam) (length-append (marks_in steps) (earlier ++ r.marks)));
         }
       where
         at-least : (a d e : ℕ) → e ≡ a + d → a ≤ e
@@ -317,7 +318,7 @@ module _ (script : Script) (steps : List Step) (c c1 : Coord) (s : SessionId) (g
     cause : (later : List Mark) → IsCause (record { steps = steps; event = event.Start s; earlier = (earlier ++ why) ++ mark.Abort g ∷ []; later = later }) line (level_of b) g (cid_of b) (refusal_of fault)
     cause later = subst (λ q. IsCause (record { steps = steps; event = event.Start s; earlier = (earlier ++ why) ++ mark.Abort g ∷ []; later = later }) line (level_of b) g q (refusal_of fault)) (sym cid) (by_fault fault (has-faulted later))
       where
-        by_fault : (f : ArithFault) → Rattle.gx_store.specs.Refusals.HasFaulted (record { steps = steps; event = event.Start s; earlier = (earlier ++ why) ++ mark.Abort g ∷ []; later = later }) line (level_of b) g (next_cid w) f → IsCause (record { steps = steps; event = event.Start s; earlier = (earlier ++ why) ++ mark.Abort g ∷ []; later = later }) line (level_of b) g (next_cid w) (refusal_of f)
+        by_fault : (f : ArithFault) → Rattle.gx_store.specs.Refusals.HasFaulted (record { steps = steps; event = event.Start s; earlier = (earlier ++ why) ++ mark.Abort g ∷ []; later = later }) line (level_of b) g (next_cid w) f (cause_of f) → IsCause (record { steps = steps; event = event.Start s; earlier = (earlier ++ why) ++ mark.Abort g ∷ []; later = later }) line (level_of b) g (next_cid w) (refusal_of f)
         by_fault arithmetic.Overflow h = h
         by_fault arithmetic.DivisionByZero h = h
 
@@ -357,7 +358,7 @@ module _ (script : Script) (steps : List Step) (c c1 : Coord) (s : SessionId) (g
 
     faults-does : Does script steps c (event.Start s) (behind earlier (Rattle.gx_rules.specs.AtCoordinator.is_refused r.coord g (on_abort r.coord.table g) why (refusal_of fault)))
     faults-does =
-        refuse-does script steps c (event.Start s) r.coord s g R.w2 x n b (is_alone B pending.Command) line earlier under2 (on_abort r.coord.table g) why (refusal_of fault) (block_after_refusal B pending.Command) refl (command-refusable b line cmd)
+        refuse-does script steps c (event.Start s) r.coord s g R.w2 x n b (is_alone B pending.Command) line earlier under2 (on_abort r.coord.table g) why (refusal_of fault) (block_after_refusal B pending.Command) refl (command-refusable b line (refusal_of fault) cmd)
         (ap (λ q. block_after_refusal q x.state.pending) xb ∙ ap (block_after_refusal B) xp) (not-busy B) (after B busy cmd)
         (each_append (IsOf s.0 g.0) r.marks (noted ∷ []) R.of (tt, tt)) (each_append (CalmFor s) r.marks (noted ∷ []) R.calm (tt, tt))
         (subst (λ m. is_ended m g ≡ false) (append_assoc (marks_in steps) (earlier ++ r.marks) (noted ∷ []) ∙ ap (λ m. marks_in steps ++ m) (append_assoc earlier r.marks (noted ∷ []))) (ended-more seam (noted ∷ []) g (running-there r R) refl))

@@ -23,6 +23,7 @@ pub mod Notes
 pub mod Alive
 pub mod Ran
 pub mod Steps
+pub mod Drawn
 pub mod Sendings
 pub mod Stepping
 pub mod World

@@ -14,7 +14,7 @@ use Rattle.gx_store.specs.declared.event.Event.TheVariants as event
 use Rattle.gx_store.specs.declared.mark.Mark.{Mark}
 use Rattle.gx_store.specs.declared.node.NodeEvent.{NodeEvent}
 use Rattle.gx_store.specs.declared.run.Step.{Step}
-use Rattle.gx_store.specs.Legal.{LegalEvent}
+use Rattle.gx_store.specs.Legal.{IsDrawn, LegalEvent}
 use Rattle.gx_store.specs.Marks.{is_aborted, start_count}
 use Rattle.gx_store.specs.Ordered.{IsSegment}
 use Rattle.gx_store.specs.Points.{ends_by, marks_in, starts_by}
@@ -233,13 +233,13 @@ module _ (script : Script) (some : 1 ≤ script.segments) (w : World) (n : Knows
   coord-rest (inl d) t = marks-append (Rest script) w.steps e [] turn.marks sent [] (d.rest t (sent ++ [])) (sent-rest script w.steps e turn.coord.sent turn.outs turn.marks [])
   coord-rest (inr d) t = marks-append (Rest script) w.steps e [] turn.marks sent [] (quiet-rest script w.steps e [] turn.marks (sent ++ []) d.quiet) (sent-rest script w.steps e turn.coord.sent turn.outs turn.marks [])
 
-  pub coord-holds : Effect script w.steps w.coord e turn → LegalEvent script w.steps e → Holds script (coord_did w e (coord_rule script w.coord x fails))
-  coord-holds d legal =
+  pub coord-holds : Effect script w.steps w.coord e turn → LegalEvent script w.steps e → IsDrawn script w.steps e (turn.marks ++ sent) → Holds script (coord_did w e (coord_rule script w.coord x fails))
+  coord-holds d legal drawn =
       record {
         numbers = coord-numbers;
         fresh = coord-fresh d;
         sessions = coord-sessions d;
-        given = given-last script [] w.steps step h.given (legal, coord-given d);
+        given = given-last script [] w.steps step h.given (legal, drawn, coord-given d);
         notes = notes-kept step;
         letters = each-posted (IsToldOf (marks_in (w.steps ++ step ∷ []))) the_coordinator (clock_after w.coord.clock x) step.marks w.sent (coord-sent (marks_in (w.steps ++ step ∷ [])) (clock_after w.coord.clock x) step.marks) (letters-kept step);
         commands = coord-commands d;
@@ -257,7 +257,7 @@ module _ (script : Script) (some : 1 ≤ script.segments) (w : World) (n : Knows
         numbers = h.numbers ∙ ap (λ a. a + 1) (sym (ap start_count (marks-last w.steps late) ∙ calm-more (marks_in w.steps) late.marks (no-start late.marks silent)));
         fresh = subst (λ m. Fresh m w.coord.table.next.0) (sym (marks-last w.steps late)) (fresh-more (marks_in w.steps) late.marks w.coord.table.next.0 w.coord.table.next.0 h.fresh (le-same w.coord.table.next.0) (silent-fresh w.coord.table.next.0 late.marks silent));
         sessions = silent-sessions script w.steps w.coord h.sessions e w.coord late (λ j. refl) (λ j. refl) refl refl silent (λ j. (ap (starts_by j) is, ap (ends_by j) is));
-        given = given-last script [] w.steps late h.given (subst (LegalEvent script w.steps) (sym is) tt, subst (λ a. EachMark (Given script) w.steps a [] late.marks []) (sym is) (silent-given script w.steps from to number [] late.marks [] silent));
+        given = given-last script [] w.steps late h.given (subst (LegalEvent script w.steps) (sym is) tt, subst (λ a. IsDrawn script w.steps a late.marks) (sym is) tt, subst (λ a. EachMark (Given script) w.steps a [] late.marks []) (sym is) (silent-given script w.steps from to number [] late.marks [] silent));
         notes = at-both (λ j (t : Seg). SegNoted (marks_in (w.steps ++ late ∷ [])) (at j) t) w.segs i _ (λ j. own-notes j) (λ j no. notes-kept late j);
         letters = each-posted (IsToldOf (marks_in (w.steps ++ late ∷ []))) (at i) (clock_after (w.segs i).clock x) late.marks w.sent told (letters-kept late);
         commands = commands-kept late;

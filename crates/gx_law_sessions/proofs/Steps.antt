@@ -8,7 +8,7 @@ use Rattle.gx_store.specs.declared.event.Event.TheVariants as event
 use Rattle.gx_store.specs.declared.mark.Mark.{Mark}
 use Rattle.gx_store.specs.declared.mark.Mark.TheVariants as mark
 use Rattle.gx_store.specs.declared.run.Step.{Step}
-use Rattle.gx_store.specs.Legal.{AreLegalSteps, LegalEvent}
+use Rattle.gx_store.specs.Legal.{AreLegalSteps, IsDrawn, LegalEvent}
 use Rattle.gx_store.specs.Ordered.{IsAtNode}
 use Rattle.gx_store.specs.Refusals.{the_coordinator}
 use Rattle.gx_law_order.proofs.Lists.{Each}
@@ -21,7 +21,7 @@ use Rattle.gx_law_sessions.proofs.Given.{Given, given-legal}
 
 -- STEPS
 abbrev pub IsGivenStep : Script → List Step → Step → Type 0
-IsGivenStep script before s = LegalEvent script before s.event × EachMark (Given script) before s.event [] s.marks []
+IsGivenStep script before s = LegalEvent script before s.event × IsDrawn script before s.event s.marks × EachMark (Given script) before s.event [] s.marks []
 
 abbrev pub AreGiven : Script → List Step → List Step → Type 0
 AreGiven script before [] = Unit {0}
@@ -37,7 +37,7 @@ given-events script before (s ∷ ss) e = (e.0.0, given-events script (before ++
 
 pub given-steps : (script : Script) (before ss : List Step) → AreGiven script before ss → AreRestLegal script before ss → AreLegalSteps script before ss
 given-steps script before [] e r = tt
-given-steps script before (s ∷ ss) e r = (record { event = e.0.0; marks = given-legal script before s.event [] s.marks [] e.0.1 r.0 }, given-steps script (before ++ s ∷ []) ss e.1 r.1)
+given-steps script before (s ∷ ss) e r = (record { event = e.0.0; drawn = e.0.1; marks = given-legal script before s.event [] s.marks [] e.0.2 r.0 }, given-steps script (before ++ s ∷ []) ss e.1 r.1)
 
 -- MARKS
 pub no-start : (ms : List Mark) → Each IsSilent ms → Each NoStart ms

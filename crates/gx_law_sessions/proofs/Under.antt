@@ -205,7 +205,7 @@ module _ (script : Script) (steps : List Step) (c : Coord) (e : Event) (c1 : Coo
           )
 
   -- REFUSALS
-  pub refuse-does : (turn : Turn) (why : List Mark) (reason : Refused) (B : Block) → turn.table.next.0 ≡ c1.table.next.0 → is_refusable b line ≡ true → (after_refused x.state).block ≡ B → is_busy B pending.Nothing ≡ false → state_after b line (told.Refused reason) ≡ state_in B 0 → Each (IsOf s.0 g.0) why → Each (CalmFor s) why → is_ended (marks_in steps ++ (earlier ++ why)) g ≡ false
+  pub refuse-does : (turn : Turn) (why : List Mark) (reason : Refused) (B : Block) → turn.table.next.0 ≡ c1.table.next.0 → is_refusable b line reason ≡ true → (after_refused x.state).block ≡ B → is_busy B pending.Nothing ≡ false → state_after b line (told.Refused reason) ≡ state_in B 0 → Each (IsOf s.0 g.0) why → Each (CalmFor s) why → is_ended (marks_in steps ++ (earlier ++ why)) g ≡ false
       → ((later : List Mark) → EachMark (Given script) steps e earlier why later)
       → ((later : List Mark) → RestAnswer script (record { steps = steps; event = e; earlier = (earlier ++ why) ++ mark.Abort g ∷ []; later = later }) s (told.Refused reason) → IsCause (record { steps = steps; event = e; earlier = (earlier ++ why) ++ mark.Abort g ∷ []; later = later }) line (level_of b) g (cid_of b) reason)
       → Each IsBare turn.out.outs → ((later : List Mark) → EachMark (Rest script) steps e earlier why later)
@@ -250,6 +250,6 @@ module _ (script : Script) (steps : List Step) (c : Coord) (e : Event) (c1 : Coo
       legal later =
           subst (λ i. EachMark (Given script) steps e earlier (why ++ mark.Abort g ∷ mark.Answer i (session_of c1 i).lines r ∷ []) later) (sym home-is)
           (marks-append (Given script) steps e earlier why (mark.Abort g ∷ mark.Answer s (session_of c1 s).lines r ∷ []) later (first _) (
-            λ q. legal-abort script steps e s line n b u (Some g) (earlier ++ why) at1 _ g o.has refl running (may-abort-refusable b line may) (answered-self s (session_of c1 s).lines r later),
+            λ q. legal-abort script steps e s line n b u (Some g) (earlier ++ why) at1 _ g o.has refl running (may-abort-refusable b line reason may) (answered-self s (session_of c1 s).lines r later),
             (λ q. legal-answer script steps e s line n b u (Some g) ((earlier ++ why) ++ mark.Abort g ∷ []) at2 later (session_of c1 s).lines r number (is later q), tt),
           ))

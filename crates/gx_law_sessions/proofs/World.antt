@@ -17,16 +17,17 @@ use Rattle.gx_store.specs.declared.node.NodeEvent.{NodeEvent}
 use Rattle.gx_store.specs.declared.node.NodeEvent.TheVariants as here
 use Rattle.gx_store.specs.declared.run.Step.{Step}
 use Rattle.gx_store.specs.Journals.{is_same_node}
-use Rattle.gx_store.specs.Legal.{AreLegalSteps, LegalEvent}
-use Rattle.gx_store.specs.Lines.{stmt_of}
+use Rattle.gx_store.specs.Legal.{AreLegalSteps, IsDrawn, LegalEvent}
+use Rattle.gx_store.specs.Lines.{next_stmt, stmt_of}
 use Rattle.gx_store.specs.Messages.{IsSending, Receives}
 use Rattle.gx_store.specs.Ordered.{IsLink, IsSegment}
 use Rattle.gx_store.specs.Points.{marks_in}
 use Rattle.gx_store.specs.Refusals.{the_coordinator}
 use Rattle.gx_rules.specs.AtCoordinator.{awaited, coord_can, coord_rule, is_idle, is_in_block, is_left, is_nothing, next_line, on_event, resends, starts}
 use Rattle.gx_rules.specs.AtSegment.{seg_rule}
-use Rattle.gx_rules.specs.Coordinators.{session_of}
+use Rattle.gx_rules.specs.Coordinators.{CoordTurn, session_of}
 use Rattle.gx_rules.specs.Machine.{World, after, at_node, can, can_here, coord_did, delivered, does, found, happens, new_world, node_of, seg_can, seg_did, world_of}
+use Rattle.gx_rules.specs.Sending.{numbered}
 use Rattle.gx_law_order.proofs.Letters.{IsFound, IsLetter, found_is, same_node}
 use Rattle.gx_law_order.proofs.Ordered.{never_resumes}
 use Rattle.gx_law_order.proofs.Sessions.{is_nothing_in}
@@ -41,6 +42,7 @@ use Rattle.gx_law_sessions.proofs.Ran.{have-run}
 use Rattle.gx_law_sessions.proofs.Awaited.{resent-awaits}
 use Rattle.gx_law_sessions.proofs.Closed.{end-does, legal-end}
 use Rattle.gx_law_sessions.proofs.Closings.{IsNoted, message-does}
+use Rattle.gx_law_sessions.proofs.Drawn.{drawn-at}
 use Rattle.gx_law_sessions.proofs.Frame.{Effect, Rests}
 use Rattle.gx_law_sessions.specs.Alive.{HaveOrdersRun, AreOrdersAlive}
 use Rattle.gx_law_sessions.proofs.Blocks.{start-counts, start-does}
@@ -85,19 +87,25 @@ module _ (script : Script) (some : 1 ≤ script.segments) where
         at-least : (a : ℕ) → nat_le 1 a ≡ true → 1 ≤ a
         at-least a q = grind (arith, nat_tests)
 
+    -- what the turn sends stands behind its marks
+    abbrev Draws : SessionId → CoordTurn → Type 0
+    Draws s turn = IsDrawn script w.steps (event.Start s) (turn.marks ++ numbered turn.coord.sent turn.outs)
+
     -- a line starts
-    start-effect : (s : SessionId) (fails : Bool) → coord_can script w.coord (here.Start s) ≡ true → Effect script w.steps w.coord (event.Start s) (on_event script w.coord (here.Start s) fails) × LegalEvent script w.steps (event.Start s)
+    start-effect : (s : SessionId) (fails : Bool) → coord_can script w.coord (here.Start s) ≡ true → Effect script w.steps w.coord (event.Start s) (on_event script w.coord (here.Start s) fails) × LegalEvent script w.steps (event.Start s) × Draws s (on_event script w.coord (here.Start s) fails)
     start-effect s fails can = by_next (next_line script w.coord s) refl (both_of _ _ can).1
       where
         idle : is_nothing_in (session_of w.coord s).state.pending ≡ true
         idle = idle-so (session_of w.coord s).state.pending (both_of _ _ can).0
 
-        by_next : (o : Option Stmt) → next_line script w.coord s ≡ o → is_left o ≡ true → Effect script w.steps w.coord (event.Start s) (starts script w.coord s o) × LegalEvent script w.steps (event.Start s)
+        by_next : (o : Option Stmt) → next_line script w.coord s ≡ o → is_left o ≡ true → Effect script w.steps w.coord (event.Start s) (starts script w.coord s o) × LegalEvent script w.steps (event.Start s) × Draws s (starts script w.coord s o)
         by_next None e q = absurd (cc)
         by_next (Some line) e q =
-            let counts = start-counts script w.steps w.coord n.kept n.past h.fresh h.numbers s (h.sessions s) idle line e in (
+            let counts = start-counts script w.steps w.coord n.kept n.past h.fresh h.numbers s (h.sessions s) idle line e in
+            let same : next_stmt s script (marks_in w.steps) ≡ Some line = ap (λ i. stmt_of s (i + 1) script.lines) (sym counts ∙ (h.sessions s).starts) ∙ e in (
               inl (start-does script w.steps w.coord n.kept n.past h.fresh h.numbers s (h.sessions s) idle line e),
-              (counts, subst IsSome (sym (ap (λ i. stmt_of s (i + 1) script.lines) (sym counts ∙ (h.sessions s).starts) ∙ e)) refl),
+              (counts, subst IsSome (sym same) refl),
+              drawn-at script w.steps w.coord s (h.sessions s) line e same (numbered (starts script w.coord s (Some line)).coord.sent (starts script w.coord s (Some line)).outs),
             )
 
     -- a session ends
@@ -153,7 +161,7 @@ module _ (script : Script) (some : 1 ≤ script.segments) where
             not-here n same away = grind (arith, nat_tests)
 
         by_test : (b : Bool) → is_same_node to the_coordinator ≡ b → (if b then coord_can script w.coord (here.Deliver from envelope) else seg_can (here.Deliver from envelope)) ≡ true → Holds script (if b then coord_did w (event.Receive from to number) (coord_rule script w.coord (here.Deliver from envelope) fails) else seg_did w to (event.Receive from to number) (seg_rule script (w.segs to.0) (here.Deliver from envelope) fails))
-        by_test true is ok = coord-holds script some w n h (event.Receive from to number) (here.Deliver from envelope) fails (heard from to number envelope fails (same_node to the_coordinator is) f ok) tt
+        by_test true is ok = coord-holds script some w n h (event.Receive from to number) (here.Deliver from envelope) fails (heard from to number envelope fails (same_node to the_coordinator is) f ok) tt tt
         by_test false is ok = seg-holds script some w n h (event.Receive from to number) (here.Deliver from envelope) fails from to number to.0 refl (place is d.is.link)
 
     arrives : (from to : Node) (number : ℕ) (fails : Bool) (o : Option Envelope) → found from to number w.sent ≡ o → can_here script w to (delivered from o) ≡ true → Holds script (does script w (event.Receive from to number) to fails (delivered from o))
@@ -166,10 +174,10 @@ module _ (script : Script) (some : 1 ≤ script.segments) where
     event-holds : (e : Event) (fails : Bool) → can script w e ≡ true → Holds script (does script w e (node_of e) fails (at_node w e))
     event-holds (event.Receive from to number) fails ok = arrives from to number fails (found from to number w.sent) refl ok
     event-holds (event.Resume m g) fails ok = absurd (same_not (can script w (event.Resume m g)) ok (never_resumes script some w m (here.Resume g) refl refl))
-    event-holds (event.Start s) fails ok = let z = start-effect s fails ok in coord-holds script some w n h (event.Start s) (here.Start s) fails z.0 z.1
-    event-holds (event.End s) fails ok = let z = end-effect s fails ok in coord-holds script some w n h (event.End s) (here.End s) fails z.0 z.1
-    event-holds (event.Resend i g) fails ok = coord-holds script some w n h (event.Resend i g) (here.Resend i g) fails (resend-effect i g fails) tt
-    event-holds event.Round fails ok = coord-holds script some w n h event.Round here.Round fails (inr (record { sessions = λ j. refl; works = λ j. refl; next = refl; quiet = tt; alone = λ j. (refl, refl); outs = λ o. tt; sent = λ o. tt })) tt
+    event-holds (event.Start s) fails ok = let z = start-effect s fails ok in coord-holds script some w n h (event.Start s) (here.Start s) fails z.0 z.1 z.2
+    event-holds (event.End s) fails ok = let z = end-effect s fails ok in coord-holds script some w n h (event.End s) (here.End s) fails z.0 z.1 tt
+    event-holds (event.Resend i g) fails ok = coord-holds script some w n h (event.Resend i g) (here.Resend i g) fails (resend-effect i g fails) tt tt
+    event-holds event.Round fails ok = coord-holds script some w n h event.Round here.Round fails (inr (record { sessions = λ j. refl; works = λ j. refl; next = refl; quiet = tt; alone = λ j. (refl, refl); outs = λ o. tt; sent = λ o. tt })) tt tt
 
     pub happens-holds : (e : Event) (fails : Bool) → Holds script (happens script w e fails)
     happens-holds e fails = by_can (can script w e) refl

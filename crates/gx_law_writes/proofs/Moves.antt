@@ -25,9 +25,9 @@ use Rattle.gx_store.specs.declared.event.Event.{Event}
 use Rattle.gx_store.specs.declared.mark.Mark.{Mark}
 use Rattle.gx_store.specs.declared.mark.Mark.TheVariants as mark
 use Rattle.gx_store.specs.declared.run.Step.{Step}
-use Rattle.gx_store.specs.Marks.{is_same_rid, is_written}
+use Rattle.gx_store.specs.Marks.{is_same_rid, is_written, is_command_of}
 use Rattle.gx_store.specs.Points.{marks_in, starts_by}
-use Rattle.gx_store.proofs.Marks.{is_written-append}
+use Rattle.gx_store.proofs.Marks.{is_processed-append}
 use Rattle.gx_rules.specs.AtSegment.{raised}
 use Rattle.gx_rules.specs.Machine.{World}
 use Rattle.gx_rules.specs.Segments.{Local, Seg, SegTurn, reply as reply_out}
@@ -40,7 +40,7 @@ use Rattle.gx_law_sessions.specs.Rest.{EachMark}
 use Rattle.gx_law_sessions.proofs.Outs.{MessageIs}
 use Rattle.gx_law_commit.specs.Pairs.{IsVote}
 use Rattle.gx_law_commit.specs.Standings.{at, gx}
-use Rattle.gx_law_writes.specs.Rows.{IsRowPiece}
+use Rattle.gx_law_writes.specs.Rows.{IsRowPiece, is_own_written}
 use Rattle.gx_law_writes.specs.Writes.{WriteLegal}
 use Rattle.gx_law_writes.proofs.Legal.{IsPastMark, IsPlacedMark, Late, Live, behind-none, fresh-row, no-writes-legal, rows-legal}
 use Rattle.gx_law_writes.proofs.Placed.{IsPlaced, IsPlacedRow, piece-rows, row-placed}
@@ -214,12 +214,24 @@ module _ (script : Script) (numbered : AreLinesNumbered [] script.lines) (ms : L
     pub select-move : Moves turn
     select-move = subst Moves (sym x.ran) (by-fault (shown (raised s x.horizon) x.snapshot x.g x.c x.query.table) (first_fault x.query.cond (shown (raised s x.horizon) x.snapshot x.g x.c x.query.table)))
 
+-- an INSERT's rows have the command's identity
+abbrev pub IsOwnRow : Gxid → Cid → KeyedRow → Type 0
+IsOwnRow g c row = (row.rid.gxid ≡ g) × (row.rid.cid ≡ c)
+
+pub own-rows : (script : Script) (ms : List Mark) (node : Node) (g : Gxid) (c : Cid) (table : Table) (rows : List KeyedRow) → IsRowPiece script ms node g c table rows → Each (IsOwnRow g c) rows
+own-rows script ms node g c table rows piece =
+    each_weaker (IsPlacedRow script g c node table piece.tuples) (IsOwnRow g c) (λ r p. p.row_is.own) rows
+    (piece-rows script g c node table piece.tuples piece.all rows (rows-are g c 1 piece.tuples piece.all piece.planned) piece.here).0
+
 -- an INSERT's writes
-pub mark-written : (g : Gxid) (c : Cid) (node : Node) (table : Table) (ms : List Mark) (rows : List KeyedRow) → Each (IsWritten (ms ++ map (row_mark g c node table) rows)) rows
-mark-written g c node table ms [] = tt
-mark-written g c node table ms (r ∷ rs) = (
-  is_written-append ms (row_mark g c node table r ∷ map (row_mark g c node table) rs) r.rid ∙ or-right (is_written ms r.rid) _ (or-left (is_same_rid r.rid r.rid) _ (same-rid r.rid)),
-  each_weaker (IsWritten (ms ++ map (row_mark g c node table) rs)) (IsWritten (ms ++ row_mark g c node table r ∷ map (row_mark g c node table) rs)) (λ x k. is_written-append ms (row_mark g c node table r ∷ map (row_mark g c node table) rs) x.rid ∙ middle (is_written ms x.rid) (is_same_rid r.rid x.rid) (is_written (map (row_mark g c node table) rs) x.rid) (sym (is_written-append ms (map (row_mark g c node table) rs) x.rid) ∙ k)) rs (mark-written g c node table ms rs),
+pub mark-written : (g : Gxid) (c : Cid) (node : Node) (table : Table) (ms : List Mark) (rows : List KeyedRow) → Each (IsOwnRow g c) rows → Each (IsWritten (ms ++ map (row_mark g c node table) rows)) rows
+mark-written g c node table ms [] own = tt
+mark-written g c node table ms (r ∷ rs) own = (
+  is_processed-append ms (row_mark g c node table r ∷ map (row_mark g c node table) rs) r.rid.gxid r.rid.cid r.rid
+      ∙ or-right (is_own_written ms r.rid) _ (or-left (is_command_of r.rid.gxid r.rid.cid g c && is_same_rid r.rid r.rid) _ (own-mark r.rid own.0)),
+  each_weaker (IsWritten (ms ++ map (row_mark g c node table) rs)) (IsWritten (ms ++ row_mark g c node table r ∷ map (row_mark g c node table) rs))
+      (λ x k. is_processed-append ms (row_mark g c node table r ∷ map (row_mark g c node table) rs) x.rid.gxid x.rid.cid x.rid
+      ∙ middle (is_own_written ms x.rid) (is_command_of x.rid.gxid x.rid.cid g c && is_same_rid r.rid x.rid) (is_own_written (map (row_mark g c node table) rs) x.rid) (sym (is_processed-append ms (map (row_mark g c node table) rs) x.rid.gxid x.rid.cid x.rid) ∙ k)) rs (mark-written g c node table ms rs own.1),
 )
   where
     or-right : (a b : Bool) → b ≡ true → (a || b) ≡ true
@@ -231,11 +243,13 @@ mark-written g c node table ms (r ∷ rs) = (
     middle : (a b c : Bool) → (a || c) ≡ true → (a || (b || c)) ≡ true
     middle a b c e = grind arith
 
-    same-rid : (r : Rid) → is_same_rid r r ≡ true
-    same-rid r = three r.gxid.0 r.cid.0 r.ordinal
+    own-mark : (r : Rid) → (r.gxid ≡ g) × (r.cid ≡ c) → (is_command_of r.gxid r.cid g c && is_same_rid r r) ≡ true
+    own-mark r own =
+        subst (λ (h : Gxid). (is_command_of r.gxid r.cid h c && is_same_rid r r) ≡ true) own.0
+        (subst (λ (d : Cid). (is_command_of r.gxid r.cid r.gxid d && is_same_rid r r) ≡ true) own.1 (five r.gxid.0 r.cid.0 r.ordinal))
       where
-        three : (a b c : ℕ) → (eqb a a && (eqb b b && eqb c c)) ≡ true
-        three a b c = grind (arith, nat_tests)
+        five : (a b c : ℕ) → ((eqb a a && eqb b b) && (eqb a a && (eqb b b && eqb c c))) ≡ true
+        five a b c = grind (arith, nat_tests)
 
 module _ (script : Script) (numbered : AreLinesNumbered [] script.lines) (w : World) (e : Event) (quiet : (s : SessionId) → starts_by s e ≡ 0) (i : ℕ) (s : Seg) (named : s.node ≡ at i) (kept : (h : ℕ) → IsAnswerOf script (marks_in w.steps) (s.locals h).last (at i) (gx h) (s.locals h).answer) (lasts : ℕ → ℕ → ℕ) (here : (h : ℕ) → lasts i h ≡ (s.locals h).last) (placed : Each (IsPlacedMark script (marks_in w.steps)) (marks_in w.steps)) (past : Each (IsPastMark lasts) (marks_in w.steps)) where
   abbrev ms : List Mark
@@ -292,7 +306,7 @@ module _ (script : Script) (numbered : AreLinesNumbered [] script.lines) (w : Wo
                   snapshot = Some x.snapshot;
                   slice = slice.Insert x.table x.rows;
                   order = order-later script numbered ms (map (row_mark x.g x.c (at i) x.table) x.rows) (at i) x.g x.c x.level (Some x.snapshot) (slice.Insert x.table x.rows) order;
-                  done = (refl, mark-written x.g x.c (at i) x.table ms x.rows);
+                  done = (refl, mark-written x.g x.c (at i) x.table ms x.rows (own-rows script ms (at i) x.g x.c x.table x.rows piece));
                 },
               );
             })

@@ -27,14 +27,13 @@ use Rattle.gx_script.specs.declared.Script.{Script}
 use Rattle.gx_store.specs.declared.mark.Mark.{Mark}
 use Rattle.gx_store.specs.Answers.{HasValues, Inserts}
 use Rattle.gx_store.specs.Commands.{has_own_snapshot}
-use Rattle.gx_store.specs.Marks.{is_written}
 use Rattle.gx_store.specs.Writes.{dist_of}
 use Rattle.gx_rules.specs.AtCoordinator.{nodes_in, with_done}
 use Rattle.gx_rules.specs.Coordinators.{Command}
 use Rattle.gx_law_order.proofs.Lists.{Each, each_weaker}
 use Rattle.gx_law_commit.proofs.Nodes.{has-without}
 use Rattle.gx_law_commit.specs.Standings.{at, gx}
-use Rattle.gx_law_writes.specs.Rows.{AreRowsOf}
+use Rattle.gx_law_writes.specs.Rows.{AreRowsOf, is_own_written}
 use Rattle.gx_law_writes.proofs.Counts.{all-there, each-passing, left, left-all, left-none, left-without, stands_at, waits_for}
 use Rattle.gx_law_writes.proofs.Legal.{own-more}
 use Rattle.gx_law_writes.proofs.Plans.{rows-are}
@@ -48,7 +47,7 @@ module _ (script : Script) (table : Table) where
     pub rows : List KeyedRow
     pub planned : rows_of (gx g) m.cid tuples ≡ Ok rows
     pub count : m.count + left place_of m.awaited rows ≡ length rows
-    pub written : Each (λ (row : KeyedRow). waits_for place_of m.awaited row ≡ false → is_written ms row.rid ≡ true) rows
+    pub written : Each (λ (row : KeyedRow). waits_for place_of m.awaited row ≡ false → is_own_written ms row.rid ≡ true) rows
     pub snapped : has_own_snapshot level ms (gx g) m.cid ≡ true
 
   pub progress-more : (ms ns : List Mark) (g : ℕ) (level : Level) (m : Command) (tuples : List (List Expr)) → Progress ms g level m tuples → Progress (ms ++ ns) g level m tuples
@@ -57,7 +56,7 @@ module _ (script : Script) (table : Table) where
         rows = p.rows;
         planned = p.planned;
         count = p.count;
-        written = each_weaker (λ (row : KeyedRow). waits_for place_of m.awaited row ≡ false → is_written ms row.rid ≡ true) (λ (row : KeyedRow). waits_for place_of m.awaited row ≡ false → is_written (ms ++ ns) row.rid ≡ true) (λ r f e. written-more ms ns r.rid (f e)) p.rows p.written;
+        written = each_weaker (λ (row : KeyedRow). waits_for place_of m.awaited row ≡ false → is_own_written ms row.rid ≡ true) (λ (row : KeyedRow). waits_for place_of m.awaited row ≡ false → is_own_written (ms ++ ns) row.rid ≡ true) (λ r f e. written-more ms ns r.rid (f e)) p.rows p.written;
         snapped = own-more level ms ns (gx g) m.cid p.snapped;
       }
 
@@ -82,7 +81,7 @@ module _ (script : Script) (table : Table) where
             rows = rows;
             planned = r;
             count = none-more _ _ (left-all place_of (nodes_in pieces) rows there);
-            written = each_weaker (λ (row : KeyedRow). waits_for place_of (nodes_in pieces) row ≡ true) (λ (row : KeyedRow). waits_for place_of (nodes_in pieces) row ≡ false → is_written ms row.rid ≡ true) (λ row t f. absurd (not-so _ t f)) rows there;
+            written = each_weaker (λ (row : KeyedRow). waits_for place_of (nodes_in pieces) row ≡ true) (λ (row : KeyedRow). waits_for place_of (nodes_in pieces) row ≡ false → is_own_written ms row.rid ≡ true) (λ row t f. absurd (not-so _ t f)) rows there;
             snapped = snapped;
           }
 
@@ -103,11 +102,11 @@ module _ (script : Script) (table : Table) where
       same-way : (a b : ℕ) → eqb a b ≡ true → eqb b a ≡ true
       same-way a b e = grind (arith, nat_tests)
 
-      by_test : (row : KeyedRow) → (stands_at place_of i row ≡ true → IsWritten ms row) → (waits_for place_of m.awaited row ≡ false → is_written ms row.rid ≡ true) → (b : Bool) → eqb i.0 (place_of row) ≡ b → has (at (place_of row)) (without i m.awaited) ≡ false → is_written ms row.rid ≡ true
+      by_test : (row : KeyedRow) → (stands_at place_of i row ≡ true → IsWritten ms row) → (waits_for place_of m.awaited row ≡ false → is_own_written ms row.rid ≡ true) → (b : Bool) → eqb i.0 (place_of row) ≡ b → has (at (place_of row)) (without i m.awaited) ≡ false → is_own_written ms row.rid ≡ true
       by_test row f h true e q = f (same-way i.0 (place_of row) e)
       by_test row f h false e q = h (ap (λ b. if b then false else has (at (place_of row)) m.awaited) (sym e) ∙ sym (has-without (at (place_of row)) i m.awaited) ∙ q)
 
-      each-two : (rows : List KeyedRow) → Each (λ (row : KeyedRow). stands_at place_of i row ≡ true → IsWritten ms row) rows → Each (λ (row : KeyedRow). waits_for place_of m.awaited row ≡ false → is_written ms row.rid ≡ true) rows → Each (λ (row : KeyedRow). waits_for place_of (without i m.awaited) row ≡ false → is_written ms row.rid ≡ true) rows
+      each-two : (rows : List KeyedRow) → Each (λ (row : KeyedRow). stands_at place_of i row ≡ true → IsWritten ms row) rows → Each (λ (row : KeyedRow). waits_for place_of m.awaited row ≡ false → is_own_written ms row.rid ≡ true) rows → Each (λ (row : KeyedRow). waits_for place_of (without i m.awaited) row ≡ false → is_own_written ms row.rid ≡ true) rows
       each-two [] f h = tt
       each-two (r ∷ rs) f h = (λ q. by_test r f.0 h.0 (eqb i.0 (place_of r)) refl q, each-two rs f.1 h.1)
 
@@ -127,7 +126,7 @@ rows-values g c k [] (r ∷ rs) a = absurd a
 rows-values g c k (t ∷ ts) [] a = absurd a
 rows-values g c k (t ∷ ts) (r ∷ rs) a = All-cons HasValues t ts (a.0, a.1) (rows-values g c (k + 1) ts rs a.3)
 
-rows-written : (ms : List Mark) (g : Gxid) (c : Cid) (k : ℕ) (tuples : List (List Expr)) (rows : List KeyedRow) → AreRowsOf g c k tuples rows → Each (IsWritten ms) rows → (o : ℕ) → k ≤ o → o < k + length rows → is_written ms (record { gxid = g; cid = c; ordinal = o }) ≡ true
+rows-written : (ms : List Mark) (g : Gxid) (c : Cid) (k : ℕ) (tuples : List (List Expr)) (rows : List KeyedRow) → AreRowsOf g c k tuples rows → Each (IsWritten ms) rows → (o : ℕ) → k ≤ o → o < k + length rows → is_own_written ms (record { gxid = g; cid = c; ordinal = o }) ≡ true
 rows-written ms g c k [] [] a e o l m = absurd (none k o l m)
   where
     none : (k o : ℕ) → k ≤ o → o < k + 0 → ⊥
@@ -142,8 +141,8 @@ rows-written ms g c k (t ∷ ts) (r ∷ rs) a e o l m = by_test (eqb k o) refl (
     beyond : (k o : ℕ) → eqb k o ≡ false → k ≤ o → k + 1 ≤ o
     beyond k o e l = grind (arith, nat_tests)
 
-    by_test : (b : Bool) → eqb k o ≡ b → (k + 1 ≤ o → is_written ms (record { gxid = g; cid = c; ordinal = o }) ≡ true) → is_written ms (record { gxid = g; cid = c; ordinal = o }) ≡ true
-    by_test true q later = subst (λ n. is_written ms (record { gxid = g; cid = c; ordinal = n }) ≡ true) (eqb-true k o q) (subst (λ (x : KeyedRow). is_written ms x.rid ≡ true) a.2 e.0)
+    by_test : (b : Bool) → eqb k o ≡ b → (k + 1 ≤ o → is_own_written ms (record { gxid = g; cid = c; ordinal = o }) ≡ true) → is_own_written ms (record { gxid = g; cid = c; ordinal = o }) ≡ true
+    by_test true q later = subst (λ n. is_own_written ms (record { gxid = g; cid = c; ordinal = n }) ≡ true) (eqb-true k o q) (subst (λ (x : KeyedRow). is_own_written ms x.rid ≡ true) a.2 e.0)
     by_test false q later = later (beyond k o q l)
 
 pub progress-end : (script : Script) (ms : List Mark) (g : ℕ) (level : Level) (m : Command) (table : Table) (tuples : List (List Expr)) → Progress script table ms g level m tuples → m.awaited ≡ [] → Inserts ms level (gx g) m.cid tuples m.count
@@ -168,4 +167,4 @@ progress-end script ms g level m table tuples p e =
     counted = plus-none m.count _ (length p.rows) p.count (ap (λ aw. left (place_of script table) aw p.rows) e ∙ left-none (place_of script table) p.rows)
 
     all : Each (IsWritten ms) p.rows
-    all = each_weaker (λ (row : KeyedRow). waits_for (place_of script table) m.awaited row ≡ false → is_written ms row.rid ≡ true) (IsWritten ms) (λ row f. f (ap (has (at (place_of script table row))) e)) p.rows p.written
+    all = each_weaker (λ (row : KeyedRow). waits_for (place_of script table) m.awaited row ≡ false → is_own_written ms row.rid ≡ true) (IsWritten ms) (λ row f. f (ap (has (at (place_of script table row))) e)) p.rows p.written

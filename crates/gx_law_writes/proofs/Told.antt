@@ -19,17 +19,17 @@ use Rattle.gx_script.specs.declared.Script.{Script}
 use Rattle.gx_store.specs.declared.mark.Mark.{Mark}
 use Rattle.gx_store.specs.declared.mark.Mark.TheVariants as mark
 use Rattle.gx_store.specs.declared.run.Step.{Step}
-use Rattle.gx_store.specs.Marks.{is_written}
 use Rattle.gx_store.specs.Messages.{IsSending}
-use Rattle.gx_store.proofs.Marks.{is_written-append}
+use Rattle.gx_store.proofs.Marks.{is_processed-append}
 use Rattle.gx_rules.specs.Segments.{Local}
 use Rattle.gx_law_order.proofs.Lists.{Each, each_weaker}
 use Rattle.gx_law_sessions.specs.Orders.{IsOrder}
 use Rattle.gx_store.specs.Language.{AreLinesNumbered}
 use Rattle.gx_law_sessions.proofs.Outs.{order-more}
+use Rattle.gx_law_writes.specs.Rows.{is_own_written}
 
 abbrev pub IsWritten : List Mark → KeyedRow → Type 0
-IsWritten ms row = is_written ms row.rid ≡ true
+IsWritten ms row = is_own_written ms row.rid ≡ true
 
 -- what a slice has done, by what it counts
 abbrev pub IsDoneSlice : List Mark → Slice → ℕ → Type 0
@@ -77,8 +77,8 @@ StepTold script ms locals s = 1 ≤ s.stamp.node.0 → Each (SentTold script ms 
 or-first : (a b : Bool) → a ≡ true → (a || b) ≡ true
 or-first a b e = grind arith
 
-pub written-more : (ms ns : List Mark) (rid : Rid) → is_written ms rid ≡ true → is_written (ms ++ ns) rid ≡ true
-written-more ms ns rid e = is_written-append ms ns rid ∙ or-first (is_written ms rid) (is_written ns rid) e
+pub written-more : (ms ns : List Mark) (rid : Rid) → is_own_written ms rid ≡ true → is_own_written (ms ++ ns) rid ≡ true
+written-more ms ns rid e = is_processed-append ms ns rid.gxid rid.cid rid ∙ or-first (is_own_written ms rid) (is_own_written ns rid) e
 
 done-more : (ms ns : List Mark) (s : Slice) (count : ℕ) → IsDoneSlice ms s count → IsDoneSlice (ms ++ ns) s count
 done-more ms ns (slice.Insert table rows) count d = (d.0, each_weaker (IsWritten ms) (IsWritten (ms ++ ns)) (λ r e. written-more ms ns r.rid e) rows d.1)

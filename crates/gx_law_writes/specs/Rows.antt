@@ -1,9 +1,10 @@
 -- The rows of an INSERT, and which of them go to a segment.
-use Rattle.std.specs.Prelude.{◌≡◌, ℕ, ◌+◌, List, [], ◌∷◌, Some, Ok}
+use Rattle.std.specs.Prelude.{◌≡◌, ℕ, ◌+◌, Bool, List, [], ◌∷◌, Some, Ok}
 use Rattle.gx_ids.specs.declared.ids.Cid.{Cid}
 use Rattle.gx_ids.specs.declared.ids.Gxid.{Gxid}
 use Rattle.gx_ids.specs.declared.ids.Node.{Node}
 use Rattle.gx_ids.specs.declared.ids.Table.{Table}
+use Rattle.gx_ids.specs.declared.rid.Rid.{Rid}
 use Rattle.gx_tree.specs.declared.expr.Expr.{Expr}
 use Rattle.gx_tree.specs.declared.row.KeyedRow.{KeyedRow}
 use Rattle.gx_tree.specs.declared.slice.Slice.{Slice}
@@ -16,6 +17,7 @@ use Rattle.gx_meaning.specs.Constants.{keyed, rows_of, values_of}
 use Rattle.gx_meaning.specs.Plan.{rows_at}
 use Rattle.gx_script.specs.declared.Script.{Script}
 use Rattle.gx_store.specs.declared.mark.Mark.{Mark}
+use Rattle.gx_store.specs.Marks.{is_processed}
 use Rattle.gx_store.specs.Points.{marks_in}
 use Rattle.gx_store.specs.Refusals.{the_coordinator}
 use Rattle.gx_store.specs.Writes.{dist_of}
@@ -28,6 +30,10 @@ AreRowsOf g c ordinal [] [] = Unit {0}
 AreRowsOf g c ordinal (tuple ∷ tuples) (row ∷ rows) =
     (values : List Value) × (values_of tuple ≡ Ok values) × (row ≡ keyed g c ordinal values) × AreRowsOf g c (ordinal + 1) tuples rows
 AreRowsOf g c ordinal _ _ = ⊥
+
+-- the command whose row this is, by the row's identity, has written it
+abbrev pub is_own_written : List Mark → Rid → Bool
+is_own_written marks rid = is_processed marks rid.gxid rid.cid rid
 
 -- these are the rows of the command that are placed at the segment
 pub record IsRowPiece (script : Script) (marks : List Mark) (node : Node) (g : Gxid) (c : Cid) (table : Table) (rows : List KeyedRow) : Type 0 where

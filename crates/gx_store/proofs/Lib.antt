@@ -8,3 +8,4 @@ mod NeverStarted
 mod NothingReported
 mod ReleasedEarly
 mod Exclusive
+pub mod RefusedRuns

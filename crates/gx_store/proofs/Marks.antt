@@ -7,8 +7,8 @@ use Rattle.gx_ids.specs.declared.ids.SessionId.{SessionId}
 use Rattle.gx_ids.specs.declared.rid.Rid.{Rid}
 use Rattle.gx_tree.specs.declared.value.Value.{Value}
 use Rattle.gx_store.specs.declared.mark.Mark.{Mark}
-use Rattle.gx_store.specs.declared.mark.Mark.TheVariants.{Start, Snap, Write, Commit, Abort, Answer}
-use Rattle.gx_store.specs.Marks.{is_committed, is_aborted, is_ended, is_snapped, has_snapshot, is_written, is_command_of, is_same_session, is_same_gxid, is_same_rid, start_count, answer_count, is_answered, started_after, is_begun_after}
+use Rattle.gx_store.specs.declared.mark.Mark.TheVariants.{Start, Snap, Write, Skip, Commit, Abort, Answer}
+use Rattle.gx_store.specs.Marks.{is_committed, is_aborted, is_ended, is_snapped, has_snapshot, is_written, is_processed, is_command_of, is_same_session, is_same_gxid, is_same_rid, start_count, answer_count, is_answered, started_after, is_begun_after}
 use Rattle.gx_store.specs.View.{image_after}
 
 or_assoc : (a b c : Bool) → (a || (b || c)) ≡ ((a || b) || c)
@@ -60,6 +60,14 @@ pub is_written-append : (xs ys : List Mark) (rid : Rid) → is_written (xs ++ ys
 is_written-append [] ys rid = refl
 is_written-append (Write g c node t r image ∷ xs) ys rid = ap (λ b. is_same_rid r rid || b) (is_written-append xs ys rid) ∙ or_assoc (is_same_rid r rid) (is_written xs rid) (is_written ys rid)
 is_written-append (_ ∷ xs) ys rid = is_written-append xs ys rid
+
+pub is_processed-append : (xs ys : List Mark) (g : Gxid) (c : Cid) (rid : Rid) → is_processed (xs ++ ys) g c rid ≡ (is_processed xs g c rid || is_processed ys g c rid)
+is_processed-append [] ys g c rid = refl
+is_processed-append (Write h d node t r image ∷ xs) ys g c rid =
+    ap (λ b. (is_command_of g c h d && is_same_rid r rid) || b) (is_processed-append xs ys g c rid) ∙ or_assoc (is_command_of g c h d && is_same_rid r rid) (is_processed xs g c rid) (is_processed ys g c rid)
+is_processed-append (Skip h d r ∷ xs) ys g c rid =
+    ap (λ b. (is_command_of g c h d && is_same_rid r rid) || b) (is_processed-append xs ys g c rid) ∙ or_assoc (is_command_of g c h d && is_same_rid r rid) (is_processed xs g c rid) (is_processed ys g c rid)
+is_processed-append (_ ∷ xs) ys g c rid = is_processed-append xs ys g c rid
 
 pub start_count-append : (xs ys : List Mark) → start_count (xs ++ ys) ≡ start_count xs + start_count ys
 start_count-append [] ys = omega arith

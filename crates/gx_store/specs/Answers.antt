@@ -21,13 +21,13 @@ use Rattle.gx_modes.specs.declared.modes.Mode.{Mode}
 use Rattle.gx_meaning.specs.Constants.{values_of}
 use Rattle.gx_script.specs.declared.Script.{Script}
 use Rattle.gx_waits.specs.declared.object.Object.TheVariants.{Relation}
-use Rattle.gx_store.specs.declared.answer.Refused.TheVariants.{InFailedBlock, NotInBlock}
+use Rattle.gx_store.specs.declared.answer.Refused.TheVariants.{InFailedBlock, JournalFault, NotInBlock}
 use Rattle.gx_store.specs.declared.answer.StmtAnswer.{StmtAnswer}
 use Rattle.gx_store.specs.declared.answer.StmtAnswer.TheVariants.{Begin, Commit, Rollback, Locked, Inserted, Updated, Deleted, Rows, Refused}
 use Rattle.gx_store.specs.declared.mark.Mark.{Mark}
 use Rattle.gx_store.specs.Commands.{Sees, condition_on, has_own_snapshot}
 use Rattle.gx_store.specs.Lines.{BlockState, Outside, InBlock, Failed, cid_of, is_command, level_of, transaction_of}
-use Rattle.gx_store.specs.Marks.{is_aborted, is_begun, is_committed, is_ended, is_processed, is_written, write_count}
+use Rattle.gx_store.specs.Marks.{is_aborted, is_begun, is_committed, is_ended, is_processed, write_count}
 use Rattle.gx_store.specs.Points.{Point, before}
 use Rattle.gx_store.specs.Refusals.{IsRefusal}
 use Rattle.gx_store.specs.Rows.{row_at}
@@ -52,7 +52,7 @@ pub record Inserts (marks : List Mark) (level : Level) (g : Gxid) (c : Cid) (tup
   pub count : n ≡ length tuples
   pub snapped : has_own_snapshot level marks g c ≡ true
   pub values : All HasValues tuples
-  pub each : (o : ℕ) → 1 ≤ o → o ≤ n → is_written marks (record { gxid = g; cid = c; ordinal = o }) ≡ true
+  pub each : (o : ℕ) → 1 ≤ o → o ≤ n → is_processed marks g c (record { gxid = g; cid = c; ordinal = o }) ≡ true
 
 -- an UPDATE or DELETE has written or skipped each row that it selects, and answers how many it wrote
 pub record Changes (marks : List Mark) (level : Level) (g : Gxid) (c : Cid) (table : Table) (cond : Option Cond) (n : ℕ) : Type 0 where
@@ -100,7 +100,8 @@ pub record HasAborted (point : Point) (session : SessionId) (state : BlockState)
   pub aborted : is_aborted point.earlier g ≡ true
 
 -- The answer to a line: outside a block BEGIN opens one, COMMIT and ROLLBACK change nothing, LOCK TABLE is refused; in a
--- block BEGIN changes nothing; in a failed one all but COMMIT and ROLLBACK are refused, and both of these roll back.
+-- block BEGIN changes nothing, and COMMIT is refused for a journal alone; in a failed one all but COMMIT and ROLLBACK are
+-- refused, and both of these roll back.
 abbrev pub IsAnswer : Script → Point → SessionId → BlockState → Stmt → StmtAnswer → Type 0
 IsAnswer script point session Outside (stmt.Begin level) Begin = is_begun session (before point) ≡ true
 IsAnswer script point session Outside stmt.Commit Commit = Unit {0}
@@ -108,6 +109,8 @@ IsAnswer script point session Outside stmt.Rollback Rollback = Unit {0}
 IsAnswer script point session Outside (stmt.Lock table mode) (Refused NotInBlock) = Unit {0}
 IsAnswer script point session (InBlock level commands) (stmt.Begin other) Begin = Unit {0}
 IsAnswer script point session (InBlock level commands) stmt.Commit Commit = HasCommitted point session (InBlock level commands)
+IsAnswer script point session (InBlock level commands) stmt.Commit (Refused (JournalFault node)) = IsRefusal script point session (InBlock level commands) stmt.Commit (JournalFault node)
+IsAnswer script point session (InBlock level commands) stmt.Commit (Refused reason) = ⊥
 IsAnswer script point session (InBlock level commands) stmt.Rollback Rollback = HasAborted point session (InBlock level commands)
 IsAnswer script point session (InBlock level commands) stmt.Rollback (Refused reason) = ⊥
 IsAnswer script point session Failed stmt.Commit Rollback = Unit {0}

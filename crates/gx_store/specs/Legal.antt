@@ -24,7 +24,7 @@ use Rattle.gx_store.specs.Answers.{IsAnswer}
 use Rattle.gx_store.specs.Commands.{IsUnderWay, RunsLine, has_own_snapshot, state_at}
 use Rattle.gx_store.specs.Faults.{LegalFault}
 use Rattle.gx_store.specs.Lines.{BlockState, Outside, InBlock, is_command, is_on_rows, next_stmt, state_of, transaction_of}
-use Rattle.gx_store.specs.Marks.{answer_count, is_aborted, is_answered, is_begun, is_committed, is_ended, session_of, start_count}
+use Rattle.gx_store.specs.Marks.{answer_count, is_aborted, is_answered, is_begun, is_committed, is_ended, session_of, start_count, started_after}
 use Rattle.gx_store.specs.Points.{Point, before, ends_in, marks_in, starts_in}
 use Rattle.gx_store.specs.Writes.{LegalSkip, LegalWrite}
 
@@ -154,8 +154,15 @@ AreLegalMarks script steps event earlier [] later = Unit {0}
 AreLegalMarks script steps event earlier (m ∷ ms) later =
     LegalMark script (record { steps = steps; event = event; earlier = earlier; later = ms ++ later }) m × AreLegalMarks script steps event (earlier ++ m ∷ []) ms later
 
+-- a line that draws a transaction draws it in the step that starts it
+abbrev pub IsDrawn : Script → List Step → Event → List Mark → Type 0
+IsDrawn script steps (event.Start session) marks =
+    (line : Stmt) → next_stmt session script (marks_in steps) ≡ Some line → draws (state_of script session (marks_in steps)) line ≡ true → IsSome (started_after session None marks)
+IsDrawn script steps _ marks = Unit {0}
+
 pub record IsLegalStep (script : Script) (steps : List Step) (step : Step) : Type 0 where
   pub event : LegalEvent script steps step.event
+  pub drawn : IsDrawn script steps step.event step.marks
   pub marks : AreLegalMarks script steps step.event [] step.marks []
 
 -- each of the steps may follow those before it

@@ -16,9 +16,9 @@ pub mod Locks
 pub mod Journals
 pub mod Protocol
 pub mod Ordered
-pub mod Told
 pub mod Rounds
 pub mod Schedule
 pub mod Language
 pub mod Whole
 pub mod RefusedRunsB
+pub mod RefusedRuns

@@ -9,6 +9,7 @@ use Rattle.gx_tree.specs.declared.slice.Slice.{Slice}
 use Rattle.gx_tree.specs.declared.stmt.Level.{Level}
 use Rattle.gx_tree.specs.declared.stmt.Stmt.{Stmt}
 use Rattle.gx_dsnap.specs.declared.snapshot.Snapshot.{Snapshot}
+use Rattle.gx_msg.specs.declared.message.Message.{Message}
 use Rattle.gx_msg.specs.declared.message.Message.TheVariants as message
 use Rattle.gx_msg.specs.declared.reply.Reply.TheVariants as reply
 use Rattle.gx_meaning.specs.Plan.{nodes_from}
@@ -21,7 +22,7 @@ use Rattle.gx_store.specs.declared.mark.Mark.TheVariants as mark
 use Rattle.gx_store.specs.declared.run.Step.{Step}
 use Rattle.gx_store.specs.Commands.{RunsCommand}
 use Rattle.gx_store.specs.Journals.{is_same_node}
-use Rattle.gx_store.specs.Marks.{is_aborted, is_committed, is_same_gxid}
+use Rattle.gx_store.specs.Marks.{is_aborted, is_committed, is_ended, is_same_gxid}
 use Rattle.gx_store.specs.Messages.{HasReceived, IsSent, Receives}
 use Rattle.gx_store.specs.Points.{Point, before}
 use Rattle.gx_store.specs.Refusals.{the_coordinator}
@@ -85,13 +86,17 @@ pub record IsExecuted (point : Point) (g : Gxid) (c : Cid) (node : Node) : Type 
   pub slice : Slice
   pub received : HasReceived point the_coordinator node (message.Exec g c level snapshot horizon slice)
 
+-- the coordinator has sent it the command, in an earlier step or in the point's own
+abbrev pub IsSentBy : Point → Node → ℕ → Message → Type 0
+IsSentBy point node number told = IsSent point.steps the_coordinator node number told ⊎ Contains (point.earlier ++ point.later) (mark.Sent node number told)
+
 pub record IsDispatched (point : Point) (g : Gxid) (c : Cid) (node : Node) : Type 0 where
   pub number : ℕ
   pub level : Level
   pub snapshot : Option Snapshot
   pub horizon : Gxid
   pub slice : Slice
-  pub sent : IsSent point.steps the_coordinator node number (message.Exec g c level snapshot horizon slice)
+  pub sent : IsSentBy point node number (message.Exec g c level snapshot horizon slice)
 
 -- its answer has come back
 pub record IsReturned (point : Point) (g : Gxid) (c : Cid) (node : Node) : Type 0 where
@@ -109,7 +114,7 @@ IsComplete script point session answer =
 -- each journal's word, and each word of a failing journal, in its place
 abbrev pub FollowsAt : Script → Node → Point → Mark → Type 0
 FollowsAt script node point (mark.Commit g) = CommitsBy (writers_of script (before point) g) (before point) g
-FollowsAt script node point (mark.Decided g) = is_aborted (before point) g ≡ false
+FollowsAt script node point (mark.Decided g) = (is_ended (before point) g ≡ false) × (decided_count (before point) g ≡ 0)
 FollowsAt script _ point (mark.LocalCommit node g) =
     (is_aborted (before point) g ≡ false) × (is_committed (before point) g ≡ false)
     × (Receives point.steps point.event the_coordinator node (message.Commit g) ⊎ Receives point.steps point.event the_coordinator node (message.CommitPrepared g))

@@ -16,6 +16,7 @@ use Rattle.gx_tree.specs.declared.value.Value.{Value}
 use Rattle.gx_meaning.specs.declared.fault.ArithFault.{ArithFault}
 use Rattle.gx_meaning.specs.declared.fault.ArithFault.TheVariants as arith
 use Rattle.gx_msg.specs.declared.message.Message.TheVariants as message
+use Rattle.gx_msg.specs.declared.reply.Cause.{Cause}
 use Rattle.gx_msg.specs.declared.reply.Cause.TheVariants as cause
 use Rattle.gx_msg.specs.declared.reply.Reply.TheVariants as reply
 use Rattle.gx_script.specs.declared.Script.{Script}
@@ -25,7 +26,6 @@ use Rattle.gx_store.specs.declared.answer.Refused.{Refused}
 use Rattle.gx_store.specs.declared.answer.Refused.TheVariants.{Serialization, Victim, Overflow, DivisionByZero, InFailedBlock, JournalFault, NotInBlock}
 use Rattle.gx_store.specs.declared.mark.Mark.{Mark}
 use Rattle.gx_store.specs.declared.mark.Mark.TheVariants.{Fault, JournalFailed, Recheck}
-use Rattle.gx_store.specs.declared.run.Step.{Step}
 use Rattle.gx_store.specs.Faults.{IsFaultOf}
 use Rattle.gx_store.specs.Lines.{BlockState, cid_of, level_of, transaction_of}
 use Rattle.gx_store.specs.Marks.{is_aborted, is_committed}
@@ -36,20 +36,21 @@ use Rattle.gx_store.specs.Writes.{IsSelectedAndFree}
 abbrev pub the_coordinator : Node
 the_coordinator = record { 0 = 0 }
 
--- an INSERT is refused in the step in which its constants are evaluated
-abbrev pub IsWithin : Stmt → List Step → ℕ → Type 0
-IsWithin (Insert table tuples) steps place = length (marks_in steps) ≤ place
-IsWithin _ steps place = Unit {0}
+-- An INSERT's constants are evaluated at the coordinator, in the step of its refusal, which notes the fault. Of another
+-- command a segment says the cause, in the message that the step receives.
+abbrev pub IsHeard : Point → ℕ → Stmt → Gxid → Cid → Cause → Type 0
+IsHeard point place (Insert table tuples) g c reason = length (marks_in point.steps) ≤ place
+IsHeard point place _ g c reason = (segment : Node) × Receives point.steps point.event segment the_coordinator (message.Answer g (reply.Failed c reason))
 
--- an evaluation of the command faulted so, before its transaction aborted
-pub record HasFaulted (point : Point) (stmt : Stmt) (level : Level) (g : Gxid) (c : Cid) (fault : ArithFault) : Type 0 where
+-- an evaluation of the command faulted so, before its transaction aborted, and this is why it is refused
+pub record HasFaulted (point : Point) (stmt : Stmt) (level : Level) (g : Gxid) (c : Cid) (fault : ArithFault) (reason : Cause) : Type 0 where
   pub place : ℕ
   pub rid : Rid
   pub image : Option (List Value)
   pub noted : slice_get (before point) place ≡ Some (Fault g c rid image)
   pub unaborted : is_aborted (take place (before point)) g ≡ false
   pub faults : IsFaultOf (take place (before point)) level g c stmt rid image fault
-  pub within : IsWithin stmt point.steps place
+  pub heard : IsHeard point place stmt g c reason
 
 -- the condition of an UPDATE or DELETE
 abbrev pub IsChange : Stmt → Table → Option Cond → Type 0
@@ -96,8 +97,8 @@ HasJournalFailed point g node = failed_at node.0
 abbrev pub IsCause : Point → Stmt → Level → Gxid → Cid → Refused → Type 0
 IsCause point stmt level g c (Serialization rid h) = IsOvertaken point stmt level g c rid h
 IsCause point stmt level g c (Victim round) = IsNamed point.earlier round g
-IsCause point stmt level g c Overflow = HasFaulted point stmt level g c arith.Overflow
-IsCause point stmt level g c DivisionByZero = HasFaulted point stmt level g c arith.DivisionByZero
+IsCause point stmt level g c Overflow = HasFaulted point stmt level g c arith.Overflow cause.Overflow
+IsCause point stmt level g c DivisionByZero = HasFaulted point stmt level g c arith.DivisionByZero cause.DivisionByZero
 IsCause point stmt level g c (JournalFault node) = HasJournalFailed point g node
 IsCause point stmt level g c InFailedBlock = ⊥
 IsCause point stmt level g c NotInBlock = ⊥

@@ -6,6 +6,7 @@ pub mod event;
 pub mod mark;
 pub mod node;
 pub mod refused_runs_b;
+pub mod refused_runs;
 pub mod run;
 
 pub use answer::{Refused, StmtAnswer};
