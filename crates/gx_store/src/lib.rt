@@ -5,8 +5,8 @@ pub mod answer;
 pub mod event;
 pub mod mark;
 pub mod node;
-pub mod refused_runs_b;
 pub mod refused_runs;
+pub mod refused_runs_b;
 pub mod run;
 
 pub use answer::{Refused, StmtAnswer};
