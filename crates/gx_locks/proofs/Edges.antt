@@ -5,13 +5,12 @@ use Rattle.std.specs.Prelude.{filter, Result, Ok, Err, OnOk}
 use Rattle.gx_ids.specs.declared.memory.OutOfMemory.{OutOfMemory}
 use Rattle.gx_waits.specs.declared.claim.Claim.{Claim}
 use Rattle.gx_waits.specs.declared.edge.Edge.{Edge}
-use Rattle.gx_waits.specs.Claim.{IsEdgeOf, Meets, edge_of}
+use Rattle.gx_waits.specs.Claim.{IsEdgeOf, Meets, edge_of, same_object}
 use Rattle.gx_waits.specs.LocalGraph.{AddsOnce, AddsAll}
 use Rattle.gx_waits.proofs.Adds.{one_hold_met, one_hold_passed, Here}
 use Rattle.gx_waits.proofs.Members.{Has, has_from_any, any_from_has}
 use Rattle.gx_locks.specs.declared.hold.Hold.{Hold}
 use Rattle.gx_locks.specs.declared.key.Key.TheVariants.{On}
-use Rattle.gx_locks.specs.Claims.{same_object}
 use Rattle.gx_locks.specs.Holds.{claims_of, is_under}
 use Rattle.gx_locks.proofs.Filed.{length_claims, claims_of-filter}
 use Rattle.gx_locks.proofs.Meets.{same_object-itself}

@@ -10,7 +10,8 @@ use Rattle.gx_locks.specs.declared.hold.Hold.{Hold}
 use Rattle.gx_locks.specs.declared.key.Key.{Key}
 use Rattle.gx_locks.specs.declared.key.Key.TheVariants.{On, Of}
 use Rattle.gx_locks.specs.Book.{IsFiled, claims_in}
-use Rattle.gx_locks.specs.Claims.{is_of, same_claim}
+use Rattle.gx_waits.specs.Claim.{same_claim}
+use Rattle.gx_locks.specs.Claims.{is_of}
 use Rattle.gx_locks.specs.Holds.{is_under, same_hold, claims_of}
 use Rattle.gx_locks.specs.Index.{holds_at, places_at}
 use Rattle.gx_locks.specs.Kept.{AreOnce}

@@ -7,8 +7,7 @@ use Rattle.gx_modes.specs.Table.{conflict}
 use Rattle.gx_waits.specs.declared.object.Object.{Object}
 use Rattle.gx_waits.specs.declared.object.Object.TheVariants.{Relation, Tuple, Transaction}
 use Rattle.gx_waits.specs.declared.claim.Claim.{Claim}
-use Rattle.gx_waits.specs.Claim.{Meets}
-use Rattle.gx_locks.specs.Claims.{meets, same_object}
+use Rattle.gx_waits.specs.Claim.{Meets, meets, same_object}
 
 pub parts : (a b c : Bool) → (not a && (b && c)) ≡ true → (a ≡ false) × ((b ≡ true) × (c ≡ true))
 parts true b c e = absurd (cc)

@@ -9,7 +9,8 @@ use Rattle.gx_ids.specs.declared.ids.Gxid.{Gxid}
 use Rattle.gx_waits.specs.declared.claim.Claim.{Claim}
 use Rattle.gx_locks.specs.declared.answer.LockAnswer.{LockAnswer}
 use Rattle.gx_locks.specs.declared.answer.LockAnswer.TheVariants.{Granted, Waits}
-use Rattle.gx_locks.specs.Claims.{meets, same_claim, is_of}
+use Rattle.gx_waits.specs.Claim.{meets, same_claim}
+use Rattle.gx_locks.specs.Claims.{is_of}
 use Rattle.gx_locks.specs.Kept.{AreExclusive, AreOnce}
 use Rattle.gx_locks.specs.Locks.{Locks, IsAnswer, is_free, is_ready, held, wait_of, resumed, without}
 use Rattle.gx_locks.specs.Runs.{Call, Request, Resume, Release, ReleaseAll, IsStep, IsRun, IsSound}

@@ -12,7 +12,8 @@ use Rattle.gx_locks.specs.declared.book.Book.{Book}
 use Rattle.gx_locks.specs.declared.key.Key.{Key}
 use Rattle.gx_locks.specs.declared.key.Key.TheVariants.{On, Of}
 use Rattle.gx_locks.specs.Book.{IsFiled, IsWhole, claims_in, HasSameHolds, HasPlaceMore, HasPlaceLess, HasPlace}
-use Rattle.gx_locks.specs.Claims.{meets, same_claim, is_of}
+use Rattle.gx_waits.specs.Claim.{meets, same_claim}
+use Rattle.gx_locks.specs.Claims.{is_of}
 use Rattle.gx_locks.specs.Holds.{is_under, claims_of}
 use Rattle.gx_locks.specs.Index.{places_at}
 use Rattle.gx_locks.specs.Kept.{AreExclusive, AreOnce, WaitOnce}

@@ -5,7 +5,8 @@ use Rattle.gx_locks.specs.declared.hold.Hold.{Hold}
 use Rattle.gx_locks.specs.declared.slot.Slot.{Slot}
 use Rattle.gx_locks.specs.declared.key.Key.{Key}
 use Rattle.gx_locks.specs.declared.key.Key.TheVariants.{On, Of}
-use Rattle.gx_locks.specs.Claims.{same_claim, same_object, is_of}
+use Rattle.gx_waits.specs.Claim.{same_claim, same_object}
+use Rattle.gx_locks.specs.Claims.{is_of}
 
 -- whether two holds are one
 abbrev pub same_hold : Hold → Hold → Bool

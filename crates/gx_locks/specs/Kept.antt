@@ -1,7 +1,8 @@
 -- What the table keeps of its lists.
 use Rattle.std.specs.Prelude.{◌≡◌, false, List, AllPairs}
 use Rattle.gx_waits.specs.declared.claim.Claim.{Claim}
-use Rattle.gx_locks.specs.Claims.{meets, same_claim, is_of}
+use Rattle.gx_waits.specs.Claim.{meets, same_claim}
+use Rattle.gx_locks.specs.Claims.{is_of}
 
 -- no hold meets one that came before it
 abbrev pub AreExclusive : List Claim → Type 0

@@ -6,7 +6,8 @@ use Rattle.gx_ids.specs.declared.ids.Node.{Node}
 use Rattle.gx_waits.specs.declared.claim.Claim.{Claim}
 use Rattle.gx_locks.specs.declared.answer.LockAnswer.{LockAnswer}
 use Rattle.gx_locks.specs.declared.answer.LockAnswer.TheVariants.{Granted, Waits}
-use Rattle.gx_locks.specs.Claims.{meets, same_claim, is_of, gxid_cmp}
+use Rattle.gx_waits.specs.Claim.{meets, same_claim}
+use Rattle.gx_locks.specs.Claims.{is_of, gxid_cmp}
 use Rattle.std.specs.List.Sorted.{IsStrictlySortedBy}
 
 -- the holds and the standing waits, each in the order in which they came

@@ -1,7 +1,7 @@
 ghost use Rattle.std.specs.Prelude.{◌≡◌, ◌≢◌, ◌+◌, ◌∷◌, ◌++◌, [], ◌==◌, filter, find, not, IfOk, OnOk, OnErr};
 ghost use Rattle.std.specs.List.{list_any};
 ghost use Rattle.gx_waits.specs.declared.claim.Claim.{Claim};
-ghost use Rattle.gx_locks.specs.Claims.{same_claim};
+ghost use Rattle.gx_waits.specs.Claim.{same_claim};
 ghost use Rattle.gx_locks.specs.Holds.{same_hold, claims_of, is_under};
 ghost use Rattle.gx_locks.specs.Kept.{AreOnce};
 ghost use Rattle.gx_locks.specs.Locks.{is_free, without, blockers, AreRisen};

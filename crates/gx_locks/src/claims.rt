@@ -1,7 +1,8 @@
 ghost use Rattle.std.specs.Prelude.{◌≡◌, ◌<◌, ◌++◌, ◌∷◌, [], map, filter, not, find, IfOk, vec_len};
 ghost use Rattle.std.specs.Vec.{vec_capacity};
 ghost use Rattle.std.specs.List.{list_any};
-ghost use Rattle.gx_locks.specs.Claims.{meets, same_claim, same_object, is_of};
+ghost use Rattle.gx_waits.specs.Claim.{meets, same_claim, same_object};
+ghost use Rattle.gx_locks.specs.Claims.{is_of};
 ghost use Rattle.gx_locks.specs.Holds.{same_hold};
 ghost use Rattle.gx_locks.specs.Locks.{without, AreRisen};
 

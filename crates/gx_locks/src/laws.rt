@@ -1,8 +1,7 @@
 //! Laws of the definitions, for those who build on them.
 ghost use Rattle.std.specs.Prelude.{◌↔◌, IsTrue, List};
 ghost use Rattle.gx_waits.specs.declared.claim.Claim.{Claim};
-ghost use Rattle.gx_waits.specs.Claim.{Meets};
-ghost use Rattle.gx_locks.specs.Claims.{meets};
+ghost use Rattle.gx_waits.specs.Claim.{Meets, meets};
 ghost use Rattle.gx_locks.specs.Locks.{Locks};
 ghost use Rattle.gx_locks.specs.Runs.{Call, IsRun, IsSound};
 

@@ -1,8 +1,8 @@
 ghost use Rattle.std.specs.Prelude.{◌≡◌, [], ◌∷◌, false, true, None, Some, map, filter, IfOk, IfSome, OnErr};
 ghost use Rattle.std.specs.List.{list_any};
 ghost use Rattle.gx_ids.specs.declared.ids.Gxid.{Gxid};
-ghost use Rattle.gx_waits.specs.Claim.{AreEdges};
-ghost use Rattle.gx_locks.specs.Claims.{is_of, same_claim};
+ghost use Rattle.gx_waits.specs.Claim.{AreEdges, same_claim};
+ghost use Rattle.gx_locks.specs.Claims.{is_of};
 ghost use Rattle.gx_locks.specs.Locks.{IsAnswer, blockers, is_free, ready_ones, least_with, IsLeast, wait_of, is_ready, resumed, without, without_claim};
 ghost use Rattle.gx_locks.specs.Kept.{AreExclusive, AreOnce, WaitOnce};
 ghost use Rattle.gx_locks.specs.Book.{IsFiled, claims_in};

@@ -1,7 +1,7 @@
 -- The edges of given holds and waits at one node (PostgreSQL manual, 13.3: a request waits for the transactions that
 -- hold a conflicting mode on the same object).
-use Rattle.std.specs.Prelude.{◌≡◌, ◌≢◌, Bool, true, false, List, IsTrue, Any, AllPairs, Contains}
-use Rattle.gx_modes.specs.Table.{conflict}
+use Rattle.std.specs.Prelude.{◌≡◌, ◌≢◌, ◌==◌, ◌&&◌, not, Bool, true, false, List, IsTrue, Any, AllPairs, Contains}
+use Rattle.gx_modes.specs.Table.{conflict, number_of}
 use Rattle.gx_waits.specs.declared.edge.Edge.{Edge}
 use Rattle.gx_waits.specs.declared.object.Object.{Object}
 use Rattle.gx_waits.specs.declared.object.Object.TheVariants.{Relation, Tuple, Transaction}
@@ -12,6 +12,26 @@ pub record Meets (wait hold : Claim) : Type 0 where
   pub other : wait.gxid ≢ hold.gxid
   pub same_object : wait.object ≡ hold.object
   pub conflicting : IsTrue (conflict wait.mode hold.mode)
+
+-- the same as tests: whether two objects are one
+abbrev pub same_object : Object → Object → Bool
+same_object (Relation t) (Relation u) = t.0 == u.0
+same_object (Relation t) (Tuple q) = false
+same_object (Relation t) (Transaction h) = false
+same_object (Tuple r) (Relation u) = false
+same_object (Tuple r) (Tuple q) = (r.gxid.0 == q.gxid.0) && ((r.cid.0 == q.cid.0) && (r.ordinal == q.ordinal))
+same_object (Tuple r) (Transaction h) = false
+same_object (Transaction g) (Relation u) = false
+same_object (Transaction g) (Tuple q) = false
+same_object (Transaction g) (Transaction h) = g.0 == h.0
+
+-- whether a claim meets a hold
+abbrev pub meets : Claim → Claim → Bool
+meets claim hold = not (claim.gxid.0 == hold.gxid.0) && (same_object claim.object hold.object && conflict claim.mode hold.mode)
+
+-- whether two claims are one
+abbrev pub same_claim : Claim → Claim → Bool
+same_claim a b = (a.gxid.0 == b.gxid.0) && (same_object a.object b.object && (number_of a.mode == number_of b.mode))
 
 abbrev pub is_tuple : Object → Bool
 is_tuple (Relation table) = false

@@ -1,6 +1,6 @@
 use Rattle.std.proofs.Common.{◌∙◌, sym, ap, not}
 use Rattle.gx_locks.specs.declared.key.Key.TheVariants.{On}
-use Rattle.gx_locks.specs.Claims.{same_claim}
+use Rattle.gx_waits.specs.Claim.{same_claim}
 use Rattle.gx_locks.specs.Holds.{claims_of}
 use Rattle.gx_locks.specs.Index.{holds_at}
 use Rattle.gx_locks.proofs.Filed.{claims-released, claims_of-filter, filter-unfound}

@@ -1,6 +1,6 @@
 use Rattle.std.proofs.Common.{arith, not}
 use Rattle.gx_waits.specs.declared.claim.Claim.{Claim}
-use Rattle.gx_locks.specs.Claims.{same_claim}
+use Rattle.gx_waits.specs.Claim.{same_claim}
 use Rattle.gx_locks.proofs.Whole.{IsWhole-fewer}
 use Rattle.gx_locks.proofs.table.LockTable.release.Goals as goal
 

@@ -1,0 +1,8 @@
+mod Images
+mod Opening
+mod Pairs
+mod Reading
+mod Settling
+mod Slots
+mod Steps
+mod Verdicts

@@ -1,0 +1,101 @@
+use super::*;
+use gx_ids::Gxid;
+use std::alloc::Global;
+use std::test::Fail;
+
+// The last transaction of a run.
+const LAST: u64 = 8;
+
+// What a run wishes for a transaction.
+fn wish(gxid: u64) -> Decision {
+    if gxid % 2 == 0 {
+        Decision::Commit
+    } else {
+        Decision::Abort
+    }
+}
+
+// Settles the transactions from 1 on, up to a fault, and answers how many were settled.
+fn settle_some(alloc: Global, disk: &mut DiskMem) -> u64 {
+    let Ok(mut decider) = open_log(alloc, disk) else {
+        return 0;
+    };
+    let mut settled = 0;
+    for gxid in 1..LAST + 1 {
+        match decider.settle(disk, Gxid(gxid), wish(gxid)) {
+            Ok((next, _)) => decider = next,
+            Err(_) => return settled,
+        }
+        settled = gxid;
+    }
+    settled
+}
+
+// How many transactions from 1 on have what was wished; none behind them may have a verdict.
+fn count_kept(decider: &Decider) -> Option<u64> {
+    let mut kept = 0;
+    for gxid in 1..LAST + 1 {
+        match decider.kept(Gxid(gxid)) {
+            None => {}
+            Some(decision) if decision == wish(gxid) && kept + 1 == gxid => kept = gxid,
+            Some(_) => return None,
+        }
+    }
+    Some(kept)
+}
+
+// A run whose device call with this number fails, and what is kept after a stop there.
+fn stop_at(alloc: Global, call: u64, fill: u8) -> Result<(u64, Option<u64>), Fail> {
+    let mut disk = DiskMem::new(alloc, 8, vec![in alloc; call]?)?;
+    let settled = settle_some(alloc, &mut disk);
+    let mut left = disk.stop(fill);
+    let decider = open_log(alloc, &mut left)?;
+    Ok((settled, count_kept(&decider)))
+}
+
+// An open makes 9 calls on this disk, and a settle 4. At the last two the gate is pending, which `fill` may open.
+#[test]
+fn what_was_answered_stands_after_a_stop_at_each_call(rt: HostRuntime) -> Result<(), Fail> {
+    let alloc = rt.alloc();
+    let mut opened = 0;
+    for call in 1..42u64 {
+        for fill in [0, 1, 255] {
+            let (settled, kept) = stop_at(alloc, call, fill)?;
+            if kept == Some(settled + 1) {
+                opened += 1;
+            } else {
+                assert_eq!(rt; kept, Some(settled));
+            }
+        }
+    }
+    assert_eq!(rt; opened, 16);
+    Ok(())
+}
+
+#[test]
+fn two_answers_are_equal(rt: HostRuntime) -> Result<(), Fail> {
+    let alloc = rt.alloc();
+    let mut disk = DiskMem::new(alloc, 8, Vec::new(alloc))?;
+    let decider = open_log(alloc, &mut disk)?;
+    let (decider, _) = decider.settle(&mut disk, Gxid(4), Decision::Commit)?;
+    let (_, first) = decider.settle(&mut disk, Gxid(5), Decision::Abort)?;
+    let decider = open_log(alloc, &mut disk)?;
+    let (_, second) = decider.settle(&mut disk, Gxid(5), Decision::Commit)?;
+    assert_eq!(rt; (first, second), (Decision::Abort, Decision::Abort));
+    Ok(())
+}
+
+#[test]
+fn a_full_log_keeps_what_it_has(rt: HostRuntime) -> Result<(), Fail> {
+    let alloc = rt.alloc();
+    let mut disk = DiskMem::new(alloc, 1, Vec::new(alloc))?;
+    let decider = open_log(alloc, &mut disk)?;
+    let (decider, _) = decider.settle(&mut disk, Gxid(4), Decision::Commit)?;
+    let (decider, kept) = decider.settle(&mut disk, Gxid(4), Decision::Abort)?;
+    assert_eq!(rt; kept, Decision::Commit);
+    match decider.settle(&mut disk, Gxid(5), Decision::Abort) {
+        Ok(_) => assert!(rt; false, "the log has one slot"),
+        Err(fault) => assert_eq!(rt; fault, DecideFault::Full(1)),
+    }
+    Ok(())
+}
