@@ -1,5 +1,5 @@
-// The places are those that Python gives: `1 + k % n` for a whole number, and for a text FNV-1a of 64 bits, whose published
-// values for '', 'a' and 'foobar' are cbf29ce484222325, af63dc4c8601ec8c and 85944171f73967e8.
+// A text's place is by FNV-1a of 64 bits, as Python gives it. The published values for '', 'a' and 'foobar' are
+// cbf29ce484222325, af63dc4c8601ec8c and 85944171f73967e8.
 use gx_ids::{Cid, Gxid, Node, Rid};
 use gx_place::place_value;
 use gx_tree::{Txt, Value};
@@ -20,26 +20,6 @@ fn texts_stand_at_their_hashes(rt: HostRuntime) -> Result<(), Fail> {
         assert_eq!(rt; place_value(&key, 16), Node(of_sixteen), "{text}");
     }
     Ok(())
-}
-
-#[test]
-fn whole_numbers_stand_at_their_remainders(rt: HostRuntime) {
-    for (number, of_three, of_seven, of_sixteen) in [
-        (i64::MIN, 2, 7, 1),
-        (-9223372036854775807, 3, 1, 2),
-        (-17, 2, 5, 16),
-        (-16, 3, 6, 1),
-        (-1, 3, 7, 16),
-        (0, 1, 1, 1),
-        (15, 1, 2, 16),
-        (16, 2, 3, 1),
-        (i64::MAX, 2, 1, 16),
-    ] {
-        let key = Value::Int(number);
-        assert_eq!(rt; place_value(&key, 3), Node(of_three), "{number}");
-        assert_eq!(rt; place_value(&key, 7), Node(of_seven), "{number}");
-        assert_eq!(rt; place_value(&key, 16), Node(of_sixteen), "{number}");
-    }
 }
 
 #[test]
