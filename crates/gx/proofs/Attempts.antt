@@ -12,8 +12,8 @@ module _ (words : List (String Global)) (left after : Option (List ℕ)) (before
   pub ran : (script : Script) → IsRead left after (Ok script) → is_of_form script ≡ true → (a : Attempt) → IsRan script a → IsAttempt words left after before now a
   ran script read built (Done run text) is = record { none = none; script = script; read = read; built = built; is = is }
   ran script read built (Stopped run text) is = record { none = none; script = script; read = read; built = built; is = is }
-  ran script read built (OutOfMemory run) (inl e) = inl e
-  ran script read built (OutOfMemory run) (inr is) = inr (record { script = script; read = read; built = built; is = is })
+  ran script read built (OutOfMemory run) (inl e) = (none, inl e)
+  ran script read built (OutOfMemory run) (inr is) = (none, inr (record { script = script; read = read; built = built; is = is }))
   ran script read built (Refused text) is = absurd is
   ran script read built ReadFault is = absurd is
   ran script read built TooLarge is = absurd is

@@ -30,7 +30,10 @@ pub refused-kept : {A : Type 0} (items : A → List (List ℕ)) (faults : A → 
 refused-kept items faults js refusal a over is empty =
     subst (λ (r : Run). AreKept r.steps over (map (λ j. shelf (items j) (faults j)) js) (map (λ j. shelf (items j) (faults j)) js)) (sym (refused-run refusal a is)) (none-kept items faults js over empty)
 
--- journals that were lent to the driver, and have come back
+-- as many journals as were lent to the driver have come back
+pub count-back : {A : Type 0} (new rest : List A) (n : ℕ) → n ≡ length new → length (take n (new ++ rest)) ≡ n
+count-back new rest n long = ap length (ap (λ k. take k (new ++ rest)) long ∙ take-append_seam new rest) ∙ sym long
+
 pub kept-back : {A : Type 0} (f : A → Shelf) (old lent new rest : List A) (n : ℕ) (steps : List Step) (run : Run) (over : Bool) → lent ≡ old → n ≡ length new → run.steps ≡ steps → AreFailuresFew steps (map f lent) (map f new) → (over ≡ true → AreHeld steps (map f new))
     → AreKept run.steps over (map f old) (map f (take n (new ++ rest)))
 kept-back f old lent new rest n steps run over same long is few held =

@@ -1,5 +1,5 @@
 -- What each status of a report tells, from what the work before the writing came to and what was told of it.
-use Rattle.std.proofs.Common.{◌≡◌, ◌⊎◌, inl, inr, ℕ, nat_eq, List, Option, Bool, true, false, arith, refl, sym, ◌∙◌, subst}
+use Rattle.std.proofs.Common.{◌≡◌, ◌⊎◌, inl, inr, ℕ, nat_eq, List, [], Option, Bool, true, false, arith, refl, sym, ◌∙◌, subst}
 use Rattle.std.specs.declared.alloc.Global.{Global}
 use Rattle.std.specs.declared.string.String.{String}
 use Rattle.gx_store.specs.declared.run.Run.{Run}
@@ -103,7 +103,7 @@ module _ (words : List (String Global)) (left after : Option (List ℕ)) (before
   at-any NotBuilt is over = inr (due NotBuilt is over)
   at-any (OutOfMemory run) is over = absurd (cc)
 
-  part : (a : Attempt) → IsAttempt words left after before now a → is_over a ≡ false → IsPartRun left after (run_in a)
+  part : (a : Attempt) → IsAttempt words left after before now a → is_over a ≡ false → (words ≡ []) × IsPartRun left after (run_in a)
   part (OutOfMemory run) of out = of
   part (Done run text) of out = absurd (cc)
   part (Stopped run text) of out = absurd (cc)
@@ -143,11 +143,34 @@ module _ (words : List (String Global)) (left after : Option (List ℕ)) (before
   ]
 
   pub memory : (a : Attempt) → IsAttempt words left after before now a → IsToldOf a written shown faults more report → report.status ≡ 6
-      → (shown ≡ written) × IsPartRun left after report.run
+      → (shown ≡ written) × (words ≡ []) × IsPartRun left after report.run
   memory a of is here = elim (told written shown faults more report a is) [
     | inl end ↦ elim end.1.ended [
       | inl whole ↦ absurd ((ended written shown faults more report a end.0).1 (sym whole.0 ∙ here))
       | inr cut ↦ absurd (omega (arith, cut.0, here))
     ]
-    | inr out ↦ (out.3, subst (λ (r : Run). IsPartRun left after r) (sym out.2) (part a of out.0))
+    | inr out ↦ (out.3, (part a of out.0).0, subst (λ (r : Run). IsPartRun left after r) (sym out.2) (part a of out.0).1)
+  ]
+
+  -- where there are words, nothing is built
+  unbuilt : (a : Attempt) → IsAttempt words left after before now a → (words ≡ [] → ⊥) → (status_in a ≡ 10) × (is_over a ≡ true)
+  unbuilt (Done run text) of other = absurd (other of.none)
+  unbuilt (Stopped run text) of other = absurd (other of.none)
+  unbuilt (Refused text) of other = absurd (other of.none)
+  unbuilt ReadFault of other = absurd (other of.0)
+  unbuilt TooLarge of other = absurd (other of.0)
+  unbuilt NotBuilt of other = (refl, refl)
+  unbuilt (OutOfMemory run) of other = absurd (other of.0)
+
+  clash : (b : Bool) → b ≡ false → b ≡ true → ⊥
+  clash true e f = cc
+  clash false e f = cc
+
+  pub with_words : (a : Attempt) → IsAttempt words left after before now a → IsToldOf a written shown faults more report → (words ≡ [] → ⊥) → (report.status ≡ 10) ⊎ (report.status ≡ 5)
+  with_words a of is other = elim (told written shown faults more report a is) [
+    | inl end ↦ elim end.1.ended [
+      | inl whole ↦ inl (whole.0 ∙ (unbuilt a of other).0)
+      | inr cut ↦ inr cut.0
+    ]
+    | inr out ↦ absurd (clash (is_over a) out.0 (unbuilt a of other).1)
   ]

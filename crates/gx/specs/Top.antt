@@ -21,6 +21,7 @@ use Rattle.gx_store.specs.View.{AreFinalFrom}
 use Rattle.gx_rules.specs.System.{IsSystemRun}
 use Rattle.gx_store.specs.Schedule.{is_any_unfinished}
 use Rattle.gx_law_runs.specs.Endings.{IsFinished}
+use Rattle.gx_law_commit.specs.Told.{DoStepsTell}
 use Rattle.gx_world.specs.Worlds.{Shelf}
 use Rattle.gx_drive.specs.Ordered.{AreFailuresFew, AreFirst, AreHeld}
 use Rattle.gx.specs.declared.top.Report.{Report}
@@ -41,12 +42,13 @@ abbrev pub turns : ℕ
 turns = 1000000
 
 -- The run is a legal history of one store without segments. Its nodes follow their rules and the commit protocol, its messages are
--- numbered and arrive after they were sent, clocks rise, and each event is the first of what is enabled then.
+-- numbered, follow what they tell of, and arrive after they were sent, clocks rise, and each event is the first of what is enabled then.
 pub record IsRunOf (script : Script) (run : Run) : Type 0 where
   pub legal : IsLegalHistory script run
   pub ordered : AreOrdered script [] run.steps
   pub system : IsSystemRun script run
   pub protocol : DoStepsFollow script [] run.steps
+  pub tells : DoStepsTell [] run.steps
   pub driven : AreFirst script [] run.steps
 
 -- every line was answered in it, every block is closed, every transaction has ended, these are the tables at its end, and the text is that of
@@ -166,7 +168,7 @@ IsAttempt words left after before now (Refused text) = IsRefused words left afte
 IsAttempt words left after before now ReadFault = (words ≡ []) × Rose before now
 IsAttempt words left after before now TooLarge = (words ≡ []) × IsTooMuch left after
 IsAttempt words left after before now NotBuilt = (words ≡ [] → ⊥) ⊎ IsOther left after
-IsAttempt words left after before now (OutOfMemory run) = IsPartRun left after run
+IsAttempt words left after before now (OutOfMemory run) = (words ≡ []) × IsPartRun left after run
 
 -- its run; nothing was run where there is none
 abbrev pub run_in : Attempt → Run

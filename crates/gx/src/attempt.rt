@@ -1,5 +1,5 @@
 // The work before the writing: words, reading, script, run and text.
-ghost use Rattle.std.specs.Prelude.{◌≡◌, [], All, length, map};
+ghost use Rattle.std.specs.Prelude.{◌≡◌, ◌≢◌, [], All, length, map};
 ghost use Rattle.gx_world.specs.Worlds.{shelf};
 ghost use Rattle.gx.specs.Top.{AreKept, IsAttempt, IsRefusedFor, is_over, run_in};
 
@@ -40,6 +40,8 @@ pub fn make_attempt<S: Source, J: Journal, G: Gate>(
     requires journals { length journals.old.items ≡ 17 }
     requires empty { All (λ j. J.items j ≡ []) journals.old.items }
     ensures is { IsAttempt words.now (S.left source.old) (S.left source.new) (S.fault_count source.old) (S.fault_count source.new) result }
+    ensures count { length journals.new.items ≡ 17 }
+    ensures unread { words.now ≢ [] → source.new ≡ source.old }
     ensures kept { AreKept (run_in result).steps (is_over result) (map (λ j. shelf (J.items j) (J.fault_count j)) journals.old.items) (map (λ j. shelf (J.items j) (J.fault_count j)) journals.new.items) }
 {
     if !words.is_empty() {

@@ -1,5 +1,5 @@
 // The top call.
-ghost use Rattle.std.specs.Prelude.{◌≡◌, ◌≢◌, [], All, length, map};
+ghost use Rattle.std.specs.Prelude.{◌≡◌, ◌≢◌, [], All, length, map, ◌⊎◌};
 ghost use Rattle.gx_drive.specs.Ordered.{AreFailuresFew, AreHeld};
 ghost use Rattle.gx_world.specs.Worlds.{shelf};
 ghost use Rattle.gx.specs.Top.{IsCutShort, IsDone, IsDue, IsNotBuilt, IsPartRun, IsReadFault, IsRefused, IsStatus, IsStopped, IsTold, IsToldOf, IsTooLarge, IsWritten};
@@ -70,8 +70,8 @@ pub fn run_gx<S: Source, K: Sink, J: Journal, G: Gate>(
     ensures write_fault { result.status ≡ 5 → IsCutShort (IsDue words.now (S.left source.old) (S.left source.new) (S.fault_count source.old) (S.fault_count source.new) result.run)
         (K.written sink.old) (K.written sink.new) (K.fault_count sink.old) (K.fault_count sink.new) }
 
-    // Nothing was written, and what was run is a part of a legal history of the script.
-    ensures memory { result.status ≡ 6 → (K.written sink.new ≡ K.written sink.old) × IsPartRun (S.left source.old) (S.left source.new) result.run }
+    // There were no words, nothing was written, and what was run is a part of a legal history of the script.
+    ensures memory { result.status ≡ 6 → (K.written sink.new ≡ K.written sink.old) × (words.now ≡ []) × IsPartRun (S.left source.old) (S.left source.new) result.run }
 
     // The run has as many steps as turns and a session is unfinished; the text of the answers so far was written, and that it stopped.
     ensures stopped { result.status ≡ 7 → IsWritten (IsStopped words.now (S.left source.old) (S.left source.new) result.run) (K.written sink.old) (K.written sink.new) }
@@ -79,6 +79,13 @@ pub fn run_gx<S: Source, K: Sink, J: Journal, G: Gate>(
     ensures too_large { result.status ≡ 9 → IsWritten (IsTooLarge words.now (S.left source.old) (S.left source.new) result.run) (K.written sink.old) (K.written sink.new) }
 
     ensures not_built { result.status ≡ 10 → IsWritten (IsNotBuilt words.now (S.left source.old) (S.left source.new) result.run) (K.written sink.old) (K.written sink.new) }
+
+    // Where there are words, nothing is read, and nothing else is said.
+    ensures words { words.now ≢ [] → (result.status ≡ 10) ⊎ (result.status ≡ 5) }
+    ensures unread { words.now ≢ [] → source.new ≡ source.old }
+
+    // All journals come back.
+    ensures count { length journals.new.items ≡ 17 }
 
     // Each journal holds the items that the marks of its node stand for, and nothing else.
     ensures held { result.status ≢ 6 → AreHeld result.run.steps (map (λ j. shelf (J.items j) (J.fault_count j)) journals.new.items) }

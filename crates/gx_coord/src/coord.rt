@@ -1,4 +1,4 @@
-ghost use Rattle.std.specs.Prelude.{◌≡◌, ◌<◌, ◌≤◌, ◌^◌, All, length, true, false, IfOk, OnErr};
+ghost use Rattle.std.specs.Prelude.{◌≡◌, ◌<◌, ◌≤◌, ◌^◌, All, length, true, false, IfOk, OnErr, IsErr};
 ghost use Rattle.gx_rules.specs.AtCoordinator.{coord_can, is_unfinished_there};
 ghost use Rattle.gx_rules.specs.Coordinators.{Coord as RuleCoord, new_coordinator};
 ghost use Rattle.gx_rules.specs.Sending.{heard_in};
@@ -76,7 +76,8 @@ impl Coord {
         ensures stepped { IfOk result (λ out. HasStepped self.old self.new c event (J.items journal.old) (J.items journal.new) (J.fault_count journal.old) (J.fault_count journal.new) out) }
         ensures later { J.fault_count journal.old ≤ J.fault_count journal.new }
         ensures spent { OnErr result (self.new.spent ≡ true) }
-        ensures again { self.old.spent ≡ true → OnErr result (J.items journal.new ≡ J.items journal.old) }
+        ensures again { self.old.spent ≡ true → IsErr result }
+        ensures untouched { self.old.spent ≡ true → J.items journal.new ≡ J.items journal.old }
     {
         if self.spent {
             return Err(OutOfMemory);

@@ -28,6 +28,7 @@ pub fn run_ordered<J: Journal, G: Gate>(
     requires journals { length journals.old ≡ 17 }
     requires empty { All (λ j. J.items j ≡ []) journals.old }
     requires turns { turns ≤ 10000000 }
+    ensures journals { length journals.new ≡ 17 }
     ensures script { world.new.script ≡ world.old.script }
     ensures first { AreFirst world.old.script [] world.new.run.steps }
     ensures failures { AreFailuresFew world.new.run.steps (map (λ j. shelf (J.items j) (J.fault_count j)) journals.old) (map (λ j. shelf (J.items j) (J.fault_count j)) journals.new) }

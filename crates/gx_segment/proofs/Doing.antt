@@ -73,7 +73,7 @@ module _ (o : Order) (s : Seg) (g : Gxid) (fails : Bool) where
       let makes = turn-makes o s g fails in
       let m : HasMoved held held' g made taken = subst (λ (c : Change). HasMoved held held' g c taken) same moved in
       subst (HasDone tables held' horizon done) (sym (above alive)) (record {
-        held = IsHeld-moved tables held held' s g made taken (turn_of o s g fails (local_of s g)) is m makes (follows-change_of o s.node g (kept_of s g) fails (local_of s g));
+        held = IsHeld-moved tables held held' s g made taken (turn_of o s g fails (local_of s g)) is alive m makes (follows-change_of o s.node g (kept_of s g) fails (local_of s g));
         horizon = e ∙ sym (ap (λ (x : Seg). x.horizon) makes.others);
         marks = ap (λ (x : Done). x.marks) d ∙ ap marks_in m.mark ∙ sym makes.marks;
         outs = ap (λ (x : Done). to_coordinator x.answer) d ∙ out-answer_of g taken.reply ∙ ap (outs_in g) m.reply ∙ sym makes.outs;

@@ -1,5 +1,5 @@
 -- A step, from what its event came to and what was sent.
-use Rattle.std.proofs.Common.{Global, ◌≡◌, ℕ, ◌+◌, true, false, List, ◌++◌, length, sym, ap, ◌∙◌, subst}
+use Rattle.std.proofs.Common.{Global, ◌≡◌, ◌≤◌, ℕ, ◌+◌, true, false, List, ◌++◌, length, sym, ap, ◌∙◌, subst}
 use Rattle.std.specs.declared.sync.Arc.{Arc}
 use Rattle.gx_ids.specs.declared.ids.Gxid.{Gxid}
 use Rattle.gx_tree.specs.declared.schema.Schema.{Schema}
@@ -28,6 +28,7 @@ held-sends tables held s sent clock is = record {
   horizon = is.horizon;
   locals = is.locals;
   kept = is.kept;
+  dropped = is.dropped;
   holders = is.holders;
   writes = is.writes;
   wrote = is.wrote;
@@ -78,6 +79,7 @@ HasStepped-made old new s event before after faults faults' out script e is gone
         clock = g.clock;
       };
       script = same;
+      rises = subst (λ (h : Gxid). h.0 ≤ new.horizon.0) (sym is.horizon) (subst (λ (h : Gxid). s.horizon.0 ≤ h.0) (sym g.horizon) keeps.rises);
       usable = usable;
       marks = g.marks;
       outs = g.outs;

@@ -1,5 +1,6 @@
--- What no message changes of a segment: its node, and how many messages it has sent before.
-use Rattle.std.proofs.Common.{◌≡◌, Bool, true, false, if◌then◌else◌, Option, Some, None, List, [], ◌∷◌, refl, ap, eqb}
+-- What no message changes of a segment: its node, and how many messages it has sent before; and its horizon, which never falls.
+use Rattle.std.proofs.Common.{◌≡◌, ◌≤◌, Bool, true, false, if◌then◌else◌, Option, Some, None, List, [], ◌∷◌, refl, sym, ap, subst, eqb, arith}
+use Rattle.std.proofs.lemmas.Bool.Decides.{nat_tests}
 use Rattle.std.specs.Prelude.{fold, nat_lt}
 use Rattle.gx_ids.specs.declared.ids.Cid.{Cid}
 use Rattle.gx_ids.specs.declared.ids.Gxid.{Gxid}
@@ -30,9 +31,13 @@ use Rattle.gx_rules.specs.Slices.{Moved, first_fault, inserts_row, runs_slice, s
 pub record Keeps (s now : Seg) : Type 0 where
   pub node : now.node ≡ s.node
   pub sent : now.sent ≡ s.sent
+  pub rises : s.horizon.0 ≤ now.horizon.0
+
+same-rises : (s now : Seg) → now.horizon ≡ s.horizon → s.horizon.0 ≤ now.horizon.0
+same-rises s now e = subst (λ (h : Gxid). s.horizon.0 ≤ h.0) (sym e) (omega arith)
 
 itself : (s : Seg) → Keeps s s
-itself s = record { node = refl; sent = refl }
+itself s = record { node = refl; sent = refl; rises = same-rises s s refl }
 
 kept-keeps : (s : Seg) (g : Gxid) (answer : Option Reply) → Keeps s (tells_kept s g answer).seg
 kept-keeps s g None = itself s
@@ -68,13 +73,22 @@ pub horizon-runs_slice : (s : Seg) (g : Gxid) (c : Cid) (snapshot : Option Snaps
 horizon-runs_slice s g c snapshot sl = (slice-stands s g c snapshot sl).horizon
 
 -- EXEC
+raised-rises : (s : Seg) (h : Gxid) → s.horizon.0 ≤ (raised s h).horizon.0
+raised-rises s h = by_test (is_below h s.horizon) refl
+  where
+    by_test : (b : Bool) → is_below h s.horizon ≡ b → s.horizon.0 ≤ (let z : Gxid = if b then h else s.horizon in z).0
+    by_test true e = grind (arith, nat_tests)
+    by_test false e = omega arith
+
 module _ (s : Seg) (g : Gxid) (c : Cid) (snapshot : Option Snapshot) (h : Gxid) (sl : Slice) (l : Local) where
   repeats-keeps : (b : Bool) → Keeps s (if b then tells_kept s g l.answer else stays s).seg
   repeats-keeps true = kept-keeps s g l.answer
   repeats-keeps false = itself s
 
   takes-keeps : (b : Bool) → Keeps s (if b then runs_slice (raised s h) g c snapshot sl else repeats s g c l).seg
-  takes-keeps true = let stand = slice-stands (raised s h) g c snapshot sl in record { node = stand.node; sent = stand.sent }
+  takes-keeps true =
+      let stand = slice-stands (raised s h) g c snapshot sl in
+      record { node = stand.node; sent = stand.sent; rises = subst (λ (x : Gxid). s.horizon.0 ≤ x.0) (sym stand.horizon) (raised-rises s h) }
   takes-keeps false = repeats-keeps (eqb c.0 l.last)
 
   exec-keeps : (p : Phase) → Keeps s (on_exec s g c snapshot h sl l p).seg
@@ -97,7 +111,11 @@ below-keeps s turn false k = k
 order-keeps : (o : Order) (s : Seg) (g : Gxid) (fails : Bool) → Keeps s (unless_below s g (turn_of o s g fails (local_of s g))).seg
 order-keeps o s g fails =
     let makes = turn-makes o s g fails in
-    below-keeps s (turn_of o s g fails (local_of s g)) (is_below s.horizon g) (record { node = ap (λ (x : Seg). x.node) makes.others; sent = ap (λ (x : Seg). x.sent) makes.others })
+    below-keeps s (turn_of o s g fails (local_of s g)) (is_below s.horizon g) (record {
+      node = ap (λ (x : Seg). x.node) makes.others;
+      sent = ap (λ (x : Seg). x.sent) makes.others;
+      rises = same-rises s (turn_of o s g fails (local_of s g)).seg (ap (λ (x : Seg). x.horizon) makes.others);
+    })
 
 message-keeps : (script : Script) (s : Seg) (fails : Bool) (m : Message) → Keeps s (on_message script s fails m).seg
 message-keeps script s fails (message.Exec g c level snapshot h sl) =

@@ -1,5 +1,5 @@
 -- What is held after an order was taken.
-use Rattle.std.proofs.Common.{◌≡◌, ℕ, ◌≤◌, Bool, true, false, if◌then◌else◌, Option, Some, None, List, map, refl, sym, ap, ◌∙◌, subst, eqb, arith}
+use Rattle.std.proofs.Common.{◌≡◌, ℕ, ◌<◌, ◌≤◌, Bool, true, false, if◌then◌else◌, Option, Some, None, List, map, refl, sym, ap, ◌∙◌, subst, eqb, arith}
 use Rattle.std.proofs.lemmas.Bool.Decides.{nat_tests}
 use Rattle.std.specs.BTreeSet.{contains}
 use Rattle.std.specs.Prelude.{◌&&◌, not, nat_lt, is_some, option_map, filter, All, IsTrue}
@@ -19,7 +19,7 @@ use Rattle.gx_visible.specs.Counts.{is_committed}
 use Rattle.gx_xidmap.specs.declared.status.LocalStatus.{LocalStatus}
 use Rattle.gx_segment.specs.Moves.{HasMoved, status_in}
 use Rattle.gx_segment.proofs.Following.{Follows}
-use Rattle.gx_segment.proofs.Gxids.{apart, same_gxid}
+use Rattle.gx_segment.proofs.Gxids.{apart, below, same_gxid}
 
 still_there : (status : LocalStatus) (old : Option LocalStatus) → is_some (option_map (λ _. status) old) ≡ is_some old
 still_there status None = refl
@@ -43,7 +43,7 @@ left : (ended was : Bool) (n m : ℕ) → m ≡ n → (ended ≡ false → was �
 left true was n m e f = grind (arith, nat_tests)
 left false was n m e f = let w : was ≡ false = f refl in grind (arith, nat_tests)
 
-module _ (tables : List Schema) (held held' : Held) (s : Seg) (g : Gxid) (change : Change) (taken : Taken) (turn : SegTurn) (was : IsHeld tables held s) (moved : HasMoved held held' g change taken) (makes : Makes s g turn change) where
+module _ (tables : List Schema) (held held' : Held) (s : Seg) (g : Gxid) (change : Change) (taken : Taken) (turn : SegTurn) (was : IsHeld tables held s) (alive : s.horizon.0 ≤ g.0) (moved : HasMoved held held' g change taken) (makes : Makes s g turn change) where
   abbrev now : Seg
   now = turn.seg
 
@@ -62,9 +62,12 @@ module _ (tables : List Schema) (held held' : Held) (s : Seg) (g : Gxid) (change
   others : (h : Gxid) → eqb h.0 g.0 ≡ false → now.locals h.0 ≡ s.locals h.0
   others h e = makes.locals h.0 ∙ ap (λ (b : Bool). if b then change.now else s.locals h.0) e
 
+  dropped : (h : Gxid) → h.0 < s.horizon.0 → entry_at held' h ≡ None
+  dropped h under = moved.entries h (below g h s.horizon under alive) ∙ was.dropped h under
+
   locals-moved : (h : Gxid) → s.horizon.0 ≤ h.0 → (b : Bool) → eqb h.0 g.0 ≡ b → local_in (entry_at held' h) ≡ now.locals h.0
   locals-moved h up true e = subst (λ (x : Gxid). local_in (entry_at held' x) ≡ change.now) (same_gxid g h e) moved.local ∙ sym (its h e)
-  locals-moved h up false e = moved.locals h (apart g h e) ∙ was.locals h up ∙ sym (others h e)
+  locals-moved h up false e = ap local_in (moved.entries h (apart g h e)) ∙ was.locals h up ∙ sym (others h e)
 
   wrote-moved : (h : Gxid) (b : Bool) → eqb h.0 g.0 ≡ b → is_some (status_of held'.store h) ≡ is_some (status_of held.store h)
   wrote-moved h true e =
@@ -104,6 +107,7 @@ module _ (tables : List Schema) (held held' : Held) (s : Seg) (g : Gxid) (change
     horizon = moved.horizon ∙ was.horizon ∙ sym horizon;
     locals = λ h up. locals-moved h (high h up) (eqb h.0 g.0) refl;
     kept = λ h up. moved.rows h ∙ was.kept h (high h up) ∙ ap (λ (vs : List Version). last_images (filter (λ v. is_same_gxid v.gxid h) vs)) (sym versions);
+    dropped = λ h under. dropped h (subst (λ (x : Gxid). h.0 < x.0) horizon under);
     holders = λ h. holders-moved follows h (eqb h.0 g.0) refl;
     writes = λ table rid.
         ap (λ ts. kept_at ts table rid) moved.tables ∙ was.writes table rid ∙ ap (λ (vs : List Version). map write_of (filter (is_of_row table rid) vs)) (sym versions);

@@ -53,7 +53,7 @@ module _ (old : Held) (n o : BTreeMap Gxid Entry) (store : Store) (holders : BTr
         status = set ∙ ap (λ (s : LocalStatus). option_map (λ _. s) (status_of old.store g)) (status_is ∙ ap status_in phase);
         statuses = others;
         local = ap local_in (there old.entries n o g e' away back) ∙ now;
-        locals = λ h apart. ap local_in (elsewhere old.entries n o g e' away back h apart);
+        entries = elsewhere old.entries n o g e' away back;
         rows = λ h. rows-stay old.entries n o g e' away back (kept' ∙ kept) h (eqb h.0 g.0) refl;
         holders = λ h. left h ∙ ap (λ (p : rule.Phase). if has_ended p && eqb h.0 g.0 then false else contains gxid_cmp old.holders h) phase;
         mark = does.mark ∙ ap (λ (c : Change). c.mark) same;

@@ -35,7 +35,7 @@ pub record HasMoved (old new : Held) (g : Gxid) (change : Change) (taken : Taken
   pub status : status_of new.store g ≡ option_map (λ _. status_in change.now.phase) (status_of old.store g)
   pub statuses : (h : Gxid) → h.0 ≢ g.0 → status_of new.store h ≡ status_of old.store h
   pub local : local_in (entry_at new g) ≡ change.now
-  pub locals : (h : Gxid) → h.0 ≢ g.0 → local_in (entry_at new h) ≡ local_in (entry_at old h)
+  pub entries : (h : Gxid) → h.0 ≢ g.0 → entry_at new h ≡ entry_at old h
   pub rows : (h : Gxid) → rows_in (entry_at new h) ≡ rows_in (entry_at old h)
   pub holders : (h : Gxid) → contains gxid_cmp new.holders h ≡ (if has_ended change.now.phase && (h.0 == g.0) then false else contains gxid_cmp old.holders h)
   pub mark : taken.mark ≡ change.mark

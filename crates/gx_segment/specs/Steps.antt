@@ -1,5 +1,5 @@
 -- A segment against its rule, and what a step of it is.
-use Rattle.std.specs.Prelude.{◌≡◌, ℕ, ◌++◌, Bool, true, false, List, map}
+use Rattle.std.specs.Prelude.{◌≡◌, ◌≤◌, ℕ, ◌++◌, Bool, true, false, List, map}
 use Rattle.gx_ids.specs.declared.ids.Cid.{Cid}
 use Rattle.gx_ids.specs.declared.ids.Gxid.{Gxid}
 use Rattle.gx_msg.specs.ItemBytes.{bytes_of_item}
@@ -30,11 +30,12 @@ abbrev pub no_command : Cid
 no_command = record { 0 = 0 }
 
 -- The step is the rule's, for an append that fails or not: the data, the marks, the messages, the clock and the journal's
--- items. Where it fails, the journal's count rose.
+-- items. Where it fails, the journal's count rose. The horizon doesn't fall.
 pub record HasStepped (old new : Segment) (s : Seg) (event : NodeEvent) (before after : List (List ℕ)) (faults faults' : ℕ) (out : NodeOut) : Type 0 where
   pub fails : Bool
   pub is : IsSegment new (seg_rule old.script.value s event fails).seg
   pub script : new.script ≡ old.script
+  pub rises : old.horizon.0 ≤ new.horizon.0
   pub usable : new.spent ≡ false
   pub marks : out.marks ≡ (seg_rule old.script.value s event fails).marks
   pub outs : out.outs ≡ (seg_rule old.script.value s event fails).outs

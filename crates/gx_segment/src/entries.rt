@@ -1,7 +1,7 @@
 // The transactions by gxid.
-ghost use Rattle.std.specs.Prelude.{◌≡◌, ◌≤◌, Some, None, IfOk, IfSome, OnOk, slice_get};
+ghost use Rattle.std.specs.Prelude.{◌≡◌, Some, None, IfOk, OnOk};
 ghost use Rattle.std.specs.Map.{lookup};
-ghost use Rattle.std.specs.BTreeMap.{Updates, get, keys};
+ghost use Rattle.std.specs.BTreeMap.{Updates, get};
 ghost use Rattle.gx_ids.specs.declared.ids.Gxid.{Gxid};
 ghost use Rattle.gx_dsnap.specs.Gxids.{gxid_cmp};
 ghost use Rattle.gx_phases.specs.Phases.{local_of};
@@ -46,23 +46,4 @@ pub(crate) fn kept_answer(alloc: Global, entries: &Entries, gxid: Gxid) -> Mem<O
         Some(entry) => entry.local.answer.copy(alloc),
         None => Ok(None),
     }
-}
-
-// Takes out the entries below the horizon.
-pub(crate) fn drop_below(entries: &mut Entries, horizon: Gxid)
-    ensures { (g : Gxid) → horizon.0 ≤ g.0 → get gxid_cmp entries.new g ≡ get gxid_cmp entries.old g }
-{
-    while let Some(first) = first_key(entries) {
-        if horizon <= first {
-            return;
-        }
-        entries.pop_first();
-    }
-}
-
-fn first_key(entries: &Entries) -> Option<Gxid>
-    ensures { IfSome result (λ g. slice_get (keys entries.now) 0 ≡ Some g) }
-{
-    let (gxid, _) = entries.first_key_value()?;
-    Some(*gxid)
 }

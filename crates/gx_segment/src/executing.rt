@@ -1,5 +1,5 @@
 // EXEC.
-ghost use Rattle.std.specs.Prelude.{◌≡◌, ◌≤◌, [], false, None, Some, IfOk};
+ghost use Rattle.std.specs.Prelude.{◌≡◌, ◌<◌, ◌≤◌, [], false, None, Some, IfOk};
 ghost use Rattle.std.specs.BTreeMap.{get};
 ghost use Rattle.gx_ids.specs.declared.ids.Gxid.{Gxid};
 ghost use Rattle.gx_dsnap.specs.Gxids.{gxid_cmp};
@@ -15,13 +15,14 @@ ghost use Rattle.gx_segment.specs.Ways.{exec_turn};
 
 use crate::commands::{Way, find_way};
 use crate::done::{Done, answer, nothing, tell};
-use crate::entries::{drop_below, kept_answer};
+use crate::entries::kept_answer;
 use gx_dsnap::Snapshot;
 use gx_ids::{Cid, Gxid, Mem, Node};
-use gx_outside::Gate;
+use gx_outside::{Gate, pass};
 use gx_script::Script;
 use gx_slices::{Held, Ran, run_slice};
 use gx_tree::Slice;
+use gx_xidmap::drop_below;
 use std::alloc::Global;
 
 // Takes a command's part for this segment.
@@ -137,9 +138,9 @@ fn run<G: Gate>(
     ensures quiet { IfOk result (λ done. IsQuiet done (runs_slice (raised was.seg low) gxid cid (Some snapshot) slice)) }
 {
     raise(held, horizon, low);
-    gate.enter(node);
+    let passed = pass(gate, node);
     let tables = script.tables.as_slice();
-    let ran = run_slice(alloc, tables, node, held, gxid, cid, &snapshot, slice)?;
+    let ran = run_slice(alloc, tables, passed, held, gxid, cid, &snapshot, slice)?;
     Ok(done_of(gxid, ran))
 }
 
@@ -155,10 +156,12 @@ fn done_of(gxid: Gxid, ran: Ran) -> Done
 
 // Raises the horizon, where this one is greater. What is below it isn't kept any more.
 fn raise(held: &mut Held, horizon: &mut Gxid, low: Gxid)
-    requires { horizon.old ≡ held.old.store.horizon }
+    requires same { horizon.old ≡ held.old.store.horizon }
+    requires dropped { (g : Gxid) → g.0 < horizon.old.0 → get gxid_cmp held.old.entries g ≡ None }
     ensures horizon { horizon.new ≡ greater horizon.old low }
     ensures store { held.new.store ≡ record held.old.store { horizon = greater held.old.store.horizon low } }
     ensures entries { (g : Gxid) → horizon.new.0 ≤ g.0 → get gxid_cmp held.new.entries g ≡ get gxid_cmp held.old.entries g }
+    ensures dropped { (g : Gxid) → g.0 < horizon.new.0 → get gxid_cmp held.new.entries g ≡ None }
     ensures holders { held.new.holders ≡ held.old.holders }
 {
     held.store.raise_horizon(low);

@@ -1,4 +1,4 @@
-ghost use Rattle.std.specs.Prelude.{◌≡◌, ◌<◌, ◌≤◌, ◌^◌, true, false, None, IfOk, OnErr};
+ghost use Rattle.std.specs.Prelude.{◌≡◌, ◌<◌, ◌≤◌, ◌^◌, true, false, None, IfOk, OnErr, IsErr};
 ghost use Rattle.gx_meaning.specs.Answer.{AreRising};
 ghost use Rattle.gx_rules.specs.Machine.{seg_can};
 ghost use Rattle.gx_rules.specs.Segments.{Seg, new_segment};
@@ -59,7 +59,7 @@ impl Segment {
 
     /// Does one event, a delivery, by the segment's rule. What the envelope holds is tested here; what doesn't fit changes
     /// nothing but the clock. The journal takes the items of PREPARE, COMMIT and COMMIT PREPARED before they are answered.
-    /// The gate is entered at the start of each slice.
+    /// Each slice enters the gate first, at this node.
     pub fn step<J: Journal, G: Gate>(
         &mut self,
         event: NodeEvent,
@@ -75,7 +75,8 @@ impl Segment {
         ensures stepped { IfOk result (λ out. HasStepped self.old self.new s event (J.items journal.old) (J.items journal.new) (J.fault_count journal.old) (J.fault_count journal.new) out) }
         ensures later { J.fault_count journal.old ≤ J.fault_count journal.new }
         ensures spent { OnErr result (self.new.spent ≡ true) }
-        ensures again { self.old.spent ≡ true → OnErr result (J.items journal.new ≡ J.items journal.old) }
+        ensures again { self.old.spent ≡ true → IsErr result }
+        ensures untouched { self.old.spent ≡ true → J.items journal.new ≡ J.items journal.old }
     {
         if self.spent {
             return Err(OutOfMemory);

@@ -1,6 +1,6 @@
 -- What is held, with a transaction's entry taken out, and put back.
-use Rattle.std.proofs.Common.{◌≡◌, ◌≢◌, Bool, true, false, if◌then◌else◌, ◌&&◌, not, eqb, List, Some, refl, sym, ap, ◌∙◌, subst}
-use Rattle.std.specs.Prelude.{◌≤◌, nat_lt, is_some, filter, map, All, IsTrue}
+use Rattle.std.proofs.Common.{◌≡◌, ◌≢◌, Bool, true, false, ℕ, if◌then◌else◌, ◌&&◌, not, eqb, List, None, Some, refl, sym, ap, ◌∙◌, subst, arith}
+use Rattle.std.specs.Prelude.{◌<◌, ◌≤◌, nat_lt, is_some, filter, map, All, IsTrue}
 use Rattle.std.specs.BTreeSet.{contains}
 use Rattle.gx_ids.specs.declared.ids.Cid.{Cid}
 use Rattle.gx_ids.specs.declared.ids.Gxid.{Gxid}
@@ -46,11 +46,14 @@ open_not_ended Committed e = absurd (cc)
 open_not_ended (Forgotten c) e = absurd (cc)
 open_not_ended Aborted e = absurd (cc)
 
+below_other : (n m k : ℕ) → n < k → k ≤ m → n ≢ m
+below_other n m k under alive = λ same. omega (arith, under, alive, same)
+
 and_true : (b : Bool) → (b && true) ≡ b
 and_true true = refl
 and_true false = refl
 
-module _ (tables : List Schema) (old mid new : Held) (before s : Seg) (g : Gxid) (c : Cid) (entry : Entry) (r : Reply) (was : IsHeld tables old before) (is : IsApart before mid.store entry g s) (taken : (h : Gxid) → h.0 ≢ g.0 → entry_at mid h ≡ entry_at old h) (holders : mid.holders ≡ old.holders) (back : IsBack mid new g c (answered entry c r)) where
+module _ (tables : List Schema) (old mid new : Held) (before s : Seg) (g : Gxid) (c : Cid) (entry : Entry) (r : Reply) (was : IsHeld tables old before) (alive : before.horizon.0 ≤ g.0) (is : IsApart before mid.store entry g s) (taken : (h : Gxid) → h.0 ≢ g.0 → entry_at mid h ≡ entry_at old h) (holders : mid.holders ≡ old.holders) (back : IsBack mid new g c (answered entry c r)) where
   abbrev local : rule.Local
   local = record (rule.local_of s g) { last = c.0; answer = Some r }
 
@@ -69,21 +72,26 @@ module _ (tables : List Schema) (old mid new : Held) (before s : Seg) (g : Gxid)
   phase_at h false e = ap (λ (l : rule.Local). l.phase) (other_at h (differ h.0 g.0 e))
 
   low : (h : Gxid) → after.horizon.0 ≤ h.0 → before.horizon.0 ≤ h.0
-  low h alive = subst (λ (k : Gxid). k.0 ≤ h.0) is.horizon alive
+  low h up = subst (λ (k : Gxid). k.0 ≤ h.0) is.horizon up
+
+  dropped : (h : Gxid) → h.0 < before.horizon.0 → entry_at new h ≡ None
+  dropped h under =
+      let other : h.0 ≢ g.0 = below_other h.0 g.0 before.horizon.0 under alive in
+      back.entries h other ∙ taken h other ∙ was.dropped h under
 
   locals : (h : Gxid) → after.horizon.0 ≤ h.0 → (b : Bool) → eqb h.0 g.0 ≡ b → local_in (entry_at new h) ≡ rule.local_of after h
-  locals h alive true e =
+  locals h up true e =
       subst (λ (k : Gxid). local_in (entry_at new k) ≡ rule.local_of after k) (same_gxid g h e)
       (ap local_in back.here ∙ ap (λ (l : rule.Local). let m : rule.Local = record l { last = c.0; answer = Some r } in m) is.local ∙ sym itself_at)
-  locals h alive false e =
+  locals h up false e =
       let other = differ h.0 g.0 e in
-      ap local_in (back.entries h other ∙ taken h other) ∙ was.locals h (low h alive) ∙ sym (is.other_locals h other) ∙ sym (other_at h other)
+      ap local_in (back.entries h other ∙ taken h other) ∙ was.locals h (low h up) ∙ sym (is.other_locals h other) ∙ sym (other_at h other)
 
   rows : (h : Gxid) → after.horizon.0 ≤ h.0 → (b : Bool) → eqb h.0 g.0 ≡ b → rows_in (entry_at new h) ≡ kept_of after h
-  rows h alive true e = subst (λ (k : Gxid). rows_in (entry_at new k) ≡ kept_of after k) (same_gxid g h e) (ap rows_in back.here ∙ is.kept)
-  rows h alive false e =
+  rows h up true e = subst (λ (k : Gxid). rows_in (entry_at new k) ≡ kept_of after k) (same_gxid g h e) (ap rows_in back.here ∙ is.kept)
+  rows h up false e =
       let other = differ h.0 g.0 e in
-      ap rows_in (back.entries h other ∙ taken h other) ∙ was.kept h (low h alive) ∙ sym (is.other_rows h other)
+      ap rows_in (back.entries h other ∙ taken h other) ∙ was.kept h (low h up) ∙ sym (is.other_rows h other)
 
   holds_itself : holds_locks local ≡ nat_lt 0 c.0
   holds_itself = ap (λ (b : Bool). nat_lt 0 c.0 && not b) (open_not_ended (rule.local_of s g).phase is.open_here) ∙ and_true (nat_lt 0 c.0)
@@ -102,8 +110,9 @@ module _ (tables : List Schema) (old mid new : Held) (before s : Seg) (g : Gxid)
   pub IsHeld-back : All (λ v. IsTrue (is_right_version tables v)) s.versions → IsHeld tables new after
   IsHeld-back typed = record {
     horizon = ap (λ (store : Store). store.horizon) back.store ∙ is.stored.horizon;
-    locals = λ h alive. locals h alive (eqb h.0 g.0) refl;
-    kept = λ h alive. rows h alive (eqb h.0 g.0) refl;
+    locals = λ h up. locals h up (eqb h.0 g.0) refl;
+    kept = λ h up. rows h up (eqb h.0 g.0) refl;
+    dropped = λ h under. dropped h (subst (λ (k : Gxid). h.0 < k.0) is.horizon under);
     holders = λ h. holds h (eqb h.0 g.0) refl;
     writes = λ t rid. subst (λ (store : Store). writes_of store t rid ≡ map write_of (filter (is_of_row t rid) s.versions)) (sym back.store) (is.stored.writes t rid);
     wrote = λ h. subst (λ (store : Store). is_some (status_of store h) ≡ has_version s h) (sym back.store) (is.stored.wrote h);

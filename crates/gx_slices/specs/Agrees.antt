@@ -1,6 +1,6 @@
 -- What a segment holds, against the data of its rule. Of transactions below the horizon only the versions and who has
--- committed are asked for; their records may have been dropped.
-use Rattle.std.specs.Prelude.{◌≡◌, ◌≤◌, ◌==◌, Bool, true, false, ◌&&◌, is_some, List, [], filter, map, All, IsTrue, slice_get, Some, None}
+-- committed are kept; their records are dropped.
+use Rattle.std.specs.Prelude.{◌≡◌, ◌<◌, ◌≤◌, ◌==◌, Bool, true, false, ◌&&◌, is_some, List, [], filter, map, All, IsTrue, slice_get, Some, None}
 use Rattle.std.specs.declared.option.Option.{Option}
 use Rattle.std.specs.List.{list_any}
 use Rattle.std.specs.Map.{lookup}
@@ -61,6 +61,7 @@ pub record IsHeld (tables : List Schema) (held : Held) (s : Seg) : Type 0 where
   pub horizon : held.store.horizon ≡ s.horizon
   pub locals : (g : Gxid) → s.horizon.0 ≤ g.0 → local_in (entry_at held g) ≡ rule.local_of s g
   pub kept : (g : Gxid) → s.horizon.0 ≤ g.0 → rows_in (entry_at held g) ≡ kept_of s g
+  pub dropped : (g : Gxid) → g.0 < s.horizon.0 → entry_at held g ≡ None
   pub holders : (g : Gxid) → contains gxid_cmp held.holders g ≡ holds_locks (rule.local_of s g)
   pub writes : (table : Table) (rid : Rid) → writes_of held.store table rid ≡ map write_of (filter (is_of_row table rid) s.versions)
   pub wrote : (g : Gxid) → is_some (status_of held.store g) ≡ has_version s g

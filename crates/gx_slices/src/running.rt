@@ -8,8 +8,9 @@ use crate::held::Held;
 use crate::inserting::insert;
 use crate::selecting::select;
 use gx_dsnap::Snapshot;
-use gx_ids::{Cid, Gxid, Mem, Node, Seq};
+use gx_ids::{Cid, Gxid, Mem, Seq};
 use gx_msg::Reply;
+use gx_outside::Passed;
 use gx_store::Mark;
 use gx_tree::{Schema, Slice};
 use std::alloc::Global;
@@ -22,12 +23,12 @@ pub struct Ran {
 }
 
 /// Runs a command's slice for a transaction that reads or writes here, and keeps its answer. A SELECT answers the rows that
-/// the snapshot shows and on which its condition is true, or FAILED for the first fault; an INSERT adds its rows. After want
-/// of memory what is held is spent.
+/// the snapshot shows and on which its condition is true, or FAILED for the first fault; an INSERT adds its rows. The slice has
+/// entered the gate at this node. After want of memory what is held is spent.
 pub fn run_slice(
     alloc: Global,
     tables: &[Schema],
-    node: Node,
+    passed: Passed,
     held: &mut Held,
     gxid: Gxid,
     cid: Cid,
@@ -37,12 +38,12 @@ pub fn run_slice(
     ghost s: { Seg }
     requires held { IsHeld tables.now held.old s }
     requires may { MayRun tables.now s gxid cid slice }
-    requires node { node ≡ s.node }
+    requires passed { passed ≡ s.node }
     ensures { IfOk result (λ ran. HasRun tables.now held.new gxid ran (runs_slice s gxid cid (Some snapshot.now) slice)) }
 {
     match slice {
         Slice::Select(query) => select(alloc, tables, held, gxid, cid, snapshot, query),
-        Slice::Insert(table, rows) => { insert(alloc, tables, node, held, gxid, cid, table, rows) }
+        Slice::Insert(table, rows) => { insert(alloc, tables, passed.node(), held, gxid, cid, table, rows) }
         _ => unreachable!(),
     }
 }

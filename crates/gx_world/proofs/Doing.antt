@@ -1,8 +1,11 @@
 -- An event that its own run admits is done by a network.
-use Rattle.std.proofs.Common.{◌≡◌, ◌<◌, ◌≤◌, ◌^◌, List, [], ◌∷◌, ◌++◌, Some, Bool, true, false, refl, sym, subst, ap, ◌∙◌, length}
+use Rattle.std.proofs.Common.{◌≡◌, ◌<◌, ◌≤◌, ◌^◌, List, [], ◌∷◌, ◌++◌, Some, Bool, true, false, refl, sym, subst, ap, ◌∙◌, length, cond, arith}
+use Rattle.std.specs.Prelude.{◌&&◌}
 use Rattle.gx_ids.specs.declared.ids.Node.{Node}
 use Rattle.gx_script.specs.declared.Script.{Script}
 use Rattle.gx_store.specs.Language.{IsScript}
+use Rattle.gx_outside.specs.Causes.{Rose}
+use Rattle.gx_store.specs.Journals.{is_same_node}
 use Rattle.gx_store.specs.declared.event.Event.{Event}
 use Rattle.gx_store.specs.declared.node.NodeEvent.{NodeEvent}
 use Rattle.gx_store.specs.declared.run.Run.{Run}
@@ -11,16 +14,18 @@ use Rattle.gx_rules.specs.Machine as machine
 use Rattle.gx_rules.specs.Machine.{at_node, can, can_here, does, happens, new_world, node_of, world_of}
 use Rattle.gx_rules.specs.Sending.{heard_in}
 use Rattle.gx_law_order.proofs.Ordered.{Well, world_well}
+use Rattle.gx_law_runs.specs.Failures.{failures_in}
 use Rattle.gx_law_runs.specs.Reached.{HasRoomAfter, IsReached}
 use Rattle.gx_law_runs.specs.Replays.{AreReplayed, here_at, is_admitted, letters_after, world_behind}
 use Rattle.gx_law_runs.proofs.Leading.{after-last}
+use Rattle.gx_law_runs.proofs.Steps.{behind-few}
 use Rattle.gx_law_runs.proofs.Reaching.{by-events, event-reached, replayed, room-after}
 use Rattle.gx_law_runs.proofs.Replaying.{at-here, world-replayed}
 use Rattle.gx_law_runs.proofs.Telling.{can-told}
 use Rattle.gx_world.specs.declared.network.Network.{Network}
 use Rattle.gx_world.specs.Networks.{HasDone, HasMoved, HasRoom, IsNetwork, Stands}
 use Rattle.gx_world.specs.Turns.{IsFit, IsNext}
-use Rattle.gx_world.specs.Worlds.{Shelf}
+use Rattle.gx_world.specs.Worlds.{HasTaken, Shelf}
 use Rattle.gx_world.proofs.Alike.{AreAlike, does-alike, does-steps, replayed-alike, stands-alike, step-event, step_of, turned-round}
 use Rattle.gx_world.proofs.Events.{admitted-here, few-here, happens-here, heard-within, next-here, taken}
 use Rattle.gx_world.proofs.Room.{below, network-room}
@@ -81,6 +86,16 @@ module _ (script : Script) (steps : List Step) (some : 1 ≤ script.segments) (i
         subst (λ x. IsReached x new.run.steps) (sym s.of)
         (subst (IsReached script) (ap (λ (x : machine.World). x.steps) (happens-here script v e here there admitted fails) ∙ ap (λ (x : Run). x.steps) (sym s.run)) (event-reached script steps is e fails))
 
+-- a failure is told only where the count rose
+rose : (script : Script) (steps : List Step) → 1 ≤ script.segments → IsReached script steps → (event : Event) (fails : Bool) (step : Step) (node : Node) (b a : Shelf) → (happens script (world_behind script steps) event fails).steps ≡ steps ++ step ∷ []
+    → HasTaken script (world_behind script steps) event fails node b a → 0 < failures_in node step.marks → Rose b.faults a.faults
+rose script steps some reached event fails step node b a leads taken told = by (is_same_node (node_of event) node) fails refl refl (behind-few script steps event fails step node some reached leads)
+  where
+    by : (x y : Bool) → is_same_node (node_of event) node ≡ x → fails ≡ y → failures_in node step.marks ≤ cond (x && y) 1 0 → Rose b.faults a.faults
+    by true true same f bound = taken.caused same f
+    by true false same f bound = absurd (omega (arith, told, bound))
+    by false y same f bound = absurd (omega (arith, told, bound))
+
 module _ (old : Network) (is : IsNetwork old) (usable : old.spent ≡ false) (e : Event) (here : NodeEvent) (there : at_node (world_behind old.script.value old.run.steps) e ≡ Some here) (admitted : is_admitted old.script.value old.run.steps e ≡ true) (at : Node) (same : at ≡ node_of e) where
   abbrev now : machine.World
   now = world_behind old.script.value old.run.steps
@@ -103,6 +118,9 @@ module _ (old : Network) (is : IsNetwork old) (usable : old.spent ≡ false) (e 
   pub room-at : length old.run.steps < 2 ^ 40 → HasRoom old
   room-at few = network-room old.script.value old.run.steps old (is.stands usable) room few
 
+  leads : (new : Network) (before after : List Shelf) (m : HasMoved old.script.value now e (node_of e) here new before after) → (happens old.script.value now e m.fails).steps ≡ old.run.steps ++ step_of old.script.value now e (node_of e) m.fails here ∷ []
+  leads new before after m = ap (λ (x : machine.World). x.steps) (happens-here old.script.value now e here there admitted m.fails) ∙ does-steps old.script.value now e (node_of e) m.fails here
+
   done : (new : Network) (before after : List Shelf) → HasMoved old.script.value now e (node_of e) here new before after → HasDone old new e before after
   done new before after m =
       record {
@@ -120,6 +138,8 @@ module _ (old : Network) (is : IsNetwork old) (usable : old.spent ≡ false) (e 
           by_rule = ap (λ (x : Run). x.steps) m.is.run ∙ ap (λ (x : machine.World). x.steps) (sym (happens-here old.script.value now e here there admitted m.fails));
           count = ap length m.journals ∙ length-set before (node_of e).0 m.now;
           journals = taken old.script.value now e here there admitted new before after m;
+          failed = λ node b a was now'. rose old.script.value old.run.steps is.language.some_segments is.reached e m.fails (step_of old.script.value now e (node_of e) m.fails here) node b a (leads new before after m)
+              (taken old.script.value now e here there admitted new before after m node b a was now');
         };
       }
 

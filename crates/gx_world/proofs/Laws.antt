@@ -8,6 +8,8 @@ use Rattle.gx_store.specs.Runs.{IsLegalHistory}
 use Rattle.gx_rules.specs.System.{IsSystemRun}
 use Rattle.gx_law_order.proofs.Follows.{world_follows}
 use Rattle.gx_law_order.proofs.Ordered.{world_well}
+use Rattle.gx_law_commit.specs.Told.{DoStepsTell}
+use Rattle.gx_law_commit.proofs.Always.{world-holds}
 use Rattle.gx_law_commit.proofs.Whole.{world-follows}
 use Rattle.gx_store.specs.Whole.{AreInsertsWhole}
 use Rattle.gx_law_answers.proofs.Join.{legal}
@@ -40,6 +42,9 @@ module _ (script : Script) (network : Network) (is : IsNetwork network) (of : ne
 
   pub run-follows : DoStepsFollow script [] network.run.steps
   run-follows = by-events script network.run.steps reached (DoStepsFollow script []) (world-follows script language.some_segments)
+
+  pub run-tells : DoStepsTell [] network.run.steps
+  run-tells = by-events script network.run.steps reached (DoStepsTell []) (λ es. (world-holds script language.some_segments es).tells)
 
   pub run-system : IsSystemRun script network.run
   run-system = by-events script network.run.steps reached (λ ss. IsSystemRun script (record { steps = ss })) (world_follows script language.some_segments)

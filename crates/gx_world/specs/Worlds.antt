@@ -1,5 +1,5 @@
 -- What a world is, to those who call it, and what a step of it is.
-use Rattle.std.specs.Prelude.{◌≡◌, ◌≤◌, ℕ, ◌++◌, ◌∷◌, [], Bool, true, false, List, length, map, slice_get, Some}
+use Rattle.std.specs.Prelude.{◌≡◌, ◌<◌, ◌≤◌, ℕ, ◌++◌, ◌∷◌, [], Bool, true, false, List, length, map, slice_get, Some}
 use Rattle.gx_ids.specs.declared.ids.Node.{Node}
 use Rattle.gx_msg.specs.ItemBytes.{bytes_of_item}
 use Rattle.gx_outside.specs.Causes.{Rose}
@@ -11,6 +11,7 @@ use Rattle.gx_store.specs.Journals.{is_same_node}
 use Rattle.gx_rules.specs.Machine as machine
 use Rattle.gx_rules.specs.Machine.{happens, node_of}
 use Rattle.gx_law_order.specs.Journals.{takes}
+use Rattle.gx_law_runs.specs.Failures.{failures_in}
 use Rattle.gx_law_runs.specs.Replays.{world_behind}
 
 -- it is spent once memory has run out in a step
@@ -39,7 +40,8 @@ pub record AreLater (before after : List Shelf) : Type 0 where
   pub count : length after ≡ length before
   pub each : (k : ℕ) (b a : Shelf) → slice_get before k ≡ Some b → slice_get after k ≡ Some a → b.faults ≤ a.faults
 
--- one more step was done, with this event, by the rule of its node, for an append that fails or not; the journals took what it adds
+-- one more step was done, with this event, by the rule of its node, for an append that fails or not; the journals took what it adds, and the step
+-- has a JournalFailed mark of a node only where the count of that journal rose
 pub record HasStepped (script : Script) (old new : List Step) (event : Event) (before after : List Shelf) : Type 0 where
   pub step : Step
   pub of : step.event ≡ event
@@ -48,3 +50,4 @@ pub record HasStepped (script : Script) (old new : List Step) (event : Event) (b
   pub by_rule : new ≡ (happens script (world_behind script old) event fails).steps
   pub count : length after ≡ length before
   pub journals : (node : Node) (b a : Shelf) → slice_get before node.0 ≡ Some b → slice_get after node.0 ≡ Some a → HasTaken script (world_behind script old) event fails node b a
+  pub failed : (node : Node) (b a : Shelf) → slice_get before node.0 ≡ Some b → slice_get after node.0 ≡ Some a → 0 < failures_in node step.marks → Rose b.faults a.faults

@@ -4,7 +4,7 @@ use Rattle.gx_script.specs.declared.Script.{Script}
 use Rattle.gx_drive.specs.Ordered.{AreFirst}
 use Rattle.gx.specs.Top.{is_over, run_in}
 use Rattle.gx_store.specs.declared.run.Run.{Run}
-use Rattle.gx.proofs.Kept.{kept-back}
+use Rattle.gx.proofs.Kept.{count-back, kept-back}
 use Rattle.gx.proofs.Runs.{run-in}
 use Rattle.gx.proofs.running.run_script.Goals as goal
 
@@ -23,3 +23,11 @@ pub returns-in-Err-run_ordered-clause-kept : goal.returns-in-Err-run_ordered-cla
 returns-in-Err-run_ordered-clause-kept g c =
     kept-back (λ j. shelf (g.J.Journal.items j) (g.J.Journal.fault_count j)) c.args.journals.now.items c.deref_mut.result.now c.run_ordered.new.journals _ c.args.journals.now.len c.run_ordered.new.world.run.steps c.into_run.result false
     c.deref_mut.ensures.value (omega (arith, c.deref_mut.ensures.len, c.run_ordered.auto.journals)) (ap (λ (r : Run). r.steps) c.into_run.ensures.value) c.in-Err-run_ordered.ensures.failures (λ e. absurd (cc))
+
+pub returns-in-Ok-run_ordered-clause-count : goal.returns-in-Ok-run_ordered-clause-count
+returns-in-Ok-run_ordered-clause-count g c =
+    count-back c.run_ordered.new.journals _ c.args.journals.now.len (omega (arith, c.deref_mut.ensures.len, c.run_ordered.auto.journals)) ∙ omega (arith, c.deref_mut.ensures.len, c.run_ordered.auto.journals, c.in-Ok-run_ordered.ensures.journals)
+
+pub returns-in-Err-run_ordered-clause-count : goal.returns-in-Err-run_ordered-clause-count
+returns-in-Err-run_ordered-clause-count g c =
+    count-back c.run_ordered.new.journals _ c.args.journals.now.len (omega (arith, c.deref_mut.ensures.len, c.run_ordered.auto.journals)) ∙ omega (arith, c.deref_mut.ensures.len, c.run_ordered.auto.journals, c.in-Err-run_ordered.ensures.journals)
