@@ -43,7 +43,9 @@ pub fn run_slice(
 {
     match slice {
         Slice::Select(query) => select(alloc, tables, held, gxid, cid, snapshot, query),
-        Slice::Insert(table, rows) => { insert(alloc, tables, passed.node(), held, gxid, cid, table, rows) }
+        Slice::Insert(table, rows) => {
+            insert(alloc, tables, passed.node(), held, gxid, cid, table, rows)
+        }
         _ => unreachable!(),
     }
 }
