@@ -1,15 +1,11 @@
 -- How often a session stands in the lists of its group.
-use Rattle.std.proofs.Common.{◌≡◌, ◌≢◌, ℕ, zero, suc, ◌+◌, ◌≤◌, ◌<◌, Bool, true, false, List, [], ◌∷◌, ◌++◌, length, drop, arith, eqb, refl, get_or, set, sym, ◌∙◌, ap, subst, ⊎_elim}
-use Rattle.std.proofs.lemmas.Bool.{cases_eq}
+use Rattle.std.proofs.Common.{◌≡◌, ℕ, ◌+◌, ◌<◌, Bool, true, false, List, [], ◌∷◌, ◌++◌, drop, arith, refl, sym, ◌∙◌, ap}
 use Rattle.std.proofs.lemmas.Bool.Decides.{nat_tests}
-use Rattle.std.specs.Prelude.{All, Option, None, Some, slice_get, map, if◌then◌else◌}
 use Rattle.gx_ids.specs.declared.ids.SessionId.{SessionId}
-use Rattle.gx_groups.specs.declared.seat.Seat.{Seat}
-use Rattle.gx_groups.specs.declared.seat.Seat.TheVariants.{Grouped, Alone}
 use Rattle.gx_groups.specs.declared.seat.Standing.{Standing}
 use Rattle.gx_groups.specs.declared.seat.Standing.TheVariants.{Idle, Asking, Holding}
-use Rattle.gx_groups.specs.Slots.{Slots, fresh, has, is, is_first, lets, without, asked, taken, given}
-use Rattle.gx_groups.proofs.Sessions.{first-asker, same-session}
+use Rattle.gx_groups.specs.Slots.{Slots, has, is, lets, without, asked, taken, given}
+use Rattle.gx_groups.proofs.Sessions.{first-asker}
 use Rattle.gx_groups.specs.Table.{is_asking, is_holding}
 
 abbrev pub one : Bool → ℕ

@@ -1,13 +1,12 @@
 -- New tables are whole.
-use Rattle.std.proofs.Common.{◌≡◌, ℕ, zero, suc, ◌+◌, ◌≤◌, ◌<◌, Bool, true, false, List, [], ◌∷◌, ◌++◌, length, arith, eqb, refl, get_or, sym, ap, subst}
+use Rattle.std.proofs.Common.{◌≡◌, ℕ, zero, suc, ◌+◌, ◌<◌, true, List, [], ◌∷◌, ◌++◌, length, arith, refl, get_or, ap, subst}
 use Rattle.std.proofs.lemmas.Bool.Decides.{nat_tests}
 use Rattle.std.proofs.lemmas.List.Elements.{All-cons, All-nil}
 use Rattle.std.proofs.lemmas.Option.{get_or_from_slice_get, slice_get_within}
 use Rattle.std.specs.Prelude.{All, Option, None, Some, slice_get, map}
 use Rattle.gx_ids.specs.declared.ids.SessionId.{SessionId}
-use Rattle.gx_groups.specs.declared.seat.Seat.{Seat}
-use Rattle.gx_groups.specs.declared.seat.Seat.TheVariants.{Grouped, Alone}
-use Rattle.gx_groups.specs.Slots.{Slots, fresh, has, is_member}
+use Rattle.gx_groups.specs.declared.seat.Seat.TheVariants.{Grouped}
+use Rattle.gx_groups.specs.Slots.{Slots, fresh, has}
 use Rattle.gx_groups.specs.Table.{KeepsLimit, IsWhole, IsWithin, fresh_groups, members_of, new_seat}
 
 limits-fresh : (of : List (Option ℕ)) (place : ℕ) (limits : List ℕ) → All KeepsLimit (fresh_groups of place limits)

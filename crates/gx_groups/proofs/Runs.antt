@@ -1,17 +1,17 @@
 -- Tables after lists of calls.
-use Rattle.std.proofs.Common.{◌≡◌, ◌≢◌, ℕ, zero, suc, ◌+◌, ◌≤◌, ◌<◌, Bool, true, false, List, [], ◌∷◌, ◌++◌, length, drop, arith, eqb, refl, get_or, set, sym, ◌∙◌, ap, subst, ⊎_elim, length-append, append_assoc, append-nil}
+use Rattle.std.proofs.Common.{◌≡◌, ◌≢◌, ℕ, zero, suc, ◌<◌, true, false, List, [], ◌∷◌, ◌++◌, length, arith, eqb, refl, get_or, set, sym, ◌∙◌, ap, ⊎_elim, length-append, append_assoc, append-nil}
 use Rattle.std.proofs.lemmas.Bool.{cases_eq}
 use Rattle.std.proofs.lemmas.Bool.Decides.{nat_tests}
 use Rattle.std.proofs.lemmas.Grind.{get_or-set_at}
-use Rattle.std.proofs.lemmas.List.{get_or-set_other, get_or_default}
-use Rattle.std.specs.Prelude.{All, Option, None, Some, slice_get}
+use Rattle.std.proofs.lemmas.List.{get_or-set_other}
+use Rattle.std.specs.Prelude.{Option, None, Some, slice_get}
 use Rattle.gx_ids.specs.declared.ids.SessionId.{SessionId}
 use Rattle.gx_groups.specs.declared.seat.Seat.{Seat}
 use Rattle.gx_groups.specs.declared.seat.Seat.TheVariants.{Grouped, Alone}
 use Rattle.gx_groups.specs.declared.seat.Standing.{Standing}
 use Rattle.gx_groups.specs.declared.seat.Standing.TheVariants.{Idle, Asking, Holding}
-use Rattle.gx_groups.specs.Slots.{Slots, fresh, has, is, is_member, lets, asked, taken, given}
-use Rattle.gx_groups.specs.Table.{Table, KeepsLimit, IsWhole, seat_of, asks, asks_at, holds, holds_at, may, may_at, changed_at, group_at, after_ask, after_take, after_give}
+use Rattle.gx_groups.specs.Slots.{Slots, fresh, lets, asked, taken, given}
+use Rattle.gx_groups.specs.Table.{Table, KeepsLimit, IsWhole, seat_of, may_at, changed_at, group_at, after_take}
 use Rattle.gx_groups.specs.Calls.{Call, Ask, Take, Give, Admits, on, after, IsRun, is_seated, only_if, asked_by, taken_by}
 use Rattle.gx_groups.proofs.Sessions.{first-asker, length-without, member-asked, member-taken, member-given}
 use Rattle.gx_groups.proofs.Whole.{whole-group, whole-standing}

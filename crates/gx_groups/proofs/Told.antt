@@ -1,5 +1,5 @@
 -- What sessions do, told by the calls.
-use Rattle.std.proofs.Common.{◌≡◌, ◌≢◌, ℕ, zero, suc, ◌+◌, ◌≤◌, ◌<◌, Bool, true, false, List, [], ◌∷◌, ◌++◌, length, drop, arith, eqb, refl, get_or, set, sym, ◌∙◌, ap, subst, ⊎_elim}
+use Rattle.std.proofs.Common.{◌≡◌, ◌≢◌, ℕ, zero, suc, ◌+◌, ◌<◌, Bool, true, false, List, [], ◌∷◌, length, arith, refl, set, sym, ◌∙◌, ap, subst, ⊎_elim}
 use Rattle.std.proofs.lemmas.Bool.{cases_eq}
 use Rattle.std.proofs.lemmas.Bool.Decides.{nat_tests}
 use Rattle.std.specs.Prelude.{All, Option, None, Some, slice_get, map, if◌then◌else◌}
@@ -8,13 +8,13 @@ use Rattle.gx_groups.specs.declared.seat.Seat.{Seat}
 use Rattle.gx_groups.specs.declared.seat.Seat.TheVariants.{Grouped, Alone}
 use Rattle.gx_groups.specs.declared.seat.Standing.{Standing}
 use Rattle.gx_groups.specs.declared.seat.Standing.TheVariants.{Idle, Asking, Holding}
-use Rattle.gx_groups.specs.Slots.{Slots, fresh, has, is, is_first, lets, without, asked, taken, given}
-use Rattle.gx_groups.specs.Table.{Table, IsWhole, IsWithin, after_ask, after_take, after_give, asks, changed_at, fresh_groups, group_at, holds, is_asking, is_holding, is_known, asks_at, holds_at, may_at, members_of, new_seat, seat_of}
+use Rattle.gx_groups.specs.Slots.{Slots, fresh, has, is, asked, taken, given}
+use Rattle.gx_groups.specs.Table.{Table, IsWithin, asks, changed_at, group_at, holds, is_asking, is_holding, is_known, asks_at, holds_at, may_at, members_of, new_seat, seat_of}
 use Rattle.gx_groups.specs.Seats.{is_known_at}
-use Rattle.gx_groups.specs.Calls.{Call, Ask, Take, Give, Admits, IsRun, after, fresh_table, on, standing_after}
+use Rattle.gx_groups.specs.Calls.{Call, Ask, Take, Give, IsRun, after, fresh_table, standing_after}
 use Rattle.gx_groups.proofs.Fresh.{fresh-at, grouped-of, within-of, whole-fresh}
 use Rattle.gx_groups.proofs.Runs.{Whole, at-other, at-same, whole-after}
-use Rattle.gx_groups.proofs.Sessions.{first-asker, same-session}
+use Rattle.gx_groups.proofs.Sessions.{same-session}
 use Rattle.gx_groups.proofs.Counts.{Does, one, times, has-none, has-some, does-ask, does-take, does-give, other-ask, other-take, other-give}
 
 -- WHAT THE TABLE SAYS OF A SESSION

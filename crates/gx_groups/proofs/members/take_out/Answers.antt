@@ -1,4 +1,4 @@
-use Rattle.std.proofs.Common.{rules, ◌<◌, length, sym, subst, ap}
+use Rattle.std.proofs.Common.{rules}
 use Rattle.std.proofs.lemmas.Fn.{filter_same}
 use Rattle.gx_groups.proofs.Sessions.{shorter-without}
 use Rattle.gx_groups.proofs.members.take_out.Goals as goal

@@ -1,4 +1,3 @@
-use Rattle.std.proofs.Common.{length, sym, subst}
 use Rattle.gx_groups.proofs.Fresh.{whole-fresh}
 use Rattle.gx_groups.proofs.groups.Groups.new.Goals as goal
 
