@@ -43,15 +43,14 @@ module _ (old new : Image) where
       ap (from_le_bytes w64) (λ i. a i ∷ b i ∷ c i ∷ d i ∷ e i ∷ f i ∷ g i ∷ h i ∷ [])
 
   pub IsBlankBehind-same : (slot : ℕ) → ((place : ℕ) → 16 * slot + 10 ≤ place → place < 16 * slot + 16 → new place ≡ old place) → IsBlankBehind old slot → IsBlankBehind new slot
-  IsBlankBehind-same slot same zeros =
-      (
-        same (16 * slot + 10) (omega arith) (omega arith) ∙ zeros.0,
-        same (16 * slot + 11) (omega arith) (omega arith) ∙ zeros.1,
-        same (16 * slot + 12) (omega arith) (omega arith) ∙ zeros.2,
-        same (16 * slot + 13) (omega arith) (omega arith) ∙ zeros.3,
-        same (16 * slot + 14) (omega arith) (omega arith) ∙ zeros.4,
-        same (16 * slot + 15) (omega arith) (omega arith) ∙ zeros.5,
-      )
+  IsBlankBehind-same slot same zeros = (
+    same (16 * slot + 10) (omega arith) (omega arith) ∙ zeros.0,
+    same (16 * slot + 11) (omega arith) (omega arith) ∙ zeros.1,
+    same (16 * slot + 12) (omega arith) (omega arith) ∙ zeros.2,
+    same (16 * slot + 13) (omega arith) (omega arith) ∙ zeros.3,
+    same (16 * slot + 14) (omega arith) (omega arith) ∙ zeros.4,
+    same (16 * slot + 15) (omega arith) (omega arith) ∙ zeros.5,
+  )
 
   pub pairs_before-same : (end : ℕ) → ((place : ℕ) → place < 16 * end → new place ≡ old place) → pairs_before new end ≡ pairs_before old end
   pairs_before-same zero same = refl
@@ -91,9 +90,9 @@ end-once slots image one other a b =
     ⊎_elim
     (λ (below : one < other). absurd (a.shut (omega (arith, below, b.within)) (b.gates one below)))
     (λ (most : other ≤ one). ⊎_elim
-      (λ (below : other < one). absurd (b.shut (omega (arith, below, a.within)) (a.gates other below)))
-      (λ (most' : one ≤ other). omega (arith, most, most'))
-      (cases_lt other one))
+    (λ (below : other < one). absurd (b.shut (omega (arith, below, a.within)) (a.gates other below)))
+    (λ (most' : one ≤ other). omega (arith, most, most'))
+    (cases_lt other one))
     (cases_lt one other)
 
 -- there is one

@@ -42,9 +42,16 @@ broken-sync old new stayed =
 module _ (old mid : DiskState) (synced : Synced old mid) where
   pub broken-read : (new : DiskState) → new ≡ mid → IsBroken old new
   broken-read new same =
-      let e = ends (slots_of old.size) (slots_of old.size) 0 old.seen (omega arith) (λ slot below. absurd (omega (arith, below))) in
-      (e.end, e.is, inr (mid, synced, subst (λ (d : DiskState). AreMadePartly (cond (nat_lt e.end (slots_of old.size) && not (eqb (gate_at old.seen e.end) 0)) (shutting e.end) []) mid d) (sym same)
-      (still (nat_lt e.end (slots_of old.size) && not (eqb (gate_at old.seen e.end) 0)) e.end mid)))
+      let e = ends (slots_of old.size) (slots_of old.size) 0 old.seen (omega arith) (λ slot below. absurd (omega (arith, below))) in (
+        e.end,
+        e.is,
+        inr (
+          mid,
+          synced,
+          subst (λ (d : DiskState). AreMadePartly (cond (nat_lt e.end (slots_of old.size) && not (eqb (gate_at old.seen e.end) 0)) (shutting e.end) []) mid d) (sym same)
+              (still (nat_lt e.end (slots_of old.size) && not (eqb (gate_at old.seen e.end) 0)) e.end mid),
+        ),
+      )
 
   back : (place : ℕ) → old.seen place ≡ mid.seen place
   back place = sym (synced.seen place)
@@ -86,13 +93,13 @@ module _ (old mid : DiskState) (synced : Synced old mid) where
       test-is : (nat_lt end (slots_of old.size) && not (eqb (gate_at old.seen end) 0)) ≡ not (eqb shown 0)
       test-is = ⊎_elim
           (λ (inside : end < slots).
-            let gate : gate_at old.seen end ≡ shown = back (16 * end + 9) ∙ sym (front.gate inside) in
-            let within : nat_lt end (slots_of old.size) ≡ true = grind (arith, nat_tests, inside, is_slots) in
-            (λ i. within i && not (eqb (gate i) 0)))
+          let gate : gate_at old.seen end ≡ shown = back (16 * end + 9) ∙ sym (front.gate inside) in
+          let within : nat_lt end (slots_of old.size) ≡ true = grind (arith, nat_tests, inside, is_slots) in
+          (λ i. within i && not (eqb (gate i) 0)))
           (λ (most : slots ≤ end).
-            let shut : shown ≡ 0 = front.none most in
-            let past : nat_lt end (slots_of old.size) ≡ false = grind (arith, nat_tests, most, is_slots) in
-            (λ i. past i && not (eqb (gate_at old.seen end) 0)) ∙ sym (ap (λ (n : ℕ). not (eqb n 0)) shut))
+          let shut : shown ≡ 0 = front.none most in
+          let past : nat_lt end (slots_of old.size) ≡ false = grind (arith, nat_tests, most, is_slots) in
+          (λ i. past i && not (eqb (gate_at old.seen end) 0)) ∙ sym (ap (λ (n : ℕ). not (eqb n 0)) shut))
           (cases_lt end slots)
 
       calls-are : (test : Bool) → cond (not test) (shutting end) [] ≡ cond test [] (shutting end)

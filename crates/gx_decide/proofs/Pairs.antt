@@ -44,9 +44,9 @@ no-slot image (suc end) gxid none slot below e =
           let last : verdict_in (first ++ pair_at image end ∷ []) gxid ≡ None = none in
           ⊎_elim
           (λ (missing : verdict_in first gxid ≡ None).
-            let found = verdict_in-new first (pair_at image end) (ap (verdict_in first) same ∙ missing) in
-            let there : verdict_in (first ++ pair_at image end ∷ []) gxid ≡ Some (pair_at image end).decision = ap (verdict_in (first ++ pair_at image end ∷ [])) (sym same) ∙ found in
-            is_none there last)
+          let found = verdict_in-new first (pair_at image end) (ap (verdict_in first) same ∙ missing) in
+          let there : verdict_in (first ++ pair_at image end ∷ []) gxid ≡ Some (pair_at image end).decision = ap (verdict_in (first ++ pair_at image end ∷ [])) (sym same) ∙ found in
+          is_none there last)
           (λ (found : (d : Decision) × (verdict_in first gxid ≡ Some d)). is_none (verdict_in-kept first (pair_at image end ∷ []) gxid found.0 found.1) last)
           (cases (verdict_in first gxid) refl)
       | inr other ↦
@@ -59,6 +59,7 @@ no-slot image (suc end) gxid none slot below e =
   where
     is_none : {d : Decision} {found : Option Decision} → found ≡ Some d → found ≡ None → ⊥
     is_none some none = cc (sym some ∙ none)
+
     cases : (found : Option Decision) → {v : Option Decision} → v ≡ found → (v ≡ None) ⊎ ((d : Decision) × (v ≡ Some d))
     cases None is = inl is
     cases (Some d) is = inr (d, is)

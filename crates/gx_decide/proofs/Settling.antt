@@ -48,26 +48,26 @@ record Kept (slot number : ℕ) (wish : Decision) (old new : DiskState) : Type 0
 kept : (slot number : ℕ) (wish : Decision) (old new : DiskState) → number < 2 ^ 64 → AreMade (settling slot number wish) old new → Kept slot number wish old new
 kept slot number wish old new fits (one, written, (two, synced, (three, gate, (four, last, same)))) =
     subst (Kept slot number wish old) (sym same) (
-      let back : (place : ℕ) → (place < 16 * slot + 9) ⊎ (16 * slot + 9 + 1 ≤ place) → four.seen place ≡ one.seen place = λ place out. last.seen place ∙ gate.range.seen place out ∙ synced.seen place in
-      let at : (j : ℕ) → j < 9 → four.seen (16 * slot + j) ≡ get_or (to_le_bytes w64 number ++ byte_of wish ∷ []) j 0 = λ j below. back (16 * slot + j) (inl (omega (arith, below))) ∙ written.there j below in
-      let a : four.seen (16 * slot) ≡ get_or (to_le_bytes w64 number ++ byte_of wish ∷ []) 0 0 = ap four.seen (omega arith) ∙ at 0 (omega arith) in
-      let b = at 1 (omega arith) in
-      let c = at 2 (omega arith) in
-      let d = at 3 (omega arith) in
-      let e = at 4 (omega arith) in
-      let f = at 5 (omega arith) in
-      let g = at 6 (omega arith) in
-      let h = at 7 (omega arith) in
-      record {
-        size = last.size ∙ gate.range.size ∙ synced.size ∙ written.range.size;
-        elsewhere = λ place out.
-            back place (⊎_elim (λ before. inl (omega (arith, before))) (λ behind. inr (omega (arith, behind))) out)
-            ∙ written.range.seen place (⊎_elim (λ before. inl before) (λ behind. inr (omega (arith, behind))) out);
-        gxid = ap (from_le_bytes w64) (λ i. a i ∷ b i ∷ c i ∷ d i ∷ e i ∷ f i ∷ g i ∷ h i ∷ []) ∙ from_le_bytes-to_le_bytes_8 number fits;
-        verdict = at 8 (omega arith);
-        gate = last.seen (16 * slot + 9) ∙ ap three.seen (omega arith) ∙ gate.there 0 (omega arith);
-        durable = last.durable;
-      }
+    let back : (place : ℕ) → (place < 16 * slot + 9) ⊎ (16 * slot + 9 + 1 ≤ place) → four.seen place ≡ one.seen place = λ place out. last.seen place ∙ gate.range.seen place out ∙ synced.seen place in
+    let at : (j : ℕ) → j < 9 → four.seen (16 * slot + j) ≡ get_or (to_le_bytes w64 number ++ byte_of wish ∷ []) j 0 = λ j below. back (16 * slot + j) (inl (omega (arith, below))) ∙ written.there j below in
+    let a : four.seen (16 * slot) ≡ get_or (to_le_bytes w64 number ++ byte_of wish ∷ []) 0 0 = ap four.seen (omega arith) ∙ at 0 (omega arith) in
+    let b = at 1 (omega arith) in
+    let c = at 2 (omega arith) in
+    let d = at 3 (omega arith) in
+    let e = at 4 (omega arith) in
+    let f = at 5 (omega arith) in
+    let g = at 6 (omega arith) in
+    let h = at 7 (omega arith) in
+    record {
+      size = last.size ∙ gate.range.size ∙ synced.size ∙ written.range.size;
+      elsewhere = λ place out.
+          back place (⊎_elim (λ before. inl (omega (arith, before))) (λ behind. inr (omega (arith, behind))) out)
+          ∙ written.range.seen place (⊎_elim (λ before. inl before) (λ behind. inr (omega (arith, behind))) out);
+      gxid = ap (from_le_bytes w64) (λ i. a i ∷ b i ∷ c i ∷ d i ∷ e i ∷ f i ∷ g i ∷ h i ∷ []) ∙ from_le_bytes-to_le_bytes_8 number fits;
+      verdict = at 8 (omega arith);
+      gate = last.seen (16 * slot + 9) ∙ ap three.seen (omega arith) ∙ gate.there 0 (omega arith);
+      durable = last.durable;
+    }
     )
 
 pub knows-more : (decider decider' : Decider) (old new : DiskState) (gxid : ℕ) (wish : Decision) → Knows decider old → gxid < 2 ^ 64 → verdict_by decider gxid ≡ None → used_by decider < slots_by decider

@@ -21,10 +21,24 @@ slot-at image place bytes slot long read of =
       gxid = of.gxid ∙ ap (from_le_bytes w64) (λ i. first i ∷ a i ∷ b i ∷ c i ∷ d i ∷ e i ∷ f i ∷ g i ∷ []);
       verdict = of.verdict ∙ at 8 (omega arith);
       gate = of.gate ∙ at 9 (omega arith);
-      blank = (λ is. let z = of.blank.0 is in (sym (at 10 (omega arith)) ∙ z.0, sym (at 11 (omega arith)) ∙ z.1, sym (at 12 (omega arith)) ∙ z.2,
-      sym (at 13 (omega arith)) ∙ z.3, sym (at 14 (omega arith)) ∙ z.4, sym (at 15 (omega arith)) ∙ z.5),
-      λ z. of.blank.1 (at 10 (omega arith) ∙ z.0, at 11 (omega arith) ∙ z.1, at 12 (omega arith) ∙ z.2, at 13 (omega arith) ∙ z.3,
-      at 14 (omega arith) ∙ z.4, at 15 (omega arith) ∙ z.5));
+      blank = (
+        λ is. let z = of.blank.0 is in (
+          sym (at 10 (omega arith)) ∙ z.0,
+          sym (at 11 (omega arith)) ∙ z.1,
+          sym (at 12 (omega arith)) ∙ z.2,
+          sym (at 13 (omega arith)) ∙ z.3,
+          sym (at 14 (omega arith)) ∙ z.4,
+          sym (at 15 (omega arith)) ∙ z.5,
+        ),
+        λ z. of.blank.1 (
+          at 10 (omega arith) ∙ z.0,
+          at 11 (omega arith) ∙ z.1,
+          at 12 (omega arith) ∙ z.2,
+          at 13 (omega arith) ∙ z.3,
+          at 14 (omega arith) ∙ z.4,
+          at 15 (omega arith) ∙ z.5,
+        ),
+      );
     }
 
 -- six bytes are zeros

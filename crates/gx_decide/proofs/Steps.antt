@@ -61,8 +61,7 @@ module _ (slots : ℕ) (pairs : List Pair) where
   gate-torn size pair image disk left is r l =
       let f = is.front in
       IsImageOf-front slots pairs (Some pair) (Some pair) image left.seen is
-      (λ place out. r.each left l place (⊎_elim (λ before. inl (omega (arith, before))) (λ behind. inr (omega (arith, behind))) out))
-      (
+      (λ place out. r.each left l place (⊎_elim (λ before. inl (omega (arith, before))) (λ behind. inr (omega (arith, behind))) out)) (
         f.0,
         gxid_at-same image left.seen k (λ place from below. r.each left l place (inl (omega (arith, below)))) ∙ f.1,
         r.each left l (16 * k + 8) (inl (omega arith)) ∙ f.2,
@@ -122,15 +121,13 @@ module _ (slots : ℕ) (pairs : List Pair) where
       let written = made.1 in
       let mid2 = made.2.0 in
       let synced = made.2.1 in
-      let end : new ≡ mid2 = made.2.2 in
-      (
+      let end : new ≡ mid2 = made.2.2 in (
         ap (λ (d : DiskState). d.size) end ∙ synced.size ∙ written.range.size,
         subst (λ (d : DiskState). IsImageOf slots pairs None d.seen) (sym end) (gate-shut last old made.0 mid2 is written synced),
         subst IsQuiet (sym end) synced.durable,
       )
   shut-made last old new false is_test is quiet made =
-      let shut : k < slots → gate_at old.seen k ≡ 0 = λ inside. grind (arith, nat_tests) in
-      (
+      let shut : k < slots → gate_at old.seen k ≡ 0 = λ inside. grind (arith, nat_tests) in (
         ap (λ (d : DiskState). d.size) made,
         subst (λ (d : DiskState). IsImageOf slots pairs None d.seen) (sym made) (IsImageOf-front slots pairs last None old.seen old.seen is (λ place o. refl) shut),
         subst IsQuiet (sym made) quiet,

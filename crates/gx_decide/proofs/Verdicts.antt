@@ -44,19 +44,33 @@ record Ended (slots : ℕ) (events : List Event) (image : Image) : Type 0 where
 
 ended : (slots : ℕ) (events : List Event) (pairs : List Pair) (last : Option Pair) (image : Image) → IsImageOf slots pairs last image → AreOf events pairs → IsLast events pairs last → AllAnswered events pairs → Ended slots events image
 ended slots events pairs None image is are maybe answered = record {
-  pairs = pairs; last = None; is = is; are = are; maybe = maybe; answered = answered;
+  pairs = pairs;
+  last = None;
+  is = is;
+  are = are;
+  maybe = maybe;
+  answered = answered;
   end = shut-end slots pairs None image is (λ inside gate. omega (arith, is.front inside, gate));
 }
 ended slots events pairs (Some pair) image is are maybe answered = elim (cases_eq (gate_at image (length pairs)) 1) [
   | inl gate ↦
       let more = opened slots pairs pair image is gate in
       record {
-        pairs = pairs ++ pair ∷ []; last = None; is = more; are = maybe; maybe = tt;
+        pairs = pairs ++ pair ∷ [];
+        last = None;
+        is = more;
+        are = maybe;
+        maybe = tt;
         answered = λ gxid answer was. verdict_in-kept pairs (pair ∷ []) gxid answer (answered gxid answer was);
         end = shut-end slots (pairs ++ pair ∷ []) None image more (λ inside gate'. omega (arith, more.front inside, gate'));
       }
   | inr shut ↦ record {
-    pairs = pairs; last = Some pair; is = is; are = are; maybe = maybe; answered = answered;
+    pairs = pairs;
+    last = Some pair;
+    is = is;
+    are = are;
+    maybe = maybe;
+    answered = answered;
     end = shut-end slots pairs (Some pair) image is (λ inside. shut);
   }
 ]
@@ -280,6 +294,7 @@ module _ (slots : ℕ) (events : List Event) (old : DiskState) (was : Bool) (s :
       where
         at : ℕ
         at = 16 * length s.pairs + 9
+
         reached : AreMadePartly (Write (16 * length s.pairs + 9) (1 ∷ []) ∷ Sync ∷ []) two new → Reaches two.size at 1 two.seen new
         reached (inl begun) = touched-reaches at 1 two new synced.durable begun
         reached (inr (three, gate, inl stayed)) = stayed-reaches two.size at 1 two.seen three new (touched-reaches at 1 two three synced.durable gate.range) stayed

@@ -15,7 +15,7 @@ pub record IsSlotOf (bytes : List ℕ) (slot : Slot) : Type 0 where
   pub verdict : slot.verdict ≡ get_or bytes 8 0
   pub gate : slot.gate ≡ get_or bytes 9 0
   pub blank : (slot.is_blank ≡ true)
-    ↔ ((get_or bytes 10 0 ≡ 0) × (get_or bytes 11 0 ≡ 0) × (get_or bytes 12 0 ≡ 0) × (get_or bytes 13 0 ≡ 0) × (get_or bytes 14 0 ≡ 0) × (get_or bytes 15 0 ≡ 0))
+      ↔ ((get_or bytes 10 0 ≡ 0) × (get_or bytes 11 0 ≡ 0) × (get_or bytes 12 0 ≡ 0) × (get_or bytes 13 0 ≡ 0) × (get_or bytes 14 0 ≡ 0) × (get_or bytes 15 0 ≡ 0))
 
 -- it is what an image has there
 pub record IsSlot (image : Image) (place : ℕ) (slot : Slot) : Type 0 where

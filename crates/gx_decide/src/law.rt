@@ -8,5 +8,4 @@ ghost use Rattle.gx_decide.specs.History.{AreAnswersEqual, Event, IsDurable, Led
 pub fn verdict_log()
     ensures durable { (events : List Event) (disk : DiskState) (ready : Bool) → Led events disk ready → IsDurable events disk }
     ensures equal { (events : List Event) (disk : DiskState) (ready : Bool) → Led events disk ready → AreAnswersEqual events }
-{
-}
+{}
