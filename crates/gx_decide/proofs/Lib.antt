@@ -1,4 +1,5 @@
 mod Images
+mod Made
 mod Opening
 mod Pairs
 mod Reading

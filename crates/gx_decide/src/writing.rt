@@ -1,9 +1,9 @@
 // The writes that keep a pair, and the one that shuts a gate.
-ghost use Rattle.std.specs.Prelude.{◌≡◌, ◌≢◌, ◌≤◌, ◌+◌, ◌*◌, ◌++◌, ◌∷◌, [], ◌==◌, if◌then◌else◌, OnOk, OnErr};
+ghost use Rattle.std.specs.Prelude.{◌≡◌, ◌≢◌, ◌≤◌, ◌+◌, ◌*◌, ◌++◌, ◌∷◌, [], ◌==◌, if◌then◌else◌, length, OnOk, OnErr};
 ghost use Rattle.std.specs.Int.{w64, to_le_bytes};
 ghost use Rattle.gx_outside.specs.Causes.{HasCause};
 ghost use Rattle.gx_decide.specs.Log.{byte_of};
-ghost use Rattle.gx_decide.specs.Calls.{AreMade, AreMadePartly, settling, shutting};
+ghost use Rattle.gx_decide.specs.Calls.{AreMade, AreMadePartly, Sync, Write, settling, shutting};
 
 use crate::decision::Decision;
 use crate::disk::Disk;
@@ -23,10 +23,8 @@ pub(crate) fn write_pair<D: Disk>(
     ensures cause { HasCause (D.fault_count disk.old) (D.fault_count disk.new) result }
 {
     let at = SLOT * slot as u64;
-    disk.write(at, &pair_bytes(gxid, decision))?;
-    disk.sync()?;
-    disk.write(at + GATE, &[OPEN])?;
-    disk.sync()?;
+    write_synced(disk, at, &pair_bytes(gxid, decision))?;
+    write_synced(disk, at + GATE, &[OPEN])?;
     Ok(())
 }
 
@@ -40,7 +38,19 @@ pub(crate) fn shut_gate<D: Disk>(disk: &mut D, slot: u32, gate: u8) -> Result<()
     if gate == SHUT {
         return Ok(());
     }
-    disk.write(SLOT * slot as u64 + GATE, &[SHUT])?;
+    write_synced(disk, SLOT * slot as u64 + GATE, &[SHUT])?;
+    Ok(())
+}
+
+// Writes bytes, and waits until they are on the disk.
+fn write_synced<D: Disk>(disk: &mut D, at: u64, bytes: &[u8]) -> Result<(), Failed>
+    requires { at + length bytes.now ≤ (D.state disk.old).size }
+    ensures ok { OnOk result (AreMade (Write at bytes.now ∷ Sync ∷ []) (D.state disk.old) (D.state disk.new)) }
+    ensures err { OnErr result (AreMadePartly (Write at bytes.now ∷ Sync ∷ []) (D.state disk.old) (D.state disk.new)) }
+    ensures size { (D.state disk.new).size ≡ (D.state disk.old).size }
+    ensures cause { HasCause (D.fault_count disk.old) (D.fault_count disk.new) result }
+{
+    disk.write(at, bytes)?;
     disk.sync()?;
     Ok(())
 }
