@@ -1,13 +1,10 @@
 -- Images of a log: its pairs, what stands at the end, and zeros behind it.
-use Rattle.std.proofs.Common.{◌≡◌, ◌≢◌, ◌⊎◌, inl, inr, ⊎_elim, ℕ, zero, suc, ◌+◌, ◌*◌, ◌<◌, ◌≤◌, List, [], ◌∷◌, ◌++◌, length, refl, sym, ap, ◌∙◌, subst, arith, length-append, cond, eqb, true, false, Bool}
+use Rattle.std.proofs.Common.{◌≡◌, ◌≢◌, ◌⊎◌, inl, inr, ⊎_elim, ℕ, zero, suc, ◌+◌, ◌*◌, ◌<◌, ◌≤◌, List, [], ◌∷◌, ◌++◌, length, refl, sym, ap, ◌∙◌, arith}
 use Rattle.std.specs.Prelude.{Option, None, Some}
 use Rattle.std.specs.Int.{w64, from_le_bytes}
 use Rattle.std.proofs.lemmas.Bool.{cases_lt, cases_eq}
-use Rattle.std.proofs.lemmas.Bool.Decides.{nat_tests}
-use Rattle.gx_decide.specs.declared.decision.Decision.{Decision}
-use Rattle.gx_decide.specs.declared.decision.Decision.TheVariants.{Commit, Abort}
 use Rattle.gx_decide.specs.Disk.{Image}
-use Rattle.gx_decide.specs.Log.{IsBlankBehind, IsEnd, IsGood, IsLog, IsSound, Pair, byte_of, decision_of, eight_at, gate_at, gxid_at, pair_at, pairs_before, verdict_at, verdict_in}
+use Rattle.gx_decide.specs.Log.{IsBlankBehind, IsEnd, IsSound, Pair, byte_of, decision_of, gate_at, gxid_at, pairs_before, verdict_at, verdict_in}
 
 -- two images agree in the ten bytes of a slot up to the gate
 abbrev pub Agree : (ℕ → Type 0) → Image → Image → Type 0

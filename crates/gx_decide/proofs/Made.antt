@@ -1,5 +1,5 @@
 -- Calls on the disk, one list behind another.
-use Rattle.std.proofs.Common.{◌≡◌, ◌⊎◌, inl, inr, List, [], ◌∷◌, ◌++◌, refl, sym, subst}
+use Rattle.std.proofs.Common.{inl, inr, List, [], ◌∷◌, ◌++◌, refl, sym, subst}
 use Rattle.gx_decide.specs.Disk.{DiskState}
 use Rattle.gx_decide.specs.Calls.{AreMade, AreMadePartly, Call, Sync, Write}
 

@@ -1,14 +1,13 @@
 -- An open is an event of a history, and its decider knows the disk afterwards.
-use Rattle.std.proofs.Common.{◌≡◌, ◌≢◌, ◌⊎◌, inl, inr, ⊎_elim, ℕ, zero, suc, ◌+◌, ◌-◌, ◌*◌, ◌<◌, ◌≤◌, List, [], ◌∷◌, ◌++◌, refl, sym, ap, ◌∙◌, subst, arith, cond, eqb, true, false, Bool, not, ◌&&◌}
-use Rattle.std.specs.Prelude.{Option, None, Some, nat_lt}
-use Rattle.std.proofs.lemmas.Bool.{cases_eq, cases_lt}
+use Rattle.std.proofs.Common.{◌≡◌, ◌≢◌, inl, inr, ⊎_elim, ℕ, ◌+◌, ◌-◌, ◌*◌, ◌<◌, ◌≤◌, List, [], refl, sym, ap, ◌∙◌, subst, arith, cond, eqb, true, false, Bool, not, ◌&&◌}
+use Rattle.std.specs.Prelude.{nat_lt}
+use Rattle.std.proofs.lemmas.Bool.{cases_lt}
 use Rattle.std.proofs.lemmas.Bool.Decides.{nat_tests}
-use Rattle.gx_outside.specs.Causes.{Rose}
 use Rattle.gx_decide.specs.declared.decider.Decider.{Decider}
 use Rattle.gx_decide.specs.declared.decide_fault.DecideFault.{DecideFault}
 use Rattle.gx_decide.specs.declared.decide_fault.DecideFault.TheVariants.{Disk, Full, NotLog, OutOfMemory}
-use Rattle.gx_decide.specs.Disk.{DiskState, Image, StopLeaves, Stayed, Synced, Touched, Written}
-use Rattle.gx_decide.specs.Log.{IsEnd, IsFirstBad, IsGood, IsLog, IsSound, gate_at, pairs_before, slots_of, verdict_in}
+use Rattle.gx_decide.specs.Disk.{DiskState, Stayed, Synced}
+use Rattle.gx_decide.specs.Log.{IsEnd, IsFirstBad, IsGood, gate_at, pairs_before, slots_of, verdict_in}
 use Rattle.gx_decide.specs.Calls.{AreMade, AreMadePartly, Call, opening, shutting}
 use Rattle.gx_decide.specs.Deciding.{IsBadBehind, IsBadFront, IsBehindRefused, IsFront, IsFrontRefused}
 use Rattle.gx_decide.specs.History.{Event, GoesOn, Led, OpenBroken, Opened}

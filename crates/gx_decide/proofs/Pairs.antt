@@ -1,13 +1,13 @@
 -- Pairs of a log, and one more behind them.
-use Rattle.std.proofs.Common.{◌≡◌, ◌≢◌, ◌⊎◌, inl, inr, ⊎_elim, ℕ, zero, suc, ◌+◌, ◌*◌, ◌<◌, ◌≤◌, List, [], ◌∷◌, ◌++◌, length, refl, sym, ap, ◌∙◌, subst, arith, length-append, cond, eqb, true, false, Bool}
+use Rattle.std.proofs.Common.{◌≡◌, ◌≢◌, ◌⊎◌, inl, inr, ⊎_elim, ℕ, zero, suc, ◌<◌, ◌≤◌, List, [], ◌∷◌, ◌++◌, length, refl, sym, ap, ◌∙◌, subst, arith, cond, eqb, false}
 use Rattle.std.specs.Prelude.{Option, None, Some}
 use Rattle.std.proofs.lemmas.Bool.{cases_lt, cases_eq}
 use Rattle.std.proofs.lemmas.Bool.Decides.{nat_tests}
 use Rattle.gx_decide.specs.declared.decision.Decision.{Decision}
 use Rattle.gx_decide.specs.declared.decision.Decision.TheVariants.{Commit, Abort}
 use Rattle.gx_decide.specs.Disk.{Image}
-use Rattle.gx_decide.specs.Log.{IsBlankBehind, IsEnd, IsGood, IsLog, IsSound, Pair, byte_of, decision_of, gate_at, gxid_at, pair_at, pairs_before, verdict_at, verdict_in}
-use Rattle.gx_decide.proofs.Images.{Front, IsImageOf}
+use Rattle.gx_decide.specs.Log.{IsEnd, IsLog, IsSound, Pair, byte_of, decision_of, gate_at, gxid_at, pair_at, pairs_before, verdict_at, verdict_in}
+use Rattle.gx_decide.proofs.Images.{IsImageOf}
 
 pub verdict_in-kept : (pairs more : List Pair) (gxid : ℕ) (decision : Decision) → verdict_in pairs gxid ≡ Some decision → verdict_in (pairs ++ more) gxid ≡ Some decision
 verdict_in-kept [] more gxid decision found = absurd (cc)

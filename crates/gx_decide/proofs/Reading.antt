@@ -1,6 +1,6 @@
 -- Slots that are read one after the other.
-use Rattle.std.proofs.Common.{◌≡◌, ◌≢◌, ◌⊎◌, inl, inr, ⊎_elim, ℕ, zero, suc, ◌+◌, ◌*◌, ◌<◌, ◌≤◌, List, [], ◌∷◌, ◌++◌, length, refl, sym, ap, ◌∙◌, subst, arith, cond, eqb, true, false, Bool}
-use Rattle.std.specs.Prelude.{Option, None, Some}
+use Rattle.std.proofs.Common.{◌≡◌, ◌≢◌, inl, inr, ⊎_elim, ℕ, zero, suc, ◌+◌, ◌<◌, ◌≤◌, List, [], ◌∷◌, ◌++◌, refl, sym, ap, ◌∙◌, subst, arith, cond, true, false, Bool}
+use Rattle.std.specs.Prelude.{None, Some}
 use Rattle.std.specs.Ordering.{nat_cmp}
 use Rattle.std.specs.BTreeMap.{BTreeMap, Updates, get, is_at}
 use Rattle.std.proofs.lemmas.Bool.{cases_eq, cases_lt}
@@ -8,7 +8,7 @@ use Rattle.std.proofs.lemmas.Bool.Decides.{nat_tests}
 use Rattle.gx_decide.specs.declared.decision.Decision.{Decision}
 use Rattle.gx_decide.specs.declared.slot.Slot.{Slot}
 use Rattle.gx_decide.specs.Disk.{Image}
-use Rattle.gx_decide.specs.Log.{IsSound, Pair, decision_of, gate_at, gxid_at, pair_at, pairs_before, verdict_at, verdict_in}
+use Rattle.gx_decide.specs.Log.{IsSound, Pair, decision_of, gxid_at, pair_at, pairs_before, verdict_in}
 use Rattle.gx_decide.specs.Deciding.{IsSlot, IsSoundSlot}
 use Rattle.gx_decide.proofs.Pairs.{no-slot, verdict_in-new, verdict_in-other}
 

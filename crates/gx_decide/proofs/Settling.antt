@@ -1,5 +1,5 @@
 -- A settle is an event of a history, and its decider knows the disk afterwards.
-use Rattle.std.proofs.Common.{◌≡◌, ◌≢◌, ◌⊎◌, inl, inr, ⊎_elim, ℕ, zero, suc, ◌+◌, ◌*◌, ◌<◌, ◌≤◌, ◌^◌, List, [], ◌∷◌, ◌++◌, length, get_or, refl, sym, ap, ◌∙◌, subst, arith, cond, eqb, true, false, Bool}
+use Rattle.std.proofs.Common.{◌≡◌, ◌⊎◌, inl, inr, ⊎_elim, ℕ, suc, ◌+◌, ◌*◌, ◌<◌, ◌≤◌, ◌^◌, List, [], ◌∷◌, ◌++◌, get_or, refl, sym, ap, ◌∙◌, subst, arith, cond, true, false, Bool}
 use Rattle.std.specs.Prelude.{Option, None, Some, Result, Ok, Err, OnErr}
 use Rattle.std.specs.Int.{w64, from_le_bytes, to_le_bytes}
 use Rattle.std.specs.Ordering.{nat_cmp}
@@ -9,12 +9,12 @@ use Rattle.std.proofs.lemmas.Bool.{cases_eq, cases_lt}
 use Rattle.std.proofs.lemmas.Bool.Decides.{nat_tests}
 use Rattle.gx_decide.specs.declared.decision.Decision.{Decision}
 use Rattle.gx_decide.specs.declared.decider.Decider.{Decider}
-use Rattle.gx_decide.specs.Disk.{DiskState, Image, Written, Synced}
+use Rattle.gx_decide.specs.Disk.{DiskState}
 use Rattle.gx_decide.specs.Log.{IsEnd, Pair, byte_of, decision_of, gate_at, gxid_at, pair_at, pairs_before, slots_of, verdict_at, verdict_in}
 use Rattle.gx_decide.specs.Calls.{AreMade, settling}
 use Rattle.gx_decide.specs.History.{DoesBreak, DoesSettle, Event, GoesOn, Led, SettleBroken, Settled}
 use Rattle.gx_decide.specs.Kept.{Knows, slots_by, used_by, verdict_by}
-use Rattle.gx_decide.proofs.Images.{gxid_at-same, pairs_before-same}
+use Rattle.gx_decide.proofs.Images.{pairs_before-same}
 use Rattle.gx_decide.proofs.Pairs.{decision-byte, verdict_in-new, verdict_in-other}
 use Rattle.gx_decide.proofs.Verdicts.{goes-on}
 

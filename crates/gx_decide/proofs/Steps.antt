@@ -1,15 +1,14 @@
 -- What the calls on the disk leave of an image.
-use Rattle.std.proofs.Common.{◌≡◌, ◌≢◌, ◌⊎◌, inl, inr, ⊎_elim, ℕ, zero, suc, ◌+◌, ◌*◌, ◌<◌, ◌≤◌, ◌^◌, List, [], ◌∷◌, ◌++◌, length, get_or, refl, sym, ap, ◌∙◌, subst, arith, cond, eqb, true, false, Bool, not, ◌&&◌}
+use Rattle.std.proofs.Common.{◌≡◌, ◌≢◌, inl, inr, ⊎_elim, ℕ, ◌+◌, ◌*◌, ◌<◌, ◌^◌, List, [], ◌∷◌, ◌++◌, length, get_or, refl, sym, ap, ◌∙◌, subst, arith, cond, eqb, true, false, Bool, not, ◌&&◌}
 use Rattle.std.specs.Prelude.{Option, None, Some, nat_lt}
 use Rattle.std.specs.Int.{w64, from_le_bytes, to_le_bytes}
 use Rattle.std.proofs.lemmas.Nat.{from_le_bytes-to_le_bytes_8}
-use Rattle.std.proofs.lemmas.Bool.{cases_eq}
 use Rattle.std.proofs.lemmas.Bool.Decides.{nat_tests}
 use Rattle.gx_decide.specs.declared.decision.Decision.{Decision}
 use Rattle.gx_decide.specs.Disk.{DiskState, Image, IsOutside, StopLeaves, Stayed, Synced, Touched, Written}
-use Rattle.gx_decide.specs.Log.{IsEnd, Pair, byte_of, gate_at, gxid_at, verdict_at, verdict_in, slots_of}
-use Rattle.gx_decide.specs.Calls.{AreMade, AreMadePartly, Call, opening, settling, shutting}
-use Rattle.gx_decide.proofs.Images.{Front, IsImageOf, IsImageOf-front, gxid_at-same}
+use Rattle.gx_decide.specs.Log.{Pair, byte_of, gate_at, verdict_in}
+use Rattle.gx_decide.specs.Calls.{AreMade, AreMadePartly, shutting}
+use Rattle.gx_decide.proofs.Images.{IsImageOf, IsImageOf-front, gxid_at-same}
 use Rattle.gx_decide.proofs.Pairs.{opened}
 
 -- nothing is pending

@@ -1,17 +1,15 @@
 -- Every list of opens, settles and stops leaves the log of its events.
-use Rattle.std.proofs.Common.{◌≡◌, ◌≢◌, ◌⊎◌, inl, inr, ⊎_elim, ℕ, zero, suc, ◌+◌, ◌*◌, ◌<◌, ◌≤◌, ◌^◌, List, [], ◌∷◌, ◌++◌, length, refl, sym, ap, ◌∙◌, subst, arith, cond, eqb, true, false, Bool, not, ◌&&◌}
+use Rattle.std.proofs.Common.{◌≡◌, inl, inr, ⊎_elim, ℕ, ◌+◌, ◌*◌, ◌<◌, ◌^◌, List, [], ◌∷◌, ◌++◌, length, refl, sym, ap, ◌∙◌, subst, arith, cond, eqb, true, false, Bool, not, ◌&&◌}
 use Rattle.std.specs.Prelude.{Option, None, Some, nat_lt, ⊤}
-use Rattle.std.specs.Int.{w64, to_le_bytes}
 use Rattle.std.proofs.lemmas.Bool.{cases_eq}
-use Rattle.std.proofs.lemmas.Bool.Decides.{nat_tests}
 use Rattle.gx_decide.specs.declared.decision.Decision.{Decision}
-use Rattle.gx_decide.specs.Disk.{DiskState, Image, StopLeaves, Stayed, Synced, Touched, Written}
-use Rattle.gx_decide.specs.Log.{IsEnd, IsLog, Pair, byte_of, gate_at, pairs_before, verdict_in, slots_of}
+use Rattle.gx_decide.specs.Disk.{DiskState, Image, StopLeaves, Synced}
+use Rattle.gx_decide.specs.Log.{IsEnd, IsLog, Pair, gate_at, pairs_before, verdict_in, slots_of}
 use Rattle.gx_decide.specs.Calls.{AreMade, AreMadePartly, Write, Sync, opening, settling, shutting}
 use Rattle.gx_decide.specs.History.{AreAnswersEqual, AreOf, DoesBreak, DoesSettle, Event, GoesOn, Happens, IsBlank, IsDurable, IsLogOf, Led, OpenBroken, Opened, SettleBroken, Settled, Stopped, WasAnswered, with_pair}
-use Rattle.gx_decide.proofs.Images.{Front, IsImageOf, end-once}
-use Rattle.gx_decide.proofs.Pairs.{good-all, length-more, opened, shut-end, verdict_in-kept, verdict_in-new}
-use Rattle.gx_decide.proofs.Steps.{IsQuiet, Reaches, gate-opened, gate-torn, pair-torn, pair-written, same-reaches, shut-made, shut-partly, stayed-left, stayed-reaches, stays, stopped-left, synced-left, synced-reaches, touched-reaches, whole-left}
+use Rattle.gx_decide.proofs.Images.{IsImageOf, end-once}
+use Rattle.gx_decide.proofs.Pairs.{good-all, opened, shut-end, verdict_in-kept, verdict_in-new}
+use Rattle.gx_decide.proofs.Steps.{IsQuiet, Reaches, gate-opened, gate-torn, pair-torn, pair-written, shut-made, shut-partly, stayed-left, stayed-reaches, stays, stopped-left, synced-left, synced-reaches, touched-reaches, whole-left}
 
 -- the pair at the end, where there is one, is of a settle that wasn't answered
 abbrev IsLast : List Event → List Pair → Option Pair → Type 0

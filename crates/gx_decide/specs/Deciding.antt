@@ -1,5 +1,5 @@
 -- What a slot's bytes say, what a decider knows, and why an open or a settle is refused.
-use Rattle.std.specs.Prelude.{◌≢◌, ◌⊎◌, ⊤, ◌≡◌, ℕ, ◌+◌, ◌*◌, ◌<◌, ◌≤◌, ◌^◌, ◌↔◌, Bool, true, false, List, [], ◌∷◌, get_or, Option, None, Some, drop}
+use Rattle.std.specs.Prelude.{◌≢◌, ◌⊎◌, ⊤, ◌≡◌, ℕ, ◌+◌, ◌<◌, ◌≤◌, ◌↔◌, true, List, [], ◌∷◌, get_or}
 use Rattle.std.specs.Int.{w64, from_le_bytes}
 use Rattle.gx_decide.specs.declared.slot.Slot.{Slot}
 use Rattle.gx_decide.specs.Disk.{Image}

@@ -1,5 +1,5 @@
 -- Lists of opens, settles and stops, what they may do to a disk, and what then holds of it. The newest comes first.
-use Rattle.std.specs.Prelude.{◌≡◌, ◌⊎◌, ℕ, ◌+◌, ◌<◌, ◌^◌, Bool, true, false, List, [], ◌∷◌, ◌++◌, length, Option, None, Some}
+use Rattle.std.specs.Prelude.{◌≡◌, ◌⊎◌, ℕ, ◌<◌, ◌^◌, Bool, true, false, List, [], ◌∷◌, ◌++◌, length, Option, None, Some}
 use Rattle.gx_decide.specs.declared.decision.Decision.{Decision}
 use Rattle.gx_decide.specs.Disk.{DiskState, StopLeaves}
 use Rattle.gx_decide.specs.Log.{IsEnd, IsLog, Pair, pairs_before, slots_of, verdict_in}

@@ -1,4 +1,4 @@
-use Rattle.std.proofs.Common.{rules, ◌≡◌, ◌≤◌, ◌+◌, ◌*◌, ℕ, List, [], Bool, false, cond, eqb, ◌<◌, ◌≢◌, refl, sym, ◌∙◌, ap, subst, arith}
+use Rattle.std.proofs.Common.{rules, ◌≡◌, ℕ, List, [], Bool, false, cond, eqb, ◌<◌, ◌≢◌, refl, ◌∙◌, subst, arith}
 use Rattle.std.proofs.lemmas.Result.{err_from_is_err_and}
 use Rattle.gx_decide.specs.History.{Event, GoesOn, Led, OpenBroken}
 use Rattle.gx_decide.specs.declared.decider.Decider.{Decider}
@@ -7,7 +7,7 @@ use Rattle.gx_decide.specs.Deciding.{IsBehindRefused}
 use Rattle.gx_decide.specs.Disk.{DiskState}
 use Rattle.gx_decide.specs.Log.{gate_at, slots_of}
 use Rattle.gx_decide.proofs.Settling.{on-err}
-use Rattle.gx_decide.proofs.Opening.{IsBroken, broken-goes-on, broken-read, broken-shut, broken-sync, knows-open, made-open, opened-goes-on, refused-behind, refused-front}
+use Rattle.gx_decide.proofs.Opening.{broken-goes-on, broken-read, broken-shut, broken-sync, knows-open, made-open, opened-goes-on, refused-behind, refused-front}
 use Rattle.gx_decide.proofs.open.open_log.Goals as goal
 
 pub returns-in_err-sync-clause-broken : goal.returns-in_err-sync-clause-broken

@@ -1,4 +1,4 @@
-use Rattle.std.proofs.Common.{rules, ◌≡◌, ◌<◌, ℕ, None, Some, refl, sym, ◌∙◌, ap, subst, arith}
+use Rattle.std.proofs.Common.{rules, ◌≡◌, ◌<◌, None, sym, ◌∙◌, subst, arith}
 use Rattle.gx_decide.specs.Disk.{DiskState}
 use Rattle.gx_decide.specs.Deciding.{IsSlot}
 use Rattle.gx_decide.specs.Log.{IsSound, gate_at}

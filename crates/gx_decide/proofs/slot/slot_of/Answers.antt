@@ -1,4 +1,4 @@
-use Rattle.std.proofs.Common.{rules, ◌≡◌, ℕ, ◌<◌, length, true, false, get_or, slice_index_or}
+use Rattle.std.proofs.Common.{rules}
 use Rattle.gx_decide.proofs.Slots.{six_zeros}
 use Rattle.gx_decide.proofs.slot.slot_of.Goals as goal
 

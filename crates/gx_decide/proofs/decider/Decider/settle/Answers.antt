@@ -1,5 +1,5 @@
-use Rattle.std.proofs.Common.{rules, ◌≡◌, ◌<◌, ◌≤◌, ◌^◌, ℕ, List, true, false, None, Some, refl, inl, inr, sym, ◌∙◌, arith}
-use Rattle.gx_decide.specs.Kept.{Knows, slots_by, used_by, verdict_by}
+use Rattle.std.proofs.Common.{rules, ◌≡◌, ◌<◌, List, true, false, None, arith}
+use Rattle.gx_decide.specs.Kept.{slots_by, used_by, verdict_by}
 use Rattle.gx_decide.specs.History.{DoesBreak, DoesSettle, Event, GoesOn, Led, SettleBroken}
 use Rattle.gx_decide.proofs.Settling.{broken-goes-on, knows-more, on-err, settled-goes-on}
 use Rattle.gx_decide.proofs.decider.Decider.settle.Goals as goal
