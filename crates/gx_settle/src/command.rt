@@ -11,7 +11,7 @@ pub enum Command {
 
 /// Reads a line, without its end: `settle G commit`, `settle G abort`, `ask G` or `reopen`, G from 1.
 pub fn read_command(line: &[u8]) -> Option<Command> {
-    if line == b"reopen" {
+    if line == b"reopen".as_slice() {
         return Some(Command::Reopen);
     }
     if let Some(digits) = line.strip_prefix(b"ask ") {
