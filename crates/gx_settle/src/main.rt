@@ -1,6 +1,7 @@
 //! `gx_settle` reads lines that settle or ask for verdicts of transactions from the standard input, and prints the answers.
 #![tactic(auto)]
 
+mod attempt;
 mod command;
 mod reading;
 mod running;
