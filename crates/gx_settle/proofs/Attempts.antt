@@ -1,5 +1,5 @@
 -- What the work comes to, by what running comes to.
-use Rattle.std.proofs.Common.{◌≡◌, inl, inr, ◌⊎◌, ℕ, List, ◌∷◌, false}
+use Rattle.std.proofs.Common.{inl, inr, ℕ, List, ◌∷◌, false}
 use Rattle.std.specs.Prelude.{Option}
 use Rattle.gx_decide.specs.declared.decide_fault.DecideFault.{DecideFault}
 use Rattle.gx_decide.specs.declared.decide_fault.DecideFault.TheVariants as fault
@@ -8,6 +8,7 @@ use Rattle.gx_settle.specs.declared.attempt.Attempt.{Attempt}
 use Rattle.gx_settle.specs.declared.attempt.Attempt.TheVariants as attempt
 use Rattle.gx_settle.specs.declared.command.Command.{Command}
 use Rattle.gx_settle.specs.Running.{IsCut, IsPart, IsStopped}
+use Rattle.gx_settle.proofs.Runs.{up-to}
 use Rattle.gx_settle.specs.Top.{IsAttempt, IsRan, IsRead, IsStoppedText, work}
 
 part-of : (fault : DecideFault) (commands : List Command) (old new : DiskState) (before now : ℕ) (answers : List ℕ) → IsStopped fault commands old new before now answers → IsPart commands old new
@@ -15,6 +16,7 @@ part-of fault commands old new before now answers is = record {
   events = is.failed ∷ is.events;
   rest = is.rest;
   parts = is.parts;
+  answered = up-to is.failed is.events is.command is.asked is.answered;
   went = λ was. (false, (is.mid, (is.went was).0, (is.went was).1, (is.went was).2));
   lasts = λ earlier ready led. (false, is.lasts earlier ready led);
 }

@@ -1,5 +1,5 @@
 -- Bytes that were parted behind their first line.
-use Rattle.std.proofs.Common.{◌≡◌, ℕ, List, [], ◌∷◌, length, take, drop, refl, sym, ap, ◌∙◌, subst, arith}
+use Rattle.std.proofs.Common.{◌≡◌, ℕ, List, [], ◌∷◌, length, take, drop, refl, sym, ap, ◌∙◌, arith}
 use Rattle.std.specs.List.{prefix_len}
 use Rattle.gx_settle.specs.Commands.{is_within, lines_of}
 use Rattle.gx_settle.proofs.Lines.{lines_of-first, lines_of-last}

@@ -1,5 +1,5 @@
 -- The first line of bytes.
-use Rattle.std.proofs.Common.{◌≡◌, ℕ, ◌+◌, ◌==◌, Bool, true, false, not, cond, List, [], ◌∷◌, length, suc, refl, sym, ◌∙◌, ap, take, drop, arith}
+use Rattle.std.proofs.Common.{◌≡◌, ℕ, ◌+◌, ◌==◌, Bool, true, false, not, cond, List, [], ◌∷◌, suc, sym, ◌∙◌, ap, take, drop, arith}
 use Rattle.std.specs.List.{prefix_len}
 use Rattle.gx_settle.specs.Commands.{is_within, lines_of, with_byte}
 

@@ -1,7 +1,6 @@
 -- Running a command more.
-use Rattle.std.proofs.Common.{◌≡◌, inl, inr, ℕ, ◌+◌, ◌<◌, ◌≤◌, ◌^◌, List, [], ◌∷◌, ◌++◌, Bool, true, false, refl, sym, ap, ◌∙◌, subst, arith, append_assoc, append-nil}
-use Rattle.std.specs.Prelude.{⊤, Option, None, Result, Ok, Err, IfErr, OnErr, OnOk}
-use Rattle.gx_outside.specs.Causes.{Rose}
+use Rattle.std.proofs.Common.{◌≡◌, ℕ, ◌<◌, ◌≤◌, ◌^◌, List, [], ◌∷◌, ◌++◌, Bool, true, false, refl, sym, ap, ◌∙◌, subst, arith, append_assoc, append-nil}
+use Rattle.std.specs.Prelude.{Option, None, Result, Ok, Err, IfErr, OnErr}
 use Rattle.gx_decide.specs.declared.decision.Decision.{Decision}
 use Rattle.gx_decide.specs.declared.decide_fault.DecideFault.{DecideFault}
 use Rattle.gx_decide.specs.declared.decide_fault.DecideFault.TheVariants.{Disk, Full, NotLog, OutOfMemory}
@@ -15,7 +14,7 @@ use Rattle.gx_decide.proofs.Verdicts.{durable, equal}
 use Rattle.gx_ids.specs.declared.ids.Gxid.{Gxid}
 use Rattle.gx_settle.specs.declared.command.Command.{Command}
 use Rattle.gx_settle.specs.declared.command.Command.TheVariants.{Settle, Reopen}
-use Rattle.gx_settle.specs.Running.{AreAnswered, IsCause, IsCut, IsFailed, IsLost, IsPart, IsRun, IsStep, IsStepCut, IsStopped, Lasts, Went, all_asked, asked, text_of, told}
+use Rattle.gx_settle.specs.Running.{AreAnswered, AreAnsweredUpTo, IsCause, IsCut, IsFailed, IsLost, IsRun, IsStep, IsStepCut, IsStopped, Lasts, Went, all_asked, asked, text_of, told}
 
 led-went : (events earlier : List Event) (old new : DiskState) (was now : Bool) → Led earlier old was → Went events old was new now → Led (events ++ earlier) new now
 led-went [] earlier old new was now led went = subst (λ (d : DiskState). Led earlier d now) (sym went.0) (subst (λ (b : Bool). Led earlier old b) (sym went.1) led)
@@ -40,6 +39,13 @@ answered-more (Settled gxid wish answer) events one all = all
 answered-more OpenBroken events one all = one
 answered-more (SettleBroken gxid wish) events one all = one
 answered-more Stopped events one all = one
+
+pub up-to : (event : Event) (events : List Event) (command : Command) → asked event ≡ command ∷ [] → AreAnswered events → AreAnsweredUpTo (event ∷ events)
+up-to Opened events command asks all = all
+up-to OpenBroken events command asks all = all
+up-to (Settled gxid wish answer) events command asks all = all
+up-to (SettleBroken gxid wish) events command asks all = all
+up-to Stopped events command asks all = absurd (cc)
 
 pub opened : (commands : List Command) (old new : DiskState) (text : List ℕ) (end : ℕ) → text ≡ [] → IsEnd (slots_of old.size) old.seen end → AreMade (opening (slots_of old.size) old.seen end) old new → IsUnderWay commands commands old new text
 opened commands old new text end empty is made = record {
@@ -83,6 +89,8 @@ module _ (commands rest : List Command) (old mid : DiskState) (text : List ℕ) 
     stopped fault f = record {
       events = is.events;
       failed = f.event;
+      command = command;
+      asked = f.asked;
       rest = rest;
       mid = mid;
       parts = parts-more commands rest is.events f.event command parts f.asked;
@@ -101,21 +109,22 @@ module _ (commands rest : List Command) (old mid : DiskState) (text : List ℕ) 
       events = lost.event ∷ is.events;
       rest = rest;
       parts = parts-more commands rest is.events lost.event command parts lost.asked;
+      answered = up-to lost.event is.events command lost.asked is.answered;
       went = λ was. (lost.now, (mid, true, is.went was, lost.happens));
       lasts = λ earlier ready led. (lost.now, lasts-went (lost.event ∷ is.events) earlier old new ready lost.now led (mid, true, is.went ready, lost.happens));
     }
 
 pub run : (commands left : List Command) (old new : DiskState) (text : List ℕ) → left ≡ [] → IsUnderWay commands left old new text → (events : List Event) × IsRun commands old new events × (text ≡ text_of events)
 run commands left old new text none is = (
-    is.events,
-    record {
-      asked = sym (is.parts ∙ ap (λ (t : List Command). all_asked is.events ++ t) none ∙ append-nil (all_asked is.events));
-      answered = is.answered;
-      went = is.went;
-      lasts = λ earlier ready led. lasts-went is.events earlier old new ready true led (is.went ready);
-    },
-    is.told,
-  )
+  is.events,
+  record {
+    asked = sym (is.parts ∙ ap (λ (t : List Command). all_asked is.events ++ t) none ∙ append-nil (all_asked is.events));
+    answered = is.answered;
+    went = is.went;
+    lasts = λ earlier ready led. lasts-went is.events earlier old new ready true led (is.went ready);
+  },
+  is.told,
+)
 
 module _ (old new : DiskState) (before now : ℕ) (end : ℕ) (is : IsEnd (slots_of old.size) old.seen end) (partly : AreMadePartly (opening (slots_of old.size) old.seen end) old new) where
   -- the open that the run begins with failed
@@ -132,6 +141,8 @@ module _ (old new : DiskState) (before now : ℕ) (end : ℕ) (is : IsEnd (slots
   first-stopped commands fault text empty refused = record {
     events = [];
     failed = OpenBroken;
+    command = Reopen;
+    asked = refl;
     rest = commands;
     mid = old;
     parts = refl;
@@ -150,6 +161,7 @@ module _ (old new : DiskState) (before now : ℕ) (end : ℕ) (is : IsEnd (slots
     events = OpenBroken ∷ [];
     rest = commands;
     parts = refl;
+    answered = tt;
     went = λ was. (false, (old, was, (refl, refl), broken was));
     lasts = λ earlier ready led. (false, lasts-went (OpenBroken ∷ []) earlier old new ready false led (old, ready, (refl, refl), broken ready));
   }

@@ -1,5 +1,5 @@
 -- What becomes of commands, and what is told of it. The newest event comes first.
-use Rattle.std.specs.Prelude.{◌≡◌, ⊤, ℕ, ◌+◌, Bool, true, false, List, [], ◌∷◌, ◌++◌, None, codes}
+use Rattle.std.specs.Prelude.{◌≡◌, ⊤, ℕ, Bool, true, false, List, [], ◌∷◌, ◌++◌, None, codes}
 use Rattle.std.specs.Fmt.{decimal}
 use Rattle.gx_outside.specs.Causes.{Rose}
 use Rattle.gx_decide.specs.declared.decision.Decision.{Decision}
@@ -88,10 +88,18 @@ IsCause (Full most) old mid new event before now = IsFull mid new event most
 IsCause (NotLog bad) old mid new event before now = IsNoLog old mid new event bad
 IsCause OutOfMemory old mid new event before now = ⊤
 
+-- all of them were answered, but perhaps the newest
+abbrev pub AreAnsweredUpTo : List Event → Type 0
+AreAnsweredUpTo [] = ⊤
+AreAnsweredUpTo (Stopped ∷ events) = ⊥
+AreAnsweredUpTo (_ ∷ events) = AreAnswered events
+
 -- the disk was opened and commands were run up to one that failed; the text is that of those before it
 pub record IsStopped (fault : DecideFault) (commands : List Command) (old new : DiskState) (before now : ℕ) (text : List ℕ) : Type 0 where
   pub events : List Event
   pub failed : Event
+  pub command : Command
+  pub asked : asked failed ≡ command ∷ []
   pub rest : List Command
   pub mid : DiskState
   pub parts : Reopen ∷ commands ≡ all_asked (failed ∷ events) ++ rest
@@ -106,6 +114,7 @@ pub record IsPart (commands : List Command) (old new : DiskState) : Type 0 where
   pub events : List Event
   pub rest : List Command
   pub parts : Reopen ∷ commands ≡ all_asked events ++ rest
+  pub answered : AreAnsweredUpTo events
   pub went : (was : Bool) → (now : Bool) × Went events old was new now
   pub lasts : (earlier : List Event) (ready : Bool) → Led earlier old ready → (now : Bool) × Lasts (events ++ earlier) new now
 

@@ -62,10 +62,8 @@ fn number(digits: &[u8]) -> Option<u64>
 fn grown(number: u64, digit: u8) -> Option<u64>
     ensures { result ≡ of.grown number digit }
 {
-    if digit < 48 || digit > 57 {
+    if digit < b'0' || digit > b'9' {
         return None;
     }
-    number
-        .checked_mul(10)?
-        .checked_add((digit - 48) as u64)
+    number.checked_mul(10)?.checked_add((digit - b'0') as u64)
 }

@@ -28,7 +28,7 @@ fn line_len(bytes: &[u8]) -> usize
     ensures value { result ≡ prefix_len of.is_within bytes.now }
     ensures within { result ≤ length bytes.now }
 {
-    bytes.iter().take_while(|byte| **byte != 10).count()
+    bytes.iter().take_while(|byte| **byte != b'\n').count()
 }
 
 // The first line of the bytes, and the bytes behind its line feed.

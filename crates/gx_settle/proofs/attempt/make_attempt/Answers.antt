@@ -1,7 +1,5 @@
-use Rattle.std.proofs.Common.{rules, ◌≤◌, ◌<◌, length, arith, subst, List, ℕ}
-use Rattle.gx_settle.specs.Commands.{AreLinesOf, lines_of}
-use Rattle.gx_settle.specs.declared.command.Command.{Command}
-use Rattle.gx_settle.specs.Top.{IsRan, IsRead, limit}
+use Rattle.std.proofs.Common.{rules, arith}
+use Rattle.gx_settle.specs.Top.{IsRan, IsRead}
 use Rattle.gx_settle.proofs.Attempts.{ran-attempt}
 use Rattle.gx_settle.proofs.attempt.make_attempt.Goals as goal
 

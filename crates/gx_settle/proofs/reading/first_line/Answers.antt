@@ -1,6 +1,4 @@
-use Rattle.std.proofs.Common.{rules, ◌≡◌, ◌<◌, ◌≤◌, [], ◌∷◌, List, ℕ, take, drop, sym, ap, ◌∙◌, subst, refl, arith}
-use Rattle.std.specs.List.{prefix_len}
-use Rattle.gx_settle.specs.Commands.{is_within, lines_of}
+use Rattle.std.proofs.Common.{rules}
 use Rattle.gx_settle.proofs.Cut.{first-cut, last-cut}
 use Rattle.gx_settle.proofs.reading.first_line.Goals as goal
 

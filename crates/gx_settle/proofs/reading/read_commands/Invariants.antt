@@ -1,6 +1,6 @@
-use Rattle.std.proofs.Common.{◌≡◌, ◌<◌, ◌≤◌, ◌+◌, ◌^◌, List, ℕ, ◌++◌, length}
+use Rattle.std.proofs.Common.{◌≤◌, ◌+◌, length}
 use Rattle.std.specs.Prelude.{All}
-use Rattle.gx_settle.specs.Commands.{AreLinesOf, IsDrawn, lines_of}
+use Rattle.gx_settle.specs.Commands.{IsDrawn}
 use Rattle.gx_settle.proofs.Behind.{IsReading}
 use Rattle.gx_settle.proofs.reading.read_commands.Given as goal
 
