@@ -6,4 +6,4 @@ mod Reading
 mod Settling
 mod Slots
 mod Steps
-mod Verdicts
+pub mod Verdicts

@@ -1,0 +1,7 @@
+mod Attempts
+mod Behind
+mod Cut
+mod Lines
+mod Numbers
+mod Reports
+mod Runs
