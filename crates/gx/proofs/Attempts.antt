@@ -2,18 +2,20 @@
 use Rattle.std.proofs.Common.{◌≡◌, ◌⊎◌, inl, inr, ℕ, List, [], Option, true, Ok, Err, Bool, false}
 use Rattle.std.specs.declared.alloc.Global.{Global}
 use Rattle.std.specs.declared.string.String.{String}
+use Rattle.gx_words.specs.declared.options.Options.{Options}
 use Rattle.gx.specs.Form.{is_of_form}
 use Rattle.gx_script.specs.declared.Script.{Script}
 use Rattle.gx.specs.declared.attempt.Attempt.{Attempt}
-use Rattle.gx.specs.declared.attempt.Attempt.TheVariants.{Done, Stopped, Refused, ReadFault, TooLarge, NotBuilt, OutOfMemory}
-use Rattle.gx.specs.Top.{IsAttempt, IsRan, IsRead}
+use Rattle.gx.specs.declared.attempt.Attempt.TheVariants.{Done, Stopped, Usage, Refused, ReadFault, TooLarge, NotBuilt, OutOfMemory}
+use Rattle.gx.specs.Top.{AreAsked, IsAttempt, IsRan, IsRead}
 
-module _ (words : List (String Global)) (left after : Option (List ℕ)) (before now : ℕ) (none : words ≡ []) where
-  pub ran : (script : Script) → IsRead left after (Ok script) → is_of_form script ≡ true → (a : Attempt) → IsRan script a → IsAttempt words left after before now a
-  ran script read built (Done run text) is = record { none = none; script = script; read = read; built = built; is = is }
-  ran script read built (Stopped run text) is = record { none = none; script = script; read = read; built = built; is = is }
-  ran script read built (OutOfMemory run) (inl e) = (none, inl e)
-  ran script read built (OutOfMemory run) (inr is) = (none, inr (record { script = script; read = read; built = built; is = is }))
+module _ (words : List (String Global)) (left after : Option (List ℕ)) (before now : ℕ) (options : Options) (asked : AreAsked words options) where
+  pub ran : (script : Script) → IsRead left after (Ok script) → is_of_form script ≡ true → (a : Attempt) → IsRan script options a → IsAttempt words left after before now a
+  ran script read built (Done run text) is = record { options = options; asked = asked; script = script; read = read; built = built; is = is }
+  ran script read built (Stopped run text) is = record { options = options; asked = asked; script = script; read = read; built = built; is = is }
+  ran script read built (OutOfMemory run) (inl e) = inl e
+  ran script read built (OutOfMemory run) (inr is) = inr (record { options = options; asked = asked; script = script; read = read; built = built; is = is })
+  ran script read built Usage is = absurd is
   ran script read built (Refused text) is = absurd is
   ran script read built ReadFault is = absurd is
   ran script read built TooLarge is = absurd is

@@ -6,9 +6,9 @@ use Rattle.gx_store.specs.declared.run.Run.{Run}
 use Rattle.gx_world.specs.Worlds.{Shelf}
 use Rattle.gx_drive.specs.Ordered.{AreFailuresFew, AreHeld}
 use Rattle.gx.specs.declared.attempt.Attempt.{Attempt}
-use Rattle.gx.specs.declared.attempt.Attempt.TheVariants.{Done, Stopped, Refused, ReadFault, TooLarge, NotBuilt, OutOfMemory}
+use Rattle.gx.specs.declared.attempt.Attempt.TheVariants.{Done, Stopped, Usage, Refused, ReadFault, TooLarge, NotBuilt, OutOfMemory}
 use Rattle.gx.specs.declared.top.Report.{Report}
-use Rattle.gx.specs.Top.{AreKept, IsAttempt, IsCutShort, IsDone, IsDue, IsNotBuilt, IsPartRun, IsReadFault, IsRefused, IsStatus, IsStopped, IsTold, IsToldOf, IsTooLarge, IsWritten, is_over, run_in, status_in, text_in}
+use Rattle.gx.specs.Top.{AreKept, IsAttempt, IsCutShort, IsDone, IsDue, IsNotBuilt, IsPartRun, IsReadFault, IsRefused, IsStatus, IsStopped, IsTold, IsToldOf, IsTooLarge, IsUsage, IsWritten, is_over, run_in, status_in, text_in}
 
 abbrev pub pick : Bool → Type 0 → Type 0 → Type 0
 pick true A B = A
@@ -20,6 +20,7 @@ module _ (written shown : Option (List ℕ)) (faults more : ℕ) (report : Repor
       ⊎ ((is_over a ≡ false) × (report.status ≡ 6) × (report.run ≡ run_in a) × (shown ≡ written))
   told (Done run text) is = inl (refl, is)
   told (Stopped run text) is = inl (refl, is)
+  told Usage is = inl (refl, is)
   told (Refused text) is = inl (refl, is)
   told ReadFault is = inl (refl, is)
   told TooLarge is = inl (refl, is)
@@ -27,7 +28,8 @@ module _ (written shown : Option (List ℕ)) (faults more : ℕ) (report : Repor
   told (OutOfMemory run) is = inr (refl, is.0, is.1, is.2)
 
   status : (a : Attempt) → IsStatus (status_in a)
-  status (Done run text) = inl (inl (inl (inl (inl (inl (inl refl))))))
+  status (Done run text) = inl (inl (inl (inl (inl (inl (inl (inl refl)))))))
+  status Usage = inl (inl (inl (inl (inl (inl (inl (inr refl)))))))
   status (Refused text) = inl (inl (inl (inl (inl (inl (inr refl))))))
   status ReadFault = inl (inl (inl (inl (inl (inr refl)))))
   status (OutOfMemory run) = inl (inl (inl (inr refl)))
@@ -54,6 +56,7 @@ module _ (written shown : Option (List ℕ)) (faults more : ℕ) (report : Repor
   ended : (a : Attempt) → is_over a ≡ true → (status_in a ≡ 5 → ⊥) × (status_in a ≡ 6 → ⊥)
   ended (Done run text) over = (λ e. cc, λ e. cc)
   ended (Stopped run text) over = (λ e. cc, λ e. cc)
+  ended Usage over = (λ e. cc, λ e. cc)
   ended (Refused text) over = (λ e. cc, λ e. cc)
   ended ReadFault over = (λ e. cc, λ e. cc)
   ended TooLarge over = (λ e. cc, λ e. cc)
@@ -78,35 +81,39 @@ module _ (words : List (String Global)) (left after : Option (List ℕ)) (before
   abbrev pub IsDueAt : ℕ → Run → List ℕ → Type 0
   IsDueAt n run text =
       pick (nat_eq n 0) (IsDone words left after run text)
+      (pick (nat_eq n 2) (IsUsage words run text)
       (pick (nat_eq n 3) (IsRefused words left after run text)
       (pick (nat_eq n 4) (IsReadFault words before now run text)
       (pick (nat_eq n 7) (IsStopped words left after run text)
       (pick (nat_eq n 9) (IsTooLarge words left after run text)
-      (pick (nat_eq n 10) (IsNotBuilt words left after run text) ⊥)))))
+      (pick (nat_eq n 10) (IsNotBuilt words left after run text) ⊥))))))
 
   due : (a : Attempt) → IsAttempt words left after before now a → is_over a ≡ true → IsDueAt (status_in a) (run_in a) (text_in a)
   due (Done run text) is over = is
   due (Stopped run text) is over = is
+  due Usage is over = record { unknown = is; empty = refl; told = refl }
   due (Refused text) is over = is
-  due ReadFault is over = record { none = is.0; rose = is.1; empty = refl; told = refl }
-  due TooLarge is over = record { none = is.0; much = is.1; empty = refl; told = refl }
+  due ReadFault is over = record { asked = is.0; rose = is.1; empty = refl; told = refl }
+  due TooLarge is over = record { asked = is.0; much = is.1; empty = refl; told = refl }
   due NotBuilt is over = record { cause = is; empty = refl; told = refl }
   due (OutOfMemory run) is over = absurd (cc)
 
   -- so it's one of those that may be cut short
   at-any : (a : Attempt) → IsAttempt words left after before now a → is_over a ≡ true → IsDue words left after before now (run_in a) (text_in a)
-  at-any (Done run text) is over = inl (inl (inl (inl (inl is))))
-  at-any (Stopped run text) is over = inl (inl (inl (inl (inr is))))
+  at-any (Done run text) is over = inl (inl (inl (inl (inl (inl is)))))
+  at-any (Stopped run text) is over = inl (inl (inl (inl (inl (inr is)))))
+  at-any Usage is over = inl (inl (inl (inl (inr (due Usage is over)))))
   at-any (Refused text) is over = inl (inl (inl (inr is)))
   at-any ReadFault is over = inl (inl (inr (due ReadFault is over)))
   at-any TooLarge is over = inl (inr (due TooLarge is over))
   at-any NotBuilt is over = inr (due NotBuilt is over)
   at-any (OutOfMemory run) is over = absurd (cc)
 
-  part : (a : Attempt) → IsAttempt words left after before now a → is_over a ≡ false → (words ≡ []) × IsPartRun left after (run_in a)
+  part : (a : Attempt) → IsAttempt words left after before now a → is_over a ≡ false → IsPartRun words left after (run_in a)
   part (OutOfMemory run) of out = of
   part (Done run text) of out = absurd (cc)
   part (Stopped run text) of out = absurd (cc)
+  part Usage of out = absurd (cc)
   part (Refused text) of out = absurd (cc)
   part ReadFault of out = absurd (cc)
   part TooLarge of out = absurd (cc)
@@ -143,34 +150,11 @@ module _ (words : List (String Global)) (left after : Option (List ℕ)) (before
   ]
 
   pub memory : (a : Attempt) → IsAttempt words left after before now a → IsToldOf a written shown faults more report → report.status ≡ 6
-      → (shown ≡ written) × (words ≡ []) × IsPartRun left after report.run
+      → (shown ≡ written) × IsPartRun words left after report.run
   memory a of is here = elim (told written shown faults more report a is) [
     | inl end ↦ elim end.1.ended [
       | inl whole ↦ absurd ((ended written shown faults more report a end.0).1 (sym whole.0 ∙ here))
       | inr cut ↦ absurd (omega (arith, cut.0, here))
     ]
-    | inr out ↦ (out.3, (part a of out.0).0, subst (λ (r : Run). IsPartRun left after r) (sym out.2) (part a of out.0).1)
-  ]
-
-  -- where there are words, nothing is built
-  unbuilt : (a : Attempt) → IsAttempt words left after before now a → (words ≡ [] → ⊥) → (status_in a ≡ 10) × (is_over a ≡ true)
-  unbuilt (Done run text) of other = absurd (other of.none)
-  unbuilt (Stopped run text) of other = absurd (other of.none)
-  unbuilt (Refused text) of other = absurd (other of.none)
-  unbuilt ReadFault of other = absurd (other of.0)
-  unbuilt TooLarge of other = absurd (other of.0)
-  unbuilt NotBuilt of other = (refl, refl)
-  unbuilt (OutOfMemory run) of other = absurd (other of.0)
-
-  clash : (b : Bool) → b ≡ false → b ≡ true → ⊥
-  clash true e f = cc
-  clash false e f = cc
-
-  pub with_words : (a : Attempt) → IsAttempt words left after before now a → IsToldOf a written shown faults more report → (words ≡ [] → ⊥) → (report.status ≡ 10) ⊎ (report.status ≡ 5)
-  with_words a of is other = elim (told written shown faults more report a is) [
-    | inl end ↦ elim end.1.ended [
-      | inl whole ↦ inl (whole.0 ∙ (unbuilt a of other).0)
-      | inr cut ↦ inr cut.0
-    ]
-    | inr out ↦ absurd (clash (is_over a) out.0 (unbuilt a of other).1)
+    | inr out ↦ (out.3, subst (λ (r : Run). IsPartRun words left after r) (sym out.2) (part a of out.0))
   ]

@@ -1,5 +1,5 @@
 -- What the top call answers, and when.
-use Rattle.std.specs.Prelude.{◌≡◌, ℕ, ◌<◌, ◌≤◌, Bool, true, false, List, [], length, Some, Result, Ok, Err, ◌⊎◌, codes}
+use Rattle.std.specs.Prelude.{◌≡◌, ℕ, ◌<◌, ◌≤◌, Bool, true, false, List, [], length, ◌++◌, ◌&&◌, if◌then◌else◌, is_none, Some, Result, Ok, Err, ◌⊎◌, codes}
 use Rattle.std.specs.declared.option.Option.{Option}
 use Rattle.std.specs.declared.string.String.{String}
 use Rattle.std.specs.declared.alloc.Global.{Global}
@@ -7,6 +7,10 @@ use Rattle.std.specs.declared.vec.Vec.{Vec}
 use Rattle.std.specs.Io.KnownBytes.{Consumes, Appends, IsAtEnd}
 use Rattle.gx_outside.specs.Causes.{Rose, WritesPrefix}
 use Rattle.gx_tree.specs.declared.row.KeyedRow.{KeyedRow}
+use Rattle.gx_words.specs.Words.{IsCommand}
+use Rattle.gx_words.specs.Texts.{texts, usage}
+use Rattle.gx_words.specs.declared.options.Options.{Options}
+use Rattle.gx_trace_text.specs.TraceText.{trace_of}
 use Rattle.gx_script.specs.declared.Script.{Script}
 use Rattle.gx.specs.Form.{is_of_form}
 use Rattle.gx_sql.specs.declared.refusal.Refusal.{Refusal}
@@ -26,7 +30,7 @@ use Rattle.gx_world.specs.Worlds.{Shelf}
 use Rattle.gx_drive.specs.Ordered.{AreFailuresFew, AreFirst, AreHeld}
 use Rattle.gx.specs.declared.top.Report.{Report}
 use Rattle.gx.specs.declared.attempt.Attempt.{Attempt}
-use Rattle.gx.specs.declared.attempt.Attempt.TheVariants.{Done, Stopped, Refused, ReadFault, TooLarge, NotBuilt, OutOfMemory}
+use Rattle.gx.specs.declared.attempt.Attempt.TheVariants.{Done, Stopped, Usage, Refused, ReadFault, TooLarge, NotBuilt, OutOfMemory}
 use Rattle.gx.specs.Refused.{refusal_text}
 use Rattle.gx_report.specs.Text.{stopped_text, text_of}
 
@@ -37,9 +41,27 @@ limit = 16777216
 abbrev pub no_run : Run
 no_run = record { steps = [] }
 
--- how often the driver asks at most what may be done
-abbrev pub turns : ℕ
-turns = 1000000
+-- the words ask for what is built: the driver that takes the first of what is enabled, and a script that is read
+abbrev pub is_plain : Options → Bool
+is_plain options = is_none options.seed && is_none options.work
+
+pub record AreAsked (words : List (String Global)) (options : Options) : Type 0 where
+  pub command : IsCommand (texts words) options
+  pub plain : is_plain options ≡ true
+
+-- the words are not in the language of the command line
+abbrev pub AreUnknown : List (String Global) → Type 0
+AreUnknown words = (options : Options) → IsCommand (texts words) options → ⊥
+
+-- the words ask for what isn't built
+pub record AreOther (words : List (String Global)) : Type 0 where
+  pub options : Options
+  pub command : IsCommand (texts words) options
+  pub other : is_plain options ≡ false
+
+-- the run's text, where it is asked for
+abbrev pub traced : Bool → Script → Run → List ℕ
+traced trace script run = if trace then trace_of script run else []
 
 -- The run is a legal history of one store without segments. Its nodes follow their rules and the commit protocol, its messages are
 -- numbered, follow what they tell of, and arrive after they were sent, clocks rise, and each event is the first of what is enabled then.
@@ -52,32 +74,32 @@ pub record IsRunOf (script : Script) (run : Run) : Type 0 where
   pub driven : AreFirst script [] run.steps
 
 -- every line was answered in it, every block is closed, every transaction has ended, these are the tables at its end, and the text is that of
--- both
-pub record IsWholeRunOf (script : Script) (run : Run) (text : List ℕ) : Type 0 where
+-- both, and the run's own behind it where that is asked for
+pub record IsWholeRunOf (script : Script) (trace : Bool) (run : Run) (text : List ℕ) : Type 0 where
   pub is : IsRunOf script run
   pub over : IsFinished script run
   pub tables : List (Vec KeyedRow Global)
   pub all : length tables ≡ length script.tables
   pub final : AreFinalFrom 0 (marks_of run) tables
-  pub told : text ≡ text_of script run tables
+  pub told : text ≡ text_of script run tables ++ traced trace script run
 
--- all turns were taken, a session is unfinished, and the text is that of the answers so far
-pub record IsStoppedRunOf (script : Script) (run : Run) (text : List ℕ) : Type 0 where
+-- all turns were taken, a session is unfinished, and the text is that of the answers so far, and the run's own where that is asked for
+pub record IsStoppedRunOf (script : Script) (options : Options) (run : Run) (text : List ℕ) : Type 0 where
   pub is : IsRunOf script run
-  pub all : length run.steps ≡ turns
+  pub all : length run.steps ≡ options.turns
   pub unfinished : is_any_unfinished script run.steps ≡ true
-  pub told : text ≡ stopped_text script run
+  pub told : text ≡ stopped_text script run ++ traced options.trace script run
 
 -- nothing was run, or a part of a run of the script
 abbrev pub IsPartOf : Script → Run → Type 0
 IsPartOf script run = (run ≡ no_run) ⊎ IsRunOf script run
 
 -- what became of a script that was run
-abbrev pub IsRan : Script → Attempt → Type 0
-IsRan script (Done run text) = IsWholeRunOf script run text.items
-IsRan script (Stopped run text) = IsStoppedRunOf script run text.items
-IsRan script (OutOfMemory run) = IsPartOf script run
-IsRan script _ = ⊥
+abbrev pub IsRan : Script → Options → Attempt → Type 0
+IsRan script options (Done run text) = IsWholeRunOf script options.trace run text.items
+IsRan script options (Stopped run text) = IsStoppedRunOf script options run text.items
+IsRan script options (OutOfMemory run) = IsPartOf script run
+IsRan script options _ = ⊥
 
 -- what is said of bytes that are no script for this reason
 abbrev pub IsRefusedFor : Refusal → Attempt → Type 0
@@ -94,43 +116,58 @@ pub record IsRead (left after : Option (List ℕ)) (said : Result Script Refusal
   pub is : Reads bytes said
 
 -- a script of the form that is built was read, and this is a run of it, up to some step
-pub record IsBegun (left after : Option (List ℕ)) (run : Run) : Type 0 where
+pub record IsBegun (words : List (String Global)) (left after : Option (List ℕ)) (run : Run) : Type 0 where
+  pub options : Options
+  pub asked : AreAsked words options
   pub script : Script
   pub read : IsRead left after (Ok script)
   pub built : is_of_form script ≡ true
   pub is : IsRunOf script run
 
 -- nothing was run, or a part of the script that was read
-abbrev pub IsPartRun : Option (List ℕ) → Option (List ℕ) → Run → Type 0
-IsPartRun left after run = (run ≡ no_run) ⊎ IsBegun left after run
+abbrev pub IsPartRun : List (String Global) → Option (List ℕ) → Option (List ℕ) → Run → Type 0
+IsPartRun words left after run = (run ≡ no_run) ⊎ IsBegun words left after run
 
--- there were no words, a script of the form that is built was read, and this is its run and the text of that
+-- a script of the form that is built was read, and this is its run and the text of that
 pub record IsDone (words : List (String Global)) (left after : Option (List ℕ)) (run : Run) (text : List ℕ) : Type 0 where
-  pub none : words ≡ []
+  pub options : Options
+  pub asked : AreAsked words options
   pub script : Script
   pub read : IsRead left after (Ok script)
   pub built : is_of_form script ≡ true
-  pub is : IsWholeRunOf script run text
+  pub is : IsWholeRunOf script options.trace run text
 
--- there were no words, a script of the form that is built was read, and its run stopped once all turns were taken
+-- a script of the form that is built was read, and its run stopped once all turns were taken
 pub record IsStopped (words : List (String Global)) (left after : Option (List ℕ)) (run : Run) (text : List ℕ) : Type 0 where
-  pub none : words ≡ []
+  pub options : Options
+  pub asked : AreAsked words options
   pub script : Script
   pub read : IsRead left after (Ok script)
   pub built : is_of_form script ≡ true
-  pub is : IsStoppedRunOf script run text
+  pub is : IsStoppedRunOf script options run text
 
--- there were no words, the bytes that were read are no script, nothing was run, and the text says why
+-- a script was asked for and read
+pub record IsForScript (words : List (String Global)) : Type 0 where
+  pub options : Options
+  pub asked : AreAsked words options
+
+-- the words are not in the language, nothing was run, and the text says what is
+pub record IsUsage (words : List (String Global)) (run : Run) (text : List ℕ) : Type 0 where
+  pub unknown : AreUnknown words
+  pub empty : run ≡ no_run
+  pub told : text ≡ usage
+
+-- the bytes that were read are no script, nothing was run, and the text says why
 pub record IsRefused (words : List (String Global)) (left after : Option (List ℕ)) (run : Run) (text : List ℕ) : Type 0 where
-  pub none : words ≡ []
+  pub asked : IsForScript words
   pub refusal : Refusal
   pub read : IsRead left after (Err refusal)
   pub empty : run ≡ no_run
   pub told : refusal_text refusal ≡ Some text
 
--- there were no words, the source failed, nothing was run, and the text says so
+-- the source failed, nothing was run, and the text says so
 pub record IsReadFault (words : List (String Global)) (before now : ℕ) (run : Run) (text : List ℕ) : Type 0 where
-  pub none : words ≡ []
+  pub asked : IsForScript words
   pub rose : Rose before now
   pub empty : run ≡ no_run
   pub told : text ≡ codes "read fault\n"
@@ -141,22 +178,23 @@ pub record IsTooMuch (left after : Option (List ℕ)) : Type 0 where
   pub taken : Consumes left after bytes
   pub more : limit < length bytes
 
--- there were no words, more bytes came than a script may have, nothing was run, and the text says so
+-- more bytes came than a script may have, nothing was run, and the text says so
 pub record IsTooLarge (words : List (String Global)) (left after : Option (List ℕ)) (run : Run) (text : List ℕ) : Type 0 where
-  pub none : words ≡ []
+  pub asked : IsForScript words
   pub much : IsTooMuch left after
   pub empty : run ≡ no_run
   pub told : text ≡ codes "too large\n"
 
 -- the bytes that were read are a script of another form than the one that is built
-pub record IsOther (left after : Option (List ℕ)) : Type 0 where
+pub record IsOther (words : List (String Global)) (left after : Option (List ℕ)) : Type 0 where
+  pub asked : IsForScript words
   pub script : Script
   pub read : IsRead left after (Ok script)
   pub other : is_of_form script ≡ false
 
--- there were words, or a script of another form, nothing was run, and the text says so
+-- the words ask for what isn't built, or the script is of another form, nothing was run, and the text says so
 pub record IsNotBuilt (words : List (String Global)) (left after : Option (List ℕ)) (run : Run) (text : List ℕ) : Type 0 where
-  pub cause : (words ≡ [] → ⊥) ⊎ IsOther left after
+  pub cause : AreOther words ⊎ IsOther words left after
   pub empty : run ≡ no_run
   pub told : text ≡ codes "not built\n"
 
@@ -164,11 +202,12 @@ pub record IsNotBuilt (words : List (String Global)) (left after : Option (List 
 abbrev pub IsAttempt : List (String Global) → Option (List ℕ) → Option (List ℕ) → ℕ → ℕ → Attempt → Type 0
 IsAttempt words left after before now (Done run text) = IsDone words left after run text.items
 IsAttempt words left after before now (Stopped run text) = IsStopped words left after run text.items
+IsAttempt words left after before now Usage = AreUnknown words
 IsAttempt words left after before now (Refused text) = IsRefused words left after no_run text.items
-IsAttempt words left after before now ReadFault = (words ≡ []) × Rose before now
-IsAttempt words left after before now TooLarge = (words ≡ []) × IsTooMuch left after
-IsAttempt words left after before now NotBuilt = (words ≡ [] → ⊥) ⊎ IsOther left after
-IsAttempt words left after before now (OutOfMemory run) = (words ≡ []) × IsPartRun left after run
+IsAttempt words left after before now ReadFault = IsForScript words × Rose before now
+IsAttempt words left after before now TooLarge = IsForScript words × IsTooMuch left after
+IsAttempt words left after before now NotBuilt = AreOther words ⊎ IsOther words left after
+IsAttempt words left after before now (OutOfMemory run) = IsPartRun words left after run
 
 -- its run; nothing was run where there is none
 abbrev pub run_in : Attempt → Run
@@ -181,6 +220,7 @@ run_in _ = no_run
 abbrev pub status_in : Attempt → ℕ
 status_in (Done run text) = 0
 status_in (Stopped run text) = 7
+status_in Usage = 2
 status_in (Refused text) = 3
 status_in ReadFault = 4
 status_in TooLarge = 9
@@ -192,6 +232,7 @@ abbrev pub text_in : Attempt → List ℕ
 text_in (Done run text) = text.items
 text_in (Stopped run text) = text.items
 text_in (Refused text) = text.items
+text_in Usage = usage
 text_in ReadFault = codes "read fault\n"
 text_in TooLarge = codes "too large\n"
 text_in NotBuilt = codes "not built\n"
@@ -225,13 +266,13 @@ IsToldOf (OutOfMemory run) written after before now report = (report.status ≡ 
 IsToldOf attempt written after before now report = IsTold (status_in attempt) (run_in attempt) (text_in attempt) written after before now report
 
 abbrev pub IsStatus : ℕ → Type 0
-IsStatus n = (((((((n ≡ 0) ⊎ (n ≡ 3)) ⊎ (n ≡ 4)) ⊎ (n ≡ 5)) ⊎ (n ≡ 6)) ⊎ (n ≡ 7)) ⊎ (n ≡ 9)) ⊎ (n ≡ 10)
+IsStatus n = ((((((((n ≡ 0) ⊎ (n ≡ 2)) ⊎ (n ≡ 3)) ⊎ (n ≡ 4)) ⊎ (n ≡ 5)) ⊎ (n ≡ 6)) ⊎ (n ≡ 7)) ⊎ (n ≡ 9)) ⊎ (n ≡ 10)
 
 -- the text that is due at some end of the work
 abbrev pub IsDue : List (String Global) → Option (List ℕ) → Option (List ℕ) → ℕ → ℕ → Run → List ℕ → Type 0
 IsDue words left after before now run text =
-    ((((IsDone words left after run text ⊎ IsStopped words left after run text) ⊎ IsRefused words left after run text) ⊎ IsReadFault words before now run text)
-    ⊎ IsTooLarge words left after run text) ⊎ IsNotBuilt words left after run text
+    (((((IsDone words left after run text ⊎ IsStopped words left after run text) ⊎ IsUsage words run text) ⊎ IsRefused words left after run text)
+    ⊎ IsReadFault words before now run text) ⊎ IsTooLarge words left after run text) ⊎ IsNotBuilt words left after run text
 
 -- the sink failed, and a part of the text that was due stands there, from its front
 pub record IsCutShort (IsText : List ℕ → Type 0) (written after : Option (List ℕ)) (before now : ℕ) : Type 0 where

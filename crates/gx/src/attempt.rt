@@ -1,7 +1,8 @@
 // The work before the writing: words, reading, script, run and text.
-ghost use Rattle.std.specs.Prelude.{◌≡◌, ◌≢◌, [], All, length, map};
+ghost use Rattle.std.specs.Prelude.{◌≡◌, [], ⊥, All, length, map};
 ghost use Rattle.gx_world.specs.Worlds.{shelf};
-ghost use Rattle.gx.specs.Top.{AreKept, IsAttempt, IsRefusedFor, is_over, run_in};
+ghost use Rattle.gx_words.specs.declared.options.Options.{Options as Asked};
+ghost use Rattle.gx.specs.Top.{AreAsked, AreKept, IsAttempt, IsRefusedFor, is_over, is_plain, run_in};
 
 use crate::form::is_of_form;
 use crate::refused::refusal_text;
@@ -9,17 +10,19 @@ use crate::running::run_script;
 use gx_outside::{Gate, Journal, ReadFault, Source, read_up_to};
 use gx_sql::{Refusal, parse_script};
 use gx_store::Run;
+use gx_words::{Options, WordsFault, read_words};
 use std::alloc::Global;
 
 // The most bytes of a script.
 const LIMIT: usize = 16_777_216;
 
-/// How the work before the writing ended: with a run and its text, with one that stopped once its turns were taken, with the text of
-/// a refusal, or with neither.
+/// How the work before the writing ended: with a run and its text, with one that stopped once its turns were taken, with words that
+/// aren't in the language, with the text of a refusal, or with neither.
 #[derive(Drop)]
 pub enum Attempt {
     Done(Run, Vec<u8>),
     Stopped(Run, Vec<u8>),
+    Usage,
     Refused(Vec<u8>),
     ReadFault,
     TooLarge,
@@ -27,8 +30,15 @@ pub enum Attempt {
     OutOfMemory(Run),
 }
 
-/// Reads, runs and tells, and writes nothing but to the journals. Words that aren't empty, and scripts of another form than the
-/// one that is built, are `NotBuilt`.
+// Whether the words ask for what is built: the first of what is enabled, of a script that is read.
+fn is_plain(options: &Options) -> bool
+    ensures { result ≡ is_plain options.now }
+{
+    options.seed.is_none() && options.work.is_none()
+}
+
+/// Reads, runs and tells, and writes nothing but to the journals. Words that ask for more than is built, and scripts of another form
+/// than the one that is built, are `NotBuilt`. Nothing is read unless the words ask for a script that is read.
 #[tactic(auto, using(crate::proofs::Refusals::read_as))]
 pub fn make_attempt<S: Source, J: Journal, G: Gate>(
     alloc: Global,
@@ -41,12 +51,38 @@ pub fn make_attempt<S: Source, J: Journal, G: Gate>(
     requires empty { All (λ j. J.items j ≡ []) journals.old.items }
     ensures is { IsAttempt words.now (S.left source.old) (S.left source.new) (S.fault_count source.old) (S.fault_count source.new) result }
     ensures count { length journals.new.items ≡ 17 }
-    ensures unread { words.now ≢ [] → source.new ≡ source.old }
+    ensures unread { ((options : Asked) → AreAsked words.now options → ⊥) → source.new ≡ source.old }
     ensures kept { AreKept (run_in result).steps (is_over result) (map (λ j. shelf (J.items j) (J.fault_count j)) journals.old.items) (map (λ j. shelf (J.items j) (J.fault_count j)) journals.new.items) }
 {
-    if !words.is_empty() {
+    let options = match read_words(alloc, words) {
+        Ok(options) => options,
+        Err(WordsFault::Unknown) => return Attempt::Usage,
+        Err(WordsFault::OutOfMemory) => return Attempt::OutOfMemory(Run::new(alloc)),
+    };
+    if !is_plain(&options) {
         return Attempt::NotBuilt;
     }
+    read_and_run(alloc, words, options, source, journals, gate)
+}
+
+// What becomes of the bytes of a source.
+#[tactic(auto, using(crate::proofs::Refusals::read_as))]
+fn read_and_run<S: Source, J: Journal, G: Gate>(
+    alloc: Global,
+    words: &[String],
+    options: Options,
+    source: &mut S,
+    journals: &mut Vec<J>,
+    gate: &G,
+) -> Attempt
+    requires asked { AreAsked words.now options }
+    requires journals { length journals.old.items ≡ 17 }
+    requires empty { All (λ j. J.items j ≡ []) journals.old.items }
+    ensures is { IsAttempt words.now (S.left source.old) (S.left source.new) (S.fault_count source.old) (S.fault_count source.new) result }
+    ensures count { length journals.new.items ≡ 17 }
+    ensures kept { AreKept (run_in result).steps (is_over result) (map (λ j. shelf (J.items j) (J.fault_count j)) journals.old.items) (map (λ j. shelf (J.items j) (J.fault_count j)) journals.new.items) }
+{
+    let _words = words;
     let bytes = match read_up_to(alloc, source, LIMIT + 1) {
         Ok(bytes) => bytes,
         Err(ReadFault::Failed) => return Attempt::ReadFault,
@@ -62,7 +98,7 @@ pub fn make_attempt<S: Source, J: Journal, G: Gate>(
     if !is_of_form(&script) {
         return Attempt::NotBuilt;
     }
-    run_script(alloc, script, journals, gate)
+    run_script(alloc, script, options, journals, gate)
 }
 
 // What bytes come to that are no script.

@@ -32,7 +32,7 @@ fn journals(alloc: Global) -> Mem<Vec<JournalMem>>
 fn main(rt: HostRuntime) -> ExitCode {
     let alloc = rt.alloc();
     let Ok(words) = env::args(&rt) else {
-        return ExitCode::from(10);
+        return ExitCode::from(2);
     };
     let Ok(words) = words.skip(1).collect::<Vec<String>>(alloc) else {
         return ExitCode::from(6);

@@ -1,12 +1,12 @@
 // Running a script that was read, and telling its run.
-ghost use Rattle.std.specs.Prelude.{◌≡◌, [], true, false, All, IfOk, length, map};
+ghost use Rattle.std.specs.Prelude.{◌≡◌, ◌≤◌, ◌++◌, [], true, false, All, IfOk, length, map};
 ghost use Rattle.gx_store.specs.Whole.{AreInsertsWhole};
 ghost use Rattle.gx_drive.specs.Ordered.{AreFirst, IsEnd};
 ghost use Rattle.gx_store.specs.Schedule.{is_any_unfinished};
 ghost use Rattle.gx_world.specs.Worlds.{shelf};
 ghost use Rattle.gx_store.specs.Language.{IsScript};
 ghost use Rattle.gx_report.specs.Text.{stopped_text as of_stopped};
-ghost use Rattle.gx.specs.Top.{AreKept, IsRan, IsWholeRunOf, is_over, run_in, turns};
+ghost use Rattle.gx.specs.Top.{AreKept, IsRan, IsWholeRunOf, is_over, run_in, traced};
 
 use crate::attempt::Attempt;
 use gx_drive::{End, run_ordered};
@@ -15,24 +15,25 @@ use gx_outside::{Gate, Journal};
 use gx_report::{text, text_of_stopped};
 use gx_script::Script;
 use gx_store::Run;
+use gx_trace_text::push_trace;
+use gx_words::Options;
 use gx_world::World;
 use std::alloc::Global;
 
-// How many turns the driver takes at most.
-const TURNS: u64 = 1_000_000;
-
-/// Runs a script by the ordered schedule, and tells its run.
+/// Runs a script by the ordered schedule, for so many turns at most as are asked for, and tells its run.
 pub fn run_script<J: Journal, G: Gate>(
     alloc: Global,
     script: Script,
+    options: Options,
     journals: &mut Vec<J>,
     gate: &G,
 ) -> Attempt
+    requires turns { options.turns ≤ 10000000 }
     requires language { IsScript script }
     requires inserts { AreInsertsWhole script.tables script.lines }
     requires journals { length journals.old.items ≡ 17 }
     requires empty { All (λ j. J.items j ≡ []) journals.old.items }
-    ensures ran { IsRan script result }
+    ensures ran { IsRan script options result }
     ensures count { length journals.new.items ≡ 17 }
     ensures kept { AreKept (run_in result).steps (is_over result) (map (λ j. shelf (J.items j) (J.fault_count j)) journals.old.items) (map (λ j. shelf (J.items j) (J.fault_count j)) journals.new.items) }
 {
@@ -40,72 +41,85 @@ pub fn run_script<J: Journal, G: Gate>(
         Ok(world) => world,
         Err(_) => return Attempt::OutOfMemory(Run::new(alloc)),
     };
-    match run_ordered(alloc, &mut world, journals, gate, TURNS) {
-        Ok(end) => ended(alloc, world, end),
+    match run_ordered(alloc, &mut world, journals, gate, options.turns) {
+        Ok(end) => ended(alloc, world, options, end),
         Err(_) => Attempt::OutOfMemory(world.into_run()),
     }
 }
 
 // What a run that came to an end is told as.
-fn ended(alloc: Global, world: World, end: End) -> Attempt
+fn ended(alloc: Global, world: World, options: Options, end: End) -> Attempt
     requires usable { world.spent ≡ false }
     requires language { IsScript world.script }
     requires inserts { AreInsertsWhole world.script.tables world.script.lines }
     requires driven { AreFirst world.script [] world.run.steps }
-    requires ended { IsEnd world.script world.run.steps turns end }
-    ensures ran { IsRan world.script result }
+    requires ended { IsEnd world.script world.run.steps options.turns end }
+    ensures ran { IsRan world.script options result }
     ensures run { run_in result ≡ world.run }
 {
     match end {
-        End::Done => finished(alloc, world),
-        End::Turns => stopped(alloc, world),
+        End::Done => finished(alloc, world, options),
+        End::Turns => stopped(alloc, world, options),
     }
 }
 
-fn finished(alloc: Global, world: World) -> Attempt
+fn finished(alloc: Global, world: World, options: Options) -> Attempt
     requires usable { world.spent ≡ false }
     requires language { IsScript world.script }
     requires inserts { AreInsertsWhole world.script.tables world.script.lines }
     requires driven { AreFirst world.script [] world.run.steps }
     requires over { is_any_unfinished world.script world.run.steps ≡ false }
-    ensures ran { IsRan world.script result }
+    ensures ran { IsRan world.script options result }
     ensures run { run_in result ≡ world.run }
 {
-    match finished_text(alloc, &world) {
+    match finished_text(alloc, &world, options.trace) {
         Ok(text) => Attempt::Done(world.into_run(), text),
         Err(_) => Attempt::OutOfMemory(world.into_run()),
     }
 }
 
-fn finished_text(alloc: Global, world: &World) -> Mem<Vec<u8>>
+fn finished_text(alloc: Global, world: &World, trace: bool) -> Mem<Vec<u8>>
     requires usable { world.now.spent ≡ false }
     requires language { IsScript world.now.script }
     requires inserts { AreInsertsWhole world.now.script.tables world.now.script.lines }
     requires driven { AreFirst world.now.script [] world.now.run.steps }
     requires over { is_any_unfinished world.now.script world.now.run.steps ≡ false }
-    ensures { IfOk result (λ text. IsWholeRunOf world.now.script world.now.run text.items) }
+    ensures { IfOk result (λ text. IsWholeRunOf world.now.script trace world.now.run text.items) }
 {
     let tables = world.final_tables()?;
-    text(alloc, world.script(), world.run(), tables.as_slice())
+    let told = text(alloc, world.script(), world.run(), tables.as_slice())?;
+    with_trace(alloc, told, world, trace)
 }
 
-fn stopped(alloc: Global, world: World) -> Attempt
+// The run's own text behind another, where it is asked for.
+fn with_trace(alloc: Global, text: Vec<u8>, world: &World, trace: bool) -> Mem<Vec<u8>>
+    ensures { IfOk result (λ all. all.items ≡ text.items ++ traced trace world.now.script world.now.run) }
+{
+    let mut text = text;
+    if trace {
+        push_trace(alloc, &mut text, world.script(), world.run())?;
+    }
+    Ok(text)
+}
+
+fn stopped(alloc: Global, world: World, options: Options) -> Attempt
     requires language { IsScript world.script }
     requires inserts { AreInsertsWhole world.script.tables world.script.lines }
     requires driven { AreFirst world.script [] world.run.steps }
-    requires all { length world.run.steps ≡ turns }
+    requires all { length world.run.steps ≡ options.turns }
     requires unfinished { is_any_unfinished world.script world.run.steps ≡ true }
-    ensures ran { IsRan world.script result }
+    ensures ran { IsRan world.script options result }
     ensures run { run_in result ≡ world.run }
 {
-    match stopped_text(alloc, &world) {
+    match stopped_text(alloc, &world, options.trace) {
         Ok(text) => Attempt::Stopped(world.into_run(), text),
         Err(_) => Attempt::OutOfMemory(world.into_run()),
     }
 }
 
-fn stopped_text(alloc: Global, world: &World) -> Mem<Vec<u8>>
-    ensures { IfOk result (λ text. text.items ≡ of_stopped world.now.script world.now.run) }
+fn stopped_text(alloc: Global, world: &World, trace: bool) -> Mem<Vec<u8>>
+    ensures { IfOk result (λ text. text.items ≡ of_stopped world.now.script world.now.run ++ traced trace world.now.script world.now.run) }
 {
-    text_of_stopped(alloc, world.script(), world.run())
+    let told = text_of_stopped(alloc, world.script(), world.run())?;
+    with_trace(alloc, told, world, trace)
 }

@@ -1,15 +1,17 @@
 // The top call.
-ghost use Rattle.std.specs.Prelude.{◌≡◌, ◌≢◌, [], All, length, map, ◌⊎◌};
+ghost use Rattle.std.specs.Prelude.{◌≡◌, ◌≢◌, [], ⊥, All, length, map};
 ghost use Rattle.gx_drive.specs.Ordered.{AreFailuresFew, AreHeld};
 ghost use Rattle.gx_world.specs.Worlds.{shelf};
-ghost use Rattle.gx.specs.Top.{IsCutShort, IsDone, IsDue, IsNotBuilt, IsPartRun, IsReadFault, IsRefused, IsStatus, IsStopped, IsTold, IsToldOf, IsTooLarge, IsWritten};
+ghost use Rattle.gx_words.specs.declared.options.Options.{Options as Asked};
+ghost use Rattle.gx.specs.Top.{AreAsked, IsCutShort, IsDone, IsDue, IsNotBuilt, IsPartRun, IsReadFault, IsRefused, IsStatus, IsStopped, IsTold, IsToldOf, IsTooLarge, IsUsage, IsWritten};
 
 use crate::attempt::{Attempt, make_attempt};
 use gx_outside::{Failed, Gate, Journal, Sink, Source, write_whole};
 use gx_store::Run;
+use gx_words::USAGE;
 use std::alloc::Global;
 
-/// What a call did: its status, and the run that it made. 0 is done, 3 a refused script, 4 a read fault, 5 a write fault, 6
+/// What a call did: its status, and the run that it made. 0 is done, 2 words that aren't in the language, 3 a refused script, 4 a read fault, 5 a write fault, 6
 /// want of memory, 7 a run that took all its turns, 9 too many bytes, and 10 a form that isn't built yet.
 #[derive(Drop)]
 pub struct Report {
@@ -34,6 +36,7 @@ fn told_of<K: Sink>(alloc: Global, attempt: Attempt, sink: &mut K) -> Report
     match attempt {
         Attempt::Done(run, text) => told(0, run, text.as_slice(), sink),
         Attempt::Stopped(run, text) => told(7, run, text.as_slice(), sink),
+        Attempt::Usage => told(2, Run::new(alloc), USAGE, sink),
         Attempt::Refused(text) => told(3, Run::new(alloc), text.as_slice(), sink),
         Attempt::ReadFault => told(4, Run::new(alloc), b"read fault\n", sink),
         Attempt::TooLarge => told(9, Run::new(alloc), b"too large\n", sink),
@@ -61,6 +64,9 @@ pub fn run_gx<S: Source, K: Sink, J: Journal, G: Gate>(
     // of it has its answer, made by the system of nodes in the order of the schedule; and the text of that run and of the tables at its end was written.
     ensures done { result.status ≡ 0 → IsWritten (IsDone words.now (S.left source.old) (S.left source.new) result.run) (K.written sink.old) (K.written sink.new) }
 
+    // The words are not in the language, and the text says what is.
+    ensures usage { result.status ≡ 2 → IsWritten (IsUsage words.now result.run) (K.written sink.old) (K.written sink.new) }
+
     // The bytes are no script, and the text says why.
     ensures refused { result.status ≡ 3 → IsWritten (IsRefused words.now (S.left source.old) (S.left source.new) result.run) (K.written sink.old) (K.written sink.new) }
 
@@ -70,19 +76,18 @@ pub fn run_gx<S: Source, K: Sink, J: Journal, G: Gate>(
     ensures write_fault { result.status ≡ 5 → IsCutShort (IsDue words.now (S.left source.old) (S.left source.new) (S.fault_count source.old) (S.fault_count source.new) result.run)
         (K.written sink.old) (K.written sink.new) (K.fault_count sink.old) (K.fault_count sink.new) }
 
-    // There were no words, nothing was written, and what was run is a part of a legal history of the script.
-    ensures memory { result.status ≡ 6 → (K.written sink.new ≡ K.written sink.old) × (words.now ≡ []) × IsPartRun (S.left source.old) (S.left source.new) result.run }
+    // Nothing was written, and what was run is a part of a legal history of the script.
+    ensures memory { result.status ≡ 6 → (K.written sink.new ≡ K.written sink.old) × IsPartRun words.now (S.left source.old) (S.left source.new) result.run }
 
-    // The run has as many steps as turns and a session is unfinished; the text of the answers so far was written, and that it stopped.
+    // The run has as many steps as turns were asked for and a session is unfinished; the text of the answers so far was written, and that it stopped.
     ensures stopped { result.status ≡ 7 → IsWritten (IsStopped words.now (S.left source.old) (S.left source.new) result.run) (K.written sink.old) (K.written sink.new) }
 
     ensures too_large { result.status ≡ 9 → IsWritten (IsTooLarge words.now (S.left source.old) (S.left source.new) result.run) (K.written sink.old) (K.written sink.new) }
 
     ensures not_built { result.status ≡ 10 → IsWritten (IsNotBuilt words.now (S.left source.old) (S.left source.new) result.run) (K.written sink.old) (K.written sink.new) }
 
-    // Where there are words, nothing is read, and nothing else is said.
-    ensures words { words.now ≢ [] → (result.status ≡ 10) ⊎ (result.status ≡ 5) }
-    ensures unread { words.now ≢ [] → source.new ≡ source.old }
+    // Nothing is read unless the words ask for a script that is read.
+    ensures unread { ((options : Asked) → AreAsked words.now options → ⊥) → source.new ≡ source.old }
 
     // All journals come back.
     ensures count { length journals.new.items ≡ 17 }

@@ -1,4 +1,4 @@
-use Rattle.gx.proofs.Reports.{at_status, cut_short, failures, held, known, memory, with_words}
+use Rattle.gx.proofs.Reports.{at_status, cut_short, failures, held, known, memory}
 use Rattle.gx.proofs.top.run_gx.Goals as goal
 
 pub returns : goal.returns
@@ -10,6 +10,7 @@ returns g c =
     record {
       known = known _ _ _ _ _ a is;
       done = λ e. at_status _ _ _ _ _ _ _ _ _ _ 0 a of is e (λ q. cc) (λ q. cc);
+      usage = λ e. at_status _ _ _ _ _ _ _ _ _ _ 2 a of is e (λ q. cc) (λ q. cc);
       refused = λ e. at_status _ _ _ _ _ _ _ _ _ _ 3 a of is e (λ q. cc) (λ q. cc);
       read_fault = λ e. at_status _ _ _ _ _ _ _ _ _ _ 4 a of is e (λ q. cc) (λ q. cc);
       write_fault = cut_short _ _ _ _ _ _ _ _ _ _ a of is;
@@ -17,7 +18,6 @@ returns g c =
       stopped = λ e. at_status _ _ _ _ _ _ _ _ _ _ 7 a of is e (λ q. cc) (λ q. cc);
       too_large = λ e. at_status _ _ _ _ _ _ _ _ _ _ 9 a of is e (λ q. cc) (λ q. cc);
       not_built = λ e. at_status _ _ _ _ _ _ _ _ _ _ 10 a of is e (λ q. cc) (λ q. cc);
-      words = with_words _ _ _ _ _ _ _ _ _ _ a of is;
       unread = c.make_attempt-attempt.ensures.unread;
       count = c.make_attempt-attempt.ensures.count;
       held = held _ _ _ _ _ _ _ a is kept;
