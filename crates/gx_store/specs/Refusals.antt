@@ -1,5 +1,5 @@
 -- When a statement may be refused, and for what.
-use Rattle.std.specs.Prelude.{◌≡◌, ℕ, ◌≤◌, true, false, List, length, take, slice_get, Some, Contains, zero, suc}
+use Rattle.std.specs.Prelude.{◌≡◌, ℕ, ◌≤◌, Bool, true, false, not, ◌&&◌, List, length, take, slice_get, Some, Contains, zero, suc}
 use Rattle.std.specs.declared.option.Option.{Option}
 use Rattle.gx_ids.specs.declared.ids.Gxid.{Gxid}
 use Rattle.gx_ids.specs.declared.ids.Cid.{Cid}
@@ -11,7 +11,7 @@ use Rattle.gx_tree.specs.declared.cond.Cond.{Cond}
 use Rattle.gx_tree.specs.declared.stmt.Level.{Level}
 use Rattle.gx_tree.specs.declared.stmt.Level.TheVariants.{RepeatableRead}
 use Rattle.gx_tree.specs.declared.stmt.Stmt.{Stmt}
-use Rattle.gx_tree.specs.declared.stmt.Stmt.TheVariants.{Insert, Update, Delete}
+use Rattle.gx_tree.specs.declared.stmt.Stmt.TheVariants.{Commit, Insert, Update, Delete}
 use Rattle.gx_tree.specs.declared.value.Value.{Value}
 use Rattle.gx_meaning.specs.declared.fault.ArithFault.{ArithFault}
 use Rattle.gx_meaning.specs.declared.fault.ArithFault.TheVariants as arith
@@ -27,7 +27,7 @@ use Rattle.gx_store.specs.declared.answer.Refused.TheVariants.{Serialization, Vi
 use Rattle.gx_store.specs.declared.mark.Mark.{Mark}
 use Rattle.gx_store.specs.declared.mark.Mark.TheVariants.{Fault, JournalFailed, Recheck}
 use Rattle.gx_store.specs.Faults.{IsFaultOf}
-use Rattle.gx_store.specs.Lines.{BlockState, cid_of, level_of, transaction_of}
+use Rattle.gx_store.specs.Lines.{BlockState, InBlock, cid_of, is_command, level_of, transaction_of}
 use Rattle.gx_store.specs.Marks.{is_aborted, is_committed}
 use Rattle.gx_store.specs.Messages.{IsFirstSent, Receives}
 use Rattle.gx_store.specs.Points.{Point, before, marks_in}
@@ -103,8 +103,19 @@ IsCause point stmt level g c (JournalFault node) = HasJournalFailed point g node
 IsCause point stmt level g c InFailedBlock = ⊥
 IsCause point stmt level g c NotInBlock = ⊥
 
+abbrev pub is_journal : Refused → Bool
+is_journal (JournalFault node) = true
+is_journal _ = false
+
+-- A line that may be refused so: in a block COMMIT for a journal alone, and a command for all else; outside one a command.
+abbrev pub may_refuse : BlockState → Stmt → Refused → Bool
+may_refuse (InBlock level commands) Commit reason = is_journal reason
+may_refuse (InBlock level commands) line reason = is_command (InBlock level commands) line && not (is_journal reason)
+may_refuse state line reason = is_command state line
+
 -- a line that has a transaction is refused for a cause, in the step in which the transaction aborts
 pub record IsRefusal (script : Script) (point : Point) (session : SessionId) (state : BlockState) (stmt : Stmt) (reason : Refused) : Type 0 where
+  pub kind : may_refuse state stmt reason ≡ true
   pub g : Gxid
   pub transaction : transaction_of state session (before point) ≡ Some g
   pub aborted : is_aborted point.earlier g ≡ true

@@ -1,5 +1,5 @@
-use Rattle.gx_store.proofs.RefusedRuns.{no-history-told-another, no-history-untold}
-use Rattle.gx_store.proofs.refused_runs.faults_are_told.Goals as goal
+use Rattle.gx_store.proofs.RefusedHistories.{no-history-told-another, no-history-untold}
+use Rattle.gx_store.proofs.refused_histories.faults_are_told.Goals as goal
 
 pub returns-clause-untold : goal.returns-clause-untold
 returns-clause-untold c = λ script table tuple query s t row. no-history-untold script table tuple query s t row

@@ -1,13 +1,14 @@
--- Why the small runs are refused.
-use Rattle.std.proofs.Common.{◌≡◌, inl, inr, ℕ, zero, suc, List, [], ◌∷◌, ◌++◌, Option, Some, None, Bool, true, false, refl, sym, subst, ap, ◌∙◌, arith}
-use Rattle.std.specs.Prelude.{IsSome, slice_get, take}
-use Rattle.gx_ids.specs.declared.ids.Cid.{Cid}
+-- Why the small runs are no histories.
+use Rattle.std.proofs.Common.{◌≡◌, inl, inr, ℕ, zero, suc, List, [], ◌∷◌, Option, Some, None, true, false, refl, sym, subst, ap, ◌∙◌, arith}
+use Rattle.std.specs.Prelude.{Contains, IsSome, map, slice_get, take}
 use Rattle.gx_ids.specs.declared.ids.Gxid.{Gxid}
 use Rattle.gx_ids.specs.declared.ids.Node.{Node}
 use Rattle.gx_ids.specs.declared.ids.SessionId.{SessionId}
 use Rattle.gx_ids.specs.declared.ids.Table.{Table}
 use Rattle.gx_tree.specs.declared.expr.Expr.{Expr}
 use Rattle.gx_tree.specs.declared.query.Query.{Query}
+use Rattle.gx_tree.specs.declared.schema.Dist.{Dist}
+use Rattle.gx_tree.specs.declared.schema.Dist.TheVariants.{By, Randomly}
 use Rattle.gx_tree.specs.declared.slice.Slice.TheVariants as slice
 use Rattle.gx_tree.specs.declared.stmt.Level.TheVariants.{ReadCommitted}
 use Rattle.gx_tree.specs.declared.stmt.Stmt.{Stmt}
@@ -18,33 +19,34 @@ use Rattle.gx_msg.specs.declared.message.Message.{Message}
 use Rattle.gx_msg.specs.declared.message.Message.TheVariants as message
 use Rattle.gx_msg.specs.declared.reply.Cause.TheVariants as cause
 use Rattle.gx_msg.specs.declared.reply.Reply.TheVariants as reply
+use Rattle.gx_meaning.specs.Plan.{pieces}
+use Rattle.gx_meaning.specs.Target.{target_of}
+use Rattle.gx_meaning.specs.declared.piece.Piece.{Piece}
 use Rattle.gx_script.specs.declared.Script.{Script}
 use Rattle.gx_waits.specs.declared.graph.LocalGraph.{LocalGraph}
+use Rattle.gx_store.specs.declared.answer.Refused.{Refused}
 use Rattle.gx_store.specs.declared.answer.Refused.TheVariants as refused
 use Rattle.gx_store.specs.declared.answer.StmtAnswer.TheVariants as answer
 use Rattle.gx_store.specs.declared.event.Event.TheVariants as event
 use Rattle.gx_store.specs.declared.mark.Mark.{Mark}
 use Rattle.gx_store.specs.declared.mark.Mark.TheVariants as mark
 use Rattle.gx_store.specs.declared.run.Step.{Step}
-use Rattle.gx_store.specs.Answers.{IsAnswer, IsDone}
+use Rattle.gx_store.specs.Answers.{GoesTo, IsAnswer, IsDone}
 use Rattle.gx_store.specs.Commands.{state_at}
 use Rattle.gx_store.specs.Legal.{LegalAnswer}
 use Rattle.gx_store.specs.Lines.{Outside, InBlock, next_stmt, transaction_of}
-use Rattle.gx_store.specs.Marks.{is_processed}
-use Rattle.gx_store.specs.Messages.{IsSending, Receives, ReceivesAt}
+use Rattle.gx_store.specs.Marks.{is_ended, is_processed, node_of}
+use Rattle.gx_store.specs.Messages.{IsSending, Receives}
 use Rattle.gx_store.specs.Points.{Point, before}
 use Rattle.gx_store.specs.Protocol.{IsReturned}
-use Rattle.gx_store.specs.RefusedRuns.{BreaksProtocol, IsNoHistory, anna, another_writes, answered_at_once, bert, commit_is_cancelled, decided_late, decided_twice, empty_block, first_cid, first_txn, insert_and_select, one_select, row_of, second_txn, the_segment, told_another, two_inserts, undrawn, untold}
-use Rattle.gx_store.specs.Refusals.{IsRefusal, the_coordinator}
+use Rattle.gx_store.specs.RefusedHistories.{IsNoHistory, block_of_select, commit_is_cancelled, insert_and_select, inserted_nothing, one_insert, select_all, select_for_journal, sent_to_nobody, told_another, two_inserts, undrawn, untold, without_condition, written_elsewhere}
+use Rattle.gx_store.specs.RefusedParts.{anna, empty_block, first_cid, first_txn, row_of, second_txn, the_segment}
+use Rattle.gx_store.specs.Refusals.{IsRefusal, may_refuse, the_coordinator}
+use Rattle.gx_store.specs.Writes.{IsLateWriteOf, LegalWrite, dist_of}
+use Rattle.gx_store.proofs.RefusedParts.{clash, no-more, none-returned}
 
 some-same : {A : Type 0} (a b : A) → Some a ≡ Some b → a ≡ b
 some-same a b e = cc
-
-no-more : {A : Type 0} (k : ℕ) (x : A) → slice_get [] k ≡ Some x → ⊥
-no-more k x e = cc
-
-clash : (b : Bool) → b ≡ true → b ≡ false → ⊥
-clash b x y = grind arith
 
 -- AN INSERT
 no-insert : {script : Script} {point : Point} (session : SessionId) (table : Table) (tuple : List Expr) (h : Gxid) → LegalAnswer script point session 1 (answer.Inserted 1) → next_stmt session script (before point) ≡ Some (stmt.Insert table (tuple ∷ [])) → state_at script session point ≡ Outside → transaction_of Outside session (before point) ≡ Some h → is_processed (before point) h first_cid (row_of h) ≡ false → ⊥
@@ -54,8 +56,34 @@ no-insert {script = script} {point = point} session table tuple h a line outside
     by_done : IsDone script point session Outside (stmt.Insert table (tuple ∷ [])) (answer.Inserted 1) → ⊥
     by_done d = clash _ (subst (λ g. is_processed (before point) g first_cid (row_of g) ≡ true) (some-same _ _ (sym d.transaction ∙ its)) (d.told.each 1 (omega arith) (omega arith))) none
 
-pub another-writes : (script : Script) (table : Table) (annas berts : List Expr) (s t : Snapshot) (row : List Value) → IsNoHistory (two_inserts script table annas berts) (another_writes table s t row)
-another-writes script table annas berts s t row h = no-insert bert table berts second_txn h.1.1.0.marks.1.1.1.0 refl refl refl refl
+no-late : {script : Script} {point : Point} (table : Table) (row : List Value) → LegalWrite script point first_txn first_cid the_segment table (row_of second_txn) (Some row) → is_ended (before point) first_txn ≡ true → node_of (before point) (row_of second_txn) ≡ None → ⊥
+no-late {script = script} {point = point} table row w ended nowhere = by_write w
+  where
+    two-one : (n : ℕ) → n ≡ 2 → n ≡ 1 → ⊥
+    two-one n a b = omega arith
+
+    no-node : (o : Option Node) (n : Node) → o ≡ None → o ≡ Some n → ⊥
+    no-node o n e f = cc
+
+    late : (stmt : Stmt) → IsLateWriteOf (before point) first_txn first_cid stmt the_segment table (row_of second_txn) → ⊥
+    late (stmt.Insert t tuples) w = two-one second_txn.0 refl (ap (λ (g : Gxid). g.0) w.1.own.0)
+    late (stmt.Update t assigns cond) w = no-node _ the_segment nowhere w.1
+    late (stmt.Delete t cond) w = no-node _ the_segment nowhere w.1
+    late (stmt.Select q) w = w
+    late (stmt.Begin level) w = w
+    late stmt.Commit w = w
+    late stmt.Rollback w = w
+    late (stmt.Lock t mode) w = w
+
+    by_write : LegalWrite script point first_txn first_cid the_segment table (row_of second_txn) (Some row) → ⊥
+    by_write (inl live) = clash (is_ended (before point) first_txn) ended live.runs.running
+    by_write (inr w) = late w.stmt w.writes
+
+pub no-history-elsewhere : (script : Script) (table : Table) (annas berts : List Expr) (s : Snapshot) (row : List Value) → IsNoHistory (two_inserts script table annas berts) (written_elsewhere table s row)
+no-history-elsewhere script table annas berts s row h = no-late table row h.1.0.marks.0 refl refl
+
+pub no-history-nothing : (script : Script) (table : Table) (tuple : List Expr) (s : Snapshot) → IsNoHistory (one_insert script table tuple) (inserted_nothing s)
+no-history-nothing script table tuple s h = no-insert anna table tuple first_txn h.1.1.0.marks.1.0 refl refl refl refl
 
 -- A REFUSAL OF EVALUATION
 abbrev word : Gxid → Message
@@ -97,41 +125,37 @@ no-history-told-another script table tuple query s t row h =
     unsaid : (g : Gxid) → Each (λ (s : Step). Each (IsUnsaid (word g)) s.marks) (take 5 (told_another table s t row))
     unsaid g = (
       (λ n to e. cc, (λ n to e. cc, tt)),
-      ((λ n to e. cc, tt), ((λ n to e. cc, (λ n to e. cc, tt)), ((λ n to e. cc, (λ n to e. cc, tt)), ((λ n to e. cc, (λ n to e. cc, tt)), tt)))),
+      ((λ n to e. cc, (λ n to e. cc, tt)), ((λ n to e. cc, (λ n to e. cc, tt)), ((λ n to e. cc, (λ n to e. cc, tt)), ((λ n to e. cc, (λ n to e. cc, tt)), tt)))),
     )
 
 -- AN ANSWER
-no-receipt : (session : SessionId) (from to : Node) (number : ℕ) → event.Start session ≡ event.Receive from to number → ⊥
-no-receipt session from to number e = cc
+-- its segment is among those to which it goes
+goes-there : (query : Query) (dist : Dist) → Contains (map (λ (p : Piece). p.node) (pieces 1 (target_of 1 dist None) (slice.Select (without_condition query)))) the_segment
+goes-there query (By column) = (0, omega arith, refl)
+goes-there query Randomly = (0, omega arith, refl)
 
-none-returned : {earlier later : List Mark} (session : SessionId) (g : Gxid) (c : Cid) (node : Node) → IsReturned (record { steps = []; event = event.Start session; earlier = earlier; later = later }) g c node → ⊥
-none-returned session g c node back = by_place back.received.0 back.received.1
-  where
-    by_place : (k : ℕ) → ReceivesAt (record { steps = []; event = event.Start session; earlier = []; later = [] }) k node the_coordinator (message.Answer g (reply.Done c back.wrote back.count back.part)) → ⊥
-    by_place k (inl z) = no-more k z.0 z.1
-    by_place k (inr z) = no-receipt session node the_coordinator z.1.number z.1.is
+no-answer : {script : Script} {point : Point} (line : Stmt) → LegalAnswer script point anna 1 (answer.Rows []) → next_stmt anna script (before point) ≡ Some line → state_at script anna point ≡ Outside → (IsAnswer script point anna Outside line (answer.Rows []) → IsDone script point anna Outside line (answer.Rows [])) → ((g : Gxid) → GoesTo script g first_cid line the_segment) → ((g : Gxid) → IsReturned point g first_cid the_segment → ⊥) → ⊥
+no-answer {script = script} {point = point} line a there outside is goes none =
+    let d = is (subst (λ b. IsAnswer script point anna b line (answer.Rows [])) outside (subst (λ l. IsAnswer script point anna (state_at script anna point) l (answer.Rows [])) (some-same _ _ (sym a.runs.line ∙ there)) a.is)) in
+    none d.g (d.back the_segment (goes d.g))
 
-pub protocol-at-once : (script : Script) (query : Query) (snapshot : Snapshot) → BreaksProtocol (one_select script query) (answered_at_once query snapshot)
-protocol-at-once script query snapshot h =
-    let back = h.0.1.1.1.1.0 (stmt.Select query) ReadCommitted first_txn first_cid the_segment (record { line = record { started = refl; line = refl }; command = refl; transaction = refl; number = refl; isolation = refl })
-    (record { number = 1; level = ReadCommitted; snapshot = Some snapshot; horizon = first_txn; slice = slice.Select query; sent = inr (2, omega arith, refl) }) in
-    none-returned anna first_txn first_cid the_segment back
+pub no-history-sent : (script : Script) (query : Query) (snapshot : Snapshot) → IsNoHistory (select_all script query) (sent_to_nobody snapshot)
+no-history-sent script query snapshot h =
+    no-answer (stmt.Select (without_condition query)) h.0.marks.1.1.1.0 refl refl (λ d. d)
+    (λ g. record { table = query.table; of = refl; pieces = pieces 1 (target_of 1 (dist_of script.tables query.table.0) None) (slice.Select (without_condition query)); plan = refl; among = goes-there query (dist_of script.tables query.table.0) })
+    (λ g back. none-returned anna g first_cid the_segment back)
 
--- COMMIT
+-- A BLOCK
+no-refusal : {script : Script} {point : Point} (session : SessionId) (line : Stmt) (reason : Refused) → LegalAnswer script point session 2 (answer.Refused reason) → next_stmt session script (before point) ≡ Some line → state_at script session point ≡ InBlock ReadCommitted 0 → may_refuse (InBlock ReadCommitted 0) line reason ≡ false
+    → (IsAnswer script point session (InBlock ReadCommitted 0) line (answer.Refused reason) → IsRefusal script point session (InBlock ReadCommitted 0) line reason) → ⊥
+no-refusal {script = script} {point = point} session line reason a there inside not_so is =
+    clash _ (is (subst (λ b. IsAnswer script point session b line (answer.Refused reason)) inside (subst (λ l. IsAnswer script point session (state_at script session point) l (answer.Refused reason)) (some-same _ _ (sym a.runs.line ∙ there)) a.is))).kind not_so
+
 pub no-history-cancelled : (script : Script) (graph : LocalGraph) → IsNoHistory (empty_block script) (commit_is_cancelled graph)
-no-history-cancelled script graph h =
-    let a = h.1.1.0.marks.1.1.0 in
-    let e : Some stmt.Commit ≡ Some a.line = a.runs.line in
-    subst (λ l. IsAnswer _ _ anna (InBlock ReadCommitted 0) l (answer.Refused (refused.Victim 1))) (sym (some-same _ _ e)) a.is
+no-history-cancelled script graph h = no-refusal anna stmt.Commit (refused.Victim 1) h.1.1.0.marks.1.1.0 refl refl refl (λ r. r)
 
-pub protocol-late : (script : Script) → BreaksProtocol (empty_block script) decided_late
-protocol-late script h = clash true refl h.1.1.0.0.0
-
-pub protocol-twice : (script : Script) → BreaksProtocol (empty_block script) decided_twice
-protocol-twice script h = one-zero h.1.0.1.0.1 refl
-  where
-    one-zero : {n : ℕ} → n ≡ 0 → n ≡ 1 → ⊥
-    one-zero e f = omega arith
+pub no-history-journal : (script : Script) (query : Query) → IsNoHistory (block_of_select script query) select_for_journal
+no-history-journal script query h = no-refusal anna (stmt.Select query) (refused.JournalFault the_coordinator) h.1.0.marks.1.1.0 refl refl refl (λ r. r)
 
 -- A LINE
 pub no-history-undrawn : (script : Script) → IsNoHistory (empty_block script) undrawn
