@@ -225,12 +225,12 @@ contains-has n (x ∷ xs) (suc k) l q = rest (eqb x.0 n.0) (has n xs) (contains-
 
 taken-back : (point : Point) (g : Gxid) (c : Cid) (node : Node) (taken : List Taken) → AreAll (λ t. HasReceived point t.node the_coordinator (message.Answer g (reply.Done c t.wrote t.count t.part))) taken → has node (nodes_taken taken) ≡ true → IsReturned point g c node
 taken-back point g c node [] r h = absurd (cc)
-taken-back point g c node (t ∷ ts) r h = by_test (eqb t.node.0 node.0) refl h
+taken-back point g c node (t ∷ ts) r h = by_test (eqb t.node.0 node.0) refl h (λ q. taken-back point g c node ts r.1 q)
   where
-    by_test : (b : Bool) → eqb t.node.0 node.0 ≡ b → (b || has node (nodes_taken ts)) ≡ true → IsReturned point g c node
-    by_test true e q =
+    by_test : (b : Bool) → eqb t.node.0 node.0 ≡ b → (b || has node (nodes_taken ts)) ≡ true → (has node (nodes_taken ts) ≡ true → IsReturned point g c node) → IsReturned point g c node
+    by_test true e q rest =
         record { wrote = t.wrote; count = t.count; part = t.part; received = subst (λ n. HasReceived point n the_coordinator (message.Answer g (reply.Done c t.wrote t.count t.part))) (ap (λ n. let x : Node = record { 0 = n } in x) (eqb-true t.node.0 node.0 e)) r.0 }
-    by_test false e q = taken-back point g c node ts r.1 q
+    by_test false e q rest = rest q
 
 same-table : (line : Stmt) (t : Table) → named_table line ≡ Some t → table_of line ≡ t.0
 same-table (stmt.Select q) t e = ap (λ (x : Table). x.0) (some-same q.table t e)
