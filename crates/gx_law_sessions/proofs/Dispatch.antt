@@ -309,7 +309,7 @@ module _ (script : Script) (steps : List Step) (c c1 : Coord) (s : SessionId) (g
           noted = subst (λ m. slice_get m (length seam) ≡ Some noted) (sym joined) (get_last seam (mark.Abort g ∷ []) noted);
           unaborted = subst (λ m. is_aborted (take (length seam) m) g ≡ false) (sym joined) (subst (λ m. is_aborted m g ≡ false) (sym (take-append_seam seam (noted ∷ mark.Abort g ∷ []))) (not-aborted seam (running-there r R)));
           faults = is-fault _;
-          heard = subst (λ l. Rattle.gx_store.specs.Refusals.IsHeard (record { steps = steps; event = event.Start s; earlier = (earlier ++ why) ++ mark.Abort g ∷ []; later = later }) (length seam) l g (next_cid w) (cause_of fault)) (sym is_insert) (at-least (length (marks_in steps)) (length (earlier ++ r.marks)) (length seam) (length-append (marks_in steps) (earlier ++ r.marks)));
+          heard = subst (λ l. Rattle.gx_store.specs.Refusals.IsHeard (record { steps = steps; event = event.Start s; earlier = (earlier ++ why) ++ mark.Abort g ∷ []; later = later }) (length seam) l g (next_cid w) rid None (cause_of fault)) (sym is_insert) (at-least (length (marks_in steps)) (length (earlier ++ r.marks)) (length seam) (length-append (marks_in steps) (earlier ++ r.marks)));
         }
       where
         at-least : (a d e : ℕ) → e ≡ a + d → a ≤ e

@@ -1,10 +1,11 @@
 -- Why the small runs are no histories.
 use Rattle.std.proofs.Common.{◌≡◌, inl, inr, ℕ, zero, suc, List, [], ◌∷◌, Option, Some, None, true, false, refl, sym, subst, ap, ◌∙◌, arith}
-use Rattle.std.specs.Prelude.{Contains, IsSome, map, slice_get, take}
+use Rattle.std.specs.Prelude.{◌<◌, Contains, IsSome, map, slice_get, slice_index_or, take}
 use Rattle.gx_ids.specs.declared.ids.Gxid.{Gxid}
 use Rattle.gx_ids.specs.declared.ids.Node.{Node}
 use Rattle.gx_ids.specs.declared.ids.SessionId.{SessionId}
 use Rattle.gx_ids.specs.declared.ids.Table.{Table}
+use Rattle.gx_ids.specs.declared.rid.Rid.{Rid}
 use Rattle.gx_tree.specs.declared.expr.Expr.{Expr}
 use Rattle.gx_tree.specs.declared.query.Query.{Query}
 use Rattle.gx_tree.specs.declared.schema.Dist.{Dist}
@@ -39,9 +40,9 @@ use Rattle.gx_store.specs.Marks.{is_ended, is_processed, node_of}
 use Rattle.gx_store.specs.Messages.{IsSending, Receives}
 use Rattle.gx_store.specs.Points.{Point, before}
 use Rattle.gx_store.specs.Protocol.{IsReturned}
-use Rattle.gx_store.specs.RefusedHistories.{IsNoHistory, block_of_select, commit_is_cancelled, insert_and_select, inserted_nothing, one_insert, select_all, select_for_journal, sent_to_nobody, told_another, two_inserts, undrawn, untold, without_condition, written_elsewhere}
-use Rattle.gx_store.specs.RefusedParts.{anna, empty_block, first_cid, first_txn, row_of, second_txn, the_segment}
-use Rattle.gx_store.specs.Refusals.{IsRefusal, may_refuse, the_coordinator}
+use Rattle.gx_store.specs.RefusedHistories.{IsNoHistory, block_of_select, commit_is_cancelled, insert_and_select, inserted_nothing, one_insert, over_two, select_all, select_for_journal, sent_to_nobody, told_another, told_by_another, two_inserts, undrawn, untold, without_condition, written_elsewhere}
+use Rattle.gx_store.specs.RefusedParts.{anna, empty_block, first_cid, first_txn, other_segment, row_of, second_txn, the_segment}
+use Rattle.gx_store.specs.Refusals.{IsRefusal, IsWord, may_refuse, the_coordinator}
 use Rattle.gx_store.specs.Writes.{IsLateWriteOf, LegalWrite, dist_of}
 use Rattle.gx_store.proofs.RefusedParts.{clash, no-more, none-returned}
 
@@ -89,18 +90,22 @@ no-history-nothing script table tuple s h = no-insert anna table tuple first_txn
 abbrev word : Gxid → Message
 word g = message.Answer g (reply.Failed first_cid cause.Overflow)
 
-no-word : {script : Script} {point : Point} (session : SessionId) (query : Query) → LegalAnswer script point session 1 (answer.Refused refused.Overflow) → next_stmt session script (before point) ≡ Some (stmt.Select query) → state_at script session point ≡ Outside → ((segment : Node) (g : Gxid) → Receives point.steps point.event segment the_coordinator (word g) → ⊥) → ⊥
+no-word : {script : Script} {point : Point} (session : SessionId) (query : Query) → LegalAnswer script point session 1 (answer.Refused refused.Overflow) → next_stmt session script (before point) ≡ Some (stmt.Select query) → state_at script session point ≡ Outside → ((g : Gxid) (rid : Rid) (image : Option (List Value)) → IsWord point g first_cid rid image cause.Overflow → ⊥) → ⊥
 no-word {script = script} {point = point} session query a line outside none =
     by_refusal (subst (λ b. IsAnswer script point session b (stmt.Select query) (answer.Refused refused.Overflow)) outside (subst (λ l. IsAnswer script point session (state_at script session point) l (answer.Refused refused.Overflow)) (some-same _ _ (sym a.runs.line ∙ line)) a.is))
   where
     by_refusal : IsRefusal script point session Outside (stmt.Select query) refused.Overflow → ⊥
-    by_refusal r = none r.cause.heard.0 r.g r.cause.heard.1
+    by_refusal r = none r.g r.cause.rid r.cause.image r.cause.heard
 
 pub no-history-untold : (script : Script) (table : Table) (tuple : List Expr) (query : Query) (s t : Snapshot) (row : List Value) → IsNoHistory (insert_and_select script table tuple query) (untold table s t row)
-no-history-untold script table tuple query s t row h = no-word anna query h.1.1.1.1.1.0.marks.1.0 refl refl (λ segment g r. nothing segment r.number r.is)
+no-history-untold script table tuple query s t row h = no-word anna query h.1.1.1.1.1.0.marks.1.0 refl refl (λ g rid image w. nothing w.segment w.said.number w.said.is)
   where
     nothing : (segment : Node) (number : ℕ) → event.Round ≡ event.Receive segment the_coordinator number → ⊥
     nothing segment number e = cc
+
+-- the mark is no sending
+abbrev IsUnsent : Mark → Type 0
+IsUnsent m = (number : ℕ) (to : Node) (told : Message) → m ≡ mark.Sent to number told → ⊥
 
 -- no mark of these steps sends this
 abbrev IsUnsaid : Message → Mark → Type 0
@@ -120,12 +125,49 @@ unsent told steps u from to step mark number s = each-get (IsUnsaid told) s.send
 
 pub no-history-told-another : (script : Script) (table : Table) (tuple : List Expr) (query : Query) (s t : Snapshot) (row : List Value) → IsNoHistory (insert_and_select script table tuple query) (told_another table s t row)
 no-history-told-another script table tuple query s t row h =
-    no-word anna query h.1.1.1.1.1.0.marks.1.0 refl refl (λ segment g r. unsent (word g) (take 5 (told_another table s t row)) (unsaid g) segment the_coordinator r.sent.step r.sent.mark r.number r.sent.sending)
+    no-word anna query h.1.1.1.1.1.0.marks.1.0 refl refl (λ g rid image w. unsent (word g) (take 5 (told_another table s t row)) (unsaid g) w.segment the_coordinator w.said.sent.step w.said.sent.mark w.said.number w.said.sent.sending)
   where
     unsaid : (g : Gxid) → Each (λ (s : Step). Each (IsUnsaid (word g)) s.marks) (take 5 (told_another table s t row))
     unsaid g = (
       (λ n to e. cc, (λ n to e. cc, tt)),
       ((λ n to e. cc, (λ n to e. cc, tt)), ((λ n to e. cc, (λ n to e. cc, tt)), ((λ n to e. cc, (λ n to e. cc, tt)), ((λ n to e. cc, (λ n to e. cc, tt)), tt)))),
+    )
+
+-- no step of the other segment notes this fault
+abbrev IsUnnoted : Mark → Step → Type 0
+IsUnnoted fault s = s.stamp.node ≡ other_segment → Contains s.marks fault → ⊥
+
+pub no-history-by-another : (script : Script) (table : Table) (tuple : List Expr) (query : Query) (s t : Snapshot) (row : List Value) → IsNoHistory (over_two (insert_and_select script table tuple query)) (told_by_another table s t row)
+no-history-by-another script table tuple query s t row h =
+    no-word anna query h.1.1.1.1.1.1.0.marks.1.0 refl refl
+    (λ g rid image w. each-get (IsUnnoted (mark.Fault g first_cid rid image)) (take 6 (told_by_another table s t row)) w.place w.step (unnoted g rid image) w.at (w.node ∙ sym (its w.segment w.said.number w.said.is)) w.noted)
+  where
+    its : (segment : Node) (number : ℕ) → event.Receive other_segment the_coordinator 1 ≡ event.Receive segment the_coordinator number → other_segment ≡ segment
+    its segment number e = cc
+
+    one-two : (n : ℕ) → n ≡ 1 → n ≡ 2 → ⊥
+    one-two n a b = omega arith
+
+    zero-two : (n : ℕ) → n ≡ 0 → n ≡ 2 → ⊥
+    zero-two n a b = omega arith
+
+    at-one : the_segment ≡ other_segment → ⊥
+    at-one e = one-two the_segment.0 refl (ap (λ (n : Node). n.0) e)
+
+    at-zero : the_coordinator ≡ other_segment → ⊥
+    at-zero e = zero-two the_coordinator.0 refl (ap (λ (n : Node). n.0) e)
+
+    only-sent : (fault : Mark) (told : Message) (k : ℕ) → k < 1 → slice_index_or (mark.Sent the_coordinator 1 told ∷ []) k fault ≡ fault → IsUnsent fault → ⊥
+    only-sent fault told zero l e other = other 1 the_coordinator told (sym e)
+    only-sent fault told (suc k) l e other = beyond k l
+      where
+        beyond : (k : ℕ) → suc k < 1 → ⊥
+        beyond k l = omega arith
+
+    unnoted : (g : Gxid) (rid : Rid) (image : Option (List Value)) → Each (IsUnnoted (mark.Fault g first_cid rid image)) (take 6 (told_by_another table s t row))
+    unnoted g rid image = (
+      λ e n. at-zero e,
+      (λ e n. at-one e, (λ e n. at-zero e, (λ e n. at-zero e, (λ e n. at-one e, (λ e n. only-sent (mark.Fault g first_cid rid image) (word second_txn) n.0 n.1 n.2 (λ number to m f. cc), tt))))),
     )
 
 -- AN ANSWER

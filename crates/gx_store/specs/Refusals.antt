@@ -26,6 +26,7 @@ use Rattle.gx_store.specs.declared.answer.Refused.{Refused}
 use Rattle.gx_store.specs.declared.answer.Refused.TheVariants.{Serialization, Victim, Overflow, DivisionByZero, InFailedBlock, JournalFault, NotInBlock}
 use Rattle.gx_store.specs.declared.mark.Mark.{Mark}
 use Rattle.gx_store.specs.declared.mark.Mark.TheVariants.{Fault, JournalFailed, Recheck}
+use Rattle.gx_store.specs.declared.run.Step.{Step}
 use Rattle.gx_store.specs.Faults.{IsFaultOf}
 use Rattle.gx_store.specs.Lines.{BlockState, InBlock, cid_of, is_command, level_of, transaction_of}
 use Rattle.gx_store.specs.Marks.{is_aborted, is_committed}
@@ -36,11 +37,21 @@ use Rattle.gx_store.specs.Writes.{IsSelectedAndFree}
 abbrev pub the_coordinator : Node
 the_coordinator = record { 0 = 0 }
 
+-- the segment has noted the fault in one of its steps, and says its cause in the message that the point's step receives
+pub record IsWord (point : Point) (g : Gxid) (c : Cid) (rid : Rid) (image : Option (List Value)) (reason : Cause) : Type 0 where
+  pub segment : Node
+  pub said : Receives point.steps point.event segment the_coordinator (message.Answer g (reply.Failed c reason))
+  pub place : ℕ
+  pub step : Step
+  pub at : slice_get point.steps place ≡ Some step
+  pub node : step.stamp.node ≡ segment
+  pub noted : Contains step.marks (Fault g c rid image)
+
 -- An INSERT's constants are evaluated at the coordinator, in the step of its refusal, which notes the fault. Of another
--- command a segment says the cause, in the message that the step receives.
-abbrev pub IsHeard : Point → ℕ → Stmt → Gxid → Cid → Cause → Type 0
-IsHeard point place (Insert table tuples) g c reason = length (marks_in point.steps) ≤ place
-IsHeard point place _ g c reason = (segment : Node) × Receives point.steps point.event segment the_coordinator (message.Answer g (reply.Failed c reason))
+-- command a segment has noted it, and says so.
+abbrev pub IsHeard : Point → ℕ → Stmt → Gxid → Cid → Rid → Option (List Value) → Cause → Type 0
+IsHeard point place (Insert table tuples) g c rid image reason = length (marks_in point.steps) ≤ place
+IsHeard point place _ g c rid image reason = IsWord point g c rid image reason
 
 -- an evaluation of the command faulted so, before its transaction aborted, and this is why it is refused
 pub record HasFaulted (point : Point) (stmt : Stmt) (level : Level) (g : Gxid) (c : Cid) (fault : ArithFault) (reason : Cause) : Type 0 where
@@ -50,7 +61,7 @@ pub record HasFaulted (point : Point) (stmt : Stmt) (level : Level) (g : Gxid) (
   pub noted : slice_get (before point) place ≡ Some (Fault g c rid image)
   pub unaborted : is_aborted (take place (before point)) g ≡ false
   pub faults : IsFaultOf (take place (before point)) level g c stmt rid image fault
-  pub heard : IsHeard point place stmt g c reason
+  pub heard : IsHeard point place stmt g c rid image reason
 
 -- the condition of an UPDATE or DELETE
 abbrev pub IsChange : Stmt → Table → Option Cond → Type 0

@@ -1,5 +1,5 @@
 -- Small runs that are no histories of one store.
-use Rattle.std.specs.Prelude.{true, List, [], ◌∷◌, Some, None}
+use Rattle.std.specs.Prelude.{true, List, [], ◌∷◌, ◌++◌, take, Some, None}
 use Rattle.gx_ids.specs.declared.ids.Cid.{Cid}
 use Rattle.gx_ids.specs.declared.ids.Table.{Table}
 use Rattle.gx_tree.specs.declared.expr.Expr.{Expr}
@@ -22,7 +22,7 @@ use Rattle.gx_store.specs.declared.event.Event.TheVariants as event
 use Rattle.gx_store.specs.declared.mark.Mark.{Mark}
 use Rattle.gx_store.specs.declared.mark.Mark.TheVariants as mark
 use Rattle.gx_store.specs.declared.run.Step.{Step}
-use Rattle.gx_store.specs.RefusedParts.{anna, bert, block_begins, first_cid, first_txn, line_of, no_edges, row_of, second_txn, step_at, the_segment, with_lines}
+use Rattle.gx_store.specs.RefusedParts.{anna, bert, block_begins, first_cid, first_txn, line_of, no_edges, other_segment, row_of, second_txn, step_at, the_segment, with_lines}
 use Rattle.gx_store.specs.Refusals.{the_coordinator}
 use Rattle.gx_store.specs.Runs.{IsLegalHistory}
 
@@ -79,6 +79,16 @@ untold table berts annas row = refused_for_overflow table berts annas row [] eve
 abbrev pub told_another : Table → Snapshot → Snapshot → List Value → List Step
 told_another table berts annas row =
     refused_for_overflow table berts annas row (mark.Sent the_coordinator 2 (message.Answer second_txn (reply.Failed first_cid cause.DivisionByZero)) ∷ []) (event.Receive the_segment the_coordinator 2)
+
+abbrev pub over_two : Script → Script
+over_two script = record script { segments = 2 }
+
+-- the cause is received from the other segment, which has noted nothing
+abbrev pub told_by_another : Table → Snapshot → Snapshot → List Value → List Step
+told_by_another table berts annas row =
+    take 5 (untold table berts annas row)
+    ++ step_at other_segment 5 (event.Receive the_coordinator other_segment 1) (mark.Sent the_coordinator 1 (message.Answer second_txn (reply.Failed first_cid cause.Overflow)) ∷ [])
+    ∷ step_at the_coordinator 6 (event.Receive other_segment the_coordinator 1) (mark.Abort second_txn ∷ mark.Answer anna 1 (answer.Refused refused.Overflow) ∷ []) ∷ []
 
 -- AN ANSWER
 -- a SELECT without a condition

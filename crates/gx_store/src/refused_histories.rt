@@ -3,7 +3,7 @@ ghost use Rattle.std.specs.Prelude.{List};
 ghost use Rattle.gx_dsnap.specs.declared.snapshot.Snapshot.{Snapshot as OneSnapshot};
 ghost use Rattle.gx_ids.specs.declared.ids.Table.{Table as OneTable};
 ghost use Rattle.gx_script.specs.declared.Script.{Script as OneScript};
-ghost use Rattle.gx_store.specs.RefusedHistories.{IsNoHistory, block_of_insert, block_of_select, commit_is_cancelled, insert_and_select, inserted_nothing, never_started, one_insert, select_all, select_for_journal, sent_to_nobody, told_another, two_inserts, undrawn, untold, written_elsewhere};
+ghost use Rattle.gx_store.specs.RefusedHistories.{IsNoHistory, block_of_insert, block_of_select, commit_is_cancelled, insert_and_select, inserted_nothing, never_started, one_insert, over_two, select_all, select_for_journal, sent_to_nobody, told_another, told_by_another, two_inserts, undrawn, untold, written_elsewhere};
 ghost use Rattle.gx_store.specs.RefusedParts.{empty_block};
 ghost use Rattle.gx_tree.specs.declared.expr.Expr.{Expr as OneExpr};
 ghost use Rattle.gx_tree.specs.declared.query.Query.{Query as OneQuery};
@@ -16,10 +16,12 @@ pub fn inserts_write_their_own_rows()
     ensures nothing { (script : OneScript) (table : OneTable) (tuple : List OneExpr) (snapshot : OneSnapshot) → IsNoHistory (one_insert script table tuple) (inserted_nothing snapshot) }
 {}
 
-/// A command isn't refused for an evaluation of which the step receives no word, nor for another cause than the word's.
+/// A command isn't refused for an evaluation of which the step receives no word, nor for another cause than the word's, nor by the
+/// word of a segment that hasn't noted the fault.
 pub fn faults_are_told()
     ensures untold { (script : OneScript) (table : OneTable) (tuple : List OneExpr) (query : OneQuery) (s t : OneSnapshot) (row : List OneValue) → IsNoHistory (insert_and_select script table tuple query) (untold table s t row) }
     ensures told_another { (script : OneScript) (table : OneTable) (tuple : List OneExpr) (query : OneQuery) (s t : OneSnapshot) (row : List OneValue) → IsNoHistory (insert_and_select script table tuple query) (told_another table s t row) }
+    ensures by_another { (script : OneScript) (table : OneTable) (tuple : List OneExpr) (query : OneQuery) (s t : OneSnapshot) (row : List OneValue) → IsNoHistory (over_two (insert_and_select script table tuple query)) (told_by_another table s t row) }
 {}
 
 /// A command isn't answered that was sent to nobody.
