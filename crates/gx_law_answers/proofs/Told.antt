@@ -44,7 +44,7 @@ use Rattle.gx_rules.specs.Machine.{world_of}
 use Rattle.gx_meaning.specs.Merged.{merged_answer}
 use Rattle.gx_rules.specs.Slices.{cause_of}
 use Rattle.gx_law_order.proofs.Lists.{Each, get_kept}
-use Rattle.gx_law_sessions.specs.Scanned.{began_from, stmt_of_command}
+use Rattle.gx_law_sessions.specs.Scanned.{began_from}
 use Rattle.gx_law_sessions.specs.Finish.{point_at}
 use Rattle.gx_law_sessions.specs.Gathering.{AreAll, AreApart, IsGathered, Taken, nodes_taken, parts_taken}
 use Rattle.gx_law_sessions.specs.Orders.{level_of_began}

@@ -37,7 +37,7 @@ use Rattle.gx_store.specs.Commands.{state_at}
 use Rattle.gx_store.specs.Legal.{LegalAnswer}
 use Rattle.gx_store.specs.Lines.{Outside, InBlock, next_stmt, transaction_of}
 use Rattle.gx_store.specs.Marks.{is_ended, is_processed, node_of}
-use Rattle.gx_store.specs.Messages.{IsSending, Receives}
+use Rattle.gx_store.specs.Messages.{IsSending}
 use Rattle.gx_store.specs.Points.{Point, before}
 use Rattle.gx_store.specs.Protocol.{IsReturned}
 use Rattle.gx_store.specs.RefusedHistories.{IsNoHistory, block_of_select, commit_is_cancelled, insert_and_select, inserted_nothing, one_insert, over_two, select_all, select_for_journal, sent_to_nobody, told_another, told_by_another, two_inserts, undrawn, untold, without_condition, written_elsewhere}
