@@ -39,7 +39,6 @@ fn is_plain(options: &Options) -> bool
 
 /// Reads, runs and tells, and writes nothing but to the journals. Words that ask for more than is built, and scripts of another form
 /// than the one that is built, are `NotBuilt`. Nothing is read unless the words ask for a script that is read.
-#[tactic(auto, using(crate::proofs::Refusals::read_as))]
 pub fn make_attempt<S: Source, J: Journal, G: Gate>(
     alloc: Global,
     words: &[String],
@@ -66,7 +65,7 @@ pub fn make_attempt<S: Source, J: Journal, G: Gate>(
 }
 
 // What becomes of the bytes of a source.
-#[tactic(auto, using(crate::proofs::Refusals::read_as))]
+#[tactic(auto, using(crate::proofs::Refusals::read_as, crate::proofs::Attempts::script_read))]
 fn read_and_run<S: Source, J: Journal, G: Gate>(
     alloc: Global,
     words: &[String],
