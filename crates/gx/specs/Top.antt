@@ -95,17 +95,20 @@ pub record IsRead (left after : Option (List ℕ)) (said : Result Script Refusal
   pub few : length bytes ≤ limit
   pub is : Reads bytes said
 
--- They are this script. So it keeps the rules and the limits of the language, each of its INSERTs has a tuple, and each tuple a value for
--- the distribution column.
-pub record IsScriptRead (left after : Option (List ℕ)) (script : Script) : Type 0 where
-  pub read : IsRead left after (Ok script)
+-- The script keeps the rules and the limits of the language, each of its INSERTs has a tuple, and each tuple a value for the distribution
+-- column.
+pub record KeepsLanguage (script : Script) : Type 0 where
   pub language : IsScript script
   pub inserts : AreInsertsWhole script.tables script.lines
+
+-- so does whatever script was read
+abbrev pub IsOfLanguage : Option (List ℕ) → Option (List ℕ) → Type 0
+IsOfLanguage left after = (script : Script) → IsRead left after (Ok script) → KeepsLanguage script
 
 -- a script of the form that is built was read, and this is a run of it, up to some step
 pub record IsBegun (left after : Option (List ℕ)) (run : Run) : Type 0 where
   pub script : Script
-  pub read : IsScriptRead left after script
+  pub read : IsRead left after (Ok script)
   pub built : is_of_form script ≡ true
   pub is : IsRunOf script run
 
@@ -117,7 +120,7 @@ IsPartRun left after run = (run ≡ no_run) ⊎ IsBegun left after run
 pub record IsDone (words : List (String Global)) (left after : Option (List ℕ)) (run : Run) (text : List ℕ) : Type 0 where
   pub none : words ≡ []
   pub script : Script
-  pub read : IsScriptRead left after script
+  pub read : IsRead left after (Ok script)
   pub built : is_of_form script ≡ true
   pub is : IsWholeRunOf script run text
 
@@ -125,7 +128,7 @@ pub record IsDone (words : List (String Global)) (left after : Option (List ℕ)
 pub record IsStopped (words : List (String Global)) (left after : Option (List ℕ)) (run : Run) (text : List ℕ) : Type 0 where
   pub none : words ≡ []
   pub script : Script
-  pub read : IsScriptRead left after script
+  pub read : IsRead left after (Ok script)
   pub built : is_of_form script ≡ true
   pub is : IsStoppedRunOf script run text
 
@@ -160,7 +163,7 @@ pub record IsTooLarge (words : List (String Global)) (left after : Option (List 
 -- the bytes that were read are a script of another form than the one that is built
 pub record IsOther (left after : Option (List ℕ)) : Type 0 where
   pub script : Script
-  pub read : IsScriptRead left after script
+  pub read : IsRead left after (Ok script)
   pub other : is_of_form script ≡ false
 
 -- there were words, or a script of another form, nothing was run, and the text says so
