@@ -117,19 +117,22 @@ pub record IsRead (left after : Option (List ℕ)) (said : Result Script Refusal
   pub few : length bytes ≤ limit
   pub is : Reads bytes said
 
--- They are this script. So it keeps the rules and the limits of the language, each of its INSERTs has a tuple, and each tuple a value for
--- the distribution column.
-pub record IsScriptRead (left after : Option (List ℕ)) (script : Script) : Type 0 where
-  pub read : IsRead left after (Ok script)
+-- The script keeps the rules and the limits of the language, each of its INSERTs has a tuple, and each tuple a value for the distribution
+-- column.
+pub record KeepsLanguage (script : Script) : Type 0 where
   pub language : IsScript script
   pub inserts : AreInsertsWhole script.tables script.lines
+
+-- so does whatever script was read
+abbrev pub IsOfLanguage : Option (List ℕ) → Option (List ℕ) → Type 0
+IsOfLanguage left after = (script : Script) → IsRead left after (Ok script) → KeepsLanguage script
 
 -- a script of the form that is built was read, and this is a run of it, up to some step
 pub record IsBegun (words : List (String Global)) (left after : Option (List ℕ)) (run : Run) : Type 0 where
   pub options : Options
   pub asked : AreAsked words options
   pub script : Script
-  pub read : IsScriptRead left after script
+  pub read : IsRead left after (Ok script)
   pub built : is_of_form script ≡ true
   pub is : IsRunOf script run
 
@@ -142,7 +145,7 @@ pub record IsDone (words : List (String Global)) (left after : Option (List ℕ)
   pub options : Options
   pub asked : AreAsked words options
   pub script : Script
-  pub read : IsScriptRead left after script
+  pub read : IsRead left after (Ok script)
   pub built : is_of_form script ≡ true
   pub is : IsWholeRunOf script options.trace run text
 
@@ -151,7 +154,7 @@ pub record IsStopped (words : List (String Global)) (left after : Option (List �
   pub options : Options
   pub asked : AreAsked words options
   pub script : Script
-  pub read : IsScriptRead left after script
+  pub read : IsRead left after (Ok script)
   pub built : is_of_form script ≡ true
   pub is : IsStoppedRunOf script options run text
 
@@ -198,7 +201,7 @@ pub record IsTooLarge (words : List (String Global)) (left after : Option (List 
 pub record IsOther (words : List (String Global)) (left after : Option (List ℕ)) : Type 0 where
   pub asked : IsForScript words
   pub script : Script
-  pub read : IsScriptRead left after script
+  pub read : IsRead left after (Ok script)
   pub other : is_of_form script ≡ false
 
 -- the words ask for what isn't built, or the script is of another form, nothing was run, and the text says so

@@ -65,7 +65,7 @@ pub fn make_attempt<S: Source, J: Journal, G: Gate>(
 }
 
 // What becomes of the bytes of a source.
-#[tactic(auto, using(crate::proofs::Refusals::read_as, crate::proofs::Attempts::script_read))]
+#[tactic(auto, using(crate::proofs::Refusals::read_as))]
 fn read_and_run<S: Source, J: Journal, G: Gate>(
     alloc: Global,
     words: &[String],

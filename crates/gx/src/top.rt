@@ -3,7 +3,7 @@ ghost use Rattle.std.specs.Prelude.{◌≡◌, ◌≢◌, [], ⊥, All, length, 
 ghost use Rattle.gx_drive.specs.Ordered.{AreFailuresFew, AreHeld};
 ghost use Rattle.gx_world.specs.Worlds.{shelf};
 ghost use Rattle.gx_words.specs.declared.options.Options.{Options as Asked};
-ghost use Rattle.gx.specs.Top.{AreAsked, IsCutShort, IsDone, IsDue, IsNotBuilt, IsPartRun, IsReadFault, IsRefused, IsStatus, IsStopped, IsTold, IsToldOf, IsTooLarge, IsUsage, IsWritten};
+ghost use Rattle.gx.specs.Top.{AreAsked, IsCutShort, IsDone, IsDue, IsNotBuilt, IsOfLanguage, IsPartRun, IsReadFault, IsRefused, IsStatus, IsStopped, IsTold, IsToldOf, IsTooLarge, IsUsage, IsWritten};
 
 use crate::attempt::{Attempt, make_attempt};
 use gx_outside::{Failed, Gate, Journal, Sink, Source, write_whole};
@@ -88,6 +88,9 @@ pub fn run_gx<S: Source, K: Sink, J: Journal, G: Gate>(
 
     // Nothing is read unless the words ask for a script that is read.
     ensures unread { ((options : Asked) → AreAsked words.now options → ⊥) → source.new ≡ source.old }
+
+    // The script that was read keeps the rules and the limits of the language, and its INSERTs have tuples with keys.
+    ensures language { IsOfLanguage (S.left source.old) (S.left source.new) }
 
     // All journals come back.
     ensures count { length journals.new.items ≡ 17 }
