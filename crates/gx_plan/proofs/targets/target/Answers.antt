@@ -1,8 +1,8 @@
 use Rattle.std.proofs.Common.{◌≡◌, rules, subst, sym}
 use Rattle.std.specs.Option.{option_copied}
 use Rattle.gx_meaning.specs.Target.{IsFalseOutside, target_of}
-use Rattle.gx_place.proofs.Outside.{target_of-outside}
-use Rattle.gx_place.proofs.targets.target.Goals as goal
+use Rattle.gx_plan.proofs.Outside.{target_of-outside}
+use Rattle.gx_plan.proofs.targets.target.Goals as goal
 
 pub returns-in-By-Some-clause-outside : goal.returns-in-By-Some-clause-outside
 returns-in-By-Some-clause-outside c =
