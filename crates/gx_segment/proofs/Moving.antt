@@ -15,8 +15,8 @@ use Rattle.gx_rules.specs.Shown.{last_images}
 use Rattle.gx_store.specs.Marks.{is_same_gxid}
 use Rattle.gx_slices.specs.Agrees.{IsHeld, entry_at, has_version, is_of_row, is_right_version, local_in, write_of}
 use Rattle.gx_slices.specs.declared.held.Held.{Held}
-use Rattle.gx_visible.specs.Counts.{is_committed}
-use Rattle.gx_xidmap.specs.declared.status.LocalStatus.{LocalStatus}
+use Rattle.gx_rows.specs.Counts.{is_committed}
+use Rattle.gx_rows.specs.declared.status.LocalStatus.{LocalStatus}
 use Rattle.gx_segment.specs.Moves.{HasMoved, status_in}
 use Rattle.gx_segment.proofs.Following.{Follows}
 use Rattle.gx_segment.proofs.Gxids.{apart, below, same_gxid}

@@ -17,7 +17,7 @@ use Rattle.gx_rules.specs.Segments.{has_ended}
 use Rattle.gx_slices.specs.Agrees.{entry_at, local_in, rows_in}
 use Rattle.gx_slices.specs.declared.held.Entry.{Entry}
 use Rattle.gx_slices.specs.declared.held.Held.{Held}
-use Rattle.gx_xidmap.specs.declared.status.LocalStatus.{LocalStatus}
+use Rattle.gx_rows.specs.declared.status.LocalStatus.{LocalStatus}
 use Rattle.gx_segment.specs.Moves.{HasMoved, status_in}
 use Rattle.gx_segment.proofs.Gxids.{apart, is_at-apart, same_gxid}
 

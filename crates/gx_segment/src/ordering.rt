@@ -21,9 +21,9 @@ use gx_ids::{Gxid, Mem, Node, Seq};
 use gx_msg::Kept;
 use gx_outside::Journal;
 use gx_phases::{Phase, Taken, take_order};
+use gx_rows::LocalStatus;
 use gx_slices::{Entry, Held, KeptRows};
 use gx_store::Mark;
-use gx_xidmap::LocalStatus;
 use std::alloc::Global;
 use std::collections::BTreeSet;
 
