@@ -7,8 +7,8 @@ use Rattle.gx_ids.specs.declared.ids.Gxid.{Gxid}
 use Rattle.gx_tree.specs.declared.schema.Schema.{Schema}
 use Rattle.gx_dsnap.specs.Gxids.{gxid_cmp}
 use Rattle.gx_slices.specs.Store.{kept_at, passes, status_of}
-use Rattle.gx_phases.specs.Changes.{Change, Makes}
-use Rattle.gx_phases.specs.declared.local.Taken.{Taken}
+use Rattle.gx_node.specs.Changes.{Change, Makes}
+use Rattle.gx_node.specs.declared.local.Taken.{Taken}
 use Rattle.gx_rules.specs.Fits.{holds_locks}
 use Rattle.gx_rules.specs.Segments.{Local, Phase, Reading, Writing, Prepared, Committed, Forgotten, Aborted, Seg, SegTurn, Version, has_committed, has_ended}
 use Rattle.gx_rules.specs.Shown.{last_images}

@@ -9,9 +9,9 @@ use Rattle.gx_dtx.specs.declared.order.Order.{Order}
 use Rattle.gx_dsnap.specs.Gxids.{gxid_cmp}
 use Rattle.gx_slices.specs.Store.{Store, status_of}
 use Rattle.gx_msg.specs.declared.item.Kept.{Kept}
-use Rattle.gx_phases.specs.Changes.{Change, Does, change_of}
-use Rattle.gx_phases.specs.Phases.{local_of, phase_of}
-use Rattle.gx_phases.specs.declared.local.Taken.{Taken}
+use Rattle.gx_node.specs.Changes.{Change, Does, change_of}
+use Rattle.gx_node.specs.Phases.{local_of, phase_of}
+use Rattle.gx_node.specs.declared.local.Taken.{Taken}
 use Rattle.gx_rules.specs.Segments as rule
 use Rattle.gx_rules.specs.Segments.{has_ended}
 use Rattle.gx_slices.specs.Agrees.{entry_at, local_in, rows_in}

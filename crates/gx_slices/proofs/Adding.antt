@@ -16,7 +16,7 @@ use Rattle.gx_rows.specs.Counts.{is_committed}
 use Rattle.gx_rows.specs.declared.status.LocalStatus.{LocalStatus}
 use Rattle.gx_rows.specs.declared.status.LocalStatus.TheVariants.{Running}
 use Rattle.gx_slices.specs.Store.{Store, Write, passes, status_of, writes_of}
-use Rattle.gx_phases.specs.Phases.{local_of}
+use Rattle.gx_node.specs.Phases.{local_of}
 use Rattle.gx_store.specs.Marks.{is_same_gxid, is_same_rid}
 use Rattle.gx_store.specs.declared.mark.Mark.{Mark}
 use Rattle.gx_rules.specs.Segments as rule

@@ -3,11 +3,11 @@ use Rattle.std.specs.Prelude.{option_map}
 use Rattle.gx_msg.specs.declared.reply.Reply.{Reply}
 use Rattle.gx_msg.specs.declared.reply.Reply.TheVariants as reply
 use Rattle.gx_rules.specs.Segments as rule
-use Rattle.gx_phases.specs.declared.local.Local.{Local}
-use Rattle.gx_phases.specs.declared.local.Phase.{Phase}
-use Rattle.gx_phases.specs.declared.local.Phase.TheVariants.{Reading, Writing, Prepared, Committed, Forgotten, Aborted}
-use Rattle.gx_phases.specs.declared.local.Vote.{Vote}
-use Rattle.gx_phases.specs.declared.local.Vote.TheVariants as vote
+use Rattle.gx_node.specs.declared.local.Local.{Local}
+use Rattle.gx_node.specs.declared.local.Phase.{Phase}
+use Rattle.gx_node.specs.declared.local.Phase.TheVariants.{Reading, Writing, Prepared, Committed, Forgotten, Aborted}
+use Rattle.gx_node.specs.declared.local.Vote.{Vote}
+use Rattle.gx_node.specs.declared.local.Vote.TheVariants as vote
 
 abbrev pub phase_of : Phase → rule.Phase
 phase_of Reading = rule.Reading

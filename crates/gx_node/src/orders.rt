@@ -1,8 +1,8 @@
 ghost use Rattle.std.specs.Prelude.{◌≡◌, ◌≤◌, true, IfOk, OnErr};
 ghost use Rattle.gx_outside.specs.Causes.{Rose};
-ghost use Rattle.gx_phases.specs.Changes.{Does, change_of};
-ghost use Rattle.gx_phases.specs.Orders.{AreItems};
-ghost use Rattle.gx_phases.specs.Phases.{local_of};
+ghost use Rattle.gx_node.specs.Changes.{Does, change_of};
+ghost use Rattle.gx_node.specs.Orders.{AreItems};
+ghost use Rattle.gx_node.specs.Phases.{local_of};
 
 use crate::aborting::{take_abort, take_forget};
 use crate::committing::{take_commit, take_commit_prepared, take_prepare};

@@ -16,7 +16,7 @@ use Rattle.gx_dtx.specs.declared.order.Order.TheVariants as order
 use Rattle.gx_rules.specs.AtSegment.{on_abort, on_commit, on_commit_prepared, on_forget, on_prepare, was_prepared}
 use Rattle.gx_rules.specs.Maps.{with_at}
 use Rattle.gx_rules.specs.Segments.{Local, Phase, Reading, Writing, Prepared, Committed, Forgotten, Aborted, Seg, SegTurn, has_committed, reply}
-use Rattle.gx_phases.specs.declared.local.Taken.{Taken}
+use Rattle.gx_node.specs.declared.local.Taken.{Taken}
 
 -- its record afterwards, the mark, the answer, and the item for the journal
 pub record Change : Type 0 where

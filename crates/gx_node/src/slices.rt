@@ -1,5 +1,5 @@
 ghost use Rattle.std.specs.Prelude.{◌≡◌, slice_get};
-ghost use Rattle.gx_fits.specs.Right.{IsRightFor};
+ghost use Rattle.gx_node.specs.Right.{IsRightFor};
 ghost use Rattle.gx_rules.specs.Fits as fits;
 ghost use Rattle.gx_tree.specs.declared.slice.Slice.TheVariants as slice;
 

@@ -10,8 +10,8 @@ use Rattle.gx_rules.specs.AtSegment as rule
 use Rattle.gx_rules.specs.Maps.{with_at}
 use Rattle.gx_rules.specs.Segments.{Local, Phase, Reading, Writing, Prepared, Committed, Forgotten, Aborted, Seg, SegTurn, local_of, stays, tells_kept}
 use Rattle.gx_rules.specs.Shown.{kept_of}
-use Rattle.gx_phases.specs.Changes as change
-use Rattle.gx_phases.specs.Changes.{Change, Makes, change_of, turn_of}
+use Rattle.gx_node.specs.Changes as change
+use Rattle.gx_node.specs.Changes.{Change, Makes, change_of, turn_of}
 
 same_at : (f : ℕ → Local) (k h : ℕ) → f h ≡ with_at f k (f k) h
 same_at f k h = by_test (eqb h k) refl

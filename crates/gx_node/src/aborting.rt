@@ -1,8 +1,8 @@
 // ABORT and FORGET.
 ghost use Rattle.std.specs.Prelude.{◌≡◌, false};
-ghost use Rattle.gx_phases.specs.Changes.{Does};
-ghost use Rattle.gx_phases.specs.Changes as change;
-ghost use Rattle.gx_phases.specs.Phases.{local_of, phase_of};
+ghost use Rattle.gx_node.specs.Changes.{Does};
+ghost use Rattle.gx_node.specs.Changes as change;
+ghost use Rattle.gx_node.specs.Phases.{local_of, phase_of};
 ghost use Rattle.gx_rules.specs.Segments.{has_committed};
 
 use crate::committing::{nothing, tell};

@@ -1,10 +1,10 @@
 // PREPARE, COMMIT and COMMIT PREPARED.
 ghost use Rattle.std.specs.Prelude.{◌≡◌, ◌≤◌, true, false, Some, None, IfOk, OnErr};
 ghost use Rattle.gx_outside.specs.Causes.{Rose};
-ghost use Rattle.gx_phases.specs.Changes.{Does, commits_now, finishes_now, promises, unless_prepared};
-ghost use Rattle.gx_phases.specs.Changes as change;
-ghost use Rattle.gx_phases.specs.Orders.{AreItems};
-ghost use Rattle.gx_phases.specs.Phases.{local_of, phase_of};
+ghost use Rattle.gx_node.specs.Changes.{Does, commits_now, finishes_now, promises, unless_prepared};
+ghost use Rattle.gx_node.specs.Changes as change;
+ghost use Rattle.gx_node.specs.Orders.{AreItems};
+ghost use Rattle.gx_node.specs.Phases.{local_of, phase_of};
 
 use crate::appending::append;
 use crate::local::{Local, Phase, Taken, Vote};

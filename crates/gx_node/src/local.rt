@@ -1,5 +1,5 @@
 ghost use Rattle.std.specs.Prelude.{◌≡◌};
-ghost use Rattle.gx_phases.specs.Phases.{local_of, reply_of};
+ghost use Rattle.gx_node.specs.Phases.{local_of, reply_of};
 ghost use Rattle.gx_rules.specs.Segments.{new_local};
 
 use gx_msg::Reply;
