@@ -14,7 +14,7 @@ use crate::ends::{after_done, commit, owner};
 use gx_ids::{Gxid, Mem, Seq};
 use gx_msg::Out;
 use gx_script::Script;
-use gx_session::state::Block;
+use gx_script::state::Block;
 use gx_store::Mark;
 use gx_tree::Level;
 use std::alloc::Global;

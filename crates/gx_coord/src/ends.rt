@@ -2,7 +2,7 @@
 ghost use Rattle.std.specs.Prelude.{◌≡◌, ◌<◌, ◌++◌, ◌∷◌, [], true, length, IfOk, OnOk};
 ghost use Rattle.gx_dtx.specs.Rules.{AreWriters, on_commit};
 ghost use Rattle.gx_dtx.specs.Table.{IsActive};
-ghost use Rattle.gx_session.specs.Session.{IsIdle, after_done as done_state, after_refused as refused_state};
+ghost use Rattle.gx_script.specs.Session.{IsIdle, after_done as done_state, after_refused as refused_state};
 ghost use Rattle.gx_rules.specs.AtCoordinator.{commits as commit_turn, failure_marks, follows as follow_turn, is_committed, is_refused};
 ghost use Rattle.gx_rules.specs.Coordinators.{no_work, with_state, with_work};
 ghost use Rattle.gx_coord.specs.Books.{IsFramed, coord_of};
@@ -14,8 +14,7 @@ use crate::coord::Coord;
 use gx_dtx::{DtxOut, Outcome};
 use gx_ids::{Gxid, Mem, Node, Seq, SessionId};
 use gx_msg::Out;
-use gx_script::Script;
-use gx_session::SessionState;
+use gx_script::{Script, SessionState};
 use gx_store::{Mark, Refused, StmtAnswer};
 use std::alloc::Global;
 

@@ -17,9 +17,8 @@ use crate::statuses::Turned;
 use gx_ids::{Gxid, Mem, Node, Seq, SessionId};
 use gx_msg::{Envelope, Message, Out};
 use gx_outside::Journal;
-use gx_script::Script;
-use gx_session::SessionState;
-use gx_session::state::Block;
+use gx_script::state::Block;
+use gx_script::{Script, SessionState};
 use gx_store::{Mark, NodeEvent};
 use std::alloc::Global;
 

@@ -1,5 +1,5 @@
 ghost use Rattle.std.specs.Prelude.{◌≡◌, IsTrue, ◌↔◌};
-ghost use Rattle.gx_session.specs.Session.{IsIdle, after_done, after_line, after_refused, block_after as block_after_step, block_after_refusal as refused_block, idle_outside, line_step, pending_after as pending_of};
+ghost use Rattle.gx_script.specs.Session.{IsIdle, after_done, after_line, after_refused, block_after as block_after_step, block_after_refusal as refused_block, idle_outside, line_step, pending_after as pending_of};
 
 use crate::line_step::{LineStep, Plain};
 use gx_tree::{Level, Stmt};

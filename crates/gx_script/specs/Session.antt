@@ -2,14 +2,14 @@
 use Rattle.std.specs.Prelude.{◌≡◌, true, false}
 use Rattle.gx_tree.specs.declared.stmt.Stmt.{Stmt}
 use Rattle.gx_tree.specs.declared.stmt.Stmt.TheVariants as stmt
-use Rattle.gx_session.specs.declared.line_step.LineStep.{LineStep}
-use Rattle.gx_session.specs.declared.line_step.LineStep.TheVariants.{Answer, Refuse5, Refuse7, BeginBlock, CommitBlock, RollbackBlock, Command}
-use Rattle.gx_session.specs.declared.line_step.Plain.TheVariants as plain
-use Rattle.gx_session.specs.declared.state.Block.{Block}
-use Rattle.gx_session.specs.declared.state.Block.TheVariants.{Outside, Open, Failed}
-use Rattle.gx_session.specs.declared.state.Pending.{Pending}
-use Rattle.gx_session.specs.declared.state.Pending.TheVariants as pending
-use Rattle.gx_session.specs.declared.state.SessionState.{SessionState}
+use Rattle.gx_script.specs.declared.line_step.LineStep.{LineStep}
+use Rattle.gx_script.specs.declared.line_step.LineStep.TheVariants.{Answer, Refuse5, Refuse7, BeginBlock, CommitBlock, RollbackBlock, Command}
+use Rattle.gx_script.specs.declared.line_step.Plain.TheVariants as plain
+use Rattle.gx_script.specs.declared.state.Block.{Block}
+use Rattle.gx_script.specs.declared.state.Block.TheVariants.{Outside, Open, Failed}
+use Rattle.gx_script.specs.declared.state.Pending.{Pending}
+use Rattle.gx_script.specs.declared.state.Pending.TheVariants as pending
+use Rattle.gx_script.specs.declared.state.SessionState.{SessionState}
 
 abbrev pub IsIdle : SessionState → Type 0
 IsIdle s = s.pending ≡ pending.Nothing
