@@ -5,10 +5,7 @@ use crate::versions::Versions;
 
 fn is_send<T: Send>(_value: &T) {}
 
-pub(crate) fn map_is_send(map: &XidMap) {
+pub(crate) fn kept_is_send(map: &XidMap, versions: &Versions) {
     is_send(map);
-}
-
-pub(crate) fn versions_are_send(versions: &Versions) {
     is_send(versions);
 }
