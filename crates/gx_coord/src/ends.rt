@@ -110,7 +110,8 @@ fn push_failure(marks: &mut Vec<Mark>, node: Node, gxid: Gxid) -> Mem<()>
 
 fn refuse_for_journal(coord: &mut Coord, gxid: Gxid, node: Node, marks: &mut Vec<Mark>) -> Mem<()>
     requires busy { IsBusy (coord_of coord.old) gxid.0 }
-    ensures { OnOk result (IsTurn coord.old coord.new marks.old.items marks.new.items (is_refused (coord_of coord.old) gxid (has_called coord.old) (failure_marks node gxid) (Refused.JournalFault node))) }
+    ensures { OnOk result (IsTurn coord.old coord.new marks.old.items marks.new.items (is_refused (coord_of coord.old) gxid (has_called coord.old)
+        (failure_marks node gxid) (Refused.JournalFault node))) }
 {
     push_failure(marks, node, gxid)?;
     refuse_line(coord, gxid, Refused::JournalFault(node), marks)

@@ -83,7 +83,8 @@ pub(crate) fn take_event<J: Journal>(
     requires admitted { turns.coord_can script.now (coord_of coord.old) event ≡ true }
     ensures turn { IfOk result (λ turned. IsTurn coord.old coord.new marks.old.items marks.new.items (turns.on_event script.now (coord_of coord.old) event turned.fails)) }
     ensures outs { IfOk result (λ turned. turned.outs ≡ (turns.on_event script.now (coord_of coord.old) event turned.fails).outs) }
-    ensures journal { IfOk result (λ turned. HasAppended (turns.on_event script.now (coord_of coord.old) event turned.fails) turned.fails (J.items journal.old) (J.items journal.new) (J.fault_count journal.old) (J.fault_count journal.new)) }
+    ensures journal { IfOk result (λ turned. HasAppended (turns.on_event script.now (coord_of coord.old) event turned.fails) turned.fails
+        (J.items journal.old) (J.items journal.new) (J.fault_count journal.old) (J.fault_count journal.new)) }
     ensures later { J.fault_count journal.old ≤ J.fault_count journal.new }
     ensures small { IsSmall event }
 {

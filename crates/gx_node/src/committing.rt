@@ -86,7 +86,8 @@ pub(crate) fn take_prepare<J: Journal>(
     journal: &mut J,
 ) -> Mem<Taken>
     ensures does { IfOk result (λ taken. Does (change.prepares node gxid kept taken.fails (local_of local.old) (phase_of local.old.phase)) (local_of local.new) taken) }
-    ensures items { IfOk result (λ taken. AreItems (J.items journal.old) (J.items journal.new) taken.fails (change.prepares node gxid kept taken.fails (local_of local.old) (phase_of local.old.phase)).item) }
+    ensures items { IfOk result (λ taken. AreItems (J.items journal.old) (J.items journal.new) taken.fails (change.prepares node gxid kept taken.fails
+        (local_of local.old) (phase_of local.old.phase)).item) }
     ensures caused { IfOk result (λ taken. taken.fails ≡ true → Rose (J.fault_count journal.old) (J.fault_count journal.new)) }
     ensures later { J.fault_count journal.old ≤ J.fault_count journal.new }
     ensures err { OnErr result ((local.new ≡ local.old) × (J.items journal.new ≡ J.items journal.old)) }
@@ -147,7 +148,8 @@ pub(crate) fn take_commit<J: Journal>(
     journal: &mut J,
 ) -> Mem<Taken>
     ensures does { IfOk result (λ taken. Does (change.commits node gxid kept taken.fails (local_of local.old) (phase_of local.old.phase)) (local_of local.new) taken) }
-    ensures items { IfOk result (λ taken. AreItems (J.items journal.old) (J.items journal.new) taken.fails (change.commits node gxid kept taken.fails (local_of local.old) (phase_of local.old.phase)).item) }
+    ensures items { IfOk result (λ taken. AreItems (J.items journal.old) (J.items journal.new) taken.fails (change.commits node gxid kept taken.fails
+        (local_of local.old) (phase_of local.old.phase)).item) }
     ensures caused { IfOk result (λ taken. taken.fails ≡ true → Rose (J.fault_count journal.old) (J.fault_count journal.new)) }
     ensures later { J.fault_count journal.old ≤ J.fault_count journal.new }
     ensures err { OnErr result ((local.new ≡ local.old) × (J.items journal.new ≡ J.items journal.old)) }
@@ -200,7 +202,8 @@ pub(crate) fn take_commit_prepared<J: Journal>(
     journal: &mut J,
 ) -> Mem<Taken>
     ensures does { IfOk result (λ taken. Does (change.finishes node gxid taken.fails (local_of local.old) (phase_of local.old.phase)) (local_of local.new) taken) }
-    ensures items { IfOk result (λ taken. AreItems (J.items journal.old) (J.items journal.new) taken.fails (change.finishes node gxid taken.fails (local_of local.old) (phase_of local.old.phase)).item) }
+    ensures items { IfOk result (λ taken. AreItems (J.items journal.old) (J.items journal.new) taken.fails (change.finishes node gxid taken.fails
+        (local_of local.old) (phase_of local.old.phase)).item) }
     ensures caused { IfOk result (λ taken. taken.fails ≡ true → Rose (J.fault_count journal.old) (J.fault_count journal.new)) }
     ensures later { J.fault_count journal.old ≤ J.fault_count journal.new }
     ensures err { OnErr result ((local.new ≡ local.old) × (J.items journal.new ≡ J.items journal.old)) }
