@@ -1,4 +1,5 @@
-use super::*;
+// The log of verdicts on a disk whose calls fail, and behind stops.
+use gx_decide::{Decider, Decision, DiskMem, open_log};
 use gx_ids::Gxid;
 use std::alloc::Global;
 use std::test::Fail;
@@ -69,33 +70,5 @@ fn what_was_answered_stands_after_a_stop_at_each_call(rt: HostRuntime) -> Result
         }
     }
     assert_eq!(rt; opened, 16);
-    Ok(())
-}
-
-#[test]
-fn two_answers_are_equal(rt: HostRuntime) -> Result<(), Fail> {
-    let alloc = rt.alloc();
-    let mut disk = DiskMem::new(alloc, 8, Vec::new(alloc))?;
-    let decider = open_log(alloc, &mut disk)?;
-    let (decider, _) = decider.settle(&mut disk, Gxid(4), Decision::Commit)?;
-    let (_, first) = decider.settle(&mut disk, Gxid(5), Decision::Abort)?;
-    let decider = open_log(alloc, &mut disk)?;
-    let (_, second) = decider.settle(&mut disk, Gxid(5), Decision::Commit)?;
-    assert_eq!(rt; (first, second), (Decision::Abort, Decision::Abort));
-    Ok(())
-}
-
-#[test]
-fn a_full_log_keeps_what_it_has(rt: HostRuntime) -> Result<(), Fail> {
-    let alloc = rt.alloc();
-    let mut disk = DiskMem::new(alloc, 1, Vec::new(alloc))?;
-    let decider = open_log(alloc, &mut disk)?;
-    let (decider, _) = decider.settle(&mut disk, Gxid(4), Decision::Commit)?;
-    let (decider, kept) = decider.settle(&mut disk, Gxid(4), Decision::Abort)?;
-    assert_eq!(rt; kept, Decision::Commit);
-    match decider.settle(&mut disk, Gxid(5), Decision::Abort) {
-        Ok(_) => assert!(rt; false, "the log has one slot"),
-        Err(fault) => assert_eq!(rt; fault, DecideFault::Full(1)),
-    }
     Ok(())
 }

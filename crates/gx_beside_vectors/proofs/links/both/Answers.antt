@@ -1,6 +1,6 @@
 use denote.Param.Send.{sendable}
 use Rattle.gx_links.proofs.Sent.{out_send}
-use Rattle.gx_links.proofs.tests.both.Goals as goal
+use Rattle.gx_beside_vectors.proofs.links.both.Goals as goal
 
 pub join-out-requires-send-F : goal.join-out-requires-send-F
 join-out-requires-send-F g c κs within = search (sendable, out_send, c.type_bounds.sync-R) depth 20
