@@ -76,7 +76,8 @@ LocksAt script point _ = Unit {0}
 -- from its own snapshot to its answer, a command holds its table, whoever has ended in between
 abbrev pub LocksWhileReading : Script → Point → Type 0
 LocksWhileReading script point =
-    (session : SessionId) (line : Stmt) (level : Level) (g : Gxid) (c : Cid) → RunsCommand script point session line level g c → is_snapped (before point) g c ≡ true → HoldsTable script (before point) g line
+    (session : SessionId) (line : Stmt) (level : Level) (g : Gxid) (c : Cid) → RunsCommand script point session line level g c
+    → is_snapped (before point) g c ≡ true → HoldsTable script (before point) g line
 
 pub record LegalLocksAt (script : Script) (point : Point) (mark : Mark) : Type 0 where
   pub here : LocksAt script point mark

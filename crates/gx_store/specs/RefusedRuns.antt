@@ -80,7 +80,8 @@ two_inserts script table annas berts = with_lines script (line_of anna 1 (stmt.I
 abbrev pub another_writes : Table → Snapshot → Snapshot → List Value → List Step
 another_writes table annas berts row =
     step_at the_coordinator 1 (event.Start anna) (
-    mark.Start first_txn anna ∷ mark.Snap first_txn first_cid annas ∷ mark.Fault first_txn first_cid (row_of first_txn) None ∷ mark.Abort first_txn ∷ mark.Answer anna 1 (answer.Refused refused.DivisionByZero) ∷ []
+    mark.Start first_txn anna ∷ mark.Snap first_txn first_cid annas ∷ mark.Fault first_txn first_cid (row_of first_txn) None ∷ mark.Abort first_txn
+    ∷ mark.Answer anna 1 (answer.Refused refused.DivisionByZero) ∷ []
     )
     ∷ step_at the_segment 1 (event.Receive the_coordinator the_segment 1) (mark.Write first_txn first_cid the_segment table (row_of second_txn) (Some row) ∷ [])
     ∷ step_at the_coordinator 2 (event.Start bert) (mark.Start second_txn bert ∷ mark.Snap second_txn first_cid berts ∷ mark.Commit second_txn ∷ mark.Answer bert 1 (answer.Inserted 1) ∷ []) ∷ []
@@ -107,7 +108,9 @@ untold table berts annas row = refused_for_overflow table berts annas row [] eve
 -- another cause is received
 abbrev pub told_another : Table → Snapshot → Snapshot → List Value → List Step
 told_another table berts annas row =
-    refused_for_overflow table berts annas row (mark.Sent the_coordinator 2 (message.Answer second_txn (reply.Failed first_cid cause.DivisionByZero)) ∷ []) (event.Receive the_segment the_coordinator 2)
+    refused_for_overflow table berts annas row
+    (mark.Sent the_coordinator 2 (message.Answer second_txn (reply.Failed first_cid cause.DivisionByZero)) ∷ [])
+    (event.Receive the_segment the_coordinator 2)
 
 -- AN ANSWER
 abbrev pub one_select : Script → Query → Script
@@ -117,7 +120,9 @@ one_select script query = with_lines script (line_of anna 1 (stmt.Select query) 
 abbrev pub answered_at_once : Query → Snapshot → List Step
 answered_at_once query snapshot =
     step_at the_coordinator 1 (event.Start anna) (
-    mark.Start first_txn anna ∷ mark.Snap first_txn first_cid snapshot ∷ mark.Sent the_segment 1 (message.Exec first_txn first_cid ReadCommitted (Some snapshot) first_txn (slice.Select query)) ∷ mark.Commit first_txn
+    mark.Start first_txn anna ∷ mark.Snap first_txn first_cid snapshot
+    ∷ mark.Sent the_segment 1 (message.Exec first_txn first_cid ReadCommitted (Some snapshot) first_txn (slice.Select query))
+    ∷ mark.Commit first_txn
     ∷ mark.Answer anna 1 (answer.Rows []) ∷ []
     ) ∷ []
 

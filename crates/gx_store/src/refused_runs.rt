@@ -11,13 +11,16 @@ ghost use Rattle.gx_waits.specs.declared.graph.LocalGraph.{LocalGraph as OneGrap
 
 /// An INSERT isn't answered for a row that another transaction wrote.
 pub fn inserts_write_their_own_rows()
-    ensures { (script : OneScript) (table : OneTable) (annas berts : List OneExpr) (s t : OneSnapshot) (row : List OneValue) → IsNoHistory (two_inserts script table annas berts) (another_writes table s t row) }
+    ensures { (script : OneScript) (table : OneTable) (annas berts : List OneExpr) (s t : OneSnapshot) (row : List OneValue)
+        → IsNoHistory (two_inserts script table annas berts) (another_writes table s t row) }
 {}
 
 /// A command isn't refused for an evaluation of which no segment tells, nor for another cause than the one that is told.
 pub fn faults_are_told()
-    ensures untold { (script : OneScript) (table : OneTable) (tuple : List OneExpr) (query : OneQuery) (s t : OneSnapshot) (row : List OneValue) → IsNoHistory (insert_and_select script table tuple query) (untold table s t row) }
-    ensures told_another { (script : OneScript) (table : OneTable) (tuple : List OneExpr) (query : OneQuery) (s t : OneSnapshot) (row : List OneValue) → IsNoHistory (insert_and_select script table tuple query) (told_another table s t row) }
+    ensures untold { (script : OneScript) (table : OneTable) (tuple : List OneExpr) (query : OneQuery) (s t : OneSnapshot) (row : List OneValue)
+        → IsNoHistory (insert_and_select script table tuple query) (untold table s t row) }
+    ensures told_another { (script : OneScript) (table : OneTable) (tuple : List OneExpr) (query : OneQuery) (s t : OneSnapshot) (row : List OneValue)
+        → IsNoHistory (insert_and_select script table tuple query) (told_another table s t row) }
 {}
 
 /// A command isn't answered in the step that sends it out.
