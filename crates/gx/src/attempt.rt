@@ -51,7 +51,8 @@ pub fn make_attempt<S: Source, J: Journal, G: Gate>(
     ensures is { IsAttempt words.now (S.left source.old) (S.left source.new) (S.fault_count source.old) (S.fault_count source.new) result }
     ensures count { length journals.new.items ≡ 17 }
     ensures unread { ((options : Asked) → AreAsked words.now options → ⊥) → source.new ≡ source.old }
-    ensures kept { AreKept (run_in result).steps (is_over result) (map (λ j. shelf (J.items j) (J.fault_count j)) journals.old.items) (map (λ j. shelf (J.items j) (J.fault_count j)) journals.new.items) }
+    ensures kept { AreKept (run_in result).steps (is_over result) (map (λ j. shelf (J.items j) (J.fault_count j)) journals.old.items)
+        (map (λ j. shelf (J.items j) (J.fault_count j)) journals.new.items) }
 {
     let options = match read_words(alloc, words) {
         Ok(options) => options,
@@ -79,7 +80,8 @@ fn read_and_run<S: Source, J: Journal, G: Gate>(
     requires empty { All (λ j. J.items j ≡ []) journals.old.items }
     ensures is { IsAttempt words.now (S.left source.old) (S.left source.new) (S.fault_count source.old) (S.fault_count source.new) result }
     ensures count { length journals.new.items ≡ 17 }
-    ensures kept { AreKept (run_in result).steps (is_over result) (map (λ j. shelf (J.items j) (J.fault_count j)) journals.old.items) (map (λ j. shelf (J.items j) (J.fault_count j)) journals.new.items) }
+    ensures kept { AreKept (run_in result).steps (is_over result) (map (λ j. shelf (J.items j) (J.fault_count j)) journals.old.items)
+        (map (λ j. shelf (J.items j) (J.fault_count j)) journals.new.items) }
 {
     let _words = words;
     let bytes = match read_up_to(alloc, source, LIMIT + 1) {

@@ -70,4 +70,5 @@ IsReplyEarned script events segment g _ = Unit {0}
 -- each answer that a segment sent in these events
 abbrev pub AreAnswersEarned : Script → Events → Type 0
 AreAnswersEarned script events =
-    (segment to : Node) (number : ℕ) (g : Gxid) (answer : Reply) → IsSegment script segment → IsSent (world_of script events).steps segment to number (Answer g answer) → IsReplyEarned script events segment g answer
+    (segment to : Node) (number : ℕ) (g : Gxid) (answer : Reply) → IsSegment script segment
+    → IsSent (world_of script events).steps segment to number (Answer g answer) → IsReplyEarned script events segment g answer

@@ -7,11 +7,11 @@ use Rattle.gx_tree.specs.declared.stmt.Level.TheVariants.{ReadCommitted}
 use Rattle.gx_tree.specs.declared.stmt.Stmt.{Stmt}
 use Rattle.gx_tree.specs.declared.stmt.Stmt.TheVariants as stmt
 use Rattle.gx_script.specs.declared.Script.{Script}
-use Rattle.gx_session.specs.Session.{line_step}
-use Rattle.gx_session.specs.declared.line_step.LineStep.{LineStep}
-use Rattle.gx_session.specs.declared.line_step.LineStep.TheVariants as step
-use Rattle.gx_session.specs.declared.state.Block.{Block}
-use Rattle.gx_session.specs.declared.state.Block.TheVariants as block
+use Rattle.gx_script.specs.Session.{line_step}
+use Rattle.gx_script.specs.declared.line_step.LineStep.{LineStep}
+use Rattle.gx_script.specs.declared.line_step.LineStep.TheVariants as step
+use Rattle.gx_script.specs.declared.state.Block.{Block}
+use Rattle.gx_script.specs.declared.state.Block.TheVariants as block
 use Rattle.gx_store.specs.declared.answer.StmtAnswer.TheVariants as told
 use Rattle.gx_store.specs.declared.event.Event.TheVariants as event
 use Rattle.gx_store.specs.declared.mark.Mark.{Mark}

@@ -37,12 +37,19 @@ point_at steps e earlier later = record { steps = steps; event = e; earlier = ea
 -- Behind these steps, a command that runs and was gathered tells what its answer says, in its block or behind the Commit mark of
 -- its transaction; and one that a segment failed has that cause, behind the Abort mark.
 pub record AreCommandsTold (script : Script) (steps : List Step) : Type 0 where
-  pub told : (from to : Node) (number : ℕ) (later : List Mark) (session : SessionId) (stmt : Stmt) (level : Level) (g : Gxid) (c : Cid) (answer : StmtAnswer) → RunsCommand script (point_at steps (event.Receive from to number) [] later) session stmt level g c
-      → IsGathered script (point_at steps (event.Receive from to number) [] later) g c stmt answer → Tells script (before (point_at steps (event.Receive from to number) [] later)) level g c stmt answer
-  pub committed : (from to : Node) (number : ℕ) (later : List Mark) (session : SessionId) (stmt : Stmt) (level : Level) (g : Gxid) (c : Cid) (answer : StmtAnswer) → RunsCommand script (point_at steps (event.Receive from to number) (mark.Commit g ∷ []) later) session stmt level g c
-      → IsGathered script (point_at steps (event.Receive from to number) (mark.Commit g ∷ []) later) g c stmt answer → Tells script (before (point_at steps (event.Receive from to number) (mark.Commit g ∷ []) later)) level g c stmt answer
-  pub refused : (from to : Node) (number : ℕ) (later : List Mark) (session : SessionId) (stmt : Stmt) (level : Level) (g : Gxid) (c : Cid) (segment : Node) (cause : Cause) → RunsCommand script (point_at steps (event.Receive from to number) (mark.Abort g ∷ []) later) session stmt level g c
-      → Receives steps (event.Receive from to number) segment the_coordinator (message.Answer g (reply.Failed c cause)) → IsCause (point_at steps (event.Receive from to number) (mark.Abort g ∷ []) later) stmt level g c (reason_of cause)
+  pub told : (from to : Node) (number : ℕ) (later : List Mark) (session : SessionId) (stmt : Stmt) (level : Level) (g : Gxid) (c : Cid)
+      (answer : StmtAnswer) → RunsCommand script (point_at steps (event.Receive from to number) [] later) session stmt level g c
+      → IsGathered script (point_at steps (event.Receive from to number) [] later) g c stmt answer
+      → Tells script (before (point_at steps (event.Receive from to number) [] later)) level g c stmt answer
+  pub committed : (from to : Node) (number : ℕ) (later : List Mark) (session : SessionId) (stmt : Stmt) (level : Level) (g : Gxid) (c : Cid)
+      (answer : StmtAnswer) → RunsCommand script (point_at steps (event.Receive from to number) (mark.Commit g ∷ []) later) session stmt level g c
+      → IsGathered script (point_at steps (event.Receive from to number) (mark.Commit g ∷ []) later) g c stmt answer
+      → Tells script (before (point_at steps (event.Receive from to number) (mark.Commit g ∷ []) later)) level g c stmt answer
+  pub refused : (from to : Node) (number : ℕ) (later : List Mark) (session : SessionId) (stmt : Stmt) (level : Level) (g : Gxid) (c : Cid)
+      (segment : Node) (cause : Cause)
+      → RunsCommand script (point_at steps (event.Receive from to number) (mark.Abort g ∷ []) later) session stmt level g c
+      → Receives steps (event.Receive from to number) segment the_coordinator (message.Answer g (reply.Failed c cause))
+      → IsCause (point_at steps (event.Receive from to number) (mark.Abort g ∷ []) later) stmt level g c (reason_of cause)
 
 -- in a world of the machine, the marks of a segment's step that receives a message that was sent
 abbrev pub AreSegmentsLegal : Script → World → Type 0

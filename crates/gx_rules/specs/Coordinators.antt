@@ -13,8 +13,8 @@ use Rattle.gx_dsnap.specs.declared.snapshot.Snapshot.{Snapshot}
 use Rattle.gx_dtx.specs.Table.{Table, new_table}
 use Rattle.gx_msg.specs.declared.item.JournalItem.{JournalItem}
 use Rattle.gx_msg.specs.declared.message.Out.{Out}
-use Rattle.gx_session.specs.Session.{idle_outside}
-use Rattle.gx_session.specs.declared.state.SessionState.{SessionState}
+use Rattle.gx_script.specs.Session.{idle_outside}
+use Rattle.gx_script.specs.declared.state.SessionState.{SessionState}
 use Rattle.gx_store.specs.declared.mark.Mark.{Mark}
 use Rattle.gx_rules.specs.Maps.{with_at}
 

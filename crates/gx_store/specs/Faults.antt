@@ -44,7 +44,8 @@ pub record FaultsOnCurrent (marks : List Mark) (level : Level) (g : Gxid) (c : C
   pub faults : condition_on cond old ≡ Err fault
 
 -- the SET list faults on the current image of a selected row that would be written
-pub record FaultsInSet (marks : List Mark) (level : Level) (g : Gxid) (c : Cid) (table : Table) (assigns : List Assign) (cond : Option Cond) (rid : Rid) (image : Option (List Value)) (fault : ArithFault) : Type 0 where
+pub record FaultsInSet (marks : List Mark) (level : Level) (g : Gxid) (c : Cid) (table : Table) (assigns : List Assign) (cond : Option Cond)
+    (rid : Rid) (image : Option (List Value)) (fault : ArithFault) : Type 0 where
   pub selected : IsSelectedAndFree marks level g c table cond rid
   pub old : List Value
   pub image_before : selected.write.image ≡ Some old
