@@ -13,11 +13,13 @@ use Rattle.gx_sql.specs.declared.refusal.Refusal.{Refusal}
 use Rattle.gx_sql.specs.Script.{Reads}
 use Rattle.gx_store.specs.declared.run.Run.{Run}
 use Rattle.gx_store.specs.declared.run.Step.{Step}
+use Rattle.gx_store.specs.Language.{IsScript}
 use Rattle.gx_store.specs.Ordered.{AreOrdered}
 use Rattle.gx_store.specs.Points.{marks_of}
 use Rattle.gx_store.specs.Protocol.{DoStepsFollow}
 use Rattle.gx_store.specs.Runs.{IsLegalHistory}
 use Rattle.gx_store.specs.View.{AreFinalFrom}
+use Rattle.gx_store.specs.Whole.{AreInsertsWhole}
 use Rattle.gx_rules.specs.System.{IsSystemRun}
 use Rattle.gx_store.specs.Schedule.{is_any_unfinished}
 use Rattle.gx_law_runs.specs.Endings.{IsFinished}
@@ -93,10 +95,17 @@ pub record IsRead (left after : Option (List ℕ)) (said : Result Script Refusal
   pub few : length bytes ≤ limit
   pub is : Reads bytes said
 
+-- They are this script. So it keeps the rules and the limits of the language, each of its INSERTs has a tuple, and each tuple a value for
+-- the distribution column.
+pub record IsScriptRead (left after : Option (List ℕ)) (script : Script) : Type 0 where
+  pub read : IsRead left after (Ok script)
+  pub language : IsScript script
+  pub inserts : AreInsertsWhole script.tables script.lines
+
 -- a script of the form that is built was read, and this is a run of it, up to some step
 pub record IsBegun (left after : Option (List ℕ)) (run : Run) : Type 0 where
   pub script : Script
-  pub read : IsRead left after (Ok script)
+  pub read : IsScriptRead left after script
   pub built : is_of_form script ≡ true
   pub is : IsRunOf script run
 
@@ -108,7 +117,7 @@ IsPartRun left after run = (run ≡ no_run) ⊎ IsBegun left after run
 pub record IsDone (words : List (String Global)) (left after : Option (List ℕ)) (run : Run) (text : List ℕ) : Type 0 where
   pub none : words ≡ []
   pub script : Script
-  pub read : IsRead left after (Ok script)
+  pub read : IsScriptRead left after script
   pub built : is_of_form script ≡ true
   pub is : IsWholeRunOf script run text
 
@@ -116,7 +125,7 @@ pub record IsDone (words : List (String Global)) (left after : Option (List ℕ)
 pub record IsStopped (words : List (String Global)) (left after : Option (List ℕ)) (run : Run) (text : List ℕ) : Type 0 where
   pub none : words ≡ []
   pub script : Script
-  pub read : IsRead left after (Ok script)
+  pub read : IsScriptRead left after script
   pub built : is_of_form script ≡ true
   pub is : IsStoppedRunOf script run text
 
@@ -151,7 +160,7 @@ pub record IsTooLarge (words : List (String Global)) (left after : Option (List 
 -- the bytes that were read are a script of another form than the one that is built
 pub record IsOther (left after : Option (List ℕ)) : Type 0 where
   pub script : Script
-  pub read : IsRead left after (Ok script)
+  pub read : IsScriptRead left after script
   pub other : is_of_form script ≡ false
 
 -- there were words, or a script of another form, nothing was run, and the text says so

@@ -29,7 +29,7 @@ pub enum Attempt {
 
 /// Reads, runs and tells, and writes nothing but to the journals. Words that aren't empty, and scripts of another form than the
 /// one that is built, are `NotBuilt`.
-#[tactic(auto, using(crate::proofs::Refusals::read_as))]
+#[tactic(auto, using(crate::proofs::Refusals::read_as, crate::proofs::Attempts::script_read))]
 pub fn make_attempt<S: Source, J: Journal, G: Gate>(
     alloc: Global,
     words: &[String],
