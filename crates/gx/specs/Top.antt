@@ -1,5 +1,5 @@
 -- What the top call answers, and when.
-use Rattle.std.specs.Prelude.{◌≡◌, ℕ, ◌<◌, ◌≤◌, Bool, true, false, List, [], length, ◌++◌, ◌&&◌, if◌then◌else◌, is_none, Some, Result, Ok, Err, ◌⊎◌, codes}
+use Rattle.std.specs.Prelude.{◌≡◌, ℕ, ◌<◌, ◌≤◌, Bool, true, false, List, [], length, ◌++◌, ◌&&◌, if◌then◌else◌, is_none, map, string_bytes, Some, Result, Ok, Err, ◌⊎◌, codes}
 use Rattle.std.specs.declared.option.Option.{Option}
 use Rattle.std.specs.declared.string.String.{String}
 use Rattle.std.specs.declared.alloc.Global.{Global}
@@ -8,7 +8,6 @@ use Rattle.std.specs.Io.KnownBytes.{Consumes, Appends, IsAtEnd}
 use Rattle.gx_outside.specs.Causes.{Rose, WritesPrefix}
 use Rattle.gx_tree.specs.declared.row.KeyedRow.{KeyedRow}
 use Rattle.gx_words.specs.Words.{IsCommand}
-use Rattle.gx_words.specs.Texts.{texts, usage}
 use Rattle.gx_words.specs.declared.options.Options.{Options}
 use Rattle.gx_trace_text.specs.TraceText.{trace_of}
 use Rattle.gx_script.specs.declared.Script.{Script}
@@ -40,6 +39,9 @@ use Rattle.gx_report.specs.Text.{stopped_text, text_of}
 abbrev pub limit : ℕ
 limit = 16777216
 
+abbrev pub usage : List ℕ
+usage = codes "usage: gx [--seed N] [--threads] [--trace] [--turns N] [--gen N]\n"
+
 abbrev pub no_run : Run
 no_run = record { steps = [] }
 
@@ -48,17 +50,17 @@ abbrev pub is_plain : Options → Bool
 is_plain options = is_none options.seed && is_none options.work
 
 pub record AreAsked (words : List (String Global)) (options : Options) : Type 0 where
-  pub command : IsCommand (texts words) options
+  pub command : IsCommand (map string_bytes words) options
   pub plain : is_plain options ≡ true
 
 -- the words are not in the language of the command line
 abbrev pub AreUnknown : List (String Global) → Type 0
-AreUnknown words = (options : Options) → IsCommand (texts words) options → ⊥
+AreUnknown words = (options : Options) → IsCommand (map string_bytes words) options → ⊥
 
 -- the words ask for what isn't built
 pub record AreOther (words : List (String Global)) : Type 0 where
   pub options : Options
-  pub command : IsCommand (texts words) options
+  pub command : IsCommand (map string_bytes words) options
   pub other : is_plain options ≡ false
 
 -- the run's text, where it is asked for

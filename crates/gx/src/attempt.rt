@@ -56,7 +56,7 @@ pub fn make_attempt<S: Source, J: Journal, G: Gate>(
 {
     let options = match read_words(alloc, words) {
         Ok(options) => options,
-        Err(WordsFault::Unknown) => return Attempt::Usage,
+        Err(WordsFault::Usage) => return Attempt::Usage,
         Err(WordsFault::OutOfMemory) => return Attempt::OutOfMemory(Run::new(alloc)),
     };
     if !is_plain(&options) {
