@@ -39,6 +39,7 @@ use Rattle.gx_report.specs.Text.{stopped_text, text_of}
 abbrev pub limit : ℕ
 limit = 16777216
 
+-- the line that says how the program is used
 abbrev pub usage : List ℕ
 usage = codes "usage: gx [--seed N] [--threads] [--trace] [--turns N] [--gen N]\n"
 
