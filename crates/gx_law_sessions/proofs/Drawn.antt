@@ -1,5 +1,5 @@
 -- A line that draws a transaction draws it in the step that starts it.
-use Rattle.std.proofs.Common.{◌≡◌, inl, inr, ℕ, ◌+◌, List, [], ◌∷◌, ◌++◌, Some, None, Bool, true, false, refl, sym, subst, ap, ◌∙◌, if◌then◌else◌}
+use Rattle.std.proofs.Common.{◌≡◌, inl, inr, ℕ, List, [], ◌∷◌, ◌++◌, Some, None, Bool, true, false, refl, sym, subst, ◌∙◌, if◌then◌else◌}
 use Rattle.std.specs.Prelude.{IsSome}
 use Rattle.gx_ids.specs.declared.ids.Gxid.{Gxid}
 use Rattle.gx_ids.specs.declared.ids.SessionId.{SessionId}
@@ -18,7 +18,7 @@ use Rattle.gx_store.specs.declared.mark.Mark.{Mark}
 use Rattle.gx_store.specs.declared.mark.Mark.TheVariants as mark
 use Rattle.gx_store.specs.declared.run.Step.{Step}
 use Rattle.gx_store.specs.Legal.{IsDrawn, draws}
-use Rattle.gx_store.specs.Lines.{next_stmt, state_of, stmt_of}
+use Rattle.gx_store.specs.Lines.{next_stmt, state_of}
 use Rattle.gx_store.specs.Marks.{is_same_session, started_after}
 use Rattle.gx_store.specs.Points.{marks_in}
 use Rattle.gx_rules.specs.AtCoordinator.{answers_at_once, begins, dispatches, next_line, on_line, starts, starts_line}
