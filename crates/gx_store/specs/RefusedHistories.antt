@@ -42,7 +42,8 @@ two_inserts script table annas berts = with_lines script (line_of anna 1 (stmt.I
 abbrev pub written_elsewhere : Table → Snapshot → List Value → List Step
 written_elsewhere table annas row =
     step_at the_coordinator 1 (event.Start anna) (
-    mark.Start first_txn anna ∷ mark.Snap first_txn first_cid annas ∷ mark.Fault first_txn first_cid (row_of first_txn) None ∷ mark.Abort first_txn ∷ mark.Answer anna 1 (answer.Refused refused.DivisionByZero) ∷ []
+    mark.Start first_txn anna ∷ mark.Snap first_txn first_cid annas ∷ mark.Fault first_txn first_cid (row_of first_txn) None ∷ mark.Abort first_txn
+    ∷ mark.Answer anna 1 (answer.Refused refused.DivisionByZero) ∷ []
     )
     ∷ step_at the_segment 1 (event.Receive the_coordinator the_segment 1) (mark.Write first_txn first_cid the_segment table (row_of second_txn) (Some row) ∷ []) ∷ []
 
@@ -78,7 +79,9 @@ untold table berts annas row = refused_for_overflow table berts annas row [] eve
 -- another cause is received
 abbrev pub told_another : Table → Snapshot → Snapshot → List Value → List Step
 told_another table berts annas row =
-    refused_for_overflow table berts annas row (mark.Sent the_coordinator 2 (message.Answer second_txn (reply.Failed first_cid cause.DivisionByZero)) ∷ []) (event.Receive the_segment the_coordinator 2)
+    refused_for_overflow table berts annas row
+    (mark.Sent the_coordinator 2 (message.Answer second_txn (reply.Failed first_cid cause.DivisionByZero)) ∷ [])
+    (event.Receive the_segment the_coordinator 2)
 
 abbrev pub over_two : Script → Script
 over_two script = record script { segments = 2 }
@@ -137,5 +140,7 @@ second_cid = record { 0 = 2 }
 abbrev pub never_started : Table → List Value → List Step
 never_started table row =
     block_begins
-    ∷ step_at the_coordinator 2 (event.Start anna) (mark.Recheck 1 (no_edges the_coordinator) (Victims (first_txn ∷ [])) ∷ mark.Abort first_txn ∷ mark.Answer anna 2 (answer.Refused (refused.Victim 1)) ∷ [])
-    ∷ step_at the_segment 3 (event.Receive the_coordinator the_segment 1) (mark.Write first_txn second_cid the_segment table (record { gxid = first_txn; cid = second_cid; ordinal = 1 }) (Some row) ∷ []) ∷ []
+    ∷ step_at the_coordinator 2 (event.Start anna)
+    (mark.Recheck 1 (no_edges the_coordinator) (Victims (first_txn ∷ [])) ∷ mark.Abort first_txn ∷ mark.Answer anna 2 (answer.Refused (refused.Victim 1)) ∷ [])
+    ∷ step_at the_segment 3 (event.Receive the_coordinator the_segment 1)
+    (mark.Write first_txn second_cid the_segment table (record { gxid = first_txn; cid = second_cid; ordinal = 1 }) (Some row) ∷ []) ∷ []
