@@ -27,7 +27,6 @@ use Rattle.gx_meaning.specs.Plan.{nodes_of, piece, plan_of}
 use Rattle.gx_meaning.specs.declared.piece.Piece.{Piece}
 use Rattle.gx_script.specs.declared.Script.{Script}
 use Rattle.gx_store.specs.declared.answer.StmtAnswer.{StmtAnswer}
-use Rattle.gx_store.specs.declared.event.Event.TheVariants as event
 use Rattle.gx_store.specs.declared.mark.Mark.{Mark}
 use Rattle.gx_store.specs.declared.mark.Mark.TheVariants as mark
 use Rattle.gx_store.specs.Answers.{Shows, Tells}
@@ -64,6 +63,7 @@ use Rattle.gx_law_answers.proofs.Plans.{IsSliceOf, slice-is}
 use Rattle.gx_law_answers.proofs.Select.{has-from, merged, seen, whole}
 use Rattle.gx_law_answers.proofs.Truths.{image-more, snapshot-more}
 use Rattle.gx_law_answers.proofs.Views.{view-is}
+use Rattle.gx_store.specs.declared.event.Event.{Event}
 
 -- ---- what a SELECT shows stays, where nothing is written
 pub shows-more : (ms extra : List Mark) → Each NoWrite extra → (level : Level) (g : Gxid) (c : Cid) (query : Query) (answer : List (List Cell)) → Shows ms level g c query answer → Shows (ms ++ extra) level g c query answer
@@ -180,10 +180,10 @@ module _ (script : Script) (some : 1 ≤ script.segments) (numbered : AreLinesNu
         covers i = sym (ap (has i) (ap nodes_in (sym (ok-same plan)) ∙ nodes-of-pieces (slice.Select query) _)) ∙ all i
 
   -- A COMMAND THAT WAS GATHERED
-  module _ (once : IsOneSnapshot script ms) (from to : Node) (number : ℕ) (earlier later : List Mark) (session : SessionId) (level : Level) (g : Gxid) (c : Cid) (answer : StmtAnswer) (calm : Each (CalmFor session) earlier) (quiet : Each NoWrite earlier) where
-    true-replies : (taken : List Taken) → AreAll (λ t. HasReceived (point_at (world_of script es).steps (event.Receive from to number) earlier later) t.node the_coordinator (message.Answer g (reply.Done c t.wrote t.count t.part))) taken → AreAll (λ t. IsEarned script es t.node g c (reply.Done c t.wrote t.count t.part)) taken
+  module _ (once : IsOneSnapshot script ms) (now : Event) (earlier later : List Mark) (session : SessionId) (level : Level) (g : Gxid) (c : Cid) (answer : StmtAnswer) (calm : Each (CalmFor session) earlier) (quiet : Each NoWrite earlier) where
+    true-replies : (taken : List Taken) → AreAll (λ t. HasReceived (point_at (world_of script es).steps now earlier later) t.node the_coordinator (message.Answer g (reply.Done c t.wrote t.count t.part))) taken → AreAll (λ t. IsEarned script es t.node g c (reply.Done c t.wrote t.count t.part)) taken
     true-replies [] h = tt
-    true-replies (t ∷ ts) h = ((heard script some numbered es (event.Receive from to number) earlier later t.node _ h.0).word_earned g (reply.Done c t.wrote t.count t.part) refl, true-replies ts h.1)
+    true-replies (t ∷ ts) h = ((heard script some numbered es now earlier later t.node _ h.0).word_earned g (reply.Done c t.wrote t.count t.part) refl, true-replies ts h.1)
 
     -- segments don't run the others yet
     never : (line : Stmt) (s : Slice) → IsOf script ms line level g c → ((x : Slice) → IsSliceOf line x → x ≡ s) → ((before marks : List Mark) (node : Node) (l : Level) (r : Reply) → IsTruth before marks node l g c s r → ⊥) → (nodes : List Node) → (i : Node) × (has i nodes ≡ true) → (taken : List Taken) → AreAll (λ t. IsEarned script es t.node g c (reply.Done c t.wrote t.count t.part)) taken → ((i : Node) → has i nodes ≡ has i (nodes_taken taken)) → ⊥
@@ -197,7 +197,7 @@ module _ (script : Script) (some : 1 ≤ script.segments) (numbered : AreLinesNu
     covers-pieces : (s : Slice) (nodes : List Node) (pieces : List Piece) (taken : List Taken) → (let o : Result (List Piece) ArithFault = Ok (map (piece s) nodes) in o) ≡ Ok pieces → ((i : Node) → has i (nodes_in pieces) ≡ has i (nodes_taken taken)) → (i : Node) → has i nodes ≡ has i (nodes_taken taken)
     covers-pieces s nodes pieces taken plan all i = sym (ap (has i) (ap nodes_in (sym (ok-same plan)) ∙ nodes-of-pieces s nodes)) ∙ all i
 
-    pub tells-by : (line : Stmt) → IsOf script ms line level g c → RunsCommand script (point_at (world_of script es).steps (event.Receive from to number) earlier later) session line level g c → IsGathered script (point_at (world_of script es).steps (event.Receive from to number) earlier later) g c line answer
+    pub tells-by : (line : Stmt) → IsOf script ms line level g c → RunsCommand script (point_at (world_of script es).steps now earlier later) session line level g c → IsGathered script (point_at (world_of script es).steps now earlier later) g c line answer
         → ((table : _) (tuples : _) → line ≡ stmt.Insert table tuples → Tells script (ms ++ earlier) level g c (stmt.Insert table tuples) answer) → Tells script (ms ++ earlier) level g c line answer
     tells-by (stmt.Select q) is runs x inserts =
         subst (Tells script (ms ++ earlier) level g c (stmt.Select q)) (sym x.is)
@@ -230,16 +230,16 @@ module _ (script : Script) (some : 1 ≤ script.segments) (numbered : AreLinesNu
         no-rollback Rattle.gx_store.specs.Lines.Failed e = cc
 
   -- A COMMAND THAT FAILED
-  module _ (from to : Node) (number : ℕ) (later : List Mark) (level : Level) (g : Gxid) (c : Cid) (segment : Node) where
+  module _ (now : Event) (later : List Mark) (level : Level) (g : Gxid) (c : Cid) (segment : Node) where
     abbrev behind : List Mark
     behind = mark.Abort g ∷ []
 
     -- the segment's word
     abbrev Says : Cause → Type 0
-    Says cause = Receives (world_of script es).steps (event.Receive from to number) segment the_coordinator (message.Answer g (reply.Failed c cause))
+    Says cause = Receives (world_of script es).steps now segment the_coordinator (message.Answer g (reply.Failed c cause))
 
     -- the fault, at the point
-    faulted : (query : Query) → IsOf script ms (stmt.Select query) level g c → (r : Reply) (x : IsEarned script es segment g c r) (cause : Cause) (f : IsTrueFault (marks_in (world_of script x.given.before).steps) (marks_in (world_of script x.upto).steps) level g c query cause) → Says cause → HasFaulted (point_at (world_of script es).steps (event.Receive from to number) behind later) (stmt.Select query) level g c f.fault (cause_of f.fault)
+    faulted : (query : Query) → IsOf script ms (stmt.Select query) level g c → (r : Reply) (x : IsEarned script es segment g c r) (cause : Cause) (f : IsTrueFault (marks_in (world_of script x.given.before).steps) (marks_in (world_of script x.upto).steps) level g c query cause) → Says cause → HasFaulted (point_at (world_of script es).steps now behind later) (stmt.Select query) level g c f.fault (cause_of f.fault)
     faulted query is r x cause f got =
         record {
           place = f.place;
@@ -273,14 +273,14 @@ module _ (script : Script) (some : 1 ≤ script.segments) (numbered : AreLinesNu
         same : take f.place (ms ++ behind) ≡ take f.place before
         same = take-kept ms behind f.place _ there ∙ ap (take f.place) (marks-are script some numbered es segment g c r x) ∙ take-kept before rest f.place _ f.noted
 
-    by-fault : (query : Query) (cause : Cause) (f : ArithFault) → cause ≡ cause_of f → HasFaulted (point_at (world_of script es).steps (event.Receive from to number) behind later) (stmt.Select query) level g c f (cause_of f) → IsCause (point_at (world_of script es).steps (event.Receive from to number) behind later) (stmt.Select query) level g c (reason_of cause)
-    by-fault query cause arith_fault.Overflow e h = subst (λ z. IsCause (point_at (world_of script es).steps (event.Receive from to number) behind later) (stmt.Select query) level g c (reason_of z)) (sym e) h
-    by-fault query cause arith_fault.DivisionByZero e h = subst (λ z. IsCause (point_at (world_of script es).steps (event.Receive from to number) behind later) (stmt.Select query) level g c (reason_of z)) (sym e) h
+    by-fault : (query : Query) (cause : Cause) (f : ArithFault) → cause ≡ cause_of f → HasFaulted (point_at (world_of script es).steps now behind later) (stmt.Select query) level g c f (cause_of f) → IsCause (point_at (world_of script es).steps now behind later) (stmt.Select query) level g c (reason_of cause)
+    by-fault query cause arith_fault.Overflow e h = subst (λ z. IsCause (point_at (world_of script es).steps now behind later) (stmt.Select query) level g c (reason_of z)) (sym e) h
+    by-fault query cause arith_fault.DivisionByZero e h = subst (λ z. IsCause (point_at (world_of script es).steps now behind later) (stmt.Select query) level g c (reason_of z)) (sym e) h
 
-    pub caused : (line : Stmt) → IsOf script ms line level g c → (cause : Cause) → Says cause → (x : IsEarned script es segment g c (reply.Failed c cause)) → IsCause (point_at (world_of script es).steps (event.Receive from to number) behind later) line level g c (reason_of cause)
+    pub caused : (line : Stmt) → IsOf script ms line level g c → (cause : Cause) → Says cause → (x : IsEarned script es segment g c (reply.Failed c cause)) → IsCause (point_at (world_of script es).steps now behind later) line level g c (reason_of cause)
     caused (stmt.Select q) is cause got x = by_truth (subst (λ s. IsTruth (marks_in (world_of script x.given.before).steps) (marks_in (world_of script x.upto).steps) segment x.level g c s (reply.Failed c cause)) (its-slice segment (stmt.Select q) level g c is _ x) x.truth)
       where
-        by_truth : IsTruth (marks_in (world_of script x.given.before).steps) (marks_in (world_of script x.upto).steps) segment x.level g c (slice.Select q) (reply.Failed c cause) → IsCause (point_at (world_of script es).steps (event.Receive from to number) behind later) (stmt.Select q) level g c (reason_of cause)
+        by_truth : IsTruth (marks_in (world_of script x.given.before).steps) (marks_in (world_of script x.upto).steps) segment x.level g c (slice.Select q) (reply.Failed c cause) → IsCause (point_at (world_of script es).steps now behind later) (stmt.Select q) level g c (reason_of cause)
         by_truth (inl a) = absurd (unaborted-then script some numbered es segment g c _ x is.running a)
         by_truth (inr f) =
             let h = subst (λ l. IsTrueFault (marks_in (world_of script x.given.before).steps) (marks_in (world_of script x.upto).steps) l g c q cause) (its-level segment (stmt.Select q) level g c is _ x) f in

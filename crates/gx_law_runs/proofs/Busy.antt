@@ -206,7 +206,7 @@ module _ (script : Script) (some : 1 ≤ script.segments) where
 
     -- IN EVERY WORLD
     world-waits : (es : List (Event × Bool)) → DoWait (world_of script es)
-    world-waits = always script some DoWait (λ es q e x fails h. event-waits es q e fails x h) (λ es q from to number envelope fails t. q) (λ k e. absurd (differ e))
+    world-waits = always script some DoWait (λ es q e x fails h. event-waits es q e fails x h) (λ es q e x fails i h. q) (λ k e. absurd (differ e))
       where
         differ : true ≡ false → ⊥
         differ e = cc

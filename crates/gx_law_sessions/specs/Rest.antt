@@ -49,6 +49,12 @@ IsCaused script point session reason =
     → Receives point.steps point.event segment the_coordinator (message.Answer g (reply.Failed c cause))
     → reason ≡ reason_of cause → IsCause point stmt level g c reason
 
+-- the event starts no line and ends no session
+abbrev pub StartsNothing : Event → Type 0
+StartsNothing (event.Start session) = ⊥
+StartsNothing (event.End session) = ⊥
+StartsNothing _ = Unit {0}
+
 -- constants fault in the step that starts their line, at the coordinator
 abbrev pub UnlessStart : Event → Type 0 → Type 0
 UnlessStart (event.Start session) A = Unit {0}

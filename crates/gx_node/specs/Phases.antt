@@ -1,5 +1,5 @@
 -- A transaction at a segment, as the rule has it.
-use Rattle.std.specs.Prelude.{option_map}
+use Rattle.std.specs.Prelude.{None, option_map}
 use Rattle.gx_msg.specs.declared.reply.Reply.{Reply}
 use Rattle.gx_msg.specs.declared.reply.Reply.TheVariants as reply
 use Rattle.gx_rules.specs.Segments as rule
@@ -22,5 +22,6 @@ reply_of vote.Prepared = reply.Prepared
 reply_of vote.Committed = reply.Committed
 reply_of vote.Jfault = reply.Jfault
 
+-- no slice waits
 abbrev pub local_of : Local → rule.Local
-local_of l = record { phase = phase_of l.phase; last = l.last; answer = l.answer; vote = option_map reply_of l.vote }
+local_of l = record { phase = phase_of l.phase; last = l.last; answer = l.answer; vote = option_map reply_of l.vote; suspended = None }

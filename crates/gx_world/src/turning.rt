@@ -56,7 +56,7 @@ pub(crate) fn seg_turn<J: Journal, G: Gate>(
     requires stands { Stands network.old.script.value w network.old }
     requires some { 1 ≤ at.0 }
     requires few { at.0 ≤ network.old.script.value.segments }
-    requires admitted { seg_can there ≡ true }
+    requires admitted { seg_can network.old.script.value (w.segs at.0) there ≡ true }
     requires next { IsNext network.old.script.value w event at there }
     requires heard { heard_in there < 2 ^ 62 }
     requires room { HasRoom network.old }
@@ -83,7 +83,7 @@ fn seg_step<J: Journal, G: Gate>(
     requires usable { (segment : OneSegment) → slice_get segments.old.items (at.0 - 1) ≡ Some segment → segment.spent ≡ false }
     requires is { (segment : OneSegment) → slice_get segments.old.items (at.0 - 1) ≡ Some segment → IsSegment segment s }
     requires room { All (λ segment. (segment.clock < 2 ^ 62) × (segment.sent < 2 ^ 62)) segments.old.items }
-    requires admitted { seg_can there ≡ true }
+    requires admitted { (segment : OneSegment) → slice_get segments.old.items (at.0 - 1) ≡ Some segment → seg_can segment.script.value s there ≡ true }
     requires heard { heard_in there < 2 ^ 62 }
     ensures stepped { IfOk result (λ out. HasSteppedAt (at.0 - 1) segments.old.items segments.new.items s there (J.items journal.old)
         (J.items journal.new) (J.fault_count journal.old) (J.fault_count journal.new) out) }
