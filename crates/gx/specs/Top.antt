@@ -9,7 +9,7 @@ use Rattle.gx_outside.specs.Causes.{Rose, WritesPrefix}
 use Rattle.gx_tree.specs.declared.row.KeyedRow.{KeyedRow}
 use Rattle.gx_words.specs.Words.{IsCommand}
 use Rattle.gx_words.specs.declared.options.Options.{Options}
-use Rattle.gx_trace_text.specs.TraceText.{trace_of}
+use Rattle.gx_report.specs.TraceText.{trace_of}
 use Rattle.gx_script.specs.declared.Script.{Script}
 use Rattle.gx.specs.Form.{is_of_form}
 use Rattle.gx_sql.specs.declared.refusal.Refusal.{Refusal}

@@ -12,10 +12,10 @@ use crate::attempt::Attempt;
 use gx_drive::{End, run_ordered};
 use gx_ids::Mem;
 use gx_outside::{Gate, Journal};
-use gx_report::{text, text_of_stopped};
+use gx_report::{push_trace, text, text_of_stopped};
 use gx_script::Script;
 use gx_store::Run;
-use gx_trace_text::push_trace;
+
 use gx_words::Options;
 use gx_world::World;
 use std::alloc::Global;
