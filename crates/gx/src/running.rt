@@ -15,7 +15,6 @@ use gx_outside::{Gate, Journal};
 use gx_report::{push_trace, text, text_of_stopped};
 use gx_script::Script;
 use gx_store::Run;
-
 use gx_words::Options;
 use gx_world::World;
 use std::alloc::Global;

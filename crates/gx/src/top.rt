@@ -10,8 +10,7 @@ use gx_outside::{Failed, Gate, Journal, Sink, Source, write_whole};
 use gx_store::Run;
 use std::alloc::Global;
 
-const USAGE: &[u8] =
-    b"usage: gx [--seed N] [--threads] [--trace] [--turns N] [--gen N]\n";
+const USAGE: &[u8] = b"usage: gx [--seed N] [--threads] [--trace] [--turns N] [--gen N]\n";
 
 /// What a call did: its status, and the run that it made. 0 is done, 2 words that aren't in the language, 3 a refused script, 4 a read fault, 5 a write fault, 6
 /// want of memory, 7 a run that took all its turns, 9 too many bytes, and 10 a form that isn't built yet.
