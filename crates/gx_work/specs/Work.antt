@@ -17,7 +17,8 @@ words_of number = first_words plus_plus 2400 (seeded number)
 
 -- the transfers of the sessions from this one on: three words each
 abbrev pub transfers_from : ℕ → List ℕ → List Transfer
-transfers_from session (from ∷ to ∷ amount ∷ words) = record { session = session; from = from % 64; to = to % 64; amount = 1 + amount % 9 } ∷ transfers_from (session + 1) words
+transfers_from session (from ∷ to ∷ amount ∷ words) =
+    record { session = session; from = from % 64; to = to % 64; amount = 1 + amount % 9 } ∷ transfers_from (session + 1) words
 transfers_from session _ = []
 
 -- an account with what it has

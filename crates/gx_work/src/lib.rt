@@ -1,8 +1,8 @@
 //! Generated work: a script of transfers between accounts, drawn from a number.
 #![tactic(auto)]
 
-mod head;
 mod batches;
+mod head;
 #[cfg(test)]
 mod tests;
 mod transfer;

@@ -19,7 +19,11 @@ fn texts_are_as_elsewhere(rt: HostRuntime) -> Result<(), Fail> {
         (18446744073709551615, 119738, 8204283955240309629),
     ] {
         let text = generate(rt.alloc(), number)?;
-        assert_eq!(rt; (text.len(), hash(text.as_slice())), (length, owed), "{number}");
+        assert_eq!(rt;
+            (text.len(), hash(text.as_slice())),
+            (length, owed),
+            "{number}"
+        );
     }
     Ok(())
 }

@@ -2,8 +2,8 @@
 ghost use Rattle.std.specs.Prelude.{◌≡◌, IfOk};
 ghost use Rattle.gx_work.specs.Work.{work_text};
 
-use crate::head::push_head;
 use crate::batches::push_batches;
+use crate::head::push_head;
 use crate::words::words_of;
 use gx_ids::Mem;
 use std::alloc::Global;
