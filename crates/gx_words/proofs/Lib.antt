@@ -1,0 +1,10 @@
+pub mod Commands
+pub mod Written
+pub mod Lookups
+pub mod Numbers
+pub mod Readings
+pub mod Rows
+pub mod Splits
+pub mod Standing
+pub mod Told
+pub mod Turns

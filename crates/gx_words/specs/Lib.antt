@@ -1,0 +1,4 @@
+pub mod Command
+pub mod Digits
+pub mod Found
+pub mod Words
