@@ -20,7 +20,8 @@ begin_text script gxid session = words_text (codes "begin") (gxid.0 ∷ []) ++ w
 -- a command's snapshot: its bounds, and who is running between them
 abbrev pub snap_text : Gxid → Cid → Snapshot → List ℕ
 snap_text gxid cid snapshot =
-    words_text (codes "snap") (gxid.0 ∷ cid.0 ∷ []) ++ words_text (codes " xmin") (snapshot.xmin.0 ∷ []) ++ words_text (codes " xmax") (snapshot.xmax.0 ∷ []) ++ codes " running" ++ flat_map gxid_text snapshot.running
+    words_text (codes "snap") (gxid.0 ∷ cid.0 ∷ []) ++ words_text (codes " xmin") (snapshot.xmin.0 ∷ [])
+    ++ words_text (codes " xmax") (snapshot.xmax.0 ∷ []) ++ codes " running" ++ flat_map gxid_text snapshot.running
 
 -- that a line is answered; what it is answered stands in the run's own text
 abbrev pub answered_text : Script → SessionId → ℕ → List ℕ
