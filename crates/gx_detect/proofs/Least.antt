@@ -46,7 +46,8 @@ IsLeastOf active gs (Some v) = Contains gs v × (Contains active v → ⊥) × (
 -- one more
 module _ (active gs : List Gxid) (g : Gxid) where
   passed : (seen : Option Gxid) → Contains active g → IsLeastOf active gs seen → IsLeastOf active (gs ++ g ∷ []) seen
-  passed None here least = λ w c. ⊎_elim (λ (o : Contains gs w). least w o) (λ (e : g ≡ w). subst (λ x. Contains active x) e here) (Contains-push_cases gs g w c)
+  passed None here least = λ w c. ⊎_elim (λ (o : Contains gs w). least w o) (λ (e : g ≡ w). subst (λ x. Contains active x) e here)
+      (Contains-push_cases gs g w c)
   passed (Some v) here least = (
     Contains-append_left gs (g ∷ []) v least.0,
     least.1,
@@ -57,14 +58,16 @@ module _ (active gs : List Gxid) (g : Gxid) where
   is_new out below = (
     Contains-push gs g,
     out,
-    λ w c l. ⊎_elim (λ (o : Contains gs w). below w o l) (λ (e : g ≡ w). let number : g.0 ≡ w.0 = ap (λ (x : Gxid). x.0) e in absurd (omega arith)) (Contains-push_cases gs g w c),
+    λ w c l. ⊎_elim (λ (o : Contains gs w). below w o l) (λ (e : g ≡ w). let number : g.0 ≡ w.0 = ap (λ (x : Gxid). x.0) e in absurd (omega arith))
+        (Contains-push_cases gs g w c),
   )
 
   is_old : (v : Gxid) → v.0 < g.0 → IsLeastOf active gs (Some v) → IsLeastOf active (gs ++ g ∷ []) (Some v)
   is_old v less least = (
     Contains-append_left gs (g ∷ []) v least.0,
     least.1,
-    λ w c l. ⊎_elim (λ (o : Contains gs w). least.2 w o l) (λ (e : g ≡ w). let number : g.0 ≡ w.0 = ap (λ (x : Gxid). x.0) e in absurd (omega arith)) (Contains-push_cases gs g w c),
+    λ w c l. ⊎_elim (λ (o : Contains gs w). least.2 w o l) (λ (e : g ≡ w). let number : g.0 ≡ w.0 = ap (λ (x : Gxid). x.0) e in absurd (omega arith))
+        (Contains-push_cases gs g w c),
   )
 
   taken : (seen : Option Gxid) → (Contains active g → ⊥) → IsLeastOf active gs seen → IsLeastOf active (gs ++ g ∷ []) (Some (lesser seen g))
@@ -88,16 +91,19 @@ waiters_of edges = map (λ edge. edge.waiter) edges
 abbrev pub waiters_in : List LocalGraph → List Gxid
 waiters_in graphs = flat_map (λ graph. waiters_of graph.edges) graphs
 
-of_edges : (active gs : List Gxid) (seen : Option Gxid) (edges : List Edge) → IsLeastOf active gs seen → IsLeastOf active (gs ++ waiters_of edges) (fold (with_waiter active) seen edges)
+of_edges : (active gs : List Gxid) (seen : Option Gxid) (edges : List Edge) → IsLeastOf active gs seen
+    → IsLeastOf active (gs ++ waiters_of edges) (fold (with_waiter active) seen edges)
 of_edges active gs seen [] least = subst (λ xs. IsLeastOf active xs seen) (sym (append-nil gs)) least
 of_edges active gs seen (e ∷ es) least =
     subst (λ xs. IsLeastOf active xs (fold (with_waiter active) (with_waiter active seen e) es)) (append_assoc gs (e.waiter ∷ []) (waiters_of es))
     (of_edges active (gs ++ e.waiter ∷ []) (with_waiter active seen e) es (one_more active gs e.waiter seen least))
 
-of_graphs : (active gs : List Gxid) (seen : Option Gxid) (graphs : List LocalGraph) → IsLeastOf active gs seen → IsLeastOf active (gs ++ waiters_in graphs) (fold (with_graph active) seen graphs)
+of_graphs : (active gs : List Gxid) (seen : Option Gxid) (graphs : List LocalGraph) → IsLeastOf active gs seen
+    → IsLeastOf active (gs ++ waiters_in graphs) (fold (with_graph active) seen graphs)
 of_graphs active gs seen [] least = subst (λ xs. IsLeastOf active xs seen) (sym (append-nil gs)) least
 of_graphs active gs seen (g ∷ graphs) least =
-    subst (λ xs. IsLeastOf active xs (fold (with_graph active) (with_graph active seen g) graphs)) (append_assoc gs (waiters_of g.edges) (waiters_in graphs))
+    subst (λ xs. IsLeastOf active xs (fold (with_graph active) (with_graph active seen g) graphs))
+    (append_assoc gs (waiters_of g.edges) (waiters_in graphs))
     (of_graphs active (gs ++ waiters_of g.edges) (with_graph active seen g) graphs (of_edges active gs seen g.edges least))
 
 abbrev waiter_at : PlacedEdge → Gxid
@@ -118,17 +124,21 @@ waiters-edges_of (g ∷ graphs) =
     ∙ ap (λ xs. waiters_of g.edges ++ xs) (waiters-edges_of graphs)
 
 -- of graphs that have just the stuck edges
-module _ (edges : List PlacedEdge) (rest : List LocalGraph) (active : List Gxid) (exact : (e : PlacedEdge) → (Contains (edges_of rest) e → IsStuck edges e) × (IsStuck edges e → Contains (edges_of rest) e)) where
+module _ (edges : List PlacedEdge) (rest : List LocalGraph) (active : List Gxid)
+    (exact : (e : PlacedEdge) → (Contains (edges_of rest) e → IsStuck edges e) × (IsStuck edges e → Contains (edges_of rest) e)) where
   stuck_waits : (v : Gxid) → IsNamedInStuck edges v → Contains (waiters_in rest) v
   stuck_waits v (e, stuck, named) =
       let f = named_waits edges stuck.set stuck.closed stuck.within e v (has_from_contains e stuck.set stuck.member) named in
-      let there : Contains (edges_of rest) f.0 = (exact f.0).1 (record { set = stuck.set; closed = stuck.closed; within = stuck.within; member = contains_from_has f.0 stuck.set f.1 }) in
-      let waits : Contains (map waiter_at (edges_of rest)) f.0.edge.waiter = contains_from_has f.0.edge.waiter (map waiter_at (edges_of rest)) (has_map waiter_at (edges_of rest) f.0 (has_from_contains f.0 (edges_of rest) there)) in
+      let there : Contains (edges_of rest) f.0 = (exact f.0).1
+      (record { set = stuck.set; closed = stuck.closed; within = stuck.within; member = contains_from_has f.0 stuck.set f.1 }) in
+      let waits : Contains (map waiter_at (edges_of rest)) f.0.edge.waiter = contains_from_has f.0.edge.waiter (map waiter_at (edges_of rest))
+      (has_map waiter_at (edges_of rest) f.0 (has_from_contains f.0 (edges_of rest) there)) in
       subst (λ xs. Contains xs v) (waiters-edges_of rest) (subst (λ w. Contains (map waiter_at (edges_of rest)) w) f.2 waits)
 
   waits_stuck : (v : Gxid) → Contains (waiters_in rest) v → IsNamedInStuck edges v
   waits_stuck v c =
-      let e = map_has waiter_at (edges_of rest) v (has_from_contains v (map waiter_at (edges_of rest)) (subst (λ xs. Contains xs v) (sym (waiters-edges_of rest)) c)) in
+      let e = map_has waiter_at (edges_of rest) v
+      (has_from_contains v (map waiter_at (edges_of rest)) (subst (λ xs. Contains xs v) (sym (waiters-edges_of rest)) c)) in
       (e.0, (exact e.0).0 (contains_from_has e.0 (edges_of rest) e.1), inl e.2)
 
   least : (o : Option Gxid) → o ≡ fold (with_graph active) None rest → IsLeastOf active (waiters_in rest) o

@@ -1,5 +1,5 @@
 -- Lists of calls, the rounds to which they lead, and what they tell.
-use Rattle.std.specs.Prelude.{◌≡◌, ℕ, ◌+◌, ◌==◌, ◌&&◌, Bool, true, false, if◌then◌else◌, List, [], ◌∷◌, ◌++◌, map, filter, find, Any, Option, None, Some}
+use Rattle.std.specs.Prelude.{◌≡◌, ℕ, ◌+◌, ◌≤◌, ◌==◌, ◌&&◌, Bool, true, false, if◌then◌else◌, List, [], ◌∷◌, ◌++◌, map, filter, find, Any, Option, None, Some}
 use Rattle.std.specs.List.{range_with_len}
 use Rattle.std.specs.Option.{option_map}
 use Rattle.gx_waits.specs.declared.graph.LocalGraph.{LocalGraph}
@@ -73,6 +73,10 @@ told segments calls = record {
 -- a graph came from the segment for the round
 abbrev pub HasReported : ℕ → ℕ → List Report → Type 0
 HasReported round segment reports = Any (λ report. (report.round ≡ round) × (report.graph.node.0 ≡ segment)) reports
+
+-- one came from every segment for the round
+abbrev pub HaveAllReported : ℕ → List Call → Type 0
+HaveAllReported segments calls = (segment : ℕ) → 1 ≤ segment → segment ≤ segments → HasReported (begun_by calls) segment (heard_since calls)
 
 -- these edges are those of the coordinator's own graph and of the first graph of each segment for the round that runs
 pub record AreOfFirstReports (segments : ℕ) (calls : List Call) (own : LocalGraph) (edges : List PlacedEdge) : Type 0 where

@@ -11,7 +11,8 @@ pub record IsSegment (segments : ℕ) (node : Node) : Type 0 where
 -- the reports of the segments from a number on, once a graph came: of a segment the first one counts
 abbrev pub noted_from : ℕ → List (Option LocalGraph) → LocalGraph → List (Option LocalGraph)
 noted_from number [] graph = []
-noted_from number (report ∷ reports) graph = (if graph.node.0 == number then Some (unwrap_or report graph) else report) ∷ noted_from (number + 1) reports graph
+noted_from number (report ∷ reports) graph =
+    (if graph.node.0 == number then Some (unwrap_or report graph) else report) ∷ noted_from (number + 1) reports graph
 
 -- the reports once a graph came
 abbrev pub noted : List (Option LocalGraph) → LocalGraph → List (Option LocalGraph)

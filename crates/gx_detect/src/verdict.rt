@@ -1,4 +1,4 @@
-ghost use Rattle.std.specs.Prelude.{◌≡◌, None, IfOk, fold, map};
+ghost use Rattle.std.specs.Prelude.{◌≡◌, None, IfOk, fold};
 ghost use Rattle.gx_waits.specs.LocalGraph.{edges_of};
 ghost use Rattle.gx_waits.specs.Victims.{IsVerdict};
 ghost use Rattle.gx_detect.specs.Deadlocks.{NamesVictims, naming};

@@ -13,4 +13,5 @@ collects-more segments round = map-range_with_len_more (order round) 1 segments 
 
 pub loop-place-preserved : goal.loop-place-preserved
 loop-place-preserved c =
-    c.in_ok-push.ensures.items ∙ ap (λ (outs : List Out). outs ++ order c.args.round (c.loop-place.place + 1) ∷ []) c.loop-place.invariant ∙ sym (collects-more c.loop-place.place c.args.round)
+    c.in_ok-push.ensures.items ∙ ap (λ (outs : List Out). outs ++ order c.args.round (c.loop-place.place + 1) ∷ []) c.loop-place.invariant
+    ∙ sym (collects-more c.loop-place.place c.args.round)
