@@ -1,27 +1,18 @@
--- Which scripts are of the form that is run for now: those whose lines open or close a block, or are INSERTs or queries of rows.
-use Rattle.std.specs.Prelude.{◌^◌, nat_lt, Bool, true, false, ◌&&◌, not, is_none, List, [], ◌∷◌, length}
+-- Which scripts are of the form that is run for now: those whose lines open or close a block, or are INSERTs or queries.
+use Rattle.std.specs.Prelude.{◌^◌, nat_lt, Bool, true, false, length}
 use Rattle.std.specs.List.{list_all}
-use Rattle.gx_tree.specs.declared.query.Query.{Query}
 use Rattle.gx_tree.specs.declared.stmt.Stmt.{Stmt}
 use Rattle.gx_tree.specs.declared.stmt.Stmt.TheVariants.{Begin, Commit, Rollback, Select, Insert}
 use Rattle.gx_script.specs.declared.Script.{Script}
 use Rattle.gx_script.specs.declared.Line.{Line}
 
-abbrev pub has_none : {A : Type 0} → List A → Bool
-has_none [] = true
-has_none (_ ∷ _) = false
-
--- rows as they are: no aggregate, GROUP BY, ORDER BY or LIMIT
-abbrev pub is_row_query : Query → Bool
-is_row_query query = not query.grouped && has_none query.order && is_none query.limit
-
--- BEGIN at either level, COMMIT, ROLLBACK, an INSERT whose tuples an ordinal can count, or a query of rows
+-- BEGIN at either level, COMMIT, ROLLBACK, an INSERT whose tuples an ordinal can count, or a query
 abbrev pub is_stmt_of_form : Stmt → Bool
 is_stmt_of_form (Begin level) = true
 is_stmt_of_form Commit = true
 is_stmt_of_form Rollback = true
 is_stmt_of_form (Insert table tuples) = nat_lt (length tuples) (2 ^ 32)
-is_stmt_of_form (Select query) = is_row_query query
+is_stmt_of_form (Select query) = true
 is_stmt_of_form _ = false
 
 abbrev pub is_line_of_form : Line → Bool

@@ -3,25 +3,10 @@ ghost use Rattle.std.specs.List.{list_all};
 ghost use Rattle.gx.specs.Form as of;
 
 use gx_script::{Line, Script};
-use gx_tree::{Query, Stmt};
+use gx_tree::Stmt;
 
 // One more than the greatest ordinal of a tuple.
 const COUNT: usize = 4_294_967_296;
-
-fn has_none<T>(items: &[T]) -> bool
-    ensures { result ≡ of.has_none items.now }
-{
-    match items {
-        [] => true,
-        [_, ..] => false,
-    }
-}
-
-fn is_row_query(query: &Query) -> bool
-    ensures { result ≡ of.is_row_query query.now }
-{
-    !query.grouped && has_none(query.order.as_slice()) && query.limit.is_none()
-}
 
 fn is_stmt_of_form(stmt: &Stmt) -> bool
     ensures { result ≡ of.is_stmt_of_form stmt.now }
@@ -31,7 +16,7 @@ fn is_stmt_of_form(stmt: &Stmt) -> bool
         Stmt::Commit => true,
         Stmt::Rollback => true,
         Stmt::Insert(_, tuples) => tuples.len() < COUNT,
-        Stmt::Select(query) => is_row_query(query),
+        Stmt::Select(_) => true,
         _ => false,
     }
 }
@@ -42,7 +27,7 @@ fn are_of_form(lines: &[Line]) -> bool
     lines.iter().all(|line| is_stmt_of_form(&line.stmt))
 }
 
-/// Whether the script is of the form that is run for now: lines that are BEGIN, COMMIT, ROLLBACK, INSERTs, or SELECTs without aggregate, GROUP BY, ORDER BY and LIMIT.
+/// Whether the script is of the form that is run for now: lines that are BEGIN, COMMIT, ROLLBACK, INSERTs or SELECTs.
 pub fn is_of_form(script: &Script) -> bool
     ensures { result ≡ of.is_of_form script.now }
 {

@@ -11,8 +11,10 @@ use Rattle.gx_dsnap.specs.Gxids.{gxid_cmp}
 use Rattle.gx_tree.specs.declared.stmt.Stmt.{Stmt}
 use Rattle.gx_tree.specs.declared.stmt.Stmt.TheVariants as stmt
 use Rattle.gx_script.specs.declared.Line.{Line}
-use Rattle.gx_session.specs.Session.{idle_outside}
+use Rattle.gx_script.specs.Session.{idle_outside}
+use Rattle.gx_store.specs.Refusals.{the_coordinator}
 use Rattle.gx_rules.specs.Coordinators as rule
+use Rattle.gx_rules.specs.Segments.{no_locks}
 use Rattle.gx_coord.specs.declared.coord.Coord.{Coord}
 use Rattle.gx_coord.specs.declared.work.Command.{Command}
 use Rattle.gx_coord.specs.declared.work.Session.{Session}
@@ -25,9 +27,18 @@ stmt_at lines place = unwrap_or (option_map (λ line. line.stmt) (slice_get line
 abbrev pub command_of : List Line → Command → rule.Command
 command_of lines k = record { stmt = stmt_at lines k.line; cid = k.cid; orders = k.orders; awaited = k.awaited; count = k.count; parts = k.parts }
 
+-- no statement waits
 abbrev pub work_of : List Line → Work → rule.Work
 work_of lines w =
-    record { session = w.session; level = w.level; last = w.last; snapshot = w.snapshot; writers = w.writers; command = option_map (command_of lines) w.command }
+    record {
+      session = w.session;
+      level = w.level;
+      last = w.last;
+      snapshot = w.snapshot;
+      writers = w.writers;
+      command = option_map (command_of lines) w.command;
+      waiting = None;
+    }
 
 abbrev pub work_in : List Line → Option Work → rule.Work
 work_in lines None = rule.no_work
@@ -48,9 +59,19 @@ session_in (Some s) = session_of s
 abbrev pub session_at : List Session → ℕ → rule.Session
 session_at sessions s = session_in (slice_get sessions s)
 
--- what the coordinator holds, as the data of its rule
+-- what the coordinator holds, as the data of its rule; nobody holds or waits there, and no round was begun
 abbrev pub coord_of : Coord → rule.Coord
-coord_of k = record { table = k.dtx; works = found k.script.value.lines k.works.entries; sessions = session_at k.sessions.items; sent = slice_index k.sent.items; clock = k.clock }
+coord_of k =
+    record {
+      table = k.dtx;
+      works = found k.script.value.lines k.works.entries;
+      sessions = session_at k.sessions.items;
+      locks = no_locks the_coordinator;
+      rounds = 0;
+      reports = None;
+      sent = slice_index k.sent.items;
+      clock = k.clock;
+    }
 
 -- what stays in a turn, before its messages are numbered
 pub record IsFramed (old new : Coord) : Type 0 where

@@ -20,15 +20,14 @@ use Rattle.gx_store.specs.Messages.{IsSending}
 use Rattle.gx_store.specs.Ordered.{IsLink, IsSegment}
 use Rattle.gx_store.specs.Points.{marks_in}
 use Rattle.gx_store.specs.Refusals.{the_coordinator}
-use Rattle.gx_rules.specs.AtCoordinator.{coord_rule}
+use Rattle.gx_rules.specs.AtCoordinator.{coord_rule, coord_can}
 use Rattle.gx_rules.specs.AtSegment.{on_message, seg_rule}
-use Rattle.gx_rules.specs.Machine.{Letter, World, at_node, can, coord_did, delivered, does, found, happens, new_world, node_of, seg_did, world_of}
+use Rattle.gx_rules.specs.Machine.{Letter, World, at_node, can, coord_did, delivered, does, found, happens, new_world, node_of, seg_did, world_of, can_here, seg_can}
 use Rattle.gx_rules.specs.Segments.{Seg, SegTurn}
 use Rattle.gx_rules.specs.Sending.{counted, numbered}
 use Rattle.gx_law_order.proofs.AtSegments.{PlainAt, seg_stays}
 use Rattle.gx_law_order.proofs.Letters.{IsFound, IsLetter, found_is}
 use Rattle.gx_law_order.proofs.Lists.{Each, each_append, each_weaker}
-use Rattle.gx_law_order.proofs.Ordered.{never_resumes}
 use Rattle.gx_store.specs.Language.{AreLinesNumbered}
 use Rattle.gx_law_sessions.proofs.Outs.{MessageIs}
 use Rattle.gx_law_sessions.proofs.World as histories
@@ -182,12 +181,18 @@ module _ (script : Script) (some : 1 ≤ script.segments) (numbered_lines : AreL
     arrives from to number fails None f = still es (event.Receive from to number, fails) t
     arrives from to number fails (Some envelope) f = received from to number envelope fails f (is_same_node to the_coordinator) refl
 
-    same-not : (q : Bool) → q ≡ true → q ≡ false → ⊥
-    same-not q e f = grind arith
+    -- nobody goes on at a segment yet
+    resumed : (n : Node) (g : Gxid) (fails : Bool) → can_here script (world_of script es) n (Some (here.Resume g)) ≡ true → AreEarned script (es ++ (event.Resume n g, fails) ∷ []) (does script (world_of script es) (event.Resume n g) n fails (Some (here.Resume g)))
+    resumed n g fails ok = by_test (is_same_node n the_coordinator) ok
+      where
+        by_test : (b : Bool) → (if b then coord_can script (world_of script es).coord (here.Resume g) else seg_can script ((world_of script es).segs n.0) (here.Resume g)) ≡ true
+            → AreEarned script (es ++ (event.Resume n g, fails) ∷ []) (if b then coord_did (world_of script es) (event.Resume n g) (coord_rule script (world_of script es).coord (here.Resume g) fails) else seg_did (world_of script es) n (event.Resume n g) (seg_rule script ((world_of script es).segs n.0) (here.Resume g) fails))
+        by_test true ok = coord-earned es (event.Resume n g, fails) t (event.Resume n g) (here.Resume g) fails
+        by_test false ok = absurd (cc)
 
     event-earned : (e : Event) (fails : Bool) → can script (world_of script es) e ≡ true → AreEarned script (es ++ (e, fails) ∷ []) (does script (world_of script es) e (node_of e) fails (at_node (world_of script es) e))
     event-earned (event.Receive from to number) fails ok = arrives from to number fails (found from to number (world_of script es).sent) refl
-    event-earned (event.Resume m g) fails ok = absurd (same-not (can script (world_of script es) (event.Resume m g)) ok (never_resumes script some (world_of script es) m (here.Resume g) refl refl))
+    event-earned (event.Resume n g) fails ok = resumed n g fails ok
     event-earned (event.Start k) fails ok = coord-earned es (event.Start k, fails) t (event.Start k) (here.Start k) fails
     event-earned (event.End k) fails ok = coord-earned es (event.End k, fails) t (event.End k) (here.End k) fails
     event-earned (event.Resend i g) fails ok = coord-earned es (event.Resend i g, fails) t (event.Resend i g) (here.Resend i g) fails

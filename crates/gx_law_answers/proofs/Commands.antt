@@ -9,16 +9,16 @@ use Rattle.gx_tree.specs.declared.stmt.Level.TheVariants.{ReadCommitted}
 use Rattle.gx_tree.specs.declared.stmt.Stmt.{Stmt}
 use Rattle.gx_tree.specs.declared.stmt.Stmt.TheVariants as statement
 use Rattle.gx_script.specs.declared.Script.{Script}
-use Rattle.gx_session.specs.declared.state.Block.{Block}
-use Rattle.gx_session.specs.declared.state.Block.TheVariants as block
-use Rattle.gx_session.specs.declared.state.Pending.{Pending}
-use Rattle.gx_session.specs.declared.state.Pending.TheVariants as pending
+use Rattle.gx_script.specs.declared.state.Block.{Block}
+use Rattle.gx_script.specs.declared.state.Block.TheVariants as block
+use Rattle.gx_script.specs.declared.state.Pending.{Pending}
+use Rattle.gx_script.specs.declared.state.Pending.TheVariants as pending
 use Rattle.gx_store.specs.declared.event.Event.TheVariants as event
 use Rattle.gx_store.specs.declared.mark.Mark.{Mark}
 use Rattle.gx_store.specs.Commands.{RunsCommand}
 use Rattle.gx_store.specs.Lines.{BlockState, Outside, InBlock, Failed, cid_of, is_command, is_on_rows, level_of, state_of, stmt_of, transaction_of}
 use Rattle.gx_store.specs.Marks.{answer_count, is_begun, is_ended, started_after}
-use Rattle.gx_store.specs.Points.{ends_in, marks_in, starts_in}
+use Rattle.gx_store.specs.Points.{ends_in, marks_in, starts_in, starts_by}
 use Rattle.gx_rules.specs.Coordinators.{Work, session_of, work_of}
 use Rattle.gx_rules.specs.Machine.{World}
 use Rattle.gx_law_order.proofs.Lists.{Each}
@@ -28,6 +28,7 @@ use Rattle.gx_law_sessions.specs.Orders.{level_by, level_of_began}
 use Rattle.gx_store.specs.Language.{AreLinesNumbered}
 use Rattle.gx_law_sessions.specs.Standing.{AreSessions, IsFirst, IsLineOf, IsOver, IsStanding, Owns, Roots, Stands, is_alone, is_busy, state_in}
 use Rattle.gx_law_sessions.proofs.Said.{CalmFor, Said, said-calm}
+use Rattle.gx_store.specs.declared.event.Event.{Event}
 
 -- what the marks before the step tell of a command that runs
 pub record IsOf (script : Script) (ms : List Mark) (stmt : Stmt) (level : Level) (g : Gxid) (c : Cid) : Type 0 where
@@ -112,8 +113,8 @@ module _ (script : Script) (numbered : AreLinesNumbered [] script.lines) (k : Se
   from-standing b p h w ends (inl s) = from-stands b p h w s.1
   from-standing b p h w ends (inr o) = absurd (one-zero (answer_count k ms) (o.1.answered ∙ lines-are))
 
-pub command-is : (script : Script) (numbered : AreLinesNumbered [] script.lines) (w : World) (sessions : AreSessions script w) (from to : Node) (n : ℕ) (earlier later : List Mark) (k : SessionId) (stmt : Stmt) (level : Level) (g : Gxid) (c : Cid) → Each (CalmFor k) earlier → RunsCommand script (point_at w.steps (event.Receive from to n) earlier later) k stmt level g c → IsOf script (marks_in w.steps) stmt level g c
-command-is script numbered w sessions from to n earlier later k stmt level g c calm r =
+pub command-is : (script : Script) (numbered : AreLinesNumbered [] script.lines) (w : World) (sessions : AreSessions script w) (now : Event) (earlier later : List Mark) (k : SessionId) (stmt : Stmt) (level : Level) (g : Gxid) (c : Cid) → starts_by k now ≡ 0 → Each (CalmFor k) earlier → RunsCommand script (point_at w.steps now earlier later) k stmt level g c → IsOf script (marks_in w.steps) stmt level g c
+command-is script numbered w sessions now earlier later k stmt level g c none calm r =
     from-standing script numbered k ms w.coord.table.next.0 (session_of w.coord k).lines stmt level g c lines-are line
     (sym (ap (λ z. is_command z stmt) said.state) ∙ r.command)
     (transaction (state_of script k (ms ++ earlier)) (state_of script k ms) said.state r.transaction)
@@ -131,7 +132,7 @@ command-is script numbered w sessions from to n earlier later k stmt level g c c
     plus-none a b n e f = omega (arith, e, f)
 
     lines-are : (session_of w.coord k).lines ≡ answer_count k ms + 1
-    lines-are = plus-none (session_of w.coord k).lines (starts_in k w.steps) (answer_count k ms) (sym (sessions k).starts) (r.line.started ∙ ap (λ z. z + 1) said.answered)
+    lines-are = plus-none (session_of w.coord k).lines (starts_in k w.steps) (answer_count k ms) (sym (sessions k).starts) (ap (λ z. starts_in k w.steps + z) (sym none) ∙ r.line.started ∙ ap (λ z. z + 1) said.answered)
 
     line : stmt_of k (session_of w.coord k).lines script.lines ≡ Some stmt
     line = ap (λ z. stmt_of k z script.lines) (lines-are ∙ ap (λ z. z + 1) (sym said.answered)) ∙ r.line.line

@@ -22,7 +22,6 @@ use Rattle.gx_meaning.specs.Plan.{insert_pieces, plan_of}
 use Rattle.gx_meaning.specs.declared.piece.Piece.{Piece}
 use Rattle.gx_script.specs.declared.Script.{Script}
 use Rattle.gx_store.specs.declared.answer.StmtAnswer.{StmtAnswer}
-use Rattle.gx_store.specs.declared.event.Event.TheVariants as event
 use Rattle.gx_store.specs.declared.mark.Mark.{Mark}
 use Rattle.gx_store.specs.Answers.{Inserts, Tells}
 use Rattle.gx_store.specs.Commands.{has_own_snapshot}
@@ -48,6 +47,7 @@ use Rattle.gx_law_answers.specs.Earned.{Events}
 use Rattle.gx_law_answers.specs.Keyed.{AreInsertsFilled}
 use Rattle.gx_law_answers.proofs.Commands.{IsOf}
 use Rattle.gx_law_answers.proofs.Heard.{Heard, heard}
+use Rattle.gx_store.specs.declared.event.Event.{Event}
 
 -- ---- nodes
 without-at : (i j : Node) (xs : List Node) (b : Bool) → has i xs ≡ (eqb j.0 i.0 || b) → (eqb j.0 i.0 ≡ true → b ≡ false) → has i (without j xs) ≡ b
@@ -113,12 +113,12 @@ module _ (script : Script) (some : 1 ≤ script.segments) (numbered : AreLinesNu
       done = subst (λ s. IsDoneSlice ms s t.count) slice-is reported.0.done
 
   -- what the segments have told
-  module _ (from to : Node) (number : ℕ) (earlier later : List Mark) where
-    report : (t : Taken) → HasReceived (point_at (world_of script es).steps (event.Receive from to number) earlier later) t.node the_coordinator (message.Answer g (reply.Done c t.wrote t.count t.part)) → Reported t
+  module _ (now : Event) (earlier later : List Mark) where
+    report : (t : Taken) → HasReceived (point_at (world_of script es).steps now earlier later) t.node the_coordinator (message.Answer g (reply.Done c t.wrote t.count t.part)) → Reported t
     report t h = by_way h
       where
         one : 1 ≤ t.node.0
-        one = (heard script some numbered es (event.Receive from to number) earlier later t.node _ h).segment.0
+        one = (heard script some numbered es now earlier later t.node _ h).segment.0
 
         told-by : (n step mark k : ℕ) → IsSending (Rattle.std.specs.Prelude.take n (world_of script es).steps) step mark t.node the_coordinator k (message.Answer g (reply.Done c t.wrote t.count t.part)) → Reported t
         told-by n step mark k x = (taken-told script ms (writes.locals_in (world_of script es).segs) (world_of script es).steps n step mark t.node the_coordinator k (message.Answer g (reply.Done c t.wrote t.count t.part)) one (writes.world-holds script some numbered es).told x).1
@@ -126,11 +126,11 @@ module _ (script : Script) (some : 1 ≤ script.segments) (numbered : AreLinesNu
         whole : {A : Type 0} (xs : List A) → Rattle.std.specs.Prelude.take (length xs) xs ≡ xs
         whole xs = Rattle.gx_law_answers.proofs.Heard.take-whole script some numbered es xs
 
-        by_way : HasReceived (point_at (world_of script es).steps (event.Receive from to number) earlier later) t.node the_coordinator (message.Answer g (reply.Done c t.wrote t.count t.part)) → Reported t
+        by_way : HasReceived (point_at (world_of script es).steps now earlier later) t.node the_coordinator (message.Answer g (reply.Done c t.wrote t.count t.part)) → Reported t
         by_way (k, inl x) = told-by k x.2.sent.step x.2.sent.mark x.2.number x.2.sent.sending
         by_way (k, inr x) = told-by (length (world_of script es).steps) x.1.sent.step x.1.sent.mark x.1.number (subst (λ ss. IsSending ss x.1.sent.step x.1.sent.mark t.node the_coordinator x.1.number (message.Answer g (reply.Done c t.wrote t.count t.part))) (sym (whole (world_of script es).steps)) x.1.sent.sending)
 
-    reports : (taken : List Taken) → AreAll (λ t. HasReceived (point_at (world_of script es).steps (event.Receive from to number) earlier later) t.node the_coordinator (message.Answer g (reply.Done c t.wrote t.count t.part))) taken → AreAll Reported taken
+    reports : (taken : List Taken) → AreAll (λ t. HasReceived (point_at (world_of script es).steps now earlier later) t.node the_coordinator (message.Answer g (reply.Done c t.wrote t.count t.part))) taken → AreAll Reported taken
     reports [] h = tt
     reports (t ∷ ts) h = (report t h.0, reports ts h.1)
 
@@ -157,7 +157,7 @@ module _ (script : Script) (some : 1 ≤ script.segments) (numbered : AreLinesNu
     inserts-more : (n : ℕ) → Inserts ms level g c tuples n → Inserts (ms ++ earlier) level g c tuples n
     inserts-more n x = record { count = x.count; snapped = own-more level ms earlier g c x.snapped; values = x.values; each = λ o a b. written-more ms earlier _ (x.each o a b) }
 
-    pub insert-tells : (answer : StmtAnswer) → IsGathered script (point_at (world_of script es).steps (event.Receive from to number) earlier later) g c (stmt.Insert table tuples) answer → Tells script (ms ++ earlier) level g c (stmt.Insert table tuples) answer
+    pub insert-tells : (answer : StmtAnswer) → IsGathered script (point_at (world_of script es).steps now earlier later) g c (stmt.Insert table tuples) answer → Tells script (ms ++ earlier) level g c (stmt.Insert table tuples) answer
     insert-tells answer x =
         let r = reports x.taken x.received in
         subst (Tells script (ms ++ earlier) level g c (stmt.Insert table tuples)) (sym x.is)

@@ -1,20 +1,19 @@
 -- Every run is a legal history.
-use Rattle.std.proofs.Common.{◌≤◌, ℕ, List, [], ◌∷◌, refl, subst}
+use Rattle.std.proofs.Common.{◌≡◌, ◌≤◌, List, [], ◌∷◌, refl, subst}
 use Rattle.gx_ids.specs.declared.ids.Cid.{Cid}
 use Rattle.gx_ids.specs.declared.ids.Gxid.{Gxid}
-use Rattle.gx_ids.specs.declared.ids.Node.{Node}
 use Rattle.gx_ids.specs.declared.ids.SessionId.{SessionId}
 use Rattle.gx_tree.specs.declared.stmt.Level.{Level}
 use Rattle.gx_tree.specs.declared.stmt.Stmt.{Stmt}
 use Rattle.gx_msg.specs.declared.reply.Reply.TheVariants as reply
 use Rattle.gx_script.specs.declared.Script.{Script}
-use Rattle.gx_store.specs.declared.event.Event.TheVariants as event
+use Rattle.gx_store.specs.declared.event.Event.{Event}
 use Rattle.gx_store.specs.declared.mark.Mark.{Mark}
 use Rattle.gx_store.specs.declared.mark.Mark.TheVariants as mark
 use Rattle.gx_store.specs.declared.run.Run.{Run}
 use Rattle.gx_store.specs.declared.run.Step.{Step}
 use Rattle.gx_store.specs.Commands.{RunsCommand}
-use Rattle.gx_store.specs.Points.{marks_in}
+use Rattle.gx_store.specs.Points.{marks_in, starts_by}
 use Rattle.gx_store.specs.Legal.{AreLegalSteps}
 use Rattle.gx_store.specs.Runs.{IsLegalHistory}
 use Rattle.gx_rules.specs.Machine.{run_of, world_of}
@@ -41,21 +40,23 @@ module _ (script : Script) (some : 1 ≤ script.segments) (numbered : AreLinesNu
     abbrev steps : List Step
     steps = (world_of script es).steps
 
-    its : (from to : Node) (number : ℕ) (earlier later : List Mark) (session : SessionId) (stmt : Stmt) (level : Level) (g : Gxid) (c : Cid) → Each (CalmFor session) earlier → RunsCommand script (point_at (world_of script es).steps (event.Receive from to number) earlier later) session stmt level g c → IsOf script (marks_in (world_of script es).steps) stmt level g c
-    its from to number earlier later session stmt level g c calm runs = command-is script numbered (world_of script es) (sessions-stand script some es) from to number earlier later session stmt level g c calm runs
+    its : (now : Event) (earlier later : List Mark) (session : SessionId) (stmt : Stmt) (level : Level) (g : Gxid) (c : Cid) → starts_by session now ≡ 0 → Each (CalmFor session) earlier → RunsCommand script (point_at (world_of script es).steps now earlier later) session stmt level g c → IsOf script (marks_in (world_of script es).steps) stmt level g c
+    its now earlier later session stmt level g c none calm runs = command-is script numbered (world_of script es) (sessions-stand script some es) now earlier later session stmt level g c none calm runs
 
     told : AreCommandsTold script (world_of script es).steps
     told = record {
-      told = λ from to number later session stmt level g c answer runs x.
-          tells-by script some numbered keyed es (one-snapshot script some once es) from to number [] later session level g c answer tt tt stmt (its from to number [] later session stmt level g c tt runs) runs x
-          (λ t v e. insert-tells script some numbered filled es t v level g c (subst (λ l. IsOf script (marks_in steps) l level g c) e (its from to number [] later session stmt level g c tt runs)) from to number [] later answer
-          (subst (λ l. IsGathered script (point_at steps (event.Receive from to number) [] later) g c l answer) e x));
-      committed = λ from to number later session stmt level g c answer runs x.
-          tells-by script some numbered keyed es (one-snapshot script some once es) from to number (mark.Commit g ∷ []) later session level g c answer (tt, tt) (tt, tt) stmt (its from to number (mark.Commit g ∷ []) later session stmt level g c (tt, tt) runs) runs x
-          (λ t v e. insert-tells script some numbered filled es t v level g c (subst (λ l. IsOf script (marks_in steps) l level g c) e (its from to number (mark.Commit g ∷ []) later session stmt level g c (tt, tt) runs)) from to number (mark.Commit g ∷ []) later answer
-          (subst (λ l. IsGathered script (point_at steps (event.Receive from to number) (mark.Commit g ∷ []) later) g c l answer) e x));
-      refused = λ from to number later session stmt level g c segment cause runs x.
-          caused script some numbered keyed es from to number later level g c segment stmt (its from to number (mark.Abort g ∷ []) later session stmt level g c (tt, tt) runs) cause x ((heard-now script some numbered es segment _ x.number x.sent).word_earned g (reply.Failed c cause) refl);
+      told = λ now later session stmt level g c answer none runs x.
+          let is = its now [] later session stmt level g c none tt runs in
+          tells-by script some numbered keyed es (one-snapshot script some once es) now [] later session level g c answer tt tt stmt is runs x
+          (λ t v e. insert-tells script some numbered filled es t v level g c (subst (λ l. IsOf script (marks_in steps) l level g c) e is) now [] later answer
+          (subst (λ l. IsGathered script (point_at steps now [] later) g c l answer) e x));
+      committed = λ now later session stmt level g c answer none runs x.
+          let is = its now (mark.Commit g ∷ []) later session stmt level g c none (tt, tt) runs in
+          tells-by script some numbered keyed es (one-snapshot script some once es) now (mark.Commit g ∷ []) later session level g c answer (tt, tt) (tt, tt) stmt is runs x
+          (λ t v e. insert-tells script some numbered filled es t v level g c (subst (λ l. IsOf script (marks_in steps) l level g c) e is) now (mark.Commit g ∷ []) later answer
+          (subst (λ l. IsGathered script (point_at steps now (mark.Commit g ∷ []) later) g c l answer) e x));
+      refused = λ now later session stmt level g c segment cause none runs x.
+          caused script some numbered keyed es now later level g c segment stmt (its now (mark.Abort g ∷ []) later session stmt level g c none (tt, tt) runs) cause x ((heard-now script some numbered es segment _ x.number x.sent).word_earned g (reply.Failed c cause) refl);
     }
 
   rest-shown : IsRestShown script

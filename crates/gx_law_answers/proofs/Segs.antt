@@ -13,6 +13,7 @@ use Rattle.gx_store.specs.declared.event.Event.{Event}
 use Rattle.gx_store.specs.declared.event.Event.TheVariants as event
 use Rattle.gx_store.specs.declared.mark.Mark.{Mark}
 use Rattle.gx_store.specs.declared.mark.Mark.TheVariants as mark
+use Rattle.gx_store.specs.declared.node.NodeEvent.{NodeEvent}
 use Rattle.gx_store.specs.declared.node.NodeEvent.TheVariants as here
 use Rattle.gx_store.specs.declared.run.Step.{Step}
 use Rattle.gx_store.specs.Commands.{IsUnderWay}
@@ -22,7 +23,7 @@ use Rattle.gx_store.specs.Ordered.{IsSegment}
 use Rattle.gx_store.specs.Points.{Point, marks_in}
 use Rattle.gx_store.specs.Refusals.{the_coordinator}
 use Rattle.gx_rules.specs.AtSegment.{on_message, raised, seg_rule}
-use Rattle.gx_rules.specs.Machine.{Letter, World, found, world_of}
+use Rattle.gx_rules.specs.Machine.{Letter, World, delivered, found, world_of}
 use Rattle.gx_rules.specs.Segments.{Seg, SegTurn}
 use Rattle.gx_rules.specs.Sending.{numbered}
 use Rattle.gx_rules.specs.Shown.{shown}
@@ -164,6 +165,7 @@ module _ (script : Script) (some : 1 ≤ script.segments) (numbered_lines : AreL
                   level = was.level;
                   ran = subst (λ q. IsUnderWay script was.point was.session q was.level z.g z.c) (some-stmt was.line (stmt.Select z.query) (sym (was.of numbered_lines) ∙ the-line)) was.ran;
                 };
+                kind = refl;
               })
             where
               was : WasUnderWay script (world_of script es).steps z.g z.c
@@ -183,7 +185,7 @@ module _ (script : Script) (some : 1 ≤ script.segments) (numbered_lines : AreL
                 stmt = u.line;
                 level = z.level;
                 fault = fault.1;
-                runs = u.runs from to number [] later tt;
+                runs = u.runs (event.Receive from to number) [] later refl tt;
                 faults = none-more (λ m. IsFaultOf m z.level z.g z.c u.line fault.0.rid (Some fault.0.row) fault.1)
                     (subst (λ l. IsFaultOf ms z.level z.g z.c l fault.0.rid (Some fault.0.row) fault.1) (some-stmt (stmt.Select z.query) u.line (sym the-line ∙ u.of numbered_lines))
                     (seen-fault ms to z.level z.g z.c _ (snapshot-at script some numbered_lines es from to number envelope fails place f it-came.order_is it-came.view_is z) z.query rows (rows-part script some numbered_lines es from to number envelope fails place f it-came.order_is it-came.view_is z a) fault q));
@@ -213,5 +215,23 @@ module _ (script : Script) (some : 1 ≤ script.segments) (numbered_lines : AreL
         (all-rest script (world_of script es).steps from to number place.0 [] turn.marks (sent ++ []) (front (WriteLegal script) (world_of script es).steps (event.Receive from to number) [] turn.marks sent [] step-writes) (faults (sent ++ []) (message-turns s script fails envelope.message)) plain)
         (sent-rest script (world_of script es).steps (event.Receive from to number) (λ node. turn.seg.sent) turn.outs turn.marks [])
 
+  some-same : (a b : NodeEvent) → Some a ≡ Some b → a ≡ b
+  some-same a b q = cc
+
+  zero-one : {A : Type 0} → 1 ≤ 0 → A
+  zero-one l = absurd (omega (arith, l))
+
+  abbrev IsRest : Event → Node → NodeEvent → Bool → Type 0
+  IsRest e i x fails = EachMark (Rest script) (world_of script es).steps e [] (seg_rule script ((world_of script es).segs i.0) x fails).marks []
+
   pub segments-legal : AreSegmentsLegal script (world_of script es)
-  segments-legal from to number envelope fails place f = step-rest from to number envelope fails place f
+  segments-legal (event.Receive from to number) x fails place is ok = by_found (found from to number (world_of script es).sent) refl is
+    where
+      by_found : (o : Option Envelope) → found from to number (world_of script es).sent ≡ o → delivered from o ≡ Some x → IsRest (event.Receive from to number) to x fails
+      by_found None f q = absurd (cc)
+      by_found (Some envelope) f q = subst (λ y. IsRest (event.Receive from to number) to y fails) (some-same (here.Deliver from envelope) x q) (step-rest from to number envelope fails place f)
+  segments-legal (event.Resume n g) x fails place is ok = subst (λ y. IsRest (event.Resume n g) n y fails) (some-same (here.Resume g) x is) tt
+  segments-legal (event.Start s) x fails place is ok = zero-one place.0
+  segments-legal (event.End s) x fails place is ok = zero-one place.0
+  segments-legal (event.Resend i g) x fails place is ok = zero-one place.0
+  segments-legal event.Round x fails place is ok = zero-one place.0

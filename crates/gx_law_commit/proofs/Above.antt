@@ -23,7 +23,6 @@ use Rattle.gx_rules.specs.AtCoordinator.{coord_can, coord_rule}
 use Rattle.gx_rules.specs.AtSegment.{seg_rule}
 use Rattle.gx_rules.specs.Machine.{Letter, World, after, at_node, can, can_here, coord_did, delivered, does, found, happens, new_world, node_of, seg_can, seg_did, world_of}
 use Rattle.gx_law_order.proofs.Letters.{IsFound, IsLetter, found_is}
-use Rattle.gx_law_order.proofs.Ordered.{never_resumes}
 use Rattle.gx_law_order.proofs.World.{Knows, happens_knows, new_knows}
 use Rattle.gx_law_commit.specs.Horizons.{AreBelowIn, AreHorizonsLow, AreHoldersAbove, AreLowIn, IsBelowHolders, IsBelowIn, IsLow, IsLowIn}
 use Rattle.gx_law_commit.specs.Said.{Said, SaidAt, SaidIn, gxid_in, is_answer}
@@ -34,6 +33,7 @@ use Rattle.gx_law_commit.proofs.Held.{held_in, is_held}
 use Rattle.gx_law_commit.proofs.Holders.{EndTold, LetterHeld, Waits, coord-waits, ended_at, seg-waits}
 use Rattle.gx_law_commit.proofs.Holding.{SaysBy}
 use Rattle.gx_law_commit.proofs.Low.{world-low}
+use Rattle.gx_ids.specs.declared.ids.Gxid.{Gxid}
 
 module _ (script : Script) (some : 1 ≤ script.segments) where
   says-by : (w : World) (k : Knows script w) (u : Waits w) (i : ℕ) (m : Message) → EndTold w.segs i m → SaysBy (ended_at w.segs) w.coord k.kept.whole u.orders i m
@@ -100,7 +100,7 @@ module _ (script : Script) (some : 1 ≤ script.segments) where
           subst (λ (n : Node). SaidAt w.coord w.segs (marks_in w.steps) n.0 envelope.message) d.target
           (subst (λ (q : Envelope). SaidAt w.coord w.segs (marks_in w.steps) d.letter.to.0 q.message) d.told (answer-of w d.letter false (ap (λ (q : Envelope). is_answer q.message) d.told ∙ a) d.is.0.1))
 
-      by_test : (b : Bool) → is_same_node to the_coordinator ≡ b → (if b then coord_can script w.coord x else seg_can x) ≡ true → Waits (if b then coord_did w e (coord_rule script w.coord x fails) else seg_did w to e (seg_rule script (w.segs to.0) x fails))
+      by_test : (b : Bool) → is_same_node to the_coordinator ≡ b → (if b then coord_can script w.coord x else seg_can script (w.segs to.0) x) ≡ true → Waits (if b then coord_did w e (coord_rule script w.coord x fails) else seg_did w to e (seg_rule script (w.segs to.0) x fails))
       by_test true is ok =
           coord-waits script some w k u e x fails ok (says-by w k u from.0 envelope.message
           (subst (λ (n : Node). EndTold w.segs n.0 envelope.message) d.source (subst (λ (q : Envelope). EndTold w.segs d.letter.from.0 q.message) d.told (d.is.1.told (from-segment is d.is.0.0.link)))))
@@ -113,12 +113,23 @@ module _ (script : Script) (some : 1 ≤ script.segments) where
   arrives w from to number fails None e k v u ok = u
   arrives w from to number fails (Some envelope) e k v u ok = received w from to number envelope fails k v u (found_is (IsAll w) from to number w.sent envelope (each-zip (IsPosted script w) (LetterHeld w) w.sent (each-zip (IsLetter script w.steps) (SaidIn w) w.sent k.well.letters v.said) u.sent) e) ok
 
-  same_not : (b : Bool) → b ≡ true → b ≡ false → ⊥
-  same_not b e h = grind arith
+  -- nobody goes on at a segment yet
+  resumed : (w : World) (n : Node) (g : Gxid) (fails : Bool) → Knows script w → Holds script w → Waits w → can_here script w n (Some (here.Resume g)) ≡ true → Waits (does script w (event.Resume n g) n fails (Some (here.Resume g)))
+  resumed w n g fails k v u ok = by_test (is_same_node n the_coordinator) refl ok
+    where
+      e : Event
+      e = event.Resume n g
+
+      x : NodeEvent
+      x = here.Resume g
+
+      by_test : (b : Bool) → is_same_node n the_coordinator ≡ b → (if b then coord_can script w.coord x else seg_can script (w.segs n.0) x) ≡ true → Waits (if b then coord_did w e (coord_rule script w.coord x fails) else seg_did w n e (seg_rule script (w.segs n.0) x fails))
+      by_test true is ok = coord-waits script some w k u e x fails ok tt
+      by_test false is ok = absurd (cc)
 
   event-waits : (w : World) (e : Event) (fails : Bool) → Knows script w → Holds script w → Waits w → can script w e ≡ true → Waits (does script w e (node_of e) fails (at_node w e))
   event-waits w (event.Receive from to number) fails k v u ok = arrives w from to number fails (found from to number w.sent) refl k v u ok
-  event-waits w (event.Resume m g) fails k v u ok = absurd (same_not (can script w (event.Resume m g)) ok (never_resumes script some w m (here.Resume g) refl refl))
+  event-waits w (event.Resume n g) fails k v u ok = resumed w n g fails k v u ok
   event-waits w (event.Start x) fails k v u ok = coord-waits script some w k u (event.Start x) (here.Start x) fails ok tt
   event-waits w (event.End x) fails k v u ok = coord-waits script some w k u (event.End x) (here.End x) fails ok tt
   event-waits w (event.Resend j g) fails k v u ok = coord-waits script some w k u (event.Resend j g) (here.Resend j g) fails ok tt

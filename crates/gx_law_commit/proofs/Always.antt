@@ -19,13 +19,13 @@ use Rattle.gx_rules.specs.AtSegment.{seg_rule}
 use Rattle.gx_rules.specs.Machine.{Letter, World, after, at_node, can, can_here, coord_did, delivered, does, found, happens, new_world, node_of, seg_can, seg_did, world_of}
 use Rattle.gx_law_order.proofs.Letters.{IsFound, IsLetter, found_is}
 use Rattle.gx_law_order.proofs.Lists.{Each}
-use Rattle.gx_law_order.proofs.Ordered.{never_resumes}
 use Rattle.gx_law_order.proofs.World.{Knows, happens_knows, new_knows}
 use Rattle.gx_law_commit.specs.Pairs.{Pair}
 use Rattle.gx_law_commit.specs.Said.{AreMeant, Said, SaidAt, SaidIn, gxid_in, is_answer}
 use Rattle.gx_law_commit.specs.Standings.{known_at}
 use Rattle.gx_law_commit.specs.Standings.Standing.{Unborn, Over}
 use Rattle.gx_law_commit.proofs.Everywhere.{Holds, coord-holds, parts_in, seg-holds}
+use Rattle.gx_ids.specs.declared.ids.Gxid.{Gxid}
 
 abbrev pub IsPosted : Script → World → Letter → Type 0
 IsPosted script w l = IsLetter script w.steps l × SaidIn w l
@@ -77,7 +77,7 @@ module _ (script : Script) (some : 1 ≤ script.segments) where
           subst (λ (n : Node). SaidAt w.coord w.segs (marks_in w.steps) n.0 envelope.message) d.target
           (subst (λ (q : Envelope). SaidAt w.coord w.segs (marks_in w.steps) d.letter.to.0 q.message) d.told (answer-of w d.letter false (ap (λ (q : Envelope). is_answer q.message) d.told ∙ a) d.is.1))
 
-      by_test : (b : Bool) → is_same_node to the_coordinator ≡ b → (if b then coord_can script w.coord x else seg_can x) ≡ true → Holds script (if b then coord_did w e (coord_rule script w.coord x fails) else seg_did w to e (seg_rule script (w.segs to.0) x fails))
+      by_test : (b : Bool) → is_same_node to the_coordinator ≡ b → (if b then coord_can script w.coord x else seg_can script (w.segs to.0) x) ≡ true → Holds script (if b then coord_did w e (coord_rule script w.coord x fails) else seg_did w to e (seg_rule script (w.segs to.0) x fails))
       by_test true is ok = coord-holds script w k v e x fails ok at-coordinator
       by_test false is ok =
           let p = place is d.is.0.link in
@@ -87,12 +87,23 @@ module _ (script : Script) (some : 1 ≤ script.segments) where
   arrives w from to number fails None e k v ok = v
   arrives w from to number fails (Some envelope) e k v ok = received w from to number envelope fails k v (found_is (IsPosted script w) from to number w.sent envelope (each-zip (IsLetter script w.steps) (SaidIn w) w.sent k.well.letters v.said) e) ok
 
-  same_not : (b : Bool) → b ≡ true → b ≡ false → ⊥
-  same_not b e h = grind arith
+  -- nobody goes on at a segment yet
+  resumed : (w : World) (n : Node) (g : Gxid) (fails : Bool) → Knows script w → Holds script w → can_here script w n (Some (here.Resume g)) ≡ true → Holds script (does script w (event.Resume n g) n fails (Some (here.Resume g)))
+  resumed w n g fails k v ok = by_test (is_same_node n the_coordinator) refl ok
+    where
+      e : Event
+      e = event.Resume n g
+
+      x : NodeEvent
+      x = here.Resume g
+
+      by_test : (b : Bool) → is_same_node n the_coordinator ≡ b → (if b then coord_can script w.coord x else seg_can script (w.segs n.0) x) ≡ true → Holds script (if b then coord_did w e (coord_rule script w.coord x fails) else seg_did w n e (seg_rule script (w.segs n.0) x fails))
+      by_test true is ok = coord-holds script w k v e x fails ok tt
+      by_test false is ok = absurd (cc)
 
   event-holds : (w : World) (e : Event) (fails : Bool) → Knows script w → Holds script w → can script w e ≡ true → Holds script (does script w e (node_of e) fails (at_node w e))
   event-holds w (event.Receive from to number) fails k v ok = arrives w from to number fails (found from to number w.sent) refl k v ok
-  event-holds w (event.Resume m g) fails k v ok = absurd (same_not (can script w (event.Resume m g)) ok (never_resumes script some w m (here.Resume g) refl refl))
+  event-holds w (event.Resume n g) fails k v ok = resumed w n g fails k v ok
   event-holds w (event.Start x) fails k v ok = coord-holds script w k v (event.Start x) (here.Start x) fails ok tt
   event-holds w (event.End x) fails k v ok = coord-holds script w k v (event.End x) (here.End x) fails ok tt
   event-holds w (event.Resend j g) fails k v ok = coord-holds script w k v (event.Resend j g) (here.Resend j g) fails ok tt

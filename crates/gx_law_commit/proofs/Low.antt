@@ -18,18 +18,17 @@ use Rattle.gx_store.specs.Journals.{is_same_node}
 use Rattle.gx_store.specs.Ordered.{IsLink, IsSegment}
 use Rattle.gx_store.specs.Points.{marks_in}
 use Rattle.gx_store.specs.Refusals.{the_coordinator}
-use Rattle.gx_rules.specs.AtCoordinator.{coord_rule, on_event}
+use Rattle.gx_rules.specs.AtCoordinator.{coord_rule, on_event, coord_can}
 use Rattle.gx_rules.specs.AtSegment as segment
 use Rattle.gx_rules.specs.AtSegment.{seg_rule}
 use Rattle.gx_rules.specs.Coordinators.{CoordTurn}
-use Rattle.gx_rules.specs.Machine.{Letter, World, after, at_node, can, coord_did, delivered, does, found, happens, new_world, node_of, seg_did, world_of}
+use Rattle.gx_rules.specs.Machine.{Letter, World, after, at_node, can, coord_did, delivered, does, found, happens, new_world, node_of, seg_did, world_of, can_here, seg_can}
 use Rattle.gx_rules.specs.Segments.{SegTurn}
 use Rattle.gx_rules.specs.Sending.{clock_after}
 use Rattle.gx_law_order.proofs.AtCoordinators.{coord_stays}
 use Rattle.gx_law_order.proofs.AtSegments.{PlainAt, seg_stays}
 use Rattle.gx_law_order.proofs.Letters.{IsFound, IsLetter, found_is}
 use Rattle.gx_law_order.proofs.Lists.{Each, each_weaker}
-use Rattle.gx_law_order.proofs.Ordered.{never_resumes}
 use Rattle.gx_law_order.proofs.World.{Knows, happens_knows, new_knows}
 use Rattle.gx_law_commit.specs.Horizons.{AreHorizonsLow, AreLowIn, IsLow, IsLowIn}
 use Rattle.gx_law_commit.specs.Said.{is_answer}
@@ -39,6 +38,7 @@ use Rattle.gx_law_commit.proofs.Everywhere.{posted-each}
 use Rattle.gx_law_commit.proofs.Lowered.{Lowered, OrdersLow, event-low, message-goes}
 use Rattle.gx_law_commit.proofs.Lows.{past-dense}
 use Rattle.gx_law_commit.proofs.Raised.{OfHorizon, SegKeeps, message_keeps}
+use Rattle.gx_ids.specs.declared.ids.Gxid.{Gxid}
 
 abbrev IsLowLetter : Table → Letter → Type 0
 IsLowLetter d l = IsLowIn d l.envelope.message
@@ -149,12 +149,23 @@ module _ (script : Script) (some : 1 ≤ script.segments) where
   arrives w from to number fails None e k l = l
   arrives w from to number fails (Some envelope) e k l = received w from to number envelope fails k l (found_is (λ (y : Letter). IsLetter script w.steps y × IsLowLetter w.coord.table y) from to number w.sent envelope (each-zip (IsLetter script w.steps) (IsLowLetter w.coord.table) w.sent k.well.letters l.sent) e)
 
-  same_not : (b : Bool) → b ≡ true → b ≡ false → ⊥
-  same_not b e h = grind arith
+  -- nobody goes on at a segment yet
+  resumed : (w : World) (n : Node) (g : Gxid) (fails : Bool) → Knows script w → Low w → can_here script w n (Some (here.Resume g)) ≡ true → Low (does script w (event.Resume n g) n fails (Some (here.Resume g)))
+  resumed w n g fails k l ok = by_test (is_same_node n the_coordinator) refl ok
+    where
+      e : Event
+      e = event.Resume n g
+
+      x : NodeEvent
+      x = here.Resume g
+
+      by_test : (b : Bool) → is_same_node n the_coordinator ≡ b → (if b then coord_can script w.coord x else seg_can script (w.segs n.0) x) ≡ true → Low (if b then coord_did w e (coord_rule script w.coord x fails) else seg_did w n e (seg_rule script (w.segs n.0) x fails))
+      by_test true is ok = coord-any w k l e x fails
+      by_test false is ok = absurd (cc)
 
   event-any : (w : World) (e : Event) (fails : Bool) → Knows script w → Low w → can script w e ≡ true → Low (does script w e (node_of e) fails (at_node w e))
   event-any w (event.Receive from to number) fails k l ok = arrives w from to number fails (found from to number w.sent) refl k l
-  event-any w (event.Resume m g) fails k l ok = absurd (same_not (can script w (event.Resume m g)) ok (never_resumes script some w m (here.Resume g) refl refl))
+  event-any w (event.Resume n g) fails k l ok = resumed w n g fails k l ok
   event-any w (event.Start x) fails k l ok = coord-any w k l (event.Start x) (here.Start x) fails
   event-any w (event.End x) fails k l ok = coord-any w k l (event.End x) (here.End x) fails
   event-any w (event.Resend j g) fails k l ok = coord-any w k l (event.Resend j g) (here.Resend j g) fails

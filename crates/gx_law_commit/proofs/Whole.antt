@@ -33,7 +33,6 @@ use Rattle.gx_rules.specs.Sending.{clock_after, counted, numbered}
 use Rattle.gx_law_order.proofs.Letters.{IsFound, IsLetter, found_is}
 use Rattle.gx_law_order.proofs.Lists.{Each, each_append}
 use Rattle.gx_law_order.proofs.Numbers.{NoStart}
-use Rattle.gx_law_order.proofs.Ordered.{never_resumes}
 use Rattle.gx_law_order.proofs.Past.{aborted-append}
 use Rattle.gx_law_order.proofs.World.{Knows, happens_knows, marks-last, new_knows}
 use Rattle.gx_law_commit.specs.Followed.{AnswersAt, DoMarksAnswer, DoMarksEnd, DoStepsAnswer, DoStepsEnd, EndsAt}
@@ -46,6 +45,7 @@ use Rattle.gx_law_commit.proofs.Complete.{Comes, IsBack, Replied, StepBack, answ
 use Rattle.gx_law_commit.proofs.Completing.{GetsBy, calm-started}
 use Rattle.gx_law_commit.proofs.Everywhere.{Holds, does-it, parts_in}
 use Rattle.gx_law_commit.proofs.Handled.{Follows}
+use Rattle.gx_ids.specs.declared.ids.Gxid.{Gxid}
 
 -- A STEP OF A SEGMENT
 follows-no-start : (told : Message) (k : Known) (i g : ℕ) (ns : List Mark) → Each (Follows told k i g) ns → Each NoStart ns
@@ -166,7 +166,7 @@ module _ (script : Script) (some : 1 ≤ script.segments) where
       got y (message.Collect round) q = tt
       got y (message.Graph round graph) q = tt
 
-      by_test : (b : Bool) → is_same_node to the_coordinator ≡ b → (if b then coord_can script w.coord x else seg_can x) ≡ true → Replied script (if b then coord_did w e (coord_rule script w.coord x fails) else seg_did w to e (seg_rule script (w.segs to.0) x fails))
+      by_test : (b : Bool) → is_same_node to the_coordinator ≡ b → (if b then coord_can script w.coord x else seg_can script (w.segs to.0) x) ≡ true → Replied script (if b then coord_did w e (coord_rule script w.coord x fails) else seg_did w to e (seg_rule script (w.segs to.0) x fails))
       by_test true is ok = coord-replied script w k v r e x fails ok at-coordinator (got (gets from the_coordinator refl (Rattle.gx_law_order.proofs.Letters.same_node to the_coordinator is)) envelope.message refl) (λ t. refl)
       by_test false is ok =
           let p = place is d.is.0.link in
@@ -176,8 +176,19 @@ module _ (script : Script) (some : 1 ≤ script.segments) where
   arrives w from to number fails None e k v r ok = r
   arrives w from to number fails (Some envelope) e k v r ok = received w from to number envelope fails k v r (found_is (IsPosted script w) from to number w.sent envelope (each-zip (IsLetter script w.steps) (SaidIn w) w.sent k.well.letters v.said) e) ok
 
-  same_not : (b : Bool) → b ≡ true → b ≡ false → ⊥
-  same_not b e h = grind arith
+  -- nobody goes on at a segment yet
+  resumed : (w : World) (n : Node) (g : Gxid) (fails : Bool) → Knows script w → Holds script w → Replied script w → can_here script w n (Some (here.Resume g)) ≡ true → Replied script (does script w (event.Resume n g) n fails (Some (here.Resume g)))
+  resumed w n g fails k v r ok = by_test (is_same_node n the_coordinator) refl ok
+    where
+      e : Event
+      e = event.Resume n g
+
+      x : NodeEvent
+      x = here.Resume g
+
+      by_test : (b : Bool) → is_same_node n the_coordinator ≡ b → (if b then coord_can script w.coord x else seg_can script (w.segs n.0) x) ≡ true → Replied script (if b then coord_did w e (coord_rule script w.coord x fails) else seg_did w n e (seg_rule script (w.segs n.0) x fails))
+      by_test true is ok = coord-replied script w k v r e x fails ok tt tt (λ t. refl)
+      by_test false is ok = absurd (cc)
 
   abbrev count_of : Bool → ℕ
   count_of b = if b then 1 else 0
@@ -190,7 +201,7 @@ module _ (script : Script) (some : 1 ≤ script.segments) where
 
   event-replied : (w : World) (e : Event) (fails : Bool) → Knows script w → Holds script w → Replied script w → can script w e ≡ true → Replied script (does script w e (node_of e) fails (at_node w e))
   event-replied w (event.Receive from to number) fails k v r ok = arrives w from to number fails (found from to number w.sent) refl k v r ok
-  event-replied w (event.Resume m g) fails k v r ok = absurd (same_not (can script w (event.Resume m g)) ok (never_resumes script some w m (here.Resume g) refl refl))
+  event-replied w (event.Resume n g) fails k v r ok = resumed w n g fails k v r ok
   event-replied w (event.Start x) fails k v r ok = coord-replied script w k v r (event.Start x) (here.Start x) fails ok tt (λ q e. starts-one x q e) (λ t. refl)
   event-replied w (event.End x) fails k v r ok = coord-replied script w k v r (event.End x) (here.End x) fails ok tt tt (λ t. refl)
   event-replied w (event.Resend j g) fails k v r ok = coord-replied script w k v r (event.Resend j g) (here.Resend j g) fails ok tt tt (λ t. refl)

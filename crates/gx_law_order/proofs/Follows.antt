@@ -21,8 +21,9 @@ use Rattle.gx_rules.specs.Machine.{World, after, at_node, can, can_here, coord_d
 use Rattle.gx_rules.specs.Segments.{Seg, new_segment}
 use Rattle.gx_rules.specs.System.{AreAtNodes, DoesCoordFollow, DoesSegFollow, Either, IsCoordStep, IsHere, IsNode, IsPosted, IsSegStep, IsSystemRun}
 use Rattle.gx_law_order.proofs.Letters.{IsFound, IsLetter, found_is}
-use Rattle.gx_law_order.proofs.Ordered.{Well, apart-back, apart-two, at-both, happens_well, never_resumes, new_well, test-self}
+use Rattle.gx_law_order.proofs.Ordered.{Well, apart-back, apart-two, at-both, happens_well, resumes_there, new_well, test-self}
 use Rattle.gx_law_order.proofs.Sent.{at}
+use Rattle.gx_ids.specs.declared.ids.Gxid.{Gxid}
 
 either_map : (b : Bool) (A B C D : Type 0) → (A → C) → (B → D) → Either b A B → Either b C D
 either_map true A B C D f g e = f e
@@ -166,7 +167,7 @@ module _ (script : Script) where
       away : (i : ℕ) → 1 ≤ i → is_same_node the_coordinator (at i) ≡ false
       away i k = grind (arith, nat_tests)
 
-  seg_kept : (w : World) (e : Event) (x : NodeEvent) (fails : Bool) (i : ℕ) → IsSegment script (at i) → Follows script w → Well script (seg_did w (at i) e (seg_rule script (w.segs i) x fails)) → IsHere w.steps e x → seg_can x ≡ true → Follows script (seg_did w (at i) e (seg_rule script (w.segs i) x fails))
+  seg_kept : (w : World) (e : Event) (x : NodeEvent) (fails : Bool) (i : ℕ) → IsSegment script (at i) → Follows script w → Well script (seg_did w (at i) e (seg_rule script (w.segs i) x fails)) → IsHere w.steps e x → seg_can script (w.segs i) x ≡ true → Follows script (seg_did w (at i) e (seg_rule script (w.segs i) x fails))
   seg_kept w e x fails i place f n h ok =
       record {
         well = n;
@@ -189,7 +190,7 @@ module _ (script : Script) where
       x : NodeEvent
       x = here.Deliver from envelope
 
-      by_test : (b : Bool) → is_same_node to the_coordinator ≡ b → (if b then coord_can script w.coord x else seg_can x) ≡ true → Well script (if b then coord_did w e (coord_rule script w.coord x fails) else seg_did w to e (seg_rule script (w.segs to.0) x fails)) → Follows script (if b then coord_did w e (coord_rule script w.coord x fails) else seg_did w to e (seg_rule script (w.segs to.0) x fails))
+      by_test : (b : Bool) → is_same_node to the_coordinator ≡ b → (if b then coord_can script w.coord x else seg_can script (w.segs to.0) x) ≡ true → Well script (if b then coord_did w e (coord_rule script w.coord x fails) else seg_did w to e (seg_rule script (w.segs to.0) x fails)) → Follows script (if b then coord_did w e (coord_rule script w.coord x fails) else seg_did w to e (seg_rule script (w.segs to.0) x fails))
       by_test true is ok n = coord_kept w e x fails f n (refl, posted_is script w from to number envelope d) ok
       by_test false is ok n = seg_kept w e x fails to.0 (place is d.is.link) f n (refl, posted_is script w from to number envelope d) ok
         where
@@ -204,12 +205,22 @@ module _ (script : Script) where
   arrives w from to number fails None e f ok n = f
   arrives w from to number fails (Some envelope) e f ok n = received w from to number envelope fails f (found_is (IsLetter script w.steps) from to number w.sent envelope f.well.letters e) ok n
 
-  same_not : (b : Bool) → b ≡ true → b ≡ false → ⊥
-  same_not b e h = grind arith
+  resumed : (w : World) (n : Node) (g : Gxid) (fails : Bool) → Follows script w → (1 ≤ script.segments) → can_here script w n (Some (here.Resume g)) ≡ true → Well script (does script w (event.Resume n g) n fails (Some (here.Resume g))) → Follows script (does script w (event.Resume n g) n fails (Some (here.Resume g)))
+  resumed w n g fails f some ok well = by_test (is_same_node n the_coordinator) refl ok well
+    where
+      e : Event
+      e = event.Resume n g
+
+      x : NodeEvent
+      x = here.Resume g
+
+      by_test : (b : Bool) → is_same_node n the_coordinator ≡ b → (if b then coord_can script w.coord x else seg_can script (w.segs n.0) x) ≡ true → Well script (if b then coord_did w e (coord_rule script w.coord x fails) else seg_did w n e (seg_rule script (w.segs n.0) x fails)) → Follows script (if b then coord_did w e (coord_rule script w.coord x fails) else seg_did w n e (seg_rule script (w.segs n.0) x fails))
+      by_test true is ok well = coord_kept w e x fails f well refl ok
+      by_test false is ok well = seg_kept w e x fails n.0 (resumes_there script some w n g f.well ok) f well refl ok
 
   event_follows : (w : World) (e : Event) (fails : Bool) → Follows script w → can script w e ≡ true → Well script (does script w e (node_of e) fails (at_node w e)) → (1 ≤ script.segments) → Follows script (does script w e (node_of e) fails (at_node w e))
   event_follows w (event.Receive from to number) fails f ok n some = arrives w from to number fails (found from to number w.sent) refl f ok n
-  event_follows w (event.Resume m g) fails f ok n some = absurd (same_not (can script w (event.Resume m g)) ok (never_resumes script some w m (here.Resume g) refl refl))
+  event_follows w (event.Resume m g) fails f ok n some = resumed w m g fails f some ok n
   event_follows w (event.Start x) fails f ok n some = coord_kept w (event.Start x) (here.Start x) fails f n refl ok
   event_follows w (event.End x) fails f ok n some = coord_kept w (event.End x) (here.End x) fails f n refl ok
   event_follows w (event.Resend i g) fails f ok n some = coord_kept w (event.Resend i g) (here.Resend i g) fails f n (refl, refl) ok

@@ -19,22 +19,23 @@ use Rattle.gx_store.specs.Journals.{is_prepared, is_same_node, items_from, items
 use Rattle.gx_store.specs.Ordered.{IsAtNode, IsLink, IsSegment}
 use Rattle.gx_store.specs.Points.{marks_in}
 use Rattle.gx_store.specs.Refusals.{the_coordinator}
-use Rattle.gx_rules.specs.AtCoordinator.{coord_rule, on_event}
+use Rattle.gx_rules.specs.AtCoordinator.{coord_rule, on_event, coord_can}
 use Rattle.gx_rules.specs.AtSegment.{seg_rule}
 use Rattle.gx_rules.specs.AtSegment as segment
 use Rattle.gx_rules.specs.Coordinators.{CoordTurn}
-use Rattle.gx_rules.specs.Machine.{World, after, at_node, can, coord_did, delivered, does, found, happens, kept_item, new_world, node_of, seg_did, world_of}
+use Rattle.gx_rules.specs.Machine.{World, after, at_node, can, coord_did, delivered, does, found, happens, kept_item, new_world, node_of, seg_did, world_of, can_here, seg_can}
 use Rattle.gx_rules.specs.Segments.{Seg, SegTurn}
 use Rattle.gx_rules.specs.Sending.{clock_after, counted, numbered}
 use Rattle.gx_law_order.specs.Journals.{item_at, journal_after, journal_from, takes}
 use Rattle.gx_law_order.proofs.CoordItems.{event-stands}
 use Rattle.gx_law_order.proofs.Letters.{IsFound, IsLetter, found_is, same_node}
 use Rattle.gx_law_order.proofs.Lists.{Each}
-use Rattle.gx_law_order.proofs.Ordered.{Well, at-both, at_coordinator, happens_well, never_resumes, new_well, seg_marks}
+use Rattle.gx_law_order.proofs.Ordered.{Well, at-both, at_coordinator, happens_well, resumes_there, new_well, seg_marks}
 use Rattle.gx_law_order.proofs.SegItems.{Bound, Dull, Holds, Items, dull-items, dull-prepared, event_items, items-append, prepared-append, writes-append, writes_at}
 use Rattle.gx_law_order.proofs.Sent.{at}
 use Rattle.gx_law_order.proofs.Stages.{gx}
 use Rattle.gx_law_order.proofs.World.{marks-last}
+use Rattle.gx_ids.specs.declared.ids.Gxid.{Gxid}
 
 -- what the segments hold of the marks
 abbrev pub Hold : World → Type 0
@@ -208,12 +209,22 @@ module _ (script : Script) (some : 1 ≤ script.segments) (i : ℕ) where
   arrives w from to number fails None e well hold = subst (λ q. After w w i q) (sym (never-taken (is_same_node to (at i)) fails)) (nothing-after w hold)
   arrives w from to number fails (Some envelope) e well hold = received w from to number envelope fails well hold (found_is (IsLetter script w.steps) from to number w.sent envelope well.letters e)
 
-  same_not : (b : Bool) → b ≡ true → b ≡ false → ⊥
-  same_not b e h = grind arith
+  resumed : (w : World) (n : Node) (g : Gxid) (fails : Bool) → Well script w → Hold w → can_here script w n (Some (here.Resume g)) ≡ true → After w (does script w (event.Resume n g) n fails (Some (here.Resume g))) i (Taken w (event.Resume n g) n fails (Some (here.Resume g)))
+  resumed w n g fails well hold ok = by_test (is_same_node n the_coordinator) refl ok
+    where
+      e : Event
+      e = event.Resume n g
+
+      x : NodeEvent
+      x = here.Resume g
+
+      by_test : (b : Bool) → is_same_node n the_coordinator ≡ b → (if b then coord_can script w.coord x else seg_can script (w.segs n.0) x) ≡ true → After w (if b then coord_did w e (coord_rule script w.coord x fails) else seg_did w n e (seg_rule script (w.segs n.0) x fails)) i (if is_same_node n (at i) then kept_item fails (if b then (coord_rule script w.coord x fails).item else (seg_rule script (w.segs n.0) x fails).item) else [])
+      by_test true is ok = subst (λ q. After w (coord_did w e (coord_rule script w.coord x fails)) i (if is_same_node q (at i) then kept_item fails (coord_rule script w.coord x fails).item else [])) (sym (same_node n the_coordinator is)) (coord-after script some w well hold e x fails i)
+      by_test false is ok = seg-after script some w well hold e x fails i n.0 (resumes_there script some w n g well ok)
 
   event-after : (w : World) (e : Event) (fails : Bool) → Well script w → Hold w → can script w e ≡ true → After w (does script w e (node_of e) fails (at_node w e)) i (Taken w e (node_of e) fails (at_node w e))
   event-after w (event.Receive from to number) fails well hold ok = arrives w from to number fails (found from to number w.sent) refl well hold
-  event-after w (event.Resume m g) fails well hold ok = absurd (same_not (can script w (event.Resume m g)) ok (never_resumes script some w m (here.Resume g) refl refl))
+  event-after w (event.Resume n g) fails well hold ok = resumed w n g fails well hold ok
   event-after w (event.Start x) fails well hold ok = coord-after script some w well hold (event.Start x) (here.Start x) fails i
   event-after w (event.End x) fails well hold ok = coord-after script some w well hold (event.End x) (here.End x) fails i
   event-after w (event.Resend j g) fails well hold ok = coord-after script some w well hold (event.Resend j g) (here.Resend j g) fails i

@@ -198,10 +198,10 @@ module _ (script : Script) (w : World) (e : Event) (fails : Bool) where
   happens-coord : (x : NodeEvent) → node_of e ≡ the_coordinator → at_node w e ≡ Some x → coord_can script w.coord x ≡ true → happens script w e fails ≡ coord_did w e (coord_rule script w.coord x fails)
   happens-coord x a b c = same_turn the_coordinator x a b ∙ ap (λ (t : Bool). if t then coord_did w e (coord_rule script w.coord x fails) else w) c
 
-  happens-seg : (x : NodeEvent) (i : Node) → is_same_node i the_coordinator ≡ false → node_of e ≡ i → at_node w e ≡ Some x → seg_can x ≡ true → happens script w e fails ≡ seg_did w i e (seg_rule script (w.segs i.0) x fails)
+  happens-seg : (x : NodeEvent) (i : Node) → is_same_node i the_coordinator ≡ false → node_of e ≡ i → at_node w e ≡ Some x → seg_can script (w.segs i.0) x ≡ true → happens script w e fails ≡ seg_did w i e (seg_rule script (w.segs i.0) x fails)
   happens-seg x i away a b c =
       same_turn i x a b
-      ∙ ap (λ (t : Bool). if (if t then coord_can script w.coord x else seg_can x) then (if t then coord_did w e (coord_rule script w.coord x fails) else seg_did w i e (seg_rule script (w.segs i.0) x fails)) else w) away
+      ∙ ap (λ (t : Bool). if (if t then coord_can script w.coord x else seg_can script (w.segs i.0) x) then (if t then coord_did w e (coord_rule script w.coord x fails) else seg_did w i e (seg_rule script (w.segs i.0) x fails)) else w) away
       ∙ ap (λ (t : Bool). if t then seg_did w i e (seg_rule script (w.segs i.0) x fails) else w) c
 
 first_of : (b : Bool) (A B : Type 0) → b ≡ true → Either b A B → A

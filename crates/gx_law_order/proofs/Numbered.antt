@@ -18,18 +18,19 @@ use Rattle.gx_store.specs.Marks.{start_count}
 use Rattle.gx_store.specs.Ordered.{IsAtNode, IsLink, IsSegment}
 use Rattle.gx_store.specs.Points.{marks_in}
 use Rattle.gx_store.specs.Refusals.{the_coordinator}
-use Rattle.gx_rules.specs.AtCoordinator.{coord_rule, on_event}
+use Rattle.gx_rules.specs.AtCoordinator.{coord_rule, on_event, coord_can}
 use Rattle.gx_rules.specs.AtSegment.{seg_rule}
 use Rattle.gx_rules.specs.Coordinators.{CoordTurn}
-use Rattle.gx_rules.specs.Machine.{World, after, at_node, can, coord_did, delivered, does, found, happens, new_world, node_of, seg_did, world_of}
+use Rattle.gx_rules.specs.Machine.{World, after, at_node, can, coord_did, delivered, does, found, happens, new_world, node_of, seg_did, world_of, can_here, seg_can}
 use Rattle.gx_rules.specs.Sending.{clock_after, counted, numbered}
 use Rattle.gx_law_order.specs.Numbers.{AreStartsNumbered}
 use Rattle.gx_law_order.proofs.Letters.{IsFound, IsLetter, found_is}
 use Rattle.gx_law_order.proofs.Lists.{Each}
 use Rattle.gx_law_order.proofs.Numbers.{NoStart, calm-more, calm-numbered, event-numbered, numbered-append}
-use Rattle.gx_law_order.proofs.Ordered.{Well, happens_well, never_resumes, new_well, seg_marks}
+use Rattle.gx_law_order.proofs.Ordered.{Well, happens_well, resumes_there, new_well, seg_marks}
 use Rattle.gx_law_order.proofs.Sent.{at}
 use Rattle.gx_law_order.proofs.World.{marks-last}
+use Rattle.gx_ids.specs.declared.ids.Gxid.{Gxid}
 
 record Counts (w : World) : Type 0 where
   marks : AreStartsNumbered [] (marks_in w.steps)
@@ -96,12 +97,22 @@ module _ (script : Script) (some : 1 ≤ script.segments) where
   arrives w from to number fails None e well k = k
   arrives w from to number fails (Some envelope) e well k = received w from to number envelope fails well k (found_is (IsLetter script w.steps) from to number w.sent envelope well.letters e)
 
-  same_not : (b : Bool) → b ≡ true → b ≡ false → ⊥
-  same_not b e h = grind arith
+  resumed : (w : World) (n : Node) (g : Gxid) (fails : Bool) → Well script w → Counts w → can_here script w n (Some (here.Resume g)) ≡ true → Counts (does script w (event.Resume n g) n fails (Some (here.Resume g)))
+  resumed w n g fails well k ok = by_test (is_same_node n the_coordinator) refl ok
+    where
+      e : Event
+      e = event.Resume n g
+
+      x : NodeEvent
+      x = here.Resume g
+
+      by_test : (b : Bool) → is_same_node n the_coordinator ≡ b → (if b then coord_can script w.coord x else seg_can script (w.segs n.0) x) ≡ true → Counts (if b then coord_did w e (coord_rule script w.coord x fails) else seg_did w n e (seg_rule script (w.segs n.0) x fails))
+      by_test true is ok = coord-counts script some w well k e x fails
+      by_test false is ok = seg-counts script some w well k e x fails n.0 (resumes_there script some w n g well ok)
 
   event-counts : (w : World) (e : Event) (fails : Bool) → Well script w → Counts w → can script w e ≡ true → Counts (does script w e (node_of e) fails (at_node w e))
   event-counts w (event.Receive from to number) fails well k ok = arrives w from to number fails (found from to number w.sent) refl well k
-  event-counts w (event.Resume m g) fails well k ok = absurd (same_not (can script w (event.Resume m g)) ok (never_resumes script some w m (here.Resume g) refl refl))
+  event-counts w (event.Resume m g) fails well k ok = resumed w m g fails well k ok
   event-counts w (event.Start x) fails well k ok = coord-counts script some w well k (event.Start x) (here.Start x) fails
   event-counts w (event.End x) fails well k ok = coord-counts script some w well k (event.End x) (here.End x) fails
   event-counts w (event.Resend j g) fails well k ok = coord-counts script some w well k (event.Resend j g) (here.Resend j g) fails

@@ -35,6 +35,7 @@ use Rattle.gx_law_order.proofs.Letters.{IsFound, IsLetter, found_is, posted_lett
 use Rattle.gx_law_order.proofs.Lists.{Each, each_append, each_weaker}
 use Rattle.gx_law_order.proofs.Sent.{all-counted, at, count-both, counted-all, numbered-ok, plain-count, plain-numbered, sent_in-last}
 use Rattle.gx_law_order.proofs.Tables.{OutIn}
+use Rattle.gx_ids.specs.declared.ids.Gxid.{Gxid}
 
 pub record Well (script : Script) (w : World) : Type 0 where
   pub steps : AreOrdered script [] w.steps
@@ -276,23 +277,30 @@ module _ (script : Script) (some : 1 ≤ script.segments) where
   arrives w from to number fails None e good = good
   arrives w from to number fails (Some envelope) e good = received w from to number envelope fails good (found_is (IsLetter script w.steps) from to number w.sent envelope good.letters e)
 
-  pub never_resumes : (w : World) (n : Node) (x : NodeEvent) → coord_can script w.coord x ≡ false → seg_can x ≡ false → can_here script w n (Some x) ≡ false
-  never_resumes w n x e h = by_test (is_same_node n the_coordinator)
+  -- who resumes at a segment does so at one of the script's
+  pub resumes_there : (w : World) (n : Node) (g : Gxid) → Well script w → seg_can script (w.segs n.0) (here.Resume g) ≡ true → IsSegment script n
+  resumes_there w n g good ok = absurd (cc)
+
+  resumed : (w : World) (n : Node) (g : Gxid) (fails : Bool) → Well script w → can_here script w n (Some (here.Resume g)) ≡ true → Well script (does script w (event.Resume n g) n fails (Some (here.Resume g)))
+  resumed w n g fails good ok = by_test (is_same_node n the_coordinator) refl ok
     where
-      by_test : (b : Bool) → (if b then coord_can script w.coord x else seg_can x) ≡ false
-      by_test true = e
-      by_test false = h
+      e : Event
+      e = event.Resume n g
+
+      x : NodeEvent
+      x = here.Resume g
+
+      by_test : (b : Bool) → is_same_node n the_coordinator ≡ b → (if b then coord_can script w.coord x else seg_can script (w.segs n.0) x) ≡ true → Well script (if b then coord_did w e (coord_rule script w.coord x fails) else seg_did w n e (seg_rule script (w.segs n.0) x fails))
+      by_test true is ok = coord_well script some w good e x fails (sym (same_node n the_coordinator is))
+      by_test false is ok = seg_well script w good e x fails n.0 (resumes_there w n g good ok) refl
 
   pub happens_well : (w : World) (e : Event) (fails : Bool) → Well script w → Well script (happens script w e fails)
   happens_well w e fails good = by_can (can script w e) refl e refl
     where
-      same_not : (b : Bool) → b ≡ true → b ≡ false → ⊥
-      same_not b e h = grind arith
-
       by_can : (b : Bool) → can script w e ≡ b → (d : Event) → d ≡ e → Well script (if b then does script w e (node_of e) fails (at_node w e) else w)
       by_can false refused d same = good
       by_can true admitted (event.Receive from to number) same = subst (λ d. Well script (does script w d (node_of d) fails (at_node w d))) same (arrives w from to number fails (found from to number w.sent) refl good)
-      by_can true admitted (event.Resume n g) same = absurd (same_not (can script w e) admitted (subst (λ d. can script w d ≡ false) same (never_resumes w n (here.Resume g) refl refl)))
+      by_can true admitted (event.Resume n g) same = subst (λ d. Well script (does script w d (node_of d) fails (at_node w d))) same (resumed w n g fails good (subst (λ d. can script w d ≡ true) (sym same) admitted))
       by_can true admitted (event.Start x) same = subst (λ d. Well script (does script w d (node_of d) fails (at_node w d))) same (coord_well script some w good (event.Start x) (here.Start x) fails refl)
       by_can true admitted (event.End x) same = subst (λ d. Well script (does script w d (node_of d) fails (at_node w d))) same (coord_well script some w good (event.End x) (here.End x) fails refl)
       by_can true admitted (event.Resend i g) same = subst (λ d. Well script (does script w d (node_of d) fails (at_node w d))) same (coord_well script some w good (event.Resend i g) (here.Resend i g) fails refl)

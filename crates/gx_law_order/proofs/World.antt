@@ -26,11 +26,12 @@ use Rattle.gx_law_order.specs.Seen.{AreEndedSeen}
 use Rattle.gx_law_order.proofs.Letters.{IsFound, IsLetter, found_is}
 use Rattle.gx_law_order.proofs.Lists.{Each}
 use Rattle.gx_law_order.proofs.Lines.{past-still}
-use Rattle.gx_law_order.proofs.Ordered.{Well, happens_well, never_resumes, new_well, seg_marks}
+use Rattle.gx_law_order.proofs.Ordered.{Well, happens_well, resumes_there, new_well, seg_marks}
 use Rattle.gx_law_order.proofs.Past.{Past, Still, seen-append, still-seen}
 use Rattle.gx_law_order.proofs.Replies.{event-good}
 use Rattle.gx_law_order.proofs.Sent.{at}
 use Rattle.gx_law_order.proofs.Sessions.{Kept}
+use Rattle.gx_ids.specs.declared.ids.Gxid.{Gxid}
 
 pub record Knows (script : Script) (w : World) : Type 0 where
   pub well : Well script w
@@ -120,7 +121,7 @@ module _ (script : Script) where
           not-here : (n : Node) → n ≡ the_coordinator → is_same_node n the_coordinator ≡ false → ⊥
           not-here n same away = grind (arith, nat_tests)
 
-      by_test : (b : Bool) → is_same_node to the_coordinator ≡ b → (if b then coord_can script w.coord x else seg_can x) ≡ true → Well script (if b then coord_did w e (coord_rule script w.coord x fails) else seg_did w to e (seg_rule script (w.segs to.0) x fails)) → Knows script (if b then coord_did w e (coord_rule script w.coord x fails) else seg_did w to e (seg_rule script (w.segs to.0) x fails))
+      by_test : (b : Bool) → is_same_node to the_coordinator ≡ b → (if b then coord_can script w.coord x else seg_can script (w.segs to.0) x) ≡ true → Well script (if b then coord_did w e (coord_rule script w.coord x fails) else seg_did w to e (seg_rule script (w.segs to.0) x fails)) → Knows script (if b then coord_did w e (coord_rule script w.coord x fails) else seg_did w to e (seg_rule script (w.segs to.0) x fails))
       by_test true is ok n = coord-knows script w k e x fails ok n
       by_test false is ok n = seg-knows script w k e x fails to.0 (place is d.is.link) n
 
@@ -128,12 +129,22 @@ module _ (script : Script) where
   arrives w from to number fails None e k ok n = k
   arrives w from to number fails (Some envelope) e k ok n = received w from to number envelope fails k (found_is (IsLetter script w.steps) from to number w.sent envelope k.well.letters e) ok n
 
-  same_not : (b : Bool) → b ≡ true → b ≡ false → ⊥
-  same_not b e h = grind arith
+  resumed : (w : World) (n : Node) (g : Gxid) (fails : Bool) → Knows script w → (1 ≤ script.segments) → can_here script w n (Some (here.Resume g)) ≡ true → Well script (does script w (event.Resume n g) n fails (Some (here.Resume g))) → Knows script (does script w (event.Resume n g) n fails (Some (here.Resume g)))
+  resumed w n g fails k some ok well = by_test (is_same_node n the_coordinator) refl ok well
+    where
+      e : Event
+      e = event.Resume n g
+
+      x : NodeEvent
+      x = here.Resume g
+
+      by_test : (b : Bool) → is_same_node n the_coordinator ≡ b → (if b then coord_can script w.coord x else seg_can script (w.segs n.0) x) ≡ true → Well script (if b then coord_did w e (coord_rule script w.coord x fails) else seg_did w n e (seg_rule script (w.segs n.0) x fails)) → Knows script (if b then coord_did w e (coord_rule script w.coord x fails) else seg_did w n e (seg_rule script (w.segs n.0) x fails))
+      by_test true is ok well = coord-knows script w k e x fails ok well
+      by_test false is ok well = seg-knows script w k e x fails n.0 (resumes_there script some w n g k.well ok) well
 
   event_knows : (w : World) (e : Event) (fails : Bool) → Knows script w → can script w e ≡ true → Well script (does script w e (node_of e) fails (at_node w e)) → (1 ≤ script.segments) → Knows script (does script w e (node_of e) fails (at_node w e))
   event_knows w (event.Receive from to number) fails k ok n some = arrives w from to number fails (found from to number w.sent) refl k ok n
-  event_knows w (event.Resume m g) fails k ok n some = absurd (same_not (can script w (event.Resume m g)) ok (never_resumes script some w m (here.Resume g) refl refl))
+  event_knows w (event.Resume m g) fails k ok n some = resumed w m g fails k some ok n
   event_knows w (event.Start x) fails k ok n some = coord-knows script w k (event.Start x) (here.Start x) fails ok n
   event_knows w (event.End x) fails k ok n some = coord-knows script w k (event.End x) (here.End x) fails ok n
   event_knows w (event.Resend i g) fails k ok n some = coord-knows script w k (event.Resend i g) (here.Resend i g) fails ok n

@@ -53,7 +53,7 @@ use Rattle.gx_law_commit.proofs.Everywhere.{Holds, does-it, fol-no-sent, follows
 use Rattle.gx_law_commit.proofs.Handled.{Does, Follows, IsExecOf, Tells}
 use Rattle.gx_law_commit.proofs.Ways.{Fol, Led, fol-no-part}
 use Rattle.gx_law_reads.proofs.Low.{LetterLow, Lows, coord-low, new-lows, seg-low}
-use Rattle.gx_law_reads.proofs.Steps.{SaidTo, event-leads, world-keeps}
+use Rattle.gx_law_reads.proofs.Steps.{HeardAt, IsGiven, SaidTo, by-message, event-leads, given-is, world-keeps}
 use Rattle.gx_law_reads.proofs.Taken.{LiveMessage, Passes, event-pass}
 
 -- who has committed has its writes committed at each segment, and who was aborted nowhere
@@ -568,14 +568,17 @@ module _ (script : Script) (some : 1 ≤ script.segments) where
             (event-good script w.coord (marks_in w.steps) k.kept k.past x fails ok).past (event-good script w.coord (marks_in w.steps) k.kept k.past x fails ok).kept.whole;
       }
 
-  pub seg-facts : (w : World) → Knows script w → Holds script w → Facts w → (e : Event) (fails : Bool) (i : ℕ) (from : Node) (number : ℕ) (envelope : Envelope) → IsSegment script (at i) → ((P : Letter → Type 0) → Each P w.sent → IsFound P from (at i) number envelope) → Receives w.steps e the_coordinator (at i) envelope.message → (is_answer envelope.message ≡ false → Said (known_at w.coord (marks_in w.steps) i (gxid_in envelope.message)) (parts_in w i (gxid_in envelope.message)) envelope.message) → Facts (seg_did w (at i) e (seg_rule script (w.segs i) (here.Deliver from envelope) fails))
-  seg-facts w k v q e fails i from number envelope place finds received said =
-      let f = finds (LetterLow w.coord.table w.coord.works) q.lows.sent in
-      let t = finds (λ (l : Letter). TakenAt w l.to l.envelope.message) q.ends.taken in
-      record {
-        lows = seg-low script w k v q.lows e fails i from envelope said (subst (λ (z : Envelope). Rattle.gx_law_reads.specs.Horizons.IsLowIn (Rattle.gx_dtx.specs.Table.horizon_of w.coord.table) z.message) f.told f.is.0);
-        ends = seg-ends script w k v q.ends e fails i from envelope received said (subst (λ (z : Envelope). TakenAt w (at i) z.message) t.told (subst (λ (n : Node). TakenAt w n t.letter.envelope.message) t.target t.is));
-      }
+  pub seg-facts : (w : World) → Knows script w → Holds script w → Facts w → (e : Event) (x : NodeEvent) (fails : Bool) (i : ℕ) → IsSegment script (at i) → HeardAt script w e i x → Facts (seg_did w (at i) e (seg_rule script (w.segs i) x fails))
+  seg-facts w k v q e x fails i place h = by-message script w e i (λ x. Facts (seg_did w (at i) e (seg_rule script (w.segs i) x fails))) given x h
+    where
+      given : (from : Node) (envelope : Envelope) → IsGiven w e i from envelope → Facts (seg_did w (at i) e (seg_rule script (w.segs i) (here.Deliver from envelope) fails))
+      given from envelope d =
+          let f = given-is w e i from envelope d (LetterLow w.coord.table w.coord.works) q.lows.sent in
+          let t = given-is w e i from envelope d (λ (l : Letter). TakenAt w l.to l.envelope.message) q.ends.taken in
+          record {
+            lows = seg-low script w k v q.lows e fails i from envelope d.said (subst (λ (z : Envelope). Rattle.gx_law_reads.specs.Horizons.IsLowIn (Rattle.gx_dtx.specs.Table.horizon_of w.coord.table) z.message) f.told f.is.0);
+            ends = seg-ends script w k v q.ends e fails i from envelope d.received d.said (subst (λ (z : Envelope). TakenAt w (at i) z.message) t.told (subst (λ (n : Node). TakenAt w n t.letter.envelope.message) t.target t.is));
+          }
 
   pub world-facts : (es : List (Event × Bool)) → Facts (world_of script es)
   world-facts = world-keeps script some Facts coord-facts seg-facts (record { lows = new-lows; ends = new-ends })

@@ -57,7 +57,7 @@ use Rattle.gx_law_reads.proofs.Heights.{horizon-bounds}
 use Rattle.gx_law_reads.proofs.Held.{Latest}
 use Rattle.gx_law_reads.proofs.Going.{event-went}
 use Rattle.gx_law_reads.proofs.Reading.{CountedIn, FineIn, OutFine, Stood, low-then}
-use Rattle.gx_law_reads.proofs.Steps.{SaidTo, event-leads, world-keeps}
+use Rattle.gx_law_reads.proofs.Steps.{SaidTo, by-message, event-leads, given-is, world-keeps}
 use Rattle.gx_law_reads.proofs.Turns.{WentBy, none-some}
 
 abbrev pub LetterLow : Table → (ℕ → Work) → Letter → Type 0
@@ -333,9 +333,10 @@ module _ (script : Script) (some : 1 ≤ script.segments) where
   pub world-lows : (es : List (Event × Bool)) → Lows (world_of script es)
   world-lows =
       world-keeps script some Lows (λ w k v q e x fails ok d. coord-low script w k v q e x fails ok d)
-      (λ w k v q e fails i from number envelope place finds received said.
-      let f = finds (LetterLow w.coord.table w.coord.works) q.sent in
-      seg-low script w k v q e fails i from envelope said (subst (λ (z : Envelope). IsLowIn (horizon_of w.coord.table) z.message) f.told f.is.0))
+      (λ w k v q e x fails i place h. by-message script w e i (λ x. Lows (seg_did w (at i) e (seg_rule script (w.segs i) x fails)))
+      (λ from envelope d.
+      let f = given-is w e i from envelope d (LetterLow w.coord.table w.coord.works) q.sent in
+      seg-low script w k v q e fails i from envelope d.said (subst (λ (z : Envelope). IsLowIn (horizon_of w.coord.table) z.message) f.told f.is.0)) x h)
       new-lows
 
 -- THE LAWS

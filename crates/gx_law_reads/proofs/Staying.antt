@@ -44,7 +44,7 @@ use Rattle.gx_law_reads.specs.Horizons.{HasRisen}
 use Rattle.gx_law_reads.specs.Sights.{DoViewsStay, IsOnlyAt}
 use Rattle.gx_law_reads.proofs.Low.{by}
 use Rattle.gx_law_reads.proofs.Ends.{Facts, NewWrite, TakenAt, all-marks, coord-facts, last-next, no-parts, seg-facts, world-facts, writes-new}
-use Rattle.gx_law_reads.proofs.Steps.{SaidTo, event-leads, keeps-after}
+use Rattle.gx_law_reads.proofs.Steps.{IsGiven, SaidTo, by-message, event-leads, given-is, keeps-after}
 
 take-kept : {A : Type 0} (xs ys : List A) (k : ℕ) (x : A) → slice_get xs k ≡ Some x → take k (xs ++ ys) ≡ take k xs
 take-kept [] ys k x e = absurd (cc)
@@ -174,14 +174,14 @@ module _ (w0 : World) (node : Node) (g : Gxid) (c : Cid) (place : ℕ) where
         ns : List Mark
         ns = (coordinator.on_event script w.coord x fails).marks ++ numbered (coordinator.on_event script w.coord x fails).coord.sent (coordinator.on_event script w.coord x fails).outs
 
-    seg-stays : (w : World) → Knows script w → Holds script w → Stayed w → (e : Event) (fails : Bool) (i : ℕ) (from : Node) (number : ℕ) (envelope : Envelope) → IsSegment script (at i) → ((P : Letter → Type 0) → Each P w.sent → IsFound P from (at i) number envelope) → Receives w.steps e the_coordinator (at i) envelope.message → (is_answer envelope.message ≡ false → Said (known_at w.coord (marks_in w.steps) i (gxid_in envelope.message)) (parts_in w i (gxid_in envelope.message)) envelope.message) → Stayed (seg_did w (at i) e (seg_rule script (w.segs i) (here.Deliver from envelope) fails))
-    seg-stays w k v s e fails i from number envelope place2 finds received said =
+    seg-stays : (w : World) → Knows script w → Holds script w → Stayed w → (e : Event) (fails : Bool) (i : ℕ) (from : Node) (envelope : Envelope) → IsSegment script (at i) → IsGiven w e i from envelope → Stayed (seg_did w (at i) e (seg_rule script (w.segs i) (here.Deliver from envelope) fails))
+    seg-stays w k v s e fails i from envelope place2 d =
         record {
-          facts = seg-facts script some w k v s.facts e fails i from number envelope place2 finds received said;
+          facts = seg-facts script some w k v s.facts e (here.Deliver from envelope) fails i place2 d;
           more = s.more ++ ns;
           are = marks-last w.steps step ∙ ap (λ z. z ++ ns) s.are ∙ append_assoc (marks_in w0.steps) s.more ns;
-          unseen = each_append Quiet s.more ns s.unseen (each_append Quiet ms2 sent (each_weaker (NewWrite w i (gxid_in envelope.message)) Quiet (new-quiet w s i (gxid_in envelope.message)) ms2 (writes-new script w k v s.facts.ends e fails i from envelope received said taken_at)) (each_weaker NoPart Quiet no-part-quiet sent (sent-no-part (λ n. (on_event script (w.segs i) (here.Deliver from envelope) fails).seg.sent) (on_event script (w.segs i) (here.Deliver from envelope) fails).outs)));
-          taken = last-next script w k v s.facts.ends e fails i from envelope received said taken_at node.0 g.0 c.0 s.taken (eqb node.0 i && eqb g.0 (gxid_in envelope.message)) refl;
+          unseen = each_append Quiet s.more ns s.unseen (each_append Quiet ms2 sent (each_weaker (NewWrite w i (gxid_in envelope.message)) Quiet (new-quiet w s i (gxid_in envelope.message)) ms2 (writes-new script w k v s.facts.ends e fails i from envelope d.received d.said taken_at)) (each_weaker NoPart Quiet no-part-quiet sent (sent-no-part (λ n. (on_event script (w.segs i) (here.Deliver from envelope) fails).seg.sent) (on_event script (w.segs i) (here.Deliver from envelope) fails).outs)));
+          taken = last-next script w k v s.facts.ends e fails i from envelope d.received d.said taken_at node.0 g.0 c.0 s.taken (eqb node.0 i && eqb g.0 (gxid_in envelope.message)) refl;
         }
       where
         ms2 : List Mark
@@ -196,14 +196,17 @@ module _ (w0 : World) (node : Node) (g : Gxid) (c : Cid) (place : ℕ) where
         step : Step
         step = record { stamp = record { clock = clock_after (w.segs i).clock (here.Deliver from envelope); node = at i }; event = e; marks = ns }
 
-        t : IsFound (λ (l : Letter). TakenAt w l.to l.envelope.message) from (at i) number envelope
-        t = finds (λ (l : Letter). TakenAt w l.to l.envelope.message) s.facts.ends.taken
+        t : IsFound (λ (l : Letter). TakenAt w l.to l.envelope.message) from (at i) d.number envelope
+        t = given-is w e i from envelope d (λ (l : Letter). TakenAt w l.to l.envelope.message) s.facts.ends.taken
 
         taken_at : TakenAt w (at i) envelope.message
         taken_at = subst (λ (z : Envelope). TakenAt w (at i) z.message) t.told (subst (λ (n : Node). TakenAt w n t.letter.envelope.message) t.target t.is)
 
     all-stay : (es : List (Event × Bool)) (w : World) → Knows script w → Holds script w → Stayed w → Stayed (after script w es)
-    all-stay es w k v s = keeps-after script some Stayed coord-stays seg-stays es w k v s
+    all-stay es w k v s =
+        keeps-after script some Stayed coord-stays
+        (λ w k v s e x fails i place h. by-message script w e i (λ x. Stayed (seg_did w (at i) e (seg_rule script (w.segs i) x fails))) (λ from envelope d. seg-stays w k v s e fails i from envelope place d) x h)
+        es w k v s
 
 module _ (script : Script) (some : 1 ≤ script.segments) (es later : List (Event × Bool)) where
   pub views-stay : DoViewsStay (world_of script es) (after script (world_of script es) later)
@@ -224,7 +227,7 @@ module _ (script : Script) (some : 1 ≤ script.segments) (es later : List (Even
   has-risen =
       (keeps-after script some (Risen (horizon_of (world_of script es).coord.table).0)
       (λ w k v s e x fails ok d. record { facts = coord-facts script some w k v s.facts e x fails ok d; low = le-trans (horizon_of (world_of script es).coord.table).0 (horizon_of w.coord.table).0 (horizon_of (coordinator.on_event script w.coord x fails).coord.table).0 s.low (by script w k v s.facts.lows e x fails).went.low })
-      (λ w k v s e fails i from number envelope place finds received said. record { facts = seg-facts script some w k v s.facts e fails i from number envelope place finds received said; low = s.low })
+      (λ w k v s e x fails i place h. record { facts = seg-facts script some w k v s.facts e x fails i place h; low = s.low })
       later (world_of script es) (world_knows script some es) (world-holds script some es) (record { facts = world-facts script some es; low = le-refl (horizon_of (world_of script es).coord.table).0 })).low
     where
       le-trans : (a b c : ℕ) → a ≤ b → b ≤ c → a ≤ c

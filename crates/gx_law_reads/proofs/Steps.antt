@@ -18,7 +18,7 @@ use Rattle.gx_rules.specs.AtSegment.{seg_rule}
 use Rattle.gx_rules.specs.Machine.{Letter, World, after, at_node, can, can_here, coord_did, delivered, does, found, happens, new_world, node_of, seg_can, seg_did, world_of}
 use Rattle.gx_law_order.proofs.Letters.{IsFound, IsLetter, found_is}
 use Rattle.gx_law_order.proofs.Lists.{Each}
-use Rattle.gx_law_order.proofs.Ordered.{never_resumes}
+use Rattle.gx_law_order.proofs.Ordered.{resumes_there}
 use Rattle.gx_law_order.proofs.World.{Knows, happens_knows, new_knows}
 use Rattle.gx_law_commit.specs.Said.{Said, SaidAt, SaidIn, gxid_in, is_answer}
 use Rattle.gx_law_commit.specs.Standings.{at, known_at}
@@ -26,16 +26,43 @@ use Rattle.gx_law_commit.proofs.Always.{answer-of, each-zip, happens-holds, new-
 use Rattle.gx_law_commit.proofs.Events.{event-led}
 use Rattle.gx_law_commit.proofs.Everywhere.{Holds, parts_in}
 use Rattle.gx_law_commit.proofs.Ways.{Led}
+use Rattle.gx_ids.specs.declared.ids.Gxid.{Gxid}
 
 -- what is delivered to the coordinator was said
 abbrev pub SaidTo : World → NodeEvent → Type 0
 SaidTo w (here.Deliver from envelope) = is_answer envelope.message ≡ true → Said (known_at w.coord (marks_in w.steps) from.0 (gxid_in envelope.message)) (parts_in w from.0 (gxid_in envelope.message)) envelope.message
 SaidTo w _ = Unit {0}
 
+-- a message that was sent to a segment, and means what it says
+pub record IsGiven (w : World) (e : Event) (i : ℕ) (from : Node) (envelope : Envelope) : Type 0 where
+  pub number : ℕ
+  pub posted : found from (at i) number w.sent ≡ Some envelope
+  pub received : Receives w.steps e the_coordinator (at i) envelope.message
+  pub said : is_answer envelope.message ≡ false → Said (known_at w.coord (marks_in w.steps) i (gxid_in envelope.message)) (parts_in w i (gxid_in envelope.message)) envelope.message
+
+-- what a segment hears in an event that is admitted there: a message, or that a slice may go on
+abbrev pub HeardAt : Script → World → Event → ℕ → NodeEvent → Type 0
+HeardAt script w e i (here.Deliver from envelope) = IsGiven w e i from envelope
+HeardAt script w e i (here.Resume g) = seg_can script (w.segs i) (here.Resume g) ≡ true
+HeardAt script w e i _ = ⊥
+
+-- so far it hears messages alone
+pub by-message : (script : Script) (w : World) (e : Event) (i : ℕ) (P : NodeEvent → Type 0) → ((from : Node) (envelope : Envelope) → IsGiven w e i from envelope → P (here.Deliver from envelope)) → (x : NodeEvent) → HeardAt script w e i x → P x
+by-message script w e i P f (here.Deliver from envelope) h = f from envelope h
+by-message script w e i P f (here.Resume g) h = absurd (cc)
+by-message script w e i P f (here.Start s) h = absurd h
+by-message script w e i P f (here.End s) h = absurd h
+by-message script w e i P f (here.Resend j g) h = absurd h
+by-message script w e i P f here.Round h = absurd h
+
+-- a message that was given is found among the letters
+pub given-is : (w : World) (e : Event) (i : ℕ) (from : Node) (envelope : Envelope) → (d : IsGiven w e i from envelope) → (P : Letter → Type 0) → Each P w.sent → IsFound P from (at i) d.number envelope
+given-is w e i from envelope d P each = found_is P from (at i) d.number w.sent envelope each d.posted
+
 -- a step of either node keeps this
 module _ (script : Script) (some : 1 ≤ script.segments) (Q : World → Type 0)
     (coord-keeps : (w : World) → Knows script w → Holds script w → Q w → (e : Event) (x : NodeEvent) (fails : Bool) → coord_can script w.coord x ≡ true → SaidTo w x → Q (coord_did w e (coord_rule script w.coord x fails)))
-    (seg-keeps : (w : World) → Knows script w → Holds script w → Q w → (e : Event) (fails : Bool) (i : ℕ) (from : Node) (number : ℕ) (envelope : Envelope) → IsSegment script (at i) → ((P : Letter → Type 0) → Each P w.sent → IsFound P from (at i) number envelope) → Receives w.steps e the_coordinator (at i) envelope.message → (is_answer envelope.message ≡ false → Said (known_at w.coord (marks_in w.steps) i (gxid_in envelope.message)) (parts_in w i (gxid_in envelope.message)) envelope.message) → Q (seg_did w (at i) e (seg_rule script (w.segs i) (here.Deliver from envelope) fails)))
+    (seg-keeps : (w : World) → Knows script w → Holds script w → Q w → (e : Event) (x : NodeEvent) (fails : Bool) (i : ℕ) → IsSegment script (at i) → HeardAt script w e i x → Q (seg_did w (at i) e (seg_rule script (w.segs i) x fails)))
   where
     received : (w : World) (from to : Node) (number : ℕ) (envelope : Envelope) (fails : Bool) → Knows script w → Holds script w → Q w → found from to number w.sent ≡ Some envelope → can_here script w to (Some (here.Deliver from envelope)) ≡ true → Q (does script w (event.Receive from to number) to fails (Some (here.Deliver from envelope)))
     received w from to number envelope fails k v q fd ok = by_test (is_same_node to the_coordinator) refl ok
@@ -78,22 +105,32 @@ module _ (script : Script) (some : 1 ≤ script.segments) (Q : World → Type 0)
             subst (λ (n : Node). SaidAt w.coord w.segs (marks_in w.steps) n.0 envelope.message) d.target
             (subst (λ (z : Envelope). SaidAt w.coord w.segs (marks_in w.steps) d.letter.to.0 z.message) d.told (answer-of w d.letter false (ap (λ (z : Envelope). is_answer z.message) d.told ∙ a) d.is.1))
 
-        by_test : (b : Bool) → is_same_node to the_coordinator ≡ b → (if b then coord_can script w.coord (here.Deliver from envelope) else seg_can (here.Deliver from envelope)) ≡ true → Q (if b then coord_did w e (coord_rule script w.coord (here.Deliver from envelope) fails) else seg_did w to e (seg_rule script (w.segs to.0) (here.Deliver from envelope) fails))
+        by_test : (b : Bool) → is_same_node to the_coordinator ≡ b → (if b then coord_can script w.coord (here.Deliver from envelope) else seg_can script (w.segs to.0) (here.Deliver from envelope)) ≡ true → Q (if b then coord_did w e (coord_rule script w.coord (here.Deliver from envelope) fails) else seg_did w to e (seg_rule script (w.segs to.0) (here.Deliver from envelope) fails))
         by_test true is ok = coord-keeps w k v q e (here.Deliver from envelope) fails ok at-coordinator
         by_test false is ok =
             let p = place is d.is.0.link in
-            seg-keeps w k v q e fails to.0 from number envelope p.0 finds (record { number = number; is = ap (λ (n : Node). event.Receive n to number) p.1; sent = sent p.1 }) at-segment
+            seg-keeps w k v q e (here.Deliver from envelope) fails to.0 p.0 (record { number = number; posted = fd; received = record { number = number; is = ap (λ (n : Node). event.Receive n to number) p.1; sent = sent p.1 }; said = at-segment })
 
     arrives : (w : World) (from to : Node) (number : ℕ) (fails : Bool) (o : Option Envelope) → found from to number w.sent ≡ o → Knows script w → Holds script w → Q w → can_here script w to (delivered from o) ≡ true → Q (does script w (event.Receive from to number) to fails (delivered from o))
     arrives w from to number fails None e k v q ok = q
     arrives w from to number fails (Some envelope) e k v q ok = received w from to number envelope fails k v q e ok
 
-    same_not : (b : Bool) → b ≡ true → b ≡ false → ⊥
-    same_not b e h = grind arith
+    resumed : (w : World) (n : Node) (g : Gxid) (fails : Bool) → Knows script w → Holds script w → Q w → can_here script w n (Some (here.Resume g)) ≡ true → Q (does script w (event.Resume n g) n fails (Some (here.Resume g)))
+    resumed w n g fails k v q ok = by_test (is_same_node n the_coordinator) ok
+      where
+        e : Event
+        e = event.Resume n g
+
+        x : NodeEvent
+        x = here.Resume g
+
+        by_test : (b : Bool) → (if b then coord_can script w.coord x else seg_can script (w.segs n.0) x) ≡ true → Q (if b then coord_did w e (coord_rule script w.coord x fails) else seg_did w n e (seg_rule script (w.segs n.0) x fails))
+        by_test true ok = coord-keeps w k v q e x fails ok tt
+        by_test false ok = seg-keeps w k v q e x fails n.0 (resumes_there script some w n g k.well ok) ok
 
     event-keeps : (w : World) (e : Event) (fails : Bool) → Knows script w → Holds script w → Q w → can script w e ≡ true → Q (does script w e (node_of e) fails (at_node w e))
     event-keeps w (event.Receive from to number) fails k v q ok = arrives w from to number fails (found from to number w.sent) refl k v q ok
-    event-keeps w (event.Resume m g) fails k v q ok = absurd (same_not (can script w (event.Resume m g)) ok (never_resumes script some w m (here.Resume g) refl refl))
+    event-keeps w (event.Resume n g) fails k v q ok = resumed w n g fails k v q ok
     event-keeps w (event.Start x) fails k v q ok = coord-keeps w k v q (event.Start x) (here.Start x) fails ok tt
     event-keeps w (event.End x) fails k v q ok = coord-keeps w k v q (event.End x) (here.End x) fails ok tt
     event-keeps w (event.Resend j g) fails k v q ok = coord-keeps w k v q (event.Resend j g) (here.Resend j g) fails ok tt

@@ -13,9 +13,9 @@ use Rattle.gx_msg.specs.declared.message.Message.{Message}
 use Rattle.gx_msg.specs.declared.message.Message.TheVariants as message
 use Rattle.gx_script.specs.declared.Line.{Line}
 use Rattle.gx_script.specs.declared.Script.{Script}
-use Rattle.gx_session.specs.Session.{line_step}
-use Rattle.gx_session.specs.declared.state.Block.{Block}
-use Rattle.gx_session.specs.declared.state.Pending.{Pending}
+use Rattle.gx_script.specs.Session.{line_step}
+use Rattle.gx_script.specs.declared.state.Block.{Block}
+use Rattle.gx_script.specs.declared.state.Pending.{Pending}
 use Rattle.gx_store.specs.declared.event.Event.{Event}
 use Rattle.gx_store.specs.declared.mark.Mark.{Mark}
 use Rattle.gx_store.specs.declared.node.NodeEvent.{NodeEvent}
@@ -206,7 +206,7 @@ module _ (script : Script) (some : 1 ≤ script.segments) where
 
     -- IN EVERY WORLD
     world-waits : (es : List (Event × Bool)) → DoWait (world_of script es)
-    world-waits = always script some DoWait (λ es q e x fails h. event-waits es q e fails x h) (λ es q from to number envelope fails t. q) (λ k e. absurd (differ e))
+    world-waits = always script some DoWait (λ es q e x fails h. event-waits es q e fails x h) (λ es q e x fails i h. q) (λ k e. absurd (differ e))
       where
         differ : true ≡ false → ⊥
         differ e = cc

@@ -4,16 +4,14 @@ use Rattle.std.proofs.lemmas.Bool.Decides.{nat_tests}
 use Rattle.gx_ids.specs.declared.ids.Node.{Node}
 use Rattle.gx_script.specs.declared.Script.{Script}
 use Rattle.gx_store.specs.declared.event.Event.{Event}
-use Rattle.gx_store.specs.declared.event.Event.TheVariants.{Receive}
 use Rattle.gx_store.specs.declared.mark.Mark.{Mark}
 use Rattle.gx_store.specs.declared.node.NodeEvent.{NodeEvent}
-use Rattle.gx_store.specs.declared.node.NodeEvent.TheVariants.{Deliver}
 use Rattle.gx_store.specs.declared.run.Step.{Step}
 use Rattle.gx_store.specs.Journals.{is_same_node}
 use Rattle.gx_store.specs.Refusals.{the_coordinator}
 use Rattle.gx_rules.specs.AtCoordinator.{coord_can, coord_rule}
 use Rattle.gx_rules.specs.AtSegment.{seg_rule}
-use Rattle.gx_rules.specs.Machine.{World, after, at_node, can_here, coord_did, delivered, does, happens, new_world, node_of, seg_did, world_of}
+use Rattle.gx_rules.specs.Machine.{World, after, at_node, can_here, coord_did, delivered, does, happens, new_world, node_of, seg_did, world_of, seg_can}
 use Rattle.gx_law_order.specs.Runs.{steps_after}
 use Rattle.gx_law_runs.specs.Replays.{IsNextAtCoordinator, IsNextAtSegment, coordinator_after, here_at, is_admitted, segment_after, world_behind}
 use Rattle.gx_law_runs.proofs.Telling.{can-told}
@@ -67,22 +65,17 @@ module _ (script : Script) (w : World) (r : IsReplayed script w) where
 
   pub segment-next : (step : Step) (n : IsNextAtSegment script w.steps step) → (happens script w step.event n.fails).steps ≡ w.steps ++ step ∷ []
   segment-next step n =
-      ap (λ e. (happens script w e n.fails).steps) n.at
-      ∙ seg-happened e (Deliver n.from n.envelope) n.fails is ok step.stamp.node refl n.node
-      ∙ ap (λ s. w.steps ++ s ∷ []) (sym (same-step step _ _ e _ n.clock refl n.at n.marks))
+      seg-happened step.event n.here n.fails n.is ok step.stamp.node n.at n.node
+      ∙ ap (λ s. w.steps ++ s ∷ []) (sym (same-step step _ _ step.event _ n.clock refl refl n.marks))
     where
-      e : Event
-      e = Receive n.from step.stamp.node n.number
-
-      is : here_at w.steps e ≡ Some (Deliver n.from n.envelope)
-      is = ap (delivered n.from) n.is
-
       away : (m : Node) → 1 ≤ m.0 → is_same_node m the_coordinator ≡ false
       away m one = grind (arith, nat_tests)
 
-      ok : is_admitted script w.steps e ≡ true
-      ok = ap (can_here script (world_behind script w.steps) step.stamp.node) is
-          ∙ ap (λ (b : Bool). if b then coord_can script (coordinator_after script w.steps) (Deliver n.from n.envelope) else true) (away step.stamp.node n.node)
+      ok : is_admitted script w.steps step.event ≡ true
+      ok = ap (λ m. can_here script (world_behind script w.steps) m (here_at w.steps step.event)) n.at
+          ∙ ap (can_here script (world_behind script w.steps) step.stamp.node) n.is
+          ∙ ap (λ (b : Bool). if b then coord_can script (coordinator_after script w.steps) n.here else seg_can script (segment_after script step.stamp.node w.steps) n.here) (away step.stamp.node n.node)
+          ∙ n.admitted
 
 module _ (script : Script) (es : List (Event × Bool)) (step : Step) where
   abbrev w : World

@@ -3,14 +3,12 @@ use Rattle.std.proofs.Common.{◌≡◌, List, [], ◌∷◌, ◌++◌, Bool, tr
 use Rattle.std.proofs.lemmas.Bool.Decides.{nat_tests}
 use Rattle.gx_ids.specs.declared.ids.Node.{Node}
 use Rattle.gx_script.specs.declared.Script.{Script}
-use Rattle.gx_store.specs.declared.node.NodeEvent.TheVariants.{Deliver}
 use Rattle.gx_store.specs.declared.run.Step.{Step}
 use Rattle.gx_store.specs.Journals.{is_same_node}
 use Rattle.gx_store.specs.Refusals.{the_coordinator}
 use Rattle.gx_rules.specs.AtCoordinator.{coord_rule}
 use Rattle.gx_rules.specs.AtSegment.{seg_rule}
 use Rattle.gx_rules.specs.Coordinators.{Coord, CoordTurn, new_coordinator}
-use Rattle.gx_rules.specs.Machine.{delivered}
 use Rattle.gx_rules.specs.Segments.{Seg, SegTurn, new_segment}
 use Rattle.gx_law_runs.specs.Replays.{IsNextAtCoordinator, IsNextAtSegment, coordinator_after, coordinator_by, has_failed, here_at, segment_after, segment_by}
 use Rattle.gx_law_runs.proofs.Failing.{coordinator-tells, segment-tells}
@@ -38,15 +36,14 @@ module _ (script : Script) (steps : List Step) (step : Step) where
       ∙ ap (λ ms. (coord_rule script c n.here (has_failed ms)).coord) n.marks
       ∙ ap (λ (t : CoordTurn). t.coord) (coordinator-tells script c n.here n.fails)
 
-  pub segment-moved : (n : IsNextAtSegment script steps step) → segment_after script step.stamp.node (steps ++ step ∷ []) ≡ (seg_rule script (segment_after script step.stamp.node steps) (Deliver n.from n.envelope) n.fails).seg
+  pub segment-moved : (n : IsNextAtSegment script steps step) → segment_after script step.stamp.node (steps ++ step ∷ []) ≡ (seg_rule script (segment_after script step.stamp.node steps) n.here n.fails).seg
   segment-moved n =
       let s : Seg = segment_after script step.stamp.node steps in
       segment-last script step.stamp.node (new_segment step.stamp.node) [] steps step
       ∙ ap (λ (b : Bool). if b then segment_by script s (here_at steps step.event) (has_failed step.marks) else s) (self step.stamp.node)
-      ∙ ap (λ e. segment_by script s (here_at steps e) (has_failed step.marks)) n.at
-      ∙ ap (λ o. segment_by script s (delivered n.from o) (has_failed step.marks)) n.is
-      ∙ ap (λ ms. (seg_rule script s (Deliver n.from n.envelope) (has_failed ms)).seg) n.marks
-      ∙ ap (λ (t : SegTurn). t.seg) (segment-tells script s (Deliver n.from n.envelope) n.fails)
+      ∙ ap (λ o. segment_by script s o (has_failed step.marks)) n.is
+      ∙ ap (λ ms. (seg_rule script s n.here (has_failed ms)).seg) n.marks
+      ∙ ap (λ (t : SegTurn). t.seg) (segment-tells script s n.here n.fails)
     where
       self : (node : Node) → is_same_node node node ≡ true
       self node = grind (arith, nat_tests)

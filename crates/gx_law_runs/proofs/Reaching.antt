@@ -1,5 +1,5 @@
 -- The runs that the machine reaches.
-use Rattle.std.proofs.Common.{◌≡◌, ◌≤◌, ℕ, ◌+◌, List, [], ◌∷◌, ◌++◌, Bool, true, refl, sym, subst, ap, ◌∙◌, ◌&&◌, length}
+use Rattle.std.proofs.Common.{◌≡◌, ◌≤◌, ℕ, ◌+◌, ◌*◌, List, [], ◌∷◌, ◌++◌, Bool, true, refl, sym, subst, ap, ◌∙◌, ◌&&◌, length}
 use Rattle.std.specs.List.{list_all}
 use Rattle.std.specs.declared.alloc.Global.{Global}
 use Rattle.std.specs.declared.vec.Vec.{Vec}
@@ -75,7 +75,7 @@ room-after script some es =
           let d = found_is (λ (l : Letter). l.envelope.clock ≤ length w.steps) from to number (letters_after w.steps) envelope (subst (λ ls. Each (λ (l : Letter). l.envelope.clock ≤ length w.steps) ls) r.sent stays.letters) f in
           subst (λ (x : Envelope). x.clock ≤ length w.steps) d.told d.is;
       next = subst (λ (c : Coord). c.table.next.0 ≤ length w.steps + 1) r.coordinator stays.room.next;
-      sent = λ i. subst (λ (c : Coord). c.sent i ≤ length w.steps) r.coordinator ((world-asks script some es).sent i);
+      sent = λ i. subst (λ (c : Coord). c.sent i ≤ 64 * length w.steps) r.coordinator ((world-asks script some es).sent i);
       answered = λ i one. subst (λ (s : Seg). s.sent ≤ length w.steps) (r.segments i one) (stays.room.answered i);
     }
   where

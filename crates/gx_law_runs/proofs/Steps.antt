@@ -50,7 +50,7 @@ module _ (script : Script) (w : World) (named : (i : ℕ) → 1 ≤ i → (w.seg
       away : is_same_node node the_coordinator ≡ false → 1 ≤ node.0
       away off = grind (arith, nat_tests)
 
-      by : (b : Bool) → is_same_node node the_coordinator ≡ b → (if b then coord_can script w.coord x else seg_can x) ≡ true
+      by : (b : Bool) → is_same_node node the_coordinator ≡ b → (if b then coord_can script w.coord x else seg_can script (w.segs node.0) x) ≡ true
           → Leads (if b then coord_did w e (coord_rule script w.coord x fails) else seg_did w node e (seg_rule script (w.segs node.0) x fails)) → MayFail node fails step.marks
       by true at may leads =
           subst (λ (n : Node). MayFail n fails step.marks) (sym (same-node node the_coordinator at))

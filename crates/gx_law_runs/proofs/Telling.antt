@@ -14,6 +14,7 @@ use Rattle.gx_rules.specs.Coordinators.{Coord}
 use Rattle.gx_rules.specs.Machine.{World, at_node, can, can_here, coord_did, does, happens, node_of, seg_can, seg_did}
 use Rattle.gx_law_runs.specs.Replays.{AreReplayed, here_at, is_admitted, letters_after, world_behind}
 use Rattle.gx_law_runs.proofs.Replaying.{at-here, coordinator_step, segment_step}
+use Rattle.gx_rules.specs.Segments.{Seg}
 
 module _ (script : Script) (steps : List Step) (w : World) (r : AreReplayed script steps w) (same : w.steps ≡ steps) where
   abbrev v : World
@@ -25,7 +26,14 @@ module _ (script : Script) (steps : List Step) (w : World) (r : AreReplayed scri
   -- what is admitted
   can-alike : (node : Node) (o : Option NodeEvent) → can_here script w node o ≡ can_here script v node o
   can-alike node None = refl
-  can-alike node (Some x) = ap (λ (c : Coord). if is_same_node node the_coordinator then coord_can script c x else seg_can x) r.coordinator
+  can-alike node (Some x) = by_node (is_same_node node the_coordinator) refl
+    where
+      one : is_same_node node the_coordinator ≡ false → 1 ≤ node.0
+      one away = grind (arith, nat_tests)
+
+      by_node : (b : Bool) → is_same_node node the_coordinator ≡ b → (if b then coord_can script w.coord x else seg_can script (w.segs node.0) x) ≡ (if b then coord_can script v.coord x else seg_can script (v.segs node.0) x)
+      by_node true at = ap (λ (c : Coord). coord_can script c x) r.coordinator
+      by_node false away = ap (λ (s : Seg). seg_can script s x) (r.segments node.0 (one away))
 
   pub can-told : (e : Event) → can script w e ≡ is_admitted script steps e
   can-told e = ap (can_here script w (node_of e)) (here-alike e) ∙ can-alike (node_of e) (at_node v e)

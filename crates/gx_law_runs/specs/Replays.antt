@@ -3,21 +3,18 @@
 use Rattle.std.specs.Prelude.{◌≡◌, ◌≤◌, ℕ, Bool, true, false, if◌then◌else◌, List, [], ◌∷◌, ◌++◌, Some, None}
 use Rattle.std.specs.declared.option.Option.{Option}
 use Rattle.gx_ids.specs.declared.ids.Node.{Node}
-use Rattle.gx_msg.specs.declared.message.Envelope.{Envelope}
 use Rattle.gx_script.specs.declared.Script.{Script}
 use Rattle.gx_store.specs.declared.event.Event.{Event}
-use Rattle.gx_store.specs.declared.event.Event.TheVariants.{Receive}
 use Rattle.gx_store.specs.declared.mark.Mark.{Mark}
 use Rattle.gx_store.specs.declared.mark.Mark.TheVariants.{JournalFailed}
 use Rattle.gx_store.specs.declared.node.NodeEvent.{NodeEvent}
-use Rattle.gx_store.specs.declared.node.NodeEvent.TheVariants.{Deliver}
 use Rattle.gx_store.specs.declared.run.Step.{Step}
 use Rattle.gx_store.specs.Journals.{is_same_node}
 use Rattle.gx_store.specs.Refusals.{the_coordinator}
 use Rattle.gx_rules.specs.AtCoordinator.{coord_can, coord_rule}
 use Rattle.gx_rules.specs.AtSegment.{seg_rule}
 use Rattle.gx_rules.specs.Coordinators.{Coord, new_coordinator}
-use Rattle.gx_rules.specs.Machine.{Letter, World, at_node, can, found, new_world, node_of, posted}
+use Rattle.gx_rules.specs.Machine.{Letter, World, at_node, can, new_world, node_of, posted, seg_can}
 use Rattle.gx_rules.specs.Segments.{Seg, new_segment}
 
 -- a journal failed in these marks
@@ -97,14 +94,13 @@ pub record IsNextAtCoordinator (script : Script) (steps : List Step) (step : Ste
   pub marks : step.marks ≡ (coord_rule script (coordinator_after script steps) here fails).marks
   pub clock : step.stamp.clock ≡ (coord_rule script (coordinator_after script steps) here fails).coord.clock
 
--- and one of a segment: a message that was posted to it, taken by its rule on what it holds
+-- and one of a segment, likewise
 pub record IsNextAtSegment (script : Script) (steps : List Step) (step : Step) : Type 0 where
   pub node : 1 ≤ step.stamp.node.0
-  pub from : Node
-  pub number : ℕ
-  pub envelope : Envelope
+  pub at : node_of step.event ≡ step.stamp.node
+  pub here : NodeEvent
   pub fails : Bool
-  pub at : step.event ≡ Receive from step.stamp.node number
-  pub is : found from step.stamp.node number (letters_after steps) ≡ Some envelope
-  pub marks : step.marks ≡ (seg_rule script (segment_after script step.stamp.node steps) (Deliver from envelope) fails).marks
-  pub clock : step.stamp.clock ≡ (seg_rule script (segment_after script step.stamp.node steps) (Deliver from envelope) fails).seg.clock
+  pub is : here_at steps step.event ≡ Some here
+  pub admitted : seg_can script (segment_after script step.stamp.node steps) here ≡ true
+  pub marks : step.marks ≡ (seg_rule script (segment_after script step.stamp.node steps) here fails).marks
+  pub clock : step.stamp.clock ≡ (seg_rule script (segment_after script step.stamp.node steps) here fails).seg.clock

@@ -59,7 +59,7 @@ pub fn coordinators_steps_move_it()
 /// So is what a segment holds after its step.
 pub fn segments_steps_move_it()
     ensures { (script : Script) (steps : List OneStep) (step : OneStep) (next : IsNextAtSegment script steps step)
-        → segment_after script step.stamp.node (steps ++ step ∷ []) ≡ (seg_rule script (segment_after script step.stamp.node steps) (here.Deliver next.from next.envelope) next.fails).seg }
+        → segment_after script step.stamp.node (steps ++ step ∷ []) ≡ (seg_rule script (segment_after script step.stamp.node steps) next.here next.fails).seg }
 {}
 
 /// Steps of segments leave what the coordinator holds.

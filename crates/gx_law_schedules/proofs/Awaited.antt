@@ -1,5 +1,5 @@
 -- In every run, what the steps say was asked of a segment is what the coordinator awaits of it.
-use Rattle.std.proofs.Common.{◌≡◌, ◌≤◌, ◌<◌, ℕ, ◌+◌, List, [], ◌∷◌, ◌++◌, Option, Some, None, Bool, true, false, refl, sym, subst, ap, ◌∙◌, if◌then◌else◌, ◌&&◌, arith, eqb, append-nil, length}
+use Rattle.std.proofs.Common.{◌≡◌, ◌≤◌, ◌<◌, ℕ, ◌+◌, ◌*◌, List, [], ◌∷◌, ◌++◌, Option, Some, None, Bool, true, false, refl, sym, subst, ap, ◌∙◌, if◌then◌else◌, ◌&&◌, arith, eqb, append-nil, length}
 use Rattle.std.proofs.lemmas.Bool.{eqb-true}
 use Rattle.std.proofs.lemmas.Bool.Decides.{nat_tests}
 use Rattle.std.proofs.lemmas.List.{append_assoc}
@@ -41,7 +41,7 @@ use Rattle.gx_law_schedules.proofs.Fitted.{AreServed, LetterServes, Served, coor
 use Rattle.gx_law_schedules.proofs.Fitting.{SaysSo}
 use Rattle.gx_law_schedules.proofs.Neat.{waiting-none}
 use Rattle.gx_law_schedules.proofs.Room.{length-last}
-use Rattle.gx_law_schedules.proofs.Steps.{IsHere, IsThere, always}
+use Rattle.gx_law_schedules.proofs.Steps.{IsHere, IsThere, always, by-message}
 use Rattle.gx_law_schedules.proofs.Told.{asked-numbered, asked-plain, sends, sent-numbered}
 use Rattle.gx_law_schedules.proofs.Turning.{FitsEvent, FitsMessage, event-asks}
 use Rattle.gx_law_schedules.proofs.World.{world-letters}
@@ -85,7 +85,7 @@ pub record DoAsk (w : World) : Type 0 where
   pub asks : (i : Node) (g : ℕ) → asked w.steps i (gx g) ≡ awaited w.coord (gx g) i
   pub neat : AreNeat w.coord
   pub served : AreServed w
-  pub sent : (i : ℕ) → w.coord.sent i ≤ length w.steps
+  pub sent : (i : ℕ) → w.coord.sent i ≤ 64 * length w.steps
 
 module _ (script : Script) (some : 1 ≤ script.segments) where
   -- what is delivered fits
@@ -172,7 +172,7 @@ module _ (script : Script) (some : 1 ≤ script.segments) where
           sent = λ i. adds _ (turn.coord.sent i) (v.coord.sent i) (length v.steps) (sends (at i) turn.outs) _ (counted-all turn.coord.sent turn.outs i ∙ ap (λ k. turn.coord.sent i + k) (sent-numbered (at i) turn.coord.sent turn.outs)) (ap (λ (f : ℕ → ℕ). f i) stays.counts) (asks-now.sends_one (at i)) (q.sent i) (length-last v.steps step);
         }
       where
-        adds : (r a b n k m : ℕ) → r ≡ a + k → a ≡ b → k ≤ 1 → b ≤ n → m ≡ n + 1 → r ≤ m
+        adds : (r a b n k m : ℕ) → r ≡ a + k → a ≡ b → k ≤ 1 → b ≤ 64 * n → m ≡ n + 1 → r ≤ 64 * m
         adds r a b n k m x e l h f = omega arith
 
   -- A STEP OF A SEGMENT
@@ -195,17 +195,20 @@ module _ (script : Script) (some : 1 ≤ script.segments) where
         away : (a : ℕ) → 1 ≤ a → is_same_node (at a) the_coordinator ≡ false
         away a l = grind (arith, nat_tests)
 
-        up : (a n m : ℕ) → a ≤ n → m ≡ n + 1 → a ≤ m
+        up : (a n m : ℕ) → a ≤ 64 * n → m ≡ n + 1 → a ≤ 64 * m
         up a n m l e = omega arith
 
   new-asks : DoAsk new_world
-  new-asks = record { asks = λ i g. refl; neat = λ g. record { writers = tt; txn = tt; command = tt }; served = record { orders = λ g m e. absurd (cc); locals = λ i h. record { answer = tt; vote = tt }; letters = tt }; sent = λ i. least 0 }
+  new-asks = record { asks = λ i g. refl; neat = λ g. record { writers = tt; txn = tt; command = tt }; served = record { orders = λ g m e. absurd (cc); locals = λ i h. record { answer = tt; vote = tt }; letters = tt }; sent = λ i. least (64 * 0) }
     where
       least : (n : ℕ) → 0 ≤ n
       least n = omega arith
 
   pub world-asks : (es : List (Event × Bool)) → DoAsk (world_of script es)
-  world-asks = always script some DoAsk (λ es q e x fails h. coord-asks es q e x fails h) (λ es q from to number envelope fails t. seg-asks es q from to number envelope fails t) new-asks
+  world-asks =
+      always script some DoAsk (λ es q e x fails h. coord-asks es q e x fails h)
+      (λ es q e x fails i h. by-message script some es e x i h (λ e x. DoAsk (seg_did (world_of script es) i e (seg_rule script ((world_of script es).segs i.0) x fails)))
+      (λ from number envelope t. seg-asks es q from i number envelope fails t)) new-asks
 
   -- nothing is awaited of who wasn't drawn
   pub undrawn-none : (es : List (Event × Bool)) (i : Node) (g : ℕ) → ((1 ≤ g) → (g < (world_of script es).coord.table.next.0) → ⊥) → awaited (world_of script es).coord (gx g) i ≡ None

@@ -27,7 +27,7 @@ use Rattle.gx_law_order.proofs.Ordered.{at-both, world_well}
 use Rattle.gx_law_order.proofs.World.{marks-last}
 use Rattle.gx_law_schedules.proofs.Quiet.{IsCalm, event-still, sent-calm}
 use Rattle.gx_law_schedules.proofs.QuietSegs.{seg-still}
-use Rattle.gx_law_schedules.proofs.Steps.{IsHere, IsThere, always}
+use Rattle.gx_law_schedules.proofs.Steps.{IsHere, IsThere, always, by-message}
 
 pub length-last : {A : Type 0} (xs : List A) (x : A) → length (xs ++ x ∷ []) ≡ length xs + 1
 length-last [] x = refl
@@ -192,4 +192,5 @@ module _ (script : Script) (some : 1 ≤ script.segments) where
   pub world-stays : (es : List (Event × Bool)) → Stays (world_of script es)
   world-stays =
       always script some Stays (λ es q e x fails h. coord-stays (world_of script es) q e x fails h)
-      (λ es q from to number envelope fails h. seg-stays (world_of script es) q from to number envelope fails h ((world_well script some es).names to.0)) new-stays
+      (λ es q e x fails i h. by-message script some es e x i h (λ e x. Stays (seg_did (world_of script es) i e (seg_rule script ((world_of script es).segs i.0) x fails)))
+      (λ from number envelope t. seg-stays (world_of script es) q from i number envelope fails t ((world_well script some es).names i.0))) new-stays

@@ -1,12 +1,13 @@
 -- How far counts can have come after so many steps.
-use Rattle.std.specs.Prelude.{ℕ, ◌+◌, ◌≤◌, length}
+use Rattle.std.specs.Prelude.{ℕ, ◌+◌, ◌*◌, ◌≤◌, length}
 use Rattle.gx_rules.specs.Machine.{World}
 
--- No clock, no number of a link's messages and no gxid is above what the number of steps allows: a step sends one message at
--- most on each link, and begins one transaction at most.
+-- No clock, no number of a link's messages and no gxid is above what the number of steps allows: a step of a segment sends one
+-- message at most on its link, one of the coordinator 64 at most on each, since it ends no more transactions than there are
+-- sessions, and a step begins one transaction at most.
 pub record HasRoom (w : World) : Type 0 where
   pub clock : w.coord.clock ≤ length w.steps
   pub clocks : (i : ℕ) → (w.segs i).clock ≤ length w.steps
   pub next : w.coord.table.next.0 ≤ length w.steps + 1
-  pub sent : (i : ℕ) → w.coord.sent i ≤ length w.steps
+  pub sent : (i : ℕ) → w.coord.sent i ≤ 64 * length w.steps
   pub answered : (i : ℕ) → (w.segs i).sent ≤ length w.steps

@@ -1,5 +1,5 @@
 -- A command that is awaited is under way.
-use Rattle.std.proofs.Common.{◌≡◌, inl, inr, ℕ, List, [], ◌∷◌, Some, true, false, refl, sym, subst, ap, ◌∙◌, arith, append-nil}
+use Rattle.std.proofs.Common.{◌≡◌, inl, inr, ℕ, ◌+◌, List, [], ◌∷◌, Some, true, false, refl, sym, subst, ap, ◌∙◌, arith, append-nil}
 use Rattle.gx_ids.specs.declared.ids.Cid.{Cid}
 use Rattle.gx_ids.specs.declared.ids.Gxid.{Gxid}
 use Rattle.gx_ids.specs.declared.ids.Node.{Node}
@@ -9,17 +9,17 @@ use Rattle.gx_dtx.specs.Nodes.{has}
 use Rattle.gx_msg.specs.declared.message.Message.{Message}
 use Rattle.gx_msg.specs.declared.message.Message.TheVariants as message
 use Rattle.gx_script.specs.declared.Script.{Script}
-use Rattle.gx_session.specs.declared.state.Block.{Block}
-use Rattle.gx_session.specs.declared.state.Block.TheVariants as block
-use Rattle.gx_session.specs.declared.state.Pending.{Pending}
-use Rattle.gx_session.specs.declared.state.Pending.TheVariants as pending
+use Rattle.gx_script.specs.declared.state.Block.{Block}
+use Rattle.gx_script.specs.declared.state.Block.TheVariants as block
+use Rattle.gx_script.specs.declared.state.Pending.{Pending}
+use Rattle.gx_script.specs.declared.state.Pending.TheVariants as pending
 use Rattle.gx_store.specs.declared.event.Event.TheVariants as event
 use Rattle.gx_store.specs.declared.mark.Mark.{Mark}
 use Rattle.gx_store.specs.declared.run.Step.{Step}
 use Rattle.gx_store.specs.Commands.{IsUnderWay}
-use Rattle.gx_store.specs.Lines.{cid_of, level_of}
-use Rattle.gx_store.specs.Marks.{is_ended}
-use Rattle.gx_store.specs.Points.{marks_in}
+use Rattle.gx_store.specs.Lines.{cid_of, is_command, level_of, next_stmt, state_of, transaction_of}
+use Rattle.gx_store.specs.Marks.{answer_count, is_ended}
+use Rattle.gx_store.specs.Points.{Point, before, marks_in, starts_at, starts_by, starts_in}
 use Rattle.gx_store.specs.Refusals.{the_coordinator}
 use Rattle.gx_rules.specs.Coordinators.{Command, Coord, Session, session_of, work_of}
 use Rattle.gx_rules.specs.Machine.{Letter, World}
@@ -38,6 +38,22 @@ use Rattle.gx_law_sessions.proofs.Busy.{busy-under}
 use Rattle.gx_law_sessions.proofs.Ends.{ended-more}
 use Rattle.gx_law_sessions.proofs.Gathers.{GathersIn}
 use Rattle.gx_law_sessions.proofs.Replies.{Works, same-gxid, works-on}
+use Rattle.gx_store.specs.declared.event.Event.{Event}
+use Rattle.gx_tree.specs.declared.stmt.Stmt.{Stmt}
+
+-- ANOTHER PLACE WITH THE SAME MARKS BEFORE IT
+pub under-there : (script : Script) (p q : Point) (s : SessionId) (line : Stmt) (level : Level) (g : Gxid) (c : Cid) → starts_at s p ≡ starts_at s q → before p ≡ before q → IsUnderWay script p s line level g c → IsUnderWay script q s line level g c
+under-there script p q s line level g c starts same u =
+    record {
+      runs = record {
+        line = record { started = sym starts ∙ u.runs.line.started ∙ ap (λ m. answer_count s m + 1) same; line = subst (λ m. next_stmt s script m ≡ Some line) same u.runs.line.line };
+        command = subst (λ m. is_command (state_of script s m) line ≡ true) same u.runs.command;
+        transaction = subst (λ m. transaction_of (state_of script s m) s m ≡ Some g) same u.runs.transaction;
+        number = subst (λ m. c ≡ cid_of (state_of script s m)) same u.runs.number;
+        isolation = subst (λ m. level ≡ level_of (state_of script s m)) same u.runs.isolation;
+      };
+      running = subst (λ m. is_ended m g ≡ false) same u.running;
+    }
 
 silents : (ms : List Mark) → AreSilent ms → Each IsSilent ms
 silents [] e = tt
@@ -90,9 +106,15 @@ module _ (script : Script) (steps : List Step) (c : Coord) (k : Kept c) (all : (
           (under-way script steps (event.Receive from to number) s m.stmt _ (state_in y.state.block q.stands.commands) (is_alone y.state.block pending.Command) (Some g) earlier a later g o.has refl z.command
           (ended-more (marks_in steps) earlier g (subst (λ x. is_ended x g ≡ false) (append-nil (marks_in steps)) o.running) (silent-ended g earlier (silents earlier quiet)))))
 
+  -- an event that starts no line of the session stands as a receipt does
+  runs-in : (cid : Cid) (level : Level) → m.cid ≡ cid → level ≡ (work_of c g).level → (e : Event) (earlier later : List Mark) → starts_by s e ≡ 0 → AreSilent earlier → IsUnderWay script (record { steps = steps; event = e; earlier = earlier; later = later }) s m.stmt level g cid
+  runs-in cid level same lev e earlier later none quiet =
+      under-there script (record { steps = steps; event = event.Receive the_coordinator the_coordinator 0; earlier = earlier; later = later }) (record { steps = steps; event = e; earlier = earlier; later = later }) s m.stmt level g cid
+      (ap (λ a. starts_in s steps + a) (sym none)) refl (runs-at cid level same lev the_coordinator the_coordinator 0 earlier later quiet)
+
   pub behind : (cid : Cid) (level : Level) → m.cid ≡ cid → level ≡ (work_of c g).level → IsUnderWayBehind script steps level g cid
   behind cid level same lev =
-      record { session = s; line = m.stmt; of = λ n. of-works n (works-at the_coordinator the_coordinator 0); runs = runs-at cid level same lev }
+      record { session = s; line = m.stmt; of = λ n. of-works n (works-at the_coordinator the_coordinator 0); runs = runs-in cid level same lev }
     where
       of-works : AreLinesNumbered [] script.lines → Works script steps c k all gath the_coordinator the_coordinator 0 g y.state.block m → stmt_of_command script (marks_in steps) g cid ≡ Some m.stmt
       of-works n z =

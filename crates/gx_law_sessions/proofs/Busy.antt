@@ -11,11 +11,11 @@ use Rattle.gx_tree.specs.declared.stmt.Stmt.{Stmt}
 use Rattle.gx_tree.specs.declared.stmt.Stmt.TheVariants as stmt
 use Rattle.gx_dtx.specs.Rules.{Turn}
 use Rattle.gx_script.specs.declared.Script.{Script}
-use Rattle.gx_session.specs.Session.{after_done, block_after_done}
-use Rattle.gx_session.specs.declared.state.Block.{Block}
-use Rattle.gx_session.specs.declared.state.Block.TheVariants as block
-use Rattle.gx_session.specs.declared.state.Pending.{Pending}
-use Rattle.gx_session.specs.declared.state.Pending.TheVariants as pending
+use Rattle.gx_script.specs.Session.{after_done, block_after_done}
+use Rattle.gx_script.specs.declared.state.Block.{Block}
+use Rattle.gx_script.specs.declared.state.Block.TheVariants as block
+use Rattle.gx_script.specs.declared.state.Pending.{Pending}
+use Rattle.gx_script.specs.declared.state.Pending.TheVariants as pending
 use Rattle.gx_store.specs.declared.answer.StmtAnswer.{StmtAnswer}
 use Rattle.gx_store.specs.declared.answer.StmtAnswer.TheVariants as told
 use Rattle.gx_store.specs.declared.event.Event.{Event}
@@ -48,7 +48,7 @@ use Rattle.gx_law_sessions.proofs.AtLine.{AtLine, answered-now, at-calm, has_txn
 use Rattle.gx_law_sessions.proofs.Awaited.{IsAwaited, IsSettled, OutAwaits, OwnIn, none-awaited, own-none}
 use Rattle.gx_law_sessions.proofs.Ends.{Fresh, IsOf}
 use Rattle.gx_law_sessions.proofs.Frame.{Does, owns-more}
-use Rattle.gx_law_sessions.proofs.Gathers.{Gathers, GathersIn, HeardNow, gathered-is}
+use Rattle.gx_law_sessions.proofs.Gathers.{Gathers, GathersIn, HeardNow, gathered-back, gathered-is}
 use Rattle.gx_law_sessions.proofs.Given.{Given}
 use Rattle.gx_law_sessions.proofs.Outs.{CommandIs, IsBare, OutIs}
 use Rattle.gx_law_sessions.proofs.Roots.{roots-answered, roots-on}
@@ -235,6 +235,7 @@ module _ (script : Script) (steps : List Step) (c : Coord) (from : Node) (to : N
           transaction = subst (λ z. transaction_of z s (ms ++ earlier) ≡ Some g) a.said.state (transaction-is script steps e s line n b (is_alone B P) (Some g) earlier a later g has-txn refl);
           end = end;
           told = told-is script (record { steps = steps; event = e; earlier = earlier; later = later }) s b line m cmd rest line (level_of b) g (cid_of b) (runs-command script steps e s line n b (is_alone B P) (Some g) earlier a later g has-txn refl cmd) gathered;
+          back = gathered-back script (record { steps = steps; event = e; earlier = earlier; later = later }) g (cid_of b) line (command_answer m line) gathered;
         })
 
     gathered-here : (m : Command) → Gathers script (HeardNow steps e) g m → m.awaited ≡ [] → m.cid ≡ cid_of b → m.stmt ≡ line → (earlier later : List Mark) → IsGathered script (record { steps = steps; event = e; earlier = earlier; later = later }) g (cid_of b) line (command_answer m line)
@@ -254,17 +255,17 @@ module _ (script : Script) (steps : List Step) (c : Coord) (from : Node) (to : N
     told-committed t m later stmt level h cid runs gathered =
         subst (λ x. RunsCommand script (record { steps = steps; event = e; earlier = mark.Commit g ∷ []; later = later }) s stmt level x cid → IsGathered script (record { steps = steps; event = e; earlier = mark.Commit g ∷ []; later = later }) x cid stmt (command_answer m line) → Tells script (ms ++ mark.Commit g ∷ []) level x cid stmt (command_answer m line))
         (same-txn (mark.Commit g ∷ []) (at-calm script steps e s line n b (is_alone B P) (Some g) [] (mark.Commit g ∷ []) at-now (tt, tt)) later h runs.transaction)
-        (λ r q. t.committed from to number later s stmt level g cid (command_answer m line) r q) runs gathered
+        (λ r q. t.committed e later s stmt level g cid (command_answer m line) refl r q) runs gathered
 
     told-inside : AreCommandsTold script steps → (m : Command) (later : List Mark) → IsTold script (record { steps = steps; event = e; earlier = []; later = later }) s (command_answer m line)
-    told-inside t m later stmt level h cid runs gathered = t.told from to number later s stmt level h cid (command_answer m line) runs gathered
+    told-inside t m later stmt level h cid runs gathered = t.told e later s stmt level h cid (command_answer m line) refl runs gathered
 
     pub caused-by : AreCommandsTold script steps → (why : Cause) (later : List Mark) → IsCaused script (record { steps = steps; event = e; earlier = mark.Abort g ∷ []; later = later }) s (reason_of why)
     caused-by t why later stmt level h cid segment cause runs received same =
         subst (λ r. IsCause (record { steps = steps; event = e; earlier = mark.Abort g ∷ []; later = later }) stmt level h cid r) (sym same)
         (subst (λ x. RunsCommand script (record { steps = steps; event = e; earlier = mark.Abort g ∷ []; later = later }) s stmt level x cid → Receives steps e segment the_coordinator (message.Answer x (reply.Failed cid cause)) → IsCause (record { steps = steps; event = e; earlier = mark.Abort g ∷ []; later = later }) stmt level x cid (reason_of cause))
         (same-txn (mark.Abort g ∷ []) (at-calm script steps e s line n b (is_alone B P) (Some g) [] (mark.Abort g ∷ []) at-now (tt, tt)) later h runs.transaction)
-        (λ r q. t.refused from to number later s stmt level g cid segment cause r q) runs received)
+        (λ r q. t.refused e later s stmt level g cid segment cause refl r q) runs received)
 
     pub alone-commit : (c1 : Coord) (w : Work) (m : Command) (turn : Turn) → Gathers script (HeardNow steps e) g m → m.awaited ≡ [] → m.cid ≡ cid_of b → Under script steps c e c1 s g w y n b (is_alone B P) line [] → B ≡ block.Outside → P ≡ pending.Command → w.command ≡ Some m → m.stmt ≡ line → is_command b line ≡ true → turn.table.next.0 ≡ c1.table.next.0 → Each IsBare turn.out.outs → ((a : Cid) (i : Node) (level : Level) → IsAwaited (c.works g.0) a i level → HasAnswered (HeardNow steps e) i g a) → Does script steps c e (is_closed c1 g turn)
     alone-commit c1 w m turn gath none its_cid o outside working has same cmd next outs over =

@@ -1,5 +1,5 @@
 -- The command of each EXEC was under way when it was sent.
-use Rattle.std.proofs.Common.{◌≡◌, ◌≤◌, ◌⊎◌, inl, inr, ℕ, ◌+◌, List, [], ◌∷◌, ◌++◌, Some, true, false, refl, sym, subst, ap, ◌∙◌, arith, append_assoc, append-nil}
+use Rattle.std.proofs.Common.{◌≡◌, ◌⊎◌, inl, inr, ℕ, ◌+◌, List, [], ◌∷◌, ◌++◌, Some, true, false, refl, sym, subst, ap, ◌∙◌, arith, append_assoc, append-nil}
 use Rattle.gx_ids.specs.declared.ids.Cid.{Cid}
 use Rattle.gx_ids.specs.declared.ids.Gxid.{Gxid}
 use Rattle.gx_ids.specs.declared.ids.Node.{Node}
@@ -11,12 +11,11 @@ use Rattle.gx_msg.specs.declared.message.Message.TheVariants as message
 use Rattle.gx_msg.specs.declared.message.Out.{Out}
 use Rattle.gx_script.specs.declared.Script.{Script}
 use Rattle.gx_store.specs.declared.event.Event.TheVariants as event
-use Rattle.gx_store.specs.declared.mark.Mark.{Mark}
 use Rattle.gx_store.specs.declared.run.Step.{Step}
 use Rattle.gx_store.specs.Commands.{IsUnderWay}
 use Rattle.gx_store.specs.Lines.{cid_of, is_command, level_of, next_stmt, state_of, transaction_of}
 use Rattle.gx_store.specs.Marks.{answer_count, is_ended}
-use Rattle.gx_store.specs.Points.{IsPointOf, Point, before, marks_in, starts_at, starts_by, starts_in}
+use Rattle.gx_store.specs.Points.{IsPointOf, Point, before, marks_in, starts_at, starts_in}
 use Rattle.gx_store.specs.Refusals.{the_coordinator}
 use Rattle.gx_store.proofs.Runs.{marks_in-push, starts_in-push}
 use Rattle.gx_rules.specs.Coordinators.{Coord}
@@ -27,24 +26,10 @@ use Rattle.gx_law_order.proofs.Stages.{gx}
 use Rattle.gx_law_sessions.specs.Alive.{HasRun, HaveRun, IsHeard, IsUnderWayBehind, WasUnderWay}
 use Rattle.gx_law_sessions.specs.Scanned.{stmt_of_command}
 use Rattle.gx_law_sessions.specs.Standing.{IsSession}
-use Rattle.gx_law_sessions.proofs.Alive.{behind}
+use Rattle.gx_law_sessions.proofs.Alive.{behind, under-there}
 use Rattle.gx_law_sessions.proofs.Awaited.{IsAwaited, IsAwaitedOut, OutAwaits}
 use Rattle.gx_law_sessions.proofs.Gathers.{GathersIn}
 use Rattle.gx_law_sessions.proofs.Outs.{of-more}
-
--- ANOTHER PLACE WITH THE SAME MARKS BEFORE IT
-under-there : (script : Script) (p q : Point) (s : SessionId) (line : Stmt) (level : Level) (g : Gxid) (c : Cid) → starts_at s p ≡ starts_at s q → before p ≡ before q → IsUnderWay script p s line level g c → IsUnderWay script q s line level g c
-under-there script p q s line level g c starts same u =
-    record {
-      runs = record {
-        line = record { started = sym starts ∙ u.runs.line.started ∙ ap (λ m. answer_count s m + 1) same; line = subst (λ m. next_stmt s script m ≡ Some line) same u.runs.line.line };
-        command = subst (λ m. is_command (state_of script s m) line ≡ true) same u.runs.command;
-        transaction = subst (λ m. transaction_of (state_of script s m) s m ≡ Some g) same u.runs.transaction;
-        number = subst (λ m. c ≡ cid_of (state_of script s m)) same u.runs.number;
-        isolation = subst (λ m. level ≡ level_of (state_of script s m)) same u.runs.isolation;
-      };
-      running = subst (λ m. is_ended m g ≡ false) same u.running;
-    }
 
 -- THE POINT BEHIND THE LAST STEP
 abbrev Ends : List Step → Type 0
@@ -61,8 +46,8 @@ ends (x ∷ xs) = by_rest (ends xs)
 pub was-behind : (script : Script) (steps : List Step) (level : Level) (g : Gxid) (c : Cid) → IsUnderWayBehind script steps level g c → WasUnderWay script steps g c
 was-behind script steps level g c u = by_end (ends steps)
   where
-    here : IsUnderWay script (record { steps = steps; event = event.Receive the_coordinator the_coordinator 0; earlier = []; later = [] }) u.session u.line level g c
-    here = u.runs the_coordinator the_coordinator 0 [] [] tt
+    here : IsUnderWay script (record { steps = steps; event = event.Round; earlier = []; later = [] }) u.session u.line level g c
+    here = u.runs event.Round [] [] refl tt
 
     none-started : (n : ℕ) → n ≡ 0 → (m : ℕ) → n + 0 ≡ m + 1 → ⊥
     none-started n z m e = omega arith

@@ -36,7 +36,7 @@ use Rattle.gx_law_order.proofs.Sent.{at}
 use Rattle.gx_law_order.proofs.Stages.{gx}
 use Rattle.gx_law_order.proofs.World.{Knows, marks-last}
 use Rattle.gx_law_sessions.specs.Finish.{AreCommandsTold}
-use Rattle.gx_law_sessions.specs.Rest.{EachMark, Rest}
+use Rattle.gx_law_sessions.specs.Rest.{EachMark, Rest, StartsNothing}
 use Rattle.gx_law_sessions.specs.Standing.{AreSessions, IsSession}
 use Rattle.gx_law_sessions.proofs.After.{does-sessions, quiet-silent, sent-silent, silent-fresh, silent-sessions}
 use Rattle.gx_law_sessions.proofs.Awaited.{IsAwaited, IsSettled, OutAwaits, OwnIn, StateOf}
@@ -49,7 +49,7 @@ use Rattle.gx_law_sessions.proofs.Given.{Given, marks-append, sent-given, sent-r
 use Rattle.gx_law_sessions.proofs.Outs.{CommandIs, MessageIs, OutIs, command-more, order-more, outs-more}
 use Rattle.gx_law_sessions.proofs.Ran.{LetterRan, RanOf, ran-later, rans-sent}
 use Rattle.gx_law_sessions.proofs.Notes.{SegNoted, local-more, noted-more, seg-notes}
-use Rattle.gx_law_sessions.proofs.Steps.{AreGiven, given-last, no-start, quiet-given, quiet-rest, segment-silent, silent-given}
+use Rattle.gx_law_sessions.proofs.Steps.{AreGiven, drawn-no, ends-no, given-last, legal-no, no-start, quiet-given, quiet-rest, segment-silent, silent-given, starts-no}
 use Rattle.gx_law_sessions.proofs.Sendings.{IsOrderLetter, IsToldOf, LetterState, SentIs, awaited-by, away-all, coord-sent, each-posted, le-same, numbered-sent, outs-sent, plain-sent, state-moves, states-sent}
 
 -- WHAT HOLDS BETWEEN STEPS
@@ -251,13 +251,13 @@ module _ (script : Script) (some : 1 ≤ script.segments) (w : World) (n : Knows
       }
 
   -- A STEP OF A SEGMENT
-  pub seg-holds : (from to : Node) (number i : ℕ) → e ≡ event.Receive from to number → IsSegment script (at i) → Holds script (seg_did w (at i) e (seg_rule script (w.segs i) x fails))
-  seg-holds from to number i is place =
+  pub seg-holds : (i : ℕ) → StartsNothing e → IsSegment script (at i) → Holds script (seg_did w (at i) e (seg_rule script (w.segs i) x fails))
+  seg-holds i q place =
       record {
         numbers = h.numbers ∙ ap (λ a. a + 1) (sym (ap start_count (marks-last w.steps late) ∙ calm-more (marks_in w.steps) late.marks (no-start late.marks silent)));
         fresh = subst (λ m. Fresh m w.coord.table.next.0) (sym (marks-last w.steps late)) (fresh-more (marks_in w.steps) late.marks w.coord.table.next.0 w.coord.table.next.0 h.fresh (le-same w.coord.table.next.0) (silent-fresh w.coord.table.next.0 late.marks silent));
-        sessions = silent-sessions script w.steps w.coord h.sessions e w.coord late (λ j. refl) (λ j. refl) refl refl silent (λ j. (ap (starts_by j) is, ap (ends_by j) is));
-        given = given-last script [] w.steps late h.given (subst (LegalEvent script w.steps) (sym is) tt, subst (λ a. IsDrawn script w.steps a late.marks) (sym is) tt, subst (λ a. EachMark (Given script) w.steps a [] late.marks []) (sym is) (silent-given script w.steps from to number [] late.marks [] silent));
+        sessions = silent-sessions script w.steps w.coord h.sessions e w.coord late (λ j. refl) (λ j. refl) refl refl silent (λ j. (starts-no e q j, ends-no e q j));
+        given = given-last script [] w.steps late h.given (legal-no script w.steps e q, drawn-no script w.steps e late.marks q, silent-given script w.steps e q [] late.marks [] silent);
         notes = at-both (λ j (t : Seg). SegNoted (marks_in (w.steps ++ late ∷ [])) (at j) t) w.segs i _ (λ j. own-notes j) (λ j no. notes-kept late j);
         letters = each-posted (IsToldOf (marks_in (w.steps ++ late ∷ []))) (at i) (clock_after (w.segs i).clock x) late.marks w.sent told (letters-kept late);
         commands = commands-kept late;

@@ -1,5 +1,5 @@
 -- Steps whose marks are legal if the rest is.
-use Rattle.std.proofs.Common.{◌≡◌, ◌≤◌, ℕ, List, [], ◌∷◌, ◌++◌, sym, subst, ap, arith, append-nil}
+use Rattle.std.proofs.Common.{◌≡◌, ◌≤◌, ℕ, List, [], ◌∷◌, ◌++◌, sym, subst, ap, arith, append-nil, refl}
 use Rattle.std.proofs.lemmas.List.{append_assoc}
 use Rattle.gx_ids.specs.declared.ids.Node.{Node}
 use Rattle.gx_script.specs.declared.Script.{Script}
@@ -14,10 +14,13 @@ use Rattle.gx_store.specs.Refusals.{the_coordinator}
 use Rattle.gx_law_order.proofs.Lists.{Each}
 use Rattle.gx_law_order.proofs.Numbers.{NoStart}
 use Rattle.gx_law_order.proofs.Sent.{at}
-use Rattle.gx_law_sessions.specs.Rest.{AreEventsLegal, AreRestLegal, EachMark, Rest}
+use Rattle.gx_law_sessions.specs.Rest.{AreEventsLegal, AreRestLegal, EachMark, Rest, StartsNothing, UnlessStart}
 use Rattle.gx_law_sessions.proofs.Frame.{Quiet}
 use Rattle.gx_law_sessions.specs.Alive.{IsSilent}
 use Rattle.gx_law_sessions.proofs.Given.{Given, given-legal}
+use Rattle.gx_store.specs.Points.{starts_by, ends_by}
+use Rattle.gx_store.specs.Faults.{LegalFault}
+use Rattle.gx_ids.specs.declared.ids.SessionId.{SessionId}
 
 -- STEPS
 abbrev pub IsGivenStep : Script → List Step → Step → Type 0
@@ -100,16 +103,57 @@ segment-silent script i one (mark.Answer s n a ∷ ms) e = absurd (not-zero e.0)
         zero-one i l e = omega arith
 segment-silent script i one (m ∷ ms) e = (tt, segment-silent script i one ms e.1)
 
--- they are legal if the rest is, in a step that receives a message
-pub silent-given : (script : Script) (steps : List Step) (from to : Node) (number : ℕ) (earlier ms later : List Mark) → Each IsSilent ms → EachMark (Given script) steps (event.Receive from to number) earlier ms later
-silent-given script steps from to number earlier [] later h = tt
-silent-given script steps from to number earlier (mark.Write g c n t r x ∷ ms) later h = (λ r. r, silent-given script steps from to number (earlier ++ mark.Write g c n t r x ∷ []) ms later h.1)
-silent-given script steps from to number earlier (mark.Skip g c r ∷ ms) later h = (λ r. r, silent-given script steps from to number (earlier ++ mark.Skip g c r ∷ []) ms later h.1)
-silent-given script steps from to number earlier (mark.Fault g c r x ∷ ms) later h = (λ r. r, silent-given script steps from to number (earlier ++ mark.Fault g c r x ∷ []) ms later h.1)
-silent-given script steps from to number earlier (mark.Recheck round own verdict ∷ ms) later h = (λ r. r, silent-given script steps from to number (earlier ++ mark.Recheck round own verdict ∷ []) ms later h.1)
-silent-given script steps from to number earlier (mark.Start g s ∷ ms) later h = absurd h.0
-silent-given script steps from to number earlier (mark.Snap g c x ∷ ms) later h = absurd h.0
-silent-given script steps from to number earlier (mark.Commit g ∷ ms) later h = absurd h.0
-silent-given script steps from to number earlier (mark.Abort g ∷ ms) later h = absurd h.0
-silent-given script steps from to number earlier (mark.Answer s n a ∷ ms) later h = absurd h.0
-silent-given script steps from to number earlier (m ∷ ms) later h = (λ r. tt, silent-given script steps from to number (earlier ++ m ∷ []) ms later h.1)
+-- WHERE NOTHING STARTS
+pub starts-no : (e : Event) → StartsNothing e → (s : SessionId) → starts_by s e ≡ 0
+starts-no (event.Receive from to number) q s = refl
+starts-no (event.Resume n g) q s = refl
+starts-no (event.Start t) q s = absurd q
+starts-no (event.End t) q s = absurd q
+starts-no (event.Resend i g) q s = refl
+starts-no event.Round q s = refl
+
+pub ends-no : (e : Event) → StartsNothing e → (s : SessionId) → ends_by s e ≡ 0
+ends-no (event.Receive from to number) q s = refl
+ends-no (event.Resume n g) q s = refl
+ends-no (event.Start t) q s = absurd q
+ends-no (event.End t) q s = absurd q
+ends-no (event.Resend i g) q s = refl
+ends-no event.Round q s = refl
+
+pub legal-no : (script : Script) (steps : List Step) (e : Event) → StartsNothing e → LegalEvent script steps e
+legal-no script steps (event.Receive from to number) q = tt
+legal-no script steps (event.Resume n g) q = tt
+legal-no script steps (event.Start t) q = absurd q
+legal-no script steps (event.End t) q = absurd q
+legal-no script steps (event.Resend i g) q = tt
+legal-no script steps event.Round q = tt
+
+pub drawn-no : (script : Script) (steps : List Step) (e : Event) (ms : List Mark) → StartsNothing e → IsDrawn script steps e ms
+drawn-no script steps (event.Receive from to number) ms q = tt
+drawn-no script steps (event.Resume n g) ms q = tt
+drawn-no script steps (event.Start t) ms q = absurd q
+drawn-no script steps (event.End t) ms q = tt
+drawn-no script steps (event.Resend i g) ms q = tt
+drawn-no script steps event.Round ms q = tt
+
+pub unless-no : (e : Event) (A : Type 0) → StartsNothing e → UnlessStart e A → A
+unless-no (event.Receive from to number) A q a = a
+unless-no (event.Resume n g) A q a = a
+unless-no (event.Start t) A q a = absurd q
+unless-no (event.End t) A q a = absurd q
+unless-no (event.Resend i g) A q a = a
+unless-no event.Round A q a = a
+
+-- they are legal if the rest is, in a step that starts nothing
+pub silent-given : (script : Script) (steps : List Step) (e : Event) (q : StartsNothing e) (earlier ms later : List Mark) → Each IsSilent ms → EachMark (Given script) steps e earlier ms later
+silent-given script steps e q earlier [] later h = tt
+silent-given script steps e q earlier (mark.Write g c n t r x ∷ ms) later h = (λ r. r, silent-given script steps e q (earlier ++ mark.Write g c n t r x ∷ []) ms later h.1)
+silent-given script steps e q earlier (mark.Skip g c r ∷ ms) later h = (λ r. r, silent-given script steps e q (earlier ++ mark.Skip g c r ∷ []) ms later h.1)
+silent-given script steps e q earlier (mark.Fault g c r x ∷ ms) later h = (λ a. unless-no e (LegalFault script (record { steps = steps; event = e; earlier = earlier; later = ms ++ later }) g c r x) q a, silent-given script steps e q (earlier ++ mark.Fault g c r x ∷ []) ms later h.1)
+silent-given script steps e q earlier (mark.Recheck round own verdict ∷ ms) later h = (λ r. r, silent-given script steps e q (earlier ++ mark.Recheck round own verdict ∷ []) ms later h.1)
+silent-given script steps e q earlier (mark.Start g s ∷ ms) later h = absurd h.0
+silent-given script steps e q earlier (mark.Snap g c x ∷ ms) later h = absurd h.0
+silent-given script steps e q earlier (mark.Commit g ∷ ms) later h = absurd h.0
+silent-given script steps e q earlier (mark.Abort g ∷ ms) later h = absurd h.0
+silent-given script steps e q earlier (mark.Answer s n a ∷ ms) later h = absurd h.0
+silent-given script steps e q earlier (m ∷ ms) later h = (λ r. tt, silent-given script steps e q (earlier ++ m ∷ []) ms later h.1)

@@ -10,7 +10,7 @@ use Rattle.gx_dtx.specs.Rules.{awaited_order}
 use Rattle.gx_msg.specs.declared.message.Envelope.{Envelope}
 use Rattle.gx_msg.specs.declared.message.Message.{Message}
 use Rattle.gx_script.specs.declared.Script.{Script}
-use Rattle.gx_session.specs.declared.state.Pending.{Pending}
+use Rattle.gx_script.specs.declared.state.Pending.{Pending}
 use Rattle.gx_store.specs.declared.event.Event.{Event}
 use Rattle.gx_store.specs.declared.event.Event.TheVariants as event
 use Rattle.gx_store.specs.declared.node.NodeEvent.{NodeEvent}
@@ -25,17 +25,17 @@ use Rattle.gx_store.specs.Points.{marks_in}
 use Rattle.gx_store.specs.Refusals.{the_coordinator}
 use Rattle.gx_rules.specs.AtCoordinator.{awaited, coord_can, coord_rule, is_idle, is_in_block, is_left, is_nothing, next_line, on_event, resends, starts}
 use Rattle.gx_rules.specs.AtSegment.{seg_rule}
-use Rattle.gx_rules.specs.Coordinators.{CoordTurn, session_of}
+use Rattle.gx_rules.specs.Coordinators.{CoordTurn, session_of, rests}
 use Rattle.gx_rules.specs.Machine.{World, after, at_node, can, can_here, coord_did, delivered, does, found, happens, new_world, node_of, seg_can, seg_did, world_of}
 use Rattle.gx_rules.specs.Sending.{numbered}
 use Rattle.gx_law_order.proofs.Letters.{IsFound, IsLetter, found_is, same_node}
-use Rattle.gx_law_order.proofs.Ordered.{never_resumes}
+use Rattle.gx_law_order.proofs.Ordered.{resumes_there}
 use Rattle.gx_law_order.proofs.Sessions.{is_nothing_in}
 use Rattle.gx_law_order.proofs.World.{Knows, world_knows}
 use Rattle.gx_law_sessions.specs.Orders.{AreOrdersOf}
 use Rattle.gx_store.specs.Language.{AreLinesNumbered}
 use Rattle.gx_law_sessions.specs.Finish.{IsRestShown}
-use Rattle.gx_law_sessions.specs.Rest.{AreEventsLegal, AreRestLegal}
+use Rattle.gx_law_sessions.specs.Rest.{AreEventsLegal, AreRestLegal, StartsNothing}
 use Rattle.gx_law_sessions.specs.Standing.{AreSessions}
 use Rattle.gx_law_sessions.proofs.Alive.{alive-all}
 use Rattle.gx_law_sessions.proofs.Ran.{have-run}
@@ -46,7 +46,7 @@ use Rattle.gx_law_sessions.proofs.Drawn.{drawn-at}
 use Rattle.gx_law_sessions.proofs.Frame.{Effect, Rests}
 use Rattle.gx_law_sessions.specs.Alive.{HaveOrdersRun, AreOrdersAlive}
 use Rattle.gx_law_sessions.proofs.Blocks.{start-counts, start-does}
-use Rattle.gx_law_sessions.proofs.Steps.{given-events, given-steps, rest-last}
+use Rattle.gx_law_sessions.proofs.Steps.{given-events, given-steps, rest-last, starts-no, ends-no}
 use Rattle.gx_law_sessions.proofs.Sendings.{IsToldOf, command-order-is, orders-all}
 use Rattle.gx_law_sessions.proofs.Stepping.{Holds, coord-holds, coord-rest, seg-holds}
 
@@ -160,24 +160,38 @@ module _ (script : Script) (some : 1 ≤ script.segments) where
             not-here : (n : Node) → n ≡ the_coordinator → is_same_node n the_coordinator ≡ false → ⊥
             not-here n same away = grind (arith, nat_tests)
 
-        by_test : (b : Bool) → is_same_node to the_coordinator ≡ b → (if b then coord_can script w.coord (here.Deliver from envelope) else seg_can (here.Deliver from envelope)) ≡ true → Holds script (if b then coord_did w (event.Receive from to number) (coord_rule script w.coord (here.Deliver from envelope) fails) else seg_did w to (event.Receive from to number) (seg_rule script (w.segs to.0) (here.Deliver from envelope) fails))
+        by_test : (b : Bool) → is_same_node to the_coordinator ≡ b → (if b then coord_can script w.coord (here.Deliver from envelope) else seg_can script (w.segs to.0) (here.Deliver from envelope)) ≡ true → Holds script (if b then coord_did w (event.Receive from to number) (coord_rule script w.coord (here.Deliver from envelope) fails) else seg_did w to (event.Receive from to number) (seg_rule script (w.segs to.0) (here.Deliver from envelope) fails))
         by_test true is ok = coord-holds script some w n h (event.Receive from to number) (here.Deliver from envelope) fails (heard from to number envelope fails (same_node to the_coordinator is) f ok) tt tt
-        by_test false is ok = seg-holds script some w n h (event.Receive from to number) (here.Deliver from envelope) fails from to number to.0 refl (place is d.is.link)
+        by_test false is ok = seg-holds script some w n h (event.Receive from to number) (here.Deliver from envelope) fails to.0 tt (place is d.is.link)
 
     arrives : (from to : Node) (number : ℕ) (fails : Bool) (o : Option Envelope) → found from to number w.sent ≡ o → can_here script w to (delivered from o) ≡ true → Holds script (does script w (event.Receive from to number) to fails (delivered from o))
     arrives from to number fails None f ok = h
     arrives from to number fails (Some envelope) f ok = received from to number envelope fails f ok
 
-    same_not : (b : Bool) → b ≡ true → b ≡ false → ⊥
-    same_not b e h = grind arith
+    -- where nothing is done
+    nothing : (e : Event) → StartsNothing e → Effect script w.steps w.coord e (rests w.coord)
+    nothing e q = inr (record { sessions = λ j. refl; works = λ j. refl; next = refl; quiet = tt; alone = λ j. (starts-no e q j, ends-no e q j); outs = λ o. tt; sent = λ o. tt })
+
+    resumed : (m : Node) (g : Gxid) (fails : Bool) → can_here script w m (Some (here.Resume g)) ≡ true → Holds script (does script w (event.Resume m g) m fails (Some (here.Resume g)))
+    resumed m g fails ok = by_test (is_same_node m the_coordinator) refl ok
+      where
+        e : Event
+        e = event.Resume m g
+
+        x : NodeEvent
+        x = here.Resume g
+
+        by_test : (b : Bool) → is_same_node m the_coordinator ≡ b → (if b then coord_can script w.coord x else seg_can script (w.segs m.0) x) ≡ true → Holds script (if b then coord_did w e (coord_rule script w.coord x fails) else seg_did w m e (seg_rule script (w.segs m.0) x fails))
+        by_test true is ok = coord-holds script some w n h e x fails (nothing e tt) tt tt
+        by_test false is ok = seg-holds script some w n h e x fails m.0 tt (resumes_there script some w m g n.well ok)
 
     event-holds : (e : Event) (fails : Bool) → can script w e ≡ true → Holds script (does script w e (node_of e) fails (at_node w e))
     event-holds (event.Receive from to number) fails ok = arrives from to number fails (found from to number w.sent) refl ok
-    event-holds (event.Resume m g) fails ok = absurd (same_not (can script w (event.Resume m g)) ok (never_resumes script some w m (here.Resume g) refl refl))
+    event-holds (event.Resume m g) fails ok = resumed m g fails ok
     event-holds (event.Start s) fails ok = let z = start-effect s fails ok in coord-holds script some w n h (event.Start s) (here.Start s) fails z.0 z.1 z.2
     event-holds (event.End s) fails ok = let z = end-effect s fails ok in coord-holds script some w n h (event.End s) (here.End s) fails z.0 z.1 tt
     event-holds (event.Resend i g) fails ok = coord-holds script some w n h (event.Resend i g) (here.Resend i g) fails (resend-effect i g fails) tt tt
-    event-holds event.Round fails ok = coord-holds script some w n h event.Round here.Round fails (inr (record { sessions = λ j. refl; works = λ j. refl; next = refl; quiet = tt; alone = λ j. (refl, refl); outs = λ o. tt; sent = λ o. tt })) tt tt
+    event-holds event.Round fails ok = coord-holds script some w n h event.Round here.Round fails (nothing event.Round tt) tt tt
 
     pub happens-holds : (e : Event) (fails : Bool) → Holds script (happens script w e fails)
     happens-holds e fails = by_can (can script w e) refl
@@ -266,21 +280,34 @@ module _ (script : Script) (some : 1 ≤ script.segments) where
             not-here : (n : Node) → n ≡ the_coordinator → is_same_node n the_coordinator ≡ false → ⊥
             not-here n same away = grind (arith, nat_tests)
 
-        by_test : (b : Bool) → is_same_node to the_coordinator ≡ b → (if b then coord_can script w.coord (here.Deliver from envelope) else seg_can (here.Deliver from envelope)) ≡ true → AreRestLegal script [] (if b then coord_did w (event.Receive from to number) (coord_rule script w.coord (here.Deliver from envelope) fails) else seg_did w to (event.Receive from to number) (seg_rule script (w.segs to.0) (here.Deliver from envelope) fails)).steps
+        by_test : (b : Bool) → is_same_node to the_coordinator ≡ b → (if b then coord_can script w.coord (here.Deliver from envelope) else seg_can script (w.segs to.0) (here.Deliver from envelope)) ≡ true → AreRestLegal script [] (if b then coord_did w (event.Receive from to number) (coord_rule script w.coord (here.Deliver from envelope) fails) else seg_did w to (event.Receive from to number) (seg_rule script (w.segs to.0) (here.Deliver from envelope) fails)).steps
         by_test true is ok = coord-shown (event.Receive from to number) (here.Deliver from envelope) fails (heard w n h from to number envelope fails (same_node to the_coordinator is) f ok)
-        by_test false is ok = rest-last script [] w.steps _ rest (shown.segments done from to number envelope fails (place is d.is.link) f)
+        by_test false is ok = rest-last script [] w.steps _ rest (shown.segments done (event.Receive from to number) (here.Deliver from envelope) fails (place is d.is.link) (ap (delivered from) f) refl)
 
     arrives-shown : (from to : Node) (number : ℕ) (fails : Bool) (o : Option Envelope) → found from to number w.sent ≡ o → can_here script w to (delivered from o) ≡ true → AreRestLegal script [] (does script w (event.Receive from to number) to fails (delivered from o)).steps
     arrives-shown from to number fails None f ok = rest
     arrives-shown from to number fails (Some envelope) f ok = received-shown from to number envelope fails f ok
 
+    resumed-shown : (m : Node) (g : Gxid) (fails : Bool) → can_here script w m (Some (here.Resume g)) ≡ true → AreRestLegal script [] (does script w (event.Resume m g) m fails (Some (here.Resume g))).steps
+    resumed-shown m g fails ok = by_test (is_same_node m the_coordinator) refl ok
+      where
+        e : Event
+        e = event.Resume m g
+
+        x : NodeEvent
+        x = here.Resume g
+
+        by_test : (b : Bool) → is_same_node m the_coordinator ≡ b → (if b then coord_can script w.coord x else seg_can script (w.segs m.0) x) ≡ true → AreRestLegal script [] (if b then coord_did w e (coord_rule script w.coord x fails) else seg_did w m e (seg_rule script (w.segs m.0) x fails)).steps
+        by_test true is ok = coord-shown e x fails (nothing w n h e tt)
+        by_test false is ok = rest-last script [] w.steps _ rest (shown.segments done e x fails (resumes_there script some w m g n.well ok) refl ok)
+
     event-shown : (e : Event) (fails : Bool) → can script w e ≡ true → AreRestLegal script [] (does script w e (node_of e) fails (at_node w e)).steps
     event-shown (event.Receive from to number) fails ok = arrives-shown from to number fails (found from to number w.sent) refl ok
-    event-shown (event.Resume m g) fails ok = absurd (same_not w n h (can script w (event.Resume m g)) ok (never_resumes script some w m (here.Resume g) refl refl))
+    event-shown (event.Resume m g) fails ok = resumed-shown m g fails ok
     event-shown (event.Start s) fails ok = coord-shown (event.Start s) (here.Start s) fails (start-effect w n h s fails ok).0
     event-shown (event.End s) fails ok = coord-shown (event.End s) (here.End s) fails (end-effect w n h s fails ok).0
     event-shown (event.Resend i g) fails ok = coord-shown (event.Resend i g) (here.Resend i g) fails (resend-effect w n h i g fails)
-    event-shown event.Round fails ok = coord-shown event.Round here.Round fails (inr (record { sessions = λ j. refl; works = λ j. refl; next = refl; quiet = tt; alone = λ j. (refl, refl); outs = λ o. tt; sent = λ o. tt }))
+    event-shown event.Round fails ok = coord-shown event.Round here.Round fails (nothing w n h event.Round tt)
 
     pub happens-shown : (e : Event) (fails : Bool) → AreRestLegal script [] (happens script w e fails).steps
     happens-shown e fails = by_can (can script w e) refl

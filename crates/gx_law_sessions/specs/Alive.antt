@@ -11,14 +11,14 @@ use Rattle.gx_msg.specs.declared.message.Message.{Message}
 use Rattle.gx_msg.specs.declared.message.Message.TheVariants as message
 use Rattle.gx_msg.specs.declared.reply.Reply.TheVariants as reply
 use Rattle.gx_script.specs.declared.Script.{Script}
-use Rattle.gx_store.specs.declared.event.Event.TheVariants as event
+use Rattle.gx_store.specs.declared.event.Event.{Event}
 use Rattle.gx_store.specs.declared.mark.Mark.{Mark}
 use Rattle.gx_store.specs.declared.mark.Mark.TheVariants as mark
 use Rattle.gx_store.specs.declared.run.Step.{Step}
 use Rattle.gx_store.specs.Commands.{IsUnderWay}
 use Rattle.gx_store.specs.Marks.{is_aborted}
 use Rattle.gx_store.specs.Messages.{Receives}
-use Rattle.gx_store.specs.Points.{IsPointOf, Point, marks_in}
+use Rattle.gx_store.specs.Points.{IsPointOf, Point, marks_in, starts_by}
 use Rattle.gx_store.specs.Refusals.{the_coordinator}
 use Rattle.gx_rules.specs.Machine.{Letter, World}
 use Rattle.gx_store.specs.Language.{AreLinesNumbered}
@@ -48,13 +48,14 @@ pub record IsHeard (steps : List Step) (from : Node) (m : Message) : Type 0 wher
 abbrev pub HasAnswered : (Node → Message → Type 0) → Node → Gxid → Cid → Type 0
 HasAnswered Heard node g c = (wrote : Bool) × ((count : ℕ) × ((part : Part) × Heard node (message.Answer g (reply.Done c wrote count part))))
 
--- behind the steps, and at each point of a step in which a message is received and no session hears of it, the command is
--- under way, with this statement
+-- behind the steps, and at each point of a step that starts no line of its session and tells no session anything, the command
+-- is under way, with this statement
 pub record IsUnderWayBehind (script : Script) (steps : List Step) (level : Level) (g : Gxid) (c : Cid) : Type 0 where
   pub session : SessionId
   pub line : Stmt
   pub of : AreLinesNumbered [] script.lines → stmt_of_command script (marks_in steps) g c ≡ Some line
-  pub runs : (from to : Node) (number : ℕ) (earlier later : List Mark) → AreSilent earlier → IsUnderWay script (record { steps = steps; event = event.Receive from to number; earlier = earlier; later = later }) session line level g c
+  pub runs : (e : Event) (earlier later : List Mark) → starts_by session e ≡ 0 → AreSilent earlier
+      → IsUnderWay script (record { steps = steps; event = e; earlier = earlier; later = later }) session line level g c
 
 -- The command of an EXEC that was sent to a node is under way, or the node's answer to it was received, or the transaction
 -- has aborted.

@@ -32,7 +32,7 @@ use Rattle.gx_rules.specs.Machine.{World, after, at_node, can, can_here, coord_d
 use Rattle.gx_rules.specs.Sending.{clock_after, counted, numbered}
 use Rattle.gx_law_order.proofs.Letters.{IsFound, IsLetter, found_is}
 use Rattle.gx_law_order.proofs.Lists.{Each}
-use Rattle.gx_law_order.proofs.Ordered.{never_resumes, seg_marks}
+use Rattle.gx_law_order.proofs.Ordered.{resumes_there, seg_marks}
 use Rattle.gx_law_order.proofs.World.{marks-last}
 use Rattle.gx_store.specs.Language.{AreLinesNumbered}
 use Rattle.gx_law_sessions.specs.Rest.{EachMark}
@@ -143,16 +143,13 @@ module _ (script : Script) (some : 1 ≤ script.segments) (numbered_lines : AreL
             subst (λ a. IsReport script (marks_in w.steps) a (gx g) cid count) z.0
             (subst (IsWordOf script (marks_in w.steps) (locals_in w.segs) from) (ap (λ (a : Envelope). a.message) z.1 ∙ told) (sending-told script (marks_in w.steps) (locals_in w.segs) w.steps d.is.step d.is.mark from to number envelope.message (at-least from.0 ok) h.told sending)).1
 
-        by_test : (q : Bool) → is_same_node to the_coordinator ≡ q → (if q then coord_can script w.coord (here.Deliver from envelope) else seg_can (here.Deliver from envelope)) ≡ true → Counted script (if q then coord_did w (event.Receive from to number) (coord_rule script w.coord (here.Deliver from envelope) fails) else seg_did w to (event.Receive from to number) (seg_rule script (w.segs to.0) (here.Deliver from envelope) fails))
+        by_test : (q : Bool) → is_same_node to the_coordinator ≡ q → (if q then coord_can script w.coord (here.Deliver from envelope) else seg_can script (w.segs to.0) (here.Deliver from envelope)) ≡ true → Counted script (if q then coord_did w (event.Receive from to number) (coord_rule script w.coord (here.Deliver from envelope) fails) else seg_did w to (event.Receive from to number) (seg_rule script (w.segs to.0) (here.Deliver from envelope) fails))
         by_test true q ok = coord-counted (event.Receive from to number) (here.Deliver from envelope) fails ok (report ok) (λ i v z s. refl)
         by_test false q ok = seg-counted (event.Receive from to number) (here.Deliver from envelope) fails to.0 (place q d.is.link)
 
     arrives : (from to : Node) (number : ℕ) (fails : Bool) (o : Option Envelope) → found from to number w.sent ≡ o → can_here script w to (delivered from o) ≡ true → Counted script (does script w (event.Receive from to number) to fails (delivered from o))
     arrives from to number fails None f ok = n
     arrives from to number fails (Some envelope) f ok = received from to number envelope fails (found_is (IsLetter script w.steps) from to number w.sent envelope b.knows.well.letters f) ok
-
-    same_not : (q : Bool) → q ≡ true → q ≡ false → ⊥
-    same_not q e f = grind arith
 
     -- nothing is delivered
     start-no : (s : SessionId) (i : Node) (v : Envelope) → here.Start s ≡ here.Deliver i v → ⊥
@@ -167,9 +164,25 @@ module _ (script : Script) (some : 1 ≤ script.segments) (numbered_lines : AreL
     round-no : (i : Node) (v : Envelope) → here.Round ≡ here.Deliver i v → ⊥
     round-no i v q = cc
 
+    resume-no : (g : Gxid) (i : Node) (v : Envelope) → here.Resume g ≡ here.Deliver i v → ⊥
+    resume-no g i v q = cc
+
+    resumed : (m : Node) (g : Gxid) (fails : Bool) → can_here script w m (Some (here.Resume g)) ≡ true → Counted script (does script w (event.Resume m g) m fails (Some (here.Resume g)))
+    resumed m g fails ok = by_test (is_same_node m the_coordinator) ok
+      where
+        e : Event
+        e = event.Resume m g
+
+        x : NodeEvent
+        x = here.Resume g
+
+        by_test : (q : Bool) → (if q then coord_can script w.coord x else seg_can script (w.segs m.0) x) ≡ true → Counted script (if q then coord_did w e (coord_rule script w.coord x fails) else seg_did w m e (seg_rule script (w.segs m.0) x fails))
+        by_test true ok = coord-counted e x fails ok (λ i v h cid wrote count part q t. absurd (resume-no g i v q)) (λ i v q t. absurd (resume-no g i v q))
+        by_test false ok = seg-counted e x fails m.0 (resumes_there script some w m g b.knows.well ok)
+
     event-counted : (e : Event) (fails : Bool) → can script w e ≡ true → Counted script (does script w e (node_of e) fails (at_node w e))
     event-counted (event.Receive from to number) fails ok = arrives from to number fails (found from to number w.sent) refl ok
-    event-counted (event.Resume m g) fails ok = absurd (same_not (can script w (event.Resume m g)) ok (never_resumes script some w m (here.Resume g) refl refl))
+    event-counted (event.Resume m g) fails ok = resumed m g fails ok
     event-counted (event.Start s) fails ok = coord-counted (event.Start s) (here.Start s) fails ok (λ i v g cid wrote count part q t. absurd (start-no s i v q)) (λ i v q t. absurd (start-no s i v q))
     event-counted (event.End s) fails ok = coord-counted (event.End s) (here.End s) fails ok (λ i v g cid wrote count part q t. absurd (end-no s i v q)) (λ i v q t. absurd (end-no s i v q))
     event-counted (event.Resend j g) fails ok = coord-counted (event.Resend j g) (here.Resend j g) fails ok (λ i v h cid wrote count part q t. absurd (resend-no j g i v q)) (λ i v q t. absurd (resend-no j g i v q))

@@ -45,7 +45,7 @@ use Rattle.gx_rules.specs.Segments.{Seg, SegTurn}
 use Rattle.gx_rules.specs.Sending.{clock_after, counted, numbered}
 use Rattle.gx_law_order.proofs.Letters.{IsFound, IsLetter, found_is}
 use Rattle.gx_law_order.proofs.Lists.{Each, each_append}
-use Rattle.gx_law_order.proofs.Ordered.{never_resumes, seg_marks}
+use Rattle.gx_law_order.proofs.Ordered.{resumes_there, seg_marks}
 use Rattle.gx_store.specs.Language.{AreLinesNumbered}
 use Rattle.gx_law_sessions.specs.Rest.{AreRestLegal, EachMark, IsCaused, Rest, RestAnswer, RestRefusal, UnlessStart}
 use Rattle.gx_law_sessions.proofs.Given.{marks-append}
@@ -210,11 +210,15 @@ module _ (script : Script) (some : 1 ≤ script.segments) (numbered_lines : AreL
           (sent-others script w.steps e (on_event script w.coord x fails).coord.sent (on_event script w.coord x fails).outs (on_event script w.coord x fails).marks []))
 
     -- A STEP OF A SEGMENT
-    seg-others : (e : Event) (from : Node) (envelope : Envelope) (fails : Bool) (i : ℕ) → IsSegment script (at i) → MessageIs script (marks_in w.steps) (at i) envelope.message → AreOthers script [] w.steps → AreOthers script [] (seg_did w (at i) e (seg_rule script (w.segs i) (here.Deliver from envelope) fails)).steps
-    seg-others e from envelope fails i place o others =
-        others-push script [] w.steps (record { stamp = record { clock = clock_after (w.segs i).clock (here.Deliver from envelope); node = at i }; event = e; marks = (seg_rule script (w.segs i) (here.Deliver from envelope) fails).marks }) others
-        (away-others script i place.0 w.steps e [] (seg_rule script (w.segs i) (here.Deliver from envelope) fails).marks [] (seg_marks script w b.knows.well e (here.Deliver from envelope) fails i place)
-        (each_append NoFault (segment.on_message script (w.segs i) fails envelope.message).marks _ (no-faults (marks_in w.steps) i (w.segs i) envelope.message (segment.on_message script (w.segs i) fails envelope.message) o (message-turns (w.segs i) script fails envelope.message)) (sent-no-fault (λ node. (segment.on_message script (w.segs i) fails envelope.message).seg.sent) (segment.on_message script (w.segs i) fails envelope.message).outs)))
+    seg-others : (e : Event) (x : NodeEvent) (fails : Bool) (i : ℕ) → IsSegment script (at i) → Each NoFault (seg_rule script (w.segs i) x fails).marks → AreOthers script [] w.steps → AreOthers script [] (seg_did w (at i) e (seg_rule script (w.segs i) x fails)).steps
+    seg-others e x fails i place none others =
+        others-push script [] w.steps (record { stamp = record { clock = clock_after (w.segs i).clock x; node = at i }; event = e; marks = (seg_rule script (w.segs i) x fails).marks }) others
+        (away-others script i place.0 w.steps e [] (seg_rule script (w.segs i) x fails).marks [] (seg_marks script w b.knows.well e x fails i place) none)
+
+    -- a message of the coordinator makes no fault there
+    none-faults : (from : Node) (envelope : Envelope) (fails : Bool) (i : ℕ) → MessageIs script (marks_in w.steps) (at i) envelope.message → Each NoFault (seg_rule script (w.segs i) (here.Deliver from envelope) fails).marks
+    none-faults from envelope fails i o =
+        each_append NoFault (segment.on_message script (w.segs i) fails envelope.message).marks _ (no-faults (marks_in w.steps) i (w.segs i) envelope.message (segment.on_message script (w.segs i) fails envelope.message) o (message-turns (w.segs i) script fails envelope.message)) (sent-no-fault (λ node. (segment.on_message script (w.segs i) fails envelope.message).seg.sent) (segment.on_message script (w.segs i) fails envelope.message).outs)
 
     abbrev IsPost : Letter → Type 0
     IsPost l = IsLetter script w.steps l × (l.from ≡ the_coordinator → MessageIs script (marks_in w.steps) l.to l.envelope.message)
@@ -258,16 +262,13 @@ module _ (script : Script) (some : 1 ≤ script.segments) (numbered_lines : AreL
             subst (λ a. IsReport script (marks_in w.steps) a (gx g) cid count) z.0
             (subst (IsWordOf script (marks_in w.steps) (locals_in w.segs) from) (ap (λ (a : Envelope). a.message) z.1 ∙ t) (sending-told script (marks_in w.steps) (locals_in w.segs) w.steps d.is.0.step d.is.0.mark from to number envelope.message (at-least from.0 ok) h.told sending)).1
 
-        by_test : (q : Bool) → is_same_node to the_coordinator ≡ q → (if q then coord_can script w.coord (here.Deliver from envelope) else seg_can (here.Deliver from envelope)) ≡ true → AreOthers script [] (if q then coord_did w (event.Receive from to number) (coord_rule script w.coord (here.Deliver from envelope) fails) else seg_did w to (event.Receive from to number) (seg_rule script (w.segs to.0) (here.Deliver from envelope) fails)).steps
+        by_test : (q : Bool) → is_same_node to the_coordinator ≡ q → (if q then coord_can script w.coord (here.Deliver from envelope) else seg_can script (w.segs to.0) (here.Deliver from envelope)) ≡ true → AreOthers script [] (if q then coord_did w (event.Receive from to number) (coord_rule script w.coord (here.Deliver from envelope) fails) else seg_did w to (event.Receive from to number) (seg_rule script (w.segs to.0) (here.Deliver from envelope) fails)).steps
         by_test true q ok = coord-others (event.Receive from to number) (here.Deliver from envelope) (report ok) (λ i v z s. refl) (λ z A. absurd z) (λ a m z. subst (λ (y : Node). 1 ≤ y.0) (receive-same a m z) (at-least from.0 ok)) fails ok others
-        by_test false q ok = let p = place q d.is.0.link in seg-others (event.Receive from to number) from envelope fails to.0 p.0 (order_is p.1) others
+        by_test false q ok = let p = place q d.is.0.link in seg-others (event.Receive from to number) (here.Deliver from envelope) fails to.0 p.0 (none-faults from envelope fails to.0 (order_is p.1)) others
 
     arrives : (from to : Node) (number : ℕ) (fails : Bool) (o : Option Envelope) → AreOthers script [] w.steps → found from to number w.sent ≡ o → can_here script w to (delivered from o) ≡ true → AreOthers script [] (does script w (event.Receive from to number) to fails (delivered from o)).steps
     arrives from to number fails None others f ok = others
     arrives from to number fails (Some envelope) others f ok = received from to number envelope fails others (found_is IsPost from to number w.sent envelope (each-both (IsLetter script w.steps) _ w.sent b.knows.well.letters k.orders) f) ok
-
-    same_not : (q : Bool) → q ≡ true → q ≡ false → ⊥
-    same_not q e f = grind arith
 
     start-no : (s : SessionId) (i : Node) (v : Envelope) → here.Start s ≡ here.Deliver i v → ⊥
     start-no s i v q = cc
@@ -293,9 +294,28 @@ module _ (script : Script) (some : 1 ≤ script.segments) (numbered_lines : AreL
     rounds-no : (a : Node) (m : ℕ) → event.Round ≡ event.Receive a the_coordinator m → ⊥
     rounds-no a m q = cc
 
+    resume-no : (g : Gxid) (i : Node) (v : Envelope) → here.Resume g ≡ here.Deliver i v → ⊥
+    resume-no g i v q = cc
+
+    resumed-no : (n : Node) (g : Gxid) (a : Node) (m : ℕ) → event.Resume n g ≡ event.Receive a the_coordinator m → ⊥
+    resumed-no n g a m q = cc
+
+    resumed : (m : Node) (g : Gxid) (fails : Bool) → AreOthers script [] w.steps → can_here script w m (Some (here.Resume g)) ≡ true → AreOthers script [] (does script w (event.Resume m g) m fails (Some (here.Resume g))).steps
+    resumed m g fails o ok = by_test (is_same_node m the_coordinator) ok
+      where
+        e : Event
+        e = event.Resume m g
+
+        x : NodeEvent
+        x = here.Resume g
+
+        by_test : (q : Bool) → (if q then coord_can script w.coord x else seg_can script (w.segs m.0) x) ≡ true → AreOthers script [] (if q then coord_did w e (coord_rule script w.coord x fails) else seg_did w m e (seg_rule script (w.segs m.0) x fails)).steps
+        by_test true ok = coord-others e x (λ i v h cid wrote count part q t. absurd (resume-no g i v q)) (λ i v q t. absurd (resume-no g i v q)) (λ z A. absurd z) (λ a n q. absurd (resumed-no m g a n q)) fails ok o
+        by_test false ok = seg-others e x fails m.0 (resumes_there script some w m g b.knows.well ok) tt o
+
     event-others : (e : Event) (fails : Bool) → AreOthers script [] w.steps → can script w e ≡ true → AreOthers script [] (does script w e (node_of e) fails (at_node w e)).steps
     event-others (event.Receive from to number) fails o ok = arrives from to number fails (found from to number w.sent) o refl ok
-    event-others (event.Resume m g) fails o ok = absurd (same_not (can script w (event.Resume m g)) ok (never_resumes script some w m (here.Resume g) refl refl))
+    event-others (event.Resume m g) fails o ok = resumed m g fails o ok
     event-others (event.Start s) fails o ok = coord-others (event.Start s) (here.Start s) (λ i v g cid wrote count part q t. absurd (start-no s i v q)) (λ i v q t. absurd (start-no s i v q)) (λ z A. tt) (λ a m q. absurd (started-no s a m q)) fails ok o
     event-others (event.End s) fails o ok = coord-others (event.End s) (here.End s) (λ i v g cid wrote count part q t. absurd (end-no s i v q)) (λ i v q t. absurd (end-no s i v q)) (λ z A. absurd z) (λ a m q. absurd (ended-no s a m q)) fails ok o
     event-others (event.Resend j g) fails o ok = coord-others (event.Resend j g) (here.Resend j g) (λ i v h cid wrote count part q t. absurd (resend-no j g i v q)) (λ i v q t. absurd (resend-no j g i v q)) (λ z A. absurd z) (λ a m q. absurd (resent-no j g a m q)) fails ok o

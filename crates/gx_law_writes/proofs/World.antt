@@ -22,17 +22,17 @@ use Rattle.gx_store.specs.Messages.{IsSending}
 use Rattle.gx_store.specs.Ordered.{IsAtNode, IsLink, IsSegment}
 use Rattle.gx_store.specs.Points.{marks_in}
 use Rattle.gx_store.specs.Refusals.{the_coordinator}
-use Rattle.gx_rules.specs.AtCoordinator.{coord_rule}
+use Rattle.gx_rules.specs.AtCoordinator.{coord_rule, coord_can}
 use Rattle.gx_rules.specs.AtSegment as segment
 use Rattle.gx_rules.specs.AtSegment.{seg_rule}
-use Rattle.gx_rules.specs.Machine.{Letter, World, after, at_node, can, coord_did, delivered, does, found, happens, new_world, node_of, seg_did, world_of}
+use Rattle.gx_rules.specs.Machine.{Letter, World, after, at_node, can, coord_did, delivered, does, found, happens, new_world, node_of, seg_did, world_of, can_here, seg_can}
 use Rattle.gx_rules.specs.Maps.{with_at}
 use Rattle.gx_rules.specs.Segments.{Local, Seg, SegTurn}
 use Rattle.gx_rules.specs.Sending.{clock_after, counted, numbered}
 use Rattle.gx_law_order.proofs.AtSegments.{PlainAt, seg_stays}
 use Rattle.gx_law_order.proofs.Letters.{IsFound, IsLetter, found_is}
 use Rattle.gx_law_order.proofs.Lists.{Each, each_append, each_weaker}
-use Rattle.gx_law_order.proofs.Ordered.{Well, at_coordinator, never_resumes}
+use Rattle.gx_law_order.proofs.Ordered.{Well, at_coordinator}
 use Rattle.gx_law_order.proofs.World.{marks-last}
 use Rattle.gx_store.specs.Language.{AreLinesNumbered}
 use Rattle.gx_law_sessions.specs.Alive.{HasRun}
@@ -53,6 +53,7 @@ use Rattle.gx_law_writes.proofs.Live.{Running, running}
 use Rattle.gx_law_writes.proofs.Moves.{IsOutOf, IsPastHere, Move, insert-move, line-of, no-write-placed, order, piece, quiet-move, select-move}
 use Rattle.gx_law_writes.proofs.Told.{IsAnswerOf, IsToldOf, IsWordOf, SentTold, StepTold, answer-more, each-get, steps-more, taken-told, told-more}
 use Rattle.gx_law_writes.proofs.Turns.{Inserted, NoWrite, Turns, message-turns}
+use Rattle.gx_ids.specs.declared.ids.Gxid.{Gxid}
 
 abbrev pub locals_in : (ℕ → Seg) → ℕ → ℕ → Local
 locals_in segs i g = (segs i).locals g
@@ -365,12 +366,23 @@ module _ (script : Script) (some : 1 ≤ script.segments) (numbered_lines : AreL
     arrives from to number fails None f = h
     arrives from to number fails (Some envelope) f = received from to number envelope fails (found_is IsPost from to number w.sent envelope (each-post w.sent b.knows.well.letters k.orders k.ran) f)
 
-    same_not : (q : Bool) → q ≡ true → q ≡ false → ⊥
-    same_not q e f = grind arith
+    -- nobody goes on at a segment yet
+    resumed : (m : Node) (g : Gxid) (fails : Bool) → can_here script w m (Some (here.Resume g)) ≡ true → let v : World = does script w (event.Resume m g) m fails (Some (here.Resume g)) in Holds script v.segs v.steps
+    resumed m g fails ok = by_test (is_same_node m the_coordinator) ok
+      where
+        e : Event
+        e = event.Resume m g
+
+        x : NodeEvent
+        x = here.Resume g
+
+        by_test : (q : Bool) → (if q then coord_can script w.coord x else seg_can script (w.segs m.0) x) ≡ true → let v : World = if q then coord_did w e (coord_rule script w.coord x fails) else seg_did w m e (seg_rule script (w.segs m.0) x fails) in Holds script v.segs v.steps
+        by_test true ok = coord-holds w b.knows.well h e x fails
+        by_test false ok = absurd (cc)
 
     event-holds : (e : Event) (fails : Bool) → can script w e ≡ true → let v : World = does script w e (node_of e) fails (at_node w e) in Holds script v.segs v.steps
     event-holds (event.Receive from to number) fails ok = arrives from to number fails (found from to number w.sent) refl
-    event-holds (event.Resume m g) fails ok = absurd (same_not (can script w (event.Resume m g)) ok (never_resumes script some w m (here.Resume g) refl refl))
+    event-holds (event.Resume m g) fails ok = resumed m g fails ok
     event-holds (event.Start t) fails ok = coord-holds w b.knows.well h (event.Start t) (here.Start t) fails
     event-holds (event.End t) fails ok = coord-holds w b.knows.well h (event.End t) (here.End t) fails
     event-holds (event.Resend i g) fails ok = coord-holds w b.knows.well h (event.Resend i g) (here.Resend i g) fails

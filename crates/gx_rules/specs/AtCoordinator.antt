@@ -36,15 +36,15 @@ use Rattle.gx_meaning.specs.Constants.{values_of}
 use Rattle.gx_meaning.specs.Plan.{plan_of}
 use Rattle.gx_meaning.specs.declared.piece.Piece.{Piece}
 use Rattle.gx_script.specs.declared.Script.{Script}
-use Rattle.gx_session.specs.Session.{after_done, after_line, after_refused, idle_outside, line_step}
-use Rattle.gx_session.specs.declared.line_step.LineStep.{LineStep}
-use Rattle.gx_session.specs.declared.line_step.LineStep.TheVariants as step
-use Rattle.gx_session.specs.declared.line_step.Plain.{Plain}
-use Rattle.gx_session.specs.declared.line_step.Plain.TheVariants as plain
-use Rattle.gx_session.specs.declared.state.Block.{Block}
-use Rattle.gx_session.specs.declared.state.Block.TheVariants as block
-use Rattle.gx_session.specs.declared.state.Pending.{Pending}
-use Rattle.gx_session.specs.declared.state.Pending.TheVariants as pending
+use Rattle.gx_script.specs.Session.{after_done, after_line, after_refused, idle_outside, line_step}
+use Rattle.gx_script.specs.declared.line_step.LineStep.{LineStep}
+use Rattle.gx_script.specs.declared.line_step.LineStep.TheVariants as step
+use Rattle.gx_script.specs.declared.line_step.Plain.{Plain}
+use Rattle.gx_script.specs.declared.line_step.Plain.TheVariants as plain
+use Rattle.gx_script.specs.declared.state.Block.{Block}
+use Rattle.gx_script.specs.declared.state.Block.TheVariants as block
+use Rattle.gx_script.specs.declared.state.Pending.{Pending}
+use Rattle.gx_script.specs.declared.state.Pending.TheVariants as pending
 use Rattle.gx_store.specs.declared.answer.Refused.{Refused}
 use Rattle.gx_store.specs.declared.answer.Refused.TheVariants as refused
 use Rattle.gx_store.specs.declared.answer.StmtAnswer.{StmtAnswer}
@@ -364,9 +364,15 @@ abbrev pub resends : Coord → Node → Option Message → CoordTurn
 resends c i None = rests c
 resends c i (Some told) = record { coord = c; marks = []; outs = record { node = i; message = told } ∷ []; item = None }
 
+-- RESUMPTIONS
+-- A command whose lock is free goes out. None waits yet, so nothing happens.
+abbrev pub resumes : Coord → Gxid → CoordTurn
+resumes c g = rests c
+
 -- THE RULE
 abbrev pub on_event : Script → Coord → NodeEvent → Bool → CoordTurn
 on_event script c (node.Deliver from envelope) fails = on_message c from fails envelope.message
+on_event script c (node.Resume g) fails = resumes c g
 on_event script c (node.Start s) fails = starts script c s (next_line script c s)
 on_event script c (node.End s) fails = ends_in c s (session_of c s).state.block
 on_event script c (node.Resend i (Some g)) fails = resends c i (awaited c g i)
@@ -381,7 +387,7 @@ coord_sends clock turn =
     }
 
 -- The coordinator's rule: from its data, the event and whether its journal fails to take an item to the new data, the marks,
--- the messages and the item. Resumptions and rounds aren't built yet.
+-- the messages and the item. Rounds aren't built yet.
 abbrev pub coord_rule : Script → Coord → NodeEvent → Bool → CoordTurn
 coord_rule script c event fails = coord_sends (clock_after c.clock event) (on_event script c event fails)
 
@@ -409,9 +415,10 @@ abbrev pub is_segment : Script → Node → Bool
 is_segment script i = nat_le 1 i.0 && nat_le i.0 script.segments
 
 -- A delivery is from a segment, a line starts where its session is idle, a session ends that is idle in a block without a line
--- left, and what is sent again has an awaited answer.
+-- left, and what is sent again has an awaited answer. Nobody resumes, since nobody waits yet.
 abbrev pub coord_can : Script → Coord → NodeEvent → Bool
 coord_can script c (node.Deliver from envelope) = is_segment script from
+coord_can script c (node.Resume g) = false
 coord_can script c (node.Start s) = is_idle (session_of c s) && is_left (next_line script c s)
 coord_can script c (node.End s) = is_idle (session_of c s) && (not (is_left (next_line script c s)) && is_in_block (session_of c s).state.block)
 coord_can script c (node.Resend i (Some g)) = is_some (awaited c g i)

@@ -16,7 +16,7 @@ use Rattle.gx_script.specs.declared.Script.{Script}
 use Rattle.gx_store.specs.declared.mark.Mark.{Mark}
 use Rattle.gx_store.specs.declared.mark.Mark.TheVariants as mark
 use Rattle.gx_store.specs.declared.node.NodeEvent.{NodeEvent}
-use Rattle.gx_store.specs.declared.node.NodeEvent.TheVariants.{Deliver}
+use Rattle.gx_store.specs.declared.node.NodeEvent.TheVariants.{Deliver, Resume}
 use Rattle.gx_rules.specs.Fits.{fits_exec}
 use Rattle.gx_rules.specs.Sending.{clock_after, numbered}
 use Rattle.gx_rules.specs.Segments.{Local, Phase, Seg, SegTurn, has_committed, local_of, reply, stays, tells, tells_kept, with_local}
@@ -138,9 +138,15 @@ on_message script s fails (message.Abort g) = unless_below s g (on_abort s g (lo
 on_message script s fails (message.Forget g) = unless_below s g (on_forget s g (local_of s g) (local_of s g).phase)
 on_message script s fails _ = stays s
 
+-- RESUMPTIONS
+-- A slice whose lock is free goes on. No slice waits yet, so nothing happens.
+abbrev pub resumes : Seg → Gxid → SegTurn
+resumes s g = stays s
+
 -- THE RULE
 abbrev pub on_event : Script → Seg → NodeEvent → Bool → SegTurn
 on_event script s (Deliver from envelope) fails = on_message script s fails envelope.message
+on_event script s (Resume g) fails = resumes s g
 on_event script s _ fails = stays s
 
 -- the marks of sendings stand behind the others, with the next numbers of the link
@@ -152,6 +158,6 @@ seg_sends clock turn =
     }
 
 -- A segment's rule: from its data, the event and whether its journal fails to take an item to the new data, the marks, the
--- messages and the item. Resumptions aren't built yet.
+-- messages and the item.
 abbrev pub seg_rule : Script → Seg → NodeEvent → Bool → SegTurn
 seg_rule script s event fails = seg_sends (clock_after s.clock event) (on_event script s event fails)

@@ -11,12 +11,16 @@ use Rattle.gx_tree.specs.declared.stmt.Level.TheVariants.{ReadCommitted}
 use Rattle.gx_tree.specs.declared.stmt.Stmt.{Stmt}
 use Rattle.gx_dsnap.specs.declared.snapshot.Snapshot.{Snapshot}
 use Rattle.gx_dtx.specs.Table.{Table, new_table}
+use Rattle.gx_waits.specs.declared.graph.LocalGraph.{LocalGraph}
+use Rattle.gx_locks.specs.Locks.{Locks}
 use Rattle.gx_msg.specs.declared.item.JournalItem.{JournalItem}
 use Rattle.gx_msg.specs.declared.message.Out.{Out}
-use Rattle.gx_session.specs.Session.{idle_outside}
-use Rattle.gx_session.specs.declared.state.SessionState.{SessionState}
+use Rattle.gx_script.specs.Session.{idle_outside}
+use Rattle.gx_script.specs.declared.state.SessionState.{SessionState}
 use Rattle.gx_store.specs.declared.mark.Mark.{Mark}
+use Rattle.gx_store.specs.Refusals.{the_coordinator}
 use Rattle.gx_rules.specs.Maps.{with_at}
+use Rattle.gx_rules.specs.Segments.{no_locks}
 
 -- A command under way: its statement and number, what was sent for it to each segment, the segments whose answers are
 -- awaited, and what was answered so far.
@@ -29,7 +33,8 @@ pub record Command : Type 0 where
   pub parts : List Part
 
 -- What the coordinator knows of a transaction besides its status: its session and level, its last command's number, the
--- snapshot that a repeatable-read block keeps, the segments where it has written, and the command under way.
+-- snapshot that a repeatable-read block keeps, the segments where it has written, the command under way, and the statement that
+-- waits for its table's lock, which has no number, snapshot or pieces before it goes out (none yet; relation locks begin them).
 pub record Work : Type 0 where
   pub session : SessionId
   pub level : Level
@@ -37,9 +42,10 @@ pub record Work : Type 0 where
   pub snapshot : Option Snapshot
   pub writers : List Node
   pub command : Option Command
+  pub waiting : Option Stmt
 
 abbrev pub new_work : SessionId → Level → Work
-new_work session level = record { session = session; level = level; last = 0; snapshot = None; writers = []; command = None }
+new_work session level = record { session = session; level = level; last = 0; snapshot = None; writers = []; command = None; waiting = None }
 
 -- of a transaction that wasn't drawn, or has its Commit or Abort mark, nothing is known
 abbrev pub no_work : Work
@@ -54,17 +60,32 @@ pub record Session : Type 0 where
 abbrev pub new_session : Session
 new_session = record { state = idle_outside; lines = 0; transaction = record { 0 = 0 } }
 
--- The coordinator: its transactions' statuses, what else it knows of them by gxid, the sessions, how many messages it has
--- sent to each segment, and its clock.
+-- The coordinator: its transactions' statuses, what else it knows of them by gxid, the sessions, its locks (none yet; relation
+-- locks fill them), how many rounds of the detector were begun, so the last one's number, and while that one runs the graphs that
+-- were reported of it, by segment (no round yet; the detector begins them), how many messages it has sent to each segment, and its
+-- clock.
 pub record Coord : Type 0 where
   pub table : Table
   pub works : ℕ → Work
   pub sessions : ℕ → Session
+  pub locks : Locks
+  pub rounds : ℕ
+  pub reports : Option (List LocalGraph)
   pub sent : ℕ → ℕ
   pub clock : ℕ
 
 abbrev pub new_coordinator : Coord
-new_coordinator = record { table = new_table; works = λ g. no_work; sessions = λ s. new_session; sent = λ node. 0; clock = 0 }
+new_coordinator =
+    record {
+      table = new_table;
+      works = λ g. no_work;
+      sessions = λ s. new_session;
+      locks = no_locks the_coordinator;
+      rounds = 0;
+      reports = None;
+      sent = λ node. 0;
+      clock = 0;
+    }
 
 abbrev pub work_of : Coord → Gxid → Work
 work_of c g = c.works g.0

@@ -77,14 +77,16 @@ at_node w (event.End s) = Some (node.End s)
 at_node w (event.Resend i g) = Some (node.Resend i g)
 at_node w event.Round = Some node.Round
 
--- a segment takes deliveries; what the coordinator admits, it says itself
-abbrev pub seg_can : NodeEvent → Bool
-seg_can (node.Deliver from envelope) = true
-seg_can _ = false
+-- A segment takes deliveries, and would resume who waits there and may go on; nobody waits yet. What the coordinator admits, it
+-- says itself.
+abbrev pub seg_can : Script → Seg → NodeEvent → Bool
+seg_can script s (node.Deliver from envelope) = true
+seg_can script s (node.Resume g) = false
+seg_can script s _ = false
 
 abbrev pub can_here : Script → World → Node → Option NodeEvent → Bool
 can_here script w at None = false
-can_here script w at (Some e) = if is_same_node at the_coordinator then coord_can script w.coord e else seg_can e
+can_here script w at (Some e) = if is_same_node at the_coordinator then coord_can script w.coord e else seg_can script (w.segs at.0) e
 
 -- what is admitted
 abbrev pub can : Script → World → Event → Bool

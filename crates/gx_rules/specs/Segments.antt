@@ -6,7 +6,12 @@ use Rattle.gx_ids.specs.declared.ids.Gxid.{Gxid}
 use Rattle.gx_ids.specs.declared.ids.Node.{Node}
 use Rattle.gx_ids.specs.declared.ids.Table.{Table}
 use Rattle.gx_ids.specs.declared.rid.Rid.{Rid}
+use Rattle.gx_tree.specs.declared.slice.Slice.{Slice}
+use Rattle.gx_tree.specs.declared.stmt.Level.{Level}
 use Rattle.gx_tree.specs.declared.value.Value.{Value}
+use Rattle.gx_dsnap.specs.declared.snapshot.Snapshot.{Snapshot}
+use Rattle.gx_waits.specs.declared.graph.LocalGraph.{LocalGraph}
+use Rattle.gx_locks.specs.Locks.{Locks}
 use Rattle.gx_msg.specs.declared.item.JournalItem.{JournalItem}
 use Rattle.gx_msg.specs.declared.message.Message.TheVariants.{Answer}
 use Rattle.gx_msg.specs.declared.message.Out.{Out}
@@ -36,16 +41,29 @@ has_ended (Forgotten committed) = true
 has_ended Aborted = true
 has_ended _ = false
 
--- A transaction at a segment: its phase, its last command there (0 before the first), and what was answered to that command
--- and to PREPARE or COMMIT.
+-- A slice that waits: its command, how many rows it has written, the row at which it waits, and the rows left behind that one.
+-- Where it waits for its table there is no row yet. None of its kind stands yet: relation locks make those without a row, updates
+-- and deletes those with one.
+pub record Suspended : Type 0 where
+  pub cid : Cid
+  pub level : Level
+  pub snapshot : Option Snapshot
+  pub slice : Slice
+  pub count : ℕ
+  pub row : Option Rid
+  pub rows : List Rid
+
+-- A transaction at a segment: its phase, its last command there (0 before the first), what was answered to that command and to
+-- PREPARE or COMMIT, and the slice that waits (none yet; relation locks begin them).
 pub record Local : Type 0 where
   pub phase : Phase
   pub last : ℕ
   pub answer : Option Reply
   pub vote : Option Reply
+  pub suspended : Option Suspended
 
 abbrev pub new_local : Local
-new_local = record { phase = Reading; last = 0; answer = None; vote = None }
+new_local = record { phase = Reading; last = 0; answer = None; vote = None; suspended = None }
 
 -- what a command wrote of a row; an image of None is a row that is gone
 pub record Version : Type 0 where
@@ -55,18 +73,38 @@ pub record Version : Type 0 where
   pub rid : Rid
   pub image : Option (List Value)
 
--- A segment: the horizon, the transactions by gxid, all versions in the order in which they were written, how many messages
--- it has sent, and its clock. What stands below the horizon counts as ended; nothing is dropped here.
+-- A segment: the horizon, the transactions by gxid, all versions in the order in which they were written, its locks (none yet;
+-- relation locks fill them), the last round of the detector that asked for a graph there (0 before the first) and the graph that
+-- it was told (none yet; the detector makes both), how many messages it has sent, and its clock. What stands below the horizon
+-- counts as ended; nothing is dropped here.
 pub record Seg : Type 0 where
   pub node : Node
   pub horizon : Gxid
   pub locals : ℕ → Local
   pub versions : List Version
+  pub locks : Locks
+  pub round : ℕ
+  pub graph : Option LocalGraph
   pub sent : ℕ
   pub clock : ℕ
 
+-- a node where nobody holds or waits
+abbrev pub no_locks : Node → Locks
+no_locks node = record { node = node; holds = []; waits = [] }
+
 abbrev pub new_segment : Node → Seg
-new_segment node = record { node = node; horizon = record { 0 = 0 }; locals = λ g. new_local; versions = []; sent = 0; clock = 0 }
+new_segment node =
+    record {
+      node = node;
+      horizon = record { 0 = 0 };
+      locals = λ g. new_local;
+      versions = [];
+      locks = no_locks node;
+      round = 0;
+      graph = None;
+      sent = 0;
+      clock = 0;
+    }
 
 abbrev pub local_of : Seg → Gxid → Local
 local_of s g = s.locals g.0

@@ -51,7 +51,7 @@ pub record IsSegStep (script : Script) (steps : List Step) (s : Seg) (step : Ste
   pub here : NodeEvent
   pub fails : Bool
   pub is : IsHere steps step.event here
-  pub admitted : seg_can here ≡ true
+  pub admitted : seg_can script s here ≡ true
   pub marks : step.marks ≡ (seg_rule script s here fails).marks
   pub clock : step.stamp.clock ≡ (seg_rule script s here fails).seg.clock
 

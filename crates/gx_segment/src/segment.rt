@@ -57,7 +57,7 @@ impl Segment {
         })
     }
 
-    /// Does one event, a delivery, by the segment's rule. What the envelope holds is tested here; what doesn't fit changes
+    /// Does one event that the rule admits, by the segment's rule. What the envelope holds is tested here; what doesn't fit changes
     /// nothing but the clock. The journal takes the items of PREPARE, COMMIT and COMMIT PREPARED before they are answered.
     /// Each slice enters the gate first, at this node.
     pub fn step<J: Journal, G: Gate>(
@@ -68,7 +68,7 @@ impl Segment {
     ) -> Mem<NodeOut>
         ghost s: { Seg }
         requires is { self.old.spent ≡ false → IsSegment self.old s }
-        requires admitted { seg_can event ≡ true }
+        requires admitted { seg_can self.old.script.value s event ≡ true }
         requires clock { self.old.clock < 2 ^ 62 }
         requires heard { heard_in event < 2 ^ 62 }
         requires numbers { self.old.sent < 2 ^ 62 }

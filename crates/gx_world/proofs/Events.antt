@@ -18,11 +18,11 @@ use Rattle.gx_store.specs.Journals.{is_same_node}
 use Rattle.gx_store.specs.Ordered.{AreOrdered, IsLink, IsOrderedStep}
 use Rattle.gx_store.specs.Refusals.{the_coordinator}
 use Rattle.gx_rules.specs.Machine as machine
-use Rattle.gx_rules.specs.Machine.{Letter, at_node, can, can_here, delivered, does, found, happens, kept_item, node_of}
+use Rattle.gx_rules.specs.Machine.{Letter, at_node, can, can_here, delivered, does, found, happens, kept_item, node_of, seg_can}
 use Rattle.gx_rules.specs.Sending.{heard_in}
 use Rattle.gx_law_order.specs.Journals.{item_at, takes}
 use Rattle.gx_law_order.proofs.Letters.{IsLetter, found_is}
-use Rattle.gx_law_order.proofs.Ordered.{Well, happens_well, never_resumes}
+use Rattle.gx_law_order.proofs.Ordered.{Well, happens_well, resumes_there}
 use Rattle.gx_law_runs.specs.Reached.{HasRoomAfter}
 use Rattle.gx_law_runs.specs.Replays.{letters_after}
 use Rattle.gx_world.specs.declared.network.Network.{Network}
@@ -30,6 +30,7 @@ use Rattle.gx_world.specs.Networks.{HasMoved}
 use Rattle.gx_world.specs.Turns.{IsNext}
 use Rattle.gx_world.specs.Worlds.{HasTaken, Shelf}
 use Rattle.gx_world.proofs.Segs.{get-set, some-same}
+use Rattle.gx_rules.specs.AtCoordinator.{coord_can}
 
 -- the last of ordered steps
 last-ordered : (script : Script) (before ss : List Step) (s : Step) → AreOrdered script before (ss ++ s ∷ []) → IsOrderedStep script (before ++ ss) s
@@ -128,13 +129,14 @@ module _ (script : Script) (some : 1 ≤ script.segments) (w : machine.World) (g
       let r = received here w.sent from to number h (found from to number w.sent) refl in
       let f = found_is (IsLetter script w.steps) from to number w.sent r.0 good.letters r.1.0 in
       subst (λ (n : Node). n.0 ≤ script.segments) f.target (link-target f.letter.from f.letter.to f.is.link)
-  few-by (event.Resume n g) h c = absurd (never (subst (λ x. can_here script w n (Some x) ≡ true) (sym (some-same (node.Resume g) here h)) c) (never_resumes script some w n (node.Resume g) refl refl))
+  few-by (event.Resume n g) h c = by_test (is_same_node n the_coordinator) refl (subst (λ x. can_here script w n (Some x) ≡ true) (sym (some-same (node.Resume g) here h)) c)
     where
-      never : {b : Bool} → b ≡ true → b ≡ false → ⊥
-      never h k = same h k
-        where
-          same : {b : Bool} → b ≡ true → b ≡ false → ⊥
-          same h k = absurd (cc)
+      least : (n : Node) → is_same_node n the_coordinator ≡ true → n.0 ≤ script.segments
+      least n same = grind (arith, nat_tests)
+
+      by_test : (b : Bool) → is_same_node n the_coordinator ≡ b → (if b then coord_can script w.coord (node.Resume g) else seg_can script (w.segs n.0) (node.Resume g)) ≡ true → n.0 ≤ script.segments
+      by_test true same c = least n same
+      by_test false away c = (resumes_there script some w n g good c).1
   few-by (event.Start s) h c = omega arith
   few-by (event.End s) h c = omega arith
   few-by (event.Resend i g) h c = omega arith

@@ -1,5 +1,5 @@
 -- What numbers the nodes hold after so many steps.
-use Rattle.std.proofs.Common.{◌≡◌, ◌≤◌, ◌<◌, ◌^◌, ℕ, ◌+◌, get_or, List, ap, arith, length}
+use Rattle.std.proofs.Common.{◌≡◌, ◌≤◌, ◌<◌, ◌^◌, ℕ, ◌+◌, ◌*◌, get_or, List, ap, arith, length}
 use Rattle.std.proofs.lemmas.List.Elements.{All-from_get_or}
 use Rattle.gx_script.specs.declared.Script.{Script}
 use Rattle.gx_store.specs.declared.run.Step.{Step}
@@ -13,6 +13,10 @@ use Rattle.gx_world.proofs.Journals.{read-at}
 pub below : {a b n : ℕ} → a ≡ b → b ≤ n → n < 2 ^ 40 → a < 2 ^ 62
 below e h few = omega (arith, e, h, few)
 
+-- of 64 messages a step
+pub sent-below : {a b n : ℕ} → a ≡ b → b ≤ 64 * n → n < 2 ^ 40 → a < 2 ^ 62
+sent-below e h few = omega (arith, e, h, few)
+
 pub next-below : {a b n : ℕ} → a ≡ b → b ≤ n + 1 → n < 2 ^ 40 → a < 2 ^ 62
 next-below e h few = omega (arith, e, h, few)
 
@@ -23,7 +27,7 @@ pub network-room : (script : Script) (steps : List Step) (old : Network) → Sta
 network-room script steps old stands room few =
     record {
       clock = below stands.coord.clock room.clock few;
-      sent = All-from_get_or (λ n. n < 2 ^ 62) old.coord.sent.items 0 (λ i inside. below (ap (λ (c : rule.Coord). c.sent i) stands.coord.holds) (room.sent i) few);
+      sent = All-from_get_or (λ n. n < 2 ^ 62) old.coord.sent.items 0 (λ i inside. sent-below (ap (λ (c : rule.Coord). c.sent i) stands.coord.holds) (room.sent i) few);
       next = next-below (ap (λ t. t.next.0) stands.coord.table) room.next few;
       segments = λ k d inside.
           let at = stands.segments k (get_or old.segments.items k d) (read-at old.segments.items k d inside) in

@@ -13,7 +13,7 @@ use Rattle.gx_store.specs.Refusals.{the_coordinator}
 use Rattle.gx_rules.specs.AtCoordinator.{coord_rule}
 use Rattle.gx_rules.specs.AtSegment.{seg_rule}
 use Rattle.gx_rules.specs.Machine as machine
-use Rattle.gx_rules.specs.Machine.{coord_did, does, kept_item, noted, seg_did}
+use Rattle.gx_rules.specs.Machine.{coord_did, does, kept_item, noted, seg_did, seg_can}
 use Rattle.gx_rules.specs.Maps.{with_at}
 use Rattle.gx_rules.specs.Segments.{Seg}
 use Rattle.gx_segment.specs.declared.segment.Segment.{Segment}
@@ -64,6 +64,9 @@ module _ (script : Script) (w : machine.World) (old : Network) (stands : Stands 
 
   pub seg-is : (s : Segment) → slice_get old.segments.items (at.0 - 1) ≡ Some s → segment.IsSegment s (w.segs at.0)
   seg-is s e = subst (λ k. segment.IsSegment s (w.segs k)) (one-back at.0 some) (stands.segments (at.0 - 1) s e).is
+
+  pub seg-may : (here : NodeEvent) → seg_can script (w.segs at.0) here ≡ true → (s : Segment) → slice_get old.segments.items (at.0 - 1) ≡ Some s → seg_can s.script.value (w.segs at.0) here ≡ true
+  seg-may here ok s e = subst (λ q. seg_can q (w.segs at.0) here ≡ true) (sym (stands.segments (at.0 - 1) s e).of) ok
 
   pub seg-inside : at.0 ≤ script.segments → at.0 ≤ length old.segments.items
   seg-inside few = omega (arith, few, stands.count)

@@ -1,7 +1,7 @@
 use Rattle.std.proofs.Common.{ap}
 use Rattle.gx_world.specs.declared.network.Network.{Network}
 use Rattle.gx_world.proofs.Answers.{both_ok, on_ok}
-use Rattle.gx_world.proofs.Segs.{seg-addressed, seg-inside, seg-is, seg-turned, seg-usable}
+use Rattle.gx_world.proofs.Segs.{seg-addressed, seg-inside, seg-is, seg-may, seg-turned, seg-usable}
 use Rattle.gx_world.proofs.turning.seg_turn.Goals as goal
 
 pub seg_step-requires : goal.seg_step-requires
@@ -17,7 +17,10 @@ seg_step-requires g c κs within = (
           seg-usable _ _ c.args.network.now c.requires.1.1.0 c.args.at c.requires.1.1.1.0,
           (
             seg-is _ _ c.args.network.now c.requires.1.1.0 c.args.at c.requires.1.1.1.0,
-            (c.requires.1.1.1.1.1.1.1.1.segments, (c.requires.1.1.1.1.1.0, c.requires.1.1.1.1.1.1.1.0)),
+            (
+              c.requires.1.1.1.1.1.1.1.1.segments,
+              (seg-may _ _ c.args.network.now c.requires.1.1.0 c.args.at c.requires.1.1.1.0 c.args.there c.requires.1.1.1.1.1.0, c.requires.1.1.1.1.1.1.1.0),
+            ),
           ),
         ),
       ),

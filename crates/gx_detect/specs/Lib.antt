@@ -1,0 +1,11 @@
+pub mod Reports
+pub mod Rounds
+pub mod Inactive
+pub mod Deadlocks
+pub mod Calls
+pub mod Place
+pub mod Tally
+pub mod Settled
+pub mod Reducing
+pub mod Reduce
+pub mod Core
