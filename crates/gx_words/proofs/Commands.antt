@@ -1,6 +1,5 @@
 -- The command that is built, and what its parse says of the words.
-use Rattle.std.proofs.Common.{◌≡◌, ◌≢◌, ◌∙◌, ℕ, ◌⊎◌, inl, inr, true, List, [], ◌∷◌, refl, sym, ap, ap₂, codes}
-use Rattle.clap.specs.Facts.{subcommands_of}
+use Rattle.std.proofs.Common.{◌≡◌, ◌≢◌, ◌∙◌, ℕ, inl, inr, true, List, [], ◌∷◌, refl, sym, ap, ap₂, codes}
 use Rattle.clap.specs.Kinds.{HasKind, Kinds}
 use Rattle.clap.specs.Walk.{Rule, rows_of}
 use Rattle.clap.specs.Matches.{found_of}
@@ -17,10 +16,8 @@ use Rattle.gx_words.specs.Command.{bare, command, tracing, valued}
 use Rattle.gx_words.specs.declared.command.WordsFault.{WordsFault}
 use Rattle.gx_words.specs.declared.command.WordsFault.TheVariants as words_fault
 
-unnamed : App → App
-unnamed a = record { top = record a.top { no_binary_name = true }; subs = a.subs }
-
-pub bare-is : (first second third : Command) → app_of first ≡ new_app (codes "gx") → out-Command second ≡ record (out-Command first) { no_binary_name = true }
+pub bare-is : (first second third : Command) → app_of first ≡ new_app (codes "gx")
+    → out-Command second ≡ record (out-Command first) { no_binary_name = true }
     → out-Command third ≡ record (out-Command second) { disable_help_flag = true } → app_of third ≡ bare
 bare-is first second third new unnamed helpless =
     ap app_of_fields helpless
@@ -28,8 +25,10 @@ bare-is first second third new unnamed helpless =
     ap app_of_fields unnamed
     ∙ ap (λ (a : App). record { top = record a.top { no_binary_name = true }; subs = a.subs }) new)
 
-pub command-is : (start one two three all : Command) (a b d e : Rule) → app_of start ≡ bare → a ≡ valued (codes "seed") → b ≡ valued (codes "turns") → d ≡ valued (codes "gen") → e ≡ tracing
-    → app_of one ≡ with_rule (app_of start) a → app_of two ≡ with_rule (app_of one) b → app_of three ≡ with_rule (app_of two) d → app_of all ≡ with_rule (app_of three) e
+pub command-is : (start one two three all : Command) (a b d e : Rule) → app_of start ≡ bare → a ≡ valued (codes "seed") → b ≡ valued (codes "turns")
+    → d ≡ valued (codes "gen") → e ≡ tracing
+    → app_of one ≡ with_rule (app_of start) a → app_of two ≡ with_rule (app_of one) b → app_of three ≡ with_rule (app_of two) d
+    → app_of all ≡ with_rule (app_of three) e
     → app_of all ≡ command
 command-is start one two three all a b d e begins seed turns gen trace first second third last =
     last ∙ ap₂ with_rule (third ∙ ap₂ with_rule (second ∙ ap₂ with_rule (first ∙ ap₂ with_rule begins seed) turns) gen) trace

@@ -1,5 +1,5 @@
 -- The values of options among what a parse finds.
-use Rattle.std.proofs.Common.{◌≡◌, ◌∙◌, ℕ, ◌||◌, Bool, true, false, cond, List, [], ◌∷◌, ◌++◌, map, Option, Some, None, refl, sym, ap, true≢false, codes}
+use Rattle.std.proofs.Common.{◌≡◌, ◌∙◌, ℕ, Bool, true, false, List, [], ◌∷◌, ◌++◌, map, Option, Some, None, refl, sym, ap, true≢false, codes}
 use Rattle.std.proofs.lemmas.List.Folds.{find-append}
 use Rattle.std.specs.List.{find, list_any}
 use Rattle.std.specs.Option.{option_map, option_or}
@@ -8,7 +8,7 @@ use Rattle.std.specs.Str.{bytes_eq}
 use Rattle.clap.specs.Walk.{Row, first_of, has_row, more_values, one_of, row_text, with_default}
 use Rattle.clap.specs.declared.parser.matches.ValueSource.TheVariants.{DefaultValue}
 use Rattle.clap.proofs.WalkLemmas.{find-map}
-use Rattle.gx_words.specs.Words.{Name, Part, seed, turns, gen, flag, apart, joined, has_label, label, name_text, number_given, number_in, number_of}
+use Rattle.gx_words.specs.Words.{Name, Part, seed, turns, gen, flag, apart, joined, has_label, name_text, number_given, number_in, number_of}
 use Rattle.gx_words.specs.Found.{found_of_parts, row, text_in, trace_rule}
 use Rattle.gx_words.proofs.Rows.{at_row-missing, has-part}
 
@@ -45,7 +45,8 @@ first-text (Some p) = refl
 unset-other : (id : List ℕ) → bytes_eq (codes "trace") id ≡ false → find (is_row id) unset ≡ None
 unset-other id other = rw other refl
 
-find-all : (id : List ℕ) (parts : List Part) → bytes_eq (codes "trace") id ≡ false → find (is_row id) (found_of_parts parts) ≡ option_map row (find (has_label id) parts)
+find-all : (id : List ℕ) (parts : List Part) → bytes_eq (codes "trace") id ≡ false
+    → find (is_row id) (found_of_parts parts) ≡ option_map row (find (has_label id) parts)
 find-all id parts other = elim (ends parts) [
   | given e is ↦ ap (find (is_row id)) is ∙ find-row id parts
   | missing e is ↦
@@ -56,8 +57,10 @@ find-all id parts other = elim (ends parts) [
       ∙ find-row id parts
 ]
 
-pub first-part : (id : List ℕ) (parts : List Part) → bytes_eq (codes "trace") id ≡ false → first_of id (found_of_parts parts) ≡ option_map text_in (find (has_label id) parts)
-first-part id parts other = ap (option_and_then (λ (r : Row). slice_get r.values 0)) (find-all id parts other) ∙ first-text (find (has_label id) parts)
+pub first-part : (id : List ℕ) (parts : List Part) → bytes_eq (codes "trace") id ≡ false
+    → first_of id (found_of_parts parts) ≡ option_map text_in (find (has_label id) parts)
+first-part id parts other = ap (option_and_then (λ (r : Row). slice_get r.values 0)) (find-all id parts other)
+    ∙ first-text (find (has_label id) parts)
 
 number-text : (o : Option Part) → option_and_then number_of (option_map text_in o) ≡ option_and_then number_in o
 number-text None = refl
@@ -65,7 +68,8 @@ number-text (Some flag) = refl
 number-text (Some (apart n t)) = refl
 number-text (Some (joined n t)) = refl
 
-pub number-part : (id : List ℕ) (parts : List Part) → bytes_eq (codes "trace") id ≡ false → option_and_then number_of (first_of id (found_of_parts parts)) ≡ number_given id parts
+pub number-part : (id : List ℕ) (parts : List Part) → bytes_eq (codes "trace") id ≡ false
+    → option_and_then number_of (first_of id (found_of_parts parts)) ≡ number_given id parts
 number-part id parts other = ap (option_and_then number_of) (first-part id parts other) ∙ number-text (find (has_label id) parts)
 
 -- ---- the flag
@@ -75,7 +79,8 @@ not-trace seed = refl
 not-trace turns = refl
 not-trace gen = refl
 
-traced : (parts : List Part) → list_any (has_label (codes "trace")) parts ≡ true → option_and_then row_text (find (is_row (codes "trace")) (map row parts)) ≡ Some (codes "true")
+traced : (parts : List Part) → list_any (has_label (codes "trace")) parts ≡ true
+    → option_and_then row_text (find (is_row (codes "trace")) (map row parts)) ≡ Some (codes "true")
 traced [] e = absurd (true≢false (sym e))
 traced (flag ∷ parts) e = refl
 traced (apart n t ∷ parts) e = rw (not-trace n) (traced parts (rw (not-trace n) at e))
@@ -99,6 +104,8 @@ flag-part parts = elim (ends parts) [
   | missing e is ↦
       let not_set : list_any (has_label (codes "trace")) parts ≡ false = sym (has-part (codes "trace") parts) ∙ e in
       ap (one_of (codes "trace")) is
-      ∙ ap (option_and_then row_text) (find-append (is_row (codes "trace")) (map row parts) unset ∙ ap (λ (o : Option Row). option_or o (find (is_row (codes "trace")) unset)) (untraced parts not_set))
+      ∙ ap (option_and_then row_text)
+      (find-append (is_row (codes "trace")) (map row parts) unset
+      ∙ ap (λ (o : Option Row). option_or o (find (is_row (codes "trace")) unset)) (untraced parts not_set))
       ∙ ap (λ (b : Bool). Some (flag_text b)) (sym not_set)
 ]

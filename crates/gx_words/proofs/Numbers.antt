@@ -1,5 +1,5 @@
 -- The number that digits write, a digit more.
-use Rattle.std.proofs.Common.{◌≡◌, ◌<◌, ℕ, ◌+◌, ◌-◌, ◌*◌, ◌≤◌, ◌==◌, nat_le, nat_lt, ◌&&◌, Bool, true, false, cond, List, [], ◌∷◌, length, Option, Some, None, refl, ap, sym, subst, ◌∙◌, arith, ltb-true, true≢false}
+use Rattle.std.proofs.Common.{◌≡◌, ℕ, ◌+◌, ◌-◌, ◌*◌, ◌≤◌, ◌==◌, nat_le, nat_lt, ◌&&◌, Bool, true, false, cond, List, [], ◌∷◌, length, Option, Some, None, refl, sym, subst, ◌∙◌, arith, true≢false}
 use Rattle.std.specs.Option.{is_some}
 use Rattle.std.proofs.lemmas.Bool.{eqb-true}
 use Rattle.gx_words.specs.Words.{fitting, number_behind, number_of}
@@ -10,7 +10,8 @@ pub fitting-large : (n : ℕ) (ds : List ℕ) → 18446744073709551616 ≤ n →
 fitting-large n [] large = grind arith
 fitting-large n (d ∷ ds) large = at (nat_le 48 d && nat_le d 57) (fitting-large (n * 10 + (d - 48)) ds (omega (arith, large)))
   where
-    at : (digit : Bool) → fitting (number_behind (n * 10 + (d - 48)) ds) ≡ None → fitting (cond digit (number_behind (n * 10 + (d - 48)) ds) None) ≡ None
+    at : (digit : Bool) → fitting (number_behind (n * 10 + (d - 48)) ds) ≡ None
+        → fitting (cond digit (number_behind (n * 10 + (d - 48)) ds) None) ≡ None
     at true rec = rec
     at false rec = refl
 
@@ -23,27 +24,6 @@ fitting-lost n d ds e = at (nat_le 48 d && nat_le d 57) (nat_lt (n * 10 + (d - 4
     at true true s e = absurd (cc)
     at true false s e = fitting-large (n * 10 + (d - 48)) ds (grind arith)
 
-pub grown-fits : (n d m : ℕ) → grown n d ≡ Some m → m < 18446744073709551616
-grown-fits n d m e = at (nat_le 48 d && nat_le d 57) (nat_lt (n * 10 + (d - 48)) 18446744073709551616) refl e
-  where
-    at : (digit small : Bool) → nat_lt (n * 10 + (d - 48)) 18446744073709551616 ≡ small → cond (digit && small) (Some (n * 10 + (d - 48))) None ≡ Some m → m < 18446744073709551616
-    at false small s e = absurd (cc)
-    at true false s e = absurd (cc)
-    at true true s e =
-        let same : n * 10 + (d - 48) ≡ m = cc in
-        let low : n * 10 + (d - 48) < 18446744073709551616 = ltb-true _ _ s in
-        omega arith
-
-pub number_behind-grown : (n d m : ℕ) (ds : List ℕ) → grown n d ≡ Some m → number_behind n (d ∷ ds) ≡ number_behind m ds
-number_behind-grown n d m ds e = at (nat_le 48 d && nat_le d 57) (nat_lt (n * 10 + (d - 48)) 18446744073709551616) e
-  where
-    at : (digit small : Bool) → cond (digit && small) (Some (n * 10 + (d - 48))) None ≡ Some m → cond digit (number_behind (n * 10 + (d - 48)) ds) None ≡ number_behind m ds
-    at false small e = absurd (cc)
-    at true false e = absurd (cc)
-    at true true e =
-        let same : n * 10 + (d - 48) ≡ m = cc in
-        ap (λ (k : ℕ). number_behind k ds) same
-
 nothing : (b : Bool) → (let o : Option ℕ = cond b None None in is_some o) ≡ false
 nothing true = refl
 nothing false = refl
@@ -54,7 +34,9 @@ number-first d ds e = at (d == 45) refl
   where
     hyphen : (k : ℕ) → k ≡ 45 → is_some (number_of (k ∷ ds)) ≡ true → ⊥
     hyphen k is some =
-        true≢false (sym (subst (λ (x : ℕ). is_some (number_of (x ∷ ds)) ≡ true) is some) ∙ nothing (nat_le 1 (length (45 ∷ ds)) && nat_le (length (45 ∷ ds)) 20))
+        true≢false
+        (sym (subst (λ (x : ℕ). is_some (number_of (x ∷ ds)) ≡ true) is some)
+        ∙ nothing (nat_le 1 (length (45 ∷ ds)) && nat_le (length (45 ∷ ds)) 20))
 
     at : (b : Bool) → (d == 45) ≡ b → b ≡ false
     at false is = refl

@@ -21,7 +21,8 @@ use Rattle.gx_words.proofs.Splits.{AreParts, are-parts, parts-fine, parts-found}
 abbrev pub Tells : List Row → Options → Type 0
 Tells rows options = (parts : List Part) → rows ≡ found_of_parts parts → options ≡ options_of parts
 
-pub reads : (ws : List (List ℕ)) (rows : List Row) (options : Options) → list_all is_known ws ≡ true → fault_of command ws ≡ [] → rows ≡ matches_of command ws → Tells rows options
+pub reads : (ws : List (List ℕ)) (rows : List Row) (options : Options) → list_all is_known ws ≡ true → fault_of command ws ≡ []
+    → rows ≡ matches_of command ws → Tells rows options
     → 1 ≤ options.turns → options.turns ≤ 10000000 → IsCommand ws options
 reads ws rows options known fine found tells least most = record {
   parts = are.parts;
@@ -36,7 +37,8 @@ reads ws rows options known fine found tells least most = record {
     are : AreParts ws
     are = are-parts ws known fine
 
-pub reads-alone : (ws : List (List ℕ)) (rows : List Row) (options others : Options) → rows ≡ matches_of command ws → Tells rows options → IsCommand ws others → others ≡ options
+pub reads-alone : (ws : List (List ℕ)) (rows : List Row) (options others : Options) → rows ≡ matches_of command ws → Tells rows options
+    → IsCommand ws others → others ≡ options
 reads-alone ws rows options others found tells is =
     is.are ∙ sym (tells is.parts (found ∙ ap (matches_of command) is.written ∙ parts-found is.parts is.once is.numbered))
 
@@ -51,7 +53,8 @@ reads-fine ws options is = ap (fault_of command) is.written ∙ parts-fine is.pa
 abbrev pub IsLimited : Options → Options → Type 0
 IsLimited options o = (o ≡ options) × (1 ≤ options.turns) × (options.turns ≤ 10000000)
 
-pub reads-limited : (ws : List (List ℕ)) (rows : List Row) (options : Options) → list_all is_known ws ≡ true → fault_of command ws ≡ [] → rows ≡ matches_of command ws → Tells rows options
+pub reads-limited : (ws : List (List ℕ)) (rows : List Row) (options : Options) → list_all is_known ws ≡ true → fault_of command ws ≡ []
+    → rows ≡ matches_of command ws → Tells rows options
     → (o : Options) → IsLimited options o → IsCommand ws o
 reads-limited ws rows options known fine found tells o of = subst (IsCommand ws) (sym of.0) (reads ws rows options known fine found tells of.1 of.2)
 
@@ -59,21 +62,25 @@ pub alone-limited : (ws : List (List ℕ)) (rows : List Row) (options : Options)
     → (o : Options) → IsLimited options o → (others : Options) → IsCommand ws others → others ≡ o
 alone-limited ws rows options found tells o of others is = reads-alone ws rows options others found tells is ∙ sym of.0
 
-pub refused-limited : (ws : List (List ℕ)) (rows : List Row) (options : Options) → rows ≡ matches_of command ws → Tells rows options → (r : Result Options WordsFault)
+pub refused-limited : (ws : List (List ℕ)) (rows : List Row) (options : Options) → rows ≡ matches_of command ws → Tells rows options
+    → (r : Result Options WordsFault)
     → (r ≡ Err Usage → 1 ≤ options.turns → options.turns ≤ 10000000 → ⊥) → r ≡ Err Usage → (others : Options) → IsCommand ws others → ⊥
 refused-limited ws rows options found tells r refused said others is =
     let same = reads-alone ws rows options others found tells is in
     refused said (subst (λ (x : Options). 1 ≤ x.turns) same is.least) (subst (λ (x : Options). x.turns ≤ 10000000) same is.most)
 
-pub refused-fault : (ws : List (List ℕ)) (f : WordsFault) → (fault_of command ws ≡ [] → f ≡ Usage → ⊥) → (let r : Result Options WordsFault = Err f in r) ≡ Err Usage → (others : Options) → IsCommand ws others → ⊥
+pub refused-fault : (ws : List (List ℕ)) (f : WordsFault) → (fault_of command ws ≡ [] → f ≡ Usage → ⊥)
+    → (let r : Result Options WordsFault = Err f in r) ≡ Err Usage → (others : Options) → IsCommand ws others → ⊥
 refused-fault ws f refused said others is =
     let usage : f ≡ Usage = cc in
     refused (reads-fine ws others is) usage
 
 -- ---- words as strings
 
-pub known-texts : (words : List (String Global)) → list_all (λ w. is_known (string_bytes w)) words ≡ true → list_all is_known (map string_bytes words) ≡ true
+pub known-texts : (words : List (String Global)) → list_all (λ w. is_known (string_bytes w)) words ≡ true
+    → list_all is_known (map string_bytes words) ≡ true
 known-texts words e = list_all-map is_known string_bytes words ∙ e
 
-pub unknown-texts : (words : List (String Global)) → list_all (λ w. is_known (string_bytes w)) words ≡ false → (options : Options) → IsCommand (map string_bytes words) options → ⊥
+pub unknown-texts : (words : List (String Global)) → list_all (λ w. is_known (string_bytes w)) words ≡ false → (options : Options)
+    → IsCommand (map string_bytes words) options → ⊥
 unknown-texts words e options is = true≢false (sym (reads-known (map string_bytes words) options is) ∙ list_all-map is_known string_bytes words ∙ e)

@@ -18,7 +18,8 @@ or-false : (a b : Bool) → (a || b) ≡ false → (a ≡ false) × (b ≡ false
 or-false false b e = (refl, e)
 or-false true b e = absurd (cc)
 
-pub at_row-missing : (id : List ℕ) (change : Row → List Row) (missing rs : List Row) → has_row id rs ≡ false → at_row id change missing rs ≡ rs ++ missing
+pub at_row-missing : (id : List ℕ) (change : Row → List Row) (missing rs : List Row) → has_row id rs ≡ false
+    → at_row id change missing rs ≡ rs ++ missing
 at_row-missing id change missing [] e = refl
 at_row-missing id change missing (r ∷ rs) e =
     let both = or-false (bytes_eq r.id id) (has_row id rs) e in
@@ -27,10 +28,12 @@ at_row-missing id change missing (r ∷ rs) e =
 
 -- an option that wasn't given before is found behind the others
 placed : (id : List ℕ) (how : Reading) (values : List (List ℕ)) (rs : List Row) → has_row id rs ≡ false
-    → with_values id how CommandLine values (without id rs) ≡ rs ++ record { id = id; values = values; count = None; source = Some CommandLine; reading = how } ∷ []
+    → with_values id how CommandLine values (without id rs) ≡ rs
+    ++ record { id = id; values = values; count = None; source = Some CommandLine; reading = how } ∷ []
 placed id how values rs e =
     ap (with_values id how CommandLine values) (at_row-missing id (λ _. []) [] rs e ∙ append-nil rs)
-    ∙ at_row-missing id (more_values CommandLine values) (record { id = id; values = values; count = None; source = Some CommandLine; reading = how } ∷ []) rs e
+    ∙ at_row-missing id (more_values CommandLine values)
+    (record { id = id; values = values; count = None; source = Some CommandLine; reading = how } ∷ []) rs e
 
 pub used-part : (p : Part) (rs : List Row) → has_row (label p) rs ≡ false → used (rule_in p) (values_in p) rs ≡ rs ++ row p ∷ []
 used-part flag rs e = placed (codes "trace") (reading_by trace_rule) (codes "true" ∷ []) rs e
@@ -72,7 +75,8 @@ pub has-part : (name : List ℕ) (ps : List Part) → has_row name (map row ps) 
 has-part name ps = sym (list_any-map (λ (r : Row). bytes_eq r.id name) row ps)
 
 -- an option that was given before is refused
-pub is-new : (p : Part) (rs : List Row) (before : List Part) → rs ≡ map row before → use_fault false (rule_in p) (values_in p) rs ≡ [] → list_any (has_label (label p)) before ≡ false
+pub is-new : (p : Part) (rs : List Row) (before : List Part) → rs ≡ map row before → use_fault false (rule_in p) (values_in p) rs ≡ []
+    → list_any (has_label (label p)) before ≡ false
 is-new p rs before same none = at (list_any (has_label (label p)) before) refl
   where
     at : (b : Bool) → list_any (has_label (label p)) before ≡ b → b ≡ false

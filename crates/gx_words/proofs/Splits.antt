@@ -3,14 +3,14 @@ use Rattle.std.proofs.Common.{◌≡◌, ◌∙◌, ℕ, ◌&&◌, Bool, true, f
 use Rattle.std.specs.List.{flat_map, list_all, list_any}
 use Rattle.std.specs.Option.{is_some}
 use Rattle.clap.specs.Kinds.{Kinds, or_else}
-use Rattle.clap.specs.Walk.{Held, Row, idle, nothing_held, option, with_default}
+use Rattle.clap.specs.Walk.{Held, Row, idle, nothing_held, with_default}
 use Rattle.clap.specs.Simple.{matches_of}
 use Rattle.clap.specs.Faults.{fault_of, use_fault}
 use Rattle.clap.specs.declared.error.kind.ErrorKind.{ErrorKind}
 use Rattle.clap.proofs.FaultLemmas.{leaf_fault}
-use Rattle.gx_words.specs.Words.{Name, Part, seed, turns, gen, flag, apart, joined, are_once, has_label, is_numbered, label, name_text, number_of, words_of}
+use Rattle.gx_words.specs.Words.{Name, Part, flag, apart, joined, are_once, has_label, is_numbered, label, name_text, number_of, words_of}
 use Rattle.gx_words.specs.Command.{command, is_known}
-use Rattle.gx_words.proofs.Written.{AreWords, Kind, are-words, is_fit, name, number, text_of, trace, whole}
+use Rattle.gx_words.proofs.Written.{AreWords, Kind, and-true, are-words, is_fit, name, number, text_of, trace, whole}
 use Rattle.gx_words.proofs.Numbers.{number-first}
 use Rattle.gx_words.specs.Found.{found_of_parts, row, rule, trace_rule}
 use Rattle.gx_words.proofs.Rows.{is-new}
@@ -28,10 +28,6 @@ or_else-right (k ∷ ks) b e = absurd (cc)
 or_else-none : (a b : Kinds) → a ≡ [] → b ≡ [] → or_else a b ≡ []
 or_else-none [] b e f = f
 or_else-none (k ∷ ks) b e f = absurd (cc)
-
-and-parts : (a b : Bool) → (a && b) ≡ true → (a ≡ true) × (b ≡ true)
-and-parts true b e = (refl, e)
-and-parts false b e = absurd (true≢false (sym e))
 
 not-false : (b : Bool) → not b ≡ true → b ≡ false
 not-false false e = refl
@@ -56,7 +52,8 @@ due-first [] h fit e = sym (fault-end h) ∙ e
 due-first (trace ∷ ks) h fit e = or_else-left (due h) _ (sym (fault-flag h (map text_of ks)) ∙ e)
 due-first (name n ∷ ks) h fit e = or_else-left (due h) _ (sym (fault-option n h (map text_of ks)) ∙ e)
 due-first (whole n t ∷ ks) h fit e = or_else-left (due h) _ (sym (fault-joined n t h (map text_of ks)) ∙ e)
-due-first (number t ∷ ks) h fit e = absurd (some-kind _ (sym (fault-stray t h (map text_of ks) (number-plain t (and-parts (is_some (number_of t)) (list_all is_fit ks) fit).0)) ∙ e))
+due-first (number t ∷ ks) h fit e =
+    absurd (some-kind _ (sym (fault-stray t h (map text_of ks) (number-plain t (and-true (is_some (number_of t)) (list_all is_fit ks) fit).0)) ∙ e))
 
 -- an option more in front
 one-more : (p : Part) (before : List Part) (h : Held) (ks new : List Kind) → list_any (has_label (label p)) before ≡ false → is_numbered p ≡ true
@@ -72,29 +69,39 @@ one-more p before h ks new none has is rest = record {
 awaits : (n : Name) (h : Held) (b : Kinds) → or_else (due (opened n h)) b ≡ [] → ⊥
 awaits n h b none = some-kind _ (sym (due-opened n h) ∙ or_else-left (due (opened n h)) b none)
 
-split : (ks : List Kind) (before : List Part) (h : Held) → IsBehind before h → list_all is_fit ks ≡ true → fault idle h (map text_of ks) ≡ [] → IsSplit before ks
+split : (ks : List Kind) (before : List Part) (h : Held) → IsBehind before h → list_all is_fit ks ≡ true → fault idle h (map text_of ks) ≡ []
+    → IsSplit before ks
 split [] before h is fit e = record { parts = []; written = refl; once = refl; numbered = refl }
 split (trace ∷ ks) before h is fit e =
     let used = or_else-right (due h) _ (sym (fault-flag h (map text_of ks)) ∙ e) in
     let none = is-new flag (rows h) before is.given (or_else-left (use_fault false trace_rule [] (rows h)) _ used) in
     one-more flag before h ks (trace ∷ ks) none refl refl
-    (split ks (before ++ flag ∷ []) (behind flag h) (behind-next flag before h is none) fit (or_else-right (use_fault false trace_rule [] (rows h)) _ used))
+    (split ks (before ++ flag ∷ []) (behind flag h) (behind-next flag before h is none) fit
+    (or_else-right (use_fault false trace_rule [] (rows h)) _ used))
 split (whole n t ∷ ks) before h is fit e =
-    let fits = and-parts (is_some (number_of t)) (list_all is_fit ks) fit in
+    let fits = and-true (is_some (number_of t)) (list_all is_fit ks) fit in
     let used = or_else-right (due h) _ (sym (fault-joined n t h (map text_of ks)) ∙ e) in
     let none = is-new (joined n t) (rows h) before is.given (or_else-left (use_fault false (rule n) (t ∷ []) (rows h)) _ used) in
     one-more (joined n t) before h ks (whole n t ∷ ks) none fits.0 refl
-    (split ks (before ++ joined n t ∷ []) (behind (joined n t) h) (behind-next (joined n t) before h is none) fits.1 (or_else-right (use_fault false (rule n) (t ∷ []) (rows h)) _ used))
-split (number t ∷ ks) before h is fit e = absurd (some-kind _ (sym (fault-stray t h (map text_of ks) (number-plain t (and-parts (is_some (number_of t)) (list_all is_fit ks) fit).0)) ∙ e))
+    (split ks (before ++ joined n t ∷ []) (behind (joined n t) h) (behind-next (joined n t) before h is none) fits.1
+    (or_else-right (use_fault false (rule n) (t ∷ []) (rows h)) _ used))
+split (number t ∷ ks) before h is fit e =
+    absurd (some-kind _ (sym (fault-stray t h (map text_of ks) (number-plain t (and-true (is_some (number_of t)) (list_all is_fit ks) fit).0)) ∙ e))
 split (name n ∷ []) before h is fit e = absurd (some-kind _ (sym (fault-open n h) ∙ or_else-right (due h) _ (sym (fault-option n h []) ∙ e)))
 split (name n ∷ trace ∷ ks) before h is fit e =
-    absurd (awaits n h _ (sym (fault-flag_awaited (name_text n) (opened n h) (map text_of ks)) ∙ or_else-right (due h) _ (sym (fault-option n h (text_of trace ∷ map text_of ks)) ∙ e)))
+    absurd (awaits n h _
+    (sym (fault-flag_awaited (name_text n) (opened n h) (map text_of ks))
+    ∙ or_else-right (due h) _ (sym (fault-option n h (text_of trace ∷ map text_of ks)) ∙ e)))
 split (name n ∷ name m ∷ ks) before h is fit e =
-    absurd (awaits n h _ (sym (fault-option_awaited m (name_text n) (opened n h) (map text_of ks)) ∙ or_else-right (due h) _ (sym (fault-option n h (text_of (name m) ∷ map text_of ks)) ∙ e)))
+    absurd (awaits n h _
+    (sym (fault-option_awaited m (name_text n) (opened n h) (map text_of ks))
+    ∙ or_else-right (due h) _ (sym (fault-option n h (text_of (name m) ∷ map text_of ks)) ∙ e)))
 split (name n ∷ whole m t ∷ ks) before h is fit e =
-    absurd (awaits n h _ (sym (fault-joined_awaited m t (name_text n) (opened n h) (map text_of ks)) ∙ or_else-right (due h) _ (sym (fault-option n h (text_of (whole m t) ∷ map text_of ks)) ∙ e)))
+    absurd (awaits n h _
+    (sym (fault-joined_awaited m t (name_text n) (opened n h) (map text_of ks))
+    ∙ or_else-right (due h) _ (sym (fault-option n h (text_of (whole m t) ∷ map text_of ks)) ∙ e)))
 split (name n ∷ number t ∷ ks) before h is fit e =
-    let fits = and-parts (is_some (number_of t)) (list_all is_fit ks) fit in
+    let fits = and-true (is_some (number_of t)) (list_all is_fit ks) fit in
     let awaited = or_else-right (due h) _ (sym (fault-option n h (t ∷ map text_of ks)) ∙ e) in
     let fine = sym (fault-number n t h (map text_of ks) (number-plain t fits.0)) ∙ awaited in
     let used = sym (due-apart n t h) ∙ due-first ks (behind_apart n t h) fits.1 fine in
@@ -109,7 +116,8 @@ pub record IsFound (before ps : List Part) (h : Held) : Type 0 where
   pub fine : fault idle h (flat_map words_of ps) ≡ []
   pub rows : found idle h (flat_map words_of ps) ≡ with_default (map row (before ++ ps)) trace_rule
 
-seamed : (p : Part) (before ps : List Part) → with_default (map row ((before ++ p ∷ []) ++ ps)) trace_rule ≡ with_default (map row (before ++ p ∷ ps)) trace_rule
+seamed : (p : Part) (before ps : List Part)
+    → with_default (map row ((before ++ p ∷ []) ++ ps)) trace_rule ≡ with_default (map row (before ++ p ∷ ps)) trace_rule
 seamed p before ps = ap (λ (l : List Part). with_default (map row l) trace_rule) (append_assoc before (p ∷ []) ps)
 
 take-in : (ps before : List Part) (h : Held) → IsBehind before h → are_once before ps ≡ true → list_all is_numbered ps ≡ true → IsFound before ps h
@@ -118,28 +126,32 @@ take-in [] before h is once numbers = record {
   rows = found-end h ∙ ap (λ (rs : List Row). with_default rs trace_rule) (is.given ∙ ap (map row) (sym (append-nil before)));
 }
 take-in (flag ∷ ps) before h is once numbers =
-    let onces = and-parts (not (list_any (has_label (label flag)) before)) (are_once (before ++ flag ∷ []) ps) once in
+    let onces = and-true (not (list_any (has_label (label flag)) before)) (are_once (before ++ flag ∷ []) ps) once in
     let none = not-false (list_any (has_label (label flag)) before) onces.0 in
-    let rest : IsFound (before ++ flag ∷ []) ps (behind flag h) = take-in ps (before ++ flag ∷ []) (behind flag h) (behind-next flag before h is none) onces.1 numbers in
+    let rest : IsFound (before ++ flag ∷ []) ps (behind flag h) =
+    take-in ps (before ++ flag ∷ []) (behind flag h) (behind-next flag before h is none) onces.1 numbers in
     record {
       fine = fault-flag h (flat_map words_of ps) ∙ or_else-none _ _ is.fine (or_else-none _ _ (use-fine flag before h is none) rest.fine);
       rows = found-flag h (flat_map words_of ps) ∙ rest.rows ∙ seamed flag before ps;
     }
 take-in (joined n t ∷ ps) before h is once numbers =
-    let has = and-parts (is_some (number_of t)) (list_all is_numbered ps) numbers in
-    let onces = and-parts (not (list_any (has_label (name_text n)) before)) (are_once (before ++ joined n t ∷ []) ps) once in
+    let has = and-true (is_some (number_of t)) (list_all is_numbered ps) numbers in
+    let onces = and-true (not (list_any (has_label (name_text n)) before)) (are_once (before ++ joined n t ∷ []) ps) once in
     let none = not-false (list_any (has_label (name_text n)) before) onces.0 in
-    let rest : IsFound (before ++ joined n t ∷ []) ps (behind (joined n t) h) = take-in ps (before ++ joined n t ∷ []) (behind (joined n t) h) (behind-next (joined n t) before h is none) onces.1 has.1 in
+    let rest : IsFound (before ++ joined n t ∷ []) ps (behind (joined n t) h) =
+    take-in ps (before ++ joined n t ∷ []) (behind (joined n t) h) (behind-next (joined n t) before h is none) onces.1 has.1 in
     record {
-      fine = fault-joined n t h (flat_map words_of ps) ∙ or_else-none _ _ is.fine (or_else-none _ _ (use-fine (joined n t) before h is none) rest.fine);
+      fine = fault-joined n t h (flat_map words_of ps)
+          ∙ or_else-none _ _ is.fine (or_else-none _ _ (use-fine (joined n t) before h is none) rest.fine);
       rows = found-joined n t h (flat_map words_of ps) ∙ rest.rows ∙ seamed (joined n t) before ps;
     }
 take-in (apart n t ∷ ps) before h is once numbers =
-    let has = and-parts (is_some (number_of t)) (list_all is_numbered ps) numbers in
-    let onces = and-parts (not (list_any (has_label (name_text n)) before)) (are_once (before ++ apart n t ∷ []) ps) once in
+    let has = and-true (is_some (number_of t)) (list_all is_numbered ps) numbers in
+    let onces = and-true (not (list_any (has_label (name_text n)) before)) (are_once (before ++ apart n t ∷ []) ps) once in
     let none = not-false (list_any (has_label (name_text n)) before) onces.0 in
     let plain = number-plain t has.0 in
-    let rest : IsFound (before ++ apart n t ∷ []) ps (behind (apart n t) h) = take-in ps (before ++ apart n t ∷ []) (behind (apart n t) h) (behind-next (apart n t) before h is none) onces.1 has.1 in
+    let rest : IsFound (before ++ apart n t ∷ []) ps (behind (apart n t) h) =
+    take-in ps (before ++ apart n t ∷ []) (behind (apart n t) h) (behind-next (apart n t) before h is none) onces.1 has.1 in
     record {
       fine = fault-option n h (t ∷ flat_map words_of ps) ∙ or_else-none _ _ is.fine (fault-number n t h (flat_map words_of ps) plain ∙ rest.fine);
       rows = found-apart n t h (flat_map words_of ps) plain ∙ rest.rows ∙ seamed (apart n t) before ps;
@@ -171,5 +183,6 @@ are-parts ws known none = record { parts = cut.parts; written = words.written �
 pub parts-fine : (ps : List Part) → are_once [] ps ≡ true → list_all is_numbered ps ≡ true → fault_of command (flat_map words_of ps) ≡ []
 parts-fine ps once numbers = fault-is (flat_map words_of ps) ∙ (take-in ps [] nothing_held starting once numbers).fine
 
-pub parts-found : (ps : List Part) → are_once [] ps ≡ true → list_all is_numbered ps ≡ true → matches_of command (flat_map words_of ps) ≡ found_of_parts ps
+pub parts-found : (ps : List Part) → are_once [] ps ≡ true → list_all is_numbered ps ≡ true
+    → matches_of command (flat_map words_of ps) ≡ found_of_parts ps
 parts-found ps once numbers = (take-in ps [] nothing_held starting once numbers).rows

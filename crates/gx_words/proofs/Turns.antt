@@ -27,7 +27,9 @@ held_behind waiting h ws = (fold (walked shape.rules []) (standing waiting h) ws
 
 abbrev pub end_fault : Held → Kinds
 end_fault h =
-    or_else [] (or_else (settle_fault shape.rules false h) (or_else (defaults_fault (settled shape.rules h).rows shape.rules) (check_fault shape (finished shape.rules h) false)))
+    or_else []
+    (or_else (settle_fault shape.rules false h)
+    (or_else (defaults_fault (settled shape.rules h).rows shape.rules) (check_fault shape (finished shape.rules h) false)))
 
 -- the kinds of error of words from there on, and the rows at their end
 abbrev pub fault : Waiting → Held → List (List ℕ) → Kinds
@@ -67,36 +69,42 @@ or_else-assoc (k ∷ ks) b c = refl
 
 -- a turn of two parts, the words behind it and the end
 turn-used : (a b x t : Kinds) → or_else (or_else (or_else (or_else a b) []) x) t ≡ or_else a (or_else b (or_else x t))
-turn-used a b x t = ap (λ (k : Kinds). or_else (or_else k x) t) (or_else-nil (or_else a b)) ∙ or_else-assoc (or_else a b) x t ∙ or_else-assoc a b (or_else x t)
+turn-used a b x t = ap (λ (k : Kinds). or_else (or_else k x) t) (or_else-nil (or_else a b)) ∙ or_else-assoc (or_else a b) x t
+    ∙ or_else-assoc a b (or_else x t)
 
 turn-opened : (a x t : Kinds) → or_else (or_else (or_else a []) x) t ≡ or_else a (or_else x t)
 turn-opened a x t = ap (λ (k : Kinds). or_else (or_else k x) t) (or_else-nil a) ∙ or_else-assoc a x t
 
 -- ---- a word
 
-pub fault-flag : (h : Held) (ws : List (List ℕ)) → fault idle h (codes "--trace" ∷ ws) ≡ or_else (due h) (or_else (use_fault false trace_rule [] (rows h)) (fault idle (behind_flag h) ws))
+pub fault-flag : (h : Held) (ws : List (List ℕ))
+    → fault idle h (codes "--trace" ∷ ws) ≡ or_else (due h) (or_else (use_fault false trace_rule [] (rows h)) (fault idle (behind_flag h) ws))
 unfolding clap_on_literals
 fault-flag h ws = turn-used (due h) (use_fault false trace_rule [] (rows h)) _ _
 
-pub fault-flag_awaited : (id : List ℕ) (h : Held) (ws : List (List ℕ)) → fault (option id) h (codes "--trace" ∷ ws) ≡ or_else (due h) (or_else (use_fault false trace_rule [] (rows h)) (fault idle (behind_flag h) ws))
+pub fault-flag_awaited : (id : List ℕ) (h : Held) (ws : List (List ℕ))
+    → fault (option id) h (codes "--trace" ∷ ws) ≡ or_else (due h) (or_else (use_fault false trace_rule [] (rows h)) (fault idle (behind_flag h) ws))
 unfolding clap_on_literals
 fault-flag_awaited id h ws = turn-used (due h) (use_fault false trace_rule [] (rows h)) _ _
 
 pub fault-joined : (name : Name) (t : List ℕ) (h : Held) (ws : List (List ℕ))
-    → fault idle h ((codes "--" ++ name_text name ++ codes "=" ++ t) ∷ ws) ≡ or_else (due h) (or_else (use_fault false (rule name) (t ∷ []) (rows h)) (fault idle (behind_joined name t h) ws))
+    → fault idle h ((codes "--" ++ name_text name ++ codes "=" ++ t) ∷ ws)
+    ≡ or_else (due h) (or_else (use_fault false (rule name) (t ∷ []) (rows h)) (fault idle (behind_joined name t h) ws))
 unfolding clap_on_literals
 fault-joined seed t h ws = turn-used (due h) (use_fault false (rule seed) (t ∷ []) (rows h)) _ _
 fault-joined turns t h ws = turn-used (due h) (use_fault false (rule turns) (t ∷ []) (rows h)) _ _
 fault-joined gen t h ws = turn-used (due h) (use_fault false (rule gen) (t ∷ []) (rows h)) _ _
 
 pub fault-joined_awaited : (name : Name) (t id : List ℕ) (h : Held) (ws : List (List ℕ))
-    → fault (option id) h ((codes "--" ++ name_text name ++ codes "=" ++ t) ∷ ws) ≡ or_else (due h) (or_else (use_fault false (rule name) (t ∷ []) (rows h)) (fault idle (behind_joined name t h) ws))
+    → fault (option id) h ((codes "--" ++ name_text name ++ codes "=" ++ t) ∷ ws)
+    ≡ or_else (due h) (or_else (use_fault false (rule name) (t ∷ []) (rows h)) (fault idle (behind_joined name t h) ws))
 unfolding clap_on_literals
 fault-joined_awaited seed t id h ws = turn-used (due h) (use_fault false (rule seed) (t ∷ []) (rows h)) _ _
 fault-joined_awaited turns t id h ws = turn-used (due h) (use_fault false (rule turns) (t ∷ []) (rows h)) _ _
 fault-joined_awaited gen t id h ws = turn-used (due h) (use_fault false (rule gen) (t ∷ []) (rows h)) _ _
 
-pub fault-option : (name : Name) (h : Held) (ws : List (List ℕ)) → fault idle h ((codes "--" ++ name_text name) ∷ ws) ≡ or_else (due h) (fault (option (name_text name)) (opened name h) ws)
+pub fault-option : (name : Name) (h : Held) (ws : List (List ℕ))
+    → fault idle h ((codes "--" ++ name_text name) ∷ ws) ≡ or_else (due h) (fault (option (name_text name)) (opened name h) ws)
 unfolding clap_on_literals
 fault-option seed h ws = turn-opened (due h) _ _
 fault-option turns h ws = turn-opened (due h) _ _
@@ -130,7 +138,8 @@ fine-plain word h plain =
     ∙ ap (λ (o : Option (List ℕ × Option (List ℕ))). flag_word_fault shape.rules shape.args_override_self o word h) plain.long
     ∙ ap (λ (o : Option (List ℕ)). option_map_or (λ flags. bundle_fault shape.rules shape.args_override_self flags h) o []) plain.short
 
-met-plain : (waiting : Waiting) (word : List ℕ) (h : Held) → IsPlain word → subcommand_or_other shape.rules None waiting 1 word h ≡ plain_word shape.rules waiting word h
+met-plain : (waiting : Waiting) (word : List ℕ) (h : Held) → IsPlain word
+    → subcommand_or_other shape.rules None waiting 1 word h ≡ plain_word shape.rules waiting word h
 met-plain waiting word h plain =
     ap (λ (b : Bool). let met : Held × Step = cond b (h, trailing 1) (long_or_other shape.rules waiting word (long_of word) h) in met) plain.dashes
     ∙ ap (λ (o : Option (List ℕ × Option (List ℕ))). long_or_other shape.rules waiting word o h) plain.long
@@ -142,41 +151,49 @@ walk_met waiting h word met = after_step shape.rules word (standing waiting h) m
 
 abbrev fault_met : Waiting → Held → List ℕ → List (List ℕ) → Kinds → Held × Step → Kinds
 fault_met waiting h word ws k met =
-    or_else (or_else (or_else k (step_fault shape 1 met.0 met.1)) (walk_fault shape [] (walk_met waiting h word met) ws)) (end_fault (fold (walked shape.rules []) (walk_met waiting h word met) ws).held)
+    or_else (or_else (or_else k (step_fault shape 1 met.0 met.1)) (walk_fault shape [] (walk_met waiting h word met) ws))
+    (end_fault (fold (walked shape.rules []) (walk_met waiting h word met) ws).held)
 
 abbrev found_met : Waiting → Held → List ℕ → List (List ℕ) → Held × Step → List Row
 found_met waiting h word ws met = finished shape.rules (fold (walked shape.rules []) (walk_met waiting h word met) ws).held
 
 fault-awaited : (id word : List ℕ) (h : Held) (ws : List (List ℕ))
-    → fault (option id) h (word ∷ ws) ≡ fault_met (option id) h word ws (other_fault shape None word h) (subcommand_or_other shape.rules None (option id) 1 word h)
+    → fault (option id) h (word ∷ ws)
+    ≡ fault_met (option id) h word ws (other_fault shape None word h) (subcommand_or_other shape.rules None (option id) 1 word h)
 unfolding clap_on_literals
 fault-awaited id word h ws = refl
 
-fault-idle : (word : List ℕ) (h : Held) (ws : List (List ℕ)) → fault idle h (word ∷ ws) ≡ fault_met idle h word ws (other_fault shape None word h) (subcommand_or_other shape.rules None idle 1 word h)
+fault-idle : (word : List ℕ) (h : Held) (ws : List (List ℕ))
+    → fault idle h (word ∷ ws) ≡ fault_met idle h word ws (other_fault shape None word h) (subcommand_or_other shape.rules None idle 1 word h)
 unfolding clap_on_literals
 fault-idle word h ws = refl
 
-found-awaited : (id word : List ℕ) (h : Held) (ws : List (List ℕ)) → found (option id) h (word ∷ ws) ≡ found_met (option id) h word ws (subcommand_or_other shape.rules None (option id) 1 word h)
+found-awaited : (id word : List ℕ) (h : Held) (ws : List (List ℕ))
+    → found (option id) h (word ∷ ws) ≡ found_met (option id) h word ws (subcommand_or_other shape.rules None (option id) 1 word h)
 unfolding clap_on_literals
 found-awaited id word h ws = refl
 
 number-met : (name : Name) (word : List ℕ) (h : Held) (ws : List (List ℕ))
-    → fault_met (option (name_text name)) (opened name h) word ws [] (plain_word shape.rules (option (name_text name)) word (opened name h)) ≡ fault idle (behind_apart name word h) ws
+    → fault_met (option (name_text name)) (opened name h) word ws [] (plain_word shape.rules (option (name_text name)) word (opened name h))
+    ≡ fault idle (behind_apart name word h) ws
 number-met seed word h ws = refl
 number-met turns word h ws = refl
 number-met gen word h ws = refl
 
 number-found : (name : Name) (word : List ℕ) (h : Held) (ws : List (List ℕ))
-    → found_met (option (name_text name)) (opened name h) word ws (plain_word shape.rules (option (name_text name)) word (opened name h)) ≡ found idle (behind_apart name word h) ws
+    → found_met (option (name_text name)) (opened name h) word ws (plain_word shape.rules (option (name_text name)) word (opened name h))
+    ≡ found idle (behind_apart name word h) ws
 number-found seed word h ws = refl
 number-found turns word h ws = refl
 number-found gen word h ws = refl
 
 -- behind its option
-pub fault-number : (name : Name) (word : List ℕ) (h : Held) (ws : List (List ℕ)) → IsPlain word → fault (option (name_text name)) (opened name h) (word ∷ ws) ≡ fault idle (behind_apart name word h) ws
+pub fault-number : (name : Name) (word : List ℕ) (h : Held) (ws : List (List ℕ)) → IsPlain word
+    → fault (option (name_text name)) (opened name h) (word ∷ ws) ≡ fault idle (behind_apart name word h) ws
 fault-number name word h ws plain =
     fault-awaited (name_text name) word (opened name h) ws
-    ∙ ap₂ (fault_met (option (name_text name)) (opened name h) word ws) (fine-plain word (opened name h) plain) (met-plain (option (name_text name)) word (opened name h) plain)
+    ∙ ap₂ (fault_met (option (name_text name)) (opened name h) word ws) (fine-plain word (opened name h) plain)
+    (met-plain (option (name_text name)) word (opened name h) plain)
     ∙ number-met name word h ws
 
 -- and elsewhere
@@ -243,19 +260,22 @@ pub found-flag : (h : Held) (ws : List (List ℕ)) → found idle h (codes "--tr
 unfolding clap_on_literals
 found-flag h ws = refl
 
-pub found-joined : (name : Name) (t : List ℕ) (h : Held) (ws : List (List ℕ)) → found idle h ((codes "--" ++ name_text name ++ codes "=" ++ t) ∷ ws) ≡ found idle (behind_joined name t h) ws
+pub found-joined : (name : Name) (t : List ℕ) (h : Held) (ws : List (List ℕ))
+    → found idle h ((codes "--" ++ name_text name ++ codes "=" ++ t) ∷ ws) ≡ found idle (behind_joined name t h) ws
 unfolding clap_on_literals
 found-joined seed t h ws = refl
 found-joined turns t h ws = refl
 found-joined gen t h ws = refl
 
-found-option : (name : Name) (h : Held) (ws : List (List ℕ)) → found idle h ((codes "--" ++ name_text name) ∷ ws) ≡ found (option (name_text name)) (opened name h) ws
+found-option : (name : Name) (h : Held) (ws : List (List ℕ))
+    → found idle h ((codes "--" ++ name_text name) ∷ ws) ≡ found (option (name_text name)) (opened name h) ws
 unfolding clap_on_literals
 found-option seed h ws = refl
 found-option turns h ws = refl
 found-option gen h ws = refl
 
-pub found-apart : (name : Name) (word : List ℕ) (h : Held) (ws : List (List ℕ)) → IsPlain word → found idle h ((codes "--" ++ name_text name) ∷ word ∷ ws) ≡ found idle (behind_apart name word h) ws
+pub found-apart : (name : Name) (word : List ℕ) (h : Held) (ws : List (List ℕ)) → IsPlain word
+    → found idle h ((codes "--" ++ name_text name) ∷ word ∷ ws) ≡ found idle (behind_apart name word h) ws
 found-apart name word h ws plain =
     found-option name h (word ∷ ws)
     ∙ found-awaited (name_text name) word (opened name h) ws

@@ -34,7 +34,7 @@ or-right : (a b : Bool) → b ≡ true → (a || b) ≡ true
 or-right true b e = refl
 or-right false b e = e
 
-and-true : (a b : Bool) → (a && b) ≡ true → (a ≡ true) × (b ≡ true)
+pub and-true : (a b : Bool) → (a && b) ≡ true → (a ≡ true) × (b ≡ true)
 and-true true b e = (refl, e)
 and-true false b e = absurd (true≢false (sym e))
 
@@ -48,9 +48,11 @@ pub record IsWord (w : List ℕ) : Type 0 where
   pub fits : is_fit kind ≡ true
 
 behind-text : (text w : List ℕ) → bytes_eq (take (length text) w) text ≡ true → w ≡ text ++ drop (length text) w
-behind-text text w e = sym (take-append-drop (length text) w) ∙ ap (λ (l : List ℕ). l ++ drop (length text) w) ((bytes_eq-Decides (take (length text) w) text).0 e)
+behind-text text w e = sym (take-append-drop (length text) w)
+    ∙ ap (λ (l : List ℕ). l ++ drop (length text) w) ((bytes_eq-Decides (take (length text) w) text).0 e)
 
-option-word : (n : Name) (alone before w : List ℕ) → alone ≡ text_of (name n) → ((t : List ℕ) → before ++ t ≡ text_of (whole n t)) → is_option alone before w ≡ true → IsWord w
+option-word : (n : Name) (alone before w : List ℕ) → alone ≡ text_of (name n) → ((t : List ℕ) → before ++ t ≡ text_of (whole n t))
+    → is_option alone before w ≡ true → IsWord w
 option-word n alone before w is joins e = elim (or-true (bytes_eq w alone) (is_joined before w) e) [
   | inl same ↦ record { kind = name n; written = (bytes_eq-Decides w alone).0 same ∙ is; fits = refl }
   | inr more ↦ let both = and-true (bytes_eq (take (length before) w) before) (is_some (number_of (drop (length before) w))) more in
@@ -97,7 +99,8 @@ or-last a b d f e is = or-right a (b || (d || (f || e))) (or-right b (d || (f ||
 
 known-number : (t : List ℕ) → is_some (number_of t) ≡ true → is_known t ≡ true
 known-number t e =
-    or-last (bytes_eq t (codes "--trace")) (is_option (codes "--seed") (codes "--seed=") t) (is_option (codes "--turns") (codes "--turns=") t) (is_option (codes "--gen") (codes "--gen=") t)
+    or-last (bytes_eq t (codes "--trace")) (is_option (codes "--seed") (codes "--seed=") t) (is_option (codes "--turns") (codes "--turns=") t)
+    (is_option (codes "--gen") (codes "--gen=") t)
     (is_some (number_of t)) e
 
 known-name : (n : Name) → is_known (text_of (name n)) ≡ true

@@ -1,8 +1,8 @@
 -- The command that the words are read by, and the program's own look at a word.
-use Rattle.std.specs.Prelude.{ℕ, ◌&&◌, ◌||◌, Bool, true, List, [], ◌∷◌, ◌++◌, length, take, drop, is_some, Some, codes}
+use Rattle.std.specs.Prelude.{ℕ, ◌&&◌, ◌||◌, Bool, true, List, [], length, take, drop, is_some, Some, codes}
 use Rattle.std.specs.Str.{bytes_eq}
-use Rattle.clap.specs.Walk.{Row, Rule, with_default}
-use Rattle.clap.specs.Simple.{App, Shape, built, filled, new_app, new_rule, with_rule}
+use Rattle.clap.specs.Walk.{Rule}
+use Rattle.clap.specs.Simple.{App, new_app, new_rule, with_rule}
 use Rattle.clap.specs.declared.builder.action.ArgAction.TheVariants.{SetTrue}
 use Rattle.gx_words.specs.Words.{number_of}
 
