@@ -14,6 +14,8 @@ use Rattle.gx_rules.specs.Machine.{World, new_world, world_of}
 use Rattle.gx_rules.specs.Segments.{local_of}
 use Rattle.gx_rules.specs.Segments.Phase.{Aborted}
 use Rattle.gx_rules.specs.Rows.{answers_of, between_commits, drives, journal_of, kept_snapshot, last_marks, lost_committed, never, numbers, once_at_second, one_writer, protocol_of, reader_between, refused_promise, repeated_exec, row_of, session, snaps_of, the_table, write_marks}
+use Rattle.gx_waits.specs.declared.object.Object.TheVariants.{Relation}
+use Rattle.gx_modes.specs.declared.modes.Mode.TheVariants.{RowExclusive}
 
 abbrev pub gxid : ℕ → Gxid
 gxid n = record { 0 = n }
@@ -49,7 +51,7 @@ pub record FinishesLost (w : World) : Type 0 where
   pub answers : answers_of w ≡ (session 0, 1, told.Inserted 2) ∷ []
   pub marks : protocol_of w ≡ two_phases
   pub end : last_marks w
-      ≡ mark.Commit (gxid 1) ∷ mark.Answer (session 0) 1 (told.Inserted 2)
+      ≡ mark.Commit (gxid 1) ∷ mark.Answer (session 0) 1 (told.Inserted 2) ∷ mark.Release (node 0) (gxid 1) (Relation the_table) RowExclusive
       ∷ mark.Sent (node 1) 5 (message.Forget (gxid 1)) ∷ mark.Sent (node 2) 4 (message.Forget (gxid 1)) ∷ []
   pub again : sent_message (node 0) (node 1) 4 w.steps ≡ Some (message.CommitPrepared (gxid 1))
   pub first : journal_of w (node 1) ≡ item.Prepare (gxid 1) (kept 1 1 0 1 ∷ []) ∷ item.Finish (gxid 1) ∷ []
