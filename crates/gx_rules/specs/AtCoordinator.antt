@@ -97,7 +97,7 @@ is_committed c g turn =
     let s = (work_of c g).session in
     record {
       coord = record (with_state (with_work c g no_work) s (after_done (session_of c s).state)) { table = turn.table; locks = released c.locks g };
-      marks = mark.Commit g ∷ answer_mark c s (answer_at_commit (work_of c g) (session_of c s).state.pending) ∷ release_marks c.locks g;
+      marks = mark.Commit g ∷ answer_mark c s (answer_at_commit (work_of c g) (session_of c s).state.pending) ∷ release_marks the_coordinator c.locks g;
       outs = turn.out.outs;
       item = None;
     }
@@ -108,7 +108,7 @@ is_refused c g turn why reason =
     let s = (work_of c g).session in
     record {
       coord = record (with_state (with_work c g no_work) s (after_refused (session_of c s).state)) { table = turn.table; locks = released c.locks g };
-      marks = why ++ mark.Abort g ∷ answer_mark c s (told.Refused reason) ∷ release_marks c.locks g;
+      marks = why ++ mark.Abort g ∷ answer_mark c s (told.Refused reason) ∷ release_marks the_coordinator c.locks g;
       outs = turn.out.outs;
       item = None;
     }
@@ -273,7 +273,7 @@ abbrev pub rolls_back : Coord → Gxid → List Mark → Turn → CoordTurn
 rolls_back c g marks turn =
     record {
       coord = record (with_work c g no_work) { table = turn.table; locks = released c.locks g };
-      marks = mark.Abort g ∷ marks ++ release_marks c.locks g;
+      marks = mark.Abort g ∷ marks ++ release_marks the_coordinator c.locks g;
       outs = turn.out.outs;
       item = None;
     }

@@ -61,8 +61,8 @@ in_order claims = fold (λ done claim. put_in claim done) [] claims
 abbrev pub has_there : Locks → Gxid → List Claim
 has_there locks g = filter (is_of g) locks.waits ++ in_order (filter (is_of g) locks.holds)
 
-abbrev pub release_marks : Locks → Gxid → List Mark
-release_marks locks g = map (release_mark locks.node) (has_there locks g)
+abbrev pub release_marks : Node → Locks → Gxid → List Mark
+release_marks node locks g = map (release_mark node) (has_there locks g)
 
 abbrev pub released : Locks → Gxid → Locks
 released locks g = record locks { holds = without g locks.holds; waits = without g locks.waits }
