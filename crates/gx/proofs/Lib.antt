@@ -3,3 +3,4 @@ pub mod Kept
 pub mod Refusals
 pub mod Reports
 pub mod Runs
+pub mod Reading

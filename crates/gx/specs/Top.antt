@@ -13,11 +13,13 @@ use Rattle.gx_sql.specs.declared.refusal.Refusal.{Refusal}
 use Rattle.gx_sql.specs.Script.{Reads}
 use Rattle.gx_store.specs.declared.run.Run.{Run}
 use Rattle.gx_store.specs.declared.run.Step.{Step}
+use Rattle.gx_store.specs.Language.{IsScript}
 use Rattle.gx_store.specs.Ordered.{AreOrdered}
 use Rattle.gx_store.specs.Points.{marks_of}
 use Rattle.gx_store.specs.Protocol.{DoStepsFollow}
 use Rattle.gx_store.specs.Runs.{IsLegalHistory}
 use Rattle.gx_store.specs.View.{AreFinalFrom}
+use Rattle.gx_store.specs.Whole.{AreInsertsWhole}
 use Rattle.gx_rules.specs.System.{IsSystemRun}
 use Rattle.gx_store.specs.Schedule.{is_any_unfinished}
 use Rattle.gx_law_runs.specs.Endings.{IsFinished}
@@ -92,6 +94,16 @@ pub record IsRead (left after : Option (List ℕ)) (said : Result Script Refusal
   pub ended : IsAtEnd after
   pub few : length bytes ≤ limit
   pub is : Reads bytes said
+
+-- The script keeps the rules and the limits of the language, each of its INSERTs has a tuple, and each tuple a value for the distribution
+-- column.
+pub record KeepsLanguage (script : Script) : Type 0 where
+  pub language : IsScript script
+  pub inserts : AreInsertsWhole script.tables script.lines
+
+-- so does whatever script was read
+abbrev pub IsOfLanguage : Option (List ℕ) → Option (List ℕ) → Type 0
+IsOfLanguage left after = (script : Script) → IsRead left after (Ok script) → KeepsLanguage script
 
 -- a script of the form that is built was read, and this is a run of it, up to some step
 pub record IsBegun (left after : Option (List ℕ)) (run : Run) : Type 0 where

@@ -42,7 +42,8 @@ pub fn make_attempt<S: Source, J: Journal, G: Gate>(
     ensures is { IsAttempt words.now (S.left source.old) (S.left source.new) (S.fault_count source.old) (S.fault_count source.new) result }
     ensures count { length journals.new.items ≡ 17 }
     ensures unread { words.now ≢ [] → source.new ≡ source.old }
-    ensures kept { AreKept (run_in result).steps (is_over result) (map (λ j. shelf (J.items j) (J.fault_count j)) journals.old.items) (map (λ j. shelf (J.items j) (J.fault_count j)) journals.new.items) }
+    ensures kept { AreKept (run_in result).steps (is_over result) (map (λ j. shelf (J.items j) (J.fault_count j)) journals.old.items)
+        (map (λ j. shelf (J.items j) (J.fault_count j)) journals.new.items) }
 {
     if !words.is_empty() {
         return Attempt::NotBuilt;

@@ -34,7 +34,8 @@ pub fn run_script<J: Journal, G: Gate>(
     requires empty { All (λ j. J.items j ≡ []) journals.old.items }
     ensures ran { IsRan script result }
     ensures count { length journals.new.items ≡ 17 }
-    ensures kept { AreKept (run_in result).steps (is_over result) (map (λ j. shelf (J.items j) (J.fault_count j)) journals.old.items) (map (λ j. shelf (J.items j) (J.fault_count j)) journals.new.items) }
+    ensures kept { AreKept (run_in result).steps (is_over result) (map (λ j. shelf (J.items j) (J.fault_count j)) journals.old.items)
+        (map (λ j. shelf (J.items j) (J.fault_count j)) journals.new.items) }
 {
     let mut world = match World::new(alloc, script) {
         Ok(world) => world,

@@ -2,7 +2,7 @@
 ghost use Rattle.std.specs.Prelude.{◌≡◌, ◌≢◌, [], All, length, map, ◌⊎◌};
 ghost use Rattle.gx_drive.specs.Ordered.{AreFailuresFew, AreHeld};
 ghost use Rattle.gx_world.specs.Worlds.{shelf};
-ghost use Rattle.gx.specs.Top.{IsCutShort, IsDone, IsDue, IsNotBuilt, IsPartRun, IsReadFault, IsRefused, IsStatus, IsStopped, IsTold, IsToldOf, IsTooLarge, IsWritten};
+ghost use Rattle.gx.specs.Top.{IsCutShort, IsDone, IsDue, IsNotBuilt, IsOfLanguage, IsPartRun, IsReadFault, IsRefused, IsStatus, IsStopped, IsTold, IsToldOf, IsTooLarge, IsWritten};
 
 use crate::attempt::{Attempt, make_attempt};
 use gx_outside::{Failed, Gate, Journal, Sink, Source, write_whole};
@@ -83,6 +83,9 @@ pub fn run_gx<S: Source, K: Sink, J: Journal, G: Gate>(
     // Where there are words, nothing is read, and nothing else is said.
     ensures words { words.now ≢ [] → (result.status ≡ 10) ⊎ (result.status ≡ 5) }
     ensures unread { words.now ≢ [] → source.new ≡ source.old }
+
+    // The script that was read keeps the rules and the limits of the language, and its INSERTs have tuples with keys.
+    ensures language { IsOfLanguage (S.left source.old) (S.left source.new) }
 
     // All journals come back.
     ensures count { length journals.new.items ≡ 17 }

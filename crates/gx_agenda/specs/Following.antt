@@ -20,11 +20,13 @@ IsOrderOf g (Some asked) = is_about g asked ≡ true
 
 -- what is expected moves as the awaited message does
 abbrev pub Follows : Move → Asked → Asked → Type 0
-Follows move old new = (segment : Node) (g : Gxid) (was : Option Message) → expected_at old segment g ≡ option_map expected_of was → expected_at new segment g ≡ option_map expected_of (move segment g was)
+Follows move old new = (segment : Node) (g : Gxid) (was : Option Message) → expected_at old segment g ≡ option_map expected_of was
+    → expected_at new segment g ≡ option_map expected_of (move segment g was)
 
 -- the same of orders
 abbrev pub FollowsOrders : Move → Asked → Asked → Type 0
-FollowsOrders move old new = (segment : Node) (g : Gxid) (was : Option Message) → IsOrderOf g was → expected_at old segment g ≡ option_map expected_of was → expected_at new segment g ≡ option_map expected_of (move segment g was)
+FollowsOrders move old new = (segment : Node) (g : Gxid) (was : Option Message) → IsOrderOf g was
+    → expected_at old segment g ≡ option_map expected_of was → expected_at new segment g ≡ option_map expected_of (move segment g was)
 
 -- the awaited message behind one that came from a node
 abbrev pub unless_told : Node → Message → Move

@@ -5,9 +5,9 @@ use Rattle.gx_ids.specs.declared.ids.SessionId.{SessionId}
 use Rattle.gx_tree.specs.declared.stmt.Level.{Level}
 use Rattle.gx_dtx.specs.Rules.{begun, on_abort}
 use Rattle.gx_dtx.specs.Table.{Table}
-use Rattle.gx_session.specs.Session.{idle_outside}
-use Rattle.gx_session.specs.declared.state.Block.TheVariants.{Open}
-use Rattle.gx_session.specs.declared.state.SessionState.{SessionState}
+use Rattle.gx_script.specs.Session.{idle_outside}
+use Rattle.gx_script.specs.declared.state.Block.TheVariants.{Open}
+use Rattle.gx_script.specs.declared.state.SessionState.{SessionState}
 use Rattle.gx_rules.specs.AtCoordinator.{begins, ends_in, rolls_back}
 use Rattle.gx_rules.specs.Coordinators.{Coord, Session, Work, new_work, with_session, with_state, with_work}
 

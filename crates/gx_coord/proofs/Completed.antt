@@ -6,8 +6,8 @@ use Rattle.gx_ids.specs.declared.ids.Node.{Node}
 use Rattle.gx_ids.specs.declared.ids.SessionId.{SessionId}
 use Rattle.gx_tree.specs.declared.part.Part.{Part}
 use Rattle.gx_dtx.specs.Table.{Table}
-use Rattle.gx_session.specs.Session.{after_done}
-use Rattle.gx_session.specs.declared.state.SessionState.{SessionState}
+use Rattle.gx_script.specs.Session.{after_done}
+use Rattle.gx_script.specs.declared.state.SessionState.{SessionState}
 use Rattle.gx_script.specs.declared.Script.{Script}
 use Rattle.gx_rules.specs.AtCoordinator.{goes_on, on_done, takes_done, with_done}
 use Rattle.gx_rules.specs.Coordinators.{Command, Coord, Work, rests, with_state, with_work}
@@ -66,7 +66,7 @@ ready-done script c m g i cid wrote count part h e s q =
     (record {
       active = asked-active c h.kept g.0 i cid asked;
       writers = subst (λ (v : Work). Rattle.gx_dtx.specs.Rules.AreWriters c.table g v.writers) (sym here) (sound-writers c g.0 _ w sound (asked-live c h.kept g.0 i cid asked));
-      busy = subst (λ (v : Work). Rattle.gx_session.specs.Session.IsIdle (c.sessions v.session.0).state → ⊥) (sym here) (asked-busy c h.kept g.0 i cid asked);
+      busy = subst (λ (v : Work). Rattle.gx_script.specs.Session.IsIdle (c.sessions v.session.0).state → ⊥) (sym here) (asked-busy c h.kept g.0 i cid asked);
       fits = subst (λ (v : Work). IsFit v.command) (sym here) (sound-fit w _ _ sound);
     })
 

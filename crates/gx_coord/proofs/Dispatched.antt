@@ -22,11 +22,11 @@ use Rattle.gx_meaning.specs.declared.fault.ArithFault.{ArithFault}
 use Rattle.gx_meaning.specs.Plan.{plan_of}
 use Rattle.gx_meaning.specs.declared.piece.Piece.{Piece}
 use Rattle.gx_script.specs.declared.Script.{Script}
-use Rattle.gx_session.specs.Session.{idle_outside, line_step}
-use Rattle.gx_session.specs.declared.line_step.LineStep.{LineStep}
-use Rattle.gx_session.specs.declared.line_step.LineStep.TheVariants as step
-use Rattle.gx_session.specs.declared.state.Block.{Block}
-use Rattle.gx_session.specs.declared.state.Block.TheVariants as block
+use Rattle.gx_script.specs.Session.{idle_outside, line_step}
+use Rattle.gx_script.specs.declared.line_step.LineStep.{LineStep}
+use Rattle.gx_script.specs.declared.line_step.LineStep.TheVariants as step
+use Rattle.gx_script.specs.declared.state.Block.{Block}
+use Rattle.gx_script.specs.declared.state.Block.TheVariants as block
 use Rattle.gx_store.specs.Writes.{dist_of}
 use Rattle.gx_rules.specs.AtCoordinator.{Reading, begins, dispatches, ends_in, enlisted_all, fault_mark, goes, goes_out, next_cid, nodes_in, on_line, reads_by, reads_for, refusal_of, rolls_back, starts, starts_line, table_of, takes_snapshot}
 use Rattle.gx_rules.specs.Coordinators.{Command, Coord, Session, Work, new_work, session_of, with_state}
@@ -219,7 +219,7 @@ module _ (c : Coord) (g : ℕ) where
 -- A SESSION'S NEXT LINE
 module _ (script : Script) (c : Coord) (kept : Kept c) (e : AreSound c) (s : SessionId) where
   abbrev pub moved : LineStep → Session
-  moved asked = record (session_of c s) { lines = (session_of c s).lines + 1; state = Rattle.gx_session.specs.Session.after_line (session_of c s).state.block asked }
+  moved asked = record (session_of c s) { lines = (session_of c s).lines + 1; state = Rattle.gx_script.specs.Session.after_line (session_of c s).state.block asked }
 
   abbrev pub now : LineStep → Coord
   now asked = starts_line c s asked

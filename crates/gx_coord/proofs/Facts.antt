@@ -15,9 +15,9 @@ use Rattle.gx_dtx.specs.declared.phase.Phase.TheVariants.{Active, Preparing, Com
 use Rattle.gx_dtx.specs.declared.status.Status.TheVariants as status
 use Rattle.gx_dtx.specs.declared.txn.Txn.{Txn}
 use Rattle.gx_msg.specs.declared.reply.Reply.{Reply}
-use Rattle.gx_session.specs.declared.state.Block.{Block}
-use Rattle.gx_session.specs.declared.state.Pending.{Pending}
-use Rattle.gx_session.specs.declared.state.Pending.TheVariants as pending
+use Rattle.gx_script.specs.declared.state.Block.{Block}
+use Rattle.gx_script.specs.declared.state.Pending.{Pending}
+use Rattle.gx_script.specs.declared.state.Pending.TheVariants as pending
 use Rattle.gx_rules.specs.Coordinators.{Command, Coord, Work}
 use Rattle.gx_law_order.proofs.Sessions.{Kept, is_closing_in, is_working_in, stage_of}
 use Rattle.gx_law_order.proofs.Stages.{gx}

@@ -15,7 +15,7 @@ use Rattle.gx_meaning.specs.declared.fault.ArithFault.{ArithFault}
 use Rattle.gx_msg.specs.declared.message.Out.{Out}
 use Rattle.gx_meaning.specs.declared.piece.Piece.{Piece}
 use Rattle.gx_script.specs.declared.Script.{Script}
-use Rattle.gx_session.specs.Session.{IsIdle}
+use Rattle.gx_script.specs.Session.{IsIdle}
 use Rattle.gx_store.specs.declared.mark.Mark.{Mark}
 use Rattle.gx_rules.specs.AtCoordinator.{Reading, dispatches, fault_mark, goes, kept_at, next_cid, reads_by, reads_for, takes_snapshot}
 use Rattle.gx_rules.specs.Coordinators as rule

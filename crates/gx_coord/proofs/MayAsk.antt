@@ -8,12 +8,12 @@ use Rattle.gx_tree.specs.declared.stmt.Stmt.TheVariants as stmt
 use Rattle.gx_dtx.specs.Rules.{begun}
 use Rattle.gx_dtx.specs.Table.{IsActive, find_txn, new_txn}
 use Rattle.gx_script.specs.declared.Script.{Script}
-use Rattle.gx_session.specs.Session.{IsIdle, line_step, pending_after}
-use Rattle.gx_session.specs.declared.line_step.LineStep.{LineStep}
-use Rattle.gx_session.specs.declared.line_step.LineStep.TheVariants as step
-use Rattle.gx_session.specs.declared.state.Block.{Block}
-use Rattle.gx_session.specs.declared.state.Block.TheVariants.{Outside, Open, Failed}
-use Rattle.gx_session.specs.declared.state.Pending.TheVariants as pending
+use Rattle.gx_script.specs.Session.{IsIdle, line_step, pending_after}
+use Rattle.gx_script.specs.declared.line_step.LineStep.{LineStep}
+use Rattle.gx_script.specs.declared.line_step.LineStep.TheVariants as step
+use Rattle.gx_script.specs.declared.state.Block.{Block}
+use Rattle.gx_script.specs.declared.state.Block.TheVariants.{Outside, Open, Failed}
+use Rattle.gx_script.specs.declared.state.Pending.TheVariants as pending
 use Rattle.gx_rules.specs.AtCoordinator.{begins, starts_line}
 use Rattle.gx_rules.specs.Coordinators.{Coord, Session, Work, new_work, session_of}
 use Rattle.gx_rules.specs.Snapshots.{latest_number}
@@ -53,7 +53,7 @@ module _ (script : Script) (c : Coord) (h : IsSound script c) (s : SessionId) (i
   abbrev g : ℕ
   g = (session_of c s).transaction.0
 
-  session_now : (asked : LineStep) → session_of (now asked) s ≡ record (session_of c s) { lines = (session_of c s).lines + 1; state = Rattle.gx_session.specs.Session.after_line (session_of c s).state.block asked }
+  session_now : (asked : LineStep) → session_of (now asked) s ≡ record (session_of c s) { lines = (session_of c s).lines + 1; state = Rattle.gx_script.specs.Session.after_line (session_of c s).state.block asked }
   session_now asked = session-now script c h.kept h.works s asked
 
   waits : (asked : LineStep) → (pending_after asked ≡ pending.Nothing → ⊥) → IsIdle (session_of (now asked) s).state → ⊥

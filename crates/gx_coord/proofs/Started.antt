@@ -9,8 +9,8 @@ use Rattle.gx_tree.specs.declared.stmt.Stmt.TheVariants as stmt
 use Rattle.gx_script.specs.declared.Line.{Line}
 use Rattle.gx_script.specs.declared.Script.{Script}
 use Rattle.gx_store.specs.Language.{IsLine, IsScript}
-use Rattle.gx_session.specs.Session.{line_step}
-use Rattle.gx_session.specs.declared.line_step.LineStep.{LineStep}
+use Rattle.gx_script.specs.Session.{line_step}
+use Rattle.gx_script.specs.declared.line_step.LineStep.{LineStep}
 use Rattle.gx_msg.specs.declared.message.Out.{Out}
 use Rattle.gx_rules.specs.AtCoordinator.{next_line, on_line, starts, starts_line}
 use Rattle.gx_rules.specs.Coordinators as rule

@@ -11,7 +11,7 @@ use Rattle.gx_dsnap.specs.Gxids.{gxid_cmp}
 use Rattle.gx_tree.specs.declared.stmt.Stmt.{Stmt}
 use Rattle.gx_tree.specs.declared.stmt.Stmt.TheVariants as stmt
 use Rattle.gx_script.specs.declared.Line.{Line}
-use Rattle.gx_session.specs.Session.{idle_outside}
+use Rattle.gx_script.specs.Session.{idle_outside}
 use Rattle.gx_store.specs.Refusals.{the_coordinator}
 use Rattle.gx_rules.specs.Coordinators as rule
 use Rattle.gx_rules.specs.Segments.{no_locks}

@@ -22,9 +22,9 @@ use Rattle.gx_outside.specs.Causes.{Rose}
 use Rattle.gx_store.specs.declared.answer.StmtAnswer.{StmtAnswer}
 use Rattle.gx_store.specs.declared.answer.StmtAnswer.TheVariants as told
 use Rattle.gx_store.specs.declared.mark.Mark.{Mark}
-use Rattle.gx_session.specs.Session.{IsIdle}
-use Rattle.gx_session.specs.declared.state.Block.{Block}
-use Rattle.gx_session.specs.declared.state.Block.TheVariants as block
+use Rattle.gx_script.specs.Session.{IsIdle}
+use Rattle.gx_script.specs.declared.state.Block.{Block}
+use Rattle.gx_script.specs.declared.state.Block.TheVariants as block
 use Rattle.gx_rules.specs.AtCoordinator.{is_awaited, order_to, with_done, writers_with}
 use Rattle.gx_rules.specs.Coordinators as rule
 use Rattle.gx_rules.specs.Fits.{fits_part}

@@ -12,7 +12,7 @@ use crate::starting::next_place;
 use crate::work::Session;
 use gx_ids::{Gxid, Mem, Node, SessionId};
 use gx_script::Script;
-use gx_session::state::{Block, Pending};
+use gx_script::state::{Block, Pending};
 use gx_store::NodeEvent;
 use std::alloc::Global;
 

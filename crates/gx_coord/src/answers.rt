@@ -1,7 +1,7 @@
 // The answers of lines.
 ghost use Rattle.std.specs.Prelude.{◌≡◌, ◌++◌, ◌∷◌, [], IfOk, OnOk};
 ghost use Rattle.gx_rules.specs.AtCoordinator.{answer_at_commit, answer_of_command, command_answer, refusal_of};
-ghost use Rattle.gx_session.specs.declared.state.Pending.TheVariants as pending;
+ghost use Rattle.gx_script.specs.declared.state.Pending.TheVariants as pending;
 ghost use Rattle.gx_coord.specs.Books.{command_of, coord_of, stmt_at};
 ghost use Rattle.gx_coord.specs.Turns.{AreFit, IsFit, told_by};
 
@@ -11,7 +11,7 @@ use gx_gather::merge_parts;
 use gx_ids::{Gxid, Mem, Seq, SessionId};
 use gx_meaning::ArithFault;
 use gx_script::Script;
-use gx_session::state::Pending;
+use gx_script::state::Pending;
 use gx_store::{Mark, Refused, StmtAnswer};
 use gx_tree::{Part, Query, Stmt};
 use std::alloc::Global;

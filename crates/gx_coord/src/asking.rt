@@ -14,8 +14,7 @@ use crate::ends::commit;
 use crate::lines::{answer_at_once, begin, plain_answer, roll_back};
 use gx_ids::{Mem, Seq, SessionId};
 use gx_msg::Out;
-use gx_script::Script;
-use gx_session::LineStep;
+use gx_script::{LineStep, Script};
 use gx_store::{Mark, Refused, StmtAnswer};
 use gx_tree::Level;
 use std::alloc::Global;
@@ -45,7 +44,8 @@ fn open_block(
 ) -> Mem<Seq<Out>>
     requires drawn { coord.old.dtx.next.0 ≤ 2 ^ 62 }
     requires session { id.0 < length coord.old.sessions.items }
-    ensures turn { OnOk result (IsTurn coord.old coord.new marks.old.items marks.new.items (turns.behind (Mark.Start coord.old.dtx.next id ∷ []) (turns.answers_at_once (turns.begins (coord_of coord.old) id level) id StmtAnswer.Begin))) }
+    ensures turn { OnOk result (IsTurn coord.old coord.new marks.old.items marks.new.items (turns.behind (Mark.Start coord.old.dtx.next id ∷ [])
+        (turns.answers_at_once (turns.begins (coord_of coord.old) id level) id StmtAnswer.Begin))) }
     ensures outs { IfOk result (λ outs. outs ≡ []) }
 {
     begin(alloc, coord, id, level, marks)?;
@@ -93,8 +93,10 @@ fn send_in_block(
     requires language { IsScript coord.old.script.value }
     requires inside { place < length coord.old.script.value.lines }
     requires may { MaySend (coord_of coord.old) ((coord_of coord.old).sessions id.0).transaction (stmt_at coord.old.script.value.lines place) }
-    ensures turn { OnOk result (IsTurn coord.old coord.new marks.old.items marks.new.items (turns.dispatches coord.old.script.value (coord_of coord.old) ((coord_of coord.old).sessions id.0).transaction (stmt_at coord.old.script.value.lines place))) }
-    ensures outs { IfOk result (λ outs. outs ≡ (turns.dispatches coord.old.script.value (coord_of coord.old) ((coord_of coord.old).sessions id.0).transaction (stmt_at coord.old.script.value.lines place)).outs) }
+    ensures turn { OnOk result (IsTurn coord.old coord.new marks.old.items marks.new.items (turns.dispatches coord.old.script.value
+        (coord_of coord.old) ((coord_of coord.old).sessions id.0).transaction (stmt_at coord.old.script.value.lines place))) }
+    ensures outs { IfOk result (λ outs. outs ≡ (turns.dispatches coord.old.script.value (coord_of coord.old)
+        ((coord_of coord.old).sessions id.0).transaction (stmt_at coord.old.script.value.lines place)).outs) }
 {
     let session = find_session(coord, id);
     dispatch(alloc, coord, session.transaction, place, marks)
@@ -113,8 +115,12 @@ fn send_alone(
     requires drawn { coord.old.dtx.next.0 ≤ 2 ^ 62 }
     requires session { id.0 < length coord.old.sessions.items }
     requires may { MaySend (turns.begins (coord_of coord.old) id Level.ReadCommitted) coord.old.dtx.next (stmt_at coord.old.script.value.lines place) }
-    ensures turn { OnOk result (IsTurn coord.old coord.new marks.old.items marks.new.items (turns.behind (Mark.Start coord.old.dtx.next id ∷ []) (turns.dispatches coord.old.script.value (turns.begins (coord_of coord.old) id Level.ReadCommitted) coord.old.dtx.next (stmt_at coord.old.script.value.lines place)))) }
-    ensures outs { IfOk result (λ outs. outs ≡ (turns.dispatches coord.old.script.value (turns.begins (coord_of coord.old) id Level.ReadCommitted) coord.old.dtx.next (stmt_at coord.old.script.value.lines place)).outs) }
+    ensures turn { OnOk result (IsTurn coord.old coord.new marks.old.items marks.new.items (turns.behind (Mark.Start coord.old.dtx.next id ∷ [])
+        (turns.dispatches coord.old.script.value (turns.begins (coord_of coord.old) id Level.ReadCommitted) coord.old.dtx.next
+        (stmt_at coord.old.script.value.lines place)))) }
+    ensures outs { IfOk result
+        (λ outs. outs ≡ (turns.dispatches coord.old.script.value (turns.begins (coord_of coord.old) id Level.ReadCommitted) coord.old.dtx.next
+        (stmt_at coord.old.script.value.lines place)).outs) }
 {
     let gxid = begin(alloc, coord, id, Level::ReadCommitted, marks)?;
     dispatch(alloc, coord, gxid, place, marks)
@@ -136,7 +142,8 @@ pub(crate) fn ask(
     requires drawn { coord.old.dtx.next.0 ≤ 2 ^ 62 }
     requires session { id.0 < length coord.old.sessions.items }
     requires may { MayAsk (coord_of coord.old) id (stmt_at coord.old.script.value.lines place) asked }
-    ensures turn { OnOk result (IsTurn coord.old coord.new marks.old.items marks.new.items (turns.on_line coord.old.script.value (coord_of coord.old) id (stmt_at coord.old.script.value.lines place) asked)) }
+    ensures turn { OnOk result (IsTurn coord.old coord.new marks.old.items marks.new.items (turns.on_line coord.old.script.value
+        (coord_of coord.old) id (stmt_at coord.old.script.value.lines place) asked)) }
     ensures outs { IfOk result (λ outs. outs ≡ (turns.on_line coord.old.script.value (coord_of coord.old) id (stmt_at coord.old.script.value.lines place) asked).outs) }
 {
     match asked {

@@ -6,7 +6,7 @@ ghost use Rattle.gx_coord.specs.Books.{IsFramed, coord_of, session_of as session
 use crate::coord::Coord;
 use crate::work::{Session, Work};
 use gx_ids::{Gxid, Mem, SessionId};
-use gx_session::SessionState;
+use gx_script::SessionState;
 
 // What is known of a transaction.
 pub(crate) fn set_work(coord: &mut Coord, gxid: Gxid, work: Work) -> Mem<()>

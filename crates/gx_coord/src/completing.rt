@@ -14,7 +14,7 @@ use crate::ends::{after_done, commit, owner};
 use gx_ids::{Gxid, Mem, Seq};
 use gx_msg::Out;
 use gx_script::Script;
-use gx_session::state::Block;
+use gx_script::state::Block;
 use gx_store::Mark;
 use gx_tree::Level;
 use std::alloc::Global;
@@ -86,7 +86,8 @@ pub(crate) fn complete(
     requires writers { AreWriters coord.old.dtx gxid ((coord_of coord.old).works gxid.0).writers }
     requires busy { IsBusy (coord_of coord.old) gxid.0 }
     requires fits { IsFit ((coord_of coord.old).works gxid.0).command }
-    ensures turn { OnOk result (IsTurn coord.old coord.new marks.old.items marks.new.items (turns.completes (coord_of coord.old) gxid ((coord_of coord.old).sessions ((coord_of coord.old).works gxid.0).session.0).state.block)) }
+    ensures turn { OnOk result (IsTurn coord.old coord.new marks.old.items marks.new.items (turns.completes (coord_of coord.old) gxid
+        ((coord_of coord.old).sessions ((coord_of coord.old).works gxid.0).session.0).state.block)) }
     ensures outs { IfOk result (λ outs. outs ≡ (turns.completes (coord_of coord.old) gxid ((coord_of coord.old).sessions ((coord_of coord.old).works gxid.0).session.0).state.block).outs) }
 {
     let session = find_session(coord, owner(coord, gxid));

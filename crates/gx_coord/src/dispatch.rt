@@ -47,7 +47,8 @@ fn next_cid(coord: &Coord, gxid: Gxid) -> Cid
 // A command is under way.
 fn set_command(alloc: Global, coord: &mut Coord, gxid: Gxid, command: Command) -> Mem<()>
     ensures framed { OnOk result (IsFramed coord.old coord.new) }
-    ensures coord { OnOk result (coord_of coord.new ≡ with_work (coord_of coord.old) gxid (record ((coord_of coord.old).works gxid.0) { last = command.cid.0; command = Some (command_of coord.old.script.value.lines command) })) }
+    ensures coord { OnOk result (coord_of coord.new ≡ with_work (coord_of coord.old) gxid
+        (record ((coord_of coord.old).works gxid.0) { last = command.cid.0; command = Some (command_of coord.old.script.value.lines command) })) }
 {
     if let Some(work) = coord.works.get_mut(&gxid) {
         work.last = command.cid.0;
@@ -77,8 +78,10 @@ fn send(
 ) -> Mem<Seq<Out>>
     requires active { IsActive coord.old.dtx gxid }
     ensures framed { OnOk result (IsFramed coord.old coord.new) }
-    ensures coord { OnOk result (coord_of coord.new ≡ (turns.goes_out gxid cid (stmt_at coord.old.script.value.lines place) pieces.now (record { coord = coord_of coord.old; snapshot = snapshot; marks = [] })).coord) }
-    ensures outs { IfOk result (λ outs. outs ≡ (turns.goes_out gxid cid (stmt_at coord.old.script.value.lines place) pieces.now (record { coord = coord_of coord.old; snapshot = snapshot; marks = [] })).outs) }
+    ensures coord { OnOk result (coord_of coord.new ≡ (turns.goes_out gxid cid (stmt_at coord.old.script.value.lines place) pieces.now
+        (record { coord = coord_of coord.old; snapshot = snapshot; marks = [] })).coord) }
+    ensures outs { IfOk result (λ outs. outs ≡ (turns.goes_out gxid cid (stmt_at coord.old.script.value.lines place) pieces.now
+        (record { coord = coord_of coord.old; snapshot = snapshot; marks = [] })).outs) }
 {
     let of = Ordering {
         gxid,
@@ -116,7 +119,8 @@ fn fault(
     requires constants { HasConstants line.now }
     requires active { IsActive coord.old.dtx gxid }
     requires busy { IsBusy (coord_of coord.old) gxid.0 }
-    ensures turn { OnOk result (IsTurn coord.old coord.new marks.old.items marks.new.items (turns.goes gxid cid line.now (record { coord = coord_of coord.old; snapshot = None; marks = [] }) (Err fault))) }
+    ensures turn { OnOk result (IsTurn coord.old coord.new marks.old.items marks.new.items
+        (turns.goes gxid cid line.now (record { coord = coord_of coord.old; snapshot = None; marks = [] }) (Err fault))) }
     ensures outs { IfOk result (λ outs. outs ≡ (turns.goes gxid cid line.now (record { coord = coord_of coord.old; snapshot = None; marks = [] }) (Err fault)).outs) }
 {
     push_fault(alloc, gxid, cid, line, marks)?;
@@ -142,7 +146,9 @@ fn go(
     requires busy { IsBusy (coord_of coord.old) gxid.0 }
     requires pieces { IfOk planned (λ pieces. rule_plan script.now gxid cid line.now ≡ Ok pieces.items) }
     requires fault { (fault : Fault) → planned ≡ Err (eval_fault fault) → rule_plan script.now gxid cid line.now ≡ Err fault }
-    ensures turn { OnOk result (IsTurn coord.old coord.new marks.old.items marks.new.items (turns.goes gxid cid line.now (record { coord = coord_of coord.old; snapshot = snapshot; marks = [] }) (rule_plan script.now gxid cid line.now))) }
+    ensures turn { OnOk result (IsTurn coord.old coord.new marks.old.items marks.new.items
+        (turns.goes gxid cid line.now (record { coord = coord_of coord.old; snapshot = snapshot; marks = [] })
+        (rule_plan script.now gxid cid line.now))) }
     ensures outs { IfOk result (λ outs. outs ≡ (turns.goes gxid cid line.now (record { coord = coord_of coord.old; snapshot = snapshot; marks = [] }) (rule_plan script.now gxid cid line.now)).outs) }
 {
     match planned {
@@ -249,8 +255,12 @@ fn read_and_go(
     requires busy { IsBusy (coord_of coord.old) gxid.0 }
     requires pieces { IfOk planned (λ pieces. rule_plan script.now gxid cid line.now ≡ Ok pieces.items) }
     requires fault { (fault : Fault) → planned ≡ Err (eval_fault fault) → rule_plan script.now gxid cid line.now ≡ Err fault }
-    ensures turn { OnOk result (IsTurn coord.old coord.new marks.old.items marks.new.items (turns.goes gxid cid line.now (turns.reads_for (coord_of coord.old) gxid cid ((coord_of coord.old).works gxid.0) line.now) (rule_plan script.now gxid cid line.now))) }
-    ensures outs { IfOk result (λ outs. outs ≡ (turns.goes gxid cid line.now (turns.reads_for (coord_of coord.old) gxid cid ((coord_of coord.old).works gxid.0) line.now) (rule_plan script.now gxid cid line.now)).outs) }
+    ensures turn { OnOk result (IsTurn coord.old coord.new marks.old.items marks.new.items
+        (turns.goes gxid cid line.now (turns.reads_for (coord_of coord.old) gxid cid ((coord_of coord.old).works gxid.0) line.now)
+        (rule_plan script.now gxid cid line.now))) }
+    ensures outs { IfOk result
+        (λ outs. outs ≡ (turns.goes gxid cid line.now (turns.reads_for (coord_of coord.old) gxid cid ((coord_of coord.old).works gxid.0) line.now)
+        (rule_plan script.now gxid cid line.now)).outs) }
 {
     let snapshot = read_for(alloc, coord, gxid, cid, line, marks)?;
     go(
@@ -274,7 +284,8 @@ pub(crate) fn dispatch(
     requires active { IsActive coord.old.dtx gxid }
     requires drawn { IsDrawn coord.old.dtx }
     requires busy { IsBusy (coord_of coord.old) gxid.0 }
-    ensures turn { OnOk result (IsTurn coord.old coord.new marks.old.items marks.new.items (turns.dispatches coord.old.script.value (coord_of coord.old) gxid (stmt_at coord.old.script.value.lines place))) }
+    ensures turn { OnOk result (IsTurn coord.old coord.new marks.old.items marks.new.items (turns.dispatches coord.old.script.value
+        (coord_of coord.old) gxid (stmt_at coord.old.script.value.lines place))) }
     ensures outs { IfOk result (λ outs. outs ≡ (turns.dispatches coord.old.script.value (coord_of coord.old) gxid (stmt_at coord.old.script.value.lines place)).outs) }
 {
     let script = Arc::try_clone(&coord.script)?;

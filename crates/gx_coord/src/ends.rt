@@ -2,7 +2,7 @@
 ghost use Rattle.std.specs.Prelude.{◌≡◌, ◌<◌, ◌++◌, ◌∷◌, [], true, length, IfOk, OnOk};
 ghost use Rattle.gx_dtx.specs.Rules.{AreWriters, on_commit};
 ghost use Rattle.gx_dtx.specs.Table.{IsActive};
-ghost use Rattle.gx_session.specs.Session.{IsIdle, after_done as done_state, after_refused as refused_state};
+ghost use Rattle.gx_script.specs.Session.{IsIdle, after_done as done_state, after_refused as refused_state};
 ghost use Rattle.gx_rules.specs.AtCoordinator.{commits as commit_turn, failure_marks, follows as follow_turn, is_committed, is_refused};
 ghost use Rattle.gx_rules.specs.Coordinators.{no_work, with_state, with_work};
 ghost use Rattle.gx_coord.specs.Books.{IsFramed, coord_of};
@@ -14,8 +14,7 @@ use crate::coord::Coord;
 use gx_dtx::{DtxOut, Outcome};
 use gx_ids::{Gxid, Mem, Node, Seq, SessionId};
 use gx_msg::Out;
-use gx_script::Script;
-use gx_session::SessionState;
+use gx_script::{Script, SessionState};
 use gx_store::{Mark, Refused, StmtAnswer};
 use std::alloc::Global;
 
@@ -111,7 +110,8 @@ fn push_failure(marks: &mut Vec<Mark>, node: Node, gxid: Gxid) -> Mem<()>
 
 fn refuse_for_journal(coord: &mut Coord, gxid: Gxid, node: Node, marks: &mut Vec<Mark>) -> Mem<()>
     requires busy { IsBusy (coord_of coord.old) gxid.0 }
-    ensures { OnOk result (IsTurn coord.old coord.new marks.old.items marks.new.items (is_refused (coord_of coord.old) gxid (has_called coord.old) (failure_marks node gxid) (Refused.JournalFault node))) }
+    ensures { OnOk result (IsTurn coord.old coord.new marks.old.items marks.new.items (is_refused (coord_of coord.old) gxid (has_called coord.old)
+        (failure_marks node gxid) (Refused.JournalFault node))) }
 {
     push_failure(marks, node, gxid)?;
     refuse_line(coord, gxid, Refused::JournalFault(node), marks)

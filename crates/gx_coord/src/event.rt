@@ -17,9 +17,8 @@ use crate::statuses::Turned;
 use gx_ids::{Gxid, Mem, Node, Seq, SessionId};
 use gx_msg::{Envelope, Message, Out};
 use gx_outside::Journal;
-use gx_script::Script;
-use gx_session::SessionState;
-use gx_session::state::Block;
+use gx_script::state::Block;
+use gx_script::{Script, SessionState};
 use gx_store::{Mark, NodeEvent};
 use std::alloc::Global;
 
@@ -84,7 +83,8 @@ pub(crate) fn take_event<J: Journal>(
     requires admitted { turns.coord_can script.now (coord_of coord.old) event ≡ true }
     ensures turn { IfOk result (λ turned. IsTurn coord.old coord.new marks.old.items marks.new.items (turns.on_event script.now (coord_of coord.old) event turned.fails)) }
     ensures outs { IfOk result (λ turned. turned.outs ≡ (turns.on_event script.now (coord_of coord.old) event turned.fails).outs) }
-    ensures journal { IfOk result (λ turned. HasAppended (turns.on_event script.now (coord_of coord.old) event turned.fails) turned.fails (J.items journal.old) (J.items journal.new) (J.fault_count journal.old) (J.fault_count journal.new)) }
+    ensures journal { IfOk result (λ turned. HasAppended (turns.on_event script.now (coord_of coord.old) event turned.fails) turned.fails
+        (J.items journal.old) (J.items journal.new) (J.fault_count journal.old) (J.fault_count journal.new)) }
     ensures later { J.fault_count journal.old ≤ J.fault_count journal.new }
     ensures small { IsSmall event }
 {

@@ -12,7 +12,7 @@ use crate::coord::Coord;
 use crate::work::{Session, Work};
 use gx_ids::{Gxid, Mem, Seq, SessionId};
 use gx_msg::Out;
-use gx_session::Plain;
+use gx_script::Plain;
 use gx_store::{Mark, StmtAnswer};
 use gx_tree::Level;
 use std::alloc::Global;

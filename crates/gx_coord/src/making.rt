@@ -4,7 +4,7 @@ ghost use Rattle.gx_coord.specs.Books.{fresh_session};
 
 use crate::work::Session;
 use gx_ids::{Gxid, Mem};
-use gx_session::SessionState;
+use gx_script::SessionState;
 use std::alloc::Global;
 
 fn new_session() -> Session

@@ -51,7 +51,8 @@ fn take_done(
 ) -> Mem<Seq<Out>>
     requires same { coord.old.script.value ≡ script.now }
     requires sound { IsSound script.now (coord_of coord.old) }
-    ensures turn { OnOk result (IsTurn coord.old coord.new marks.old.items marks.new.items (turns.on_done (coord_of coord.old) gxid node done.cid done.wrote done.count part ((coord_of coord.old).works gxid.0).command)) }
+    ensures turn { OnOk result (IsTurn coord.old coord.new marks.old.items marks.new.items
+        (turns.on_done (coord_of coord.old) gxid node done.cid done.wrote done.count part ((coord_of coord.old).works gxid.0).command)) }
     ensures outs { IfOk result (λ outs. outs ≡ (turns.on_done (coord_of coord.old) gxid node done.cid done.wrote done.count part ((coord_of coord.old).works gxid.0).command).outs) }
     ensures small { done.count < 2 ^ 64 }
 {
@@ -117,7 +118,8 @@ fn take_reply<J: Journal>(
     requires segment { 0 < node.0 }
     ensures turn { IfOk result (λ turned. IsTurn coord.old coord.new marks.old.items marks.new.items (turns.on_answer (coord_of coord.old) gxid node turned.fails reply)) }
     ensures outs { IfOk result (λ turned. turned.outs ≡ (turns.on_answer (coord_of coord.old) gxid node turned.fails reply).outs) }
-    ensures journal { IfOk result (λ turned. HasAppended (turns.on_answer (coord_of coord.old) gxid node turned.fails reply) turned.fails (J.items journal.old) (J.items journal.new) (J.fault_count journal.old) (J.fault_count journal.new)) }
+    ensures journal { IfOk result (λ turned. HasAppended (turns.on_answer (coord_of coord.old) gxid node turned.fails reply) turned.fails
+        (J.items journal.old) (J.items journal.new) (J.fault_count journal.old) (J.fault_count journal.new)) }
     ensures later { J.fault_count journal.old ≤ J.fault_count journal.new }
     ensures small { IsSmallReply reply }
 {
@@ -163,7 +165,8 @@ pub(crate) fn take_message<J: Journal>(
     requires segment { 0 < from.0 }
     ensures turn { IfOk result (λ turned. IsTurn coord.old coord.new marks.old.items marks.new.items (turns.on_message (coord_of coord.old) from turned.fails message)) }
     ensures outs { IfOk result (λ turned. turned.outs ≡ (turns.on_message (coord_of coord.old) from turned.fails message).outs) }
-    ensures journal { IfOk result (λ turned. HasAppended (turns.on_message (coord_of coord.old) from turned.fails message) turned.fails (J.items journal.old) (J.items journal.new) (J.fault_count journal.old) (J.fault_count journal.new)) }
+    ensures journal { IfOk result (λ turned. HasAppended (turns.on_message (coord_of coord.old) from turned.fails message) turned.fails
+        (J.items journal.old) (J.items journal.new) (J.fault_count journal.old) (J.fault_count journal.new)) }
     ensures later { J.fault_count journal.old ≤ J.fault_count journal.new }
     ensures small { IsSmallMessage message }
 {

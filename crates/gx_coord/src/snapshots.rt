@@ -38,7 +38,8 @@ fn kept(alloc: Global, level: Level, snapshot: &Snapshot) -> Mem<Option<Snapshot
 
 fn keep(alloc: Global, coord: &mut Coord, gxid: Gxid, snapshot: &Snapshot) -> Mem<()>
     ensures framed { OnOk result (IsFramed coord.old coord.new) }
-    ensures coord { OnOk result (coord_of coord.new ≡ with_work (coord_of coord.old) gxid (record ((coord_of coord.old).works gxid.0) { snapshot = kept_at ((coord_of coord.old).works gxid.0).level snapshot.now })) }
+    ensures coord { OnOk result (coord_of coord.new ≡ with_work (coord_of coord.old) gxid
+        (record ((coord_of coord.old).works gxid.0) { snapshot = kept_at ((coord_of coord.old).works gxid.0).level snapshot.now })) }
 {
     if let Some(work) = coord.works.get_mut(&gxid) {
         work.snapshot = kept(alloc, work.level, snapshot)?;

@@ -1,6 +1,6 @@
 // A session's next line.
 ghost use Rattle.std.specs.Prelude.{◌≡◌, ◌+◌, ◌<◌, ◌≤◌, ◌^◌, length, option_map, slice_get, true, IfOk, OnOk, Some};
-ghost use Rattle.gx_session.specs.Session.{IsIdle, line_step};
+ghost use Rattle.gx_script.specs.Session.{IsIdle, line_step};
 ghost use Rattle.gx_store.specs.Language.{IsScript};
 ghost use Rattle.gx_rules.specs.AtCoordinator as turns;
 ghost use Rattle.gx_coord.specs.Books.{IsFramed, coord_of, stmt_at};
@@ -14,8 +14,7 @@ use crate::coord::Coord;
 use crate::work::Session;
 use gx_ids::{Mem, Seq, SessionId};
 use gx_msg::Out;
-use gx_script::{Line, Script};
-use gx_session::LineStep;
+use gx_script::{Line, LineStep, Script};
 use gx_store::{Mark, NodeEvent};
 use std::alloc::Global;
 

@@ -48,7 +48,8 @@ pub(crate) fn take_status<J: Journal>(
     requires fits { IsFit ((coord_of coord.old).works gxid.0).command }
     ensures turn { IfOk result (λ turned. IsTurn coord.old coord.new marks.old.items marks.new.items (turns.on_status (coord_of coord.old) gxid node reply turned.fails)) }
     ensures outs { IfOk result (λ turned. turned.outs ≡ (turns.on_status (coord_of coord.old) gxid node reply turned.fails).outs) }
-    ensures journal { IfOk result (λ turned. HasAppended (turns.on_status (coord_of coord.old) gxid node reply turned.fails) turned.fails (J.items journal.old) (J.items journal.new) (J.fault_count journal.old) (J.fault_count journal.new)) }
+    ensures journal { IfOk result (λ turned. HasAppended (turns.on_status (coord_of coord.old) gxid node reply turned.fails) turned.fails
+        (J.items journal.old) (J.items journal.new) (J.fault_count journal.old) (J.fault_count journal.new)) }
     ensures later { J.fault_count journal.old ≤ J.fault_count journal.new }
 {
     let out = coord.dtx.reply(gxid, node, reply, journal)?;

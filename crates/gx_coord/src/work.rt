@@ -1,7 +1,7 @@
 use gx_dsnap::Snapshot;
 use gx_ids::{Cid, Gxid, Node, Seq, SessionId};
 use gx_msg::Out;
-use gx_session::SessionState;
+use gx_script::SessionState;
 use gx_tree::{Level, Part};
 
 /// A command under way: the place of its line in the script, its number, what was sent for it to each segment, the segments

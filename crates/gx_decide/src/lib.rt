@@ -18,6 +18,3 @@ pub use disk::Disk;
 pub use disk_mem::DiskMem;
 pub use law::verdict_log;
 pub use open::open_log;
-
-#[cfg(test)]
-mod tests;

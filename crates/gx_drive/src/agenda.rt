@@ -114,7 +114,9 @@ impl Agenda {
 
     /// A step was done, and what its event received, if it received a message, is told.
     pub fn note(&mut self, step: &Step, told: Option<&Message>) -> Mem<()>
-        ensures { OnOk result ((script : OneScript) (steps : List OneStep) → IsAgreed script steps self.old → IsDue script steps step.now.event → AreCounted (steps ++ step.now ∷ []) → option_copied told.entry ≡ told_in steps step.now.event → IsAgreed script (steps ++ step.now ∷ []) self.new) }
+        ensures { OnOk result ((script : OneScript) (steps : List OneStep) → IsAgreed script steps self.old → IsDue script steps step.now.event
+            → AreCounted (steps ++ step.now ∷ []) → option_copied told.entry ≡ told_in steps step.now.event
+            → IsAgreed script (steps ++ step.now ∷ []) self.new) }
     {
         deliver(&mut self.cursors, step);
         self.queue.note(step)?;
@@ -134,7 +136,9 @@ fn deliver(cursors: &mut Cursors, step: &Step)
 
 // The link goes on by a message of this number.
 fn go_on(cursors: &mut Cursors, from: Node, to: Node, _number: u64)
-    ensures { (script : OneScript) (steps : List OneStep) (step : OneStep) → Agree script steps cursors.old → IsLink script from to → first_of (left_on script steps from to) ≡ Receive from to _number ∷ [] → step.event ≡ Receive from to _number → Agree script (steps ++ step ∷ []) cursors.new }
+    ensures { (script : OneScript) (steps : List OneStep) (step : OneStep) → Agree script steps cursors.old → IsLink script from to
+        → first_of (left_on script steps from to) ≡ Receive from to _number ∷ [] → step.event ≡ Receive from to _number
+        → Agree script (steps ++ step ∷ []) cursors.new }
 {
     cursors.delivered(from, to);
 }

@@ -53,7 +53,9 @@ fn note(world: &World, agenda: &mut Agenda) -> Mem<()>
     requires language { IsScript world.now.script }
     requires reached { IsReached world.now.script world.now.run.steps }
     requires room { length world.now.run.steps < 2 ^ 62 }
-    ensures { OnOk result ((steps : List OneStep) (step : OneStep) → world.now.run.steps ≡ steps ++ step ∷ [] → IsAgreed world.now.script steps agenda.old → IsDue world.now.script steps step.event → is_admitted world.now.script steps step.event ≡ true → IsReached world.now.script steps → IsAgreed world.now.script world.now.run.steps agenda.new) }
+    ensures { OnOk result ((steps : List OneStep) (step : OneStep) → world.now.run.steps ≡ steps ++ step ∷ []
+        → IsAgreed world.now.script steps agenda.old → IsDue world.now.script steps step.event → is_admitted world.now.script steps step.event ≡ true
+        → IsReached world.now.script steps → IsAgreed world.now.script world.now.run.steps agenda.new) }
 {
     match world.run().steps.as_slice().last() {
         Some(step) => agenda.note(step, told(world, step.event)),
@@ -78,8 +80,10 @@ pub(crate) fn turn<J: Journal, G: Gate>(
     requires room { length world.old.run.steps < 2 ^ 40 }
     ensures script { world.new.script ≡ world.old.script }
     ensures first { IsNoMore world.old.script world.old.run.steps world.new.run.steps }
-    ensures failures { (start : List Shelf) → AreFailuresFew world.old.run.steps start (map (λ j. shelf (J.items j) (J.fault_count j)) journals.old) → AreFailuresFew world.new.run.steps start (map (λ j. shelf (J.items j) (J.fault_count j)) journals.new) }
-    ensures turned { OnOk result (HasTurned world.old world.new agenda.new (map (λ j. shelf (J.items j) (J.fault_count j)) journals.old) (map (λ j. shelf (J.items j) (J.fault_count j)) journals.new)) }
+    ensures failures { (start : List Shelf) → AreFailuresFew world.old.run.steps start (map (λ j. shelf (J.items j) (J.fault_count j)) journals.old)
+        → AreFailuresFew world.new.run.steps start (map (λ j. shelf (J.items j) (J.fault_count j)) journals.new) }
+    ensures turned { OnOk result (HasTurned world.old world.new agenda.new (map (λ j. shelf (J.items j) (J.fault_count j)) journals.old)
+        (map (λ j. shelf (J.items j) (J.fault_count j)) journals.new)) }
 {
     let event = next_event(world, agenda)?;
     world.step(event, journals, gate)?;

@@ -50,7 +50,8 @@ pub fn eval_int(expr: &Expr, row: &Row) -> Result<i64, ArithFault>
 // The text of an expression, or None where it is a whole number. It is borrowed, so it takes no memory.
 pub fn text_of<'a>(expr: &'a Expr, row: &'a Row) -> Option<&'a Txt>
     requires { IsSome (kind_of (kinds_of row.now) expr.now) }
-    ensures { MatchOption result (kind_of (kinds_of row.now) expr.now ≡ Some kind.Int) (λ text. (kind_of (kinds_of row.now) expr.now ≡ Some kind.Text) × (value_of row.now expr.now ≡ Ok (Text text.now))) }
+    ensures { MatchOption result (kind_of (kinds_of row.now) expr.now ≡ Some kind.Int) (λ text. (kind_of (kinds_of row.now) expr.now ≡ Some kind.Text)
+        × (value_of row.now expr.now ≡ Ok (Text text.now))) }
 {
     match expr {
         Expr::Lit(value) => text(value),

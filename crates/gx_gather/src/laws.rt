@@ -6,8 +6,8 @@ ghost use Rattle.gx_meaning.specs.Answer.{dealt_by, together};
 ghost use Rattle.gx_meaning.specs.Order.{group_order, in_order, row_order};
 ghost use Rattle.gx_meaning.specs.declared.sort_key.SortKey.{SortKey};
 
-/// Rows that an owner deals to so many parts are divided by it: `merge` may be given the parts' answers. So it is with the
-/// segments' rows, whose owner is their place.
+/// Rows that an owner deals to so many parts are, part behind part, the same rows in another order. So it is with the segments'
+/// rows, whose owner is their place.
 pub fn dealt_rows_are_divided()
     ensures { (owner : KeyedRow → ℕ) (n : ℕ) (rows : List KeyedRow) → All (λ row. owner row < n) rows → IsPermutation rows (together (dealt_by owner n rows)) }
 {}

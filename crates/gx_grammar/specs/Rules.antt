@@ -124,7 +124,8 @@ CannotGo g us (y ∷ ys) = (e : Limits) → CanGo (g e) (us ++ y ∷ []) → ⊥
 abbrev pub Verdict : {X : Type 0} → (Limits → X → List Token → Type 0) → Limits → List Token → Result X Fault → Type 0
 Verdict g d ts (Ok x) = g d x ts
 Verdict g d ts (Err Syntax) = (us : List Token) × (rest : List Token) × (ts ≡ us ++ rest) × CanGo (g d) us × CannotGo g us rest
-Verdict g d ts (Err (TooMany l)) = (us : List Token) × (y : Token) × (rest : List Token) × (ts ≡ us ++ y ∷ rest) × CanGo (g d) us × ((e : Limits) → Keeps l d e → CanGo (g e) (us ++ y ∷ []) → ⊥) × ((e : Limits) × KeepsBefore l d e × CanGo (g e) (us ++ y ∷ []))
+Verdict g d ts (Err (TooMany l)) = (us : List Token) × (y : Token) × (rest : List Token) × (ts ≡ us ++ y ∷ rest) × CanGo (g d) us
+    × ((e : Limits) → Keeps l d e → CanGo (g e) (us ++ y ∷ []) → ⊥) × ((e : Limits) × KeepsBefore l d e × CanGo (g e) (us ++ y ∷ []))
 
 -- a reading with nothing behind it
 abbrev pub whole_of : {X : Type 0} → Reading X → Result X Fault

@@ -12,6 +12,3 @@ pub mod seat;
 
 pub use groups::Groups;
 pub use seat::{Seat, Standing};
-
-#[cfg(test)]
-mod tests;

@@ -26,7 +26,7 @@ use Rattle.gx_rules.specs.AtSegment.{seg_rule}
 use Rattle.gx_rules.specs.Machine.{World, after, at_node, can, does, happens, new_world, node_of, world_of}
 use Rattle.gx_store.specs.Journals.{is_same_node}
 use Rattle.gx_store.specs.declared.node.NodeEvent.{NodeEvent}
-use Rattle.gx_law_order.proofs.Lists.{Each}
+use Rattle.gx_law_order.proofs.Lists.{Each, get_kept, get_last}
 use Rattle.gx_law_sessions.specs.Orders.{IsOrder}
 use Rattle.gx_store.specs.Language.{AreLinesNumbered}
 use Rattle.gx_law_sessions.proofs.Outs.{order-more}
@@ -153,6 +153,14 @@ module _ (script : Script) (some : 1 ≤ script.segments) (numbered : AreLinesNu
     pub marks-are : ms ≡ marks_in (world_of script t.upto).steps ++ more
     unfolding more
     marks-are = ap (λ (v : World). marks_in v.steps) (sym late-is) ∙ ap marks_in grown.is ∙ marks-append (world_of script t.upto).steps grown.extra
+
+    -- the segment's step stands in the run
+    pub own-step : slice_get (world_of script es).steps (length (world_of script t.given.before).steps) ≡ Some t.given.step
+    own-step =
+        ap (λ (v : World). slice_get v.steps (length (world_of script t.given.before).steps)) (sym late-is)
+        ∙ ap (λ ss. slice_get ss (length (world_of script t.given.before).steps)) grown.is
+        ∙ ap (λ ss. slice_get (ss ++ grown.extra) (length (world_of script t.given.before).steps)) t.given.steps
+        ∙ get_kept ((world_of script t.given.before).steps ++ t.given.step ∷ []) grown.extra (length (world_of script t.given.before).steps) t.given.step (get_last (world_of script t.given.before).steps [] t.given.step)
 
     -- its order
     pub order-now : IsOrder script ms node g c t.level (Some t.snapshot) t.slice

@@ -135,6 +135,9 @@ module _ (script : Script) (some : 1 ≤ script.segments) (numbered_lines : AreL
   abbrev late : World
   late = seg_did (world_of script es) to (event.Receive from to number) (seg_rule script ((world_of script es).segs to.0) (here.Deliver from envelope) fails)
 
+  abbrev late-step : Step
+  late-step = record { stamp = record { clock = (seg_rule script ((world_of script es).segs to.0) (here.Deliver from envelope) fails).seg.clock; node = to }; event = event.Receive from to number; marks = turn.marks ++ sent }
+
   placed : Each (IsPlacedMark script ms) ms
   placed = (writes.world-holds script some numbered_lines es).placed
 
@@ -200,7 +203,7 @@ module _ (script : Script) (some : 1 ≤ script.segments) (numbered_lines : AreL
     order : IsOrder script ms to g c level (Some x) y
     order = subst (MessageIs script ms to) told order_is numbered_lines
 
-    pub new-reply : (r : Reply) (xs : List Mark) → turn.outs ≡ reply_out g r ∷ [] → turn.marks ≡ xs → IsTruth (ms ++ (xs ++ sent)) to level g c y r → c.0 ≤ (turn.seg.locals g.0).last → IsEarned script (es ++ e ∷ []) to g c r
+    pub new-reply : (r : Reply) (xs : List Mark) → turn.outs ≡ reply_out g r ∷ [] → turn.marks ≡ xs → IsTruth ms (ms ++ (xs ++ sent)) to level g c y r → c.0 ≤ (turn.seg.locals g.0).last → IsEarned script (es ++ e ∷ []) to g c r
     new-reply r xs given same truth taken =
         record {
           upto = es ++ e ∷ [];
@@ -209,10 +212,10 @@ module _ (script : Script) (some : 1 ≤ script.segments) (numbered_lines : AreL
           level = level;
           snapshot = x;
           slice = y;
-          given = record { before = es; from = from; number = number; fails = fails; last = refl; envelope = envelope; posted = is_found; horizon = horizon; told = told; new = fresh; ran = ran; given = given };
+          given = record { before = es; from = from; number = number; fails = fails; last = refl; envelope = envelope; posted = is_found; horizon = horizon; told = told; step = late-step; steps = ap (λ (v : World). v.steps) is-late; place = refl; new = fresh; ran = ran; given = given };
           order = subst (λ v. IsOrder script (marks_in v.steps) to g c level (Some x) y) (sym is-late) (subst (λ m. IsOrder script m to g c level (Some x) y) (sym late-marks) (order-more script ms (turn.marks ++ sent) to (message.Exec g c level (Some x) g y) (λ n. order) numbered_lines));
           taken = subst (λ v. c.0 ≤ (local_of (v.segs to.0) g).last) (sym is-late) (subst (λ b. c.0 ≤ ((if b then (seg_rule script s (here.Deliver from envelope) fails).seg else s).locals g.0).last) (sym self) taken);
-          truth = subst (λ v. IsTruth (marks_in v.steps) to level g c y r) (sym is-late) (subst (λ m. IsTruth m to level g c y r) (sym late-marks) (subst (λ m. IsTruth (ms ++ (m ++ sent)) to level g c y r) (sym same) truth));
+          truth = subst (λ v. IsTruth ms (marks_in v.steps) to level g c y r) (sym is-late) (subst (λ m. IsTruth ms m to level g c y r) (sym late-marks) (subst (λ m. IsTruth ms (ms ++ (m ++ sent)) to level g c y r) (sym same) truth));
         }
 
   module _ (kept : (h : ℕ) → IsKeptEarned script es to (gx h) (s.locals h).answer) (votes : (h : ℕ) → IsVote (s.locals h).phase (s.locals h).vote) where
@@ -278,10 +281,10 @@ module _ (script : Script) (some : 1 ≤ script.segments) (numbered_lines : AreL
     select-earned : Selected s envelope.message turn → TurnEarned
     select-earned z = by_fault (first_fault z.query.cond (rows z)) refl z.ran
       where
-        truth : (o : Option (KeyedRow × ArithFault)) → first_fault z.query.cond (rows z) ≡ o → IsTruth (ms ++ (marks_of z.g z.c o ++ sent)) to z.level z.g z.c (slice.Select z.query) (reply_of z.c (has_written (local_of (raised s z.horizon) z.g).phase) z.query (rows z) o)
+        truth : (o : Option (KeyedRow × ArithFault)) → first_fault z.query.cond (rows z) ≡ o → IsTruth ms (ms ++ (marks_of z.g z.c o ++ sent)) to z.level z.g z.c (slice.Select z.query) (reply_of z.c (has_written (local_of (raised s z.horizon) z.g).phase) z.query (rows z) o)
         truth o q = by_abort o q (is_aborted ms z.g) refl
           where
-            by_abort : (o : Option (KeyedRow × ArithFault)) → first_fault z.query.cond (rows z) ≡ o → (b : Bool) → is_aborted ms z.g ≡ b → IsTruth (ms ++ (marks_of z.g z.c o ++ sent)) to z.level z.g z.c (slice.Select z.query) (reply_of z.c (has_written (local_of (raised s z.horizon) z.g).phase) z.query (rows z) o)
+            by_abort : (o : Option (KeyedRow × ArithFault)) → first_fault z.query.cond (rows z) ≡ o → (b : Bool) → is_aborted ms z.g ≡ b → IsTruth ms (ms ++ (marks_of z.g z.c o ++ sent)) to z.level z.g z.c (slice.Select z.query) (reply_of z.c (has_written (local_of (raised s z.horizon) z.g).phase) z.query (rows z) o)
             by_abort None f true a = inl (aborted-more ms _ z.g a)
             by_abort (Some fault) f true a = inl (aborted-more ms _ z.g a)
             by_abort o f false a = select-truth ms sent quiet-sent to z.level z.g z.c a (served z).place (snapshot-at z) z.query (rows z) (rows-part z a) _ o f

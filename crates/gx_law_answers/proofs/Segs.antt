@@ -165,6 +165,7 @@ module _ (script : Script) (some : 1 ≤ script.segments) (numbered_lines : AreL
                   level = was.level;
                   ran = subst (λ q. IsUnderWay script was.point was.session q was.level z.g z.c) (some-stmt was.line (stmt.Select z.query) (sym (was.of numbered_lines) ∙ the-line)) was.ran;
                 };
+                kind = refl;
               })
             where
               was : WasUnderWay script (world_of script es).steps z.g z.c

@@ -22,7 +22,7 @@ use Rattle.gx_meaning.specs.Place.{IsWithin, hash_of, key_place, remainder, row_
 use Rattle.gx_meaning.specs.Target.{IsFalseOutside, target_of}
 use Rattle.gx_meaning.specs.declared.target.Target.{Target}
 use Rattle.gx_meaning.specs.declared.target.Target.TheVariants.{One, All as AllOfThem}
-use Rattle.gx_place.proofs.Outside.{target_of-outside}
+use Rattle.gx_plan.proofs.Outside.{target_of-outside}
 use Rattle.gx_meaning.specs.Plan.{nodes_from, nodes_of}
 use Rattle.gx_script.specs.declared.Script.{Script}
 use Rattle.gx_store.specs.declared.mark.Mark.{Mark}

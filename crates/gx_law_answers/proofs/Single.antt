@@ -23,11 +23,11 @@ use Rattle.gx_msg.specs.declared.reply.Reply.TheVariants as reply
 use Rattle.gx_meaning.specs.Plan.{plan_of}
 use Rattle.gx_meaning.specs.declared.piece.Piece.{Piece}
 use Rattle.gx_script.specs.declared.Script.{Script}
-use Rattle.gx_session.specs.Session.{after_line, line_step}
-use Rattle.gx_session.specs.declared.line_step.LineStep.{LineStep}
-use Rattle.gx_session.specs.declared.line_step.LineStep.TheVariants as step
-use Rattle.gx_session.specs.declared.state.Block.{Block}
-use Rattle.gx_session.specs.declared.state.Block.TheVariants as block
+use Rattle.gx_script.specs.Session.{after_line, line_step}
+use Rattle.gx_script.specs.declared.line_step.LineStep.{LineStep}
+use Rattle.gx_script.specs.declared.line_step.LineStep.TheVariants as step
+use Rattle.gx_script.specs.declared.state.Block.{Block}
+use Rattle.gx_script.specs.declared.state.Block.TheVariants as block
 use Rattle.gx_store.specs.declared.event.Event.{Event}
 use Rattle.gx_store.specs.declared.mark.Mark.{Mark}
 use Rattle.gx_store.specs.declared.mark.Mark.TheVariants as mark
@@ -234,7 +234,7 @@ abbrev MayTake : Script → List Mark → Gxid → Type 0
 MayTake script ms g = (has_snapshot ms g ≡ false) ⊎ IsCommittedReader script ms g
 
 module _ (script : Script) (k : SessionId) (ms : List Mark) (next commands lines : ℕ) (g : Gxid) (v : Work) where
-  takes-in : (l : Level) → Owns k commands ms next (block.Open l) g v → (p : Rattle.gx_session.specs.declared.state.Pending.Pending) → Roots script k ms (block.Open l) p lines g v → v.snapshot ≡ None → MayTake script ms g
+  takes-in : (l : Level) → Owns k commands ms next (block.Open l) g v → (p : Rattle.gx_script.specs.declared.state.Pending.Pending) → Roots script k ms (block.Open l) p lines g v → v.snapshot ≡ None → MayTake script ms g
   takes-in ReadCommitted o p r e = inr (record { began = (k, r.first); is = r.began; level = ap level_by r.opening })
   takes-in RepeatableRead o p r e = inl (subst (λ x. HasSnapshot RepeatableRead ms g x) e (subst (λ y. HasSnapshot y ms g v.snapshot) o.level o.snapshot))
 

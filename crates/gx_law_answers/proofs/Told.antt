@@ -1,7 +1,7 @@
 -- A gathered SELECT shows what its answer says, and a command that a segment failed has faulted so.
 use Rattle.std.proofs.Common.{◌≡◌, ◌≤◌, inl, inr, ℕ, List, [], ◌∷◌, ◌++◌, Some, None, Result, Ok, Bool, true, false, refl, sym, subst, ap, ◌∙◌, ◌||◌, arith, eqb, map}
 use Rattle.std.proofs.lemmas.Bool.Decides.{nat_tests}
-use Rattle.std.specs.Prelude.{slice_get, take}
+use Rattle.std.specs.Prelude.{Contains, length, slice_get, take}
 use Rattle.gx_ids.specs.declared.ids.Cid.{Cid}
 use Rattle.gx_ids.specs.declared.ids.Gxid.{Gxid}
 use Rattle.gx_ids.specs.declared.ids.Node.{Node}
@@ -37,12 +37,13 @@ use Rattle.gx_store.specs.Points.{marks_in}
 use Rattle.gx_store.specs.Refusals.{HasFaulted, IsCause, the_coordinator}
 use Rattle.gx_store.specs.View.{image, is_shown_to}
 use Rattle.gx_store.specs.Writes.{dist_of}
+use Rattle.gx_store.proofs.Runs.{marks_in-push}
 use Rattle.gx_rules.specs.AtCoordinator.{nodes_in, reason_of}
 use Rattle.gx_rules.specs.Machine.{world_of}
 use Rattle.gx_meaning.specs.Merged.{merged_answer}
 use Rattle.gx_rules.specs.Slices.{cause_of}
 use Rattle.gx_law_order.proofs.Lists.{Each, get_kept}
-use Rattle.gx_law_sessions.specs.Scanned.{began_from, stmt_of_command}
+use Rattle.gx_law_sessions.specs.Scanned.{began_from}
 use Rattle.gx_law_sessions.specs.Finish.{point_at}
 use Rattle.gx_law_sessions.specs.Gathering.{AreAll, AreApart, IsGathered, Taken, nodes_taken, parts_taken}
 use Rattle.gx_law_sessions.specs.Orders.{level_of_began}
@@ -57,7 +58,7 @@ use Rattle.gx_law_answers.specs.Once.{IsOneSnapshot}
 use Rattle.gx_law_answers.specs.Parts.{SaysItsPart}
 use Rattle.gx_law_answers.specs.Truth.{IsTrueFault, IsTruePart, IsTruth}
 use Rattle.gx_law_answers.proofs.Commands.{IsOf}
-use Rattle.gx_law_answers.proofs.Heard.{heard, marks-are, more, order-now, part-now, unaborted-then}
+use Rattle.gx_law_answers.proofs.Heard.{heard, marks-are, more, order-now, own-step, part-now, unaborted-then}
 use Rattle.gx_law_answers.proofs.Plans.{IsSliceOf, slice-is}
 use Rattle.gx_law_answers.proofs.Select.{has-from, merged, seen, whole}
 use Rattle.gx_law_answers.proofs.Truths.{image-more, snapshot-more}
@@ -103,6 +104,15 @@ some-node n AllOfThem some = (record { 0 = 1 }, has-from 1 1 n (omega arith) (om
 ok-same : {xs ys : List Piece} → (let o : Result (List Piece) ArithFault = Ok xs in o) ≡ Ok ys → xs ≡ ys
 ok-same q = cc
 
+-- what stands at the seam is among what follows
+seam-first : (xs ys : List Mark) (m : Mark) → slice_get (xs ++ ys) (length xs) ≡ Some m → Contains ys m
+seam-first [] [] m e = absurd (cc)
+seam-first [] (y ∷ ys) m e = (0, omega arith, some-mark y m e)
+  where
+    some-mark : (a b : Mark) → Some a ≡ Some b → a ≡ b
+    some-mark a b e = cc
+seam-first (x ∷ xs) ys m e = seam-first xs ys m e
+
 module _ (script : Script) (some : 1 ≤ script.segments) (numbered : AreLinesNumbered [] script.lines) (keyed : AreInsertsKeyed script) (es : Events) where
   abbrev ms : List Mark
   ms = marks_in (world_of script es).steps
@@ -124,9 +134,9 @@ module _ (script : Script) (some : 1 ≤ script.segments) (numbered : AreLinesNu
   -- A SELECT
   module _ (once : IsOneSnapshot script ms) (query : Query) (level : Level) (g : Gxid) (c : Cid) (is : IsOf script ms (stmt.Select query) level g c) where
     true-part : (t : Taken) → IsEarned script es t.node g c (reply.Done c t.wrote t.count t.part) → IsTruePart ms t.node level g c query t.part
-    true-part t x = by_truth (subst (λ s. IsTruth (marks_in (world_of script x.upto).steps) t.node x.level g c s (reply.Done c t.wrote t.count t.part)) (its-slice t.node (stmt.Select query) level g c is _ x) x.truth)
+    true-part t x = by_truth (subst (λ s. IsTruth (marks_in (world_of script x.given.before).steps) (marks_in (world_of script x.upto).steps) t.node x.level g c s (reply.Done c t.wrote t.count t.part)) (its-slice t.node (stmt.Select query) level g c is _ x) x.truth)
       where
-        by_truth : IsTruth (marks_in (world_of script x.upto).steps) t.node x.level g c (slice.Select query) (reply.Done c t.wrote t.count t.part) → IsTruePart ms t.node level g c query t.part
+        by_truth : IsTruth (marks_in (world_of script x.given.before).steps) (marks_in (world_of script x.upto).steps) t.node x.level g c (slice.Select query) (reply.Done c t.wrote t.count t.part) → IsTruePart ms t.node level g c query t.part
         by_truth (inl a) = absurd (unaborted-then script some numbered es t.node g c _ x is.running a)
         by_truth (inr p) = subst (λ l. IsTruePart ms t.node l g c query t.part) (its-level t.node (stmt.Select query) level g c is _ x) (part-now script some numbered es t.node g c _ x x.level query t.part p)
 
@@ -176,13 +186,13 @@ module _ (script : Script) (some : 1 ≤ script.segments) (numbered : AreLinesNu
     true-replies (t ∷ ts) h = ((heard script some numbered es now earlier later t.node _ h.0).word_earned g (reply.Done c t.wrote t.count t.part) refl, true-replies ts h.1)
 
     -- segments don't run the others yet
-    never : (line : Stmt) (s : Slice) → IsOf script ms line level g c → ((x : Slice) → IsSliceOf line x → x ≡ s) → ((marks : List Mark) (node : Node) (l : Level) (r : Reply) → IsTruth marks node l g c s r → ⊥) → (nodes : List Node) → (i : Node) × (has i nodes ≡ true) → (taken : List Taken) → AreAll (λ t. IsEarned script es t.node g c (reply.Done c t.wrote t.count t.part)) taken → ((i : Node) → has i nodes ≡ has i (nodes_taken taken)) → ⊥
+    never : (line : Stmt) (s : Slice) → IsOf script ms line level g c → ((x : Slice) → IsSliceOf line x → x ≡ s) → ((before marks : List Mark) (node : Node) (l : Level) (r : Reply) → IsTruth before marks node l g c s r → ⊥) → (nodes : List Node) → (i : Node) × (has i nodes ≡ true) → (taken : List Taken) → AreAll (λ t. IsEarned script es t.node g c (reply.Done c t.wrote t.count t.part)) taken → ((i : Node) → has i nodes ≡ has i (nodes_taken taken)) → ⊥
     never line s is same false_ nodes i [] h all = no-one (sym (all i.0) ∙ i.1)
       where
         no-one : false ≡ true → ⊥
         no-one e = cc
     never line s is same false_ nodes i (t ∷ ts) h all =
-        false_ (marks_in (world_of script h.0.upto).steps) t.node h.0.level (reply.Done c t.wrote t.count t.part) (subst (λ y. IsTruth (marks_in (world_of script h.0.upto).steps) t.node h.0.level g c y (reply.Done c t.wrote t.count t.part)) (same h.0.slice (its-slice t.node line level g c is _ h.0)) h.0.truth)
+        false_ (marks_in (world_of script h.0.given.before).steps) (marks_in (world_of script h.0.upto).steps) t.node h.0.level (reply.Done c t.wrote t.count t.part) (subst (λ y. IsTruth (marks_in (world_of script h.0.given.before).steps) (marks_in (world_of script h.0.upto).steps) t.node h.0.level g c y (reply.Done c t.wrote t.count t.part)) (same h.0.slice (its-slice t.node line level g c is _ h.0)) h.0.truth)
 
     covers-pieces : (s : Slice) (nodes : List Node) (pieces : List Piece) (taken : List Taken) → (let o : Result (List Piece) ArithFault = Ok (map (piece s) nodes) in o) ≡ Ok pieces → ((i : Node) → has i (nodes_in pieces) ≡ has i (nodes_taken taken)) → (i : Node) → has i nodes ≡ has i (nodes_taken taken)
     covers-pieces s nodes pieces taken plan all i = sym (ap (has i) (ap nodes_in (sym (ok-same plan)) ∙ nodes-of-pieces s nodes)) ∙ all i
@@ -195,11 +205,11 @@ module _ (script : Script) (some : 1 ≤ script.segments) (numbered : AreLinesNu
         (shows once q level g c is x.pieces x.plan x.taken (true-parts once q level g c is x.taken (true-replies x.taken x.received)) x.apart x.all))
     tells-by (stmt.Insert t v) is runs x inserts = inserts t v refl
     tells-by (stmt.Update t a d) is runs x inserts =
-        absurd (never (stmt.Update t a d) (slice.Update t a d) is (λ s e. e) (λ m n l r z. z) (nodes_of script.segments (target_of script.segments (dist_of script.tables t.0) d)) (some-node script.segments _ some) x.taken (true-replies x.taken x.received) (covers-pieces (slice.Update t a d) _ x.pieces x.taken x.plan x.all))
+        absurd (never (stmt.Update t a d) (slice.Update t a d) is (λ s e. e) (λ b m n l r z. z) (nodes_of script.segments (target_of script.segments (dist_of script.tables t.0) d)) (some-node script.segments _ some) x.taken (true-replies x.taken x.received) (covers-pieces (slice.Update t a d) _ x.pieces x.taken x.plan x.all))
     tells-by (stmt.Delete t d) is runs x inserts =
-        absurd (never (stmt.Delete t d) (slice.Delete t d) is (λ s e. e) (λ m n l r z. z) (nodes_of script.segments (target_of script.segments (dist_of script.tables t.0) d)) (some-node script.segments _ some) x.taken (true-replies x.taken x.received) (covers-pieces (slice.Delete t d) _ x.pieces x.taken x.plan x.all))
+        absurd (never (stmt.Delete t d) (slice.Delete t d) is (λ s e. e) (λ b m n l r z. z) (nodes_of script.segments (target_of script.segments (dist_of script.tables t.0) d)) (some-node script.segments _ some) x.taken (true-replies x.taken x.received) (covers-pieces (slice.Delete t d) _ x.pieces x.taken x.plan x.all))
     tells-by (stmt.Lock t m) is runs x inserts =
-        absurd (never (stmt.Lock t m) (slice.Lock t m) is (λ s e. e) (λ m n l r z. z) (nodes_of script.segments AllOfThem) (some-node script.segments AllOfThem some) x.taken (true-replies x.taken x.received) (covers-pieces (slice.Lock t m) _ x.pieces x.taken x.plan x.all))
+        absurd (never (stmt.Lock t m) (slice.Lock t m) is (λ s e. e) (λ b m n l r z. z) (nodes_of script.segments AllOfThem) (some-node script.segments AllOfThem some) x.taken (true-replies x.taken x.received) (covers-pieces (slice.Lock t m) _ x.pieces x.taken x.plan x.all))
     tells-by (stmt.Begin l) is runs x inserts = absurd (no-begin _ l runs.command)
       where
         no-begin : (b : Rattle.gx_store.specs.Lines.BlockState) (l : Level) → Rattle.gx_store.specs.Lines.is_command b (stmt.Begin l) ≡ true → ⊥
@@ -229,7 +239,7 @@ module _ (script : Script) (some : 1 ≤ script.segments) (numbered : AreLinesNu
     Says cause = Receives (world_of script es).steps now segment the_coordinator (message.Answer g (reply.Failed c cause))
 
     -- the fault, at the point
-    faulted : (query : Query) → IsOf script ms (stmt.Select query) level g c → (r : Reply) (x : IsEarned script es segment g c r) (cause : Cause) (f : IsTrueFault (marks_in (world_of script x.upto).steps) level g c query cause) → Says cause → HasFaulted (point_at (world_of script es).steps now behind later) (stmt.Select query) level g c f.fault (cause_of f.fault)
+    faulted : (query : Query) → IsOf script ms (stmt.Select query) level g c → (r : Reply) (x : IsEarned script es segment g c r) (cause : Cause) (f : IsTrueFault (marks_in (world_of script x.given.before).steps) (marks_in (world_of script x.upto).steps) level g c query cause) → Says cause → HasFaulted (point_at (world_of script es).steps now behind later) (stmt.Select query) level g c f.fault (cause_of f.fault)
     faulted query is r x cause f got =
         record {
           place = f.place;
@@ -238,7 +248,17 @@ module _ (script : Script) (some : 1 ≤ script.segments) (numbered : AreLinesNu
           noted = get_kept ms behind f.place _ there;
           unaborted = ap (λ m. is_aborted m g) same ∙ f.unaborted;
           faults = subst (λ m. Rattle.gx_store.specs.Faults.FaultsOnSeen m level g c query.table query.cond f.rid f.image f.fault) (sym same) f.faults;
-          heard = (segment, subst Says f.is got);
+          heard = record {
+            segment = segment;
+            said = subst Says f.is got;
+            place = length (world_of script x.given.before).steps;
+            step = x.given.step;
+            at = own-step script some numbered es segment g c r x;
+            node = x.given.place;
+            noted = seam-first (marks_in (world_of script x.given.before).steps) x.given.step.marks (mark.Fault g c f.rid f.image)
+                (subst (λ k. slice_get (marks_in (world_of script x.given.before).steps ++ x.given.step.marks) k ≡ Some (mark.Fault g c f.rid f.image)) f.first
+                (subst (λ m. slice_get m f.place ≡ Some (mark.Fault g c f.rid f.image)) (ap marks_in x.given.steps ∙ marks_in-push (world_of script x.given.before).steps x.given.step) f.noted));
+          };
         }
       where
         before : List Mark
@@ -258,24 +278,24 @@ module _ (script : Script) (some : 1 ≤ script.segments) (numbered : AreLinesNu
     by-fault query cause arith_fault.DivisionByZero e h = subst (λ z. IsCause (point_at (world_of script es).steps now behind later) (stmt.Select query) level g c (reason_of z)) (sym e) h
 
     pub caused : (line : Stmt) → IsOf script ms line level g c → (cause : Cause) → Says cause → (x : IsEarned script es segment g c (reply.Failed c cause)) → IsCause (point_at (world_of script es).steps now behind later) line level g c (reason_of cause)
-    caused (stmt.Select q) is cause got x = by_truth (subst (λ s. IsTruth (marks_in (world_of script x.upto).steps) segment x.level g c s (reply.Failed c cause)) (its-slice segment (stmt.Select q) level g c is _ x) x.truth)
+    caused (stmt.Select q) is cause got x = by_truth (subst (λ s. IsTruth (marks_in (world_of script x.given.before).steps) (marks_in (world_of script x.upto).steps) segment x.level g c s (reply.Failed c cause)) (its-slice segment (stmt.Select q) level g c is _ x) x.truth)
       where
-        by_truth : IsTruth (marks_in (world_of script x.upto).steps) segment x.level g c (slice.Select q) (reply.Failed c cause) → IsCause (point_at (world_of script es).steps now behind later) (stmt.Select q) level g c (reason_of cause)
+        by_truth : IsTruth (marks_in (world_of script x.given.before).steps) (marks_in (world_of script x.upto).steps) segment x.level g c (slice.Select q) (reply.Failed c cause) → IsCause (point_at (world_of script es).steps now behind later) (stmt.Select q) level g c (reason_of cause)
         by_truth (inl a) = absurd (unaborted-then script some numbered es segment g c _ x is.running a)
         by_truth (inr f) =
-            let h = subst (λ l. IsTrueFault (marks_in (world_of script x.upto).steps) l g c q cause) (its-level segment (stmt.Select q) level g c is _ x) f in
+            let h = subst (λ l. IsTrueFault (marks_in (world_of script x.given.before).steps) (marks_in (world_of script x.upto).steps) l g c q cause) (its-level segment (stmt.Select q) level g c is _ x) f in
             by-fault q cause h.fault h.is (faulted q is _ x cause h got)
     caused (stmt.Insert t v) is cause got x = absurd (no-insert x.slice (its-slice segment (stmt.Insert t v) level g c is _ x) x.truth)
       where
-        no-insert : (s : Slice) → IsSliceOf (stmt.Insert t v) s → IsTruth (marks_in (world_of script x.upto).steps) segment x.level g c s (reply.Failed c cause) → ⊥
+        no-insert : (s : Slice) → IsSliceOf (stmt.Insert t v) s → IsTruth (marks_in (world_of script x.given.before).steps) (marks_in (world_of script x.upto).steps) segment x.level g c s (reply.Failed c cause) → ⊥
         no-insert (slice.Insert u rows) e z = z
         no-insert (slice.Select q) e z = e
         no-insert (slice.Update u a d) e z = e
         no-insert (slice.Delete u d) e z = e
         no-insert (slice.Lock u m) e z = e
-    caused (stmt.Update t a d) is cause got x = absurd (subst (λ s. IsTruth (marks_in (world_of script x.upto).steps) segment x.level g c s (reply.Failed c cause)) (its-slice segment (stmt.Update t a d) level g c is _ x) x.truth)
-    caused (stmt.Delete t d) is cause got x = absurd (subst (λ s. IsTruth (marks_in (world_of script x.upto).steps) segment x.level g c s (reply.Failed c cause)) (its-slice segment (stmt.Delete t d) level g c is _ x) x.truth)
-    caused (stmt.Lock t m) is cause got x = absurd (subst (λ s. IsTruth (marks_in (world_of script x.upto).steps) segment x.level g c s (reply.Failed c cause)) (its-slice segment (stmt.Lock t m) level g c is _ x) x.truth)
+    caused (stmt.Update t a d) is cause got x = absurd (subst (λ s. IsTruth (marks_in (world_of script x.given.before).steps) (marks_in (world_of script x.upto).steps) segment x.level g c s (reply.Failed c cause)) (its-slice segment (stmt.Update t a d) level g c is _ x) x.truth)
+    caused (stmt.Delete t d) is cause got x = absurd (subst (λ s. IsTruth (marks_in (world_of script x.given.before).steps) (marks_in (world_of script x.upto).steps) segment x.level g c s (reply.Failed c cause)) (its-slice segment (stmt.Delete t d) level g c is _ x) x.truth)
+    caused (stmt.Lock t m) is cause got x = absurd (subst (λ s. IsTruth (marks_in (world_of script x.given.before).steps) (marks_in (world_of script x.upto).steps) segment x.level g c s (reply.Failed c cause)) (its-slice segment (stmt.Lock t m) level g c is _ x) x.truth)
     caused (stmt.Begin l) is cause got x = absurd (its-slice segment (stmt.Begin l) level g c is _ x)
     caused stmt.Commit is cause got x = absurd (its-slice segment stmt.Commit level g c is _ x)
     caused stmt.Rollback is cause got x = absurd (its-slice segment stmt.Rollback level g c is _ x)

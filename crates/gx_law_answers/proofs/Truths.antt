@@ -177,12 +177,13 @@ seen-fault ms node level g c place t query rows p found e =
     by_home true q = q
     by_home false q = absurd (cc)
 
-pub select-truth : (ms sent : List Mark) → Each NoWrite sent → (node : Node) (level : Level) (g : Gxid) (c : Cid) → is_aborted ms g ≡ false → (place : ℕ) (t : IsSnapshotAt ms level g c place) (query : Query) (rows : List KeyedRow) → IsPartOf ms (take place ms) node g c query.table rows → (wrote : Bool) (o : Option (KeyedRow × ArithFault)) → first_fault query.cond rows ≡ o → IsTruth (ms ++ (marks_of g c o ++ sent)) node level g c (slice.Select query) (reply_of c wrote query rows o)
+pub select-truth : (ms sent : List Mark) → Each NoWrite sent → (node : Node) (level : Level) (g : Gxid) (c : Cid) → is_aborted ms g ≡ false → (place : ℕ) (t : IsSnapshotAt ms level g c place) (query : Query) (rows : List KeyedRow) → IsPartOf ms (take place ms) node g c query.table rows → (wrote : Bool) (o : Option (KeyedRow × ArithFault)) → first_fault query.cond rows ≡ o → IsTruth ms (ms ++ (marks_of g c o ++ sent)) node level g c (slice.Select query) (reply_of c wrote query rows o)
 select-truth ms sent quiet node level g c unaborted place t query rows p wrote None e =
     inr (true-more ms sent quiet node level g c query _ (record { place = place; taken = t; says = record { rows = rows; of = p; whole = faults-on-none query.cond rows e; said = refl } }))
 select-truth ms sent quiet node level g c unaborted place t query rows p wrote (Some found) e =
     inr (record {
       place = length ms;
+      first = refl;
       rid = found.0.rid;
       image = Some found.0.row;
       fault = found.1;

@@ -12,6 +12,7 @@ use Rattle.gx_msg.specs.declared.reply.Reply.{Reply}
 use Rattle.gx_msg.specs.declared.reply.Reply.TheVariants.{Done, Failed}
 use Rattle.gx_script.specs.declared.Script.{Script}
 use Rattle.gx_store.specs.declared.event.Event.{Event}
+use Rattle.gx_store.specs.declared.run.Step.{Step}
 use Rattle.gx_store.specs.declared.event.Event.TheVariants.{Receive}
 use Rattle.gx_store.specs.Messages.{IsSent}
 use Rattle.gx_store.specs.Ordered.{IsSegment}
@@ -27,8 +28,8 @@ use Rattle.gx_law_answers.specs.Truth.{IsTruth}
 abbrev pub Events : Type 0
 Events = List (Event × Bool)
 
--- In the last of these events an EXEC came to the segment, of a command that was new there; its slice ran by the rule, and so it
--- was answered.
+-- In the last of these events, with a step of the segment, an EXEC came to it, of a command that was new there; its slice ran by the
+-- rule, and so it was answered.
 pub record IsGiven (script : Script) (events : Events) (segment : Node) (g : Gxid) (c : Cid) (level : Level) (snapshot : Snapshot) (slice : Slice) (answer : Reply) : Type 0 where
   pub before : Events
   pub from : Node
@@ -39,6 +40,9 @@ pub record IsGiven (script : Script) (events : Events) (segment : Node) (g : Gxi
   pub posted : found from segment number (world_of script before).sent ≡ Some envelope
   pub horizon : Gxid
   pub told : envelope.message ≡ Exec g c level (Some snapshot) horizon slice
+  pub step : Step
+  pub steps : (world_of script events).steps ≡ (world_of script before).steps ++ step ∷ []
+  pub place : step.stamp.node ≡ segment
   pub new : (local_of ((world_of script before).segs segment.0) g).last < c.0
   pub ran : on_message script ((world_of script before).segs segment.0) fails envelope.message ≡ runs_slice (raised ((world_of script before).segs segment.0) horizon) g c (Some snapshot) slice
   pub given : (on_message script ((world_of script before).segs segment.0) fails envelope.message).outs ≡ reply g answer ∷ []
@@ -55,7 +59,7 @@ pub record IsEarned (script : Script) (events : Events) (segment : Node) (g : Gx
   pub given : IsGiven script upto segment g c level snapshot slice answer
   pub order : IsOrder script (marks_in (world_of script upto).steps) segment g c level (Some snapshot) slice
   pub taken : c.0 ≤ (local_of ((world_of script upto).segs segment.0) g).last
-  pub truth : IsTruth (marks_in (world_of script upto).steps) segment level g c slice answer
+  pub truth : IsTruth (marks_in (world_of script given.before).steps) (marks_in (world_of script upto).steps) segment level g c slice answer
 
 -- an answer to a command was earned
 abbrev pub IsReplyEarned : Script → Events → Node → Gxid → Reply → Type 0
@@ -66,4 +70,5 @@ IsReplyEarned script events segment g _ = Unit {0}
 -- each answer that a segment sent in these events
 abbrev pub AreAnswersEarned : Script → Events → Type 0
 AreAnswersEarned script events =
-    (segment to : Node) (number : ℕ) (g : Gxid) (answer : Reply) → IsSegment script segment → IsSent (world_of script events).steps segment to number (Answer g answer) → IsReplyEarned script events segment g answer
+    (segment to : Node) (number : ℕ) (g : Gxid) (answer : Reply) → IsSegment script segment
+    → IsSent (world_of script events).steps segment to number (Answer g answer) → IsReplyEarned script events segment g answer

@@ -20,5 +20,7 @@ IsOneSnapshot script marks =
 -- a repeatable-read transaction takes one snapshot
 abbrev pub AreSnapshotsOne : Script → Type 0
 AreSnapshotsOne script =
-    (events : List (Event × Bool)) (g : Gxid) (p q : ℕ) → level_of_began script (began_from [] (marks_in (world_of script events).steps) g) ≡ RepeatableRead → IsSnapshotAt (marks_in (world_of script events).steps) RepeatableRead g (record { 0 = 1 }) p
+    (events : List (Event × Bool)) (g : Gxid) (p q : ℕ)
+    → level_of_began script (began_from [] (marks_in (world_of script events).steps) g) ≡ RepeatableRead
+    → IsSnapshotAt (marks_in (world_of script events).steps) RepeatableRead g (record { 0 = 1 }) p
     → IsSnapshotAt (marks_in (world_of script events).steps) RepeatableRead g (record { 0 = 1 }) q → p ≡ q

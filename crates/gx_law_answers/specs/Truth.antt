@@ -31,9 +31,11 @@ pub record IsTruePart (marks : List Mark) (node : Node) (level : Level) (g : Gxi
   pub taken : IsSnapshotAt marks level g c place
   pub says : SaysItsPart marks (take place marks) node g c query part
 
--- the condition has faulted so on a row that the command sees, before its transaction was aborted
-pub record IsTrueFault (marks : List Mark) (level : Level) (g : Gxid) (c : Cid) (query : Query) (cause : Cause) : Type 0 where
+-- the condition has faulted so on a row that the command sees, before its transaction was aborted; this was noted first behind the
+-- marks that stood before the step
+pub record IsTrueFault (before marks : List Mark) (level : Level) (g : Gxid) (c : Cid) (query : Query) (cause : Cause) : Type 0 where
   pub place : ℕ
+  pub first : place ≡ length before
   pub rid : Rid
   pub image : Option (List Value)
   pub fault : ArithFault
@@ -48,8 +50,8 @@ AreWritten marks (row ∷ rows) = (is_own_written marks row.rid ≡ true) × Are
 
 -- A SELECT's answer is its part, or the fault of its condition, unless its transaction has aborted; an INSERT's counts the rows
 -- that were sent to it, which are all written.
-abbrev pub IsTruth : List Mark → Node → Level → Gxid → Cid → Slice → Reply → Type 0
-IsTruth marks node level g c (slice.Select query) (reply.Done d wrote count part) = (is_aborted marks g ≡ true) ⊎ IsTruePart marks node level g c query part
-IsTruth marks node level g c (slice.Select query) (reply.Failed d cause) = (is_aborted marks g ≡ true) ⊎ IsTrueFault marks level g c query cause
-IsTruth marks node level g c (slice.Insert table rows) (reply.Done d wrote count part) = (count ≡ length rows) × AreWritten marks rows
-IsTruth marks node level g c slice r = ⊥
+abbrev pub IsTruth : List Mark → List Mark → Node → Level → Gxid → Cid → Slice → Reply → Type 0
+IsTruth before marks node level g c (slice.Select query) (reply.Done d wrote count part) = (is_aborted marks g ≡ true) ⊎ IsTruePart marks node level g c query part
+IsTruth before marks node level g c (slice.Select query) (reply.Failed d cause) = (is_aborted marks g ≡ true) ⊎ IsTrueFault before marks level g c query cause
+IsTruth before marks node level g c (slice.Insert table rows) (reply.Done d wrote count part) = (count ≡ length rows) × AreWritten marks rows
+IsTruth before marks node level g c slice r = ⊥

@@ -8,7 +8,7 @@ use Rattle.gx_dtx.specs.Rules.{Turn}
 use Rattle.gx_dtx.specs.Table.{find_txn}
 use Rattle.gx_msg.specs.declared.message.Out.{Out}
 use Rattle.gx_script.specs.declared.Script.{Script}
-use Rattle.gx_session.specs.declared.state.SessionState.{SessionState}
+use Rattle.gx_script.specs.declared.state.SessionState.{SessionState}
 use Rattle.gx_store.specs.declared.answer.Refused.{Refused}
 use Rattle.gx_store.specs.declared.answer.StmtAnswer.{StmtAnswer}
 use Rattle.gx_store.specs.declared.answer.StmtAnswer.TheVariants as told

@@ -19,14 +19,14 @@ use Rattle.gx_meaning.specs.declared.fault.ArithFault.{ArithFault}
 use Rattle.gx_meaning.specs.Plan.{plan_of}
 use Rattle.gx_meaning.specs.declared.piece.Piece.{Piece}
 use Rattle.gx_script.specs.declared.Script.{Script}
-use Rattle.gx_session.specs.Session.{after_line, idle_outside, line_step}
-use Rattle.gx_session.specs.declared.line_step.LineStep.{LineStep}
-use Rattle.gx_session.specs.declared.line_step.LineStep.TheVariants as step
-use Rattle.gx_session.specs.declared.line_step.Plain.{Plain}
-use Rattle.gx_session.specs.declared.line_step.Plain.TheVariants as plain
-use Rattle.gx_session.specs.declared.state.Block.{Block}
-use Rattle.gx_session.specs.declared.state.Block.TheVariants.{Outside, Open, Failed}
-use Rattle.gx_session.specs.declared.state.SessionState.{SessionState}
+use Rattle.gx_script.specs.Session.{after_line, idle_outside, line_step}
+use Rattle.gx_script.specs.declared.line_step.LineStep.{LineStep}
+use Rattle.gx_script.specs.declared.line_step.LineStep.TheVariants as step
+use Rattle.gx_script.specs.declared.line_step.Plain.{Plain}
+use Rattle.gx_script.specs.declared.line_step.Plain.TheVariants as plain
+use Rattle.gx_script.specs.declared.state.Block.{Block}
+use Rattle.gx_script.specs.declared.state.Block.TheVariants.{Outside, Open, Failed}
+use Rattle.gx_script.specs.declared.state.SessionState.{SessionState}
 use Rattle.gx_store.specs.declared.answer.StmtAnswer.{StmtAnswer}
 use Rattle.gx_store.specs.declared.answer.StmtAnswer.TheVariants as told
 use Rattle.gx_store.specs.declared.mark.Mark.{Mark}

@@ -20,7 +20,7 @@ use Rattle.gx_script.specs.declared.Script.{Script}
 use Rattle.gx_store.specs.declared.mark.Mark.{Mark}
 use Rattle.gx_store.specs.declared.mark.Mark.TheVariants as mark
 use Rattle.gx_store.specs.Marks.{is_aborted, is_committed}
-use Rattle.gx_store.specs.Protocol.{CommitsBy, decided_count, is_writer, local_count, prepared_count, writers_of}
+use Rattle.gx_store.specs.Protocol.{AreSeveral, CommitsBy, decided_count, is_writer, local_count, prepared_count, writers_of}
 use Rattle.gx_rules.specs.AtCoordinator.{answer_at_commit, answer_mark, commits, follows, is_committed as is_closed}
 use Rattle.gx_rules.specs.AtSegment.{was_prepared}
 use Rattle.gx_rules.specs.Coordinators.{Coord, CoordTurn, Work, no_work, session_of, work_of}
@@ -36,7 +36,7 @@ use Rattle.gx_law_commit.proofs.Commits.{few, filter-few}
 use Rattle.gx_law_commit.proofs.Counts.{NoEnd, NoPart, decided-append, local-append, no-aborted, no-committed, no-decided, no-local}
 use Rattle.gx_law_commit.proofs.Nodes.{each-has}
 use Rattle.gx_law_commit.proofs.Shifts.{Shift, alone-shift, ask-shift, over-shift}
-use Rattle.gx_law_commit.proofs.Ways.{Agrees, AsksFor, Fol, FolAt, IsMany, Led, One as OneChange, SaidOut, Stands, Working, at-one, becomes, fol-append, known-here}
+use Rattle.gx_law_commit.proofs.Ways.{Agrees, AsksFor, Fol, FolAt, Led, One as OneChange, SaidOut, Stands, Working, at-one, becomes, fol-append, known-here}
 use Rattle.gx_locks.specs.Locks.{Locks}
 use Rattle.gx_rules.specs.Locks.{release_marks}
 use Rattle.gx_law_order.proofs.Calm.{each-released}
@@ -393,8 +393,11 @@ module _ (script : Script) (P : ℕ → ℕ → Part) (c : Coord) (ms : List Mar
     commit-writers r (w ∷ []) e =
         calm-led (commit_change (gx g) (w ∷ []) t) (λ i. let x = ready-shift r (w ∷ []) e i in alone-shift (eqb w.0 i) (known i) (P i g) (s.pairs i g) x.0 x.1 (sym (or-none (eqb w.0 i)) ∙ x.2)) tt ((refl, refl, λ v. ap One (self w.0), λ d. tt), tt)
     commit-writers r (w ∷ x ∷ ws) e =
-        calm-led (commit_change (gx g) (w ∷ x ∷ ws) t) (λ i. let y = ready-shift r (w ∷ x ∷ ws) e i in ask-shift (has (at i) (w ∷ x ∷ ws)) (known i) (P i g) (s.pairs i g) y.0 y.1 y.2) (sym e, subst IsMany (sym e) tt)
-        (to-nodes _ (message.Prepare (gx g)) (w ∷ x ∷ ws) (each_weaker (λ (y : Node). has y (w ∷ x ∷ ws) ≡ true) _ (λ y h. (refl, refl, λ v. Rattle.std.proofs.Common.inl (ap Preparing h), λ d. tt)) (w ∷ x ∷ ws) (each-has (w ∷ x ∷ ws))))
+        calm-led (commit_change (gx g) (w ∷ x ∷ ws) t) (λ i. let y = ready-shift r (w ∷ x ∷ ws) e i in ask-shift (has (at i) (w ∷ x ∷ ws)) (known i) (P i g) (s.pairs i g) y.0 y.1 y.2) (sym e, subst AreSeveral (sym e) tt)
+        (to-nodes _ (message.Prepare (gx g)) (w ∷ x ∷ ws) (each_weaker (λ (y : Node). has y (w ∷ x ∷ ws) ≡ true) _ (λ y h. (refl, refl, (wrote-there y h, λ v. Rattle.std.proofs.Common.inl (ap Preparing h)), λ d. tt)) (w ∷ x ∷ ws) (each-has (w ∷ x ∷ ws))))
+      where
+        wrote-there : (y : Node) → has y (w ∷ x ∷ ws) ≡ true → (P y.0 g).wrote ≡ true
+        wrote-there y h = sym ((s.pairs y.0 g).learned (live-there r.live y.0) (r.done y.0)) ∙ sym (ready-shift r (w ∷ x ∷ ws) e y.0).2 ∙ h
 
     pub commits-ready : IsReady → Led script P c ms (commits c (gx g))
     commits-ready r =

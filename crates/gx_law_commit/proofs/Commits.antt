@@ -8,7 +8,7 @@ use Rattle.gx_dtx.specs.Nodes.{has}
 use Rattle.gx_meaning.specs.Plan.{nodes_from}
 use Rattle.gx_store.specs.declared.mark.Mark.{Mark}
 use Rattle.gx_store.specs.declared.mark.Mark.TheVariants as mark
-use Rattle.gx_store.specs.Protocol.{CommitsAtOnce, CommitsBy, CommitsInTwo, local_count, prepared_count}
+use Rattle.gx_store.specs.Protocol.{AreSeveral, CommitsAtOnce, CommitsBy, CommitsInTwo, local_count, prepared_count}
 use Rattle.gx_law_order.proofs.Lists.{get_kept}
 use Rattle.gx_law_commit.specs.Pairs.{bit}
 use Rattle.gx_law_commit.specs.Standings.{at, gx}
@@ -28,6 +28,11 @@ pub many : (xs : List Node) (ms : List Mark) (g : ℕ) → (AtMostOne xs → ⊥
 many [] ms g a c = absurd (a tt)
 many (x ∷ []) ms g a c = absurd (a tt)
 many (x ∷ y ∷ ys) ms g a c = c
+
+pub several : (xs : List Node) → (AtMostOne xs → ⊥) → AreSeveral xs
+several [] a = a tt
+several (x ∷ []) a = a tt
+several (x ∷ y ∷ ys) a = tt
 
 module _ (t : Node → Bool) (w : ℕ) (only : (i : ℕ) → t (at i) ≡ true → i ≡ w) where
   none-above : (a k : ℕ) → w < a → filter t (nodes_from a k) ≡ []

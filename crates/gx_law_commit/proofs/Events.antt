@@ -22,12 +22,12 @@ use Rattle.gx_msg.specs.declared.reply.Cause.{Cause}
 use Rattle.gx_msg.specs.declared.reply.Reply.{Reply}
 use Rattle.gx_msg.specs.declared.reply.Reply.TheVariants as reply
 use Rattle.gx_script.specs.declared.Script.{Script}
-use Rattle.gx_session.specs.Session.{after_line, idle_outside, line_step}
-use Rattle.gx_session.specs.declared.line_step.LineStep.{LineStep}
-use Rattle.gx_session.specs.declared.line_step.LineStep.TheVariants as step
-use Rattle.gx_session.specs.declared.state.Block.{Block}
-use Rattle.gx_session.specs.declared.state.Block.TheVariants.{Outside, Open, Failed}
-use Rattle.gx_session.specs.declared.state.Pending.{Pending}
+use Rattle.gx_script.specs.Session.{after_line, idle_outside, line_step}
+use Rattle.gx_script.specs.declared.line_step.LineStep.{LineStep}
+use Rattle.gx_script.specs.declared.line_step.LineStep.TheVariants as step
+use Rattle.gx_script.specs.declared.state.Block.{Block}
+use Rattle.gx_script.specs.declared.state.Block.TheVariants.{Outside, Open, Failed}
+use Rattle.gx_script.specs.declared.state.Pending.{Pending}
 use Rattle.gx_store.specs.declared.answer.StmtAnswer.{StmtAnswer}
 use Rattle.gx_store.specs.declared.answer.StmtAnswer.TheVariants as told
 use Rattle.gx_store.specs.declared.mark.Mark.{Mark}
@@ -47,8 +47,9 @@ use Rattle.gx_law_order.proofs.Stages.{IsWhole}
 use Rattle.gx_law_order.proofs.Statuses.{stage, stage_in}
 use Rattle.gx_law_order.proofs.Statuses.Stage.{Live as LiveStage}
 use Rattle.gx_law_order.proofs.Tables.{AreIn}
+use Rattle.gx_law_commit.specs.Pairs.{Pair}
 use Rattle.gx_law_commit.specs.Said.{Answers, IsDone, Said, gxid_in, is_answer}
-use Rattle.gx_law_commit.specs.Standings.{Part, at, gx, known_at, standing_in, waits_in}
+use Rattle.gx_law_commit.specs.Standings.{Part, at, gx, is_closing, known_at, standing_in, waits_in}
 use Rattle.gx_law_commit.specs.Standings.Standing.{Live, One, Preparing, Two}
 use Rattle.gx_law_commit.proofs.Calls.{Mute, becomes-calm, commits-ready, mute-aborted, mute-committed, mute-decided, mute-fol, self, stands-as}
 use Rattle.gx_law_commit.proofs.Dispatching.{IsIdle, IsLive, dispatch-led, done-led, live-at-all, refusing-led, rolling-led}
@@ -190,7 +191,13 @@ module _ (script : Script) (P : ℕ → ℕ → Part) (c : Coord) (ms : List Mar
   status-said g i t f (status.Preparing ws aw) e = by_test (has i aw) refl
     where
       by_test : (b : Bool) → has i aw ≡ b → AnySaid g i (status_order (gx g) (if b then Some Rattle.gx_dtx.specs.declared.order.Order.TheVariants.Prepare else None))
-      by_test true h = (refl, refl, λ v. inl (stands-as script P c ms st k.whole g t f i.0 ∙ ap (λ q. standing_in q i.0) e ∙ ap Preparing h), tt)
+      by_test true h = (refl, refl, (sym (pair.closing (ap is_closing preparing)) ∙ (pair.asked true preparing).0 refl, λ v. inl preparing), tt)
+        where
+          pair : Pair (known_at c ms i.0 g) (P i.0 g)
+          pair = st.pairs i.0 g
+
+          preparing : (known_at c ms i.0 g).at ≡ Preparing true
+          preparing = stands-as script P c ms st k.whole g t f i.0 ∙ ap (λ q. standing_in q i.0) e ∙ ap Preparing h
       by_test false h = tt
   status-said g i t f (status.CommittingOne w) e = by_test (w.0 == i.0) refl
     where

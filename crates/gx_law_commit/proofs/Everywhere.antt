@@ -1,10 +1,14 @@
 -- Over every run of the machine: what always holds of transactions, messages and marks.
-use Rattle.std.proofs.Common.{◌≡◌, ◌⊎◌, inl, inr, ℕ, ◌+◌, List, [], ◌∷◌, ◌++◌, Some, Bool, true, false, refl, sym, subst, ap, ◌∙◌, if◌then◌else◌, ◌||◌, ◌&&◌, arith, eqb, append-nil}
+use Rattle.std.proofs.Common.{◌≡◌, ◌⊎◌, inl, inr, ℕ, ◌+◌, List, [], ◌∷◌, ◌++◌, Option, Some, None, Bool, true, false, refl, sym, subst, ap, ◌∙◌, if◌then◌else◌, ◌||◌, ◌&&◌, arith, eqb, append-nil}
 use Rattle.std.proofs.lemmas.Bool.{eqb-true}
 use Rattle.std.proofs.lemmas.Bool.Decides.{nat_tests}
 use Rattle.std.proofs.lemmas.List.{append_assoc}
+use Rattle.std.specs.Prelude.{nat_le}
 use Rattle.gx_ids.specs.declared.ids.Node.{Node}
 use Rattle.gx_dtx.specs.Table.{find_txn}
+use Rattle.gx_dtx.specs.declared.phase.Phase.{Phase as Status}
+use Rattle.gx_dtx.specs.declared.phase.Phase.TheVariants as status
+use Rattle.gx_dtx.specs.declared.txn.Txn.{Txn}
 use Rattle.gx_msg.specs.declared.message.Envelope.{Envelope}
 use Rattle.gx_msg.specs.declared.message.Message.{Message}
 use Rattle.gx_msg.specs.declared.message.Message.TheVariants as message
@@ -17,6 +21,7 @@ use Rattle.gx_store.specs.declared.mark.Mark.TheVariants as mark
 use Rattle.gx_store.specs.declared.node.NodeEvent.{NodeEvent}
 use Rattle.gx_store.specs.declared.node.NodeEvent.TheVariants as here
 use Rattle.gx_store.specs.declared.run.Step.{Step}
+use Rattle.gx_store.specs.Journals.{is_same_node}
 use Rattle.gx_store.specs.Marks.{is_aborted, is_committed}
 use Rattle.gx_store.specs.Messages.{Receives}
 use Rattle.gx_store.specs.Points.{marks_in}
@@ -35,7 +40,8 @@ use Rattle.gx_law_order.proofs.World.{Knows, marks-last}
 use Rattle.gx_law_commit.specs.Followed.{DoStepsEnd}
 use Rattle.gx_law_commit.specs.Pairs.{Pair}
 use Rattle.gx_law_commit.specs.Said.{Said, SaidIn, gxid_in, is_answer, segment_of}
-use Rattle.gx_law_commit.specs.Standings.{Known, Part, at, gx, known_at, part_at, part_of}
+use Rattle.gx_law_commit.specs.Standings.{Known, Part, at, gx, is_closing, known_at, part_at, part_of, standing, standing_in}
+use Rattle.gx_law_commit.specs.Standings.Standing.{One}
 use Rattle.gx_law_commit.specs.Told.{DoStepsTell, IsTold}
 use Rattle.gx_law_commit.proofs.Telling.{coord-told, seg-told, step-told, tell-push}
 use Rattle.gx_law_commit.proofs.Counts.{NoEnd, NoPart, NoSent, decided-append, local-append, no-aborted, no-committed, no-decided, no-local, no-prepared, no-writer, prepared-append, sent-no-end, sent-no-part, writer-append}
@@ -148,6 +154,23 @@ module _ (script : Script) (w : World) (n : Knows script w) (v : Holds script w)
           moved i g m q = subst (λ p. Said (known_at last (marks_in next.steps) i g) p m) (sym (same-part i g)) (subst (λ k. Said k (parts_in w i g) m) (sym (same-known i g)) q)
 
 -- A STEP OF A SEGMENT
+-- where one writer alone is to commit, it stands so at every segment
+one-of : (b : Bool) (o : Option Txn) (i j : ℕ) → standing b o i ≡ One true → standing b o j ≡ One (eqb i j)
+one-of true None i j e = absurd (cc)
+one-of false None i j e = absurd (cc)
+one-of b (Some t) i j e = by_phase t.phase e
+  where
+    one-same : (a b : Bool) → One a ≡ One b → a ≡ b
+    one-same a b e = cc
+
+    by_phase : (p : Status) → standing_in p i ≡ One true → standing_in p j ≡ One (eqb i j)
+    by_phase status.Active e = absurd (cc)
+    by_phase (status.Preparing xs aw) e = absurd (cc)
+    by_phase (status.CommittingOne w) e = ap (λ n. One (eqb n j)) (eqb-true w.0 i (one-same (eqb w.0 i) true e))
+    by_phase (status.CommittingTwo aw) e = absurd (cc)
+    by_phase (status.Ended aw) e = absurd (cc)
+    by_phase (status.Aborting aw) e = absurd (cc)
+
 both-apart : (a n g i h j : ℕ) → a ≡ g → n ≡ i → (eqb j i && eqb h g) ≡ false → (eqb a h && eqb n j) ≡ false
 both-apart a n g i h j e f q = grind (arith, nat_tests)
 
@@ -337,10 +360,20 @@ module _ (script : Script) (w : World) (n : Knows script w) (v : Holds script w)
         failed = λ j h y. subst (HasMark (mark.JournalFailed (at j) (gx h))) (append_assoc ms2 turn2.marks sent2 ∙ all2) (has-left _ (ms2 ++ turn2.marks) sent2 (failed-next j h y (eqb j i && eqb h g) refl));
         tells = tell-push [] w.steps step2 v.tells (step-told (at i) ms2 turn2.marks (λ node. turn2.seg.sent) turn2.outs (follows-no-sent msg (known i g) i g turn2.marks does-it.marks)
             (each_weaker (λ (o : Out). Tells (known i g) new_part i g turn2.marks o.message) (λ (o : Out). IsTold (at i) (ms2 ++ turn2.marks) o.message) (λ o h. seg-told (known i g) new_part i g turn2.marks (ms2 ++ turn2.marks) does-it.next.pair (sym (prepared-append ms2 turn2.marks (at i) (gx g))) (sym (local-append ms2 turn2.marks (at i) (gx g))) o.message h) turn2.outs does-it.outs));
-        ends = end-push script [] w.steps step2 v.ends (seg-end script w.steps step2 msg (known i g) i g refl received refl refl new_part turn2.marks
-            (λ y. failed-next i g (ap (λ b. ((if b then seg_now else s).locals g).vote) (self-test i) ∙ y) (eqb i i && eqb g g) refl) (λ node. turn2.seg.sent) turn2.outs does-it.marks does-it.outs);
+        ends = end-push script [] w.steps step2 v.ends (seg-end script w.steps step2 msg (known i g) i g refl received refl refl refl (parts_in w i g) (v.stands.pairs i g) (v.stands.parts i g) only-one new_part turn2.marks
+            (λ y. failed-next i g (ap (λ b. ((if b then seg_now else s).locals g).vote) (self-test i) ∙ y) (eqb i i && eqb g g) refl) (λ node. turn2.seg.sent) turn2.outs does-it.marks does-it.votes does-it.outs);
       }
     where
+      -- the only writer
+      only-one : (known i g).at ≡ One true → (n : Node) → is_writer ms2 (gx g) n ≡ is_same_node n (at i)
+      only-one alone n =
+          let one : (known n.0 g).at ≡ One (eqb i n.0) = one-of (nat_le w.coord.table.next.0 g) (find_txn w.coord.table (gx g)) i n.0 alone in
+          let pair : Pair (known n.0 g) (parts_in w n.0 g) = v.stands.pairs n.0 g in
+          sym (pair.closing (ap is_closing one)) ∙ sym (pair.alone (eqb i n.0) one).0 ∙ same-test i n.0
+        where
+          same-test : (a b : ℕ) → eqb a b ≡ eqb b a
+          same-test a b = grind (arith, nat_tests)
+
       each-out : (outs : List Out) → Each (λ (o : Out). Tells (known i g) new_part i g turn2.marks o.message) outs → Each (λ (o : Out). (number : ℕ) → SaidIn next2 (record { from = at i; to = o.node; envelope = record { number = number; clock = clock_after s.clock (here.Deliver from envelope); message = o.message } })) outs
       each-out [] y = tt
       each-out (o ∷ outs) y = (

@@ -1,5 +1,5 @@
 -- From what a step's marks follow to the protocol over steps.
-use Rattle.std.proofs.Common.{◌≡◌, ◌⊎◌, inl, inr, ℕ, suc, ◌+◌, List, [], ◌∷◌, ◌++◌, Some, Bool, false, refl, sym, subst, ap, ◌∙◌, ◌||◌, arith, append-nil}
+use Rattle.std.proofs.Common.{◌≡◌, ◌⊎◌, inl, inr, ℕ, suc, ◌+◌, List, [], ◌∷◌, ◌++◌, Some, Bool, true, false, refl, sym, subst, ap, ◌∙◌, ◌||◌, arith, append-nil}
 use Rattle.std.proofs.lemmas.List.{append_assoc}
 use Rattle.std.specs.Prelude.{length}
 use Rattle.std.specs.List.{Contains}
@@ -13,20 +13,23 @@ use Rattle.gx_script.specs.declared.Script.{Script}
 use Rattle.gx_store.specs.declared.mark.Mark.{Mark}
 use Rattle.gx_store.specs.declared.mark.Mark.TheVariants as mark
 use Rattle.gx_store.specs.declared.run.Step.{Step}
+use Rattle.gx_store.specs.Journals.{is_same_node}
 use Rattle.gx_store.specs.Marks.{is_aborted, is_committed}
 use Rattle.gx_store.specs.Messages.{Receives}
 use Rattle.gx_store.specs.Points.{Point, before, marks_in}
-use Rattle.gx_store.specs.Protocol.{IsExecuted}
+use Rattle.gx_store.specs.Protocol.{CommitsAlone, CommitsAsPromised, CommitsThere, IsExecuted, Promises, decided_count, is_writer, local_count, prepared_count}
 use Rattle.gx_store.specs.Refusals.{the_coordinator}
 use Rattle.gx_rules.specs.Sending.{counted, numbered}
 use Rattle.gx_law_order.proofs.Lists.{Each}
 use Rattle.gx_law_order.proofs.Past.{aborted-append, committed-append}
 use Rattle.gx_law_commit.specs.Followed.{DoMarksEnd, DoStepsEnd, EndsAt}
+use Rattle.gx_law_commit.specs.Pairs.{Pair, bit}
 use Rattle.gx_law_commit.specs.Said.{is_answer}
-use Rattle.gx_law_commit.specs.Standings.{Known, Part, at, gx}
+use Rattle.gx_law_commit.specs.Standings.{Known, Part, at, gx, is_closing, is_decided}
+use Rattle.gx_law_commit.specs.Standings.Standing.{One, Two}
 use Rattle.gx_law_commit.proofs.Counts.{NoEnd, no-aborted, no-committed}
-use Rattle.gx_law_commit.proofs.Handled.{Follows, HasMark, IsExecOf, Tells}
-use Rattle.gx_law_commit.proofs.Ways.{Fol, FolAt}
+use Rattle.gx_law_commit.proofs.Handled.{Follows, HasMark, IsExecOf, NoVote, Tells, Votes}
+use Rattle.gx_law_commit.proofs.Ways.{Fol, FolAt, IsOf}
 
 pub is-contained : (m : Mark) (xs : List Mark) → HasMark m xs → Contains xs m
 is-contained m [] h = absurd h
@@ -87,7 +90,7 @@ module _ (script : Script) (steps : List Step) (step : Step) where
   )
 
   -- A SEGMENT
-  module _ (told : Message) (k : Known) (i g : ℕ) (here : step.stamp.node ≡ at i) (received : Receives steps step.event the_coordinator (at i) told) (aborted : k.aborted ≡ is_aborted (marks_in steps) (gx g)) (committed : k.committed ≡ is_committed (marks_in steps) (gx g)) where
+  module _ (told : Message) (k : Known) (i g : ℕ) (here : step.stamp.node ≡ at i) (received : Receives steps step.event the_coordinator (at i) told) (aborted : k.aborted ≡ is_aborted (marks_in steps) (gx g)) (committed : k.committed ≡ is_committed (marks_in steps) (gx g)) (decided : k.decided ≡ decided_count (marks_in steps) (gx g)) (p : Part) (pair : Pair k p) (of : IsOf p (marks_in steps) i g) (only : k.at ≡ One true → (n : Node) → is_writer (marks_in steps) (gx g) n ≡ is_same_node n (at i)) where
     or-false : (a b c : Bool) → a ≡ false → b ≡ false → c ≡ a → (c || b) ≡ false
     or-false a b c e f q = grind arith
 
@@ -109,32 +112,70 @@ module _ (script : Script) (steps : List Step) (step : Step) where
     executed : (earlier later : List Mark) (c : Rattle.gx_ids.specs.declared.ids.Cid.Cid) → IsExecOf told g c → IsExecuted (point earlier later) (gx g) c (at i)
     executed earlier later c x = record { level = x.level; snapshot = x.snapshot; horizon = x.horizon; slice = x.slice; received = (length steps, inr (refl, gets _ x.is)) }
 
-    commits-by : (told ≡ message.Commit (gx g)) ⊎ (told ≡ message.CommitPrepared (gx g)) → Receives steps step.event the_coordinator (at i) (message.Commit (gx g)) ⊎ Receives steps step.event the_coordinator (at i) (message.CommitPrepared (gx g))
-    commits-by (inl e) = inl (gets _ e)
-    commits-by (inr e) = inr (gets _ e)
+    here-nil : marks_in steps ++ [] ≡ marks_in steps
+    here-nil = append-nil (marks_in steps)
 
-    follow-one : (earlier later : List Mark) (m : Mark) → Each NoEnd earlier → Follows told k i g m → EndsAt script step.stamp.node (point earlier later) m
-    follow-one earlier later (mark.Write h c n t r x) e f = subst (λ (y : Gxid). IsExecuted (point earlier later) y c n) (same-gxid h f.0) (subst (λ (y : Node). IsExecuted (point earlier later) (gx g) c y) (same-at n f.1) (executed earlier later c f.2))
-    follow-one earlier later (mark.Prepared n h) e f =
-        subst (λ (y : Gxid). (is_committed (marks_in steps ++ earlier) y ≡ false) × Receives steps step.event the_coordinator n (message.Prepare y)) (same-gxid h f.0)
-        (not-committed earlier e f.3, subst (λ (y : Node). Receives steps step.event the_coordinator y (message.Prepare (gx g))) (same-at n f.1) (gets _ f.2))
-    follow-one earlier later (mark.LocalCommit n h) e f =
-        subst (λ (y : Gxid). (is_aborted (marks_in steps ++ earlier) y ≡ false) × (is_committed (marks_in steps ++ earlier) y ≡ false) × (Receives steps step.event the_coordinator n (message.Commit y) ⊎ Receives steps step.event the_coordinator n (message.CommitPrepared y))) (same-gxid h f.0)
-        (not-aborted earlier e f.3, not-committed earlier e f.4, subst (λ (y : Node). Receives steps step.event the_coordinator y (message.Commit (gx g)) ⊎ Receives steps step.event the_coordinator y (message.CommitPrepared (gx g))) (same-at n f.1) (commits-by f.2))
-    follow-one earlier later (mark.Fault h c r x) e f = tt
-    follow-one earlier later (mark.JournalFailed n h) e f = tt
-    follow-one earlier later (mark.Start h s) e f = absurd f
-    follow-one earlier later (mark.Snap h c x) e f = absurd f
-    follow-one earlier later (mark.Skip h c r) e f = absurd f
-    follow-one earlier later (mark.Commit h) e f = absurd f
-    follow-one earlier later (mark.Abort h) e f = absurd f
-    follow-one earlier later (mark.Answer s n a) e f = absurd f
-    follow-one earlier later (mark.Hold n h o x) e f = absurd f
-    follow-one earlier later (mark.Wait n h o x) e f = absurd f
-    follow-one earlier later (mark.Release n h o x) e f = absurd f
-    follow-one earlier later (mark.Decided h) e f = absurd f
-    follow-one earlier later (mark.Sent to number m) e f = absurd f
-    follow-one earlier later m e f = absurd f
+    commits-by : (later : List Mark) → ((told ≡ message.Commit (gx g)) × (k.at ≡ One true)) ⊎ ((told ≡ message.CommitPrepared (gx g)) × (k.at ≡ Two true)) → CommitsAlone (point [] later) (at i) (gx g) ⊎ CommitsAsPromised (point [] later) (at i) (gx g)
+    commits-by later (inl e) =
+        inl (record {
+          told = gets _ e.0;
+          only = λ n. ap (λ x. is_writer x (gx g) n) here-nil ∙ only e.1 n;
+          unprepared = ap (λ x. prepared_count x (at i) (gx g)) here-nil ∙ of.promises ∙ pair.promised ∙ ap bit (pair.alone true e.1).1;
+        })
+    commits-by later (inr e) =
+        let writes : k.writes ≡ true = (pair.both true e.1).0 refl in
+        inr (record {
+          told = gets _ e.0;
+          writer = ap (λ x. is_writer x (gx g) (at i)) here-nil ∙ of.wrote ∙ sym (pair.closing (ap is_closing e.1)) ∙ writes;
+          promised = ap (λ x. prepared_count x (at i) (gx g)) here-nil ∙ of.promises ∙ pair.promised ∙ ap bit ((pair.both true e.1).1 ∙ writes);
+          decided = ap (λ x. decided_count x (gx g)) here-nil ∙ sym decided ∙ pair.decided (ap is_decided e.1);
+        })
+
+    follow-one : (earlier later : List Mark) (m : Mark) → Each NoEnd earlier → Follows told k i g m → NoVote m → EndsAt script step.stamp.node (point earlier later) m
+    follow-one earlier later (mark.Write h c n t r x) e f v = subst (λ (y : Gxid). IsExecuted (point earlier later) y c n) (same-gxid h f.0) (subst (λ (y : Node). IsExecuted (point earlier later) (gx g) c y) (same-at n f.1) (executed earlier later c f.2))
+    follow-one earlier later (mark.Prepared n h) e f v = absurd v
+    follow-one earlier later (mark.LocalCommit n h) e f v = absurd v
+    follow-one earlier later (mark.Fault h c r x) e f v = tt
+    follow-one earlier later (mark.JournalFailed n h) e f v = tt
+    follow-one earlier later (mark.Start h s) e f v = absurd f
+    follow-one earlier later (mark.Snap h c x) e f v = absurd f
+    follow-one earlier later (mark.Skip h c r) e f v = absurd f
+    follow-one earlier later (mark.Commit h) e f v = absurd f
+    follow-one earlier later (mark.Abort h) e f v = absurd f
+    follow-one earlier later (mark.Answer s n a) e f v = absurd f
+    follow-one earlier later (mark.Hold n h o x) e f v = absurd f
+    follow-one earlier later (mark.Wait n h o x) e f v = absurd f
+    follow-one earlier later (mark.Release n h o x) e f v = absurd f
+    follow-one earlier later (mark.Decided h) e f v = absurd f
+    follow-one earlier later (mark.Sent to number m) e f v = absurd f
+    follow-one earlier later m e f v = absurd f
+
+    -- the first mark
+    follow-first : (later ns : List Mark) (m : Mark) → Follows told k i g m → Votes told k p g (m ∷ ns) → EndsAt script step.stamp.node (point [] later) m
+    follow-first later ns (mark.Prepared n h) f v =
+        subst (λ (y : Gxid). Promises (point [] later) n y) (same-gxid h f.0)
+        (subst (λ (y : Node). Promises (point [] later) y (gx g)) (same-at n f.1)
+        (record {
+          told = gets _ f.2;
+          writer = ap (λ x. is_writer x (gx g) (at i)) here-nil ∙ of.wrote ∙ v.0;
+          first = ap (λ x. prepared_count x (at i) (gx g)) here-nil ∙ of.promises ∙ v.1;
+          uncommitted = not-committed [] tt f.3;
+          uncommitted_there = ap (λ x. local_count x (at i) (gx g)) here-nil ∙ of.commits ∙ v.2;
+        }))
+    follow-first later ns (mark.LocalCommit n h) f v =
+        subst (λ (y : Gxid). CommitsThere (point [] later) n y) (same-gxid h f.0)
+        (subst (λ (y : Node). CommitsThere (point [] later) y (gx g)) (same-at n f.1)
+        (record {
+          running = or-false (is_committed (marks_in steps ++ []) (gx g)) (is_aborted (marks_in steps ++ []) (gx g)) (is_committed (marks_in steps ++ []) (gx g)) (not-committed [] tt f.4) (not-aborted [] tt f.3) refl;
+          first = ap (λ x. local_count x (at i) (gx g)) here-nil ∙ of.commits ∙ v.0;
+          by = commits-by later v.1;
+        }))
+    follow-first later ns m f v = follow-one [] later m tt f tt
+
+    votes-rest : (m : Mark) (ns : List Mark) → Votes told k p g (m ∷ ns) → Each NoVote ns
+    votes-rest (mark.Prepared n h) ns v = v.3
+    votes-rest (mark.LocalCommit n h) ns v = v.2
+    votes-rest m ns v = v
 
     no-end-one : (m : Mark) → Follows told k i g m → NoEnd m
     no-end-one (mark.Commit h) f = f
@@ -178,13 +219,17 @@ module _ (script : Script) (steps : List Step) (step : Step) where
         subst (λ x. DoMarksEnd script steps step x (numbered (counted f o) outs)) (sym (append_assoc marks more (mark.Sent o.node (f o.node.0 + 1) o.message ∷ []))) (tells-end (more ++ mark.Sent o.node (f o.node.0 + 1) o.message ∷ []) (counted f o) outs e.1),
       )
 
-      marks-end : (earlier ns : List Mark) (f : ℕ → ℕ) (outs : List Out) → earlier ++ ns ≡ marks → Each NoEnd earlier → Each (Follows told k i g) ns → Each (λ (o : Out). Tells k q i g marks o.message) outs → DoMarksEnd script steps step earlier (ns ++ numbered f outs)
-      marks-end earlier [] f outs same e m h =
+      marks-end : (earlier ns : List Mark) (f : ℕ → ℕ) (outs : List Out) → earlier ++ ns ≡ marks → Each NoEnd earlier → Each (Follows told k i g) ns → Each NoVote ns → Each (λ (o : Out). Tells k q i g marks o.message) outs → DoMarksEnd script steps step earlier (ns ++ numbered f outs)
+      marks-end earlier [] f outs same e m v h =
           subst (λ x. DoMarksEnd script steps step x (numbered f outs)) (append-nil marks ∙ sym same ∙ append-nil earlier) (tells-end [] f outs h)
-      marks-end earlier (x ∷ ns) f outs same e m h = (
-        follow-one earlier (ns ++ numbered f outs) x e m.0,
-        marks-end (earlier ++ x ∷ []) ns f outs (append_assoc earlier (x ∷ []) ns ∙ same) (each-last earlier x e (no-end-one x m.0)) m.1 h,
+      marks-end earlier (x ∷ ns) f outs same e m v h = (
+        follow-one earlier (ns ++ numbered f outs) x e m.0 v.0,
+        marks-end (earlier ++ x ∷ []) ns f outs (append_assoc earlier (x ∷ []) ns ∙ same) (each-last earlier x e (no-end-one x m.0)) m.1 v.1 h,
       )
 
-      pub seg-end : (f : ℕ → ℕ) (outs : List Out) → Each (Follows told k i g) marks → Each (λ (o : Out). Tells k q i g marks o.message) outs → DoMarksEnd script steps step [] (marks ++ numbered f outs)
-      seg-end f outs m h = marks-end [] marks f outs refl tt m h
+      first-end : (ns : List Mark) (f : ℕ → ℕ) (outs : List Out) → ns ≡ marks → Each (Follows told k i g) ns → Votes told k p g ns → Each (λ (o : Out). Tells k q i g marks o.message) outs → DoMarksEnd script steps step [] (ns ++ numbered f outs)
+      first-end [] f outs same m v h = marks-end [] [] f outs same tt tt tt h
+      first-end (x ∷ ns) f outs same m v h = (follow-first (ns ++ numbered f outs) ns x m.0 v, marks-end (x ∷ []) ns f outs same (no-end-one x m.0, tt) m.1 (votes-rest x ns v) h)
+
+      pub seg-end : (f : ℕ → ℕ) (outs : List Out) → Each (Follows told k i g) marks → Votes told k p g marks → Each (λ (o : Out). Tells k q i g marks o.message) outs → DoMarksEnd script steps step [] (marks ++ numbered f outs)
+      seg-end f outs m v h = first-end marks f outs refl m v h

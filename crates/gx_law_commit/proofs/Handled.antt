@@ -31,7 +31,7 @@ use Rattle.gx_rules.specs.Segments.Phase.{Reading, Writing, Prepared, Committed,
 use Rattle.gx_rules.specs.Shown.{shown}
 use Rattle.gx_rules.specs.Slices.{Moved, answers, first_fault, has_written, inserted, inserts, inserts_row, runs_slice, selects}
 use Rattle.gx_law_order.proofs.Lists.{Each, each_append}
-use Rattle.gx_law_commit.specs.Pairs.{IsKept, IsVote, Pair, is_open}
+use Rattle.gx_law_commit.specs.Pairs.{IsKept, IsVote, Pair, bit, is_open}
 use Rattle.gx_law_commit.specs.Said.{Answers, IsCommand, Said, gxid_in, is_answer}
 use Rattle.gx_law_commit.specs.Standings.{Known, Part, at, gx, part_of}
 use Rattle.gx_law_commit.specs.Standings.Standing.{Unborn, Live, Over, One, Preparing, Two}
@@ -60,6 +60,27 @@ Follows told k i g (mark.Fault h c r x) = Unit {0}
 Follows told k i g (mark.JournalFailed n h) = Unit {0}
 Follows told k i g _ = ⊥
 
+-- its promise or its commit is the first mark of its step, and the only such one
+abbrev pub NoVote : Mark → Type 0
+NoVote (mark.Prepared n h) = ⊥
+NoVote (mark.LocalCommit n h) = ⊥
+NoVote _ = Unit {0}
+
+-- who promises has written, and has neither promised nor committed before; who commits has not before, and is told so as the only
+-- writer or behind the decision
+abbrev pub Votes : Message → Known → Part → ℕ → List Mark → Type 0
+Votes told k p g [] = Unit {0}
+Votes told k p g (mark.Prepared n h ∷ ms) = (p.wrote ≡ true) × (p.promises ≡ 0) × (p.commits ≡ 0) × Each NoVote ms
+Votes told k p g (mark.LocalCommit n h ∷ ms) =
+    (p.commits ≡ 0) × (((told ≡ message.Commit (gx g)) × (k.at ≡ One true)) ⊎ ((told ≡ message.CommitPrepared (gx g)) × (k.at ≡ Two true))) × Each NoVote ms
+Votes told k p g (m ∷ ms) = Each NoVote ms
+
+no-votes : (told : Message) (k : Known) (p : Part) (g : ℕ) (ms : List Mark) → Each NoVote ms → Votes told k p g ms
+no-votes told k p g [] e = tt
+no-votes told k p g (mark.Prepared n h ∷ ms) e = absurd e.0
+no-votes told k p g (mark.LocalCommit n h ∷ ms) e = absurd e.0
+no-votes told k p g (m ∷ ms) e = e.1
+
 -- what it sends
 abbrev pub Tells : Known → Part → ℕ → ℕ → List Mark → Message → Type 0
 Tells k q i g marks (message.Answer h reply.Again) = (h.0 ≡ g) × HasMark (mark.JournalFailed (at i) (gx g)) marks
@@ -83,6 +104,7 @@ module _ (told : Message) (k : Known) (s : Seg) (i g : ℕ) (named : s.node ≡ 
     pub others : (h : ℕ) → eqb h g ≡ false → turn.seg.locals h ≡ s.locals h
     pub next : Next k p (after turn)
     pub marks : Each (Follows told k i g) turn.marks
+    pub votes : Votes told k p g turn.marks
     pub outs : Each (λ (o : Out). Tells k (after turn) i g turn.marks o.message) turn.outs
     pub fails : (turn.seg.locals g).vote ≡ Some reply.Jfault → (l.vote ≡ Some reply.Jfault) ⊎ HasMark (mark.JournalFailed (at i) (gx g)) turn.marks
 
@@ -101,7 +123,7 @@ module _ (told : Message) (k : Known) (s : Seg) (i g : ℕ) (named : s.node ≡ 
   same-next = subst (Next k p) (sym (none-after l)) (record { pair = e; grows = grows-same p })
 
   stay : Does (stays s)
-  stay = record { others = λ h d. refl; next = same-next; marks = tt; outs = tt; fails = λ v. inl v }
+  stay = record { others = λ h d. refl; next = same-next; marks = tt; votes = tt; outs = tt; fails = λ v. inl v }
 
   -- an answer that changes nothing
   abbrev not-again : Reply → Bool
@@ -119,7 +141,7 @@ module _ (told : Message) (k : Known) (s : Seg) (i g : ℕ) (named : s.node ≡ 
   told-of k q ms reply.Forgotten n a = (refl, tt)
 
   tell : (r : Reply) → not-again r ≡ true → Answers k p r → Does (tells s (gx g) r)
-  tell r n a = record { others = λ h d. refl; next = same-next; marks = tt; outs = (subst (λ q. Tells k q i g [] (message.Answer (gx g) r)) (sym (none-after l)) (told-of k p [] r n a), tt); fails = λ v. inl v }
+  tell r n a = record { others = λ h d. refl; next = same-next; marks = tt; votes = tt; outs = (subst (λ q. Tells k q i g [] (message.Answer (gx g) r)) (sym (none-after l)) (told-of k p [] r n a), tt); fails = λ v. inl v }
 
   vote-not-again : (ph : Phase) (r : Reply) → IsVote ph (Some r) → not-again r ≡ true
   vote-not-again ph reply.Again v = absurd v
@@ -159,12 +181,13 @@ module _ (told : Message) (k : Known) (s : Seg) (i g : ℕ) (named : s.node ≡ 
       self : (a : ℕ) → eqb a a ≡ true
       self a = grind (arith, nat_tests)
 
-  change : (x : Local) (ms : List Mark) (r : Reply) (it : Option JournalItem) → Next k p (after_marks x w pc lc i g ms) → Each (Follows told k i g) ms → Tells k (after_marks x w pc lc i g ms) i g ms (message.Answer (gx g) r) → (x.vote ≡ Some reply.Jfault → (l.vote ≡ Some reply.Jfault) ⊎ HasMark (mark.JournalFailed (at i) (gx g)) ms) → Does (changes s (gx g) x ms r it)
-  change x ms r it n m t f =
+  change : (x : Local) (ms : List Mark) (r : Reply) (it : Option JournalItem) → Next k p (after_marks x w pc lc i g ms) → Each (Follows told k i g) ms → Votes told k p g ms → Tells k (after_marks x w pc lc i g ms) i g ms (message.Answer (gx g) r) → (x.vote ≡ Some reply.Jfault → (l.vote ≡ Some reply.Jfault) ⊎ HasMark (mark.JournalFailed (at i) (gx g)) ms) → Does (changes s (gx g) x ms r it)
+  change x ms r it n m v t f =
       record {
         others = λ h d. ap (λ b. if b then x else s.locals h) d;
         next = subst (λ y. Next k p (after_marks y w pc lc i g ms)) (sym (here x)) n;
         marks = m;
+        votes = v;
         outs = (subst (λ y. Tells k (after_marks y w pc lc i g ms) i g ms (message.Answer (gx g) r)) (sym (here x)) t, tt);
         fails = λ v. f (subst (λ (y : Local). y.vote ≡ Some reply.Jfault) (here x) v);
       }
@@ -177,7 +200,7 @@ module _ (told : Message) (k : Known) (s : Seg) (i g : ℕ) (named : s.node ≡ 
   refuse it v o st =
       let n : Next k p (refusing p) = refuse-next k p e v o st in
       change (record l { vote = Some reply.Jfault }) (mark.JournalFailed s.node (gx g) ∷ []) reply.Jfault (Some it)
-      (subst (Next k p) (sym (none-after (record l { vote = Some reply.Jfault }))) n) (tt, tt) (refl, refl) (λ x. inr failed-here)
+      (subst (Next k p) (sym (none-after (record l { vote = Some reply.Jfault }))) n) (tt, tt) tt (refl, refl) (λ x. inr failed-here)
 
   -- counts of one mark
   node-is : eqb s.node.0 i ≡ true
@@ -208,17 +231,27 @@ module _ (told : Message) (k : Known) (s : Seg) (i g : ℕ) (named : s.node ≡ 
   at-node : s.node.0 ≡ i
   at-node = ap (λ (n : Node). n.0) named
 
+  -- nothing promised or committed there yet
+  unpromised : l.vote ≡ None → pc ≡ 0
+  unpromised v = e.promised ∙ ap (λ x. bit (was_prepared x)) v
+
+  uncommitted : (ph : Phase) → l.phase ≡ ph → has_committed ph ≡ false → lc ≡ 0
+  uncommitted ph f h = e.committed ∙ ap (λ x. bit (has_committed x)) f ∙ ap bit h
+
+  open-uncommitted : (ph : Phase) → is_open ph ≡ true → has_committed ph ≡ false
+  open-uncommitted ph o = grind (arith, nat_tests)
+
   -- PREPARE
-  promised : (fails : Bool) → told ≡ message.Prepare (gx g) → l.vote ≡ None → is_open l.phase ≡ true → (k.at ≡ Preparing true) ⊎ (k.aborted ≡ true) → k.committed ≡ false → Does (promises s (gx g) fails l)
-  promised true m v o st c = refuse _ v o (wider st)
+  promised : (fails : Bool) → told ≡ message.Prepare (gx g) → l.vote ≡ None → is_open l.phase ≡ true → (k.at ≡ Preparing true) ⊎ (k.aborted ≡ true) → k.committed ≡ false → w ≡ true → Does (promises s (gx g) fails l)
+  promised true m v o st c wr = refuse _ v o (wider st)
     where
       wider : (k.at ≡ Preparing true) ⊎ (k.aborted ≡ true) → (k.at ≡ Preparing true) ⊎ (k.at ≡ One true) ⊎ (k.aborted ≡ true)
       wider (inl x) = inl x
       wider (inr x) = inr (inr x)
-  promised false m v o st c =
+  promised false m v o st c wr =
       let n : Next k p (promising p) = promise-next k p e v o st in
       change (record l { phase = Prepared; vote = Some reply.Prepared }) (mark.Prepared s.node (gx g) ∷ []) reply.Prepared _
-      (subst (Next k p) (sym (prepared-after (record l { phase = Prepared; vote = Some reply.Prepared }))) n) ((refl, at-node, m, c), tt) (refl, refl) (λ x. absurd (cc))
+      (subst (Next k p) (sym (prepared-after (record l { phase = Prepared; vote = Some reply.Prepared }))) n) ((refl, at-node, m, c), tt) (wr, unpromised v, uncommitted l.phase refl (open-uncommitted l.phase o), tt) (refl, refl) (λ x. absurd (cc))
 
   not-ended-prepare : (k.at ≡ Preparing true) ⊎ (k.aborted ≡ true) → k.committed ≡ false
   not-ended-prepare st = plain k.committed k.aborted st e.either e.ends
@@ -227,8 +260,8 @@ module _ (told : Message) (k : Known) (s : Seg) (i g : ℕ) (named : s.node ≡ 
       plain c a st x y = grind (arith, nat_tests)
 
   prepare : (fails : Bool) (ph : Phase) → l.phase ≡ ph → told ≡ message.Prepare (gx g) → Said k p (message.Prepare (gx g)) → Does (on_prepare s (gx g) fails l ph)
-  prepare fails Reading f m st = once-votes l.vote _ refl (λ v. promised fails m v (ap is_open f) (st v) (not-ended-prepare (st v)))
-  prepare fails Writing f m st = once-votes l.vote _ refl (λ v. promised fails m v (ap is_open f) (st v) (not-ended-prepare (st v)))
+  prepare fails Reading f m st = once-votes l.vote _ refl (λ v. promised fails m v (ap is_open f) (st.1 v) (not-ended-prepare (st.1 v)) st.0)
+  prepare fails Writing f m st = once-votes l.vote _ refl (λ v. promised fails m v (ap is_open f) (st.1 v) (not-ended-prepare (st.1 v)) st.0)
   prepare fails Prepared f m st = kept-vote l.vote refl
   prepare fails Committed f m st = kept-vote l.vote refl
   prepare fails (Forgotten b) f m st = kept-vote l.vote refl
@@ -260,7 +293,7 @@ module _ (told : Message) (k : Known) (s : Seg) (i g : ℕ) (named : s.node ≡ 
       let n : Next k p (committing p) = commit-next k p e v o st in
       let x = live-marks (one-not-over st) in
       change (record l { phase = Committed; vote = Some reply.Committed }) (mark.LocalCommit s.node (gx g) ∷ []) reply.Committed _
-      (subst (Next k p) (sym (local-after (record l { phase = Committed; vote = Some reply.Committed }))) n) ((refl, at-node, inl m, x.0, x.1), tt) (refl, refl) (λ x. absurd (cc))
+      (subst (Next k p) (sym (local-after (record l { phase = Committed; vote = Some reply.Committed }))) n) ((refl, at-node, inl m, x.0, x.1), tt) (uncommitted l.phase refl (open-uncommitted l.phase o), inl (m, st), tt) (refl, refl) (λ x. absurd (cc))
 
   unless-prepared : (b : Bool) → Does (if b then stays s else tells_kept s (gx g) l.vote)
   unless-prepared true = stay
@@ -277,12 +310,12 @@ module _ (told : Message) (k : Known) (s : Seg) (i g : ℕ) (named : s.node ≡ 
   -- COMMIT PREPARED
   finished : (fails : Bool) → told ≡ message.CommitPrepared (gx g) → l.phase ≡ Prepared → k.at ≡ Two true → Does (finishes s (gx g) fails l)
   finished true m f st =
-      change l (mark.JournalFailed s.node (gx g) ∷ []) reply.Again _ same-next (tt, tt) (refl, failed-here) (λ v. inl v)
+      change l (mark.JournalFailed s.node (gx g) ∷ []) reply.Again _ same-next (tt, tt) tt (refl, failed-here) (λ v. inl v)
   finished false m f st =
       let n : Next k p (finishing p) = finish-next k p e f st in
       let x = live-marks (two-not-over st) in
       change (record l { phase = Committed }) (mark.LocalCommit s.node (gx g) ∷ []) reply.Committed _
-      (subst (Next k p) (sym (local-after (record l { phase = Committed }))) n) ((refl, at-node, inr m, x.0, x.1), tt) (refl, refl) (λ v. inl v)
+      (subst (Next k p) (sym (local-after (record l { phase = Committed }))) n) ((refl, at-node, inr m, x.0, x.1), tt) (uncommitted Prepared f refl, inr (m, st), tt) (refl, refl) (λ v. inl v)
 
   decided-still : (ph : Phase) → l.phase ≡ ph → has_committed ph ≡ false → (k.at ≡ Two true) ⊎ (has_committed l.phase ≡ true) → k.at ≡ Two true
   decided-still ph f n (inl x) = x
@@ -303,7 +336,7 @@ module _ (told : Message) (k : Known) (s : Seg) (i g : ℕ) (named : s.node ≡ 
   -- ABORT and FORGET
   ended : (ph : Phase) (r : Reply) → not-again r ≡ true → ((q : Part) → Answers k q r) → is_open ph ≡ false → (ph ≡ Prepared → ⊥) → has_committed ph ≡ has_committed l.phase → k.at ≡ Over → Does (changes s (gx g) (record l { phase = ph }) [] r None)
   ended ph r n a o d c st =
-      change (record l { phase = ph }) [] r None (subst (Next k p) (sym (none-after (record l { phase = ph }))) (end-next k p ph e o d c st)) tt (told-of k _ [] r n (a _)) (λ v. inl v)
+      change (record l { phase = ph }) [] r None (subst (Next k p) (sym (none-after (record l { phase = ph }))) (end-next k p ph e o d c st)) tt tt (told-of k _ [] r n (a _)) (λ v. inl v)
 
   abort : (ph : Phase) → l.phase ≡ ph → Said k p (message.Abort (gx g)) → Does (on_abort s (gx g) l ph)
   abort Reading f st = ended Aborted reply.Aborted refl (λ q. tt) refl (λ x. absurd (cc)) (sym (ap has_committed f)) (e.aborts st)
@@ -371,6 +404,7 @@ module _ (told : Message) (k : Known) (s : Seg) (i g : ℕ) (named : s.node ≡ 
       opens : is_open phase ≡ true
       wrote : has_written phase ≡ (w || is_writer x.marks (gx g) (at i))
       marks : Each (Follows told k i g) x.marks
+      calm : Each NoVote x.marks
       promises : prepared_count x.marks (at i) (gx g) ≡ 0
       commits : local_count x.marks (at i) (gx g) ≡ 0
       node : x.seg.node ≡ s.node
@@ -390,6 +424,7 @@ module _ (told : Message) (k : Known) (s : Seg) (i g : ℕ) (named : s.node ≡ 
           others = λ j d. ap (λ b. if b then y else x.seg.locals j) d ∙ f.others j d;
           next = subst (λ z. Next k p (after_marks z w pc lc i g x.marks)) (sym set) (subst (Next k p) (sym same) n);
           marks = f.marks;
+          votes = no-votes told k p g x.marks f.calm;
           outs = (subst (λ z. Tells k (after_marks z w pc lc i g x.marks) i g x.marks (message.Answer (gx g) r)) (sym set) (subst (λ q. Tells k q i g x.marks (message.Answer (gx g) r)) (sym same) (told-of k _ x.marks r (kept-not-again c.0 _ r a) (kept-answers st.drawn _ r n.pair refl))), tt);
           fails = λ v. inl (subst (λ (z : Local). z.vote ≡ Some reply.Jfault) f.local (subst (λ (z : Local). z.vote ≡ Some reply.Jfault) set v));
         }
@@ -397,13 +432,13 @@ module _ (told : Message) (k : Known) (s : Seg) (i g : ℕ) (named : s.node ≡ 
         self : (a : ℕ) → eqb a a ≡ true
         self a = grind (arith, nat_tests)
 
-    quiet : (ms : List Mark) → is_writer ms (gx g) (at i) ≡ false → prepared_count ms (at i) (gx g) ≡ 0 → local_count ms (at i) (gx g) ≡ 0 → Each (Follows told k i g) ms → Inserting (record { seg = raised s h; marks = ms })
-    quiet ms a b d f =
-        record { others = λ j q. refl; phase = l.phase; local = refl; opens = o; wrote = e.written o ∙ sym (or-none w) ∙ ap (λ x. w || x) (sym a); marks = f; promises = b; commits = d; node = refl }
+    quiet : (ms : List Mark) → is_writer ms (gx g) (at i) ≡ false → prepared_count ms (at i) (gx g) ≡ 0 → local_count ms (at i) (gx g) ≡ 0 → Each (Follows told k i g) ms → Each NoVote ms → Inserting (record { seg = raised s h; marks = ms })
+    quiet ms a b d f n =
+        record { others = λ j q. refl; phase = l.phase; local = refl; opens = o; wrote = e.written o ∙ sym (or-none w) ∙ ap (λ x. w || x) (sym a); marks = f; calm = n; promises = b; commits = d; node = refl }
 
     select : (q : Query) (rows : List KeyedRow) (f : Option (KeyedRow × ArithFault)) → Does (selects (raised s h) (gx g) c q rows f)
-    select q rows None = ran (record { seg = raised s h; marks = [] }) _ (quiet [] refl refl refl tt) (refl, e.written o ∙ sym (or-none w))
-    select q rows (Some f) = ran (record { seg = raised s h; marks = mark.Fault (gx g) c f.0.rid (Some f.0.row) ∷ [] }) _ (quiet _ refl refl refl (tt, tt)) tt
+    select q rows None = ran (record { seg = raised s h; marks = [] }) _ (quiet [] refl refl refl tt tt) (refl, e.written o ∙ sym (or-none w))
+    select q rows (Some f) = ran (record { seg = raised s h; marks = mark.Fault (gx g) c f.0.rid (Some f.0.row) ∷ [] }) _ (quiet _ refl refl refl (tt, tt) (tt, tt)) tt
 
     insert-row : (table : Table) (x : Moved) (row : KeyedRow) → Inserting x → Inserting (inserts_row (gx g) c table x row)
     insert-row table x row f =
@@ -414,6 +449,7 @@ module _ (told : Message) (k : Known) (s : Seg) (i g : ℕ) (named : s.node ≡ 
           opens = refl;
           wrote = sym (ap (λ b. w || b) (writer-append x.marks (mark.Write (gx g) c x.seg.node table row.rid (Some row.row) ∷ []) (gx g) (at i)) ∙ all-true w (is_writer x.marks (gx g) (at i)) (eqb g g) (eqb x.seg.node.0 i) (self g) (ap (λ (n : Node). eqb n.0 i) f.node ∙ node-is));
           marks = each_append (Follows told k i g) x.marks _ f.marks ((refl, ap (λ (n : Node). n.0) f.node ∙ at-node, m), tt);
+          calm = each_append NoVote x.marks _ f.calm (tt, tt);
           promises = prepared-append x.marks (mark.Write (gx g) c x.seg.node table row.rid (Some row.row) ∷ []) (at i) (gx g) ∙ plus-none _ ∙ f.promises;
           commits = local-append x.marks (mark.Write (gx g) c x.seg.node table row.rid (Some row.row) ∷ []) (at i) (gx g) ∙ plus-none _ ∙ f.commits;
           node = f.node;
@@ -433,11 +469,11 @@ module _ (told : Message) (k : Known) (s : Seg) (i g : ℕ) (named : s.node ≡ 
     insert count x f = ran x _ f (refl, ap (λ (z : Local). has_written z.phase) f.local ∙ f.wrote)
 
     raised-stay : Does (stays (raised s h))
-    raised-stay = record { others = λ j d. refl; next = same-next; marks = tt; outs = tt; fails = λ v. inl v }
+    raised-stay = record { others = λ j d. refl; next = same-next; marks = tt; votes = tt; outs = tt; fails = λ v. inl v }
 
     slice-runs : (x : Option Snapshot) (y : Slice) → Does (runs_slice (raised s h) (gx g) c x y)
     slice-runs (Some x) (slice.Select q) = select q (shown (raised s h) x (gx g) c q.table) (first_fault q.cond (shown (raised s h) x (gx g) c q.table))
-    slice-runs (Some x) (slice.Insert table rows) = insert (length rows) (inserted (raised s h) (gx g) c table rows) (insert-rows table rows (record { seg = raised s h; marks = [] }) (quiet [] refl refl refl tt))
+    slice-runs (Some x) (slice.Insert table rows) = insert (length rows) (inserted (raised s h) (gx g) c table rows) (insert-rows table rows (record { seg = raised s h; marks = [] }) (quiet [] refl refl refl tt tt))
     slice-runs x y = raised-stay
 
   take : (c : Cid) → IsExecOf told g c → IsCommand k p c.0 → (x : Option Snapshot) (h : Gxid) (y : Slice) → is_open l.phase ≡ true → Does (takes s (gx g) c x h y l)

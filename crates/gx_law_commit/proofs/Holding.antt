@@ -32,11 +32,11 @@ use Rattle.gx_msg.specs.declared.reply.Reply.TheVariants as reply
 use Rattle.gx_meaning.specs.Plan.{plan_of}
 use Rattle.gx_meaning.specs.declared.piece.Piece.{Piece}
 use Rattle.gx_script.specs.declared.Script.{Script}
-use Rattle.gx_session.specs.Session.{after_line, idle_outside, line_step}
-use Rattle.gx_session.specs.declared.line_step.LineStep.{LineStep}
-use Rattle.gx_session.specs.declared.line_step.LineStep.TheVariants as step
-use Rattle.gx_session.specs.declared.state.Block.{Block}
-use Rattle.gx_session.specs.declared.state.Block.TheVariants.{Outside, Open, Failed}
+use Rattle.gx_script.specs.Session.{after_line, idle_outside, line_step}
+use Rattle.gx_script.specs.declared.line_step.LineStep.{LineStep}
+use Rattle.gx_script.specs.declared.line_step.LineStep.TheVariants as step
+use Rattle.gx_script.specs.declared.state.Block.{Block}
+use Rattle.gx_script.specs.declared.state.Block.TheVariants.{Outside, Open, Failed}
 use Rattle.gx_store.specs.declared.answer.Refused.{Refused}
 use Rattle.gx_store.specs.declared.mark.Mark.{Mark}
 use Rattle.gx_store.specs.declared.mark.Mark.TheVariants as mark
@@ -434,7 +434,7 @@ module _ (E : ℕ → ℕ → Bool) where
         left : (a b : Bool) → (a && b) ≡ true → a ≡ true
         left a b e = grind arith
 
-        plain : (q : Rattle.gx_session.specs.declared.state.Pending.Pending) → is_nothing q ≡ true → is_nothing_in q ≡ true
+        plain : (q : Rattle.gx_script.specs.declared.state.Pending.Pending) → is_nothing q ≡ true → is_nothing_in q ≡ true
         plain q e = grind arith
 
     pub event-holds : AreCalm c.locks → (x : NodeEvent) (fails : Bool) → coord_can script c x ≡ true → IsEndedIn x → Holding c (on_event script c x fails)

@@ -17,13 +17,14 @@ use Rattle.gx_law_commit.specs.Standings.Standing.{Preparing, One, Two, Over}
 pub record Grows (p q : Part) : Type 0 where
   pub last : p.last ≤ q.last
   pub wrote : q.last ≡ p.last → q.wrote ≡ p.wrote
+  pub writes : p.wrote ≡ true → q.wrote ≡ true
   pub prepared : was_prepared p.vote ≡ true → was_prepared q.vote ≡ true
   pub refused : p.vote ≡ Some reply.Jfault → q.vote ≡ Some reply.Jfault
   pub asked : q.vote ≡ None → p.vote ≡ None
   pub committed : has_committed p.phase ≡ true → has_committed q.phase ≡ true
 
 pub grows-same : (p : Part) → Grows p p
-grows-same p = record { last = le-refl p.last; wrote = λ e. refl; prepared = λ e. e; refused = λ e. e; asked = λ e. e; committed = λ e. e }
+grows-same p = record { last = le-refl p.last; wrote = λ e. refl; writes = λ e. e; prepared = λ e. e; refused = λ e. e; asked = λ e. e; committed = λ e. e }
   where
     le-refl : (a : ℕ) → a ≤ a
     le-refl a = omega arith
@@ -57,7 +58,7 @@ two-grows k p q g (inr e) = inr (g.committed e)
 -- what was said stays true
 pub said-grows : (k : Known) (p q : Part) (m : Message) → Grows p q → Pair k q → Said k p m → Said k q m
 said-grows k p q (message.Exec g c level x h y) r e s = command-grows k p q c.0 r s
-said-grows k p q (message.Prepare g) r e s = λ n. s (r.asked n)
+said-grows k p q (message.Prepare g) r e s = (r.writes s.0, λ n. s.1 (r.asked n))
 said-grows k p q (message.Commit g) r e s = λ n. s (r.asked n)
 said-grows k p q (message.CommitPrepared g) r e s = two-grows k p q r s
 said-grows k p q (message.Abort g) r e s = s
@@ -100,7 +101,7 @@ promise-next k p e v o s =
         alone = λ b x. grind (arith, nat_tests);
         both = λ b x. grind (arith, nat_tests);
       };
-      grows = record { last = grind (arith, nat_tests); wrote = λ x. refl; prepared = λ x. refl; refused = λ x. grind (arith, nat_tests); asked = λ x. grind (arith, nat_tests); committed = λ x. grind (arith, nat_tests) };
+      grows = record { last = grind (arith, nat_tests); wrote = λ x. refl; writes = λ x. x; prepared = λ x. refl; refused = λ x. grind (arith, nat_tests); asked = λ x. grind (arith, nat_tests); committed = λ x. grind (arith, nat_tests) };
     }
 
 -- a journal that fails
@@ -132,7 +133,7 @@ refuse-next k p e v o s =
         alone = λ b x. grind (arith, nat_tests);
         both = λ b x. grind (arith, nat_tests);
       };
-      grows = record { last = grind (arith, nat_tests); wrote = λ x. refl; prepared = λ x. grind (arith, nat_tests); refused = λ x. refl; asked = λ x. grind (arith, nat_tests); committed = λ x. x };
+      grows = record { last = grind (arith, nat_tests); wrote = λ x. refl; writes = λ x. x; prepared = λ x. grind (arith, nat_tests); refused = λ x. refl; asked = λ x. grind (arith, nat_tests); committed = λ x. x };
     }
 
 -- a commit in one phase
@@ -164,7 +165,7 @@ commit-next k p e v o s =
         alone = λ b x. grind (arith, nat_tests);
         both = λ b x. grind (arith, nat_tests);
       };
-      grows = record { last = grind (arith, nat_tests); wrote = λ x. refl; prepared = λ x. grind (arith, nat_tests); refused = λ x. grind (arith, nat_tests); asked = λ x. grind (arith, nat_tests); committed = λ x. refl };
+      grows = record { last = grind (arith, nat_tests); wrote = λ x. refl; writes = λ x. x; prepared = λ x. grind (arith, nat_tests); refused = λ x. grind (arith, nat_tests); asked = λ x. grind (arith, nat_tests); committed = λ x. refl };
     }
 
 -- a commit as promised
@@ -196,7 +197,7 @@ finish-next k p e v s =
         alone = λ b x. grind (arith, nat_tests);
         both = λ b x. grind (arith, nat_tests);
       };
-      grows = record { last = grind (arith, nat_tests); wrote = λ x. refl; prepared = λ x. x; refused = λ x. x; asked = λ x. x; committed = λ x. refl };
+      grows = record { last = grind (arith, nat_tests); wrote = λ x. refl; writes = λ x. x; prepared = λ x. x; refused = λ x. x; asked = λ x. x; committed = λ x. refl };
     }
   where
     finished : (v : Option Reply) → was_prepared v ≡ true → IsVote Committed v
@@ -234,7 +235,7 @@ end-next k p phase e o n c s =
         alone = λ b x. grind (arith, nat_tests);
         both = λ b x. grind (arith, nat_tests);
       };
-      grows = record { last = grind (arith, nat_tests); wrote = λ x. refl; prepared = λ x. x; refused = λ x. x; asked = λ x. x; committed = λ x. grind (arith, nat_tests) };
+      grows = record { last = grind (arith, nat_tests); wrote = λ x. refl; writes = λ x. x; prepared = λ x. x; refused = λ x. x; asked = λ x. x; committed = λ x. grind (arith, nat_tests) };
     }
 
 -- a command
@@ -272,7 +273,7 @@ run-next k p phase c r w e o q h l kept m =
         alone = λ b x. absurd (beyond p.last c l (m.closed (one k.at b x)));
         both = λ b x. absurd (beyond p.last c l (m.closed (two k.at b x)));
       };
-      grows = record { last = less p.last c l; wrote = λ x. absurd (beyond p.last c l (same-le c p.last x)); prepared = λ x. x; refused = λ x. x; asked = λ x. x; committed = λ x. still p.phase phase o x };
+      grows = record { last = less p.last c l; wrote = λ x. absurd (beyond p.last c l (same-le c p.last x)); writes = λ x. or-first p.wrote w x; prepared = λ x. x; refused = λ x. x; asked = λ x. x; committed = λ x. still p.phase phase o x };
     }
   where
     opens : (a b : Phase) → is_open a ≡ true → is_open b ≡ true → (n : ℕ) → n ≡ bit (has_committed a) → n ≡ bit (has_committed b)

@@ -21,7 +21,7 @@ use Rattle.gx_store.specs.declared.answer.StmtAnswer.TheVariants as told
 use Rattle.gx_store.specs.declared.mark.Mark.{Mark}
 use Rattle.gx_store.specs.declared.mark.Mark.TheVariants as mark
 use Rattle.gx_store.specs.Marks.{is_aborted, is_committed}
-use Rattle.gx_store.specs.Protocol.{decided_count, is_writer, local_count, prepared_count, writers_of}
+use Rattle.gx_store.specs.Protocol.{AreSeveral, Decides, decided_count, is_writer, local_count, prepared_count, writers_of}
 use Rattle.gx_store.specs.Refusals.{the_coordinator}
 use Rattle.gx_rules.specs.AtCoordinator.{answer_mark, failure_marks, follows, on_status}
 use Rattle.gx_rules.specs.AtSegment.{was_prepared}
@@ -35,10 +35,10 @@ use Rattle.gx_law_commit.specs.Said.{Answers}
 use Rattle.gx_law_commit.specs.Standings.{Known, Part, Standing, at, gx, is_closing, is_undecided, known_at, known_of, standing, standing_in}
 use Rattle.gx_law_commit.specs.Standings.Standing.{Unborn, Live, Preparing, One, Two, Over}
 use Rattle.gx_law_commit.proofs.Calls.{CanEnd, Elsewhere, Mute, abort-led, becomes-calm, calm-led, committed-led, ended-follows, for-all, known, one-change, or-none, plus-none, self, stands-as, still-led, to-nodes, unaborted, uncommitted, not-self, back-mute}
-use Rattle.gx_law_commit.proofs.Commits.{AtMostOne, Decision, few, filter-few, filter-many, many}
+use Rattle.gx_law_commit.proofs.Commits.{AtMostOne, Decision, few, filter-few, filter-many, many, several}
 use Rattle.gx_law_commit.proofs.Nodes.{AreApart, each-has, has-without}
 use Rattle.gx_law_commit.proofs.Shifts.{Shift, decide-shift, deciding, finished-shift, promised-shift, shift-same}
-use Rattle.gx_law_commit.proofs.Ways.{Agrees, AgreesIn, IsMany, Led, Stands, at-one, becomes, known-here}
+use Rattle.gx_law_commit.proofs.Ways.{Agrees, AgreesIn, Led, Stands, at-one, becomes, known-here}
 use Rattle.gx_rules.specs.Locks.{release_marks}
 
 pub take-length : {A : Type 0} (xs ys : List A) → take (length xs) (xs ++ ys) ≡ xs
@@ -67,6 +67,24 @@ module _ (script : Script) (P : ℕ → ℕ → Part) (c : Coord) (ms : List Mar
 
   writer-is : (i : ℕ) → is_closing (k i).at ≡ true → is_writer ms (gx g) (at i) ≡ has (at i) ws
   writer-is i e = (s.parts i g).wrote ∙ sym ((pair i).closing e)
+
+  -- two of the writers
+  two-writers : ((i : ℕ) → is_writer ms (gx g) (at i) ≡ has (at i) ws) → AreSeveral ws → AtMostOne (writers_of script ms (gx g)) → ⊥
+  two-writers writes = by_list ws refl
+    where
+      first : (x : ℕ) (b : Bool) → (eqb x x || b) ≡ true
+      first x b = grind (arith, nat_tests)
+
+      second : (x y : ℕ) (b : Bool) → (eqb x y || (eqb y y || b)) ≡ true
+      second x y b = grind (arith, nat_tests)
+
+      by_list : (zs : List Node) → ws ≡ zs → AreSeveral ws → AtMostOne (writers_of script ms (gx g)) → ⊥
+      by_list [] q m = absurd (subst AreSeveral q m)
+      by_list (x ∷ []) q m = absurd (subst AreSeveral q m)
+      by_list (x ∷ y ∷ zs) q m =
+          let apart : AreApart (x ∷ y ∷ zs) = subst AreApart q (s.works g).apart in
+          let inside : AreIn script.segments (x ∷ y ∷ zs) = subst (AreIn script.segments) q ins in
+          filter-many (is_writer ms (gx g)) script.segments x.0 y.0 (writes x.0 ∙ ap (has x) q ∙ first x.0 _) (writes y.0 ∙ ap (has y) q ∙ second x.0 y.0 _) inside.0.0 inside.0.1 inside.1.0.0 inside.1.0.1 apart.0.0
 
   module _ (t : Txn) (f : find_txn c.table (gx g) ≡ Some t) where
     abbrev Gives : Change → Type 0
@@ -144,7 +162,7 @@ module _ (script : Script) (P : ℕ → ℕ → Part) (c : Coord) (ms : List Mar
             let o = one-change script P c ms s whole g t f ch turn.coord turn.marks (c.works g) refl (λ h. same h (eqb h g) refl) (record { others = λ h n. (other h (not-self g h n), refl, refl) }) in
             record {
               way = at-one script P c turn.coord ms turn.marks g (left_of ch.step (Some t)) (c.works g) o s (λ i. subst (λ q. Shift (k i) q (P i g)) (sym (known-now i)) (decide-shift (has (at i) aw) (has (at i) xs) (k i) (P i g) (pair i) (at-preparing i) (all-promised none i) (ap (has (at i)) (agrees-in (status.Preparing xs aw) e).0)))
-                  (s.works g) ((agrees-in (status.Preparing xs aw) e).1, decision) ((neither (is_committed ms (gx g)) (is_aborted ms (gx g)) (uncommitted script P c ms s whole g t f (k 0) (P 0 g) (pair 0) (not-over 0 (preparing-closing 0))) (unaborted script P c ms s whole g t f (k 0) (P 0 g) (pair 0) (not-over 0 (preparing-closing 0))), (pair 0).undecided (ap is_undecided (at-preparing 0))), tt);
+                  (s.works g) ((agrees-in (status.Preparing xs aw) e).1, decision) (decides-here, tt);
               outs = to-nodes _ (message.CommitPrepared (gx g)) xs (each_weaker (λ (y : Node). has y xs ≡ true) _ (λ y h. (refl, inl (ap (λ (q : Known). q.at) (known-here script P c turn.coord ms turn.marks g (left_of ch.step (Some t)) (c.works g) o y.0) ∙ ap Two h), tt)) xs (each-has xs));
             }
           where
@@ -154,6 +172,19 @@ module _ (script : Script) (P : ℕ → ℕ → Part) (c : Coord) (ms : List Mar
 
             neither : (a b : Bool) → a ≡ false → b ≡ false → (a || b) ≡ false
             neither a b x y = grind arith
+
+            writes : (i : ℕ) → is_writer ms (gx g) (at i) ≡ has (at i) ws
+            writes i = writer-is i (preparing-closing i)
+
+            decides-here : Decides script ms (gx g)
+            decides-here =
+                record {
+                  running = neither (is_committed ms (gx g)) (is_aborted ms (gx g)) (uncommitted script P c ms s whole g t f (k 0) (P 0 g) (pair 0) (not-over 0 (preparing-closing 0))) (unaborted script P c ms s whole g t f (k 0) (P 0 g) (pair 0) (not-over 0 (preparing-closing 0)));
+                  first = (pair 0).undecided (ap is_undecided (at-preparing 0));
+                  several = several (writers_of script ms (gx g)) (two-writers writes (agrees-in (status.Preparing xs aw) e).1);
+                  promised = λ node. promised-is node.0 (has node ws) (all-promised none node.0) ∙ as-bit (has node ws) ∙ ap (λ b. if b then 1 else 0) (sym (writes node.0));
+                  uncommitted = λ node. local-is node.0 false (((pair node.0).asked (has node aw) (at-preparing node.0)).3);
+                }
 
             other : (h : ℕ) → eqb g h ≡ false → decided_count (mark.Decided (gx g) ∷ []) (gx h) ≡ 0
             other h q = ap (λ b. if b then 0 + 1 else 0) q
@@ -311,30 +342,12 @@ module _ (script : Script) (P : ℕ → ℕ → Part) (c : Coord) (ms : List Mar
       writes : (i : ℕ) → is_writer ms (gx g) (at i) ≡ has (at i) ws
       writes i = writer-is i (two-closing i)
 
-      -- two of the writers
-      two-writers : AtMostOne (writers_of script ms (gx g)) → ⊥
-      two-writers = by_list ws refl (agrees-in (status.CommittingTwo aw) e).0
-        where
-          first : (x : ℕ) (b : Bool) → (eqb x x || b) ≡ true
-          first x b = grind (arith, nat_tests)
-
-          second : (x y : ℕ) (b : Bool) → (eqb x y || (eqb y y || b)) ≡ true
-          second x y b = grind (arith, nat_tests)
-
-          by_list : (zs : List Node) → ws ≡ zs → IsMany ws → AtMostOne (writers_of script ms (gx g)) → ⊥
-          by_list [] q m = absurd (subst IsMany q m)
-          by_list (x ∷ []) q m = absurd (subst IsMany q m)
-          by_list (x ∷ y ∷ zs) q m =
-              let apart : AreApart (x ∷ y ∷ zs) = subst AreApart q (s.works g).apart in
-              let inside : AreIn script.segments (x ∷ y ∷ zs) = subst (AreIn script.segments) q ins in
-              filter-many (is_writer ms (gx g)) script.segments x.0 y.0 (writes x.0 ∙ ap (has x) q ∙ first x.0 _) (writes y.0 ∙ ap (has y) q ∙ second x.0 y.0 _) inside.0.0 inside.0.1 inside.1.0.0 inside.1.0.1 apart.0.0
-
       all-finished : without j aw ≡ [] → Gives (ends_committed (gx g) t.participants)
       all-finished r =
           let d : Decision ms ws g = (agrees-in (status.CommittingTwo aw) e).1 in
           subst (Led script P c ms) (sym (ended-follows script P c ms s whole g t f t.participants))
           (committed-led script P c ms s whole g t f t.participants (two-can r) (λ i x y. never (k i).at (has (at i) aw) (at-two i) y)
-          (many (writers_of script ms (gx g)) ms g two-writers
+          (many (writers_of script ms (gx g)) ms g (two-writers writes (agrees-in (status.CommittingTwo aw) e).0)
           (record {
             prepared = λ node. promised-is node.0 (has node ws) (((pair node.0).both (has node aw) (at-two node.0)).1) ∙ as-bit (has node ws) ∙ ap (λ b. if b then 1 else 0) (sym (writes node.0));
             decision = d.place;

@@ -41,7 +41,7 @@ answers-stay k n p t reply.Forgotten s = tt
 
 said-stays : (k n : Known) (p : Part) → Stays k n p → (m : Message) → Said k p m → Said n p m
 said-stays k n p t (message.Exec g c level x h y) s = t.command c.0 s
-said-stays k n p t (message.Prepare g) s = t.prepare s
+said-stays k n p t (message.Prepare g) s = (s.0, t.prepare s.1)
 said-stays k n p t (message.Commit g) s = t.commit s
 said-stays k n p t (message.CommitPrepared g) s = t.two s
 said-stays k n p t (message.Abort g) s = t.abort s

@@ -17,8 +17,8 @@ use Rattle.gx_msg.specs.declared.message.Out.{Out}
 use Rattle.gx_script.specs.declared.Script.{Script}
 use Rattle.gx_store.specs.declared.mark.Mark.{Mark}
 use Rattle.gx_store.specs.declared.mark.Mark.TheVariants as mark
-use Rattle.gx_store.specs.Marks.{is_aborted, is_committed, is_ended}
-use Rattle.gx_store.specs.Protocol.{CommitsBy, decided_count, is_writer, local_count, prepared_count, writers_of}
+use Rattle.gx_store.specs.Marks.{is_aborted, is_committed}
+use Rattle.gx_store.specs.Protocol.{AreSeveral, CommitsBy, Decides, decided_count, is_writer, local_count, prepared_count, writers_of}
 use Rattle.gx_rules.specs.Coordinators.{Command, Coord, CoordTurn, Work, rests}
 use Rattle.gx_law_order.proofs.Ends.{begun-finds}
 use Rattle.gx_law_order.proofs.Lines.{undrawn}
@@ -58,7 +58,7 @@ part-append p ms ns i g e o =
 -- WHAT THE COORDINATOR'S MARKS FOLLOW
 abbrev pub FolAt : Script → List Mark → Mark → Type 0
 FolAt script ms (mark.Commit g) = CommitsBy (writers_of script ms g) ms g
-FolAt script ms (mark.Decided g) = (is_ended ms g ≡ false) × (decided_count ms g ≡ 0)
+FolAt script ms (mark.Decided g) = Decides script ms g
 FolAt script ms (mark.Abort g) = (decided_count ms g ≡ 0) × ((segment : Node) → local_count ms segment g ≡ 0)
 FolAt script ms (mark.Write g c n t r x) = ⊥
 FolAt script ms (mark.Prepared n g) = ⊥
@@ -85,15 +85,10 @@ fol-no-part script ms [] e = tt
 fol-no-part script ms (m ∷ ns) e = (no-part-one script ms m e.0, fol-no-part script (ms ++ m ∷ []) ns e.1)
 
 -- WHAT IS KEPT OF A TRANSACTION
-abbrev pub IsMany : List Node → Type 0
-IsMany [] = ⊥
-IsMany (x ∷ []) = ⊥
-IsMany (x ∷ y ∷ ys) = Unit {0}
-
 -- the writers that are asked are those that are known
 abbrev pub AgreesIn : List Mark → ℕ → Status → List Node → Type 0
-AgreesIn ms g (status.Preparing xs awaited) ws = (xs ≡ ws) × IsMany ws
-AgreesIn ms g (status.CommittingTwo awaited) ws = IsMany ws × Decision ms ws g
+AgreesIn ms g (status.Preparing xs awaited) ws = (xs ≡ ws) × AreSeveral ws
+AgreesIn ms g (status.CommittingTwo awaited) ws = AreSeveral ws × Decision ms ws g
 AgreesIn ms g (status.Ended awaited) ws = is_committed ms (gx g) ≡ true
 AgreesIn ms g _ ws = Unit {0}
 

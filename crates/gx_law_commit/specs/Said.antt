@@ -37,7 +37,7 @@ pub record IsCommand (k : Known) (p : Part) (c : ℕ) : Type 0 where
 
 abbrev pub Said : Known → Part → Message → Type 0
 Said k p (message.Exec g c level snapshot horizon slice) = IsCommand k p c.0
-Said k p (message.Prepare g) = p.vote ≡ None → (k.at ≡ Preparing true) ⊎ (k.aborted ≡ true)
+Said k p (message.Prepare g) = (p.wrote ≡ true) × (p.vote ≡ None → (k.at ≡ Preparing true) ⊎ (k.aborted ≡ true))
 Said k p (message.Commit g) = p.vote ≡ None → k.at ≡ One true
 Said k p (message.CommitPrepared g) = (k.at ≡ Two true) ⊎ (has_committed p.phase ≡ true)
 Said k p (message.Abort g) = k.aborted ≡ true

@@ -8,9 +8,9 @@ use Rattle.gx_dtx.specs.Table.{Table, find_txn}
 use Rattle.gx_dtx.specs.declared.outcome.Outcome.{Outcome}
 use Rattle.gx_dtx.specs.declared.outcome.Outcome.TheVariants as outcome
 use Rattle.gx_dtx.specs.declared.txn.Txn.{Txn}
-use Rattle.gx_session.specs.Session.{after_done, after_refused}
-use Rattle.gx_session.specs.declared.state.Block.TheVariants.{Outside}
-use Rattle.gx_session.specs.declared.state.Pending.TheVariants as pending
+use Rattle.gx_script.specs.Session.{after_done, after_refused}
+use Rattle.gx_script.specs.declared.state.Block.TheVariants.{Outside}
+use Rattle.gx_script.specs.declared.state.Pending.TheVariants as pending
 use Rattle.gx_store.specs.declared.answer.Refused.{Refused}
 use Rattle.gx_store.specs.declared.answer.StmtAnswer.TheVariants as told
 use Rattle.gx_store.specs.declared.mark.Mark.{Mark}

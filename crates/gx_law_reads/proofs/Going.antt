@@ -27,11 +27,11 @@ use Rattle.gx_msg.specs.declared.message.Out.{Out}
 use Rattle.gx_meaning.specs.Plan.{plan_of}
 use Rattle.gx_meaning.specs.declared.piece.Piece.{Piece}
 use Rattle.gx_script.specs.declared.Script.{Script}
-use Rattle.gx_session.specs.Session.{line_step}
-use Rattle.gx_session.specs.declared.line_step.LineStep.{LineStep}
-use Rattle.gx_session.specs.declared.line_step.LineStep.TheVariants as step
-use Rattle.gx_session.specs.declared.state.Block.{Block}
-use Rattle.gx_session.specs.declared.state.Block.TheVariants.{Failed, Open, Outside}
+use Rattle.gx_script.specs.Session.{line_step}
+use Rattle.gx_script.specs.declared.line_step.LineStep.{LineStep}
+use Rattle.gx_script.specs.declared.line_step.LineStep.TheVariants as step
+use Rattle.gx_script.specs.declared.state.Block.{Block}
+use Rattle.gx_script.specs.declared.state.Block.TheVariants.{Failed, Open, Outside}
 use Rattle.gx_store.specs.Writes.{dist_of}
 use Rattle.gx_store.specs.declared.node.NodeEvent.{NodeEvent}
 use Rattle.gx_store.specs.declared.node.NodeEvent.TheVariants as event
@@ -318,7 +318,7 @@ module _ (script : Script) (c : Coord) (s : Stood c.table c.works) (latest : Lat
   start-went calm session (Some line) = line-went calm session line (line_step (session_of c session).state.block line)
 
   end-went : (session : SessionId) (b : Block) → WentBy c (ends_in c session b)
-  end-went session (Open level) = let x = rolled-went (Rattle.gx_rules.specs.Coordinators.with_state c session Rattle.gx_session.specs.Session.idle_outside) (session_of c session).transaction.0 [] s in record { went = x.went; outs = x.outs }
+  end-went session (Open level) = let x = rolled-went (Rattle.gx_rules.specs.Coordinators.with_state c session Rattle.gx_script.specs.Session.idle_outside) (session_of c session).transaction.0 [] s in record { went = x.went; outs = x.outs }
   end-went session Failed = let x = rest-went c s in record { went = x.went; outs = tt }
   end-went session Outside = rest-went c s
 

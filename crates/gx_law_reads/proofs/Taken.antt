@@ -32,12 +32,12 @@ use Rattle.gx_msg.specs.declared.reply.Reply.TheVariants as reply
 use Rattle.gx_meaning.specs.Plan.{plan_of}
 use Rattle.gx_meaning.specs.declared.piece.Piece.{Piece}
 use Rattle.gx_script.specs.declared.Script.{Script}
-use Rattle.gx_session.specs.Session.{idle_outside, line_step}
-use Rattle.gx_session.specs.declared.line_step.LineStep.{LineStep}
-use Rattle.gx_session.specs.declared.line_step.LineStep.TheVariants as step
-use Rattle.gx_session.specs.declared.state.Block.{Block}
-use Rattle.gx_session.specs.declared.state.Block.TheVariants.{Failed, Open, Outside}
-use Rattle.gx_session.specs.declared.state.Pending.{Pending}
+use Rattle.gx_script.specs.Session.{idle_outside, line_step}
+use Rattle.gx_script.specs.declared.line_step.LineStep.{LineStep}
+use Rattle.gx_script.specs.declared.line_step.LineStep.TheVariants as step
+use Rattle.gx_script.specs.declared.state.Block.{Block}
+use Rattle.gx_script.specs.declared.state.Block.TheVariants.{Failed, Open, Outside}
+use Rattle.gx_script.specs.declared.state.Pending.{Pending}
 use Rattle.gx_store.specs.declared.answer.Refused.{Refused}
 use Rattle.gx_store.specs.declared.mark.Mark.{Mark}
 use Rattle.gx_store.specs.declared.mark.Mark.TheVariants as mark
@@ -356,7 +356,7 @@ module _ (script : Script) (w : World) (k : Knows script w) (v : Holds script w)
     started asked = starts_line w.coord s asked
 
     own-same : (asked : LineStep) → (session_of (started asked) s).transaction.0 ≡ g1
-    own-same asked = ap (λ b. (let x : Session = if b then record (session_of w.coord s) { lines = (session_of w.coord s).lines + 1; state = Rattle.gx_session.specs.Session.after_line (session_of w.coord s).state.block asked } else session_of w.coord s in x).transaction.0) (self s.0)
+    own-same asked = ap (λ b. (let x : Session = if b then record (session_of w.coord s) { lines = (session_of w.coord s).lines + 1; state = Rattle.gx_script.specs.Session.after_line (session_of w.coord s).state.block asked } else session_of w.coord s in x).transaction.0) (self s.0)
 
     line-pass : (line : Stmt) (asked : LineStep) → Rattle.gx_law_order.proofs.Lines.Asks (session_of w.coord s).state.block asked → Passes (on_line script (started asked) s line asked)
     line-pass line (step.Answer x) a = plain (on_line script (started (step.Answer x)) s line (step.Answer x)) tt (tt, tt)

@@ -54,7 +54,8 @@ shown_to_all s snapshot table = rows_in (last_images (filter (λ v. (v.table.0 =
 -- a segment's part of a table's committed rows
 pub record ShowsCommitted (w : World) (node : Node) (table : Table) : Type 0 where
   pub rising : AreRising (shown_to_all (w.segs node.0) (snapshot_of w.coord.table) table)
-  pub images : (rid : Rid) → IsOnlyAt node rid (marks_in w.steps) → row_at (shown_to_all (w.segs node.0) (snapshot_of w.coord.table) table) rid ≡ image (marks_in w.steps) (marks_in w.steps) None table rid
+  pub images : (rid : Rid) → IsOnlyAt node rid (marks_in w.steps)
+      → row_at (shown_to_all (w.segs node.0) (snapshot_of w.coord.table) table) rid ≡ image (marks_in w.steps) (marks_in w.steps) None table rid
 
 -- each row is written at one segment alone
 abbrev pub AreAtHome : List Mark → Type 0
@@ -89,5 +90,6 @@ AreShownViews w (letter ∷ letters) = IsShownView w letter.to letter.envelope.m
 -- alone, at the place of any mark so far.
 abbrev pub DoViewsStay : World → World → Type 0
 DoViewsStay w late =
-    (node : Node) (g : Gxid) (c : Cid) (place : ℕ) (m : Mark) (table : Table) (rid : Rid) → c.0 ≤ (local_of (w.segs node.0) g).last → slice_get (marks_in w.steps) place ≡ Some m → IsOnlyAt node rid (marks_in late.steps)
+    (node : Node) (g : Gxid) (c : Cid) (place : ℕ) (m : Mark) (table : Table) (rid : Rid) → c.0 ≤ (local_of (w.segs node.0) g).last
+    → slice_get (marks_in w.steps) place ≡ Some m → IsOnlyAt node rid (marks_in late.steps)
     → image (marks_in late.steps) (take place (marks_in late.steps)) (Some (g, c)) table rid ≡ image (marks_in w.steps) (take place (marks_in w.steps)) (Some (g, c)) table rid

@@ -14,8 +14,8 @@ use Rattle.gx_dtx.specs.declared.txn.Txn.{Txn}
 use Rattle.gx_msg.specs.declared.reply.Cause.{Cause}
 use Rattle.gx_msg.specs.declared.reply.Reply.{Reply}
 use Rattle.gx_msg.specs.declared.reply.Reply.TheVariants as reply
-use Rattle.gx_session.specs.declared.state.Block.{Block}
-use Rattle.gx_session.specs.declared.state.Block.TheVariants as block
+use Rattle.gx_script.specs.declared.state.Block.{Block}
+use Rattle.gx_script.specs.declared.state.Block.TheVariants as block
 use Rattle.gx_rules.specs.AtCoordinator.{completes, goes_on, is_awaited, is_refused, item_for, on_answer, on_done, on_failed, on_status, order_to, reason_of, takes_done, with_done, writers_with}
 use Rattle.gx_rules.specs.Coordinators.{Command, Coord, Work, rests, with_work, work_of}
 use Rattle.gx_rules.specs.Fits.{fits_part}

@@ -14,12 +14,12 @@ use Rattle.gx_dtx.specs.Table.{horizon_of}
 use Rattle.gx_meaning.specs.declared.fault.ArithFault.{ArithFault}
 use Rattle.gx_meaning.specs.declared.piece.Piece.{Piece}
 use Rattle.gx_script.specs.declared.Script.{Script}
-use Rattle.gx_session.specs.Session.{after_line, idle_outside, line_step}
-use Rattle.gx_session.specs.declared.line_step.LineStep.{LineStep}
-use Rattle.gx_session.specs.declared.line_step.LineStep.TheVariants as step
-use Rattle.gx_session.specs.declared.state.Block.{Block}
-use Rattle.gx_session.specs.declared.state.Block.TheVariants.{Outside, Open, Failed}
-use Rattle.gx_session.specs.declared.state.Pending.{Pending}
+use Rattle.gx_script.specs.Session.{after_line, idle_outside, line_step}
+use Rattle.gx_script.specs.declared.line_step.LineStep.{LineStep}
+use Rattle.gx_script.specs.declared.line_step.LineStep.TheVariants as step
+use Rattle.gx_script.specs.declared.state.Block.{Block}
+use Rattle.gx_script.specs.declared.state.Block.TheVariants.{Outside, Open, Failed}
+use Rattle.gx_script.specs.declared.state.Pending.{Pending}
 use Rattle.gx_store.specs.declared.mark.Mark.TheVariants as mark
 use Rattle.gx_store.specs.Writes.{dist_of}
 use Rattle.gx_rules.specs.AtCoordinator.{Reading, begins, behind, commits, dispatches, ends_in, fault_mark, goes, is_idle, kept_at, next_cid, nodes_in, on_line, order_of, order_to, orders_of, reads_by, reads_for, refusal_of, starts_line, table_of, goes_on_locked, if_granted, lock_for, requests}

@@ -73,7 +73,8 @@ pub fn next_lines_are_started()
 /// A session has a next line exactly where the coordinator admits its start.
 pub fn starts_are_admitted()
     ensures { (script : Script) (events : List (OneEvent × Bool)) (session : OneSession) → 1 ≤ script.segments
-        → list_any (λ line. is_same_session line.session session && schedule.is_next (world_of script events).steps line) script.lines ≡ coord_can script (world_of script events).coord (here.Start session) }
+        → list_any (λ line. is_same_session line.session session && schedule.is_next (world_of script events).steps line) script.lines
+        ≡ coord_can script (world_of script events).coord (here.Start session) }
 {}
 
 /// A session is to be ended exactly where the coordinator admits its end.

@@ -1,18 +1,17 @@
 -- What answers say, by the block and the line.
-use Rattle.std.proofs.Common.{◌≡◌, ℕ, ◌+◌, true, false, Bool, refl}
+use Rattle.std.proofs.Common.{◌≡◌, ℕ, ◌+◌, true, false, not, refl, ap}
 use Rattle.gx_ids.specs.declared.ids.SessionId.{SessionId}
 use Rattle.gx_tree.specs.declared.stmt.Stmt.{Stmt}
 use Rattle.gx_tree.specs.declared.stmt.Stmt.TheVariants as stmt
 use Rattle.gx_script.specs.declared.Script.{Script}
 use Rattle.gx_store.specs.declared.answer.Refused.{Refused}
-use Rattle.gx_store.specs.declared.answer.Refused.TheVariants as refused
 use Rattle.gx_store.specs.declared.answer.StmtAnswer.{StmtAnswer}
 use Rattle.gx_store.specs.declared.answer.StmtAnswer.TheVariants as told
 use Rattle.gx_store.specs.Answers.{IsAnswer, IsDone}
 use Rattle.gx_store.specs.Legal.{may_abort}
 use Rattle.gx_store.specs.Lines.{BlockState, Outside, InBlock, Failed, is_command, is_on_rows, state_after}
 use Rattle.gx_store.specs.Points.{Point}
-use Rattle.gx_store.specs.Refusals.{IsRefusal}
+use Rattle.gx_store.specs.Refusals.{IsRefusal, is_journal, may_refuse}
 use Rattle.gx_rules.specs.AtCoordinator.{command_answer}
 use Rattle.gx_rules.specs.Coordinators.{Command}
 use Rattle.gx_law_sessions.specs.Rest.{IsTold, RestAnswer}
@@ -20,29 +19,21 @@ use Rattle.gx_law_sessions.specs.Rest.{IsTold, RestAnswer}
 differ : false ≡ true → ⊥
 differ e = cc
 
-abbrev pub is_journal : Refused → Bool
-is_journal (refused.JournalFault node) = true
-is_journal _ = false
-
--- a line that may be refused for this: a command, or COMMIT in its block for a journal
-abbrev pub is_refusable : BlockState → Stmt → Refused → Bool
-is_refusable (InBlock level commands) stmt.Commit reason = is_journal reason
-is_refusable state line reason = is_command state line
-
-pub command-refusable : (b : BlockState) (line : Stmt) (reason : Refused) → is_command b line ≡ true → is_refusable b line reason ≡ true
-command-refusable Outside line reason e = e
-command-refusable (InBlock l c) stmt.Commit reason e = absurd (differ e)
-command-refusable (InBlock l c) (stmt.Begin level) reason e = e
-command-refusable (InBlock l c) stmt.Rollback reason e = e
-command-refusable (InBlock l c) (stmt.Select q) reason e = e
-command-refusable (InBlock l c) (stmt.Insert t x) reason e = e
-command-refusable (InBlock l c) (stmt.Update t x y) reason e = e
-command-refusable (InBlock l c) (stmt.Delete t x) reason e = e
-command-refusable (InBlock l c) (stmt.Lock t m) reason e = e
-command-refusable Failed line reason e = e
+-- a command may be refused for what isn't a journal
+pub command-refusable : (b : BlockState) (line : Stmt) (reason : Refused) → is_command b line ≡ true → is_journal reason ≡ false → may_refuse b line reason ≡ true
+command-refusable Outside line reason e j = e
+command-refusable (InBlock l c) stmt.Commit reason e j = absurd (differ e)
+command-refusable (InBlock l c) (stmt.Begin level) reason e j = absurd (differ e)
+command-refusable (InBlock l c) stmt.Rollback reason e j = absurd (differ e)
+command-refusable (InBlock l c) (stmt.Select q) reason e j = ap not j
+command-refusable (InBlock l c) (stmt.Insert t x) reason e j = ap not j
+command-refusable (InBlock l c) (stmt.Update t x y) reason e j = ap not j
+command-refusable (InBlock l c) (stmt.Delete t x) reason e j = ap not j
+command-refusable (InBlock l c) (stmt.Lock t m) reason e j = ap not j
+command-refusable Failed line reason e j = e
 
 module _ (script : Script) (point : Point) (k : SessionId) where
-  pub refused-is : (b : BlockState) (line : Stmt) (reason : Refused) → is_refusable b line reason ≡ true → IsRefusal script point k b line reason → IsAnswer script point k b line (told.Refused reason)
+  pub refused-is : (b : BlockState) (line : Stmt) (reason : Refused) → may_refuse b line reason ≡ true → IsRefusal script point k b line reason → IsAnswer script point k b line (told.Refused reason)
   refused-is Outside (stmt.Select q) reason e h = h
   refused-is Outside (stmt.Insert t x) reason e h = h
   refused-is Outside (stmt.Update t x y) reason e h = h
@@ -56,13 +47,7 @@ module _ (script : Script) (point : Point) (k : SessionId) where
   refused-is (InBlock l c) (stmt.Update t x y) reason e h = h
   refused-is (InBlock l c) (stmt.Delete t x) reason e h = h
   refused-is (InBlock l c) (stmt.Lock t m) reason e h = h
-  refused-is (InBlock l c) stmt.Commit (refused.Serialization rid g) e h = absurd (differ e)
-  refused-is (InBlock l c) stmt.Commit (refused.Victim round) e h = absurd (differ e)
-  refused-is (InBlock l c) stmt.Commit refused.Overflow e h = absurd (differ e)
-  refused-is (InBlock l c) stmt.Commit refused.DivisionByZero e h = absurd (differ e)
-  refused-is (InBlock l c) stmt.Commit refused.InFailedBlock e h = absurd (differ e)
-  refused-is (InBlock l c) stmt.Commit refused.NotInBlock e h = absurd (differ e)
-  refused-is (InBlock l c) stmt.Commit (refused.JournalFault node) e h = h
+  refused-is (InBlock l c) stmt.Commit reason e h = h
   refused-is (InBlock l c) (stmt.Begin level) reason e h = absurd (differ e)
   refused-is (InBlock l c) stmt.Rollback reason e h = absurd (differ e)
   refused-is Failed line reason e h = absurd (differ e)
@@ -143,14 +128,14 @@ refused-inside l n (stmt.Begin level) r e = absurd (differ e)
 refused-inside l n stmt.Commit r e = absurd (differ e)
 refused-inside l n stmt.Rollback r e = absurd (differ e)
 
-pub may-abort-refusable : (b : BlockState) (line : Stmt) (reason : Refused) → is_refusable b line reason ≡ true → may_abort b line ≡ true
+pub may-abort-refusable : (b : BlockState) (line : Stmt) (reason : Refused) → may_refuse b line reason ≡ true → may_abort b line ≡ true
 may-abort-refusable Outside line reason e = e
 may-abort-refusable (InBlock l c) stmt.Commit reason e = refl
 may-abort-refusable (InBlock l c) stmt.Rollback reason e = refl
-may-abort-refusable (InBlock l c) (stmt.Begin level) reason e = e
-may-abort-refusable (InBlock l c) (stmt.Select q) reason e = e
-may-abort-refusable (InBlock l c) (stmt.Insert t x) reason e = e
-may-abort-refusable (InBlock l c) (stmt.Update t x y) reason e = e
-may-abort-refusable (InBlock l c) (stmt.Delete t x) reason e = e
-may-abort-refusable (InBlock l c) (stmt.Lock t m) reason e = e
+may-abort-refusable (InBlock l c) (stmt.Begin level) reason e = absurd (differ e)
+may-abort-refusable (InBlock l c) (stmt.Select q) reason e = refl
+may-abort-refusable (InBlock l c) (stmt.Insert t x) reason e = refl
+may-abort-refusable (InBlock l c) (stmt.Update t x y) reason e = refl
+may-abort-refusable (InBlock l c) (stmt.Delete t x) reason e = refl
+may-abort-refusable (InBlock l c) (stmt.Lock t m) reason e = refl
 may-abort-refusable Failed line reason e = e

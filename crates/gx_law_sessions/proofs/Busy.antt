@@ -11,11 +11,11 @@ use Rattle.gx_tree.specs.declared.stmt.Stmt.{Stmt}
 use Rattle.gx_tree.specs.declared.stmt.Stmt.TheVariants as stmt
 use Rattle.gx_dtx.specs.Rules.{Turn}
 use Rattle.gx_script.specs.declared.Script.{Script}
-use Rattle.gx_session.specs.Session.{after_done, block_after_done}
-use Rattle.gx_session.specs.declared.state.Block.{Block}
-use Rattle.gx_session.specs.declared.state.Block.TheVariants as block
-use Rattle.gx_session.specs.declared.state.Pending.{Pending}
-use Rattle.gx_session.specs.declared.state.Pending.TheVariants as pending
+use Rattle.gx_script.specs.Session.{after_done, block_after_done}
+use Rattle.gx_script.specs.declared.state.Block.{Block}
+use Rattle.gx_script.specs.declared.state.Block.TheVariants as block
+use Rattle.gx_script.specs.declared.state.Pending.{Pending}
+use Rattle.gx_script.specs.declared.state.Pending.TheVariants as pending
 use Rattle.gx_store.specs.declared.answer.StmtAnswer.{StmtAnswer}
 use Rattle.gx_store.specs.declared.answer.StmtAnswer.TheVariants as told
 use Rattle.gx_store.specs.declared.event.Event.{Event}
@@ -48,7 +48,7 @@ use Rattle.gx_law_sessions.proofs.AtLine.{AtLine, answered-now, at-calm, has_txn
 use Rattle.gx_law_sessions.proofs.Awaited.{IsAwaited, IsSettled, OutAwaits, OwnIn, none-awaited, own-none}
 use Rattle.gx_law_sessions.proofs.Ends.{Fresh, IsOf}
 use Rattle.gx_law_sessions.proofs.Frame.{Does, owns-more}
-use Rattle.gx_law_sessions.proofs.Gathers.{Gathers, GathersIn, HeardNow, gathered-is}
+use Rattle.gx_law_sessions.proofs.Gathers.{Gathers, GathersIn, HeardNow, gathered-back, gathered-is}
 use Rattle.gx_law_sessions.proofs.Given.{Given}
 use Rattle.gx_law_sessions.proofs.Outs.{CommandIs, IsBare, OutIs}
 use Rattle.gx_law_sessions.proofs.Roots.{roots-answered, roots-on}
@@ -235,6 +235,7 @@ module _ (script : Script) (steps : List Step) (c : Coord) (from : Node) (to : N
           transaction = subst (λ z. transaction_of z s (ms ++ earlier) ≡ Some g) a.said.state (transaction-is script steps e s line n b (is_alone B P) (Some g) earlier a later g has-txn refl);
           end = end;
           told = told-is script (record { steps = steps; event = e; earlier = earlier; later = later }) s b line m cmd rest line (level_of b) g (cid_of b) (runs-command script steps e s line n b (is_alone B P) (Some g) earlier a later g has-txn refl cmd) gathered;
+          back = gathered-back script (record { steps = steps; event = e; earlier = earlier; later = later }) g (cid_of b) line (command_answer m line) gathered;
         })
 
     gathered-here : (m : Command) → Gathers script (HeardNow steps e) g m → m.awaited ≡ [] → m.cid ≡ cid_of b → m.stmt ≡ line → (earlier later : List Mark) → IsGathered script (record { steps = steps; event = e; earlier = earlier; later = later }) g (cid_of b) line (command_answer m line)

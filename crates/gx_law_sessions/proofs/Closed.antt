@@ -3,11 +3,11 @@ use Rattle.std.proofs.Common.{◌≡◌, ◌≤◌, inl, inr, ℕ, ◌+◌, List
 use Rattle.std.proofs.lemmas.Bool.Decides.{nat_tests}
 use Rattle.gx_ids.specs.declared.ids.SessionId.{SessionId}
 use Rattle.gx_script.specs.declared.Script.{Script}
-use Rattle.gx_session.specs.Session.{idle_outside}
-use Rattle.gx_session.specs.declared.state.Block.{Block}
-use Rattle.gx_session.specs.declared.state.Block.TheVariants as block
-use Rattle.gx_session.specs.declared.state.Pending.{Pending}
-use Rattle.gx_session.specs.declared.state.Pending.TheVariants as pending
+use Rattle.gx_script.specs.Session.{idle_outside}
+use Rattle.gx_script.specs.declared.state.Block.{Block}
+use Rattle.gx_script.specs.declared.state.Block.TheVariants as block
+use Rattle.gx_script.specs.declared.state.Pending.{Pending}
+use Rattle.gx_script.specs.declared.state.Pending.TheVariants as pending
 use Rattle.gx_dtx.specs.Rules.{on_abort}
 use Rattle.gx_store.specs.declared.event.Event.TheVariants as event
 use Rattle.gx_store.specs.declared.mark.Mark.{Mark}

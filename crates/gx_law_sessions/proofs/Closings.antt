@@ -23,11 +23,11 @@ use Rattle.gx_msg.specs.declared.reply.Cause.{Cause}
 use Rattle.gx_msg.specs.declared.reply.Reply.{Reply}
 use Rattle.gx_msg.specs.declared.reply.Reply.TheVariants as reply
 use Rattle.gx_script.specs.declared.Script.{Script}
-use Rattle.gx_session.specs.Session.{block_after_refusal}
-use Rattle.gx_session.specs.declared.state.Block.{Block}
-use Rattle.gx_session.specs.declared.state.Block.TheVariants as block
-use Rattle.gx_session.specs.declared.state.Pending.{Pending}
-use Rattle.gx_session.specs.declared.state.Pending.TheVariants as pending
+use Rattle.gx_script.specs.Session.{block_after_refusal}
+use Rattle.gx_script.specs.declared.state.Block.{Block}
+use Rattle.gx_script.specs.declared.state.Block.TheVariants as block
+use Rattle.gx_script.specs.declared.state.Pending.{Pending}
+use Rattle.gx_script.specs.declared.state.Pending.TheVariants as pending
 use Rattle.gx_store.specs.declared.answer.Refused.{Refused}
 use Rattle.gx_store.specs.declared.answer.Refused.TheVariants as refused
 use Rattle.gx_store.specs.declared.answer.StmtAnswer.TheVariants as told
@@ -40,7 +40,7 @@ use Rattle.gx_store.specs.Lines.{Outside, state_after}
 use Rattle.gx_store.specs.Marks.{answer_count, is_ended}
 use Rattle.gx_store.specs.Messages.{Receives}
 use Rattle.gx_store.specs.Points.{marks_in}
-use Rattle.gx_store.specs.Refusals.{HasJournalFailed, IsCause, the_coordinator}
+use Rattle.gx_store.specs.Refusals.{HasJournalFailed, IsCause, may_refuse, the_coordinator}
 use Rattle.gx_rules.specs.AtCoordinator.{failure_marks, follows, is_awaited, is_committed as is_closed, is_refused, item_for, on_answer, on_done, on_failed, on_message, on_status, reason_of, takes_done}
 use Rattle.gx_rules.specs.Coordinators.{Command, Coord, CoordTurn, Session, rests, session_of, work_of}
 use Rattle.gx_rules.specs.Fits.{fits_part}
@@ -51,7 +51,7 @@ use Rattle.gx_law_order.proofs.Statuses.{Moves, Turned, reply-turns, stage}
 use Rattle.gx_law_order.proofs.Statuses.Stage.{Live, Closing}
 use Rattle.gx_law_sessions.specs.Rest.{EachMark, Rest, RestAnswer}
 use Rattle.gx_law_sessions.specs.Standing.{IsSession, is_alone, state_in}
-use Rattle.gx_law_sessions.proofs.Answers.{command-refusable, done-outside, is_refusable}
+use Rattle.gx_law_sessions.proofs.Answers.{done-outside}
 use Rattle.gx_law_sessions.proofs.Awaited.{all-answered, bare-all}
 use Rattle.gx_law_sessions.proofs.Busy.{Busy, alone-commit, block-commit, busy-under}
 use Rattle.gx_law_sessions.proofs.Ends.{IsOf}
@@ -192,7 +192,7 @@ module _ (script : Script) (steps : List Step) (c : Coord) (k : Kept c) (all : (
   whys-rest true later = (tt, tt)
   whys-rest false later = tt
 
-  refuses-by : (turn : Turn) (b : Bool) (reason : Refused) (B : Block) (P : Pending) (line : Stmt) (q : Busy script steps c from to number g B P line) → turn.table.next.0 ≡ c.table.next.0 → is_refusable (state_in B q.stands.commands) line reason ≡ true → block_after_refusal B P ≡ block.Outside → state_after (state_in B q.stands.commands) line (told.Refused reason) ≡ Outside → ((later : List Mark) (l : Stmt) (v : Level) (cid : Cid) → IsCause (record { steps = steps; event = e; earlier = whys b ++ mark.Abort g ∷ []; later = later }) l v g cid reason) → Each IsBare turn.out.outs → ((later : List Mark) → RestAnswer script (record { steps = steps; event = e; earlier = whys b ++ mark.Abort g ∷ []; later = later }) s (told.Refused reason)) → Does script steps c e (is_refused c g turn (whys b) reason)
+  refuses-by : (turn : Turn) (b : Bool) (reason : Refused) (B : Block) (P : Pending) (line : Stmt) (q : Busy script steps c from to number g B P line) → turn.table.next.0 ≡ c.table.next.0 → may_refuse (state_in B q.stands.commands) line reason ≡ true → block_after_refusal B P ≡ block.Outside → state_after (state_in B q.stands.commands) line (told.Refused reason) ≡ Outside → ((later : List Mark) (l : Stmt) (v : Level) (cid : Cid) → IsCause (record { steps = steps; event = e; earlier = whys b ++ mark.Abort g ∷ []; later = later }) l v g cid reason) → Each IsBare turn.out.outs → ((later : List Mark) → RestAnswer script (record { steps = steps; event = e; earlier = whys b ++ mark.Abort g ∷ []; later = later }) s (told.Refused reason)) → Does script steps c e (is_refused c g turn (whys b) reason)
   refuses-by turn b reason B P line q next may closed after cause outs plain =
       refuse-does script steps c e c s g (work_of c g) y (answer_count s ms) (state_in B q.stands.commands) (is_alone B P) line [] (under-same B P line q) turn (whys b) reason block.Outside next may
       (ap (λ z. block_after_refusal z y.state.pending) q.in_block ∙ ap (block_after_refusal B) q.in_line ∙ closed) refl after (whys-of s.0 g.0 b) (whys-calm b) (running b) (whys-given b) (λ later rest. cause later line _ _) outs (whys-rest b) (λ t later. plain later)
@@ -203,7 +203,7 @@ module _ (script : Script) (steps : List Step) (c : Coord) (k : Kept c) (all : (
 
   refuses-now : (turn : Turn) (b : Bool) (i : Node) → turn.table.next.0 ≡ c.table.next.0 → ((later : List Mark) (l : Stmt) (v : Level) (cid : Cid) → IsCause (record { steps = steps; event = e; earlier = whys b ++ mark.Abort g ∷ []; later = later }) l v g cid (refused.JournalFault i)) → Each IsBare turn.out.outs → ((later : List Mark) → RestAnswer script (record { steps = steps; event = e; earlier = whys b ++ mark.Abort g ∷ []; later = later }) s (told.Refused (refused.JournalFault i))) → AloneSo ⊎ BlockSo → Does script steps c e (is_refused c g turn (whys b) (refused.JournalFault i))
   refuses-now turn b i next cause outs plain (inl z) =
-      refuses-by turn b (refused.JournalFault i) block.Outside pending.Command z.0.stmt z.1.is_busy_so next (command-refusable Outside z.0.stmt (refused.JournalFault i) z.1.command) refl (done-outside z.0.stmt (told.Refused (refused.JournalFault i)) z.1.command) cause outs plain
+      refuses-by turn b (refused.JournalFault i) block.Outside pending.Command z.0.stmt z.1.is_busy_so next z.1.command refl (done-outside z.0.stmt (told.Refused (refused.JournalFault i)) z.1.command) cause outs plain
   refuses-now turn b i next cause outs plain (inr z) = refuses-by turn b (refused.JournalFault i) (block.Open z.0) pending.Commit stmt.Commit z.1 next refl refl refl cause outs plain
 
   module _ (r : Reply) (received : Receives steps e from the_coordinator (message.Answer g r)) (noted : r ≡ reply.Jfault → Contains ms (mark.JournalFailed from g)) where

@@ -24,10 +24,10 @@ use Rattle.gx_meaning.specs.Constants.{rows_of}
 use Rattle.gx_meaning.specs.Plan.{insert_pieces, plan_of}
 use Rattle.gx_meaning.specs.declared.piece.Piece.{Piece}
 use Rattle.gx_script.specs.declared.Script.{Script}
-use Rattle.gx_session.specs.Session.{block_after_refusal}
-use Rattle.gx_session.specs.declared.state.Block.{Block}
-use Rattle.gx_session.specs.declared.state.Block.TheVariants as block
-use Rattle.gx_session.specs.declared.state.Pending.TheVariants as pending
+use Rattle.gx_script.specs.Session.{block_after_refusal}
+use Rattle.gx_script.specs.declared.state.Block.{Block}
+use Rattle.gx_script.specs.declared.state.Block.TheVariants as block
+use Rattle.gx_script.specs.declared.state.Pending.TheVariants as pending
 use Rattle.gx_store.specs.declared.answer.StmtAnswer.TheVariants as told
 use Rattle.gx_store.specs.declared.event.Event.TheVariants as event
 use Rattle.gx_store.specs.declared.mark.Mark.{Mark}
@@ -37,7 +37,7 @@ use Rattle.gx_store.specs.Commands.{has_own_snapshot}
 use Rattle.gx_store.specs.Lines.{BlockState, cid_of, is_command, level_of, state_after, stmt_of, state_of}
 use Rattle.gx_store.specs.Marks.{has_snapshot, is_aborted, is_ended, is_snapped, answer_count, is_begun, started_after}
 use Rattle.gx_store.specs.Points.{marks_in}
-use Rattle.gx_store.specs.Refusals.{IsCause, the_coordinator}
+use Rattle.gx_store.specs.Refusals.{IsCause, the_coordinator, is_journal}
 use Rattle.gx_store.specs.Writes.{dist_of}
 use Rattle.gx_rules.specs.AtCoordinator.{Reading, behind, dispatches, enlisted_all, fault_mark, faulting_from, goes, goes_out, kept_at, next_cid, nodes_in, orders_of, reads_by, reads_for, refusal_of, table_of, takes_snapshot, goes_on_locked, if_granted, lock_for, requests}
 use Rattle.gx_rules.specs.Coordinators.{Command, Coord, Session, Work, work_of}
@@ -314,7 +314,7 @@ module _ (script : Script) (steps : List Step) (c c1 : Coord) (s : SessionId) (g
           noted = subst (λ m. slice_get m (length seam) ≡ Some noted) (sym joined) (get_last seam (mark.Abort g ∷ []) noted);
           unaborted = subst (λ m. is_aborted (take (length seam) m) g ≡ false) (sym joined) (subst (λ m. is_aborted m g ≡ false) (sym (take-append_seam seam (noted ∷ mark.Abort g ∷ []))) (not-aborted seam (running-there r R)));
           faults = is-fault _;
-          heard = subst (λ l. Rattle.gx_store.specs.Refusals.IsHeard (record { steps = steps; event = event.Start s; earlier = (earlier ++ why) ++ mark.Abort g ∷ []; later = later }) (length seam) l g (next_cid w) (cause_of fault)) (sym is_insert) (at-least (length (marks_in steps)) (length (earlier ++ r.marks)) (length seam) (length-append (marks_in steps) (earlier ++ r.marks)));
+          heard = subst (λ l. Rattle.gx_store.specs.Refusals.IsHeard (record { steps = steps; event = event.Start s; earlier = (earlier ++ why) ++ mark.Abort g ∷ []; later = later }) (length seam) l g (next_cid w) rid None (cause_of fault)) (sym is_insert) (at-least (length (marks_in steps)) (length (earlier ++ r.marks)) (length seam) (length-append (marks_in steps) (earlier ++ r.marks)));
         }
       where
         at-least : (a d e : ℕ) → e ≡ a + d → a ≤ e
@@ -361,9 +361,13 @@ module _ (script : Script) (steps : List Step) (c c1 : Coord) (s : SessionId) (g
           rests = o.rests;
         }
 
+    not-journal : (f : ArithFault) → is_journal (refusal_of f) ≡ false
+    not-journal arithmetic.Overflow = refl
+    not-journal arithmetic.DivisionByZero = refl
+
     faults-does : Does script steps c (event.Start s) (behind earlier (Rattle.gx_rules.specs.AtCoordinator.is_refused r.coord g (on_abort r.coord.table g) why (refusal_of fault)))
     faults-does =
-        refuse-does script steps c (event.Start s) r.coord s g R.w2 x n b (is_alone B pending.Command) line earlier under2 (on_abort r.coord.table g) why (refusal_of fault) (block_after_refusal B pending.Command) refl (command-refusable b line (refusal_of fault) cmd)
+        refuse-does script steps c (event.Start s) r.coord s g R.w2 x n b (is_alone B pending.Command) line earlier under2 (on_abort r.coord.table g) why (refusal_of fault) (block_after_refusal B pending.Command) refl (command-refusable b line (refusal_of fault) cmd (not-journal fault))
         (ap (λ q. block_after_refusal q x.state.pending) xb ∙ ap (block_after_refusal B) xp) (not-busy B) (after B busy cmd)
         (each_append (IsOf s.0 g.0) r.marks (noted ∷ []) R.of (tt, tt)) (each_append (CalmFor s) r.marks (noted ∷ []) R.calm (tt, tt))
         (subst (λ m. is_ended m g ≡ false) (append_assoc (marks_in steps) (earlier ++ r.marks) (noted ∷ []) ∙ ap (λ m. marks_in steps ++ m) (append_assoc earlier r.marks (noted ∷ []))) (ended-more seam (noted ∷ []) g (running-there r R) refl))

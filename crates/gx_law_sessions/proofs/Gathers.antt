@@ -1,11 +1,14 @@
 -- How a command gathers the answers of its segments.
-use Rattle.std.proofs.Common.{◌≡◌, ◌≤◌, inl, inr, ℕ, zero, suc, ◌+◌, List, [], ◌∷◌, ◌++◌, Option, Some, None, Ok, Bool, true, false, refl, sym, subst, ap, ◌∙◌, ◌||◌, ◌&&◌, not, arith, eqb, length}
+use Rattle.std.proofs.Common.{◌≡◌, ◌≤◌, ◌<◌, inl, inr, ℕ, zero, suc, ◌+◌, List, [], ◌∷◌, ◌++◌, Option, Some, None, Result, Ok, Bool, true, false, refl, sym, subst, ap, ◌∙◌, ◌||◌, ◌&&◌, not, arith, eqb, length}
 use Rattle.std.proofs.Math.Seq.{take-append_seam}
+use Rattle.std.proofs.lemmas.Bool.{eqb-true}
 use Rattle.std.proofs.lemmas.Bool.Decides.{nat_tests}
 use Rattle.std.proofs.lemmas.List.{take-append-le}
-use Rattle.std.specs.Prelude.{slice_get}
+use Rattle.std.specs.Prelude.{slice_get, slice_index_or}
+use Rattle.gx_ids.specs.declared.ids.Cid.{Cid}
 use Rattle.gx_ids.specs.declared.ids.Gxid.{Gxid}
 use Rattle.gx_ids.specs.declared.ids.Node.{Node}
+use Rattle.gx_ids.specs.declared.ids.Table.{Table}
 use Rattle.gx_tree.specs.declared.part.Part.{Part}
 use Rattle.gx_tree.specs.declared.stmt.Stmt.{Stmt}
 use Rattle.gx_tree.specs.declared.stmt.Stmt.TheVariants as stmt
@@ -15,12 +18,18 @@ use Rattle.gx_msg.specs.declared.message.Message.{Message}
 use Rattle.gx_msg.specs.declared.message.Message.TheVariants as message
 use Rattle.gx_msg.specs.declared.reply.Reply.TheVariants as reply
 use Rattle.gx_meaning.specs.Plan.{plan_of}
+use Rattle.gx_meaning.specs.Statements.{table_of as named_table}
+use Rattle.gx_meaning.specs.declared.fault.ArithFault.{ArithFault}
 use Rattle.gx_meaning.specs.declared.piece.Piece.{Piece}
 use Rattle.gx_script.specs.declared.Script.{Script}
+use Rattle.gx_store.specs.declared.answer.StmtAnswer.{StmtAnswer}
 use Rattle.gx_store.specs.declared.event.Event.{Event}
 use Rattle.gx_store.specs.declared.mark.Mark.{Mark}
 use Rattle.gx_store.specs.declared.run.Step.{Step}
+use Rattle.gx_store.specs.Answers.{GoesTo}
 use Rattle.gx_store.specs.Messages.{HasReceived, Receives}
+use Rattle.gx_store.specs.Points.{Point}
+use Rattle.gx_store.specs.Protocol.{IsReturned}
 use Rattle.gx_store.specs.Refusals.{the_coordinator}
 use Rattle.gx_store.specs.Writes.{dist_of}
 use Rattle.gx_rules.specs.AtCoordinator.{command_answer, nodes_in, table_of, with_done}
@@ -74,6 +83,9 @@ pub record Gathers (script : Script) (Heard : Node → Message → Type 0) (g : 
 abbrev pub GathersIn : Script → (Node → Message → Type 0) → Gxid → Option Command → Type 0
 GathersIn script Heard g None = Unit {0}
 GathersIn script Heard g (Some m) = Gathers script Heard g m
+
+some-same : {A : Type 0} (a b : A) → Some a ≡ Some b → a ≡ b
+some-same a b e = cc
 
 -- lists
 all-weaker : (P Q : Taken → Type 0) → ((t : Taken) → P t → Q t) → (ts : List Taken) → AreAll P ts → AreAll Q ts
@@ -192,3 +204,49 @@ gathered-is script steps e earlier later g m h none =
       all = λ i. h.all i ∙ ap (λ a. has i a || has i (nodes_taken h.taken)) none;
       is = answer-is m m.stmt ∙ ap (λ p. gathered_answer m.stmt p m.count) h.parts ∙ ap (gathered_answer m.stmt (parts_taken h.taken)) h.counted;
     }
+
+-- EACH NODE OF THE PLAN HAS RETURNED
+contains-has : (n : Node) (xs : List Node) (k : ℕ) → k < length xs → slice_index_or xs k n ≡ n → has n xs ≡ true
+contains-has n [] k l q = absurd (none k l)
+  where
+    none : (k : ℕ) → k < 0 → ⊥
+    none k l = omega arith
+contains-has n (x ∷ xs) zero l q = first x.0 n.0 (has n xs) (ap (λ (m : Node). m.0) q)
+  where
+    first : (a d : ℕ) (b : Bool) → a ≡ d → (eqb a d || b) ≡ true
+    first a d b e = grind (arith, nat_tests)
+contains-has n (x ∷ xs) (suc k) l q = rest (eqb x.0 n.0) (has n xs) (contains-has n xs k (below k (length xs) l) q)
+  where
+    below : (k m : ℕ) → suc k < suc m → k < m
+    below k m l = omega arith
+
+    rest : (a b : Bool) → b ≡ true → (a || b) ≡ true
+    rest a b e = grind arith
+
+taken-back : (point : Point) (g : Gxid) (c : Cid) (node : Node) (taken : List Taken) → AreAll (λ t. HasReceived point t.node the_coordinator (message.Answer g (reply.Done c t.wrote t.count t.part))) taken → has node (nodes_taken taken) ≡ true → IsReturned point g c node
+taken-back point g c node [] r h = absurd (cc)
+taken-back point g c node (t ∷ ts) r h = by_test (eqb t.node.0 node.0) refl h (λ q. taken-back point g c node ts r.1 q)
+  where
+    by_test : (b : Bool) → eqb t.node.0 node.0 ≡ b → (b || has node (nodes_taken ts)) ≡ true → (has node (nodes_taken ts) ≡ true → IsReturned point g c node) → IsReturned point g c node
+    by_test true e q rest =
+        record { wrote = t.wrote; count = t.count; part = t.part; received = subst (λ n. HasReceived point n the_coordinator (message.Answer g (reply.Done c t.wrote t.count t.part))) (ap (λ n. let x : Node = record { 0 = n } in x) (eqb-true t.node.0 node.0 e)) r.0 }
+    by_test false e q rest = rest q
+
+same-table : (line : Stmt) (t : Table) → named_table line ≡ Some t → table_of line ≡ t.0
+same-table (stmt.Select q) t e = ap (λ (x : Table). x.0) (some-same q.table t e)
+same-table (stmt.Insert u x) t e = ap (λ (x : Table). x.0) (some-same u t e)
+same-table (stmt.Update u x y) t e = ap (λ (x : Table). x.0) (some-same u t e)
+same-table (stmt.Delete u x) t e = ap (λ (x : Table). x.0) (some-same u t e)
+same-table (stmt.Lock u m) t e = ap (λ (x : Table). x.0) (some-same u t e)
+same-table (stmt.Begin level) t e = absurd (cc)
+same-table stmt.Commit t e = absurd (cc)
+same-table stmt.Rollback t e = absurd (cc)
+
+pub gathered-back : (script : Script) (point : Point) (g : Gxid) (c : Cid) (line : Stmt) (answer : StmtAnswer) → IsGathered script point g c line answer → (node : Node) → GoesTo script g c line node → IsReturned point g c node
+gathered-back script point g c line answer x node t = taken-back point g c node x.taken x.received (sym (x.all node) ∙ ap (λ ps. has node (nodes_in ps)) same ∙ contains-has node (nodes_in t.pieces) t.among.0 t.among.1 t.among.2)
+  where
+    ok-same : (a b : List Piece) → (let o : Result (List Piece) ArithFault = Ok a in o) ≡ Ok b → a ≡ b
+    ok-same a b e = cc
+
+    same : x.pieces ≡ t.pieces
+    same = ok-same x.pieces t.pieces (sym x.plan ∙ ap (λ n. plan_of script.segments (dist_of script.tables n) g c line) (same-table line t.table t.of) ∙ t.plan)

@@ -22,11 +22,11 @@ use Rattle.gx_msg.specs.declared.reply.Cause.TheVariants as cause
 use Rattle.gx_msg.specs.declared.reply.Reply.{Reply}
 use Rattle.gx_msg.specs.declared.reply.Reply.TheVariants as reply
 use Rattle.gx_script.specs.declared.Script.{Script}
-use Rattle.gx_session.specs.Session.{block_after_refusal}
-use Rattle.gx_session.specs.declared.state.Block.{Block}
-use Rattle.gx_session.specs.declared.state.Block.TheVariants as block
-use Rattle.gx_session.specs.declared.state.Pending.{Pending}
-use Rattle.gx_session.specs.declared.state.Pending.TheVariants as pending
+use Rattle.gx_script.specs.Session.{block_after_refusal}
+use Rattle.gx_script.specs.declared.state.Block.{Block}
+use Rattle.gx_script.specs.declared.state.Block.TheVariants as block
+use Rattle.gx_script.specs.declared.state.Pending.{Pending}
+use Rattle.gx_script.specs.declared.state.Pending.TheVariants as pending
 use Rattle.gx_store.specs.declared.answer.StmtAnswer.TheVariants as told
 use Rattle.gx_store.specs.declared.event.Event.{Event}
 use Rattle.gx_store.specs.declared.event.Event.TheVariants as event
@@ -37,7 +37,7 @@ use Rattle.gx_store.specs.Lines.{BlockState, cid_of, is_command, level_of, state
 use Rattle.gx_store.specs.Marks.{answer_count}
 use Rattle.gx_store.specs.Messages.{Receives}
 use Rattle.gx_store.specs.Points.{Point, ends_in, marks_in}
-use Rattle.gx_store.specs.Refusals.{IsCause, the_coordinator}
+use Rattle.gx_store.specs.Refusals.{IsCause, is_journal, the_coordinator}
 use Rattle.gx_rules.specs.AtCoordinator.{answers, commits, completes, follows, goes_on, is_refused, reason_of, takes_done, with_done, writers_with}
 use Rattle.gx_rules.specs.Coordinators.{Command, Coord, CoordTurn, Session, Work, rests, session_of, with_work, work_of}
 use Rattle.gx_rules.specs.Fits.{fits_part}
@@ -294,9 +294,14 @@ module _ (script : Script) (steps : List Step) (c : Coord) (k : Kept c) (all : (
 
     -- FAILED
     module _ (why : Cause) (cid : Cid) (its_cid : m.cid ≡ cid) (received : Receives steps e i the_coordinator (message.Answer g (reply.Failed cid why))) where
+      not-journal : (y : Cause) → is_journal (reason_of y) ≡ false
+      not-journal (cause.Serialization rid h) = refl
+      not-journal cause.Overflow = refl
+      not-journal cause.DivisionByZero = refl
+
       refuses-in : (B : Block) → is_busy B pending.Command ≡ true → Works B m → Does script steps c e (is_refused c g (on_abort c.table g) [] (reason_of why))
       refuses-in B busy z =
-          refuse-does script steps c e c s g (work_of c g) y (answer_count s ms) b (is_alone B pending.Command) m.stmt [] under0 (on_abort c.table g) [] (reason_of why) (block_after_refusal B pending.Command) refl (command-refusable b m.stmt (reason_of why) z.command)
+          refuse-does script steps c e c s g (work_of c g) y (answer_count s ms) b (is_alone B pending.Command) m.stmt [] under0 (on_abort c.table g) [] (reason_of why) (block_after_refusal B pending.Command) refl (command-refusable b m.stmt (reason_of why) z.command (not-journal why))
           (ap (λ q. block_after_refusal q y.state.pending) z.is_busy_so.in_block ∙ ap (block_after_refusal B) z.is_busy_so.in_line) (idle B) (after B busy z.command) tt tt under0.running (λ later. tt) (λ later rest. by_cause why refl (told-so later rest)) (abort-bare c.table g) (λ later. tt) (λ t later. as-rest later why (caused-by script steps c from to number g B pending.Command m.stmt z.is_busy_so t why later))
         where
           b : BlockState

@@ -9,10 +9,10 @@ use Rattle.gx_tree.specs.declared.stmt.Level.{Level}
 use Rattle.gx_tree.specs.declared.stmt.Stmt.{Stmt}
 use Rattle.gx_script.specs.declared.Script.{Script}
 use Rattle.gx_dtx.specs.Rules.{Turn}
-use Rattle.gx_session.specs.Session.{after_done, after_refused}
-use Rattle.gx_session.specs.declared.state.Block.{Block}
-use Rattle.gx_session.specs.declared.state.Block.TheVariants as block
-use Rattle.gx_session.specs.declared.state.Pending.TheVariants as pending
+use Rattle.gx_script.specs.Session.{after_done, after_refused}
+use Rattle.gx_script.specs.declared.state.Block.{Block}
+use Rattle.gx_script.specs.declared.state.Block.TheVariants as block
+use Rattle.gx_script.specs.declared.state.Pending.TheVariants as pending
 use Rattle.gx_store.specs.declared.answer.Refused.{Refused}
 use Rattle.gx_store.specs.declared.answer.StmtAnswer.{StmtAnswer}
 use Rattle.gx_store.specs.declared.answer.StmtAnswer.TheVariants as told
@@ -25,7 +25,7 @@ use Rattle.gx_store.specs.Legal.{may_commit}
 use Rattle.gx_store.specs.Lines.{BlockState, Outside, cid_of, level_of, state_after}
 use Rattle.gx_store.specs.Marks.{is_aborted, is_answered, is_ended}
 use Rattle.gx_store.specs.Points.{Point, ends_by, ends_in, marks_in, starts_by}
-use Rattle.gx_store.specs.Refusals.{IsCause, the_coordinator}
+use Rattle.gx_store.specs.Refusals.{IsCause, the_coordinator, may_refuse}
 use Rattle.gx_rules.specs.AtCoordinator.{answer_at_commit, behind, is_committed, is_refused, answer_mark}
 use Rattle.gx_rules.specs.Coordinators.{Coord, CoordTurn, Session, Work, no_work, session_of, work_of}
 use Rattle.gx_rules.specs.Maps.{with_at}
@@ -36,7 +36,7 @@ use Rattle.gx_law_sessions.specs.Alive.{HasAnswered}
 use Rattle.gx_law_sessions.specs.Finish.{AreCommandsTold}
 use Rattle.gx_law_sessions.specs.Rest.{EachMark, Rest, RestAnswer}
 use Rattle.gx_law_sessions.specs.Standing.{Stands, is_alone, is_busy, is_sound, state_in}
-use Rattle.gx_law_sessions.proofs.Answers.{is_refusable, may-abort-refusable, refused-is}
+use Rattle.gx_law_sessions.proofs.Answers.{may-abort-refusable, refused-is}
 use Rattle.gx_law_sessions.proofs.AtLine.{AtLine, answered-now, at-calm, has_txn, legal-abort, legal-answer, legal-commit, transaction-is}
 use Rattle.gx_law_sessions.proofs.Awaited.{IsAwaited, IsSettled, bare-all, own-none}
 use Rattle.gx_law_sessions.proofs.Ends.{IsOf, of-fresh}
@@ -227,7 +227,7 @@ module _ (script : Script) (steps : List Step) (c : Coord) (e : Event) (c1 : Coo
           )
 
   -- REFUSALS
-  pub refuse-does : (turn : Turn) (why : List Mark) (reason : Refused) (B : Block) → turn.table.next.0 ≡ c1.table.next.0 → is_refusable b line reason ≡ true → (after_refused x.state).block ≡ B → is_busy B pending.Nothing ≡ false → state_after b line (told.Refused reason) ≡ state_in B 0 → Each (IsOf s.0 g.0) why → Each (CalmFor s) why → is_ended (marks_in steps ++ (earlier ++ why)) g ≡ false
+  pub refuse-does : (turn : Turn) (why : List Mark) (reason : Refused) (B : Block) → turn.table.next.0 ≡ c1.table.next.0 → may_refuse b line reason ≡ true → (after_refused x.state).block ≡ B → is_busy B pending.Nothing ≡ false → state_after b line (told.Refused reason) ≡ state_in B 0 → Each (IsOf s.0 g.0) why → Each (CalmFor s) why → is_ended (marks_in steps ++ (earlier ++ why)) g ≡ false
       → ((later : List Mark) → EachMark (Given script) steps e earlier why later)
       → ((later : List Mark) → RestAnswer script (record { steps = steps; event = e; earlier = (earlier ++ why) ++ mark.Abort g ∷ []; later = later }) s (told.Refused reason) → IsCause (record { steps = steps; event = e; earlier = (earlier ++ why) ++ mark.Abort g ∷ []; later = later }) line (level_of b) g (cid_of b) reason)
       → Each IsBare turn.out.outs → ((later : List Mark) → EachMark (Rest script) steps e earlier why later)
@@ -267,7 +267,7 @@ module _ (script : Script) (steps : List Step) (c : Coord) (e : Event) (c1 : Coo
       is : (later : List Mark) → RestAnswer script (point later) s r → IsAnswer script (point later) s b line r
       is later q =
           refused-is script (point later) s b line reason may
-          (record { g = g; transaction = subst (λ z. Rattle.gx_store.specs.Lines.transaction_of z s (marks_in steps ++ ((earlier ++ why) ++ mark.Abort g ∷ [])) ≡ Some g) at2.said.state (transaction-is script steps e s line n b u (Some g) ((earlier ++ why) ++ mark.Abort g ∷ []) at2 later g o.has refl); aborted = abort-last (earlier ++ why) g; cause = cause later q })
+          (record { kind = may; g = g; transaction = subst (λ z. Rattle.gx_store.specs.Lines.transaction_of z s (marks_in steps ++ ((earlier ++ why) ++ mark.Abort g ∷ [])) ≡ Some g) at2.said.state (transaction-is script steps e s line n b u (Some g) ((earlier ++ why) ++ mark.Abort g ∷ []) at2 later g o.has refl); aborted = abort-last (earlier ++ why) g; cause = cause later q })
 
       legal : (later : List Mark) → EachMark (Given script) steps e earlier (why ++ mark.Abort g ∷ answer_mark c1 (work_of c1 g).session r ∷ []) later
       legal later =

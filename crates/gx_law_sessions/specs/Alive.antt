@@ -54,7 +54,8 @@ pub record IsUnderWayBehind (script : Script) (steps : List Step) (level : Level
   pub session : SessionId
   pub line : Stmt
   pub of : AreLinesNumbered [] script.lines → stmt_of_command script (marks_in steps) g c ≡ Some line
-  pub runs : (e : Event) (earlier later : List Mark) → starts_by session e ≡ 0 → AreSilent earlier → IsUnderWay script (record { steps = steps; event = e; earlier = earlier; later = later }) session line level g c
+  pub runs : (e : Event) (earlier later : List Mark) → starts_by session e ≡ 0 → AreSilent earlier
+      → IsUnderWay script (record { steps = steps; event = e; earlier = earlier; later = later }) session line level g c
 
 -- The command of an EXEC that was sent to a node is under way, or the node's answer to it was received, or the transaction
 -- has aborted.

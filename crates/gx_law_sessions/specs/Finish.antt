@@ -36,12 +36,18 @@ point_at steps e earlier later = record { steps = steps; event = e; earlier = ea
 -- says, in its block or behind the Commit mark of its transaction; and one that a segment failed has that cause, behind the Abort
 -- mark.
 pub record AreCommandsTold (script : Script) (steps : List Step) : Type 0 where
-  pub told : (e : Event) (later : List Mark) (session : SessionId) (stmt : Stmt) (level : Level) (g : Gxid) (c : Cid) (answer : StmtAnswer) → starts_by session e ≡ 0 → RunsCommand script (point_at steps e [] later) session stmt level g c → IsGathered script (point_at steps e [] later) g c stmt answer
+  pub told : (e : Event) (later : List Mark) (session : SessionId) (stmt : Stmt) (level : Level) (g : Gxid) (c : Cid) (answer : StmtAnswer)
+      → starts_by session e ≡ 0 → RunsCommand script (point_at steps e [] later) session stmt level g c
+      → IsGathered script (point_at steps e [] later) g c stmt answer
       → Tells script (before (point_at steps e [] later)) level g c stmt answer
-  pub committed : (e : Event) (later : List Mark) (session : SessionId) (stmt : Stmt) (level : Level) (g : Gxid) (c : Cid) (answer : StmtAnswer) → starts_by session e ≡ 0 → RunsCommand script (point_at steps e (mark.Commit g ∷ []) later) session stmt level g c
-      → IsGathered script (point_at steps e (mark.Commit g ∷ []) later) g c stmt answer → Tells script (before (point_at steps e (mark.Commit g ∷ []) later)) level g c stmt answer
-  pub refused : (e : Event) (later : List Mark) (session : SessionId) (stmt : Stmt) (level : Level) (g : Gxid) (c : Cid) (segment : Node) (cause : Cause) → starts_by session e ≡ 0 → RunsCommand script (point_at steps e (mark.Abort g ∷ []) later) session stmt level g c
-      → Receives steps e segment the_coordinator (message.Answer g (reply.Failed c cause)) → IsCause (point_at steps e (mark.Abort g ∷ []) later) stmt level g c (reason_of cause)
+  pub committed : (e : Event) (later : List Mark) (session : SessionId) (stmt : Stmt) (level : Level) (g : Gxid) (c : Cid) (answer : StmtAnswer)
+      → starts_by session e ≡ 0 → RunsCommand script (point_at steps e (mark.Commit g ∷ []) later) session stmt level g c
+      → IsGathered script (point_at steps e (mark.Commit g ∷ []) later) g c stmt answer
+      → Tells script (before (point_at steps e (mark.Commit g ∷ []) later)) level g c stmt answer
+  pub refused : (e : Event) (later : List Mark) (session : SessionId) (stmt : Stmt) (level : Level) (g : Gxid) (c : Cid) (segment : Node)
+      (cause : Cause) → starts_by session e ≡ 0 → RunsCommand script (point_at steps e (mark.Abort g ∷ []) later) session stmt level g c
+      → Receives steps e segment the_coordinator (message.Answer g (reply.Failed c cause))
+      → IsCause (point_at steps e (mark.Abort g ∷ []) later) stmt level g c (reason_of cause)
 
 -- in a world of the machine, the marks of a segment's step in an event that is admitted there
 abbrev pub AreSegmentsLegal : Script → World → Type 0

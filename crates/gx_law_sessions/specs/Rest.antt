@@ -45,7 +45,8 @@ IsTold script point session answer =
 -- the command under way at the point is refused for its cause, in the step that receives a segment's word of it
 abbrev pub IsCaused : Script → Point → SessionId → Refused → Type 0
 IsCaused script point session reason =
-    (stmt : Stmt) (level : Level) (g : Gxid) (c : Cid) (segment : Node) (cause : Cause) → RunsCommand script point session stmt level g c → Receives point.steps point.event segment the_coordinator (message.Answer g (reply.Failed c cause))
+    (stmt : Stmt) (level : Level) (g : Gxid) (c : Cid) (segment : Node) (cause : Cause) → RunsCommand script point session stmt level g c
+    → Receives point.steps point.event segment the_coordinator (message.Answer g (reply.Failed c cause))
     → reason ≡ reason_of cause → IsCause point stmt level g c reason
 
 -- the event starts no line and ends no session

@@ -9,10 +9,10 @@ use Rattle.gx_tree.specs.declared.stmt.Level.TheVariants.{ReadCommitted, Repeata
 use Rattle.gx_tree.specs.declared.stmt.Stmt.TheVariants as stmt
 use Rattle.gx_dsnap.specs.declared.snapshot.Snapshot.{Snapshot}
 use Rattle.gx_script.specs.declared.Script.{Script}
-use Rattle.gx_session.specs.declared.state.Block.{Block}
-use Rattle.gx_session.specs.declared.state.Block.TheVariants as block
-use Rattle.gx_session.specs.declared.state.Pending.{Pending}
-use Rattle.gx_session.specs.declared.state.Pending.TheVariants as pending
+use Rattle.gx_script.specs.declared.state.Block.{Block}
+use Rattle.gx_script.specs.declared.state.Block.TheVariants as block
+use Rattle.gx_script.specs.declared.state.Pending.{Pending}
+use Rattle.gx_script.specs.declared.state.Pending.TheVariants as pending
 use Rattle.gx_store.specs.declared.mark.Mark.{Mark}
 use Rattle.gx_store.specs.declared.mark.Mark.TheVariants as mark
 use Rattle.gx_store.specs.declared.run.Step.{Step}
@@ -143,7 +143,8 @@ IsStanding script k marks next b p lines g w ends = ((ends ≡ 0) × Stands scri
 -- the steps tell what the coordinator knows of a session
 pub record IsSession (script : Script) (k : SessionId) (steps : List Step) (c : Coord) : Type 0 where
   pub starts : starts_in k steps ≡ (session_of c k).lines
-  pub stands : IsStanding script k (marks_in steps) c.table.next.0 (session_of c k).state.block (session_of c k).state.pending (session_of c k).lines (session_of c k).transaction (work_of c (session_of c k).transaction) (ends_in k steps)
+  pub stands : IsStanding script k (marks_in steps) c.table.next.0 (session_of c k).state.block (session_of c k).state.pending (session_of c k).lines
+      (session_of c k).transaction (work_of c (session_of c k).transaction) (ends_in k steps)
 
 abbrev pub AreSessions : Script → World → Type 0
 AreSessions script w = (k : SessionId) → IsSession script k w.steps w.coord

@@ -1,7 +1,7 @@
 -- Each write of a segment's step is legal at its point.
 use Rattle.std.proofs.Common.{◌≡◌, ◌≤◌, ◌<◌, ◌⊎◌, inl, inr, ℕ, ◌+◌, List, [], ◌∷◌, ◌++◌, Option, Some, None, Bool, true, false, refl, sym, subst, ap, ◌∙◌, if◌then◌else◌, ◌||◌, ◌&&◌, arith, eqb, zero, suc}
 use Rattle.std.proofs.lemmas.Bool.Decides.{nat_tests}
-use Rattle.std.specs.Prelude.{map, slice_get}
+use Rattle.std.specs.Prelude.{◌-◌, length, map, slice_get}
 use Rattle.gx_ids.specs.declared.ids.Cid.{Cid}
 use Rattle.gx_ids.specs.declared.ids.Gxid.{Gxid}
 use Rattle.gx_ids.specs.declared.ids.Node.{Node}
@@ -19,9 +19,9 @@ use Rattle.gx_tree.specs.declared.value.Value.{Value}
 use Rattle.gx_dsnap.specs.declared.snapshot.Snapshot.{Snapshot}
 use Rattle.gx_msg.specs.declared.message.Out.{Out}
 use Rattle.gx_script.specs.declared.Script.{Script}
-use Rattle.gx_session.specs.declared.state.Block.{Block}
-use Rattle.gx_session.specs.declared.state.Block.TheVariants as block
-use Rattle.gx_session.specs.declared.state.Pending.TheVariants as pending
+use Rattle.gx_script.specs.declared.state.Block.{Block}
+use Rattle.gx_script.specs.declared.state.Block.TheVariants as block
+use Rattle.gx_script.specs.declared.state.Pending.TheVariants as pending
 use Rattle.gx_store.specs.declared.event.Event.{Event}
 use Rattle.gx_store.specs.declared.mark.Mark.{Mark}
 use Rattle.gx_store.specs.declared.mark.Mark.TheVariants as mark
@@ -62,6 +62,24 @@ no-writes-legal script steps e earlier (m ∷ ms) later h = (no-write-legal scri
 pub sent-no-write : (f : ℕ → ℕ) (outs : List Out) → Each NoWrite (numbered f outs)
 sent-no-write f [] = tt
 sent-no-write f (o ∷ outs) = (tt, sent-no-write (counted f o) outs)
+
+-- a tuple that is there has a number up to theirs
+within : {A : Type 0} (o : ℕ) (xs : List A) (x : A) → 1 ≤ o → slice_get xs (o - 1) ≡ Some x → o ≤ length xs
+within o xs x l e = up o (length xs) l (below xs (o - 1) x e)
+  where
+    up : (o n : ℕ) → 1 ≤ o → o - 1 < n → o ≤ n
+    up o n l h = omega arith
+
+    below : {A : Type 0} (xs : List A) (k : ℕ) (x : A) → slice_get xs k ≡ Some x → k < length xs
+    below [] k x e = absurd (cc)
+    below (y ∷ ys) zero x e = positive (length ys)
+      where
+        positive : (n : ℕ) → 0 < suc n
+        positive n = omega arith
+    below (y ∷ ys) (suc k) x e = more k (length ys) (below ys k x e)
+      where
+        more : (k n : ℕ) → k < n → suc k < suc n
+        more k n h = omega arith
 
 -- A ROW THAT ISN'T WRITTEN
 -- it has no node yet
@@ -266,8 +284,11 @@ module _ (script : Script) (numbered : AreLinesNumbered [] script.lines) (w : Wo
                 level = v.was.level;
                 ran = subst (λ q. IsUnderWay script v.was.point v.was.session q v.was.level (gx g) c) (some-stmt v.was.line (stmt.Insert table tuples) (sym (v.was.of numbered) ∙ of)) v.was.ran;
               };
-              own_table = refl;
-              home = subst (λ o. IsAtHome o node) (sym (unwritten-node (now ++ earlier) row.rid once)) tt;
+              writes = (
+                refl,
+                record { own = p.row_is.own; counted = p.row_is.counted; among = within row.rid.ordinal tuples p.row_is.tuple p.row_is.counted p.row_is.among },
+                subst (λ o. IsAtHome o node) (sym (unwritten-node (now ++ earlier) row.rid once)) tt,
+              );
             })
 
     -- all rows

@@ -4,10 +4,10 @@ use Rattle.gx_ids.specs.declared.ids.Gxid.{Gxid}
 use Rattle.gx_ids.specs.declared.ids.SessionId.{SessionId}
 use Rattle.gx_dtx.specs.Nodes.{has}
 use Rattle.gx_script.specs.declared.Script.{Script}
-use Rattle.gx_session.specs.declared.state.Block.{Block}
-use Rattle.gx_session.specs.declared.state.Block.TheVariants as block
-use Rattle.gx_session.specs.declared.state.Pending.{Pending}
-use Rattle.gx_session.specs.declared.state.Pending.TheVariants as pending
+use Rattle.gx_script.specs.declared.state.Block.{Block}
+use Rattle.gx_script.specs.declared.state.Block.TheVariants as block
+use Rattle.gx_script.specs.declared.state.Pending.{Pending}
+use Rattle.gx_script.specs.declared.state.Pending.TheVariants as pending
 use Rattle.gx_store.specs.declared.event.Event.{Event}
 use Rattle.gx_store.specs.declared.mark.Mark.{Mark}
 use Rattle.gx_store.specs.Commands.{IsUnderWay, RunsCommand}

@@ -34,7 +34,9 @@ put_symbol out (Some s) = (out ++ token.Symbol s ∷ [], Gap)
 
 -- what a byte begins
 abbrev pub begin : List Token → ℕ → List Token × State
-begin out b = if is_blank b then (out, Gap) else if is_letter b then (out, InWord (small b ∷ []) (is_capital b)) else if is_digit b then (out, InNumber (Some (b - 48))) else if is_quote b then (out, InText []) else if is_less b then (out, BehindLess) else if is_greater b then (out, BehindGreater) else put_symbol out (symbol_of b)
+begin out b = if is_blank b then (out, Gap) else if is_letter b then (out, InWord (small b ∷ []) (is_capital b))
+    else if is_digit b then (out, InNumber (Some (b - 48))) else if is_quote b then (out, InText []) else if is_less b then (out, BehindLess)
+    else if is_greater b then (out, BehindGreater) else put_symbol out (symbol_of b)
 
 abbrev pub next : List Token → State → ℕ → List Token × State
 next out Gap b = begin out b
@@ -42,7 +44,8 @@ next out (InWord w capital) b = if is_word_byte b then (out, InWord (w ++ small 
 next out (InNumber n) b = if is_digit b then (out, InNumber (grown n b)) else begin (out ++ token.Number n ∷ []) b
 next out (InText w) b = if is_quote b then (out, Quoted w) else (out, InText (w ++ b ∷ []))
 next out (Quoted w) b = if is_quote b then (out, InText (w ++ 39 ∷ [])) else begin (out ++ token.Text w ∷ []) b
-next out BehindLess b = if is_equal b then (out ++ token.Symbol symbol.LessEqual ∷ [], Gap) else if is_greater b then (out ++ token.Symbol symbol.NotEqual ∷ [], Gap) else begin (out ++ token.Symbol symbol.Less ∷ []) b
+next out BehindLess b = if is_equal b then (out ++ token.Symbol symbol.LessEqual ∷ [], Gap)
+    else if is_greater b then (out ++ token.Symbol symbol.NotEqual ∷ [], Gap) else begin (out ++ token.Symbol symbol.Less ∷ []) b
 next out BehindGreater b = if is_equal b then (out ++ token.Symbol symbol.GreaterEqual ∷ [], Gap) else begin (out ++ token.Symbol symbol.Greater ∷ []) b
 next out Lost b = (out, Lost)
 

@@ -43,4 +43,6 @@ bytes_of_symbol GreaterEqual = 62 ∷ 61 ∷ []
 
 -- the sign that is this byte alone and begins no longer one
 abbrev pub symbol_of : ℕ → Option Symbol
-symbol_of b = if b == 40 then Some Open else if b == 41 then Some Close else if b == 42 then Some Star else if b == 44 then Some Comma else if b == 43 then Some Plus else if b == 45 then Some Minus else if b == 47 then Some Slash else if b == 37 then Some Percent else if b == 58 then Some Colon else if b == 59 then Some Semicolon else if b == 61 then Some Equal else None
+symbol_of b = if b == 40 then Some Open else if b == 41 then Some Close else if b == 42 then Some Star else if b == 44 then Some Comma
+    else if b == 43 then Some Plus else if b == 45 then Some Minus else if b == 47 then Some Slash else if b == 37 then Some Percent
+    else if b == 58 then Some Colon else if b == 59 then Some Semicolon else if b == 61 then Some Equal else None

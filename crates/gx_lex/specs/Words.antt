@@ -111,7 +111,9 @@ text_of And = codes "and"
 text_of Not = codes "not"
 
 abbrev pub all_words : List Word
-all_words = Segments ∷ Detector ∷ On ∷ Off ∷ Table ∷ Bigint ∷ Text ∷ Distributed ∷ By ∷ Randomly ∷ Lose ∷ Repeat ∷ To ∷ From ∷ Number ∷ Begin ∷ Isolation ∷ Level ∷ Read ∷ Committed ∷ Repeatable ∷ Commit ∷ Rollback ∷ Select ∷ Group ∷ Order ∷ Limit ∷ Insert ∷ Into ∷ Values ∷ Update ∷ Set ∷ Delete ∷ Where ∷ Lock ∷ In ∷ Mode ∷ Access ∷ Share ∷ Row ∷ Exclusive ∷ Count ∷ Sum ∷ Min ∷ Max ∷ Asc ∷ Desc ∷ Or ∷ And ∷ Not ∷ []
+all_words = Segments ∷ Detector ∷ On ∷ Off ∷ Table ∷ Bigint ∷ Text ∷ Distributed ∷ By ∷ Randomly ∷ Lose ∷ Repeat ∷ To ∷ From ∷ Number ∷ Begin
+    ∷ Isolation ∷ Level ∷ Read ∷ Committed ∷ Repeatable ∷ Commit ∷ Rollback ∷ Select ∷ Group ∷ Order ∷ Limit ∷ Insert ∷ Into ∷ Values ∷ Update ∷ Set
+    ∷ Delete ∷ Where ∷ Lock ∷ In ∷ Mode ∷ Access ∷ Share ∷ Row ∷ Exclusive ∷ Count ∷ Sum ∷ Min ∷ Max ∷ Asc ∷ Desc ∷ Or ∷ And ∷ Not ∷ []
 
 -- the first of these keywords that is spelled so
 abbrev pub find : List ℕ → List Word → Option Word

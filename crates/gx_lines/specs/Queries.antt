@@ -117,4 +117,5 @@ abbrev pub limit_at : List Token → Reading (Option Size)
 limit_at = maybe_at (is_word word.Limit) (behind_at (is_word word.Limit) (one_at size_of))
 
 abbrev pub select_at : Limits → List Token → Reading SelectSyn
-select_at d = made_at to_select (both_at (behind_at (is_word word.Select) (items_at d)) (both_at (behind_at (is_word word.From) (name_at d)) (both_at (where_at d) (both_at (group_at d) (both_at (order_at d) limit_at)))))
+select_at d = made_at to_select (both_at (behind_at (is_word word.Select) (items_at d)) (both_at (behind_at (is_word word.From) (name_at d))
+    (both_at (where_at d) (both_at (group_at d) (both_at (order_at d) limit_at)))))

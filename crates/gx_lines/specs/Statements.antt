@@ -25,7 +25,8 @@ use Rattle.gx_lines.specs.Queries.{name, name_at, where_part, where_at, select, 
 -- THE RULES
 -- level = "READ" "COMMITTED" | "REPEATABLE" "READ"
 abbrev pub level_words : Level → List Token → Type 0
-level_words = either (made (λ _. level.ReadCommitted) (behind (is_word word.Read) (one (marked (is_word word.Committed))))) (made (λ _. level.RepeatableRead) (behind (is_word word.Repeatable) (one (marked (is_word word.Read)))))
+level_words = either (made (λ _. level.ReadCommitted) (behind (is_word word.Read) (one (marked (is_word word.Committed)))))
+    (made (λ _. level.RepeatableRead) (behind (is_word word.Repeatable) (one (marked (is_word word.Read)))))
 
 abbrev pub level_or : Option Level → StmtSyn
 level_or None = stmt_syn.Begin level.ReadCommitted
@@ -90,11 +91,13 @@ share_or (Some m) = m
 
 -- behind SHARE: "UPDATE" "EXCLUSIVE" | "ROW" "EXCLUSIVE"
 abbrev pub share_end : Mode → List Token → Type 0
-share_end = either (made (λ _. mode.ShareUpdateExclusive) (behind (is_word word.Update) (one (marked (is_word word.Exclusive))))) (made (λ _. mode.ShareRowExclusive) (behind (is_word word.Row) (one (marked (is_word word.Exclusive)))))
+share_end = either (made (λ _. mode.ShareUpdateExclusive) (behind (is_word word.Update) (one (marked (is_word word.Exclusive)))))
+    (made (λ _. mode.ShareRowExclusive) (behind (is_word word.Row) (one (marked (is_word word.Exclusive)))))
 
 -- mode = "ACCESS" ("SHARE" | "EXCLUSIVE") | "ROW" ("SHARE" | "EXCLUSIVE") | "SHARE" [ share_end ] | "EXCLUSIVE"
 abbrev pub mode_words : Mode → List Token → Type 0
-mode_words = either (made access (behind (is_word word.Access) (one strength_of))) (either (made row (behind (is_word word.Row) (one strength_of))) (either (made share_or (behind (is_word word.Share) (maybe share_end))) (made (λ _. mode.Exclusive) (one (marked (is_word word.Exclusive))))))
+mode_words = either (made access (behind (is_word word.Access) (one strength_of))) (either (made row (behind (is_word word.Row) (one strength_of)))
+    (either (made share_or (behind (is_word word.Share) (maybe share_end))) (made (λ _. mode.Exclusive) (one (marked (is_word word.Exclusive))))))
 
 abbrev pub to_lock : List ℕ × (Mode × Unit {0}) → StmtSyn
 to_lock p = stmt_syn.Lock p.0 p.1.0
@@ -109,7 +112,9 @@ stmt d = either begin (either commit (either rollback (either (made stmt_syn.Sel
 
 -- THE READERS
 abbrev pub level_at : List Token → Reading Level
-level_at = either_at (is_word word.Read) (made_at (λ _. level.ReadCommitted) (behind_at (is_word word.Read) (one_at (marked (is_word word.Committed))))) (made_at (λ _. level.RepeatableRead) (behind_at (is_word word.Repeatable) (one_at (marked (is_word word.Read)))))
+level_at = either_at (is_word word.Read) (made_at (λ _. level.ReadCommitted)
+    (behind_at (is_word word.Read) (one_at (marked (is_word word.Committed))))) (made_at (λ _. level.RepeatableRead)
+    (behind_at (is_word word.Repeatable) (one_at (marked (is_word word.Read)))))
 
 abbrev pub isolation_at : List Token → Reading (Option Level)
 isolation_at = maybe_at (is_word word.Isolation) (behind_at (is_word word.Isolation) (behind_at (is_word word.Level) level_at))
@@ -139,7 +144,9 @@ abbrev pub delete_at : Limits → List Token → Reading StmtSyn
 delete_at d = made_at to_delete (both_at (behind_at (is_word word.Delete) (behind_at (is_word word.From) (name_at d))) (where_at d))
 
 abbrev pub share_end_at : List Token → Reading Mode
-share_end_at = either_at (is_word word.Update) (made_at (λ _. mode.ShareUpdateExclusive) (behind_at (is_word word.Update) (one_at (marked (is_word word.Exclusive))))) (made_at (λ _. mode.ShareRowExclusive) (behind_at (is_word word.Row) (one_at (marked (is_word word.Exclusive)))))
+share_end_at = either_at (is_word word.Update) (made_at (λ _. mode.ShareUpdateExclusive)
+    (behind_at (is_word word.Update) (one_at (marked (is_word word.Exclusive))))) (made_at (λ _. mode.ShareRowExclusive)
+    (behind_at (is_word word.Row) (one_at (marked (is_word word.Exclusive)))))
 
 abbrev pub begins_share_end : Token → Bool
 begins_share_end y = is_word word.Update y || is_word word.Row y
@@ -163,4 +170,6 @@ abbrev pub lock_at : Limits → List Token → Reading StmtSyn
 lock_at d = made_at to_lock (both_at (behind_at (is_word word.Lock) (behind_at (is_word word.Table) (name_at d))) (both_at (behind_at (is_word word.In) mode_at) (one_at (marked (is_word word.Mode)))))
 
 abbrev pub stmt_at : Limits → List Token → Reading StmtSyn
-stmt_at d = either_at (is_word word.Begin) begin_at (either_at (is_word word.Commit) commit_at (either_at (is_word word.Rollback) rollback_at (either_at (is_word word.Select) (made_at stmt_syn.Select (select_at d)) (either_at (is_word word.Insert) (insert_at d) (either_at (is_word word.Update) (update_at d) (either_at (is_word word.Delete) (delete_at d) (lock_at d)))))))
+stmt_at d = either_at (is_word word.Begin) begin_at (either_at (is_word word.Commit) commit_at (either_at (is_word word.Rollback) rollback_at
+    (either_at (is_word word.Select) (made_at stmt_syn.Select (select_at d)) (either_at (is_word word.Insert) (insert_at d)
+    (either_at (is_word word.Update) (update_at d) (either_at (is_word word.Delete) (delete_at d) (lock_at d)))))))

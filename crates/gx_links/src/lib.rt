@@ -14,6 +14,3 @@ pub use ends::{close, link};
 pub use receiver::LinkIn;
 pub use record::LinkRecord;
 pub use sender::LinkOut;
-
-#[cfg(test)]
-mod tests;

@@ -149,11 +149,13 @@ next_letter w place b = letter_is w place (slice_get (letters_of w) place) b
 
 -- the first letter tells the item
 abbrev pub begin : ℕ → Option Mid
-begin b = if b == 112 then Some (mid.Word (word.Listed listed.Prepare) 1) else if b == 99 then Some (mid.Word (word.Listed listed.Commit) 1) else if b == 102 then Some (mid.Word (word.Lone lone.Finish) 1) else at 100 b (mid.Word (word.Lone lone.Decide) 1)
+begin b = if b == 112 then Some (mid.Word (word.Listed listed.Prepare) 1) else if b == 99 then Some (mid.Word (word.Listed listed.Commit) 1)
+    else if b == 102 then Some (mid.Word (word.Lone lone.Finish) 1) else at 100 b (mid.Word (word.Lone lone.Decide) 1)
 
 -- the first byte of a value; a row that is gone has none
 abbrev pub begin_value : Spot → List Value → ℕ → Option Mid
-begin_value spot values b = if b == 39 then Some (mid.Text spot values []) else if b == 45 then Some (mid.Digits (field.Int spot values true) None) else if (b == 103) && (length values == 0) then Some (mid.Word (word.Gone spot) 1) else next_digit (field.Int spot values false) None b
+begin_value spot values b = if b == 39 then Some (mid.Text spot values []) else if b == 45 then Some (mid.Digits (field.Int spot values true) None)
+    else if (b == 103) && (length values == 0) then Some (mid.Word (word.Gone spot) 1) else next_digit (field.Int spot values false) None b
 
 -- what the reader is in behind one more byte, where an item may go on with it
 abbrev pub next : Mid → ℕ → Option Mid

@@ -1,3 +1,4 @@
 pub mod Dealt
 pub mod Each
 pub mod Sent
+pub mod Outside

@@ -6,11 +6,11 @@ ghost use Rattle.gx_eval.specs.Faults.{eval_fault};
 ghost use Rattle.gx_meaning.specs.Constants.{IsTuple, rows_of, values_of};
 ghost use Rattle.gx_meaning.specs.Plan.{bucket_pieces, dealt, put_at};
 
+use crate::placement::place;
 use crate::tuple::tuple_values;
 use gx_eval::EvalFault;
 use gx_ids::{Cid, Gxid, Mem, Node, Rid, Seq, Table};
 use gx_meaning::Piece;
-use gx_place::place;
 use gx_tree::{Expr, KeyedRow, Schema, Slice};
 use std::alloc::Global;
 

@@ -4,9 +4,9 @@ ghost use Rattle.gx_meaning.specs.Target.{target_of};
 ghost use Rattle.gx_meaning.specs.declared.target.Target.TheVariants.{All as AllOfThem};
 ghost use Rattle.gx_meaning.specs.Plan.{piece, pieces};
 
+use crate::targets::target;
 use gx_ids::{Duplicate, Mem, Node};
 use gx_meaning::{Piece, Target};
-use gx_place::target;
 use gx_tree::{Cond, Schema, Slice};
 use std::alloc::Global;
 

@@ -90,7 +90,8 @@ abbrev pub limit_tokens : Option Size → List Token
 limit_tokens = part_tokens (token.Word word.Limit ∷ []) size_tokens
 
 abbrev pub select_tokens : SelectSyn → List Token
-select_tokens q = token.Word word.Select ∷ (items_tokens q.items ++ token.Word word.From ∷ token.Name q.table ∷ (where_tokens q.cond ++ (group_tokens q.group ++ (order_tokens q.order ++ limit_tokens q.limit))))
+select_tokens q = token.Word word.Select ∷ (items_tokens q.items ++ token.Word word.From ∷ token.Name q.table
+    ∷ (where_tokens q.cond ++ (group_tokens q.group ++ (order_tokens q.order ++ limit_tokens q.limit))))
 
 abbrev pub tuple_tokens : TupleSyn → List Token
 tuple_tokens t = in_parens (list_tokens expr_tokens t.values)

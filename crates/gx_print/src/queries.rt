@@ -129,7 +129,9 @@ fn push_limit(text: &mut Vec<u8>, limit: Option<u64>) -> Mem<()>
 
 // Adds what stands behind the name of the table.
 fn push_parts(text: &mut Vec<u8>, columns: &[Column], query: &Query) -> Mem<()>
-    ensures { OnOk result (text.new.items ≡ text.old.items ++ (of.where_text (option_map (cond_syn columns.now) query.now.cond) ++ (of.group_text (unless_empty (column_name columns.now) query.now.group) ++ (of.order_text (unless_empty (key_syn columns.now) query.now.order) ++ of.limit_text (option_map to_size query.now.limit))))) }
+    ensures { OnOk result (text.new.items ≡ text.old.items ++ (of.where_text (option_map (cond_syn columns.now) query.now.cond)
+        ++ (of.group_text (unless_empty (column_name columns.now) query.now.group)
+        ++ (of.order_text (unless_empty (key_syn columns.now) query.now.order) ++ of.limit_text (option_map to_size query.now.limit))))) }
 {
     push_where(text, columns, &query.cond)?;
     push_group(text, columns, query.group.as_slice())?;

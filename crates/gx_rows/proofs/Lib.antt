@@ -1,2 +1,5 @@
 pub mod Entries
 pub mod Rising
+pub mod Dropped
+pub mod XidEntries
+pub mod Places

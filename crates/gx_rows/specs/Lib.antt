@@ -1,2 +1,5 @@
 pub mod Rows
 pub mod Rids
+pub mod Counts
+pub mod Keys
+pub mod Xids

@@ -7,9 +7,9 @@ use Rattle.gx_ids.specs.declared.ids.Table.{Table}
 use Rattle.gx_ids.specs.declared.rid.Rid.{Rid}
 use Rattle.gx_rows.specs.declared.version.Version.{Version}
 use Rattle.gx_rows.specs.Rids.{rid_cmp}
-use Rattle.gx_xidmap.specs.Xids.{Xids, status_of}
-use Rattle.gx_xidmap.specs.declared.status.LocalStatus.{LocalStatus}
-use Rattle.gx_xidmap.specs.declared.status.LocalStatus.TheVariants.{Running, Prepared, Committed, Aborted}
+use Rattle.gx_rows.specs.Xids.{Xids, status_of}
+use Rattle.gx_rows.specs.declared.status.LocalStatus.{LocalStatus}
+use Rattle.gx_rows.specs.declared.status.LocalStatus.TheVariants.{Running, Prepared, Committed, Aborted}
 
 -- the versions of a rid, from its first on
 abbrev pub versions_of : List (Rid × List Version) → Rid → List Version

@@ -8,9 +8,9 @@ ghost use Rattle.gx_rows.specs.Rids.{rid_cmp};
 ghost use Rattle.gx_rows.specs.Rows.{versions_of, added, rids_of, newest_of};
 
 use crate::version::Version;
+use crate::{LocalStatus, XidMap};
 use gx_ids::{Cid, Lxid, Mem, Rid, Seq, Table};
 use gx_tree::Row;
-use gx_xidmap::{LocalStatus, XidMap};
 use std::alloc::Global;
 use std::collections::BTreeMap;
 use std::marker::Model;

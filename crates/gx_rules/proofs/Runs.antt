@@ -22,7 +22,7 @@ use Rattle.gx_store.specs.declared.mark.Mark.{Mark}
 use Rattle.gx_store.specs.declared.mark.Mark.TheVariants as mark
 use Rattle.gx_rules.specs.AtCoordinator.{behind, begins, coord_sends, goes, reads_for, starts_line}
 use Rattle.gx_rules.specs.Coordinators.{Coord, work_of}
-use Rattle.gx_session.specs.declared.line_step.LineStep.TheVariants.{Command}
+use Rattle.gx_script.specs.declared.line_step.LineStep.TheVariants.{Command}
 use Rattle.gx_rules.specs.Expected.{CommitsByOne, FinishesLost, KeepsSnapshot, ReadsBetween, RefusesPromise, RunsOnce, between, kept_run, lost, one_phase, refused_run, repeated}
 use Rattle.gx_rules.specs.Machine.{World, after, coord_did, new_world}
 use Rattle.gx_rules.specs.Rows.{between_commits, drives, insert, kept_snapshot, lost_committed, never, number, once_at_second, one_writer, reader_between, refused_promise, repeated_exec, row_of, session, start, the_table, tuple, two_rows}

@@ -1,8 +1,14 @@
-//! What is to be run: tables, sessions, their lines, and the faults of links.
+//! What is to be run: tables, sessions, their lines, and the faults of links; and what a session's lines do outside a block,
+//! in one, and in a failed one.
 #![tactic(auto)]
+
+pub mod line_step;
+pub mod state;
 
 use gx_ids::{Node, Seq, SessionId};
 use gx_tree::{Schema, Stmt, Txt};
+pub use line_step::{LineStep, Plain};
+pub use state::SessionState;
 
 /// A line of a session, with its number within the session, from 1.
 #[derive(Debug, Drop, PartialEq, Eq)]

@@ -13,10 +13,10 @@ use Rattle.gx_dtx.specs.declared.order.Order.{Order}
 use Rattle.gx_msg.specs.declared.item.JournalItem.{JournalItem}
 use Rattle.gx_msg.specs.declared.item.Kept.{Kept}
 use Rattle.gx_msg.specs.declared.reply.Reply.{Reply}
-use Rattle.gx_phases.specs.Changes.{Change, change_of, marks_in, outs_in, turn_of}
-use Rattle.gx_phases.specs.Orders.{AreItems}
-use Rattle.gx_phases.specs.declared.local.Taken.{Taken}
-use Rattle.gx_phases.proofs.Turns.{turn-makes}
+use Rattle.gx_node.specs.Changes.{Change, change_of, marks_in, outs_in, turn_of}
+use Rattle.gx_node.specs.Orders.{AreItems}
+use Rattle.gx_node.specs.declared.local.Taken.{Taken}
+use Rattle.gx_node.proofs.Turns.{turn-makes}
 use Rattle.gx_rules.specs.AtSegment.{if_fits, on_exec}
 use Rattle.gx_rules.specs.Fits.{holds_locks, is_right_slice}
 use Rattle.gx_rules.specs.Maps.{each_below}

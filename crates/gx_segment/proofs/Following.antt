@@ -8,7 +8,7 @@ use Rattle.gx_msg.specs.declared.item.Kept.{Kept}
 use Rattle.gx_msg.specs.declared.reply.Reply.{Reply}
 use Rattle.gx_rules.specs.AtSegment.{was_prepared}
 use Rattle.gx_rules.specs.Segments.{Local, Phase, Reading, Writing, Prepared, Committed, Forgotten, Aborted, has_ended}
-use Rattle.gx_phases.specs.Changes.{Change, aborts, change_of, commits, commits_now, finishes, finishes_now, forgets, once, prepares, promises, stays, tells}
+use Rattle.gx_node.specs.Changes.{Change, aborts, change_of, commits, commits_now, finishes, finishes_now, forgets, once, prepares, promises, stays, tells}
 
 pub record Follows (l now : Local) : Type 0 where
   pub last : now.last ≡ l.last

@@ -9,7 +9,7 @@ use Rattle.gx_tree.specs.declared.slice.Slice.{Slice}
 use Rattle.gx_tree.specs.declared.slice.Slice.TheVariants as slice
 use Rattle.gx_dsnap.specs.Gxids.{is_below}
 use Rattle.gx_dsnap.specs.declared.snapshot.Snapshot.{Snapshot}
-use Rattle.gx_fits.specs.Right.{IsRightFor}
+use Rattle.gx_node.specs.Right.{IsRightFor}
 use Rattle.gx_script.specs.declared.Script.{Script}
 use Rattle.gx_rules.specs.AtSegment.{if_fits, on_exec, raised, repeats}
 use Rattle.gx_rules.specs.Fits.{holds_locks, is_right_on, is_right_slice}

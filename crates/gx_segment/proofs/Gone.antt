@@ -5,7 +5,7 @@ use Rattle.gx_ids.specs.declared.ids.Gxid.{Gxid}
 use Rattle.gx_tree.specs.declared.schema.Schema.{Schema}
 use Rattle.gx_msg.specs.declared.message.Out.{Out}
 use Rattle.gx_outside.specs.Causes.{Rose}
-use Rattle.gx_phases.specs.Orders.{AreItems}
+use Rattle.gx_node.specs.Orders.{AreItems}
 use Rattle.gx_script.specs.declared.Script.{Script}
 use Rattle.gx_store.specs.declared.mark.Mark.{Mark}
 use Rattle.gx_store.specs.declared.node.NodeEvent.{NodeEvent}

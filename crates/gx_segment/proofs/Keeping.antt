@@ -17,8 +17,8 @@ use Rattle.gx_meaning.specs.declared.fault.ArithFault.{ArithFault}
 use Rattle.gx_msg.specs.declared.message.Message.{Message}
 use Rattle.gx_msg.specs.declared.message.Message.TheVariants as message
 use Rattle.gx_msg.specs.declared.reply.Reply.{Reply}
-use Rattle.gx_phases.specs.Changes.{turn_of}
-use Rattle.gx_phases.proofs.Turns.{turn-makes}
+use Rattle.gx_node.specs.Changes.{turn_of}
+use Rattle.gx_node.proofs.Turns.{turn-makes}
 use Rattle.gx_script.specs.declared.Script.{Script}
 use Rattle.gx_store.specs.declared.node.NodeEvent.{NodeEvent}
 use Rattle.gx_store.specs.declared.node.NodeEvent.TheVariants as node

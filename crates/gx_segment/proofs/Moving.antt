@@ -7,16 +7,16 @@ use Rattle.gx_ids.specs.declared.ids.Gxid.{Gxid}
 use Rattle.gx_tree.specs.declared.schema.Schema.{Schema}
 use Rattle.gx_dsnap.specs.Gxids.{gxid_cmp}
 use Rattle.gx_slices.specs.Store.{kept_at, passes, status_of}
-use Rattle.gx_phases.specs.Changes.{Change, Makes}
-use Rattle.gx_phases.specs.declared.local.Taken.{Taken}
+use Rattle.gx_node.specs.Changes.{Change, Makes}
+use Rattle.gx_node.specs.declared.local.Taken.{Taken}
 use Rattle.gx_rules.specs.Fits.{holds_locks}
 use Rattle.gx_rules.specs.Segments.{Local, Phase, Reading, Writing, Prepared, Committed, Forgotten, Aborted, Seg, SegTurn, Version, has_committed, has_ended}
 use Rattle.gx_rules.specs.Shown.{last_images}
 use Rattle.gx_store.specs.Marks.{is_same_gxid}
 use Rattle.gx_slices.specs.Agrees.{IsHeld, entry_at, has_version, is_of_row, is_right_version, local_in, write_of}
 use Rattle.gx_slices.specs.declared.held.Held.{Held}
-use Rattle.gx_visible.specs.Counts.{is_committed}
-use Rattle.gx_xidmap.specs.declared.status.LocalStatus.{LocalStatus}
+use Rattle.gx_rows.specs.Counts.{is_committed}
+use Rattle.gx_rows.specs.declared.status.LocalStatus.{LocalStatus}
 use Rattle.gx_segment.specs.Moves.{HasMoved, status_in}
 use Rattle.gx_segment.proofs.Following.{Follows}
 use Rattle.gx_segment.proofs.Gxids.{apart, below, same_gxid}

@@ -9,15 +9,15 @@ use Rattle.gx_dtx.specs.declared.order.Order.{Order}
 use Rattle.gx_dsnap.specs.Gxids.{gxid_cmp}
 use Rattle.gx_slices.specs.Store.{Store, status_of}
 use Rattle.gx_msg.specs.declared.item.Kept.{Kept}
-use Rattle.gx_phases.specs.Changes.{Change, Does, change_of}
-use Rattle.gx_phases.specs.Phases.{local_of, phase_of}
-use Rattle.gx_phases.specs.declared.local.Taken.{Taken}
+use Rattle.gx_node.specs.Changes.{Change, Does, change_of}
+use Rattle.gx_node.specs.Phases.{local_of, phase_of}
+use Rattle.gx_node.specs.declared.local.Taken.{Taken}
 use Rattle.gx_rules.specs.Segments as rule
 use Rattle.gx_rules.specs.Segments.{has_ended}
 use Rattle.gx_slices.specs.Agrees.{entry_at, local_in, rows_in}
 use Rattle.gx_slices.specs.declared.held.Entry.{Entry}
 use Rattle.gx_slices.specs.declared.held.Held.{Held}
-use Rattle.gx_xidmap.specs.declared.status.LocalStatus.{LocalStatus}
+use Rattle.gx_rows.specs.declared.status.LocalStatus.{LocalStatus}
 use Rattle.gx_segment.specs.Moves.{HasMoved, status_in}
 use Rattle.gx_segment.proofs.Gxids.{apart, is_at-apart, same_gxid}
 

@@ -5,14 +5,14 @@ use Rattle.gx_ids.specs.declared.ids.Gxid.{Gxid}
 use Rattle.gx_dsnap.specs.Gxids.{gxid_cmp}
 use Rattle.gx_dtx.specs.declared.order.Order.{Order}
 use Rattle.gx_slices.specs.Store.{status_of}
-use Rattle.gx_phases.specs.Changes.{Change, turn_of}
-use Rattle.gx_phases.specs.declared.local.Taken.{Taken}
+use Rattle.gx_node.specs.Changes.{Change, turn_of}
+use Rattle.gx_node.specs.declared.local.Taken.{Taken}
 use Rattle.gx_rules.specs.AtSegment.{unless_below}
 use Rattle.gx_rules.specs.Segments.{Phase, Reading, Writing, Prepared, Committed, Forgotten, Aborted, Seg, SegTurn, has_ended, local_of}
 use Rattle.gx_slices.specs.Agrees.{entry_at, local_in, rows_in}
 use Rattle.gx_slices.specs.declared.held.Held.{Held}
-use Rattle.gx_xidmap.specs.declared.status.LocalStatus.{LocalStatus}
-use Rattle.gx_xidmap.specs.declared.status.LocalStatus.TheVariants as status
+use Rattle.gx_rows.specs.declared.status.LocalStatus.{LocalStatus}
+use Rattle.gx_rows.specs.declared.status.LocalStatus.TheVariants as status
 
 -- the rule of an order's message
 abbrev pub order_turn : Order → Seg → Gxid → Bool → SegTurn

@@ -3,16 +3,15 @@ ghost use Rattle.std.specs.Prelude.{◌≡◌, not};
 ghost use Rattle.std.specs.BTreeMap.{get};
 ghost use Rattle.std.specs.BTreeSet.{contains};
 ghost use Rattle.gx_dsnap.specs.Gxids.{gxid_cmp};
-ghost use Rattle.gx_phases.specs.Phases.{local_of};
+ghost use Rattle.gx_node.specs.Phases.{local_of};
 ghost use Rattle.gx_rules.specs.Maps.{each_below};
 ghost use Rattle.gx_slices.specs.Agrees.{IsHeld, local_in};
 ghost use Rattle.gx_segment.specs.Before.{Before};
 ghost use Rattle.gx_segment.specs.Ways.{IsWay, again_at, fits_here, way_of};
 
 use crate::entries::Entries;
-use gx_fits::is_right_slice;
 use gx_ids::{Cid, Gxid};
-use gx_phases::{Local, Phase};
+use gx_node::{Local, Phase, is_right_slice};
 use gx_script::Script;
 use gx_slices::Held;
 use gx_tree::Slice;

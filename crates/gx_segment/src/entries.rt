@@ -4,12 +4,12 @@ ghost use Rattle.std.specs.Map.{lookup};
 ghost use Rattle.std.specs.BTreeMap.{Updates, get};
 ghost use Rattle.gx_ids.specs.declared.ids.Gxid.{Gxid};
 ghost use Rattle.gx_dsnap.specs.Gxids.{gxid_cmp};
-ghost use Rattle.gx_phases.specs.Phases.{local_of};
+ghost use Rattle.gx_node.specs.Phases.{local_of};
 ghost use Rattle.gx_slices.specs.Agrees.{local_in, rows_in};
 
 use gx_ids::{Duplicate, Gxid, Mem};
 use gx_msg::Reply;
-use gx_phases::Local;
+use gx_node::Local;
 use gx_slices::{Entry, KeptRows};
 use std::alloc::Global;
 use std::collections::BTreeMap;

@@ -19,10 +19,10 @@ use crate::entries::kept_answer;
 use gx_dsnap::Snapshot;
 use gx_ids::{Cid, Gxid, Mem, Node};
 use gx_outside::{Gate, pass};
+use gx_rows::drop_below;
 use gx_script::Script;
 use gx_slices::{Held, Ran, run_slice};
 use gx_tree::Slice;
-use gx_xidmap::drop_below;
 use std::alloc::Global;
 
 // Takes a command's part for this segment.

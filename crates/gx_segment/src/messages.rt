@@ -1,7 +1,7 @@
 // What comes to a segment, message by message.
 ghost use Rattle.std.specs.Prelude.{◌≡◌, ◌≤◌, true, IfOk};
 ghost use Rattle.gx_outside.specs.Causes.{Rose};
-ghost use Rattle.gx_phases.specs.Orders.{AreItems};
+ghost use Rattle.gx_node.specs.Orders.{AreItems};
 ghost use Rattle.gx_rules.specs.AtSegment.{on_event, on_message};
 ghost use Rattle.gx_slices.specs.Agrees.{IsHeld};
 ghost use Rattle.gx_segment.specs.Before.{Before};

@@ -4,9 +4,9 @@ ghost use Rattle.std.specs.BTreeSet.{contains};
 ghost use Rattle.gx_ids.specs.declared.ids.Gxid.{Gxid};
 ghost use Rattle.gx_dsnap.specs.Gxids.{gxid_cmp};
 ghost use Rattle.gx_outside.specs.Causes.{Rose};
-ghost use Rattle.gx_phases.specs.Changes.{Does, change_of, marks_in};
-ghost use Rattle.gx_phases.specs.Orders.{AreItems};
-ghost use Rattle.gx_phases.specs.Phases.{local_of, phase_of};
+ghost use Rattle.gx_node.specs.Changes.{Does, change_of, marks_in};
+ghost use Rattle.gx_node.specs.Orders.{AreItems};
+ghost use Rattle.gx_node.specs.Phases.{local_of, phase_of};
 ghost use Rattle.gx_rules.specs.Segments.{has_ended};
 ghost use Rattle.gx_rules.specs.Segments as rule;
 ghost use Rattle.gx_slices.specs.Agrees.{IsHeld, entry_at, local_in, rows_in};
@@ -19,11 +19,11 @@ use crate::entries::{put_in, take_out};
 use gx_dtx::order::Order;
 use gx_ids::{Gxid, Mem, Node, Seq};
 use gx_msg::Kept;
+use gx_node::{Phase, Taken, take_order};
 use gx_outside::Journal;
-use gx_phases::{Phase, Taken, take_order};
+use gx_rows::LocalStatus;
 use gx_slices::{Entry, Held, KeptRows};
 use gx_store::Mark;
-use gx_xidmap::LocalStatus;
 use std::alloc::Global;
 use std::collections::BTreeSet;
 
@@ -86,7 +86,8 @@ fn obey<J: Journal>(
 ) -> Mem<Taken>
     requires { held.old.store.horizon.0 ≤ gxid.0 }
     ensures moved { IfOk result (λ taken. HasMoved held.old held.new gxid (change_of order node gxid (rows_in (entry_at held.old gxid)) taken.fails (local_in (entry_at held.old gxid))) taken) }
-    ensures items { IfOk result (λ taken. AreItems (J.items journal.old) (J.items journal.new) taken.fails (change_of order node gxid (rows_in (entry_at held.old gxid)) taken.fails (local_in (entry_at held.old gxid))).item) }
+    ensures items { IfOk result (λ taken. AreItems (J.items journal.old) (J.items journal.new) taken.fails
+        (change_of order node gxid (rows_in (entry_at held.old gxid)) taken.fails (local_in (entry_at held.old gxid))).item) }
     ensures caused { IfOk result (λ taken. taken.fails ≡ true → Rose (J.fault_count journal.old) (J.fault_count journal.new)) }
     ensures later { J.fault_count journal.old ≤ J.fault_count journal.new }
 {

@@ -38,7 +38,11 @@ fn send_answer(
     clock: u64,
 ) -> Mem<NodeOut>
     requires { sent.old < 2 ^ 62 }
-    ensures out { IfOk result (λ out. out ≡ record { marks = marks ++ Sent the_coordinator (sent.old + 1) message ∷ []; outs = record { node = the_coordinator; message = message } ∷ []; clock = clock }) }
+    ensures out { IfOk result (λ out. out ≡ record {
+      marks = marks ++ Sent the_coordinator (sent.old + 1) message ∷ [];
+      outs = record { node = the_coordinator; message = message } ∷ [];
+      clock = clock;
+    }) }
     ensures sent { OnOk result (sent.new ≡ sent.old + 1) }
 {
     *sent += 1;

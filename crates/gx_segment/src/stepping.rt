@@ -37,7 +37,8 @@ pub(crate) fn step_on<J: Journal, G: Gate>(
     requires numbers { sent.old < 2 ^ 62 }
     requires early { clock.old < 2 ^ 62 }
     requires heard { heard_in event < 2 ^ 62 }
-    ensures gone { IfOk result (λ out. HasGone was event held.new horizon.new sent.new clock.new (J.items journal.old) (J.items journal.new) (J.fault_count journal.old) (J.fault_count journal.new) out) }
+    ensures gone { IfOk result (λ out. HasGone was event held.new horizon.new sent.new clock.new (J.items journal.old) (J.items journal.new)
+        (J.fault_count journal.old) (J.fault_count journal.new) out) }
     ensures later { J.fault_count journal.old ≤ J.fault_count journal.new }
 {
     *clock = clock_behind(*clock, heard(&event));

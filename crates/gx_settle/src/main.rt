@@ -5,8 +5,6 @@ mod attempt;
 mod command;
 mod reading;
 mod running;
-#[cfg(test)]
-mod tests;
 mod top;
 
 use gx_decide::DiskMem;

@@ -64,13 +64,16 @@ pub fn run_settle<S: Source, K: Sink, D: Disk>(
     ensures too_large { result ≡ 9 → IsWritten (IsTooLarge (S.left source.old) (S.left source.new) (D.state disk.old) (D.state disk.new)) (K.written sink.old) (K.written sink.new) }
 
     // A call on the disk failed in this call; the text has the answers so far.
-    ensures disk_fault { result ≡ 13 → IsWritten (IsDiskFault (S.left source.old) (S.left source.new) (D.state disk.old) (D.state disk.new) (D.fault_count disk.old) (D.fault_count disk.new)) (K.written sink.old) (K.written sink.new) }
+    ensures disk_fault { result ≡ 13 → IsWritten (IsDiskFault (S.left source.old) (S.left source.new) (D.state disk.old) (D.state disk.new)
+        (D.fault_count disk.old) (D.fault_count disk.new)) (K.written sink.old) (K.written sink.new) }
 
     // A settle found no verdict and no slot; the text has the answers so far.
-    ensures full { result ≡ 14 → IsWritten (IsFullLog (S.left source.old) (S.left source.new) (D.state disk.old) (D.state disk.new) (D.fault_count disk.old) (D.fault_count disk.new)) (K.written sink.old) (K.written sink.new) }
+    ensures full { result ≡ 14 → IsWritten (IsFullLog (S.left source.old) (S.left source.new) (D.state disk.old) (D.state disk.new)
+        (D.fault_count disk.old) (D.fault_count disk.new)) (K.written sink.old) (K.written sink.new) }
 
     // An open found a bad slot, and no opens, settles and stops made such a disk.
-    ensures not_log { result ≡ 15 → IsWritten (IsNotLog (S.left source.old) (S.left source.new) (D.state disk.old) (D.state disk.new) (D.fault_count disk.old) (D.fault_count disk.new)) (K.written sink.old) (K.written sink.new) }
+    ensures not_log { result ≡ 15 → IsWritten (IsNotLog (S.left source.old) (S.left source.new) (D.state disk.old) (D.state disk.new)
+        (D.fault_count disk.old) (D.fault_count disk.new)) (K.written sink.old) (K.written sink.new) }
     ensures strange { result ≡ 15 → IsStrange (D.state disk.old) }
 {
     let attempt = make_attempt(alloc, source, disk);

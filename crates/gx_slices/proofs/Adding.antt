@@ -12,11 +12,11 @@ use Rattle.gx_ids.specs.declared.ids.Table.{Table}
 use Rattle.gx_ids.specs.declared.rid.Rid.{Rid}
 use Rattle.gx_tree.specs.declared.row.KeyedRow.{KeyedRow}
 use Rattle.gx_msg.specs.declared.item.Kept.{Kept}
-use Rattle.gx_visible.specs.Counts.{is_committed}
-use Rattle.gx_xidmap.specs.declared.status.LocalStatus.{LocalStatus}
-use Rattle.gx_xidmap.specs.declared.status.LocalStatus.TheVariants.{Running}
+use Rattle.gx_rows.specs.Counts.{is_committed}
+use Rattle.gx_rows.specs.declared.status.LocalStatus.{LocalStatus}
+use Rattle.gx_rows.specs.declared.status.LocalStatus.TheVariants.{Running}
 use Rattle.gx_slices.specs.Store.{Store, Write, passes, status_of, writes_of}
-use Rattle.gx_phases.specs.Phases.{local_of}
+use Rattle.gx_node.specs.Phases.{local_of}
 use Rattle.gx_store.specs.Marks.{is_same_gxid, is_same_rid}
 use Rattle.gx_store.specs.declared.mark.Mark.{Mark}
 use Rattle.gx_rules.specs.Segments as rule

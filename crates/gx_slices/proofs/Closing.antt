@@ -7,9 +7,9 @@ use Rattle.gx_ids.specs.declared.ids.Gxid.{Gxid}
 use Rattle.gx_tree.specs.declared.schema.Schema.{Schema}
 use Rattle.gx_dsnap.specs.Gxids.{gxid_cmp}
 use Rattle.gx_msg.specs.declared.reply.Reply.{Reply}
-use Rattle.gx_visible.specs.Counts.{is_committed}
+use Rattle.gx_rows.specs.Counts.{is_committed}
 use Rattle.gx_slices.specs.Store.{Store, passes, status_of, writes_of}
-use Rattle.gx_phases.specs.Phases.{local_of}
+use Rattle.gx_node.specs.Phases.{local_of}
 use Rattle.gx_rules.specs.Fits.{holds_locks}
 use Rattle.gx_rules.specs.Segments as rule
 use Rattle.gx_rules.specs.Segments.{Phase, Reading, Writing, Prepared, Committed, Forgotten, Aborted, Seg, has_committed, has_ended, with_local}

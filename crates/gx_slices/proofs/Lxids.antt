@@ -7,8 +7,8 @@ use Rattle.gx_ids.specs.declared.ids.Gxid.{Gxid}
 use Rattle.gx_ids.specs.declared.ids.Lxid.{Lxid}
 use Rattle.gx_ids.specs.declared.ids.Table.{Table}
 use Rattle.gx_rows.specs.declared.version.Version.{Version}
-use Rattle.gx_xidmap.specs.Xids.{Xids, at_lxid, lxid_in, lxid_of}
-use Rattle.gx_xidmap.proofs.Places.{IsPlaced, placed, position_from-push_found}
+use Rattle.gx_rows.specs.Xids.{Xids, at_lxid, lxid_in, lxid_of}
+use Rattle.gx_rows.proofs.Places.{IsPlaced, placed, position_from-push_found}
 use Rattle.gx_slices.specs.Store.{Write}
 use Rattle.gx_slices.specs.Filed.{gxid_at, write_of, IsFiled}
 

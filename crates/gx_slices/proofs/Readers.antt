@@ -14,14 +14,14 @@ use Rattle.gx_ids.specs.declared.rid.Rid.{Rid}
 use Rattle.gx_tree.specs.declared.value.Value.{Value}
 use Rattle.gx_dsnap.specs.declared.snapshot.Snapshot.{Snapshot}
 use Rattle.gx_dsnap.specs.Snapshot.{sees}
-use Rattle.gx_xidmap.specs.declared.status.LocalStatus.{LocalStatus}
-use Rattle.gx_xidmap.specs.Xids as xids
-use Rattle.gx_xidmap.specs.Xids.{Xids, at_lxid, gxid_of, kept, lxid_in, lxid_of, truncated}
+use Rattle.gx_rows.specs.declared.status.LocalStatus.{LocalStatus}
+use Rattle.gx_rows.specs.Xids as xids
+use Rattle.gx_rows.specs.Xids.{Xids, at_lxid, gxid_of, kept, lxid_in, lxid_of, truncated}
 use Rattle.gx_rows.specs.declared.version.Version.{Version}
 use Rattle.gx_rows.specs.Rows.{last_passing, is_unaborted}
-use Rattle.gx_visible.specs.Counts.{counts, is_committed, is_seen, shown_of}
-use Rattle.gx_visible.specs.Counts as counted
-use Rattle.gx_visible.proofs.Dropped.{counts-truncated}
+use Rattle.gx_rows.specs.Counts.{counts, is_committed, is_seen, shown_of}
+use Rattle.gx_rows.specs.Counts as counted
+use Rattle.gx_rows.proofs.Dropped.{counts-truncated}
 use Rattle.gx_slices.specs.declared.current.Current.{Current}
 use Rattle.gx_slices.specs.Store.{Write, current_of, is_own, is_seen_from, is_shown, is_shown_from, kept_at, newest_of, passes, shown_row, shown_row_from, status_of, writes_of}
 use Rattle.gx_slices.specs.Filed.{IsFiled, IsSound, current_at, gxid_at, last_unaborted, store_of, write_of}

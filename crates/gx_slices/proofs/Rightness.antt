@@ -18,7 +18,7 @@ use Rattle.gx_tree.specs.declared.slice.Slice.TheVariants as slice
 use Rattle.gx_tree.specs.declared.value.Value.{Value}
 use Rattle.gx_dsnap.specs.declared.snapshot.Snapshot.{Snapshot}
 use Rattle.gx_meaning.specs.Kinds.{IsTyped, kinds_of, value_kind}
-use Rattle.gx_fits.specs.Right.{IsRightFor}
+use Rattle.gx_node.specs.Right.{IsRightFor}
 use Rattle.gx_meaning.specs.Order.{rid_order}
 use Rattle.gx_msg.specs.declared.item.Kept.{Kept}
 use Rattle.gx_script.specs.declared.Script.{Script}

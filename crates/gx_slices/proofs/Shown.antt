@@ -16,8 +16,8 @@ use Rattle.gx_ids.specs.declared.rid.Rid.{Rid}
 use Rattle.gx_tree.specs.declared.row.KeyedRow.{KeyedRow}
 use Rattle.gx_tree.specs.declared.value.Value.{Value}
 use Rattle.gx_dsnap.specs.declared.snapshot.Snapshot.{Snapshot}
-use Rattle.gx_xidmap.specs.Xids.{Xids}
-use Rattle.gx_visible.specs.Counts.{shown_of}
+use Rattle.gx_rows.specs.Xids.{Xids}
+use Rattle.gx_rows.specs.Counts.{shown_of}
 use Rattle.gx_rows.specs.declared.version.Version.{Version}
 use Rattle.gx_rows.specs.Rids.{rid_cmp}
 use Rattle.gx_rows.specs.Rows.{is_of_table, rids_of, versions_of}

@@ -10,11 +10,11 @@ use Rattle.gx_ids.specs.declared.ids.Lxid.{Lxid}
 use Rattle.gx_ids.specs.declared.ids.Table.{Table}
 use Rattle.gx_ids.specs.declared.rid.Rid.{Rid}
 use Rattle.gx_rows.specs.declared.version.Version.{Version}
-use Rattle.gx_xidmap.specs.declared.status.LocalStatus.{LocalStatus}
-use Rattle.gx_xidmap.specs.declared.status.LocalStatus.TheVariants.{Running}
-use Rattle.gx_xidmap.specs.Xids as xids
-use Rattle.gx_xidmap.specs.Xids.{Xids, at_lxid, lxid_in, lxid_of}
-use Rattle.gx_xidmap.proofs.Places.{IsPlaced, placed}
+use Rattle.gx_rows.specs.declared.status.LocalStatus.{LocalStatus}
+use Rattle.gx_rows.specs.declared.status.LocalStatus.TheVariants.{Running}
+use Rattle.gx_rows.specs.Xids as xids
+use Rattle.gx_rows.specs.Xids.{Xids, at_lxid, lxid_in, lxid_of}
+use Rattle.gx_rows.proofs.Places.{IsPlaced, placed}
 use Rattle.gx_slices.specs.Store.{Writer, status_of}
 use Rattle.gx_slices.specs.Filed.{writers_of, store_of, with_status_at}
 use Rattle.gx_slices.proofs.Lxids.{position-lxid_in, lxid_of-high, lxid_in-lxid_of, at_lxid-lxid_in}

@@ -12,9 +12,9 @@ use Rattle.gx_ids.specs.declared.ids.Table.{Table}
 use Rattle.gx_ids.specs.declared.rid.Rid.{Rid}
 use Rattle.gx_ids.specs.declared.memory.OutOfMemory.{OutOfMemory}
 use Rattle.gx_tree.specs.declared.value.Value.{Value}
-use Rattle.gx_xidmap.specs.declared.status.LocalStatus.{LocalStatus}
-use Rattle.gx_xidmap.specs.declared.status.LocalStatus.TheVariants.{Running}
-use Rattle.gx_xidmap.specs.Xids.{Xids, assigned, lxid_in, lxid_of}
+use Rattle.gx_rows.specs.declared.status.LocalStatus.{LocalStatus}
+use Rattle.gx_rows.specs.declared.status.LocalStatus.TheVariants.{Running}
+use Rattle.gx_rows.specs.Xids.{Xids, assigned, lxid_in, lxid_of}
 use Rattle.gx_rows.specs.declared.version.Version.{Version}
 use Rattle.gx_slices.specs.Store.{Store, Write, Writer, kept_at, status_of, writes_of}
 use Rattle.gx_slices.specs.Filed.{IsFiled, IsSound, IsWritten, filed, gxid_at, store_of, with_writer, write_of}

@@ -14,9 +14,9 @@ use Rattle.gx_tree.specs.declared.value.Value.{Value}
 use Rattle.gx_dsnap.specs.Gxids.{gxid_cmp}
 use Rattle.gx_msg.specs.declared.item.Kept.{Kept}
 use Rattle.gx_store.specs.Marks.{is_same_gxid, is_same_rid}
-use Rattle.gx_visible.specs.Counts.{is_committed}
+use Rattle.gx_rows.specs.Counts.{is_committed}
 use Rattle.gx_slices.specs.Store.{Write, passes, status_of, writes_of}
-use Rattle.gx_phases.specs.Phases.{local_of}
+use Rattle.gx_node.specs.Phases.{local_of}
 use Rattle.gx_rules.specs.Fits.{holds_locks, is_right_row, kinds_in}
 use Rattle.gx_rules.specs.Segments as rule
 use Rattle.gx_rules.specs.Segments.{Seg, Version, has_committed, new_local}

@@ -7,9 +7,9 @@ use Rattle.gx_ids.specs.declared.ids.Table.{Table}
 use Rattle.gx_ids.specs.declared.rid.Rid.{Rid}
 use Rattle.gx_dsnap.specs.Gxids.{gxid_cmp}
 use Rattle.gx_msg.specs.declared.reply.Reply.{Reply}
-use Rattle.gx_visible.specs.Counts.{is_committed}
+use Rattle.gx_rows.specs.Counts.{is_committed}
 use Rattle.gx_slices.specs.Store.{Store, passes, status_of, writes_of}
-use Rattle.gx_phases.specs.Phases.{local_of}
+use Rattle.gx_node.specs.Phases.{local_of}
 use Rattle.gx_rules.specs.Segments as rule
 use Rattle.gx_rules.specs.Segments.{Seg, has_committed}
 use Rattle.gx_rules.specs.Shown.{kept_of}

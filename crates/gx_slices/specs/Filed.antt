@@ -11,11 +11,11 @@ use Rattle.gx_ids.specs.declared.rid.Rid.{Rid}
 use Rattle.gx_tree.specs.declared.row.KeyedRow.{KeyedRow}
 use Rattle.gx_tree.specs.declared.value.Value.{Value}
 use Rattle.gx_dsnap.specs.declared.snapshot.Snapshot.{Snapshot}
-use Rattle.gx_xidmap.specs.declared.status.LocalStatus.{LocalStatus}
-use Rattle.gx_xidmap.specs.Xids.{Xids, at_lxid, lxid_in, lxid_of, gxid_of, assigned, status_of, with_status}
+use Rattle.gx_rows.specs.declared.status.LocalStatus.{LocalStatus}
+use Rattle.gx_rows.specs.Xids.{Xids, at_lxid, lxid_in, lxid_of, gxid_of, assigned, status_of, with_status}
 use Rattle.gx_rows.specs.declared.version.Version.{Version}
 use Rattle.gx_rows.specs.Rows.{versions_of, added, rids_of, last_passing, is_unaborted}
-use Rattle.gx_visible.specs.Counts.{shown_of}
+use Rattle.gx_rows.specs.Counts.{shown_of}
 use Rattle.gx_slices.specs.Store.{Store, Write, Writer, kept_at, table_cmp}
 use Rattle.gx_slices.specs.declared.current.Current.{Current}
 

@@ -7,9 +7,9 @@ use Rattle.gx_ids.specs.declared.ids.Table.{Table}
 use Rattle.gx_ids.specs.declared.rid.Rid.{Rid}
 use Rattle.gx_tree.specs.declared.row.KeyedRow.{KeyedRow}
 use Rattle.gx_tree.specs.declared.schema.Schema.{Schema}
-use Rattle.gx_xidmap.specs.declared.status.LocalStatus.TheVariants.{Running}
+use Rattle.gx_rows.specs.declared.status.LocalStatus.TheVariants.{Running}
 use Rattle.gx_slices.specs.Store.{Store, status_of, writes_of}
-use Rattle.gx_phases.specs.declared.local.Phase.TheVariants as phase
+use Rattle.gx_node.specs.declared.local.Phase.TheVariants as phase
 use Rattle.gx_store.specs.Journals.{kept_with}
 use Rattle.gx_store.specs.declared.mark.Mark.{Mark}
 use Rattle.gx_store.specs.declared.mark.Mark.TheVariants.{Write}

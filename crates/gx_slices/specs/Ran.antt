@@ -4,7 +4,7 @@ use Rattle.gx_ids.specs.declared.ids.Cid.{Cid}
 use Rattle.gx_ids.specs.declared.ids.Gxid.{Gxid}
 use Rattle.gx_tree.specs.declared.schema.Schema.{Schema}
 use Rattle.gx_tree.specs.declared.slice.Slice.{Slice}
-use Rattle.gx_fits.specs.Right.{IsRightFor}
+use Rattle.gx_node.specs.Right.{IsRightFor}
 use Rattle.gx_rules.specs.Segments.{Phase, Reading, Writing, Seg, SegTurn, local_of, reply}
 use Rattle.gx_slices.specs.Agrees.{IsHeld}
 use Rattle.gx_slices.specs.declared.held.Held.{Held}

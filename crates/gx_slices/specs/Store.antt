@@ -11,11 +11,11 @@ use Rattle.gx_ids.specs.declared.rid.Rid.{Rid}
 use Rattle.gx_tree.specs.declared.value.Value.{Value}
 use Rattle.gx_dsnap.specs.declared.snapshot.Snapshot.{Snapshot}
 use Rattle.gx_dsnap.specs.Snapshot.{sees}
-use Rattle.gx_xidmap.specs.declared.status.LocalStatus.{LocalStatus}
-use Rattle.gx_xidmap.specs.Xids.{kept}
+use Rattle.gx_rows.specs.declared.status.LocalStatus.{LocalStatus}
+use Rattle.gx_rows.specs.Xids.{kept}
 use Rattle.gx_rows.specs.Rids.{rid_cmp}
 use Rattle.gx_rows.specs.Rows.{last_passing, is_unaborted}
-use Rattle.gx_visible.specs.Counts.{is_committed}
+use Rattle.gx_rows.specs.Counts.{is_committed}
 use Rattle.gx_slices.specs.declared.current.Current.{Current}
 
 -- what a command of a transaction made of a row; none is the row gone

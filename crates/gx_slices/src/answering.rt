@@ -1,6 +1,6 @@
 // The answer of a command is kept.
 ghost use Rattle.std.specs.Prelude.{◌≡◌, OnOk};
-ghost use Rattle.gx_phases.specs.Phases.{phase_of};
+ghost use Rattle.gx_node.specs.Phases.{phase_of};
 ghost use Rattle.gx_rules.specs.Slices as rule;
 ghost use Rattle.gx_slices.specs.Apart.{IsBack, answered};
 
@@ -8,7 +8,7 @@ use crate::entries::{put_entry, set_holder};
 use crate::held::{Entry, Held};
 use gx_ids::{Cid, Duplicate, Gxid, Mem};
 use gx_msg::Reply;
-use gx_phases::Phase;
+use gx_node::Phase;
 use std::alloc::Global;
 
 pub(crate) fn has_written(phase: Phase) -> bool

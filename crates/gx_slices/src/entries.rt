@@ -4,13 +4,13 @@ ghost use Rattle.std.specs.BTreeMap.{get};
 ghost use Rattle.std.specs.BTreeSet.{contains};
 ghost use Rattle.gx_ids.specs.declared.ids.Gxid.{Gxid};
 ghost use Rattle.gx_dsnap.specs.Gxids.{gxid_cmp};
-ghost use Rattle.gx_phases.specs.Phases.{local_of};
+ghost use Rattle.gx_node.specs.Phases.{local_of};
 ghost use Rattle.gx_slices.specs.Agrees.{local_in, rows_in};
 
 use crate::held::Entry;
 use crate::kept::KeptRows;
 use gx_ids::{Gxid, Mem};
-use gx_phases::Local;
+use gx_node::Local;
 use std::alloc::Global;
 use std::collections::{BTreeMap, BTreeSet};
 

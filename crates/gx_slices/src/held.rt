@@ -1,7 +1,7 @@
 use crate::kept::KeptRows;
 use crate::store::LocalStore;
 use gx_ids::Gxid;
-use gx_phases::Local;
+use gx_node::Local;
 use std::collections::{BTreeMap, BTreeSet};
 
 /// A transaction at a segment: where it stands, and what it wrote here.

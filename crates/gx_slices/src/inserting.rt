@@ -15,7 +15,7 @@ use crate::running::Ran;
 use crate::store::LocalStore;
 use gx_ids::{Cid, Duplicate, Gxid, Mem, Node, Seq, Table};
 use gx_msg::Reply;
-use gx_phases::Phase;
+use gx_node::Phase;
 use gx_store::Mark;
 use gx_tree::{KeyedRow, Part, Schema};
 use std::alloc::Global;

@@ -5,10 +5,7 @@ use crate::store::LocalStore;
 
 fn is_send<T: Send>(_value: &T) {}
 
-pub(crate) fn held_is_send(held: &Held) {
+pub(crate) fn kept_is_send(held: &Held, store: &LocalStore) {
     is_send(held);
-}
-
-pub(crate) fn store_is_send(store: &LocalStore) {
     is_send(store);
 }

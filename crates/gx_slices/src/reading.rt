@@ -2,17 +2,15 @@ ghost use Rattle.std.specs.Prelude.{◌≡◌, ◌++◌, IfOk, OnOk, option_map,
 ghost use Rattle.std.specs.List.{flat_map};
 ghost use Rattle.std.specs.Option.{option_copied};
 ghost use Rattle.gx_meaning.specs.Answer.{AreRising};
-ghost use Rattle.gx_xidmap.specs.Xids.{lxid_of};
+ghost use Rattle.gx_rows.specs.Xids.{lxid_of};
 ghost use Rattle.gx_slices.specs.Store.{kept_at};
 ghost use Rattle.gx_slices.specs.Filed.{current_at, image_at, keyed, last_unaborted, rows_at, versions_in};
 
 use crate::current::Current;
 use gx_dsnap::Snapshot;
 use gx_ids::{Cid, Duplicate, Gxid, Lxid, Mem, Rid, Table};
-use gx_rows::{Version, Versions};
+use gx_rows::{Version, Versions, XidMap, shown};
 use gx_tree::{KeyedRow, Row};
-use gx_visible::shown;
-use gx_xidmap::XidMap;
 use std::alloc::Global;
 use std::collections::BTreeMap;
 

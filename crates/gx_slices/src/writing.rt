@@ -1,12 +1,11 @@
 ghost use Rattle.std.specs.Prelude.{◌≡◌, ◌≤◌, ◌⊎◌, Some, IfOk, OnOk, OnErr, option_map};
 ghost use Rattle.std.specs.BTreeMap.{IsUnchanged};
-ghost use Rattle.gx_xidmap.specs.Xids.{lxid_of, status_of};
+ghost use Rattle.gx_rows.specs.Xids.{lxid_of, status_of};
 ghost use Rattle.gx_slices.specs.Filed.{IsWritten, filed, with_status_at, with_writer};
 
 use gx_ids::{Cid, Gxid, Lxid, Mem, Rid, Table};
-use gx_rows::Versions;
+use gx_rows::{LocalStatus, Versions, XidMap};
 use gx_tree::Row;
-use gx_xidmap::{LocalStatus, XidMap};
 use std::alloc::Global;
 use std::collections::BTreeMap;
 

@@ -130,7 +130,8 @@ fn push_table(
 ) -> Result<(), LineError>
     requires named { AreTables tables.old.entries }
     requires bounded { length table.now.columns ≤ 32 }
-    ensures said { Ends result (schemas tables.new.entries) (said.giving (λ schema. schemas tables.old.entries ++ schema ∷ []) (table_from (said.is_known table.now.name (schemas tables.old.entries)) table.now)) }
+    ensures said { Ends result (schemas tables.new.entries) (said.giving (λ schema. schemas tables.old.entries ++ schema ∷ [])
+        (table_from (said.is_known table.now.name (schemas tables.old.entries)) table.now)) }
     ensures named { OnOk result (AreTables tables.new.entries) }
     ensures more { OnOk result (length tables.new.entries ≡ length tables.old.entries + 1) }
 {

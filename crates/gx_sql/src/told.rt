@@ -105,7 +105,8 @@ impl Progress {
         requires some { 1 ≤ segments }
         requires few { segments ≤ 16 }
         requires short { vec_len self.old.lines < 2 ^ 32 - 1 }
-        ensures said { Stands (Counts (PassesInHead the_limits (length self.old.tables.entries) (named self.old.sessions.entries) tokens.now) (Follows (of.head_line segments) (said.with_line_syn (progress_of self.old)) tokens.now)) result (progress_of self.new) }
+        ensures said { Stands (Counts (PassesInHead the_limits (length self.old.tables.entries) (named self.old.sessions.entries) tokens.now)
+            (Follows (of.head_line segments) (said.with_line_syn (progress_of self.old)) tokens.now)) result (progress_of self.new) }
         ensures held { OnOk result (IsHeld self.new) }
         ensures lines { vec_len self.new.lines ≤ vec_len self.old.lines + 1 }
     {
@@ -132,7 +133,8 @@ impl Progress {
     fn read_session(&mut self, alloc: Global, tokens: &[Token]) -> Result<(), LineError>
         requires held { IsHeld self.old }
         requires short { vec_len self.old.lines < 2 ^ 32 - 1 }
-        ensures said { Stands (Counts (PassesInLine (named self.old.sessions.entries) tokens.now) (Follows of.session_line (said.with_line_syn (progress_of self.old)) tokens.now)) result (progress_of self.new) }
+        ensures said { Stands (Counts (PassesInLine (named self.old.sessions.entries) tokens.now)
+            (Follows of.session_line (said.with_line_syn (progress_of self.old)) tokens.now)) result (progress_of self.new) }
         ensures held { OnOk result (IsHeld self.new) }
         ensures lines { vec_len self.new.lines ≤ vec_len self.old.lines + 1 }
     {

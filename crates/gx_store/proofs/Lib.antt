@@ -8,4 +8,6 @@ mod NeverStarted
 mod NothingReported
 mod ReleasedEarly
 mod Exclusive
-pub mod RefusedRuns
+mod RefusedParts
+mod RefusedHistories
+mod RefusedCommits

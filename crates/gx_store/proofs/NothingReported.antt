@@ -1,32 +1,34 @@
 -- An empty report of a segment where a transaction waits is refused.
-use Rattle.std.proofs.Common.{◌≡◌, ℕ, List, [], ◌∷◌, inl, refl, ap, arith}
-use Rattle.std.specs.Prelude.{Contains}
+use Rattle.std.proofs.Common.{◌≡◌, ℕ, [], ◌∷◌, inl, refl, ap, arith}
 use Rattle.gx_ids.specs.declared.ids.Gxid.{Gxid}
+use Rattle.gx_tree.specs.declared.query.Query.{Query}
 use Rattle.gx_modes.specs.declared.modes.Mode.TheVariants.{Exclusive}
+use Rattle.gx_script.specs.declared.Script.{Script}
 use Rattle.gx_waits.specs.Claim.{IsEdge, IsEdgeOf, Meets, edge_of}
 use Rattle.gx_waits.specs.declared.claim.Claim.{Claim}
-use Rattle.gx_waits.specs.declared.edge.Edge.{Edge}
 use Rattle.gx_waits.specs.declared.object.Object.TheVariants.{Relation}
 use Rattle.gx_waits.proofs.Members.{any_from_has, has_from_contains}
-use Rattle.gx_store.specs.RefusedRunsB.{nothing_reported, one_select, the_table}
+use Rattle.gx_store.specs.RefusedParts.{first_txn, second_txn}
+use Rattle.gx_store.specs.RefusedWaits.{first_table, nothing_reported, one_query}
 use Rattle.gx_store.specs.Rounds.{AreRounds}
 
-abbrev wait : Claim
-wait = record { gxid = record { 0 = 2 }; object = Relation the_table; mode = Exclusive }
+module _ (script : Script) (query : Query) where
+  abbrev wait : Claim
+  wait = record { gxid = second_txn; object = Relation first_table; mode = Exclusive }
 
-abbrev hold : Claim
-hold = record { gxid = record { 0 = 1 }; object = Relation the_table; mode = Exclusive }
+  abbrev hold : Claim
+  hold = record { gxid = first_txn; object = Relation first_table; mode = Exclusive }
 
-it-meets : Meets wait hold
-it-meets = record { other = λ e. differ wait.gxid.0 refl (ap (λ (g : Gxid). g.0) e); same_object = refl; conflicting = refl }
-  where
-    differ : (n : ℕ) → n ≡ 2 → n ≡ 1 → ⊥
-    differ n d e = omega arith
+  it-meets : Meets wait hold
+  it-meets = record { other = λ e. differ second_txn.0 refl (ap (λ (g : Gxid). g.0) e); same_object = refl; conflicting = refl }
+    where
+      differ : (n : ℕ) → n ≡ 2 → n ≡ 1 → ⊥
+      differ n d e = omega arith
 
-it-stands : IsEdge (wait ∷ []) (hold ∷ []) (edge_of wait hold)
-it-stands =
-    any_from_has (λ w. IsEdgeOf w (hold ∷ []) (edge_of wait hold)) (wait ∷ []) wait (inl refl)
-    (any_from_has (λ h. Meets wait h × (edge_of wait hold ≡ edge_of wait h)) (hold ∷ []) hold (inl refl) (it-meets, refl))
+  it-stands : IsEdge (wait ∷ []) (hold ∷ []) (edge_of wait hold)
+  it-stands =
+      any_from_has (λ w. IsEdgeOf w (hold ∷ []) (edge_of wait hold)) (wait ∷ []) wait (inl refl)
+      (any_from_has (λ h. Meets wait h × (edge_of wait hold ≡ edge_of wait h)) (hold ∷ []) hold (inl refl) (it-meets, refl))
 
-pub refused : AreRounds one_select [] nothing_reported → ⊥
-refused h = has_from_contains (edge_of wait hold) [] (h.3.3.3.0.0.edges.all_of_them (edge_of wait hold) it-stands)
+  pub no-rounds : AreRounds (one_query script query) [] nothing_reported → ⊥
+  no-rounds h = has_from_contains (edge_of wait hold) [] (h.3.3.3.0.0.tells.edges.all_of_them (edge_of wait hold) it-stands)

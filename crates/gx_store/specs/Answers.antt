@@ -1,5 +1,5 @@
 -- What the answer to a line says, by where its session stands.
-use Rattle.std.specs.Prelude.{◌≡◌, ℕ, ◌≤◌, Bool, true, false, List, length, Some, Ok, All}
+use Rattle.std.specs.Prelude.{◌≡◌, ℕ, ◌≤◌, Bool, true, false, List, length, map, Some, Ok, All, Contains}
 use Rattle.std.specs.declared.option.Option.{Option}
 use Rattle.gx_ids.specs.declared.ids.Gxid.{Gxid}
 use Rattle.gx_ids.specs.declared.ids.Cid.{Cid}
@@ -19,9 +19,12 @@ use Rattle.gx_tree.specs.declared.value.Value.{Value}
 use Rattle.gx_meaning.specs.Answer.{answer_of}
 use Rattle.gx_modes.specs.declared.modes.Mode.{Mode}
 use Rattle.gx_meaning.specs.Constants.{values_of}
+use Rattle.gx_meaning.specs.Plan.{plan_of}
+use Rattle.gx_meaning.specs.Statements.{table_of}
+use Rattle.gx_meaning.specs.declared.piece.Piece.{Piece}
 use Rattle.gx_script.specs.declared.Script.{Script}
 use Rattle.gx_waits.specs.declared.object.Object.TheVariants.{Relation}
-use Rattle.gx_store.specs.declared.answer.Refused.TheVariants.{InFailedBlock, JournalFault, NotInBlock}
+use Rattle.gx_store.specs.declared.answer.Refused.TheVariants.{InFailedBlock, NotInBlock}
 use Rattle.gx_store.specs.declared.answer.StmtAnswer.{StmtAnswer}
 use Rattle.gx_store.specs.declared.answer.StmtAnswer.TheVariants.{Begin, Commit, Rollback, Locked, Inserted, Updated, Deleted, Rows, Refused}
 use Rattle.gx_store.specs.declared.mark.Mark.{Mark}
@@ -29,9 +32,11 @@ use Rattle.gx_store.specs.Commands.{Sees, condition_on, has_own_snapshot}
 use Rattle.gx_store.specs.Lines.{BlockState, Outside, InBlock, Failed, cid_of, is_command, level_of, transaction_of}
 use Rattle.gx_store.specs.Marks.{is_aborted, is_begun, is_committed, is_ended, is_processed, write_count}
 use Rattle.gx_store.specs.Points.{Point, before}
+use Rattle.gx_store.specs.Protocol.{IsReturned}
 use Rattle.gx_store.specs.Refusals.{IsRefusal}
 use Rattle.gx_store.specs.Rows.{row_at}
 use Rattle.gx_store.specs.Waits.{is_held}
+use Rattle.gx_store.specs.Writes.{dist_of}
 
 -- the condition faults on none of the rows
 abbrev pub FaultsOnNone : Option Cond → List KeyedRow → Type 0
@@ -80,13 +85,22 @@ abbrev pub IsAtItsEnd : BlockState → Point → Gxid → Type 0
 IsAtItsEnd Outside point g = is_committed point.earlier g ≡ true
 IsAtItsEnd _ point g = is_ended (before point) g ≡ false
 
--- the line is a command, which succeeded
+-- the command's plan has a piece for the node
+pub record GoesTo (script : Script) (g : Gxid) (c : Cid) (line : Stmt) (node : Node) : Type 0 where
+  pub table : Table
+  pub of : table_of line ≡ Some table
+  pub pieces : List Piece
+  pub plan : plan_of script.segments (dist_of script.tables table.0) g c line ≡ Ok pieces
+  pub among : Contains (map (λ piece. piece.node) pieces) node
+
+-- the line is a command, which succeeded: each node to which it goes has answered that it is done
 pub record IsDone (script : Script) (point : Point) (session : SessionId) (state : BlockState) (stmt : Stmt) (answer : StmtAnswer) : Type 0 where
   pub command : is_command state stmt ≡ true
   pub g : Gxid
   pub transaction : transaction_of state session (before point) ≡ Some g
   pub end : IsAtItsEnd state point g
   pub told : Tells script (before point) (level_of state) g (cid_of state) stmt answer
+  pub back : (node : Node) → GoesTo script g (cid_of state) stmt node → IsReturned point g (cid_of state) node
 
 -- the session's block has committed, or aborted, in this step
 pub record HasCommitted (point : Point) (session : SessionId) (state : BlockState) : Type 0 where
@@ -100,8 +114,7 @@ pub record HasAborted (point : Point) (session : SessionId) (state : BlockState)
   pub aborted : is_aborted point.earlier g ≡ true
 
 -- The answer to a line: outside a block BEGIN opens one, COMMIT and ROLLBACK change nothing, LOCK TABLE is refused; in a
--- block BEGIN changes nothing, and COMMIT is refused for a journal alone; in a failed one all but COMMIT and ROLLBACK are
--- refused, and both of these roll back.
+-- block BEGIN changes nothing; in a failed one all but COMMIT and ROLLBACK are refused, and both of these roll back.
 abbrev pub IsAnswer : Script → Point → SessionId → BlockState → Stmt → StmtAnswer → Type 0
 IsAnswer script point session Outside (stmt.Begin level) Begin = is_begun session (before point) ≡ true
 IsAnswer script point session Outside stmt.Commit Commit = Unit {0}
@@ -109,10 +122,7 @@ IsAnswer script point session Outside stmt.Rollback Rollback = Unit {0}
 IsAnswer script point session Outside (stmt.Lock table mode) (Refused NotInBlock) = Unit {0}
 IsAnswer script point session (InBlock level commands) (stmt.Begin other) Begin = Unit {0}
 IsAnswer script point session (InBlock level commands) stmt.Commit Commit = HasCommitted point session (InBlock level commands)
-IsAnswer script point session (InBlock level commands) stmt.Commit (Refused (JournalFault node)) = IsRefusal script point session (InBlock level commands) stmt.Commit (JournalFault node)
-IsAnswer script point session (InBlock level commands) stmt.Commit (Refused reason) = ⊥
 IsAnswer script point session (InBlock level commands) stmt.Rollback Rollback = HasAborted point session (InBlock level commands)
-IsAnswer script point session (InBlock level commands) stmt.Rollback (Refused reason) = ⊥
 IsAnswer script point session Failed stmt.Commit Rollback = Unit {0}
 IsAnswer script point session Failed stmt.Rollback Rollback = Unit {0}
 IsAnswer script point session Failed stmt.Commit (Refused reason) = ⊥

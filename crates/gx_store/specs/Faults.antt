@@ -1,5 +1,5 @@
 -- What it means that an evaluation of a command faulted on a row.
-use Rattle.std.specs.Prelude.{◌≡◌, ◌⊎◌, ℕ, ◌-◌, ◌<◌, ◌≤◌, List, slice_get, Some, None, Ok, Err}
+use Rattle.std.specs.Prelude.{◌≡◌, ◌⊎◌, ℕ, ◌-◌, ◌<◌, ◌≤◌, true, List, slice_get, Some, None, Ok, Err}
 use Rattle.std.specs.declared.option.Option.{Option}
 use Rattle.gx_ids.specs.declared.ids.Gxid.{Gxid}
 use Rattle.gx_ids.specs.declared.ids.Cid.{Cid}
@@ -20,6 +20,7 @@ use Rattle.gx_meaning.specs.Constants.{values_of}
 use Rattle.gx_script.specs.declared.Script.{Script}
 use Rattle.gx_store.specs.declared.mark.Mark.{Mark}
 use Rattle.gx_store.specs.Commands.{IsUnderWay, Sees, condition_on}
+use Rattle.gx_store.specs.Lines.{is_on_rows}
 use Rattle.gx_store.specs.Points.{Point, before}
 use Rattle.gx_store.specs.Rows.{row_at}
 use Rattle.gx_store.specs.Writes.{IsCurrentFor, IsLate, IsSelectedAndFree, set_row}
@@ -43,7 +44,8 @@ pub record FaultsOnCurrent (marks : List Mark) (level : Level) (g : Gxid) (c : C
   pub faults : condition_on cond old ≡ Err fault
 
 -- the SET list faults on the current image of a selected row that would be written
-pub record FaultsInSet (marks : List Mark) (level : Level) (g : Gxid) (c : Cid) (table : Table) (assigns : List Assign) (cond : Option Cond) (rid : Rid) (image : Option (List Value)) (fault : ArithFault) : Type 0 where
+pub record FaultsInSet (marks : List Mark) (level : Level) (g : Gxid) (c : Cid) (table : Table) (assigns : List Assign) (cond : Option Cond)
+    (rid : Rid) (image : Option (List Value)) (fault : ArithFault) : Type 0 where
   pub selected : IsSelectedAndFree marks level g c table cond rid
   pub old : List Value
   pub image_before : selected.write.image ≡ Some old
@@ -79,9 +81,11 @@ pub record IsLiveFault (script : Script) (point : Point) (g : Gxid) (c : Cid) (r
   pub runs : IsUnderWay script point session stmt level g c
   pub faults : IsFaultOf (before point) level g c stmt rid image fault
 
+-- a command on rows faults late
 pub record IsLateFault (script : Script) (point : Point) (g : Gxid) (c : Cid) : Type 0 where
   pub stmt : Stmt
   pub late : IsLate script point g c stmt
+  pub kind : is_on_rows stmt ≡ true
 
 abbrev pub LegalFault : Script → Point → Gxid → Cid → Rid → Option (List Value) → Type 0
 LegalFault script point g c rid image = IsLiveFault script point g c rid image ⊎ IsLateFault script point g c

@@ -20,5 +20,7 @@ pub mod Rounds
 pub mod Schedule
 pub mod Language
 pub mod Whole
-pub mod RefusedRunsB
-pub mod RefusedRuns
+pub mod RefusedParts
+pub mod RefusedHistories
+pub mod RefusedCommits
+pub mod RefusedWaits

@@ -1,15 +1,19 @@
 -- Which locks a history has (PostgreSQL manual 13.3): no two that conflict, and whoever reads or writes holds what it must.
-use Rattle.std.specs.Prelude.{◌≡◌, ◌⊎◌, true, false, if◌then◌else◌, List, [], ◌∷◌, ◌++◌, All, Any, AllPairs}
+use Rattle.std.specs.Prelude.{◌≡◌, ◌⊎◌, ℕ, true, false, if◌then◌else◌, List, [], ◌∷◌, ◌++◌, All, Any, AllPairs, Contains}
+use Rattle.std.specs.declared.option.Option.{Option}
 use Rattle.gx_ids.specs.declared.ids.Cid.{Cid}
 use Rattle.gx_ids.specs.declared.ids.Gxid.{Gxid}
 use Rattle.gx_ids.specs.declared.ids.Node.{Node}
 use Rattle.gx_ids.specs.declared.ids.SessionId.{SessionId}
 use Rattle.gx_ids.specs.declared.ids.Table.{Table}
+use Rattle.gx_tree.specs.declared.slice.Slice.{Slice}
 use Rattle.gx_tree.specs.declared.stmt.Level.{Level}
 use Rattle.gx_tree.specs.declared.stmt.Stmt.{Stmt}
 use Rattle.gx_tree.specs.declared.stmt.Stmt.TheVariants as stmt
+use Rattle.gx_dsnap.specs.declared.snapshot.Snapshot.{Snapshot}
 use Rattle.gx_modes.specs.declared.modes.Mode.{Mode}
 use Rattle.gx_modes.specs.declared.modes.Mode.TheVariants.{AccessShare, RowExclusive, Share, Exclusive}
+use Rattle.gx_msg.specs.declared.message.Message.TheVariants as message
 use Rattle.gx_script.specs.declared.Script.{Script}
 use Rattle.gx_waits.specs.Claim.{Meets}
 use Rattle.gx_waits.specs.declared.claim.Claim.{Claim}
@@ -19,7 +23,7 @@ use Rattle.gx_store.specs.declared.answer.StmtAnswer.{StmtAnswer}
 use Rattle.gx_store.specs.declared.answer.StmtAnswer.TheVariants.{Refused}
 use Rattle.gx_store.specs.declared.event.Event.{Event}
 use Rattle.gx_store.specs.declared.mark.Mark.{Mark}
-use Rattle.gx_store.specs.declared.mark.Mark.TheVariants.{Write, Answer, Hold, Wait, Release}
+use Rattle.gx_store.specs.declared.mark.Mark.TheVariants.{Write, Answer, Hold, Wait, Release, Sent}
 use Rattle.gx_store.specs.declared.run.Step.{Step}
 use Rattle.gx_store.specs.Commands.{RunsCommand}
 use Rattle.gx_store.specs.Marks.{is_aborted, is_ended, is_snapped}
@@ -60,7 +64,7 @@ IsMomentary node (Tuple rid) mode = node ≡ the_coordinator → ⊥
 IsMomentary node (Transaction other) mode = (node ≡ the_coordinator → ⊥) × (mode ≡ Share)
 IsMomentary node _ mode = ⊥
 
--- a SELECT that succeeds holds its table when it is answered
+-- a command on rows that succeeds holds its table at the coordinator when it is answered
 abbrev pub HoldsAtAnswer : Script → Point → SessionId → StmtAnswer → Type 0
 HoldsAtAnswer script point session (Refused reason) = Unit {0}
 HoldsAtAnswer script point session answer = (line : Stmt) (level : Level) (g : Gxid) (c : Cid) → RunsCommand script point session line level g c → HoldsTable script (before point) g line
@@ -73,10 +77,22 @@ LocksAt script point (Write g c node table rid image) = (is_aborted (before poin
 LocksAt script point (Answer session number answer) = HoldsAtAnswer script point session answer
 LocksAt script point _ = Unit {0}
 
--- from its own snapshot to its answer, a command holds its table, whoever has ended in between
+-- the command was sent to some segment
+pub record HasGoneOut (marks : List Mark) (g : Gxid) (c : Cid) : Type 0 where
+  pub node : Node
+  pub number : ℕ
+  pub level : Level
+  pub snapshot : Option Snapshot
+  pub horizon : Gxid
+  pub slice : Slice
+  pub sent : Contains marks (Sent node number (message.Exec g c level snapshot horizon slice))
+
+-- from its own snapshot, or from its first sending, to its answer, a command on rows holds its table at the coordinator, whoever has
+-- ended in between
 abbrev pub LocksWhileReading : Script → Point → Type 0
 LocksWhileReading script point =
-    (session : SessionId) (line : Stmt) (level : Level) (g : Gxid) (c : Cid) → RunsCommand script point session line level g c → is_snapped (before point) g c ≡ true → HoldsTable script (before point) g line
+    (session : SessionId) (line : Stmt) (level : Level) (g : Gxid) (c : Cid) → RunsCommand script point session line level g c
+    → (is_snapped (before point) g c ≡ true) ⊎ HasGoneOut (before point) g c → HoldsTable script (before point) g line
 
 pub record LegalLocksAt (script : Script) (point : Point) (mark : Mark) : Type 0 where
   pub here : LocksAt script point mark

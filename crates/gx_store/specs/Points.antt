@@ -16,7 +16,8 @@ marks_in steps = flat_map (λ step. step.marks) steps
 abbrev pub marks_of : Run → List Mark
 marks_of run = marks_in run.steps
 
--- the steps before a mark's own, the event of that step, and the marks of that step before and behind it
+-- The steps before the point's own, the event of that step, and the marks of that step before the point and behind it. At a mark's
+-- own point, at which it is judged, the marks behind don't hold that mark itself.
 pub record Point : Type 0 where
   pub steps : List Step
   pub event : Event
@@ -50,7 +51,7 @@ ends_in session [] = 0
 ends_in session (s ∷ ss) = ends_by session s.event + ends_in session ss
 
 -- EARLIER POINTS
--- a point of one of these steps: before one of its marks, or behind them all
+-- a point between the marks of one of these steps, before them or behind them: the marks before and behind are all its marks
 pub record IsPointOf (steps : List Step) (point : Point) : Type 0 where
   pub step : Step
   pub rest : List Step

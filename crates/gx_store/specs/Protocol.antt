@@ -1,5 +1,5 @@
 -- How transactions commit and abort over several segments (Lyu et al., SIGMOD 2021: one- and two-phase commit).
-use Rattle.std.specs.Prelude.{◌≡◌, ◌⊎◌, ℕ, ◌+◌, Bool, false, if◌then◌else◌, ◌&&◌, ◌||◌, List, [], ◌∷◌, ◌++◌, slice_get, take, filter, Some, Contains}
+use Rattle.std.specs.Prelude.{◌≡◌, ◌⊎◌, ℕ, ◌+◌, Bool, true, false, if◌then◌else◌, ◌&&◌, ◌||◌, List, [], ◌∷◌, ◌++◌, slice_get, take, filter, Some, Contains}
 use Rattle.gx_ids.specs.declared.ids.Cid.{Cid}
 use Rattle.gx_ids.specs.declared.ids.Gxid.{Gxid}
 use Rattle.gx_ids.specs.declared.ids.Node.{Node}
@@ -22,7 +22,7 @@ use Rattle.gx_store.specs.declared.mark.Mark.TheVariants as mark
 use Rattle.gx_store.specs.declared.run.Step.{Step}
 use Rattle.gx_store.specs.Commands.{RunsCommand}
 use Rattle.gx_store.specs.Journals.{is_same_node}
-use Rattle.gx_store.specs.Marks.{is_aborted, is_committed, is_ended, is_same_gxid}
+use Rattle.gx_store.specs.Marks.{is_committed, is_ended, is_same_gxid}
 use Rattle.gx_store.specs.Messages.{HasReceived, IsSent, Receives}
 use Rattle.gx_store.specs.Points.{Point, before}
 use Rattle.gx_store.specs.Refusals.{the_coordinator}
@@ -78,7 +78,48 @@ CommitsBy [] marks g = CommitsAtOnce marks g
 CommitsBy (node ∷ []) marks g = CommitsAtOnce marks g
 CommitsBy (node ∷ other ∷ nodes) marks g = CommitsInTwo marks g
 
--- the segment was sent the command
+-- two or more
+abbrev pub AreSeveral : List Node → Type 0
+AreSeveral [] = ⊥
+AreSeveral (node ∷ []) = ⊥
+AreSeveral (node ∷ other ∷ nodes) = Unit {0}
+
+-- a segment promises, once: it has written, and the transaction has committed neither there nor as a whole
+pub record Promises (point : Point) (node : Node) (g : Gxid) : Type 0 where
+  pub told : Receives point.steps point.event the_coordinator node (message.Prepare g)
+  pub writer : is_writer (before point) g node ≡ true
+  pub first : prepared_count (before point) node g ≡ 0
+  pub uncommitted : is_committed (before point) g ≡ false
+  pub uncommitted_there : local_count (before point) node g ≡ 0
+
+-- it is decided, once, of a transaction that hasn't ended: there are several writers, each has promised, and none has committed
+pub record Decides (script : Script) (marks : List Mark) (g : Gxid) : Type 0 where
+  pub running : is_ended marks g ≡ false
+  pub first : decided_count marks g ≡ 0
+  pub several : AreSeveral (writers_of script marks g)
+  pub promised : IsOnceAt (is_writer marks g) (λ node. prepared_count marks node g)
+  pub uncommitted : (node : Node) → local_count marks node g ≡ 0
+
+-- the only writer is told to commit, and hasn't promised
+pub record CommitsAlone (point : Point) (node : Node) (g : Gxid) : Type 0 where
+  pub told : Receives point.steps point.event the_coordinator node (message.Commit g)
+  pub only : (segment : Node) → is_writer (before point) g segment ≡ is_same_node segment node
+  pub unprepared : prepared_count (before point) node g ≡ 0
+
+-- a writer that has promised is told to commit, behind the decision
+pub record CommitsAsPromised (point : Point) (node : Node) (g : Gxid) : Type 0 where
+  pub told : Receives point.steps point.event the_coordinator node (message.CommitPrepared g)
+  pub writer : is_writer (before point) g node ≡ true
+  pub promised : prepared_count (before point) node g ≡ 1
+  pub decided : decided_count (before point) g ≡ 1
+
+-- a segment commits, once, a transaction that hasn't ended
+pub record CommitsThere (point : Point) (node : Node) (g : Gxid) : Type 0 where
+  pub running : is_ended (before point) g ≡ false
+  pub first : local_count (before point) node g ≡ 0
+  pub by : CommitsAlone point node g ⊎ CommitsAsPromised point node g
+
+-- the segment has received the command, in an earlier step or in the point's own
 pub record IsExecuted (point : Point) (g : Gxid) (c : Cid) (node : Node) : Type 0 where
   pub level : Level
   pub snapshot : Option Snapshot
@@ -86,10 +127,11 @@ pub record IsExecuted (point : Point) (g : Gxid) (c : Cid) (node : Node) : Type 
   pub slice : Slice
   pub received : HasReceived point the_coordinator node (message.Exec g c level snapshot horizon slice)
 
--- the coordinator has sent it the command, in an earlier step or in the point's own
+-- the coordinator has sent it the message in an earlier step, or the point's own step sends it, before the point or behind it
 abbrev pub IsSentBy : Point → Node → ℕ → Message → Type 0
 IsSentBy point node number told = IsSent point.steps the_coordinator node number told ⊎ Contains (point.earlier ++ point.later) (mark.Sent node number told)
 
+-- the command was sent to it so
 pub record IsDispatched (point : Point) (g : Gxid) (c : Cid) (node : Node) : Type 0 where
   pub number : ℕ
   pub level : Level
@@ -111,15 +153,14 @@ IsComplete script point session (Refused reason) = Unit {0}
 IsComplete script point session answer =
     (line : Stmt) (level : Level) (g : Gxid) (c : Cid) (node : Node) → RunsCommand script point session line level g c → IsDispatched point g c node → IsReturned point g c node
 
--- each journal's word, and each word of a failing journal, in its place
+-- What each mark of a transaction's end stands behind: of promises, decisions, commits and aborts at the nodes and as a whole; that
+-- a segment writes for a command that it has received, a command is answered once it is complete, and a failing journal's word comes
+-- behind its mark, for 'again' in the same step.
 abbrev pub FollowsAt : Script → Node → Point → Mark → Type 0
 FollowsAt script node point (mark.Commit g) = CommitsBy (writers_of script (before point) g) (before point) g
-FollowsAt script node point (mark.Decided g) = (is_ended (before point) g ≡ false) × (decided_count (before point) g ≡ 0)
-FollowsAt script _ point (mark.LocalCommit node g) =
-    (is_aborted (before point) g ≡ false) × (is_committed (before point) g ≡ false)
-    × (Receives point.steps point.event the_coordinator node (message.Commit g) ⊎ Receives point.steps point.event the_coordinator node (message.CommitPrepared g))
-FollowsAt script _ point (mark.Prepared node g) =
-    (is_committed (before point) g ≡ false) × Receives point.steps point.event the_coordinator node (message.Prepare g)
+FollowsAt script node point (mark.Decided g) = Decides script (before point) g
+FollowsAt script _ point (mark.LocalCommit node g) = CommitsThere point node g
+FollowsAt script _ point (mark.Prepared node g) = Promises point node g
 FollowsAt script node point (mark.Abort g) = (decided_count (before point) g ≡ 0) × ((segment : Node) → local_count (before point) segment g ≡ 0)
 FollowsAt script _ point (mark.Write g c node table rid image) = IsExecuted point g c node
 FollowsAt script node point (mark.Answer session number answer) = IsComplete script point session answer

@@ -1,5 +1,5 @@
 -- When a statement may be refused, and for what.
-use Rattle.std.specs.Prelude.{◌≡◌, ℕ, ◌≤◌, true, false, List, length, take, slice_get, Some, Contains, zero, suc}
+use Rattle.std.specs.Prelude.{◌≡◌, ℕ, ◌≤◌, Bool, true, false, not, ◌&&◌, List, length, take, slice_get, Some, Contains, zero, suc}
 use Rattle.std.specs.declared.option.Option.{Option}
 use Rattle.gx_ids.specs.declared.ids.Gxid.{Gxid}
 use Rattle.gx_ids.specs.declared.ids.Cid.{Cid}
@@ -11,7 +11,7 @@ use Rattle.gx_tree.specs.declared.cond.Cond.{Cond}
 use Rattle.gx_tree.specs.declared.stmt.Level.{Level}
 use Rattle.gx_tree.specs.declared.stmt.Level.TheVariants.{RepeatableRead}
 use Rattle.gx_tree.specs.declared.stmt.Stmt.{Stmt}
-use Rattle.gx_tree.specs.declared.stmt.Stmt.TheVariants.{Insert, Update, Delete}
+use Rattle.gx_tree.specs.declared.stmt.Stmt.TheVariants.{Commit, Insert, Update, Delete}
 use Rattle.gx_tree.specs.declared.value.Value.{Value}
 use Rattle.gx_meaning.specs.declared.fault.ArithFault.{ArithFault}
 use Rattle.gx_meaning.specs.declared.fault.ArithFault.TheVariants as arith
@@ -26,8 +26,9 @@ use Rattle.gx_store.specs.declared.answer.Refused.{Refused}
 use Rattle.gx_store.specs.declared.answer.Refused.TheVariants.{Serialization, Victim, Overflow, DivisionByZero, InFailedBlock, JournalFault, NotInBlock}
 use Rattle.gx_store.specs.declared.mark.Mark.{Mark}
 use Rattle.gx_store.specs.declared.mark.Mark.TheVariants.{Fault, JournalFailed, Recheck}
+use Rattle.gx_store.specs.declared.run.Step.{Step}
 use Rattle.gx_store.specs.Faults.{IsFaultOf}
-use Rattle.gx_store.specs.Lines.{BlockState, cid_of, level_of, transaction_of}
+use Rattle.gx_store.specs.Lines.{BlockState, InBlock, cid_of, is_command, level_of, transaction_of}
 use Rattle.gx_store.specs.Marks.{is_aborted, is_committed}
 use Rattle.gx_store.specs.Messages.{IsFirstSent, Receives}
 use Rattle.gx_store.specs.Points.{Point, before, marks_in}
@@ -36,11 +37,21 @@ use Rattle.gx_store.specs.Writes.{IsSelectedAndFree}
 abbrev pub the_coordinator : Node
 the_coordinator = record { 0 = 0 }
 
+-- the segment has noted the fault in one of its steps, and says its cause in the message that the point's step receives
+pub record IsWord (point : Point) (g : Gxid) (c : Cid) (rid : Rid) (image : Option (List Value)) (reason : Cause) : Type 0 where
+  pub segment : Node
+  pub said : Receives point.steps point.event segment the_coordinator (message.Answer g (reply.Failed c reason))
+  pub place : ℕ
+  pub step : Step
+  pub at : slice_get point.steps place ≡ Some step
+  pub node : step.stamp.node ≡ segment
+  pub noted : Contains step.marks (Fault g c rid image)
+
 -- An INSERT's constants are evaluated at the coordinator, in the step of its refusal, which notes the fault. Of another
--- command a segment says the cause, in the message that the step receives.
-abbrev pub IsHeard : Point → ℕ → Stmt → Gxid → Cid → Cause → Type 0
-IsHeard point place (Insert table tuples) g c reason = length (marks_in point.steps) ≤ place
-IsHeard point place _ g c reason = (segment : Node) × Receives point.steps point.event segment the_coordinator (message.Answer g (reply.Failed c reason))
+-- command a segment has noted it, and says so.
+abbrev pub IsHeard : Point → ℕ → Stmt → Gxid → Cid → Rid → Option (List Value) → Cause → Type 0
+IsHeard point place (Insert table tuples) g c rid image reason = length (marks_in point.steps) ≤ place
+IsHeard point place _ g c rid image reason = IsWord point g c rid image reason
 
 -- an evaluation of the command faulted so, before its transaction aborted, and this is why it is refused
 pub record HasFaulted (point : Point) (stmt : Stmt) (level : Level) (g : Gxid) (c : Cid) (fault : ArithFault) (reason : Cause) : Type 0 where
@@ -50,7 +61,7 @@ pub record HasFaulted (point : Point) (stmt : Stmt) (level : Level) (g : Gxid) (
   pub noted : slice_get (before point) place ≡ Some (Fault g c rid image)
   pub unaborted : is_aborted (take place (before point)) g ≡ false
   pub faults : IsFaultOf (take place (before point)) level g c stmt rid image fault
-  pub heard : IsHeard point place stmt g c reason
+  pub heard : IsHeard point place stmt g c rid image reason
 
 -- the condition of an UPDATE or DELETE
 abbrev pub IsChange : Stmt → Table → Option Cond → Type 0
@@ -103,8 +114,19 @@ IsCause point stmt level g c (JournalFault node) = HasJournalFailed point g node
 IsCause point stmt level g c InFailedBlock = ⊥
 IsCause point stmt level g c NotInBlock = ⊥
 
+abbrev pub is_journal : Refused → Bool
+is_journal (JournalFault node) = true
+is_journal _ = false
+
+-- A line that may be refused so: in a block COMMIT for a journal alone, and a command for all else; outside one a command.
+abbrev pub may_refuse : BlockState → Stmt → Refused → Bool
+may_refuse (InBlock level commands) Commit reason = is_journal reason
+may_refuse (InBlock level commands) line reason = is_command (InBlock level commands) line && not (is_journal reason)
+may_refuse state line reason = is_command state line
+
 -- a line that has a transaction is refused for a cause, in the step in which the transaction aborts
 pub record IsRefusal (script : Script) (point : Point) (session : SessionId) (state : BlockState) (stmt : Stmt) (reason : Refused) : Type 0 where
+  pub kind : may_refuse state stmt reason ≡ true
   pub g : Gxid
   pub transaction : transaction_of state session (before point) ≡ Some g
   pub aborted : is_aborted point.earlier g ≡ true

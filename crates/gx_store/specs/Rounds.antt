@@ -13,11 +13,12 @@ use Rattle.gx_waits.specs.declared.placed_edge.PlacedEdge.{PlacedEdge}
 use Rattle.gx_waits.specs.Victims.{IsVerdict}
 use Rattle.gx_waits.specs.declared.verdict.Verdict.{Verdict}
 use Rattle.gx_store.specs.declared.event.Event.{Event}
+use Rattle.gx_store.specs.declared.event.Event.TheVariants as event
 use Rattle.gx_store.specs.declared.mark.Mark.{Mark}
 use Rattle.gx_store.specs.declared.run.Step.{Step}
 use Rattle.gx_store.specs.declared.mark.Mark.TheVariants as mark
 use Rattle.gx_store.specs.Marks.{is_ended, is_same_gxid}
-use Rattle.gx_store.specs.Messages.{ReceivesAt}
+use Rattle.gx_store.specs.Messages.{Receives, ReceivesAt}
 use Rattle.gx_store.specs.Points.{Point, before, marks_in}
 use Rattle.gx_store.specs.Refusals.{the_coordinator}
 use Rattle.gx_store.specs.Waits.{holds_at, waits_at}
@@ -53,11 +54,27 @@ pub record IsGraphAt (marks : List Mark) (node : Node) (graph : LocalGraph) : Ty
   pub place : graph.node ≡ node
   pub edges : AreEdges (waits_at marks node) (holds_at marks node) graph.edges
 
--- a report tells what stands at its node when it is taken
-abbrev pub AreReports : List Mark → List Mark → Type 0
-AreReports marks [] = Unit {0}
-AreReports marks (mark.Report node round graph ∷ ms) = IsGraphAt marks node graph × AreReports (marks ++ mark.Report node round graph ∷ []) ms
-AreReports marks (m ∷ ms) = AreReports (marks ++ m ∷ []) ms
+-- the round has begun: in an earlier step, in which the detector began it, a segment was asked for its graph
+pub record HasBegun (steps : List Step) (round : ℕ) : Type 0 where
+  pub place : ℕ
+  pub step : Step
+  pub at : slice_get steps place ≡ Some step
+  pub event : step.event ≡ event.Round
+  pub node : Node
+  pub number : ℕ
+  pub asked : Contains step.marks (mark.Sent node number (message.Collect round))
+
+-- a report is made in the step that asks the segment for it, of a round that has begun, and tells what stands there then
+pub record IsReport (point : Point) (node : Node) (round : ℕ) (graph : LocalGraph) : Type 0 where
+  pub asked : Receives point.steps point.event the_coordinator node (message.Collect round)
+  pub begun : HasBegun point.steps round
+  pub tells : IsGraphAt (before point) node graph
+
+abbrev pub AreReports : List Step → Event → List Mark → List Mark → Type 0
+AreReports steps event earlier [] = Unit {0}
+AreReports steps event earlier (mark.Report node round graph ∷ ms) =
+    IsReport (record { steps = steps; event = event; earlier = earlier; later = ms }) node round graph × AreReports steps event (earlier ++ mark.Report node round graph ∷ []) ms
+AreReports steps event earlier (m ∷ ms) = AreReports steps event (earlier ++ m ∷ []) ms
 
 -- the graph that the node noted last for a round, or the one given
 abbrev pub last_report : Node → ℕ → Option LocalGraph → List Mark → Option LocalGraph
@@ -81,8 +98,9 @@ pub record IsReportOf (point : Point) (round : ℕ) (segment : Node) (graph : Lo
 abbrev pub placed_edges : LocalGraph → List PlacedEdge
 placed_edges graph = map (λ edge. record { node = graph.node; edge = edge }) graph.edges
 
--- a round ends with every segment's first report, the coordinator's own graph of this moment, and what follows from both
+-- a round that has begun ends with every segment's first report, the coordinator's own graph of this moment, and what follows from both
 pub record IsRecheck (script : Script) (point : Point) (round : ℕ) (own : LocalGraph) (verdict : Verdict) : Type 0 where
+  pub begun : HasBegun point.steps round
   pub here : IsGraphAt (before point) the_coordinator own
   pub reports : List LocalGraph
   pub all : length reports ≡ script.segments
@@ -102,4 +120,4 @@ AreRechecksIn script steps event earlier (m ∷ ms) = AreRechecksIn script steps
 abbrev pub AreRounds : Script → List Step → List Step → Type 0
 AreRounds script steps [] = Unit {0}
 AreRounds script steps (s ∷ ss) =
-    AreReports (marks_in steps) s.marks × SendNoted s.stamp.node (marks_in steps) s.marks × AreRechecksIn script steps s.event [] s.marks × AreRounds script (steps ++ s ∷ []) ss
+    AreReports steps s.event [] s.marks × SendNoted s.stamp.node (marks_in steps) s.marks × AreRechecksIn script steps s.event [] s.marks × AreRounds script (steps ++ s ∷ []) ss

@@ -1,5 +1,5 @@
 -- Which rows a command may write, and how (PostgreSQL manual 13.2.1, 13.2.2).
-use Rattle.std.specs.Prelude.{◌≡◌, ◌⊎◌, ℕ, ◌+◌, ◌-◌, ◌≤◌, Bool, true, false, not, if◌then◌else◌, ◌&&◌, ◌||◌, List, [], ◌∷◌, take, slice_get, slice_set, zero, suc, Some, None, Ok, Result}
+use Rattle.std.specs.Prelude.{◌≡◌, ◌⊎◌, ℕ, ◌+◌, ◌-◌, ◌≤◌, Bool, true, false, not, if◌then◌else◌, ◌&&◌, ◌||◌, List, [], ◌∷◌, length, take, slice_get, slice_set, zero, suc, Some, None, Ok, Result}
 use Rattle.std.specs.declared.option.Option.{Option}
 use Rattle.gx_ids.specs.declared.ids.Gxid.{Gxid}
 use Rattle.gx_ids.specs.declared.ids.Cid.{Cid}
@@ -156,17 +156,23 @@ pub record IsLate (script : Script) (point : Point) (g : Gxid) (c : Cid) (stmt :
   pub level : Level
   pub ran : IsUnderWay script early session stmt level g c
 
--- the table that a statement writes
-abbrev pub written_table : Stmt → Option Table
-written_table (Insert table tuples) = Some table
-written_table (Update table assigns cond) = Some table
-written_table (Delete table cond) = Some table
-written_table _ = None
-
 -- the node of the row's first write, or of this one where it is the first
 abbrev pub IsAtHome : Option Node → Node → Type 0
 IsAtHome None node = Unit {0}
 IsAtHome (Some first) node = node ≡ first
+
+-- the row is one that the command is to insert, from one of so many tuples
+pub record IsOwnRow (g : Gxid) (c : Cid) (tuples : List (List Expr)) (rid : Rid) : Type 0 where
+  pub own : (rid.gxid ≡ g) × (rid.cid ≡ c)
+  pub counted : 1 ≤ rid.ordinal
+  pub among : rid.ordinal ≤ length tuples
+
+-- a late write is of the statement's own table: an INSERT's of a row of its own, another's of a row that was written, where it stands
+abbrev pub IsLateWriteOf : List Mark → Gxid → Cid → Stmt → Node → Table → Rid → Type 0
+IsLateWriteOf marks g c (Insert table tuples) node t rid = (t ≡ table) × IsOwnRow g c tuples rid × IsAtHome (node_of marks rid) node
+IsLateWriteOf marks g c (Update table assigns cond) node t rid = (t ≡ table) × (node_of marks rid ≡ Some node)
+IsLateWriteOf marks g c (Delete table cond) node t rid = (t ≡ table) × (node_of marks rid ≡ Some node)
+IsLateWriteOf marks g c _ node t rid = ⊥
 
 -- a command under way, which has its snapshot, writes
 pub record IsLiveWrite (script : Script) (point : Point) (g : Gxid) (c : Cid) (node : Node) (table : Table) (rid : Rid) (image : Option (List Value)) : Type 0 where
@@ -180,8 +186,7 @@ pub record IsLiveWrite (script : Script) (point : Point) (g : Gxid) (c : Cid) (n
 pub record IsLateWrite (script : Script) (point : Point) (g : Gxid) (c : Cid) (node : Node) (table : Table) (rid : Rid) : Type 0 where
   pub stmt : Stmt
   pub late : IsLate script point g c stmt
-  pub own_table : written_table stmt ≡ Some table
-  pub home : IsAtHome (node_of (before point) rid) node
+  pub writes : IsLateWriteOf (before point) g c stmt node table rid
 
 pub record IsLiveSkip (script : Script) (point : Point) (g : Gxid) (c : Cid) (rid : Rid) : Type 0 where
   pub session : SessionId

@@ -5,8 +5,9 @@ pub mod answer;
 pub mod event;
 pub mod mark;
 pub mod node;
-pub mod refused_runs;
-pub mod refused_runs_b;
+pub mod refused_commits;
+pub mod refused_histories;
+pub mod refused_waits;
 pub mod run;
 
 pub use answer::{Refused, StmtAnswer};

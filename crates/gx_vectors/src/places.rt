@@ -1,7 +1,7 @@
 // A text's place is by FNV-1a of 64 bits, as Python gives it. The published values for '', 'a' and 'foobar' are
 // cbf29ce484222325, af63dc4c8601ec8c and 85944171f73967e8.
 use gx_ids::{Cid, Gxid, Node, Rid};
-use gx_place::place_value;
+use gx_plan::place_value;
 use gx_tree::{Txt, Value};
 use std::test::Fail;
 

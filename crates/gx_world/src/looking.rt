@@ -34,8 +34,10 @@ pub(crate) fn message(network: &Network, from: Node, to: Node, number: u64) -> O
 pub(crate) fn is_unfinished(network: &Network) -> bool
     requires is { IsNetwork network.now }
     requires usable { network.now.spent ≡ false }
-    ensures none { result ≡ false → (id : Id) → id.0 < length network.now.script.value.sessions → is_left network.now.script.value (coordinator_after network.now.script.value network.now.run.steps) id ≡ false }
-    ensures some { result ≡ true → (id : Id) × (id.0 < length network.now.script.value.sessions) × (is_left network.now.script.value (coordinator_after network.now.script.value network.now.run.steps) id ≡ true) }
+    ensures none { result ≡ false → (id : Id) → id.0 < length network.now.script.value.sessions
+        → is_left network.now.script.value (coordinator_after network.now.script.value network.now.run.steps) id ≡ false }
+    ensures some { result ≡ true → (id : Id) × (id.0 < length network.now.script.value.sessions)
+        × (is_left network.now.script.value (coordinator_after network.now.script.value network.now.run.steps) id ≡ true) }
 {
     is_unfinished_there(network)
 }

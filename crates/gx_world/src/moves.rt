@@ -55,7 +55,8 @@ fn turn<J: Journal, G: Gate>(
     requires heard { heard_in there < 2 ^ 62 }
     requires journals { length journals.old ≡ 17 }
     requires room { HasRoom network.old }
-    ensures moved { OnOk result (HasMoved network.old.script.value w event at there network.new (map (λ j. shelf (J.items j) (J.fault_count j)) journals.old) (map (λ j. shelf (J.items j) (J.fault_count j)) journals.new)) }
+    ensures moved { OnOk result (HasMoved network.old.script.value w event at there network.new
+        (map (λ j. shelf (J.items j) (J.fault_count j)) journals.old) (map (λ j. shelf (J.items j) (J.fault_count j)) journals.new)) }
     ensures later { AreLater (map (λ j. shelf (J.items j) (J.fault_count j)) journals.old) (map (λ j. shelf (J.items j) (J.fault_count j)) journals.new) }
     ensures script { network.new.script ≡ network.old.script }
     ensures err { OnErr result (network.new.run ≡ network.old.run) }

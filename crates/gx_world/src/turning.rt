@@ -33,7 +33,8 @@ pub(crate) fn coord_turn<J: Journal>(
     requires next { IsNext network.old.script.value w event the_coordinator there }
     requires heard { heard_in there < 2 ^ 62 }
     requires room { HasRoom network.old }
-    ensures turned { OnOk result (HasTurned network.old.script.value w event the_coordinator there network.new (J.items journal.old) (J.items journal.new) (J.fault_count journal.old) (J.fault_count journal.new)) }
+    ensures turned { OnOk result (HasTurned network.old.script.value w event the_coordinator there network.new (J.items journal.old)
+        (J.items journal.new) (J.fault_count journal.old) (J.fault_count journal.new)) }
     ensures later { J.fault_count journal.old ≤ J.fault_count journal.new }
     ensures script { network.new.script ≡ network.old.script }
     ensures err { OnErr result (network.new.run ≡ network.old.run) }
@@ -84,7 +85,8 @@ fn seg_step<J: Journal, G: Gate>(
     requires room { All (λ segment. (segment.clock < 2 ^ 62) × (segment.sent < 2 ^ 62)) segments.old.items }
     requires admitted { (segment : OneSegment) → slice_get segments.old.items (at.0 - 1) ≡ Some segment → seg_can segment.script.value s there ≡ true }
     requires heard { heard_in there < 2 ^ 62 }
-    ensures stepped { IfOk result (λ out. HasSteppedAt (at.0 - 1) segments.old.items segments.new.items s there (J.items journal.old) (J.items journal.new) (J.fault_count journal.old) (J.fault_count journal.new) out) }
+    ensures stepped { IfOk result (λ out. HasSteppedAt (at.0 - 1) segments.old.items segments.new.items s there (J.items journal.old)
+        (J.items journal.new) (J.fault_count journal.old) (J.fault_count journal.new) out) }
     ensures later { J.fault_count journal.old ≤ J.fault_count journal.new }
 {
     segments[usize::from(at.0) - 1].step(there, journal, gate)
@@ -98,7 +100,8 @@ fn push_step(network: &mut Network, node: Node, event: Event, out: NodeOut) -> M
     ensures run { OnOk result (network.new.run.steps ≡ network.old.run.steps ++ record { stamp = record { clock = out.clock; node = node }; event = event; marks = out.marks } ∷ []) }
     ensures err { OnErr result (network.new.run ≡ network.old.run) }
     ensures long { OnOk result (IsLong segments network.new.letters) }
-    ensures links { OnOk result ((f t : OneNode) → link_in network.new.letters f t ≡ link_in network.old.letters f t ++ (if is_same_node f node then places_from (length network.old.run.steps) 0 t out.marks else [])) }
+    ensures links { OnOk result ((f t : OneNode) → link_in network.new.letters f t ≡ link_in network.old.letters f t
+        ++ (if is_same_node f node then places_from (length network.old.run.steps) 0 t out.marks else [])) }
     ensures others { network.new ≡ record network.old { letters = network.new.letters; run = network.new.run } }
 {
     let step = network.run.steps.len();

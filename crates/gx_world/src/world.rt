@@ -97,8 +97,10 @@ impl World {
     /// Whether some session has a line without an answer, an open or failed block, or a line left. It is told while the world
     /// isn't spent.
     pub fn unfinished(&self) -> bool
-        ensures none { self.now.spent ≡ false → result ≡ false → (id : Id) → id.0 < length self.now.script.sessions → is_unfinished_there self.now.script (coordinator_after self.now.script self.now.run.steps) id ≡ false }
-        ensures some { self.now.spent ≡ false → result ≡ true → (id : Id) × (id.0 < length self.now.script.sessions) × (is_unfinished_there self.now.script (coordinator_after self.now.script self.now.run.steps) id ≡ true) }
+        ensures none { self.now.spent ≡ false → result ≡ false → (id : Id) → id.0 < length self.now.script.sessions
+            → is_unfinished_there self.now.script (coordinator_after self.now.script self.now.run.steps) id ≡ false }
+        ensures some { self.now.spent ≡ false → result ≡ true → (id : Id) × (id.0 < length self.now.script.sessions)
+            × (is_unfinished_there self.now.script (coordinator_after self.now.script self.now.run.steps) id ≡ true) }
     {
         !self.network.spent && is_unfinished(&self.network)
     }
@@ -125,7 +127,8 @@ impl World {
         requires admitted { self.old.spent ≡ false → is_admitted self.old.script self.old.run.steps event ≡ true }
         requires journals { length journals.old ≡ 17 }
         requires room { self.old.spent ≡ false → length self.old.run.steps < 2 ^ 40 }
-        ensures done { OnOk result (HasStepped self.old.script self.old.run.steps self.new.run.steps event (map (λ j. shelf (J.items j) (J.fault_count j)) journals.old) (map (λ j. shelf (J.items j) (J.fault_count j)) journals.new)) }
+        ensures done { OnOk result (HasStepped self.old.script self.old.run.steps self.new.run.steps event
+            (map (λ j. shelf (J.items j) (J.fault_count j)) journals.old) (map (λ j. shelf (J.items j) (J.fault_count j)) journals.new)) }
         ensures legal { OnOk result (AreInsertsWhole self.old.script.tables self.old.script.lines → IsLegalHistory self.old.script self.new.run) }
         ensures protocol { OnOk result (DoStepsFollow self.old.script [] self.new.run.steps) }
         ensures tells { OnOk result (DoStepsTell [] self.new.run.steps) }

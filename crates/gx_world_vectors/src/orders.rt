@@ -11,8 +11,25 @@ use std::mem::forget;
 use std::test::Fail;
 
 // Each writer's transaction has two rows with its own number at two segments. That of number 3 is rolled back.
-const SCRIPT: &[u8] =
-    b"segments 3\ntable t (a bigint, b bigint) distributed by (a)\nw1: INSERT INTO t VALUES (0, 1), (1, 1)\nw2: INSERT INTO t VALUES (1, 2), (2, 2)\nw3: BEGIN\nw3: INSERT INTO t VALUES (0, 3), (2, 3)\nw3: ROLLBACK\nw4: BEGIN\nw4: INSERT INTO t VALUES (0, 4)\nw4: INSERT INTO t VALUES (1, 4)\nw4: COMMIT\nr1: SELECT * FROM t\nr1: SELECT * FROM t\nr1: SELECT * FROM t\nr2: BEGIN ISOLATION LEVEL REPEATABLE READ\nr2: SELECT * FROM t\nr2: SELECT * FROM t\nr2: COMMIT\n";
+const SCRIPT: &[u8] = b"segments 3
+table t (a bigint, b bigint) distributed by (a)
+w1: INSERT INTO t VALUES (0, 1), (1, 1)
+w2: INSERT INTO t VALUES (1, 2), (2, 2)
+w3: BEGIN
+w3: INSERT INTO t VALUES (0, 3), (2, 3)
+w3: ROLLBACK
+w4: BEGIN
+w4: INSERT INTO t VALUES (0, 4)
+w4: INSERT INTO t VALUES (1, 4)
+w4: COMMIT
+r1: SELECT * FROM t
+r1: SELECT * FROM t
+r1: SELECT * FROM t
+r2: BEGIN ISOLATION LEVEL REPEATABLE READ
+r2: SELECT * FROM t
+r2: SELECT * FROM t
+r2: COMMIT
+";
 
 // The session of each number's writer; of number 3 none, so that no SELECT may show it.
 const WRITERS: [(u8, i128); 4] = [(0, 1), (1, 2), (6, 3), (3, 4)];

@@ -1,3 +1,4 @@
+use Rattle.gx.proofs.Reading.{keeps_language}
 use Rattle.gx.proofs.Reports.{at_status, cut_short, failures, held, known, memory, with_words}
 use Rattle.gx.proofs.top.run_gx.Goals as goal
 
@@ -19,6 +20,7 @@ returns g c =
       not_built = λ e. at_status _ _ _ _ _ _ _ _ _ _ 10 a of is e (λ q. cc) (λ q. cc);
       words = with_words _ _ _ _ _ _ _ _ _ _ a of is;
       unread = c.make_attempt-attempt.ensures.unread;
+      language = λ script read. keeps_language _ _ script read;
       count = c.make_attempt-attempt.ensures.count;
       held = held _ _ _ _ _ _ _ a is kept;
       failures = failures _ _ _ _ _ _ _ a is kept;

@@ -1,5 +1,5 @@
 use Rattle.std.proofs.Common.{rules, ◌∙◌, ap}
-use Rattle.gx_session.specs.Session.{after_done}
+use Rattle.gx_script.specs.Session.{after_done}
 use Rattle.gx_rules.specs.Coordinators.{Session}
 use Rattle.gx_rules.specs.AtCoordinator.{unless_kept}
 use Rattle.gx_coord.specs.Books.{coord_of}

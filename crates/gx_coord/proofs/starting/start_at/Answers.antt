@@ -1,7 +1,7 @@
 use Rattle.std.proofs.Common.{◌<◌, ◌^◌, ◌∙◌, ap, subst, sym}
 use Rattle.gx_script.specs.declared.Script.{Script}
 use Rattle.gx_tree.specs.declared.stmt.Stmt.{Stmt}
-use Rattle.gx_session.specs.Session.{line_step}
+use Rattle.gx_script.specs.Session.{line_step}
 use Rattle.gx_rules.specs.AtCoordinator.{starts_line}
 use Rattle.gx_rules.specs.Coordinators.{Coord}
 use Rattle.gx_coord.specs.Books.{coord_of, stmt_at}

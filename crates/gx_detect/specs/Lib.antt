@@ -1,0 +1,5 @@
+pub mod Reports
+pub mod Rounds
+pub mod Inactive
+pub mod Deadlocks
+pub mod Calls

@@ -1,0 +1,66 @@
+ghost use Rattle.std.specs.Prelude.{◌≡◌, None, IfOk, fold, map};
+ghost use Rattle.gx_waits.specs.LocalGraph.{edges_of};
+ghost use Rattle.gx_waits.specs.Victims.{IsVerdict};
+ghost use Rattle.gx_detect.specs.Deadlocks.{NamesVictims, naming};
+ghost use Rattle.gx_detect.specs.Inactive.{lesser, with_graph, with_waiter};
+
+use gx_ids::{Gxid, Mem, Seq};
+use gx_reduce::{reduce, victims};
+use gx_waits::{Edge, LocalGraph, Verdict};
+use std::alloc::Global;
+
+// What these graphs and the active transactions come to.
+pub(crate) fn verdict_of(alloc: Global, graphs: &[LocalGraph], active: &[Gxid]) -> Mem<Verdict>
+    ensures verdict { IfOk result (λ verdict. IsVerdict (edges_of graphs.now) active.now verdict) }
+    ensures victims { IfOk result (λ verdict. NamesVictims (edges_of graphs.now) verdict) }
+{
+    let stuck = reduce(alloc, graphs)?;
+    match least_inactive(stuck.as_slice(), active) {
+        Some(gxid) => Ok(Verdict::Dropped(gxid)),
+        None => Ok(naming(victims(alloc, graphs)?)),
+    }
+}
+
+// The verdict that names these, if there are any.
+fn naming(victims: Vec<Gxid>) -> Verdict
+    ensures { result ≡ naming victims.items }
+{
+    if victims.is_empty() {
+        return Verdict::Nothing;
+    }
+    Verdict::Victims(Seq::from_vec(victims))
+}
+
+// The least transaction that waits and isn't active.
+fn least_inactive(graphs: &[LocalGraph], active: &[Gxid]) -> Option<Gxid>
+    ensures { result ≡ fold (with_graph active.now) None graphs.now }
+{
+    let mut least = None;
+    for graph in graphs {
+        least = least_with(least, graph.edges.as_slice(), active);
+    }
+    least
+}
+
+// The least of what was seen and of the waiters of these edges that aren't active.
+fn least_with(seen: Option<Gxid>, edges: &[Edge], active: &[Gxid]) -> Option<Gxid>
+    ensures { result ≡ fold (with_waiter active.now) seen edges.now }
+{
+    let mut least = seen;
+    for edge in edges {
+        if !active.contains(&edge.waiter) {
+            least = Some(lesser_of(least, edge.waiter));
+        }
+    }
+    least
+}
+
+// The lesser of two, of which the first may be missing.
+fn lesser_of(seen: Option<Gxid>, gxid: Gxid) -> Gxid
+    ensures { result ≡ lesser seen gxid }
+{
+    match seen {
+        Some(other) if other < gxid => other,
+        _ => gxid,
+    }
+}

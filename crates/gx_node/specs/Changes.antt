@@ -1,0 +1,130 @@
+-- What an order makes of a transaction at a segment, without the rest of the segment.
+use Rattle.std.specs.Prelude.{◌≡◌, ℕ, Bool, true, false, if◌then◌else◌, List, [], ◌∷◌, None, Some, map}
+use Rattle.std.specs.declared.option.Option.{Option}
+use Rattle.gx_ids.specs.declared.ids.Gxid.{Gxid}
+use Rattle.gx_ids.specs.declared.ids.Node.{Node}
+use Rattle.gx_msg.specs.declared.item.JournalItem.{JournalItem}
+use Rattle.gx_msg.specs.declared.item.JournalItem.TheVariants as item
+use Rattle.gx_msg.specs.declared.item.Kept.{Kept}
+use Rattle.gx_msg.specs.declared.message.Out.{Out}
+use Rattle.gx_msg.specs.declared.reply.Reply.{Reply}
+use Rattle.gx_msg.specs.declared.reply.Reply.TheVariants as answer
+use Rattle.gx_store.specs.declared.mark.Mark.{Mark}
+use Rattle.gx_store.specs.declared.mark.Mark.TheVariants as mark
+use Rattle.gx_dtx.specs.declared.order.Order.{Order}
+use Rattle.gx_dtx.specs.declared.order.Order.TheVariants as order
+use Rattle.gx_rules.specs.AtSegment.{on_abort, on_commit, on_commit_prepared, on_forget, on_prepare, was_prepared}
+use Rattle.gx_rules.specs.Maps.{with_at}
+use Rattle.gx_rules.specs.Segments.{Local, Phase, Reading, Writing, Prepared, Committed, Forgotten, Aborted, Seg, SegTurn, has_committed, reply}
+use Rattle.gx_node.specs.declared.local.Taken.{Taken}
+
+-- its record afterwards, the mark, the answer, and the item for the journal
+pub record Change : Type 0 where
+  pub now : Local
+  pub mark : Option Mark
+  pub reply : Option Reply
+  pub item : Option JournalItem
+
+abbrev pub stays : Local → Change
+stays l = record { now = l; mark = None; reply = None; item = None }
+
+abbrev pub tells : Local → Option Reply → Change
+tells l r = record { now = l; mark = None; reply = r; item = None }
+
+-- what was answered before is answered again
+abbrev pub once : Local → Option Reply → Change → Change
+once l None new = new
+once l (Some vote) new = tells l (Some vote)
+
+abbrev pub is_refused : Node → Gxid → Local → JournalItem → Change
+is_refused node g l it = record { now = record l { vote = Some answer.Jfault }; mark = Some (mark.JournalFailed node g); reply = Some answer.Jfault; item = Some it }
+
+abbrev pub promises : Node → Gxid → List Kept → Bool → Local → Change
+promises node g kept true l = is_refused node g l (item.Prepare g kept)
+promises node g kept false l =
+    record { now = record l { phase = Prepared; vote = Some answer.Prepared }; mark = Some (mark.Prepared node g); reply = Some answer.Prepared; item = Some (item.Prepare g kept) }
+
+abbrev pub prepares : Node → Gxid → List Kept → Bool → Local → Phase → Change
+prepares node g kept fails l Reading = once l l.vote (promises node g kept fails l)
+prepares node g kept fails l Writing = once l l.vote (promises node g kept fails l)
+prepares node g kept fails l Aborted = stays l
+prepares node g kept fails l _ = tells l l.vote
+
+abbrev pub commits_now : Node → Gxid → List Kept → Bool → Local → Change
+commits_now node g kept true l = is_refused node g l (item.Commit g kept)
+commits_now node g kept false l =
+    record { now = record l { phase = Committed; vote = Some answer.Committed }; mark = Some (mark.LocalCommit node g); reply = Some answer.Committed; item = Some (item.Commit g kept) }
+
+abbrev pub unless_prepared : Local → Change
+unless_prepared l = if was_prepared l.vote then stays l else tells l l.vote
+
+abbrev pub commits : Node → Gxid → List Kept → Bool → Local → Phase → Change
+commits node g kept fails l Reading = once l l.vote (commits_now node g kept fails l)
+commits node g kept fails l Writing = once l l.vote (commits_now node g kept fails l)
+commits node g kept fails l Committed = unless_prepared l
+commits node g kept fails l (Forgotten committed) = unless_prepared l
+commits node g kept fails l _ = stays l
+
+abbrev pub finishes_now : Node → Gxid → Bool → Local → Change
+finishes_now node g true l = record { now = l; mark = Some (mark.JournalFailed node g); reply = Some answer.Again; item = Some (item.Finish g) }
+finishes_now node g false l = record { now = record l { phase = Committed }; mark = Some (mark.LocalCommit node g); reply = Some answer.Committed; item = Some (item.Finish g) }
+
+abbrev pub finishes : Node → Gxid → Bool → Local → Phase → Change
+finishes node g fails l Prepared = finishes_now node g fails l
+finishes node g fails l Committed = tells l (Some answer.Committed)
+finishes node g fails l (Forgotten true) = tells l (Some answer.Committed)
+finishes node g fails l _ = stays l
+
+abbrev pub aborts_now : Local → Change
+aborts_now l = record { now = record l { phase = Aborted }; mark = None; reply = Some answer.Aborted; item = None }
+
+abbrev pub aborts : Local → Phase → Change
+aborts l Reading = aborts_now l
+aborts l Writing = aborts_now l
+aborts l Prepared = aborts_now l
+aborts l Aborted = tells l (Some answer.Aborted)
+aborts l _ = stays l
+
+abbrev pub forgets : Local → Phase → Change
+forgets l Aborted = stays l
+forgets l (Forgotten committed) = tells l (Some answer.Forgotten)
+forgets l _ = record { now = record l { phase = Forgotten (has_committed l.phase) }; mark = None; reply = Some answer.Forgotten; item = None }
+
+-- THE RULE
+-- what a segment's rule makes of an order
+abbrev pub turn_of : Order → Seg → Gxid → Bool → Local → SegTurn
+turn_of order.Prepare s g fails l = on_prepare s g fails l l.phase
+turn_of order.Commit s g fails l = on_commit s g fails l l.phase
+turn_of order.CommitPrepared s g fails l = on_commit_prepared s g fails l l.phase
+turn_of order.Abort s g fails l = on_abort s g l l.phase
+turn_of order.Forget s g fails l = on_forget s g l l.phase
+
+-- what it makes of the transaction
+abbrev pub change_of : Order → Node → Gxid → List Kept → Bool → Local → Change
+change_of order.Prepare node g kept fails l = prepares node g kept fails l l.phase
+change_of order.Commit node g kept fails l = commits node g kept fails l l.phase
+change_of order.CommitPrepared node g kept fails l = finishes node g fails l l.phase
+change_of order.Abort node g kept fails l = aborts l l.phase
+change_of order.Forget node g kept fails l = forgets l l.phase
+
+abbrev pub marks_in : Option Mark → List Mark
+marks_in None = []
+marks_in (Some m) = m ∷ []
+
+abbrev pub outs_in : Gxid → Option Reply → List Out
+outs_in g None = []
+outs_in g (Some r) = reply g r ∷ []
+
+-- the turn is that of this change
+pub record Makes (s : Seg) (g : Gxid) (turn : SegTurn) (change : Change) : Type 0 where
+  pub locals : (h : ℕ) → turn.seg.locals h ≡ with_at s.locals g.0 change.now h
+  pub others : turn.seg ≡ record s { locals = turn.seg.locals }
+  pub marks : turn.marks ≡ marks_in change.mark
+  pub outs : turn.outs ≡ outs_in g change.reply
+  pub item : turn.item ≡ change.item
+
+-- this was done
+pub record Does (change : Change) (left : Local) (taken : Taken) : Type 0 where
+  pub now : left ≡ change.now
+  pub mark : taken.mark ≡ change.mark
+  pub reply : taken.reply ≡ change.reply

@@ -1,0 +1,4 @@
+pub mod Phases
+pub mod Changes
+pub mod Orders
+pub mod Right

@@ -1,0 +1,227 @@
+// PREPARE, COMMIT and COMMIT PREPARED.
+ghost use Rattle.std.specs.Prelude.{◌≡◌, ◌≤◌, true, false, Some, None, IfOk, OnErr};
+ghost use Rattle.gx_outside.specs.Causes.{Rose};
+ghost use Rattle.gx_node.specs.Changes.{Does, commits_now, finishes_now, promises, unless_prepared};
+ghost use Rattle.gx_node.specs.Changes as change;
+ghost use Rattle.gx_node.specs.Orders.{AreItems};
+ghost use Rattle.gx_node.specs.Phases.{local_of, phase_of};
+
+use crate::appending::append;
+use crate::local::{Local, Phase, Taken, Vote};
+use gx_ids::{Gxid, Mem, Node, Seq};
+use gx_msg::{JournalItem, Kept, Reply};
+use gx_outside::Journal;
+use gx_store::Mark;
+use std::alloc::Global;
+
+// What was answered to PREPARE or COMMIT, again.
+fn tell_vote(local: &Local) -> Taken
+    ensures does { Does (change.tells (local_of local.now) (local_of local.now).vote) (local_of local.now) result }
+    ensures took { result.fails ≡ false }
+{
+    Taken {
+        mark: None,
+        reply: local.vote.map(|vote| vote.reply()),
+        fails: false,
+    }
+}
+
+pub(crate) fn nothing() -> Taken
+    ensures { result ≡ record { mark = None; reply = None; fails = false } }
+{
+    Taken {
+        mark: None,
+        reply: None,
+        fails: false,
+    }
+}
+
+// The journal has failed before the transaction was promised or committed.
+fn refuse(node: Node, gxid: Gxid, local: &mut Local) -> Taken
+    ensures local { local.new ≡ record local.old { vote = Some Vote.Jfault } }
+    ensures taken { result ≡ record { mark = Some (Mark.JournalFailed node gxid); reply = Some Reply.Jfault; fails = true } }
+{
+    local.vote = Some(Vote::Jfault);
+    Taken {
+        mark: Some(Mark::JournalFailed { node, gxid }),
+        reply: Some(Reply::Jfault),
+        fails: true,
+    }
+}
+
+fn promise<J: Journal>(
+    alloc: Global,
+    node: Node,
+    gxid: Gxid,
+    local: &mut Local,
+    kept: Seq<Kept>,
+    journal: &mut J,
+) -> Mem<Taken>
+    ensures does { IfOk result (λ taken. Does (promises node gxid kept taken.fails (local_of local.old)) (local_of local.new) taken) }
+    ensures items { IfOk result (λ taken. AreItems (J.items journal.old) (J.items journal.new) taken.fails (promises node gxid kept taken.fails (local_of local.old)).item) }
+    ensures caused { IfOk result (λ taken. taken.fails ≡ true → Rose (J.fault_count journal.old) (J.fault_count journal.new)) }
+    ensures later { J.fault_count journal.old ≤ J.fault_count journal.new }
+    ensures err { OnErr result ((local.new ≡ local.old) × (J.items journal.new ≡ J.items journal.old)) }
+{
+    let item = JournalItem::Prepare(gxid, kept);
+    if append(alloc, &item, journal)? {
+        return Ok(refuse(node, gxid, local));
+    }
+    local.phase = Phase::Prepared;
+    local.vote = Some(Vote::Prepared);
+    Ok(Taken {
+        mark: Some(Mark::Prepared { node, gxid }),
+        reply: Some(Reply::Prepared),
+        fails: false,
+    })
+}
+
+// PREPARE is answered once, and then always with what was answered then.
+pub(crate) fn take_prepare<J: Journal>(
+    alloc: Global,
+    node: Node,
+    gxid: Gxid,
+    local: &mut Local,
+    kept: Seq<Kept>,
+    journal: &mut J,
+) -> Mem<Taken>
+    ensures does { IfOk result (λ taken. Does (change.prepares node gxid kept taken.fails (local_of local.old) (phase_of local.old.phase)) (local_of local.new) taken) }
+    ensures items { IfOk result (λ taken. AreItems (J.items journal.old) (J.items journal.new) taken.fails (change.prepares node gxid kept taken.fails
+        (local_of local.old) (phase_of local.old.phase)).item) }
+    ensures caused { IfOk result (λ taken. taken.fails ≡ true → Rose (J.fault_count journal.old) (J.fault_count journal.new)) }
+    ensures later { J.fault_count journal.old ≤ J.fault_count journal.new }
+    ensures err { OnErr result ((local.new ≡ local.old) × (J.items journal.new ≡ J.items journal.old)) }
+{
+    match (local.phase, local.vote) {
+        (Phase::Reading, None) => promise(alloc, node, gxid, local, kept, journal),
+        (Phase::Writing, None) => promise(alloc, node, gxid, local, kept, journal),
+        (Phase::Aborted, _) => Ok(nothing()),
+        _ => Ok(tell_vote(local)),
+    }
+}
+
+fn commit<J: Journal>(
+    alloc: Global,
+    node: Node,
+    gxid: Gxid,
+    local: &mut Local,
+    kept: Seq<Kept>,
+    journal: &mut J,
+) -> Mem<Taken>
+    ensures does { IfOk result (λ taken. Does (commits_now node gxid kept taken.fails (local_of local.old)) (local_of local.new) taken) }
+    ensures items { IfOk result (λ taken. AreItems (J.items journal.old) (J.items journal.new) taken.fails (commits_now node gxid kept taken.fails (local_of local.old)).item) }
+    ensures caused { IfOk result (λ taken. taken.fails ≡ true → Rose (J.fault_count journal.old) (J.fault_count journal.new)) }
+    ensures later { J.fault_count journal.old ≤ J.fault_count journal.new }
+    ensures err { OnErr result ((local.new ≡ local.old) × (J.items journal.new ≡ J.items journal.old)) }
+{
+    let item = JournalItem::Commit(gxid, kept);
+    if append(alloc, &item, journal)? {
+        return Ok(refuse(node, gxid, local));
+    }
+    local.phase = Phase::Committed;
+    local.vote = Some(Vote::Committed);
+    Ok(Taken {
+        mark: Some(Mark::LocalCommit { node, gxid }),
+        reply: Some(Reply::Committed),
+        fails: false,
+    })
+}
+
+// COMMIT is for who was never prepared here.
+fn tell_commit(local: &Local) -> Taken
+    ensures does { Does (unless_prepared (local_of local.now)) (local_of local.now) result }
+    ensures took { result.fails ≡ false }
+{
+    if local.vote == Some(Vote::Prepared) {
+        nothing()
+    } else {
+        tell_vote(local)
+    }
+}
+
+pub(crate) fn take_commit<J: Journal>(
+    alloc: Global,
+    node: Node,
+    gxid: Gxid,
+    local: &mut Local,
+    kept: Seq<Kept>,
+    journal: &mut J,
+) -> Mem<Taken>
+    ensures does { IfOk result (λ taken. Does (change.commits node gxid kept taken.fails (local_of local.old) (phase_of local.old.phase)) (local_of local.new) taken) }
+    ensures items { IfOk result (λ taken. AreItems (J.items journal.old) (J.items journal.new) taken.fails (change.commits node gxid kept taken.fails
+        (local_of local.old) (phase_of local.old.phase)).item) }
+    ensures caused { IfOk result (λ taken. taken.fails ≡ true → Rose (J.fault_count journal.old) (J.fault_count journal.new)) }
+    ensures later { J.fault_count journal.old ≤ J.fault_count journal.new }
+    ensures err { OnErr result ((local.new ≡ local.old) × (J.items journal.new ≡ J.items journal.old)) }
+{
+    match (local.phase, local.vote) {
+        (Phase::Reading, None) => commit(alloc, node, gxid, local, kept, journal),
+        (Phase::Writing, None) => commit(alloc, node, gxid, local, kept, journal),
+        (Phase::Reading, Some(_)) => Ok(tell_vote(local)),
+        (Phase::Writing, Some(_)) => Ok(tell_vote(local)),
+        (Phase::Committed, _) => Ok(tell_commit(local)),
+        (Phase::Forgotten(_), _) => Ok(tell_commit(local)),
+        _ => Ok(nothing()),
+    }
+}
+
+// Commits as promised; where the journal fails, nothing changes and the order must come again.
+fn finish<J: Journal>(
+    alloc: Global,
+    node: Node,
+    gxid: Gxid,
+    local: &mut Local,
+    journal: &mut J,
+) -> Mem<Taken>
+    ensures does { IfOk result (λ taken. Does (finishes_now node gxid taken.fails (local_of local.old)) (local_of local.new) taken) }
+    ensures items { IfOk result (λ taken. AreItems (J.items journal.old) (J.items journal.new) taken.fails (finishes_now node gxid taken.fails (local_of local.old)).item) }
+    ensures caused { IfOk result (λ taken. taken.fails ≡ true → Rose (J.fault_count journal.old) (J.fault_count journal.new)) }
+    ensures later { J.fault_count journal.old ≤ J.fault_count journal.new }
+    ensures err { OnErr result ((local.new ≡ local.old) × (J.items journal.new ≡ J.items journal.old)) }
+{
+    if append(alloc, &JournalItem::Finish(gxid), journal)? {
+        return Ok(Taken {
+            mark: Some(Mark::JournalFailed { node, gxid }),
+            reply: Some(Reply::Again),
+            fails: true,
+        });
+    }
+    local.phase = Phase::Committed;
+    Ok(Taken {
+        mark: Some(Mark::LocalCommit { node, gxid }),
+        reply: Some(Reply::Committed),
+        fails: false,
+    })
+}
+
+pub(crate) fn take_commit_prepared<J: Journal>(
+    alloc: Global,
+    node: Node,
+    gxid: Gxid,
+    local: &mut Local,
+    journal: &mut J,
+) -> Mem<Taken>
+    ensures does { IfOk result (λ taken. Does (change.finishes node gxid taken.fails (local_of local.old) (phase_of local.old.phase)) (local_of local.new) taken) }
+    ensures items { IfOk result (λ taken. AreItems (J.items journal.old) (J.items journal.new) taken.fails (change.finishes node gxid taken.fails
+        (local_of local.old) (phase_of local.old.phase)).item) }
+    ensures caused { IfOk result (λ taken. taken.fails ≡ true → Rose (J.fault_count journal.old) (J.fault_count journal.new)) }
+    ensures later { J.fault_count journal.old ≤ J.fault_count journal.new }
+    ensures err { OnErr result ((local.new ≡ local.old) × (J.items journal.new ≡ J.items journal.old)) }
+{
+    match local.phase {
+        Phase::Prepared => finish(alloc, node, gxid, local, journal),
+        Phase::Committed | Phase::Forgotten(true) => Ok(tell(Reply::Committed)),
+        _ => Ok(nothing()),
+    }
+}
+
+// An answer, and nothing else.
+pub(crate) fn tell(reply: Reply) -> Taken
+    ensures { result ≡ record { mark = None; reply = Some reply; fails = false } }
+{
+    Taken {
+        mark: None,
+        reply: Some(reply),
+        fails: false,
+    }
+}

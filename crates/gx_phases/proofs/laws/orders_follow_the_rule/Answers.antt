@@ -1,5 +1,0 @@
-use Rattle.gx_phases.proofs.Turns.{turn-makes}
-use Rattle.gx_phases.proofs.laws.orders_follow_the_rule.Goals as goal
-
-pub returns : goal.returns
-returns c = λ order s g fails. turn-makes order s g fails

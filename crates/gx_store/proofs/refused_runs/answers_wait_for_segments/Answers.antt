@@ -1,5 +1,0 @@
-use Rattle.gx_store.proofs.RefusedRuns.{protocol-at-once}
-use Rattle.gx_store.proofs.refused_runs.answers_wait_for_segments.Goals as goal
-
-pub returns : goal.returns
-returns c = λ script query snapshot. protocol-at-once script query snapshot

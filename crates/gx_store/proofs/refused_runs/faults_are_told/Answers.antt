@@ -1,8 +1,0 @@
-use Rattle.gx_store.proofs.RefusedRuns.{no-history-told-another, no-history-untold}
-use Rattle.gx_store.proofs.refused_runs.faults_are_told.Goals as goal
-
-pub returns-clause-untold : goal.returns-clause-untold
-returns-clause-untold c = λ script table tuple query s t row. no-history-untold script table tuple query s t row
-
-pub returns-clause-told_another : goal.returns-clause-told_another
-returns-clause-told_another c = λ script table tuple query s t row. no-history-told-another script table tuple query s t row

@@ -1,0 +1,42 @@
+//! Runs that are no histories: in each of them all but one thing is right.
+ghost use Rattle.std.specs.Prelude.{List};
+ghost use Rattle.gx_dsnap.specs.declared.snapshot.Snapshot.{Snapshot as OneSnapshot};
+ghost use Rattle.gx_ids.specs.declared.ids.Table.{Table as OneTable};
+ghost use Rattle.gx_script.specs.declared.Script.{Script as OneScript};
+ghost use Rattle.gx_store.specs.RefusedHistories.{IsNoHistory, block_of_insert, block_of_select, commit_is_cancelled, insert_and_select, inserted_nothing, never_started, one_insert, over_two, select_all, select_for_journal, sent_to_nobody, told_another, told_by_another, two_inserts, undrawn, untold, written_elsewhere};
+ghost use Rattle.gx_store.specs.RefusedParts.{empty_block};
+ghost use Rattle.gx_tree.specs.declared.expr.Expr.{Expr as OneExpr};
+ghost use Rattle.gx_tree.specs.declared.query.Query.{Query as OneQuery};
+ghost use Rattle.gx_tree.specs.declared.value.Value.{Value as OneValue};
+ghost use Rattle.gx_waits.specs.declared.graph.LocalGraph.{LocalGraph as OneGraph};
+
+/// A late write of an INSERT isn't of another's row, and an INSERT isn't answered for a row that it hasn't written.
+pub fn inserts_write_their_own_rows()
+    ensures elsewhere { (script : OneScript) (table : OneTable) (annas berts : List OneExpr) (snapshot : OneSnapshot) (row : List OneValue) → IsNoHistory (two_inserts script table annas berts) (written_elsewhere table snapshot row) }
+    ensures nothing { (script : OneScript) (table : OneTable) (tuple : List OneExpr) (snapshot : OneSnapshot) → IsNoHistory (one_insert script table tuple) (inserted_nothing snapshot) }
+{}
+
+/// A command isn't refused for an evaluation of which the step receives no word, nor for another cause than the word's, nor by the
+/// word of a segment that hasn't noted the fault.
+pub fn faults_are_told()
+    ensures untold { (script : OneScript) (table : OneTable) (tuple : List OneExpr) (query : OneQuery) (s t : OneSnapshot) (row : List OneValue) → IsNoHistory (insert_and_select script table tuple query) (untold table s t row) }
+    ensures told_another { (script : OneScript) (table : OneTable) (tuple : List OneExpr) (query : OneQuery) (s t : OneSnapshot) (row : List OneValue) → IsNoHistory (insert_and_select script table tuple query) (told_another table s t row) }
+    ensures by_another { (script : OneScript) (table : OneTable) (tuple : List OneExpr) (query : OneQuery) (s t : OneSnapshot) (row : List OneValue) → IsNoHistory (over_two (insert_and_select script table tuple query)) (told_by_another table s t row) }
+{}
+
+/// A command isn't answered that was sent to nobody.
+pub fn answers_come_from_segments()
+    ensures { (script : OneScript) (query : OneQuery) (snapshot : OneSnapshot) → IsNoHistory (select_all script query) (sent_to_nobody snapshot) }
+{}
+
+/// COMMIT isn't cancelled by the detector, and no other line of a block is refused for a journal.
+pub fn blocks_are_refused_for_their_own()
+    ensures cancelled { (script : OneScript) (graph : OneGraph) → IsNoHistory (empty_block script) (commit_is_cancelled graph) }
+    ensures journal { (script : OneScript) (query : OneQuery) → IsNoHistory (block_of_select script query) select_for_journal }
+{}
+
+/// BEGIN outside a block doesn't start without drawing a transaction, and nothing is written for a line that was never started.
+pub fn lines_start()
+    ensures undrawn { (script : OneScript) → IsNoHistory (empty_block script) undrawn }
+    ensures never { (script : OneScript) (query : OneQuery) (table : OneTable) (tuple : List OneExpr) (row : List OneValue) → IsNoHistory (block_of_insert script query table tuple) (never_started table row) }
+{}
