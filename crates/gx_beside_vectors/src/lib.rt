@@ -1,4 +1,6 @@
 //! Tests of what stands beside the program: links between two threads, slots of resource groups, the log of verdicts.
+//!
+//! An envelope that would be let go is forgotten: what frees it would be proved here once more.
 #![tactic(auto)]
 
 #[cfg(test)]

@@ -3,6 +3,7 @@ ghost use Rattle.std.specs.Prelude.{◌≡◌, ◌≤◌, ◌<◌, ◌+◌, ◌^
 
 use gx_links::{LinkIn, LinkOut, LinkRecord, close, link};
 use gx_msg::{Envelope, Message};
+use std::mem::forget;
 use std::sync::Wait;
 use std::test::Fail;
 use std::thread;
@@ -25,7 +26,13 @@ fn send<R: Wait>(rt: &R, out: &mut LinkOut, number: u64) -> bool
 }
 
 fn was_sent(sent: Result<(), Envelope>) -> bool {
-    sent.is_ok()
+    match sent {
+        Ok(()) => true,
+        Err(back) => {
+            forget(back);
+            false
+        }
+    }
 }
 
 // The number of the envelope that is received.
@@ -37,7 +44,11 @@ fn receive<R: Wait>(rt: &R, inward: &mut LinkIn) -> Option<u64>
 
 fn number_of(envelope: Option<Envelope>) -> Option<u64> {
     match envelope {
-        Some(envelope) => Some(envelope.number),
+        Some(envelope) => {
+            let number = envelope.number;
+            forget(envelope);
+            Some(number)
+        }
         None => None,
     }
 }

@@ -3,3 +3,10 @@ pub mod Victim
 pub mod Places
 pub mod Told
 pub mod Complete
+pub mod Marks
+pub mod Reduced
+pub mod Stuck
+pub mod Graphs
+pub mod Turned
+pub mod CoreNames
+pub mod Chosen

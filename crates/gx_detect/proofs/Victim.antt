@@ -7,11 +7,11 @@ use Rattle.gx_waits.specs.declared.verdict.Verdict.TheVariants.{Victims}
 use Rattle.gx_waits.specs.Closed.{IsNamedInStuck, IsStuck}
 use Rattle.gx_waits.specs.Edge.{names}
 use Rattle.gx_waits.specs.Victims.{AreVictims, IsGreatestInCore, IsVerdict}
-use Rattle.gx_waits.proofs.Members.{Has, has_from_contains, all_from_each, each_from_all}
+use Rattle.gx_waits.proofs.Members.{has_from_contains, all_from_each, each_from_all}
 use Rattle.gx_waits.proofs.StuckWaits.{stuck_never_finishes}
-use Rattle.gx_reduce.specs.Core.{HaveClosedCores, IsCore}
-use Rattle.gx_reduce.specs.Reduce.{IsNamed}
-use Rattle.gx_reduce.proofs.CoreNames.{core_name}
+use Rattle.gx_detect.specs.Core.{HaveClosedCores, IsCore}
+use Rattle.gx_detect.specs.Reduce.{IsNamed}
+use Rattle.gx_detect.proofs.CoreNames.{core_name}
 use Rattle.gx_detect.specs.Deadlocks.{AreVictimsInTurn, IsVictim, NamesVictims, naming}
 
 stands : (edges : List PlacedEdge) (e : PlacedEdge) → IsStuck edges e → Contains edges e

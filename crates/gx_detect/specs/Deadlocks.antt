@@ -8,7 +8,7 @@ use Rattle.gx_waits.specs.Closed.{IsClosed, IsWithin}
 use Rattle.gx_waits.specs.Edge.{names}
 use Rattle.gx_waits.specs.Finish.{CanFinish}
 use Rattle.gx_waits.specs.Victims.{IsInCore}
-use Rattle.gx_reduce.specs.Reduce.{IsNamed}
+use Rattle.gx_detect.specs.Reduce.{IsNamed}
 
 -- a closed set of waits, all of whose members are waited for, and none of whom can finish; no other wait of the core is
 -- left out, so that it holds all deadlocks there are

@@ -3,3 +3,9 @@ pub mod Rounds
 pub mod Inactive
 pub mod Deadlocks
 pub mod Calls
+pub mod Place
+pub mod Tally
+pub mod Settled
+pub mod Reducing
+pub mod Reduce
+pub mod Core

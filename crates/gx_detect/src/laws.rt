@@ -12,7 +12,8 @@ pub fn calls_tell_the_rounds()
 
 /// A round is complete exactly where it runs and a graph came for it from every segment since it began.
 pub fn complete_is_a_report_of_each_segment()
-    ensures { (segments : ℕ) (calls : List Call) → (is_complete (after segments calls) ≡ true) ↔ ((is_running calls ≡ true) × ((segment : ℕ) → 1 ≤ segment → segment ≤ segments → HasReported (begun_by calls) segment (heard_since calls))) }
+    ensures { (segments : ℕ) (calls : List Call) → (is_complete (after segments calls) ≡ true) ↔ ((is_running calls ≡ true)
+        × ((segment : ℕ) → 1 ≤ segment → segment ≤ segments → HasReported (begun_by calls) segment (heard_since calls))) }
 {}
 
 /// A complete round is decided over the coordinator's own graph and the first graph of each segment, in their order.
@@ -24,7 +25,8 @@ pub fn rechecks_are_over_first_reports()
 pub fn other_graphs_change_nothing()
     ensures no_round { (segments : ℕ) (calls : List Call) (report : Report) → is_running calls ≡ false → after segments (Hear report ∷ calls) ≡ after segments calls }
     ensures late_or_early { (segments : ℕ) (calls : List Call) (report : Report) → (report.round ≡ begun_by calls → ⊥) → after segments (Hear report ∷ calls) ≡ after segments calls }
-    ensures repeated { (segments : ℕ) (calls : List Call) (report : Report) → HasReported (begun_by calls) report.graph.node.0 (heard_since calls) → after segments (Hear report ∷ calls) ≡ after segments calls }
+    ensures repeated { (segments : ℕ) (calls : List Call) (report : Report) → HasReported (begun_by calls) report.graph.node.0 (heard_since calls)
+        → after segments (Hear report ∷ calls) ≡ after segments calls }
 {}
 
 /// Segments may report in any order: two lists in which each segment's own reports are the same, in the same order, lead to

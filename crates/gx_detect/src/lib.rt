@@ -1,14 +1,22 @@
-//! Rounds of the Global Deadlock Detector at the coordinator: each asks every segment for its wait graph, and is decided once
-//! all have come (after the idea of Lyu et al., SIGMOD 2021).
+//! The Global Deadlock Detector (after the idea of Lyu et al., SIGMOD 2021). Its rounds at the coordinator: each asks every
+//! segment for its wait graph, and is decided once all have come. The reduction of waits: which edges are stuck, the core of
+//! them, and whom to abort; which edges go and who is chosen are this project's own.
 #![tactic(auto)]
 
+pub mod choice;
 pub mod detector;
+mod edges;
 pub mod laws;
+mod names;
+mod place;
 mod probe;
+pub mod reduction;
 mod reports;
+mod rest;
+mod settle;
+mod tally;
 mod verdict;
 
+pub use choice::{core, victims};
 pub use detector::Detector;
-
-#[cfg(test)]
-mod tests;
+pub use reduction::reduce;

@@ -4,8 +4,8 @@ ghost use Rattle.gx_waits.specs.Victims.{IsVerdict};
 ghost use Rattle.gx_detect.specs.Deadlocks.{NamesVictims, naming};
 ghost use Rattle.gx_detect.specs.Inactive.{lesser, with_graph, with_waiter};
 
+use crate::{reduce, victims};
 use gx_ids::{Gxid, Mem, Seq};
-use gx_reduce::{reduce, victims};
 use gx_waits::{Edge, LocalGraph, Verdict};
 use std::alloc::Global;
 

@@ -1,2 +1,4 @@
 pub mod Noting
 pub mod Texts
+pub mod Balances
+pub mod Edges

@@ -1,3 +1,10 @@
 pub mod Error
 pub mod Places
 pub mod Text
+pub mod EventText
+pub mod LockText
+pub mod MarkText
+pub mod Summary
+pub mod TraceText
+pub mod Words
+pub mod Worked

@@ -1,10 +1,22 @@
-//! The text of a run: each session's answers, and then the final tables.
+//! The text of a run: each session's answers, and then the final tables; that of its trace; and the line that tells of a run
+//! of generated work.
 #![tactic(auto)]
 
 mod error;
+mod events;
+mod generated;
+mod locks;
+mod marks;
 mod places;
 mod report;
+mod rows;
 mod sessions;
 mod tables;
+mod trace;
+mod words;
+mod worked;
 
+pub use generated::summary;
 pub use tables::{text, text_of_stopped};
+pub use trace::{push_trace, trace_text};
+pub use worked::{all_kinds_are_traced, begin_and_rollback_are_traced};

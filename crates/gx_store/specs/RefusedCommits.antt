@@ -34,7 +34,9 @@ one_select script query = with_lines script (line_of anna 1 (stmt.Select query) 
 abbrev pub answered_at_once : Query → Snapshot → List Step
 answered_at_once query snapshot =
     step_at the_coordinator 1 (event.Start anna) (
-    mark.Start first_txn anna ∷ mark.Snap first_txn first_cid snapshot ∷ mark.Sent the_segment 1 (message.Exec first_txn first_cid ReadCommitted (Some snapshot) first_txn (slice.Select query)) ∷ mark.Commit first_txn
+    mark.Start first_txn anna ∷ mark.Snap first_txn first_cid snapshot
+    ∷ mark.Sent the_segment 1 (message.Exec first_txn first_cid ReadCommitted (Some snapshot) first_txn (slice.Select query))
+    ∷ mark.Commit first_txn
     ∷ mark.Answer anna 1 (answer.Rows []) ∷ []
     ) ∷ []
 
@@ -72,7 +74,8 @@ promises_there clock node =
 abbrev pub both_promise : Table → Snapshot → List Value → List Value → List Step
 both_promise table snapshot one other =
     block_begins
-    ∷ step_at the_coordinator 2 (event.Start anna) (mark.Snap first_txn first_cid snapshot ∷ mark.Sent the_segment 1 (insert_of table snapshot 1 one) ∷ mark.Sent other_segment 1 (insert_of table snapshot 2 other) ∷ [])
+    ∷ step_at the_coordinator 2 (event.Start anna)
+    (mark.Snap first_txn first_cid snapshot ∷ mark.Sent the_segment 1 (insert_of table snapshot 1 one) ∷ mark.Sent other_segment 1 (insert_of table snapshot 2 other) ∷ [])
     ∷ writes_there table 3 the_segment 1 one
     ∷ writes_there table 3 other_segment 2 other
     ∷ step_at the_coordinator 4 (event.Receive the_segment the_coordinator 1) []

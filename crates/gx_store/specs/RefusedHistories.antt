@@ -140,5 +140,7 @@ second_cid = record { 0 = 2 }
 abbrev pub never_started : Table → List Value → List Step
 never_started table row =
     block_begins
-    ∷ step_at the_coordinator 2 (event.Start anna) (mark.Recheck 1 (no_edges the_coordinator) (Victims (first_txn ∷ [])) ∷ mark.Abort first_txn ∷ mark.Answer anna 2 (answer.Refused (refused.Victim 1)) ∷ [])
-    ∷ step_at the_segment 3 (event.Receive the_coordinator the_segment 1) (mark.Write first_txn second_cid the_segment table (record { gxid = first_txn; cid = second_cid; ordinal = 1 }) (Some row) ∷ []) ∷ []
+    ∷ step_at the_coordinator 2 (event.Start anna)
+    (mark.Recheck 1 (no_edges the_coordinator) (Victims (first_txn ∷ [])) ∷ mark.Abort first_txn ∷ mark.Answer anna 2 (answer.Refused (refused.Victim 1)) ∷ [])
+    ∷ step_at the_segment 3 (event.Receive the_coordinator the_segment 1)
+    (mark.Write first_txn second_cid the_segment table (record { gxid = first_txn; cid = second_cid; ordinal = 1 }) (Some row) ∷ []) ∷ []

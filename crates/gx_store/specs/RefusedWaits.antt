@@ -43,4 +43,5 @@ abbrev pub released_early : Snapshot → List Step
 released_early snapshot =
     step_at the_coordinator 1 (event.Start anna) (mark.Start first_txn anna ∷ mark.Hold the_coordinator first_txn (Relation first_table) AccessShare ∷ mark.Snap first_txn first_cid snapshot ∷ [])
     ∷ step_at the_coordinator 2 (event.Receive the_segment the_coordinator 1)
-    (mark.Abort first_txn ∷ mark.Release the_coordinator first_txn (Relation first_table) AccessShare ∷ mark.Sent the_segment 2 (message.Abort first_txn) ∷ mark.Answer anna 1 (answer.Refused refused.Overflow) ∷ []) ∷ []
+    (mark.Abort first_txn ∷ mark.Release the_coordinator first_txn (Relation first_table) AccessShare
+    ∷ mark.Sent the_segment 2 (message.Abort first_txn) ∷ mark.Answer anna 1 (answer.Refused refused.Overflow) ∷ []) ∷ []

@@ -22,11 +22,14 @@ pub fn writers_promise()
 
 /// Nothing is decided twice, nor behind a transaction's end.
 pub fn decisions_come_once()
-    ensures twice { (script : OneScript) (table : OneTable) (one other : List OneExpr) (snapshot : OneSnapshot) (row more : List OneValue) → BreaksProtocol (two_writers script table one other) (decided_twice table snapshot row more) }
-    ensures late { (script : OneScript) (table : OneTable) (one other : List OneExpr) (snapshot : OneSnapshot) (row more : List OneValue) → BreaksProtocol (two_writers script table one other) (decided_late table snapshot row more) }
+    ensures twice { (script : OneScript) (table : OneTable) (one other : List OneExpr) (snapshot : OneSnapshot) (row more : List OneValue)
+        → BreaksProtocol (two_writers script table one other) (decided_twice table snapshot row more) }
+    ensures late { (script : OneScript) (table : OneTable) (one other : List OneExpr) (snapshot : OneSnapshot) (row more : List OneValue)
+        → BreaksProtocol (two_writers script table one other) (decided_late table snapshot row more) }
 {}
 
 /// Of two writers none commits before it is decided.
 pub fn commits_follow_the_decision()
-    ensures { (script : OneScript) (table : OneTable) (one other : List OneExpr) (snapshot : OneSnapshot) (row more : List OneValue) → BreaksProtocol (two_writers script table one other) (committed_early table snapshot row more) }
+    ensures { (script : OneScript) (table : OneTable) (one other : List OneExpr) (snapshot : OneSnapshot) (row more : List OneValue)
+        → BreaksProtocol (two_writers script table one other) (committed_early table snapshot row more) }
 {}

@@ -12,16 +12,20 @@ ghost use Rattle.gx_waits.specs.declared.graph.LocalGraph.{LocalGraph as OneGrap
 
 /// A late write of an INSERT isn't of another's row, and an INSERT isn't answered for a row that it hasn't written.
 pub fn inserts_write_their_own_rows()
-    ensures elsewhere { (script : OneScript) (table : OneTable) (annas berts : List OneExpr) (snapshot : OneSnapshot) (row : List OneValue) → IsNoHistory (two_inserts script table annas berts) (written_elsewhere table snapshot row) }
+    ensures elsewhere { (script : OneScript) (table : OneTable) (annas berts : List OneExpr) (snapshot : OneSnapshot) (row : List OneValue)
+        → IsNoHistory (two_inserts script table annas berts) (written_elsewhere table snapshot row) }
     ensures nothing { (script : OneScript) (table : OneTable) (tuple : List OneExpr) (snapshot : OneSnapshot) → IsNoHistory (one_insert script table tuple) (inserted_nothing snapshot) }
 {}
 
 /// A command isn't refused for an evaluation of which the step receives no word, nor for another cause than the word's, nor by the
 /// word of a segment that hasn't noted the fault.
 pub fn faults_are_told()
-    ensures untold { (script : OneScript) (table : OneTable) (tuple : List OneExpr) (query : OneQuery) (s t : OneSnapshot) (row : List OneValue) → IsNoHistory (insert_and_select script table tuple query) (untold table s t row) }
-    ensures told_another { (script : OneScript) (table : OneTable) (tuple : List OneExpr) (query : OneQuery) (s t : OneSnapshot) (row : List OneValue) → IsNoHistory (insert_and_select script table tuple query) (told_another table s t row) }
-    ensures by_another { (script : OneScript) (table : OneTable) (tuple : List OneExpr) (query : OneQuery) (s t : OneSnapshot) (row : List OneValue) → IsNoHistory (over_two (insert_and_select script table tuple query)) (told_by_another table s t row) }
+    ensures untold { (script : OneScript) (table : OneTable) (tuple : List OneExpr) (query : OneQuery) (s t : OneSnapshot) (row : List OneValue)
+        → IsNoHistory (insert_and_select script table tuple query) (untold table s t row) }
+    ensures told_another { (script : OneScript) (table : OneTable) (tuple : List OneExpr) (query : OneQuery) (s t : OneSnapshot) (row : List OneValue)
+        → IsNoHistory (insert_and_select script table tuple query) (told_another table s t row) }
+    ensures by_another { (script : OneScript) (table : OneTable) (tuple : List OneExpr) (query : OneQuery) (s t : OneSnapshot) (row : List OneValue)
+        → IsNoHistory (over_two (insert_and_select script table tuple query)) (told_by_another table s t row) }
 {}
 
 /// A command isn't answered that was sent to nobody.
@@ -38,5 +42,6 @@ pub fn blocks_are_refused_for_their_own()
 /// BEGIN outside a block doesn't start without drawing a transaction, and nothing is written for a line that was never started.
 pub fn lines_start()
     ensures undrawn { (script : OneScript) → IsNoHistory (empty_block script) undrawn }
-    ensures never { (script : OneScript) (query : OneQuery) (table : OneTable) (tuple : List OneExpr) (row : List OneValue) → IsNoHistory (block_of_insert script query table tuple) (never_started table row) }
+    ensures never { (script : OneScript) (query : OneQuery) (table : OneTable) (tuple : List OneExpr) (row : List OneValue)
+        → IsNoHistory (block_of_insert script query table tuple) (never_started table row) }
 {}

@@ -1,6 +1,6 @@
 // Wait graphs and their victims. An edge is its node, its waiter, its holder, and whether it is dotted.
+use gx_detect::victims;
 use gx_ids::{Gxid, Mem, Node};
-use gx_reduce::victims;
 use gx_waits::{Edge, LocalGraph};
 use std::alloc::Global;
 use std::test::Fail;

@@ -16,3 +16,5 @@ mod memory;
 mod places;
 #[cfg(test)]
 mod printing;
+#[cfg(test)]
+mod rounds;

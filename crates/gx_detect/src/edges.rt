@@ -1,0 +1,76 @@
+ghost use Rattle.std.specs.Prelude.{◌≡◌, ◌++◌, IfOk, OnOk, map, filter, not};
+ghost use Rattle.gx_waits.specs.Edge.{names};
+ghost use Rattle.gx_waits.specs.LocalGraph.{edges_of};
+ghost use Rattle.gx_detect.specs.Reduce.{is_left, kept_edges};
+ghost use Rattle.gx_detect.specs.Tally.{count_at};
+
+use crate::tally::Tally;
+use gx_ids::{Gxid, Mem, Seq};
+use gx_waits::{LocalGraph, PlacedEdge};
+use std::alloc::Global;
+
+/// The edges of graphs, each with its node.
+pub fn all_edges(alloc: Global, graphs: &[LocalGraph]) -> Mem<Vec<PlacedEdge>>
+    ensures { IfOk result (λ edges. edges.items ≡ edges_of graphs.now) }
+{
+    let mut edges = Vec::new(alloc);
+    for graph in graphs {
+        add_edges(&mut edges, graph)?;
+    }
+    Ok(edges)
+}
+
+fn add_edges(edges: &mut Vec<PlacedEdge>, graph: &LocalGraph) -> Mem<()>
+    ensures { OnOk result (edges.new.items ≡ edges.old.items ++ map (λ edge. record { node = graph.now.node; edge = edge }) graph.now.edges) }
+{
+    for edge in graph.edges.as_slice() {
+        edges.push(PlacedEdge {
+            node: graph.node,
+            edge: *edge,
+        })?;
+    }
+    Ok(())
+}
+
+/// The graph with those of its edges that are left by the counts.
+pub fn left_in_graph(alloc: Global, graph: &LocalGraph, tally: &Tally) -> Mem<LocalGraph>
+    ensures { IfOk result (λ left. left ≡ kept_edges (is_left (count_at tally.now)) graph.now) }
+{
+    let node = graph.node;
+    let mut kept = Vec::new(alloc);
+    for edge in graph.edges.as_slice() {
+        if tally.leaves(&PlacedEdge { node, edge: *edge }) {
+            kept.push(*edge)?;
+        }
+    }
+    Ok(LocalGraph {
+        node,
+        edges: Seq::from_vec(kept),
+    })
+}
+
+/// Those of the edges that are left by the counts.
+pub fn left_edges(alloc: Global, edges: &[PlacedEdge], tally: &Tally) -> Mem<Vec<PlacedEdge>>
+    ensures { IfOk result (λ left. left.items ≡ filter (is_left (count_at tally.now)) edges.now) }
+{
+    let mut left = Vec::new(alloc);
+    for edge in edges {
+        if tally.leaves(edge) {
+            left.push(*edge)?;
+        }
+    }
+    Ok(left)
+}
+
+/// The edges that don't name the transaction.
+pub fn edges_without(alloc: Global, edges: &[PlacedEdge], gxid: Gxid) -> Mem<Vec<PlacedEdge>>
+    ensures { IfOk result (λ rest. rest.items ≡ filter (λ e. not (names gxid e.edge)) edges.now) }
+{
+    let mut rest = Vec::new(alloc);
+    for edge in edges {
+        if !edge.edge.names(gxid) {
+            rest.push(*edge)?;
+        }
+    }
+    Ok(rest)
+}

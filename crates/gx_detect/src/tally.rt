@@ -1,0 +1,100 @@
+ghost use Rattle.std.specs.Prelude.{◌≡◌, ◌≢◌, ◌<◌, ◌+◌, ◌^◌, IfOk, IsTrue, OnOk, count_by};
+
+use crate::place::Place;
+use gx_ids::Mem;
+use gx_waits::PlacedEdge;
+use std::alloc::Global;
+use std::collections::BTreeMap;
+
+/// How many edges wait in each place.
+#[derive(Drop)]
+pub struct Tally {
+    counts: BTreeMap<Place, usize>,
+}
+
+impl Tally {
+    ghost use Rattle.gx_detect.specs.declared.place.Place.{Place};
+    ghost use Rattle.gx_detect.specs.Tally.{count_at};
+    ghost use Rattle.gx_detect.specs.Place.{waits_in, bit};
+    ghost use Rattle.gx_detect.specs.Reduce.{is_left};
+
+    /// Nobody waits.
+    pub fn new(alloc: Global) -> Tally
+        ensures { (place : Place) → count_at result place ≡ 0 }
+    {
+        Tally {
+            counts: BTreeMap::new(alloc),
+        }
+    }
+
+    /// How many wait in the place.
+    pub fn count(&self, place: Place) -> usize
+        ensures { result ≡ count_at self.now place }
+    {
+        self.counts.get(&place).copied().unwrap_or(0)
+    }
+
+    /// One more waits in the place.
+    pub fn raise(&mut self, place: Place) -> Mem<()>
+        requires { count_at self.old place + 1 < 2 ^ 64 }
+        ensures there { OnOk result (count_at self.new place ≡ count_at self.old place + 1) }
+        ensures elsewhere { OnOk result ((p : Place) → p ≢ place → count_at self.new p ≡ count_at self.old p) }
+    {
+        let count = self.counts.get(&place).copied().unwrap_or(0);
+        self.counts.insert(place, count + 1)?;
+        Ok(())
+    }
+
+    /// One less waits in the place. The answer is how many are left.
+    pub fn lower(&mut self, place: Place) -> usize
+        requires { 0 < count_at self.old place }
+        ensures there { count_at self.new place + 1 ≡ count_at self.old place }
+        ensures elsewhere { (p : Place) → p ≢ place → count_at self.new p ≡ count_at self.old p }
+        ensures left { result ≡ count_at self.new place }
+    {
+        match self.counts.get_mut(&place) {
+            Some(count) => {
+                *count -= 1;
+                *count
+            }
+            None => unreachable!(),
+        }
+    }
+
+    /// Whether somebody waits where the edge needs it.
+    #[tactic(auto, unfolding(crate::specs::Reduce::is_left))]
+    pub fn leaves(&self, edge: &PlacedEdge) -> bool
+        ensures { result ≡ is_left (count_at self.now) edge.now }
+    {
+        self.count(Place::needed_by(edge)) > 0
+    }
+
+    /// Counts an edge where its waiter waits.
+    pub fn add(&mut self, edge: &PlacedEdge) -> Mem<()>
+        requires { (place : Place) → count_at self.old place + 1 < 2 ^ 64 }
+        ensures { OnOk result ((place : Place) → count_at self.new place ≡ count_at self.old place + bit (waits_in place edge.now)) }
+    {
+        self.raise(Place::Anywhere(edge.edge.waiter))?;
+        self.raise(Place::At(edge.node, edge.edge.waiter))
+    }
+
+    /// Counts an edge no more.
+    pub fn remove(&mut self, edge: &PlacedEdge)
+        requires { (place : Place) → IsTrue (waits_in place edge.now) → 0 < count_at self.old place }
+        ensures { (place : Place) → count_at self.new place + bit (waits_in place edge.now) ≡ count_at self.old place }
+    {
+        let _ = self.lower(Place::Anywhere(edge.edge.waiter));
+        let _ = self.lower(Place::At(edge.node, edge.edge.waiter));
+    }
+
+    /// The count of some edges.
+    pub fn of(alloc: Global, edges: &[PlacedEdge]) -> Mem<Tally>
+        ensures { IfOk result (λ tally. (place : Place) → count_at tally place ≡ count_by (waits_in place) edges.now) }
+    {
+        let mut tally = Tally::new(alloc);
+        for edge in edges {
+            tally.add(edge)?;
+        }
+        Ok(tally)
+    }
+}

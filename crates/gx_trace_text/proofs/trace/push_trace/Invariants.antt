@@ -1,7 +1,0 @@
-use Rattle.std.proofs.Common.{◌≡◌, ◌++◌, take}
-use Rattle.std.specs.List.{flat_map}
-use Rattle.gx_trace_text.specs.TraceText.{step_lines}
-use Rattle.gx_trace_text.proofs.trace.push_trace.Given as goal
-
-abbrev pub invariant-loop-step : goal.invariant-loop-step
-invariant-loop-step l = l.text.items ≡ l.initial.text.items ++ flat_map (step_lines l.script) (take l.step-index l.run.steps)

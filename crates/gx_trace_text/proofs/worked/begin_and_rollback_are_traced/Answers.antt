@@ -1,7 +1,0 @@
-use Rattle.std.proofs.Common.{refl}
-use Rattle.std.specs.Fmt.{digits}
-use Rattle.gx_trace_text.proofs.worked.begin_and_rollback_are_traced.Goals as goal
-
-pub returns : goal.returns
-unfolding digits
-returns c = refl
