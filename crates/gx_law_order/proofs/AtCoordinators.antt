@@ -51,7 +51,7 @@ use Rattle.gx_law_order.proofs.Lists.{Each, each_append, each_map}
 use Rattle.gx_law_order.proofs.Places.{IsAtOneOf, IsOneOf, PlanIn, plan_in}
 use Rattle.gx_law_order.proofs.Tables.{AreIn, FoundIn, OutIn, PhaseIn, TableIn, TurnIn, begun_in, enlisted_in, find_in, has_in, live_in, on_abort_in, on_commit_in, on_reply_in, with_in, without_in}
 use Rattle.gx_rules.specs.Locks.{hold_mark, release_marks, with_hold}
-use Rattle.gx_locks.specs.Locks.{Locks, is_free, resumed, wait_of}
+use Rattle.gx_locks.specs.Locks.{Locks, wait_of}
 use Rattle.gx_waits.specs.declared.claim.Claim.{Claim}
 use Rattle.gx_law_order.proofs.Calm.{each-released, AreCalm, calm-free, hold-calm, lock-calm, nobody-waits, release-calm}
 

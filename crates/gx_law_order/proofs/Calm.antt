@@ -1,6 +1,6 @@
 -- The coordinator's locks, as long as only those who read or add rows take any: nobody waits, and no two modes meet.
-use Rattle.std.proofs.Common.{◌≡◌, List, [], ◌∷◌, ◌++◌, Some, None, Bool, true, false, refl, sym, subst, ap, ◌∙◌, if◌then◌else◌, ◌&&◌, ◌||◌, not, arith}
-use Rattle.std.specs.Prelude.{filter, find}
+use Rattle.std.proofs.Common.{◌≡◌, List, [], ◌∷◌, ◌++◌, Some, None, Bool, true, false, refl, subst, ap, ◌∙◌, if◌then◌else◌, ◌&&◌, ◌||◌, not, arith}
+use Rattle.std.specs.Prelude.{find}
 use Rattle.std.specs.List.{list_any}
 use Rattle.gx_ids.specs.declared.ids.Gxid.{Gxid}
 use Rattle.gx_ids.specs.declared.ids.Node.{Node}
@@ -12,7 +12,7 @@ use Rattle.gx_tree.specs.declared.stmt.Stmt.TheVariants as stmt
 use Rattle.gx_waits.specs.Claim.{meets, same_claim}
 use Rattle.gx_waits.specs.declared.claim.Claim.{Claim}
 use Rattle.gx_locks.specs.Claims.{is_of}
-use Rattle.gx_locks.specs.Locks.{Locks, held, is_free, is_ready, wait_of, without}
+use Rattle.gx_locks.specs.Locks.{Locks, is_free, is_ready, wait_of, without}
 use Rattle.gx_store.specs.declared.mark.Mark.{Mark}
 use Rattle.gx_rules.specs.AtCoordinator.{lock_for}
 use Rattle.gx_rules.specs.Locks.{has_there, release_mark, release_marks, released, with_hold}

@@ -38,7 +38,6 @@ use Rattle.gx_rules.specs.Segments.{Local, Phase, Seg, SegTurn, has_committed, l
 use Rattle.gx_rules.specs.Segments.Phase.{Aborted, Committed, Forgotten, Prepared, Reading, Writing}
 use Rattle.gx_rules.specs.Sending.{clock_after, numbered}
 use Rattle.gx_rules.specs.Slices.{runs_slice}
-use Rattle.gx_law_order.proofs.Letters.{IsFound}
 use Rattle.gx_law_order.proofs.Lists.{Each, each_append, each_weaker}
 use Rattle.gx_law_order.proofs.Past.{Past, aborted-append, committed-append, running-drawn}
 use Rattle.gx_law_order.proofs.Replies.{event-good}
