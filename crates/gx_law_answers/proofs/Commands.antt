@@ -2,7 +2,6 @@
 use Rattle.std.proofs.Common.{◌≡◌, inl, inr, ℕ, ◌+◌, List, [], ◌++◌, Some, None, true, false, refl, sym, subst, ap, ◌∙◌, if◌then◌else◌, arith}
 use Rattle.gx_ids.specs.declared.ids.Cid.{Cid}
 use Rattle.gx_ids.specs.declared.ids.Gxid.{Gxid}
-use Rattle.gx_ids.specs.declared.ids.Node.{Node}
 use Rattle.gx_ids.specs.declared.ids.SessionId.{SessionId}
 use Rattle.gx_tree.specs.declared.stmt.Level.{Level}
 use Rattle.gx_tree.specs.declared.stmt.Level.TheVariants.{ReadCommitted}
@@ -13,7 +12,6 @@ use Rattle.gx_script.specs.declared.state.Block.{Block}
 use Rattle.gx_script.specs.declared.state.Block.TheVariants as block
 use Rattle.gx_script.specs.declared.state.Pending.{Pending}
 use Rattle.gx_script.specs.declared.state.Pending.TheVariants as pending
-use Rattle.gx_store.specs.declared.event.Event.TheVariants as event
 use Rattle.gx_store.specs.declared.mark.Mark.{Mark}
 use Rattle.gx_store.specs.Commands.{RunsCommand}
 use Rattle.gx_store.specs.Lines.{BlockState, Outside, InBlock, Failed, cid_of, is_command, is_on_rows, level_of, state_of, stmt_of, transaction_of}

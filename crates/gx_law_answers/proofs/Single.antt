@@ -1,7 +1,7 @@
 -- A repeatable-read transaction takes one snapshot.
 use Rattle.std.proofs.Common.{◌≡◌, ◌≢◌, ◌≤◌, ◌<◌, ◌⊎◌, inl, inr, ⊎_elim, ℕ, zero, suc, ◌+◌, List, [], ◌∷◌, ◌++◌, Option, Some, None, Result, Ok, Err, Bool, true, false, refl, sym, subst, ap, ◌∙◌, ◌||◌, ◌&&◌, if◌then◌else◌, arith, eqb, length}
 use Rattle.std.proofs.lemmas.Bool.Decides.{nat_tests}
-use Rattle.std.specs.Prelude.{All, ◌==◌, slice_get}
+use Rattle.std.specs.Prelude.{All, ◌==◌, slice_get, map}
 use Rattle.gx_ids.specs.declared.ids.Cid.{Cid}
 use Rattle.gx_ids.specs.declared.ids.Gxid.{Gxid}
 use Rattle.gx_ids.specs.declared.ids.Node.{Node}
@@ -41,7 +41,7 @@ use Rattle.gx_store.specs.Ordered.{AreOrdered, IsAtNode, IsOrderedStep}
 use Rattle.gx_store.specs.Points.{marks_in}
 use Rattle.gx_store.specs.Writes.{dist_of}
 use Rattle.gx_store.specs.Refusals.{the_coordinator}
-use Rattle.gx_rules.specs.AtCoordinator.{Reading, awaited, begins, commits, completes, coord_rule, dispatches, ends_in, fault_mark, follows, goes, goes_on, is_refused, next_cid, next_line, on_answer, on_event, on_failed, on_done, on_line, on_message, on_status, reads_by, reads_for, resends, starts, starts_line, table_of, takes_done, with_done, writers_with}
+use Rattle.gx_rules.specs.AtCoordinator.{Reading, awaited, begins, commits, completes, coord_rule, dispatches, ends_in, fault_mark, follows, goes, goes_on, is_refused, next_cid, next_line, on_answer, on_event, on_failed, on_done, on_line, on_message, on_status, reads_by, reads_for, resends, starts, starts_line, table_of, takes_done, with_done, writers_with, goes_on_locked, if_granted, lock_for, requests, resumes}
 use Rattle.gx_rules.specs.Coordinators.{Command, Coord, Work, rests, session_of, with_work, work_of}
 use Rattle.gx_rules.specs.AtSegment.{seg_rule}
 use Rattle.gx_rules.specs.Machine.{World, after, at_node, can, coord_did, does, happens, new_world, node_of, seg_did, world_of}
@@ -56,6 +56,10 @@ use Rattle.gx_law_sessions.proofs.Ends.{began-kept}
 use Rattle.gx_law_sessions.proofs.Stepping.{Holds}
 use Rattle.gx_law_sessions.proofs.World.{after-last, world-holds}
 use Rattle.gx_law_answers.specs.Earned.{Events}
+use Rattle.gx_rules.specs.Locks.{has_there, release_mark, release_marks, with_hold}
+use Rattle.gx_waits.specs.declared.claim.Claim.{Claim}
+use Rattle.gx_locks.specs.Locks.{Locks, is_free}
+use Rattle.gx_law_order.proofs.Calm.{AreCalm, nobody-waits}
 
 -- MARKS WITH ONE SNAPSHOT AT MOST
 abbrev NoSnaps : List Mark → Type 0
@@ -78,6 +82,14 @@ numbered-none : (f : ℕ → ℕ) (outs : List Out) → NoSnaps (numbered f outs
 numbered-none f [] = tt
 numbered-none f (o ∷ outs) = numbered-none (counted f o) outs
 
+-- locks that are given back
+releases-none : (claims : List Claim) → NoSnaps (map (release_mark the_coordinator) claims)
+releases-none [] = tt
+releases-none (x ∷ xs) = releases-none xs
+
+back-none : (locks : Locks) (g : Gxid) → NoSnaps (release_marks the_coordinator locks g)
+back-none locks g = releases-none (has_there locks g)
+
 module _ (P : Gxid → Type 0) where
   none-one : (ms : List Mark) → NoSnaps ms → OneSnap P ms
   none-one [] e = tt
@@ -90,15 +102,15 @@ module _ (P : Gxid → Type 0) where
   one-append (m ∷ xs) ys e f = one-append xs ys e f
 
   -- THE COORDINATOR'S EVENTS
-  refused-none : (b : Bool) (n : Node) (g : Gxid) (a : Mark) → NoSnaps (a ∷ []) → NoSnaps ((if b then mark.JournalFailed n g ∷ [] else []) ++ mark.Abort g ∷ a ∷ [])
-  refused-none true n g a e = e
-  refused-none false n g a e = e
+  refused-none : (b : Bool) (n : Node) (g : Gxid) (ms : List Mark) → NoSnaps ms → NoSnaps ((if b then mark.JournalFailed n g ∷ [] else []) ++ mark.Abort g ∷ ms)
+  refused-none true n g ms e = e
+  refused-none false n g ms e = e
 
   follows-none : (c : Coord) (g : Gxid) (t : Turn) (o : Outcome) → NoSnaps (follows c g t o).marks
   follows-none c g t outcome.Pending = tt
   follows-none c g t outcome.Decided = tt
-  follows-none c g t outcome.Committed = tt
-  follows-none c g t (outcome.Refused i) = refused-none (i.0 == 0) the_coordinator g _ tt
+  follows-none c g t outcome.Committed = back-none c.locks g
+  follows-none c g t (outcome.Refused i) = refused-none (i.0 == 0) the_coordinator g _ (back-none c.locks g)
   follows-none c g t outcome.Ended = tt
 
   commits-none : (c : Coord) (g : Gxid) → NoSnaps (commits c g).marks
@@ -113,7 +125,7 @@ module _ (P : Gxid → Type 0) where
 
   goes-one : (g : Gxid) (c : Cid) (line : Stmt) (r : Reading) (pieces : Result (List Piece) ArithFault) → OneSnap P r.marks → OneSnap P (goes g c line r pieces).marks
   goes-one g c line r (Ok ps) e = e
-  goes-one g c line r (Err fault) e = one-append (r.marks ++ fault_mark g c line) _ (one-append r.marks (fault_mark g c line) e (fault-none g c line)) tt
+  goes-one g c line r (Err fault) e = one-append (r.marks ++ fault_mark g c line) _ (one-append r.marks (fault_mark g c line) e (fault-none g c line)) (back-none r.coord.locks g)
 
   reads-one : (c : Coord) (g : Gxid) (d : Cid) (w : Work) (line : Stmt) → (w.snapshot ≡ None → P g) → OneSnap P (reads_for c g d w line).marks
   reads-one c g d w (stmt.Lock table mode) p = tt
@@ -123,8 +135,20 @@ module _ (P : Gxid → Type 0) where
       by None q = (q refl, tt)
       by (Some x) q = tt
 
+  locked-one : (script : Script) (c : Coord) (g : Gxid) (line : Stmt) → ((work_of c g).snapshot ≡ None → P g) → OneSnap P (goes_on_locked script c g line).marks
+  locked-one script c g line p = goes-one g (next_cid (work_of c g)) line (reads_for c g (next_cid (work_of c g)) (work_of c g) line) (plan_of script.segments (dist_of script.tables (table_of line)) g (next_cid (work_of c g)) line) (reads-one c g (next_cid (work_of c g)) (work_of c g) line p)
+
+  -- with its table's lock
+  request-one : (script : Script) (c : Coord) (g : Gxid) (line : Stmt) → ((work_of c g).snapshot ≡ None → P g) → (o : Option Claim) → OneSnap P (requests script c g line o).marks
+  request-one script c g line p None = locked-one script c g line p
+  request-one script c g line p (Some wanted) = by_test (is_free c.locks.holds wanted)
+    where
+      by_test : (b : Bool) → OneSnap P (if_granted script c g line wanted b).marks
+      by_test true = locked-one script (record c { locks = with_hold c.locks wanted }) g line p
+      by_test false = tt
+
   dispatch-one : (script : Script) (c : Coord) (g : Gxid) (line : Stmt) → ((work_of c g).snapshot ≡ None → P g) → OneSnap P (dispatches script c g line).marks
-  dispatch-one script c g line p = goes-one g (next_cid (work_of c g)) line (reads_for c g (next_cid (work_of c g)) (work_of c g) line) (plan_of script.segments (dist_of script.tables (table_of line)) g (next_cid (work_of c g)) line) (reads-one c g (next_cid (work_of c g)) (work_of c g) line p)
+  dispatch-one script c g line p = request-one script c g line p (lock_for g line)
 
   on-one : (script : Script) (c : Coord) (s : SessionId) (line : Stmt) (asked : LineStep) → P c.table.next → (asked ≡ step.Command false → (work_of c (session_of c s).transaction).snapshot ≡ None → P (session_of c s).transaction) → OneSnap P (on_line script c s line asked).marks
   on-one script c s line (step.Answer plain) new inside = tt
@@ -132,7 +156,7 @@ module _ (P : Gxid → Type 0) where
   on-one script c s line step.Refuse7 new inside = tt
   on-one script c s line (step.BeginBlock level) new inside = tt
   on-one script c s line step.CommitBlock new inside = none-one (commits c (session_of c s).transaction).marks (commits-none c (session_of c s).transaction)
-  on-one script c s line step.RollbackBlock new inside = tt
+  on-one script c s line step.RollbackBlock new inside = none-one (release_marks the_coordinator c.locks (session_of c s).transaction) (back-none c.locks (session_of c s).transaction)
   on-one script c s line (step.Command true) new inside = dispatch-one script (begins c s ReadCommitted) c.table.next line (λ e. new)
   on-one script c s line (step.Command false) new inside = dispatch-one script c (session_of c s).transaction line (inside refl)
 
@@ -158,7 +182,7 @@ module _ (P : Gxid → Type 0) where
   failed-none c g i d why (Some k) = by (Rattle.gx_rules.specs.AtCoordinator.is_awaited k i d)
     where
       by : (b : Bool) → NoSnaps (if b then is_refused c g (on_abort c.table g) [] (Rattle.gx_rules.specs.AtCoordinator.reason_of why) else rests c).marks
-      by true = tt
+      by true = back-none c.locks g
       by false = tt
 
   answer-none : (c : Coord) (g : Gxid) (i : Node) (fails : Bool) (r : Reply) → NoSnaps (on_answer c g i fails r).marks
@@ -175,7 +199,7 @@ module _ (P : Gxid → Type 0) where
   resends-none c i (Some m) = tt
 
   ends-none : (c : Coord) (s : SessionId) (b : Block) → NoSnaps (ends_in c s b).marks
-  ends-none c s (block.Open l) = tt
+  ends-none c s (block.Open l) = back-none c.locks (session_of c s).transaction
   ends-none c s block.Failed = tt
   ends-none c s block.Outside = tt
 
@@ -255,18 +279,18 @@ module _ (script : Script) (w : World) (h : Holds script w) where
           let b = in-block (session_of w.coord s).state.block line e in
           subst May (sym same) (inside-may s b.0 b.1 (subst (λ g. (work_of w.coord g).snapshot ≡ None) same none))
 
-  event-one : (x : NodeEvent) (fails : Bool) → OneSnap May (on_event script w.coord x fails).marks
-  event-one (here.Deliver from envelope) fails = none-one May (on_message w.coord from fails envelope.message).marks (message-none May w.coord from fails envelope.message)
-  event-one (here.Start s) fails = start-one s (next_line script w.coord s)
-  event-one (here.End s) fails = none-one May (ends_in w.coord s (session_of w.coord s).state.block).marks (ends-none May w.coord s (session_of w.coord s).state.block)
-  event-one (here.Resend i None) fails = tt
-  event-one (here.Resend i (Some g)) fails = none-one May (resends w.coord i (awaited w.coord g i)).marks (resends-none May w.coord i (awaited w.coord g i))
-  event-one (here.Resume g) fails = tt
-  event-one here.Round fails = tt
+  event-one : AreCalm w.coord.locks → (x : NodeEvent) (fails : Bool) → OneSnap May (on_event script w.coord x fails).marks
+  event-one calm (here.Deliver from envelope) fails = none-one May (on_message w.coord from fails envelope.message).marks (message-none May w.coord from fails envelope.message)
+  event-one calm (here.Start s) fails = start-one s (next_line script w.coord s)
+  event-one calm (here.End s) fails = none-one May (ends_in w.coord s (session_of w.coord s).state.block).marks (ends-none May w.coord s (session_of w.coord s).state.block)
+  event-one calm (here.Resend i None) fails = tt
+  event-one calm (here.Resend i (Some g)) fails = none-one May (resends w.coord i (awaited w.coord g i)).marks (resends-none May w.coord i (awaited w.coord g i))
+  event-one calm (here.Resume g) fails = subst (λ o. OneSnap May (resumes script w.coord g o (work_of w.coord g).waiting).marks) (sym (nobody-waits w.coord.locks g calm)) tt
+  event-one calm here.Round fails = tt
 
-  rule-one : (x : NodeEvent) (fails : Bool) → OneSnap May (coord_rule script w.coord x fails).marks
-  rule-one x fails =
-      one-append May (on_event script w.coord x fails).marks (numbered (on_event script w.coord x fails).coord.sent (on_event script w.coord x fails).outs) (event-one x fails)
+  rule-one : AreCalm w.coord.locks → (x : NodeEvent) (fails : Bool) → OneSnap May (coord_rule script w.coord x fails).marks
+  rule-one calm x fails =
+      one-append May (on_event script w.coord x fails).marks (numbered (on_event script w.coord x fails).coord.sent (on_event script w.coord x fails).outs) (event-one calm x fails)
       (numbered-none (on_event script w.coord x fails).coord.sent (on_event script w.coord x fails).outs)
 
 -- TWO SNAPSHOTS
@@ -366,21 +390,21 @@ module _ (script : Script) (some : 1 ≤ script.segments) where
   abbrev seg-step : World → Node → Event → NodeEvent → Bool → Step
   seg-step w n e x fails = record { stamp = record { clock = (seg_rule script (w.segs n.0) x fails).seg.clock; node = n }; event = e; marks = (seg_rule script (w.segs n.0) x fails).marks }
 
-  does-keeps : (w : World) (h : Holds script w) (e : Event) (fails : Bool) (n : Node) (o : Option NodeEvent) → Well script (does script w e n fails o) → U w → U (does script w e n fails o)
-  does-keeps w h e fails n None well u = u
-  does-keeps w h e fails n (Some x) well u = by_test (is_same_node n the_coordinator) refl well
+  does-keeps : (w : World) (h : Holds script w) → AreCalm w.coord.locks → (e : Event) (fails : Bool) (n : Node) (o : Option NodeEvent) → Well script (does script w e n fails o) → U w → U (does script w e n fails o)
+  does-keeps w h calm e fails n None well u = u
+  does-keeps w h calm e fails n (Some x) well u = by_test (is_same_node n the_coordinator) refl well
     where
       by_test : (b : Bool) → is_same_node n the_coordinator ≡ b
           → Well script (if b then coord_did w e (coord_rule script w.coord x fails) else seg_did w n e (seg_rule script (w.segs n.0) x fails))
           → U (if b then coord_did w e (coord_rule script w.coord x fails) else seg_did w n e (seg_rule script (w.segs n.0) x fails))
-      by_test true is v = pushed w (coord-step w e x fails) u (rule-one script w h x fails)
+      by_test true is v = pushed w (coord-step w e x fails) u (rule-one script w h calm x fails)
       by_test false is v = pushed w (seg-step w n e x fails) u (none-one (MayTake script (marks_in w.steps)) (seg_rule script (w.segs n.0) x fails).marks (away-none script n is (seg_rule script (w.segs n.0) x fails).marks (last-ordered script [] w.steps (seg-step w n e x fails) v.steps).marks))
 
   happens-keeps : (w : World) (n : Knows script w) (h : Holds script w) (e : Event) (fails : Bool) → U w → U (happens script w e fails)
   happens-keeps w n h e fails u = by_can (can script w e) (happens_well script some w e fails n.well)
     where
       by_can : (b : Bool) → Well script (if b then does script w e (node_of e) fails (at_node w e) else w) → U (if b then does script w e (node_of e) fails (at_node w e) else w)
-      by_can true v = does-keeps w h e fails (node_of e) (at_node w e) v u
+      by_can true v = does-keeps w h n.well.coordinator.locks e fails (node_of e) (at_node w e) v u
       by_can false v = u
 
   after-keeps : (done es : Events) → U (world_of script done) → U (after script (world_of script done) es)

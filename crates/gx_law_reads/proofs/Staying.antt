@@ -19,10 +19,8 @@ use Rattle.gx_store.specs.declared.node.NodeEvent.TheVariants as here
 use Rattle.gx_store.specs.declared.run.Step.{Step}
 use Rattle.gx_store.specs.Journals.{is_same_node}
 use Rattle.gx_store.specs.Marks.{is_committed, is_same_gxid, is_same_rid}
-use Rattle.gx_store.specs.Messages.{Receives}
 use Rattle.gx_store.specs.Ordered.{IsSegment}
 use Rattle.gx_store.specs.Points.{marks_in}
-use Rattle.gx_store.specs.Refusals.{the_coordinator}
 use Rattle.gx_store.specs.View.{image, image_after, is_shown_to}
 use Rattle.gx_rules.specs.AtCoordinator as coordinator
 use Rattle.gx_rules.specs.AtCoordinator.{coord_can, coord_rule}
@@ -34,11 +32,11 @@ use Rattle.gx_law_order.proofs.Lists.{Each, each_append, each_weaker}
 use Rattle.gx_law_order.proofs.Past.{committed-append}
 use Rattle.gx_law_order.proofs.Stages.{gx}
 use Rattle.gx_law_order.proofs.World.{Knows, marks-last, world_knows}
-use Rattle.gx_law_commit.specs.Said.{Said, gxid_in, is_answer}
-use Rattle.gx_law_commit.specs.Standings.{at, known_at}
+use Rattle.gx_law_commit.specs.Said.{gxid_in}
+use Rattle.gx_law_commit.specs.Standings.{at}
 use Rattle.gx_law_commit.proofs.Always.{world-holds}
 use Rattle.gx_law_commit.proofs.Counts.{NoPart, sent-no-part}
-use Rattle.gx_law_commit.proofs.Everywhere.{Holds, parts_in}
+use Rattle.gx_law_commit.proofs.Everywhere.{Holds}
 use Rattle.gx_dtx.specs.Table.{horizon_of}
 use Rattle.gx_law_reads.specs.Horizons.{HasRisen}
 use Rattle.gx_law_reads.specs.Sights.{DoViewsStay, IsOnlyAt}

@@ -1,7 +1,7 @@
 -- What the coordinator's journal fails to take.
 use Rattle.std.proofs.Common.{◌≡◌, ◌==◌, ℕ, ◌&&◌, Bool, true, false, if◌then◌else◌, List, [], ◌∷◌, ◌++◌, Ok, Err, Result, refl, arith}
 use Rattle.std.proofs.lemmas.Bool.Decides.{nat_tests}
-use Rattle.std.specs.Prelude.{None, Option, Some}
+use Rattle.std.specs.Prelude.{None, Option, Some, map}
 use Rattle.gx_ids.specs.declared.ids.Cid.{Cid}
 use Rattle.gx_ids.specs.declared.ids.Gxid.{Gxid}
 use Rattle.gx_ids.specs.declared.ids.Node.{Node}
@@ -40,10 +40,13 @@ use Rattle.gx_store.specs.declared.node.NodeEvent.{NodeEvent}
 use Rattle.gx_store.specs.declared.node.NodeEvent.TheVariants as here
 use Rattle.gx_store.specs.Refusals.{the_coordinator}
 use Rattle.gx_store.specs.Writes.{dist_of}
-use Rattle.gx_rules.specs.AtCoordinator.{Reading, awaited, begins, commits, completes, coord_can, coord_rule, dispatches, ends_in, fault_mark, follows, goes, goes_on, is_awaited, is_refused, is_segment, next_cid, next_line, on_answer, on_done, on_event, on_failed, on_line, on_message, on_status, reads_by, reads_for, reason_of, resends, starts, starts_line, table_of, takes_done, with_done, writers_with}
+use Rattle.gx_rules.specs.AtCoordinator.{Reading, awaited, begins, commits, completes, coord_can, coord_rule, dispatches, ends_in, fault_mark, follows, goes, goes_on, is_awaited, is_refused, is_segment, next_cid, next_line, on_answer, on_done, on_event, on_failed, on_line, on_message, on_status, reads_by, reads_for, reason_of, resends, starts, starts_line, table_of, takes_done, with_done, writers_with, goes_on_locked, if_granted, lock_for, requests, resumes}
 use Rattle.gx_rules.specs.Coordinators.{Command, Coord, Work, rests, session_of, with_work, work_of}
 use Rattle.gx_rules.specs.Fits.{fits_part}
 use Rattle.gx_law_runs.proofs.Marks.{MayFail, NoFailures, may-none, may-sent, none-append}
+use Rattle.gx_rules.specs.Locks.{has_there, release_mark, release_marks, with_hold}
+use Rattle.gx_waits.specs.declared.claim.Claim.{Claim}
+use Rattle.gx_locks.specs.Locks.{Locks, is_free, resumed, wait_of}
 
 -- WHAT CALLS COME TO
 -- the coordinator's own journal has failed
@@ -104,15 +107,26 @@ reply-own g i r fails (Some t) off = by (dtx.is_awaited t.phase i r)
     by false = λ on. absurd (cc)
 
 -- TRANSACTIONS
-refused-may : (b fails : Bool) (g : Gxid) (a : Mark) → NoFailures (a ∷ []) → (b ≡ true → fails ≡ true) → MayFail the_coordinator fails ((if b then mark.JournalFailed the_coordinator g ∷ [] else []) ++ mark.Abort g ∷ a ∷ [])
-refused-may true fails g a none so = (refl, so refl, none)
-refused-may false fails g a none so = may-none the_coordinator fails (a ∷ []) none
+-- locks that are given back
+releases-none : (claims : List Claim) → NoFailures (map (release_mark the_coordinator) claims)
+releases-none [] = tt
+releases-none (x ∷ xs) = releases-none xs
+
+back-none : (locks : Locks) (g : Gxid) → NoFailures (release_marks the_coordinator locks g)
+back-none locks g = releases-none (has_there locks g)
+
+back-may : (fails : Bool) (locks : Locks) (g : Gxid) → MayFail the_coordinator fails (release_marks the_coordinator locks g)
+back-may fails locks g = may-none the_coordinator fails (release_marks the_coordinator locks g) (back-none locks g)
+
+refused-may : (b fails : Bool) (g : Gxid) (ms : List Mark) → NoFailures ms → (b ≡ true → fails ≡ true) → MayFail the_coordinator fails ((if b then mark.JournalFailed the_coordinator g ∷ [] else []) ++ mark.Abort g ∷ ms)
+refused-may true fails g ms none so = (refl, so refl, none)
+refused-may false fails g ms none so = may-none the_coordinator fails ms none
 
 follows-may : (c : Coord) (g : Gxid) (turn : dtx.Turn) (fails : Bool) (o : Outcome) → (is_own o ≡ true → fails ≡ true) → MayFail the_coordinator fails (follows c g turn o).marks
 follows-may c g turn fails outcome.Pending so = tt
 follows-may c g turn fails outcome.Decided so = tt
-follows-may c g turn fails outcome.Committed so = tt
-follows-may c g turn fails (outcome.Refused i) so = refused-may (i.0 == 0) fails g _ tt so
+follows-may c g turn fails outcome.Committed so = back-may fails c.locks g
+follows-may c g turn fails (outcome.Refused i) so = refused-may (i.0 == 0) fails g _ (back-none c.locks g) so
 follows-may c g turn fails outcome.Ended so = tt
 
 module _ (fails : Bool) where
@@ -134,7 +148,7 @@ module _ (fails : Bool) where
 
   goes-none : (g : Gxid) (c : Cid) (line : Stmt) (r : Reading) (pieces : Result (List Piece) ArithFault) → NoFailures r.marks → NoFailures (goes g c line r pieces).marks
   goes-none g c line r (Ok ps) none = none
-  goes-none g c line r (Err fault) none = none-append (r.marks ++ fault_mark g c line) _ (none-append r.marks (fault_mark g c line) none (fault-none g c line)) tt
+  goes-none g c line r (Err fault) none = none-append (r.marks ++ fault_mark g c line) _ (none-append r.marks (fault_mark g c line) none (fault-none g c line)) (back-none r.coord.locks g)
 
   reads-none : (c : Coord) (g : Gxid) (d : Cid) (w : Work) (line : Stmt) → NoFailures (reads_for c g d w line).marks
   reads-none c g d w (stmt.Lock table mode) = tt
@@ -144,10 +158,28 @@ module _ (fails : Bool) where
       by None = tt
       by (Some x) = tt
 
-  dispatch-may : (script : Script) (c : Coord) (g : Gxid) (line : Stmt) → May (dispatches script c g line).marks
-  dispatch-may script c g line =
+  locked-may : (script : Script) (c : Coord) (g : Gxid) (line : Stmt) → May (goes_on_locked script c g line).marks
+  locked-may script c g line =
       let cid = next_cid (work_of c g) in
-      may-none the_coordinator fails (dispatches script c g line).marks (goes-none g cid line (reads_for c g cid (work_of c g) line) (plan_of script.segments (dist_of script.tables (table_of line)) g cid line) (reads-none c g cid (work_of c g) line))
+      may-none the_coordinator fails (goes_on_locked script c g line).marks (goes-none g cid line (reads_for c g cid (work_of c g) line) (plan_of script.segments (dist_of script.tables (table_of line)) g cid line) (reads-none c g cid (work_of c g) line))
+
+  -- with its table's lock
+  request-may : (script : Script) (c : Coord) (g : Gxid) (line : Stmt) (o : Option Claim) → May (requests script c g line o).marks
+  request-may script c g line None = locked-may script c g line
+  request-may script c g line (Some wanted) = by (is_free c.locks.holds wanted)
+    where
+      by : (b : Bool) → May (if_granted script c g line wanted b).marks
+      by true = locked-may script (record c { locks = with_hold c.locks wanted }) g line
+      by false = tt
+
+  dispatch-may : (script : Script) (c : Coord) (g : Gxid) (line : Stmt) → May (dispatches script c g line).marks
+  dispatch-may script c g line = request-may script c g line (lock_for g line)
+
+  resume-may : (script : Script) (c : Coord) (g : Gxid) (wait : Option Claim) (line : Option Stmt) → May (resumes script c g wait line).marks
+  resume-may script c g (Some wanted) (Some line) =
+      locked-may script (with_work (record c { locks = resumed c.locks g (Some wanted) }) g (record (work_of c g) { waiting = None })) g line
+  resume-may script c g None line = tt
+  resume-may script c g (Some wanted) None = tt
 
   -- LINES
   line-may : (script : Script) (c : Coord) (s : SessionId) (line : Stmt) (asked : LineStep) → May (on_line script c s line asked).marks
@@ -156,7 +188,7 @@ module _ (fails : Bool) where
   line-may script c s line step.Refuse7 = tt
   line-may script c s line (step.BeginBlock level) = tt
   line-may script c s line step.CommitBlock = commits-may c (session_of c s).transaction
-  line-may script c s line step.RollbackBlock = tt
+  line-may script c s line step.RollbackBlock = back-may fails c.locks (session_of c s).transaction
   line-may script c s line (step.Command true) = dispatch-may script (begins c s ReadCommitted) c.table.next line
   line-may script c s line (step.Command false) = dispatch-may script c (session_of c s).transaction line
 
@@ -165,7 +197,7 @@ module _ (fails : Bool) where
   start-may script c s (Some line) = line-may script (starts_line c s (line_step (session_of c s).state.block line)) s line (line_step (session_of c s).state.block line)
 
   end-may : (c : Coord) (s : SessionId) (b : Block) → May (ends_in c s b).marks
-  end-may c s (block.Open l) = tt
+  end-may c s (block.Open l) = back-may fails c.locks (session_of c s).transaction
   end-may c s block.Failed = tt
   end-may c s block.Outside = tt
 
@@ -192,7 +224,7 @@ module _ (fails : Bool) where
   failed-may c g i d why (Some k) = by (is_awaited k i d)
     where
       by : (b : Bool) → May (if b then is_refused c g (dtx.on_abort c.table g) [] (reason_of why) else rests c).marks
-      by true = tt
+      by true = back-may fails c.locks g
       by false = tt
 
   answer-may : (c : Coord) (g : Gxid) (i : Node) (r : Reply) → (i.0 == 0) ≡ false → May (on_answer c g i fails r).marks
@@ -218,6 +250,7 @@ module _ (fails : Bool) where
   event-may script c (here.End s) can = end-may c s (session_of c s).state.block
   event-may script c (here.Resend i (Some g)) can = resends-may c i (awaited c g i)
   event-may script c (here.Resend i None) can = tt
+  event-may script c (here.Resume g) can = resume-may script c g (wait_of c.locks g) (work_of c g).waiting
   event-may script c x can = tt
 
   pub coordinator-may : (script : Script) (c : Coord) (x : NodeEvent) → coord_can script c x ≡ true → May (coord_rule script c x fails).marks

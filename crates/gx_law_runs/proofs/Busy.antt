@@ -23,7 +23,7 @@ use Rattle.gx_store.specs.declared.node.NodeEvent.TheVariants as here
 use Rattle.gx_store.specs.Lines.{stmt_of}
 use Rattle.gx_store.specs.Marks.{is_aborted, is_committed, is_ended, is_same_session}
 use Rattle.gx_store.specs.Points.{ends_in, marks_in}
-use Rattle.gx_rules.specs.AtCoordinator.{awaited, coord_rule, is_idle, is_nothing, next_line, on_event, on_message, resends, starts}
+use Rattle.gx_rules.specs.AtCoordinator.{awaited, coord_rule, is_idle, is_nothing, next_line, on_event, on_message, resends, starts, resumes}
 use Rattle.gx_rules.specs.Coordinators.{Coord, Session, session_of, work_of}
 use Rattle.gx_rules.specs.Machine.{World, coord_did, world_of}
 use Rattle.gx_store.specs.Whole.{AreInsertsWhole, IsWholeStmt}
@@ -47,6 +47,7 @@ use Rattle.gx_law_runs.proofs.Carried.{IsOther, IsOtherMessage, still-asked}
 use Rattle.gx_law_runs.proofs.Replies.{Before, answer-goes, is_over}
 use Rattle.gx_law_runs.proofs.Starts.{Stays, end-stays, line-stays}
 use Rattle.gx_law_runs.proofs.Turns.{Goes}
+use Rattle.gx_law_order.proofs.Calm.{AreCalm, nobody-waits}
 
 -- A TRANSACTION WITHOUT ITS COMMIT OR ABORT MARK
 not-over : (c : Coord) (ms : List Mark) → Kept c → Past c ms → (g : ℕ) → is_ended ms (gx g) ≡ false → is_over (stage_of c g) ≡ false
@@ -175,6 +176,9 @@ module _ (script : Script) (some : 1 ≤ script.segments) where
       kept : Kept (world_of script es).coord
       kept = (world_knows script some es).kept
 
+      calm : AreCalm (world_of script es).coord.locks
+      calm = (world_knows script some es).well.coordinator.locks
+
       message-waits : (from : Node) (envelope : Envelope) (h : IsHere script v e (here.Deliver from envelope)) (m : Message) → envelope.message ≡ m → DoWait (coord_did v e (coord_rule script v.coord (here.Deliver from envelope) fails))
       message-waits from envelope h (message.Answer g r) f =
           goes-wait es q e (here.Deliver from envelope) fails h g.0 (λ n other. subst (IsOtherMessage n) (sym f) other)
@@ -188,7 +192,7 @@ module _ (script : Script) (some : 1 ≤ script.segments) where
       start-stays : (s : SessionId) → is_idle (session_of v.coord s) ≡ true → (o : Option Stmt) → next_line script v.coord s ≡ o → Stays v.coord s (starts script v.coord s o)
       start-stays s i None f = record { others = λ j e. refl; asked = λ e. clash (is_idle (session_of v.coord s)) i e }
       start-stays s i (Some line) f =
-          line-stays script some v.coord kept s (idle-so (session_of v.coord s).state.pending i) line (line_step (session_of v.coord s).state.block line) refl (admits (session_of v.coord s).state.block line)
+          line-stays script some v.coord kept s (idle-so (session_of v.coord s).state.pending i) calm line (line_step (session_of v.coord s).state.block line) refl (admits (session_of v.coord s).state.block line)
           (whole-line s _ script.lines line inserts f)
 
       resend-same : (i : Node) (o : Option Message) (t : SessionId) → (resends v.coord i o).coord.sessions t.0 ≡ v.coord.sessions t.0
@@ -201,7 +205,7 @@ module _ (script : Script) (some : 1 ≤ script.segments) where
       event-waits (here.End s) h = stays-wait es q e (here.End s) fails h s (λ g. tt) (end-stays script some v.coord kept s (idle-so _ (both_of _ _ h.admitted).0) (both_of _ _ h.admitted).0 (session_of v.coord s).state.block)
       event-waits (here.Resend i (Some g)) h = rest-wait es q e (here.Resend i (Some g)) fails h (resend-same i (awaited v.coord g i)) (λ g. tt)
       event-waits (here.Resend i None) h = rest-wait es q e (here.Resend i None) fails h (λ t. refl) (λ g. tt)
-      event-waits (here.Resume g) h = rest-wait es q e (here.Resume g) fails h (λ t. refl) (λ g. tt)
+      event-waits (here.Resume g) h = rest-wait es q e (here.Resume g) fails h (λ t. ap (λ o. (resumes script v.coord g o (work_of v.coord g).waiting).coord.sessions t.0) (nobody-waits v.coord.locks g calm)) (λ g. tt)
       event-waits here.Round h = rest-wait es q e here.Round fails h (λ t. refl) (λ g. tt)
 
     -- IN EVERY WORLD

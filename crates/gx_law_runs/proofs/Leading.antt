@@ -11,7 +11,7 @@ use Rattle.gx_store.specs.Journals.{is_same_node}
 use Rattle.gx_store.specs.Refusals.{the_coordinator}
 use Rattle.gx_rules.specs.AtCoordinator.{coord_can, coord_rule}
 use Rattle.gx_rules.specs.AtSegment.{seg_rule}
-use Rattle.gx_rules.specs.Machine.{World, after, at_node, can_here, coord_did, delivered, does, happens, new_world, node_of, seg_did, world_of, seg_can}
+use Rattle.gx_rules.specs.Machine.{World, after, at_node, can_here, coord_did, does, happens, new_world, node_of, seg_did, world_of, seg_can}
 use Rattle.gx_law_order.specs.Runs.{steps_after}
 use Rattle.gx_law_runs.specs.Replays.{IsNextAtCoordinator, IsNextAtSegment, coordinator_after, here_at, is_admitted, segment_after, world_behind}
 use Rattle.gx_law_runs.proofs.Telling.{can-told}

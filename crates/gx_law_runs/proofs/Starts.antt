@@ -22,7 +22,7 @@ use Rattle.gx_script.specs.declared.state.Block.TheVariants.{Outside, Open, Fail
 use Rattle.gx_script.specs.declared.state.Pending.{Pending}
 use Rattle.gx_store.specs.declared.mark.Mark.TheVariants as mark
 use Rattle.gx_store.specs.Writes.{dist_of}
-use Rattle.gx_rules.specs.AtCoordinator.{Reading, begins, behind, commits, dispatches, ends_in, fault_mark, goes, is_idle, kept_at, next_cid, nodes_in, on_line, order_of, order_to, orders_of, reads_by, reads_for, refusal_of, starts_line, table_of}
+use Rattle.gx_rules.specs.AtCoordinator.{Reading, begins, behind, commits, dispatches, ends_in, fault_mark, goes, is_idle, kept_at, next_cid, nodes_in, on_line, order_of, order_to, orders_of, reads_by, reads_for, refusal_of, starts_line, table_of, goes_on_locked, if_granted, lock_for, requests}
 use Rattle.gx_rules.specs.Coordinators.{Command, Coord, CoordTurn, Session, new_work, session_of, work_of}
 use Rattle.gx_rules.specs.Snapshots.{snapshot_of}
 use Rattle.gx_store.specs.Whole.{IsWholeStmt}
@@ -36,6 +36,11 @@ use Rattle.gx_law_schedules.proofs.Neat.{IsDone, clash}
 use Rattle.gx_law_runs.proofs.Asked.{IsAsked, command-asked, done-unless, has-first}
 use Rattle.gx_law_runs.proofs.Plans.{IsFilled, IsPlanFull, plan-full}
 use Rattle.gx_law_runs.proofs.Turns.{Goes, commits-goes, goes-by, refused-settles}
+use Rattle.gx_rules.specs.Locks.{hold_mark, with_hold}
+use Rattle.gx_waits.specs.declared.claim.Claim.{Claim}
+use Rattle.gx_locks.specs.Locks.{Locks}
+use Rattle.gx_law_order.proofs.Calm.{AreCalm, calm-free, lock-calm}
+use Rattle.gx_store.specs.Refusals.{the_coordinator}
 
 -- a command whose INSERT has a tuple
 pub command-filled : (tables : List Schema) (b : Block) (line : Stmt) (alone : Bool) → line_step b line ≡ step.Command alone → IsWholeStmt tables line → IsFilled line
@@ -93,12 +98,27 @@ module _ (script : Script) (some : 1 ≤ script.segments) (c : Coord) (g : ℕ) 
       first : is_some (order_to p.node m.orders) ≡ true
       first = ap (λ (b : Bool). is_some (if b then Some (order_of (gx g) cid (work_of r.coord (gx g)).level r.snapshot (horizon_of r.coord.table) p).message else order_to p.node (orders_of (gx g) cid (work_of r.coord (gx g)).level r.snapshot (horizon_of r.coord.table) ps))) (self p.node.0)
 
-  dispatch-goes : (line : Stmt) → IsFilled line → Goes (Unit {0}) c g (dispatches script c (gx g) line)
-  dispatch-goes line f =
+  locked-goes : (line : Stmt) → IsFilled line → Goes (Unit {0}) c g (goes_on_locked script c (gx g) line)
+  locked-goes line f =
       let cid : Cid = next_cid (work_of c (gx g)) in
       let r = reads-so cid line in
       goes-by (Unit {0}) (reads_for c (gx g) cid (work_of c (gx g)) line).coord c g _ r.sessions r.home
       (goes-so cid line (reads_for c (gx g) cid (work_of c (gx g)) line) _ (plan-full script.segments some (dist_of script.tables (table_of line)) (gx g) cid line f))
+
+-- WITH ITS TABLE'S LOCK
+module _ (script : Script) (some : 1 ≤ script.segments) (c : Coord) (calm : AreCalm c.locks) (g : ℕ) (line : Stmt) (f : IsFilled line) where
+  held-goes : (locks : Locks) (wanted : Claim) → Goes (Unit {0}) (record c { locks = locks }) g (goes_on_locked script (record c { locks = locks }) (gx g) line) → Goes (Unit {0}) c g (behind (hold_mark the_coordinator wanted ∷ []) (goes_on_locked script (record c { locks = locks }) (gx g) line))
+  held-goes locks wanted (inl w) = inl (record { sessions = w.sessions; asked = w.asked })
+  held-goes locks wanted (inr t) = inr (record { others = t.others; idle = t.idle })
+
+  request-goes : (o : Option Claim) → lock_for (gx g) line ≡ o → Goes (Unit {0}) c g (requests script c (gx g) line o)
+  request-goes None e = locked-goes script some c g line f
+  request-goes (Some wanted) e =
+      subst (λ b. Goes (Unit {0}) c g (if_granted script c (gx g) line wanted b)) (sym (calm-free c.locks wanted calm (lock-calm (gx g) line wanted e)))
+      (held-goes (with_hold c.locks wanted) wanted (locked-goes script some (record c { locks = with_hold c.locks wanted }) g line f))
+
+  dispatch-goes : Goes (Unit {0}) c g (dispatches script c (gx g) line)
+  dispatch-goes = request-goes (lock_for (gx g) line) refl
 
 -- THE SESSION
 module _ (c : Coord) (s : SessionId) where
@@ -171,13 +191,13 @@ module _ (script : Script) (some : 1 ≤ script.segments) (c : Coord) (k : Kept 
       twice true = refl
       twice false = refl
 
-  alone-stays : (line : Stmt) → IsFilled line → Stays c s (behind (mark.Start c.table.next s ∷ []) (dispatches script (fresh (step.Command true) ReadCommitted) c.table.next line))
-  alone-stays line f =
+  alone-stays : AreCalm c.locks → (line : Stmt) → IsFilled line → Stays c s (behind (mark.Start c.table.next s ∷ []) (dispatches script (fresh (step.Command true) ReadCommitted) c.table.next line))
+  alone-stays calm line f =
       does c s (fresh (step.Command true) ReadCommitted) c.table.next.0 _
       (λ j e. fresh-at (step.Command true) ReadCommitted j ∙ ap (λ (b : Bool). if b then record (led (step.Command true)) { transaction = c.table.next } else c.sessions j) e)
       (ap (λ (b : Bool). (if b then new_work s ReadCommitted else c.works c.table.next.0).session) (self c.table.next.0))
       (ap (λ (y : Session). y.transaction.0) (fresh-at (step.Command true) ReadCommitted s.0 ∙ ap (λ (b : Bool). if b then record (led (step.Command true)) { transaction = c.table.next } else c.sessions s.0) (self s.0)))
-      (behind-goes (dispatch-goes script some (fresh (step.Command true) ReadCommitted) c.table.next.0 line f))
+      (behind-goes (dispatch-goes script some (fresh (step.Command true) ReadCommitted) calm c.table.next.0 line f))
     where
       behind-goes : Goes (Unit {0}) (fresh (step.Command true) ReadCommitted) c.table.next.0 (dispatches script (fresh (step.Command true) ReadCommitted) c.table.next line) → Goes (Unit {0}) (fresh (step.Command true) ReadCommitted) c.table.next.0 (behind (mark.Start c.table.next s ∷ []) (dispatches script (fresh (step.Command true) ReadCommitted) c.table.next line))
       behind-goes (inl w) = inl (record { sessions = w.sessions; asked = w.asked })
@@ -190,10 +210,10 @@ module _ (script : Script) (some : 1 ≤ script.segments) (c : Coord) (k : Kept 
   inside : (asked : LineStep) (turn : CoordTurn) → is_open_in block ≡ true → Goes (Unit {0}) (starts_line c s asked) own turn → Stays c s turn
   inside asked turn opened z = does c s (starts_line c s asked) own turn (led-others asked) (own-home opened) (ap (λ (y : Session). y.transaction.0) (led-now asked)) z
 
-  inside-stays : (line : Stmt) → IsFilled line → is_open_in block ≡ true → Stays c s (dispatches script (starts_line c s (step.Command false)) (session_of (starts_line c s (step.Command false)) s).transaction line)
-  inside-stays line f opened =
+  inside-stays : AreCalm c.locks → (line : Stmt) → IsFilled line → is_open_in block ≡ true → Stays c s (dispatches script (starts_line c s (step.Command false)) (session_of (starts_line c s (step.Command false)) s).transaction line)
+  inside-stays calm line f opened =
       subst (λ g. Stays c s (dispatches script (starts_line c s (step.Command false)) g line)) (sym (transaction-now (step.Command false)))
-      (inside (step.Command false) _ opened (dispatch-goes script some (starts_line c s (step.Command false)) own line f))
+      (inside (step.Command false) _ opened (dispatch-goes script some (starts_line c s (step.Command false)) calm own line f))
 
   commit-stays : is_open_in block ≡ true → Stays c s (commits (starts_line c s step.CommitBlock) (session_of (starts_line c s step.CommitBlock) s).transaction)
   commit-stays opened =
@@ -201,15 +221,15 @@ module _ (script : Script) (some : 1 ≤ script.segments) (c : Coord) (k : Kept 
       subst (λ g. Stays c s (commits (starts_line c s step.CommitBlock) g)) (sym (transaction-now step.CommitBlock))
       (inside step.CommitBlock _ opened (commits-goes (Unit {0}) (starts_line c s step.CommitBlock) own k.whole (record { txn = l.txn; found = l.found; active = l.active }) (own-done opened)))
 
-  pub line-stays : (line : Stmt) (asked : LineStep) → line_step block line ≡ asked → Admits block asked → IsWholeStmt script.tables line → Stays c s (on_line script (starts_line c s asked) s line asked)
-  line-stays line (step.Answer plain) e a w = quiet c s _ (led (step.Answer plain)) (λ j. refl) refl
-  line-stays line step.Refuse5 e a w = quiet c s _ (led step.Refuse5) (λ j. refl) refl
-  line-stays line step.Refuse7 e a w = quiet c s _ (led step.Refuse7) (λ j. refl) refl
-  line-stays line (step.BeginBlock level) e a w = quiet c s _ (record (led (step.BeginBlock level)) { transaction = c.table.next }) (fresh-at (step.BeginBlock level) level) refl
-  line-stays line step.CommitBlock e a w = commit-stays a
-  line-stays line step.RollbackBlock e a w = quiet c s _ (led step.RollbackBlock) (λ j. refl) refl
-  line-stays line (step.Command true) e a w = alone-stays line (command-filled script.tables block line true e w)
-  line-stays line (step.Command false) e a w = inside-stays line (command-filled script.tables block line false e w) a
+  pub line-stays : AreCalm c.locks → (line : Stmt) (asked : LineStep) → line_step block line ≡ asked → Admits block asked → IsWholeStmt script.tables line → Stays c s (on_line script (starts_line c s asked) s line asked)
+  line-stays calm line (step.Answer plain) e a w = quiet c s _ (led (step.Answer plain)) (λ j. refl) refl
+  line-stays calm line step.Refuse5 e a w = quiet c s _ (led step.Refuse5) (λ j. refl) refl
+  line-stays calm line step.Refuse7 e a w = quiet c s _ (led step.Refuse7) (λ j. refl) refl
+  line-stays calm line (step.BeginBlock level) e a w = quiet c s _ (record (led (step.BeginBlock level)) { transaction = c.table.next }) (fresh-at (step.BeginBlock level) level) refl
+  line-stays calm line step.CommitBlock e a w = commit-stays a
+  line-stays calm line step.RollbackBlock e a w = quiet c s _ (led step.RollbackBlock) (λ j. refl) refl
+  line-stays calm line (step.Command true) e a w = alone-stays calm line (command-filled script.tables block line true e w)
+  line-stays calm line (step.Command false) e a w = inside-stays calm line (command-filled script.tables block line false e w) a
 
   pub end-stays : is_idle (session_of c s) ≡ true → (b : Block) → Stays c s (ends_in c s b)
   end-stays i (Open level) = quiet c s _ (record (session_of c s) { state = idle_outside }) (λ j. refl) refl

@@ -10,14 +10,13 @@ use Rattle.gx_tree.specs.declared.stmt.Level.{Level}
 use Rattle.gx_msg.specs.declared.message.Out.{Out}
 use Rattle.gx_script.specs.declared.Script.{Script}
 use Rattle.gx_store.specs.declared.event.Event.{Event}
-use Rattle.gx_store.specs.declared.event.Event.TheVariants as event
 use Rattle.gx_store.specs.declared.mark.Mark.{Mark}
 use Rattle.gx_store.specs.declared.node.NodeEvent.{NodeEvent}
 use Rattle.gx_store.specs.declared.run.Step.{Step}
 use Rattle.gx_store.specs.Legal.{IsDrawn, LegalEvent}
 use Rattle.gx_store.specs.Marks.{is_aborted, start_count}
 use Rattle.gx_store.specs.Ordered.{IsSegment}
-use Rattle.gx_store.specs.Points.{ends_by, marks_in, starts_by}
+use Rattle.gx_store.specs.Points.{marks_in}
 use Rattle.gx_store.specs.Refusals.{the_coordinator}
 use Rattle.gx_rules.specs.AtCoordinator.{coord_rule, on_event}
 use Rattle.gx_rules.specs.AtSegment as segment

@@ -1,5 +1,5 @@
 -- The last that versions say of a row.
-use Rattle.std.specs.Prelude.{◌==◌, Bool, if◌then◌else◌, ◌&&◌, List, [], ◌∷◌, Option, Some, None, option_map, option_and_then, filter, map}
+use Rattle.std.specs.Prelude.{◌==◌, if◌then◌else◌, ◌&&◌, List, [], ◌∷◌, Option, Some, None, filter, map}
 use Rattle.std.specs.List.Sorted.{IsStrictlySortedBy}
 use Rattle.std.specs.Option.{option_or}
 use Rattle.gx_ids.specs.declared.ids.Cid.{Cid}

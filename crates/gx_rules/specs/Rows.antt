@@ -1,6 +1,6 @@
 -- Small runs that the machine is tried on: one table of two columns of numbers, placed by the first, at two segments.
-use Rattle.std.specs.Prelude.{ℕ, zero, suc, pos, ◌==◌, Bool, true, false, not, if◌then◌else◌, ◌&&◌, ◌||◌, List, [], ◌∷◌, filter, length, None}
-use Rattle.std.specs.List.{flat_map, list_any, range_with_len}
+use Rattle.std.specs.Prelude.{ℕ, zero, suc, pos, ◌==◌, Bool, true, false, not, if◌then◌else◌, ◌&&◌, List, [], ◌∷◌, filter, length, None}
+use Rattle.std.specs.List.{flat_map}
 use Rattle.gx_ids.specs.declared.ids.Node.{Node}
 use Rattle.gx_ids.specs.declared.ids.SessionId.{SessionId}
 use Rattle.gx_ids.specs.declared.ids.Table.{Table}
@@ -18,7 +18,6 @@ use Rattle.gx_tree.specs.declared.stmt.Stmt.{Stmt}
 use Rattle.gx_tree.specs.declared.stmt.Stmt.TheVariants as stmt
 use Rattle.gx_tree.specs.declared.value.Value.TheVariants as value
 use Rattle.gx_msg.specs.declared.item.JournalItem.{JournalItem}
-use Rattle.gx_msg.specs.declared.message.Message.{Message}
 use Rattle.gx_script.specs.declared.Line.{Line}
 use Rattle.gx_script.specs.declared.LinkFault.{LinkFault}
 use Rattle.gx_script.specs.declared.Script.{Script}
@@ -28,11 +27,8 @@ use Rattle.gx_store.specs.declared.event.Event.TheVariants as event
 use Rattle.gx_store.specs.declared.mark.Mark.{Mark}
 use Rattle.gx_store.specs.declared.mark.Mark.TheVariants as mark
 use Rattle.gx_store.specs.declared.run.Step.{Step}
-use Rattle.gx_store.specs.Journals.{is_same_node, items_of}
-use Rattle.gx_store.specs.Legal.{is_in_block}
-use Rattle.gx_store.specs.Lines.{line_count, state_of}
-use Rattle.gx_store.specs.Marks.{answer_count}
-use Rattle.gx_store.specs.Points.{ends_in, marks_in}
+use Rattle.gx_store.specs.Journals.{items_of}
+use Rattle.gx_store.specs.Points.{marks_in}
 use Rattle.gx_store.specs.Schedule.{enabled, first_of, is_any_unfinished}
 use Rattle.gx_rules.specs.Machine.{World, happens}
 
@@ -110,6 +106,16 @@ protocol_in _ = []
 
 abbrev pub protocol_of : World → List Mark
 protocol_of w = flat_map protocol_in (marks_in w.steps)
+
+-- who takes which lock, and who gives it back
+abbrev pub lock_in : Mark → List Mark
+lock_in (mark.Hold n g object mode) = mark.Hold n g object mode ∷ []
+lock_in (mark.Wait n g object mode) = mark.Wait n g object mode ∷ []
+lock_in (mark.Release n g object mode) = mark.Release n g object mode ∷ []
+lock_in _ = []
+
+abbrev pub locks_of : World → List Mark
+locks_of w = flat_map lock_in (marks_in w.steps)
 
 -- how many writes there are
 abbrev pub is_write : Mark → Bool
