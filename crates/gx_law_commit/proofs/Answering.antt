@@ -24,6 +24,11 @@ use Rattle.gx_law_order.proofs.Numbers.{NoStart}
 use Rattle.gx_law_order.proofs.Past.{aborted-append}
 use Rattle.gx_law_commit.specs.Standings.{gx, waits_in}
 use Rattle.gx_law_commit.proofs.Calls.{or-left, or-right, self}
+use Rattle.gx_locks.specs.Locks.{Locks}
+use Rattle.gx_rules.specs.Locks.{release_marks}
+use Rattle.gx_store.specs.Refusals.{the_coordinator}
+use Rattle.gx_law_order.proofs.Calm.{each-released}
+use Rattle.gx_ids.specs.declared.ids.Gxid.{Gxid}
 
 -- a mark that answers no line
 abbrev pub NoAnswer : Mark → Type 0
@@ -35,6 +40,13 @@ abbrev pub IsRested : Work → Type 0
 IsRested w = (i : ℕ) → waits_in w.command i ≡ false
 
 -- `Gets i g n`: the event is the segment's answer to the transaction's command of this number
+-- locks that are given back
+back-calm : (locks : Locks) (g : Gxid) → Each NoStart (release_marks the_coordinator locks g)
+back-calm locks g = each-released NoStart the_coordinator locks g (λ claim. tt)
+
+back-quiet : (locks : Locks) (g : Gxid) → Each NoAnswer (release_marks the_coordinator locks g)
+back-quiet locks g = each-released NoAnswer the_coordinator locks g (λ claim. tt)
+
 module _ (script : Script) (c : Coord) (ms : List Mark) (Gets : ℕ → ℕ → ℕ → Type 0) (starts : ℕ → Type 0) where
   -- whatever the transaction's commands wait for comes with the event, and it isn't aborted
   pub record Settles (g : ℕ) : Type 0 where
@@ -141,9 +153,9 @@ module _ (script : Script) (c : Coord) (ms : List Mark) (Gets : ℕ → ℕ → 
         record {
           lines = λ t. lines-state c1.sessions (work_of c1 (gx g)).session.0 t _;
           transaction = λ t. txn-state c1.sessions (work_of c1 (gx g)).session.0 t _;
-          marks = (tt, (tt, tt));
+          marks = (tt, (tt, back-calm c1.locks (gx g)));
           works = one-go _ (is_closed c1 (gx g) turn).marks g (with-others no_work) (λ i e. inr (inr (s.waits i e)));
-          may = (tt, (answer-may (is_closed c1 (gx g) turn).coord.works (earlier ++ mark.Commit (gx g) ∷ []) (answer_at_commit (work_of c1 (gx g)) (session_of c1 (work_of c1 (gx g)).session).state.pending) home (rested no_work refl), tt));
+          may = (tt, (answer-may (is_closed c1 (gx g) turn).coord.works (earlier ++ mark.Commit (gx g) ∷ []) (answer_at_commit (work_of c1 (gx g)) (session_of c1 (work_of c1 (gx g)).session).state.pending) home (rested no_work refl), none-may (is_closed c1 (gx g) turn).coord.works _ (release_marks the_coordinator c1.locks (gx g)) (back-quiet c1.locks (gx g))));
         }
 
     abort-told : (why rest : List Mark) → is_aborted (why ++ mark.Abort (gx g) ∷ rest) (gx g) ≡ true
@@ -154,14 +166,14 @@ module _ (script : Script) (c : Coord) (ms : List Mark) (Gets : ℕ → ℕ → 
         record {
           lines = λ t. lines-state c1.sessions (work_of c1 (gx g)).session.0 t _;
           transaction = λ t. txn-state c1.sessions (work_of c1 (gx g)).session.0 t _;
-          marks = each_append NoStart why _ n (tt, (tt, tt));
-          works = one-go _ (is_refused c1 (gx g) turn why reason).marks g (with-others no_work) (λ i e. inr (inl (abort-told why (answer_mark c1 (work_of c1 (gx g)).session (told.Refused reason) ∷ []))));
-          may = may-append (is_refused c1 (gx g) turn why reason).coord.works earlier why _ (none-may (is_refused c1 (gx g) turn why reason).coord.works earlier why a) (tt, (tt, tt));
+          marks = each_append NoStart why _ n (tt, (tt, back-calm c1.locks (gx g)));
+          works = one-go _ (is_refused c1 (gx g) turn why reason).marks g (with-others no_work) (λ i e. inr (inl (abort-told why (answer_mark c1 (work_of c1 (gx g)).session (told.Refused reason) ∷ release_marks the_coordinator c1.locks (gx g)))));
+          may = may-append (is_refused c1 (gx g) turn why reason).coord.works earlier why _ (none-may (is_refused c1 (gx g) turn why reason).coord.works earlier why a) (tt, (tt, none-may (is_refused c1 (gx g) turn why reason).coord.works _ (release_marks the_coordinator c1.locks (gx g)) (back-quiet c1.locks (gx g))));
         }
 
     pub rolled-tidy : (turn : Turn) (marks : List Mark) → Each NoStart marks → MayAll (rolls_back c1 (gx g) marks turn).coord.works (earlier ++ mark.Abort (gx g) ∷ []) marks → Tidy c1.sessions earlier (rolls_back c1 (gx g) marks turn)
     rolled-tidy turn marks n a =
-        record { lines = λ t. refl; transaction = λ t. refl; marks = (tt, n); works = one-go _ (mark.Abort (gx g) ∷ marks) g (with-others no_work) (λ i e. inr (inl (abort-told [] marks))); may = (tt, a) }
+        record { lines = λ t. refl; transaction = λ t. refl; marks = (tt, each_append NoStart marks _ n (back-calm c1.locks (gx g))); works = one-go _ (mark.Abort (gx g) ∷ marks ++ release_marks the_coordinator c1.locks (gx g)) g (with-others no_work) (λ i e. inr (inl (abort-told [] (marks ++ release_marks the_coordinator c1.locks (gx g))))); may = (tt, may-append (rolls_back c1 (gx g) marks turn).coord.works (earlier ++ mark.Abort (gx g) ∷ []) marks _ a (none-may (rolls_back c1 (gx g) marks turn).coord.works _ (release_marks the_coordinator c1.locks (gx g)) (back-quiet c1.locks (gx g)))) }
 
     pub answered-tidy : Settles g → HomeSettles earlier → Tidy c1.sessions earlier (answers c1 (gx g) (work_of c1 (gx g)))
     answered-tidy s home =

@@ -36,7 +36,7 @@ use Rattle.gx_store.specs.declared.node.NodeEvent.TheVariants as event
 use Rattle.gx_store.specs.Lines.{BlockState, is_command}
 use Rattle.gx_store.specs.Marks.{started_after}
 use Rattle.gx_store.specs.Writes.{dist_of}
-use Rattle.gx_rules.specs.AtCoordinator.{Reading, kept_at, nodes_in, orders_of, answer_mark, answers_at_once, awaited, begins, behind, commits, coord_can, dispatches, ends_in, fault_mark, follows, goes, goes_out, next_cid, next_line, on_event, on_line, plain_answer_of, reads_by, reads_for, refusal_of, rolls_back, starts, starts_line, table_of, takes_snapshot}
+use Rattle.gx_rules.specs.AtCoordinator.{Reading, kept_at, nodes_in, orders_of, answer_mark, answers_at_once, awaited, begins, behind, commits, coord_can, dispatches, ends_in, fault_mark, follows, goes, goes_out, next_cid, next_line, on_event, on_line, plain_answer_of, reads_by, reads_for, refusal_of, rolls_back, starts, starts_line, table_of, takes_snapshot, goes_on_locked, if_granted, lock_for, requests, waits_for}
 use Rattle.gx_rules.specs.Coordinators.{Coord, CoordTurn, Session, new_work, rests, session_of, with_state}
 use Rattle.gx_rules.specs.Snapshots.{snapshot_of}
 use Rattle.gx_law_order.proofs.Lines.{Asks, asks, undrawn}
@@ -52,6 +52,11 @@ use Rattle.gx_law_commit.proofs.Answering.{IsPlain, MayAll, MayAnswer, NoAnswer,
 use Rattle.gx_law_commit.proofs.Completing.{GetsBy, again-tidy, calm-started, home-settles, live-alive, message-tidy, rest-tidy}
 use Rattle.gx_law_commit.proofs.Events.{idle-first, live-stage, own-idle}
 use Rattle.gx_law_commit.proofs.Ways.{Stands}
+use Rattle.gx_law_order.proofs.Calm.{AreCalm, nobody-ready}
+use Rattle.gx_locks.specs.Locks.{Locks, is_free, is_ready, wait_of}
+use Rattle.gx_rules.specs.Locks.{hold_mark, with_hold}
+use Rattle.gx_waits.specs.declared.claim.Claim.{Claim}
+use Rattle.gx_store.specs.Refusals.{the_coordinator}
 
 -- a line that is no command
 abbrev IsPlainStep : LineStep → Type 0
@@ -159,8 +164,39 @@ module _ (script : Script) (P : ℕ → ℕ → Part) (c : Coord) (ms : List Mar
           may = x.may;
         }
 
-    dispatch-tidy : (line : Stmt) → TidyIn d.sessions earlier (dispatches script d (gx g) line)
-    dispatch-tidy line = goes-tidy (next_cid (d.works g)) line _ (plan_of script.segments (dist_of script.tables (table_of line)) (gx g) (next_cid (d.works g)) line) (for (next_cid (d.works g)) line)
+    locked-tidy : (line : Stmt) → TidyIn d.sessions earlier (goes_on_locked script d (gx g) line)
+    locked-tidy line = goes-tidy (next_cid (d.works g)) line _ (plan_of script.segments (dist_of script.tables (table_of line)) (gx g) (next_cid (d.works g)) line) (for (next_cid (d.works g)) line)
+
+  -- WITH ITS TABLE'S LOCK, OR WAITING FOR IT
+  module _ (d : Coord) (g : ℕ) (others : (h : ℕ) → eqb h g ≡ false → d.works h ≡ c.works h) (earlier : List Mark) (idle : (i : ℕ) → waits_in (c.works g).command i ≡ false) (line : Stmt) where
+    held-tidy : (locks : Locks) (wanted : Claim) → TidyIn d.sessions earlier (behind (hold_mark the_coordinator wanted ∷ []) (goes_on_locked script (record d { locks = locks }) (gx g) line))
+    held-tidy locks wanted =
+        let x = locked-tidy (record d { locks = locks }) g others (earlier ++ hold_mark the_coordinator wanted ∷ []) idle line in
+        record { lines = x.lines; transaction = x.transaction; marks = (tt, x.marks); works = x.works; may = (tt, x.may) }
+
+    waits-tidy : (wanted : Claim) → TidyIn d.sessions earlier (waits_for d (gx g) line wanted)
+    waits-tidy wanted =
+        record {
+          lines = λ t. refl;
+          transaction = λ t. refl;
+          marks = (tt, tt);
+          works = one-go script c ms Gets starting (waits_for d (gx g) line wanted).coord.works (waits_for d (gx g) line wanted).marks g (λ h e. ap (λ b. if b then record (d.works g) { waiting = Some line } else d.works h) e ∙ others h e) (λ i e. absurd (clash (waits_in (c.works g).command i) e (idle i)));
+          may = (tt, tt);
+        }
+      where
+        clash : (b : Bool) → b ≡ true → b ≡ false → ⊥
+        clash b x y = grind arith
+
+    request-tidy : (o : Option Claim) → TidyIn d.sessions earlier (requests script d (gx g) line o)
+    request-tidy None = locked-tidy d g others earlier idle line
+    request-tidy (Some wanted) = by_test (is_free d.locks.holds wanted)
+      where
+        by_test : (b : Bool) → TidyIn d.sessions earlier (if_granted script d (gx g) line wanted b)
+        by_test true = held-tidy (with_hold d.locks wanted) wanted
+        by_test false = waits-tidy wanted
+
+    dispatch-tidy : TidyIn d.sessions earlier (dispatches script d (gx g) line)
+    dispatch-tidy = request-tidy (lock_for (gx g) line)
 
   -- A WHOLE EVENT
   pub record Told (count : ℕ → ℕ) (turn : CoordTurn) : Type 0 where
@@ -382,11 +418,14 @@ module _ (script : Script) (P : ℕ → ℕ → Part) (c : Coord) (ms : List Mar
   right-of true b e = e
   right-of false b e = grind arith
 
-  pub event-told : (x : NodeEvent) (fails : Bool) → coord_can script c x ≡ true → IsGot x → Told (counted x) (on_event script c x fails)
-  event-told (event.Deliver from envelope) fails e d = quiet-told _ (message-tidy script P c ms st k Gets starting last_is from fails envelope.message d)
-  event-told (event.Start s) fails e d = start-any s (idle-first script P c ms st k p ins s _ e) d (next_line script c s) refl (right-of _ _ e)
-  event-told (event.End s) fails e d = end-told s (idle-first script P c ms st k p ins s _ e) (session_of c s).state.block
-  event-told (event.Resend i (Some g)) fails e d = quiet-told _ (again-tidy script P c ms st k Gets starting last_is i (awaited c g i))
-  event-told (event.Resend i None) fails e d = quiet-told (rests c) (rest-tidy script P c ms st k Gets starting last_is)
-  event-told (event.Resume g) fails e d = quiet-told (rests c) (rest-tidy script P c ms st k Gets starting last_is)
-  event-told event.Round fails e d = quiet-told (rests c) (rest-tidy script P c ms st k Gets starting last_is)
+  pub event-told : AreCalm c.locks → (x : NodeEvent) (fails : Bool) → coord_can script c x ≡ true → IsGot x → Told (counted x) (on_event script c x fails)
+  event-told calm (event.Deliver from envelope) fails e d = quiet-told _ (message-tidy script P c ms st k Gets starting last_is from fails envelope.message d)
+  event-told calm (event.Start s) fails e d = start-any s (idle-first script P c ms st k p ins s _ e) d (next_line script c s) refl (right-of _ _ e)
+  event-told calm (event.End s) fails e d = end-told s (idle-first script P c ms st k p ins s _ e) (session_of c s).state.block
+  event-told calm (event.Resend i (Some g)) fails e d = quiet-told _ (again-tidy script P c ms st k Gets starting last_is i (awaited c g i))
+  event-told calm (event.Resend i None) fails e d = quiet-told (rests c) (rest-tidy script P c ms st k Gets starting last_is)
+  event-told calm (event.Resume g) fails e d = absurd (never (is_ready c.locks.holds (wait_of c.locks g)) e (nobody-ready c.locks g calm))
+    where
+      never : (q : Bool) → q ≡ true → q ≡ false → ⊥
+      never q e f = grind arith
+  event-told calm event.Round fails e d = quiet-told (rests c) (rest-tidy script P c ms st k Gets starting last_is)

@@ -36,7 +36,11 @@ use Rattle.gx_law_commit.proofs.Commits.{few, filter-few}
 use Rattle.gx_law_commit.proofs.Counts.{NoEnd, NoPart, decided-append, local-append, no-aborted, no-committed, no-decided, no-local}
 use Rattle.gx_law_commit.proofs.Nodes.{each-has}
 use Rattle.gx_law_commit.proofs.Shifts.{Shift, alone-shift, ask-shift, over-shift}
-use Rattle.gx_law_commit.proofs.Ways.{Agrees, AsksFor, Fol, FolAt, Led, One as OneChange, SaidOut, Stands, Working, at-one, becomes, fol-append, known-here}
+use Rattle.gx_law_commit.proofs.Ways.{Agrees, AsksFor, Fol, FolAt, IsMany, Led, One as OneChange, SaidOut, Stands, Working, at-one, becomes, fol-append, known-here}
+use Rattle.gx_locks.specs.Locks.{Locks}
+use Rattle.gx_rules.specs.Locks.{release_marks}
+use Rattle.gx_law_order.proofs.Calm.{each-released}
+use Rattle.gx_store.specs.Refusals.{the_coordinator}
 
 pub self : (a : ℕ) → eqb a a ≡ true
 self a = grind (arith, nat_tests)
@@ -110,6 +114,10 @@ mute-aborted ns g e = no-aborted ns g (each_weaker Mute NoEnd mute-end ns e)
 
 pub mute-committed : (ns : List Mark) (g : Gxid) → Each Mute ns → is_committed ns g ≡ false
 mute-committed ns g e = no-committed ns g (each_weaker Mute NoEnd mute-end ns e)
+
+-- locks that are given back
+pub back-mute : (locks : Locks) (g : Gxid) → Each Mute (release_marks the_coordinator locks g)
+back-mute locks g = each-released Mute the_coordinator locks g (λ claim. tt)
 
 pub mute-local : (ns : List Mark) (n : Node) (g : Gxid) → Each Mute ns → local_count ns n g ≡ 0
 mute-local ns n g e = no-local ns n g (each_weaker Mute NoPart mute-part ns e)
@@ -233,27 +241,34 @@ module _ (script : Script) (P : ℕ → ℕ → Part) (c : Coord) (ms : List Mar
     ended-agrees xs [] e = tt
     ended-agrees xs (y ∷ ys) e = e
 
-    commit-elsewhere : (a : Mark) → Elsewhere (a ∷ []) g → Elsewhere (mark.Commit (gx g) ∷ a ∷ []) g
-    commit-elsewhere a e = record { others = λ h n. let x = e.others h n in (x.0, x.1, ap (λ b. eqb g h || b) x.2 ∙ apart-back g h n) }
+    commit-elsewhere : (ns : List Mark) → Elsewhere ns g → Elsewhere (mark.Commit (gx g) ∷ ns) g
+    commit-elsewhere ns e = record { others = λ h n. let x = e.others h n in (x.0, x.1, ap (λ b. eqb g h || b) x.2 ∙ apart-back g h n) }
 
     abbrev last_answer : Mark
     last_answer = answer_mark c (work_of c (gx g)).session (answer_at_commit (work_of c (gx g)) (session_of c (work_of c (gx g)).session).state.pending)
 
+    -- what stands behind its mark
+    abbrev tail : List Mark
+    tail = last_answer ∷ release_marks the_coordinator c.locks (gx g)
+
+    tail-mute : Each Mute tail
+    tail-mute = (tt, back-mute c.locks (gx g))
+
     pub committed-led : (parts : List Node) → CanEnd → ((i : ℕ) → (P i g).vote ≡ None → (known i).at ≡ Preparing true → ⊥) → CommitsBy (writers_of script ms (gx g)) ms (gx g) → Led script P c ms (is_closed c (gx g) (turns c.table (gx g) (ends_committed (gx g) parts)))
     committed-led parts can asked fol =
         let turn : CoordTurn = is_closed c (gx g) (turns c.table (gx g) (ends_committed (gx g) parts)) in
-        let o = one-change (ends_committed (gx g) parts) turn.coord turn.marks no_work refl (λ h. refl) (commit-elsewhere _ (record { others = λ h e. (refl, refl, refl) })) in
+        let o = one-change (ends_committed (gx g) parts) turn.coord turn.marks no_work refl (λ h. refl) (commit-elsewhere tail (record { others = λ h e. (mute-decided tail (gx h) tail-mute, mute-aborted tail (gx h) tail-mute, mute-committed tail (gx h) tail-mute) })) in
         record {
-          way = at-one script P c turn.coord ms turn.marks g (left_of (ends_committed (gx g) parts).step (Some t)) no_work o s shift (nothing-working g) (ended-agrees (ms ++ turn.marks) parts (committed-append ms turn.marks (gx g) ∙ or-right (is_committed ms (gx g)) (is_committed turn.marks (gx g)) (or-left (eqb g g) false (self g)))) (fol, (tt, tt));
+          way = at-one script P c turn.coord ms turn.marks g (left_of (ends_committed (gx g) parts).step (Some t)) no_work o s shift (nothing-working g) (ended-agrees (ms ++ turn.marks) parts (committed-append ms turn.marks (gx g) ∙ or-right (is_committed ms (gx g)) (is_committed turn.marks (gx g)) (or-left (eqb g g) _ (self g)))) (fol, mute-fol script (ms ++ mark.Commit (gx g) ∷ []) tail tail-mute);
           outs = outs parts;
         }
       where
-        none-aborted : (i : ℕ) → (is_aborted ms (gx g) || false) ≡ false
-        none-aborted i = or-none (is_aborted ms (gx g)) ∙ unaborted (known i) (P i g) (s.pairs i g) (can.going i)
+        none-aborted : (i : ℕ) → (is_aborted ms (gx g) || is_aborted tail (gx g)) ≡ false
+        none-aborted i = ap (λ b. is_aborted ms (gx g) || b) (mute-aborted tail (gx g) tail-mute) ∙ or-none (is_aborted ms (gx g)) ∙ unaborted (known i) (P i g) (s.pairs i g) (can.going i)
 
         shift : (i : ℕ) → Shift (known i) (becomes script P c ms (is_closed c (gx g) (turns c.table (gx g) (ends_committed (gx g) parts))).marks g (left_of (ends_committed (gx g) parts).step (Some t)) no_work i) (P i g)
         shift i =
-            over-shift (known i) _ (P i g) (s.pairs i g) (ended-over parts i) (can.born i) (λ x. or-left (is_aborted ms (gx g)) false x) (λ x. or-left (is_committed ms (gx g)) _ x) (λ x. none-aborted i)
+            over-shift (known i) _ (P i g) (s.pairs i g) (ended-over parts i) (can.born i) (λ x. or-left (is_aborted ms (gx g)) (is_aborted tail (gx g)) x) (λ x. or-left (is_committed ms (gx g)) _ x) (λ x. none-aborted i)
             (λ v x. absurd (asked i v x)) (can.alone i) (can.both i)
 
         told : (d : Coord) (ns : List Mark) (x : Node) → SaidOut script P d (ms ++ mark.Commit (gx g) ∷ ns) (record { node = x; message = message.Forget (gx g) })
@@ -261,7 +276,7 @@ module _ (script : Script) (P : ℕ → ℕ → Part) (c : Coord) (ms : List Mar
 
         outs : (parts : List Node) → Each (SaidOut script P (is_closed c (gx g) (turns c.table (gx g) (ends_committed (gx g) parts))).coord (ms ++ (is_closed c (gx g) (turns c.table (gx g) (ends_committed (gx g) parts))).marks)) (ends_committed (gx g) parts).out.outs
         outs [] = tt
-        outs (x ∷ xs) = to-nodes _ (message.Forget (gx g)) (x ∷ xs) (for-all _ (λ y. told (is_closed c (gx g) (turns c.table (gx g) (ends_committed (gx g) (x ∷ xs)))).coord (last_answer ∷ []) y) (x ∷ xs))
+        outs (x ∷ xs) = to-nodes _ (message.Forget (gx g)) (x ∷ xs) (for-all _ (λ y. told (is_closed c (gx g) (turns c.table (gx g) (ends_committed (gx g) (x ∷ xs)))).coord tail y) (x ∷ xs))
 
     -- THE ABORT
     pub dropped-over : (parts : List Node) (i : ℕ) → standing (nat_le c.table.next.0 g) (left_of (aborts (gx g) parts).step (Some t)) i ≡ Over

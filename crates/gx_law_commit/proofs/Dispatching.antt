@@ -32,19 +32,24 @@ use Rattle.gx_store.specs.declared.mark.Mark.TheVariants as mark
 use Rattle.gx_store.specs.Marks.{is_aborted, is_committed}
 use Rattle.gx_store.specs.Protocol.{decided_count, local_count}
 use Rattle.gx_store.specs.Writes.{dist_of}
-use Rattle.gx_rules.specs.AtCoordinator.{Reading, answer_mark, answer_of_command, answers, completes, dispatches, enlisted_all, fault_mark, goes, goes_on, goes_out, is_refused, kept_at, next_cid, nodes_in, orders_of, reads_by, reads_for, refusal_of, rolls_back, table_of, takes_done, takes_snapshot, unless_kept, with_done, writers_with}
+use Rattle.gx_rules.specs.AtCoordinator.{Reading, answer_mark, answer_of_command, answers, completes, dispatches, enlisted_all, fault_mark, goes, goes_on, goes_out, is_refused, kept_at, next_cid, nodes_in, orders_of, reads_by, reads_for, refusal_of, rolls_back, table_of, takes_done, takes_snapshot, unless_kept, with_done, writers_with, behind, goes_on_locked, if_granted, lock_for, requests}
 use Rattle.gx_rules.specs.Coordinators.{Command, Coord, Work, session_of, with_work, work_of}
 use Rattle.gx_rules.specs.Snapshots.{snapshot_of}
 use Rattle.gx_law_order.proofs.Closings.{live-at, set_live}
-use Rattle.gx_law_order.proofs.Lists.{Each}
+use Rattle.gx_law_order.proofs.Lists.{Each, each_append}
 use Rattle.gx_law_order.proofs.Stages.{At, IsWhole, left_of, txn-at}
 use Rattle.gx_law_commit.specs.Said.{IsDone, Said}
 use Rattle.gx_law_commit.specs.Standings.{Known, Part, at, gx, is_undecided, known_at, known_of, standing, standing_in, waits_in}
 use Rattle.gx_law_commit.specs.Standings.Standing.{Live}
-use Rattle.gx_law_commit.proofs.Calls.{Mute, abort-led, becomes-calm, commits-ready, dropped-over, live-calm, live-can, live-there, mute-aborted, mute-committed, mute-decided, mute-fol, self, stands-as}
+use Rattle.gx_law_commit.proofs.Calls.{Mute, abort-led, becomes-calm, commits-ready, dropped-over, live-calm, live-can, live-there, mute-aborted, mute-committed, mute-decided, mute-fol, self, stands-as, back-mute}
 use Rattle.gx_law_commit.proofs.Nodes.{AreApart, apart-with, each-has, has-with, has-without}
 use Rattle.gx_law_commit.proofs.Shifts.{Shift, is-sent, learn-shift, send-shift, sending, shift-same}
 use Rattle.gx_law_commit.proofs.Ways.{Agrees, AgreesIn, CommandOf, IsOrderOf, Led, Same, SaidOut, Stands, Way, Working, at-one, rest-led, same-then, way-same, way-then}
+use Rattle.gx_locks.specs.Locks.{Locks}
+use Rattle.gx_rules.specs.Locks.{release_marks, hold_mark, with_hold}
+use Rattle.gx_waits.specs.declared.claim.Claim.{Claim}
+use Rattle.gx_store.specs.Refusals.{the_coordinator}
+use Rattle.gx_law_order.proofs.Calm.{AreCalm, calm-free, lock-calm}
 
 -- its commands run
 pub record IsLive (c : Coord) (g : ℕ) : Type 0 where
@@ -133,14 +138,14 @@ module _ (script : Script) (P : ℕ → ℕ → Part) (c : Coord) (ms : List Mar
   refusing-led why reason e =
       subst (λ o. Led script P c ms (is_refused c (gx g) (turns c.table (gx g) (abort_found (gx g) o)) why reason)) (sym live.found)
       (abort-led script P c ms s whole g live.txn live.found (is_refused c (gx g) (turns c.table (gx g) (aborts (gx g) live.txn.participants)) why reason) (aborts (gx g) live.txn.participants) why
-      (answer_mark c (work_of c (gx g)).session (told.Refused reason) ∷ []) refl e (tt, tt) (live-can script P c ms s whole g live.txn live.found live.active) no-decision no-local-commit refl (λ h. refl)
+      (answer_mark c (work_of c (gx g)).session (told.Refused reason) ∷ release_marks the_coordinator c.locks (gx g)) refl e (tt, back-mute c.locks (gx g)) (live-can script P c ms s whole g live.txn live.found live.active) no-decision no-local-commit refl (λ h. refl)
       (dropped-over script P c ms s whole g live.txn live.found live.txn.participants) (abort-agrees _ live.txn.participants) live.txn.participants (abort-outs live.txn.participants))
 
   pub rolling-led : (marks : List Mark) → Each Mute marks → Led script P c ms (rolls_back c (gx g) marks (on_abort c.table (gx g)))
   rolling-led marks e =
       subst (λ o. Led script P c ms (rolls_back c (gx g) marks (turns c.table (gx g) (abort_found (gx g) o)))) (sym live.found)
       (abort-led script P c ms s whole g live.txn live.found (rolls_back c (gx g) marks (turns c.table (gx g) (aborts (gx g) live.txn.participants))) (aborts (gx g) live.txn.participants) []
-      marks refl tt e (live-can script P c ms s whole g live.txn live.found live.active) no-decision no-local-commit refl (λ h. refl)
+      (marks ++ release_marks the_coordinator c.locks (gx g)) refl tt (each_append Mute marks _ e (back-mute c.locks (gx g))) (live-can script P c ms s whole g live.txn live.found live.active) no-decision no-local-commit refl (λ h. refl)
       (dropped-over script P c ms s whole g live.txn live.found live.txn.participants) (abort-agrees _ live.txn.participants) live.txn.participants (abort-outs live.txn.participants))
 
   -- the standing where the phase stays
@@ -288,9 +293,43 @@ module _ (script : Script) (P : ℕ → ℕ → Part) (c : Coord) (ms : List Mar
       way-then script P c ms r.coord r.marks (is_refused r.coord (gx g) (on_abort r.coord.table (gx g)) (fault_mark (gx g) cid line) (refusal_of fault)) (goes (gx g) cid line r (Err fault)) f.way
       (refusing-led script P r.coord (ms ++ r.marks) f.way.stands f.whole_there g f.live_there (fault_mark (gx g) cid line) (refusal_of fault) (fault-mute (gx g) cid line)) refl (append_assoc r.marks (fault_mark (gx g) cid line) _) refl
 
-  pub dispatch-led : (line : Stmt) → Led script P c ms (dispatches script c (gx g) line)
-  dispatch-led line =
+  pub locked-led : (line : Stmt) → Led script P c ms (goes_on_locked script c (gx g) line)
+  locked-led line =
       goes-led (next_cid (c.works g)) line _ (plan_of script.segments (dist_of script.tables (table_of line)) (gx g) (next_cid (c.works g)) line) refl (for-reading script P c ms s whole g live (next_cid (c.works g)) line)
+
+-- WITH ITS TABLE'S LOCK
+module _ (script : Script) (P : ℕ → ℕ → Part) (c : Coord) (ms : List Mark) (s : Stands script P c ms) (whole : IsWhole c.table) (g : ℕ) (live : IsLive c g) (idle : IsIdle c g) (calm : AreCalm c.locks) where
+  -- the coordinator with other locks, behind marks that say nothing
+  locks-led : (locks : Locks) (wanted : Claim) → Way script P c ms (record c { locks = locks }) (hold_mark the_coordinator wanted ∷ [])
+  locks-led locks wanted =
+      keeps-way script P c ms s whole g live (record c { locks = locks }) (hold_mark the_coordinator wanted ∷ []) live.txn (c.works g) refl refl (λ h. same-found h (eqb h g) refl) (λ h. same-work h (eqb h g) refl) (tt, tt) (s.works g) shifts
+    where
+      same-found : (h : ℕ) (b : Bool) → eqb h g ≡ b → find_txn c.table (gx h) ≡ (if b then Some live.txn else find_txn c.table (gx h))
+      same-found h true e = ap (λ i. find_txn c.table (gx i)) (eqb-true h g e) ∙ live.found
+      same-found h false e = refl
+
+      same-work : (h : ℕ) (b : Bool) → eqb h g ≡ b → c.works h ≡ (if b then c.works g else c.works h)
+      same-work h true e = ap c.works (eqb-true h g e)
+      same-work h false e = refl
+
+      shifts : (i : ℕ) → Shift (known_at c ms i g) (known_of (known_at c ms i g).at (c.works g) i (decided_count ms (gx g)) (is_aborted ms (gx g)) (is_committed ms (gx g))) (P i g)
+      shifts i = shift-same (known_at c ms i g) (P i g) (s.pairs i g)
+
+  request-led : (line : Stmt) (o : Option Claim) → lock_for (gx g) line ≡ o → Led script P c ms (requests script c (gx g) line o)
+  request-led line None e = locked-led script P c ms s whole g live idle line
+  request-led line (Some wanted) e =
+      subst (λ q. Led script P c ms (if_granted script c (gx g) line wanted q)) (sym (calm-free c.locks wanted calm (lock-calm (gx g) line wanted e)))
+      (way-then script P c ms held (hold_mark the_coordinator wanted ∷ []) (goes_on_locked script held (gx g) line) (behind (hold_mark the_coordinator wanted ∷ []) (goes_on_locked script held (gx g) line)) way
+      (locked-led script P held (ms ++ hold_mark the_coordinator wanted ∷ []) way.stands whole g (record { txn = live.txn; found = live.found; active = live.active }) idle line) refl refl refl)
+    where
+      held : Coord
+      held = record c { locks = with_hold c.locks wanted }
+
+      way : Way script P c ms held (hold_mark the_coordinator wanted ∷ [])
+      way = locks-led (with_hold c.locks wanted) wanted
+
+  pub dispatch-led : (line : Stmt) → Led script P c ms (dispatches script c (gx g) line)
+  dispatch-led line = request-led line (lock_for (gx g) line) refl
 
 -- A SEGMENT IS DONE
 module _ (script : Script) (P : ℕ → ℕ → Part) (c : Coord) (ms : List Mark) (s : Stands script P c ms) (whole : IsWhole c.table) (g : ℕ) (live : IsLive c g) where

@@ -56,6 +56,8 @@ use Rattle.gx_law_commit.proofs.Dispatching.{IsIdle, IsLive, dispatch-led, done-
 use Rattle.gx_law_commit.proofs.Replying.{status-led}
 use Rattle.gx_law_commit.proofs.Shifts.{Shift, is-sent, shift-same}
 use Rattle.gx_law_commit.proofs.Ways.{Agrees, AgreesIn, AsksFor, CommandOf, IsOrderOf, Led, Stands, Way, agrees-append, at-new, at-one, rest-led, way-then}
+use Rattle.gx_law_order.proofs.Calm.{AreCalm, nobody-ready}
+use Rattle.gx_locks.specs.Locks.{is_ready, wait_of}
 
 -- the same table and work, another session
 pub moved-stands : (script : Script) (P : ℕ → ℕ → Part) (c : Coord) (ms : List Mark) (s : SessionId) (x : Session) → Stands script P c ms → Stands script P (with_session c s x) ms
@@ -295,10 +297,10 @@ module _ (script : Script) (P : ℕ → ℕ → Part) (c : Coord) (ms : List Mar
         subst (λ g. Leads (rolls_back (starts_line c s step.RollbackBlock) g (answer_mark (starts_line c s step.RollbackBlock) s told.Rollback ∷ []) (on_abort c.table g))) (sym (transaction-now step.RollbackBlock))
         (moved-led script P c ms s (moved step.RollbackBlock) _ (rolling-led script P (starts_line c s step.RollbackBlock) ms (here-stands step.RollbackBlock) k.whole (session_of c s).transaction.0 (live-here step.RollbackBlock opened) (answer_mark (starts_line c s step.RollbackBlock) s told.Rollback ∷ []) (tt, tt)))
 
-    inside-led : (line : Stmt) → is_open_in block ≡ true → Leads (dispatches script (starts_line c s (step.Command false)) (session_of (starts_line c s (step.Command false)) s).transaction line)
-    inside-led line opened =
+    inside-led : AreCalm c.locks → (line : Stmt) → is_open_in block ≡ true → Leads (dispatches script (starts_line c s (step.Command false)) (session_of (starts_line c s (step.Command false)) s).transaction line)
+    inside-led calm line opened =
         subst (λ g. Leads (dispatches script (starts_line c s (step.Command false)) g line)) (sym (transaction-now (step.Command false)))
-        (moved-led script P c ms s (moved (step.Command false)) _ (dispatch-led script P (starts_line c s (step.Command false)) ms (here-stands (step.Command false)) k.whole (session_of c s).transaction.0 (live-here (step.Command false) opened) (own-idle opened) line))
+        (moved-led script P c ms s (moved (step.Command false)) _ (dispatch-led script P (starts_line c s (step.Command false)) ms (here-stands (step.Command false)) k.whole (session_of c s).transaction.0 (live-here (step.Command false) opened) (own-idle opened) calm line))
 
     -- a new transaction
     begins-way : (asked : LineStep) (level : Level) → Way script P c ms (begins (starts_line c s asked) s level) (mark.Start c.table.next s ∷ [])
@@ -323,28 +325,28 @@ module _ (script : Script) (P : ℕ → ℕ → Part) (c : Coord) (ms : List Mar
         later : Way script P c ms (begins (starts_line c s (step.BeginBlock level)) s level) (mark.Start c.table.next s ∷ []) → Led script P (begins (starts_line c s (step.BeginBlock level)) s level) (ms ++ mark.Start c.table.next s ∷ []) (answers_at_once (begins (starts_line c s (step.BeginBlock level)) s level) s told.Begin)
         later w = still script P (begins (starts_line c s (step.BeginBlock level)) s level) (ms ++ mark.Start c.table.next s ∷ []) w.stands (begun-whole c.table k.whole) (answer_mark (begins (starts_line c s (step.BeginBlock level)) s level) s told.Begin ∷ []) (tt, tt)
 
-    alone-led : (line : Stmt) → Leads (behind (mark.Start c.table.next s ∷ []) (dispatches script (begins (starts_line c s (step.Command true)) s ReadCommitted) c.table.next line))
-    alone-led line =
+    alone-led : AreCalm c.locks → (line : Stmt) → Leads (behind (mark.Start c.table.next s ∷ []) (dispatches script (begins (starts_line c s (step.Command true)) s ReadCommitted) c.table.next line))
+    alone-led calm line =
         let w = begins-way (step.Command true) ReadCommitted in
         way-then script P c ms (begins (starts_line c s (step.Command true)) s ReadCommitted) (mark.Start c.table.next s ∷ []) (dispatches script (begins (starts_line c s (step.Command true)) s ReadCommitted) c.table.next line) _ w
-        (dispatch-led script P (begins (starts_line c s (step.Command true)) s ReadCommitted) (ms ++ mark.Start c.table.next s ∷ []) w.stands (begun-whole c.table k.whole) c.table.next.0 (begins-live (step.Command true) ReadCommitted) (begins-idle (step.Command true) ReadCommitted) line) refl refl refl
+        (dispatch-led script P (begins (starts_line c s (step.Command true)) s ReadCommitted) (ms ++ mark.Start c.table.next s ∷ []) w.stands (begun-whole c.table k.whole) c.table.next.0 (begins-live (step.Command true) ReadCommitted) (begins-idle (step.Command true) ReadCommitted) calm line) refl refl refl
 
     at-once : (asked : LineStep) (a : StmtAnswer) → Leads (answers_at_once (starts_line c s asked) s a)
     at-once asked a = quiet-led (answers_at_once (starts_line c s asked) s a) s (moved asked) refl (tt, tt)
 
-    line-led : (line : Stmt) (asked : LineStep) → Asks block asked → Leads (on_line script (starts_line c s asked) s line asked)
-    line-led line (step.Answer plain) a = at-once (step.Answer plain) _
-    line-led line step.Refuse5 a = at-once step.Refuse5 _
-    line-led line step.Refuse7 a = at-once step.Refuse7 _
-    line-led line (step.BeginBlock level) a = begin-led level
-    line-led line step.CommitBlock a = commit-led a
-    line-led line step.RollbackBlock a = rollback-led a
-    line-led line (step.Command true) a = alone-led line
-    line-led line (step.Command false) a = inside-led line a
+    line-led : AreCalm c.locks → (line : Stmt) (asked : LineStep) → Asks block asked → Leads (on_line script (starts_line c s asked) s line asked)
+    line-led calm line (step.Answer plain) a = at-once (step.Answer plain) _
+    line-led calm line step.Refuse5 a = at-once step.Refuse5 _
+    line-led calm line step.Refuse7 a = at-once step.Refuse7 _
+    line-led calm line (step.BeginBlock level) a = begin-led level
+    line-led calm line step.CommitBlock a = commit-led a
+    line-led calm line step.RollbackBlock a = rollback-led a
+    line-led calm line (step.Command true) a = alone-led calm line
+    line-led calm line (step.Command false) a = inside-led calm line a
 
-    start-led : (line : Option Stmt) → Leads (starts script c s line)
-    start-led None = rest
-    start-led (Some line) = line-led line (line_step block line) (asks block line)
+    start-led : AreCalm c.locks → (line : Option Stmt) → Leads (starts script c s line)
+    start-led calm None = rest
+    start-led calm (Some line) = line-led calm line (line_step block line) (asks block line)
 
     end-led : Leads (ends_in c s block)
     end-led = by_block block refl
@@ -367,11 +369,14 @@ module _ (script : Script) (P : ℕ → ℕ → Part) (c : Coord) (ms : List Mar
   IsSaidIn (event.Deliver from envelope) = is_answer envelope.message ≡ true → Said (known_at c ms from.0 (gxid_in envelope.message)) (P from.0 (gxid_in envelope.message)) envelope.message
   IsSaidIn _ = Unit {0}
 
-  pub event-led : (x : NodeEvent) (fails : Bool) → coord_can script c x ≡ true → IsSaidIn x → Leads (on_event script c x fails)
-  event-led (event.Deliver from envelope) fails e d = message-led from fails envelope.message d
-  event-led (event.Start s) fails e d = start-led s (idle-first s _ e) (next_line script c s)
-  event-led (event.End s) fails e d = end-led s (idle-first s _ e)
-  event-led (event.Resend i (Some g)) fails e d = again-led g.0 i (awaited c g i) (command-said g.0 i (c.works g.0).command refl _ (found-said g.0 i (find_txn c.table g) refl))
-  event-led (event.Resend i None) fails e d = rest
-  event-led (event.Resume g) fails e d = rest
-  event-led event.Round fails e d = rest
+  pub event-led : AreCalm c.locks → (x : NodeEvent) (fails : Bool) → coord_can script c x ≡ true → IsSaidIn x → Leads (on_event script c x fails)
+  event-led calm (event.Deliver from envelope) fails e d = message-led from fails envelope.message d
+  event-led calm (event.Start s) fails e d = start-led s (idle-first s _ e) calm (next_line script c s)
+  event-led calm (event.End s) fails e d = end-led s (idle-first s _ e)
+  event-led calm (event.Resend i (Some g)) fails e d = again-led g.0 i (awaited c g i) (command-said g.0 i (c.works g.0).command refl _ (found-said g.0 i (find_txn c.table g) refl))
+  event-led calm (event.Resend i None) fails e d = rest
+  event-led calm (event.Resume g) fails e d = absurd (clash (is_ready c.locks.holds (wait_of c.locks g)) e (nobody-ready c.locks g calm))
+    where
+      clash : (q : Bool) → q ≡ true → q ≡ false → ⊥
+      clash q e f = grind arith
+  event-led calm event.Round fails e d = rest

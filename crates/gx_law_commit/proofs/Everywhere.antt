@@ -114,7 +114,7 @@ module _ (script : Script) (w : World) (n : Knows script w) (v : Holds script w)
   next = coord_did w e (coord_rule script w.coord x fails)
 
   pub coord-holds : coord_can script w.coord x ≡ true → IsSaidIn script (parts_in w) w.coord ms v.stands n.kept n.past (λ g. (n.well.coordinator.works g).writers) x → Holds script next
-  coord-holds ok d = from-led (event-led script (parts_in w) w.coord ms v.stands n.kept n.past (λ g. (n.well.coordinator.works g).writers) x fails ok d)
+  coord-holds ok d = from-led (event-led script (parts_in w) w.coord ms v.stands n.kept n.past (λ g. (n.well.coordinator.works g).writers) n.well.coordinator.locks x fails ok d)
     where
       all : ms ++ (turn.marks ++ sent) ≡ marks_in next.steps
       all = sym (marks-last w.steps step)

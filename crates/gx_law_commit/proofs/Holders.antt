@@ -65,7 +65,7 @@ module _ (script : Script) (some : 1 ≤ script.segments) (w : World) (n : Knows
 
   pub coord-waits : coord_can script w.coord x ≡ true → IsEndedIn (ended_at w.segs) script w.coord n.kept v.orders x → Waits next
   coord-waits ok d =
-      let f : Holding (ended_at w.segs) w.coord turn = event-holds (ended_at w.segs) script w.coord n.kept v.orders x fails ok d in
+      let f : Holding (ended_at w.segs) w.coord turn = event-holds (ended_at w.segs) script w.coord n.kept v.orders n.well.coordinator.locks x fails ok d in
       record {
         orders = f.orders;
         locals = λ i g a b. either i g b (f.table i g (v.locals i g a b));

@@ -43,7 +43,8 @@ use Rattle.gx_store.specs.declared.mark.Mark.TheVariants as mark
 use Rattle.gx_store.specs.declared.node.NodeEvent.{NodeEvent}
 use Rattle.gx_store.specs.declared.node.NodeEvent.TheVariants as event
 use Rattle.gx_store.specs.Writes.{dist_of}
-use Rattle.gx_rules.specs.AtCoordinator.{Reading, answers, awaited, begins, behind, command_order, commits, completes, coord_can, dispatches, ends_in, enlisted_all, fault_mark, follows, goes, goes_on, is_awaited, is_committed as is_closed, is_idle, is_nothing, is_refused, kept_at, next_cid, next_line, nodes_in, on_answer, on_done, on_event, on_failed, on_line, on_message, on_status, order_to, orders_of, reads_by, reads_for, reason_of, refusal_of, resends, rolls_back, starts, starts_line, status_order, table_of, takes_done, takes_snapshot, unless_kept, with_done, writers_with}
+use Rattle.gx_store.specs.declared.answer.StmtAnswer.TheVariants as told
+use Rattle.gx_rules.specs.AtCoordinator.{Reading, answers, awaited, begins, behind, command_order, commits, completes, coord_can, dispatches, ends_in, enlisted_all, fault_mark, follows, goes, goes_on, is_awaited, is_committed as is_closed, is_idle, is_nothing, is_refused, kept_at, next_cid, next_line, nodes_in, on_answer, on_done, on_event, on_failed, on_line, on_message, on_status, order_to, orders_of, reads_by, reads_for, reason_of, refusal_of, resends, rolls_back, starts, starts_line, status_order, table_of, takes_done, takes_snapshot, unless_kept, with_done, writers_with, goes_on_locked, if_granted, lock_for, requests, answer_mark}
 use Rattle.gx_rules.specs.Coordinators.{Command, Coord, CoordTurn, Session, Work, new_work, no_work, rests, session_of, with_session, with_state, with_work, work_of}
 use Rattle.gx_rules.specs.Fits.{fits_part}
 use Rattle.gx_rules.specs.Maps.{with_at}
@@ -61,6 +62,10 @@ use Rattle.gx_law_commit.proofs.Events.{live-stage}
 use Rattle.gx_law_commit.proofs.Held.{ChangeHeld, GoesOn, SaysEnded, abort-held, begun-held, changed-held, commit-held, held_in, is_awaited_at, is_held, live-held, one-held, reply-held}
 use Rattle.gx_law_commit.proofs.Lowered.{NoExec, NoneOf, abort-none, commit-none, reply-none}
 use Rattle.gx_law_commit.proofs.Nodes.{each-has, has-with}
+use Rattle.gx_locks.specs.Locks.{is_free, is_ready, wait_of}
+use Rattle.gx_rules.specs.Locks.{with_hold}
+use Rattle.gx_waits.specs.declared.claim.Claim.{Claim}
+use Rattle.gx_law_order.proofs.Calm.{AreCalm, nobody-ready}
 
 module _ (E : ℕ → ℕ → Bool) where
   -- a command is for a segment that is waited for
@@ -361,8 +366,21 @@ module _ (E : ℕ → ℕ → Bool) where
         let x = aborting-holds r.coord f.whole_there f.orders (gx g) (r.marks ++ fault_mark (gx g) cid line) (refusal_of fault) in
         record { table = on-then c.table r.coord.table (is_refused r.coord (gx g) (on_abort r.coord.table (gx g)) (r.marks ++ fault_mark (gx g) cid line) (refusal_of fault)).coord.table f.goes_there x.table; orders = x.orders; outs = x.outs }
 
-    dispatch-holds : (script : Script) (line : Stmt) → Holding c (dispatches script c (gx g) line)
-    dispatch-holds script line = goes-holds (next_cid (c.works g)) line _ (plan_of script.segments (dist_of script.tables (table_of line)) (gx g) (next_cid (c.works g)) line) (for-held (next_cid (c.works g)) line)
+    locked-holds : (script : Script) (line : Stmt) → Holding c (goes_on_locked script c (gx g) line)
+    locked-holds script line = goes-holds (next_cid (c.works g)) line _ (plan_of script.segments (dist_of script.tables (table_of line)) (gx g) (next_cid (c.works g)) line) (for-held (next_cid (c.works g)) line)
+
+  -- WITH ITS TABLE'S LOCK, OR WAITING FOR IT
+  module _ (c : Coord) (whole : IsWhole c.table) (ol : OrdersHeld c.table c.works) (g : ℕ) (live : IsLive c g) (script : Script) (line : Stmt) where
+    request-holds : (o : Option Claim) → Holding c (requests script c (gx g) line o)
+    request-holds None = locked-holds c whole ol g live script line
+    request-holds (Some wanted) = by_test (is_free c.locks.holds wanted)
+      where
+        by_test : (b : Bool) → Holding c (if_granted script c (gx g) line wanted b)
+        by_test true = let x = locked-holds (record c { locks = with_hold c.locks wanted }) whole ol g (record { txn = live.txn; found = live.found; active = live.active }) script line in record { table = x.table; orders = x.orders; outs = x.outs }
+        by_test false = record { table = same-on c.table; orders = work-at c.table c.works g (record (c.works g) { waiting = Some line }) ol (ol g); outs = tt }
+
+    dispatch-holds : Holding c (dispatches script c (gx g) line)
+    dispatch-holds = request-holds (lock_for (gx g) line)
 
   -- LINES, AND ALL EVENTS
   module _ (script : Script) (c : Coord) (k : Kept c) (ol : OrdersHeld c.table c.works) where
@@ -391,7 +409,7 @@ module _ (E : ℕ → ℕ → Bool) where
       line-holds line step.Refuse7 a = record { table = same-on c.table; orders = ol; outs = tt }
       line-holds line (step.BeginBlock level) a = begins-holds (step.BeginBlock level) level _ (record { table = same-on (begun c.table); orders = begun-orders level; outs = tt })
       line-holds line step.CommitBlock a = moved-holds s _ _ (commit-holds (starts_line c s step.CommitBlock) k.whole ol (session_of (starts_line c s step.CommitBlock) s).transaction)
-      line-holds line step.RollbackBlock a = moved-holds s _ _ (rolling-holds (starts_line c s step.RollbackBlock) k.whole ol (session_of (starts_line c s step.RollbackBlock) s).transaction _)
+      line-holds line step.RollbackBlock a = moved-holds s _ _ (rolling-holds (starts_line c s step.RollbackBlock) k.whole ol (session_of (starts_line c s step.RollbackBlock) s).transaction (answer_mark (starts_line c s step.RollbackBlock) s told.Rollback ∷ []))
       line-holds line (step.Command true) a = begins-holds (step.Command true) ReadCommitted _ (dispatch-holds (begins (starts_line c s (step.Command true)) s ReadCommitted) (begun-whole c.table k.whole) (begun-orders ReadCommitted) c.table.next.0 (begun-live (step.Command true) ReadCommitted) script line)
       line-holds line (step.Command false) a =
           subst (λ g. Holding c (dispatches script (starts_line c s (step.Command false)) g line)) (sym (transaction-now (step.Command false)))
@@ -419,11 +437,14 @@ module _ (E : ℕ → ℕ → Bool) where
         plain : (q : Rattle.gx_script.specs.declared.state.Pending.Pending) → is_nothing q ≡ true → is_nothing_in q ≡ true
         plain q e = grind arith
 
-    pub event-holds : (x : NodeEvent) (fails : Bool) → coord_can script c x ≡ true → IsEndedIn x → Holding c (on_event script c x fails)
-    event-holds (event.Deliver from envelope) fails e d = message-holds c k.whole ol from fails envelope.message d
-    event-holds (event.Start s) fails e d = start-holds s (idle-first s _ e) (next_line script c s)
-    event-holds (event.End s) fails e d = end-holds s (session_of c s).state.block
-    event-holds (event.Resend i (Some g)) fails e d = again-holds c k.whole ol i (awaited c g i) (command-any c k.whole ol i (work_of c g).command _ (ol g.0) (status-any c k.whole ol i.0 g (awaited_order c.table g i)))
-    event-holds (event.Resend i None) fails e d = rest-holds c k.whole ol
-    event-holds (event.Resume g) fails e d = rest-holds c k.whole ol
-    event-holds event.Round fails e d = rest-holds c k.whole ol
+    pub event-holds : AreCalm c.locks → (x : NodeEvent) (fails : Bool) → coord_can script c x ≡ true → IsEndedIn x → Holding c (on_event script c x fails)
+    event-holds calm (event.Deliver from envelope) fails e d = message-holds c k.whole ol from fails envelope.message d
+    event-holds calm (event.Start s) fails e d = start-holds s (idle-first s _ e) (next_line script c s)
+    event-holds calm (event.End s) fails e d = end-holds s (session_of c s).state.block
+    event-holds calm (event.Resend i (Some g)) fails e d = again-holds c k.whole ol i (awaited c g i) (command-any c k.whole ol i (work_of c g).command _ (ol g.0) (status-any c k.whole ol i.0 g (awaited_order c.table g i)))
+    event-holds calm (event.Resend i None) fails e d = rest-holds c k.whole ol
+    event-holds calm (event.Resume g) fails e d = absurd (clash (is_ready c.locks.holds (wait_of c.locks g)) e (nobody-ready c.locks g calm))
+      where
+        clash : (q : Bool) → q ≡ true → q ≡ false → ⊥
+        clash q e f = grind arith
+    event-holds calm event.Round fails e d = rest-holds c k.whole ol

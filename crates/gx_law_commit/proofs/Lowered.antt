@@ -42,7 +42,8 @@ use Rattle.gx_store.specs.declared.mark.Mark.TheVariants as mark
 use Rattle.gx_store.specs.declared.node.NodeEvent.{NodeEvent}
 use Rattle.gx_store.specs.declared.node.NodeEvent.TheVariants as event
 use Rattle.gx_store.specs.Writes.{dist_of}
-use Rattle.gx_rules.specs.AtCoordinator.{Reading, answer_mark, answers, answers_at_once, awaited, begins, behind, command_order, commits, completes, dispatches, ends_in, fault_mark, follows, goes, goes_on, goes_out, is_awaited, is_committed as is_closed, is_refused, kept_at, next_cid, next_line, nodes_in, on_answer, on_done, on_event, on_failed, on_line, on_message, on_status, order_to, orders_of, reads_by, reads_for, reason_of, refusal_of, resends, rolls_back, starts, starts_line, status_order, table_of, takes_done, takes_snapshot, with_done, writers_with}
+use Rattle.gx_store.specs.declared.answer.StmtAnswer.TheVariants as told
+use Rattle.gx_rules.specs.AtCoordinator.{Reading, answer_mark, answers, answers_at_once, awaited, begins, behind, command_order, commits, completes, dispatches, ends_in, fault_mark, follows, goes, goes_on, goes_out, is_awaited, is_committed as is_closed, is_refused, kept_at, next_cid, next_line, nodes_in, on_answer, on_done, on_event, on_failed, on_line, on_message, on_status, order_to, orders_of, reads_by, reads_for, reason_of, refusal_of, resends, rolls_back, starts, starts_line, status_order, table_of, takes_done, takes_snapshot, with_done, writers_with, goes_on_locked, if_granted, lock_for, requests, resumes}
 use Rattle.gx_rules.specs.Coordinators.{Command, Coord, CoordTurn, Session, Work, new_work, no_work, rests, session_of, with_session, with_state, with_work, work_of}
 use Rattle.gx_rules.specs.Fits.{fits_part}
 use Rattle.gx_rules.specs.Maps.{with_at}
@@ -50,6 +51,10 @@ use Rattle.gx_law_order.proofs.Lists.{Each, each_weaker}
 use Rattle.gx_law_order.proofs.Stages.{IsWhole}
 use Rattle.gx_law_commit.specs.Horizons.{IsLow, IsLowIn}
 use Rattle.gx_law_commit.proofs.Lows.{Fits, IsDense, all-fits, begun-dense, begun-fits, changed-fits, horizon-fits, live-dense, live-fits, none-fits}
+use Rattle.gx_locks.specs.Locks.{Locks, is_free, resumed, wait_of}
+use Rattle.gx_rules.specs.Locks.{hold_mark, with_hold}
+use Rattle.gx_waits.specs.declared.claim.Claim.{Claim}
+use Rattle.gx_store.specs.Refusals.{the_coordinator}
 
 -- MESSAGES WITHOUT A HORIZON
 abbrev pub NoExec : Message → Type 0
@@ -368,8 +373,32 @@ module _ (script : Script) (c : Coord) (whole : IsWhole c.table) (dense : IsDens
       let x = aborting-low script r.coord f.whole_there f.orders g (r.marks ++ fault_mark g cid line) (refusal_of fault) in
       record { table = λ n y. x.table n (f.goes n y); orders = x.orders; outs = x.outs }
 
+  locked-low : (line : Stmt) → Lowered c (goes_on_locked script c g line)
+  locked-low line = goes-low (next_cid (work_of c g)) line _ (plan_of script.segments (dist_of script.tables (table_of line)) g (next_cid (work_of c g)) line) (for-low (next_cid (work_of c g)) line)
+
+-- WITH ITS TABLE'S LOCK, OR WAITING FOR IT
+module _ (script : Script) (c : Coord) (whole : IsWhole c.table) (dense : IsDense c.table) (ol : OrdersLow c.table c.works) (g : Gxid) where
+  held-low : (line : Stmt) (locks : Locks) (wanted : Claim) → Lowered c (behind (hold_mark the_coordinator wanted ∷ []) (goes_on_locked script (record c { locks = locks }) g line))
+  held-low line locks wanted = let x = locked-low script (record c { locks = locks }) whole dense ol g line in record { table = x.table; orders = x.orders; outs = x.outs }
+
+  request-low : (line : Stmt) (o : Option Claim) → Lowered c (requests script c g line o)
+  request-low line None = locked-low script c whole dense ol g line
+  request-low line (Some wanted) = by_test (is_free c.locks.holds wanted)
+    where
+      by_test : (b : Bool) → Lowered c (if_granted script c g line wanted b)
+      by_test true = held-low line (with_hold c.locks wanted) wanted
+      by_test false = record { table = λ n f. f; orders = work-at c.table c.works g.0 (record (work_of c g) { waiting = Some line }) ol (ol g.0); outs = tt }
+
   dispatch-low : (line : Stmt) → Lowered c (dispatches script c g line)
-  dispatch-low line = goes-low (next_cid (work_of c g)) line _ (plan_of script.segments (dist_of script.tables (table_of line)) g (next_cid (work_of c g)) line) (for-low (next_cid (work_of c g)) line)
+  dispatch-low line = request-low line (lock_for g line)
+
+module _ (script : Script) (c : Coord) (whole : IsWhole c.table) (dense : IsDense c.table) (ol : OrdersLow c.table c.works) (g : Gxid) where
+  resume-low : (o : Option Claim) (line : Option Stmt) → Lowered c (resumes script c g o line)
+  resume-low None line = rest-low script c whole ol
+  resume-low (Some wanted) None = rest-low script c whole ol
+  resume-low (Some wanted) (Some line) =
+      let x = held-low script (with_work c g (record (work_of c g) { waiting = None })) whole dense (work-at c.table c.works g.0 (record (work_of c g) { waiting = None }) ol (ol g.0)) g line (resumed c.locks g (Some wanted)) wanted in
+      record { table = x.table; orders = x.orders; outs = x.outs }
 
 -- LINES, AND ALL EVENTS
 module _ (script : Script) (c : Coord) (whole : IsWhole c.table) (dense : IsDense c.table) (ol : OrdersLow c.table c.works) where
@@ -391,7 +420,7 @@ module _ (script : Script) (c : Coord) (whole : IsWhole c.table) (dense : IsDens
   line-low s line step.Refuse7 = record { table = λ n f. f; orders = ol; outs = tt }
   line-low s line (step.BeginBlock level) = begins-low s level _ (record { table = λ n f. f; orders = begins-orders s level; outs = tt })
   line-low s line step.CommitBlock = commit-low script c whole ol (session_of c s).transaction
-  line-low s line step.RollbackBlock = rolling-low script c whole ol (session_of c s).transaction _
+  line-low s line step.RollbackBlock = rolling-low script c whole ol (session_of c s).transaction (answer_mark c s told.Rollback ∷ [])
   line-low s line (step.Command true) = begins-low s ReadCommitted _ (dispatch-low script (begins c s ReadCommitted) begins-whole (begun-dense c.table whole dense) (begins-orders s ReadCommitted) c.table.next line)
   line-low s line (step.Command false) = dispatch-low script c whole dense ol (session_of c s).transaction line
 
@@ -411,5 +440,5 @@ module _ (script : Script) (c : Coord) (whole : IsWhole c.table) (dense : IsDens
   event-low (event.End s) fails = end-low s (session_of c s).state.block
   event-low (event.Resend i (Some g)) fails = again-low script c whole ol i (awaited c g i) (command-any script c whole ol i (work_of c g).command _ (ol g.0) (status-any script c whole ol g (awaited_order c.table g i)))
   event-low (event.Resend i None) fails = rest-low script c whole ol
-  event-low (event.Resume g) fails = rest-low script c whole ol
+  event-low (event.Resume g) fails = resume-low script c whole dense ol g (wait_of c.locks g) (work_of c g).waiting
   event-low event.Round fails = rest-low script c whole ol

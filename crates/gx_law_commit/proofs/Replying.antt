@@ -34,11 +34,12 @@ use Rattle.gx_law_commit.specs.Pairs.{IsVote, Pair, bit}
 use Rattle.gx_law_commit.specs.Said.{Answers}
 use Rattle.gx_law_commit.specs.Standings.{Known, Part, Standing, at, gx, is_closing, is_undecided, known_at, known_of, standing, standing_in}
 use Rattle.gx_law_commit.specs.Standings.Standing.{Unborn, Live, Preparing, One, Two, Over}
-use Rattle.gx_law_commit.proofs.Calls.{CanEnd, Elsewhere, Mute, abort-led, becomes-calm, calm-led, committed-led, ended-follows, for-all, known, one-change, or-none, plus-none, self, stands-as, still-led, to-nodes, unaborted, uncommitted, not-self}
+use Rattle.gx_law_commit.proofs.Calls.{CanEnd, Elsewhere, Mute, abort-led, back-mute, becomes-calm, calm-led, committed-led, ended-follows, for-all, known, not-self, one-change, or-none, plus-none, self, stands-as, still-led, to-nodes, unaborted, uncommitted}
 use Rattle.gx_law_commit.proofs.Commits.{AtMostOne, Decision, few, filter-few, filter-many, many, several}
 use Rattle.gx_law_commit.proofs.Nodes.{AreApart, each-has, has-without}
 use Rattle.gx_law_commit.proofs.Shifts.{Shift, decide-shift, deciding, finished-shift, promised-shift, shift-same}
-use Rattle.gx_law_commit.proofs.Ways.{Agrees, AgreesIn, Led, Stands, at-one, becomes, known-here}
+use Rattle.gx_law_commit.proofs.Ways.{Agrees, AgreesIn, IsMany, Led, Stands, at-one, becomes, known-here}
+use Rattle.gx_rules.specs.Locks.{release_marks}
 
 pub take-length : {A : Type 0} (xs ys : List A) → take (length xs) (xs ++ ys) ≡ xs
 take-length [] ys = refl
@@ -119,7 +120,7 @@ module _ (script : Script) (P : ℕ → ℕ → Part) (c : Coord) (ms : List Mar
     refused-led : (n : Node) → CanEnd script P c ms s whole g t f → ((i : ℕ) → is_closing (k i).at ≡ true) → ((i : ℕ) → is_undecided (k i).at ≡ true) → ((i : ℕ) → has_committed (P i g).phase ≡ false) → Gives (refuses (gx g) t.participants n)
     refused-led n can closing undecided none =
         abort-led script P c ms s whole g t f (follows c (gx g) (turns c.table (gx g) (refuses (gx g) t.participants n)) (outcome.Refused n)) (refuses (gx g) t.participants n) (failure_marks n (gx g))
-        (answer_mark c (work_of c (gx g)).session (told.Refused (refused.JournalFault n)) ∷ []) refl (failure-mute n) (tt, tt) can ((pair 0).undecided (undecided 0)) (λ i. local-is i false (none i)) refl (λ h. refl) (λ i. refl) tt t.participants refl
+        (answer_mark c (work_of c (gx g)).session (told.Refused (refused.JournalFault n)) ∷ release_marks the_coordinator c.locks (gx g)) refl (failure-mute n) (tt, back-mute c.locks (gx g)) can ((pair 0).undecided (undecided 0)) (λ i. local-is i false (none i)) refl (λ h. refl) (λ i. refl) tt t.participants refl
 
     -- A PROMISE
     module _ (xs aw : List Node) (e : t.phase ≡ status.Preparing xs aw) (j : Node) (asked : has j aw ≡ true) where

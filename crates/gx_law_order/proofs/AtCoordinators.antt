@@ -1,5 +1,5 @@
 -- What the coordinator sends goes to segments, and its marks stand at the coordinator.
-use Rattle.std.proofs.Common.{◌≡◌, ◌≤◌, ℕ, List, [], ◌∷◌, Option, Some, None, Result, Ok, Err, Bool, true, false, refl, if◌then◌else◌, ◌==◌, ◌&&◌, arith, eqb}
+use Rattle.std.proofs.Common.{◌≡◌, ◌≤◌, ℕ, List, [], ◌∷◌, Option, Some, None, Result, Ok, Err, Bool, true, false, refl, if◌then◌else◌, ◌==◌, ◌&&◌, arith, eqb, sym, subst}
 use Rattle.std.proofs.lemmas.Bool.Decides.{nat_tests}
 use Rattle.std.specs.Prelude.{is_some}
 use Rattle.gx_ids.specs.declared.ids.Cid.{Cid}
@@ -38,10 +38,11 @@ use Rattle.gx_store.specs.declared.answer.Refused.{Refused}
 use Rattle.gx_store.specs.declared.answer.StmtAnswer.{StmtAnswer}
 use Rattle.gx_store.specs.declared.mark.Mark.{Mark}
 use Rattle.gx_store.specs.declared.node.NodeEvent.{NodeEvent}
+use Rattle.gx_store.specs.declared.answer.StmtAnswer.TheVariants as told
 use Rattle.gx_store.specs.declared.node.NodeEvent.TheVariants as event
 use Rattle.gx_store.specs.Refusals.{the_coordinator}
 use Rattle.gx_store.specs.Writes.{dist_of}
-use Rattle.gx_rules.specs.AtCoordinator.{Reading, answers, answers_at_once, awaited, begins, behind, command_order, commits, completes, dispatches, ends_in, enlisted_all, failure_marks, fault_mark, follows, goes, goes_on, goes_out, is_awaited, is_committed, is_refused, next_cid, next_line, nodes_in, on_answer, on_done, on_event, on_failed, on_line, on_message, on_status, order_of, order_to, orders_of, reads_by, reads_for, resends, rolls_back, starts, starts_line, status_order, table_of, takes_done, takes_snapshot, unless_kept, with_done, writers_with}
+use Rattle.gx_rules.specs.AtCoordinator.{Reading, answers, answers_at_once, awaited, begins, behind, command_order, commits, completes, dispatches, ends_in, enlisted_all, failure_marks, fault_mark, follows, goes, goes_on, goes_out, is_awaited, is_committed, is_refused, next_cid, next_line, nodes_in, on_answer, on_done, on_event, on_failed, on_line, on_message, on_status, order_of, order_to, orders_of, reads_by, reads_for, resends, rolls_back, starts, starts_line, status_order, table_of, takes_done, takes_snapshot, unless_kept, with_done, writers_with, goes_on_locked, if_granted, lock_for, requests, resumes, answer_mark}
 use Rattle.gx_rules.specs.Coordinators.{Command, Coord, CoordTurn, Session, Work, new_work, no_work, rests, session_of, with_session, with_state, with_work, work_of}
 use Rattle.gx_rules.specs.Fits.{fits_part}
 use Rattle.gx_rules.specs.Maps.{with_at}
@@ -49,6 +50,10 @@ use Rattle.gx_law_order.proofs.AtSegments.{PlainAt}
 use Rattle.gx_law_order.proofs.Lists.{Each, each_append, each_map}
 use Rattle.gx_law_order.proofs.Places.{IsAtOneOf, IsOneOf, PlanIn, plan_in}
 use Rattle.gx_law_order.proofs.Tables.{AreIn, FoundIn, OutIn, PhaseIn, TableIn, TurnIn, begun_in, enlisted_in, find_in, has_in, live_in, on_abort_in, on_commit_in, on_reply_in, with_in, without_in}
+use Rattle.gx_rules.specs.Locks.{hold_mark, release_marks, with_hold}
+use Rattle.gx_locks.specs.Locks.{Locks, is_free, resumed, wait_of}
+use Rattle.gx_waits.specs.declared.claim.Claim.{Claim}
+use Rattle.gx_law_order.proofs.Calm.{each-released, AreCalm, calm-free, hold-calm, lock-calm, nobody-waits, release-calm}
 
 module _ (script : Script) where
   abbrev n : ℕ
@@ -72,6 +77,7 @@ module _ (script : Script) where
   pub record CoordIn (c : Coord) : Type 0 where
     pub table : TableIn n c.table
     pub works : (g : ℕ) → WorkIn (c.works g)
+    pub locks : AreCalm c.locks
 
   -- what an event keeps, and where what it does stands; `sent` is what was sent before it
   pub record CoordStays (sent : ℕ → ℕ) (turn : CoordTurn) : Type 0 where
@@ -91,24 +97,27 @@ module _ (script : Script) where
       at false = f j
 
   pub works_with : (c : Coord) (g : Gxid) (w : Work) → CoordIn c → WorkIn w → CoordIn (with_work c g w)
-  works_with c g w e h = record { table = e.table; works = λ j. work_at c.works g.0 j w e.works h }
+  works_with c g w e h = record { table = e.table; works = λ j. work_at c.works g.0 j w e.works h; locks = e.locks }
 
   pub table_with : (c : Coord) (d : Table) → CoordIn c → TableIn n d → CoordIn (record c { table = d })
-  table_with c d e h = record { table = h; works = e.works }
+  table_with c d e h = record { table = h; works = e.works; locks = e.locks }
 
   pub state_with : (c : Coord) (s : SessionId) (x : Session) → CoordIn c → CoordIn (with_session c s x)
-  state_with c s x e = record { table = e.table; works = e.works }
+  state_with c s x e = record { table = e.table; works = e.works; locks = e.locks }
 
   rest : (c : Coord) → CoordIn c → CoordStays c.sent (rests c)
   rest c e = record { coord = e; counts = refl; marks = tt; outs = tt }
 
+  back_here : (locks : Locks) (g : Gxid) → Each PlainHere (release_marks the_coordinator locks g)
+  back_here locks g = each-released PlainHere the_coordinator locks g (λ claim. refl)
+
   committed : (c : Coord) (g : Gxid) (turn : Turn) → CoordIn c → TurnIn n turn → CoordStays c.sent (is_committed c g turn)
   committed c g turn e h =
-      record { coord = record { table = h.table; works = λ j. work_at c.works g.0 j no_work e.works none_in }; counts = refl; marks = (refl, (refl, tt)); outs = h.outs }
+      record { coord = record { table = h.table; works = λ j. work_at c.works g.0 j no_work e.works none_in; locks = release-calm c.locks g e.locks }; counts = refl; marks = (refl, (refl, back_here c.locks g)); outs = h.outs }
 
   refused : (c : Coord) (g : Gxid) (turn : Turn) (why : List Mark) (reason : Refused) → CoordIn c → TurnIn n turn → Each PlainHere why → CoordStays c.sent (is_refused c g turn why reason)
   refused c g turn why reason e h m =
-      record { coord = record { table = h.table; works = λ j. work_at c.works g.0 j no_work e.works none_in }; counts = refl; marks = each_append PlainHere why _ m (refl, (refl, tt)); outs = h.outs }
+      record { coord = record { table = h.table; works = λ j. work_at c.works g.0 j no_work e.works none_in; locks = release-calm c.locks g e.locks }; counts = refl; marks = each_append PlainHere why _ m (refl, (refl, back_here c.locks g)); outs = h.outs }
 
   failure_in : (i : Node) (g : Gxid) → Each PlainHere (failure_marks i g)
   failure_in i g = at (i.0 == 0)
@@ -135,7 +144,7 @@ module _ (script : Script) where
 
   snapshot_taken : (c : Coord) (g : Gxid) (cid : Cid) (w : Work) → CoordIn c → WorkIn w → ReadIn c.sent (takes_snapshot c g cid w)
   snapshot_taken c g cid w e h =
-      record { coord = record { table = live_in n c.table g _ e.table; works = λ j. work_at c.works g.0 j _ e.works (record { writers = h.writers; command = h.command }) }; counts = refl; marks = (refl, tt) }
+      record { coord = record { table = live_in n c.table g _ e.table; works = λ j. work_at c.works g.0 j _ e.works (record { writers = h.writers; command = h.command }); locks = e.locks }; counts = refl; marks = (refl, tt) }
 
   read_by : (c : Coord) (g : Gxid) (cid : Cid) (w : Work) (x : Option Snapshot) → CoordIn c → WorkIn w → ReadIn c.sent (reads_by c g cid w x)
   read_by c g cid w None e h = snapshot_taken c g cid w e h
@@ -177,6 +186,7 @@ module _ (script : Script) where
         coord = record {
           table = all_enlisted g (nodes_in pieces) r.coord.table (nodes_are pieces p) e.coord.table;
           works = λ j. work_at r.coord.works g.0 j _ e.coord.works (record { writers = (e.coord.works g.0).writers; command = record { orders = orders_are g cid _ _ _ pieces p; awaited = nodes_are pieces p } });
+          locks = e.coord.locks;
         };
         counts = e.counts;
         marks = e.marks;
@@ -190,20 +200,39 @@ module _ (script : Script) where
       record { coord = x.coord; counts = e.counts; marks = x.marks; outs = x.outs }
 
   module _ (some : 1 ≤ script.segments) where
-    dispatch : (c : Coord) (g : Gxid) (line : Stmt) → CoordIn c → CoordStays c.sent (dispatches script c g line)
-    dispatch c g line e =
+    go_locked : (c : Coord) (g : Gxid) (line : Stmt) → CoordIn c → CoordStays c.sent (goes_on_locked script c g line)
+    go_locked c g line e =
         go c.sent g (next_cid (work_of c g)) line _ _ (read_for c g (next_cid (work_of c g)) (work_of c g) line e (e.works g.0))
         (plan_in n some (dist_of script.tables (table_of line)) g (next_cid (work_of c g)) line)
 
+    -- with its table's lock
+    go_held : (c : Coord) (g : Gxid) (line : Stmt) (locks : Locks) (wanted : Claim) → CoordIn c → AreCalm locks → CoordStays c.sent (behind (hold_mark the_coordinator wanted ∷ []) (goes_on_locked script (record c { locks = locks }) g line))
+    go_held c g line locks wanted e calm =
+        let x = go_locked (record c { locks = locks }) g line (record { table = e.table; works = e.works; locks = calm }) in
+        record { coord = x.coord; counts = x.counts; marks = (refl, x.marks); outs = x.outs }
+
+    request : (c : Coord) (g : Gxid) (line : Stmt) (o : Option Claim) → lock_for g line ≡ o → CoordIn c → CoordStays c.sent (requests script c g line o)
+    request c g line None is e = go_locked c g line e
+    request c g line (Some wanted) is e =
+        subst (λ b. CoordStays c.sent (if_granted script c g line wanted b)) (sym (calm-free c.locks wanted e.locks (lock-calm g line wanted is)))
+        (go_held c g line (with_hold c.locks wanted) wanted e (hold-calm c.locks wanted e.locks (lock-calm g line wanted is)))
+
+    dispatch : (c : Coord) (g : Gxid) (line : Stmt) → CoordIn c → CoordStays c.sent (dispatches script c g line)
+    dispatch c g line e = request c g line (lock_for g line) refl e
+
+    -- nobody waits
+    resume : (c : Coord) (g : Gxid) (line : Option Stmt) → CoordIn c → CoordStays c.sent (resumes script c g (wait_of c.locks g) line)
+    resume c g line e = subst (λ o. CoordStays c.sent (resumes script c g o line)) (sym (nobody-waits c.locks g e.locks)) (rest c e)
+
     -- lines
     begin : (c : Coord) (s : SessionId) (level : Level) → CoordIn c → CoordIn (begins c s level)
-    begin c s level e = record { table = begun_in n c.table e.table; works = λ j. work_at c.works c.table.next.0 j (new_work s level) e.works (record { writers = tt; command = tt }) }
+    begin c s level e = record { table = begun_in n c.table e.table; works = λ j. work_at c.works c.table.next.0 j (new_work s level) e.works (record { writers = tt; command = tt }); locks = e.locks }
 
     at_once : (c : Coord) (s : SessionId) (a : StmtAnswer) → CoordIn c → CoordStays c.sent (answers_at_once c s a)
     at_once c s a e = record { coord = e; counts = refl; marks = (refl, tt); outs = tt }
 
     back : (c : Coord) (g : Gxid) (marks : List Mark) (turn : Turn) → CoordIn c → TurnIn n turn → Each PlainHere marks → CoordStays c.sent (rolls_back c g marks turn)
-    back c g marks turn e h m = record { coord = record { table = h.table; works = λ j. work_at c.works g.0 j no_work e.works none_in }; counts = refl; marks = (refl, m); outs = h.outs }
+    back c g marks turn e h m = record { coord = record { table = h.table; works = λ j. work_at c.works g.0 j no_work e.works none_in; locks = release-calm c.locks g e.locks }; counts = refl; marks = (refl, each_append PlainHere marks _ m (back_here c.locks g)); outs = h.outs }
 
     line_done : (c : Coord) (s : SessionId) (line : Stmt) (asked : LineStep) → CoordIn c → CoordStays c.sent (on_line script c s line asked)
     line_done c s line (step.Answer plain) e = at_once c s _ e
@@ -211,7 +240,7 @@ module _ (script : Script) where
     line_done c s line step.Refuse7 e = at_once c s _ e
     line_done c s line (step.BeginBlock level) e = record { coord = begin c s level e; counts = refl; marks = (refl, (refl, tt)); outs = tt }
     line_done c s line step.CommitBlock e = commit c (session_of c s).transaction e
-    line_done c s line step.RollbackBlock e = back c (session_of c s).transaction _ _ e (on_abort_in n c.table (session_of c s).transaction e.table) (refl, tt)
+    line_done c s line step.RollbackBlock e = back c (session_of c s).transaction (answer_mark c s told.Rollback ∷ []) _ e (on_abort_in n c.table (session_of c s).transaction e.table) (refl, tt)
     line_done c s line (step.Command true) e =
         let x = dispatch (begins c s ReadCommitted) c.table.next line (begin c s ReadCommitted e) in
         record { coord = x.coord; counts = x.counts; marks = (refl, x.marks); outs = x.outs }
@@ -221,12 +250,12 @@ module _ (script : Script) where
     start c s None e = rest c e
     start c s (Some line) e =
         let asked = line_step (session_of c s).state.block line in
-        line_done (starts_line c s asked) s line asked (record { table = e.table; works = e.works })
+        line_done (starts_line c s asked) s line asked (record { table = e.table; works = e.works; locks = e.locks })
 
     end : (c : Coord) (s : SessionId) (b : Block) → CoordIn c → CoordStays c.sent (ends_in c s b)
     end c s (block.Open level) e =
-        back (with_state c s idle_outside) (session_of c s).transaction [] _ (record { table = e.table; works = e.works }) (on_abort_in n c.table (session_of c s).transaction e.table) tt
-    end c s block.Failed e = record { coord = record { table = e.table; works = e.works }; counts = refl; marks = tt; outs = tt }
+        back (with_state c s idle_outside) (session_of c s).transaction [] _ (record { table = e.table; works = e.works; locks = e.locks }) (on_abort_in n c.table (session_of c s).transaction e.table) tt
+    end c s block.Failed e = record { coord = record { table = e.table; works = e.works; locks = e.locks }; counts = refl; marks = tt; outs = tt }
     end c s block.Outside e = rest c e
 
     -- answers of segments
@@ -241,7 +270,7 @@ module _ (script : Script) where
     answer : (c : Coord) (g : Gxid) (w : Work) → CoordIn c → WorkIn w → CoordStays c.sent (answers c g w)
     answer c g w e h =
         record {
-          coord = record { table = kept_table w.level c.table g e.table; works = λ j. work_at c.works g.0 j _ e.works (record { writers = h.writers; command = tt }) };
+          coord = record { table = kept_table w.level c.table g e.table; works = λ j. work_at c.works g.0 j _ e.works (record { writers = h.writers; command = tt }); locks = e.locks };
           counts = refl;
           marks = (refl, tt);
           outs = tt;
@@ -348,5 +377,5 @@ module _ (script : Script) where
     coord_stays c (event.End s) fails e = end c s _ e
     coord_stays c (event.Resend i (Some g)) fails e = again c i _ e (awaited_has c g i e)
     coord_stays c (event.Resend i None) fails e = rest c e
-    coord_stays c (event.Resume g) fails e = rest c e
+    coord_stays c (event.Resume g) fails e = resume c g (work_of c g).waiting e
     coord_stays c event.Round fails e = rest c e

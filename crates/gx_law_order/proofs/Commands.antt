@@ -21,18 +21,23 @@ use Rattle.gx_script.specs.declared.state.Pending.{Pending}
 use Rattle.gx_store.specs.declared.mark.Mark.{Mark}
 use Rattle.gx_store.specs.declared.mark.Mark.TheVariants as mark
 use Rattle.gx_store.specs.Writes.{dist_of}
-use Rattle.gx_rules.specs.AtCoordinator.{Reading, dispatches, enlisted_all, fault_mark, goes, goes_out, is_refused, kept_at, next_cid, nodes_in, reads_by, reads_for, refusal_of, table_of, takes_snapshot}
+use Rattle.gx_rules.specs.AtCoordinator.{Reading, dispatches, enlisted_all, fault_mark, goes, goes_out, is_refused, kept_at, next_cid, nodes_in, reads_by, reads_for, refusal_of, table_of, takes_snapshot, behind, goes_on_locked, if_granted, lock_for, requests}
 use Rattle.gx_rules.specs.Coordinators.{Coord, Session, Work}
 use Rattle.gx_rules.specs.Snapshots.{snapshot_of}
 use Rattle.gx_law_order.specs.Seen.{AreEndedSeen}
 use Rattle.gx_law_order.proofs.Closings.{behind-good, kept-stage, live-at, past-same, refuses-good, set_live}
 use Rattle.gx_law_order.proofs.Lists.{Each}
-use Rattle.gx_law_order.proofs.Past.{Past, Still, seen-now}
+use Rattle.gx_law_order.proofs.Past.{Past, Still, seen-now, still-committed}
 use Rattle.gx_law_order.proofs.Sessions.{Kept, Placed, Tied, is_live_in, is_nothing_in, is_working_in, stage_of}
 use Rattle.gx_law_order.proofs.Stages.{At, IsWhole, gx, txn-at}
 use Rattle.gx_law_order.proofs.Statuses.{Stage, stage}
 use Rattle.gx_law_order.proofs.Statuses.Stage.{Live, Closing}
 use Rattle.gx_law_order.proofs.Turns.{Base, Good, base-kept, home-is, merged, same-sessions, self-test, stage-is}
+use Rattle.gx_rules.specs.Locks.{hold_mark, with_hold}
+use Rattle.gx_locks.specs.Locks.{Locks}
+use Rattle.gx_waits.specs.declared.claim.Claim.{Claim}
+use Rattle.gx_law_order.proofs.Calm.{AreCalm, calm-free, lock-calm}
+use Rattle.gx_store.specs.Refusals.{the_coordinator}
 
 -- looking up what is there
 pub same-finds : (d : Table) (g j : ℕ) → find_txn d (gx j) ≡ (if eqb j g then find_txn d (gx g) else find_txn d (gx j))
@@ -168,5 +173,27 @@ module _ (c c1 : Coord) (g s : ℕ) (w1 : Work) (y : Session) (k : Kept c) (b : 
         (refuses-good c r.coord g s f.w2 y Live k f.base (before ++ r.marks) f.past refl (fault_mark (gx g) cid line) (refusal_of fault) (fault-still (gx g) cid line) (working-waits y.state.pending working))
         refl (append_assoc r.marks (fault_mark (gx g) cid line) _)
 
-    pub dispatch-good : (script : Script) (line : Stmt) → Good before (dispatches script c1 (gx g) line)
-    dispatch-good script line = goes-good (next_cid (c1.works g)) line _ (plan_of script.segments (dist_of script.tables (table_of line)) (gx g) (next_cid (c1.works g)) line) (for-reading (next_cid (c1.works g)) line)
+    pub locked-good : (script : Script) (line : Stmt) → Good before (goes_on_locked script c1 (gx g) line)
+    locked-good script line = goes-good (next_cid (c1.works g)) line _ (plan_of script.segments (dist_of script.tables (table_of line)) (gx g) (next_cid (c1.works g)) line) (for-reading (next_cid (c1.works g)) line)
+
+-- A command takes its table's lock, where it takes one, or waits for it. Neither is seen by sessions or statuses.
+module _ (script : Script) (c c1 : Coord) (g s : ℕ) (w1 : Work) (y : Session) (k : Kept c) (b : Base c c1 g s w1 y Live) (before : List Mark) (p : Past c1 before) (live : is_live_in y.state.block y.state.pending ≡ true) (working : is_working_in y.state.pending ≡ true) (line : Stmt) where
+  held-good : (locks : Locks) (wanted : Claim) → Good before (behind (hold_mark the_coordinator wanted ∷ []) (goes_on_locked script (record c1 { locks = locks }) (gx g) line))
+  held-good locks wanted =
+      behind-good before (hold_mark the_coordinator wanted ∷ []) (goes_on_locked script (record c1 { locks = locks }) (gx g) line) _ tt
+      (locked-good c (record c1 { locks = locks }) g s w1 y k
+      (record { whole1 = b.whole1; now1 = b.now1; stage1 = b.stage1; finds1 = b.finds1; works1 = b.works1; sessions1 = b.sessions1; kind = b.kind; same_txn = b.same_txn; home1 = b.home1 })
+      (before ++ hold_mark the_coordinator wanted ∷ []) (past-stays (record c1 { locks = locks }) (hold_mark the_coordinator wanted ∷ []) refl (tt, tt)) live working script line) refl refl
+    where
+      past-stays : (d : Coord) (ns : List Mark) → d.table ≡ c1.table → Each Still ns → Past d (before ++ ns)
+      past-stays d ns same e =
+          past-same c1 d before ns 0 (find_txn c1.table (gx 0)) p (ap (λ (q : Table). q.next) same) (λ h. ap (λ (q : Table). find_txn q (gx h)) same ∙ same-finds c1.table 0 h) refl (ap (λ (q : Table). q.latest_ended) same) (λ h. still-committed ns (gx h) e)
+
+  request-good : AreCalm c1.locks → (o : Option Claim) → lock_for (gx g) line ≡ o → Good before (requests script c1 (gx g) line o)
+  request-good calm None e = locked-good c c1 g s w1 y k b before p live working script line
+  request-good calm (Some wanted) e =
+      subst (λ q. Good before (if_granted script c1 (gx g) line wanted q)) (sym (calm-free c1.locks wanted calm (lock-calm (gx g) line wanted e)))
+      (held-good (with_hold c1.locks wanted) wanted)
+
+  pub dispatch-good : AreCalm c1.locks → Good before (dispatches script c1 (gx g) line)
+  dispatch-good calm = request-good calm (lock_for (gx g) line) refl

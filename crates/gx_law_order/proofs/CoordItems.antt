@@ -40,12 +40,16 @@ use Rattle.gx_store.specs.declared.node.NodeEvent.TheVariants as event
 use Rattle.gx_store.specs.Journals.{items_from}
 use Rattle.gx_store.specs.Refusals.{the_coordinator}
 use Rattle.gx_store.specs.Writes.{dist_of}
-use Rattle.gx_rules.specs.AtCoordinator.{Reading, awaited, begins, commits, completes, dispatches, ends_in, failure_marks, fault_mark, follows, goes, goes_on, is_awaited, is_refused, next_cid, next_line, on_answer, on_done, on_event, on_failed, on_line, on_message, on_status, reason_of, reads_by, reads_for, refusal_of, resends, starts, starts_line, table_of, takes_done, with_done, writers_with}
+use Rattle.gx_rules.specs.AtCoordinator.{Reading, awaited, begins, commits, completes, dispatches, ends_in, failure_marks, fault_mark, follows, goes, goes_on, is_awaited, is_refused, next_cid, next_line, on_answer, on_done, on_event, on_failed, on_line, on_message, on_status, reason_of, reads_by, reads_for, refusal_of, resends, starts, starts_line, table_of, takes_done, with_done, writers_with, behind, goes_on_locked, if_granted, lock_for, requests, resumes}
 use Rattle.gx_rules.specs.Coordinators.{Command, Coord, CoordTurn, Work, rests, session_of, with_work, work_of}
 use Rattle.gx_rules.specs.Fits.{fits_part}
 use Rattle.gx_rules.specs.Machine.{kept_item}
 use Rattle.gx_law_order.proofs.Lists.{Each, each_append}
 use Rattle.gx_law_order.proofs.SegItems.{Dull, dull-items}
+use Rattle.gx_rules.specs.Locks.{hold_mark, release_marks, with_hold}
+use Rattle.gx_locks.specs.Locks.{Locks, is_free, wait_of, resumed}
+use Rattle.gx_waits.specs.declared.claim.Claim.{Claim}
+use Rattle.gx_law_order.proofs.Calm.{each-released}
 
 -- a turn that appends nothing and whose marks stand for no item
 pub record IsDull (turn : CoordTurn) : Type 0 where
@@ -63,13 +67,16 @@ failure-dull i g = by_test (i.0 == 0)
     by_test true = (tt, tt)
     by_test false = tt
 
+back-dull : (locks : Locks) (g : Gxid) → Each Dull (release_marks the_coordinator locks g)
+back-dull locks g = each-released Dull the_coordinator locks g (λ claim. tt)
+
 refused-dull : (c : Coord) (g : Gxid) (turn : Turn) (why : List Mark) (reason : Refused) → Each Dull why → IsDull (is_refused c g turn why reason)
-refused-dull c g turn why reason e = record { marks = each_append Dull why _ e (tt, (tt, tt)); item = refl }
+refused-dull c g turn why reason e = record { marks = each_append Dull why _ e (tt, (tt, back-dull c.locks g)); item = refl }
 
 follow-dull : (c : Coord) (g : Gxid) (turn : Turn) (o : Outcome) → NotDecided o → IsDull (follows c g turn o)
 follow-dull c g turn outcome.Pending n = record { marks = tt; item = refl }
 follow-dull c g turn outcome.Decided n = absurd n
-follow-dull c g turn outcome.Committed n = record { marks = (tt, (tt, tt)); item = refl }
+follow-dull c g turn outcome.Committed n = record { marks = (tt, (tt, back-dull c.locks g)); item = refl }
 follow-dull c g turn (outcome.Refused i) n = refused-dull c g turn (failure_marks i g) _ (failure-dull i g)
 follow-dull c g turn outcome.Ended n = record { marks = tt; item = refl }
 
@@ -121,9 +128,28 @@ goes-dull : (g : Gxid) (cid : Cid) (line : Stmt) (r : Reading) (plan : Result (L
 goes-dull g cid line r (Ok pieces) e = record { marks = e; item = refl }
 goes-dull g cid line r (Err fault) e = refused-dull r.coord g (on_abort r.coord.table g) (r.marks ++ fault_mark g cid line) (refusal_of fault) (each_append Dull r.marks (fault_mark g cid line) e (fault-dull g cid line))
 
-dispatch-dull : (script : Script) (c : Coord) (g : Gxid) (line : Stmt) → IsDull (dispatches script c g line)
-dispatch-dull script c g line =
+locked-dull : (script : Script) (c : Coord) (g : Gxid) (line : Stmt) → IsDull (goes_on_locked script c g line)
+locked-dull script c g line =
     goes-dull g (next_cid (work_of c g)) line (reads_for c g (next_cid (work_of c g)) (work_of c g) line) (plan_of script.segments (dist_of script.tables (table_of line)) g (next_cid (work_of c g)) line) (for-dull c g (next_cid (work_of c g)) (work_of c g) line)
+
+held-dull : (script : Script) (c : Coord) (g : Gxid) (line : Stmt) (wanted : Claim) → IsDull (behind (hold_mark the_coordinator wanted ∷ []) (goes_on_locked script c g line))
+held-dull script c g line wanted = let x = locked-dull script c g line in record { marks = (tt, x.marks); item = x.item }
+
+request-dull : (script : Script) (c : Coord) (g : Gxid) (line : Stmt) (o : Option Claim) → IsDull (requests script c g line o)
+request-dull script c g line None = locked-dull script c g line
+request-dull script c g line (Some wanted) = by_test (is_free c.locks.holds wanted)
+  where
+    by_test : (b : Bool) → IsDull (if_granted script c g line wanted b)
+    by_test true = held-dull script (record c { locks = with_hold c.locks wanted }) g line wanted
+    by_test false = record { marks = (tt, tt); item = refl }
+
+dispatch-dull : (script : Script) (c : Coord) (g : Gxid) (line : Stmt) → IsDull (dispatches script c g line)
+dispatch-dull script c g line = request-dull script c g line (lock_for g line)
+
+resume-dull : (script : Script) (c : Coord) (g : Gxid) (o : Option Claim) (line : Option Stmt) → IsDull (resumes script c g o line)
+resume-dull script c g None line = rest-dull c
+resume-dull script c g (Some wanted) None = rest-dull c
+resume-dull script c g (Some wanted) (Some line) = held-dull script (with_work (record c { locks = resumed c.locks g (Some wanted) }) g (record (work_of c g) { waiting = None })) g line wanted
 
 -- lines
 line-dull : (script : Script) (c : Coord) (s : SessionId) (line : Stmt) (asked : LineStep) → IsDull (on_line script c s line asked)
@@ -132,7 +158,7 @@ line-dull script c s line step.Refuse5 = record { marks = (tt, tt); item = refl 
 line-dull script c s line step.Refuse7 = record { marks = (tt, tt); item = refl }
 line-dull script c s line (step.BeginBlock level) = record { marks = (tt, (tt, tt)); item = refl }
 line-dull script c s line step.CommitBlock = commit-dull c (session_of c s).transaction
-line-dull script c s line step.RollbackBlock = record { marks = (tt, (tt, tt)); item = refl }
+line-dull script c s line step.RollbackBlock = record { marks = (tt, (tt, back-dull c.locks (session_of c s).transaction)); item = refl }
 line-dull script c s line (step.Command true) = let x = dispatch-dull script (begins c s ReadCommitted) c.table.next line in record { marks = (tt, x.marks); item = x.item }
 line-dull script c s line (step.Command false) = dispatch-dull script c (session_of c s).transaction line
 
@@ -141,7 +167,7 @@ start-dull script c s None = rest-dull c
 start-dull script c s (Some line) = line-dull script (starts_line c s (line_step (session_of c s).state.block line)) s line (line_step (session_of c s).state.block line)
 
 end-dull : (c : Coord) (s : SessionId) (b : Block) → IsDull (ends_in c s b)
-end-dull c s (Open level) = record { marks = (tt, tt); item = refl }
+end-dull c s (Open level) = record { marks = (tt, back-dull c.locks (session_of c s).transaction); item = refl }
 end-dull c s Failed = record { marks = tt; item = refl }
 end-dull c s Outside = rest-dull c
 
@@ -248,7 +274,7 @@ no-item g true false (inr e) = absurd (cc)
 outcome-stands : (c : Coord) (before : List Mark) (g : Gxid) (turn : Turn) (o : Outcome) (deciding fails : Bool) → Agrees o deciding fails → items_from the_coordinator before (follows c g turn o).marks ≡ kept_item fails (if deciding then Some (item.Decide g) else None)
 outcome-stands c before g turn outcome.Decided deciding fails e = subst (λ d. item.Decide g ∷ [] ≡ kept_item fails (if d then Some (item.Decide g) else None)) (sym e.0) (subst (λ f. item.Decide g ∷ [] ≡ kept_item f (Some (item.Decide g))) (sym e.1) refl)
 outcome-stands c before g turn outcome.Pending deciding fails e = sym (no-item g deciding fails e)
-outcome-stands c before g turn outcome.Committed deciding fails e = dull-items the_coordinator before (follows c g turn outcome.Committed).marks (tt, (tt, tt)) ∙ sym (no-item g deciding fails e)
+outcome-stands c before g turn outcome.Committed deciding fails e = dull-items the_coordinator before (follows c g turn outcome.Committed).marks (tt, (tt, back-dull c.locks g)) ∙ sym (no-item g deciding fails e)
 outcome-stands c before g turn (outcome.Refused i) deciding fails e = dull-items the_coordinator before (follows c g turn (outcome.Refused i)).marks (follow-dull c g turn (outcome.Refused i) tt).marks ∙ sym (no-item g deciding fails e)
 outcome-stands c before g turn outcome.Ended deciding fails e = sym (no-item g deciding fails e)
 
@@ -286,5 +312,5 @@ event-stands script c before (event.Start s) fails = dull-stands before fails _ 
 event-stands script c before (event.End s) fails = dull-stands before fails _ (end-dull c s _)
 event-stands script c before (event.Resend i (Some g)) fails = dull-stands before fails _ (again-dull c i (awaited c g i))
 event-stands script c before (event.Resend i None) fails = dull-stands before fails _ (rest-dull c)
-event-stands script c before (event.Resume g) fails = dull-stands before fails _ (rest-dull c)
+event-stands script c before (event.Resume g) fails = dull-stands before fails _ (resume-dull script c g (wait_of c.locks g) (work_of c g).waiting)
 event-stands script c before event.Round fails = dull-stands before fails _ (rest-dull c)

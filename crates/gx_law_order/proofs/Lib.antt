@@ -1,5 +1,6 @@
 pub mod Lists
 pub mod Places
+pub mod Calm
 pub mod AtSegments
 pub mod Tables
 pub mod AtCoordinators

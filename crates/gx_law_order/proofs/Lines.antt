@@ -35,6 +35,7 @@ use Rattle.gx_law_order.proofs.Stages.{Apart, Below, IsWhole, gx, none-at}
 use Rattle.gx_law_order.proofs.Statuses.{Falls, Turned, abort-turns, stage}
 use Rattle.gx_law_order.proofs.Statuses.Stage.{Live, Closing}
 use Rattle.gx_law_order.proofs.Turns.{Base, Good, base-kept, falls-is, merged, rolled-good, same-sessions, same-works, self-test, stage-is}
+use Rattle.gx_law_order.proofs.Calm.{AreCalm}
 
 -- marks that tell of no end
 pub past-still : (c d : Coord) (before ns : List Mark) → Past c before → d.table ≡ c.table → Each Still ns → Past d (before ++ ns)
@@ -219,11 +220,11 @@ module _ (script : Script) (c : Coord) (before : List Mark) (k : Kept c) (p : Pa
       by_block Outside e = rest-good c before k p
 
   -- a command in a block
-  inside-good : (line : Stmt) → is_open_in block ≡ true → Good before (dispatches script (starts_line c s (step.Command false)) (session_of (starts_line c s (step.Command false)) s).transaction line)
-  inside-good line opened =
+  inside-good : AreCalm c.locks → (line : Stmt) → is_open_in block ≡ true → Good before (dispatches script (starts_line c s (step.Command false)) (session_of (starts_line c s (step.Command false)) s).transaction line)
+  inside-good calm line opened =
       subst (λ g. Good before (dispatches script (starts_line c s (step.Command false)) g line)) (sym (transaction-now (step.Command false)))
-      (dispatch-good c (starts_line c s (step.Command false)) (session_of c s).transaction.0 s.0 (c.works (session_of c s).transaction.0) (moved (step.Command false)) k (base-own c s (moved (step.Command false)) k opened idle refl) before (past-now (moved (step.Command false)))
-      (live block opened) refl script line)
+      (dispatch-good script c (starts_line c s (step.Command false)) (session_of c s).transaction.0 s.0 (c.works (session_of c s).transaction.0) (moved (step.Command false)) k (base-own c s (moved (step.Command false)) k opened idle refl) before (past-now (moved (step.Command false)))
+      (live block opened) refl line calm)
     where
       live : (b : Block) → is_open_in b ≡ true → is_live_in (block_after b (step.Command false)) pending.Command ≡ true
       live b e = grind arith
@@ -284,25 +285,25 @@ module _ (script : Script) (c : Coord) (before : List Mark) (k : Kept c) (p : Pa
       sits : Placed s.0 (fresh (step.BeginBlock level)) (stage_of c1 c.table.next.0) (new_work s level)
       sits = record { stands = λ o. (inl now, refl); free = λ o n. now }
 
-  alone-good : (line : Stmt) → block ≡ Outside → Good before (behind (mark.Start c.table.next s ∷ []) (dispatches script (begins (starts_line c s (step.Command true)) s ReadCommitted) c.table.next line))
-  alone-good line outside =
+  alone-good : AreCalm c.locks → (line : Stmt) → block ≡ Outside → Good before (behind (mark.Start c.table.next s ∷ []) (dispatches script (begins (starts_line c s (step.Command true)) s ReadCommitted) c.table.next line))
+  alone-good calm line outside =
       behind-good before (mark.Start c.table.next s ∷ []) (dispatches script (begins (starts_line c s (step.Command true)) s ReadCommitted) c.table.next line) _ tt
-      (dispatch-good c (begins (starts_line c s (step.Command true)) s ReadCommitted) c.table.next.0 s.0 (new_work s ReadCommitted) (fresh (step.Command true)) k (begins-base (step.Command true) ReadCommitted outside) (before ++ mark.Start c.table.next s ∷ []) (begins-past (step.Command true) ReadCommitted)
-      (live block outside) refl script line) refl refl
+      (dispatch-good script c (begins (starts_line c s (step.Command true)) s ReadCommitted) c.table.next.0 s.0 (new_work s ReadCommitted) (fresh (step.Command true)) k (begins-base (step.Command true) ReadCommitted outside) (before ++ mark.Start c.table.next s ∷ []) (begins-past (step.Command true) ReadCommitted)
+      (live block outside) refl line calm) refl refl
     where
       live : (q : Block) → q ≡ Outside → is_live_in (block_after q (step.Command true)) pending.Command ≡ true
       live q e = subst (λ r. is_live_in (block_after r (step.Command true)) pending.Command ≡ true) (sym e) refl
 
-  line-good : (line : Stmt) (asked : LineStep) → Asks block asked → Good before (on_line script (starts_line c s asked) s line asked)
-  line-good line (step.Answer plain) a = at-once-good (step.Answer plain) _ refl a
-  line-good line step.Refuse5 a = at-once-good step.Refuse5 _ refl (same5 block)
-  line-good line step.Refuse7 a = at-once-good step.Refuse7 _ refl (same7 block)
-  line-good line (step.BeginBlock level) a = begin-good level a
-  line-good line step.CommitBlock a = commit-good a
-  line-good line step.RollbackBlock a = rollback-good a
-  line-good line (step.Command true) a = alone-good line a
-  line-good line (step.Command false) a = inside-good line a
+  line-good : AreCalm c.locks → (line : Stmt) (asked : LineStep) → Asks block asked → Good before (on_line script (starts_line c s asked) s line asked)
+  line-good calm line (step.Answer plain) a = at-once-good (step.Answer plain) _ refl a
+  line-good calm line step.Refuse5 a = at-once-good step.Refuse5 _ refl (same5 block)
+  line-good calm line step.Refuse7 a = at-once-good step.Refuse7 _ refl (same7 block)
+  line-good calm line (step.BeginBlock level) a = begin-good level a
+  line-good calm line step.CommitBlock a = commit-good a
+  line-good calm line step.RollbackBlock a = rollback-good a
+  line-good calm line (step.Command true) a = alone-good calm line a
+  line-good calm line (step.Command false) a = inside-good calm line a
 
-  pub start-good : (line : Option Stmt) → Good before (starts script c s line)
-  start-good None = rest-good c before k p
-  start-good (Some line) = line-good line (line_step block line) (asks block line)
+  pub start-good : AreCalm c.locks → (line : Option Stmt) → Good before (starts script c s line)
+  start-good calm None = rest-good c before k p
+  start-good calm (Some line) = line-good calm line (line_step block line) (asks block line)

@@ -37,11 +37,15 @@ use Rattle.gx_store.specs.declared.node.NodeEvent.TheVariants as event
 use Rattle.gx_store.specs.Marks.{start_count}
 use Rattle.gx_store.specs.Refusals.{the_coordinator}
 use Rattle.gx_store.specs.Writes.{dist_of}
-use Rattle.gx_rules.specs.AtCoordinator.{Reading, awaited, begins, behind, commits, completes, dispatches, ends_in, enlisted_all, failure_marks, fault_mark, follows, goes, goes_on, is_awaited, is_refused, next_cid, next_line, nodes_in, on_answer, on_done, on_event, on_failed, on_line, on_message, on_status, reads_by, reads_for, reason_of, refusal_of, resends, starts, starts_line, table_of, takes_done, unless_kept, with_done, writers_with}
+use Rattle.gx_rules.specs.AtCoordinator.{Reading, awaited, begins, behind, commits, completes, dispatches, ends_in, enlisted_all, failure_marks, fault_mark, follows, goes, goes_on, is_awaited, is_refused, next_cid, next_line, nodes_in, on_answer, on_done, on_event, on_failed, on_line, on_message, on_status, reads_by, reads_for, reason_of, refusal_of, resends, starts, starts_line, table_of, takes_done, unless_kept, with_done, writers_with, goes_on_locked, if_granted, lock_for, requests, resumes}
 use Rattle.gx_rules.specs.Coordinators.{Command, Coord, CoordTurn, Work, rests, session_of, with_work, work_of}
 use Rattle.gx_rules.specs.Fits.{fits_part}
 use Rattle.gx_law_order.proofs.Lists.{Each, each_append}
 use Rattle.gx_law_order.specs.Numbers.{AreStartsNumbered}
+use Rattle.gx_rules.specs.Locks.{hold_mark, release_marks, with_hold}
+use Rattle.gx_locks.specs.Locks.{Locks, is_free, resumed, wait_of}
+use Rattle.gx_waits.specs.declared.claim.Claim.{Claim}
+use Rattle.gx_law_order.proofs.Calm.{each-released}
 
 -- a mark that starts no transaction
 abbrev pub NoStart : Mark → Type 0
@@ -60,13 +64,16 @@ failure-calm i g = by_test (i.0 == 0)
     by_test true = (tt, tt)
     by_test false = tt
 
+back-calm : (locks : Locks) (g : Gxid) → Each NoStart (release_marks the_coordinator locks g)
+back-calm locks g = each-released NoStart the_coordinator locks g (λ claim. tt)
+
 refused-calm : (c : Coord) (g : Gxid) (turn : Turn) (why : List Mark) (reason : Refused) → turn.table.next ≡ c.table.next → Each NoStart why → IsCalm c.table.next (is_refused c g turn why reason)
-refused-calm c g turn why reason n e = record { marks = each_append NoStart why _ e (tt, (tt, tt)); stands = n }
+refused-calm c g turn why reason n e = record { marks = each_append NoStart why _ e (tt, (tt, back-calm c.locks g)); stands = n }
 
 follow-calm : (c : Coord) (g : Gxid) (turn : Turn) (o : Outcome) → turn.table.next ≡ c.table.next → IsCalm c.table.next (follows c g turn o)
 follow-calm c g turn outcome.Pending n = record { marks = tt; stands = n }
 follow-calm c g turn outcome.Decided n = record { marks = (tt, tt); stands = n }
-follow-calm c g turn outcome.Committed n = record { marks = (tt, (tt, tt)); stands = n }
+follow-calm c g turn outcome.Committed n = record { marks = (tt, (tt, back-calm c.locks g)); stands = n }
 follow-calm c g turn (outcome.Refused i) n = refused-calm c g turn (failure_marks i g) _ n (failure-calm i g)
 follow-calm c g turn outcome.Ended n = record { marks = tt; stands = n }
 
@@ -125,12 +132,31 @@ goes-calm next g cid line r (Err fault) e n =
     let x = refused-calm r.coord g (on_abort r.coord.table g) (r.marks ++ fault_mark g cid line) (refusal_of fault) refl (each_append NoStart r.marks (fault_mark g cid line) e (fault-calm g cid line)) in
     record { marks = x.marks; stands = x.stands ∙ n }
 
-dispatch-calm : (script : Script) (c : Coord) (g : Gxid) (line : Stmt) → IsCalm c.table.next (dispatches script c g line)
-dispatch-calm script c g line =
+locked-calm : (script : Script) (c : Coord) (g : Gxid) (line : Stmt) → IsCalm c.table.next (goes_on_locked script c g line)
+locked-calm script c g line =
     goes-calm c.table.next g (next_cid (work_of c g)) line (reads_for c g (next_cid (work_of c g)) (work_of c g) line) (plan_of script.segments (dist_of script.tables (table_of line)) g (next_cid (work_of c g)) line) (for-calm c g (next_cid (work_of c g)) (work_of c g) line) (for-next c g (next_cid (work_of c g)) (work_of c g) line)
 
+held-calm : (script : Script) (c : Coord) (g : Gxid) (line : Stmt) (wanted : Claim) → IsCalm c.table.next (behind (hold_mark the_coordinator wanted ∷ []) (goes_on_locked script c g line))
+held-calm script c g line wanted = let x = locked-calm script c g line in record { marks = (tt, x.marks); stands = x.stands }
+
+request-calm : (script : Script) (c : Coord) (g : Gxid) (line : Stmt) (o : Option Claim) → IsCalm c.table.next (requests script c g line o)
+request-calm script c g line None = locked-calm script c g line
+request-calm script c g line (Some wanted) = by_test (is_free c.locks.holds wanted)
+  where
+    by_test : (b : Bool) → IsCalm c.table.next (if_granted script c g line wanted b)
+    by_test true = held-calm script (record c { locks = with_hold c.locks wanted }) g line wanted
+    by_test false = record { marks = (tt, tt); stands = refl }
+
+dispatch-calm : (script : Script) (c : Coord) (g : Gxid) (line : Stmt) → IsCalm c.table.next (dispatches script c g line)
+dispatch-calm script c g line = request-calm script c g line (lock_for g line)
+
+resume-calm : (script : Script) (c : Coord) (g : Gxid) (o : Option Claim) (line : Option Stmt) → IsCalm c.table.next (resumes script c g o line)
+resume-calm script c g None line = rest-calm c
+resume-calm script c g (Some wanted) None = rest-calm c
+resume-calm script c g (Some wanted) (Some line) = held-calm script (with_work (record c { locks = resumed c.locks g (Some wanted) }) g (record (work_of c g) { waiting = None })) g line wanted
+
 end-calm : (c : Coord) (s : SessionId) (b : Block) → IsCalm c.table.next (ends_in c s b)
-end-calm c s (Open level) = record { marks = (tt, tt); stands = refl }
+end-calm c s (Open level) = record { marks = (tt, back-calm c.locks (session_of c s).transaction); stands = refl }
 end-calm c s Failed = record { marks = tt; stands = refl }
 end-calm c s Outside = rest-calm c
 
@@ -250,7 +276,7 @@ module _ (before : List Mark) where
   line-numbered script c s line step.Refuse7 n = calm c.table.next _ n (record { marks = (tt, tt); stands = refl })
   line-numbered script c s line (step.BeginBlock level) n = begun-numbered c.table.next s _ n (tt, tt) refl
   line-numbered script c s line step.CommitBlock n = calm c.table.next _ n (commit-calm c (session_of c s).transaction)
-  line-numbered script c s line step.RollbackBlock n = calm c.table.next _ n (record { marks = (tt, (tt, tt)); stands = refl })
+  line-numbered script c s line step.RollbackBlock n = calm c.table.next _ n (record { marks = (tt, (tt, back-calm c.locks (session_of c s).transaction)); stands = refl })
   line-numbered script c s line (step.Command true) n =
       let x = dispatch-calm script (begins c s ReadCommitted) c.table.next line in
       begun-numbered c.table.next s (dispatches script (begins c s ReadCommitted) c.table.next line) n x.marks (ap (λ (g : Gxid). g.0) x.stands)
@@ -266,5 +292,5 @@ module _ (before : List Mark) where
   event-numbered script c (event.End s) fails n = calm c.table.next _ n (end-calm c s (session_of c s).state.block)
   event-numbered script c (event.Resend i (Some g)) fails n = calm c.table.next _ n (again-calm c i (awaited c g i))
   event-numbered script c (event.Resend i None) fails n = calm c.table.next _ n (rest-calm c)
-  event-numbered script c (event.Resume g) fails n = calm c.table.next _ n (rest-calm c)
+  event-numbered script c (event.Resume g) fails n = calm c.table.next _ n (resume-calm script c g (wait_of c.locks g) (work_of c g).waiting)
   event-numbered script c event.Round fails n = calm c.table.next _ n (rest-calm c)

@@ -129,7 +129,7 @@ module _ (script : Script) (some : 1 ≤ script.segments) (w : World) (good : We
   coord_well h =
       record {
         steps = ordered-last script [] w.steps step good.steps (is_ordered h);
-        coordinator = record { table = kept.coord.table; works = kept.coord.works };
+        coordinator = record { table = kept.coord.table; works = kept.coord.works; locks = kept.coord.locks };
         names = good.names;
         clock = same-le (clock_of-same the_coordinator w.steps step refl (clock_after-positive w.coord.clock x));
         clocks = λ i k. subst (λ c. c ≤ (w.segs i).clock) (sym (clock_of-other (at i) w.steps step (apart i k))) (good.clocks i k);
@@ -310,7 +310,7 @@ module _ (script : Script) (some : 1 ≤ script.segments) where
   new_well =
       record {
         steps = tt;
-        coordinator = record { table = tt; works = λ g. record { writers = tt; command = tt } };
+        coordinator = record { table = tt; works = λ g. record { writers = tt; command = tt }; locks = record { nobody = refl; modes = tt } };
         names = λ i. refl;
         clock = least 0;
         clocks = λ i h. least 0;

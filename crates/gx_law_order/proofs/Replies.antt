@@ -42,6 +42,8 @@ use Rattle.gx_law_order.proofs.Stages.{gx}
 use Rattle.gx_law_order.proofs.Statuses.{Moves, Stage, Turned, is_running, reply-turns, stage}
 use Rattle.gx_law_order.proofs.Statuses.Stage.{Absent, Live, Closing, Dropped}
 use Rattle.gx_law_order.proofs.Turns.{Base, Good, base-kept, closed-good, refused-good, self-test}
+use Rattle.gx_law_order.proofs.Calm.{AreCalm, nobody-ready}
+use Rattle.gx_locks.specs.Locks.{is_ready, wait_of}
 
 closing-closed : (b : Block) (p : Pending) → is_closing_in b p ≡ true → is_open_in (block_after_done b p) ≡ false
 closing-closed b p e = grind arith
@@ -299,11 +301,14 @@ module _ (script : Script) (c : Coord) (before : List Mark) (k : Kept c) (p : Pa
       by_pending : (q : Pending) → is_nothing q ≡ true → is_nothing_in q ≡ true
       by_pending q e = grind arith
 
-  pub event-good : (x : NodeEvent) (fails : Bool) → coord_can script c x ≡ true → Good before (on_event script c x fails)
-  event-good (event.Deliver from envelope) fails e = message-good from fails envelope.message
-  event-good (event.Start s) fails e = start-good script c before k p s (idle-first s _ e) (next_line script c s)
-  event-good (event.End s) fails e = end-good script c before k p s (idle-first s _ e)
-  event-good (event.Resend i (Some g)) fails e = again-good i (awaited c g i)
-  event-good (event.Resend i None) fails e = rest-good c before k p
-  event-good (event.Resume g) fails e = rest-good c before k p
-  event-good event.Round fails e = rest-good c before k p
+  pub event-good : AreCalm c.locks → (x : NodeEvent) (fails : Bool) → coord_can script c x ≡ true → Good before (on_event script c x fails)
+  event-good calm (event.Deliver from envelope) fails e = message-good from fails envelope.message
+  event-good calm (event.Start s) fails e = start-good script c before k p s (idle-first s _ e) calm (next_line script c s)
+  event-good calm (event.End s) fails e = end-good script c before k p s (idle-first s _ e)
+  event-good calm (event.Resend i (Some g)) fails e = again-good i (awaited c g i)
+  event-good calm (event.Resend i None) fails e = rest-good c before k p
+  event-good calm (event.Resume g) fails e = absurd (clash (is_ready c.locks.holds (wait_of c.locks g)) e (nobody-ready c.locks g calm))
+    where
+      clash : (q : Bool) → q ≡ true → q ≡ false → ⊥
+      clash q e f = grind arith
+  event-good calm event.Round fails e = rest-good c before k p

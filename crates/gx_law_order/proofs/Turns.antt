@@ -22,12 +22,15 @@ use Rattle.gx_rules.specs.Maps.{with_at}
 use Rattle.gx_rules.specs.Snapshots.{latest_number}
 use Rattle.gx_law_order.specs.Seen.{AreEndedSeen}
 use Rattle.gx_law_order.proofs.Ends.{AtOne, at-commits, at-falls, at-runs, greater-facts, past-at}
-use Rattle.gx_law_order.proofs.Lists.{Each}
+use Rattle.gx_law_order.proofs.Lists.{Each, each_append}
 use Rattle.gx_law_order.proofs.Past.{Past, Still, aborted-append, committed-append, running-drawn, seen-append, still-committed, still-seen}
 use Rattle.gx_law_order.proofs.Sessions.{Change, Kept, Placed, Tied, is_open_in, is_said, kept-new, kept-own, stage_of}
 use Rattle.gx_law_order.proofs.Stages.{IsWhole, gx}
 use Rattle.gx_law_order.proofs.Statuses.{Falls, Stage, Turned, is_running, stage}
 use Rattle.gx_law_order.proofs.Statuses.Stage.{Absent, Live, Closing, Finished, Dropped}
+use Rattle.gx_law_order.proofs.Calm.{each-released}
+use Rattle.gx_rules.specs.Locks.{release_marks}
+use Rattle.gx_store.specs.Refusals.{the_coordinator}
 
 -- what an event leaves
 pub record Good (before : List Mark) (turn : CoordTurn) : Type 0 where
@@ -146,11 +149,14 @@ module _ (c c1 : Coord) (g s : ℕ) (w1 : Work) (y : Session) (said : Stage) (k 
   drawn-here r = (running-drawn c1 g b.whole1 (ap is_running stage-is ∙ r)).1
 
   module _ (before : List Mark) (p : Past c1 before) where
+    back-still : Each Still (release_marks the_coordinator c1.locks (gx g))
+    back-still = each-released Still the_coordinator c1.locks (gx g) (λ claim. tt)
+
     -- a commit
     pub closed-good : (turn : Turn) (How : Stage → Stage → Outcome → Type 0) → (t : Turned c1.table g turn How) → is_running said ≡ true → turn.out.outcome ≡ outcome.Committed → ((stage t.now ≡ Finished) ⊎ (stage t.now ≡ Absent)) → is_open_in (after_done y.state).block ≡ false → Good before (is_closed c1 (gx g) turn)
     closed-good turn How t r o how closed =
-        let said_last : List Mark = answer_mark c1 (work_of c1 (gx g)).session (answer_at_commit (work_of c1 (gx g)) (session_of c1 (work_of c1 (gx g)).session).state.pending) ∷ [] in
-        let still : Each Still said_last = (tt, tt) in
+        let said_last : List Mark = answer_mark c1 (work_of c1 (gx g)).session (answer_at_commit (work_of c1 (gx g)) (session_of c1 (work_of c1 (gx g)).session).state.pending) ∷ release_marks the_coordinator c1.locks (gx g) in
+        let still : Each Still said_last = (tt, back-still) in
         record {
           kept = reset-kept _ t.now (record y { state = after_done y.state }) t.at.whole t.at.finds (λ j. refl) (session-set (λ x. record x { state = after_done x.state })) unsaid b.same_txn closed;
           past = past-at c1 _ before (mark.Commit (gx g) ∷ said_last) g t.now p t.at.next t.at.finds (commit-elsewhere g said_last still) (subst (λ q. latest_number c1.table.latest_ended ≤ latest_number q) (sym t.latest) facts.0)
@@ -206,8 +212,8 @@ module _ (c c1 : Coord) (g s : ℕ) (w1 : Work) (y : Session) (said : Stage) (k 
 
     pub refused-good : (turn : Turn) (How : Stage → Stage → Outcome → Type 0) (why : List Mark) (reason : Refused) → (t : Turned c1.table g turn How) → is_running said ≡ true → ((stage t.now ≡ Dropped) ⊎ ((stage t.now ≡ Absent) × (turn.out.outcome ≡ outcome.Ended))) → Each Still why → is_open_in (after_refused y.state).block ≡ false → Good before (is_refused c1 (gx g) turn why reason)
     refused-good turn How why reason t r how e closed =
-        let said_last : List Mark = answer_mark c1 (work_of c1 (gx g)).session (told.Refused reason) ∷ [] in
-        let still : Each Still said_last = (tt, tt) in
+        let said_last : List Mark = answer_mark c1 (work_of c1 (gx g)).session (told.Refused reason) ∷ release_marks the_coordinator c1.locks (gx g) in
+        let still : Each Still said_last = (tt, back-still) in
         record {
           kept = reset-kept _ t.now (record y { state = after_refused y.state }) t.at.whole t.at.finds (λ j. refl) (session-set (λ x. record x { state = after_refused x.state })) (unsaid-end (stage t.now) turn.out.outcome how) b.same_txn closed;
           past = abort-past _ turn How t refl r how (why ++ mark.Abort (gx g) ∷ said_last) (λ h. no-commit why said_last g h (still-committed why (gx h) e) still) (abort-here g why said_last);
@@ -216,10 +222,11 @@ module _ (c c1 : Coord) (g s : ℕ) (w1 : Work) (y : Session) (said : Stage) (k 
 
     pub rolled-good : (turn : Turn) (How : Stage → Stage → Outcome → Type 0) (marks : List Mark) → (t : Turned c1.table g turn How) → is_running said ≡ true → ((stage t.now ≡ Dropped) ⊎ ((stage t.now ≡ Absent) × (turn.out.outcome ≡ outcome.Ended))) → Each Still marks → is_open_in y.state.block ≡ false → Good before (rolls_back c1 (gx g) marks turn)
     rolled-good turn How marks t r how e closed =
+        let all : Each Still (marks ++ release_marks the_coordinator c1.locks (gx g)) = each_append Still marks _ e back-still in
         record {
           kept = reset-kept _ t.now y t.at.whole t.at.finds (λ j. refl) same-sessions (unsaid-end (stage t.now) turn.out.outcome how) b.same_txn closed;
-          past = abort-past _ turn How t refl r how _ (λ h. still-committed marks (gx h) e) (abort-here g [] marks);
-          seen = abort-seen before [] marks (gx g) tt e;
+          past = abort-past _ turn How t refl r how _ (λ h. still-committed (marks ++ release_marks the_coordinator c1.locks (gx g)) (gx h) all) (abort-here g [] (marks ++ release_marks the_coordinator c1.locks (gx g)));
+          seen = abort-seen before [] (marks ++ release_marks the_coordinator c1.locks (gx g)) (gx g) tt all;
         }
 
     pub falls-is : (a : Stage) (o : Outcome) → Falls a o → (a ≡ Dropped) ⊎ ((a ≡ Absent) × (o ≡ outcome.Ended))

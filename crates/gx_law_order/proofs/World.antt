@@ -77,7 +77,7 @@ segment-still script i one (m ∷ ms) e = (tt, segment-still script i one ms e.1
 module _ (script : Script) (w : World) (n : Knows script w) (e : Event) (x : NodeEvent) (fails : Bool) where
   coord-knows : coord_can script w.coord x ≡ true → Well script (coord_did w e (coord_rule script w.coord x fails)) → Knows script (coord_did w e (coord_rule script w.coord x fails))
   coord-knows ok well =
-      let f = event-good script w.coord (marks_in w.steps) n.kept n.past x fails ok in
+      let f = event-good script w.coord (marks_in w.steps) n.kept n.past n.well.coordinator.locks x fails ok in
       let turn : CoordTurn = on_event script w.coord x fails in
       let sent : List Mark = numbered turn.coord.sent turn.outs in
       let still : Each Still sent = numbered-still turn.coord.sent turn.outs in

@@ -565,7 +565,7 @@ module _ (script : Script) (some : 1 ≤ script.segments) where
       record {
         lows = coord-low script w k v q.lows e x fails ok d;
         ends = coord-ends script w k v q.lows q.ends e x fails (event-leads script w k v x fails ok d) (event-pass script w k v q.lows x fails ok d)
-            (event-good script w.coord (marks_in w.steps) k.kept k.past x fails ok).past (event-good script w.coord (marks_in w.steps) k.kept k.past x fails ok).kept.whole;
+            (event-good script w.coord (marks_in w.steps) k.kept k.past k.well.coordinator.locks x fails ok).past (event-good script w.coord (marks_in w.steps) k.kept k.past k.well.coordinator.locks x fails ok).kept.whole;
       }
 
   pub seg-facts : (w : World) → Knows script w → Holds script w → Facts w → (e : Event) (x : NodeEvent) (fails : Bool) (i : ℕ) → IsSegment script (at i) → HeardAt script w e i x → Facts (seg_did w (at i) e (seg_rule script (w.segs i) x fails))

@@ -117,7 +117,7 @@ module _ (script : Script) (w : World) (k : Knows script w) (v : Holds script w)
   table2 = turn.coord.table
 
   pub by : WentBy w.coord (coordinator.on_event script w.coord x fails)
-  by = event-went script w.coord q.stood (latest script w k) x fails
+  by = event-went script w.coord q.stood (latest script w k) k.well.coordinator.locks x fails
 
   kept-letter : (l : Letter) → SaidIn w l × LetterLow w.coord.table w.coord.works l → LetterLow turn.coord.table turn.coord.works l
   kept-letter l f = (low-then (horizon_of w.coord.table) (horizon_of table2) l.envelope.message by.went.low f.1.0, by.went.fine l.envelope.message (counted script w k (segment_of l) l.envelope.message f.0) f.1.1)

@@ -164,4 +164,4 @@ module _ (script : Script) (w : World) (k : Knows script w) (v : Holds script w)
   said-in here.Round d = tt
 
   pub event-leads : (x : NodeEvent) (fails : Bool) → coord_can script w.coord x ≡ true → SaidTo w x → Led script (parts_in w) w.coord (marks_in w.steps) (on_event script w.coord x fails)
-  event-leads x fails ok d = event-led script (parts_in w) w.coord (marks_in w.steps) v.stands k.kept k.past (λ g. (k.well.coordinator.works g).writers) x fails ok (said-in x d)
+  event-leads x fails ok d = event-led script (parts_in w) w.coord (marks_in w.steps) v.stands k.kept k.past (λ g. (k.well.coordinator.works g).writers) k.well.coordinator.locks x fails ok (said-in x d)

@@ -46,8 +46,9 @@ use Rattle.gx_store.specs.declared.node.NodeEvent.TheVariants as event
 use Rattle.gx_store.specs.Marks.{is_committed}
 use Rattle.gx_store.specs.Points.{marks_in}
 use Rattle.gx_store.specs.Writes.{dist_of}
+use Rattle.gx_store.specs.declared.answer.StmtAnswer.TheVariants as told
 use Rattle.gx_rules.specs.AtCoordinator as coordinator
-use Rattle.gx_rules.specs.AtCoordinator.{Reading, answer_mark, answers, awaited, begins, command_order, completes, coord_can, dispatches, ends_in, enlisted_all, failure_marks, fault_mark, follows, goes, goes_on, goes_out, is_awaited, is_idle, is_nothing, is_refused, next_cid, next_line, nodes_in, on_answer, on_done, on_failed, on_line, on_message, on_status, order_to, orders_of, reads_by, reads_for, reason_of, refusal_of, resends, rolls_back, starts, starts_line, status_order, table_of, takes_done, takes_snapshot, with_done}
+use Rattle.gx_rules.specs.AtCoordinator.{Reading, answer_mark, answers, awaited, begins, command_order, completes, coord_can, dispatches, ends_in, enlisted_all, failure_marks, fault_mark, follows, goes, goes_on, goes_out, is_awaited, is_idle, is_nothing, is_refused, next_cid, next_line, nodes_in, on_answer, on_done, on_failed, on_line, on_message, on_status, order_to, orders_of, reads_by, reads_for, reason_of, refusal_of, resends, rolls_back, starts, starts_line, status_order, table_of, takes_done, takes_snapshot, with_done, goes_on_locked, if_granted, lock_for, requests, resumes}
 use Rattle.gx_rules.specs.Coordinators.{Command, Coord, CoordTurn, Session, rests, session_of, with_state, with_work, work_of}
 use Rattle.gx_rules.specs.Fits.{fits_part}
 use Rattle.gx_rules.specs.Machine.{World}
@@ -72,6 +73,11 @@ use Rattle.gx_law_reads.proofs.Plain.{NoExec, abort-mild, commit-mild, reply-mil
 use Rattle.gx_law_reads.proofs.Reading.{CommandLow, OrderLow, Stood, self}
 use Rattle.gx_law_reads.proofs.Steps.{SaidTo}
 use Rattle.gx_law_reads.proofs.Turns.{none-some, some-same}
+use Rattle.gx_rules.specs.Locks.{with_hold, hold_mark, release_marks}
+use Rattle.gx_locks.specs.Locks.{Locks}
+use Rattle.gx_waits.specs.declared.claim.Claim.{Claim}
+use Rattle.gx_store.specs.Refusals.{the_coordinator}
+use Rattle.gx_law_order.proofs.Calm.{AreCalm, calm-free, each-released, lock-calm, nobody-waits}
 
 abbrev pub NoCommit : Mark → Type 0
 NoCommit (mark.Commit g) = ⊥
@@ -142,22 +148,25 @@ module _ (script : Script) (w : World) (k : Knows script w) (v : Holds script w)
   rest = plain (rests w.coord) tt tt
 
   -- ENDS
+  back-none : (locks : Locks) (g : Gxid) → Each NoCommit (release_marks the_coordinator locks g)
+  back-none locks g = each-released NoCommit the_coordinator locks g (λ claim. tt)
+
   follows-pass : (c1 : Coord) (g : ℕ) (turn : Turn) (o : Outcome) → Each (λ (o : Out). NoExec o.message) turn.out.outs → (o ≡ outcome.Committed → AllTaken g) → Passes (follows c1 (gx g) turn o)
   follows-pass c1 g turn outcome.Pending e can = plain (follows c1 (gx g) turn outcome.Pending) (sent-live turn.table turn.out.outs e) tt
   follows-pass c1 g turn outcome.Decided e can = plain (follows c1 (gx g) turn outcome.Decided) (sent-live turn.table turn.out.outs e) (tt, tt)
-  follows-pass c1 g turn (outcome.Refused i) e can = plain (follows c1 (gx g) turn (outcome.Refused i)) (sent-live turn.table turn.out.outs e) (each_append NoCommit (failure_marks i (gx g)) _ (failure-none i (gx g)) (tt, (tt, tt)))
+  follows-pass c1 g turn (outcome.Refused i) e can = plain (follows c1 (gx g) turn (outcome.Refused i)) (sent-live turn.table turn.out.outs e) (each_append NoCommit (failure_marks i (gx g)) _ (failure-none i (gx g)) (tt, (tt, back-none c1.locks (gx g))))
   follows-pass c1 g turn outcome.Ended e can = plain (follows c1 (gx g) turn outcome.Ended) (sent-live turn.table turn.out.outs e) tt
-  follows-pass c1 g turn outcome.Committed e can = record { outs = sent-live turn.table turn.out.outs e; takes = λ h f. subst AllTaken (same g h f) (can refl) }
+  follows-pass c1 g turn outcome.Committed e can = record { outs = sent-live turn.table turn.out.outs e; takes = λ h f. subst AllTaken (same g h (ap (λ b. eqb g h || b) (sym (committed-none (release_marks the_coordinator c1.locks (gx g)) (gx h) (back-none c1.locks (gx g)))) ∙ f)) (can refl) }
     where
       same : (g h : ℕ) → (eqb g h || false) ≡ true → g ≡ h
       same g h f = grind (arith, nat_tests)
 
   refused-pass : (c1 : Coord) (g : ℕ) (why : List Mark) (reason : Refused) → Each NoCommit why → Passes (is_refused c1 (gx g) (on_abort c1.table (gx g)) why reason)
   refused-pass c1 g why reason e =
-      plain (is_refused c1 (gx g) (on_abort c1.table (gx g)) why reason) (sent-live (on_abort c1.table (gx g)).table (on_abort c1.table (gx g)).out.outs (abort-mild (gx g) (find_txn c1.table (gx g))).sent) (each_append NoCommit why _ e (tt, (tt, tt)))
+      plain (is_refused c1 (gx g) (on_abort c1.table (gx g)) why reason) (sent-live (on_abort c1.table (gx g)).table (on_abort c1.table (gx g)).out.outs (abort-mild (gx g) (find_txn c1.table (gx g))).sent) (each_append NoCommit why _ e (tt, (tt, back-none c1.locks (gx g))))
 
   rolled-pass : (c1 : Coord) (g : ℕ) (marks : List Mark) → Each NoCommit marks → Passes (rolls_back c1 (gx g) marks (on_abort c1.table (gx g)))
-  rolled-pass c1 g marks e = plain (rolls_back c1 (gx g) marks (on_abort c1.table (gx g))) (sent-live (on_abort c1.table (gx g)).table (on_abort c1.table (gx g)).out.outs (abort-mild (gx g) (find_txn c1.table (gx g))).sent) (tt, e)
+  rolled-pass c1 g marks e = plain (rolls_back c1 (gx g) marks (on_abort c1.table (gx g))) (sent-live (on_abort c1.table (gx g)).table (on_abort c1.table (gx g)).out.outs (abort-mild (gx g) (find_txn c1.table (gx g))).sent) (tt, each_append NoCommit marks _ e (back-none c1.locks (gx g)))
 
   commits-pass : (c1 : Coord) (g : ℕ) → AllTaken g → Passes (coordinator.commits c1 (gx g))
   commits-pass c1 g can = follows-pass c1 g (on_commit c1.table (gx g) (c1.works g).writers) (on_commit c1.table (gx g) (c1.works g).writers).out.outcome (commit-mild (gx g) (c1.works g).writers (find_txn c1.table (gx g))).sent (λ e. can)
@@ -293,8 +302,8 @@ module _ (script : Script) (w : World) (k : Knows script w) (v : Holds script w)
         (out-live (enlisted_all r.coord.table (gx g) (nodes_in pieces)) ((all-enlist (nodes_in pieces) r.coord.table g).same ∙ f.same ∙ live) (next_cid (c1.works g)) (r.coord.works g).level r.snapshot (horizon_of r.coord.table) pieces) n
     goes-pass line r f n (Err fault) = refused-pass r.coord g (r.marks ++ fault_mark (gx g) (next_cid (c1.works g)) line) (refusal_of fault) (each_append NoCommit r.marks _ n (fault-none (gx g) (next_cid (c1.works g)) line))
 
-    dispatch-pass : (line : Stmt) → Passes (dispatches script c1 (gx g) line)
-    dispatch-pass line =
+    locked-pass : (line : Stmt) → Passes (goes_on_locked script c1 (gx g) line)
+    locked-pass line =
         goes-pass line (reads_for c1 (gx g) (next_cid (c1.works g)) (c1.works g) line) (reads-for c1 g s1 l1 (next_cid (c1.works g)) line) (for-none (next_cid (c1.works g)) line) (plan_of script.segments (dist_of script.tables (table_of line)) (gx g) (next_cid (c1.works g)) line)
 
   behind-pass : (m : Mark) (turn : CoordTurn) → NoCommit m → Passes turn → Passes (coordinator.behind (m ∷ []) turn)
@@ -302,6 +311,17 @@ module _ (script : Script) (w : World) (k : Knows script w) (v : Holds script w)
     where
       skip : (m : Mark) (g : ℕ) → NoCommit m → is_committed (m ∷ turn.marks) (gx g) ≡ is_committed turn.marks (gx g)
       skip m g e = committed-append (m ∷ []) turn.marks (gx g) ∙ ap (λ b. b || is_committed turn.marks (gx g)) (committed-none (m ∷ []) (gx g) (e, tt))
+
+  -- WITH ITS TABLE'S LOCK
+  module _ (c1 : Coord) (g : ℕ) (s1 : Stood c1.table c1.works) (l1 : Latest c1.table) (live : stage_of c1 g ≡ Running) (calm : AreCalm c1.locks) (line : Stmt) where
+    request-pass : (o : Option Claim) → lock_for (gx g) line ≡ o → Passes (requests script c1 (gx g) line o)
+    request-pass None e = locked-pass c1 g s1 l1 live line
+    request-pass (Some wanted) e =
+        subst (λ q. Passes (if_granted script c1 (gx g) line wanted q)) (sym (calm-free c1.locks wanted calm (lock-calm (gx g) line wanted e)))
+        (behind-pass (hold_mark the_coordinator wanted) (goes_on_locked script (record c1 { locks = with_hold c1.locks wanted }) (gx g) line) tt (locked-pass (record c1 { locks = with_hold c1.locks wanted }) g s1 l1 live line))
+
+    dispatch-pass : Passes (dispatches script c1 (gx g) line)
+    dispatch-pass = request-pass (lock_for (gx g) line) refl
 
   -- LINES
   module _ (s : SessionId) (idle : is_nothing_in (session_of w.coord s).state.pending ≡ true) where
@@ -344,13 +364,13 @@ module _ (script : Script) (w : World) (k : Knows script w) (v : Holds script w)
     line-pass line step.Refuse7 a = plain (on_line script (started step.Refuse7) s line step.Refuse7) tt (tt, tt)
     line-pass line (step.BeginBlock level) a = plain (on_line script (started (step.BeginBlock level)) s line (step.BeginBlock level)) tt (tt, (tt, tt))
     line-pass line step.CommitBlock a = commits-pass (started step.CommitBlock) (session_of (started step.CommitBlock) s).transaction.0 (subst AllTaken (sym (own-same step.CommitBlock)) (idle-taken a))
-    line-pass line step.RollbackBlock a = rolled-pass (started step.RollbackBlock) (session_of (started step.RollbackBlock) s).transaction.0 _ (tt, tt)
+    line-pass line step.RollbackBlock a = rolled-pass (started step.RollbackBlock) (session_of (started step.RollbackBlock) s).transaction.0 (answer_mark (started step.RollbackBlock) s told.Rollback ∷ []) (tt, tt)
     line-pass line (step.Command true) a =
         behind-pass (mark.Start w.coord.table.next s) (dispatches script (begins (started (step.Command true)) s ReadCommitted) w.coord.table.next line) tt
         (dispatch-pass (begins (started (step.Command true)) s ReadCommitted) w.coord.table.next.0 (begins-went w.coord.table w.coord.works s ReadCommitted q.stood).stood (begins-latest w.coord.table w.coord.works s ReadCommitted q.stood (latest script w k))
-        (ap stage (begun-find w.coord.table w.coord.table.next.0 q.stood.sorted ∙ ap (λ b. Rattle.std.proofs.Common.cond b (Some new_txn) (find_txn w.coord.table w.coord.table.next)) (self w.coord.table.next.0))) line)
+        (ap stage (begun-find w.coord.table w.coord.table.next.0 q.stood.sorted ∙ ap (λ b. Rattle.std.proofs.Common.cond b (Some new_txn) (find_txn w.coord.table w.coord.table.next)) (self w.coord.table.next.0))) k.well.coordinator.locks line)
     line-pass line (step.Command false) a =
-        dispatch-pass (started (step.Command false)) (session_of (started (step.Command false)) s).transaction.0 q.stood (latest script w k) (subst (λ z. stage_of w.coord z ≡ Running) (sym (own-same (step.Command false))) (own-live a)) line
+        dispatch-pass (started (step.Command false)) (session_of (started (step.Command false)) s).transaction.0 q.stood (latest script w k) (subst (λ z. stage_of w.coord z ≡ Running) (sym (own-same (step.Command false))) (own-live a)) k.well.coordinator.locks line
 
     start-pass : (line : Option Stmt) → Passes (starts script w.coord s line)
     start-pass None = rest
@@ -419,5 +439,5 @@ module _ (script : Script) (w : World) (k : Knows script w) (v : Holds script w)
   event-pass (event.End s) fails e d = end-pass s (idle-first s _ e) (session_of w.coord s).state.block
   event-pass (event.Resend i (Some g)) fails e d = again-pass i g.0 (awaited w.coord g i) refl
   event-pass (event.Resend i None) fails e d = rest
-  event-pass (event.Resume g) fails e d = rest
+  event-pass (event.Resume g) fails e d = subst (λ o. Passes (resumes script w.coord g o (w.coord.works g.0).waiting)) (sym (nobody-waits w.coord.locks g k.well.coordinator.locks)) rest
   event-pass event.Round fails e d = rest

@@ -31,7 +31,7 @@ use Rattle.gx_store.specs.declared.answer.Refused.{Refused}
 use Rattle.gx_store.specs.declared.mark.Mark.{Mark}
 use Rattle.gx_store.specs.Schedule.{is_about}
 use Rattle.gx_store.specs.Writes.{dist_of}
-use Rattle.gx_rules.specs.AtCoordinator.{Reading, answers, awaited, commits, completes, dispatches, enlisted_all, fault_mark, follows, goes, goes_on, goes_out, is_refused, kept_at, next_cid, nodes_in, order_to, orders_of, reads_by, reads_for, refusal_of, rolls_back, status_order, table_of, takes_snapshot, unless_kept}
+use Rattle.gx_rules.specs.AtCoordinator.{Reading, answers, awaited, commits, completes, dispatches, enlisted_all, fault_mark, follows, goes, goes_on, goes_out, is_refused, kept_at, next_cid, nodes_in, order_to, orders_of, reads_by, reads_for, refusal_of, rolls_back, status_order, table_of, takes_snapshot, unless_kept, goes_on_locked, if_granted, lock_for, requests}
 use Rattle.gx_rules.specs.Coordinators.{Command, Coord, CoordTurn, Work, no_work, rests}
 use Rattle.gx_rules.specs.Snapshots.{snapshot_of}
 use Rattle.gx_law_order.proofs.Closings.{live-at, set_live}
@@ -41,6 +41,9 @@ use Rattle.gx_law_commit.proofs.Dispatching.{IsLive}
 use Rattle.gx_law_commit.proofs.Nodes.{AreApart, apart-with, has-with}
 use Rattle.gx_law_schedules.proofs.Neat.{CallAsks, IsDone, IsExecOf, Neat, NeatCommand, NeatPhase, NeatTxn, abort-asks, commit-asks, done-neat, done-waiting, txn-less, waiting}
 use Rattle.gx_law_schedules.proofs.Told.{ArePlanApart, orders-other, plan-apart, sends, sends-orders, told-orders, told-other, told_by}
+use Rattle.gx_rules.specs.Locks.{with_hold}
+use Rattle.gx_waits.specs.declared.claim.Claim.{Claim}
+use Rattle.gx_law_order.proofs.Calm.{AreCalm, calm-free, lock-calm}
 
 -- what was asked before, by node and transaction
 abbrev pub Asked : Type 0
@@ -365,7 +368,19 @@ module _ (c : Coord) (whole : IsWhole c.table) (n : AreNeat c) (g : ℕ) (live :
       by_test i true q = refl
       by_test i false q = active i ∙ sym (live-none r.coord g f.live_there f.done_there i)
 
-  pub dispatch-asks : (script : Script) (line : Stmt) → Asks (now_asked c) (dispatches script c (gx g) line)
-  dispatch-asks script line =
+  pub locked-asks : (script : Script) (line : Stmt) → Asks (now_asked c) (goes_on_locked script c (gx g) line)
+  locked-asks script line =
       goes-asks (next_cid (c.works g)) line _ (for-asks (next_cid (c.works g)) line) (plan_of script.segments (dist_of script.tables (table_of line)) (gx g) (next_cid (c.works g)) line)
       (plan-apart script.segments (dist_of script.tables (table_of line)) (gx g) (next_cid (c.works g)) line)
+
+-- WITH ITS TABLE'S LOCK
+module _ (c : Coord) (whole : IsWhole c.table) (n : AreNeat c) (g : ℕ) (live : IsLive c g) (done : IsDone (c.works g).command) (calm : AreCalm c.locks) (script : Script) (line : Stmt) where
+  request-asks : (o : Option Claim) → lock_for (gx g) line ≡ o → Asks (now_asked c) (requests script c (gx g) line o)
+  request-asks None e = locked-asks c whole n g live done script line
+  request-asks (Some wanted) e =
+      let d : Coord = record c { locks = with_hold c.locks wanted } in
+      let x = locked-asks d whole n g (record { txn = live.txn; found = live.found; active = live.active }) done script line in
+      subst (λ b. Asks (now_asked c) (if_granted script c (gx g) line wanted b)) (sym (calm-free c.locks wanted calm (lock-calm (gx g) line wanted e))) (record { asked = x.asked; sends_one = x.sends_one; neat = x.neat })
+
+  pub dispatch-asks : Asks (now_asked c) (dispatches script c (gx g) line)
+  dispatch-asks = request-asks (lock_for (gx g) line) refl

@@ -155,7 +155,7 @@ module _ (script : Script) (some : 1 ≤ script.segments) where
     step = record { stamp = record { clock = clock_after v.coord.clock x; node = the_coordinator }; event = e; marks = (coord_rule script v.coord x fails).marks }
 
     asks-now : Asks (λ i g. left_by i (gx g) (awaited v.coord (gx g) i) x) (on_event script v.coord x fails)
-    asks-now = event-asks script v.coord (world_knows script some es).kept q.neat x fails h.admitted (delivered-fits es q e x h)
+    asks-now = event-asks script v.coord (world_knows script some es).kept q.neat (world_knows script some es).well.coordinator.locks x fails h.admitted (delivered-fits es q e x h)
 
     coord-asks : DoAsk (coord_did v e (coord_rule script v.coord x fails))
     coord-asks =

@@ -191,7 +191,7 @@ module _ (script : Script) (some : 1 ≤ script.segments) (w : World) (n : Knows
     next = coord_did w e (coord_rule script w.coord x fails)
 
     serves : Serves w.coord (IsNew w.coord) (on_event script w.coord x fails)
-    serves = event-serves script w.coord n.kept q.orders neat x fails admitted
+    serves = event-serves script w.coord n.kept q.orders n.well.coordinator.locks neat x fails admitted
 
     sent-so : (outs : List Out) → Each (λ (o : Out). OutServes turn.coord o.message) outs → Each (λ (o : Out). (number : ℕ) → LetterServes next.coord (record { from = the_coordinator; to = o.node; envelope = record { number = number; clock = clock_after w.coord.clock x; message = o.message } })) outs
     sent-so [] f = tt

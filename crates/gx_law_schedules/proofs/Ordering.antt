@@ -31,7 +31,8 @@ use Rattle.gx_store.specs.declared.mark.Mark.TheVariants as mark
 use Rattle.gx_store.specs.declared.node.NodeEvent.{NodeEvent}
 use Rattle.gx_store.specs.declared.node.NodeEvent.TheVariants as event
 use Rattle.gx_store.specs.Writes.{dist_of}
-use Rattle.gx_rules.specs.AtCoordinator.{Reading, answers, awaited, begins, behind, command_order, commits, completes, coord_can, dispatches, ends_in, fault_mark, follows, goes, goes_on, goes_out, is_awaited, is_idle, is_nothing, is_refused, next_cid, next_line, on_answer, on_done, on_event, on_failed, on_line, on_message, on_status, order_to, orders_of, reads_by, reads_for, reason_of, refusal_of, resends, rolls_back, starts, starts_line, status_order, table_of, takes_done, takes_snapshot, with_done, writers_with}
+use Rattle.gx_store.specs.declared.answer.StmtAnswer.TheVariants as told
+use Rattle.gx_rules.specs.AtCoordinator.{Reading, answers, awaited, begins, behind, command_order, commits, completes, coord_can, dispatches, ends_in, fault_mark, follows, goes, goes_on, goes_out, is_awaited, is_idle, is_nothing, is_refused, next_cid, next_line, on_answer, on_done, on_event, on_failed, on_line, on_message, on_status, order_to, orders_of, reads_by, reads_for, reason_of, refusal_of, resends, rolls_back, starts, starts_line, status_order, table_of, takes_done, takes_snapshot, with_done, writers_with, goes_on_locked, if_granted, lock_for, requests, resumes, answer_mark}
 use Rattle.gx_rules.specs.Coordinators.{Command, Coord, CoordTurn, Session, Work, new_work, no_work, rests, session_of, with_session, with_work, work_of}
 use Rattle.gx_law_order.proofs.Lines.{Asks as Admits, asks as admits}
 use Rattle.gx_law_order.proofs.Lists.{Each, each_weaker}
@@ -43,6 +44,9 @@ use Rattle.gx_law_schedules.proofs.Asking.{self}
 use Rattle.gx_law_schedules.proofs.Neat.{IsExecOf, Neat, NeatCommand}
 use Rattle.gx_law_schedules.proofs.Parts.{IsFor, PlanFor, plan-for}
 use Rattle.gx_law_schedules.proofs.Serving.{AnyServes, AreFor, ForOut, IsFresh, IsOld, OrdersServe, OutServes, Serves, again, commit, no-command, old-same, order-status, received, refused, rest-serves, rolled, same, serves-map, some-same}
+use Rattle.gx_rules.specs.Locks.{with_hold}
+use Rattle.gx_waits.specs.declared.claim.Claim.{Claim}
+use Rattle.gx_law_order.proofs.Calm.{AreCalm, calm-free, lock-calm, nobody-waits}
 
 module _ (g : ℕ) (last : ℕ) where
   abbrev pub FreshAt : ℕ → Command → Type 0
@@ -123,17 +127,29 @@ module _ (g : ℕ) (last : ℕ) where
         served (message.Answer h a) s = absurd s
         served (message.Graph round graph) s = absurd s
 
-    pub dispatch-serves : (script : Script) (line : Stmt) → (c.works g).last ≡ last → Serves c FreshAt (dispatches script c (gx g) line)
-    dispatch-serves script line e =
+    pub locked-serves : (script : Script) (line : Stmt) → (c.works g).last ≡ last → Serves c FreshAt (goes_on_locked script c (gx g) line)
+    locked-serves script line e =
         goes-serves (next_cid (c.works g)) line _ (plan_of script.segments (dist_of script.tables (table_of line)) (gx g) (next_cid (c.works g)) line) (ap (λ n. n + 1) e) (for-serve (next_cid (c.works g)) line)
         (plan-for script.segments (dist_of script.tables (table_of line)) (gx g) (next_cid (c.works g)) line)
+
+  -- WITH ITS TABLE'S LOCK
+  module _ (c : Coord) (calm : AreCalm c.locks) (script : Script) (line : Stmt) (e : (c.works g).last ≡ last) where
+    request-serves : (o : Option Claim) → lock_for (gx g) line ≡ o → Serves c FreshAt (requests script c (gx g) line o)
+    request-serves None q = locked-serves c script line e
+    request-serves (Some wanted) q =
+        let d : Coord = record c { locks = with_hold c.locks wanted } in
+        let x = serves-map c d FreshAt FreshAt (goes_on_locked script d (gx g) line) (λ h m o. record { was = o.was; is = o.is; line = o.line; counted = o.counted; orders = o.orders }) (λ h m f. f) (locked-serves d script line e) in
+        subst (λ b. Serves c FreshAt (if_granted script c (gx g) line wanted b)) (sym (calm-free c.locks wanted calm (lock-calm (gx g) line wanted q))) (record { commands = x.commands; outs = x.outs })
+
+    pub dispatch-serves : Serves c FreshAt (dispatches script c (gx g) line)
+    dispatch-serves = request-serves (lock_for (gx g) line) refl
 
 -- ALL EVENTS
 -- a command that goes out is the next of a transaction that runs, or the first of one that begins
 abbrev pub IsNew : Coord → ℕ → Command → Type 0
 IsNew c h m = ((IsLive c h × IsFresh (c.works h).last m) ⊎ ((h ≡ c.table.next.0) × IsFresh 0 m))
 
-module _ (script : Script) (c : Coord) (k : Kept c) (own : OrdersServe c) where
+module _ (script : Script) (c : Coord) (k : Kept c) (own : OrdersServe c) (calm : AreCalm c.locks) where
   abbrev Done : CoordTurn → Type 0
   Done turn = Serves c (IsNew c) turn
 
@@ -166,7 +182,7 @@ module _ (script : Script) (c : Coord) (k : Kept c) (own : OrdersServe c) where
     alone-serves line =
         let d : Coord = begins (starts_line c s (step.Command true)) s ReadCommitted in
         let f = serves-map c d (FreshAt c.table.next.0 0) (IsNew c) (dispatches script d c.table.next line) (old-begun (step.Command true) ReadCommitted) (λ h m x. inr x)
-        (dispatch-serves c.table.next.0 0 d script line (ap (λ b. (if b then new_work s ReadCommitted else c.works c.table.next.0).last) (self c.table.next.0))) in
+        (dispatch-serves c.table.next.0 0 d calm script line (ap (λ b. (if b then new_work s ReadCommitted else c.works c.table.next.0).last) (self c.table.next.0))) in
         record { commands = f.commands; outs = f.outs }
 
     inside-serves : (line : Stmt) → is_open_in block ≡ true → Done (dispatches script (starts_line c s (step.Command false)) (session_of (starts_line c s (step.Command false)) s).transaction line)
@@ -176,7 +192,7 @@ module _ (script : Script) (c : Coord) (k : Kept c) (own : OrdersServe c) where
         subst (λ x. Done (dispatches script (starts_line c s (step.Command false)) x line)) (sym (transaction-now (step.Command false)))
         (same-base (step.Command false) _
         (serves-map (starts_line c s (step.Command false)) (starts_line c s (step.Command false)) (FreshAt g (c.works g).last) (IsNew c) _ (λ h m o. o) (λ h m x. inl (subst (λ y. IsLive c y × IsFresh (c.works y).last m) (sym x.0) (l, x.1)))
-        (dispatch-serves g (c.works g).last (starts_line c s (step.Command false)) script line refl)))
+        (dispatch-serves g (c.works g).last (starts_line c s (step.Command false)) calm script line refl)))
 
     line-serves : (line : Stmt) (asked : LineStep) → Admits block asked → Done (on_line script (starts_line c s asked) s line asked)
     line-serves line (step.Answer plain) a = same (IsNew c) c _ (λ h. refl) tt
@@ -184,7 +200,7 @@ module _ (script : Script) (c : Coord) (k : Kept c) (own : OrdersServe c) where
     line-serves line step.Refuse7 a = same (IsNew c) c _ (λ h. refl) tt
     line-serves line (step.BeginBlock level) a = begun-serves (step.BeginBlock level) level _
     line-serves line step.CommitBlock a = same-base step.CommitBlock _ (commit (IsNew c) (starts_line c s step.CommitBlock) (session_of (starts_line c s step.CommitBlock) s).transaction)
-    line-serves line step.RollbackBlock a = same-base step.RollbackBlock _ (rolled (IsNew c) (starts_line c s step.RollbackBlock) (session_of (starts_line c s step.RollbackBlock) s).transaction _)
+    line-serves line step.RollbackBlock a = same-base step.RollbackBlock _ (rolled (IsNew c) (starts_line c s step.RollbackBlock) (session_of (starts_line c s step.RollbackBlock) s).transaction (answer_mark (starts_line c s step.RollbackBlock) s told.Rollback ∷ []))
     line-serves line (step.Command true) a = alone-serves line
     line-serves line (step.Command false) a = inside-serves line a
 
@@ -260,5 +276,5 @@ module _ (script : Script) (c : Coord) (k : Kept c) (own : OrdersServe c) where
     event-serves (event.End s) fails e = end-serves s (session_of c s).state.block
     event-serves (event.Resend i (Some g)) fails e = again (IsNew c) c own i (awaited c g i) (resent g.0 i)
     event-serves (event.Resend i None) fails e = rest-serves (IsNew c) c
-    event-serves (event.Resume g) fails e = rest-serves (IsNew c) c
+    event-serves (event.Resume g) fails e = subst (λ o. Done (resumes script c g o (c.works g.0).waiting)) (sym (nobody-waits c.locks g calm)) (rest-serves (IsNew c) c)
     event-serves event.Round fails e = rest-serves (IsNew c) c

@@ -1,5 +1,5 @@
--- No node holds, waits, reports or rechecks, and a turn starts one transaction at most.
-use Rattle.std.proofs.Common.{◌≤◌, ℕ, ◌+◌, List, [], ◌∷◌, ◌++◌, Option, Some, None, Result, Ok, Err, Bool, true, false, if◌then◌else◌, ◌==◌, ◌&&◌, arith}
+-- No node waits, reports or rechecks, and a turn starts one transaction at most.
+use Rattle.std.proofs.Common.{◌≤◌, ℕ, ◌+◌, List, [], ◌∷◌, ◌++◌, Option, Some, None, Result, Ok, Err, Bool, true, false, if◌then◌else◌, ◌==◌, ◌&&◌, arith, ◌≡◌, refl, sym, subst}
 use Rattle.gx_ids.specs.declared.ids.Cid.{Cid}
 use Rattle.gx_ids.specs.declared.ids.Gxid.{Gxid}
 use Rattle.gx_ids.specs.declared.ids.Node.{Node}
@@ -36,17 +36,19 @@ use Rattle.gx_store.specs.declared.node.NodeEvent.{NodeEvent}
 use Rattle.gx_store.specs.declared.node.NodeEvent.TheVariants as event
 use Rattle.gx_store.specs.Refusals.{the_coordinator}
 use Rattle.gx_store.specs.Writes.{dist_of}
-use Rattle.gx_rules.specs.AtCoordinator.{Reading, awaited, begins, commits, completes, dispatches, ends_in, enlisted_all, failure_marks, fault_mark, follows, goes, goes_on, is_awaited, is_refused, next_cid, next_line, nodes_in, on_answer, on_done, on_event, on_failed, on_line, on_message, on_status, reads_by, reads_for, reason_of, refusal_of, resends, starts, starts_line, table_of, takes_done, unless_kept, with_done, writers_with}
+use Rattle.gx_rules.specs.AtCoordinator.{Reading, awaited, begins, commits, completes, dispatches, ends_in, enlisted_all, failure_marks, fault_mark, follows, goes, goes_on, is_awaited, is_refused, next_cid, next_line, nodes_in, on_answer, on_done, on_event, on_failed, on_line, on_message, on_status, reads_by, reads_for, reason_of, refusal_of, resends, starts, starts_line, table_of, takes_done, unless_kept, with_done, writers_with, goes_on_locked, if_granted, lock_for, requests, resumes}
 use Rattle.gx_rules.specs.Coordinators.{Command, Coord, CoordTurn, Work, rests, session_of, with_work, work_of}
 use Rattle.gx_rules.specs.Fits.{fits_part}
 use Rattle.gx_rules.specs.Sending.{counted, numbered}
 use Rattle.gx_law_order.proofs.Lists.{Each, each_append}
+use Rattle.gx_rules.specs.Locks.{release_marks, with_hold}
+use Rattle.gx_locks.specs.Locks.{Locks}
+use Rattle.gx_waits.specs.declared.claim.Claim.{Claim}
+use Rattle.gx_law_order.proofs.Calm.{AreCalm, calm-free, each-released, lock-calm, nobody-waits}
 
--- a mark that tells of no lock and of no round
+-- a mark that tells of no wait and of no round
 abbrev pub IsCalm : Mark → Type 0
-IsCalm (mark.Hold n g object mode) = ⊥
 IsCalm (mark.Wait n g object mode) = ⊥
-IsCalm (mark.Release n g object mode) = ⊥
 IsCalm (mark.Report n round graph) = ⊥
 IsCalm (mark.Recheck round own verdict) = ⊥
 IsCalm _ = Unit {0}
@@ -61,6 +63,10 @@ pub record IsStill (limit : ℕ) (turn : CoordTurn) : Type 0 where
   pub next : turn.coord.table.next.0 ≤ limit
 
 module _ (limit : ℕ) where
+  -- locks that are given back
+  back-calm : (locks : Locks) (g : Gxid) → Each IsCalm (release_marks the_coordinator locks g)
+  back-calm locks g = each-released IsCalm the_coordinator locks g (λ claim. tt)
+
   failure-still : (i : Node) (g : Gxid) → Each IsCalm (failure_marks i g)
   failure-still i g = by_test (i.0 == 0)
     where
@@ -69,12 +75,12 @@ module _ (limit : ℕ) where
       by_test false = tt
 
   refused-still : (c : Coord) (g : Gxid) (turn : Turn) (why : List Mark) (reason : Refused) → turn.table.next.0 ≤ limit → Each IsCalm why → IsStill limit (is_refused c g turn why reason)
-  refused-still c g turn why reason n e = record { marks = each_append IsCalm why _ e (tt, (tt, tt)); next = n }
+  refused-still c g turn why reason n e = record { marks = each_append IsCalm why _ e (tt, (tt, back-calm c.locks g)); next = n }
 
   follow-still : (c : Coord) (g : Gxid) (turn : Turn) (o : Outcome) → turn.table.next.0 ≤ limit → IsStill limit (follows c g turn o)
   follow-still c g turn outcome.Pending n = record { marks = tt; next = n }
   follow-still c g turn outcome.Decided n = record { marks = (tt, tt); next = n }
-  follow-still c g turn outcome.Committed n = record { marks = (tt, (tt, tt)); next = n }
+  follow-still c g turn outcome.Committed n = record { marks = (tt, (tt, back-calm c.locks g)); next = n }
   follow-still c g turn (outcome.Refused i) n = refused-still c g turn (failure_marks i g) _ n (failure-still i g)
   follow-still c g turn outcome.Ended n = record { marks = tt; next = n }
 
@@ -116,9 +122,19 @@ module _ (limit : ℕ) where
   goes-still g cid line r (Err fault) f =
       refused-still r.coord g (on_abort r.coord.table g) (r.marks ++ fault_mark g cid line) (refusal_of fault) f.next (each_append IsCalm r.marks (fault_mark g cid line) f.marks (fault-still g cid line))
 
-  dispatch-still : (script : Script) (c : Coord) (g : Gxid) (line : Stmt) → c.table.next.0 ≤ limit → IsStill limit (dispatches script c g line)
-  dispatch-still script c g line n =
+  locked-still : (script : Script) (c : Coord) (g : Gxid) (line : Stmt) → c.table.next.0 ≤ limit → IsStill limit (goes_on_locked script c g line)
+  locked-still script c g line n =
       goes-still g (next_cid (work_of c g)) line (reads_for c g (next_cid (work_of c g)) (work_of c g) line) (plan_of script.segments (dist_of script.tables (table_of line)) g (next_cid (work_of c g)) line) (for-still c g (next_cid (work_of c g)) (work_of c g) line n)
+
+  -- with its table's lock
+  request-still : (script : Script) (c : Coord) (g : Gxid) (line : Stmt) → AreCalm c.locks → c.table.next.0 ≤ limit → (o : Option Claim) → lock_for g line ≡ o → IsStill limit (requests script c g line o)
+  request-still script c g line calm n None e = locked-still script c g line n
+  request-still script c g line calm n (Some wanted) e =
+      subst (λ b. IsStill limit (if_granted script c g line wanted b)) (sym (calm-free c.locks wanted calm (lock-calm g line wanted e)))
+      (let x = locked-still script (record c { locks = with_hold c.locks wanted }) g line n in record { marks = (tt, x.marks); next = x.next })
+
+  dispatch-still : (script : Script) (c : Coord) (g : Gxid) (line : Stmt) → AreCalm c.locks → c.table.next.0 ≤ limit → IsStill limit (dispatches script c g line)
+  dispatch-still script c g line calm n = request-still script c g line calm n (lock_for g line) refl
 
   -- ANSWERS
   kept-next : (level : Level) (d : Table) (g : Gxid) → d.next.0 ≤ limit → (unless_kept level d g).next.0 ≤ limit
@@ -182,28 +198,28 @@ module _ (limit : ℕ) where
     again-still i (Some m) = record { marks = tt; next = n }
 
     end-still : (s : SessionId) (b : Block) → IsStill limit (ends_in c s b)
-    end-still s (Open level) = record { marks = (tt, tt); next = n }
+    end-still s (Open level) = record { marks = (tt, back-calm c.locks (session_of c s).transaction); next = n }
     end-still s Failed = record { marks = tt; next = n }
     end-still s Outside = rest-still c n
 
   -- LINES
-  module _ (script : Script) (c : Coord) (n : c.table.next.0 ≤ limit) (more : c.table.next.0 + 1 ≤ limit) where
+  module _ (script : Script) (c : Coord) (calm : AreCalm c.locks) (n : c.table.next.0 ≤ limit) (more : c.table.next.0 + 1 ≤ limit) where
     line-still : (s : SessionId) (line : Stmt) (asked : LineStep) → IsStill limit (on_line script c s line asked)
     line-still s line (step.Answer plain) = record { marks = (tt, tt); next = n }
     line-still s line step.Refuse5 = record { marks = (tt, tt); next = n }
     line-still s line step.Refuse7 = record { marks = (tt, tt); next = n }
     line-still s line (step.BeginBlock level) = record { marks = (tt, (tt, tt)); next = more }
     line-still s line step.CommitBlock = commit-still c (session_of c s).transaction n
-    line-still s line step.RollbackBlock = record { marks = (tt, (tt, tt)); next = n }
+    line-still s line step.RollbackBlock = record { marks = (tt, (tt, back-calm c.locks (session_of c s).transaction)); next = n }
     line-still s line (step.Command true) =
-        let x = dispatch-still script (begins c s ReadCommitted) c.table.next line more in
+        let x = dispatch-still script (begins c s ReadCommitted) c.table.next line calm more in
         record { marks = (tt, x.marks); next = x.next }
-    line-still s line (step.Command false) = dispatch-still script c (session_of c s).transaction line n
+    line-still s line (step.Command false) = dispatch-still script c (session_of c s).transaction line calm n
 
-  module _ (script : Script) (c : Coord) (n : c.table.next.0 ≤ limit) (more : c.table.next.0 + 1 ≤ limit) where
+  module _ (script : Script) (c : Coord) (calm : AreCalm c.locks) (n : c.table.next.0 ≤ limit) (more : c.table.next.0 + 1 ≤ limit) where
     start-still : (s : SessionId) (o : Option Stmt) → IsStill limit (starts script c s o)
     start-still s None = rest-still c n
-    start-still s (Some line) = line-still script (starts_line c s (line_step (session_of c s).state.block line)) n more s line (line_step (session_of c s).state.block line)
+    start-still s (Some line) = line-still script (starts_line c s (line_step (session_of c s).state.block line)) calm n more s line (line_step (session_of c s).state.block line)
 
     event-in : (x : NodeEvent) (fails : Bool) → IsStill limit (on_event script c x fails)
     event-in (event.Deliver from envelope) fails = message-still c n from fails envelope.message
@@ -211,11 +227,11 @@ module _ (limit : ℕ) where
     event-in (event.End s) fails = end-still c n s (session_of c s).state.block
     event-in (event.Resend i (Some g)) fails = again-still c n i (awaited c g i)
     event-in (event.Resend i None) fails = rest-still c n
-    event-in (event.Resume g) fails = rest-still c n
+    event-in (event.Resume g) fails = subst (λ o. IsStill limit (resumes script c g o (work_of c g).waiting)) (sym (nobody-waits c.locks g calm)) (rest-still c n)
     event-in event.Round fails = rest-still c n
 
-pub event-still : (script : Script) (c : Coord) (x : NodeEvent) (fails : Bool) → IsStill (c.table.next.0 + 1) (on_event script c x fails)
-event-still script c x fails = event-in (c.table.next.0 + 1) script c (less c.table.next.0) (same (c.table.next.0 + 1)) x fails
+pub event-still : (script : Script) (c : Coord) → AreCalm c.locks → (x : NodeEvent) (fails : Bool) → IsStill (c.table.next.0 + 1) (on_event script c x fails)
+event-still script c calm x fails = event-in (c.table.next.0 + 1) script c calm (less c.table.next.0) (same (c.table.next.0 + 1)) x fails
   where
     less : (a : ℕ) → a ≤ a + 1
     less a = omega arith

@@ -1,4 +1,4 @@
--- Over every run: clocks, numbers of messages and gxids stay below the number of steps, and no lock and no round is marked.
+-- Over every run: clocks, numbers of messages and gxids stay below the number of steps, and no wait and no round is marked.
 use Rattle.std.proofs.Common.{◌≡◌, ◌≤◌, ℕ, suc, ◌+◌, List, [], ◌∷◌, ◌++◌, Some, Bool, true, false, refl, sym, subst, ap, ◌∙◌, arith, length}
 use Rattle.std.proofs.lemmas.Bool.Decides.{nat_tests}
 use Rattle.gx_ids.specs.declared.ids.Node.{Node}
@@ -28,6 +28,7 @@ use Rattle.gx_law_order.proofs.World.{marks-last}
 use Rattle.gx_law_schedules.proofs.Quiet.{IsCalm, event-still, sent-calm}
 use Rattle.gx_law_schedules.proofs.QuietSegs.{seg-still}
 use Rattle.gx_law_schedules.proofs.Steps.{IsHere, IsThere, always, by-message}
+use Rattle.gx_law_order.proofs.Calm.{AreCalm}
 
 pub length-last : {A : Type 0} (xs : List A) (x : A) → length (xs ++ x ∷ []) ≡ length xs + 1
 length-last [] x = refl
@@ -128,9 +129,9 @@ module _ (script : Script) (some : 1 ≤ script.segments) where
     clock-now : clock_after w.coord.clock x ≤ length (w.steps ++ step ∷ [])
     clock-now = hears w.coord.clock (length w.steps) _ x q.room.clock (heard e x h.is) more
 
-    pub coord-stays : Stays (coord_did w e (coord_rule script w.coord x fails))
-    coord-stays =
-        let f = event-still script w.coord x fails in
+    pub coord-stays : AreCalm w.coord.locks → Stays (coord_did w e (coord_rule script w.coord x fails))
+    coord-stays calm =
+        let f = event-still script w.coord calm x fails in
         record {
           room = record {
             clock = clock-now;
@@ -191,6 +192,6 @@ module _ (script : Script) (some : 1 ≤ script.segments) where
 
   pub world-stays : (es : List (Event × Bool)) → Stays (world_of script es)
   world-stays =
-      always script some Stays (λ es q e x fails h. coord-stays (world_of script es) q e x fails h)
+      always script some Stays (λ es q e x fails h. coord-stays (world_of script es) q e x fails h (world_well script some es).coordinator.locks)
       (λ es q e x fails i h. by-message script some es e x i h (λ e x. Stays (seg_did (world_of script es) i e (seg_rule script ((world_of script es).segs i.0) x fails)))
       (λ from number envelope t. seg-stays (world_of script es) q from i number envelope fails t ((world_well script some es).names i.0))) new-stays

@@ -1,5 +1,5 @@
--- Where no lock and no round is marked, nobody waits, resumes or is asked for a graph.
-use Rattle.std.proofs.Common.{◌≡◌, ℕ, List, [], ◌∷◌, Bool, false, refl, ap, ◌∙◌, if◌then◌else◌, ◌&&◌, ◌||◌, not, arith, cond, length}
+-- Where no wait and no round is marked, nobody waits, resumes or is asked for a graph.
+use Rattle.std.proofs.Common.{◌≡◌, ℕ, List, [], ◌∷◌, Bool, false, refl, ap, ◌∙◌, if◌then◌else◌, ◌&&◌, ◌||◌, not, arith, cond, length, true}
 use Rattle.std.proofs.lemmas.Bool.Decides.{nat_tests}
 use Rattle.std.specs.Prelude.{◌==◌, filter, map, nat_lt}
 use Rattle.std.specs.List.{list_any}
@@ -15,15 +15,19 @@ use Rattle.gx_store.specs.Marks.{is_same_gxid}
 use Rattle.gx_store.specs.Points.{marks_in}
 use Rattle.gx_store.specs.Refusals.{the_coordinator}
 use Rattle.gx_store.specs.Schedule.{first_of, gxids_of, is_any_wait, is_graph_awaited, is_graph_received, is_ready, is_round, is_round_running, recheck_count, resumptions, round_count, rounds, segments_of, waits_of}
-use Rattle.gx_store.specs.Waits.{holds_at, waits_at}
+use Rattle.gx_store.specs.Waits.{holds_at, waits_at, claim, waits_from, without}
 use Rattle.gx_law_order.proofs.Lists.{Each}
 use Rattle.gx_law_schedules.proofs.Quiet.{IsCalm}
+
+none-without : (old : Claim) (b : Bool) → (if b then without old [] else []) ≡ []
+none-without old true = refl
+none-without old false = refl
 
 pub no-waits : (node : Node) (ms : List Mark) → Each IsCalm ms → waits_at ms node ≡ []
 no-waits node [] e = refl
 no-waits node (mark.Wait n g object mode ∷ ms) e = absurd e.0
-no-waits node (mark.Hold n g object mode ∷ ms) e = absurd e.0
-no-waits node (mark.Release n g object mode ∷ ms) e = absurd e.0
+no-waits node (mark.Hold n g object mode ∷ ms) e = ap (λ waits. waits_from node waits ms) (none-without (claim g object mode) (n.0 == node.0)) ∙ no-waits node ms e.1
+no-waits node (mark.Release n g object mode ∷ ms) e = ap (λ waits. waits_from node waits ms) (none-without (claim g object mode) (n.0 == node.0)) ∙ no-waits node ms e.1
 no-waits node (m ∷ ms) e = no-waits node ms e.1
 
 pub filter-none : {A : Type 0} (f : A → Bool) → ((x : A) → f x ≡ false) → (xs : List A) → filter f xs ≡ []

@@ -15,7 +15,7 @@ use Rattle.gx_store.specs.declared.mark.Mark.TheVariants as mark
 use Rattle.gx_store.specs.declared.run.Step.{Step}
 use Rattle.gx_store.specs.Legal.{LegalEnd, is_in_block}
 use Rattle.gx_store.specs.Lines.{state_of, stmt_of, transaction_of}
-use Rattle.gx_store.specs.Marks.{answer_count, is_ended, started_after}
+use Rattle.gx_store.specs.Marks.{answer_count, is_ended, started_after, is_aborted}
 use Rattle.gx_store.specs.Points.{ends_by, ends_in, marks_in, starts_by, starts_in}
 use Rattle.gx_rules.specs.AtCoordinator.{ends_in as ends_session, is_in_block as is_block, next_line, rolls_back}
 use Rattle.gx_rules.specs.Coordinators.{Coord, Session, Work, no_work, session_of, with_state, work_of}
@@ -28,6 +28,10 @@ use Rattle.gx_law_sessions.proofs.Frame.{Does}
 use Rattle.gx_law_sessions.proofs.Gathers.{GathersIn, HeardNow}
 use Rattle.gx_law_sessions.proofs.Outs.{CommandIs, abort-bare, bare-outs}
 use Rattle.gx_law_sessions.proofs.Said.{Said, said-calm}
+use Rattle.gx_rules.specs.Locks.{release_marks}
+use Rattle.gx_store.specs.Refusals.{the_coordinator}
+use Rattle.gx_law_order.proofs.Lists.{Each}
+use Rattle.gx_law_sessions.proofs.Locked.{LockMark, back-locks, lock-for, lock-given, lock-of, lock-rest}
 
 differ : false ≡ true → ⊥
 differ e = cc
@@ -109,21 +113,27 @@ module _ (script : Script) (steps : List Step) (c : Coord) (s : SessionId) (all 
         works = λ j h. ap (λ q. if q then no_work else c.works j) h;
         next = le-same next;
         whose = inl (ap (λ (i : SessionId). i.0) own.home);
-        of = (refl, tt);
-        fresh = of-fresh s.0 y.transaction.0 next (mark.Abort y.transaction ∷ []) own.drawn (refl, tt);
+        of = (refl, lock-of s.0 y.transaction.0 tail back);
+        fresh = of-fresh s.0 y.transaction.0 next (mark.Abort y.transaction ∷ tail) own.drawn (refl, lock-of s.0 y.transaction.0 tail back);
         alone = others;
         starts = started;
-        stands = inr (ended, over (mark.Abort y.transaction ∷ []) (tt, tt));
-        legal = λ later. (λ q. record { running = subst (λ m. is_ended m y.transaction ≡ false) (sym (append-nil ms)) own.running; cause = inr (record { session = s; event = refl; transaction = transaction }) }, tt);
-        rest = λ t later. (tt, tt);
-        outs = bare-outs script (ms ++ mark.Abort y.transaction ∷ []) _ (abort-bare c.table y.transaction);
+        stands = inr (ended, over (mark.Abort y.transaction ∷ tail) (tt, lock-for s tail back));
+        legal = λ later. (λ q. record { running = subst (λ m. is_ended m y.transaction ≡ false) (sym (append-nil ms)) own.running; cause = inr (record { session = s; event = refl; transaction = transaction }) }, lock-given script steps (event.End s) (mark.Abort y.transaction ∷ []) tail later back);
+        rest = λ t later. (tt, lock-rest script steps (event.End s) (mark.Abort y.transaction ∷ []) tail later back);
+        outs = bare-outs script (ms ++ mark.Abort y.transaction ∷ tail) _ (abort-bare c.table y.transaction);
         owned = λ h. own-none y.transaction ((rolls_back (with_state c s idle_outside) y.transaction [] (on_abort c.table y.transaction)).coord.works y.transaction.0) (ap (λ (z : Work). z.command) (ap (λ q. if q then no_work else c.works y.transaction.0) (self-test y.transaction.0)));
         sent = bare-all (rolls_back (with_state c s idle_outside) y.transaction [] (on_abort c.table y.transaction)).coord _ (abort-bare c.table y.transaction);
-        keeps = λ k i level a. inr (inr (ap (λ q. q || false) (self-test y.transaction.0)));
-        orders = λ h. subst (CommandIs script (ms ++ mark.Abort y.transaction ∷ [])) (sym (ap (λ (z : Work). z.command) (ap (λ q. if q then no_work else c.works y.transaction.0) (self-test y.transaction.0)))) tt;
+        keeps = λ k i level a. inr (inr (ap (λ q. q || is_aborted tail y.transaction) (self-test y.transaction.0)));
+        orders = λ h. subst (CommandIs script (ms ++ mark.Abort y.transaction ∷ tail)) (sym (ap (λ (z : Work). z.command) (ap (λ q. if q then no_work else c.works y.transaction.0) (self-test y.transaction.0)))) tt;
         gathers = λ h. subst (GathersIn script (HeardNow steps (event.End s)) y.transaction) (sym (ap (λ (z : Work). z.command) (ap (λ q. if q then no_work else c.works y.transaction.0) (self-test y.transaction.0)))) tt;
       }
     where
+      tail : List Mark
+      tail = release_marks the_coordinator c.locks y.transaction
+
+      back : Each LockMark tail
+      back = back-locks c.locks y.transaction
+
       own : Owns s st.1.commands ms next y.state.block y.transaction (work_of c y.transaction)
       own = (st.1.owns (subst (λ q. is_busy q pending.Nothing ≡ true) eb refl)).0
 

@@ -1,5 +1,5 @@
 -- A command that goes out, or whose constants fault.
-use Rattle.std.proofs.Common.{◌≡◌, ◌<◌, ◌≤◌, inl, ℕ, ◌+◌, List, [], ◌∷◌, ◌++◌, Some, None, Result, Ok, Err, Bool, true, false, refl, sym, subst, ap, ◌∙◌, if◌then◌else◌, ◌||◌, arith, eqb, length}
+use Rattle.std.proofs.Common.{◌≡◌, ◌<◌, ◌≤◌, inl, ℕ, ◌+◌, List, [], ◌∷◌, ◌++◌, Some, None, Result, Ok, Err, Bool, true, false, refl, sym, subst, ap, ◌∙◌, if◌then◌else◌, ◌||◌, arith, eqb, length, Option}
 use Rattle.std.proofs.Math.Seq.{take-append_seam}
 use Rattle.std.proofs.lemmas.List.{append_assoc, length-append}
 use Rattle.std.proofs.lemmas.List.Elements.{Contains-append_left, Contains-append_right, Contains-push}
@@ -34,12 +34,12 @@ use Rattle.gx_store.specs.declared.mark.Mark.{Mark}
 use Rattle.gx_store.specs.declared.mark.Mark.TheVariants as mark
 use Rattle.gx_store.specs.declared.run.Step.{Step}
 use Rattle.gx_store.specs.Commands.{has_own_snapshot}
-use Rattle.gx_store.specs.Lines.{BlockState, cid_of, is_command, level_of, state_after, stmt_of}
-use Rattle.gx_store.specs.Marks.{has_snapshot, is_aborted, is_ended, is_snapped}
+use Rattle.gx_store.specs.Lines.{BlockState, cid_of, is_command, level_of, state_after, stmt_of, state_of}
+use Rattle.gx_store.specs.Marks.{has_snapshot, is_aborted, is_ended, is_snapped, answer_count, is_begun, started_after}
 use Rattle.gx_store.specs.Points.{marks_in}
-use Rattle.gx_store.specs.Refusals.{IsCause, is_journal}
+use Rattle.gx_store.specs.Refusals.{IsCause, is_journal, the_coordinator}
 use Rattle.gx_store.specs.Writes.{dist_of}
-use Rattle.gx_rules.specs.AtCoordinator.{Reading, behind, dispatches, enlisted_all, fault_mark, faulting_from, goes, goes_out, kept_at, next_cid, nodes_in, orders_of, reads_by, reads_for, refusal_of, table_of, takes_snapshot}
+use Rattle.gx_rules.specs.AtCoordinator.{Reading, behind, dispatches, enlisted_all, fault_mark, faulting_from, goes, goes_out, kept_at, next_cid, nodes_in, orders_of, reads_by, reads_for, refusal_of, table_of, takes_snapshot, goes_on_locked, if_granted, lock_for, requests}
 use Rattle.gx_rules.specs.Coordinators.{Command, Coord, Session, Work, work_of}
 use Rattle.gx_rules.specs.Slices.{cause_of}
 use Rattle.gx_law_order.proofs.Lists.{Each, each_append, get_last}
@@ -55,14 +55,19 @@ use Rattle.gx_law_sessions.proofs.AtLine as at_line
 use Rattle.gx_law_sessions.proofs.Awaited.{IsAwaited, IsOwn, OutAwaits}
 use Rattle.gx_law_sessions.proofs.Ends.{IsOf, ended-more, of-fresh, snapped-more}
 use Rattle.gx_law_sessions.proofs.Faults.{constants-fault}
-use Rattle.gx_law_sessions.proofs.Frame.{Does}
+use Rattle.gx_law_sessions.proofs.Frame.{Does, owns-more}
 use Rattle.gx_law_sessions.proofs.Gathers.{GathersIn, HeardNow}
 use Rattle.gx_law_sessions.proofs.Given.{Given, marks-append}
 use Rattle.gx_law_sessions.proofs.Outs.{CommandIs, OutIs, abort-bare}
 use Rattle.gx_law_sessions.proofs.Roots.{roots-level}
-use Rattle.gx_law_sessions.proofs.Said.{CalmFor}
+use Rattle.gx_law_sessions.proofs.Said.{CalmFor, said-calm}
 use Rattle.gx_law_sessions.proofs.Under.{Under, refuse-does}
 use Rattle.gx_law_sessions.proofs.Reading.{Reads, reads-for}
+use Rattle.gx_locks.specs.Locks.{Locks}
+use Rattle.gx_rules.specs.Locks.{hold_mark, with_hold}
+use Rattle.gx_waits.specs.declared.claim.Claim.{Claim}
+use Rattle.gx_law_order.proofs.Lines.{past-still}
+use Rattle.gx_law_order.proofs.Calm.{AreCalm, calm-free, lock-calm}
 
 enlisted-next : (nodes : List Node) (d : Table) (g : Gxid) → (enlisted_all d g nodes).next ≡ d.next
 enlisted-next [] d g = refl
@@ -393,5 +398,70 @@ module _ (script : Script) (steps : List Step) (c c1 : Coord) (s : SessionId) (g
           subst (λ f. Does script steps c (event.Start s) (behind earlier (Rattle.gx_rules.specs.AtCoordinator.is_refused r.coord g (on_abort r.coord.table g) (r.marks ++ f) (refusal_of fault)))) (sym (ap (fault_mark g (next_cid w)) h.1.1))
           (faults-does r R h.0 h.1.0 h.1.1 fault h.1.2)
 
-  pub dispatch-does : Does script steps c (event.Start s) (behind earlier (dispatches script c1 g line))
-  dispatch-does = goes-does _ (reads-for script steps c c1 s g x n B commands line earlier o xb xp busy cmd owns none cid past line refl cmd) (plan_of script.segments (dist_of script.tables (table_of line)) g (next_cid w) line) refl
+  pub locked-does : Does script steps c (event.Start s) (behind earlier (goes_on_locked script c1 g line))
+  locked-does = goes-does _ (reads-for script steps c c1 s g x n B commands line earlier o xb xp busy cmd owns none cid past line refl cmd) (plan_of script.segments (dist_of script.tables (table_of line)) g (next_cid w) line) refl
+
+-- WITH ITS TABLE'S LOCK
+module _ (script : Script) (steps : List Step) (c c1 : Coord) (s : SessionId) (g : Gxid) (x : Session) (n : ℕ) (B : Block) (commands : ℕ) (line : Stmt) (earlier : List Mark)
+    (o : Under script steps c (event.Start s) c1 s g (work_of c1 g) x n (state_in B commands) (is_alone B pending.Command) line earlier)
+    (xb : x.state.block ≡ B) (xp : x.state.pending ≡ pending.Command) (busy : is_busy B pending.Command ≡ true) (cmd : is_command (state_in B commands) line ≡ true)
+    (owns : Owns s commands (marks_in steps ++ earlier) c1.table.next.0 B g (work_of c1 g)) (none : (work_of c1 g).command ≡ None) (cid : cid_of (state_in B commands) ≡ next_cid (work_of c1 g))
+    (past : Past c1 (marks_in steps ++ earlier))
+    (roots : (m : Command) (v : Work) (ns : List Mark) → m.stmt ≡ line → m.cid ≡ next_cid (work_of c1 g) → v.last ≡ (work_of c1 g).last + 1 → v.command ≡ Some m → Roots script s ((marks_in steps ++ earlier) ++ ns) B pending.Command x.lines g v)
+    (unawaited : (k : Cid) (i : Node) (level : Level) → IsAwaited (c.works g.0) k i level → ⊥) where
+  module _ (locks : Locks) (wanted : Claim) where
+    abbrev held : Coord
+    held = record c1 { locks = locks }
+
+    abbrev hold : Mark
+    hold = hold_mark the_coordinator wanted
+
+    seam-held : marks_in steps ++ (earlier ++ hold ∷ []) ≡ (marks_in steps ++ earlier) ++ hold ∷ []
+    seam-held = sym (append_assoc (marks_in steps) earlier (hold ∷ []))
+
+    under-held : Under script steps c (event.Start s) held s g (work_of c1 g) x n (state_in B commands) (is_alone B pending.Command) line (earlier ++ hold ∷ [])
+    under-held =
+        record {
+          work = o.work;
+          works = o.works;
+          sessions = o.sessions;
+          home = o.home;
+          its = o.its;
+          lines = o.lines;
+          next = o.next;
+          drawn = o.drawn;
+          whose = o.whose;
+          ends = o.ends;
+          alone = o.alone;
+          at = at-calm script steps (event.Start s) s line n (state_in B commands) (is_alone B pending.Command) (Some g) earlier (hold ∷ []) o.at (tt, tt);
+          has = o.has;
+          running = subst (λ m. is_ended m g ≡ false) (sym seam-held) (ended-more (marks_in steps ++ earlier) (hold ∷ []) g o.running refl);
+          of = each_append (IsOf s.0 g.0) earlier (hold ∷ []) o.of (tt, tt);
+          legal = λ later. marks-append (Given script) steps (event.Start s) [] earlier (hold ∷ []) later (o.legal (hold ∷ later)) (λ r. tt, tt);
+          rests = λ later. marks-append (Rest script) steps (event.Start s) [] earlier (hold ∷ []) later (o.rests (hold ∷ later)) (tt, tt);
+        }
+
+    held-does : Does script steps c (event.Start s) (behind earlier (behind (hold ∷ []) (goes_on_locked script held g line)))
+    held-does =
+        subst (λ m. Does script steps c (event.Start s) (record (goes_on_locked script held g line) { marks = m })) (append_assoc earlier (hold ∷ []) (goes_on_locked script held g line).marks)
+        (locked-does script steps c held s g x n B commands line (earlier ++ hold ∷ []) under-held xb xp busy cmd
+        (subst (λ m. Owns s commands m c1.table.next.0 B g (work_of c1 g)) (sym seam-held) (owns-more script s commands (marks_in steps ++ earlier) (hold ∷ []) c1.table.next.0 c1.table.next.0 B g (work_of c1 g) owns (same-le c1.table.next.0) started refl refl))
+        none cid
+        (subst (λ m. Past held m) (sym seam-held) (past-still c1 held (marks_in steps ++ earlier) (hold ∷ []) past refl (tt, tt)))
+        (λ m v ns a b d e. subst (λ ms. Roots script s ms B pending.Command x.lines g v) (ap (λ ms. ms ++ ns) (sym seam-held)) (subst (λ ms. Roots script s ms B pending.Command x.lines g v) (sym (append_assoc (marks_in steps ++ earlier) (hold ∷ []) ns)) (roots m v (hold ∷ ns) a b d e)))
+        unawaited)
+      where
+        same-le : (a : ℕ) → a ≤ a
+        same-le a = omega arith
+
+        started : started_after s None ((marks_in steps ++ earlier) ++ hold ∷ []) ≡ started_after s None (marks_in steps ++ earlier)
+        started = (said-calm script s (marks_in steps ++ earlier) (hold ∷ []) (answer_count s (marks_in steps ++ earlier)) (state_of script s (marks_in steps ++ earlier)) (is_begun s (marks_in steps ++ earlier)) (started_after s None (marks_in steps ++ earlier)) (record { answered = refl; state = refl; begun = refl; started = refl }) (tt, tt)).started
+
+  request-does : AreCalm c1.locks → (q : Option Claim) → lock_for g line ≡ q → Does script steps c (event.Start s) (behind earlier (requests script c1 g line q))
+  request-does calm None e = locked-does script steps c c1 s g x n B commands line earlier o xb xp busy cmd owns none cid past roots unawaited
+  request-does calm (Some wanted) e =
+      subst (λ t. Does script steps c (event.Start s) (behind earlier (if_granted script c1 g line wanted t))) (sym (calm-free c1.locks wanted calm (lock-calm g line wanted e)))
+      (held-does (with_hold c1.locks wanted) wanted)
+
+  pub dispatch-does : AreCalm c1.locks → Does script steps c (event.Start s) (behind earlier (dispatches script c1 g line))
+  dispatch-does calm = request-does calm (lock_for g line) refl

@@ -2,6 +2,7 @@ pub mod Said
 pub mod AtLine
 pub mod Answers
 pub mod Given
+pub mod Locked
 pub mod Ends
 pub mod Faults
 pub mod Roots

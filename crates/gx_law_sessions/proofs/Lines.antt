@@ -48,6 +48,7 @@ use Rattle.gx_law_sessions.proofs.Outs.{CommandIs}
 use Rattle.gx_law_sessions.proofs.Roots.{roots-alone, roots-begin, roots-other}
 use Rattle.gx_law_sessions.proofs.Said.{Said}
 use Rattle.gx_law_sessions.proofs.Under.{Under}
+use Rattle.gx_law_order.proofs.Calm.{AreCalm}
 
 differ : false ≡ true → ⊥
 differ e = cc
@@ -317,12 +318,12 @@ module _ (script : Script) (steps : List Step) (c : Coord) (k : Kept c) (p : Pas
             }
 
     -- A COMMAND OUTSIDE A BLOCK
-    pub alone-does : block.Outside ≡ y.state.block → is_command Outside line ≡ true → Rattle.gx_store.specs.Legal.draws Outside line ≡ true → Does script steps c e (behind (begun ∷ []) (dispatches script (begins (starts_line c s (step.Command true)) s ReadCommitted) c.table.next line))
-    alone-does outside cmd d =
+    pub alone-does : AreCalm c.locks → block.Outside ≡ y.state.block → is_command Outside line ≡ true → Rattle.gx_store.specs.Legal.draws Outside line ≡ true → Does script steps c e (behind (begun ∷ []) (dispatches script (begins (starts_line c s (step.Command true)) s ReadCommitted) c.table.next line))
+    alone-does calm outside cmd d =
         dispatch-does script steps c c1 s c.table.next (fresh asked) y.lines block.Outside 0 line (begun ∷ []) under (ap (λ q. block_after q asked) (sym outside)) refl refl cmd
         (subst (λ v. Owns s 0 (ms ++ begun ∷ []) (next + 1) block.Outside c.table.next v) (sym (fresh-work asked ReadCommitted)) (fresh-owns ReadCommitted block.Outside 0 (begun ∷ []) refl refl (at-begun outside).said.started refl refl))
         (ap (λ (v : Work). v.command) (fresh-work asked ReadCommitted)) (ap (λ (v : Work). next_cid v) (sym (fresh-work asked ReadCommitted)))
-        (past-begun c c1 ms (begun ∷ []) p k.whole refl (tt, tt)) roots undrawn-unawaited
+        (past-begun c c1 ms (begun ∷ []) p k.whole refl (tt, tt)) roots undrawn-unawaited calm
       where
         asked : LineStep
         asked = step.Command true

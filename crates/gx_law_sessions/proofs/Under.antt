@@ -25,8 +25,8 @@ use Rattle.gx_store.specs.Legal.{may_commit}
 use Rattle.gx_store.specs.Lines.{BlockState, Outside, cid_of, level_of, state_after}
 use Rattle.gx_store.specs.Marks.{is_aborted, is_answered, is_ended}
 use Rattle.gx_store.specs.Points.{Point, ends_by, ends_in, marks_in, starts_by}
-use Rattle.gx_store.specs.Refusals.{IsCause, may_refuse}
-use Rattle.gx_rules.specs.AtCoordinator.{answer_at_commit, behind, is_committed, is_refused}
+use Rattle.gx_store.specs.Refusals.{IsCause, may_refuse, the_coordinator}
+use Rattle.gx_rules.specs.AtCoordinator.{answer_at_commit, answer_mark, behind, is_committed, is_refused}
 use Rattle.gx_rules.specs.Coordinators.{Coord, CoordTurn, Session, Work, no_work, session_of, work_of}
 use Rattle.gx_rules.specs.Maps.{with_at}
 use Rattle.gx_law_order.proofs.Lists.{Each, each_append}
@@ -44,7 +44,9 @@ use Rattle.gx_law_sessions.proofs.Frame.{Does}
 use Rattle.gx_law_sessions.proofs.Gathers.{GathersIn, HeardNow}
 use Rattle.gx_law_sessions.proofs.Given.{Given, marks-append}
 use Rattle.gx_law_sessions.proofs.Outs.{CommandIs, IsBare, bare-outs}
-use Rattle.gx_law_sessions.proofs.Said.{CalmFor, Said}
+use Rattle.gx_law_sessions.proofs.Said.{CalmFor, Said, said-calm}
+use Rattle.gx_rules.specs.Locks.{release_marks}
+use Rattle.gx_law_sessions.proofs.Locked.{LockMark, back-locks, lock-for, lock-given, lock-of, lock-rest}
 
 -- the coordinator stands at c1, with these marks of the step so far: the line of session s is under way in transaction g
 pub record Under (script : Script) (steps : List Step) (c : Coord) (e : Event) (c1 : Coord) (s : SessionId) (g : Gxid) (w : Work) (x : Session) (n : ℕ) (b : BlockState) (u : Bool) (line : Stmt) (earlier : List Mark) : Type 0 where
@@ -126,9 +128,9 @@ module _ (script : Script) (steps : List Step) (c : Coord) (e : Event) (c1 : Coo
   lines-is = ap (λ i. (session_of c1 i).lines) home-is ∙ ap (λ (z : Session). z.lines) x-is ∙ o.lines
 
   -- the session's line is answered by marks that stand behind the others, and nothing is known of its transaction any more
-  pub closed-does : (turn : CoordTurn) (y : Session) (B : Block) → ((j : ℕ) → turn.coord.sessions j ≡ (if eqb j s.0 then y else c.sessions j)) → ((j : ℕ) → eqb j g.0 ≡ false → turn.coord.works j ≡ c.works j) → turn.coord.table.next.0 ≡ c1.table.next.0 → y.state.block ≡ B → y.state.pending ≡ pending.Nothing → y.lines ≡ n + 1 → is_busy B pending.Nothing ≡ false
+  plain-does : (turn : CoordTurn) (y : Session) (B : Block) → ((j : ℕ) → turn.coord.sessions j ≡ (if eqb j s.0 then y else c.sessions j)) → ((j : ℕ) → eqb j g.0 ≡ false → turn.coord.works j ≡ c.works j) → turn.coord.table.next.0 ≡ c1.table.next.0 → y.state.block ≡ B → y.state.pending ≡ pending.Nothing → y.lines ≡ n + 1 → is_busy B pending.Nothing ≡ false
       → Each (IsOf s.0 g.0) turn.marks → ((later : List Mark) → EachMark (Given script) steps e earlier turn.marks later) → (AreCommandsTold script steps → (later : List Mark) → EachMark (Rest script) steps e earlier turn.marks later) → Said script s (marks_in steps ++ (earlier ++ turn.marks)) (n + 1) (state_in B 0) false (Some g) → Each IsBare turn.outs → (turn.coord.works g.0).command ≡ None → ((k : Cid) (i : Node) (level : Level) → IsAwaited (c.works g.0) k i level → IsSettled (HeardNow steps e) (earlier ++ turn.marks) g k i) → Does script steps c e (behind earlier turn)
-  closed-does turn y B sessions works next yb yp yl idle of legal rest said outs none over =
+  plain-does turn y B sessions works next yb yp yl idle of legal rest said outs none over =
       record {
         s = s.0;
         g = g.0;
@@ -157,6 +159,26 @@ module _ (script : Script) (steps : List Step) (c : Coord) (e : Event) (c1 : Coo
         gathers = λ h. subst (GathersIn script (HeardNow steps e) g) (sym none) tt;
       }
 
+  -- and its locks are given back
+  pub closed-does : (turn : CoordTurn) (tail : List Mark) → Each LockMark tail → (y : Session) (B : Block) → ((j : ℕ) → turn.coord.sessions j ≡ (if eqb j s.0 then y else c.sessions j)) → ((j : ℕ) → eqb j g.0 ≡ false → turn.coord.works j ≡ c.works j) → turn.coord.table.next.0 ≡ c1.table.next.0 → y.state.block ≡ B → y.state.pending ≡ pending.Nothing → y.lines ≡ n + 1 → is_busy B pending.Nothing ≡ false
+      → Each (IsOf s.0 g.0) turn.marks → ((later : List Mark) → EachMark (Given script) steps e earlier turn.marks later) → (AreCommandsTold script steps → (later : List Mark) → EachMark (Rest script) steps e earlier turn.marks later) → Said script s (marks_in steps ++ (earlier ++ turn.marks)) (n + 1) (state_in B 0) false (Some g) → Each IsBare turn.outs → (turn.coord.works g.0).command ≡ None → ((k : Cid) (i : Node) (level : Level) → IsAwaited (c.works g.0) k i level → IsSettled (HeardNow steps e) (earlier ++ turn.marks) g k i) → Does script steps c e (behind earlier (record turn { marks = turn.marks ++ tail }))
+  closed-does turn tail locks y B sessions works next yb yp yl idle of legal rest said outs none over =
+      plain-does (record turn { marks = turn.marks ++ tail }) y B sessions works next yb yp yl idle (each_append (IsOf s.0 g.0) turn.marks tail of (lock-of s.0 g.0 tail locks))
+      (λ later. marks-append (Given script) steps e earlier turn.marks tail later (legal (tail ++ later)) (lock-given script steps e (earlier ++ turn.marks) tail later locks))
+      (λ t later. marks-append (Rest script) steps e earlier turn.marks tail later (rest t (tail ++ later)) (lock-rest script steps e (earlier ++ turn.marks) tail later locks))
+      (subst (λ m. Said script s m (n + 1) (state_in B 0) false (Some g)) joined (said-calm script s (marks_in steps ++ (earlier ++ turn.marks)) tail (n + 1) (state_in B 0) false (Some g) said (lock-for s tail locks)))
+      outs none (λ k i level a. settled k i (over k i level a))
+    where
+      joined : (marks_in steps ++ (earlier ++ turn.marks)) ++ tail ≡ marks_in steps ++ (earlier ++ (turn.marks ++ tail))
+      joined = append_assoc (marks_in steps) (earlier ++ turn.marks) tail ∙ ap (λ m. marks_in steps ++ m) (append_assoc earlier turn.marks tail)
+
+      settled : (k : Cid) (i : Node) → IsSettled (HeardNow steps e) (earlier ++ turn.marks) g k i → IsSettled (HeardNow steps e) (earlier ++ (turn.marks ++ tail)) g k i
+      settled k i (inl h) = inl h
+      settled k i (inr h) = inr (ap (λ m. is_aborted m g) (sym (append_assoc earlier turn.marks tail)) ∙ aborted-append (earlier ++ turn.marks) tail g ∙ or-true (is_aborted (earlier ++ turn.marks) g) (is_aborted tail g) h)
+        where
+          or-true : (a b : Bool) → a ≡ true → (a || b) ≡ true
+          or-true a b h = grind arith
+
   session-set : (f : Session → Session) (j : ℕ) → with_at c1.sessions (work_of c1 g).session.0 (f (session_of c1 (work_of c1 g).session)) j ≡ (if eqb j s.0 then f x else c.sessions j)
   session-set f j =
       ap (λ (i : SessionId). if eqb j i.0 then f (session_of c1 i) else c1.sessions j) home-is ∙ ap (λ z. if eqb j s.0 then f z else c1.sessions j) x-is ∙ past (eqb j s.0) (f x) (c1.sessions j) x (c.sessions j) (o.sessions j)
@@ -177,7 +199,7 @@ module _ (script : Script) (steps : List Step) (c : Coord) (e : Event) (c1 : Coo
       → Each IsBare turn.out.outs → ((k : Cid) (i : Node) (level : Level) → IsAwaited (c.works g.0) k i level → HasAnswered (HeardNow steps e) i g k)
       → (AreCommandsTold script steps → (later : List Mark) → RestAnswer script (record { steps = steps; event = e; earlier = earlier ++ mark.Commit g ∷ []; later = later }) s (answer_at_commit (work_of c1 g) (session_of c1 (work_of c1 g).session).state.pending)) → Does script steps c e (behind earlier (is_committed c1 g turn))
   commit-does turn next may closed after told outs over trest =
-      closed-does (is_committed c1 g turn) (record x { state = after_done x.state }) block.Outside (session-set (λ z. record z { state = after_done z.state })) (works-set no_work) next closed refl o.lines refl
+      closed-does (record (is_committed c1 g turn) { marks = mark.Commit g ∷ answer_mark c1 (work_of c1 g).session r ∷ [] }) (release_marks the_coordinator c1.locks g) (back-locks c1.locks g) (record x { state = after_done x.state }) block.Outside (session-set (λ z. record z { state = after_done z.state })) (works-set no_work) next closed refl o.lines refl
       (refl, (ap (λ (i : SessionId). i.0) home-is, tt)) legal
       (λ t later. subst (λ i. EachMark (Rest script) steps e earlier (mark.Commit g ∷ mark.Answer i (session_of c1 i).lines r ∷ []) later) (sym home-is) (tt, (trest t later, tt)))
       (subst (λ i. Said script s (marks_in steps ++ (earlier ++ mark.Commit g ∷ mark.Answer i (session_of c1 i).lines r ∷ [])) (n + 1) Outside false (Some g)) (sym home-is) said) outs (reset-none no_work refl) (λ k i level a. inl (over k i level a))
@@ -197,7 +219,7 @@ module _ (script : Script) (steps : List Step) (c : Coord) (e : Event) (c1 : Coo
           (subst (λ q. Said script s (marks_in steps ++ q) (n + 1) (state_after b line r) false (Some g)) (append_assoc earlier (mark.Commit g ∷ []) (mark.Answer s (session_of c1 s).lines r ∷ []))
           (answered-now script steps e s line n b u (Some g) (earlier ++ mark.Commit g ∷ []) at2 (session_of c1 s).lines r number))
 
-      legal : (later : List Mark) → EachMark (Given script) steps e earlier (is_committed c1 g turn).marks later
+      legal : (later : List Mark) → EachMark (Given script) steps e earlier (mark.Commit g ∷ answer_mark c1 (work_of c1 g).session r ∷ []) later
       legal later =
           subst (λ i. EachMark (Given script) steps e earlier (mark.Commit g ∷ mark.Answer i (session_of c1 i).lines r ∷ []) later) (sym home-is) (
             λ q. legal-commit script steps e s line n b u (Some g) earlier o.at _ g o.has refl o.running may (answered-self s (session_of c1 s).lines r later),
@@ -211,11 +233,12 @@ module _ (script : Script) (steps : List Step) (c : Coord) (e : Event) (c1 : Coo
       → Each IsBare turn.out.outs → ((later : List Mark) → EachMark (Rest script) steps e earlier why later)
       → (AreCommandsTold script steps → (later : List Mark) → RestAnswer script (record { steps = steps; event = e; earlier = (earlier ++ why) ++ mark.Abort g ∷ []; later = later }) s (told.Refused reason)) → Does script steps c e (behind earlier (is_refused c1 g turn why reason))
   refuse-does turn why reason B next may closed idle after of calm running first cause outs wrest trest =
-      closed-does (is_refused c1 g turn why reason) (record x { state = after_refused x.state }) B (session-set (λ z. record z { state = after_refused z.state })) (works-set no_work) next closed refl o.lines idle
+      subst (λ m. Does script steps c e (behind earlier (record (is_refused c1 g turn why reason) { marks = m }))) (append_assoc why (mark.Abort g ∷ answer_mark c1 (work_of c1 g).session r ∷ []) (release_marks the_coordinator c1.locks g))
+      (closed-does (record (is_refused c1 g turn why reason) { marks = why ++ mark.Abort g ∷ answer_mark c1 (work_of c1 g).session r ∷ [] }) (release_marks the_coordinator c1.locks g) (back-locks c1.locks g) (record x { state = after_refused x.state }) B (session-set (λ z. record z { state = after_refused z.state })) (works-set no_work) next closed refl o.lines idle
       (each_append (IsOf s.0 g.0) why _ of (refl, (ap (λ (i : SessionId). i.0) home-is, tt))) legal
       (λ t later. subst (λ i. EachMark (Rest script) steps e earlier (why ++ mark.Abort g ∷ mark.Answer i (session_of c1 i).lines r ∷ []) later) (sym home-is)
       (marks-append (Rest script) steps e earlier why (mark.Abort g ∷ mark.Answer s (session_of c1 s).lines r ∷ []) later (wrest _) (tt, (trest t later, tt))))
-      (subst (λ i. Said script s (marks_in steps ++ (earlier ++ (why ++ mark.Abort g ∷ mark.Answer i (session_of c1 i).lines r ∷ []))) (n + 1) (state_in B 0) false (Some g)) (sym home-is) said) outs (reset-none no_work refl) (λ k i level a. inr (aborts earlier why g _))
+      (subst (λ i. Said script s (marks_in steps ++ (earlier ++ (why ++ mark.Abort g ∷ mark.Answer i (session_of c1 i).lines r ∷ []))) (n + 1) (state_in B 0) false (Some g)) (sym home-is) said) outs (reset-none no_work refl) (λ k i level a. inr (aborts earlier why g _)))
     where
       r : StmtAnswer
       r = told.Refused reason
@@ -246,7 +269,7 @@ module _ (script : Script) (steps : List Step) (c : Coord) (e : Event) (c1 : Coo
           refused-is script (point later) s b line reason may
           (record { kind = may; g = g; transaction = subst (λ z. Rattle.gx_store.specs.Lines.transaction_of z s (marks_in steps ++ ((earlier ++ why) ++ mark.Abort g ∷ [])) ≡ Some g) at2.said.state (transaction-is script steps e s line n b u (Some g) ((earlier ++ why) ++ mark.Abort g ∷ []) at2 later g o.has refl); aborted = abort-last (earlier ++ why) g; cause = cause later q })
 
-      legal : (later : List Mark) → EachMark (Given script) steps e earlier (is_refused c1 g turn why reason).marks later
+      legal : (later : List Mark) → EachMark (Given script) steps e earlier (why ++ mark.Abort g ∷ answer_mark c1 (work_of c1 g).session r ∷ []) later
       legal later =
           subst (λ i. EachMark (Given script) steps e earlier (why ++ mark.Abort g ∷ mark.Answer i (session_of c1 i).lines r ∷ []) later) (sym home-is)
           (marks-append (Given script) steps e earlier why (mark.Abort g ∷ mark.Answer s (session_of c1 s).lines r ∷ []) later (first _) (

@@ -49,6 +49,7 @@ use Rattle.gx_law_sessions.proofs.Blocks.{start-counts, start-does}
 use Rattle.gx_law_sessions.proofs.Steps.{given-events, given-steps, rest-last, starts-no, ends-no}
 use Rattle.gx_law_sessions.proofs.Sendings.{IsToldOf, command-order-is, orders-all}
 use Rattle.gx_law_sessions.proofs.Stepping.{Holds, coord-holds, coord-rest, seg-holds}
+use Rattle.gx_law_order.proofs.Calm.{nobody-ready}
 
 -- ALL EVENTS
 both_of : (a b : Bool) → (a && b) ≡ true → (a ≡ true) × (b ≡ true)
@@ -103,7 +104,7 @@ module _ (script : Script) (some : 1 ≤ script.segments) where
         by_next (Some line) e q =
             let counts = start-counts script w.steps w.coord n.kept n.past h.fresh h.numbers s (h.sessions s) idle line e in
             let same : next_stmt s script (marks_in w.steps) ≡ Some line = ap (λ i. stmt_of s (i + 1) script.lines) (sym counts ∙ (h.sessions s).starts) ∙ e in (
-              inl (start-does script w.steps w.coord n.kept n.past h.fresh h.numbers s (h.sessions s) idle line e),
+              inl (start-does script w.steps w.coord n.kept n.past h.fresh h.numbers s (h.sessions s) idle line e n.well.coordinator.locks),
               (counts, subst IsSome (sym same) refl),
               drawn-at script w.steps w.coord s (h.sessions s) line e same (numbered (starts script w.coord s (Some line)).coord.sent (starts script w.coord s (Some line)).outs),
             )
@@ -168,6 +169,9 @@ module _ (script : Script) (some : 1 ≤ script.segments) where
     arrives from to number fails None f ok = h
     arrives from to number fails (Some envelope) f ok = received from to number envelope fails f ok
 
+    clash : (q : Bool) → q ≡ true → q ≡ false → ⊥
+    clash q e f = grind arith
+
     -- where nothing is done
     nothing : (e : Event) → StartsNothing e → Effect script w.steps w.coord e (rests w.coord)
     nothing e q = inr (record { sessions = λ j. refl; works = λ j. refl; next = refl; quiet = tt; alone = λ j. (starts-no e q j, ends-no e q j); outs = λ o. tt; sent = λ o. tt })
@@ -182,7 +186,7 @@ module _ (script : Script) (some : 1 ≤ script.segments) where
         x = here.Resume g
 
         by_test : (b : Bool) → is_same_node m the_coordinator ≡ b → (if b then coord_can script w.coord x else seg_can script (w.segs m.0) x) ≡ true → Holds script (if b then coord_did w e (coord_rule script w.coord x fails) else seg_did w m e (seg_rule script (w.segs m.0) x fails))
-        by_test true is ok = coord-holds script some w n h e x fails (nothing e tt) tt tt
+        by_test true is ok = absurd (clash (coord_can script w.coord x) ok (nobody-ready w.coord.locks g n.well.coordinator.locks))
         by_test false is ok = seg-holds script some w n h e x fails m.0 tt (resumes_there script some w m g n.well ok)
 
     event-holds : (e : Event) (fails : Bool) → can script w e ≡ true → Holds script (does script w e (node_of e) fails (at_node w e))
@@ -298,7 +302,7 @@ module _ (script : Script) (some : 1 ≤ script.segments) where
         x = here.Resume g
 
         by_test : (b : Bool) → is_same_node m the_coordinator ≡ b → (if b then coord_can script w.coord x else seg_can script (w.segs m.0) x) ≡ true → AreRestLegal script [] (if b then coord_did w e (coord_rule script w.coord x fails) else seg_did w m e (seg_rule script (w.segs m.0) x fails)).steps
-        by_test true is ok = coord-shown e x fails (nothing w n h e tt)
+        by_test true is ok = absurd (clash w n h (coord_can script w.coord x) ok (nobody-ready w.coord.locks g n.well.coordinator.locks))
         by_test false is ok = rest-last script [] w.steps _ rest (shown.segments done e x fails (resumes_there script some w m g n.well ok) refl ok)
 
     event-shown : (e : Event) (fails : Bool) → can script w e ≡ true → AreRestLegal script [] (does script w e (node_of e) fails (at_node w e)).steps

@@ -204,7 +204,7 @@ module _ (script : Script) (some : 1 ≤ script.segments) (numbered_lines : AreL
       coord-others fails ok o =
           let turn : CoordTurn = on_event script w.coord x fails in
           let sent : List Mark = numbered (on_event script w.coord x fails).coord.sent (on_event script w.coord x fails).outs in
-          let v : Walk script w.coord x [] (on_event script w.coord x fails) = event-walk script w.coord x b.knows.kept x refl fails ok in
+          let v : Walk script w.coord x [] (on_event script w.coord x fails) = event-walk script w.coord x b.knows.kept b.knows.well.coordinator.locks x refl fails ok in
           others-push script [] w.steps (record { stamp = record { clock = clock_after w.coord.clock x; node = the_coordinator }; event = e; marks = (coord_rule script w.coord x fails).marks }) o
           (marks-append (Others script) w.steps e [] (on_event script w.coord x fails).marks sent [] (marks-others [] (on_event script w.coord x fails).marks (sent ++ []) v.answers)
           (sent-others script w.steps e (on_event script w.coord x fails).coord.sent (on_event script w.coord x fails).outs (on_event script w.coord x fails).marks []))

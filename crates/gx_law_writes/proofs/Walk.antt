@@ -51,7 +51,7 @@ use Rattle.gx_store.specs.declared.node.NodeEvent.TheVariants as event
 use Rattle.gx_store.specs.Marks.{has_snapshot, is_snapped}
 use Rattle.gx_store.specs.Refusals.{the_coordinator}
 use Rattle.gx_store.specs.Writes.{dist_of}
-use Rattle.gx_rules.specs.AtCoordinator.{Reading, answer_at_commit, answer_of_command, answers, answers_at_once, awaited, begins, behind, command_answer, commits, completes, coord_can, dispatches, ends_in, failure_marks, fault_mark, follows, goes, goes_on, goes_out, is_awaited, is_committed, is_idle, is_nothing, is_refused, kept_at, next_cid, next_line, nodes_in, on_answer, on_done, on_event, on_failed, on_line, on_message, on_status, orders_of, plain_answer_of, reads_by, reads_for, reason_of, refusal_of, resends, rolls_back, starts, starts_line, table_of, takes_done, takes_snapshot, with_done, writers_with}
+use Rattle.gx_rules.specs.AtCoordinator.{Reading, answer_at_commit, answer_mark, answer_of_command, answers, answers_at_once, awaited, begins, behind, command_answer, commits, completes, coord_can, dispatches, ends_in, failure_marks, fault_mark, follows, goes, goes_on, goes_out, is_awaited, is_committed, is_idle, is_nothing, is_refused, kept_at, next_cid, next_line, nodes_in, on_answer, on_done, on_event, on_failed, on_line, on_message, on_status, orders_of, plain_answer_of, reads_by, reads_for, reason_of, refusal_of, resends, rolls_back, starts, starts_line, table_of, takes_done, takes_snapshot, with_done, writers_with, goes_on_locked, if_granted, lock_for, requests, resumes}
 use Rattle.gx_rules.specs.Coordinators.{Command, Coord, CoordTurn, Session, Work, new_work, no_work, rests, session_of, with_state, with_work, work_of}
 use Rattle.gx_rules.specs.Fits.{fits_part}
 use Rattle.gx_rules.specs.Maps.{with_at}
@@ -62,6 +62,10 @@ use Rattle.gx_law_order.proofs.Sessions.{Kept, is_nothing_in, is_open_in, stage_
 use Rattle.gx_law_order.proofs.Statuses.Stage.{Closing, Live as LiveStage}
 use Rattle.gx_law_order.proofs.Statuses.{Moves, Turned, reply-turns, stage}
 use Rattle.gx_law_commit.specs.Standings.{gx}
+use Rattle.gx_rules.specs.Locks.{with_hold, hold_mark, release_marks}
+use Rattle.gx_locks.specs.Locks.{Locks}
+use Rattle.gx_waits.specs.declared.claim.Claim.{Claim}
+use Rattle.gx_law_order.proofs.Calm.{AreCalm, calm-free, each-released, lock-calm, nobody-waits}
 
 -- a mark that starts and answers nothing
 abbrev pub Still : Mark → Type 0
@@ -165,6 +169,10 @@ module _ (script : Script) (c : Coord) (x : NodeEvent) where
   ok-append earlier [] ys e f = subst (λ b. AnswersOk b ys) (append-nil earlier) f
   ok-append earlier (m ∷ xs) ys e f = (e.0, ok-append (earlier ++ m ∷ []) xs ys e.1 (subst (λ b. AnswersOk b ys) (sym (append_assoc earlier (m ∷ []) xs)) f))
 
+  -- locks that are given back
+  back-none : (locks : Locks) (g : Gxid) → Each NoAnswer (release_marks the_coordinator locks g)
+  back-none locks g = each-released NoAnswer the_coordinator locks g (λ claim. tt)
+
   pub record Walk (earlier : List Mark) (turn : CoordTurn) : Type 0 where
     pub works : (h : ℕ) → Goes h (earlier ++ turn.marks) (c.works h) (turn.coord.works h)
     pub answers : AnswersOk earlier turn.marks
@@ -216,19 +224,19 @@ module _ (script : Script) (c : Coord) (x : NodeEvent) where
     closed-walk turn ok =
         record {
           works = one-goes _ (earlier ++ (is_committed c1 (gx g) turn).marks) g (with-others no_work) (inr (inl (ap (λ (w : Work). w.command) (with-here no_work))));
-          answers = (tt, (ok, tt));
+          answers = (tt, (ok, none-ok _ _ (back-none c1.locks (gx g))));
         }
 
     refused-walk : (turn : Turn) (why : List Mark) (reason : Refused) → Each NoAnswer why → Walk earlier (is_refused c1 (gx g) turn why reason)
     refused-walk turn why reason n =
         record {
           works = one-goes _ (earlier ++ (is_refused c1 (gx g) turn why reason).marks) g (with-others no_work) (inr (inl (ap (λ (w : Work). w.command) (with-here no_work))));
-          answers = ok-append earlier why _ (none-ok earlier why n) (tt, (tt, tt));
+          answers = ok-append earlier why _ (none-ok earlier why n) (tt, (tt, none-ok _ _ (back-none c1.locks (gx g))));
         }
 
     rolled-walk : (turn : Turn) (marks : List Mark) → AnswersOk (earlier ++ mark.Abort (gx g) ∷ []) marks → Walk earlier (rolls_back c1 (gx g) marks turn)
     rolled-walk turn marks ok =
-        record { works = one-goes _ (earlier ++ mark.Abort (gx g) ∷ marks) g (with-others no_work) (inr (inl (ap (λ (w : Work). w.command) (with-here no_work)))); answers = (tt, ok) }
+        record { works = one-goes _ (earlier ++ (rolls_back c1 (gx g) marks turn).marks) g (with-others no_work) (inr (inl (ap (λ (w : Work). w.command) (with-here no_work)))); answers = (tt, ok-append (earlier ++ mark.Abort (gx g) ∷ []) marks _ ok (none-ok _ _ (back-none c1.locks (gx g)))) }
 
     answered-walk : AnswerOk earlier (work_of c1 (gx g)).session (answer_of_command (work_of c1 (gx g)).command) → Walk earlier (answers c1 (gx g) (work_of c1 (gx g)))
     answered-walk ok =
@@ -364,11 +372,30 @@ module _ (script : Script) (c : Coord) (x : NodeEvent) where
         refused-walk-at d away turn why reason n =
             record {
               works = one-goes _ (earlier ++ (is_refused d (gx g) turn why reason).marks) g (λ h q. ap (λ b. if b then no_work else d.works h) q ∙ away h q) (inr (inl (ap (λ (w : Work). w.command) (ap (λ b. if b then no_work else d.works g) (self-test g)))));
-              answers = ok-append earlier why _ (none-ok earlier why n) (tt, (tt, tt));
+              answers = ok-append earlier why _ (none-ok earlier why n) (tt, (tt, none-ok _ _ (back-none d.locks (gx g))));
             }
 
-    pub dispatch-walk : IsStarting x → Base → (line : Stmt) → Walk earlier (dispatches script c1 (gx g) line)
-    dispatch-walk it base line = goes-walk it base (next_cid (c1.works g)) line _ (reads (next_cid (c1.works g)) line) (plan_of script.segments (dist_of script.tables (table_of line)) (gx g) (next_cid (c1.works g)) line) refl
+    pub locked-walk : IsStarting x → Base → (line : Stmt) → Walk earlier (goes_on_locked script c1 (gx g) line)
+    locked-walk it base line = goes-walk it base (next_cid (c1.works g)) line _ (reads (next_cid (c1.works g)) line) (plan_of script.segments (dist_of script.tables (table_of line)) (gx g) (next_cid (c1.works g)) line) refl
+
+  -- WITH ITS TABLE'S LOCK
+  module _ (c1 : Coord) (g : ℕ) (others : (h : ℕ) → eqb h g ≡ false → c1.works h ≡ c.works h) (earlier : List Mark) (it : IsStarting x) (base : ((stage_of c g ≡ LiveStage) × (c1.works g ≡ c.works g)) ⊎ ((c1.works g).snapshot ≡ None)) (calm : AreCalm c1.locks) (line : Stmt) where
+    held-walk : (locks : Locks) (wanted : Claim) → Walk earlier (behind (hold_mark the_coordinator wanted ∷ []) (goes_on_locked script (record c1 { locks = locks }) (gx g) line))
+    held-walk locks wanted =
+        let y = locked-walk (record c1 { locks = locks }) g others (earlier ++ hold_mark the_coordinator wanted ∷ []) it base line in
+        record {
+          works = λ h. subst (λ ms. Goes h ms (c.works h) ((goes_on_locked script (record c1 { locks = locks }) (gx g) line).coord.works h)) (append_assoc earlier (hold_mark the_coordinator wanted ∷ []) (goes_on_locked script (record c1 { locks = locks }) (gx g) line).marks) (y.works h);
+          answers = (tt, y.answers);
+        }
+
+    request-walk : (o : Option Claim) → lock_for (gx g) line ≡ o → Walk earlier (requests script c1 (gx g) line o)
+    request-walk None e = locked-walk c1 g others earlier it base line
+    request-walk (Some wanted) e =
+        subst (λ q. Walk earlier (if_granted script c1 (gx g) line wanted q)) (sym (calm-free c1.locks wanted calm (lock-calm (gx g) line wanted e)))
+        (held-walk (with_hold c1.locks wanted) wanted)
+
+    pub dispatch-walk : Walk earlier (dispatches script c1 (gx g) line)
+    dispatch-walk = request-walk (lock_for (gx g) line) refl
 
   -- ANSWERS OF SEGMENTS
   module _ (k : Kept c) where
@@ -535,13 +562,13 @@ module _ (script : Script) (c : Coord) (x : NodeEvent) where
           differ : pending.Commit ≡ pending.Command → ⊥
           differ z = cc
 
-      rollback-line : Walk [] (rolls_back (starts_line c s step.RollbackBlock) (session_of (starts_line c s step.RollbackBlock) s).transaction (Rattle.gx_rules.specs.AtCoordinator.answer_mark (starts_line c s step.RollbackBlock) s told.Rollback ∷ []) (on_abort c.table (session_of (starts_line c s step.RollbackBlock) s).transaction))
-      rollback-line = rolled-walk (starts_line c s step.RollbackBlock) (session_of (starts_line c s step.RollbackBlock) s).transaction.0 (same-others _) [] (on_abort c.table (session_of (starts_line c s step.RollbackBlock) s).transaction) _ (tt, tt)
+      rollback-line : Walk [] (rolls_back (starts_line c s step.RollbackBlock) (session_of (starts_line c s step.RollbackBlock) s).transaction (answer_mark (starts_line c s step.RollbackBlock) s told.Rollback ∷ []) (on_abort c.table (session_of (starts_line c s step.RollbackBlock) s).transaction))
+      rollback-line = rolled-walk (starts_line c s step.RollbackBlock) (session_of (starts_line c s step.RollbackBlock) s).transaction.0 (same-others _) [] (on_abort c.table (session_of (starts_line c s step.RollbackBlock) s).transaction) (answer_mark (starts_line c s step.RollbackBlock) s told.Rollback ∷ []) (tt, tt)
 
-      inside-line : (line : Stmt) → is_open_in block ≡ true → Walk [] (dispatches script (starts_line c s (step.Command false)) (session_of (starts_line c s (step.Command false)) s).transaction line)
-      inside-line line opened =
+      inside-line : AreCalm c.locks → (line : Stmt) → is_open_in block ≡ true → Walk [] (dispatches script (starts_line c s (step.Command false)) (session_of (starts_line c s (step.Command false)) s).transaction line)
+      inside-line calm line opened =
           subst (λ g. Walk [] (dispatches script (starts_line c s (step.Command false)) g line)) (sym (transaction-now (step.Command false)))
-          (dispatch-walk (starts_line c s (step.Command false)) (session_of c s).transaction.0 (same-others (session_of c s).transaction.0) [] it (inl (own-live opened, refl)) line)
+          (dispatch-walk (starts_line c s (step.Command false)) (session_of c s).transaction.0 (same-others (session_of c s).transaction.0) [] it (inl (own-live opened, refl)) calm line)
 
       -- a new transaction
       begun-others : (asked : LineStep) (level : Level) (h : ℕ) → eqb h c.table.next.0 ≡ false → (begins (starts_line c s asked) s level).works h ≡ c.works h
@@ -558,9 +585,9 @@ module _ (script : Script) (c : Coord) (x : NodeEvent) where
           behind-walk (answers_at_once (begins (starts_line c s (step.BeginBlock level)) s level) s told.Begin)
           (record { works = one-goes (begins (starts_line c s (step.BeginBlock level)) s level).works _ c.table.next.0 (begun-others (step.BeginBlock level) level) (inr (inl (ap (λ (w : Work). w.command) (begun-here (step.BeginBlock level) level)))); answers = (tt, tt) })
 
-      alone-line : (line : Stmt) → Walk [] (behind (mark.Start c.table.next s ∷ []) (dispatches script (begins (starts_line c s (step.Command true)) s ReadCommitted) c.table.next line))
-      alone-line line =
-          behind-walk _ (dispatch-walk (begins (starts_line c s (step.Command true)) s ReadCommitted) c.table.next.0 (begun-others (step.Command true) ReadCommitted) (mark.Start c.table.next s ∷ []) it (inr (ap (λ (w : Work). w.snapshot) (begun-here (step.Command true) ReadCommitted))) line)
+      alone-line : AreCalm c.locks → (line : Stmt) → Walk [] (behind (mark.Start c.table.next s ∷ []) (dispatches script (begins (starts_line c s (step.Command true)) s ReadCommitted) c.table.next line))
+      alone-line calm line =
+          behind-walk _ (dispatch-walk (begins (starts_line c s (step.Command true)) s ReadCommitted) c.table.next.0 (begun-others (step.Command true) ReadCommitted) (mark.Start c.table.next s ∷ []) it (inr (ap (λ (w : Work). w.snapshot) (begun-here (step.Command true) ReadCommitted))) calm line)
 
       plain-ok : (p : Plain) → AnswerOk [] s (plain_answer_of p)
       plain-ok plain.Begin = tt
@@ -570,19 +597,19 @@ module _ (script : Script) (c : Coord) (x : NodeEvent) where
       at-once : (asked : LineStep) (a : StmtAnswer) → AnswerOk [] s a → Walk [] (answers_at_once (starts_line c s asked) s a)
       at-once asked a ok = record { works = λ h. inl (refl, refl); answers = (ok, tt) }
 
-      line-walk : (line : Stmt) (asked : LineStep) → Asks block asked → Walk [] (on_line script (starts_line c s asked) s line asked)
-      line-walk line (step.Answer p) a = at-once (step.Answer p) _ (plain-ok p)
-      line-walk line step.Refuse5 a = at-once step.Refuse5 _ tt
-      line-walk line step.Refuse7 a = at-once step.Refuse7 _ tt
-      line-walk line (step.BeginBlock level) a = begin-line level
-      line-walk line step.CommitBlock a = commit-line a
-      line-walk line step.RollbackBlock a = rollback-line
-      line-walk line (step.Command true) a = alone-line line
-      line-walk line (step.Command false) a = inside-line line a
+      line-walk : AreCalm c.locks → (line : Stmt) (asked : LineStep) → Asks block asked → Walk [] (on_line script (starts_line c s asked) s line asked)
+      line-walk calm line (step.Answer p) a = at-once (step.Answer p) _ (plain-ok p)
+      line-walk calm line step.Refuse5 a = at-once step.Refuse5 _ tt
+      line-walk calm line step.Refuse7 a = at-once step.Refuse7 _ tt
+      line-walk calm line (step.BeginBlock level) a = begin-line level
+      line-walk calm line step.CommitBlock a = commit-line a
+      line-walk calm line step.RollbackBlock a = rollback-line
+      line-walk calm line (step.Command true) a = alone-line calm line
+      line-walk calm line (step.Command false) a = inside-line calm line a
 
-      start-walk : (o : Option Stmt) → Walk [] (starts script c s o)
-      start-walk None = rest-walk
-      start-walk (Some line) = line-walk line (line_step block line) (asks block line)
+      start-walk : AreCalm c.locks → (o : Option Stmt) → Walk [] (starts script c s o)
+      start-walk calm None = rest-walk
+      start-walk calm (Some line) = line-walk calm line (line_step block line) (asks block line)
 
     end-walk : (s : SessionId) (b : Block) → Walk [] (ends_in c s b)
     end-walk s (Open level) = rolled-walk (with_state c s idle_outside) (session_of c s).transaction.0 (same-others _) [] (on_abort c.table (session_of c s).transaction) [] tt
@@ -595,11 +622,11 @@ module _ (script : Script) (c : Coord) (x : NodeEvent) where
         by_pending : (q : Pending) → is_nothing q ≡ true → is_nothing_in q ≡ true
         by_pending q e = grind arith
 
-    pub event-walk : (y : NodeEvent) → x ≡ y → (fails : Bool) → coord_can script c y ≡ true → Walk [] (on_event script c y fails)
-    event-walk (event.Deliver from envelope) is fails can = message-walk from fails envelope is envelope.message refl
-    event-walk (event.Start s) is fails can = start-walk s (subst IsStarting (sym is) tt) (idle-first s _ can) (next_line script c s)
-    event-walk (event.End s) is fails can = end-walk s (session_of c s).state.block
-    event-walk (event.Resend i (Some g)) is fails can = again-walk i (awaited c g i)
-    event-walk (event.Resend i None) is fails can = rest-walk
-    event-walk (event.Resume g) is fails can = rest-walk
-    event-walk event.Round is fails can = rest-walk
+    pub event-walk : AreCalm c.locks → (y : NodeEvent) → x ≡ y → (fails : Bool) → coord_can script c y ≡ true → Walk [] (on_event script c y fails)
+    event-walk calm (event.Deliver from envelope) is fails can = message-walk from fails envelope is envelope.message refl
+    event-walk calm (event.Start s) is fails can = start-walk s (subst IsStarting (sym is) tt) (idle-first s _ can) calm (next_line script c s)
+    event-walk calm (event.End s) is fails can = end-walk s (session_of c s).state.block
+    event-walk calm (event.Resend i (Some g)) is fails can = again-walk i (awaited c g i)
+    event-walk calm (event.Resend i None) is fails can = rest-walk
+    event-walk calm (event.Resume g) is fails can = subst (λ o. Walk [] (resumes script c g o (work_of c g).waiting)) (sym (nobody-waits c.locks g calm)) rest-walk
+    event-walk calm event.Round is fails can = rest-walk

@@ -26,6 +26,12 @@ use Rattle.gx_script.specs.declared.line_step.LineStep.TheVariants.{Command}
 use Rattle.gx_rules.specs.Expected.{CommitsByOne, FinishesLost, KeepsSnapshot, ReadsBetween, RefusesPromise, RunsOnce, between, kept_run, lost, one_phase, refused_run, repeated}
 use Rattle.gx_rules.specs.Machine.{World, after, coord_did, new_world}
 use Rattle.gx_rules.specs.Rows.{between_commits, drives, insert, kept_snapshot, lost_committed, never, number, once_at_second, one_writer, reader_between, refused_promise, repeated_exec, row_of, session, start, the_table, tuple, two_rows}
+use Rattle.gx_waits.specs.declared.claim.Claim.{Claim}
+use Rattle.gx_waits.specs.declared.object.Object.TheVariants.{Relation}
+use Rattle.gx_modes.specs.declared.modes.Mode.TheVariants.{RowExclusive}
+use Rattle.gx_store.specs.Waits.{claim}
+use Rattle.gx_rules.specs.Locks.{hold_mark, with_hold}
+use Rattle.gx_store.specs.Refusals.{the_coordinator}
 
 values_of-tuple : (a b : ℕ) → values_of (tuple a b) ≡ Ok (value.Int (pos a) ∷ value.Int (pos b) ∷ [])
 values_of-tuple a b = ap (λ x. and_then x (λ u. and_then (each_from constant 1 (number b ∷ [])) (λ ys. Ok (u ∷ ys)))) (value_of-lit [] (value.Int (pos a))) ∙ ap (λ y. and_then (and_then y (λ v. and_then (Ok []) (λ ys. Ok (v ∷ ys)))) (λ ys. Ok (value.Int (pos a) ∷ ys))) (value_of-lit [] (value.Int (pos b)))
@@ -48,10 +54,17 @@ plan-two_rows =
     ap (λ r. and_then r (λ rows. Ok (insert_pieces 2 (By 0) the_table rows)))
     (each-next g1 c1 1 (tuple 0 1) (tuple 1 1 ∷ []) _ (row_of 2 1 1 ∷ []) (values_of-tuple 0 1) (each-next g1 c1 2 (tuple 1 1) [] _ [] (values_of-tuple 1 1) refl))
 
+-- the table's lock of an INSERT
+abbrev table_lock : Gxid → Claim
+table_lock g = claim g (Relation the_table) RowExclusive
+
+abbrev with_table : Coord → Gxid → Coord
+with_table c g = record c { locks = with_hold c.locks (table_lock g) }
+
 -- the world after the line has started, with its plan in its place
 abbrev started : World → Coord → Gxid → Cid → SessionId → Stmt → List Mark → Result (List Piece) ArithFault → World
 started w c g cid s line begun plan =
-    coord_did w (event.Start s) (coord_sends (w.coord.clock + 1) (behind begun (goes g cid line (reads_for c g cid (work_of c g) line) plan)))
+    coord_did w (event.Start s) (coord_sends (w.coord.clock + 1) (behind begun (behind (hold_mark the_coordinator (table_lock g) ∷ []) (goes g cid line (reads_for (with_table c g) g cid (work_of (with_table c g) g) line) plan))))
 
 -- an INSERT alone is the first line
 abbrev first_coord : Coord
@@ -79,7 +92,7 @@ pub runs_once : RunsOnce repeated
 runs_once = subst RunsOnce (sym (drives-repeated 39)) (record { answers = refl; marks = refl; writes = refl })
 
 pub refuses_promise : RefusesPromise refused_run
-refuses_promise = subst RefusesPromise (sym (drives-refused 39)) (record { answers = refl; marks = refl; journal = refl; first = refl; second = refl })
+refuses_promise = subst RefusesPromise (sym (drives-refused 39)) (record { locks = refl; answers = refl; marks = refl; journal = refl; first = refl; second = refl })
 
 after-between : (es : List (Event × Bool)) → after reader_between new_world (start 0 ∷ es) ≡ after reader_between first_world es
 after-between es = ap (λ w. after reader_between w es) starts-two_rows
@@ -110,7 +123,7 @@ drives-one : (n : ℕ) → drives (suc (suc (suc (suc (suc (suc (suc n))))))) on
 drives-one n = ap (λ plan. drives n one_writer never (insert_world plan)) plan-one_row
 
 pub commits_by_one : CommitsByOne one_phase
-commits_by_one = subst CommitsByOne (sym (drives-one 33)) (record { answers = refl; marks = refl; journal = refl; first = refl; second = refl })
+commits_by_one = subst CommitsByOne (sym (drives-one 33)) (record { locks = refl; answers = refl; marks = refl; journal = refl; first = refl; second = refl })
 
 -- the first block's INSERT, where the other has read
 abbrev c1_row : KeyedRow

@@ -55,9 +55,15 @@ use Rattle.gx_store.specs.declared.node.NodeEvent.{NodeEvent}
 use Rattle.gx_store.specs.declared.node.NodeEvent.TheVariants as node
 use Rattle.gx_store.specs.Lines.{stmt_of}
 use Rattle.gx_store.specs.Refusals.{the_coordinator}
+use Rattle.gx_store.specs.Waits.{claim}
 use Rattle.gx_store.specs.Writes.{dist_of}
+use Rattle.gx_locks.specs.Locks.{is_free, is_ready, resumed, wait_of}
+use Rattle.gx_modes.specs.declared.modes.Mode.TheVariants.{AccessShare, RowExclusive}
+use Rattle.gx_waits.specs.declared.claim.Claim.{Claim}
+use Rattle.gx_waits.specs.declared.object.Object.TheVariants.{Relation}
 use Rattle.gx_rules.specs.Coordinators.{Command, Coord, CoordTurn, Session, Work, new_work, no_work, rests, session_of, with_session, with_state, with_work, work_of}
 use Rattle.gx_rules.specs.Fits.{fits_part}
+use Rattle.gx_rules.specs.Locks.{hold_mark, release_marks, released, wait_mark, with_hold, with_wait}
 use Rattle.gx_meaning.specs.Merged.{merged_answer}
 use Rattle.gx_rules.specs.Sending.{clock_after, counted_all, numbered}
 use Rattle.gx_rules.specs.Snapshots.{snapshot_of}
@@ -85,13 +91,13 @@ answer_at_commit w pending.Command = answer_of_command w.command
 answer_at_commit w _ = told.Commit
 
 -- THE ENDS OF TRANSACTIONS
--- it commits: its Commit mark, the answer, and then what is sent for it
+-- it commits: its Commit mark, the answer, its locks, and then what is sent for it
 abbrev pub is_committed : Coord → Gxid → Turn → CoordTurn
 is_committed c g turn =
     let s = (work_of c g).session in
     record {
-      coord = record (with_state (with_work c g no_work) s (after_done (session_of c s).state)) { table = turn.table };
-      marks = mark.Commit g ∷ answer_mark c s (answer_at_commit (work_of c g) (session_of c s).state.pending) ∷ [];
+      coord = record (with_state (with_work c g no_work) s (after_done (session_of c s).state)) { table = turn.table; locks = released c.locks g };
+      marks = mark.Commit g ∷ answer_mark c s (answer_at_commit (work_of c g) (session_of c s).state.pending) ∷ release_marks the_coordinator c.locks g;
       outs = turn.out.outs;
       item = None;
     }
@@ -101,8 +107,8 @@ abbrev pub is_refused : Coord → Gxid → Turn → List Mark → Refused → Co
 is_refused c g turn why reason =
     let s = (work_of c g).session in
     record {
-      coord = record (with_state (with_work c g no_work) s (after_refused (session_of c s).state)) { table = turn.table };
-      marks = why ++ mark.Abort g ∷ answer_mark c s (told.Refused reason) ∷ [];
+      coord = record (with_state (with_work c g no_work) s (after_refused (session_of c s).state)) { table = turn.table; locks = released c.locks g };
+      marks = why ++ mark.Abort g ∷ answer_mark c s (told.Refused reason) ∷ release_marks the_coordinator c.locks g;
       outs = turn.out.outs;
       item = None;
     }
@@ -121,6 +127,9 @@ follows c g turn outcome.Ended = record { coord = record c { table = turn.table 
 
 abbrev pub commits : Coord → Gxid → CoordTurn
 commits c g = follows c g (on_commit c.table g (work_of c g).writers) (on_commit c.table g (work_of c g).writers).out.outcome
+
+abbrev pub behind : List Mark → CoordTurn → CoordTurn
+behind marks turn = record turn { marks = marks ++ turn.marks }
 
 -- COMMANDS
 -- with the snapshot by which the command reads
@@ -213,19 +222,43 @@ table_of _ = 0
 abbrev pub next_cid : Work → Cid
 next_cid w = record { 0 = w.last + 1 }
 
-abbrev pub dispatches : Script → Coord → Gxid → Stmt → CoordTurn
-dispatches script c g line =
+-- with its table's lock a command takes its snapshot, is cut into pieces, and goes out
+abbrev pub goes_on_locked : Script → Coord → Gxid → Stmt → CoordTurn
+goes_on_locked script c g line =
     let cid = next_cid (work_of c g) in
     goes g cid line (reads_for c g cid (work_of c g) line) (plan_of script.segments (dist_of script.tables (table_of line)) g cid line)
+
+-- the lock that it takes on its table: those that read or add rows; the others take none yet
+abbrev pub lock_for : Gxid → Stmt → Option Claim
+lock_for g (stmt.Select query) = Some (claim g (Relation query.table) AccessShare)
+lock_for g (stmt.Insert table tuples) = Some (claim g (Relation table) RowExclusive)
+lock_for g _ = None
+
+abbrev pub waits_for : Coord → Gxid → Stmt → Claim → CoordTurn
+waits_for c g line wanted =
+    record {
+      coord = with_work (record c { locks = with_wait c.locks wanted }) g (record (work_of c g) { waiting = Some line });
+      marks = wait_mark the_coordinator wanted ∷ [];
+      outs = [];
+      item = None;
+    }
+
+abbrev pub if_granted : Script → Coord → Gxid → Stmt → Claim → Bool → CoordTurn
+if_granted script c g line wanted true = behind (hold_mark the_coordinator wanted ∷ []) (goes_on_locked script (record c { locks = with_hold c.locks wanted }) g line)
+if_granted script c g line wanted false = waits_for c g line wanted
+
+abbrev pub requests : Script → Coord → Gxid → Stmt → Option Claim → CoordTurn
+requests script c g line None = goes_on_locked script c g line
+requests script c g line (Some wanted) = if_granted script c g line wanted (is_free c.locks.holds wanted)
+
+abbrev pub dispatches : Script → Coord → Gxid → Stmt → CoordTurn
+dispatches script c g line = requests script c g line (lock_for g line)
 
 -- LINES
 -- a transaction of a session begins
 abbrev pub begins : Coord → SessionId → Level → Coord
 begins c s level =
     with_session (with_work (record c { table = begun c.table }) c.table.next (new_work s level)) s (record (session_of c s) { transaction = c.table.next })
-
-abbrev pub behind : List Mark → CoordTurn → CoordTurn
-behind marks turn = record turn { marks = marks ++ turn.marks }
 
 abbrev pub answers_at_once : Coord → SessionId → StmtAnswer → CoordTurn
 answers_at_once c s told = record { coord = c; marks = answer_mark c s told ∷ []; outs = []; item = None }
@@ -238,7 +271,12 @@ plain_answer_of plain.Rollback = told.Rollback
 -- ROLLBACK aborts its block's transaction, where the session stands outside already
 abbrev pub rolls_back : Coord → Gxid → List Mark → Turn → CoordTurn
 rolls_back c g marks turn =
-    record { coord = record (with_work c g no_work) { table = turn.table }; marks = mark.Abort g ∷ marks; outs = turn.out.outs; item = None }
+    record {
+      coord = record (with_work c g no_work) { table = turn.table; locks = released c.locks g };
+      marks = mark.Abort g ∷ marks ++ release_marks the_coordinator c.locks g;
+      outs = turn.out.outs;
+      item = None;
+    }
 
 -- by what the line asks for; the session stands where the line has led it
 abbrev pub on_line : Script → Coord → SessionId → Stmt → LineStep → CoordTurn
@@ -365,14 +403,17 @@ resends c i None = rests c
 resends c i (Some told) = record { coord = c; marks = []; outs = record { node = i; message = told } ∷ []; item = None }
 
 -- RESUMPTIONS
--- A command whose lock is free goes out. None waits yet, so nothing happens.
-abbrev pub resumes : Coord → Gxid → CoordTurn
-resumes c g = rests c
+-- A statement whose lock is free takes it and goes out.
+abbrev pub resumes : Script → Coord → Gxid → Option Claim → Option Stmt → CoordTurn
+resumes script c g (Some wanted) (Some line) =
+    behind (hold_mark the_coordinator wanted ∷ [])
+    (goes_on_locked script (with_work (record c { locks = resumed c.locks g (Some wanted) }) g (record (work_of c g) { waiting = None })) g line)
+resumes script c g _ _ = rests c
 
 -- THE RULE
 abbrev pub on_event : Script → Coord → NodeEvent → Bool → CoordTurn
 on_event script c (node.Deliver from envelope) fails = on_message c from fails envelope.message
-on_event script c (node.Resume g) fails = resumes c g
+on_event script c (node.Resume g) fails = resumes script c g (wait_of c.locks g) (work_of c g).waiting
 on_event script c (node.Start s) fails = starts script c s (next_line script c s)
 on_event script c (node.End s) fails = ends_in c s (session_of c s).state.block
 on_event script c (node.Resend i (Some g)) fails = resends c i (awaited c g i)
@@ -415,10 +456,10 @@ abbrev pub is_segment : Script → Node → Bool
 is_segment script i = nat_le 1 i.0 && nat_le i.0 script.segments
 
 -- A delivery is from a segment, a line starts where its session is idle, a session ends that is idle in a block without a line
--- left, and what is sent again has an awaited answer. Nobody resumes, since nobody waits yet.
+-- left, what is sent again has an awaited answer, and whoever resumes has a wait that meets no hold.
 abbrev pub coord_can : Script → Coord → NodeEvent → Bool
 coord_can script c (node.Deliver from envelope) = is_segment script from
-coord_can script c (node.Resume g) = false
+coord_can script c (node.Resume g) = is_ready c.locks.holds (wait_of c.locks g)
 coord_can script c (node.Start s) = is_idle (session_of c s) && is_left (next_line script c s)
 coord_can script c (node.End s) = is_idle (session_of c s) && (not (is_left (next_line script c s)) && is_in_block (session_of c s).state.block)
 coord_can script c (node.Resend i (Some g)) = is_some (awaited c g i)

@@ -3,6 +3,7 @@ pub mod Gxids
 pub mod Snapshots
 pub mod Sending
 pub mod Segments
+pub mod Locks
 pub mod Shown
 pub mod Slices
 pub mod Fits

@@ -111,6 +111,16 @@ protocol_in _ = []
 abbrev pub protocol_of : World → List Mark
 protocol_of w = flat_map protocol_in (marks_in w.steps)
 
+-- who takes which lock, and who gives it back
+abbrev pub lock_in : Mark → List Mark
+lock_in (mark.Hold n g object mode) = mark.Hold n g object mode ∷ []
+lock_in (mark.Wait n g object mode) = mark.Wait n g object mode ∷ []
+lock_in (mark.Release n g object mode) = mark.Release n g object mode ∷ []
+lock_in _ = []
+
+abbrev pub locks_of : World → List Mark
+locks_of w = flat_map lock_in (marks_in w.steps)
+
 -- how many writes there are
 abbrev pub is_write : Mark → Bool
 is_write (mark.Write g c node table rid image) = true
