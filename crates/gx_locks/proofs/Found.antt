@@ -3,12 +3,14 @@ use Rattle.std.proofs.Common.{◌≡◌, List, [], ◌∷◌, refl, sym, ap, ◌
 use Rattle.std.proofs.lemmas.Simd.{map-map}
 use Rattle.std.specs.Prelude.{filter, find, map}
 use Rattle.std.specs.List.{list_any}
+use Rattle.gx_ids.specs.declared.ids.Gxid.{Gxid}
 use Rattle.gx_modes.specs.Table.{conflict}
 use Rattle.gx_waits.specs.declared.claim.Claim.{Claim}
 use Rattle.gx_locks.specs.declared.hold.Hold.{Hold}
 use Rattle.gx_locks.specs.declared.key.Key.{Key}
 use Rattle.gx_locks.specs.declared.key.Key.TheVariants.{On, Of}
 use Rattle.gx_waits.specs.Claim.{meets, same_claim, same_object}
+use Rattle.gx_locks.specs.Claims.{is_of}
 use Rattle.gx_locks.specs.Holds.{same_hold, claims_of, is_under}
 use Rattle.gx_locks.specs.Locks.{blockers}
 use Rattle.gx_locks.proofs.Filed.{claims_of-filter, list_any-weaker, filter-weaker, find-weaker, filter-swapped, filter-untouched, same_on, is_of-same, on-same}
@@ -46,6 +48,9 @@ module _ (c : Claim) where
     find-filed =
         ap (find (λ h. same_claim c h.claim)) on
         ∙ find-weaker (λ h. same_claim c h.claim) (λ h. same_object c.object h.claim.object) (λ h. same_on c h.claim) hs
+
+pub of-filed : (g : Gxid) (hs held : List Hold) → held ≡ filter (λ h. is_under (Of g) h.claim) hs → claims_of held ≡ filter (is_of g) (claims_of hs)
+of-filed g hs held e = ap claims_of e ∙ claims_of-filter (is_of g) hs
 
 pub is_under-same : (k : Key) (a b : Claim) → same_claim a b ≡ true → is_under k b ≡ is_under k a
 is_under-same (On o) a b same = on-same o a b same

@@ -2,11 +2,12 @@ ghost use Rattle.std.specs.Prelude.{◌≡◌, ◌≢◌, ◌+◌, ◌∷◌, �
 ghost use Rattle.std.specs.List.{list_any};
 ghost use Rattle.gx_waits.specs.declared.claim.Claim.{Claim};
 ghost use Rattle.gx_waits.specs.Claim.{same_claim};
+ghost use Rattle.gx_locks.specs.Claims.{is_of};
 ghost use Rattle.gx_locks.specs.Holds.{same_hold, claims_of, is_under};
 ghost use Rattle.gx_locks.specs.Kept.{AreOnce};
 ghost use Rattle.gx_locks.specs.Locks.{is_free, without, blockers, AreRisen};
 
-use crate::claims::{find_same, is_any_met, is_any_same, risen_blockers};
+use crate::claims::{copy_claims, find_same, is_any_met, is_any_same, risen_blockers};
 use crate::hold::Hold;
 use crate::index::Index;
 use crate::key::Key;
@@ -44,6 +45,14 @@ impl Book {
         ensures { IfOk result (λ claims. claims.items ≡ claims_in self.now) }
     {
         self.ledger.claims(alloc)
+    }
+
+    /// The claims of a transaction, in the order in which they came.
+    pub fn claims_of(&self, alloc: Global, gxid: Gxid) -> Mem<Vec<Claim>>
+        requires { IsFiled self.now }
+        ensures { IfOk result (λ claims. claims.items ≡ filter (is_of gxid) (claims_in self.now)) }
+    {
+        copy_claims(alloc, self.index.at(Key::Of(gxid)))
     }
 
     /// The holds on an object.

@@ -3,7 +3,7 @@ ghost use Rattle.std.specs.Vec.{vec_capacity};
 ghost use Rattle.std.specs.List.{list_any};
 ghost use Rattle.gx_waits.specs.Claim.{meets, same_claim, same_object};
 ghost use Rattle.gx_locks.specs.Claims.{is_of};
-ghost use Rattle.gx_locks.specs.Holds.{same_hold};
+ghost use Rattle.gx_locks.specs.Holds.{claims_of, same_hold};
 ghost use Rattle.gx_locks.specs.Locks.{without, AreRisen};
 
 use crate::hold::Hold;
@@ -12,8 +12,8 @@ use gx_modes::conflicts;
 use gx_waits::{Claim, Object};
 use std::alloc::Global;
 
-// Whether two objects are one.
-pub(crate) fn is_same_object(a: &Object, b: &Object) -> bool
+/// Whether two objects are one.
+pub fn is_same_object(a: &Object, b: &Object) -> bool
     ensures { result ≡ same_object a.now b.now }
 {
     match (*a, *b) {
@@ -91,6 +91,14 @@ fn all_blockers(alloc: Global, holds: &[Hold], claim: &Claim) -> Mem<Vec<Gxid>>
         .map(|hold| hold.claim.gxid)
         .collect(alloc)?;
     Ok(gxids)
+}
+
+// The claims of holds.
+pub(crate) fn copy_claims(alloc: Global, holds: &[Hold]) -> Mem<Vec<Claim>>
+    ensures { IfOk result (λ claims. claims.items ≡ claims_of holds.now) }
+{
+    let claims: Vec<Claim> = holds.iter().map(|hold| hold.claim).collect(alloc)?;
+    Ok(claims)
 }
 
 // Whether a transaction has a wait.

@@ -16,4 +16,5 @@ mod slot;
 pub mod table;
 
 pub use answer::LockAnswer;
+pub use claims::is_same_object;
 pub use table::LockTable;

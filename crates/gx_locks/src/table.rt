@@ -60,6 +60,13 @@ impl LockTable {
         self.book.claims(self.alloc)
     }
 
+    /// The holds of a transaction, in the order in which they came.
+    pub fn holds_of(&self, gxid: Gxid) -> Mem<Vec<Claim>>
+        ensures { IfOk result (λ claims. claims.items ≡ filter (is_of gxid) self.now.holds) }
+    {
+        self.book.claims_of(self.alloc, gxid)
+    }
+
     /// The standing waits, at most one of a transaction.
     pub fn waits(&self) -> &[Claim]
         ensures value { result.now ≡ self.now.waits }
