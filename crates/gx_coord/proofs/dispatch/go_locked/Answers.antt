@@ -5,8 +5,8 @@ use Rattle.gx_coord.specs.Books.{coord_of, stmt_at}
 use Rattle.gx_coord.specs.Faults.{HasConstants}
 use Rattle.gx_coord.specs.Turns.{IsTurn}
 use Rattle.gx_coord.proofs.Faulting.{has-constants, stmt-of}
-use Rattle.gx_coord.proofs.Going.{dispatches-is}
-use Rattle.gx_coord.proofs.dispatch.dispatch.Goals as goal
+use Rattle.gx_coord.proofs.Going.{locked-is}
+use Rattle.gx_coord.proofs.dispatch.go_locked.Goals as goal
 
 pub read_and_go-requires-clause-constants : goal.read_and_go-requires-clause-constants
 read_and_go-requires-clause-constants c =
@@ -19,7 +19,7 @@ returns-clause-turn c =
     let old = c.args.coord.now in
     let line = c.line_at-line.ensures ∙ ap (λ (s : Script). stmt_at s.lines c.args.place) (c.deref.ensures ∙ c.in_ok-script.ensures) in
     subst (λ (t : CoordTurn). OnOk c.read_and_go.result (IsTurn old c.read_and_go.new.coord c.args.marks.now.items c.read_and_go.new.marks.items t))
-    (dispatches-is old.script.value c.deref-3.result.now (coord_of old) c.args.gxid c.next_cid-cid.result c.line_at-line.result.now (stmt_at old.script.value.lines c.args.place) (c.deref-3.ensures ∙ c.in_ok-script.ensures) c.next_cid-cid.ensures line)
+    (locked-is old.script.value c.deref-3.result.now (coord_of old) c.args.gxid c.next_cid-cid.result c.line_at-line.result.now (stmt_at old.script.value.lines c.args.place) (c.deref-3.ensures ∙ c.in_ok-script.ensures) c.next_cid-cid.ensures line)
     c.read_and_go.ensures.turn
 
 pub returns-clause-outs : goal.returns-clause-outs
@@ -27,5 +27,5 @@ returns-clause-outs c =
     let old = c.args.coord.now in
     let line = c.line_at-line.ensures ∙ ap (λ (s : Script). stmt_at s.lines c.args.place) (c.deref.ensures ∙ c.in_ok-script.ensures) in
     subst (λ (t : CoordTurn). IfOk c.read_and_go.result (λ outs. outs ≡ t.outs))
-    (dispatches-is old.script.value c.deref-3.result.now (coord_of old) c.args.gxid c.next_cid-cid.result c.line_at-line.result.now (stmt_at old.script.value.lines c.args.place) (c.deref-3.ensures ∙ c.in_ok-script.ensures) c.next_cid-cid.ensures line)
+    (locked-is old.script.value c.deref-3.result.now (coord_of old) c.args.gxid c.next_cid-cid.result c.line_at-line.result.now (stmt_at old.script.value.lines c.args.place) (c.deref-3.ensures ∙ c.in_ok-script.ensures) c.next_cid-cid.ensures line)
     c.read_and_go.ensures.outs
