@@ -1,25 +1,17 @@
 -- Claims in the order in which they are given back.
-use Rattle.std.proofs.Common.{◌≡◌, ◌≤◌, ◌<◌, ◌+◌, ◌∙◌, ℕ, zero, suc, List, [], ◌∷◌, ◌++◌, Bool, true, false, refl, ap, sym, if◌then◌else◌, arith, drop, take, fold, get_or, length}
+use Rattle.std.proofs.Common.{◌≡◌, ◌<◌, ◌+◌, ◌∙◌, ℕ, zero, suc, List, [], ◌∷◌, Bool, true, false, refl, ap, if◌then◌else◌, arith, drop, fold, get_or, length}
 use Rattle.std.specs.List.{insert}
 use Rattle.gx_waits.specs.declared.claim.Claim.{Claim}
 use Rattle.gx_rules.specs.Locks.{is_before, put_in}
 use Rattle.gx_coord.specs.Locking.{place_in}
 
+put_in-next : (claim x : Claim) (xs : List Claim) (b : Bool) → insert xs (place_in claim xs) claim ≡ put_in claim xs → insert (x ∷ xs) (if b then 0 else suc (place_in claim xs)) claim ≡ (if b then claim ∷ x ∷ xs else x ∷ put_in claim xs)
+put_in-next claim x xs true e = refl
+put_in-next claim x xs false e = ap (λ ys. x ∷ ys) e
+
 pub put_in-place : (claim : Claim) (others : List Claim) → insert others (place_in claim others) claim ≡ put_in claim others
 put_in-place claim [] = refl
-put_in-place claim (x ∷ xs) = by_test (is_before claim x)
-  where
-    by_test : (b : Bool) → insert (x ∷ xs) (if b then 0 else suc (place_in claim xs)) claim ≡ (if b then claim ∷ x ∷ xs else x ∷ put_in claim xs)
-    by_test true = refl
-    by_test false = ap (λ ys. x ∷ ys) (put_in-place claim xs)
-
-pub place_in-inside : (claim : Claim) (others : List Claim) → place_in claim others ≤ length others
-place_in-inside claim [] = omega arith
-place_in-inside claim (x ∷ xs) = by_test (is_before claim x) (place_in-inside claim xs)
-  where
-    by_test : (b : Bool) → place_in claim xs ≤ length xs → (if b then 0 else suc (place_in claim xs)) ≤ suc (length xs)
-    by_test true l = omega arith
-    by_test false l = omega (arith, l)
+put_in-place claim (x ∷ xs) = put_in-next claim x xs (is_before claim x) (put_in-place claim xs)
 
 abbrev pub ordered : List Claim → List Claim → List Claim
 ordered done claims = fold (λ now claim. put_in claim now) done claims

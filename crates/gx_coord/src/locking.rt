@@ -1,5 +1,5 @@
 // The locks that transactions have here, and how they are given back.
-ghost use Rattle.std.specs.Prelude.{◌≡◌, ◌++◌, ◌∷◌, [], filter, map, IfOk, IfSome, OnOk, false};
+ghost use Rattle.std.specs.Prelude.{◌≡◌, ◌≤◌, ◌++◌, ◌∷◌, [], filter, length, map, IfOk, IfSome, OnOk, false};
 ghost use Rattle.std.specs.List.{list_any};
 ghost use Rattle.gx_locks.specs.Claims.{is_of};
 ghost use Rattle.gx_locks.specs.Locks.{is_free};
@@ -53,7 +53,8 @@ fn is_before(left: &Claim, right: &Claim) -> bool
 
 // Where a claim goes in among others.
 fn place_for(claim: &Claim, others: &[Claim]) -> usize
-    ensures { result ≡ place_in claim.now others.now }
+    ensures value { result ≡ place_in claim.now others.now }
+    ensures inside { result ≤ length others.now }
 {
     for (place, other) in others.iter().enumerate() {
         if is_before(claim, other) {
