@@ -18,6 +18,8 @@ use Rattle.gx_dtx.specs.Nodes.{has, with_node}
 use Rattle.gx_dtx.specs.Rules.{abort_found, begun, enlisted, with_live}
 use Rattle.gx_dtx.specs.Table.{Table, find_txn, new_txn, xmin_of}
 use Rattle.gx_dtx.specs.declared.txn.Txn.{Txn}
+use Rattle.gx_locks.specs.Locks.{is_free}
+use Rattle.gx_waits.specs.declared.claim.Claim.{Claim}
 use Rattle.gx_meaning.specs.declared.fault.ArithFault.{ArithFault}
 use Rattle.gx_meaning.specs.Plan.{plan_of}
 use Rattle.gx_meaning.specs.declared.piece.Piece.{Piece}
@@ -28,8 +30,9 @@ use Rattle.gx_script.specs.declared.line_step.LineStep.TheVariants as step
 use Rattle.gx_script.specs.declared.state.Block.{Block}
 use Rattle.gx_script.specs.declared.state.Block.TheVariants as block
 use Rattle.gx_store.specs.Writes.{dist_of}
-use Rattle.gx_rules.specs.AtCoordinator.{Reading, begins, dispatches, ends_in, enlisted_all, fault_mark, goes, goes_out, next_cid, nodes_in, on_line, reads_by, reads_for, refusal_of, rolls_back, starts, starts_line, table_of, takes_snapshot}
+use Rattle.gx_rules.specs.AtCoordinator.{Reading, begins, dispatches, ends_in, enlisted_all, fault_mark, goes, goes_on_locked, goes_out, if_granted, lock_for, next_cid, nodes_in, on_line, reads_by, reads_for, refusal_of, requests, rolls_back, starts, starts_line, table_of, takes_snapshot, waits_for}
 use Rattle.gx_rules.specs.Coordinators.{Command, Coord, Session, Work, new_work, session_of, with_state}
+use Rattle.gx_rules.specs.Locks.{with_hold}
 use Rattle.gx_rules.specs.Maps.{with_at}
 use Rattle.gx_rules.specs.Snapshots.{snapshot_of}
 use Rattle.gx_law_order.proofs.Closings.{live-at, set_live}
@@ -212,9 +215,35 @@ module _ (c : Coord) (g : ℕ) where
   gone-sound r reads cid line (Ok pieces) l = out-sound r reads cid line pieces l
   gone-sound r reads cid line (Err f) l = refused-sound r.coord reads.whole reads.sound g (abort_found (gx g) (find_txn r.coord.table (gx g))) (r.marks ++ fault_mark (gx g) cid line) (refusal_of f)
 
-  pub dispatch-sound : IsWhole c.table → AreSound c → (script : Script) (line : Stmt) → (c.works g).last + 1 ≤ (c.sessions (c.works g).session.0).lines → AreSound (dispatches script c (gx g) line).coord
-  dispatch-sound whole e script line l =
+  locked-sound : IsWhole c.table → AreSound c → (script : Script) (line : Stmt) → (c.works g).last + 1 ≤ (c.sessions (c.works g).session.0).lines → AreSound (goes_on_locked script c (gx g) line).coord
+  locked-sound whole e script line l =
       gone-sound _ (read-for c whole e g (next_cid (c.works g)) line) (next_cid (c.works g)) line (plan_of script.segments (dist_of script.tables (table_of line)) (gx g) (next_cid (c.works g)) line) l
+
+-- ITS TABLE'S LOCK
+waits-sound : (w : Work) (lines : ℕ) (t : Option Txn) (line : Option Stmt) → IsSoundWork w lines t → IsSoundWork (record w { waiting = line }) lines t
+waits-sound w lines t line h = record { writers = h.writers; among = h.among; command = h.command; last = h.last }
+
+waiting-sound : (c : Coord) (g : ℕ) → AreSound c → (line : Stmt) (wanted : Claim) → AreSound (waits_for c (gx g) line wanted).coord
+waiting-sound c g e line wanted =
+    let w : Work = record (c.works g) { waiting = Some line } in
+    sound-after c (waits_for c (gx g) line wanted).coord g e
+    (record {
+      finds = λ j q. refl;
+      works = λ j q. with_at-other c.works g w j q;
+      lines = λ j. le_refl _;
+      here = subst (λ (v : Work). IsSoundWork v (c.sessions v.session.0).lines (find_txn c.table (gx g))) (sym (with_at-same c.works g w)) (waits-sound (c.works g) _ _ (Some line) (e g));
+    })
+
+request-sound : (c : Coord) (g : ℕ) → IsWhole c.table → AreSound c → (script : Script) (line : Stmt) → (c.works g).last + 1 ≤ (c.sessions (c.works g).session.0).lines → (o : Option Claim) → AreSound (requests script c (gx g) line o).coord
+request-sound c g whole e script line l None = locked-sound c g whole e script line l
+request-sound c g whole e script line l (Some wanted) = by_test (is_free c.locks.holds wanted)
+  where
+    by_test : (b : Bool) → AreSound (if_granted script c (gx g) line wanted b).coord
+    by_test true = locked-sound (record c { locks = with_hold c.locks wanted }) g whole e script line l
+    by_test false = waiting-sound c g e line wanted
+
+pub dispatch-sound : (c : Coord) (g : ℕ) → IsWhole c.table → AreSound c → (script : Script) (line : Stmt) → (c.works g).last + 1 ≤ (c.sessions (c.works g).session.0).lines → AreSound (dispatches script c (gx g) line).coord
+dispatch-sound c g whole e script line l = request-sound c g whole e script line l (lock_for (gx g) line)
 
 -- A SESSION'S NEXT LINE
 module _ (script : Script) (c : Coord) (kept : Kept c) (e : AreSound c) (s : SessionId) where

@@ -17,7 +17,7 @@ use Rattle.gx_meaning.specs.declared.piece.Piece.{Piece}
 use Rattle.gx_script.specs.declared.Script.{Script}
 use Rattle.gx_script.specs.Session.{IsIdle}
 use Rattle.gx_store.specs.declared.mark.Mark.{Mark}
-use Rattle.gx_rules.specs.AtCoordinator.{Reading, dispatches, fault_mark, goes, kept_at, next_cid, reads_by, reads_for, takes_snapshot}
+use Rattle.gx_rules.specs.AtCoordinator.{Reading, fault_mark, goes, goes_on_locked, kept_at, next_cid, reads_by, reads_for, takes_snapshot}
 use Rattle.gx_rules.specs.Coordinators as rule
 use Rattle.gx_rules.specs.Coordinators.{Work}
 use Rattle.gx_rules.specs.Snapshots.{snapshot_of}
@@ -104,8 +104,8 @@ module _ (old mid new : Coord) (before middle after : List Mark) (g : Gxid) (cid
   goes-outs-from (Err y) h = tt
 
 -- THE COMMAND
-pub dispatches-is : (s t : Script) (c : rule.Coord) (g : Gxid) (cid : Cid) (l m : Stmt) → t ≡ s → cid ≡ next_cid (c.works g.0) → l ≡ m → goes g cid l (reads_for c g cid (c.works g.0) l) (planned t g cid l) ≡ dispatches s c g m
-dispatches-is s t c g cid l m e q p =
+pub locked-is : (s t : Script) (c : rule.Coord) (g : Gxid) (cid : Cid) (l m : Stmt) → t ≡ s → cid ≡ next_cid (c.works g.0) → l ≡ m → goes g cid l (reads_for c g cid (c.works g.0) l) (planned t g cid l) ≡ goes_on_locked s c g m
+locked-is s t c g cid l m e q p =
     ap (λ (x : Script). goes g cid l (reads_for c g cid (c.works g.0) l) (planned x g cid l)) e
     ∙ ap (λ (x : Cid). goes g x l (reads_for c g x (c.works g.0) l) (planned s g x l)) q
     ∙ ap (λ (x : Stmt). goes g (next_cid (c.works g.0)) x (reads_for c g (next_cid (c.works g.0)) (c.works g.0) x) (planned s g (next_cid (c.works g.0)) x)) p

@@ -21,6 +21,9 @@ pub mod Made
 pub mod Faulting
 pub mod Going
 pub mod Asked
+pub mod Back
+pub mod Requested
+pub mod Ordered
 pub mod Few
 pub mod Gone
 pub mod MayAsk

@@ -5,11 +5,14 @@ use Rattle.std.specs.Prelude.{replicate}
 use Rattle.gx_ids.specs.declared.ids.Gxid.{Gxid}
 use Rattle.gx_tree.specs.declared.stmt.Level.TheVariants.{ReadCommitted}
 use Rattle.gx_dtx.specs.Table.{Table, new_table}
+use Rattle.gx_locks.specs.Locks.{Locks}
 use Rattle.gx_script.specs.declared.Script.{Script}
 use Rattle.gx_store.specs.Language.{IsScript}
 use Rattle.gx_rules.specs.Coordinators as rule
 use Rattle.gx_rules.specs.Coordinators.{new_coordinator, new_session, no_work}
 use Rattle.gx_rules.specs.Machine.{new_world}
+use Rattle.gx_rules.specs.Segments.{no_locks}
+use Rattle.gx_store.specs.Refusals.{the_coordinator}
 use Rattle.gx_store.specs.Points.{marks_in}
 use Rattle.gx_law_order.proofs.World.{new_knows}
 use Rattle.gx_coord.specs.Books.{coord_of, found, fresh_session, session_at, session_in}
@@ -47,12 +50,13 @@ zero-at zero i = refl
 zero-at (suc n) zero = refl
 zero-at (suc n) (suc i) = zero-at n i
 
-pub new-holds : (k : Coord) (n m : ℕ) → k.dtx ≡ new_table → k.works.entries ≡ [] → k.sessions.items ≡ replicate n fresh_session → k.sent.items ≡ replicate m 0 → k.clock ≡ 0 → coord_of k ≡ new_coordinator
-new-holds k n m ed ew es em ec =
+pub new-holds : (k : Coord) (n m : ℕ) → k.dtx ≡ new_table → k.works.entries ≡ [] → k.sessions.items ≡ replicate n fresh_session → k.locks ≡ no_locks the_coordinator → k.sent.items ≡ replicate m 0 → k.clock ≡ 0 → coord_of k ≡ new_coordinator
+new-holds k n m ed ew es el em ec =
     ap (λ (d : Table). record (coord_of k) { table = d }) ed
     ∙ ap (λ (xs : List (Gxid × Work)). record (coord_of k) { table = new_table; works = found k.script.value.lines xs }) ew
     ∙ ap (λ f. record (coord_of k) { table = new_table; works = λ g. no_work; sessions = f }) (ap (λ (xs : List Session). session_at xs) es ∙ fun_ext (λ s. fresh-at n s))
-    ∙ ap (λ f. record (coord_of k) { table = new_table; works = λ g. no_work; sessions = λ s. new_session; sent = f }) (ap (λ (xs : List ℕ). slice_index xs) em ∙ fun_ext (λ i. zero-at m i))
+    ∙ ap (λ (x : Locks). record (coord_of k) { table = new_table; works = λ g. no_work; sessions = λ s. new_session; locks = x }) el
+    ∙ ap (λ f. record (coord_of k) { table = new_table; works = λ g. no_work; sessions = λ s. new_session; locks = no_locks the_coordinator; sent = f }) (ap (λ (xs : List ℕ). slice_index xs) em ∙ fun_ext (λ i. zero-at m i))
     ∙ ap (λ t. record new_coordinator { clock = t }) ec
 
 pub length-replicate : {A : Type 0} (n : ℕ) (x : A) → length (replicate n x) ≡ n
@@ -66,6 +70,6 @@ new-sound script some =
       kept = n.kept;
       marks = marks_in new_world.steps;
       past = n.past;
-      inside = record { table = tt; works = λ g. record { writers = tt; command = tt } };
+      inside = record { table = tt; works = λ g. record { writers = tt; command = tt }; locks = record { nobody = refl; modes = tt } };
       works = λ g. none-sound (record { 0 = 0 }) ReadCommitted 0 _;
     }

@@ -1,7 +1,9 @@
 -- What a line asks for may be done.
 use Rattle.std.proofs.Common.{◌≡◌, ◌≤◌, ◌<◌, ◌+◌, ◌^◌, ◌∙◌, ℕ, Some, Bool, true, false, sym, subst, ap, arith, eqb, if◌then◌else◌}
 use Rattle.std.proofs.lemmas.Bool.Decides.{nat_tests}
+use Rattle.std.specs.List.{list_any}
 use Rattle.gx_ids.specs.declared.ids.SessionId.{SessionId}
+use Rattle.gx_locks.specs.Claims.{is_of}
 use Rattle.gx_tree.specs.declared.stmt.Level.TheVariants.{ReadCommitted}
 use Rattle.gx_tree.specs.declared.stmt.Stmt.{Stmt}
 use Rattle.gx_tree.specs.declared.stmt.Stmt.TheVariants as stmt
@@ -83,7 +85,7 @@ module _ (script : Script) (c : Coord) (h : IsSound script c) (s : SessionId) (i
     ready = record { active = active; writers = sound-writers c g _ (c.works g) (h.works g) live; busy = busy step.CommitBlock (λ e. cc); fits = sound-fit (c.works g) _ _ (h.works g) }
 
     sends : (line : Stmt) → IsCommand line → MaySend (now (step.Command false)) (session_of c s).transaction line
-    sends line k = record { command = k; room = room; active = active; drawn = record { whole = h.kept.whole; late = h.past.drawn }; busy = busy (step.Command false) (λ e. cc) }
+    sends line k = record { command = k; room = room; active = active; drawn = record { whole = h.kept.whole; late = h.past.drawn }; busy = busy (step.Command false) (λ e. cc); waits_not = ap (list_any (is_of (session_of c s).transaction)) h.inside.locks.nobody }
 
   -- BY ITSELF
   abbrev d : Coord
@@ -112,6 +114,7 @@ module _ (script : Script) (c : Coord) (h : IsSound script c) (s : SessionId) (i
         active = live-active d c.table.next.0 begun-live;
         drawn = record { whole = begun-whole c.table h.kept.whole; late = more (latest_number c.table.latest_ended) c.table.next.0 h.past.drawn };
         busy = busy-begun;
+        waits_not = ap (list_any (is_of c.table.next)) h.inside.locks.nobody;
       }
     where
       more : (m n : ℕ) → m < n → m < n + 1

@@ -12,9 +12,7 @@ use Rattle.gx_tree.specs.declared.stmt.Stmt.{Stmt}
 use Rattle.gx_tree.specs.declared.stmt.Stmt.TheVariants as stmt
 use Rattle.gx_script.specs.declared.Line.{Line}
 use Rattle.gx_script.specs.Session.{idle_outside}
-use Rattle.gx_store.specs.Refusals.{the_coordinator}
 use Rattle.gx_rules.specs.Coordinators as rule
-use Rattle.gx_rules.specs.Segments.{no_locks}
 use Rattle.gx_coord.specs.declared.coord.Coord.{Coord}
 use Rattle.gx_coord.specs.declared.work.Command.{Command}
 use Rattle.gx_coord.specs.declared.work.Session.{Session}
@@ -27,7 +25,7 @@ stmt_at lines place = unwrap_or (option_map (λ line. line.stmt) (slice_get line
 abbrev pub command_of : List Line → Command → rule.Command
 command_of lines k = record { stmt = stmt_at lines k.line; cid = k.cid; orders = k.orders; awaited = k.awaited; count = k.count; parts = k.parts }
 
--- no statement waits
+-- with the statement of the line that waits
 abbrev pub work_of : List Line → Work → rule.Work
 work_of lines w =
     record {
@@ -37,7 +35,7 @@ work_of lines w =
       snapshot = w.snapshot;
       writers = w.writers;
       command = option_map (command_of lines) w.command;
-      waiting = None;
+      waiting = option_map (stmt_at lines) w.waiting;
     }
 
 abbrev pub work_in : List Line → Option Work → rule.Work
@@ -59,14 +57,14 @@ session_in (Some s) = session_of s
 abbrev pub session_at : List Session → ℕ → rule.Session
 session_at sessions s = session_in (slice_get sessions s)
 
--- what the coordinator holds, as the data of its rule; nobody holds or waits there, and no round was begun
+-- what the coordinator holds, as the data of its rule; no round was begun
 abbrev pub coord_of : Coord → rule.Coord
 coord_of k =
     record {
       table = k.dtx;
       works = found k.script.value.lines k.works.entries;
       sessions = session_at k.sessions.items;
-      locks = no_locks the_coordinator;
+      locks = k.locks;
       rounds = 0;
       reports = None;
       sent = slice_index k.sent.items;

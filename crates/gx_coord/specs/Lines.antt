@@ -1,11 +1,13 @@
 -- What a line that has started asks of what is known.
-use Rattle.std.specs.Prelude.{◌+◌, ◌<◌, ◌^◌, true, false, [], ◌∷◌}
+use Rattle.std.specs.Prelude.{◌≡◌, ◌+◌, ◌<◌, ◌^◌, true, false, [], ◌∷◌}
+use Rattle.std.specs.List.{list_any}
 use Rattle.gx_ids.specs.declared.ids.Gxid.{Gxid}
 use Rattle.gx_ids.specs.declared.ids.SessionId.{SessionId}
 use Rattle.gx_tree.specs.declared.stmt.Level.TheVariants.{ReadCommitted}
 use Rattle.gx_tree.specs.declared.stmt.Stmt.{Stmt}
 use Rattle.gx_dtx.specs.Rules.{on_abort}
 use Rattle.gx_dtx.specs.Table.{IsActive}
+use Rattle.gx_locks.specs.Claims.{is_of}
 use Rattle.gx_script.specs.declared.line_step.LineStep.{LineStep}
 use Rattle.gx_script.specs.declared.line_step.LineStep.TheVariants as step
 use Rattle.gx_store.specs.declared.answer.StmtAnswer.TheVariants as told
@@ -22,6 +24,7 @@ pub record MaySend (c : rule.Coord) (g : Gxid) (line : Stmt) : Type 0 where
   pub active : IsActive c.table g
   pub drawn : IsDrawn c.table
   pub busy : IsBusy c g.0
+  pub waits_not : list_any (is_of g) c.locks.waits ≡ false
 
 -- by what the line asks for
 abbrev pub MayAsk : rule.Coord → SessionId → Stmt → LineStep → Type 0

@@ -1,6 +1,7 @@
 // What is admitted.
 ghost use Rattle.std.specs.Prelude.{◌≡◌, IfOk, is_some, length};
 ghost use Rattle.gx_store.specs.Language.{IsScript};
+ghost use Rattle.gx_law_order.proofs.Calm.{AreCalm};
 ghost use Rattle.gx_rules.specs.AtCoordinator as turns;
 ghost use Rattle.gx_coord.specs.Books.{coord_of};
 ghost use Rattle.gx_coord.specs.Places.{AreIndexed};
@@ -77,6 +78,7 @@ fn can_resend(alloc: Global, coord: &Coord, node: Node, gxid: Gxid) -> Mem<bool>
 pub(crate) fn can(alloc: Global, coord: &Coord, event: &NodeEvent) -> Mem<bool>
     requires language { IsScript coord.now.script.value }
     requires places { AreIndexed coord.now.script.value.lines (length coord.now.script.value.sessions) coord.now.places.items }
+    requires calm { AreCalm coord.now.locks }
     ensures { IfOk result (λ can. can ≡ turns.coord_can coord.now.script.value (coord_of coord.now) event.now) }
 {
     match event {

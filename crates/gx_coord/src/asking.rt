@@ -11,7 +11,8 @@ use crate::books::find_session;
 use crate::coord::Coord;
 use crate::dispatch::dispatch;
 use crate::ends::commit;
-use crate::lines::{answer_at_once, begin, plain_answer, roll_back};
+use crate::lines::{abort, answer_at_once, begin, plain_answer};
+use crate::locking::give_back;
 use gx_ids::{Mem, Seq, SessionId};
 use gx_msg::Out;
 use gx_script::{LineStep, Script};
@@ -60,8 +61,9 @@ fn close_block(coord: &mut Coord, id: SessionId, marks: &mut Vec<Mark>) -> Mem<S
     ensures outs { IfOk result (λ outs. outs ≡ (closes_block (coord_of coord.old) id).outs) }
 {
     let session = find_session(coord, id);
-    let outs = roll_back(coord, session.transaction, marks)?;
+    let outs = abort(coord, session.transaction, marks)?;
     answer_at_once(coord, id, StmtAnswer::Rollback, marks)?;
+    give_back(coord, session.transaction, marks)?;
     Ok(outs)
 }
 

@@ -15,7 +15,8 @@ use crate::work::{Session, Work};
 use crate::{admitted, finished};
 use gx_dsnap::Snapshot;
 use gx_dtx::Dtx;
-use gx_ids::{Gxid, Mem, OutOfMemory, Seq};
+use gx_ids::{Gxid, Mem, Node, OutOfMemory, Seq};
+use gx_locks::LockTable;
 use gx_outside::Journal;
 use gx_script::Script;
 use gx_store::{NodeEvent, NodeOut};
@@ -23,7 +24,7 @@ use std::alloc::Global;
 use std::collections::BTreeMap;
 use std::sync::Arc;
 
-/// The coordinator of a script: its transactions, its sessions, and how many messages it has sent to each segment. Once memory
+/// The coordinator of a script: its transactions, its sessions, its locks, and how many messages it has sent to each segment. Once memory
 /// has run out in a step it is spent, and answers the same from then on.
 #[derive(Drop)]
 pub struct Coord {
@@ -33,6 +34,7 @@ pub struct Coord {
     pub dtx: Dtx,
     pub works: BTreeMap<Gxid, Work>,
     pub sessions: Vec<Session>,
+    pub locks: LockTable,
     pub sent: Vec<u64>,
     pub clock: u64,
     pub spent: bool,
@@ -50,6 +52,7 @@ impl Coord {
         let sessions = new_sessions(alloc, script.sessions.len())?;
         let sent = nothing_sent(alloc, script.segments)?;
         let dtx = Dtx::new(alloc)?;
+        let locks = LockTable::new(alloc, Node(0))?;
         Ok(Coord {
             alloc,
             script,
@@ -57,6 +60,7 @@ impl Coord {
             dtx,
             works: BTreeMap::new(alloc),
             sessions,
+            locks,
             sent,
             clock: 0,
             spent: false,

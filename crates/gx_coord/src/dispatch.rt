@@ -1,7 +1,9 @@
 // A command goes out.
-ghost use Rattle.std.specs.Prelude.{◌≡◌, ◌<◌, ◌+◌, ◌^◌, [], Err, IfOk, None, OnOk, Ok, Some, length, slice_get};
+ghost use Rattle.std.specs.Prelude.{◌≡◌, ◌<◌, ◌+◌, ◌^◌, [], Err, IfOk, IfSome, None, OnOk, Ok, Some, false, length, slice_get};
+ghost use Rattle.std.specs.List.{list_any};
 ghost use Rattle.gx_dtx.specs.Table.{IsActive};
 ghost use Rattle.gx_eval.specs.Faults.{eval_fault};
+ghost use Rattle.gx_locks.specs.Claims.{is_of};
 ghost use Rattle.gx_meaning.specs.declared.fault.ArithFault.{ArithFault as Fault};
 ghost use Rattle.gx_meaning.specs.Statements.{IsStmtOf};
 ghost use Rattle.gx_rules.specs.AtCoordinator as turns;
@@ -17,6 +19,7 @@ use crate::books::set_work;
 use crate::completing::level_of;
 use crate::coord::Coord;
 use crate::faults::push_fault;
+use crate::locking::{lock_for, take_lock};
 use crate::orders::{Ordering, enlist_all, nodes, orders};
 use crate::replies::refuse;
 use crate::snapshots::read_for;
@@ -30,6 +33,7 @@ use gx_plan::plan;
 use gx_script::Script;
 use gx_store::Mark;
 use gx_tree::{Level, Schema, Stmt};
+use gx_waits::Claim;
 use std::alloc::Global;
 use std::sync::Arc;
 
@@ -62,6 +66,7 @@ fn set_command(alloc: Global, coord: &mut Coord, gxid: Gxid, command: Command) -
         snapshot: None,
         writers: Seq::new(alloc),
         command: Some(command),
+        waiting: None,
     };
     set_work(coord, gxid, work)
 }
@@ -268,8 +273,97 @@ fn read_and_go(
     )
 }
 
-// A command of a transaction goes out to its segments, or its first fault refuses it. The line stands at this place of the
-// script.
+// With its table's lock a command of a transaction goes out to its segments, or its first fault refuses it. The line stands
+// at this place of the script.
+fn go_locked(
+    alloc: Global,
+    coord: &mut Coord,
+    gxid: Gxid,
+    place: usize,
+    marks: &mut Vec<Mark>,
+) -> Mem<Seq<Out>>
+    requires language { IsScript coord.old.script.value }
+    requires inside { place < length coord.old.script.value.lines }
+    requires command { IsCommand (stmt_at coord.old.script.value.lines place) }
+    requires room { ((coord_of coord.old).works gxid.0).last + 1 < 2 ^ 32 }
+    requires active { IsActive coord.old.dtx gxid }
+    requires drawn { IsDrawn coord.old.dtx }
+    requires busy { IsBusy (coord_of coord.old) gxid.0 }
+    ensures turn { OnOk result (IsTurn coord.old coord.new marks.old.items marks.new.items (turns.goes_on_locked coord.old.script.value
+        (coord_of coord.old) gxid (stmt_at coord.old.script.value.lines place))) }
+    ensures outs { IfOk result (λ outs. outs ≡ (turns.goes_on_locked coord.old.script.value (coord_of coord.old) gxid (stmt_at coord.old.script.value.lines place)).outs) }
+{
+    let script = Arc::try_clone(&coord.script)?;
+    let line = line_at(&script, place);
+    let cid = next_cid(coord, gxid);
+    let planned = plan_line(alloc, &script, gxid, cid, line);
+    read_and_go(
+        alloc, &script, coord, gxid, cid, place, line, planned, marks,
+    )
+}
+
+// Its statement waits.
+fn set_waiting(alloc: Global, coord: &mut Coord, gxid: Gxid, place: usize) -> Mem<()>
+    ensures framed { OnOk result (IsFramed coord.old coord.new) }
+    ensures coord { OnOk result (coord_of coord.new ≡ with_work (coord_of coord.old) gxid
+        (record ((coord_of coord.old).works gxid.0) { waiting = Some (stmt_at coord.old.script.value.lines place) })) }
+{
+    if let Some(work) = coord.works.get_mut(&gxid) {
+        work.waiting = Some(place);
+        return Ok(());
+    }
+    let work = Work {
+        session: SessionId(0),
+        level: Level::ReadCommitted,
+        last: 0,
+        snapshot: None,
+        writers: Seq::new(alloc),
+        command: None,
+        waiting: Some(place),
+    };
+    set_work(coord, gxid, work)
+}
+
+// It takes this lock first, or waits for it.
+fn go_with_lock(
+    alloc: Global,
+    coord: &mut Coord,
+    gxid: Gxid,
+    place: usize,
+    wanted: Claim,
+    marks: &mut Vec<Mark>,
+) -> Mem<Seq<Out>>
+    requires language { IsScript coord.old.script.value }
+    requires inside { place < length coord.old.script.value.lines }
+    requires command { IsCommand (stmt_at coord.old.script.value.lines place) }
+    requires room { ((coord_of coord.old).works gxid.0).last + 1 < 2 ^ 32 }
+    requires active { IsActive coord.old.dtx gxid }
+    requires drawn { IsDrawn coord.old.dtx }
+    requires busy { IsBusy (coord_of coord.old) gxid.0 }
+    requires waits_not { list_any (is_of wanted.gxid) coord.old.locks.waits ≡ false }
+    ensures turn { OnOk result (IsTurn coord.old coord.new marks.old.items marks.new.items (turns.requests coord.old.script.value
+        (coord_of coord.old) gxid (stmt_at coord.old.script.value.lines place) (Some wanted))) }
+    ensures outs { IfOk result (λ outs. outs ≡ (turns.requests coord.old.script.value (coord_of coord.old) gxid
+        (stmt_at coord.old.script.value.lines place) (Some wanted)).outs) }
+{
+    let granted = take_lock(coord, wanted, marks)?;
+    if granted {
+        go_locked(alloc, coord, gxid, place, marks)
+    } else {
+        set_waiting(alloc, coord, gxid, place)?;
+        Ok(Seq::new(alloc))
+    }
+}
+
+fn lock_at(coord: &Coord, gxid: Gxid, place: usize) -> Option<Claim>
+    requires { place < length coord.now.script.value.lines }
+    ensures value { result ≡ turns.lock_for gxid (stmt_at coord.now.script.value.lines place) }
+    ensures own { IfSome result (λ wanted. wanted.gxid ≡ gxid) }
+{
+    lock_for(gxid, line_at(&coord.script, place))
+}
+
+// A command of a transaction takes its table's lock and goes out, or waits.
 pub(crate) fn dispatch(
     alloc: Global,
     coord: &mut Coord,
@@ -284,15 +378,13 @@ pub(crate) fn dispatch(
     requires active { IsActive coord.old.dtx gxid }
     requires drawn { IsDrawn coord.old.dtx }
     requires busy { IsBusy (coord_of coord.old) gxid.0 }
+    requires waits_not { list_any (is_of gxid) coord.old.locks.waits ≡ false }
     ensures turn { OnOk result (IsTurn coord.old coord.new marks.old.items marks.new.items (turns.dispatches coord.old.script.value
         (coord_of coord.old) gxid (stmt_at coord.old.script.value.lines place))) }
     ensures outs { IfOk result (λ outs. outs ≡ (turns.dispatches coord.old.script.value (coord_of coord.old) gxid (stmt_at coord.old.script.value.lines place)).outs) }
 {
-    let script = Arc::try_clone(&coord.script)?;
-    let line = line_at(&script, place);
-    let cid = next_cid(coord, gxid);
-    let planned = plan_line(alloc, &script, gxid, cid, line);
-    read_and_go(
-        alloc, &script, coord, gxid, cid, place, line, planned, marks,
-    )
+    match lock_at(coord, gxid, place) {
+        Some(wanted) => go_with_lock(alloc, coord, gxid, place, wanted, marks),
+        None => go_locked(alloc, coord, gxid, place, marks),
+    }
 }

@@ -6,11 +6,13 @@ ghost use Rattle.gx_script.specs.Session.{IsIdle, after_done as done_state, afte
 ghost use Rattle.gx_rules.specs.AtCoordinator.{commits as commit_turn, failure_marks, follows as follow_turn, is_committed, is_refused};
 ghost use Rattle.gx_rules.specs.Coordinators.{no_work, with_state, with_work};
 ghost use Rattle.gx_coord.specs.Books.{IsFramed, coord_of};
+ghost use Rattle.gx_coord.specs.Locking.{tells_commit, tells_refusal};
 ghost use Rattle.gx_coord.specs.Turns.{IsFit, IsBusy, IsTurn, answers_line, called, has_called};
 
 use crate::answers::{push_answer, told_at_commit};
 use crate::books::{find_session, forget_work, set_state};
 use crate::coord::Coord;
+use crate::locking::give_back;
 use gx_dtx::{DtxOut, Outcome};
 use gx_ids::{Gxid, Mem, Node, Seq, SessionId};
 use gx_msg::Out;
@@ -57,6 +59,27 @@ fn close(coord: &mut Coord, gxid: Gxid, id: SessionId, state: SessionState)
     set_state(coord, id, state);
 }
 
+fn tell_commit(
+    alloc: Global,
+    script: &Script,
+    coord: &mut Coord,
+    gxid: Gxid,
+    marks: &mut Vec<Mark>,
+) -> Mem<()>
+    requires same { coord.old.script.value ≡ script.now }
+    requires busy { IsBusy (coord_of coord.old) gxid.0 }
+    requires fits { IsFit ((coord_of coord.old).works gxid.0).command }
+    ensures { OnOk result (IsTurn coord.old coord.new marks.old.items marks.new.items (tells_commit (coord_of coord.old) gxid)) }
+{
+    let id = owner(coord, gxid);
+    let session = find_session(coord, id);
+    let answer = told_at_commit(alloc, script, coord, gxid, session.state.pending)?;
+    marks.push(Mark::Commit { gxid })?;
+    push_answer(marks, id, session.lines, answer)?;
+    close(coord, gxid, id, after_done(session.state));
+    Ok(())
+}
+
 fn commit_line(
     alloc: Global,
     script: &Script,
@@ -69,13 +92,8 @@ fn commit_line(
     requires fits { IsFit ((coord_of coord.old).works gxid.0).command }
     ensures { OnOk result (IsTurn coord.old coord.new marks.old.items marks.new.items (is_committed (coord_of coord.old) gxid (has_called coord.old))) }
 {
-    let id = owner(coord, gxid);
-    let session = find_session(coord, id);
-    let answer = told_at_commit(alloc, script, coord, gxid, session.state.pending)?;
-    marks.push(Mark::Commit { gxid })?;
-    push_answer(marks, id, session.lines, answer)?;
-    close(coord, gxid, id, after_done(session.state));
-    Ok(())
+    tell_commit(alloc, script, coord, gxid, marks)?;
+    give_back(coord, gxid, marks)
 }
 
 pub(crate) fn refuse_line(
@@ -86,6 +104,19 @@ pub(crate) fn refuse_line(
 ) -> Mem<()>
     requires busy { IsBusy (coord_of coord.old) gxid.0 }
     ensures { OnOk result (IsTurn coord.old coord.new marks.old.items marks.new.items (is_refused (coord_of coord.old) gxid (has_called coord.old) [] reason)) }
+{
+    tell_refusal(coord, gxid, reason, marks)?;
+    give_back(coord, gxid, marks)
+}
+
+fn tell_refusal(
+    coord: &mut Coord,
+    gxid: Gxid,
+    reason: Refused,
+    marks: &mut Vec<Mark>,
+) -> Mem<()>
+    requires busy { IsBusy (coord_of coord.old) gxid.0 }
+    ensures { OnOk result (IsTurn coord.old coord.new marks.old.items marks.new.items (tells_refusal (coord_of coord.old) gxid reason)) }
 {
     let id = owner(coord, gxid);
     let session = find_session(coord, id);

@@ -1,6 +1,7 @@
 // One event, before its messages are numbered.
 ghost use Rattle.std.specs.Prelude.{◌≡◌, ◌≤◌, ◌∷◌, ◌^◌, [], length, true, IfOk, OnOk};
 ghost use Rattle.gx_store.specs.Language.{IsScript};
+ghost use Rattle.gx_locks.specs.Locks.{wait_of};
 ghost use Rattle.gx_rules.specs.AtCoordinator as turns;
 ghost use Rattle.gx_coord.specs.Books.{coord_of};
 ghost use Rattle.gx_coord.specs.Places.{AreIndexed};
@@ -38,6 +39,22 @@ pub(crate) fn resend(alloc: Global, coord: &Coord, node: Node, gxid: Gxid) -> Me
         Some(message) => one_out(alloc, node, message),
         None => Ok(Seq::new(alloc)),
     }
+}
+
+// Nobody waits yet, so nothing happens.
+fn resume(
+    alloc: Global,
+    script: &Script,
+    coord: &mut Coord,
+    gxid: Gxid,
+    marks: &mut Vec<Mark>,
+) -> Seq<Out>
+    requires sound { IsSound script.now (coord_of coord.old) }
+    ensures turn { IsTurn coord.old coord.new marks.old.items marks.new.items (turns.resumes script.now (coord_of coord.old) gxid
+        (wait_of coord.old.locks gxid) ((coord_of coord.old).works gxid.0).waiting) }
+    ensures outs { result ≡ (turns.resumes script.now (coord_of coord.old) gxid (wait_of coord.old.locks gxid) ((coord_of coord.old).works gxid.0).waiting).outs }
+{
+    Seq::new(alloc)
 }
 
 // A session ends: its open block aborts, and one that has failed is closed.
@@ -108,7 +125,10 @@ pub(crate) fn take_event<J: Journal>(
             }
             None => Ok(unfailing(Seq::new(alloc))),
         },
-        NodeEvent::Resume(_) => Ok(unfailing(Seq::new(alloc))),
+        NodeEvent::Resume(gxid) => {
+            let outs = resume(alloc, script, coord, gxid, marks);
+            Ok(unfailing(outs))
+        }
         NodeEvent::Round => Ok(unfailing(Seq::new(alloc))),
     }
 }

@@ -14,6 +14,7 @@ mod event;
 mod faults;
 mod finished;
 mod lines;
+mod locking;
 mod making;
 mod messages;
 mod orders;

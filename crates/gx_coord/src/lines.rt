@@ -4,11 +4,13 @@ ghost use Rattle.gx_dtx.specs.Rules.{on_abort};
 ghost use Rattle.gx_dtx.specs.Table.{IsActive};
 ghost use Rattle.gx_rules.specs.AtCoordinator as turns;
 ghost use Rattle.gx_coord.specs.Books.{IsFramed, coord_of};
+ghost use Rattle.gx_coord.specs.Locking.{tells_abort};
 ghost use Rattle.gx_coord.specs.Turns.{IsTurn};
 
 use crate::answers::push_answer;
 use crate::books::{find_session, forget_work, set_session, set_work};
 use crate::coord::Coord;
+use crate::locking::give_back;
 use crate::work::{Session, Work};
 use gx_ids::{Gxid, Mem, Seq, SessionId};
 use gx_msg::Out;
@@ -40,6 +42,7 @@ pub(crate) fn begin(
         snapshot: None,
         writers: Seq::new(alloc),
         command: None,
+        waiting: None,
     };
     set_work(coord, gxid, work)?;
     let session = find_session(coord, id);
@@ -78,14 +81,25 @@ pub(crate) fn plain_answer(plain: Plain) -> StmtAnswer
     }
 }
 
-// A transaction aborts, and nothing of it is known.
-pub(crate) fn roll_back(coord: &mut Coord, gxid: Gxid, marks: &mut Vec<Mark>) -> Mem<Seq<Out>>
+// A transaction aborts, and nothing of it is known but its locks.
+pub(crate) fn abort(coord: &mut Coord, gxid: Gxid, marks: &mut Vec<Mark>) -> Mem<Seq<Out>>
     requires { IsActive coord.old.dtx gxid }
-    ensures turn { OnOk result (IsTurn coord.old coord.new marks.old.items marks.new.items (turns.rolls_back (coord_of coord.old) gxid [] (on_abort coord.old.dtx gxid))) }
+    ensures turn { OnOk result (IsTurn coord.old coord.new marks.old.items marks.new.items (tells_abort (coord_of coord.old) gxid (on_abort coord.old.dtx gxid))) }
     ensures outs { IfOk result (λ outs. outs ≡ (on_abort coord.old.dtx gxid).out.outs) }
 {
     let out = coord.dtx.abort(gxid)?;
     forget_work(coord, gxid);
     marks.push(Mark::Abort { gxid })?;
     Ok(out.outs)
+}
+
+// A transaction aborts, and gives its locks back.
+pub(crate) fn roll_back(coord: &mut Coord, gxid: Gxid, marks: &mut Vec<Mark>) -> Mem<Seq<Out>>
+    requires { IsActive coord.old.dtx gxid }
+    ensures turn { OnOk result (IsTurn coord.old coord.new marks.old.items marks.new.items (turns.rolls_back (coord_of coord.old) gxid [] (on_abort coord.old.dtx gxid))) }
+    ensures outs { IfOk result (λ outs. outs ≡ (on_abort coord.old.dtx gxid).out.outs) }
+{
+    let outs = abort(coord, gxid, marks)?;
+    give_back(coord, gxid, marks)?;
+    Ok(outs)
 }

@@ -17,7 +17,8 @@ pub struct Command {
 }
 
 /// What is known of a transaction besides its status: its session and level, its last command's number, the snapshot that a
-/// repeatable-read block keeps, the segments where it has written, and the command under way.
+/// repeatable-read block keeps, the segments where it has written, the command under way, and the place of the line whose
+/// statement waits for its table's lock.
 #[derive(Drop)]
 pub struct Work {
     pub session: SessionId,
@@ -26,6 +27,7 @@ pub struct Work {
     pub snapshot: Option<Snapshot>,
     pub writers: Seq<Node>,
     pub command: Option<Command>,
+    pub waiting: Option<usize>,
 }
 
 /// A session: where it stands, how many of its lines were started, and the transaction of its block or of its line under

@@ -1,6 +1,8 @@
-use Rattle.std.proofs.Common.{ap, ◌+◌, ◌<◌, ◌^◌, ◌∙◌, subst, sym}
+use Rattle.std.proofs.Common.{◌≡◌, false, ap, ◌+◌, ◌<◌, ◌^◌, ◌∙◌, subst, sym}
 use Rattle.std.proofs.lemmas.Result.{IfOk-weaker}
+use Rattle.std.specs.List.{list_any}
 use Rattle.gx_ids.specs.declared.ids.Gxid.{Gxid}
+use Rattle.gx_locks.specs.Claims.{is_of}
 use Rattle.gx_tree.specs.declared.stmt.Level.TheVariants.{ReadCommitted}
 use Rattle.gx_rules.specs.AtCoordinator.{begins}
 use Rattle.gx_rules.specs.Coordinators.{Coord, CoordTurn}
@@ -19,6 +21,11 @@ pub dispatch-requires-clause-busy : goal.dispatch-requires-clause-busy
 dispatch-requires-clause-busy c =
     subst (λ (k : Coord). IsBusy k c.in_ok-gxid.gxid.0) (sym c.in_ok-gxid.ensures.coord)
     (subst (λ (g : Gxid). IsBusy (begins (coord_of c.args.coord.now) c.args.id ReadCommitted) g.0) (sym c.in_ok-gxid.ensures.gxid) c.requires.may.busy)
+
+pub dispatch-requires-clause-waits_not : goal.dispatch-requires-clause-waits_not
+dispatch-requires-clause-waits_not c =
+    subst (λ (k : Coord). list_any (is_of c.in_ok-gxid.gxid) k.locks.waits ≡ false) (sym c.in_ok-gxid.ensures.coord)
+    (subst (λ (g : Gxid). list_any (is_of g) (begins (coord_of c.args.coord.now) c.args.id ReadCommitted).locks.waits ≡ false) (sym c.in_ok-gxid.ensures.gxid) c.requires.may.waits_not)
 
 pub returns-clause-turn : goal.returns-clause-turn
 returns-clause-turn c =

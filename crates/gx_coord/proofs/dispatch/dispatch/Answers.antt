@@ -1,31 +1,36 @@
-use Rattle.std.proofs.Common.{◌≡◌, ◌∙◌, IfOk, OnOk, ap, subst, sym}
-use Rattle.gx_rules.specs.Coordinators.{CoordTurn}
-use Rattle.gx_script.specs.declared.Script.{Script}
+use Rattle.std.proofs.Common.{◌≡◌, Some, None, false, subst, sym}
+use Rattle.std.specs.List.{list_any}
+use Rattle.gx_ids.specs.declared.ids.Gxid.{Gxid}
+use Rattle.gx_locks.specs.Claims.{is_of}
 use Rattle.gx_coord.specs.Books.{coord_of, stmt_at}
-use Rattle.gx_coord.specs.Faults.{HasConstants}
-use Rattle.gx_coord.specs.Turns.{IsTurn}
-use Rattle.gx_coord.proofs.Faulting.{has-constants, stmt-of}
-use Rattle.gx_coord.proofs.Going.{dispatches-is}
+use Rattle.gx_coord.proofs.Requested.{dispatched-by}
+use Rattle.gx_coord.proofs.Started.{outs-from}
+use Rattle.gx_coord.proofs.Turned.{framed-refl, on_turn-from}
 use Rattle.gx_coord.proofs.dispatch.dispatch.Goals as goal
 
-pub read_and_go-requires-clause-constants : goal.read_and_go-requires-clause-constants
-read_and_go-requires-clause-constants c =
-    let script = c.args.coord.now.script.value in
-    let line = c.line_at-line.ensures ∙ ap (λ (s : Script). stmt_at s.lines c.args.place) (c.deref.ensures ∙ c.in_ok-script.ensures) in
-    subst HasConstants (sym line) (has-constants script.tables (stmt_at script.lines c.args.place) c.requires.command (stmt-of script c.args.place c.requires.language c.requires.inside))
+pub go_with_lock-requires-clause-waits_not : goal.go_with_lock-requires-clause-waits_not
+go_with_lock-requires-clause-waits_not c = subst (λ (g : Gxid). list_any (is_of g) c.args.coord.now.locks.waits ≡ false) (sym c.in-Some.ensures.own) c.requires.waits_not
 
-pub returns-clause-turn : goal.returns-clause-turn
-returns-clause-turn c =
+pub returns-in-Some-clause-turn : goal.returns-in-Some-clause-turn
+returns-in-Some-clause-turn c =
     let old = c.args.coord.now in
-    let line = c.line_at-line.ensures ∙ ap (λ (s : Script). stmt_at s.lines c.args.place) (c.deref.ensures ∙ c.in_ok-script.ensures) in
-    subst (λ (t : CoordTurn). OnOk c.read_and_go.result (IsTurn old c.read_and_go.new.coord c.args.marks.now.items c.read_and_go.new.marks.items t))
-    (dispatches-is old.script.value c.deref-3.result.now (coord_of old) c.args.gxid c.next_cid-cid.result c.line_at-line.result.now (stmt_at old.script.value.lines c.args.place) (c.deref-3.ensures ∙ c.in_ok-script.ensures) c.next_cid-cid.ensures line)
-    c.read_and_go.ensures.turn
+    let s = old.script.value in
+    on_turn-from c.go_with_lock.result _ _ _ _ _ _ _ (framed-refl old) (dispatched-by s (coord_of old) c.args.gxid (stmt_at s.lines c.args.place) (Some c.in-Some.wanted) c.in-Some.ensures.value) c.go_with_lock.ensures.turn
 
-pub returns-clause-outs : goal.returns-clause-outs
-returns-clause-outs c =
+pub returns-in-Some-clause-outs : goal.returns-in-Some-clause-outs
+returns-in-Some-clause-outs c =
     let old = c.args.coord.now in
-    let line = c.line_at-line.ensures ∙ ap (λ (s : Script). stmt_at s.lines c.args.place) (c.deref.ensures ∙ c.in_ok-script.ensures) in
-    subst (λ (t : CoordTurn). IfOk c.read_and_go.result (λ outs. outs ≡ t.outs))
-    (dispatches-is old.script.value c.deref-3.result.now (coord_of old) c.args.gxid c.next_cid-cid.result c.line_at-line.result.now (stmt_at old.script.value.lines c.args.place) (c.deref-3.ensures ∙ c.in_ok-script.ensures) c.next_cid-cid.ensures line)
-    c.read_and_go.ensures.outs
+    let s = old.script.value in
+    outs-from c.go_with_lock.result _ _ (dispatched-by s (coord_of old) c.args.gxid (stmt_at s.lines c.args.place) (Some c.in-Some.wanted) c.in-Some.ensures.value) c.go_with_lock.ensures.outs
+
+pub returns-in-None-clause-turn : goal.returns-in-None-clause-turn
+returns-in-None-clause-turn c =
+    let old = c.args.coord.now in
+    let s = old.script.value in
+    on_turn-from c.go_locked.result _ _ _ _ _ _ _ (framed-refl old) (dispatched-by s (coord_of old) c.args.gxid (stmt_at s.lines c.args.place) None c.in-None.ensures.value) c.go_locked.ensures.turn
+
+pub returns-in-None-clause-outs : goal.returns-in-None-clause-outs
+returns-in-None-clause-outs c =
+    let old = c.args.coord.now in
+    let s = old.script.value in
+    outs-from c.go_locked.result _ _ (dispatched-by s (coord_of old) c.args.gxid (stmt_at s.lines c.args.place) None c.in-None.ensures.value) c.go_locked.ensures.outs
