@@ -109,12 +109,7 @@ pub(crate) fn refuse_line(
     give_back(coord, gxid, marks)
 }
 
-fn tell_refusal(
-    coord: &mut Coord,
-    gxid: Gxid,
-    reason: Refused,
-    marks: &mut Vec<Mark>,
-) -> Mem<()>
+fn tell_refusal(coord: &mut Coord, gxid: Gxid, reason: Refused, marks: &mut Vec<Mark>) -> Mem<()>
     requires busy { IsBusy (coord_of coord.old) gxid.0 }
     ensures { OnOk result (IsTurn coord.old coord.new marks.old.items marks.new.items (tells_refusal (coord_of coord.old) gxid reason)) }
 {

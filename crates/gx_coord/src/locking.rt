@@ -167,9 +167,19 @@ fn push_asked(marks: &mut Vec<Mark>, wanted: Claim, granted: bool) -> Mem<()>
     let Claim { gxid, object, mode } = wanted;
     let node = Node(0);
     let mark = if granted {
-        Mark::Hold { node, gxid, object, mode }
+        Mark::Hold {
+            node,
+            gxid,
+            object,
+            mode,
+        }
     } else {
-        Mark::Wait { node, gxid, object, mode }
+        Mark::Wait {
+            node,
+            gxid,
+            object,
+            mode,
+        }
     };
     marks.push(mark)?;
     Ok(())
