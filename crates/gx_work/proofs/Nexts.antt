@@ -24,7 +24,7 @@ pairs-next at count old new all inside added before =
     ∙ append_assoc (old ++ codes ", ") (pair_text (at + 1)) rest
     ∙ append_assoc old (codes ", ") (pair_text (at + 1) ++ rest)
     ∙ ap (λ (t : List ℕ). old ++ t)
-        (sym (append_assoc (codes ", ") (pair_text (at + 1)) rest) ∙ sym (pairs-suc at (count - (at + 1))) ∙ ap (pairs_from at) fewer)
+    (sym (append_assoc (codes ", ") (pair_text (at + 1)) rest) ∙ sym (pairs-suc at (count - (at + 1))) ∙ ap (pairs_from at) fewer)
     ∙ before
   where
     rest : List ℕ
@@ -116,7 +116,7 @@ batches-end at count words old all past before = sym (append-nil old)
 
 pub transfers-next : (session : ℕ) (words : List ℕ) (old mid new : List Transfer) → 3 ≤ length words
     → mid ≡ old
-        ++ record { session = session; from = slice_index words 0 % 64; to = slice_index words 1 % 64; amount = 1 + slice_index words 2 % 9 } ∷ []
+    ++ record { session = session; from = slice_index words 0 % 64; to = slice_index words 1 % 64; amount = 1 + slice_index words 2 % 9 } ∷ []
     → new ≡ mid ++ transfers_from (session + 1) (drop 3 words) → new ≡ old ++ transfers_from session words
 transfers-next session [] old mid new low added more = absurd (omega arith)
 transfers-next session (a ∷ []) old mid new low added more = absurd (omega arith)
