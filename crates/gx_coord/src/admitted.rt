@@ -74,6 +74,16 @@ fn can_resend(alloc: Global, coord: &Coord, node: Node, gxid: Gxid) -> Mem<bool>
     Ok(message.is_some())
 }
 
+// Nobody waits, so nobody resumes.
+fn can_resume(coord: &Coord, gxid: Gxid) -> bool
+    requires calm { AreCalm coord.now.locks }
+    ensures { result ≡ turns.coord_can coord.now.script.value (coord_of coord.now) (NodeEvent.Resume gxid) }
+{
+    let _coord = coord;
+    let _gxid = gxid;
+    false
+}
+
 // Whether the event may happen.
 pub(crate) fn can(alloc: Global, coord: &Coord, event: &NodeEvent) -> Mem<bool>
     requires language { IsScript coord.now.script.value }
@@ -89,7 +99,7 @@ pub(crate) fn can(alloc: Global, coord: &Coord, event: &NodeEvent) -> Mem<bool>
             Some(gxid) => can_resend(alloc, coord, *node, *gxid),
             None => Ok(false),
         },
-        NodeEvent::Resume(_) => Ok(false),
+        NodeEvent::Resume(gxid) => Ok(can_resume(coord, *gxid)),
         NodeEvent::Round => Ok(false),
     }
 }

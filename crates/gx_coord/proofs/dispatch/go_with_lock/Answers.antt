@@ -1,4 +1,4 @@
-use Rattle.std.proofs.Common.{◌+◌, ◌<◌, ◌^◌, subst, sym}
+use Rattle.std.proofs.Common.{◌+◌, ◌<◌, ◌^◌, ◌∙◌, subst, sym}
 use Rattle.gx_dtx.specs.Table.{IsActive}
 use Rattle.gx_rules.specs.Coordinators.{Coord}
 use Rattle.gx_coord.specs.Sound.{IsDrawn}
@@ -35,15 +35,15 @@ returns-then-granted-clause-outs c =
     let h = c.in_ok-granted.ensures in
     granted-outs c.go_locked.result old mid c.args.gxid old.script.value mid.script.value c.args.place c.args.wanted c.in_ok-granted.granted (script-same old mid h.framed) c.if-granted.true h.granted h.coord c.go_locked.ensures.outs
 
-pub returns-else-granted-clause-turn : goal.returns-else-granted-clause-turn
-returns-else-granted-clause-turn c =
+pub returns-in_ok-set_waiting-clause-turn : goal.returns-in_ok-set_waiting-clause-turn
+returns-in_ok-set_waiting-clause-turn c =
     let old = c.args.coord.now in
     let mid = c.take_lock.new.coord in
     let h = c.in_ok-granted.ensures in
     waits-turn old mid c.set_waiting.new.coord _ _ c.args.gxid old.script.value mid.script.value c.args.place c.args.wanted c.in_ok-granted.granted h.framed (script-same old mid h.framed) c.if-granted.false h.granted h.coord h.marks
     c.in_ok-set_waiting.ensures.framed c.in_ok-set_waiting.ensures.coord
 
-pub returns-else-granted-clause-outs : goal.returns-else-granted-clause-outs
-returns-else-granted-clause-outs c =
+pub returns-in_ok-set_waiting-clause-outs : goal.returns-in_ok-set_waiting-clause-outs
+returns-in_ok-set_waiting-clause-outs c =
     let old = c.args.coord.now in
-    waits-outs old c.args.gxid old.script.value (stmt_at old.script.value.lines c.args.place) c.args.wanted c.in_ok-granted.granted c.if-granted.false c.in_ok-granted.ensures.granted
+    c.new.ensures ∙ waits-outs old c.args.gxid old.script.value (stmt_at old.script.value.lines c.args.place) c.args.wanted c.in_ok-granted.granted c.if-granted.false c.in_ok-granted.ensures.granted
