@@ -1,8 +1,9 @@
 // The work before the writing: words, reading, script, run and text.
-ghost use Rattle.std.specs.Prelude.{◌≡◌, [], ⊥, All, length, map};
+ghost use Rattle.std.specs.Prelude.{◌≡◌, [], Err, IfOk, All, length, map};
 ghost use Rattle.gx_world.specs.Worlds.{shelf};
 ghost use Rattle.gx_words.specs.declared.options.Options.{Options as Asked};
-ghost use Rattle.gx.specs.Top.{AreAsked, AreKept, IsAttempt, IsRefusedFor, is_over, is_plain, run_in};
+ghost use Rattle.gx.specs.declared.attempt.Unasked.TheVariants as unasked;
+ghost use Rattle.gx.specs.Top.{AreAsked, AreKept, AreOther, AreUnknown, IsAttempt, IsRefusedFor, is_over, is_plain, run_in};
 
 use crate::form::is_of_form;
 use crate::refused::refusal_text;
@@ -37,6 +38,32 @@ fn is_plain(options: &Options) -> bool
     options.seed.is_none() && options.work.is_none()
 }
 
+// Why the words ask for no script that is read and run.
+enum Unasked {
+    Usage,
+    NotBuilt,
+    OutOfMemory,
+}
+
+// What the words ask for, where that is built.
+fn asked(alloc: Global, words: &[String]) -> Result<Options, Unasked>
+    ensures asked { IfOk result (λ options. AreAsked words.now options) }
+    ensures unknown { result ≡ Err unasked.Usage → AreUnknown words.now }
+    ensures other { result ≡ Err unasked.NotBuilt → AreOther words.now }
+{
+    match read_words(alloc, words) {
+        Ok(options) => {
+            if is_plain(&options) {
+                Ok(options)
+            } else {
+                Err(Unasked::NotBuilt)
+            }
+        }
+        Err(WordsFault::Usage) => Err(Unasked::Usage),
+        Err(WordsFault::OutOfMemory) => Err(Unasked::OutOfMemory),
+    }
+}
+
 /// Reads, runs and tells, and writes nothing but to the journals. Words that ask for more than is built, and scripts of another form
 /// than the one that is built, are `NotBuilt`. Nothing is read unless the words ask for a script that is read.
 pub fn make_attempt<S: Source, J: Journal, G: Gate>(
@@ -54,15 +81,12 @@ pub fn make_attempt<S: Source, J: Journal, G: Gate>(
     ensures kept { AreKept (run_in result).steps (is_over result) (map (λ j. shelf (J.items j) (J.fault_count j)) journals.old.items)
         (map (λ j. shelf (J.items j) (J.fault_count j)) journals.new.items) }
 {
-    let options = match read_words(alloc, words) {
-        Ok(options) => options,
-        Err(WordsFault::Usage) => return Attempt::Usage,
-        Err(WordsFault::OutOfMemory) => return Attempt::OutOfMemory(Run::new(alloc)),
-    };
-    if !is_plain(&options) {
-        return Attempt::NotBuilt;
+    match asked(alloc, words) {
+        Ok(options) => read_and_run(alloc, words, options, source, journals, gate),
+        Err(Unasked::Usage) => Attempt::Usage,
+        Err(Unasked::NotBuilt) => Attempt::NotBuilt,
+        Err(Unasked::OutOfMemory) => Attempt::OutOfMemory(Run::new(alloc)),
     }
-    read_and_run(alloc, words, options, source, journals, gate)
 }
 
 // What becomes of the bytes of a source.

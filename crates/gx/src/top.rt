@@ -1,5 +1,5 @@
 // The top call.
-ghost use Rattle.std.specs.Prelude.{◌≡◌, ◌≢◌, [], ⊥, All, length, map};
+ghost use Rattle.std.specs.Prelude.{◌≡◌, ◌≢◌, [], All, length, map};
 ghost use Rattle.gx_drive.specs.Ordered.{AreFailuresFew, AreHeld};
 ghost use Rattle.gx_world.specs.Worlds.{shelf};
 ghost use Rattle.gx_words.specs.declared.options.Options.{Options as Asked};
@@ -9,8 +9,6 @@ use crate::attempt::{Attempt, make_attempt};
 use gx_outside::{Failed, Gate, Journal, Sink, Source, write_whole};
 use gx_store::Run;
 use std::alloc::Global;
-
-const USAGE: &[u8] = b"usage: gx [--seed N] [--threads] [--trace] [--turns N] [--gen N]\n";
 
 /// What a call did: its status, and the run that it made. 0 is done, 2 words that aren't in the language, 3 a refused script, 4 a read fault, 5 a write fault, 6
 /// want of memory, 7 a run that took all its turns, 9 too many bytes, and 10 a form that isn't built yet.
@@ -37,7 +35,12 @@ fn told_of<K: Sink>(alloc: Global, attempt: Attempt, sink: &mut K) -> Report
     match attempt {
         Attempt::Done(run, text) => told(0, run, text.as_slice(), sink),
         Attempt::Stopped(run, text) => told(7, run, text.as_slice(), sink),
-        Attempt::Usage => told(2, Run::new(alloc), USAGE, sink),
+        Attempt::Usage => told(
+            2,
+            Run::new(alloc),
+            b"usage: gx [--seed N] [--threads] [--trace] [--turns N] [--gen N]\n",
+            sink,
+        ),
         Attempt::Refused(text) => told(3, Run::new(alloc), text.as_slice(), sink),
         Attempt::ReadFault => told(4, Run::new(alloc), b"read fault\n", sink),
         Attempt::TooLarge => told(9, Run::new(alloc), b"too large\n", sink),

@@ -1,9 +1,15 @@
-use Rattle.std.proofs.Common.{true}
+use Rattle.std.proofs.Common.{refl, true}
 use Rattle.gx.proofs.Kept.{none-kept}
 use Rattle.gx.proofs.attempt.make_attempt.Goals as goal
+
+pub returns-in-Ok-clause-unread : goal.returns-in-Ok-clause-unread
+returns-in-Ok-clause-unread g c = λ none. absurd (none c.in-Ok.options c.in-Ok.ensures.asked)
+
+pub returns-in-Err-Usage-clause-is : goal.returns-in-Err-Usage-clause-is
+returns-in-Err-Usage-clause-is g c = c.in-Err-Usage.ensures.unknown refl
 
 pub returns-in-Err-Usage-clause-kept : goal.returns-in-Err-Usage-clause-kept
 returns-in-Err-Usage-clause-kept g c = none-kept g.J.Journal.items g.J.Journal.fault_count c.args.journals.now.items true c.requires.empty
 
-pub returns-then-not-is_plain-clause-kept : goal.returns-then-not-is_plain-clause-kept
-returns-then-not-is_plain-clause-kept g c = none-kept g.J.Journal.items g.J.Journal.fault_count c.args.journals.now.items true c.requires.empty
+pub returns-in-Err-NotBuilt-clause-kept : goal.returns-in-Err-NotBuilt-clause-kept
+returns-in-Err-NotBuilt-clause-kept g c = none-kept g.J.Journal.items g.J.Journal.fault_count c.args.journals.now.items true c.requires.empty
