@@ -1,3 +1,4 @@
+use Rattle.std.proofs.Common.{rules}
 use Rattle.gx.proofs.attempt.asked.Goals as goal
 
 pub returns-in-Err-Usage-clause-unknown : goal.returns-in-Err-Usage-clause-unknown

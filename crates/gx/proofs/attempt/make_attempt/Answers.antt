@@ -1,4 +1,4 @@
-use Rattle.std.proofs.Common.{true}
+use Rattle.std.proofs.Common.{rules, true}
 use Rattle.gx.proofs.Kept.{none-kept}
 use Rattle.gx.proofs.attempt.make_attempt.Goals as goal
 
