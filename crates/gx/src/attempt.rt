@@ -31,11 +31,11 @@ pub enum Attempt {
     OutOfMemory(Run),
 }
 
-// Whether the words ask for what is built: the first of what is enabled, of a script that is read.
+// Whether the words ask for what is built: a script that is read.
 fn is_plain(options: &Options) -> bool
     ensures { result ≡ is_plain options.now }
 {
-    options.seed.is_none() && options.work.is_none()
+    options.work.is_none()
 }
 
 // Why the words ask for no script that is read and run.

@@ -5,6 +5,7 @@
 ghost use Rattle.std.specs.Prelude.{◌≡◌, [], All, IfOk, length};
 
 mod attempt;
+mod driving;
 mod form;
 mod refused;
 mod running;

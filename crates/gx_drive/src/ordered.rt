@@ -7,14 +7,15 @@ ghost use Rattle.gx_drive.specs.Ordered.{AreFailuresFew, AreFirst, AreHeld, IsEn
 
 use crate::agenda::Agenda;
 use crate::end::End;
-use crate::turn::turn;
+use crate::turn::{next_event, turn};
 use gx_ids::Mem;
 use gx_outside::{Gate, Journal};
 use gx_world::World;
 use std::alloc::Global;
 
 /// Runs a new world by the ordered schedule: it does the first of what is enabled at each turn, until no session is unfinished or
-/// so many turns were taken. The journals are those of the coordinator and 16 segments, and hold nothing.
+/// so many turns were taken. The journals are those of the coordinator and 16 segments, and hold nothing. Besides the step itself a turn costs the
+/// logarithm of what is under way, and a look at each link and session until one has what is first.
 pub fn run_ordered<J: Journal, G: Gate>(
     alloc: Global,
     world: &mut World,
@@ -41,13 +42,14 @@ pub fn run_ordered<J: Journal, G: Gate>(
         if !is_unfinished(world) {
             return Ok(End::Done);
         }
-        turn(world, &mut agenda, journals, gate)?;
+        let event = next_event(world, &agenda)?;
+        turn(world, &mut agenda, journals, gate, event)?;
     }
     Ok(end_of(world))
 }
 
 // How a run ended whose turns are spent.
-fn end_of(world: &World) -> End
+pub(crate) fn end_of(world: &World) -> End
     requires usable { world.now.spent ≡ false }
     requires reached { IsReached world.now.script world.now.run.steps }
     ensures { IsEnd world.now.script world.now.run.steps (length world.now.run.steps) result }
@@ -60,7 +62,7 @@ fn end_of(world: &World) -> End
 }
 
 // Whether some session has something left.
-fn is_unfinished(world: &World) -> bool
+pub(crate) fn is_unfinished(world: &World) -> bool
     requires usable { world.now.spent ≡ false }
     requires reached { IsReached world.now.script world.now.run.steps }
     ensures { result ≡ is_any_unfinished world.now.script world.now.run.steps }
