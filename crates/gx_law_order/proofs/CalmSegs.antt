@@ -1,5 +1,5 @@
 -- At a segment nobody waits, as long as only those who read or add rows take locks.
-use Rattle.std.proofs.Common.{◌≡◌, ℕ, List, [], ◌∷◌, Option, Some, None, Bool, true, false, not, refl, subst, sym, ap, nat_lt, ◌==◌, ◌&&◌, if◌then◌else◌}
+use Rattle.std.proofs.Common.{◌≡◌, ℕ, List, [], ◌∷◌, Option, Some, None, Bool, true, false, not, refl, subst, sym, ap, arith, nat_lt, ◌==◌, ◌&&◌, if◌then◌else◌}
 use Rattle.std.specs.Prelude.{fold, length}
 use Rattle.gx_ids.specs.declared.ids.Cid.{Cid}
 use Rattle.gx_ids.specs.declared.ids.Gxid.{Gxid}
@@ -68,6 +68,12 @@ nobody-can script s g calm = and-off (is_segment script s.node) (is_ready s.lock
     and-off : (a b : Bool) → b ≡ false → (a && b) ≡ false
     and-off true b e = e
     and-off false b e = refl
+
+pub nobody-goes-on : (script : Script) (s : Seg) (g : Gxid) → IsCalm s → seg_can script s (event.Resume g) ≡ true → ⊥
+nobody-goes-on script s g calm ok = clash (seg_can script s (event.Resume g)) ok (nobody-can script s g calm)
+  where
+    clash : (b : Bool) → b ≡ true → b ≡ false → ⊥
+    clash b e f = grind arith
 
 pub nothing-resumes : (s : Seg) (g : Gxid) (o : Option Suspended) → IsCalm s → stays s ≡ resumes s g (wait_of s.locks g) o
 nothing-resumes s g o calm = ap (λ w. resumes s g w o) (sym (nobody-waits s.locks g calm.locks))
