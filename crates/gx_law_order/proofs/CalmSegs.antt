@@ -61,6 +61,14 @@ starts-calm P s calm g c level snapshot x locked alone = by_lock (slice_lock g x
     by_lock None e = alone
     by_lock (Some wanted) e = by_test wanted (is_free s.locks.holds wanted) (calm-free s.locks wanted calm (slice-calm g x wanted e))
 
+-- a slice that takes a lock has it
+pub granted-calm : (P : SegTurn → Type 0) (s : Seg) → AreCalm s.locks → (g : Gxid) (c : Cid) (level : Level) (snapshot : Option Snapshot) (x : Slice) (wanted : Claim) → slice_lock g x ≡ Some wanted → P (runs_locked s g c snapshot x wanted) → P (starts_slice s g c level snapshot x)
+granted-calm P s calm g c level snapshot x wanted e p = subst (λ o. P (requests s g c level snapshot x o)) (sym e) (by_test (is_free s.locks.holds wanted) (calm-free s.locks wanted calm (slice-calm g x wanted e)))
+  where
+    by_test : (b : Bool) → b ≡ true → P (if b then runs_locked s g c snapshot x wanted else Rattle.gx_rules.specs.Slices.suspends s g c level snapshot x wanted)
+    by_test true q = p
+    by_test false q = absurd (cc)
+
 -- nobody resumes there, and whoever might does nothing
 pub nobody-can : (script : Script) (s : Seg) (g : Gxid) → IsCalm s → seg_can script s (event.Resume g) ≡ false
 nobody-can script s g calm = and-off (is_segment script s.node) (is_ready s.locks.holds (wait_of s.locks g)) (nobody-ready s.locks g calm.locks)
