@@ -219,7 +219,7 @@ module _ (script : Script) (some : 1 ≤ script.segments) (numbered_lines : AreL
     -- a message of the coordinator makes no fault there
     none-faults : (from : Node) (envelope : Envelope) (fails : Bool) (i : ℕ) → MessageIs script (marks_in w.steps) (at i) envelope.message → Each NoFault (seg_rule script (w.segs i) (here.Deliver from envelope) fails).marks
     none-faults from envelope fails i o =
-        each_append NoFault (segment.on_message script (w.segs i) fails envelope.message).marks _ (no-faults (marks_in w.steps) i (w.segs i) envelope.message (segment.on_message script (w.segs i) fails envelope.message) o (message-turns (w.segs i) script fails envelope.message)) (sent-no-fault (λ node. (segment.on_message script (w.segs i) fails envelope.message).seg.sent) (segment.on_message script (w.segs i) fails envelope.message).outs)
+        each_append NoFault (segment.on_message script (w.segs i) fails envelope.message).marks _ (no-faults (marks_in w.steps) i (w.segs i) envelope.message (segment.on_message script (w.segs i) fails envelope.message) o (message-turns (w.segs i) (b.knows.well.calm i).locks script fails envelope.message)) (sent-no-fault (λ node. (segment.on_message script (w.segs i) fails envelope.message).seg.sent) (segment.on_message script (w.segs i) fails envelope.message).outs)
 
     abbrev IsPost : Letter → Type 0
     IsPost l = IsLetter script w.steps l × (l.from ≡ the_coordinator → MessageIs script (marks_in w.steps) l.to l.envelope.message)

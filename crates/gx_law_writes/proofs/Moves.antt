@@ -1,5 +1,6 @@
 -- What a segment's turn keeps: its writes are placed and legal, and what it tells of commands is so.
 use Rattle.std.proofs.Common.{◌≡◌, ◌≤◌, ◌<◌, ◌⊎◌, inl, inr, ℕ, List, [], ◌∷◌, ◌++◌, Option, Some, None, Bool, true, false, refl, sym, subst, ap, ◌∙◌, if◌then◌else◌, ◌||◌, ◌&&◌, arith, eqb}
+use Rattle.std.proofs.lemmas.List.{append_assoc}
 use Rattle.std.proofs.lemmas.Bool.{eqb-true}
 use Rattle.std.proofs.lemmas.Bool.Decides.{nat_tests}
 use Rattle.std.specs.Prelude.{length, map}
@@ -29,8 +30,9 @@ use Rattle.gx_store.specs.Marks.{is_same_rid, is_written, is_command_of}
 use Rattle.gx_store.specs.Points.{marks_in, starts_by}
 use Rattle.gx_store.proofs.Marks.{is_processed-append}
 use Rattle.gx_rules.specs.AtSegment.{raised}
+use Rattle.gx_rules.specs.Locks.{hold_mark}
 use Rattle.gx_rules.specs.Machine.{World}
-use Rattle.gx_rules.specs.Segments.{Local, Seg, SegTurn, reply as reply_out}
+use Rattle.gx_rules.specs.Segments.{Local, Seg, SegTurn, after_marks, reply as reply_out}
 use Rattle.gx_rules.specs.Shown.{shown}
 use Rattle.gx_rules.specs.Slices.{answers, first_fault, inserted, inserts, selects}
 use Rattle.gx_law_order.proofs.Lists.{Each, each_map, each_weaker}
@@ -42,12 +44,12 @@ use Rattle.gx_law_commit.specs.Pairs.{IsVote}
 use Rattle.gx_law_commit.specs.Standings.{at, gx}
 use Rattle.gx_law_writes.specs.Rows.{IsRowPiece, is_own_written}
 use Rattle.gx_law_writes.specs.Writes.{WriteLegal}
-use Rattle.gx_law_writes.proofs.Legal.{IsPastMark, IsPlacedMark, Late, Live, behind-none, fresh-row, no-writes-legal, rows-legal}
+use Rattle.gx_law_writes.proofs.Legal.{Behind, IsPastMark, IsPlacedMark, Late, Live, fresh-row, no-writes-legal, rows-legal}
 use Rattle.gx_law_writes.proofs.Placed.{IsPlaced, IsPlacedRow, piece-rows, row-placed}
 use Rattle.gx_law_writes.proofs.Plans.{row-piece, rows-are}
 use Rattle.gx_law_writes.proofs.Rows.{Wrote, insert-wrote, row_mark}
 use Rattle.gx_law_writes.proofs.Told.{IsAnswerOf, IsToldOf, IsWritten, answer-more, order-later, told-more}
-use Rattle.gx_law_writes.proofs.Turns.{Inserted, IsOldReply, IsOldWord, NoRow, NoWrite, Quiet, Selected}
+use Rattle.gx_law_writes.proofs.Turns.{Inserted, IsOldReply, IsOldWord, NoRow, NoWrite, Quiet, Selected, base}
 
 -- what is told by the segment, as it stands then
 abbrev pub IsOutOf : Script → List Mark → (ℕ → ℕ) → Node → Message → Type 0

@@ -14,12 +14,12 @@ use Rattle.gx_msg.specs.declared.message.Message.{Message}
 use Rattle.gx_msg.specs.declared.reply.Reply.TheVariants as reply
 use Rattle.gx_store.specs.declared.mark.Mark.{Mark}
 use Rattle.gx_store.specs.declared.mark.Mark.TheVariants as mark
-use Rattle.gx_rules.specs.AtSegment.{raised}
+use Rattle.gx_locks.specs.Locks.{Locks}
 use Rattle.gx_rules.specs.Maps.{with_at}
 use Rattle.gx_rules.specs.Segments.{Local, Seg, SegTurn, reply as reply_out}
 use Rattle.gx_rules.specs.Slices.{Moved, inserted, inserts, inserts_row}
 use Rattle.gx_law_order.proofs.Lists.{Each}
-use Rattle.gx_law_writes.proofs.Turns.{Inserted, NoFault}
+use Rattle.gx_law_writes.proofs.Turns.{Inserted, NoFault, base}
 
 -- the write of a row
 abbrev pub row_mark : Gxid → Cid → Node → Table → KeyedRow → Mark

@@ -214,7 +214,7 @@ module _ (script : Script) (some : 1 ≤ script.segments) (numbered_lines : AreL
         by_back (inr (inr z)) = inr (record { aborted = z; was = subst (HasRun script w.steps) x.is ran_is })
 
     move : Move script ms w.steps e (at i) s turn
-    move = by_turn (message-turns s script fails envelope.message)
+    move = by_turn (message-turns s (b.knows.well.calm i).locks script fails envelope.message)
       where
         by_turn : Turns s envelope.message turn → Move script ms w.steps e (at i) s turn
         by_turn (inl q) = quiet-move script numbered_lines ms w.steps e i s (h.kept i) (λ g. (b.holds.stands.pairs i g).vote) turn q
