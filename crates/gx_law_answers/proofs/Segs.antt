@@ -1,5 +1,5 @@
 -- The marks of a segment's step that receives a message may stand there.
-use Rattle.std.proofs.Common.{◌≡◌, ◌≤◌, ◌<◌, ◌⊎◌, inl, inr, ℕ, List, [], ◌∷◌, ◌++◌, Option, Some, None, Bool, true, false, refl, sym, subst, ap, ◌∙◌, arith, append_assoc, append-nil}
+use Rattle.std.proofs.Common.{◌≡◌, ◌≤◌, ◌<◌, ◌⊎◌, inl, inr, ℕ, List, [], ◌∷◌, ◌++◌, Option, Some, None, Bool, true, false, refl, sym, subst, ap, ◌∙◌, arith, append_assoc, append-nil, ◌||◌}
 use Rattle.gx_ids.specs.declared.ids.Node.{Node}
 use Rattle.gx_tree.specs.declared.row.KeyedRow.{KeyedRow}
 use Rattle.gx_tree.specs.declared.stmt.Stmt.{Stmt}
@@ -23,12 +23,13 @@ use Rattle.gx_store.specs.Ordered.{IsSegment}
 use Rattle.gx_store.specs.Points.{Point, marks_in}
 use Rattle.gx_store.specs.Refusals.{the_coordinator}
 use Rattle.gx_rules.specs.AtSegment.{on_message, raised, seg_rule}
-use Rattle.gx_rules.specs.Machine.{Letter, World, delivered, found, world_of}
+use Rattle.gx_rules.specs.Machine.{Letter, World, delivered, found, world_of, seg_can}
 use Rattle.gx_rules.specs.Locks.{hold_mark}
 use Rattle.gx_rules.specs.Segments.{Seg, SegTurn, after_marks}
 use Rattle.gx_rules.specs.Sending.{numbered}
 use Rattle.gx_rules.specs.Shown.{shown}
 use Rattle.gx_rules.specs.Slices.{first_fault, selects}
+use Rattle.gx_law_order.proofs.CalmSegs.{nobody-goes-on}
 use Rattle.gx_law_order.proofs.AtSegments.{PlainAt, seg_stays}
 use Rattle.gx_law_order.proofs.Letters.{IsFound, found_is}
 use Rattle.gx_law_order.proofs.Lists.{Each}
@@ -45,6 +46,7 @@ use Rattle.gx_law_writes.proofs.Rows.{insert-no-fault}
 use Rattle.gx_law_writes.proofs.Told.{taken-told}
 use Rattle.gx_law_writes.proofs.Turns.{NoFault, Selected, Turns, base, message-turns, row-no-fault}
 use Rattle.gx_law_writes.proofs.World as writes
+use Rattle.gx_store.proofs.Marks.{is_aborted-append}
 use Rattle.gx_law_answers.specs.Earned.{Events}
 use Rattle.gx_law_answers.proofs.Always.{Came, came}
 use Rattle.gx_law_answers.proofs.Origins.{is-late, rows-part, select-is, select-order, snapshot-at}
@@ -148,7 +150,7 @@ module _ (script : Script) (some : 1 ≤ script.segments) (numbered_lines : AreL
       the-line : stmt_of_command script ms z.g z.c ≡ Some (stmt.Select z.query)
       the-line = (select-order script some numbered_lines es from to number envelope fails place f it-came.order_is it-came.view_is z).of ∙ ap Some (select-is script some numbered_lines es from to number envelope fails place f it-came.order_is it-came.view_is z)
 
-      hold : Mark
+      abbrev hold : Mark
       hold = hold_mark s.node z.wanted
 
       fault-legal : (fault : KeyedRow × ArithFault) (later : List Mark) → first_fault z.query.cond rows ≡ Some fault → LegalFault script (record { steps = (world_of script es).steps; event = event.Receive from to number; earlier = hold ∷ []; later = later }) z.g z.c fault.0.rid (Some fault.0.row)
@@ -178,9 +180,6 @@ module _ (script : Script) (some : 1 ≤ script.segments) (numbered_lines : AreL
               was : WasUnderWay script (world_of script es).steps z.g z.c
               was = subst (HasRun script (world_of script es).steps) z.is ran_is
 
-          taken : IsSnapshotAt ms z.level z.g z.c _
-          taken = snapshot-at script some numbered_lines es from to number envelope fails place f it-came.order_is it-came.view_is z
-
           beyond : (a b : ℕ) → a < b → b ≤ a → ⊥
           beyond a b x y = omega (arith, x, y)
 
@@ -196,7 +195,8 @@ module _ (script : Script) (some : 1 ≤ script.segments) (numbered_lines : AreL
                 level = z.level;
                 fault = fault.1;
                 runs = u.runs (event.Receive from to number) (hold ∷ []) later refl (tt, tt);
-                faults = subst (λ l. IsFaultOf (ms ++ hold ∷ []) z.level z.g z.c l fault.0.rid (Some fault.0.row) fault.1) (some-stmt (stmt.Select z.query) u.line (sym the-line ∙ u.of numbered_lines))
+                faults = let taken = snapshot-at script some numbered_lines es from to number envelope fails place f it-came.order_is it-came.view_is z in
+                    subst (λ l. IsFaultOf (ms ++ hold ∷ []) z.level z.g z.c l fault.0.rid (Some fault.0.row) fault.1) (some-stmt (stmt.Select z.query) u.line (sym the-line ∙ u.of numbered_lines))
                     (seen-fault (ms ++ hold ∷ []) to z.level z.g z.c _ (snapshot-more ms (hold ∷ []) z.level z.g z.c _ taken) z.query rows (part-more ms (hold ∷ []) (tt, tt) z.level z.g z.c _ taken to z.query.table rows (rows-part script some numbered_lines es from to number envelope fails place f it-came.order_is it-came.view_is z a)) fault q);
               })
 
@@ -239,7 +239,8 @@ module _ (script : Script) (some : 1 ≤ script.segments) (numbered_lines : AreL
       by_found : (o : Option Envelope) → found from to number (world_of script es).sent ≡ o → delivered from o ≡ Some x → IsRest (event.Receive from to number) to x fails
       by_found None f q = absurd (cc)
       by_found (Some envelope) f q = subst (λ y. IsRest (event.Receive from to number) to y fails) (some-same (here.Deliver from envelope) x q) (step-rest from to number envelope fails place f)
-  segments-legal (event.Resume n g) x fails place is ok = subst (λ y. IsRest (event.Resume n g) n y fails) (some-same (here.Resume g) x is) tt
+  segments-legal (event.Resume n g) x fails place is ok =
+      absurd (nobody-goes-on script ((world_of script es).segs n.0) g ((world-both script some es).knows.well.calm n.0) (subst (λ y. seg_can script ((world_of script es).segs n.0) y ≡ true) (sym (some-same (here.Resume g) x is)) ok))
   segments-legal (event.Start s) x fails place is ok = zero-one place.0
   segments-legal (event.End s) x fails place is ok = zero-one place.0
   segments-legal (event.Resend i g) x fails place is ok = zero-one place.0
