@@ -14,7 +14,7 @@ use Rattle.gx_tree.specs.declared.stmt.Level.{Level}
 use Rattle.gx_dsnap.specs.Gxids.{is_below}
 use Rattle.gx_dsnap.specs.declared.snapshot.Snapshot.{Snapshot}
 use Rattle.gx_waits.specs.declared.claim.Claim.{Claim}
-use Rattle.gx_locks.specs.Locks.{Locks, is_free}
+use Rattle.gx_locks.specs.Locks.{Locks}
 use Rattle.gx_meaning.specs.declared.fault.ArithFault.{ArithFault}
 use Rattle.gx_msg.specs.declared.item.JournalItem.{JournalItem}
 use Rattle.gx_msg.specs.declared.message.Message.{Message}
@@ -28,7 +28,7 @@ use Rattle.gx_store.specs.declared.mark.Mark.TheVariants as mark
 use Rattle.gx_store.specs.Protocol.{is_writer, local_count, prepared_count}
 use Rattle.gx_rules.specs.AtSegment.{changes, commits, ends, finishes, if_fits, is_refused, on_abort, on_commit, on_commit_prepared, on_exec, on_forget, on_message, on_prepare, once, promises, raised, repeats, takes, unless_below, was_prepared}
 use Rattle.gx_rules.specs.Fits.{fits_exec, is_waiting}
-use Rattle.gx_rules.specs.Locks.{has_there, hold_mark, release_mark, release_marks, released, with_hold}
+use Rattle.gx_rules.specs.Locks.{has_there, hold_mark, release_mark, release_marks, with_hold}
 use Rattle.gx_rules.specs.Maps.{with_at}
 use Rattle.gx_rules.specs.Segments.{Local, Phase, Seg, SegTurn, after_marks as behind, has_committed, stays, tells, tells_kept}
 use Rattle.gx_rules.specs.Segments.Phase.{Reading, Writing, Prepared, Committed, Forgotten, Aborted}
@@ -558,7 +558,6 @@ module _ (told : Message) (k : Known) (s : Seg) (i g : ℕ) (named : s.node ≡ 
         let all = insert-rows table rows (record { seg = raised_with; marks = [] }) (quiet [] refl refl refl tt tt) in
         (insert (length rows) (inserted raised_with (gx g) c table rows) all, all.calm)
     slice-runs x y = (raised-stay, tt)
-
 
   take : AreCalm s.locks → (c : Cid) → IsExecOf told g c → IsCommand k p c.0 → (level : Level) (x : Option Snapshot) (h : Gxid) (y : Slice) → is_open l.phase ≡ true → Does (takes s (gx g) c level x h y l)
   take calm c m st level x h y o = by_test (nat_lt l.last c.0) refl

@@ -23,13 +23,13 @@ use Rattle.gx_msg.specs.declared.reply.Reply.TheVariants as reply
 use Rattle.gx_msg.specs.declared.message.Out.{Out}
 use Rattle.gx_script.specs.declared.Script.{Script}
 use Rattle.gx_store.specs.declared.mark.Mark.{Mark}
-use Rattle.gx_rules.specs.AtSegment.{changes, commits, ends, finishes, if_fits, on_abort, on_commit, on_commit_prepared, on_event, on_exec, on_forget, on_message, on_prepare, once, promises, raised, repeats, takes, unless_below, was_prepared}
+use Rattle.gx_rules.specs.AtSegment.{changes, commits, ends, finishes, if_fits, on_abort, on_commit, on_commit_prepared, on_exec, on_forget, on_message, on_prepare, once, promises, raised, repeats, takes, unless_below, was_prepared}
 use Rattle.gx_rules.specs.Segments.{Local, Phase, Seg, SegTurn, local_of, stays, tells, tells_kept}
 use Rattle.gx_rules.specs.Segments.Phase.{Aborted, Committed, Forgotten, Prepared, Reading, Writing}
 use Rattle.gx_rules.specs.Slices.{Moved, first_fault, inserted, inserts, inserts_row, runs_slice, selects, requests, slice_lock}
 use Rattle.gx_rules.specs.Shown.{shown}
 use Rattle.gx_rules.specs.Fits.{fits_exec, is_waiting}
-use Rattle.gx_rules.specs.Locks.{hold_mark, release_mark, release_marks, released, with_hold}
+use Rattle.gx_rules.specs.Locks.{with_hold}
 use Rattle.gx_law_order.proofs.Lists.{Each}
 use Rattle.gx_tree.specs.declared.part.Part.TheVariants.{Rows}
 use Rattle.gx_meaning.specs.Answer.{keeps, part_of}
