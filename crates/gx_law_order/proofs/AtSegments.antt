@@ -1,5 +1,5 @@
 -- What a segment's rule keeps, and where its marks stand.
-use Rattle.std.proofs.Common.{◌≡◌, ℕ, List, [], ◌∷◌, Option, Some, None, Bool, true, false, refl, nat_lt, ◌==◌, if◌then◌else◌}
+use Rattle.std.proofs.Common.{◌≡◌, ℕ, List, [], ◌∷◌, Option, Some, None, Bool, true, false, not, refl, nat_lt, ◌==◌, if◌then◌else◌}
 use Rattle.std.specs.Prelude.{fold, length}
 use Rattle.gx_ids.specs.declared.ids.Cid.{Cid}
 use Rattle.gx_ids.specs.declared.ids.Gxid.{Gxid}
@@ -9,10 +9,12 @@ use Rattle.gx_tree.specs.declared.query.Query.{Query}
 use Rattle.gx_tree.specs.declared.row.KeyedRow.{KeyedRow}
 use Rattle.gx_tree.specs.declared.slice.Slice.{Slice}
 use Rattle.gx_tree.specs.declared.slice.Slice.TheVariants as slice
+use Rattle.gx_tree.specs.declared.stmt.Level.{Level}
 use Rattle.gx_dsnap.specs.Gxids.{is_below}
 use Rattle.gx_dsnap.specs.declared.snapshot.Snapshot.{Snapshot}
+use Rattle.gx_waits.specs.declared.claim.Claim.{Claim}
+use Rattle.gx_locks.specs.Locks.{is_free, wait_of}
 use Rattle.gx_meaning.specs.declared.fault.ArithFault.{ArithFault}
-use Rattle.gx_msg.specs.declared.item.JournalItem.{JournalItem}
 use Rattle.gx_msg.specs.declared.message.Message.{Message}
 use Rattle.gx_msg.specs.declared.message.Message.TheVariants as message
 use Rattle.gx_msg.specs.declared.reply.Reply.{Reply}
@@ -23,12 +25,14 @@ use Rattle.gx_store.specs.declared.node.NodeEvent.{NodeEvent}
 use Rattle.gx_store.specs.declared.node.NodeEvent.TheVariants as event
 use Rattle.gx_store.specs.Ordered.{IsAtNode, IsSegment}
 use Rattle.gx_store.specs.Refusals.{the_coordinator}
-use Rattle.gx_rules.specs.AtSegment.{commits, finishes, if_fits, on_abort, on_commit, on_commit_prepared, on_event, on_exec, on_forget, on_message, on_prepare, once, promises, raised, repeats, takes, unless_below, was_prepared}
-use Rattle.gx_rules.specs.Segments.{Local, Phase, Seg, SegTurn, local_of, stays, tells, tells_kept}
+use Rattle.gx_rules.specs.AtSegment.{commits, ends, finishes, if_fits, on_abort, on_commit, on_commit_prepared, on_event, on_exec, on_forget, on_message, on_prepare, once, promises, raised, repeats, resumes, takes, unless_below, was_prepared}
+use Rattle.gx_rules.specs.Locks.{hold_mark, with_hold}
+use Rattle.gx_rules.specs.Segments.{Local, Phase, Seg, SegTurn, Suspended, after_marks, local_of, stays, tells, tells_kept}
 use Rattle.gx_rules.specs.Segments.Phase.{Aborted, Committed, Forgotten, Prepared, Reading, Writing}
-use Rattle.gx_rules.specs.Slices.{Moved, first_fault, inserted, inserts, inserts_row, runs_slice, selects}
+use Rattle.gx_rules.specs.Slices.{Moved, first_fault, inserted, inserts, inserts_row, requests, runs_slice, selects, slice_lock}
 use Rattle.gx_rules.specs.Shown.{shown}
-use Rattle.gx_rules.specs.Fits.{fits_exec}
+use Rattle.gx_rules.specs.Fits.{fits_exec, is_waiting}
+use Rattle.gx_law_order.proofs.Calm.{each-released}
 use Rattle.gx_law_order.proofs.Lists.{Each, each_append}
 
 -- a mark that stands at its node and sends nothing
@@ -57,10 +61,21 @@ module _ (script : Script) (s : Seg) (at : IsSegment script s.node) where
   kept g None = stay
   kept g (Some r) = tell g r
 
-  -- slices, where the horizon was raised before
-  select : (h g : Gxid) (c : Cid) (q : Query) (rows : List KeyedRow) (f : Option (KeyedRow × ArithFault)) → Stays (selects (raised s h) g c q rows f)
-  select h g c q rows None = record { node = refl; sent = refl; marks = tt; outs = (refl, tt) }
-  select h g c q rows (Some f) = record { node = refl; sent = refl; marks = (tt, tt); outs = (refl, tt) }
+  -- a segment that differs from it by its horizon, its transactions or its locks
+  pub record Near (t : Seg) : Type 0 where
+    pub node : t.node ≡ s.node
+    pub sent : t.sent ≡ s.sent
+
+  here : Near s
+  here = record { node = refl; sent = refl }
+
+  behind : (ms : List Mark) (turn : SegTurn) → Each (PlainAt script s.node) ms → Stays turn → Stays (after_marks ms turn)
+  behind ms turn f e = record { node = e.node; sent = e.sent; marks = each_append (PlainAt script s.node) ms turn.marks f e.marks; outs = e.outs }
+
+  -- slices
+  select : (t : Seg) → Near t → (g : Gxid) (c : Cid) (q : Query) (rows : List KeyedRow) (f : Option (KeyedRow × ArithFault)) → Stays (selects t g c q rows f)
+  select t n g c q rows None = record { node = n.node; sent = n.sent; marks = tt; outs = (refl, tt) }
+  select t n g c q rows (Some f) = record { node = n.node; sent = n.sent; marks = (tt, tt); outs = (refl, tt) }
 
   pub record MovedFrom (m : Moved) : Type 0 where
     pub node : m.seg.node ≡ s.node
@@ -76,29 +91,37 @@ module _ (script : Script) (s : Seg) (at : IsSegment script s.node) where
   insert : (g : Gxid) (c : Cid) (count : ℕ) (m : Moved) → MovedFrom m → Stays (inserts g c count m)
   insert g c count m f = record { node = f.node; sent = f.sent; marks = f.marks; outs = (refl, tt) }
 
-  slice_runs : (h g : Gxid) (c : Cid) (snapshot : Option Snapshot) (x : Slice) → Stays (runs_slice (raised s h) g c snapshot x)
-  slice_runs h g c (Some snapshot) (slice.Select q) = select h g c q (shown (raised s h) snapshot g c q.table) (first_fault q.cond (shown (raised s h) snapshot g c q.table))
-  slice_runs h g c (Some snapshot) (slice.Insert table rows) =
-      insert g c (length rows) (inserted (raised s h) g c table rows) (insert_rows g c table rows (record { seg = raised s h; marks = [] }) (record { node = refl; sent = refl; marks = tt }))
-  slice_runs h g c snapshot x = record { node = refl; sent = refl; marks = tt; outs = tt }
+  slice_runs : (t : Seg) → Near t → (g : Gxid) (c : Cid) (snapshot : Option Snapshot) (x : Slice) → Stays (runs_slice t g c snapshot x)
+  slice_runs t n g c (Some snapshot) (slice.Select q) = select t n g c q (shown t snapshot g c q.table) (first_fault q.cond (shown t snapshot g c q.table))
+  slice_runs t n g c (Some snapshot) (slice.Insert table rows) =
+      insert g c (length rows) (inserted t g c table rows) (insert_rows g c table rows (record { seg = t; marks = [] }) (record { node = n.node; sent = n.sent; marks = tt }))
+  slice_runs t n g c snapshot x = record { node = n.node; sent = n.sent; marks = tt; outs = tt }
 
   both : (b : Bool) (x y : SegTurn) → Stays x → Stays y → Stays (if b then x else y)
   both true x y e f = e
   both false x y e f = f
 
+  -- with its table's lock, or a wait for it
+  starts : (t : Seg) → Near t → (g : Gxid) (c : Cid) (level : Level) (snapshot : Option Snapshot) (x : Slice) (o : Option Claim) → Stays (requests t g c level snapshot x o)
+  starts t n g c level snapshot x None = slice_runs t n g c snapshot x
+  starts t n g c level snapshot x (Some wanted) =
+      both (is_free t.locks.holds wanted) _ _
+      (behind (hold_mark t.node wanted ∷ []) _ (n.node, tt) (slice_runs (record t { locks = with_hold t.locks wanted }) (record { node = n.node; sent = n.sent }) g c snapshot x))
+      (record { node = n.node; sent = n.sent; marks = (n.node, tt); outs = tt })
+
   repeat : (g : Gxid) (c : Cid) (l : Local) → Stays (repeats s g c l)
   repeat g c l = both (c.0 == l.last) _ _ (kept g l.answer) stay
 
-  take : (g : Gxid) (c : Cid) (snapshot : Option Snapshot) (h : Gxid) (x : Slice) (l : Local) → Stays (takes s g c snapshot h x l)
-  take g c snapshot h x l = both (nat_lt l.last c.0) _ _ (slice_runs h g c snapshot x) (repeat g c l)
+  take : (g : Gxid) (c : Cid) (level : Level) (snapshot : Option Snapshot) (h : Gxid) (x : Slice) (l : Local) → Stays (takes s g c level snapshot h x l)
+  take g c level snapshot h x l = both (nat_lt l.last c.0) _ _ (starts (raised s h) (record { node = refl; sent = refl }) g c level snapshot x (slice_lock g x)) (repeat g c l)
 
-  exec : (g : Gxid) (c : Cid) (snapshot : Option Snapshot) (h : Gxid) (x : Slice) (l : Local) (p : Phase) → Stays (on_exec s g c snapshot h x l p)
-  exec g c snapshot h x l Reading = take g c snapshot h x l
-  exec g c snapshot h x l Writing = take g c snapshot h x l
-  exec g c snapshot h x l Prepared = repeat g c l
-  exec g c snapshot h x l Committed = repeat g c l
-  exec g c snapshot h x l (Forgotten b) = stay
-  exec g c snapshot h x l Aborted = stay
+  exec : (g : Gxid) (c : Cid) (level : Level) (snapshot : Option Snapshot) (h : Gxid) (x : Slice) (l : Local) (p : Phase) → Stays (on_exec s g c level snapshot h x l p)
+  exec g c level snapshot h x l Reading = take g c level snapshot h x l
+  exec g c level snapshot h x l Writing = take g c level snapshot h x l
+  exec g c level snapshot h x l Prepared = repeat g c l
+  exec g c level snapshot h x l Committed = repeat g c l
+  exec g c level snapshot h x l (Forgotten b) = stay
+  exec g c level snapshot h x l Aborted = stay
 
   only : (g : Gxid) (v : Option Reply) (turn : SegTurn) → Stays turn → Stays (once s g v turn)
   only g None turn e = e
@@ -141,22 +164,22 @@ module _ (script : Script) (s : Seg) (at : IsSegment script s.node) where
   commit_prepared g fails l (Forgotten false) = stay
   commit_prepared g fails l Aborted = stay
 
-  answered : (g : Gxid) (l : Local) (r : Reply) (it : Option JournalItem) → Stays (Rattle.gx_rules.specs.AtSegment.changes s g l [] r it)
-  answered g l r it = record { node = refl; sent = refl; marks = tt; outs = (refl, tt) }
+  ended : (g : Gxid) (l : Local) (p : Phase) (r : Reply) → Stays (ends s g l p r)
+  ended g l p r = record { node = refl; sent = refl; marks = each-released (PlainAt script s.node) s.node s.locks g (λ claim. refl); outs = (refl, tt) }
 
   abort : (g : Gxid) (l : Local) (p : Phase) → Stays (on_abort s g l p)
-  abort g l Reading = answered g _ _ _
-  abort g l Writing = answered g _ _ _
-  abort g l Prepared = answered g _ _ _
+  abort g l Reading = ended g l _ _
+  abort g l Writing = ended g l _ _
+  abort g l Prepared = ended g l _ _
   abort g l Committed = stay
   abort g l (Forgotten b) = stay
   abort g l Aborted = tell g _
 
   forget : (g : Gxid) (l : Local) (p : Phase) → Stays (on_forget s g l p)
-  forget g l Reading = answered g _ _ _
-  forget g l Writing = answered g _ _ _
-  forget g l Prepared = answered g _ _ _
-  forget g l Committed = answered g _ _ _
+  forget g l Reading = ended g l _ _
+  forget g l Writing = ended g l _ _
+  forget g l Prepared = ended g l _ _
+  forget g l Committed = ended g l _ _
   forget g l (Forgotten b) = tell g _
   forget g l Aborted = stay
 
@@ -168,9 +191,9 @@ module _ (script : Script) (s : Seg) (at : IsSegment script s.node) where
   fits false turn e = stay
 
   message_stays : (fails : Bool) (m : Message) → Stays (on_message script s fails m)
-  message_stays fails (message.Exec g c level snapshot h x) = below g _ (fits (fits_exec script s g c snapshot h x) _ (exec g c snapshot h x (local_of s g) (local_of s g).phase))
-  message_stays fails (message.Prepare g) = below g _ (prepare g fails (local_of s g) (local_of s g).phase)
-  message_stays fails (message.Commit g) = below g _ (commit g fails (local_of s g) (local_of s g).phase)
+  message_stays fails (message.Exec g c level snapshot h x) = below g _ (fits (fits_exec script s g c snapshot h x) _ (exec g c level snapshot h x (local_of s g) (local_of s g).phase))
+  message_stays fails (message.Prepare g) = below g _ (fits (not (is_waiting (local_of s g))) _ (prepare g fails (local_of s g) (local_of s g).phase))
+  message_stays fails (message.Commit g) = below g _ (fits (not (is_waiting (local_of s g))) _ (commit g fails (local_of s g) (local_of s g).phase))
   message_stays fails (message.CommitPrepared g) = below g _ (commit_prepared g fails (local_of s g) (local_of s g).phase)
   message_stays fails (message.Abort g) = below g _ (abort g (local_of s g) (local_of s g).phase)
   message_stays fails (message.Forget g) = below g _ (forget g (local_of s g) (local_of s g).phase)
@@ -178,9 +201,14 @@ module _ (script : Script) (s : Seg) (at : IsSegment script s.node) where
   message_stays fails (message.Answer g r) = stay
   message_stays fails (message.Graph round graph) = stay
 
+  resume : (g : Gxid) (w : Option Claim) (o : Option Suspended) → Stays (resumes s g w o)
+  resume g (Some wanted) (Some x) = behind (hold_mark s.node wanted ∷ []) _ (refl, tt) (slice_runs _ (record { node = refl; sent = refl }) g x.cid x.snapshot x.slice)
+  resume g (Some wanted) None = stay
+  resume g None o = stay
+
   pub seg_stays : (e : NodeEvent) (fails : Bool) → Stays (on_event script s e fails)
   seg_stays (event.Deliver from envelope) fails = message_stays fails envelope.message
-  seg_stays (event.Resume g) fails = stay
+  seg_stays (event.Resume g) fails = resume g (wait_of s.locks g) (local_of s g).suspended
   seg_stays (event.Start x) fails = stay
   seg_stays (event.End x) fails = stay
   seg_stays (event.Resend i g) fails = stay

@@ -1,4 +1,4 @@
--- The coordinator's locks, as long as only those who read or add rows take any: nobody waits, and no two modes meet.
+-- The locks of the nodes, as long as only those who read or add rows take any: nobody waits, and no two modes meet.
 use Rattle.std.proofs.Common.{◌≡◌, List, [], ◌∷◌, ◌++◌, Some, None, Bool, true, false, refl, subst, ap, ◌∙◌, if◌then◌else◌, ◌&&◌, ◌||◌, not, arith}
 use Rattle.std.specs.Prelude.{find}
 use Rattle.std.specs.List.{list_any}

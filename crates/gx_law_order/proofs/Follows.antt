@@ -109,7 +109,7 @@ seg_own script c before [] d s f own is =
         here = is.here;
         fails = is.fails;
         is = subst (λ b. IsHere b s.event is.here) (append-nil before) is.is;
-        admitted = is.admitted;
+        admitted = subst (λ y. seg_can script y is.here ≡ true) (sym e) is.admitted;
         marks = subst (λ y. s.marks ≡ (seg_rule script y is.here is.fails).marks) (sym e) is.marks;
         clock = subst (λ y. s.stamp.clock ≡ (seg_rule script y is.here is.fails).seg.clock) (sym e) is.clock;
       },

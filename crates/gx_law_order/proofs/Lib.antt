@@ -1,6 +1,7 @@
 pub mod Lists
 pub mod Places
 pub mod Calm
+pub mod CalmSegs
 pub mod AtSegments
 pub mod Tables
 pub mod AtCoordinators

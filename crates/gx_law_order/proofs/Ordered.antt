@@ -1,5 +1,5 @@
 -- Every run of the machine is ordered.
-use Rattle.std.proofs.Common.{◌≡◌, ◌≤◌, ◌<◌, inl, inr, ℕ, ◌+◌, List, [], ◌∷◌, ◌++◌, Option, Some, None, Bool, true, false, refl, sym, subst, ap, ◌∙◌, if◌then◌else◌, arith, eqb, length, append-nil}
+use Rattle.std.proofs.Common.{◌≡◌, ◌≤◌, ◌<◌, inl, inr, ℕ, ◌+◌, List, [], ◌∷◌, ◌++◌, Option, Some, None, Bool, true, false, refl, sym, subst, ap, ◌∙◌, if◌then◌else◌, ◌&&◌, arith, eqb, length, append-nil}
 use Rattle.std.proofs.lemmas.Bool.{eqb-true}
 use Rattle.std.proofs.lemmas.Bool.Decides.{nat_tests}
 use Rattle.std.proofs.lemmas.List.{append_assoc}
@@ -20,7 +20,7 @@ use Rattle.gx_store.specs.Journals.{is_same_node}
 use Rattle.gx_store.specs.Messages.{IsSending}
 use Rattle.gx_store.specs.Ordered.{AreNumbered, AreOrdered, IsAtNode, IsDelivery, IsEventAt, IsLink, IsOrderedStep, IsSegment, clock_of, sent_count, sent_in}
 use Rattle.gx_store.specs.Refusals.{the_coordinator}
-use Rattle.gx_rules.specs.AtCoordinator.{coord_can, coord_rule, on_event}
+use Rattle.gx_rules.specs.AtCoordinator.{coord_can, coord_rule, is_segment, on_event}
 use Rattle.gx_rules.specs.AtSegment.{seg_rule}
 use Rattle.gx_rules.specs.AtSegment as segment
 use Rattle.gx_rules.specs.Coordinators.{CoordTurn}
@@ -30,6 +30,7 @@ use Rattle.gx_rules.specs.Segments.{Seg, SegTurn}
 use Rattle.gx_rules.specs.Sending.{clock_after, counted, numbered}
 use Rattle.gx_law_order.proofs.AtCoordinators.{CoordIn, CoordStays, coord_stays}
 use Rattle.gx_law_order.proofs.AtSegments.{PlainAt, SegStays, seg_stays}
+use Rattle.gx_law_order.proofs.CalmSegs.{IsCalm, event_calm}
 use Rattle.gx_law_order.proofs.Clocks.{clock_after-above, clock_after-hears, clock_after-positive, clock_of-other, clock_of-same}
 use Rattle.gx_law_order.proofs.Letters.{IsFound, IsLetter, found_is, posted_letters, same_node}
 use Rattle.gx_law_order.proofs.Lists.{Each, each_append, each_weaker}
@@ -41,6 +42,7 @@ pub record Well (script : Script) (w : World) : Type 0 where
   pub steps : AreOrdered script [] w.steps
   pub coordinator : CoordIn script w.coord
   pub names : (i : ℕ) → (w.segs i).node ≡ at i
+  pub calm : (i : ℕ) → IsCalm (w.segs i)
   pub clock : clock_of the_coordinator w.steps ≤ w.coord.clock
   pub clocks : (i : ℕ) → 1 ≤ i → clock_of (at i) w.steps ≤ (w.segs i).clock
   pub sent : (i : ℕ) → w.coord.sent i ≡ sent_in the_coordinator (at i) w.steps
@@ -131,6 +133,7 @@ module _ (script : Script) (some : 1 ≤ script.segments) (w : World) (good : We
         steps = ordered-last script [] w.steps step good.steps (is_ordered h);
         coordinator = record { table = kept.coord.table; works = kept.coord.works; locks = kept.coord.locks };
         names = good.names;
+        calm = good.calm;
         clock = same-le (clock_of-same the_coordinator w.steps step refl (clock_after-positive w.coord.clock x));
         clocks = λ i k. subst (λ c. c ≤ (w.segs i).clock) (sym (clock_of-other (at i) w.steps step (apart i k))) (good.clocks i k);
         sent = λ i. counted-all turn.coord.sent turn.outs i ∙ ap (λ a. a + sent_count (at i) (numbered turn.coord.sent turn.outs)) (counts i)
@@ -168,6 +171,9 @@ module _ (script : Script) (w : World) (good : Well script w) (e : Event) (x : N
 
   seg_kept : SegStays script s seg_turn
   seg_kept = seg_stays script s (subst (IsSegment script) (sym (good.names i)) place) x fails
+
+  seg_calm : IsCalm seg_turn.seg
+  seg_calm = event_calm script s (good.calm i) x fails
 
   plain_here : Each (PlainAt script (at i)) seg_turn.marks
   plain_here = subst (λ n. Each (PlainAt script n) seg_turn.marks) (good.names i) seg_kept.marks
@@ -210,6 +216,7 @@ module _ (script : Script) (w : World) (good : Well script w) (e : Event) (x : N
         steps = ordered-last script [] w.steps seg_step good.steps (seg_ordered h);
         coordinator = good.coordinator;
         names = at-both (λ j (t : Seg). t.node ≡ at j) w.segs i _ (seg_kept.node ∙ good.names i) (λ j no. good.names j);
+        calm = at-both (λ j t. IsCalm t) w.segs i _ (record { locks = seg_calm.locks; nobody = seg_calm.nobody }) (λ j no. good.calm j);
         clock = subst (λ c. c ≤ w.coord.clock) (sym (clock_of-other the_coordinator w.steps seg_step (apart-back i place.0))) good.clock;
         clocks = at-both (λ j (t : Seg). 1 ≤ j → clock_of (at j) (w.steps ++ seg_step ∷ []) ≤ t.clock) w.segs i _
             (λ k. same-le (clock_of-same (at i) w.steps seg_step (test-self i) (clock_after-positive s.clock x)))
@@ -279,7 +286,16 @@ module _ (script : Script) (some : 1 ≤ script.segments) where
 
   -- who resumes at a segment does so at one of the script's
   pub resumes_there : (w : World) (n : Node) (g : Gxid) → Well script w → seg_can script (w.segs n.0) (here.Resume g) ≡ true → IsSegment script n
-  resumes_there w n g good ok = absurd (cc)
+  resumes_there w n g good ok = inside (w.segs n.0).node (good.names n.0) _ ok
+    where
+      inside : (m : Node) → m ≡ at n.0 → (c : Bool) → (is_segment script m && c) ≡ true → IsSegment script n
+      inside m same c e = subst (IsSegment script) same (placed m (left (is_segment script m) c e))
+        where
+          left : (a b : Bool) → (a && b) ≡ true → a ≡ true
+          left a b e = grind arith
+
+          placed : (m : Node) → is_segment script m ≡ true → IsSegment script m
+          placed m e = (grind (arith, nat_tests), grind (arith, nat_tests))
 
   resumed : (w : World) (n : Node) (g : Gxid) (fails : Bool) → Well script w → can_here script w n (Some (here.Resume g)) ≡ true → Well script (does script w (event.Resume n g) n fails (Some (here.Resume g)))
   resumed w n g fails good ok = by_test (is_same_node n the_coordinator) refl ok
@@ -312,6 +328,7 @@ module _ (script : Script) (some : 1 ≤ script.segments) where
         steps = tt;
         coordinator = record { table = tt; works = λ g. record { writers = tt; command = tt }; locks = record { nobody = refl; modes = tt } };
         names = λ i. refl;
+        calm = λ i. record { locks = record { nobody = refl; modes = tt }; nobody = λ h. refl };
         clock = least 0;
         clocks = λ i h. least 0;
         sent = λ i. refl;

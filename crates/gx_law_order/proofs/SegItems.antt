@@ -1,9 +1,9 @@
 -- What a segment's journal takes is what its marks stand for.
-use Rattle.std.proofs.Common.{◌≡◌, ℕ, List, [], ◌∷◌, ◌++◌, Option, Some, None, Bool, true, false, refl, sym, subst, ap, ◌∙◌, if◌then◌else◌, cond, ◌==◌, ◌||◌, ◌&&◌, nat_lt, arith, eqb, append-nil}
+use Rattle.std.proofs.Common.{◌≡◌, ℕ, List, [], ◌∷◌, ◌++◌, Option, Some, None, Bool, true, false, not, refl, sym, subst, ap, ◌∙◌, if◌then◌else◌, cond, ◌==◌, ◌||◌, ◌&&◌, nat_lt, arith, eqb, append-nil}
 use Rattle.std.proofs.lemmas.Bool.{eqb-true}
 use Rattle.std.proofs.lemmas.Bool.Decides.{nat_tests}
 use Rattle.std.proofs.lemmas.List.{append_assoc}
-use Rattle.std.specs.Prelude.{filter, fold, length}
+use Rattle.std.specs.Prelude.{filter, fold, length, map}
 use Rattle.gx_ids.specs.declared.ids.Cid.{Cid}
 use Rattle.gx_ids.specs.declared.ids.Gxid.{Gxid}
 use Rattle.gx_ids.specs.declared.ids.Node.{Node}
@@ -12,8 +12,11 @@ use Rattle.gx_tree.specs.declared.query.Query.{Query}
 use Rattle.gx_tree.specs.declared.row.KeyedRow.{KeyedRow}
 use Rattle.gx_tree.specs.declared.slice.Slice.{Slice}
 use Rattle.gx_tree.specs.declared.slice.Slice.TheVariants as slice
+use Rattle.gx_tree.specs.declared.stmt.Level.{Level}
 use Rattle.gx_dsnap.specs.Gxids.{is_below}
 use Rattle.gx_dsnap.specs.declared.snapshot.Snapshot.{Snapshot}
+use Rattle.gx_waits.specs.declared.claim.Claim.{Claim}
+use Rattle.gx_locks.specs.Locks.{Locks}
 use Rattle.gx_meaning.specs.declared.fault.ArithFault.{ArithFault}
 use Rattle.gx_msg.specs.declared.item.JournalItem.{JournalItem}
 use Rattle.gx_msg.specs.declared.item.JournalItem.TheVariants as item
@@ -29,14 +32,17 @@ use Rattle.gx_store.specs.declared.node.NodeEvent.{NodeEvent}
 use Rattle.gx_store.specs.declared.node.NodeEvent.TheVariants as event
 use Rattle.gx_store.specs.Journals.{is_prepared, is_same_node, item_of, items_from, kept_at, kept_from, kept_with}
 use Rattle.gx_store.specs.Marks.{is_same_gxid}
-use Rattle.gx_rules.specs.AtSegment.{changes, commits, finishes, if_fits, on_abort, on_commit, on_commit_prepared, on_event, on_exec, on_forget, on_message, on_prepare, once, promises, raised, repeats, takes, unless_below, was_prepared}
-use Rattle.gx_rules.specs.Fits.{fits_exec}
+use Rattle.gx_rules.specs.AtSegment.{changes, commits, ends, finishes, if_fits, on_abort, on_commit, on_commit_prepared, on_event, on_exec, on_forget, on_message, on_prepare, once, promises, raised, repeats, takes, unless_below, was_prepared}
+use Rattle.gx_rules.specs.Fits.{fits_exec, is_waiting}
+use Rattle.gx_rules.specs.Locks.{has_there, hold_mark, release_mark, with_hold}
 use Rattle.gx_rules.specs.Machine.{kept_item}
 use Rattle.gx_rules.specs.Maps.{with_at}
-use Rattle.gx_rules.specs.Segments.{Local, Phase, Seg, SegTurn, Version, local_of, stays, tells, tells_kept}
+use Rattle.gx_rules.specs.Segments.{Local, Phase, Seg, SegTurn, Version, after_marks, has_ended, local_of, stays, tells, tells_kept}
 use Rattle.gx_rules.specs.Segments.Phase.{Aborted, Committed, Forgotten, Prepared, Reading, Writing}
 use Rattle.gx_rules.specs.Shown.{kept_of, kept_one, last_images, shown}
-use Rattle.gx_rules.specs.Slices.{Moved, first_fault, inserted, inserts, inserts_row, runs_slice, selects}
+use Rattle.gx_rules.specs.Slices.{Moved, first_fault, inserted, inserts, inserts_row, runs_slice, selects, starts_slice}
+use Rattle.gx_law_order.proofs.Calm.{each-released}
+use Rattle.gx_law_order.proofs.CalmSegs.{IsCalm, resumes-calm, starts-calm}
 use Rattle.gx_law_order.proofs.Lists.{Each}
 use Rattle.gx_law_order.proofs.Stages.{gx}
 
@@ -136,7 +142,23 @@ bound-with f g l b all one h = by_test (eqb h g) refl
     by_test true e = subst (λ j. Bound (b j) l.phase) (sym (eqb-true h g e)) one
     by_test false e = all h
 
-module _ (script : Script) (s : Seg) (before : List Mark) (k : Holds s.node s before) where
+-- a Hold mark stands for no item, and writes nothing
+hold-holds : (node n : Node) (s : Seg) (before : List Mark) (wanted : Claim) → Holds node s before → Holds node s (before ++ hold_mark n wanted ∷ [])
+hold-holds node n s before wanted k =
+    record {
+      versions = k.versions ∙ sym (writes-append node before (hold_mark n wanted ∷ []) ∙ append-nil (writes_at node before));
+      bound = λ h. subst (λ q. Bound q (s.locals h).phase) (sym (prepared-append before (hold_mark n wanted ∷ []) node (gx h) ∙ or-false (is_prepared before node (gx h)))) (k.bound h);
+    }
+  where
+    or-false : (a : Bool) → (a || false) ≡ a
+    or-false true = refl
+    or-false false = refl
+
+hold-items : (node n : Node) (before : List Mark) (wanted : Claim) (fails : Bool) (turn : SegTurn) → Items node (before ++ hold_mark n wanted ∷ []) fails turn → Items node before fails (after_marks (hold_mark n wanted ∷ []) turn)
+hold-items node n before wanted fails turn e =
+    record { items = e.items; holds = subst (Holds node turn.seg) (append_assoc before (hold_mark n wanted ∷ []) turn.marks) e.holds }
+
+module _ (s : Seg) (before : List Mark) (k : Holds s.node s before) where
   abbrev Well : Bool → SegTurn → Type 0
   Well fails turn = Items s.node before fails turn
 
@@ -180,10 +202,13 @@ module _ (script : Script) (s : Seg) (before : List Mark) (k : Holds s.node s be
   both fails true x y e f = e
   both fails false x y e f = f
 
-  -- slices
-  select : (fails : Bool) (h g : Gxid) (c : Cid) (q : Query) (rows : List KeyedRow) (f : Option (KeyedRow × ArithFault)) → Well fails (selects (raised s h) g c q rows f)
-  select fails h g c q rows None = dull-turn fails _ tt refl (none-kept fails) refl (bound-with s.locals g.0 _ (λ i. is_prepared before s.node (gx i)) k.bound (k.bound g.0))
-  select fails h g c q rows (Some f) = dull-turn fails _ (tt, tt) refl (none-kept fails) refl (bound-with s.locals g.0 _ (λ i. is_prepared before s.node (gx i)) k.bound (k.bound g.0))
+  -- slices, where the horizon or the locks have changed before
+  abbrev raised_with : Gxid → Locks → Seg
+  raised_with h locks = record (raised s h) { locks = locks }
+
+  select : (fails : Bool) (h : Gxid) (locks : Locks) (g : Gxid) (c : Cid) (q : Query) (rows : List KeyedRow) (f : Option (KeyedRow × ArithFault)) → Well fails (selects (raised_with h locks) g c q rows f)
+  select fails h locks g c q rows None = dull-turn fails _ tt refl (none-kept fails) refl (bound-with s.locals g.0 _ (λ i. is_prepared before s.node (gx i)) k.bound (k.bound g.0))
+  select fails h locks g c q rows (Some f) = dull-turn fails _ (tt, tt) refl (none-kept fails) refl (bound-with s.locals g.0 _ (λ i. is_prepared before s.node (gx i)) k.bound (k.bound g.0))
 
   pub record Added (g : Gxid) (m : Moved) : Type 0 where
     pub node : m.seg.node ≡ s.node
@@ -224,36 +249,50 @@ module _ (script : Script) (s : Seg) (before : List Mark) (k : Holds s.node s be
         };
       }
 
-  slice_runs : (fails : Bool) (h g : Gxid) (c : Cid) (snapshot : Option Snapshot) (x : Slice) → is_prepared before s.node g ≡ false → Well fails (runs_slice (raised s h) g c snapshot x)
-  slice_runs fails h g c (Some snapshot) (slice.Select q) n = select fails h g c q (shown (raised s h) snapshot g c q.table) (first_fault q.cond (shown (raised s h) snapshot g c q.table))
-  slice_runs fails h g c (Some snapshot) (slice.Insert table rows) n =
-      insert fails g c (length rows) (inserted (raised s h) g c table rows) (add-rows g c table rows (record { seg = raised s h; marks = [] }) n (record { node = refl; dull = tt; versions = sym (append-nil s.versions); bound = k.bound }))
-  slice_runs fails h g c snapshot x n = dull-turn fails (stays (raised s h)) tt refl (none-kept fails) refl k.bound
+  slice_runs : (fails : Bool) (h : Gxid) (locks : Locks) (g : Gxid) (c : Cid) (snapshot : Option Snapshot) (x : Slice) → is_prepared before s.node g ≡ false → Well fails (runs_slice (raised_with h locks) g c snapshot x)
+  slice_runs fails h locks g c (Some snapshot) (slice.Select q) n = select fails h locks g c q (shown (raised_with h locks) snapshot g c q.table) (first_fault q.cond (shown (raised_with h locks) snapshot g c q.table))
+  slice_runs fails h locks g c (Some snapshot) (slice.Insert table rows) n =
+      insert fails g c (length rows) (inserted (raised_with h locks) g c table rows) (add-rows g c table rows (record { seg = raised_with h locks; marks = [] }) n (record { node = refl; dull = tt; versions = sym (append-nil s.versions); bound = k.bound }))
+  slice_runs fails h locks g c snapshot x n = dull-turn fails (stays (raised_with h locks)) tt refl (none-kept fails) refl k.bound
 
-  repeat : (fails : Bool) (g : Gxid) (c : Cid) (l : Local) → Well fails (repeats s g c l)
-  repeat fails g c l = both fails (c.0 == l.last) _ _ (kept fails g l.answer) (stay fails)
+module _ (script : Script) (s : Seg) (calm : IsCalm s) (before : List Mark) (k : Holds s.node s before) where
+  abbrev Good : Bool → SegTurn → Type 0
+  Good fails turn = Items s.node before fails turn
 
-  take : (fails : Bool) (g : Gxid) (c : Cid) (snapshot : Option Snapshot) (h : Gxid) (x : Slice) (l : Local) → is_prepared before s.node g ≡ false → Well fails (takes s g c snapshot h x l)
-  take fails g c snapshot h x l n = both fails (nat_lt l.last c.0) _ _ (slice_runs fails h g c snapshot x n) (repeat fails g c l)
+  starts : (fails : Bool) (h g : Gxid) (c : Cid) (level : Level) (snapshot : Option Snapshot) (x : Slice) → is_prepared before s.node g ≡ false → Good fails (starts_slice (raised s h) g c level snapshot x)
+  starts fails h g c level snapshot x n =
+      starts-calm (Good fails) (raised s h) calm.locks g c level snapshot x
+      (λ wanted. hold-items s.node s.node before wanted fails _
+      (slice_runs s (before ++ hold_mark s.node wanted ∷ []) (hold-holds s.node s.node s before wanted k) fails h (with_hold s.locks wanted) g c snapshot x (still wanted)))
+      (slice_runs s before k fails h s.locks g c snapshot x n)
+    where
+      still : (wanted : Claim) → is_prepared (before ++ hold_mark s.node wanted ∷ []) s.node g ≡ false
+      still wanted = prepared-append before (hold_mark s.node wanted ∷ []) s.node g ∙ ap (λ q. q || false) n
 
-  exec : (fails : Bool) (g : Gxid) (c : Cid) (snapshot : Option Snapshot) (h : Gxid) (x : Slice) (l : Local) (p : Phase) → Bound (is_prepared before s.node g) p → Well fails (on_exec s g c snapshot h x l p)
-  exec fails g c snapshot h x l Reading n = take fails g c snapshot h x l n
-  exec fails g c snapshot h x l Writing n = take fails g c snapshot h x l n
-  exec fails g c snapshot h x l Prepared n = repeat fails g c l
-  exec fails g c snapshot h x l Committed n = repeat fails g c l
-  exec fails g c snapshot h x l (Forgotten b) n = stay fails
-  exec fails g c snapshot h x l Aborted n = stay fails
+  repeat : (fails : Bool) (g : Gxid) (c : Cid) (l : Local) → Good fails (repeats s g c l)
+  repeat fails g c l = both s before k fails (c.0 == l.last) _ _ (kept s before k fails g l.answer) (stay s before k fails)
+
+  take : (fails : Bool) (g : Gxid) (c : Cid) (level : Level) (snapshot : Option Snapshot) (h : Gxid) (x : Slice) (l : Local) → is_prepared before s.node g ≡ false → Good fails (takes s g c level snapshot h x l)
+  take fails g c level snapshot h x l n = both s before k fails (nat_lt l.last c.0) _ _ (starts fails h g c level snapshot x n) (repeat fails g c l)
+
+  exec : (fails : Bool) (g : Gxid) (c : Cid) (level : Level) (snapshot : Option Snapshot) (h : Gxid) (x : Slice) (l : Local) (p : Phase) → Bound (is_prepared before s.node g) p → Good fails (on_exec s g c level snapshot h x l p)
+  exec fails g c level snapshot h x l Reading n = take fails g c level snapshot h x l n
+  exec fails g c level snapshot h x l Writing n = take fails g c level snapshot h x l n
+  exec fails g c level snapshot h x l Prepared n = repeat fails g c l
+  exec fails g c level snapshot h x l Committed n = repeat fails g c l
+  exec fails g c level snapshot h x l (Forgotten b) n = stay s before k fails
+  exec fails g c level snapshot h x l Aborted n = stay s before k fails
 
   -- endings
-  changed : (fails : Bool) (g : Gxid) (l : Local) (ms : List Mark) (r : Reply) (it : Option JournalItem) → Each Dull ms → writes_at s.node ms ≡ [] → kept_item fails it ≡ [] → Bound (is_prepared before s.node g) l.phase → Well fails (changes s g l ms r it)
-  changed fails g l ms r it e w i b = dull-turn fails (changes s g l ms r it) e w i refl (bound-with s.locals g.0 l (λ j. is_prepared before s.node (gx j)) k.bound b)
+  changed : (fails : Bool) (g : Gxid) (l : Local) (ms : List Mark) (r : Reply) (it : Option JournalItem) → Each Dull ms → writes_at s.node ms ≡ [] → kept_item fails it ≡ [] → Bound (is_prepared before s.node g) l.phase → Good fails (changes s g l ms r it)
+  changed fails g l ms r it e w i b = dull-turn s before k fails (changes s g l ms r it) e w i refl (bound-with s.locals g.0 l (λ j. is_prepared before s.node (gx j)) k.bound b)
 
-  only : (fails : Bool) (g : Gxid) (v : Option Reply) (turn : SegTurn) → Well fails turn → Well fails (once s g v turn)
+  only : (fails : Bool) (g : Gxid) (v : Option Reply) (turn : SegTurn) → Good fails turn → Good fails (once s g v turn)
   only fails g None turn e = e
-  only fails g (Some v) turn e = tell fails g v
+  only fails g (Some v) turn e = tell s before k fails g v
 
   -- one mark that stands for an item
-  noted : (g : Gxid) (l : Local) (m : Mark) (r : Reply) (it : JournalItem) → item_of s.node before m ≡ it ∷ [] → writes_at s.node (m ∷ []) ≡ [] → ((h : ℕ) → Bound (is_prepared (before ++ m ∷ []) s.node (gx h)) (with_at s.locals g.0 l h).phase) → Well false (changes s g l (m ∷ []) r (Some it))
+  noted : (g : Gxid) (l : Local) (m : Mark) (r : Reply) (it : JournalItem) → item_of s.node before m ≡ it ∷ [] → writes_at s.node (m ∷ []) ≡ [] → ((h : ℕ) → Bound (is_prepared (before ++ m ∷ []) s.node (gx h)) (with_at s.locals g.0 l h).phase) → Good false (changes s g l (m ∷ []) r (Some it))
   noted g l m r it e w b =
       record {
         items = ap (λ q. q ++ []) e;
@@ -261,7 +300,7 @@ module _ (script : Script) (s : Seg) (before : List Mark) (k : Holds s.node s be
       }
 
   prepare_item : (g : Gxid) → item_of s.node before (mark.Prepared s.node g) ≡ item.Prepare g (kept_of s g) ∷ []
-  prepare_item g = ap (λ q. if q then item.Prepare g (kept_at s.node g before) ∷ [] else []) (node-self s.node) ∙ ap (λ q. item.Prepare g q ∷ []) (kept-same g)
+  prepare_item g = ap (λ q. if q then item.Prepare g (kept_at s.node g before) ∷ [] else []) (node-self s.node) ∙ ap (λ q. item.Prepare g q ∷ []) (kept-same s before k g)
 
   prepared-more : (g h : ℕ) → is_prepared (before ++ mark.Prepared s.node (gx g) ∷ []) s.node (gx h) ≡ is_prepared before s.node (gx h) || eqb g h
   prepared-more g h = prepared-append before (mark.Prepared s.node (gx g) ∷ []) s.node (gx h) ∙ ap (λ q. is_prepared before s.node (gx h) || ((q && eqb g h) || false)) (node-self s.node) ∙ ap (λ q. is_prepared before s.node (gx h) || q) (or-false (eqb g h))
@@ -270,7 +309,7 @@ module _ (script : Script) (s : Seg) (before : List Mark) (k : Holds s.node s be
       or-false true = refl
       or-false false = refl
 
-  promise : (fails : Bool) (g : Gxid) (l : Local) → Bound (is_prepared before s.node g) l.phase → Well fails (promises s g fails l)
+  promise : (fails : Bool) (g : Gxid) (l : Local) → Bound (is_prepared before s.node g) l.phase → Good fails (promises s g fails l)
   promise true g l b = changed true g _ (mark.JournalFailed s.node g ∷ []) _ _ (tt, tt) refl refl b
   promise false g l b = noted g _ (mark.Prepared s.node g) _ (item.Prepare g (kept_of s g)) (prepare_item g) refl bounds
     where
@@ -297,7 +336,7 @@ module _ (script : Script) (s : Seg) (before : List Mark) (k : Holds s.node s be
   commit_item : (g : Gxid) → is_prepared before s.node g ≡ false → item_of s.node before (mark.LocalCommit s.node g) ≡ item.Commit g (kept_of s g) ∷ []
   commit_item g n =
       ap (λ q. if q then (if is_prepared before s.node g then item.Finish g ∷ [] else item.Commit g (kept_at s.node g before) ∷ []) else []) (node-self s.node)
-      ∙ ap (λ q. if q then item.Finish g ∷ [] else item.Commit g (kept_at s.node g before) ∷ []) n ∙ ap (λ q. item.Commit g q ∷ []) (kept-same g)
+      ∙ ap (λ q. if q then item.Finish g ∷ [] else item.Commit g (kept_at s.node g before) ∷ []) n ∙ ap (λ q. item.Commit g q ∷ []) (kept-same s before k g)
 
   finish_item : (g : Gxid) → is_prepared before s.node g ≡ true → item_of s.node before (mark.LocalCommit s.node g) ≡ item.Finish g ∷ []
   finish_item g n =
@@ -311,77 +350,94 @@ module _ (script : Script) (s : Seg) (before : List Mark) (k : Holds s.node s be
       or-false true = refl
       or-false false = refl
 
-  commit_one : (fails : Bool) (g : Gxid) (l : Local) → is_prepared before s.node g ≡ false → Bound (is_prepared before s.node g) l.phase → Well fails (commits s g fails l)
+  commit_one : (fails : Bool) (g : Gxid) (l : Local) → is_prepared before s.node g ≡ false → Bound (is_prepared before s.node g) l.phase → Good fails (commits s g fails l)
   commit_one true g l n b = changed true g _ (mark.JournalFailed s.node g ∷ []) _ _ (tt, tt) refl refl b
   commit_one false g l n b = noted g _ (mark.LocalCommit s.node g) _ (item.Commit g (kept_of s g)) (commit_item g n) refl (commit-bound g (record l { phase = Committed; vote = Some answer.Committed }) tt)
 
-  finish : (fails : Bool) (g : Gxid) (l : Local) → is_prepared before s.node g ≡ true → Bound (is_prepared before s.node g) l.phase → Well fails (finishes s g fails l)
+  finish : (fails : Bool) (g : Gxid) (l : Local) → is_prepared before s.node g ≡ true → Bound (is_prepared before s.node g) l.phase → Good fails (finishes s g fails l)
   finish true g l n b = changed true g l (mark.JournalFailed s.node g ∷ []) _ _ (tt, tt) refl refl b
   finish false g l n b = noted g _ (mark.LocalCommit s.node g) _ (item.Finish g) (finish_item g n) refl (commit-bound g (record l { phase = Committed }) tt)
 
-  prepare : (fails : Bool) (g : Gxid) (l : Local) (p : Phase) → l.phase ≡ p → Bound (is_prepared before s.node g) p → Well fails (on_prepare s g fails l p)
+  prepare : (fails : Bool) (g : Gxid) (l : Local) (p : Phase) → l.phase ≡ p → Bound (is_prepared before s.node g) p → Good fails (on_prepare s g fails l p)
   prepare fails g l Reading e b = only fails g l.vote _ (promise fails g l (subst (Bound (is_prepared before s.node g)) (sym e) b))
   prepare fails g l Writing e b = only fails g l.vote _ (promise fails g l (subst (Bound (is_prepared before s.node g)) (sym e) b))
-  prepare fails g l Prepared e b = kept fails g l.vote
-  prepare fails g l Committed e b = kept fails g l.vote
-  prepare fails g l (Forgotten q) e b = kept fails g l.vote
-  prepare fails g l Aborted e b = stay fails
+  prepare fails g l Prepared e b = kept s before k fails g l.vote
+  prepare fails g l Committed e b = kept s before k fails g l.vote
+  prepare fails g l (Forgotten q) e b = kept s before k fails g l.vote
+  prepare fails g l Aborted e b = stay s before k fails
 
-  commit : (fails : Bool) (g : Gxid) (l : Local) (p : Phase) → l.phase ≡ p → Bound (is_prepared before s.node g) p → Well fails (on_commit s g fails l p)
+  commit : (fails : Bool) (g : Gxid) (l : Local) (p : Phase) → l.phase ≡ p → Bound (is_prepared before s.node g) p → Good fails (on_commit s g fails l p)
   commit fails g l Reading e b = only fails g l.vote _ (commit_one fails g l b (subst (Bound (is_prepared before s.node g)) (sym e) b))
   commit fails g l Writing e b = only fails g l.vote _ (commit_one fails g l b (subst (Bound (is_prepared before s.node g)) (sym e) b))
-  commit fails g l Prepared e b = stay fails
-  commit fails g l Committed e b = both fails (was_prepared l.vote) _ _ (stay fails) (kept fails g l.vote)
-  commit fails g l (Forgotten q) e b = both fails (was_prepared l.vote) _ _ (stay fails) (kept fails g l.vote)
-  commit fails g l Aborted e b = stay fails
+  commit fails g l Prepared e b = stay s before k fails
+  commit fails g l Committed e b = both s before k fails (was_prepared l.vote) _ _ (stay s before k fails) (kept s before k fails g l.vote)
+  commit fails g l (Forgotten q) e b = both s before k fails (was_prepared l.vote) _ _ (stay s before k fails) (kept s before k fails g l.vote)
+  commit fails g l Aborted e b = stay s before k fails
 
-  commit_prepared : (fails : Bool) (g : Gxid) (l : Local) (p : Phase) → l.phase ≡ p → Bound (is_prepared before s.node g) p → Well fails (on_commit_prepared s g fails l p)
-  commit_prepared fails g l Reading e b = stay fails
-  commit_prepared fails g l Writing e b = stay fails
+  commit_prepared : (fails : Bool) (g : Gxid) (l : Local) (p : Phase) → l.phase ≡ p → Bound (is_prepared before s.node g) p → Good fails (on_commit_prepared s g fails l p)
+  commit_prepared fails g l Reading e b = stay s before k fails
+  commit_prepared fails g l Writing e b = stay s before k fails
   commit_prepared fails g l Prepared e b = finish fails g l b (subst (Bound (is_prepared before s.node g)) (sym e) b)
-  commit_prepared fails g l Committed e b = tell fails g _
-  commit_prepared fails g l (Forgotten true) e b = tell fails g _
-  commit_prepared fails g l (Forgotten false) e b = stay fails
-  commit_prepared fails g l Aborted e b = stay fails
+  commit_prepared fails g l Committed e b = tell s before k fails g _
+  commit_prepared fails g l (Forgotten true) e b = tell s before k fails g _
+  commit_prepared fails g l (Forgotten false) e b = stay s before k fails
+  commit_prepared fails g l Aborted e b = stay s before k fails
 
-  abort : (fails : Bool) (g : Gxid) (l : Local) (p : Phase) → Well fails (on_abort s g l p)
-  abort fails g l Reading = changed fails g _ [] _ None tt refl (none-kept fails) tt
-  abort fails g l Writing = changed fails g _ [] _ None tt refl (none-kept fails) tt
-  abort fails g l Prepared = changed fails g _ [] _ None tt refl (none-kept fails) tt
-  abort fails g l Committed = stay fails
-  abort fails g l (Forgotten b) = stay fails
-  abort fails g l Aborted = tell fails g _
+  ended : (fails : Bool) (g : Gxid) (l : Local) (p : Phase) (r : Reply) → has_ended p ≡ true → Good fails (ends s g l p r)
+  ended fails g l p r e =
+      dull-turn s before k fails (ends s g l p r) (each-released Dull s.node s.locks g (λ claim. tt)) (unwritten (has_there s.locks g)) (none-kept s before k fails) refl
+      (bound-with s.locals g.0 _ (λ j. is_prepared before s.node (gx j)) k.bound (unbound (is_prepared before s.node g) p e))
+    where
+      unwritten : (claims : List Claim) → writes_at s.node (map (release_mark s.node) claims) ≡ []
+      unwritten [] = refl
+      unwritten (claim ∷ claims) = unwritten claims
 
-  forget : (fails : Bool) (g : Gxid) (l : Local) (p : Phase) → Well fails (on_forget s g l p)
-  forget fails g l Reading = changed fails g _ [] _ None tt refl (none-kept fails) tt
-  forget fails g l Writing = changed fails g _ [] _ None tt refl (none-kept fails) tt
-  forget fails g l Prepared = changed fails g _ [] _ None tt refl (none-kept fails) tt
-  forget fails g l Committed = changed fails g _ [] _ None tt refl (none-kept fails) tt
-  forget fails g l (Forgotten b) = tell fails g _
-  forget fails g l Aborted = stay fails
+      unbound : (b : Bool) (p : Phase) → has_ended p ≡ true → Bound b p
+      unbound b Reading e = absurd (cc)
+      unbound b Writing e = absurd (cc)
+      unbound b Prepared e = absurd (cc)
+      unbound b Committed e = absurd (cc)
+      unbound b (Forgotten q) e = tt
+      unbound b Aborted e = tt
 
-  below : (fails : Bool) (g : Gxid) (turn : SegTurn) → Well fails turn → Well fails (unless_below s g turn)
-  below fails g turn e = both fails (is_below s.horizon g) _ _ (stay fails) e
+  abort : (fails : Bool) (g : Gxid) (l : Local) (p : Phase) → Good fails (on_abort s g l p)
+  abort fails g l Reading = ended fails g l _ _ refl
+  abort fails g l Writing = ended fails g l _ _ refl
+  abort fails g l Prepared = ended fails g l _ _ refl
+  abort fails g l Committed = stay s before k fails
+  abort fails g l (Forgotten b) = stay s before k fails
+  abort fails g l Aborted = tell s before k fails g _
 
-  fits : (fails : Bool) (b : Bool) (turn : SegTurn) → Well fails turn → Well fails (if_fits s b turn)
+  forget : (fails : Bool) (g : Gxid) (l : Local) (p : Phase) → Good fails (on_forget s g l p)
+  forget fails g l Reading = ended fails g l _ _ refl
+  forget fails g l Writing = ended fails g l _ _ refl
+  forget fails g l Prepared = ended fails g l _ _ refl
+  forget fails g l Committed = ended fails g l _ _ refl
+  forget fails g l (Forgotten b) = tell s before k fails g _
+  forget fails g l Aborted = stay s before k fails
+
+  below : (fails : Bool) (g : Gxid) (turn : SegTurn) → Good fails turn → Good fails (unless_below s g turn)
+  below fails g turn e = both s before k fails (is_below s.horizon g) _ _ (stay s before k fails) e
+
+  fits : (fails : Bool) (b : Bool) (turn : SegTurn) → Good fails turn → Good fails (if_fits s b turn)
   fits fails true turn e = e
-  fits fails false turn e = stay fails
+  fits fails false turn e = stay s before k fails
 
-  message_items : (fails : Bool) (m : Message) → Well fails (on_message script s fails m)
-  message_items fails (message.Exec g c level snapshot h x) = below fails g _ (fits fails (fits_exec script s g c snapshot h x) _ (exec fails g c snapshot h x (local_of s g) (local_of s g).phase (k.bound g.0)))
-  message_items fails (message.Prepare g) = below fails g _ (prepare fails g (local_of s g) (local_of s g).phase refl (k.bound g.0))
-  message_items fails (message.Commit g) = below fails g _ (commit fails g (local_of s g) (local_of s g).phase refl (k.bound g.0))
+  message_items : (fails : Bool) (m : Message) → Good fails (on_message script s fails m)
+  message_items fails (message.Exec g c level snapshot h x) = below fails g _ (fits fails (fits_exec script s g c snapshot h x) _ (exec fails g c level snapshot h x (local_of s g) (local_of s g).phase (k.bound g.0)))
+  message_items fails (message.Prepare g) = below fails g _ (fits fails (not (is_waiting (local_of s g))) _ (prepare fails g (local_of s g) (local_of s g).phase refl (k.bound g.0)))
+  message_items fails (message.Commit g) = below fails g _ (fits fails (not (is_waiting (local_of s g))) _ (commit fails g (local_of s g) (local_of s g).phase refl (k.bound g.0)))
   message_items fails (message.CommitPrepared g) = below fails g _ (commit_prepared fails g (local_of s g) (local_of s g).phase refl (k.bound g.0))
   message_items fails (message.Abort g) = below fails g _ (abort fails g (local_of s g) (local_of s g).phase)
   message_items fails (message.Forget g) = below fails g _ (forget fails g (local_of s g) (local_of s g).phase)
-  message_items fails (message.Collect round) = stay fails
-  message_items fails (message.Answer g r) = stay fails
-  message_items fails (message.Graph round graph) = stay fails
+  message_items fails (message.Collect round) = stay s before k fails
+  message_items fails (message.Answer g r) = stay s before k fails
+  message_items fails (message.Graph round graph) = stay s before k fails
 
-  pub event_items : (x : NodeEvent) (fails : Bool) → Well fails (on_event script s x fails)
+  pub event_items : (x : NodeEvent) (fails : Bool) → Good fails (on_event script s x fails)
   event_items (event.Deliver from envelope) fails = message_items fails envelope.message
-  event_items (event.Resume g) fails = stay fails
-  event_items (event.Start x) fails = stay fails
-  event_items (event.End x) fails = stay fails
-  event_items (event.Resend i g) fails = stay fails
-  event_items event.Round fails = stay fails
+  event_items (event.Resume g) fails = resumes-calm (Good fails) s g calm (stay s before k fails)
+  event_items (event.Start x) fails = stay s before k fails
+  event_items (event.End x) fails = stay s before k fails
+  event_items (event.Resend i g) fails = stay s before k fails
+  event_items event.Round fails = stay s before k fails

@@ -1,11 +1,14 @@
 -- What a segment does when a message comes: one function a message, by the transaction's phase there.
-use Rattle.std.specs.Prelude.{ℕ, ◌+◌, ◌==◌, nat_lt, Bool, true, false, if◌then◌else◌, List, [], ◌∷◌, ◌++◌, length, Some, None}
+use Rattle.std.specs.Prelude.{ℕ, ◌+◌, ◌==◌, nat_lt, Bool, true, false, not, if◌then◌else◌, List, [], ◌∷◌, ◌++◌, length, Some, None}
 use Rattle.std.specs.declared.option.Option.{Option}
 use Rattle.gx_ids.specs.declared.ids.Cid.{Cid}
 use Rattle.gx_ids.specs.declared.ids.Gxid.{Gxid}
 use Rattle.gx_tree.specs.declared.slice.Slice.{Slice}
+use Rattle.gx_tree.specs.declared.stmt.Level.{Level}
 use Rattle.gx_dsnap.specs.Gxids.{is_below}
 use Rattle.gx_dsnap.specs.declared.snapshot.Snapshot.{Snapshot}
+use Rattle.gx_waits.specs.declared.claim.Claim.{Claim}
+use Rattle.gx_locks.specs.Locks.{resumed, wait_of}
 use Rattle.gx_msg.specs.declared.item.JournalItem.{JournalItem}
 use Rattle.gx_msg.specs.declared.item.JournalItem.TheVariants as item
 use Rattle.gx_msg.specs.declared.message.Message.{Message}
@@ -17,12 +20,13 @@ use Rattle.gx_store.specs.declared.mark.Mark.{Mark}
 use Rattle.gx_store.specs.declared.mark.Mark.TheVariants as mark
 use Rattle.gx_store.specs.declared.node.NodeEvent.{NodeEvent}
 use Rattle.gx_store.specs.declared.node.NodeEvent.TheVariants.{Deliver, Resume}
-use Rattle.gx_rules.specs.Fits.{fits_exec}
+use Rattle.gx_rules.specs.Fits.{fits_exec, is_waiting}
+use Rattle.gx_rules.specs.Locks.{hold_mark, release_marks, released}
 use Rattle.gx_rules.specs.Sending.{clock_after, numbered}
-use Rattle.gx_rules.specs.Segments.{Local, Phase, Seg, SegTurn, has_committed, local_of, reply, stays, tells, tells_kept, with_local}
+use Rattle.gx_rules.specs.Segments.{Local, Phase, Seg, SegTurn, Suspended, after_marks, has_committed, local_of, reply, stays, tells, tells_kept, with_local}
 use Rattle.gx_rules.specs.Segments.Phase.{Reading, Writing, Prepared, Committed, Forgotten, Aborted}
 use Rattle.gx_rules.specs.Shown.{kept_of}
-use Rattle.gx_rules.specs.Slices.{runs_slice}
+use Rattle.gx_rules.specs.Slices.{runs_slice, starts_slice}
 
 -- the transaction's record changes, with a mark before the answer
 abbrev pub changes : Seg → Gxid → Local → List Mark → Reply → Option JournalItem → SegTurn
@@ -37,15 +41,15 @@ raised s h = record s { horizon = if is_below h s.horizon then h else s.horizon 
 abbrev pub repeats : Seg → Gxid → Cid → Local → SegTurn
 repeats s g c l = if c.0 == l.last then tells_kept s g l.answer else stays s
 
-abbrev pub takes : Seg → Gxid → Cid → Option Snapshot → Gxid → Slice → Local → SegTurn
-takes s g c snapshot h slice l = if nat_lt l.last c.0 then runs_slice (raised s h) g c snapshot slice else repeats s g c l
+abbrev pub takes : Seg → Gxid → Cid → Level → Option Snapshot → Gxid → Slice → Local → SegTurn
+takes s g c level snapshot h slice l = if nat_lt l.last c.0 then starts_slice (raised s h) g c level snapshot slice else repeats s g c l
 
-abbrev pub on_exec : Seg → Gxid → Cid → Option Snapshot → Gxid → Slice → Local → Phase → SegTurn
-on_exec s g c snapshot h slice l Reading = takes s g c snapshot h slice l
-on_exec s g c snapshot h slice l Writing = takes s g c snapshot h slice l
-on_exec s g c snapshot h slice l Prepared = repeats s g c l
-on_exec s g c snapshot h slice l Committed = repeats s g c l
-on_exec s g c snapshot h slice l _ = stays s
+abbrev pub on_exec : Seg → Gxid → Cid → Level → Option Snapshot → Gxid → Slice → Local → Phase → SegTurn
+on_exec s g c level snapshot h slice l Reading = takes s g c level snapshot h slice l
+on_exec s g c level snapshot h slice l Writing = takes s g c level snapshot h slice l
+on_exec s g c level snapshot h slice l Prepared = repeats s g c l
+on_exec s g c level snapshot h slice l Committed = repeats s g c l
+on_exec s g c level snapshot h slice l _ = stays s
 
 -- PREPARE
 -- It is answered once, and then always with what was kept.
@@ -99,9 +103,14 @@ on_commit_prepared s g fails l (Forgotten true) = tells s g answer.Committed
 on_commit_prepared s g fails l _ = stays s
 
 -- ABORT
+-- A transaction that ends there drops its wait and gives all its locks back.
+abbrev pub ends : Seg → Gxid → Local → Phase → Reply → SegTurn
+ends s g l phase r =
+    changes (record s { locks = released s.locks g }) g (record l { phase = phase; suspended = None }) (release_marks s.node s.locks g) r None
+
 -- Whoever has not committed there is aborted, also one that is unknown there.
 abbrev pub aborts : Seg → Gxid → Local → SegTurn
-aborts s g l = changes s g (record l { phase = Aborted }) [] answer.Aborted None
+aborts s g l = ends s g l Aborted answer.Aborted
 
 abbrev pub on_abort : Seg → Gxid → Local → Phase → SegTurn
 on_abort s g l Reading = aborts s g l
@@ -112,7 +121,7 @@ on_abort s g l _ = stays s
 
 -- FORGET
 abbrev pub forgets : Seg → Gxid → Local → SegTurn
-forgets s g l = changes s g (record l { phase = Forgotten (has_committed l.phase) }) [] answer.Forgotten None
+forgets s g l = ends s g l (Forgotten (has_committed l.phase)) answer.Forgotten
 
 abbrev pub on_forget : Seg → Gxid → Local → Phase → SegTurn
 on_forget s g l Aborted = stays s
@@ -130,23 +139,28 @@ if_fits s false turn = stays s
 
 abbrev pub on_message : Script → Seg → Bool → Message → SegTurn
 on_message script s fails (message.Exec g c level snapshot h slice) =
-    unless_below s g (if_fits s (fits_exec script s g c snapshot h slice) (on_exec s g c snapshot h slice (local_of s g) (local_of s g).phase))
-on_message script s fails (message.Prepare g) = unless_below s g (on_prepare s g fails (local_of s g) (local_of s g).phase)
-on_message script s fails (message.Commit g) = unless_below s g (on_commit s g fails (local_of s g) (local_of s g).phase)
+    unless_below s g (if_fits s (fits_exec script s g c snapshot h slice) (on_exec s g c level snapshot h slice (local_of s g) (local_of s g).phase))
+on_message script s fails (message.Prepare g) =
+    unless_below s g (if_fits s (not (is_waiting (local_of s g))) (on_prepare s g fails (local_of s g) (local_of s g).phase))
+on_message script s fails (message.Commit g) =
+    unless_below s g (if_fits s (not (is_waiting (local_of s g))) (on_commit s g fails (local_of s g) (local_of s g).phase))
 on_message script s fails (message.CommitPrepared g) = unless_below s g (on_commit_prepared s g fails (local_of s g) (local_of s g).phase)
 on_message script s fails (message.Abort g) = unless_below s g (on_abort s g (local_of s g) (local_of s g).phase)
 on_message script s fails (message.Forget g) = unless_below s g (on_forget s g (local_of s g) (local_of s g).phase)
 on_message script s fails _ = stays s
 
 -- RESUMPTIONS
--- A slice whose lock is free goes on. No slice waits yet, so nothing happens.
-abbrev pub resumes : Seg → Gxid → SegTurn
-resumes s g = stays s
+-- A slice whose lock is free takes it and goes on.
+abbrev pub resumes : Seg → Gxid → Option Claim → Option Suspended → SegTurn
+resumes s g (Some wanted) (Some waiting) =
+    let free = record (with_local s g (record (local_of s g) { suspended = None })) { locks = resumed s.locks g (Some wanted) } in
+    after_marks (hold_mark s.node wanted ∷ []) (runs_slice free g waiting.cid waiting.snapshot waiting.slice)
+resumes s g _ _ = stays s
 
 -- THE RULE
 abbrev pub on_event : Script → Seg → NodeEvent → Bool → SegTurn
 on_event script s (Deliver from envelope) fails = on_message script s fails envelope.message
-on_event script s (Resume g) fails = resumes s g
+on_event script s (Resume g) fails = resumes s g (wait_of s.locks g) (local_of s g).suspended
 on_event script s _ fails = stays s
 
 -- the marks of sendings stand behind the others, with the next numbers of the link

@@ -34,7 +34,7 @@ pub record Command : Type 0 where
 
 -- What the coordinator knows of a transaction besides its status: its session and level, its last command's number, the
 -- snapshot that a repeatable-read block keeps, the segments where it has written, the command under way, and the statement that
--- waits for its table's lock, which has no number, snapshot or pieces before it goes out (none yet; relation locks begin them).
+-- waits for its table's lock, which has no number, snapshot or pieces before it goes out.
 pub record Work : Type 0 where
   pub session : SessionId
   pub level : Level
@@ -60,17 +60,16 @@ pub record Session : Type 0 where
 abbrev pub new_session : Session
 new_session = record { state = idle_outside; lines = 0; transaction = record { 0 = 0 } }
 
--- The coordinator: its transactions' statuses, what else it knows of them by gxid, the sessions, its locks (none yet; relation
--- locks fill them), how many rounds of the detector were begun, so the last one's number, and while that one runs the graphs that
--- were reported of it, by segment (no round yet; the detector begins them), how many messages it has sent to each segment, and its
--- clock.
+-- The coordinator: its transactions' statuses, what else it knows of them by gxid, the sessions, its locks, how many rounds of the
+-- detector were begun, so the last one's number, and while that one runs a place for each segment with the graph that it has
+-- reported, if any (no round yet; the detector begins them), how many messages it has sent to each segment, and its clock.
 pub record Coord : Type 0 where
   pub table : Table
   pub works : ℕ → Work
   pub sessions : ℕ → Session
   pub locks : Locks
   pub rounds : ℕ
-  pub reports : Option (List LocalGraph)
+  pub reports : Option (List (Option LocalGraph))
   pub sent : ℕ → ℕ
   pub clock : ℕ
 

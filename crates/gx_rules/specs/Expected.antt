@@ -1,5 +1,5 @@
 -- What the small runs come to.
-use Rattle.std.specs.Prelude.{◌≡◌, ℕ, List, [], ◌∷◌, Some}
+use Rattle.std.specs.Prelude.{◌≡◌, ℕ, List, [], ◌∷◌, ◌++◌, Some}
 use Rattle.gx_ids.specs.declared.ids.Gxid.{Gxid}
 use Rattle.gx_ids.specs.declared.ids.Node.{Node}
 use Rattle.gx_msg.specs.declared.item.JournalItem.TheVariants as item
@@ -15,6 +15,7 @@ use Rattle.gx_rules.specs.Segments.{local_of}
 use Rattle.gx_rules.specs.Segments.Phase.{Aborted}
 use Rattle.gx_rules.specs.Rows.{answers_of, between_commits, drives, journal_of, kept_snapshot, last_marks, locks_of, lost_committed, never, numbers, once_at_second, one_writer, protocol_of, reader_between, refused_promise, repeated_exec, row_of, session, snaps_of, the_table, write_marks}
 use Rattle.gx_waits.specs.declared.object.Object.TheVariants.{Relation}
+use Rattle.gx_modes.specs.declared.modes.Mode.{Mode}
 use Rattle.gx_modes.specs.declared.modes.Mode.TheVariants.{RowExclusive, AccessShare}
 use Rattle.gx_waits.specs.declared.object.Object.{Object}
 
@@ -35,10 +36,22 @@ one_phase = drives 40 one_writer never new_world
 abbrev pub table : Object
 table = Relation the_table
 
+abbrev pub hold : ℕ → ℕ → Mode → Mark
+hold at g mode = mark.Hold (node at) (gxid g) table mode
+
+abbrev pub release : ℕ → ℕ → Mode → Mark
+release at g mode = mark.Release (node at) (gxid g) table mode
+
+-- the same at all three nodes, where the coordinator comes first
+abbrev pub at_each : (ℕ → Mark) → List Mark
+at_each made = made 0 ∷ made 1 ∷ made 2 ∷ []
+
+-- The query's lock at each node, the INSERT's at the coordinator and at its row's segment. The coordinator gives its own back with
+-- the answer; the run is over before FORGET comes to the segments.
 pub record CommitsByOne (w : World) : Type 0 where
   pub locks : locks_of w
-      ≡ mark.Hold (node 0) (gxid 1) table AccessShare ∷ mark.Hold (node 0) (gxid 1) table RowExclusive
-      ∷ mark.Release (node 0) (gxid 1) table AccessShare ∷ mark.Release (node 0) (gxid 1) table RowExclusive ∷ []
+      ≡ at_each (λ n. hold n 1 AccessShare) ++ hold 0 1 RowExclusive ∷ hold 1 1 RowExclusive
+      ∷ release 0 1 AccessShare ∷ release 0 1 RowExclusive ∷ []
   pub answers : answers_of w ≡ (session 0, 1, told.Begin) ∷ (session 0, 2, told.Rows []) ∷ (session 0, 3, told.Inserted 1) ∷ (session 0, 4, told.Commit) ∷ []
   pub marks : protocol_of w ≡ mark.LocalCommit (node 1) (gxid 1) ∷ mark.Commit (gxid 1) ∷ []
   pub journal : journal_of w (node 1) ≡ item.Commit (gxid 1) (kept 2 1 4 40 ∷ []) ∷ []
@@ -58,7 +71,7 @@ pub record FinishesLost (w : World) : Type 0 where
   pub answers : answers_of w ≡ (session 0, 1, told.Inserted 2) ∷ []
   pub marks : protocol_of w ≡ two_phases
   pub end : last_marks w
-      ≡ mark.Commit (gxid 1) ∷ mark.Answer (session 0) 1 (told.Inserted 2) ∷ mark.Release (node 0) (gxid 1) table RowExclusive
+      ≡ mark.Commit (gxid 1) ∷ mark.Answer (session 0) 1 (told.Inserted 2) ∷ release 0 1 RowExclusive
       ∷ mark.Sent (node 1) 5 (message.Forget (gxid 1)) ∷ mark.Sent (node 2) 4 (message.Forget (gxid 1)) ∷ []
   pub again : sent_message (node 0) (node 1) 4 w.steps ≡ Some (message.CommitPrepared (gxid 1))
   pub first : journal_of w (node 1) ≡ item.Prepare (gxid 1) (kept 1 1 0 1 ∷ []) ∷ item.Finish (gxid 1) ∷ []
@@ -80,8 +93,8 @@ refused_run = drives 40 refused_promise once_at_second new_world
 
 pub record RefusesPromise (w : World) : Type 0 where
   pub locks : locks_of w
-      ≡ mark.Hold (node 0) (gxid 1) table RowExclusive ∷ mark.Release (node 0) (gxid 1) table RowExclusive
-      ∷ mark.Hold (node 0) (gxid 2) table AccessShare ∷ mark.Release (node 0) (gxid 2) table AccessShare ∷ []
+      ≡ at_each (λ n. hold n 1 RowExclusive) ++ at_each (λ n. release n 1 RowExclusive)
+      ++ at_each (λ n. hold n 2 AccessShare) ++ release 0 2 AccessShare ∷ []
   pub answers : answers_of w ≡ (session 0, 1, told.Refused (refused.JournalFault (node 2))) ∷ (session 0, 2, told.Rows []) ∷ []
   pub marks : protocol_of w ≡ mark.Prepared (node 1) (gxid 1) ∷ mark.JournalFailed (node 2) (gxid 1) ∷ mark.Abort (gxid 1) ∷ mark.Commit (gxid 2) ∷ []
   pub journal : journal_of w (node 2) ≡ []

@@ -103,11 +103,17 @@ is_right_slice script g c _ = false
 abbrev pub holds_locks : Local → Bool
 holds_locks l = nat_lt 0 l.last && not (has_ended l.phase)
 
+-- a slice of it waits there
+abbrev pub is_waiting : Local → Bool
+is_waiting l = is_some l.suspended
+
 -- An EXEC fits where its horizon is at most its gxid and at most each gxid that holds a lock there, it has a snapshot, and
--- its slice is right for the script.
+-- its slice is right for the script. A new command fits only where no slice of its transaction waits.
 abbrev pub fits_exec : Script → Seg → Gxid → Cid → Option Snapshot → Gxid → Slice → Bool
 fits_exec script s g c snapshot horizon slice =
-    nat_le horizon.0 g.0 && (each_below horizon.0 (λ h. not (holds_locks (s.locals h))) && (is_some snapshot && is_right_slice script g c slice))
+    nat_le horizon.0 g.0
+    && (each_below horizon.0 (λ h. not (holds_locks (s.locals h)))
+    && (is_some snapshot && (is_right_slice script g c slice && not (nat_lt (s.locals g.0).last c.0 && is_waiting (s.locals g.0)))))
 
 -- AT THE COORDINATOR
 -- a part has the form that a segment's part of a query has

@@ -16,7 +16,8 @@ use Rattle.gx_store.specs.declared.run.Run.{Run}
 use Rattle.gx_store.specs.declared.run.Step.{Step}
 use Rattle.gx_store.specs.Journals.{is_same_node}
 use Rattle.gx_store.specs.Refusals.{the_coordinator}
-use Rattle.gx_rules.specs.AtCoordinator.{coord_can, coord_rule}
+use Rattle.gx_locks.specs.Locks.{is_ready, wait_of}
+use Rattle.gx_rules.specs.AtCoordinator.{coord_can, coord_rule, is_segment}
 use Rattle.gx_rules.specs.AtSegment.{seg_rule}
 use Rattle.gx_rules.specs.Coordinators.{Coord, CoordTurn, new_coordinator}
 use Rattle.gx_rules.specs.Maps.{with_at}
@@ -77,11 +78,11 @@ at_node w (event.End s) = Some (node.End s)
 at_node w (event.Resend i g) = Some (node.Resend i g)
 at_node w event.Round = Some node.Round
 
--- A segment takes deliveries, and would resume who waits there and may go on; nobody waits yet. What the coordinator admits, it
--- says itself.
+-- A segment of the script takes deliveries, and resumes whoever has a wait there that meets no hold. What the coordinator admits,
+-- it says itself.
 abbrev pub seg_can : Script → Seg → NodeEvent → Bool
 seg_can script s (node.Deliver from envelope) = true
-seg_can script s (node.Resume g) = false
+seg_can script s (node.Resume g) = is_segment script s.node && is_ready s.locks.holds (wait_of s.locks g)
 seg_can script s _ = false
 
 abbrev pub can_here : Script → World → Node → Option NodeEvent → Bool

@@ -1,5 +1,5 @@
 -- What a segment holds, as plain data.
-use Rattle.std.specs.Prelude.{ℕ, Bool, true, false, List, [], ◌∷◌, Some, None}
+use Rattle.std.specs.Prelude.{ℕ, Bool, true, false, List, [], ◌∷◌, ◌++◌, Some, None}
 use Rattle.std.specs.declared.option.Option.{Option}
 use Rattle.gx_ids.specs.declared.ids.Cid.{Cid}
 use Rattle.gx_ids.specs.declared.ids.Gxid.{Gxid}
@@ -42,8 +42,7 @@ has_ended Aborted = true
 has_ended _ = false
 
 -- A slice that waits: its command, how many rows it has written, the row at which it waits, and the rows left behind that one.
--- Where it waits for its table there is no row yet. None of its kind stands yet: relation locks make those without a row, updates
--- and deletes those with one.
+-- Where it waits for its table there is no row yet; those with one come with updates and deletes.
 pub record Suspended : Type 0 where
   pub cid : Cid
   pub level : Level
@@ -54,7 +53,7 @@ pub record Suspended : Type 0 where
   pub rows : List Rid
 
 -- A transaction at a segment: its phase, its last command there (0 before the first), what was answered to that command and to
--- PREPARE or COMMIT, and the slice that waits (none yet; relation locks begin them).
+-- PREPARE or COMMIT, and the slice that waits.
 pub record Local : Type 0 where
   pub phase : Phase
   pub last : ℕ
@@ -73,10 +72,10 @@ pub record Version : Type 0 where
   pub rid : Rid
   pub image : Option (List Value)
 
--- A segment: the horizon, the transactions by gxid, all versions in the order in which they were written, its locks (none yet;
--- relation locks fill them), the last round of the detector that asked for a graph there (0 before the first) and the graph that
--- it was told (none yet; the detector makes both), how many messages it has sent, and its clock. What stands below the horizon
--- counts as ended; nothing is dropped here.
+-- A segment: the horizon, the transactions by gxid, all versions in the order in which they were written, its locks, the last
+-- round of the detector that asked for a graph there (0 before the first) and the graph that it was told (none yet; the detector
+-- makes both), how many messages it has sent, and its clock. What stands below the horizon counts as ended; nothing is dropped
+-- here.
 pub record Seg : Type 0 where
   pub node : Node
   pub horizon : Gxid
@@ -129,6 +128,10 @@ reply g r = record { node = the_coordinator; message = Answer g r }
 -- it answers, and nothing else changes
 abbrev pub tells : Seg → Gxid → Reply → SegTurn
 tells s g r = record { seg = s; marks = []; outs = reply g r ∷ []; item = None }
+
+-- marks that stand before those of a turn
+abbrev pub after_marks : List Mark → SegTurn → SegTurn
+after_marks ms turn = record turn { marks = ms ++ turn.marks }
 
 -- what was kept is answered again; where nothing was kept, nothing is
 abbrev pub tells_kept : Seg → Gxid → Option Reply → SegTurn

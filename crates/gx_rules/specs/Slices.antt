@@ -1,5 +1,5 @@
--- What a segment does for a command. It goes row by row.
-use Rattle.std.specs.Prelude.{ℕ, Bool, true, false, List, [], ◌∷◌, ◌++◌, filter, fold, length, Some, None, Result, Ok, Err}
+-- What a segment does for a command: it takes its table's lock, and then goes row by row.
+use Rattle.std.specs.Prelude.{ℕ, Bool, true, false, if◌then◌else◌, List, [], ◌∷◌, ◌++◌, filter, fold, length, Some, None, Result, Ok, Err}
 use Rattle.std.specs.declared.option.Option.{Option}
 use Rattle.gx_ids.specs.declared.ids.Cid.{Cid}
 use Rattle.gx_ids.specs.declared.ids.Gxid.{Gxid}
@@ -10,7 +10,12 @@ use Rattle.gx_tree.specs.declared.query.Query.{Query}
 use Rattle.gx_tree.specs.declared.row.KeyedRow.{KeyedRow}
 use Rattle.gx_tree.specs.declared.slice.Slice.{Slice}
 use Rattle.gx_tree.specs.declared.slice.Slice.TheVariants as slice
+use Rattle.gx_tree.specs.declared.stmt.Level.{Level}
 use Rattle.gx_dsnap.specs.declared.snapshot.Snapshot.{Snapshot}
+use Rattle.gx_modes.specs.declared.modes.Mode.TheVariants.{AccessShare, RowExclusive}
+use Rattle.gx_waits.specs.declared.claim.Claim.{Claim}
+use Rattle.gx_waits.specs.declared.object.Object.TheVariants.{Relation}
+use Rattle.gx_locks.specs.Locks.{is_free}
 use Rattle.gx_meaning.specs.declared.fault.ArithFault.{ArithFault}
 use Rattle.gx_meaning.specs.declared.fault.ArithFault.TheVariants as arith
 use Rattle.gx_meaning.specs.Answer.{keeps, part_of}
@@ -21,7 +26,9 @@ use Rattle.gx_msg.specs.declared.reply.Reply.TheVariants.{Done, Failed}
 use Rattle.gx_store.specs.declared.mark.Mark.{Mark}
 use Rattle.gx_store.specs.declared.mark.Mark.TheVariants.{Write, Fault}
 use Rattle.gx_store.specs.Commands.{condition_on}
-use Rattle.gx_rules.specs.Segments.{Phase, Seg, SegTurn, Version, local_of, reply, stays, with_local}
+use Rattle.gx_store.specs.Waits.{claim}
+use Rattle.gx_rules.specs.Locks.{hold_mark, wait_mark, with_hold, with_wait}
+use Rattle.gx_rules.specs.Segments.{Phase, Seg, SegTurn, Suspended, Version, after_marks, local_of, reply, stays, with_local}
 use Rattle.gx_rules.specs.Segments.Phase.{Reading, Writing}
 use Rattle.gx_rules.specs.Shown.{shown}
 
@@ -84,3 +91,39 @@ runs_slice s g c (Some snapshot) (slice.Select query) =
     selects s g c query (shown s snapshot g c query.table) (first_fault query.cond (shown s snapshot g c query.table))
 runs_slice s g c (Some snapshot) (slice.Insert table rows) = inserts g c (length rows) (inserted s g c table rows)
 runs_slice s g c snapshot slice = stays s
+
+-- THE TABLE'S LOCK
+-- the lock that a slice takes on its table: those that read or add rows; the others take none yet
+abbrev pub slice_lock : Gxid → Slice → Option Claim
+slice_lock g (slice.Select query) = Some (claim g (Relation query.table) AccessShare)
+slice_lock g (slice.Insert table rows) = Some (claim g (Relation table) RowExclusive)
+slice_lock g _ = None
+
+-- it waits for the lock: the command has come, and isn't answered yet
+abbrev pub suspended_slice : Cid → Level → Option Snapshot → Slice → Suspended
+suspended_slice c level snapshot slice = record { cid = c; level = level; snapshot = snapshot; slice = slice; count = 0; row = None; rows = [] }
+
+abbrev pub suspends : Seg → Gxid → Cid → Level → Option Snapshot → Slice → Claim → SegTurn
+suspends s g c level snapshot slice wanted =
+    record {
+      seg =
+          record (with_local s g (record (local_of s g) { last = c.0; answer = None; suspended = Some (suspended_slice c level snapshot slice) })) {
+            locks = with_wait s.locks wanted;
+          };
+      marks = wait_mark s.node wanted ∷ [];
+      outs = [];
+      item = None;
+    }
+
+-- with the lock it runs
+abbrev pub runs_locked : Seg → Gxid → Cid → Option Snapshot → Slice → Claim → SegTurn
+runs_locked s g c snapshot slice wanted =
+    after_marks (hold_mark s.node wanted ∷ []) (runs_slice (record s { locks = with_hold s.locks wanted }) g c snapshot slice)
+
+abbrev pub requests : Seg → Gxid → Cid → Level → Option Snapshot → Slice → Option Claim → SegTurn
+requests s g c level snapshot slice None = runs_slice s g c snapshot slice
+requests s g c level snapshot slice (Some wanted) =
+    if is_free s.locks.holds wanted then runs_locked s g c snapshot slice wanted else suspends s g c level snapshot slice wanted
+
+abbrev pub starts_slice : Seg → Gxid → Cid → Level → Option Snapshot → Slice → SegTurn
+starts_slice s g c level snapshot slice = requests s g c level snapshot slice (slice_lock g slice)

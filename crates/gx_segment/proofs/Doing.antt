@@ -14,7 +14,8 @@ use Rattle.gx_msg.specs.declared.item.JournalItem.{JournalItem}
 use Rattle.gx_msg.specs.declared.item.Kept.{Kept}
 use Rattle.gx_msg.specs.declared.reply.Reply.{Reply}
 use Rattle.gx_node.specs.Changes.{Change, change_of, marks_in, outs_in, turn_of}
-use Rattle.gx_node.specs.Orders.{AreItems}
+use Rattle.gx_outside.specs.Shelves.{Shelf}
+use Rattle.gx_node.specs.Orders.{Took}
 use Rattle.gx_node.specs.declared.local.Taken.{Taken}
 use Rattle.gx_node.proofs.Turns.{turn-makes}
 use Rattle.gx_rules.specs.AtSegment.{if_fits, on_exec}
@@ -128,10 +129,10 @@ module _ (o : Order) (s : Seg) (g : Gxid) (tables : List Schema) (held : Held) (
       subst (λ (b : Bool). HasDone tables held' horizon done (turn b)) (sym (ap (λ (x : Done). x.fails) d))
       (HasDone-ordered o s g taken.fails tables held held' horizon change taken done is e alive moved (made-held o s g taken.fails tables held node is n alive) d)
 
-  pub AreItems-order : (before after : List (List ℕ)) → AreItems before after taken.fails change.item → AreItems before after done.fails (turn done.fails).item
-  AreItems-order before after items =
-      subst (λ (b : Bool). AreItems before after b (turn b).item) (sym (ap (λ (x : Done). x.fails) d))
-      (subst (λ (it : Option JournalItem). AreItems before after taken.fails it) (item-ordered o s g taken.fails change alive (made-held o s g taken.fails tables held node is n alive)) items)
+  pub Took-order : (before after : Shelf) → Took before after taken.fails change.item → Took before after done.fails (turn done.fails).item
+  Took-order before after took =
+      subst (λ (b : Bool). Took before after b (turn b).item) (sym (ap (λ (x : Done). x.fails) d))
+      (subst (λ (it : Option JournalItem). Took before after taken.fails it) (item-ordered o s g taken.fails change alive (made-held o s g taken.fails tables held node is n alive)) took)
 
 pub HasDone-none : (script : Script) (s : Seg) (g : Gxid) (c : Cid) (snapshot : Option Snapshot) (h : Gxid) (slice : Slice) (tables : List Schema) (held : Held) (horizon : Gxid) (done : Done) → IsHeld tables held s → horizon ≡ s.horizon → snapshot ≡ None → done ≡ no_done → HasDone tables held horizon done (exec_turn script s g c snapshot h slice)
 HasDone-none script s g c snapshot h slice tables held horizon done is e none d =

@@ -1,5 +1,5 @@
 use Rattle.std.proofs.Common.{[], ◌∙◌, ap, arith, false, inr, subst, sym}
-use Rattle.gx_world.specs.Worlds.{WorldState, shelf}
+use Rattle.gx_world.specs.Worlds.{WorldState}
 use Rattle.gx_script.specs.declared.Script.{Script}
 use Rattle.gx.specs.Top.{AreDriven, is_over, run_in}
 use Rattle.gx_store.specs.declared.run.Run.{Run}
@@ -9,7 +9,7 @@ use Rattle.gx.proofs.running.run_script.Goals as goal
 
 pub returns-in-Ok-drive-clause-kept : goal.returns-in-Ok-drive-clause-kept
 returns-in-Ok-drive-clause-kept g c =
-    kept-back (λ j. shelf (g.J.Journal.items j) (g.J.Journal.fault_count j)) c.args.journals.now.items c.deref_mut.result.now c.drive.new.journals _ c.args.journals.now.len c.drive.new.world.run.steps (run_in c.ended.result) (is_over c.ended.result)
+    kept-back g.J.Journal.shelf c.args.journals.now.items c.deref_mut.result.now c.drive.new.journals _ c.args.journals.now.len c.drive.new.world.run.steps (run_in c.ended.result) (is_over c.ended.result)
     c.deref_mut.ensures.value (omega (arith, c.deref_mut.ensures.len, c.drive.auto.journals)) (ap (λ (r : Run). r.steps) c.ended.ensures.run) c.in-Ok-drive.ensures.failures (λ _. c.in-Ok-drive.ensures.held)
 
 pub returns-in-Err-drive-clause-ran : goal.returns-in-Err-drive-clause-ran
@@ -20,7 +20,7 @@ returns-in-Err-drive-clause-ran g c =
 
 pub returns-in-Err-drive-clause-kept : goal.returns-in-Err-drive-clause-kept
 returns-in-Err-drive-clause-kept g c =
-    kept-back (λ j. shelf (g.J.Journal.items j) (g.J.Journal.fault_count j)) c.args.journals.now.items c.deref_mut.result.now c.drive.new.journals _ c.args.journals.now.len c.drive.new.world.run.steps c.into_run.result false
+    kept-back g.J.Journal.shelf c.args.journals.now.items c.deref_mut.result.now c.drive.new.journals _ c.args.journals.now.len c.drive.new.world.run.steps c.into_run.result false
     c.deref_mut.ensures.value (omega (arith, c.deref_mut.ensures.len, c.drive.auto.journals)) (ap (λ (r : Run). r.steps) c.into_run.ensures.value) c.in-Err-drive.ensures.failures (λ e. absurd (cc))
 
 pub returns-in-Ok-drive-clause-count : goal.returns-in-Ok-drive-clause-count

@@ -1,14 +1,16 @@
 use Rattle.std.proofs.Common.{[], ◌≡◌, rules, subst, sym}
+use Rattle.std.specs.Prelude.{map}
 use Rattle.gx_script.specs.declared.Script.{Script}
 use Rattle.gx_drive.specs.Agrees.{IsAgreed}
 use Rattle.gx_drive.specs.Seeded.{IsDrawn, behind, seeded}
 use Rattle.gx_drive.proofs.Driving.{no-more, none-done, under-way}
+use Rattle.gx_drive.proofs.Journals.{as-many}
 use Rattle.gx_drive.proofs.Words.{behind-next, behind-none, word-draws}
 use Rattle.gx_drive.proofs.seeded.run_seeded.Goals as goal
 
 pub loop-turn-init : goal.loop-turn-init
 loop-turn-init g c = (
-  none-done (IsDrawn c.args.world.now.script c.args.seed) g.J.Journal.items g.J.Journal.fault_count c.args.journals.now c.args.world.now c.in_ok-agenda.agenda c.requires.new c.requires.usable c.requires.journals c.requires.empty
+  none-done (IsDrawn c.args.world.now.script c.args.seed) (map g.J.Journal.shelf c.args.journals.now) c.args.world.now c.in_ok-agenda.agenda c.requires.new c.requires.usable (as-many g.J.Journal.shelf c.args.journals.now 17 c.requires.journals) c.requires.empty
   (subst (λ (s : Script). IsAgreed s [] c.in_ok-agenda.agenda) c.script.ensures.value c.in_ok-agenda.ensures),
   subst (λ g. g ≡ behind 0 (seeded c.args.seed)) (sym c.generator_of-generator.ensures) (behind-none (seeded c.args.seed)),
 )
