@@ -11,6 +11,7 @@ use Rattle.gx_rules.specs.AtCoordinator.{dispatches, goes_on_locked, if_granted,
 use Rattle.gx_rules.specs.Coordinators as rule
 use Rattle.gx_law_order.proofs.Calm.{AreCalm, nobody-waits}
 use Rattle.gx_coord.specs.Books.{IsFramed, coord_of, stmt_at}
+use Rattle.gx_store.specs.Refusals.{the_coordinator}
 use Rattle.gx_node.specs.Locking.{asked_mark}
 use Rattle.gx_coord.specs.Locking.{asked}
 use Rattle.gx_coord.specs.Turns.{IsTurn}
