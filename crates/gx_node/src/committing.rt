@@ -87,7 +87,8 @@ pub(crate) fn take_prepare<J: Journal>(
     kept: Seq<Kept>,
     journal: &mut J,
 ) -> Mem<Taken>
-    ensures does { IfOk result (λ taken. Does (unless_waiting (local_of local.old) (change.prepares node gxid kept taken.fails (local_of local.old) (phase_of local.old.phase))) (local_of local.new) taken) }
+    ensures does { IfOk result (λ taken. Does (unless_waiting (local_of local.old)
+        (change.prepares node gxid kept taken.fails (local_of local.old) (phase_of local.old.phase))) (local_of local.new) taken) }
     ensures took { IfOk result (λ taken. Took (J.shelf journal.old) (J.shelf journal.new) taken.fails (unless_waiting (local_of local.old)
         (change.prepares node gxid kept taken.fails (local_of local.old) (phase_of local.old.phase))).item) }
     ensures err { OnErr result ((local.new ≡ local.old) × HasKept (J.shelf journal.old) (J.shelf journal.new)) }
@@ -149,7 +150,8 @@ pub(crate) fn take_commit<J: Journal>(
     kept: Seq<Kept>,
     journal: &mut J,
 ) -> Mem<Taken>
-    ensures does { IfOk result (λ taken. Does (unless_waiting (local_of local.old) (change.commits node gxid kept taken.fails (local_of local.old) (phase_of local.old.phase))) (local_of local.new) taken) }
+    ensures does { IfOk result (λ taken. Does (unless_waiting (local_of local.old)
+        (change.commits node gxid kept taken.fails (local_of local.old) (phase_of local.old.phase))) (local_of local.new) taken) }
     ensures took { IfOk result (λ taken. Took (J.shelf journal.old) (J.shelf journal.new) taken.fails (unless_waiting (local_of local.old)
         (change.commits node gxid kept taken.fails (local_of local.old) (phase_of local.old.phase))).item) }
     ensures err { OnErr result ((local.new ≡ local.old) × HasKept (J.shelf journal.old) (J.shelf journal.new)) }
