@@ -1,11 +1,8 @@
 -- What became of the journals.
-use Rattle.std.proofs.Common.{◌≡◌, ℕ, List, [], ◌∷◌, ◌++◌, Bool, true, refl, sym, ap, ◌∙◌, subst, take, length}
+use Rattle.std.proofs.Common.{◌≡◌, ℕ, List, [], ◌++◌, Bool, true, refl, sym, ap, ◌∙◌, subst, take, length}
 use Rattle.std.proofs.Math.Seq.{take-append_seam}
-use Rattle.std.proofs.lemmas.List.{map-append}
-use Rattle.std.proofs.lemmas.List.Elements.{All-append, All-cons, All-nil}
 use Rattle.std.specs.Prelude.{map}
 use Rattle.gx_store.specs.declared.run.Step.{Step}
-use Rattle.gx_outside.specs.Memory.{JournalState, shelf_of}
 use Rattle.gx_outside.specs.Shelves.{Shelf, AreEmpty}
 use Rattle.gx_drive.specs.Ordered.{AreFailuresFew, AreHeld}
 use Rattle.gx_drive.proofs.Journals.{none-failed, none-held}
@@ -14,12 +11,6 @@ use Rattle.gx_store.specs.declared.run.Run.{Run}
 use Rattle.gx.specs.declared.attempt.Attempt.{Attempt}
 use Rattle.gx.specs.declared.attempt.Attempt.TheVariants.{Done, Stopped, Usage, Refused, ReadFault, TooLarge, NotBuilt, OutOfMemory}
 use Rattle.gx.specs.Top.{AreKept, IsRefusedFor, no_run, run_in}
-
--- one journal more, without an item
-pub empty-more : (js : List JournalState) (j : JournalState) → AreEmpty (map shelf_of js) → j.items ≡ [] → AreEmpty (map shelf_of (js ++ j ∷ []))
-empty-more js j empty e =
-    subst AreEmpty (sym (map-append shelf_of js (j ∷ [])))
-    (All-append (λ (x : Shelf). x.items ≡ []) (map shelf_of js) (shelf_of j ∷ []) empty (All-cons (λ (x : Shelf). x.items ≡ []) (shelf_of j) [] e (All-nil (λ (x : Shelf). x.items ≡ []))))
 
 -- nothing was run
 pub none-kept : (shelves : List Shelf) (over : Bool) → AreEmpty shelves → AreKept [] over shelves shelves

@@ -150,7 +150,8 @@ fn push_requests(
     events: &mut Vec<Event>,
 ) -> Mem<()>
     requires { segment.0 < 255 }
-    ensures all { OnOk result (events.new.items ≡ events.old.items ++ map (λ (e : OneRequest × OneExpected). resend_of e.0) (filter (λ (e : OneRequest × OneExpected). is_of segment e.0) pending.now.entries)) }
+    ensures all { OnOk result (events.new.items ≡ events.old.items
+        ++ map (λ (e : OneRequest × OneExpected). resend_of e.0) (filter (λ (e : OneRequest × OneExpected). is_of segment e.0) pending.now.entries)) }
     ensures ordered { IsOrdered request_cmp pending.now }
 {
     let least = Request {

@@ -1,7 +1,7 @@
 // PREPARE, COMMIT and COMMIT PREPARED.
 ghost use Rattle.std.specs.Prelude.{◌≡◌, true, false, Some, None, IfOk, OnErr};
 ghost use Rattle.gx_outside.specs.Shelves.{HasKept};
-ghost use Rattle.gx_node.specs.Changes.{Does, commits_now, finishes_now, promises, unless_prepared};
+ghost use Rattle.gx_node.specs.Changes.{Does, commits_now, finishes_now, promises, unless_prepared, unless_waiting};
 ghost use Rattle.gx_node.specs.Changes as change;
 ghost use Rattle.gx_node.specs.Orders.{Took};
 ghost use Rattle.gx_node.specs.Phases.{local_of, phase_of};
@@ -23,29 +23,32 @@ fn tell_vote(local: &Local) -> Taken
         mark: None,
         reply: local.vote.map(|vote| vote.reply()),
         fails: false,
+        ends: false,
     }
 }
 
 pub(crate) fn nothing() -> Taken
-    ensures { result ≡ record { mark = None; reply = None; fails = false } }
+    ensures { result ≡ record { mark = None; reply = None; fails = false; ends = false } }
 {
     Taken {
         mark: None,
         reply: None,
         fails: false,
+        ends: false,
     }
 }
 
 // The journal has failed before the transaction was promised or committed.
 fn refuse(node: Node, gxid: Gxid, local: &mut Local) -> Taken
     ensures local { local.new ≡ record local.old { vote = Some Vote.Jfault } }
-    ensures taken { result ≡ record { mark = Some (Mark.JournalFailed node gxid); reply = Some Reply.Jfault; fails = true } }
+    ensures taken { result ≡ record { mark = Some (Mark.JournalFailed node gxid); reply = Some Reply.Jfault; fails = true; ends = false } }
 {
     local.vote = Some(Vote::Jfault);
     Taken {
         mark: Some(Mark::JournalFailed { node, gxid }),
         reply: Some(Reply::Jfault),
         fails: true,
+        ends: false,
     }
 }
 
@@ -71,6 +74,7 @@ fn promise<J: Journal>(
         mark: Some(Mark::Prepared { node, gxid }),
         reply: Some(Reply::Prepared),
         fails: false,
+        ends: false,
     })
 }
 
@@ -83,11 +87,15 @@ pub(crate) fn take_prepare<J: Journal>(
     kept: Seq<Kept>,
     journal: &mut J,
 ) -> Mem<Taken>
-    ensures does { IfOk result (λ taken. Does (change.prepares node gxid kept taken.fails (local_of local.old) (phase_of local.old.phase)) (local_of local.new) taken) }
-    ensures took { IfOk result (λ taken. Took (J.shelf journal.old) (J.shelf journal.new) taken.fails (change.prepares node gxid kept taken.fails
-        (local_of local.old) (phase_of local.old.phase)).item) }
+    ensures does { IfOk result (λ taken. Does (unless_waiting (local_of local.old)
+        (change.prepares node gxid kept taken.fails (local_of local.old) (phase_of local.old.phase))) (local_of local.new) taken) }
+    ensures took { IfOk result (λ taken. Took (J.shelf journal.old) (J.shelf journal.new) taken.fails (unless_waiting (local_of local.old)
+        (change.prepares node gxid kept taken.fails (local_of local.old) (phase_of local.old.phase))).item) }
     ensures err { OnErr result ((local.new ≡ local.old) × HasKept (J.shelf journal.old) (J.shelf journal.new)) }
 {
+    if local.is_waiting() {
+        return Ok(nothing());
+    }
     match (local.phase, local.vote) {
         (Phase::Reading, None) => promise(alloc, node, gxid, local, kept, journal),
         (Phase::Writing, None) => promise(alloc, node, gxid, local, kept, journal),
@@ -118,6 +126,7 @@ fn commit<J: Journal>(
         mark: Some(Mark::LocalCommit { node, gxid }),
         reply: Some(Reply::Committed),
         fails: false,
+        ends: false,
     })
 }
 
@@ -141,11 +150,15 @@ pub(crate) fn take_commit<J: Journal>(
     kept: Seq<Kept>,
     journal: &mut J,
 ) -> Mem<Taken>
-    ensures does { IfOk result (λ taken. Does (change.commits node gxid kept taken.fails (local_of local.old) (phase_of local.old.phase)) (local_of local.new) taken) }
-    ensures took { IfOk result (λ taken. Took (J.shelf journal.old) (J.shelf journal.new) taken.fails (change.commits node gxid kept taken.fails
-        (local_of local.old) (phase_of local.old.phase)).item) }
+    ensures does { IfOk result (λ taken. Does (unless_waiting (local_of local.old)
+        (change.commits node gxid kept taken.fails (local_of local.old) (phase_of local.old.phase))) (local_of local.new) taken) }
+    ensures took { IfOk result (λ taken. Took (J.shelf journal.old) (J.shelf journal.new) taken.fails (unless_waiting (local_of local.old)
+        (change.commits node gxid kept taken.fails (local_of local.old) (phase_of local.old.phase))).item) }
     ensures err { OnErr result ((local.new ≡ local.old) × HasKept (J.shelf journal.old) (J.shelf journal.new)) }
 {
+    if local.is_waiting() {
+        return Ok(nothing());
+    }
     match (local.phase, local.vote) {
         (Phase::Reading, None) => commit(alloc, node, gxid, local, kept, journal),
         (Phase::Writing, None) => commit(alloc, node, gxid, local, kept, journal),
@@ -174,6 +187,7 @@ fn finish<J: Journal>(
             mark: Some(Mark::JournalFailed { node, gxid }),
             reply: Some(Reply::Again),
             fails: true,
+            ends: false,
         });
     }
     local.phase = Phase::Committed;
@@ -181,6 +195,7 @@ fn finish<J: Journal>(
         mark: Some(Mark::LocalCommit { node, gxid }),
         reply: Some(Reply::Committed),
         fails: false,
+        ends: false,
     })
 }
 
@@ -205,11 +220,12 @@ pub(crate) fn take_commit_prepared<J: Journal>(
 
 // An answer, and nothing else.
 pub(crate) fn tell(reply: Reply) -> Taken
-    ensures { result ≡ record { mark = None; reply = Some reply; fails = false } }
+    ensures { result ≡ record { mark = None; reply = Some reply; fails = false; ends = false } }
 {
     Taken {
         mark: None,
         reply: Some(reply),
         fails: false,
+        ends: false,
     }
 }
