@@ -1,0 +1,5 @@
+pub mod Marks
+pub mod Released
+pub mod AtSegments
+pub mod AtCoordinators
+pub mod World
