@@ -3,3 +3,4 @@ pub mod Released
 pub mod AtSegments
 pub mod AtCoordinators
 pub mod World
+pub mod Lasting

@@ -105,7 +105,7 @@ released-from node (c ∷ cs) holds =
     ∙ filter-alike (λ x. not (same_claim c x) && not (among cs x)) (λ x. not (among (c ∷ cs) x)) holds (each-of (λ x. (not (same_claim c x) && not (among cs x)) ≡ not (among (c ∷ cs) x)) (λ x. nor (same_claim c x) (among cs x)) holds)
 
 -- the transaction's own, and nobody else's
-claim-itself : (c : Claim) → same_claim c c ≡ true
+pub claim-itself : (c : Claim) → same_claim c c ≡ true
 claim-itself c = three (c.gxid.0 == c.gxid.0) (same_object c.object c.object) (number_of c.mode == number_of c.mode) (number-itself c.gxid.0) (same_object-itself c.object) (number-itself (number_of c.mode))
   where
     number-itself : (k : ℕ) → (k == k) ≡ true

@@ -17,11 +17,11 @@ use Rattle.gx_store.specs.declared.node.NodeEvent.TheVariants as here
 use Rattle.gx_store.specs.declared.run.Step.{Step}
 use Rattle.gx_store.specs.Journals.{is_same_node}
 use Rattle.gx_store.specs.Locks.{AreExclusive, AreGranted}
-use Rattle.gx_store.specs.Marks.{is_aborted, is_committed}
+use Rattle.gx_store.specs.Marks.{is_ended, is_aborted, is_committed}
 use Rattle.gx_store.specs.Ordered.{IsAtNode, IsSegment}
 use Rattle.gx_store.specs.Points.{marks_in}
 use Rattle.gx_store.specs.Refusals.{the_coordinator}
-use Rattle.gx_store.specs.Waits.{holds_at, holds_from}
+use Rattle.gx_store.specs.Waits.{is_held, holds_at, holds_from}
 use Rattle.gx_rules.specs.AtCoordinator.{coord_can, coord_rule, is_segment, on_event}
 use Rattle.gx_rules.specs.AtSegment.{seg_rule}
 use Rattle.gx_rules.specs.AtSegment as segment
@@ -36,9 +36,11 @@ use Rattle.gx_law_order.proofs.World.{Knows, marks-last}
 use Rattle.gx_law_commit.proofs.Everywhere.{Holds}
 use Rattle.gx_law_reads.proofs.Steps.{HeardAt, SaidTo, world-keeps}
 use Rattle.gx_law_locks.specs.Held.{AreHoldsMarked}
+use Rattle.gx_law_locks.specs.Lasting.{DoHoldsLast}
 use Rattle.gx_law_locks.specs.Late.{AreReleasesLate}
 use Rattle.gx_law_locks.proofs.AtCoordinators.{event-holds}
 use Rattle.gx_law_locks.proofs.AtSegments.{IsEndedFor, Turn, message_locks, resume_locks}
+use Rattle.gx_law_locks.proofs.Lasting.{holds-last, late-front}
 use Rattle.gx_law_locks.proofs.Marks.{Locking, Quiet, both, free-granted, late-append, other-holds, quiet}
 
 pub record Locked (w : World) : Type 0 where
@@ -166,3 +168,8 @@ module _ (script : Script) (some : 1 ≤ script.segments) where
 
   pub world-exclusive : (es : List (Event × Bool)) (before later : List Mark) → marks_in (world_of script es).steps ≡ before ++ later → AreExclusive before
   world-exclusive es before later e = exclusive-behind before (granted-front [] before later (subst (AreGranted []) e (world-locked es).granted))
+
+  pub world-lasting : (es : List (Event × Bool)) (before later : List Mark) → marks_in (world_of script es).steps ≡ before ++ later → DoHoldsLast before
+  world-lasting es before later e xs ys node g object mode split f =
+      subst (λ m. is_held m node g object mode ≡ true) (sym split)
+      (holds-last xs ys node g object mode (subst (AreReleasesLate []) split (late-front [] before later (subst (AreReleasesLate []) e (world-locked es).late))) (subst (λ m. is_ended m g ≡ false) split f))

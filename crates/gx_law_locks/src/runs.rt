@@ -1,6 +1,7 @@
 //! Laws of every run, whatever the network loses, repeats, delays and reorders, and whichever appends fail.
 ghost use Rattle.std.specs.Prelude.{◌≡◌, ◌≤◌, ◌++◌, Bool, List, []};
 ghost use Rattle.gx_law_locks.specs.Held.{AreHoldsMarked};
+ghost use Rattle.gx_law_locks.specs.Lasting.{DoHoldsLast};
 ghost use Rattle.gx_law_locks.specs.Late.{AreReleasesLate};
 ghost use Rattle.gx_law_order.specs.Runs.{steps_after};
 ghost use Rattle.gx_rules.specs.Machine.{world_of};
@@ -28,4 +29,9 @@ pub fn locks_are_exclusive()
 /// A lock is given back only by a transaction that has its Commit or Abort mark.
 pub fn locks_are_given_back_at_the_end()
     ensures { (script : Script) (events : List (OneEvent × Bool)) → 1 ≤ script.segments → AreReleasesLate [] (marks_in (steps_after script events)) }
+{}
+
+/// At each point, whoever has no Commit or Abort mark holds all that it was granted.
+pub fn who_runs_holds_what_it_was_granted()
+    ensures { (script : Script) (events : List (OneEvent × Bool)) (before later : List OneMark) → 1 ≤ script.segments → marks_in (steps_after script events) ≡ before ++ later → DoHoldsLast before }
 {}
