@@ -4,3 +4,6 @@ pub mod AtSegments
 pub mod AtCoordinators
 pub mod World
 pub mod Lasting
+pub mod Going
+pub mod AtWrites
+pub mod Orders

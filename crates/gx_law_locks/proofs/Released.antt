@@ -85,7 +85,7 @@ filter-alike : (p q : Claim → Bool) (xs : List Claim) → Each (λ x. p x ≡ 
 filter-alike p q [] e = refl
 filter-alike p q (x ∷ xs) e = ap (λ b. cond b (x ∷ filter p xs) (filter p xs)) e.0 ∙ ap (λ ys. cond (q x) (x ∷ ys) ys) (filter-alike p q xs e.1)
 
-each-of : {X : Type 0} (P : X → Type 0) → ((x : X) → P x) → (xs : List X) → Each P xs
+pub each-of : {X : Type 0} (P : X → Type 0) → ((x : X) → P x) → (xs : List X) → Each P xs
 each-of P f [] = tt
 each-of P f (x ∷ xs) = (f x, each-of P f xs)
 

@@ -77,7 +77,7 @@ module _ (script : Script) (some : 1 ≤ script.segments) where
   apart : (i : ℕ) → 1 ≤ i → is_same_node the_coordinator (at i) ≡ false
   apart i h = grind (arith, nat_tests)
 
-  coord-keeps : (w : World) → Knows script w → Holds script w → Locked w → (e : Event) (x : NodeEvent) (fails : Bool) → coord_can script w.coord x ≡ true → SaidTo w x → Locked (coord_did w e (coord_rule script w.coord x fails))
+  pub coord-keeps : (w : World) → Knows script w → Holds script w → Locked w → (e : Event) (x : NodeEvent) (fails : Bool) → coord_can script w.coord x ≡ true → SaidTo w x → Locked (coord_did w e (coord_rule script w.coord x fails))
   coord-keeps w k v q e x fails ok said =
       record {
         marked = record {
@@ -133,7 +133,7 @@ module _ (script : Script) (some : 1 ≤ script.segments) where
   heard-locks w e i (here.Resend j g) fails h = absurd h
   heard-locks w e i here.Round fails h = absurd h
 
-  seg-keeps : (w : World) → Knows script w → Holds script w → Locked w → (e : Event) (x : NodeEvent) (fails : Bool) (i : ℕ) → IsSegment script (at i) → HeardAt script w e i x → Locked (seg_did w (at i) e (seg_rule script (w.segs i) x fails))
+  pub seg-keeps : (w : World) → Knows script w → Holds script w → Locked w → (e : Event) (x : NodeEvent) (fails : Bool) (i : ℕ) → IsSegment script (at i) → HeardAt script w e i x → Locked (seg_did w (at i) e (seg_rule script (w.segs i) x fails))
   seg-keeps w k v q e x fails i place h =
       record {
         marked = record {
@@ -160,7 +160,7 @@ module _ (script : Script) (some : 1 ≤ script.segments) where
           with-sent (at i) (marks_in w.steps) (w.segs i).locks.holds turn.marks turn.seg.locks.holds (λ node. turn.seg.sent) turn.outs
           (subst (λ n. Locking n (marks_in w.steps) (w.segs i).locks.holds turn.marks turn.seg.locks.holds) (k.well.names i) (heard-locks w e i x fails h))
 
-  new-locked : Locked new_world
+  pub new-locked : Locked new_world
   new-locked = record { marked = record { coordinator = refl; segments = λ i one. refl }; granted = tt; late = tt }
 
   pub world-locked : (es : List (Event × Bool)) → Locked (world_of script es)
