@@ -7,3 +7,4 @@ pub mod Lasting
 pub mod Going
 pub mod AtWrites
 pub mod Orders
+pub mod Writes

@@ -4,12 +4,13 @@ ghost use Rattle.gx_law_locks.specs.Held.{AreHoldsMarked};
 ghost use Rattle.gx_law_locks.specs.Lasting.{DoHoldsLast};
 ghost use Rattle.gx_law_locks.specs.Late.{AreReleasesLate};
 ghost use Rattle.gx_law_locks.specs.Orders.{AreOrdersLocked};
-ghost use Rattle.gx_law_locks.specs.Writes.{AreWritesLocked};
+ghost use Rattle.gx_law_locks.specs.Writes.{AreWritesLocked, AreWritesUnderLock};
 ghost use Rattle.gx_law_order.specs.Runs.{steps_after};
 ghost use Rattle.gx_rules.specs.Machine.{world_of};
 ghost use Rattle.gx_script.specs.declared.Script.{Script};
 ghost use Rattle.gx_store.specs.declared.event.Event.{Event as OneEvent};
 ghost use Rattle.gx_store.specs.declared.mark.Mark.{Mark as OneMark};
+ghost use Rattle.gx_store.specs.Language.{AreLinesNumbered};
 ghost use Rattle.gx_store.specs.Locks.{AreExclusive, AreGranted};
 ghost use Rattle.gx_store.specs.Points.{marks_in};
 
@@ -47,4 +48,9 @@ pub fn commands_go_out_with_their_lock()
 /// Whoever writes a row, and has not ended, holds its table at the coordinator and at the row's node.
 pub fn rows_are_written_with_the_lock()
     ensures { (script : Script) (events : List (OneEvent × Bool)) → 1 ≤ script.segments → AreWritesLocked script [] (marks_in (steps_after script events)) }
+{}
+
+/// Whoever writes a row holds its table at the coordinator and at the row's node, unless it has aborted.
+pub fn rows_are_written_with_the_lock_unless_aborted()
+    ensures { (script : Script) (events : List (OneEvent × Bool)) → 1 ≤ script.segments → AreLinesNumbered [] script.lines → AreWritesUnderLock script [] (marks_in (steps_after script events)) }
 {}
