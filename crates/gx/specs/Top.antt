@@ -6,6 +6,7 @@ use Rattle.std.specs.declared.alloc.Global.{Global}
 use Rattle.std.specs.declared.vec.Vec.{Vec}
 use Rattle.std.specs.Io.KnownBytes.{Consumes, Appends, IsAtEnd}
 use Rattle.gx_outside.specs.Causes.{Rose, WritesPrefix}
+use Rattle.gx_outside.specs.Shelves.{Shelf}
 use Rattle.gx_tree.specs.declared.row.KeyedRow.{KeyedRow}
 use Rattle.gx_words.specs.Words.{IsCommand}
 use Rattle.gx_words.specs.declared.options.Options.{Options}
@@ -27,7 +28,6 @@ use Rattle.gx_rules.specs.System.{IsSystemRun}
 use Rattle.gx_store.specs.Schedule.{is_any_unfinished}
 use Rattle.gx_law_runs.specs.Endings.{IsFinished}
 use Rattle.gx_law_commit.specs.Told.{DoStepsTell}
-use Rattle.gx_world.specs.Worlds.{Shelf}
 use Rattle.gx_drive.specs.Ordered.{AreFailuresFew, AreFirst, AreHeld}
 use Rattle.gx.specs.declared.top.Report.{Report}
 use Rattle.gx.specs.declared.attempt.Attempt.{Attempt}

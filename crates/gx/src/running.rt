@@ -1,9 +1,9 @@
 // Running a script that was read, and telling its run.
-ghost use Rattle.std.specs.Prelude.{◌≡◌, ◌≤◌, ◌++◌, [], true, false, All, IfOk, length, map};
+ghost use Rattle.std.specs.Prelude.{◌≡◌, ◌≤◌, ◌++◌, [], true, false, IfOk, length, map};
 ghost use Rattle.gx_store.specs.Whole.{AreInsertsWhole};
 ghost use Rattle.gx_drive.specs.Ordered.{AreFirst, IsEnd};
 ghost use Rattle.gx_store.specs.Schedule.{is_any_unfinished};
-ghost use Rattle.gx_world.specs.Worlds.{shelf};
+ghost use Rattle.gx_outside.specs.Shelves.{AreEmpty};
 ghost use Rattle.gx_store.specs.Language.{IsScript};
 ghost use Rattle.gx_report.specs.Text.{stopped_text as of_stopped};
 ghost use Rattle.gx.specs.Top.{AreKept, IsRan, IsWholeRunOf, is_over, run_in, traced};
@@ -31,11 +31,11 @@ pub fn run_script<J: Journal, G: Gate>(
     requires language { IsScript script }
     requires inserts { AreInsertsWhole script.tables script.lines }
     requires journals { length journals.old.items ≡ 17 }
-    requires empty { All (λ j. J.items j ≡ []) journals.old.items }
+    requires empty { AreEmpty (map J.shelf journals.old.items) }
     ensures ran { IsRan script options result }
     ensures count { length journals.new.items ≡ 17 }
-    ensures kept { AreKept (run_in result).steps (is_over result) (map (λ j. shelf (J.items j) (J.fault_count j)) journals.old.items)
-        (map (λ j. shelf (J.items j) (J.fault_count j)) journals.new.items) }
+    ensures kept { AreKept (run_in result).steps (is_over result) (map J.shelf journals.old.items)
+        (map J.shelf journals.new.items) }
 {
     let mut world = match World::new(alloc, script) {
         Ok(world) => world,

@@ -1,8 +1,6 @@
-//! Tests of what stands beside the program: links between two threads, slots of resource groups, the log of verdicts.
+//! Tests of what stands beside the program: links between two threads, and slots of resource groups.
 #![tactic(auto)]
 
-#[cfg(test)]
-mod decide;
 #[cfg(test)]
 mod groups;
 #[cfg(test)]

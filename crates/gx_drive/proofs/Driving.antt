@@ -1,16 +1,16 @@
 -- One turn behind others.
 use Rattle.std.proofs.Common.{◌≡◌, ◌≤◌, ◌<◌, ◌⊎◌, inl, inr, ℕ, ◌+◌, List, [], ◌∷◌, ◌++◌, refl, sym, ap, ◌∙◌, subst, arith, length, length-append, true, false}
+use Rattle.gx_outside.specs.Shelves.{Shelf, AreEmpty}
 use Rattle.gx_script.specs.declared.Script.{Script}
 use Rattle.gx_store.specs.declared.run.Step.{Step}
-use Rattle.std.specs.Prelude.{All, map}
 use Rattle.gx_store.specs.declared.event.Event.{Event}
-use Rattle.gx_world.specs.Worlds.{HasStepped, Shelf, WorldState, shelf}
+use Rattle.gx_world.specs.Worlds.{HasStepped, WorldState}
 use Rattle.gx_law_runs.specs.Replays.{is_admitted}
 use Rattle.gx_law_runs.specs.Reached.{IsReached}
 use Rattle.gx_drive.specs.declared.agenda.Agenda.{Agenda}
 use Rattle.gx_drive.specs.Agrees.{HasTurned, IsAgreed, IsDue, IsNextStep, IsNoMore, IsUnderWay}
 use Rattle.gx_drive.specs.Ordered.{AreFailuresFew, AreFirst, AreHeld}
-use Rattle.gx_drive.proofs.Journals.{as-many, none-failed, none-held}
+use Rattle.gx_drive.proofs.Journals.{none-failed, none-held}
 use Rattle.gx_drive.proofs.Turning.{first-more, stepped-held, stepped-reached}
 
 -- what is first stays so, whether a step was done or not
@@ -57,9 +57,8 @@ turned-by old new a b event before after some reached agreed due admitted h same
     back P p = subst P (sym same) p
 
 -- no turn was done
-pub none-done : {A : Type 0} (items : A → List (List ℕ)) (faults : A → ℕ) (js : List A) (world : WorldState) (agenda : Agenda) → world.run.steps ≡ [] → world.spent ≡ false → length js ≡ 17 → All (λ j. items j ≡ []) js → IsAgreed world.script [] agenda
-    → IsUnderWay world.script 0 world agenda (map (λ j. shelf (items j) (faults j)) js) (map (λ j. shelf (items j) (faults j)) js)
-none-done items faults js world agenda new usable many empty agreed =
+pub none-done : (shelves : List Shelf) (world : WorldState) (agenda : Agenda) → world.run.steps ≡ [] → world.spent ≡ false → length shelves ≡ 17 → AreEmpty shelves → IsAgreed world.script [] agenda → IsUnderWay world.script 0 world agenda shelves shelves
+none-done shelves world agenda new usable many empty agreed =
     record {
       same = refl;
       usable = usable;
@@ -67,13 +66,10 @@ none-done items faults js world agenda new usable many empty agreed =
       count = ap length new;
       agreed = back (λ ss. IsAgreed world.script ss agenda) agreed;
       first = back (AreFirst world.script []) tt;
-      journals = as-many (λ j. shelf (items j) (faults j)) js 17 many;
-      held = back (λ ss. AreHeld ss shelves) (none-held items faults js empty);
+      journals = many;
+      held = back (λ ss. AreHeld ss shelves) (none-held shelves empty);
       few = back (λ ss. AreFailuresFew ss shelves shelves) (none-failed shelves);
     }
   where
-    shelves : List Shelf
-    shelves = map (λ j. shelf (items j) (faults j)) js
-
     back : (P : List Step → Type 0) → P [] → P world.run.steps
     back P p = subst P (sym new) p

@@ -7,6 +7,7 @@ use Rattle.gx_ids.specs.declared.ids.Node.{Node}
 use Rattle.gx_msg.specs.ItemBytes.{bytes_of_item}
 use Rattle.gx_msg.specs.declared.item.JournalItem.{JournalItem}
 use Rattle.gx_outside.specs.Causes.{Rose}
+use Rattle.gx_outside.specs.Shelves.{Shelf}
 use Rattle.gx_script.specs.declared.Script.{Script}
 use Rattle.gx_store.specs.declared.event.Event.{Event}
 use Rattle.gx_store.specs.declared.mark.Mark.{Mark}
@@ -16,7 +17,7 @@ use Rattle.gx_store.specs.Journals.{is_same_node, items_of}
 use Rattle.gx_store.specs.Points.{marks_in}
 use Rattle.gx_rules.specs.Machine.{happens, node_of}
 use Rattle.gx_law_order.specs.Journals.{takes}
-use Rattle.gx_world.specs.Worlds.{AreLater, HasStepped, Shelf}
+use Rattle.gx_world.specs.Worlds.{AreLater, HasStepped}
 use Rattle.gx_law_runs.specs.Reached.{IsReached}
 use Rattle.gx_law_runs.specs.Replays.{world_behind}
 use Rattle.gx_law_runs.proofs.Reaching.{event-reached}

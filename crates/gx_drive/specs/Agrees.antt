@@ -1,6 +1,7 @@
 -- What the driver keeps, against the steps of a run, and what a turn does.
 use Rattle.std.specs.Prelude.{◌≡◌, ◌⊎◌, ℕ, ◌+◌, ◌∷◌, ◌++◌, [], false, List, length}
 use Rattle.std.specs.List.{flat_map}
+use Rattle.gx_outside.specs.Shelves.{Shelf}
 use Rattle.gx_script.specs.declared.Script.{Script}
 use Rattle.gx_store.specs.declared.event.Event.{Event}
 use Rattle.gx_store.specs.declared.event.Event.TheVariants.{Receive}
@@ -10,7 +11,7 @@ use Rattle.gx_store.specs.Refusals.{the_coordinator}
 use Rattle.gx_store.specs.Schedule.{first_of, left_on, segments_of}
 use Rattle.gx_agenda.specs.Awaited.{AreAsked}
 use Rattle.gx_agenda.specs.Agrees.{Agree}
-use Rattle.gx_world.specs.Worlds.{Shelf, WorldState}
+use Rattle.gx_world.specs.Worlds.{WorldState}
 use Rattle.gx_agenda.specs.Queued.{AreQueued}
 use Rattle.gx_law_runs.specs.Reached.{IsReached}
 use Rattle.gx_drive.specs.Ordered.{AreFailuresFew, AreFirst, AreHeld, IsFirst}

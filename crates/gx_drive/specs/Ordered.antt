@@ -2,6 +2,7 @@
 use Rattle.std.specs.Prelude.{◌≡◌, ◌≤◌, ℕ, ◌+◌, ◌-◌, ◌^◌, min, ◌∷◌, ◌++◌, [], true, false, List, length, map, slice_get, Some}
 use Rattle.gx_ids.specs.declared.ids.Node.{Node}
 use Rattle.gx_msg.specs.ItemBytes.{bytes_of_item}
+use Rattle.gx_outside.specs.Shelves.{Shelf}
 use Rattle.gx_script.specs.declared.Script.{Script}
 use Rattle.gx_store.specs.declared.event.Event.{Event}
 use Rattle.gx_store.specs.declared.run.Step.{Step}
@@ -9,7 +10,6 @@ use Rattle.gx_store.specs.Journals.{items_of}
 use Rattle.gx_store.specs.Points.{marks_in}
 use Rattle.gx_store.specs.Schedule.{enabled, first_of, is_any_unfinished}
 use Rattle.gx_law_runs.specs.Failures.{failures_in}
-use Rattle.gx_world.specs.Worlds.{Shelf}
 use Rattle.gx_drive.specs.declared.end.End.{End}
 use Rattle.gx_drive.specs.declared.end.End.TheVariants.{Done, Turns}
 

@@ -1,7 +1,7 @@
-ghost use Rattle.std.specs.Prelude.{◌≡◌, ◌≤◌, [], false, All, IfOk, OnOk, length, map};
+ghost use Rattle.std.specs.Prelude.{◌≡◌, ◌≤◌, [], false, IfOk, OnOk, length, map};
 ghost use Rattle.gx_store.specs.Whole.{AreInsertsWhole};
 ghost use Rattle.gx_store.specs.Schedule.{is_any_unfinished};
-ghost use Rattle.gx_world.specs.Worlds.{shelf};
+ghost use Rattle.gx_outside.specs.Shelves.{AreEmpty};
 ghost use Rattle.gx_law_runs.specs.Reached.{IsReached};
 ghost use Rattle.gx_drive.specs.Ordered.{AreFailuresFew, AreFirst, AreHeld, IsEnd};
 
@@ -26,14 +26,14 @@ pub fn run_ordered<J: Journal, G: Gate>(
     requires usable { world.old.spent ≡ false }
     requires inserts { AreInsertsWhole world.old.script.tables world.old.script.lines }
     requires journals { length journals.old ≡ 17 }
-    requires empty { All (λ j. J.items j ≡ []) journals.old }
+    requires empty { AreEmpty (map J.shelf journals.old) }
     requires turns { turns ≤ 10000000 }
     ensures journals { length journals.new ≡ 17 }
     ensures script { world.new.script ≡ world.old.script }
     ensures first { AreFirst world.old.script [] world.new.run.steps }
-    ensures failures { AreFailuresFew world.new.run.steps (map (λ j. shelf (J.items j) (J.fault_count j)) journals.old) (map (λ j. shelf (J.items j) (J.fault_count j)) journals.new) }
+    ensures failures { AreFailuresFew world.new.run.steps (map J.shelf journals.old) (map J.shelf journals.new) }
     ensures end { IfOk result (IsEnd world.old.script world.new.run.steps turns) }
-    ensures held { OnOk result (AreHeld world.new.run.steps (map (λ j. shelf (J.items j) (J.fault_count j)) journals.new)) }
+    ensures held { OnOk result (AreHeld world.new.run.steps (map J.shelf journals.new)) }
     ensures unspent { OnOk result (world.new.spent ≡ false) }
 {
     let mut agenda = Agenda::new(alloc, world.script())?;

@@ -3,7 +3,7 @@ ghost use Rattle.std.specs.Prelude.{◌≡◌, ◌<◌, ◌^◌, ◌++◌, ◌�
 ghost use Rattle.gx_store.specs.Whole.{AreInsertsWhole};
 ghost use Rattle.gx_agenda.specs.Awaited.{told_in};
 ghost use Rattle.gx_store.specs.Schedule.{is_any_unfinished};
-ghost use Rattle.gx_world.specs.Worlds.{Shelf, shelf};
+ghost use Rattle.gx_outside.specs.Shelves.{Shelf};
 ghost use Rattle.gx_law_runs.specs.Reached.{IsReached};
 ghost use Rattle.gx_law_runs.specs.Replays.{is_admitted};
 ghost use Rattle.gx_store.specs.Language.{IsScript};
@@ -80,10 +80,10 @@ pub(crate) fn turn<J: Journal, G: Gate>(
     requires room { length world.old.run.steps < 2 ^ 40 }
     ensures script { world.new.script ≡ world.old.script }
     ensures first { IsNoMore world.old.script world.old.run.steps world.new.run.steps }
-    ensures failures { (start : List Shelf) → AreFailuresFew world.old.run.steps start (map (λ j. shelf (J.items j) (J.fault_count j)) journals.old)
-        → AreFailuresFew world.new.run.steps start (map (λ j. shelf (J.items j) (J.fault_count j)) journals.new) }
-    ensures turned { OnOk result (HasTurned world.old world.new agenda.new (map (λ j. shelf (J.items j) (J.fault_count j)) journals.old)
-        (map (λ j. shelf (J.items j) (J.fault_count j)) journals.new)) }
+    ensures failures { (start : List Shelf) → AreFailuresFew world.old.run.steps start (map J.shelf journals.old)
+        → AreFailuresFew world.new.run.steps start (map J.shelf journals.new) }
+    ensures turned { OnOk result (HasTurned world.old world.new agenda.new (map J.shelf journals.old)
+        (map J.shelf journals.new)) }
 {
     let event = next_event(world, agenda)?;
     world.step(event, journals, gate)?;

@@ -2,6 +2,8 @@
 use Rattle.std.proofs.Common.{◌≡◌, ◌≤◌, inl, inr, ℕ, List, [], ◌∷◌, ◌++◌, Option, Some, None, Bool, true, false, refl, sym, subst, ap, ◌∙◌, if◌then◌else◌, eqb, arith, append_assoc, append-nil}
 use Rattle.std.proofs.lemmas.Bool.{eqb-true}
 use Rattle.std.proofs.lemmas.Bool.Decides.{nat_tests}
+use Rattle.gx_law_order.proofs.Ordered.{world_well}
+use Rattle.gx_law_order.proofs.CalmSegs.{nobody-goes-on}
 use Rattle.gx_ids.specs.declared.ids.Gxid.{Gxid}
 use Rattle.gx_ids.specs.declared.ids.Node.{Node}
 use Rattle.gx_msg.specs.declared.message.Envelope.{Envelope}
@@ -188,7 +190,7 @@ module _ (script : Script) (some : 1 ≤ script.segments) (numbered_lines : AreL
         by_test : (b : Bool) → (if b then coord_can script (world_of script es).coord (here.Resume g) else seg_can script ((world_of script es).segs n.0) (here.Resume g)) ≡ true
             → AreEarned script (es ++ (event.Resume n g, fails) ∷ []) (if b then coord_did (world_of script es) (event.Resume n g) (coord_rule script (world_of script es).coord (here.Resume g) fails) else seg_did (world_of script es) n (event.Resume n g) (seg_rule script ((world_of script es).segs n.0) (here.Resume g) fails))
         by_test true ok = coord-earned es (event.Resume n g, fails) t (event.Resume n g) (here.Resume g) fails
-        by_test false ok = absurd (cc)
+        by_test false ok = absurd (nobody-goes-on script ((world_of script es).segs n.0) g ((world_well script some es).calm n.0) ok)
 
     event-earned : (e : Event) (fails : Bool) → can script (world_of script es) e ≡ true → AreEarned script (es ++ (e, fails) ∷ []) (does script (world_of script es) e (node_of e) fails (at_node (world_of script es) e))
     event-earned (event.Receive from to number) fails ok = arrives from to number fails (found from to number (world_of script es).sent) refl

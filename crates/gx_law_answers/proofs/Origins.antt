@@ -3,6 +3,7 @@ use Rattle.std.proofs.Common.{◌≡◌, ◌≤◌, ◌<◌, inl, inr, ℕ, List
 use Rattle.std.proofs.lemmas.Bool.{eqb-true}
 use Rattle.std.proofs.lemmas.Bool.Decides.{nat_tests}
 use Rattle.std.specs.Prelude.{length, take}
+use Rattle.gx_law_order.proofs.Ordered.{world_well}
 use Rattle.gx_ids.specs.declared.ids.Cid.{Cid}
 use Rattle.gx_ids.specs.declared.ids.Gxid.{Gxid}
 use Rattle.gx_ids.specs.declared.ids.Node.{Node}
@@ -35,8 +36,11 @@ use Rattle.gx_store.specs.Refusals.{the_coordinator}
 use Rattle.gx_rules.specs.AtCoordinator.{coord_can, coord_rule}
 use Rattle.gx_rules.specs.AtSegment.{on_message, raised, seg_rule}
 use Rattle.gx_rules.specs.Machine.{Letter, World, after, at_node, can, coord_did, delivered, does, found, happens, new_world, node_of, seg_did, world_of}
-use Rattle.gx_rules.specs.Segments.{Local, Seg, SegTurn, local_of, reply as reply_out}
+use Rattle.gx_rules.specs.Segments.{Local, Seg, SegTurn, after_marks, local_of, reply as reply_out}
+use Rattle.gx_rules.specs.Locks.{hold_mark}
 use Rattle.gx_rules.specs.Sending.{numbered}
+use Rattle.gx_locks.specs.Locks.{Locks}
+use Rattle.gx_waits.specs.declared.claim.Claim.{Claim}
 use Rattle.gx_rules.specs.Shown.{shown}
 use Rattle.gx_rules.specs.Slices.{answers, first_fault, has_written, inserted, runs_slice, selects}
 use Rattle.gx_law_order.proofs.Lists.{Each, each_weaker}
@@ -54,7 +58,7 @@ use Rattle.gx_law_writes.proofs.Moves.{mark-written, own-rows}
 use Rattle.gx_law_writes.proofs.Plans.{row-piece}
 use Rattle.gx_law_writes.proofs.Rows.{insert-wrote, rows-locals}
 use Rattle.gx_law_writes.proofs.Told.{IsWritten, written-more}
-use Rattle.gx_law_writes.proofs.Turns.{Inserted, IsOldReply, IsOldWord, NoWrite, Quiet, Selected, Turns, message-turns}
+use Rattle.gx_law_writes.proofs.Turns.{Inserted, IsOldReply, IsOldWord, NoWrite, Quiet, Selected, Turns, base, message-turns}
 use Rattle.gx_law_writes.proofs.World as writes
 use Rattle.gx_law_answers.specs.Earned.{Events, IsEarned, IsReplyEarned}
 use Rattle.gx_law_answers.specs.Parts.{IsPartOf}
@@ -199,7 +203,7 @@ module _ (script : Script) (some : 1 ≤ script.segments) (numbered_lines : AreL
     pub outs : Each (λ (o : Out). IsWordEarned script (es ++ e ∷ []) to o.message) turn.outs
 
   -- a command that is new there
-  module _ (g : Gxid) (c : Cid) (level : Level) (x : Snapshot) (horizon : Gxid) (y : Slice) (told : envelope.message ≡ message.Exec g c level (Some x) horizon y) (fresh : (s.locals g.0).last < c.0) (ran : turn ≡ runs_slice (raised s horizon) g c (Some x) y) where
+  module _ (g : Gxid) (c : Cid) (level : Level) (x : Snapshot) (horizon : Gxid) (y : Slice) (told : envelope.message ≡ message.Exec g c level (Some x) horizon y) (fresh : (s.locals g.0).last < c.0) (locks : Locks) (wanted : Claim) (ran : turn ≡ after_marks (hold_mark s.node wanted ∷ []) (runs_slice (base s horizon locks) g c (Some x) y)) where
     order : IsOrder script ms to g c level (Some x) y
     order = subst (MessageIs script ms to) told order_is numbered_lines
 
@@ -212,7 +216,7 @@ module _ (script : Script) (some : 1 ≤ script.segments) (numbered_lines : AreL
           level = level;
           snapshot = x;
           slice = y;
-          given = record { before = es; from = from; number = number; fails = fails; last = refl; envelope = envelope; posted = is_found; horizon = horizon; told = told; step = late-step; steps = ap (λ (v : World). v.steps) is-late; place = refl; new = fresh; ran = ran; given = given };
+          given = record { before = es; from = from; number = number; fails = fails; last = refl; envelope = envelope; posted = is_found; horizon = horizon; told = told; step = late-step; steps = ap (λ (v : World). v.steps) is-late; place = refl; new = fresh; locks = locks; wanted = wanted; ran = ran; given = given };
           order = subst (λ v. IsOrder script (marks_in v.steps) to g c level (Some x) y) (sym is-late) (subst (λ m. IsOrder script m to g c level (Some x) y) (sym late-marks) (order-more script ms (turn.marks ++ sent) to (message.Exec g c level (Some x) g y) (λ n. order) numbered_lines));
           taken = subst (λ v. c.0 ≤ (local_of (v.segs to.0) g).last) (sym is-late) (subst (λ b. c.0 ≤ ((if b then (seg_rule script s (here.Deliver from envelope) fails).seg else s).locals g.0).last) (sym self) taken);
           truth = subst (λ v. IsTruth ms (marks_in v.steps) to level g c y r) (sym is-late) (subst (λ m. IsTruth ms m to level g c y r) (sym late-marks) (subst (λ m. IsTruth ms (ms ++ (m ++ sent)) to level g c y r) (sym same) truth));
@@ -243,8 +247,8 @@ module _ (script : Script) (some : 1 ≤ script.segments) (numbered_lines : AreL
         }
 
     -- it runs a command
-    ran-earned : (g : Gxid) (c : Cid) (r : Reply) (base : Seg) (xs : List Mark) → turn ≡ answers base g c xs r → ((h : ℕ) → (base.locals h).answer ≡ (s.locals h).answer) → (c.0 ≤ (turn.seg.locals g.0).last → IsReplyEarned script (es ++ e ∷ []) to g r) → TurnEarned
-    ran-earned g c r base xs ran others now =
+    ran-earned : (g : Gxid) (c : Cid) (r : Reply) (lead : List Mark) (base : Seg) (xs : List Mark) → turn ≡ after_marks lead (answers base g c xs r) → ((h : ℕ) → (base.locals h).answer ≡ (s.locals h).answer) → (c.0 ≤ (turn.seg.locals g.0).last → IsReplyEarned script (es ++ e ∷ []) to g r) → TurnEarned
+    ran-earned g c r lead base xs ran others now =
         record {
           kept = λ h. subst (λ (t : SegTurn). IsKeptEarned script (es ++ e ∷ []) to (gx h) (t.seg.locals h).answer) (sym ran) (by_test h (eqb h g.0) refl);
           outs = subst (λ (t : SegTurn). Each (λ (o : Out). IsWordEarned script (es ++ e ∷ []) to o.message) t.outs) (sym ran) (said, tt);
@@ -281,34 +285,46 @@ module _ (script : Script) (some : 1 ≤ script.segments) (numbered_lines : AreL
     select-earned : Selected s envelope.message turn → TurnEarned
     select-earned z = by_fault (first_fault z.query.cond (rows z)) refl z.ran
       where
-        truth : (o : Option (KeyedRow × ArithFault)) → first_fault z.query.cond (rows z) ≡ o → IsTruth ms (ms ++ (marks_of z.g z.c o ++ sent)) to z.level z.g z.c (slice.Select z.query) (reply_of z.c (has_written (local_of (raised s z.horizon) z.g).phase) z.query (rows z) o)
+        truth : (o : Option (KeyedRow × ArithFault)) → first_fault z.query.cond (rows z) ≡ o → IsTruth ms (ms ++ (hold_mark s.node z.wanted ∷ marks_of z.g z.c o ++ sent)) to z.level z.g z.c (slice.Select z.query) (reply_of z.c (has_written (local_of s z.g).phase) z.query (rows z) o)
         truth o q = by_abort o q (is_aborted ms z.g) refl
           where
-            by_abort : (o : Option (KeyedRow × ArithFault)) → first_fault z.query.cond (rows z) ≡ o → (b : Bool) → is_aborted ms z.g ≡ b → IsTruth ms (ms ++ (marks_of z.g z.c o ++ sent)) to z.level z.g z.c (slice.Select z.query) (reply_of z.c (has_written (local_of (raised s z.horizon) z.g).phase) z.query (rows z) o)
+            by_abort : (o : Option (KeyedRow × ArithFault)) → first_fault z.query.cond (rows z) ≡ o → (b : Bool) → is_aborted ms z.g ≡ b → IsTruth ms (ms ++ (hold_mark s.node z.wanted ∷ marks_of z.g z.c o ++ sent)) to z.level z.g z.c (slice.Select z.query) (reply_of z.c (has_written (local_of s z.g).phase) z.query (rows z) o)
             by_abort None f true a = inl (aborted-more ms _ z.g a)
             by_abort (Some fault) f true a = inl (aborted-more ms _ z.g a)
-            by_abort o f false a = select-truth ms sent quiet-sent to z.level z.g z.c a (served z).place (snapshot-at z) z.query (rows z) (rows-part z a) _ o f
+            by_abort o f false a = select-truth ms sent quiet-sent to z.level z.g z.c a (served z).place (snapshot-at z) z.query (rows z) (rows-part z a) _ s.node z.wanted o f
 
-        by_fault : (o : Option (KeyedRow × ArithFault)) → first_fault z.query.cond (rows z) ≡ o → turn ≡ selects (raised s z.horizon) z.g z.c z.query (rows z) o → TurnEarned
-        by_fault None f ran = ran-earned z.g z.c _ (raised s z.horizon) [] ran (λ h. refl) (new-reply z.g z.c z.level z.snapshot z.horizon (slice.Select z.query) z.is z.fresh z.ran _ [] (ap (λ (t : SegTurn). t.outs) ran) (ap (λ (t : SegTurn). t.marks) ran) (truth None f))
-        by_fault (Some fault) f ran = ran-earned z.g z.c _ (raised s z.horizon) _ ran (λ h. refl) (new-reply z.g z.c z.level z.snapshot z.horizon (slice.Select z.query) z.is z.fresh z.ran _ _ (ap (λ (t : SegTurn). t.outs) ran) (ap (λ (t : SegTurn). t.marks) ran) (truth (Some fault) f))
+        by_fault : (o : Option (KeyedRow × ArithFault)) → first_fault z.query.cond (rows z) ≡ o → turn ≡ after_marks (hold_mark s.node z.wanted ∷ []) (selects (base s z.horizon z.locks) z.g z.c z.query (rows z) o) → TurnEarned
+        by_fault None f ran = ran-earned z.g z.c _ (hold_mark s.node z.wanted ∷ []) (base s z.horizon z.locks) [] ran (λ h. refl) (new-reply z.g z.c z.level z.snapshot z.horizon (slice.Select z.query) z.is z.fresh z.locks z.wanted z.ran _ (hold_mark s.node z.wanted ∷ []) (ap (λ (t : SegTurn). t.outs) ran) (ap (λ (t : SegTurn). t.marks) ran) (truth None f))
+        by_fault (Some fault) f ran = ran-earned z.g z.c _ (hold_mark s.node z.wanted ∷ []) (base s z.horizon z.locks) _ ran (λ h. refl) (new-reply z.g z.c z.level z.snapshot z.horizon (slice.Select z.query) z.is z.fresh z.locks z.wanted z.ran _ _ (ap (λ (t : SegTurn). t.outs) ran) (ap (λ (t : SegTurn). t.marks) ran) (truth (Some fault) f))
 
     insert-earned : Inserted s envelope.message turn → TurnEarned
     insert-earned z =
-        ran-earned z.g z.c _ (inserted (raised s z.horizon) z.g z.c z.table z.rows).seg _ z.ran (λ h. (rows-locals z.g z.c z.table z.rows (record { seg = raised s z.horizon; marks = [] }) h).1)
-        (new-reply z.g z.c z.level z.snapshot z.horizon (slice.Insert z.table z.rows) z.is z.fresh z.ran _ (inserted (raised s z.horizon) z.g z.c z.table z.rows).marks (ap (λ (t : SegTurn). t.outs) z.ran) (ap (λ (t : SegTurn). t.marks) z.ran) truth)
+        ran-earned z.g z.c _ (hold ∷ []) (inserted (base s z.horizon z.locks) z.g z.c z.table z.rows).seg _ z.ran (λ h. (rows-locals z.g z.c z.table z.rows (record { seg = base s z.horizon z.locks; marks = [] }) h).1)
+        (new-reply z.g z.c z.level z.snapshot z.horizon (slice.Insert z.table z.rows) z.is z.fresh z.locks z.wanted z.ran _ (hold ∷ marks) (ap (λ (t : SegTurn). t.outs) z.ran) (ap (λ (t : SegTurn). t.marks) z.ran) truth)
       where
+        hold : Mark
+        hold = hold_mark s.node z.wanted
+
         marks : List Mark
-        marks = (inserted (raised s z.horizon) z.g z.c z.table z.rows).marks
+        marks = (inserted (base s z.horizon z.locks) z.g z.c z.table z.rows).marks
 
-        written : Each (IsWritten (ms ++ marks)) z.rows
-        written = subst (λ ns. Each (IsWritten (ms ++ ns)) z.rows) (sym (insert-wrote s z.horizon z.g z.c z.table z.rows).marks) (mark-written z.g z.c s.node z.table ms z.rows (own-rows script ms to z.g z.c z.table z.rows (row-piece script ms to z.g z.c z.level (Some z.snapshot) z.table z.rows (subst (λ (y : Message). MessageIs script ms to y) z.is order_is numbered_lines))))
+        held : List Mark
+        held = ms ++ hold ∷ []
 
-        truth : (length z.rows ≡ length z.rows) × AreWritten (ms ++ (marks ++ sent)) z.rows
-        truth = (refl, subst (λ m. AreWritten m z.rows) (append_assoc ms marks sent) (are-written ((ms ++ marks) ++ sent) z.rows (each_weaker (IsWritten (ms ++ marks)) (IsWritten ((ms ++ marks) ++ sent)) (λ r k. written-more (ms ++ marks) sent r.rid k) z.rows written)))
+        written : Each (IsWritten (held ++ marks)) z.rows
+        written = subst (λ ns. Each (IsWritten (held ++ ns)) z.rows) (sym (insert-wrote s z.horizon z.locks z.g z.c z.table z.rows).marks) (mark-written z.g z.c s.node z.table held z.rows (own-rows script ms to z.g z.c z.table z.rows (row-piece script ms to z.g z.c z.level (Some z.snapshot) z.table z.rows (subst (λ (y : Message). MessageIs script ms to y) z.is order_is numbered_lines))))
+
+        all : List Mark
+        all = ms ++ (hold ∷ marks ++ sent)
+
+        seam : (held ++ marks) ++ sent ≡ all
+        seam = append_assoc held marks sent ∙ append_assoc ms (hold ∷ []) (marks ++ sent)
+
+        truth : (length z.rows ≡ length z.rows) × AreWritten all z.rows
+        truth = (refl, subst (λ m. AreWritten m z.rows) seam (are-written ((held ++ marks) ++ sent) z.rows (each_weaker (IsWritten (held ++ marks)) (IsWritten ((held ++ marks) ++ sent)) (λ r k. written-more (held ++ marks) sent r.rid k) z.rows written)))
 
     pub turn-earned : TurnEarned
-    turn-earned = by_turn (message-turns s script fails envelope.message)
+    turn-earned = by_turn (message-turns s ((world_well script some es).calm to.0).locks script fails envelope.message)
       where
         by_turn : Turns s envelope.message turn → TurnEarned
         by_turn (inl q) = quiet-earned q

@@ -1,5 +1,5 @@
 -- The marks of a segment's step that receives a message may stand there.
-use Rattle.std.proofs.Common.{◌≡◌, ◌≤◌, ◌<◌, ◌⊎◌, inl, inr, ℕ, List, [], ◌∷◌, ◌++◌, Option, Some, None, Bool, true, false, refl, sym, subst, ap, ◌∙◌, arith, append_assoc, append-nil}
+use Rattle.std.proofs.Common.{◌≡◌, ◌≤◌, ◌<◌, ◌⊎◌, inl, inr, ℕ, List, [], ◌∷◌, ◌++◌, Option, Some, None, Bool, true, false, refl, sym, subst, ap, ◌∙◌, arith, append_assoc, append-nil, ◌||◌}
 use Rattle.gx_ids.specs.declared.ids.Node.{Node}
 use Rattle.gx_tree.specs.declared.row.KeyedRow.{KeyedRow}
 use Rattle.gx_tree.specs.declared.stmt.Stmt.{Stmt}
@@ -23,11 +23,13 @@ use Rattle.gx_store.specs.Ordered.{IsSegment}
 use Rattle.gx_store.specs.Points.{Point, marks_in}
 use Rattle.gx_store.specs.Refusals.{the_coordinator}
 use Rattle.gx_rules.specs.AtSegment.{on_message, raised, seg_rule}
-use Rattle.gx_rules.specs.Machine.{Letter, World, delivered, found, world_of}
-use Rattle.gx_rules.specs.Segments.{Seg, SegTurn}
+use Rattle.gx_rules.specs.Machine.{Letter, World, delivered, found, world_of, seg_can}
+use Rattle.gx_rules.specs.Locks.{hold_mark}
+use Rattle.gx_rules.specs.Segments.{Seg, SegTurn, after_marks}
 use Rattle.gx_rules.specs.Sending.{numbered}
 use Rattle.gx_rules.specs.Shown.{shown}
 use Rattle.gx_rules.specs.Slices.{first_fault, selects}
+use Rattle.gx_law_order.proofs.CalmSegs.{nobody-goes-on}
 use Rattle.gx_law_order.proofs.AtSegments.{PlainAt, seg_stays}
 use Rattle.gx_law_order.proofs.Letters.{IsFound, found_is}
 use Rattle.gx_law_order.proofs.Lists.{Each}
@@ -42,12 +44,13 @@ use Rattle.gx_law_commit.proofs.Whole.{world-both}
 use Rattle.gx_law_writes.specs.Writes.{AreWritesLegal, WriteLegal}
 use Rattle.gx_law_writes.proofs.Rows.{insert-no-fault}
 use Rattle.gx_law_writes.proofs.Told.{taken-told}
-use Rattle.gx_law_writes.proofs.Turns.{NoFault, Selected, Turns, message-turns, row-no-fault}
+use Rattle.gx_law_writes.proofs.Turns.{NoFault, Selected, Turns, base, message-turns, row-no-fault}
 use Rattle.gx_law_writes.proofs.World as writes
+use Rattle.gx_store.proofs.Marks.{is_aborted-append}
 use Rattle.gx_law_answers.specs.Earned.{Events}
 use Rattle.gx_law_answers.proofs.Always.{Came, came}
 use Rattle.gx_law_answers.proofs.Origins.{is-late, rows-part, select-is, select-order, snapshot-at}
-use Rattle.gx_law_answers.proofs.Truths.{seen-fault}
+use Rattle.gx_law_answers.proofs.Truths.{part-more, seen-fault, snapshot-more}
 
 abbrev FaultLegal : Script → Point → Mark → Type 0
 FaultLegal script point (mark.Fault g c rid image) = LegalFault script point g c rid image
@@ -147,18 +150,24 @@ module _ (script : Script) (some : 1 ≤ script.segments) (numbered_lines : AreL
       the-line : stmt_of_command script ms z.g z.c ≡ Some (stmt.Select z.query)
       the-line = (select-order script some numbered_lines es from to number envelope fails place f it-came.order_is it-came.view_is z).of ∙ ap Some (select-is script some numbered_lines es from to number envelope fails place f it-came.order_is it-came.view_is z)
 
-      fault-legal : (fault : KeyedRow × ArithFault) (later : List Mark) → first_fault z.query.cond rows ≡ Some fault → LegalFault script (record { steps = (world_of script es).steps; event = event.Receive from to number; earlier = []; later = later }) z.g z.c fault.0.rid (Some fault.0.row)
+      abbrev hold : Mark
+      hold = hold_mark s.node z.wanted
+
+      fault-legal : (fault : KeyedRow × ArithFault) (later : List Mark) → first_fault z.query.cond rows ≡ Some fault → LegalFault script (record { steps = (world_of script es).steps; event = event.Receive from to number; earlier = hold ∷ []; later = later }) z.g z.c fault.0.rid (Some fault.0.row)
       fault-legal fault later q = by_abort (is_aborted ms z.g) refl (subst (IsAlive script (world_of script es) to) z.is alive)
         where
-          none-more : (P : List Mark → Type 0) → P ms → P (ms ++ [])
-          none-more P h = subst P (sym (append-nil ms)) h
+          or-none : (a b : Bool) → a ≡ b → (a || false) ≡ b
+          or-none a b e = grind arith
 
-          late : is_aborted ms z.g ≡ true → LegalFault script (record { steps = (world_of script es).steps; event = event.Receive from to number; earlier = []; later = later }) z.g z.c fault.0.rid (Some fault.0.row)
+          aborted-still : (b : Bool) → is_aborted ms z.g ≡ b → is_aborted (ms ++ hold ∷ []) z.g ≡ b
+          aborted-still b e = is_aborted-append ms (hold ∷ []) z.g ∙ or-none (is_aborted ms z.g) b e
+
+          late : is_aborted ms z.g ≡ true → LegalFault script (record { steps = (world_of script es).steps; event = event.Receive from to number; earlier = hold ∷ []; later = later }) z.g z.c fault.0.rid (Some fault.0.row)
           late a =
               inr (record {
                 stmt = stmt.Select z.query;
                 late = record {
-                  aborted = none-more (λ m. is_aborted m z.g ≡ true) a;
+                  aborted = aborted-still true a;
                   early = was.point;
                   earlier = inl was.among;
                   session = was.session;
@@ -174,7 +183,7 @@ module _ (script : Script) (some : 1 ≤ script.segments) (numbered_lines : AreL
           beyond : (a b : ℕ) → a < b → b ≤ a → ⊥
           beyond a b x y = omega (arith, x, y)
 
-          by_abort : (b : Bool) → is_aborted ms z.g ≡ b → IsUnderWayBehind script (world_of script es).steps z.level z.g z.c ⊎ HasAnswered (IsHeard (world_of script es).steps) to z.g z.c ⊎ (is_aborted ms z.g ≡ true) → LegalFault script (record { steps = (world_of script es).steps; event = event.Receive from to number; earlier = []; later = later }) z.g z.c fault.0.rid (Some fault.0.row)
+          by_abort : (b : Bool) → is_aborted ms z.g ≡ b → IsUnderWayBehind script (world_of script es).steps z.level z.g z.c ⊎ HasAnswered (IsHeard (world_of script es).steps) to z.g z.c ⊎ (is_aborted ms z.g ≡ true) → LegalFault script (record { steps = (world_of script es).steps; event = event.Receive from to number; earlier = hold ∷ []; later = later }) z.g z.c fault.0.rid (Some fault.0.row)
           by_abort true a x = late a
           by_abort false a (inr (inr x)) = late x
           by_abort false a (inr (inl x)) =
@@ -185,15 +194,15 @@ module _ (script : Script) (some : 1 ≤ script.segments) (numbered_lines : AreL
                 stmt = u.line;
                 level = z.level;
                 fault = fault.1;
-                runs = u.runs (event.Receive from to number) [] later refl tt;
-                faults = none-more (λ m. IsFaultOf m z.level z.g z.c u.line fault.0.rid (Some fault.0.row) fault.1)
-                    (subst (λ l. IsFaultOf ms z.level z.g z.c l fault.0.rid (Some fault.0.row) fault.1) (some-stmt (stmt.Select z.query) u.line (sym the-line ∙ u.of numbered_lines))
-                    (seen-fault ms to z.level z.g z.c _ (snapshot-at script some numbered_lines es from to number envelope fails place f it-came.order_is it-came.view_is z) z.query rows (rows-part script some numbered_lines es from to number envelope fails place f it-came.order_is it-came.view_is z a) fault q));
+                runs = u.runs (event.Receive from to number) (hold ∷ []) later refl (tt, tt);
+                faults = let taken = snapshot-at script some numbered_lines es from to number envelope fails place f it-came.order_is it-came.view_is z in
+                    subst (λ l. IsFaultOf (ms ++ hold ∷ []) z.level z.g z.c l fault.0.rid (Some fault.0.row) fault.1) (some-stmt (stmt.Select z.query) u.line (sym the-line ∙ u.of numbered_lines))
+                    (seen-fault (ms ++ hold ∷ []) to z.level z.g z.c _ (snapshot-more ms (hold ∷ []) z.level z.g z.c _ taken) z.query rows (part-more ms (hold ∷ []) (tt, tt) z.level z.g z.c _ taken to z.query.table rows (rows-part script some numbered_lines es from to number envelope fails place f it-came.order_is it-came.view_is z a)) fault q);
               })
 
-      select-faults : (later : List Mark) (o : Option (KeyedRow × ArithFault)) → first_fault z.query.cond rows ≡ o → turn ≡ selects (raised s z.horizon) z.g z.c z.query rows o → EachMark (FaultLegal script) (world_of script es).steps (event.Receive from to number) [] turn.marks later
-      select-faults later None q ran = subst (λ (t : SegTurn). EachMark (FaultLegal script) (world_of script es).steps (event.Receive from to number) [] t.marks later) (sym ran) tt
-      select-faults later (Some fault) q ran = subst (λ (t : SegTurn). EachMark (FaultLegal script) (world_of script es).steps (event.Receive from to number) [] t.marks later) (sym ran) (fault-legal fault later q, tt)
+      select-faults : (later : List Mark) (o : Option (KeyedRow × ArithFault)) → first_fault z.query.cond rows ≡ o → turn ≡ after_marks (hold ∷ []) (selects (base s z.horizon z.locks) z.g z.c z.query rows o) → EachMark (FaultLegal script) (world_of script es).steps (event.Receive from to number) [] turn.marks later
+      select-faults later None q ran = subst (λ (t : SegTurn). EachMark (FaultLegal script) (world_of script es).steps (event.Receive from to number) [] t.marks later) (sym ran) (tt, tt)
+      select-faults later (Some fault) q ran = subst (λ (t : SegTurn). EachMark (FaultLegal script) (world_of script es).steps (event.Receive from to number) [] t.marks later) (sym ran) (tt, (fault-legal fault later q, tt))
 
     faults : (later : List Mark) → Turns s envelope.message turn → EachMark (FaultLegal script) (world_of script es).steps (event.Receive from to number) [] turn.marks later
     faults later (inl q) = no-faults script (world_of script es).steps from to number place.0 [] turn.marks later (row-no-fault turn.marks q.marks)
@@ -212,7 +221,7 @@ module _ (script : Script) (some : 1 ≤ script.segments) (numbered_lines : AreL
     step-rest : EachMark (Rest script) (world_of script es).steps (event.Receive from to number) [] (seg_rule script ((world_of script es).segs to.0) (here.Deliver from envelope) fails).marks []
     step-rest =
         marks-append (Rest script) (world_of script es).steps (event.Receive from to number) [] turn.marks sent []
-        (all-rest script (world_of script es).steps from to number place.0 [] turn.marks (sent ++ []) (front (WriteLegal script) (world_of script es).steps (event.Receive from to number) [] turn.marks sent [] step-writes) (faults (sent ++ []) (message-turns s script fails envelope.message)) plain)
+        (all-rest script (world_of script es).steps from to number place.0 [] turn.marks (sent ++ []) (front (WriteLegal script) (world_of script es).steps (event.Receive from to number) [] turn.marks sent [] step-writes) (faults (sent ++ []) (message-turns s ((world-both script some es).knows.well.calm to.0).locks script fails envelope.message)) plain)
         (sent-rest script (world_of script es).steps (event.Receive from to number) (λ node. turn.seg.sent) turn.outs turn.marks [])
 
   some-same : (a b : NodeEvent) → Some a ≡ Some b → a ≡ b
@@ -230,7 +239,8 @@ module _ (script : Script) (some : 1 ≤ script.segments) (numbered_lines : AreL
       by_found : (o : Option Envelope) → found from to number (world_of script es).sent ≡ o → delivered from o ≡ Some x → IsRest (event.Receive from to number) to x fails
       by_found None f q = absurd (cc)
       by_found (Some envelope) f q = subst (λ y. IsRest (event.Receive from to number) to y fails) (some-same (here.Deliver from envelope) x q) (step-rest from to number envelope fails place f)
-  segments-legal (event.Resume n g) x fails place is ok = subst (λ y. IsRest (event.Resume n g) n y fails) (some-same (here.Resume g) x is) tt
+  segments-legal (event.Resume n g) x fails place is ok =
+      absurd (nobody-goes-on script ((world_of script es).segs n.0) g ((world-both script some es).knows.well.calm n.0) (subst (λ y. seg_can script ((world_of script es).segs n.0) y ≡ true) (sym (some-same (here.Resume g) x is)) ok))
   segments-legal (event.Start s) x fails place is ok = zero-one place.0
   segments-legal (event.End s) x fails place is ok = zero-one place.0
   segments-legal (event.Resend i g) x fails place is ok = zero-one place.0

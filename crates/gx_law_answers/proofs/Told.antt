@@ -1,5 +1,6 @@
 -- A gathered SELECT shows what its answer says, and a command that a segment failed has faulted so.
-use Rattle.std.proofs.Common.{◌≡◌, ◌≤◌, inl, inr, ℕ, List, [], ◌∷◌, ◌++◌, Some, None, Result, Ok, Bool, true, false, refl, sym, subst, ap, ◌∙◌, ◌||◌, arith, eqb, map}
+use Rattle.std.proofs.Common.{◌≡◌, ◌≤◌, inl, inr, ℕ, List, [], ◌∷◌, ◌++◌, Some, None, Result, Ok, Bool, true, false, refl, sym, subst, ap, ◌∙◌, ◌||◌, arith, eqb, map, zero, suc, ◌+◌}
+use Rattle.std.proofs.lemmas.Option.{get_or_from_slice_get, slice_get_within}
 use Rattle.std.proofs.lemmas.Bool.Decides.{nat_tests}
 use Rattle.std.specs.Prelude.{Contains, length, slice_get, take}
 use Rattle.gx_ids.specs.declared.ids.Cid.{Cid}
@@ -104,14 +105,11 @@ some-node n AllOfThem some = (record { 0 = 1 }, has-from 1 1 n (omega arith) (om
 ok-same : {xs ys : List Piece} → (let o : Result (List Piece) ArithFault = Ok xs in o) ≡ Ok ys → xs ≡ ys
 ok-same q = cc
 
--- what stands at the seam is among what follows
-seam-first : (xs ys : List Mark) (m : Mark) → slice_get (xs ++ ys) (length xs) ≡ Some m → Contains ys m
-seam-first [] [] m e = absurd (cc)
-seam-first [] (y ∷ ys) m e = (0, omega arith, some-mark y m e)
-  where
-    some-mark : (a b : Mark) → Some a ≡ Some b → a ≡ b
-    some-mark a b e = cc
-seam-first (x ∷ xs) ys m e = seam-first xs ys m e
+-- what stands at the second place behind the seam is among what follows
+seam-second : (xs ys : List Mark) (p : ℕ) (m : Mark) → p ≡ length xs + 1 → slice_get (xs ++ ys) p ≡ Some m → Contains ys m
+seam-second [] ys p m q e = (p, slice_get_within ys p m e, get_or_from_slice_get ys p m m e)
+seam-second (x ∷ xs) ys zero m q e = absurd (omega (arith, q))
+seam-second (x ∷ xs) ys (suc p) m q e = seam-second xs ys p m (omega (arith, q)) e
 
 module _ (script : Script) (some : 1 ≤ script.segments) (numbered : AreLinesNumbered [] script.lines) (keyed : AreInsertsKeyed script) (es : Events) where
   abbrev ms : List Mark
@@ -255,9 +253,8 @@ module _ (script : Script) (some : 1 ≤ script.segments) (numbered : AreLinesNu
             step = x.given.step;
             at = own-step script some numbered es segment g c r x;
             node = x.given.place;
-            noted = seam-first (marks_in (world_of script x.given.before).steps) x.given.step.marks (mark.Fault g c f.rid f.image)
-                (subst (λ k. slice_get (marks_in (world_of script x.given.before).steps ++ x.given.step.marks) k ≡ Some (mark.Fault g c f.rid f.image)) f.first
-                (subst (λ m. slice_get m f.place ≡ Some (mark.Fault g c f.rid f.image)) (ap marks_in x.given.steps ∙ marks_in-push (world_of script x.given.before).steps x.given.step) f.noted));
+            noted = seam-second (marks_in (world_of script x.given.before).steps) x.given.step.marks f.place (mark.Fault g c f.rid f.image) f.behind_lock
+                (subst (λ m. slice_get m f.place ≡ Some (mark.Fault g c f.rid f.image)) (ap marks_in x.given.steps ∙ marks_in-push (world_of script x.given.before).steps x.given.step) f.noted);
           };
         }
       where

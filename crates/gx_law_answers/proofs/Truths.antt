@@ -1,9 +1,10 @@
 -- What is true of a segment's answer stays true.
-use Rattle.std.proofs.Common.{◌≡◌, ◌==◌, inr, ℕ, List, [], ◌∷◌, ◌++◌, length, Option, Some, None, Bool, true, false, refl, sym, subst, ap, ◌∙◌, cond, if◌then◌else◌, ◌&&◌, ◌||◌, eqb, arith}
+use Rattle.std.proofs.Common.{◌≡◌, ◌==◌, inr, ℕ, List, [], ◌∷◌, ◌++◌, length, Option, Some, None, Bool, true, false, refl, sym, subst, ap, ◌∙◌, cond, if◌then◌else◌, ◌&&◌, ◌||◌, eqb, arith, ◌+◌, suc}
 use Rattle.std.proofs.Math.Seq.{take-append_seam}
 use Rattle.std.proofs.lemmas.Bool.{eqb-true}
 use Rattle.std.specs.Option.{option_or}
-use Rattle.std.specs.Prelude.{filter, take}
+use Rattle.std.specs.Prelude.{filter, take, slice_get}
+use Rattle.std.proofs.lemmas.List.{append_assoc}
 use Rattle.gx_ids.specs.declared.ids.Cid.{Cid}
 use Rattle.gx_ids.specs.declared.ids.Gxid.{Gxid}
 use Rattle.gx_ids.specs.declared.ids.Node.{Node}
@@ -28,7 +29,9 @@ use Rattle.gx_store.specs.Journals.{is_same_node}
 use Rattle.gx_store.specs.Marks.{is_aborted, is_same_rid, node_of}
 use Rattle.gx_store.specs.View.{image, image_after, is_shown_to}
 use Rattle.gx_store.proofs.Marks.{image_after-append, is_aborted-append}
+use Rattle.gx_rules.specs.Locks.{hold_mark}
 use Rattle.gx_rules.specs.Slices.{cause_of, first_fault}
+use Rattle.gx_waits.specs.declared.claim.Claim.{Claim}
 use Rattle.gx_law_order.proofs.Lists.{Each, get_kept, get_last}
 use Rattle.gx_law_commit.proofs.Commits.{take-kept}
 use Rattle.gx_law_reads.specs.Sights.{IsOnlyAt}
@@ -177,24 +180,46 @@ seen-fault ms node level g c place t query rows p found e =
     by_home true q = q
     by_home false q = absurd (cc)
 
-pub select-truth : (ms sent : List Mark) → Each NoWrite sent → (node : Node) (level : Level) (g : Gxid) (c : Cid) → is_aborted ms g ≡ false → (place : ℕ) (t : IsSnapshotAt ms level g c place) (query : Query) (rows : List KeyedRow) → IsPartOf ms (take place ms) node g c query.table rows → (wrote : Bool) (o : Option (KeyedRow × ArithFault)) → first_fault query.cond rows ≡ o → IsTruth ms (ms ++ (marks_of g c o ++ sent)) node level g c (slice.Select query) (reply_of c wrote query rows o)
-select-truth ms sent quiet node level g c unaborted place t query rows p wrote None e =
-    inr (true-more ms sent quiet node level g c query _ (record { place = place; taken = t; says = record { rows = rows; of = p; whole = faults-on-none query.cond rows e; said = refl } }))
-select-truth ms sent quiet node level g c unaborted place t query rows p wrote (Some found) e =
+-- behind the mark of its lock
+pub select-truth : (ms sent : List Mark) → Each NoWrite sent → (node : Node) (level : Level) (g : Gxid) (c : Cid) → is_aborted ms g ≡ false → (place : ℕ) (t : IsSnapshotAt ms level g c place) (query : Query) (rows : List KeyedRow) → IsPartOf ms (take place ms) node g c query.table rows → (wrote : Bool) (at : Node) (wanted : Claim) (o : Option (KeyedRow × ArithFault)) → first_fault query.cond rows ≡ o → IsTruth ms (ms ++ (hold_mark at wanted ∷ marks_of g c o ++ sent)) node level g c (slice.Select query) (reply_of c wrote query rows o)
+select-truth ms sent quiet node level g c unaborted place t query rows p wrote at wanted None e =
+    inr (true-more ms (hold_mark at wanted ∷ sent) (tt, quiet) node level g c query _ (record { place = place; taken = t; says = record { rows = rows; of = p; whole = faults-on-none query.cond rows e; said = refl } }))
+select-truth ms sent quiet node level g c unaborted place t query rows p wrote at wanted (Some found) e =
     inr (record {
-      place = length ms;
-      first = refl;
+      place = length held;
+      behind_lock = length-push ms (hold_mark at wanted);
       rid = found.0.rid;
       image = Some found.0.row;
       fault = found.1;
-      noted = get_last ms sent (mark.Fault g c found.0.rid (Some found.0.row));
-      unaborted = ap (λ b. is_aborted b g) (take-append_seam ms all) ∙ unaborted;
-      faults = subst (λ b. FaultsOnSeen b level g c query.table query.cond found.0.rid (Some found.0.row) found.1) (sym (take-append_seam ms all)) (seen-fault ms node level g c place t query rows p found e);
+      noted = subst (λ b. slice_get b (length held) ≡ Some fault) seam (get_last held sent fault);
+      unaborted = subst (λ b. is_aborted (take (length held) b) g ≡ false) seam (ap (λ b. is_aborted b g) (take-append_seam held (fault ∷ sent)) ∙ held-unaborted);
+      faults = subst (λ b. FaultsOnSeen (take (length held) b) level g c query.table query.cond found.0.rid (Some found.0.row) found.1) seam
+          (subst (λ b. FaultsOnSeen b level g c query.table query.cond found.0.rid (Some found.0.row) found.1) (sym (take-append_seam held (fault ∷ sent)))
+          (seen-fault held node level g c place (snapshot-more ms (hold_mark at wanted ∷ []) level g c place t) query rows (part-more ms (hold_mark at wanted ∷ []) (tt, tt) level g c place t node query.table rows p) found e));
       is = refl;
     })
   where
-    all : List Mark
-    all = mark.Fault g c found.0.rid (Some found.0.row) ∷ sent
+    held : List Mark
+    held = ms ++ hold_mark at wanted ∷ []
+
+    fault : Mark
+    fault = mark.Fault g c found.0.rid (Some found.0.row)
+
+    seam : held ++ fault ∷ sent ≡ ms ++ (hold_mark at wanted ∷ fault ∷ sent)
+    seam = append_assoc ms (hold_mark at wanted ∷ []) (fault ∷ sent)
+
+    length-push : (xs : List Mark) (x : Mark) → length (xs ++ x ∷ []) ≡ length xs + 1
+    length-push [] x = refl
+    length-push (y ∷ xs) x = next _ _ (length-push xs x)
+      where
+        next : (a b : ℕ) → a ≡ b + 1 → suc a ≡ suc b + 1
+        next a b e = omega (arith, e)
+
+    or-none : (a : Bool) → a ≡ false → (a || false) ≡ false
+    or-none a e = grind arith
+
+    held-unaborted : is_aborted held g ≡ false
+    held-unaborted = is_aborted-append ms (hold_mark at wanted ∷ []) g ∙ or-none (is_aborted ms g) unaborted
 
 -- who has aborted has aborted
 pub aborted-more : (ms extra : List Mark) (g : Gxid) → is_aborted ms g ≡ true → is_aborted (ms ++ extra) g ≡ true

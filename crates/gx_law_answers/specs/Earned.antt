@@ -19,8 +19,11 @@ use Rattle.gx_store.specs.Ordered.{IsSegment}
 use Rattle.gx_store.specs.Points.{marks_in}
 use Rattle.gx_rules.specs.AtSegment.{on_message, raised}
 use Rattle.gx_rules.specs.Machine.{found, world_of}
-use Rattle.gx_rules.specs.Segments.{local_of, reply}
+use Rattle.gx_rules.specs.Segments.{after_marks, local_of, reply}
+use Rattle.gx_rules.specs.Locks.{hold_mark}
 use Rattle.gx_rules.specs.Slices.{runs_slice}
+use Rattle.gx_locks.specs.Locks.{Locks}
+use Rattle.gx_waits.specs.declared.claim.Claim.{Claim}
 use Rattle.gx_law_sessions.specs.Orders.{IsOrder}
 use Rattle.gx_law_answers.specs.Truth.{IsTruth}
 
@@ -28,8 +31,8 @@ use Rattle.gx_law_answers.specs.Truth.{IsTruth}
 abbrev pub Events : Type 0
 Events = List (Event × Bool)
 
--- In the last of these events, with a step of the segment, an EXEC came to it, of a command that was new there; its slice ran by the
--- rule, and so it was answered.
+-- In the last of these events, with a step of the segment, an EXEC came to it, of a command that was new there; its slice took its
+-- lock and ran by the rule, and so it was answered.
 pub record IsGiven (script : Script) (events : Events) (segment : Node) (g : Gxid) (c : Cid) (level : Level) (snapshot : Snapshot) (slice : Slice) (answer : Reply) : Type 0 where
   pub before : Events
   pub from : Node
@@ -44,7 +47,10 @@ pub record IsGiven (script : Script) (events : Events) (segment : Node) (g : Gxi
   pub steps : (world_of script events).steps ≡ (world_of script before).steps ++ step ∷ []
   pub place : step.stamp.node ≡ segment
   pub new : (local_of ((world_of script before).segs segment.0) g).last < c.0
-  pub ran : on_message script ((world_of script before).segs segment.0) fails envelope.message ≡ runs_slice (raised ((world_of script before).segs segment.0) horizon) g c (Some snapshot) slice
+  pub locks : Locks
+  pub wanted : Claim
+  pub ran : on_message script ((world_of script before).segs segment.0) fails envelope.message
+      ≡ after_marks (hold_mark ((world_of script before).segs segment.0).node wanted ∷ []) (runs_slice (record (raised ((world_of script before).segs segment.0) horizon) { locks = locks }) g c (Some snapshot) slice)
   pub given : (on_message script ((world_of script before).segs segment.0) fails envelope.message).outs ≡ reply g answer ∷ []
 
 -- Behind some of the events the segment was given the answer by its rule, for a command that was its transaction's, and what the

@@ -1,5 +1,5 @@
 -- What is true of a segment's answer to a command, by the marks behind the step that sent it first.
-use Rattle.std.specs.Prelude.{◌≡◌, ◌⊎◌, ℕ, true, false, List, [], ◌∷◌, length, take, slice_get, Some}
+use Rattle.std.specs.Prelude.{◌≡◌, ◌⊎◌, ◌+◌, ℕ, true, false, List, [], ◌∷◌, length, take, slice_get, Some}
 use Rattle.std.specs.declared.option.Option.{Option}
 use Rattle.gx_ids.specs.declared.ids.Cid.{Cid}
 use Rattle.gx_ids.specs.declared.ids.Gxid.{Gxid}
@@ -31,11 +31,11 @@ pub record IsTruePart (marks : List Mark) (node : Node) (level : Level) (g : Gxi
   pub taken : IsSnapshotAt marks level g c place
   pub says : SaysItsPart marks (take place marks) node g c query part
 
--- the condition has faulted so on a row that the command sees, before its transaction was aborted; this was noted first behind the
--- marks that stood before the step
+-- the condition has faulted so on a row that the command sees, before its transaction was aborted; this was noted in the step,
+-- directly behind the mark of the command's lock
 pub record IsTrueFault (before marks : List Mark) (level : Level) (g : Gxid) (c : Cid) (query : Query) (cause : Cause) : Type 0 where
   pub place : ℕ
-  pub first : place ≡ length before
+  pub behind_lock : place ≡ length before + 1
   pub rid : Rid
   pub image : Option (List Value)
   pub fault : ArithFault

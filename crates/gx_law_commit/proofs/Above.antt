@@ -22,6 +22,7 @@ use Rattle.gx_store.specs.Refusals.{the_coordinator}
 use Rattle.gx_rules.specs.AtCoordinator.{coord_can, coord_rule}
 use Rattle.gx_rules.specs.AtSegment.{seg_rule}
 use Rattle.gx_rules.specs.Machine.{Letter, World, after, at_node, can, can_here, coord_did, delivered, does, found, happens, new_world, node_of, seg_can, seg_did, world_of}
+use Rattle.gx_law_order.proofs.CalmSegs.{nobody-goes-on}
 use Rattle.gx_law_order.proofs.Letters.{IsFound, IsLetter, found_is}
 use Rattle.gx_law_order.proofs.World.{Knows, happens_knows, new_knows}
 use Rattle.gx_law_commit.specs.Horizons.{AreBelowIn, AreHorizonsLow, AreHoldersAbove, AreLowIn, IsBelowHolders, IsBelowIn, IsLow, IsLowIn}
@@ -125,7 +126,7 @@ module _ (script : Script) (some : 1 ≤ script.segments) where
 
       by_test : (b : Bool) → is_same_node n the_coordinator ≡ b → (if b then coord_can script w.coord x else seg_can script (w.segs n.0) x) ≡ true → Waits (if b then coord_did w e (coord_rule script w.coord x fails) else seg_did w n e (seg_rule script (w.segs n.0) x fails))
       by_test true is ok = coord-waits script some w k u e x fails ok tt
-      by_test false is ok = absurd (cc)
+      by_test false is ok = absurd (nobody-goes-on script (w.segs n.0) g (k.well.calm n.0) ok)
 
   event-waits : (w : World) (e : Event) (fails : Bool) → Knows script w → Holds script w → Waits w → can script w e ≡ true → Waits (does script w e (node_of e) fails (at_node w e))
   event-waits w (event.Receive from to number) fails k v u ok = arrives w from to number fails (found from to number w.sent) refl k v u ok

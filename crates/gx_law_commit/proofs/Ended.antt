@@ -1,5 +1,5 @@
 -- Where a transaction has ended at a segment, it stays so; where it gets a command, it had not ended.
-use Rattle.std.proofs.Common.{◌≡◌, ◌⊎◌, inl, inr, ℕ, List, [], Option, Some, None, Bool, true, false, refl, sym, subst, ap, ◌∙◌, nat_lt, ◌==◌, if◌then◌else◌, arith, eqb}
+use Rattle.std.proofs.Common.{◌≡◌, ◌⊎◌, inl, inr, ℕ, List, Option, Some, None, Bool, true, false, not, refl, sym, subst, ap, ◌∙◌, nat_lt, ◌==◌, if◌then◌else◌, arith, eqb}
 use Rattle.std.proofs.lemmas.Bool.Decides.{nat_tests}
 use Rattle.std.specs.Prelude.{length}
 use Rattle.gx_ids.specs.declared.ids.Cid.{Cid}
@@ -8,8 +8,11 @@ use Rattle.gx_tree.specs.declared.query.Query.{Query}
 use Rattle.gx_tree.specs.declared.row.KeyedRow.{KeyedRow}
 use Rattle.gx_tree.specs.declared.slice.Slice.{Slice}
 use Rattle.gx_tree.specs.declared.slice.Slice.TheVariants as slice
+use Rattle.gx_tree.specs.declared.stmt.Level.{Level}
 use Rattle.gx_dsnap.specs.Gxids.{is_below}
 use Rattle.gx_dsnap.specs.declared.snapshot.Snapshot.{Snapshot}
+use Rattle.gx_waits.specs.declared.claim.Claim.{Claim}
+use Rattle.gx_locks.specs.Locks.{Locks, is_free}
 use Rattle.gx_meaning.specs.declared.fault.ArithFault.{ArithFault}
 use Rattle.gx_msg.specs.declared.item.JournalItem.{JournalItem}
 use Rattle.gx_msg.specs.declared.message.Message.{Message}
@@ -19,13 +22,14 @@ use Rattle.gx_msg.specs.declared.reply.Reply.{Reply}
 use Rattle.gx_msg.specs.declared.reply.Reply.TheVariants as reply
 use Rattle.gx_script.specs.declared.Script.{Script}
 use Rattle.gx_store.specs.declared.mark.Mark.{Mark}
-use Rattle.gx_rules.specs.AtSegment.{changes, commits, finishes, if_fits, on_abort, on_commit, on_commit_prepared, on_exec, on_forget, on_message, on_prepare, once, promises, raised, repeats, takes, unless_below, was_prepared}
-use Rattle.gx_rules.specs.Fits.{fits_exec}
+use Rattle.gx_rules.specs.AtSegment.{changes, commits, ends, finishes, if_fits, on_abort, on_commit, on_commit_prepared, on_exec, on_forget, on_message, on_prepare, once, promises, raised, repeats, takes, unless_below, was_prepared}
+use Rattle.gx_rules.specs.Fits.{fits_exec, is_waiting}
+use Rattle.gx_rules.specs.Locks.{with_hold}
 use Rattle.gx_rules.specs.Maps.{with_at}
 use Rattle.gx_rules.specs.Segments.{Local, Phase, Seg, SegTurn, has_committed, has_ended, stays, tells, tells_kept}
 use Rattle.gx_rules.specs.Segments.Phase.{Aborted, Committed, Forgotten, Prepared, Reading, Writing}
 use Rattle.gx_rules.specs.Shown.{shown}
-use Rattle.gx_rules.specs.Slices.{Moved, first_fault, inserted, inserts, runs_slice, selects}
+use Rattle.gx_rules.specs.Slices.{Moved, first_fault, inserted, inserts, requests, runs_slice, selects, slice_lock}
 use Rattle.gx_law_order.proofs.Lists.{Each}
 use Rattle.gx_law_commit.specs.Pairs.{IsKept, IsVote}
 use Rattle.gx_law_commit.specs.Said.{gxid_in}
@@ -117,31 +121,42 @@ module _ (script : Script) (told : Message) (s : Seg) (g : ℕ) (wrote : Bool) (
     ran : (turn : SegTurn) → Each (λ (o : Out). TellsEnd (turn.seg.locals g).phase o.message) turn.outs → EndsSo turn
     ran turn o = record { ended = λ e. absurd (open-not p f n e); last = λ e. inr (ap has_ended f ∙ n, is); outs = o }
 
-    select : (h : Gxid) (c : Cid) (q : Query) (rows : List KeyedRow) (o : Option (KeyedRow × ArithFault)) → EndsSo (selects (raised s h) (gx g) c q rows o)
-    select h c q rows None = ran _ (tt, tt)
-    select h c q rows (Some o) = ran _ (tt, tt)
+    select : (t : Seg) (c : Cid) (q : Query) (rows : List KeyedRow) (o : Option (KeyedRow × ArithFault)) → EndsSo (selects t (gx g) c q rows o)
+    select t c q rows None = ran _ (tt, tt)
+    select t c q rows (Some o) = ran _ (tt, tt)
 
     insert : (c : Cid) (count : ℕ) (m : Moved) → EndsSo (inserts (gx g) c count m)
     insert c count m = ran _ (tt, tt)
 
-    slice-runs : (h : Gxid) (c : Cid) (x : Option Snapshot) (y : Slice) → EndsSo (runs_slice (raised s h) (gx g) c x y)
-    slice-runs h c (Some x) (slice.Select q) = select h c q (shown (raised s h) x (gx g) c q.table) (first_fault q.cond (shown (raised s h) x (gx g) c q.table))
-    slice-runs h c (Some x) (slice.Insert table rows) = insert c (length rows) (inserted (raised s h) (gx g) c table rows)
-    slice-runs h c x y = record { ended = λ e. e; last = λ e. inl e; outs = tt }
+    -- of a segment with another horizon or other locks
+    abbrev raised_with : Gxid → Locks → Seg
+    raised_with h locks = record (raised s h) { locks = locks }
 
-    take : (c : Cid) (x : Option Snapshot) (h : Gxid) (y : Slice) → EndsSo (takes s (gx g) c x h y l)
-    take c x h y = both (nat_lt l.last c.0) _ _ (slice-runs h c x y) (both (c.0 == l.last) _ _ (kept-answer l.answer refl) stay)
+    slice-runs : (h : Gxid) (locks : Locks) (c : Cid) (x : Option Snapshot) (y : Slice) → EndsSo (runs_slice (raised_with h locks) (gx g) c x y)
+    slice-runs h locks c (Some x) (slice.Select q) = select (raised_with h locks) c q (shown (raised_with h locks) x (gx g) c q.table) (first_fault q.cond (shown (raised_with h locks) x (gx g) c q.table))
+    slice-runs h locks c (Some x) (slice.Insert table rows) = insert c (length rows) (inserted (raised_with h locks) (gx g) c table rows)
+    slice-runs h locks c x y = record { ended = λ e. e; last = λ e. inl e; outs = tt }
+
+    starts : (h : Gxid) (c : Cid) (level : Level) (x : Option Snapshot) (y : Slice) (o : Option Claim) → EndsSo (requests (raised s h) (gx g) c level x y o)
+    starts h c level x y None = slice-runs h s.locks c x y
+    starts h c level x y (Some wanted) = both (is_free s.locks.holds wanted) _ _ (record { ended = run.ended; last = run.last; outs = run.outs }) (ran _ tt)
+      where
+        run : EndsSo (runs_slice (raised_with h (with_hold s.locks wanted)) (gx g) c x y)
+        run = slice-runs h (with_hold s.locks wanted) c x y
+
+    take : (c : Cid) (level : Level) (x : Option Snapshot) (h : Gxid) (y : Slice) → EndsSo (takes s (gx g) c level x h y l)
+    take c level x h y = both (nat_lt l.last c.0) _ _ (starts h c level x y (slice_lock (gx g) y)) (both (c.0 == l.last) _ _ (kept-answer l.answer refl) stay)
 
   repeat : (c : Cid) → EndsSo (repeats s (gx g) c l)
   repeat c = both (c.0 == l.last) _ _ (kept-answer l.answer refl) stay
 
-  exec : (c : Cid) (x : Option Snapshot) (h : Gxid) (y : Slice) (p : Phase) → l.phase ≡ p → IsExec told → EndsSo (on_exec s (gx g) c x h y l p)
-  exec c x h y Reading f is = take Reading f refl is c x h y
-  exec c x h y Writing f is = take Writing f refl is c x h y
-  exec c x h y Prepared f is = repeat c
-  exec c x h y Committed f is = repeat c
-  exec c x h y (Forgotten b) f is = stay
-  exec c x h y Aborted f is = stay
+  exec : (c : Cid) (level : Level) (x : Option Snapshot) (h : Gxid) (y : Slice) (p : Phase) → l.phase ≡ p → IsExec told → EndsSo (on_exec s (gx g) c level x h y l p)
+  exec c level x h y Reading f is = take Reading f refl is c level x h y
+  exec c level x h y Writing f is = take Writing f refl is c level x h y
+  exec c level x h y Prepared f is = repeat c
+  exec c level x h y Committed f is = repeat c
+  exec c level x h y (Forgotten b) f is = stay
+  exec c level x h y Aborted f is = stay
 
   promise : (fails : Bool) (p : Phase) → l.phase ≡ p → has_ended p ≡ false → EndsSo (promises s (gx g) fails l)
   promise true p f n = change (record l { vote = Some reply.Jfault }) _ reply.Jfault _ (λ e. e) refl tt
@@ -180,22 +195,28 @@ module _ (script : Script) (told : Message) (s : Seg) (g : ℕ) (wrote : Bool) (
   commit-prepared fails (Forgotten false) f = stay
   commit-prepared fails Aborted f = stay
 
+  ended : (p : Phase) (r : Reply) → has_ended p ≡ true → TellsEnd p (message.Answer (gx g) r) → EndsSo (ends s (gx g) l p r)
+  ended p r e t =
+      let x : Local = record l { phase = p; suspended = None } in
+      record {
+        ended = λ q. subst (λ (y : Local). has_ended y.phase ≡ true) (sym (here x)) e;
+        last = λ q. inl (subst (λ (y : Local). nat_lt 0 y.last ≡ true) (here x) q);
+        outs = (subst (λ (y : Local). TellsEnd y.phase (message.Answer (gx g) r)) (sym (here x)) t, tt);
+      }
+
   abort : (p : Phase) → l.phase ≡ p → EndsSo (on_abort s (gx g) l p)
-  abort Reading f = change (record l { phase = Aborted }) [] reply.Aborted None (λ e. refl) refl refl
-  abort Writing f = change (record l { phase = Aborted }) [] reply.Aborted None (λ e. refl) refl refl
-  abort Prepared f = change (record l { phase = Aborted }) [] reply.Aborted None (λ e. refl) refl refl
+  abort Reading f = ended Aborted reply.Aborted refl refl
+  abort Writing f = ended Aborted reply.Aborted refl refl
+  abort Prepared f = ended Aborted reply.Aborted refl refl
   abort Committed f = stay
   abort (Forgotten b) f = stay
   abort Aborted f = tell reply.Aborted (ap has_ended f)
 
-  forgotten : EndsSo (changes s (gx g) (record l { phase = Forgotten (has_committed l.phase) }) [] reply.Forgotten None)
-  forgotten = change (record l { phase = Forgotten (has_committed l.phase) }) [] reply.Forgotten None (λ e. refl) refl refl
-
   forget : (p : Phase) → l.phase ≡ p → EndsSo (on_forget s (gx g) l p)
-  forget Reading f = forgotten
-  forget Writing f = forgotten
-  forget Prepared f = forgotten
-  forget Committed f = forgotten
+  forget Reading f = ended (Forgotten (has_committed l.phase)) reply.Forgotten refl refl
+  forget Writing f = ended (Forgotten (has_committed l.phase)) reply.Forgotten refl refl
+  forget Prepared f = ended (Forgotten (has_committed l.phase)) reply.Forgotten refl refl
+  forget Committed f = ended (Forgotten (has_committed l.phase)) reply.Forgotten refl refl
   forget (Forgotten b) f = tell reply.Forgotten (ap has_ended f)
   forget Aborted f = stay
 
@@ -207,9 +228,9 @@ module _ (script : Script) (told : Message) (s : Seg) (g : ℕ) (wrote : Bool) (
   fits false turn e = stay
 
 pub ends-so : (script : Script) (fails : Bool) (s : Seg) (told : Message) (wrote : Bool) (vote : IsVote (s.locals (gxid_in told)).phase (s.locals (gxid_in told)).vote) (answer : IsKept (s.locals (gxid_in told)).last wrote (s.locals (gxid_in told)).answer) → EndsSo script told s (gxid_in told) wrote vote answer (on_message script s fails told)
-ends-so script fails s (message.Exec g c level x h y) wrote v a = let m : Message = message.Exec g c level x h y in below script m s g.0 wrote v a _ (fits script m s g.0 wrote v a (fits_exec script s g c x h y) _ (exec script m s g.0 wrote v a c x h y (s.locals g.0).phase refl tt))
-ends-so script fails s (message.Prepare g) wrote v a = below script (message.Prepare g) s g.0 wrote v a _ (prepare script (message.Prepare g) s g.0 wrote v a fails (s.locals g.0).phase refl)
-ends-so script fails s (message.Commit g) wrote v a = below script (message.Commit g) s g.0 wrote v a _ (commit script (message.Commit g) s g.0 wrote v a fails (s.locals g.0).phase refl)
+ends-so script fails s (message.Exec g c level x h y) wrote v a = let m : Message = message.Exec g c level x h y in below script m s g.0 wrote v a _ (fits script m s g.0 wrote v a (fits_exec script s g c x h y) _ (exec script m s g.0 wrote v a c level x h y (s.locals g.0).phase refl tt))
+ends-so script fails s (message.Prepare g) wrote v a = below script (message.Prepare g) s g.0 wrote v a _ (fits script (message.Prepare g) s g.0 wrote v a (not (is_waiting (s.locals g.0))) _ (prepare script (message.Prepare g) s g.0 wrote v a fails (s.locals g.0).phase refl))
+ends-so script fails s (message.Commit g) wrote v a = below script (message.Commit g) s g.0 wrote v a _ (fits script (message.Commit g) s g.0 wrote v a (not (is_waiting (s.locals g.0))) _ (commit script (message.Commit g) s g.0 wrote v a fails (s.locals g.0).phase refl))
 ends-so script fails s (message.CommitPrepared g) wrote v a = below script (message.CommitPrepared g) s g.0 wrote v a _ (commit-prepared script (message.CommitPrepared g) s g.0 wrote v a fails (s.locals g.0).phase refl)
 ends-so script fails s (message.Abort g) wrote v a = below script (message.Abort g) s g.0 wrote v a _ (abort script (message.Abort g) s g.0 wrote v a (s.locals g.0).phase refl)
 ends-so script fails s (message.Forget g) wrote v a = below script (message.Forget g) s g.0 wrote v a _ (forget script (message.Forget g) s g.0 wrote v a (s.locals g.0).phase refl)

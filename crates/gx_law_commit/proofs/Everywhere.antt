@@ -266,7 +266,7 @@ module _ (script : Script) (w : World) (n : Knows script w) (v : Holds script w)
   known j h = known_at w.coord ms2 j h
 
   pub does-it : Does msg (known i g) s i g (n.well.names i) (is_writer ms2 (gx g) (at i)) (prepared_count ms2 (at i) (gx g)) (local_count ms2 (at i) (gx g)) (v.stands.pairs i g) turn2
-  does-it = handled script fails (known i g) s i (n.well.names i) (is_writer ms2 (gx g) (at i)) (prepared_count ms2 (at i) (gx g)) (local_count ms2 (at i) (gx g)) msg (v.stands.pairs i g) said
+  does-it = handled script fails (known i g) s (n.well.calm i).locks i (n.well.names i) (is_writer ms2 (gx g) (at i)) (prepared_count ms2 (at i) (gx g)) (local_count ms2 (at i) (gx g)) msg (v.stands.pairs i g) said
 
   abbrev pub new_part : Part
   new_part = after_marks (turn2.seg.locals g) (is_writer ms2 (gx g) (at i)) (prepared_count ms2 (at i) (gx g)) (local_count ms2 (at i) (gx g)) i g turn2.marks

@@ -1,7 +1,7 @@
 -- What a segment's rule makes of its part of a transaction, message by message.
-use Rattle.std.proofs.Common.{◌≡◌, ◌⊎◌, inl, inr, ◌≤◌, ◌<◌, ℕ, ◌+◌, List, [], ◌∷◌, Option, Some, None, Bool, true, false, refl, sym, subst, ap, ◌∙◌, if◌then◌else◌, ◌==◌, ◌||◌, ◌&&◌, nat_lt, arith, eqb}
+use Rattle.std.proofs.Common.{◌≡◌, ◌⊎◌, inl, inr, ◌≤◌, ◌<◌, ℕ, ◌+◌, List, [], ◌∷◌, Option, Some, None, Bool, true, false, not, refl, sym, subst, ap, ◌∙◌, if◌then◌else◌, ◌==◌, ◌||◌, ◌&&◌, nat_lt, arith, eqb}
 use Rattle.std.proofs.lemmas.Bool.Decides.{nat_tests}
-use Rattle.std.specs.Prelude.{fold, length}
+use Rattle.std.specs.Prelude.{fold, length, map}
 use Rattle.gx_ids.specs.declared.ids.Cid.{Cid}
 use Rattle.gx_ids.specs.declared.ids.Gxid.{Gxid}
 use Rattle.gx_ids.specs.declared.ids.Node.{Node}
@@ -10,8 +10,11 @@ use Rattle.gx_tree.specs.declared.query.Query.{Query}
 use Rattle.gx_tree.specs.declared.row.KeyedRow.{KeyedRow}
 use Rattle.gx_tree.specs.declared.slice.Slice.{Slice}
 use Rattle.gx_tree.specs.declared.slice.Slice.TheVariants as slice
+use Rattle.gx_tree.specs.declared.stmt.Level.{Level}
 use Rattle.gx_dsnap.specs.Gxids.{is_below}
 use Rattle.gx_dsnap.specs.declared.snapshot.Snapshot.{Snapshot}
+use Rattle.gx_waits.specs.declared.claim.Claim.{Claim}
+use Rattle.gx_locks.specs.Locks.{Locks}
 use Rattle.gx_meaning.specs.declared.fault.ArithFault.{ArithFault}
 use Rattle.gx_msg.specs.declared.item.JournalItem.{JournalItem}
 use Rattle.gx_msg.specs.declared.message.Message.{Message}
@@ -23,14 +26,17 @@ use Rattle.gx_script.specs.declared.Script.{Script}
 use Rattle.gx_store.specs.declared.mark.Mark.{Mark}
 use Rattle.gx_store.specs.declared.mark.Mark.TheVariants as mark
 use Rattle.gx_store.specs.Protocol.{is_writer, local_count, prepared_count}
-use Rattle.gx_rules.specs.AtSegment.{changes, commits, finishes, if_fits, is_refused, on_abort, on_commit, on_commit_prepared, on_exec, on_forget, on_message, on_prepare, once, promises, raised, repeats, takes, unless_below, was_prepared}
-use Rattle.gx_rules.specs.Fits.{fits_exec}
+use Rattle.gx_rules.specs.AtSegment.{changes, commits, ends, finishes, if_fits, is_refused, on_abort, on_commit, on_commit_prepared, on_exec, on_forget, on_message, on_prepare, once, promises, raised, repeats, takes, unless_below, was_prepared}
+use Rattle.gx_rules.specs.Fits.{fits_exec, is_waiting}
+use Rattle.gx_rules.specs.Locks.{has_there, hold_mark, release_mark, release_marks, with_hold}
 use Rattle.gx_rules.specs.Maps.{with_at}
-use Rattle.gx_rules.specs.Segments.{Local, Phase, Seg, SegTurn, has_committed, stays, tells, tells_kept}
+use Rattle.gx_rules.specs.Segments.{Local, Phase, Seg, SegTurn, after_marks as behind, has_committed, stays, tells, tells_kept}
 use Rattle.gx_rules.specs.Segments.Phase.{Reading, Writing, Prepared, Committed, Forgotten, Aborted}
 use Rattle.gx_rules.specs.Shown.{shown}
-use Rattle.gx_rules.specs.Slices.{Moved, answers, first_fault, has_written, inserted, inserts, inserts_row, runs_slice, selects}
-use Rattle.gx_law_order.proofs.Lists.{Each, each_append}
+use Rattle.gx_rules.specs.Slices.{Moved, answers, first_fault, has_written, inserted, inserts, inserts_row, runs_slice, selects, starts_slice}
+use Rattle.gx_law_order.proofs.Calm.{AreCalm, each-released}
+use Rattle.gx_law_order.proofs.CalmSegs.{starts-calm}
+use Rattle.gx_law_order.proofs.Lists.{Each, each_append, each_weaker}
 use Rattle.gx_law_commit.specs.Pairs.{IsKept, IsVote, Pair, bit, is_open}
 use Rattle.gx_law_commit.specs.Said.{Answers, IsCommand, Said, gxid_in, is_answer}
 use Rattle.gx_law_commit.specs.Standings.{Known, Part, at, gx, part_of}
@@ -58,6 +64,9 @@ Follows told k i g (mark.Prepared n h) = (h.0 ≡ g) × (n.0 ≡ i) × (told ≡
 Follows told k i g (mark.LocalCommit n h) = (h.0 ≡ g) × (n.0 ≡ i) × ((told ≡ message.Commit (gx g)) ⊎ (told ≡ message.CommitPrepared (gx g))) × (k.aborted ≡ false) × (k.committed ≡ false)
 Follows told k i g (mark.Fault h c r x) = Unit {0}
 Follows told k i g (mark.JournalFailed n h) = Unit {0}
+Follows told k i g (mark.Hold n h o m) = Unit {0}
+Follows told k i g (mark.Wait n h o m) = Unit {0}
+Follows told k i g (mark.Release n h o m) = Unit {0}
 Follows told k i g _ = ⊥
 
 -- its promise or its commit is the first mark of its step, and the only such one
@@ -191,6 +200,40 @@ module _ (told : Message) (k : Known) (s : Seg) (i g : ℕ) (named : s.node ≡ 
         outs = (subst (λ y. Tells k (after_marks y w pc lc i g ms) i g ms (message.Answer (gx g) r)) (sym (here x)) t, tt);
         fails = λ v. f (subst (λ (y : Local). y.vote ≡ Some reply.Jfault) (here x) v);
       }
+
+  -- the mark of a lock stands before it
+  tells-more : (q : Part) (ms : List Mark) (x : Mark) (m : Message) → Tells k q i g ms m → Tells k q i g (x ∷ ms) m
+  tells-more q ms x (message.Answer h reply.Again) t = (t.0, inr t.1)
+  tells-more q ms x (message.Answer h (reply.Done c a b d)) t = t
+  tells-more q ms x (message.Answer h (reply.Failed c a)) t = t
+  tells-more q ms x (message.Answer h reply.Prepared) t = t
+  tells-more q ms x (message.Answer h reply.Committed) t = t
+  tells-more q ms x (message.Answer h reply.Jfault) t = t
+  tells-more q ms x (message.Answer h reply.Aborted) t = t
+  tells-more q ms x (message.Answer h reply.Forgotten) t = t
+  tells-more q ms x (message.Exec a b c d f y) t = absurd t
+  tells-more q ms x (message.Prepare a) t = absurd t
+  tells-more q ms x (message.Commit a) t = absurd t
+  tells-more q ms x (message.CommitPrepared a) t = absurd t
+  tells-more q ms x (message.Abort a) t = absurd t
+  tells-more q ms x (message.Forget a) t = absurd t
+  tells-more q ms x (message.Collect a) t = absurd t
+  tells-more q ms x (message.Graph a b) t = absurd t
+
+  held : (n : Node) (wanted : Claim) (turn : SegTurn) → Does turn → Each NoVote turn.marks → Does (behind (hold_mark n wanted ∷ []) turn)
+  held n wanted turn d v =
+      record {
+        others = d.others;
+        next = d.next;
+        marks = (tt, d.marks);
+        votes = v;
+        outs = each_weaker (λ (o : Out). Tells k (after turn) i g turn.marks o.message) (λ (o : Out). Tells k (after turn) i g (hold_mark n wanted ∷ turn.marks) o.message) (λ o t. tells-more (after turn) turn.marks (hold_mark n wanted) o.message t) turn.outs d.outs;
+        fails = λ x. more (d.fails x);
+      }
+    where
+      more : (l.vote ≡ Some reply.Jfault) ⊎ HasMark (mark.JournalFailed (at i) (gx g)) turn.marks → (l.vote ≡ Some reply.Jfault) ⊎ HasMark (mark.JournalFailed (at i) (gx g)) (hold_mark n wanted ∷ turn.marks)
+      more (inl x) = inl x
+      more (inr x) = inr (inr x)
 
   -- the journal's failure
   failed-here : HasMark (mark.JournalFailed (at i) (gx g)) (mark.JournalFailed s.node (gx g) ∷ [])
@@ -334,9 +377,36 @@ module _ (told : Message) (k : Known) (s : Seg) (i g : ℕ) (named : s.node ≡ 
   commit-prepared fails Aborted f m st = stay
 
   -- ABORT and FORGET
-  ended : (ph : Phase) (r : Reply) → not-again r ≡ true → ((q : Part) → Answers k q r) → is_open ph ≡ false → (ph ≡ Prepared → ⊥) → has_committed ph ≡ has_committed l.phase → k.at ≡ Over → Does (changes s (gx g) (record l { phase = ph }) [] r None)
+  ended : (ph : Phase) (r : Reply) → not-again r ≡ true → ((q : Part) → Answers k q r) → is_open ph ≡ false → (ph ≡ Prepared → ⊥) → has_committed ph ≡ has_committed l.phase → k.at ≡ Over → Does (ends s (gx g) l ph r)
   ended ph r n a o d c st =
-      change (record l { phase = ph }) [] r None (subst (Next k p) (sym (none-after (record l { phase = ph }))) (end-next k p ph e o d c st)) tt tt (told-of k _ [] r n (a _)) (λ v. inl v)
+      let x : Local = record l { phase = ph; suspended = None } in
+      let back : List Mark = release_marks s.node s.locks (gx g) in
+      record {
+        others = λ h q. ap (λ b. if b then x else s.locals h) q;
+        next = subst (λ y. Next k p (after_marks y w pc lc i g back)) (sym (here x)) (subst (Next k p) (sym (released-after x)) (end-next k p ph e o d c st));
+        marks = each-released (Follows told k i g) s.node s.locks (gx g) (λ claim. tt);
+        votes = no-votes told k p g back (each-released NoVote s.node s.locks (gx g) (λ claim. tt));
+        outs = (told-of k _ back r n (a _), tt);
+        fails = λ v. inl (subst (λ (y : Local). y.vote ≡ Some reply.Jfault) (here x) v);
+      }
+    where
+      no-writer : (claims : List Claim) → is_writer (map (release_mark s.node) claims) (gx g) (at i) ≡ false
+      no-writer [] = refl
+      no-writer (claim ∷ claims) = no-writer claims
+
+      no-promise : (claims : List Claim) → prepared_count (map (release_mark s.node) claims) (at i) (gx g) ≡ 0
+      no-promise [] = refl
+      no-promise (claim ∷ claims) = no-promise claims
+
+      no-commit : (claims : List Claim) → local_count (map (release_mark s.node) claims) (at i) (gx g) ≡ 0
+      no-commit [] = refl
+      no-commit (claim ∷ claims) = no-commit claims
+
+      released-after : (x : Local) → after_marks x w pc lc i g (release_marks s.node s.locks (gx g)) ≡ part_of x w pc lc
+      released-after x =
+          ap (λ b. part_of x (w || b) (pc + prepared_count (release_marks s.node s.locks (gx g)) (at i) (gx g)) (lc + local_count (release_marks s.node s.locks (gx g)) (at i) (gx g))) (no-writer (has_there s.locks (gx g)))
+          ∙ ap (λ n. part_of x (w || false) (pc + n) (lc + local_count (release_marks s.node s.locks (gx g)) (at i) (gx g))) (no-promise (has_there s.locks (gx g)))
+          ∙ ap (λ n. part_of x (w || false) (pc + 0) (lc + n)) (no-commit (has_there s.locks (gx g))) ∙ none-after x
 
   abort : (ph : Phase) → l.phase ≡ ph → Said k p (message.Abort (gx g)) → Does (on_abort s (gx g) l ph)
   abort Reading f st = ended Aborted reply.Aborted refl (λ q. tt) refl (λ x. absurd (cc)) (sym (ap has_committed f)) (e.aborts st)
@@ -346,7 +416,7 @@ module _ (told : Message) (k : Known) (s : Seg) (i g : ℕ) (named : s.node ≡ 
   abort (Forgotten b) f st = stay
   abort Aborted f st = tell reply.Aborted refl tt
 
-  forgotten : Said k p (message.Forget (gx g)) → Does (changes s (gx g) (record l { phase = Forgotten (has_committed l.phase) }) [] reply.Forgotten None)
+  forgotten : Said k p (message.Forget (gx g)) → Does (ends s (gx g) l (Forgotten (has_committed l.phase)) reply.Forgotten)
   forgotten st = ended (Forgotten (has_committed l.phase)) reply.Forgotten refl (λ q. tt) refl (λ x. absurd (cc)) refl (e.ends st)
 
   forget : (ph : Phase) → l.phase ≡ ph → Said k p (message.Forget (gx g)) → Does (on_forget s (gx g) l ph)
@@ -395,7 +465,10 @@ module _ (told : Message) (k : Known) (s : Seg) (i g : ℕ) (named : s.node ≡ 
   repeat : (k.at ≡ Unborn → ⊥) → (c : Cid) → Does (repeats s (gx g) c l)
   repeat born c = repeat-if born (c.0 == l.last)
 
-  module _ (c : Cid) (m : IsExecOf told g c) (st : IsCommand k p c.0) (h : Gxid) (o : is_open l.phase ≡ true) (new : l.last < c.0) where
+  module _ (c : Cid) (m : IsExecOf told g c) (st : IsCommand k p c.0) (h : Gxid) (locks : Locks) (o : is_open l.phase ≡ true) (new : l.last < c.0) where
+    abbrev raised_with : Seg
+    raised_with = record (raised s h) { locks = locks }
+
     -- on the way through its rows
     record Inserting (x : Moved) : Type 0 where
       others : (j : ℕ) → eqb j g ≡ false → x.seg.locals j ≡ s.locals j
@@ -432,13 +505,13 @@ module _ (told : Message) (k : Known) (s : Seg) (i g : ℕ) (named : s.node ≡ 
         self : (a : ℕ) → eqb a a ≡ true
         self a = grind (arith, nat_tests)
 
-    quiet : (ms : List Mark) → is_writer ms (gx g) (at i) ≡ false → prepared_count ms (at i) (gx g) ≡ 0 → local_count ms (at i) (gx g) ≡ 0 → Each (Follows told k i g) ms → Each NoVote ms → Inserting (record { seg = raised s h; marks = ms })
+    quiet : (ms : List Mark) → is_writer ms (gx g) (at i) ≡ false → prepared_count ms (at i) (gx g) ≡ 0 → local_count ms (at i) (gx g) ≡ 0 → Each (Follows told k i g) ms → Each NoVote ms → Inserting (record { seg = raised_with; marks = ms })
     quiet ms a b d f n =
         record { others = λ j q. refl; phase = l.phase; local = refl; opens = o; wrote = e.written o ∙ sym (or-none w) ∙ ap (λ x. w || x) (sym a); marks = f; calm = n; promises = b; commits = d; node = refl }
 
-    select : (q : Query) (rows : List KeyedRow) (f : Option (KeyedRow × ArithFault)) → Does (selects (raised s h) (gx g) c q rows f)
-    select q rows None = ran (record { seg = raised s h; marks = [] }) _ (quiet [] refl refl refl tt tt) (refl, e.written o ∙ sym (or-none w))
-    select q rows (Some f) = ran (record { seg = raised s h; marks = mark.Fault (gx g) c f.0.rid (Some f.0.row) ∷ [] }) _ (quiet _ refl refl refl (tt, tt) (tt, tt)) tt
+    select : (q : Query) (rows : List KeyedRow) (f : Option (KeyedRow × ArithFault)) → Does (selects raised_with (gx g) c q rows f)
+    select q rows None = ran (record { seg = raised_with; marks = [] }) _ (quiet [] refl refl refl tt tt) (refl, e.written o ∙ sym (or-none w))
+    select q rows (Some f) = ran (record { seg = raised_with; marks = mark.Fault (gx g) c f.0.rid (Some f.0.row) ∷ [] }) _ (quiet _ refl refl refl (tt, tt) (tt, tt)) tt
 
     insert-row : (table : Table) (x : Moved) (row : KeyedRow) → Inserting x → Inserting (inserts_row (gx g) c table x row)
     insert-row table x row f =
@@ -468,31 +541,45 @@ module _ (told : Message) (k : Known) (s : Seg) (i g : ℕ) (named : s.node ≡ 
     insert : (count : ℕ) (x : Moved) → Inserting x → Does (inserts (gx g) c count x)
     insert count x f = ran x _ f (refl, ap (λ (z : Local). has_written z.phase) f.local ∙ f.wrote)
 
-    raised-stay : Does (stays (raised s h))
+    raised-stay : Does (stays raised_with)
     raised-stay = record { others = λ j d. refl; next = same-next; marks = tt; votes = tt; outs = tt; fails = λ v. inl v }
 
-    slice-runs : (x : Option Snapshot) (y : Slice) → Does (runs_slice (raised s h) (gx g) c x y)
-    slice-runs (Some x) (slice.Select q) = select q (shown (raised s h) x (gx g) c q.table) (first_fault q.cond (shown (raised s h) x (gx g) c q.table))
-    slice-runs (Some x) (slice.Insert table rows) = insert (length rows) (inserted (raised s h) (gx g) c table rows) (insert-rows table rows (record { seg = raised s h; marks = [] }) (quiet [] refl refl refl tt tt))
-    slice-runs x y = raised-stay
+    -- it runs, and neither promises nor commits
+    abbrev Runs : SegTurn → Type 0
+    Runs turn = Does turn × Each NoVote turn.marks
 
-  take : (c : Cid) → IsExecOf told g c → IsCommand k p c.0 → (x : Option Snapshot) (h : Gxid) (y : Slice) → is_open l.phase ≡ true → Does (takes s (gx g) c x h y l)
-  take c m st x h y o = by_test (nat_lt l.last c.0) refl
+    selected : (q : Query) (rows : List KeyedRow) (f : Option (KeyedRow × ArithFault)) → Runs (selects raised_with (gx g) c q rows f)
+    selected q rows None = (select q rows None, tt)
+    selected q rows (Some f) = (select q rows (Some f), (tt, tt))
+
+    slice-runs : (x : Option Snapshot) (y : Slice) → Runs (runs_slice raised_with (gx g) c x y)
+    slice-runs (Some x) (slice.Select q) = selected q (shown raised_with x (gx g) c q.table) (first_fault q.cond (shown raised_with x (gx g) c q.table))
+    slice-runs (Some x) (slice.Insert table rows) =
+        let all = insert-rows table rows (record { seg = raised_with; marks = [] }) (quiet [] refl refl refl tt tt) in
+        (insert (length rows) (inserted raised_with (gx g) c table rows) all, all.calm)
+    slice-runs x y = (raised-stay, tt)
+
+  take : AreCalm s.locks → (c : Cid) → IsExecOf told g c → IsCommand k p c.0 → (level : Level) (x : Option Snapshot) (h : Gxid) (y : Slice) → is_open l.phase ≡ true → Does (takes s (gx g) c level x h y l)
+  take calm c m st level x h y o = by_test (nat_lt l.last c.0) refl
     where
       lower : (a b : ℕ) → nat_lt a b ≡ true → a < b
       lower a b q = grind (arith, nat_tests)
 
-      by_test : (b : Bool) → nat_lt l.last c.0 ≡ b → Does (if b then runs_slice (raised s h) (gx g) c x y else repeats s (gx g) c l)
-      by_test true q = slice-runs c m st h o (lower l.last c.0 q) x y
+      locked : (locks : Locks) (wanted : Claim) → l.last < c.0 → Does (behind (hold_mark s.node wanted ∷ []) (runs_slice (record (raised s h) { locks = locks }) (gx g) c x y))
+      locked locks wanted q = let run = slice-runs c m st h locks o q x y in held s.node wanted _ run.0 run.1
+
+      by_test : (b : Bool) → nat_lt l.last c.0 ≡ b → Does (if b then starts_slice (raised s h) (gx g) c level x y else repeats s (gx g) c l)
+      by_test true q =
+          starts-calm Does (raised s h) calm (gx g) c level x y (λ wanted. locked (with_hold s.locks wanted) wanted (lower l.last c.0 q)) (slice-runs c m st h s.locks o (lower l.last c.0 q) x y).0
       by_test false q = repeat st.drawn c
 
-  exec : (c : Cid) → IsExecOf told g c → IsCommand k p c.0 → (x : Option Snapshot) (h : Gxid) (y : Slice) (ph : Phase) → l.phase ≡ ph → Does (on_exec s (gx g) c x h y l ph)
-  exec c m st x h y Reading f = take c m st x h y (ap is_open f)
-  exec c m st x h y Writing f = take c m st x h y (ap is_open f)
-  exec c m st x h y Prepared f = repeat st.drawn c
-  exec c m st x h y Committed f = repeat st.drawn c
-  exec c m st x h y (Forgotten b) f = stay
-  exec c m st x h y Aborted f = stay
+  exec : AreCalm s.locks → (c : Cid) → IsExecOf told g c → IsCommand k p c.0 → (level : Level) (x : Option Snapshot) (h : Gxid) (y : Slice) (ph : Phase) → l.phase ≡ ph → Does (on_exec s (gx g) c level x h y l ph)
+  exec calm c m st level x h y Reading f = take calm c m st level x h y (ap is_open f)
+  exec calm c m st level x h y Writing f = take calm c m st level x h y (ap is_open f)
+  exec calm c m st level x h y Prepared f = repeat st.drawn c
+  exec calm c m st level x h y Committed f = repeat st.drawn c
+  exec calm c m st level x h y (Forgotten b) f = stay
+  exec calm c m st level x h y Aborted f = stay
 
   unless-low : (turn : SegTurn) → Does turn → Does (unless_below s (gx g) turn)
   unless-low turn d = by_test (is_below s.horizon (gx g))
@@ -506,14 +593,14 @@ module _ (told : Message) (k : Known) (s : Seg) (i g : ℕ) (named : s.node ≡ 
   if-fit false turn d = stay
 
 -- every message of the transaction
-pub handled : (script : Script) (fails : Bool) (k : Known) (s : Seg) (i : ℕ) (named : s.node ≡ at i) (w : Bool) (pc lc : ℕ) (told : Message) (e : Pair k (part_of (s.locals (gxid_in told)) w pc lc)) → (is_answer told ≡ false → Said k (part_of (s.locals (gxid_in told)) w pc lc) told) → Does told k s i (gxid_in told) named w pc lc e (on_message script s fails told)
-handled script fails k s i named w pc lc (message.Exec g c level x h y) e st =
-    unless-low _ k s i g.0 named w pc lc e _ (if-fit _ k s i g.0 named w pc lc e (fits_exec script s g c x h y) _ (exec _ k s i g.0 named w pc lc e c (record { level = level; snapshot = x; horizon = h; slice = y; is = refl }) (st refl) x h y (s.locals g.0).phase refl))
-handled script fails k s i named w pc lc (message.Prepare g) e st = unless-low _ k s i g.0 named w pc lc e _ (prepare _ k s i g.0 named w pc lc e fails (s.locals g.0).phase refl refl (st refl))
-handled script fails k s i named w pc lc (message.Commit g) e st = unless-low _ k s i g.0 named w pc lc e _ (commit _ k s i g.0 named w pc lc e fails (s.locals g.0).phase refl refl (st refl))
-handled script fails k s i named w pc lc (message.CommitPrepared g) e st = unless-low _ k s i g.0 named w pc lc e _ (commit-prepared _ k s i g.0 named w pc lc e fails (s.locals g.0).phase refl refl (st refl))
-handled script fails k s i named w pc lc (message.Abort g) e st = unless-low _ k s i g.0 named w pc lc e _ (abort _ k s i g.0 named w pc lc e (s.locals g.0).phase refl (st refl))
-handled script fails k s i named w pc lc (message.Forget g) e st = unless-low _ k s i g.0 named w pc lc e _ (forget _ k s i g.0 named w pc lc e (s.locals g.0).phase refl (st refl))
-handled script fails k s i named w pc lc (message.Answer g r) e st = stay (message.Answer g r) k s i g.0 named w pc lc e
-handled script fails k s i named w pc lc (message.Collect round) e st = stay (message.Collect round) k s i 0 named w pc lc e
-handled script fails k s i named w pc lc (message.Graph round graph) e st = stay (message.Graph round graph) k s i 0 named w pc lc e
+pub handled : (script : Script) (fails : Bool) (k : Known) (s : Seg) → AreCalm s.locks → (i : ℕ) (named : s.node ≡ at i) (w : Bool) (pc lc : ℕ) (told : Message) (e : Pair k (part_of (s.locals (gxid_in told)) w pc lc)) → (is_answer told ≡ false → Said k (part_of (s.locals (gxid_in told)) w pc lc) told) → Does told k s i (gxid_in told) named w pc lc e (on_message script s fails told)
+handled script fails k s calm i named w pc lc (message.Exec g c level x h y) e st =
+    unless-low _ k s i g.0 named w pc lc e _ (if-fit _ k s i g.0 named w pc lc e (fits_exec script s g c x h y) _ (exec _ k s i g.0 named w pc lc e calm c (record { level = level; snapshot = x; horizon = h; slice = y; is = refl }) (st refl) level x h y (s.locals g.0).phase refl))
+handled script fails k s calm i named w pc lc (message.Prepare g) e st = unless-low _ k s i g.0 named w pc lc e _ (if-fit _ k s i g.0 named w pc lc e (not (is_waiting (s.locals g.0))) _ (prepare _ k s i g.0 named w pc lc e fails (s.locals g.0).phase refl refl (st refl)))
+handled script fails k s calm i named w pc lc (message.Commit g) e st = unless-low _ k s i g.0 named w pc lc e _ (if-fit _ k s i g.0 named w pc lc e (not (is_waiting (s.locals g.0))) _ (commit _ k s i g.0 named w pc lc e fails (s.locals g.0).phase refl refl (st refl)))
+handled script fails k s calm i named w pc lc (message.CommitPrepared g) e st = unless-low _ k s i g.0 named w pc lc e _ (commit-prepared _ k s i g.0 named w pc lc e fails (s.locals g.0).phase refl refl (st refl))
+handled script fails k s calm i named w pc lc (message.Abort g) e st = unless-low _ k s i g.0 named w pc lc e _ (abort _ k s i g.0 named w pc lc e (s.locals g.0).phase refl (st refl))
+handled script fails k s calm i named w pc lc (message.Forget g) e st = unless-low _ k s i g.0 named w pc lc e _ (forget _ k s i g.0 named w pc lc e (s.locals g.0).phase refl (st refl))
+handled script fails k s calm i named w pc lc (message.Answer g r) e st = stay (message.Answer g r) k s i g.0 named w pc lc e
+handled script fails k s calm i named w pc lc (message.Collect round) e st = stay (message.Collect round) k s i 0 named w pc lc e
+handled script fails k s calm i named w pc lc (message.Graph round graph) e st = stay (message.Graph round graph) k s i 0 named w pc lc e

@@ -25,6 +25,7 @@ use Rattle.gx_rules.specs.Coordinators.{CoordTurn}
 use Rattle.gx_rules.specs.Machine.{Letter, World, after, at_node, can, coord_did, delivered, does, found, happens, new_world, node_of, seg_did, world_of, can_here, seg_can}
 use Rattle.gx_rules.specs.Segments.{SegTurn}
 use Rattle.gx_rules.specs.Sending.{clock_after}
+use Rattle.gx_law_order.proofs.CalmSegs.{nobody-goes-on}
 use Rattle.gx_law_order.proofs.AtCoordinators.{coord_stays}
 use Rattle.gx_law_order.proofs.AtSegments.{PlainAt, seg_stays}
 use Rattle.gx_law_order.proofs.Letters.{IsFound, IsLetter, found_is}
@@ -161,7 +162,7 @@ module _ (script : Script) (some : 1 ≤ script.segments) where
 
       by_test : (b : Bool) → is_same_node n the_coordinator ≡ b → (if b then coord_can script w.coord x else seg_can script (w.segs n.0) x) ≡ true → Low (if b then coord_did w e (coord_rule script w.coord x fails) else seg_did w n e (seg_rule script (w.segs n.0) x fails))
       by_test true is ok = coord-any w k l e x fails
-      by_test false is ok = absurd (cc)
+      by_test false is ok = absurd (nobody-goes-on script (w.segs n.0) g (k.well.calm n.0) ok)
 
   event-any : (w : World) (e : Event) (fails : Bool) → Knows script w → Low w → can script w e ≡ true → Low (does script w e (node_of e) fails (at_node w e))
   event-any w (event.Receive from to number) fails k l ok = arrives w from to number fails (found from to number w.sent) refl k l

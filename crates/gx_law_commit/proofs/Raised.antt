@@ -1,5 +1,5 @@
 -- What a segment's horizon becomes, and that it sends answers alone.
-use Rattle.std.proofs.Common.{◌≡◌, ℕ, List, [], ◌∷◌, Option, Some, None, Bool, true, false, refl, nat_lt, ◌==◌, if◌then◌else◌}
+use Rattle.std.proofs.Common.{◌≡◌, ℕ, List, [], ◌∷◌, Option, Some, None, Bool, true, false, not, refl, nat_lt, ◌==◌, if◌then◌else◌}
 use Rattle.std.specs.Prelude.{fold, length}
 use Rattle.gx_ids.specs.declared.ids.Cid.{Cid}
 use Rattle.gx_ids.specs.declared.ids.Gxid.{Gxid}
@@ -8,8 +8,11 @@ use Rattle.gx_tree.specs.declared.query.Query.{Query}
 use Rattle.gx_tree.specs.declared.row.KeyedRow.{KeyedRow}
 use Rattle.gx_tree.specs.declared.slice.Slice.{Slice}
 use Rattle.gx_tree.specs.declared.slice.Slice.TheVariants as slice
+use Rattle.gx_tree.specs.declared.stmt.Level.{Level}
 use Rattle.gx_dsnap.specs.Gxids.{is_below}
 use Rattle.gx_dsnap.specs.declared.snapshot.Snapshot.{Snapshot}
+use Rattle.gx_waits.specs.declared.claim.Claim.{Claim}
+use Rattle.gx_locks.specs.Locks.{is_free}
 use Rattle.gx_meaning.specs.declared.fault.ArithFault.{ArithFault}
 use Rattle.gx_msg.specs.declared.item.JournalItem.{JournalItem}
 use Rattle.gx_msg.specs.declared.message.Message.{Message}
@@ -18,12 +21,13 @@ use Rattle.gx_msg.specs.declared.message.Out.{Out}
 use Rattle.gx_msg.specs.declared.reply.Reply.{Reply}
 use Rattle.gx_script.specs.declared.Script.{Script}
 use Rattle.gx_store.specs.declared.mark.Mark.{Mark}
-use Rattle.gx_rules.specs.AtSegment.{changes, commits, finishes, if_fits, on_abort, on_commit, on_commit_prepared, on_exec, on_forget, on_message, on_prepare, once, promises, raised, repeats, takes, unless_below, was_prepared}
-use Rattle.gx_rules.specs.Fits.{fits_exec}
+use Rattle.gx_rules.specs.AtSegment.{changes, commits, ends, finishes, if_fits, on_abort, on_commit, on_commit_prepared, on_exec, on_forget, on_message, on_prepare, once, promises, raised, repeats, takes, unless_below, was_prepared}
+use Rattle.gx_rules.specs.Fits.{fits_exec, is_waiting}
+use Rattle.gx_rules.specs.Locks.{with_hold}
 use Rattle.gx_rules.specs.Segments.{Local, Phase, Seg, SegTurn, local_of, stays, tells, tells_kept}
 use Rattle.gx_rules.specs.Segments.Phase.{Aborted, Committed, Forgotten, Prepared, Reading, Writing}
 use Rattle.gx_rules.specs.Shown.{shown}
-use Rattle.gx_rules.specs.Slices.{Moved, first_fault, inserted, inserts, inserts_row, runs_slice, selects}
+use Rattle.gx_rules.specs.Slices.{Moved, first_fault, inserted, inserts, inserts_row, requests, runs_slice, selects, slice_lock}
 use Rattle.gx_law_order.proofs.Lists.{Each}
 use Rattle.gx_law_commit.specs.Said.{is_answer}
 
@@ -51,17 +55,11 @@ module _ (script : Script) (s : Seg) (Q : Gxid → Type 0) (base : Q s.horizon) 
   both true x y e f = e
   both false x y e f = f
 
-  module _ (h : Gxid) (up : Q h) where
-    raises : Q (raised s h).horizon
-    raises = by_test (is_below h s.horizon)
-      where
-        by_test : (b : Bool) → Q (if b then h else s.horizon)
-        by_test true = up
-        by_test false = base
-
-    select : (g : Gxid) (c : Cid) (q : Query) (rows : List KeyedRow) (f : Option (KeyedRow × ArithFault)) → SegKeeps (selects (raised s h) g c q rows f)
-    select g c q rows None = record { horizon = raises; outs = (refl, tt) }
-    select g c q rows (Some f) = record { horizon = raises; outs = (refl, tt) }
+  -- a slice of a segment whose horizon is good
+  module _ (t : Seg) (good : Q t.horizon) where
+    select : (g : Gxid) (c : Cid) (q : Query) (rows : List KeyedRow) (f : Option (KeyedRow × ArithFault)) → SegKeeps (selects t g c q rows f)
+    select g c q rows None = record { horizon = good; outs = (refl, tt) }
+    select g c q rows (Some f) = record { horizon = good; outs = (refl, tt) }
 
     insert_rows : (g : Gxid) (c : Cid) (table : Table) (rows : List KeyedRow) (m : Moved) → Q m.seg.horizon → Q (fold (inserts_row g c table) m rows).seg.horizon
     insert_rows g c table [] m f = f
@@ -70,24 +68,39 @@ module _ (script : Script) (s : Seg) (Q : Gxid → Type 0) (base : Q s.horizon) 
     insert : (g : Gxid) (c : Cid) (count : ℕ) (m : Moved) → Q m.seg.horizon → SegKeeps (inserts g c count m)
     insert g c count m f = record { horizon = f; outs = (refl, tt) }
 
-    slice_runs : (g : Gxid) (c : Cid) (snapshot : Option Snapshot) (x : Slice) → SegKeeps (runs_slice (raised s h) g c snapshot x)
-    slice_runs g c (Some snapshot) (slice.Select q) = select g c q (shown (raised s h) snapshot g c q.table) (first_fault q.cond (shown (raised s h) snapshot g c q.table))
-    slice_runs g c (Some snapshot) (slice.Insert table rows) = insert g c (length rows) (inserted (raised s h) g c table rows) (insert_rows g c table rows (record { seg = raised s h; marks = [] }) raises)
-    slice_runs g c snapshot x = record { horizon = raises; outs = tt }
+    slice_runs : (g : Gxid) (c : Cid) (snapshot : Option Snapshot) (x : Slice) → SegKeeps (runs_slice t g c snapshot x)
+    slice_runs g c (Some snapshot) (slice.Select q) = select g c q (shown t snapshot g c q.table) (first_fault q.cond (shown t snapshot g c q.table))
+    slice_runs g c (Some snapshot) (slice.Insert table rows) = insert g c (length rows) (inserted t g c table rows) (insert_rows g c table rows (record { seg = t; marks = [] }) good)
+    slice_runs g c snapshot x = record { horizon = good; outs = tt }
+
+  starts : (t : Seg) → Q t.horizon → (g : Gxid) (c : Cid) (level : Level) (snapshot : Option Snapshot) (x : Slice) (o : Option Claim) → SegKeeps (requests t g c level snapshot x o)
+  starts t good g c level snapshot x None = slice_runs t good g c snapshot x
+  starts t good g c level snapshot x (Some wanted) = both (is_free t.locks.holds wanted) _ _ (record { horizon = run.horizon; outs = run.outs }) (record { horizon = good; outs = tt })
+    where
+      run : SegKeeps (runs_slice (record t { locks = with_hold t.locks wanted }) g c snapshot x)
+      run = slice_runs (record t { locks = with_hold t.locks wanted }) good g c snapshot x
+
+  module _ (h : Gxid) (up : Q h) where
+    raises : Q (raised s h).horizon
+    raises = by_test (is_below h s.horizon)
+      where
+        by_test : (b : Bool) → Q (if b then h else s.horizon)
+        by_test true = up
+        by_test false = base
 
     repeat : (g : Gxid) (c : Cid) (l : Local) → SegKeeps (repeats s g c l)
     repeat g c l = both (c.0 == l.last) _ _ (kept g l.answer) stay
 
-    take : (g : Gxid) (c : Cid) (snapshot : Option Snapshot) (x : Slice) (l : Local) → SegKeeps (takes s g c snapshot h x l)
-    take g c snapshot x l = both (nat_lt l.last c.0) _ _ (slice_runs g c snapshot x) (repeat g c l)
+    take : (g : Gxid) (c : Cid) (level : Level) (snapshot : Option Snapshot) (x : Slice) (l : Local) → SegKeeps (takes s g c level snapshot h x l)
+    take g c level snapshot x l = both (nat_lt l.last c.0) _ _ (starts (raised s h) raises g c level snapshot x (slice_lock g x)) (repeat g c l)
 
-    exec : (g : Gxid) (c : Cid) (snapshot : Option Snapshot) (x : Slice) (l : Local) (p : Phase) → SegKeeps (on_exec s g c snapshot h x l p)
-    exec g c snapshot x l Reading = take g c snapshot x l
-    exec g c snapshot x l Writing = take g c snapshot x l
-    exec g c snapshot x l Prepared = repeat g c l
-    exec g c snapshot x l Committed = repeat g c l
-    exec g c snapshot x l (Forgotten b) = stay
-    exec g c snapshot x l Aborted = stay
+    exec : (g : Gxid) (c : Cid) (level : Level) (snapshot : Option Snapshot) (x : Slice) (l : Local) (p : Phase) → SegKeeps (on_exec s g c level snapshot h x l p)
+    exec g c level snapshot x l Reading = take g c level snapshot x l
+    exec g c level snapshot x l Writing = take g c level snapshot x l
+    exec g c level snapshot x l Prepared = repeat g c l
+    exec g c level snapshot x l Committed = repeat g c l
+    exec g c level snapshot x l (Forgotten b) = stay
+    exec g c level snapshot x l Aborted = stay
 
   changed : (g : Gxid) (l : Local) (ms : List Mark) (r : Reply) (it : Option JournalItem) → SegKeeps (changes s g l ms r it)
   changed g l ms r it = record { horizon = base; outs = (refl, tt) }
@@ -133,19 +146,22 @@ module _ (script : Script) (s : Seg) (Q : Gxid → Type 0) (base : Q s.horizon) 
   commit_prepared g fails l (Forgotten false) = stay
   commit_prepared g fails l Aborted = stay
 
+  ended : (g : Gxid) (l : Local) (p : Phase) (r : Reply) → SegKeeps (ends s g l p r)
+  ended g l p r = record { horizon = base; outs = (refl, tt) }
+
   abort : (g : Gxid) (l : Local) (p : Phase) → SegKeeps (on_abort s g l p)
-  abort g l Reading = changed g _ _ _ _
-  abort g l Writing = changed g _ _ _ _
-  abort g l Prepared = changed g _ _ _ _
+  abort g l Reading = ended g l _ _
+  abort g l Writing = ended g l _ _
+  abort g l Prepared = ended g l _ _
   abort g l Committed = stay
   abort g l (Forgotten b) = stay
   abort g l Aborted = tell g _
 
   forget : (g : Gxid) (l : Local) (p : Phase) → SegKeeps (on_forget s g l p)
-  forget g l Reading = changed g _ _ _ _
-  forget g l Writing = changed g _ _ _ _
-  forget g l Prepared = changed g _ _ _ _
-  forget g l Committed = changed g _ _ _ _
+  forget g l Reading = ended g l _ _
+  forget g l Writing = ended g l _ _
+  forget g l Prepared = ended g l _ _
+  forget g l Committed = ended g l _ _
   forget g l (Forgotten b) = tell g _
   forget g l Aborted = stay
 
@@ -157,9 +173,9 @@ module _ (script : Script) (s : Seg) (Q : Gxid → Type 0) (base : Q s.horizon) 
   fits false turn e = stay
 
   pub message_keeps : (fails : Bool) (m : Message) → OfHorizon Q m → SegKeeps (on_message script s fails m)
-  message_keeps fails (message.Exec g c level snapshot h x) q = below g _ (fits (fits_exec script s g c snapshot h x) _ (exec h q g c snapshot x (local_of s g) (local_of s g).phase))
-  message_keeps fails (message.Prepare g) q = below g _ (prepare g fails (local_of s g) (local_of s g).phase)
-  message_keeps fails (message.Commit g) q = below g _ (commit g fails (local_of s g) (local_of s g).phase)
+  message_keeps fails (message.Exec g c level snapshot h x) q = below g _ (fits (fits_exec script s g c snapshot h x) _ (exec h q g c level snapshot x (local_of s g) (local_of s g).phase))
+  message_keeps fails (message.Prepare g) q = below g _ (fits (not (is_waiting (local_of s g))) _ (prepare g fails (local_of s g) (local_of s g).phase))
+  message_keeps fails (message.Commit g) q = below g _ (fits (not (is_waiting (local_of s g))) _ (commit g fails (local_of s g) (local_of s g).phase))
   message_keeps fails (message.CommitPrepared g) q = below g _ (commit_prepared g fails (local_of s g) (local_of s g).phase)
   message_keeps fails (message.Abort g) q = below g _ (abort g (local_of s g) (local_of s g).phase)
   message_keeps fails (message.Forget g) q = below g _ (forget g (local_of s g) (local_of s g).phase)

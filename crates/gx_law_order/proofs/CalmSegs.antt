@@ -1,5 +1,5 @@
 -- At a segment nobody waits, as long as only those who read or add rows take locks.
-use Rattle.std.proofs.Common.{◌≡◌, ℕ, List, [], ◌∷◌, Option, Some, None, Bool, true, false, not, refl, subst, sym, ap, nat_lt, ◌==◌, ◌&&◌, if◌then◌else◌}
+use Rattle.std.proofs.Common.{◌≡◌, ℕ, List, [], ◌∷◌, Option, Some, None, Bool, true, false, not, refl, subst, sym, ap, arith, nat_lt, ◌==◌, ◌&&◌, if◌then◌else◌}
 use Rattle.std.specs.Prelude.{fold, length}
 use Rattle.gx_ids.specs.declared.ids.Cid.{Cid}
 use Rattle.gx_ids.specs.declared.ids.Gxid.{Gxid}
@@ -26,7 +26,7 @@ use Rattle.gx_rules.specs.AtSegment.{commits, ends, finishes, if_fits, on_abort,
 use Rattle.gx_rules.specs.Fits.{fits_exec, is_waiting}
 use Rattle.gx_rules.specs.Locks.{with_hold}
 use Rattle.gx_rules.specs.Machine.{seg_can}
-use Rattle.gx_rules.specs.Segments.{Local, Phase, Seg, SegTurn, Suspended, local_of, stays, tells, tells_kept, with_local}
+use Rattle.gx_rules.specs.Segments.{Local, Phase, Seg, SegTurn, Suspended, local_of, stays, tells_kept, with_local}
 use Rattle.gx_rules.specs.Segments.Phase.{Aborted, Committed, Forgotten, Prepared, Reading, Writing}
 use Rattle.gx_rules.specs.Shown.{shown}
 use Rattle.gx_rules.specs.Slices.{Moved, first_fault, inserted, inserts, inserts_row, requests, runs_locked, runs_slice, selects, slice_lock, starts_slice}
@@ -61,6 +61,14 @@ starts-calm P s calm g c level snapshot x locked alone = by_lock (slice_lock g x
     by_lock None e = alone
     by_lock (Some wanted) e = by_test wanted (is_free s.locks.holds wanted) (calm-free s.locks wanted calm (slice-calm g x wanted e))
 
+-- a slice that takes a lock has it
+pub granted-calm : (P : SegTurn → Type 0) (s : Seg) → AreCalm s.locks → (g : Gxid) (c : Cid) (level : Level) (snapshot : Option Snapshot) (x : Slice) (wanted : Claim) → slice_lock g x ≡ Some wanted → P (runs_locked s g c snapshot x wanted) → P (starts_slice s g c level snapshot x)
+granted-calm P s calm g c level snapshot x wanted e p = subst (λ o. P (requests s g c level snapshot x o)) (sym e) (by_test (is_free s.locks.holds wanted) (calm-free s.locks wanted calm (slice-calm g x wanted e)))
+  where
+    by_test : (b : Bool) → b ≡ true → P (if b then runs_locked s g c snapshot x wanted else Rattle.gx_rules.specs.Slices.suspends s g c level snapshot x wanted)
+    by_test true q = p
+    by_test false q = absurd (cc)
+
 -- nobody resumes there, and whoever might does nothing
 pub nobody-can : (script : Script) (s : Seg) (g : Gxid) → IsCalm s → seg_can script s (event.Resume g) ≡ false
 nobody-can script s g calm = and-off (is_segment script s.node) (is_ready s.locks.holds (wait_of s.locks g)) (nobody-ready s.locks g calm.locks)
@@ -68,6 +76,12 @@ nobody-can script s g calm = and-off (is_segment script s.node) (is_ready s.lock
     and-off : (a b : Bool) → b ≡ false → (a && b) ≡ false
     and-off true b e = e
     and-off false b e = refl
+
+pub nobody-goes-on : (script : Script) (s : Seg) (g : Gxid) → IsCalm s → seg_can script s (event.Resume g) ≡ true → ⊥
+nobody-goes-on script s g calm ok = clash (seg_can script s (event.Resume g)) ok (nobody-can script s g calm)
+  where
+    clash : (b : Bool) → b ≡ true → b ≡ false → ⊥
+    clash b e f = grind arith
 
 pub nothing-resumes : (s : Seg) (g : Gxid) (o : Option Suspended) → IsCalm s → stays s ≡ resumes s g (wait_of s.locks g) o
 nothing-resumes s g o calm = ap (λ w. resumes s g w o) (sym (nobody-waits s.locks g calm.locks))

@@ -8,6 +8,7 @@ use Rattle.gx_ids.specs.declared.ids.Gxid.{Gxid}
 use Rattle.gx_ids.specs.declared.ids.Node.{Node}
 use Rattle.gx_tree.specs.declared.slice.Slice.{Slice}
 use Rattle.gx_dsnap.specs.Gxids.{is_below}
+use Rattle.gx_tree.specs.declared.stmt.Level.{Level}
 use Rattle.gx_dsnap.specs.declared.snapshot.Snapshot.{Snapshot}
 use Rattle.gx_dtx.specs.Table.{find_txn}
 use Rattle.gx_msg.specs.declared.message.Envelope.{Envelope}
@@ -37,7 +38,7 @@ use Rattle.gx_rules.specs.Machine.{Letter, World, coord_did, new_world, seg_did,
 use Rattle.gx_rules.specs.Segments.{Local, Phase, Seg, SegTurn, has_committed, local_of, stays, tells_kept}
 use Rattle.gx_rules.specs.Segments.Phase.{Aborted, Committed, Forgotten, Prepared, Reading, Writing}
 use Rattle.gx_rules.specs.Sending.{clock_after, numbered}
-use Rattle.gx_rules.specs.Slices.{runs_slice}
+use Rattle.gx_rules.specs.Slices.{starts_slice}
 use Rattle.gx_law_order.proofs.Lists.{Each, each_append, each_weaker}
 use Rattle.gx_law_order.proofs.Past.{Past, aborted-append, committed-append, running-drawn}
 use Rattle.gx_law_order.proofs.Replies.{event-good}
@@ -253,14 +254,14 @@ module _ (s : Seg) (g : Gxid) (c : Cid) where
       by_test true = kept-quiet l.answer
       by_test false = refl
 
-  module _ (x : Option Snapshot) (h : Gxid) (y : Slice) (l : Local) (old : c.0 ≤ l.last) where
+  module _ (level : Level) (x : Option Snapshot) (h : Gxid) (y : Slice) (l : Local) (old : c.0 ≤ l.last) where
     not-new : (a b : ℕ) → b ≤ a → nat_lt a b ≡ false
     not-new a b l = grind (arith, nat_tests)
 
-    takes-quiet : (takes s g c x h y l).marks ≡ []
-    takes-quiet = ap (λ b. (let t : SegTurn = if b then runs_slice (raised s h) g c x y else repeats s g c l in t).marks) (not-new l.last c.0 old) ∙ repeats-quiet l
+    takes-quiet : (takes s g c level x h y l).marks ≡ []
+    takes-quiet = ap (λ b. (let t : SegTurn = if b then starts_slice (raised s h) g c level x y else repeats s g c l in t).marks) (not-new l.last c.0 old) ∙ repeats-quiet l
 
-    exec-quiet : (p : Phase) → (on_exec s g c x h y l p).marks ≡ []
+    exec-quiet : (p : Phase) → (on_exec s g c level x h y l p).marks ≡ []
     exec-quiet Reading = takes-quiet
     exec-quiet Writing = takes-quiet
     exec-quiet Prepared = repeats-quiet l
@@ -279,8 +280,8 @@ module _ (s : Seg) (g : Gxid) (c : Cid) where
   fits-quiet true t e = e
   fits-quiet false t e = refl
 
-old-quiet : (script : Script) (s : Seg) (fails : Bool) (g : Gxid) (c : Cid) (level : Rattle.gx_tree.specs.declared.stmt.Level.Level) (x : Option Snapshot) (h : Gxid) (y : Slice) → c.0 ≤ (s.locals g.0).last → (on_message script s fails (message.Exec g c level x h y)).marks ≡ []
-old-quiet script s fails g c level x h y old = unless-quiet s g c _ (fits-quiet s g c (fits_exec script s g c x h y) _ (exec-quiet s g c x h y (local_of s g) old (local_of s g).phase))
+old-quiet : (script : Script) (s : Seg) (fails : Bool) (g : Gxid) (c : Cid) (level : Level) (x : Option Snapshot) (h : Gxid) (y : Slice) → c.0 ≤ (s.locals g.0).last → (on_message script s fails (message.Exec g c level x h y)).marks ≡ []
+old-quiet script s fails g c level x h y old = unless-quiet s g c _ (fits-quiet s g c (fits_exec script s g c x h y) _ (exec-quiet s g c level x h y (local_of s g) old (local_of s g).phase))
 
 module _ (script : Script) (w : World) (k : Knows script w) (v : Holds script w) (q : Ends w) (e : Event) (fails : Bool) (i : ℕ) (from : Node) (envelope : Envelope) (received : Receives w.steps e the_coordinator (at i) envelope.message) (said : is_answer envelope.message ≡ false → Said (known_at w.coord (marks_in w.steps) i (gxid_in envelope.message)) (parts_in w i (gxid_in envelope.message)) envelope.message) (taken : TakenAt w (at i) envelope.message) where
   abbrev pub g : ℕ
@@ -345,7 +346,7 @@ module _ (script : Script) (w : World) (k : Knows script w) (v : Holds script w)
           differ : true ≡ false → ⊥
           differ e = cc
 
-      exec : (h : Gxid) (c : Cid) (level : Rattle.gx_tree.specs.declared.stmt.Level.Level) (x : Option Snapshot) (y : Gxid) (z : Slice) → envelope.message ≡ message.Exec h c level x y z → is_writer turn3.marks (gx g) (at i) ≡ false
+      exec : (h : Gxid) (c : Cid) (level : Level) (x : Option Snapshot) (y : Gxid) (z : Slice) → envelope.message ≡ message.Exec h c level x y z → is_writer turn3.marks (gx g) (at i) ≡ false
       exec h c level x y z f =
           ap (λ ns. is_writer ns (gx g) (at i))
           (ap (λ m. (on_message script (w.segs i) fails m).marks) f ∙ old-quiet script (w.segs i) fails h c level x y z ((subst (TakenAt w (at i)) f taken).1 (subst (λ m. (known_at w.coord (marks_in w.steps) i (gxid_in m)).committed ≡ true) f a)))
@@ -506,7 +507,7 @@ module _ (script : Script) (w : World) (k : Knows script w) (v : Holds script w)
       differ : true ≡ false → ⊥
       differ e = cc
 
-  exec-new : (h : Gxid) (c : Cid) (level : Rattle.gx_tree.specs.declared.stmt.Level.Level) (x : Option Snapshot) (y : Gxid) (z : Slice) → envelope.message ≡ message.Exec h c level x y z → Each (NewWrite w i its) marks3
+  exec-new : (h : Gxid) (c : Cid) (level : Level) (x : Option Snapshot) (y : Gxid) (z : Slice) → envelope.message ≡ message.Exec h c level x y z → Each (NewWrite w i its) marks3
   unfolding exec-cid
   exec-new h c level x y z f = by_old (nat_lt ((w.segs i).locals its).last c.0) refl
     where
@@ -568,7 +569,7 @@ module _ (script : Script) (some : 1 ≤ script.segments) where
       }
 
   pub seg-facts : (w : World) → Knows script w → Holds script w → Facts w → (e : Event) (x : NodeEvent) (fails : Bool) (i : ℕ) → IsSegment script (at i) → HeardAt script w e i x → Facts (seg_did w (at i) e (seg_rule script (w.segs i) x fails))
-  seg-facts w k v q e x fails i place h = by-message script w e i (λ x. Facts (seg_did w (at i) e (seg_rule script (w.segs i) x fails))) given x h
+  seg-facts w k v q e x fails i place h = by-message script w e i (k.well.calm i) (λ x. Facts (seg_did w (at i) e (seg_rule script (w.segs i) x fails))) given x h
     where
       given : (from : Node) (envelope : Envelope) → IsGiven w e i from envelope → Facts (seg_did w (at i) e (seg_rule script (w.segs i) (here.Deliver from envelope) fails))
       given from envelope d =

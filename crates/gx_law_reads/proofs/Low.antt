@@ -1,5 +1,5 @@
 -- Horizons are low, and commands see whoever is below, in every run of the machine.
-use Rattle.std.proofs.Common.{◌≡◌, ◌≤◌, ◌<◌, ℕ, List, [], ◌∷◌, Option, Some, None, Bool, true, false, refl, sym, subst, ap, ◌∙◌, if◌then◌else◌, ltb, arith, eqb}
+use Rattle.std.proofs.Common.{◌≡◌, ◌≤◌, ◌<◌, ℕ, List, [], ◌∷◌, Option, Some, None, Bool, true, false, not, refl, sym, subst, ap, ◌∙◌, if◌then◌else◌, ltb, arith, eqb}
 use Rattle.std.proofs.lemmas.Bool.Decides.{nat_tests}
 use Rattle.std.specs.Prelude.{fold, nat_le, nat_lt}
 use Rattle.gx_ids.specs.declared.ids.Cid.{Cid}
@@ -11,6 +11,7 @@ use Rattle.gx_tree.specs.declared.row.KeyedRow.{KeyedRow}
 use Rattle.gx_tree.specs.declared.slice.Slice.{Slice}
 use Rattle.gx_tree.specs.declared.slice.Slice.TheVariants as slice
 use Rattle.gx_dsnap.specs.Gxids.{is_below}
+use Rattle.gx_tree.specs.declared.stmt.Level.{Level}
 use Rattle.gx_dsnap.specs.declared.snapshot.Snapshot.{Snapshot}
 use Rattle.gx_dtx.specs.Table.{Table, find_txn, horizon_of}
 use Rattle.gx_dtx.specs.declared.phase.Phase.{Phase as Status}
@@ -34,13 +35,16 @@ use Rattle.gx_rules.specs.AtCoordinator as coordinator
 use Rattle.gx_rules.specs.AtCoordinator.{coord_can, coord_rule}
 use Rattle.gx_rules.specs.AtSegment.{commits, if_fits, on_abort, on_commit, on_commit_prepared, on_event, on_exec, on_forget, on_message, on_prepare, once, promises, raised, repeats, seg_rule, takes, unless_below, was_prepared}
 use Rattle.gx_rules.specs.Coordinators.{CoordTurn, Work, no_work}
-use Rattle.gx_rules.specs.Fits.{fits_exec}
+use Rattle.gx_rules.specs.Fits.{fits_exec, is_waiting}
 use Rattle.gx_rules.specs.Machine.{Letter, World, coord_did, new_world, seg_did, world_of}
 use Rattle.gx_rules.specs.Segments.{Local, Phase, Seg, SegTurn, local_of, stays, tells_kept}
 use Rattle.gx_rules.specs.Segments.Phase.{Aborted, Committed, Forgotten, Prepared, Reading, Writing}
 use Rattle.gx_rules.specs.Sending.{clock_after}
 use Rattle.gx_rules.specs.Shown.{shown}
-use Rattle.gx_rules.specs.Slices.{Moved, first_fault, inserts_row, runs_slice, selects}
+use Rattle.gx_rules.specs.Slices.{Moved, first_fault, inserts_row, runs_slice, selects, requests, runs_locked, slice_lock, starts_slice, suspends}
+use Rattle.gx_rules.specs.Locks.{with_hold}
+use Rattle.gx_waits.specs.declared.claim.Claim.{Claim}
+use Rattle.gx_locks.specs.Locks.{is_free}
 use Rattle.gx_law_order.proofs.Lists.{Each, each_weaker}
 use Rattle.gx_law_order.proofs.Past.{there-drawn}
 use Rattle.gx_law_order.proofs.Stages.{gx}
@@ -254,29 +258,40 @@ module _ (limit : ℕ) where
       by_test true = by-stays s (tells_kept s g l.answer) u (kept-stays s g l.answer)
       by_test false = u
 
-  takes-under : (s : Seg) (g : Gxid) (c : Cid) (x : Option Snapshot) (h : Gxid) (y : Slice) (l : Local) → s.horizon.0 ≤ limit → h.0 ≤ limit → Under (takes s g c x h y l)
-  takes-under s g c x h y l u m = by_test (nat_lt l.last c.0)
+  starts-under : (s : Seg) (g : Gxid) (c : Cid) (level : Level) (x : Option Snapshot) (y : Slice) (o : Option Claim) → s.horizon.0 ≤ limit → Under (requests s g c level x y o)
+  starts-under s g c level x y None u = by-stays s (runs_slice s g c x y) u (slice-stays s g c x y)
+  starts-under s g c level x y (Some wanted) u = by_test (is_free s.locks.holds wanted)
     where
-      by_test : (b : Bool) → Under (if b then runs_slice (raised s h) g c x y else repeats s g c l)
-      by_test true = by-stays (raised s h) (runs_slice (raised s h) g c x y) (raised-under s h u m) (slice-stays (raised s h) g c x y)
+      held : Seg
+      held = record s { locks = with_hold s.locks wanted }
+
+      by_test : (b : Bool) → Under (if b then runs_locked s g c x y wanted else suspends s g c level x y wanted)
+      by_test true = by-stays held (runs_slice held g c x y) u (slice-stays held g c x y)
+      by_test false = u
+
+  takes-under : (s : Seg) (g : Gxid) (c : Cid) (level : Level) (x : Option Snapshot) (h : Gxid) (y : Slice) (l : Local) → s.horizon.0 ≤ limit → h.0 ≤ limit → Under (takes s g c level x h y l)
+  takes-under s g c level x h y l u m = by_test (nat_lt l.last c.0)
+    where
+      by_test : (b : Bool) → Under (if b then starts_slice (raised s h) g c level x y else repeats s g c l)
+      by_test true = starts-under (raised s h) g c level x y (slice_lock g y) (raised-under s h u m)
       by_test false = repeats-under s g c l u
 
-  exec-under : (s : Seg) (g : Gxid) (c : Cid) (x : Option Snapshot) (h : Gxid) (y : Slice) (l : Local) (p : Phase) → s.horizon.0 ≤ limit → h.0 ≤ limit → Under (on_exec s g c x h y l p)
-  exec-under s g c x h y l Reading u m = takes-under s g c x h y l u m
-  exec-under s g c x h y l Writing u m = takes-under s g c x h y l u m
-  exec-under s g c x h y l Prepared u m = repeats-under s g c l u
-  exec-under s g c x h y l Committed u m = repeats-under s g c l u
-  exec-under s g c x h y l (Forgotten z) u m = u
-  exec-under s g c x h y l Aborted u m = u
+  exec-under : (s : Seg) (g : Gxid) (c : Cid) (level : Level) (x : Option Snapshot) (h : Gxid) (y : Slice) (l : Local) (p : Phase) → s.horizon.0 ≤ limit → h.0 ≤ limit → Under (on_exec s g c level x h y l p)
+  exec-under s g c level x h y l Reading u m = takes-under s g c level x h y l u m
+  exec-under s g c level x h y l Writing u m = takes-under s g c level x h y l u m
+  exec-under s g c level x h y l Prepared u m = repeats-under s g c l u
+  exec-under s g c level x h y l Committed u m = repeats-under s g c l u
+  exec-under s g c level x h y l (Forgotten z) u m = u
+  exec-under s g c level x h y l Aborted u m = u
 
   fits-under : (s : Seg) (b : Bool) (t : SegTurn) → s.horizon.0 ≤ limit → Under t → Under (if_fits s b t)
   fits-under s true t l u = u
   fits-under s false t l u = l
 
   pub message-under : (script : Script) (s : Seg) (fails : Bool) (m : Message) → s.horizon.0 ≤ limit → IsLowIn (gx limit) m → Under (on_message script s fails m)
-  message-under script s fails (message.Exec g c level x h y) l u = unless-under s g _ l (fits-under s (fits_exec script s g c x h y) _ l (exec-under s g c x h y (local_of s g) (local_of s g).phase l u))
-  message-under script s fails (message.Prepare g) l u = unless-under s g _ l (by-stays s (on_prepare s g fails (local_of s g) (local_of s g).phase) l (prepare-stays s g fails (local_of s g) (local_of s g).phase))
-  message-under script s fails (message.Commit g) l u = unless-under s g _ l (by-stays s (on_commit s g fails (local_of s g) (local_of s g).phase) l (commit-stays s g fails (local_of s g) (local_of s g).phase))
+  message-under script s fails (message.Exec g c level x h y) l u = unless-under s g _ l (fits-under s (fits_exec script s g c x h y) _ l (exec-under s g c level x h y (local_of s g) (local_of s g).phase l u))
+  message-under script s fails (message.Prepare g) l u = unless-under s g _ l (fits-under s (not (is_waiting (local_of s g))) _ l (by-stays s (on_prepare s g fails (local_of s g) (local_of s g).phase) l (prepare-stays s g fails (local_of s g) (local_of s g).phase)))
+  message-under script s fails (message.Commit g) l u = unless-under s g _ l (fits-under s (not (is_waiting (local_of s g))) _ l (by-stays s (on_commit s g fails (local_of s g) (local_of s g).phase) l (commit-stays s g fails (local_of s g) (local_of s g).phase)))
   message-under script s fails (message.CommitPrepared g) l u = unless-under s g _ l (by-stays s (on_commit_prepared s g fails (local_of s g) (local_of s g).phase) l (finish-stays s g fails (local_of s g) (local_of s g).phase))
   message-under script s fails (message.Abort g) l u = unless-under s g _ l (by-stays s (on_abort s g (local_of s g) (local_of s g).phase) l (abort-stays s g (local_of s g) (local_of s g).phase))
   message-under script s fails (message.Forget g) l u = unless-under s g _ l (by-stays s (on_forget s g (local_of s g) (local_of s g).phase) l (forget-stays s g (local_of s g) (local_of s g).phase))
@@ -315,7 +330,7 @@ module _ (script : Script) (w : World) (k : Knows script w) (v : Holds script w)
       }
     where
       does-it : Rattle.gx_law_commit.proofs.Handled.Does envelope.message (known_at w.coord (marks_in w.steps) i g) (w.segs i) i g (k.well.names i) (is_writer (marks_in w.steps) (gx g) (at i)) (prepared_count (marks_in w.steps) (at i) (gx g)) (local_count (marks_in w.steps) (at i) (gx g)) (v.stands.pairs i g) (on_event script (w.segs i) (here.Deliver from envelope) fails)
-      does-it = handled script fails (known_at w.coord (marks_in w.steps) i g) (w.segs i) i (k.well.names i) (is_writer (marks_in w.steps) (gx g) (at i)) (prepared_count (marks_in w.steps) (at i) (gx g)) (local_count (marks_in w.steps) (at i) (gx g)) envelope.message (v.stands.pairs i g) said
+      does-it = handled script fails (known_at w.coord (marks_in w.steps) i g) (w.segs i) (k.well.calm i).locks i (k.well.names i) (is_writer (marks_in w.steps) (gx g) (at i)) (prepared_count (marks_in w.steps) (at i) (gx g)) (local_count (marks_in w.steps) (at i) (gx g)) envelope.message (v.stands.pairs i g) said
 
       by_test : (j : ℕ) (b : Bool) → eqb j i ≡ b → (let s : Seg = if b then (seg_rule script (w.segs i) (here.Deliver from envelope) fails).seg else w.segs j in s).horizon.0 ≤ (horizon_of w.coord.table).0
       by_test j true f = message-under (horizon_of w.coord.table).0 script (w.segs i) fails envelope.message (q.segs i) low
@@ -333,7 +348,7 @@ module _ (script : Script) (some : 1 ≤ script.segments) where
   pub world-lows : (es : List (Event × Bool)) → Lows (world_of script es)
   world-lows =
       world-keeps script some Lows (λ w k v q e x fails ok d. coord-low script w k v q e x fails ok d)
-      (λ w k v q e x fails i place h. by-message script w e i (λ x. Lows (seg_did w (at i) e (seg_rule script (w.segs i) x fails)))
+      (λ w k v q e x fails i place h. by-message script w e i (k.well.calm i) (λ x. Lows (seg_did w (at i) e (seg_rule script (w.segs i) x fails)))
       (λ from envelope d.
       let f = given-is w e i from envelope d (LetterLow w.coord.table w.coord.works) q.sent in
       seg-low script w k v q e fails i from envelope d.said (subst (λ (z : Envelope). IsLowIn (horizon_of w.coord.table) z.message) f.told f.is.0)) x h)

@@ -203,7 +203,7 @@ module _ (w0 : World) (node : Node) (g : Gxid) (c : Cid) (place : ℕ) where
     all-stay : (es : List (Event × Bool)) (w : World) → Knows script w → Holds script w → Stayed w → Stayed (after script w es)
     all-stay es w k v s =
         keeps-after script some Stayed coord-stays
-        (λ w k v s e x fails i place h. by-message script w e i (λ x. Stayed (seg_did w (at i) e (seg_rule script (w.segs i) x fails))) (λ from envelope d. seg-stays w k v s e fails i from envelope place d) x h)
+        (λ w k v s e x fails i place h. by-message script w e i (k.well.calm i) (λ x. Stayed (seg_did w (at i) e (seg_rule script (w.segs i) x fails))) (λ from envelope d. seg-stays w k v s e fails i from envelope place d) x h)
         es w k v s
 
 module _ (script : Script) (some : 1 ≤ script.segments) (es later : List (Event × Bool)) where

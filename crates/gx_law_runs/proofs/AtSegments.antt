@@ -1,6 +1,6 @@
 -- What a segment's journal fails to take.
-use Rattle.std.proofs.Common.{◌==◌, Bool, true, false, if◌then◌else◌, List, [], ◌∷◌, nat_lt, refl}
-use Rattle.std.specs.Prelude.{fold, None, Option, Some}
+use Rattle.std.proofs.Common.{◌==◌, Bool, true, false, if◌then◌else◌, List, [], ◌∷◌, nat_lt, refl, not}
+use Rattle.std.specs.Prelude.{fold, None, Option, Some, map}
 use Rattle.gx_ids.specs.declared.ids.Cid.{Cid}
 use Rattle.gx_ids.specs.declared.ids.Gxid.{Gxid}
 use Rattle.gx_ids.specs.declared.ids.Table.{Table}
@@ -9,20 +9,26 @@ use Rattle.gx_tree.specs.declared.row.KeyedRow.{KeyedRow}
 use Rattle.gx_tree.specs.declared.slice.Slice.{Slice}
 use Rattle.gx_tree.specs.declared.slice.Slice.TheVariants as slice
 use Rattle.gx_dsnap.specs.Gxids.{is_below}
+use Rattle.gx_tree.specs.declared.stmt.Level.{Level}
 use Rattle.gx_dsnap.specs.declared.snapshot.Snapshot.{Snapshot}
+use Rattle.gx_waits.specs.declared.claim.Claim.{Claim}
+use Rattle.gx_locks.specs.Locks.{is_free, wait_of}
 use Rattle.gx_meaning.specs.declared.fault.ArithFault.{ArithFault}
 use Rattle.gx_msg.specs.declared.message.Message.{Message}
 use Rattle.gx_msg.specs.declared.message.Message.TheVariants as message
 use Rattle.gx_msg.specs.declared.reply.Reply.{Reply}
+use Rattle.gx_msg.specs.declared.reply.Reply.TheVariants as reply
+use Rattle.gx_ids.specs.declared.ids.Node.{Node}
 use Rattle.gx_script.specs.declared.Script.{Script}
 use Rattle.gx_store.specs.declared.node.NodeEvent.{NodeEvent}
 use Rattle.gx_store.specs.declared.node.NodeEvent.TheVariants as here
-use Rattle.gx_rules.specs.AtSegment.{commits, finishes, if_fits, on_abort, on_commit, on_commit_prepared, on_event, on_exec, on_forget, on_message, on_prepare, once, promises, raised, repeats, seg_rule, takes, unless_below, was_prepared}
-use Rattle.gx_rules.specs.Fits.{fits_exec}
-use Rattle.gx_rules.specs.Segments.{Local, Phase, Seg, SegTurn, local_of, stays, tells_kept}
+use Rattle.gx_rules.specs.AtSegment.{commits, ends, finishes, if_fits, on_abort, on_commit, on_commit_prepared, on_event, on_exec, on_forget, on_message, on_prepare, once, promises, raised, repeats, resumes, seg_rule, takes, unless_below, was_prepared}
+use Rattle.gx_rules.specs.Fits.{fits_exec, is_waiting}
+use Rattle.gx_rules.specs.Locks.{has_there, release_mark, release_marks, with_hold}
+use Rattle.gx_rules.specs.Segments.{Local, Phase, Seg, SegTurn, Suspended, has_committed, local_of, stays, tells_kept}
 use Rattle.gx_rules.specs.Segments.Phase.{Reading, Writing, Prepared, Committed, Forgotten, Aborted}
 use Rattle.gx_rules.specs.Shown.{shown}
-use Rattle.gx_rules.specs.Slices.{Moved, first_fault, inserts_row, runs_slice, selects}
+use Rattle.gx_rules.specs.Slices.{Moved, first_fault, inserts_row, requests, runs_locked, runs_slice, selects, slice_lock, starts_slice, suspends}
 use Rattle.gx_law_runs.proofs.Marks.{MayFail, NoFailures, may-none, may-sent, none-append}
 
 -- SLICES
@@ -38,6 +44,24 @@ slice-none : (s : Seg) (g : Gxid) (c : Cid) (snapshot : Option Snapshot) (x : Sl
 slice-none s g c (Some snapshot) (slice.Select q) = select-none s g c q (shown s snapshot g c q.table) (first_fault q.cond (shown s snapshot g c q.table))
 slice-none s g c (Some snapshot) (slice.Insert table rows) = rows-none g c table rows (record { seg = s; marks = [] }) tt
 slice-none s g c snapshot x = tt
+
+-- the marks of locks fail nothing
+starts-none : (s : Seg) (g : Gxid) (c : Cid) (level : Level) (snapshot : Option Snapshot) (x : Slice) (o : Option Claim) → NoFailures (requests s g c level snapshot x o).marks
+starts-none s g c level snapshot x None = slice-none s g c snapshot x
+starts-none s g c level snapshot x (Some wanted) = by_test (is_free s.locks.holds wanted)
+  where
+    by_test : (b : Bool) → NoFailures (let t : SegTurn = if b then runs_locked s g c snapshot x wanted else suspends s g c level snapshot x wanted in t).marks
+    by_test true = slice-none (record s { locks = with_hold s.locks wanted }) g c snapshot x
+    by_test false = tt
+
+released-none : (node : Node) (claims : List Claim) → NoFailures (map (release_mark node) claims)
+released-none node [] = tt
+released-none node (claim ∷ claims) = released-none node claims
+
+resumed-none : (s : Seg) (g : Gxid) (w : Option Claim) (o : Option Suspended) → NoFailures (resumes s g w o).marks
+resumed-none s g (Some wanted) (Some x) = slice-none _ g x.cid x.snapshot x.slice
+resumed-none s g (Some wanted) None = tt
+resumed-none s g None o = tt
 
 -- MESSAGES
 module _ (s : Seg) (g : Gxid) (fails : Bool) where
@@ -66,16 +90,19 @@ module _ (s : Seg) (g : Gxid) (fails : Bool) where
   repeat : (c : Cid) (l : Local) → May (repeats s g c l)
   repeat c l = both (c.0 == l.last) (tells_kept s g l.answer) (stays s) (kept l.answer) tt
 
-  take : (c : Cid) (snapshot : Option Snapshot) (h : Gxid) (x : Slice) (l : Local) → May (takes s g c snapshot h x l)
-  take c snapshot h x l = both (nat_lt l.last c.0) (runs_slice (raised s h) g c snapshot x) (repeats s g c l) (may-none s.node fails (runs_slice (raised s h) g c snapshot x).marks (slice-none (raised s h) g c snapshot x)) (repeat c l)
+  take : (c : Cid) (level : Level) (snapshot : Option Snapshot) (h : Gxid) (x : Slice) (l : Local) → May (takes s g c level snapshot h x l)
+  take c level snapshot h x l = both (nat_lt l.last c.0) (starts_slice (raised s h) g c level snapshot x) (repeats s g c l) (may-none s.node fails (starts_slice (raised s h) g c level snapshot x).marks (starts-none (raised s h) g c level snapshot x (slice_lock g x))) (repeat c l)
 
-  exec : (c : Cid) (snapshot : Option Snapshot) (h : Gxid) (x : Slice) (l : Local) (p : Phase) → May (on_exec s g c snapshot h x l p)
-  exec c snapshot h x l Reading = take c snapshot h x l
-  exec c snapshot h x l Writing = take c snapshot h x l
-  exec c snapshot h x l Prepared = repeat c l
-  exec c snapshot h x l Committed = repeat c l
-  exec c snapshot h x l (Forgotten b) = tt
-  exec c snapshot h x l Aborted = tt
+  ended : (l : Local) (p : Phase) (r : Reply) → May (ends s g l p r)
+  ended l p r = may-none s.node fails (release_marks s.node s.locks g) (released-none s.node (has_there s.locks g))
+
+  exec : (c : Cid) (level : Level) (snapshot : Option Snapshot) (h : Gxid) (x : Slice) (l : Local) (p : Phase) → May (on_exec s g c level snapshot h x l p)
+  exec c level snapshot h x l Reading = take c level snapshot h x l
+  exec c level snapshot h x l Writing = take c level snapshot h x l
+  exec c level snapshot h x l Prepared = repeat c l
+  exec c level snapshot h x l Committed = repeat c l
+  exec c level snapshot h x l (Forgotten b) = tt
+  exec c level snapshot h x l Aborted = tt
 
 -- these append an item
 promise : (s : Seg) (g : Gxid) (fails : Bool) (l : Local) → MayFail s.node fails (promises s g fails l).marks
@@ -111,21 +138,26 @@ module _ (s : Seg) (g : Gxid) (fails : Bool) where
   commit-prepared l p = tt
 
   abort : (l : Local) (p : Phase) → May s g fails (on_abort s g l p)
-  abort l Reading = tt
-  abort l Writing = tt
-  abort l Prepared = tt
+  abort l Reading = ended s g fails l Aborted reply.Aborted
+  abort l Writing = ended s g fails l Aborted reply.Aborted
+  abort l Prepared = ended s g fails l Aborted reply.Aborted
   abort l p = tt
 
   forget : (l : Local) (p : Phase) → May s g fails (on_forget s g l p)
   forget l Aborted = tt
   forget l (Forgotten b) = tt
-  forget l p = tt
+  forget l Reading = ended s g fails l (Forgotten (has_committed l.phase)) reply.Forgotten
+  forget l Writing = ended s g fails l (Forgotten (has_committed l.phase)) reply.Forgotten
+  forget l Prepared = ended s g fails l (Forgotten (has_committed l.phase)) reply.Forgotten
+  forget l Committed = ended s g fails l (Forgotten (has_committed l.phase)) reply.Forgotten
 
 told : (script : Script) (s : Seg) (fails : Bool) (m : Message) → MayFail s.node fails (on_message script s fails m).marks
 told script s fails (message.Exec g c level snapshot h x) =
-    unless s g fails (if_fits s (fits_exec script s g c snapshot h x) (on_exec s g c snapshot h x (local_of s g) (local_of s g).phase)) (fitting s g fails (fits_exec script s g c snapshot h x) (on_exec s g c snapshot h x (local_of s g) (local_of s g).phase) (exec s g fails c snapshot h x (local_of s g) (local_of s g).phase))
-told script s fails (message.Prepare g) = unless s g fails (on_prepare s g fails (local_of s g) (local_of s g).phase) (prepare s g fails (local_of s g) (local_of s g).phase)
-told script s fails (message.Commit g) = unless s g fails (on_commit s g fails (local_of s g) (local_of s g).phase) (commit s g fails (local_of s g) (local_of s g).phase)
+    unless s g fails (if_fits s (fits_exec script s g c snapshot h x) (on_exec s g c level snapshot h x (local_of s g) (local_of s g).phase)) (fitting s g fails (fits_exec script s g c snapshot h x) (on_exec s g c level snapshot h x (local_of s g) (local_of s g).phase) (exec s g fails c level snapshot h x (local_of s g) (local_of s g).phase))
+told script s fails (message.Prepare g) =
+    unless s g fails (if_fits s (not (is_waiting (local_of s g))) (on_prepare s g fails (local_of s g) (local_of s g).phase)) (fitting s g fails (not (is_waiting (local_of s g))) (on_prepare s g fails (local_of s g) (local_of s g).phase) (prepare s g fails (local_of s g) (local_of s g).phase))
+told script s fails (message.Commit g) =
+    unless s g fails (if_fits s (not (is_waiting (local_of s g))) (on_commit s g fails (local_of s g) (local_of s g).phase)) (fitting s g fails (not (is_waiting (local_of s g))) (on_commit s g fails (local_of s g) (local_of s g).phase) (commit s g fails (local_of s g) (local_of s g).phase))
 told script s fails (message.CommitPrepared g) = unless s g fails (on_commit_prepared s g fails (local_of s g) (local_of s g).phase) (commit-prepared s g fails (local_of s g) (local_of s g).phase)
 told script s fails (message.Abort g) = unless s g fails (on_abort s g (local_of s g) (local_of s g).phase) (abort s g fails (local_of s g) (local_of s g).phase)
 told script s fails (message.Forget g) = unless s g fails (on_forget s g (local_of s g) (local_of s g).phase) (forget s g fails (local_of s g) (local_of s g).phase)
@@ -133,6 +165,7 @@ told script s fails m = tt
 
 event-may : (script : Script) (s : Seg) (x : NodeEvent) (fails : Bool) → MayFail s.node fails (on_event script s x fails).marks
 event-may script s (here.Deliver from envelope) fails = told script s fails envelope.message
+event-may script s (here.Resume g) fails = may-none s.node fails (resumes s g (wait_of s.locks g) (local_of s g).suspended).marks (resumed-none s g (wait_of s.locks g) (local_of s g).suspended)
 event-may script s x fails = tt
 
 pub segment-may : (script : Script) (s : Seg) (x : NodeEvent) (fails : Bool) → MayFail s.node fails (seg_rule script s x fails).marks

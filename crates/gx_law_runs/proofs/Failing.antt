@@ -1,5 +1,5 @@
 -- The marks of a turn tell whether the journal failed, where that makes a difference.
-use Rattle.std.proofs.Common.{◌≡◌, ◌⊎◌, inl, inr, ℕ, List, [], ◌∷◌, ◌++◌, Option, Some, None, Bool, true, false, refl, sym, ap, ◌∙◌, if◌then◌else◌}
+use Rattle.std.proofs.Common.{◌≡◌, ◌⊎◌, inl, inr, ℕ, List, [], ◌∷◌, ◌++◌, Option, Some, None, Bool, true, false, refl, sym, ap, ◌∙◌, if◌then◌else◌, not}
 use Rattle.gx_ids.specs.declared.ids.Gxid.{Gxid}
 use Rattle.gx_ids.specs.declared.ids.Node.{Node}
 use Rattle.gx_dtx.specs.Nodes.{without}
@@ -19,6 +19,7 @@ use Rattle.gx_store.specs.declared.mark.Mark.{Mark}
 use Rattle.gx_store.specs.declared.mark.Mark.TheVariants as mark
 use Rattle.gx_store.specs.declared.node.NodeEvent.{NodeEvent}
 use Rattle.gx_store.specs.declared.node.NodeEvent.TheVariants as here
+use Rattle.gx_rules.specs.Fits.{is_waiting}
 use Rattle.gx_rules.specs.AtCoordinator as coordinator
 use Rattle.gx_rules.specs.AtSegment as segment
 use Rattle.gx_rules.specs.Coordinators.{Coord, CoordTurn}
@@ -61,6 +62,10 @@ seg-once : (s : Seg) (g : Gxid) (vote : Option Reply) (turn : Bool → SegTurn) 
 seg-once s g None turn t = t
 seg-once s g (Some vote) turn t = inl refl
 
+seg-fits : (b : Bool) (s : Seg) (turn : Bool → SegTurn) → SegTells turn → SegTells (λ fails. segment.if_fits s b (turn fails))
+seg-fits true s turn t = t
+seg-fits false s turn t = inl refl
+
 on-prepare : (s : Seg) (g : Gxid) (l : Local) (p : Phase) → SegTells (λ fails. segment.on_prepare s g fails l p)
 on-prepare s g l Reading = seg-once s g l.vote (λ fails. segment.promises s g fails l) (inr (refl, refl))
 on-prepare s g l Writing = seg-once s g l.vote (λ fails. segment.promises s g fails l) (inr (refl, refl))
@@ -81,8 +86,12 @@ on-commit-prepared s g l (Forgotten true) = inl refl
 on-commit-prepared s g l p = inl refl
 
 seg-message : (script : Script) (s : Seg) (told : Message) → SegTells (λ fails. segment.on_message script s fails told)
-seg-message script s (message.Prepare g) = seg-if _ s (λ fails. segment.on_prepare s g fails (s.locals g.0) (s.locals g.0).phase) (on-prepare s g (s.locals g.0) (s.locals g.0).phase)
-seg-message script s (message.Commit g) = seg-if _ s (λ fails. segment.on_commit s g fails (s.locals g.0) (s.locals g.0).phase) (on-commit s g (s.locals g.0) (s.locals g.0).phase)
+seg-message script s (message.Prepare g) =
+    seg-if _ s (λ fails. segment.if_fits s (not (is_waiting (s.locals g.0))) (segment.on_prepare s g fails (s.locals g.0) (s.locals g.0).phase))
+    (seg-fits (not (is_waiting (s.locals g.0))) s (λ fails. segment.on_prepare s g fails (s.locals g.0) (s.locals g.0).phase) (on-prepare s g (s.locals g.0) (s.locals g.0).phase))
+seg-message script s (message.Commit g) =
+    seg-if _ s (λ fails. segment.if_fits s (not (is_waiting (s.locals g.0))) (segment.on_commit s g fails (s.locals g.0) (s.locals g.0).phase))
+    (seg-fits (not (is_waiting (s.locals g.0))) s (λ fails. segment.on_commit s g fails (s.locals g.0) (s.locals g.0).phase) (on-commit s g (s.locals g.0) (s.locals g.0).phase))
 seg-message script s (message.CommitPrepared g) = seg-if _ s (λ fails. segment.on_commit_prepared s g fails (s.locals g.0) (s.locals g.0).phase) (on-commit-prepared s g (s.locals g.0) (s.locals g.0).phase)
 seg-message script s told = inl refl
 

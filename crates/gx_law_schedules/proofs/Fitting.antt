@@ -1,5 +1,5 @@
 -- What a segment answers is what it keeps, or says of no rows, or has a part that is right for the slice.
-use Rattle.std.proofs.Common.{◌≡◌, ℕ, List, [], ◌∷◌, Option, Some, None, Bool, true, false, refl, sym, subst, ap, ◌∙◌, nat_lt, ◌==◌, if◌then◌else◌, eqb}
+use Rattle.std.proofs.Common.{◌≡◌, ℕ, List, [], ◌∷◌, Option, Some, None, Bool, true, false, not, refl, sym, subst, ap, ◌∙◌, nat_lt, ◌==◌, if◌then◌else◌, eqb}
 use Rattle.std.proofs.lemmas.Bool.{eqb-true}
 use Rattle.std.specs.Prelude.{filter, fold, length}
 use Rattle.gx_ids.specs.declared.ids.Cid.{Cid}
@@ -9,8 +9,11 @@ use Rattle.gx_tree.specs.declared.query.Query.{Query}
 use Rattle.gx_tree.specs.declared.row.KeyedRow.{KeyedRow}
 use Rattle.gx_tree.specs.declared.slice.Slice.{Slice}
 use Rattle.gx_tree.specs.declared.slice.Slice.TheVariants as slice
+use Rattle.gx_tree.specs.declared.stmt.Level.{Level}
 use Rattle.gx_dsnap.specs.Gxids.{is_below}
 use Rattle.gx_dsnap.specs.declared.snapshot.Snapshot.{Snapshot}
+use Rattle.gx_waits.specs.declared.claim.Claim.{Claim}
+use Rattle.gx_locks.specs.Locks.{Locks, is_free}
 use Rattle.gx_meaning.specs.declared.fault.ArithFault.{ArithFault}
 use Rattle.gx_msg.specs.declared.item.JournalItem.{JournalItem}
 use Rattle.gx_msg.specs.declared.message.Message.{Message}
@@ -20,12 +23,13 @@ use Rattle.gx_msg.specs.declared.reply.Reply.TheVariants as reply
 use Rattle.gx_msg.specs.declared.message.Out.{Out}
 use Rattle.gx_script.specs.declared.Script.{Script}
 use Rattle.gx_store.specs.declared.mark.Mark.{Mark}
-use Rattle.gx_rules.specs.AtSegment.{changes, commits, finishes, if_fits, on_abort, on_commit, on_commit_prepared, on_event, on_exec, on_forget, on_message, on_prepare, once, promises, raised, repeats, takes, unless_below, was_prepared}
+use Rattle.gx_rules.specs.AtSegment.{changes, commits, ends, finishes, if_fits, on_abort, on_commit, on_commit_prepared, on_exec, on_forget, on_message, on_prepare, once, promises, raised, repeats, takes, unless_below, was_prepared}
 use Rattle.gx_rules.specs.Segments.{Local, Phase, Seg, SegTurn, local_of, stays, tells, tells_kept}
 use Rattle.gx_rules.specs.Segments.Phase.{Aborted, Committed, Forgotten, Prepared, Reading, Writing}
-use Rattle.gx_rules.specs.Slices.{Moved, first_fault, inserted, inserts, inserts_row, runs_slice, selects}
+use Rattle.gx_rules.specs.Slices.{Moved, first_fault, inserted, inserts, inserts_row, runs_slice, selects, requests, slice_lock}
 use Rattle.gx_rules.specs.Shown.{shown}
-use Rattle.gx_rules.specs.Fits.{fits_exec}
+use Rattle.gx_rules.specs.Fits.{fits_exec, is_waiting}
+use Rattle.gx_rules.specs.Locks.{with_hold}
 use Rattle.gx_law_order.proofs.Lists.{Each}
 use Rattle.gx_tree.specs.declared.part.Part.TheVariants.{Rows}
 use Rattle.gx_meaning.specs.Answer.{keeps, part_of}
@@ -88,9 +92,13 @@ module _ (P : ℕ → Reply → Type 0) (partless : (g : ℕ) (r : Reply) → Is
       answered : (t : Seg) (ms : List Mark) (r : Reply) → ((h : ℕ) → LocalSo h (t.locals h)) → P g.0 r → TurnSo (Rattle.gx_rules.specs.Slices.answers t g c ms r)
       answered t ms r old p = record { locals = with-so t.locals old g.0 (record (local_of t g) { last = c.0; answer = Some r }) (record { answer = p; vote = (old g.0).vote }); outs = (p, tt) }
 
-      select : (h : Gxid) (q : Query) (rows : List KeyedRow) (f : Option (KeyedRow × ArithFault)) → x ≡ slice.Select q → TurnSo (selects (raised s h) g c q rows f)
-      select h q rows None e = answered (raised s h) [] _ so (right _ 0 (part_of q (filter (keeps q.cond) rows)) (ap (λ (y : Slice). is_right_part y (part_of q (filter (keeps q.cond) rows))) e ∙ part-right q (filter (keeps q.cond) rows)))
-      select h q rows (Some f) e = answered (raised s h) _ _ so (partless g.0 (reply.Failed c (Rattle.gx_rules.specs.Slices.cause_of f.1)) tt)
+      -- a segment with another horizon or other locks
+      abbrev raised_with : Gxid → Locks → Seg
+      raised_with h locks = record (raised s h) { locks = locks }
+
+      select : (h : Gxid) (locks : Locks) (q : Query) (rows : List KeyedRow) (f : Option (KeyedRow × ArithFault)) → x ≡ slice.Select q → TurnSo (selects (raised_with h locks) g c q rows f)
+      select h locks q rows None e = answered (raised_with h locks) [] _ so (right _ 0 (part_of q (filter (keeps q.cond) rows)) (ap (λ (y : Slice). is_right_part y (part_of q (filter (keeps q.cond) rows))) e ∙ part-right q (filter (keeps q.cond) rows)))
+      select h locks q rows (Some f) e = answered (raised_with h locks) _ _ so (partless g.0 (reply.Failed c (Rattle.gx_rules.specs.Slices.cause_of f.1)) tt)
 
       insert-rows : (table : Table) (rows : List KeyedRow) (m : Moved) → ((h : ℕ) → LocalSo h (m.seg.locals h)) → (h : ℕ) → LocalSo h ((fold (inserts_row g c table) m rows).seg.locals h)
       insert-rows table [] m f = f
@@ -99,21 +107,28 @@ module _ (P : ℕ → Reply → Type 0) (partless : (g : ℕ) (r : Reply) → Is
       insert : (table : Table) (rows : List KeyedRow) (m : Moved) → ((h : ℕ) → LocalSo h (m.seg.locals h)) → x ≡ slice.Insert table rows → TurnSo (inserts g c (length rows) m)
       insert table rows m f e = answered m.seg m.marks _ f (right _ (length rows) (Rows []) (ap (λ (y : Slice). is_right_part y (Rows [])) e))
 
-      slice-runs : (h : Gxid) (snapshot : Option Snapshot) (y : Slice) → x ≡ y → TurnSo (runs_slice (raised s h) g c snapshot y)
-      slice-runs h (Some snapshot) (slice.Select q) e = select h q (shown (raised s h) snapshot g c q.table) (first_fault q.cond (shown (raised s h) snapshot g c q.table)) e
-      slice-runs h (Some snapshot) (slice.Insert table rows) e = insert table rows (inserted (raised s h) g c table rows) (insert-rows table rows (record { seg = raised s h; marks = [] }) so) e
-      slice-runs h snapshot y e = record { locals = so; outs = tt }
+      slice-runs : (h : Gxid) (locks : Locks) (snapshot : Option Snapshot) (y : Slice) → x ≡ y → TurnSo (runs_slice (raised_with h locks) g c snapshot y)
+      slice-runs h locks (Some snapshot) (slice.Select q) e = select h locks q (shown (raised_with h locks) snapshot g c q.table) (first_fault q.cond (shown (raised_with h locks) snapshot g c q.table)) e
+      slice-runs h locks (Some snapshot) (slice.Insert table rows) e = insert table rows (inserted (raised_with h locks) g c table rows) (insert-rows table rows (record { seg = raised_with h locks; marks = [] }) so) e
+      slice-runs h locks snapshot y e = record { locals = so; outs = tt }
 
-      take : (snapshot : Option Snapshot) (h : Gxid) → TurnSo (takes s g c snapshot h x (local_of s g))
-      take snapshot h = both (nat_lt (local_of s g).last c.0) _ _ (slice-runs h snapshot x refl) (repeat g c)
+      starts : (level : Level) (snapshot : Option Snapshot) (h : Gxid) (o : Option Claim) → TurnSo (requests (raised s h) g c level snapshot x o)
+      starts level snapshot h None = slice-runs h s.locks snapshot x refl
+      starts level snapshot h (Some wanted) = both (is_free s.locks.holds wanted) _ _ (record { locals = run.locals; outs = run.outs }) (record { locals = with-so s.locals so g.0 _ (record { answer = tt; vote = (so g.0).vote }); outs = tt })
+        where
+          run : TurnSo (runs_slice (raised_with h (with_hold s.locks wanted)) g c snapshot x)
+          run = slice-runs h (with_hold s.locks wanted) snapshot x refl
 
-      exec : (snapshot : Option Snapshot) (h : Gxid) (p : Phase) → TurnSo (on_exec s g c snapshot h x (local_of s g) p)
-      exec snapshot h Reading = take snapshot h
-      exec snapshot h Writing = take snapshot h
-      exec snapshot h Prepared = repeat g c
-      exec snapshot h Committed = repeat g c
-      exec snapshot h (Forgotten b) = stay
-      exec snapshot h Aborted = stay
+      take : (level : Level) (snapshot : Option Snapshot) (h : Gxid) → TurnSo (takes s g c level snapshot h x (local_of s g))
+      take level snapshot h = both (nat_lt (local_of s g).last c.0) _ _ (starts level snapshot h (slice_lock g x)) (repeat g c)
+
+      exec : (level : Level) (snapshot : Option Snapshot) (h : Gxid) (p : Phase) → TurnSo (on_exec s g c level snapshot h x (local_of s g) p)
+      exec level snapshot h Reading = take level snapshot h
+      exec level snapshot h Writing = take level snapshot h
+      exec level snapshot h Prepared = repeat g c
+      exec level snapshot h Committed = repeat g c
+      exec level snapshot h (Forgotten b) = stay
+      exec level snapshot h Aborted = stay
 
     -- THE STATUS
     abbrev own : Gxid → Local
@@ -163,25 +178,22 @@ module _ (P : ℕ → Reply → Type 0) (partless : (g : ℕ) (r : Reply) → Is
     commit-prepared g fails (Forgotten false) = stay
     commit-prepared g fails Aborted = stay
 
-    abort-one : (g : Gxid) → TurnSo (Rattle.gx_rules.specs.AtSegment.aborts s g (own g))
-    abort-one g = changed g _ _ reply.Aborted _ (so-by g (own g).vote _ refl refl (so g.0).vote) (partless g.0 reply.Aborted tt)
+    ended : (g : Gxid) (p : Phase) (r : Reply) → P g.0 r → TurnSo (ends s g (own g) p r)
+    ended g p r q = record { locals = with-so s.locals so g.0 _ (so-by g (own g).vote _ refl refl (so g.0).vote); outs = (q, tt) }
 
     abort : (g : Gxid) (p : Phase) → TurnSo (on_abort s g (own g) p)
-    abort g Reading = abort-one g
-    abort g Writing = abort-one g
-    abort g Prepared = abort-one g
+    abort g Reading = ended g Aborted reply.Aborted (partless g.0 reply.Aborted tt)
+    abort g Writing = ended g Aborted reply.Aborted (partless g.0 reply.Aborted tt)
+    abort g Prepared = ended g Aborted reply.Aborted (partless g.0 reply.Aborted tt)
     abort g Committed = stay
     abort g (Forgotten b) = stay
     abort g Aborted = tell g reply.Aborted (partless g.0 reply.Aborted tt)
 
-    forget-one : (g : Gxid) → TurnSo (Rattle.gx_rules.specs.AtSegment.forgets s g (own g))
-    forget-one g = changed g _ _ reply.Forgotten _ (so-by g (own g).vote _ refl refl (so g.0).vote) (partless g.0 reply.Forgotten tt)
-
     forget : (g : Gxid) (p : Phase) → TurnSo (on_forget s g (own g) p)
-    forget g Reading = forget-one g
-    forget g Writing = forget-one g
-    forget g Prepared = forget-one g
-    forget g Committed = forget-one g
+    forget g Reading = ended g _ reply.Forgotten (partless g.0 reply.Forgotten tt)
+    forget g Writing = ended g _ reply.Forgotten (partless g.0 reply.Forgotten tt)
+    forget g Prepared = ended g _ reply.Forgotten (partless g.0 reply.Forgotten tt)
+    forget g Committed = ended g _ reply.Forgotten (partless g.0 reply.Forgotten tt)
     forget g (Forgotten b) = tell g reply.Forgotten (partless g.0 reply.Forgotten tt)
     forget g Aborted = stay
 
@@ -199,9 +211,9 @@ module _ (P : ℕ → Reply → Type 0) (partless : (g : ℕ) (r : Reply) → Is
     RightFor _ = Unit {0}
 
     pub message-so : (script : Script) (fails : Bool) (m : Message) → RightFor m → TurnSo (on_message script s fails m)
-    message-so script fails (message.Exec g c level snapshot h x) r = below g _ (fits (fits_exec script s g c snapshot h x) _ (exec g c x r snapshot h (local_of s g).phase))
-    message-so script fails (message.Prepare g) r = below g _ (prepare g fails (local_of s g).phase)
-    message-so script fails (message.Commit g) r = below g _ (commit g fails (local_of s g).phase)
+    message-so script fails (message.Exec g c level snapshot h x) r = below g _ (fits (fits_exec script s g c snapshot h x) _ (exec g c x r level snapshot h (local_of s g).phase))
+    message-so script fails (message.Prepare g) r = below g _ (fits (not (is_waiting (local_of s g))) _ (prepare g fails (local_of s g).phase))
+    message-so script fails (message.Commit g) r = below g _ (fits (not (is_waiting (local_of s g))) _ (commit g fails (local_of s g).phase))
     message-so script fails (message.CommitPrepared g) r = below g _ (commit-prepared g fails (local_of s g).phase)
     message-so script fails (message.Abort g) r = below g _ (abort g (local_of s g).phase)
     message-so script fails (message.Forget g) r = below g _ (forget g (local_of s g).phase)

@@ -1,5 +1,5 @@
 -- A segment sends one message at most in a turn, and marks no lock and no round.
-use Rattle.std.proofs.Common.{◌≤◌, ℕ, List, [], ◌∷◌, Option, Some, None, Bool, true, false, nat_lt, ◌==◌, if◌then◌else◌, arith}
+use Rattle.std.proofs.Common.{◌≤◌, ℕ, List, [], ◌∷◌, Option, Some, None, Bool, true, false, not, nat_lt, ◌==◌, if◌then◌else◌, arith}
 use Rattle.std.specs.Prelude.{fold, length}
 use Rattle.gx_ids.specs.declared.ids.Cid.{Cid}
 use Rattle.gx_ids.specs.declared.ids.Gxid.{Gxid}
@@ -8,23 +8,26 @@ use Rattle.gx_tree.specs.declared.query.Query.{Query}
 use Rattle.gx_tree.specs.declared.row.KeyedRow.{KeyedRow}
 use Rattle.gx_tree.specs.declared.slice.Slice.{Slice}
 use Rattle.gx_tree.specs.declared.slice.Slice.TheVariants as slice
+use Rattle.gx_tree.specs.declared.stmt.Level.{Level}
 use Rattle.gx_dsnap.specs.Gxids.{is_below}
 use Rattle.gx_dsnap.specs.declared.snapshot.Snapshot.{Snapshot}
 use Rattle.gx_meaning.specs.declared.fault.ArithFault.{ArithFault}
-use Rattle.gx_msg.specs.declared.item.JournalItem.{JournalItem}
 use Rattle.gx_msg.specs.declared.message.Message.{Message}
 use Rattle.gx_msg.specs.declared.message.Message.TheVariants as message
 use Rattle.gx_msg.specs.declared.reply.Reply.{Reply}
 use Rattle.gx_script.specs.declared.Script.{Script}
 use Rattle.gx_store.specs.declared.node.NodeEvent.{NodeEvent}
 use Rattle.gx_store.specs.declared.node.NodeEvent.TheVariants as event
-use Rattle.gx_rules.specs.AtSegment.{commits, finishes, if_fits, on_abort, on_commit, on_commit_prepared, on_event, on_exec, on_forget, on_message, on_prepare, once, promises, raised, repeats, takes, unless_below, was_prepared}
+use Rattle.gx_rules.specs.AtSegment.{ends, commits, finishes, if_fits, on_abort, on_commit, on_commit_prepared, on_event, on_exec, on_forget, on_message, on_prepare, once, promises, raised, repeats, takes, unless_below, was_prepared}
 use Rattle.gx_rules.specs.Segments.{Local, Phase, Seg, SegTurn, local_of, stays, tells, tells_kept}
 use Rattle.gx_rules.specs.Segments.Phase.{Aborted, Committed, Forgotten, Prepared, Reading, Writing}
-use Rattle.gx_rules.specs.Slices.{Moved, first_fault, inserted, inserts, inserts_row, runs_slice, selects}
+use Rattle.gx_rules.specs.Slices.{Moved, first_fault, inserted, inserts, inserts_row, runs_slice, selects, starts_slice}
 use Rattle.gx_rules.specs.Shown.{shown}
-use Rattle.gx_rules.specs.Fits.{fits_exec}
+use Rattle.gx_rules.specs.Fits.{fits_exec, is_waiting}
+use Rattle.gx_rules.specs.Locks.{with_hold}
 use Rattle.gx_law_order.proofs.Lists.{Each, each_append}
+use Rattle.gx_law_order.proofs.Calm.{AreCalm, each-released}
+use Rattle.gx_law_order.proofs.CalmSegs.{IsCalm as Quiet, resumes-calm, starts-calm}
 use Rattle.gx_law_schedules.proofs.Quiet.{IsCalm}
 
 pub record IsStill (turn : SegTurn) : Type 0 where
@@ -37,7 +40,7 @@ none-sent = omega arith
 one-sent : 1 ≤ 1
 one-sent = omega arith
 
-module _ (script : Script) (s : Seg) where
+module _ (script : Script) (s : Seg) (quiet : Quiet s) where
   stay : IsStill (stays s)
   stay = record { marks = tt; outs = none-sent }
 
@@ -48,10 +51,10 @@ module _ (script : Script) (s : Seg) where
   kept g None = stay
   kept g (Some r) = tell g r
 
-  -- slices, where the horizon was raised before
-  select : (h g : Gxid) (c : Cid) (q : Query) (rows : List KeyedRow) (f : Option (KeyedRow × ArithFault)) → IsStill (selects (raised s h) g c q rows f)
-  select h g c q rows None = record { marks = tt; outs = one-sent }
-  select h g c q rows (Some f) = record { marks = (tt, tt); outs = one-sent }
+  -- slices of any segment
+  select : (t : Seg) (g : Gxid) (c : Cid) (q : Query) (rows : List KeyedRow) (f : Option (KeyedRow × ArithFault)) → IsStill (selects t g c q rows f)
+  select t g c q rows None = record { marks = tt; outs = one-sent }
+  select t g c q rows (Some f) = record { marks = (tt, tt); outs = one-sent }
 
   insert_rows : (g : Gxid) (c : Cid) (table : Table) (rows : List KeyedRow) (m : Moved) → Each IsCalm m.marks → Each IsCalm (fold (inserts_row g c table) m rows).marks
   insert_rows g c table [] m f = f
@@ -60,11 +63,15 @@ module _ (script : Script) (s : Seg) where
   insert : (g : Gxid) (c : Cid) (count : ℕ) (m : Moved) → Each IsCalm m.marks → IsStill (inserts g c count m)
   insert g c count m f = record { marks = f; outs = one-sent }
 
-  slice_runs : (h g : Gxid) (c : Cid) (snapshot : Option Snapshot) (x : Slice) → IsStill (runs_slice (raised s h) g c snapshot x)
-  slice_runs h g c (Some snapshot) (slice.Select q) = select h g c q (shown (raised s h) snapshot g c q.table) (first_fault q.cond (shown (raised s h) snapshot g c q.table))
-  slice_runs h g c (Some snapshot) (slice.Insert table rows) =
-      insert g c (length rows) (inserted (raised s h) g c table rows) (insert_rows g c table rows (record { seg = raised s h; marks = [] }) tt)
-  slice_runs h g c snapshot x = record { marks = tt; outs = none-sent }
+  slice_runs : (t : Seg) (g : Gxid) (c : Cid) (snapshot : Option Snapshot) (x : Slice) → IsStill (runs_slice t g c snapshot x)
+  slice_runs t g c (Some snapshot) (slice.Select q) = select t g c q (shown t snapshot g c q.table) (first_fault q.cond (shown t snapshot g c q.table))
+  slice_runs t g c (Some snapshot) (slice.Insert table rows) = insert g c (length rows) (inserted t g c table rows) (insert_rows g c table rows (record { seg = t; marks = [] }) tt)
+  slice_runs t g c snapshot x = record { marks = tt; outs = none-sent }
+
+  starts : (t : Seg) → AreCalm t.locks → (g : Gxid) (c : Cid) (level : Level) (snapshot : Option Snapshot) (x : Slice) → IsStill (starts_slice t g c level snapshot x)
+  starts t calm g c level snapshot x =
+      starts-calm IsStill t calm g c level snapshot x
+      (λ wanted. let run = slice_runs (record t { locks = with_hold t.locks wanted }) g c snapshot x in record { marks = (tt, run.marks); outs = run.outs }) (slice_runs t g c snapshot x)
 
   both : (b : Bool) (x y : SegTurn) → IsStill x → IsStill y → IsStill (if b then x else y)
   both true x y e f = e
@@ -73,16 +80,16 @@ module _ (script : Script) (s : Seg) where
   repeat : (g : Gxid) (c : Cid) (l : Local) → IsStill (repeats s g c l)
   repeat g c l = both (c.0 == l.last) _ _ (kept g l.answer) stay
 
-  take : (g : Gxid) (c : Cid) (snapshot : Option Snapshot) (h : Gxid) (x : Slice) (l : Local) → IsStill (takes s g c snapshot h x l)
-  take g c snapshot h x l = both (nat_lt l.last c.0) _ _ (slice_runs h g c snapshot x) (repeat g c l)
+  take : (g : Gxid) (c : Cid) (level : Level) (snapshot : Option Snapshot) (h : Gxid) (x : Slice) (l : Local) → IsStill (takes s g c level snapshot h x l)
+  take g c level snapshot h x l = both (nat_lt l.last c.0) _ _ (starts (raised s h) quiet.locks g c level snapshot x) (repeat g c l)
 
-  exec : (g : Gxid) (c : Cid) (snapshot : Option Snapshot) (h : Gxid) (x : Slice) (l : Local) (p : Phase) → IsStill (on_exec s g c snapshot h x l p)
-  exec g c snapshot h x l Reading = take g c snapshot h x l
-  exec g c snapshot h x l Writing = take g c snapshot h x l
-  exec g c snapshot h x l Prepared = repeat g c l
-  exec g c snapshot h x l Committed = repeat g c l
-  exec g c snapshot h x l (Forgotten b) = stay
-  exec g c snapshot h x l Aborted = stay
+  exec : (g : Gxid) (c : Cid) (level : Level) (snapshot : Option Snapshot) (h : Gxid) (x : Slice) (l : Local) (p : Phase) → IsStill (on_exec s g c level snapshot h x l p)
+  exec g c level snapshot h x l Reading = take g c level snapshot h x l
+  exec g c level snapshot h x l Writing = take g c level snapshot h x l
+  exec g c level snapshot h x l Prepared = repeat g c l
+  exec g c level snapshot h x l Committed = repeat g c l
+  exec g c level snapshot h x l (Forgotten b) = stay
+  exec g c level snapshot h x l Aborted = stay
 
   only : (g : Gxid) (v : Option Reply) (turn : SegTurn) → IsStill turn → IsStill (once s g v turn)
   only g None turn e = e
@@ -125,22 +132,22 @@ module _ (script : Script) (s : Seg) where
   commit_prepared g fails l (Forgotten false) = stay
   commit_prepared g fails l Aborted = stay
 
-  answered : (g : Gxid) (l : Local) (r : Reply) (it : Option JournalItem) → IsStill (Rattle.gx_rules.specs.AtSegment.changes s g l [] r it)
-  answered g l r it = record { marks = tt; outs = one-sent }
+  ended : (g : Gxid) (l : Local) (p : Phase) (r : Reply) → IsStill (ends s g l p r)
+  ended g l p r = record { marks = each-released IsCalm s.node s.locks g (λ claim. tt); outs = one-sent }
 
   abort : (g : Gxid) (l : Local) (p : Phase) → IsStill (on_abort s g l p)
-  abort g l Reading = answered g _ _ _
-  abort g l Writing = answered g _ _ _
-  abort g l Prepared = answered g _ _ _
+  abort g l Reading = ended g l _ _
+  abort g l Writing = ended g l _ _
+  abort g l Prepared = ended g l _ _
   abort g l Committed = stay
   abort g l (Forgotten b) = stay
   abort g l Aborted = tell g _
 
   forget : (g : Gxid) (l : Local) (p : Phase) → IsStill (on_forget s g l p)
-  forget g l Reading = answered g _ _ _
-  forget g l Writing = answered g _ _ _
-  forget g l Prepared = answered g _ _ _
-  forget g l Committed = answered g _ _ _
+  forget g l Reading = ended g l _ _
+  forget g l Writing = ended g l _ _
+  forget g l Prepared = ended g l _ _
+  forget g l Committed = ended g l _ _
   forget g l (Forgotten b) = tell g _
   forget g l Aborted = stay
 
@@ -152,9 +159,9 @@ module _ (script : Script) (s : Seg) where
   fits false turn e = stay
 
   message_still : (fails : Bool) (m : Message) → IsStill (on_message script s fails m)
-  message_still fails (message.Exec g c level snapshot h x) = below g _ (fits (fits_exec script s g c snapshot h x) _ (exec g c snapshot h x (local_of s g) (local_of s g).phase))
-  message_still fails (message.Prepare g) = below g _ (prepare g fails (local_of s g) (local_of s g).phase)
-  message_still fails (message.Commit g) = below g _ (commit g fails (local_of s g) (local_of s g).phase)
+  message_still fails (message.Exec g c level snapshot h x) = below g _ (fits (fits_exec script s g c snapshot h x) _ (exec g c level snapshot h x (local_of s g) (local_of s g).phase))
+  message_still fails (message.Prepare g) = below g _ (fits (not (is_waiting (local_of s g))) _ (prepare g fails (local_of s g) (local_of s g).phase))
+  message_still fails (message.Commit g) = below g _ (fits (not (is_waiting (local_of s g))) _ (commit g fails (local_of s g) (local_of s g).phase))
   message_still fails (message.CommitPrepared g) = below g _ (commit_prepared g fails (local_of s g) (local_of s g).phase)
   message_still fails (message.Abort g) = below g _ (abort g (local_of s g) (local_of s g).phase)
   message_still fails (message.Forget g) = below g _ (forget g (local_of s g) (local_of s g).phase)
@@ -164,7 +171,7 @@ module _ (script : Script) (s : Seg) where
 
   pub seg-still : (e : NodeEvent) (fails : Bool) → IsStill (on_event script s e fails)
   seg-still (event.Deliver from envelope) fails = message_still fails envelope.message
-  seg-still (event.Resume g) fails = stay
+  seg-still (event.Resume g) fails = resumes-calm IsStill s g quiet stay
   seg-still (event.Start x) fails = stay
   seg-still (event.End x) fails = stay
   seg-still (event.Resend i g) fails = stay

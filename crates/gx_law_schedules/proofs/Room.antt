@@ -20,6 +20,7 @@ use Rattle.gx_rules.specs.AtSegment.{seg_rule}
 use Rattle.gx_rules.specs.Machine.{Letter, World, at_node, coord_did, new_world, posted, seg_did, world_of}
 use Rattle.gx_rules.specs.Segments.{Seg}
 use Rattle.gx_rules.specs.Sending.{clock_after, heard_in}
+use Rattle.gx_law_order.proofs.CalmSegs.{IsCalm as Quiet}
 use Rattle.gx_law_order.proofs.AtSegments.{seg_stays}
 use Rattle.gx_law_order.proofs.Letters.{found_is}
 use Rattle.gx_law_order.proofs.Lists.{Each, each_append, each_weaker}
@@ -148,7 +149,7 @@ module _ (script : Script) (some : 1 ≤ script.segments) where
         two a n b m x y z = omega arith
 
   -- A STEP OF A SEGMENT
-  module _ (w : World) (q : Stays w) (from to : Node) (number : ℕ) (envelope : Envelope) (fails : Bool) (h : IsThere script w from to number envelope) (named : (w.segs to.0).node ≡ to) where
+  module _ (w : World) (q : Stays w) (from to : Node) (number : ℕ) (envelope : Envelope) (fails : Bool) (h : IsThere script w from to number envelope) (named : (w.segs to.0).node ≡ to) (calm : Quiet (w.segs to.0)) where
     abbrev x : NodeEvent
     x = here.Deliver from envelope
 
@@ -166,7 +167,7 @@ module _ (script : Script) (some : 1 ≤ script.segments) where
 
     seg-stays : Stays (seg_did w to (event.Receive from to number) (seg_rule script s x fails))
     seg-stays =
-        let f = seg-still script s x fails in
+        let f = seg-still script s calm x fails in
         record {
           room = record {
             clock = up w.coord.clock (length w.steps) _ q.room.clock one-more;
@@ -194,4 +195,4 @@ module _ (script : Script) (some : 1 ≤ script.segments) where
   world-stays =
       always script some Stays (λ es q e x fails h. coord-stays (world_of script es) q e x fails h (world_well script some es).coordinator.locks)
       (λ es q e x fails i h. by-message script some es e x i h (λ e x. Stays (seg_did (world_of script es) i e (seg_rule script ((world_of script es).segs i.0) x fails)))
-      (λ from number envelope t. seg-stays (world_of script es) q from i number envelope fails t ((world_well script some es).names i.0))) new-stays
+      (λ from number envelope t. seg-stays (world_of script es) q from i number envelope fails t ((world_well script some es).names i.0) ((world_well script some es).calm i.0))) new-stays

@@ -15,6 +15,7 @@ use Rattle.gx_rules.specs.AtCoordinator.{coord_can, coord_rule}
 use Rattle.gx_rules.specs.AtSegment.{seg_rule}
 use Rattle.gx_rules.specs.Machine.{World, after, at_node, can, can_here, coord_did, delivered, does, found, happens, new_world, node_of, seg_can, seg_did, world_of}
 use Rattle.gx_law_order.proofs.Letters.{IsFound, IsLetter, found_is, same_node}
+use Rattle.gx_law_order.proofs.CalmSegs.{nobody-goes-on}
 use Rattle.gx_law_order.proofs.Ordered.{resumes_there, world_well}
 use Rattle.gx_law_sessions.proofs.World.{after-last}
 use Rattle.gx_ids.specs.declared.ids.Gxid.{Gxid}
@@ -52,10 +53,7 @@ by-message script some es e x i h P f = by_event e h.node h.is
         zero-one k l z = omega (arith, l, z)
 
     nobody : (g : Gxid) → here.Resume g ≡ x → ⊥
-    nobody g q = none (subst (λ y. seg_can script ((world_of script es).segs i.0) y ≡ true) (sym q) h.admitted)
-      where
-        none : false ≡ true → ⊥
-        none e = cc
+    nobody g q = nobody-goes-on script ((world_of script es).segs i.0) g ((world_well script some es).calm i.0) (subst (λ y. seg_can script ((world_of script es).segs i.0) y ≡ true) (sym q) h.admitted)
 
     came : (from : Node) (number : ℕ) (o : Option Envelope) → found from i number (world_of script es).sent ≡ o → delivered from o ≡ Some x → P (event.Receive from i number) x
     came from number None fd q = absurd (cc)

@@ -1,6 +1,7 @@
 -- A segment that says that its journal has failed has a mark of it.
-use Rattle.std.proofs.Common.{◌≡◌, ℕ, List, [], ◌∷◌, ◌++◌, Option, Some, None, Bool, true, false, refl, sym, subst, if◌then◌else◌, ◌==◌, eqb}
+use Rattle.std.proofs.Common.{◌≡◌, ℕ, List, [], ◌∷◌, ◌++◌, Option, Some, None, Bool, true, false, not, refl, sym, subst, if◌then◌else◌, ◌==◌, eqb}
 use Rattle.std.proofs.lemmas.Bool.{eqb-true}
+use Rattle.std.proofs.lemmas.List.{append_assoc}
 use Rattle.std.proofs.lemmas.List.Elements.{Contains-append_left, Contains-push}
 use Rattle.std.specs.Prelude.{Contains, fold, nat_lt}
 use Rattle.gx_ids.specs.declared.ids.Cid.{Cid}
@@ -11,8 +12,11 @@ use Rattle.gx_tree.specs.declared.query.Query.{Query}
 use Rattle.gx_tree.specs.declared.row.KeyedRow.{KeyedRow}
 use Rattle.gx_tree.specs.declared.slice.Slice.{Slice}
 use Rattle.gx_tree.specs.declared.slice.Slice.TheVariants as slice
+use Rattle.gx_tree.specs.declared.stmt.Level.{Level}
 use Rattle.gx_dsnap.specs.Gxids.{is_below}
 use Rattle.gx_dsnap.specs.declared.snapshot.Snapshot.{Snapshot}
+use Rattle.gx_waits.specs.declared.claim.Claim.{Claim}
+use Rattle.gx_locks.specs.Locks.{is_free, resumed, wait_of}
 use Rattle.gx_meaning.specs.declared.fault.ArithFault.{ArithFault}
 use Rattle.gx_msg.specs.declared.item.JournalItem.{JournalItem}
 use Rattle.gx_msg.specs.declared.message.Message.{Message}
@@ -25,12 +29,13 @@ use Rattle.gx_store.specs.declared.mark.Mark.{Mark}
 use Rattle.gx_store.specs.declared.mark.Mark.TheVariants as mark
 use Rattle.gx_store.specs.declared.node.NodeEvent.{NodeEvent}
 use Rattle.gx_store.specs.declared.node.NodeEvent.TheVariants as event
-use Rattle.gx_rules.specs.AtSegment.{commits, finishes, if_fits, on_abort, on_commit, on_commit_prepared, on_event, on_exec, on_forget, on_message, on_prepare, once, promises, raised, repeats, takes, unless_below, was_prepared, changes}
-use Rattle.gx_rules.specs.Fits.{fits_exec}
-use Rattle.gx_rules.specs.Segments.{Local, Phase, Seg, SegTurn, local_of, stays, tells, tells_kept, with_local}
+use Rattle.gx_rules.specs.AtSegment.{commits, ends, finishes, if_fits, on_abort, on_commit, on_commit_prepared, on_event, on_exec, on_forget, on_message, on_prepare, once, promises, raised, repeats, resumes, takes, unless_below, was_prepared, changes}
+use Rattle.gx_rules.specs.Fits.{fits_exec, is_waiting}
+use Rattle.gx_rules.specs.Locks.{hold_mark, release_marks, wait_mark, with_hold}
+use Rattle.gx_rules.specs.Segments.{Local, Phase, Seg, SegTurn, Suspended, after_marks, local_of, stays, tells, tells_kept, with_local}
 use Rattle.gx_rules.specs.Segments.Phase.{Reading, Writing, Prepared, Committed, Forgotten, Aborted}
 use Rattle.gx_rules.specs.Shown.{shown}
-use Rattle.gx_rules.specs.Slices.{Moved, answers, first_fault, inserted, inserts_row, runs_slice, selects}
+use Rattle.gx_rules.specs.Slices.{Moved, answers, first_fault, inserted, inserts_row, requests, runs_locked, runs_slice, selects, slice_lock, suspends}
 use Rattle.gx_law_order.proofs.Lists.{Each}
 use Rattle.gx_law_order.proofs.Stages.{gx}
 use Rattle.gx_law_sessions.proofs.Closings.{IsNoted}
@@ -160,23 +165,30 @@ module _ (ms : List Mark) (node : Node) where
     commit-prepared g fails l (Forgotten false) h = stay
     commit-prepared g fails l Aborted h = stay
 
-    -- a change of the phase alone
-    moved : (g : Gxid) (l : Local) (p : Phase) → LocalNoted ms node g l → LocalNoted (ms ++ []) node g (record l { phase = p })
-    moved g l p h = record { answer = in-more ms [] node g l.answer h.answer; vote = in-more ms [] node g l.vote h.vote }
+    -- it gives its locks back
+    ended : (g : Gxid) (l : Local) (p : Phase) (r : Reply) → LocalNoted ms node g l → IsNoted (ms ++ release_marks s.node s.locks g) node (message.Answer g r) → Notes (ends s g l p r)
+    ended g l p r h n =
+        record {
+          locals = local-at (ms ++ released-marks) s g _ (more-all released-marks) (record { answer = in-more ms released-marks node g l.answer h.answer; vote = in-more ms released-marks node g l.vote h.vote });
+          outs = (n, tt);
+        }
+      where
+        released-marks : List Mark
+        released-marks = release_marks s.node s.locks g
 
     abort : (g : Gxid) (l : Local) (p : Phase) → LocalNoted ms node g l → Notes (on_abort s g l p)
-    abort g l Reading h = change g _ [] reply.Aborted None (moved g l Aborted h) tt
-    abort g l Writing h = change g _ [] reply.Aborted None (moved g l Aborted h) tt
-    abort g l Prepared h = change g _ [] reply.Aborted None (moved g l Aborted h) tt
+    abort g l Reading h = ended g l Aborted reply.Aborted h tt
+    abort g l Writing h = ended g l Aborted reply.Aborted h tt
+    abort g l Prepared h = ended g l Aborted reply.Aborted h tt
     abort g l Committed h = stay
     abort g l (Forgotten b) h = stay
     abort g l Aborted h = tell g _ tt
 
     forget : (g : Gxid) (l : Local) (p : Phase) → LocalNoted ms node g l → Notes (on_forget s g l p)
-    forget g l Reading h = change g _ [] reply.Forgotten None (moved g l _ h) tt
-    forget g l Writing h = change g _ [] reply.Forgotten None (moved g l _ h) tt
-    forget g l Prepared h = change g _ [] reply.Forgotten None (moved g l _ h) tt
-    forget g l Committed h = change g _ [] reply.Forgotten None (moved g l _ h) tt
+    forget g l Reading h = ended g l _ reply.Forgotten h tt
+    forget g l Writing h = ended g l _ reply.Forgotten h tt
+    forget g l Prepared h = ended g l _ reply.Forgotten h tt
+    forget g l Committed h = ended g l _ reply.Forgotten h tt
     forget g l (Forgotten b) h = tell g _ tt
     forget g l Aborted h = stay
 
@@ -196,46 +208,77 @@ module _ (ms : List Mark) (node : Node) where
   row-noted g c table [] m all = all
   row-noted g c table (r ∷ rs) m all = row-noted g c table rs (inserts_row g c table m r) (local-at ms m.seg g _ all (record { answer = (all g.0).answer; vote = (all g.0).vote }))
 
-  slice-noted : (s : Seg) (h : Gxid) → SegNoted ms node s → (g : Gxid) (c : Cid) (snapshot : Option Snapshot) (x : Slice) → Notes (runs_slice (raised s h) g c snapshot x)
-  slice-noted s h all g c (Some snapshot) (slice.Select q) = select (raised s h) all g c q (shown (raised s h) snapshot g c q.table) (first_fault q.cond (shown (raised s h) snapshot g c q.table))
-  slice-noted s h all g c (Some snapshot) (slice.Insert table rows) =
-      answered (inserted (raised s h) g c table rows).seg (row-noted g c table rows (record { seg = raised s h; marks = [] }) all) g c (inserted (raised s h) g c table rows).marks _ tt
-  slice-noted s h all g c snapshot x = record { locals = λ j. local-more ms [] node (gx j) (s.locals j) (all j); outs = tt }
+  slice-noted : (s : Seg) → SegNoted ms node s → (g : Gxid) (c : Cid) (snapshot : Option Snapshot) (x : Slice) → Notes (runs_slice s g c snapshot x)
+  slice-noted s all g c (Some snapshot) (slice.Select q) = select s all g c q (shown s snapshot g c q.table) (first_fault q.cond (shown s snapshot g c q.table))
+  slice-noted s all g c (Some snapshot) (slice.Insert table rows) =
+      answered (inserted s g c table rows).seg (row-noted g c table rows (record { seg = s; marks = [] }) all) g c (inserted s g c table rows).marks _ tt
+  slice-noted s all g c snapshot x = record { locals = λ j. local-more ms [] node (gx j) (s.locals j) (all j); outs = tt }
+
+-- behind the mark of a lock
+behind : (ms : List Mark) (node : Node) (m : Mark) (turn : SegTurn) → Notes (ms ++ m ∷ []) node turn → Notes ms node (after_marks (m ∷ []) turn)
+behind ms node m turn n =
+    record {
+      locals = subst (λ all. SegNoted all node turn.seg) (append_assoc ms (m ∷ []) turn.marks) n.locals;
+      outs = subst (λ all. Each (λ (o : Out). IsNoted all node o.message) turn.outs) (append_assoc ms (m ∷ []) turn.marks) n.outs;
+    }
+
+locked : (ms : List Mark) (node : Node) (s : Seg) → SegNoted ms node s → (g : Gxid) (c : Cid) (snapshot : Option Snapshot) (x : Slice) (m : Mark) → Notes ms node (after_marks (m ∷ []) (runs_slice s g c snapshot x))
+locked ms node s all g c snapshot x m = behind ms node m _ (slice-noted (ms ++ m ∷ []) node s (λ h. local-more ms (m ∷ []) node (gx h) (s.locals h) (all h)) g c snapshot x)
+
+module _ (ms : List Mark) (node : Node) where
+  starts : (s : Seg) → SegNoted ms node s → (g : Gxid) (c : Cid) (level : Level) (snapshot : Option Snapshot) (x : Slice) (o : Option Claim) → Notes ms node (requests s g c level snapshot x o)
+  starts s all g c level snapshot x None = slice-noted ms node s all g c snapshot x
+  starts s all g c level snapshot x (Some wanted) = by_test (is_free s.locks.holds wanted)
+    where
+      by_test : (b : Bool) → Notes ms node (if b then runs_locked s g c snapshot x wanted else suspends s g c level snapshot x wanted)
+      by_test true = locked ms node (record s { locks = with_hold s.locks wanted }) all g c snapshot x (hold_mark s.node wanted)
+      by_test false =
+          record {
+            locals = local-at ms node (ms ++ wait_mark s.node wanted ∷ []) s g _ (λ h. local-more ms (wait_mark s.node wanted ∷ []) node (gx h) (s.locals h) (all h)) (record { answer = tt; vote = in-more ms (wait_mark s.node wanted ∷ []) node g (local_of s g).vote (all g.0).vote });
+            outs = tt;
+          }
 
   module _ (script : Script) (s : Seg) (is : s.node ≡ node) (all : SegNoted ms node s) where
-    take : (g : Gxid) (c : Cid) (snapshot : Option Snapshot) (h : Gxid) (x : Slice) (l : Local) → LocalNoted ms node g l → Notes (takes s g c snapshot h x l)
-    take g c snapshot h x l n = both s is all (nat_lt l.last c.0) _ _ (slice-noted s h all g c snapshot x) (repeat s is all g c l n)
+    take : (g : Gxid) (c : Cid) (level : Level) (snapshot : Option Snapshot) (h : Gxid) (x : Slice) (l : Local) → LocalNoted ms node g l → Notes ms node (takes s g c level snapshot h x l)
+    take g c level snapshot h x l n = both ms node s is all (nat_lt l.last c.0) _ _ (starts (raised s h) all g c level snapshot x (slice_lock g x)) (repeat ms node s is all g c l n)
 
-    exec : (g : Gxid) (c : Cid) (snapshot : Option Snapshot) (h : Gxid) (x : Slice) (l : Local) (p : Phase) → LocalNoted ms node g l → Notes (on_exec s g c snapshot h x l p)
-    exec g c snapshot h x l Reading n = take g c snapshot h x l n
-    exec g c snapshot h x l Writing n = take g c snapshot h x l n
-    exec g c snapshot h x l Prepared n = repeat s is all g c l n
-    exec g c snapshot h x l Committed n = repeat s is all g c l n
-    exec g c snapshot h x l (Forgotten b) n = stay s is all
-    exec g c snapshot h x l Aborted n = stay s is all
+    exec : (g : Gxid) (c : Cid) (level : Level) (snapshot : Option Snapshot) (h : Gxid) (x : Slice) (l : Local) (p : Phase) → LocalNoted ms node g l → Notes ms node (on_exec s g c level snapshot h x l p)
+    exec g c level snapshot h x l Reading n = take g c level snapshot h x l n
+    exec g c level snapshot h x l Writing n = take g c level snapshot h x l n
+    exec g c level snapshot h x l Prepared n = repeat ms node s is all g c l n
+    exec g c level snapshot h x l Committed n = repeat ms node s is all g c l n
+    exec g c level snapshot h x l (Forgotten b) n = stay ms node s is all
+    exec g c level snapshot h x l Aborted n = stay ms node s is all
 
-    below : (g : Gxid) (turn : SegTurn) → Notes turn → Notes (unless_below s g turn)
-    below g turn e = both s is all (is_below s.horizon g) _ _ (stay s is all) e
+    below : (g : Gxid) (turn : SegTurn) → Notes ms node turn → Notes ms node (unless_below s g turn)
+    below g turn e = both ms node s is all (is_below s.horizon g) _ _ (stay ms node s is all) e
 
-    fits : (b : Bool) (turn : SegTurn) → Notes turn → Notes (if_fits s b turn)
+    fits : (b : Bool) (turn : SegTurn) → Notes ms node turn → Notes ms node (if_fits s b turn)
     fits true turn e = e
-    fits false turn e = stay s is all
+    fits false turn e = stay ms node s is all
 
-    message-notes : (fails : Bool) (m : Message) → Notes (on_message script s fails m)
-    message-notes fails (message.Exec g c level snapshot h x) = below g _ (fits (fits_exec script s g c snapshot h x) _ (exec g c snapshot h x (local_of s g) (local_of s g).phase (all g.0)))
-    message-notes fails (message.Prepare g) = below g _ (prepare s is all g fails (local_of s g) (local_of s g).phase (all g.0))
-    message-notes fails (message.Commit g) = below g _ (commit s is all g fails (local_of s g) (local_of s g).phase (all g.0))
-    message-notes fails (message.CommitPrepared g) = below g _ (commit-prepared s is all g fails (local_of s g) (local_of s g).phase (all g.0))
-    message-notes fails (message.Abort g) = below g _ (abort s is all g (local_of s g) (local_of s g).phase (all g.0))
-    message-notes fails (message.Forget g) = below g _ (forget s is all g (local_of s g) (local_of s g).phase (all g.0))
-    message-notes fails (message.Collect round) = stay s is all
-    message-notes fails (message.Answer g r) = stay s is all
-    message-notes fails (message.Graph round graph) = stay s is all
+    message-notes : (fails : Bool) (m : Message) → Notes ms node (on_message script s fails m)
+    message-notes fails (message.Exec g c level snapshot h x) = below g _ (fits (fits_exec script s g c snapshot h x) _ (exec g c level snapshot h x (local_of s g) (local_of s g).phase (all g.0)))
+    message-notes fails (message.Prepare g) = below g _ (fits (not (is_waiting (local_of s g))) _ (prepare ms node s is all g fails (local_of s g) (local_of s g).phase (all g.0)))
+    message-notes fails (message.Commit g) = below g _ (fits (not (is_waiting (local_of s g))) _ (commit ms node s is all g fails (local_of s g) (local_of s g).phase (all g.0)))
+    message-notes fails (message.CommitPrepared g) = below g _ (commit-prepared ms node s is all g fails (local_of s g) (local_of s g).phase (all g.0))
+    message-notes fails (message.Abort g) = below g _ (abort ms node s is all g (local_of s g) (local_of s g).phase (all g.0))
+    message-notes fails (message.Forget g) = below g _ (forget ms node s is all g (local_of s g) (local_of s g).phase (all g.0))
+    message-notes fails (message.Collect round) = stay ms node s is all
+    message-notes fails (message.Answer g r) = stay ms node s is all
+    message-notes fails (message.Graph round graph) = stay ms node s is all
 
-    pub seg-notes : (x : NodeEvent) (fails : Bool) → Notes (on_event script s x fails)
+    resume : (g : Gxid) (w : Option Claim) (o : Option Suspended) → Notes ms node (resumes s g w o)
+    resume g (Some wanted) (Some waiting) =
+        locked ms node (record (with_local s g (record (local_of s g) { suspended = None })) { locks = resumed s.locks g (Some wanted) })
+        (local-at ms node ms s g _ all (record { answer = (all g.0).answer; vote = (all g.0).vote })) g waiting.cid waiting.snapshot waiting.slice (hold_mark s.node wanted)
+    resume g (Some wanted) None = stay ms node s is all
+    resume g None o = stay ms node s is all
+
+    pub seg-notes : (x : NodeEvent) (fails : Bool) → Notes ms node (on_event script s x fails)
     seg-notes (event.Deliver from envelope) fails = message-notes fails envelope.message
-    seg-notes (event.Resume g) fails = stay s is all
-    seg-notes (event.Start j) fails = stay s is all
-    seg-notes (event.End j) fails = stay s is all
-    seg-notes (event.Resend i g) fails = stay s is all
-    seg-notes event.Round fails = stay s is all
+    seg-notes (event.Resume g) fails = resume g (wait_of s.locks g) (local_of s g).suspended
+    seg-notes (event.Start j) fails = stay ms node s is all
+    seg-notes (event.End j) fails = stay ms node s is all
+    seg-notes (event.Resend i g) fails = stay ms node s is all
+    seg-notes event.Round fails = stay ms node s is all

@@ -43,9 +43,10 @@ use Rattle.gx_rules.specs.Coordinators.{Coord, CoordTurn}
 use Rattle.gx_rules.specs.Machine.{Letter, World, after, at_node, can, can_here, coord_did, delivered, does, found, happens, new_world, node_of, seg_can, seg_did, world_of}
 use Rattle.gx_rules.specs.Segments.{Seg, SegTurn}
 use Rattle.gx_rules.specs.Sending.{clock_after, counted, numbered}
+use Rattle.gx_law_order.proofs.CalmSegs.{nobody-goes-on}
 use Rattle.gx_law_order.proofs.Letters.{IsFound, IsLetter, found_is}
 use Rattle.gx_law_order.proofs.Lists.{Each, each_append}
-use Rattle.gx_law_order.proofs.Ordered.{resumes_there, seg_marks}
+use Rattle.gx_law_order.proofs.Ordered.{seg_marks}
 use Rattle.gx_store.specs.Language.{AreLinesNumbered}
 use Rattle.gx_law_sessions.specs.Rest.{AreRestLegal, EachMark, IsCaused, Rest, RestAnswer, RestRefusal, UnlessStart}
 use Rattle.gx_law_sessions.proofs.Given.{marks-append}
@@ -218,7 +219,7 @@ module _ (script : Script) (some : 1 ≤ script.segments) (numbered_lines : AreL
     -- a message of the coordinator makes no fault there
     none-faults : (from : Node) (envelope : Envelope) (fails : Bool) (i : ℕ) → MessageIs script (marks_in w.steps) (at i) envelope.message → Each NoFault (seg_rule script (w.segs i) (here.Deliver from envelope) fails).marks
     none-faults from envelope fails i o =
-        each_append NoFault (segment.on_message script (w.segs i) fails envelope.message).marks _ (no-faults (marks_in w.steps) i (w.segs i) envelope.message (segment.on_message script (w.segs i) fails envelope.message) o (message-turns (w.segs i) script fails envelope.message)) (sent-no-fault (λ node. (segment.on_message script (w.segs i) fails envelope.message).seg.sent) (segment.on_message script (w.segs i) fails envelope.message).outs)
+        each_append NoFault (segment.on_message script (w.segs i) fails envelope.message).marks _ (no-faults (marks_in w.steps) i (w.segs i) envelope.message (segment.on_message script (w.segs i) fails envelope.message) o (message-turns (w.segs i) (b.knows.well.calm i).locks script fails envelope.message)) (sent-no-fault (λ node. (segment.on_message script (w.segs i) fails envelope.message).seg.sent) (segment.on_message script (w.segs i) fails envelope.message).outs)
 
     abbrev IsPost : Letter → Type 0
     IsPost l = IsLetter script w.steps l × (l.from ≡ the_coordinator → MessageIs script (marks_in w.steps) l.to l.envelope.message)
@@ -311,7 +312,7 @@ module _ (script : Script) (some : 1 ≤ script.segments) (numbered_lines : AreL
 
         by_test : (q : Bool) → (if q then coord_can script w.coord x else seg_can script (w.segs m.0) x) ≡ true → AreOthers script [] (if q then coord_did w e (coord_rule script w.coord x fails) else seg_did w m e (seg_rule script (w.segs m.0) x fails)).steps
         by_test true ok = coord-others e x (λ i v h cid wrote count part q t. absurd (resume-no g i v q)) (λ i v q t. absurd (resume-no g i v q)) (λ z A. absurd z) (λ a n q. absurd (resumed-no m g a n q)) fails ok o
-        by_test false ok = seg-others e x fails m.0 (resumes_there script some w m g b.knows.well ok) tt o
+        by_test false ok = absurd (nobody-goes-on script (w.segs m.0) g (b.knows.well.calm m.0) ok)
 
     event-others : (e : Event) (fails : Bool) → AreOthers script [] w.steps → can script w e ≡ true → AreOthers script [] (does script w e (node_of e) fails (at_node w e)).steps
     event-others (event.Receive from to number) fails o ok = arrives from to number fails (found from to number w.sent) o refl ok

@@ -1,5 +1,6 @@
 -- What a segment's turn keeps: its writes are placed and legal, and what it tells of commands is so.
 use Rattle.std.proofs.Common.{◌≡◌, ◌≤◌, ◌<◌, ◌⊎◌, inl, inr, ℕ, List, [], ◌∷◌, ◌++◌, Option, Some, None, Bool, true, false, refl, sym, subst, ap, ◌∙◌, if◌then◌else◌, ◌||◌, ◌&&◌, arith, eqb}
+use Rattle.std.proofs.lemmas.List.{append_assoc}
 use Rattle.std.proofs.lemmas.Bool.{eqb-true}
 use Rattle.std.proofs.lemmas.Bool.Decides.{nat_tests}
 use Rattle.std.specs.Prelude.{length, map}
@@ -29,8 +30,9 @@ use Rattle.gx_store.specs.Marks.{is_same_rid, is_written, is_command_of}
 use Rattle.gx_store.specs.Points.{marks_in, starts_by}
 use Rattle.gx_store.proofs.Marks.{is_processed-append}
 use Rattle.gx_rules.specs.AtSegment.{raised}
+use Rattle.gx_rules.specs.Locks.{hold_mark}
 use Rattle.gx_rules.specs.Machine.{World}
-use Rattle.gx_rules.specs.Segments.{Local, Seg, SegTurn, reply as reply_out}
+use Rattle.gx_rules.specs.Segments.{Local, Seg, SegTurn, after_marks, reply as reply_out}
 use Rattle.gx_rules.specs.Shown.{shown}
 use Rattle.gx_rules.specs.Slices.{answers, first_fault, inserted, inserts, selects}
 use Rattle.gx_law_order.proofs.Lists.{Each, each_map, each_weaker}
@@ -42,12 +44,12 @@ use Rattle.gx_law_commit.specs.Pairs.{IsVote}
 use Rattle.gx_law_commit.specs.Standings.{at, gx}
 use Rattle.gx_law_writes.specs.Rows.{IsRowPiece, is_own_written}
 use Rattle.gx_law_writes.specs.Writes.{WriteLegal}
-use Rattle.gx_law_writes.proofs.Legal.{IsPastMark, IsPlacedMark, Late, Live, behind-none, fresh-row, no-writes-legal, rows-legal}
+use Rattle.gx_law_writes.proofs.Legal.{Behind, IsPastMark, IsPlacedMark, Late, Live, fresh-row, no-writes-legal, rows-legal}
 use Rattle.gx_law_writes.proofs.Placed.{IsPlaced, IsPlacedRow, piece-rows, row-placed}
 use Rattle.gx_law_writes.proofs.Plans.{row-piece, rows-are}
 use Rattle.gx_law_writes.proofs.Rows.{Wrote, insert-wrote, row_mark}
 use Rattle.gx_law_writes.proofs.Told.{IsAnswerOf, IsToldOf, IsWritten, answer-more, order-later, told-more}
-use Rattle.gx_law_writes.proofs.Turns.{Inserted, IsOldReply, IsOldWord, NoRow, NoWrite, Quiet, Selected}
+use Rattle.gx_law_writes.proofs.Turns.{Inserted, IsOldReply, IsOldWord, NoRow, NoWrite, Quiet, Selected, base}
 
 -- what is told by the segment, as it stands then
 abbrev pub IsOutOf : Script → List Mark → (ℕ → ℕ) → Node → Message → Type 0
@@ -184,7 +186,13 @@ module _ (script : Script) (numbered : AreLinesNumbered [] script.lines) (ms : L
     order-then : (marks : List Mark) → IsOrder script (ms ++ marks) (at i) x.g x.c x.level (Some x.snapshot) (slice.Select x.query)
     order-then marks = order-later script numbered ms marks (at i) x.g x.c x.level (Some x.snapshot) (slice.Select x.query) select-order
 
-    select-ran : (marks : List Mark) (r : Reply) → IsToldOf script (ms ++ marks) x.c.0 (at i) x.g r → Ran x.g x.c r (answers (raised s x.horizon) x.g x.c marks r)
+    abbrev hold : Mark
+    hold = hold_mark s.node x.wanted
+
+    abbrev told-of : List Mark → Reply → SegTurn
+    told-of marks r = after_marks (hold ∷ []) (answers (base s x.horizon x.locks) x.g x.c marks r)
+
+    select-ran : (marks : List Mark) (r : Reply) → IsToldOf script (ms ++ hold ∷ marks) x.c.0 (at i) x.g r → Ran x.g x.c r (told-of marks r)
     select-ran marks r told =
         record {
           fresh = x.fresh;
@@ -199,16 +207,16 @@ module _ (script : Script) (numbered : AreLinesNumbered [] script.lines) (ms : L
         after : Local
         after = record (s.locals x.g.0) { last = x.c.0; answer = Some r }
 
-    answered : (marks : List Mark) (r : Reply) → Each NoWrite marks → IsToldOf script (ms ++ marks) x.c.0 (at i) x.g r → Moves (answers (raised s x.horizon) x.g x.c marks r)
+    answered : (marks : List Mark) (r : Reply) → Each NoWrite marks → IsToldOf script (ms ++ hold ∷ marks) x.c.0 (at i) x.g r → Moves (told-of marks r)
     answered marks r quiet told =
-        ran-move x.g x.c r now (select-ran marks r told) (each_weaker NoWrite (IsPlacedMark script ms) (λ m n. no-write-placed script ms m n) marks quiet)
-        (each_weaker NoWrite (IsPastHere (λ h. (now.seg.locals h).last) (at i)) (λ m n. no-write-here (λ h. (now.seg.locals h).last) (at i) m n) marks quiet) (λ later. no-writes-legal script steps e [] marks later quiet)
+        ran-move x.g x.c r now (select-ran marks r told) (each_weaker NoWrite (IsPlacedMark script ms) (λ m n. no-write-placed script ms m n) (hold ∷ marks) (tt, quiet))
+        (each_weaker NoWrite (IsPastHere (λ h. (now.seg.locals h).last) (at i)) (λ m n. no-write-here (λ h. (now.seg.locals h).last) (at i) m n) (hold ∷ marks) (tt, quiet)) (λ later. no-writes-legal script steps e [] (hold ∷ marks) later (tt, quiet))
       where
         now : SegTurn
-        now = answers (raised s x.horizon) x.g x.c marks r
+        now = told-of marks r
 
-    by-fault : (rows : List KeyedRow) (f : Option (KeyedRow × ArithFault)) → Moves (selects (raised s x.horizon) x.g x.c x.query rows f)
-    by-fault rows None = answered [] _ tt (same-le refl, record { level = x.level; snapshot = Some x.snapshot; slice = slice.Select x.query; order = order-then []; done = tt })
+    by-fault : (rows : List KeyedRow) (f : Option (KeyedRow × ArithFault)) → Moves (after_marks (hold ∷ []) (selects (base s x.horizon x.locks) x.g x.c x.query rows f))
+    by-fault rows None = answered [] _ tt (same-le refl, record { level = x.level; snapshot = Some x.snapshot; slice = slice.Select x.query; order = order-then (hold ∷ []); done = tt })
     by-fault rows (Some f) = answered _ _ (tt, tt) (same-le refl, record { level = x.level; snapshot = Some x.snapshot; query = x.query; order = order-then _ })
 
     pub select-move : Moves turn
@@ -281,17 +289,31 @@ module _ (script : Script) (numbered : AreLinesNumbered [] script.lines) (w : Wo
     unwritten = each_weaker (IsPlacedRow script x.g x.c (at i) x.table piece.tuples) (λ (row : KeyedRow). is_written ms row.rid ≡ false) (λ r p. fresh-row script ms lasts x.g x.c (at i) x.table r.rid (Some r.row) (row-placed script ms x.g x.c (at i) x.table piece.tuples r piece.of p) fresh ms placed past) x.rows rows-ok.0
 
     pub insert-move : (Live script numbered w x.g.0 x.c (at i) x.table piece.tuples e quiet) ⊎ (Late script numbered w x.g.0 x.c (at i) x.table piece.tuples e quiet) → Move script ms w.steps e (at i) s turn
-    insert-move how = subst (Move script ms w.steps e (at i) s) (sym x.ran) (moves (insert-wrote s x.horizon x.g x.c x.table x.rows))
+    insert-move how = subst (Move script ms w.steps e (at i) s) (sym x.ran) (moves (insert-wrote s x.horizon x.locks x.g x.c x.table x.rows))
       where
+        inner : SegTurn
+        inner = inserts x.g x.c (length x.rows) (inserted (base s x.horizon x.locks) x.g x.c x.table x.rows)
+
+        hold : Mark
+        hold = hold_mark s.node x.wanted
+
         now : SegTurn
-        now = inserts x.g x.c (length x.rows) (inserted (raised s x.horizon) x.g x.c x.table x.rows)
+        now = after_marks (hold ∷ []) inner
 
-        abbrev-marks : List Mark
-        abbrev-marks = map (row_mark x.g x.c (at i) x.table) x.rows
+        writes : List Mark
+        writes = map (row_mark x.g x.c (at i) x.table) x.rows
 
-        moves : Wrote s x.g x.c x.table x.rows (inserts x.g x.c (length x.rows) (inserted (raised s x.horizon) x.g x.c x.table x.rows)) → Move script ms w.steps e (at i) s (inserts x.g x.c (length x.rows) (inserted (raised s x.horizon) x.g x.c x.table x.rows))
+        behind-hold : Behind x.g x.c 1 (hold ∷ [])
+        behind-hold = record { calm = λ s. (tt, tt); running = refl; unwritten = λ rid l. refl }
+
+        written : Each (IsWritten (ms ++ hold ∷ writes)) x.rows
+        written =
+            subst (λ ns. Each (IsWritten ns) x.rows) (append_assoc ms (hold ∷ []) writes)
+            (mark-written x.g x.c (at i) x.table (ms ++ hold ∷ []) x.rows (own-rows script ms (at i) x.g x.c x.table x.rows piece))
+
+        moves : Wrote s x.g x.c x.table x.rows inner → Move script ms w.steps e (at i) s now
         moves f =
-            ran-move script numbered ms w.steps e i s kept x.g x.c (reply.Done x.c f.wrote (length x.rows) f.part) (inserts x.g x.c (length x.rows) (inserted (raised s x.horizon) x.g x.c x.table x.rows))
+            ran-move script numbered ms w.steps e i s kept x.g x.c (reply.Done x.c f.wrote (length x.rows) f.part) now
             (record {
               fresh = x.fresh;
               last = f.last;
@@ -299,20 +321,20 @@ module _ (script : Script) (numbered : AreLinesNumbered [] script.lines) (w : Wo
               other_lasts = f.other_lasts;
               other_answers = f.other_answers;
               outs = f.outs;
-              told = subst (λ ns. IsToldOf script (ms ++ ns) x.c.0 (at i) x.g (reply.Done x.c f.wrote (length x.rows) f.part)) (sym same) (
+              told = subst (λ ns. IsToldOf script (ms ++ hold ∷ ns) x.c.0 (at i) x.g (reply.Done x.c f.wrote (length x.rows) f.part)) (sym same) (
                 same-le refl,
                 record {
                   level = x.level;
                   snapshot = Some x.snapshot;
                   slice = slice.Insert x.table x.rows;
-                  order = order-later script numbered ms (map (row_mark x.g x.c (at i) x.table) x.rows) (at i) x.g x.c x.level (Some x.snapshot) (slice.Insert x.table x.rows) order;
-                  done = (refl, mark-written x.g x.c (at i) x.table ms x.rows (own-rows script ms (at i) x.g x.c x.table x.rows piece));
+                  order = order-later script numbered ms (hold ∷ writes) (at i) x.g x.c x.level (Some x.snapshot) (slice.Insert x.table x.rows) order;
+                  done = (refl, written);
                 },
               );
             })
-            (subst (Each (IsPlacedMark script ms)) (sym same) (each_map (IsPlacedMark script ms) (row_mark x.g x.c (at i) x.table) x.rows (each_weaker (IsPlacedRow script x.g x.c (at i) x.table piece.tuples) _ (λ r p. row-placed script ms x.g x.c (at i) x.table piece.tuples r piece.of p) x.rows rows-ok.0)))
-            (subst (Each (IsPastHere (λ h. ((inserts x.g x.c (length x.rows) (inserted (raised s x.horizon) x.g x.c x.table x.rows)).seg.locals h).last) (at i))) (sym same) (each_map _ (row_mark x.g x.c (at i) x.table) x.rows (each_weaker (IsPlacedRow script x.g x.c (at i) x.table piece.tuples) _ (λ r p. (refl, same-le f.last)) x.rows rows-ok.0)))
-            (λ later. subst (λ ns. EachMark (WriteLegal script) w.steps e [] ns later) (sym same) (rows-legal script numbered w x.g.0 x.c (at i) x.table piece.tuples e quiet piece.of how x.rows 1 [] later rows-ok.0 rows-ok.1 unwritten (behind-none x.g x.c)))
+            (tt, subst (Each (IsPlacedMark script ms)) (sym same) (each_map (IsPlacedMark script ms) (row_mark x.g x.c (at i) x.table) x.rows (each_weaker (IsPlacedRow script x.g x.c (at i) x.table piece.tuples) _ (λ r p. row-placed script ms x.g x.c (at i) x.table piece.tuples r piece.of p) x.rows rows-ok.0)))
+            (tt, subst (Each (IsPastHere (λ h. (inner.seg.locals h).last) (at i))) (sym same) (each_map _ (row_mark x.g x.c (at i) x.table) x.rows (each_weaker (IsPlacedRow script x.g x.c (at i) x.table piece.tuples) _ (λ r p. (refl, same-le f.last)) x.rows rows-ok.0)))
+            (λ later. (tt, subst (λ ns. EachMark (WriteLegal script) w.steps e (hold ∷ []) ns later) (sym same) (rows-legal script numbered w x.g.0 x.c (at i) x.table piece.tuples e quiet piece.of how x.rows 1 (hold ∷ []) later rows-ok.0 rows-ok.1 unwritten behind-hold)))
           where
-            same : (inserts x.g x.c (length x.rows) (inserted (raised s x.horizon) x.g x.c x.table x.rows)).marks ≡ map (row_mark x.g x.c (at i) x.table) x.rows
+            same : inner.marks ≡ writes
             same = f.marks ∙ ap (λ n. map (row_mark x.g x.c n x.table) x.rows) named

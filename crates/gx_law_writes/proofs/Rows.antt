@@ -14,12 +14,12 @@ use Rattle.gx_msg.specs.declared.message.Message.{Message}
 use Rattle.gx_msg.specs.declared.reply.Reply.TheVariants as reply
 use Rattle.gx_store.specs.declared.mark.Mark.{Mark}
 use Rattle.gx_store.specs.declared.mark.Mark.TheVariants as mark
-use Rattle.gx_rules.specs.AtSegment.{raised}
+use Rattle.gx_locks.specs.Locks.{Locks}
 use Rattle.gx_rules.specs.Maps.{with_at}
 use Rattle.gx_rules.specs.Segments.{Local, Seg, SegTurn, reply as reply_out}
 use Rattle.gx_rules.specs.Slices.{Moved, inserted, inserts, inserts_row}
 use Rattle.gx_law_order.proofs.Lists.{Each}
-use Rattle.gx_law_writes.proofs.Turns.{Inserted, NoFault}
+use Rattle.gx_law_writes.proofs.Turns.{Inserted, NoFault, base}
 
 -- the write of a row
 abbrev pub row_mark : Gxid → Cid → Node → Table → KeyedRow → Mark
@@ -61,8 +61,8 @@ module _ (g : Gxid) (c : Cid) (table : Table) where
       let y = one-local m (record (m.seg.locals g.0) { phase = Rattle.gx_rules.specs.Segments.Phase.Writing }) h refl refl in
       (x.0 ∙ y.0, x.1 ∙ y.1)
 
-pub insert-wrote : (s : Seg) (horizon : Gxid) (g : Gxid) (c : Cid) (table : Table) (rows : List KeyedRow) → Wrote s g c table rows (inserts g c (length rows) (inserted (raised s horizon) g c table rows))
-insert-wrote s horizon g c table rows =
+pub insert-wrote : (s : Seg) (horizon : Gxid) (locks : Locks) (g : Gxid) (c : Cid) (table : Table) (rows : List KeyedRow) → Wrote s g c table rows (inserts g c (length rows) (inserted (base s horizon locks) g c table rows))
+insert-wrote s horizon locks g c table rows =
     record {
       marks = rows-marks g c table rows m;
       wrote = Rattle.gx_rules.specs.Slices.has_written (done.seg.locals g.0).phase;
@@ -75,10 +75,10 @@ insert-wrote s horizon g c table rows =
     }
   where
     m : Moved
-    m = record { seg = raised s horizon; marks = [] }
+    m = record { seg = base s horizon locks; marks = [] }
 
     done : Moved
-    done = inserted (raised s horizon) g c table rows
+    done = inserted (base s horizon locks) g c table rows
 
     after : Local
     after = record (done.seg.locals g.0) { last = c.0; answer = Some (reply.Done c (Rattle.gx_rules.specs.Slices.has_written (done.seg.locals g.0).phase) (length rows) (Rattle.gx_tree.specs.declared.part.Part.TheVariants.Rows [])) }
@@ -90,4 +90,4 @@ rows-no-fault g c node table (r ∷ rs) = (tt, rows-no-fault g c node table rs)
 
 pub insert-no-fault : (s : Seg) (m : Message) (turn : SegTurn) → Inserted s m turn → Each NoFault turn.marks
 insert-no-fault s m turn x =
-    subst (λ (y : SegTurn). Each NoFault y.marks) (sym x.ran) (subst (Each NoFault) (sym (insert-wrote s x.horizon x.g x.c x.table x.rows).marks) (rows-no-fault x.g x.c s.node x.table x.rows))
+    subst (λ (y : SegTurn). Each NoFault y.marks) (sym x.ran) (tt, subst (Each NoFault) (sym (insert-wrote s x.horizon x.locks x.g x.c x.table x.rows).marks) (rows-no-fault x.g x.c s.node x.table x.rows))

@@ -1,5 +1,5 @@
 -- What a segment does when a message comes: it runs a command's slice, or it writes nothing and repeats what it kept.
-use Rattle.std.proofs.Common.{◌≡◌, ◌<◌, ◌⊎◌, inl, inr, ℕ, List, [], ◌∷◌, Option, Some, None, Bool, true, false, refl, sym, ap, ◌∙◌, if◌then◌else◌, ◌==◌, arith, eqb}
+use Rattle.std.proofs.Common.{◌≡◌, ◌<◌, ◌⊎◌, inl, inr, ℕ, List, [], ◌∷◌, Option, Some, None, Bool, true, false, not, refl, sym, ap, ◌∙◌, if◌then◌else◌, ◌==◌, arith, eqb}
 use Rattle.std.proofs.lemmas.Bool.{eqb-true}
 use Rattle.std.proofs.lemmas.Bool.Decides.{nat_tests}
 use Rattle.std.specs.Prelude.{length, nat_lt}
@@ -13,6 +13,10 @@ use Rattle.gx_tree.specs.declared.slice.Slice.TheVariants as slice
 use Rattle.gx_tree.specs.declared.stmt.Level.{Level}
 use Rattle.gx_dsnap.specs.Gxids.{is_below}
 use Rattle.gx_dsnap.specs.declared.snapshot.Snapshot.{Snapshot}
+use Rattle.gx_modes.specs.declared.modes.Mode.TheVariants.{AccessShare, RowExclusive}
+use Rattle.gx_waits.specs.declared.claim.Claim.{Claim}
+use Rattle.gx_waits.specs.declared.object.Object.TheVariants.{Relation}
+use Rattle.gx_locks.specs.Locks.{Locks}
 use Rattle.gx_msg.specs.declared.item.JournalItem.{JournalItem}
 use Rattle.gx_msg.specs.declared.message.Message.{Message}
 use Rattle.gx_msg.specs.declared.message.Message.TheVariants as message
@@ -22,12 +26,16 @@ use Rattle.gx_msg.specs.declared.reply.Reply.TheVariants as reply
 use Rattle.gx_script.specs.declared.Script.{Script}
 use Rattle.gx_store.specs.declared.mark.Mark.{Mark}
 use Rattle.gx_store.specs.declared.mark.Mark.TheVariants as mark
-use Rattle.gx_rules.specs.AtSegment.{changes, commits, finishes, if_fits, is_refused, on_abort, on_commit, on_commit_prepared, on_exec, on_forget, on_message, on_prepare, once, promises, raised, repeats, takes, unless_below, was_prepared}
-use Rattle.gx_rules.specs.Fits.{fits_exec}
-use Rattle.gx_rules.specs.Segments.{Local, Phase, Seg, SegTurn, local_of, stays, tells, tells_kept}
+use Rattle.gx_rules.specs.AtSegment.{changes, commits, ends, finishes, if_fits, is_refused, on_abort, on_commit, on_commit_prepared, on_exec, on_forget, on_message, on_prepare, once, promises, raised, repeats, takes, unless_below, was_prepared}
+use Rattle.gx_rules.specs.Fits.{fits_exec, is_waiting}
+use Rattle.gx_rules.specs.Locks.{hold_mark, release_marks, with_hold}
+use Rattle.gx_rules.specs.Segments.{Local, Phase, Seg, SegTurn, after_marks, local_of, stays, tells, tells_kept}
 use Rattle.gx_rules.specs.Segments.Phase.{Reading, Writing, Prepared, Committed, Forgotten, Aborted}
 use Rattle.gx_rules.specs.Shown.{shown}
-use Rattle.gx_rules.specs.Slices.{first_fault, inserted, inserts, runs_slice, selects}
+use Rattle.gx_rules.specs.Slices.{first_fault, inserted, inserts, selects, starts_slice}
+use Rattle.gx_store.specs.Waits.{claim}
+use Rattle.gx_law_order.proofs.Calm.{AreCalm, each-released}
+use Rattle.gx_law_order.proofs.CalmSegs.{granted-calm}
 use Rattle.gx_law_order.proofs.Lists.{Each}
 use Rattle.gx_law_commit.specs.Pairs.{is_open}
 
@@ -68,7 +76,11 @@ pub record Quiet (s : Seg) (turn : SegTurn) : Type 0 where
   pub lasts : (h : ℕ) → (turn.seg.locals h).last ≡ (s.locals h).last
   pub outs : Each (λ (o : Out). IsOldWord s o.message) turn.outs
 
--- a SELECT runs on the rows that the segment shows
+-- the segment with a new horizon and its lock
+abbrev pub base : Seg → Gxid → Locks → Seg
+base s horizon locks = record (raised s horizon) { locks = locks }
+
+-- a SELECT runs on the rows that the segment shows, behind the mark of its lock
 pub record Selected (s : Seg) (m : Message) (turn : SegTurn) : Type 0 where
   pub g : Gxid
   pub c : Cid
@@ -78,7 +90,9 @@ pub record Selected (s : Seg) (m : Message) (turn : SegTurn) : Type 0 where
   pub query : Query
   pub is : m ≡ message.Exec g c level (Some snapshot) horizon (slice.Select query)
   pub fresh : (s.locals g.0).last < c.0
-  pub ran : turn ≡ selects (raised s horizon) g c query (shown (raised s horizon) snapshot g c query.table) (first_fault query.cond (shown (raised s horizon) snapshot g c query.table))
+  pub locks : Locks
+  pub wanted : Claim
+  pub ran : turn ≡ after_marks (hold_mark s.node wanted ∷ []) (selects (base s horizon locks) g c query (shown (raised s horizon) snapshot g c query.table) (first_fault query.cond (shown (raised s horizon) snapshot g c query.table)))
 
 pub record Inserted (s : Seg) (m : Message) (turn : SegTurn) : Type 0 where
   pub g : Gxid
@@ -91,12 +105,14 @@ pub record Inserted (s : Seg) (m : Message) (turn : SegTurn) : Type 0 where
   pub is : m ≡ message.Exec g c level (Some snapshot) horizon (slice.Insert table rows)
   pub opened : is_open (s.locals g.0).phase ≡ true
   pub fresh : (s.locals g.0).last < c.0
-  pub ran : turn ≡ inserts g c (length rows) (inserted (raised s horizon) g c table rows)
+  pub locks : Locks
+  pub wanted : Claim
+  pub ran : turn ≡ after_marks (hold_mark s.node wanted ∷ []) (inserts g c (length rows) (inserted (base s horizon locks) g c table rows))
 
 abbrev pub Turns : Seg → Message → SegTurn → Type 0
 Turns s m turn = Quiet s turn ⊎ Selected s m turn ⊎ Inserted s m turn
 
-module _ (s : Seg) where
+module _ (s : Seg) (calm : AreCalm s.locks) where
   abbrev Rests : SegTurn → Type 0
   Rests turn = Quiet s turn
 
@@ -196,8 +212,10 @@ module _ (s : Seg) where
   commit-prepared g fails (Forgotten false) = stay
   commit-prepared g fails Aborted = stay
 
-  moved : (g : Gxid) (p : Phase) (r : Reply) → IsOldReply s g r → Rests (changes s g (record (s.locals g.0) { phase = p }) [] r None)
-  moved g p r o = change g _ [] r None tt refl refl o
+  moved : (g : Gxid) (p : Phase) (r : Reply) → IsOldReply s g r → Rests (ends s g (s.locals g.0) p r)
+  moved g p r o =
+      let x = change g (record (s.locals g.0) { phase = p; suspended = None }) (release_marks s.node s.locks g) r None (each-released NoRow s.node s.locks g (λ claim. tt)) refl refl o in
+      record { marks = x.marks; answers = x.answers; lasts = x.lasts; outs = x.outs }
 
   abort : (g : Gxid) (p : Phase) → Rests (on_abort s g (s.locals g.0) p)
   abort g Reading = moved g Aborted reply.Aborted tt
@@ -220,25 +238,37 @@ module _ (s : Seg) where
     lies : Quiet s (stays (raised s h))
     lies = record { marks = tt; answers = λ j. refl; lasts = λ j. refl; outs = tt }
 
-    run : (x : Option Snapshot) (y : Slice) → Turns s (message.Exec g c level x h y) (runs_slice (raised s h) g c x y)
-    run (Some x) (slice.Select q) = inr (inl (record { g = g; c = c; level = level; snapshot = x; horizon = h; query = q; is = refl; fresh = fresh; ran = refl }))
-    run (Some x) (slice.Insert t rows) = inr (inr (record { g = g; c = c; level = level; snapshot = x; horizon = h; table = t; rows = rows; is = refl; opened = opened; fresh = fresh; ran = refl }))
-    run (Some x) (slice.Update t a d) = inl lies
-    run (Some x) (slice.Delete t d) = inl lies
-    run (Some x) (slice.Lock t m) = inl lies
-    run None y = inl lies
+    start : (x : Option Snapshot) (y : Slice) → Turns s (message.Exec g c level x h y) (starts_slice (raised s h) g c level x y)
+    start (Some x) (slice.Select q) =
+        granted-calm (Turns s (message.Exec g c level (Some x) h (slice.Select q))) (raised s h) calm g c level (Some x) (slice.Select q) (claim g (Relation q.table) AccessShare) refl
+        (inr (inl (record { g = g; c = c; level = level; snapshot = x; horizon = h; query = q; is = refl; fresh = fresh; locks = with_hold s.locks (claim g (Relation q.table) AccessShare); wanted = claim g (Relation q.table) AccessShare; ran = refl })))
+    start (Some x) (slice.Insert t rows) =
+        granted-calm (Turns s (message.Exec g c level (Some x) h (slice.Insert t rows))) (raised s h) calm g c level (Some x) (slice.Insert t rows) (claim g (Relation t) RowExclusive) refl
+        (inr (inr (record { g = g; c = c; level = level; snapshot = x; horizon = h; table = t; rows = rows; is = refl; opened = opened; fresh = fresh; locks = with_hold s.locks (claim g (Relation t) RowExclusive); wanted = claim g (Relation t) RowExclusive; ran = refl })))
+    start None (slice.Select q) =
+        granted-calm (Turns s (message.Exec g c level None h (slice.Select q))) (raised s h) calm g c level None (slice.Select q) (claim g (Relation q.table) AccessShare) refl
+        (inl (record { marks = (tt, tt); answers = λ j. refl; lasts = λ j. refl; outs = tt }))
+    start None (slice.Insert t rows) =
+        granted-calm (Turns s (message.Exec g c level None h (slice.Insert t rows))) (raised s h) calm g c level None (slice.Insert t rows) (claim g (Relation t) RowExclusive) refl
+        (inl (record { marks = (tt, tt); answers = λ j. refl; lasts = λ j. refl; outs = tt }))
+    start (Some x) (slice.Update t a d) = inl lies
+    start (Some x) (slice.Delete t d) = inl lies
+    start (Some x) (slice.Lock t m) = inl lies
+    start None (slice.Update t a d) = inl lies
+    start None (slice.Delete t d) = inl lies
+    start None (slice.Lock t m) = inl lies
 
   below-is : (a b : ℕ) → nat_lt a b ≡ true → a < b
   below-is a b e = grind (arith, nat_tests)
 
-  take : (g : Gxid) (c : Cid) (level : Level) (x : Option Snapshot) (h : Gxid) (y : Slice) → is_open (s.locals g.0).phase ≡ true → Turns s (message.Exec g c level x h y) (takes s g c x h y (s.locals g.0))
+  take : (g : Gxid) (c : Cid) (level : Level) (x : Option Snapshot) (h : Gxid) (y : Slice) → is_open (s.locals g.0).phase ≡ true → Turns s (message.Exec g c level x h y) (takes s g c level x h y (s.locals g.0))
   take g c level x h y o = by_test (nat_lt (s.locals g.0).last c.0) refl
     where
-      by_test : (b : Bool) → nat_lt (s.locals g.0).last c.0 ≡ b → Turns s (message.Exec g c level x h y) (if b then runs_slice (raised s h) g c x y else repeats s g c (s.locals g.0))
-      by_test true e = run g c level h (below-is _ _ e) o x y
+      by_test : (b : Bool) → nat_lt (s.locals g.0).last c.0 ≡ b → Turns s (message.Exec g c level x h y) (if b then starts_slice (raised s h) g c level x y else repeats s g c (s.locals g.0))
+      by_test true e = start g c level h (below-is _ _ e) o x y
       by_test false e = inl (repeat g c)
 
-  exec : (g : Gxid) (c : Cid) (level : Level) (x : Option Snapshot) (h : Gxid) (y : Slice) (p : Phase) → (s.locals g.0).phase ≡ p → Turns s (message.Exec g c level x h y) (on_exec s g c x h y (s.locals g.0) p)
+  exec : (g : Gxid) (c : Cid) (level : Level) (x : Option Snapshot) (h : Gxid) (y : Slice) (p : Phase) → (s.locals g.0).phase ≡ p → Turns s (message.Exec g c level x h y) (on_exec s g c level x h y (s.locals g.0) p)
   exec g c level x h y Reading e = take g c level x h y (ap is_open e)
   exec g c level x h y Writing e = take g c level x h y (ap is_open e)
   exec g c level x h y Prepared e = inl (repeat g c)
@@ -259,8 +289,8 @@ module _ (s : Seg) where
 
   pub message-turns : (script : Script) (fails : Bool) (m : Message) → Turns s m (on_message script s fails m)
   message-turns script fails (message.Exec g c level x h y) = below _ g _ (fits _ (fits_exec script s g c x h y) _ (exec g c level x h y (local_of s g).phase refl))
-  message-turns script fails (message.Prepare g) = below _ g _ (inl (prepare g fails _))
-  message-turns script fails (message.Commit g) = below _ g _ (inl (commit g fails _))
+  message-turns script fails (message.Prepare g) = below _ g _ (fits _ (not (is_waiting (local_of s g))) _ (inl (prepare g fails _)))
+  message-turns script fails (message.Commit g) = below _ g _ (fits _ (not (is_waiting (local_of s g))) _ (inl (commit g fails _)))
   message-turns script fails (message.CommitPrepared g) = below _ g _ (inl (commit-prepared g fails _))
   message-turns script fails (message.Abort g) = below _ g _ (inl (abort g _))
   message-turns script fails (message.Forget g) = below _ g _ (inl (forget g _))

@@ -29,6 +29,7 @@ use Rattle.gx_rules.specs.Machine.{Letter, World, after, at_node, can, coord_did
 use Rattle.gx_rules.specs.Maps.{with_at}
 use Rattle.gx_rules.specs.Segments.{Local, Seg, SegTurn}
 use Rattle.gx_rules.specs.Sending.{clock_after, counted, numbered}
+use Rattle.gx_law_order.proofs.CalmSegs.{nobody-goes-on}
 use Rattle.gx_law_order.proofs.AtSegments.{PlainAt, seg_stays}
 use Rattle.gx_law_order.proofs.Letters.{IsFound, IsLetter, found_is}
 use Rattle.gx_law_order.proofs.Lists.{Each, each_append, each_weaker}
@@ -213,7 +214,7 @@ module _ (script : Script) (some : 1 ≤ script.segments) (numbered_lines : AreL
         by_back (inr (inr z)) = inr (record { aborted = z; was = subst (HasRun script w.steps) x.is ran_is })
 
     move : Move script ms w.steps e (at i) s turn
-    move = by_turn (message-turns s script fails envelope.message)
+    move = by_turn (message-turns s (b.knows.well.calm i).locks script fails envelope.message)
       where
         by_turn : Turns s envelope.message turn → Move script ms w.steps e (at i) s turn
         by_turn (inl q) = quiet-move script numbered_lines ms w.steps e i s (h.kept i) (λ g. (b.holds.stands.pairs i g).vote) turn q
@@ -378,7 +379,7 @@ module _ (script : Script) (some : 1 ≤ script.segments) (numbered_lines : AreL
 
         by_test : (q : Bool) → (if q then coord_can script w.coord x else seg_can script (w.segs m.0) x) ≡ true → let v : World = if q then coord_did w e (coord_rule script w.coord x fails) else seg_did w m e (seg_rule script (w.segs m.0) x fails) in Holds script v.segs v.steps
         by_test true ok = coord-holds w b.knows.well h e x fails
-        by_test false ok = absurd (cc)
+        by_test false ok = absurd (nobody-goes-on script (w.segs m.0) g (b.knows.well.calm m.0) ok)
 
     event-holds : (e : Event) (fails : Bool) → can script w e ≡ true → let v : World = does script w e (node_of e) fails (at_node w e) in Holds script v.segs v.steps
     event-holds (event.Receive from to number) fails ok = arrives from to number fails (found from to number w.sent) refl

@@ -1,9 +1,9 @@
 // PREPARE, COMMIT and COMMIT PREPARED.
-ghost use Rattle.std.specs.Prelude.{◌≡◌, ◌≤◌, true, false, Some, None, IfOk, OnErr};
-ghost use Rattle.gx_outside.specs.Causes.{Rose};
+ghost use Rattle.std.specs.Prelude.{◌≡◌, true, false, Some, None, IfOk, OnErr};
+ghost use Rattle.gx_outside.specs.Shelves.{HasKept};
 ghost use Rattle.gx_node.specs.Changes.{Does, commits_now, finishes_now, promises, unless_prepared, unless_waiting};
 ghost use Rattle.gx_node.specs.Changes as change;
-ghost use Rattle.gx_node.specs.Orders.{AreItems};
+ghost use Rattle.gx_node.specs.Orders.{Took};
 ghost use Rattle.gx_node.specs.Phases.{local_of, phase_of};
 
 use crate::appending::append;
@@ -61,10 +61,8 @@ fn promise<J: Journal>(
     journal: &mut J,
 ) -> Mem<Taken>
     ensures does { IfOk result (λ taken. Does (promises node gxid kept taken.fails (local_of local.old)) (local_of local.new) taken) }
-    ensures items { IfOk result (λ taken. AreItems (J.items journal.old) (J.items journal.new) taken.fails (promises node gxid kept taken.fails (local_of local.old)).item) }
-    ensures caused { IfOk result (λ taken. taken.fails ≡ true → Rose (J.fault_count journal.old) (J.fault_count journal.new)) }
-    ensures later { J.fault_count journal.old ≤ J.fault_count journal.new }
-    ensures err { OnErr result ((local.new ≡ local.old) × (J.items journal.new ≡ J.items journal.old)) }
+    ensures took { IfOk result (λ taken. Took (J.shelf journal.old) (J.shelf journal.new) taken.fails (promises node gxid kept taken.fails (local_of local.old)).item) }
+    ensures err { OnErr result ((local.new ≡ local.old) × HasKept (J.shelf journal.old) (J.shelf journal.new)) }
 {
     let item = JournalItem::Prepare(gxid, kept);
     if append(alloc, &item, journal)? {
@@ -90,11 +88,9 @@ pub(crate) fn take_prepare<J: Journal>(
     journal: &mut J,
 ) -> Mem<Taken>
     ensures does { IfOk result (λ taken. Does (unless_waiting (local_of local.old) (change.prepares node gxid kept taken.fails (local_of local.old) (phase_of local.old.phase))) (local_of local.new) taken) }
-    ensures items { IfOk result (λ taken. AreItems (J.items journal.old) (J.items journal.new) taken.fails (unless_waiting (local_of local.old)
+    ensures took { IfOk result (λ taken. Took (J.shelf journal.old) (J.shelf journal.new) taken.fails (unless_waiting (local_of local.old)
         (change.prepares node gxid kept taken.fails (local_of local.old) (phase_of local.old.phase))).item) }
-    ensures caused { IfOk result (λ taken. taken.fails ≡ true → Rose (J.fault_count journal.old) (J.fault_count journal.new)) }
-    ensures later { J.fault_count journal.old ≤ J.fault_count journal.new }
-    ensures err { OnErr result ((local.new ≡ local.old) × (J.items journal.new ≡ J.items journal.old)) }
+    ensures err { OnErr result ((local.new ≡ local.old) × HasKept (J.shelf journal.old) (J.shelf journal.new)) }
 {
     if local.is_waiting() {
         return Ok(nothing());
@@ -116,10 +112,8 @@ fn commit<J: Journal>(
     journal: &mut J,
 ) -> Mem<Taken>
     ensures does { IfOk result (λ taken. Does (commits_now node gxid kept taken.fails (local_of local.old)) (local_of local.new) taken) }
-    ensures items { IfOk result (λ taken. AreItems (J.items journal.old) (J.items journal.new) taken.fails (commits_now node gxid kept taken.fails (local_of local.old)).item) }
-    ensures caused { IfOk result (λ taken. taken.fails ≡ true → Rose (J.fault_count journal.old) (J.fault_count journal.new)) }
-    ensures later { J.fault_count journal.old ≤ J.fault_count journal.new }
-    ensures err { OnErr result ((local.new ≡ local.old) × (J.items journal.new ≡ J.items journal.old)) }
+    ensures took { IfOk result (λ taken. Took (J.shelf journal.old) (J.shelf journal.new) taken.fails (commits_now node gxid kept taken.fails (local_of local.old)).item) }
+    ensures err { OnErr result ((local.new ≡ local.old) × HasKept (J.shelf journal.old) (J.shelf journal.new)) }
 {
     let item = JournalItem::Commit(gxid, kept);
     if append(alloc, &item, journal)? {
@@ -156,11 +150,9 @@ pub(crate) fn take_commit<J: Journal>(
     journal: &mut J,
 ) -> Mem<Taken>
     ensures does { IfOk result (λ taken. Does (unless_waiting (local_of local.old) (change.commits node gxid kept taken.fails (local_of local.old) (phase_of local.old.phase))) (local_of local.new) taken) }
-    ensures items { IfOk result (λ taken. AreItems (J.items journal.old) (J.items journal.new) taken.fails (unless_waiting (local_of local.old)
+    ensures took { IfOk result (λ taken. Took (J.shelf journal.old) (J.shelf journal.new) taken.fails (unless_waiting (local_of local.old)
         (change.commits node gxid kept taken.fails (local_of local.old) (phase_of local.old.phase))).item) }
-    ensures caused { IfOk result (λ taken. taken.fails ≡ true → Rose (J.fault_count journal.old) (J.fault_count journal.new)) }
-    ensures later { J.fault_count journal.old ≤ J.fault_count journal.new }
-    ensures err { OnErr result ((local.new ≡ local.old) × (J.items journal.new ≡ J.items journal.old)) }
+    ensures err { OnErr result ((local.new ≡ local.old) × HasKept (J.shelf journal.old) (J.shelf journal.new)) }
 {
     if local.is_waiting() {
         return Ok(nothing());
@@ -185,10 +177,8 @@ fn finish<J: Journal>(
     journal: &mut J,
 ) -> Mem<Taken>
     ensures does { IfOk result (λ taken. Does (finishes_now node gxid taken.fails (local_of local.old)) (local_of local.new) taken) }
-    ensures items { IfOk result (λ taken. AreItems (J.items journal.old) (J.items journal.new) taken.fails (finishes_now node gxid taken.fails (local_of local.old)).item) }
-    ensures caused { IfOk result (λ taken. taken.fails ≡ true → Rose (J.fault_count journal.old) (J.fault_count journal.new)) }
-    ensures later { J.fault_count journal.old ≤ J.fault_count journal.new }
-    ensures err { OnErr result ((local.new ≡ local.old) × (J.items journal.new ≡ J.items journal.old)) }
+    ensures took { IfOk result (λ taken. Took (J.shelf journal.old) (J.shelf journal.new) taken.fails (finishes_now node gxid taken.fails (local_of local.old)).item) }
+    ensures err { OnErr result ((local.new ≡ local.old) × HasKept (J.shelf journal.old) (J.shelf journal.new)) }
 {
     if append(alloc, &JournalItem::Finish(gxid), journal)? {
         return Ok(Taken {
@@ -215,11 +205,9 @@ pub(crate) fn take_commit_prepared<J: Journal>(
     journal: &mut J,
 ) -> Mem<Taken>
     ensures does { IfOk result (λ taken. Does (change.finishes node gxid taken.fails (local_of local.old) (phase_of local.old.phase)) (local_of local.new) taken) }
-    ensures items { IfOk result (λ taken. AreItems (J.items journal.old) (J.items journal.new) taken.fails (change.finishes node gxid taken.fails
+    ensures took { IfOk result (λ taken. Took (J.shelf journal.old) (J.shelf journal.new) taken.fails (change.finishes node gxid taken.fails
         (local_of local.old) (phase_of local.old.phase)).item) }
-    ensures caused { IfOk result (λ taken. taken.fails ≡ true → Rose (J.fault_count journal.old) (J.fault_count journal.new)) }
-    ensures later { J.fault_count journal.old ≤ J.fault_count journal.new }
-    ensures err { OnErr result ((local.new ≡ local.old) × (J.items journal.new ≡ J.items journal.old)) }
+    ensures err { OnErr result ((local.new ≡ local.old) × HasKept (J.shelf journal.old) (J.shelf journal.new)) }
 {
     match local.phase {
         Phase::Prepared => finish(alloc, node, gxid, local, journal),

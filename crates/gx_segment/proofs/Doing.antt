@@ -4,23 +4,27 @@ use Rattle.std.proofs.lemmas.Bool.Decides.{nat_tests}
 use Rattle.gx_ids.specs.declared.ids.Cid.{Cid}
 use Rattle.gx_ids.specs.declared.ids.Gxid.{Gxid}
 use Rattle.gx_ids.specs.declared.ids.Node.{Node}
-use Rattle.std.specs.Prelude.{◌&&◌, not, nat_le}
+use Rattle.std.specs.Prelude.{◌&&◌, ◌++◌, not, nat_le, nat_lt}
 use Rattle.gx_tree.specs.declared.schema.Schema.{Schema}
 use Rattle.gx_tree.specs.declared.slice.Slice.{Slice}
+use Rattle.gx_tree.specs.declared.stmt.Level.{Level}
 use Rattle.gx_dsnap.specs.Gxids.{is_below}
 use Rattle.gx_dsnap.specs.declared.snapshot.Snapshot.{Snapshot}
 use Rattle.gx_dtx.specs.declared.order.Order.{Order}
 use Rattle.gx_msg.specs.declared.item.JournalItem.{JournalItem}
 use Rattle.gx_msg.specs.declared.item.Kept.{Kept}
 use Rattle.gx_msg.specs.declared.reply.Reply.{Reply}
-use Rattle.gx_node.specs.Changes.{Change, change_of, marks_in, outs_in, turn_of}
-use Rattle.gx_node.specs.Orders.{AreItems}
+use Rattle.gx_locks.specs.Locks.{Locks}
+use Rattle.gx_node.specs.Changes.{Change, change_of, left_locks, left_marks, marks_in, outs_in, turn_of}
+use Rattle.gx_outside.specs.Shelves.{Shelf}
+use Rattle.gx_node.specs.Orders.{Took}
 use Rattle.gx_node.specs.declared.local.Taken.{Taken}
 use Rattle.gx_node.proofs.Turns.{turn-makes}
 use Rattle.gx_rules.specs.AtSegment.{if_fits, on_exec}
-use Rattle.gx_rules.specs.Fits.{holds_locks, is_right_slice}
+use Rattle.gx_rules.specs.Fits.{holds_locks, is_right_slice, is_waiting}
 use Rattle.gx_rules.specs.Maps.{each_below}
-use Rattle.gx_rules.specs.Segments.{Local, Seg, SegTurn, local_of, stays, tells_kept}
+use Rattle.gx_rules.specs.Segments.{Local, Seg, SegTurn, after_marks, local_of, stays, tells_kept}
+use Rattle.gx_store.specs.declared.mark.Mark.{Mark}
 use Rattle.gx_rules.specs.Shown.{kept_of}
 use Rattle.gx_rules.specs.Slices.{runs_slice}
 use Rattle.gx_script.specs.declared.Script.{Script}
@@ -139,7 +143,13 @@ module _ (o : Order) (s : Seg) (g : Gxid) (tables : List Schema) (held held' : H
       subst (λ (b : Bool). HasDone tables (record held' { locks = locks }) horizon done (turn b)) (sym (ap (λ (x : Done). x.fails) d))
       (HasDone-ordered o s g taken.fails tables held held' horizon change taken done node locks is n e alive moved (made-held o s g taken.fails tables held node is n alive) d left)
 
-  pub AreItems-order : (before after : List (List ℕ)) → AreItems before after taken.fails change.item → AreItems before after done.fails (turn done.fails).item
-  AreItems-order before after items =
-      subst (λ (b : Bool). AreItems before after b (turn b).item) (sym (ap (λ (x : Done). x.fails) d))
-      (subst (λ (it : Option JournalItem). AreItems before after taken.fails it) (item-ordered o s g taken.fails change alive (made-held o s g taken.fails tables held node is n alive)) items)
+  pub Took-order : (before after : Shelf) → Took before after taken.fails change.item → Took before after done.fails (turn done.fails).item
+  Took-order before after took =
+      subst (λ (b : Bool). Took before after b (turn b).item) (sym (ap (λ (x : Done). x.fails) d))
+      (subst (λ (it : Option JournalItem). Took before after taken.fails it) (item-ordered o s g taken.fails change alive (made-held o s g taken.fails tables held node is n alive)) took)
+
+pub HasDone-none : (script : Script) (s : Seg) (g : Gxid) (c : Cid) (level : Level) (snapshot : Option Snapshot) (h : Gxid) (slice : Slice) (tables : List Schema) (held : Held) (horizon : Gxid) (done : Done) → IsHeld tables held s → horizon ≡ s.horizon → snapshot ≡ None → done ≡ no_done → HasDone tables held horizon done (exec_turn script s g c level snapshot h slice)
+HasDone-none script s g c level snapshot h slice tables held horizon done is e none d =
+    subst (λ (o : Option Snapshot). HasDone tables held horizon done (exec_turn script s g c level o h slice)) (sym none)
+    (subst (λ (t : SegTurn). HasDone tables held horizon done t) (sym (exec_turn-none script s g c level h slice))
+    (subst (λ (x : Done). HasDone tables held horizon x (stays s)) (sym d) (HasDone-stays tables held horizon s is e)))

@@ -1,7 +1,7 @@
 // What comes to a segment, message by message.
-ghost use Rattle.std.specs.Prelude.{◌≡◌, ◌≤◌, true, IfOk};
-ghost use Rattle.gx_outside.specs.Causes.{Rose};
-ghost use Rattle.gx_node.specs.Orders.{AreItems};
+ghost use Rattle.std.specs.Prelude.{◌≡◌, IfOk};
+ghost use Rattle.gx_outside.specs.Shelves.{IsLater};
+ghost use Rattle.gx_node.specs.Orders.{Took};
 ghost use Rattle.gx_rules.specs.AtSegment.{on_event, on_message};
 ghost use Rattle.gx_rules.specs.Machine.{seg_can};
 ghost use Rattle.gx_slices.specs.Agrees.{IsHeld};
@@ -39,9 +39,8 @@ pub(crate) fn take_event<J: Journal, G: Gate>(
     requires horizon { horizon.old ≡ was.seg.horizon }
     requires admitted { seg_can was.script was.seg event ≡ true }
     ensures done { IfOk result (λ done. HasDone was.script.tables held.new horizon.new done (on_event was.script was.seg event done.fails)) }
-    ensures items { IfOk result (λ done. AreItems (J.items journal.old) (J.items journal.new) done.fails (on_event was.script was.seg event done.fails).item) }
-    ensures caused { IfOk result (λ done. done.fails ≡ true → Rose (J.fault_count journal.old) (J.fault_count journal.new)) }
-    ensures later { J.fault_count journal.old ≤ J.fault_count journal.new }
+    ensures took { IfOk result (λ done. Took (J.shelf journal.old) (J.shelf journal.new) done.fails (on_event was.script was.seg event done.fails).item) }
+    ensures later { IsLater (J.shelf journal.old) (J.shelf journal.new) }
 {
     match event {
         NodeEvent::Deliver { from: _, envelope } => {
@@ -77,9 +76,8 @@ fn take_message<J: Journal, G: Gate>(
     requires held { IsHeld was.script.tables held.old was.seg }
     requires horizon { horizon.old ≡ was.seg.horizon }
     ensures done { IfOk result (λ done. HasDone was.script.tables held.new horizon.new done (on_message was.script was.seg done.fails message)) }
-    ensures items { IfOk result (λ done. AreItems (J.items journal.old) (J.items journal.new) done.fails (on_message was.script was.seg done.fails message).item) }
-    ensures caused { IfOk result (λ done. done.fails ≡ true → Rose (J.fault_count journal.old) (J.fault_count journal.new)) }
-    ensures later { J.fault_count journal.old ≤ J.fault_count journal.new }
+    ensures took { IfOk result (λ done. Took (J.shelf journal.old) (J.shelf journal.new) done.fails (on_message was.script was.seg done.fails message).item) }
+    ensures later { IsLater (J.shelf journal.old) (J.shelf journal.new) }
 {
     match message {
         Message::Exec {

@@ -1,11 +1,11 @@
 // PREPARE, COMMIT, COMMIT PREPARED, ABORT and FORGET.
-ghost use Rattle.std.specs.Prelude.{◌≡◌, ◌≤◌, ◌==◌, ◌&&◌, Bool, true, false, if◌then◌else◌, ◌++◌, IfOk, OnOk};
+ghost use Rattle.std.specs.Prelude.{◌≡◌, ◌≤◌, ◌==◌, ◌&&◌, Bool, false, ◌++◌, if◌then◌else◌, IfOk, OnOk};
 ghost use Rattle.std.specs.BTreeSet.{contains};
 ghost use Rattle.gx_ids.specs.declared.ids.Gxid.{Gxid};
 ghost use Rattle.gx_dsnap.specs.Gxids.{gxid_cmp};
-ghost use Rattle.gx_outside.specs.Causes.{Rose};
+ghost use Rattle.gx_outside.specs.Shelves.{IsLater};
 ghost use Rattle.gx_node.specs.Changes.{Does, change_of, left_locks, left_marks, marks_in};
-ghost use Rattle.gx_node.specs.Orders.{AreItems};
+ghost use Rattle.gx_node.specs.Orders.{Took};
 ghost use Rattle.gx_node.specs.Phases.{local_of, phase_of};
 ghost use Rattle.gx_rules.specs.Segments.{has_ended};
 ghost use Rattle.gx_rules.specs.Segments as rule;
@@ -43,9 +43,8 @@ pub(crate) fn take<J: Journal>(
     requires held { IsHeld was.script.tables held.old was.seg }
     requires horizon { horizon ≡ was.seg.horizon }
     ensures done { IfOk result (λ done. HasDone was.script.tables held.new horizon done (order_turn order was.seg gxid done.fails)) }
-    ensures items { IfOk result (λ done. AreItems (J.items journal.old) (J.items journal.new) done.fails (order_turn order was.seg gxid done.fails).item) }
-    ensures caused { IfOk result (λ done. done.fails ≡ true → Rose (J.fault_count journal.old) (J.fault_count journal.new)) }
-    ensures later { J.fault_count journal.old ≤ J.fault_count journal.new }
+    ensures took { IfOk result (λ done. Took (J.shelf journal.old) (J.shelf journal.new) done.fails (order_turn order was.seg gxid done.fails).item) }
+    ensures later { IsLater (J.shelf journal.old) (J.shelf journal.new) }
 {
     if gxid < horizon {
         return Ok(nothing(alloc));
@@ -113,10 +112,9 @@ fn obey<J: Journal>(
 ) -> Mem<Taken>
     requires { held.old.store.horizon.0 ≤ gxid.0 }
     ensures moved { IfOk result (λ taken. HasMoved held.old held.new gxid (change_of order node gxid (rows_in (entry_at held.old gxid)) taken.fails (local_in (entry_at held.old gxid))) taken) }
-    ensures items { IfOk result (λ taken. AreItems (J.items journal.old) (J.items journal.new) taken.fails
+    ensures took { IfOk result (λ taken. Took (J.shelf journal.old) (J.shelf journal.new) taken.fails
         (change_of order node gxid (rows_in (entry_at held.old gxid)) taken.fails (local_in (entry_at held.old gxid))).item) }
-    ensures caused { IfOk result (λ taken. taken.fails ≡ true → Rose (J.fault_count journal.old) (J.fault_count journal.new)) }
-    ensures later { J.fault_count journal.old ≤ J.fault_count journal.new }
+    ensures later { IsLater (J.shelf journal.old) (J.shelf journal.new) }
 {
     let mut entry = take_out(alloc, &mut held.entries, gxid);
     let taken = take_at(alloc, node, gxid, order, &mut entry, journal)?;
@@ -137,9 +135,8 @@ fn take_at<J: Journal>(
 ) -> Mem<Taken>
     ensures does { IfOk result (λ taken. Does (change_of order node gxid entry.old.kept taken.fails (local_of entry.old.local)) (local_of entry.new.local) taken) }
     ensures kept { entry.new.kept ≡ entry.old.kept }
-    ensures items { IfOk result (λ taken. AreItems (J.items journal.old) (J.items journal.new) taken.fails (change_of order node gxid entry.old.kept taken.fails (local_of entry.old.local)).item) }
-    ensures caused { IfOk result (λ taken. taken.fails ≡ true → Rose (J.fault_count journal.old) (J.fault_count journal.new)) }
-    ensures later { J.fault_count journal.old ≤ J.fault_count journal.new }
+    ensures took { IfOk result (λ taken. Took (J.shelf journal.old) (J.shelf journal.new) taken.fails (change_of order node gxid entry.old.kept taken.fails (local_of entry.old.local)).item) }
+    ensures later { IsLater (J.shelf journal.old) (J.shelf journal.new) }
 {
     let kept = kept_for(alloc, order, &entry.kept)?;
     take_order(alloc, node, gxid, order, &mut entry.local, kept, journal)

@@ -1,5 +1,6 @@
-ghost use Rattle.std.specs.Prelude.{◌≡◌, ◌<◌, ◌≤◌, ◌^◌, true, false, None, IfOk, OnErr, IsErr};
+ghost use Rattle.std.specs.Prelude.{◌≡◌, ◌<◌, ◌^◌, true, false, None, IfOk, OnErr, IsErr};
 ghost use Rattle.gx_meaning.specs.Answer.{AreRising};
+ghost use Rattle.gx_outside.specs.Shelves.{IsLater};
 ghost use Rattle.gx_rules.specs.Machine.{seg_can};
 ghost use Rattle.gx_rules.specs.Segments.{Seg, new_segment};
 ghost use Rattle.gx_rules.specs.Sending.{heard_in};
@@ -74,11 +75,11 @@ impl Segment {
         requires clock { self.old.clock < 2 ^ 62 }
         requires heard { heard_in event < 2 ^ 62 }
         requires numbers { self.old.sent < 2 ^ 62 }
-        ensures stepped { IfOk result (λ out. HasStepped self.old self.new s event (J.items journal.old) (J.items journal.new) (J.fault_count journal.old) (J.fault_count journal.new) out) }
-        ensures later { J.fault_count journal.old ≤ J.fault_count journal.new }
+        ensures stepped { IfOk result (λ out. HasStepped self.old self.new s event (J.shelf journal.old) (J.shelf journal.new) out) }
+        ensures later { IsLater (J.shelf journal.old) (J.shelf journal.new) }
         ensures spent { OnErr result (self.new.spent ≡ true) }
         ensures again { self.old.spent ≡ true → IsErr result }
-        ensures untouched { self.old.spent ≡ true → J.items journal.new ≡ J.items journal.old }
+        ensures untouched { self.old.spent ≡ true → (J.shelf journal.new).items ≡ (J.shelf journal.old).items }
     {
         if self.spent {
             return Err(OutOfMemory);

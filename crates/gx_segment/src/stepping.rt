@@ -1,5 +1,6 @@
 // One step on a segment's parts.
-ghost use Rattle.std.specs.Prelude.{◌≡◌, ◌≤◌, ◌<◌, ◌+◌, ◌^◌, nat_lt, if◌then◌else◌, IfOk};
+ghost use Rattle.std.specs.Prelude.{◌≡◌, ◌<◌, ◌+◌, ◌^◌, nat_lt, if◌then◌else◌, IfOk};
+ghost use Rattle.gx_outside.specs.Shelves.{IsLater};
 ghost use Rattle.gx_rules.specs.Machine.{seg_can};
 ghost use Rattle.gx_rules.specs.Sending.{heard_in};
 ghost use Rattle.gx_slices.specs.Agrees.{IsHeld};
@@ -39,9 +40,8 @@ pub(crate) fn step_on<J: Journal, G: Gate>(
     requires numbers { sent.old < 2 ^ 62 }
     requires early { clock.old < 2 ^ 62 }
     requires heard { heard_in event < 2 ^ 62 }
-    ensures gone { IfOk result (λ out. HasGone was event held.new horizon.new sent.new clock.new (J.items journal.old) (J.items journal.new)
-        (J.fault_count journal.old) (J.fault_count journal.new) out) }
-    ensures later { J.fault_count journal.old ≤ J.fault_count journal.new }
+    ensures gone { IfOk result (λ out. HasGone was event held.new horizon.new sent.new clock.new (J.shelf journal.old) (J.shelf journal.new) out) }
+    ensures later { IsLater (J.shelf journal.old) (J.shelf journal.new) }
 {
     *clock = clock_behind(*clock, heard(&event));
     let done = take_event(alloc, node, script, held, horizon, event, journal, gate)?;

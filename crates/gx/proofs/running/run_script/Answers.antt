@@ -1,5 +1,5 @@
 use Rattle.std.proofs.Common.{[], ◌∙◌, ap, arith, false, inr, subst, sym}
-use Rattle.gx_world.specs.Worlds.{WorldState, shelf}
+use Rattle.gx_world.specs.Worlds.{WorldState}
 use Rattle.gx_script.specs.declared.Script.{Script}
 use Rattle.gx_drive.specs.Ordered.{AreFirst}
 use Rattle.gx.specs.Top.{is_over, run_in}
@@ -10,7 +10,7 @@ use Rattle.gx.proofs.running.run_script.Goals as goal
 
 pub returns-in-Ok-run_ordered-clause-kept : goal.returns-in-Ok-run_ordered-clause-kept
 returns-in-Ok-run_ordered-clause-kept g c =
-    kept-back (λ j. shelf (g.J.Journal.items j) (g.J.Journal.fault_count j)) c.args.journals.now.items c.deref_mut.result.now c.run_ordered.new.journals _ c.args.journals.now.len c.run_ordered.new.world.run.steps (run_in c.ended.result) (is_over c.ended.result)
+    kept-back g.J.Journal.shelf c.args.journals.now.items c.deref_mut.result.now c.run_ordered.new.journals _ c.args.journals.now.len c.run_ordered.new.world.run.steps (run_in c.ended.result) (is_over c.ended.result)
     c.deref_mut.ensures.value (omega (arith, c.deref_mut.ensures.len, c.run_ordered.auto.journals)) (ap (λ (r : Run). r.steps) c.ended.ensures.run) c.in-Ok-run_ordered.ensures.failures (λ _. c.in-Ok-run_ordered.ensures.held)
 
 pub returns-in-Err-run_ordered-clause-ran : goal.returns-in-Err-run_ordered-clause-ran
@@ -21,7 +21,7 @@ returns-in-Err-run_ordered-clause-ran g c =
 
 pub returns-in-Err-run_ordered-clause-kept : goal.returns-in-Err-run_ordered-clause-kept
 returns-in-Err-run_ordered-clause-kept g c =
-    kept-back (λ j. shelf (g.J.Journal.items j) (g.J.Journal.fault_count j)) c.args.journals.now.items c.deref_mut.result.now c.run_ordered.new.journals _ c.args.journals.now.len c.run_ordered.new.world.run.steps c.into_run.result false
+    kept-back g.J.Journal.shelf c.args.journals.now.items c.deref_mut.result.now c.run_ordered.new.journals _ c.args.journals.now.len c.run_ordered.new.world.run.steps c.into_run.result false
     c.deref_mut.ensures.value (omega (arith, c.deref_mut.ensures.len, c.run_ordered.auto.journals)) (ap (λ (r : Run). r.steps) c.into_run.ensures.value) c.in-Err-run_ordered.ensures.failures (λ e. absurd (cc))
 
 pub returns-in-Ok-run_ordered-clause-count : goal.returns-in-Ok-run_ordered-clause-count
