@@ -131,9 +131,11 @@ module _ (tables : List Schema) (held held' : Held) (s : Seg) (g : Gxid) (change
     where
       waiting : is_waiting change.now ≡ true
       waiting = ap (λ (l : Local). is_some l.suspended) (sym own) ∙ ap (λ (o : Option Suspended). is_some o) e
+
       was_waiting : (a b : Bool) → true ≡ (if a then false else b) → b ≡ true
       was_waiting true b f = absurd (cc)
       was_waiting false b f = sym f
+
       by_old : (o : Option Suspended) → (s.locals g.0).suspended ≡ o → IsRightWait tables now g w
       by_old None f = absurd (not_none (ap (λ (x : Option Suspended). is_some x) (sym f) ∙ was_waiting change.ends (is_waiting (s.locals g.0)) (sym waiting ∙ follows.waits)))
         where

@@ -34,6 +34,7 @@ module _ (tables : List Schema) (s : Seg) (h : Gxid) (was : AreWaits tables s) (
     where
       differ : each_below h.0 (λ n. not (holds_locks (s.locals n))) ≡ false → ⊥
       differ e = cc
+
       by_test : (b : Bool) → nat_lt g.0 h.0 ≡ b → h.0 ≤ g.0
       by_test true e = absurd (differ (each_below-none h.0 g.0 (λ n. not (holds_locks (s.locals n))) (grind (arith, nat_tests)) holds))
       by_test false e = grind (arith, nat_tests)
@@ -77,3 +78,8 @@ module _ (tables : List Schema) (held held' : Held) (s : Seg) (h : Gxid) (was : 
     locks = locks ∙ was.locks;
     waits = waits;
   }
+
+-- the store's horizon is that of the data
+pub seg-raised : (s : Seg) (h : Gxid) (store store' : Store) → store.horizon ≡ s.horizon → store' ≡ record store { horizon = greater store.horizon h } → raised s h ≡ record s { horizon = store'.horizon }
+seg-raised s h store store' e risen =
+    sym (ap (λ (k : Gxid). let x : Seg = record s { horizon = k } in x) (ap (λ (x : Store). x.horizon) risen ∙ ap (λ (k : Gxid). greater k h) e))

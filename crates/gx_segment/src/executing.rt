@@ -92,7 +92,15 @@ fn exec_by<G: Gate>(
     ensures done { IfOk result (λ done. HasDone was.script.tables held.new horizon.new done (exec_turn was.script was.seg gxid command.cid command.level (Some command.snapshot) low command.slice)) }
     ensures quiet { IfOk result (λ done. IsQuiet done (exec_turn was.script was.seg gxid command.cid command.level (Some command.snapshot) low command.slice)) }
 {
-    match find_way(script, held, *horizon, gxid, command.cid, low, &command.slice) {
+    match find_way(
+        script,
+        held,
+        *horizon,
+        gxid,
+        command.cid,
+        low,
+        &command.slice,
+    ) {
         Way::Runs => run(alloc, node, script, held, horizon, gxid, command, low, gate),
         Way::Repeats => {
             let_go(command.slice);
@@ -136,7 +144,8 @@ fn run<G: Gate>(
     ensures quiet { IfOk result (λ done. IsQuiet done (starts_slice (raised was.seg low) gxid command.cid command.level (Some command.snapshot) command.slice)) }
 {
     raise(held, horizon, low);
-    start(alloc, node, script, held, gxid, command, gate)
+    let done = start(alloc, node, script, held, gxid, command, gate)?;
+    Ok(done)
 }
 
 // Raises the horizon, where this one is greater. What is below it isn't kept any more.

@@ -18,8 +18,8 @@ use crate::done::{Done, answer, nothing};
 use crate::entries::{put_in, take_out};
 use gx_dtx::order::Order;
 use gx_ids::{Gxid, Mem, Node, Seq};
-use gx_msg::Kept;
 use gx_locks::LockTable;
+use gx_msg::Kept;
 use gx_node::{Phase, Taken, give_back, take_order};
 use gx_outside::Journal;
 use gx_rows::LocalStatus;
@@ -55,13 +55,7 @@ pub(crate) fn take<J: Journal>(
 }
 
 // Who has ended here gives its locks back.
-fn done_of(
-    alloc: Global,
-    node: Node,
-    locks: &mut LockTable,
-    gxid: Gxid,
-    taken: Taken,
-) -> Mem<Done>
+fn done_of(alloc: Global, node: Node, locks: &mut LockTable, gxid: Gxid, taken: Taken) -> Mem<Done>
     ensures done { IfOk result (λ done. done ≡ record { marks = marks_in taken.mark ++ left_marks taken.ends node locks.old gxid; answer = answer_of gxid taken.reply; fails = taken.fails }) }
     ensures locks { OnOk result (locks.new ≡ left_locks taken.ends locks.old gxid) }
 {

@@ -56,7 +56,16 @@ pub(crate) fn start<G: Gate>(
 {
     match lock_of(gxid, &command.slice) {
         Some(wanted) => request(alloc, node, script, held, gxid, command, wanted, gate),
-        None => go_on(alloc, node, script, held, gxid, command, gate, Vec::new(alloc)),
+        None => go_on(
+            alloc,
+            node,
+            script,
+            held,
+            gxid,
+            command,
+            gate,
+            Vec::new(alloc),
+        ),
     }
 }
 
@@ -83,7 +92,8 @@ fn request<G: Gate>(
 {
     let mut marks = Vec::new(alloc);
     if ask_for(node, &mut held.locks, wanted, &mut marks)? {
-        go_on(alloc, node, script, held, gxid, command, gate, marks)
+        let done = go_on(alloc, node, script, held, gxid, command, gate, marks)?;
+        Ok(done)
     } else {
         suspend(alloc, held, gxid, command)?;
         Ok(waits(marks))
@@ -128,7 +138,8 @@ fn go_on<G: Gate>(
         slice,
     } = command;
     let ran = run_slice(alloc, tables, passed, held, gxid, cid, &snapshot, slice)?;
-    done_of(gxid, marks, ran)
+    let done = done_of(gxid, marks, ran)?;
+    Ok(done)
 }
 
 fn done_of(gxid: Gxid, mut marks: Vec<Mark>, ran: Ran) -> Mem<Done>
@@ -164,7 +175,10 @@ pub(crate) fn resume<G: Gate>(
     let waiting = wake(alloc, held, gxid)?;
     take_ready(node, &mut held.locks, gxid, &mut marks)?;
     match waiting {
-        Some(command) => go_on(alloc, node, script, held, gxid, command, gate, marks),
+        Some(command) => {
+            let done = go_on(alloc, node, script, held, gxid, command, gate, marks)?;
+            Ok(done)
+        }
         None => unreachable!(),
     }
 }

@@ -46,6 +46,7 @@ waits-others g h (claim ∷ waits) other = by_test (is_of g claim) refl (waits-o
   where
     is_other : eqb claim.gxid.0 g.0 ≡ true → eqb claim.gxid.0 h.0 ≡ false
     is_other e = apart claim.gxid.0 h.0 (λ same. other (grind (arith, nat_tests)))
+
     by_test : (b : Bool) → is_of g claim ≡ b → list_any (is_of h) (without g waits) ≡ list_any (is_of h) waits → list_any (is_of h) (if not b then claim ∷ without g waits else without g waits) ≡ (is_of h claim || list_any (is_of h) waits)
     by_test true e more = more ∙ ap (λ (b : Bool). b || list_any (is_of h) waits) (sym (is_other e))
     by_test false e more = ap (λ (b : Bool). is_of h claim || b) more
