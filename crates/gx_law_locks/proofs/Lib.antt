@@ -8,3 +8,4 @@ pub mod Going
 pub mod AtWrites
 pub mod Orders
 pub mod Writes
+pub mod Commands

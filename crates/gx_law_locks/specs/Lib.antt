@@ -3,3 +3,4 @@ pub mod Late
 pub mod Lasting
 pub mod Orders
 pub mod Writes
+pub mod Commands
