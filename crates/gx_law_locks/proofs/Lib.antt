@@ -9,3 +9,5 @@ pub mod AtWrites
 pub mod Orders
 pub mod Writes
 pub mod Commands
+pub mod Answering
+pub mod Told

@@ -13,10 +13,13 @@ use Rattle.gx_store.specs.declared.mark.Mark.TheVariants.{Answer, Release, Start
 use Rattle.gx_store.specs.declared.run.Step.{Step}
 use Rattle.gx_store.specs.Commands.{RunsCommand}
 use Rattle.gx_store.specs.Marks.{is_same_gxid, is_same_session}
-use Rattle.gx_store.specs.Points.{marks_in, starts_by}
+use Rattle.gx_store.specs.Points.{Point, before, marks_in, starts_by}
 use Rattle.gx_store.specs.Refusals.{the_coordinator}
 use Rattle.gx_store.specs.Waits.{is_held}
 use Rattle.gx_rules.specs.AtCoordinator.{lock_for}
+use Rattle.gx_law_sessions.specs.Rest.{EachMark}
+use Rattle.gx_store.specs.declared.answer.StmtAnswer.{StmtAnswer}
+use Rattle.gx_store.specs.declared.answer.StmtAnswer.TheVariants.{Refused}
 
 -- the transaction holds at the coordinator the lock that the statement takes on its table
 abbrev pub HoldsTableOf : List Mark → Gxid → Stmt → Type 0
@@ -41,3 +44,16 @@ DoCommandsHold script steps =
     → starts_by session event ≡ 0 → AreLeftAlone session g earlier
     → RunsCommand script (record { steps = steps; event = event; earlier = earlier; later = later }) session line level g c
     → HoldsTableOf (marks_in steps ++ earlier) g line
+
+-- a command that succeeds holds its table at its answer's point
+abbrev pub HoldsWhenTold : Script → Point → SessionId → StmtAnswer → Type 0
+HoldsWhenTold script point session (Refused reason) = Unit {0}
+HoldsWhenTold script point session answer = (line : Stmt) (level : Level) (g : Gxid) (c : Cid) → RunsCommand script point session line level g c → HoldsTableOf (before point) g line
+
+abbrev pub AnswerHolds : Script → Point → Mark → Type 0
+AnswerHolds script point (Answer session number answer) = HoldsWhenTold script point session answer
+AnswerHolds script point _ = Unit {0}
+
+abbrev pub AreAnswersHeld : Script → List Step → List Step → Type 0
+AreAnswersHeld script before [] = Unit {0}
+AreAnswersHeld script before (s ∷ ss) = EachMark (AnswerHolds script) before s.event [] s.marks [] × AreAnswersHeld script (before ++ s ∷ []) ss
