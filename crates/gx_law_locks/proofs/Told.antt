@@ -27,14 +27,14 @@ use Rattle.gx_store.specs.declared.node.NodeEvent.TheVariants as here
 use Rattle.gx_store.specs.declared.run.Step.{Step}
 use Rattle.gx_store.specs.Commands.{RunsCommand}
 use Rattle.gx_store.specs.Lines.{stmt_of}
-use Rattle.gx_store.specs.Marks.{answer_count}
+use Rattle.gx_store.specs.Marks.{is_same_session, answer_count}
 use Rattle.gx_store.specs.Ordered.{IsAtNode}
 use Rattle.gx_store.specs.Points.{Point, before, marks_in, starts_by}
 use Rattle.gx_store.specs.Refusals.{the_coordinator}
-use Rattle.gx_rules.specs.AtCoordinator.{awaited, coord_can, coord_rule, lock_for, next_line, on_event, resends, resumes, starts, starts_line}
+use Rattle.gx_rules.specs.AtCoordinator.{is_nothing, awaited, coord_rule, lock_for, next_line, on_event, resends, resumes, starts, starts_line}
 use Rattle.gx_rules.specs.AtSegment.{seg_rule}
-use Rattle.gx_rules.specs.Coordinators.{Coord, CoordTurn, session_of, work_of}
-use Rattle.gx_rules.specs.Machine.{World, at_node, coord_did, seg_did, world_of}
+use Rattle.gx_rules.specs.Coordinators.{Work, session_of, work_of}
+use Rattle.gx_rules.specs.Machine.{at_node, coord_did, seg_did, world_of}
 use Rattle.gx_rules.specs.Sending.{clock_after, counted, numbered}
 use Rattle.gx_law_order.proofs.Calm.{nobody-waits}
 use Rattle.gx_law_order.proofs.Lists.{Each, each_append}
@@ -48,6 +48,7 @@ use Rattle.gx_law_locks.specs.Commands.{AnswerHolds, AreAnswersHeld, AreLeftAlon
 use Rattle.gx_law_locks.proofs.Answering.{AtOnce, Dull, IsHome, IsRefusal, NoAnswer, OneAnswer, Starts, end-none, line-starts, message-deals, one-more}
 use Rattle.gx_law_locks.proofs.Commands.{commands-hold}
 use Rattle.gx_law_locks.proofs.Orders.{world-orders}
+use Rattle.gx_msg.specs.declared.message.Out.{Out}
 
 -- MARKS
 none-told : (script : Script) (steps : List Step) (e : Event) (earlier ms later : List Mark) → Each NoAnswer ms → EachMark (AnswerHolds script) steps e earlier ms later
@@ -101,16 +102,13 @@ count-none k (m ∷ ms) e = count-none k ms e.1
 
 count-append : (k : SessionId) (xs ys : List Mark) → Each NoAnswer ys → answer_count k (xs ++ ys) ≡ answer_count k xs
 count-append k [] ys e = count-none k ys e
-count-append k (mark.Answer s n a ∷ xs) ys e = ap (λ i. if Rattle.gx_store.specs.Marks.is_same_session s k then i + 1 else i) (count-append k xs ys e)
+count-append k (mark.Answer s n a ∷ xs) ys e = ap (λ i. if is_same_session s k then i + 1 else i) (count-append k xs ys e)
 count-append k (m ∷ xs) ys e = count-append k xs ys e
 
 starts-told : (script : Script) (steps : List Step) (e : Event) (s : SessionId) (line : Stmt) → stmt_of s (answer_count s (marks_in steps) + 1) script.lines ≡ Some line → (earlier ms later : List Mark) → Each NoAnswer earlier → Starts s line ms → EachMark (AnswerHolds script) steps e earlier ms later
 starts-told script steps e s line is earlier [] later d h = tt
 starts-told script steps e s line is earlier (mark.Answer k n a ∷ ms) later d h = (by_case h.0, none-told script steps e (earlier ++ mark.Answer k n a ∷ []) ms later h.1)
   where
-    point : Point
-    point = record { steps = steps; event = e; earlier = earlier; later = ms ++ later }
-
     some-same : (a b : Stmt) → Some a ≡ Some b → a ≡ b
     some-same a b q = cc
 
@@ -125,7 +123,7 @@ starts-told script steps e s line is earlier (mark.Answer k n a ∷ ms) later d 
         (some-same other line (sym r.line.line ∙ ap (λ x. stmt_of k (x + 1) script.lines) (count-append k (marks_in steps) earlier d) ∙ ap (λ (x : SessionId). stmt_of x (answer_count x (marks_in steps) + 1) script.lines) z.0 ∙ is)) takes)))
 starts-told script steps e s line is earlier (m ∷ ms) later d h = (tt, starts-told script steps e s line is (earlier ++ m ∷ []) ms later (each_append NoAnswer earlier (m ∷ []) d (h.0, tt)) h.1)
 
-sent-none : (f : ℕ → ℕ) (outs : List Rattle.gx_msg.specs.declared.message.Out.Out) → Each NoAnswer (numbered f outs)
+sent-none : (f : ℕ → ℕ) (outs : List Out) → Each NoAnswer (numbered f outs)
 sent-none f [] = tt
 sent-none f (o ∷ outs) = (tt, sent-none (counted f o) outs)
 
@@ -144,9 +142,6 @@ at-node-none script i one (m ∷ ms) e = (tt, at-node-none script i one ms e.1)
 -- ALL STEPS
 module _ (script : Script) (some : 1 ≤ script.segments) where
   module _ (es : List (Event × Bool)) (e : Event) (x : NodeEvent) (fails : Bool) where
-    abbrev w : World
-    w = world_of script es
-
     hold : DoCommandsHold script (world_of script es).steps
     hold = commands-hold script (world_of script es) (sessions-stand script some es) (world-orders script some es).going (world-orders script some es).locked.marked.coordinator
 
@@ -163,19 +158,19 @@ module _ (script : Script) (some : 1 ≤ script.segments) where
     both-of true b h = (refl, h)
     both-of false b h = grind arith
 
-    idle-is : (p : Pending) → Rattle.gx_rules.specs.AtCoordinator.is_nothing p ≡ true → waits p ≡ 0
+    idle-is : (p : Pending) → is_nothing p ≡ true → waits p ≡ 0
     idle-is pending.Nothing h = refl
     idle-is pending.Command h = absurd (cc)
     idle-is pending.Commit h = absurd (cc)
 
-    counts-so : (s : SessionId) (b : Block) (p : Pending) (lines : ℕ) (g : Gxid) (next ends : ℕ) (v : Rattle.gx_rules.specs.Coordinators.Work) → waits p ≡ 0 → IsStanding script s (marks_in (world_of script es).steps) next b p lines g v ends → answer_count s (marks_in (world_of script es).steps) ≡ lines
+    counts-so : (s : SessionId) (b : Block) (p : Pending) (lines : ℕ) (g : Gxid) (next ends : ℕ) (v : Work) → waits p ≡ 0 → IsStanding script s (marks_in (world_of script es).steps) next b p lines g v ends → answer_count s (marks_in (world_of script es).steps) ≡ lines
     counts-so s b p lines g next ends v idle (inl z) = less (answer_count s (marks_in (world_of script es).steps)) (waits p) lines idle z.1.answered
       where
         less : (a b l : ℕ) → b ≡ 0 → a + b ≡ l → a ≡ l
         less a b l e f = omega arith
     counts-so s b p lines g next ends v idle (inr z) = z.1.answered
 
-    home-so : (s : SessionId) (b : Block) (p : Pending) (lines : ℕ) (g : Gxid) (next ends : ℕ) (v : Rattle.gx_rules.specs.Coordinators.Work) → IsStanding script s (marks_in (world_of script es).steps) next b p lines g v ends → (level : Level) → b ≡ block.Open level → v.session ≡ s
+    home-so : (s : SessionId) (b : Block) (p : Pending) (lines : ℕ) (g : Gxid) (next ends : ℕ) (v : Work) → IsStanding script s (marks_in (world_of script es).steps) next b p lines g v ends → (level : Level) → b ≡ block.Open level → v.session ≡ s
     home-so s (block.Open l) p lines g next ends v (inl z) level same = (z.1.owns refl).0.home
     home-so s block.Outside p lines g next ends v (inl z) level same = absurd (cc)
     home-so s block.Failed p lines g next ends v (inl z) level same = absurd (cc)
