@@ -1,9 +1,9 @@
 -- What became of the journals.
 use Rattle.std.proofs.Common.{◌≡◌, ℕ, List, [], ◌++◌, Bool, true, refl, sym, ap, ◌∙◌, subst, take, length}
 use Rattle.std.proofs.Math.Seq.{take-append_seam}
-use Rattle.std.specs.Prelude.{All, map}
+use Rattle.std.specs.Prelude.{map}
 use Rattle.gx_store.specs.declared.run.Step.{Step}
-use Rattle.gx_world.specs.Worlds.{Shelf, shelf}
+use Rattle.gx_outside.specs.Shelves.{Shelf, AreEmpty}
 use Rattle.gx_drive.specs.Ordered.{AreFailuresFew, AreHeld}
 use Rattle.gx_drive.proofs.Journals.{none-failed, none-held}
 use Rattle.gx_sql.specs.declared.refusal.Refusal.{Refusal}
@@ -13,8 +13,8 @@ use Rattle.gx.specs.declared.attempt.Attempt.TheVariants.{Done, Stopped, Usage, 
 use Rattle.gx.specs.Top.{AreKept, IsRefusedFor, no_run, run_in}
 
 -- nothing was run
-pub none-kept : {A : Type 0} (items : A → List (List ℕ)) (faults : A → ℕ) (js : List A) (over : Bool) → All (λ j. items j ≡ []) js → AreKept [] over (map (λ j. shelf (items j) (faults j)) js) (map (λ j. shelf (items j) (faults j)) js)
-none-kept items faults js over empty = record { failures = none-failed (map (λ j. shelf (items j) (faults j)) js); held = λ _. none-held items faults js empty }
+pub none-kept : (shelves : List Shelf) (over : Bool) → AreEmpty shelves → AreKept [] over shelves shelves
+none-kept shelves over empty = record { failures = none-failed shelves; held = λ _. none-held shelves empty }
 
 refused-run : (refusal : Refusal) (a : Attempt) → IsRefusedFor refusal a → run_in a ≡ no_run
 refused-run refusal (Refused text) is = refl
@@ -26,10 +26,8 @@ refused-run refusal ReadFault is = absurd is
 refused-run refusal TooLarge is = absurd is
 refused-run refusal NotBuilt is = absurd is
 
-pub refused-kept : {A : Type 0} (items : A → List (List ℕ)) (faults : A → ℕ) (js : List A) (refusal : Refusal) (a : Attempt) (over : Bool) → IsRefusedFor refusal a → All (λ j. items j ≡ []) js
-    → AreKept (run_in a).steps over (map (λ j. shelf (items j) (faults j)) js) (map (λ j. shelf (items j) (faults j)) js)
-refused-kept items faults js refusal a over is empty =
-    subst (λ (r : Run). AreKept r.steps over (map (λ j. shelf (items j) (faults j)) js) (map (λ j. shelf (items j) (faults j)) js)) (sym (refused-run refusal a is)) (none-kept items faults js over empty)
+pub refused-kept : (shelves : List Shelf) (refusal : Refusal) (a : Attempt) (over : Bool) → IsRefusedFor refusal a → AreEmpty shelves → AreKept (run_in a).steps over shelves shelves
+refused-kept shelves refusal a over is empty = subst (λ (r : Run). AreKept r.steps over shelves shelves) (sym (refused-run refusal a is)) (none-kept shelves over empty)
 
 -- as many journals as were lent to the driver have come back
 pub count-back : {A : Type 0} (new rest : List A) (n : ℕ) → n ≡ length new → length (take n (new ++ rest)) ≡ n

@@ -3,7 +3,7 @@ use Rattle.std.proofs.Common.{◌≡◌, ◌⊎◌, inl, inr, ℕ, nat_eq, List,
 use Rattle.std.specs.declared.alloc.Global.{Global}
 use Rattle.std.specs.declared.string.String.{String}
 use Rattle.gx_store.specs.declared.run.Run.{Run}
-use Rattle.gx_world.specs.Worlds.{Shelf}
+use Rattle.gx_outside.specs.Shelves.{Shelf}
 use Rattle.gx_drive.specs.Ordered.{AreFailuresFew, AreHeld}
 use Rattle.gx.specs.declared.attempt.Attempt.{Attempt}
 use Rattle.gx.specs.declared.attempt.Attempt.TheVariants.{Done, Stopped, Usage, Refused, ReadFault, TooLarge, NotBuilt, OutOfMemory}

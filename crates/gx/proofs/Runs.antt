@@ -1,5 +1,5 @@
 -- A run that is reached by the schedule is one of the script.
-use Rattle.std.proofs.Common.{◌≡◌, ◌<◌, ℕ, List, [], ◌∷◌, false, subst, sym, length}
+use Rattle.std.proofs.Common.{◌≡◌, ◌<◌, ℕ, List, [], ◌∷◌, Option, false, subst, sym, length}
 use Rattle.std.proofs.lemmas.List.Elements.{All-from_recursion, recursion_from_All}
 use Rattle.std.specs.List.{AllByRecursion}
 use Rattle.gx_script.specs.declared.Script.{Script}
@@ -19,6 +19,8 @@ use Rattle.gx_law_commit.proofs.Always.{world-holds}
 use Rattle.gx_law_commit.proofs.Whole.{world-follows}
 use Rattle.gx_store.specs.Whole.{AreInsertsWhole}
 use Rattle.gx_law_answers.proofs.Join.{legal}
+use Rattle.gx_law_locks.specs.Legal.{AreLocksLegal}
+use Rattle.gx_law_locks.proofs.Legal.{locks-legal}
 use Rattle.gx_law_answers.proofs.Snaps.{snapshots-one}
 use Rattle.gx_law_answers.proofs.Whole.{filled, keyed}
 use Rattle.gx_law_runs.specs.Reached.{IsReached}
@@ -27,11 +29,10 @@ use Rattle.gx_store.specs.Schedule.{is_any_unfinished}
 use Rattle.gx_law_runs.specs.Endings.{IsFinished}
 use Rattle.gx_law_runs.proofs.Finishing.{whole}
 use Rattle.gx_world.specs.Worlds.{WorldState}
-use Rattle.gx_drive.specs.Ordered.{AreFirst}
-use Rattle.gx.specs.Top.{IsRunOf}
+use Rattle.gx.specs.Top.{AreDriven, IsRunOf}
 
-pub run-of : (script : Script) (run : Run) → IsScript script → AreInsertsWhole script.tables script.lines → IsReached script run.steps → AreFirst script [] run.steps → IsRunOf script run
-run-of script run language inserts is driven =
+pub run-of : (script : Script) (seed : Option ℕ) (run : Run) → IsScript script → AreInsertsWhole script.tables script.lines → IsReached script run.steps → AreDriven seed script run.steps → IsRunOf script seed run
+run-of script seed run language inserts is driven =
     record {
       legal = by-events script run.steps is (λ ss. IsLegalHistory script (record { steps = ss }))
           (legal script language.some_segments language.numbers (keyed script inserts) (snapshots-one script language.some_segments) (filled script inserts));
@@ -39,13 +40,14 @@ run-of script run language inserts is driven =
       system = by-events script run.steps is (λ ss. IsSystemRun script (record { steps = ss })) (world_follows script language.some_segments);
       protocol = by-events script run.steps is (DoStepsFollow script []) (world-follows script language.some_segments);
       tells = by-events script run.steps is (DoStepsTell []) (λ es. (world-holds script language.some_segments es).tells);
+      locks = by-events script run.steps is (AreLocksLegal script) (locks-legal script language.some_segments language.numbers);
       driven = driven;
     }
 
 -- so is the run of a world that has the script
-pub run-in : (script : Script) (world : WorldState) (run : Run) → world.script ≡ script → run ≡ world.run → IsScript script → AreInsertsWhole script.tables script.lines → IsReached world.script world.run.steps → AreFirst script [] world.run.steps → IsRunOf script run
-run-in script world run of is language inserts reached driven =
-    run-of script run language inserts (subst (λ (r : Run). IsReached script r.steps) (sym is) (subst (λ (s : Script). IsReached s world.run.steps) of reached)) (subst (λ (r : Run). AreFirst script [] r.steps) (sym is) driven)
+pub run-in : (script : Script) (seed : Option ℕ) (world : WorldState) (run : Run) → world.script ≡ script → run ≡ world.run → IsScript script → AreInsertsWhole script.tables script.lines → IsReached world.script world.run.steps → AreDriven seed script world.run.steps → IsRunOf script seed run
+run-in script seed world run of is language inserts reached driven =
+    run-of script seed run language inserts (subst (λ (r : Run). IsReached script r.steps) (sym is) (subst (λ (s : Script). IsReached s world.run.steps) of reached)) (subst (λ (r : Run). AreDriven seed script r.steps) (sym is) driven)
 
 sessions-there : (tables : List Schema) (n : ℕ) (ls : List Line) → AllByRecursion (IsLine tables n) ls → AllByRecursion (λ line. line.session.0 < n) ls
 sessions-there tables n [] all = tt

@@ -1,11 +1,12 @@
 -- What the top call answers, and when.
-use Rattle.std.specs.Prelude.{◌≡◌, ℕ, ◌<◌, ◌≤◌, Bool, true, false, List, [], length, ◌++◌, ◌&&◌, if◌then◌else◌, is_none, map, string_bytes, Some, Result, Ok, Err, ◌⊎◌, codes}
+use Rattle.std.specs.Prelude.{◌≡◌, ℕ, ◌<◌, ◌≤◌, Bool, true, false, List, [], length, ◌++◌, if◌then◌else◌, is_none, map, string_bytes, None, Some, Result, Ok, Err, ◌⊎◌, codes}
 use Rattle.std.specs.declared.option.Option.{Option}
 use Rattle.std.specs.declared.string.String.{String}
 use Rattle.std.specs.declared.alloc.Global.{Global}
 use Rattle.std.specs.declared.vec.Vec.{Vec}
 use Rattle.std.specs.Io.KnownBytes.{Consumes, Appends, IsAtEnd}
 use Rattle.gx_outside.specs.Causes.{Rose, WritesPrefix}
+use Rattle.gx_outside.specs.Shelves.{Shelf}
 use Rattle.gx_tree.specs.declared.row.KeyedRow.{KeyedRow}
 use Rattle.gx_words.specs.Words.{IsCommand}
 use Rattle.gx_words.specs.declared.options.Options.{Options}
@@ -25,10 +26,11 @@ use Rattle.gx_store.specs.View.{AreFinalFrom}
 use Rattle.gx_store.specs.Whole.{AreInsertsWhole}
 use Rattle.gx_rules.specs.System.{IsSystemRun}
 use Rattle.gx_store.specs.Schedule.{is_any_unfinished}
+use Rattle.gx_law_locks.specs.Legal.{AreLocksLegal}
 use Rattle.gx_law_runs.specs.Endings.{IsFinished}
 use Rattle.gx_law_commit.specs.Told.{DoStepsTell}
-use Rattle.gx_world.specs.Worlds.{Shelf}
 use Rattle.gx_drive.specs.Ordered.{AreFailuresFew, AreFirst, AreHeld}
+use Rattle.gx_drive.specs.Seeded.{AreDrawn}
 use Rattle.gx.specs.declared.top.Report.{Report}
 use Rattle.gx.specs.declared.attempt.Attempt.{Attempt}
 use Rattle.gx.specs.declared.attempt.Attempt.TheVariants.{Done, Stopped, Usage, Refused, ReadFault, TooLarge, NotBuilt, OutOfMemory}
@@ -46,9 +48,9 @@ usage = codes "usage: gx [--seed N] [--threads] [--trace] [--turns N] [--gen N]\
 abbrev pub no_run : Run
 no_run = record { steps = [] }
 
--- the words ask for what is built: the driver that takes the first of what is enabled, and a script that is read
+-- the words ask for what is built: a script that is read
 abbrev pub is_plain : Options → Bool
-is_plain options = is_none options.seed && is_none options.work
+is_plain options = is_none options.work
 
 pub record AreAsked (words : List (String Global)) (options : Options) : Type 0 where
   pub command : IsCommand (map string_bytes words) options
@@ -68,42 +70,49 @@ pub record AreOther (words : List (String Global)) : Type 0 where
 abbrev pub traced : Bool → Script → Run → List ℕ
 traced trace script run = if trace then trace_of script run else []
 
+-- each event is the one among all that is enabled then that the seed draws, or the first of these where no seed is given
+abbrev pub AreDriven : Option ℕ → Script → List Step → Type 0
+AreDriven None script steps = AreFirst script [] steps
+AreDriven (Some seed) script steps = AreDrawn script seed [] steps
+
 -- The run is a legal history of one store without segments. Its nodes follow their rules and the commit protocol, its messages are
--- numbered, follow what they tell of, and arrive after they were sent, clocks rise, and each event is the first of what is enabled then.
-pub record IsRunOf (script : Script) (run : Run) : Type 0 where
+-- numbered, follow what they tell of, and arrive after they were sent, clocks rise, its locks are legal, and each event is the one
+-- that the driver takes.
+pub record IsRunOf (script : Script) (seed : Option ℕ) (run : Run) : Type 0 where
   pub legal : IsLegalHistory script run
   pub ordered : AreOrdered script [] run.steps
   pub system : IsSystemRun script run
   pub protocol : DoStepsFollow script [] run.steps
   pub tells : DoStepsTell [] run.steps
-  pub driven : AreFirst script [] run.steps
+  pub locks : AreLocksLegal script run.steps
+  pub driven : AreDriven seed script run.steps
 
 -- every line was answered in it, every block is closed, every transaction has ended, these are the tables at its end, and the text is that of
 -- both, and the run's own behind it where that is asked for
-pub record IsWholeRunOf (script : Script) (trace : Bool) (run : Run) (text : List ℕ) : Type 0 where
-  pub is : IsRunOf script run
+pub record IsWholeRunOf (script : Script) (options : Options) (run : Run) (text : List ℕ) : Type 0 where
+  pub is : IsRunOf script options.seed run
   pub over : IsFinished script run
   pub tables : List (Vec KeyedRow Global)
   pub all : length tables ≡ length script.tables
   pub final : AreFinalFrom 0 (marks_of run) tables
-  pub told : text ≡ text_of script run tables ++ traced trace script run
+  pub told : text ≡ text_of script run tables ++ traced options.trace script run
 
 -- all turns were taken, a session is unfinished, and the text is that of the answers so far, and the run's own where that is asked for
 pub record IsStoppedRunOf (script : Script) (options : Options) (run : Run) (text : List ℕ) : Type 0 where
-  pub is : IsRunOf script run
+  pub is : IsRunOf script options.seed run
   pub all : length run.steps ≡ options.turns
   pub unfinished : is_any_unfinished script run.steps ≡ true
   pub told : text ≡ stopped_text script run ++ traced options.trace script run
 
 -- nothing was run, or a part of a run of the script
-abbrev pub IsPartOf : Script → Run → Type 0
-IsPartOf script run = (run ≡ no_run) ⊎ IsRunOf script run
+abbrev pub IsPartOf : Script → Option ℕ → Run → Type 0
+IsPartOf script seed run = (run ≡ no_run) ⊎ IsRunOf script seed run
 
 -- what became of a script that was run
 abbrev pub IsRan : Script → Options → Attempt → Type 0
-IsRan script options (Done run text) = IsWholeRunOf script options.trace run text.items
+IsRan script options (Done run text) = IsWholeRunOf script options run text.items
 IsRan script options (Stopped run text) = IsStoppedRunOf script options run text.items
-IsRan script options (OutOfMemory run) = IsPartOf script run
+IsRan script options (OutOfMemory run) = IsPartOf script options.seed run
 IsRan script options _ = ⊥
 
 -- what is said of bytes that are no script for this reason
@@ -137,7 +146,7 @@ pub record IsBegun (words : List (String Global)) (left after : Option (List ℕ
   pub script : Script
   pub read : IsRead left after (Ok script)
   pub built : is_of_form script ≡ true
-  pub is : IsRunOf script run
+  pub is : IsRunOf script options.seed run
 
 -- nothing was run, or a part of the script that was read
 abbrev pub IsPartRun : List (String Global) → Option (List ℕ) → Option (List ℕ) → Run → Type 0
@@ -150,7 +159,7 @@ pub record IsDone (words : List (String Global)) (left after : Option (List ℕ)
   pub script : Script
   pub read : IsRead left after (Ok script)
   pub built : is_of_form script ≡ true
-  pub is : IsWholeRunOf script options.trace run text
+  pub is : IsWholeRunOf script options run text
 
 -- a script of the form that is built was read, and its run stopped once all turns were taken
 pub record IsStopped (words : List (String Global)) (left after : Option (List ℕ)) (run : Run) (text : List ℕ) : Type 0 where

@@ -1,6 +1,6 @@
 // The work before the writing: words, reading, script, run and text.
-ghost use Rattle.std.specs.Prelude.{◌≡◌, [], Err, IfOk, All, length, map};
-ghost use Rattle.gx_world.specs.Worlds.{shelf};
+ghost use Rattle.std.specs.Prelude.{◌≡◌, Err, IfOk, length, map};
+ghost use Rattle.gx_outside.specs.Shelves.{AreEmpty};
 ghost use Rattle.gx_words.specs.declared.options.Options.{Options as Asked};
 ghost use Rattle.gx.specs.declared.attempt.Unasked.TheVariants as unasked;
 ghost use Rattle.gx.specs.Top.{AreAsked, AreKept, AreOther, AreUnknown, IsAttempt, IsRefusedFor, is_over, is_plain, run_in};
@@ -31,11 +31,11 @@ pub enum Attempt {
     OutOfMemory(Run),
 }
 
-// Whether the words ask for what is built: the first of what is enabled, of a script that is read.
+// Whether the words ask for what is built: a script that is read.
 fn is_plain(options: &Options) -> bool
     ensures { result ≡ is_plain options.now }
 {
-    options.seed.is_none() && options.work.is_none()
+    options.work.is_none()
 }
 
 // Why the words ask for no script that is read and run.
@@ -74,12 +74,12 @@ pub fn make_attempt<S: Source, J: Journal, G: Gate>(
     gate: &G,
 ) -> Attempt
     requires journals { length journals.old.items ≡ 17 }
-    requires empty { All (λ j. J.items j ≡ []) journals.old.items }
+    requires empty { AreEmpty (map J.shelf journals.old.items) }
     ensures is { IsAttempt words.now (S.left source.old) (S.left source.new) (S.fault_count source.old) (S.fault_count source.new) result }
     ensures count { length journals.new.items ≡ 17 }
     ensures unread { ((options : Asked) → AreAsked words.now options → ⊥) → source.new ≡ source.old }
-    ensures kept { AreKept (run_in result).steps (is_over result) (map (λ j. shelf (J.items j) (J.fault_count j)) journals.old.items)
-        (map (λ j. shelf (J.items j) (J.fault_count j)) journals.new.items) }
+    ensures kept { AreKept (run_in result).steps (is_over result) (map J.shelf journals.old.items)
+        (map J.shelf journals.new.items) }
 {
     match asked(alloc, words) {
         Ok(options) => read_and_run(alloc, words, options, source, journals, gate),
@@ -101,11 +101,11 @@ fn read_and_run<S: Source, J: Journal, G: Gate>(
 ) -> Attempt
     requires asked { AreAsked words.now options }
     requires journals { length journals.old.items ≡ 17 }
-    requires empty { All (λ j. J.items j ≡ []) journals.old.items }
+    requires empty { AreEmpty (map J.shelf journals.old.items) }
     ensures is { IsAttempt words.now (S.left source.old) (S.left source.new) (S.fault_count source.old) (S.fault_count source.new) result }
     ensures count { length journals.new.items ≡ 17 }
-    ensures kept { AreKept (run_in result).steps (is_over result) (map (λ j. shelf (J.items j) (J.fault_count j)) journals.old.items)
-        (map (λ j. shelf (J.items j) (J.fault_count j)) journals.new.items) }
+    ensures kept { AreKept (run_in result).steps (is_over result) (map J.shelf journals.old.items)
+        (map J.shelf journals.new.items) }
 {
     let _words = words;
     let bytes = match read_up_to(alloc, source, LIMIT + 1) {

@@ -2,9 +2,12 @@
 //! tables.
 #![tactic(auto)]
 
-ghost use Rattle.std.specs.Prelude.{◌≡◌, [], All, IfOk, length};
+ghost use Rattle.std.specs.Prelude.{◌≡◌, IfOk, length, map};
+ghost use Rattle.gx_outside.specs.Memory.{shelf_of};
+ghost use Rattle.gx_outside.specs.Shelves.{AreEmpty};
 
 mod attempt;
+mod driving;
 mod form;
 mod refused;
 mod running;
@@ -20,7 +23,7 @@ use top::run_gx;
 // Journals for the coordinator and 16 segments.
 fn journals(alloc: Global) -> Mem<Vec<JournalMem>>
     ensures count { IfOk result (λ journals. length journals.items ≡ 17) }
-    ensures empty { IfOk result (λ journals. All (λ j. j.items ≡ []) journals.items) }
+    ensures empty { IfOk result (λ journals. AreEmpty (map shelf_of journals.items)) }
 {
     let mut journals = Vec::new(alloc);
     for _node in 0..17usize {

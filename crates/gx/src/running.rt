@@ -1,15 +1,16 @@
 // Running a script that was read, and telling its run.
-ghost use Rattle.std.specs.Prelude.{◌≡◌, ◌≤◌, ◌++◌, [], true, false, All, IfOk, length, map};
+ghost use Rattle.std.specs.Prelude.{◌≡◌, ◌≤◌, ◌++◌, [], true, false, IfOk, length, map};
 ghost use Rattle.gx_store.specs.Whole.{AreInsertsWhole};
-ghost use Rattle.gx_drive.specs.Ordered.{AreFirst, IsEnd};
+ghost use Rattle.gx_drive.specs.Ordered.{IsEnd};
 ghost use Rattle.gx_store.specs.Schedule.{is_any_unfinished};
-ghost use Rattle.gx_world.specs.Worlds.{shelf};
+ghost use Rattle.gx_outside.specs.Shelves.{AreEmpty};
 ghost use Rattle.gx_store.specs.Language.{IsScript};
 ghost use Rattle.gx_report.specs.Text.{stopped_text as of_stopped};
-ghost use Rattle.gx.specs.Top.{AreKept, IsRan, IsWholeRunOf, is_over, run_in, traced};
+ghost use Rattle.gx.specs.Top.{AreDriven, AreKept, IsRan, IsWholeRunOf, is_over, run_in, traced};
 
 use crate::attempt::Attempt;
-use gx_drive::{End, run_ordered};
+use crate::driving::drive;
+use gx_drive::End;
 use gx_ids::Mem;
 use gx_outside::{Gate, Journal};
 use gx_report::{push_trace, text, text_of_stopped};
@@ -19,7 +20,7 @@ use gx_words::Options;
 use gx_world::World;
 use std::alloc::Global;
 
-/// Runs a script by the ordered schedule, for so many turns at most as are asked for, and tells its run.
+/// Runs a script by the schedule that is asked for, for so many turns at most as are asked for, and tells its run.
 pub fn run_script<J: Journal, G: Gate>(
     alloc: Global,
     script: Script,
@@ -31,17 +32,17 @@ pub fn run_script<J: Journal, G: Gate>(
     requires language { IsScript script }
     requires inserts { AreInsertsWhole script.tables script.lines }
     requires journals { length journals.old.items ≡ 17 }
-    requires empty { All (λ j. J.items j ≡ []) journals.old.items }
+    requires empty { AreEmpty (map J.shelf journals.old.items) }
     ensures ran { IsRan script options result }
     ensures count { length journals.new.items ≡ 17 }
-    ensures kept { AreKept (run_in result).steps (is_over result) (map (λ j. shelf (J.items j) (J.fault_count j)) journals.old.items)
-        (map (λ j. shelf (J.items j) (J.fault_count j)) journals.new.items) }
+    ensures kept { AreKept (run_in result).steps (is_over result) (map J.shelf journals.old.items)
+        (map J.shelf journals.new.items) }
 {
     let mut world = match World::new(alloc, script) {
         Ok(world) => world,
         Err(_) => return Attempt::OutOfMemory(Run::new(alloc)),
     };
-    match run_ordered(alloc, &mut world, journals, gate, options.turns) {
+    match drive(alloc, &mut world, options, journals, gate) {
         Ok(end) => ended(alloc, world, options, end),
         Err(_) => Attempt::OutOfMemory(world.into_run()),
     }
@@ -52,7 +53,7 @@ fn ended(alloc: Global, world: World, options: Options, end: End) -> Attempt
     requires usable { world.spent ≡ false }
     requires language { IsScript world.script }
     requires inserts { AreInsertsWhole world.script.tables world.script.lines }
-    requires driven { AreFirst world.script [] world.run.steps }
+    requires driven { AreDriven options.seed world.script world.run.steps }
     requires ended { IsEnd world.script world.run.steps options.turns end }
     ensures ran { IsRan world.script options result }
     ensures run { run_in result ≡ world.run }
@@ -67,28 +68,28 @@ fn finished(alloc: Global, world: World, options: Options) -> Attempt
     requires usable { world.spent ≡ false }
     requires language { IsScript world.script }
     requires inserts { AreInsertsWhole world.script.tables world.script.lines }
-    requires driven { AreFirst world.script [] world.run.steps }
+    requires driven { AreDriven options.seed world.script world.run.steps }
     requires over { is_any_unfinished world.script world.run.steps ≡ false }
     ensures ran { IsRan world.script options result }
     ensures run { run_in result ≡ world.run }
 {
-    match finished_text(alloc, &world, options.trace) {
+    match finished_text(alloc, &world, options) {
         Ok(text) => Attempt::Done(world.into_run(), text),
         Err(_) => Attempt::OutOfMemory(world.into_run()),
     }
 }
 
-fn finished_text(alloc: Global, world: &World, trace: bool) -> Mem<Vec<u8>>
+fn finished_text(alloc: Global, world: &World, options: Options) -> Mem<Vec<u8>>
     requires usable { world.now.spent ≡ false }
     requires language { IsScript world.now.script }
     requires inserts { AreInsertsWhole world.now.script.tables world.now.script.lines }
-    requires driven { AreFirst world.now.script [] world.now.run.steps }
+    requires driven { AreDriven options.seed world.now.script world.now.run.steps }
     requires over { is_any_unfinished world.now.script world.now.run.steps ≡ false }
-    ensures { IfOk result (λ text. IsWholeRunOf world.now.script trace world.now.run text.items) }
+    ensures { IfOk result (λ text. IsWholeRunOf world.now.script options world.now.run text.items) }
 {
     let tables = world.final_tables()?;
     let told = text(alloc, world.script(), world.run(), tables.as_slice())?;
-    with_trace(alloc, told, world, trace)
+    with_trace(alloc, told, world, options.trace)
 }
 
 // The run's own text behind another, where it is asked for.
@@ -105,7 +106,7 @@ fn with_trace(alloc: Global, text: Vec<u8>, world: &World, trace: bool) -> Mem<V
 fn stopped(alloc: Global, world: World, options: Options) -> Attempt
     requires language { IsScript world.script }
     requires inserts { AreInsertsWhole world.script.tables world.script.lines }
-    requires driven { AreFirst world.script [] world.run.steps }
+    requires driven { AreDriven options.seed world.script world.run.steps }
     requires all { length world.run.steps ≡ options.turns }
     requires unfinished { is_any_unfinished world.script world.run.steps ≡ true }
     ensures ran { IsRan world.script options result }

@@ -1,7 +1,7 @@
 // The top call.
-ghost use Rattle.std.specs.Prelude.{◌≡◌, ◌≢◌, [], All, length, map};
+ghost use Rattle.std.specs.Prelude.{◌≡◌, ◌≢◌, length, map};
 ghost use Rattle.gx_drive.specs.Ordered.{AreFailuresFew, AreHeld};
-ghost use Rattle.gx_world.specs.Worlds.{shelf};
+ghost use Rattle.gx_outside.specs.Shelves.{AreEmpty};
 ghost use Rattle.gx_words.specs.declared.options.Options.{Options as Asked};
 ghost use Rattle.gx.specs.Top.{AreAsked, IsCutShort, IsDone, IsDue, IsNotBuilt, IsOfLanguage, IsPartRun, IsReadFault, IsRefused, IsStatus, IsStopped, IsTold, IsToldOf, IsTooLarge, IsUsage, IsWritten};
 
@@ -61,7 +61,7 @@ pub fn run_gx<S: Source, K: Sink, J: Journal, G: Gate>(
     gate: &G,
 ) -> Report
     requires journals { length journals.old.items ≡ 17 }
-    requires empty { All (λ j. J.items j ≡ []) journals.old.items }
+    requires empty { AreEmpty (map J.shelf journals.old.items) }
     ensures known { IsStatus result.status }
 
     // The source was read to its end and its bytes are a script of the form that is built; the run is a legal history of one store in which each line
@@ -100,10 +100,10 @@ pub fn run_gx<S: Source, K: Sink, J: Journal, G: Gate>(
     ensures count { length journals.new.items ≡ 17 }
 
     // Each journal holds the items that the marks of its node stand for, and nothing else.
-    ensures held { result.status ≢ 6 → AreHeld result.run.steps (map (λ j. shelf (J.items j) (J.fault_count j)) journals.new.items) }
+    ensures held { result.status ≢ 6 → AreHeld result.run.steps (map J.shelf journals.new.items) }
 
     // No node has more JournalFailed marks than its journal's count has risen.
-    ensures failures { AreFailuresFew result.run.steps (map (λ j. shelf (J.items j) (J.fault_count j)) journals.old.items) (map (λ j. shelf (J.items j) (J.fault_count j)) journals.new.items) }
+    ensures failures { AreFailuresFew result.run.steps (map J.shelf journals.old.items) (map J.shelf journals.new.items) }
 {
     let attempt = make_attempt(alloc, words, source, journals, gate);
     told_of(alloc, attempt, sink)

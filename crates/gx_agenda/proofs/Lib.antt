@@ -14,3 +14,7 @@ pub mod Changes
 pub mod FirstAsked
 pub mod Resending
 pub mod Steps
+pub mod Numbered
+pub mod NextLines
+pub mod Again
+pub mod Oks

@@ -20,7 +20,7 @@ use Rattle.gx_store.specs.Marks.{start_count}
 use Rattle.gx_store.specs.Schedule.{first_of, gxids_of, is_exec, is_graph_awaited, is_quiet, may_resend, resends, segments_of, waits_of}
 use Rattle.gx_agenda.specs.declared.asked.Asked.{Asked}
 use Rattle.gx_agenda.specs.declared.request.Request.{Request}
-use Rattle.gx_agenda.specs.Awaited.{AreAsked, AreResendable, expected_at}
+use Rattle.gx_agenda.specs.Awaited.{AreAsked, AreResendable, IsResendable, expected_at}
 use Rattle.gx_agenda.specs.Expected.{expected_of}
 use Rattle.gx_agenda.specs.Requests.{request_cmp, resend_of}
 use Rattle.gx_agenda.proofs.FirstAsked.{IsLeast, first-row, flat_map-alike, gxid-within, row, rows-none}
@@ -40,7 +40,7 @@ may_if true true = refl
 may_if true false = refl
 may_if false exec = refl
 
-module _ (script : Script) (steps : List Step) (fit : AreResendable script steps) where
+module _ (script : Script) (steps : List Step) where
   abbrev is_asked : Node → Gxid → Bool
   is_asked s g = is_some (schedule.asked steps s g)
 
@@ -50,29 +50,31 @@ module _ (script : Script) (steps : List Step) (fit : AreResendable script steps
   abbrev again : Node → Gxid → Event
   again s g = Resend s (Some g)
 
-  may_resend-asked : (s : Node) (g : Gxid) → may_resend steps s g ≡ is_asked s g
-  may_resend-asked s g =
-      ap (λ claims. is_asked s g && (not (is_exec (schedule.asked steps s g)) || (length claims == 0))) (fit.waits s g)
+  may_resend-asked : (s : Node) → IsResendable script steps s → (g : Gxid) → may_resend steps s g ≡ is_asked s g
+  may_resend-asked s fit g =
+      ap (λ claims. is_asked s g && (not (is_exec (schedule.asked steps s g)) || (length claims == 0))) (fit.waits g)
       ∙ may_if (is_asked s g) (is_exec (schedule.asked steps s g))
 
-  resends-row : (s : Node) → 1 ≤ s.0 → s.0 < 1 + script.segments → resends script steps s ≡ row is_asked again begun s
-  resends-row s low high =
-      let inside : s.0 ≤ script.segments = omega arith in
-      ap (λ b. cond b (map (again s) (filter (may_resend steps s) (gxids_of (marks_in steps))) ++ cond (is_graph_awaited steps s) (Resend s None ∷ []) []) []) (fit.quiet s (low, inside))
-      ∙ ap (λ b. map (again s) (filter (may_resend steps s) (gxids_of (marks_in steps))) ++ cond b (Resend s None ∷ []) []) (fit.graphs s)
+  pub resends-row : (s : Node) → IsResendable script steps s → resends script steps s ≡ row is_asked again begun s
+  resends-row s fit =
+      ap (λ b. cond b (map (again s) (filter (may_resend steps s) (gxids_of (marks_in steps))) ++ cond (is_graph_awaited steps s) (Resend s None ∷ []) []) []) fit.quiet
+      ∙ ap (λ b. map (again s) (filter (may_resend steps s) (gxids_of (marks_in steps))) ++ cond b (Resend s None ∷ []) []) fit.graph
       ∙ append-nil (map (again s) (filter (may_resend steps s) (gxids_of (marks_in steps))))
-      ∙ ap (map (again s)) (filter_agree (may_resend steps s) (is_asked s) (may_resend-asked s) (gxids_of (marks_in steps)))
+      ∙ ap (map (again s)) (filter_agree (may_resend steps s) (is_asked s) (may_resend-asked s fit) (gxids_of (marks_in steps)))
 
-  all_resends : flat_map (resends script steps) (segments_of script) ≡ flat_map (row is_asked again begun) (segments_of script)
-  all_resends = flat_map-alike (resends script steps) (row is_asked again begun) 1 script.segments resends-row
+  pub awaited : (known : Asked) → AreAsked steps known → (s : Node) (g : Gxid) → is_some (expected_at known s g) ≡ is_asked s g
+  awaited known asks s g = ap is_some (asks s g) ∙ some_if expected_of (schedule.asked steps s g)
 
-  module _ (known : Asked) (asks : AreAsked steps known) where
-    awaited : (s : Node) (g : Gxid) → is_some (expected_at known s g) ≡ is_asked s g
-    awaited s g = ap is_some (asks s g) ∙ some_if expected_of (schedule.asked steps s g)
+  module _ (fit : AreResendable script steps) (known : Asked) (asks : AreAsked steps known) where
+    all_resends : flat_map (resends script steps) (segments_of script) ≡ flat_map (row is_asked again begun) (segments_of script)
+    all_resends = flat_map-alike (resends script steps) (row is_asked again begun) 1 script.segments (λ s low high. resends-row s (fit.each s (low, at-most s.0 script.segments high)))
+      where
+        at-most : (n count : ℕ) → n < 1 + count → n ≤ count
+        at-most n count h = omega (arith, h)
 
     none-resent : known.pending.entries ≡ [] → [] ≡ first_of (flat_map (resends script steps) (segments_of script))
     none-resent empty =
-        sym (ap first_of (all_resends ∙ rows-none is_asked again begun 1 script.segments (λ s g. sym (awaited s g) ∙ nothing s g)))
+        sym (ap first_of (all_resends ∙ rows-none is_asked again begun 1 script.segments (λ s g. sym (awaited known asks s g) ∙ nothing s g)))
       where
         nothing : (s : Node) (g : Gxid) → is_some (expected_at known s g) ≡ false
         nothing s g = ap (λ es. is_some (lookup (is_at (request_cmp (record { segment = s; gxid = g }))) es)) empty
@@ -82,7 +84,7 @@ module _ (script : Script) (steps : List Step) (fit : AreResendable script steps
         sym (ap first_of all_resends ∙ first-row is_asked again begun first.segment first.gxid is_least 1 script.segments there.0 (inside first.segment.0 script.segments there.1))
       where
         is : is_asked first.segment first.gxid ≡ true
-        is = sym (awaited first.segment first.gxid) ∙ found
+        is = sym (awaited known asks first.segment first.gxid) ∙ found
 
         there : (1 ≤ first.segment.0) × (first.segment.0 ≤ script.segments)
         there = fit.there first.segment first.gxid is
@@ -91,13 +93,13 @@ module _ (script : Script) (steps : List Step) (fit : AreResendable script steps
         inside n count l = omega arith
 
         bound : (t : Node) (h : Gxid) → is_asked t h ≡ true → is_gt (request_cmp first (record { segment = t; gxid = h })) ≡ false
-        bound t h e = least (record { segment = t; gxid = h }) (awaited t h ∙ e)
+        bound t h e = least (record { segment = t; gxid = h }) (awaited known asks t h ∙ e)
 
         is_least : IsLeast is_asked again begun first.segment first.gxid
         is_least =
             record {
               passes = is;
-              drawn_there = gxid-within first.gxid 1 begun (fit.begun first.segment first.gxid is);
+              drawn_there = gxid-within first.gxid 1 begun ((fit.each first.segment there).begun first.gxid is);
               nodes = λ t h e. order_of_numbers first.segment.0 first.gxid.0 t.0 h.0 (bound t h e);
               gxids = λ h e. order_at_node first.segment.0 first.gxid.0 h.0 (bound first.segment h e);
             }

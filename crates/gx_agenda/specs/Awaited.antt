@@ -32,10 +32,14 @@ abbrev pub told_in : List Step → Event → Option Message
 told_in steps (Receive from to number) = sent_message from to number steps
 told_in steps _ = None
 
--- there is nothing to do but to send again what is asked of a transaction
+-- there is nothing to do for a segment but to send again what is asked of transactions
+pub record IsResendable (script : Script) (steps : List Step) (segment : Node) : Type 0 where
+  pub quiet : is_quiet script steps segment ≡ true
+  pub waits : (g : Gxid) → waits_of (marks_in steps) segment g ≡ []
+  pub graph : is_graph_awaited steps segment ≡ false
+  pub begun : (g : Gxid) → is_some (schedule.asked steps segment g) ≡ true → list_any (λ h. is_same_gxid h g) (gxids_of (marks_in steps)) ≡ true
+
+-- so it is for all segments, and nothing is asked elsewhere
 pub record AreResendable (script : Script) (steps : List Step) : Type 0 where
-  pub quiet : (segment : Node) → IsSegment script segment → is_quiet script steps segment ≡ true
-  pub waits : (segment : Node) (g : Gxid) → waits_of (marks_in steps) segment g ≡ []
-  pub graphs : (segment : Node) → is_graph_awaited steps segment ≡ false
-  pub begun : (segment : Node) (g : Gxid) → is_some (schedule.asked steps segment g) ≡ true → list_any (λ h. is_same_gxid h g) (gxids_of (marks_in steps)) ≡ true
+  pub each : (segment : Node) → IsSegment script segment → IsResendable script steps segment
   pub there : (segment : Node) (g : Gxid) → is_some (schedule.asked steps segment g) ≡ true → IsSegment script segment

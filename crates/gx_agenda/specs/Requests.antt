@@ -1,7 +1,8 @@
 -- Requests in order, and the event that repeats one.
-use Rattle.std.specs.Prelude.{Some}
+use Rattle.std.specs.Prelude.{◌==◌, Bool, Some}
 use Rattle.std.specs.declared.cmp.Ordering.{Ordering}
 use Rattle.std.specs.Ordering.{nat_cmp, ordering_then}
+use Rattle.gx_ids.specs.declared.ids.Node.{Node}
 use Rattle.gx_store.specs.declared.event.Event.{Event}
 use Rattle.gx_store.specs.declared.event.Event.TheVariants.{Resend}
 use Rattle.gx_agenda.specs.declared.request.Request.{Request}
@@ -12,3 +13,6 @@ request_cmp a b = ordering_then (nat_cmp a.segment.0 b.segment.0) (nat_cmp a.gxi
 
 abbrev pub resend_of : Request → Event
 resend_of request = Resend request.segment (Some request.gxid)
+
+abbrev pub is_of : Node → Request → Bool
+is_of segment request = request.segment.0 == segment.0

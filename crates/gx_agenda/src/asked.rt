@@ -1,7 +1,7 @@
-ghost use Rattle.std.specs.Prelude.{◌≡◌, ◌++◌, ◌∷◌, [], ℕ, List, Option, Some, None, if◌then◌else◌, ◌&&◌, OnOk, IfSome, IfNone, IsSome, option_map};
+ghost use Rattle.std.specs.Prelude.{◌≡◌, ◌++◌, ◌∷◌, [], ℕ, List, Option, Some, None, if◌then◌else◌, ◌&&◌, OnOk, IfSome, IfNone, IsSome, map, option_map, ◌<◌};
 ghost use Rattle.std.specs.Option.{option_copied, option_to_list};
-ghost use Rattle.std.specs.BTreeMap.{IsLowerBound, get};
-ghost use Rattle.std.specs.List.{flat_map};
+ghost use Rattle.std.specs.BTreeMap.{IsLowerBound, IsOrdered, get};
+ghost use Rattle.std.specs.List.{filter, flat_map};
 ghost use Rattle.gx_ids.specs.declared.ids.Gxid.{Gxid};
 ghost use Rattle.gx_ids.specs.declared.ids.Node.{Node};
 ghost use Rattle.gx_script.specs.declared.Script.{Script};
@@ -9,10 +9,12 @@ ghost use Rattle.gx_store.specs.declared.run.Step.{Step};
 ghost use Rattle.gx_store.specs.Journals.{is_same_node};
 ghost use Rattle.gx_store.specs.Marks.{is_same_gxid};
 ghost use Rattle.gx_store.specs.Schedule.{asked_by, first_of, is_about, resends, segments_of, unless_answered};
-ghost use Rattle.gx_agenda.specs.Awaited.{AreAsked, AreResendable, expected_at, told_in};
+ghost use Rattle.gx_agenda.specs.declared.expected.Expected.{Expected as OneExpected};
+ghost use Rattle.gx_agenda.specs.declared.request.Request.{Request as OneRequest};
+ghost use Rattle.gx_agenda.specs.Awaited.{AreAsked, AreResendable, IsResendable, expected_at, told_in};
 ghost use Rattle.gx_agenda.specs.Expected.{expected_of, unless_met};
 ghost use Rattle.gx_agenda.specs.Following.{Follows, FollowsOrders, unless_told};
-ghost use Rattle.gx_agenda.specs.Requests.{request_cmp, resend_of};
+ghost use Rattle.gx_agenda.specs.Requests.{is_of, request_cmp, resend_of};
 
 use crate::expected::{Expected, expected_answer, is_met_by, transaction_of};
 use crate::request::Request;
@@ -56,6 +58,15 @@ impl Asked {
             → option_to_list (option_map resend_of result) ≡ first_of (flat_map (resends script steps) (segments_of script)) }
     {
         first_key(&self.pending)
+    }
+
+    /// Adds all that is sent again to a segment, by transaction, where nothing else is to be done for it.
+    pub fn push_resends(&self, events: &mut Vec<Event>, segment: Node) -> Mem<()>
+        requires { segment.0 < 255 }
+        ensures { OnOk result ((script : Script) (steps : List Step) → AreAsked steps self.now → IsResendable script steps segment
+            → events.new.items ≡ events.old.items ++ resends script steps segment) }
+    {
+        push_requests(&self.pending, segment, events)
     }
 
     // The coordinator has received a message, if its event is a receipt.
@@ -130,4 +141,32 @@ fn first_key(pending: &BTreeMap<Request, Expected>) -> Option<Request>
 {
     let (request, _) = pending.first_key_value()?;
     Some(*request)
+}
+
+// Adds the resends of a segment's requests, which lie side by side.
+fn push_requests(
+    pending: &BTreeMap<Request, Expected>,
+    segment: Node,
+    events: &mut Vec<Event>,
+) -> Mem<()>
+    requires { segment.0 < 255 }
+    ensures all { OnOk result (events.new.items ≡ events.old.items
+        ++ map (λ (e : OneRequest × OneExpected). resend_of e.0) (filter (λ (e : OneRequest × OneExpected). is_of segment e.0) pending.now.entries)) }
+    ensures ordered { IsOrdered request_cmp pending.now }
+{
+    let least = Request {
+        segment,
+        gxid: Gxid(0),
+    };
+    let behind = Request {
+        segment: Node(segment.0 + 1),
+        gxid: Gxid(0),
+    };
+    for (request, _) in pending.range(least..behind) {
+        events.push(Event::Resend {
+            segment: request.segment,
+            gxid: Some(request.gxid),
+        })?;
+    }
+    Ok(())
 }

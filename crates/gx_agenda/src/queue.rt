@@ -1,4 +1,6 @@
-ghost use Rattle.std.specs.Prelude.{◌≡◌, ◌<◌, ◌+◌, ◌++◌, ◌∷◌, [], ℕ, List, length, IfOk, OnOk, option_map, slice_get, Some};
+ghost use Rattle.std.specs.Prelude.{◌≡◌, ◌<◌, ◌+◌, ◌++◌, ◌∷◌, [], ℕ, List, length, IfOk, OnOk, map, option_map, slice_get, Some};
+ghost use Rattle.std.specs.BTreeMap.{IsOrdered};
+ghost use Rattle.std.specs.Ordering.{nat_cmp};
 ghost use Rattle.std.specs.Option.{option_to_list};
 ghost use Rattle.gx_ids.specs.declared.ids.SessionId.{SessionId as OneSession};
 ghost use Rattle.gx_script.specs.declared.Line.{Line as OneLine};
@@ -49,6 +51,13 @@ impl Queue {
             Some((_, session)) => Some(*session),
             None => None,
         }
+    }
+
+    /// Adds the starts of all lines that are their sessions' next, in the order of the file.
+    pub fn push_starts(&self, events: &mut Vec<Event>) -> Mem<()>
+        ensures { OnOk result ((script : Script) (steps : List Step) → AreQueued script steps self.now → events.new.items ≡ events.old.items ++ starts script steps) }
+    {
+        push_sessions(&self.next, events)
     }
 
     /// A step of the run was done.
@@ -106,6 +115,17 @@ impl Queue {
         }
         Ok(())
     }
+}
+
+// Adds the starts of these sessions' lines.
+fn push_sessions(next: &BTreeMap<usize, SessionId>, events: &mut Vec<Event>) -> Mem<()>
+    ensures all { OnOk result (events.new.items ≡ events.old.items ++ map (λ (e : ℕ × OneSession). Start e.1) next.now.entries) }
+    ensures ordered { IsOrdered nat_cmp next.now }
+{
+    for (_, session) in next {
+        events.push(Event::Start(*session))?;
+    }
+    Ok(())
 }
 
 // Counts for the session of a number.

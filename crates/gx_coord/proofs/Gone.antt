@@ -2,6 +2,7 @@
 use Rattle.std.proofs.Common.{◌≡◌, ◌<◌, ◌≤◌, ◌+◌, ◌∙◌, ℕ, List, [], ◌∷◌, Bool, true, false, All, refl, sym, subst, ap, arith, length}
 use Rattle.std.proofs.lemmas.List.Elements.{All-nil, All-cons}
 use Rattle.gx_msg.specs.declared.message.Out.{Out}
+use Rattle.gx_outside.specs.Shelves.{Shelf}
 use Rattle.gx_script.specs.declared.Script.{Script}
 use Rattle.gx_store.specs.Language.{IsScript}
 use Rattle.gx_store.specs.declared.node.NodeEvent.{NodeEvent}
@@ -33,8 +34,8 @@ links-sent p q k x fails outs m e h some o l =
     (subst (λ (xs : List Out). Each (OutIn q.segments) xs) (sym (o ∙ ap (λ (s : Script). (on_event s k x fails).outs) e)) (coord_stays q some k x fails h.inside).outs)
 
 -- the step keeps all that is asked of a coordinator
-module _ (old mid : Coord) (x : NodeEvent) (before after : List (List ℕ)) (f g : ℕ) (out : NodeOut) where
-  pub is-after : IsCoord old (coord_of old) → coord_can old.script.value (coord_of old) x ≡ true → (h : HasGone old mid x before after f g out) → IsCoord (record mid { spent = false }) (coord_rule old.script.value (coord_of old) x h.fails).coord
+module _ (old mid : Coord) (x : NodeEvent) (before after : Shelf) (out : NodeOut) where
+  pub is-after : IsCoord old (coord_of old) → coord_can old.script.value (coord_of old) x ≡ true → (h : HasGone old mid x before after out) → IsCoord (record mid { spent = false }) (coord_rule old.script.value (coord_of old) x h.fails).coord
   is-after k ok h =
       let same : mid.script.value ≡ old.script.value = ap (λ a. a.value) h.script in
       is-coord (record mid { spent = false }) (coord_rule old.script.value (coord_of old) x h.fails).coord
@@ -45,10 +46,10 @@ module _ (old mid : Coord) (x : NodeEvent) (before after : List (List ℕ)) (f g
       (h.links ∙ k.sent ∙ ap (λ (s : Script). s.segments + 1) (sym same))
       (subst (λ (s : Script). IsSound s (coord_rule old.script.value (coord_of old) x h.fails).coord) (sym same) (sound-stays old.script.value (coord_of old) k.language.some_segments k.sound x h.fails h.small ok))
 
-  stepped-own : IsCoord old (coord_of old) → coord_can old.script.value (coord_of old) x ≡ true → HasGone old mid x before after f g out → HasStepped old (record mid { spent = false }) (coord_of old) x before after f g out
-  stepped-own k ok h = record { fails = h.fails; is = is-after k ok h; script = h.script; usable = refl; marks = h.marks; outs = h.outs; clock = h.clock; items = h.items; caused = h.caused }
+  stepped-own : IsCoord old (coord_of old) → coord_can old.script.value (coord_of old) x ≡ true → HasGone old mid x before after out → HasStepped old (record mid { spent = false }) (coord_of old) x before after out
+  stepped-own k ok h = record { fails = h.fails; is = is-after k ok h; script = h.script; usable = refl; marks = h.marks; outs = h.outs; clock = h.clock; took = h.took }
 
-  pub has-stepped : (c : rule.Coord) → IsCoord old c → coord_can old.script.value c x ≡ true → HasGone old mid x before after f g out → HasStepped old (record mid { spent = false }) c x before after f g out
+  pub has-stepped : (c : rule.Coord) → IsCoord old c → coord_can old.script.value c x ≡ true → HasGone old mid x before after out → HasStepped old (record mid { spent = false }) c x before after out
   has-stepped c k ok h =
-      subst (λ (d : rule.Coord). HasStepped old (record mid { spent = false }) d x before after f g out) k.holds
+      subst (λ (d : rule.Coord). HasStepped old (record mid { spent = false }) d x before after out) k.holds
       (stepped-own (subst (λ (d : rule.Coord). IsCoord old d) (sym k.holds) k) (subst (λ (d : rule.Coord). coord_can old.script.value d x ≡ true) (sym k.holds) ok) h)

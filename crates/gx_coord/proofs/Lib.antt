@@ -23,7 +23,6 @@ pub mod Going
 pub mod Asked
 pub mod Back
 pub mod Requested
-pub mod Ordered
 pub mod Few
 pub mod Gone
 pub mod MayAsk

@@ -1,35 +1,21 @@
 -- How a transaction asks for its table's lock here, and gives its locks back.
-use Rattle.std.specs.Prelude.{ℕ, suc, Bool, true, false, if◌then◌else◌, List, [], ◌∷◌, ◌++◌, None}
+use Rattle.std.specs.Prelude.{Bool, [], ◌∷◌, ◌++◌, None}
 use Rattle.gx_ids.specs.declared.ids.Gxid.{Gxid}
 use Rattle.gx_dtx.specs.Rules.{Turn}
 use Rattle.gx_waits.specs.declared.claim.Claim.{Claim}
-use Rattle.gx_locks.specs.Locks.{Locks}
 use Rattle.gx_script.specs.Session.{after_done, after_refused}
 use Rattle.gx_store.specs.declared.answer.Refused.{Refused}
 use Rattle.gx_store.specs.declared.answer.StmtAnswer.TheVariants as told
-use Rattle.gx_store.specs.declared.mark.Mark.{Mark}
 use Rattle.gx_store.specs.declared.mark.Mark.TheVariants as mark
 use Rattle.gx_store.specs.Refusals.{the_coordinator}
 use Rattle.gx_rules.specs.AtCoordinator.{answer_at_commit, answer_mark}
 use Rattle.gx_rules.specs.Coordinators as rule
-use Rattle.gx_rules.specs.Locks.{hold_mark, is_before, release_marks, released, wait_mark, with_hold, with_wait}
-
--- where a claim goes in among others
-abbrev pub place_in : Claim → List Claim → ℕ
-place_in claim [] = 0
-place_in claim (other ∷ others) = if is_before claim other then 0 else suc (place_in claim others)
+use Rattle.gx_rules.specs.Locks.{release_marks, released}
+use Rattle.gx_node.specs.Locking.{asked_locks}
 
 -- a request that is granted or not
-abbrev pub asked_locks : Locks → Claim → Bool → Locks
-asked_locks locks wanted true = with_hold locks wanted
-asked_locks locks wanted false = with_wait locks wanted
-
 abbrev pub asked : rule.Coord → Claim → Bool → rule.Coord
 asked c wanted granted = record c { locks = asked_locks c.locks wanted granted }
-
-abbrev pub asked_mark : Claim → Bool → Mark
-asked_mark wanted true = hold_mark the_coordinator wanted
-asked_mark wanted false = wait_mark the_coordinator wanted
 
 -- ends of transactions, before their locks are given back
 abbrev pub tells_commit : rule.Coord → Gxid → rule.CoordTurn

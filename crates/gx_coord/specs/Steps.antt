@@ -1,12 +1,11 @@
 -- The coordinator against its rule, and what a step of it is.
-use Rattle.std.specs.Prelude.{◌≡◌, ℕ, ◌+◌, ◌++◌, Bool, true, false, List, length, map, slice_get, Some}
-use Rattle.gx_msg.specs.ItemBytes.{bytes_of_item}
-use Rattle.gx_outside.specs.Causes.{Rose}
+use Rattle.std.specs.Prelude.{◌≡◌, ℕ, ◌+◌, Bool, false, length, slice_get, Some}
+use Rattle.gx_outside.specs.Shelves.{Shelf}
+use Rattle.gx_node.specs.Orders.{Took}
 use Rattle.gx_store.specs.declared.node.NodeEvent.{NodeEvent}
 use Rattle.gx_store.specs.declared.node.NodeOut.{NodeOut}
 use Rattle.gx_rules.specs.AtCoordinator.{coord_rule}
 use Rattle.gx_rules.specs.Coordinators as rule
-use Rattle.gx_rules.specs.Machine.{kept_item}
 use Rattle.gx_coord.specs.declared.coord.Coord.{Coord}
 use Rattle.gx_store.specs.Language.{IsScript}
 use Rattle.gx_coord.specs.Books.{coord_of, found, session_of}
@@ -27,9 +26,9 @@ pub record IsCoord (coord : Coord) (c : rule.Coord) : Type 0 where
   pub sent : length coord.sent.items ≡ coord.script.value.segments + 1
   pub sound : IsSound coord.script.value c
 
--- The step is the rule's, for an append that fails or not: the data, the marks, the messages, the clock and the journal's
--- items. Where it fails, the journal's count rose.
-pub record HasStepped (old new : Coord) (c : rule.Coord) (event : NodeEvent) (before after : List (List ℕ)) (faults faults' : ℕ) (out : NodeOut) : Type 0 where
+-- The step is the rule's, for an append that fails or not: the data, the marks, the messages, the clock and what the journal
+-- took.
+pub record HasStepped (old new : Coord) (c : rule.Coord) (event : NodeEvent) (before after : Shelf) (out : NodeOut) : Type 0 where
   pub fails : Bool
   pub is : IsCoord new (coord_rule old.script.value c event fails).coord
   pub script : new.script ≡ old.script
@@ -37,11 +36,10 @@ pub record HasStepped (old new : Coord) (c : rule.Coord) (event : NodeEvent) (be
   pub marks : out.marks ≡ (coord_rule old.script.value c event fails).marks
   pub outs : out.outs ≡ (coord_rule old.script.value c event fails).outs
   pub clock : out.clock ≡ new.clock
-  pub items : after ≡ before ++ map bytes_of_item (kept_item fails (coord_rule old.script.value c event fails).item)
-  pub caused : fails ≡ true → Rose faults faults'
+  pub took : Took before after fails (coord_rule old.script.value c event fails).item
 
 -- The same of the coordinator's fields, before it is known that they are sound.
-pub record HasGone (old new : Coord) (event : NodeEvent) (before after : List (List ℕ)) (faults faults' : ℕ) (out : NodeOut) : Type 0 where
+pub record HasGone (old new : Coord) (event : NodeEvent) (before after : Shelf) (out : NodeOut) : Type 0 where
   pub fails : Bool
   pub small : IsSmall event
   pub coord : coord_of new ≡ (coord_rule old.script.value (coord_of old) event fails).coord
@@ -52,8 +50,7 @@ pub record HasGone (old new : Coord) (event : NodeEvent) (before after : List (L
   pub marks : out.marks ≡ (coord_rule old.script.value (coord_of old) event fails).marks
   pub outs : out.outs ≡ (coord_rule old.script.value (coord_of old) event fails).outs
   pub clock : out.clock ≡ new.clock
-  pub items : after ≡ before ++ map bytes_of_item (kept_item fails (coord_rule old.script.value (coord_of old) event fails).item)
-  pub caused : fails ≡ true → Rose faults faults'
+  pub took : Took before after fails (coord_rule old.script.value (coord_of old) event fails).item
 
 -- what doesn't change when messages are sent
 pub record IsSent (old new : Coord) : Type 0 where

@@ -1,5 +1,5 @@
 -- What a turn of the rule makes of the coordinator, before its messages are numbered.
-use Rattle.std.specs.Prelude.{◌≡◌, ◌≤◌, ℕ, ◌*◌, ◌^◌, ◌==◌, ◌++◌, ◌&&◌, length, map, Bool, true, false, List, [], ◌∷◌, All, option_map, Some, None}
+use Rattle.std.specs.Prelude.{◌≡◌, ◌≤◌, ℕ, ◌*◌, ◌^◌, ◌==◌, ◌++◌, ◌&&◌, length, Bool, true, false, List, [], ◌∷◌, All, option_map, Some, None}
 use Rattle.std.specs.declared.option.Option.{Option}
 use Rattle.gx_ids.specs.declared.ids.Cid.{Cid}
 use Rattle.gx_ids.specs.declared.ids.Gxid.{Gxid}
@@ -14,11 +14,9 @@ use Rattle.gx_dtx.specs.declared.outcome.DtxOut.{DtxOut}
 use Rattle.gx_dtx.specs.declared.outcome.Outcome.{Outcome}
 use Rattle.gx_dtx.specs.declared.outcome.Outcome.TheVariants as outcome
 use Rattle.gx_dtx.specs.Nodes.{has}
-use Rattle.gx_msg.specs.ItemBytes.{bytes_of_item}
 use Rattle.gx_msg.specs.declared.message.Message.{Message}
 use Rattle.gx_msg.specs.declared.message.Message.TheVariants as message
 use Rattle.gx_msg.specs.declared.reply.Reply.{Reply}
-use Rattle.gx_outside.specs.Causes.{Rose}
 use Rattle.gx_store.specs.declared.answer.StmtAnswer.{StmtAnswer}
 use Rattle.gx_store.specs.declared.answer.StmtAnswer.TheVariants as told
 use Rattle.gx_store.specs.declared.mark.Mark.{Mark}
@@ -28,7 +26,6 @@ use Rattle.gx_script.specs.declared.state.Block.TheVariants as block
 use Rattle.gx_rules.specs.AtCoordinator.{is_awaited, order_to, with_done, writers_with}
 use Rattle.gx_rules.specs.Coordinators as rule
 use Rattle.gx_rules.specs.Fits.{fits_part}
-use Rattle.gx_rules.specs.Machine.{kept_item}
 use Rattle.gx_meaning.specs.Merged.{merged_answer}
 use Rattle.gx_coord.specs.declared.coord.Coord.{Coord}
 use Rattle.gx_coord.specs.Books.{IsFramed, coord_of}
@@ -96,11 +93,6 @@ done_work w i wrote count part = record w { writers = writers_with wrote i w.wri
 abbrev pub own_failure : Outcome → Bool
 own_failure (outcome.Refused i) = i.0 == 0
 own_failure _ = false
-
--- the journal after a turn: it took the turn's item, or its count rose
-pub record HasAppended (turn : rule.CoordTurn) (fails : Bool) (before after : List (List ℕ)) (faults faults' : ℕ) : Type 0 where
-  pub items : after ≡ before ++ map bytes_of_item (kept_item fails turn.item)
-  pub caused : fails ≡ true → Rose faults faults'
 
 -- the nodes whose answers are awaited
 abbrev pub left_in : Option rule.Command → List Node

@@ -1,4 +1,5 @@
-ghost use Rattle.std.specs.Prelude.{◌≡◌, ◌<◌, ◌≤◌, ◌^◌, All, length, true, false, IfOk, OnErr, IsErr};
+ghost use Rattle.std.specs.Prelude.{◌≡◌, ◌<◌, ◌^◌, All, length, true, false, IfOk, OnErr, IsErr};
+ghost use Rattle.gx_outside.specs.Shelves.{IsLater};
 ghost use Rattle.gx_rules.specs.AtCoordinator.{coord_can, is_unfinished_there};
 ghost use Rattle.gx_rules.specs.Coordinators.{Coord as RuleCoord, new_coordinator};
 ghost use Rattle.gx_rules.specs.Sending.{heard_in};
@@ -77,11 +78,11 @@ impl Coord {
         requires heard { heard_in event < 2 ^ 62 }
         requires numbers { All (λ sent. sent < 2 ^ 62) self.old.sent.items }
         requires drawn { self.old.dtx.next.0 < 2 ^ 62 }
-        ensures stepped { IfOk result (λ out. HasStepped self.old self.new c event (J.items journal.old) (J.items journal.new) (J.fault_count journal.old) (J.fault_count journal.new) out) }
-        ensures later { J.fault_count journal.old ≤ J.fault_count journal.new }
+        ensures stepped { IfOk result (λ out. HasStepped self.old self.new c event (J.shelf journal.old) (J.shelf journal.new) out) }
+        ensures later { IsLater (J.shelf journal.old) (J.shelf journal.new) }
         ensures spent { OnErr result (self.new.spent ≡ true) }
         ensures again { self.old.spent ≡ true → IsErr result }
-        ensures untouched { self.old.spent ≡ true → J.items journal.new ≡ J.items journal.old }
+        ensures untouched { self.old.spent ≡ true → (J.shelf journal.new).items ≡ (J.shelf journal.old).items }
     {
         if self.spent {
             return Err(OutOfMemory);

@@ -2,11 +2,13 @@
 ghost use Rattle.std.specs.Prelude.{◌≡◌, ◌≤◌, ◌∷◌, ◌^◌, [], length, true, IfOk, OnOk};
 ghost use Rattle.gx_store.specs.Language.{IsScript};
 ghost use Rattle.gx_locks.specs.Locks.{wait_of};
+ghost use Rattle.gx_outside.specs.Shelves.{IsLater};
+ghost use Rattle.gx_node.specs.Orders.{Took};
 ghost use Rattle.gx_rules.specs.AtCoordinator as turns;
 ghost use Rattle.gx_coord.specs.Books.{coord_of};
 ghost use Rattle.gx_coord.specs.Places.{AreIndexed};
 ghost use Rattle.gx_coord.specs.Sound.{IsSmall, IsSound};
-ghost use Rattle.gx_coord.specs.Turns.{CanEnd, HasAppended, IsTurn};
+ghost use Rattle.gx_coord.specs.Turns.{CanEnd, IsTurn};
 
 use crate::again::awaited;
 use crate::books::{find_session, set_state};
@@ -100,9 +102,8 @@ pub(crate) fn take_event<J: Journal>(
     requires admitted { turns.coord_can script.now (coord_of coord.old) event ≡ true }
     ensures turn { IfOk result (λ turned. IsTurn coord.old coord.new marks.old.items marks.new.items (turns.on_event script.now (coord_of coord.old) event turned.fails)) }
     ensures outs { IfOk result (λ turned. turned.outs ≡ (turns.on_event script.now (coord_of coord.old) event turned.fails).outs) }
-    ensures journal { IfOk result (λ turned. HasAppended (turns.on_event script.now (coord_of coord.old) event turned.fails) turned.fails
-        (J.items journal.old) (J.items journal.new) (J.fault_count journal.old) (J.fault_count journal.new)) }
-    ensures later { J.fault_count journal.old ≤ J.fault_count journal.new }
+    ensures took { IfOk result (λ turned. Took (J.shelf journal.old) (J.shelf journal.new) turned.fails (turns.on_event script.now (coord_of coord.old) event turned.fails).item) }
+    ensures later { IsLater (J.shelf journal.old) (J.shelf journal.new) }
     ensures small { IsSmall event }
 {
     match event {

@@ -1,10 +1,12 @@
 // What segments tell.
-ghost use Rattle.std.specs.Prelude.{◌≡◌, ◌≤◌, ◌<◌, ◌^◌, true, false, IfOk, OnOk};
+ghost use Rattle.std.specs.Prelude.{◌≡◌, ◌<◌, ◌^◌, true, false, IfOk, OnOk};
 ghost use Rattle.gx_dtx.specs.Table.{IsActive};
+ghost use Rattle.gx_outside.specs.Shelves.{IsLater};
+ghost use Rattle.gx_node.specs.Orders.{Took};
 ghost use Rattle.gx_rules.specs.AtCoordinator as turns;
 ghost use Rattle.gx_coord.specs.Books.{coord_of};
 ghost use Rattle.gx_coord.specs.Sound.{IsSmallMessage, IsSmallReply, IsSound};
-ghost use Rattle.gx_coord.specs.Turns.{HasAppended, IsBusy, IsReady, IsTurn, answer_in, asks, is_over, left_in};
+ghost use Rattle.gx_coord.specs.Turns.{IsBusy, IsReady, IsTurn, answer_in, asks, is_over, left_in};
 
 use crate::completing::complete;
 use crate::coord::Coord;
@@ -118,9 +120,8 @@ fn take_reply<J: Journal>(
     requires segment { 0 < node.0 }
     ensures turn { IfOk result (λ turned. IsTurn coord.old coord.new marks.old.items marks.new.items (turns.on_answer (coord_of coord.old) gxid node turned.fails reply)) }
     ensures outs { IfOk result (λ turned. turned.outs ≡ (turns.on_answer (coord_of coord.old) gxid node turned.fails reply).outs) }
-    ensures journal { IfOk result (λ turned. HasAppended (turns.on_answer (coord_of coord.old) gxid node turned.fails reply) turned.fails
-        (J.items journal.old) (J.items journal.new) (J.fault_count journal.old) (J.fault_count journal.new)) }
-    ensures later { J.fault_count journal.old ≤ J.fault_count journal.new }
+    ensures took { IfOk result (λ turned. Took (J.shelf journal.old) (J.shelf journal.new) turned.fails (turns.on_answer (coord_of coord.old) gxid node turned.fails reply).item) }
+    ensures later { IsLater (J.shelf journal.old) (J.shelf journal.new) }
     ensures small { IsSmallReply reply }
 {
     match reply {
@@ -165,9 +166,8 @@ pub(crate) fn take_message<J: Journal>(
     requires segment { 0 < from.0 }
     ensures turn { IfOk result (λ turned. IsTurn coord.old coord.new marks.old.items marks.new.items (turns.on_message (coord_of coord.old) from turned.fails message)) }
     ensures outs { IfOk result (λ turned. turned.outs ≡ (turns.on_message (coord_of coord.old) from turned.fails message).outs) }
-    ensures journal { IfOk result (λ turned. HasAppended (turns.on_message (coord_of coord.old) from turned.fails message) turned.fails
-        (J.items journal.old) (J.items journal.new) (J.fault_count journal.old) (J.fault_count journal.new)) }
-    ensures later { J.fault_count journal.old ≤ J.fault_count journal.new }
+    ensures took { IfOk result (λ turned. Took (J.shelf journal.old) (J.shelf journal.new) turned.fails (turns.on_message (coord_of coord.old) from turned.fails message).item) }
+    ensures later { IsLater (J.shelf journal.old) (J.shelf journal.new) }
     ensures small { IsSmallMessage message }
 {
     match into_answer(message) {

@@ -1,9 +1,11 @@
 // Answers of segments for a transaction's status.
-ghost use Rattle.std.specs.Prelude.{◌≡◌, ◌<◌, ◌≤◌, Bool, true, IfOk};
+ghost use Rattle.std.specs.Prelude.{◌≡◌, ◌<◌, Bool, true, IfOk};
 ghost use Rattle.gx_dtx.specs.Rules.{on_reply};
+ghost use Rattle.gx_outside.specs.Shelves.{IsLater};
+ghost use Rattle.gx_node.specs.Orders.{Took};
 ghost use Rattle.gx_rules.specs.AtCoordinator as turns;
 ghost use Rattle.gx_coord.specs.Books.{coord_of};
-ghost use Rattle.gx_coord.specs.Turns.{IsFit, HasAppended, IsBusy, IsTurn, answers_line, own_failure};
+ghost use Rattle.gx_coord.specs.Turns.{IsFit, IsBusy, IsTurn, answers_line, own_failure};
 
 use crate::coord::Coord;
 use crate::ends::follow;
@@ -48,9 +50,8 @@ pub(crate) fn take_status<J: Journal>(
     requires fits { IsFit ((coord_of coord.old).works gxid.0).command }
     ensures turn { IfOk result (λ turned. IsTurn coord.old coord.new marks.old.items marks.new.items (turns.on_status (coord_of coord.old) gxid node reply turned.fails)) }
     ensures outs { IfOk result (λ turned. turned.outs ≡ (turns.on_status (coord_of coord.old) gxid node reply turned.fails).outs) }
-    ensures journal { IfOk result (λ turned. HasAppended (turns.on_status (coord_of coord.old) gxid node reply turned.fails) turned.fails
-        (J.items journal.old) (J.items journal.new) (J.fault_count journal.old) (J.fault_count journal.new)) }
-    ensures later { J.fault_count journal.old ≤ J.fault_count journal.new }
+    ensures took { IfOk result (λ turned. Took (J.shelf journal.old) (J.shelf journal.new) turned.fails (turns.on_status (coord_of coord.old) gxid node reply turned.fails).item) }
+    ensures later { IsLater (J.shelf journal.old) (J.shelf journal.new) }
 {
     let out = coord.dtx.reply(gxid, node, reply, journal)?;
     let fails = is_own(out.outcome);

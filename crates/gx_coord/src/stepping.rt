@@ -1,6 +1,7 @@
 // One step on the coordinator's parts.
-ghost use Rattle.std.specs.Prelude.{◌≡◌, ◌+◌, ◌<◌, ◌≤◌, ◌++◌, ◌^◌, All, length, slice_index, true, IfOk, OnOk};
+ghost use Rattle.std.specs.Prelude.{◌≡◌, ◌+◌, ◌<◌, ◌++◌, ◌^◌, All, length, slice_index, true, IfOk, OnOk};
 ghost use Rattle.gx_store.specs.Language.{IsScript};
+ghost use Rattle.gx_outside.specs.Shelves.{IsLater};
 ghost use Rattle.gx_rules.specs.AtCoordinator.{coord_can};
 ghost use Rattle.gx_rules.specs.Sending.{counted_all, heard_in, numbered};
 ghost use Rattle.gx_coord.specs.Books.{coord_of};
@@ -61,8 +62,8 @@ pub(crate) fn step_on<J: Journal>(
     requires heard { heard_in event < 2 ^ 62 }
     requires numbers { All (λ sent. sent < 2 ^ 62) coord.old.sent.items }
     requires drawn { coord.old.dtx.next.0 < 2 ^ 62 }
-    ensures gone { IfOk result (λ out. HasGone coord.old coord.new event (J.items journal.old) (J.items journal.new) (J.fault_count journal.old) (J.fault_count journal.new) out) }
-    ensures later { J.fault_count journal.old ≤ J.fault_count journal.new }
+    ensures gone { IfOk result (λ out. HasGone coord.old coord.new event (J.shelf journal.old) (J.shelf journal.new) out) }
+    ensures later { IsLater (J.shelf journal.old) (J.shelf journal.new) }
 {
     let alloc = coord.alloc;
     let script = Arc::try_clone(&coord.script)?;

@@ -29,7 +29,7 @@ use Rattle.gx_law_schedules.proofs.Room.{world-stays}
 use Rattle.gx_law_schedules.proofs.Waits.{no-graph, no-wait-of}
 use Rattle.gx_law_runs.specs.Reached.{IsReached}
 use Rattle.gx_law_runs.proofs.Reaching.{by-events}
-use Rattle.gx_agenda.specs.Awaited.{AreResendable}
+use Rattle.gx_agenda.specs.Awaited.{AreResendable, IsResendable}
 use Rattle.gx_drive.specs.Agrees.{deliveries_of}
 use Rattle.gx_drive.proofs.Firsts.{first-none, none-left, none-right, nodes-none}
 
@@ -91,6 +91,16 @@ module _ (script : Script) (some : 1 ≤ script.segments) (steps : List Step) (i
           not-none : (o : Option Message) → o ≡ None → is_some o ≡ true → ⊥
           not-none o e h = cc
 
+  -- where nothing is left on a segment's links
+  pub resendable-at : (segment : Node) → is_quiet script steps segment ≡ true → IsResendable script steps segment
+  resendable-at segment quiet =
+      record {
+        quiet = quiet;
+        waits = λ g. by-events script steps is (λ ss. waits_of (marks_in ss) segment g ≡ []) (λ es. no-wait-of (marks_in (world_of script es).steps) (world-stays script some es).calm segment g);
+        graph = by-events script steps is (λ ss. is_graph_awaited ss segment ≡ false) (λ es. no-graph (world_of script es).steps (world-stays script some es).rounds segment);
+        begun = begun segment;
+      }
+
   module _ (none : first_of (deliveries_of script steps) ≡ []) where
     none-from : flat_map (λ segment. first_of (left_on script steps segment the_coordinator)) (segments_of script) ≡ []
     none-from = none-left _ (flat_map (λ segment. first_of (left_on script steps the_coordinator segment)) (segments_of script)) (first-none (deliveries_of script steps) none)
@@ -107,12 +117,10 @@ module _ (script : Script) (some : 1 ≤ script.segments) (steps : List Step) (i
     pub resendable : AreResendable script steps
     resendable =
         record {
-          quiet = λ segment within.
-              both-empty (left_on script steps the_coordinator segment) (left_on script steps segment the_coordinator)
+          each = λ segment within.
+              resendable-at segment
+              (both-empty (left_on script steps the_coordinator segment) (left_on script steps segment the_coordinator)
               (first-none _ (at (λ i. first_of (left_on script steps the_coordinator i)) none-to segment within))
-              (first-none _ (at (λ i. first_of (left_on script steps i the_coordinator)) none-from segment within));
-          waits = λ segment g. by-events script steps is (λ ss. waits_of (marks_in ss) segment g ≡ []) (λ es. no-wait-of (marks_in (world_of script es).steps) (world-stays script some es).calm segment g);
-          graphs = λ segment. by-events script steps is (λ ss. is_graph_awaited ss segment ≡ false) (λ es. no-graph (world_of script es).steps (world-stays script some es).rounds segment);
-          begun = begun;
+              (first-none _ (at (λ i. first_of (left_on script steps i the_coordinator)) none-from segment within)));
           there = λ segment g. by-steps script segment g [] steps None (by-events script steps is (AreOrdered script []) (λ es. (world_well script some es).steps)) (λ h. absurd (cc));
         }

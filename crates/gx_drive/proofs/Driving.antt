@@ -1,33 +1,34 @@
 -- One turn behind others.
 use Rattle.std.proofs.Common.{◌≡◌, ◌≤◌, ◌<◌, ◌⊎◌, inl, inr, ℕ, ◌+◌, List, [], ◌∷◌, ◌++◌, refl, sym, ap, ◌∙◌, subst, arith, length, length-append, true, false}
+use Rattle.gx_outside.specs.Shelves.{Shelf, AreEmpty}
 use Rattle.gx_script.specs.declared.Script.{Script}
 use Rattle.gx_store.specs.declared.run.Step.{Step}
-use Rattle.std.specs.Prelude.{All, map}
 use Rattle.gx_store.specs.declared.event.Event.{Event}
-use Rattle.gx_world.specs.Worlds.{HasStepped, Shelf, WorldState, shelf}
+use Rattle.gx_world.specs.Worlds.{HasStepped, WorldState}
 use Rattle.gx_law_runs.specs.Replays.{is_admitted}
 use Rattle.gx_law_runs.specs.Reached.{IsReached}
 use Rattle.gx_drive.specs.declared.agenda.Agenda.{Agenda}
 use Rattle.gx_drive.specs.Agrees.{HasTurned, IsAgreed, IsDue, IsNextStep, IsNoMore, IsUnderWay}
-use Rattle.gx_drive.specs.Ordered.{AreFailuresFew, AreFirst, AreHeld}
-use Rattle.gx_drive.proofs.Journals.{as-many, none-failed, none-held}
-use Rattle.gx_drive.proofs.Turning.{first-more, stepped-held, stepped-reached}
+use Rattle.gx_drive.specs.Chosen.{AreChosen, Choice}
+use Rattle.gx_drive.specs.Ordered.{AreFailuresFew, AreHeld}
+use Rattle.gx_drive.proofs.Journals.{none-failed, none-held}
+use Rattle.gx_drive.proofs.Turning.{chosen-more, stepped-held, stepped-reached}
 
--- what is first stays so, whether a step was done or not
-pub no-more-first : (script : Script) (old new : List Step) → AreFirst script [] old → IsNoMore script old new → AreFirst script [] new
-no-more-first script old new all (inl same) = subst (AreFirst script []) (sym same) all
-no-more-first script old new all (inr next) = subst (AreFirst script []) (sym next.is) (first-more script [] old next.step all next.first)
+-- what was chosen stays so, whether a step was done or not
+pub no-more : (choice : Choice) (old new : List Step) (event : Event) → AreChosen choice [] old → choice old event → IsNoMore event old new → AreChosen choice [] new
+no-more choice old new event all chosen (inl same) = subst (AreChosen choice []) (sym same) all
+no-more choice old new event all chosen (inr next) = subst (AreChosen choice []) (sym next.is) (chosen-more choice [] old next.step all (subst (choice old) (sym next.of) chosen))
 
-pub under-way : (script : Script) (turns : ℕ) (old new : WorldState) (before after : Agenda) (start was now : List Shelf)
-    → IsUnderWay script turns old before start was → new.script ≡ old.script → IsNoMore old.script old.run.steps new.run.steps → HasTurned old new after was now → AreFailuresFew new.run.steps start now → IsUnderWay script (turns + 1) new after start now
-under-way script turns old new before after start was now way kept more turned few =
+pub under-way : (choice : Choice) (script : Script) (turns : ℕ) (old new : WorldState) (before after : Agenda) (event : Event) (start was now : List Shelf)
+    → IsUnderWay choice script turns old before start was → choice old.run.steps event → new.script ≡ old.script → IsNoMore event old.run.steps new.run.steps → HasTurned old new after was now → AreFailuresFew new.run.steps start now → IsUnderWay choice script (turns + 1) new after start now
+under-way choice script turns old new before after event start was now way chosen kept more turned few =
     record {
       same = same;
       usable = turned.unspent;
       reached = subst (λ (x : Script). IsReached x new.run.steps) same turned.reached;
       count = turned.count ∙ ap (λ n. n + 1) way.count;
       agreed = subst (λ (x : Script). IsAgreed x new.run.steps after) same turned.agreed;
-      first = no-more-first script old.run.steps new.run.steps way.first (subst (λ (x : Script). IsNoMore x old.run.steps new.run.steps) way.same more);
+      driven = no-more choice old.run.steps new.run.steps event way.driven chosen more;
       journals = turned.journals ∙ way.journals;
       held = turned.held way.held;
       few = few;
@@ -57,23 +58,19 @@ turned-by old new a b event before after some reached agreed due admitted h same
     back P p = subst P (sym same) p
 
 -- no turn was done
-pub none-done : {A : Type 0} (items : A → List (List ℕ)) (faults : A → ℕ) (js : List A) (world : WorldState) (agenda : Agenda) → world.run.steps ≡ [] → world.spent ≡ false → length js ≡ 17 → All (λ j. items j ≡ []) js → IsAgreed world.script [] agenda
-    → IsUnderWay world.script 0 world agenda (map (λ j. shelf (items j) (faults j)) js) (map (λ j. shelf (items j) (faults j)) js)
-none-done items faults js world agenda new usable many empty agreed =
+pub none-done : (choice : Choice) (shelves : List Shelf) (world : WorldState) (agenda : Agenda) → world.run.steps ≡ [] → world.spent ≡ false → length shelves ≡ 17 → AreEmpty shelves → IsAgreed world.script [] agenda → IsUnderWay choice world.script 0 world agenda shelves shelves
+none-done choice shelves world agenda new usable many empty agreed =
     record {
       same = refl;
       usable = usable;
       reached = back (IsReached world.script) (record { events = []; is = refl });
       count = ap length new;
       agreed = back (λ ss. IsAgreed world.script ss agenda) agreed;
-      first = back (AreFirst world.script []) tt;
-      journals = as-many (λ j. shelf (items j) (faults j)) js 17 many;
-      held = back (λ ss. AreHeld ss shelves) (none-held items faults js empty);
+      driven = back (AreChosen choice []) tt;
+      journals = many;
+      held = back (λ ss. AreHeld ss shelves) (none-held shelves empty);
       few = back (λ ss. AreFailuresFew ss shelves shelves) (none-failed shelves);
     }
   where
-    shelves : List Shelf
-    shelves = map (λ j. shelf (items j) (faults j)) js
-
     back : (P : List Step → Type 0) → P [] → P world.run.steps
     back P p = subst P (sym new) p

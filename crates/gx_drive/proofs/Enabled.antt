@@ -60,7 +60,7 @@ module _ (script : Script) (some : 1 ≤ script.segments) where
       at-same segment = ap (λ xs. first_of (xs ++ first_of (left_on script ss the_coordinator segment))) (nobody segment) ∙ first-twice (left_on script ss the_coordinator segment)
 
   module _ (steps : List Step) (is : IsReached script steps) where
-    parts : enabled script steps ≡ parts_of script steps
+    pub parts : enabled script steps ≡ parts_of script steps
     parts = by-events script steps is (λ ss. enabled script ss ≡ parts_of script ss) parts-after
 
     abbrev again : List Event

@@ -82,11 +82,14 @@ module _ (p : SessionId → Bool) where
       skipped : (n : ℕ) → passing k (suc n) ≡ passing (k + 1) n
       skipped n = ap (λ (b : Bool). map End (cond b (record { 0 = k } ∷ filter p (map (λ s. record { 0 = s }) (range_with_len (k + 1) n))) (filter p (map (λ s. record { 0 = s }) (range_with_len (k + 1) n))))) e
 
-  pub passing-takes : (k m : ℕ) → k < m → p (record { 0 = k }) ≡ true → first_of (passing k (m - k)) ≡ End (record { 0 = k }) ∷ []
-  passing-takes k m h e = ap (λ n. first_of (passing k n)) same ∙ taken (m - (k + 1))
+  pub passing-next : (k m : ℕ) → k < m → p (record { 0 = k }) ≡ true → passing k (m - k) ≡ End (record { 0 = k }) ∷ passing (k + 1) (m - (k + 1))
+  passing-next k m h e = ap (λ n. passing k n) same ∙ taken (m - (k + 1))
     where
       same : m - k ≡ suc (m - (k + 1))
       same = omega (arith, h)
 
-      taken : (n : ℕ) → first_of (passing k (suc n)) ≡ End (record { 0 = k }) ∷ []
-      taken n = ap (λ (b : Bool). first_of (map End (cond b (record { 0 = k } ∷ filter p (map (λ s. record { 0 = s }) (range_with_len (k + 1) n))) (filter p (map (λ s. record { 0 = s }) (range_with_len (k + 1) n)))))) e
+      taken : (n : ℕ) → passing k (suc n) ≡ End (record { 0 = k }) ∷ passing (k + 1) n
+      taken n = ap (λ (b : Bool). map End (cond b (record { 0 = k } ∷ filter p (map (λ s. record { 0 = s }) (range_with_len (k + 1) n))) (filter p (map (λ s. record { 0 = s }) (range_with_len (k + 1) n))))) e
+
+  pub passing-takes : (k m : ℕ) → k < m → p (record { 0 = k }) ≡ true → first_of (passing k (m - k)) ≡ End (record { 0 = k }) ∷ []
+  passing-takes k m h e = ap first_of (passing-next k m h e)

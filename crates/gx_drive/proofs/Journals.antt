@@ -3,23 +3,22 @@ use Rattle.std.proofs.Common.{◌≡◌, ◌≤◌, ℕ, zero, suc, ◌+◌, ◌
 use Rattle.std.proofs.lemmas.List.{length-map}
 use Rattle.std.proofs.lemmas.List.Elements.{recursion_from_All}
 use Rattle.std.specs.List.{AllByRecursion}
-use Rattle.std.specs.Prelude.{All, map, min, slice_get}
+use Rattle.std.specs.Prelude.{map, min, slice_get}
 use Rattle.gx_ids.specs.declared.ids.Node.{Node}
-use Rattle.gx_world.specs.Worlds.{Shelf, shelf}
+use Rattle.gx_outside.specs.Shelves.{Shelf, AreEmpty}
 use Rattle.gx_drive.specs.Ordered.{AreFailuresFew, AreHeld}
 
 same-some : (a b : Shelf) → Some a ≡ Some b → a ≡ b
 same-some a b e = cc
 
-module _ {A : Type 0} (items : A → List (List ℕ)) (faults : A → ℕ) where
-  empty-there : (js : List A) (k : ℕ) (s : Shelf) → AllByRecursion (λ j. items j ≡ []) js → slice_get (map (λ j. shelf (items j) (faults j)) js) k ≡ Some s → s.items ≡ []
-  empty-there [] k s all e = absurd (cc)
-  empty-there (j ∷ js) zero s all e = ap (λ (x : Shelf). x.items) (sym (same-some (shelf (items j) (faults j)) s e)) ∙ all.0
-  empty-there (j ∷ js) (suc k) s all e = empty-there js k s all.1 e
+empty-there : (shelves : List Shelf) (k : ℕ) (s : Shelf) → AllByRecursion (λ shelf. shelf.items ≡ []) shelves → slice_get shelves k ≡ Some s → s.items ≡ []
+empty-there [] k s all e = absurd (cc)
+empty-there (x ∷ shelves) zero s all e = ap (λ (x : Shelf). x.items) (sym (same-some x s e)) ∙ all.0
+empty-there (x ∷ shelves) (suc k) s all e = empty-there shelves k s all.1 e
 
-  -- they hold what no step stands for
-  pub none-held : (js : List A) → All (λ j. items j ≡ []) js → AreHeld [] (map (λ j. shelf (items j) (faults j)) js)
-  none-held js all node s there = empty-there js node.0 s (recursion_from_All (λ j. items j ≡ []) js all) there
+-- they hold what no step stands for
+pub none-held : (shelves : List Shelf) → AreEmpty shelves → AreHeld [] shelves
+none-held shelves all node s there = empty-there shelves node.0 s (recursion_from_All (λ (shelf : Shelf). shelf.items ≡ []) shelves all) there
 
 -- and none has failed
 pub none-failed : (shelves : List Shelf) → AreFailuresFew [] shelves shelves

@@ -9,3 +9,6 @@ pub mod Unfinished
 pub mod Noting
 pub mod Answers
 pub mod Dues
+pub mod Pushed
+pub mod Draws
+pub mod Words

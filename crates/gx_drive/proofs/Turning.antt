@@ -7,6 +7,7 @@ use Rattle.gx_ids.specs.declared.ids.Node.{Node}
 use Rattle.gx_msg.specs.ItemBytes.{bytes_of_item}
 use Rattle.gx_msg.specs.declared.item.JournalItem.{JournalItem}
 use Rattle.gx_outside.specs.Causes.{Rose}
+use Rattle.gx_outside.specs.Shelves.{Shelf}
 use Rattle.gx_script.specs.declared.Script.{Script}
 use Rattle.gx_store.specs.declared.event.Event.{Event}
 use Rattle.gx_store.specs.declared.mark.Mark.{Mark}
@@ -16,7 +17,7 @@ use Rattle.gx_store.specs.Journals.{is_same_node, items_of}
 use Rattle.gx_store.specs.Points.{marks_in}
 use Rattle.gx_rules.specs.Machine.{happens, node_of}
 use Rattle.gx_law_order.specs.Journals.{takes}
-use Rattle.gx_world.specs.Worlds.{AreLater, HasStepped, Shelf}
+use Rattle.gx_world.specs.Worlds.{AreLater, HasStepped}
 use Rattle.gx_law_runs.specs.Reached.{IsReached}
 use Rattle.gx_law_runs.specs.Replays.{world_behind}
 use Rattle.gx_law_runs.proofs.Reaching.{event-reached}
@@ -24,13 +25,14 @@ use Rattle.gx_law_order.proofs.World.{marks-last}
 use Rattle.gx_law_runs.specs.Failures.{failures_in}
 use Rattle.gx_law_runs.proofs.Steps.{behind-few}
 use Rattle.gx_drive.specs.Agrees.{IsNextStep}
-use Rattle.gx_drive.specs.Ordered.{AreFailuresFew, AreFirst, AreHeld, IsFirst}
+use Rattle.gx_drive.specs.Chosen.{AreChosen, Choice}
+use Rattle.gx_drive.specs.Ordered.{AreFailuresFew, AreHeld}
 use Rattle.gx_drive.proofs.Held.{items-after}
 
--- one step more is the first of what is enabled
-pub first-more : (script : Script) (before ss : List Step) (s : Step) → AreFirst script before ss → IsFirst script (before ++ ss) s.event → AreFirst script before (ss ++ s ∷ [])
-first-more script before [] s all first = (subst (λ xs. IsFirst script xs s.event) (append-nil before) first, tt)
-first-more script before (x ∷ ss) s all first = (all.0, first-more script (before ++ x ∷ []) ss s all.1 (subst (λ xs. IsFirst script xs s.event) (sym (append_assoc before (x ∷ []) ss)) first))
+-- one step more that is chosen
+pub chosen-more : (choice : Choice) (before ss : List Step) (s : Step) → AreChosen choice before ss → choice (before ++ ss) s.event → AreChosen choice before (ss ++ s ∷ [])
+chosen-more choice before [] s all chosen = (subst (λ xs. choice xs s.event) (append-nil before) chosen, tt)
+chosen-more choice before (x ∷ ss) s all chosen = (all.0, chosen-more choice (before ++ x ∷ []) ss s all.1 (subst (λ xs. choice xs s.event) (sym (append_assoc before (x ∷ []) ss)) chosen))
 
 same-some : {A : Type 0} (a b : A) → Some a ≡ Some b → a ≡ b
 same-some a b e = cc
@@ -56,8 +58,8 @@ module _ (script : Script) (some : 1 ≤ script.segments) (old new : List Step) 
   pub stepped-reached : IsReached script new
   stepped-reached = subst (IsReached script) (sym h.by_rule) (event-reached script old is event h.fails)
 
-  pub stepped-next : IsFirst script old event → IsNextStep script old new
-  stepped-next first = record { step = h.step; is = h.is; first = subst (IsFirst script old) (sym h.of) first }
+  pub stepped-next : IsNextStep event old new
+  stepped-next = record { step = h.step; is = h.is; of = h.of }
 
   pub stepped-held : AreHeld old before → AreHeld new after
   stepped-held held node a there =

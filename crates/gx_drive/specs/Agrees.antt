@@ -1,6 +1,7 @@
 -- What the driver keeps, against the steps of a run, and what a turn does.
 use Rattle.std.specs.Prelude.{◌≡◌, ◌⊎◌, ℕ, ◌+◌, ◌∷◌, ◌++◌, [], false, List, length}
 use Rattle.std.specs.List.{flat_map}
+use Rattle.gx_outside.specs.Shelves.{Shelf}
 use Rattle.gx_script.specs.declared.Script.{Script}
 use Rattle.gx_store.specs.declared.event.Event.{Event}
 use Rattle.gx_store.specs.declared.event.Event.TheVariants.{Receive}
@@ -10,10 +11,11 @@ use Rattle.gx_store.specs.Refusals.{the_coordinator}
 use Rattle.gx_store.specs.Schedule.{first_of, left_on, segments_of}
 use Rattle.gx_agenda.specs.Awaited.{AreAsked}
 use Rattle.gx_agenda.specs.Agrees.{Agree}
-use Rattle.gx_world.specs.Worlds.{Shelf, WorldState}
+use Rattle.gx_world.specs.Worlds.{WorldState}
 use Rattle.gx_agenda.specs.Queued.{AreQueued}
 use Rattle.gx_law_runs.specs.Reached.{IsReached}
-use Rattle.gx_drive.specs.Ordered.{AreFailuresFew, AreFirst, AreHeld, IsFirst}
+use Rattle.gx_drive.specs.Chosen.{AreChosen, Choice}
+use Rattle.gx_drive.specs.Ordered.{AreFailuresFew, AreHeld}
 use Rattle.gx_drive.specs.declared.agenda.Agenda.{Agenda}
 
 -- links, lines and awaited answers are where the steps have led
@@ -33,14 +35,15 @@ deliveries_of script steps =
     flat_map (λ segment. first_of (left_on script steps segment the_coordinator)) (segments_of script)
     ++ flat_map (λ segment. first_of (left_on script steps the_coordinator segment)) (segments_of script)
 
--- nothing was done, or what was first
-pub record IsNextStep (script : Script) (old new : List Step) : Type 0 where
+-- the event was done
+pub record IsNextStep (event : Event) (old new : List Step) : Type 0 where
   pub step : Step
   pub is : new ≡ old ++ step ∷ []
-  pub first : IsFirst script old step.event
+  pub of : step.event ≡ event
 
-abbrev pub IsNoMore : Script → List Step → List Step → Type 0
-IsNoMore script old new = (new ≡ old) ⊎ IsNextStep script old new
+-- nothing was done, or the event
+abbrev pub IsNoMore : Event → List Step → List Step → Type 0
+IsNoMore event old new = (new ≡ old) ⊎ IsNextStep event old new
 
 -- a turn was done: the world can go on, the run has a step more, and the journals hold what they held besides
 pub record HasTurned (old new : WorldState) (agenda : Agenda) (before after : List Shelf) : Type 0 where
@@ -51,14 +54,14 @@ pub record HasTurned (old new : WorldState) (agenda : Agenda) (before after : Li
   pub journals : length after ≡ length before
   pub held : AreHeld old.run.steps before → AreHeld new.run.steps after
 
--- so many turns were done in a world that was new, with these journals before and now
-pub record IsUnderWay (script : Script) (turns : ℕ) (world : WorldState) (agenda : Agenda) (start now : List Shelf) : Type 0 where
+-- so many turns were done in a world that was new, each by the driver's choice, with these journals before and now
+pub record IsUnderWay (choice : Choice) (script : Script) (turns : ℕ) (world : WorldState) (agenda : Agenda) (start now : List Shelf) : Type 0 where
   pub same : world.script ≡ script
   pub usable : world.spent ≡ false
   pub reached : IsReached script world.run.steps
   pub count : length world.run.steps ≡ turns
   pub agreed : IsAgreed script world.run.steps agenda
-  pub first : AreFirst script [] world.run.steps
+  pub driven : AreChosen choice [] world.run.steps
   pub journals : length now ≡ 17
   pub held : AreHeld world.run.steps now
   pub few : AreFailuresFew world.run.steps start now

@@ -1,2 +1,4 @@
+pub mod Chosen
 pub mod Ordered
 pub mod Agrees
+pub mod Seeded

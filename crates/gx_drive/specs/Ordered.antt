@@ -1,7 +1,8 @@
 -- The run of the ordered driver.
-use Rattle.std.specs.Prelude.{◌≡◌, ◌≤◌, ℕ, ◌+◌, ◌-◌, ◌^◌, min, ◌∷◌, ◌++◌, [], true, false, List, length, map, slice_get, Some}
+use Rattle.std.specs.Prelude.{◌≡◌, ◌≤◌, ℕ, ◌+◌, ◌-◌, ◌^◌, min, ◌∷◌, [], true, false, List, length, map, slice_get, Some}
 use Rattle.gx_ids.specs.declared.ids.Node.{Node}
 use Rattle.gx_msg.specs.ItemBytes.{bytes_of_item}
+use Rattle.gx_outside.specs.Shelves.{Shelf}
 use Rattle.gx_script.specs.declared.Script.{Script}
 use Rattle.gx_store.specs.declared.event.Event.{Event}
 use Rattle.gx_store.specs.declared.run.Step.{Step}
@@ -9,7 +10,7 @@ use Rattle.gx_store.specs.Journals.{items_of}
 use Rattle.gx_store.specs.Points.{marks_in}
 use Rattle.gx_store.specs.Schedule.{enabled, first_of, is_any_unfinished}
 use Rattle.gx_law_runs.specs.Failures.{failures_in}
-use Rattle.gx_world.specs.Worlds.{Shelf}
+use Rattle.gx_drive.specs.Chosen.{AreChosen}
 use Rattle.gx_drive.specs.declared.end.End.{End}
 use Rattle.gx_drive.specs.declared.end.End.TheVariants.{Done, Turns}
 
@@ -20,8 +21,7 @@ pub record IsFirst (script : Script) (before : List Step) (event : Event) : Type
 
 -- each step does what is first where the steps before it have led
 abbrev pub AreFirst : Script → List Step → List Step → Type 0
-AreFirst script before [] = Unit {0}
-AreFirst script before (s ∷ ss) = IsFirst script before s.event × AreFirst script (before ++ s ∷ []) ss
+AreFirst script before steps = AreChosen (IsFirst script) before steps
 
 -- each journal holds the items that the marks of its node stand for, and nothing else
 abbrev pub AreHeld : List Step → List Shelf → Type 0

@@ -9,7 +9,7 @@ use gx_ids::{Mem, SessionId};
 use gx_store::Event;
 use gx_world::World;
 
-fn end_of(place: usize) -> Event
+pub(crate) fn end_of(place: usize) -> Event
     requires { place < 256 }
     ensures { result ≡ End (record { 0 = place }) }
 {

@@ -1,13 +1,17 @@
-//! The ordered driver: it does what the schedule asks first, until no session is unfinished or its turns are spent.
+//! The drivers of a script in a fixed order and by a seed: each does one of what is enabled, until no session is unfinished or its turns are spent.
 #![tactic(auto)]
 
 pub mod agenda;
+mod drawing;
 pub mod end;
 mod ends;
 mod links;
+mod listing;
 pub mod ordered;
+pub mod seeded;
 mod turn;
 
 pub use agenda::Agenda;
 pub use end::End;
 pub use ordered::run_ordered;
+pub use seeded::run_seeded;

@@ -14,7 +14,7 @@ use gx_store::Event;
 use gx_world::World;
 
 // The next delivery of a link.
-fn delivery(cursors: &Cursors, world: &World, from: Node, to: Node) -> Option<Event>
+pub(crate) fn delivery(cursors: &Cursors, world: &World, from: Node, to: Node) -> Option<Event>
     requires usable { world.now.spent ≡ false }
     requires agreed { Agree world.now.script world.now.run.steps cursors.now }
     requires link { IsLink world.now.script from to }

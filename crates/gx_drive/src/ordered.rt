@@ -1,20 +1,21 @@
-ghost use Rattle.std.specs.Prelude.{◌≡◌, ◌≤◌, [], false, All, IfOk, OnOk, length, map};
+ghost use Rattle.std.specs.Prelude.{◌≡◌, ◌≤◌, [], false, IfOk, OnOk, length, map};
 ghost use Rattle.gx_store.specs.Whole.{AreInsertsWhole};
 ghost use Rattle.gx_store.specs.Schedule.{is_any_unfinished};
-ghost use Rattle.gx_world.specs.Worlds.{shelf};
+ghost use Rattle.gx_outside.specs.Shelves.{AreEmpty};
 ghost use Rattle.gx_law_runs.specs.Reached.{IsReached};
 ghost use Rattle.gx_drive.specs.Ordered.{AreFailuresFew, AreFirst, AreHeld, IsEnd};
 
 use crate::agenda::Agenda;
 use crate::end::End;
-use crate::turn::turn;
+use crate::turn::{next_event, turn};
 use gx_ids::Mem;
 use gx_outside::{Gate, Journal};
 use gx_world::World;
 use std::alloc::Global;
 
 /// Runs a new world by the ordered schedule: it does the first of what is enabled at each turn, until no session is unfinished or
-/// so many turns were taken. The journals are those of the coordinator and 16 segments, and hold nothing.
+/// so many turns were taken. The journals are those of the coordinator and 16 segments, and hold nothing. Besides the step itself a turn costs the
+/// logarithm of what is under way, and a look at each link and session until one has what is first.
 pub fn run_ordered<J: Journal, G: Gate>(
     alloc: Global,
     world: &mut World,
@@ -26,14 +27,14 @@ pub fn run_ordered<J: Journal, G: Gate>(
     requires usable { world.old.spent ≡ false }
     requires inserts { AreInsertsWhole world.old.script.tables world.old.script.lines }
     requires journals { length journals.old ≡ 17 }
-    requires empty { All (λ j. J.items j ≡ []) journals.old }
+    requires empty { AreEmpty (map J.shelf journals.old) }
     requires turns { turns ≤ 10000000 }
     ensures journals { length journals.new ≡ 17 }
     ensures script { world.new.script ≡ world.old.script }
     ensures first { AreFirst world.old.script [] world.new.run.steps }
-    ensures failures { AreFailuresFew world.new.run.steps (map (λ j. shelf (J.items j) (J.fault_count j)) journals.old) (map (λ j. shelf (J.items j) (J.fault_count j)) journals.new) }
+    ensures failures { AreFailuresFew world.new.run.steps (map J.shelf journals.old) (map J.shelf journals.new) }
     ensures end { IfOk result (IsEnd world.old.script world.new.run.steps turns) }
-    ensures held { OnOk result (AreHeld world.new.run.steps (map (λ j. shelf (J.items j) (J.fault_count j)) journals.new)) }
+    ensures held { OnOk result (AreHeld world.new.run.steps (map J.shelf journals.new)) }
     ensures unspent { OnOk result (world.new.spent ≡ false) }
 {
     let mut agenda = Agenda::new(alloc, world.script())?;
@@ -41,13 +42,14 @@ pub fn run_ordered<J: Journal, G: Gate>(
         if !is_unfinished(world) {
             return Ok(End::Done);
         }
-        turn(world, &mut agenda, journals, gate)?;
+        let event = next_event(world, &agenda)?;
+        turn(world, &mut agenda, journals, gate, event)?;
     }
     Ok(end_of(world))
 }
 
 // How a run ended whose turns are spent.
-fn end_of(world: &World) -> End
+pub(crate) fn end_of(world: &World) -> End
     requires usable { world.now.spent ≡ false }
     requires reached { IsReached world.now.script world.now.run.steps }
     ensures { IsEnd world.now.script world.now.run.steps (length world.now.run.steps) result }
@@ -60,7 +62,7 @@ fn end_of(world: &World) -> End
 }
 
 // Whether some session has something left.
-fn is_unfinished(world: &World) -> bool
+pub(crate) fn is_unfinished(world: &World) -> bool
     requires usable { world.now.spent ≡ false }
     requires reached { IsReached world.now.script world.now.run.steps }
     ensures { result ≡ is_any_unfinished world.now.script world.now.run.steps }

@@ -1,9 +1,9 @@
-// One turn: the first of what is enabled is done.
+// One turn: an event that is enabled is done.
 ghost use Rattle.std.specs.Prelude.{◌≡◌, ◌<◌, ◌^◌, ◌++◌, ◌∷◌, [], List, true, false, IfOk, OnOk, length, map, option_copied};
 ghost use Rattle.gx_store.specs.Whole.{AreInsertsWhole};
 ghost use Rattle.gx_agenda.specs.Awaited.{told_in};
 ghost use Rattle.gx_store.specs.Schedule.{is_any_unfinished};
-ghost use Rattle.gx_world.specs.Worlds.{Shelf, shelf};
+ghost use Rattle.gx_outside.specs.Shelves.{Shelf};
 ghost use Rattle.gx_law_runs.specs.Reached.{IsReached};
 ghost use Rattle.gx_law_runs.specs.Replays.{is_admitted};
 ghost use Rattle.gx_store.specs.Language.{IsScript};
@@ -19,7 +19,7 @@ use gx_store::Event;
 use gx_world::World;
 
 // What is first, where a session is unfinished.
-fn next_event(world: &World, agenda: &Agenda) -> Mem<Event>
+pub(crate) fn next_event(world: &World, agenda: &Agenda) -> Mem<Event>
     requires usable { world.now.spent ≡ false }
     requires language { IsScript world.now.script }
     requires inserts { AreInsertsWhole world.now.script.tables world.now.script.lines }
@@ -63,29 +63,29 @@ fn note(world: &World, agenda: &mut Agenda) -> Mem<()>
     }
 }
 
-// Does what is first.
+// Does an event that is due.
 pub(crate) fn turn<J: Journal, G: Gate>(
     world: &mut World,
     agenda: &mut Agenda,
     journals: &mut [J],
     gate: &G,
+    event: Event,
 ) -> Mem<()>
     requires usable { world.old.spent ≡ false }
     requires language { IsScript world.old.script }
-    requires inserts { AreInsertsWhole world.old.script.tables world.old.script.lines }
     requires reached { IsReached world.old.script world.old.run.steps }
     requires agreed { IsAgreed world.old.script world.old.run.steps agenda.old }
-    requires unfinished { is_any_unfinished world.old.script world.old.run.steps ≡ true }
+    requires due { IsDue world.old.script world.old.run.steps event }
+    requires admitted { is_admitted world.old.script world.old.run.steps event ≡ true }
     requires journals { length journals.old ≡ 17 }
     requires room { length world.old.run.steps < 2 ^ 40 }
     ensures script { world.new.script ≡ world.old.script }
-    ensures first { IsNoMore world.old.script world.old.run.steps world.new.run.steps }
-    ensures failures { (start : List Shelf) → AreFailuresFew world.old.run.steps start (map (λ j. shelf (J.items j) (J.fault_count j)) journals.old)
-        → AreFailuresFew world.new.run.steps start (map (λ j. shelf (J.items j) (J.fault_count j)) journals.new) }
-    ensures turned { OnOk result (HasTurned world.old world.new agenda.new (map (λ j. shelf (J.items j) (J.fault_count j)) journals.old)
-        (map (λ j. shelf (J.items j) (J.fault_count j)) journals.new)) }
+    ensures done { IsNoMore event world.old.run.steps world.new.run.steps }
+    ensures failures { (start : List Shelf) → AreFailuresFew world.old.run.steps start (map J.shelf journals.old)
+        → AreFailuresFew world.new.run.steps start (map J.shelf journals.new) }
+    ensures turned { OnOk result (HasTurned world.old world.new agenda.new (map J.shelf journals.old)
+        (map J.shelf journals.new)) }
 {
-    let event = next_event(world, agenda)?;
     world.step(event, journals, gate)?;
     note(world, agenda)
 }

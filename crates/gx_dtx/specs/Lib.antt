@@ -4,6 +4,7 @@ pub mod Table
 pub mod Rules
 pub mod Runs
 pub mod Whole
+pub mod Deciding
 pub mod Fits
 pub mod Past
 pub mod Agrees

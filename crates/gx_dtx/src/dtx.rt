@@ -1,7 +1,7 @@
 ghost use Rattle.std.specs.Prelude.{◌≡◌, ◌≤◌, ◌<◌, ◌^◌, ◌++◌, ◌∷◌, [], true, false, All, Contains, IfOk, OnOk, OnErr, None, Some, option_map};
 ghost use Rattle.std.specs.List.{flat_map};
 ghost use Rattle.gx_ids.specs.declared.ids.Gxid.{Gxid};
-ghost use Rattle.gx_outside.specs.Causes.{Rose};
+ghost use Rattle.gx_outside.specs.Shelves.{HasKept};
 ghost use Rattle.gx_dsnap.specs.Snapshot.{sees};
 
 use crate::outcome::DtxOut;
@@ -38,7 +38,8 @@ impl Model for Dtx {
 
 impl Dtx {
     ghost use Rattle.gx_dtx.specs.Table.{new_table, status_of, IsActive, participants_of, xmax_of, listed_of, xmin_of, has_ended, holds_back, horizon_of};
-    ghost use Rattle.gx_dtx.specs.Rules.{begun, with_live, enlisted, on_commit, on_abort, on_reply, awaits, is_deciding, awaited_order, AreWriters, is_refused, decide_items, ended_alone, silently};
+    ghost use Rattle.gx_dtx.specs.Rules.{begun, with_live, enlisted, on_commit, on_abort, on_reply, awaits, is_deciding, awaited_order, AreWriters, is_refused, ended_alone, silently};
+    ghost use Rattle.gx_dtx.specs.Deciding.{HasDecided};
     ghost use Rattle.gx_dtx.specs.Laws.{HasCause};
     ghost use Rattle.gx_dtx.specs.Orders.{message_of};
     ghost use Rattle.gx_dtx.specs.declared.outcome.Outcome.TheVariants as outcome;
@@ -164,12 +165,10 @@ impl Dtx {
         ensures out { IfOk result (λ out. out ≡ (on_reply self.old gxid node answer (is_refused out.outcome)).out) }
         ensures cause { IfOk result (λ out. HasCause self.old gxid node answer (is_refused out.outcome) out.outcome) }
         ensures unawaited { awaits self.old gxid node answer ≡ false → OnOk result (self.new ≡ self.old) }
-        ensures items { IfOk result (λ out. J.items journal.new ≡ J.items journal.old ++ decide_items gxid out.outcome) }
-        ensures refused { IfOk result (λ out. is_deciding self.old gxid node answer ≡ true → is_refused out.outcome ≡ true → Rose (J.fault_count journal.old) (J.fault_count journal.new)) }
+        ensures decided { IfOk result (λ out. HasDecided (J.shelf journal.old) (J.shelf journal.new) gxid (is_deciding self.old gxid node answer) out.outcome) }
         ensures untouched { is_deciding self.old gxid node answer ≡ false → journal.new ≡ journal.old }
-        ensures later { J.fault_count journal.old ≤ J.fault_count journal.new }
         ensures err { OnErr result (self.new ≡ self.old) }
-        ensures kept { OnErr result (J.items journal.new ≡ J.items journal.old) }
+        ensures kept { OnErr result (HasKept (J.shelf journal.old) (J.shelf journal.new)) }
     {
         let change = found::reply(
             self.alloc,

@@ -1,8 +1,9 @@
 // What a call makes of a transaction, if it is found.
-ghost use Rattle.std.specs.Prelude.{◌≡◌, ◌≤◌, ◌++◌, true, false, IfOk, OnErr, None, Some, if◌then◌else◌};
+ghost use Rattle.std.specs.Prelude.{◌≡◌, false, IfOk, OnErr, None, Some, if◌then◌else◌};
 ghost use Rattle.std.specs.Option.{option_copied};
-ghost use Rattle.gx_outside.specs.Causes.{Rose};
-ghost use Rattle.gx_dtx.specs.Rules.{commit_found, abort_found, reply_found, decides_found, decides_in, order_found, order_in, decide_items, is_refused};
+ghost use Rattle.gx_outside.specs.Shelves.{HasKept};
+ghost use Rattle.gx_dtx.specs.Rules.{commit_found, abort_found, reply_found, decides_found, decides_in, order_found, order_in, is_refused};
+ghost use Rattle.gx_dtx.specs.Deciding.{HasDecided};
 ghost use Rattle.gx_dtx.specs.Nodes.{has as is_one_of};
 
 use crate::change::Change;
@@ -44,12 +45,9 @@ pub(crate) fn reply<J: Journal>(
     journal: &mut J,
 ) -> Mem<Change>
     ensures value { IfOk result (λ change. change ≡ reply_found gxid node answer.now (is_refused change.out.outcome) (option_copied txn.entry)) }
-    ensures items { IfOk result (λ change. J.items journal.new ≡ J.items journal.old ++ decide_items gxid change.out.outcome) }
-    ensures refused { IfOk result (λ change. decides_found (option_copied txn.entry) node answer.now ≡ true → is_refused change.out.outcome ≡ true
-        → Rose (J.fault_count journal.old) (J.fault_count journal.new)) }
+    ensures decided { IfOk result (λ change. HasDecided (J.shelf journal.old) (J.shelf journal.new) gxid (decides_found (option_copied txn.entry) node answer.now) change.out.outcome) }
     ensures untouched { decides_found (option_copied txn.entry) node answer.now ≡ false → journal.new ≡ journal.old }
-    ensures later { J.fault_count journal.old ≤ J.fault_count journal.new }
-    ensures kept { OnErr result (J.items journal.new ≡ J.items journal.old) }
+    ensures kept { OnErr result (HasKept (J.shelf journal.old) (J.shelf journal.new)) }
 {
     match txn {
         Some(txn) => reply_of(alloc, txn, gxid, node, answer, journal),
@@ -67,11 +65,9 @@ fn reply_of<J: Journal>(
     journal: &mut J,
 ) -> Mem<Change>
     ensures value { IfOk result (λ change. change ≡ reply_found gxid node answer.now (is_refused change.out.outcome) (Some txn.now)) }
-    ensures items { IfOk result (λ change. J.items journal.new ≡ J.items journal.old ++ decide_items gxid change.out.outcome) }
-    ensures refused { IfOk result (λ change. decides_in txn.now.phase node answer.now ≡ true → is_refused change.out.outcome ≡ true → Rose (J.fault_count journal.old) (J.fault_count journal.new)) }
+    ensures decided { IfOk result (λ change. HasDecided (J.shelf journal.old) (J.shelf journal.new) gxid (decides_in txn.now.phase node answer.now) change.out.outcome) }
     ensures untouched { decides_in txn.now.phase node answer.now ≡ false → journal.new ≡ journal.old }
-    ensures later { J.fault_count journal.old ≤ J.fault_count journal.new }
-    ensures kept { OnErr result (J.items journal.new ≡ J.items journal.old) }
+    ensures kept { OnErr result (HasKept (J.shelf journal.old) (J.shelf journal.new)) }
 {
     if is_awaited(&txn.phase, node, answer) {
         take_answer(alloc, gxid, txn, node, answer, journal)

@@ -1,9 +1,10 @@
 // Answers of participants.
-ghost use Rattle.std.specs.Prelude.{◌≡◌, ◌≤◌, ◌++◌, [], true, false, IfOk, OnErr};
-ghost use Rattle.gx_outside.specs.Causes.{Rose};
+ghost use Rattle.std.specs.Prelude.{◌≡◌, [], true, false, IfOk, OnErr};
+ghost use Rattle.gx_outside.specs.Shelves.{HasKept};
 ghost use Rattle.gx_msg.specs.ItemBytes.{bytes_of_item};
 ghost use Rattle.gx_msg.specs.declared.item.JournalItem.TheVariants as item;
-ghost use Rattle.gx_dtx.specs.Rules.{is_awaited as is_awaited_in, takes, prepares, decides, decides_in, decide_items, is_refused, is_last, goes_to};
+ghost use Rattle.gx_dtx.specs.Rules.{is_awaited as is_awaited_in, takes, prepares, decides, decides_in, is_refused, is_last, goes_to};
+ghost use Rattle.gx_dtx.specs.Deciding.{HasDecided};
 ghost use Rattle.gx_dtx.specs.declared.outcome.Outcome.TheVariants as outcome;
 ghost use Rattle.gx_dtx.specs.declared.phase.Phase.TheVariants as phase;
 
@@ -56,11 +57,9 @@ pub(crate) fn take_answer<J: Journal>(
 ) -> Mem<Change>
     requires { is_awaited_in txn.now.phase node answer.now ≡ true }
     ensures value { IfOk result (λ change. change ≡ takes gxid txn.now.participants node (is_refused change.out.outcome) txn.now.phase answer.now) }
-    ensures items { IfOk result (λ change. J.items journal.new ≡ J.items journal.old ++ decide_items gxid change.out.outcome) }
-    ensures refused { IfOk result (λ change. decides_in txn.now.phase node answer.now ≡ true → is_refused change.out.outcome ≡ true → Rose (J.fault_count journal.old) (J.fault_count journal.new)) }
+    ensures decided { IfOk result (λ change. HasDecided (J.shelf journal.old) (J.shelf journal.new) gxid (decides_in txn.now.phase node answer.now) change.out.outcome) }
     ensures untouched { decides_in txn.now.phase node answer.now ≡ false → journal.new ≡ journal.old }
-    ensures later { J.fault_count journal.old ≤ J.fault_count journal.new }
-    ensures kept { OnErr result (J.items journal.new ≡ J.items journal.old) }
+    ensures kept { OnErr result (HasKept (J.shelf journal.old) (J.shelf journal.new)) }
 {
     let participants = &txn.participants;
     match (&txn.phase, answer) {
@@ -95,11 +94,9 @@ fn prepare<J: Journal>(
     journal: &mut J,
 ) -> Mem<Change>
     ensures value { IfOk result (λ change. change ≡ prepares gxid writers.now participants.now rest (is_refused change.out.outcome)) }
-    ensures items { IfOk result (λ change. J.items journal.new ≡ J.items journal.old ++ decide_items gxid change.out.outcome) }
-    ensures refused { IfOk result (λ change. is_refused change.out.outcome ≡ true → Rose (J.fault_count journal.old) (J.fault_count journal.new)) }
+    ensures decided { IfOk result (λ change. HasDecided (J.shelf journal.old) (J.shelf journal.new) gxid true change.out.outcome) }
     ensures untouched { is_last rest ≡ false → journal.new ≡ journal.old }
-    ensures later { J.fault_count journal.old ≤ J.fault_count journal.new }
-    ensures kept { OnErr result (J.items journal.new ≡ J.items journal.old) }
+    ensures kept { OnErr result (HasKept (J.shelf journal.old) (J.shelf journal.new)) }
 {
     if rest.is_empty() {
         decide_now(alloc, gxid, writers, participants, journal)
@@ -126,10 +123,8 @@ fn decide_now<J: Journal>(
     journal: &mut J,
 ) -> Mem<Change>
     ensures value { IfOk result (λ change. change ≡ decides gxid writers.now participants.now (is_refused change.out.outcome)) }
-    ensures items { IfOk result (λ change. J.items journal.new ≡ J.items journal.old ++ decide_items gxid change.out.outcome) }
-    ensures refused { IfOk result (λ change. is_refused change.out.outcome ≡ true → Rose (J.fault_count journal.old) (J.fault_count journal.new)) }
-    ensures later { J.fault_count journal.old ≤ J.fault_count journal.new }
-    ensures kept { OnErr result (J.items journal.new ≡ J.items journal.old) }
+    ensures decided { IfOk result (λ change. HasDecided (J.shelf journal.old) (J.shelf journal.new) gxid true change.out.outcome) }
+    ensures kept { OnErr result (HasKept (J.shelf journal.old) (J.shelf journal.new)) }
 {
     let decided = decide(alloc, gxid, writers)?;
     let refused = refuse(alloc, gxid, participants, Node(0))?;

@@ -50,7 +50,8 @@ pub record IsGiven (script : Script) (events : Events) (segment : Node) (g : Gxi
   pub locks : Locks
   pub wanted : Claim
   pub ran : on_message script ((world_of script before).segs segment.0) fails envelope.message
-      ≡ after_marks (hold_mark ((world_of script before).segs segment.0).node wanted ∷ []) (runs_slice (record (raised ((world_of script before).segs segment.0) horizon) { locks = locks }) g c (Some snapshot) slice)
+      ≡ after_marks (hold_mark ((world_of script before).segs segment.0).node wanted ∷ [])
+      (runs_slice (record (raised ((world_of script before).segs segment.0) horizon) { locks = locks }) g c (Some snapshot) slice)
   pub given : (on_message script ((world_of script before).segs segment.0) fails envelope.message).outs ≡ reply g answer ∷ []
 
 -- Behind some of the events the segment was given the answer by its rule, for a command that was its transaction's, and what the

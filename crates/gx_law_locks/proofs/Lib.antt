@@ -8,6 +8,7 @@ pub mod Going
 pub mod AtWrites
 pub mod Orders
 pub mod Writes
+pub mod Legal
 pub mod Commands
 pub mod Answering
 pub mod Told

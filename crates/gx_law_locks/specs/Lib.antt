@@ -3,4 +3,5 @@ pub mod Late
 pub mod Lasting
 pub mod Orders
 pub mod Writes
+pub mod Legal
 pub mod Commands

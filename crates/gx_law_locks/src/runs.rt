@@ -4,6 +4,7 @@ ghost use Rattle.gx_law_locks.specs.Commands.{AreAnswersHeld, DoCommandsHold};
 ghost use Rattle.gx_law_locks.specs.Held.{AreHoldsMarked};
 ghost use Rattle.gx_law_locks.specs.Lasting.{DoHoldsLast};
 ghost use Rattle.gx_law_locks.specs.Late.{AreReleasesLate};
+ghost use Rattle.gx_law_locks.specs.Legal.{AreLocksLegal};
 ghost use Rattle.gx_law_locks.specs.Orders.{AreOrdersLocked};
 ghost use Rattle.gx_law_locks.specs.Writes.{AreWritesLocked, AreWritesUnderLock};
 ghost use Rattle.gx_law_order.specs.Runs.{steps_after};
@@ -54,6 +55,11 @@ pub fn rows_are_written_with_the_lock()
 /// Whoever writes a row holds its table at the coordinator and at the row's node, unless it has aborted.
 pub fn rows_are_written_with_the_lock_unless_aborted()
     ensures { (script : Script) (events : List (OneEvent × Bool)) → 1 ≤ script.segments → AreLinesNumbered [] script.lines → AreWritesUnderLock script [] (marks_in (steps_after script events)) }
+{}
+
+/// Locks are legal.
+pub fn locks_are_legal()
+    ensures { (script : Script) (events : List (OneEvent × Bool)) → 1 ≤ script.segments → AreLinesNumbered [] script.lines → AreLocksLegal script (steps_after script events) }
 {}
 
 /// A command that has gone out holds its table at the coordinator: behind each step, and in each step that starts no line of its

@@ -1,19 +1,29 @@
 -- The runs that the machine reaches.
-use Rattle.std.proofs.Common.{◌≡◌, ◌≤◌, ℕ, ◌+◌, ◌*◌, List, [], ◌∷◌, ◌++◌, Bool, true, refl, sym, subst, ap, ◌∙◌, ◌&&◌, length}
+use Rattle.std.proofs.Common.{◌≡◌, ◌≤◌, ℕ, ◌+◌, ◌*◌, List, [], ◌∷◌, ◌++◌, Bool, true, refl, sym, subst, ap, ◌∙◌, ◌&&◌, length, false, if◌then◌else◌}
 use Rattle.std.specs.List.{list_all}
 use Rattle.std.specs.declared.alloc.Global.{Global}
 use Rattle.std.specs.declared.vec.Vec.{Vec}
+use Rattle.gx_law_order.proofs.Ordered.{world_well}
+use Rattle.gx_law_order.proofs.CalmSegs.{nobody-can}
+use Rattle.gx_law_order.proofs.Calm.{nobody-ready}
+use Rattle.gx_ids.specs.declared.ids.Node.{Node}
+use Rattle.gx_ids.specs.declared.ids.Gxid.{Gxid}
 use Rattle.gx_ids.specs.declared.ids.Table.{Table}
 use Rattle.gx_msg.specs.declared.message.Envelope.{Envelope}
 use Rattle.gx_script.specs.declared.Script.{Script}
 use Rattle.gx_tree.specs.declared.row.KeyedRow.{KeyedRow}
 use Rattle.gx_store.specs.declared.event.Event.{Event}
+use Rattle.gx_store.specs.declared.event.Event.TheVariants as event
+use Rattle.gx_store.specs.declared.node.NodeEvent.TheVariants as here
+use Rattle.gx_store.specs.Journals.{is_same_node}
+use Rattle.gx_store.specs.Refusals.{the_coordinator}
+use Rattle.gx_rules.specs.AtCoordinator.{coord_can}
 use Rattle.gx_store.specs.declared.run.Step.{Step}
 use Rattle.gx_store.specs.Points.{marks_in}
 use Rattle.gx_store.specs.Rows.{row_at}
 use Rattle.gx_store.specs.Schedule.{enabled}
 use Rattle.gx_rules.specs.Coordinators.{Coord}
-use Rattle.gx_rules.specs.Machine.{Letter, World, can, happens, new_world, world_of}
+use Rattle.gx_rules.specs.Machine.{Letter, World, can, happens, new_world, world_of, seg_can}
 use Rattle.gx_rules.specs.Segments.{Seg}
 use Rattle.gx_rules.specs.Snapshots.{snapshot_of}
 use Rattle.gx_law_order.proofs.Letters.{found_is}
@@ -58,6 +68,17 @@ module _ (script : Script) (steps : List Step) (is : IsReached script steps) whe
 all-same : (p q : Event → Bool) (xs : List Event) → ((x : Event) → p x ≡ q x) → list_all p xs ≡ list_all q xs
 all-same p q [] same = refl
 all-same p q (x ∷ xs) same = ap (λ b. b && list_all p xs) (same x) ∙ ap (λ b. q x && b) (all-same p q xs same)
+
+-- nobody waits, so nobody resumes
+pub resumes-none : (script : Script) (some : 1 ≤ script.segments) (es : List (Event × Bool)) (n : Node) (g : Gxid) → is_admitted script (world_of script es).steps (event.Resume n g) ≡ false
+resumes-none script some es n g = sym (can-told script w.steps w (world-replayed script es) refl (event.Resume n g)) ∙ by_node (is_same_node n the_coordinator)
+  where
+    w : World
+    w = world_of script es
+
+    by_node : (b : Bool) → (if b then coord_can script w.coord (here.Resume g) else seg_can script (w.segs n.0) (here.Resume g)) ≡ false
+    by_node true = nobody-ready w.coord.locks g (world_well script some es).coordinator.locks
+    by_node false = nobody-can script (w.segs n.0) g ((world_well script some es).calm n.0)
 
 pub enabled-admitted : (script : Script) (some : 1 ≤ script.segments) (es : List (Event × Bool)) → list_all (is_admitted script (world_of script es).steps) (enabled script (world_of script es).steps) ≡ true
 enabled-admitted script some es =

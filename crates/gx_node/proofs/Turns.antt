@@ -1,5 +1,5 @@
 -- What an order makes of a transaction is what the rule makes of it.
-use Rattle.std.proofs.Common.{◌≡◌, ℕ, Bool, true, false, if◌then◌else◌, Option, Some, None, [], refl, sym, subst, ap, eqb}
+use Rattle.std.proofs.Common.{◌≡◌, ℕ, Bool, true, false, not, if◌then◌else◌, Option, Some, None, refl, ap, eqb}
 use Rattle.std.proofs.lemmas.Bool.{eqb-true}
 use Rattle.gx_ids.specs.declared.ids.Gxid.{Gxid}
 use Rattle.gx_msg.specs.declared.reply.Reply.{Reply}
@@ -7,8 +7,9 @@ use Rattle.gx_msg.specs.declared.reply.Reply.TheVariants as answer
 use Rattle.gx_dtx.specs.declared.order.Order.{Order}
 use Rattle.gx_dtx.specs.declared.order.Order.TheVariants as order
 use Rattle.gx_rules.specs.AtSegment as rule
+use Rattle.gx_rules.specs.Fits.{is_waiting}
 use Rattle.gx_rules.specs.Maps.{with_at}
-use Rattle.gx_rules.specs.Segments.{Local, Phase, Reading, Writing, Prepared, Committed, Forgotten, Aborted, Seg, SegTurn, local_of, stays, tells_kept}
+use Rattle.gx_rules.specs.Segments.{Local, Phase, Reading, Writing, Prepared, Committed, Forgotten, Aborted, Seg, SegTurn, has_committed, local_of, stays, tells_kept}
 use Rattle.gx_rules.specs.Shown.{kept_of}
 use Rattle.gx_node.specs.Changes as change
 use Rattle.gx_node.specs.Changes.{Change, Makes, change_of, turn_of}
@@ -25,27 +26,27 @@ module _ (s : Seg) (g : Gxid) where
   l = local_of s g
 
   stays-makes : Makes s g (stays s) (change.stays l)
-  stays-makes = record { locals = λ h. same_at s.locals g.0 h; others = refl; marks = refl; outs = refl; item = refl }
+  stays-makes = record { locals = λ h. same_at s.locals g.0 h; locks = refl; others = refl; marks = refl; outs = refl; item = refl }
 
   tells-makes : (r : Option Reply) → Makes s g (tells_kept s g r) (change.tells l r)
-  tells-makes None = record { locals = λ h. same_at s.locals g.0 h; others = refl; marks = refl; outs = refl; item = refl }
-  tells-makes (Some r) = record { locals = λ h. same_at s.locals g.0 h; others = refl; marks = refl; outs = refl; item = refl }
+  tells-makes None = record { locals = λ h. same_at s.locals g.0 h; locks = refl; others = refl; marks = refl; outs = refl; item = refl }
+  tells-makes (Some r) = record { locals = λ h. same_at s.locals g.0 h; locks = refl; others = refl; marks = refl; outs = refl; item = refl }
 
   once-makes : (vote : Option Reply) (turn : SegTurn) (new : Change) → Makes s g turn new → Makes s g (rule.once s g vote turn) (change.once l vote new)
   once-makes None turn new e = e
   once-makes (Some vote) turn new e = tells-makes (Some vote)
 
   promises-makes : (fails : Bool) → Makes s g (rule.promises s g fails l) (change.promises s.node g (kept_of s g) fails l)
-  promises-makes true = record { locals = λ h. refl; others = refl; marks = refl; outs = refl; item = refl }
-  promises-makes false = record { locals = λ h. refl; others = refl; marks = refl; outs = refl; item = refl }
+  promises-makes true = record { locals = λ h. refl; locks = refl; others = refl; marks = refl; outs = refl; item = refl }
+  promises-makes false = record { locals = λ h. refl; locks = refl; others = refl; marks = refl; outs = refl; item = refl }
 
   commits-makes : (fails : Bool) → Makes s g (rule.commits s g fails l) (change.commits_now s.node g (kept_of s g) fails l)
-  commits-makes true = record { locals = λ h. refl; others = refl; marks = refl; outs = refl; item = refl }
-  commits-makes false = record { locals = λ h. refl; others = refl; marks = refl; outs = refl; item = refl }
+  commits-makes true = record { locals = λ h. refl; locks = refl; others = refl; marks = refl; outs = refl; item = refl }
+  commits-makes false = record { locals = λ h. refl; locks = refl; others = refl; marks = refl; outs = refl; item = refl }
 
   finishes-makes : (fails : Bool) → Makes s g (rule.finishes s g fails l) (change.finishes_now s.node g fails l)
-  finishes-makes true = record { locals = λ h. refl; others = refl; marks = refl; outs = refl; item = refl }
-  finishes-makes false = record { locals = λ h. refl; others = refl; marks = refl; outs = refl; item = refl }
+  finishes-makes true = record { locals = λ h. refl; locks = refl; others = refl; marks = refl; outs = refl; item = refl }
+  finishes-makes false = record { locals = λ h. refl; locks = refl; others = refl; marks = refl; outs = refl; item = refl }
 
   unless-makes : (b : Bool) → Makes s g (if b then stays s else tells_kept s g l.vote) (if b then change.stays l else change.tells l l.vote)
   unless-makes true = stays-makes
@@ -76,13 +77,17 @@ module _ (s : Seg) (g : Gxid) where
   finish-makes fails Writing = stays-makes
   finish-makes fails Aborted = stays-makes
 
-  now-makes : (now : Local) (r : Reply) → Makes s g (rule.changes s g now [] r None) (record { now = now; mark = None; reply = Some r; item = None })
-  now-makes now r = record { locals = λ h. refl; others = refl; marks = refl; outs = refl; item = refl }
+  ends-makes : (p : Phase) (r : Reply) → Makes s g (rule.ends s g l p r) (change.ends_now l p r)
+  ends-makes p r = record { locals = λ h. refl; locks = refl; others = refl; marks = refl; outs = refl; item = refl }
+
+  fits-makes : (waits : Bool) (turn : SegTurn) (new : Change) → Makes s g turn new → Makes s g (rule.if_fits s (not waits) turn) (if waits then change.stays l else new)
+  fits-makes true turn new e = stays-makes
+  fits-makes false turn new e = e
 
   abort-makes : (p : Phase) → Makes s g (rule.on_abort s g l p) (change.aborts l p)
-  abort-makes Reading = now-makes _ answer.Aborted
-  abort-makes Writing = now-makes _ answer.Aborted
-  abort-makes Prepared = now-makes _ answer.Aborted
+  abort-makes Reading = ends-makes Aborted answer.Aborted
+  abort-makes Writing = ends-makes Aborted answer.Aborted
+  abort-makes Prepared = ends-makes Aborted answer.Aborted
   abort-makes Aborted = tells-makes (Some answer.Aborted)
   abort-makes Committed = stays-makes
   abort-makes (Forgotten committed) = stays-makes
@@ -90,14 +95,14 @@ module _ (s : Seg) (g : Gxid) where
   forget-makes : (p : Phase) → Makes s g (rule.on_forget s g l p) (change.forgets l p)
   forget-makes Aborted = stays-makes
   forget-makes (Forgotten committed) = tells-makes (Some answer.Forgotten)
-  forget-makes Reading = now-makes _ answer.Forgotten
-  forget-makes Writing = now-makes _ answer.Forgotten
-  forget-makes Prepared = now-makes _ answer.Forgotten
-  forget-makes Committed = now-makes _ answer.Forgotten
+  forget-makes Reading = ends-makes (Forgotten (has_committed l.phase)) answer.Forgotten
+  forget-makes Writing = ends-makes (Forgotten (has_committed l.phase)) answer.Forgotten
+  forget-makes Prepared = ends-makes (Forgotten (has_committed l.phase)) answer.Forgotten
+  forget-makes Committed = ends-makes (Forgotten (has_committed l.phase)) answer.Forgotten
 
 pub turn-makes : (o : Order) (s : Seg) (g : Gxid) (fails : Bool) → Makes s g (turn_of o s g fails (local_of s g)) (change_of o s.node g (kept_of s g) fails (local_of s g))
-turn-makes order.Prepare s g fails = prepare-makes s g fails (local_of s g).phase
-turn-makes order.Commit s g fails = commit-makes s g fails (local_of s g).phase
+turn-makes order.Prepare s g fails = fits-makes s g (is_waiting (local_of s g)) _ _ (prepare-makes s g fails (local_of s g).phase)
+turn-makes order.Commit s g fails = fits-makes s g (is_waiting (local_of s g)) _ _ (commit-makes s g fails (local_of s g).phase)
 turn-makes order.CommitPrepared s g fails = finish-makes s g fails (local_of s g).phase
 turn-makes order.Abort s g fails = abort-makes s g (local_of s g).phase
 turn-makes order.Forget s g fails = forget-makes s g (local_of s g).phase

@@ -1,8 +1,9 @@
 -- What an order makes of a transaction at a segment, without the rest of the segment.
-use Rattle.std.specs.Prelude.{◌≡◌, ℕ, Bool, true, false, if◌then◌else◌, List, [], ◌∷◌, None, Some, map}
+use Rattle.std.specs.Prelude.{◌≡◌, ℕ, Bool, true, false, not, if◌then◌else◌, List, [], ◌∷◌, ◌++◌, None, Some}
 use Rattle.std.specs.declared.option.Option.{Option}
 use Rattle.gx_ids.specs.declared.ids.Gxid.{Gxid}
 use Rattle.gx_ids.specs.declared.ids.Node.{Node}
+use Rattle.gx_locks.specs.Locks.{Locks}
 use Rattle.gx_msg.specs.declared.item.JournalItem.{JournalItem}
 use Rattle.gx_msg.specs.declared.item.JournalItem.TheVariants as item
 use Rattle.gx_msg.specs.declared.item.Kept.{Kept}
@@ -13,23 +14,26 @@ use Rattle.gx_store.specs.declared.mark.Mark.{Mark}
 use Rattle.gx_store.specs.declared.mark.Mark.TheVariants as mark
 use Rattle.gx_dtx.specs.declared.order.Order.{Order}
 use Rattle.gx_dtx.specs.declared.order.Order.TheVariants as order
-use Rattle.gx_rules.specs.AtSegment.{on_abort, on_commit, on_commit_prepared, on_forget, on_prepare, was_prepared}
+use Rattle.gx_rules.specs.AtSegment.{if_fits, on_abort, on_commit, on_commit_prepared, on_forget, on_prepare, was_prepared}
+use Rattle.gx_rules.specs.Fits.{is_waiting}
+use Rattle.gx_rules.specs.Locks.{release_marks, released}
 use Rattle.gx_rules.specs.Maps.{with_at}
 use Rattle.gx_rules.specs.Segments.{Local, Phase, Reading, Writing, Prepared, Committed, Forgotten, Aborted, Seg, SegTurn, has_committed, reply}
 use Rattle.gx_node.specs.declared.local.Taken.{Taken}
 
--- its record afterwards, the mark, the answer, and the item for the journal
+-- its record afterwards, the mark, the answer, the item for the journal, and whether it gives its locks back
 pub record Change : Type 0 where
   pub now : Local
   pub mark : Option Mark
   pub reply : Option Reply
   pub item : Option JournalItem
+  pub ends : Bool
 
 abbrev pub stays : Local → Change
-stays l = record { now = l; mark = None; reply = None; item = None }
+stays l = record { now = l; mark = None; reply = None; item = None; ends = false }
 
 abbrev pub tells : Local → Option Reply → Change
-tells l r = record { now = l; mark = None; reply = r; item = None }
+tells l r = record { now = l; mark = None; reply = r; item = None; ends = false }
 
 -- what was answered before is answered again
 abbrev pub once : Local → Option Reply → Change → Change
@@ -37,12 +41,12 @@ once l None new = new
 once l (Some vote) new = tells l (Some vote)
 
 abbrev pub is_refused : Node → Gxid → Local → JournalItem → Change
-is_refused node g l it = record { now = record l { vote = Some answer.Jfault }; mark = Some (mark.JournalFailed node g); reply = Some answer.Jfault; item = Some it }
+is_refused node g l it = record { now = record l { vote = Some answer.Jfault }; mark = Some (mark.JournalFailed node g); reply = Some answer.Jfault; item = Some it; ends = false }
 
 abbrev pub promises : Node → Gxid → List Kept → Bool → Local → Change
 promises node g kept true l = is_refused node g l (item.Prepare g kept)
 promises node g kept false l =
-    record { now = record l { phase = Prepared; vote = Some answer.Prepared }; mark = Some (mark.Prepared node g); reply = Some answer.Prepared; item = Some (item.Prepare g kept) }
+    record { now = record l { phase = Prepared; vote = Some answer.Prepared }; mark = Some (mark.Prepared node g); reply = Some answer.Prepared; item = Some (item.Prepare g kept); ends = false }
 
 abbrev pub prepares : Node → Gxid → List Kept → Bool → Local → Phase → Change
 prepares node g kept fails l Reading = once l l.vote (promises node g kept fails l)
@@ -53,7 +57,7 @@ prepares node g kept fails l _ = tells l l.vote
 abbrev pub commits_now : Node → Gxid → List Kept → Bool → Local → Change
 commits_now node g kept true l = is_refused node g l (item.Commit g kept)
 commits_now node g kept false l =
-    record { now = record l { phase = Committed; vote = Some answer.Committed }; mark = Some (mark.LocalCommit node g); reply = Some answer.Committed; item = Some (item.Commit g kept) }
+    record { now = record l { phase = Committed; vote = Some answer.Committed }; mark = Some (mark.LocalCommit node g); reply = Some answer.Committed; item = Some (item.Commit g kept); ends = false }
 
 abbrev pub unless_prepared : Local → Change
 unless_prepared l = if was_prepared l.vote then stays l else tells l l.vote
@@ -66,8 +70,8 @@ commits node g kept fails l (Forgotten committed) = unless_prepared l
 commits node g kept fails l _ = stays l
 
 abbrev pub finishes_now : Node → Gxid → Bool → Local → Change
-finishes_now node g true l = record { now = l; mark = Some (mark.JournalFailed node g); reply = Some answer.Again; item = Some (item.Finish g) }
-finishes_now node g false l = record { now = record l { phase = Committed }; mark = Some (mark.LocalCommit node g); reply = Some answer.Committed; item = Some (item.Finish g) }
+finishes_now node g true l = record { now = l; mark = Some (mark.JournalFailed node g); reply = Some answer.Again; item = Some (item.Finish g); ends = false }
+finishes_now node g false l = record { now = record l { phase = Committed }; mark = Some (mark.LocalCommit node g); reply = Some answer.Committed; item = Some (item.Finish g); ends = false }
 
 abbrev pub finishes : Node → Gxid → Bool → Local → Phase → Change
 finishes node g fails l Prepared = finishes_now node g fails l
@@ -75,8 +79,11 @@ finishes node g fails l Committed = tells l (Some answer.Committed)
 finishes node g fails l (Forgotten true) = tells l (Some answer.Committed)
 finishes node g fails l _ = stays l
 
+abbrev pub ends_now : Local → Phase → Reply → Change
+ends_now l phase r = record { now = record l { phase = phase; suspended = None }; mark = None; reply = Some r; item = None; ends = true }
+
 abbrev pub aborts_now : Local → Change
-aborts_now l = record { now = record l { phase = Aborted }; mark = None; reply = Some answer.Aborted; item = None }
+aborts_now l = ends_now l Aborted answer.Aborted
 
 abbrev pub aborts : Local → Phase → Change
 aborts l Reading = aborts_now l
@@ -88,21 +95,25 @@ aborts l _ = stays l
 abbrev pub forgets : Local → Phase → Change
 forgets l Aborted = stays l
 forgets l (Forgotten committed) = tells l (Some answer.Forgotten)
-forgets l _ = record { now = record l { phase = Forgotten (has_committed l.phase) }; mark = None; reply = Some answer.Forgotten; item = None }
+forgets l _ = ends_now l (Forgotten (has_committed l.phase)) answer.Forgotten
+
+-- PREPARE and COMMIT fit only where no slice waits
+abbrev pub unless_waiting : Local → Change → Change
+unless_waiting l change = if is_waiting l then stays l else change
 
 -- THE RULE
 -- what a segment's rule makes of an order
 abbrev pub turn_of : Order → Seg → Gxid → Bool → Local → SegTurn
-turn_of order.Prepare s g fails l = on_prepare s g fails l l.phase
-turn_of order.Commit s g fails l = on_commit s g fails l l.phase
+turn_of order.Prepare s g fails l = if_fits s (not (is_waiting l)) (on_prepare s g fails l l.phase)
+turn_of order.Commit s g fails l = if_fits s (not (is_waiting l)) (on_commit s g fails l l.phase)
 turn_of order.CommitPrepared s g fails l = on_commit_prepared s g fails l l.phase
 turn_of order.Abort s g fails l = on_abort s g l l.phase
 turn_of order.Forget s g fails l = on_forget s g l l.phase
 
 -- what it makes of the transaction
 abbrev pub change_of : Order → Node → Gxid → List Kept → Bool → Local → Change
-change_of order.Prepare node g kept fails l = prepares node g kept fails l l.phase
-change_of order.Commit node g kept fails l = commits node g kept fails l l.phase
+change_of order.Prepare node g kept fails l = unless_waiting l (prepares node g kept fails l l.phase)
+change_of order.Commit node g kept fails l = unless_waiting l (commits node g kept fails l l.phase)
 change_of order.CommitPrepared node g kept fails l = finishes node g fails l l.phase
 change_of order.Abort node g kept fails l = aborts l l.phase
 change_of order.Forget node g kept fails l = forgets l l.phase
@@ -115,11 +126,21 @@ abbrev pub outs_in : Gxid → Option Reply → List Out
 outs_in g None = []
 outs_in g (Some r) = reply g r ∷ []
 
+-- the locks that are left, and the marks of those that are given back
+abbrev pub left_locks : Bool → Locks → Gxid → Locks
+left_locks true locks g = released locks g
+left_locks false locks g = locks
+
+abbrev pub left_marks : Bool → Node → Locks → Gxid → List Mark
+left_marks true node locks g = release_marks node locks g
+left_marks false node locks g = []
+
 -- the turn is that of this change
 pub record Makes (s : Seg) (g : Gxid) (turn : SegTurn) (change : Change) : Type 0 where
   pub locals : (h : ℕ) → turn.seg.locals h ≡ with_at s.locals g.0 change.now h
-  pub others : turn.seg ≡ record s { locals = turn.seg.locals }
-  pub marks : turn.marks ≡ marks_in change.mark
+  pub locks : turn.seg.locks ≡ left_locks change.ends s.locks g
+  pub others : turn.seg ≡ record s { locals = turn.seg.locals; locks = turn.seg.locks }
+  pub marks : turn.marks ≡ marks_in change.mark ++ left_marks change.ends s.node s.locks g
   pub outs : turn.outs ≡ outs_in g change.reply
   pub item : turn.item ≡ change.item
 
@@ -128,3 +149,4 @@ pub record Does (change : Change) (left : Local) (taken : Taken) : Type 0 where
   pub now : left ≡ change.now
   pub mark : taken.mark ≡ change.mark
   pub reply : taken.reply ≡ change.reply
+  pub ends : taken.ends ≡ change.ends

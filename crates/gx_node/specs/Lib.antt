@@ -1,4 +1,5 @@
 pub mod Phases
 pub mod Changes
 pub mod Orders
+pub mod Locking
 pub mod Right

@@ -1,9 +1,10 @@
 -- A transaction at a segment, as the rule has it.
-use Rattle.std.specs.Prelude.{None, option_map}
+use Rattle.std.specs.Prelude.{[], None, Some, option_map}
 use Rattle.gx_msg.specs.declared.reply.Reply.{Reply}
 use Rattle.gx_msg.specs.declared.reply.Reply.TheVariants as reply
 use Rattle.gx_rules.specs.Segments as rule
 use Rattle.gx_node.specs.declared.local.Local.{Local}
+use Rattle.gx_node.specs.declared.local.Suspended.{Suspended}
 use Rattle.gx_node.specs.declared.local.Phase.{Phase}
 use Rattle.gx_node.specs.declared.local.Phase.TheVariants.{Reading, Writing, Prepared, Committed, Forgotten, Aborted}
 use Rattle.gx_node.specs.declared.local.Vote.{Vote}
@@ -22,6 +23,10 @@ reply_of vote.Prepared = reply.Prepared
 reply_of vote.Committed = reply.Committed
 reply_of vote.Jfault = reply.Jfault
 
--- no slice waits
+-- it waits for its table, and has come to no row yet
+abbrev pub suspended_of : Suspended → rule.Suspended
+suspended_of w = record { cid = w.cid; level = w.level; snapshot = Some w.snapshot; slice = w.slice; count = 0; row = None; rows = [] }
+
 abbrev pub local_of : Local → rule.Local
-local_of l = record { phase = phase_of l.phase; last = l.last; answer = l.answer; vote = option_map reply_of l.vote; suspended = None }
+local_of l =
+    record { phase = phase_of l.phase; last = l.last; answer = l.answer; vote = option_map reply_of l.vote; suspended = option_map suspended_of l.suspended }

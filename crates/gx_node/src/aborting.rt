@@ -9,6 +9,21 @@ use crate::committing::{nothing, tell};
 use crate::local::{Local, Phase, Taken};
 use gx_msg::Reply;
 
+// It ends here: its slice waits no more, and it gives its locks back.
+fn end(local: &mut Local, phase: Phase, reply: Reply) -> Taken
+    ensures does { Does (change.ends_now (local_of local.old) (phase_of phase) reply) (local_of local.new) result }
+    ensures took { result.fails ≡ false }
+{
+    local.phase = phase;
+    local.suspended = None;
+    Taken {
+        mark: None,
+        reply: Some(reply),
+        fails: false,
+        ends: true,
+    }
+}
+
 // Whoever has not committed here is aborted, also one that is unknown here.
 pub(crate) fn take_abort(local: &mut Local) -> Taken
     ensures does { Does (change.aborts (local_of local.old) (phase_of local.old.phase)) (local_of local.new) result }
@@ -16,8 +31,7 @@ pub(crate) fn take_abort(local: &mut Local) -> Taken
 {
     match local.phase {
         Phase::Reading | Phase::Writing | Phase::Prepared => {
-            local.phase = Phase::Aborted;
-            tell(Reply::Aborted)
+            end(local, Phase::Aborted, Reply::Aborted)
         }
         Phase::Aborted => tell(Reply::Aborted),
         _ => nothing(),
@@ -41,9 +55,6 @@ pub(crate) fn take_forget(local: &mut Local) -> Taken
     match local.phase {
         Phase::Aborted => nothing(),
         Phase::Forgotten(_) => tell(Reply::Forgotten),
-        phase => {
-            local.phase = Phase::Forgotten(committed(phase));
-            tell(Reply::Forgotten)
-        }
+        phase => end(local, Phase::Forgotten(committed(phase)), Reply::Forgotten),
     }
 }

@@ -1,9 +1,9 @@
 // PREPARE, COMMIT and COMMIT PREPARED.
-ghost use Rattle.std.specs.Prelude.{◌≡◌, ◌≤◌, true, false, Some, None, IfOk, OnErr};
-ghost use Rattle.gx_outside.specs.Causes.{Rose};
-ghost use Rattle.gx_node.specs.Changes.{Does, commits_now, finishes_now, promises, unless_prepared};
+ghost use Rattle.std.specs.Prelude.{◌≡◌, true, false, Some, None, IfOk, OnErr};
+ghost use Rattle.gx_outside.specs.Shelves.{HasKept};
+ghost use Rattle.gx_node.specs.Changes.{Does, commits_now, finishes_now, promises, unless_prepared, unless_waiting};
 ghost use Rattle.gx_node.specs.Changes as change;
-ghost use Rattle.gx_node.specs.Orders.{AreItems};
+ghost use Rattle.gx_node.specs.Orders.{Took};
 ghost use Rattle.gx_node.specs.Phases.{local_of, phase_of};
 
 use crate::appending::append;
@@ -23,29 +23,32 @@ fn tell_vote(local: &Local) -> Taken
         mark: None,
         reply: local.vote.map(|vote| vote.reply()),
         fails: false,
+        ends: false,
     }
 }
 
 pub(crate) fn nothing() -> Taken
-    ensures { result ≡ record { mark = None; reply = None; fails = false } }
+    ensures { result ≡ record { mark = None; reply = None; fails = false; ends = false } }
 {
     Taken {
         mark: None,
         reply: None,
         fails: false,
+        ends: false,
     }
 }
 
 // The journal has failed before the transaction was promised or committed.
 fn refuse(node: Node, gxid: Gxid, local: &mut Local) -> Taken
     ensures local { local.new ≡ record local.old { vote = Some Vote.Jfault } }
-    ensures taken { result ≡ record { mark = Some (Mark.JournalFailed node gxid); reply = Some Reply.Jfault; fails = true } }
+    ensures taken { result ≡ record { mark = Some (Mark.JournalFailed node gxid); reply = Some Reply.Jfault; fails = true; ends = false } }
 {
     local.vote = Some(Vote::Jfault);
     Taken {
         mark: Some(Mark::JournalFailed { node, gxid }),
         reply: Some(Reply::Jfault),
         fails: true,
+        ends: false,
     }
 }
 
@@ -58,10 +61,8 @@ fn promise<J: Journal>(
     journal: &mut J,
 ) -> Mem<Taken>
     ensures does { IfOk result (λ taken. Does (promises node gxid kept taken.fails (local_of local.old)) (local_of local.new) taken) }
-    ensures items { IfOk result (λ taken. AreItems (J.items journal.old) (J.items journal.new) taken.fails (promises node gxid kept taken.fails (local_of local.old)).item) }
-    ensures caused { IfOk result (λ taken. taken.fails ≡ true → Rose (J.fault_count journal.old) (J.fault_count journal.new)) }
-    ensures later { J.fault_count journal.old ≤ J.fault_count journal.new }
-    ensures err { OnErr result ((local.new ≡ local.old) × (J.items journal.new ≡ J.items journal.old)) }
+    ensures took { IfOk result (λ taken. Took (J.shelf journal.old) (J.shelf journal.new) taken.fails (promises node gxid kept taken.fails (local_of local.old)).item) }
+    ensures err { OnErr result ((local.new ≡ local.old) × HasKept (J.shelf journal.old) (J.shelf journal.new)) }
 {
     let item = JournalItem::Prepare(gxid, kept);
     if append(alloc, &item, journal)? {
@@ -73,6 +74,7 @@ fn promise<J: Journal>(
         mark: Some(Mark::Prepared { node, gxid }),
         reply: Some(Reply::Prepared),
         fails: false,
+        ends: false,
     })
 }
 
@@ -85,13 +87,15 @@ pub(crate) fn take_prepare<J: Journal>(
     kept: Seq<Kept>,
     journal: &mut J,
 ) -> Mem<Taken>
-    ensures does { IfOk result (λ taken. Does (change.prepares node gxid kept taken.fails (local_of local.old) (phase_of local.old.phase)) (local_of local.new) taken) }
-    ensures items { IfOk result (λ taken. AreItems (J.items journal.old) (J.items journal.new) taken.fails (change.prepares node gxid kept taken.fails
-        (local_of local.old) (phase_of local.old.phase)).item) }
-    ensures caused { IfOk result (λ taken. taken.fails ≡ true → Rose (J.fault_count journal.old) (J.fault_count journal.new)) }
-    ensures later { J.fault_count journal.old ≤ J.fault_count journal.new }
-    ensures err { OnErr result ((local.new ≡ local.old) × (J.items journal.new ≡ J.items journal.old)) }
+    ensures does { IfOk result (λ taken. Does (unless_waiting (local_of local.old)
+        (change.prepares node gxid kept taken.fails (local_of local.old) (phase_of local.old.phase))) (local_of local.new) taken) }
+    ensures took { IfOk result (λ taken. Took (J.shelf journal.old) (J.shelf journal.new) taken.fails (unless_waiting (local_of local.old)
+        (change.prepares node gxid kept taken.fails (local_of local.old) (phase_of local.old.phase))).item) }
+    ensures err { OnErr result ((local.new ≡ local.old) × HasKept (J.shelf journal.old) (J.shelf journal.new)) }
 {
+    if local.is_waiting() {
+        return Ok(nothing());
+    }
     match (local.phase, local.vote) {
         (Phase::Reading, None) => promise(alloc, node, gxid, local, kept, journal),
         (Phase::Writing, None) => promise(alloc, node, gxid, local, kept, journal),
@@ -109,10 +113,8 @@ fn commit<J: Journal>(
     journal: &mut J,
 ) -> Mem<Taken>
     ensures does { IfOk result (λ taken. Does (commits_now node gxid kept taken.fails (local_of local.old)) (local_of local.new) taken) }
-    ensures items { IfOk result (λ taken. AreItems (J.items journal.old) (J.items journal.new) taken.fails (commits_now node gxid kept taken.fails (local_of local.old)).item) }
-    ensures caused { IfOk result (λ taken. taken.fails ≡ true → Rose (J.fault_count journal.old) (J.fault_count journal.new)) }
-    ensures later { J.fault_count journal.old ≤ J.fault_count journal.new }
-    ensures err { OnErr result ((local.new ≡ local.old) × (J.items journal.new ≡ J.items journal.old)) }
+    ensures took { IfOk result (λ taken. Took (J.shelf journal.old) (J.shelf journal.new) taken.fails (commits_now node gxid kept taken.fails (local_of local.old)).item) }
+    ensures err { OnErr result ((local.new ≡ local.old) × HasKept (J.shelf journal.old) (J.shelf journal.new)) }
 {
     let item = JournalItem::Commit(gxid, kept);
     if append(alloc, &item, journal)? {
@@ -124,6 +126,7 @@ fn commit<J: Journal>(
         mark: Some(Mark::LocalCommit { node, gxid }),
         reply: Some(Reply::Committed),
         fails: false,
+        ends: false,
     })
 }
 
@@ -147,13 +150,15 @@ pub(crate) fn take_commit<J: Journal>(
     kept: Seq<Kept>,
     journal: &mut J,
 ) -> Mem<Taken>
-    ensures does { IfOk result (λ taken. Does (change.commits node gxid kept taken.fails (local_of local.old) (phase_of local.old.phase)) (local_of local.new) taken) }
-    ensures items { IfOk result (λ taken. AreItems (J.items journal.old) (J.items journal.new) taken.fails (change.commits node gxid kept taken.fails
-        (local_of local.old) (phase_of local.old.phase)).item) }
-    ensures caused { IfOk result (λ taken. taken.fails ≡ true → Rose (J.fault_count journal.old) (J.fault_count journal.new)) }
-    ensures later { J.fault_count journal.old ≤ J.fault_count journal.new }
-    ensures err { OnErr result ((local.new ≡ local.old) × (J.items journal.new ≡ J.items journal.old)) }
+    ensures does { IfOk result (λ taken. Does (unless_waiting (local_of local.old)
+        (change.commits node gxid kept taken.fails (local_of local.old) (phase_of local.old.phase))) (local_of local.new) taken) }
+    ensures took { IfOk result (λ taken. Took (J.shelf journal.old) (J.shelf journal.new) taken.fails (unless_waiting (local_of local.old)
+        (change.commits node gxid kept taken.fails (local_of local.old) (phase_of local.old.phase))).item) }
+    ensures err { OnErr result ((local.new ≡ local.old) × HasKept (J.shelf journal.old) (J.shelf journal.new)) }
 {
+    if local.is_waiting() {
+        return Ok(nothing());
+    }
     match (local.phase, local.vote) {
         (Phase::Reading, None) => commit(alloc, node, gxid, local, kept, journal),
         (Phase::Writing, None) => commit(alloc, node, gxid, local, kept, journal),
@@ -174,16 +179,15 @@ fn finish<J: Journal>(
     journal: &mut J,
 ) -> Mem<Taken>
     ensures does { IfOk result (λ taken. Does (finishes_now node gxid taken.fails (local_of local.old)) (local_of local.new) taken) }
-    ensures items { IfOk result (λ taken. AreItems (J.items journal.old) (J.items journal.new) taken.fails (finishes_now node gxid taken.fails (local_of local.old)).item) }
-    ensures caused { IfOk result (λ taken. taken.fails ≡ true → Rose (J.fault_count journal.old) (J.fault_count journal.new)) }
-    ensures later { J.fault_count journal.old ≤ J.fault_count journal.new }
-    ensures err { OnErr result ((local.new ≡ local.old) × (J.items journal.new ≡ J.items journal.old)) }
+    ensures took { IfOk result (λ taken. Took (J.shelf journal.old) (J.shelf journal.new) taken.fails (finishes_now node gxid taken.fails (local_of local.old)).item) }
+    ensures err { OnErr result ((local.new ≡ local.old) × HasKept (J.shelf journal.old) (J.shelf journal.new)) }
 {
     if append(alloc, &JournalItem::Finish(gxid), journal)? {
         return Ok(Taken {
             mark: Some(Mark::JournalFailed { node, gxid }),
             reply: Some(Reply::Again),
             fails: true,
+            ends: false,
         });
     }
     local.phase = Phase::Committed;
@@ -191,6 +195,7 @@ fn finish<J: Journal>(
         mark: Some(Mark::LocalCommit { node, gxid }),
         reply: Some(Reply::Committed),
         fails: false,
+        ends: false,
     })
 }
 
@@ -202,11 +207,9 @@ pub(crate) fn take_commit_prepared<J: Journal>(
     journal: &mut J,
 ) -> Mem<Taken>
     ensures does { IfOk result (λ taken. Does (change.finishes node gxid taken.fails (local_of local.old) (phase_of local.old.phase)) (local_of local.new) taken) }
-    ensures items { IfOk result (λ taken. AreItems (J.items journal.old) (J.items journal.new) taken.fails (change.finishes node gxid taken.fails
+    ensures took { IfOk result (λ taken. Took (J.shelf journal.old) (J.shelf journal.new) taken.fails (change.finishes node gxid taken.fails
         (local_of local.old) (phase_of local.old.phase)).item) }
-    ensures caused { IfOk result (λ taken. taken.fails ≡ true → Rose (J.fault_count journal.old) (J.fault_count journal.new)) }
-    ensures later { J.fault_count journal.old ≤ J.fault_count journal.new }
-    ensures err { OnErr result ((local.new ≡ local.old) × (J.items journal.new ≡ J.items journal.old)) }
+    ensures err { OnErr result ((local.new ≡ local.old) × HasKept (J.shelf journal.old) (J.shelf journal.new)) }
 {
     match local.phase {
         Phase::Prepared => finish(alloc, node, gxid, local, journal),
@@ -217,11 +220,12 @@ pub(crate) fn take_commit_prepared<J: Journal>(
 
 // An answer, and nothing else.
 pub(crate) fn tell(reply: Reply) -> Taken
-    ensures { result ≡ record { mark = None; reply = Some reply; fails = false } }
+    ensures { result ≡ record { mark = None; reply = Some reply; fails = false; ends = false } }
 {
     Taken {
         mark: None,
         reply: Some(reply),
         fails: false,
+        ends: false,
     }
 }

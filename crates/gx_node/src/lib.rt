@@ -1,6 +1,6 @@
 //! What a node does with a message, told of plain values: which messages fit, since a link tells nothing of what it carries;
 //! where a transaction stands at a segment, and what the segment answers to the coordinator's orders to prepare, commit,
-//! abort and forget it.
+//! abort and forget it; and how a node takes locks and gives them back.
 #![tactic(auto)]
 
 mod aborting;
@@ -9,6 +9,7 @@ mod committing;
 mod kinds;
 pub mod laws;
 pub mod local;
+pub mod locking;
 pub mod orders;
 pub mod parts;
 mod probe;
@@ -17,7 +18,8 @@ mod rows;
 pub mod slices;
 
 pub use laws::orders_follow_the_rule;
-pub use local::{Local, Phase, Taken, Vote};
+pub use local::{Local, Phase, Suspended, Taken, Vote};
+pub use locking::{ask_for, claim_on, give_back, take_ready};
 pub use orders::take_order;
 pub use parts::fits_part;
 pub use slices::is_right_slice;

@@ -1,9 +1,13 @@
 ghost use Rattle.std.specs.Prelude.{◌≡◌};
 ghost use Rattle.gx_node.specs.Phases.{local_of, reply_of};
+ghost use Rattle.gx_rules.specs.Fits as rule;
 ghost use Rattle.gx_rules.specs.Segments.{new_local};
 
+use gx_dsnap::Snapshot;
+use gx_ids::Cid;
 use gx_msg::Reply;
 use gx_store::Mark;
+use gx_tree::{Level, Slice};
 
 /// Where a transaction stands at a segment.
 #[derive(Clone, Copy, Debug, PartialEq, Eq)]
@@ -42,14 +46,24 @@ impl Vote {
     }
 }
 
-/// A transaction at a segment: where it stands, its last command here, from 1, or 0 before the first, and what was answered
-/// to that command and to PREPARE or COMMIT.
+/// A command's slice that waits for its table.
+#[derive(Debug, Drop)]
+pub struct Suspended {
+    pub cid: Cid,
+    pub level: Level,
+    pub snapshot: Snapshot,
+    pub slice: Slice,
+}
+
+/// A transaction at a segment: where it stands, its last command here, from 1, or 0 before the first, what was answered to that
+/// command and to PREPARE or COMMIT, and the slice that waits.
 #[derive(Debug, Drop)]
 pub struct Local {
     pub phase: Phase,
     pub last: u32,
     pub answer: Option<Reply>,
     pub vote: Option<Vote>,
+    pub suspended: Option<Suspended>,
 }
 
 impl Local {
@@ -62,14 +76,24 @@ impl Local {
             last: 0,
             answer: None,
             vote: None,
+            suspended: None,
         }
+    }
+
+    /// Whether a slice of it waits here.
+    pub fn is_waiting(&self) -> bool
+        ensures { result ≡ rule.is_waiting (local_of self.now) }
+    {
+        self.suspended.is_some()
     }
 }
 
-/// What an order came to: its mark, its answer, and whether the journal failed to take an item.
+/// What an order came to: its mark, its answer, whether the journal failed to take an item, and whether the transaction gives its
+/// locks back, since it has ended here.
 #[derive(Debug, Drop)]
 pub struct Taken {
     pub mark: Option<Mark>,
     pub reply: Option<Reply>,
     pub fails: bool,
+    pub ends: bool,
 }

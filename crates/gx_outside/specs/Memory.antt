@@ -2,6 +2,7 @@
 use Rattle.std.specs.Prelude.{◌≡◌, ℕ, ◌+◌, ◌-◌, ◌^◌, ◌<◌, min, List, Contains, Result, Ok, Err}
 use Rattle.gx_outside.specs.declared.journal.AppendFault.{AppendFault}
 use Rattle.gx_outside.specs.declared.journal.AppendFault.TheVariants.{Failed, OutOfMemory}
+use Rattle.gx_outside.specs.Shelves.{Shelf}
 
 -- a source in memory: the bytes that are left, how many a read moves at most, the numbers of the reads that fail,
 -- and how many reads there were and failed
@@ -27,6 +28,9 @@ pub record JournalState : Type 0 where
   pub fail : List ℕ
   pub calls : ℕ
   pub faults : ℕ
+
+abbrev pub shelf_of : JournalState → Shelf
+shelf_of j = record { items = j.items; faults = j.faults }
 
 -- the next call has a number, and it is one of those that fail
 abbrev pub IsFailingNext : ℕ → List ℕ → Type 0

@@ -1,6 +1,3 @@
-ghost use Rattle.std.specs.Prelude.{◌≡◌, ◌≤◌, ◌++◌, ◌∷◌, [], List, ℕ, OnOk, OnErr, IsErrOf};
-ghost use Rattle.gx_outside.specs.Causes.{Rose};
-
 /// Why an item wasn't added to a journal: the outside refused it, or memory ran out.
 #[derive(Clone, Copy, Debug, PartialEq, Eq)]
 pub enum AppendFault {
@@ -10,20 +7,17 @@ pub enum AppendFault {
 
 /// Where a node keeps items for ever.
 pub trait Journal: Drop {
-    /// The items kept, the oldest first.
-    ghost items: { Self → List (List ℕ) };
+    ghost use Rattle.std.specs.Prelude.{◌≡◌};
+    ghost use Rattle.gx_outside.specs.Shelves.{Shelf, IsAppended};
 
-    /// How often it has failed.
-    ghost fault_count: { Self → ℕ };
+    /// The items kept, and how often it has failed.
+    ghost shelf: { Self → Shelf };
 
     /// Adds an item behind those that are kept.
     fn append(&mut self, item: &[u8]) -> Result<(), AppendFault>
-        ensures ok { OnOk result (items self.new ≡ items self.old ++ item.now ∷ []) }
-        ensures err { OnErr result (items self.new ≡ items self.old) }
-        ensures later { fault_count self.old ≤ fault_count self.new }
-        ensures failed { IsErrOf result AppendFault.Failed → Rose (fault_count self.old) (fault_count self.new) };
+        ensures appended { IsAppended (shelf self.old) (shelf self.new) item.now result };
 
     /// How often it has failed, up to the greatest u64. The count never falls.
     fn faults(&self) -> u64
-        ensures { result ≡ fault_count self.now };
+        ensures { result ≡ (shelf self.now).faults };
 }

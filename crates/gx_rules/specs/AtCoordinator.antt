@@ -1,5 +1,5 @@
--- What the coordinator does when a session's line starts, when an answer comes, when a session ends, and when a message is
--- to be sent again.
+-- What the coordinator does when a session's line starts, when an answer comes, when a session ends, when a message is to be sent
+-- again, and when a statement that has waited goes on.
 use Rattle.std.specs.Prelude.{ℕ, ◌+◌, ◌==◌, nat_le, Bool, true, false, not, if◌then◌else◌, ◌&&◌, ◌||◌, List, [], ◌∷◌, ◌++◌, map, fold, is_some, option_map, Some, None, Result, Ok, Err}
 use Rattle.std.specs.declared.option.Option.{Option}
 use Rattle.gx_ids.specs.declared.ids.Cid.{Cid}

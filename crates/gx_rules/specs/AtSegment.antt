@@ -1,4 +1,4 @@
--- What a segment does when a message comes: one function a message, by the transaction's phase there.
+-- What a segment does when a message comes, one function a message, by the transaction's phase there; and when a slice goes on.
 use Rattle.std.specs.Prelude.{ℕ, ◌+◌, ◌==◌, nat_lt, Bool, true, false, not, if◌then◌else◌, List, [], ◌∷◌, ◌++◌, length, Some, None}
 use Rattle.std.specs.declared.option.Option.{Option}
 use Rattle.gx_ids.specs.declared.ids.Cid.{Cid}
@@ -28,13 +28,13 @@ use Rattle.gx_rules.specs.Segments.Phase.{Reading, Writing, Prepared, Committed,
 use Rattle.gx_rules.specs.Shown.{kept_of}
 use Rattle.gx_rules.specs.Slices.{runs_slice, starts_slice}
 
--- the transaction's record changes, with a mark before the answer
+-- the transaction's record changes, with marks before the answer
 abbrev pub changes : Seg → Gxid → Local → List Mark → Reply → Option JournalItem → SegTurn
 changes s g l marks r it = record { seg = with_local s g l; marks = marks; outs = reply g r ∷ []; item = it }
 
 -- EXEC
--- A command that is new raises the horizon and runs; the last one is answered again with what was kept; an older one is
--- nothing. A transaction that has promised to commit takes no new command.
+-- A command that is new raises the horizon, and runs or waits for its lock; the last one is answered again with what was kept; an
+-- older one is nothing. A transaction that has promised to commit takes no new command.
 abbrev pub raised : Seg → Gxid → Seg
 raised s h = record s { horizon = if is_below h s.horizon then h else s.horizon }
 
@@ -52,7 +52,7 @@ on_exec s g c level snapshot h slice l Committed = repeats s g c l
 on_exec s g c level snapshot h slice l _ = stays s
 
 -- PREPARE
--- It is answered once, and then always with what was kept.
+-- It is answered once, and then always with what was kept. While a slice of it waits there, it doesn't fit.
 abbrev pub once : Seg → Gxid → Option Reply → SegTurn → SegTurn
 once s g None new = new
 once s g (Some vote) new = tells s g vote
@@ -73,7 +73,7 @@ on_prepare s g fails l Aborted = stays s
 on_prepare s g fails l _ = tells_kept s g l.vote
 
 -- COMMIT
--- It is for who was never prepared there.
+-- It is for who was never prepared there, and no slice of whom waits.
 abbrev pub was_prepared : Option Reply → Bool
 was_prepared (Some answer.Prepared) = true
 was_prepared _ = false

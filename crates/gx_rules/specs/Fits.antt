@@ -99,7 +99,7 @@ is_right_slice script g c (slice.Insert table rows) = is_right_on g c (slice_get
 is_right_slice script g c _ = false
 
 -- AT A SEGMENT
--- a transaction holds locks at a segment from its first command there until it has ended there
+-- a transaction holds locks at a segment, or waits for one, from its first command there until it has ended there
 abbrev pub holds_locks : Local → Bool
 holds_locks l = nat_lt 0 l.last && not (has_ended l.phase)
 
@@ -107,7 +107,7 @@ holds_locks l = nat_lt 0 l.last && not (has_ended l.phase)
 abbrev pub is_waiting : Local → Bool
 is_waiting l = is_some l.suspended
 
--- An EXEC fits where its horizon is at most its gxid and at most each gxid that holds a lock there, it has a snapshot, and
+-- An EXEC fits where its horizon is at most its gxid and at most each gxid that holds or waits there, it has a snapshot, and
 -- its slice is right for the script. A new command fits only where no slice of its transaction waits.
 abbrev pub fits_exec : Script → Seg → Gxid → Cid → Option Snapshot → Gxid → Slice → Bool
 fits_exec script s g c snapshot horizon slice =

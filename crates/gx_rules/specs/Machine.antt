@@ -78,8 +78,8 @@ at_node w (event.End s) = Some (node.End s)
 at_node w (event.Resend i g) = Some (node.Resend i g)
 at_node w event.Round = Some node.Round
 
--- A segment of the script takes deliveries, and resumes whoever has a wait there that meets no hold. What the coordinator admits,
--- it says itself.
+-- A segment takes deliveries, and, where it is one of the script's, resumes whoever has a wait there that meets no hold. What the
+-- coordinator admits, it says itself.
 abbrev pub seg_can : Script → Seg → NodeEvent → Bool
 seg_can script s (node.Deliver from envelope) = true
 seg_can script s (node.Resume g) = is_segment script s.node && is_ready s.locks.holds (wait_of s.locks g)

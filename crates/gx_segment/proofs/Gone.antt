@@ -1,11 +1,11 @@
 -- A step, from what its event came to and what was sent.
-use Rattle.std.proofs.Common.{Global, ◌≡◌, ◌≤◌, ℕ, ◌+◌, true, false, List, ◌++◌, length, sym, ap, ◌∙◌, subst}
+use Rattle.std.proofs.Common.{Global, ◌≡◌, ◌≤◌, ℕ, ◌+◌, false, List, ◌++◌, length, sym, ap, ◌∙◌, subst}
 use Rattle.std.specs.declared.sync.Arc.{Arc}
 use Rattle.gx_ids.specs.declared.ids.Gxid.{Gxid}
 use Rattle.gx_tree.specs.declared.schema.Schema.{Schema}
 use Rattle.gx_msg.specs.declared.message.Out.{Out}
-use Rattle.gx_outside.specs.Causes.{Rose}
-use Rattle.gx_node.specs.Orders.{AreItems}
+use Rattle.gx_outside.specs.Shelves.{Shelf}
+use Rattle.gx_node.specs.Orders.{Took}
 use Rattle.gx_script.specs.declared.Script.{Script}
 use Rattle.gx_store.specs.declared.mark.Mark.{Mark}
 use Rattle.gx_store.specs.declared.node.NodeEvent.{NodeEvent}
@@ -34,14 +34,19 @@ held-sends tables held s sent clock is = record {
   wrote = is.wrote;
   committed = is.committed;
   typed = is.typed;
+  locks = is.locks;
+  waits = record {
+    standing = is.waits.standing;
+    right = λ g w e. let right = is.waits.right g w e in record { alive = right.alive; open_here = right.open_here; came = right.came; right = right.right };
+  };
 }
 
-module _ (was : Before) (event : NodeEvent) (now : Held) (low : Gxid) (sent sent' clock clock' : ℕ) (before after : List (List ℕ)) (faults faults' : ℕ) (done : Done) (out : NodeOut) where
+module _ (was : Before) (event : NodeEvent) (now : Held) (low : Gxid) (sent sent' clock clock' : ℕ) (before after : Shelf) (done : Done) (out : NodeOut) where
   abbrev turn : SegTurn
   turn = on_event was.script was.seg event done.fails
 
-  pub HasGone-made : HasDone was.script.tables now low done turn → AreItems before after done.fails turn.item → (done.fails ≡ true → Rose faults faults') → sent ≡ was.seg.sent → clock ≡ was.seg.clock → clock' ≡ clock_after clock event → out.marks ≡ done.marks ++ numbered (λ node. sent) (to_coordinator done.answer) → out.outs ≡ to_coordinator done.answer → out.clock ≡ clock' → sent' ≡ sent + length (to_coordinator done.answer) → HasGone was event now low sent' clock' before after faults faults' out
-  HasGone-made is items caused count time ticks marks outs told counted =
+  pub HasGone-made : HasDone was.script.tables now low done turn → Took before after done.fails turn.item → sent ≡ was.seg.sent → clock ≡ was.seg.clock → clock' ≡ clock_after clock event → out.marks ≡ done.marks ++ numbered (λ node. sent) (to_coordinator done.answer) → out.outs ≡ to_coordinator done.answer → out.clock ≡ clock' → sent' ≡ sent + length (to_coordinator done.answer) → HasGone was event now low sent' clock' before after out
+  HasGone-made is took count time ticks marks outs told counted =
       let keeps = event-keeps was.script was.seg event done.fails in
       let same : sent ≡ turn.seg.sent = count ∙ sym keeps.sent in
       record {
@@ -57,17 +62,16 @@ module _ (was : Before) (event : NodeEvent) (now : Held) (low : Gxid) (sent sent
             ∙ ap (λ (os : List Out). turn.marks ++ numbered (λ node. sent) os) is.outs
             ∙ ap (λ (n : ℕ). turn.marks ++ numbered (λ node. n) turn.outs) same;
         outs = outs ∙ is.outs;
-        items = items;
-        caused = caused;
+        took = took;
       }
 
 abbrev before_of : Script → Seg → Before
 before_of script s = record { script = script; seg = s }
 
-pub HasStepped-made : (old new : Segment) (s : Seg) (event : NodeEvent) (before after : List (List ℕ)) (faults faults' : ℕ) (out : NodeOut) (script : Script) → script ≡ old.script.value → IsSegment old s → HasGone (before_of script s) event new.held new.horizon new.sent new.clock before after faults faults' out → new.node ≡ old.node → new.script ≡ old.script → new.spent ≡ false → HasStepped old new s event before after faults faults' out
-HasStepped-made old new s event before after faults faults' out script e is gone node same usable =
-    let g : HasGone (before_of old.script.value s) event new.held new.horizon new.sent new.clock before after faults faults' out =
-    subst (λ (x : Script). HasGone (before_of x s) event new.held new.horizon new.sent new.clock before after faults faults' out) e gone in
+pub HasStepped-made : (old new : Segment) (s : Seg) (event : NodeEvent) (before after : Shelf) (out : NodeOut) (script : Script) → script ≡ old.script.value → IsSegment old s → HasGone (before_of script s) event new.held new.horizon new.sent new.clock before after out → new.node ≡ old.node → new.script ≡ old.script → new.spent ≡ false → HasStepped old new s event before after out
+HasStepped-made old new s event before after out script e is gone node same usable =
+    let g : HasGone (before_of old.script.value s) event new.held new.horizon new.sent new.clock before after out =
+    subst (λ (x : Script). HasGone (before_of x s) event new.held new.horizon new.sent new.clock before after out) e gone in
     let keeps = event-keeps old.script.value s event g.fails in
     record {
       fails = g.fails;
@@ -84,6 +88,5 @@ HasStepped-made old new s event before after faults faults' out script e is gone
       marks = g.marks;
       outs = g.outs;
       clock = g.told;
-      items = g.items;
-      caused = g.caused;
+      took = g.took;
     }

@@ -1,13 +1,12 @@
 -- A segment against its rule, and what a step of it is.
-use Rattle.std.specs.Prelude.{◌≡◌, ◌≤◌, ℕ, ◌++◌, Bool, true, false, List, map}
+use Rattle.std.specs.Prelude.{◌≡◌, ◌≤◌, ℕ, Bool, false}
 use Rattle.gx_ids.specs.declared.ids.Cid.{Cid}
 use Rattle.gx_ids.specs.declared.ids.Gxid.{Gxid}
-use Rattle.gx_msg.specs.ItemBytes.{bytes_of_item}
-use Rattle.gx_outside.specs.Causes.{Rose}
+use Rattle.gx_outside.specs.Shelves.{Shelf}
+use Rattle.gx_node.specs.Orders.{Took}
 use Rattle.gx_store.specs.declared.node.NodeEvent.{NodeEvent}
 use Rattle.gx_store.specs.declared.node.NodeOut.{NodeOut}
 use Rattle.gx_rules.specs.AtSegment.{seg_rule}
-use Rattle.gx_rules.specs.Machine.{kept_item}
 use Rattle.gx_rules.specs.Segments.{Seg}
 use Rattle.gx_slices.specs.Agrees.{IsHeld}
 use Rattle.gx_slices.specs.declared.held.Held.{Held}
@@ -29,9 +28,9 @@ nobody = record { 0 = 0 }
 abbrev pub no_command : Cid
 no_command = record { 0 = 0 }
 
--- The step is the rule's, for an append that fails or not: the data, the marks, the messages, the clock and the journal's
--- items. Where it fails, the journal's count rose. The horizon doesn't fall.
-pub record HasStepped (old new : Segment) (s : Seg) (event : NodeEvent) (before after : List (List ℕ)) (faults faults' : ℕ) (out : NodeOut) : Type 0 where
+-- The step is the rule's, for an append that fails or not: the data, the marks, the messages, the clock and what the journal
+-- took. The horizon doesn't fall.
+pub record HasStepped (old new : Segment) (s : Seg) (event : NodeEvent) (before after : Shelf) (out : NodeOut) : Type 0 where
   pub fails : Bool
   pub is : IsSegment new (seg_rule old.script.value s event fails).seg
   pub script : new.script ≡ old.script
@@ -40,11 +39,10 @@ pub record HasStepped (old new : Segment) (s : Seg) (event : NodeEvent) (before 
   pub marks : out.marks ≡ (seg_rule old.script.value s event fails).marks
   pub outs : out.outs ≡ (seg_rule old.script.value s event fails).outs
   pub clock : out.clock ≡ new.clock
-  pub items : after ≡ before ++ map bytes_of_item (kept_item fails (seg_rule old.script.value s event fails).item)
-  pub caused : fails ≡ true → Rose faults faults'
+  pub took : Took before after fails (seg_rule old.script.value s event fails).item
 
 -- the same of a segment's parts
-pub record HasGone (was : Before) (event : NodeEvent) (now : Held) (low : Gxid) (count time : ℕ) (before after : List (List ℕ)) (faults faults' : ℕ) (out : NodeOut) : Type 0 where
+pub record HasGone (was : Before) (event : NodeEvent) (now : Held) (low : Gxid) (count time : ℕ) (before after : Shelf) (out : NodeOut) : Type 0 where
   pub fails : Bool
   pub held : IsHeld was.script.tables now (seg_rule was.script was.seg event fails).seg
   pub horizon : low ≡ (seg_rule was.script was.seg event fails).seg.horizon
@@ -53,5 +51,4 @@ pub record HasGone (was : Before) (event : NodeEvent) (now : Held) (low : Gxid) 
   pub told : out.clock ≡ time
   pub marks : out.marks ≡ (seg_rule was.script was.seg event fails).marks
   pub outs : out.outs ≡ (seg_rule was.script was.seg event fails).outs
-  pub items : after ≡ before ++ map bytes_of_item (kept_item fails (seg_rule was.script was.seg event fails).item)
-  pub caused : fails ≡ true → Rose faults faults'
+  pub took : Took before after fails (seg_rule was.script was.seg event fails).item

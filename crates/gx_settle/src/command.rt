@@ -2,11 +2,11 @@
 ghost use Rattle.std.specs.Prelude.{◌≡◌, Some, IfSome};
 ghost use Rattle.gx_settle.specs.Commands as of;
 
-use gx_decide::Decision;
+use crate::decision::Decision;
 use gx_ids::Gxid;
 
 /// What a line asks for. To ask for a transaction's verdict is to settle it with the wish to abort.
-#[derive(Clone, Copy, Debug, PartialEq, Eq)]
+#[derive(Clone, Copy)]
 pub enum Command {
     Settle(Gxid, Decision),
     Reopen,

@@ -3,11 +3,20 @@
 
 mod attempt;
 mod command;
+mod decide_fault;
+mod decider;
+mod decision;
+mod disk;
+mod disk_mem;
+mod law;
+mod open;
 mod reading;
 mod running;
+mod slot;
 mod top;
+mod writing;
 
-use gx_decide::DiskMem;
+use disk_mem::DiskMem;
 use gx_outside::{StdinSource, StdoutSink};
 use std::io;
 use std::process::ExitCode;

@@ -8,7 +8,7 @@ use crate::command::{Command, read_command};
 use std::alloc::{AllocFailed, Global};
 
 /// Why an input isn't read: its line with this number, counted from 1, is the first that is no command, or memory ran out.
-#[derive(Clone, Copy, Debug, PartialEq, Eq)]
+#[derive(Clone, Copy)]
 pub enum ReadRefusal {
     Line(u64),
     OutOfMemory,

@@ -2,6 +2,7 @@
 use Rattle.std.proofs.Common.{◌≡◌, ◌<◌, ◌≤◌, ◌^◌, List, [], ◌∷◌, ◌++◌, Some, Bool, true, false, refl, sym, subst, ap, ◌∙◌, length, cond, arith}
 use Rattle.std.specs.Prelude.{◌&&◌}
 use Rattle.gx_ids.specs.declared.ids.Node.{Node}
+use Rattle.gx_outside.specs.Shelves.{Shelf}
 use Rattle.gx_script.specs.declared.Script.{Script}
 use Rattle.gx_store.specs.Language.{IsScript}
 use Rattle.gx_outside.specs.Causes.{Rose}
@@ -25,7 +26,7 @@ use Rattle.gx_law_runs.proofs.Telling.{can-told}
 use Rattle.gx_world.specs.declared.network.Network.{Network}
 use Rattle.gx_world.specs.Networks.{HasDone, HasMoved, HasRoom, IsNetwork, Stands}
 use Rattle.gx_world.specs.Turns.{IsFit, IsNext}
-use Rattle.gx_world.specs.Worlds.{HasTaken, Shelf}
+use Rattle.gx_world.specs.Worlds.{HasTaken}
 use Rattle.gx_world.proofs.Alike.{AreAlike, does-alike, does-steps, replayed-alike, stands-alike, step-event, step_of, turned-round}
 use Rattle.gx_world.proofs.Events.{admitted-here, few-here, happens-here, heard-within, next-here, taken}
 use Rattle.gx_world.proofs.Room.{below, network-room}

@@ -8,6 +8,7 @@ use Rattle.gx_msg.specs.ItemBytes.{bytes_of_item}
 use Rattle.gx_msg.specs.declared.item.JournalItem.{JournalItem}
 use Rattle.gx_msg.specs.declared.message.Envelope.{Envelope}
 use Rattle.gx_outside.specs.Causes.{Rose}
+use Rattle.gx_outside.specs.Shelves.{Shelf}
 use Rattle.gx_script.specs.declared.Script.{Script}
 use Rattle.gx_store.specs.declared.event.Event.{Event}
 use Rattle.gx_store.specs.declared.event.Event.TheVariants as event
@@ -28,7 +29,7 @@ use Rattle.gx_law_runs.specs.Replays.{letters_after}
 use Rattle.gx_world.specs.declared.network.Network.{Network}
 use Rattle.gx_world.specs.Networks.{HasMoved}
 use Rattle.gx_world.specs.Turns.{IsNext}
-use Rattle.gx_world.specs.Worlds.{HasTaken, Shelf}
+use Rattle.gx_world.specs.Worlds.{HasTaken}
 use Rattle.gx_world.proofs.Segs.{get-set, some-same}
 use Rattle.gx_rules.specs.AtCoordinator.{coord_can}
 
@@ -92,9 +93,9 @@ module _ (script : Script) (w : machine.World) (e : Event) (here : NodeEvent) (t
       by_place : ((n.0 ≡ (node_of e).0) × (a ≡ m.now)) ⊎ ((n.0 ≡ (node_of e).0 → ⊥) × (slice_get before n.0 ≡ Some a)) → HasTaken script w e m.fails n b a
       by_place (inl h) =
           record {
-            items = ap (λ (x : Shelf). x.items) h.1 ∙ m.items ∙ ap (λ (x : Shelf). x.items ++ map bytes_of_item (kept_item m.fails (item_at script w (node_of e) m.fails (Some here)))) (sym (own h.0))
+            items = ap (λ (x : Shelf). x.items) h.1 ∙ m.took.items ∙ ap (λ (x : Shelf). x.items ++ map bytes_of_item (kept_item m.fails (item_at script w (node_of e) m.fails (Some here)))) (sym (own h.0))
                 ∙ ap (λ xs. b.items ++ map bytes_of_item xs) (sym (takes-here m.fails n true (test-at (node_of e) n h.0)));
-            caused = λ same f. subst (λ (x : Shelf). Rose x.faults a.faults) (sym (own h.0)) (subst (λ (x : Shelf). Rose m.was.faults x.faults) (sym h.1) (m.caused f));
+            caused = λ same f. subst (λ (x : Shelf). Rose x.faults a.faults) (sym (own h.0)) (subst (λ (x : Shelf). Rose m.was.faults x.faults) (sym h.1) (m.took.caused f));
             faults = λ apart. absurd (not-both (test-at (node_of e) n h.0) apart);
           }
       by_place (inr h) =

@@ -2,6 +2,7 @@
 use Rattle.std.proofs.Common.{◌≡◌, ◌<◌, ◌≤◌, ◌⊎◌, ℕ, zero, suc, List, [], ◌∷◌, Some, inl, inr, refl, sym, ap, ◌∙◌, subst, arith, length, get_or}
 use Rattle.std.specs.Prelude.{map, slice_get, slice_set}
 use Rattle.gx_ids.specs.declared.ids.Node.{Node}
+use Rattle.gx_outside.specs.Shelves.{Shelf, IsLater}
 use Rattle.gx_script.specs.declared.Script.{Script}
 use Rattle.gx_store.specs.declared.event.Event.{Event}
 use Rattle.gx_store.specs.declared.node.NodeEvent.{NodeEvent}
@@ -9,7 +10,7 @@ use Rattle.gx_store.specs.Refusals.{the_coordinator}
 use Rattle.gx_rules.specs.Machine as machine
 use Rattle.gx_world.specs.declared.network.Network.{Network}
 use Rattle.gx_world.specs.Networks.{HasMoved, HasTurned}
-use Rattle.gx_world.specs.Worlds.{AreLater, Shelf}
+use Rattle.gx_world.specs.Worlds.{AreLater}
 use Rattle.gx_world.proofs.Segs.{get-set, some-same}
 
 get-map : {A B : Type 0} (f : A → B) (xs : List A) (k : ℕ) (x : A) → slice_get xs k ≡ Some x → slice_get (map f xs) k ≡ Some (f x)
@@ -34,7 +35,7 @@ pub at-zero : (at : Node) → at.0 ≡ 0 → at ≡ the_coordinator
 at-zero at e = ap (λ (k : ℕ). let n : Node = record { 0 = k } in n) e
 
 module _ {A : Type 0} (f : A → Shelf) (js : List A) (script : Script) (w : machine.World) (event : Event) (at : Node) (here : NodeEvent) (new : Network) (d now : A) where
-  pub moved-at : (k : ℕ) → at.0 ≡ k → k < length js → HasTurned script w event at here new (f (get_or js k d)).items (f now).items (f (get_or js k d)).faults (f now).faults → HasMoved script w event at here new (map f js) (map f (slice_set js k now))
+  pub moved-at : (k : ℕ) → at.0 ≡ k → k < length js → HasTurned script w event at here new (f (get_or js k d)) (f now) → HasMoved script w event at here new (map f js) (map f (slice_set js k now))
   moved-at k same inside h =
       record {
         fails = h.fails;
@@ -43,19 +44,18 @@ module _ {A : Type 0} (f : A → Shelf) (js : List A) (script : Script) (w : mac
         there = subst (λ i. slice_get (map f js) i ≡ Some (f (get_or js k d))) (sym same) (get-map f js k (get_or js k d) (read-at js k d inside));
         now = f now;
         journals = map-set f js k now ∙ ap (λ i. slice_set (map f js) i (f now)) (sym same);
-        items = h.items;
-        caused = h.caused;
+        took = h.took;
       }
 
-  pub moved-first : at.0 ≡ 0 → 0 < length js → HasTurned script w event the_coordinator here new (f (get_or js 0 d)).items (f now).items (f (get_or js 0 d)).faults (f now).faults → HasMoved script w event at here new (map f js) (map f (slice_set js 0 now))
+  pub moved-first : at.0 ≡ 0 → 0 < length js → HasTurned script w event the_coordinator here new (f (get_or js 0 d)) (f now) → HasMoved script w event at here new (map f js) (map f (slice_set js 0 now))
   moved-first same inside h =
-      moved-at 0 same inside (subst (λ n. HasTurned script w event n here new (f (get_or js 0 d)).items (f now).items (f (get_or js 0 d)).faults (f now).faults) (sym (at-zero at same)) h)
+      moved-at 0 same inside (subst (λ n. HasTurned script w event n here new (f (get_or js 0 d)) (f now)) (sym (at-zero at same)) h)
 
 -- A JOURNAL'S COUNT DOESN'T FALL
 pub later-same : (shelves : List Shelf) → AreLater shelves shelves
 later-same shelves = record { count = refl; each = λ k b a was now. same b a (some-same a b (sym now ∙ was)) }
   where
-    same : (b a : Shelf) → a ≡ b → b.faults ≤ a.faults
+    same : (b a : Shelf) → a ≡ b → IsLater b a
     same b a e = subst (λ (x : Shelf). b.faults ≤ x.faults) (sym e) (omega arith)
 
 length-set : {A : Type 0} (xs : List A) (k : ℕ) (x : A) → length (slice_set xs k x) ≡ length xs
@@ -63,15 +63,15 @@ length-set [] k x = refl
 length-set (y ∷ xs) zero x = refl
 length-set (y ∷ xs) (suc k) x = ap suc (length-set xs k x)
 
-later-set : (shelves : List Shelf) (k : ℕ) (was now : Shelf) → slice_get shelves k ≡ Some was → was.faults ≤ now.faults → AreLater shelves (slice_set shelves k now)
+later-set : (shelves : List Shelf) (k : ℕ) (was now : Shelf) → slice_get shelves k ≡ Some was → IsLater was now → AreLater shelves (slice_set shelves k now)
 later-set shelves k was now there h = record { count = length-set shelves k now; each = λ i b a old new. by_place i b a old (get-set shelves k i now a new) }
   where
-    by_place : (i : ℕ) (b a : Shelf) → slice_get shelves i ≡ Some b → ((i ≡ k) × (a ≡ now)) ⊎ ((i ≡ k → ⊥) × (slice_get shelves i ≡ Some a)) → b.faults ≤ a.faults
+    by_place : (i : ℕ) (b a : Shelf) → slice_get shelves i ≡ Some b → ((i ≡ k) × (a ≡ now)) ⊎ ((i ≡ k → ⊥) × (slice_get shelves i ≡ Some a)) → IsLater b a
     by_place i b a old (inl e) =
         subst (λ (x : Shelf). b.faults ≤ x.faults) (sym e.1)
         (subst (λ (x : Shelf). x.faults ≤ now.faults) (some-same was b (sym there ∙ subst (λ j. slice_get shelves j ≡ Some b) e.0 old)) h)
     by_place i b a old (inr e) = subst (λ (x : Shelf). b.faults ≤ x.faults) (some-same b a (sym old ∙ e.1)) (omega arith)
 
-pub later-at : {A : Type 0} (f : A → Shelf) (js : List A) (d now : A) (k : ℕ) → k < length js → (f (get_or js k d)).faults ≤ (f now).faults → AreLater (map f js) (map f (slice_set js k now))
+pub later-at : {A : Type 0} (f : A → Shelf) (js : List A) (d now : A) (k : ℕ) → k < length js → IsLater (f (get_or js k d)) (f now) → AreLater (map f js) (map f (slice_set js k now))
 later-at f js d now k inside h =
     subst (λ xs. AreLater (map f js) xs) (sym (map-set f js k now)) (later-set (map f js) k (f (get_or js k d)) (f now) (get-map f js k (get_or js k d) (read-at js k d inside)) h)

@@ -14,3 +14,4 @@ pub mod Shows
 pub mod Starting
 pub mod Turned
 pub mod Places
+pub mod Resting

@@ -1,9 +1,10 @@
 -- A segment's step, as its code does it, is one of the machine.
 use Rattle.std.proofs.Common.{◌≡◌, ◌≤◌, ◌⊎◌, inl, inr, ⊎_elim, ℕ, zero, suc, ◌+◌, ◌-◌, List, [], ◌∷◌, ◌++◌, Some, Bool, true, false, eqb, refl, sym, subst, ap, ◌∙◌, if◌then◌else◌, arith, length, All}
 use Rattle.std.proofs.lemmas.Bool.Decides.{nat_tests}
-use Rattle.std.specs.Prelude.{map, slice_get, slice_set}
+use Rattle.std.specs.Prelude.{slice_get, slice_set}
 use Rattle.gx_ids.specs.declared.ids.Node.{Node}
-use Rattle.gx_msg.specs.ItemBytes.{bytes_of_item}
+use Rattle.gx_outside.specs.Shelves.{Shelf}
+use Rattle.gx_node.specs.Orders.{Took}
 use Rattle.gx_script.specs.declared.Script.{Script}
 use Rattle.gx_store.specs.declared.event.Event.{Event}
 use Rattle.gx_store.specs.declared.node.NodeEvent.{NodeEvent}
@@ -13,7 +14,7 @@ use Rattle.gx_store.specs.Refusals.{the_coordinator}
 use Rattle.gx_rules.specs.AtCoordinator.{coord_rule}
 use Rattle.gx_rules.specs.AtSegment.{seg_rule}
 use Rattle.gx_rules.specs.Machine as machine
-use Rattle.gx_rules.specs.Machine.{coord_did, does, kept_item, noted, seg_did, seg_can}
+use Rattle.gx_rules.specs.Machine.{coord_did, does, noted, seg_did, seg_can}
 use Rattle.gx_rules.specs.Maps.{with_at}
 use Rattle.gx_rules.specs.Segments.{Seg}
 use Rattle.gx_segment.specs.declared.segment.Segment.{Segment}
@@ -55,7 +56,7 @@ elsewhere-at f i x j differ = ap (λ (b : Bool). if b then x else f j) (apart j 
     apart : (a b : ℕ) → (a ≡ b → ⊥) → eqb a b ≡ false
     apart a b h = grind (arith, nat_tests)
 
-pub stepped-over : {k : ℕ} {xs ys new : List Segment} {s : Seg} {event : NodeEvent} {before after : List (List ℕ)} {faults faults' : ℕ} {out : NodeOut} → xs ≡ ys → HasSteppedAt k xs new s event before after faults faults' out → HasSteppedAt k ys new s event before after faults faults' out
+pub stepped-over : {k : ℕ} {xs ys new : List Segment} {s : Seg} {event : NodeEvent} {before after : Shelf} {out : NodeOut} → xs ≡ ys → HasSteppedAt k xs new s event before after out → HasSteppedAt k ys new s event before after out
 stepped-over {k = k} e h = record { was = h.was; there = ap (λ zs. slice_get zs k) (sym e) ∙ h.there; now = h.now; all = h.all ∙ ap (λ zs. slice_set zs k h.now) e; stepped = h.stepped }
 
 module _ (script : Script) (w : machine.World) (old : Network) (stands : Stands script w old) (at : Node) (some : 1 ≤ at.0) where
@@ -77,7 +78,7 @@ module _ (script : Script) (w : machine.World) (old : Network) (stands : Stands 
       not_zero : (n : Node) → 1 ≤ n.0 → is_same_node n the_coordinator ≡ false
       not_zero n h = grind (arith, nat_tests)
 
-  module _ (event : Event) (here : NodeEvent) (before after : List (List ℕ)) (faults faults' : ℕ) (out : NodeOut) (items : List Segment) (next : IsNext script w event at here) (h : HasSteppedAt (at.0 - 1) old.segments.items items (w.segs at.0) here before after faults faults' out) where
+  module _ (event : Event) (here : NodeEvent) (before after : Shelf) (out : NodeOut) (items : List Segment) (next : IsNext script w event at here) (h : HasSteppedAt (at.0 - 1) old.segments.items items (w.segs at.0) here before after out) where
     abbrev turn : Bool → Rattle.gx_rules.specs.Segments.SegTurn
     turn fails = seg_rule script (w.segs at.0) here fails
 
@@ -102,14 +103,13 @@ module _ (script : Script) (w : machine.World) (old : Network) (stands : Stands 
     pub seg-addressed : All (IsAddressed script.segments at) out.marks
     seg-addressed = subst (All (IsAddressed script.segments at)) (sym seg_marks) (addressed script at _ seg_fit.at)
 
-    pub seg-turned : (new : Network) → IsPushed script old new at event out → new.segments.items ≡ items → new.coord ≡ old.coord → new.script ≡ old.script → new.spent ≡ old.spent → HasTurned script w event at here new before after faults faults'
+    pub seg-turned : (new : Network) → IsPushed script old new at event out → new.segments.items ≡ items → new.coord ≡ old.coord → new.script ≡ old.script → new.spent ≡ old.spent → HasTurned script w event at here new before after
     seg-turned new pushed same_segments same_coord same_script same_spent =
         record {
           fails = h.stepped.fails;
           is = subst (λ v. Stands script v new) (sym (ap after_turn away)) stands_now;
-          items = subst (λ x. after ≡ before ++ map bytes_of_item (kept_item h.stepped.fails x)) (sym (ap (λ (b : Bool). if b then (coord_rule script w.coord here h.stepped.fails).item else (turn h.stepped.fails).item) away))
-              (subst (λ x. after ≡ before ++ map bytes_of_item (kept_item h.stepped.fails (seg_rule x (w.segs at.0) here h.stepped.fails).item)) was_script h.stepped.items);
-          caused = h.stepped.caused;
+          took = subst (λ x. Took before after h.stepped.fails x) (sym (ap (λ (b : Bool). if b then (coord_rule script w.coord here h.stepped.fails).item else (turn h.stepped.fails).item) away))
+              (subst (λ x. Took before after h.stepped.fails (seg_rule x (w.segs at.0) here h.stepped.fails).item) was_script h.stepped.took);
         }
       where
         kept : AreKept (noted w at (turn h.stepped.fails).seg.clock event (turn h.stepped.fails).marks) new

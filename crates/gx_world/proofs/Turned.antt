@@ -1,9 +1,10 @@
 -- A node's step, as its code does it, is one of the machine.
 use Rattle.std.proofs.Common.{◌≡◌, inl, inr, ℕ, List, [], ◌∷◌, ◌++◌, refl, sym, subst, ap, ◌∙◌, if◌then◌else◌, length, All}
 use Rattle.std.proofs.lemmas.List.Elements.{All-weaker}
-use Rattle.std.specs.Prelude.{map, slice_get}
+use Rattle.std.specs.Prelude.{slice_get}
 use Rattle.gx_ids.specs.declared.ids.Node.{Node}
-use Rattle.gx_msg.specs.ItemBytes.{bytes_of_item}
+use Rattle.gx_outside.specs.Shelves.{Shelf}
+use Rattle.gx_node.specs.Orders.{Took}
 use Rattle.gx_script.specs.declared.Script.{Script}
 use Rattle.gx_store.specs.declared.event.Event.{Event}
 use Rattle.gx_store.specs.declared.mark.Mark.{Mark}
@@ -17,7 +18,7 @@ use Rattle.gx_store.specs.Ordered.{IsAtNode}
 use Rattle.gx_store.specs.Refusals.{the_coordinator}
 use Rattle.gx_rules.specs.AtCoordinator.{coord_rule}
 use Rattle.gx_rules.specs.Machine as machine
-use Rattle.gx_rules.specs.Machine.{coord_did, does, kept_item, noted, posted, run_of, seg_did}
+use Rattle.gx_rules.specs.Machine.{coord_did, does, noted, posted, run_of, seg_did}
 use Rattle.gx_coord.specs.declared.coord.Coord.{Coord}
 use Rattle.gx_coord.specs.Steps as coord
 use Rattle.gx_world.specs.Links.{ArePosted, IsAddressed, IsLong, link_in, places_from}
@@ -81,9 +82,9 @@ module _ (script : Script) (w : machine.World) (old new : Network) (stands : Sta
         placed = subst (ArePlaced new.letters) (sym new_steps) (noted-placed w.steps w.sent (made clock marks) old.letters new.letters were_posted were_placed fit.numbers new_links);
       }
 
-module _ (script : Script) (w : machine.World) (old new : Network) (stands : Stands script w old) (event : Event) (here : NodeEvent) (before after : List (List ℕ)) (faults faults' : ℕ) (out : NodeOut) where
+module _ (script : Script) (w : machine.World) (old new : Network) (stands : Stands script w old) (event : Event) (here : NodeEvent) (before after : Shelf) (out : NodeOut) where
   -- THE COORDINATOR
-  module _ (c : Coord) (next : IsNext script w event the_coordinator here) (h : coord.HasStepped old.coord c w.coord here before after faults faults' out) where
+  module _ (c : Coord) (next : IsNext script w event the_coordinator here) (h : coord.HasStepped old.coord c w.coord here before after out) where
     coord_marks : out.marks ≡ (coord_rule script w.coord here h.fails).marks
     coord_marks = subst (λ x. out.marks ≡ (coord_rule x w.coord here h.fails).marks) stands.coord_script h.marks
 
@@ -96,7 +97,7 @@ module _ (script : Script) (w : machine.World) (old new : Network) (stands : Sta
     pub coord-addressed : All (IsAddressed script.segments the_coordinator) out.marks
     coord-addressed = subst (All (IsAddressed script.segments the_coordinator)) (sym coord_marks) (addressed script the_coordinator _ coord_fit.at)
 
-    pub coord-turned : IsPushed script old new the_coordinator event out → new ≡ record old { coord = c; letters = new.letters; run = new.run } → HasTurned script w event the_coordinator here new before after faults faults'
+    pub coord-turned : IsPushed script old new the_coordinator event out → new ≡ record old { coord = c; letters = new.letters; run = new.run } → HasTurned script w event the_coordinator here new before after
     coord-turned pushed others =
         record {
           fails = h.fails;
@@ -114,8 +115,7 @@ module _ (script : Script) (w : machine.World) (old new : Network) (stands : Sta
             placed = kept.placed;
             usable = ap (λ (x : Network). x.spent) others ∙ stands.usable;
           };
-          items = subst (λ x. after ≡ before ++ map bytes_of_item (kept_item h.fails (coord_rule x w.coord here h.fails).item)) stands.coord_script h.items;
-          caused = h.caused;
+          took = subst (λ x. Took before after h.fails (coord_rule x w.coord here h.fails).item) stands.coord_script h.took;
         }
       where
         kept : AreKept (noted w the_coordinator (coord_rule script w.coord here h.fails).coord.clock event (coord_rule script w.coord here h.fails).marks) new

@@ -1,15 +1,15 @@
 -- A network against the machine over every message ever sent.
-use Rattle.std.specs.Prelude.{◌≡◌, ℕ, ◌+◌, ◌<◌, ◌^◌, ◌++◌, Bool, true, false, List, length, map, slice_get, slice_set, Some, All}
+use Rattle.std.specs.Prelude.{◌≡◌, ℕ, ◌+◌, ◌<◌, ◌^◌, Bool, false, List, length, slice_get, slice_set, Some, All}
 use Rattle.gx_ids.specs.declared.ids.Node.{Node}
-use Rattle.gx_msg.specs.ItemBytes.{bytes_of_item}
-use Rattle.gx_outside.specs.Causes.{Rose}
+use Rattle.gx_outside.specs.Shelves.{Shelf}
+use Rattle.gx_node.specs.Orders.{Took}
 use Rattle.gx_script.specs.declared.Script.{Script}
 use Rattle.gx_store.specs.Language.{IsScript}
 use Rattle.gx_store.specs.declared.event.Event.{Event}
 use Rattle.gx_store.specs.declared.node.NodeEvent.{NodeEvent}
 use Rattle.gx_store.specs.declared.run.Step.{Step}
 use Rattle.gx_rules.specs.Machine as machine
-use Rattle.gx_rules.specs.Machine.{does, kept_item, run_of}
+use Rattle.gx_rules.specs.Machine.{does, run_of}
 use Rattle.gx_law_order.specs.Journals.{item_at}
 use Rattle.gx_law_runs.specs.Reached.{IsReached}
 use Rattle.gx_law_runs.specs.Replays.{world_behind}
@@ -20,7 +20,7 @@ use Rattle.gx_world.specs.declared.letters.Letters.{Letters}
 use Rattle.gx_world.specs.declared.letters.Place.{Place}
 use Rattle.gx_world.specs.Links.{ArePosted, IsLong, link_in}
 use Rattle.gx_world.specs.declared.network.Network.{Network}
-use Rattle.gx_world.specs.Worlds.{HasStepped, Shelf}
+use Rattle.gx_world.specs.Worlds.{HasStepped}
 
 -- the segment of a number, from 1, agrees with the machine's
 pub record IsAt (script : Script) (w : machine.World) (number : ℕ) (segment : Segment) : Type 0 where
@@ -61,11 +61,10 @@ pub record HasRoom (network : Network) : Type 0 where
   pub segments : All (λ s. (s.clock < 2 ^ 62) × (s.sent < 2 ^ 62)) network.segments.items
 
 -- what an event at a node made of the machine, and of that node's journal
-pub record HasTurned (script : Script) (w : machine.World) (event : Event) (at : Node) (here : NodeEvent) (new : Network) (before after : List (List ℕ)) (faults faults' : ℕ) : Type 0 where
+pub record HasTurned (script : Script) (w : machine.World) (event : Event) (at : Node) (here : NodeEvent) (new : Network) (before after : Shelf) : Type 0 where
   pub fails : Bool
   pub is : Stands script (does script w event at fails (Some here)) new
-  pub items : after ≡ before ++ map bytes_of_item (kept_item fails (item_at script w at fails (Some here)))
-  pub caused : fails ≡ true → Rose faults faults'
+  pub took : Took before after fails (item_at script w at fails (Some here))
 
 -- what an event at a node made of the machine and of all journals
 pub record HasMoved (script : Script) (w : machine.World) (event : Event) (at : Node) (here : NodeEvent) (new : Network) (before after : List Shelf) : Type 0 where
@@ -75,8 +74,7 @@ pub record HasMoved (script : Script) (w : machine.World) (event : Event) (at : 
   pub there : slice_get before at.0 ≡ Some was
   pub now : Shelf
   pub journals : after ≡ slice_set before at.0 now
-  pub items : now.items ≡ was.items ++ map bytes_of_item (kept_item fails (item_at script w at fails (Some here)))
-  pub caused : fails ≡ true → Rose was.faults now.faults
+  pub took : Took was now fails (item_at script w at fails (Some here))
 
 -- one event more was done
 pub record HasDone (old new : Network) (event : Event) (before after : List Shelf) : Type 0 where

@@ -1,6 +1,7 @@
 -- What a node's next step may rely on.
 use Rattle.std.specs.Prelude.{◌≡◌, ℕ, ◌++◌, ◌∷◌, [], Bool, List, Some, All, slice_get, slice_set}
 use Rattle.gx_ids.specs.declared.ids.Node.{Node}
+use Rattle.gx_outside.specs.Shelves.{Shelf}
 use Rattle.gx_script.specs.declared.Script.{Script}
 use Rattle.gx_store.specs.declared.event.Event.{Event}
 use Rattle.gx_store.specs.declared.mark.Mark.{Mark}
@@ -25,9 +26,9 @@ IsNext script w event node here =
     (fails : Bool) (step : Step) → (does script w event node fails (Some here)).steps ≡ w.steps ++ step ∷ [] → IsFit script w.steps step.stamp.node step.marks
 
 -- the segment at this place has done it, and the others are as they were
-pub record HasSteppedAt (k : ℕ) (old new : List Segment) (s : Seg) (event : NodeEvent) (before after : List (List ℕ)) (faults faults' : ℕ) (out : NodeOut) : Type 0 where
+pub record HasSteppedAt (k : ℕ) (old new : List Segment) (s : Seg) (event : NodeEvent) (before after : Shelf) (out : NodeOut) : Type 0 where
   pub was : Segment
   pub there : slice_get old k ≡ Some was
   pub now : Segment
   pub all : new ≡ slice_set old k now
-  pub stepped : HasStepped was now s event before after faults faults' out
+  pub stepped : HasStepped was now s event before after out

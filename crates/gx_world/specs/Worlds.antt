@@ -1,8 +1,9 @@
 -- What a world is, to those who call it, and what a step of it is.
-use Rattle.std.specs.Prelude.{◌≡◌, ◌<◌, ◌≤◌, ℕ, ◌++◌, ◌∷◌, [], Bool, true, false, List, length, map, slice_get, Some}
+use Rattle.std.specs.Prelude.{◌≡◌, ◌<◌, ℕ, ◌++◌, ◌∷◌, [], Bool, true, false, List, length, map, slice_get, Some}
 use Rattle.gx_ids.specs.declared.ids.Node.{Node}
 use Rattle.gx_msg.specs.ItemBytes.{bytes_of_item}
 use Rattle.gx_outside.specs.Causes.{Rose}
+use Rattle.gx_outside.specs.Shelves.{Shelf, IsLater}
 use Rattle.gx_script.specs.declared.Script.{Script}
 use Rattle.gx_store.specs.declared.event.Event.{Event}
 use Rattle.gx_store.specs.declared.run.Run.{Run}
@@ -20,14 +21,6 @@ pub record WorldState : Type 0 where
   pub run : Run
   pub spent : Bool
 
--- what a journal holds, and how often it failed
-pub record Shelf : Type 0 where
-  pub items : List (List ℕ)
-  pub faults : ℕ
-
-abbrev pub shelf : List (List ℕ) → ℕ → Shelf
-shelf items faults = record { items = items; faults = faults }
-
 -- what an event made of a node's journal: it holds the items that the event adds there, and where an append failed at the
 -- event's node, its count rose
 pub record HasTaken (script : Script) (w : machine.World) (event : Event) (fails : Bool) (node : Node) (before after : Shelf) : Type 0 where
@@ -38,7 +31,7 @@ pub record HasTaken (script : Script) (w : machine.World) (event : Event) (fails
 -- no journal's count of failures has fallen
 pub record AreLater (before after : List Shelf) : Type 0 where
   pub count : length after ≡ length before
-  pub each : (k : ℕ) (b a : Shelf) → slice_get before k ≡ Some b → slice_get after k ≡ Some a → b.faults ≤ a.faults
+  pub each : (k : ℕ) (b a : Shelf) → slice_get before k ≡ Some b → slice_get after k ≡ Some a → IsLater b a
 
 -- one more step was done, with this event, by the rule of its node, for an append that fails or not; the journals took what it adds, and the step
 -- has a JournalFailed mark of a node only where the count of that journal rose

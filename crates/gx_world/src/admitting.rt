@@ -8,12 +8,12 @@ ghost use Rattle.gx_rules.specs.Coordinators.{Coord as RuleCoord};
 ghost use Rattle.gx_law_schedules.specs.Links.{is_number};
 ghost use Rattle.gx_store.specs.Journals.{is_same_node};
 ghost use Rattle.gx_store.specs.Refusals.{the_coordinator};
-ghost use Rattle.gx_store.specs.declared.event.Event.TheVariants.{Receive};
+ghost use Rattle.gx_store.specs.declared.event.Event.TheVariants.{Receive, Resume};
 ghost use Rattle.gx_world.specs.Networks.{IsNetwork};
 
 use crate::Letters;
 use crate::network::Network;
-use gx_ids::{Mem, Node};
+use gx_ids::{Gxid, Mem, Node};
 use gx_script::Script;
 use gx_store::{Event, NodeEvent};
 
@@ -29,8 +29,19 @@ pub(crate) fn can(network: &Network, event: Event) -> Mem<bool>
         Event::End(session) => can_begin(network, NodeEvent::End(session)),
         Event::Resend { segment, gxid } => { can_begin(network, NodeEvent::Resend(segment, gxid)) }
         Event::Round => can_begin(network, NodeEvent::Round),
-        Event::Resume { node: _, gxid: _ } => Ok(false),
+        Event::Resume { node, gxid } => Ok(can_resume(network, node, gxid)),
     }
+}
+
+// Nobody waits, so nobody resumes.
+fn can_resume(network: &Network, node: Node, gxid: Gxid) -> bool
+    requires is { IsNetwork network.now }
+    ensures { result ≡ is_admitted network.now.script.value network.now.run.steps (Resume node gxid) }
+{
+    let _network = network;
+    let _node = node;
+    let _gxid = gxid;
+    false
 }
 
 fn can_begin(network: &Network, there: NodeEvent) -> Mem<bool>

@@ -6,7 +6,7 @@ ghost use Rattle.gx_rules.specs.Machine.{can_here};
 ghost use Rattle.gx_rules.specs.Sending.{heard_in};
 ghost use Rattle.gx_world.specs.Turns.{IsNext};
 ghost use Rattle.gx_world.specs.Networks.{HasDone, HasMoved, HasRoom, IsNetwork, Stands};
-ghost use Rattle.gx_world.specs.Worlds.{AreLater, shelf};
+ghost use Rattle.gx_world.specs.Worlds.{AreLater};
 
 use crate::arriving::{event_node, event_there};
 use crate::network::Network;
@@ -27,8 +27,8 @@ pub(crate) fn do_event<J: Journal, G: Gate>(
     requires admitted { is_admitted network.old.script.value network.old.run.steps event ≡ true }
     requires journals { length journals.old ≡ 17 }
     requires room { length network.old.run.steps < 2 ^ 40 }
-    ensures done { OnOk result (HasDone network.old network.new event (map (λ j. shelf (J.items j) (J.fault_count j)) journals.old) (map (λ j. shelf (J.items j) (J.fault_count j)) journals.new)) }
-    ensures later { AreLater (map (λ j. shelf (J.items j) (J.fault_count j)) journals.old) (map (λ j. shelf (J.items j) (J.fault_count j)) journals.new) }
+    ensures done { OnOk result (HasDone network.old network.new event (map J.shelf journals.old) (map J.shelf journals.new)) }
+    ensures later { AreLater (map J.shelf journals.old) (map J.shelf journals.new) }
     ensures script { network.new.script ≡ network.old.script }
     ensures err { OnErr result (network.new.run ≡ network.old.run) }
 {
@@ -56,8 +56,8 @@ fn turn<J: Journal, G: Gate>(
     requires journals { length journals.old ≡ 17 }
     requires room { HasRoom network.old }
     ensures moved { OnOk result (HasMoved network.old.script.value w event at there network.new
-        (map (λ j. shelf (J.items j) (J.fault_count j)) journals.old) (map (λ j. shelf (J.items j) (J.fault_count j)) journals.new)) }
-    ensures later { AreLater (map (λ j. shelf (J.items j) (J.fault_count j)) journals.old) (map (λ j. shelf (J.items j) (J.fault_count j)) journals.new) }
+        (map J.shelf journals.old) (map J.shelf journals.new)) }
+    ensures later { AreLater (map J.shelf journals.old) (map J.shelf journals.new) }
     ensures script { network.new.script ≡ network.old.script }
     ensures err { OnErr result (network.new.run ≡ network.old.run) }
 {

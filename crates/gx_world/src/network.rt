@@ -2,7 +2,7 @@ ghost use Rattle.std.specs.Prelude.{◌≡◌, ◌<◌, ◌^◌, [], true, false
 ghost use Rattle.gx_law_runs.specs.Replays.{is_admitted};
 ghost use Rattle.gx_store.specs.Language.{IsScript};
 ghost use Rattle.gx_world.specs.Networks.{HasDone, IsNetwork};
-ghost use Rattle.gx_world.specs.Worlds.{AreLater, shelf};
+ghost use Rattle.gx_world.specs.Worlds.{AreLater};
 
 use crate::Letters;
 use crate::making::new_segments;
@@ -65,8 +65,8 @@ impl Network {
         requires journals { length journals.old ≡ 17 }
         requires room { self.old.spent ≡ false → length self.old.run.steps < 2 ^ 40 }
         ensures is { IsNetwork self.new }
-        ensures done { OnOk result (HasDone self.old self.new event (map (λ j. shelf (J.items j) (J.fault_count j)) journals.old) (map (λ j. shelf (J.items j) (J.fault_count j)) journals.new)) }
-        ensures later { AreLater (map (λ j. shelf (J.items j) (J.fault_count j)) journals.old) (map (λ j. shelf (J.items j) (J.fault_count j)) journals.new) }
+        ensures done { OnOk result (HasDone self.old self.new event (map J.shelf journals.old) (map J.shelf journals.new)) }
+        ensures later { AreLater (map J.shelf journals.old) (map J.shelf journals.new) }
         ensures script { self.new.script ≡ self.old.script }
         ensures run { OnErr result (self.new.run ≡ self.old.run) }
         ensures spent { OnErr result (self.new.spent ≡ true) }

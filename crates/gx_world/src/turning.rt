@@ -2,6 +2,7 @@
 ghost use Rattle.std.specs.Prelude.{◌≡◌, ◌≤◌, ◌<◌, ◌^◌, ◌-◌, ◌++◌, ◌∷◌, [], ℕ, true, false, if◌then◌else◌, All, Bool, Some, IfOk, OnOk, OnErr, length, slice_get};
 ghost use Rattle.gx_ids.specs.declared.ids.Node.{Node as OneNode};
 ghost use Rattle.gx_world.specs.Links.{IsAddressed, IsLong, link_in, places_from};
+ghost use Rattle.gx_outside.specs.Shelves.{IsLater};
 ghost use Rattle.gx_rules.specs.AtCoordinator.{coord_can};
 ghost use Rattle.gx_rules.specs.Machine as machine;
 ghost use Rattle.gx_rules.specs.Machine.{node_of, seg_can};
@@ -33,9 +34,8 @@ pub(crate) fn coord_turn<J: Journal>(
     requires next { IsNext network.old.script.value w event the_coordinator there }
     requires heard { heard_in there < 2 ^ 62 }
     requires room { HasRoom network.old }
-    ensures turned { OnOk result (HasTurned network.old.script.value w event the_coordinator there network.new (J.items journal.old)
-        (J.items journal.new) (J.fault_count journal.old) (J.fault_count journal.new)) }
-    ensures later { J.fault_count journal.old ≤ J.fault_count journal.new }
+    ensures turned { OnOk result (HasTurned network.old.script.value w event the_coordinator there network.new (J.shelf journal.old) (J.shelf journal.new)) }
+    ensures later { IsLater (J.shelf journal.old) (J.shelf journal.new) }
     ensures script { network.new.script ≡ network.old.script }
     ensures err { OnErr result (network.new.run ≡ network.old.run) }
 {
@@ -60,8 +60,8 @@ pub(crate) fn seg_turn<J: Journal, G: Gate>(
     requires next { IsNext network.old.script.value w event at there }
     requires heard { heard_in there < 2 ^ 62 }
     requires room { HasRoom network.old }
-    ensures turned { OnOk result (HasTurned network.old.script.value w event at there network.new (J.items journal.old) (J.items journal.new) (J.fault_count journal.old) (J.fault_count journal.new)) }
-    ensures later { J.fault_count journal.old ≤ J.fault_count journal.new }
+    ensures turned { OnOk result (HasTurned network.old.script.value w event at there network.new (J.shelf journal.old) (J.shelf journal.new)) }
+    ensures later { IsLater (J.shelf journal.old) (J.shelf journal.new) }
     ensures script { network.new.script ≡ network.old.script }
     ensures err { OnErr result (network.new.run ≡ network.old.run) }
 {
@@ -85,9 +85,8 @@ fn seg_step<J: Journal, G: Gate>(
     requires room { All (λ segment. (segment.clock < 2 ^ 62) × (segment.sent < 2 ^ 62)) segments.old.items }
     requires admitted { (segment : OneSegment) → slice_get segments.old.items (at.0 - 1) ≡ Some segment → seg_can segment.script.value s there ≡ true }
     requires heard { heard_in there < 2 ^ 62 }
-    ensures stepped { IfOk result (λ out. HasSteppedAt (at.0 - 1) segments.old.items segments.new.items s there (J.items journal.old)
-        (J.items journal.new) (J.fault_count journal.old) (J.fault_count journal.new) out) }
-    ensures later { J.fault_count journal.old ≤ J.fault_count journal.new }
+    ensures stepped { IfOk result (λ out. HasSteppedAt (at.0 - 1) segments.old.items segments.new.items s there (J.shelf journal.old) (J.shelf journal.new) out) }
+    ensures later { IsLater (J.shelf journal.old) (J.shelf journal.new) }
 {
     segments[usize::from(at.0) - 1].step(there, journal, gate)
 }

@@ -1,5 +1,6 @@
 ghost use Rattle.std.specs.Prelude.{◌≡◌, ◌<◌, ◌^◌, true, false, [], IfOk, IsErr, OnOk, OnErr, length, map, option_copied};
 ghost use Rattle.gx_store.specs.Whole.{AreInsertsWhole};
+ghost use Rattle.gx_law_locks.specs.Legal.{AreLocksLegal};
 ghost use Rattle.gx_law_commit.specs.Told.{DoStepsTell};
 ghost use Rattle.gx_law_runs.specs.Reached.{IsReached};
 ghost use Rattle.gx_rules.specs.AtCoordinator.{is_unfinished_there};
@@ -13,7 +14,7 @@ ghost use Rattle.gx_store.specs.Protocol.{DoStepsFollow};
 ghost use Rattle.gx_store.specs.Runs.{IsLegalHistory};
 ghost use Rattle.gx_store.specs.Schedule.{sent_message};
 ghost use Rattle.gx_store.specs.View.{AreFinalFrom};
-ghost use Rattle.gx_world.specs.Worlds.{AreLater, HasStepped, shelf};
+ghost use Rattle.gx_world.specs.Worlds.{AreLater, HasStepped};
 
 use crate::admitting::can;
 use crate::looking::{is_unfinished, message, sent};
@@ -128,14 +129,15 @@ impl World {
         requires journals { length journals.old ≡ 17 }
         requires room { self.old.spent ≡ false → length self.old.run.steps < 2 ^ 40 }
         ensures done { OnOk result (HasStepped self.old.script self.old.run.steps self.new.run.steps event
-            (map (λ j. shelf (J.items j) (J.fault_count j)) journals.old) (map (λ j. shelf (J.items j) (J.fault_count j)) journals.new)) }
+            (map J.shelf journals.old) (map J.shelf journals.new)) }
         ensures legal { OnOk result (AreInsertsWhole self.old.script.tables self.old.script.lines → IsLegalHistory self.old.script self.new.run) }
         ensures protocol { OnOk result (DoStepsFollow self.old.script [] self.new.run.steps) }
         ensures tells { OnOk result (DoStepsTell [] self.new.run.steps) }
+        ensures locks { OnOk result (AreLocksLegal self.old.script self.new.run.steps) }
         ensures ordered { OnOk result (AreOrdered self.old.script [] self.new.run.steps) }
         ensures system { OnOk result (IsSystemRun self.old.script self.new.run) }
         ensures unspent { OnOk result (self.new.spent ≡ false) }
-        ensures later { AreLater (map (λ j. shelf (J.items j) (J.fault_count j)) journals.old) (map (λ j. shelf (J.items j) (J.fault_count j)) journals.new) }
+        ensures later { AreLater (map J.shelf journals.old) (map J.shelf journals.new) }
         ensures script { self.new.script ≡ self.old.script }
         ensures err { OnErr result (self.new ≡ record self.old { spent = true }) }
         ensures again { self.old.spent ≡ true → IsErr result }

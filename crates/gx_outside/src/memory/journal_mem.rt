@@ -1,6 +1,6 @@
-ghost use Rattle.std.specs.Prelude.{◌≡◌, ◌≤◌, ◌++◌, ◌∷◌, [], ◌↔◌, min, IfOk, OnOk, OnErr, IsErrOf};
-ghost use Rattle.gx_outside.specs.Causes.{Rose};
-ghost use Rattle.gx_outside.specs.Memory.{IsFailingNext, IsAppendCounted};
+ghost use Rattle.std.specs.Prelude.{◌≡◌, ◌++◌, ◌∷◌, [], ◌↔◌, IfOk, OnOk, OnErr, IsErrOf};
+ghost use Rattle.gx_outside.specs.Memory.{IsFailingNext, IsAppendCounted, shelf_of};
+ghost use Rattle.gx_outside.specs.Shelves.{IsAppended};
 
 use crate::journal::{AppendFault, Journal};
 use crate::memory::is_failing_next;
@@ -47,15 +47,10 @@ impl JournalMem {
 }
 
 impl Journal for JournalMem {
-    ghost items = { λ j. j.items };
-
-    ghost fault_count = { λ j. j.faults };
+    ghost shelf = { λ j. shelf_of j };
 
     fn append(&mut self, item: &[u8]) -> Result<(), AppendFault>
-        ensures ok { OnOk result (self.new.items ≡ self.old.items ++ item.now ∷ []) }
-        ensures err { OnErr result (self.new.items ≡ self.old.items) }
-        ensures later { self.old.faults ≤ self.new.faults }
-        ensures failed { IsErrOf result AppendFault.Failed → Rose self.old.faults self.new.faults }
+        ensures appended { IsAppended (shelf_of self.old) (shelf_of self.new) item.now result }
         ensures fails { IsErrOf result AppendFault.Failed ↔ IsFailingNext self.old.calls self.old.fail }
         ensures counted { IsAppendCounted self.old.calls self.new.calls self.old.faults self.new.faults result }
         ensures same { self.new.fail ≡ self.old.fail }

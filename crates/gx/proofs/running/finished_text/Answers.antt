@@ -11,12 +11,12 @@ pub returns : goal.returns
 returns c =
     if_ok c.with_trace.result _ _ c.with_trace.ensures
     (λ all behind. record {
-      is = run-of c.args.world.now.script c.args.world.now.run c.requires.language c.requires.inserts c.run.ensures.reached c.requires.driven;
+      is = run-of c.args.world.now.script c.args.options.seed c.args.world.now.run c.requires.language c.requires.inserts c.run.ensures.reached c.requires.driven;
       over = finished c.args.world.now.script c.args.world.now.run.steps c.requires.language c.run.ensures.reached c.requires.over;
       tables = c.in_ok-tables.tables.items;
       all = c.in_ok-tables.ensures.all;
       final = c.in_ok-tables.ensures.rows;
-      told = behind ∙ ap (λ (xs : List ℕ). xs ++ traced c.args.trace c.args.world.now.script c.args.world.now.run)
+      told = behind ∙ ap (λ (xs : List ℕ). xs ++ traced c.args.options.trace c.args.world.now.script c.args.world.now.run)
           (c.in_ok-told.ensures ∙ ap (λ s. text_of s c.run.result.now c.as_slice.result.now) c.script.ensures.value
           ∙ ap (λ (r : Run). text_of c.args.world.now.script r c.as_slice.result.now) c.run.ensures.value
           ∙ ap (text_of c.args.world.now.script c.args.world.now.run) c.as_slice.ensures.value);

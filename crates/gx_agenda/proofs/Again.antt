@@ -1,0 +1,139 @@
+-- All that is sent again to a segment, by the awaited answers that a map holds of it.
+use Rattle.std.proofs.Common.{◌≡◌, ℕ, zero, suc, ◌+◌, ◌<◌, ◌≤◌, Bool, true, false, cond, not, ◌&&◌, List, [], ◌∷◌, map, Option, Some, None, refl, sym, ap, ◌∙◌, subst, arith, ⊎_elim}
+use Rattle.std.proofs.lemmas.Bool.{cases_Bool}
+use Rattle.std.proofs.lemmas.Bool.Decides.{nat_tests}
+use Rattle.std.proofs.lemmas.Cmp.{nat_cmp_total, on_total, then_total}
+use Rattle.std.proofs.lemmas.List.Elements.{filter_agree}
+use Rattle.std.proofs.lemmas.List.Kept.{IsStrictlySortedBy-filter}
+use Rattle.std.proofs.lemmas.Map.Entries.{lookup-filter-keys}
+use Rattle.std.specs.BTreeMap.{get, is_at}
+use Rattle.std.specs.Cmp.{IsTotalOrder}
+use Rattle.std.specs.List.{cons_option, filter, filter_map, range_with_len}
+use Rattle.std.specs.List.Sorted.{IsStrictlySortedBy}
+use Rattle.std.specs.Map.{keys_of, lookup}
+use Rattle.std.specs.BTreeMap.Range.{entries_between, range_contains}
+use Rattle.std.specs.Ordering.{is_le, nat_cmp, ordering_then}
+use Rattle.std.specs.declared.ops.Bound.TheVariants.{Excluded, Included}
+use Rattle.std.specs.Prelude.{◌==◌, is_some, option_map}
+use Rattle.std.specs.declared.cmp.Ordering.TheVariants.{Less}
+use Rattle.gx_ids.specs.declared.ids.Gxid.{Gxid}
+use Rattle.gx_ids.specs.declared.ids.Node.{Node}
+use Rattle.gx_script.specs.declared.Script.{Script}
+use Rattle.gx_store.specs.declared.event.Event.{Event}
+use Rattle.gx_store.specs.declared.event.Event.TheVariants.{Resend}
+use Rattle.gx_store.specs.declared.run.Step.{Step}
+use Rattle.gx_store.specs.Marks.{start_count}
+use Rattle.gx_store.specs.Points.{marks_in}
+use Rattle.gx_store.specs.Schedule as schedule
+use Rattle.gx_store.specs.Schedule.{gxids_of, resends}
+use Rattle.gx_agenda.specs.declared.asked.Asked.{Asked}
+use Rattle.gx_agenda.specs.declared.expected.Expected.{Expected}
+use Rattle.gx_agenda.specs.declared.request.Request.{Request}
+use Rattle.gx_agenda.specs.Awaited.{AreAsked, IsResendable, expected_at}
+use Rattle.gx_agenda.specs.Requests.{is_of, request_cmp, resend_of}
+use Rattle.gx_agenda.proofs.FirstAsked.{gxid-within}
+use Rattle.gx_agenda.proofs.Lists.{same_from, same_number}
+use Rattle.gx_agenda.proofs.Numbered.{IsNumbered, entry, numbered}
+use Rattle.gx_agenda.proofs.Resending.{awaited, resends-row}
+
+request-total : IsTotalOrder request_cmp
+request-total = then_total (on_total (λ (r : Request). r.segment.0) nat_cmp_total) (on_total (λ (r : Request). r.gxid.0) nat_cmp_total)
+
+-- a request of the segment is one of its number
+same-request : (s : Node) (r : Request) → is_of s r ≡ true → r ≡ record { segment = s; gxid = r.gxid }
+same-request s r is = ap (λ (n : ℕ). let x : Request = record { segment = record { 0 = n }; gxid = r.gxid } in x) (same_from r.segment.0 s.0 is)
+
+request-rises : (s m n : ℕ) → m < n → request_cmp (record { segment = record { 0 = s }; gxid = record { 0 = m } }) (record { segment = record { 0 = s }; gxid = record { 0 = n } }) ≡ Less
+request-rises s m n below = grind (arith, nat_tests)
+
+tied-numbers : (s g a h : ℕ) → is_at (request_cmp (record { segment = record { 0 = s }; gxid = record { 0 = g } })) (record { segment = record { 0 = a }; gxid = record { 0 = h } }) ≡ true → s ≡ a
+tied-numbers s g a h e = grind (arith, nat_tests)
+
+keys-filter : {K X : Type 0} (p : K → Bool) (es : List (K × X)) → keys_of (filter (λ e. p e.0) es) ≡ filter p (keys_of es)
+keys-filter p [] = refl
+keys-filter {K} {X} p (e ∷ es) = by (p e.0) (keys-filter p es)
+  where
+    by : (b : Bool) → keys_of (filter (λ e. p e.0) es) ≡ filter p (keys_of es) → keys_of (cond b (e ∷ filter (λ e. p e.0) es) (filter (λ e. p e.0) es)) ≡ cond b (e.0 ∷ filter p (keys_of es)) (filter p (keys_of es))
+    by true rest = ap (λ ks. e.0 ∷ ks) rest
+    by false rest = rest
+
+-- what lies between a segment's least request and the next segment's is the segment's
+between-is : (s : Node) (r : Request) → range_contains request_cmp (Included (record { segment = s; gxid = record { 0 = 0 } })) (Excluded (record { segment = record { 0 = s.0 + 1 }; gxid = record { 0 = 0 } })) r ≡ is_of s r
+between-is s r = by-numbers s.0 r.segment.0 r.gxid.0
+  where
+    by-numbers : (s a g : ℕ) → (is_le (ordering_then (nat_cmp s a) (nat_cmp 0 g)) && not (is_le (ordering_then (nat_cmp (s + 1) a) (nat_cmp 0 g)))) ≡ (a == s)
+    by-numbers s a g = grind (arith, nat_tests)
+
+pub between-of : (s : Node) (es : List (Request × Expected))
+    → entries_between request_cmp (Included (record { segment = s; gxid = record { 0 = 0 } })) (Excluded (record { segment = record { 0 = s.0 + 1 }; gxid = record { 0 = 0 } })) es ≡ filter (λ e. is_of s e.0) es
+between-of s es = filter_agree _ (λ e. is_of s e.0) (λ e. between-is s e.0) es
+
+module _ (script : Script) (steps : List Step) (segment : Node) (known : Asked) where
+  abbrev at : ℕ → Request
+  at n = record { segment = segment; gxid = record { 0 = n } }
+
+  abbrev known_at : ℕ → Option Expected
+  known_at n = expected_at known segment (record { 0 = n })
+
+  abbrev again : Gxid → Event
+  again g = Resend segment (Some g)
+
+  abbrev gxids_from : ℕ → ℕ → List Gxid
+  gxids_from first count = map (λ n. record { 0 = n }) (range_with_len first count)
+
+  -- what is found by number is what passes
+  again-listed : (test : Gxid → Bool) → ((n : ℕ) → is_some (known_at n) ≡ test (record { 0 = n })) → (first count : ℕ)
+      → map (λ (e : Request × Expected). resend_of e.0) (filter_map (entry at known_at) (range_with_len first count)) ≡ map again (filter test (gxids_from first count))
+  again-listed test same first zero = refl
+  again-listed test same first (suc count) = by (known_at first) refl (again-listed test same (first + 1) count)
+    where
+      behind : List (Request × Expected)
+      behind = filter_map (entry at known_at) (range_with_len (first + 1) count)
+
+      put : Option Expected → List Event
+      put o = map (λ (e : Request × Expected). resend_of e.0) (cons_option (option_map (λ v. (at first, v)) o) behind)
+
+      passing : Bool → List Event
+      passing b = map again (cond b (record { 0 = first } ∷ filter test (gxids_from (first + 1) count)) (filter test (gxids_from (first + 1) count)))
+
+      by : (o : Option Expected) → known_at first ≡ o → map (λ (e : Request × Expected). resend_of e.0) behind ≡ map again (filter test (gxids_from (first + 1) count)) → put (known_at first) ≡ passing (test (record { 0 = first }))
+      by None is rest = ap put is ∙ rest ∙ sym (ap passing (sym (same first) ∙ ap is_some is))
+      by (Some v) is rest = ap put is ∙ ap (λ xs. again (record { 0 = first }) ∷ xs) rest ∙ sym (ap passing (sym (same first) ∙ ap is_some is))
+
+  module _ (fit : IsResendable script steps segment) (asks : AreAsked steps known) (sorted : IsStrictlySortedBy request_cmp (keys_of known.pending.entries)) where
+    abbrev of_segment : List (Request × Expected)
+    of_segment = filter (λ e. is_of segment e.0) known.pending.entries
+
+    abbrev find : Request → Option Expected
+    find k = lookup (is_at (request_cmp k)) of_segment
+
+    found : (k : Request) → find k ≡ cond (is_of segment k) (get request_cmp known.pending k) None
+    found k =
+        lookup-filter-keys (is_at (request_cmp k)) (is_of segment) (is_of segment k)
+        (λ q tied. ap (λ n. n == segment.0) (sym (tied-numbers k.segment.0 k.gxid.0 q.segment.0 q.gxid.0 tied))) known.pending.entries
+
+    within : (k : Request) → is_some (find k) ≡ true → IsNumbered at 1 (start_count (marks_in steps)) k
+    within k there = by (is_of segment k) refl
+      where
+        by : (b : Bool) → is_of segment k ≡ b → IsNumbered at 1 (start_count (marks_in steps)) k
+        by true is =
+            let same = same-request segment k is in
+            let some : is_some (expected_at known segment k.gxid) ≡ true = ap (λ r. is_some (get request_cmp known.pending r)) (sym same) ∙ ap is_some (sym (found k ∙ ap (λ b. cond b (get request_cmp known.pending k) None) is)) ∙ there in
+            let w = gxid-within k.gxid 1 (start_count (marks_in steps)) (fit.begun k.gxid (sym (awaited script steps known asks segment k.gxid) ∙ some)) in
+            record { number = k.gxid.0; is = same; low = w.0; high = w.1 }
+        by false off = absurd (never (sym (ap is_some (found k ∙ ap (λ b. cond b (get request_cmp known.pending k) None) off)) ∙ there))
+          where
+            never : false ≡ true → ⊥
+            never e = cc
+
+    finds : (n : ℕ) → find (at n) ≡ known_at n
+    finds n = found (at n) ∙ ap (λ b. cond b (known_at n) None) (same_number segment.0)
+
+    pub resends-listed : map (λ (e : Request × Expected). resend_of e.0) of_segment ≡ resends script steps segment
+    resends-listed =
+        ap (map (λ (e : Request × Expected). resend_of e.0))
+        (numbered request-total at (λ m n. request-rises segment.0 m n) known_at 1 (start_count (marks_in steps)) of_segment
+        (subst (IsStrictlySortedBy request_cmp) (sym (keys-filter (is_of segment) known.pending.entries)) (IsStrictlySortedBy-filter request_cmp (is_of segment) (keys_of known.pending.entries) sorted))
+        within (λ n low high. finds n))
+        ∙ again-listed (λ g. is_some (schedule.asked steps segment g)) (λ n. awaited script steps known asks segment (record { 0 = n })) 1 (start_count (marks_in steps))
+        ∙ sym (resends-row script steps segment fit)

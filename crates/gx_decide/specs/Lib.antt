@@ -1,7 +1,0 @@
-pub mod Calls
-pub mod Deciding
-pub mod Disk
-pub mod History
-pub mod Kept
-pub mod Log
-pub mod Memory

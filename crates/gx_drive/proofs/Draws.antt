@@ -1,0 +1,121 @@
+-- Whatever is enabled is due and admitted, so whatever is drawn.
+use Rattle.std.proofs.Common.{◌≡◌, ◌≤◌, ◌<◌, ℕ, zero, suc, ◌+◌, List, [], ◌∷◌, ◌++◌, Bool, true, false, ◌&&◌, if◌then◌else◌, inl, inr, None, Some, refl, sym, ap, ◌∙◌, subst, arith, length, slice_get}
+use Rattle.std.proofs.lemmas.Option.{same_Some}
+use Rattle.std.specs.List.{AllByRecursion, flat_map, list_all, range_with_len}
+use Rattle.std.specs.Prelude.{filter, map}
+use Rattle.gx_ids.specs.declared.ids.Node.{Node}
+use Rattle.gx_meaning.specs.Plan.{nodes_from}
+use Rattle.gx_script.specs.declared.Script.{Script}
+use Rattle.gx_store.specs.declared.event.Event.{Event}
+use Rattle.gx_store.specs.declared.event.Event.TheVariants.{Receive, End, Resend, Start}
+use Rattle.gx_store.specs.declared.run.Step.{Step}
+use Rattle.gx_store.specs.Ordered.{IsLink, IsSegment, sent_in}
+use Rattle.gx_store.specs.Points.{marks_in}
+use Rattle.gx_store.specs.Refusals.{the_coordinator}
+use Rattle.gx_store.specs.Schedule.{enabled, ends, first_of, gxids_of, is_graph_awaited, is_left, is_next, is_quiet, is_to_end, left_on, may_resend, resends, segments_of, sessions_of, starts}
+use Rattle.gx_law_runs.specs.Reached.{IsReached}
+use Rattle.gx_law_runs.specs.Replays.{is_admitted}
+use Rattle.gx_law_runs.proofs.Reaching.{by-events, enabled-admitted}
+use Rattle.gx_drive.specs.Agrees.{IsDue}
+use Rattle.gx_drive.proofs.Enabled.{parts}
+
+module _ (P : Event → Type 0) where
+  all-append : (xs ys : List Event) → AllByRecursion P xs → AllByRecursion P ys → AllByRecursion P (xs ++ ys)
+  all-append [] ys h k = k
+  all-append (x ∷ xs) ys h k = (h.0, all-append xs ys h.1 k)
+
+  all-map : {X : Type 0} (f : X → Event) → ((x : X) → P (f x)) → (xs : List X) → AllByRecursion P (map f xs)
+  all-map f each [] = tt
+  all-map f each (x ∷ xs) = (each x, all-map f each xs)
+
+  all-nodes : (f : Node → List Event) (k n : ℕ) → ((i : Node) → k ≤ i.0 → i.0 < k + n → AllByRecursion P (f i)) → AllByRecursion P (flat_map f (nodes_from k n))
+  all-nodes f k zero each = tt
+  all-nodes f k (suc n) each =
+      all-append (f (record { 0 = k })) (flat_map f (nodes_from (k + 1) n)) (each (record { 0 = k }) (at k) (below k n))
+      (all-nodes f (k + 1) n (λ i low high. each i (less k i.0 low) (more k n i.0 high)))
+    where
+      at : (a : ℕ) → a ≤ a
+      at a = omega arith
+
+      below : (a b : ℕ) → a < a + suc b
+      below a b = omega arith
+
+      less : (a b : ℕ) → a + 1 ≤ b → a ≤ b
+      less a b h = omega (arith, h)
+
+      more : (a n b : ℕ) → b < a + 1 + n → b < a + suc n
+      more a n b h = omega (arith, h)
+
+  at-place : (xs : List Event) (k : ℕ) (x : Event) → AllByRecursion P xs → slice_get xs k ≡ Some x → P x
+  at-place [] k x all there = absurd (cc)
+  at-place (y ∷ ys) zero x all there = subst P (same_Some y x there) all.0
+  at-place (y ∷ ys) (suc k) x all there = at-place ys k x all.1 there
+
+passes-at : (p : Event → Bool) (xs : List Event) (k : ℕ) (x : Event) → list_all p xs ≡ true → slice_get xs k ≡ Some x → p x ≡ true
+passes-at p [] k x all there = absurd (cc)
+passes-at p (y ∷ ys) zero x all there = subst (λ z. p z ≡ true) (same_Some y x there) (left (p y) (list_all p ys) all)
+  where
+    left : (a b : Bool) → (a && b) ≡ true → a ≡ true
+    left a b h = grind arith
+passes-at p (y ∷ ys) (suc k) x all there = passes-at p ys k x (right (p y) (list_all p ys) all) there
+  where
+    right : (a b : Bool) → (a && b) ≡ true → b ≡ true
+    right a b h = grind arith
+
+module _ (script : Script) (steps : List Step) where
+  abbrev AreDue : List Event → Type 0
+  AreDue events = AllByRecursion (IsDue script steps) events
+
+  receipt-due : (from to : Node) → IsLink script from to → AreDue (first_of (left_on script steps from to))
+  receipt-due from to link = by (filter (is_left script steps from to) (range_with_len 1 (sent_in from to steps))) refl
+    where
+      by : (ns : List ℕ) → left_on script steps from to ≡ map (Receive from to) ns → AreDue (first_of (map (Receive from to) ns))
+      by [] is = tt
+      by (n ∷ ns) is = ((link, ap first_of is), tt)
+
+  resends-due : (segment : Node) → AreDue (resends script steps segment)
+  resends-due segment = by (is_quiet script steps segment) (is_graph_awaited steps segment)
+    where
+      by : (quiet graph : Bool) → AreDue (if quiet then map (λ g. Resend segment (Some g)) (filter (may_resend steps segment) (gxids_of (marks_in steps))) ++ (if graph then Resend segment None ∷ [] else []) else [])
+      by true true = all-append (IsDue script steps) (map (λ g. Resend segment (Some g)) (filter (may_resend steps segment) (gxids_of (marks_in steps)))) (Resend segment None ∷ []) (all-map (IsDue script steps) (λ g. Resend segment (Some g)) (λ g. tt) (filter (may_resend steps segment) (gxids_of (marks_in steps)))) (tt, tt)
+      by true false = all-append (IsDue script steps) (map (λ g. Resend segment (Some g)) (filter (may_resend steps segment) (gxids_of (marks_in steps)))) [] (all-map (IsDue script steps) (λ g. Resend segment (Some g)) (λ g. tt) (filter (may_resend steps segment) (gxids_of (marks_in steps)))) tt
+      by false graph = tt
+
+  module _ (some : 1 ≤ script.segments) (is : IsReached script steps) where
+    all-due : AreDue (enabled script steps)
+    all-due =
+        subst AreDue (sym (parts script some steps is))
+        (all-append (IsDue script steps) (from ++ to ++ again ++ starts script steps) (ends script steps)
+        (all-append (IsDue script steps) (from ++ to ++ again) (starts script steps)
+        (all-append (IsDue script steps) (from ++ to) again
+        (all-append (IsDue script steps) from to
+        (all-nodes (IsDue script steps) (λ segment. first_of (left_on script steps segment the_coordinator)) 1 script.segments (λ i low high. receipt-due i the_coordinator (inr ((low, within i.0 script.segments high), refl))))
+        (all-nodes (IsDue script steps) (λ segment. first_of (left_on script steps the_coordinator segment)) 1 script.segments (λ i low high. receipt-due the_coordinator i (inl (refl, (low, within i.0 script.segments high))))))
+        (all-nodes (IsDue script steps) (resends script steps) 1 script.segments (λ i low high. resends-due i)))
+        (all-map (IsDue script steps) (λ line. Start line.session) (λ line. tt) (filter (is_next steps) script.lines)))
+        (all-map (IsDue script steps) End (λ session. tt) (filter (is_to_end script steps) (sessions_of script))))
+      where
+        from : List Event
+        from = flat_map (λ segment. first_of (left_on script steps segment the_coordinator)) (segments_of script)
+
+        to : List Event
+        to = flat_map (λ segment. first_of (left_on script steps the_coordinator segment)) (segments_of script)
+
+        again : List Event
+        again = flat_map (resends script steps) (segments_of script)
+
+        within : (a n : ℕ) → a < 1 + n → a ≤ n
+        within a n h = omega (arith, h)
+
+    pub drawn-due : (k : ℕ) (e : Event) → slice_get (enabled script steps) k ≡ Some e → IsDue script steps e
+    drawn-due k e there = at-place (IsDue script steps) (enabled script steps) k e all-due there
+
+    pub drawn-admitted : (k : ℕ) (e : Event) → slice_get (enabled script steps) k ≡ Some e → is_admitted script steps e ≡ true
+    drawn-admitted k e there =
+        passes-at (is_admitted script steps) (enabled script steps) k e
+        (by-events script steps is (λ ss. list_all (is_admitted script ss) (enabled script ss) ≡ true) (enabled-admitted script some)) there
+
+-- a list that isn't empty has a first
+pub some-there : (xs : List Event) → (xs ≡ [] → ⊥) → 0 < length xs
+some-there [] h = absurd (h refl)
+some-there (x ∷ xs) h = omega arith

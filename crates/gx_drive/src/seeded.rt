@@ -1,0 +1,54 @@
+ghost use Rattle.std.specs.Prelude.{◌≡◌, ◌≤◌, [], false, IfOk, OnOk, length, map};
+ghost use Rattle.gx_store.specs.Whole.{AreInsertsWhole};
+ghost use Rattle.gx_outside.specs.Shelves.{AreEmpty};
+ghost use Rattle.gx_drive.specs.Ordered.{AreFailuresFew, AreHeld, IsEnd};
+ghost use Rattle.gx_drive.specs.Seeded.{AreDrawn};
+
+use crate::agenda::Agenda;
+use crate::drawing::{drawn_event, generator_of};
+use crate::end::End;
+use crate::ordered::{end_of, is_unfinished};
+use crate::turn::turn;
+use gx_ids::Mem;
+use gx_outside::{Gate, Journal};
+use gx_world::World;
+use rand_core::utils::NextWord;
+use std::alloc::Global;
+
+/// Runs a new world by a seed, until no session is unfinished or so many turns were taken: at each turn it draws a word of the generator and does the event whose
+/// place among all that is enabled is what is left of the word by their number. The journals are those of the coordinator and 16 segments, and hold nothing.
+/// Besides the step itself a turn costs a list of what is enabled: a look at each link and each session, and what it holds.
+pub fn run_seeded<J: Journal, G: Gate>(
+    alloc: Global,
+    world: &mut World,
+    journals: &mut [J],
+    gate: &G,
+    turns: u64,
+    seed: u64,
+) -> Mem<End>
+    requires new { world.old.run.steps ≡ [] }
+    requires usable { world.old.spent ≡ false }
+    requires inserts { AreInsertsWhole world.old.script.tables world.old.script.lines }
+    requires journals { length journals.old ≡ 17 }
+    requires empty { AreEmpty (map J.shelf journals.old) }
+    requires turns { turns ≤ 10000000 }
+    ensures journals { length journals.new ≡ 17 }
+    ensures script { world.new.script ≡ world.old.script }
+    ensures drawn { AreDrawn world.old.script seed [] world.new.run.steps }
+    ensures failures { AreFailuresFew world.new.run.steps (map J.shelf journals.old) (map J.shelf journals.new) }
+    ensures end { IfOk result (IsEnd world.old.script world.new.run.steps turns) }
+    ensures held { OnOk result (AreHeld world.new.run.steps (map J.shelf journals.new)) }
+    ensures unspent { OnOk result (world.new.spent ≡ false) }
+{
+    let mut agenda = Agenda::new(alloc, world.script())?;
+    let mut generator = generator_of(seed);
+    for _turn in 0..turns {
+        if !is_unfinished(world) {
+            return Ok(End::Done);
+        }
+        let word = generator.next_word();
+        let event = drawn_event(alloc, world, &agenda, word)?;
+        turn(world, &mut agenda, journals, gate, event)?;
+    }
+    Ok(end_of(world))
+}

@@ -1,0 +1,196 @@
+ghost use Rattle.std.specs.Prelude.{◌≡◌, ◌++◌, ◌∷◌, [], filter, length, map, IfOk, OnOk, false, true, find};
+ghost use Rattle.std.specs.Cmp.{IsTotalOrder};
+ghost use Rattle.std.specs.List.{list_any};
+ghost use Rattle.gx_locks.specs.Claims.{is_of};
+ghost use Rattle.gx_locks.specs.Locks.{is_free, is_ready, resumed, wait_of};
+ghost use Rattle.gx_meaning.specs.Order.{in_order};
+ghost use Rattle.gx_rules.specs.Locks as rule;
+ghost use Rattle.gx_waits.specs.declared.object.Object.TheVariants as object;
+ghost use Rattle.gx_node.specs.Locking.{asked_locks, asked_mark, resumed_marks};
+
+use gx_ids::{Gxid, Mem, Node, Table};
+use gx_locks::{LockAnswer, LockTable};
+use gx_modes::Mode;
+use gx_store::Mark;
+use gx_waits::{Claim, Object};
+use std::alloc::Global;
+use std::cmp::Ordering;
+
+// IN ORDER
+fn compare_claims(left: &Claim, right: &Claim) -> Ordering
+    ensures { result ≡ rule.claim_order left.now right.now }
+{
+    left.object
+        .cmp(&right.object)
+        .then(left.mode.number().cmp(&right.mode.number()))
+}
+
+// The derived order of a type is total.
+fn is_ordered<T: Ord>()
+    ensures { IsTotalOrder T.cmp }
+{}
+
+fn sorted_claims(mut claims: Vec<Claim>) -> Mem<Vec<Claim>>
+    ensures { IfOk result (λ sorted. sorted.items ≡ in_order rule.claim_order claims.items) }
+{
+    is_ordered::<Object>();
+    claims.sort_by(|left, right| compare_claims(left, right))?;
+    Ok(claims)
+}
+
+// GIVEN BACK
+// The waits of a transaction.
+fn waits_of(alloc: Global, waits: &[Claim], gxid: Gxid) -> Mem<Vec<Claim>>
+    ensures { IfOk result (λ claims. claims.items ≡ filter (is_of gxid) waits.now) }
+{
+    let claims: Vec<Claim> = waits
+        .iter()
+        .copied()
+        .filter(|claim| claim.gxid == gxid)
+        .collect(alloc)?;
+    Ok(claims)
+}
+
+// All that a transaction has.
+fn has_there(alloc: Global, locks: &LockTable, gxid: Gxid) -> Mem<Vec<Claim>>
+    ensures { IfOk result (λ claims. claims.items ≡ rule.has_there locks.now gxid) }
+{
+    let holds = locks.holds_of(gxid)?;
+    let holds = sorted_claims(holds)?;
+    let mut claims = waits_of(alloc, locks.waits(), gxid)?;
+    claims.extend_from_slice(holds.as_slice())?;
+    Ok(claims)
+}
+
+fn push_releases(marks: &mut Vec<Mark>, node: Node, claims: &[Claim]) -> Mem<()>
+    ensures { OnOk result (marks.new.items ≡ marks.old.items ++ map (rule.release_mark node) claims.now) }
+{
+    for claim in claims {
+        marks.push(Mark::Release {
+            node,
+            gxid: claim.gxid,
+            object: claim.object,
+            mode: claim.mode,
+        })?;
+    }
+    Ok(())
+}
+
+/// Gives back all locks of a transaction at a node and drops its wait, with a mark for each: the wait, then the holds in order.
+pub fn give_back(
+    alloc: Global,
+    node: Node,
+    locks: &mut LockTable,
+    gxid: Gxid,
+    marks: &mut Vec<Mark>,
+) -> Mem<()>
+    ensures locks { OnOk result (locks.new ≡ rule.released locks.old gxid) }
+    ensures marks { OnOk result (marks.new.items ≡ marks.old.items ++ rule.release_marks node locks.old gxid) }
+{
+    let claims = has_there(alloc, locks, gxid)?;
+    push_releases(marks, node, claims.as_slice())?;
+    locks.release_all(gxid);
+    Ok(())
+}
+
+// ASKED FOR
+/// A transaction's claim on a table.
+pub fn claim_on(gxid: Gxid, table: Table, mode: Mode) -> Claim
+    ensures { result ≡ record { gxid = gxid; object = object.Relation table; mode = mode } }
+{
+    Claim {
+        gxid,
+        object: Object::Relation(table),
+        mode,
+    }
+}
+
+fn hold_mark(node: Node, claim: Claim) -> Mark
+    ensures { result ≡ rule.hold_mark node claim }
+{
+    let Claim { gxid, object, mode } = claim;
+    Mark::Hold {
+        node,
+        gxid,
+        object,
+        mode,
+    }
+}
+
+fn wait_mark(node: Node, claim: Claim) -> Mark
+    ensures { result ≡ rule.wait_mark node claim }
+{
+    let Claim { gxid, object, mode } = claim;
+    Mark::Wait {
+        node,
+        gxid,
+        object,
+        mode,
+    }
+}
+
+// It holds the lock, or waits for it.
+fn push_asked(marks: &mut Vec<Mark>, node: Node, wanted: Claim, granted: bool) -> Mem<()>
+    ensures { OnOk result (marks.new.items ≡ marks.old.items ++ asked_mark node wanted granted ∷ []) }
+{
+    let mark = if granted {
+        hold_mark(node, wanted)
+    } else {
+        wait_mark(node, wanted)
+    };
+    marks.push(mark)?;
+    Ok(())
+}
+
+fn request(locks: &mut LockTable, wanted: Claim) -> Mem<bool>
+    requires { list_any (is_of wanted.gxid) locks.old.waits ≡ false }
+    ensures granted { IfOk result (λ granted. granted ≡ is_free locks.old.holds wanted) }
+    ensures locks { IfOk result (λ granted. locks.new ≡ asked_locks locks.old wanted granted) }
+{
+    match locks.request(wanted.gxid, wanted.object, wanted.mode)? {
+        LockAnswer::Granted => Ok(true),
+        LockAnswer::Waits(_) => Ok(false),
+    }
+}
+
+/// Whether a transaction that doesn't wait at a node gets the lock that it asks for, with the mark of a hold; else it waits for
+/// it from now on, with the mark of a wait.
+pub fn ask_for(node: Node, locks: &mut LockTable, wanted: Claim, marks: &mut Vec<Mark>) -> Mem<bool>
+    requires { list_any (is_of wanted.gxid) locks.old.waits ≡ false }
+    ensures granted { IfOk result (λ granted. granted ≡ is_free locks.old.holds wanted) }
+    ensures locks { IfOk result (λ granted. locks.new ≡ asked_locks locks.old wanted granted) }
+    ensures marks { IfOk result (λ granted. marks.new.items ≡ marks.old.items ++ asked_mark node wanted granted ∷ []) }
+{
+    let granted = request(locks, wanted)?;
+    push_asked(marks, node, wanted, granted)?;
+    Ok(granted)
+}
+
+// RESUMED
+// The wait of a transaction.
+fn find_wait(waits: &[Claim], gxid: Gxid) -> Option<Claim>
+    ensures { result ≡ find (is_of gxid) waits.now }
+{
+    waits.iter().copied().find(|claim| claim.gxid == gxid)
+}
+
+fn push_resumed(marks: &mut Vec<Mark>, node: Node, wait: Option<Claim>) -> Mem<()>
+    ensures { OnOk result (marks.new.items ≡ marks.old.items ++ resumed_marks node wait) }
+{
+    if let Some(claim) = wait {
+        marks.push(hold_mark(node, claim))?;
+    }
+    Ok(())
+}
+
+/// The ready wait of a transaction at a node is a hold from now on, with its mark.
+pub fn take_ready(node: Node, locks: &mut LockTable, gxid: Gxid, marks: &mut Vec<Mark>) -> Mem<()>
+    requires { is_ready locks.old.holds (wait_of locks.old gxid) ≡ true }
+    ensures locks { OnOk result (locks.new ≡ resumed locks.old gxid (wait_of locks.old gxid)) }
+    ensures marks { OnOk result (marks.new.items ≡ marks.old.items ++ resumed_marks node (wait_of locks.old gxid)) }
+{
+    let wait = find_wait(locks.waits(), gxid);
+    push_resumed(marks, node, wait)?;
+    locks.resume(gxid);
+    Ok(())
+}
