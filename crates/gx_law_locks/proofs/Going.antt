@@ -82,9 +82,13 @@ Own g _ = Unit {0}
 abbrev pub OrderLocked : List Claim → ℕ → Out → Type 0
 OrderLocked holds g o = Own g o.message × Locked holds o.message
 
+-- the lock that a statement takes at the coordinator
+abbrev pub HasLock : List Claim → Gxid → Stmt → Type 0
+HasLock holds g line = (wanted : Claim) → lock_for g line ≡ Some wanted → IsIn holds wanted
+
 abbrev pub CommandLocked : List Claim → ℕ → Option Command → Type 0
 CommandLocked holds g None = Unit {0}
-CommandLocked holds g (Some k) = Each (OrderLocked holds g) k.orders
+CommandLocked holds g (Some k) = HasLock holds (record { 0 = g }) k.stmt × Each (OrderLocked holds g) k.orders
 
 -- of each command under way
 abbrev pub AreLocked : List Claim → (ℕ → Work) → Type 0
@@ -110,6 +114,22 @@ own-gxid g (slice.Insert table rows) wanted e = ap (λ (c : Claim). c.gxid) (sym
 own-gxid g (slice.Update table assigns cond) wanted e = absurd (cc)
 own-gxid g (slice.Delete table cond) wanted e = absurd (cc)
 own-gxid g (slice.Lock table mode) wanted e = absurd (cc)
+
+pub own-line : (g : Gxid) (line : Stmt) (wanted : Claim) → lock_for g line ≡ Some wanted → wanted.gxid ≡ g
+own-line g (stmt.Select query) wanted e = ap (λ (c : Claim). c.gxid) (sym (same _ wanted e))
+  where
+    same : (a b : Claim) → Some a ≡ Some b → a ≡ b
+    same a b q = cc
+own-line g (stmt.Insert table tuples) wanted e = ap (λ (c : Claim). c.gxid) (sym (same _ wanted e))
+  where
+    same : (a b : Claim) → Some a ≡ Some b → a ≡ b
+    same a b q = cc
+own-line g (stmt.Update table assigns cond) wanted e = absurd (cc)
+own-line g (stmt.Delete table cond) wanted e = absurd (cc)
+own-line g (stmt.Lock table mode) wanted e = absurd (cc)
+own-line g (stmt.Begin level) wanted e = absurd (cc)
+own-line g stmt.Commit wanted e = absurd (cc)
+own-line g stmt.Rollback wanted e = absurd (cc)
 
 locked-added : (new : Claim) (holds : List Claim) (m : Message) → Locked holds m → Locked (added new holds) m
 locked-added new holds (message.Exec g c level x h slice) l = λ wanted e. in-added new wanted holds (l wanted e)
@@ -150,11 +170,15 @@ bare holds outs e = each_weaker IsBare (LockedOut holds) (λ o h. bare-locked ho
 -- COMMANDS UNDER WAY
 command-added : (new : Claim) (holds : List Claim) (g : ℕ) (k : Option Command) → CommandLocked holds g k → CommandLocked (added new holds) g k
 command-added new holds g None e = tt
-command-added new holds g (Some k) e = each_weaker (OrderLocked holds g) (OrderLocked (added new holds) g) (λ o h. (h.0, locked-added new holds o.message h.1)) k.orders e
+command-added new holds g (Some k) e =
+    (λ wanted f. in-added new wanted holds (e.0 wanted f), each_weaker (OrderLocked holds g) (OrderLocked (added new holds) g) (λ o h. (h.0, locked-added new holds o.message h.1)) k.orders e.1)
 
 command-released : (g : Gxid) (holds : List Claim) (j : ℕ) (k : Option Command) → eqb j g.0 ≡ false → CommandLocked holds j k → CommandLocked (locks.without g holds) j k
 command-released g holds j None n e = tt
-command-released g holds j (Some k) n e = each_weaker (OrderLocked holds j) (OrderLocked (locks.without g holds) j) (λ o h. (h.0, locked-released g holds j o.message n h.0 h.1)) k.orders e
+command-released g holds j (Some k) n e = (
+  λ wanted f. in-released g wanted holds (ap (λ (h : Gxid). eqb h.0 g.0) (own-line (record { 0 = j }) k.stmt wanted f) ∙ n) (e.0 wanted f),
+  each_weaker (OrderLocked holds j) (OrderLocked (locks.without g holds) j) (λ o h. (h.0, locked-released g holds j o.message n h.0 h.1)) k.orders e.1,
+)
 
 with-work : (holds : List Claim) (works : ℕ → Work) (g : ℕ) (w : Work) → AreLocked holds works → CommandLocked holds g w.command → AreLocked holds (with_at works g w)
 with-work holds works g w e h j = by_test (eqb j g) refl
@@ -222,9 +246,6 @@ plan_locked n dist g c stmt.Commit = tt
 plan_locked n dist g c stmt.Rollback = tt
 
 -- GOING OUT
-abbrev HasLock : List Claim → Gxid → Stmt → Type 0
-HasLock holds g line = (wanted : Claim) → lock_for g line ≡ Some wanted → IsIn holds wanted
-
 pub record ReadGood (l : Locks) (r : Reading) : Type 0 where
   pub locks : r.coord.locks ≡ l
   pub works : AreLocked l.holds r.coord.works
@@ -250,9 +271,10 @@ orders_locked holds g cid line level x h pieces has e =
 
 go : (l : Locks) (g : Gxid) (cid : Cid) (line : Stmt) (r : Reading) (plan : Result (List Piece) ArithFault) → ReadGood l r → HasLock l.holds g line → PlanLocked g line plan → Going (goes g cid line r plan)
 go l g cid line r (Ok pieces) e has p =
-    let orders = orders_locked r.coord.locks.holds g cid line (work_of r.coord g).level r.snapshot (horizon_of r.coord.table) pieces (subst (λ (k : Locks). HasLock k.holds g line) (sym e.locks) has) p in
+    let has_it = subst (λ (k : Locks). HasLock k.holds g line) (sym e.locks) has in
+    let orders = orders_locked r.coord.locks.holds g cid line (work_of r.coord g).level r.snapshot (horizon_of r.coord.table) pieces has_it p in
     record {
-      coord = with-work r.coord.locks.holds r.coord.works g.0 _ (subst (λ (k : Locks). AreLocked k.holds r.coord.works) (sym e.locks) e.works) orders;
+      coord = with-work r.coord.locks.holds r.coord.works g.0 _ (subst (λ (k : Locks). AreLocked k.holds r.coord.works) (sym e.locks) e.works) (has_it, orders);
       outs = each_weaker (OrderLocked r.coord.locks.holds g.0) (LockedOut r.coord.locks.holds) (λ o h. h.1) _ orders;
     }
 go l g cid line r (Err f) e has p = refused r.coord g (on_abort r.coord.table g) _ _ (subst (λ (k : Locks). AreLocked k.holds r.coord.works) (sym e.locks) e.works) (abort-bare r.coord.table g)
@@ -393,7 +415,7 @@ command_locked holds g i None other e h = h
 command_locked holds g i (Some k) other e h = by_test (has i k.awaited)
   where
     by_test : (b : Bool) → MaybeLocked holds (if b then order_to i k.orders else other)
-    by_test true = order_locked holds g i k.orders e
+    by_test true = order_locked holds g i k.orders e.1
     by_test false = h
 
 pub event-goes : (script : Script) (c : Coord) (e : NodeEvent) (fails : Bool) → AreCalm c.locks → Good c → Going (on_event script c e fails)

@@ -9,3 +9,6 @@ pub mod AtWrites
 pub mod Orders
 pub mod Writes
 pub mod Legal
+pub mod Commands
+pub mod Answering
+pub mod Told

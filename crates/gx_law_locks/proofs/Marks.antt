@@ -108,9 +108,6 @@ ended-behind xs ys g e =
     ∙ or-right (is_committed xs g) (is_aborted xs g) (is_committed ys g) (is_aborted ys g) e
 
 -- OTHER NODES
-number-same : (a b : Node) → a ≡ b → is_same_node b (record { 0 = 0 }) ≡ is_same_node a (record { 0 = 0 })
-number-same a b e = ap (λ (n : Node). is_same_node n (record { 0 = 0 })) (sym e)
-
 pub other-holds : (script : Script) (here other : Node) (holds : List Claim) (ms : List Mark) → is_same_node here other ≡ false → Each (IsAtNode script here) ms → holds_from other holds ms ≡ holds
 other-holds script here other holds [] n e = refl
 other-holds script here other holds (mark.Hold m g object mode ∷ ms) n e =

@@ -33,7 +33,9 @@ use Rattle.gx_law_order.proofs.Lists.{Each}
 use Rattle.gx_law_order.proofs.Ordered.{apart-back, apart-two, at-both, at_coordinator, seg_marks}
 use Rattle.gx_law_order.proofs.Sent.{at}
 use Rattle.gx_law_order.proofs.World.{Knows, marks-last}
-use Rattle.gx_law_commit.proofs.Everywhere.{Holds}
+use Rattle.gx_law_commit.proofs.Everywhere.{Holds, parts_in}
+use Rattle.gx_law_commit.specs.Said.{Said, gxid_in, is_answer}
+use Rattle.gx_law_commit.specs.Standings.{known_at}
 use Rattle.gx_law_reads.proofs.Steps.{HeardAt, SaidTo, world-keeps}
 use Rattle.gx_law_locks.specs.Held.{AreHoldsMarked}
 use Rattle.gx_law_locks.specs.Lasting.{DoHoldsLast}
@@ -41,7 +43,7 @@ use Rattle.gx_law_locks.specs.Late.{AreReleasesLate}
 use Rattle.gx_law_locks.proofs.AtCoordinators.{event-holds}
 use Rattle.gx_law_locks.proofs.AtSegments.{IsEndedFor, Turn, message_locks, resume_locks}
 use Rattle.gx_law_locks.proofs.Lasting.{holds-last, late-front}
-use Rattle.gx_law_locks.proofs.Marks.{Locking, Quiet, both, free-granted, late-append, other-holds, quiet}
+use Rattle.gx_law_locks.proofs.Marks.{AreFree, Locking, Quiet, both, free-granted, late-append, other-holds, quiet}
 
 pub record Locked (w : World) : Type 0 where
   pub marked : AreHoldsMarked w
@@ -67,7 +69,7 @@ module _ (script : Script) (steps : List Step) (s : Step) (here : Node) (at_here
   still-granted : (holds left : List Claim) → holds ≡ holds_at (marks_in steps) here → Locking here (marks_in steps) holds s.marks left → AreGranted [] (marks_in steps) → AreGranted [] (marks_in (steps ++ s ∷ []))
   still-granted holds left e l g =
       subst (AreGranted []) (sym (marks-last steps s))
-      (granted-more [] (marks_in steps) s.marks g (free-granted script here (marks_in steps) s.marks at_here (subst (λ h. Rattle.gx_law_locks.proofs.Marks.AreFree here h s.marks) e l.free)))
+      (granted-more [] (marks_in steps) s.marks g (free-granted script here (marks_in steps) s.marks at_here (subst (λ h. AreFree here h s.marks) e l.free)))
 
   still-late : (holds left : List Claim) → Locking here (marks_in steps) holds s.marks left → AreReleasesLate [] (marks_in steps) → AreReleasesLate [] (marks_in (steps ++ s ∷ []))
   still-late holds left l g = subst (AreReleasesLate []) (sym (marks-last steps s)) (late-append [] (marks_in steps) s.marks g l.late)
@@ -110,7 +112,7 @@ module _ (script : Script) (some : 1 ≤ script.segments) where
       or-right : (a b : Bool) → b ≡ true → (a || b) ≡ true
       or-right a b e = grind arith
 
-      by_message : (m : Message) → (Rattle.gx_law_commit.specs.Said.is_answer m ≡ false → Rattle.gx_law_commit.specs.Said.Said (Rattle.gx_law_commit.specs.Standings.known_at w.coord (marks_in w.steps) i (Rattle.gx_law_commit.specs.Said.gxid_in m)) (Rattle.gx_law_commit.proofs.Everywhere.parts_in w i (Rattle.gx_law_commit.specs.Said.gxid_in m)) m) → IsEndedFor (marks_in w.steps) m
+      by_message : (m : Message) → (is_answer m ≡ false → Said (known_at w.coord (marks_in w.steps) i (gxid_in m)) (parts_in w i (gxid_in m)) m) → IsEndedFor (marks_in w.steps) m
       by_message (message.Abort g) f = or-right (is_committed (marks_in w.steps) g) (is_aborted (marks_in w.steps) g) (f refl)
       by_message (message.Forget g) f = or-left (is_committed (marks_in w.steps) g) (is_aborted (marks_in w.steps) g) (f refl)
       by_message (message.Exec g c level snapshot h x) f = tt

@@ -1,5 +1,6 @@
 //! Laws of every run, whatever the network loses, repeats, delays and reorders, and whichever appends fail.
 ghost use Rattle.std.specs.Prelude.{◌≡◌, ◌≤◌, ◌++◌, Bool, List, []};
+ghost use Rattle.gx_law_locks.specs.Commands.{AreAnswersHeld, DoCommandsHold};
 ghost use Rattle.gx_law_locks.specs.Held.{AreHoldsMarked};
 ghost use Rattle.gx_law_locks.specs.Lasting.{DoHoldsLast};
 ghost use Rattle.gx_law_locks.specs.Late.{AreReleasesLate};
@@ -59,4 +60,15 @@ pub fn rows_are_written_with_the_lock_unless_aborted()
 /// Locks are legal.
 pub fn locks_are_legal()
     ensures { (script : Script) (events : List (OneEvent × Bool)) → 1 ≤ script.segments → AreLinesNumbered [] script.lines → AreLocksLegal script (steps_after script events) }
+{}
+
+/// A command that has gone out holds its table at the coordinator: behind each step, and in each step that starts no line of its
+/// session, up to its own answer. AccessShare is what a SELECT holds, RowExclusive what an INSERT holds.
+pub fn commands_hold_their_tables_until_answered()
+    ensures { (script : Script) (events : List (OneEvent × Bool)) → 1 ≤ script.segments → DoCommandsHold script (steps_after script events) }
+{}
+
+/// A command that succeeds holds its table at the coordinator at the point of its answer.
+pub fn answered_commands_hold_their_tables()
+    ensures { (script : Script) (events : List (OneEvent × Bool)) → 1 ≤ script.segments → AreAnswersHeld script [] (steps_after script events) }
 {}

@@ -1,0 +1,59 @@
+-- A command that has gone out holds its table at the coordinator until it is answered.
+use Rattle.std.specs.Prelude.{◌≡◌, true, false, List, [], ◌∷◌, ◌++◌, Some}
+use Rattle.gx_ids.specs.declared.ids.Cid.{Cid}
+use Rattle.gx_ids.specs.declared.ids.Gxid.{Gxid}
+use Rattle.gx_ids.specs.declared.ids.SessionId.{SessionId}
+use Rattle.gx_tree.specs.declared.stmt.Level.{Level}
+use Rattle.gx_tree.specs.declared.stmt.Stmt.{Stmt}
+use Rattle.gx_waits.specs.declared.claim.Claim.{Claim}
+use Rattle.gx_script.specs.declared.Script.{Script}
+use Rattle.gx_store.specs.declared.event.Event.{Event}
+use Rattle.gx_store.specs.declared.mark.Mark.{Mark}
+use Rattle.gx_store.specs.declared.mark.Mark.TheVariants.{Answer, Release, Start}
+use Rattle.gx_store.specs.declared.run.Step.{Step}
+use Rattle.gx_store.specs.Commands.{RunsCommand}
+use Rattle.gx_store.specs.Marks.{is_same_gxid, is_same_session}
+use Rattle.gx_store.specs.Points.{Point, before, marks_in, starts_by}
+use Rattle.gx_store.specs.Refusals.{the_coordinator}
+use Rattle.gx_store.specs.Waits.{is_held}
+use Rattle.gx_rules.specs.AtCoordinator.{lock_for}
+use Rattle.gx_law_sessions.specs.Rest.{EachMark}
+use Rattle.gx_store.specs.declared.answer.StmtAnswer.{StmtAnswer}
+use Rattle.gx_store.specs.declared.answer.StmtAnswer.TheVariants.{Refused}
+
+-- the transaction holds at the coordinator the lock that the statement takes on its table
+abbrev pub HoldsTableOf : List Mark → Gxid → Stmt → Type 0
+HoldsTableOf marks g line = (wanted : Claim) → lock_for g line ≡ Some wanted → is_held marks the_coordinator wanted.gxid wanted.object wanted.mode ≡ true
+
+-- the mark starts or answers no line of the session, and gives back nothing of the transaction
+abbrev pub LeavesAlone : SessionId → Gxid → Mark → Type 0
+LeavesAlone session g (Start h s) = is_same_session s session ≡ false
+LeavesAlone session g (Answer s number answer) = is_same_session s session ≡ false
+LeavesAlone session g (Release n h object mode) = is_same_gxid g h ≡ false
+LeavesAlone session g _ = Unit {0}
+
+abbrev pub AreLeftAlone : SessionId → Gxid → List Mark → Type 0
+AreLeftAlone session g [] = Unit {0}
+AreLeftAlone session g (m ∷ ms) = LeavesAlone session g m × AreLeftAlone session g ms
+
+-- Behind the steps, and at each point of a step that starts no line of its session, before the marks of its own answer and what
+-- it gives back, the command under way holds its table. So it does at its own answer's point.
+abbrev pub DoCommandsHold : Script → List Step → Type 0
+DoCommandsHold script steps =
+    (event : Event) (earlier later : List Mark) (session : SessionId) (line : Stmt) (level : Level) (g : Gxid) (c : Cid)
+    → starts_by session event ≡ 0 → AreLeftAlone session g earlier
+    → RunsCommand script (record { steps = steps; event = event; earlier = earlier; later = later }) session line level g c
+    → HoldsTableOf (marks_in steps ++ earlier) g line
+
+-- a command that succeeds holds its table at its answer's point
+abbrev pub HoldsWhenTold : Script → Point → SessionId → StmtAnswer → Type 0
+HoldsWhenTold script point session (Refused reason) = Unit {0}
+HoldsWhenTold script point session answer = (line : Stmt) (level : Level) (g : Gxid) (c : Cid) → RunsCommand script point session line level g c → HoldsTableOf (before point) g line
+
+abbrev pub AnswerHolds : Script → Point → Mark → Type 0
+AnswerHolds script point (Answer session number answer) = HoldsWhenTold script point session answer
+AnswerHolds script point _ = Unit {0}
+
+abbrev pub AreAnswersHeld : Script → List Step → List Step → Type 0
+AreAnswersHeld script before [] = Unit {0}
+AreAnswersHeld script before (s ∷ ss) = EachMark (AnswerHolds script) before s.event [] s.marks [] × AreAnswersHeld script (before ++ s ∷ []) ss
