@@ -19,6 +19,8 @@ use Rattle.gx_law_commit.proofs.Always.{world-holds}
 use Rattle.gx_law_commit.proofs.Whole.{world-follows}
 use Rattle.gx_store.specs.Whole.{AreInsertsWhole}
 use Rattle.gx_law_answers.proofs.Join.{legal}
+use Rattle.gx_law_locks.specs.Legal.{AreLocksLegal}
+use Rattle.gx_law_locks.proofs.Legal.{locks-legal}
 use Rattle.gx_law_answers.proofs.Snaps.{snapshots-one}
 use Rattle.gx_law_answers.proofs.Whole.{filled, keyed}
 use Rattle.gx_law_runs.specs.Reached.{IsReached}
@@ -38,6 +40,7 @@ run-of script seed run language inserts is driven =
       system = by-events script run.steps is (λ ss. IsSystemRun script (record { steps = ss })) (world_follows script language.some_segments);
       protocol = by-events script run.steps is (DoStepsFollow script []) (world-follows script language.some_segments);
       tells = by-events script run.steps is (DoStepsTell []) (λ es. (world-holds script language.some_segments es).tells);
+      locks = by-events script run.steps is (AreLocksLegal script) (locks-legal script language.some_segments language.numbers);
       driven = driven;
     }
 

@@ -13,7 +13,7 @@ each_below-all : (m : ℕ) (f : ℕ → Bool) → ((n : ℕ) → n < m → f n �
 each_below-all zero f all = refl
 each_below-all (suc m) f all = and_from (f m) (each_below m f) (all m (omega arith)) (each_below-all m f (λ n low. all n (omega arith)))
 
-each_below-none : (m k : ℕ) (f : ℕ → Bool) → k < m → f k ≡ false → each_below m f ≡ false
+pub each_below-none : (m k : ℕ) (f : ℕ → Bool) → k < m → f k ≡ false → each_below m f ≡ false
 each_below-none zero k f low e = absurd (omega arith)
 each_below-none (suc m) k f low e = by_test (eqb k m) refl (each_below-none m k f)
   where

@@ -4,24 +4,27 @@ use Rattle.std.proofs.lemmas.Bool.Decides.{nat_tests}
 use Rattle.gx_ids.specs.declared.ids.Cid.{Cid}
 use Rattle.gx_ids.specs.declared.ids.Gxid.{Gxid}
 use Rattle.gx_ids.specs.declared.ids.Node.{Node}
-use Rattle.std.specs.Prelude.{◌&&◌, not, nat_le}
+use Rattle.std.specs.Prelude.{◌&&◌, ◌++◌, not, nat_le, nat_lt}
 use Rattle.gx_tree.specs.declared.schema.Schema.{Schema}
 use Rattle.gx_tree.specs.declared.slice.Slice.{Slice}
+use Rattle.gx_tree.specs.declared.stmt.Level.{Level}
 use Rattle.gx_dsnap.specs.Gxids.{is_below}
 use Rattle.gx_dsnap.specs.declared.snapshot.Snapshot.{Snapshot}
 use Rattle.gx_dtx.specs.declared.order.Order.{Order}
 use Rattle.gx_msg.specs.declared.item.JournalItem.{JournalItem}
 use Rattle.gx_msg.specs.declared.item.Kept.{Kept}
 use Rattle.gx_msg.specs.declared.reply.Reply.{Reply}
-use Rattle.gx_node.specs.Changes.{Change, change_of, marks_in, outs_in, turn_of}
+use Rattle.gx_locks.specs.Locks.{Locks}
+use Rattle.gx_node.specs.Changes.{Change, change_of, left_locks, left_marks, marks_in, outs_in, turn_of}
 use Rattle.gx_outside.specs.Shelves.{Shelf}
 use Rattle.gx_node.specs.Orders.{Took}
 use Rattle.gx_node.specs.declared.local.Taken.{Taken}
 use Rattle.gx_node.proofs.Turns.{turn-makes}
 use Rattle.gx_rules.specs.AtSegment.{if_fits, on_exec}
-use Rattle.gx_rules.specs.Fits.{holds_locks, is_right_slice}
+use Rattle.gx_rules.specs.Fits.{holds_locks, is_right_slice, is_waiting}
 use Rattle.gx_rules.specs.Maps.{each_below}
-use Rattle.gx_rules.specs.Segments.{Local, Seg, SegTurn, local_of, stays, tells_kept}
+use Rattle.gx_rules.specs.Segments.{Local, Seg, SegTurn, after_marks, local_of, stays, tells_kept}
+use Rattle.gx_store.specs.declared.mark.Mark.{Mark}
 use Rattle.gx_rules.specs.Shown.{kept_of}
 use Rattle.gx_rules.specs.Slices.{runs_slice}
 use Rattle.gx_script.specs.declared.Script.{Script}
@@ -69,14 +72,22 @@ module _ (o : Order) (s : Seg) (g : Gxid) (fails : Bool) where
       ∙ ap (λ (ks : List Kept). change_of o s.node g ks fails (local_in (entry_at held g))) (is.kept g alive)
       ∙ ap (λ (l : Local). change_of o s.node g (kept_of s g) fails l) (is.locals g alive)
 
-  HasDone-ordered : (tables : List Schema) (held held' : Held) (horizon : Gxid) (change : Change) (taken : Taken) (done : Done) → IsHeld tables held s → horizon ≡ s.horizon → s.horizon.0 ≤ g.0 → HasMoved held held' g change taken → change ≡ made → done ≡ record { marks = marks_in taken.mark; answer = answer_of g taken.reply; fails = fails } → HasDone tables held' horizon done (order_turn o s g fails)
-  HasDone-ordered tables held held' horizon change taken done is e alive moved same d =
+  HasDone-ordered : (tables : List Schema) (held held' : Held) (horizon : Gxid) (change : Change) (taken : Taken) (done : Done) (node : Node) (locks : Locks) → IsHeld tables held s → node ≡ s.node → horizon ≡ s.horizon → s.horizon.0 ≤ g.0 → HasMoved held held' g change taken → change ≡ made → done ≡ record { marks = marks_in taken.mark ++ left_marks taken.ends node held'.locks g; answer = answer_of g taken.reply; fails = fails } → locks ≡ left_locks taken.ends held'.locks g → HasDone tables (record held' { locks = locks }) horizon done (order_turn o s g fails)
+  HasDone-ordered tables held held' horizon change taken done node locks is n e alive moved same d left =
       let makes = turn-makes o s g fails in
       let m : HasMoved held held' g made taken = subst (λ (c : Change). HasMoved held held' g c taken) same moved in
-      subst (HasDone tables held' horizon done) (sym (above alive)) (record {
-        held = IsHeld-moved tables held held' s g made taken (turn_of o s g fails (local_of s g)) is alive m makes (follows-change_of o s.node g (kept_of s g) fails (local_of s g));
+      subst (HasDone tables (record held' { locks = locks }) horizon done) (sym (above alive)) (record {
+        held =
+            IsHeld-moved tables held held' s g made taken (turn_of o s g fails (local_of s g)) is alive m makes (follows-change_of o s.node g (kept_of s g) fails (local_of s g)) locks
+            (left ∙ ap (λ (b : Bool). left_locks b held'.locks g) m.ends);
         horizon = e ∙ sym (ap (λ (x : Seg). x.horizon) makes.others);
-        marks = ap (λ (x : Done). x.marks) d ∙ ap marks_in m.mark ∙ sym makes.marks;
+        marks =
+            ap (λ (x : Done). x.marks) d
+            ∙ ap (λ (mark : Option Mark). marks_in mark ++ left_marks taken.ends node held'.locks g) m.mark
+            ∙ ap (λ (b : Bool). marks_in made.mark ++ left_marks b node held'.locks g) m.ends
+            ∙ ap (λ (i : Node). marks_in made.mark ++ left_marks made.ends i held'.locks g) n
+            ∙ ap (λ (x : Locks). marks_in made.mark ++ left_marks made.ends s.node x g) (m.locks ∙ is.locks)
+            ∙ sym makes.marks;
         outs = ap (λ (x : Done). to_coordinator x.answer) d ∙ out-answer_of g taken.reply ∙ ap (outs_in g) m.reply ∙ sym makes.outs;
       })
 
@@ -85,14 +96,17 @@ module _ (o : Order) (s : Seg) (g : Gxid) (fails : Bool) where
       let makes = turn-makes o s g fails in ap (λ (c : Change). c.item) same ∙ sym makes.item ∙ sym (ap (λ (t : SegTurn). t.item) (above alive))
 
 -- SLICES
-HasDone-ran : (tables : List Schema) (held : Held) (horizon : Gxid) (g : Gxid) (ran : Ran) (turn : SegTurn) → HasRun tables held g ran turn → horizon ≡ turn.seg.horizon → HasDone tables held horizon (record { marks = ran.marks; answer = answer_of g (Some ran.reply); fails = false }) turn
-HasDone-ran tables held horizon g ran turn run e = record { held = run.agrees; horizon = e; marks = run.marks; outs = sym run.outs }
-
-pub HasDone-run : (tables tables' : List Schema) (held : Held) (horizon : Gxid) (s s' : Seg) (g : Gxid) (c : Cid) (snapshot : Snapshot) (slice : Slice) (ran : Ran) (done : Done) → HasRun tables' held g ran (runs_slice s' g c (Some snapshot) slice) → tables' ≡ tables → s' ≡ s → horizon ≡ s.horizon → done ≡ record { marks = ran.marks; answer = answer_of g (Some ran.reply); fails = false } → HasDone tables held horizon done (runs_slice s g c (Some snapshot) slice)
-HasDone-run tables tables' held horizon s s' g c snapshot slice ran done run t same e d =
+-- a slice has run behind these marks
+pub HasDone-ran : (tables tables' : List Schema) (held : Held) (s : Seg) (g : Gxid) (c : Cid) (snapshot : Snapshot) (slice : Slice) (ran : Ran) (done : Done) (marks : List Mark) → HasRun tables' held g ran (runs_slice s g c (Some snapshot) slice) → tables' ≡ tables → done ≡ record { marks = marks ++ ran.marks; answer = answer_of g (Some ran.reply); fails = false } → HasDone tables held s.horizon done (after_marks marks (runs_slice s g c (Some snapshot) slice))
+HasDone-ran tables tables' held s g c snapshot slice ran done marks run t d =
     let turn = runs_slice s g c (Some snapshot) slice in
-    let r : HasRun tables held g ran turn = subst (λ (ts : List Schema). HasRun ts held g ran turn) t (subst (λ (x : Seg). HasRun tables' held g ran (runs_slice x g c (Some snapshot) slice)) same run) in
-    subst (λ (x : Done). HasDone tables held horizon x turn) (sym d) (HasDone-ran tables held horizon g ran turn r (e ∙ sym (horizon-runs_slice s g c (Some snapshot) slice)))
+    let r : HasRun tables held g ran turn = subst (λ (ts : List Schema). HasRun ts held g ran turn) t run in
+    subst (λ (x : Done). HasDone tables held s.horizon x (after_marks marks turn)) (sym d) (record {
+      held = r.agrees;
+      horizon = sym (horizon-runs_slice s g c (Some snapshot) slice);
+      marks = ap (λ (ms : List Mark). marks ++ ms) r.marks;
+      outs = sym r.outs;
+    })
 
 pub HasDone-told : (tables : List Schema) (held : Held) (s : Seg) (g : Gxid) (r : Option Reply) (done : Done) → IsHeld tables held s → s.horizon.0 ≤ g.0 → r ≡ (local_in (entry_at held g)).answer → done ≡ record { marks = []; answer = answer_of g r; fails = false } → HasDone tables held s.horizon done (tells_kept s g (local_of s g).answer)
 HasDone-told tables held s g r done is alive e d =
@@ -110,32 +124,32 @@ either : (s : Seg) (b : Bool) (turn : SegTurn) → (if b then stays s else (if_f
 either s true turn = refl
 either s false turn = refl
 
-exec_turn-none : (script : Script) (s : Seg) (g : Gxid) (c : Cid) (h : Gxid) (slice : Slice) → exec_turn script s g c None h slice ≡ stays s
-exec_turn-none script s g c h slice =
-    let turn = on_exec s g c None h slice (local_of s g) (local_of s g).phase in
-    ap (λ (b : Bool). if is_below s.horizon g then stays s else if_fits s b turn) (never (nat_le h.0 g.0) (each_below h.0 (λ n. not (holds_locks (s.locals n)))) (is_right_slice script g c slice))
+exec_turn-none : (script : Script) (s : Seg) (g : Gxid) (c : Cid) (level : Level) (h : Gxid) (slice : Slice) → exec_turn script s g c level None h slice ≡ stays s
+exec_turn-none script s g c level h slice =
+    let turn = on_exec s g c level None h slice (local_of s g) (local_of s g).phase in
+    ap (λ (b : Bool). if is_below s.horizon g then stays s else if_fits s b turn) (never (nat_le h.0 g.0) (each_below h.0 (λ n. not (holds_locks (s.locals n)))) (is_right_slice script g c slice && not (nat_lt (local_of s g).last c.0 && is_waiting (local_of s g))))
     ∙ either s (is_below s.horizon g) turn
 
 -- AN ORDER IS DONE
-module _ (o : Order) (s : Seg) (g : Gxid) (tables : List Schema) (held : Held) (node : Node) (taken : Taken) (done : Done) (is : IsHeld tables held s) (n : node ≡ s.node) (alive : s.horizon.0 ≤ g.0) (d : done ≡ record { marks = marks_in taken.mark; answer = answer_of g taken.reply; fails = taken.fails }) where
+module _ (o : Order) (s : Seg) (g : Gxid) (tables : List Schema) (held held' : Held) (node : Node) (taken : Taken) (done : Done) (is : IsHeld tables held s) (n : node ≡ s.node) (alive : s.horizon.0 ≤ g.0) (d : done ≡ record { marks = marks_in taken.mark ++ left_marks taken.ends node held'.locks g; answer = answer_of g taken.reply; fails = taken.fails }) where
   abbrev change : Change
   change = change_of o node g (rows_in (entry_at held g)) taken.fails (local_in (entry_at held g))
 
   abbrev turn : Bool → SegTurn
   turn b = order_turn o s g b
 
-  pub HasDone-order : (held' : Held) (horizon : Gxid) → horizon ≡ s.horizon → HasMoved held held' g change taken → HasDone tables held' horizon done (turn done.fails)
-  HasDone-order held' horizon e moved =
-      subst (λ (b : Bool). HasDone tables held' horizon done (turn b)) (sym (ap (λ (x : Done). x.fails) d))
-      (HasDone-ordered o s g taken.fails tables held held' horizon change taken done is e alive moved (made-held o s g taken.fails tables held node is n alive) d)
+  pub HasDone-order : (horizon : Gxid) (locks : Locks) → horizon ≡ s.horizon → HasMoved held held' g change taken → locks ≡ left_locks taken.ends held'.locks g → HasDone tables (record held' { locks = locks }) horizon done (turn done.fails)
+  HasDone-order horizon locks e moved left =
+      subst (λ (b : Bool). HasDone tables (record held' { locks = locks }) horizon done (turn b)) (sym (ap (λ (x : Done). x.fails) d))
+      (HasDone-ordered o s g taken.fails tables held held' horizon change taken done node locks is n e alive moved (made-held o s g taken.fails tables held node is n alive) d left)
 
   pub Took-order : (before after : Shelf) → Took before after taken.fails change.item → Took before after done.fails (turn done.fails).item
   Took-order before after took =
       subst (λ (b : Bool). Took before after b (turn b).item) (sym (ap (λ (x : Done). x.fails) d))
       (subst (λ (it : Option JournalItem). Took before after taken.fails it) (item-ordered o s g taken.fails change alive (made-held o s g taken.fails tables held node is n alive)) took)
 
-pub HasDone-none : (script : Script) (s : Seg) (g : Gxid) (c : Cid) (snapshot : Option Snapshot) (h : Gxid) (slice : Slice) (tables : List Schema) (held : Held) (horizon : Gxid) (done : Done) → IsHeld tables held s → horizon ≡ s.horizon → snapshot ≡ None → done ≡ no_done → HasDone tables held horizon done (exec_turn script s g c snapshot h slice)
-HasDone-none script s g c snapshot h slice tables held horizon done is e none d =
-    subst (λ (o : Option Snapshot). HasDone tables held horizon done (exec_turn script s g c o h slice)) (sym none)
-    (subst (λ (t : SegTurn). HasDone tables held horizon done t) (sym (exec_turn-none script s g c h slice))
+pub HasDone-none : (script : Script) (s : Seg) (g : Gxid) (c : Cid) (level : Level) (snapshot : Option Snapshot) (h : Gxid) (slice : Slice) (tables : List Schema) (held : Held) (horizon : Gxid) (done : Done) → IsHeld tables held s → horizon ≡ s.horizon → snapshot ≡ None → done ≡ no_done → HasDone tables held horizon done (exec_turn script s g c level snapshot h slice)
+HasDone-none script s g c level snapshot h slice tables held horizon done is e none d =
+    subst (λ (o : Option Snapshot). HasDone tables held horizon done (exec_turn script s g c level o h slice)) (sym none)
+    (subst (λ (t : SegTurn). HasDone tables held horizon done t) (sym (exec_turn-none script s g c level h slice))
     (subst (λ (x : Done). HasDone tables held horizon x (stays s)) (sym d) (HasDone-stays tables held horizon s is e)))

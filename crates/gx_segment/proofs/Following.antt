@@ -1,93 +1,137 @@
--- What an order leaves of a transaction: its last command stays, and who has ended has ended.
-use Rattle.std.proofs.Common.{◌≡◌, Bool, true, false, if◌then◌else◌, Option, Some, None, List, refl}
+-- What an order leaves of a transaction: its last command stays, who has ended has ended, and whose slice waits isn't changed, but
+-- for an end, after which nothing waits.
+use Rattle.std.proofs.Common.{◌≡◌, Bool, true, false, if◌then◌else◌, Option, Some, None, List, refl, ap, sym, ◌∙◌}
+use Rattle.std.specs.Prelude.{is_some}
 use Rattle.gx_ids.specs.declared.ids.Gxid.{Gxid}
 use Rattle.gx_ids.specs.declared.ids.Node.{Node}
 use Rattle.gx_dtx.specs.declared.order.Order.{Order}
 use Rattle.gx_dtx.specs.declared.order.Order.TheVariants as order
 use Rattle.gx_msg.specs.declared.item.Kept.{Kept}
 use Rattle.gx_msg.specs.declared.reply.Reply.{Reply}
+use Rattle.gx_msg.specs.declared.reply.Reply.TheVariants as answer
 use Rattle.gx_rules.specs.AtSegment.{was_prepared}
-use Rattle.gx_rules.specs.Segments.{Local, Phase, Reading, Writing, Prepared, Committed, Forgotten, Aborted, has_ended}
-use Rattle.gx_node.specs.Changes.{Change, aborts, change_of, commits, commits_now, finishes, finishes_now, forgets, once, prepares, promises, stays, tells}
+use Rattle.gx_rules.specs.Fits.{is_waiting}
+use Rattle.gx_rules.specs.Segments.{Local, Phase, Reading, Writing, Prepared, Committed, Forgotten, Aborted, Suspended, has_committed, has_ended}
+use Rattle.gx_node.specs.Changes.{Change, aborts, change_of, commits, commits_now, ends_now, finishes, finishes_now, forgets, once, prepares, promises, stays, tells}
+use Rattle.gx_slices.specs.Waiting.{is_open}
 
-pub record Follows (l now : Local) : Type 0 where
-  pub last : now.last ≡ l.last
-  pub ended : has_ended now.phase ≡ false → has_ended l.phase ≡ false
+pub record Follows (l : Local) (change : Change) : Type 0 where
+  pub last : change.now.last ≡ l.last
+  pub ended : has_ended change.now.phase ≡ false → has_ended l.phase ≡ false
+  pub waits : is_waiting change.now ≡ (if change.ends then false else is_waiting l)
+  pub stays_so : is_open l.phase ≡ true → is_waiting change.now ≡ true → change.now ≡ l
 
-itself : (l : Local) → Follows l l
-itself l = record { last = refl; ended = λ e. e }
+-- nothing is changed
+itself : (l : Local) (change : Change) → change.now ≡ l → change.ends ≡ false → Follows l change
+itself l change now ends = record {
+  last = ap (λ (x : Local). x.last) now;
+  ended = λ e. ap (λ (x : Local). has_ended x.phase) (sym now) ∙ e;
+  waits = ap is_waiting now ∙ ap (λ (b : Bool). if b then false else is_waiting l) (sym ends);
+  stays_so = λ open_here waiting. now;
+}
+
+-- where no slice waits
+not-both : (b : Bool) → b ≡ false → b ≡ true → ⊥
+not-both b e f = cc
 
 module _ (node : Node) (g : Gxid) (kept : List Kept) (fails : Bool) (l : Local) where
-  once-follows : (vote : Option Reply) (new : Change) → Follows l new.now → Follows l (once l vote new).now
-  once-follows None new f = f
-  once-follows (Some vote) new f = itself l
+  -- another record, of which no slice waits either
+  free-follows : is_waiting l ≡ false → (change : Change) → change.now.last ≡ l.last → (has_ended change.now.phase ≡ false → has_ended l.phase ≡ false) → change.now.suspended ≡ l.suspended → change.ends ≡ false → Follows l change
+  free-follows free change last ended same ends = record {
+    last = last;
+    ended = ended;
+    waits = ap (λ (o : Option Suspended). is_some o) same ∙ ap (λ (b : Bool). if b then false else is_waiting l) (sym ends);
+    stays_so = λ open_here waiting. absurd (not-both (is_waiting l) free (ap (λ (o : Option Suspended). is_some o) (sym same) ∙ waiting));
+  }
 
-  unless-follows : (b : Bool) → Follows l (if b then stays l else tells l l.vote).now
-  unless-follows true = itself l
-  unless-follows false = itself l
+  module _ (free : is_waiting l ≡ false) where
+    once-follows : (vote : Option Reply) (new : Change) → Follows l new → Follows l (once l vote new)
+    once-follows None new f = f
+    once-follows (Some vote) new f = itself l _ refl refl
 
-  promises-follows : has_ended l.phase ≡ false → (b : Bool) → Follows l (promises node g kept b l).now
-  promises-follows e true = record { last = refl; ended = λ f. f }
-  promises-follows e false = record { last = refl; ended = λ f. e }
+    unless-follows : (b : Bool) → Follows l (if b then stays l else tells l l.vote)
+    unless-follows true = itself l _ refl refl
+    unless-follows false = itself l _ refl refl
 
-  commits_now-follows : has_ended l.phase ≡ false → (b : Bool) → Follows l (commits_now node g kept b l).now
-  commits_now-follows e true = record { last = refl; ended = λ f. f }
-  commits_now-follows e false = record { last = refl; ended = λ f. e }
+    promises-follows : has_ended l.phase ≡ false → (b : Bool) → Follows l (promises node g kept b l)
+    promises-follows e true = free-follows free (promises node g kept true l) refl (λ f. f) refl refl
+    promises-follows e false = free-follows free (promises node g kept false l) refl (λ f. e) refl refl
 
-  finishes_now-follows : has_ended l.phase ≡ false → (b : Bool) → Follows l (finishes_now node g b l).now
-  finishes_now-follows e true = itself l
-  finishes_now-follows e false = record { last = refl; ended = λ f. e }
+    commits_now-follows : has_ended l.phase ≡ false → (b : Bool) → Follows l (commits_now node g kept b l)
+    commits_now-follows e true = free-follows free (commits_now node g kept true l) refl (λ f. f) refl refl
+    commits_now-follows e false = free-follows free (commits_now node g kept false l) refl (λ f. e) refl refl
 
-  prepares-follows : (p : Phase) → has_ended l.phase ≡ has_ended p → Follows l (prepares node g kept fails l p).now
-  prepares-follows Reading e = once-follows l.vote (promises node g kept fails l) (promises-follows e fails)
-  prepares-follows Writing e = once-follows l.vote (promises node g kept fails l) (promises-follows e fails)
-  prepares-follows Aborted e = itself l
-  prepares-follows Prepared e = itself l
-  prepares-follows Committed e = itself l
-  prepares-follows (Forgotten committed) e = itself l
+    prepares-follows : (p : Phase) → has_ended l.phase ≡ has_ended p → Follows l (prepares node g kept fails l p)
+    prepares-follows Reading e = once-follows l.vote (promises node g kept fails l) (promises-follows e fails)
+    prepares-follows Writing e = once-follows l.vote (promises node g kept fails l) (promises-follows e fails)
+    prepares-follows Aborted e = itself l _ refl refl
+    prepares-follows Prepared e = itself l _ refl refl
+    prepares-follows Committed e = itself l _ refl refl
+    prepares-follows (Forgotten committed) e = itself l _ refl refl
 
-  commits-follows : (p : Phase) → has_ended l.phase ≡ has_ended p → Follows l (commits node g kept fails l p).now
-  commits-follows Reading e = once-follows l.vote (commits_now node g kept fails l) (commits_now-follows e fails)
-  commits-follows Writing e = once-follows l.vote (commits_now node g kept fails l) (commits_now-follows e fails)
-  commits-follows Committed e = unless-follows (was_prepared l.vote)
-  commits-follows (Forgotten committed) e = unless-follows (was_prepared l.vote)
-  commits-follows Prepared e = itself l
-  commits-follows Aborted e = itself l
+    commits-follows : (p : Phase) → has_ended l.phase ≡ has_ended p → Follows l (commits node g kept fails l p)
+    commits-follows Reading e = once-follows l.vote (commits_now node g kept fails l) (commits_now-follows e fails)
+    commits-follows Writing e = once-follows l.vote (commits_now node g kept fails l) (commits_now-follows e fails)
+    commits-follows Committed e = unless-follows (was_prepared l.vote)
+    commits-follows (Forgotten committed) e = unless-follows (was_prepared l.vote)
+    commits-follows Prepared e = itself l _ refl refl
+    commits-follows Aborted e = itself l _ refl refl
 
-  finishes-follows : (p : Phase) → has_ended l.phase ≡ has_ended p → Follows l (finishes node g fails l p).now
+  -- PREPARE and COMMIT leave whoever waits
+  waiting-follows : (change : Change) (b : Bool) → is_waiting l ≡ b → (is_waiting l ≡ false → Follows l change) → Follows l (if b then stays l else change)
+  waiting-follows change true e f = itself l _ refl refl
+  waiting-follows change false e f = f e
+
+  -- COMMIT PREPARED is for who is prepared, and so isn't open
+  finishes_now-follows : l.phase ≡ Prepared → (b : Bool) → Follows l (finishes_now node g b l)
+  finishes_now-follows e true = itself l _ refl refl
+  finishes_now-follows e false = record {
+    last = refl;
+    ended = λ f. ap has_ended e;
+    waits = refl;
+    stays_so = λ open_here waiting. absurd (not-both (is_open l.phase) (ap is_open e) open_here);
+  }
+
+  finishes-follows : (p : Phase) → l.phase ≡ p → Follows l (finishes node g fails l p)
   finishes-follows Prepared e = finishes_now-follows e fails
-  finishes-follows Committed e = itself l
-  finishes-follows (Forgotten true) e = itself l
-  finishes-follows (Forgotten false) e = itself l
-  finishes-follows Reading e = itself l
-  finishes-follows Writing e = itself l
-  finishes-follows Aborted e = itself l
+  finishes-follows Committed e = itself l _ refl refl
+  finishes-follows (Forgotten true) e = itself l _ refl refl
+  finishes-follows (Forgotten false) e = itself l _ refl refl
+  finishes-follows Reading e = itself l _ refl refl
+  finishes-follows Writing e = itself l _ refl refl
+  finishes-follows Aborted e = itself l _ refl refl
 
-  ends : (now : Local) → now.last ≡ l.last → has_ended now.phase ≡ true → Follows l now
-  ends now last e = record { last = last; ended = λ f. absurd (differ (has_ended now.phase) e f) }
+  -- ABORT and FORGET end it
+  ends-follows : (p : Phase) (r : Reply) → has_ended p ≡ true → Follows l (ends_now l p r)
+  ends-follows p r e = record {
+    last = refl;
+    ended = λ f. absurd (not-both (has_ended p) f e);
+    waits = refl;
+    stays_so = λ open_here waiting. absurd (never waiting);
+  }
     where
-      differ : (b : Bool) → b ≡ true → b ≡ false → ⊥
-      differ b e f = cc
+      never : false ≡ true → ⊥
+      never e = cc
 
-  aborts-follows : (p : Phase) → Follows l (aborts l p).now
-  aborts-follows Reading = ends _ refl refl
-  aborts-follows Writing = ends _ refl refl
-  aborts-follows Prepared = ends _ refl refl
-  aborts-follows Aborted = itself l
-  aborts-follows Committed = itself l
-  aborts-follows (Forgotten committed) = itself l
+  aborts-follows : (p : Phase) → Follows l (aborts l p)
+  aborts-follows Reading = ends-follows Aborted answer.Aborted refl
+  aborts-follows Writing = ends-follows Aborted answer.Aborted refl
+  aborts-follows Prepared = ends-follows Aborted answer.Aborted refl
+  aborts-follows Aborted = itself l _ refl refl
+  aborts-follows Committed = itself l _ refl refl
+  aborts-follows (Forgotten committed) = itself l _ refl refl
 
-  forgets-follows : (p : Phase) → Follows l (forgets l p).now
-  forgets-follows Aborted = itself l
-  forgets-follows (Forgotten committed) = itself l
-  forgets-follows Reading = ends _ refl refl
-  forgets-follows Writing = ends _ refl refl
-  forgets-follows Prepared = ends _ refl refl
-  forgets-follows Committed = ends _ refl refl
+  forgets-follows : (p : Phase) → Follows l (forgets l p)
+  forgets-follows Aborted = itself l _ refl refl
+  forgets-follows (Forgotten committed) = itself l _ refl refl
+  forgets-follows Reading = ends-follows (Forgotten (has_committed l.phase)) answer.Forgotten refl
+  forgets-follows Writing = ends-follows (Forgotten (has_committed l.phase)) answer.Forgotten refl
+  forgets-follows Prepared = ends-follows (Forgotten (has_committed l.phase)) answer.Forgotten refl
+  forgets-follows Committed = ends-follows (Forgotten (has_committed l.phase)) answer.Forgotten refl
 
-pub follows-change_of : (o : Order) (node : Node) (g : Gxid) (kept : List Kept) (fails : Bool) (l : Local) → Follows l (change_of o node g kept fails l).now
-follows-change_of order.Prepare node g kept fails l = prepares-follows node g kept fails l l.phase refl
-follows-change_of order.Commit node g kept fails l = commits-follows node g kept fails l l.phase refl
+pub follows-change_of : (o : Order) (node : Node) (g : Gxid) (kept : List Kept) (fails : Bool) (l : Local) → Follows l (change_of o node g kept fails l)
+follows-change_of order.Prepare node g kept fails l = waiting-follows node g kept fails l _ (is_waiting l) refl (λ free. prepares-follows node g kept fails l free l.phase refl)
+follows-change_of order.Commit node g kept fails l = waiting-follows node g kept fails l _ (is_waiting l) refl (λ free. commits-follows node g kept fails l free l.phase refl)
 follows-change_of order.CommitPrepared node g kept fails l = finishes-follows node g kept fails l l.phase refl
 follows-change_of order.Abort node g kept fails l = aborts-follows node g kept fails l l.phase
 follows-change_of order.Forget node g kept fails l = forgets-follows node g kept fails l l.phase

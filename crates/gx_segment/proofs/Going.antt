@@ -7,16 +7,18 @@ use Rattle.gx_ids.specs.declared.ids.Gxid.{Gxid}
 use Rattle.gx_tree.specs.declared.schema.Schema.{Schema}
 use Rattle.gx_tree.specs.declared.slice.Slice.{Slice}
 use Rattle.gx_tree.specs.declared.slice.Slice.TheVariants as slice
+use Rattle.gx_tree.specs.declared.stmt.Level.{Level}
 use Rattle.gx_dsnap.specs.Gxids.{is_below}
 use Rattle.gx_dsnap.specs.declared.snapshot.Snapshot.{Snapshot}
 use Rattle.gx_node.specs.Right.{IsRightFor}
 use Rattle.gx_script.specs.declared.Script.{Script}
 use Rattle.gx_rules.specs.AtSegment.{if_fits, on_exec, raised, repeats}
-use Rattle.gx_rules.specs.Fits.{holds_locks, is_right_on, is_right_slice}
+use Rattle.gx_rules.specs.Fits.{holds_locks, is_right_on, is_right_slice, is_waiting}
 use Rattle.gx_rules.specs.Maps.{each_below}
 use Rattle.gx_rules.specs.Segments.{Local, Phase, Reading, Writing, Prepared, Committed, Forgotten, Aborted, Seg, SegTurn, local_of, stays}
-use Rattle.gx_slices.specs.Ran.{is_open}
+use Rattle.gx_slices.specs.Waiting.{AreWaits, is_open}
 use Rattle.gx_segment.specs.Ways.{Goes, IsWay, again_at, exec_turn, fits_here, turn_by, way_in, way_of}
+use Rattle.gx_segment.proofs.Raised.{AreWaits-raised}
 use Rattle.gx_segment.specs.declared.commands.Way.{Way}
 use Rattle.gx_segment.specs.declared.commands.Way.TheVariants.{Runs, Repeats, Nothing}
 
@@ -33,6 +35,10 @@ third true true c e = e
 third true false c e = absurd (cc)
 third false b c e = absurd (cc)
 
+second : (a b : Bool) → (a && b) ≡ true → b ≡ true
+second true b e = e
+second false b e = absurd (cc)
+
 first : (a b : Bool) → (a && b) ≡ true → a ≡ true
 first true b e = refl
 first false b e = e
@@ -41,46 +47,68 @@ module _ (script : Script) (s : Seg) (g : Gxid) (c : Cid) (h : Gxid) (sl : Slice
   abbrev l : Local
   l = local_of s g
 
-  abbrev after : Snapshot → Phase → SegTurn
-  after snapshot p = on_exec s g c (Some snapshot) h sl l p
+  abbrev unless_waits : Bool
+  unless_waits = not (nat_lt l.last c.0 && is_waiting l)
 
-  again-turn : (snapshot : Snapshot) (b : Bool) → eqb c.0 l.last ≡ b → repeats s g c l ≡ turn_by (if b then Repeats else Nothing) s g c (Some snapshot) h sl
-  again-turn snapshot true e = rw e refl
-  again-turn snapshot false e = rw e refl
+  abbrev after : Level → Snapshot → Phase → SegTurn
+  after level snapshot p = on_exec s g c level (Some snapshot) h sl l p
 
-  takes-turn : (snapshot : Snapshot) (b : Bool) → nat_lt l.last c.0 ≡ b → after snapshot Reading ≡ turn_by (if b then Runs else again_at l.last c) s g c (Some snapshot) h sl
-  takes-turn snapshot true e = rw e refl
-  takes-turn snapshot false e = rw e (again-turn snapshot (eqb c.0 l.last) refl)
+  again-turn : (level : Level) (snapshot : Snapshot) (b : Bool) → eqb c.0 l.last ≡ b → repeats s g c l ≡ turn_by (if b then Repeats else Nothing) s g c level (Some snapshot) h sl
+  again-turn level snapshot true e = rw e refl
+  again-turn level snapshot false e = rw e refl
 
-  way-turn : (snapshot : Snapshot) (p : Phase) → after snapshot p ≡ turn_by (way_in l.last c p) s g c (Some snapshot) h sl
-  way-turn snapshot Reading = takes-turn snapshot (nat_lt l.last c.0) refl
-  way-turn snapshot Writing = takes-turn snapshot (nat_lt l.last c.0) refl
-  way-turn snapshot Prepared = again-turn snapshot (eqb c.0 l.last) refl
-  way-turn snapshot Committed = again-turn snapshot (eqb c.0 l.last) refl
-  way-turn snapshot (Forgotten committed) = refl
-  way-turn snapshot Aborted = refl
+  takes-turn : (level : Level) (snapshot : Snapshot) (b : Bool) → nat_lt l.last c.0 ≡ b → after level snapshot Reading ≡ turn_by (if b then Runs else again_at l.last c) s g c level (Some snapshot) h sl
+  takes-turn level snapshot true e = rw e refl
+  takes-turn level snapshot false e = rw e (again-turn level snapshot (eqb c.0 l.last) refl)
+
+  way-turn : (level : Level) (snapshot : Snapshot) (p : Phase) → after level snapshot p ≡ turn_by (way_in l.last c p) s g c level (Some snapshot) h sl
+  way-turn level snapshot Reading = takes-turn level snapshot (nat_lt l.last c.0) refl
+  way-turn level snapshot Writing = takes-turn level snapshot (nat_lt l.last c.0) refl
+  way-turn level snapshot Prepared = again-turn level snapshot (eqb c.0 l.last) refl
+  way-turn level snapshot Committed = again-turn level snapshot (eqb c.0 l.last) refl
+  way-turn level snapshot (Forgotten committed) = refl
+  way-turn level snapshot Aborted = refl
 
   low-raised : s.horizon.0 ≤ g.0 → h.0 ≤ g.0 → (raised s h).horizon.0 ≤ g.0
   low-raised alive e = grind (arith, nat_tests)
 
   low : fits_here script s g c h sl ≡ true → h.0 ≤ g.0
-  low fits = let t : nat_le h.0 g.0 ≡ true = first (nat_le h.0 g.0) (each_below h.0 (λ n. not (holds_locks (s.locals n))) && is_right_slice script g c sl) fits in grind (arith, nat_tests)
+  low fits = let t : nat_le h.0 g.0 ≡ true = first (nat_le h.0 g.0) (each_below h.0 (λ n. not (holds_locks (s.locals n))) && (is_right_slice script g c sl && unless_waits)) fits in grind (arith, nat_tests)
 
   right : fits_here script s g c h sl ≡ true → IsRightFor script.tables g c sl true
-  right fits = λ other e. sym (third (nat_le h.0 g.0) (each_below h.0 (λ n. not (holds_locks (s.locals n)))) (is_right_slice script g c sl) fits) ∙ right-tables script other g c sl e
+  right fits = λ other e. sym (first (is_right_slice script g c sl) unless_waits (third (nat_le h.0 g.0) (each_below h.0 (λ n. not (holds_locks (s.locals n)))) (is_right_slice script g c sl && unless_waits) fits)) ∙ right-tables script other g c sl e
 
-  module _ (alive : s.horizon.0 ≤ g.0) (fits : fits_here script s g c h sl ≡ true) where
+  -- a new command's transaction waits for nothing
+  free : fits_here script s g c h sl ≡ true → nat_lt l.last c.0 ≡ true → is_waiting l ≡ false
+  free fits new = waits_not (nat_lt l.last c.0) (is_waiting l) new (second (is_right_slice script g c sl) unless_waits (third (nat_le h.0 g.0) (each_below h.0 (λ n. not (holds_locks (s.locals n)))) (is_right_slice script g c sl && unless_waits) fits))
+    where
+      waits_not : (a b : Bool) → a ≡ true → not (a && b) ≡ true → b ≡ false
+      waits_not true true e f = absurd (cc)
+      waits_not true false e f = refl
+      waits_not false b e f = absurd (cc)
+
+  nobody_below : fits_here script s g c h sl ≡ true → each_below h.0 (λ n. not (holds_locks (s.locals n))) ≡ true
+  nobody_below fits = first (each_below h.0 (λ n. not (holds_locks (s.locals n)))) (is_right_slice script g c sl && unless_waits) (second (nat_le h.0 g.0) (each_below h.0 (λ n. not (holds_locks (s.locals n))) && (is_right_slice script g c sl && unless_waits)) fits)
+
+  module _ (alive : s.horizon.0 ≤ g.0) (waits : AreWaits script.tables s) (fits : fits_here script s g c h sl ≡ true) where
     again-goes : (b : Bool) → Goes script s g c h sl (if b then Repeats else Nothing)
     again-goes true = alive
     again-goes false = tt
 
-    takes-goes : is_open l.phase ≡ true → (b : Bool) → Goes script s g c h sl (if b then Runs else again_at l.last c)
-    takes-goes is true = record { alive = low-raised alive (low fits); open_here = is; right = right fits }
-    takes-goes is false = again-goes (eqb c.0 l.last)
+    first_is_new : nat_lt l.last c.0 ≡ true → nat_lt 0 c.0 ≡ true
+    first_is_new e = grind (arith, nat_tests)
+
+    takes-goes : is_open l.phase ≡ true → (b : Bool) → nat_lt l.last c.0 ≡ b → Goes script s g c h sl (if b then Runs else again_at l.last c)
+    takes-goes is true e = record {
+      may = record { alive = low-raised alive (low fits); open_here = is; free = free fits e; right = right fits };
+      new = first_is_new e;
+      waits = AreWaits-raised script.tables s h waits (nobody_below fits);
+    }
+    takes-goes is false e = again-goes (eqb c.0 l.last)
 
     way-goes : (p : Phase) → is_open l.phase ≡ is_open p → Goes script s g c h sl (way_in l.last c p)
-    way-goes Reading e = takes-goes e (nat_lt l.last c.0)
-    way-goes Writing e = takes-goes e (nat_lt l.last c.0)
+    way-goes Reading e = takes-goes e (nat_lt l.last c.0) refl
+    way-goes Writing e = takes-goes e (nat_lt l.last c.0) refl
     way-goes Prepared e = again-goes (eqb c.0 l.last)
     way-goes Committed e = again-goes (eqb c.0 l.last)
     way-goes (Forgotten committed) e = tt
@@ -89,13 +117,14 @@ module _ (script : Script) (s : Seg) (g : Gxid) (c : Cid) (h : Gxid) (sl : Slice
   not_below : s.horizon.0 ≤ g.0 → is_below s.horizon g ≡ false
   not_below alive = grind (arith, nat_tests)
 
-  past : (snapshot : Snapshot) → is_below s.horizon g ≡ false → (b : Bool) → fits_here script s g c h sl ≡ b → exec_turn script s g c (Some snapshot) h sl ≡ if_fits s b (after snapshot l.phase)
-  past snapshot e b f =
-      ap (λ (x : Bool). if x then stays s else if_fits s (fits_here script s g c h sl) (after snapshot l.phase)) e ∙ ap (λ (x : Bool). if_fits s x (after snapshot l.phase)) f
+  past : (level : Level) (snapshot : Snapshot) → is_below s.horizon g ≡ false → (b : Bool) → fits_here script s g c h sl ≡ b → exec_turn script s g c level (Some snapshot) h sl ≡ if_fits s b (after level snapshot l.phase)
+  past level snapshot e b f =
+      ap (λ (x : Bool). if x then stays s else if_fits s (fits_here script s g c h sl) (after level snapshot l.phase)) e
+      ∙ ap (λ (x : Bool). if_fits s x (after level snapshot l.phase)) f
 
   -- it goes by the transaction's record
-  pub way-held : s.horizon.0 ≤ g.0 → fits_here script s g c h sl ≡ true → (way : Way) → way ≡ way_of l c → IsWay script s g c h sl way
-  way-held alive fits way e = subst (IsWay script s g c h sl) (sym e) (record {
-    turn = λ snapshot. past snapshot (not_below alive) true fits ∙ way-turn snapshot l.phase;
-    goes = way-goes alive fits l.phase refl;
+  pub way-held : s.horizon.0 ≤ g.0 → AreWaits script.tables s → fits_here script s g c h sl ≡ true → (way : Way) → way ≡ way_of l c → IsWay script s g c h sl way
+  way-held alive waits fits way e = subst (IsWay script s g c h sl) (sym e) (record {
+    turn = λ level snapshot. past level snapshot (not_below alive) true fits ∙ way-turn level snapshot l.phase;
+    goes = way-goes alive waits fits l.phase refl;
   })

@@ -34,6 +34,11 @@ held-sends tables held s sent clock is = record {
   wrote = is.wrote;
   committed = is.committed;
   typed = is.typed;
+  locks = is.locks;
+  waits = record {
+    standing = is.waits.standing;
+    right = λ g w e. let right = is.waits.right g w e in record { alive = right.alive; open_here = right.open_here; came = right.came; right = right.right };
+  };
 }
 
 module _ (was : Before) (event : NodeEvent) (now : Held) (low : Gxid) (sent sent' clock clock' : ℕ) (before after : Shelf) (done : Done) (out : NodeOut) where

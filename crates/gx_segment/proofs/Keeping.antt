@@ -9,11 +9,15 @@ use Rattle.gx_tree.specs.declared.query.Query.{Query}
 use Rattle.gx_tree.specs.declared.row.KeyedRow.{KeyedRow}
 use Rattle.gx_tree.specs.declared.slice.Slice.{Slice}
 use Rattle.gx_tree.specs.declared.slice.Slice.TheVariants as slice
+use Rattle.gx_tree.specs.declared.stmt.Level.{Level}
 use Rattle.gx_dsnap.specs.Gxids.{is_below}
 use Rattle.gx_dsnap.specs.declared.snapshot.Snapshot.{Snapshot}
 use Rattle.gx_dtx.specs.declared.order.Order.{Order}
 use Rattle.gx_dtx.specs.declared.order.Order.TheVariants as order
 use Rattle.gx_meaning.specs.declared.fault.ArithFault.{ArithFault}
+use Rattle.gx_waits.specs.declared.claim.Claim.{Claim}
+use Rattle.gx_locks.specs.Locks.{is_free, resumed, wait_of}
+use Rattle.gx_rules.specs.Locks.{with_hold}
 use Rattle.gx_msg.specs.declared.message.Message.{Message}
 use Rattle.gx_msg.specs.declared.message.Message.TheVariants as message
 use Rattle.gx_msg.specs.declared.reply.Reply.{Reply}
@@ -22,11 +26,11 @@ use Rattle.gx_node.proofs.Turns.{turn-makes}
 use Rattle.gx_script.specs.declared.Script.{Script}
 use Rattle.gx_store.specs.declared.node.NodeEvent.{NodeEvent}
 use Rattle.gx_store.specs.declared.node.NodeEvent.TheVariants as node
-use Rattle.gx_rules.specs.AtSegment.{if_fits, on_event, on_exec, on_message, raised, repeats, unless_below}
+use Rattle.gx_rules.specs.AtSegment.{if_fits, on_event, on_exec, on_message, raised, repeats, resumes, unless_below}
 use Rattle.gx_rules.specs.Fits.{fits_exec}
-use Rattle.gx_rules.specs.Segments.{Local, Phase, Reading, Writing, Prepared, Committed, Forgotten, Aborted, Seg, SegTurn, local_of, stays, tells_kept}
+use Rattle.gx_rules.specs.Segments.{Local, Phase, Reading, Writing, Prepared, Committed, Forgotten, Aborted, Seg, SegTurn, Suspended, local_of, stays, tells_kept, with_local}
 use Rattle.gx_rules.specs.Shown.{shown}
-use Rattle.gx_rules.specs.Slices.{Moved, first_fault, inserts_row, runs_slice, selects}
+use Rattle.gx_rules.specs.Slices.{Moved, first_fault, inserts_row, requests, runs_locked, runs_slice, selects, slice_lock, starts_slice, suspends}
 
 pub record Keeps (s now : Seg) : Type 0 where
   pub node : now.node ≡ s.node
@@ -72,26 +76,44 @@ slice-stands s g c None sl = record { node = refl; sent = refl; horizon = refl }
 pub horizon-runs_slice : (s : Seg) (g : Gxid) (c : Cid) (snapshot : Option Snapshot) (sl : Slice) → (runs_slice s g c snapshot sl).seg.horizon ≡ s.horizon
 horizon-runs_slice s g c snapshot sl = (slice-stands s g c snapshot sl).horizon
 
+-- with the table's lock, or without it
+wanted-stands : (s : Seg) (g : Gxid) (c : Cid) (level : Level) (snapshot : Option Snapshot) (sl : Slice) (wanted : Claim) (b : Bool) → Stands s (if b then runs_locked s g c snapshot sl wanted else suspends s g c level snapshot sl wanted).seg
+wanted-stands s g c level snapshot sl wanted true =
+    let more = slice-stands (record s { locks = with_hold s.locks wanted }) g c snapshot sl in record { node = more.node; sent = more.sent; horizon = more.horizon }
+wanted-stands s g c level snapshot sl wanted false = record { node = refl; sent = refl; horizon = refl }
+
+requests-stand : (s : Seg) (g : Gxid) (c : Cid) (level : Level) (snapshot : Option Snapshot) (sl : Slice) (wanted : Option Claim) → Stands s (requests s g c level snapshot sl wanted).seg
+requests-stand s g c level snapshot sl None = slice-stands s g c snapshot sl
+requests-stand s g c level snapshot sl (Some wanted) = wanted-stands s g c level snapshot sl wanted (is_free s.locks.holds wanted)
+
+resumes-stand : (s : Seg) (g : Gxid) (wait : Option Claim) (waiting : Option Suspended) → Stands s (resumes s g wait waiting).seg
+resumes-stand s g None waiting = record { node = refl; sent = refl; horizon = refl }
+resumes-stand s g (Some wait) None = record { node = refl; sent = refl; horizon = refl }
+resumes-stand s g (Some wait) (Some waiting) =
+    let free = record (with_local s g (record (local_of s g) { suspended = None })) { locks = resumed s.locks g (Some wait) } in
+    let more = slice-stands free g waiting.cid waiting.snapshot waiting.slice in
+    record { node = more.node; sent = more.sent; horizon = more.horizon }
+
 -- EXEC
-raised-rises : (s : Seg) (h : Gxid) → s.horizon.0 ≤ (raised s h).horizon.0
+pub raised-rises : (s : Seg) (h : Gxid) → s.horizon.0 ≤ (raised s h).horizon.0
 raised-rises s h = by_test (is_below h s.horizon) refl
   where
     by_test : (b : Bool) → is_below h s.horizon ≡ b → s.horizon.0 ≤ (let z : Gxid = if b then h else s.horizon in z).0
     by_test true e = grind (arith, nat_tests)
     by_test false e = omega arith
 
-module _ (s : Seg) (g : Gxid) (c : Cid) (snapshot : Option Snapshot) (h : Gxid) (sl : Slice) (l : Local) where
+module _ (s : Seg) (g : Gxid) (c : Cid) (level : Level) (snapshot : Option Snapshot) (h : Gxid) (sl : Slice) (l : Local) where
   repeats-keeps : (b : Bool) → Keeps s (if b then tells_kept s g l.answer else stays s).seg
   repeats-keeps true = kept-keeps s g l.answer
   repeats-keeps false = itself s
 
-  takes-keeps : (b : Bool) → Keeps s (if b then runs_slice (raised s h) g c snapshot sl else repeats s g c l).seg
+  takes-keeps : (b : Bool) → Keeps s (if b then starts_slice (raised s h) g c level snapshot sl else repeats s g c l).seg
   takes-keeps true =
-      let stand = slice-stands (raised s h) g c snapshot sl in
+      let stand = requests-stand (raised s h) g c level snapshot sl (slice_lock g sl) in
       record { node = stand.node; sent = stand.sent; rises = subst (λ (x : Gxid). s.horizon.0 ≤ x.0) (sym stand.horizon) (raised-rises s h) }
   takes-keeps false = repeats-keeps (eqb c.0 l.last)
 
-  exec-keeps : (p : Phase) → Keeps s (on_exec s g c snapshot h sl l p).seg
+  exec-keeps : (p : Phase) → Keeps s (on_exec s g c level snapshot h sl l p).seg
   exec-keeps Reading = takes-keeps (nat_lt l.last c.0)
   exec-keeps Writing = takes-keeps (nat_lt l.last c.0)
   exec-keeps Prepared = repeats-keeps (eqb c.0 l.last)
@@ -119,7 +141,7 @@ order-keeps o s g fails =
 
 message-keeps : (script : Script) (s : Seg) (fails : Bool) (m : Message) → Keeps s (on_message script s fails m).seg
 message-keeps script s fails (message.Exec g c level snapshot h sl) =
-    below-keeps s _ (is_below s.horizon g) (fits-keeps s _ (fits_exec script s g c snapshot h sl) (exec-keeps s g c snapshot h sl (local_of s g) (local_of s g).phase))
+    below-keeps s _ (is_below s.horizon g) (fits-keeps s _ (fits_exec script s g c snapshot h sl) (exec-keeps s g c level snapshot h sl (local_of s g) (local_of s g).phase))
 message-keeps script s fails (message.Prepare g) = order-keeps order.Prepare s g fails
 message-keeps script s fails (message.Commit g) = order-keeps order.Commit s g fails
 message-keeps script s fails (message.CommitPrepared g) = order-keeps order.CommitPrepared s g fails
@@ -131,7 +153,9 @@ message-keeps script s fails (message.Graph round graph) = itself s
 
 pub event-keeps : (script : Script) (s : Seg) (e : NodeEvent) (fails : Bool) → Keeps s (on_event script s e fails).seg
 event-keeps script s (node.Deliver from envelope) fails = message-keeps script s fails envelope.message
-event-keeps script s (node.Resume g) fails = itself s
+event-keeps script s (node.Resume g) fails =
+    let stand = resumes-stand s g (wait_of s.locks g) (local_of s g).suspended in
+    record { node = stand.node; sent = stand.sent; rises = same-rises s (resumes s g (wait_of s.locks g) (local_of s g).suspended).seg stand.horizon }
 event-keeps script s (node.Start n) fails = itself s
 event-keeps script s (node.End n) fails = itself s
 event-keeps script s (node.Resend i g) fails = itself s

@@ -6,6 +6,8 @@ pub mod Going
 pub mod Gone
 pub mod Gxids
 pub mod Keeping
+pub mod Locked
 pub mod Moving
 pub mod Obeying
+pub mod Raised
 pub mod Sent

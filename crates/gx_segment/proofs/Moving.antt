@@ -1,20 +1,26 @@
 -- What is held after an order was taken.
-use Rattle.std.proofs.Common.{◌≡◌, ℕ, ◌<◌, ◌≤◌, Bool, true, false, if◌then◌else◌, Option, Some, None, List, map, refl, sym, ap, ◌∙◌, subst, eqb, arith}
+use Rattle.std.proofs.Common.{◌≡◌, ◌≢◌, ℕ, ◌<◌, ◌≤◌, Bool, true, false, if◌then◌else◌, Option, Some, None, List, map, refl, sym, ap, ◌∙◌, subst, eqb, arith}
 use Rattle.std.proofs.lemmas.Bool.Decides.{nat_tests}
 use Rattle.std.specs.BTreeSet.{contains}
+use Rattle.std.specs.List.{list_any}
 use Rattle.std.specs.Prelude.{◌&&◌, not, nat_lt, is_some, option_map, filter, All, IsTrue}
 use Rattle.gx_ids.specs.declared.ids.Gxid.{Gxid}
 use Rattle.gx_tree.specs.declared.schema.Schema.{Schema}
 use Rattle.gx_dsnap.specs.Gxids.{gxid_cmp}
 use Rattle.gx_slices.specs.Store.{kept_at, passes, status_of}
-use Rattle.gx_node.specs.Changes.{Change, Makes}
+use Rattle.gx_locks.specs.Claims.{is_of}
+use Rattle.gx_locks.specs.Locks.{Locks}
+use Rattle.gx_node.specs.Changes.{Change, Makes, left_locks}
 use Rattle.gx_node.specs.declared.local.Taken.{Taken}
-use Rattle.gx_rules.specs.Fits.{holds_locks}
-use Rattle.gx_rules.specs.Segments.{Local, Phase, Reading, Writing, Prepared, Committed, Forgotten, Aborted, Seg, SegTurn, Version, has_committed, has_ended}
+use Rattle.gx_rules.specs.Fits.{holds_locks, is_waiting}
+use Rattle.gx_rules.specs.Segments.{Local, Phase, Reading, Writing, Prepared, Committed, Forgotten, Aborted, Seg, SegTurn, Suspended, Version, has_committed, has_ended}
 use Rattle.gx_rules.specs.Shown.{last_images}
 use Rattle.gx_store.specs.Marks.{is_same_gxid}
 use Rattle.gx_slices.specs.Agrees.{IsHeld, entry_at, has_version, is_of_row, is_right_version, local_in, write_of}
+use Rattle.gx_slices.specs.Waiting.{AreWaits, IsRightWait, is_open}
 use Rattle.gx_slices.specs.declared.held.Held.{Held}
+use Rattle.gx_slices.proofs.Gxids.{itself}
+use Rattle.gx_slices.proofs.Waiting.{AreWaits-one, waits-others, waits-without}
 use Rattle.gx_rows.specs.Counts.{is_committed}
 use Rattle.gx_rows.specs.declared.status.LocalStatus.{LocalStatus}
 use Rattle.gx_segment.specs.Moves.{HasMoved, status_in}
@@ -84,7 +90,7 @@ module _ (tables : List Schema) (held held' : Held) (s : Seg) (g : Gxid) (change
   committed-moved h false e =
       ap (passes is_committed) (moved.statuses h (apart g h e)) ∙ was.committed h ∙ ap (λ (l : Local). has_version s h && has_committed l.phase) (sym (others h e))
 
-  holders-moved : Follows (s.locals g.0) change.now → (h : Gxid) (b : Bool) → eqb h.0 g.0 ≡ b → contains gxid_cmp held'.holders h ≡ holds_locks (now.locals h.0)
+  holders-moved : Follows (s.locals g.0) change → (h : Gxid) (b : Bool) → eqb h.0 g.0 ≡ b → contains gxid_cmp held'.holders h ≡ holds_locks (now.locals h.0)
   holders-moved follows h true e =
       moved.holders h
       ∙ ap (λ (b : Bool). if has_ended change.now.phase && b then false else contains gxid_cmp held.holders h) e
@@ -102,8 +108,58 @@ module _ (tables : List Schema) (held held' : Held) (s : Seg) (g : Gxid) (change
       stays true b = refl
       stays false b = refl
 
-  pub IsHeld-moved : Follows (s.locals g.0) change.now → IsHeld tables held' turn.seg
-  IsHeld-moved follows = record {
+  -- THOSE WHO WAIT
+  own : now.locals g.0 ≡ change.now
+  own = its g (itself g.0)
+
+  left-waits : (h : Gxid) → h.0 ≢ g.0 → (b : Bool) → change.ends ≡ b → list_any (is_of h) now.locks.waits ≡ list_any (is_of h) s.locks.waits
+  left-waits h other b e = ap (λ (x : Locks). list_any (is_of h) x.waits) (makes.locks ∙ ap (λ (a : Bool). left_locks a s.locks g) e) ∙ either b
+    where
+      either : (a : Bool) → list_any (is_of h) (left_locks a s.locks g).waits ≡ list_any (is_of h) s.locks.waits
+      either true = waits-others g h s.locks.waits other
+      either false = refl
+
+  own-waits : Follows (s.locals g.0) change → list_any (is_of g) now.locks.waits ≡ is_waiting (now.locals g.0)
+  own-waits follows = ap (λ (x : Locks). list_any (is_of g) x.waits) makes.locks ∙ either change.ends ∙ sym follows.waits ∙ ap is_waiting (sym own)
+    where
+      either : (a : Bool) → list_any (is_of g) (left_locks a s.locks g).waits ≡ (if a then false else is_waiting (s.locals g.0))
+      either true = waits-without g s.locks.waits
+      either false = was.waits.standing g
+
+  still-right : Follows (s.locals g.0) change → (w : Suspended) → (now.locals g.0).suspended ≡ Some w → IsRightWait tables now g w
+  still-right follows w e = by_old (s.locals g.0).suspended refl
+    where
+      waiting : is_waiting change.now ≡ true
+      waiting = ap (λ (l : Local). is_some l.suspended) (sym own) ∙ ap (λ (o : Option Suspended). is_some o) e
+
+      was_waiting : (a b : Bool) → true ≡ (if a then false else b) → b ≡ true
+      was_waiting true b f = absurd (cc)
+      was_waiting false b f = sym f
+
+      by_old : (o : Option Suspended) → (s.locals g.0).suspended ≡ o → IsRightWait tables now g w
+      by_old None f = absurd (not_none (ap (λ (x : Option Suspended). is_some x) (sym f) ∙ was_waiting change.ends (is_waiting (s.locals g.0)) (sym waiting ∙ follows.waits)))
+        where
+          not_none : false ≡ true → ⊥
+          not_none e = cc
+      by_old (Some v) f =
+          let same : now.locals g.0 ≡ s.locals g.0 = own ∙ follows.stays_so (was.waits.right g v f).open_here waiting in
+          let right = was.waits.right g w (ap (λ (l : Local). l.suspended) (sym same) ∙ e) in
+          record {
+            alive = subst (λ (x : Gxid). x.0 ≤ g.0) (sym horizon) right.alive;
+            open_here = ap (λ (l : Local). is_open l.phase) same ∙ right.open_here;
+            came = ap (λ (l : Local). nat_lt 0 l.last) same ∙ right.came;
+            right = right.right;
+          }
+
+  waits-moved : Follows (s.locals g.0) change → AreWaits tables now
+  waits-moved follows =
+      AreWaits-one tables s now g was.waits horizon (λ h other. others h (not_same h other)) (λ h other. left-waits h other change.ends refl) (own-waits follows) (still-right follows)
+    where
+      not_same : (h : Gxid) → h.0 ≢ g.0 → eqb h.0 g.0 ≡ false
+      not_same h other = grind (arith, nat_tests, other)
+
+  pub IsHeld-moved : Follows (s.locals g.0) change → (locks : Locks) → locks ≡ left_locks change.ends held'.locks g → IsHeld tables (record held' { locks = locks }) turn.seg
+  IsHeld-moved follows locks left = record {
     horizon = moved.horizon ∙ was.horizon ∙ sym horizon;
     locals = λ h up. locals-moved h (high h up) (eqb h.0 g.0) refl;
     kept = λ h up. moved.rows h ∙ was.kept h (high h up) ∙ ap (λ (vs : List Version). last_images (filter (λ v. is_same_gxid v.gxid h) vs)) (sym versions);
@@ -114,4 +170,6 @@ module _ (tables : List Schema) (held held' : Held) (s : Seg) (g : Gxid) (change
     wrote = λ h. wrote-moved h (eqb h.0 g.0) refl ∙ was.wrote h ∙ ap (λ (x : Seg). has_version x h) (sym makes.others);
     committed = λ h. committed-moved h (eqb h.0 g.0) refl ∙ ap (λ (b : Bool). b && has_committed (now.locals h.0).phase) (ap (λ (x : Seg). has_version x h) (sym makes.others));
     typed = subst (λ (vs : List Version). All (λ v. IsTrue (is_right_version tables v)) vs) (sym versions) was.typed;
+    locks = left ∙ ap (λ (x : Locks). left_locks change.ends x g) (moved.locks ∙ was.locks) ∙ sym makes.locks;
+    waits = waits-moved follows;
   }

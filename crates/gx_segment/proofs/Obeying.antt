@@ -34,7 +34,7 @@ module _ (m n o : BTreeMap Gxid Entry) (g : Gxid) (e : Entry) (away : Updates gx
 
 module _ (old : Held) (n o : BTreeMap Gxid Entry) (store : Store) (holders : BTreeSet Gxid) (node : Node) (g : Gxid) (order : Order) (e e' : Entry) (status : LocalStatus) (taken : Taken) where
   abbrev new : Held
-  new = record { store = store; entries = o; holders = holders }
+  new = record { store = store; entries = o; holders = holders; locks = old.locks }
 
   abbrev made : List Kept → rule.Local → Change
   made rows l = change_of order node g rows taken.fails l
@@ -50,6 +50,7 @@ module _ (old : Held) (n o : BTreeMap Gxid Entry) (store : Store) (holders : BTr
       record {
         horizon = horizon;
         tables = tables;
+        locks = refl;
         status = set ∙ ap (λ (s : LocalStatus). option_map (λ _. s) (status_of old.store g)) (status_is ∙ ap status_in phase);
         statuses = others;
         local = ap local_in (there old.entries n o g e' away back) ∙ now;
@@ -58,4 +59,5 @@ module _ (old : Held) (n o : BTreeMap Gxid Entry) (store : Store) (holders : BTr
         holders = λ h. left h ∙ ap (λ (p : rule.Phase). if has_ended p && eqb h.0 g.0 then false else contains gxid_cmp old.holders h) phase;
         mark = does.mark ∙ ap (λ (c : Change). c.mark) same;
         reply = does.reply ∙ ap (λ (c : Change). c.reply) same;
+        ends = does.ends ∙ ap (λ (c : Change). c.ends) same;
       }

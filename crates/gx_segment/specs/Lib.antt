@@ -3,3 +3,4 @@ pub mod Done
 pub mod Moves
 pub mod Steps
 pub mod Ways
+pub mod Waking

@@ -32,6 +32,7 @@ status_in Aborted = status.Aborted
 pub record HasMoved (old new : Held) (g : Gxid) (change : Change) (taken : Taken) : Type 0 where
   pub horizon : new.store.horizon ≡ old.store.horizon
   pub tables : new.store.tables ≡ old.store.tables
+  pub locks : new.locks ≡ old.locks
   pub status : status_of new.store g ≡ option_map (λ _. status_in change.now.phase) (status_of old.store g)
   pub statuses : (h : Gxid) → h.0 ≢ g.0 → status_of new.store h ≡ status_of old.store h
   pub local : local_in (entry_at new g) ≡ change.now
@@ -40,3 +41,4 @@ pub record HasMoved (old new : Held) (g : Gxid) (change : Change) (taken : Taken
   pub holders : (h : Gxid) → contains gxid_cmp new.holders h ≡ (if has_ended change.now.phase && (h.0 == g.0) then false else contains gxid_cmp old.holders h)
   pub mark : taken.mark ≡ change.mark
   pub reply : taken.reply ≡ change.reply
+  pub ends : taken.ends ≡ change.ends

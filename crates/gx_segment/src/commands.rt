@@ -1,9 +1,10 @@
 // What becomes of a command that comes.
-ghost use Rattle.std.specs.Prelude.{◌≡◌, not};
+ghost use Rattle.std.specs.Prelude.{◌≡◌, ◌≤◌, ◌&&◌, nat_lt, not};
 ghost use Rattle.std.specs.BTreeMap.{get};
 ghost use Rattle.std.specs.BTreeSet.{contains};
 ghost use Rattle.gx_dsnap.specs.Gxids.{gxid_cmp};
 ghost use Rattle.gx_node.specs.Phases.{local_of};
+ghost use Rattle.gx_rules.specs.Fits.{is_waiting};
 ghost use Rattle.gx_rules.specs.Maps.{each_below};
 ghost use Rattle.gx_slices.specs.Agrees.{IsHeld, local_in};
 ghost use Rattle.gx_segment.specs.Before.{Before};
@@ -55,11 +56,29 @@ fn fits(script: &Script, held: &Held, gxid: Gxid, cid: Cid, low: Gxid, slice: &S
     ghost was: { Before }
     requires script { script.now ≡ was.script }
     requires held { IsHeld was.script.tables held.now was.seg }
+    requires alive { was.seg.horizon.0 ≤ gxid.0 }
     ensures { result ≡ fits_here was.script was.seg gxid cid low slice.now }
 {
     low <= gxid
         && is_none_below(&held.holders, low)
         && is_right_slice(script.tables.as_slice(), gxid, cid, slice)
+        && waits_not(&held.entries, gxid, cid)
+}
+
+// The command isn't new, or no slice of its transaction waits.
+fn waits_not(entries: &Entries, gxid: Gxid, cid: Cid) -> bool
+    ensures { result ≡ not (nat_lt (local_in (get gxid_cmp entries.now gxid)).last cid.0 && is_waiting (local_in (get gxid_cmp entries.now gxid))) }
+{
+    match entries.get(&gxid) {
+        Some(entry) => is_free_for(&entry.local, cid),
+        None => is_free_for(&Local::new(), cid),
+    }
+}
+
+fn is_free_for(local: &Local, cid: Cid) -> bool
+    ensures { result ≡ not (nat_lt (local_of local.now).last cid.0 && is_waiting (local_of local.now)) }
+{
+    !(local.last < cid.0 && local.is_waiting())
 }
 
 // Nobody below a gxid is in the set.

@@ -6,23 +6,24 @@ ghost use Rattle.gx_dsnap.specs.Gxids.{gxid_cmp};
 ghost use Rattle.gx_slices.specs.Store.{greater};
 ghost use Rattle.gx_rules.specs.AtSegment.{raised};
 ghost use Rattle.gx_rules.specs.Segments.{local_of, tells_kept};
-ghost use Rattle.gx_rules.specs.Slices.{runs_slice};
+ghost use Rattle.gx_rules.specs.Slices.{starts_slice};
 ghost use Rattle.gx_slices.specs.Agrees.{IsHeld};
-ghost use Rattle.gx_slices.specs.Ran.{MayRun};
 ghost use Rattle.gx_segment.specs.Before.{Before};
-ghost use Rattle.gx_segment.specs.Done.{HasDone, IsQuiet, answer_of};
-ghost use Rattle.gx_segment.specs.Ways.{exec_turn};
+ghost use Rattle.gx_segment.specs.Done.{HasDone, IsQuiet};
+ghost use Rattle.gx_segment.specs.Ways.{MayStart, exec_turn};
 
 use crate::commands::{Way, find_way};
-use crate::done::{Done, answer, nothing, tell};
+use crate::done::{Done, nothing, tell};
 use crate::entries::kept_answer;
+use crate::starting::start;
 use gx_dsnap::Snapshot;
 use gx_ids::{Cid, Gxid, Mem, Node};
-use gx_outside::{Gate, pass};
+use gx_node::Suspended;
+use gx_outside::Gate;
 use gx_rows::drop_below;
 use gx_script::Script;
-use gx_slices::{Held, Ran, run_slice};
-use gx_tree::Slice;
+use gx_slices::Held;
+use gx_tree::{Level, Slice};
 use std::alloc::Global;
 
 // Takes a command's part for this segment.
@@ -34,6 +35,7 @@ pub(crate) fn exec<G: Gate>(
     horizon: &mut Gxid,
     gxid: Gxid,
     cid: Cid,
+    level: Level,
     snapshot: Option<Snapshot>,
     low: Gxid,
     slice: Slice,
@@ -44,14 +46,18 @@ pub(crate) fn exec<G: Gate>(
     requires held { IsHeld was.script.tables held.old was.seg }
     requires horizon { horizon.old ≡ was.seg.horizon }
     requires node { node ≡ was.seg.node }
-    ensures done { IfOk result (λ done. HasDone was.script.tables held.new horizon.new done (exec_turn was.script was.seg gxid cid snapshot low slice)) }
-    ensures quiet { IfOk result (λ done. IsQuiet done (exec_turn was.script was.seg gxid cid snapshot low slice)) }
+    ensures done { IfOk result (λ done. HasDone was.script.tables held.new horizon.new done (exec_turn was.script was.seg gxid cid level snapshot low slice)) }
+    ensures quiet { IfOk result (λ done. IsQuiet done (exec_turn was.script was.seg gxid cid level snapshot low slice)) }
 {
     match snapshot {
         Some(snapshot) => {
-            exec_by(
-                alloc, node, script, held, horizon, gxid, cid, snapshot, low, slice, gate,
-            )
+            let command = Suspended {
+                cid,
+                level,
+                snapshot,
+                slice,
+            };
+            exec_by(alloc, node, script, held, horizon, gxid, command, low, gate)
         }
         None => Ok(leave(alloc, slice)),
     }
@@ -74,10 +80,8 @@ fn exec_by<G: Gate>(
     held: &mut Held,
     horizon: &mut Gxid,
     gxid: Gxid,
-    cid: Cid,
-    snapshot: Snapshot,
+    command: Suspended,
     low: Gxid,
-    slice: Slice,
     gate: &G,
 ) -> Mem<Done>
     ghost was: { Before }
@@ -85,20 +89,24 @@ fn exec_by<G: Gate>(
     requires held { IsHeld was.script.tables held.old was.seg }
     requires horizon { horizon.old ≡ was.seg.horizon }
     requires node { node ≡ was.seg.node }
-    ensures done { IfOk result (λ done. HasDone was.script.tables held.new horizon.new done (exec_turn was.script was.seg gxid cid (Some snapshot) low slice)) }
-    ensures quiet { IfOk result (λ done. IsQuiet done (exec_turn was.script was.seg gxid cid (Some snapshot) low slice)) }
+    ensures done { IfOk result (λ done. HasDone was.script.tables held.new horizon.new done (exec_turn was.script was.seg gxid command.cid command.level (Some command.snapshot) low command.slice)) }
+    ensures quiet { IfOk result (λ done. IsQuiet done (exec_turn was.script was.seg gxid command.cid command.level (Some command.snapshot) low command.slice)) }
 {
-    match find_way(script, held, *horizon, gxid, cid, low, &slice) {
-        Way::Runs => {
-            run(
-                alloc, node, script, held, horizon, gxid, cid, snapshot, low, slice, gate,
-            )
-        }
+    match find_way(
+        script,
+        held,
+        *horizon,
+        gxid,
+        command.cid,
+        low,
+        &command.slice,
+    ) {
+        Way::Runs => run(alloc, node, script, held, horizon, gxid, command, low, gate),
         Way::Repeats => {
-            let_go(slice);
+            let_go(command.slice);
             repeat(alloc, held, gxid)
         }
-        Way::Nothing => Ok(leave(alloc, slice)),
+        Way::Nothing => Ok(leave(alloc, command.slice)),
     }
 }
 
@@ -114,7 +122,7 @@ fn repeat(alloc: Global, held: &Held, gxid: Gxid) -> Mem<Done>
     Ok(tell(alloc, gxid, kept))
 }
 
-// Raises the horizon, and does the slice.
+// Raises the horizon, and starts the slice.
 fn run<G: Gate>(
     alloc: Global,
     node: Node,
@@ -122,36 +130,22 @@ fn run<G: Gate>(
     held: &mut Held,
     horizon: &mut Gxid,
     gxid: Gxid,
-    cid: Cid,
-    snapshot: Snapshot,
+    command: Suspended,
     low: Gxid,
-    slice: Slice,
     gate: &G,
 ) -> Mem<Done>
     ghost was: { Before }
     requires script { script.now ≡ was.script }
     requires held { IsHeld was.script.tables held.old was.seg }
     requires horizon { horizon.old ≡ was.seg.horizon }
-    requires may { MayRun was.script.tables (raised was.seg low) gxid cid slice }
+    requires may { MayStart was.script.tables (raised was.seg low) gxid command.cid command.slice }
     requires node { node ≡ was.seg.node }
-    ensures done { IfOk result (λ done. HasDone was.script.tables held.new horizon.new done (runs_slice (raised was.seg low) gxid cid (Some snapshot) slice)) }
-    ensures quiet { IfOk result (λ done. IsQuiet done (runs_slice (raised was.seg low) gxid cid (Some snapshot) slice)) }
+    ensures done { IfOk result (λ done. HasDone was.script.tables held.new horizon.new done (starts_slice (raised was.seg low) gxid command.cid command.level (Some command.snapshot) command.slice)) }
+    ensures quiet { IfOk result (λ done. IsQuiet done (starts_slice (raised was.seg low) gxid command.cid command.level (Some command.snapshot) command.slice)) }
 {
     raise(held, horizon, low);
-    let passed = pass(gate, node);
-    let tables = script.tables.as_slice();
-    let ran = run_slice(alloc, tables, passed, held, gxid, cid, &snapshot, slice)?;
-    Ok(done_of(gxid, ran))
-}
-
-fn done_of(gxid: Gxid, ran: Ran) -> Done
-    ensures { result ≡ record { marks = ran.marks; answer = answer_of gxid (Some ran.reply); fails = false } }
-{
-    Done {
-        marks: ran.marks,
-        answer: answer(gxid, Some(ran.reply)),
-        fails: false,
-    }
+    let done = start(alloc, node, script, held, gxid, command, gate)?;
+    Ok(done)
 }
 
 // Raises the horizon, where this one is greater. What is below it isn't kept any more.
@@ -163,6 +157,7 @@ fn raise(held: &mut Held, horizon: &mut Gxid, low: Gxid)
     ensures entries { (g : Gxid) → horizon.new.0 ≤ g.0 → get gxid_cmp held.new.entries g ≡ get gxid_cmp held.old.entries g }
     ensures dropped { (g : Gxid) → g.0 < horizon.new.0 → get gxid_cmp held.new.entries g ≡ None }
     ensures holders { held.new.holders ≡ held.old.holders }
+    ensures locks { held.new.locks ≡ held.old.locks }
 {
     held.store.raise_horizon(low);
     if *horizon < low {

@@ -10,6 +10,7 @@ mod ordering;
 mod probe;
 pub mod segment;
 mod sending;
+mod starting;
 mod stepping;
 
 pub use segment::Segment;

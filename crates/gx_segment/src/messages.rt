@@ -1,8 +1,9 @@
 // What comes to a segment, message by message.
-ghost use Rattle.std.specs.Prelude.{◌≡◌, IfOk};
+ghost use Rattle.std.specs.Prelude.{◌≡◌, true, IfOk};
 ghost use Rattle.gx_outside.specs.Shelves.{IsLater};
 ghost use Rattle.gx_node.specs.Orders.{Took};
 ghost use Rattle.gx_rules.specs.AtSegment.{on_event, on_message};
+ghost use Rattle.gx_rules.specs.Machine.{seg_can};
 ghost use Rattle.gx_slices.specs.Agrees.{IsHeld};
 ghost use Rattle.gx_segment.specs.Before.{Before};
 ghost use Rattle.gx_segment.specs.Done.{HasDone};
@@ -10,6 +11,7 @@ ghost use Rattle.gx_segment.specs.Done.{HasDone};
 use crate::done::{Done, nothing};
 use crate::executing::exec;
 use crate::ordering::take;
+use crate::starting::resume;
 use gx_dtx::order::Order;
 use gx_ids::{Gxid, Mem, Node};
 use gx_msg::Message;
@@ -19,7 +21,7 @@ use gx_slices::Held;
 use gx_store::NodeEvent;
 use std::alloc::Global;
 
-// Takes an event. Only deliveries come to a segment.
+// Takes an event. Deliveries come to a segment, and slices that have waited go on.
 pub(crate) fn take_event<J: Journal, G: Gate>(
     alloc: Global,
     node: Node,
@@ -35,6 +37,7 @@ pub(crate) fn take_event<J: Journal, G: Gate>(
     requires script { script.now ≡ was.script }
     requires held { IsHeld was.script.tables held.old was.seg }
     requires horizon { horizon.old ≡ was.seg.horizon }
+    requires admitted { seg_can was.script was.seg event ≡ true }
     ensures done { IfOk result (λ done. HasDone was.script.tables held.new horizon.new done (on_event was.script was.seg event done.fails)) }
     ensures took { IfOk result (λ done. Took (J.shelf journal.old) (J.shelf journal.new) done.fails (on_event was.script was.seg event done.fails).item) }
     ensures later { IsLater (J.shelf journal.old) (J.shelf journal.new) }
@@ -52,6 +55,7 @@ pub(crate) fn take_event<J: Journal, G: Gate>(
                 gate,
             )
         }
+        NodeEvent::Resume(gxid) => resume(alloc, node, script, held, gxid, gate),
         _ => Ok(nothing(alloc)),
     }
 }
@@ -79,13 +83,13 @@ fn take_message<J: Journal, G: Gate>(
         Message::Exec {
             gxid,
             cid,
-            level: _,
+            level,
             snapshot,
             horizon: low,
             slice,
         } => {
             exec(
-                alloc, node, script, held, horizon, gxid, cid, snapshot, low, slice, gate,
+                alloc, node, script, held, horizon, gxid, cid, level, snapshot, low, slice, gate,
             )
         }
         Message::Prepare(gxid) => {

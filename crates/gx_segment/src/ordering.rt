@@ -1,10 +1,10 @@
 // PREPARE, COMMIT, COMMIT PREPARED, ABORT and FORGET.
-ghost use Rattle.std.specs.Prelude.{◌≡◌, ◌≤◌, ◌==◌, ◌&&◌, Bool, false, if◌then◌else◌, IfOk};
+ghost use Rattle.std.specs.Prelude.{◌≡◌, ◌≤◌, ◌==◌, ◌&&◌, Bool, false, ◌++◌, if◌then◌else◌, IfOk, OnOk};
 ghost use Rattle.std.specs.BTreeSet.{contains};
 ghost use Rattle.gx_ids.specs.declared.ids.Gxid.{Gxid};
 ghost use Rattle.gx_dsnap.specs.Gxids.{gxid_cmp};
 ghost use Rattle.gx_outside.specs.Shelves.{IsLater};
-ghost use Rattle.gx_node.specs.Changes.{Does, change_of, marks_in};
+ghost use Rattle.gx_node.specs.Changes.{Does, change_of, left_locks, left_marks, marks_in};
 ghost use Rattle.gx_node.specs.Orders.{Took};
 ghost use Rattle.gx_node.specs.Phases.{local_of, phase_of};
 ghost use Rattle.gx_rules.specs.Segments.{has_ended};
@@ -18,8 +18,9 @@ use crate::done::{Done, answer, nothing};
 use crate::entries::{put_in, take_out};
 use gx_dtx::order::Order;
 use gx_ids::{Gxid, Mem, Node, Seq};
+use gx_locks::LockTable;
 use gx_msg::Kept;
-use gx_node::{Phase, Taken, take_order};
+use gx_node::{Phase, Taken, give_back, take_order};
 use gx_outside::Journal;
 use gx_rows::LocalStatus;
 use gx_slices::{Entry, Held, KeptRows};
@@ -49,25 +50,45 @@ pub(crate) fn take<J: Journal>(
         return Ok(nothing(alloc));
     }
     let taken = obey(alloc, node, held, gxid, order, journal)?;
-    let done = done_of(alloc, gxid, taken)?;
+    let done = done_of(alloc, node, &mut held.locks, gxid, taken)?;
     Ok(done)
 }
 
-fn done_of(alloc: Global, gxid: Gxid, taken: Taken) -> Mem<Done>
-    ensures { IfOk result (λ done. done ≡ record { marks = marks_in taken.mark; answer = answer_of gxid taken.reply; fails = taken.fails }) }
+// Who has ended here gives its locks back.
+fn done_of(alloc: Global, node: Node, locks: &mut LockTable, gxid: Gxid, taken: Taken) -> Mem<Done>
+    ensures done { IfOk result (λ done. done ≡ record { marks = marks_in taken.mark ++ left_marks taken.ends node locks.old gxid; answer = answer_of gxid taken.reply; fails = taken.fails }) }
+    ensures locks { OnOk result (locks.new ≡ left_locks taken.ends locks.old gxid) }
 {
-    let marks = listed(alloc, taken.mark)?;
+    let mut marks = listed(alloc, taken.mark)?;
+    leave_locks(alloc, node, locks, gxid, taken.ends, &mut marks)?;
     Ok(Done {
-        marks,
+        marks: Seq::from_vec(marks),
         answer: answer(gxid, taken.reply),
         fails: taken.fails,
     })
 }
 
-fn listed(alloc: Global, mark: Option<Mark>) -> Mem<Seq<Mark>>
-    ensures { IfOk result (λ marks. marks ≡ marks_in mark) }
+fn leave_locks(
+    alloc: Global,
+    node: Node,
+    locks: &mut LockTable,
+    gxid: Gxid,
+    ends: bool,
+    marks: &mut Vec<Mark>,
+) -> Mem<()>
+    ensures locks { OnOk result (locks.new ≡ left_locks ends locks.old gxid) }
+    ensures marks { OnOk result (marks.new.items ≡ marks.old.items ++ left_marks ends node locks.old gxid) }
 {
-    let mut marks = Seq::new(alloc);
+    if ends {
+        give_back(alloc, node, locks, gxid, marks)?;
+    }
+    Ok(())
+}
+
+fn listed(alloc: Global, mark: Option<Mark>) -> Mem<Vec<Mark>>
+    ensures { IfOk result (λ marks. marks.items ≡ marks_in mark) }
+{
+    let mut marks = Vec::new(alloc);
     if let Some(mark) = mark {
         marks.push(mark)?;
     }
@@ -137,7 +158,7 @@ fn status(phase: Phase) -> LocalStatus
     }
 }
 
-// Who has ended here holds no locks any more.
+// Who has ended here is no holder any more.
 fn leave_ended(holders: &mut BTreeSet<Gxid>, gxid: Gxid, phase: Phase)
     ensures { (g : Gxid) → contains gxid_cmp holders.new g ≡ (if has_ended (phase_of phase) && (g.0 == gxid.0) then false else contains gxid_cmp holders.old g) }
 {

@@ -10,6 +10,7 @@ ghost use Rattle.gx_segment.specs.Steps.{HasStepped, IsSegment, nobody, no_comma
 use crate::stepping::step_on;
 use gx_dsnap::Snapshot;
 use gx_ids::{Cid, Gxid, Mem, Node, OutOfMemory, Table};
+use gx_locks::LockTable;
 use gx_outside::{Gate, Journal};
 use gx_script::Script;
 use gx_slices::{Held, LocalStore};
@@ -19,7 +20,7 @@ use std::alloc::Global;
 use std::collections::{BTreeMap, BTreeSet};
 use std::sync::Arc;
 
-/// A segment of a script: the rows that are placed there, and the transactions that have come to it. The horizon is that of
+/// A segment of a script: the rows that are placed there, the transactions that have come to it, and their locks. The horizon is that of
 /// the rows' store, which doesn't tell it. Once memory has run out in a step the segment is spent, and answers the same from
 /// then on.
 #[derive(Drop)]
@@ -45,6 +46,7 @@ impl Segment {
             store: LocalStore::new(alloc)?,
             entries: BTreeMap::new(alloc),
             holders: BTreeSet::new(alloc),
+            locks: LockTable::new(alloc, node)?,
         };
         Ok(Segment {
             alloc,
@@ -58,8 +60,8 @@ impl Segment {
         })
     }
 
-    /// Does one event that the rule admits, by the segment's rule. What the envelope holds is tested here; what doesn't fit changes
-    /// nothing but the clock. The journal takes the items of PREPARE, COMMIT and COMMIT PREPARED before they are answered.
+    /// Does one event that the rule admits, by the segment's rule: a delivery, or that a slice goes on whose wait is ready. What the
+    /// envelope holds is tested here; what doesn't fit changes nothing but the clock. The journal takes the items of PREPARE, COMMIT and COMMIT PREPARED before they are answered.
     /// Each slice enters the gate first, at this node.
     pub fn step<J: Journal, G: Gate>(
         &mut self,

@@ -1,6 +1,7 @@
 // One step on a segment's parts.
-ghost use Rattle.std.specs.Prelude.{◌≡◌, ◌<◌, ◌+◌, ◌^◌, nat_lt, if◌then◌else◌, IfOk};
+ghost use Rattle.std.specs.Prelude.{◌≡◌, ◌<◌, ◌+◌, ◌^◌, true, nat_lt, if◌then◌else◌, IfOk};
 ghost use Rattle.gx_outside.specs.Shelves.{IsLater};
+ghost use Rattle.gx_rules.specs.Machine.{seg_can};
 ghost use Rattle.gx_rules.specs.Sending.{heard_in};
 ghost use Rattle.gx_slices.specs.Agrees.{IsHeld};
 ghost use Rattle.gx_segment.specs.Before.{Before};
@@ -33,6 +34,7 @@ pub(crate) fn step_on<J: Journal, G: Gate>(
     requires script { script.now ≡ was.script }
     requires held { IsHeld was.script.tables held.old was.seg }
     requires horizon { horizon.old ≡ was.seg.horizon }
+    requires admitted { seg_can was.script was.seg event ≡ true }
     requires sent { sent.old ≡ was.seg.sent }
     requires clock { clock.old ≡ was.seg.clock }
     requires numbers { sent.old < 2 ^ 62 }

@@ -19,6 +19,7 @@ use Rattle.gx_slices.specs.Store.{Store, Write, passes, status_of, writes_of}
 use Rattle.gx_node.specs.Phases.{local_of}
 use Rattle.gx_store.specs.Marks.{is_same_gxid, is_same_rid}
 use Rattle.gx_store.specs.declared.mark.Mark.{Mark}
+use Rattle.gx_rules.specs.Fits.{is_waiting}
 use Rattle.gx_rules.specs.Segments as rule
 use Rattle.gx_rules.specs.Segments.{Phase, Reading, Writing, Prepared, Committed, Forgotten, Aborted, Seg, Version, has_committed, with_local}
 use Rattle.gx_rules.specs.Shown.{kept_of, kept_one, last_images}
@@ -26,7 +27,7 @@ use Rattle.gx_rules.specs.Slices.{version}
 use Rattle.gx_slices.specs.Agrees.{has_version, is_of_row, write_of}
 use Rattle.gx_slices.specs.Apart.{IsApart}
 use Rattle.gx_slices.specs.Inserts.{IsPut}
-use Rattle.gx_slices.specs.Ran.{is_open}
+use Rattle.gx_slices.specs.Waiting.{is_open}
 use Rattle.gx_slices.specs.declared.held.Entry.{Entry}
 use Rattle.gx_slices.proofs.Gxids.{apart, differ, itself, other_row, other_table, row_itself, same_gxid, same_row, same_table, turned}
 
@@ -167,6 +168,8 @@ module _ (start : Seg) (g : Gxid) (c : Cid) (node : Node) (table : Table) (row :
     open_here = ap (λ (l : rule.Local). is_open l.phase) local_itself;
     node = is.node;
     horizon = is.horizon;
+    locks = is.locks;
+    waits = ap is_waiting local_itself ∙ is.waits;
     other_locals = λ h other. local_other h (apart h.0 g.0 other) ∙ is.other_locals h other;
     other_rows = λ h other. kept_other h other ∙ is.other_rows h other;
   }

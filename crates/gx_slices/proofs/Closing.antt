@@ -2,24 +2,29 @@
 use Rattle.std.proofs.Common.{◌≡◌, ◌≢◌, Bool, true, false, ℕ, if◌then◌else◌, ◌&&◌, not, eqb, List, None, Some, refl, sym, ap, ◌∙◌, subst, arith}
 use Rattle.std.specs.Prelude.{◌<◌, ◌≤◌, nat_lt, is_some, filter, map, All, IsTrue}
 use Rattle.std.specs.BTreeSet.{contains}
+use Rattle.std.specs.List.{list_any}
 use Rattle.gx_ids.specs.declared.ids.Cid.{Cid}
 use Rattle.gx_ids.specs.declared.ids.Gxid.{Gxid}
 use Rattle.gx_tree.specs.declared.schema.Schema.{Schema}
 use Rattle.gx_dsnap.specs.Gxids.{gxid_cmp}
+use Rattle.gx_locks.specs.Claims.{is_of}
+use Rattle.gx_locks.specs.Locks.{Locks}
+use Rattle.gx_msg.specs.declared.item.Kept.{Kept}
 use Rattle.gx_msg.specs.declared.reply.Reply.{Reply}
 use Rattle.gx_rows.specs.Counts.{is_committed}
 use Rattle.gx_slices.specs.Store.{Store, passes, status_of, writes_of}
 use Rattle.gx_node.specs.Phases.{local_of}
-use Rattle.gx_rules.specs.Fits.{holds_locks}
+use Rattle.gx_rules.specs.Fits.{holds_locks, is_waiting}
 use Rattle.gx_rules.specs.Segments as rule
 use Rattle.gx_rules.specs.Segments.{Phase, Reading, Writing, Prepared, Committed, Forgotten, Aborted, Seg, has_committed, has_ended, with_local}
 use Rattle.gx_rules.specs.Shown.{kept_of}
 use Rattle.gx_slices.specs.Agrees.{IsHeld, entry_at, has_version, is_of_row, is_right_version, local_in, rows_in, write_of}
 use Rattle.gx_slices.specs.Apart.{IsApart, IsBack, IsStored, answered}
-use Rattle.gx_slices.specs.Ran.{is_open}
+use Rattle.gx_slices.specs.Waiting.{AreWaits, is_open}
 use Rattle.gx_slices.specs.declared.held.Entry.{Entry}
 use Rattle.gx_slices.specs.declared.held.Held.{Held}
 use Rattle.gx_slices.proofs.Gxids.{apart, differ, itself, same_gxid}
+use Rattle.gx_slices.proofs.Waiting.{AreWaits-free}
 
 -- TAKEN OUT
 pub IsStored-held : (tables : List Schema) (held : Held) (s : Seg) → IsHeld tables held s → IsStored held.store s
@@ -33,6 +38,8 @@ IsApart-taken tables held s g entry is alive open_here local kept = record {
   open_here = open_here;
   node = refl;
   horizon = refl;
+  locks = refl;
+  waits = refl;
   other_locals = λ h other. refl;
   other_rows = λ h other. refl;
 }
@@ -53,12 +60,17 @@ and_true : (b : Bool) → (b && true) ≡ b
 and_true true = refl
 and_true false = refl
 
-module _ (tables : List Schema) (old mid new : Held) (before s : Seg) (g : Gxid) (c : Cid) (entry : Entry) (r : Reply) (was : IsHeld tables old before) (alive : before.horizon.0 ≤ g.0) (is : IsApart before mid.store entry g s) (taken : (h : Gxid) → h.0 ≢ g.0 → entry_at mid h ≡ entry_at old h) (holders : mid.holders ≡ old.holders) (back : IsBack mid new g c (answered entry c r)) where
-  abbrev local : rule.Local
-  local = record (rule.local_of s g) { last = c.0; answer = Some r }
+-- the entry of one transaction is this one now, and the others are as they were
+pub record IsNow (old new : Held) (g : Gxid) (local : rule.Local) (rows : List Kept) : Type 0 where
+  pub local_is : local_in (entry_at new g) ≡ local
+  pub rows_are : rows_in (entry_at new g) ≡ rows
+  pub entries : (h : Gxid) → h.0 ≢ g.0 → entry_at new h ≡ entry_at old h
+  pub holds : contains gxid_cmp new.holders g ≡ holds_locks local
+  pub holders : (h : Gxid) → h.0 ≢ g.0 → contains gxid_cmp new.holders h ≡ contains gxid_cmp old.holders h
 
+module _ (tables : List Schema) (old new : Held) (before s : Seg) (g : Gxid) (local : rule.Local) (locks : Locks) (was : IsHeld tables old before) (alive : before.horizon.0 ≤ g.0) (stored : IsStored new.store s) (horizon : s.horizon ≡ before.horizon) (other_locals : (h : Gxid) → h.0 ≢ g.0 → rule.local_of s h ≡ rule.local_of before h) (other_rows : (h : Gxid) → h.0 ≢ g.0 → kept_of s h ≡ kept_of before h) (now : IsNow old new g local (kept_of s g)) (same_phase : local.phase ≡ (rule.local_of s g).phase) where
   abbrev after : Seg
-  after = with_local s g local
+  after = record (with_local s g local) { locks = locks }
 
   itself_at : rule.local_of after g ≡ local
   itself_at = ap (λ (b : Bool). if b then local else rule.local_of s g) (itself g.0)
@@ -68,56 +80,81 @@ module _ (tables : List Schema) (old mid new : Held) (before s : Seg) (g : Gxid)
 
   -- the phase of each is as before
   phase_at : (h : Gxid) (b : Bool) → eqb h.0 g.0 ≡ b → (rule.local_of after h).phase ≡ (rule.local_of s h).phase
-  phase_at h true e = subst (λ (k : Gxid). (rule.local_of after k).phase ≡ (rule.local_of s k).phase) (same_gxid g h e) (ap (λ (l : rule.Local). l.phase) itself_at)
+  phase_at h true e = subst (λ (k : Gxid). (rule.local_of after k).phase ≡ (rule.local_of s k).phase) (same_gxid g h e) (ap (λ (l : rule.Local). l.phase) itself_at ∙ same_phase)
   phase_at h false e = ap (λ (l : rule.Local). l.phase) (other_at h (differ h.0 g.0 e))
 
   low : (h : Gxid) → after.horizon.0 ≤ h.0 → before.horizon.0 ≤ h.0
-  low h up = subst (λ (k : Gxid). k.0 ≤ h.0) is.horizon up
+  low h up = subst (λ (k : Gxid). k.0 ≤ h.0) horizon up
 
   dropped : (h : Gxid) → h.0 < before.horizon.0 → entry_at new h ≡ None
-  dropped h under =
-      let other : h.0 ≢ g.0 = below_other h.0 g.0 before.horizon.0 under alive in
-      back.entries h other ∙ taken h other ∙ was.dropped h under
+  dropped h under = now.entries h (below_other h.0 g.0 before.horizon.0 under alive) ∙ was.dropped h under
 
   locals : (h : Gxid) → after.horizon.0 ≤ h.0 → (b : Bool) → eqb h.0 g.0 ≡ b → local_in (entry_at new h) ≡ rule.local_of after h
-  locals h up true e =
-      subst (λ (k : Gxid). local_in (entry_at new k) ≡ rule.local_of after k) (same_gxid g h e)
-      (ap local_in back.here ∙ ap (λ (l : rule.Local). let m : rule.Local = record l { last = c.0; answer = Some r } in m) is.local ∙ sym itself_at)
+  locals h up true e = subst (λ (k : Gxid). local_in (entry_at new k) ≡ rule.local_of after k) (same_gxid g h e) (now.local_is ∙ sym itself_at)
   locals h up false e =
-      let other = differ h.0 g.0 e in
-      ap local_in (back.entries h other ∙ taken h other) ∙ was.locals h (low h up) ∙ sym (is.other_locals h other) ∙ sym (other_at h other)
+      let other = differ h.0 g.0 e in ap local_in (now.entries h other) ∙ was.locals h (low h up) ∙ sym (other_locals h other) ∙ sym (other_at h other)
 
   rows : (h : Gxid) → after.horizon.0 ≤ h.0 → (b : Bool) → eqb h.0 g.0 ≡ b → rows_in (entry_at new h) ≡ kept_of after h
-  rows h up true e = subst (λ (k : Gxid). rows_in (entry_at new k) ≡ kept_of after k) (same_gxid g h e) (ap rows_in back.here ∙ is.kept)
-  rows h up false e =
-      let other = differ h.0 g.0 e in
-      ap rows_in (back.entries h other ∙ taken h other) ∙ was.kept h (low h up) ∙ sym (is.other_rows h other)
-
-  holds_itself : holds_locks local ≡ nat_lt 0 c.0
-  holds_itself = ap (λ (b : Bool). nat_lt 0 c.0 && not b) (open_not_ended (rule.local_of s g).phase is.open_here) ∙ and_true (nat_lt 0 c.0)
+  rows h up true e = subst (λ (k : Gxid). rows_in (entry_at new k) ≡ kept_of after k) (same_gxid g h e) now.rows_are
+  rows h up false e = let other = differ h.0 g.0 e in ap rows_in (now.entries h other) ∙ was.kept h (low h up) ∙ sym (other_rows h other)
 
   holds : (h : Gxid) (b : Bool) → eqb h.0 g.0 ≡ b → contains gxid_cmp new.holders h ≡ holds_locks (rule.local_of after h)
   holds h true e =
-      subst (λ (k : Gxid). contains gxid_cmp new.holders k ≡ holds_locks (rule.local_of after k)) (same_gxid g h e)
-      (back.holds ∙ sym holds_itself ∙ sym (ap holds_locks itself_at))
+      subst (λ (k : Gxid). contains gxid_cmp new.holders k ≡ holds_locks (rule.local_of after k)) (same_gxid g h e) (now.holds ∙ sym (ap holds_locks itself_at))
   holds h false e =
-      let other = differ h.0 g.0 e in
-      back.holders h other
-      ∙ ap (λ hs. contains gxid_cmp hs h) holders
-      ∙ was.holders h
-      ∙ ap holds_locks (sym (is.other_locals h other) ∙ sym (other_at h other))
+      let other = differ h.0 g.0 e in now.holders h other ∙ was.holders h ∙ ap holds_locks (sym (other_locals h other) ∙ sym (other_at h other))
 
-  pub IsHeld-back : All (λ v. IsTrue (is_right_version tables v)) s.versions → IsHeld tables new after
-  IsHeld-back typed = record {
-    horizon = ap (λ (store : Store). store.horizon) back.store ∙ is.stored.horizon;
+  pub IsHeld-now : new.locks ≡ locks → AreWaits tables after → All (λ v. IsTrue (is_right_version tables v)) s.versions → IsHeld tables new after
+  IsHeld-now locks_are waits typed = record {
+    horizon = stored.horizon;
     locals = λ h up. locals h up (eqb h.0 g.0) refl;
     kept = λ h up. rows h up (eqb h.0 g.0) refl;
-    dropped = λ h under. dropped h (subst (λ (k : Gxid). h.0 < k.0) is.horizon under);
+    dropped = λ h under. dropped h (subst (λ (k : Gxid). h.0 < k.0) horizon under);
     holders = λ h. holds h (eqb h.0 g.0) refl;
-    writes = λ t rid. subst (λ (store : Store). writes_of store t rid ≡ map write_of (filter (is_of_row t rid) s.versions)) (sym back.store) (is.stored.writes t rid);
-    wrote = λ h. subst (λ (store : Store). is_some (status_of store h) ≡ has_version s h) (sym back.store) (is.stored.wrote h);
-    committed = λ h.
-        subst (λ (store : Store). passes is_committed (status_of store h) ≡ (has_version s h && has_committed (rule.local_of s h).phase)) (sym back.store) (is.stored.committed h)
-        ∙ ap (λ (p : Phase). has_version s h && has_committed p) (sym (phase_at h (eqb h.0 g.0) refl));
+    writes = stored.writes;
+    wrote = stored.wrote;
+    committed = λ h. stored.committed h ∙ ap (λ (p : Phase). has_version s h && has_committed p) (sym (phase_at h (eqb h.0 g.0) refl));
     typed = typed;
+    locks = locks_are;
+    waits = waits;
   }
+
+-- an entry is put back, that of a transaction which is open
+module _ (old mid new : Held) (g : Gxid) (c : Cid) (entry : Entry) (taken : (h : Gxid) → h.0 ≢ g.0 → entry_at mid h ≡ entry_at old h) (holders : mid.holders ≡ old.holders) (back : IsBack mid new g c entry) where
+  pub IsNow-back : (local : rule.Local) (rows : List Kept) → local_of entry.local ≡ local → entry.kept ≡ rows → is_open local.phase ≡ true → local.last ≡ c.0 → IsNow old new g local rows
+  IsNow-back local rows here kept open_here last = record {
+    local_is = ap local_in back.here ∙ here;
+    rows_are = ap rows_in back.here ∙ kept;
+    entries = λ h other. back.entries h other ∙ taken h other;
+    holds = back.holds ∙ sym (ap (λ (b : Bool). nat_lt 0 local.last && not b) (open_not_ended local.phase open_here) ∙ and_true (nat_lt 0 local.last) ∙ ap (nat_lt 0) last);
+    holders = λ h other. back.holders h other ∙ ap (λ hs. contains gxid_cmp hs h) holders;
+  }
+
+  pub IsStored-back : (s : Seg) → IsStored mid.store s → IsStored new.store s
+  IsStored-back s stored = subst (λ (store : Store). IsStored store s) (sym back.store) stored
+
+-- with the answer to its command
+module _ (tables : List Schema) (old mid new : Held) (before s : Seg) (g : Gxid) (c : Cid) (entry : Entry) (r : Reply) (was : IsHeld tables old before) (alive : before.horizon.0 ≤ g.0) (free : is_waiting (rule.local_of before g) ≡ false) (is : IsApart before mid.store entry g s) (taken : (h : Gxid) → h.0 ≢ g.0 → entry_at mid h ≡ entry_at old h) (holders : mid.holders ≡ old.holders) (locks : mid.locks ≡ old.locks) (back : IsBack mid new g c (answered entry c r)) where
+  abbrev told : rule.Local → rule.Local
+  told l = record l { last = c.0; answer = Some r }
+
+  answered_at : rule.local_of (with_local s g (told (rule.local_of s g))) g ≡ told (rule.local_of s g)
+  answered_at = ap (λ (b : Bool). if b then told (rule.local_of s g) else rule.local_of s g) (itself g.0)
+
+  beside : (h : Gxid) → h.0 ≢ g.0 → rule.local_of (with_local s g (told (rule.local_of s g))) h ≡ rule.local_of before h
+  beside h other = ap (λ (b : Bool). if b then told (rule.local_of s g) else rule.local_of s h) (apart h.0 g.0 other) ∙ is.other_locals h other
+
+  waits : AreWaits tables (with_local s g (told (rule.local_of s g)))
+  waits =
+      AreWaits-free tables before (with_local s g (told (rule.local_of s g))) g was.waits is.horizon beside (λ h other. ap (λ (l : Locks). list_any (is_of h) l.waits) is.locks)
+      (ap (λ (l : Locks). list_any (is_of g) l.waits) is.locks ∙ was.waits.standing g ∙ free)
+      (ap is_waiting answered_at ∙ is.waits ∙ free)
+
+  pub IsHeld-back : All (λ v. IsTrue (is_right_version tables v)) s.versions → IsHeld tables new (with_local s g (told (rule.local_of s g)))
+  IsHeld-back typed =
+      IsHeld-now tables old new before s g (told (rule.local_of s g)) s.locks was alive (IsStored-back old mid new g c (answered entry c r) taken holders back s is.stored) is.horizon is.other_locals is.other_rows
+      (IsNow-back old mid new g c (answered entry c r) taken holders back (told (rule.local_of s g)) (kept_of s g) (ap told is.local) is.kept is.open_here refl)
+      refl
+      (back.locks ∙ locks ∙ was.locks ∙ sym is.locks)
+      waits
+      typed

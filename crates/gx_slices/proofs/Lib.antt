@@ -2,9 +2,12 @@ pub mod Adding
 pub mod Closing
 pub mod Counting
 pub mod Gxids
+pub mod Waiting
+pub mod Wakes
 pub mod Lists
 pub mod Placing
 pub mod Rightness
+pub mod Sent
 pub mod Turning
 pub mod Unconditional
 pub mod AddingVersions

@@ -10,11 +10,12 @@ use Rattle.gx_msg.specs.declared.reply.Reply.{Reply}
 use Rattle.gx_rows.specs.Counts.{is_committed}
 use Rattle.gx_slices.specs.Store.{Store, passes, status_of, writes_of}
 use Rattle.gx_node.specs.Phases.{local_of}
+use Rattle.gx_rules.specs.Fits.{is_waiting}
 use Rattle.gx_rules.specs.Segments as rule
 use Rattle.gx_rules.specs.Segments.{Seg, has_committed}
 use Rattle.gx_rules.specs.Shown.{kept_of}
 use Rattle.gx_slices.specs.Agrees.{entry_at, has_version, is_of_row, write_of}
-use Rattle.gx_slices.specs.Ran.{is_open}
+use Rattle.gx_slices.specs.Waiting.{is_open}
 use Rattle.gx_slices.specs.declared.held.Entry.{Entry}
 use Rattle.gx_slices.specs.declared.held.Held.{Held}
 
@@ -33,6 +34,8 @@ pub record IsApart (start : Seg) (store : Store) (entry : Entry) (g : Gxid) (s :
   pub open_here : is_open (rule.local_of s g).phase ≡ true
   pub node : s.node ≡ start.node
   pub horizon : s.horizon ≡ start.horizon
+  pub locks : s.locks ≡ start.locks
+  pub waits : is_waiting (rule.local_of s g) ≡ is_waiting (rule.local_of start g)
   pub other_locals : (h : Gxid) → h.0 ≢ g.0 → rule.local_of s h ≡ rule.local_of start h
   pub other_rows : (h : Gxid) → h.0 ≢ g.0 → kept_of s h ≡ kept_of start h
 
@@ -43,6 +46,7 @@ answered entry c r = record entry { local = record entry.local { last = c.0; ans
 -- the entry is back, and all else is as it was
 pub record IsBack (old new : Held) (g : Gxid) (c : Cid) (entry : Entry) : Type 0 where
   pub store : new.store ≡ old.store
+  pub locks : new.locks ≡ old.locks
   pub here : entry_at new g ≡ Some entry
   pub entries : (h : Gxid) → h.0 ≢ g.0 → entry_at new h ≡ entry_at old h
   pub holds : contains gxid_cmp new.holders g ≡ nat_lt 0 c.0

@@ -1,7 +1,9 @@
 pub mod Kept
+pub mod Waiting
 pub mod Agrees
 pub mod Ran
 pub mod Apart
+pub mod Suspensions
 pub mod Inserts
 pub mod Picked
 pub mod Store

@@ -1,6 +1,7 @@
 use crate::kept::KeptRows;
 use crate::store::LocalStore;
 use gx_ids::Gxid;
+use gx_locks::LockTable;
 use gx_node::Local;
 use std::collections::{BTreeMap, BTreeSet};
 
@@ -11,11 +12,12 @@ pub struct Entry {
     pub kept: KeptRows,
 }
 
-/// What a segment holds: the rows, the transactions that aren't below the horizon, and those that hold locks here. The
-/// horizon is the store's.
+/// What a segment holds: the rows, the transactions that aren't below the horizon, those to which a command has come and that
+/// have not ended here, and the locks. The horizon is the store's.
 #[derive(Drop)]
 pub struct Held {
     pub store: LocalStore,
     pub entries: BTreeMap<Gxid, Entry>,
     pub holders: BTreeSet<Gxid>,
+    pub locks: LockTable,
 }

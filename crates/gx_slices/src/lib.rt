@@ -1,4 +1,4 @@
-//! What a segment holds of rows and transactions: who wrote what, what became of them here, what it shows to a reader, and what
+//! What a segment holds of rows, transactions and locks: who wrote what, what became of them here, what it shows to a reader, and what
 //! a command does there.
 #![tactic(auto)]
 
@@ -14,6 +14,7 @@ mod reading;
 pub mod running;
 mod selecting;
 pub mod store;
+mod suspending;
 mod writing;
 
 pub use current::Current;
@@ -21,3 +22,4 @@ pub use held::{Entry, Held};
 pub use kept::KeptRows;
 pub use running::{Ran, run_slice};
 pub use store::LocalStore;
+pub use suspending::{suspend, wake};

@@ -15,7 +15,7 @@ use Rattle.gx_store.specs.declared.event.Event.{Event}
 use Rattle.gx_store.specs.declared.mark.Mark.{Mark}
 use Rattle.gx_store.specs.declared.mark.Mark.TheVariants as mark
 use Rattle.gx_store.specs.declared.run.Step.{Step}
-use Rattle.gx_store.specs.Locks.{AreExclusive, AreLockedMarks, AreLockedSteps, LegalHold}
+use Rattle.gx_store.specs.Locks.{AreExclusive, AreGranted, AreLockedMarks, AreLockedSteps, LegalHold}
 use Rattle.gx_store.specs.Points.{IsPointOf, Point, before, marks_in}
 use Rattle.gx_store.specs.Waits.{added, claim, holds_at, holds_from, without}
 use Rattle.gx_store.proofs.Runs.{marks_in-push}
@@ -23,28 +23,22 @@ use Rattle.gx_store.proofs.Runs.{marks_in-push}
 abbrev Apart : Claim → Claim → Type 0
 Apart earlier later = Meets later earlier → ⊥
 
--- each hold among these marks meets none that stands before it
-abbrev Granted : List Mark → List Mark → Type 0
-Granted marks [] = Unit {0}
-Granted marks (mark.Hold n g object mode ∷ ms) = LegalHold marks n (claim g object mode) × Granted (marks ++ mark.Hold n g object mode ∷ []) ms
-Granted marks (m ∷ ms) = Granted (marks ++ m ∷ []) ms
-
 -- LISTS
-holds_from-append : (node : Node) (holds : List Claim) (xs ys : List Mark) → holds_from node holds (xs ++ ys) ≡ holds_from node (holds_from node holds xs) ys
+pub holds_from-append : (node : Node) (holds : List Claim) (xs ys : List Mark) → holds_from node holds (xs ++ ys) ≡ holds_from node (holds_from node holds xs) ys
 holds_from-append node holds [] ys = refl
 holds_from-append node holds (mark.Hold n g object mode ∷ xs) ys = holds_from-append node (if n.0 == node.0 then added (claim g object mode) holds else holds) xs ys
 holds_from-append node holds (mark.Release n g object mode ∷ xs) ys = holds_from-append node (if n.0 == node.0 then without (claim g object mode) holds else holds) xs ys
 holds_from-append node holds (m ∷ xs) ys = holds_from-append node holds xs ys
 
-granted-front : (marks xs ys : List Mark) → Granted marks (xs ++ ys) → Granted marks xs
+pub granted-front : (marks xs ys : List Mark) → AreGranted marks (xs ++ ys) → AreGranted marks xs
 granted-front marks [] ys h = tt
 granted-front marks (mark.Hold n g object mode ∷ xs) ys h = (h.0, granted-front (marks ++ mark.Hold n g object mode ∷ []) xs ys h.1)
 granted-front marks (m ∷ xs) ys h = granted-front (marks ++ m ∷ []) xs ys h
 
-granted-more : (marks xs ys : List Mark) → Granted marks xs → Granted (marks ++ xs) ys → Granted marks (xs ++ ys)
-granted-more marks [] ys h k = subst (λ m. Granted m ys) (append-nil marks) k
-granted-more marks (mark.Hold n g object mode ∷ xs) ys h k = (h.0, granted-more (marks ++ mark.Hold n g object mode ∷ []) xs ys h.1 (subst (λ m. Granted m ys) (sym (append_assoc marks (mark.Hold n g object mode ∷ []) xs)) k))
-granted-more marks (m ∷ xs) ys h k = granted-more (marks ++ m ∷ []) xs ys h (subst (λ m. Granted m ys) (sym (append_assoc marks (m ∷ []) xs)) k)
+pub granted-more : (marks xs ys : List Mark) → AreGranted marks xs → AreGranted (marks ++ xs) ys → AreGranted marks (xs ++ ys)
+granted-more marks [] ys h k = subst (λ m. AreGranted m ys) (append-nil marks) k
+granted-more marks (mark.Hold n g object mode ∷ xs) ys h k = (h.0, granted-more (marks ++ mark.Hold n g object mode ∷ []) xs ys h.1 (subst (λ m. AreGranted m ys) (sym (append_assoc marks (mark.Hold n g object mode ∷ []) xs)) k))
+granted-more marks (m ∷ xs) ys h k = granted-more (marks ++ m ∷ []) xs ys h (subst (λ m. AreGranted m ys) (sym (append_assoc marks (m ∷ []) xs)) k)
 
 -- HOLDS
 with-more : (new : Claim) (holds : List Claim) → All (λ hold. Meets new hold → ⊥) holds → AllPairs Apart holds → AllPairs Apart (added new holds)
@@ -72,7 +66,7 @@ behind-release : (old : Claim) (holds : List Claim) → AllPairs Apart holds →
 behind-release old holds apart true = AllPairs-filter Apart (λ other. not (same_claim old other)) holds apart
 behind-release old holds apart false = apart
 
-exclusive-on : (node : Node) (marks ms : List Mark) → Granted marks ms → Exclusive node marks → Exclusive node (marks ++ ms)
+exclusive-on : (node : Node) (marks ms : List Mark) → AreGranted marks ms → Exclusive node marks → Exclusive node (marks ++ ms)
 exclusive-on node marks [] h e = subst (Exclusive node) (sym (append-nil marks)) e
 exclusive-on node marks (mark.Hold n g object mode ∷ ms) h e =
     subst (Exclusive node) (append_assoc marks (mark.Hold n g object mode ∷ []) ms)
@@ -86,26 +80,30 @@ exclusive-on node marks (m ∷ ms) h e =
     subst (Exclusive node) (append_assoc marks (m ∷ []) ms)
     (exclusive-on node (marks ++ m ∷ []) ms h (subst (AllPairs Apart) (sym (holds_from-append node [] marks (m ∷ []))) e))
 
--- STEPS
-marks-granted : (script : Script) (steps : List Step) (event : Event) (earlier ms : List Mark) → AreLockedMarks script steps event earlier ms → Granted (marks_in steps ++ earlier) ms
-marks-granted script steps event earlier [] h = tt
-marks-granted script steps event earlier (mark.Hold n g object mode ∷ ms) h =
-    (h.0.here, subst (λ m. Granted m ms) (sym (append_assoc (marks_in steps) earlier (mark.Hold n g object mode ∷ []))) (marks-granted script steps event (earlier ++ mark.Hold n g object mode ∷ []) ms h.1))
-marks-granted script steps event earlier (m ∷ ms) h = subst (λ b. Granted b ms) (sym (append_assoc (marks_in steps) earlier (m ∷ []))) (marks-granted script steps event (earlier ++ m ∷ []) ms h.1)
-
-steps-granted : (script : Script) (steps ss : List Step) → AreLockedSteps script steps ss → Granted (marks_in steps) (marks_in ss)
-steps-granted script steps [] h = tt
-steps-granted script steps (s ∷ ss) h =
-    granted-more (marks_in steps) s.marks (marks_in ss) (subst (λ m. Granted m s.marks) (append-nil (marks_in steps)) (marks-granted script steps s.event [] s.marks h.0))
-    (subst (λ m. Granted m (marks_in ss)) (marks_in-push steps s) (steps-granted script (steps ++ s ∷ []) ss h.2))
-
-pub exclusive-at : (script : Script) (steps : List Step) (point : Point) → AreLockedSteps script [] steps → IsPointOf steps point → AreExclusive (before point)
-exclusive-at script steps point h of node =
-    exclusive-on node [] (before point) (granted-front [] (before point) (point.later ++ marks_in of.rest) (subst (Granted []) split (steps-granted script [] steps h))) (λ i j d l below. absurd (none j below))
+-- behind marks that grant so
+pub exclusive-behind : (marks : List Mark) → AreGranted [] marks → AreExclusive marks
+exclusive-behind marks h node = exclusive-on node [] marks h (λ i j d l below. absurd (none j below))
   where
     none : (j : ℕ) → j < 0 → ⊥
     none j l = omega arith
 
+-- STEPS
+marks-granted : (script : Script) (steps : List Step) (event : Event) (earlier ms : List Mark) → AreLockedMarks script steps event earlier ms → AreGranted (marks_in steps ++ earlier) ms
+marks-granted script steps event earlier [] h = tt
+marks-granted script steps event earlier (mark.Hold n g object mode ∷ ms) h =
+    (h.0.here, subst (λ m. AreGranted m ms) (sym (append_assoc (marks_in steps) earlier (mark.Hold n g object mode ∷ []))) (marks-granted script steps event (earlier ++ mark.Hold n g object mode ∷ []) ms h.1))
+marks-granted script steps event earlier (m ∷ ms) h = subst (λ b. AreGranted b ms) (sym (append_assoc (marks_in steps) earlier (m ∷ []))) (marks-granted script steps event (earlier ++ m ∷ []) ms h.1)
+
+steps-granted : (script : Script) (steps ss : List Step) → AreLockedSteps script steps ss → AreGranted (marks_in steps) (marks_in ss)
+steps-granted script steps [] h = tt
+steps-granted script steps (s ∷ ss) h =
+    granted-more (marks_in steps) s.marks (marks_in ss) (subst (λ m. AreGranted m s.marks) (append-nil (marks_in steps)) (marks-granted script steps s.event [] s.marks h.0))
+    (subst (λ m. AreGranted m (marks_in ss)) (marks_in-push steps s) (steps-granted script (steps ++ s ∷ []) ss h.2))
+
+pub exclusive-at : (script : Script) (steps : List Step) (point : Point) → AreLockedSteps script [] steps → IsPointOf steps point → AreExclusive (before point)
+exclusive-at script steps point h of =
+    exclusive-behind (before point) (granted-front [] (before point) (point.later ++ marks_in of.rest) (subst (AreGranted []) split (steps-granted script [] steps h)))
+  where
     split : marks_in steps ≡ before point ++ (point.later ++ marks_in of.rest)
     split =
         ap marks_in of.among ∙ flat_map-append (λ (s : Step). s.marks) point.steps (of.step ∷ of.rest) ∙ ap (λ m. marks_in point.steps ++ (m ++ marks_in of.rest)) of.marks

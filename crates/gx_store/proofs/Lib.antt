@@ -7,7 +7,7 @@ pub mod Points
 mod NeverStarted
 mod NothingReported
 mod ReleasedEarly
-mod Exclusive
+pub mod Exclusive
 mod RefusedParts
 mod RefusedHistories
 mod RefusedCommits

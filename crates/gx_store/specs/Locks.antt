@@ -38,6 +38,12 @@ LegalHold marks node wanted = All (λ hold. Meets wanted hold → ⊥) (holds_at
 abbrev pub LegalWait : List Mark → Node → Claim → Type 0
 LegalWait marks node wanted = Any (λ hold. Meets wanted hold) (holds_at marks node)
 
+-- each hold among these marks, behind those before, meets none that stands there
+abbrev pub AreGranted : List Mark → List Mark → Type 0
+AreGranted before [] = Unit {0}
+AreGranted before (Hold n g object mode ∷ ms) = LegalHold before n (claim g object mode) × AreGranted (before ++ Hold n g object mode ∷ []) ms
+AreGranted before (m ∷ ms) = AreGranted (before ++ m ∷ []) ms
+
 -- the mode in which a statement locks its table, and the table
 abbrev pub changing_mode : Script → Mode
 changing_mode script = if script.detector then RowExclusive else Exclusive

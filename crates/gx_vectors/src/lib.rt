@@ -1,7 +1,5 @@
-//! Tests of what no script reaches yet: the public calls of crates that the program's runs don't call, the outside where it
-//! fails, and definitions beside values from outside.
-//!
-//! A value that would be let go is forgotten: what frees it would be proved here once more.
+//! Tests of what no script reaches: definitions beside values from outside, by the public calls of crates that the program's
+//! runs don't call.
 #![tactic(auto)]
 
 #[cfg(test)]
@@ -9,12 +7,4 @@ mod graphs;
 #[cfg(test)]
 mod items;
 #[cfg(test)]
-mod locks;
-#[cfg(test)]
-mod memory;
-#[cfg(test)]
 mod places;
-#[cfg(test)]
-mod printing;
-#[cfg(test)]
-mod rounds;

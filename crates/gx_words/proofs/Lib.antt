@@ -8,3 +8,4 @@ pub mod Splits
 pub mod Standing
 pub mod Told
 pub mod Turns
+pub mod Nexts

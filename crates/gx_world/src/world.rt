@@ -1,5 +1,6 @@
 ghost use Rattle.std.specs.Prelude.{◌≡◌, ◌<◌, ◌^◌, true, false, [], IfOk, IsErr, OnOk, OnErr, length, map, option_copied};
 ghost use Rattle.gx_store.specs.Whole.{AreInsertsWhole};
+ghost use Rattle.gx_law_locks.specs.Legal.{AreLocksLegal};
 ghost use Rattle.gx_law_commit.specs.Told.{DoStepsTell};
 ghost use Rattle.gx_law_runs.specs.Reached.{IsReached};
 ghost use Rattle.gx_rules.specs.AtCoordinator.{is_unfinished_there};
@@ -132,6 +133,7 @@ impl World {
         ensures legal { OnOk result (AreInsertsWhole self.old.script.tables self.old.script.lines → IsLegalHistory self.old.script self.new.run) }
         ensures protocol { OnOk result (DoStepsFollow self.old.script [] self.new.run.steps) }
         ensures tells { OnOk result (DoStepsTell [] self.new.run.steps) }
+        ensures locks { OnOk result (AreLocksLegal self.old.script self.new.run.steps) }
         ensures ordered { OnOk result (AreOrdered self.old.script [] self.new.run.steps) }
         ensures system { OnOk result (IsSystemRun self.old.script self.new.run) }
         ensures unspent { OnOk result (self.new.spent ≡ false) }

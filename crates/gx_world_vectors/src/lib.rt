@@ -1,8 +1,6 @@
-//! Tests of worlds over messages, event by event: orders of delivery, and journals that refuse.
+//! Tests of worlds over messages, event by event: an order of delivery that no driver asks for, and a journal that refuses.
 #![tactic(auto)]
 
-#[cfg(test)]
-mod orders;
 #[cfg(test)]
 mod trial;
 #[cfg(test)]

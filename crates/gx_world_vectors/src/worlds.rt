@@ -150,8 +150,7 @@ fn a_refused_promise_aborts(rt: HostRuntime) -> Result<(), Fail> {
     let text = told(rt.alloc(), &trial);
     let items = kept(&trial);
     forget(trial);
-    let right = happened? && text?.as_slice() == REFUSED_TEXT.as_bytes();
+    let right = happened? && text?.as_slice() == REFUSED_TEXT.as_bytes() && items == 1;
     assert!(rt; right);
-    assert_eq!(rt; items, 1);
     Ok(())
 }

@@ -1,17 +1,48 @@
-use Rattle.std.proofs.Common.{ap, ◌∙◌}
+use Rattle.std.proofs.Common.{Some, ap, ◌∙◌, sym, subst}
 use Rattle.gx_ids.specs.declared.ids.Gxid.{Gxid}
-use Rattle.gx_script.specs.declared.Script.{Script}
-use Rattle.gx_slices.specs.Store.{Store, greater}
+use Rattle.gx_slices.specs.Agrees.{IsHeld}
+use Rattle.gx_slices.specs.Ran.{MayRun}
+use Rattle.gx_slices.specs.Store.{greater}
 use Rattle.gx_rules.specs.AtSegment.{raised}
 use Rattle.gx_rules.specs.Segments.{Seg}
-use Rattle.gx_segment.proofs.Doing.{HasDone-run}
+use Rattle.gx_rules.specs.Slices.{starts_slice}
+use Rattle.gx_segment.specs.Done.{HasDone, IsQuiet}
+use Rattle.gx_segment.proofs.Raised.{IsHeld-raised, seg-raised}
 use Rattle.gx_segment.proofs.executing.run.Goals as goal
+
+pub start-requires : goal.start-requires
+start-requires g c κs within =
+    let tables = g.was.script.tables in
+    let is = c.requires.1.1.0 in
+    let may = c.requires.1.1.1.1.0 in
+    let done = c.raise.ensures in
+    let now = c.raise.new.held in
+    let risen = IsHeld-raised tables c.args.held.now now g.was.seg c.args.low is may.waits done.store c.raise.new.horizon (done.horizon ∙ ap (λ (h : Gxid). greater h c.args.low) c.requires.1.1.1.0) done.entries done.dropped done.holders done.locks in
+    let same = seg-raised g.was.seg c.args.low c.args.held.now.store now.store is.horizon done.store in (
+      within,
+      (
+        c.requires.1.0,
+        (
+          subst (IsHeld tables now) same risen,
+          (subst (λ (x : Seg). MayRun tables x c.args.gxid c.args.command.cid c.args.command.slice) same may.may, (may.new, c.requires.1.1.1.1.1)),
+        ),
+      ),
+    )
 
 pub returns-clause-done : goal.returns-clause-done
 returns-clause-done g c =
-    HasDone-run g.was.script.tables c.as_slice-tables.result.now c.run_slice.new.held c.raise.new.horizon (raised g.was.seg c.args.low) (record g.was.seg { horizon = c.raise.new.held.store.horizon }) c.args.gxid c.args.cid c.args.snapshot c.args.slice c.in_ok-ran.ran c.done_of.result
-    c.in_ok-ran.ensures
-    (c.as_slice-tables.ensures ∙ ap (λ (x : Script). x.tables) c.requires.1.0)
-    (ap (λ (h : Gxid). let s : Seg = record g.was.seg { horizon = h } in s) (ap (λ (x : Store). x.horizon) c.raise.ensures.store ∙ ap (λ (h : Gxid). greater h c.args.low) c.requires.1.1.0.horizon))
-    (c.raise.ensures.horizon ∙ ap (λ (h : Gxid). greater h c.args.low) c.requires.1.1.1.0)
-    c.done_of.ensures
+    let command = c.args.command in
+    let same = seg-raised g.was.seg c.args.low c.args.held.now.store c.raise.new.held.store c.requires.1.1.0.horizon c.raise.ensures.store in
+    subst
+    (λ (h : Gxid). HasDone g.was.script.tables c.start.new.held h c.in_ok-done.done (starts_slice (raised g.was.seg c.args.low) c.args.gxid command.cid command.level (Some command.snapshot) command.slice))
+    (sym (c.raise.ensures.horizon ∙ ap (λ (h : Gxid). greater h c.args.low) c.requires.1.1.1.0))
+    (subst
+    (λ (x : Seg). HasDone g.was.script.tables c.start.new.held x.horizon c.in_ok-done.done (starts_slice x c.args.gxid command.cid command.level (Some command.snapshot) command.slice))
+    (sym same)
+    c.in_ok-done.ensures.done)
+
+pub returns-clause-quiet : goal.returns-clause-quiet
+returns-clause-quiet g c =
+    let command = c.args.command in
+    let same = seg-raised g.was.seg c.args.low c.args.held.now.store c.raise.new.held.store c.requires.1.1.0.horizon c.raise.ensures.store in
+    subst (λ (x : Seg). IsQuiet c.in_ok-done.done (starts_slice x c.args.gxid command.cid command.level (Some command.snapshot) command.slice)) (sym same) c.in_ok-done.ensures.quiet

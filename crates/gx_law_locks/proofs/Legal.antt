@@ -1,0 +1,22 @@
+-- Over every run of the machine, locks are legal.
+use Rattle.std.proofs.Common.{◌≤◌, List, [], Bool}
+use Rattle.gx_script.specs.declared.Script.{Script}
+use Rattle.gx_store.specs.declared.event.Event.{Event}
+use Rattle.gx_store.specs.Language.{AreLinesNumbered}
+use Rattle.gx_rules.specs.Machine.{world_of}
+use Rattle.gx_law_locks.specs.Legal.{AreLocksLegal}
+use Rattle.gx_law_writes.proofs.World.{world-holds}
+use Rattle.gx_law_locks.proofs.Orders.{world-orders}
+use Rattle.gx_law_locks.proofs.World.{world-exclusive, world-lasting, world-locked}
+use Rattle.gx_law_locks.proofs.Writes.{under-steps}
+
+pub locks-legal : (script : Script) (some : 1 ≤ script.segments) → AreLinesNumbered [] script.lines → (es : List (Event × Bool)) → AreLocksLegal script (world_of script es).steps
+locks-legal script some numbered es =
+    let l = world-locked script some es in
+    record {
+      granted = l.granted;
+      exclusive = world-exclusive script some es;
+      late = l.late;
+      lasting = world-lasting script some es;
+      writes = under-steps script [] (world_of script es).steps (world-holds script some numbered es).legal (world-orders script some es).writes;
+    }

@@ -1,0 +1,85 @@
+-- A segment whose horizon has risen.
+use Rattle.std.proofs.Common.{◌≡◌, ◌≤◌, ◌<◌, ℕ, Bool, true, false, if◌then◌else◌, None, List, Option, refl, sym, ap, ◌∙◌, subst, arith}
+use Rattle.std.proofs.lemmas.Bool.Decides.{nat_tests}
+use Rattle.std.specs.BTreeMap.{get}
+use Rattle.std.specs.BTreeSet.{contains}
+use Rattle.std.specs.Prelude.{◌&&◌, not, nat_lt, filter, is_some, map}
+use Rattle.gx_ids.specs.declared.ids.Gxid.{Gxid}
+use Rattle.gx_tree.specs.declared.schema.Schema.{Schema}
+use Rattle.gx_dsnap.specs.Gxids.{gxid_cmp, is_below}
+use Rattle.gx_rows.specs.Counts.{is_committed}
+use Rattle.gx_rules.specs.AtSegment.{raised}
+use Rattle.gx_rules.specs.Fits.{holds_locks}
+use Rattle.gx_rules.specs.Maps.{each_below}
+use Rattle.gx_rules.specs.Segments.{Phase, Reading, Writing, Prepared, Committed, Forgotten, Aborted, Seg, has_committed, has_ended, local_of}
+use Rattle.gx_slices.specs.Agrees.{IsHeld, has_version, is_of_row, local_in, rows_in, write_of}
+use Rattle.gx_slices.specs.Store.{Store, greater, passes, status_of, writes_of}
+use Rattle.gx_slices.specs.Waiting.{AreWaits, IsRightWait, is_open}
+use Rattle.gx_slices.specs.declared.held.Held.{Held}
+use Rattle.gx_segment.proofs.Below.{each_below-none}
+use Rattle.gx_segment.proofs.Keeping.{raised-rises}
+
+open-holds : (p : Phase) (last : ℕ) → is_open p ≡ true → nat_lt 0 last ≡ true → not (nat_lt 0 last && not (has_ended p)) ≡ false
+open-holds Reading last e came = ap (λ (b : Bool). not (b && true)) came
+open-holds Writing last e came = ap (λ (b : Bool). not (b && true)) came
+open-holds Prepared last e came = absurd (cc)
+open-holds Committed last e came = absurd (cc)
+open-holds (Forgotten committed) last e came = absurd (cc)
+open-holds Aborted last e came = absurd (cc)
+
+module _ (tables : List Schema) (s : Seg) (h : Gxid) (was : AreWaits tables s) (nobody : each_below h.0 (λ n. not (holds_locks (s.locals n))) ≡ true) where
+  -- nobody who waits is below it
+  above : (g : Gxid) → not (holds_locks (local_of s g)) ≡ false → h.0 ≤ g.0
+  above g holds = by_test (nat_lt g.0 h.0) refl
+    where
+      differ : each_below h.0 (λ n. not (holds_locks (s.locals n))) ≡ false → ⊥
+      differ e = cc
+
+      by_test : (b : Bool) → nat_lt g.0 h.0 ≡ b → h.0 ≤ g.0
+      by_test true e = absurd (differ (each_below-none h.0 g.0 (λ n. not (holds_locks (s.locals n))) (grind (arith, nat_tests)) holds))
+      by_test false e = grind (arith, nat_tests)
+
+  alive-raised : (g : Gxid) → s.horizon.0 ≤ g.0 → h.0 ≤ g.0 → (raised s h).horizon.0 ≤ g.0
+  alive-raised g alive e = grind (arith, nat_tests)
+
+  pub AreWaits-raised : AreWaits tables (raised s h)
+  AreWaits-raised = record {
+    standing = was.standing;
+    right = λ g w e.
+        let is = was.right g w e in
+        record { alive = alive-raised g is.alive (above g (open-holds (local_of s g).phase (local_of s g).last is.open_here is.came)); open_here = is.open_here; came = is.came; right = is.right };
+  }
+
+-- what is held then, from what was done
+module _ (tables : List Schema) (held held' : Held) (s : Seg) (h : Gxid) (was : IsHeld tables held s) (waits : AreWaits tables (raised s h)) (store : held'.store ≡ record held.store { horizon = greater held.store.horizon h }) (horizon' : Gxid) (risen : horizon' ≡ greater s.horizon h) where
+  same : horizon' ≡ (raised s h).horizon
+  same = risen
+
+  low : (g : Gxid) → (raised s h).horizon.0 ≤ g.0 → s.horizon.0 ≤ g.0
+  low g up = let rises = raised-rises s h in omega (arith, up, rises)
+
+  high : (g : Gxid) → (raised s h).horizon.0 ≤ g.0 → horizon'.0 ≤ g.0
+  high g up = subst (λ (k : Gxid). k.0 ≤ g.0) (sym same) up
+
+  of_store : (P : Store → Type 0) → P (record held.store { horizon = greater held.store.horizon h }) → P held'.store
+  of_store P p = subst P (sym store) p
+
+  pub IsHeld-raised : ((g : Gxid) → horizon'.0 ≤ g.0 → get gxid_cmp held'.entries g ≡ get gxid_cmp held.entries g) → ((g : Gxid) → g.0 < horizon'.0 → get gxid_cmp held'.entries g ≡ None) → held'.holders ≡ held.holders → held'.locks ≡ held.locks → IsHeld tables held' (raised s h)
+  IsHeld-raised entries dropped holders locks = record {
+    horizon = ap (λ (x : Store). x.horizon) store ∙ ap (λ (k : Gxid). greater k h) was.horizon;
+    locals = λ g up. ap local_in (entries g (high g up)) ∙ was.locals g (low g up);
+    kept = λ g up. ap rows_in (entries g (high g up)) ∙ was.kept g (low g up);
+    dropped = λ g under. dropped g (subst (λ (k : Gxid). g.0 < k.0) (sym same) under);
+    holders = λ g. ap (λ hs. contains gxid_cmp hs g) holders ∙ was.holders g;
+    writes = λ table rid. of_store (λ x. writes_of x table rid ≡ map write_of (filter (is_of_row table rid) s.versions)) (was.writes table rid);
+    wrote = λ g. of_store (λ x. is_some (status_of x g) ≡ has_version s g) (was.wrote g);
+    committed = λ g. of_store (λ x. passes is_committed (status_of x g) ≡ (has_version s g && has_committed (local_of s g).phase)) (was.committed g);
+    typed = was.typed;
+    locks = locks ∙ was.locks;
+    waits = waits;
+  }
+
+-- the store's horizon is that of the data
+pub seg-raised : (s : Seg) (h : Gxid) (store store' : Store) → store.horizon ≡ s.horizon → store' ≡ record store { horizon = greater store.horizon h } → raised s h ≡ record s { horizon = store'.horizon }
+seg-raised s h store store' e risen =
+    sym (ap (λ (k : Gxid). let x : Seg = record s { horizon = k } in x) (ap (λ (x : Store). x.horizon) risen ∙ ap (λ (k : Gxid). greater k h) e))

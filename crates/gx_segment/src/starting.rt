@@ -1,0 +1,184 @@
+// A slice takes its table's lock and runs, or waits for it; and one that has waited goes on.
+ghost use Rattle.std.specs.Prelude.{◌≡◌, ◌++◌, true, false, nat_lt, None, Some, IfOk, IfSome};
+ghost use Rattle.gx_locks.specs.Locks.{is_ready, wait_of};
+ghost use Rattle.gx_rules.specs.AtSegment.{resumes};
+ghost use Rattle.gx_rules.specs.Segments.{after_marks, local_of};
+ghost use Rattle.gx_rules.specs.Slices.{requests, runs_slice, slice_lock, starts_slice};
+ghost use Rattle.gx_slices.specs.Agrees.{IsHeld};
+ghost use Rattle.gx_slices.specs.Ran.{MayRun};
+ghost use Rattle.gx_segment.specs.Before.{Before};
+ghost use Rattle.gx_segment.specs.Done.{HasDone, IsQuiet, answer_of};
+
+use crate::done::{Done, answer};
+use gx_ids::{Gxid, Mem, Node, Seq};
+use gx_modes::Mode;
+use gx_node::{Suspended, ask_for, claim_on, take_ready};
+use gx_outside::{Gate, pass};
+use gx_script::Script;
+use gx_slices::{Held, Ran, run_slice, suspend, wake};
+use gx_store::Mark;
+use gx_tree::Slice;
+use gx_waits::Claim;
+use std::alloc::Global;
+
+// The lock that a slice takes on its table.
+fn lock_of(gxid: Gxid, slice: &Slice) -> Option<Claim>
+    ensures value { result ≡ slice_lock gxid slice.now }
+    ensures own { IfSome result (λ wanted. wanted.gxid ≡ gxid) }
+{
+    match slice {
+        Slice::Select(query) => Some(claim_on(gxid, query.table, Mode::AccessShare)),
+        Slice::Insert(table, _) => Some(claim_on(gxid, *table, Mode::RowExclusive)),
+        Slice::Update(_, _, _) => None,
+        Slice::Delete(_, _) => None,
+        Slice::Lock(_, _) => None,
+    }
+}
+
+// The slice of a new command.
+pub(crate) fn start<G: Gate>(
+    alloc: Global,
+    node: Node,
+    script: &Script,
+    held: &mut Held,
+    gxid: Gxid,
+    command: Suspended,
+    gate: &G,
+) -> Mem<Done>
+    ghost was: { Before }
+    requires script { script.now ≡ was.script }
+    requires held { IsHeld was.script.tables held.old was.seg }
+    requires may { MayRun was.script.tables was.seg gxid command.cid command.slice }
+    requires new { nat_lt 0 command.cid.0 ≡ true }
+    requires node { node ≡ was.seg.node }
+    ensures done { IfOk result (λ done. HasDone was.script.tables held.new was.seg.horizon done (starts_slice was.seg gxid command.cid command.level (Some command.snapshot) command.slice)) }
+    ensures quiet { IfOk result (λ done. IsQuiet done (starts_slice was.seg gxid command.cid command.level (Some command.snapshot) command.slice)) }
+{
+    match lock_of(gxid, &command.slice) {
+        Some(wanted) => request(alloc, node, script, held, gxid, command, wanted, gate),
+        None => go_on(
+            alloc,
+            node,
+            script,
+            held,
+            gxid,
+            command,
+            gate,
+            Vec::new(alloc),
+        ),
+    }
+}
+
+// It asks for its lock.
+fn request<G: Gate>(
+    alloc: Global,
+    node: Node,
+    script: &Script,
+    held: &mut Held,
+    gxid: Gxid,
+    command: Suspended,
+    wanted: Claim,
+    gate: &G,
+) -> Mem<Done>
+    ghost was: { Before }
+    requires script { script.now ≡ was.script }
+    requires held { IsHeld was.script.tables held.old was.seg }
+    requires may { MayRun was.script.tables was.seg gxid command.cid command.slice }
+    requires new { nat_lt 0 command.cid.0 ≡ true }
+    requires own { wanted.gxid ≡ gxid }
+    requires node { node ≡ was.seg.node }
+    ensures done { IfOk result (λ done. HasDone was.script.tables held.new was.seg.horizon done (requests was.seg gxid command.cid command.level (Some command.snapshot) command.slice (Some wanted))) }
+    ensures quiet { IfOk result (λ done. IsQuiet done (requests was.seg gxid command.cid command.level (Some command.snapshot) command.slice (Some wanted))) }
+{
+    let mut marks = Vec::new(alloc);
+    if ask_for(node, &mut held.locks, wanted, &mut marks)? {
+        let done = go_on(alloc, node, script, held, gxid, command, gate, marks)?;
+        Ok(done)
+    } else {
+        suspend(alloc, held, gxid, command)?;
+        Ok(waits(marks))
+    }
+}
+
+fn waits(marks: Vec<Mark>) -> Done
+    ensures { result ≡ record { marks = marks.items; answer = None; fails = false } }
+{
+    Done {
+        marks: Seq::from_vec(marks),
+        answer: None,
+        fails: false,
+    }
+}
+
+// It runs, behind the marks so far.
+fn go_on<G: Gate>(
+    alloc: Global,
+    node: Node,
+    script: &Script,
+    held: &mut Held,
+    gxid: Gxid,
+    command: Suspended,
+    gate: &G,
+    marks: Vec<Mark>,
+) -> Mem<Done>
+    ghost was: { Before }
+    requires script { script.now ≡ was.script }
+    requires held { IsHeld was.script.tables held.old was.seg }
+    requires may { MayRun was.script.tables was.seg gxid command.cid command.slice }
+    requires node { node ≡ was.seg.node }
+    ensures done { IfOk result (λ done. HasDone was.script.tables held.new was.seg.horizon done (after_marks marks.items (runs_slice was.seg gxid command.cid (Some command.snapshot) command.slice))) }
+    ensures quiet { IfOk result (λ done. IsQuiet done (after_marks marks.items (runs_slice was.seg gxid command.cid (Some command.snapshot) command.slice))) }
+{
+    let passed = pass(gate, node);
+    let tables = script.tables.as_slice();
+    let Suspended {
+        cid,
+        level: _,
+        snapshot,
+        slice,
+    } = command;
+    let ran = run_slice(alloc, tables, passed, held, gxid, cid, &snapshot, slice)?;
+    let done = done_of(gxid, marks, ran)?;
+    Ok(done)
+}
+
+fn done_of(gxid: Gxid, mut marks: Vec<Mark>, ran: Ran) -> Mem<Done>
+    ensures { IfOk result (λ done. done ≡ record { marks = marks.items ++ ran.marks; answer = answer_of gxid (Some ran.reply); fails = false }) }
+{
+    let mut more = ran.marks.into_vec();
+    marks.append(&mut more)?;
+    Ok(Done {
+        marks: Seq::from_vec(marks),
+        answer: answer(gxid, Some(ran.reply)),
+        fails: false,
+    })
+}
+
+// A slice whose lock is free takes it and goes on.
+pub(crate) fn resume<G: Gate>(
+    alloc: Global,
+    node: Node,
+    script: &Script,
+    held: &mut Held,
+    gxid: Gxid,
+    gate: &G,
+) -> Mem<Done>
+    ghost was: { Before }
+    requires script { script.now ≡ was.script }
+    requires held { IsHeld was.script.tables held.old was.seg }
+    requires ready { is_ready was.seg.locks.holds (wait_of was.seg.locks gxid) ≡ true }
+    requires node { node ≡ was.seg.node }
+    ensures done { IfOk result (λ done. HasDone was.script.tables held.new was.seg.horizon done (resumes was.seg gxid (wait_of was.seg.locks gxid) (local_of was.seg gxid).suspended)) }
+    ensures quiet { IfOk result (λ done. IsQuiet done (resumes was.seg gxid (wait_of was.seg.locks gxid) (local_of was.seg gxid).suspended)) }
+{
+    let mut marks = Vec::new(alloc);
+    let waiting = wake(alloc, held, gxid)?;
+    take_ready(node, &mut held.locks, gxid, &mut marks)?;
+    match waiting {
+        Some(command) => {
+            let done = go_on(alloc, node, script, held, gxid, command, gate, marks)?;
+            Ok(done)
+        }
+        None => unreachable!(),
+    }
+}

@@ -1,0 +1,89 @@
+-- Who waits, after one transaction has changed.
+use Rattle.std.proofs.Common.{◌≡◌, ◌≢◌, ◌≤◌, Bool, true, false, not, if◌then◌else◌, List, [], ◌∷◌, ◌++◌, ◌||◌, Option, Some, None, refl, sym, ap, ◌∙◌, subst, eqb, ◌<◌, filter, arith}
+use Rattle.std.proofs.lemmas.Bool.Decides.{nat_tests}
+use Rattle.std.proofs.lemmas.List.Folds.{list_any-append}
+use Rattle.std.specs.List.{list_any}
+use Rattle.std.specs.Prelude.{is_some, nat_lt}
+use Rattle.gx_ids.specs.declared.ids.Gxid.{Gxid}
+use Rattle.gx_tree.specs.declared.schema.Schema.{Schema}
+use Rattle.gx_waits.specs.declared.claim.Claim.{Claim}
+use Rattle.gx_locks.specs.Claims.{is_of}
+use Rattle.gx_locks.specs.Locks.{Locks, without}
+use Rattle.gx_rules.specs.Fits.{is_waiting}
+use Rattle.gx_rules.specs.Locks.{with_hold}
+use Rattle.gx_rules.specs.Segments.{Local, Seg, Suspended, local_of}
+use Rattle.gx_slices.specs.Waiting.{AreWaits, IsRightWait, is_open}
+use Rattle.gx_slices.proofs.Gxids.{apart, differ, same_gxid}
+
+-- THOSE WHO WAIT
+-- one more
+pub waits-more : (h : Gxid) (waits : List Claim) (claim : Claim) → h.0 ≢ claim.gxid.0 → list_any (is_of h) (waits ++ claim ∷ []) ≡ list_any (is_of h) waits
+waits-more h waits claim other = list_any-append (is_of h) waits (claim ∷ []) ∙ ap (λ (b : Bool). list_any (is_of h) waits || (b || false)) (apart claim.gxid.0 h.0 (λ e. other (sym e))) ∙ neither (list_any (is_of h) waits)
+  where
+    neither : (a : Bool) → (a || (false || false)) ≡ a
+    neither true = refl
+    neither false = refl
+
+pub waits-own : (h : Gxid) (waits : List Claim) (claim : Claim) → eqb claim.gxid.0 h.0 ≡ true → list_any (is_of h) (waits ++ claim ∷ []) ≡ true
+waits-own h waits claim own = list_any-append (is_of h) waits (claim ∷ []) ∙ ap (λ (b : Bool). list_any (is_of h) waits || (b || false)) own ∙ either (list_any (is_of h) waits)
+  where
+    either : (a : Bool) → (a || (true || false)) ≡ true
+    either true = refl
+    either false = refl
+
+-- one less
+pub waits-without : (g : Gxid) (waits : List Claim) → list_any (is_of g) (without g waits) ≡ false
+waits-without g [] = refl
+waits-without g (claim ∷ waits) = by_test (is_of g claim) refl (waits-without g waits)
+  where
+    by_test : (b : Bool) → is_of g claim ≡ b → list_any (is_of g) (without g waits) ≡ false → list_any (is_of g) (if not b then claim ∷ without g waits else without g waits) ≡ false
+    by_test true e more = more
+    by_test false e more = ap (λ (b : Bool). b || list_any (is_of g) (without g waits)) e ∙ more
+
+pub waits-others : (g h : Gxid) (waits : List Claim) → h.0 ≢ g.0 → list_any (is_of h) (without g waits) ≡ list_any (is_of h) waits
+waits-others g h [] other = refl
+waits-others g h (claim ∷ waits) other = by_test (is_of g claim) refl (waits-others g h waits other)
+  where
+    is_other : eqb claim.gxid.0 g.0 ≡ true → eqb claim.gxid.0 h.0 ≡ false
+    is_other e = apart claim.gxid.0 h.0 (λ same. other (grind (arith, nat_tests)))
+
+    by_test : (b : Bool) → is_of g claim ≡ b → list_any (is_of h) (without g waits) ≡ list_any (is_of h) waits → list_any (is_of h) (if not b then claim ∷ without g waits else without g waits) ≡ (is_of h claim || list_any (is_of h) waits)
+    by_test true e more = more ∙ ap (λ (b : Bool). b || list_any (is_of h) waits) (sym (is_other e))
+    by_test false e more = ap (λ (b : Bool). is_of h claim || b) more
+
+-- ONE TRANSACTION CHANGES
+never : (o : Option Suspended) (w : Suspended) → is_some o ≡ false → o ≡ Some w → ⊥
+never None w free e = cc
+never (Some v) w free e = cc
+
+module _ (tables : List Schema) (s s' : Seg) (g : Gxid) (was : AreWaits tables s) (horizon : s'.horizon ≡ s.horizon) (others : (h : Gxid) → h.0 ≢ g.0 → local_of s' h ≡ local_of s h) (waits : (h : Gxid) → h.0 ≢ g.0 → list_any (is_of h) s'.locks.waits ≡ list_any (is_of h) s.locks.waits) where
+  right-other : (h : Gxid) (w : Suspended) → local_of s' h ≡ local_of s h → IsRightWait tables s h w → IsRightWait tables s' h w
+  right-other h w same is = record {
+    alive = subst (λ (k : Gxid). k.0 ≤ h.0) (sym horizon) is.alive;
+    open_here = ap (λ (l : Local). is_open l.phase) same ∙ is.open_here;
+    came = ap (λ (l : Local). nat_lt 0 l.last) same ∙ is.came;
+    right = is.right;
+  }
+
+  module _ (own : list_any (is_of g) s'.locks.waits ≡ is_waiting (local_of s' g)) (fits : (w : Suspended) → (local_of s' g).suspended ≡ Some w → IsRightWait tables s' g w) where
+    standing : (h : Gxid) (b : Bool) → eqb h.0 g.0 ≡ b → list_any (is_of h) s'.locks.waits ≡ is_waiting (local_of s' h)
+    standing h true e = subst (λ (k : Gxid). list_any (is_of k) s'.locks.waits ≡ is_waiting (local_of s' k)) (same_gxid g h e) own
+    standing h false e = let other = differ h.0 g.0 e in waits h other ∙ was.standing h ∙ ap is_waiting (sym (others h other))
+
+    right : (h : Gxid) (w : Suspended) (b : Bool) → eqb h.0 g.0 ≡ b → (local_of s' h).suspended ≡ Some w → IsRightWait tables s' h w
+    right h w true e = subst (λ (k : Gxid). (local_of s' k).suspended ≡ Some w → IsRightWait tables s' k w) (same_gxid g h e) (fits w)
+    right h w false e = λ is. let same = others h (differ h.0 g.0 e) in right-other h w same (was.right h w (sym (ap (λ (l : Local). l.suspended) same) ∙ is))
+
+    pub AreWaits-one : AreWaits tables s'
+    AreWaits-one = record { standing = λ h. standing h (eqb h.0 g.0) refl; right = λ h w is. right h w (eqb h.0 g.0) refl is }
+
+  -- which doesn't wait
+  pub AreWaits-free : list_any (is_of g) s'.locks.waits ≡ false → is_waiting (local_of s' g) ≡ false → AreWaits tables s'
+  AreWaits-free none free = AreWaits-one (none ∙ sym free) (λ w is. absurd (never (local_of s' g).suspended w free is))
+
+-- a lock is held
+pub AreWaits-hold : (tables : List Schema) (s : Seg) (wanted : Claim) → AreWaits tables s → AreWaits tables (record s { locks = with_hold s.locks wanted })
+AreWaits-hold tables s wanted was = record {
+  standing = was.standing;
+  right = λ g w e. let is = was.right g w e in record { alive = is.alive; open_here = is.open_here; came = is.came; right = is.right };
+}

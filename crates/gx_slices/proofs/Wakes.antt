@@ -1,0 +1,144 @@
+-- What is held, with a slice that waits for its table, and with one that waits no more.
+use Rattle.std.proofs.Common.{◌≡◌, ◌≢◌, ◌≤◌, Bool, true, false, if◌then◌else◌, List, [], ◌∷◌, ◌++◌, Option, Some, None, refl, sym, ap, ◌∙◌, subst}
+use Rattle.std.specs.List.{list_any}
+use Rattle.std.specs.BTreeSet.{contains}
+use Rattle.std.specs.Prelude.{◌||◌, find, nat_lt, option_map}
+use Rattle.gx_dsnap.specs.Gxids.{gxid_cmp}
+use Rattle.gx_ids.specs.declared.ids.Gxid.{Gxid}
+use Rattle.gx_tree.specs.declared.schema.Schema.{Schema}
+use Rattle.gx_waits.specs.declared.claim.Claim.{Claim}
+use Rattle.gx_locks.specs.Claims.{is_of}
+use Rattle.gx_locks.specs.Locks.{Locks, is_ready, resumed, wait_of, without}
+use Rattle.gx_node.specs.Phases as code_of
+use Rattle.gx_node.specs.Phases.{suspended_of}
+use Rattle.gx_node.specs.Right.{IsRightFor}
+use Rattle.gx_node.specs.declared.local.Suspended as code
+use Rattle.gx_rules.specs.Fits.{is_waiting}
+use Rattle.gx_rules.specs.Locks.{with_wait}
+use Rattle.gx_rules.specs.Segments.{Local, Seg, Suspended, local_of, with_local}
+use Rattle.gx_rules.specs.Shown.{kept_of}
+use Rattle.gx_slices.specs.Agrees.{IsHeld, entry_at, local_in, rows_in}
+use Rattle.gx_slices.specs.Apart.{IsStored}
+use Rattle.gx_slices.specs.Ran.{MayRun}
+use Rattle.gx_slices.specs.Store.{Store}
+use Rattle.gx_slices.specs.Suspensions.{HasSuspended, HasWoken, suspended, woken}
+use Rattle.gx_slices.specs.Waiting.{AreWaits, IsRightWait, is_open}
+use Rattle.gx_slices.specs.declared.held.Held.{Held}
+use Rattle.gx_slices.proofs.Closing.{IsHeld-now, IsNow, IsNow-back, IsStored-held}
+use Rattle.gx_slices.proofs.Gxids.{apart, itself}
+use Rattle.gx_slices.proofs.Waiting.{AreWaits-free, AreWaits-one, waits-more, waits-others, waits-own, waits-without}
+
+-- with another record of one transaction
+module _ (s : Seg) (g : Gxid) (l : Local) where
+  pub own_at : local_of (with_local s g l) g ≡ l
+  own_at = ap (λ (b : Bool). if b then l else local_of s g) (itself g.0)
+
+  pub other_at : (h : Gxid) → h.0 ≢ g.0 → local_of (with_local s g l) h ≡ local_of s h
+  other_at h other = ap (λ (b : Bool). if b then l else local_of s h) (apart h.0 g.0 other)
+
+-- IT WAITS
+module _ (tables : List Schema) (held locked new : Held) (s : Seg) (g : Gxid) (w : code.Suspended) (wanted : Claim) (was : IsHeld tables held s) (may : MayRun tables s g w.cid w.slice) (came : nat_lt 0 w.cid.0 ≡ true) (own : wanted.gxid ≡ g) (entries : locked.entries ≡ held.entries) (holders : locked.holders ≡ held.holders) (store : locked.store ≡ held.store) (locks : locked.locks ≡ with_wait s.locks wanted) (did : HasSuspended locked new g w) where
+  abbrev waiting : Local
+  waiting = record (local_of s g) { last = w.cid.0; answer = None; suspended = Some (suspended_of w) }
+
+  abbrev after : Seg
+  after = record (with_local s g waiting) { locks = with_wait s.locks wanted }
+
+  at_other : (h : Gxid) → h.0 ≢ g.0 → h.0 ≢ wanted.gxid.0
+  at_other h other = λ e. other (e ∙ ap (λ (k : Gxid). k.0) own)
+
+  waits-after : AreWaits tables after
+  waits-after =
+      AreWaits-one tables s after g was.waits refl (other_at s g waiting) (λ h other. waits-more h s.locks.waits wanted (at_other h other))
+      (waits-own g s.locks.waits wanted (ap (λ (k : Gxid). is_of g (record wanted { gxid = k })) own ∙ itself g.0) ∙ sym (ap is_waiting (own_at s g waiting)))
+      (λ v e. record {
+        alive = may.alive;
+        open_here = ap (λ (l : Local). is_open l.phase) (own_at s g waiting) ∙ may.open_here;
+        came = ap (λ (l : Local). nat_lt 0 l.last) (own_at s g waiting) ∙ came;
+        right = subst (λ (x : Suspended). IsRightFor tables g x.cid x.slice true) (same (suspended_of w) v (sym (ap (λ (l : Local). l.suspended) (own_at s g waiting)) ∙ e)) may.right;
+      })
+    where
+      same : (x y : Suspended) → Some x ≡ Some y → x ≡ y
+      same x y e = ap (λ (o : Option Suspended). in_some o) e
+        where
+          in_some : Option Suspended → Suspended
+          in_some None = x
+          in_some (Some z) = z
+
+  entries_at : (h : Gxid) → entry_at locked h ≡ entry_at held h
+  entries_at h = ap (λ es. entry_at (record locked { entries = es }) h) entries
+
+  pub IsHeld-suspended : IsHeld tables new after
+  IsHeld-suspended =
+      let entry = did.entry in
+      let local = did.local ∙ ap local_in (entries_at g) ∙ was.locals g may.alive in
+      IsHeld-now tables held new s s g waiting (with_wait s.locks wanted) was may.alive
+      (subst (λ (x : Store). IsStored x s) (sym (did.back.store ∙ store)) (IsStored-held tables held s was)) refl (λ h other. refl) (λ h other. refl)
+      (IsNow-back held locked new g w.cid (suspended entry w) (λ h other. entries_at h) holders did.back waiting (kept_of s g)
+      (ap (λ (l : Local). let m : Local = record l { last = w.cid.0; answer = None; suspended = Some (suspended_of w) } in m) local) (did.kept ∙ ap rows_in (entries_at g) ∙ was.kept g may.alive) may.open_here refl)
+      refl (did.back.locks ∙ locks) waits-after was.typed
+
+-- IT WAITS NO MORE
+module _ (tables : List Schema) (old woke : Held) (s : Seg) (g : Gxid) (waiting : Option code.Suspended) (locks : Locks) (was : IsHeld tables old s) (alive : s.horizon.0 ≤ g.0) (did : HasWoken old woke g waiting) (emptied : locks.waits ≡ without g s.locks.waits) where
+  abbrev pub awake : Local → Local
+  awake l = record l { suspended = None }
+
+  abbrev pub free : Seg
+  free = record (with_local s g (awake (local_of s g))) { locks = locks }
+
+  its_local : code_of.local_of did.entry.local ≡ local_of s g
+  its_local = did.local ∙ was.locals g alive
+
+  pub suspended-woken : option_map suspended_of waiting ≡ (local_of s g).suspended
+  suspended-woken = ap (option_map suspended_of) did.waiting ∙ ap (λ (l : Local). l.suspended) its_local
+
+  waits-free : AreWaits tables free
+  waits-free =
+      AreWaits-free tables s free g was.waits refl (other_at s g (awake (local_of s g))) (λ h other. ap (list_any (is_of h)) emptied ∙ waits-others g h s.locks.waits other)
+      (ap (list_any (is_of g)) emptied ∙ waits-without g s.locks.waits) (ap is_waiting (own_at s g (awake (local_of s g))))
+
+  pub IsHeld-woken : (now : Locks) → now ≡ locks → IsHeld tables (record woke { locks = now }) free
+  IsHeld-woken now same =
+      IsHeld-now tables old (record woke { locks = now }) s s g (awake (local_of s g)) locks was alive
+      (subst (λ (x : Store). IsStored x s) (sym did.store) (IsStored-held tables old s was)) refl (λ h other. refl) (λ h other. refl)
+      (record {
+        local_is = ap local_in did.here ∙ ap awake its_local;
+        rows_are = ap rows_in did.here ∙ did.kept ∙ was.kept g alive;
+        entries = did.entries;
+        holds = ap (λ hs. contains gxid_cmp hs g) did.holders ∙ was.holders g;
+        holders = λ h other. ap (λ hs. contains gxid_cmp hs h) did.holders;
+      })
+      refl same waits-free was.typed
+
+  -- and may run
+  pub MayRun-woken : (v : Suspended) → IsRightWait tables s g v → MayRun tables free g v.cid v.slice
+  MayRun-woken v right = record {
+    alive = alive;
+    open_here = ap (λ (l : Local). is_open l.phase) (own_at s g (awake (local_of s g))) ∙ right.open_here;
+    free = ap is_waiting (own_at s g (awake (local_of s g)));
+    right = right.right;
+  }
+
+-- who waits for a lock has a slice that waits
+found-any : (p : Claim → Bool) (claims : List Claim) (claim : Claim) → find p claims ≡ Some claim → list_any p claims ≡ true
+found-any p [] claim e = absurd (cc)
+found-any p (x ∷ xs) claim e = by_test (p x) refl (found-any p xs claim)
+  where
+    by_test : (b : Bool) → p x ≡ b → (find p xs ≡ Some claim → list_any p xs ≡ true) → (p x || list_any p xs) ≡ true
+    by_test true t more = ap (λ (b : Bool). b || list_any p xs) t
+    by_test false t more = ap (λ (b : Bool). b || list_any p xs) t ∙ more (sym (ap (λ (b : Bool). if b then Some x else find p xs) t) ∙ e)
+
+module _ (tables : List Schema) (s : Seg) (g : Gxid) (was : AreWaits tables s) (ready : is_ready s.locks.holds (wait_of s.locks g) ≡ true) where
+  pub slice-waits : is_waiting (local_of s g) ≡ true
+  slice-waits = sym (was.standing g) ∙ either (wait_of s.locks g) refl ready
+    where
+      either : (o : Option Claim) → wait_of s.locks g ≡ o → is_ready s.locks.holds o ≡ true → list_any (is_of g) s.locks.waits ≡ true
+      either None e f = absurd (cc)
+      either (Some claim) e f = found-any (is_of g) s.locks.waits claim e
+
+  pub emptied-resumed : (resumed s.locks g (wait_of s.locks g)).waits ≡ without g s.locks.waits
+  emptied-resumed = either (wait_of s.locks g) ready
+    where
+      either : (o : Option Claim) → is_ready s.locks.holds o ≡ true → (resumed s.locks g o).waits ≡ without g s.locks.waits
+      either None f = absurd (cc)
+      either (Some claim) f = refl

@@ -1,0 +1,33 @@
+// Slices that wait for their table's lock.
+ghost use Rattle.std.specs.Prelude.{◌≡◌, IfOk, OnOk};
+ghost use Rattle.gx_slices.specs.Suspensions.{HasSuspended, HasWoken};
+
+use crate::entries::{put_entry, set_holder, take_entry};
+use crate::held::Held;
+use gx_ids::{Gxid, Mem};
+use gx_node::Suspended;
+use std::alloc::Global;
+
+/// A command has come to a transaction, and its slice waits from now on. It isn't answered yet. After want of memory what is held
+/// is spent.
+pub fn suspend(alloc: Global, held: &mut Held, gxid: Gxid, waiting: Suspended) -> Mem<()>
+    ensures { OnOk result (HasSuspended held.old held.new gxid waiting) }
+{
+    let cid = waiting.cid;
+    let mut entry = take_entry(alloc, &mut held.entries, gxid);
+    entry.local.last = cid.0;
+    entry.local.answer = None;
+    entry.local.suspended = Some(waiting);
+    put_entry(&mut held.entries, gxid, entry)?;
+    set_holder(&mut held.holders, gxid, cid.0 > 0)
+}
+
+/// The slice of a transaction that has waited, if there is one. It waits no more. After want of memory what is held is spent.
+pub fn wake(alloc: Global, held: &mut Held, gxid: Gxid) -> Mem<Option<Suspended>>
+    ensures { IfOk result (λ waiting. HasWoken held.old held.new gxid waiting) }
+{
+    let mut entry = take_entry(alloc, &mut held.entries, gxid);
+    let waiting = entry.local.suspended.take();
+    put_entry(&mut held.entries, gxid, entry)?;
+    Ok(waiting)
+}

@@ -1,0 +1,20 @@
+// The whole text.
+ghost use Rattle.std.specs.Prelude.{◌≡◌, IfOk};
+ghost use Rattle.gx_words.specs.Work.{work_text};
+
+use crate::batches::push_batches;
+use crate::draws::words_of;
+use crate::head::push_head;
+use gx_ids::Mem;
+use std::alloc::Global;
+
+/// The generated script of a number.
+pub fn generate(alloc: Global, number: u64) -> Mem<Vec<u8>>
+    ensures { IfOk result (λ text. text.items ≡ work_text number) }
+{
+    let words = words_of(alloc, number)?;
+    let mut text = Vec::new(alloc);
+    push_head(&mut text)?;
+    push_batches(alloc, &mut text, 100, words.as_slice())?;
+    Ok(text)
+}

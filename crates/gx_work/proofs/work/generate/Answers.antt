@@ -1,9 +1,0 @@
-use Rattle.std.proofs.Common.{rules}
-use Rattle.gx_work.proofs.Nexts.{length-drawn, whole}
-use Rattle.gx_work.proofs.work.generate.Goals as goal
-
-pub push_batches-requires : goal.push_batches-requires
-push_batches-requires c = length-drawn _ _ c.args.number (search rules) c.in_ok-words.ensures
-
-pub returns : goal.returns
-returns c = whole c.args.number _ _ _ _ _ (search rules) c.in_ok-push_head.ensures c.in_ok-push_batches.ensures (search rules) c.in_ok-words.ensures
