@@ -17,9 +17,8 @@ use Rattle.gx_node.specs.Phases.{suspended_of}
 use Rattle.gx_node.specs.declared.local.Suspended as code
 use Rattle.gx_store.specs.declared.mark.Mark.{Mark}
 use Rattle.gx_rules.specs.AtSegment.{resumes}
-use Rattle.gx_rules.specs.Fits.{is_waiting}
 use Rattle.gx_rules.specs.Locks.{with_hold}
-use Rattle.gx_rules.specs.Segments.{Local, Seg, SegTurn, Suspended, after_marks, local_of, with_local}
+use Rattle.gx_rules.specs.Segments.{Seg, SegTurn, Suspended, after_marks, local_of, with_local}
 use Rattle.gx_rules.specs.Slices.{requests, runs_locked, runs_slice, suspends}
 use Rattle.gx_slices.specs.Agrees.{IsHeld}
 use Rattle.gx_slices.specs.Ran.{MayRun}

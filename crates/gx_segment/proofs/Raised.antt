@@ -1,12 +1,12 @@
 -- A segment whose horizon has risen.
-use Rattle.std.proofs.Common.{◌≡◌, ◌≤◌, ◌<◌, ℕ, Bool, true, false, if◌then◌else◌, None, List, Option, refl, sym, ap, ◌∙◌, subst, arith}
+use Rattle.std.proofs.Common.{◌≡◌, ◌≤◌, ◌<◌, ℕ, Bool, true, false, None, List, refl, sym, ap, ◌∙◌, subst, arith}
 use Rattle.std.proofs.lemmas.Bool.Decides.{nat_tests}
 use Rattle.std.specs.BTreeMap.{get}
 use Rattle.std.specs.BTreeSet.{contains}
 use Rattle.std.specs.Prelude.{◌&&◌, not, nat_lt, filter, is_some, map}
 use Rattle.gx_ids.specs.declared.ids.Gxid.{Gxid}
 use Rattle.gx_tree.specs.declared.schema.Schema.{Schema}
-use Rattle.gx_dsnap.specs.Gxids.{gxid_cmp, is_below}
+use Rattle.gx_dsnap.specs.Gxids.{gxid_cmp}
 use Rattle.gx_rows.specs.Counts.{is_committed}
 use Rattle.gx_rules.specs.AtSegment.{raised}
 use Rattle.gx_rules.specs.Fits.{holds_locks}
@@ -14,7 +14,7 @@ use Rattle.gx_rules.specs.Maps.{each_below}
 use Rattle.gx_rules.specs.Segments.{Phase, Reading, Writing, Prepared, Committed, Forgotten, Aborted, Seg, has_committed, has_ended, local_of}
 use Rattle.gx_slices.specs.Agrees.{IsHeld, has_version, is_of_row, local_in, rows_in, write_of}
 use Rattle.gx_slices.specs.Store.{Store, greater, passes, status_of, writes_of}
-use Rattle.gx_slices.specs.Waiting.{AreWaits, IsRightWait, is_open}
+use Rattle.gx_slices.specs.Waiting.{AreWaits, is_open}
 use Rattle.gx_slices.specs.declared.held.Held.{Held}
 use Rattle.gx_segment.proofs.Below.{each_below-none}
 use Rattle.gx_segment.proofs.Keeping.{raised-rises}

@@ -1,6 +1,6 @@
 -- What is held, with a transaction's entry taken out, and put back.
 use Rattle.std.proofs.Common.{◌≡◌, ◌≢◌, Bool, true, false, ℕ, if◌then◌else◌, ◌&&◌, not, eqb, List, None, Some, refl, sym, ap, ◌∙◌, subst, arith}
-use Rattle.std.specs.Prelude.{◌<◌, ◌≤◌, nat_lt, is_some, filter, map, All, IsTrue}
+use Rattle.std.specs.Prelude.{◌<◌, ◌≤◌, nat_lt, All, IsTrue}
 use Rattle.std.specs.BTreeSet.{contains}
 use Rattle.std.specs.List.{list_any}
 use Rattle.gx_ids.specs.declared.ids.Cid.{Cid}
@@ -11,14 +11,13 @@ use Rattle.gx_locks.specs.Claims.{is_of}
 use Rattle.gx_locks.specs.Locks.{Locks}
 use Rattle.gx_msg.specs.declared.item.Kept.{Kept}
 use Rattle.gx_msg.specs.declared.reply.Reply.{Reply}
-use Rattle.gx_rows.specs.Counts.{is_committed}
-use Rattle.gx_slices.specs.Store.{Store, passes, status_of, writes_of}
+use Rattle.gx_slices.specs.Store.{Store}
 use Rattle.gx_node.specs.Phases.{local_of}
 use Rattle.gx_rules.specs.Fits.{holds_locks, is_waiting}
 use Rattle.gx_rules.specs.Segments as rule
 use Rattle.gx_rules.specs.Segments.{Phase, Reading, Writing, Prepared, Committed, Forgotten, Aborted, Seg, has_committed, has_ended, with_local}
 use Rattle.gx_rules.specs.Shown.{kept_of}
-use Rattle.gx_slices.specs.Agrees.{IsHeld, entry_at, has_version, is_of_row, is_right_version, local_in, rows_in, write_of}
+use Rattle.gx_slices.specs.Agrees.{IsHeld, entry_at, has_version, is_right_version, local_in, rows_in}
 use Rattle.gx_slices.specs.Apart.{IsApart, IsBack, IsStored, answered}
 use Rattle.gx_slices.specs.Waiting.{AreWaits, is_open}
 use Rattle.gx_slices.specs.declared.held.Entry.{Entry}

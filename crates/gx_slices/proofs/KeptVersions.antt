@@ -1,5 +1,5 @@
 -- What stands at a row of a table, when a version is added, and when its versions are told by gxids.
-use Rattle.std.proofs.Common.{◌≡◌, ◌≢◌, List, [], ◌∷◌, ◌++◌, refl, sym, ap, ◌∙◌, false, arith, map}
+use Rattle.std.proofs.Common.{◌≡◌, ◌≢◌, List, [], ◌∷◌, ◌++◌, refl, ap, ◌∙◌, false, arith, map}
 use Rattle.std.proofs.lemmas.Bool.Decides.{nat_tests}
 use Rattle.std.proofs.lemmas.Cmp.{nat_cmp_total, on_total}
 use Rattle.std.proofs.lemmas.Map.Made.{lookup-map_values}
@@ -8,7 +8,6 @@ use Rattle.std.specs.Prelude.{Option, None, Some, option_map, unwrap_or}
 use Rattle.std.specs.Map.{lookup}
 use Rattle.std.specs.BTreeMap.{is_at}
 use Rattle.std.specs.Ordering.{is_eq}
-use Rattle.gx_ids.specs.declared.ids.Gxid.{Gxid}
 use Rattle.gx_ids.specs.declared.ids.Table.{Table}
 use Rattle.gx_ids.specs.declared.rid.Rid.{Rid}
 use Rattle.gx_rows.specs.declared.version.Version.{Version}
@@ -16,7 +15,7 @@ use Rattle.gx_rows.specs.Rids.{rid_cmp}
 use Rattle.gx_rows.specs.Rows.{versions_of, added}
 use Rattle.gx_rows.proofs.Entries.{rid_cmp-total, lookup-insert_entry_same, lookup-insert_entry_other}
 use Rattle.gx_slices.specs.Store.{Write, table_cmp, kept_at}
-use Rattle.gx_slices.specs.Filed.{write_of, versions_in, filed}
+use Rattle.gx_slices.specs.Filed.{versions_in, filed}
 
 pub table_cmp-total : IsTotalOrder table_cmp
 table_cmp-total = on_total (λ (t : Table). t.0) nat_cmp_total

@@ -1,5 +1,5 @@
 -- A reader is shown the same by gxids as by lxids.
-use Rattle.std.proofs.Common.{◌≡◌, ℕ, ◌≤◌, List, [], ◌∷◌, ◌++◌, map, length, refl, sym, ap, ◌∙◌, subst, Bool, true, false, cond, eqb, ltb, arith, ◌&&◌, ◌||◌}
+use Rattle.std.proofs.Common.{◌≡◌, ℕ, ◌≤◌, List, [], ◌∷◌, map, length, refl, sym, ap, ◌∙◌, subst, Bool, true, false, cond, eqb, ltb, arith, ◌&&◌, ◌||◌}
 use Rattle.std.proofs.lemmas.Bool.Decides.{nat_tests}
 use Rattle.std.proofs.lemmas.List.{reverse-append}
 use Rattle.std.proofs.lemmas.List.Folds.{find-append}
@@ -23,7 +23,7 @@ use Rattle.gx_rows.specs.Counts.{counts, is_committed, is_seen, shown_of}
 use Rattle.gx_rows.specs.Counts as counted
 use Rattle.gx_rows.proofs.Dropped.{counts-truncated}
 use Rattle.gx_slices.specs.declared.current.Current.{Current}
-use Rattle.gx_slices.specs.Store.{Write, current_of, is_own, is_seen_from, is_shown, is_shown_from, kept_at, newest_of, passes, shown_row, shown_row_from, status_of, writes_of}
+use Rattle.gx_slices.specs.Store.{Write, current_of, is_seen_from, is_shown, is_shown_from, kept_at, newest_of, passes, shown_row, shown_row_from, status_of, writes_of}
 use Rattle.gx_slices.specs.Filed.{IsFiled, IsSound, current_at, gxid_at, last_unaborted, store_of, write_of}
 use Rattle.gx_slices.proofs.KeptVersions.{kept_at-map}
 use Rattle.gx_slices.proofs.Lxids.{at_lxid-lxid_in, lxid_of-high}

@@ -1,5 +1,5 @@
 -- What is held, with a slice that waits for its table, and with one that waits no more.
-use Rattle.std.proofs.Common.{◌≡◌, ◌≢◌, ◌≤◌, Bool, true, false, if◌then◌else◌, List, [], ◌∷◌, ◌++◌, Option, Some, None, refl, sym, ap, ◌∙◌, subst}
+use Rattle.std.proofs.Common.{◌≡◌, ◌≢◌, ◌≤◌, Bool, true, false, if◌then◌else◌, List, [], ◌∷◌, Option, Some, None, refl, sym, ap, ◌∙◌, subst}
 use Rattle.std.specs.List.{list_any}
 use Rattle.std.specs.BTreeSet.{contains}
 use Rattle.std.specs.Prelude.{◌||◌, find, nat_lt, option_map}
@@ -21,10 +21,10 @@ use Rattle.gx_slices.specs.Agrees.{IsHeld, entry_at, local_in, rows_in}
 use Rattle.gx_slices.specs.Apart.{IsStored}
 use Rattle.gx_slices.specs.Ran.{MayRun}
 use Rattle.gx_slices.specs.Store.{Store}
-use Rattle.gx_slices.specs.Suspensions.{HasSuspended, HasWoken, suspended, woken}
+use Rattle.gx_slices.specs.Suspensions.{HasSuspended, HasWoken, suspended}
 use Rattle.gx_slices.specs.Waiting.{AreWaits, IsRightWait, is_open}
 use Rattle.gx_slices.specs.declared.held.Held.{Held}
-use Rattle.gx_slices.proofs.Closing.{IsHeld-now, IsNow, IsNow-back, IsStored-held}
+use Rattle.gx_slices.proofs.Closing.{IsHeld-now, IsNow-back, IsStored-held}
 use Rattle.gx_slices.proofs.Gxids.{apart, itself}
 use Rattle.gx_slices.proofs.Waiting.{AreWaits-free, AreWaits-one, waits-more, waits-others, waits-own, waits-without}
 

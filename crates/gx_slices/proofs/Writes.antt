@@ -1,9 +1,8 @@
 -- What one version more does to the store.
-use Rattle.std.proofs.Common.{◌≡◌, ◌≢◌, ℕ, ◌+◌, ◌≤◌, List, [], ◌∷◌, ◌++◌, length, length-append, map, refl, sym, ap, ◌∙◌, subst, Bool, true, false, cond, arith, ◌⊎◌, ⊎_elim, inl, inr}
+use Rattle.std.proofs.Common.{◌≡◌, ◌≢◌, ℕ, ◌+◌, List, [], ◌∷◌, ◌++◌, length-append, map, refl, sym, ap, ◌∙◌, subst, Bool, true, false, cond, ◌⊎◌, ⊎_elim, inl, inr}
 use Rattle.std.proofs.lemmas.Bool.{cases_eq}
 use Rattle.std.proofs.lemmas.List.{map-append}
-use Rattle.std.proofs.lemmas.Bool.Decides.{nat_tests}
-use Rattle.std.specs.Prelude.{Option, None, Some, Result, Ok, Err, OnOk, OnErr, option_map, is_some, unwrap_or}
+use Rattle.std.specs.Prelude.{Option, None, Some, Result, Ok, Err, OnOk, OnErr, is_some, unwrap_or}
 use Rattle.std.specs.List.{AllByRecursion}
 use Rattle.gx_ids.specs.declared.ids.Cid.{Cid}
 use Rattle.gx_ids.specs.declared.ids.Gxid.{Gxid}
@@ -16,7 +15,7 @@ use Rattle.gx_rows.specs.declared.status.LocalStatus.{LocalStatus}
 use Rattle.gx_rows.specs.declared.status.LocalStatus.TheVariants.{Running}
 use Rattle.gx_rows.specs.Xids.{Xids, assigned, lxid_in, lxid_of}
 use Rattle.gx_rows.specs.declared.version.Version.{Version}
-use Rattle.gx_slices.specs.Store.{Store, Write, Writer, kept_at, status_of, writes_of}
+use Rattle.gx_slices.specs.Store.{Write, Writer, kept_at, status_of, writes_of}
 use Rattle.gx_slices.specs.Filed.{IsFiled, IsSound, IsWritten, filed, gxid_at, store_of, with_writer, write_of}
 use Rattle.gx_slices.proofs.KeptVersions.{kept_at-filed, kept_at-filed_row, kept_at-filed_table, kept_at-map}
 use Rattle.gx_slices.proofs.Lxids.{AllByRecursion-push, IsFiled-push, gxid_at-lxid_in, lxid_in-lxid_of, write_of-push}

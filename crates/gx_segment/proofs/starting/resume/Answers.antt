@@ -1,4 +1,4 @@
-use Rattle.std.proofs.Common.{List, [], ◌++◌, ◌∙◌, ap}
+use Rattle.std.proofs.Common.{List, ◌++◌, ◌∙◌, ap}
 use Rattle.gx_locks.specs.Locks.{wait_of}
 use Rattle.gx_node.specs.Locking.{resumed_marks}
 use Rattle.gx_store.specs.declared.mark.Mark.{Mark}

@@ -1,6 +1,5 @@
-use Rattle.std.proofs.Common.{◌≡◌, ◌≢◌, ◌∙◌, ◌≤◌, sym, ap, subst}
+use Rattle.std.proofs.Common.{◌∙◌, ◌≤◌, sym, ap, subst}
 use Rattle.std.specs.Prelude.{option_map}
-use Rattle.gx_ids.specs.declared.ids.Gxid.{Gxid}
 use Rattle.gx_rows.specs.Xids.{Xids}
 use Rattle.gx_slices.specs.Store.{Store, status_of}
 use Rattle.gx_slices.specs.Filed.{store_of}

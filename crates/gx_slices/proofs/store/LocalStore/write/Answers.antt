@@ -1,10 +1,10 @@
-use Rattle.std.proofs.Common.{◌≡◌, ◌≢◌, ◌∙◌, ◌++◌, ◌∷◌, [], ◌⊎◌, sym, ap, subst}
+use Rattle.std.proofs.Common.{◌≡◌, ◌≢◌, ◌++◌, ◌∷◌, [], ◌⊎◌, subst}
 use Rattle.std.specs.Prelude.{OnOk, OnErr, Some, unwrap_or}
 use Rattle.gx_ids.specs.declared.ids.Gxid.{Gxid}
 use Rattle.gx_ids.specs.declared.ids.Table.{Table}
 use Rattle.gx_ids.specs.declared.rid.Rid.{Rid}
 use Rattle.gx_rows.specs.declared.status.LocalStatus.TheVariants.{Running}
-use Rattle.gx_slices.specs.Store.{Store, Write, status_of, writes_of}
+use Rattle.gx_slices.specs.Store.{Store, status_of, writes_of}
 use Rattle.gx_slices.specs.Filed.{store_of}
 use Rattle.gx_slices.proofs.Writes.{IsSound-tried, OnErr-status, OnErr-writes, OnOk-weaker, status_of-tried_other, status_of-writer, writes_of-written, writes_of-written_row, writes_of-written_table}
 use Rattle.gx_slices.proofs.store.LocalStore.write.Goals as goal
