@@ -1,5 +1,5 @@
 -- What the work came to, once a script or no script was read.
-use Rattle.std.proofs.Common.{◌≡◌, ◌⊎◌, inl, inr, ℕ, List, [], Option, true, Ok, Err, Bool, false}
+use Rattle.std.proofs.Common.{◌≡◌, inl, inr, ℕ, List, Option, true, Ok}
 use Rattle.std.specs.declared.alloc.Global.{Global}
 use Rattle.std.specs.declared.string.String.{String}
 use Rattle.gx_words.specs.declared.options.Options.{Options}

@@ -1,4 +1,4 @@
--- A run that is reached by the schedule is one of the script.
+-- A run that is reached and driven is one of the script.
 use Rattle.std.proofs.Common.{◌≡◌, ◌<◌, ℕ, List, [], ◌∷◌, Option, false, subst, sym, length}
 use Rattle.std.proofs.lemmas.List.Elements.{All-from_recursion, recursion_from_All}
 use Rattle.std.specs.List.{AllByRecursion}

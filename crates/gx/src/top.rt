@@ -65,7 +65,7 @@ pub fn run_gx<S: Source, K: Sink, J: Journal, G: Gate>(
     ensures known { IsStatus result.status }
 
     // The source was read to its end and its bytes are a script of the form that is built; the run is a legal history of one store in which each line
-    // of it has its answer, made by the system of nodes in the order of the schedule; and the text of that run and of the tables at its end was written.
+    // of it has its answer, made by the system of nodes in the fixed order or by the seed; and the text of that run and of the tables at its end was written.
     ensures done { result.status ≡ 0 → IsWritten (IsDone words.now (S.left source.old) (S.left source.new) result.run) (K.written sink.old) (K.written sink.new) }
 
     // The words are not in the language, and the text says what is.

@@ -1,5 +1,5 @@
 -- Whatever is enabled is due and admitted, so whatever is drawn.
-use Rattle.std.proofs.Common.{◌≡◌, ◌≤◌, ◌<◌, ℕ, zero, suc, ◌+◌, List, [], ◌∷◌, ◌++◌, Bool, true, false, ◌&&◌, if◌then◌else◌, inl, inr, None, Some, refl, sym, ap, ◌∙◌, subst, arith, length, slice_get}
+use Rattle.std.proofs.Common.{◌≡◌, ◌≤◌, ◌<◌, ℕ, zero, suc, ◌+◌, List, [], ◌∷◌, ◌++◌, Bool, true, false, ◌&&◌, if◌then◌else◌, inl, inr, None, Some, refl, sym, ap, subst, arith, length, slice_get}
 use Rattle.std.proofs.lemmas.Option.{same_Some}
 use Rattle.std.specs.List.{AllByRecursion, flat_map, list_all, range_with_len}
 use Rattle.std.specs.Prelude.{filter, map}
@@ -9,7 +9,7 @@ use Rattle.gx_script.specs.declared.Script.{Script}
 use Rattle.gx_store.specs.declared.event.Event.{Event}
 use Rattle.gx_store.specs.declared.event.Event.TheVariants.{Receive, End, Resend, Start}
 use Rattle.gx_store.specs.declared.run.Step.{Step}
-use Rattle.gx_store.specs.Ordered.{IsLink, IsSegment, sent_in}
+use Rattle.gx_store.specs.Ordered.{IsLink, sent_in}
 use Rattle.gx_store.specs.Points.{marks_in}
 use Rattle.gx_store.specs.Refusals.{the_coordinator}
 use Rattle.gx_store.specs.Schedule.{enabled, ends, first_of, gxids_of, is_graph_awaited, is_left, is_next, is_quiet, is_to_end, left_on, may_resend, resends, segments_of, sessions_of, starts}

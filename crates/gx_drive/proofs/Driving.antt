@@ -1,5 +1,5 @@
 -- One turn behind others.
-use Rattle.std.proofs.Common.{◌≡◌, ◌≤◌, ◌<◌, ◌⊎◌, inl, inr, ℕ, ◌+◌, List, [], ◌∷◌, ◌++◌, refl, sym, ap, ◌∙◌, subst, arith, length, length-append, true, false}
+use Rattle.std.proofs.Common.{◌≡◌, ◌≤◌, inl, inr, ℕ, ◌+◌, List, [], ◌∷◌, ◌++◌, refl, sym, ap, ◌∙◌, subst, length, length-append, true, false}
 use Rattle.gx_outside.specs.Shelves.{Shelf, AreEmpty}
 use Rattle.gx_script.specs.declared.Script.{Script}
 use Rattle.gx_store.specs.declared.run.Step.{Step}
@@ -8,7 +8,7 @@ use Rattle.gx_world.specs.Worlds.{HasStepped, WorldState}
 use Rattle.gx_law_runs.specs.Replays.{is_admitted}
 use Rattle.gx_law_runs.specs.Reached.{IsReached}
 use Rattle.gx_drive.specs.declared.agenda.Agenda.{Agenda}
-use Rattle.gx_drive.specs.Agrees.{HasTurned, IsAgreed, IsDue, IsNextStep, IsNoMore, IsUnderWay}
+use Rattle.gx_drive.specs.Agrees.{HasTurned, IsAgreed, IsDue, IsNoMore, IsUnderWay}
 use Rattle.gx_drive.specs.Chosen.{AreChosen, Choice}
 use Rattle.gx_drive.specs.Ordered.{AreFailuresFew, AreHeld}
 use Rattle.gx_drive.proofs.Journals.{none-failed, none-held}

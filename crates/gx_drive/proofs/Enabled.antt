@@ -1,8 +1,6 @@
 -- What is enabled in a run of the machine: deliveries, what is sent again, and what sessions do.
-use Rattle.std.proofs.Common.{◌≡◌, ◌≤◌, ◌<◌, List, [], ◌∷◌, ◌++◌, Bool, true, false, ◌&&◌, refl, sym, ap, ◌∙◌, subst, arith, append-nil}
-use Rattle.std.proofs.lemmas.Bool.Decides.{nat_tests}
+use Rattle.std.proofs.Common.{◌≡◌, ◌≤◌, List, [], ◌∷◌, ◌++◌, Bool, true, ◌&&◌, refl, ap, ◌∙◌, subst, arith, append-nil}
 use Rattle.std.specs.List.{flat_map, list_all}
-use Rattle.gx_ids.specs.declared.ids.Gxid.{Gxid}
 use Rattle.gx_ids.specs.declared.ids.Node.{Node}
 use Rattle.gx_ids.specs.declared.ids.SessionId.{SessionId}
 use Rattle.gx_script.specs.declared.Script.{Script}
@@ -19,7 +17,7 @@ use Rattle.gx_law_schedules.proofs.Sessions.{end-alike}
 use Rattle.gx_law_schedules.proofs.Waits.{no-resumption, no-rounds}
 use Rattle.gx_law_runs.specs.Reached.{IsReached}
 use Rattle.gx_law_runs.specs.Replays.{is_admitted}
-use Rattle.gx_law_runs.proofs.Reaching.{by-events, enabled-admitted, replayed}
+use Rattle.gx_law_runs.proofs.Reaching.{by-events, enabled-admitted}
 use Rattle.gx_law_runs.proofs.Replaying.{world-replayed}
 use Rattle.gx_law_runs.proofs.Telling.{can-told}
 use Rattle.gx_drive.specs.Agrees.{deliveries_of}

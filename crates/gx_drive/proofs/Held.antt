@@ -1,5 +1,5 @@
 -- What a step's marks stand for in a journal is what its event adds there.
-use Rattle.std.proofs.Common.{◌≡◌, ◌≤◌, ℕ, List, [], ◌∷◌, ◌++◌, Option, Some, None, Bool, true, false, if◌then◌else◌, refl, sym, ap, ◌∙◌, subst, arith}
+use Rattle.std.proofs.Common.{◌≡◌, ◌≤◌, List, [], ◌∷◌, ◌++◌, Option, Some, None, Bool, true, false, if◌then◌else◌, refl, sym, ap, ◌∙◌, arith}
 use Rattle.std.proofs.lemmas.Bool.Decides.{nat_tests}
 use Rattle.gx_ids.specs.declared.ids.Node.{Node}
 use Rattle.gx_msg.specs.declared.item.JournalItem.{JournalItem}
@@ -16,7 +16,7 @@ use Rattle.gx_rules.specs.AtSegment.{seg_rule}
 use Rattle.gx_rules.specs.Coordinators.{Coord}
 use Rattle.gx_rules.specs.Machine.{World, after, at_node, can, delivered, found, happens, kept_item, new_world, node_of, world_of}
 use Rattle.gx_rules.specs.Segments.{Seg}
-use Rattle.gx_law_order.specs.Journals.{item_at, journal_after, journal_from, takes}
+use Rattle.gx_law_order.specs.Journals.{item_at, journal_from, takes}
 use Rattle.gx_law_order.proofs.Journals.{journal-holds}
 use Rattle.gx_law_runs.specs.Reached.{IsReached}
 use Rattle.gx_law_runs.specs.Replays.{AreReplayed, world_behind}

@@ -1,10 +1,9 @@
 -- Journals before anything was done.
-use Rattle.std.proofs.Common.{◌≡◌, ◌≤◌, ℕ, zero, suc, ◌+◌, ◌-◌, ◌^◌, List, [], ◌∷◌, Some, refl, sym, ap, ◌∙◌, subst, arith, length}
+use Rattle.std.proofs.Common.{◌≡◌, ◌≤◌, ℕ, zero, suc, ◌+◌, ◌-◌, ◌^◌, List, [], ◌∷◌, Some, sym, ap, ◌∙◌, subst, arith, length}
 use Rattle.std.proofs.lemmas.List.{length-map}
 use Rattle.std.proofs.lemmas.List.Elements.{recursion_from_All}
 use Rattle.std.specs.List.{AllByRecursion}
 use Rattle.std.specs.Prelude.{map, min, slice_get}
-use Rattle.gx_ids.specs.declared.ids.Node.{Node}
 use Rattle.gx_outside.specs.Shelves.{Shelf, AreEmpty}
 use Rattle.gx_drive.specs.Ordered.{AreFailuresFew, AreHeld}
 

@@ -1,12 +1,10 @@
 -- A turn that was done.
-use Rattle.std.proofs.Common.{◌≡◌, ◌≤◌, ◌<◌, ◌⊎◌, inl, inr, ℕ, zero, suc, ◌+◌, ◌-◌, ◌^◌, List, [], ◌∷◌, ◌++◌, Option, Some, None, Bool, true, false, if◌then◌else◌, ◌&&◌, refl, sym, ap, ◌∙◌, subst, arith, length, append-nil}
-use Rattle.std.proofs.lemmas.Bool.Decides.{nat_tests}
+use Rattle.std.proofs.Common.{◌≡◌, ◌≤◌, ℕ, zero, suc, ◌+◌, ◌-◌, ◌^◌, List, [], ◌∷◌, ◌++◌, Some, Bool, true, false, if◌then◌else◌, ◌&&◌, refl, sym, ap, ◌∙◌, subst, arith, length, append-nil}
 use Rattle.std.proofs.lemmas.List.{append_assoc}
 use Rattle.std.specs.Prelude.{map, min, slice_get}
 use Rattle.gx_ids.specs.declared.ids.Node.{Node}
 use Rattle.gx_msg.specs.ItemBytes.{bytes_of_item}
 use Rattle.gx_msg.specs.declared.item.JournalItem.{JournalItem}
-use Rattle.gx_outside.specs.Causes.{Rose}
 use Rattle.gx_outside.specs.Shelves.{Shelf}
 use Rattle.gx_script.specs.declared.Script.{Script}
 use Rattle.gx_store.specs.declared.event.Event.{Event}
@@ -15,7 +13,7 @@ use Rattle.gx_store.specs.declared.mark.Mark.TheVariants.{JournalFailed}
 use Rattle.gx_store.specs.declared.run.Step.{Step}
 use Rattle.gx_store.specs.Journals.{is_same_node, items_of}
 use Rattle.gx_store.specs.Points.{marks_in}
-use Rattle.gx_rules.specs.Machine.{happens, node_of}
+use Rattle.gx_rules.specs.Machine.{node_of}
 use Rattle.gx_law_order.specs.Journals.{takes}
 use Rattle.gx_world.specs.Worlds.{AreLater, HasStepped}
 use Rattle.gx_law_runs.specs.Reached.{IsReached}

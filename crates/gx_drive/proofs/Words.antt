@@ -1,11 +1,11 @@
 -- The words of a seed, one behind the other.
-use Rattle.std.proofs.Common.{◌≡◌, ℕ, zero, suc, ◌+◌, ◌%◌, List, true, Some, refl, sym, ap, ◌∙◌, subst, add-one, length, slice_get}
+use Rattle.std.proofs.Common.{◌≡◌, ℕ, suc, ◌+◌, ◌%◌, List, true, Some, refl, sym, ap, ◌∙◌, subst, add-one, length, slice_get}
 use Rattle.rand_xoshiro.specs.Xoshiro256.{plus_plus}
 use Rattle.gx_script.specs.declared.Script.{Script}
 use Rattle.gx_store.specs.declared.event.Event.{Event}
 use Rattle.gx_store.specs.declared.run.Step.{Step}
 use Rattle.gx_store.specs.Schedule.{enabled, is_any_unfinished}
-use Rattle.gx_drive.specs.Seeded.{IsDrawn, behind, seeded, word_of}
+use Rattle.gx_drive.specs.Seeded.{IsDrawn, behind, seeded}
 
 behind-suc : (n : ℕ) (generator : List ℕ) → behind (suc n) generator ≡ (plus_plus (behind n generator)).1
 unfolding behind

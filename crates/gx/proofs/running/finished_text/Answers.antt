@@ -1,5 +1,4 @@
-use Rattle.std.proofs.Common.{◌∙◌, ◌++◌, ℕ, List, ap, refl, subst}
-use Rattle.gx_law_runs.specs.Reached.{IsReached}
+use Rattle.std.proofs.Common.{◌∙◌, ◌++◌, ℕ, List, ap}
 use Rattle.gx_report.specs.Text.{text_of}
 use Rattle.gx_store.specs.declared.run.Run.{Run}
 use Rattle.gx_drive.proofs.Answers.{if_ok}

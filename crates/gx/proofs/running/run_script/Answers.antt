@@ -1,4 +1,4 @@
-use Rattle.std.proofs.Common.{[], ◌∙◌, ap, arith, false, inr, subst, sym}
+use Rattle.std.proofs.Common.{◌∙◌, ap, arith, false, inr, subst}
 use Rattle.gx_world.specs.Worlds.{WorldState}
 use Rattle.gx_script.specs.declared.Script.{Script}
 use Rattle.gx.specs.Top.{AreDriven, is_over, run_in}

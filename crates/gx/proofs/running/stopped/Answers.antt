@@ -1,4 +1,4 @@
-use Rattle.std.proofs.Common.{◌≡◌, ◌∙◌, ◌++◌, ap, inr, refl, sym, true, length}
+use Rattle.std.proofs.Common.{◌∙◌, ◌++◌, ap, inr, refl, sym, length}
 use Rattle.gx_store.specs.declared.run.Run.{Run}
 use Rattle.gx_store.specs.Schedule.{is_any_unfinished}
 use Rattle.gx_report.specs.Text.{stopped_text}

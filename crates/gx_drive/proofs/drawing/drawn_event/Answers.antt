@@ -1,4 +1,4 @@
-use Rattle.std.proofs.Common.{[], ◌≡◌, ◌<◌, ◌%◌, ◌∙◌, List, Some, length, slice_get, subst, sym}
+use Rattle.std.proofs.Common.{◌≡◌, ◌<◌, ◌%◌, ◌∙◌, List, Some, length, slice_get, subst, sym}
 use Rattle.gx_store.specs.declared.event.Event.{Event}
 use Rattle.gx_drive.proofs.Draws.{drawn-admitted, drawn-due, some-there}
 use Rattle.gx_drive.proofs.Unfinished.{something-enabled}

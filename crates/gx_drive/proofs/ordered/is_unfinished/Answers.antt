@@ -1,4 +1,4 @@
-use Rattle.std.proofs.Common.{Bool, true, false, ◌≡◌, refl, sym, ◌∙◌}
+use Rattle.std.proofs.Common.{Bool, true, false, ◌≡◌, refl, sym}
 use Rattle.gx_store.specs.Schedule.{is_any_unfinished}
 use Rattle.gx_drive.proofs.Unfinished.{unfinished-none, unfinished-some}
 use Rattle.gx_drive.proofs.ordered.is_unfinished.Goals as goal

@@ -1,4 +1,4 @@
-use Rattle.std.proofs.Common.{◌∷◌, ◌++◌, [], ap, ◌∙◌, length, ◌-◌, subst, sym}
+use Rattle.std.proofs.Common.{ap, ◌∙◌, length, ◌-◌, subst, sym}
 use Rattle.std.specs.Prelude.{slice_get}
 use Rattle.gx_agenda.specs.Queued.{AreCounted}
 use Rattle.gx_store.specs.declared.run.Run.{Run}

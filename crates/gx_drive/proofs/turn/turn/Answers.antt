@@ -1,9 +1,9 @@
-use Rattle.std.proofs.Common.{inl, inr, subst, sym}
+use Rattle.std.proofs.Common.{subst, sym}
 use Rattle.gx_script.specs.declared.Script.{Script}
 use Rattle.gx_law_runs.specs.Reached.{IsReached}
 use Rattle.gx_drive.proofs.Answers.{on_ok}
 use Rattle.gx_drive.proofs.Driving.{turned-by}
-use Rattle.gx_drive.proofs.Turning.{stepped-few, stepped-next, stepped-reached}
+use Rattle.gx_drive.proofs.Turning.{stepped-few, stepped-reached}
 use Rattle.gx_drive.proofs.turn.turn.Goals as goal
 
 pub note-requires-clause-reached : goal.note-requires-clause-reached
