@@ -8,6 +8,7 @@ use Rattle.gx_law_locks.specs.Legal.{AreLocksLegal}
 use Rattle.gx_law_writes.proofs.World.{world-holds}
 use Rattle.gx_law_locks.proofs.Orders.{world-orders}
 use Rattle.gx_law_locks.proofs.World.{world-exclusive, world-lasting, world-locked}
+use Rattle.gx_law_locks.proofs.Told.{answers-held}
 use Rattle.gx_law_locks.proofs.Writes.{under-steps}
 
 pub locks-legal : (script : Script) (some : 1 ≤ script.segments) → AreLinesNumbered [] script.lines → (es : List (Event × Bool)) → AreLocksLegal script (world_of script es).steps
@@ -18,5 +19,6 @@ locks-legal script some numbered es =
       exclusive = world-exclusive script some es;
       late = l.late;
       lasting = world-lasting script some es;
+      answers = answers-held script some es;
       writes = under-steps script [] (world_of script es).steps (world-holds script some numbered es).legal (world-orders script some es).writes;
     }
