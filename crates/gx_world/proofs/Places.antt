@@ -1,5 +1,5 @@
 -- The places of messages among marks, mark by mark.
-use Rattle.std.proofs.Common.{◌≡◌, ℕ, suc, ◌+◌, ◌<◌, ◌≤◌, Bool, true, false, List, [], ◌∷◌, ◌++◌, refl, sym, subst, ap, ◌∙◌, if◌then◌else◌, arith, get_or, append-nil}
+use Rattle.std.proofs.Common.{◌≡◌, ℕ, suc, ◌+◌, ◌<◌, ◌≤◌, Bool, true, false, List, [], ◌∷◌, ◌++◌, sym, ap, ◌∙◌, if◌then◌else◌, arith, get_or, append-nil}
 use Rattle.std.proofs.lemmas.Bool.Decides.{nat_tests}
 use Rattle.std.proofs.Math.Seq.{take-suc}
 use Rattle.std.proofs.lemmas.List.{append_assoc, length-take-le}
@@ -7,7 +7,6 @@ use Rattle.std.specs.Prelude.{length, take}
 use Rattle.gx_ids.specs.declared.ids.Node.{Node}
 use Rattle.gx_store.specs.declared.mark.Mark.{Mark}
 use Rattle.gx_store.specs.declared.mark.Mark.TheVariants.{Sent}
-use Rattle.gx_store.specs.Journals.{is_same_node}
 use Rattle.gx_world.specs.Links.{places_from}
 
 pub places_from-append : (step base : ℕ) (t : Node) (xs ys : List Mark) → places_from step base t (xs ++ ys) ≡ places_from step base t xs ++ places_from step (base + length xs) t ys
