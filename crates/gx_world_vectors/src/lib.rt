@@ -1,4 +1,4 @@
-//! Tests of worlds over messages, event by event: an order of delivery that no driver asks for, and a journal that refuses.
+//! A test of a world over messages, event by event: a journal that refuses.
 #![tactic(auto)]
 
 #[cfg(test)]

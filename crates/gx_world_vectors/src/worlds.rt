@@ -1,4 +1,4 @@
-// Worked orders of delivery, by their exact events.
+// A worked order of delivery, by its exact events.
 use crate::trial::{Trial, make_trial};
 use gx_ids::{Mem, Node, SessionId};
 use gx_report::text;
@@ -36,71 +36,6 @@ fn told(alloc: Global, trial: &Trial) -> Mem<Vec<u8>> {
     let text = text(alloc, world.script(), world.run(), tables.as_slice());
     forget(tables);
     text
-}
-
-const BETWEEN: &[u8] =
-    b"segments 2\ntable t (a bigint, b bigint) distributed by (a)\ns1: INSERT INTO t VALUES (0, 1), (1, 1)\ns2: SELECT * FROM t\ns2: SELECT * FROM t\n";
-
-// Both segments promise, and the first commits.
-const COMMITTED_AT_ONE: [Receipt; 9] = [
-    (0, 1, 1),
-    (0, 2, 1),
-    (1, 0, 1),
-    (2, 0, 1),
-    (0, 1, 2),
-    (0, 2, 2),
-    (1, 0, 2),
-    (2, 0, 2),
-    (0, 1, 3),
-];
-
-// The reader's first command comes to the second segment before the writer's commit does.
-const READ_BETWEEN: [Receipt; 7] = [
-    (0, 1, 4),
-    (0, 2, 4),
-    (1, 0, 4),
-    (2, 0, 3),
-    (0, 2, 3),
-    (1, 0, 3),
-    (2, 0, 4),
-];
-
-// Its second command, and messages that come twice.
-const READ_BEHIND: [Receipt; 8] = [
-    (0, 1, 7),
-    (0, 2, 7),
-    (1, 0, 5),
-    (2, 0, 5),
-    (0, 1, 1),
-    (0, 2, 2),
-    (1, 0, 1),
-    (2, 0, 4),
-];
-
-const BETWEEN_TEXT: &str =
-    "s1.1 INSERT 2\ns2.1 SELECT 0\ns2.2 SELECT 2\n  0|1\n  1|1\ntable t 2\n  0|1\n  1|1\n";
-
-fn read_between(trial: &mut Trial) -> Mem<bool> {
-    Ok(
-        start(trial, 0)?
-            && receive(trial, &COMMITTED_AT_ONE)?
-            && start(trial, 1)?
-            && receive(trial, &READ_BETWEEN)?
-            && start(trial, 1)?
-            && receive(trial, &READ_BEHIND)?,
-    )
-}
-
-// A reader that comes between the local commits of two segments sees nothing of the writer, and one behind the commit all.
-#[test]
-fn a_reader_between_two_local_commits(rt: HostRuntime) -> Result<(), Fail> {
-    let mut trial = make_trial(rt.alloc(), BETWEEN, &[])?;
-    let happened = read_between(&mut trial);
-    let text = told(rt.alloc(), &trial);
-    forget(trial);
-    let right = happened? && text?.as_slice() == BETWEEN_TEXT.as_bytes();
-    assert!(rt; right);
-    Ok(())
 }
 
 const REFUSED: &[u8] =
