@@ -8,3 +8,5 @@ mod graphs;
 mod items;
 #[cfg(test)]
 mod places;
+#[cfg(test)]
+mod work;

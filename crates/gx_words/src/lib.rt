@@ -9,13 +9,9 @@ mod head;
 mod known;
 mod number;
 mod options;
-#[cfg(test)]
-mod tests;
 mod transfer;
 mod words;
 mod work;
-#[cfg(test)]
-mod work_tests;
 
 pub use command::WordsFault;
 pub use options::Options;

@@ -1,6 +1,6 @@
 // The generated text of some numbers: its length and its FNV-1a of 64 bits, as a generator in Python gives it that draws the published first
 // words of xoshiro256++ from the state 1, 2, 3, 4.
-use crate::generate;
+use gx_words::generate;
 use std::test::Fail;
 
 fn hash(bytes: &[u8]) -> u64 {
