@@ -24,6 +24,7 @@ use Rattle.gx_rules.specs.Machine.{world_of}
 use Rattle.gx_law_order.proofs.Ordered.{world_well}
 use Rattle.gx_law_schedules.proofs.Awaited.{world-asks}
 use Rattle.gx_law_schedules.proofs.Enabled.{unknown-none}
+use Rattle.gx_law_schedules.proofs.Nobody.{nobody-waits}
 use Rattle.gx_law_schedules.proofs.Room.{world-stays}
 use Rattle.gx_law_schedules.proofs.Waits.{no-graph, no-wait-of}
 use Rattle.gx_law_runs.specs.Reached.{IsReached}
@@ -95,7 +96,7 @@ module _ (script : Script) (some : 1 ≤ script.segments) (steps : List Step) (i
   resendable-at segment quiet =
       record {
         quiet = quiet;
-        waits = λ g. by-events script steps is (λ ss. waits_of (marks_in ss) segment g ≡ []) (λ es. no-wait-of (marks_in (world_of script es).steps) (world-stays script some es).calm segment g);
+        waits = λ g. by-events script steps is (λ ss. waits_of (marks_in ss) segment g ≡ []) (λ es. no-wait-of (marks_in (world_of script es).steps) (nobody-waits script some es) segment g);
         graph = by-events script steps is (λ ss. is_graph_awaited ss segment ≡ false) (λ es. no-graph (world_of script es).steps (world-stays script some es).rounds segment);
         begun = begun segment;
       }

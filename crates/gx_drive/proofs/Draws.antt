@@ -15,7 +15,8 @@ use Rattle.gx_store.specs.Refusals.{the_coordinator}
 use Rattle.gx_store.specs.Schedule.{enabled, ends, first_of, gxids_of, is_graph_awaited, is_left, is_next, is_quiet, is_to_end, left_on, may_resend, resends, segments_of, sessions_of, starts}
 use Rattle.gx_law_runs.specs.Reached.{IsReached}
 use Rattle.gx_law_runs.specs.Replays.{is_admitted}
-use Rattle.gx_law_runs.proofs.Reaching.{by-events, enabled-admitted}
+use Rattle.gx_law_runs.proofs.Nobody.{enabled-admitted}
+use Rattle.gx_law_runs.proofs.Reaching.{by-events}
 use Rattle.gx_drive.specs.Agrees.{IsDue}
 use Rattle.gx_drive.proofs.Enabled.{parts}
 

@@ -12,12 +12,13 @@ use Rattle.gx_store.specs.Refusals.{the_coordinator}
 use Rattle.gx_store.specs.Schedule.{at_segment, enabled, ends, first_of, is_to_end, left_on, resends, resumptions, rounds, segments_of, starts}
 use Rattle.gx_rules.specs.Machine.{world_of}
 use Rattle.gx_law_sessions.proofs.World.{sessions-stand}
-use Rattle.gx_law_schedules.proofs.Room.{world-stays}
+use Rattle.gx_law_schedules.proofs.Nobody.{nobody-waits}
 use Rattle.gx_law_schedules.proofs.Sessions.{end-alike}
 use Rattle.gx_law_schedules.proofs.Waits.{no-resumption, no-rounds}
 use Rattle.gx_law_runs.specs.Reached.{IsReached}
 use Rattle.gx_law_runs.specs.Replays.{is_admitted}
-use Rattle.gx_law_runs.proofs.Reaching.{by-events, enabled-admitted}
+use Rattle.gx_law_runs.proofs.Nobody.{enabled-admitted}
+use Rattle.gx_law_runs.proofs.Reaching.{by-events}
 use Rattle.gx_law_runs.proofs.Replaying.{world-replayed}
 use Rattle.gx_law_runs.proofs.Telling.{can-told}
 use Rattle.gx_drive.specs.Agrees.{deliveries_of}
@@ -36,7 +37,7 @@ module _ (script : Script) (some : 1 ≤ script.segments) where
       ap (λ xs. receipts ++ xs ++ resumptions (marks_in ss) the_coordinator ++ again ++ starts script ss ++ ends script ss ++ rounds script ss) (flat-alike (at_segment script ss) (λ segment. first_of (left_on script ss the_coordinator segment)) at-same (segments_of script))
       ∙ ap (λ xs. receipts ++ there ++ xs ++ again ++ starts script ss ++ ends script ss ++ rounds script ss) (nobody the_coordinator)
       ∙ ap (λ xs. xs ++ again ++ starts script ss ++ ends script ss ++ rounds script ss) (append-nil (receipts ++ there))
-      ∙ ap (λ xs. receipts ++ there ++ again ++ starts script ss ++ ends script ss ++ xs) (no-rounds script ss (world-stays script some es).calm)
+      ∙ ap (λ xs. receipts ++ there ++ again ++ starts script ss ++ ends script ss ++ xs) (no-rounds script ss (nobody-waits script some es))
       ∙ append-nil (parts_of script ss)
     where
       ss : List Step
@@ -52,7 +53,7 @@ module _ (script : Script) (some : 1 ≤ script.segments) where
       again = flat_map (resends script ss) (segments_of script)
 
       nobody : (node : Node) → resumptions (marks_in ss) node ≡ []
-      nobody node = no-resumption (marks_in ss) (world-stays script some es).calm node
+      nobody node = no-resumption (marks_in ss) (nobody-waits script some es) node
 
       at-same : (segment : Node) → at_segment script ss segment ≡ first_of (left_on script ss the_coordinator segment)
       at-same segment = ap (λ xs. first_of (xs ++ first_of (left_on script ss the_coordinator segment))) (nobody segment) ∙ first-twice (left_on script ss the_coordinator segment)

@@ -13,7 +13,7 @@ use Rattle.gx_store.specs.Schedule.{enabled, is_any_unfinished, is_unfinished}
 use Rattle.gx_store.specs.Whole.{AreInsertsWhole}
 use Rattle.gx_rules.specs.AtCoordinator.{is_unfinished_there}
 use Rattle.gx_law_runs.proofs.Finishing.{replayed-alike}
-use Rattle.gx_law_runs.proofs.Going.{goes-on}
+use Rattle.gx_law_runs.proofs.Nobody.{goes-on}
 use Rattle.gx_law_runs.specs.Reached.{IsReached}
 use Rattle.gx_law_runs.specs.Replays.{coordinator_after}
 use Rattle.gx_law_runs.proofs.Reaching.{by-events}

@@ -2,8 +2,7 @@
 use Rattle.std.proofs.Common.{◌≡◌, ◌≤◌, inl, inr, ℕ, List, [], ◌∷◌, ◌++◌, Option, Some, None, Bool, true, false, refl, sym, subst, ap, ◌∙◌, if◌then◌else◌, eqb, arith, append_assoc, append-nil}
 use Rattle.std.proofs.lemmas.Bool.{eqb-true}
 use Rattle.std.proofs.lemmas.Bool.Decides.{nat_tests}
-use Rattle.gx_law_order.proofs.Ordered.{world_well}
-use Rattle.gx_law_order.proofs.CalmSegs.{nobody-goes-on}
+use Rattle.gx_law_order.proofs.Ordered.{resumes_there, world_well}
 use Rattle.gx_ids.specs.declared.ids.Gxid.{Gxid}
 use Rattle.gx_ids.specs.declared.ids.Node.{Node}
 use Rattle.gx_msg.specs.declared.message.Envelope.{Envelope}
@@ -20,79 +19,28 @@ use Rattle.gx_store.specs.declared.run.Step.{Step}
 use Rattle.gx_store.specs.Journals.{is_same_node}
 use Rattle.gx_store.specs.Messages.{IsSending}
 use Rattle.gx_store.specs.Ordered.{IsLink, IsSegment}
-use Rattle.gx_store.specs.Points.{marks_in}
 use Rattle.gx_store.specs.Refusals.{the_coordinator}
 use Rattle.gx_rules.specs.AtCoordinator.{coord_rule, coord_can}
-use Rattle.gx_rules.specs.AtSegment.{on_message, seg_rule}
-use Rattle.gx_rules.specs.Machine.{Letter, World, at_node, can, coord_did, delivered, does, found, happens, new_world, node_of, seg_did, world_of, can_here, seg_can}
+use Rattle.gx_rules.specs.AtSegment.{on_event, seg_rule}
+use Rattle.gx_rules.specs.Machine.{World, at_node, can, coord_did, delivered, does, found, happens, new_world, node_of, seg_did, world_of, can_here, seg_can}
 use Rattle.gx_rules.specs.Segments.{Seg, SegTurn}
 use Rattle.gx_rules.specs.Sending.{counted, numbered}
 use Rattle.gx_law_order.proofs.AtSegments.{PlainAt, seg_stays}
-use Rattle.gx_law_order.proofs.Letters.{IsFound, IsLetter, found_is}
+use Rattle.gx_law_order.proofs.Letters.{IsFound, found_is}
 use Rattle.gx_law_order.proofs.Lists.{Each, each_append, each_weaker}
 use Rattle.gx_store.specs.Language.{AreLinesNumbered}
-use Rattle.gx_law_sessions.proofs.Outs.{MessageIs}
-use Rattle.gx_law_sessions.proofs.World as histories
 use Rattle.gx_law_sessions.proofs.World.{after-last}
 use Rattle.gx_law_commit.specs.Standings.{at, gx}
 use Rattle.gx_law_commit.proofs.Whole.{world-both}
-use Rattle.gx_law_reads.specs.Sights.{AreShownViews, IsShownView}
-use Rattle.gx_law_reads.proofs.Seeing.{world-views}
 use Rattle.gx_law_writes.proofs.Told.{each-get}
 use Rattle.gx_law_answers.specs.Earned.{AreAnswersEarned, Events, IsReplyEarned}
+use Rattle.gx_law_answers.proofs.Posts.{IsPost, posts}
+use Rattle.gx_law_answers.proofs.Running.{Doings, IsLate}
+use Rattle.gx_law_answers.proofs.Arrivals.{message-does, received-late}
+use Rattle.gx_law_answers.proofs.Resumptions.{resumed-late, resumption-does}
 use Rattle.gx_law_answers.proofs.Origins.{AreEarned, IsKeptEarned, IsSentEarned, IsStepEarned, IsWordEarned, TurnEarned, kept-later, step-later, turn-earned}
 
 module _ (script : Script) (some : 1 ≤ script.segments) (numbered_lines : AreLinesNumbered [] script.lines) where
-  -- what is known of a letter
-  abbrev pub IsPost : World → Letter → Type 0
-  IsPost w l = IsLetter script w.steps l × (l.from ≡ the_coordinator → MessageIs script (marks_in w.steps) l.to l.envelope.message) × IsShownView w l.to l.envelope.message
-
-  each-view : (w : World) (ls : List Letter) → AreShownViews w ls → Each (λ l. IsShownView w l.to l.envelope.message) ls
-  each-view w [] v = tt
-  each-view w (l ∷ ls) v = (v.0, each-view w ls v.1)
-
-  each-both : (P Q R : Letter → Type 0) (ls : List Letter) → Each P ls → Each Q ls → Each R ls → Each (λ l. P l × Q l × R l) ls
-  each-both P Q R [] a b c = tt
-  each-both P Q R (l ∷ ls) a b c = ((a.0, b.0, c.0), each-both P Q R ls a.1 b.1 c.1)
-
-  pub posts : (es : Events) → Each (IsPost (world_of script es)) (world_of script es).sent
-  posts es =
-      each-both (IsLetter script (world_of script es).steps) _ (λ l. IsShownView (world_of script es) l.to l.envelope.message) (world_of script es).sent
-      (world-both script some es).knows.well.letters (histories.world-holds script some es).orders (each-view (world_of script es) (world_of script es).sent (world-views script some es))
-
-  pub record Came (es : Events) (from to : Node) (envelope : Envelope) : Type 0 where
-    pub order_is : MessageIs script (marks_in (world_of script es).steps) to envelope.message
-    pub view_is : IsShownView (world_of script es) to envelope.message
-    pub source : from ≡ the_coordinator
-
-  -- what comes to a segment comes from the coordinator
-  pub came : (es : Events) (from to : Node) (number : ℕ) (envelope : Envelope) → IsSegment script to → found from to number (world_of script es).sent ≡ Some envelope → Came es from to envelope
-  came es from to number envelope place f = by_link d.is.0.link
-    where
-      w : World
-      w = world_of script es
-
-      d : IsFound (IsPost (world_of script es)) from to number envelope
-      d = found_is (IsPost (world_of script es)) from to number (world_of script es).sent envelope (posts es) f
-
-      not-here : (n : Node) → 1 ≤ n.0 → n ≡ the_coordinator → ⊥
-      not-here n one q = zero-one n.0 one (ap (λ (m : Node). m.0) q)
-        where
-          zero-one : (k : ℕ) → 1 ≤ k → k ≡ 0 → ⊥
-          zero-one k l z = omega (arith, l, z)
-
-      with-source : d.letter.from ≡ the_coordinator → Came es from to envelope
-      with-source it =
-          record {
-            order_is = subst (λ n. MessageIs script (marks_in (world_of script es).steps) n envelope.message) d.target (subst (λ (a : Envelope). MessageIs script (marks_in (world_of script es).steps) d.letter.to a.message) d.told (d.is.1 it));
-            view_is = subst (λ n. IsShownView (world_of script es) n envelope.message) d.target (subst (λ (a : Envelope). IsShownView (world_of script es) d.letter.to a.message) d.told d.is.2);
-            source = sym d.source ∙ it;
-          }
-
-      by_link : IsLink script d.letter.from d.letter.to → Came es from to envelope
-      by_link (inl l) = with-source l.0
-      by_link (inr l) = absurd (not-here to place.0 (sym d.target ∙ l.1))
-
   module _ (es : Events) (x : Event × Bool) (t : AreEarned script es (world_of script es)) where
     abbrev w : World
     w = world_of script es
@@ -116,40 +64,40 @@ module _ (script : Script) (some : 1 ≤ script.segments) (numbered_lines : AreL
         zero-one l = omega (arith, l)
 
   -- a segment's step
-  module _ (es : Events) (t : AreEarned script es (world_of script es)) (from to : Node) (number : ℕ) (envelope : Envelope) (fails : Bool) (place : IsSegment script to) (f : found from to number (world_of script es).sent ≡ Some envelope) where
+  module _ (es : Events) (t : AreEarned script es (world_of script es)) (to : Node) (e : Event) (fails : Bool) (x : NodeEvent) (place : IsSegment script to) (is-late : IsLate script es to e fails x) (does-it : Doings script es to e fails x) where
     abbrev s : Seg
     s = (world_of script es).segs to.0
 
     abbrev turn : SegTurn
-    turn = on_message script ((world_of script es).segs to.0) fails envelope.message
+    turn = on_event script ((world_of script es).segs to.0) x fails
 
-    abbrev e : Event × Bool
-    e = (event.Receive from to number, fails)
+    abbrev later : Events
+    later = es ++ (e, fails) ∷ []
 
-    sent-earned : (g : ℕ → ℕ) (outs : List Out) → Each (λ (o : Out). IsWordEarned script (es ++ e ∷ []) to o.message) outs → Each (IsSentEarned script (es ++ e ∷ []) to) (numbered g outs)
+    sent-earned : (g : ℕ → ℕ) (outs : List Out) → Each (λ (o : Out). IsWordEarned script later to o.message) outs → Each (IsSentEarned script later to) (numbered g outs)
     sent-earned g [] h = tt
     sent-earned g (o ∷ outs) h = ((λ n k j r q. h.0 j r (cc)), sent-earned (counted g o) outs h.1)
 
-    plain-earned : (xs : List Mark) → Each (PlainAt script to) xs → Each (IsSentEarned script (es ++ e ∷ []) to) xs
+    plain-earned : (xs : List Mark) → Each (PlainAt script to) xs → Each (IsSentEarned script later to) xs
     plain-earned [] d = tt
     plain-earned (m ∷ xs) d = ((λ n k g r q. absurd (subst (PlainAt script to) q d.0)), plain-earned xs d.1)
 
     plain : Each (PlainAt script to) turn.marks
-    plain = subst (λ node. Each (PlainAt script node) turn.marks) ((world-both script some es).knows.well.names to.0) (seg_stays script s (subst (IsSegment script) (sym ((world-both script some es).knows.well.names to.0)) place) (here.Deliver from envelope) fails).marks
+    plain = subst (λ node. Each (PlainAt script node) turn.marks) ((world-both script some es).knows.well.names to.0) (seg_stays script s (subst (IsSegment script) (sym ((world-both script some es).knows.well.names to.0)) place) x fails).marks
 
-    seg-earned : AreEarned script (es ++ e ∷ []) (seg_did (world_of script es) to (event.Receive from to number) (seg_rule script ((world_of script es).segs to.0) (here.Deliver from envelope) fails))
-    seg-earned = by_turn (turn-earned script some numbered_lines es from to number envelope fails place f (came es from to number envelope place f).order_is (came es from to number envelope place f).view_is (λ h. t.kept to.0 h place.0) (λ h. ((world-both script some es).holds.stands.pairs to.0 h).vote))
+    seg-earned : AreEarned script later (seg_did (world_of script es) to e (seg_rule script ((world_of script es).segs to.0) x fails))
+    seg-earned = by_turn (turn-earned script some numbered_lines es to e fails x place is-late (λ h. t.kept to.0 h place.0) (λ h. ((world-both script some es).holds.stands.pairs to.0 h).vote) does-it)
       where
-        by_turn : TurnEarned script some numbered_lines es from to number envelope fails place f (came es from to number envelope place f).order_is (came es from to number envelope place f).view_is → AreEarned script (es ++ e ∷ []) (seg_did (world_of script es) to (event.Receive from to number) (seg_rule script ((world_of script es).segs to.0) (here.Deliver from envelope) fails))
+        by_turn : TurnEarned script some numbered_lines es to e fails x place is-late → AreEarned script later (seg_did (world_of script es) to e (seg_rule script ((world_of script es).segs to.0) x fails))
         by_turn v =
             record {
-              sent = each_append (IsStepEarned script (es ++ e ∷ [])) (world_of script es).steps _ (steps-later es e t) ((λ one. each_append (IsSentEarned script (es ++ e ∷ []) to) turn.marks _ (plain-earned turn.marks plain) (sent-earned (λ node. turn.seg.sent) turn.outs v.outs)), tt);
+              sent = each_append (IsStepEarned script later) (world_of script es).steps _ (steps-later es (e, fails) t) ((λ one. each_append (IsSentEarned script later to) turn.marks _ (plain-earned turn.marks plain) (sent-earned (λ node. turn.seg.sent) turn.outs v.outs)), tt);
               kept = λ i h one. by_test i h one (eqb i to.0) refl;
             }
           where
-            by_test : (i h : ℕ) → 1 ≤ i → (b : Bool) → eqb i to.0 ≡ b → IsKeptEarned script (es ++ e ∷ []) (at i) (gx h) ((if b then (seg_rule script ((world_of script es).segs to.0) (here.Deliver from envelope) fails).seg else (world_of script es).segs i).locals h).answer
-            by_test i h one true q = subst (λ j. IsKeptEarned script (es ++ e ∷ []) (at j) (gx h) (turn.seg.locals h).answer) (sym (eqb-true i to.0 q)) (v.kept h)
-            by_test i h one false q = kept-all es e t i h one
+            by_test : (i h : ℕ) → 1 ≤ i → (b : Bool) → eqb i to.0 ≡ b → IsKeptEarned script later (at i) (gx h) ((if b then (seg_rule script ((world_of script es).segs to.0) x fails).seg else (world_of script es).segs i).locals h).answer
+            by_test i h one true q = subst (λ j. IsKeptEarned script later (at j) (gx h) (turn.seg.locals h).answer) (sym (eqb-true i to.0 q)) (v.kept h)
+            by_test i h one false q = kept-all es (e, fails) t i h one
 
   -- EVENTS
   module _ (es : Events) (t : AreEarned script es (world_of script es)) where
@@ -161,10 +109,13 @@ module _ (script : Script) (some : 1 ≤ script.segments) (numbered_lines : AreL
 
     received : (from to : Node) (number : ℕ) (envelope : Envelope) (fails : Bool) → found from to number (world_of script es).sent ≡ Some envelope → (b : Bool) → is_same_node to the_coordinator ≡ b → AreEarned script (es ++ (event.Receive from to number, fails) ∷ []) (if b then coord_did (world_of script es) (event.Receive from to number) (coord_rule script (world_of script es).coord (here.Deliver from envelope) fails) else seg_did (world_of script es) to (event.Receive from to number) (seg_rule script ((world_of script es).segs to.0) (here.Deliver from envelope) fails))
     received from to number envelope fails f true q = coord-earned es (event.Receive from to number, fails) t (event.Receive from to number) (here.Deliver from envelope) fails
-    received from to number envelope fails f false q = seg-earned es t from to number envelope fails place f
+    received from to number envelope fails f false q =
+        seg-earned es t to (event.Receive from to number) fails (here.Deliver from envelope) place
+        (received-late script some numbered_lines es from to number envelope fails place f)
+        (message-does script some numbered_lines es from to number envelope fails place f)
       where
-        d : IsFound (IsPost (world_of script es)) from to number envelope
-        d = found_is (IsPost (world_of script es)) from to number (world_of script es).sent envelope (posts es) f
+        d : IsFound (IsPost script some es) from to number envelope
+        d = found_is (IsPost script some es) from to number (world_of script es).sent envelope (posts script some es) f
 
         zero-one : (n : Node) → 1 ≤ n.0 → n ≡ the_coordinator → ⊥
         zero-one n one z = absurd' n.0 one (ap (λ (m : Node). m.0) z)
@@ -183,14 +134,15 @@ module _ (script : Script) (some : 1 ≤ script.segments) (numbered_lines : AreL
     arrives from to number fails None f = still es (event.Receive from to number, fails) t
     arrives from to number fails (Some envelope) f = received from to number envelope fails f (is_same_node to the_coordinator) refl
 
-    -- nobody goes on at a segment yet
     resumed : (n : Node) (g : Gxid) (fails : Bool) → can_here script (world_of script es) n (Some (here.Resume g)) ≡ true → AreEarned script (es ++ (event.Resume n g, fails) ∷ []) (does script (world_of script es) (event.Resume n g) n fails (Some (here.Resume g)))
     resumed n g fails ok = by_test (is_same_node n the_coordinator) ok
       where
         by_test : (b : Bool) → (if b then coord_can script (world_of script es).coord (here.Resume g) else seg_can script ((world_of script es).segs n.0) (here.Resume g)) ≡ true
             → AreEarned script (es ++ (event.Resume n g, fails) ∷ []) (if b then coord_did (world_of script es) (event.Resume n g) (coord_rule script (world_of script es).coord (here.Resume g) fails) else seg_did (world_of script es) n (event.Resume n g) (seg_rule script ((world_of script es).segs n.0) (here.Resume g) fails))
         by_test true ok = coord-earned es (event.Resume n g, fails) t (event.Resume n g) (here.Resume g) fails
-        by_test false ok = absurd (nobody-goes-on script ((world_of script es).segs n.0) g ((world_well script some es).calm n.0) ok)
+        by_test false ok =
+            let place = resumes_there script some (world_of script es) n g (world_well script some es) ok in
+            seg-earned es t n (event.Resume n g) fails (here.Resume g) place (resumed-late script some numbered_lines es n g fails place ok) (resumption-does script some numbered_lines es n g fails place ok)
 
     event-earned : (e : Event) (fails : Bool) → can script (world_of script es) e ≡ true → AreEarned script (es ++ (e, fails) ∷ []) (does script (world_of script es) e (node_of e) fails (at_node (world_of script es) e))
     event-earned (event.Receive from to number) fails ok = arrives from to number fails (found from to number (world_of script es).sent) refl

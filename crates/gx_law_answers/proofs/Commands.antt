@@ -68,9 +68,22 @@ module _ (script : Script) (numbered : AreLinesNumbered [] script.lines) (k : Se
   its-gxid block.Failed commands h busy begun s t = absurd (cc)
 
   from-owns : (b : Block) (h : Gxid) (w : Work) (s : Stands script k ms next b pending.Command lines h w) → is_busy b pending.Command ≡ true → Owns k s.commands ms next b h w → IsLineOf script k lines b s.commands w pending.Command → Roots script k ms b pending.Command lines h w → IsOf script ms stmt level g c
-  from-owns b h w s busy o l r =
+  from-owns b h w s busy o (inr l) r =
       record {
-        of = subst (λ y. stmt_of_command script ms y c ≡ Some stmt) same (ap (λ z. command_at script z c.0) r.began ∙ ap (command_at script (Some (k, r.first))) cid-is ∙ r.now numbered l.0 l.1 ∙ ap Some (some-stmt l.0.stmt stmt (sym l.2 ∙ line)));
+        of = subst (λ y. stmt_of_command script ms y c ≡ Some stmt) same (ap (λ z. command_at script z c.0) r.began ∙ ap (command_at script (Some (k, r.first))) cid-is ∙ (r.now numbered).1 l.0 l.1 ∙ ap Some (some-stmt l.0 stmt (sym l.3 ∙ line)));
+        level_is = isolation ∙ ap level_of s.state ∙ its-level b s.commands r.first busy (sym (ap (λ z. is_command z stmt) s.state) ∙ command) r.opening ∙ sym (ap (level_of_began script) r.began) ∙ ap (λ y. level_of_began script (began_from [] ms y)) same;
+        running = ap (is_ended ms) (sym same) ∙ o.running;
+      }
+    where
+      same : h ≡ g
+      same = its-gxid b s.commands h busy s.begun o.started (sym (ap (λ z. transaction_of z k ms) s.state) ∙ transaction)
+
+      -- the number that it will have
+      cid-is : c.0 ≡ w.last + 1
+      cid-is = ap (λ (d : Cid). d.0) (number ∙ ap cid_of s.state) ∙ l.5
+  from-owns b h w s busy o (inl l) r =
+      record {
+        of = subst (λ y. stmt_of_command script ms y c ≡ Some stmt) same (ap (λ z. command_at script z c.0) r.began ∙ ap (command_at script (Some (k, r.first))) cid-is ∙ (r.now numbered).0 l.0 l.1 ∙ ap Some (some-stmt l.0.stmt stmt (sym l.2 ∙ line)));
         level_is = isolation ∙ ap level_of s.state ∙ its-level b s.commands r.first busy (sym (ap (λ z. is_command z stmt) s.state) ∙ command) r.opening ∙ sym (ap (level_of_began script) r.began) ∙ ap (λ y. level_of_began script (began_from [] ms y)) same;
         running = ap (is_ended ms) (sym same) ∙ o.running;
       }

@@ -7,6 +7,10 @@ pub mod Select
 pub mod Plans
 pub mod Shown
 pub mod Truths
+pub mod Posts
+pub mod Running
+pub mod Arrivals
+pub mod Resumptions
 pub mod Origins
 pub mod Always
 pub mod Commands

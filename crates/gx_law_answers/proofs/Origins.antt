@@ -1,20 +1,19 @@
 -- Every answer to a command that a segment sends was earned when it was sent first.
-use Rattle.std.proofs.Common.{◌≡◌, ◌≤◌, ◌<◌, inl, inr, ℕ, List, [], ◌∷◌, ◌++◌, Option, Some, None, Bool, true, false, refl, sym, subst, ap, ◌∙◌, if◌then◌else◌, eqb, arith, append_assoc, append-nil}
+use Rattle.std.proofs.Common.{◌≡◌, ◌≤◌, ◌⊎◌, inl, inr, ℕ, List, [], ◌∷◌, ◌++◌, Option, Some, None, Bool, true, false, refl, sym, subst, ap, ◌∙◌, if◌then◌else◌, eqb, arith, append_assoc, append-nil}
 use Rattle.std.proofs.lemmas.Bool.{eqb-true}
 use Rattle.std.proofs.lemmas.Bool.Decides.{nat_tests}
 use Rattle.std.specs.Prelude.{length, take}
-use Rattle.gx_law_order.proofs.Ordered.{world_well}
 use Rattle.gx_ids.specs.declared.ids.Cid.{Cid}
 use Rattle.gx_ids.specs.declared.ids.Gxid.{Gxid}
 use Rattle.gx_ids.specs.declared.ids.Node.{Node}
+use Rattle.gx_ids.specs.declared.ids.Table.{Table}
+use Rattle.gx_tree.specs.declared.query.Query.{Query}
 use Rattle.gx_tree.specs.declared.row.KeyedRow.{KeyedRow}
 use Rattle.gx_tree.specs.declared.slice.Slice.{Slice}
 use Rattle.gx_tree.specs.declared.slice.Slice.TheVariants as slice
-use Rattle.gx_tree.specs.declared.stmt.Level.{Level}
 use Rattle.gx_tree.specs.declared.stmt.Stmt.TheVariants as stmt
 use Rattle.gx_dsnap.specs.declared.snapshot.Snapshot.{Snapshot}
 use Rattle.gx_meaning.specs.declared.fault.ArithFault.{ArithFault}
-use Rattle.gx_msg.specs.declared.message.Envelope.{Envelope}
 use Rattle.gx_msg.specs.declared.message.Message.{Message}
 use Rattle.gx_msg.specs.declared.message.Message.TheVariants as message
 use Rattle.gx_msg.specs.declared.message.Out.{Out}
@@ -22,48 +21,41 @@ use Rattle.gx_msg.specs.declared.reply.Reply.{Reply}
 use Rattle.gx_msg.specs.declared.reply.Reply.TheVariants as reply
 use Rattle.gx_script.specs.declared.Script.{Script}
 use Rattle.gx_store.specs.declared.event.Event.{Event}
-use Rattle.gx_store.specs.declared.event.Event.TheVariants as event
 use Rattle.gx_store.specs.declared.mark.Mark.{Mark}
 use Rattle.gx_store.specs.declared.mark.Mark.TheVariants as mark
-use Rattle.gx_store.specs.declared.node.NodeEvent.TheVariants as here
+use Rattle.gx_store.specs.declared.node.NodeEvent.{NodeEvent}
 use Rattle.gx_store.specs.declared.run.Step.{Step}
 use Rattle.gx_store.specs.Commands.{IsSnapshotAt}
-use Rattle.gx_store.specs.Journals.{is_same_node}
 use Rattle.gx_store.specs.Marks.{is_aborted}
 use Rattle.gx_store.specs.Ordered.{IsSegment}
 use Rattle.gx_store.specs.Points.{marks_in}
-use Rattle.gx_store.specs.Refusals.{the_coordinator}
-use Rattle.gx_rules.specs.AtCoordinator.{coord_can, coord_rule}
-use Rattle.gx_rules.specs.AtSegment.{on_message, raised, seg_rule}
-use Rattle.gx_rules.specs.Machine.{Letter, World, after, at_node, can, coord_did, delivered, does, found, happens, new_world, node_of, seg_did, world_of}
-use Rattle.gx_rules.specs.Segments.{Local, Seg, SegTurn, after_marks, local_of, reply as reply_out}
+use Rattle.gx_rules.specs.AtSegment.{on_event, raised, seg_rule}
+use Rattle.gx_rules.specs.Machine.{World, seg_did, world_of}
+use Rattle.gx_rules.specs.Segments.{Local, Seg, SegTurn, after_marks, local_of, stays, reply as reply_out}
 use Rattle.gx_rules.specs.Locks.{hold_mark}
 use Rattle.gx_rules.specs.Sending.{numbered}
-use Rattle.gx_locks.specs.Locks.{Locks}
-use Rattle.gx_waits.specs.declared.claim.Claim.{Claim}
 use Rattle.gx_rules.specs.Shown.{shown}
-use Rattle.gx_rules.specs.Slices.{answers, first_fault, has_written, inserted, runs_slice, selects}
+use Rattle.gx_rules.specs.Slices.{answers, first_fault, has_written, inserted, selects}
 use Rattle.gx_law_order.proofs.Lists.{Each, each_weaker}
 use Rattle.gx_law_order.proofs.World.{marks-last}
 use Rattle.gx_law_sessions.specs.Orders.{IsOrder, IsReadBy, IsServed}
 use Rattle.gx_store.specs.Language.{AreLinesNumbered}
-use Rattle.gx_law_sessions.proofs.Outs.{MessageIs, order-more}
-use Rattle.gx_law_sessions.proofs.World.{after-last}
+use Rattle.gx_law_sessions.proofs.Outs.{order-more}
 use Rattle.gx_law_commit.specs.Pairs.{IsVote}
 use Rattle.gx_law_commit.specs.Standings.{at, gx}
-use Rattle.gx_law_reads.specs.Sights.{IsShownView}
 use Rattle.gx_law_reads.proofs.Seeing.{world-hold}
 use Rattle.gx_law_writes.proofs.Legal.{IsPlacedMark, sent-no-write}
 use Rattle.gx_law_writes.proofs.Moves.{mark-written, own-rows}
 use Rattle.gx_law_writes.proofs.Plans.{row-piece}
 use Rattle.gx_law_writes.proofs.Rows.{insert-wrote, rows-locals}
 use Rattle.gx_law_writes.proofs.Told.{IsWritten, written-more}
-use Rattle.gx_law_writes.proofs.Turns.{Inserted, IsOldReply, IsOldWord, NoWrite, Quiet, Selected, Turns, base, message-turns}
+use Rattle.gx_law_writes.proofs.Turns.{IsOldReply, IsOldWord, NoWrite, Quiet, base}
 use Rattle.gx_law_writes.proofs.World as writes
 use Rattle.gx_law_answers.specs.Earned.{Events, IsEarned, IsReplyEarned}
 use Rattle.gx_law_answers.specs.Parts.{IsPartOf}
 use Rattle.gx_law_answers.specs.Truth.{AreWritten, IsTruth}
 use Rattle.gx_law_answers.proofs.Plans.{select-line, slice-is}
+use Rattle.gx_law_answers.proofs.Running.{Doings, Idle, IsLate, Runs}
 use Rattle.gx_law_answers.proofs.Shown.{shown-part}
 use Rattle.gx_law_answers.proofs.Truths.{aborted-more, marks_of, reply_of, select-truth}
 
@@ -117,7 +109,7 @@ are-written marks [] h = tt
 are-written marks (r ∷ rs) h = (h.0, are-written marks rs h.1)
 
 -- A SEGMENT'S TURN
-module _ (script : Script) (some : 1 ≤ script.segments) (numbered_lines : AreLinesNumbered [] script.lines) (es : Events) (from to : Node) (number : ℕ) (envelope : Envelope) (fails : Bool) (place : IsSegment script to) (is_found : found from to number (world_of script es).sent ≡ Some envelope) (order_is : MessageIs script (marks_in (world_of script es).steps) to envelope.message) (view_is : IsShownView (world_of script es) to envelope.message) where
+module _ (script : Script) (some : 1 ≤ script.segments) (numbered_lines : AreLinesNumbered [] script.lines) (es : Events) (to : Node) (e : Event) (fails : Bool) (x : NodeEvent) (place : IsSegment script to) (is-late : IsLate script es to e fails x) where
   abbrev w : World
   w = world_of script es
 
@@ -128,19 +120,19 @@ module _ (script : Script) (some : 1 ≤ script.segments) (numbered_lines : AreL
   s = (world_of script es).segs to.0
 
   abbrev turn : SegTurn
-  turn = on_message script ((world_of script es).segs to.0) fails envelope.message
+  turn = on_event script ((world_of script es).segs to.0) x fails
 
   abbrev sent : List Mark
   sent = numbered (λ node. turn.seg.sent) turn.outs
 
-  abbrev e : Event × Bool
-  e = (event.Receive from to number, fails)
+  abbrev behind : Events
+  behind = es ++ (e, fails) ∷ []
 
   abbrev late : World
-  late = seg_did (world_of script es) to (event.Receive from to number) (seg_rule script ((world_of script es).segs to.0) (here.Deliver from envelope) fails)
+  late = seg_did (world_of script es) to e (seg_rule script ((world_of script es).segs to.0) x fails)
 
   abbrev late-step : Step
-  late-step = record { stamp = record { clock = (seg_rule script ((world_of script es).segs to.0) (here.Deliver from envelope) fails).seg.clock; node = to }; event = event.Receive from to number; marks = turn.marks ++ sent }
+  late-step = record { stamp = record { clock = (seg_rule script ((world_of script es).segs to.0) x fails).seg.clock; node = to }; event = e; marks = turn.marks ++ sent }
 
   placed : Each (IsPlacedMark script ms) ms
   placed = (writes.world-holds script some numbered_lines es).placed
@@ -148,16 +140,22 @@ module _ (script : Script) (some : 1 ≤ script.segments) (numbered_lines : AreL
   late-marks : marks_in late.steps ≡ ms ++ (turn.marks ++ sent)
   late-marks = marks-last (world_of script es).steps _
 
+  self : eqb to.0 to.0 ≡ true
+  self = self-test to.0
+    where
+      self-test : (a : ℕ) → eqb a a ≡ true
+      self-test a = grind (arith, nat_tests)
+
   -- a SELECT
-  module _ (z : Selected s envelope.message turn) where
+  module _ (query : Query) (z : Runs script es to e fails x (slice.Select query)) where
     abbrev rows : List KeyedRow
-    rows = shown (raised s z.horizon) z.snapshot z.g z.c z.query.table
+    rows = shown (raised z.like z.horizon) z.snapshot z.g z.c query.table
 
-    pub select-order : IsOrder script ms to z.g z.c z.level (Some z.snapshot) (slice.Select z.query)
-    select-order = subst (MessageIs script ms to) z.is order_is numbered_lines
+    pub select-order : IsOrder script ms to z.g z.c z.level (Some z.snapshot) (slice.Select query)
+    select-order = z.came.order_is numbered_lines
 
-    pub select-is : select-order.line ≡ stmt.Select z.query
-    select-is = select-line select-order.line z.query (slice-is _ _ z.g z.c select-order.line select-order.pieces _ select-order.plan select-order.among)
+    pub select-is : select-order.line ≡ stmt.Select query
+    select-is = select-line select-order.line query (slice-is _ _ z.g z.c select-order.line select-order.pieces _ select-order.plan select-order.among)
 
     pub served : IsServed ms z.level z.g z.c z.snapshot
     served = from-read (subst (λ l. IsReadBy ms z.level z.g z.c l (Some z.snapshot)) select-is select-order.read)
@@ -171,66 +169,41 @@ module _ (script : Script) (some : 1 ≤ script.segments) (numbered_lines : AreL
     pub snapshot-at : IsSnapshotAt ms z.level z.g z.c served.place
     snapshot-at = record { d = served.d; snapshot = z.snapshot; taken = served.taken; serves = served.serves }
 
-    pub rows-part : is_aborted ms z.g ≡ false → IsPartOf ms (take served.place ms) to z.g z.c z.query.table rows
+    pub rows-part : is_aborted ms z.g ≡ false → IsPartOf ms (take served.place ms) to z.g z.c query.table rows
     rows-part unaborted =
-        shown-part script ms placed served.place to (raised s z.horizon) (world-hold script some es to.0 place.0).versions z.snapshot z.g z.c z.query.table
-        (λ rid only. subst (IsShownView w to) z.is view_is place.0 (record { unaborted = unaborted; new = z.fresh }) served.place served.d served.taken z.query.table rid only)
-
-  -- the world behind the step
-  away : is_same_node to the_coordinator ≡ false
-  away = not-zero to.0 place.0
-    where
-      not-zero : (n : ℕ) → 1 ≤ n → eqb n 0 ≡ false
-      not-zero n l = grind (arith, nat_tests)
-
-  pub is-late : world_of script (es ++ e ∷ []) ≡ late
-  is-late =
-      after-last script some new_world es e
-      ∙ ap (λ o. if (can_of o) then does script w (event.Receive from to number) to fails (delivered from o) else w) is_found
-      ∙ ap (λ b. if (if b then coord_can script w.coord (here.Deliver from envelope) else true) then (if b then coord_did w (event.Receive from to number) (coord_rule script w.coord (here.Deliver from envelope) fails) else late) else w) away
-    where
-      can_of : Option Envelope → Bool
-      can_of o = Rattle.gx_rules.specs.Machine.can_here script w to (delivered from o)
-
-  self : eqb to.0 to.0 ≡ true
-  self = self-test to.0
-    where
-      self-test : (a : ℕ) → eqb a a ≡ true
-      self-test a = grind (arith, nat_tests)
+        shown-part script ms placed served.place to (raised z.like z.horizon) (z.versions ∙ (world-hold script some es to.0 place.0).versions) z.snapshot z.g z.c query.table
+        (λ rid only. z.sight unaborted served.place served.d served.taken query.table rid only)
 
   pub record TurnEarned : Type 0 where
-    pub kept : (h : ℕ) → IsKeptEarned script (es ++ e ∷ []) to (gx h) (turn.seg.locals h).answer
-    pub outs : Each (λ (o : Out). IsWordEarned script (es ++ e ∷ []) to o.message) turn.outs
+    pub kept : (h : ℕ) → IsKeptEarned script behind to (gx h) (turn.seg.locals h).answer
+    pub outs : Each (λ (o : Out). IsWordEarned script behind to o.message) turn.outs
 
-  -- a command that is new there
-  module _ (g : Gxid) (c : Cid) (level : Level) (x : Snapshot) (horizon : Gxid) (y : Slice) (told : envelope.message ≡ message.Exec g c level (Some x) horizon y) (fresh : (s.locals g.0).last < c.0) (locks : Locks) (wanted : Claim) (ran : turn ≡ after_marks (hold_mark s.node wanted ∷ []) (runs_slice (base s horizon locks) g c (Some x) y)) where
-    order : IsOrder script ms to g c level (Some x) y
-    order = subst (MessageIs script ms to) told order_is numbered_lines
-
-    pub new-reply : (r : Reply) (xs : List Mark) → turn.outs ≡ reply_out g r ∷ [] → turn.marks ≡ xs → IsTruth ms (ms ++ (xs ++ sent)) to level g c y r → c.0 ≤ (turn.seg.locals g.0).last → IsEarned script (es ++ e ∷ []) to g c r
+  -- a slice runs
+  module _ (y : Slice) (z : Runs script es to e fails x y) where
+    new-reply : (r : Reply) (xs : List Mark) → turn.outs ≡ reply_out z.g r ∷ [] → turn.marks ≡ xs → IsTruth ms (ms ++ (xs ++ sent)) to z.level z.g z.c y r → z.c.0 ≤ (turn.seg.locals z.g.0).last → IsEarned script behind to z.g z.c r
     new-reply r xs given same truth taken =
         record {
-          upto = es ++ e ∷ [];
+          upto = behind;
           rest = [];
-          split = sym (append-nil (es ++ e ∷ []));
-          level = level;
-          snapshot = x;
+          split = sym (append-nil behind);
+          level = z.level;
+          snapshot = z.snapshot;
           slice = y;
-          given = record { before = es; from = from; number = number; fails = fails; last = refl; envelope = envelope; posted = is_found; horizon = horizon; told = told; step = late-step; steps = ap (λ (v : World). v.steps) is-late; place = refl; new = fresh; locks = locks; wanted = wanted; ran = ran; given = given };
-          order = subst (λ v. IsOrder script (marks_in v.steps) to g c level (Some x) y) (sym is-late) (subst (λ m. IsOrder script m to g c level (Some x) y) (sym late-marks) (order-more script ms (turn.marks ++ sent) to (message.Exec g c level (Some x) g y) (λ n. order) numbered_lines));
-          taken = subst (λ v. c.0 ≤ (local_of (v.segs to.0) g).last) (sym is-late) (subst (λ b. c.0 ≤ ((if b then (seg_rule script s (here.Deliver from envelope) fails).seg else s).locals g.0).last) (sym self) taken);
-          truth = subst (λ v. IsTruth ms (marks_in v.steps) to level g c y r) (sym is-late) (subst (λ m. IsTruth ms m to level g c y r) (sym late-marks) (subst (λ m. IsTruth ms (ms ++ (m ++ sent)) to level g c y r) (sym same) truth));
+          given = record { before = es; event = e; fails = fails; last = refl; step = late-step; steps = ap (λ (v : World). v.steps) is-late; place = refl; ran = z.given r given };
+          order = subst (λ v. IsOrder script (marks_in v.steps) to z.g z.c z.level (Some z.snapshot) y) (sym is-late) (subst (λ m. IsOrder script m to z.g z.c z.level (Some z.snapshot) y) (sym late-marks) (order-more script ms (turn.marks ++ sent) to (message.Exec z.g z.c z.level (Some z.snapshot) z.horizon y) z.came.order_is numbered_lines));
+          taken = subst (λ v. z.c.0 ≤ (local_of (v.segs to.0) z.g).last) (sym is-late) (subst (λ b. z.c.0 ≤ ((if b then (seg_rule script s x fails).seg else s).locals z.g.0).last) (sym self) taken);
+          truth = subst (λ v. IsTruth ms (marks_in v.steps) to z.level z.g z.c y r) (sym is-late) (subst (λ m. IsTruth ms m to z.level z.g z.c y r) (sym late-marks) (subst (λ m. IsTruth ms (ms ++ (m ++ sent)) to z.level z.g z.c y r) (sym same) truth));
         }
 
   module _ (kept : (h : ℕ) → IsKeptEarned script es to (gx h) (s.locals h).answer) (votes : (h : ℕ) → IsVote (s.locals h).phase (s.locals h).vote) where
-    kept-more : (h : ℕ) → IsKeptEarned script (es ++ e ∷ []) to (gx h) (s.locals h).answer
-    kept-more h = kept-later script es e to (gx h) (s.locals h).answer (kept h)
+    kept-more : (h : ℕ) → IsKeptEarned script behind to (gx h) (s.locals h).answer
+    kept-more h = kept-later script es (e, fails) to (gx h) (s.locals h).answer (kept h)
 
     -- it repeats
-    old-earned : (g : Gxid) (r : Reply) → IsOldReply s g r → IsReplyEarned script (es ++ e ∷ []) to g r
-    old-earned g (reply.Done c w n p) (inl o) = subst (IsKeptEarned script (es ++ e ∷ []) to g) o (kept-more g.0)
+    old-earned : (g : Gxid) (r : Reply) → IsOldReply s g r → IsReplyEarned script behind to g r
+    old-earned g (reply.Done c w n p) (inl o) = subst (IsKeptEarned script behind to g) o (kept-more g.0)
     old-earned g (reply.Done c w n p) (inr o) = absurd (subst (IsVote (s.locals g.0).phase) o (votes g.0))
-    old-earned g (reply.Failed c x) (inl o) = subst (IsKeptEarned script (es ++ e ∷ []) to g) o (kept-more g.0)
+    old-earned g (reply.Failed c x) (inl o) = subst (IsKeptEarned script behind to g) o (kept-more g.0)
     old-earned g (reply.Failed c x) (inr o) = absurd (subst (IsVote (s.locals g.0).phase) o (votes g.0))
     old-earned g reply.Prepared o = tt
     old-earned g reply.Committed o = tt
@@ -242,16 +215,24 @@ module _ (script : Script) (some : 1 ≤ script.segments) (numbered_lines : AreL
     quiet-earned : Quiet s turn → TurnEarned
     quiet-earned q =
         record {
-          kept = λ h. subst (IsKeptEarned script (es ++ e ∷ []) to (gx h)) (sym (q.answers h)) (kept-more h);
-          outs = each_weaker (λ (o : Out). IsOldWord s o.message) (λ (o : Out). IsWordEarned script (es ++ e ∷ []) to o.message) (λ o k g r q. old-earned g r (subst (IsOldWord s) q k)) turn.outs q.outs;
+          kept = λ h. subst (IsKeptEarned script behind to (gx h)) (sym (q.answers h)) (kept-more h);
+          outs = each_weaker (λ (o : Out). IsOldWord s o.message) (λ (o : Out). IsWordEarned script behind to o.message) (λ o k g r q. old-earned g r (subst (IsOldWord s) q k)) turn.outs q.outs;
         }
 
+    -- it tells nothing
+    idle-earned : Idle script es to e fails x → TurnEarned
+    idle-earned q = record { kept = λ h. by_kept h (q.kept h); outs = subst (λ os. Each (λ (o : Out). IsWordEarned script behind to o.message) os) (sym q.outs) tt }
+      where
+        by_kept : (h : ℕ) → ((turn.seg.locals h).answer ≡ None) ⊎ ((turn.seg.locals h).answer ≡ (s.locals h).answer) → IsKeptEarned script behind to (gx h) (turn.seg.locals h).answer
+        by_kept h (inl k) = subst (IsKeptEarned script behind to (gx h)) (sym k) tt
+        by_kept h (inr k) = subst (IsKeptEarned script behind to (gx h)) (sym k) (kept-more h)
+
     -- it runs a command
-    ran-earned : (g : Gxid) (c : Cid) (r : Reply) (lead : List Mark) (base : Seg) (xs : List Mark) → turn ≡ after_marks lead (answers base g c xs r) → ((h : ℕ) → (base.locals h).answer ≡ (s.locals h).answer) → (c.0 ≤ (turn.seg.locals g.0).last → IsReplyEarned script (es ++ e ∷ []) to g r) → TurnEarned
+    ran-earned : (g : Gxid) (c : Cid) (r : Reply) (lead : List Mark) (base : Seg) (xs : List Mark) → turn ≡ after_marks lead (answers base g c xs r) → ((h : ℕ) → (base.locals h).answer ≡ (s.locals h).answer) → (c.0 ≤ (turn.seg.locals g.0).last → IsReplyEarned script behind to g r) → TurnEarned
     ran-earned g c r lead base xs ran others now =
         record {
-          kept = λ h. subst (λ (t : SegTurn). IsKeptEarned script (es ++ e ∷ []) to (gx h) (t.seg.locals h).answer) (sym ran) (by_test h (eqb h g.0) refl);
-          outs = subst (λ (t : SegTurn). Each (λ (o : Out). IsWordEarned script (es ++ e ∷ []) to o.message) t.outs) (sym ran) (said, tt);
+          kept = λ h. subst (λ (t : SegTurn). IsKeptEarned script behind to (gx h) (t.seg.locals h).answer) (sym ran) (by_test h (eqb h g.0) refl);
+          outs = subst (λ (t : SegTurn). Each (λ (o : Out). IsWordEarned script behind to o.message) t.outs) (sym ran) (said, tt);
         }
       where
         self-test : (a : ℕ) → eqb a a ≡ true
@@ -263,11 +244,11 @@ module _ (script : Script) (some : 1 ≤ script.segments) (numbered_lines : AreL
         after : Local
         after = record (local_of base g) { last = c.0; answer = Some r }
 
-        earned : IsReplyEarned script (es ++ e ∷ []) to g r
+        earned : IsReplyEarned script behind to g r
         earned = now (le-same _ _ (ap (λ (t : SegTurn). (t.seg.locals g.0).last) ran ∙ ap (λ b. (if b then after else base.locals g.0).last) (self-test g.0)))
 
-        said : (h : Gxid) (a : Reply) → message.Answer g r ≡ message.Answer h a → IsReplyEarned script (es ++ e ∷ []) to h a
-        said h a q = subst (IsReplyEarned script (es ++ e ∷ []) to h) (same-reply q) (subst (λ k. IsReplyEarned script (es ++ e ∷ []) to k r) (same-gxid q) earned)
+        said : (h : Gxid) (a : Reply) → message.Answer g r ≡ message.Answer h a → IsReplyEarned script behind to h a
+        said h a q = subst (IsReplyEarned script behind to h) (same-reply q) (subst (λ k. IsReplyEarned script behind to k r) (same-gxid q) earned)
           where
             same-reply : message.Answer g r ≡ message.Answer h a → r ≡ a
             same-reply q = cc
@@ -275,44 +256,47 @@ module _ (script : Script) (some : 1 ≤ script.segments) (numbered_lines : AreL
             same-gxid : message.Answer g r ≡ message.Answer h a → g ≡ h
             same-gxid q = cc
 
-        by_test : (h : ℕ) (b : Bool) → eqb h g.0 ≡ b → IsKeptEarned script (es ++ e ∷ []) to (gx h) (if b then after else base.locals h).answer
-        by_test h true q = subst (λ k. IsKeptEarned script (es ++ e ∷ []) to (gx k) (Some r)) (sym (eqb-true h g.0 q)) earned
-        by_test h false q = subst (IsKeptEarned script (es ++ e ∷ []) to (gx h)) (sym (others h)) (kept-more h)
+        by_test : (h : ℕ) (b : Bool) → eqb h g.0 ≡ b → IsKeptEarned script behind to (gx h) (if b then after else base.locals h).answer
+        by_test h true q = subst (λ k. IsKeptEarned script behind to (gx k) (Some r)) (sym (eqb-true h g.0 q)) earned
+        by_test h false q = subst (IsKeptEarned script behind to (gx h)) (sym (others h)) (kept-more h)
 
     quiet-sent : Each NoWrite sent
     quiet-sent = sent-no-write (λ node. turn.seg.sent) turn.outs
 
-    select-earned : Selected s envelope.message turn → TurnEarned
-    select-earned z = by_fault (first_fault z.query.cond (rows z)) refl z.ran
+    select-earned : (query : Query) → Runs script es to e fails x (slice.Select query) → TurnEarned
+    select-earned query z = by_fault (first_fault query.cond (rows query z)) refl z.ran
       where
-        truth : (o : Option (KeyedRow × ArithFault)) → first_fault z.query.cond (rows z) ≡ o → IsTruth ms (ms ++ (hold_mark s.node z.wanted ∷ marks_of z.g z.c o ++ sent)) to z.level z.g z.c (slice.Select z.query) (reply_of z.c (has_written (local_of s z.g).phase) z.query (rows z) o)
-        truth o q = by_abort o q (is_aborted ms z.g) refl
+        hold : Mark
+        hold = hold_mark s.node z.wanted
+
+        truth : (o : Option (KeyedRow × ArithFault)) → first_fault query.cond (rows query z) ≡ o → (wrote : Bool) → IsTruth ms (ms ++ (hold ∷ marks_of z.g z.c o ++ sent)) to z.level z.g z.c (slice.Select query) (reply_of z.c wrote query (rows query z) o)
+        truth o q wrote = by_abort o q (is_aborted ms z.g) refl
           where
-            by_abort : (o : Option (KeyedRow × ArithFault)) → first_fault z.query.cond (rows z) ≡ o → (b : Bool) → is_aborted ms z.g ≡ b → IsTruth ms (ms ++ (hold_mark s.node z.wanted ∷ marks_of z.g z.c o ++ sent)) to z.level z.g z.c (slice.Select z.query) (reply_of z.c (has_written (local_of s z.g).phase) z.query (rows z) o)
+            by_abort : (o : Option (KeyedRow × ArithFault)) → first_fault query.cond (rows query z) ≡ o → (b : Bool) → is_aborted ms z.g ≡ b → IsTruth ms (ms ++ (hold ∷ marks_of z.g z.c o ++ sent)) to z.level z.g z.c (slice.Select query) (reply_of z.c wrote query (rows query z) o)
             by_abort None f true a = inl (aborted-more ms _ z.g a)
             by_abort (Some fault) f true a = inl (aborted-more ms _ z.g a)
-            by_abort o f false a = select-truth ms sent quiet-sent to z.level z.g z.c a (served z).place (snapshot-at z) z.query (rows z) (rows-part z a) _ s.node z.wanted o f
+            by_abort o f false a = select-truth ms sent quiet-sent to z.level z.g z.c a (served query z).place (snapshot-at query z) query (rows query z) (rows-part query z a) wrote s.node z.wanted o f
 
-        by_fault : (o : Option (KeyedRow × ArithFault)) → first_fault z.query.cond (rows z) ≡ o → turn ≡ after_marks (hold_mark s.node z.wanted ∷ []) (selects (base s z.horizon z.locks) z.g z.c z.query (rows z) o) → TurnEarned
-        by_fault None f ran = ran-earned z.g z.c _ (hold_mark s.node z.wanted ∷ []) (base s z.horizon z.locks) [] ran (λ h. refl) (new-reply z.g z.c z.level z.snapshot z.horizon (slice.Select z.query) z.is z.fresh z.locks z.wanted z.ran _ (hold_mark s.node z.wanted ∷ []) (ap (λ (t : SegTurn). t.outs) ran) (ap (λ (t : SegTurn). t.marks) ran) (truth None f))
-        by_fault (Some fault) f ran = ran-earned z.g z.c _ (hold_mark s.node z.wanted ∷ []) (base s z.horizon z.locks) _ ran (λ h. refl) (new-reply z.g z.c z.level z.snapshot z.horizon (slice.Select z.query) z.is z.fresh z.locks z.wanted z.ran _ _ (ap (λ (t : SegTurn). t.outs) ran) (ap (λ (t : SegTurn). t.marks) ran) (truth (Some fault) f))
+        by_fault : (o : Option (KeyedRow × ArithFault)) → first_fault query.cond (rows query z) ≡ o → turn ≡ after_marks (hold ∷ []) (selects (base z.like z.horizon z.locks) z.g z.c query (rows query z) o) → TurnEarned
+        by_fault None f ran = ran-earned z.g z.c _ (hold ∷ []) (base z.like z.horizon z.locks) [] ran z.answers (new-reply (slice.Select query) z _ (hold ∷ []) (ap (λ (t : SegTurn). t.outs) ran) (ap (λ (t : SegTurn). t.marks) ran) (truth None f (has_written (local_of z.like z.g).phase)))
+        by_fault (Some fault) f ran = ran-earned z.g z.c _ (hold ∷ []) (base z.like z.horizon z.locks) _ ran z.answers (new-reply (slice.Select query) z _ _ (ap (λ (t : SegTurn). t.outs) ran) (ap (λ (t : SegTurn). t.marks) ran) (truth (Some fault) f (has_written (local_of z.like z.g).phase)))
 
-    insert-earned : Inserted s envelope.message turn → TurnEarned
-    insert-earned z =
-        ran-earned z.g z.c _ (hold ∷ []) (inserted (base s z.horizon z.locks) z.g z.c z.table z.rows).seg _ z.ran (λ h. (rows-locals z.g z.c z.table z.rows (record { seg = base s z.horizon z.locks; marks = [] }) h).1)
-        (new-reply z.g z.c z.level z.snapshot z.horizon (slice.Insert z.table z.rows) z.is z.fresh z.locks z.wanted z.ran _ (hold ∷ marks) (ap (λ (t : SegTurn). t.outs) z.ran) (ap (λ (t : SegTurn). t.marks) z.ran) truth)
+    insert-earned : (table : Table) (rows : List KeyedRow) → Runs script es to e fails x (slice.Insert table rows) → TurnEarned
+    insert-earned table rows z =
+        ran-earned z.g z.c _ (hold ∷ []) (inserted (base z.like z.horizon z.locks) z.g z.c table rows).seg _ z.ran (λ h. (rows-locals z.g z.c table rows (record { seg = base z.like z.horizon z.locks; marks = [] }) h).1 ∙ z.answers h)
+        (new-reply (slice.Insert table rows) z _ (hold ∷ marks) (ap (λ (t : SegTurn). t.outs) z.ran) (ap (λ (t : SegTurn). t.marks) z.ran) truth)
       where
         hold : Mark
         hold = hold_mark s.node z.wanted
 
         marks : List Mark
-        marks = (inserted (base s z.horizon z.locks) z.g z.c z.table z.rows).marks
+        marks = (inserted (base z.like z.horizon z.locks) z.g z.c table rows).marks
 
         held : List Mark
         held = ms ++ hold ∷ []
 
-        written : Each (IsWritten (held ++ marks)) z.rows
-        written = subst (λ ns. Each (IsWritten (held ++ ns)) z.rows) (sym (insert-wrote s z.horizon z.locks z.g z.c z.table z.rows).marks) (mark-written z.g z.c s.node z.table held z.rows (own-rows script ms to z.g z.c z.table z.rows (row-piece script ms to z.g z.c z.level (Some z.snapshot) z.table z.rows (subst (λ (y : Message). MessageIs script ms to y) z.is order_is numbered_lines))))
+        written : Each (IsWritten (held ++ marks)) rows
+        written = subst (λ ns. Each (IsWritten (held ++ ns)) rows) (sym (insert-wrote z.like z.horizon z.locks z.g z.c table rows).marks) (mark-written z.g z.c z.like.node table held rows (own-rows script ms to z.g z.c table rows (row-piece script ms to z.g z.c z.level (Some z.snapshot) table rows (z.came.order_is numbered_lines))))
 
         all : List Mark
         all = ms ++ (hold ∷ marks ++ sent)
@@ -320,13 +304,25 @@ module _ (script : Script) (some : 1 ≤ script.segments) (numbered_lines : AreL
         seam : (held ++ marks) ++ sent ≡ all
         seam = append_assoc held marks sent ∙ append_assoc ms (hold ∷ []) (marks ++ sent)
 
-        truth : (length z.rows ≡ length z.rows) × AreWritten all z.rows
-        truth = (refl, subst (λ m. AreWritten m z.rows) seam (are-written ((held ++ marks) ++ sent) z.rows (each_weaker (IsWritten (held ++ marks)) (IsWritten ((held ++ marks) ++ sent)) (λ r k. written-more (held ++ marks) sent r.rid k) z.rows written)))
+        truth : (length rows ≡ length rows) × AreWritten all rows
+        truth = (refl, subst (λ m. AreWritten m rows) seam (are-written ((held ++ marks) ++ sent) rows (each_weaker (IsWritten (held ++ marks)) (IsWritten ((held ++ marks) ++ sent)) (λ r k. written-more (held ++ marks) sent r.rid k) rows written)))
 
-    pub turn-earned : TurnEarned
-    turn-earned = by_turn (message-turns s ((world_well script some es).calm to.0).locks script fails envelope.message)
-      where
-        by_turn : Turns s envelope.message turn → TurnEarned
-        by_turn (inl q) = quiet-earned q
-        by_turn (inr (inl z)) = select-earned z
-        by_turn (inr (inr z)) = insert-earned z
+    -- the other slices do nothing yet
+    stays-earned : (lead : List Mark) (base : Seg) → turn ≡ after_marks lead (stays base) → ((h : ℕ) → (base.locals h).answer ≡ (s.locals h).answer) → TurnEarned
+    stays-earned lead base ran others =
+        record {
+          kept = λ h. subst (IsKeptEarned script behind to (gx h)) (sym (ap (λ (t : SegTurn). (t.seg.locals h).answer) ran ∙ others h)) (kept-more h);
+          outs = subst (λ (t : SegTurn). Each (λ (o : Out). IsWordEarned script behind to o.message) t.outs) (sym ran) tt;
+        }
+
+    runs-earned : (y : Slice) → Runs script es to e fails x y → TurnEarned
+    runs-earned (slice.Select query) z = select-earned query z
+    runs-earned (slice.Insert table rows) z = insert-earned table rows z
+    runs-earned (slice.Update t a d) z = stays-earned (hold_mark s.node z.wanted ∷ []) (base z.like z.horizon z.locks) z.ran z.answers
+    runs-earned (slice.Delete t d) z = stays-earned (hold_mark s.node z.wanted ∷ []) (base z.like z.horizon z.locks) z.ran z.answers
+    runs-earned (slice.Lock t m) z = stays-earned (hold_mark s.node z.wanted ∷ []) (base z.like z.horizon z.locks) z.ran z.answers
+
+    pub turn-earned : Doings script es to e fails x → TurnEarned
+    turn-earned (inl q) = quiet-earned q
+    turn-earned (inr (inl q)) = idle-earned q
+    turn-earned (inr (inr z)) = runs-earned z.0 z.1

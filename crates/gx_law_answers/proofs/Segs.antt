@@ -1,13 +1,20 @@
--- The marks of a segment's step that receives a message may stand there.
-use Rattle.std.proofs.Common.{◌≡◌, ◌≤◌, ◌<◌, ◌⊎◌, inl, inr, ℕ, List, [], ◌∷◌, ◌++◌, Option, Some, None, Bool, true, false, refl, sym, subst, ap, ◌∙◌, arith, append_assoc, append-nil, ◌||◌}
+-- The marks of a segment's step may stand there.
+use Rattle.std.proofs.Common.{◌≡◌, ◌≤◌, ◌⊎◌, inl, inr, ℕ, List, [], ◌∷◌, ◌++◌, Option, Some, None, Bool, true, false, refl, sym, subst, ap, ◌∙◌, arith, append_assoc, append-nil, ◌||◌}
+use Rattle.std.specs.Prelude.{map}
+use Rattle.gx_ids.specs.declared.ids.Cid.{Cid}
+use Rattle.gx_ids.specs.declared.ids.Gxid.{Gxid}
 use Rattle.gx_ids.specs.declared.ids.Node.{Node}
+use Rattle.gx_ids.specs.declared.ids.SessionId.{SessionId}
+use Rattle.gx_ids.specs.declared.ids.Table.{Table}
+use Rattle.gx_tree.specs.declared.query.Query.{Query}
 use Rattle.gx_tree.specs.declared.row.KeyedRow.{KeyedRow}
+use Rattle.gx_tree.specs.declared.slice.Slice.{Slice}
+use Rattle.gx_tree.specs.declared.slice.Slice.TheVariants as slice
 use Rattle.gx_tree.specs.declared.stmt.Stmt.{Stmt}
 use Rattle.gx_tree.specs.declared.stmt.Stmt.TheVariants as stmt
+use Rattle.gx_waits.specs.declared.claim.Claim.{Claim}
 use Rattle.gx_meaning.specs.declared.fault.ArithFault.{ArithFault}
 use Rattle.gx_msg.specs.declared.message.Envelope.{Envelope}
-use Rattle.gx_msg.specs.declared.message.Message.TheVariants as message
-use Rattle.gx_msg.specs.declared.reply.Reply.TheVariants as reply
 use Rattle.gx_script.specs.declared.Script.{Script}
 use Rattle.gx_store.specs.declared.event.Event.{Event}
 use Rattle.gx_store.specs.declared.event.Event.TheVariants as event
@@ -20,41 +27,45 @@ use Rattle.gx_store.specs.Commands.{IsUnderWay}
 use Rattle.gx_store.specs.Faults.{IsFaultOf, LegalFault}
 use Rattle.gx_store.specs.Marks.{is_aborted}
 use Rattle.gx_store.specs.Ordered.{IsSegment}
-use Rattle.gx_store.specs.Points.{Point, marks_in}
+use Rattle.gx_store.specs.Points.{Point, marks_in, starts_by}
 use Rattle.gx_store.specs.Refusals.{the_coordinator}
-use Rattle.gx_rules.specs.AtSegment.{on_message, raised, seg_rule}
-use Rattle.gx_rules.specs.Machine.{Letter, World, delivered, found, world_of, seg_can}
+use Rattle.gx_rules.specs.AtSegment.{on_event, raised, seg_rule}
+use Rattle.gx_rules.specs.Machine.{World, delivered, found, world_of, seg_can}
 use Rattle.gx_rules.specs.Locks.{hold_mark}
-use Rattle.gx_rules.specs.Segments.{Seg, SegTurn, after_marks}
+use Rattle.gx_rules.specs.Segments.{Seg, SegTurn, after_marks, stays}
 use Rattle.gx_rules.specs.Sending.{numbered}
 use Rattle.gx_rules.specs.Shown.{shown}
 use Rattle.gx_rules.specs.Slices.{first_fault, selects}
-use Rattle.gx_law_order.proofs.CalmSegs.{nobody-goes-on}
 use Rattle.gx_law_order.proofs.AtSegments.{PlainAt, seg_stays}
-use Rattle.gx_law_order.proofs.Letters.{IsFound, found_is}
 use Rattle.gx_law_order.proofs.Lists.{Each}
 use Rattle.gx_law_sessions.specs.Scanned.{stmt_of_command}
-use Rattle.gx_law_sessions.specs.Alive.{HasRun, HaveRun, WasUnderWay, AreAlive, HasAnswered, IsAlive, IsHeard, IsUnderWayBehind}
+use Rattle.gx_law_sessions.specs.Alive.{HasAnswered, IsHeard, IsUnderWayBehind, WasUnderWay}
 use Rattle.gx_law_sessions.specs.Finish.{AreSegmentsLegal}
 use Rattle.gx_store.specs.Language.{AreLinesNumbered}
-use Rattle.gx_law_sessions.specs.Rest.{EachMark, Rest}
+use Rattle.gx_law_sessions.specs.Rest.{EachMark, Rest, UnlessStart, is_going_out, unless}
 use Rattle.gx_law_sessions.proofs.Given.{marks-append, sent-rest}
-use Rattle.gx_law_sessions.proofs.World.{orders-alive, orders-ran}
 use Rattle.gx_law_commit.proofs.Whole.{world-both}
 use Rattle.gx_law_writes.specs.Writes.{AreWritesLegal, WriteLegal}
-use Rattle.gx_law_writes.proofs.Rows.{insert-no-fault}
-use Rattle.gx_law_writes.proofs.Told.{taken-told}
-use Rattle.gx_law_writes.proofs.Turns.{NoFault, Selected, Turns, base, message-turns, row-no-fault}
+use Rattle.gx_law_writes.proofs.Rows.{insert-wrote, row_mark}
+use Rattle.gx_law_writes.proofs.Told.{take-get}
+use Rattle.gx_law_writes.proofs.Turns.{NoFault, base, row-no-fault}
 use Rattle.gx_law_writes.proofs.World as writes
 use Rattle.gx_store.proofs.Marks.{is_aborted-append}
 use Rattle.gx_law_answers.specs.Earned.{Events}
-use Rattle.gx_law_answers.proofs.Always.{Came, came}
-use Rattle.gx_law_answers.proofs.Origins.{is-late, rows-part, select-is, select-order, snapshot-at}
+use Rattle.gx_law_answers.proofs.Running.{Doings, IsLate, Runs}
+use Rattle.gx_law_answers.proofs.Arrivals.{message-does, received-late}
+use Rattle.gx_law_answers.proofs.Resumptions.{resumed-late, resumption-does}
+use Rattle.gx_law_answers.proofs.Origins.{rows-part, select-is, select-order, snapshot-at}
 use Rattle.gx_law_answers.proofs.Truths.{part-more, seen-fault, snapshot-more}
 
 abbrev FaultLegal : Script → Point → Mark → Type 0
 FaultLegal script point (mark.Fault g c rid image) = LegalFault script point g c rid image
 FaultLegal script point m = Unit {0}
+
+-- an INSERT faults on no row
+rows-no-fault : (g : Gxid) (c : Cid) (node : Node) (table : Table) (rows : List KeyedRow) → Each NoFault (map (row_mark g c node table) rows)
+rows-no-fault g c node table [] = tt
+rows-no-fault g c node table (r ∷ rs) = (tt, rows-no-fault g c node table rs)
 
 -- ---- lists of marks
 front : (P : Point → Mark → Type 0) (steps : List Step) (e : Event) (earlier xs ys later : List Mark) → EachMark P steps e earlier (xs ++ ys) later → EachMark P steps e earlier xs (ys ++ later)
@@ -66,38 +77,46 @@ last-legal : (script : Script) (before ss : List Step) (s : Step) → AreWritesL
 last-legal script before [] s h = subst (λ b. EachMark (WriteLegal script) b s.event [] s.marks []) (sym (append-nil before)) h.0
 last-legal script before (x ∷ ss) s h = subst (λ b. EachMark (WriteLegal script) b s.event [] s.marks []) (append_assoc before (x ∷ []) ss) (last-legal script (before ++ x ∷ []) ss s h.1)
 
-module _ (script : Script) (steps : List Step) (from to : Node) (number : ℕ) (one : 1 ≤ to.0) where
+-- a fault that may stand there may stand in any event
+unless-not : (e : Event) (A : Type 0) → A → UnlessStart e A
+unless-not e A a = by_test (is_going_out e)
+  where
+    by_test : (b : Bool) → unless b A
+    by_test true = tt
+    by_test false = a
+
+module _ (script : Script) (steps : List Step) (to : Node) (e : Event) (one : 1 ≤ to.0) where
   no-coordinator : to ≡ the_coordinator → ⊥
   no-coordinator q = zero-one to.0 one (ap (λ (n : Node). n.0) q)
     where
       zero-one : (n : ℕ) → 1 ≤ n → n ≡ 0 → ⊥
       zero-one n l z = omega (arith, l, z)
 
-  one-rest : (point : Point) (m : Mark) → point.event ≡ event.Receive from to number → WriteLegal script point m → FaultLegal script point m → PlainAt script to m → Rest script point m
-  one-rest point (mark.Write g c n t r x) e a b p = a
-  one-rest point (mark.Skip g c r) e a b p = a
-  one-rest point (mark.Fault g c r x) e a b p = subst (λ v. Rattle.gx_law_sessions.specs.Rest.UnlessStart v (LegalFault script point g c r x)) (sym e) b
-  one-rest point (mark.Answer s n a') e a b p = absurd (no-coordinator p)
-  one-rest point (mark.Recheck x y z) e a b p = absurd (no-coordinator p)
-  one-rest point (mark.Start a' t) e a b p = tt
-  one-rest point (mark.Snap a' d x) e a b p = tt
-  one-rest point (mark.Commit a') e a b p = tt
-  one-rest point (mark.Abort a') e a b p = tt
-  one-rest point (mark.Hold n a' x m) e a b p = tt
-  one-rest point (mark.Wait n a' x m) e a b p = tt
-  one-rest point (mark.Release n a' x m) e a b p = tt
-  one-rest point (mark.Prepared n a') e a b p = tt
-  one-rest point (mark.LocalCommit n a') e a b p = tt
-  one-rest point (mark.Decided a') e a b p = tt
-  one-rest point (mark.JournalFailed n a') e a b p = tt
-  one-rest point (mark.Sent a' c d) e a b p = tt
-  one-rest point (mark.Report n x y) e a b p = tt
+  one-rest : (point : Point) (m : Mark) → WriteLegal script point m → FaultLegal script point m → PlainAt script to m → Rest script point m
+  one-rest point (mark.Write g c n t r x) a b p = a
+  one-rest point (mark.Skip g c r) a b p = a
+  one-rest point (mark.Fault g c r x) a b p = unless-not point.event (LegalFault script point g c r x) b
+  one-rest point (mark.Answer s n a') a b p = absurd (no-coordinator p)
+  one-rest point (mark.Recheck x y z) a b p = absurd (no-coordinator p)
+  one-rest point (mark.Start a' t) a b p = tt
+  one-rest point (mark.Snap a' d x) a b p = tt
+  one-rest point (mark.Commit a') a b p = tt
+  one-rest point (mark.Abort a') a b p = tt
+  one-rest point (mark.Hold n a' x m) a b p = tt
+  one-rest point (mark.Wait n a' x m) a b p = tt
+  one-rest point (mark.Release n a' x m) a b p = tt
+  one-rest point (mark.Prepared n a') a b p = tt
+  one-rest point (mark.LocalCommit n a') a b p = tt
+  one-rest point (mark.Decided a') a b p = tt
+  one-rest point (mark.JournalFailed n a') a b p = tt
+  one-rest point (mark.Sent a' c d) a b p = tt
+  one-rest point (mark.Report n x y) a b p = tt
 
-  all-rest : (earlier xs later : List Mark) → EachMark (WriteLegal script) steps (event.Receive from to number) earlier xs later → EachMark (FaultLegal script) steps (event.Receive from to number) earlier xs later → Each (PlainAt script to) xs → EachMark (Rest script) steps (event.Receive from to number) earlier xs later
+  all-rest : (earlier xs later : List Mark) → EachMark (WriteLegal script) steps e earlier xs later → EachMark (FaultLegal script) steps e earlier xs later → Each (PlainAt script to) xs → EachMark (Rest script) steps e earlier xs later
   all-rest earlier [] later a b p = tt
-  all-rest earlier (x ∷ xs) later a b p = (one-rest (record { steps = steps; event = event.Receive from to number; earlier = earlier; later = xs ++ later }) x refl a.0 b.0 p.0, all-rest (earlier ++ x ∷ []) xs later a.1 b.1 p.1)
+  all-rest earlier (x ∷ xs) later a b p = (one-rest (record { steps = steps; event = e; earlier = earlier; later = xs ++ later }) x a.0 b.0 p.0, all-rest (earlier ++ x ∷ []) xs later a.1 b.1 p.1)
 
-  no-faults : (earlier xs later : List Mark) → Each NoFault xs → EachMark (FaultLegal script) steps (event.Receive from to number) earlier xs later
+  no-faults : (earlier xs later : List Mark) → Each NoFault xs → EachMark (FaultLegal script) steps e earlier xs later
   no-faults earlier [] later h = tt
   no-faults earlier (mark.Fault g c r x ∷ xs) later h = absurd h.0
   no-faults earlier (m ∷ xs) later h = (tt, no-faults (earlier ++ m ∷ []) xs later h.1)
@@ -110,51 +129,43 @@ module _ (script : Script) (some : 1 ≤ script.segments) (numbered_lines : AreL
   abbrev ms : List Mark
   ms = marks_in (world_of script es).steps
 
-  each-alive : (ls : List Letter) → AreAlive script (world_of script es) ls → Each (λ l. l.from ≡ the_coordinator → IsAlive script (world_of script es) l.to l.envelope.message) ls
-  each-alive [] h = tt
-  each-alive (l ∷ ls) h = (h.0, each-alive ls h.1)
-
-  module _ (from to : Node) (number : ℕ) (envelope : Envelope) (fails : Bool) (place : IsSegment script to) (f : found from to number (world_of script es).sent ≡ Some envelope) where
+  module _ (to : Node) (e : Event) (fails : Bool) (x : NodeEvent) (place : IsSegment script to) (is-late : IsLate script es to e fails x) (starts : (k : SessionId) → starts_by k e ≡ 0) (does-it : Doings script es to e fails x) where
     abbrev s : Seg
     s = (world_of script es).segs to.0
 
     abbrev turn : SegTurn
-    turn = on_message script ((world_of script es).segs to.0) fails envelope.message
-
-    it-came : Came script some numbered_lines es from to envelope
-    it-came = came script some numbered_lines es from to number envelope place f
-
-    alive : IsAlive script (world_of script es) to envelope.message
-    alive = subst (λ n. IsAlive script (world_of script es) n envelope.message) d.target (subst (λ (a : Envelope). IsAlive script (world_of script es) d.letter.to a.message) d.told (d.is (d.source ∙ it-came.source)))
-      where
-        d : IsFound (λ l. l.from ≡ the_coordinator → IsAlive script (world_of script es) l.to l.envelope.message) from to number envelope
-        d = found_is _ from to number (world_of script es).sent envelope (each-alive (world_of script es).sent (orders-alive script some es)) f
-
-    each-ran : (ls : List Letter) → HaveRun script (world_of script es).steps ls → Each (λ l. l.from ≡ the_coordinator → HasRun script (world_of script es).steps l.envelope.message) ls
-    each-ran [] h = tt
-    each-ran (l ∷ ls) h = (h.0, each-ran ls h.1)
-
-    ran_is : HasRun script (world_of script es).steps envelope.message
-    ran_is = subst (λ (a : Envelope). HasRun script (world_of script es).steps a.message) d.told (d.is (d.source ∙ it-came.source))
-      where
-        d : IsFound (λ l. l.from ≡ the_coordinator → HasRun script (world_of script es).steps l.envelope.message) from to number envelope
-        d = found_is _ from to number (world_of script es).sent envelope (each-ran (world_of script es).sent (orders-ran script some es)) f
+    turn = on_event script ((world_of script es).segs to.0) x fails
 
     some-stmt : (a b : Stmt) → Some a ≡ Some b → a ≡ b
     some-stmt a b q = cc
 
-    module _ (z : Selected s envelope.message turn) where
+    module _ (query : Query) (z : Runs script es to e fails x (slice.Select query)) where
       abbrev rows : List KeyedRow
-      rows = shown (raised s z.horizon) z.snapshot z.g z.c z.query.table
+      rows = shown (raised z.like z.horizon) z.snapshot z.g z.c query.table
 
-      the-line : stmt_of_command script ms z.g z.c ≡ Some (stmt.Select z.query)
-      the-line = (select-order script some numbered_lines es from to number envelope fails place f it-came.order_is it-came.view_is z).of ∙ ap Some (select-is script some numbered_lines es from to number envelope fails place f it-came.order_is it-came.view_is z)
+      the-line : stmt_of_command script ms z.g z.c ≡ Some (stmt.Select query)
+      the-line = (select-order script some numbered_lines es to e fails x place is-late query z).of ∙ ap Some (select-is script some numbered_lines es to e fails x place is-late query z)
 
       abbrev hold : Mark
       hold = hold_mark s.node z.wanted
 
-      fault-legal : (fault : KeyedRow × ArithFault) (later : List Mark) → first_fault z.query.cond rows ≡ Some fault → LegalFault script (record { steps = (world_of script es).steps; event = event.Receive from to number; earlier = hold ∷ []; later = later }) z.g z.c fault.0.rid (Some fault.0.row)
-      fault-legal fault later q = by_abort (is_aborted ms z.g) refl (subst (IsAlive script (world_of script es) to) z.is alive)
+      -- no answer of its command was received
+      unheard : HasAnswered (IsHeard (world_of script es).steps) to z.g z.c → ⊥
+      unheard h =
+          z.untold the_coordinator h.1.1.1.is.number h.0 h.1.0 h.1.1.0
+          (record {
+            step = h.1.1.1.is.sent.step;
+            mark = h.1.1.1.is.sent.mark;
+            sending = record {
+              sender = h.1.1.1.is.sent.sending.sender;
+              at = take-get h.1.1.1.place (world_of script es).steps h.1.1.1.is.sent.step h.1.1.1.is.sent.sending.sender h.1.1.1.is.sent.sending.at;
+              node = h.1.1.1.is.sent.sending.node;
+              sent = h.1.1.1.is.sent.sending.sent;
+            };
+          })
+
+      fault-legal : (fault : KeyedRow × ArithFault) (later : List Mark) → first_fault query.cond rows ≡ Some fault → LegalFault script (record { steps = (world_of script es).steps; event = e; earlier = hold ∷ []; later = later }) z.g z.c fault.0.rid (Some fault.0.row)
+      fault-legal fault later q = by_abort (is_aborted ms z.g) refl z.came.alive
         where
           or-none : (a b : Bool) → a ≡ b → (a || false) ≡ b
           or-none a b e = grind arith
@@ -162,67 +173,78 @@ module _ (script : Script) (some : 1 ≤ script.segments) (numbered_lines : AreL
           aborted-still : (b : Bool) → is_aborted ms z.g ≡ b → is_aborted (ms ++ hold ∷ []) z.g ≡ b
           aborted-still b e = is_aborted-append ms (hold ∷ []) z.g ∙ or-none (is_aborted ms z.g) b e
 
-          late : is_aborted ms z.g ≡ true → LegalFault script (record { steps = (world_of script es).steps; event = event.Receive from to number; earlier = hold ∷ []; later = later }) z.g z.c fault.0.rid (Some fault.0.row)
+          late : is_aborted ms z.g ≡ true → LegalFault script (record { steps = (world_of script es).steps; event = e; earlier = hold ∷ []; later = later }) z.g z.c fault.0.rid (Some fault.0.row)
           late a =
               inr (record {
-                stmt = stmt.Select z.query;
+                stmt = stmt.Select query;
                 late = record {
                   aborted = aborted-still true a;
                   early = was.point;
                   earlier = inl was.among;
                   session = was.session;
                   level = was.level;
-                  ran = subst (λ q. IsUnderWay script was.point was.session q was.level z.g z.c) (some-stmt was.line (stmt.Select z.query) (sym (was.of numbered_lines) ∙ the-line)) was.ran;
+                  ran = subst (λ q. IsUnderWay script was.point was.session q was.level z.g z.c) (some-stmt was.line (stmt.Select query) (sym (was.of numbered_lines) ∙ the-line)) was.ran;
                 };
                 kind = refl;
               })
             where
               was : WasUnderWay script (world_of script es).steps z.g z.c
-              was = subst (HasRun script (world_of script es).steps) z.is ran_is
+              was = z.came.was
 
-          beyond : (a b : ℕ) → a < b → b ≤ a → ⊥
-          beyond a b x y = omega (arith, x, y)
-
-          by_abort : (b : Bool) → is_aborted ms z.g ≡ b → IsUnderWayBehind script (world_of script es).steps z.level z.g z.c ⊎ HasAnswered (IsHeard (world_of script es).steps) to z.g z.c ⊎ (is_aborted ms z.g ≡ true) → LegalFault script (record { steps = (world_of script es).steps; event = event.Receive from to number; earlier = hold ∷ []; later = later }) z.g z.c fault.0.rid (Some fault.0.row)
-          by_abort true a x = late a
-          by_abort false a (inr (inr x)) = late x
-          by_abort false a (inr (inl x)) =
-              absurd (beyond _ _ z.fresh (taken-told script ms (writes.locals_in (world_of script es).segs) (world_of script es).steps x.1.1.1.place x.1.1.1.is.sent.step x.1.1.1.is.sent.mark to the_coordinator x.1.1.1.is.number (message.Answer z.g (reply.Done z.c x.0 x.1.0 x.1.1.0)) place.0 (writes.world-holds script some numbered_lines es).told x.1.1.1.is.sent.sending).0)
+          by_abort : (b : Bool) → is_aborted ms z.g ≡ b → IsUnderWayBehind script (world_of script es).steps z.level z.g z.c ⊎ HasAnswered (IsHeard (world_of script es).steps) to z.g z.c ⊎ (is_aborted ms z.g ≡ true) → LegalFault script (record { steps = (world_of script es).steps; event = e; earlier = hold ∷ []; later = later }) z.g z.c fault.0.rid (Some fault.0.row)
+          by_abort true a k = late a
+          by_abort false a (inr (inr k)) = late k
+          by_abort false a (inr (inl k)) = absurd (unheard k)
           by_abort false a (inl u) =
               inl (record {
                 session = u.session;
                 stmt = u.line;
                 level = z.level;
                 fault = fault.1;
-                runs = u.runs (event.Receive from to number) (hold ∷ []) later refl (tt, tt);
-                faults = let taken = snapshot-at script some numbered_lines es from to number envelope fails place f it-came.order_is it-came.view_is z in
-                    subst (λ l. IsFaultOf (ms ++ hold ∷ []) z.level z.g z.c l fault.0.rid (Some fault.0.row) fault.1) (some-stmt (stmt.Select z.query) u.line (sym the-line ∙ u.of numbered_lines))
-                    (seen-fault (ms ++ hold ∷ []) to z.level z.g z.c _ (snapshot-more ms (hold ∷ []) z.level z.g z.c _ taken) z.query rows (part-more ms (hold ∷ []) (tt, tt) z.level z.g z.c _ taken to z.query.table rows (rows-part script some numbered_lines es from to number envelope fails place f it-came.order_is it-came.view_is z a)) fault q);
+                runs = u.runs e (hold ∷ []) later (starts u.session) (tt, tt);
+                faults = let taken = snapshot-at script some numbered_lines es to e fails x place is-late query z in
+                    subst (λ l. IsFaultOf (ms ++ hold ∷ []) z.level z.g z.c l fault.0.rid (Some fault.0.row) fault.1) (some-stmt (stmt.Select query) u.line (sym the-line ∙ u.of numbered_lines))
+                    (seen-fault (ms ++ hold ∷ []) to z.level z.g z.c _ (snapshot-more ms (hold ∷ []) z.level z.g z.c _ taken) query rows (part-more ms (hold ∷ []) (tt, tt) z.level z.g z.c _ taken to query.table rows (rows-part script some numbered_lines es to e fails x place is-late query z a)) fault q);
               })
 
-      select-faults : (later : List Mark) (o : Option (KeyedRow × ArithFault)) → first_fault z.query.cond rows ≡ o → turn ≡ after_marks (hold ∷ []) (selects (base s z.horizon z.locks) z.g z.c z.query rows o) → EachMark (FaultLegal script) (world_of script es).steps (event.Receive from to number) [] turn.marks later
-      select-faults later None q ran = subst (λ (t : SegTurn). EachMark (FaultLegal script) (world_of script es).steps (event.Receive from to number) [] t.marks later) (sym ran) (tt, tt)
-      select-faults later (Some fault) q ran = subst (λ (t : SegTurn). EachMark (FaultLegal script) (world_of script es).steps (event.Receive from to number) [] t.marks later) (sym ran) (tt, (fault-legal fault later q, tt))
+      select-faults : (later : List Mark) (o : Option (KeyedRow × ArithFault)) → first_fault query.cond rows ≡ o → turn ≡ after_marks (hold ∷ []) (selects (base z.like z.horizon z.locks) z.g z.c query rows o) → EachMark (FaultLegal script) (world_of script es).steps e [] turn.marks later
+      select-faults later None q ran = subst (λ (t : SegTurn). EachMark (FaultLegal script) (world_of script es).steps e [] t.marks later) (sym ran) (tt, tt)
+      select-faults later (Some fault) q ran = subst (λ (t : SegTurn). EachMark (FaultLegal script) (world_of script es).steps e [] t.marks later) (sym ran) (tt, (fault-legal fault later q, tt))
 
-    faults : (later : List Mark) → Turns s envelope.message turn → EachMark (FaultLegal script) (world_of script es).steps (event.Receive from to number) [] turn.marks later
-    faults later (inl q) = no-faults script (world_of script es).steps from to number place.0 [] turn.marks later (row-no-fault turn.marks q.marks)
-    faults later (inr (inl z)) = select-faults z later (first_fault z.query.cond (rows z)) refl z.ran
-    faults later (inr (inr z)) = no-faults script (world_of script es).steps from to number place.0 [] turn.marks later (insert-no-fault s envelope.message turn z)
+    quiet-faults : (later : List Mark) → Each NoFault turn.marks → EachMark (FaultLegal script) (world_of script es).steps e [] turn.marks later
+    quiet-faults later h = no-faults script (world_of script es).steps to e place.0 [] turn.marks later h
+
+    stays-faults : (later : List Mark) (m : Claim) (t : Seg) → turn ≡ after_marks (hold_mark s.node m ∷ []) (stays t) → EachMark (FaultLegal script) (world_of script es).steps e [] turn.marks later
+    stays-faults later m t ran = quiet-faults later (subst (λ (t : SegTurn). Each NoFault t.marks) (sym ran) (tt, tt))
+
+    slice-faults : (later : List Mark) (y : Slice) → Runs script es to e fails x y → EachMark (FaultLegal script) (world_of script es).steps e [] turn.marks later
+    slice-faults later (slice.Select query) z = select-faults query z later (first_fault query.cond (rows query z)) refl z.ran
+    slice-faults later (slice.Insert table tuples) z =
+        quiet-faults later
+        (subst (λ (t : SegTurn). Each NoFault t.marks) (sym z.ran) (tt, subst (Each NoFault) (sym (insert-wrote z.like z.horizon z.locks z.g z.c table tuples).marks) (rows-no-fault z.g z.c z.like.node table tuples)))
+    slice-faults later (slice.Update t a d) z = stays-faults later z.wanted (base z.like z.horizon z.locks) z.ran
+    slice-faults later (slice.Delete t d) z = stays-faults later z.wanted (base z.like z.horizon z.locks) z.ran
+    slice-faults later (slice.Lock t m) z = stays-faults later z.wanted (base z.like z.horizon z.locks) z.ran
+
+    faults : (later : List Mark) → Doings script es to e fails x → EachMark (FaultLegal script) (world_of script es).steps e [] turn.marks later
+    faults later (inl q) = quiet-faults later (row-no-fault turn.marks q.marks)
+    faults later (inr (inl q)) = quiet-faults later (row-no-fault turn.marks q.marks)
+    faults later (inr (inr z)) = slice-faults later z.0 z.1
 
     plain : Each (PlainAt script to) turn.marks
-    plain = subst (λ node. Each (PlainAt script node) turn.marks) ((world-both script some es).knows.well.names to.0) (seg_stays script s (subst (IsSegment script) (sym ((world-both script some es).knows.well.names to.0)) place) (here.Deliver from envelope) fails).marks
+    plain = subst (λ node. Each (PlainAt script node) turn.marks) ((world-both script some es).knows.well.names to.0) (seg_stays script s (subst (IsSegment script) (sym ((world-both script some es).knows.well.names to.0)) place) x fails).marks
 
     abbrev sent : List Mark
     sent = numbered (λ node. turn.seg.sent) turn.outs
 
-    step-writes : EachMark (WriteLegal script) (world_of script es).steps (event.Receive from to number) [] (turn.marks ++ sent) []
-    step-writes = last-legal script [] (world_of script es).steps _ (subst (λ (v : World). AreWritesLegal script [] v.steps) (is-late script some numbered_lines es from to number envelope fails place f it-came.order_is it-came.view_is) (writes.world-holds script some numbered_lines (es ++ (event.Receive from to number, fails) ∷ [])).legal)
+    step-writes : EachMark (WriteLegal script) (world_of script es).steps e [] (turn.marks ++ sent) []
+    step-writes = last-legal script [] (world_of script es).steps _ (subst (λ (v : World). AreWritesLegal script [] v.steps) is-late (writes.world-holds script some numbered_lines (es ++ (e, fails) ∷ [])).legal)
 
-    step-rest : EachMark (Rest script) (world_of script es).steps (event.Receive from to number) [] (seg_rule script ((world_of script es).segs to.0) (here.Deliver from envelope) fails).marks []
+    step-rest : EachMark (Rest script) (world_of script es).steps e [] (seg_rule script ((world_of script es).segs to.0) x fails).marks []
     step-rest =
-        marks-append (Rest script) (world_of script es).steps (event.Receive from to number) [] turn.marks sent []
-        (all-rest script (world_of script es).steps from to number place.0 [] turn.marks (sent ++ []) (front (WriteLegal script) (world_of script es).steps (event.Receive from to number) [] turn.marks sent [] step-writes) (faults (sent ++ []) (message-turns s ((world-both script some es).knows.well.calm to.0).locks script fails envelope.message)) plain)
-        (sent-rest script (world_of script es).steps (event.Receive from to number) (λ node. turn.seg.sent) turn.outs turn.marks [])
+        marks-append (Rest script) (world_of script es).steps e [] turn.marks sent []
+        (all-rest script (world_of script es).steps to e place.0 [] turn.marks (sent ++ []) (front (WriteLegal script) (world_of script es).steps e [] turn.marks sent [] step-writes) (faults (sent ++ []) does-it) plain)
+        (sent-rest script (world_of script es).steps e (λ node. turn.seg.sent) turn.outs turn.marks [])
 
   some-same : (a b : NodeEvent) → Some a ≡ Some b → a ≡ b
   some-same a b q = cc
@@ -233,14 +255,24 @@ module _ (script : Script) (some : 1 ≤ script.segments) (numbered_lines : AreL
   abbrev IsRest : Event → Node → NodeEvent → Bool → Type 0
   IsRest e i x fails = EachMark (Rest script) (world_of script es).steps e [] (seg_rule script ((world_of script es).segs i.0) x fails).marks []
 
+  received : (from to : Node) (number : ℕ) (envelope : Envelope) (fails : Bool) → IsSegment script to → found from to number (world_of script es).sent ≡ Some envelope → IsRest (event.Receive from to number) to (here.Deliver from envelope) fails
+  received from to number envelope fails place f =
+      step-rest to (event.Receive from to number) fails (here.Deliver from envelope) place (received-late script some numbered_lines es from to number envelope fails place f) (λ k. refl)
+      (message-does script some numbered_lines es from to number envelope fails place f)
+
+  resumed : (n : Node) (g : Gxid) (fails : Bool) → IsSegment script n → seg_can script ((world_of script es).segs n.0) (here.Resume g) ≡ true → IsRest (event.Resume n g) n (here.Resume g) fails
+  resumed n g fails place ok =
+      step-rest n (event.Resume n g) fails (here.Resume g) place (resumed-late script some numbered_lines es n g fails place ok) (λ k. refl) (resumption-does script some numbered_lines es n g fails place ok)
+
   pub segments-legal : AreSegmentsLegal script (world_of script es)
   segments-legal (event.Receive from to number) x fails place is ok = by_found (found from to number (world_of script es).sent) refl is
     where
       by_found : (o : Option Envelope) → found from to number (world_of script es).sent ≡ o → delivered from o ≡ Some x → IsRest (event.Receive from to number) to x fails
       by_found None f q = absurd (cc)
-      by_found (Some envelope) f q = subst (λ y. IsRest (event.Receive from to number) to y fails) (some-same (here.Deliver from envelope) x q) (step-rest from to number envelope fails place f)
+      by_found (Some envelope) f q = subst (λ y. IsRest (event.Receive from to number) to y fails) (some-same (here.Deliver from envelope) x q) (received from to number envelope fails place f)
   segments-legal (event.Resume n g) x fails place is ok =
-      absurd (nobody-goes-on script ((world_of script es).segs n.0) g ((world-both script some es).knows.well.calm n.0) (subst (λ y. seg_can script ((world_of script es).segs n.0) y ≡ true) (sym (some-same (here.Resume g) x is)) ok))
+      let same = some-same (here.Resume g) x is in
+      subst (λ y. IsRest (event.Resume n g) n y fails) same (resumed n g fails place (subst (λ y. seg_can script ((world_of script es).segs n.0) y ≡ true) (sym same) ok))
   segments-legal (event.Start s) x fails place is ok = zero-one place.0
   segments-legal (event.End s) x fails place is ok = zero-one place.0
   segments-legal (event.Resend i g) x fails place is ok = zero-one place.0

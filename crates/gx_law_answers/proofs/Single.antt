@@ -41,10 +41,10 @@ use Rattle.gx_store.specs.Ordered.{AreOrdered, IsAtNode, IsOrderedStep}
 use Rattle.gx_store.specs.Points.{marks_in}
 use Rattle.gx_store.specs.Writes.{dist_of}
 use Rattle.gx_store.specs.Refusals.{the_coordinator}
-use Rattle.gx_rules.specs.AtCoordinator.{Reading, awaited, begins, commits, completes, coord_rule, dispatches, ends_in, fault_mark, follows, goes, goes_on, is_refused, next_cid, next_line, on_answer, on_event, on_failed, on_done, on_line, on_message, on_status, reads_by, reads_for, resends, starts, starts_line, table_of, takes_done, with_done, writers_with, goes_on_locked, if_granted, lock_for, requests, resumes}
+use Rattle.gx_rules.specs.AtCoordinator.{Reading, awaited, begins, commits, completes, coord_can, coord_rule, dispatches, ends_in, fault_mark, follows, goes, goes_on, is_refused, next_cid, next_line, on_answer, on_event, on_failed, on_done, on_line, on_message, on_status, reads_by, reads_for, resends, starts, starts_line, table_of, takes_done, with_done, writers_with, goes_on_locked, if_granted, lock_for, requests, resumes}
 use Rattle.gx_rules.specs.Coordinators.{Command, Coord, Work, rests, session_of, with_work, work_of}
 use Rattle.gx_rules.specs.AtSegment.{seg_rule}
-use Rattle.gx_rules.specs.Machine.{World, after, at_node, can, coord_did, does, happens, new_world, node_of, seg_did, world_of}
+use Rattle.gx_rules.specs.Machine.{World, after, at_node, can, can_here, coord_did, does, happens, new_world, node_of, seg_can, seg_did, world_of}
 use Rattle.gx_rules.specs.Sending.{counted, numbered}
 use Rattle.gx_law_order.proofs.Ordered.{Well, happens_well}
 use Rattle.gx_law_order.proofs.Turns.{self-test}
@@ -54,12 +54,12 @@ use Rattle.gx_law_sessions.specs.Orders.{level_by}
 use Rattle.gx_law_sessions.specs.Standing.{HasSnapshot, IsStanding, Owns, Roots, Stands}
 use Rattle.gx_law_sessions.proofs.Ends.{began-kept}
 use Rattle.gx_law_sessions.proofs.Stepping.{Holds}
+use Rattle.gx_law_sessions.proofs.Waiting.{Began, going-began}
 use Rattle.gx_law_sessions.proofs.World.{after-last, world-holds}
 use Rattle.gx_law_answers.specs.Earned.{Events}
 use Rattle.gx_rules.specs.Locks.{has_there, release_mark, release_marks, with_hold}
 use Rattle.gx_waits.specs.declared.claim.Claim.{Claim}
-use Rattle.gx_locks.specs.Locks.{Locks, is_free}
-use Rattle.gx_law_order.proofs.Calm.{AreCalm, nobody-waits}
+use Rattle.gx_locks.specs.Locks.{Locks, is_free, resumed, wait_of}
 
 -- MARKS WITH ONE SNAPSHOT AT MOST
 abbrev NoSnaps : List Mark → Type 0
@@ -279,18 +279,36 @@ module _ (script : Script) (w : World) (h : Holds script w) where
           let b = in-block (session_of w.coord s).state.block line e in
           subst May (sym same) (inside-may s b.0 b.1 (subst (λ g. (work_of w.coord g).snapshot ≡ None) same none))
 
-  event-one : AreCalm w.coord.locks → (x : NodeEvent) (fails : Bool) → OneSnap May (on_event script w.coord x fails).marks
-  event-one calm (here.Deliver from envelope) fails = none-one May (on_message w.coord from fails envelope.message).marks (message-none May w.coord from fails envelope.message)
-  event-one calm (here.Start s) fails = start-one s (next_line script w.coord s)
-  event-one calm (here.End s) fails = none-one May (ends_in w.coord s (session_of w.coord s).state.block).marks (ends-none May w.coord s (session_of w.coord s).state.block)
-  event-one calm (here.Resend i None) fails = tt
-  event-one calm (here.Resend i (Some g)) fails = none-one May (resends w.coord i (awaited w.coord g i)).marks (resends-none May w.coord i (awaited w.coord g i))
-  event-one calm (here.Resume g) fails = subst (λ o. OneSnap May (resumes script w.coord g o (work_of w.coord g).waiting).marks) (sym (nobody-waits w.coord.locks g calm)) tt
-  event-one calm here.Round fails = tt
+  -- a statement that goes out behind a wait
+  begun-may : (g : Gxid) → Began script before g (work_of w.coord g) → (work_of w.coord g).snapshot ≡ None → May g
+  begun-may g b none = by_level (work_of w.coord g).level refl
+    where
+      by_level : (l : Level) → (work_of w.coord g).level ≡ l → May g
+      by_level ReadCommitted e = inr (record { began = b.by; is = b.is; level = sym b.level ∙ e })
+      by_level RepeatableRead e = inl (subst (λ x. HasSnapshot RepeatableRead before g x) none (subst (λ l. HasSnapshot l before g (work_of w.coord g).snapshot) e b.snapshot))
 
-  rule-one : AreCalm w.coord.locks → (x : NodeEvent) (fails : Bool) → OneSnap May (coord_rule script w.coord x fails).marks
-  rule-one calm x fails =
-      one-append May (on_event script w.coord x fails).marks (numbered (on_event script w.coord x fails).coord.sent (on_event script w.coord x fails).outs) (event-one calm x fails)
+  resume-one : (g : Gxid) → Began script before g (work_of w.coord g) → (wanted : Option Claim) (line : Option Stmt) → OneSnap May (resumes script w.coord g wanted line).marks
+  resume-one g b (Some wanted) (Some line) =
+      locked-one May script (with_work (record w.coord { locks = resumed w.coord.locks g (Some wanted) }) g (record (work_of w.coord g) { waiting = None })) g line
+      (λ none. begun-may g b (sym same ∙ none))
+    where
+      same : (if eqb g.0 g.0 then record (work_of w.coord g) { waiting = None } else work_of w.coord g).snapshot ≡ (work_of w.coord g).snapshot
+      same = ap (λ b. (if b then record (work_of w.coord g) { waiting = None } else work_of w.coord g).snapshot) (self-test g.0)
+  resume-one g b (Some wanted) None = tt
+  resume-one g b None line = tt
+
+  event-one : Knows script w → (x : NodeEvent) (fails : Bool) → coord_can script w.coord x ≡ true → OneSnap May (on_event script w.coord x fails).marks
+  event-one n (here.Deliver from envelope) fails ok = none-one May (on_message w.coord from fails envelope.message).marks (message-none May w.coord from fails envelope.message)
+  event-one n (here.Start s) fails ok = start-one s (next_line script w.coord s)
+  event-one n (here.End s) fails ok = none-one May (ends_in w.coord s (session_of w.coord s).state.block).marks (ends-none May w.coord s (session_of w.coord s).state.block)
+  event-one n (here.Resend i None) fails ok = tt
+  event-one n (here.Resend i (Some g)) fails ok = none-one May (resends w.coord i (awaited w.coord g i)).marks (resends-none May w.coord i (awaited w.coord g i))
+  event-one n (here.Resume g) fails ok = resume-one g (going-began script w n h g ok) (wait_of w.coord.locks g) (work_of w.coord g).waiting
+  event-one n here.Round fails ok = tt
+
+  rule-one : Knows script w → (x : NodeEvent) (fails : Bool) → coord_can script w.coord x ≡ true → OneSnap May (coord_rule script w.coord x fails).marks
+  rule-one n x fails ok =
+      one-append May (on_event script w.coord x fails).marks (numbered (on_event script w.coord x fails).coord.sent (on_event script w.coord x fails).outs) (event-one n x fails ok)
       (numbered-none (on_event script w.coord x fails).coord.sent (on_event script w.coord x fails).outs)
 
 -- TWO SNAPSHOTS
@@ -390,22 +408,22 @@ module _ (script : Script) (some : 1 ≤ script.segments) where
   abbrev seg-step : World → Node → Event → NodeEvent → Bool → Step
   seg-step w n e x fails = record { stamp = record { clock = (seg_rule script (w.segs n.0) x fails).seg.clock; node = n }; event = e; marks = (seg_rule script (w.segs n.0) x fails).marks }
 
-  does-keeps : (w : World) (h : Holds script w) → AreCalm w.coord.locks → (e : Event) (fails : Bool) (n : Node) (o : Option NodeEvent) → Well script (does script w e n fails o) → U w → U (does script w e n fails o)
-  does-keeps w h calm e fails n None well u = u
-  does-keeps w h calm e fails n (Some x) well u = by_test (is_same_node n the_coordinator) refl well
+  does-keeps : (w : World) (n : Knows script w) (h : Holds script w) (e : Event) (fails : Bool) (at : Node) (o : Option NodeEvent) → can_here script w at o ≡ true → Well script (does script w e at fails o) → U w → U (does script w e at fails o)
+  does-keeps w n h e fails at None ok well u = u
+  does-keeps w n h e fails at (Some x) ok well u = by_test (is_same_node at the_coordinator) refl ok well
     where
-      by_test : (b : Bool) → is_same_node n the_coordinator ≡ b
-          → Well script (if b then coord_did w e (coord_rule script w.coord x fails) else seg_did w n e (seg_rule script (w.segs n.0) x fails))
-          → U (if b then coord_did w e (coord_rule script w.coord x fails) else seg_did w n e (seg_rule script (w.segs n.0) x fails))
-      by_test true is v = pushed w (coord-step w e x fails) u (rule-one script w h calm x fails)
-      by_test false is v = pushed w (seg-step w n e x fails) u (none-one (MayTake script (marks_in w.steps)) (seg_rule script (w.segs n.0) x fails).marks (away-none script n is (seg_rule script (w.segs n.0) x fails).marks (last-ordered script [] w.steps (seg-step w n e x fails) v.steps).marks))
+      by_test : (b : Bool) → is_same_node at the_coordinator ≡ b → (if b then coord_can script w.coord x else seg_can script (w.segs at.0) x) ≡ true
+          → Well script (if b then coord_did w e (coord_rule script w.coord x fails) else seg_did w at e (seg_rule script (w.segs at.0) x fails))
+          → U (if b then coord_did w e (coord_rule script w.coord x fails) else seg_did w at e (seg_rule script (w.segs at.0) x fails))
+      by_test true is ok v = pushed w (coord-step w e x fails) u (rule-one script w h n x fails ok)
+      by_test false is ok v = pushed w (seg-step w at e x fails) u (none-one (MayTake script (marks_in w.steps)) (seg_rule script (w.segs at.0) x fails).marks (away-none script at is (seg_rule script (w.segs at.0) x fails).marks (last-ordered script [] w.steps (seg-step w at e x fails) v.steps).marks))
 
   happens-keeps : (w : World) (n : Knows script w) (h : Holds script w) (e : Event) (fails : Bool) → U w → U (happens script w e fails)
-  happens-keeps w n h e fails u = by_can (can script w e) (happens_well script some w e fails n.well)
+  happens-keeps w n h e fails u = by_can (can script w e) refl (happens_well script some w e fails n.well)
     where
-      by_can : (b : Bool) → Well script (if b then does script w e (node_of e) fails (at_node w e) else w) → U (if b then does script w e (node_of e) fails (at_node w e) else w)
-      by_can true v = does-keeps w h n.well.coordinator.locks e fails (node_of e) (at_node w e) v u
-      by_can false v = u
+      by_can : (b : Bool) → can script w e ≡ b → Well script (if b then does script w e (node_of e) fails (at_node w e) else w) → U (if b then does script w e (node_of e) fails (at_node w e) else w)
+      by_can true ok v = does-keeps w n h e fails (node_of e) (at_node w e) ok v u
+      by_can false ok v = u
 
   after-keeps : (done es : Events) → U (world_of script done) → U (after script (world_of script done) es)
   after-keeps done [] u = u

@@ -1,5 +1,6 @@
--- What a segment's answer to a command was earned by: its rule gave it when the command came, and what it says was so then.
-use Rattle.std.specs.Prelude.{◌≡◌, ◌≤◌, ◌<◌, ℕ, Bool, List, [], ◌∷◌, ◌++◌, Some}
+-- What a segment's answer to a command was earned by: its rule gave it when the command came, or when its slice went on behind a
+-- wait for its lock, and what it says was so then.
+use Rattle.std.specs.Prelude.{◌≡◌, ◌≤◌, ◌<◌, ◌⊎◌, ℕ, Bool, true, List, [], ◌∷◌, ◌++◌, slice_get, take, Some, None}
 use Rattle.gx_ids.specs.declared.ids.Cid.{Cid}
 use Rattle.gx_ids.specs.declared.ids.Gxid.{Gxid}
 use Rattle.gx_ids.specs.declared.ids.Node.{Node}
@@ -7,22 +8,24 @@ use Rattle.gx_tree.specs.declared.slice.Slice.{Slice}
 use Rattle.gx_tree.specs.declared.stmt.Level.{Level}
 use Rattle.gx_dsnap.specs.declared.snapshot.Snapshot.{Snapshot}
 use Rattle.gx_msg.specs.declared.message.Envelope.{Envelope}
+use Rattle.gx_msg.specs.declared.message.Message.{Message}
 use Rattle.gx_msg.specs.declared.message.Message.TheVariants.{Answer, Exec}
 use Rattle.gx_msg.specs.declared.reply.Reply.{Reply}
 use Rattle.gx_msg.specs.declared.reply.Reply.TheVariants.{Done, Failed}
 use Rattle.gx_script.specs.declared.Script.{Script}
 use Rattle.gx_store.specs.declared.event.Event.{Event}
 use Rattle.gx_store.specs.declared.run.Step.{Step}
-use Rattle.gx_store.specs.declared.event.Event.TheVariants.{Receive}
-use Rattle.gx_store.specs.Messages.{IsSent}
+use Rattle.gx_store.specs.declared.event.Event.TheVariants.{Receive, Resume}
+use Rattle.gx_store.specs.Messages.{IsSent, Receives}
 use Rattle.gx_store.specs.Ordered.{IsSegment}
 use Rattle.gx_store.specs.Points.{marks_in}
-use Rattle.gx_rules.specs.AtSegment.{on_message, raised}
-use Rattle.gx_rules.specs.Machine.{found, world_of}
-use Rattle.gx_rules.specs.Segments.{after_marks, local_of, reply}
+use Rattle.gx_store.specs.Refusals.{the_coordinator}
+use Rattle.gx_rules.specs.AtSegment.{on_message, raised, resumes}
+use Rattle.gx_rules.specs.Machine.{World, found, world_of}
+use Rattle.gx_rules.specs.Segments.{Suspended, after_marks, local_of, reply, with_local}
 use Rattle.gx_rules.specs.Locks.{hold_mark}
-use Rattle.gx_rules.specs.Slices.{runs_slice}
-use Rattle.gx_locks.specs.Locks.{Locks}
+use Rattle.gx_rules.specs.Slices.{runs_slice, slice_lock}
+use Rattle.gx_locks.specs.Locks.{Locks, is_free, resumed, wait_of}
 use Rattle.gx_waits.specs.declared.claim.Claim.{Claim}
 use Rattle.gx_law_sessions.specs.Orders.{IsOrder}
 use Rattle.gx_law_answers.specs.Truth.{IsTruth}
@@ -31,28 +34,71 @@ use Rattle.gx_law_answers.specs.Truth.{IsTruth}
 abbrev pub Events : Type 0
 Events = List (Event × Bool)
 
--- In the last of these events, with a step of the segment, an EXEC came to it, of a command that was new there; its slice took its
--- lock and ran by the rule, and so it was answered.
-pub record IsGiven (script : Script) (events : Events) (segment : Node) (g : Gxid) (c : Cid) (level : Level) (snapshot : Snapshot) (slice : Slice) (answer : Reply) : Type 0 where
-  pub before : Events
+-- The event brings an EXEC to the segment, of a command that is new there; its slice takes its lock and runs by the rule, and so it
+-- is answered.
+pub record RunsAtOnce (script : Script) (w : World) (e : Event) (fails : Bool) (segment : Node) (g : Gxid) (c : Cid) (level : Level) (snapshot : Snapshot) (slice : Slice) (said : Reply) : Type 0 where
   pub from : Node
   pub number : ℕ
-  pub fails : Bool
-  pub last : events ≡ before ++ (Receive from segment number, fails) ∷ []
+  pub is : e ≡ Receive from segment number
   pub envelope : Envelope
-  pub posted : found from segment number (world_of script before).sent ≡ Some envelope
+  pub posted : found from segment number w.sent ≡ Some envelope
   pub horizon : Gxid
   pub told : envelope.message ≡ Exec g c level (Some snapshot) horizon slice
+  pub new : (local_of (w.segs segment.0) g).last < c.0
+  pub locks : Locks
+  pub wanted : Claim
+  pub ran : on_message script (w.segs segment.0) fails envelope.message
+      ≡ after_marks (hold_mark (w.segs segment.0).node wanted ∷ [])
+      (runs_slice (record (raised (w.segs segment.0) horizon) { locks = locks }) g c (Some snapshot) slice)
+  pub given : (on_message script (w.segs segment.0) fails envelope.message).outs ≡ reply g said ∷ []
+
+-- one of the steps, at the node, received the message from the coordinator
+pub record WasReceived (steps : List Step) (node : Node) (m : Message) : Type 0 where
+  pub place : ℕ
+  pub step : Step
+  pub at : slice_get steps place ≡ Some step
+  pub there : step.stamp.node ≡ node
+  pub received : Receives (take place steps) step.event the_coordinator node m
+
+-- The event is the resumption of the transaction's slice, which came with an EXEC before, of the last command there, and has waited
+-- since then, unanswered; what it waits for is its table's lock, which is free now; it takes it and runs by the rule, and so it is
+-- answered.
+pub record RunsBehindWait (script : Script) (w : World) (event : Event) (segment : Node) (g : Gxid) (c : Cid) (level : Level) (snapshot : Snapshot) (slice : Slice) (answer : Reply) : Type 0 where
+  pub is : event ≡ Resume segment g
+  pub waiting : Suspended
+  pub waits : (local_of (w.segs segment.0) g).suspended ≡ Some waiting
+  pub command : waiting.cid ≡ c
+  pub level_is : waiting.level ≡ level
+  pub snapshot_is : waiting.snapshot ≡ Some snapshot
+  pub slice_is : waiting.slice ≡ slice
+  pub horizon : Gxid
+  pub came : WasReceived w.steps segment (Exec g c level (Some snapshot) horizon slice)
+  pub last : (local_of (w.segs segment.0) g).last ≡ c.0
+  pub unanswered : (local_of (w.segs segment.0) g).answer ≡ None
+  pub wanted : Claim
+  pub wants : wait_of (w.segs segment.0).locks g ≡ Some wanted
+  pub lock : slice_lock g slice ≡ Some wanted
+  pub free : is_free (w.segs segment.0).locks.holds wanted ≡ true
+  pub ran : resumes (w.segs segment.0) g (wait_of (w.segs segment.0).locks g) (local_of (w.segs segment.0) g).suspended
+      ≡ after_marks (hold_mark (w.segs segment.0).node wanted ∷ [])
+      (runs_slice
+      (record (with_local (w.segs segment.0) g (record (local_of (w.segs segment.0) g) { suspended = None })) {
+        locks = resumed (w.segs segment.0).locks g (Some wanted);
+      })
+      g c (Some snapshot) slice)
+  pub given : (resumes (w.segs segment.0) g (wait_of (w.segs segment.0).locks g) (local_of (w.segs segment.0) g).suspended).outs ≡ reply g answer ∷ []
+
+-- in the last of these events, with a step of the segment, a command's slice took its lock there and ran, and so it was answered
+pub record IsGiven (script : Script) (events : Events) (segment : Node) (g : Gxid) (c : Cid) (level : Level) (snapshot : Snapshot) (slice : Slice) (answer : Reply) : Type 0 where
+  pub before : Events
+  pub event : Event
+  pub fails : Bool
+  pub last : events ≡ before ++ (event, fails) ∷ []
   pub step : Step
   pub steps : (world_of script events).steps ≡ (world_of script before).steps ++ step ∷ []
   pub place : step.stamp.node ≡ segment
-  pub new : (local_of ((world_of script before).segs segment.0) g).last < c.0
-  pub locks : Locks
-  pub wanted : Claim
-  pub ran : on_message script ((world_of script before).segs segment.0) fails envelope.message
-      ≡ after_marks (hold_mark ((world_of script before).segs segment.0).node wanted ∷ [])
-      (runs_slice (record (raised ((world_of script before).segs segment.0) horizon) { locks = locks }) g c (Some snapshot) slice)
-  pub given : (on_message script ((world_of script before).segs segment.0) fails envelope.message).outs ≡ reply g answer ∷ []
+  pub ran : RunsAtOnce script (world_of script before) event fails segment g c level snapshot slice answer
+      ⊎ RunsBehindWait script (world_of script before) event segment g c level snapshot slice answer
 
 -- Behind some of the events the segment was given the answer by its rule, for a command that was its transaction's, and what the
 -- answer says was so.

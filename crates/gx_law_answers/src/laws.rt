@@ -28,8 +28,9 @@ pub fn parts_give_the_answer()
 {}
 
 /// Each answer to a command that a segment ever sent was earned: its rule gave it when the command came, as one that was new
-/// there, and what it says was so then. A SELECT's is its part of what the command sees, or a fault of its condition on it, unless
-/// the transaction had aborted; an INSERT's counts the rows that it was sent, all written.
+/// there, or when its slice, which had come before and waited, got its lock; and what it says was so then. A SELECT's is its part
+/// of what the command sees, or a fault of its condition on it, unless the transaction had aborted; an INSERT's counts the rows
+/// that it was sent, all written.
 pub fn every_answer_was_earned()
     ensures { (script : Script) (events : List (OneEvent × Bool)) → 1 ≤ script.segments → AreLinesNumbered [] script.lines → AreAnswersEarned script events }
 {}

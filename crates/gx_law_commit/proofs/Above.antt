@@ -1,10 +1,11 @@
 -- Over every run of the machine, whoever holds locks at a segment is waited for, and so no horizon is above it.
 use Rattle.std.proofs.Common.{◌≡◌, ◌≤◌, inl, inr, ℕ, List, [], ◌∷◌, Option, Some, None, Bool, true, false, refl, sym, subst, ap, ◌∙◌, if◌then◌else◌, ◌&&◌, nat_lt, arith}
 use Rattle.std.proofs.lemmas.Bool.Decides.{nat_tests}
-use Rattle.std.specs.Prelude.{not}
+use Rattle.std.specs.Prelude.{is_some, not}
 use Rattle.gx_ids.specs.declared.ids.Node.{Node}
 use Rattle.gx_dtx.specs.Table.{Table, find_txn}
 use Rattle.gx_dtx.specs.declared.txn.Txn.{Txn}
+use Rattle.gx_locks.specs.Locks.{wait_of}
 use Rattle.gx_msg.specs.declared.message.Envelope.{Envelope}
 use Rattle.gx_msg.specs.declared.message.Message.{Message}
 use Rattle.gx_msg.specs.declared.message.Message.TheVariants as message
@@ -22,17 +23,20 @@ use Rattle.gx_store.specs.Refusals.{the_coordinator}
 use Rattle.gx_rules.specs.AtCoordinator.{coord_can, coord_rule}
 use Rattle.gx_rules.specs.AtSegment.{seg_rule}
 use Rattle.gx_rules.specs.Machine.{Letter, World, after, at_node, can, can_here, coord_did, delivered, does, found, happens, new_world, node_of, seg_can, seg_did, world_of}
-use Rattle.gx_law_order.proofs.CalmSegs.{nobody-goes-on}
+use Rattle.gx_rules.specs.Segments.{Local, Phase, Suspended, has_ended, local_of}
 use Rattle.gx_law_order.proofs.Letters.{IsFound, IsLetter, found_is}
+use Rattle.gx_law_order.proofs.Waiting.{each-among}
 use Rattle.gx_law_order.proofs.World.{Knows, happens_knows, new_knows}
 use Rattle.gx_law_commit.specs.Horizons.{AreBelowIn, AreHorizonsLow, AreHoldersAbove, AreLowIn, IsBelowHolders, IsBelowIn, IsLow, IsLowIn}
+use Rattle.gx_law_commit.specs.Pairs.{is_open}
 use Rattle.gx_law_commit.specs.Said.{Said, SaidAt, SaidIn, gxid_in, is_answer}
 use Rattle.gx_law_commit.specs.Standings.{gx, known_at}
 use Rattle.gx_law_commit.proofs.Always.{IsPosted, answer-of, each-zip, happens-holds, new-holds}
-use Rattle.gx_law_commit.proofs.Everywhere.{Holds, parts_in}
+use Rattle.gx_law_commit.proofs.Everywhere.{Holds, IsResumed, does-it, parts_in, resumed-does}
+use Rattle.gx_law_commit.proofs.Ended.{ends-so, resumed-so}
 use Rattle.gx_law_commit.proofs.Held.{held_in, is_held}
 use Rattle.gx_law_commit.proofs.Holders.{EndTold, LetterHeld, Waits, coord-waits, ended_at, seg-waits}
-use Rattle.gx_law_commit.proofs.Holding.{SaysBy}
+use Rattle.gx_law_commit.proofs.Holding.{HeldFor, SaysBy}
 use Rattle.gx_law_commit.proofs.Low.{world-low}
 use Rattle.gx_ids.specs.declared.ids.Gxid.{Gxid}
 
@@ -107,14 +111,15 @@ module _ (script : Script) (some : 1 ≤ script.segments) where
           (subst (λ (n : Node). EndTold w.segs n.0 envelope.message) d.source (subst (λ (q : Envelope). EndTold w.segs d.letter.from.0 q.message) d.told (d.is.1.told (from-segment is d.is.0.0.link)))))
       by_test false is ok =
           let p = place is d.is.0.0.link in
-          seg-waits script w k v u e fails to.0 from envelope (gets p.1) at-segment
+          let pair = v.stands.pairs to.0 (gxid_in envelope.message) in
+          seg-waits script w k v u e x fails to.0 envelope.message (inl (gets p.1)) (does-it script w k v e fails to.0 from envelope (gets p.1) at-segment)
+          (ends-so script fails (w.segs to.0) envelope.message (parts_in w to.0 (gxid_in envelope.message)).wrote pair.vote pair.kept)
           (subst (λ (n : Node). Rattle.gx_law_commit.proofs.Holding.HeldFor (ended_at w.segs) w.coord.table n.0 envelope.message) d.target (subst (λ (q : Envelope). Rattle.gx_law_commit.proofs.Holding.HeldFor (ended_at w.segs) w.coord.table d.letter.to.0 q.message) d.told d.is.1.held))
 
   arrives : (w : World) (from to : Node) (number : ℕ) (fails : Bool) (o : Option Envelope) → found from to number w.sent ≡ o → Knows script w → Holds script w → Waits w → can_here script w to (delivered from o) ≡ true → Waits (does script w (event.Receive from to number) to fails (delivered from o))
   arrives w from to number fails None e k v u ok = u
   arrives w from to number fails (Some envelope) e k v u ok = received w from to number envelope fails k v u (found_is (IsAll w) from to number w.sent envelope (each-zip (IsPosted script w) (LetterHeld w) w.sent (each-zip (IsLetter script w.steps) (SaidIn w) w.sent k.well.letters v.said) u.sent) e) ok
 
-  -- nobody goes on at a segment yet
   resumed : (w : World) (n : Node) (g : Gxid) (fails : Bool) → Knows script w → Holds script w → Waits w → can_here script w n (Some (here.Resume g)) ≡ true → Waits (does script w (event.Resume n g) n fails (Some (here.Resume g)))
   resumed w n g fails k v u ok = by_test (is_same_node n the_coordinator) refl ok
     where
@@ -126,7 +131,27 @@ module _ (script : Script) (some : 1 ≤ script.segments) where
 
       by_test : (b : Bool) → is_same_node n the_coordinator ≡ b → (if b then coord_can script w.coord x else seg_can script (w.segs n.0) x) ≡ true → Waits (if b then coord_did w e (coord_rule script w.coord x fails) else seg_did w n e (seg_rule script (w.segs n.0) x fails))
       by_test true is ok = coord-waits script some w k u e x fails ok tt
-      by_test false is ok = absurd (nobody-goes-on script (w.segs n.0) g (k.well.calm n.0) ok)
+      by_test false is ok = goes (resumed-does script w k v e n.0 g fails ok)
+        where
+          not-ended : (a : Phase) → is_open a ≡ true → has_ended a ≡ false
+          not-ended a q = grind (arith, nat_tests)
+
+          positive : (a c : ℕ) → a ≡ c → 1 ≤ c → nat_lt 0 a ≡ true
+          positive a c q z = grind (arith, nat_tests)
+
+          is-some : (o : Option Suspended) (y : Suspended) → o ≡ Some y → is_some o ≡ true
+          is-some o y q = cc
+
+          goes : IsResumed script w k v e n.0 g fails → Waits (seg_did w n e (seg_rule script (w.segs n.0) x fails))
+          goes o =
+              let y : Suspended = o.slice in
+              let l : Local = local_of (w.segs n.0) g in
+              let m : Message = message.Exec g y.cid y.level y.snapshot o.waits.horizon y.slice in
+              let c = o.waits.come in
+              let pair = v.stands.pairs n.0 g.0 in
+              seg-waits script w k v u e x fails n.0 m o.reached o.does
+              (resumed-so script (w.segs n.0) g m (wait_of (w.segs n.0).locks g) l.suspended (parts_in w n.0 g.0).wrote pair.vote pair.kept (not-ended l.phase (pair.waits (is-some l.suspended y o.is)).0) (positive l.last y.cid.0 o.waits.last o.waits.numbered))
+              (subst (λ (a : Node). HeldFor (ended_at w.segs) w.coord.table a.0 m) c.target (subst (λ (q : Message). HeldFor (ended_at w.segs) w.coord.table c.letter.to.0 q) c.told (each-among (LetterHeld w) w.sent c.letter u.sent c.among).held))
 
   event-waits : (w : World) (e : Event) (fails : Bool) → Knows script w → Holds script w → Waits w → can script w e ≡ true → Waits (does script w e (node_of e) fails (at_node w e))
   event-waits w (event.Receive from to number) fails k v u ok = arrives w from to number fails (found from to number w.sent) refl k v u ok

@@ -4,6 +4,7 @@ use Rattle.std.proofs.lemmas.Bool.Decides.{nat_tests}
 use Rattle.std.specs.Prelude.{nat_le}
 use Rattle.gx_ids.specs.declared.ids.Node.{Node}
 use Rattle.gx_msg.specs.declared.message.Envelope.{Envelope}
+use Rattle.gx_msg.specs.declared.message.Message.TheVariants as message
 use Rattle.gx_script.specs.declared.Script.{Script}
 use Rattle.gx_store.specs.declared.event.Event.{Event}
 use Rattle.gx_store.specs.declared.event.Event.TheVariants as event
@@ -17,7 +18,6 @@ use Rattle.gx_store.specs.Refusals.{the_coordinator}
 use Rattle.gx_rules.specs.AtCoordinator.{coord_can, coord_rule}
 use Rattle.gx_rules.specs.AtSegment.{seg_rule}
 use Rattle.gx_rules.specs.Machine.{Letter, World, after, at_node, can, can_here, coord_did, delivered, does, found, happens, new_world, node_of, seg_can, seg_did, world_of}
-use Rattle.gx_law_order.proofs.CalmSegs.{nobody-goes-on}
 use Rattle.gx_law_order.proofs.Letters.{IsFound, IsLetter, found_is}
 use Rattle.gx_law_order.proofs.Lists.{Each}
 use Rattle.gx_law_order.proofs.World.{Knows, happens_knows, new_knows}
@@ -25,7 +25,7 @@ use Rattle.gx_law_commit.specs.Pairs.{Pair}
 use Rattle.gx_law_commit.specs.Said.{AreMeant, Said, SaidAt, SaidIn, gxid_in, is_answer}
 use Rattle.gx_law_commit.specs.Standings.{known_at}
 use Rattle.gx_law_commit.specs.Standings.Standing.{Unborn, Over}
-use Rattle.gx_law_commit.proofs.Everywhere.{Holds, coord-holds, parts_in, seg-holds}
+use Rattle.gx_law_commit.proofs.Everywhere.{Holds, coord-holds, holds-then, parts_in, resumed-does, seg-holds}
 use Rattle.gx_ids.specs.declared.ids.Gxid.{Gxid}
 
 abbrev pub IsPosted : Script → World → Letter → Type 0
@@ -88,7 +88,6 @@ module _ (script : Script) (some : 1 ≤ script.segments) where
   arrives w from to number fails None e k v ok = v
   arrives w from to number fails (Some envelope) e k v ok = received w from to number envelope fails k v (found_is (IsPosted script w) from to number w.sent envelope (each-zip (IsLetter script w.steps) (SaidIn w) w.sent k.well.letters v.said) e) ok
 
-  -- nobody goes on at a segment yet
   resumed : (w : World) (n : Node) (g : Gxid) (fails : Bool) → Knows script w → Holds script w → can_here script w n (Some (here.Resume g)) ≡ true → Holds script (does script w (event.Resume n g) n fails (Some (here.Resume g)))
   resumed w n g fails k v ok = by_test (is_same_node n the_coordinator) refl ok
     where
@@ -100,7 +99,7 @@ module _ (script : Script) (some : 1 ≤ script.segments) where
 
       by_test : (b : Bool) → is_same_node n the_coordinator ≡ b → (if b then coord_can script w.coord x else seg_can script (w.segs n.0) x) ≡ true → Holds script (if b then coord_did w e (coord_rule script w.coord x fails) else seg_did w n e (seg_rule script (w.segs n.0) x fails))
       by_test true is ok = coord-holds script w k v e x fails ok tt
-      by_test false is ok = absurd (nobody-goes-on script (w.segs n.0) g (k.well.calm n.0) ok)
+      by_test false is ok = let o = resumed-does script w k v e n.0 g fails ok in holds-then script w k v e x fails n.0 (message.Exec g o.slice.cid o.slice.level o.slice.snapshot o.waits.horizon o.slice.slice) o.reached o.does
 
   event-holds : (w : World) (e : Event) (fails : Bool) → Knows script w → Holds script w → can script w e ≡ true → Holds script (does script w e (node_of e) fails (at_node w e))
   event-holds w (event.Receive from to number) fails k v ok = arrives w from to number fails (found from to number w.sent) refl k v ok
@@ -134,6 +133,8 @@ module _ (script : Script) (some : 1 ≤ script.segments) where
             prepared = λ x. absurd (cc);
             kept = tt;
             vote = refl;
+            waits = λ x. absurd (cc);
+            awaited = λ x y. absurd (cc);
             aborts = λ x. absurd (cc);
             ends = λ x. absurd (cc);
             either = λ x. refl;
@@ -157,6 +158,8 @@ module _ (script : Script) (some : 1 ≤ script.segments) where
             prepared = λ x. absurd (cc);
             kept = tt;
             vote = refl;
+            waits = λ x. absurd (cc);
+            awaited = λ x y. absurd (cc);
             aborts = λ x. refl;
             ends = λ x. refl;
             either = λ x. refl;

@@ -36,8 +36,8 @@ use Rattle.gx_store.specs.declared.node.NodeEvent.TheVariants as event
 use Rattle.gx_store.specs.Lines.{BlockState, is_command}
 use Rattle.gx_store.specs.Marks.{started_after}
 use Rattle.gx_store.specs.Writes.{dist_of}
-use Rattle.gx_rules.specs.AtCoordinator.{Reading, kept_at, nodes_in, orders_of, answer_mark, answers_at_once, awaited, begins, behind, commits, coord_can, dispatches, ends_in, fault_mark, follows, goes, goes_out, next_cid, next_line, on_event, on_line, plain_answer_of, reads_by, reads_for, refusal_of, rolls_back, starts, starts_line, table_of, takes_snapshot, goes_on_locked, if_granted, lock_for, requests, waits_for}
-use Rattle.gx_rules.specs.Coordinators.{Coord, CoordTurn, Session, new_work, rests, session_of, with_state}
+use Rattle.gx_rules.specs.AtCoordinator.{Reading, kept_at, nodes_in, orders_of, answer_mark, answers_at_once, awaited, begins, behind, commits, coord_can, dispatches, ends_in, fault_mark, follows, goes, goes_out, next_cid, next_line, on_event, on_line, plain_answer_of, reads_by, reads_for, refusal_of, resumes, rolls_back, starts, starts_line, table_of, takes_snapshot, goes_on_locked, if_granted, lock_for, requests, waits_for}
+use Rattle.gx_rules.specs.Coordinators.{Coord, CoordTurn, Session, new_work, rests, session_of, with_state, with_work, work_of}
 use Rattle.gx_rules.specs.Snapshots.{snapshot_of}
 use Rattle.gx_law_order.proofs.Lines.{Asks, asks, undrawn}
 use Rattle.gx_law_order.proofs.Lists.{Each, each_append}
@@ -52,8 +52,9 @@ use Rattle.gx_law_commit.proofs.Answering.{IsPlain, MayAll, MayAnswer, NoAnswer,
 use Rattle.gx_law_commit.proofs.Completing.{GetsBy, again-tidy, calm-started, home-settles, live-alive, message-tidy, rest-tidy}
 use Rattle.gx_law_commit.proofs.Events.{idle-first, live-stage, own-idle}
 use Rattle.gx_law_commit.proofs.Ways.{Stands}
-use Rattle.gx_law_order.proofs.Calm.{AreCalm, nobody-ready}
-use Rattle.gx_locks.specs.Locks.{Locks, is_free, is_ready, wait_of}
+use Rattle.gx_law_order.proofs.Waiting.{GoesOut}
+use Rattle.gx_law_commit.proofs.Dispatching.{goes-out-is}
+use Rattle.gx_locks.specs.Locks.{Locks, is_free, resumed, wait_of}
 use Rattle.gx_rules.specs.Locks.{hold_mark, with_hold}
 use Rattle.gx_waits.specs.declared.claim.Claim.{Claim}
 use Rattle.gx_store.specs.Refusals.{the_coordinator}
@@ -418,14 +419,19 @@ module _ (script : Script) (P : ℕ → ℕ → Part) (c : Coord) (ms : List Mar
   right-of true b e = e
   right-of false b e = grind arith
 
-  pub event-told : AreCalm c.locks → (x : NodeEvent) (fails : Bool) → coord_can script c x ≡ true → IsGot x → Told (counted x) (on_event script c x fails)
-  event-told calm (event.Deliver from envelope) fails e d = quiet-told _ (message-tidy script P c ms st k Gets starting last_is from fails envelope.message d)
-  event-told calm (event.Start s) fails e d = start-any s (idle-first script P c ms st k p ins s _ e) d (next_line script c s) refl (right-of _ _ e)
-  event-told calm (event.End s) fails e d = end-told s (idle-first script P c ms st k p ins s _ e) (session_of c s).state.block
-  event-told calm (event.Resend i (Some g)) fails e d = quiet-told _ (again-tidy script P c ms st k Gets starting last_is i (awaited c g i))
-  event-told calm (event.Resend i None) fails e d = quiet-told (rests c) (rest-tidy script P c ms st k Gets starting last_is)
-  event-told calm (event.Resume g) fails e d = absurd (never (is_ready c.locks.holds (wait_of c.locks g)) e (nobody-ready c.locks g calm))
+  pub event-told : ((g : Gxid) → coord_can script c (event.Resume g) ≡ true → GoesOut c g) → (x : NodeEvent) (fails : Bool) → coord_can script c x ≡ true → IsGot x → Told (counted x) (on_event script c x fails)
+  event-told out (event.Deliver from envelope) fails e d = quiet-told _ (message-tidy script P c ms st k Gets starting last_is from fails envelope.message d)
+  event-told out (event.Start s) fails e d = start-any s (idle-first script P c ms st k p ins s _ e) d (next_line script c s) refl (right-of _ _ e)
+  event-told out (event.End s) fails e d = end-told s (idle-first script P c ms st k p ins s _ e) (session_of c s).state.block
+  event-told out (event.Resend i (Some g)) fails e d = quiet-told _ (again-tidy script P c ms st k Gets starting last_is i (awaited c g i))
+  event-told out (event.Resend i None) fails e d = quiet-told (rests c) (rest-tidy script P c ms st k Gets starting last_is)
+  event-told out (event.Resume g) fails e d = resumed-told (out g e)
     where
-      never : (q : Bool) → q ≡ true → q ≡ false → ⊥
-      never q e f = grind arith
-  event-told calm event.Round fails e d = quiet-told (rests c) (rest-tidy script P c ms st k Gets starting last_is)
+      free : Coord
+      free = with_work c g (record (work_of c g) { waiting = None })
+
+      resumed-told : GoesOut c g → Told (λ t. 0) (resumes script c g (wait_of c.locks g) (work_of c g).waiting)
+      resumed-told o =
+          subst (Told (λ t. 0)) (goes-out-is script c g o.wanted o.line o.claims o.is)
+          (quiet-told _ (held-tidy free g.0 (λ h q. ap (λ b. if b then record (work_of c g) { waiting = None } else c.works h) q) [] (λ i. ap (λ q. waits_in q i) o.idle) o.line (resumed c.locks g (Some o.wanted)) o.wanted))
+  event-told out event.Round fails e d = quiet-told (rests c) (rest-tidy script P c ms st k Gets starting last_is)

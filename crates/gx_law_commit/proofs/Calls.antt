@@ -254,8 +254,8 @@ module _ (script : Script) (P : ℕ → ℕ → Part) (c : Coord) (ms : List Mar
     tail-mute : Each Mute tail
     tail-mute = (tt, back-mute c.locks (gx g))
 
-    pub committed-led : (parts : List Node) → CanEnd → ((i : ℕ) → (P i g).vote ≡ None → (known i).at ≡ Preparing true → ⊥) → CommitsBy (writers_of script ms (gx g)) ms (gx g) → Led script P c ms (is_closed c (gx g) (turns c.table (gx g) (ends_committed (gx g) parts)))
-    committed-led parts can asked fol =
+    pub committed-led : (parts : List Node) → CanEnd → ((i : ℕ) → (P i g).vote ≡ None → (known i).at ≡ Preparing true → ⊥) → ((i : ℕ) → (known i).at ≡ Live → (known i).waits ≡ false) → CommitsBy (writers_of script ms (gx g)) ms (gx g) → Led script P c ms (is_closed c (gx g) (turns c.table (gx g) (ends_committed (gx g) parts)))
+    committed-led parts can asked idle fol =
         let turn : CoordTurn = is_closed c (gx g) (turns c.table (gx g) (ends_committed (gx g) parts)) in
         let o = one-change (ends_committed (gx g) parts) turn.coord turn.marks no_work refl (λ h. refl) (commit-elsewhere tail (record { others = λ h e. (mute-decided tail (gx h) tail-mute, mute-aborted tail (gx h) tail-mute, mute-committed tail (gx h) tail-mute) })) in
         record {
@@ -269,7 +269,7 @@ module _ (script : Script) (P : ℕ → ℕ → Part) (c : Coord) (ms : List Mar
         shift : (i : ℕ) → Shift (known i) (becomes script P c ms (is_closed c (gx g) (turns c.table (gx g) (ends_committed (gx g) parts))).marks g (left_of (ends_committed (gx g) parts).step (Some t)) no_work i) (P i g)
         shift i =
             over-shift (known i) _ (P i g) (s.pairs i g) (ended-over parts i) (can.born i) (λ x. or-left (is_aborted ms (gx g)) (is_aborted tail (gx g)) x) (λ x. or-left (is_committed ms (gx g)) _ x) (λ x. none-aborted i)
-            (λ v x. absurd (asked i v x)) (can.alone i) (can.both i)
+            (λ v x. absurd (asked i v x)) (can.alone i) (can.both i) (λ x f. idle i x)
 
         told : (d : Coord) (ns : List Mark) (x : Node) → SaidOut script P d (ms ++ mark.Commit (gx g) ∷ ns) (record { node = x; message = message.Forget (gx g) })
         told d ns x = (refl, committed-append ms (mark.Commit (gx g) ∷ ns) (gx g) ∙ or-right (is_committed ms (gx g)) (eqb g g || is_committed ns (gx g)) (or-left (eqb g g) (is_committed ns (gx g)) (self g)), tt)
@@ -302,6 +302,7 @@ module _ (script : Script) (P : ℕ → ℕ → Part) (c : Coord) (ms : List Mar
         shift i =
             over-shift (known i) _ (P i g) (s.pairs i g) (over i) (can.born i) (λ x. or-left (is_aborted ms (gx g)) (is_aborted turn.marks (gx g)) x) (λ x. or-left (is_committed ms (gx g)) (is_committed turn.marks (gx g)) x)
             (λ x. absurd (clash _ x (none-committed i))) (λ v x. or-right (is_aborted ms (gx g)) (is_aborted turn.marks (gx g)) ab) (can.alone i) (can.both i)
+            (λ x f. absurd (clash _ (or-right (is_aborted ms (gx g)) (is_aborted turn.marks (gx g)) ab) f))
 
     -- with marks around it that tell of nothing
     pub abort-led : (turn : CoordTurn) (ch : Change) (why rest : List Mark) → turn.marks ≡ why ++ mark.Abort (gx g) ∷ rest → Each Mute why → Each Mute rest → CanEnd → decided_count ms (gx g) ≡ 0 → ((i : ℕ) → local_count ms (at i) (gx g) ≡ 0) → turn.coord.table ≡ changed c.table (gx g) ch → ((h : ℕ) → turn.coord.works h ≡ (if eqb h g then no_work else c.works h)) → ((i : ℕ) → standing (nat_le c.table.next.0 g) (left_of ch.step (Some t)) i ≡ Over) → Agrees (ms ++ turn.marks) g (left_of ch.step (Some t)) [] → (parts : List Node) → turn.outs ≡ to_each (message.Abort (gx g)) parts → Led script P c ms turn
@@ -386,7 +387,7 @@ module _ (script : Script) (P : ℕ → ℕ → Part) (c : Coord) (ms : List Mar
 
     commit-writers : IsReady → (ws : List Node) → (c.works g).writers ≡ ws → Led script P c ms (follows c (gx g) (turns c.table (gx g) (commit_change (gx g) ws t)) (commit_change (gx g) ws t).out.outcome)
     commit-writers r [] e =
-        subst (Led script P c ms) (sym (ended-follows t.participants)) (committed-led t.participants (live-can r.live) (λ i v x. never (known i).at (live-there r.live i) x) (none-commits r e))
+        subst (Led script P c ms) (sym (ended-follows t.participants)) (committed-led t.participants (live-can r.live) (λ i v x. never (known i).at (live-there r.live i) x) (λ i x. r.done i) (none-commits r e))
       where
         never : (a : Standing) → a ≡ Live → a ≡ Preparing true → ⊥
         never a x y = grind arith

@@ -36,6 +36,7 @@ use Rattle.gx_rules.specs.Machine.{World, coord_did}
 use Rattle.gx_rules.specs.Sending.{clock_after, counted, numbered}
 use Rattle.gx_law_order.proofs.Lists.{Each, each_append, each_weaker, get_kept, get_last}
 use Rattle.gx_law_order.proofs.Past.{aborted-append}
+use Rattle.gx_law_order.proofs.Waiting.{going-out}
 use Rattle.gx_law_order.proofs.World.{Knows, marks-last}
 use Rattle.gx_law_order.proofs.Numbers.{NoStart}
 use Rattle.gx_law_commit.specs.Followed.{AnswersAt, DoMarksAnswer, DoStepsAnswer}
@@ -317,7 +318,7 @@ module _ (script : Script) (w : World) (n : Knows script w) (v : Holds script w)
   all = sym (marks-last w.steps step)
 
   pub coord-replied : coord_can script w.coord x ≡ true → IsSaidIn script (parts_in w) w.coord ms v.stands n.kept n.past (λ g. (n.well.coordinator.works g).writers) x → IsGot script (parts_in w) w.coord ms v.stands n.kept n.past (λ g. (n.well.coordinator.works g).writers) Gets starting r.last x → ((t : SessionId) → counted_by script (parts_in w) w.coord ms v.stands n.kept n.past (λ g. (n.well.coordinator.works g).writers) Gets starting r.last x t.0 ≡ starts_by t e) → Replied script next
-  coord-replied ok d got count = from (event-led script (parts_in w) w.coord ms v.stands n.kept n.past (λ g. (n.well.coordinator.works g).writers) n.well.coordinator.locks x fails ok d) (event-told script (parts_in w) w.coord ms v.stands n.kept n.past (λ g. (n.well.coordinator.works g).writers) Gets starting r.last n.well.coordinator.locks x fails ok got)
+  coord-replied ok d got count = from (event-led script (parts_in w) w.coord ms v.stands n.kept n.past (λ g. (n.well.coordinator.works g).writers) (going-out script w n) x fails ok d) (event-told script (parts_in w) w.coord ms v.stands n.kept n.past (λ g. (n.well.coordinator.works g).writers) Gets starting r.last (going-out script w n) x fails ok got)
     where
       no-start-sent : (f : ℕ → ℕ) (outs : List Out) → Each NoStart (numbered f outs)
       no-start-sent f [] = tt

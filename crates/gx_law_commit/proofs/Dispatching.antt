@@ -32,7 +32,7 @@ use Rattle.gx_store.specs.declared.mark.Mark.TheVariants as mark
 use Rattle.gx_store.specs.Marks.{is_aborted, is_committed}
 use Rattle.gx_store.specs.Protocol.{decided_count, local_count}
 use Rattle.gx_store.specs.Writes.{dist_of}
-use Rattle.gx_rules.specs.AtCoordinator.{Reading, answer_mark, answer_of_command, answers, completes, dispatches, enlisted_all, fault_mark, goes, goes_on, goes_out, is_refused, kept_at, next_cid, nodes_in, orders_of, reads_by, reads_for, refusal_of, rolls_back, table_of, takes_done, takes_snapshot, unless_kept, with_done, writers_with, behind, goes_on_locked, if_granted, lock_for, requests}
+use Rattle.gx_rules.specs.AtCoordinator.{Reading, answer_mark, answer_of_command, answers, completes, dispatches, enlisted_all, fault_mark, goes, goes_on, goes_out, is_refused, kept_at, next_cid, nodes_in, orders_of, reads_by, reads_for, refusal_of, rolls_back, table_of, takes_done, takes_snapshot, unless_kept, with_done, writers_with, behind, goes_on_locked, if_granted, lock_for, requests, resumes}
 use Rattle.gx_rules.specs.Coordinators.{Command, Coord, Work, session_of, with_work, work_of}
 use Rattle.gx_rules.specs.Snapshots.{snapshot_of}
 use Rattle.gx_law_order.proofs.Closings.{live-at, set_live}
@@ -45,11 +45,10 @@ use Rattle.gx_law_commit.proofs.Calls.{Mute, abort-led, becomes-calm, commits-re
 use Rattle.gx_law_commit.proofs.Nodes.{AreApart, apart-with, each-has, has-with, has-without}
 use Rattle.gx_law_commit.proofs.Shifts.{Shift, is-sent, learn-shift, send-shift, sending, shift-same}
 use Rattle.gx_law_commit.proofs.Ways.{Agrees, AgreesIn, CommandOf, IsOrderOf, Led, Same, SaidOut, Stands, Way, Working, at-one, rest-led, same-then, way-same, way-then}
-use Rattle.gx_locks.specs.Locks.{Locks}
-use Rattle.gx_rules.specs.Locks.{release_marks, hold_mark, with_hold}
+use Rattle.gx_locks.specs.Locks.{Locks, is_free, resumed, wait_of}
+use Rattle.gx_rules.specs.Locks.{release_marks, hold_mark, wait_mark, with_hold, with_wait}
 use Rattle.gx_waits.specs.declared.claim.Claim.{Claim}
 use Rattle.gx_store.specs.Refusals.{the_coordinator}
-use Rattle.gx_law_order.proofs.Calm.{AreCalm, calm-free, lock-calm}
 
 -- its commands run
 pub record IsLive (c : Coord) (g : ℕ) : Type 0 where
@@ -297,30 +296,40 @@ module _ (script : Script) (P : ℕ → ℕ → Part) (c : Coord) (ms : List Mar
   locked-led line =
       goes-led (next_cid (c.works g)) line _ (plan_of script.segments (dist_of script.tables (table_of line)) (gx g) (next_cid (c.works g)) line) refl (for-reading script P c ms s whole g live (next_cid (c.works g)) line)
 
--- WITH ITS TABLE'S LOCK
-module _ (script : Script) (P : ℕ → ℕ → Part) (c : Coord) (ms : List Mark) (s : Stands script P c ms) (whole : IsWhole c.table) (g : ℕ) (live : IsLive c g) (idle : IsIdle c g) (calm : AreCalm c.locks) where
-  -- the coordinator with other locks, behind marks that say nothing
-  locks-led : (locks : Locks) (wanted : Claim) → Way script P c ms (record c { locks = locks }) (hold_mark the_coordinator wanted ∷ [])
-  locks-led locks wanted =
-      keeps-way script P c ms s whole g live (record c { locks = locks }) (hold_mark the_coordinator wanted ∷ []) live.txn (c.works g) refl refl (λ h. same-found h (eqb h g) refl) (λ h. same-work h (eqb h g) refl) (tt, tt) (s.works g) shifts
+-- what goes out behind a wait is what waits, with its lock
+pub goes-out-is : (script : Script) (c : Coord) (g : Gxid) (wanted : Claim) (line : Stmt) → wait_of c.locks g ≡ Some wanted → (work_of c g).waiting ≡ Some line → resumes script c g (Some wanted) (Some line) ≡ resumes script c g (wait_of c.locks g) (work_of c g).waiting
+goes-out-is script c g wanted line e f = ap (λ o. resumes script c g o (Some line)) (sym e) ∙ ap (λ o. resumes script c g (wait_of c.locks g) o) (sym f)
+
+-- WITH ITS TABLE'S LOCK, OR WAITING FOR IT
+module _ (script : Script) (P : ℕ → ℕ → Part) (c : Coord) (ms : List Mark) (s : Stands script P c ms) (whole : IsWhole c.table) (g : ℕ) (live : IsLive c g) (idle : IsIdle c g) where
+  -- the coordinator with other locks, and with another work that differs in what waits, behind a mark that says nothing
+  other-led : (d : Coord) (w : Work) (m : Mark) → Mute m → d.table ≡ c.table → ((h : ℕ) → d.works h ≡ (if eqb h g then w else c.works h)) → Working g w → ((i : ℕ) → known_of (known_at c ms i g).at w i (decided_count ms (gx g)) (is_aborted ms (gx g)) (is_committed ms (gx g)) ≡ known_at c ms i g) → Way script P c ms d (m ∷ [])
+  other-led d w m mute table works working same =
+      keeps-way script P c ms s whole g live d (m ∷ []) live.txn w refl (ap (λ (t : Table). t.next) table) (λ h. ap (λ t. find_txn t (gx h)) table ∙ same-found h (eqb h g) refl) works (mute, tt) working shifts
     where
       same-found : (h : ℕ) (b : Bool) → eqb h g ≡ b → find_txn c.table (gx h) ≡ (if b then Some live.txn else find_txn c.table (gx h))
       same-found h true e = ap (λ i. find_txn c.table (gx i)) (eqb-true h g e) ∙ live.found
       same-found h false e = refl
 
+      shifts : (i : ℕ) → Shift (known_at c ms i g) (known_of (known_at c ms i g).at w i (decided_count ms (gx g)) (is_aborted ms (gx g)) (is_committed ms (gx g))) (P i g)
+      shifts i = subst (λ k. Shift (known_at c ms i g) k (P i g)) (sym (same i)) (shift-same (known_at c ms i g) (P i g) (s.pairs i g))
+
+  locks-led : (locks : Locks) (wanted : Claim) → Way script P c ms (record c { locks = locks }) (hold_mark the_coordinator wanted ∷ [])
+  locks-led locks wanted = other-led (record c { locks = locks }) (c.works g) (hold_mark the_coordinator wanted) tt refl (λ h. same-work h (eqb h g) refl) (s.works g) (λ i. refl)
+    where
       same-work : (h : ℕ) (b : Bool) → eqb h g ≡ b → c.works h ≡ (if b then c.works g else c.works h)
       same-work h true e = ap c.works (eqb-true h g e)
       same-work h false e = refl
 
-      shifts : (i : ℕ) → Shift (known_at c ms i g) (known_of (known_at c ms i g).at (c.works g) i (decided_count ms (gx g)) (is_aborted ms (gx g)) (is_committed ms (gx g))) (P i g)
-      shifts i = shift-same (known_at c ms i g) (P i g) (s.pairs i g)
+  abbrev waiting_now : Locks → Option Stmt → Coord
+  waiting_now locks waiting = with_work (record c { locks = locks }) (gx g) (record (c.works g) { waiting = waiting })
 
-  request-led : (line : Stmt) (o : Option Claim) → lock_for (gx g) line ≡ o → Led script P c ms (requests script c (gx g) line o)
-  request-led line None e = locked-led script P c ms s whole g live idle line
-  request-led line (Some wanted) e =
-      subst (λ q. Led script P c ms (if_granted script c (gx g) line wanted q)) (sym (calm-free c.locks wanted calm (lock-calm (gx g) line wanted e)))
-      (way-then script P c ms held (hold_mark the_coordinator wanted ∷ []) (goes_on_locked script held (gx g) line) (behind (hold_mark the_coordinator wanted ∷ []) (goes_on_locked script held (gx g) line)) way
-      (locked-led script P held (ms ++ hold_mark the_coordinator wanted ∷ []) way.stands whole g (record { txn = live.txn; found = live.found; active = live.active }) idle line) refl refl refl)
+  waiting-led : (locks : Locks) (waiting : Option Stmt) (m : Mark) → Mute m → Way script P c ms (waiting_now locks waiting) (m ∷ [])
+  waiting-led locks waiting m mute = other-led (waiting_now locks waiting) (record (c.works g) { waiting = waiting }) m mute refl (λ h. refl) (record { apart = (s.works g).apart; command = (s.works g).command }) (λ i. refl)
+
+  request-led : (line : Stmt) (o : Option Claim) → Led script P c ms (requests script c (gx g) line o)
+  request-led line None = locked-led script P c ms s whole g live idle line
+  request-led line (Some wanted) = by_test (is_free c.locks.holds wanted)
     where
       held : Coord
       held = record c { locks = with_hold c.locks wanted }
@@ -328,8 +337,22 @@ module _ (script : Script) (P : ℕ → ℕ → Part) (c : Coord) (ms : List Mar
       way : Way script P c ms held (hold_mark the_coordinator wanted ∷ [])
       way = locks-led (with_hold c.locks wanted) wanted
 
+      by_test : (b : Bool) → Led script P c ms (if_granted script c (gx g) line wanted b)
+      by_test true =
+          way-then script P c ms held (hold_mark the_coordinator wanted ∷ []) (goes_on_locked script held (gx g) line) (behind (hold_mark the_coordinator wanted ∷ []) (goes_on_locked script held (gx g) line)) way
+          (locked-led script P held (ms ++ hold_mark the_coordinator wanted ∷ []) way.stands whole g (record { txn = live.txn; found = live.found; active = live.active }) idle line) refl refl refl
+      by_test false = record { way = waiting-led (with_wait c.locks wanted) (Some line) (wait_mark the_coordinator wanted) tt; outs = tt }
+
   pub dispatch-led : (line : Stmt) → Led script P c ms (dispatches script c (gx g) line)
-  dispatch-led line = request-led line (lock_for (gx g) line) refl
+  dispatch-led line = request-led line (lock_for (gx g) line)
+
+  -- a statement that has waited goes out
+  pub resume-led : (line : Stmt) (wanted : Claim) → Led script P c ms (resumes script c (gx g) (Some wanted) (Some line))
+  resume-led line wanted =
+      let free : Coord = waiting_now (resumed c.locks (gx g) (Some wanted)) None in
+      let way : Way script P c ms free (hold_mark the_coordinator wanted ∷ []) = waiting-led (resumed c.locks (gx g) (Some wanted)) None (hold_mark the_coordinator wanted) tt in
+      way-then script P c ms free (hold_mark the_coordinator wanted ∷ []) (goes_on_locked script free (gx g) line) (behind (hold_mark the_coordinator wanted ∷ []) (goes_on_locked script free (gx g) line)) way
+      (locked-led script P free (ms ++ hold_mark the_coordinator wanted ∷ []) way.stands whole g (record { txn = live.txn; found = live.found; active = live.active }) (λ i. ap (λ b. waits_in (if b then record (c.works g) { waiting = None } else c.works g).command i) (self g) ∙ idle i) line) refl refl refl
 
 -- A SEGMENT IS DONE
 module _ (script : Script) (P : ℕ → ℕ → Part) (c : Coord) (ms : List Mark) (s : Stands script P c ms) (whole : IsWhole c.table) (g : ℕ) (live : IsLive c g) where
@@ -377,7 +400,7 @@ module _ (script : Script) (P : ℕ → ℕ → Part) (c : Coord) (ms : List Mar
             (subst (λ x. Shift (known_at c ms i g) (record (known_at c ms i g) { waits = false; writes = x }) (P i g)) (sym (learns-it wrote true i q ∙ ap (λ x. x || has (at i) (c.works g).writers) (both-true wrote)))
             (let y = said.same (live-at-all script P c ms s whole g live j.0) number-is in
             let n : j.0 ≡ i = eqb-true j.0 i q in
-            learn-shift wrote (known_at c ms i g) (P i g) (s.pairs i g) (live-at-all script P c ms s whole g live i) (subst (λ x. (P x g).last ≡ (c.works g).last) n (y.0 ∙ number-is)) (subst (λ x. wrote ≡ (P x g).wrote) n y.1)))
+            learn-shift wrote (known_at c ms i g) (P i g) (s.pairs i g) (live-at-all script P c ms s whole g live i) (subst (λ x. (P x g).last ≡ (c.works g).last) n (y.0 ∙ number-is)) (subst (λ x. wrote ≡ (P x g).wrote) n y.1) (subst (λ x. (P x g).waits ≡ false) n y.2)))
         by_same false q =
             subst (λ x. Shift (known_at c ms i g) (record (known_at c ms i g) { waits = x; writes = has (at i) w1.writers }) (P i g)) (sym (waits-now false i q))
             (subst (λ x. Shift (known_at c ms i g) (record (known_at c ms i g) { waits = has (at i) m.awaited; writes = x }) (P i g)) (sym (learns-it wrote false i q ∙ ap (λ x. x || has (at i) (c.works g).writers) (both-false wrote)))

@@ -1,5 +1,5 @@
 -- Where a transaction has ended at a segment, it stays so; where it gets a command, it had not ended.
-use Rattle.std.proofs.Common.{◌≡◌, ◌⊎◌, inl, inr, ℕ, List, Option, Some, None, Bool, true, false, not, refl, sym, subst, ap, ◌∙◌, nat_lt, ◌==◌, if◌then◌else◌, arith, eqb}
+use Rattle.std.proofs.Common.{◌≡◌, ◌⊎◌, inl, inr, ℕ, List, [], ◌∷◌, Option, Some, None, Bool, true, false, not, refl, sym, subst, ap, ◌∙◌, nat_lt, ◌==◌, if◌then◌else◌, arith, eqb}
 use Rattle.std.proofs.lemmas.Bool.Decides.{nat_tests}
 use Rattle.std.specs.Prelude.{length}
 use Rattle.gx_ids.specs.declared.ids.Cid.{Cid}
@@ -12,7 +12,7 @@ use Rattle.gx_tree.specs.declared.stmt.Level.{Level}
 use Rattle.gx_dsnap.specs.Gxids.{is_below}
 use Rattle.gx_dsnap.specs.declared.snapshot.Snapshot.{Snapshot}
 use Rattle.gx_waits.specs.declared.claim.Claim.{Claim}
-use Rattle.gx_locks.specs.Locks.{Locks, is_free}
+use Rattle.gx_locks.specs.Locks.{Locks, is_free, resumed}
 use Rattle.gx_meaning.specs.declared.fault.ArithFault.{ArithFault}
 use Rattle.gx_msg.specs.declared.item.JournalItem.{JournalItem}
 use Rattle.gx_msg.specs.declared.message.Message.{Message}
@@ -22,11 +22,11 @@ use Rattle.gx_msg.specs.declared.reply.Reply.{Reply}
 use Rattle.gx_msg.specs.declared.reply.Reply.TheVariants as reply
 use Rattle.gx_script.specs.declared.Script.{Script}
 use Rattle.gx_store.specs.declared.mark.Mark.{Mark}
-use Rattle.gx_rules.specs.AtSegment.{changes, commits, ends, finishes, if_fits, on_abort, on_commit, on_commit_prepared, on_exec, on_forget, on_message, on_prepare, once, promises, raised, repeats, takes, unless_below, was_prepared}
+use Rattle.gx_rules.specs.AtSegment.{changes, commits, ends, finishes, if_fits, on_abort, on_commit, on_commit_prepared, on_exec, on_forget, on_message, on_prepare, once, promises, raised, repeats, resumes, takes, unless_below, was_prepared}
 use Rattle.gx_rules.specs.Fits.{fits_exec, is_waiting}
-use Rattle.gx_rules.specs.Locks.{with_hold}
+use Rattle.gx_rules.specs.Locks.{hold_mark, with_hold}
 use Rattle.gx_rules.specs.Maps.{with_at}
-use Rattle.gx_rules.specs.Segments.{Local, Phase, Seg, SegTurn, has_committed, has_ended, stays, tells, tells_kept}
+use Rattle.gx_rules.specs.Segments.{Local, Phase, Seg, SegTurn, Suspended, after_marks as behind, has_committed, has_ended, stays, tells, tells_kept, with_local}
 use Rattle.gx_rules.specs.Segments.Phase.{Aborted, Committed, Forgotten, Prepared, Reading, Writing}
 use Rattle.gx_rules.specs.Shown.{shown}
 use Rattle.gx_rules.specs.Slices.{Moved, first_fault, inserted, inserts, requests, runs_slice, selects, slice_lock}
@@ -147,6 +147,27 @@ module _ (script : Script) (told : Message) (s : Seg) (g : ℕ) (wrote : Bool) (
     take : (c : Cid) (level : Level) (x : Option Snapshot) (h : Gxid) (y : Slice) → EndsSo (takes s (gx g) c level x h y l)
     take c level x h y = both (nat_lt l.last c.0) _ _ (starts h c level x y (slice_lock (gx g) y)) (both (c.0 == l.last) _ _ (kept-answer l.answer refl) stay)
 
+  -- a slice that goes on, of a transaction that has not ended
+  resume : (o : Option Claim) (x : Option Suspended) → has_ended l.phase ≡ false → nat_lt 0 l.last ≡ true → EndsSo (resumes s (gx g) o x)
+  resume (Some wanted) (Some x) n a = by_slice x.snapshot x.slice
+    where
+      free : Seg
+      free = record (with_local s (gx g) (record l { suspended = None })) { locks = resumed s.locks (gx g) (Some wanted) }
+
+      ran-so : (turn : SegTurn) → Each (λ (o : Out). TellsEnd (turn.seg.locals g).phase o.message) turn.outs → EndsSo turn
+      ran-so turn o = record { ended = λ e. absurd (open-not l.phase refl n e); last = λ e. inl a; outs = o }
+
+      select : (q : Query) (rows : List KeyedRow) (o : Option (KeyedRow × ArithFault)) → EndsSo (behind (hold_mark s.node wanted ∷ []) (selects free (gx g) x.cid q rows o))
+      select q rows None = ran-so _ (tt, tt)
+      select q rows (Some o) = ran-so _ (tt, tt)
+
+      by_slice : (v : Option Snapshot) (y : Slice) → EndsSo (behind (hold_mark s.node wanted ∷ []) (runs_slice free (gx g) x.cid v y))
+      by_slice (Some v) (slice.Select q) = select q (shown free v (gx g) x.cid q.table) (first_fault q.cond (shown free v (gx g) x.cid q.table))
+      by_slice (Some v) (slice.Insert table rows) = ran-so _ (tt, tt)
+      by_slice v y = ran-so _ tt
+  resume (Some wanted) None n a = stay
+  resume None x n a = stay
+
   repeat : (c : Cid) → EndsSo (repeats s (gx g) c l)
   repeat c = both (c.0 == l.last) _ _ (kept-answer l.answer refl) stay
 
@@ -237,3 +258,6 @@ ends-so script fails s (message.Forget g) wrote v a = below script (message.Forg
 ends-so script fails s (message.Answer g r) wrote v a = stay script (message.Answer g r) s g.0 wrote v a
 ends-so script fails s (message.Collect round) wrote v a = stay script (message.Collect round) s 0 wrote v a
 ends-so script fails s (message.Graph round graph) wrote v a = stay script (message.Graph round graph) s 0 wrote v a
+
+pub resumed-so : (script : Script) (s : Seg) (g : Gxid) (told : Message) (o : Option Claim) (x : Option Suspended) (wrote : Bool) (vote : IsVote (s.locals g.0).phase (s.locals g.0).vote) (answer : IsKept (s.locals g.0).last wrote (s.locals g.0).answer) → has_ended (s.locals g.0).phase ≡ false → nat_lt 0 (s.locals g.0).last ≡ true → EndsSo script told s g.0 wrote vote answer (resumes s g o x)
+resumed-so script s g told o x wrote v a n b = resume script told s g.0 wrote v a o x n b

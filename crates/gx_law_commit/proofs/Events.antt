@@ -7,6 +7,7 @@ use Rattle.gx_ids.specs.declared.ids.SessionId.{SessionId}
 use Rattle.gx_tree.specs.declared.part.Part.{Part as QueryPart}
 use Rattle.gx_tree.specs.declared.stmt.Level.{Level}
 use Rattle.gx_tree.specs.declared.stmt.Level.TheVariants.{ReadCommitted}
+use Rattle.gx_ids.specs.declared.ids.Gxid.{Gxid}
 use Rattle.gx_tree.specs.declared.stmt.Stmt.{Stmt}
 use Rattle.gx_dtx.specs.Nodes.{has}
 use Rattle.gx_dtx.specs.Rules.{on_abort, order_found, order_in}
@@ -35,8 +36,8 @@ use Rattle.gx_store.specs.declared.mark.Mark.TheVariants as mark
 use Rattle.gx_store.specs.declared.node.NodeEvent.{NodeEvent}
 use Rattle.gx_store.specs.declared.node.NodeEvent.TheVariants as event
 use Rattle.gx_store.specs.Marks.{is_committed}
-use Rattle.gx_rules.specs.AtCoordinator.{answer_mark, answers_at_once, awaited, begins, behind, command_order, commits, coord_can, dispatches, ends_in, is_awaited, is_idle, is_nothing, is_refused, next_line, on_answer, on_done, on_event, on_failed, on_line, on_message, order_to, reason_of, resends, rolls_back, starts, starts_line, status_order, takes_done}
-use Rattle.gx_rules.specs.Coordinators.{Command, Coord, CoordTurn, Session, new_work, rests, session_of, with_session, with_state}
+use Rattle.gx_rules.specs.AtCoordinator.{answer_mark, answers_at_once, awaited, begins, behind, command_order, commits, coord_can, dispatches, ends_in, is_awaited, is_idle, is_nothing, is_refused, next_line, on_answer, on_done, on_event, on_failed, on_line, on_message, order_to, reason_of, resends, resumes, rolls_back, starts, starts_line, status_order, takes_done}
+use Rattle.gx_rules.specs.Coordinators.{Command, Coord, CoordTurn, Session, new_work, rests, session_of, with_session, with_state, work_of}
 use Rattle.gx_rules.specs.Fits.{fits_part}
 use Rattle.gx_law_order.proofs.Ends.{begun-finds}
 use Rattle.gx_law_order.proofs.Lines.{Asks, asks, begun-whole}
@@ -52,12 +53,12 @@ use Rattle.gx_law_commit.specs.Said.{Answers, IsDone, Said, gxid_in, is_answer}
 use Rattle.gx_law_commit.specs.Standings.{Part, at, gx, is_closing, known_at, standing_in, waits_in}
 use Rattle.gx_law_commit.specs.Standings.Standing.{Live, One, Preparing, Two}
 use Rattle.gx_law_commit.proofs.Calls.{Mute, becomes-calm, commits-ready, mute-aborted, mute-committed, mute-decided, mute-fol, self, stands-as}
-use Rattle.gx_law_commit.proofs.Dispatching.{IsIdle, IsLive, dispatch-led, done-led, live-at-all, refusing-led, rolling-led}
+use Rattle.gx_law_commit.proofs.Dispatching.{IsIdle, IsLive, dispatch-led, done-led, goes-out-is, live-at-all, refusing-led, resume-led, rolling-led}
 use Rattle.gx_law_commit.proofs.Replying.{status-led}
 use Rattle.gx_law_commit.proofs.Shifts.{Shift, is-sent, shift-same}
 use Rattle.gx_law_commit.proofs.Ways.{Agrees, AgreesIn, AsksFor, CommandOf, IsOrderOf, Led, Stands, Way, agrees-append, at-new, at-one, rest-led, way-then}
-use Rattle.gx_law_order.proofs.Calm.{AreCalm, nobody-ready}
-use Rattle.gx_locks.specs.Locks.{is_ready, wait_of}
+use Rattle.gx_law_order.proofs.Waiting.{GoesOut}
+use Rattle.gx_locks.specs.Locks.{wait_of}
 
 -- the same table and work, another session
 pub moved-stands : (script : Script) (P : ℕ → ℕ → Part) (c : Coord) (ms : List Mark) (s : SessionId) (x : Session) → Stands script P c ms → Stands script P (with_session c s x) ms
@@ -297,10 +298,10 @@ module _ (script : Script) (P : ℕ → ℕ → Part) (c : Coord) (ms : List Mar
         subst (λ g. Leads (rolls_back (starts_line c s step.RollbackBlock) g (answer_mark (starts_line c s step.RollbackBlock) s told.Rollback ∷ []) (on_abort c.table g))) (sym (transaction-now step.RollbackBlock))
         (moved-led script P c ms s (moved step.RollbackBlock) _ (rolling-led script P (starts_line c s step.RollbackBlock) ms (here-stands step.RollbackBlock) k.whole (session_of c s).transaction.0 (live-here step.RollbackBlock opened) (answer_mark (starts_line c s step.RollbackBlock) s told.Rollback ∷ []) (tt, tt)))
 
-    inside-led : AreCalm c.locks → (line : Stmt) → is_open_in block ≡ true → Leads (dispatches script (starts_line c s (step.Command false)) (session_of (starts_line c s (step.Command false)) s).transaction line)
-    inside-led calm line opened =
+    inside-led : (line : Stmt) → is_open_in block ≡ true → Leads (dispatches script (starts_line c s (step.Command false)) (session_of (starts_line c s (step.Command false)) s).transaction line)
+    inside-led line opened =
         subst (λ g. Leads (dispatches script (starts_line c s (step.Command false)) g line)) (sym (transaction-now (step.Command false)))
-        (moved-led script P c ms s (moved (step.Command false)) _ (dispatch-led script P (starts_line c s (step.Command false)) ms (here-stands (step.Command false)) k.whole (session_of c s).transaction.0 (live-here (step.Command false) opened) (own-idle opened) calm line))
+        (moved-led script P c ms s (moved (step.Command false)) _ (dispatch-led script P (starts_line c s (step.Command false)) ms (here-stands (step.Command false)) k.whole (session_of c s).transaction.0 (live-here (step.Command false) opened) (own-idle opened) line))
 
     -- a new transaction
     begins-way : (asked : LineStep) (level : Level) → Way script P c ms (begins (starts_line c s asked) s level) (mark.Start c.table.next s ∷ [])
@@ -325,28 +326,28 @@ module _ (script : Script) (P : ℕ → ℕ → Part) (c : Coord) (ms : List Mar
         later : Way script P c ms (begins (starts_line c s (step.BeginBlock level)) s level) (mark.Start c.table.next s ∷ []) → Led script P (begins (starts_line c s (step.BeginBlock level)) s level) (ms ++ mark.Start c.table.next s ∷ []) (answers_at_once (begins (starts_line c s (step.BeginBlock level)) s level) s told.Begin)
         later w = still script P (begins (starts_line c s (step.BeginBlock level)) s level) (ms ++ mark.Start c.table.next s ∷ []) w.stands (begun-whole c.table k.whole) (answer_mark (begins (starts_line c s (step.BeginBlock level)) s level) s told.Begin ∷ []) (tt, tt)
 
-    alone-led : AreCalm c.locks → (line : Stmt) → Leads (behind (mark.Start c.table.next s ∷ []) (dispatches script (begins (starts_line c s (step.Command true)) s ReadCommitted) c.table.next line))
-    alone-led calm line =
+    alone-led : (line : Stmt) → Leads (behind (mark.Start c.table.next s ∷ []) (dispatches script (begins (starts_line c s (step.Command true)) s ReadCommitted) c.table.next line))
+    alone-led line =
         let w = begins-way (step.Command true) ReadCommitted in
         way-then script P c ms (begins (starts_line c s (step.Command true)) s ReadCommitted) (mark.Start c.table.next s ∷ []) (dispatches script (begins (starts_line c s (step.Command true)) s ReadCommitted) c.table.next line) _ w
-        (dispatch-led script P (begins (starts_line c s (step.Command true)) s ReadCommitted) (ms ++ mark.Start c.table.next s ∷ []) w.stands (begun-whole c.table k.whole) c.table.next.0 (begins-live (step.Command true) ReadCommitted) (begins-idle (step.Command true) ReadCommitted) calm line) refl refl refl
+        (dispatch-led script P (begins (starts_line c s (step.Command true)) s ReadCommitted) (ms ++ mark.Start c.table.next s ∷ []) w.stands (begun-whole c.table k.whole) c.table.next.0 (begins-live (step.Command true) ReadCommitted) (begins-idle (step.Command true) ReadCommitted) line) refl refl refl
 
     at-once : (asked : LineStep) (a : StmtAnswer) → Leads (answers_at_once (starts_line c s asked) s a)
     at-once asked a = quiet-led (answers_at_once (starts_line c s asked) s a) s (moved asked) refl (tt, tt)
 
-    line-led : AreCalm c.locks → (line : Stmt) (asked : LineStep) → Asks block asked → Leads (on_line script (starts_line c s asked) s line asked)
-    line-led calm line (step.Answer plain) a = at-once (step.Answer plain) _
-    line-led calm line step.Refuse5 a = at-once step.Refuse5 _
-    line-led calm line step.Refuse7 a = at-once step.Refuse7 _
-    line-led calm line (step.BeginBlock level) a = begin-led level
-    line-led calm line step.CommitBlock a = commit-led a
-    line-led calm line step.RollbackBlock a = rollback-led a
-    line-led calm line (step.Command true) a = alone-led calm line
-    line-led calm line (step.Command false) a = inside-led calm line a
+    line-led : (line : Stmt) (asked : LineStep) → Asks block asked → Leads (on_line script (starts_line c s asked) s line asked)
+    line-led line (step.Answer plain) a = at-once (step.Answer plain) _
+    line-led line step.Refuse5 a = at-once step.Refuse5 _
+    line-led line step.Refuse7 a = at-once step.Refuse7 _
+    line-led line (step.BeginBlock level) a = begin-led level
+    line-led line step.CommitBlock a = commit-led a
+    line-led line step.RollbackBlock a = rollback-led a
+    line-led line (step.Command true) a = alone-led line
+    line-led line (step.Command false) a = inside-led line a
 
-    start-led : AreCalm c.locks → (line : Option Stmt) → Leads (starts script c s line)
-    start-led calm None = rest
-    start-led calm (Some line) = line-led calm line (line_step block line) (asks block line)
+    start-led : (line : Option Stmt) → Leads (starts script c s line)
+    start-led None = rest
+    start-led (Some line) = line-led line (line_step block line) (asks block line)
 
     end-led : Leads (ends_in c s block)
     end-led = by_block block refl
@@ -369,14 +370,16 @@ module _ (script : Script) (P : ℕ → ℕ → Part) (c : Coord) (ms : List Mar
   IsSaidIn (event.Deliver from envelope) = is_answer envelope.message ≡ true → Said (known_at c ms from.0 (gxid_in envelope.message)) (P from.0 (gxid_in envelope.message)) envelope.message
   IsSaidIn _ = Unit {0}
 
-  pub event-led : AreCalm c.locks → (x : NodeEvent) (fails : Bool) → coord_can script c x ≡ true → IsSaidIn x → Leads (on_event script c x fails)
-  event-led calm (event.Deliver from envelope) fails e d = message-led from fails envelope.message d
-  event-led calm (event.Start s) fails e d = start-led s (idle-first s _ e) calm (next_line script c s)
-  event-led calm (event.End s) fails e d = end-led s (idle-first s _ e)
-  event-led calm (event.Resend i (Some g)) fails e d = again-led g.0 i (awaited c g i) (command-said g.0 i (c.works g.0).command refl _ (found-said g.0 i (find_txn c.table g) refl))
-  event-led calm (event.Resend i None) fails e d = rest
-  event-led calm (event.Resume g) fails e d = absurd (clash (is_ready c.locks.holds (wait_of c.locks g)) e (nobody-ready c.locks g calm))
+  pub event-led : ((g : Gxid) → coord_can script c (event.Resume g) ≡ true → GoesOut c g) → (x : NodeEvent) (fails : Bool) → coord_can script c x ≡ true → IsSaidIn x → Leads (on_event script c x fails)
+  event-led out (event.Deliver from envelope) fails e d = message-led from fails envelope.message d
+  event-led out (event.Start s) fails e d = start-led s (idle-first s _ e) (next_line script c s)
+  event-led out (event.End s) fails e d = end-led s (idle-first s _ e)
+  event-led out (event.Resend i (Some g)) fails e d = again-led g.0 i (awaited c g i) (command-said g.0 i (c.works g.0).command refl _ (found-said g.0 i (find_txn c.table g) refl))
+  event-led out (event.Resend i None) fails e d = rest
+  event-led out (event.Resume g) fails e d = resumed-led (out g e)
     where
-      clash : (q : Bool) → q ≡ true → q ≡ false → ⊥
-      clash q e f = grind arith
-  event-led calm event.Round fails e d = rest
+      resumed-led : GoesOut c g → Leads (resumes script c g (wait_of c.locks g) (work_of c g).waiting)
+      resumed-led o =
+          subst Leads (goes-out-is script c g o.wanted o.line o.claims o.is)
+          (resume-led script P c ms st k.whole g.0 (live-stage c g.0 o.live) (λ i. ap (λ q. waits_in q i) o.idle) o.line o.wanted)
+  event-led out event.Round fails e d = rest

@@ -3,7 +3,8 @@ use Rattle.std.proofs.Common.{◌≡◌, ◌⊎◌, inl, inr, ℕ, ◌+◌, List
 use Rattle.std.proofs.lemmas.Bool.{eqb-true}
 use Rattle.std.proofs.lemmas.Bool.Decides.{nat_tests}
 use Rattle.std.proofs.lemmas.List.{append_assoc}
-use Rattle.std.specs.Prelude.{nat_le}
+use Rattle.std.specs.Prelude.{is_some, nat_le}
+use Rattle.gx_ids.specs.declared.ids.Gxid.{Gxid}
 use Rattle.gx_ids.specs.declared.ids.Node.{Node}
 use Rattle.gx_dtx.specs.Table.{find_txn}
 use Rattle.gx_dtx.specs.declared.phase.Phase.{Phase as Status}
@@ -31,11 +32,12 @@ use Rattle.gx_rules.specs.AtCoordinator.{coord_can, coord_rule, on_event}
 use Rattle.gx_rules.specs.AtSegment as segment
 use Rattle.gx_rules.specs.AtSegment.{seg_rule}
 use Rattle.gx_rules.specs.Coordinators.{Coord, CoordTurn}
-use Rattle.gx_rules.specs.Machine.{Letter, World, coord_did, posted, seg_did}
-use Rattle.gx_rules.specs.Segments.{Local, Seg, SegTurn}
+use Rattle.gx_rules.specs.Machine.{Letter, World, coord_did, posted, seg_can, seg_did}
+use Rattle.gx_rules.specs.Segments.{Local, Seg, SegTurn, Suspended, local_of}
 use Rattle.gx_rules.specs.Sending.{clock_after, counted, numbered}
 use Rattle.gx_law_order.proofs.Lists.{Each, each_weaker}
 use Rattle.gx_law_order.proofs.Past.{aborted-append, committed-append}
+use Rattle.gx_law_order.proofs.Waiting.{GoesOn, Waits, goes-on-is, going-on, going-out}
 use Rattle.gx_law_order.proofs.World.{Knows, marks-last}
 use Rattle.gx_law_commit.specs.Followed.{DoStepsEnd}
 use Rattle.gx_law_commit.specs.Pairs.{Pair}
@@ -46,8 +48,8 @@ use Rattle.gx_law_commit.specs.Told.{DoStepsTell, IsTold}
 use Rattle.gx_law_commit.proofs.Telling.{coord-told, seg-told, step-told, tell-push}
 use Rattle.gx_law_commit.proofs.Counts.{NoEnd, NoPart, NoSent, decided-append, local-append, no-aborted, no-committed, no-decided, no-local, no-prepared, no-writer, prepared-append, sent-no-end, sent-no-part, writer-append}
 use Rattle.gx_law_commit.proofs.Events.{IsSaidIn, event-led}
-use Rattle.gx_law_commit.proofs.Following.{coord-end, end-push, has-left, has-right, seg-end}
-use Rattle.gx_law_commit.proofs.Handled.{Does, Follows, HasMark, Tells, after_marks, handled}
+use Rattle.gx_law_commit.proofs.Following.{HasReached, coord-end, end-push, has-left, has-right, seg-end}
+use Rattle.gx_law_commit.proofs.Handled.{Does, Follows, HasMark, Tells, after_marks, handled, went-on}
 use Rattle.gx_law_commit.proofs.Parts.{said-grows}
 use Rattle.gx_law_commit.proofs.Ways.{Agrees, Fol, FolAt, Led, SaidOut, Stands, agrees-append, known-eq}
 
@@ -114,7 +116,7 @@ module _ (script : Script) (w : World) (n : Knows script w) (v : Holds script w)
   next = coord_did w e (coord_rule script w.coord x fails)
 
   pub coord-holds : coord_can script w.coord x ≡ true → IsSaidIn script (parts_in w) w.coord ms v.stands n.kept n.past (λ g. (n.well.coordinator.works g).writers) x → Holds script next
-  coord-holds ok d = from-led (event-led script (parts_in w) w.coord ms v.stands n.kept n.past (λ g. (n.well.coordinator.works g).writers) n.well.coordinator.locks x fails ok d)
+  coord-holds ok d = from-led (event-led script (parts_in w) w.coord ms v.stands n.kept n.past (λ g. (n.well.coordinator.works g).writers) (going-out script w n) x fails ok d)
     where
       all : ms ++ (turn.marks ++ sent) ≡ marks_in next.steps
       all = sym (marks-last w.steps step)
@@ -234,12 +236,10 @@ told-answer k q i g marks (message.Forget h) e = absurd e
 told-answer k q i g marks (message.Collect round) e = absurd e
 told-answer k q i g marks (message.Graph round graph) e = absurd e
 
-module _ (script : Script) (w : World) (n : Knows script w) (v : Holds script w) (e : Event) (fails : Bool) (i : ℕ) (from : Node) (envelope : Envelope) (received : Receives w.steps e the_coordinator (at i) envelope.message) (said : is_answer envelope.message ≡ false → Said (known_at w.coord (marks_in w.steps) i (gxid_in envelope.message)) (parts_in w i (gxid_in envelope.message)) envelope.message) where
-  abbrev pub msg : Message
-  msg = envelope.message
-
+-- by any event: what it does is for a message that has been received by then
+module _ (script : Script) (w : World) (n : Knows script w) (v : Holds script w) (e : Event) (x : NodeEvent) (fails : Bool) (i : ℕ) (msg : Message) (reached : HasReached w.steps e i msg) (does : Does msg (known_at w.coord (marks_in w.steps) i (gxid_in msg)) (w.segs i) i (gxid_in msg) (n.well.names i) (is_writer (marks_in w.steps) (gx (gxid_in msg)) (at i)) (prepared_count (marks_in w.steps) (at i) (gx (gxid_in msg))) (local_count (marks_in w.steps) (at i) (gx (gxid_in msg))) (v.stands.pairs i (gxid_in msg)) (segment.on_event script (w.segs i) x fails)) where
   abbrev pub g : ℕ
-  g = gxid_in envelope.message
+  g = gxid_in msg
 
   abbrev pub ms2 : List Mark
   ms2 = marks_in w.steps
@@ -248,120 +248,117 @@ module _ (script : Script) (w : World) (n : Knows script w) (v : Holds script w)
   s = w.segs i
 
   abbrev pub turn2 : SegTurn
-  turn2 = segment.on_event script s (here.Deliver from envelope) fails
+  turn2 = segment.on_event script s x fails
 
   abbrev pub sent2 : List Mark
   sent2 = numbered (λ node. turn2.seg.sent) turn2.outs
 
   abbrev pub step2 : Step
-  step2 = record { stamp = record { clock = clock_after s.clock (here.Deliver from envelope); node = at i }; event = e; marks = turn2.marks ++ sent2 }
+  step2 = record { stamp = record { clock = clock_after s.clock x; node = at i }; event = e; marks = turn2.marks ++ sent2 }
 
   abbrev pub seg_now : Seg
-  seg_now = (seg_rule script s (here.Deliver from envelope) fails).seg
+  seg_now = (seg_rule script s x fails).seg
 
-  abbrev pub next2 : World
-  next2 = seg_did w (at i) e (seg_rule script s (here.Deliver from envelope) fails)
+  abbrev pub world_then : World
+  world_then = seg_did w (at i) e (seg_rule script s x fails)
 
   abbrev pub known : ℕ → ℕ → Known
   known j h = known_at w.coord ms2 j h
 
-  pub does-it : Does msg (known i g) s i g (n.well.names i) (is_writer ms2 (gx g) (at i)) (prepared_count ms2 (at i) (gx g)) (local_count ms2 (at i) (gx g)) (v.stands.pairs i g) turn2
-  does-it = handled script fails (known i g) s (n.well.calm i).locks i (n.well.names i) (is_writer ms2 (gx g) (at i)) (prepared_count ms2 (at i) (gx g)) (local_count ms2 (at i) (gx g)) msg (v.stands.pairs i g) said
-
-  abbrev pub new_part : Part
-  new_part = after_marks (turn2.seg.locals g) (is_writer ms2 (gx g) (at i)) (prepared_count ms2 (at i) (gx g)) (local_count ms2 (at i) (gx g)) i g turn2.marks
+  abbrev pub part_then : Part
+  part_then = after_marks (turn2.seg.locals g) (is_writer ms2 (gx g) (at i)) (prepared_count ms2 (at i) (gx g)) (local_count ms2 (at i) (gx g)) i g turn2.marks
 
   quiet-sent : Each NoPart sent2
   quiet-sent = sent-no-part (λ node. turn2.seg.sent) turn2.outs
 
   no-ends : Each NoEnd (turn2.marks ++ sent2)
-  no-ends = each-both NoEnd turn2.marks sent2 (follows-no-end msg (known i g) i g turn2.marks does-it.marks) (sent-no-end (λ node. turn2.seg.sent) turn2.outs)
+  no-ends = each-both NoEnd turn2.marks sent2 (follows-no-end msg (known i g) i g turn2.marks does.marks) (sent-no-end (λ node. turn2.seg.sent) turn2.outs)
 
-  all2 : ms2 ++ (turn2.marks ++ sent2) ≡ marks_in next2.steps
+  all2 : ms2 ++ (turn2.marks ++ sent2) ≡ marks_in world_then.steps
   all2 = sym (marks-last w.steps step2)
 
-  pub same-known2 : (j h : ℕ) → known_at w.coord (marks_in next2.steps) j h ≡ known j h
-  same-known2 j h = ap (λ q. known_at w.coord q j h) (sym all2) ∙ known-append script (parts_in w) w.coord ms2 (turn2.marks ++ sent2) j h no-ends
+  pub known-then : (j h : ℕ) → known_at w.coord (marks_in world_then.steps) j h ≡ known j h
+  known-then j h = ap (λ q. known_at w.coord q j h) (sym all2) ∙ known-append script (parts_in w) w.coord ms2 (turn2.marks ++ sent2) j h no-ends
 
   self-test : (a : ℕ) → eqb a a ≡ true
   self-test a = grind (arith, nat_tests)
 
-  pub part-here : parts_in next2 i g ≡ new_part
-  part-here =
-      ap (λ b. part_at (if b then (seg_rule script s (here.Deliver from envelope) fails).seg else w.segs i) (marks_in next2.steps) i g) (self-test i)
+  pub here-then : parts_in world_then i g ≡ part_then
+  here-then =
+      ap (λ b. part_at (if b then (seg_rule script s x fails).seg else w.segs i) (marks_in world_then.steps) i g) (self-test i)
       ∙ ap (λ q. part_at turn2.seg q i g) (sym all2)
       ∙ part-eq (turn2.seg.locals g) _ _ _ _ _ _
       (writer-append ms2 (turn2.marks ++ sent2) (gx g) (at i) ∙ ap (λ b. is_writer ms2 (gx g) (at i) || b) (writer-append turn2.marks sent2 (gx g) (at i) ∙ ap (λ b. is_writer turn2.marks (gx g) (at i) || b) (no-writer sent2 (gx g) (at i) quiet-sent) ∙ or-none (is_writer turn2.marks (gx g) (at i))))
       (prepared-append ms2 (turn2.marks ++ sent2) (at i) (gx g) ∙ ap (λ m. prepared_count ms2 (at i) (gx g) + m) (prepared-append turn2.marks sent2 (at i) (gx g) ∙ ap (λ m. prepared_count turn2.marks (at i) (gx g) + m) (no-prepared sent2 (at i) (gx g) quiet-sent) ∙ plus-none (prepared_count turn2.marks (at i) (gx g))))
       (local-append ms2 (turn2.marks ++ sent2) (at i) (gx g) ∙ ap (λ m. local_count ms2 (at i) (gx g) + m) (local-append turn2.marks sent2 (at i) (gx g) ∙ ap (λ m. local_count turn2.marks (at i) (gx g) + m) (no-local sent2 (at i) (gx g) quiet-sent) ∙ plus-none (local_count turn2.marks (at i) (gx g))))
 
-  local-there : (j h : ℕ) → (eqb j i && eqb h g) ≡ false → (next2.segs j).locals h ≡ (w.segs j).locals h
+  local-there : (j h : ℕ) → (eqb j i && eqb h g) ≡ false → (world_then.segs j).locals h ≡ (w.segs j).locals h
   local-there j h apart = by_test (eqb j i) refl
     where
       second : (a b : Bool) → a ≡ true → (a && b) ≡ false → b ≡ false
       second a b x y = grind arith
 
       by_test : (b : Bool) → eqb j i ≡ b → (if b then seg_now else w.segs j).locals h ≡ (w.segs j).locals h
-      by_test true q = does-it.others h (second (eqb j i) (eqb h g) q apart) ∙ ap (λ (y : ℕ). (w.segs y).locals h) (sym (eqb-true j i q))
+      by_test true q = does.others h (second (eqb j i) (eqb h g) q apart) ∙ ap (λ (y : ℕ). (w.segs y).locals h) (sym (eqb-true j i q))
       by_test false q = refl
 
-  pub part-there : (j h : ℕ) → (eqb j i && eqb h g) ≡ false → parts_in next2 j h ≡ parts_in w j h
-  part-there j h apart =
-      ap (λ l. part_of l (is_writer (marks_in next2.steps) (gx h) (at j)) (prepared_count (marks_in next2.steps) (at j) (gx h)) (local_count (marks_in next2.steps) (at j) (gx h))) (local-there j h apart)
+  pub there-then : (j h : ℕ) → (eqb j i && eqb h g) ≡ false → parts_in world_then j h ≡ parts_in w j h
+  there-then j h apart =
+      ap (λ l. part_of l (is_writer (marks_in world_then.steps) (gx h) (at j)) (prepared_count (marks_in world_then.steps) (at j) (gx h)) (local_count (marks_in world_then.steps) (at j) (gx h))) (local-there j h apart)
       ∙ ap (λ q. part_at (w.segs j) q j h) (sym all2)
       ∙ part-eq ((w.segs j).locals h) _ _ _ _ _ _
-      (writer-append ms2 (turn2.marks ++ sent2) (gx h) (at j) ∙ ap (λ b. is_writer ms2 (gx h) (at j) || b) (writer-append turn2.marks sent2 (gx h) (at j) ∙ or-both (is_writer turn2.marks (gx h) (at j)) (is_writer sent2 (gx h) (at j)) (no-writer-there msg (known i g) i g j h apart turn2.marks does-it.marks) (no-writer sent2 (gx h) (at j) quiet-sent)) ∙ or-none (is_writer ms2 (gx h) (at j)))
-      (prepared-append ms2 (turn2.marks ++ sent2) (at j) (gx h) ∙ ap (λ m. prepared_count ms2 (at j) (gx h) + m) (prepared-append turn2.marks sent2 (at j) (gx h) ∙ ap (λ m. m + prepared_count sent2 (at j) (gx h)) (no-prepared-there msg (known i g) i g j h apart turn2.marks does-it.marks) ∙ ap (λ m. 0 + m) (no-prepared sent2 (at j) (gx h) quiet-sent)) ∙ plus-none (prepared_count ms2 (at j) (gx h)))
-      (local-append ms2 (turn2.marks ++ sent2) (at j) (gx h) ∙ ap (λ m. local_count ms2 (at j) (gx h) + m) (local-append turn2.marks sent2 (at j) (gx h) ∙ ap (λ m. m + local_count sent2 (at j) (gx h)) (no-local-there msg (known i g) i g j h apart turn2.marks does-it.marks) ∙ ap (λ m. 0 + m) (no-local sent2 (at j) (gx h) quiet-sent)) ∙ plus-none (local_count ms2 (at j) (gx h)))
+      (writer-append ms2 (turn2.marks ++ sent2) (gx h) (at j) ∙ ap (λ b. is_writer ms2 (gx h) (at j) || b) (writer-append turn2.marks sent2 (gx h) (at j) ∙ or-both (is_writer turn2.marks (gx h) (at j)) (is_writer sent2 (gx h) (at j)) (no-writer-there msg (known i g) i g j h apart turn2.marks does.marks) (no-writer sent2 (gx h) (at j) quiet-sent)) ∙ or-none (is_writer ms2 (gx h) (at j)))
+      (prepared-append ms2 (turn2.marks ++ sent2) (at j) (gx h) ∙ ap (λ m. prepared_count ms2 (at j) (gx h) + m) (prepared-append turn2.marks sent2 (at j) (gx h) ∙ ap (λ m. m + prepared_count sent2 (at j) (gx h)) (no-prepared-there msg (known i g) i g j h apart turn2.marks does.marks) ∙ ap (λ m. 0 + m) (no-prepared sent2 (at j) (gx h) quiet-sent)) ∙ plus-none (prepared_count ms2 (at j) (gx h)))
+      (local-append ms2 (turn2.marks ++ sent2) (at j) (gx h) ∙ ap (λ m. local_count ms2 (at j) (gx h) + m) (local-append turn2.marks sent2 (at j) (gx h) ∙ ap (λ m. m + local_count sent2 (at j) (gx h)) (no-local-there msg (known i g) i g j h apart turn2.marks does.marks) ∙ ap (λ m. 0 + m) (no-local sent2 (at j) (gx h) quiet-sent)) ∙ plus-none (local_count ms2 (at j) (gx h)))
 
   first-of : (a b : Bool) → (a && b) ≡ true → (a ≡ true) × (b ≡ true)
   first-of true b x = (refl, x)
   first-of false b x = grind arith
 
-  pair-next : (j h : ℕ) (b : Bool) → (eqb j i && eqb h g) ≡ b → Pair (known j h) (parts_in next2 j h)
+  pair-next : (j h : ℕ) (b : Bool) → (eqb j i && eqb h g) ≡ b → Pair (known j h) (parts_in world_then j h)
   pair-next j h true q =
-      let x = first-of (eqb j i) (eqb h g) q in
-      subst (λ a. Pair (known a h) (parts_in next2 a h)) (sym (eqb-true j i x.0)) (subst (λ a. Pair (known i a) (parts_in next2 i a)) (sym (eqb-true h g x.1)) (subst (Pair (known i g)) (sym part-here) does-it.next.pair))
-  pair-next j h false q = subst (Pair (known j h)) (sym (part-there j h q)) (v.stands.pairs j h)
+      let f = first-of (eqb j i) (eqb h g) q in
+      subst (λ a. Pair (known a h) (parts_in world_then a h)) (sym (eqb-true j i f.0)) (subst (λ a. Pair (known i a) (parts_in world_then i a)) (sym (eqb-true h g f.1)) (subst (Pair (known i g)) (sym here-then) does.next.pair))
+  pair-next j h false q = subst (Pair (known j h)) (sym (there-then j h q)) (v.stands.pairs j h)
 
-  said-next : (j h : ℕ) (m : Message) → Said (known j h) (parts_in w j h) m → (b : Bool) → (eqb j i && eqb h g) ≡ b → Said (known j h) (parts_in next2 j h) m
+  said-next : (j h : ℕ) (m : Message) → Said (known j h) (parts_in w j h) m → (b : Bool) → (eqb j i && eqb h g) ≡ b → Said (known j h) (parts_in world_then j h) m
   said-next j h m y true q =
-      let x = first-of (eqb j i) (eqb h g) q in
-      subst (λ a. Said (known a h) (parts_in next2 a h) m) (sym (eqb-true j i x.0)) (subst (λ a. Said (known i a) (parts_in next2 i a) m) (sym (eqb-true h g x.1))
-      (subst (λ p. Said (known i g) p m) (sym part-here) (said-grows (known i g) (parts_in w i g) new_part m does-it.next.grows does-it.next.pair (subst (λ a. Said (known i a) (parts_in w i a) m) (eqb-true h g x.1) (subst (λ a. Said (known a h) (parts_in w a h) m) (eqb-true j i x.0) y)))))
-  said-next j h m y false q = subst (λ p. Said (known j h) p m) (sym (part-there j h q)) y
+      let f = first-of (eqb j i) (eqb h g) q in
+      subst (λ a. Said (known a h) (parts_in world_then a h) m) (sym (eqb-true j i f.0)) (subst (λ a. Said (known i a) (parts_in world_then i a) m) (sym (eqb-true h g f.1))
+      (subst (λ p. Said (known i g) p m) (sym here-then) (said-grows (known i g) (parts_in w i g) part_then m does.next.grows does.next.pair (subst (λ a. Said (known i a) (parts_in w i a) m) (eqb-true h g f.1) (subst (λ a. Said (known a h) (parts_in w a h) m) (eqb-true j i f.0) y)))))
+  said-next j h m y false q = subst (λ p. Said (known j h) p m) (sym (there-then j h q)) y
 
-  moved2 : (j h : ℕ) (m : Message) → Said (known j h) (parts_in next2 j h) m → Said (known_at w.coord (marks_in next2.steps) j h) (parts_in next2 j h) m
-  moved2 j h m y = subst (λ k. Said k (parts_in next2 j h) m) (sym (same-known2 j h)) y
+  moved2 : (j h : ℕ) (m : Message) → Said (known j h) (parts_in world_then j h) m → Said (known_at w.coord (marks_in world_then.steps) j h) (parts_in world_then j h) m
+  moved2 j h m y = subst (λ k. Said k (parts_in world_then j h) m) (sym (known-then j h)) y
 
-  failed-next : (j h : ℕ) → ((next2.segs j).locals h).vote ≡ Some reply.Jfault → (b : Bool) → (eqb j i && eqb h g) ≡ b → HasMark (mark.JournalFailed (at j) (gx h)) (ms2 ++ turn2.marks)
+  failed-next : (j h : ℕ) → ((world_then.segs j).locals h).vote ≡ Some reply.Jfault → (b : Bool) → (eqb j i && eqb h g) ≡ b → HasMark (mark.JournalFailed (at j) (gx h)) (ms2 ++ turn2.marks)
   failed-next j h y true q =
-      let x = first-of (eqb j i) (eqb h g) q in
-      subst (λ a. HasMark (mark.JournalFailed (at a) (gx h)) (ms2 ++ turn2.marks)) (sym (eqb-true j i x.0)) (subst (λ a. HasMark (mark.JournalFailed (at i) (gx a)) (ms2 ++ turn2.marks)) (sym (eqb-true h g x.1))
-      (either (does-it.fails (ap (λ b. ((if b then seg_now else s).locals g).vote) (sym (self-test i)) ∙ subst (λ a. ((next2.segs i).locals a).vote ≡ Some reply.Jfault) (eqb-true h g x.1) (subst (λ a. ((next2.segs a).locals h).vote ≡ Some reply.Jfault) (eqb-true j i x.0) y)))))
+      let f = first-of (eqb j i) (eqb h g) q in
+      subst (λ a. HasMark (mark.JournalFailed (at a) (gx h)) (ms2 ++ turn2.marks)) (sym (eqb-true j i f.0)) (subst (λ a. HasMark (mark.JournalFailed (at i) (gx a)) (ms2 ++ turn2.marks)) (sym (eqb-true h g f.1))
+      (either (does.fails (ap (λ b. ((if b then seg_now else s).locals g).vote) (sym (self-test i)) ∙ subst (λ a. ((world_then.segs i).locals a).vote ≡ Some reply.Jfault) (eqb-true h g f.1) (subst (λ a. ((world_then.segs a).locals h).vote ≡ Some reply.Jfault) (eqb-true j i f.0) y)))))
     where
       either : ((s.locals g).vote ≡ Some reply.Jfault) ⊎ HasMark (mark.JournalFailed (at i) (gx g)) turn2.marks → HasMark (mark.JournalFailed (at i) (gx g)) (ms2 ++ turn2.marks)
       either (inl z) = has-left _ ms2 turn2.marks (v.failed i g z)
       either (inr z) = has-right _ ms2 turn2.marks z
   failed-next j h y false q = has-left _ ms2 turn2.marks (v.failed j h (ap (λ (l : Local). l.vote) (sym (local-there j h q)) ∙ y))
 
-  pub seg-holds : Holds script next2
-  seg-holds =
+  pub holds-then : Holds script world_then
+  holds-then =
       record {
         stands = record {
-          pairs = λ j h. subst (λ k. Pair k (parts_in next2 j h)) (sym (same-known2 j h)) (pair-next j h (eqb j i && eqb h g) refl);
+          pairs = λ j h. subst (λ k. Pair k (parts_in world_then j h)) (sym (known-then j h)) (pair-next j h (eqb j i && eqb h g) refl);
           works = v.stands.works;
           agrees = λ h. subst (λ q. Agrees q h (find_txn w.coord.table (gx h)) (w.coord.works h).writers) all2 (agrees-append ms2 (turn2.marks ++ sent2) h (find_txn w.coord.table (gx h)) (w.coord.works h).writers (v.stands.agrees h));
           parts = λ j h. record { wrote = refl; promises = refl; commits = refl };
         };
-        said = posted-each (SaidIn next2) (at i) (clock_after s.clock (here.Deliver from envelope)) turn2.marks (λ node. turn2.seg.sent) turn2.outs w.sent (follows-no-sent msg (known i g) i g turn2.marks does-it.marks)
-            (each-out turn2.outs does-it.outs)
-            (each_weaker (SaidIn w) (SaidIn next2) (λ l y. moved2 (segment_of l) (gxid_in l.envelope.message) l.envelope.message (said-next (segment_of l) (gxid_in l.envelope.message) l.envelope.message y (eqb (segment_of l) i && eqb (gxid_in l.envelope.message) g) refl)) w.sent v.said);
+        said = posted-each (SaidIn world_then) (at i) (clock_after s.clock x) turn2.marks (λ node. turn2.seg.sent) turn2.outs w.sent (follows-no-sent msg (known i g) i g turn2.marks does.marks)
+            (each-out turn2.outs does.outs)
+            (each_weaker (SaidIn w) (SaidIn world_then) (λ l y. moved2 (segment_of l) (gxid_in l.envelope.message) l.envelope.message (said-next (segment_of l) (gxid_in l.envelope.message) l.envelope.message y (eqb (segment_of l) i && eqb (gxid_in l.envelope.message) g) refl)) w.sent v.said);
         failed = λ j h y. subst (HasMark (mark.JournalFailed (at j) (gx h))) (append_assoc ms2 turn2.marks sent2 ∙ all2) (has-left _ (ms2 ++ turn2.marks) sent2 (failed-next j h y (eqb j i && eqb h g) refl));
-        tells = tell-push [] w.steps step2 v.tells (step-told (at i) ms2 turn2.marks (λ node. turn2.seg.sent) turn2.outs (follows-no-sent msg (known i g) i g turn2.marks does-it.marks)
-            (each_weaker (λ (o : Out). Tells (known i g) new_part i g turn2.marks o.message) (λ (o : Out). IsTold (at i) (ms2 ++ turn2.marks) o.message) (λ o h. seg-told (known i g) new_part i g turn2.marks (ms2 ++ turn2.marks) does-it.next.pair (sym (prepared-append ms2 turn2.marks (at i) (gx g))) (sym (local-append ms2 turn2.marks (at i) (gx g))) o.message h) turn2.outs does-it.outs));
-        ends = end-push script [] w.steps step2 v.ends (seg-end script w.steps step2 msg (known i g) i g refl received refl refl refl (parts_in w i g) (v.stands.pairs i g) (v.stands.parts i g) only-one new_part turn2.marks
-            (λ y. failed-next i g (ap (λ b. ((if b then seg_now else s).locals g).vote) (self-test i) ∙ y) (eqb i i && eqb g g) refl) (λ node. turn2.seg.sent) turn2.outs does-it.marks does-it.votes does-it.outs);
+        tells = tell-push [] w.steps step2 v.tells (step-told (at i) ms2 turn2.marks (λ node. turn2.seg.sent) turn2.outs (follows-no-sent msg (known i g) i g turn2.marks does.marks)
+            (each_weaker (λ (o : Out). Tells (known i g) part_then i g turn2.marks o.message) (λ (o : Out). IsTold (at i) (ms2 ++ turn2.marks) o.message) (λ o h. seg-told (known i g) part_then i g turn2.marks (ms2 ++ turn2.marks) does.next.pair (sym (prepared-append ms2 turn2.marks (at i) (gx g))) (sym (local-append ms2 turn2.marks (at i) (gx g))) o.message h) turn2.outs does.outs));
+        ends = end-push script [] w.steps step2 v.ends (seg-end script w.steps step2 msg (known i g) i g refl reached refl refl refl (parts_in w i g) (v.stands.pairs i g) (v.stands.parts i g) only-one part_then turn2.marks
+            (λ y. failed-next i g (ap (λ b. ((if b then seg_now else s).locals g).vote) (self-test i) ∙ y) (eqb i i && eqb g g) refl) (λ node. turn2.seg.sent) turn2.outs does.marks does.votes does.outs);
       }
     where
       -- the only writer
@@ -374,11 +371,68 @@ module _ (script : Script) (w : World) (n : Knows script w) (v : Holds script w)
           same-test : (a b : ℕ) → eqb a b ≡ eqb b a
           same-test a b = grind (arith, nat_tests)
 
-      each-out : (outs : List Out) → Each (λ (o : Out). Tells (known i g) new_part i g turn2.marks o.message) outs → Each (λ (o : Out). (number : ℕ) → SaidIn next2 (record { from = at i; to = o.node; envelope = record { number = number; clock = clock_after s.clock (here.Deliver from envelope); message = o.message } })) outs
+      each-out : (outs : List Out) → Each (λ (o : Out). Tells (known i g) part_then i g turn2.marks o.message) outs → Each (λ (o : Out). (number : ℕ) → SaidIn world_then (record { from = at i; to = o.node; envelope = record { number = number; clock = clock_after s.clock x; message = o.message } })) outs
       each-out [] y = tt
       each-out (o ∷ outs) y = (
-        λ number. let z = told-answer (known i g) new_part i g turn2.marks o.message y.0 in
-            subst (λ b. Said (known_at w.coord (marks_in next2.steps) (if b then i else o.node.0) (gxid_in o.message)) (parts_in next2 (if b then i else o.node.0) (gxid_in o.message)) o.message) (sym z.0)
-            (subst (λ a. Said (known_at w.coord (marks_in next2.steps) i a) (parts_in next2 i a) o.message) (sym z.1) (moved2 i g o.message (subst (λ p. Said (known i g) p o.message) (sym part-here) z.2))),
+        λ number. let z = told-answer (known i g) part_then i g turn2.marks o.message y.0 in
+            subst (λ b. Said (known_at w.coord (marks_in world_then.steps) (if b then i else o.node.0) (gxid_in o.message)) (parts_in world_then (if b then i else o.node.0) (gxid_in o.message)) o.message) (sym z.0)
+            (subst (λ a. Said (known_at w.coord (marks_in world_then.steps) i a) (parts_in world_then i a) o.message) (sym z.1) (moved2 i g o.message (subst (λ p. Said (known i g) p o.message) (sym here-then) z.2))),
         each-out outs y.1,
       )
+
+-- by a delivery
+module _ (script : Script) (w : World) (n : Knows script w) (v : Holds script w) (e : Event) (fails : Bool) (i : ℕ) (from : Node) (envelope : Envelope) (received : Receives w.steps e the_coordinator (at i) envelope.message) (said : is_answer envelope.message ≡ false → Said (known_at w.coord (marks_in w.steps) i (gxid_in envelope.message)) (parts_in w i (gxid_in envelope.message)) envelope.message) where
+  abbrev pub there : ℕ
+  there = gxid_in envelope.message
+
+  abbrev pub told_turn : SegTurn
+  told_turn = segment.on_event script (w.segs i) (here.Deliver from envelope) fails
+
+  abbrev pub next2 : World
+  next2 = seg_did w (at i) e (seg_rule script (w.segs i) (here.Deliver from envelope) fails)
+
+  pub does-it : Does envelope.message (known_at w.coord (marks_in w.steps) i there) (w.segs i) i there (n.well.names i) (is_writer (marks_in w.steps) (gx there) (at i)) (prepared_count (marks_in w.steps) (at i) (gx there)) (local_count (marks_in w.steps) (at i) (gx there)) (v.stands.pairs i there) told_turn
+  does-it = handled script fails (known_at w.coord (marks_in w.steps) i there) (w.segs i) i (n.well.names i) (is_writer (marks_in w.steps) (gx there) (at i)) (prepared_count (marks_in w.steps) (at i) (gx there)) (local_count (marks_in w.steps) (at i) (gx there)) envelope.message (v.stands.pairs i there) said
+
+  abbrev pub new_part : Part
+  new_part = after_marks (told_turn.seg.locals there) (is_writer (marks_in w.steps) (gx there) (at i)) (prepared_count (marks_in w.steps) (at i) (gx there)) (local_count (marks_in w.steps) (at i) (gx there)) i there told_turn.marks
+
+  pub same-known2 : (j h : ℕ) → known_at w.coord (marks_in next2.steps) j h ≡ known_at w.coord (marks_in w.steps) j h
+  same-known2 j h = known-then script w n v e (here.Deliver from envelope) fails i envelope.message (inl received) does-it j h
+
+  pub part-here : parts_in next2 i there ≡ new_part
+  part-here = here-then script w n v e (here.Deliver from envelope) fails i envelope.message (inl received) does-it
+
+  pub part-there : (j h : ℕ) → (eqb j i && eqb h there) ≡ false → parts_in next2 j h ≡ parts_in w j h
+  part-there j h apart = there-then script w n v e (here.Deliver from envelope) fails i envelope.message (inl received) does-it j h apart
+
+  pub seg-holds : Holds script next2
+  seg-holds = holds-then script w n v e (here.Deliver from envelope) fails i envelope.message (inl received) does-it
+
+-- by a slice that goes on: what it came from, and what it does
+pub record IsResumed (script : Script) (w : World) (n : Knows script w) (v : Holds script w) (e : Event) (i : ℕ) (g : Gxid) (fails : Bool) : Type 0 where
+  pub slice : Suspended
+  pub is : (local_of (w.segs i) g).suspended ≡ Some slice
+  pub waits : Waits script w i g slice
+  pub reached : HasReached w.steps e i (message.Exec g slice.cid slice.level slice.snapshot waits.horizon slice.slice)
+  pub does : Does (message.Exec g slice.cid slice.level slice.snapshot waits.horizon slice.slice) (known_at w.coord (marks_in w.steps) i g.0) (w.segs i) i g.0 (n.well.names i) (is_writer (marks_in w.steps) g (at i)) (prepared_count (marks_in w.steps) (at i) g) (local_count (marks_in w.steps) (at i) g) (v.stands.pairs i g.0) (segment.on_event script (w.segs i) (here.Resume g) fails)
+
+pub resumed-does : (script : Script) (w : World) (n : Knows script w) (v : Holds script w) (e : Event) (i : ℕ) (g : Gxid) (fails : Bool) → seg_can script (w.segs i) (here.Resume g) ≡ true → IsResumed script w n v e i g fails
+resumed-does script w n v e i g fails ok = from (going-on script w n.well i g ok)
+  where
+    is-some : {A : Type 0} (o : Option A) (x : A) → o ≡ Some x → is_some o ≡ true
+    is-some o x q = cc
+
+    from : GoesOn script w i g → IsResumed script w n v e i g fails
+    from o =
+        let x : Suspended = o.slice in
+        let c = o.waits.come in
+        record {
+          slice = x;
+          is = o.is;
+          waits = o.waits;
+          reached = inr (record { command = tt; place = c.place; step = c.step; stands = c.stands; received = c.received });
+          does = subst (Does (message.Exec g x.cid x.level x.snapshot o.waits.horizon x.slice) (known_at w.coord (marks_in w.steps) i g.0) (w.segs i) i g.0 (n.well.names i) (is_writer (marks_in w.steps) g (at i)) (prepared_count (marks_in w.steps) (at i) g) (local_count (marks_in w.steps) (at i) g) (v.stands.pairs i g.0))
+              (sym (goes-on-is (w.segs i) g o.wanted x o.claims o.is))
+              (went-on script (known_at w.coord (marks_in w.steps) i g.0) (w.segs i) i (n.well.names i) (is_writer (marks_in w.steps) g (at i)) (prepared_count (marks_in w.steps) (at i) g) (local_count (marks_in w.steps) (at i) g) g o.waits.horizon x o.wanted (v.stands.pairs i g.0) (is-some (local_of (w.segs i) g).suspended x o.is) o.waits.last o.waits.reads o.waits.right);
+        }

@@ -1,7 +1,7 @@
 -- From what a step's marks follow to the protocol over steps.
 use Rattle.std.proofs.Common.{◌≡◌, ◌⊎◌, inl, inr, ℕ, suc, ◌+◌, List, [], ◌∷◌, ◌++◌, Some, Bool, true, false, refl, sym, subst, ap, ◌∙◌, ◌||◌, arith, append-nil}
 use Rattle.std.proofs.lemmas.List.{append_assoc}
-use Rattle.std.specs.Prelude.{length}
+use Rattle.std.specs.Prelude.{length, slice_get, take}
 use Rattle.std.specs.List.{Contains}
 use Rattle.gx_ids.specs.declared.ids.Gxid.{Gxid}
 use Rattle.gx_ids.specs.declared.ids.Node.{Node}
@@ -10,12 +10,13 @@ use Rattle.gx_msg.specs.declared.message.Message.TheVariants as message
 use Rattle.gx_msg.specs.declared.message.Out.{Out}
 use Rattle.gx_msg.specs.declared.reply.Reply.TheVariants as reply
 use Rattle.gx_script.specs.declared.Script.{Script}
+use Rattle.gx_store.specs.declared.event.Event.{Event}
 use Rattle.gx_store.specs.declared.mark.Mark.{Mark}
 use Rattle.gx_store.specs.declared.mark.Mark.TheVariants as mark
 use Rattle.gx_store.specs.declared.run.Step.{Step}
 use Rattle.gx_store.specs.Journals.{is_same_node}
 use Rattle.gx_store.specs.Marks.{is_aborted, is_committed}
-use Rattle.gx_store.specs.Messages.{Receives}
+use Rattle.gx_store.specs.Messages.{HasReceived, Receives}
 use Rattle.gx_store.specs.Points.{Point, before, marks_in}
 use Rattle.gx_store.specs.Protocol.{CommitsAlone, CommitsAsPromised, CommitsThere, IsExecuted, Promises, decided_count, is_writer, local_count, prepared_count}
 use Rattle.gx_store.specs.Refusals.{the_coordinator}
@@ -28,6 +29,7 @@ use Rattle.gx_law_commit.specs.Said.{is_answer}
 use Rattle.gx_law_commit.specs.Standings.{Known, Part, at, gx, is_closing, is_decided}
 use Rattle.gx_law_commit.specs.Standings.Standing.{One, Two}
 use Rattle.gx_law_commit.proofs.Counts.{NoEnd, no-aborted, no-committed}
+use Rattle.gx_law_commit.proofs.Ended.{IsExec}
 use Rattle.gx_law_commit.proofs.Handled.{Follows, HasMark, IsExecOf, NoVote, Tells, Votes}
 use Rattle.gx_law_commit.proofs.Ways.{Fol, FolAt, IsOf}
 
@@ -49,6 +51,17 @@ has-left m (x ∷ xs) ys (inr h) = inr (has-left m xs ys h)
 pub end-push : (script : Script) (before ss : List Step) (s : Step) → DoStepsEnd script before ss → DoMarksEnd script (before ++ ss) s [] s.marks → DoStepsEnd script before (ss ++ s ∷ [])
 end-push script before [] s e h = (subst (λ x. DoMarksEnd script x s [] s.marks) (append-nil before) h, tt)
 end-push script before (x ∷ ss) s e h = (e.0, end-push script (before ++ x ∷ []) ss s e.1 (subst (λ y. DoMarksEnd script y s [] s.marks) (sym (append_assoc before (x ∷ []) ss)) h))
+
+-- a message that is received in this step, or a command that an earlier one has received
+pub record HasComeBefore (steps : List Step) (i : ℕ) (told : Message) : Type 0 where
+  pub command : IsExec told
+  pub place : ℕ
+  pub step : Step
+  pub stands : slice_get steps place ≡ Some step
+  pub received : Receives (take place steps) step.event the_coordinator (at i) told
+
+abbrev pub HasReached : List Step → Event → ℕ → Message → Type 0
+HasReached steps e i told = Receives steps e the_coordinator (at i) told ⊎ HasComeBefore steps i told
 
 -- THE COORDINATOR
 module _ (script : Script) (steps : List Step) (step : Step) where
@@ -90,7 +103,7 @@ module _ (script : Script) (steps : List Step) (step : Step) where
   )
 
   -- A SEGMENT
-  module _ (told : Message) (k : Known) (i g : ℕ) (here : step.stamp.node ≡ at i) (received : Receives steps step.event the_coordinator (at i) told) (aborted : k.aborted ≡ is_aborted (marks_in steps) (gx g)) (committed : k.committed ≡ is_committed (marks_in steps) (gx g)) (decided : k.decided ≡ decided_count (marks_in steps) (gx g)) (p : Part) (pair : Pair k p) (of : IsOf p (marks_in steps) i g) (only : k.at ≡ One true → (n : Node) → is_writer (marks_in steps) (gx g) n ≡ is_same_node n (at i)) where
+  module _ (told : Message) (k : Known) (i g : ℕ) (here : step.stamp.node ≡ at i) (reached : HasReached steps step.event i told) (aborted : k.aborted ≡ is_aborted (marks_in steps) (gx g)) (committed : k.committed ≡ is_committed (marks_in steps) (gx g)) (decided : k.decided ≡ decided_count (marks_in steps) (gx g)) (p : Part) (pair : Pair k p) (of : IsOf p (marks_in steps) i g) (only : k.at ≡ One true → (n : Node) → is_writer (marks_in steps) (gx g) n ≡ is_same_node n (at i)) where
     or-false : (a b c : Bool) → a ≡ false → b ≡ false → c ≡ a → (c || b) ≡ false
     or-false a b c e f q = grind arith
 
@@ -106,11 +119,20 @@ module _ (script : Script) (steps : List Step) (step : Step) where
     same-at : (n : Node) → n.0 ≡ i → at i ≡ n
     same-at n e = ap (λ j. at j) (sym e)
 
-    gets : (m : Message) → told ≡ m → Receives steps step.event the_coordinator (at i) m
-    gets m e = subst (Receives steps step.event the_coordinator (at i)) e received
+    -- what is no command comes in this step
+    gets : (m : Message) → (IsExec m → ⊥) → told ≡ m → Receives steps step.event the_coordinator (at i) m
+    gets m other e = by_time reached
+      where
+        by_time : HasReached steps step.event i told → Receives steps step.event the_coordinator (at i) m
+        by_time (inl r) = subst (Receives steps step.event the_coordinator (at i)) e r
+        by_time (inr r) = absurd (other (subst IsExec e r.command))
 
     executed : (earlier later : List Mark) (c : Rattle.gx_ids.specs.declared.ids.Cid.Cid) → IsExecOf told g c → IsExecuted (point earlier later) (gx g) c (at i)
-    executed earlier later c x = record { level = x.level; snapshot = x.snapshot; horizon = x.horizon; slice = x.slice; received = (length steps, inr (refl, gets _ x.is)) }
+    executed earlier later c x = record { level = x.level; snapshot = x.snapshot; horizon = x.horizon; slice = x.slice; received = subst (HasReceived (point earlier later) the_coordinator (at i)) x.is (by_time reached) }
+      where
+        by_time : HasReached steps step.event i told → HasReceived (point earlier later) the_coordinator (at i) told
+        by_time (inl r) = (length steps, inr (refl, r))
+        by_time (inr r) = (r.place, inl (r.step, r.stands, r.received))
 
     here-nil : marks_in steps ++ [] ≡ marks_in steps
     here-nil = append-nil (marks_in steps)
@@ -118,14 +140,14 @@ module _ (script : Script) (steps : List Step) (step : Step) where
     commits-by : (later : List Mark) → ((told ≡ message.Commit (gx g)) × (k.at ≡ One true)) ⊎ ((told ≡ message.CommitPrepared (gx g)) × (k.at ≡ Two true)) → CommitsAlone (point [] later) (at i) (gx g) ⊎ CommitsAsPromised (point [] later) (at i) (gx g)
     commits-by later (inl e) =
         inl (record {
-          told = gets _ e.0;
+          told = gets (message.Commit (gx g)) (λ z. z) e.0;
           only = λ n. ap (λ x. is_writer x (gx g) n) here-nil ∙ only e.1 n;
           unprepared = ap (λ x. prepared_count x (at i) (gx g)) here-nil ∙ of.promises ∙ pair.promised ∙ ap bit (pair.alone true e.1).1;
         })
     commits-by later (inr e) =
         let writes : k.writes ≡ true = (pair.both true e.1).0 refl in
         inr (record {
-          told = gets _ e.0;
+          told = gets (message.CommitPrepared (gx g)) (λ z. z) e.0;
           writer = ap (λ x. is_writer x (gx g) (at i)) here-nil ∙ of.wrote ∙ sym (pair.closing (ap is_closing e.1)) ∙ writes;
           promised = ap (λ x. prepared_count x (at i) (gx g)) here-nil ∙ of.promises ∙ pair.promised ∙ ap bit ((pair.both true e.1).1 ∙ writes);
           decided = ap (λ x. decided_count x (gx g)) here-nil ∙ sym decided ∙ pair.decided (ap is_decided e.1);
@@ -156,7 +178,7 @@ module _ (script : Script) (steps : List Step) (step : Step) where
         subst (λ (y : Gxid). Promises (point [] later) n y) (same-gxid h f.0)
         (subst (λ (y : Node). Promises (point [] later) y (gx g)) (same-at n f.1)
         (record {
-          told = gets _ f.2;
+          told = gets (message.Prepare (gx g)) (λ z. z) f.2;
           writer = ap (λ x. is_writer x (gx g) (at i)) here-nil ∙ of.wrote ∙ v.0;
           first = ap (λ x. prepared_count x (at i) (gx g)) here-nil ∙ of.promises ∙ v.1;
           uncommitted = not-committed [] tt f.3;

@@ -1,7 +1,7 @@
 -- What a segment's rule makes of its part of a transaction, message by message.
 use Rattle.std.proofs.Common.{◌≡◌, ◌⊎◌, inl, inr, ◌≤◌, ◌<◌, ℕ, ◌+◌, List, [], ◌∷◌, Option, Some, None, Bool, true, false, not, refl, sym, subst, ap, ◌∙◌, if◌then◌else◌, ◌==◌, ◌||◌, ◌&&◌, nat_lt, arith, eqb}
 use Rattle.std.proofs.lemmas.Bool.Decides.{nat_tests}
-use Rattle.std.specs.Prelude.{fold, length, map}
+use Rattle.std.specs.Prelude.{fold, is_some, length, map}
 use Rattle.gx_ids.specs.declared.ids.Cid.{Cid}
 use Rattle.gx_ids.specs.declared.ids.Gxid.{Gxid}
 use Rattle.gx_ids.specs.declared.ids.Node.{Node}
@@ -14,7 +14,7 @@ use Rattle.gx_tree.specs.declared.stmt.Level.{Level}
 use Rattle.gx_dsnap.specs.Gxids.{is_below}
 use Rattle.gx_dsnap.specs.declared.snapshot.Snapshot.{Snapshot}
 use Rattle.gx_waits.specs.declared.claim.Claim.{Claim}
-use Rattle.gx_locks.specs.Locks.{Locks}
+use Rattle.gx_locks.specs.Locks.{Locks, is_free, resumed}
 use Rattle.gx_meaning.specs.declared.fault.ArithFault.{ArithFault}
 use Rattle.gx_msg.specs.declared.item.JournalItem.{JournalItem}
 use Rattle.gx_msg.specs.declared.message.Message.{Message}
@@ -26,23 +26,22 @@ use Rattle.gx_script.specs.declared.Script.{Script}
 use Rattle.gx_store.specs.declared.mark.Mark.{Mark}
 use Rattle.gx_store.specs.declared.mark.Mark.TheVariants as mark
 use Rattle.gx_store.specs.Protocol.{is_writer, local_count, prepared_count}
-use Rattle.gx_rules.specs.AtSegment.{changes, commits, ends, finishes, if_fits, is_refused, on_abort, on_commit, on_commit_prepared, on_exec, on_forget, on_message, on_prepare, once, promises, raised, repeats, takes, unless_below, was_prepared}
-use Rattle.gx_rules.specs.Fits.{fits_exec, is_waiting}
-use Rattle.gx_rules.specs.Locks.{has_there, hold_mark, release_mark, release_marks, with_hold}
+use Rattle.gx_rules.specs.AtSegment.{changes, commits, ends, finishes, if_fits, is_refused, on_abort, on_commit, on_commit_prepared, on_exec, on_forget, on_message, on_prepare, once, promises, raised, repeats, resumes, takes, unless_below, was_prepared}
+use Rattle.gx_rules.specs.Fits.{fits_exec, is_right_slice, is_waiting}
+use Rattle.gx_rules.specs.Locks.{has_there, hold_mark, release_mark, release_marks, wait_mark, with_hold}
 use Rattle.gx_rules.specs.Maps.{with_at}
-use Rattle.gx_rules.specs.Segments.{Local, Phase, Seg, SegTurn, after_marks as behind, has_committed, stays, tells, tells_kept}
+use Rattle.gx_rules.specs.Segments.{Local, Phase, Seg, SegTurn, Suspended, after_marks as behind, has_committed, stays, tells, tells_kept, with_local}
 use Rattle.gx_rules.specs.Segments.Phase.{Reading, Writing, Prepared, Committed, Forgotten, Aborted}
 use Rattle.gx_rules.specs.Shown.{shown}
-use Rattle.gx_rules.specs.Slices.{Moved, answers, first_fault, has_written, inserted, inserts, inserts_row, runs_slice, selects, starts_slice}
-use Rattle.gx_law_order.proofs.Calm.{AreCalm, each-released}
-use Rattle.gx_law_order.proofs.CalmSegs.{starts-calm}
+use Rattle.gx_rules.specs.Slices.{Moved, answers, first_fault, has_written, inserted, inserts, inserts_row, requests, runs_locked, runs_slice, selects, slice_lock, starts_slice, suspended_slice, suspends}
+use Rattle.gx_law_order.proofs.Calm.{each-released}
 use Rattle.gx_law_order.proofs.Lists.{Each, each_append, each_weaker}
 use Rattle.gx_law_commit.specs.Pairs.{IsKept, IsVote, Pair, bit, is_open}
 use Rattle.gx_law_commit.specs.Said.{Answers, IsCommand, Said, gxid_in, is_answer}
 use Rattle.gx_law_commit.specs.Standings.{Known, Part, at, gx, part_of}
 use Rattle.gx_law_commit.specs.Standings.Standing.{Unborn, Live, Over, One, Preparing, Two}
 use Rattle.gx_law_commit.proofs.Counts.{local-append, prepared-append, writer-append}
-use Rattle.gx_law_commit.proofs.Parts.{Next, commit-next, committing, end-next, finish-next, finishing, grows-same, promise-next, promising, refuse-next, refusing, run-next, running}
+use Rattle.gx_law_commit.proofs.Parts.{Next, commit-next, committing, drawn-waits, end-next, finish-next, finishing, grows-same, promise-next, promising, refuse-next, refusing, resume-next, run-next, running, wait-next}
 
 -- a mark is among these
 abbrev pub HasMark : Mark → List Mark → Type 0
@@ -285,14 +284,14 @@ module _ (told : Message) (k : Known) (s : Seg) (i g : ℕ) (named : s.node ≡ 
   open-uncommitted ph o = grind (arith, nat_tests)
 
   -- PREPARE
-  promised : (fails : Bool) → told ≡ message.Prepare (gx g) → l.vote ≡ None → is_open l.phase ≡ true → (k.at ≡ Preparing true) ⊎ (k.aborted ≡ true) → k.committed ≡ false → w ≡ true → Does (promises s (gx g) fails l)
-  promised true m v o st c wr = refuse _ v o (wider st)
+  promised : (fails : Bool) → told ≡ message.Prepare (gx g) → l.vote ≡ None → is_open l.phase ≡ true → (k.at ≡ Preparing true) ⊎ (k.aborted ≡ true) → k.committed ≡ false → w ≡ true → is_waiting l ≡ false → Does (promises s (gx g) fails l)
+  promised true m v o st c wr y = refuse _ v o (wider st)
     where
       wider : (k.at ≡ Preparing true) ⊎ (k.aborted ≡ true) → (k.at ≡ Preparing true) ⊎ (k.at ≡ One true) ⊎ (k.aborted ≡ true)
       wider (inl x) = inl x
       wider (inr x) = inr (inr x)
-  promised false m v o st c wr =
-      let n : Next k p (promising p) = promise-next k p e v o st in
+  promised false m v o st c wr y =
+      let n : Next k p (promising p) = promise-next k p e v o y st in
       change (record l { phase = Prepared; vote = Some reply.Prepared }) (mark.Prepared s.node (gx g) ∷ []) reply.Prepared _
       (subst (Next k p) (sym (prepared-after (record l { phase = Prepared; vote = Some reply.Prepared }))) n) ((refl, at-node, m, c), tt) (wr, unpromised v, uncommitted l.phase refl (open-uncommitted l.phase o), tt) (refl, refl) (λ x. absurd (cc))
 
@@ -302,13 +301,13 @@ module _ (told : Message) (k : Known) (s : Seg) (i g : ℕ) (named : s.node ≡ 
       plain : (c a : Bool) → (k.at ≡ Preparing true) ⊎ (a ≡ true) → (c ≡ true → a ≡ false) → (c ≡ true → k.at ≡ Over) → c ≡ false
       plain c a st x y = grind (arith, nat_tests)
 
-  prepare : (fails : Bool) (ph : Phase) → l.phase ≡ ph → told ≡ message.Prepare (gx g) → Said k p (message.Prepare (gx g)) → Does (on_prepare s (gx g) fails l ph)
-  prepare fails Reading f m st = once-votes l.vote _ refl (λ v. promised fails m v (ap is_open f) (st.1 v) (not-ended-prepare (st.1 v)) st.0)
-  prepare fails Writing f m st = once-votes l.vote _ refl (λ v. promised fails m v (ap is_open f) (st.1 v) (not-ended-prepare (st.1 v)) st.0)
-  prepare fails Prepared f m st = kept-vote l.vote refl
-  prepare fails Committed f m st = kept-vote l.vote refl
-  prepare fails (Forgotten b) f m st = kept-vote l.vote refl
-  prepare fails Aborted f m st = stay
+  prepare : (fails : Bool) (ph : Phase) → l.phase ≡ ph → told ≡ message.Prepare (gx g) → Said k p (message.Prepare (gx g)) → is_waiting l ≡ false → Does (on_prepare s (gx g) fails l ph)
+  prepare fails Reading f m st y = once-votes l.vote _ refl (λ v. promised fails m v (ap is_open f) (st.1 v) (not-ended-prepare (st.1 v)) st.0 y)
+  prepare fails Writing f m st y = once-votes l.vote _ refl (λ v. promised fails m v (ap is_open f) (st.1 v) (not-ended-prepare (st.1 v)) st.0 y)
+  prepare fails Prepared f m st y = kept-vote l.vote refl
+  prepare fails Committed f m st y = kept-vote l.vote refl
+  prepare fails (Forgotten b) f m st y = kept-vote l.vote refl
+  prepare fails Aborted f m st y = stay
 
   -- COMMIT
   live-marks : (st : k.at ≡ Over → ⊥) → (k.aborted ≡ false) × (k.committed ≡ false)
@@ -330,10 +329,10 @@ module _ (told : Message) (k : Known) (s : Seg) (i g : ℕ) (named : s.node ≡ 
       differ : Two true ≡ Over → ⊥
       differ z = cc
 
-  committed : (fails : Bool) → told ≡ message.Commit (gx g) → l.vote ≡ None → is_open l.phase ≡ true → k.at ≡ One true → Does (commits s (gx g) fails l)
-  committed true m v o st = refuse _ v o (inr (inl st))
-  committed false m v o st =
-      let n : Next k p (committing p) = commit-next k p e v o st in
+  committed : (fails : Bool) → told ≡ message.Commit (gx g) → l.vote ≡ None → is_open l.phase ≡ true → k.at ≡ One true → is_waiting l ≡ false → Does (commits s (gx g) fails l)
+  committed true m v o st y = refuse _ v o (inr (inl st))
+  committed false m v o st y =
+      let n : Next k p (committing p) = commit-next k p e v o y st in
       let x = live-marks (one-not-over st) in
       change (record l { phase = Committed; vote = Some reply.Committed }) (mark.LocalCommit s.node (gx g) ∷ []) reply.Committed _
       (subst (Next k p) (sym (local-after (record l { phase = Committed; vote = Some reply.Committed }))) n) ((refl, at-node, inl m, x.0, x.1), tt) (uncommitted l.phase refl (open-uncommitted l.phase o), inl (m, st), tt) (refl, refl) (λ x. absurd (cc))
@@ -342,13 +341,13 @@ module _ (told : Message) (k : Known) (s : Seg) (i g : ℕ) (named : s.node ≡ 
   unless-prepared true = stay
   unless-prepared false = kept-vote l.vote refl
 
-  commit : (fails : Bool) (ph : Phase) → l.phase ≡ ph → told ≡ message.Commit (gx g) → Said k p (message.Commit (gx g)) → Does (on_commit s (gx g) fails l ph)
-  commit fails Reading f m st = once-votes l.vote _ refl (λ v. committed fails m v (ap is_open f) (st v))
-  commit fails Writing f m st = once-votes l.vote _ refl (λ v. committed fails m v (ap is_open f) (st v))
-  commit fails Prepared f m st = stay
-  commit fails Committed f m st = unless-prepared (was_prepared l.vote)
-  commit fails (Forgotten b) f m st = unless-prepared (was_prepared l.vote)
-  commit fails Aborted f m st = stay
+  commit : (fails : Bool) (ph : Phase) → l.phase ≡ ph → told ≡ message.Commit (gx g) → Said k p (message.Commit (gx g)) → is_waiting l ≡ false → Does (on_commit s (gx g) fails l ph)
+  commit fails Reading f m st y = once-votes l.vote _ refl (λ v. committed fails m v (ap is_open f) (st v) y)
+  commit fails Writing f m st y = once-votes l.vote _ refl (λ v. committed fails m v (ap is_open f) (st v) y)
+  commit fails Prepared f m st y = stay
+  commit fails Committed f m st y = unless-prepared (was_prepared l.vote)
+  commit fails (Forgotten b) f m st y = unless-prepared (was_prepared l.vote)
+  commit fails Aborted f m st y = stay
 
   -- COMMIT PREPARED
   finished : (fails : Bool) → told ≡ message.CommitPrepared (gx g) → l.phase ≡ Prepared → k.at ≡ Two true → Does (finishes s (gx g) fails l)
@@ -429,20 +428,27 @@ module _ (told : Message) (k : Known) (s : Seg) (i g : ℕ) (named : s.node ≡ 
 
   -- EXEC
   kept-answers : (k.at ≡ Unborn → ⊥) → (q : Part) (r : Reply) → Pair k q → q.answer ≡ Some r → Answers k q r
-  kept-answers born q r f a = by_reply r (subst (IsKept q.last q.wrote) a f.kept) (λ x. (f.live x).2)
+  kept-answers born q r f a = by_reply r (subst (IsKept q.last q.wrote) a f.kept) (λ x. (f.live x).2) (quiet q.answer q.waits a (λ x. (f.waits x).1))
     where
       same-le : (a b c : ℕ) → a ≡ b → b ≤ c → a ≤ c
       same-le a b c x y = omega arith
 
-      by_reply : (r : Reply) → IsKept q.last q.wrote (Some r) → (k.at ≡ Live → q.last ≤ k.last) → Answers k q r
-      by_reply (reply.Done c x y z) h l = record { drawn = born; last = λ v. same-le c.0 q.last k.last h.0 (l v); same = λ v j. (sym h.0, h.1) }
-      by_reply (reply.Failed c x) h l = tt
-      by_reply reply.Prepared h l = absurd h
-      by_reply reply.Committed h l = absurd h
-      by_reply reply.Jfault h l = absurd h
-      by_reply reply.Again h l = tt
-      by_reply reply.Aborted h l = tt
-      by_reply reply.Forgotten h l = tt
+      quiet : (o : Option Reply) (b : Bool) → o ≡ Some r → (b ≡ true → o ≡ None) → b ≡ false
+      quiet o true x y = absurd (none-some o (y refl) x)
+        where
+          none-some : (o : Option Reply) → o ≡ None → o ≡ Some r → ⊥
+          none-some o x y = cc
+      quiet o false x y = refl
+
+      by_reply : (r : Reply) → IsKept q.last q.wrote (Some r) → (k.at ≡ Live → q.last ≤ k.last) → q.waits ≡ false → Answers k q r
+      by_reply (reply.Done c x y z) h l u = record { drawn = born; last = λ v. same-le c.0 q.last k.last h.0 (l v); same = λ v j. (sym h.0, h.1, u) }
+      by_reply (reply.Failed c x) h l u = tt
+      by_reply reply.Prepared h l u = absurd h
+      by_reply reply.Committed h l u = absurd h
+      by_reply reply.Jfault h l u = absurd h
+      by_reply reply.Again h l u = tt
+      by_reply reply.Aborted h l u = tt
+      by_reply reply.Forgotten h l u = tt
 
   kept-not-again : (n : ℕ) (b : Bool) (r : Reply) → IsKept n b (Some r) → not-again r ≡ true
   kept-not-again n b reply.Again v = absurd v
@@ -465,15 +471,18 @@ module _ (told : Message) (k : Known) (s : Seg) (i g : ℕ) (named : s.node ≡ 
   repeat : (k.at ≡ Unborn → ⊥) → (c : Cid) → Does (repeats s (gx g) c l)
   repeat born c = repeat-if born (c.0 == l.last)
 
-  module _ (c : Cid) (m : IsExecOf told g c) (st : IsCommand k p c.0) (h : Gxid) (locks : Locks) (o : is_open l.phase ≡ true) (new : l.last < c.0) where
-    abbrev raised_with : Seg
-    raised_with = record (raised s h) { locks = locks }
+  -- a segment at which no slice of it waits, and which is as this one but for horizon and locks
+  record Base (t : Seg) : Type 0 where
+    others : (j : ℕ) → eqb j g ≡ false → t.locals j ≡ s.locals j
+    local : t.locals g ≡ record l { suspended = None }
+    node : t.node ≡ s.node
 
+  module _ (c : Cid) (m : IsExecOf told g c) (born : k.at ≡ Unborn → ⊥) (o : is_open l.phase ≡ true) (t : Seg) (base : Base t) (goes : (phase : Phase) (r : Reply) (x : Bool) → is_open phase ≡ true → has_written phase ≡ (w || x) → IsKept c.0 (w || x) (Some r) → Next k p (running phase c.0 (Some r) x p)) where
     -- on the way through its rows
     record Inserting (x : Moved) : Type 0 where
       others : (j : ℕ) → eqb j g ≡ false → x.seg.locals j ≡ s.locals j
       phase : Phase
-      local : x.seg.locals g ≡ record l { phase = phase }
+      local : x.seg.locals g ≡ record l { suspended = None; phase = phase }
       opens : is_open phase ≡ true
       wrote : has_written phase ≡ (w || is_writer x.marks (gx g) (at i))
       marks : Each (Follows told k i g) x.marks
@@ -485,33 +494,33 @@ module _ (told : Message) (k : Known) (s : Seg) (i g : ℕ) (named : s.node ≡ 
     ran : (x : Moved) (r : Reply) → Inserting x → IsKept c.0 (w || is_writer x.marks (gx g) (at i)) (Some r) → Does (answers x.seg (gx g) c x.marks r)
     ran x r f a =
         let y : Local = record (x.seg.locals g) { last = c.0; answer = Some r } in
-        let n : Next k p (running f.phase c.0 (Some r) (is_writer x.marks (gx g) (at i)) p) = run-next k p f.phase c.0 (Some r) (is_writer x.marks (gx g) (at i)) e o f.opens f.wrote new a st in
+        let n : Next k p (running f.phase c.0 (Some r) (is_writer x.marks (gx g) (at i)) p) = goes f.phase r (is_writer x.marks (gx g) (at i)) f.opens f.wrote a in
         let same : after_marks y w pc lc i g x.marks ≡ running f.phase c.0 (Some r) (is_writer x.marks (gx g) (at i)) p
         = ap (λ (z : Local). after_marks (record z { last = c.0; answer = Some r }) w pc lc i g x.marks) f.local
-        ∙ ap (λ n. part_of (record l { phase = f.phase; last = c.0; answer = Some r }) (w || is_writer x.marks (gx g) (at i)) (pc + n) (lc + local_count x.marks (at i) (gx g))) f.promises
-        ∙ ap (λ n. part_of (record l { phase = f.phase; last = c.0; answer = Some r }) (w || is_writer x.marks (gx g) (at i)) (pc + 0) (lc + n)) f.commits
-        ∙ ap (λ n. part_of (record l { phase = f.phase; last = c.0; answer = Some r }) (w || is_writer x.marks (gx g) (at i)) n (lc + 0)) (plus-none pc)
-        ∙ ap (λ n. part_of (record l { phase = f.phase; last = c.0; answer = Some r }) (w || is_writer x.marks (gx g) (at i)) pc n) (plus-none lc) in
+        ∙ ap (λ n. part_of (record l { suspended = None; phase = f.phase; last = c.0; answer = Some r }) (w || is_writer x.marks (gx g) (at i)) (pc + n) (lc + local_count x.marks (at i) (gx g))) f.promises
+        ∙ ap (λ n. part_of (record l { suspended = None; phase = f.phase; last = c.0; answer = Some r }) (w || is_writer x.marks (gx g) (at i)) (pc + 0) (lc + n)) f.commits
+        ∙ ap (λ n. part_of (record l { suspended = None; phase = f.phase; last = c.0; answer = Some r }) (w || is_writer x.marks (gx g) (at i)) n (lc + 0)) (plus-none pc)
+        ∙ ap (λ n. part_of (record l { suspended = None; phase = f.phase; last = c.0; answer = Some r }) (w || is_writer x.marks (gx g) (at i)) pc n) (plus-none lc) in
         let set : with_at x.seg.locals g y g ≡ y = ap (λ b. if b then y else x.seg.locals g) (self g) in
         record {
           others = λ j d. ap (λ b. if b then y else x.seg.locals j) d ∙ f.others j d;
           next = subst (λ z. Next k p (after_marks z w pc lc i g x.marks)) (sym set) (subst (Next k p) (sym same) n);
           marks = f.marks;
           votes = no-votes told k p g x.marks f.calm;
-          outs = (subst (λ z. Tells k (after_marks z w pc lc i g x.marks) i g x.marks (message.Answer (gx g) r)) (sym set) (subst (λ q. Tells k q i g x.marks (message.Answer (gx g) r)) (sym same) (told-of k _ x.marks r (kept-not-again c.0 _ r a) (kept-answers st.drawn _ r n.pair refl))), tt);
+          outs = (subst (λ z. Tells k (after_marks z w pc lc i g x.marks) i g x.marks (message.Answer (gx g) r)) (sym set) (subst (λ q. Tells k q i g x.marks (message.Answer (gx g) r)) (sym same) (told-of k _ x.marks r (kept-not-again c.0 _ r a) (kept-answers born _ r n.pair refl))), tt);
           fails = λ v. inl (subst (λ (z : Local). z.vote ≡ Some reply.Jfault) f.local (subst (λ (z : Local). z.vote ≡ Some reply.Jfault) set v));
         }
       where
         self : (a : ℕ) → eqb a a ≡ true
         self a = grind (arith, nat_tests)
 
-    quiet : (ms : List Mark) → is_writer ms (gx g) (at i) ≡ false → prepared_count ms (at i) (gx g) ≡ 0 → local_count ms (at i) (gx g) ≡ 0 → Each (Follows told k i g) ms → Each NoVote ms → Inserting (record { seg = raised_with; marks = ms })
+    quiet : (ms : List Mark) → is_writer ms (gx g) (at i) ≡ false → prepared_count ms (at i) (gx g) ≡ 0 → local_count ms (at i) (gx g) ≡ 0 → Each (Follows told k i g) ms → Each NoVote ms → Inserting (record { seg = t; marks = ms })
     quiet ms a b d f n =
-        record { others = λ j q. refl; phase = l.phase; local = refl; opens = o; wrote = e.written o ∙ sym (or-none w) ∙ ap (λ x. w || x) (sym a); marks = f; calm = n; promises = b; commits = d; node = refl }
+        record { others = base.others; phase = l.phase; local = base.local; opens = o; wrote = e.written o ∙ sym (or-none w) ∙ ap (λ x. w || x) (sym a); marks = f; calm = n; promises = b; commits = d; node = base.node }
 
-    select : (q : Query) (rows : List KeyedRow) (f : Option (KeyedRow × ArithFault)) → Does (selects raised_with (gx g) c q rows f)
-    select q rows None = ran (record { seg = raised_with; marks = [] }) _ (quiet [] refl refl refl tt tt) (refl, e.written o ∙ sym (or-none w))
-    select q rows (Some f) = ran (record { seg = raised_with; marks = mark.Fault (gx g) c f.0.rid (Some f.0.row) ∷ [] }) _ (quiet _ refl refl refl (tt, tt) (tt, tt)) tt
+    select : (q : Query) (rows : List KeyedRow) (f : Option (KeyedRow × ArithFault)) → Does (selects t (gx g) c q rows f)
+    select q rows None = ran (record { seg = t; marks = [] }) _ (quiet [] refl refl refl tt tt) (refl, ap (λ (z : Local). has_written z.phase) base.local ∙ e.written o ∙ sym (or-none w))
+    select q rows (Some f) = ran (record { seg = t; marks = mark.Fault (gx g) c f.0.rid (Some f.0.row) ∷ [] }) _ (quiet _ refl refl refl (tt, tt) (tt, tt)) tt
 
     insert-row : (table : Table) (x : Moved) (row : KeyedRow) → Inserting x → Inserting (inserts_row (gx g) c table x row)
     insert-row table x row f =
@@ -541,45 +550,93 @@ module _ (told : Message) (k : Known) (s : Seg) (i g : ℕ) (named : s.node ≡ 
     insert : (count : ℕ) (x : Moved) → Inserting x → Does (inserts (gx g) c count x)
     insert count x f = ran x _ f (refl, ap (λ (z : Local). has_written z.phase) f.local ∙ f.wrote)
 
-    raised-stay : Does (stays raised_with)
-    raised-stay = record { others = λ j d. refl; next = same-next; marks = tt; votes = tt; outs = tt; fails = λ v. inl v }
-
     -- it runs, and neither promises nor commits
     abbrev Runs : SegTurn → Type 0
     Runs turn = Does turn × Each NoVote turn.marks
 
-    selected : (q : Query) (rows : List KeyedRow) (f : Option (KeyedRow × ArithFault)) → Runs (selects raised_with (gx g) c q rows f)
+    selected : (q : Query) (rows : List KeyedRow) (f : Option (KeyedRow × ArithFault)) → Runs (selects t (gx g) c q rows f)
     selected q rows None = (select q rows None, tt)
     selected q rows (Some f) = (select q rows (Some f), (tt, tt))
 
-    slice-runs : (x : Option Snapshot) (y : Slice) → Runs (runs_slice raised_with (gx g) c x y)
-    slice-runs (Some x) (slice.Select q) = selected q (shown raised_with x (gx g) c q.table) (first_fault q.cond (shown raised_with x (gx g) c q.table))
-    slice-runs (Some x) (slice.Insert table rows) =
-        let all = insert-rows table rows (record { seg = raised_with; marks = [] }) (quiet [] refl refl refl tt tt) in
-        (insert (length rows) (inserted raised_with (gx g) c table rows) all, all.calm)
-    slice-runs x y = (raised-stay, tt)
+    slice-runs : (script : Script) (x : Option Snapshot) (y : Slice) → is_some x ≡ true → is_right_slice script (gx g) c y ≡ true → Runs (runs_slice t (gx g) c x y)
+    slice-runs script (Some x) (slice.Select q) a r = selected q (shown t x (gx g) c q.table) (first_fault q.cond (shown t x (gx g) c q.table))
+    slice-runs script (Some x) (slice.Insert table rows) a r =
+        let all = insert-rows table rows (record { seg = t; marks = [] }) (quiet [] refl refl refl tt tt) in
+        (insert (length rows) (inserted t (gx g) c table rows) all, all.calm)
+    slice-runs script (Some x) (slice.Update table assigns cond) a r = absurd (cc)
+    slice-runs script (Some x) (slice.Delete table cond) a r = absurd (cc)
+    slice-runs script (Some x) (slice.Lock table mode) a r = absurd (cc)
+    slice-runs script None y a r = absurd (cc)
 
-  take : AreCalm s.locks → (c : Cid) → IsExecOf told g c → IsCommand k p c.0 → (level : Level) (x : Option Snapshot) (h : Gxid) (y : Slice) → is_open l.phase ≡ true → Does (takes s (gx g) c level x h y l)
-  take calm c m st level x h y o = by_test (nat_lt l.last c.0) refl
-    where
-      lower : (a b : ℕ) → nat_lt a b ≡ true → a < b
-      lower a b q = grind (arith, nat_tests)
+  -- a new command has its lock, or takes none, or waits
+  module _ (script : Script) (c : Cid) (m : IsExecOf told g c) (st : IsCommand k p c.0) (level : Level) (x : Option Snapshot) (h : Gxid) (y : Slice) (o : is_open l.phase ≡ true) (fit : fits_exec script s (gx g) c x h y ≡ true) where
+    lower : (a b : ℕ) → nat_lt a b ≡ true → a < b
+    lower a b q = grind (arith, nat_tests)
 
-      locked : (locks : Locks) (wanted : Claim) → l.last < c.0 → Does (behind (hold_mark s.node wanted ∷ []) (runs_slice (record (raised s h) { locks = locks }) (gx g) c x y))
-      locked locks wanted q = let run = slice-runs c m st h locks o q x y in held s.node wanted _ run.0 run.1
+    is-right : (a b d e f : Bool) → (a && (b && (d && (e && f)))) ≡ true → (d ≡ true) × (e ≡ true) × (f ≡ true)
+    is-right a b d e f z = (grind arith, grind arith, grind arith)
 
-      by_test : (b : Bool) → nat_lt l.last c.0 ≡ b → Does (if b then starts_slice (raised s h) (gx g) c level x y else repeats s (gx g) c l)
-      by_test true q =
-          starts-calm Does (raised s h) calm (gx g) c level x y (λ wanted. locked (with_hold s.locks wanted) wanted (lower l.last c.0 q)) (slice-runs c m st h s.locks o (lower l.last c.0 q) x y).0
-      by_test false q = repeat st.drawn c
+    not-waiting : (a b : Bool) → not (a && b) ≡ true → a ≡ true → b ≡ false
+    not-waiting a b z q = grind arith
 
-  exec : AreCalm s.locks → (c : Cid) → IsExecOf told g c → IsCommand k p c.0 → (level : Level) (x : Option Snapshot) (h : Gxid) (y : Slice) (ph : Phase) → l.phase ≡ ph → Does (on_exec s (gx g) c level x h y l ph)
-  exec calm c m st level x h y Reading f = take calm c m st level x h y (ap is_open f)
-  exec calm c m st level x h y Writing f = take calm c m st level x h y (ap is_open f)
-  exec calm c m st level x h y Prepared f = repeat st.drawn c
-  exec calm c m st level x h y Committed f = repeat st.drawn c
-  exec calm c m st level x h y (Forgotten b) f = stay
-  exec calm c m st level x h y Aborted f = stay
+    abbrev right : (is_some x ≡ true) × (is_right_slice script (gx g) c y ≡ true) × (not (nat_lt l.last c.0 && is_waiting l) ≡ true)
+    right = is-right _ _ (is_some x) (is_right_slice script (gx g) c y) (not (nat_lt l.last c.0 && is_waiting l)) fit
+
+    idle : (v : Local) → is_waiting v ≡ false → v ≡ record v { suspended = None }
+    idle v q = ap (λ o. record v { suspended = o }) (none-of v.suspended q)
+      where
+        none-of : (o : Option Suspended) → is_some o ≡ false → o ≡ None
+        none-of None q = refl
+        none-of (Some z) q = absurd (cc)
+
+    module _ (q : nat_lt l.last c.0 ≡ true) where
+      run : (locks : Locks) → Does (runs_slice (record (raised s h) { locks = locks }) (gx g) c x y) × Each NoVote (runs_slice (record (raised s h) { locks = locks }) (gx g) c x y).marks
+      run locks =
+          slice-runs c m st.drawn o (record (raised s h) { locks = locks }) (record { others = λ j d. refl; local = idle l (not-waiting (nat_lt l.last c.0) (is_waiting l) right.2 q); node = refl })
+          (λ phase r z a b d. run-next k p phase c.0 (Some r) z e o a b (lower l.last c.0 q) d st) script x y right.0 right.1
+
+      waits : (wanted : Claim) → Does (suspends (raised s h) (gx g) c level x y wanted)
+      waits wanted =
+          let v : Local = record l { last = c.0; answer = None; suspended = Some (suspended_slice c level x y) } in
+          let ms : List Mark = wait_mark s.node wanted ∷ [] in
+          record {
+            others = λ j d. ap (λ b. if b then v else s.locals j) d;
+            next = subst (λ z. Next k p (after_marks z w pc lc i g ms)) (sym (here v)) (subst (Next k p) (sym (none-after v)) (wait-next k p c.0 e o (lower l.last c.0 q) st));
+            marks = (tt, tt);
+            votes = tt;
+            outs = tt;
+            fails = λ z. inl (subst (λ (u : Local). u.vote ≡ Some reply.Jfault) (here v) z);
+          }
+
+      by_free : (wanted : Claim) (b : Bool) → Does (if b then runs_locked (raised s h) (gx g) c x y wanted else suspends (raised s h) (gx g) c level x y wanted)
+      by_free wanted true = let r = run (with_hold s.locks wanted) in held s.node wanted _ r.0 r.1
+      by_free wanted false = waits wanted
+
+      starts : (wanted : Option Claim) → Does (requests (raised s h) (gx g) c level x y wanted)
+      starts None = (run s.locks).0
+      starts (Some wanted) = by_free wanted (is_free s.locks.holds wanted)
+
+    take : Does (takes s (gx g) c level x h y l)
+    take = by_test (nat_lt l.last c.0) refl
+      where
+        by_test : (b : Bool) → nat_lt l.last c.0 ≡ b → Does (if b then starts_slice (raised s h) (gx g) c level x y else repeats s (gx g) c l)
+        by_test true q = starts q (slice_lock (gx g) y)
+        by_test false q = repeat st.drawn c
+
+  exec : (script : Script) (c : Cid) → IsExecOf told g c → IsCommand k p c.0 → (level : Level) (x : Option Snapshot) (h : Gxid) (y : Slice) → fits_exec script s (gx g) c x h y ≡ true → (ph : Phase) → l.phase ≡ ph → Does (on_exec s (gx g) c level x h y l ph)
+  exec script c m st level x h y fit Reading f = take script c m st level x h y (ap is_open f) fit
+  exec script c m st level x h y fit Writing f = take script c m st level x h y (ap is_open f) fit
+  exec script c m st level x h y fit Prepared f = repeat st.drawn c
+  exec script c m st level x h y fit Committed f = repeat st.drawn c
+  exec script c m st level x h y fit (Forgotten b) f = stay
+  exec script c m st level x h y fit Aborted f = stay
+
+  -- a slice that has waited goes on
+  resume : (script : Script) (x : Suspended) (wanted : Claim) → IsExecOf told g x.cid → is_waiting l ≡ true → l.last ≡ x.cid.0 → is_some x.snapshot ≡ true → is_right_slice script (gx g) x.cid x.slice ≡ true → Does (resumes s (gx g) (Some wanted) (Some x))
+  resume script x wanted m y last a r =
+      let free : Seg = record (with_local s (gx g) (record l { suspended = None })) { locks = resumed s.locks (gx g) (Some wanted) } in
+      let run = slice-runs x.cid m (drawn-waits k p e y) (e.waits y).0 free (record { others = λ j d. ap (λ b. if b then record l { suspended = None } else s.locals j) d; local = here (record l { suspended = None }); node = refl }) (λ phase z b c d f. resume-next k p phase x.cid.0 (Some z) b e y c d last f) script x.snapshot x.slice a r in
+      held s.node wanted _ run.0 run.1
 
   unless-low : (turn : SegTurn) → Does turn → Does (unless_below s (gx g) turn)
   unless-low turn d = by_test (is_below s.horizon (gx g))
@@ -588,19 +645,27 @@ module _ (told : Message) (k : Known) (s : Seg) (i g : ℕ) (named : s.node ≡ 
       by_test true = stay
       by_test false = d
 
-  if-fit : (b : Bool) (turn : SegTurn) → Does turn → Does (if_fits s b turn)
-  if-fit true turn d = d
+  if-fit : (b : Bool) (turn : SegTurn) → (b ≡ true → Does turn) → Does (if_fits s b turn)
+  if-fit true turn d = d refl
   if-fit false turn d = stay
 
+off : (b : Bool) → not b ≡ true → b ≡ false
+off true e = absurd (cc)
+off false e = refl
+
 -- every message of the transaction
-pub handled : (script : Script) (fails : Bool) (k : Known) (s : Seg) → AreCalm s.locks → (i : ℕ) (named : s.node ≡ at i) (w : Bool) (pc lc : ℕ) (told : Message) (e : Pair k (part_of (s.locals (gxid_in told)) w pc lc)) → (is_answer told ≡ false → Said k (part_of (s.locals (gxid_in told)) w pc lc) told) → Does told k s i (gxid_in told) named w pc lc e (on_message script s fails told)
-handled script fails k s calm i named w pc lc (message.Exec g c level x h y) e st =
-    unless-low _ k s i g.0 named w pc lc e _ (if-fit _ k s i g.0 named w pc lc e (fits_exec script s g c x h y) _ (exec _ k s i g.0 named w pc lc e calm c (record { level = level; snapshot = x; horizon = h; slice = y; is = refl }) (st refl) level x h y (s.locals g.0).phase refl))
-handled script fails k s calm i named w pc lc (message.Prepare g) e st = unless-low _ k s i g.0 named w pc lc e _ (if-fit _ k s i g.0 named w pc lc e (not (is_waiting (s.locals g.0))) _ (prepare _ k s i g.0 named w pc lc e fails (s.locals g.0).phase refl refl (st refl)))
-handled script fails k s calm i named w pc lc (message.Commit g) e st = unless-low _ k s i g.0 named w pc lc e _ (if-fit _ k s i g.0 named w pc lc e (not (is_waiting (s.locals g.0))) _ (commit _ k s i g.0 named w pc lc e fails (s.locals g.0).phase refl refl (st refl)))
-handled script fails k s calm i named w pc lc (message.CommitPrepared g) e st = unless-low _ k s i g.0 named w pc lc e _ (commit-prepared _ k s i g.0 named w pc lc e fails (s.locals g.0).phase refl refl (st refl))
-handled script fails k s calm i named w pc lc (message.Abort g) e st = unless-low _ k s i g.0 named w pc lc e _ (abort _ k s i g.0 named w pc lc e (s.locals g.0).phase refl (st refl))
-handled script fails k s calm i named w pc lc (message.Forget g) e st = unless-low _ k s i g.0 named w pc lc e _ (forget _ k s i g.0 named w pc lc e (s.locals g.0).phase refl (st refl))
-handled script fails k s calm i named w pc lc (message.Answer g r) e st = stay (message.Answer g r) k s i g.0 named w pc lc e
-handled script fails k s calm i named w pc lc (message.Collect round) e st = stay (message.Collect round) k s i 0 named w pc lc e
-handled script fails k s calm i named w pc lc (message.Graph round graph) e st = stay (message.Graph round graph) k s i 0 named w pc lc e
+pub handled : (script : Script) (fails : Bool) (k : Known) (s : Seg) (i : ℕ) (named : s.node ≡ at i) (w : Bool) (pc lc : ℕ) (told : Message) (e : Pair k (part_of (s.locals (gxid_in told)) w pc lc)) → (is_answer told ≡ false → Said k (part_of (s.locals (gxid_in told)) w pc lc) told) → Does told k s i (gxid_in told) named w pc lc e (on_message script s fails told)
+handled script fails k s i named w pc lc (message.Exec g c level x h y) e st =
+    unless-low _ k s i g.0 named w pc lc e _ (if-fit _ k s i g.0 named w pc lc e (fits_exec script s g c x h y) _ (λ fit. exec _ k s i g.0 named w pc lc e script c (record { level = level; snapshot = x; horizon = h; slice = y; is = refl }) (st refl) level x h y fit (s.locals g.0).phase refl))
+handled script fails k s i named w pc lc (message.Prepare g) e st = unless-low _ k s i g.0 named w pc lc e _ (if-fit _ k s i g.0 named w pc lc e (not (is_waiting (s.locals g.0))) _ (λ fit. prepare _ k s i g.0 named w pc lc e fails (s.locals g.0).phase refl refl (st refl) (off (is_waiting (s.locals g.0)) fit)))
+handled script fails k s i named w pc lc (message.Commit g) e st = unless-low _ k s i g.0 named w pc lc e _ (if-fit _ k s i g.0 named w pc lc e (not (is_waiting (s.locals g.0))) _ (λ fit. commit _ k s i g.0 named w pc lc e fails (s.locals g.0).phase refl refl (st refl) (off (is_waiting (s.locals g.0)) fit)))
+handled script fails k s i named w pc lc (message.CommitPrepared g) e st = unless-low _ k s i g.0 named w pc lc e _ (commit-prepared _ k s i g.0 named w pc lc e fails (s.locals g.0).phase refl refl (st refl))
+handled script fails k s i named w pc lc (message.Abort g) e st = unless-low _ k s i g.0 named w pc lc e _ (abort _ k s i g.0 named w pc lc e (s.locals g.0).phase refl (st refl))
+handled script fails k s i named w pc lc (message.Forget g) e st = unless-low _ k s i g.0 named w pc lc e _ (forget _ k s i g.0 named w pc lc e (s.locals g.0).phase refl (st refl))
+handled script fails k s i named w pc lc (message.Answer g r) e st = stay (message.Answer g r) k s i g.0 named w pc lc e
+handled script fails k s i named w pc lc (message.Collect round) e st = stay (message.Collect round) k s i 0 named w pc lc e
+handled script fails k s i named w pc lc (message.Graph round graph) e st = stay (message.Graph round graph) k s i 0 named w pc lc e
+
+-- and its slice that has waited, which comes of a command that was told before
+pub went-on : (script : Script) (k : Known) (s : Seg) (i : ℕ) (named : s.node ≡ at i) (w : Bool) (pc lc : ℕ) (g h : Gxid) (x : Suspended) (wanted : Claim) (e : Pair k (part_of (s.locals g.0) w pc lc)) → is_waiting (s.locals g.0) ≡ true → (s.locals g.0).last ≡ x.cid.0 → is_some x.snapshot ≡ true → is_right_slice script g x.cid x.slice ≡ true → Does (message.Exec g x.cid x.level x.snapshot h x.slice) k s i g.0 named w pc lc e (resumes s g (Some wanted) (Some x))
+went-on script k s i named w pc lc g h x wanted e y last a r = resume _ k s i g.0 named w pc lc e script x wanted (record { level = x.level; snapshot = x.snapshot; horizon = h; slice = x.slice; is = refl }) y last a r

@@ -2,9 +2,7 @@
 use Rattle.std.proofs.Common.{◌≡◌, ◌≤◌, ◌⊎◌, inl, inr, ℕ, List, [], ◌∷◌, Option, Some, None, Bool, true, false, refl, sym, subst, ap, ◌∙◌, if◌then◌else◌, nat_lt, arith, eqb}
 use Rattle.std.proofs.lemmas.Bool.{eqb-true}
 use Rattle.std.proofs.lemmas.Bool.Decides.{nat_tests}
-use Rattle.gx_ids.specs.declared.ids.Node.{Node}
 use Rattle.gx_dtx.specs.Table.{Table}
-use Rattle.gx_msg.specs.declared.message.Envelope.{Envelope}
 use Rattle.gx_msg.specs.declared.message.Message.{Message}
 use Rattle.gx_msg.specs.declared.message.Message.TheVariants as message
 use Rattle.gx_msg.specs.declared.message.Out.{Out}
@@ -12,9 +10,8 @@ use Rattle.gx_msg.specs.declared.reply.Reply.TheVariants as reply
 use Rattle.gx_script.specs.declared.Script.{Script}
 use Rattle.gx_store.specs.declared.event.Event.{Event}
 use Rattle.gx_store.specs.declared.node.NodeEvent.{NodeEvent}
-use Rattle.gx_store.specs.declared.node.NodeEvent.TheVariants as here
-use Rattle.gx_store.specs.Messages.{Receives}
 use Rattle.gx_store.specs.Points.{marks_in}
+use Rattle.gx_store.specs.Protocol.{is_writer, local_count, prepared_count}
 use Rattle.gx_store.specs.Refusals.{the_coordinator}
 use Rattle.gx_rules.specs.AtCoordinator.{coord_can, coord_rule, on_event}
 use Rattle.gx_rules.specs.AtSegment as segment
@@ -25,11 +22,14 @@ use Rattle.gx_rules.specs.Segments.{Local, Seg, SegTurn, has_ended}
 use Rattle.gx_rules.specs.Sending.{clock_after}
 use Rattle.gx_law_order.proofs.AtCoordinators.{coord_stays}
 use Rattle.gx_law_order.proofs.Lists.{Each, each_weaker}
+use Rattle.gx_law_order.proofs.Waiting.{going-out}
 use Rattle.gx_law_order.proofs.World.{Knows}
-use Rattle.gx_law_commit.specs.Said.{Said, gxid_in, is_answer}
+use Rattle.gx_law_commit.specs.Said.{gxid_in, is_answer}
 use Rattle.gx_law_commit.specs.Standings.{at, gx, known_at}
-use Rattle.gx_law_commit.proofs.Ended.{EndsSo, IsExec, TellsEnd, ends-so}
-use Rattle.gx_law_commit.proofs.Everywhere.{Holds, does-it, parts_in, posted-each}
+use Rattle.gx_law_commit.proofs.Ended.{EndsSo, IsExec, TellsEnd}
+use Rattle.gx_law_commit.proofs.Everywhere.{Holds, part_then, parts_in, posted-each}
+use Rattle.gx_law_commit.proofs.Following.{HasReached}
+use Rattle.gx_law_commit.proofs.Handled.{Does}
 use Rattle.gx_law_commit.proofs.Held.{held_in}
 use Rattle.gx_law_commit.proofs.Holding.{HeldFor, HeldOut, Holding, IsEndedIn, OrdersHeld, SaysBy, event-holds, held-goes}
 use Rattle.gx_law_commit.proofs.Low.{plain-none}
@@ -65,7 +65,7 @@ module _ (script : Script) (some : 1 ≤ script.segments) (w : World) (n : Knows
 
   pub coord-waits : coord_can script w.coord x ≡ true → IsEndedIn (ended_at w.segs) script w.coord n.kept v.orders x → Waits next
   coord-waits ok d =
-      let f : Holding (ended_at w.segs) w.coord turn = event-holds (ended_at w.segs) script w.coord n.kept v.orders n.well.coordinator.locks x fails ok d in
+      let f : Holding (ended_at w.segs) w.coord turn = event-holds (ended_at w.segs) script w.coord n.kept v.orders (going-out script w n) x fails ok d in
       record {
         orders = f.orders;
         locals = λ i g a b. either i g b (f.table i g (v.locals i g a b));
@@ -128,27 +128,24 @@ tells-held : (k : Rattle.gx_law_commit.specs.Standings.Known) (q : Rattle.gx_law
 tells-held k q i g marks E d j (message.Exec h c level x y z) e = absurd e
 tells-held k q i g marks E d j m e = tt
 
-module _ (script : Script) (w : World) (n : Knows script w) (v : Holds script w) (u : Waits w) (e : Event) (fails : Bool) (i : ℕ) (from : Node) (envelope : Envelope) (received : Receives w.steps e the_coordinator (at i) envelope.message) (said : is_answer envelope.message ≡ false → Said (known_at w.coord (marks_in w.steps) i (gxid_in envelope.message)) (parts_in w i (gxid_in envelope.message)) envelope.message) (held : HeldFor (ended_at w.segs) w.coord.table i envelope.message) where
+module _ (script : Script) (w : World) (n : Knows script w) (v : Holds script w) (u : Waits w) (e : Event) (x : NodeEvent) (fails : Bool) (i : ℕ) (msg : Message) (reached : HasReached w.steps e i msg) (does : Does msg (known_at w.coord (marks_in w.steps) i (gxid_in msg)) (w.segs i) i (gxid_in msg) (n.well.names i) (is_writer (marks_in w.steps) (gx (gxid_in msg)) (at i)) (prepared_count (marks_in w.steps) (at i) (gx (gxid_in msg))) (local_count (marks_in w.steps) (at i) (gx (gxid_in msg))) (v.stands.pairs i (gxid_in msg)) (segment.on_event script (w.segs i) x fails)) (so : EndsSo script msg (w.segs i) (gxid_in msg) (parts_in w i (gxid_in msg)).wrote (v.stands.pairs i (gxid_in msg)).vote (v.stands.pairs i (gxid_in msg)).kept (segment.on_event script (w.segs i) x fails)) (held : HeldFor (ended_at w.segs) w.coord.table i msg) where
   abbrev g : ℕ
-  g = gxid_in envelope.message
+  g = gxid_in msg
 
   abbrev s : Seg
   s = w.segs i
 
   abbrev seg_turn : SegTurn
-  seg_turn = segment.on_event script s (here.Deliver from envelope) fails
+  seg_turn = segment.on_event script s x fails
 
   abbrev seg_now : Seg
-  seg_now = (seg_rule script s (here.Deliver from envelope) fails).seg
+  seg_now = (seg_rule script s x fails).seg
 
   abbrev seg_next : World
-  seg_next = seg_did w (at i) e (seg_rule script s (here.Deliver from envelope) fails)
-
-  so : EndsSo script envelope.message s g (parts_in w i g).wrote (v.stands.pairs i g).vote (v.stands.pairs i g).kept seg_turn
-  so = ends-so script fails s envelope.message (parts_in w i g).wrote (v.stands.pairs i g).vote (v.stands.pairs i g).kept
+  seg_next = seg_did w (at i) e (seg_rule script s x fails)
 
   other-locals : (h : ℕ) → eqb h g ≡ false → seg_now.locals h ≡ s.locals h
-  other-locals h q = (does-it script w n v e fails i from envelope received said).others h q
+  other-locals h q = does.others h q
 
   self-test : (a : ℕ) → eqb a a ≡ true
   self-test a = grind (arith, nat_tests)
@@ -165,7 +162,7 @@ module _ (script : Script) (w : World) (n : Knows script w) (v : Holds script w)
       by_seg false y = q
 
   abbrev IsHeldThere : Seg → ℕ → ℕ → Type 0
-  IsHeldThere x j h = nat_lt 0 (x.locals h).last ≡ true → has_ended (x.locals h).phase ≡ false → held_in w.coord.table j h ≡ true
+  IsHeldThere t j h = nat_lt 0 (t.locals h).last ≡ true → has_ended (t.locals h).phase ≡ false → held_in w.coord.table j h ≡ true
 
   held-here : IsHeldThere seg_now i g
   held-here a b = by_last (so.last a)
@@ -181,9 +178,9 @@ module _ (script : Script) (w : World) (n : Knows script w) (v : Holds script w)
       by_exec o (inl z) = z
       by_exec o (inr z) = absurd (clash (ended_at w.segs i g) z o)
 
-      by_last : (nat_lt 0 (s.locals g).last ≡ true) ⊎ ((has_ended (s.locals g).phase ≡ false) × IsExec envelope.message) → held_in w.coord.table i g ≡ true
+      by_last : (nat_lt 0 (s.locals g).last ≡ true) ⊎ ((has_ended (s.locals g).phase ≡ false) × IsExec msg) → held_in w.coord.table i g ≡ true
       by_last (inl z) = u.locals i g z (false-of (has_ended (s.locals g).phase) not-before)
-      by_last (inr z) = by_exec z.0 (exec-held (ended_at w.segs) w.coord.table i envelope.message z.1 held)
+      by_last (inr z) = by_exec z.0 (exec-held (ended_at w.segs) w.coord.table i msg z.1 held)
 
   held-next : (j h : ℕ) → IsHeldThere (seg_next.segs j) j h
   held-next j h = by_seg (eqb j i) refl
@@ -219,12 +216,11 @@ module _ (script : Script) (w : World) (n : Knows script w) (v : Holds script w)
 
   pub seg-waits : Waits seg_next
   seg-waits =
-      let d = does-it script w n v e fails i from envelope received said in
       record {
         orders = λ h. more-orders (w.coord.works h).command (u.orders h);
         locals = held-next;
-        sent = posted-each (LetterHeld seg_next) (at i) (clock_after s.clock (here.Deliver from envelope)) seg_turn.marks (λ node. seg_turn.seg.sent) seg_turn.outs w.sent (Rattle.gx_law_commit.proofs.Everywhere.follows-no-sent envelope.message (known_at w.coord (marks_in w.steps) i g) i g seg_turn.marks d.marks)
-            (new-letters seg_turn.outs d.outs so.outs)
+        sent = posted-each (LetterHeld seg_next) (at i) (clock_after s.clock x) seg_turn.marks (λ node. seg_turn.seg.sent) seg_turn.outs w.sent (Rattle.gx_law_commit.proofs.Everywhere.follows-no-sent msg (known_at w.coord (marks_in w.steps) i g) i g seg_turn.marks does.marks)
+            (new-letters seg_turn.outs does.outs so.outs)
             (each_weaker (LetterHeld w) (LetterHeld seg_next) (λ l h. record { held = held-more (ended_at w.segs) (ended_at seg_next.segs) w.coord.table l.to.0 l.envelope.message ended-more h.held; told = λ z. told-more w.segs seg_next.segs l.from.0 l.envelope.message ended-more (h.told z) }) w.sent u.sent);
       }
     where
@@ -232,7 +228,7 @@ module _ (script : Script) (w : World) (n : Knows script w) (v : Holds script w)
       more-orders None h = tt
       more-orders (Some k) h = each_weaker (HeldOut (ended_at w.segs) w.coord.table) (HeldOut (ended_at seg_next.segs) w.coord.table) (λ o q. held-more (ended_at w.segs) (ended_at seg_next.segs) w.coord.table o.node.0 o.message ended-more q) k.orders h
 
-      new-letters : (outs : List Out) → Each (λ (o : Out). Rattle.gx_law_commit.proofs.Handled.Tells (known_at w.coord (marks_in w.steps) i g) (Rattle.gx_law_commit.proofs.Everywhere.new_part script w n v e fails i from envelope received said) i g seg_turn.marks o.message) outs → Each (λ (o : Out). TellsEnd (seg_turn.seg.locals g).phase o.message) outs → Each (λ (o : Out). (number : ℕ) → LetterHeld seg_next (record { from = at i; to = o.node; envelope = record { number = number; clock = clock_after s.clock (here.Deliver from envelope); message = o.message } })) outs
+      new-letters : (outs : List Out) → Each (λ (o : Out). Rattle.gx_law_commit.proofs.Handled.Tells (known_at w.coord (marks_in w.steps) i g) (part_then script w n v e x fails i msg reached does) i g seg_turn.marks o.message) outs → Each (λ (o : Out). TellsEnd (seg_turn.seg.locals g).phase o.message) outs → Each (λ (o : Out). (number : ℕ) → LetterHeld seg_next (record { from = at i; to = o.node; envelope = record { number = number; clock = clock_after s.clock x; message = o.message } })) outs
       new-letters [] a b = tt
       new-letters (o ∷ outs) a b = (
         λ number. record { held = tells-held _ _ i g seg_turn.marks (ended_at seg_next.segs) w.coord.table o.node.0 o.message a.0; told = λ z. told-next o.message (λ q. (Rattle.gx_law_commit.proofs.Everywhere.told-answer _ _ i g seg_turn.marks o.message a.0).1) b.0 },

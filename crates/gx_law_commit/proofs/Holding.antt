@@ -44,7 +44,7 @@ use Rattle.gx_store.specs.declared.node.NodeEvent.{NodeEvent}
 use Rattle.gx_store.specs.declared.node.NodeEvent.TheVariants as event
 use Rattle.gx_store.specs.Writes.{dist_of}
 use Rattle.gx_store.specs.declared.answer.StmtAnswer.TheVariants as told
-use Rattle.gx_rules.specs.AtCoordinator.{Reading, answers, awaited, begins, behind, command_order, commits, completes, coord_can, dispatches, ends_in, enlisted_all, fault_mark, follows, goes, goes_on, is_awaited, is_committed as is_closed, is_idle, is_nothing, is_refused, kept_at, next_cid, next_line, nodes_in, on_answer, on_done, on_event, on_failed, on_line, on_message, on_status, order_to, orders_of, reads_by, reads_for, reason_of, refusal_of, resends, rolls_back, starts, starts_line, status_order, table_of, takes_done, takes_snapshot, unless_kept, with_done, writers_with, goes_on_locked, if_granted, lock_for, requests, answer_mark}
+use Rattle.gx_rules.specs.AtCoordinator.{Reading, answers, awaited, begins, behind, command_order, commits, completes, coord_can, dispatches, ends_in, enlisted_all, fault_mark, follows, goes, goes_on, is_awaited, is_committed as is_closed, is_idle, is_nothing, is_refused, kept_at, next_cid, next_line, nodes_in, on_answer, on_done, on_event, on_failed, on_line, on_message, on_status, order_to, orders_of, reads_by, reads_for, reason_of, refusal_of, resends, resumes, rolls_back, starts, starts_line, status_order, table_of, takes_done, takes_snapshot, unless_kept, with_done, writers_with, goes_on_locked, if_granted, lock_for, requests, answer_mark}
 use Rattle.gx_rules.specs.Coordinators.{Command, Coord, CoordTurn, Session, Work, new_work, no_work, rests, session_of, with_session, with_state, with_work, work_of}
 use Rattle.gx_rules.specs.Fits.{fits_part}
 use Rattle.gx_rules.specs.Maps.{with_at}
@@ -57,15 +57,15 @@ use Rattle.gx_law_order.proofs.Sessions.{Kept, is_nothing_in}
 use Rattle.gx_law_order.proofs.Stages.{IsWhole, txn-at}
 use Rattle.gx_law_commit.specs.Standings.{at, gx}
 use Rattle.gx_law_commit.proofs.Calls.{self}
-use Rattle.gx_law_commit.proofs.Dispatching.{IsLive, each-unmap}
+use Rattle.gx_law_commit.proofs.Dispatching.{IsLive, each-unmap, goes-out-is}
 use Rattle.gx_law_commit.proofs.Events.{live-stage}
 use Rattle.gx_law_commit.proofs.Held.{ChangeHeld, GoesOn, SaysEnded, abort-held, begun-held, changed-held, commit-held, held_in, is_awaited_at, is_held, live-held, one-held, reply-held}
 use Rattle.gx_law_commit.proofs.Lowered.{NoExec, NoneOf, abort-none, commit-none, reply-none}
 use Rattle.gx_law_commit.proofs.Nodes.{each-has, has-with}
-use Rattle.gx_locks.specs.Locks.{is_free, is_ready, wait_of}
+use Rattle.gx_locks.specs.Locks.{is_free, resumed, wait_of}
 use Rattle.gx_rules.specs.Locks.{with_hold}
 use Rattle.gx_waits.specs.declared.claim.Claim.{Claim}
-use Rattle.gx_law_order.proofs.Calm.{AreCalm, nobody-ready}
+use Rattle.gx_law_order.proofs.Waiting.{GoesOut}
 
 module _ (E : ℕ → ℕ → Bool) where
   -- a command is for a segment that is waited for
@@ -437,14 +437,18 @@ module _ (E : ℕ → ℕ → Bool) where
         plain : (q : Rattle.gx_script.specs.declared.state.Pending.Pending) → is_nothing q ≡ true → is_nothing_in q ≡ true
         plain q e = grind arith
 
-    pub event-holds : AreCalm c.locks → (x : NodeEvent) (fails : Bool) → coord_can script c x ≡ true → IsEndedIn x → Holding c (on_event script c x fails)
-    event-holds calm (event.Deliver from envelope) fails e d = message-holds c k.whole ol from fails envelope.message d
-    event-holds calm (event.Start s) fails e d = start-holds s (idle-first s _ e) (next_line script c s)
-    event-holds calm (event.End s) fails e d = end-holds s (session_of c s).state.block
-    event-holds calm (event.Resend i (Some g)) fails e d = again-holds c k.whole ol i (awaited c g i) (command-any c k.whole ol i (work_of c g).command _ (ol g.0) (status-any c k.whole ol i.0 g (awaited_order c.table g i)))
-    event-holds calm (event.Resend i None) fails e d = rest-holds c k.whole ol
-    event-holds calm (event.Resume g) fails e d = absurd (clash (is_ready c.locks.holds (wait_of c.locks g)) e (nobody-ready c.locks g calm))
+    pub event-holds : ((g : Gxid) → coord_can script c (event.Resume g) ≡ true → GoesOut c g) → (x : NodeEvent) (fails : Bool) → coord_can script c x ≡ true → IsEndedIn x → Holding c (on_event script c x fails)
+    event-holds out (event.Deliver from envelope) fails e d = message-holds c k.whole ol from fails envelope.message d
+    event-holds out (event.Start s) fails e d = start-holds s (idle-first s _ e) (next_line script c s)
+    event-holds out (event.End s) fails e d = end-holds s (session_of c s).state.block
+    event-holds out (event.Resend i (Some g)) fails e d = again-holds c k.whole ol i (awaited c g i) (command-any c k.whole ol i (work_of c g).command _ (ol g.0) (status-any c k.whole ol i.0 g (awaited_order c.table g i)))
+    event-holds out (event.Resend i None) fails e d = rest-holds c k.whole ol
+    event-holds out (event.Resume g) fails e d = resumed-holds (out g e)
       where
-        clash : (q : Bool) → q ≡ true → q ≡ false → ⊥
-        clash q e f = grind arith
-    event-holds calm event.Round fails e d = rest-holds c k.whole ol
+        resumed-holds : GoesOut c g → Holding c (resumes script c g (wait_of c.locks g) (work_of c g).waiting)
+        resumed-holds o =
+            let free : Coord = with_work (record c { locks = resumed c.locks g (Some o.wanted) }) g (record (work_of c g) { waiting = None }) in
+            let live = live-stage c g.0 o.live in
+            let x = locked-holds free k.whole (work-at c.table c.works g.0 (record (work_of c g) { waiting = None }) ol (ol g.0)) g.0 (record { txn = live.txn; found = live.found; active = live.active }) script o.line in
+            subst (Holding c) (goes-out-is script c g o.wanted o.line o.claims o.is) (record { table = x.table; orders = x.orders; outs = x.outs })
+    event-holds out event.Round fails e d = rest-holds c k.whole ol

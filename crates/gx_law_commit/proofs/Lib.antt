@@ -27,3 +27,4 @@ pub mod Holding
 pub mod Ended
 pub mod Holders
 pub mod Above
+pub mod Waiting

@@ -3,6 +3,7 @@ use Rattle.std.proofs.Common.{◌≡◌, ◌≤◌, inl, inr, ℕ, List, [], ◌
 use Rattle.std.proofs.lemmas.Bool.Decides.{nat_tests}
 use Rattle.gx_ids.specs.declared.ids.Node.{Node}
 use Rattle.gx_dtx.specs.Table.{Table}
+use Rattle.gx_locks.specs.Locks.{wait_of}
 use Rattle.gx_msg.specs.declared.message.Envelope.{Envelope}
 use Rattle.gx_msg.specs.declared.message.Message.{Message}
 use Rattle.gx_msg.specs.declared.message.Message.TheVariants as message
@@ -23,13 +24,13 @@ use Rattle.gx_rules.specs.AtSegment as segment
 use Rattle.gx_rules.specs.AtSegment.{seg_rule}
 use Rattle.gx_rules.specs.Coordinators.{CoordTurn}
 use Rattle.gx_rules.specs.Machine.{Letter, World, after, at_node, can, coord_did, delivered, does, found, happens, new_world, node_of, seg_did, world_of, can_here, seg_can}
-use Rattle.gx_rules.specs.Segments.{SegTurn}
+use Rattle.gx_rules.specs.Segments.{SegTurn, local_of}
 use Rattle.gx_rules.specs.Sending.{clock_after}
-use Rattle.gx_law_order.proofs.CalmSegs.{nobody-goes-on}
 use Rattle.gx_law_order.proofs.AtCoordinators.{coord_stays}
 use Rattle.gx_law_order.proofs.AtSegments.{PlainAt, seg_stays}
 use Rattle.gx_law_order.proofs.Letters.{IsFound, IsLetter, found_is}
 use Rattle.gx_law_order.proofs.Lists.{Each, each_weaker}
+use Rattle.gx_law_order.proofs.Ordered.{resumes_there}
 use Rattle.gx_law_order.proofs.World.{Knows, happens_knows, new_knows}
 use Rattle.gx_law_commit.specs.Horizons.{AreHorizonsLow, AreLowIn, IsLow, IsLowIn}
 use Rattle.gx_law_commit.specs.Said.{is_answer}
@@ -38,7 +39,7 @@ use Rattle.gx_law_commit.proofs.Counts.{NoSent}
 use Rattle.gx_law_commit.proofs.Everywhere.{posted-each}
 use Rattle.gx_law_commit.proofs.Lowered.{Lowered, OrdersLow, event-low, message-goes}
 use Rattle.gx_law_commit.proofs.Lows.{past-dense}
-use Rattle.gx_law_commit.proofs.Raised.{OfHorizon, SegKeeps, message_keeps}
+use Rattle.gx_law_commit.proofs.Raised.{OfHorizon, SegKeeps, message_keeps, resume_keeps}
 use Rattle.gx_ids.specs.declared.ids.Gxid.{Gxid}
 
 abbrev IsLowLetter : Table → Letter → Type 0
@@ -91,24 +92,23 @@ of-horizon d (message.Collect round) l = tt
 of-horizon d (message.Answer g r) l = tt
 of-horizon d (message.Graph round graph) l = tt
 
-module _ (script : Script) (w : World) (l : Low w) (e : Event) (fails : Bool) (i : Node) (from : Node) (envelope : Envelope) (low : IsLowIn w.coord.table envelope.message) where
+module _ (script : Script) (w : World) (l : Low w) (e : Event) (x : NodeEvent) (fails : Bool) (i : Node) (k : SegKeeps script (w.segs i.0) (λ h. IsLow h.0 w.coord.table) (l.segs i.0) (segment.on_event script (w.segs i.0) x fails)) where
   abbrev seg_turn : SegTurn
-  seg_turn = segment.on_event script (w.segs i.0) (here.Deliver from envelope) fails
+  seg_turn = segment.on_event script (w.segs i.0) x fails
 
   abbrev seg_next : World
-  seg_next = seg_did w i e (seg_rule script (w.segs i.0) (here.Deliver from envelope) fails)
+  seg_next = seg_did w i e (seg_rule script (w.segs i.0) x fails)
 
   seg-low : Each (NoSent) seg_turn.marks → Low seg_next
   seg-low none =
-      let k : SegKeeps script (w.segs i.0) (λ h. IsLow h.0 w.coord.table) (l.segs i.0) seg_turn = message_keeps script (w.segs i.0) (λ h. IsLow h.0 w.coord.table) (l.segs i.0) fails envelope.message (of-horizon w.coord.table envelope.message low) in
       record {
         orders = l.orders;
         segs = λ j. by_test j (eqb j i.0) k.horizon;
-        sent = posted-each (IsLowLetter w.coord.table) i (clock_after (w.segs i.0).clock (here.Deliver from envelope)) seg_turn.marks (λ node. seg_turn.seg.sent) seg_turn.outs w.sent none
+        sent = posted-each (IsLowLetter w.coord.table) i (clock_after (w.segs i.0).clock x) seg_turn.marks (λ node. seg_turn.seg.sent) seg_turn.outs w.sent none
             (each_weaker (λ (o : Out). is_answer o.message ≡ true) _ (λ o q number. answer-low w.coord.table o.message q) seg_turn.outs k.outs) l.sent;
       }
     where
-      by_test : (j : ℕ) (b : Bool) → IsLow seg_turn.seg.horizon.0 w.coord.table → IsLow (if b then (seg_rule script (w.segs i.0) (here.Deliver from envelope) fails).seg else w.segs j).horizon.0 w.coord.table
+      by_test : (j : ℕ) (b : Bool) → IsLow seg_turn.seg.horizon.0 w.coord.table → IsLow (if b then (seg_rule script (w.segs i.0) x fails).seg else w.segs j).horizon.0 w.coord.table
       by_test j true q = q
       by_test j false q = l.segs j
 
@@ -143,14 +143,13 @@ module _ (script : Script) (some : 1 ≤ script.segments) where
       by_test : (b : Bool) → is_same_node to the_coordinator ≡ b → Low (if b then coord_did w e (coord_rule script w.coord x fails) else seg_did w to e (seg_rule script (w.segs to.0) x fails))
       by_test true is = coord-any w k l e x fails
       by_test false is =
-          seg-low script w l e fails to from envelope (subst (λ (q : Envelope). IsLowIn w.coord.table q.message) d.told d.is.1)
+          seg-low script w l e x fails to (message_keeps script (w.segs to.0) (λ h. IsLow h.0 w.coord.table) (l.segs to.0) fails envelope.message (of-horizon w.coord.table envelope.message (subst (λ (q : Envelope). IsLowIn w.coord.table q.message) d.told d.is.1)))
           (plain-none script (w.segs to.0).node (segment.on_event script (w.segs to.0) x fails).marks (seg_stays script (w.segs to.0) (subst (IsSegment script) (sym (k.well.names to.0)) (place is d.is.0.link)) x fails).marks)
 
   arrives : (w : World) (from to : Node) (number : ℕ) (fails : Bool) (o : Option Envelope) → found from to number w.sent ≡ o → Knows script w → Low w → Low (does script w (event.Receive from to number) to fails (delivered from o))
   arrives w from to number fails None e k l = l
   arrives w from to number fails (Some envelope) e k l = received w from to number envelope fails k l (found_is (λ (y : Letter). IsLetter script w.steps y × IsLowLetter w.coord.table y) from to number w.sent envelope (each-zip (IsLetter script w.steps) (IsLowLetter w.coord.table) w.sent k.well.letters l.sent) e)
 
-  -- nobody goes on at a segment yet
   resumed : (w : World) (n : Node) (g : Gxid) (fails : Bool) → Knows script w → Low w → can_here script w n (Some (here.Resume g)) ≡ true → Low (does script w (event.Resume n g) n fails (Some (here.Resume g)))
   resumed w n g fails k l ok = by_test (is_same_node n the_coordinator) refl ok
     where
@@ -162,7 +161,9 @@ module _ (script : Script) (some : 1 ≤ script.segments) where
 
       by_test : (b : Bool) → is_same_node n the_coordinator ≡ b → (if b then coord_can script w.coord x else seg_can script (w.segs n.0) x) ≡ true → Low (if b then coord_did w e (coord_rule script w.coord x fails) else seg_did w n e (seg_rule script (w.segs n.0) x fails))
       by_test true is ok = coord-any w k l e x fails
-      by_test false is ok = absurd (nobody-goes-on script (w.segs n.0) g (k.well.calm n.0) ok)
+      by_test false is ok =
+          seg-low script w l e x fails n (resume_keeps script (w.segs n.0) (λ h. IsLow h.0 w.coord.table) (l.segs n.0) g (wait_of (w.segs n.0).locks g) (local_of (w.segs n.0) g).suspended)
+          (plain-none script (w.segs n.0).node (segment.on_event script (w.segs n.0) x fails).marks (seg_stays script (w.segs n.0) (subst (IsSegment script) (sym (k.well.names n.0)) (resumes_there script some w n g k.well ok)) x fails).marks)
 
   event-any : (w : World) (e : Event) (fails : Bool) → Knows script w → Low w → can script w e ≡ true → Low (does script w e (node_of e) fails (at_node w e))
   event-any w (event.Receive from to number) fails k l ok = arrives w from to number fails (found from to number w.sent) refl k l

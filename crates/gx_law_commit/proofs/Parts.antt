@@ -1,5 +1,5 @@
 -- How a segment's part of a transaction may change, and what stays said of it.
-use Rattle.std.proofs.Common.{◌≡◌, ◌⊎◌, inl, inr, ◌≤◌, ◌<◌, ℕ, ◌+◌, Option, Some, None, Bool, true, false, refl, ◌||◌, arith}
+use Rattle.std.proofs.Common.{◌≡◌, ◌⊎◌, inl, inr, ◌≤◌, ◌<◌, ℕ, ◌+◌, Option, Some, None, Bool, true, false, refl, sym, ap, ◌∙◌, ◌||◌, arith}
 use Rattle.std.proofs.lemmas.Bool.Decides.{nat_tests}
 use Rattle.gx_msg.specs.declared.message.Message.{Message}
 use Rattle.gx_msg.specs.declared.message.Message.TheVariants as message
@@ -12,11 +12,12 @@ use Rattle.gx_rules.specs.Slices.{has_written}
 use Rattle.gx_law_commit.specs.Pairs.{IsKept, IsVote, Pair, bit, is_open}
 use Rattle.gx_law_commit.specs.Said.{Answers, IsCommand, IsDone, Said}
 use Rattle.gx_law_commit.specs.Standings.{Known, Part, Standing, is_closing}
-use Rattle.gx_law_commit.specs.Standings.Standing.{Preparing, One, Two, Over}
+use Rattle.gx_law_commit.specs.Standings.Standing.{Unborn, Live, Preparing, One, Two, Over}
 
 pub record Grows (p q : Part) : Type 0 where
   pub last : p.last ≤ q.last
-  pub wrote : q.last ≡ p.last → q.wrote ≡ p.wrote
+  pub wrote : q.last ≡ p.last → p.waits ≡ false → q.wrote ≡ p.wrote
+  pub waits : q.last ≡ p.last → p.waits ≡ false → q.waits ≡ false
   pub writes : p.wrote ≡ true → q.wrote ≡ true
   pub prepared : was_prepared p.vote ≡ true → was_prepared q.vote ≡ true
   pub refused : p.vote ≡ Some reply.Jfault → q.vote ≡ Some reply.Jfault
@@ -24,19 +25,22 @@ pub record Grows (p q : Part) : Type 0 where
   pub committed : has_committed p.phase ≡ true → has_committed q.phase ≡ true
 
 pub grows-same : (p : Part) → Grows p p
-grows-same p = record { last = le-refl p.last; wrote = λ e. refl; writes = λ e. e; prepared = λ e. e; refused = λ e. e; asked = λ e. e; committed = λ e. e }
+grows-same p = record { last = le-refl p.last; wrote = λ e n. refl; waits = λ e n. n; writes = λ e. e; prepared = λ e. e; refused = λ e. e; asked = λ e. e; committed = λ e. e }
   where
     le-refl : (a : ℕ) → a ≤ a
     le-refl a = omega arith
 
 done-grows : (k : Known) (p q : Part) (c : ℕ) (w : Bool) → Grows p q → Pair k q → IsDone k p c w → IsDone k q c w
-done-grows k p q c w g e d = record { drawn = d.drawn; last = d.last; same = λ l h. both (d.same l h) (g.last) (e.live l).2 g.wrote h }
+done-grows k p q c w g e d = record { drawn = d.drawn; last = d.last; same = λ l h. both (d.same l h) g.last (e.live l).2 h }
   where
-    both : (p.last ≡ c) × (w ≡ p.wrote) → p.last ≤ q.last → q.last ≤ k.last → (q.last ≡ p.last → q.wrote ≡ p.wrote) → c ≡ k.last → (q.last ≡ c) × (w ≡ q.wrote)
-    both a b d f h = grind (arith, nat_tests)
+    both : (p.last ≡ c) × (w ≡ p.wrote) × (p.waits ≡ false) → p.last ≤ q.last → q.last ≤ k.last → c ≡ k.last → (q.last ≡ c) × (w ≡ q.wrote) × (q.waits ≡ false)
+    both a b d h = let n = same p.last q.last c k.last a.0 b d h in (n ∙ a.0, a.1 ∙ sym (g.wrote n a.2), g.waits n a.2)
+      where
+        same : (a b c d : ℕ) → a ≡ c → a ≤ b → b ≤ d → c ≡ d → b ≡ a
+        same a b c d x y z u = omega arith
 
 command-grows : (k : Known) (p q : Part) (c : ℕ) → Grows p q → IsCommand k p c → IsCommand k q c
-command-grows k p q c g d = record { drawn = d.drawn; last = d.last; taken = λ l n. up (d.taken l n) g.last; older = λ l n. up (d.older l n) g.last; closed = λ l. up (d.closed l) g.last }
+command-grows k p q c g d = record { drawn = d.drawn; last = d.last; taken = λ l n. up (d.taken l n) g.last; older = λ l n. up (d.older l n) g.last; closed = λ l. up (d.closed l) g.last; over = λ l n. up (d.over l n) g.last }
   where
     up : {a b c : ℕ} → a ≤ b → b ≤ c → a ≤ c
     up x y = omega arith
@@ -72,12 +76,19 @@ pub record Next (k : Known) (p q : Part) : Type 0 where
   pub pair : Pair k q
   pub grows : Grows p q
 
+-- no slice of it waits
+pub quiet-waits : {A : Type 0} (b : Bool) → b ≡ false → b ≡ true → A
+quiet-waits b e f = absurd (clash b e f)
+  where
+    clash : (b : Bool) → b ≡ false → b ≡ true → ⊥
+    clash b e f = grind arith
+
 -- a promise
 abbrev pub promising : Part → Part
 promising p = record p { phase = Prepared; vote = Some reply.Prepared; promises = p.promises + 1 }
 
-pub promise-next : (k : Known) (p : Part) → Pair k p → p.vote ≡ None → is_open p.phase ≡ true → (k.at ≡ Preparing true) ⊎ (k.aborted ≡ true) → Next k p (promising p)
-promise-next k p e v o s =
+pub promise-next : (k : Known) (p : Part) → Pair k p → p.vote ≡ None → is_open p.phase ≡ true → p.waits ≡ false → (k.at ≡ Preparing true) ⊎ (k.aborted ≡ true) → Next k p (promising p)
+promise-next k p e v o y s =
     record {
       pair = record {
         promised = grind (arith, nat_tests);
@@ -87,6 +98,8 @@ promise-next k p e v o s =
         prepared = λ x. refl;
         kept = e.kept;
         vote = tt;
+        waits = λ x. quiet-waits p.waits y x;
+        awaited = λ x z. quiet-waits p.waits y z;
         aborts = e.aborts;
         ends = e.ends;
         either = e.either;
@@ -101,7 +114,7 @@ promise-next k p e v o s =
         alone = λ b x. grind (arith, nat_tests);
         both = λ b x. grind (arith, nat_tests);
       };
-      grows = record { last = grind (arith, nat_tests); wrote = λ x. refl; writes = λ x. x; prepared = λ x. refl; refused = λ x. grind (arith, nat_tests); asked = λ x. grind (arith, nat_tests); committed = λ x. grind (arith, nat_tests) };
+      grows = record { last = grind (arith, nat_tests); wrote = λ x n. refl; waits = λ x n. n; writes = λ x. x; prepared = λ x. refl; refused = λ x. grind (arith, nat_tests); asked = λ x. grind (arith, nat_tests); committed = λ x. grind (arith, nat_tests) };
     }
 
 -- a journal that fails
@@ -119,6 +132,8 @@ refuse-next k p e v o s =
         prepared = λ x. grind (arith, nat_tests);
         kept = e.kept;
         vote = grind (arith, nat_tests);
+        waits = e.waits;
+        awaited = e.awaited;
         aborts = e.aborts;
         ends = e.ends;
         either = e.either;
@@ -133,15 +148,15 @@ refuse-next k p e v o s =
         alone = λ b x. grind (arith, nat_tests);
         both = λ b x. grind (arith, nat_tests);
       };
-      grows = record { last = grind (arith, nat_tests); wrote = λ x. refl; writes = λ x. x; prepared = λ x. grind (arith, nat_tests); refused = λ x. refl; asked = λ x. grind (arith, nat_tests); committed = λ x. x };
+      grows = record { last = grind (arith, nat_tests); wrote = λ x n. refl; waits = λ x n. n; writes = λ x. x; prepared = λ x. grind (arith, nat_tests); refused = λ x. refl; asked = λ x. grind (arith, nat_tests); committed = λ x. x };
     }
 
 -- a commit in one phase
 abbrev pub committing : Part → Part
 committing p = record p { phase = Committed; vote = Some reply.Committed; commits = p.commits + 1 }
 
-pub commit-next : (k : Known) (p : Part) → Pair k p → p.vote ≡ None → is_open p.phase ≡ true → k.at ≡ One true → Next k p (committing p)
-commit-next k p e v o s =
+pub commit-next : (k : Known) (p : Part) → Pair k p → p.vote ≡ None → is_open p.phase ≡ true → p.waits ≡ false → k.at ≡ One true → Next k p (committing p)
+commit-next k p e v o y s =
     record {
       pair = record {
         promised = grind (arith, nat_tests);
@@ -151,6 +166,8 @@ commit-next k p e v o s =
         prepared = λ x. grind (arith, nat_tests);
         kept = e.kept;
         vote = refl;
+        waits = λ x. quiet-waits p.waits y x;
+        awaited = λ x z. quiet-waits p.waits y z;
         aborts = e.aborts;
         ends = e.ends;
         either = e.either;
@@ -165,7 +182,7 @@ commit-next k p e v o s =
         alone = λ b x. grind (arith, nat_tests);
         both = λ b x. grind (arith, nat_tests);
       };
-      grows = record { last = grind (arith, nat_tests); wrote = λ x. refl; writes = λ x. x; prepared = λ x. grind (arith, nat_tests); refused = λ x. grind (arith, nat_tests); asked = λ x. grind (arith, nat_tests); committed = λ x. refl };
+      grows = record { last = grind (arith, nat_tests); wrote = λ x n. refl; waits = λ x n. n; writes = λ x. x; prepared = λ x. grind (arith, nat_tests); refused = λ x. grind (arith, nat_tests); asked = λ x. grind (arith, nat_tests); committed = λ x. refl };
     }
 
 -- a commit as promised
@@ -183,6 +200,8 @@ finish-next k p e v s =
         prepared = λ x. grind (arith, nat_tests);
         kept = e.kept;
         vote = finished p.vote (e.prepared v);
+        waits = λ x. absurd (shut p.phase v (e.waits x).0);
+        awaited = e.awaited;
         aborts = e.aborts;
         ends = e.ends;
         either = e.either;
@@ -197,15 +216,18 @@ finish-next k p e v s =
         alone = λ b x. grind (arith, nat_tests);
         both = λ b x. grind (arith, nat_tests);
       };
-      grows = record { last = grind (arith, nat_tests); wrote = λ x. refl; writes = λ x. x; prepared = λ x. x; refused = λ x. x; asked = λ x. x; committed = λ x. refl };
+      grows = record { last = grind (arith, nat_tests); wrote = λ x n. refl; waits = λ x n. n; writes = λ x. x; prepared = λ x. x; refused = λ x. x; asked = λ x. x; committed = λ x. refl };
     }
   where
+    shut : (a : Phase) → a ≡ Prepared → is_open a ≡ true → ⊥
+    shut a x y = grind (arith, nat_tests)
+
     finished : (v : Option Reply) → was_prepared v ≡ true → IsVote Committed v
     finished v e = grind (arith, nat_tests)
 
--- an end: forgotten, or aborted without a commit
+-- an end: forgotten, or aborted without a commit; a slice that waits is dropped
 abbrev pub ending : Phase → Part → Part
-ending phase p = record p { phase = phase }
+ending phase p = record p { phase = phase; waits = false }
 
 vote-same : (a b : Phase) (v : Option Reply) → has_committed b ≡ has_committed a → IsVote a v → IsVote b v
 vote-same a b v e w = grind (arith, nat_tests)
@@ -221,6 +243,8 @@ end-next k p phase e o n c s =
         prepared = λ x. absurd (n x);
         kept = e.kept;
         vote = vote-same p.phase phase p.vote c e.vote;
+        waits = λ x. absurd (cc);
+        awaited = λ x z. absurd (cc);
         aborts = e.aborts;
         ends = e.ends;
         either = e.either;
@@ -235,12 +259,12 @@ end-next k p phase e o n c s =
         alone = λ b x. grind (arith, nat_tests);
         both = λ b x. grind (arith, nat_tests);
       };
-      grows = record { last = grind (arith, nat_tests); wrote = λ x. refl; writes = λ x. x; prepared = λ x. x; refused = λ x. x; asked = λ x. x; committed = λ x. grind (arith, nat_tests) };
+      grows = record { last = grind (arith, nat_tests); wrote = λ x n. refl; waits = λ x n. refl; writes = λ x. x; prepared = λ x. x; refused = λ x. x; asked = λ x. x; committed = λ x. grind (arith, nat_tests) };
     }
 
 -- a command
 abbrev pub running : Phase → ℕ → Option Reply → Bool → Part → Part
-running phase c r w p = record p { phase = phase; last = c; answer = r; wrote = p.wrote || w }
+running phase c r w p = record p { phase = phase; last = c; answer = r; wrote = p.wrote || w; waits = false }
 
 open-vote : (a b : Phase) (v : Option Reply) → is_open a ≡ true → is_open b ≡ true → IsVote a v → IsVote b v
 open-vote a b v o p w = vote-same a b v (same a b o p) w
@@ -248,17 +272,47 @@ open-vote a b v o p w = vote-same a b v (same a b o p) w
     same : (a b : Phase) → is_open a ≡ true → is_open b ≡ true → has_committed b ≡ has_committed a
     same a b o p = grind (arith, nat_tests)
 
-pub run-next : (k : Known) (p : Part) (phase : Phase) (c : ℕ) (r : Option Reply) (w : Bool) → Pair k p → is_open p.phase ≡ true → is_open phase ≡ true → has_written phase ≡ (p.wrote || w) → p.last < c → IsKept c (p.wrote || w) r → IsCommand k p c → Next k p (running phase c r w p)
-run-next k p phase c r w e o q h l kept m =
+-- what a slice that runs may change: it is a new command's, or one that has waited
+record Runs (k : Known) (p : Part) (c : ℕ) : Type 0 where
+  opens : is_open p.phase ≡ true
+  later : p.last ≤ c
+  drawn : k.at ≡ Unborn → ⊥
+  unclosed : is_closing k.at ≡ true → ⊥
+  last : k.at ≡ Live → c ≤ k.last
+  awaited : k.at ≡ Live → k.waits ≡ false → ⊥
+  new : c ≡ p.last → p.waits ≡ false → ⊥
+
+preparing : (a : Standing) (b : Bool) → a ≡ Preparing b → is_closing a ≡ true
+preparing a b x = grind (arith, nat_tests)
+
+one : (a : Standing) (b : Bool) → a ≡ One b → is_closing a ≡ true
+one a b x = grind (arith, nat_tests)
+
+two : (a : Standing) (b : Bool) → a ≡ Two b → is_closing a ≡ true
+two a b x = grind (arith, nat_tests)
+
+beyond : (a b : ℕ) → a < b → b ≤ a → ⊥
+beyond a b x y = omega arith
+
+less : (a b : ℕ) → a < b → a ≤ b
+less a b x = omega arith
+
+same-le : (a b : ℕ) → a ≡ b → a ≤ b
+same-le a b x = omega arith
+
+runs-next : (k : Known) (p : Part) (phase : Phase) (c : ℕ) (r : Option Reply) (w : Bool) → Pair k p → Runs k p c → is_open phase ≡ true → has_written phase ≡ (p.wrote || w) → IsKept c (p.wrote || w) r → Next k p (running phase c r w p)
+runs-next k p phase c r w e m q h kept =
     record {
       pair = record {
         promised = e.promised;
-        committed = opens p.phase phase o q p.commits e.committed;
+        committed = opens p.phase phase m.opens q p.commits e.committed;
         written = λ x. h;
-        unpromised = λ x. e.unpromised o;
+        unpromised = λ x. e.unpromised m.opens;
         prepared = λ x. grind (arith, nat_tests);
         kept = kept;
-        vote = open-vote p.phase phase p.vote o q e.vote;
+        vote = open-vote p.phase phase p.vote m.opens q e.vote;
+        waits = λ x. absurd (cc);
+        awaited = λ x z. absurd (cc);
         aborts = e.aborts;
         ends = e.ends;
         either = e.either;
@@ -267,13 +321,13 @@ run-next k p phase c r w e o q h l kept m =
         unborn = λ x. absurd (m.drawn x);
         live = λ x. (q, (e.live x).1, m.last x);
         learns = λ x y. or-first p.wrote w (e.learns x y);
-        learned = λ x y. absurd (beyond p.last c l (m.taken x y));
-        closing = λ x. absurd (beyond p.last c l (m.closed x));
-        asked = λ b x. absurd (beyond p.last c l (m.closed (preparing k.at b x)));
-        alone = λ b x. absurd (beyond p.last c l (m.closed (one k.at b x)));
-        both = λ b x. absurd (beyond p.last c l (m.closed (two k.at b x)));
+        learned = λ x y. absurd (m.awaited x y);
+        closing = λ x. absurd (m.unclosed x);
+        asked = λ b x. absurd (m.unclosed (preparing k.at b x));
+        alone = λ b x. absurd (m.unclosed (one k.at b x));
+        both = λ b x. absurd (m.unclosed (two k.at b x));
       };
-      grows = record { last = less p.last c l; wrote = λ x. absurd (beyond p.last c l (same-le c p.last x)); writes = λ x. or-first p.wrote w x; prepared = λ x. x; refused = λ x. x; asked = λ x. x; committed = λ x. still p.phase phase o x };
+      grows = record { last = m.later; wrote = λ x n. absurd (m.new x n); waits = λ x n. refl; writes = λ x. or-first p.wrote w x; prepared = λ x. x; refused = λ x. x; asked = λ x. x; committed = λ x. still p.phase phase m.opens x };
     }
   where
     opens : (a b : Phase) → is_open a ≡ true → is_open b ≡ true → (n : ℕ) → n ≡ bit (has_committed a) → n ≡ bit (has_committed b)
@@ -285,20 +339,90 @@ run-next k p phase c r w e o q h l kept m =
     or-first : (a b : Bool) → a ≡ true → (a || b) ≡ true
     or-first a b x = grind arith
 
-    beyond : (a b : ℕ) → a < b → b ≤ a → ⊥
-    beyond a b x y = omega arith
+-- a new command runs
+pub run-next : (k : Known) (p : Part) (phase : Phase) (c : ℕ) (r : Option Reply) (w : Bool) → Pair k p → is_open p.phase ≡ true → is_open phase ≡ true → has_written phase ≡ (p.wrote || w) → p.last < c → IsKept c (p.wrote || w) r → IsCommand k p c → Next k p (running phase c r w p)
+run-next k p phase c r w e o q h l kept m =
+    runs-next k p phase c r w e
+    (record { opens = o; later = less p.last c l; drawn = m.drawn; unclosed = λ x. beyond p.last c l (m.closed x); last = m.last; awaited = λ x y. beyond p.last c l (m.taken x y); new = λ x n. beyond p.last c l (same-le c p.last x) }) q h kept
 
-    less : (a b : ℕ) → a < b → a ≤ b
-    less a b x = omega arith
+-- one that has waited runs
+pub drawn-waits : (k : Known) (p : Part) → Pair k p → p.waits ≡ true → k.at ≡ Unborn → ⊥
+drawn-waits k p e y u = by_place (e.waits y).2
+  where
+    not-live : Unborn ≡ Live → ⊥
+    not-live x = cc
 
-    same-le : (a b : ℕ) → a ≡ b → a ≤ b
-    same-le a b x = omega arith
+    not-over : Unborn ≡ Over → ⊥
+    not-over x = cc
 
-    preparing : (a : Standing) (b : Bool) → a ≡ Preparing b → is_closing a ≡ true
-    preparing a b x = grind (arith, nat_tests)
+    by_place : (k.at ≡ Live) ⊎ (k.aborted ≡ true) → ⊥
+    by_place (inl x) = not-live (sym u ∙ x)
+    by_place (inr x) = not-over (sym u ∙ e.aborts x)
 
-    one : (a : Standing) (b : Bool) → a ≡ One b → is_closing a ≡ true
-    one a b x = grind (arith, nat_tests)
+pub unclosed-waits : (k : Known) (p : Part) → Pair k p → p.waits ≡ true → is_closing k.at ≡ true → ⊥
+unclosed-waits k p e y u = by_place (e.waits y).2
+  where
+    open-one : (a b : Standing) → is_closing a ≡ true → a ≡ b → is_closing b ≡ false → ⊥
+    open-one a b x y z = grind arith
 
-    two : (a : Standing) (b : Bool) → a ≡ Two b → is_closing a ≡ true
-    two a b x = grind (arith, nat_tests)
+    by_place : (k.at ≡ Live) ⊎ (k.aborted ≡ true) → ⊥
+    by_place (inl x) = open-one k.at Live u x refl
+    by_place (inr x) = open-one k.at Over u (e.aborts x) refl
+
+pub resume-next : (k : Known) (p : Part) (phase : Phase) (c : ℕ) (r : Option Reply) (w : Bool) → Pair k p → p.waits ≡ true → is_open phase ≡ true → has_written phase ≡ (p.wrote || w) → p.last ≡ c → IsKept c (p.wrote || w) r → Next k p (running phase c r w p)
+resume-next k p phase c r w e y q h l kept =
+    runs-next k p phase c r w e
+    (record { opens = (e.waits y).0; later = same-le p.last c l; drawn = drawn-waits k p e y; unclosed = unclosed-waits k p e y; last = λ x. same-le c k.last (sym l ∙ (e.awaited x y).1); awaited = λ x z. quiet-waits k.waits z (e.awaited x y).0; new = λ x n. quiet-waits p.waits n y }) q h kept
+
+-- a new command waits
+abbrev pub suspending : ℕ → Part → Part
+suspending c p = record p { last = c; answer = None; waits = true }
+
+pub wait-next : (k : Known) (p : Part) (c : ℕ) → Pair k p → is_open p.phase ≡ true → p.last < c → IsCommand k p c → Next k p (suspending c p)
+wait-next k p c e o l m =
+    record {
+      pair = record {
+        promised = e.promised;
+        committed = e.committed;
+        written = e.written;
+        unpromised = e.unpromised;
+        prepared = e.prepared;
+        kept = tt;
+        vote = e.vote;
+        waits = λ x. (o, refl, stands k.at refl);
+        awaited = λ x z. (waits k.waits refl x, latest p.last c k.last l (m.last x) (m.older x));
+        aborts = e.aborts;
+        ends = e.ends;
+        either = e.either;
+        undecided = e.undecided;
+        decided = e.decided;
+        unborn = λ x. absurd (m.drawn x);
+        live = λ x. (o, (e.live x).1, m.last x);
+        learns = e.learns;
+        learned = λ x y. absurd (beyond p.last c l (m.taken x y));
+        closing = λ x. absurd (beyond p.last c l (m.closed x));
+        asked = λ b x. absurd (beyond p.last c l (m.closed (preparing k.at b x)));
+        alone = λ b x. absurd (beyond p.last c l (m.closed (one k.at b x)));
+        both = λ b x. absurd (beyond p.last c l (m.closed (two k.at b x)));
+      };
+      grows = record { last = less p.last c l; wrote = λ x n. refl; waits = λ x n. absurd (beyond p.last c l (same-le c p.last x)); writes = λ x. x; prepared = λ x. x; refused = λ x. x; asked = λ x. x; committed = λ x. x };
+    }
+  where
+    waits : (b : Bool) → k.waits ≡ b → k.at ≡ Live → k.waits ≡ true
+    waits true f x = f
+    waits false f x = absurd (beyond p.last c l (m.taken x f))
+
+    latest : (a b d : ℕ) → a < b → b ≤ d → (b < d → b ≤ a) → b ≡ d
+    latest a b d x y z = grind arith
+
+    ended : (b : Bool) → k.aborted ≡ b → k.at ≡ Over → (k.at ≡ Live) ⊎ (k.aborted ≡ true)
+    ended true f x = inr f
+    ended false f x = absurd (beyond p.last c l (m.over x f))
+
+    stands : (a : Standing) → k.at ≡ a → (k.at ≡ Live) ⊎ (k.aborted ≡ true)
+    stands Unborn f = absurd (m.drawn f)
+    stands Live f = inl f
+    stands (Preparing b) f = absurd (beyond p.last c l (m.closed (ap is_closing f)))
+    stands (One b) f = absurd (beyond p.last c l (m.closed (ap is_closing f)))
+    stands (Two b) f = absurd (beyond p.last c l (m.closed (ap is_closing f)))
+    stands Over f = ended k.aborted refl f

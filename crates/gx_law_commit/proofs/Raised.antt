@@ -12,7 +12,7 @@ use Rattle.gx_tree.specs.declared.stmt.Level.{Level}
 use Rattle.gx_dsnap.specs.Gxids.{is_below}
 use Rattle.gx_dsnap.specs.declared.snapshot.Snapshot.{Snapshot}
 use Rattle.gx_waits.specs.declared.claim.Claim.{Claim}
-use Rattle.gx_locks.specs.Locks.{is_free}
+use Rattle.gx_locks.specs.Locks.{is_free, resumed}
 use Rattle.gx_meaning.specs.declared.fault.ArithFault.{ArithFault}
 use Rattle.gx_msg.specs.declared.item.JournalItem.{JournalItem}
 use Rattle.gx_msg.specs.declared.message.Message.{Message}
@@ -21,10 +21,10 @@ use Rattle.gx_msg.specs.declared.message.Out.{Out}
 use Rattle.gx_msg.specs.declared.reply.Reply.{Reply}
 use Rattle.gx_script.specs.declared.Script.{Script}
 use Rattle.gx_store.specs.declared.mark.Mark.{Mark}
-use Rattle.gx_rules.specs.AtSegment.{changes, commits, ends, finishes, if_fits, on_abort, on_commit, on_commit_prepared, on_exec, on_forget, on_message, on_prepare, once, promises, raised, repeats, takes, unless_below, was_prepared}
+use Rattle.gx_rules.specs.AtSegment.{changes, commits, ends, finishes, if_fits, on_abort, on_commit, on_commit_prepared, on_exec, on_forget, on_message, on_prepare, once, promises, raised, repeats, resumes, takes, unless_below, was_prepared}
 use Rattle.gx_rules.specs.Fits.{fits_exec, is_waiting}
 use Rattle.gx_rules.specs.Locks.{with_hold}
-use Rattle.gx_rules.specs.Segments.{Local, Phase, Seg, SegTurn, local_of, stays, tells, tells_kept}
+use Rattle.gx_rules.specs.Segments.{Local, Phase, Seg, SegTurn, Suspended, local_of, stays, tells, tells_kept, with_local}
 use Rattle.gx_rules.specs.Segments.Phase.{Aborted, Committed, Forgotten, Prepared, Reading, Writing}
 use Rattle.gx_rules.specs.Shown.{shown}
 use Rattle.gx_rules.specs.Slices.{Moved, first_fault, inserted, inserts, inserts_row, requests, runs_slice, selects, slice_lock}
@@ -182,3 +182,12 @@ module _ (script : Script) (s : Seg) (Q : Gxid → Type 0) (base : Q s.horizon) 
   message_keeps fails (message.Collect round) q = stay
   message_keeps fails (message.Answer g r) q = stay
   message_keeps fails (message.Graph round graph) q = stay
+
+  -- a slice that goes on
+  pub resume_keeps : (g : Gxid) (o : Option Claim) (x : Option Suspended) → SegKeeps (resumes s g o x)
+  resume_keeps g (Some wanted) (Some x) = record { horizon = run.horizon; outs = run.outs }
+    where
+      run : SegKeeps (runs_slice (record (with_local s g (record (local_of s g) { suspended = None })) { locks = resumed s.locks g (Some wanted) }) g x.cid x.snapshot x.slice)
+      run = slice_runs (record (with_local s g (record (local_of s g) { suspended = None })) { locks = resumed s.locks g (Some wanted) }) base g x.cid x.snapshot x.slice
+  resume_keeps g (Some wanted) None = stay
+  resume_keeps g None x = stay

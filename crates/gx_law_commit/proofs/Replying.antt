@@ -276,7 +276,7 @@ module _ (script : Script) (P : ℕ → ℕ → Part) (c : Coord) (ms : List Mar
       one-committed v =
           subst (Led script P c ms) (sym (ended-follows script P c ms s whole g t f t.participants))
           (committed-led script P c ms s whole g t f t.participants (one-can (λ x. clash (has_committed (P w.0 g).phase) (subst (λ n. has_committed (P n g).phase ≡ true) j-is v) (no-vote (P w.0 g).phase (P w.0 g).vote (pair w.0).vote x)))
-          (λ i x y. asked (k i).at (eqb w.0 i) (at-one-writer i) y)
+          (λ i x y. asked (k i).at (eqb w.0 i) (at-one-writer i) y) (λ i x. absurd (alive (k i).at (eqb w.0 i) (at-one-writer i) x))
           (few (writers_of script ms (gx g)) ms g (filter-few (is_writer ms (gx g)) w.0 (λ i x. sym (eqb-true w.0 i (sym (writes i) ∙ x))) 1 script.segments)
           (record {
             local = λ node. local-is node.0 (is_writer ms (gx g) node) (same-local node.0) ∙ as-bit (is_writer ms (gx g) node);
@@ -289,6 +289,9 @@ module _ (script : Script) (P : ℕ → ℕ → Part) (c : Coord) (ms : List Mar
 
           asked : (a : Standing) (b : Bool) → a ≡ One b → a ≡ Preparing true → ⊥
           asked a b x y = grind arith
+
+          alive : (a : Standing) (b : Bool) → a ≡ One b → a ≡ Live → ⊥
+          alive a b x y = grind arith
 
           writes : (i : ℕ) → is_writer ms (gx g) (at i) ≡ eqb w.0 i
           writes i = writer-is i (one-closing i) ∙ sym ((pair i).alone (eqb w.0 i) (at-one-writer i)).0
@@ -346,7 +349,7 @@ module _ (script : Script) (P : ℕ → ℕ → Part) (c : Coord) (ms : List Mar
       all-finished r =
           let d : Decision ms ws g = (agrees-in (status.CommittingTwo aw) e).1 in
           subst (Led script P c ms) (sym (ended-follows script P c ms s whole g t f t.participants))
-          (committed-led script P c ms s whole g t f t.participants (two-can r) (λ i x y. never (k i).at (has (at i) aw) (at-two i) y)
+          (committed-led script P c ms s whole g t f t.participants (two-can r) (λ i x y. never (k i).at (has (at i) aw) (at-two i) y) (λ i x. absurd (alive (k i).at (has (at i) aw) (at-two i) x))
           (many (writers_of script ms (gx g)) ms g (two-writers writes (agrees-in (status.CommittingTwo aw) e).0)
           (record {
             prepared = λ node. promised-is node.0 (has node ws) (((pair node.0).both (has node aw) (at-two node.0)).1) ∙ as-bit (has node ws) ∙ ap (λ b. if b then 1 else 0) (sym (writes node.0));
@@ -360,6 +363,9 @@ module _ (script : Script) (P : ℕ → ℕ → Part) (c : Coord) (ms : List Mar
         where
           never : (a : Standing) (b : Bool) → a ≡ Two b → a ≡ Preparing true → ⊥
           never a b x y = grind arith
+
+          alive : (a : Standing) (b : Bool) → a ≡ Two b → a ≡ Live → ⊥
+          alive a b x y = grind arith
 
       finishes-led : (rest : List Node) → without j aw ≡ rest → Gives (finishes (gx g) t.participants rest)
       finishes-led [] r = all-finished r

@@ -1,5 +1,5 @@
 -- How what the coordinator knows of a transaction at a segment changes, and what stays said.
-use Rattle.std.proofs.Common.{◌≡◌, ◌⊎◌, inl, inr, ◌≤◌, ℕ, ◌+◌, None, Bool, true, false, ◌||◌, arith}
+use Rattle.std.proofs.Common.{◌≡◌, ◌⊎◌, inl, inr, ◌≤◌, ℕ, ◌+◌, None, Bool, true, false, refl, ap, ◌||◌, arith}
 use Rattle.std.proofs.lemmas.Bool.Decides.{nat_tests}
 use Rattle.gx_msg.specs.declared.message.Message.{Message}
 use Rattle.gx_msg.specs.declared.message.Message.TheVariants as message
@@ -11,6 +11,7 @@ use Rattle.gx_law_commit.specs.Pairs.{Pair}
 use Rattle.gx_law_commit.specs.Said.{Answers, IsCommand, IsDone, Said}
 use Rattle.gx_law_commit.specs.Standings.{Known, Part, Standing, is_closing}
 use Rattle.gx_law_commit.specs.Standings.Standing.{Unborn, Live, Preparing, One, Two, Over}
+use Rattle.gx_law_commit.proofs.Parts.{drawn-waits, quiet-waits, unclosed-waits}
 
 pub record Shift (k n : Known) (p : Part) : Type 0 where
   pub pair : Pair n p
@@ -65,6 +66,8 @@ born-shift k p e u =
         prepared = e.prepared;
         kept = e.kept;
         vote = e.vote;
+        waits = λ x. absurd (drawn-waits k p e x u);
+        awaited = λ x z. absurd (drawn-waits k p e z u);
         aborts = λ x. grind (arith, nat_tests);
         ends = λ x. grind (arith, nat_tests);
         either = e.either;
@@ -105,6 +108,8 @@ send-shift b k p e u n =
         prepared = e.prepared;
         kept = e.kept;
         vote = e.vote;
+        waits = e.waits;
+        awaited = λ x z. quiet-waits k.waits n (e.awaited x z).0;
         aborts = e.aborts;
         ends = e.ends;
         either = e.either;
@@ -120,7 +125,7 @@ send-shift b k p e u n =
         both = λ b x. e.both b x;
       };
       stays = said-stays k (sending b k) p (record {
-        command = λ c d. record { drawn = d.drawn; last = λ x. more c k.last (d.last x); taken = λ x y. d.taken x n; older = λ x y. d.taken x n; closed = d.closed };
+        command = λ c d. record { drawn = d.drawn; last = λ x. more c k.last (d.last x); taken = λ x y. d.taken x n; older = λ x y. d.taken x n; closed = d.closed; over = d.over };
         done = λ c w d. record { drawn = d.drawn; last = λ x. more c k.last (d.last x); same = λ x y. absurd (beyond c k.last (d.last x) y) };
         prepare = λ s v. s v;
         commit = λ s v. s v;
@@ -145,14 +150,15 @@ is-sent k p c l w e =
       taken = λ x y. grind (arith, nat_tests);
       older = λ x y. grind (arith, nat_tests);
       closed = λ x. grind (arith, nat_tests);
+      over = λ x y. grind (arith, nat_tests);
     }
 
 -- A SEGMENT IS DONE
 abbrev pub learning : Bool → Known → Known
 learning wrote k = record k { waits = false; writes = wrote || k.writes }
 
-pub learn-shift : (wrote : Bool) (k : Known) (p : Part) → Pair k p → k.at ≡ Live → p.last ≡ k.last → wrote ≡ p.wrote → Shift k (learning wrote k) p
-learn-shift wrote k p e u n h =
+pub learn-shift : (wrote : Bool) (k : Known) (p : Part) → Pair k p → k.at ≡ Live → p.last ≡ k.last → wrote ≡ p.wrote → p.waits ≡ false → Shift k (learning wrote k) p
+learn-shift wrote k p e u n h q =
     record {
       pair = record {
         promised = e.promised;
@@ -162,6 +168,8 @@ learn-shift wrote k p e u n h =
         prepared = e.prepared;
         kept = e.kept;
         vote = e.vote;
+        waits = e.waits;
+        awaited = λ x z. quiet-waits p.waits q z;
         aborts = e.aborts;
         ends = e.ends;
         either = e.either;
@@ -177,7 +185,7 @@ learn-shift wrote k p e u n h =
         both = λ b x. grind (arith, nat_tests);
       };
       stays = said-stays k (learning wrote k) p (record {
-        command = λ c d. record { drawn = d.drawn; last = d.last; taken = λ x y. up c p.last k.last n (d.last x); older = d.older; closed = d.closed };
+        command = λ c d. record { drawn = d.drawn; last = d.last; taken = λ x y. up c p.last k.last n (d.last x); older = d.older; closed = d.closed; over = d.over };
         done = λ c w d. record { drawn = d.drawn; last = d.last; same = d.same };
         prepare = λ s v. s v;
         commit = λ s v. s v;
@@ -208,6 +216,8 @@ alone-shift b k p e u n h =
         prepared = e.prepared;
         kept = e.kept;
         vote = e.vote;
+        waits = λ x. quiet-waits k.waits n (e.awaited u x).0;
+        awaited = λ x z. quiet-waits k.waits n (e.awaited u z).0;
         aborts = λ x. grind (arith, nat_tests);
         ends = λ x. grind (arith, nat_tests);
         either = e.either;
@@ -223,7 +233,7 @@ alone-shift b k p e u n h =
         both = λ b x. grind (arith, nat_tests);
       };
       stays = said-stays k (record k { at = One b }) p (record {
-        command = λ c d. record { drawn = λ x. grind (arith, nat_tests); last = λ x. grind (arith, nat_tests); taken = λ x y. grind (arith, nat_tests); older = λ x y. grind (arith, nat_tests); closed = λ x. d.taken u n };
+        command = λ c d. record { drawn = λ x. grind (arith, nat_tests); last = λ x. grind (arith, nat_tests); taken = λ x y. grind (arith, nat_tests); older = λ x y. grind (arith, nat_tests); closed = λ x. d.taken u n; over = λ x y. d.taken u n };
         done = λ c w d. record { drawn = λ x. grind (arith, nat_tests); last = λ x. grind (arith, nat_tests); same = λ x y. grind (arith, nat_tests) };
         prepare = λ s v. grind (arith, nat_tests);
         commit = λ s v. grind (arith, nat_tests);
@@ -245,6 +255,8 @@ ask-shift b k p e u n h =
         prepared = e.prepared;
         kept = e.kept;
         vote = e.vote;
+        waits = λ x. quiet-waits k.waits n (e.awaited u x).0;
+        awaited = λ x z. quiet-waits k.waits n (e.awaited u z).0;
         aborts = λ x. grind (arith, nat_tests);
         ends = λ x. grind (arith, nat_tests);
         either = e.either;
@@ -260,7 +272,7 @@ ask-shift b k p e u n h =
         both = λ b x. grind (arith, nat_tests);
       };
       stays = said-stays k (record k { at = Preparing b }) p (record {
-        command = λ c d. record { drawn = λ x. grind (arith, nat_tests); last = λ x. grind (arith, nat_tests); taken = λ x y. grind (arith, nat_tests); older = λ x y. grind (arith, nat_tests); closed = λ x. d.taken u n };
+        command = λ c d. record { drawn = λ x. grind (arith, nat_tests); last = λ x. grind (arith, nat_tests); taken = λ x y. grind (arith, nat_tests); older = λ x y. grind (arith, nat_tests); closed = λ x. d.taken u n; over = λ x y. d.taken u n };
         done = λ c w d. record { drawn = λ x. grind (arith, nat_tests); last = λ x. grind (arith, nat_tests); same = λ x y. grind (arith, nat_tests) };
         prepare = λ s v. grind (arith, nat_tests);
         commit = λ s v. grind (arith, nat_tests);
@@ -282,6 +294,8 @@ promised-shift k p e u h =
         prepared = e.prepared;
         kept = e.kept;
         vote = e.vote;
+        waits = λ x. absurd (unclosed-waits k p e x (closing k.at u));
+        awaited = λ x z. absurd (unclosed-waits k p e z (closing k.at u));
         aborts = λ x. grind (arith, nat_tests);
         ends = λ x. grind (arith, nat_tests);
         either = e.either;
@@ -297,7 +311,7 @@ promised-shift k p e u h =
         both = λ b x. grind (arith, nat_tests);
       };
       stays = said-stays k (record k { at = Preparing false }) p (record {
-        command = λ c d. record { drawn = λ x. grind (arith, nat_tests); last = λ x. grind (arith, nat_tests); taken = λ x y. grind (arith, nat_tests); older = λ x y. grind (arith, nat_tests); closed = λ x. d.closed (closing k.at u) };
+        command = λ c d. record { drawn = λ x. grind (arith, nat_tests); last = λ x. grind (arith, nat_tests); taken = λ x y. grind (arith, nat_tests); older = λ x y. grind (arith, nat_tests); closed = λ x. d.closed (closing k.at u); over = λ x y. d.closed (closing k.at u) };
         done = λ c w d. record { drawn = λ x. grind (arith, nat_tests); last = λ x. grind (arith, nat_tests); same = λ x y. grind (arith, nat_tests) };
         prepare = λ s v. grind (arith, nat_tests);
         commit = λ s v. grind (arith, nat_tests);
@@ -325,6 +339,8 @@ decide-shift a b k p e u h j =
         prepared = e.prepared;
         kept = e.kept;
         vote = e.vote;
+        waits = λ x. absurd (unclosed-waits k p e x (closing k.at u));
+        awaited = λ x z. absurd (unclosed-waits k p e z (closing k.at u));
         aborts = λ x. grind (arith, nat_tests);
         ends = λ x. grind (arith, nat_tests);
         either = e.either;
@@ -340,7 +356,7 @@ decide-shift a b k p e u h j =
         both = λ b x. grind (arith, nat_tests);
       };
       stays = said-stays k (deciding b k) p (record {
-        command = λ c d. record { drawn = λ x. grind (arith, nat_tests); last = λ x. grind (arith, nat_tests); taken = λ x y. grind (arith, nat_tests); older = λ x y. grind (arith, nat_tests); closed = λ x. d.closed (closing k.at u) };
+        command = λ c d. record { drawn = λ x. grind (arith, nat_tests); last = λ x. grind (arith, nat_tests); taken = λ x y. grind (arith, nat_tests); older = λ x y. grind (arith, nat_tests); closed = λ x. d.closed (closing k.at u); over = λ x y. d.closed (closing k.at u) };
         done = λ c w d. record { drawn = λ x. grind (arith, nat_tests); last = λ x. grind (arith, nat_tests); same = λ x y. grind (arith, nat_tests) };
         prepare = λ s v. grind (arith, nat_tests);
         commit = λ s v. grind (arith, nat_tests);
@@ -365,6 +381,8 @@ finished-shift k p e u h =
         prepared = e.prepared;
         kept = e.kept;
         vote = e.vote;
+        waits = λ x. absurd (unclosed-waits k p e x (closing k.at u));
+        awaited = λ x z. absurd (unclosed-waits k p e z (closing k.at u));
         aborts = λ x. grind (arith, nat_tests);
         ends = λ x. grind (arith, nat_tests);
         either = e.either;
@@ -380,7 +398,7 @@ finished-shift k p e u h =
         both = λ b x. grind (arith, nat_tests);
       };
       stays = said-stays k (record k { at = Two false }) p (record {
-        command = λ c d. record { drawn = λ x. grind (arith, nat_tests); last = λ x. grind (arith, nat_tests); taken = λ x y. grind (arith, nat_tests); older = λ x y. grind (arith, nat_tests); closed = λ x. d.closed (closing k.at u) };
+        command = λ c d. record { drawn = λ x. grind (arith, nat_tests); last = λ x. grind (arith, nat_tests); taken = λ x y. grind (arith, nat_tests); older = λ x y. grind (arith, nat_tests); closed = λ x. d.closed (closing k.at u); over = λ x y. d.closed (closing k.at u) };
         done = λ c w d. record { drawn = λ x. grind (arith, nat_tests); last = λ x. grind (arith, nat_tests); same = λ x y. grind (arith, nat_tests) };
         prepare = λ s v. grind (arith, nat_tests);
         commit = λ s v. grind (arith, nat_tests);
@@ -394,8 +412,8 @@ finished-shift k p e u h =
     closing a x = grind (arith, nat_tests)
 
 -- IT HAS ITS MARK
-pub over-shift : (k n : Known) (p : Part) → Pair k p → n.at ≡ Over → (k.at ≡ Unborn → ⊥) → (k.aborted ≡ true → n.aborted ≡ true) → (k.committed ≡ true → n.committed ≡ true) → (n.committed ≡ true → n.aborted ≡ false) → (p.vote ≡ None → k.at ≡ Preparing true → n.aborted ≡ true) → (p.vote ≡ None → k.at ≡ One true → ⊥) → (k.at ≡ Two true → has_committed p.phase ≡ true) → Shift k n p
-over-shift k n p e o b ab co ei pr on tw =
+pub over-shift : (k n : Known) (p : Part) → Pair k p → n.at ≡ Over → (k.at ≡ Unborn → ⊥) → (k.aborted ≡ true → n.aborted ≡ true) → (k.committed ≡ true → n.committed ≡ true) → (n.committed ≡ true → n.aborted ≡ false) → (p.vote ≡ None → k.at ≡ Preparing true → n.aborted ≡ true) → (p.vote ≡ None → k.at ≡ One true → ⊥) → (k.at ≡ Two true → has_committed p.phase ≡ true) → (k.at ≡ Live → n.aborted ≡ false → k.waits ≡ false) → Shift k n p
+over-shift k n p e o b ab co ei pr on tw fi =
     record {
       pair = record {
         promised = e.promised;
@@ -405,6 +423,8 @@ over-shift k n p e o b ab co ei pr on tw =
         prepared = e.prepared;
         kept = e.kept;
         vote = e.vote;
+        waits = λ x. ((e.waits x).0, (e.waits x).1, inr (waits-end x));
+        awaited = λ x z. grind (arith, nat_tests);
         aborts = λ x. o;
         ends = λ x. o;
         either = ei;
@@ -420,7 +440,7 @@ over-shift k n p e o b ab co ei pr on tw =
         both = λ b x. grind (arith, nat_tests);
       };
       stays = said-stays k n p (record {
-        command = λ c d. record { drawn = λ x. grind (arith, nat_tests); last = λ x. grind (arith, nat_tests); taken = λ x y. grind (arith, nat_tests); older = λ x y. grind (arith, nat_tests); closed = λ x. grind (arith, nat_tests) };
+        command = λ c d. record { drawn = λ x. grind (arith, nat_tests); last = λ x. grind (arith, nat_tests); taken = λ x y. grind (arith, nat_tests); older = λ x y. grind (arith, nat_tests); closed = λ x. grind (arith, nat_tests); over = λ x f. taken c d f k.at refl };
         done = λ c w d. record { drawn = λ x. grind (arith, nat_tests); last = λ x. grind (arith, nat_tests); same = λ x y. grind (arith, nat_tests) };
         prepare = λ s v. prepares v (s v);
         commit = λ s v. absurd (on v (s v));
@@ -430,6 +450,29 @@ over-shift k n p e o b ab co ei pr on tw =
       });
     }
   where
+    still : k.aborted ≡ true → n.aborted ≡ false → ⊥
+    still x f = quiet-waits n.aborted f (ab x)
+
+    false-of : (c : Bool) → (c ≡ true → ⊥) → c ≡ false
+    false-of true g = absurd (g refl)
+    false-of false g = refl
+
+    taken : (c : ℕ) → IsCommand k p c → n.aborted ≡ false → (a : Standing) → k.at ≡ a → c ≤ p.last
+    taken c d f Unborn g = absurd (d.drawn g)
+    taken c d f Live g = d.taken g (fi g f)
+    taken c d f (Preparing x) g = d.closed (ap is_closing g)
+    taken c d f (One x) g = d.closed (ap is_closing g)
+    taken c d f (Two x) g = d.closed (ap is_closing g)
+    taken c d f Over g = d.over g (false-of k.aborted (λ x. still x f))
+
+    waits-end : p.waits ≡ true → n.aborted ≡ true
+    waits-end x = by_test n.aborted refl (e.waits x).2
+      where
+        by_test : (c : Bool) → n.aborted ≡ c → (k.at ≡ Live) ⊎ (k.aborted ≡ true) → n.aborted ≡ true
+        by_test true f z = f
+        by_test false f (inl z) = quiet-waits k.waits (fi z f) (e.awaited z x).0
+        by_test false f (inr z) = ab z
+
     prepares : p.vote ≡ None → (k.at ≡ Preparing true) ⊎ (k.aborted ≡ true) → (n.at ≡ Preparing true) ⊎ (n.aborted ≡ true)
     prepares v (inl x) = inr (pr v x)
     prepares v (inr x) = inr (ab x)

@@ -30,7 +30,6 @@ use Rattle.gx_rules.specs.AtSegment.{seg_rule}
 use Rattle.gx_rules.specs.Machine.{World, after, at_node, can, can_here, coord_did, delivered, does, found, happens, new_world, node_of, seg_can, seg_did, world_of}
 use Rattle.gx_rules.specs.Segments.{SegTurn}
 use Rattle.gx_rules.specs.Sending.{clock_after, counted, numbered}
-use Rattle.gx_law_order.proofs.CalmSegs.{nobody-goes-on}
 use Rattle.gx_law_order.proofs.Letters.{IsFound, IsLetter, found_is}
 use Rattle.gx_law_order.proofs.Lists.{Each, each_append}
 use Rattle.gx_law_order.proofs.Numbers.{NoStart}
@@ -44,7 +43,7 @@ use Rattle.gx_law_commit.proofs.Answering.{NoAnswer}
 use Rattle.gx_law_commit.proofs.Calls.{or-left}
 use Rattle.gx_law_commit.proofs.Complete.{Comes, IsBack, Replied, StepBack, answer-push, away-back, back-all, came-append, coord-replied, none-answers, starts-last}
 use Rattle.gx_law_commit.proofs.Completing.{GetsBy, calm-started}
-use Rattle.gx_law_commit.proofs.Everywhere.{Holds, does-it, parts_in}
+use Rattle.gx_law_commit.proofs.Everywhere.{Holds, does-it, parts_in, resumed-does}
 use Rattle.gx_law_commit.proofs.Handled.{Follows}
 use Rattle.gx_ids.specs.declared.ids.Gxid.{Gxid}
 
@@ -63,33 +62,32 @@ sent-no-start : (f : ℕ → ℕ) (outs : List Out) → Each NoStart (numbered f
 sent-no-start f [] = tt
 sent-no-start f (o ∷ outs) = (tt, sent-no-start (counted f o) outs)
 
-module _ (script : Script) (w : World) (n : Knows script w) (v : Holds script w) (r : Replied script w) (e : Event) (fails : Bool) (i : ℕ) (place : 1 ≤ i) (from : Node) (envelope : Envelope) (received : Receives w.steps e the_coordinator (at i) envelope.message) (said : is_answer envelope.message ≡ false → Said (known_at w.coord (marks_in w.steps) i (gxid_in envelope.message)) (parts_in w i (gxid_in envelope.message)) envelope.message) where
+module _ (script : Script) (w : World) (n : Knows script w) (v : Holds script w) (r : Replied script w) (e : Event) (x : NodeEvent) (fails : Bool) (i : ℕ) (place : 1 ≤ i) (none : (t : SessionId) → starts_by t e ≡ 0) (told : Message) (known : Known) (g : ℕ) (follows : Each (Follows told known i g) (segment.on_event script (w.segs i) x fails).marks) where
   abbrev ms : List Mark
   ms = marks_in w.steps
 
   abbrev turn : SegTurn
-  turn = segment.on_event script (w.segs i) (here.Deliver from envelope) fails
+  turn = segment.on_event script (w.segs i) x fails
 
   abbrev sent : List Mark
   sent = numbered (λ node. turn.seg.sent) turn.outs
 
   abbrev step : Step
-  step = record { stamp = record { clock = clock_after (w.segs i).clock (here.Deliver from envelope); node = at i }; event = e; marks = turn.marks ++ sent }
+  step = record { stamp = record { clock = clock_after (w.segs i).clock x; node = at i }; event = e; marks = turn.marks ++ sent }
 
   abbrev next : World
-  next = seg_did w (at i) e (seg_rule script (w.segs i) (here.Deliver from envelope) fails)
+  next = seg_did w (at i) e (seg_rule script (w.segs i) x fails)
 
   all : ms ++ (turn.marks ++ sent) ≡ marks_in next.steps
   all = sym (marks-last w.steps step)
 
   seg-replied : Replied script next
   seg-replied =
-      let d = does-it script w n v e fails i from envelope received said in
       record {
-        lines = λ t. r.lines t ∙ plus-none (starts_in t w.steps) ∙ ap (λ q. starts_in t w.steps + q) (sym (ap (starts_by t) received.is)) ∙ sym (starts-last t w.steps step);
-        last = λ t h q. r.last t h (sym (started_after-append t None ms (turn.marks ++ sent) ∙ calm-started t (started_after t None ms) (turn.marks ++ sent) (each_append NoStart turn.marks sent (follows-no-start envelope.message (known_at w.coord ms i (gxid_in envelope.message)) i (gxid_in envelope.message) turn.marks d.marks) (sent-no-start (λ node. turn.seg.sent) turn.outs))) ∙ ap (started_after t None) all ∙ q);
-        back = each_append (StepBack w.coord next.steps) w.steps (step ∷ []) (back-all w.coord w.coord w.steps (step ∷ []) w.steps stays r.back) (away-back w.coord next.steps (at i) (λ q. not-zero i place (ap (λ (x : Node). x.0) q)) (turn.marks ++ sent), tt);
-        answers = answer-push script [] w.steps step r.answers (none-answers script w.steps step [] turn.marks (λ node. turn.seg.sent) turn.outs (follows-no-answer envelope.message (known_at w.coord ms i (gxid_in envelope.message)) i (gxid_in envelope.message) turn.marks d.marks));
+        lines = λ t. r.lines t ∙ plus-none (starts_in t w.steps) ∙ ap (λ q. starts_in t w.steps + q) (sym (none t)) ∙ sym (starts-last t w.steps step);
+        last = λ t h q. r.last t h (sym (started_after-append t None ms (turn.marks ++ sent) ∙ calm-started t (started_after t None ms) (turn.marks ++ sent) (each_append NoStart turn.marks sent (follows-no-start told known i g turn.marks follows) (sent-no-start (λ node. turn.seg.sent) turn.outs))) ∙ ap (started_after t None) all ∙ q);
+        back = each_append (StepBack w.coord next.steps) w.steps (step ∷ []) (back-all w.coord w.coord w.steps (step ∷ []) w.steps stays r.back) (away-back w.coord next.steps (at i) (λ q. not-zero i place (ap (λ (a : Node). a.0) q)) (turn.marks ++ sent), tt);
+        answers = answer-push script [] w.steps step r.answers (none-answers script w.steps step [] turn.marks (λ node. turn.seg.sent) turn.outs (follows-no-answer told known i g turn.marks follows));
       }
     where
       plus-none : (n : ℕ) → n ≡ n + 0
@@ -171,13 +169,12 @@ module _ (script : Script) (some : 1 ≤ script.segments) where
       by_test true is ok = coord-replied script w k v r e x fails ok at-coordinator (got (gets from the_coordinator refl (Rattle.gx_law_order.proofs.Letters.same_node to the_coordinator is)) envelope.message refl) (λ t. refl)
       by_test false is ok =
           let p = place is d.is.0.link in
-          seg-replied script w k v r e fails to.0 p.0.0 from envelope (gets the_coordinator to p.1 refl) at-segment
+          seg-replied script w k v r e x fails to.0 p.0.0 (λ t. refl) envelope.message (known_at w.coord (marks_in w.steps) to.0 (gxid_in envelope.message)) (gxid_in envelope.message) (does-it script w k v e fails to.0 from envelope (gets the_coordinator to p.1 refl) at-segment).marks
 
   arrives : (w : World) (from to : Node) (number : ℕ) (fails : Bool) (o : Option Envelope) → found from to number w.sent ≡ o → Knows script w → Holds script w → Replied script w → can_here script w to (delivered from o) ≡ true → Replied script (does script w (event.Receive from to number) to fails (delivered from o))
   arrives w from to number fails None e k v r ok = r
   arrives w from to number fails (Some envelope) e k v r ok = received w from to number envelope fails k v r (found_is (IsPosted script w) from to number w.sent envelope (each-zip (IsLetter script w.steps) (SaidIn w) w.sent k.well.letters v.said) e) ok
 
-  -- nobody goes on at a segment yet
   resumed : (w : World) (n : Node) (g : Gxid) (fails : Bool) → Knows script w → Holds script w → Replied script w → can_here script w n (Some (here.Resume g)) ≡ true → Replied script (does script w (event.Resume n g) n fails (Some (here.Resume g)))
   resumed w n g fails k v r ok = by_test (is_same_node n the_coordinator) refl ok
     where
@@ -187,9 +184,14 @@ module _ (script : Script) (some : 1 ≤ script.segments) where
       x : NodeEvent
       x = here.Resume g
 
+      above : (a : Node) → is_same_node a the_coordinator ≡ false → 1 ≤ a.0
+      above a q = grind (arith, nat_tests)
+
       by_test : (b : Bool) → is_same_node n the_coordinator ≡ b → (if b then coord_can script w.coord x else seg_can script (w.segs n.0) x) ≡ true → Replied script (if b then coord_did w e (coord_rule script w.coord x fails) else seg_did w n e (seg_rule script (w.segs n.0) x fails))
       by_test true is ok = coord-replied script w k v r e x fails ok tt tt (λ t. refl)
-      by_test false is ok = absurd (nobody-goes-on script (w.segs n.0) g (k.well.calm n.0) ok)
+      by_test false is ok =
+          let o = resumed-does script w k v e n.0 g fails ok in
+          seg-replied script w k v r e x fails n.0 (above n is) (λ t. refl) (message.Exec g o.slice.cid o.slice.level o.slice.snapshot o.waits.horizon o.slice.slice) (known_at w.coord (marks_in w.steps) n.0 g.0) g.0 o.does.marks
 
   abbrev count_of : Bool → ℕ
   count_of b = if b then 1 else 0

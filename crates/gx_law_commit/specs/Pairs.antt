@@ -1,5 +1,5 @@
 -- What always holds of a transaction at a segment and what the coordinator knows of both.
-use Rattle.std.specs.Prelude.{◌≡◌, ◌≤◌, ℕ, Bool, true, false, None, Some}
+use Rattle.std.specs.Prelude.{◌≡◌, ◌⊎◌, ◌≤◌, ℕ, Bool, true, false, None, Some}
 use Rattle.std.specs.declared.option.Option.{Option}
 use Rattle.gx_msg.specs.declared.reply.Reply.{Reply}
 use Rattle.gx_msg.specs.declared.reply.Reply.TheVariants as reply
@@ -48,6 +48,10 @@ pub record Pair (k : Known) (p : Part) : Type 0 where
   pub prepared : p.phase ≡ Prepared → was_prepared p.vote ≡ true
   pub kept : IsKept p.last p.wrote p.answer
   pub vote : IsVote p.phase p.vote
+  -- a slice that waits is of its last command there, of which nothing is kept yet and which the coordinator awaits; who is on the way
+  -- to a commit, or has committed, has none
+  pub waits : p.waits ≡ true → (is_open p.phase ≡ true) × (p.answer ≡ None) × ((k.at ≡ Live) ⊎ (k.aborted ≡ true))
+  pub awaited : k.at ≡ Live → p.waits ≡ true → (k.waits ≡ true) × (p.last ≡ k.last)
   -- ends
   pub aborts : k.aborted ≡ true → k.at ≡ Over
   pub ends : k.committed ≡ true → k.at ≡ Over

@@ -11,13 +11,13 @@ use Rattle.gx_rules.specs.Coordinators.{Coord}
 use Rattle.gx_rules.specs.Machine.{Letter, World}
 use Rattle.gx_rules.specs.Segments.{Seg, has_committed}
 use Rattle.gx_law_commit.specs.Standings.{Known, Part, is_closing, known_at, part_at}
-use Rattle.gx_law_commit.specs.Standings.Standing.{Unborn, Live, Preparing, One, Two}
+use Rattle.gx_law_commit.specs.Standings.Standing.{Unborn, Live, Preparing, One, Two, Over}
 
--- an answer to a command that still counts
+-- an answer to a command that still counts: no slice of that command waits
 pub record IsDone (k : Known) (p : Part) (c : ℕ) (wrote : Bool) : Type 0 where
   pub drawn : k.at ≡ Unborn → ⊥
   pub last : k.at ≡ Live → c ≤ k.last
-  pub same : k.at ≡ Live → c ≡ k.last → (p.last ≡ c) × (wrote ≡ p.wrote)
+  pub same : k.at ≡ Live → c ≡ k.last → (p.last ≡ c) × (wrote ≡ p.wrote) × (p.waits ≡ false)
 
 -- an answer, by the segment that gave it
 abbrev pub Answers : Known → Part → Reply → Type 0
@@ -27,13 +27,14 @@ Answers k p reply.Jfault = p.vote ≡ Some reply.Jfault
 Answers k p reply.Committed = has_committed p.phase ≡ true
 Answers k p _ = Unit {0}
 
--- a command that was sent to the segment
+-- a command that was sent to the segment; whoever is on the way to a commit, or has committed, has had all of them taken there
 pub record IsCommand (k : Known) (p : Part) (c : ℕ) : Type 0 where
   pub drawn : k.at ≡ Unborn → ⊥
   pub last : k.at ≡ Live → c ≤ k.last
   pub taken : k.at ≡ Live → k.waits ≡ false → c ≤ p.last
   pub older : k.at ≡ Live → c < k.last → c ≤ p.last
   pub closed : is_closing k.at ≡ true → c ≤ p.last
+  pub over : k.at ≡ Over → k.aborted ≡ false → c ≤ p.last
 
 abbrev pub Said : Known → Part → Message → Type 0
 Said k p (message.Exec g c level snapshot horizon slice) = IsCommand k p c.0

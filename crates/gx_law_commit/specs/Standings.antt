@@ -13,6 +13,7 @@ use Rattle.gx_store.specs.declared.mark.Mark.{Mark}
 use Rattle.gx_store.specs.Marks.{is_aborted, is_committed}
 use Rattle.gx_store.specs.Protocol.{decided_count, is_writer, local_count, prepared_count}
 use Rattle.gx_rules.specs.Coordinators.{Command, Coord, Work}
+use Rattle.gx_rules.specs.Fits.{is_waiting}
 use Rattle.gx_rules.specs.Segments.{Local, Phase, Seg}
 
 abbrev pub at : ℕ → Node
@@ -85,19 +86,20 @@ abbrev pub known_at : Coord → List Mark → ℕ → ℕ → Known
 known_at c ms i g =
     known_of (standing (nat_le c.table.next.0 g) (find_txn c.table (gx g)) i) (c.works g) i (decided_count ms (gx g)) (is_aborted ms (gx g)) (is_committed ms (gx g))
 
--- The segment's side: its record of the transaction, and what the marks say of the two there.
+-- The segment's side: its record of the transaction, whether a slice of it waits there, and what the marks say of the two there.
 pub record Part : Type 0 where
   pub phase : Phase
   pub last : ℕ
   pub answer : Option Reply
   pub vote : Option Reply
+  pub waits : Bool
   pub wrote : Bool
   pub promises : ℕ
   pub commits : ℕ
 
 abbrev pub part_of : Local → Bool → ℕ → ℕ → Part
 part_of l wrote promises commits =
-    record { phase = l.phase; last = l.last; answer = l.answer; vote = l.vote; wrote = wrote; promises = promises; commits = commits }
+    record { phase = l.phase; last = l.last; answer = l.answer; vote = l.vote; waits = is_waiting l; wrote = wrote; promises = promises; commits = commits }
 
 abbrev pub part_at : Seg → List Mark → ℕ → ℕ → Part
 part_at s ms i g = part_of (s.locals g) (is_writer ms (gx g) (at i)) (prepared_count ms (at i) (gx g)) (local_count ms (at i) (gx g))

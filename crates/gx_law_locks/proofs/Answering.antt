@@ -1,10 +1,16 @@
 -- Where the coordinator's answers stand among its marks.
-use Rattle.std.proofs.Common.{◌≡◌, ◌==◌, ◌&&◌, ◌+◌, ◌⊎◌, inl, inr, ℕ, List, [], ◌∷◌, ◌++◌, Option, Some, None, Result, Ok, Err, Bool, true, false, refl, if◌then◌else◌}
+use Rattle.std.proofs.Common.{◌≡◌, ◌==◌, ◌&&◌, ◌+◌, ◌⊎◌, inl, inr, ℕ, List, [], ◌∷◌, ◌++◌, Option, Some, None, Result, Ok, Err, Bool, true, false, refl, sym, subst, ◌∙◌, if◌then◌else◌}
 use Rattle.gx_store.specs.declared.answer.StmtAnswer.{StmtAnswer}
 use Rattle.gx_msg.specs.declared.message.Out.{Out}
 use Rattle.gx_rules.specs.Sending.{counted, numbered}
 use Rattle.gx_law_order.proofs.Calm.{each-released}
+use Rattle.gx_dtx.specs.Table.{find_txn}
 use Rattle.gx_law_order.proofs.Lists.{Each, each_append}
+use Rattle.gx_law_order.proofs.Sessions.{Kept, is_said, stage_of}
+use Rattle.gx_law_order.proofs.Stages.{gx}
+use Rattle.gx_law_order.proofs.Statuses.{Moves, Stage, Turned, reply-turns, stage}
+use Rattle.gx_law_order.proofs.Statuses.Stage.{Absent, Closing, Dropped, Finished, Live}
+use Rattle.gx_law_reads.proofs.Reading.{at-self}
 use Rattle.gx_ids.specs.declared.ids.Cid.{Cid}
 use Rattle.gx_ids.specs.declared.ids.Gxid.{Gxid}
 use Rattle.gx_ids.specs.declared.ids.Node.{Node}
@@ -17,7 +23,7 @@ use Rattle.gx_dsnap.specs.declared.snapshot.Snapshot.{Snapshot}
 use Rattle.gx_dtx.specs.Rules.{Turn, on_abort, on_commit, on_reply}
 use Rattle.gx_dtx.specs.declared.outcome.Outcome.{Outcome}
 use Rattle.gx_dtx.specs.declared.outcome.Outcome.TheVariants as outcome
-use Rattle.gx_locks.specs.Locks.{Locks, is_free}
+use Rattle.gx_locks.specs.Locks.{Locks, is_free, resumed}
 use Rattle.gx_meaning.specs.declared.fault.ArithFault.{ArithFault}
 use Rattle.gx_meaning.specs.declared.piece.Piece.{Piece}
 use Rattle.gx_msg.specs.declared.message.Message.{Message}
@@ -35,7 +41,7 @@ use Rattle.gx_store.specs.declared.mark.Mark.{Mark}
 use Rattle.gx_store.specs.declared.mark.Mark.TheVariants as mark
 use Rattle.gx_store.specs.Refusals.{the_coordinator}
 use Rattle.gx_store.specs.Writes.{dist_of}
-use Rattle.gx_rules.specs.AtCoordinator.{Reading, answer_mark, begins, completes, ends_in, failure_marks, fault_mark, follows, goes, goes_on, goes_on_locked, if_granted, is_awaited, is_refused, lock_for, next_cid, on_answer, on_done, on_failed, on_line, on_message, on_status, reads_by, reads_for, reason_of, requests, table_of, takes_done, with_done, writers_with}
+use Rattle.gx_rules.specs.AtCoordinator.{Reading, answer_mark, begins, completes, ends_in, failure_marks, fault_mark, follows, goes, goes_on, goes_on_locked, if_granted, is_awaited, is_refused, lock_for, next_cid, on_answer, on_done, on_failed, on_line, on_message, on_status, reads_by, reads_for, reason_of, requests, resumes, table_of, takes_done, with_done, writers_with}
 use Rattle.gx_meaning.specs.Plan.{plan_of}
 use Rattle.gx_rules.specs.Coordinators.{Command, Coord, CoordTurn, Work, rests, session_of, with_work, work_of}
 use Rattle.gx_rules.specs.Fits.{fits_part}
@@ -78,11 +84,45 @@ back-none : (locks : Locks) (g : Gxid) → Each NoAnswer (release_marks the_coor
 back-none locks g = each-released NoAnswer the_coordinator locks g (λ claim. tt)
 
 -- ANSWERS OF SEGMENTS
-abbrev Any : SessionId → StmtAnswer → Type 0
-Any s a = Unit {0}
+abbrev pub IsRefusal : StmtAnswer → Type 0
+IsRefusal (told.Refused reason) = Unit {0}
+IsRefusal _ = ⊥
 
-abbrev pub Deals : CoordTurn → Type 0
-Deals turn = OneAnswer Dull Any turn.marks
+-- the session's transaction has no statement that waits
+abbrev pub IsServed : Coord → SessionId → Type 0
+IsServed c s = (work_of c (session_of c s).transaction).waiting ≡ None
+
+-- who has a command under way, or is on its way to a commit, is served
+module _ (c : Coord) (kept : Kept c) (g : Gxid) where
+  is-home : (session_of c (work_of c g).session).transaction.0 ≡ g.0 → (work_of c g).waiting ≡ None → IsServed c (work_of c g).session
+  is-home e f = subst (λ j. (c.works j).waiting ≡ None) (sym e) f
+
+  none-some : {A : Type 0} (o : Option A) (x : A) → o ≡ None → o ≡ Some x → ⊥
+  none-some o x e f = cc
+
+  idle-busy : (k : Command) → (work_of c g).command ≡ Some k → (o : Option Stmt) → (work_of c g).waiting ≡ o → o ≡ None
+  idle-busy k e None f = refl
+  idle-busy k e (Some line) f = absurd (none-some (work_of c g).command k ((kept.tied g.0).waits line f).1 e)
+
+  served-busy : (k : Command) → (work_of c g).command ≡ Some k → IsServed c (work_of c g).session
+  served-busy k e = by_stage (stage_of c g.0) refl ((kept.tied g.0).busy k e).0
+    where
+      by_stage : (a : Stage) → stage_of c g.0 ≡ a → is_said a ≡ true → IsServed c (work_of c g).session
+      by_stage Live f q = is-home ((kept.tied g.0).live f).0 (idle-busy k e (work_of c g).waiting refl)
+      by_stage Closing f q = is-home ((kept.tied g.0).closing f).0 (idle-busy k e (work_of c g).waiting refl)
+      by_stage Absent f q = absurd (cc)
+      by_stage Dropped f q = absurd (cc)
+      by_stage Finished f q = absurd (cc)
+
+  served-closing : stage_of c g.0 ≡ Closing → IsServed c (work_of c g).session
+  served-closing e = is-home ((kept.tied g.0).closing e).0 (by_line (work_of c g).waiting refl)
+    where
+      apart : Live ≡ Closing → ⊥
+      apart q = cc
+
+      by_line : (o : Option Stmt) → (work_of c g).waiting ≡ o → o ≡ None
+      by_line None f = refl
+      by_line (Some line) f = absurd (apart (sym ((kept.tied g.0).waits line f).0 ∙ e))
 
 failure_dull : (i : Node) (g : Gxid) → Each Dull (failure_marks i g)
 failure_dull i g = by_test (i.0 == 0)
@@ -91,68 +131,81 @@ failure_dull i g = by_test (i.0 == 0)
     by_test true = (tt, tt)
     by_test false = tt
 
-refused : (c : Coord) (g : Gxid) (turn : Turn) (why : List Mark) (reason : Refused) → Each Dull why → Deals (is_refused c g turn why reason)
-refused c g turn why reason e = pushed Dull Any why (mark.Abort g ∷ answer_mark c (work_of c g).session (told.Refused reason) ∷ release_marks the_coordinator c.locks g) (λ s n a b. b) e (tt, (tt, back-none c.locks g))
+-- an answer is a refusal, or to who is served
+module _ (c0 : Coord) where
+  abbrev Says : SessionId → StmtAnswer → Type 0
+  Says s a = IsRefusal a ⊎ IsServed c0 s
 
-follow : (c : Coord) (g : Gxid) (turn : Turn) (o : Outcome) → Deals (follows c g turn o)
-follow c g turn outcome.Pending = tt
-follow c g turn outcome.Decided = (tt, tt)
-follow c g turn outcome.Committed = (tt, (tt, back-none c.locks g))
-follow c g turn (outcome.Refused i) = refused c g turn (failure_marks i g) _ (failure_dull i g)
-follow c g turn outcome.Ended = tt
+  abbrev pub Deals : CoordTurn → Type 0
+  Deals turn = OneAnswer Dull (λ s a. IsRefusal a ⊎ IsServed c0 s) turn.marks
 
-complete : (c : Coord) (g : Gxid) (b : Block) → Deals (completes c g b)
-complete c g block.Outside = follow c g (on_commit c.table g (work_of c g).writers) (on_commit c.table g (work_of c g).writers).out.outcome
-complete c g (block.Open level) = (tt, tt)
-complete c g block.Failed = (tt, tt)
+  refused : (c : Coord) (g : Gxid) (turn : Turn) (why : List Mark) (reason : Refused) → Each Dull why → Deals (is_refused c g turn why reason)
+  refused c g turn why reason e = pushed Dull Says why (mark.Abort g ∷ answer_mark c (work_of c g).session (told.Refused reason) ∷ release_marks the_coordinator c.locks g) (λ s n a b. b) e (tt, (inl tt, back-none c.locks g))
 
-go_on : (c : Coord) (g : Gxid) (left : List Node) → Deals (goes_on c g left)
-go_on c g [] = complete c g (session_of c (work_of c g).session).state.block
-go_on c g (i ∷ is) = tt
+  follow : (c : Coord) (g : Gxid) (turn : Turn) (o : Outcome) → (o ≡ outcome.Committed → IsServed c0 (work_of c g).session) → Deals (follows c g turn o)
+  follow c g turn outcome.Pending e = tt
+  follow c g turn outcome.Decided e = (tt, tt)
+  follow c g turn outcome.Committed e = (tt, (inr (e refl), back-none c.locks g))
+  follow c g turn (outcome.Refused i) e = refused c g turn (failure_marks i g) _ (failure_dull i g)
+  follow c g turn outcome.Ended e = tt
 
-either : (b : Bool) (x y : CoordTurn) → Deals x → Deals y → Deals (if b then x else y)
-either true x y e f = e
-either false x y e f = f
+  complete : (c : Coord) (g : Gxid) (b : Block) → IsServed c0 (work_of c g).session → Deals (completes c g b)
+  complete c g block.Outside e = follow c g (on_commit c.table g (work_of c g).writers) (on_commit c.table g (work_of c g).writers).out.outcome (λ q. e)
+  complete c g (block.Open level) e = (inr e, tt)
+  complete c g block.Failed e = (inr e, tt)
 
-done : (c : Coord) (g : Gxid) (i : Node) (cid : Cid) (wrote : Bool) (count : ℕ) (part : Part) (k : Option Command) → Deals (on_done c g i cid wrote count part k)
-done c g i cid wrote count part None = tt
-done c g i cid wrote count part (Some k) =
-    either (is_awaited k i cid && fits_part k.stmt part) (takes_done c g i wrote count part k) (rests c)
-    (go_on (with_work c g (record (work_of c g) { writers = writers_with wrote i (work_of c g).writers; command = Some (with_done k i count part) })) g (with_done k i count part).awaited) tt
+  go_on : (c : Coord) (g : Gxid) (left : List Node) → IsServed c0 (work_of c g).session → Deals (goes_on c g left)
+  go_on c g [] e = complete c g (session_of c (work_of c g).session).state.block e
+  go_on c g (i ∷ is) e = tt
 
-failed : (c : Coord) (g : Gxid) (i : Node) (cid : Cid) (cause : Cause) (k : Option Command) → Deals (on_failed c g i cid cause k)
-failed c g i cid cause None = tt
-failed c g i cid cause (Some k) = either (is_awaited k i cid) (is_refused c g (on_abort c.table g) [] (reason_of cause)) (rests c) (refused c g (on_abort c.table g) [] (reason_of cause) tt) tt
+  either : (b : Bool) (x y : CoordTurn) → Deals x → Deals y → Deals (if b then x else y)
+  either true x y e f = e
+  either false x y e f = f
 
-status : (c : Coord) (g : Gxid) (i : Node) (r : Reply) (fails : Bool) → Deals (on_status c g i r fails)
-status c g i r fails = follow c g (on_reply c.table g i r fails) (on_reply c.table g i r fails).out.outcome
+module _ (c : Coord) (kept : Kept c) where
+  done : (g : Gxid) (i : Node) (cid : Cid) (wrote : Bool) (count : ℕ) (part : Part) (k : Option Command) → (work_of c g).command ≡ k → Deals c (on_done c g i cid wrote count part k)
+  done g i cid wrote count part None e = tt
+  done g i cid wrote count part (Some k) e =
+      either c (is_awaited k i cid && fits_part k.stmt part) (takes_done c g i wrote count part k) (rests c) (go_on c (with_work c g w) g (with_done k i count part).awaited (subst (λ (v : Work). IsServed c v.session) (sym (at-self c.works g.0 w)) (served-busy c kept g k e))) tt
+    where
+      w : Work
+      w = record (work_of c g) { writers = writers_with wrote i (work_of c g).writers; command = Some (with_done k i count part) }
 
-answered : (c : Coord) (g : Gxid) (i : Node) (fails : Bool) (r : Reply) → Deals (on_answer c g i fails r)
-answered c g i fails (reply.Done cid wrote count part) = done c g i cid wrote count part (work_of c g).command
-answered c g i fails (reply.Failed cid cause) = failed c g i cid cause (work_of c g).command
-answered c g i fails reply.Prepared = status c g i reply.Prepared fails
-answered c g i fails reply.Committed = status c g i reply.Committed fails
-answered c g i fails reply.Jfault = status c g i reply.Jfault fails
-answered c g i fails reply.Again = status c g i reply.Again fails
-answered c g i fails reply.Aborted = status c g i reply.Aborted fails
-answered c g i fails reply.Forgotten = status c g i reply.Forgotten fails
+  failed : (g : Gxid) (i : Node) (cid : Cid) (cause : Cause) (k : Option Command) → Deals c (on_failed c g i cid cause k)
+  failed g i cid cause None = tt
+  failed g i cid cause (Some k) = either c (is_awaited k i cid) (is_refused c g (on_abort c.table g) [] (reason_of cause)) (rests c) (refused c c g (on_abort c.table g) [] (reason_of cause) tt) tt
 
-pub message-deals : (c : Coord) (from : Node) (fails : Bool) (m : Message) → Deals (on_message c from fails m)
-message-deals c from fails (message.Answer g r) = answered c g from fails r
-message-deals c from fails (message.Exec g cid level x h y) = tt
-message-deals c from fails (message.Prepare g) = tt
-message-deals c from fails (message.Commit g) = tt
-message-deals c from fails (message.CommitPrepared g) = tt
-message-deals c from fails (message.Abort g) = tt
-message-deals c from fails (message.Forget g) = tt
-message-deals c from fails (message.Collect round) = tt
-message-deals c from fails (message.Graph round graph) = tt
+  status : (g : Gxid) (i : Node) (r : Reply) (fails : Bool) → Deals c (on_status c g i r fails)
+  status g i r fails = follow c c g (on_reply c.table g i r fails) (on_reply c.table g i r fails).out.outcome (λ e. served-closing c kept g (first e))
+    where
+      t : Turned c.table g.0 (on_reply c.table (gx g.0) i r fails) Moves
+      t = reply-turns c.table g.0 i r fails kept.whole
+
+      first : (on_reply c.table g i r fails).out.outcome ≡ outcome.Committed → stage_of c g.0 ≡ Closing
+      first e = (subst (Moves (stage (find_txn c.table (gx g.0))) (stage t.now)) e t.how).0
+
+  answered : (g : Gxid) (i : Node) (fails : Bool) (r : Reply) → Deals c (on_answer c g i fails r)
+  answered g i fails (reply.Done cid wrote count part) = done g i cid wrote count part (work_of c g).command refl
+  answered g i fails (reply.Failed cid cause) = failed g i cid cause (work_of c g).command
+  answered g i fails reply.Prepared = status g i reply.Prepared fails
+  answered g i fails reply.Committed = status g i reply.Committed fails
+  answered g i fails reply.Jfault = status g i reply.Jfault fails
+  answered g i fails reply.Again = status g i reply.Again fails
+  answered g i fails reply.Aborted = status g i reply.Aborted fails
+  answered g i fails reply.Forgotten = status g i reply.Forgotten fails
+
+  pub message-deals : (from : Node) (fails : Bool) (m : Message) → Deals c (on_message c from fails m)
+  message-deals from fails (message.Answer g r) = answered g from fails r
+  message-deals from fails (message.Exec g cid level x h y) = tt
+  message-deals from fails (message.Prepare g) = tt
+  message-deals from fails (message.Commit g) = tt
+  message-deals from fails (message.CommitPrepared g) = tt
+  message-deals from fails (message.Abort g) = tt
+  message-deals from fails (message.Forget g) = tt
+  message-deals from fails (message.Collect round) = tt
+  message-deals from fails (message.Graph round graph) = tt
 
 -- LINES
-abbrev pub IsRefusal : StmtAnswer → Type 0
-IsRefusal (told.Refused reason) = Unit {0}
-IsRefusal _ = ⊥
-
 -- the answer is to the line that starts, which takes no lock, or a refusal
 abbrev pub AtOnce : SessionId → Stmt → SessionId → StmtAnswer → Type 0
 AtOnce s line k a = ((k ≡ s) × ((g : Gxid) → lock_for g line ≡ None)) ⊎ IsRefusal a
@@ -160,16 +213,71 @@ AtOnce s line k a = ((k ≡ s) × ((g : Gxid) → lock_for g line ≡ None)) ⊎
 abbrev pub Starts : SessionId → Stmt → List Mark → Type 0
 Starts s line ms = OneAnswer NoAnswer (AtOnce s line) ms
 
+-- only refusals
+abbrev pub Refuses : List Mark → Type 0
+Refuses ms = OneAnswer NoAnswer (λ k a. IsRefusal a) ms
+
+refuses-starts : (s : SessionId) (line : Stmt) (ms : List Mark) → Refuses ms → Starts s line ms
+refuses-starts s line [] e = tt
+refuses-starts s line (mark.Answer k n a ∷ ms) e = (inr e.0, e.1)
+refuses-starts s line (m ∷ ms) e = (e.0, refuses-starts s line ms e.1)
+
+refused_one : (c : Coord) (g : Gxid) (turn : Turn) (why : List Mark) (reason : Refused) → Each NoAnswer why → Refuses (is_refused c g turn why reason).marks
+refused_one c g turn why reason e = pushed NoAnswer (λ k a. IsRefusal a) why (mark.Abort g ∷ answer_mark c (work_of c g).session (told.Refused reason) ∷ release_marks the_coordinator c.locks g) (λ k n a b. b) e (tt, (tt, back-none c.locks g))
+
+failure_none : (i : Node) (g : Gxid) → Each NoAnswer (failure_marks i g)
+failure_none i g = by_test (i.0 == 0)
+  where
+    by_test : (b : Bool) → Each NoAnswer (if b then mark.JournalFailed the_coordinator g ∷ [] else [])
+    by_test true = (tt, tt)
+    by_test false = tt
+
+none-one : (ms : List Mark) → Each NoAnswer ms → Refuses ms
+none-one [] e = tt
+none-one (mark.Answer k n a ∷ ms) e = absurd e.0
+none-one (m ∷ ms) e = (e.0, none-one ms e.1)
+
+read_none : (c : Coord) (g : Gxid) (cid : Cid) (w : Work) (x : Option Snapshot) → Each NoAnswer (reads_by c g cid w x).marks
+read_none c g cid w None = (tt, tt)
+read_none c g cid w (Some x) = tt
+
+reading_none : (c : Coord) (g : Gxid) (cid : Cid) (w : Work) (l : Stmt) → Each NoAnswer (reads_for c g cid w l).marks
+reading_none c g cid w (stmt.Lock table mode) = tt
+reading_none c g cid w (stmt.Begin level) = read_none c g cid w w.snapshot
+reading_none c g cid w stmt.Commit = read_none c g cid w w.snapshot
+reading_none c g cid w stmt.Rollback = read_none c g cid w w.snapshot
+reading_none c g cid w (stmt.Select q) = read_none c g cid w w.snapshot
+reading_none c g cid w (stmt.Insert t x) = read_none c g cid w w.snapshot
+reading_none c g cid w (stmt.Update t x y) = read_none c g cid w w.snapshot
+reading_none c g cid w (stmt.Delete t x) = read_none c g cid w w.snapshot
+
+fault_none : (g : Gxid) (cid : Cid) (l : Stmt) → Each NoAnswer (fault_mark g cid l)
+fault_none g cid (stmt.Insert t x) = (tt, tt)
+fault_none g cid (stmt.Begin level) = tt
+fault_none g cid stmt.Commit = tt
+fault_none g cid stmt.Rollback = tt
+fault_none g cid (stmt.Select q) = tt
+fault_none g cid (stmt.Update t x y) = tt
+fault_none g cid (stmt.Delete t x) = tt
+fault_none g cid (stmt.Lock t m) = tt
+
+go_one : (g : Gxid) (cid : Cid) (l : Stmt) (r : Reading) (plan : Result (List Piece) ArithFault) → Each NoAnswer r.marks → Refuses (goes g cid l r plan).marks
+go_one g cid l r (Ok pieces) e = none-one r.marks e
+go_one g cid l r (Err f) e = refused_one r.coord g (on_abort r.coord.table g) (r.marks ++ fault_mark g cid l) _ (each_append NoAnswer r.marks (fault_mark g cid l) e (fault_none g cid l))
+
+locked_one : (script : Script) (c : Coord) (g : Gxid) (l : Stmt) → Refuses (goes_on_locked script c g l).marks
+locked_one script c g l =
+    go_one g (next_cid (work_of c g)) l (reads_for c g (next_cid (work_of c g)) (work_of c g) l) (plan_of script.segments (dist_of script.tables (table_of l)) g (next_cid (work_of c g)) l) (reading_none c g (next_cid (work_of c g)) (work_of c g) l)
+
+-- a statement that goes out behind a wait
+pub resume-refuses : (script : Script) (c : Coord) (g : Gxid) (o : Option Claim) (line : Option Stmt) → Refuses (resumes script c g o line).marks
+resume-refuses script c g None line = tt
+resume-refuses script c g (Some wanted) None = tt
+resume-refuses script c g (Some wanted) (Some line) = (tt, locked_one script (with_work (record c { locks = resumed c.locks g (Some wanted) }) g (record (work_of c g) { waiting = None })) g line)
+
 module _ (script : Script) (s : SessionId) (line : Stmt) where
   refused_starts : (c : Coord) (g : Gxid) (turn : Turn) (why : List Mark) (reason : Refused) → Each NoAnswer why → Starts s line (is_refused c g turn why reason).marks
-  refused_starts c g turn why reason e = pushed NoAnswer (AtOnce s line) why (mark.Abort g ∷ answer_mark c (work_of c g).session (told.Refused reason) ∷ release_marks the_coordinator c.locks g) (λ k n a b. b) e (tt, (inr tt, back-none c.locks g))
-
-  failure_none : (i : Node) (g : Gxid) → Each NoAnswer (failure_marks i g)
-  failure_none i g = by_test (i.0 == 0)
-    where
-      by_test : (b : Bool) → Each NoAnswer (if b then mark.JournalFailed the_coordinator g ∷ [] else [])
-      by_test true = (tt, tt)
-      by_test false = tt
+  refused_starts c g turn why reason e = refuses-starts s line (is_refused c g turn why reason).marks (refused_one c g turn why reason e)
 
   follow_starts : (c : Coord) (g : Gxid) (turn : Turn) (o : Outcome) → (work_of c g).session ≡ s → ((h : Gxid) → lock_for h line ≡ None) → Starts s line (follows c g turn o).marks
   follow_starts c g turn outcome.Pending home free = tt
@@ -178,41 +286,8 @@ module _ (script : Script) (s : SessionId) (line : Stmt) where
   follow_starts c g turn (outcome.Refused i) home free = refused_starts c g turn (failure_marks i g) _ (failure_none i g)
   follow_starts c g turn outcome.Ended home free = tt
 
-  none-one : (ms : List Mark) → Each NoAnswer ms → Starts s line ms
-  none-one [] e = tt
-  none-one (mark.Answer k n a ∷ ms) e = absurd e.0
-  none-one (m ∷ ms) e = (e.0, none-one ms e.1)
-
-  read_none : (c : Coord) (g : Gxid) (cid : Cid) (w : Work) (x : Option Snapshot) → Each NoAnswer (reads_by c g cid w x).marks
-  read_none c g cid w None = (tt, tt)
-  read_none c g cid w (Some x) = tt
-
-  reading_none : (c : Coord) (g : Gxid) (cid : Cid) (w : Work) (l : Stmt) → Each NoAnswer (reads_for c g cid w l).marks
-  reading_none c g cid w (stmt.Lock table mode) = tt
-  reading_none c g cid w (stmt.Begin level) = read_none c g cid w w.snapshot
-  reading_none c g cid w stmt.Commit = read_none c g cid w w.snapshot
-  reading_none c g cid w stmt.Rollback = read_none c g cid w w.snapshot
-  reading_none c g cid w (stmt.Select q) = read_none c g cid w w.snapshot
-  reading_none c g cid w (stmt.Insert t x) = read_none c g cid w w.snapshot
-  reading_none c g cid w (stmt.Update t x y) = read_none c g cid w w.snapshot
-  reading_none c g cid w (stmt.Delete t x) = read_none c g cid w w.snapshot
-
-  fault_none : (g : Gxid) (cid : Cid) (l : Stmt) → Each NoAnswer (fault_mark g cid l)
-  fault_none g cid (stmt.Insert t x) = (tt, tt)
-  fault_none g cid (stmt.Begin level) = tt
-  fault_none g cid stmt.Commit = tt
-  fault_none g cid stmt.Rollback = tt
-  fault_none g cid (stmt.Select q) = tt
-  fault_none g cid (stmt.Update t x y) = tt
-  fault_none g cid (stmt.Delete t x) = tt
-  fault_none g cid (stmt.Lock t m) = tt
-
-  go_starts : (g : Gxid) (cid : Cid) (l : Stmt) (r : Reading) (plan : Result (List Piece) ArithFault) → Each NoAnswer r.marks → Starts s line (goes g cid l r plan).marks
-  go_starts g cid l r (Ok pieces) e = none-one r.marks e
-  go_starts g cid l r (Err f) e = refused_starts r.coord g (on_abort r.coord.table g) (r.marks ++ fault_mark g cid l) _ (each_append NoAnswer r.marks (fault_mark g cid l) e (fault_none g cid l))
-
   locked_starts : (c : Coord) (g : Gxid) (l : Stmt) → Starts s line (goes_on_locked script c g l).marks
-  locked_starts c g l = go_starts g (next_cid (work_of c g)) l (reads_for c g (next_cid (work_of c g)) (work_of c g) l) (plan_of script.segments (dist_of script.tables (table_of l)) g (next_cid (work_of c g)) l) (reading_none c g (next_cid (work_of c g)) (work_of c g) l)
+  locked_starts c g l = refuses-starts s line (goes_on_locked script c g l).marks (locked_one script c g l)
 
   dispatch_starts : (c : Coord) (g : Gxid) (l : Stmt) (o : Option Claim) → Starts s line (requests script c g l o).marks
   dispatch_starts c g l None = locked_starts c g l

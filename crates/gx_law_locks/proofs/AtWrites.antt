@@ -4,7 +4,7 @@ use Rattle.std.specs.Prelude.{map}
 use Rattle.gx_ids.specs.declared.ids.Node.{Node}
 use Rattle.gx_modes.specs.declared.modes.Mode.TheVariants.{AccessShare, RowExclusive}
 use Rattle.gx_waits.specs.declared.object.Object.TheVariants.{Relation}
-use Rattle.gx_locks.specs.Locks.{is_free}
+use Rattle.gx_locks.specs.Locks.{is_free, resumed}
 use Rattle.gx_store.specs.Waits.{added, claim, holds_from}
 use Rattle.gx_rules.specs.Locks.{has_there, release_mark, with_hold}
 use Rattle.gx_law_locks.proofs.Lasting.{IsIn, in-new}
@@ -30,9 +30,9 @@ use Rattle.gx_msg.specs.declared.reply.Reply.{Reply}
 use Rattle.gx_script.specs.declared.Script.{Script}
 use Rattle.gx_store.specs.declared.mark.Mark.{Mark}
 use Rattle.gx_store.specs.declared.mark.Mark.TheVariants as mark
-use Rattle.gx_rules.specs.AtSegment.{commits, finishes, if_fits, on_abort, on_commit, on_commit_prepared, on_exec, on_forget, on_message, on_prepare, once, promises, raised, repeats, takes, unless_below, was_prepared}
+use Rattle.gx_rules.specs.AtSegment.{commits, finishes, if_fits, on_abort, on_commit, on_commit_prepared, on_exec, on_forget, on_message, on_prepare, once, promises, raised, repeats, resumes, takes, unless_below, was_prepared}
 use Rattle.gx_rules.specs.Fits.{fits_exec, is_waiting}
-use Rattle.gx_rules.specs.Segments.{Local, Phase, Seg, SegTurn, local_of, stays, tells_kept}
+use Rattle.gx_rules.specs.Segments.{Local, Phase, Seg, SegTurn, Suspended, local_of, stays, tells_kept, with_local}
 use Rattle.gx_rules.specs.Segments.Phase.{Aborted, Committed, Forgotten, Prepared, Reading, Writing}
 use Rattle.gx_rules.specs.Shown.{shown}
 use Rattle.gx_rules.specs.Slices.{inserted, Moved, first_fault, inserts_row, requests, runs_locked, runs_slice, selects, slice_lock, suspends}
@@ -135,6 +135,24 @@ module _ (script : Script) (P : Gxid → Table → Type 0) (s : Seg) where
   starts h g c level (Some snapshot) (slice.Update table assigns cond) p = tt
   starts h g c level (Some snapshot) (slice.Delete table cond) p = tt
   starts h g c level (Some snapshot) (slice.Lock table mode) p = tt
+
+  -- behind a wait
+  pub resume_writes : (g : Gxid) (wanted : Claim) (x : Suspended) (y : Slice) → slice_lock g y ≡ Some wanted → SliceHas P g y → Writes (resumes s g (Some wanted) (Some (record x { slice = y })))
+  resume_writes g wanted x (slice.Select q) e p = select_runs _ g x.cid x.snapshot q _
+  resume_writes g wanted x (slice.Insert table rows) e p =
+      subst (λ (w : Claim). Writes (resumes s g (Some w) (Some (record x { slice = slice.Insert table rows })))) (same (claim g (Relation table) RowExclusive) wanted e)
+      (subst (λ holds. AreWritesHeld P s.node holds (runs_slice (free (claim g (Relation table) RowExclusive)) g x.cid x.snapshot (slice.Insert table rows)).marks)
+      (sym (ap (λ b. if b then added (claim g (Relation table) RowExclusive) s.locks.holds else s.locks.holds) (node-itself s.node)))
+      (insert_runs (free (claim g (Relation table) RowExclusive)) g x.cid x.snapshot table rows (added (claim g (Relation table) RowExclusive) s.locks.holds) (in-new (claim g (Relation table) RowExclusive) s.locks.holds) p))
+    where
+      same : (a b : Claim) → Some a ≡ Some b → a ≡ b
+      same a b q = cc
+
+      free : Claim → Seg
+      free w = record (with_local s g (record (local_of s g) { suspended = None })) { locks = resumed s.locks g (Some w) }
+  resume_writes g wanted x (slice.Update table assigns cond) e p = absurd (cc)
+  resume_writes g wanted x (slice.Delete table cond) e p = absurd (cc)
+  resume_writes g wanted x (slice.Lock table mode) e p = absurd (cc)
 
   repeat : (g : Gxid) (c : Cid) (l : Local) → Writes (repeats s g c l)
   repeat g c l = either (c.0 == l.last) _ _ (kept g l.answer) stay

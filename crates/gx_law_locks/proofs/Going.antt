@@ -27,7 +27,7 @@ use Rattle.gx_rules.specs.AtCoordinator.{Reading, awaited, begins, command_order
 use Rattle.gx_rules.specs.Locks.{with_hold}
 use Rattle.gx_rules.specs.Maps.{with_at}
 use Rattle.gx_rules.specs.Slices.{slice_lock}
-use Rattle.gx_law_order.proofs.Calm.{AreCalm, nobody-waits}
+use Rattle.gx_law_order.proofs.Waiting.{GoesOut}
 use Rattle.gx_law_order.proofs.Lists.{Each, each_flat, each_map, each_weaker}
 use Rattle.gx_law_sessions.proofs.Outs.{IsBare, NoExec, abort-bare, commit-bare, reply-bare}
 use Rattle.gx_law_locks.proofs.Lasting.{IsIn, in-added, in-new, in-released}
@@ -418,12 +418,38 @@ command_locked holds g i (Some k) other e h = by_test (has i k.awaited)
     by_test true = order_locked holds g i k.orders e.1
     by_test false = h
 
-pub event-goes : (script : Script) (c : Coord) (e : NodeEvent) (fails : Bool) → AreCalm c.locks → Good c → Going (on_event script c e fails)
-event-goes script c (event.Deliver from envelope) fails calm e = message_taken c from fails envelope.message e
-event-goes script c (event.Start s) fails calm e = start script c s (next_line script c s) e
-event-goes script c (event.End s) fails calm e = end c s (session_of c s).state.block e
-event-goes script c (event.Resend i (Some g)) fails calm e =
+-- BEHIND A WAIT
+-- who resumes goes out
+abbrev pub GoneOut : Coord → NodeEvent → Type 0
+GoneOut c (event.Resume g) = GoesOut c g
+GoneOut c _ = Unit {0}
+
+goes-out-is : (script : Script) (c : Coord) (g : Gxid) (wanted : Claim) (line : Stmt) → wait_of c.locks g ≡ Some wanted → (work_of c g).waiting ≡ Some line → resumes script c g (wait_of c.locks g) (work_of c g).waiting ≡ resumes script c g (Some wanted) (Some line)
+goes-out-is script c g wanted line e f = cc
+
+resume : (script : Script) (c : Coord) (g : Gxid) → GoesOut c g → Good c → Going (resumes script c g (wait_of c.locks g) (work_of c g).waiting)
+resume script c g d e = subst Going (sym (goes-out-is script c g d.wanted d.line d.claims d.is)) (record { coord = x.coord; outs = x.outs })
+  where
+    w : Work
+    w = record (work_of c g) { waiting = None }
+
+    c1 : Coord
+    c1 = with_work (record c { locks = locks.resumed c.locks g (Some d.wanted) }) g w
+
+    held : AreLocked (added d.wanted c.locks.holds) c.works
+    held j = command-added d.wanted c.locks.holds j (c.works j).command (e j)
+
+    x : Going (goes_on_locked script c1 g d.line)
+    x =
+        go_locked script c1 g d.line (with-work (added d.wanted c.locks.holds) c.works g.0 w held (held g.0))
+        (λ v f. subst (λ u. IsIn (added d.wanted c.locks.holds) u) (some-same d.wanted v (sym d.lock ∙ f)) (in-new d.wanted c.locks.holds))
+
+pub event-goes : (script : Script) (c : Coord) (e : NodeEvent) (fails : Bool) → GoneOut c e → Good c → Going (on_event script c e fails)
+event-goes script c (event.Deliver from envelope) fails out e = message_taken c from fails envelope.message e
+event-goes script c (event.Start s) fails out e = start script c s (next_line script c s) e
+event-goes script c (event.End s) fails out e = end c s (session_of c s).state.block e
+event-goes script c (event.Resend i (Some g)) fails out e =
     again c i (awaited c g i) e (command_locked c.locks.holds g.0 i (work_of c g).command (status_order g (awaited_order c.table g i)) (e g.0) (status_locked c.locks.holds g (awaited_order c.table g i)))
-event-goes script c (event.Resend i None) fails calm e = rest c e
-event-goes script c (event.Resume g) fails calm e = subst (λ o. Going (resumes script c g o (work_of c g).waiting)) (sym (nobody-waits c.locks g calm)) (rest c e)
-event-goes script c event.Round fails calm e = rest c e
+event-goes script c (event.Resend i None) fails out e = rest c e
+event-goes script c (event.Resume g) fails out e = resume script c g out e
+event-goes script c event.Round fails out e = rest c e

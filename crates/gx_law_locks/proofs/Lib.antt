@@ -10,5 +10,6 @@ pub mod Orders
 pub mod Writes
 pub mod Legal
 pub mod Commands
+pub mod Unsent
 pub mod Answering
 pub mod Told

@@ -34,7 +34,6 @@ use Rattle.gx_rules.specs.Segments.{SegTurn}
 use Rattle.gx_rules.specs.Sending.{clock_after}
 use Rattle.gx_law_order.proofs.AtCoordinators.{coord_stays}
 use Rattle.gx_law_order.proofs.AtSegments.{PlainAt, seg_stays}
-use Rattle.gx_law_order.proofs.CalmSegs.{resumes-calm}
 use Rattle.gx_law_order.proofs.Letters.{IsFound, IsLetter}
 use Rattle.gx_law_order.proofs.Lists.{Each, each_weaker}
 use Rattle.gx_law_order.proofs.Ordered.{apart-back, at_coordinator, seg_marks}
@@ -47,8 +46,9 @@ use Rattle.gx_law_reads.proofs.Steps.{HeardAt, IsGiven, SaidTo, given-is, world-
 use Rattle.gx_law_locks.specs.Late.{AreReleasesLate}
 use Rattle.gx_law_locks.specs.Orders.{AreLockedOrders, AreOrdersLocked, IsLockedOrder}
 use Rattle.gx_law_locks.specs.Writes.{AreWritesLocked}
-use Rattle.gx_law_locks.proofs.AtWrites.{AreWritesHeld, MessageHas, Writes, message_writes, none-held}
-use Rattle.gx_law_locks.proofs.Going.{AreLocked, Going, Locked, LockedOut, event-goes, own-gxid}
+use Rattle.gx_law_locks.proofs.AtWrites.{AreWritesHeld, MessageHas, Writes, message_writes, none-held, resume_writes}
+use Rattle.gx_law_locks.proofs.Going.{AreLocked, Going, GoneOut, Locked, LockedOut, event-goes, own-gxid}
+use Rattle.gx_law_order.proofs.Waiting.{GoesOn, HasCome, each-among, goes-on-is, going-on, going-out}
 use Rattle.gx_law_locks.proofs.Lasting.{IsIn, late-behind, still-held}
 use Rattle.gx_law_locks.proofs.Marks.{ended-more, other-holds}
 use Rattle.gx_law_locks.proofs.Released.{each-of}
@@ -178,8 +178,16 @@ module _ (script : Script) (some : 1 ≤ script.segments) where
       locked : world.Locked (coord_did w e (coord_rule script w.coord x fails))
       locked = coord-keeps script some w k v q.locked e x fails ok said
 
+      gone : (x : NodeEvent) → coord_can script w.coord x ≡ true → GoneOut w.coord x
+      gone (here.Resume g) ok = going-out script w k g ok
+      gone (here.Deliver from envelope) ok = tt
+      gone (here.Start s) ok = tt
+      gone (here.End s) ok = tt
+      gone (here.Resend j g) ok = tt
+      gone here.Round ok = tt
+
       goes : Going turn
-      goes = event-goes script w.coord x fails k.well.coordinator.locks q.going
+      goes = event-goes script w.coord x fails (gone x ok) q.going
 
   -- an EXEC that comes was sent with its lock
   order-given : (w : World) → Knows script w → Ordered script w → (e : Event) (i : ℕ) → 1 ≤ i → (from : Node) (envelope : Envelope) → IsGiven w e i from envelope → IsLockedOrder (marks_in w.steps) envelope.message
@@ -198,6 +206,10 @@ module _ (script : Script) (some : 1 ≤ script.segments) where
       by_link (inl l) = subst (λ (a : Envelope). IsLockedOrder (marks_in w.steps) a.message) f.told (f.is.1 l.0)
       by_link (inr l) = absurd (not-zero f.letter.to f.target l.1)
 
+  -- so was one that has come
+  order-come : (w : World) → Ordered script w → (i : ℕ) (m : Message) → HasCome w i m → IsLockedOrder (marks_in w.steps) m
+  order-come w q i m c = subst (IsLockedOrder (marks_in w.steps)) c.told (each-among (LetterLocked (marks_in w.steps)) w.sent c.letter q.letters c.among c.source)
+
   has-lock : (marks : List Mark) (m : Message) → IsLockedOrder marks m → MessageHas (HeldThere marks) m
   has-lock marks (message.Exec g c level x h (slice.Insert table rows)) l = λ run. l run (claim g (Relation table) RowExclusive) refl
   has-lock marks (message.Exec g c level x h (slice.Select q)) l = tt
@@ -215,7 +227,12 @@ module _ (script : Script) (some : 1 ≤ script.segments) where
 
   heard-writes : (w : World) → Knows script w → Ordered script w → (e : Event) (i : ℕ) → 1 ≤ i → (x : NodeEvent) (fails : Bool) → HeardAt script w e i x → Writes script (HeldThere (marks_in w.steps)) (w.segs i) (segment.on_event script (w.segs i) x fails)
   heard-writes w k q e i one (here.Deliver from envelope) fails h = message_writes script (HeldThere (marks_in w.steps)) (w.segs i) fails envelope.message (has-lock (marks_in w.steps) envelope.message (order-given w k q e i one from envelope h))
-  heard-writes w k q e i one (here.Resume g) fails h = resumes-calm (Writes script (HeldThere (marks_in w.steps)) (w.segs i)) (w.segs i) g (k.well.calm i) tt
+  heard-writes w k q e i one (here.Resume g) fails h =
+      subst (Writes script (HeldThere (marks_in w.steps)) (w.segs i)) (sym (goes-on-is (w.segs i) g d.wanted d.slice d.claims d.is))
+      (resume_writes script (HeldThere (marks_in w.steps)) (w.segs i) g d.wanted d.slice d.slice.slice (sym d.waits.wants ∙ d.claims) (has-lock (marks_in w.steps) (message.Exec g d.slice.cid d.slice.level d.slice.snapshot d.waits.horizon d.slice.slice) (order-come w q i (message.Exec g d.slice.cid d.slice.level d.slice.snapshot d.waits.horizon d.slice.slice) d.waits.come)))
+    where
+      d : GoesOn script w i g
+      d = going-on script w k.well i g h
   heard-writes w k q e i one (here.Start s) fails h = absurd h
   heard-writes w k q e i one (here.End s) fails h = absurd h
   heard-writes w k q e i one (here.Resend j g) fails h = absurd h

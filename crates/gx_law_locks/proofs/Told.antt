@@ -1,5 +1,5 @@
 -- Over every run of the machine, a command that succeeds holds its table at its answer's point.
-use Rattle.std.proofs.Common.{◌≡◌, ◌≤◌, inl, inr, ℕ, ◌+◌, List, [], ◌∷◌, ◌++◌, Option, Some, None, Bool, true, false, refl, sym, subst, ap, ◌∙◌, if◌then◌else◌, append_assoc, append-nil, arith, ◌&&◌}
+use Rattle.std.proofs.Common.{◌≡◌, ◌≤◌, ◌⊎◌, inl, inr, ℕ, ◌+◌, List, [], ◌∷◌, ◌++◌, Option, Some, None, Bool, true, false, refl, sym, subst, ap, ◌∙◌, if◌then◌else◌, append_assoc, append-nil, arith, ◌&&◌}
 use Rattle.gx_ids.specs.declared.ids.Cid.{Cid}
 use Rattle.gx_ids.specs.declared.ids.Gxid.{Gxid}
 use Rattle.gx_ids.specs.declared.ids.Node.{Node}
@@ -31,22 +31,24 @@ use Rattle.gx_store.specs.Marks.{is_same_session, answer_count}
 use Rattle.gx_store.specs.Ordered.{IsAtNode}
 use Rattle.gx_store.specs.Points.{Point, before, marks_in, starts_by}
 use Rattle.gx_store.specs.Refusals.{the_coordinator}
-use Rattle.gx_rules.specs.AtCoordinator.{is_nothing, awaited, coord_rule, lock_for, next_line, on_event, resends, resumes, starts, starts_line}
+use Rattle.gx_rules.specs.AtCoordinator.{is_nothing, awaited, coord_rule, lock_for, next_line, on_event, resends, starts, starts_line}
+use Rattle.gx_locks.specs.Locks.{wait_of}
 use Rattle.gx_rules.specs.AtSegment.{seg_rule}
 use Rattle.gx_rules.specs.Coordinators.{Work, session_of, work_of}
-use Rattle.gx_rules.specs.Machine.{at_node, coord_did, seg_did, world_of}
+use Rattle.gx_rules.specs.Machine.{World, at_node, coord_did, seg_did, world_of}
 use Rattle.gx_rules.specs.Sending.{clock_after, counted, numbered}
-use Rattle.gx_law_order.proofs.Calm.{nobody-waits}
 use Rattle.gx_law_order.proofs.Lists.{Each, each_append}
 use Rattle.gx_law_order.proofs.Ordered.{seg_marks, world_well}
 use Rattle.gx_law_order.proofs.Turns.{self-test}
+use Rattle.gx_law_order.proofs.World.{world_knows}
+use Rattle.gx_law_schedules.proofs.Marked.{locks-marked}
 use Rattle.gx_law_schedules.proofs.Steps.{IsAt, IsHere, always}
 use Rattle.gx_law_sessions.proofs.World.{sessions-stand}
 use Rattle.gx_law_sessions.specs.Rest.{EachMark}
 use Rattle.gx_law_sessions.specs.Standing.{IsStanding, waits}
-use Rattle.gx_law_locks.specs.Commands.{AnswerHolds, AreAnswersHeld, AreLeftAlone, DoCommandsHold, HoldsTableOf, HoldsWhenTold}
-use Rattle.gx_law_locks.proofs.Answering.{AtOnce, Dull, IsHome, IsRefusal, NoAnswer, OneAnswer, Starts, end-none, line-starts, message-deals, one-more}
-use Rattle.gx_law_locks.proofs.Commands.{commands-hold}
+use Rattle.gx_law_locks.specs.Commands.{AnswerHolds, AreAnswersHeld, AreLeftAlone, HoldsTableOf, HoldsWhenTold}
+use Rattle.gx_law_locks.proofs.Answering.{AtOnce, Dull, IsHome, IsRefusal, IsServed, NoAnswer, OneAnswer, Starts, end-none, line-starts, message-deals, one-more, resume-refuses}
+use Rattle.gx_law_locks.proofs.Commands.{IsCommandOf, IsRun, IsWaitingOf, out-holds, run-is}
 use Rattle.gx_law_locks.proofs.Orders.{world-orders}
 use Rattle.gx_msg.specs.declared.message.Out.{Out}
 
@@ -86,13 +88,21 @@ dull-alone k g (mark.Release n h object mode ∷ ms) e = absurd e.0
 dull-alone k g (m ∷ ms) e = (tt, dull-alone k g ms e.1)
 
 -- an answer that comes of a segment's
-deals-told : (script : Script) (steps : List Step) (e : Event) → DoCommandsHold script steps → ((s : SessionId) → starts_by s e ≡ 0) → (earlier ms later : List Mark) → Each Dull earlier → OneAnswer Dull (λ s a. Unit {0}) ms → EachMark (AnswerHolds script) steps e earlier ms later
-deals-told script steps e hold none earlier [] later d h = tt
-deals-told script steps e hold none earlier (mark.Answer s n a ∷ ms) later d h = (
-  told-so script (record { steps = steps; event = e; earlier = earlier; later = ms ++ later }) s a (λ line level g c r. hold e earlier (ms ++ later) s line level g c (none s) (dull-alone s g earlier d) r),
-  none-told script steps e (earlier ++ mark.Answer s n a ∷ []) ms later h.1,
-)
-deals-told script steps e hold none earlier (m ∷ ms) later d h = (tt, deals-told script steps e hold none (earlier ++ m ∷ []) ms later (each_append Dull earlier (m ∷ []) d (h.0, tt)) h.1)
+deals-told : (script : Script) (steps : List Step) (e : Event) (P : SessionId → Type 0) → ((s : SessionId) → P s → (earlier later : List Mark) (line : Stmt) (level : Level) (g : Gxid) (c : Cid) → AreLeftAlone s g earlier → RunsCommand script (record { steps = steps; event = e; earlier = earlier; later = later }) s line level g c → HoldsTableOf (marks_in steps ++ earlier) g line) → (earlier ms later : List Mark) → Each Dull earlier → OneAnswer Dull (λ s a. IsRefusal a ⊎ P s) ms → EachMark (AnswerHolds script) steps e earlier ms later
+deals-told script steps e P hold earlier [] later d h = tt
+deals-told script steps e P hold earlier (mark.Answer s n a ∷ ms) later d h = (by_case h.0, none-told script steps e (earlier ++ mark.Answer s n a ∷ []) ms later h.1)
+  where
+    by_case : IsRefusal a ⊎ P s → HoldsWhenTold script (record { steps = steps; event = e; earlier = earlier; later = ms ++ later }) s a
+    by_case (inl f) = refused-so script (record { steps = steps; event = e; earlier = earlier; later = ms ++ later }) s a f
+    by_case (inr f) = told-so script (record { steps = steps; event = e; earlier = earlier; later = ms ++ later }) s a (λ line level g c r. hold s f earlier (ms ++ later) line level g c (dull-alone s g earlier d) r)
+deals-told script steps e P hold earlier (m ∷ ms) later d h = (tt, deals-told script steps e P hold (earlier ++ m ∷ []) ms later (each_append Dull earlier (m ∷ []) d (h.0, tt)) h.1)
+
+-- a refusal
+refuses-told : (script : Script) (steps : List Step) (e : Event) (earlier ms later : List Mark) → OneAnswer NoAnswer (λ k a. IsRefusal a) ms → EachMark (AnswerHolds script) steps e earlier ms later
+refuses-told script steps e earlier [] later h = tt
+refuses-told script steps e earlier (mark.Answer s n a ∷ ms) later h =
+    (refused-so script (record { steps = steps; event = e; earlier = earlier; later = ms ++ later }) s a h.0, none-told script steps e (earlier ++ mark.Answer s n a ∷ []) ms later h.1)
+refuses-told script steps e earlier (m ∷ ms) later h = (tt, refuses-told script steps e (earlier ++ m ∷ []) ms later h.1)
 
 -- an answer at once
 count-none : (k : SessionId) (ms : List Mark) → Each NoAnswer ms → answer_count k ms ≡ 0
@@ -142,8 +152,22 @@ at-node-none script i one (m ∷ ms) e = (tt, at-node-none script i one ms e.1)
 -- ALL STEPS
 module _ (script : Script) (some : 1 ≤ script.segments) where
   module _ (es : List (Event × Bool)) (e : Event) (x : NodeEvent) (fails : Bool) where
-    hold : DoCommandsHold script (world_of script es).steps
-    hold = commands-hold script (world_of script es) (sessions-stand script some es) (world-orders script some es).going (world-orders script some es).locked.marked.coordinator
+    abbrev w : World
+    w = world_of script es
+
+    -- who is served holds its table
+    serve : ((s : SessionId) → starts_by s e ≡ 0) → (s : SessionId) → IsServed (world_of script es).coord s → (earlier later : List Mark) (line : Stmt) (level : Level) (g : Gxid) (c : Cid) → AreLeftAlone s g earlier → RunsCommand script (record { steps = (world_of script es).steps; event = e; earlier = earlier; later = later }) s line level g c → HoldsTableOf (marks_in (world_of script es).steps ++ earlier) g line
+    serve none s served earlier later line level g c alone r = by_way its.way
+      where
+        its : IsRun (marks_in w.steps) w.coord s line g c
+        its = run-is script w (sessions-stand script some es) e earlier later s line level g c (none s) alone r
+
+        clash : (o : Option Stmt) → o ≡ None → o ≡ Some line → ⊥
+        clash o a b = cc
+
+        by_way : IsCommandOf (work_of w.coord (session_of w.coord s).transaction) line ⊎ IsWaitingOf (marks_in w.steps) (work_of w.coord (session_of w.coord s).transaction) line (session_of w.coord s).transaction c → HoldsTableOf (marks_in w.steps ++ earlier) g line
+        by_way (inl it) = out-holds script w (sessions-stand script some es) (world_knows script some es).kept (world-orders script some es).going (world-orders script some es).locked.marked.coordinator (locks-marked script some es).coordinator.waits earlier s line g alone its.txn it
+        by_way (inr it) = absurd (clash (work_of w.coord (session_of w.coord s).transaction).waiting served it.has_it)
 
     -- a delivery starts nothing
     delivery-starts : (d : Event) (from : Node) (envelope : Envelope) → at_node (world_of script es) d ≡ Some (here.Deliver from envelope) → (s : SessionId) → starts_by s d ≡ 0
@@ -204,13 +228,17 @@ module _ (script : Script) (some : 1 ≤ script.segments) where
 
     step-told : (y : NodeEvent) → IsHere script (world_of script es) e y → EachMark (AnswerHolds script) (world_of script es).steps e [] ((on_event script (world_of script es).coord y fails).marks ++ numbered (on_event script (world_of script es).coord y fails).coord.sent (on_event script (world_of script es).coord y fails).outs) []
     step-told (here.Deliver from envelope) h =
-        deals-told script (world_of script es).steps e hold (delivery-starts e from envelope h.is) [] _ [] tt
-        (one-more Dull (λ s a. Unit {0}) (on_event script (world_of script es).coord (here.Deliver from envelope) fails).marks _ (on_event script (world_of script es).coord (here.Deliver from envelope) fails).outs (λ to number told. tt) (message-deals (world_of script es).coord from fails envelope.message))
+        deals-told script (world_of script es).steps e (IsServed (world_of script es).coord) (serve (delivery-starts e from envelope h.is)) [] _ [] tt
+        (one-more Dull (λ s a. IsRefusal a ⊎ IsServed (world_of script es).coord s) (on_event script (world_of script es).coord (here.Deliver from envelope) fails).marks _ (on_event script (world_of script es).coord (here.Deliver from envelope) fails).outs (λ to number told. tt)
+        (message-deals (world_of script es).coord (world_knows script some es).kept from fails envelope.message))
     step-told (here.Start s) h = line-told s (next_line script (world_of script es).coord s) refl (idle-is (session_of (world_of script es).coord s).state.pending (both-of _ _ h.admitted).0)
     step-told (here.End s) h = quiet (here.End s) (end-none (world_of script es).coord s (session_of (world_of script es).coord s).state.block)
     step-told (here.Resend i (Some g)) h = quiet (here.Resend i (Some g)) (resent-none i (awaited (world_of script es).coord g i))
     step-told (here.Resend i None) h = tt
-    step-told (here.Resume g) h = quiet (here.Resume g) (subst (λ o. Each NoAnswer (resumes script (world_of script es).coord g o (work_of (world_of script es).coord g).waiting).marks) (sym (nobody-waits (world_of script es).coord.locks g (world_well script some es).coordinator.locks)) tt)
+    step-told (here.Resume g) h =
+        refuses-told script (world_of script es).steps e [] _ []
+        (one-more NoAnswer (λ k a. IsRefusal a) (on_event script (world_of script es).coord (here.Resume g) fails).marks _ (on_event script (world_of script es).coord (here.Resume g) fails).outs (λ to number told. tt)
+        (resume-refuses script (world_of script es).coord g (wait_of (world_of script es).coord.locks g) (work_of (world_of script es).coord g).waiting))
     step-told here.Round h = tt
 
   coord-told : (es : List (Event × Bool)) → AreAnswersHeld script [] (world_of script es).steps → (e : Event) (x : NodeEvent) (fails : Bool) → IsHere script (world_of script es) e x → AreAnswersHeld script [] (coord_did (world_of script es) e (coord_rule script (world_of script es).coord x fails)).steps

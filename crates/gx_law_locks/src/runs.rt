@@ -62,8 +62,9 @@ pub fn locks_are_legal()
     ensures { (script : Script) (events : List (OneEvent × Bool)) → 1 ≤ script.segments → AreLinesNumbered [] script.lines → AreLocksLegal script (steps_after script events) }
 {}
 
-/// A command that has gone out holds its table at the coordinator: behind each step, and in each step that starts no line of its
-/// session, up to its own answer. AccessShare is what a SELECT holds, RowExclusive what an INSERT holds.
+/// A command under way holds its table at the coordinator, or waits for it there and hasn't gone out: behind each step, and in each
+/// step that starts no line of its session, up to its own answer. AccessShare is what a SELECT holds, RowExclusive what an INSERT
+/// holds.
 pub fn commands_hold_their_tables_until_answered()
     ensures { (script : Script) (events : List (OneEvent × Bool)) → 1 ≤ script.segments → DoCommandsHold script (steps_after script events) }
 {}

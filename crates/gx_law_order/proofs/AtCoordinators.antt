@@ -42,7 +42,7 @@ use Rattle.gx_store.specs.declared.answer.StmtAnswer.TheVariants as told
 use Rattle.gx_store.specs.declared.node.NodeEvent.TheVariants as event
 use Rattle.gx_store.specs.Refusals.{the_coordinator}
 use Rattle.gx_store.specs.Writes.{dist_of}
-use Rattle.gx_rules.specs.AtCoordinator.{Reading, answers, answers_at_once, awaited, begins, behind, command_order, commits, completes, dispatches, ends_in, enlisted_all, failure_marks, fault_mark, follows, goes, goes_on, goes_out, is_awaited, is_committed, is_refused, next_cid, next_line, nodes_in, on_answer, on_done, on_event, on_failed, on_line, on_message, on_status, order_of, order_to, orders_of, reads_by, reads_for, resends, rolls_back, starts, starts_line, status_order, table_of, takes_done, takes_snapshot, unless_kept, with_done, writers_with, goes_on_locked, if_granted, lock_for, requests, resumes, answer_mark}
+use Rattle.gx_rules.specs.AtCoordinator.{Reading, answers, answers_at_once, awaited, begins, behind, command_order, commits, completes, dispatches, ends_in, enlisted_all, failure_marks, fault_mark, follows, goes, goes_on, goes_out, is_awaited, is_committed, is_refused, next_cid, next_line, nodes_in, on_answer, on_done, on_event, on_failed, on_line, on_message, on_status, order_of, order_to, orders_of, reads_by, reads_for, resends, rolls_back, starts, starts_line, status_order, table_of, takes_done, takes_snapshot, unless_kept, with_done, writers_with, goes_on_locked, if_granted, lock_for, requests, resumes, waits_for, answer_mark}
 use Rattle.gx_rules.specs.Coordinators.{Command, Coord, CoordTurn, Session, Work, new_work, no_work, rests, session_of, with_session, with_state, with_work, work_of}
 use Rattle.gx_rules.specs.Fits.{fits_part}
 use Rattle.gx_rules.specs.Maps.{with_at}
@@ -50,8 +50,8 @@ use Rattle.gx_law_order.proofs.AtSegments.{PlainAt}
 use Rattle.gx_law_order.proofs.Lists.{Each, each_append, each_map}
 use Rattle.gx_law_order.proofs.Places.{IsAtOneOf, IsOneOf, PlanIn, plan_in}
 use Rattle.gx_law_order.proofs.Tables.{AreIn, FoundIn, OutIn, PhaseIn, TableIn, TurnIn, begun_in, enlisted_in, find_in, has_in, live_in, on_abort_in, on_commit_in, on_reply_in, with_in, without_in}
-use Rattle.gx_rules.specs.Locks.{hold_mark, release_marks, with_hold}
-use Rattle.gx_locks.specs.Locks.{Locks, wait_of}
+use Rattle.gx_rules.specs.Locks.{hold_mark, release_marks, with_hold, with_wait}
+use Rattle.gx_locks.specs.Locks.{Locks, is_free, resumed, wait_of}
 use Rattle.gx_waits.specs.declared.claim.Claim.{Claim}
 use Rattle.gx_law_order.proofs.Calm.{each-released, AreCalm, calm-free, hold-calm, lock-calm, nobody-waits, release-calm}
 
@@ -211,18 +211,32 @@ module _ (script : Script) where
         let x = go_locked (record c { locks = locks }) g line (record { table = e.table; works = e.works; locks = calm }) in
         record { coord = x.coord; counts = x.counts; marks = (refl, x.marks); outs = x.outs }
 
+    -- or it waits
+    waits_here : (c : Coord) (g : Gxid) (line : Stmt) (wanted : Claim) → CoordIn c → AreCalm (with_wait c.locks wanted) → CoordStays c.sent (waits_for c g line wanted)
+    waits_here c g line wanted e calm =
+        record { coord = record { table = e.table; works = λ j. work_at c.works g.0 j _ e.works (record { writers = (e.works g.0).writers; command = (e.works g.0).command }); locks = calm }; counts = refl; marks = (refl, tt); outs = tt }
+
     request : (c : Coord) (g : Gxid) (line : Stmt) (o : Option Claim) → lock_for g line ≡ o → CoordIn c → CoordStays c.sent (requests script c g line o)
     request c g line None is e = go_locked c g line e
-    request c g line (Some wanted) is e =
-        subst (λ b. CoordStays c.sent (if_granted script c g line wanted b)) (sym (calm-free c.locks wanted e.locks (lock-calm g line wanted is)))
-        (go_held c g line (with_hold c.locks wanted) wanted e (hold-calm c.locks wanted e.locks (lock-calm g line wanted is)))
+    request c g line (Some wanted) is e = by_test (is_free c.locks.holds wanted) refl
+      where
+        by_test : (b : Bool) → is_free c.locks.holds wanted ≡ b → CoordStays c.sent (if_granted script c g line wanted b)
+        by_test true f = go_held c g line (with_hold c.locks wanted) wanted e (hold-calm c.locks wanted e.locks (lock-calm g line wanted is))
+        by_test false f = waits_here c g line wanted e (absurd (clash (is_free c.locks.holds wanted) f (calm-free c.locks wanted e.locks (lock-calm g line wanted is))))
+          where
+            clash : (q : Bool) → q ≡ false → q ≡ true → ⊥
+            clash q e f = cc
 
     dispatch : (c : Coord) (g : Gxid) (line : Stmt) → CoordIn c → CoordStays c.sent (dispatches script c g line)
     dispatch c g line e = request c g line (lock_for g line) refl e
 
-    -- nobody waits
-    resume : (c : Coord) (g : Gxid) (line : Option Stmt) → CoordIn c → CoordStays c.sent (resumes script c g (wait_of c.locks g) line)
-    resume c g line e = subst (λ o. CoordStays c.sent (resumes script c g o line)) (sym (nobody-waits c.locks g e.locks)) (rest c e)
+    -- a statement that has waited goes out with its lock
+    resume : (c : Coord) (g : Gxid) (o : Option Claim) (line : Option Stmt) → AreCalm (resumed c.locks g o) → CoordIn c → CoordStays c.sent (resumes script c g o line)
+    resume c g None line calm e = rest c e
+    resume c g (Some wanted) None calm e = rest c e
+    resume c g (Some wanted) (Some line) calm e =
+        let w : Work = record (work_of c g) { waiting = None } in
+        go_held (with_work c g w) g line (resumed c.locks g (Some wanted)) wanted (works_with c g w e (record { writers = (e.works g.0).writers; command = (e.works g.0).command })) calm
 
     -- lines
     begin : (c : Coord) (s : SessionId) (level : Level) → CoordIn c → CoordIn (begins c s level)
@@ -377,5 +391,5 @@ module _ (script : Script) where
     coord_stays c (event.End s) fails e = end c s _ e
     coord_stays c (event.Resend i (Some g)) fails e = again c i _ e (awaited_has c g i e)
     coord_stays c (event.Resend i None) fails e = rest c e
-    coord_stays c (event.Resume g) fails e = resume c g (work_of c g).waiting e
+    coord_stays c (event.Resume g) fails e = resume c g (wait_of c.locks g) (work_of c g).waiting (subst (λ o. AreCalm (resumed c.locks g o)) (sym (nobody-waits c.locks g e.locks)) e.locks) e
     coord_stays c event.Round fails e = rest c e

@@ -26,11 +26,13 @@ use Rattle.gx_law_order.specs.Seen.{AreEndedSeen}
 use Rattle.gx_law_order.proofs.Ends.{at-runs, at-same, past-at}
 use Rattle.gx_law_order.proofs.Lists.{Each}
 use Rattle.gx_law_order.proofs.Past.{Past, Still, seen-append}
-use Rattle.gx_law_order.proofs.Sessions.{Kept, Placed, Tied, is_closing_in, is_live_in, is_nothing_in, is_open_in, is_working_in, stage_of}
+use Rattle.gx_tree.specs.declared.stmt.Stmt.{Stmt}
+use Rattle.gx_law_order.proofs.Queued.{Queues, queue-stays, queued-by}
+use Rattle.gx_law_order.proofs.Sessions.{Kept, Placed, Tied, is_closing_in, is_live_in, is_nothing_in, is_open_in, is_said, is_working_in, stage_of}
 use Rattle.gx_law_order.proofs.Stages.{At, IsWhole, gx, txn-at}
 use Rattle.gx_law_order.proofs.Statuses.{Closes, Falls, Stage, Turned, abort-turns, commit-turns, is_running, stage}
 use Rattle.gx_law_order.proofs.Statuses.Stage.{Absent, Live, Closing, Finished, Dropped}
-use Rattle.gx_law_order.proofs.Turns.{Base, Good, base-kept, closed-good, falls-is, refused-good, same-sessions, same-works, self-test, stage-is, y-is}
+use Rattle.gx_law_order.proofs.Turns.{Base, Good, base-kept, closed-good, falls-is, refused-good, same-sessions, same-works, self-test, stage-is, work-is, y-is}
 
 -- sessions' states
 closing-closed : (b : Block) (p : Pending) → is_closing_in b p ≡ true → is_open_in (block_after_done b p) ≡ false
@@ -71,8 +73,8 @@ past-same c1 d before ns g now p n f same latest quiet =
 
 module _ (c c1 : Coord) (g s : ℕ) (w1 : Work) (y : Session) (said : Stage) (k : Kept c) (b : Base c c1 g s w1 y said) (before : List Mark) (p : Past c1 before) where
   -- COMMIT of a transaction whose session waits for it
-  pub commits-good : said ≡ Live → is_closing_in y.state.block y.state.pending ≡ true → ((m : Command) → w1.command ≡ Some m → (m.awaited ≡ [] → ⊥) → ⊥) → Good before (commits c1 (gx g))
-  commits-good live closing none = by_outcome turn.out.outcome refl t.how
+  pub commits-good : said ≡ Live → is_closing_in y.state.block y.state.pending ≡ true → ((m : Command) → w1.command ≡ Some m → (m.awaited ≡ [] → ⊥) → ⊥) → ((m : Command) → w1.command ≡ Some m → is_working_in y.state.pending ≡ true) → w1.waiting ≡ None → Good before (commits c1 (gx g))
+  commits-good live closing none working unqueued = by_outcome turn.out.outcome refl t.how
     where
       turn : Turn
       turn = on_commit c1.table (gx g) (work_of c1 (gx g)).writers
@@ -83,7 +85,7 @@ module _ (c c1 : Coord) (g s : ℕ) (w1 : Work) (y : Session) (said : Stage) (k 
       waits : turn.out.outcome ≡ outcome.Pending → stage t.now ≡ Closing → Good before (follows c1 (gx g) turn outcome.Pending)
       waits o e =
           record {
-            kept = base-kept c c1 g s w1 y said k b _ t.now w1 y t.at.whole t.at.finds (same-works c c1 g s w1 y said k b) (same-sessions c c1 g s w1 y said k b) tied b.same_txn placed;
+            kept = base-kept c c1 g s w1 y said k b _ t.now w1 y t.at.whole t.at.finds (same-works c c1 g s w1 y said k b) (same-sessions c c1 g s w1 y said k b) tied b.same_txn placed (queue-stays c1.locks.waits g w1.waiting b.queues1.here);
             past = past-at c1 _ before [] g t.now p t.at.next t.at.finds (λ h n. refl) (subst (λ q. latest_number c1.table.latest_ended ≤ latest_number q) (sym latest) (le-refl (latest_number c1.table.latest_ended)))
                 (subst (λ q. latest_number q < c1.table.next.0) (sym latest) p.drawn)
                 (at-runs c1 before [] p g (stage t.now) _ (ap is_running (stage-is c c1 g s w1 y said k b ∙ live)) (ap is_running e) refl (λ d. absurd (differ (sym e ∙ d))));
@@ -96,6 +98,9 @@ module _ (c c1 : Coord) (g s : ℕ) (w1 : Work) (y : Session) (said : Stage) (k 
           differ : Closing ≡ Dropped → ⊥
           differ z = cc
 
+          no-line : (o : Option Stmt) (l : Stmt) → o ≡ None → o ≡ Some l → ⊥
+          no-line o l e f = cc
+
           never-live : Closing ≡ Live → ⊥
           never-live z = cc
 
@@ -103,7 +108,7 @@ module _ (c c1 : Coord) (g s : ℕ) (w1 : Work) (y : Session) (said : Stage) (k 
           latest = t.latest ∙ ap (λ q. with_ended (ends q) (gx g) c1.table.latest_ended) o
 
           here : (z : Session) → z ≡ y → Tied (stage t.now) g w1 z
-          here z q = subst (λ x. Tied (stage t.now) g w1 x) (sym q) (record { live = λ l. absurd (never-live (sym e ∙ l)); closing = λ l. (b.same_txn, closing); awaits = λ m f r. absurd (none m f r) })
+          here z q = subst (λ x. Tied (stage t.now) g w1 x) (sym q) (record { live = λ l. absurd (never-live (sym e ∙ l)); closing = λ l. (b.same_txn, closing); awaits = λ m f r. absurd (none m f r); busy = λ m f. (ap is_said e, working m f); waits = λ l f. absurd (no-line w1.waiting l unqueued f) })
 
           tied : (z : Session) → z ≡ (if eqb w1.session.0 s then y else c.sessions w1.session.0) → Tied (stage t.now) g w1 z
           tied z q = here z (q ∙ ap (λ x. if x then y else c.sessions w1.session.0) (ap (λ x. eqb x s) b.home1 ∙ self-test s))
@@ -130,8 +135,8 @@ module _ (c c1 : Coord) (g s : ℕ) (w1 : Work) (y : Session) (said : Stage) (k 
       t = abort-turns c1.table g b.whole1 (stage-is c c1 g s w1 y said k b ∙ live)
 
   -- an answer in a block
-  pub answers-good : said ≡ Live → is_open_in y.state.block ≡ true → is_working_in y.state.pending ≡ true → (w : Work) → w.session.0 ≡ s → c1.works g ≡ w → Good before (answers c1 (gx g) w)
-  answers-good live opened working w home same = by_level w.level
+  pub answers-good : said ≡ Live → is_open_in y.state.block ≡ true → is_working_in y.state.pending ≡ true → (w : Work) → w.session.0 ≡ s → c1.works g ≡ w → w.waiting ≡ None → Good before (answers c1 (gx g) w)
+  answers-good live opened working w home same unqueued = by_level w.level
     where
       x : Session
       x = record y { state = after_done y.state }
@@ -148,13 +153,19 @@ module _ (c c1 : Coord) (g s : ℕ) (w1 : Work) (y : Session) (said : Stage) (k 
       set : (j : ℕ) → with_at c1.sessions w.session.0 (record (c1.sessions w.session.0) { state = after_done (c1.sessions w.session.0).state }) j ≡ (if eqb j s then x else c1.sessions j)
       set j = ap (λ i. if eqb j i then record (c1.sessions i) { state = after_done (c1.sessions i).state } else c1.sessions j) home ∙ ap (λ (z : Session). if eqb j s then record z { state = after_done z.state } else c1.sessions j) (y-is c c1 g s w1 y said k b)
 
+      no-line : (o : Option Stmt) (l : Stmt) → o ≡ None → o ≡ Some l → ⊥
+      no-line o l e f = cc
+
       here : (a : Stage) → a ≡ Live → (z : Session) → z ≡ (if eqb w2.session.0 s then x else c.sessions w2.session.0) → Tied a g w2 z
       here a l z q =
           subst (λ r. Tied a g w2 r) (sym (q ∙ ap (λ r. if r then x else c.sessions w2.session.0) (ap (λ r. eqb r s) home ∙ self-test s)))
-          (record { live = λ m. (b.same_txn, live-too (after_done y.state).block (stays-open y.state.block y.state.pending opened working)); closing = λ m. absurd (differ (sym l ∙ m)); awaits = λ m f r. absurd (cc) })
+          (record { live = λ m. (b.same_txn, live-too (after_done y.state).block (stays-open y.state.block y.state.pending opened working)); closing = λ m. absurd (differ (sym l ∙ m)); awaits = λ m f r. absurd (cc); busy = λ m f. absurd (cc); waits = λ o f. absurd (no-line w.waiting o unqueued f) })
         where
           differ : Live ≡ Closing → ⊥
           differ z = cc
+
+      queues : Queues c1.locks.waits c1.locks.waits g w2.waiting
+      queues = queue-stays c1.locks.waits g w.waiting (queued-by g w1.waiting w.waiting c1.locks.waits (ap (λ (v : Work). v.waiting) (sym same ∙ work-is c c1 g s w1 y said k b)) b.queues1.here)
 
       sits : (a : Stage) → a ≡ Live → Placed s x a w2
       sits a l = record { stands = λ o. (inl l, home); free = λ o n. l }
@@ -164,10 +175,10 @@ module _ (c c1 : Coord) (g s : ℕ) (w1 : Work) (y : Session) (said : Stage) (k 
           let a = live-at c1.table g None b.whole1 in
           let st : stage (option_map (set_live None) (find_txn c1.table (gx g))) ≡ stage_of c1 g = kept-stage (set_live None) (λ t. refl) (find_txn c1.table (gx g)) in
           let now : stage (option_map (set_live None) (find_txn c1.table (gx g))) ≡ Live = st ∙ stage-is c c1 g s w1 y said k b ∙ live in
-          record { kept = base-kept c c1 g s w1 y said k b _ _ w2 x a.whole a.finds (λ j. refl) set (here _ now) b.same_txn (sits _ now); past = past-same c1 _ before _ g _ p refl a.finds st refl (λ h. refl); seen = tt }
+          record { kept = base-kept c c1 g s w1 y said k b _ _ w2 x a.whole a.finds (λ j. refl) set (here _ now) b.same_txn (sits _ now) queues; past = past-same c1 _ before _ g _ p refl a.finds st refl (λ h. refl); seen = tt }
       by_level RepeatableRead =
           let now : stage (find_txn c1.table (gx g)) ≡ Live = stage-is c c1 g s w1 y said k b ∙ live in
-          record { kept = base-kept c c1 g s w1 y said k b _ (find_txn c1.table (gx g)) w2 x b.whole1 same_finds (λ j. refl) set (here _ now) b.same_txn (sits _ now); past = past-same c1 _ before _ g (find_txn c1.table (gx g)) p refl same_finds refl refl (λ h. refl); seen = tt }
+          record { kept = base-kept c c1 g s w1 y said k b _ (find_txn c1.table (gx g)) w2 x b.whole1 same_finds (λ j. refl) set (here _ now) b.same_txn (sits _ now) queues; past = past-same c1 _ before _ g (find_txn c1.table (gx g)) p refl same_finds refl refl (λ h. refl); seen = tt }
         where
           same_finds : (j : ℕ) → find_txn c1.table (gx j) ≡ (if eqb j g then find_txn c1.table (gx g) else find_txn c1.table (gx j))
           same_finds j = by_test (eqb j g) refl

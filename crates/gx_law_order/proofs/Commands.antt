@@ -21,22 +21,22 @@ use Rattle.gx_script.specs.declared.state.Pending.{Pending}
 use Rattle.gx_store.specs.declared.mark.Mark.{Mark}
 use Rattle.gx_store.specs.declared.mark.Mark.TheVariants as mark
 use Rattle.gx_store.specs.Writes.{dist_of}
-use Rattle.gx_rules.specs.AtCoordinator.{Reading, dispatches, enlisted_all, fault_mark, goes, goes_out, is_refused, kept_at, next_cid, nodes_in, reads_by, reads_for, refusal_of, table_of, takes_snapshot, behind, goes_on_locked, if_granted, lock_for, requests}
-use Rattle.gx_rules.specs.Coordinators.{Coord, Session, Work}
+use Rattle.gx_rules.specs.AtCoordinator.{Reading, dispatches, enlisted_all, fault_mark, goes, goes_out, is_refused, kept_at, next_cid, nodes_in, reads_by, reads_for, refusal_of, table_of, takes_snapshot, behind, goes_on_locked, if_granted, lock_for, requests, waits_for}
+use Rattle.gx_rules.specs.Coordinators.{Command, Coord, Session, Work}
 use Rattle.gx_rules.specs.Snapshots.{snapshot_of}
 use Rattle.gx_law_order.specs.Seen.{AreEndedSeen}
 use Rattle.gx_law_order.proofs.Closings.{behind-good, kept-stage, live-at, past-same, refuses-good, set_live}
 use Rattle.gx_law_order.proofs.Lists.{Each}
 use Rattle.gx_law_order.proofs.Past.{Past, Still, seen-now, still-committed}
-use Rattle.gx_law_order.proofs.Sessions.{Kept, Placed, Tied, is_live_in, is_nothing_in, is_working_in, stage_of}
+use Rattle.gx_law_order.proofs.Sessions.{Kept, Placed, Tied, is_live_in, is_nothing_in, is_said, is_working_in, stage_of}
 use Rattle.gx_law_order.proofs.Stages.{At, IsWhole, gx, txn-at}
 use Rattle.gx_law_order.proofs.Statuses.{Stage, stage}
 use Rattle.gx_law_order.proofs.Statuses.Stage.{Live, Closing}
-use Rattle.gx_law_order.proofs.Turns.{Base, Good, base-kept, home-is, merged, same-sessions, self-test, stage-is}
-use Rattle.gx_rules.specs.Locks.{hold_mark, with_hold}
-use Rattle.gx_locks.specs.Locks.{Locks}
+use Rattle.gx_law_order.proofs.Turns.{Base, Good, base-kept, home-is, merged, same-sessions, self-test, stage-is, work-is}
+use Rattle.gx_rules.specs.Locks.{hold_mark, wait_mark, with_hold}
+use Rattle.gx_locks.specs.Locks.{Locks, is_free}
 use Rattle.gx_waits.specs.declared.claim.Claim.{Claim}
-use Rattle.gx_law_order.proofs.Calm.{AreCalm, calm-free, lock-calm}
+use Rattle.gx_law_order.proofs.Queued.{Queues, queue-stays, queue-waits, queued-by}
 use Rattle.gx_store.specs.Refusals.{the_coordinator}
 
 -- looking up what is there
@@ -88,16 +88,17 @@ fault-still g cid (stmt.Lock t m) = tt
 working-waits : (p : Pending) → is_working_in p ≡ true → is_nothing_in p ≡ false
 working-waits p e = grind arith
 
-module _ (c c1 : Coord) (g s : ℕ) (w1 : Work) (y : Session) (k : Kept c) (b : Base c c1 g s w1 y Live) (before : List Mark) (p : Past c1 before) where
+module _ (c c1 : Coord) (g s : ℕ) (w1 : Work) (y : Session) (k : Kept c) (b : Base c c1 g s w1 y Live) (before : List Mark) (p : Past c1 before) (unqueued : w1.waiting ≡ None) where
   -- with the snapshot by which the command reads
   record ReadsWell (r : Reading) : Type 0 where
     w2 : Work
+    none : w2.waiting ≡ None
     base : Base c r.coord g s w2 y Live
     past : Past r.coord (before ++ r.marks)
     seen : AreEndedSeen before r.marks
 
   keeps-reading : (x : Option Snapshot) → ReadsWell (record { coord = c1; snapshot = x; marks = [] })
-  keeps-reading x = record { w2 = w1; base = b; past = subst (λ m. Past c1 m) (sym (append-nil before)) p; seen = tt }
+  keeps-reading x = record { w2 = w1; none = unqueued; base = b; past = subst (λ m. Past c1 m) (sym (append-nil before)) p; seen = tt }
 
   takes-reading : (cid : Cid) → ReadsWell (takes_snapshot c1 (gx g) cid (c1.works g))
   takes-reading cid =
@@ -106,6 +107,7 @@ module _ (c c1 : Coord) (g s : ℕ) (w1 : Work) (y : Session) (k : Kept c) (b : 
       let w : Work = record (c1.works g) { snapshot = kept_at (c1.works g).level (snapshot_of c1.table) } in
       record {
         w2 = w;
+        none = same-waiting ∙ unqueued;
         base = record {
           whole1 = a.whole;
           now1 = option_map (set_live (Some (xmin_of c1.table))) (find_txn c1.table (gx g));
@@ -116,10 +118,14 @@ module _ (c c1 : Coord) (g s : ℕ) (w1 : Work) (y : Session) (k : Kept c) (b : 
           kind = b.kind;
           same_txn = b.same_txn;
           home1 = home-is c c1 g s w1 y Live k b;
+          queues1 = record { others = b.queues1.others; here = queued-by g w1.waiting w.waiting c1.locks.waits same-waiting b.queues1.here };
         };
         past = past-same c1 _ before (mark.Snap (gx g) cid (snapshot_of c1.table) ∷ []) g _ p refl a.finds st refl (λ h. refl);
         seen = (seen-now c1 before p, tt);
       }
+    where
+      same-waiting : (c1.works g).waiting ≡ w1.waiting
+      same-waiting = ap (λ (v : Work). v.waiting) (work-is c c1 g s w1 y Live k b)
 
   by-reading : (cid : Cid) (x : Option Snapshot) → ReadsWell (reads_by c1 (gx g) cid (c1.works g) x)
   by-reading cid None = takes-reading cid
@@ -144,7 +150,8 @@ module _ (c c1 : Coord) (g s : ℕ) (w1 : Work) (y : Session) (k : Kept c) (b : 
         let d : Coord = (goes_out (gx g) cid line pieces r).coord in
         record {
           kept = base-kept c r.coord g s f.w2 y Live k f.base d e.now (sent r cid line pieces) y e.at.whole e.at.finds (λ j. refl) (same-sessions c r.coord g s f.w2 y Live k f.base)
-              (λ z q. tied r cid line pieces (home-is c r.coord g s f.w2 y Live k f.base) (stage e.now) here z q) f.base.same_txn (sits r cid line pieces (home-is c r.coord g s f.w2 y Live k f.base) (stage e.now) here);
+              (λ z q. tied r cid line pieces (ap (λ (v : Work). v.waiting) (work-is c r.coord g s f.w2 y Live k f.base) ∙ f.none) (home-is c r.coord g s f.w2 y Live k f.base) (stage e.now) here z q) f.base.same_txn (sits r cid line pieces (home-is c r.coord g s f.w2 y Live k f.base) (stage e.now) here)
+              (queue-stays r.coord.locks.waits g (r.coord.works g).waiting (queued-by g f.w2.waiting (r.coord.works g).waiting r.coord.locks.waits (ap (λ (v : Work). v.waiting) (work-is c r.coord g s f.w2 y Live k f.base)) f.base.queues1.here));
           past = subst (λ m. Past d m) (append-nil (before ++ r.marks)) (past-same r.coord d (before ++ r.marks) [] g e.now f.past e.at.next e.at.finds e.same e.latest (λ h. refl));
           seen = f.seen;
         }
@@ -158,10 +165,13 @@ module _ (c c1 : Coord) (g s : ℕ) (w1 : Work) (y : Session) (k : Kept c) (b : 
         sent : Reading → Cid → Stmt → List Piece → Work
         sent r cid line pieces = record (r.coord.works g) { last = cid.0; command = Some (record { stmt = line; cid = cid; orders = (goes_out (gx g) cid line pieces r).outs; awaited = nodes_in pieces; count = 0; parts = [] }) }
 
-        tied : (r : Reading) (cid : Cid) (line : Stmt) (pieces : List Piece) → (r.coord.works g).session.0 ≡ s → (a : Stage) → a ≡ Live → (z : Session) → z ≡ (if eqb (r.coord.works g).session.0 s then y else c.sessions (r.coord.works g).session.0) → Tied a g (sent r cid line pieces) z
-        tied r cid line pieces home a l z q =
+        nothing : (o : Option Stmt) (l : Stmt) → o ≡ None → o ≡ Some l → ⊥
+        nothing o l e f = cc
+
+        tied : (r : Reading) (cid : Cid) (line : Stmt) (pieces : List Piece) → (r.coord.works g).waiting ≡ None → (r.coord.works g).session.0 ≡ s → (a : Stage) → a ≡ Live → (z : Session) → z ≡ (if eqb (r.coord.works g).session.0 s then y else c.sessions (r.coord.works g).session.0) → Tied a g (sent r cid line pieces) z
+        tied r cid line pieces none home a l z q =
             subst (λ x. Tied a g (sent r cid line pieces) x) (sym (q ∙ ap (λ x. if x then y else c.sessions (r.coord.works g).session.0) (ap (λ x. eqb x s) home ∙ self-test s)))
-            (record { live = λ m. (b.same_txn, live); closing = λ m. absurd (differ (sym l ∙ m)); awaits = λ m f n. (l, working) })
+            (record { live = λ m. (b.same_txn, live); closing = λ m. absurd (differ (sym l ∙ m)); awaits = λ m f n. (l, working); busy = λ m f. (ap is_said l, working); waits = λ o f. absurd (nothing (r.coord.works g).waiting o none f) })
 
         sits : (r : Reading) (cid : Cid) (line : Stmt) (pieces : List Piece) → (r.coord.works g).session.0 ≡ s → (a : Stage) → a ≡ Live → Placed s y a (sent r cid line pieces)
         sits r cid line pieces home a l = record { stands = λ o. (inl l, home); free = λ o n. absurd (clash y.state.pending working n) }
@@ -176,24 +186,67 @@ module _ (c c1 : Coord) (g s : ℕ) (w1 : Work) (y : Session) (k : Kept c) (b : 
     pub locked-good : (script : Script) (line : Stmt) → Good before (goes_on_locked script c1 (gx g) line)
     locked-good script line = goes-good (next_cid (c1.works g)) line _ (plan_of script.segments (dist_of script.tables (table_of line)) (gx g) (next_cid (c1.works g)) line) (for-reading (next_cid (c1.works g)) line)
 
--- A command takes its table's lock, where it takes one, or waits for it. Neither is seen by sessions or statuses.
-module _ (script : Script) (c c1 : Coord) (g s : ℕ) (w1 : Work) (y : Session) (k : Kept c) (b : Base c c1 g s w1 y Live) (before : List Mark) (p : Past c1 before) (live : is_live_in y.state.block y.state.pending ≡ true) (working : is_working_in y.state.pending ≡ true) (line : Stmt) where
-  held-good : (locks : Locks) (wanted : Claim) → Good before (behind (hold_mark the_coordinator wanted ∷ []) (goes_on_locked script (record c1 { locks = locks }) (gx g) line))
-  held-good locks wanted =
+-- A command takes its table's lock, where it takes one, or waits for it. Neither is seen by statuses.
+module _ (script : Script) (c c1 : Coord) (g s : ℕ) (w1 : Work) (y : Session) (k : Kept c) (b : Base c c1 g s w1 y Live) (before : List Mark) (p : Past c1 before) (live : is_live_in y.state.block y.state.pending ≡ true) (working : is_working_in y.state.pending ≡ true) (idle : w1.command ≡ None) (unqueued : w1.waiting ≡ None) (line : Stmt) where
+  past-stays : (d : Coord) (ns : List Mark) → d.table ≡ c1.table → Each Still ns → Past d (before ++ ns)
+  past-stays d ns same e =
+      past-same c1 d before ns 0 (find_txn c1.table (gx 0)) p (ap (λ (q : Table). q.next) same) (λ h. ap (λ (q : Table). find_txn q (gx h)) same ∙ same-finds c1.table 0 h) refl (ap (λ (q : Table). q.latest_ended) same) (λ h. still-committed ns (gx h) e)
+
+  pub held-good : (locks : Locks) (wanted : Claim) → locks.waits ≡ c1.locks.waits → Good before (behind (hold_mark the_coordinator wanted ∷ []) (goes_on_locked script (record c1 { locks = locks }) (gx g) line))
+  held-good locks wanted same =
       behind-good before (hold_mark the_coordinator wanted ∷ []) (goes_on_locked script (record c1 { locks = locks }) (gx g) line) _ tt
       (locked-good c (record c1 { locks = locks }) g s w1 y k
-      (record { whole1 = b.whole1; now1 = b.now1; stage1 = b.stage1; finds1 = b.finds1; works1 = b.works1; sessions1 = b.sessions1; kind = b.kind; same_txn = b.same_txn; home1 = b.home1 })
-      (before ++ hold_mark the_coordinator wanted ∷ []) (past-stays (record c1 { locks = locks }) (hold_mark the_coordinator wanted ∷ []) refl (tt, tt)) live working script line) refl refl
+      (record { whole1 = b.whole1; now1 = b.now1; stage1 = b.stage1; finds1 = b.finds1; works1 = b.works1; sessions1 = b.sessions1; kind = b.kind; same_txn = b.same_txn; home1 = b.home1; queues1 = subst (λ l. Queues c.locks.waits l g w1.waiting) (sym same) b.queues1 })
+      (before ++ hold_mark the_coordinator wanted ∷ []) (past-stays (record c1 { locks = locks }) (hold_mark the_coordinator wanted ∷ []) refl (tt, tt)) unqueued live working script line) refl refl
+
+  -- it waits: its session keeps it as its line under way
+  waits-good : (wanted : Claim) → lock_for (gx g) line ≡ Some wanted → Good before (waits_for c1 (gx g) line wanted)
+  waits-good wanted e =
+      record {
+        kept = base-kept c c1 g s w1 y Live k b (waits_for c1 (gx g) line wanted).coord (find_txn c1.table (gx g)) w y b.whole1 (same-finds c1.table g) (λ j. refl) (same-sessions c c1 g s w1 y Live k b)
+            (λ z q. tied (stage_of c1 g) (stage-is c c1 g s w1 y Live k b) z q) b.same_txn
+            (record { stands = λ o. (inl (stage-is c c1 g s w1 y Live k b), home); free = λ o n. absurd (clash y.state.pending working n) })
+            (queue-waits c1.locks.waits g line wanted (queued-by g w1.waiting None c1.locks.waits (sym unqueued) b.queues1.here) e);
+        past = past-stays (waits_for c1 (gx g) line wanted).coord (wait_mark the_coordinator wanted ∷ []) refl (tt, tt);
+        seen = tt;
+      }
     where
-      past-stays : (d : Coord) (ns : List Mark) → d.table ≡ c1.table → Each Still ns → Past d (before ++ ns)
-      past-stays d ns same e =
-          past-same c1 d before ns 0 (find_txn c1.table (gx 0)) p (ap (λ (q : Table). q.next) same) (λ h. ap (λ (q : Table). find_txn q (gx h)) same ∙ same-finds c1.table 0 h) refl (ap (λ (q : Table). q.latest_ended) same) (λ h. still-committed ns (gx h) e)
+      w : Work
+      w = record (c1.works g) { waiting = Some line }
 
-  request-good : AreCalm c1.locks → (o : Option Claim) → lock_for (gx g) line ≡ o → Good before (requests script c1 (gx g) line o)
-  request-good calm None e = locked-good c c1 g s w1 y k b before p live working script line
-  request-good calm (Some wanted) e =
-      subst (λ q. Good before (if_granted script c1 (gx g) line wanted q)) (sym (calm-free c1.locks wanted calm (lock-calm (gx g) line wanted e)))
-      (held-good (with_hold c1.locks wanted) wanted)
+      home : (c1.works g).session.0 ≡ s
+      home = home-is c c1 g s w1 y Live k b
 
-  pub dispatch-good : AreCalm c1.locks → Good before (dispatches script c1 (gx g) line)
-  dispatch-good calm = request-good calm (lock_for (gx g) line) refl
+      no-command : (c1.works g).command ≡ None
+      no-command = ap (λ (v : Work). v.command) (work-is c c1 g s w1 y Live k b) ∙ idle
+
+      clash : (q : Pending) → is_working_in q ≡ true → is_nothing_in q ≡ true → ⊥
+      clash q e f = grind arith
+
+      differ : Live ≡ Closing → ⊥
+      differ z = cc
+
+      nothing : (o : Option Command) (m : Command) → o ≡ None → o ≡ Some m → ⊥
+      nothing o m e f = cc
+
+      tied : (a : Stage) → a ≡ Live → (z : Session) → z ≡ (if eqb w.session.0 s then y else c.sessions w.session.0) → Tied a g w z
+      tied a l z q =
+          subst (λ x. Tied a g w x) (sym (q ∙ ap (λ x. if x then y else c.sessions w.session.0) (ap (λ x. eqb x s) home ∙ self-test s)))
+          (record {
+            live = λ m. (b.same_txn, live);
+            closing = λ m. absurd (differ (sym l ∙ m));
+            awaits = λ m f n. absurd (nothing (c1.works g).command m no-command f);
+            busy = λ m f. absurd (nothing (c1.works g).command m no-command f);
+            waits = λ o f. (l, no-command, working);
+          })
+
+  request-good : (o : Option Claim) → lock_for (gx g) line ≡ o → Good before (requests script c1 (gx g) line o)
+  request-good None e = locked-good c c1 g s w1 y k b before p unqueued live working script line
+  request-good (Some wanted) e = by_test (is_free c1.locks.holds wanted)
+    where
+      by_test : (q : Bool) → Good before (if_granted script c1 (gx g) line wanted q)
+      by_test true = held-good (with_hold c1.locks wanted) wanted refl
+      by_test false = waits-good wanted e
+
+  pub dispatch-good : Good before (dispatches script c1 (gx g) line)
+  dispatch-good = request-good (lock_for (gx g) line) refl

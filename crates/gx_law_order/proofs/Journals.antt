@@ -156,7 +156,7 @@ module _ (script : Script) (some : 1 ≤ script.segments) (w : World) (well : We
           no-zero a l e = omega arith
 
       its : Items (at j) (marks_in w.steps) fails turn
-      its = subst (λ n. Items n (marks_in w.steps) fails turn) (well.names j) (event_items script (w.segs j) (well.calm j) (marks_in w.steps) (subst (λ n. Holds n (w.segs j) (marks_in w.steps)) (sym (well.names j)) (hold j place.0)) x fails)
+      its = subst (λ n. Items n (marks_in w.steps) fails turn) (well.names j) (event_items script (w.segs j) (λ h y q. ((well.waiting j).each h y q).opens) (marks_in w.steps) (subst (λ n. Holds n (w.segs j) (marks_in w.steps)) (sym (well.names j)) (hold j place.0)) x fails)
 
       or-off : (a : Bool) {b : Bool} → b ≡ false → (a || b) ≡ a
       or-off a e = grind arith

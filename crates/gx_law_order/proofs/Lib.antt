@@ -8,11 +8,15 @@ pub mod AtCoordinators
 pub mod Sent
 pub mod Clocks
 pub mod Letters
+pub mod Stages
+pub mod Suspended
+pub mod Suspensions
 pub mod Ordered
 pub mod Follows
 pub mod Machines
-pub mod Stages
 pub mod Statuses
+pub mod Queued
+pub mod Dispatches
 pub mod Sessions
 pub mod Past
 pub mod Ends
@@ -22,6 +26,7 @@ pub mod Commands
 pub mod Lines
 pub mod Replies
 pub mod World
+pub mod Waiting
 pub mod SegItems
 pub mod CoordItems
 pub mod Journals

@@ -33,9 +33,9 @@ use Rattle.gx_law_order.proofs.Past.{Past, Still, still-committed}
 use Rattle.gx_law_order.proofs.Sessions.{Kept, Placed, Tied, is_live_in, is_nothing_in, is_open_in, is_working_in, kept-idle, stage_of}
 use Rattle.gx_law_order.proofs.Stages.{Apart, Below, IsWhole, gx, none-at}
 use Rattle.gx_law_order.proofs.Statuses.{Falls, Turned, abort-turns, stage}
-use Rattle.gx_law_order.proofs.Statuses.Stage.{Live, Closing}
+use Rattle.gx_law_order.proofs.Statuses.Stage.{Absent, Live, Closing}
 use Rattle.gx_law_order.proofs.Turns.{Base, Good, base-kept, falls-is, merged, rolled-good, same-sessions, same-works, self-test, stage-is}
-use Rattle.gx_law_order.proofs.Calm.{AreCalm}
+use Rattle.gx_law_order.proofs.Queued.{IsQueued, Queues, queue-stays, queued-by}
 
 -- marks that tell of no end
 pub past-still : (c d : Coord) (before ns : List Mark) → Past c before → d.table ≡ c.table → Each Still ns → Past d (before ++ ns)
@@ -105,11 +105,29 @@ base-own c s y k opened idle same =
       kind = inl (refl, ((k.placed s.0).stands opened).1);
       same_txn = ap (λ (q : Gxid). q.0) same;
       home1 = ((k.placed s.0).stands opened).1;
+      queues1 = queue-stays c.locks.waits (session_of c s).transaction.0 (c.works (session_of c s).transaction.0).waiting (k.queued (session_of c s).transaction.0);
     }
   where
     by_test : (j : ℕ) (q : Bool) → eqb j (session_of c s).transaction.0 ≡ q → c.works j ≡ (if q then c.works (session_of c s).transaction.0 else c.works j)
     by_test j true q = ap c.works (eqb-true j (session_of c s).transaction.0 q)
     by_test j false q = refl
+
+-- who isn't working has neither a command under way nor a statement that waits
+pub idle-none : (c : Coord) (s : SessionId) → Kept c → is_open_in (session_of c s).state.block ≡ true → is_nothing_in (session_of c s).state.pending ≡ true → ((c.works (session_of c s).transaction.0).command ≡ None) × ((c.works (session_of c s).transaction.0).waiting ≡ None)
+idle-none c s k opened idle = (none-is _ (λ m e. never ((k.tied g).busy m e).1), none-is _ (λ l e. never ((k.tied g).waits l e).2))
+  where
+    g : ℕ
+    g = (session_of c s).transaction.0
+
+    none-is : {A : Type 0} (o : Option A) → ((x : A) → o ≡ Some x → ⊥) → o ≡ None
+    none-is None f = refl
+    none-is (Some x) f = absurd (f x refl)
+
+    not-work : (q : Pending) → is_nothing_in q ≡ true → is_working_in q ≡ true → ⊥
+    not-work q e f = grind arith
+
+    never : is_working_in (c.sessions (c.works (session_of c s).transaction.0).session.0).state.pending ≡ true → ⊥
+    never e = not-work (session_of c s).state.pending idle (subst (λ i. is_working_in (c.sessions i).state.pending ≡ true) ((k.placed s.0).stands opened).1 e)
 
 -- A NEW TRANSACTION
 pub undrawn : (d : Table) → IsWhole d → find_txn d d.next ≡ None
@@ -121,6 +139,20 @@ undrawn d w = none-at d.next.0 d.txns (apart d.txns w.drawn)
     apart : (es : List (Gxid × Txn)) → Below d.next.0 es → Each (λ (x : Gxid × Txn). eqb d.next.0 x.0.0 ≡ false) es
     apart [] e = tt
     apart (x ∷ xs) e = (other d.next.0 x.0.0 e.0.1, apart xs e.1)
+
+-- nothing waits of a transaction that wasn't drawn
+pub unqueued : (c : Coord) → Kept c → IsQueued c.table.next.0 None c.locks.waits
+unqueued c k = queued-by c.table.next.0 _ None c.locks.waits (sym (none-is _ (λ l e. absent (undrawn c.table k.whole) ((k.tied c.table.next.0).waits l e).0))) (k.queued c.table.next.0)
+  where
+    none-is : {A : Type 0} (o : Option A) → ((x : A) → o ≡ Some x → ⊥) → o ≡ None
+    none-is None f = refl
+    none-is (Some x) f = absurd (f x refl)
+
+    absent : {o : Option Txn} → o ≡ None → stage o ≡ Live → ⊥
+    absent e l = differ (sym (ap stage e) ∙ l)
+      where
+        differ : Absent ≡ Live → ⊥
+        differ z = cc
 
 pub begun-whole : (d : Table) → IsWhole d → IsWhole (begun d)
 begun-whole d w = record { first = more d.next.0 w.first; apart = apart d.txns w.apart w.drawn; drawn = drawn d.txns w.drawn }
@@ -177,20 +209,16 @@ module _ (script : Script) (c : Coord) (before : List Mark) (k : Kept c) (p : Pa
   commit-good opened =
       subst (λ g. Good before (commits (starts_line c s step.CommitBlock) g)) (sym (transaction-now step.CommitBlock))
       (commits-good c (starts_line c s step.CommitBlock) (session_of c s).transaction.0 s.0 (c.works (session_of c s).transaction.0) (moved step.CommitBlock) Live k
-      (base-own c s (moved step.CommitBlock) k opened idle refl) before (past-table p) refl (closing block opened) none)
+      (base-own c s (moved step.CommitBlock) k opened idle refl) before (past-table p) refl (closing block opened) (λ m f r. nothing _ m f (idle-none c s k opened idle).0) (λ m f. absurd (nothing _ m f (idle-none c s k opened idle).0)) (idle-none c s k opened idle).1)
     where
+      nothing : (o : Option Command) (m : Command) → o ≡ Some m → o ≡ None → ⊥
+      nothing o m e f = cc
+
       past-table : Past c before → Past (starts_line c s step.CommitBlock) before
       past-table p = record { committed = p.committed; ended = p.ended; dropped = p.dropped; latest = p.latest; drawn = p.drawn }
 
       closing : (b : Block) → is_open_in b ≡ true → Rattle.gx_law_order.proofs.Sessions.is_closing_in (block_after b step.CommitBlock) pending.Commit ≡ true
       closing b e = grind arith
-
-      not-work : (q : Pending) → is_nothing_in q ≡ true → is_working_in q ≡ true → ⊥
-      not-work q e f = grind arith
-
-      none : (m : Command) → (c.works (session_of c s).transaction.0).command ≡ Some m → (m.awaited ≡ [] → ⊥) → ⊥
-      none m f r =
-          not-work (session_of c s).state.pending idle (subst (λ i. is_working_in (c.sessions i).state.pending ≡ true) ((k.placed s.0).stands opened).1 ((k.tied (session_of c s).transaction.0).awaits m f r).1)
 
   roll-good : (c1 : Coord) (y : Session) (marks : List Mark) → Base c c1 (session_of c s).transaction.0 s.0 (c.works (session_of c s).transaction.0) y Live → Past c1 before → Each Still marks → is_open_in y.state.block ≡ false → Good before (rolls_back c1 (session_of c s).transaction marks (on_abort c1.table (session_of c s).transaction))
   roll-good c1 y marks b q e closed =
@@ -220,11 +248,11 @@ module _ (script : Script) (c : Coord) (before : List Mark) (k : Kept c) (p : Pa
       by_block Outside e = rest-good c before k p
 
   -- a command in a block
-  inside-good : AreCalm c.locks → (line : Stmt) → is_open_in block ≡ true → Good before (dispatches script (starts_line c s (step.Command false)) (session_of (starts_line c s (step.Command false)) s).transaction line)
-  inside-good calm line opened =
+  inside-good : (line : Stmt) → is_open_in block ≡ true → Good before (dispatches script (starts_line c s (step.Command false)) (session_of (starts_line c s (step.Command false)) s).transaction line)
+  inside-good line opened =
       subst (λ g. Good before (dispatches script (starts_line c s (step.Command false)) g line)) (sym (transaction-now (step.Command false)))
       (dispatch-good script c (starts_line c s (step.Command false)) (session_of c s).transaction.0 s.0 (c.works (session_of c s).transaction.0) (moved (step.Command false)) k (base-own c s (moved (step.Command false)) k opened idle refl) before (past-now (moved (step.Command false)))
-      (live block opened) refl line calm)
+      (live block opened) refl (idle-none c s k opened idle).0 (idle-none c s k opened idle).1 line)
     where
       live : (b : Block) → is_open_in b ≡ true → is_live_in (block_after b (step.Command false)) pending.Command ≡ true
       live b e = grind arith
@@ -245,6 +273,7 @@ module _ (script : Script) (c : Coord) (before : List Mark) (k : Kept c) (p : Pa
         kind = inr (undrawn c.table k.whole, outside, idle-is (session_of c s).state.pending idle);
         same_txn = refl;
         home1 = refl;
+        queues1 = queue-stays c.locks.waits c.table.next.0 None (unqueued c k);
       }
 
   begins-past : (asked : LineStep) (level : Level) → Past (begins (starts_line c s asked) s level) (before ++ mark.Start c.table.next s ∷ [])
@@ -254,7 +283,7 @@ module _ (script : Script) (c : Coord) (before : List Mark) (k : Kept c) (p : Pa
   begin-good level outside =
       behind-good before (mark.Start c.table.next s ∷ []) (answers_at_once (begins (starts_line c s (step.BeginBlock level)) s level) s told.Begin) _ tt
       (record {
-        kept = base-kept c c1 c.table.next.0 s.0 (new_work s level) (fresh asked) Live k b c1 (find_txn c1.table c.table.next) (new_work s level) (fresh asked) b.whole1 (same-finds c1.table c.table.next.0) (same-works c c1 c.table.next.0 s.0 (new_work s level) (fresh asked) Live k b) (same-sessions c c1 c.table.next.0 s.0 (new_work s level) (fresh asked) Live k b) tied refl sits;
+        kept = base-kept c c1 c.table.next.0 s.0 (new_work s level) (fresh asked) Live k b c1 (find_txn c1.table c.table.next) (new_work s level) (fresh asked) b.whole1 (same-finds c1.table c.table.next.0) (same-works c c1 c.table.next.0 s.0 (new_work s level) (fresh asked) Live k b) (same-sessions c c1 c.table.next.0 s.0 (new_work s level) (fresh asked) Live k b) tied refl sits queues;
         past = past-still c1 c1 (before ++ mark.Start c.table.next s ∷ []) (answer_mark c1 s told.Begin ∷ []) (begins-past asked level) refl (tt, tt);
         seen = tt;
       }) refl refl
@@ -280,30 +309,33 @@ module _ (script : Script) (c : Coord) (before : List Mark) (k : Kept c) (p : Pa
       tied : (z : Session) → z ≡ (if eqb s.0 s.0 then fresh (step.BeginBlock level) else c.sessions s.0) → Tied (stage_of c1 c.table.next.0) c.table.next.0 (new_work s level) z
       tied z q =
           subst (λ x. Tied (stage_of c1 c.table.next.0) c.table.next.0 (new_work s level) x) (sym (q ∙ ap (λ x. if x then fresh (step.BeginBlock level) else c.sessions s.0) (self-test s.0)))
-          (record { live = λ m. (refl, opens block outside); closing = λ m. absurd (differ (sym now ∙ m)); awaits = λ m f r. absurd (cc) })
+          (record { live = λ m. (refl, opens block outside); closing = λ m. absurd (differ (sym now ∙ m)); awaits = λ m f r. absurd (cc); busy = λ m f. absurd (cc); waits = λ o f. absurd (cc) })
 
       sits : Placed s.0 (fresh (step.BeginBlock level)) (stage_of c1 c.table.next.0) (new_work s level)
       sits = record { stands = λ o. (inl now, refl); free = λ o n. now }
 
-  alone-good : AreCalm c.locks → (line : Stmt) → block ≡ Outside → Good before (behind (mark.Start c.table.next s ∷ []) (dispatches script (begins (starts_line c s (step.Command true)) s ReadCommitted) c.table.next line))
-  alone-good calm line outside =
+      queues : Queues c.locks.waits c.locks.waits c.table.next.0 None
+      queues = queue-stays c.locks.waits c.table.next.0 None (unqueued c k)
+
+  alone-good : (line : Stmt) → block ≡ Outside → Good before (behind (mark.Start c.table.next s ∷ []) (dispatches script (begins (starts_line c s (step.Command true)) s ReadCommitted) c.table.next line))
+  alone-good line outside =
       behind-good before (mark.Start c.table.next s ∷ []) (dispatches script (begins (starts_line c s (step.Command true)) s ReadCommitted) c.table.next line) _ tt
       (dispatch-good script c (begins (starts_line c s (step.Command true)) s ReadCommitted) c.table.next.0 s.0 (new_work s ReadCommitted) (fresh (step.Command true)) k (begins-base (step.Command true) ReadCommitted outside) (before ++ mark.Start c.table.next s ∷ []) (begins-past (step.Command true) ReadCommitted)
-      (live block outside) refl line calm) refl refl
+      (live block outside) refl refl refl line) refl refl
     where
       live : (q : Block) → q ≡ Outside → is_live_in (block_after q (step.Command true)) pending.Command ≡ true
       live q e = subst (λ r. is_live_in (block_after r (step.Command true)) pending.Command ≡ true) (sym e) refl
 
-  line-good : AreCalm c.locks → (line : Stmt) (asked : LineStep) → Asks block asked → Good before (on_line script (starts_line c s asked) s line asked)
-  line-good calm line (step.Answer plain) a = at-once-good (step.Answer plain) _ refl a
-  line-good calm line step.Refuse5 a = at-once-good step.Refuse5 _ refl (same5 block)
-  line-good calm line step.Refuse7 a = at-once-good step.Refuse7 _ refl (same7 block)
-  line-good calm line (step.BeginBlock level) a = begin-good level a
-  line-good calm line step.CommitBlock a = commit-good a
-  line-good calm line step.RollbackBlock a = rollback-good a
-  line-good calm line (step.Command true) a = alone-good calm line a
-  line-good calm line (step.Command false) a = inside-good calm line a
+  line-good : (line : Stmt) (asked : LineStep) → Asks block asked → Good before (on_line script (starts_line c s asked) s line asked)
+  line-good line (step.Answer plain) a = at-once-good (step.Answer plain) _ refl a
+  line-good line step.Refuse5 a = at-once-good step.Refuse5 _ refl (same5 block)
+  line-good line step.Refuse7 a = at-once-good step.Refuse7 _ refl (same7 block)
+  line-good line (step.BeginBlock level) a = begin-good level a
+  line-good line step.CommitBlock a = commit-good a
+  line-good line step.RollbackBlock a = rollback-good a
+  line-good line (step.Command true) a = alone-good line a
+  line-good line (step.Command false) a = inside-good line a
 
-  pub start-good : AreCalm c.locks → (line : Option Stmt) → Good before (starts script c s line)
-  start-good calm None = rest-good c before k p
-  start-good calm (Some line) = line-good calm line (line_step block line) (asks block line)
+  pub start-good : (line : Option Stmt) → Good before (starts script c s line)
+  start-good None = rest-good c before k p
+  start-good (Some line) = line-good line (line_step block line) (asks block line)

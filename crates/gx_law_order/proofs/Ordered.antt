@@ -24,7 +24,7 @@ use Rattle.gx_rules.specs.AtCoordinator.{coord_can, coord_rule, is_segment, on_e
 use Rattle.gx_rules.specs.AtSegment.{seg_rule}
 use Rattle.gx_rules.specs.AtSegment as segment
 use Rattle.gx_rules.specs.Coordinators.{CoordTurn}
-use Rattle.gx_rules.specs.Machine.{World, after, at_node, can, can_here, coord_did, delivered, does, found, happens, new_world, node_of, seg_can, seg_did, world_of}
+use Rattle.gx_rules.specs.Machine.{Letter, World, after, at_node, can, can_here, coord_did, delivered, does, found, happens, new_world, node_of, seg_can, seg_did, world_of}
 use Rattle.gx_rules.specs.Maps.{with_at}
 use Rattle.gx_rules.specs.Segments.{Seg, SegTurn}
 use Rattle.gx_rules.specs.Sending.{clock_after, counted, numbered}
@@ -35,6 +35,8 @@ use Rattle.gx_law_order.proofs.Clocks.{clock_after-above, clock_after-hears, clo
 use Rattle.gx_law_order.proofs.Letters.{IsFound, IsLetter, found_is, posted_letters, same_node}
 use Rattle.gx_law_order.proofs.Lists.{Each, each_append, each_weaker}
 use Rattle.gx_law_order.proofs.Sent.{all-counted, at, count-both, counted-all, numbered-ok, plain-count, plain-numbered, sent_in-last}
+use Rattle.gx_law_order.proofs.Suspended.{AreSuspended, HasCome, IsAmong, among-posted, come-later, come-now, each-both, each-own, suspended-later}
+use Rattle.gx_law_order.proofs.Suspensions.{Arrives, event_suspends}
 use Rattle.gx_law_order.proofs.Tables.{OutIn}
 use Rattle.gx_ids.specs.declared.ids.Gxid.{Gxid}
 
@@ -48,6 +50,7 @@ pub record Well (script : Script) (w : World) : Type 0 where
   pub sent : (i : ℕ) → w.coord.sent i ≡ sent_in the_coordinator (at i) w.steps
   pub answered : (i : ℕ) → 1 ≤ i → (w.segs i).sent ≡ sent_in (at i) the_coordinator w.steps
   pub letters : Each (IsLetter script w.steps) w.sent
+  pub waiting : (i : ℕ) → AreSuspended script (HasCome w i) (w.segs i)
 
 -- one step more
 pub ordered-last : (script : Script) (before ss : List Step) (s : Step) → AreOrdered script before ss → IsOrderedStep script (before ++ ss) s → AreOrdered script before (ss ++ s ∷ [])
@@ -140,8 +143,12 @@ module _ (script : Script) (some : 1 ≤ script.segments) (w : World) (good : We
             ∙ sym (same-adds the_coordinator (at i) w.steps step refl ∙ ap (λ a. sent_in the_coordinator (at i) w.steps + a) (count-both script the_coordinator (at i) turn.marks _ kept.marks));
         answered = λ i k. good.answered i k ∙ sym (other-adds (at i) the_coordinator w.steps step (apart i k));
         letters = posted_letters script w.steps step w.sent at_coordinator good.letters;
+        waiting = λ i. suspended-later script (HasCome w i) (HasCome next i) (w.segs i) (λ m. come-later w next i step m refl (among-posted the_coordinator step.stamp.clock step.marks w.sent)) (good.waiting i);
       }
     where
+      next : World
+      next = coord_did w e (coord_rule script w.coord x fails)
+
       same-le : {a b : ℕ} → a ≡ b → a ≤ b
       same-le h = omega arith
 
@@ -210,8 +217,24 @@ module _ (script : Script) (w : World) (good : Well script w) (e : Event) (x : N
       ap (λ a. a + length seg_turn.outs) seg_counts ∙ ap (λ a. sent_in (at i) the_coordinator w.steps + a) (sym (all-counted (λ node. seg_turn.seg.sent) seg_turn.outs seg_kept.outs))
       ∙ sym (same-adds (at i) the_coordinator w.steps seg_step (test-self i) ∙ ap (λ a. sent_in (at i) the_coordinator w.steps + a) (count-both script (at i) the_coordinator seg_turn.marks _ plain_here))
 
-  pub seg_well : IsEventAt script w.steps seg_step e → Well script (seg_did w (at i) e (seg_rule script s x fails))
-  seg_well h =
+  abbrev seg_next : World
+  seg_next = seg_did w (at i) e (seg_rule script s x fails)
+
+  -- what was sent stays sent, and what has come has come
+  seg_more : (l : Letter) → IsAmong l w.sent → IsAmong l seg_next.sent
+  seg_more = among-posted (at i) seg_step.stamp.clock seg_step.marks w.sent
+
+  seg_comes : (from : Node) (number : ℕ) (envelope : Envelope) → e ≡ event.Receive from (at i) number → IsFound (λ l. IsLetter script w.steps l × IsAmong l w.sent) from (at i) number envelope → HasCome seg_next i envelope.message
+  seg_comes from number envelope is sent = come-now script w seg_next i place.0 seg_step from number envelope refl seg_more refl is sent
+
+  waiting_later : (j : ℕ) → AreSuspended script (HasCome seg_next j) (w.segs j)
+  waiting_later j = suspended-later script (HasCome w j) (HasCome seg_next j) (w.segs j) (λ m. come-later w seg_next j seg_step m refl seg_more) (good.waiting j)
+
+  seg_waiting : Arrives (HasCome seg_next i) x → AreSuspended script (HasCome seg_next i) seg_turn.seg
+  seg_waiting = event_suspends script (HasCome seg_next i) s (waiting_later i) x fails
+
+  pub seg_well : IsEventAt script w.steps seg_step e → Arrives (HasCome seg_next i) x → Well script seg_next
+  seg_well h come =
       record {
         steps = ordered-last script [] w.steps seg_step good.steps (seg_ordered h);
         coordinator = good.coordinator;
@@ -226,6 +249,7 @@ module _ (script : Script) (w : World) (good : Well script w) (e : Event) (x : N
             (λ k. seg_new_count)
             (λ j no k. good.answered j k ∙ sym (other-adds (at j) the_coordinator w.steps seg_step (apart-two i j no)));
         letters = posted_letters script w.steps seg_step w.sent seg_marks good.letters;
+        waiting = at-both (λ j t. AreSuspended script (HasCome seg_next j) t) w.segs i _ (record { each = (seg_waiting come).each; own = (seg_waiting come).own }) (λ j no. waiting_later j);
       }
     where
       same-le : {a b : ℕ} → a ≡ b → a ≤ b
@@ -260,8 +284,8 @@ delivery-ok script w good from to number envelope clock f h =
         under a b c e h = omega arith
 
 module _ (script : Script) (some : 1 ≤ script.segments) where
-  received : (w : World) (from to : Node) (number : ℕ) (envelope : Envelope) (fails : Bool) → Well script w → IsFound (IsLetter script w.steps) from to number envelope → Well script (does script w (event.Receive from to number) to fails (Some (here.Deliver from envelope)))
-  received w from to number envelope fails good f = by_test (is_same_node to the_coordinator) refl
+  received : (w : World) (from to : Node) (number : ℕ) (envelope : Envelope) (fails : Bool) → Well script w → IsFound (IsLetter script w.steps) from to number envelope → IsFound (λ l. IsLetter script w.steps l × IsAmong l w.sent) from to number envelope → Well script (does script w (event.Receive from to number) to fails (Some (here.Deliver from envelope)))
+  received w from to number envelope fails good f sent = by_test (is_same_node to the_coordinator) refl
     where
       e : Event
       e = event.Receive from to number
@@ -278,11 +302,11 @@ module _ (script : Script) (some : 1 ≤ script.segments) where
 
       by_test : (b : Bool) → is_same_node to the_coordinator ≡ b → Well script (if b then coord_did w e (coord_rule script w.coord (here.Deliver from envelope) fails) else seg_did w to e (seg_rule script (w.segs to.0) (here.Deliver from envelope) fails))
       by_test true is = coord_well script some w good e (here.Deliver from envelope) fails (sym (same_node to the_coordinator is), delivery _ (clock_after-hears w.coord.clock (here.Deliver from envelope)))
-      by_test false is = seg_well script w good e (here.Deliver from envelope) fails to.0 (place is f.is.link) (refl, delivery _ (clock_after-hears (w.segs to.0).clock (here.Deliver from envelope)))
+      by_test false is = seg_well script w good e (here.Deliver from envelope) fails to.0 (place is f.is.link) (refl, delivery _ (clock_after-hears (w.segs to.0).clock (here.Deliver from envelope))) (seg_comes script w good e (here.Deliver from envelope) fails to.0 (place is f.is.link) from number envelope refl sent)
 
   arrives : (w : World) (from to : Node) (number : ℕ) (fails : Bool) (o : Option Envelope) → found from to number w.sent ≡ o → Well script w → Well script (does script w (event.Receive from to number) to fails (delivered from o))
   arrives w from to number fails None e good = good
-  arrives w from to number fails (Some envelope) e good = received w from to number envelope fails good (found_is (IsLetter script w.steps) from to number w.sent envelope good.letters e)
+  arrives w from to number fails (Some envelope) e good = received w from to number envelope fails good (found_is (IsLetter script w.steps) from to number w.sent envelope good.letters e) (found_is (λ l. IsLetter script w.steps l × IsAmong l w.sent) from to number w.sent envelope (each-both (IsLetter script w.steps) (λ l. IsAmong l w.sent) w.sent good.letters (each-own w.sent)) e)
 
   -- who resumes at a segment does so at one of the script's
   pub resumes_there : (w : World) (n : Node) (g : Gxid) → Well script w → seg_can script (w.segs n.0) (here.Resume g) ≡ true → IsSegment script n
@@ -308,7 +332,7 @@ module _ (script : Script) (some : 1 ≤ script.segments) where
 
       by_test : (b : Bool) → is_same_node n the_coordinator ≡ b → (if b then coord_can script w.coord x else seg_can script (w.segs n.0) x) ≡ true → Well script (if b then coord_did w e (coord_rule script w.coord x fails) else seg_did w n e (seg_rule script (w.segs n.0) x fails))
       by_test true is ok = coord_well script some w good e x fails (sym (same_node n the_coordinator is))
-      by_test false is ok = seg_well script w good e x fails n.0 (resumes_there w n g good ok) refl
+      by_test false is ok = seg_well script w good e x fails n.0 (resumes_there w n g good ok) refl tt
 
   pub happens_well : (w : World) (e : Event) (fails : Bool) → Well script w → Well script (happens script w e fails)
   happens_well w e fails good = by_can (can script w e) refl e refl
@@ -334,6 +358,7 @@ module _ (script : Script) (some : 1 ≤ script.segments) where
         sent = λ i. refl;
         answered = λ i h. refl;
         letters = tt;
+        waiting = λ i. record { each = λ h x none. absurd (cc); own = λ h. refl };
       }
     where
       least : (k : ℕ) → 0 ≤ k

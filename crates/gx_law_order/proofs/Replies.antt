@@ -26,13 +26,13 @@ use Rattle.gx_store.specs.declared.node.NodeEvent.{NodeEvent}
 use Rattle.gx_store.specs.declared.node.NodeEvent.TheVariants as event
 use Rattle.gx_store.specs.Marks.{is_aborted}
 use Rattle.gx_store.specs.Refusals.{the_coordinator}
-use Rattle.gx_rules.specs.AtCoordinator.{answers, awaited, commits, completes, coord_can, is_idle, is_nothing, failure_marks, follows, goes_on, is_awaited, is_refused, next_line, on_answer, on_done, on_event, on_failed, on_message, on_status, reason_of, resends, takes_done, with_done, writers_with}
+use Rattle.gx_rules.specs.AtCoordinator.{answers, awaited, commits, completes, coord_can, is_idle, is_nothing, failure_marks, follows, goes_on, is_awaited, is_refused, next_line, on_answer, on_done, on_event, on_failed, on_message, on_status, reason_of, resends, resumes, takes_done, with_done, writers_with}
 use Rattle.gx_rules.specs.Coordinators.{Command, Coord, Session, Work, rests, session_of, with_work, work_of}
 use Rattle.gx_rules.specs.Fits.{fits_part}
 use Rattle.gx_rules.specs.Maps.{with_at}
 use Rattle.gx_rules.specs.Snapshots.{latest_number}
 use Rattle.gx_law_order.proofs.Closings.{answers-good, commits-good, refuses-good}
-use Rattle.gx_law_order.proofs.Commands.{same-finds}
+use Rattle.gx_law_order.proofs.Commands.{held-good, same-finds}
 use Rattle.gx_law_order.proofs.Ends.{at-falls, at-same, greater-facts, past-at}
 use Rattle.gx_law_order.proofs.Lines.{end-good, rest-good, start-good}
 use Rattle.gx_law_order.proofs.Lists.{Each}
@@ -42,8 +42,10 @@ use Rattle.gx_law_order.proofs.Stages.{gx}
 use Rattle.gx_law_order.proofs.Statuses.{Moves, Stage, Turned, is_running, reply-turns, stage}
 use Rattle.gx_law_order.proofs.Statuses.Stage.{Absent, Live, Closing, Dropped}
 use Rattle.gx_law_order.proofs.Turns.{Base, Good, base-kept, closed-good, refused-good, self-test}
-use Rattle.gx_law_order.proofs.Calm.{AreCalm, nobody-ready}
-use Rattle.gx_locks.specs.Locks.{is_ready, wait_of}
+use Rattle.gx_law_order.proofs.Queued.{queue-released, queue-stays, queued-by}
+use Rattle.gx_locks.specs.Locks.{resumed, wait_of}
+use Rattle.gx_tree.specs.declared.stmt.Stmt.{Stmt}
+use Rattle.gx_waits.specs.declared.claim.Claim.{Claim}
 
 closing-closed : (b : Block) (p : Pending) → is_closing_in b p ≡ true → is_open_in (block_after_done b p) ≡ false
 closing-closed b p e = grind arith
@@ -76,8 +78,8 @@ module _ (c : Coord) (before : List Mark) (k : Kept c) (p : Past c before) (g : 
       by_test false q = refl
 
   -- the transaction and its session, where the work has changed
-  base-work : (w : Work) (said : Stage) → w.session ≡ (c.works g).session → stage_of c g ≡ said → its.transaction.0 ≡ g → Base c (with_work c (gx g) w) g home w its said
-  base-work w said e st mine =
+  base-work : (w : Work) (said : Stage) → w.session ≡ (c.works g).session → w.waiting ≡ (c.works g).waiting → stage_of c g ≡ said → its.transaction.0 ≡ g → Base c (with_work c (gx g) w) g home w its said
+  base-work w said e waits st mine =
       record {
         whole1 = k.whole;
         now1 = find_txn c.table (gx g);
@@ -88,6 +90,7 @@ module _ (c : Coord) (before : List Mark) (k : Kept c) (p : Past c before) (g : 
         kind = inl (mine, refl);
         same_txn = mine;
         home1 = ap (λ (q : SessionId). q.0) e;
+        queues1 = queue-stays c.locks.waits g w.waiting (queued-by g (c.works g).waiting w.waiting c.locks.waits waits (k.queued g));
       }
 
   base-itself : (said : Stage) → stage_of c g ≡ said → its.transaction.0 ≡ g → Base c c g home (c.works g) its said
@@ -102,6 +105,7 @@ module _ (c : Coord) (before : List Mark) (k : Kept c) (p : Past c before) (g : 
         kind = inl (mine, refl);
         same_txn = mine;
         home1 = refl;
+        queues1 = queue-stays c.locks.waits g (c.works g).waiting (k.queued g);
       }
 
   past-work : (w : Work) → Past (with_work c (gx g) w) before
@@ -121,6 +125,20 @@ module _ (c : Coord) (before : List Mark) (k : Kept c) (p : Past c before) (g : 
     is-its : (its.transaction.0 ≡ g) × (is_live_in its.state.block its.state.pending ≡ true)
     is-its = (k.tied g).live runs-it.0
 
+    -- no statement waits while a command is under way
+    clashes : (line : Stmt) → (c.works g).waiting ≡ Some line → ⊥
+    clashes line e = differ (sym ((k.tied g).waits line e).1 ∙ has_it)
+      where
+        differ : None ≡ Some m → ⊥
+        differ q = cc
+
+    unqueued : (c.works g).waiting ≡ None
+    unqueued = none-is (c.works g).waiting clashes
+      where
+        none-is : (o : Option Stmt) → ((x : Stmt) → o ≡ Some x → ⊥) → o ≡ None
+        none-is None f = refl
+        none-is (Some x) f = absurd (f x refl)
+
     alone-closing : (b : Block) (q : Pending) → is_open_in b ≡ false → is_live_in b q ≡ true → is_closing_in b q ≡ true
     alone-closing b q e f = grind arith
 
@@ -134,7 +152,7 @@ module _ (c : Coord) (before : List Mark) (k : Kept c) (p : Past c before) (g : 
         c1 = with_work c (gx g) w
 
         b : Base c c1 g home w its Live
-        b = base-work w Live refl runs-it.0 is-its.0
+        b = base-work w Live refl refl runs-it.0 is-its.0
 
         work-now : c1.works g ≡ w
         work-now = ap (λ q. if q then w else c.works g) (self-test g)
@@ -144,8 +162,8 @@ module _ (c : Coord) (before : List Mark) (k : Kept c) (p : Past c before) (g : 
             rest-good c1 before
             (base-kept c c1 g home w its Live k b c1 (find_txn c.table (gx g)) w its k.whole (same-finds c.table g) (λ j. same-one j (eqb j g) refl) same-sessions
             (λ z q. subst (λ y. Tied (stage_of c g) g w y) (sym (q ∙ ap (λ t. if t then its else c.sessions home) (self-test home)))
-            (record { live = (k.tied g).live; closing = (k.tied g).closing; awaits = λ r h n. runs-it }))
-            is-its.0 (record { stands = λ o. (inl runs-it.0, refl); free = λ o n. runs-it.0 }))
+            (record { live = (k.tied g).live; closing = (k.tied g).closing; awaits = λ r h n. runs-it; busy = λ r h. (ap is_said runs-it.0, runs-it.1); waits = λ o h. absurd (clashes o h) }))
+            is-its.0 (record { stands = λ o. (inl runs-it.0, refl); free = λ o n. runs-it.0 }) (queue-stays c.locks.waits g w.waiting b.queues1.here))
             (past-work w)
           where
             same-one : (j : ℕ) (q : Bool) → eqb j g ≡ q → (if q then w else c.works j) ≡ (if q then w else (if q then w else c.works j))
@@ -154,7 +172,7 @@ module _ (c : Coord) (before : List Mark) (k : Kept c) (p : Past c before) (g : 
 
         alone : is_open_in its.state.block ≡ false → without i m.awaited ≡ [] → Good before (commits c1 (gx g))
         alone closed e =
-            commits-good c c1 g home w its Live k b before (past-work w) refl (alone-closing its.state.block its.state.pending closed is-its.1) (λ r h n. n (same-command r h ∙ e))
+            commits-good c c1 g home w its Live k b before (past-work w) refl (alone-closing its.state.block its.state.pending closed is-its.1) (λ r h n. n (same-command r h ∙ e)) (λ r h. runs-it.1) unqueued
           where
             same-command : (r : Command) → Some (with_done m i count part) ≡ Some r → r.awaited ≡ without i m.awaited
             same-command r h = ap (λ (q : Command). q.awaited) (sym (some-same (with_done m i count part) r h))
@@ -163,7 +181,7 @@ module _ (c : Coord) (before : List Mark) (k : Kept c) (p : Past c before) (g : 
                 some-same a b e = (cc)
 
         inside : is_open_in its.state.block ≡ true → Good before (answers c1 (gx g) (work_of c1 (gx g)))
-        inside opened = answers-good c c1 g home w its Live k b before (past-work w) refl opened runs-it.1 (c1.works g) (ap (λ (q : Work). q.session.0) work-now) refl
+        inside opened = answers-good c c1 g home w its Live k b before (past-work w) refl opened runs-it.1 (c1.works g) (ap (λ (q : Work). q.session.0) work-now) refl (ap (λ (q : Work). q.waiting) work-now ∙ unqueued)
 
         by_block : (x : Block) → its.state.block ≡ x → without i m.awaited ≡ [] → Good before (completes c1 (gx g) x)
         by_block Outside e f = alone (ap is_open_in e) f
@@ -207,7 +225,7 @@ module _ (c : Coord) (before : List Mark) (k : Kept c) (p : Past c before) (g : 
   -- STATUSES
   -- only the status changes
   quiet-kept : (turn : Turn) → (t : Turned c.table g turn Moves) → IsQuiet (stage_of c g) (stage t.now) → Kept (record c { table = turn.table })
-  quiet-kept turn t q = kept-quiet c (record c { table = turn.table }) k t.at.whole (λ j. by_test j (eqb j g) refl) (λ j. refl) (λ j. refl)
+  quiet-kept turn t q = kept-quiet c (record c { table = turn.table }) k t.at.whole (λ j. by_test j (eqb j g) refl) (λ j. refl) (λ j. refl) refl
     where
       by_test : (j : ℕ) (b : Bool) → eqb j g ≡ b → IsQuiet (stage_of c j) (stage (find_txn turn.table (gx j)))
       by_test j true f = subst (λ x. IsQuiet (stage_of c j) (stage x)) (sym (t.at.finds j ∙ ap (λ b. if b then t.now else find_txn c.table (gx j)) f)) (subst (λ i. IsQuiet (stage_of c i) (stage t.now)) (sym (eqb-true j g f)) q)
@@ -301,14 +319,45 @@ module _ (script : Script) (c : Coord) (before : List Mark) (k : Kept c) (p : Pa
       by_pending : (q : Pending) → is_nothing q ≡ true → is_nothing_in q ≡ true
       by_pending q e = grind arith
 
-  pub event-good : AreCalm c.locks → (x : NodeEvent) (fails : Bool) → coord_can script c x ≡ true → Good before (on_event script c x fails)
-  event-good calm (event.Deliver from envelope) fails e = message-good from fails envelope.message
-  event-good calm (event.Start s) fails e = start-good script c before k p s (idle-first s _ e) calm (next_line script c s)
-  event-good calm (event.End s) fails e = end-good script c before k p s (idle-first s _ e)
-  event-good calm (event.Resend i (Some g)) fails e = again-good i (awaited c g i)
-  event-good calm (event.Resend i None) fails e = rest-good c before k p
-  event-good calm (event.Resume g) fails e = absurd (clash (is_ready c.locks.holds (wait_of c.locks g)) e (nobody-ready c.locks g calm))
+  -- A statement that has waited goes out: its transaction is live, no command of it is under way, and it has its session.
+  resume-good : (g : ℕ) (o : Option Claim) (line : Option Stmt) → (c.works g).waiting ≡ line → Good before (resumes script c (gx g) o line)
+  resume-good g None line e = rest-good c before k p
+  resume-good g (Some wanted) None e = rest-good c before k p
+  resume-good g (Some wanted) (Some line) e =
+      held-good script c c1 g (c.works g).session.0 w (c.sessions (c.works g).session.0) k
+      (record {
+        whole1 = k.whole;
+        now1 = find_txn c.table (gx g);
+        stage1 = waits.0;
+        finds1 = same-finds c.table g;
+        works1 = λ j. refl;
+        sessions1 = same-sessions c before k p g;
+        kind = inl (its.0, refl);
+        same_txn = its.0;
+        home1 = refl;
+        queues1 = queue-released c.locks.waits g;
+      }) before past its.1 waits.2 waits.1 refl line (resumed c.locks (gx g) (Some wanted)) wanted refl
     where
-      clash : (q : Bool) → q ≡ true → q ≡ false → ⊥
-      clash q e f = grind arith
-  event-good calm event.Round fails e = rest-good c before k p
+      w : Work
+      w = record (c.works g) { waiting = None }
+
+      c1 : Coord
+      c1 = with_work (record c { locks = resumed c.locks (gx g) (Some wanted) }) (gx g) w
+
+      waits : (stage_of c g ≡ Live) × ((c.works g).command ≡ None) × (is_working_in (c.sessions (c.works g).session.0).state.pending ≡ true)
+      waits = (k.tied g).waits line e
+
+      its : ((c.sessions (c.works g).session.0).transaction.0 ≡ g) × (is_live_in (c.sessions (c.works g).session.0).state.block (c.sessions (c.works g).session.0).state.pending ≡ true)
+      its = (k.tied g).live waits.0
+
+      past : Past c1 before
+      past = record { committed = p.committed; ended = p.ended; dropped = p.dropped; latest = p.latest; drawn = p.drawn }
+
+  pub event-good : (x : NodeEvent) (fails : Bool) → coord_can script c x ≡ true → Good before (on_event script c x fails)
+  event-good (event.Deliver from envelope) fails e = message-good from fails envelope.message
+  event-good (event.Start s) fails e = start-good script c before k p s (idle-first s _ e) (next_line script c s)
+  event-good (event.End s) fails e = end-good script c before k p s (idle-first s _ e)
+  event-good (event.Resend i (Some g)) fails e = again-good i (awaited c g i)
+  event-good (event.Resend i None) fails e = rest-good c before k p
+  event-good (event.Resume g) fails e = resume-good g.0 (wait_of c.locks g) (work_of c g).waiting refl
+  event-good event.Round fails e = rest-good c before k p

@@ -16,7 +16,7 @@ use Rattle.gx_tree.specs.declared.stmt.Level.{Level}
 use Rattle.gx_dsnap.specs.Gxids.{is_below}
 use Rattle.gx_dsnap.specs.declared.snapshot.Snapshot.{Snapshot}
 use Rattle.gx_waits.specs.declared.claim.Claim.{Claim}
-use Rattle.gx_locks.specs.Locks.{Locks}
+use Rattle.gx_locks.specs.Locks.{Locks, is_free, resumed, wait_of}
 use Rattle.gx_meaning.specs.declared.fault.ArithFault.{ArithFault}
 use Rattle.gx_msg.specs.declared.item.JournalItem.{JournalItem}
 use Rattle.gx_msg.specs.declared.item.JournalItem.TheVariants as item
@@ -32,19 +32,19 @@ use Rattle.gx_store.specs.declared.node.NodeEvent.{NodeEvent}
 use Rattle.gx_store.specs.declared.node.NodeEvent.TheVariants as event
 use Rattle.gx_store.specs.Journals.{is_prepared, is_same_node, item_of, items_from, kept_at, kept_from, kept_with}
 use Rattle.gx_store.specs.Marks.{is_same_gxid}
-use Rattle.gx_rules.specs.AtSegment.{changes, commits, ends, finishes, if_fits, on_abort, on_commit, on_commit_prepared, on_event, on_exec, on_forget, on_message, on_prepare, once, promises, raised, repeats, takes, unless_below, was_prepared}
+use Rattle.gx_rules.specs.AtSegment.{changes, commits, ends, finishes, if_fits, on_abort, on_commit, on_commit_prepared, on_event, on_exec, on_forget, on_message, on_prepare, once, promises, raised, repeats, resumes, takes, unless_below, was_prepared}
 use Rattle.gx_rules.specs.Fits.{fits_exec, is_waiting}
 use Rattle.gx_rules.specs.Locks.{has_there, hold_mark, release_mark, with_hold}
 use Rattle.gx_rules.specs.Machine.{kept_item}
 use Rattle.gx_rules.specs.Maps.{with_at}
-use Rattle.gx_rules.specs.Segments.{Local, Phase, Seg, SegTurn, Version, after_marks, has_ended, local_of, stays, tells, tells_kept}
+use Rattle.gx_rules.specs.Segments.{Local, Phase, Seg, SegTurn, Suspended, Version, after_marks, has_ended, local_of, stays, tells, tells_kept, with_local}
 use Rattle.gx_rules.specs.Segments.Phase.{Aborted, Committed, Forgotten, Prepared, Reading, Writing}
 use Rattle.gx_rules.specs.Shown.{kept_of, kept_one, last_images, shown}
-use Rattle.gx_rules.specs.Slices.{Moved, first_fault, inserted, inserts, inserts_row, runs_slice, selects, starts_slice}
+use Rattle.gx_rules.specs.Slices.{Moved, first_fault, inserted, inserts, inserts_row, requests, runs_locked, runs_slice, selects, slice_lock, suspends}
 use Rattle.gx_law_order.proofs.Calm.{each-released}
-use Rattle.gx_law_order.proofs.CalmSegs.{IsCalm, resumes-calm, starts-calm}
 use Rattle.gx_law_order.proofs.Lists.{Each}
 use Rattle.gx_law_order.proofs.Stages.{gx}
+use Rattle.gx_law_order.proofs.Suspended.{is_open_phase}
 
 -- WHAT THE MARKS SAY
 abbrev pub writes_at : Node → List Mark → List Version
@@ -204,11 +204,11 @@ module _ (s : Seg) (before : List Mark) (k : Holds s.node s before) where
 
   -- slices, where the horizon or the locks have changed before
   abbrev raised_with : Gxid → Locks → Seg
-  raised_with h locks = record (raised s h) { locks = locks }
+  raised_with top locks = record s { horizon = top; locks = locks }
 
-  select : (fails : Bool) (h : Gxid) (locks : Locks) (g : Gxid) (c : Cid) (q : Query) (rows : List KeyedRow) (f : Option (KeyedRow × ArithFault)) → Well fails (selects (raised_with h locks) g c q rows f)
-  select fails h locks g c q rows None = dull-turn fails _ tt refl (none-kept fails) refl (bound-with s.locals g.0 _ (λ i. is_prepared before s.node (gx i)) k.bound (k.bound g.0))
-  select fails h locks g c q rows (Some f) = dull-turn fails _ (tt, tt) refl (none-kept fails) refl (bound-with s.locals g.0 _ (λ i. is_prepared before s.node (gx i)) k.bound (k.bound g.0))
+  select : (fails : Bool) (top : Gxid) (locks : Locks) (g : Gxid) (c : Cid) (q : Query) (rows : List KeyedRow) (f : Option (KeyedRow × ArithFault)) → Well fails (selects (raised_with top locks) g c q rows f)
+  select fails top locks g c q rows None = dull-turn fails _ tt refl (none-kept fails) refl (bound-with s.locals g.0 _ (λ i. is_prepared before s.node (gx i)) k.bound (k.bound g.0))
+  select fails top locks g c q rows (Some f) = dull-turn fails _ (tt, tt) refl (none-kept fails) refl (bound-with s.locals g.0 _ (λ i. is_prepared before s.node (gx i)) k.bound (k.bound g.0))
 
   pub record Added (g : Gxid) (m : Moved) : Type 0 where
     pub node : m.seg.node ≡ s.node
@@ -249,31 +249,58 @@ module _ (s : Seg) (before : List Mark) (k : Holds s.node s before) where
         };
       }
 
-  slice_runs : (fails : Bool) (h : Gxid) (locks : Locks) (g : Gxid) (c : Cid) (snapshot : Option Snapshot) (x : Slice) → is_prepared before s.node g ≡ false → Well fails (runs_slice (raised_with h locks) g c snapshot x)
-  slice_runs fails h locks g c (Some snapshot) (slice.Select q) n = select fails h locks g c q (shown (raised_with h locks) snapshot g c q.table) (first_fault q.cond (shown (raised_with h locks) snapshot g c q.table))
-  slice_runs fails h locks g c (Some snapshot) (slice.Insert table rows) n =
-      insert fails g c (length rows) (inserted (raised_with h locks) g c table rows) (add-rows g c table rows (record { seg = raised_with h locks; marks = [] }) n (record { node = refl; dull = tt; versions = sym (append-nil s.versions); bound = k.bound }))
-  slice_runs fails h locks g c snapshot x n = dull-turn fails (stays (raised_with h locks)) tt refl (none-kept fails) refl k.bound
+  slice_runs : (fails : Bool) (top : Gxid) (locks : Locks) (g : Gxid) (c : Cid) (snapshot : Option Snapshot) (x : Slice) → is_prepared before s.node g ≡ false → Well fails (runs_slice (raised_with top locks) g c snapshot x)
+  slice_runs fails top locks g c (Some snapshot) (slice.Select q) n = select fails top locks g c q (shown (raised_with top locks) snapshot g c q.table) (first_fault q.cond (shown (raised_with top locks) snapshot g c q.table))
+  slice_runs fails top locks g c (Some snapshot) (slice.Insert table rows) n =
+      insert fails g c (length rows) (inserted (raised_with top locks) g c table rows) (add-rows g c table rows (record { seg = raised_with top locks; marks = [] }) n (record { node = refl; dull = tt; versions = sym (append-nil s.versions); bound = k.bound }))
+  slice_runs fails top locks g c snapshot x n = dull-turn fails (stays (raised_with top locks)) tt refl (none-kept fails) refl k.bound
 
-module _ (script : Script) (s : Seg) (calm : IsCalm s) (before : List Mark) (k : Holds s.node s before) where
+-- who runs hasn't promised
+open-bound : (b : Bool) (p : Phase) → is_open_phase p ≡ true → Bound b p → b ≡ false
+open-bound b Reading e f = f
+open-bound b Writing e f = f
+open-bound b Prepared e f = absurd (cc)
+open-bound b Committed e f = absurd (cc)
+open-bound b (Forgotten q) e f = absurd (cc)
+open-bound b Aborted e f = absurd (cc)
+
+-- the transactions of the slices that wait have neither promised nor ended
+abbrev pub AreOpen : Seg → Type 0
+AreOpen s = (h : ℕ) (x : Suspended) → (s.locals h).suspended ≡ Some x → is_open_phase (s.locals h).phase ≡ true
+
+module _ (script : Script) (s : Seg) (opens : AreOpen s) (before : List Mark) (k : Holds s.node s before) where
   abbrev Good : Bool → SegTurn → Type 0
   Good fails turn = Items s.node before fails turn
 
-  starts : (fails : Bool) (h g : Gxid) (c : Cid) (level : Level) (snapshot : Option Snapshot) (x : Slice) → is_prepared before s.node g ≡ false → Good fails (starts_slice (raised s h) g c level snapshot x)
-  starts fails h g c level snapshot x n =
-      starts-calm (Good fails) (raised s h) calm.locks g c level snapshot x
-      (λ wanted. hold-items s.node s.node before wanted fails _
-      (slice_runs s (before ++ hold_mark s.node wanted ∷ []) (hold-holds s.node s.node s before wanted k) fails h (with_hold s.locks wanted) g c snapshot x (still wanted)))
-      (slice_runs s before k fails h s.locks g c snapshot x n)
-    where
-      still : (wanted : Claim) → is_prepared (before ++ hold_mark s.node wanted ∷ []) s.node g ≡ false
-      still wanted = prepared-append before (hold_mark s.node wanted ∷ []) s.node g ∙ ap (λ q. q || false) n
+  still : (g : Gxid) (wanted : Claim) → is_prepared before s.node g ≡ false → is_prepared (before ++ hold_mark s.node wanted ∷ []) s.node g ≡ false
+  still g wanted n = prepared-append before (hold_mark s.node wanted ∷ []) s.node g ∙ ap (λ q. q || false) n
+
+  -- it runs with its lock, or waits for it
+  starts : (fails : Bool) (h g : Gxid) (c : Cid) (level : Level) (snapshot : Option Snapshot) (x : Slice) (o : Option Claim) → is_prepared before s.node g ≡ false → Good fails (requests (raised s h) g c level snapshot x o)
+  starts fails h g c level snapshot x None n = slice_runs s before k fails (raised s h).horizon s.locks g c snapshot x n
+  starts fails h g c level snapshot x (Some wanted) n =
+      both s before k fails (is_free s.locks.holds wanted) (runs_locked (raised s h) g c snapshot x wanted) (suspends (raised s h) g c level snapshot x wanted)
+      (hold-items s.node s.node before wanted fails _
+      (slice_runs s (before ++ hold_mark s.node wanted ∷ []) (hold-holds s.node s.node s before wanted k) fails (raised s h).horizon (with_hold s.locks wanted) g c snapshot x (still g wanted n)))
+      (dull-turn s before k fails _ (tt, tt) refl (none-kept s before k fails) refl (bound-with s.locals g.0 _ (λ i. is_prepared before s.node (gx i)) k.bound (k.bound g.0)))
+
+  -- a slice that goes on
+  resume : (fails : Bool) (g : Gxid) (w : Option Claim) (o : Option Suspended) → (local_of s g).suspended ≡ o → Good fails (resumes s g w o)
+  resume fails g (Some wanted) (Some x) e =
+      let rest : Local = record (local_of s g) { suspended = None } in
+      let free : Seg = with_local s g rest in
+      let kept : Holds s.node free before = record { versions = k.versions; bound = bound-with s.locals g.0 rest (λ i. is_prepared before s.node (gx i)) k.bound (k.bound g.0) } in
+      hold-items s.node s.node before wanted fails _
+      (slice_runs free (before ++ hold_mark s.node wanted ∷ []) (hold-holds s.node s.node free before wanted kept) fails s.horizon (resumed s.locks g (Some wanted)) g x.cid x.snapshot x.slice
+      (still g wanted (open-bound (is_prepared before s.node g) (local_of s g).phase (opens g.0 x e) (k.bound g.0))))
+  resume fails g (Some wanted) None e = stay s before k fails
+  resume fails g None o e = stay s before k fails
 
   repeat : (fails : Bool) (g : Gxid) (c : Cid) (l : Local) → Good fails (repeats s g c l)
   repeat fails g c l = both s before k fails (c.0 == l.last) _ _ (kept s before k fails g l.answer) (stay s before k fails)
 
   take : (fails : Bool) (g : Gxid) (c : Cid) (level : Level) (snapshot : Option Snapshot) (h : Gxid) (x : Slice) (l : Local) → is_prepared before s.node g ≡ false → Good fails (takes s g c level snapshot h x l)
-  take fails g c level snapshot h x l n = both s before k fails (nat_lt l.last c.0) _ _ (starts fails h g c level snapshot x n) (repeat fails g c l)
+  take fails g c level snapshot h x l n = both s before k fails (nat_lt l.last c.0) _ _ (starts fails h g c level snapshot x (slice_lock g x) n) (repeat fails g c l)
 
   exec : (fails : Bool) (g : Gxid) (c : Cid) (level : Level) (snapshot : Option Snapshot) (h : Gxid) (x : Slice) (l : Local) (p : Phase) → Bound (is_prepared before s.node g) p → Good fails (on_exec s g c level snapshot h x l p)
   exec fails g c level snapshot h x l Reading n = take fails g c level snapshot h x l n
@@ -436,7 +463,7 @@ module _ (script : Script) (s : Seg) (calm : IsCalm s) (before : List Mark) (k :
 
   pub event_items : (x : NodeEvent) (fails : Bool) → Good fails (on_event script s x fails)
   event_items (event.Deliver from envelope) fails = message_items fails envelope.message
-  event_items (event.Resume g) fails = resumes-calm (Good fails) s g calm (stay s before k fails)
+  event_items (event.Resume g) fails = resume fails g (wait_of s.locks g) (local_of s g).suspended refl
   event_items (event.Start x) fails = stay s before k fails
   event_items (event.End x) fails = stay s before k fails
   event_items (event.Resend i g) fails = stay s before k fails

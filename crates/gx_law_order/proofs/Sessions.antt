@@ -11,9 +11,11 @@ use Rattle.gx_dtx.specs.Table.{find_txn}
 use Rattle.gx_dtx.specs.declared.txn.Txn.{Txn}
 use Rattle.gx_rules.specs.Coordinators.{Command, Coord, Session, Work}
 use Rattle.gx_rules.specs.Maps.{with_at}
+use Rattle.gx_tree.specs.declared.stmt.Stmt.{Stmt}
+use Rattle.gx_law_order.proofs.Queued.{IsQueued, Queues, queued-by}
 use Rattle.gx_law_order.proofs.Stages.{IsWhole, gx}
 use Rattle.gx_law_order.proofs.Statuses.{Stage, stage}
-use Rattle.gx_law_order.proofs.Statuses.Stage.{Absent, Live, Closing}
+use Rattle.gx_law_order.proofs.Statuses.Stage.{Absent, Live, Closing, Finished, Dropped}
 
 -- where a session stands
 abbrev pub is_open_in : Block → Bool
@@ -39,11 +41,19 @@ is_closing_in (Open level) pending.Commit = true
 is_closing_in Outside pending.Command = true
 is_closing_in _ _ = false
 
--- what a transaction's stage says of its session, and a command that is awaited of both
+abbrev pub is_said : Stage → Bool
+is_said Live = true
+is_said Closing = true
+is_said _ = false
+
+-- What a transaction's stage says of its session; what a command that is awaited, or under way, says of both; and a statement that
+-- waits: its transaction is live, has no command under way, and its session has it as its line under way.
 pub record Tied (a : Stage) (g : ℕ) (w : Work) (x : Session) : Type 0 where
   pub live : a ≡ Live → (x.transaction.0 ≡ g) × (is_live_in x.state.block x.state.pending ≡ true)
   pub closing : a ≡ Closing → (x.transaction.0 ≡ g) × (is_closing_in x.state.block x.state.pending ≡ true)
   pub awaits : (k : Command) → w.command ≡ Some k → (k.awaited ≡ [] → ⊥) → (a ≡ Live) × (is_working_in x.state.pending ≡ true)
+  pub busy : (k : Command) → w.command ≡ Some k → (is_said a ≡ true) × (is_working_in x.state.pending ≡ true)
+  pub waits : (line : Stmt) → w.waiting ≡ Some line → (a ≡ Live) × (w.command ≡ None) × (is_working_in x.state.pending ≡ true)
 
 -- what an open block says of its transaction
 pub record Placed (s : ℕ) (x : Session) (a : Stage) (w : Work) : Type 0 where
@@ -57,6 +67,7 @@ pub record Kept (c : Coord) : Type 0 where
   pub whole : IsWhole c.table
   pub tied : (g : ℕ) → Tied (stage_of c g) g (c.works g) (c.sessions (c.works g).session.0)
   pub placed : (s : ℕ) → Placed s (c.sessions s) (stage_of c (c.sessions s).transaction.0) (c.works (c.sessions s).transaction.0)
+  pub queued : (g : ℕ) → IsQueued g (c.works g).waiting c.locks.waits
 
 -- facts moved along equations
 tied-by : (a b : Stage) (g : ℕ) (w v : Work) (x y : Session) → b ≡ a → v ≡ w → y ≡ x → Tied a g w x → Tied b g v y
@@ -68,7 +79,7 @@ placed-by s x y a b w v e f h t = subst (λ q. Placed s q b v) (sym e) (subst (�
 -- the other transactions have other sessions
 other-tied : (a : Stage) (h g : ℕ) (w : Work) (x y : Session) → Tied a h w x → x.transaction.0 ≡ g → eqb h g ≡ false → Tied a h w y
 other-tied a h g w x y t e n =
-    record { live = λ l. absurd (clash (t.live l).0); closing = λ l. absurd (clash (t.closing l).0); awaits = λ k f m. absurd (clash (t.live (t.awaits k f m).0).0) }
+    record { live = λ l. absurd (clash (t.live l).0); closing = λ l. absurd (clash (t.closing l).0); awaits = λ k f m. absurd (clash (t.live (t.awaits k f m).0).0); busy = λ k f. absurd (said-clash a refl (t.busy k f).0); waits = λ l f. absurd (clash (t.live (t.waits l f).0).0) }
   where
     clash : x.transaction.0 ≡ h → ⊥
     clash q = two h g (sym q ∙ e) n
@@ -76,11 +87,24 @@ other-tied a h g w x y t e n =
         two : (h g : ℕ) → h ≡ g → eqb h g ≡ false → ⊥
         two h g q n = grind (arith, nat_tests)
 
+    said-clash : (b : Stage) → a ≡ b → is_said b ≡ true → ⊥
+    said-clash Live e f = clash (t.live e).0
+    said-clash Closing e f = clash (t.closing e).0
+    said-clash Absent e f = absurd (cc)
+    said-clash Finished e f = absurd (cc)
+    said-clash Dropped e f = absurd (cc)
+
 -- an idle session outside a block has no transaction that runs
 idle-tied : (a : Stage) (h : ℕ) (w : Work) (x y : Session) → Tied a h w x → x.state.block ≡ Outside → x.state.pending ≡ pending.Nothing → Tied a h w y
 idle-tied a h w x y t e f =
-    record { live = λ l. absurd (not-live (t.live l).1); closing = λ l. absurd (not-closing (t.closing l).1); awaits = λ k q m. absurd (not-live (t.live (t.awaits k q m).0).1) }
+    record { live = λ l. absurd (not-live (t.live l).1); closing = λ l. absurd (not-closing (t.closing l).1); awaits = λ k q m. absurd (not-live (t.live (t.awaits k q m).0).1); busy = λ k q. absurd (not-working (t.busy k q).1); waits = λ l q. absurd (not-working (t.waits l q).2) }
   where
+    not-working : is_working_in x.state.pending ≡ true → ⊥
+    not-working q = differ (subst (λ p. is_working_in p ≡ true) f q)
+      where
+        differ : is_working_in pending.Nothing ≡ true → ⊥
+        differ q = grind arith
+
     not-live : is_live_in x.state.block x.state.pending ≡ true → ⊥
     not-live q = differ (subst (λ b. is_live_in b pending.Nothing ≡ true) e (subst (λ p. is_live_in x.state.block p ≡ true) f q))
       where
@@ -99,6 +123,7 @@ pub record Change (c d : Coord) (g s : ℕ) (now : Option Txn) (w : Work) (x : S
   pub finds : (j : ℕ) → find_txn d.table (gx j) ≡ (if eqb j g then now else find_txn c.table (gx j))
   pub works : (j : ℕ) → d.works j ≡ (if eqb j g then w else c.works j)
   pub sessions : (j : ℕ) → d.sessions j ≡ (if eqb j s then x else c.sessions j)
+  pub queues : Queues c.locks.waits d.locks.waits g w.waiting
 
 module _ (c d : Coord) (g s : ℕ) (now : Option Txn) (w : Work) (x : Session) (k : Kept c) (ch : Change c d g s now w x) where
   abbrev session_at : ℕ → Session
@@ -127,6 +152,13 @@ module _ (c d : Coord) (g s : ℕ) (now : Option Txn) (w : Work) (x : Session) (
       by_test true e = subst (λ q. Placed q x (if eqb x.transaction.0 g then stage now else stage_of c x.transaction.0) (if eqb x.transaction.0 g then w else c.works x.transaction.0)) (sym (eqb-true j s e)) new
       by_test false e = old j e
 
+  queued-here : (h : ℕ) → IsQueued h (d.works h).waiting d.locks.waits
+  queued-here h = queued-by h _ _ d.locks.waits (ap (λ (v : Work). v.waiting) (ch.works h)) (by_test (eqb h g) refl)
+    where
+      by_test : (b : Bool) → eqb h g ≡ b → IsQueued h (if b then w else c.works h).waiting d.locks.waits
+      by_test true e = subst (λ i. IsQueued i w.waiting d.locks.waits) (sym (eqb-true h g e)) ch.queues.here
+      by_test false e = record { claims = ch.queues.others h e ∙ (k.queued h).claims; locks = (k.queued h).locks }
+
   -- the session's own transaction
   pub kept-own : (c.sessions s).transaction.0 ≡ g → (c.works g).session.0 ≡ s → Tied (stage now) g w (session_at w.session.0) → (x.transaction.0 ≡ g) → Placed s x (stage now) w → Kept d
   kept-own mine home new same_txn newp =
@@ -135,6 +167,7 @@ module _ (c d : Coord) (g s : ℕ) (now : Option Txn) (w : Work) (x : Session) (
         tied = tied-here new (λ h e. others h e (eqb (c.works h).session.0 s) refl);
         placed = placed-here (subst (λ b. Placed s x (if b then stage now else stage_of c x.transaction.0) (if b then w else c.works x.transaction.0)) (sym (is-same x.transaction.0 g same_txn)) newp)
             (λ j e. elsewhere j e (eqb (c.sessions j).transaction.0 g) refl);
+        queued = queued-here;
       }
     where
       is-same : (a b : ℕ) → a ≡ b → eqb a b ≡ true
@@ -163,6 +196,7 @@ module _ (c d : Coord) (g s : ℕ) (now : Option Txn) (w : Work) (x : Session) (
         tied = tied-here new (λ h e. others h (eqb (c.works h).session.0 s) refl);
         placed = placed-here (subst (λ b. Placed s x (if b then stage now else stage_of c x.transaction.0) (if b then w else c.works x.transaction.0)) (sym (is-same x.transaction.0 g same_txn)) newp)
             (λ j e. elsewhere j (eqb (c.sessions j).transaction.0 g) refl);
+        queued = queued-here;
       }
     where
       is-same : (a b : ℕ) → a ≡ b → eqb a b ≡ true
@@ -191,24 +225,22 @@ module _ (c d : Coord) (g s : ℕ) (now : Option Txn) (w : Work) (x : Session) (
 
 -- A CHANGE OF STAGES ALONE
 -- the stage stays, or it is one that says nothing before and after
-abbrev pub is_said : Stage → Bool
-is_said Live = true
-is_said Closing = true
-is_said _ = false
-
 abbrev pub IsQuiet : Stage → Stage → Type 0
 IsQuiet a b = (b ≡ a) ⊎ ((is_said a ≡ false) × (is_said b ≡ false))
 
 quiet-tied : (a b : Stage) (g : ℕ) (w : Work) (x : Session) → IsQuiet a b → Tied a g w x → Tied b g w x
 quiet-tied a b g w x (inl e) t = subst (λ q. Tied q g w x) (sym e) t
 quiet-tied a b g w x (inr n) t =
-    record { live = λ l. absurd (no-live b n.1 l); closing = λ l. absurd (no-closing b n.1 l); awaits = λ k f m. absurd (no-live a n.0 (t.awaits k f m).0) }
+    record { live = λ l. absurd (no-live b n.1 l); closing = λ l. absurd (no-closing b n.1 l); awaits = λ k f m. absurd (no-live a n.0 (t.awaits k f m).0); busy = λ k f. absurd (unsaid a n.0 (t.busy k f).0); waits = λ l f. absurd (no-live a n.0 (t.waits l f).0) }
   where
     no-live : (a : Stage) → is_said a ≡ false → a ≡ Live → ⊥
     no-live a e l = grind arith
 
     no-closing : (a : Stage) → is_said a ≡ false → a ≡ Closing → ⊥
     no-closing a e l = grind arith
+
+    unsaid : (a : Stage) → is_said a ≡ false → is_said a ≡ true → ⊥
+    unsaid a e l = grind arith
 
 quiet-placed : (s : ℕ) (x : Session) (a b : Stage) (w : Work) → IsQuiet a b → Placed s x a w → Placed s x b w
 quiet-placed s x a b w (inl e) t = subst (λ q. Placed s x q w) (sym e) t
@@ -224,13 +256,14 @@ quiet-placed s x a b w (inr n) t = record { stands = λ o. absurd (not-said (t.s
         closing : (a : Stage) → is_said a ≡ false → a ≡ Closing → ⊥
         closing a e l = grind arith
 
-pub kept-quiet : (c d : Coord) → Kept c → IsWhole d.table → ((j : ℕ) → IsQuiet (stage_of c j) (stage_of d j)) → ((j : ℕ) → d.works j ≡ c.works j) → ((j : ℕ) → d.sessions j ≡ c.sessions j) → Kept d
-kept-quiet c d k whole q works sessions =
+pub kept-quiet : (c d : Coord) → Kept c → IsWhole d.table → ((j : ℕ) → IsQuiet (stage_of c j) (stage_of d j)) → ((j : ℕ) → d.works j ≡ c.works j) → ((j : ℕ) → d.sessions j ≡ c.sessions j) → d.locks.waits ≡ c.locks.waits → Kept d
+kept-quiet c d k whole q works sessions waits =
     record {
       whole = whole;
       tied = λ g. tied-by _ _ g _ _ _ _ refl (works g) (ap (λ (v : Work). d.sessions v.session.0) (works g) ∙ sessions _) (quiet-tied (stage_of c g) (stage_of d g) g (c.works g) (c.sessions (c.works g).session.0) (q g) (k.tied g));
       placed = λ s. placed-by s _ _ _ _ _ _ (sessions s) (ap (λ (y : Session). stage_of d y.transaction.0) (sessions s)) (ap (λ (y : Session). d.works y.transaction.0) (sessions s) ∙ works _)
           (quiet-placed s (c.sessions s) (stage_of c (c.sessions s).transaction.0) (stage_of d (c.sessions s).transaction.0) (c.works (c.sessions s).transaction.0) (q (c.sessions s).transaction.0) (k.placed s));
+      queued = λ g. subst (λ l. IsQueued g (d.works g).waiting l) (sym waits) (queued-by g _ _ c.locks.waits (ap (λ (v : Work). v.waiting) (works g)) (k.queued g));
     }
 
 -- A CHANGE OF AN IDLE SESSION ALONE
@@ -240,6 +273,8 @@ idle-same a g w x y e n m o t =
       live = λ l. (ap (λ (q : Gxid). q.0) e ∙ (t.live l).0, live-too x.state.block y.state.block x.state.pending y.state.pending n m o (t.live l).1);
       closing = λ l. absurd (no-closing x.state.block x.state.pending n (t.closing l).1);
       awaits = λ k f r. absurd (no-work x.state.pending n (t.awaits k f r).1);
+      busy = λ k f. absurd (no-work x.state.pending n (t.busy k f).1);
+      waits = λ l f. absurd (no-work x.state.pending n (t.waits l f).2);
     }
   where
     live-too : (b d : Block) (p q : Pending) → is_nothing_in p ≡ true → is_nothing_in q ≡ true → is_open_in d ≡ is_open_in b → is_live_in b p ≡ true → is_live_in d q ≡ true
@@ -257,6 +292,7 @@ kept-idle c s x k e n m o =
       whole = k.whole;
       tied = λ g. by_test g (eqb (c.works g).session.0 s) refl;
       placed = λ j. placed_test j (eqb j s) refl;
+      queued = k.queued;
     }
   where
     by_test : (g : ℕ) (b : Bool) → eqb (c.works g).session.0 s ≡ b → Tied (stage_of c g) g (c.works g) (if b then x else c.sessions (c.works g).session.0)

@@ -25,6 +25,8 @@ use Rattle.gx_law_order.proofs.Ends.{AtOne, at-commits, at-falls, at-runs, great
 use Rattle.gx_law_order.proofs.Lists.{Each, each_append}
 use Rattle.gx_law_order.proofs.Past.{Past, Still, aborted-append, committed-append, running-drawn, seen-append, still-committed, still-seen}
 use Rattle.gx_law_order.proofs.Sessions.{Change, Kept, Placed, Tied, is_open_in, is_said, kept-new, kept-own, stage_of}
+use Rattle.gx_locks.specs.Locks.{without}
+use Rattle.gx_law_order.proofs.Queued.{Queues, queue-released, queue-then}
 use Rattle.gx_law_order.proofs.Stages.{IsWhole, gx}
 use Rattle.gx_law_order.proofs.Statuses.{Falls, Stage, Turned, is_running, stage}
 use Rattle.gx_law_order.proofs.Statuses.Stage.{Absent, Live, Closing, Finished, Dropped}
@@ -49,6 +51,7 @@ pub record Base (c c1 : Coord) (g s : ℕ) (w1 : Work) (y : Session) (said : Sta
   pub kind : (((c.sessions s).transaction.0 ≡ g) × ((c.works g).session.0 ≡ s)) ⊎ ((find_txn c.table (gx g) ≡ None) × ((c.sessions s).state.block ≡ Outside) × ((c.sessions s).state.pending ≡ pending.Nothing))
   pub same_txn : y.transaction.0 ≡ g
   pub home1 : w1.session.0 ≡ s
+  pub queues1 : Queues c.locks.waits c1.locks.waits g w1.waiting
 
 pub self-test : (a : ℕ) → eqb a a ≡ true
 self-test a = grind (arith, nat_tests)
@@ -58,7 +61,7 @@ merged true x y z v e = refl
 merged false x y z v e = e
 
 pub tied-none : (a : Stage) (g : ℕ) (x : Session) → is_said a ≡ false → Tied a g no_work x
-tied-none a g x e = record { live = λ l. absurd (no-live a e l); closing = λ l. absurd (no-closing a e l); awaits = λ k f m. absurd (cc) }
+tied-none a g x e = record { live = λ l. absurd (no-live a e l); closing = λ l. absurd (no-closing a e l); awaits = λ k f m. absurd (cc); busy = λ k f. absurd (cc); waits = λ l f. absurd (cc) }
   where
     no-live : (a : Stage) → is_said a ≡ false → a ≡ Live → ⊥
     no-live a e l = grind arith
@@ -112,8 +115,8 @@ module _ (c c1 : Coord) (g s : ℕ) (w1 : Work) (y : Session) (said : Stage) (k 
   session-set f j =
       ap (λ i. if eqb j i then f (c1.sessions i) else c1.sessions j) home-is ∙ ap (λ x. if eqb j s then f x else c1.sessions j) y-is
 
-  pub base-kept : (d : Coord) (now : Option Txn) (w : Work) (x : Session) → IsWhole d.table → ((j : ℕ) → find_txn d.table (gx j) ≡ (if eqb j g then now else find_txn c1.table (gx j))) → ((j : ℕ) → d.works j ≡ (if eqb j g then w else c1.works j)) → ((j : ℕ) → d.sessions j ≡ (if eqb j s then x else c1.sessions j)) → ((z : Session) → z ≡ (if eqb w.session.0 s then x else c.sessions w.session.0) → Tied (stage now) g w z) → x.transaction.0 ≡ g → Placed s x (stage now) w → Kept d
-  base-kept d now w x whole finds works sessions tied same placed = by_kind b.kind
+  pub base-kept : (d : Coord) (now : Option Txn) (w : Work) (x : Session) → IsWhole d.table → ((j : ℕ) → find_txn d.table (gx j) ≡ (if eqb j g then now else find_txn c1.table (gx j))) → ((j : ℕ) → d.works j ≡ (if eqb j g then w else c1.works j)) → ((j : ℕ) → d.sessions j ≡ (if eqb j s then x else c1.sessions j)) → ((z : Session) → z ≡ (if eqb w.session.0 s then x else c.sessions w.session.0) → Tied (stage now) g w z) → x.transaction.0 ≡ g → Placed s x (stage now) w → Queues c1.locks.waits d.locks.waits g w.waiting → Kept d
+  base-kept d now w x whole finds works sessions tied same placed queues = by_kind b.kind
     where
       ch : Change c d g s now w x
       ch = record {
@@ -121,6 +124,7 @@ module _ (c c1 : Coord) (g s : ℕ) (w1 : Work) (y : Session) (said : Stage) (k 
         finds = λ j. finds j ∙ merged (eqb j g) now b.now1 (find_txn c.table (gx j)) (find_txn c1.table (gx j)) (b.finds1 j);
         works = λ j. works j ∙ merged (eqb j g) w w1 (c.works j) (c1.works j) (b.works1 j);
         sessions = λ j. sessions j ∙ merged (eqb j s) x y (c.sessions j) (c1.sessions j) (b.sessions1 j);
+        queues = queue-then c.locks.waits c1.locks.waits d.locks.waits g w1.waiting w.waiting b.queues1 queues;
       }
 
       by_kind : (((c.sessions s).transaction.0 ≡ g) × ((c.works g).session.0 ≡ s)) ⊎ ((find_txn c.table (gx g) ≡ None) × ((c.sessions s).state.block ≡ Outside) × ((c.sessions s).state.pending ≡ pending.Nothing)) → Kept d
@@ -128,8 +132,10 @@ module _ (c c1 : Coord) (g s : ℕ) (w1 : Work) (y : Session) (said : Stage) (k 
       by_kind (inr n) = kept-new c d g s now w x k ch n.0 n.1 n.2 (tied _ refl) same placed
 
   -- the transaction has its mark, and nothing is known of it any more
-  pub reset-kept : (d : Coord) (now : Option Txn) (x : Session) → IsWhole d.table → ((j : ℕ) → find_txn d.table (gx j) ≡ (if eqb j g then now else find_txn c1.table (gx j))) → ((j : ℕ) → d.works j ≡ (if eqb j g then no_work else c1.works j)) → ((j : ℕ) → d.sessions j ≡ (if eqb j s then x else c1.sessions j)) → is_said (stage now) ≡ false → x.transaction.0 ≡ g → is_open_in x.state.block ≡ false → Kept d
-  reset-kept d now x whole finds works sessions unsaid same closed = base-kept d now no_work x whole finds works sessions (λ z e. tied-none (stage now) g z unsaid) same (not-open s x (stage now) no_work closed)
+  pub reset-kept : (d : Coord) (now : Option Txn) (x : Session) → IsWhole d.table → ((j : ℕ) → find_txn d.table (gx j) ≡ (if eqb j g then now else find_txn c1.table (gx j))) → ((j : ℕ) → d.works j ≡ (if eqb j g then no_work else c1.works j)) → ((j : ℕ) → d.sessions j ≡ (if eqb j s then x else c1.sessions j)) → is_said (stage now) ≡ false → x.transaction.0 ≡ g → is_open_in x.state.block ≡ false → d.locks.waits ≡ without (gx g) c1.locks.waits → Kept d
+  reset-kept d now x whole finds works sessions unsaid same closed waits =
+      base-kept d now no_work x whole finds works sessions (λ z e. tied-none (stage now) g z unsaid) same (not-open s x (stage now) no_work closed)
+      (subst (λ l. Queues c1.locks.waits l g None) (sym waits) (queue-released c1.locks.waits g))
 
   pub same-sessions : (j : ℕ) → c1.sessions j ≡ (if eqb j s then y else c1.sessions j)
   same-sessions j = by_test (eqb j s) refl
@@ -158,7 +164,7 @@ module _ (c c1 : Coord) (g s : ℕ) (w1 : Work) (y : Session) (said : Stage) (k 
         let said_last : List Mark = answer_mark c1 (work_of c1 (gx g)).session (answer_at_commit (work_of c1 (gx g)) (session_of c1 (work_of c1 (gx g)).session).state.pending) ∷ release_marks the_coordinator c1.locks (gx g) in
         let still : Each Still said_last = (tt, back-still) in
         record {
-          kept = reset-kept _ t.now (record y { state = after_done y.state }) t.at.whole t.at.finds (λ j. refl) (session-set (λ x. record x { state = after_done x.state })) unsaid b.same_txn closed;
+          kept = reset-kept _ t.now (record y { state = after_done y.state }) t.at.whole t.at.finds (λ j. refl) (session-set (λ x. record x { state = after_done x.state })) unsaid b.same_txn closed refl;
           past = past-at c1 _ before (mark.Commit (gx g) ∷ said_last) g t.now p t.at.next t.at.finds (commit-elsewhere g said_last still) (subst (λ q. latest_number c1.table.latest_ended ≤ latest_number q) (sym t.latest) facts.0)
               (subst (λ q. latest_number q < c1.table.next.0) (sym t.latest) facts.2)
               (at-commits c1 before (mark.Commit (gx g) ∷ said_last) p g (stage t.now) _ b.whole1 (ap is_running stage-is ∙ r) stopped (commit-here g said_last) (subst (λ q. g ≤ latest_number q) (sym t.latest) (facts.1 (ap ends o))));
@@ -215,7 +221,7 @@ module _ (c c1 : Coord) (g s : ℕ) (w1 : Work) (y : Session) (said : Stage) (k 
         let said_last : List Mark = answer_mark c1 (work_of c1 (gx g)).session (told.Refused reason) ∷ release_marks the_coordinator c1.locks (gx g) in
         let still : Each Still said_last = (tt, back-still) in
         record {
-          kept = reset-kept _ t.now (record y { state = after_refused y.state }) t.at.whole t.at.finds (λ j. refl) (session-set (λ x. record x { state = after_refused x.state })) (unsaid-end (stage t.now) turn.out.outcome how) b.same_txn closed;
+          kept = reset-kept _ t.now (record y { state = after_refused y.state }) t.at.whole t.at.finds (λ j. refl) (session-set (λ x. record x { state = after_refused x.state })) (unsaid-end (stage t.now) turn.out.outcome how) b.same_txn closed refl;
           past = abort-past _ turn How t refl r how (why ++ mark.Abort (gx g) ∷ said_last) (λ h. no-commit why said_last g h (still-committed why (gx h) e) still) (abort-here g why said_last);
           seen = abort-seen before why said_last (gx g) e still;
         }
@@ -224,7 +230,7 @@ module _ (c c1 : Coord) (g s : ℕ) (w1 : Work) (y : Session) (said : Stage) (k 
     rolled-good turn How marks t r how e closed =
         let all : Each Still (marks ++ release_marks the_coordinator c1.locks (gx g)) = each_append Still marks _ e back-still in
         record {
-          kept = reset-kept _ t.now y t.at.whole t.at.finds (λ j. refl) same-sessions (unsaid-end (stage t.now) turn.out.outcome how) b.same_txn closed;
+          kept = reset-kept _ t.now y t.at.whole t.at.finds (λ j. refl) same-sessions (unsaid-end (stage t.now) turn.out.outcome how) b.same_txn closed refl;
           past = abort-past _ turn How t refl r how _ (λ h. still-committed (marks ++ release_marks the_coordinator c1.locks (gx g)) (gx h) all) (abort-here g [] (marks ++ release_marks the_coordinator c1.locks (gx g)));
           seen = abort-seen before [] (marks ++ release_marks the_coordinator c1.locks (gx g)) (gx g) tt all;
         }

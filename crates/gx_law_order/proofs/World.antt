@@ -77,12 +77,12 @@ segment-still script i one (m ∷ ms) e = (tt, segment-still script i one ms e.1
 module _ (script : Script) (w : World) (n : Knows script w) (e : Event) (x : NodeEvent) (fails : Bool) where
   coord-knows : coord_can script w.coord x ≡ true → Well script (coord_did w e (coord_rule script w.coord x fails)) → Knows script (coord_did w e (coord_rule script w.coord x fails))
   coord-knows ok well =
-      let f = event-good script w.coord (marks_in w.steps) n.kept n.past n.well.coordinator.locks x fails ok in
+      let f = event-good script w.coord (marks_in w.steps) n.kept n.past x fails ok in
       let turn : CoordTurn = on_event script w.coord x fails in
       let sent : List Mark = numbered turn.coord.sent turn.outs in
       let still : Each Still sent = numbered-still turn.coord.sent turn.outs in
       let last : Coord = (coord_rule script w.coord x fails).coord in
-      let kept : Kept last = record { whole = f.kept.whole; tied = f.kept.tied; placed = f.kept.placed } in
+      let kept : Kept last = record { whole = f.kept.whole; tied = f.kept.tied; placed = f.kept.placed; queued = f.kept.queued } in
       let step : Step = record { stamp = record { clock = clock_after w.coord.clock x; node = the_coordinator }; event = e; marks = (coord_rule script w.coord x fails).marks } in
       record {
         well = well;
@@ -168,8 +168,9 @@ module _ (script : Script) where
           well = new_well script some;
           kept = record {
             whole = record { first = one; apart = tt; drawn = tt };
-            tied = λ g. record { live = λ l. absurd (cc); closing = λ l. absurd (cc); awaits = λ m f r. absurd (cc) };
+            tied = λ g. record { live = λ l. absurd (cc); closing = λ l. absurd (cc); awaits = λ m f r. absurd (cc); busy = λ m f. absurd (cc); waits = λ l f. absurd (cc) };
             placed = λ s. record { stands = λ o. absurd (closed o); free = λ o n. absurd (closed o) };
+            queued = λ g. record { claims = refl; locks = λ l f. absurd (cc) };
           };
           past = record { committed = λ h e. absurd (closed e); ended = λ h x y z. absurd (none h x y); dropped = λ h e. absurd (cc); latest = λ h x y z. absurd (none h x y); drawn = first };
           seen = tt;

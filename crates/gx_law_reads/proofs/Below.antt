@@ -1,5 +1,5 @@
--- A command that a segment has still to run sees whoever is below the horizon.
-use Rattle.std.proofs.Common.{◌≡◌, ◌≤◌, ◌<◌, ℕ, List, [], ◌∷◌, Option, Some, None, Bool, true, false, refl, sym, subst, ap, ◌∙◌, if◌then◌else◌, ◌||◌, ltb, arith}
+-- A command that a segment has still to run, one that is new there or one that waits, sees whoever is below the horizon.
+use Rattle.std.proofs.Common.{◌≡◌, ◌⊎◌, inl, inr, ◌≤◌, ◌<◌, ℕ, List, [], ◌∷◌, Option, Some, None, Bool, true, false, refl, sym, subst, ap, ◌∙◌, if◌then◌else◌, ◌||◌, ltb, arith}
 use Rattle.std.proofs.lemmas.Bool.Decides.{nat_tests}
 use Rattle.std.specs.Prelude.{nat_le}
 use Rattle.gx_ids.specs.declared.ids.Cid.{Cid}
@@ -10,6 +10,7 @@ use Rattle.gx_dsnap.specs.Snapshot.{sees}
 use Rattle.gx_dsnap.specs.declared.snapshot.Snapshot.{Snapshot}
 use Rattle.gx_dtx.specs.Lives.{live_of}
 use Rattle.gx_dtx.specs.Table.{find_txn, horizon_of}
+use Rattle.gx_dtx.specs.declared.phase.Phase.{Phase as Status}
 use Rattle.gx_dtx.specs.declared.txn.Txn.{Txn}
 use Rattle.gx_dtx.proofs.Low.{live_found-low}
 use Rattle.gx_msg.specs.declared.message.Message.{Message}
@@ -19,17 +20,20 @@ use Rattle.gx_store.specs.Points.{marks_in}
 use Rattle.gx_rules.specs.AtSegment.{raised}
 use Rattle.gx_rules.specs.Coordinators.{Command}
 use Rattle.gx_rules.specs.Machine.{Letter, World}
+use Rattle.gx_rules.specs.Segments.{Suspended}
 use Rattle.gx_law_order.proofs.Lists.{Each}
 use Rattle.gx_law_order.proofs.Sessions.{stage_of}
 use Rattle.gx_law_order.proofs.Stages.{gx}
-use Rattle.gx_law_order.proofs.Statuses.{Stage, is_running, stage}
+use Rattle.gx_law_order.proofs.Statuses.{Stage, is_running, stage, stage_in}
 use Rattle.gx_law_order.proofs.Statuses.Stage.{Live as Running}
 use Rattle.gx_law_order.proofs.World.{Knows}
 use Rattle.gx_law_commit.specs.Said.{IsCommand, Said, SaidIn, gxid_in, is_answer}
-use Rattle.gx_law_commit.specs.Standings.{Known, Part, Standing, at, known_at, standing, standing_in}
-use Rattle.gx_law_commit.specs.Standings.Standing.{Unborn, Over, Live}
+use Rattle.gx_law_commit.specs.Standings.{Known, known_at, standing, standing_in, waits_in}
+use Rattle.gx_law_commit.specs.Standings.Standing.{Live}
 use Rattle.gx_law_commit.proofs.Everywhere.{Holds, parts_in}
-use Rattle.gx_law_reads.specs.Horizons.{IsLowIn, IsNobodyDropped, IsSeenBelow}
+use Rattle.gx_law_commit.proofs.Waiting.{IsAwaited, awaited}
+use Rattle.gx_law_commit.proofs.Ways.{CommandOf}
+use Rattle.gx_law_reads.specs.Horizons.{IsLowIn, IsNewOrWaits, IsNobodyDropped, IsSeenBelow, IsWaitingAs}
 use Rattle.gx_law_reads.proofs.Held.{Held}
 use Rattle.gx_law_reads.proofs.Reading.{FineIn}
 use Rattle.gx_law_reads.proofs.Low.{LetterLow, Lows, drawn-is, live-standing, raised-under}
@@ -69,6 +73,13 @@ module _ (script : Script) (w : World) (k : Knows script w) (v : Holds script w)
       by_stage Absent e = absurd (over-now (ap is_running e))
       by_stage Dropped e = absurd (clash (is_aborted (marks_in w.steps) g) unaborted (k.past.dropped g.0 e))
 
+  -- its commands run, and this one is under way
+  record IsUnderWay (g : ℕ) (c : Cid) : Type 0 where
+    live : stage (find_txn w.coord.table (gx g)) ≡ Running
+    command : Command
+    is : (w.coord.works g).command ≡ Some command
+    numbered : command.cid.0 ≡ c.0
+
   module _ (i : ℕ) (g : Gxid) (c : Cid) (s : IsCommand (known_at w.coord (marks_in w.steps) i g.0) (parts_in w i g.0) c.0) (live : stage (find_txn w.coord.table (gx g.0)) ≡ Running) (new : ((w.segs i).locals g.0).last < c.0) where
     abbrev kn : Known
     kn = known_at w.coord (marks_in w.steps) i g.0
@@ -96,9 +107,59 @@ module _ (script : Script) (w : World) (k : Knows script w) (v : Holds script w)
             by_test false e = same a b l e
 
     -- and its command is under way
-    pub under-way : (m : Option Command) → (w.coord.works g.0).command ≡ m → (z : Command) × ((w.coord.works g.0).command ≡ Some z) × (z.cid.0 ≡ c.0)
-    under-way None e = absurd (over ((w.segs i).locals g.0).last c.0 new (s.taken standing-is (ap (λ o. Rattle.gx_law_commit.specs.Standings.waits_in o i) e)))
-    under-way (Some z) e = (z, e, (subst (Rattle.gx_law_commit.proofs.Ways.CommandOf g.0 (w.coord.works g.0).last) e (v.stands.works g.0).command).0 ∙ sym is-last)
+    under-way : (m : Option Command) → (w.coord.works g.0).command ≡ m → IsUnderWay g.0 c
+    under-way None e = absurd (over ((w.segs i).locals g.0).last c.0 new (s.taken standing-is (ap (λ o. waits_in o i) e)))
+    under-way (Some z) e = record { live = live; command = z; is = e; numbered = (subst (CommandOf g.0 (w.coord.works g.0).last) e (v.stands.works g.0).command).0 ∙ sym is-last }
+
+  -- so is that of a slice that waits
+  module _ (i : ℕ) (g : Gxid) (c : Cid) (unaborted : is_aborted (marks_in w.steps) g ≡ false) where
+    standing-runs : (b : Bool) (o : Option Txn) → standing b o i ≡ Live → stage o ≡ Running
+    standing-runs true None e = absurd (cc)
+    standing-runs false None e = absurd (cc)
+    standing-runs b (Some t) e = by_phase t.phase e
+      where
+        by_phase : (p : Status) → standing_in p i ≡ Live → stage_in p ≡ Running
+        by_phase p e = grind arith
+
+    is-live : ((known_at w.coord (marks_in w.steps) i g.0).at ≡ Live) ⊎ (is_aborted (marks_in w.steps) g ≡ true) → (known_at w.coord (marks_in w.steps) i g.0).at ≡ Live
+    is-live (inl l) = l
+    is-live (inr a) = absurd (clash (is_aborted (marks_in w.steps) g) unaborted a)
+      where
+        clash : (b : Bool) → b ≡ false → b ≡ true → ⊥
+        clash b e f = grind arith
+
+    waits-way : (x : Suspended) → ((w.segs i).locals g.0).suspended ≡ Some x → x.cid.0 ≡ c.0 → IsUnderWay g.0 c
+    waits-way x e same = by_command (w.coord.works g.0).command refl
+      where
+        z : IsAwaited (known_at w.coord (marks_in w.steps) i g.0) x
+        z = awaited script w k v i g x e
+
+        live : (known_at w.coord (marks_in w.steps) i g.0).at ≡ Live
+        live = is-live z.stands
+
+        none : (o : Option Command) → o ≡ None → waits_in o i ≡ true → ⊥
+        none o e f = differ (sym (ap (λ o. waits_in o i) e) ∙ f)
+          where
+            differ : false ≡ true → ⊥
+            differ e = cc
+
+        by_command : (m : Option Command) → (w.coord.works g.0).command ≡ m → IsUnderWay g.0 c
+        by_command None f = absurd (none (w.coord.works g.0).command f (z.waits live))
+        by_command (Some m) f =
+            record {
+              live = standing-runs (nat_le w.coord.table.next.0 g.0) (find_txn w.coord.table (gx g.0)) live;
+              command = m;
+              is = f;
+              numbered = (subst (CommandOf g.0 (w.coord.works g.0).last) f (v.stands.works g.0).command).0 ∙ z.last live ∙ same;
+            }
+
+    by-wait : (o : Option Suspended) → ((w.segs i).locals g.0).suspended ≡ o → IsWaitingAs c o → IsUnderWay g.0 c
+    by-wait None e h = absurd h
+    by-wait (Some x) e h = waits-way x e h
+
+  runs-way : (i : ℕ) (g : Gxid) (c : Cid) → IsCommand (known_at w.coord (marks_in w.steps) i g.0) (parts_in w i g.0) c.0 → 1 ≤ g.0 → (is_committed (marks_in w.steps) (gx g.0) ≡ true → c.0 ≤ ((w.segs i).locals g.0).last) → is_aborted (marks_in w.steps) g ≡ false → IsNewOrWaits ((w.segs i).locals g.0) c → IsUnderWay g.0 c
+  runs-way i g c s one taken unaborted (inl new) = under-way i g c s (runs-still i g c s one taken unaborted new) new (w.coord.works g.0).command refl
+  runs-way i g c s one taken unaborted (inr h) = by-wait i g c unaborted ((w.segs i).locals g.0).suspended refl h
 
   pub low-seen : (limit : Gxid) (x : Snapshot) (y : ℕ) → limit.0 ≤ y → ((h : ℕ) → 1 ≤ h → h < y → sees x (gx h) ≡ true) → (h : Gxid) → 1 ≤ h.0 → (is_below limit h || sees x h) ≡ sees x h
   low-seen limit x y l f h one = by_test (is_below limit h) refl
@@ -123,9 +184,8 @@ module _ (script : Script) (w : World) (k : Knows script w) (v : Holds script w)
 
   seen-one : (from to : Node) (m : Message) → Said (known_at w.coord (marks_in w.steps) (if is_answer m then from.0 else to.0) (gxid_in m)) (parts_in w (if is_answer m then from.0 else to.0) (gxid_in m)) m → IsLowIn (horizon_of w.coord.table) m → FineIn w.coord.table w.coord.works m → TakenAt w to m → IsSeenBelow w to m
   seen-one from to (message.Exec g c level (Some x) horizon slice) s low fine taken =
-      λ run. let live : stage (find_txn w.coord.table (gx g.0)) ≡ Running = runs-still to.0 g c s taken.0 taken.1 run.unaborted run.new in
-      let z = under-way to.0 g c s live run.new (w.coord.works g.0).command refl in
-      held-seen g (raised (w.segs to.0) horizon).horizon x (raised-under (horizon_of w.coord.table).0 (w.segs to.0) horizon (q.segs to.0) low) (find_txn w.coord.table g) refl (fine live z.0 z.1 z.2)
+      λ run. let z = runs-way to.0 g c s taken.0 taken.1 run.unaborted run.new in
+      held-seen g (raised (w.segs to.0) horizon).horizon x (raised-under (horizon_of w.coord.table).0 (w.segs to.0) horizon (q.segs to.0) low) (find_txn w.coord.table g) refl (fine z.live z.command z.is z.numbered)
   seen-one from to (message.Exec g c level None horizon slice) s low fine taken = tt
   seen-one from to (message.Prepare g) s low fine taken = tt
   seen-one from to (message.Commit g) s low fine taken = tt

@@ -1,5 +1,5 @@
 -- What the marks say of a transaction's end, its segments say too, and nothing is written once it has committed.
-use Rattle.std.proofs.Common.{◌≡◌, ◌≤◌, ◌<◌, ℕ, ◌+◌, List, [], ◌∷◌, ◌++◌, Option, Some, None, Bool, true, false, refl, sym, subst, ap, ◌∙◌, if◌then◌else◌, ◌||◌, ◌&&◌, arith, eqb}
+use Rattle.std.proofs.Common.{◌≡◌, ◌⊎◌, inl, inr, ◌≤◌, ◌<◌, ℕ, ◌+◌, List, [], ◌∷◌, ◌++◌, Option, Some, None, Bool, true, false, refl, sym, subst, ap, ◌∙◌, if◌then◌else◌, ◌||◌, ◌&&◌, arith, eqb}
 use Rattle.std.proofs.lemmas.Bool.{eqb-true}
 use Rattle.std.proofs.lemmas.Bool.Decides.{nat_tests}
 use Rattle.std.specs.Prelude.{nat_lt}
@@ -10,7 +10,6 @@ use Rattle.gx_tree.specs.declared.slice.Slice.{Slice}
 use Rattle.gx_dsnap.specs.Gxids.{is_below}
 use Rattle.gx_tree.specs.declared.stmt.Level.{Level}
 use Rattle.gx_dsnap.specs.declared.snapshot.Snapshot.{Snapshot}
-use Rattle.gx_dtx.specs.Table.{find_txn}
 use Rattle.gx_msg.specs.declared.message.Envelope.{Envelope}
 use Rattle.gx_msg.specs.declared.message.Message.{Message}
 use Rattle.gx_msg.specs.declared.message.Message.TheVariants as message
@@ -24,7 +23,6 @@ use Rattle.gx_store.specs.declared.node.NodeEvent.{NodeEvent}
 use Rattle.gx_store.specs.declared.node.NodeEvent.TheVariants as here
 use Rattle.gx_store.specs.declared.run.Step.{Step}
 use Rattle.gx_store.specs.Marks.{is_aborted, is_committed}
-use Rattle.gx_store.specs.Messages.{Receives}
 use Rattle.gx_store.specs.Ordered.{IsSegment}
 use Rattle.gx_store.specs.Points.{marks_in}
 use Rattle.gx_store.specs.Protocol.{CommitsBy, is_writer, local_count, prepared_count, writers_of}
@@ -44,22 +42,28 @@ use Rattle.gx_law_order.proofs.Past.{Past, aborted-append, committed-append, run
 use Rattle.gx_law_order.proofs.Replies.{event-good}
 use Rattle.gx_law_order.proofs.Stages.{IsWhole, gx}
 use Rattle.gx_law_order.proofs.Statuses.{is_running}
+use Rattle.gx_law_order.proofs.Waiting.{GoesOn, each-among, going-on, is_open_phase}
 use Rattle.gx_law_order.proofs.World.{Knows, marks-last}
 use Rattle.gx_law_commit.specs.Pairs.{bit}
 use Rattle.gx_law_commit.specs.Said.{Said, SaidIn, gxid_in, is_answer}
-use Rattle.gx_law_commit.specs.Standings.{Known, Part, at, known_at}
-use Rattle.gx_law_commit.proofs.Counts.{NoPart, local-append, no-aborted, no-committed, no-local, no-writer, sent-no-end, sent-no-part, writer-append}
-use Rattle.gx_law_commit.proofs.Everywhere.{Holds, does-it, fol-no-sent, follows-no-sent, new_part, next2, part-here, part-there, parts_in, posted-each, same-known2, told-answer}
-use Rattle.gx_law_commit.proofs.Handled.{Does, Follows, IsExecOf, Tells}
+use Rattle.gx_law_commit.specs.Standings.{Known, at, known_at}
+use Rattle.gx_law_commit.proofs.Counts.{NoEnd, NoPart, NoSent, local-append, no-aborted, no-committed, no-local, no-writer, sent-no-end, sent-no-part, writer-append}
+use Rattle.gx_law_commit.proofs.Everywhere.{Holds, does-it, fol-no-sent, parts_in, posted-each, told-answer}
+use Rattle.gx_law_commit.proofs.Handled.{Does, Follows, IsExecOf}
+use Rattle.gx_law_commit.proofs.Waiting.{awaited}
 use Rattle.gx_law_commit.proofs.Ways.{Fol, Led, fol-no-part}
-use Rattle.gx_law_reads.proofs.Low.{LetterLow, Lows, coord-low, new-lows, seg-low}
-use Rattle.gx_law_reads.proofs.Steps.{HeardAt, IsGiven, SaidTo, by-message, event-leads, given-is, world-keeps}
+use Rattle.gx_law_reads.proofs.Low.{Lows, coord-low, heard-low, new-lows}
+use Rattle.gx_law_reads.proofs.Ran.{IsAnswer, OfSlice, Ran, going-ran}
+use Rattle.gx_law_reads.proofs.Steps.{HeardAt, IsGiven, SaidTo, by-heard, event-leads, given-is, world-keeps}
 use Rattle.gx_law_reads.proofs.Taken.{LiveMessage, Passes, event-pass}
 
 -- who has committed has its writes committed at each segment, and who was aborted nowhere
-pub record Ended (k : Known) (p : Part) : Type 0 where
-  pub committed : k.committed ≡ true → has_committed p.phase ≡ p.wrote
-  pub aborted : k.aborted ≡ true → has_committed p.phase ≡ false
+pub record Ended (c a here wrote : Bool) : Type 0 where
+  pub committed : c ≡ true → here ≡ wrote
+  pub aborted : a ≡ true → here ≡ false
+
+abbrev pub EndedAt : World → ℕ → ℕ → Type 0
+EndedAt w i g = Ended (is_committed (marks_in w.steps) (gx g)) (is_aborted (marks_in w.steps) (gx g)) (has_committed ((w.segs i).locals g).phase) (is_writer (marks_in w.steps) (gx g) (at i))
 
 -- of who has committed, each segment has taken what was sent to it
 abbrev pub TakenAt : World → Node → Message → Type 0
@@ -67,9 +71,9 @@ TakenAt w to (message.Exec g c level x h slice) = (1 ≤ g.0) × (is_committed (
 TakenAt w to _ = Unit {0}
 
 pub record Ends (w : World) : Type 0 where
-  pub ended : (i g : ℕ) → Ended (known_at w.coord (marks_in w.steps) i g) (parts_in w i g)
+  pub ended : (i g : ℕ) → EndedAt w i g
   pub taken : Each (λ (l : Letter). TakenAt w l.to l.envelope.message) w.sent
-  pub drawn : (i g : ℕ) → (parts_in w i g).wrote ≡ true → 1 ≤ g
+  pub drawn : (i g : ℕ) → is_writer (marks_in w.steps) (gx g) (at i) ≡ true → 1 ≤ g
 
 -- MARKS OF THE COORDINATOR
 commits-once : (xs : List Node) (ms : List Mark) (g : Gxid) (i : ℕ) → CommitsBy xs ms g → local_count ms (at i) g ≡ (if is_writer ms g (at i) then 1 else 0)
@@ -172,7 +176,7 @@ module _ (script : Script) (w : World) (k : Knows script w) (v : Holds script w)
     writer-is : (i g : ℕ) → is_writer new (gx g) (at i) ≡ is_writer ms (gx g) (at i)
     writer-is i g = ap (λ z. is_writer z (gx g) (at i)) all ∙ writer-append ms (turn.marks ++ sent) (gx g) (at i) ∙ ap (λ b. is_writer ms (gx g) (at i) || b) (no-writer (turn.marks ++ sent) (gx g) (at i) no-part) ∙ or-none (is_writer ms (gx g) (at i))
 
-    coord-ended : (i g : ℕ) → Ended (known_at next.coord new i g) (parts_in next i g)
+    coord-ended : (i g : ℕ) → EndedAt next i g
     coord-ended i g = record { committed = λ t. by_old t (is_committed ms (gx g)) refl ∙ sym (writer-is i g); aborted = λ t. by_old2 t (is_aborted ms (gx g)) refl }
       where
         by_old : is_committed new (gx g) ≡ true → (b : Bool) → is_committed ms (gx g) ≡ b → has_committed ((w.segs i).locals g).phase ≡ is_writer ms (gx g) (at i)
@@ -283,169 +287,154 @@ module _ (s : Seg) (g : Gxid) (c : Cid) where
 old-quiet : (script : Script) (s : Seg) (fails : Bool) (g : Gxid) (c : Cid) (level : Level) (x : Option Snapshot) (h : Gxid) (y : Slice) → c.0 ≤ (s.locals g.0).last → (on_message script s fails (message.Exec g c level x h y)).marks ≡ []
 old-quiet script s fails g c level x h y old = unless-quiet s g c _ (fits-quiet s g c (fits_exec script s g c x h y) _ (exec-quiet s g c level x h y (local_of s g) old (local_of s g).phase))
 
-module _ (script : Script) (w : World) (k : Knows script w) (v : Holds script w) (q : Ends w) (e : Event) (fails : Bool) (i : ℕ) (from : Node) (envelope : Envelope) (received : Receives w.steps e the_coordinator (at i) envelope.message) (said : is_answer envelope.message ≡ false → Said (known_at w.coord (marks_in w.steps) i (gxid_in envelope.message)) (parts_in w i (gxid_in envelope.message)) envelope.message) (taken : TakenAt w (at i) envelope.message) where
-  abbrev pub g : ℕ
-  g = gxid_in envelope.message
+-- what a segment writes is of a command that isn't before its transaction's last there, and of a transaction that was drawn and
+-- hasn't committed
+abbrev pub NewMark : World → ℕ → ℕ → Mark → Type 0
+NewMark w i g (mark.Write h c n t r x) = (h.0 ≡ g) × (n.0 ≡ i) × (((w.segs i).locals g).last ≤ c.0) × (is_committed (marks_in w.steps) (gx g) ≡ false) × (1 ≤ g)
+NewMark w i g (mark.Commit h) = ⊥
+NewMark w i g (mark.Abort h) = ⊥
+NewMark w i g (mark.Decided h) = ⊥
+NewMark w i g (mark.Sent to number told) = ⊥
+NewMark w i g _ = Unit {0}
 
+-- what a turn of a segment makes of one transaction there: once it has ended, its writes stay as they are
+pub record Made (w : World) (i g : ℕ) (turn : SegTurn) : Type 0 where
+  pub others : (h : ℕ) → eqb h g ≡ false → turn.seg.locals h ≡ (w.segs i).locals h
+  pub last : ((w.segs i).locals g).last ≤ (turn.seg.locals g).last
+  pub committed : is_committed (marks_in w.steps) (gx g) ≡ true → has_committed (turn.seg.locals g).phase ≡ has_committed ((w.segs i).locals g).phase
+  pub aborted : is_aborted (marks_in w.steps) (gx g) ≡ true → has_committed (turn.seg.locals g).phase ≡ has_committed ((w.segs i).locals g).phase
+  pub marks : Each (NewMark w i g) turn.marks
+  pub outs : Each IsAnswer turn.outs
+
+new-no-end : (w : World) (i g : ℕ) (m : Mark) → NewMark w i g m → NoEnd m
+new-no-end w i g (mark.Commit h) e = e
+new-no-end w i g (mark.Abort h) e = e
+new-no-end w i g (mark.Decided h) e = e
+new-no-end w i g m e = tt
+
+new-no-sent : (w : World) (i g : ℕ) (m : Mark) → NewMark w i g m → NoSent m
+new-no-sent w i g (mark.Sent to number told) e = e
+new-no-sent w i g m e = tt
+
+-- whom it makes a writer
+pub record Wrote (w : World) (i g j h : ℕ) : Type 0 where
+  pub txn : h ≡ g
+  pub node : j ≡ i
+  pub runs : is_committed (marks_in w.steps) (gx g) ≡ false
+  pub drawn : 1 ≤ g
+
+new-writer : (w : World) (i g j h : ℕ) (ms : List Mark) → Each (NewMark w i g) ms → is_writer ms (gx h) (at j) ≡ true → Wrote w i g j h
+new-writer w i g j h [] e t = absurd (cc)
+new-writer w i g j h (mark.Write a c n table r x ∷ ms) e t = by_test (eqb a.0 h && eqb n.0 j) refl t (λ z. new-writer w i g j h ms e.1 z)
+  where
+    same : (a h n j g i : ℕ) → (eqb a h && eqb n j) ≡ true → a ≡ g → n ≡ i → (h ≡ g) × (j ≡ i)
+    same a h n j g i f x y = (grind (arith, nat_tests), grind (arith, nat_tests))
+
+    by_test : (b : Bool) → (eqb a.0 h && eqb n.0 j) ≡ b → (b || is_writer ms (gx h) (at j)) ≡ true → (is_writer ms (gx h) (at j) ≡ true → Wrote w i g j h) → Wrote w i g j h
+    by_test true f z more = let d = same a.0 h n.0 j g i f e.0.0 e.0.1 in record { txn = d.0; node = d.1; runs = e.0.3; drawn = e.0.4 }
+    by_test false f z more = more z
+new-writer w i g j h (m ∷ ms) e t = new-writer w i g j h ms e.1 t
+
+module _ (script : Script) (w : World) (q : Ends w) (e : Event) (x : NodeEvent) (fails : Bool) (i g : ℕ) (d : Made w i g (on_event script (w.segs i) x fails)) where
   abbrev turn3 : SegTurn
-  turn3 = on_event script (w.segs i) (here.Deliver from envelope) fails
+  turn3 = on_event script (w.segs i) x fails
 
-  abbrev kn : Known
-  kn = known_at w.coord (marks_in w.steps) i g
+  abbrev sent3 : List Mark
+  sent3 = numbered (λ node. turn3.seg.sent) turn3.outs
 
-  abbrev part : Part
-  part = parts_in w i g
+  abbrev step3 : Step
+  step3 = record { stamp = record { clock = clock_after (w.segs i).clock x; node = at i }; event = e; marks = turn3.marks ++ sent3 }
 
-  abbrev part2 : Part
-  part2 = new_part script w k v e fails i from envelope received said
+  abbrev ms3 : List Mark
+  ms3 = marks_in w.steps
+
+  abbrev seg3 : Seg
+  seg3 = (seg_rule script (w.segs i) x fails).seg
 
   abbrev pub late : World
-  late = next2 script w k v e fails i from envelope received said
+  late = seg_did w (at i) e (seg_rule script (w.segs i) x fails)
 
-  does : Does envelope.message kn (w.segs i) i g (k.well.names i) (is_writer (marks_in w.steps) (gx g) (at i)) (prepared_count (marks_in w.steps) (at i) (gx g)) (local_count (marks_in w.steps) (at i) (gx g)) (v.stands.pairs i g) turn3
-  does = does-it script w k v e fails i from envelope received said
+  all3 : marks_in late.steps ≡ ms3 ++ (turn3.marks ++ sent3)
+  all3 = marks-last w.steps step3
 
-  -- no local commit of who has ended
-  no-locals : (b : Bool) → (kn.aborted ≡ true → b ≡ true) → ((kn.aborted ≡ true) → (n : Node) (h : Gxid) → local_count turn3.marks n h ≡ 0)
-  no-locals b z a n h = none turn3.marks does.marks
+  no-ends : Each NoEnd (turn3.marks ++ sent3)
+  no-ends = each_append NoEnd turn3.marks sent3 (each_weaker (NewMark w i g) NoEnd (new-no-end w i g) turn3.marks d.marks) (sent-no-end (λ node. turn3.seg.sent) turn3.outs)
+
+  same-committed : (h : ℕ) → is_committed (marks_in late.steps) (gx h) ≡ is_committed ms3 (gx h)
+  same-committed h = ap (λ z. is_committed z (gx h)) all3 ∙ committed-append ms3 (turn3.marks ++ sent3) (gx h) ∙ ap (λ b. is_committed ms3 (gx h) || b) (no-committed (turn3.marks ++ sent3) (gx h) no-ends) ∙ or-none (is_committed ms3 (gx h))
+
+  same-aborted : (h : ℕ) → is_aborted (marks_in late.steps) (gx h) ≡ is_aborted ms3 (gx h)
+  same-aborted h = ap (λ z. is_aborted z (gx h)) all3 ∙ aborted-append ms3 (turn3.marks ++ sent3) (gx h) ∙ ap (λ b. is_aborted ms3 (gx h) || b) (no-aborted (turn3.marks ++ sent3) (gx h) no-ends) ∙ or-none (is_aborted ms3 (gx h))
+
+  writer-late : (j h : ℕ) → is_writer (marks_in late.steps) (gx h) (at j) ≡ is_writer ms3 (gx h) (at j) || is_writer turn3.marks (gx h) (at j)
+  writer-late j h =
+      ap (λ z. is_writer z (gx h) (at j)) all3 ∙ writer-append ms3 (turn3.marks ++ sent3) (gx h) (at j)
+      ∙ ap (λ b. is_writer ms3 (gx h) (at j) || b) (writer-append turn3.marks sent3 (gx h) (at j) ∙ ap (λ b. is_writer turn3.marks (gx h) (at j) || b) (no-writer sent3 (gx h) (at j) (sent-no-part (λ node. turn3.seg.sent) turn3.outs)) ∙ or-none (is_writer turn3.marks (gx h) (at j)))
+
+  -- what holds of a record that stays and of this one holds of all
+  local-late : (R : ℕ → ℕ → Local → Local → Type 0) → ((j h : ℕ) (l : Local) → R j h l l) → R i g ((w.segs i).locals g) (turn3.seg.locals g) → (j h : ℕ) → R j h ((w.segs j).locals h) ((late.segs j).locals h)
+  local-late R same here_is j h = by_node (eqb j i) refl
     where
-      clash : (x : Bool) → x ≡ true → x ≡ false → ⊥
-      clash x e f = grind arith
+      by_txn : (b : Bool) → eqb h g ≡ b → R i h ((w.segs i).locals h) (turn3.seg.locals h)
+      by_txn true f = subst (λ a. R i a ((w.segs i).locals a) (turn3.seg.locals a)) (sym (eqb-true h g f)) here_is
+      by_txn false f = subst (R i h ((w.segs i).locals h)) (sym (d.others h f)) (same i h ((w.segs i).locals h))
 
-      none : (ns : List Mark) → Each (Follows envelope.message kn i g) ns → local_count ns n h ≡ 0
-      none [] f = refl
-      none (mark.LocalCommit m y ∷ ns) f = absurd (clash kn.aborted a f.0.3)
-      none (m ∷ ns) f = none ns f.1
+      by_node : (b : Bool) → eqb j i ≡ b → R j h ((w.segs j).locals h) ((if b then seg3 else w.segs j).locals h)
+      by_node true f = subst (λ a. R a h ((w.segs a).locals h) (turn3.seg.locals h)) (sym (eqb-true j i f)) (by_txn (eqb h g) refl)
+      by_node false f = same j h ((w.segs j).locals h)
 
-  no-locals2 : kn.committed ≡ true → (n : Node) (h : Gxid) → local_count turn3.marks n h ≡ 0
-  no-locals2 a n h = none turn3.marks does.marks
+  committed-still : (j h : ℕ) → is_committed ms3 (gx h) ≡ true → has_committed ((late.segs j).locals h).phase ≡ has_committed ((w.segs j).locals h).phase
+  committed-still = local-late (λ j h l m. is_committed ms3 (gx h) ≡ true → has_committed m.phase ≡ has_committed l.phase) (λ j h l c. refl) d.committed
+
+  aborted-still : (j h : ℕ) → is_aborted ms3 (gx h) ≡ true → has_committed ((late.segs j).locals h).phase ≡ has_committed ((w.segs j).locals h).phase
+  aborted-still = local-late (λ j h l m. is_aborted ms3 (gx h) ≡ true → has_committed m.phase ≡ has_committed l.phase) (λ j h l c. refl) d.aborted
+
+  -- who has committed writes no more
+  no-writes : (j h : ℕ) → is_committed ms3 (gx h) ≡ true → is_writer turn3.marks (gx h) (at j) ≡ false
+  no-writes j h c = by_test (is_writer turn3.marks (gx h) (at j)) refl
     where
-      clash : (x : Bool) → x ≡ true → x ≡ false → ⊥
-      clash x e f = grind arith
+      clash : (b : Bool) → b ≡ true → b ≡ false → ⊥
+      clash b x y = grind arith
 
-      none : (ns : List Mark) → Each (Follows envelope.message kn i g) ns → local_count ns n h ≡ 0
-      none [] f = refl
-      none (mark.LocalCommit m y ∷ ns) f = absurd (clash kn.committed a f.0.4)
-      none (m ∷ ns) f = none ns f.1
+      by_test : (b : Bool) → is_writer turn3.marks (gx h) (at j) ≡ b → b ≡ false
+      by_test false f = refl
+      by_test true f = let z = new-writer w i g j h turn3.marks d.marks f in absurd (clash (is_committed ms3 (gx h)) c (ap (λ a. is_committed ms3 (gx a)) z.txn ∙ z.runs))
 
-  -- nor a write
-  no-writes : kn.committed ≡ true → is_writer turn3.marks (gx g) (at i) ≡ false
-  no-writes a = by_message envelope.message refl
-    where
-      none : (m : Message) → is_answer m ≡ is_answer envelope.message → ((c : Cid) → IsExecOf envelope.message g c → ⊥) → (ns : List Mark) → Each (Follows envelope.message kn i g) ns → is_writer ns (gx g) (at i) ≡ false
-      none m z f [] h = refl
-      none m z f (mark.Write y c n t r x ∷ ns) h = absurd (f c h.0.2)
-      none m z f (y ∷ ns) h = none m z f ns h.1
-
-      other : ((c : Cid) → IsExecOf envelope.message g c → ⊥) → is_writer turn3.marks (gx g) (at i) ≡ false
-      other f = none envelope.message refl f turn3.marks does.marks
-
-      not-exec : (m : Message) → envelope.message ≡ m → is_exec m ≡ false → is_writer turn3.marks (gx g) (at i) ≡ false
-      not-exec m z f = other (λ c x. differ (sym (ap is_exec (sym z ∙ x.is)) ∙ f))
-        where
-          differ : true ≡ false → ⊥
-          differ e = cc
-
-      exec : (h : Gxid) (c : Cid) (level : Level) (x : Option Snapshot) (y : Gxid) (z : Slice) → envelope.message ≡ message.Exec h c level x y z → is_writer turn3.marks (gx g) (at i) ≡ false
-      exec h c level x y z f =
-          ap (λ ns. is_writer ns (gx g) (at i))
-          (ap (λ m. (on_message script (w.segs i) fails m).marks) f ∙ old-quiet script (w.segs i) fails h c level x y z ((subst (TakenAt w (at i)) f taken).1 (subst (λ m. (known_at w.coord (marks_in w.steps) i (gxid_in m)).committed ≡ true) f a)))
-
-      by_message : (m : Message) → envelope.message ≡ m → is_writer turn3.marks (gx g) (at i) ≡ false
-      by_message (message.Exec h c level x y z) f = exec h c level x y z f
-      by_message (message.Prepare h) f = not-exec _ f refl
-      by_message (message.Commit h) f = not-exec _ f refl
-      by_message (message.CommitPrepared h) f = not-exec _ f refl
-      by_message (message.Abort h) f = not-exec _ f refl
-      by_message (message.Forget h) f = not-exec _ f refl
-      by_message (message.Answer h r) f = not-exec _ f refl
-      by_message (message.Collect round) f = not-exec _ f refl
-      by_message (message.Graph round graph) f = not-exec _ f refl
-
-  bit-same : (a b : Bool) (n m : ℕ) → n ≡ bit a → n + m ≡ bit b → m ≡ 0 → b ≡ a
-  bit-same true true n m e f h = refl
-  bit-same false false n m e f h = refl
-  bit-same true false n m e f h = absurd (differ n m e f h)
-    where
-      differ : (n m : ℕ) → n ≡ 1 → n + m ≡ 0 → m ≡ 0 → ⊥
-      differ n m e f h = omega arith
-  bit-same false true n m e f h = absurd (differ n m e f h)
-    where
-      differ : (n m : ℕ) → n ≡ 0 → n + m ≡ 1 → m ≡ 0 → ⊥
-      differ n m e f h = omega arith
-
-  here-ended : Ended kn part2
-  here-ended =
+  ended-late : (j h : ℕ) → EndedAt late j h
+  ended-late j h =
       record {
-        committed = λ a. bit-same (has_committed part.phase) (has_committed part2.phase) part.commits (local_count turn3.marks (at i) (gx g)) (v.stands.pairs i g).committed does.next.pair.committed (no-locals2 a (at i) (gx g))
-            ∙ (q.ended i g).committed a ∙ sym (ap (λ b. is_writer (marks_in w.steps) (gx g) (at i) || b) (no-writes a) ∙ or-none (is_writer (marks_in w.steps) (gx g) (at i)));
-        aborted = λ a. bit-same (has_committed part.phase) (has_committed part2.phase) part.commits (local_count turn3.marks (at i) (gx g)) (v.stands.pairs i g).committed does.next.pair.committed (no-locals true (λ z. refl) a (at i) (gx g))
-            ∙ (q.ended i g).aborted a;
+        committed = λ t. let c : is_committed ms3 (gx h) ≡ true = sym (same-committed h) ∙ t in
+            committed-still j h c ∙ (q.ended j h).committed c ∙ sym (writer-late j h ∙ ap (λ b. is_writer ms3 (gx h) (at j) || b) (no-writes j h c) ∙ or-none (is_writer ms3 (gx h) (at j)));
+        aborted = λ t. let a : is_aborted ms3 (gx h) ≡ true = sym (same-aborted h) ∙ t in aborted-still j h a ∙ (q.ended j h).aborted a;
       }
 
-  both-true : (a b : Bool) → (a && b) ≡ true → (a ≡ true) × (b ≡ true)
-  both-true true b x = (refl, x)
-  both-true false b x = grind arith
-
-  ended-next : (j h : ℕ) (b : Bool) → (eqb j i && eqb h g) ≡ b → Ended (known_at w.coord (marks_in w.steps) j h) (parts_in late j h)
-  ended-next j h true f =
-      let x = both-true (eqb j i) (eqb h g) f in
-      subst (λ a. Ended (known_at w.coord (marks_in w.steps) a h) (parts_in late a h)) (sym (eqb-true j i x.0))
-      (subst (λ a. Ended (known_at w.coord (marks_in w.steps) i a) (parts_in late i a)) (sym (eqb-true h g x.1)) (subst (Ended kn) (sym (part-here script w k v e fails i from envelope received said)) here-ended))
-  ended-next j h false f = subst (Ended (known_at w.coord (marks_in w.steps) j h)) (sym (part-there script w k v e fails i from envelope received said j h f)) (q.ended j h)
-
-  -- who writes was drawn
-  wrote-drawn : is_writer turn3.marks (gx g) (at i) ≡ true → 1 ≤ g
-  wrote-drawn t = by_mark turn3.marks does.marks t
+  drawn-late : (j h : ℕ) → is_writer (marks_in late.steps) (gx h) (at j) ≡ true → 1 ≤ h
+  drawn-late j h t = by_old (is_writer ms3 (gx h) (at j)) refl (sym (writer-late j h) ∙ t)
     where
-      exec-drawn : (c : Cid) → IsExecOf envelope.message g c → 1 ≤ g
-      exec-drawn c x = (subst (TakenAt w (at i)) x.is taken).0
-
-      by_mark : (ns : List Mark) → Each (Follows envelope.message kn i g) ns → is_writer ns (gx g) (at i) ≡ true → 1 ≤ g
-      by_mark [] f t = absurd (cc)
-      by_mark (mark.Write y c n a r x ∷ ns) f t = exec-drawn c f.0.2
-      by_mark (m ∷ ns) f t = by_mark ns f.1 t
-
-  drawn-next : (j h : ℕ) → (parts_in late j h).wrote ≡ true → (b : Bool) → (eqb j i && eqb h g) ≡ b → 1 ≤ h
-  drawn-next j h t true f =
-      let x = both-true (eqb j i) (eqb h g) f in
-      subst (λ a. 1 ≤ a) (sym (eqb-true h g x.1))
-      (by_either (is_writer (marks_in w.steps) (gx g) (at i)) refl (sym (ap (λ (p : Part). p.wrote) (part-here script w k v e fails i from envelope received said)) ∙ subst (λ a. (parts_in late i a).wrote ≡ true) (eqb-true h g x.1) (subst (λ a. (parts_in late a h).wrote ≡ true) (eqb-true j i x.0) t)))
-    where
-      by_either : (b : Bool) → is_writer (marks_in w.steps) (gx g) (at i) ≡ b → (is_writer (marks_in w.steps) (gx g) (at i) || is_writer turn3.marks (gx g) (at i)) ≡ true → 1 ≤ g
-      by_either true o t = q.drawn i g o
-      by_either false o t = wrote-drawn (later (is_writer (marks_in w.steps) (gx g) (at i)) (is_writer turn3.marks (gx g) (at i)) o t)
-        where
-          later : (a b : Bool) → a ≡ false → (a || b) ≡ true → b ≡ true
-          later a b o t = grind arith
-  drawn-next j h t false f = q.drawn j h (sym (ap (λ (p : Part). p.wrote) (part-there script w k v e fails i from envelope received said j h f)) ∙ t)
+      by_old : (b : Bool) → is_writer ms3 (gx h) (at j) ≡ b → (b || is_writer turn3.marks (gx h) (at j)) ≡ true → 1 ≤ h
+      by_old true f z = q.drawn j h f
+      by_old false f z = let y = new-writer w i g j h turn3.marks d.marks z in subst (λ a. 1 ≤ a) (sym y.txn) y.drawn
 
   -- the last command taken doesn't fall
-  pub last-next : (j h n : ℕ) → n ≤ (parts_in w j h).last → (b : Bool) → (eqb j i && eqb h g) ≡ b → n ≤ (parts_in late j h).last
-  last-next j h n z true f =
-      let x = both-true (eqb j i) (eqb h g) f in
-      subst (λ a. n ≤ (parts_in late a h).last) (sym (eqb-true j i x.0))
-      (subst (λ a. n ≤ (parts_in late i a).last) (sym (eqb-true h g x.1))
-      (subst (λ (p : Part). n ≤ p.last) (sym (part-here script w k v e fails i from envelope received said))
-      (le-trans n part.last part2.last (subst (λ a. n ≤ (parts_in w i a).last) (eqb-true h g x.1) (subst (λ a. n ≤ (parts_in w a h).last) (eqb-true j i x.0) z)) does.next.grows.last)))
+  pub last-late : (j h : ℕ) → ((w.segs j).locals h).last ≤ ((late.segs j).locals h).last
+  last-late = local-late (λ j h l m. l.last ≤ m.last) (λ j h l. le-refl l.last) d.last
     where
-      le-trans : (a b c : ℕ) → a ≤ b → b ≤ c → a ≤ c
-      le-trans a b c l m = omega arith
-  last-next j h n z false f = subst (λ (p : Part). n ≤ p.last) (sym (part-there script w k v e fails i from envelope received said j h f)) z
+      le-refl : (a : ℕ) → a ≤ a
+      le-refl a = omega arith
 
-  same-committed : (h : ℕ) → is_committed (marks_in late.steps) (gx h) ≡ is_committed (marks_in w.steps) (gx h)
-  same-committed h = ap (λ (z : Known). z.committed) (same-known2 script w k v e fails i from envelope received said i h)
+  le-trans : (a b c : ℕ) → a ≤ b → b ≤ c → a ≤ c
+  le-trans a b c l m = omega arith
 
-  taken-next : (to : Node) (m : Message) → TakenAt w to m → TakenAt late to m
-  taken-next to (message.Exec h c level x y z) old = (old.0, λ t. last-next to.0 h.0 c.0 (old.1 (sym (same-committed h.0) ∙ t)) (eqb to.0 i && eqb h.0 g) refl)
-  taken-next to (message.Prepare h) old = tt
-  taken-next to (message.Commit h) old = tt
-  taken-next to (message.CommitPrepared h) old = tt
-  taken-next to (message.Abort h) old = tt
-  taken-next to (message.Forget h) old = tt
-  taken-next to (message.Answer h r) old = tt
-  taken-next to (message.Collect round) old = tt
-  taken-next to (message.Graph round graph) old = tt
+  taken-late : (to : Node) (m : Message) → TakenAt w to m → TakenAt late to m
+  taken-late to (message.Exec h c level x y z) old = (old.0, λ t. le-trans c.0 _ _ (old.1 (sym (same-committed h.0) ∙ t)) (last-late to.0 h.0))
+  taken-late to (message.Prepare h) old = tt
+  taken-late to (message.Commit h) old = tt
+  taken-late to (message.CommitPrepared h) old = tt
+  taken-late to (message.Abort h) old = tt
+  taken-late to (message.Forget h) old = tt
+  taken-late to (message.Answer h r) old = tt
+  taken-late to (message.Collect round) old = tt
+  taken-late to (message.Graph round graph) old = tt
 
   answer-taken : (to : Node) (m : Message) → is_answer m ≡ true → TakenAt late to m
   answer-taken to (message.Answer h r) a = tt
@@ -461,53 +450,93 @@ module _ (script : Script) (w : World) (k : Knows script w) (v : Holds script w)
   seg-ends : Ends late
   seg-ends =
       record {
-        ended = λ j h. subst (λ z. Ended z (parts_in late j h)) (sym (same-known2 script w k v e fails i from envelope received said j h)) (ended-next j h (eqb j i && eqb h g) refl);
-        taken = posted-each (λ (z : Letter). TakenAt late z.to z.envelope.message) (at i) (clock_after (w.segs i).clock (here.Deliver from envelope)) turn3.marks (λ node. turn3.seg.sent) turn3.outs w.sent (follows-no-sent envelope.message kn i g turn3.marks does.marks)
-            (each_weaker (λ (o : Out). Tells kn part2 i g turn3.marks o.message) _ (λ o h number. answer-taken o.node o.message (told-answer kn part2 i g turn3.marks o.message h).0) turn3.outs does.outs)
-            (each_weaker (λ (z : Letter). TakenAt w z.to z.envelope.message) (λ (z : Letter). TakenAt late z.to z.envelope.message) (λ z h. taken-next z.to z.envelope.message h) w.sent q.taken);
-        drawn = λ j h t. drawn-next j h t (eqb j i && eqb h g) refl;
+        ended = ended-late;
+        taken = posted-each (λ (z : Letter). TakenAt late z.to z.envelope.message) (at i) (clock_after (w.segs i).clock x) turn3.marks (λ node. turn3.seg.sent) turn3.outs w.sent (each_weaker (NewMark w i g) NoSent (new-no-sent w i g) turn3.marks d.marks)
+            (each_weaker IsAnswer _ (λ o h number. answer-taken o.node o.message h) turn3.outs d.outs)
+            (each_weaker (λ (z : Letter). TakenAt w z.to z.envelope.message) (λ (z : Letter). TakenAt late z.to z.envelope.message) (λ z h. taken-late z.to z.envelope.message h) w.sent q.taken);
+        drawn = drawn-late;
       }
 
--- NEW WRITES
--- a write of a segment is of a command later than its last there, of a transaction that hasn't committed
-abbrev pub NewWrite : World → ℕ → ℕ → Mark → Type 0
-NewWrite w i g (mark.Write h c n t r x) = (h.0 ≡ g) × (n.0 ≡ i) × (((w.segs i).locals g).last < c.0) × (is_committed (marks_in w.steps) (gx g) ≡ false)
-NewWrite w i g _ = Unit {0}
-
-module _ (script : Script) (w : World) (k : Knows script w) (v : Holds script w) (q : Ends w) (e : Event) (fails : Bool) (i : ℕ) (from : Node) (envelope : Envelope) (received : Receives w.steps e the_coordinator (at i) envelope.message) (said : is_answer envelope.message ≡ false → Said (known_at w.coord (marks_in w.steps) i (gxid_in envelope.message)) (parts_in w i (gxid_in envelope.message)) envelope.message) (taken : TakenAt w (at i) envelope.message) where
-  abbrev told : Message
-  told = envelope.message
-
+-- A MESSAGE
+module _ (script : Script) (w : World) (k : Knows script w) (v : Holds script w) (q : Ends w) (e : Event) (fails : Bool) (i : ℕ) (from : Node) (envelope : Envelope) (given : IsGiven w e i from envelope) where
   abbrev its : ℕ
   its = gxid_in envelope.message
 
-  abbrev marks3 : List Mark
-  marks3 = (on_event script (w.segs i) (here.Deliver from envelope) fails).marks
+  abbrev turn4 : SegTurn
+  turn4 = on_event script (w.segs i) (here.Deliver from envelope) fails
 
-  followed : Each (Follows envelope.message (known_at w.coord (marks_in w.steps) i its) i its) marks3
-  followed = (does-it script w k v e fails i from envelope received said).marks
+  abbrev kn : Known
+  kn = known_at w.coord (marks_in w.steps) i its
+
+  does : Does envelope.message kn (w.segs i) i its (k.well.names i) (is_writer (marks_in w.steps) (gx its) (at i)) (prepared_count (marks_in w.steps) (at i) (gx its)) (local_count (marks_in w.steps) (at i) (gx its)) (v.stands.pairs i its) turn4
+  does = does-it script w k v e fails i from envelope given.received given.said
+
+  taken : TakenAt w (at i) envelope.message
+  taken =
+      let t = given-is w e i from envelope given (λ (l : Letter). TakenAt w l.to l.envelope.message) q.taken in
+      subst (λ (z : Envelope). TakenAt w (at i) z.message) t.told (subst (λ (n : Node). TakenAt w n t.letter.envelope.message) t.target t.is)
+
+  clash : (x : Bool) → x ≡ true → x ≡ false → ⊥
+  clash x e f = grind arith
+
+  -- no local commit of who has ended
+  no-locals : (kn.committed ≡ true) ⊎ (kn.aborted ≡ true) → local_count turn4.marks (at i) (gx its) ≡ 0
+  no-locals a = none turn4.marks does.marks
+    where
+      ended : (kn.committed ≡ true) ⊎ (kn.aborted ≡ true) → kn.aborted ≡ false → kn.committed ≡ false → ⊥
+      ended (inl c) x y = clash kn.committed c y
+      ended (inr c) x y = clash kn.aborted c x
+
+      none : (ns : List Mark) → Each (Follows envelope.message kn i its) ns → local_count ns (at i) (gx its) ≡ 0
+      none [] f = refl
+      none (mark.LocalCommit m y ∷ ns) f = absurd (ended a f.0.3 f.0.4)
+      none (m ∷ ns) f = none ns f.1
+
+  bit-same : (a b : Bool) (n m : ℕ) → n ≡ bit a → n + m ≡ bit b → m ≡ 0 → b ≡ a
+  bit-same true true n m e f h = refl
+  bit-same false false n m e f h = refl
+  bit-same true false n m e f h = absurd (differ n m e f h)
+    where
+      differ : (n m : ℕ) → n ≡ 1 → n + m ≡ 0 → m ≡ 0 → ⊥
+      differ n m e f h = omega arith
+  bit-same false true n m e f h = absurd (differ n m e f h)
+    where
+      differ : (n m : ℕ) → n ≡ 0 → n + m ≡ 1 → m ≡ 0 → ⊥
+      differ n m e f h = omega arith
+
+  phase-same : (kn.committed ≡ true) ⊎ (kn.aborted ≡ true) → has_committed (turn4.seg.locals its).phase ≡ has_committed ((w.segs i).locals its).phase
+  phase-same a =
+      bit-same (has_committed ((w.segs i).locals its).phase) (has_committed (turn4.seg.locals its).phase) (local_count (marks_in w.steps) (at i) (gx its)) (local_count turn4.marks (at i) (gx its)) (v.stands.pairs i its).committed does.next.pair.committed (no-locals a)
 
   exec-cid : Message → ℕ
   exec-cid (message.Exec h c level x y z) = c.0
   exec-cid _ = 0
 
-  none-new : ((c : Cid) → IsExecOf envelope.message its c → ⊥) → (ns : List Mark) → Each (Follows envelope.message (known_at w.coord (marks_in w.steps) i its) i its) ns → Each (NewWrite w i its) ns
+  none-new : ((c : Cid) → IsExecOf envelope.message its c → ⊥) → (ns : List Mark) → Each (Follows envelope.message kn i its) ns → Each (NewMark w i its) ns
   none-new f [] h = tt
   none-new f (mark.Write y c n t r x ∷ ns) h = absurd (f c h.0.2)
+  none-new f (mark.Commit y ∷ ns) h = absurd h.0
+  none-new f (mark.Abort y ∷ ns) h = absurd h.0
+  none-new f (mark.Decided y ∷ ns) h = absurd h.0
+  none-new f (mark.Sent to number m ∷ ns) h = absurd h.0
   none-new f (m ∷ ns) h = (tt, none-new f ns h.1)
 
-  each-new : (c : Cid) → ((d : Cid) → IsExecOf envelope.message its d → d.0 ≡ c.0) → ((w.segs i).locals its).last < c.0 → is_committed (marks_in w.steps) (gx its) ≡ false → (ns : List Mark) → Each (Follows envelope.message (known_at w.coord (marks_in w.steps) i its) i its) ns → Each (NewWrite w i its) ns
-  each-new c same less open_ [] h = tt
-  each-new c same less open_ (mark.Write y d n t r x ∷ ns) h = ((h.0.0, h.0.1, subst (λ z. ((w.segs i).locals its).last < z) (sym (same d h.0.2)) less, open_), each-new c same less open_ ns h.1)
-  each-new c same less open_ (m ∷ ns) h = (tt, each-new c same less open_ ns h.1)
+  each-new : (c : Cid) → ((d : Cid) → IsExecOf envelope.message its d → d.0 ≡ c.0) → ((w.segs i).locals its).last ≤ c.0 → is_committed (marks_in w.steps) (gx its) ≡ false → 1 ≤ its → (ns : List Mark) → Each (Follows envelope.message kn i its) ns → Each (NewMark w i its) ns
+  each-new c same less runs one [] h = tt
+  each-new c same less runs one (mark.Write y d n t r x ∷ ns) h = ((h.0.0, h.0.1, subst (λ z. ((w.segs i).locals its).last ≤ z) (sym (same d h.0.2)) less, runs, one), each-new c same less runs one ns h.1)
+  each-new c same less runs one (mark.Commit y ∷ ns) h = absurd h.0
+  each-new c same less runs one (mark.Abort y ∷ ns) h = absurd h.0
+  each-new c same less runs one (mark.Decided y ∷ ns) h = absurd h.0
+  each-new c same less runs one (mark.Sent to number m ∷ ns) h = absurd h.0
+  each-new c same less runs one (m ∷ ns) h = (tt, each-new c same less runs one ns h.1)
 
-  not-exec-new : (m : Message) → envelope.message ≡ m → is_exec m ≡ false → Each (NewWrite w i its) marks3
-  not-exec-new m z f = none-new (λ c x. differ (sym (ap is_exec (sym z ∙ x.is)) ∙ f)) marks3 followed
+  not-exec-new : (m : Message) → envelope.message ≡ m → is_exec m ≡ false → Each (NewMark w i its) turn4.marks
+  not-exec-new m z f = none-new (λ c x. differ (sym (ap is_exec (sym z ∙ x.is)) ∙ f)) turn4.marks does.marks
     where
       differ : true ≡ false → ⊥
       differ e = cc
 
-  exec-new : (h : Gxid) (c : Cid) (level : Level) (x : Option Snapshot) (y : Gxid) (z : Slice) → envelope.message ≡ message.Exec h c level x y z → Each (NewWrite w i its) marks3
+  exec-new : (h : Gxid) (c : Cid) (level : Level) (x : Option Snapshot) (y : Gxid) (z : Slice) → envelope.message ≡ message.Exec h c level x y z → Each (NewMark w i its) turn4.marks
   unfolding exec-cid
   exec-new h c level x y z f = by_old (nat_lt ((w.segs i).locals its).last c.0) refl
     where
@@ -516,6 +545,9 @@ module _ (script : Script) (w : World) (k : Knows script w) (v : Holds script w)
 
       less : (a b : ℕ) → nat_lt a b ≡ true → a < b
       less a b e = grind (arith, nat_tests)
+
+      weaker : (a b : ℕ) → a < b → a ≤ b
+      weaker a b l = omega arith
 
       at-most : (a b : ℕ) → nat_lt a b ≡ false → b ≤ a
       at-most a b e = grind (arith, nat_tests)
@@ -531,16 +563,18 @@ module _ (script : Script) (w : World) (k : Knows script w) (v : Holds script w)
       running true e l =
           absurd (over ((w.segs i).locals its).last c.0 l (subst (λ j. c.0 ≤ ((w.segs i).locals j).last) (sym here_is) ((subst (TakenAt w (at i)) f taken).1 (subst (λ j. is_committed (marks_in w.steps) (gx j) ≡ true) here_is e))))
 
-      by_old : (b : Bool) → nat_lt ((w.segs i).locals its).last c.0 ≡ b → Each (NewWrite w i its) marks3
-      by_old true e = each-new c same (less ((w.segs i).locals its).last c.0 e) (running (is_committed (marks_in w.steps) (gx its)) refl (less ((w.segs i).locals its).last c.0 e)) marks3 followed
+      by_old : (b : Bool) → nat_lt ((w.segs i).locals its).last c.0 ≡ b → Each (NewMark w i its) turn4.marks
+      by_old true e =
+          let l = less ((w.segs i).locals its).last c.0 e in
+          each-new c same (weaker _ _ l) (running (is_committed (marks_in w.steps) (gx its)) refl l) (subst (λ j. 1 ≤ j) (sym here_is) (subst (TakenAt w (at i)) f taken).0) turn4.marks does.marks
       by_old false e =
-          subst (Each (NewWrite w i its))
+          subst (Each (NewMark w i its))
           (sym (ap (λ m. (on_message script (w.segs i) fails m).marks) f ∙ old-quiet script (w.segs i) fails h c level x y z (subst (λ j. c.0 ≤ ((w.segs i).locals j).last) here_is (at-most ((w.segs i).locals its).last c.0 e)))) tt
 
-  pub writes-new : Each (NewWrite w i (gxid_in envelope.message)) (on_event script (w.segs i) (here.Deliver from envelope) fails).marks
-  writes-new = by_message envelope.message refl
+  message-new : Each (NewMark w i (gxid_in envelope.message)) (on_event script (w.segs i) (here.Deliver from envelope) fails).marks
+  message-new = by_message envelope.message refl
     where
-      by_message : (m : Message) → envelope.message ≡ m → Each (NewWrite w i its) marks3
+      by_message : (m : Message) → envelope.message ≡ m → Each (NewMark w i its) turn4.marks
       by_message (message.Exec h c level x y z) f = exec-new h c level x y z f
       by_message (message.Prepare h) f = not-exec-new _ f refl
       by_message (message.Commit h) f = not-exec-new _ f refl
@@ -550,6 +584,73 @@ module _ (script : Script) (w : World) (k : Knows script w) (v : Holds script w)
       by_message (message.Answer h r) f = not-exec-new _ f refl
       by_message (message.Collect round) f = not-exec-new _ f refl
       by_message (message.Graph round graph) f = not-exec-new _ f refl
+
+  pub message-made : Made w i (gxid_in envelope.message) (on_event script (w.segs i) (here.Deliver from envelope) fails)
+  message-made =
+      record {
+        others = does.others;
+        last = does.next.grows.last;
+        committed = λ c. phase-same (inl c);
+        aborted = λ a. phase-same (inr a);
+        marks = message-new;
+        outs = each_weaker _ IsAnswer (λ o h. (told-answer _ _ _ _ _ o.message h).0) turn4.outs does.outs;
+      }
+
+-- A SLICE THAT GOES ON
+-- it writes rows of the last command there, of a transaction that is still open
+module _ (script : Script) (w : World) (k : Knows script w) (v : Holds script w) (q : Ends w) (fails : Bool) (i : ℕ) (g : Gxid) (d : GoesOn script w i g) where
+  abbrev turn5 : SegTurn
+  turn5 = on_event script (w.segs i) (here.Resume g) fails
+
+  r : Ran (w.segs i) g.0 d.slice.cid.0 turn5
+  r = going-ran script w i g fails d
+
+  closed : (p : Phase) → is_open_phase p ≡ true → has_committed p ≡ false
+  closed p e = grind arith
+
+  none-committed : has_committed (turn5.seg.locals g.0).phase ≡ has_committed ((w.segs i).locals g.0).phase
+  none-committed = closed (turn5.seg.locals g.0).phase (r.opens d.waits.opens) ∙ sym (closed ((w.segs i).locals g.0).phase d.waits.opens)
+
+  -- its command came
+  drawn : 1 ≤ g.0
+  drawn = let c = d.waits.come in (subst (TakenAt w c.letter.to) c.told (each-among (λ (l : Letter). TakenAt w l.to l.envelope.message) w.sent c.letter q.taken c.among)).0
+
+  going-new : (m : Mark) → OfSlice (w.segs i).node g.0 d.slice.cid.0 m → NewMark w i g.0 m
+  going-new (mark.Write h c n t s x) e =
+      (e.0, ap (λ (z : Node). z.0) (e.2 ∙ k.well.names i), same-le ((w.segs i).locals g.0).last d.slice.cid.0 c.0 d.waits.last e.1, (awaited script w k v i g d.slice d.is).uncommitted, drawn)
+    where
+      same-le : (a b c : ℕ) → a ≡ b → c ≡ b → a ≤ c
+      same-le a b c e f = omega arith
+  going-new (mark.Commit h) e = absurd e
+  going-new (mark.Abort h) e = absurd e
+  going-new (mark.Decided h) e = absurd e
+  going-new (mark.Sent to number told) e = absurd e
+  going-new m e = tt
+
+  pub going-made : Made w i g.0 (on_event script (w.segs i) (here.Resume g) fails)
+  going-made =
+      record {
+        others = r.others;
+        last = same-le ((w.segs i).locals g.0).last (turn5.seg.locals g.0).last d.slice.cid.0 d.waits.last (r.last d.waits.last);
+        committed = λ c. none-committed;
+        aborted = λ a. none-committed;
+        marks = each_weaker (OfSlice (w.segs i).node g.0 d.slice.cid.0) (NewMark w i g.0) going-new turn5.marks r.marks;
+        outs = r.outs;
+      }
+    where
+      same-le : (a b c : ℕ) → a ≡ c → b ≡ c → a ≤ b
+      same-le a b c e f = omega arith
+
+-- ALL THAT A SEGMENT HEARS
+pub record MadeOf (w : World) (i : ℕ) (turn : SegTurn) : Type 0 where
+  pub txn : ℕ
+  pub made : Made w i txn turn
+
+pub heard-made : (script : Script) (w : World) → Knows script w → Holds script w → Ends w → (e : Event) (x : NodeEvent) (fails : Bool) (i : ℕ) → HeardAt script w e i x → MadeOf w i (on_event script (w.segs i) x fails)
+heard-made script w k v q e x fails i h =
+    by-heard script w e i (λ x. MadeOf w i (on_event script (w.segs i) x fails))
+    (λ from envelope d. record { txn = gxid_in envelope.message; made = message-made script w k v q e fails i from envelope d })
+    (λ g ok. record { txn = g.0; made = going-made script w k v q fails i g (going-on script w k.well i g ok) }) x h
 
 -- EVERY RUN
 pub record Facts (w : World) : Type 0 where
@@ -565,20 +666,13 @@ module _ (script : Script) (some : 1 ≤ script.segments) where
       record {
         lows = coord-low script w k v q.lows e x fails ok d;
         ends = coord-ends script w k v q.lows q.ends e x fails (event-leads script w k v x fails ok d) (event-pass script w k v q.lows x fails ok d)
-            (event-good script w.coord (marks_in w.steps) k.kept k.past k.well.coordinator.locks x fails ok).past (event-good script w.coord (marks_in w.steps) k.kept k.past k.well.coordinator.locks x fails ok).kept.whole;
+            (event-good script w.coord (marks_in w.steps) k.kept k.past x fails ok).past (event-good script w.coord (marks_in w.steps) k.kept k.past x fails ok).kept.whole;
       }
 
   pub seg-facts : (w : World) → Knows script w → Holds script w → Facts w → (e : Event) (x : NodeEvent) (fails : Bool) (i : ℕ) → IsSegment script (at i) → HeardAt script w e i x → Facts (seg_did w (at i) e (seg_rule script (w.segs i) x fails))
-  seg-facts w k v q e x fails i place h = by-message script w e i (k.well.calm i) (λ x. Facts (seg_did w (at i) e (seg_rule script (w.segs i) x fails))) given x h
-    where
-      given : (from : Node) (envelope : Envelope) → IsGiven w e i from envelope → Facts (seg_did w (at i) e (seg_rule script (w.segs i) (here.Deliver from envelope) fails))
-      given from envelope d =
-          let f = given-is w e i from envelope d (LetterLow w.coord.table w.coord.works) q.lows.sent in
-          let t = given-is w e i from envelope d (λ (l : Letter). TakenAt w l.to l.envelope.message) q.ends.taken in
-          record {
-            lows = seg-low script w k v q.lows e fails i from envelope d.said (subst (λ (z : Envelope). Rattle.gx_law_reads.specs.Horizons.IsLowIn (Rattle.gx_dtx.specs.Table.horizon_of w.coord.table) z.message) f.told f.is.0);
-            ends = seg-ends script w k v q.ends e fails i from envelope d.received d.said (subst (λ (z : Envelope). TakenAt w (at i) z.message) t.told (subst (λ (n : Node). TakenAt w n t.letter.envelope.message) t.target t.is));
-          }
+  seg-facts w k v q e x fails i place h =
+      let d = heard-made script w k v q.ends e x fails i h in
+      record { lows = heard-low script w k v q.lows e x fails i h; ends = seg-ends script w q.ends e x fails i d.txn d.made }
 
   pub world-facts : (es : List (Event × Bool)) → Facts (world_of script es)
   world-facts = world-keeps script some Facts coord-facts seg-facts (record { lows = new-lows; ends = new-ends })

@@ -1,5 +1,5 @@
 -- Commands that go out, lines, and all events of the coordinator.
-use Rattle.std.proofs.Common.{◌≡◌, ◌≤◌, ◌<◌, ℕ, ◌+◌, List, [], ◌∷◌, Option, Some, None, Result, Ok, Err, Bool, true, false, refl, sym, subst, ap, ◌∙◌, cond, if◌then◌else◌, arith, eqb}
+use Rattle.std.proofs.Common.{◌≡◌, ◌≤◌, ◌<◌, ℕ, ◌+◌, List, [], ◌∷◌, Option, Some, None, Result, Ok, Err, Bool, true, false, refl, sym, subst, ap, ◌∙◌, cond, if◌then◌else◌, arith, eqb, eqb-true}
 use Rattle.std.proofs.lemmas.Bool.Decides.{nat_tests}
 use Rattle.std.specs.Prelude.{option_map}
 use Rattle.gx_ids.specs.declared.ids.Cid.{Cid}
@@ -36,7 +36,7 @@ use Rattle.gx_store.specs.Writes.{dist_of}
 use Rattle.gx_store.specs.declared.node.NodeEvent.{NodeEvent}
 use Rattle.gx_store.specs.declared.node.NodeEvent.TheVariants as event
 use Rattle.gx_rules.specs.AtCoordinator.{Reading, awaited, begins, command_order, dispatches, ends_in, enlisted_all, goes, goes_out, kept_at, next_cid, next_line, nodes_in, on_event, on_line, order_to, orders_of, reads_by, reads_for, resends, starts, starts_line, status_order, table_of, takes_snapshot, goes_on_locked, if_granted, lock_for, requests, resumes}
-use Rattle.gx_rules.specs.Coordinators.{Command, Coord, CoordTurn, Work, new_work, no_work, session_of, work_of}
+use Rattle.gx_rules.specs.Coordinators.{with_work, Command, Coord, CoordTurn, Work, new_work, no_work, session_of, work_of}
 use Rattle.gx_rules.specs.Maps.{with_at}
 use Rattle.gx_rules.specs.Snapshots.{snapshot_of}
 use Rattle.gx_law_order.proofs.Lists.{Each}
@@ -46,11 +46,11 @@ use Rattle.gx_law_order.proofs.Statuses.Stage.{Live}
 use Rattle.gx_law_reads.proofs.Heights.{Rises, Sorted, begun-rises, changed-rises, enlisted-rises, live-rises, rises-same, rises-then}
 use Rattle.gx_law_reads.proofs.Held.{Held, Latest, held-now, horizon-xmin}
 use Rattle.gx_law_reads.proofs.Plain.{abort-mild, sent-fine}
-use Rattle.gx_law_reads.proofs.Reading.{CommandLow, CountedIn, Fine, OrderHeld, OrderLow, OutFine, Reads, Stood, Went, Works, apart-same, at-self, one-went, reads-none, self, step-apart}
-use Rattle.gx_law_reads.proofs.Turns.{WentBy, commits-went, counted-by, live-apart, live-here, message-went, none-some, rest-went, rolled-went, some-same, went-then}
+use Rattle.gx_law_reads.proofs.Reading.{CommandLow, CountedIn, Fine, OrderHeld, OrderLow, OutFine, Reads, Stood, Went, Works, apart-same, at-self, le-refl, one-went, reads-none, self, step-apart}
+use Rattle.gx_law_reads.proofs.Turns.{WentBy, commits-went, counted-by, live-apart, live-here, message-went, none-some, rest-went, rolled-went, some-same, went-then, work-went}
 use Rattle.gx_rules.specs.Locks.{with_hold}
 use Rattle.gx_waits.specs.declared.claim.Claim.{Claim}
-use Rattle.gx_law_order.proofs.Calm.{AreCalm, calm-free, lock-calm, nobody-waits}
+use Rattle.gx_locks.specs.Locks.{is_free, resumed, wait_of}
 
 -- ENLISTING
 pub record Enlists (d u : Table) (g : ℕ) : Type 0 where
@@ -234,15 +234,40 @@ module _ (c : Coord) (g : ℕ) (s : Stood c.table c.works) (latest : Latest c.ta
   locked-went script line = goes-went line _ (plan_of script.segments (dist_of script.tables (table_of line)) (gx g) (next_cid (c.works g)) line) (reads-for (next_cid (c.works g)) line)
 
 -- WITH ITS TABLE'S LOCK
-module _ (c : Coord) (g : ℕ) (s : Stood c.table c.works) (latest : Latest c.table) (calm : AreCalm c.locks) (script : Script) (line : Stmt) where
-  request-went : (o : Option Claim) → lock_for (gx g) line ≡ o → WentBy c (requests script c (gx g) line o)
-  request-went None e = locked-went c g s latest script line
-  request-went (Some wanted) e =
-      subst (λ q. WentBy c (if_granted script c (gx g) line wanted q)) (sym (calm-free c.locks wanted calm (lock-calm (gx g) line wanted e)))
-      (let x = locked-went (record c { locks = with_hold c.locks wanted }) g s latest script line in record { went = x.went; outs = x.outs })
+-- that a statement waits says nothing of snapshots
+pub waiting-went : (d : Table) (ws : Works) (g : ℕ) (o : Option Stmt) → Stood d ws → Went d ws d (with_at ws g (record (ws g) { waiting = o }))
+waiting-went d ws g o s = work-went d ws g (record (ws g) { waiting = o }) s (record { plain = (s.reads g).plain; kept = (s.reads g).kept; ordered = (s.reads g).ordered }) (s.orders g) (λ cid x f. f)
+
+waiting-counts : (d : Table) (ws : Works) (g : ℕ) (o : Option Stmt) (m : Message) → CountedIn d ws m → CountedIn d (with_at ws g (record (ws g) { waiting = o })) m
+waiting-counts d ws g o = counted-by d d ws (with_at ws g (record (ws g) { waiting = o })) (le-refl d.next.0) (λ j n. refl) (λ j n. last-same j)
+  where
+    last-same : (j : ℕ) → (with_at ws g (record (ws g) { waiting = o }) j).last ≡ (ws j).last
+    last-same j = by_test (eqb j g) refl
+      where
+        by_test : (b : Bool) → eqb j g ≡ b → (if b then record (ws g) { waiting = o } else ws j).last ≡ (ws j).last
+        by_test true e = ap (λ k. (ws k).last) (sym (eqb-true j g e))
+        by_test false e = refl
+
+module _ (c : Coord) (g : ℕ) (s : Stood c.table c.works) (latest : Latest c.table) (script : Script) (line : Stmt) where
+  granted-went : (wanted : Claim) (b : Bool) → WentBy c (if_granted script c (gx g) line wanted b)
+  granted-went wanted true = let x = locked-went (record c { locks = with_hold c.locks wanted }) g s latest script line in record { went = x.went; outs = x.outs }
+  granted-went wanted false = record { went = waiting-went c.table c.works g (Some line) s; outs = tt }
+
+  request-went : (o : Option Claim) → WentBy c (requests script c (gx g) line o)
+  request-went None = locked-went c g s latest script line
+  request-went (Some wanted) = granted-went wanted (is_free c.locks.holds wanted)
 
   pub dispatch-went : WentBy c (dispatches script c (gx g) line)
-  dispatch-went = request-went (lock_for (gx g) line) refl
+  dispatch-went = request-went (lock_for (gx g) line)
+
+-- and behind a wait
+resumes-went : (c : Coord) (g : ℕ) → Stood c.table c.works → Latest c.table → (script : Script) (o : Option Claim) (line : Option Stmt) → WentBy c (resumes script c (gx g) o line)
+resumes-went c g s latest script None line = rest-went c s
+resumes-went c g s latest script (Some wanted) None = rest-went c s
+resumes-went c g s latest script (Some wanted) (Some line) =
+    let w = waiting-went c.table c.works g None s in
+    let x = locked-went (with_work (record c { locks = resumed c.locks (gx g) (Some wanted) }) (gx g) (record (c.works g) { waiting = None })) g w.stood latest script line in
+    record { went = went-then c.table c.works c.table (with_at c.works g (record (c.works g) { waiting = None })) _ _ w (waiting-counts c.table c.works g None) x.went; outs = x.outs }
 
 -- A TRANSACTION BEGINS
 pub begun-find : (d : Table) (j : ℕ) → Sorted d → find_txn (begun d) (gx j) ≡ cond (eqb j d.next.0) (Some new_txn) (find_txn d (gx j))
@@ -293,29 +318,29 @@ module _ (d : Table) (ws : Works) (session : SessionId) (level : Level) (s : Sto
 
 -- LINES
 module _ (script : Script) (c : Coord) (s : Stood c.table c.works) (latest : Latest c.table) where
-  alone-went : (c0 : Coord) → AreCalm c0.locks → (session : SessionId) (line : Stmt) → c0.table ≡ c.table → c0.works ≡ c.works → Stood c0.table c0.works → Latest c0.table → WentBy c0 (dispatches script (begins c0 session ReadCommitted) c0.table.next line)
-  alone-went c0 calm session line a b z k =
+  alone-went : (c0 : Coord) → (session : SessionId) (line : Stmt) → c0.table ≡ c.table → c0.works ≡ c.works → Stood c0.table c0.works → Latest c0.table → WentBy c0 (dispatches script (begins c0 session ReadCommitted) c0.table.next line)
+  alone-went c0 session line a b z k =
       let w = begins-went c0.table c0.works session ReadCommitted z in
-      let t = dispatch-went (begins c0 session ReadCommitted) c0.table.next.0 w.stood (begins-latest c0.table c0.works session ReadCommitted z k) calm script line in
+      let t = dispatch-went (begins c0 session ReadCommitted) c0.table.next.0 w.stood (begins-latest c0.table c0.works session ReadCommitted z k) script line in
       record { went = went-then c0.table c0.works (begun c0.table) (with_at c0.works c0.table.next.0 (new_work session ReadCommitted)) _ _ w (begins-counts c0.table c0.works session ReadCommitted z) t.went; outs = t.outs }
 
-  line-went : AreCalm c.locks → (session : SessionId) (line : Stmt) (asked : LineStep) → WentBy c (on_line script (starts_line c session asked) session line asked)
-  line-went calm session line (step.Answer plain) = let x = rest-went c s in record { went = x.went; outs = tt }
-  line-went calm session line step.Refuse5 = let x = rest-went c s in record { went = x.went; outs = tt }
-  line-went calm session line step.Refuse7 = let x = rest-went c s in record { went = x.went; outs = tt }
-  line-went calm session line (step.BeginBlock level) = record { went = begins-went c.table c.works session level s; outs = tt }
-  line-went calm session line step.CommitBlock =
+  line-went : (session : SessionId) (line : Stmt) (asked : LineStep) → WentBy c (on_line script (starts_line c session asked) session line asked)
+  line-went session line (step.Answer plain) = let x = rest-went c s in record { went = x.went; outs = tt }
+  line-went session line step.Refuse5 = let x = rest-went c s in record { went = x.went; outs = tt }
+  line-went session line step.Refuse7 = let x = rest-went c s in record { went = x.went; outs = tt }
+  line-went session line (step.BeginBlock level) = record { went = begins-went c.table c.works session level s; outs = tt }
+  line-went session line step.CommitBlock =
       let x = commits-went (starts_line c session step.CommitBlock) (session_of (starts_line c session step.CommitBlock) session).transaction.0 s in record { went = x.went; outs = x.outs }
-  line-went calm session line step.RollbackBlock =
+  line-went session line step.RollbackBlock =
       let x = rolled-went (starts_line c session step.RollbackBlock) (session_of (starts_line c session step.RollbackBlock) session).transaction.0 [] s in record { went = x.went; outs = x.outs }
-  line-went calm session line (step.Command true) =
-      let x = alone-went (starts_line c session (step.Command true)) calm session line refl refl s latest in record { went = x.went; outs = x.outs }
-  line-went calm session line (step.Command false) =
-      let x = dispatch-went (starts_line c session (step.Command false)) (session_of (starts_line c session (step.Command false)) session).transaction.0 s latest calm script line in record { went = x.went; outs = x.outs }
+  line-went session line (step.Command true) =
+      let x = alone-went (starts_line c session (step.Command true)) session line refl refl s latest in record { went = x.went; outs = x.outs }
+  line-went session line (step.Command false) =
+      let x = dispatch-went (starts_line c session (step.Command false)) (session_of (starts_line c session (step.Command false)) session).transaction.0 s latest script line in record { went = x.went; outs = x.outs }
 
-  start-went : AreCalm c.locks → (session : SessionId) (line : Option Stmt) → WentBy c (starts script c session line)
-  start-went calm session None = rest-went c s
-  start-went calm session (Some line) = line-went calm session line (line_step (session_of c session).state.block line)
+  start-went : (session : SessionId) (line : Option Stmt) → WentBy c (starts script c session line)
+  start-went session None = rest-went c s
+  start-went session (Some line) = line-went session line (line_step (session_of c session).state.block line)
 
   end-went : (session : SessionId) (b : Block) → WentBy c (ends_in c session b)
   end-went session (Open level) = let x = rolled-went (Rattle.gx_rules.specs.Coordinators.with_state c session Rattle.gx_script.specs.Session.idle_outside) (session_of c session).transaction.0 [] s in record { went = x.went; outs = x.outs }
@@ -366,11 +391,11 @@ module _ (script : Script) (c : Coord) (s : Stood c.table c.works) (latest : Lat
   again-went i g None e = rest-went c s
   again-went i g (Some told) e = let x = rest-went c s in record { went = x.went; outs = (awaited-fine i g (c.works g).command refl told e, tt) }
 
-  pub event-went : AreCalm c.locks → (x : NodeEvent) (fails : Bool) → WentBy c (on_event script c x fails)
-  event-went calm (event.Deliver from envelope) fails = message-went c s from fails envelope.message
-  event-went calm (event.Start session) fails = start-went calm session (next_line script c session)
-  event-went calm (event.End session) fails = end-went session (session_of c session).state.block
-  event-went calm (event.Resend i (Some g)) fails = again-went i g.0 (awaited c g i) refl
-  event-went calm (event.Resend i None) fails = rest-went c s
-  event-went calm (event.Resume g) fails = subst (λ o. WentBy c (resumes script c g o (work_of c g).waiting)) (sym (nobody-waits c.locks g calm)) (rest-went c s)
-  event-went calm event.Round fails = rest-went c s
+  pub event-went : (x : NodeEvent) (fails : Bool) → WentBy c (on_event script c x fails)
+  event-went (event.Deliver from envelope) fails = message-went c s from fails envelope.message
+  event-went (event.Start session) fails = start-went session (next_line script c session)
+  event-went (event.End session) fails = end-went session (session_of c session).state.block
+  event-went (event.Resend i (Some g)) fails = again-went i g.0 (awaited c g i) refl
+  event-went (event.Resend i None) fails = rest-went c s
+  event-went (event.Resume g) fails = resumes-went c g.0 s latest script (wait_of c.locks g) (work_of c g).waiting
+  event-went event.Round fails = rest-went c s

@@ -5,10 +5,12 @@ pub mod Plain
 pub mod Turns
 pub mod Going
 pub mod Steps
+pub mod Ran
 pub mod Low
 pub mod Taken
 pub mod Ends
 pub mod Below
 pub mod Images
 pub mod Seeing
+pub mod Waiting
 pub mod Staying

@@ -21,15 +21,15 @@ use Rattle.gx_meaning.specs.declared.fault.ArithFault.{ArithFault}
 use Rattle.gx_msg.specs.declared.message.Envelope.{Envelope}
 use Rattle.gx_msg.specs.declared.message.Message.{Message}
 use Rattle.gx_msg.specs.declared.message.Message.TheVariants as message
-use Rattle.gx_msg.specs.declared.message.Out.{Out}
 use Rattle.gx_msg.specs.declared.reply.Reply.{Reply}
 use Rattle.gx_script.specs.declared.Script.{Script}
 use Rattle.gx_store.specs.declared.event.Event.{Event}
+use Rattle.gx_store.specs.declared.mark.Mark.{Mark}
+use Rattle.gx_store.specs.declared.mark.Mark.TheVariants as mark
 use Rattle.gx_store.specs.declared.node.NodeEvent.{NodeEvent}
 use Rattle.gx_store.specs.declared.node.NodeEvent.TheVariants as here
 use Rattle.gx_store.specs.Marks.{is_ended}
 use Rattle.gx_store.specs.Points.{marks_in}
-use Rattle.gx_store.specs.Protocol.{is_writer, local_count, prepared_count}
 use Rattle.gx_store.specs.Refusals.{the_coordinator}
 use Rattle.gx_rules.specs.AtCoordinator as coordinator
 use Rattle.gx_rules.specs.AtCoordinator.{coord_can, coord_rule}
@@ -50,18 +50,20 @@ use Rattle.gx_law_order.proofs.Past.{there-drawn}
 use Rattle.gx_law_order.proofs.Stages.{gx}
 use Rattle.gx_law_order.proofs.Statuses.{is_running, runs-stage, stage, stage_in}
 use Rattle.gx_law_order.proofs.Statuses.Stage.{Live as Running}
+use Rattle.gx_law_order.proofs.Waiting.{GoesOn, going-on}
 use Rattle.gx_law_order.proofs.World.{Knows}
 use Rattle.gx_law_commit.specs.Said.{Said, SaidIn, gxid_in, is_answer, segment_of}
-use Rattle.gx_law_commit.specs.Standings.{Known, Part, at, known_at, standing, standing_in}
+use Rattle.gx_law_commit.specs.Standings.{at, known_at, standing, standing_in}
 use Rattle.gx_law_commit.specs.Standings.Standing.{Unborn, Over, Live}
-use Rattle.gx_law_commit.proofs.Everywhere.{Holds, fol-no-sent, follows-no-sent, parts_in, posted-each, told-answer}
-use Rattle.gx_law_commit.proofs.Handled.{Tells, handled}
+use Rattle.gx_law_commit.proofs.Counts.{NoSent}
+use Rattle.gx_law_commit.proofs.Everywhere.{Holds, does-it, fol-no-sent, follows-no-sent, parts_in, posted-each, told-answer}
 use Rattle.gx_law_reads.specs.Horizons.{AreHorizonsLow, AreLowIn, IsLowIn}
 use Rattle.gx_law_reads.proofs.Heights.{horizon-bounds}
 use Rattle.gx_law_reads.proofs.Held.{Latest}
 use Rattle.gx_law_reads.proofs.Going.{event-went}
 use Rattle.gx_law_reads.proofs.Reading.{CountedIn, FineIn, OutFine, Stood, low-then}
-use Rattle.gx_law_reads.proofs.Steps.{SaidTo, by-message, event-leads, given-is, world-keeps}
+use Rattle.gx_law_reads.proofs.Ran.{IsAnswer, OfSlice, going-ran}
+use Rattle.gx_law_reads.proofs.Steps.{HeardAt, IsGiven, SaidTo, by-heard, event-leads, given-is, world-keeps}
 use Rattle.gx_law_reads.proofs.Turns.{WentBy, none-some}
 
 abbrev pub LetterLow : Table → (ℕ → Work) → Letter → Type 0
@@ -121,7 +123,7 @@ module _ (script : Script) (w : World) (k : Knows script w) (v : Holds script w)
   table2 = turn.coord.table
 
   pub by : WentBy w.coord (coordinator.on_event script w.coord x fails)
-  by = event-went script w.coord q.stood (latest script w k) k.well.coordinator.locks x fails
+  by = event-went script w.coord q.stood (latest script w k) x fails
 
   kept-letter : (l : Letter) → SaidIn w l × LetterLow w.coord.table w.coord.works l → LetterLow turn.coord.table turn.coord.works l
   kept-letter l f = (low-then (horizon_of w.coord.table) (horizon_of table2) l.envelope.message by.went.low f.1.0, by.went.fine l.envelope.message (counted script w k (segment_of l) l.envelope.message f.0) f.1.1)
@@ -299,42 +301,74 @@ module _ (limit : ℕ) where
   message-under script s fails (message.Collect round) l u = l
   message-under script s fails (message.Graph round graph) l u = l
 
-module _ (script : Script) (w : World) (k : Knows script w) (v : Holds script w) (q : Lows w) (e : Event) (fails : Bool) (i : ℕ) (from : Node) (envelope : Envelope) (said : is_answer envelope.message ≡ false → Said (known_at w.coord (marks_in w.steps) i (gxid_in envelope.message)) (parts_in w i (gxid_in envelope.message)) envelope.message) (low : IsLowIn (horizon_of w.coord.table) envelope.message) where
-  abbrev g : ℕ
-  g = gxid_in envelope.message
+-- what a step of a segment is to send, and where it may leave the horizon
+pub record StaysLow (limit : ℕ) (turn : SegTurn) : Type 0 where
+  pub horizon : turn.seg.horizon.0 ≤ limit
+  pub quiet : Each NoSent turn.marks
+  pub outs : Each IsAnswer turn.outs
 
-  abbrev turn3 : SegTurn
-  turn3 = on_event script (w.segs i) (here.Deliver from envelope) fails
+module _ (script : Script) (w : World) (q : Lows w) (e : Event) (x : NodeEvent) (fails : Bool) (i : ℕ) where
+  answer-low : (to : Node) (m : Message) → is_answer m ≡ true → (number : ℕ) → LetterLow w.coord.table w.coord.works (record { from = at i; to = to; envelope = record { number = number; clock = clock_after (w.segs i).clock x; message = m } })
+  answer-low to (message.Answer h r) a number = (tt, tt)
+  answer-low to (message.Exec h c level x y z) a number = absurd (cc)
+  answer-low to (message.Prepare h) a number = (tt, tt)
+  answer-low to (message.Commit h) a number = (tt, tt)
+  answer-low to (message.CommitPrepared h) a number = (tt, tt)
+  answer-low to (message.Abort h) a number = (tt, tt)
+  answer-low to (message.Forget h) a number = (tt, tt)
+  answer-low to (message.Collect round) a number = (tt, tt)
+  answer-low to (message.Graph round graph) a number = (tt, tt)
 
-  answer-low : (o : Out) (n : Known) (p : Part) → Tells n p i g turn3.marks o.message → (number : ℕ) → LetterLow w.coord.table w.coord.works (record { from = at i; to = o.node; envelope = record { number = number; clock = clock_after (w.segs i).clock (here.Deliver from envelope); message = o.message } })
-  answer-low o n p t number = by_message o.message (told-answer n p i g turn3.marks o.message t).0
-    where
-      by_message : (m : Message) → is_answer m ≡ true → IsLowIn (horizon_of w.coord.table) m × FineIn w.coord.table w.coord.works m
-      by_message (message.Answer h r) a = (tt, tt)
-      by_message (message.Exec h c level x y z) a = absurd (cc)
-      by_message (message.Prepare h) a = (tt, tt)
-      by_message (message.Commit h) a = (tt, tt)
-      by_message (message.CommitPrepared h) a = (tt, tt)
-      by_message (message.Abort h) a = (tt, tt)
-      by_message (message.Forget h) a = (tt, tt)
-      by_message (message.Collect round) a = (tt, tt)
-      by_message (message.Graph round graph) a = (tt, tt)
-
-  pub seg-low : Lows (seg_did w (at i) e (seg_rule script (w.segs i) (here.Deliver from envelope) fails))
-  seg-low =
+  pub seg-low : StaysLow (horizon_of w.coord.table).0 (on_event script (w.segs i) x fails) → Lows (seg_did w (at i) e (seg_rule script (w.segs i) x fails))
+  seg-low d =
       record {
         stood = q.stood;
-        sent = posted-each (LetterLow w.coord.table w.coord.works) (at i) (clock_after (w.segs i).clock (here.Deliver from envelope)) turn3.marks (λ node. turn3.seg.sent) turn3.outs w.sent (follows-no-sent envelope.message (known_at w.coord (marks_in w.steps) i g) i g turn3.marks does-it.marks)
-            (each_weaker _ _ (λ o h number. answer-low o _ _ h number) turn3.outs does-it.outs) q.sent;
-        segs = λ j. by_test j (eqb j i) refl;
+        sent = posted-each (LetterLow w.coord.table w.coord.works) (at i) (clock_after (w.segs i).clock x) (on_event script (w.segs i) x fails).marks (λ node. (on_event script (w.segs i) x fails).seg.sent) (on_event script (w.segs i) x fails).outs w.sent d.quiet
+            (each_weaker IsAnswer _ (λ o h number. answer-low o.node o.message h number) (on_event script (w.segs i) x fails).outs d.outs) q.sent;
+        segs = λ j. by_test j (eqb j i);
       }
     where
-      does-it : Rattle.gx_law_commit.proofs.Handled.Does envelope.message (known_at w.coord (marks_in w.steps) i g) (w.segs i) i g (k.well.names i) (is_writer (marks_in w.steps) (gx g) (at i)) (prepared_count (marks_in w.steps) (at i) (gx g)) (local_count (marks_in w.steps) (at i) (gx g)) (v.stands.pairs i g) (on_event script (w.segs i) (here.Deliver from envelope) fails)
-      does-it = handled script fails (known_at w.coord (marks_in w.steps) i g) (w.segs i) (k.well.calm i).locks i (k.well.names i) (is_writer (marks_in w.steps) (gx g) (at i)) (prepared_count (marks_in w.steps) (at i) (gx g)) (local_count (marks_in w.steps) (at i) (gx g)) envelope.message (v.stands.pairs i g) said
+      by_test : (j : ℕ) (b : Bool) → (let s : Seg = if b then (seg_rule script (w.segs i) x fails).seg else w.segs j in s).horizon.0 ≤ (horizon_of w.coord.table).0
+      by_test j true = d.horizon
+      by_test j false = q.segs j
 
-      by_test : (j : ℕ) (b : Bool) → eqb j i ≡ b → (let s : Seg = if b then (seg_rule script (w.segs i) (here.Deliver from envelope) fails).seg else w.segs j in s).horizon.0 ≤ (horizon_of w.coord.table).0
-      by_test j true f = message-under (horizon_of w.coord.table).0 script (w.segs i) fails envelope.message (q.segs i) low
-      by_test j false f = q.segs j
+-- a message's step
+module _ (script : Script) (w : World) (k : Knows script w) (v : Holds script w) (q : Lows w) (e : Event) (fails : Bool) (i : ℕ) (from : Node) (envelope : Envelope) (given : IsGiven w e i from envelope) where
+  pub message-low : StaysLow (horizon_of w.coord.table).0 (on_event script (w.segs i) (here.Deliver from envelope) fails)
+  message-low =
+      let low : IsLowIn (horizon_of w.coord.table) envelope.message
+      = (let f = given-is w e i from envelope given (LetterLow w.coord.table w.coord.works) q.sent in subst (λ (z : Envelope). IsLowIn (horizon_of w.coord.table) z.message) f.told f.is.0) in
+      let d = does-it script w k v e fails i from envelope given.received given.said in
+      record {
+        horizon = message-under (horizon_of w.coord.table).0 script (w.segs i) fails envelope.message (q.segs i) low;
+        quiet = follows-no-sent envelope.message (known_at w.coord (marks_in w.steps) i (gxid_in envelope.message)) i (gxid_in envelope.message) (on_event script (w.segs i) (here.Deliver from envelope) fails).marks d.marks;
+        outs = each_weaker _ IsAnswer (λ o h. (told-answer _ _ _ _ _ o.message h).0) (on_event script (w.segs i) (here.Deliver from envelope) fails).outs d.outs;
+      }
+
+-- the step of a slice that goes on
+slice-quiet : (n : Node) (g c : ℕ) (m : Mark) → OfSlice n g c m → NoSent m
+slice-quiet n g c (mark.Sent to number told) e = absurd e
+slice-quiet n g c (mark.Write h d m t r x) e = tt
+slice-quiet n g c (mark.Fault h d r x) e = tt
+slice-quiet n g c (mark.Hold m h o x) e = tt
+slice-quiet n g c m e = tt
+
+pub going-low : (script : Script) (w : World) → Lows w → (fails : Bool) (i : ℕ) (g : Gxid) → GoesOn script w i g → StaysLow (horizon_of w.coord.table).0 (on_event script (w.segs i) (here.Resume g) fails)
+going-low script w q fails i g d =
+    let r = going-ran script w i g fails d in
+    record {
+      horizon = subst (λ (h : Gxid). h.0 ≤ (horizon_of w.coord.table).0) (sym r.horizon) (q.segs i);
+      quiet = each_weaker (OfSlice (w.segs i).node g.0 d.slice.cid.0) NoSent (slice-quiet (w.segs i).node g.0 d.slice.cid.0) (on_event script (w.segs i) (here.Resume g) fails).marks r.marks;
+      outs = r.outs;
+    }
+
+-- of all that a segment hears
+pub heard-low : (script : Script) (w : World) → Knows script w → Holds script w → Lows w → (e : Event) (x : NodeEvent) (fails : Bool) (i : ℕ) → HeardAt script w e i x → Lows (seg_did w (at i) e (seg_rule script (w.segs i) x fails))
+heard-low script w k v q e x fails i h =
+    by-heard script w e i (λ x. Lows (seg_did w (at i) e (seg_rule script (w.segs i) x fails)))
+    (λ from envelope d. seg-low script w q e (here.Deliver from envelope) fails i (message-low script w k v q e fails i from envelope d))
+    (λ g ok. seg-low script w q e (here.Resume g) fails i (going-low script w q fails i g (going-on script w k.well i g ok)))
+    x h
 
 pub new-lows : Lows new_world
 new-lows =
@@ -348,10 +382,7 @@ module _ (script : Script) (some : 1 ≤ script.segments) where
   pub world-lows : (es : List (Event × Bool)) → Lows (world_of script es)
   world-lows =
       world-keeps script some Lows (λ w k v q e x fails ok d. coord-low script w k v q e x fails ok d)
-      (λ w k v q e x fails i place h. by-message script w e i (k.well.calm i) (λ x. Lows (seg_did w (at i) e (seg_rule script (w.segs i) x fails)))
-      (λ from envelope d.
-      let f = given-is w e i from envelope d (LetterLow w.coord.table w.coord.works) q.sent in
-      seg-low script w k v q e fails i from envelope d.said (subst (λ (z : Envelope). IsLowIn (horizon_of w.coord.table) z.message) f.told f.is.0)) x h)
+      (λ w k v q e x fails i place h. heard-low script w k v q e x fails i h)
       new-lows
 
 -- THE LAWS

@@ -1,5 +1,5 @@
 -- What a command sees at a node stays, whatever comes later.
-use Rattle.std.proofs.Common.{◌≡◌, ◌≤◌, ◌<◌, ℕ, zero, suc, List, [], ◌∷◌, ◌++◌, Option, Some, None, Bool, true, false, refl, sym, subst, ap, ◌∙◌, if◌then◌else◌, ◌==◌, ◌&&◌, ◌||◌, nat_lt, arith, eqb, append-nil}
+use Rattle.std.proofs.Common.{◌≡◌, ◌≤◌, ℕ, zero, suc, List, [], ◌∷◌, ◌++◌, Option, Some, None, Bool, true, false, refl, sym, subst, ap, ◌∙◌, if◌then◌else◌, ◌==◌, ◌&&◌, ◌||◌, nat_lt, arith, eqb, append-nil}
 use Rattle.std.proofs.lemmas.Bool.Decides.{nat_tests}
 use Rattle.std.proofs.lemmas.List.{append_assoc}
 use Rattle.std.specs.Prelude.{slice_get, take}
@@ -9,13 +9,11 @@ use Rattle.gx_ids.specs.declared.ids.Node.{Node}
 use Rattle.gx_ids.specs.declared.ids.Table.{Table}
 use Rattle.gx_ids.specs.declared.rid.Rid.{Rid}
 use Rattle.gx_tree.specs.declared.value.Value.{Value}
-use Rattle.gx_msg.specs.declared.message.Envelope.{Envelope}
 use Rattle.gx_script.specs.declared.Script.{Script}
 use Rattle.gx_store.specs.declared.event.Event.{Event}
 use Rattle.gx_store.specs.declared.mark.Mark.{Mark}
 use Rattle.gx_store.specs.declared.mark.Mark.TheVariants as mark
 use Rattle.gx_store.specs.declared.node.NodeEvent.{NodeEvent}
-use Rattle.gx_store.specs.declared.node.NodeEvent.TheVariants as here
 use Rattle.gx_store.specs.declared.run.Step.{Step}
 use Rattle.gx_store.specs.Journals.{is_same_node}
 use Rattle.gx_store.specs.Marks.{is_committed, is_same_gxid, is_same_rid}
@@ -25,14 +23,12 @@ use Rattle.gx_store.specs.View.{image, image_after, is_shown_to}
 use Rattle.gx_rules.specs.AtCoordinator as coordinator
 use Rattle.gx_rules.specs.AtCoordinator.{coord_can, coord_rule}
 use Rattle.gx_rules.specs.AtSegment.{on_event, seg_rule}
-use Rattle.gx_rules.specs.Machine.{Letter, World, after, coord_did, seg_did, world_of}
+use Rattle.gx_rules.specs.Machine.{World, after, coord_did, seg_did, world_of}
 use Rattle.gx_rules.specs.Sending.{clock_after, numbered}
-use Rattle.gx_law_order.proofs.Letters.{IsFound}
 use Rattle.gx_law_order.proofs.Lists.{Each, each_append, each_weaker}
 use Rattle.gx_law_order.proofs.Past.{committed-append}
 use Rattle.gx_law_order.proofs.Stages.{gx}
 use Rattle.gx_law_order.proofs.World.{Knows, marks-last, world_knows}
-use Rattle.gx_law_commit.specs.Said.{gxid_in}
 use Rattle.gx_law_commit.specs.Standings.{at}
 use Rattle.gx_law_commit.proofs.Always.{world-holds}
 use Rattle.gx_law_commit.proofs.Counts.{NoPart, sent-no-part}
@@ -41,8 +37,8 @@ use Rattle.gx_dtx.specs.Table.{horizon_of}
 use Rattle.gx_law_reads.specs.Horizons.{HasRisen}
 use Rattle.gx_law_reads.specs.Sights.{DoViewsStay, IsOnlyAt}
 use Rattle.gx_law_reads.proofs.Low.{by}
-use Rattle.gx_law_reads.proofs.Ends.{Facts, NewWrite, TakenAt, all-marks, coord-facts, last-next, no-parts, seg-facts, world-facts, writes-new}
-use Rattle.gx_law_reads.proofs.Steps.{IsGiven, SaidTo, by-message, event-leads, given-is, keeps-after}
+use Rattle.gx_law_reads.proofs.Ends.{Facts, MadeOf, NewMark, all-marks, coord-facts, heard-made, last-late, no-parts, seg-facts, world-facts}
+use Rattle.gx_law_reads.proofs.Steps.{HeardAt, SaidTo, event-leads, keeps-after}
 
 take-kept : {A : Type 0} (xs ys : List A) (k : ℕ) (x : A) → slice_get xs k ≡ Some x → take k (xs ++ ys) ≡ take k xs
 take-kept [] ys k x e = absurd (cc)
@@ -137,7 +133,7 @@ module _ (w0 : World) (node : Node) (g : Gxid) (c : Cid) (place : ℕ) where
       ap (λ z. is_committed z h) (s.are ∙ ap (λ z. z ++ s.more) r.1) ∙ committed-append (take place (marks_in w0.steps) ++ r.0) s.more h
       ∙ or-first (is_committed (take place (marks_in w0.steps) ++ r.0) h) (is_committed s.more h) (committed-append (take place (marks_in w0.steps)) r.0 h ∙ or-first (is_committed (take place (marks_in w0.steps)) h) (is_committed r.0 h) e)
 
-  new-quiet : (w : World) → Stayed w → (i its : ℕ) (m : Mark) → NewWrite w i its m → Quiet m
+  new-quiet : (w : World) → Stayed w → (i its : ℕ) (m : Mark) → NewMark w i its m → Quiet m
   new-quiet w s i its (mark.Write h d n t r x) e = λ at_node. (not-committed (is_committed (take place (marks_in w0.steps)) h) refl, λ same. le-trans c.0 ((w.segs i).locals its).last d.0 (subst (λ j. c.0 ≤ ((w.segs j).locals its).last) (same-node n.0 node.0 i e.1 at_node) (subst (λ j. c.0 ≤ ((w.segs node.0).locals j).last) (same-gxid g.0 h.0 its same e.0) s.taken)) e.2)
     where
       same-node : (n m i : ℕ) → n ≡ i → eqb n m ≡ true → m ≡ i
@@ -146,7 +142,7 @@ module _ (w0 : World) (node : Node) (g : Gxid) (c : Cid) (place : ℕ) where
       same-gxid : (g h i : ℕ) → eqb g h ≡ true → h ≡ i → g ≡ i
       same-gxid g h i e f = grind (arith, nat_tests)
 
-      le-trans : (a b c : ℕ) → a ≤ b → b < c → a ≤ c
+      le-trans : (a b c : ℕ) → a ≤ b → b ≤ c → a ≤ c
       le-trans a b c l m = omega arith
 
       clash : (b : Bool) → b ≡ true → b ≡ false → ⊥
@@ -172,39 +168,36 @@ module _ (w0 : World) (node : Node) (g : Gxid) (c : Cid) (place : ℕ) where
         ns : List Mark
         ns = (coordinator.on_event script w.coord x fails).marks ++ numbered (coordinator.on_event script w.coord x fails).coord.sent (coordinator.on_event script w.coord x fails).outs
 
-    seg-stays : (w : World) → Knows script w → Holds script w → Stayed w → (e : Event) (fails : Bool) (i : ℕ) (from : Node) (envelope : Envelope) → IsSegment script (at i) → IsGiven w e i from envelope → Stayed (seg_did w (at i) e (seg_rule script (w.segs i) (here.Deliver from envelope) fails))
-    seg-stays w k v s e fails i from envelope place2 d =
+    seg-stays : (w : World) → Knows script w → Holds script w → Stayed w → (e : Event) (x : NodeEvent) (fails : Bool) (i : ℕ) → IsSegment script (at i) → HeardAt script w e i x → Stayed (seg_did w (at i) e (seg_rule script (w.segs i) x fails))
+    seg-stays w k v s e x fails i place2 h =
         record {
-          facts = seg-facts script some w k v s.facts e (here.Deliver from envelope) fails i place2 d;
+          facts = seg-facts script some w k v s.facts e x fails i place2 h;
           more = s.more ++ ns;
           are = marks-last w.steps step ∙ ap (λ z. z ++ ns) s.are ∙ append_assoc (marks_in w0.steps) s.more ns;
-          unseen = each_append Quiet s.more ns s.unseen (each_append Quiet ms2 sent (each_weaker (NewWrite w i (gxid_in envelope.message)) Quiet (new-quiet w s i (gxid_in envelope.message)) ms2 (writes-new script w k v s.facts.ends e fails i from envelope d.received d.said taken_at)) (each_weaker NoPart Quiet no-part-quiet sent (sent-no-part (λ n. (on_event script (w.segs i) (here.Deliver from envelope) fails).seg.sent) (on_event script (w.segs i) (here.Deliver from envelope) fails).outs)));
-          taken = last-next script w k v s.facts.ends e fails i from envelope d.received d.said taken_at node.0 g.0 c.0 s.taken (eqb node.0 i && eqb g.0 (gxid_in envelope.message)) refl;
+          unseen = each_append Quiet s.more ns s.unseen (each_append Quiet ms2 sent (each_weaker (NewMark w i d.txn) Quiet (new-quiet w s i d.txn) ms2 d.made.marks) (each_weaker NoPart Quiet no-part-quiet sent (sent-no-part (λ n. (on_event script (w.segs i) x fails).seg.sent) (on_event script (w.segs i) x fails).outs)));
+          taken = le-trans c.0 _ _ s.taken (last-late script w s.facts.ends e x fails i d.txn d.made node.0 g.0);
         }
       where
+        d : MadeOf w i (on_event script (w.segs i) x fails)
+        d = heard-made script w k v s.facts.ends e x fails i h
+
         ms2 : List Mark
-        ms2 = (on_event script (w.segs i) (here.Deliver from envelope) fails).marks
+        ms2 = (on_event script (w.segs i) x fails).marks
 
         sent : List Mark
-        sent = numbered (λ n. (on_event script (w.segs i) (here.Deliver from envelope) fails).seg.sent) (on_event script (w.segs i) (here.Deliver from envelope) fails).outs
+        sent = numbered (λ n. (on_event script (w.segs i) x fails).seg.sent) (on_event script (w.segs i) x fails).outs
 
         ns : List Mark
         ns = ms2 ++ sent
 
         step : Step
-        step = record { stamp = record { clock = clock_after (w.segs i).clock (here.Deliver from envelope); node = at i }; event = e; marks = ns }
+        step = record { stamp = record { clock = clock_after (w.segs i).clock x; node = at i }; event = e; marks = ns }
 
-        t : IsFound (λ (l : Letter). TakenAt w l.to l.envelope.message) from (at i) d.number envelope
-        t = given-is w e i from envelope d (λ (l : Letter). TakenAt w l.to l.envelope.message) s.facts.ends.taken
-
-        taken_at : TakenAt w (at i) envelope.message
-        taken_at = subst (λ (z : Envelope). TakenAt w (at i) z.message) t.told (subst (λ (n : Node). TakenAt w n t.letter.envelope.message) t.target t.is)
+        le-trans : (a b c : ℕ) → a ≤ b → b ≤ c → a ≤ c
+        le-trans a b c l m = omega arith
 
     all-stay : (es : List (Event × Bool)) (w : World) → Knows script w → Holds script w → Stayed w → Stayed (after script w es)
-    all-stay es w k v s =
-        keeps-after script some Stayed coord-stays
-        (λ w k v s e x fails i place h. by-message script w e i (k.well.calm i) (λ x. Stayed (seg_did w (at i) e (seg_rule script (w.segs i) x fails))) (λ from envelope d. seg-stays w k v s e fails i from envelope place d) x h)
-        es w k v s
+    all-stay es w k v s = keeps-after script some Stayed coord-stays seg-stays es w k v s
 
 module _ (script : Script) (some : 1 ≤ script.segments) (es later : List (Event × Bool)) where
   pub views-stay : DoViewsStay (world_of script es) (after script (world_of script es) later)

@@ -16,7 +16,6 @@ use Rattle.gx_store.specs.Refusals.{the_coordinator}
 use Rattle.gx_rules.specs.AtCoordinator.{coord_can, coord_rule, on_event}
 use Rattle.gx_rules.specs.AtSegment.{seg_rule}
 use Rattle.gx_rules.specs.Machine.{Letter, World, after, at_node, can, can_here, coord_did, delivered, does, found, happens, new_world, node_of, seg_can, seg_did, world_of}
-use Rattle.gx_law_order.proofs.CalmSegs.{IsCalm, nobody-goes-on}
 use Rattle.gx_law_order.proofs.Letters.{IsFound, IsLetter, found_is}
 use Rattle.gx_law_order.proofs.Lists.{Each}
 use Rattle.gx_law_order.proofs.Ordered.{resumes_there}
@@ -47,14 +46,14 @@ HeardAt script w e i (here.Deliver from envelope) = IsGiven w e i from envelope
 HeardAt script w e i (here.Resume g) = seg_can script (w.segs i) (here.Resume g) ≡ true
 HeardAt script w e i _ = ⊥
 
--- so far it hears messages alone
-pub by-message : (script : Script) (w : World) (e : Event) (i : ℕ) → IsCalm (w.segs i) → (P : NodeEvent → Type 0) → ((from : Node) (envelope : Envelope) → IsGiven w e i from envelope → P (here.Deliver from envelope)) → (x : NodeEvent) → HeardAt script w e i x → P x
-by-message script w e i calm P f (here.Deliver from envelope) h = f from envelope h
-by-message script w e i calm P f (here.Resume g) h = absurd (nobody-goes-on script (w.segs i) g calm h)
-by-message script w e i calm P f (here.Start s) h = absurd h
-by-message script w e i calm P f (here.End s) h = absurd h
-by-message script w e i calm P f (here.Resend j g) h = absurd h
-by-message script w e i calm P f here.Round h = absurd h
+-- what holds of both holds of all that it hears
+pub by-heard : (script : Script) (w : World) (e : Event) (i : ℕ) → (P : NodeEvent → Type 0) → ((from : Node) (envelope : Envelope) → IsGiven w e i from envelope → P (here.Deliver from envelope)) → ((g : Gxid) → seg_can script (w.segs i) (here.Resume g) ≡ true → P (here.Resume g)) → (x : NodeEvent) → HeardAt script w e i x → P x
+by-heard script w e i P f r (here.Deliver from envelope) h = f from envelope h
+by-heard script w e i P f r (here.Resume g) h = r g h
+by-heard script w e i P f r (here.Start s) h = absurd h
+by-heard script w e i P f r (here.End s) h = absurd h
+by-heard script w e i P f r (here.Resend j g) h = absurd h
+by-heard script w e i P f r here.Round h = absurd h
 
 -- a message that was given is found among the letters
 pub given-is : (w : World) (e : Event) (i : ℕ) (from : Node) (envelope : Envelope) → (d : IsGiven w e i from envelope) → (P : Letter → Type 0) → Each P w.sent → IsFound P from (at i) d.number envelope
@@ -165,4 +164,4 @@ module _ (script : Script) (w : World) (k : Knows script w) (v : Holds script w)
   said-in here.Round d = tt
 
   pub event-leads : (x : NodeEvent) (fails : Bool) → coord_can script w.coord x ≡ true → SaidTo w x → Led script (parts_in w) w.coord (marks_in w.steps) (on_event script w.coord x fails)
-  event-leads x fails ok d = event-led script (parts_in w) w.coord (marks_in w.steps) v.stands k.kept k.past (λ g. (k.well.coordinator.works g).writers) k.well.coordinator.locks x fails ok (said-in x d)
+  event-leads x fails ok d = event-led script (parts_in w) w.coord (marks_in w.steps) v.stands k.kept k.past (λ g. (k.well.coordinator.works g).writers) (Rattle.gx_law_order.proofs.Waiting.going-out script w k) x fails ok (said-in x d)

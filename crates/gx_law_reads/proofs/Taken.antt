@@ -66,7 +66,7 @@ use Rattle.gx_law_commit.specs.Standings.Standing.{Live}
 use Rattle.gx_law_commit.proofs.Everywhere.{Holds, parts_in}
 use Rattle.gx_law_commit.proofs.Nodes.{has-without}
 use Rattle.gx_law_commit.proofs.Ways.{CommandOf}
-use Rattle.gx_law_reads.proofs.Going.{ReadsTo, all-enlist, begins-latest, begins-went, begun-find, reads-for}
+use Rattle.gx_law_reads.proofs.Going.{ReadsTo, all-enlist, begins-latest, begins-went, begun-find, reads-for, waiting-went}
 use Rattle.gx_law_reads.proofs.Held.{Latest}
 use Rattle.gx_law_reads.proofs.Low.{Lows, latest, live-standing}
 use Rattle.gx_law_reads.proofs.Plain.{NoExec, abort-mild, commit-mild, reply-mild}
@@ -74,10 +74,11 @@ use Rattle.gx_law_reads.proofs.Reading.{CommandLow, OrderLow, Stood, self}
 use Rattle.gx_law_reads.proofs.Steps.{SaidTo}
 use Rattle.gx_law_reads.proofs.Turns.{none-some, some-same}
 use Rattle.gx_rules.specs.Locks.{with_hold, hold_mark, release_marks}
-use Rattle.gx_locks.specs.Locks.{Locks}
+use Rattle.gx_locks.specs.Locks.{Locks, is_free, resumed, wait_of}
 use Rattle.gx_waits.specs.declared.claim.Claim.{Claim}
 use Rattle.gx_store.specs.Refusals.{the_coordinator}
-use Rattle.gx_law_order.proofs.Calm.{AreCalm, calm-free, each-released, lock-calm, nobody-waits}
+use Rattle.gx_law_order.proofs.Calm.{each-released}
+use Rattle.gx_law_order.proofs.Waiting.{going-out}
 
 abbrev pub NoCommit : Mark → Type 0
 NoCommit (mark.Commit g) = ⊥
@@ -313,15 +314,25 @@ module _ (script : Script) (w : World) (k : Knows script w) (v : Holds script w)
       skip m g e = committed-append (m ∷ []) turn.marks (gx g) ∙ ap (λ b. b || is_committed turn.marks (gx g)) (committed-none (m ∷ []) (gx g) (e, tt))
 
   -- WITH ITS TABLE'S LOCK
-  module _ (c1 : Coord) (g : ℕ) (s1 : Stood c1.table c1.works) (l1 : Latest c1.table) (live : stage_of c1 g ≡ Running) (calm : AreCalm c1.locks) (line : Stmt) where
-    request-pass : (o : Option Claim) → lock_for (gx g) line ≡ o → Passes (requests script c1 (gx g) line o)
-    request-pass None e = locked-pass c1 g s1 l1 live line
-    request-pass (Some wanted) e =
-        subst (λ q. Passes (if_granted script c1 (gx g) line wanted q)) (sym (calm-free c1.locks wanted calm (lock-calm (gx g) line wanted e)))
-        (behind-pass (hold_mark the_coordinator wanted) (goes_on_locked script (record c1 { locks = with_hold c1.locks wanted }) (gx g) line) tt (locked-pass (record c1 { locks = with_hold c1.locks wanted }) g s1 l1 live line))
+  module _ (c1 : Coord) (g : ℕ) (s1 : Stood c1.table c1.works) (l1 : Latest c1.table) (live : stage_of c1 g ≡ Running) (line : Stmt) where
+    granted-pass : (wanted : Claim) (b : Bool) → Passes (if_granted script c1 (gx g) line wanted b)
+    granted-pass wanted true = behind-pass (hold_mark the_coordinator wanted) (goes_on_locked script (record c1 { locks = with_hold c1.locks wanted }) (gx g) line) tt (locked-pass (record c1 { locks = with_hold c1.locks wanted }) g s1 l1 live line)
+    granted-pass wanted false = plain (if_granted script c1 (gx g) line wanted false) tt (tt, tt)
+
+    request-pass : (o : Option Claim) → Passes (requests script c1 (gx g) line o)
+    request-pass None = locked-pass c1 g s1 l1 live line
+    request-pass (Some wanted) = granted-pass wanted (is_free c1.locks.holds wanted)
 
     dispatch-pass : Passes (dispatches script c1 (gx g) line)
-    dispatch-pass = request-pass (lock_for (gx g) line) refl
+    dispatch-pass = request-pass (lock_for (gx g) line)
+
+  -- and behind a wait
+  resumes-pass : (g : ℕ) → stage_of w.coord g ≡ Running → (o : Option Claim) (line : Option Stmt) → Passes (resumes script w.coord (gx g) o line)
+  resumes-pass g live None line = rest
+  resumes-pass g live (Some wanted) None = rest
+  resumes-pass g live (Some wanted) (Some line) =
+      let c1 : Coord = with_work (record w.coord { locks = resumed w.coord.locks (gx g) (Some wanted) }) (gx g) (record (w.coord.works g) { waiting = None }) in
+      behind-pass (hold_mark the_coordinator wanted) (goes_on_locked script c1 (gx g) line) tt (locked-pass c1 g (waiting-went w.coord.table w.coord.works g None q.stood).stood (latest script w k) live line)
 
   -- LINES
   module _ (s : SessionId) (idle : is_nothing_in (session_of w.coord s).state.pending ≡ true) where
@@ -368,9 +379,9 @@ module _ (script : Script) (w : World) (k : Knows script w) (v : Holds script w)
     line-pass line (step.Command true) a =
         behind-pass (mark.Start w.coord.table.next s) (dispatches script (begins (started (step.Command true)) s ReadCommitted) w.coord.table.next line) tt
         (dispatch-pass (begins (started (step.Command true)) s ReadCommitted) w.coord.table.next.0 (begins-went w.coord.table w.coord.works s ReadCommitted q.stood).stood (begins-latest w.coord.table w.coord.works s ReadCommitted q.stood (latest script w k))
-        (ap stage (begun-find w.coord.table w.coord.table.next.0 q.stood.sorted ∙ ap (λ b. Rattle.std.proofs.Common.cond b (Some new_txn) (find_txn w.coord.table w.coord.table.next)) (self w.coord.table.next.0))) k.well.coordinator.locks line)
+        (ap stage (begun-find w.coord.table w.coord.table.next.0 q.stood.sorted ∙ ap (λ b. Rattle.std.proofs.Common.cond b (Some new_txn) (find_txn w.coord.table w.coord.table.next)) (self w.coord.table.next.0))) line)
     line-pass line (step.Command false) a =
-        dispatch-pass (started (step.Command false)) (session_of (started (step.Command false)) s).transaction.0 q.stood (latest script w k) (subst (λ z. stage_of w.coord z ≡ Running) (sym (own-same (step.Command false))) (own-live a)) k.well.coordinator.locks line
+        dispatch-pass (started (step.Command false)) (session_of (started (step.Command false)) s).transaction.0 q.stood (latest script w k) (subst (λ z. stage_of w.coord z ≡ Running) (sym (own-same (step.Command false))) (own-live a)) line
 
     start-pass : (line : Option Stmt) → Passes (starts script w.coord s line)
     start-pass None = rest
@@ -439,5 +450,5 @@ module _ (script : Script) (w : World) (k : Knows script w) (v : Holds script w)
   event-pass (event.End s) fails e d = end-pass s (idle-first s _ e) (session_of w.coord s).state.block
   event-pass (event.Resend i (Some g)) fails e d = again-pass i g.0 (awaited w.coord g i) refl
   event-pass (event.Resend i None) fails e d = rest
-  event-pass (event.Resume g) fails e d = subst (λ o. Passes (resumes script w.coord g o (w.coord.works g.0).waiting)) (sym (nobody-waits w.coord.locks g k.well.coordinator.locks)) rest
+  event-pass (event.Resume g) fails e d = resumes-pass g.0 (going-out script w k g e).live (wait_of w.coord.locks g) (w.coord.works g.0).waiting
   event-pass event.Round fails e d = rest

@@ -98,7 +98,7 @@ some-same a b e = cc
 pub none-some : {A : Type 0} (o : Option A) (a : A) → o ≡ None → o ≡ Some a → ⊥
 none-some o a e f = cc
 
-work-went : (d : Table) (ws : Works) (g : ℕ) (v : Work) → Stood d ws → Reads (find_txn d (gx g)) v → CommandLow (horizon_of d) g v.command → ((cid : ℕ) (x : Snapshot) → Fine (find_txn d (gx g)) (ws g) cid x → Fine (find_txn d (gx g)) v cid x) → Went d ws d (with_at ws g v)
+pub work-went : (d : Table) (ws : Works) (g : ℕ) (v : Work) → Stood d ws → Reads (find_txn d (gx g)) v → CommandLow (horizon_of d) g v.command → ((cid : ℕ) (x : Snapshot) → Fine (find_txn d (gx g)) (ws g) cid x → Fine (find_txn d (gx g)) v cid x) → Went d ws d (with_at ws g v)
 work-went d ws g v s r l f =
     one-went d d ws (with_at ws g v) g s (rises-same d s.sorted) (λ j e. refl) (λ j e. apart-same ws g v j e)
     (subst (Reads (find_txn d (gx g))) (sym (at-self ws g v)) r)

@@ -1,5 +1,6 @@
 -- Horizons: what stands below one counts as ended, so nobody below it may still be needed.
-use Rattle.std.specs.Prelude.{◌≡◌, ◌≤◌, ◌<◌, ◌||◌, ℕ, true, false, List, [], ◌∷◌, Some}
+use Rattle.std.specs.Prelude.{◌≡◌, ◌⊎◌, ◌≤◌, ◌<◌, ◌||◌, ℕ, true, false, List, [], ◌∷◌, None, Some}
+use Rattle.std.specs.declared.option.Option.{Option}
 use Rattle.gx_ids.specs.declared.ids.Cid.{Cid}
 use Rattle.gx_ids.specs.declared.ids.Gxid.{Gxid}
 use Rattle.gx_ids.specs.declared.ids.Node.{Node}
@@ -13,7 +14,7 @@ use Rattle.gx_store.specs.Marks.{is_aborted, is_ended}
 use Rattle.gx_store.specs.Points.{marks_in}
 use Rattle.gx_rules.specs.AtSegment.{raised}
 use Rattle.gx_rules.specs.Machine.{Letter, World}
-use Rattle.gx_rules.specs.Segments.{local_of}
+use Rattle.gx_rules.specs.Segments.{Local, Suspended, local_of}
 
 -- the horizon of a command is at or below a limit
 abbrev pub IsLowIn : Gxid → Message → Type 0
@@ -33,10 +34,19 @@ pub record AreHorizonsLow (w : World) : Type 0 where
   pub live : (g : Gxid) (t : Txn) (xmin : Gxid) → find_txn w.coord.table g ≡ Some t → t.live ≡ Some xmin → (horizon_of w.coord.table).0 ≤ xmin.0
   pub ended : (h : Gxid) → 1 ≤ h.0 → is_below (horizon_of w.coord.table) h ≡ true → is_ended (marks_in w.steps) h ≡ true
 
+-- a slice of the command waits
+abbrev pub IsWaitingAs : Cid → Option Suspended → Type 0
+IsWaitingAs c None = ⊥
+IsWaitingAs c (Some waiting) = waiting.cid.0 ≡ c.0
+
+-- the command is new to the node, or its slice waits there
+abbrev pub IsNewOrWaits : Local → Cid → Type 0
+IsNewOrWaits l c = (l.last < c.0) ⊎ IsWaitingAs c l.suspended
+
 -- the node has still to run the command, whose transaction wasn't aborted
 pub record IsToRun (w : World) (node : Node) (g : Gxid) (c : Cid) : Type 0 where
   pub unaborted : is_aborted (marks_in w.steps) g ≡ false
-  pub new : (local_of (w.segs node.0) g).last < c.0
+  pub new : IsNewOrWaits (local_of (w.segs node.0) g) c
 
 -- such a command sees whoever is below the horizon that the node then has
 abbrev pub IsSeenBelow : World → Node → Message → Type 0

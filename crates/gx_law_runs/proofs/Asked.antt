@@ -1,5 +1,5 @@
 -- That some answer is awaited for a transaction, by its command or by its status.
-use Rattle.std.proofs.Common.{◌≡◌, ℕ, List, [], ◌∷◌, Option, Some, None, Bool, true, false, refl, sym, subst, ap, ◌∙◌, if◌then◌else◌, ◌||◌, eqb}
+use Rattle.std.proofs.Common.{◌≡◌, ◌⊎◌, ℕ, List, [], ◌∷◌, Option, Some, None, Bool, true, false, refl, sym, subst, ap, ◌∙◌, if◌then◌else◌, ◌||◌, eqb}
 use Rattle.std.proofs.lemmas.Bool.{eqb-true}
 use Rattle.std.specs.Prelude.{is_some}
 use Rattle.gx_ids.specs.declared.ids.Cid.{Cid}
@@ -22,9 +22,14 @@ use Rattle.gx_law_order.proofs.Stages.{gx}
 use Rattle.gx_law_order.proofs.Tables.{FoundIn, PhaseIn, find_in, has_in}
 use Rattle.gx_law_schedules.proofs.Asking.{self}
 use Rattle.gx_law_schedules.proofs.Neat.{IsDone, IsExecOf, done-waiting}
+use Rattle.gx_law_runs.proofs.Sparing.{HasWait}
 
 abbrev pub IsAsked : Coord → ℕ → Type 0
 IsAsked c g = (i : Node) × (is_some (awaited c (gx g) i) ≡ true)
+
+-- its session has somebody to wait for: an answer is awaited, or it waits for a lock here
+abbrev pub IsBusy : Coord → ℕ → Type 0
+IsBusy c g = IsAsked c g ⊎ HasWait c g
 
 pub has-first : (x : Node) (xs : List Node) → has x (x ∷ xs) ≡ true
 has-first x xs = ap (λ b. b || has x xs) (self x.0)

@@ -1,7 +1,8 @@
--- While a session is unfinished something is enabled.
-use Rattle.std.proofs.Common.{◌≡◌, ◌≤◌, ◌<◌, ℕ, ◌+◌, ◌-◌, List, [], ◌++◌, Some, Bool, true, false, refl, sym, subst, ap, ◌∙◌, if◌then◌else◌, ◌&&◌, ◌||◌, not, arith, length}
-use Rattle.std.specs.Prelude.{◌==◌, is_some, map}
-use Rattle.std.specs.List.{flat_map}
+-- While a session is unfinished something else than a round is enabled, or the session waits for a lock that meets another's hold.
+use Rattle.std.proofs.lemmas.Bool.Decides.{nat_tests}
+use Rattle.std.proofs.Common.{◌≡◌, ◌≤◌, ◌<◌, ◌⊎◌, inl, inr, ℕ, ◌+◌, ◌-◌, List, [], ◌∷◌, ◌++◌, Option, None, Some, Bool, true, false, refl, sym, subst, ap, ◌∙◌, if◌then◌else◌, ◌&&◌, ◌||◌, not, arith, length}
+use Rattle.std.specs.Prelude.{◌==◌, filter, is_some, map}
+use Rattle.std.specs.List.{flat_map, list_all}
 use Rattle.gx_ids.specs.declared.ids.Gxid.{Gxid}
 use Rattle.gx_ids.specs.declared.ids.Node.{Node}
 use Rattle.gx_ids.specs.declared.ids.SessionId.{SessionId}
@@ -13,27 +14,37 @@ use Rattle.gx_store.specs.declared.node.NodeEvent.TheVariants as here
 use Rattle.gx_store.specs.declared.run.Step.{Step}
 use Rattle.gx_store.specs.Marks.{is_same_session}
 use Rattle.gx_store.specs.Refusals.{the_coordinator}
-use Rattle.gx_store.specs.Schedule.{enabled, first_of, is_next, is_quiet, left_on, segments_of}
+use Rattle.gx_store.specs.Schedule.{enabled, first_of, is_exec, is_round, is_next, is_quiet, left_on, segments_of}
 use Rattle.gx_rules.specs.AtCoordinator.{awaited, coord_can, is_idle, is_in_block, is_left, next_line, is_unfinished_there}
 use Rattle.gx_rules.specs.Coordinators.{Coord, session_of}
-use Rattle.gx_rules.specs.Machine.{World, world_of}
+use Rattle.gx_rules.specs.Machine.{World, can, world_of}
 use Rattle.gx_store.specs.Whole.{AreInsertsWhole}
 use Rattle.gx_law_sessions.proofs.World.{sessions-stand}
 use Rattle.gx_law_commit.proofs.Dispatching.{each-unmap}
 use Rattle.gx_law_order.proofs.Lists.{Each, each_weaker}
 use Rattle.gx_law_runs.specs.Reached.{IsReached}
-use Rattle.gx_law_runs.specs.Replays.{coordinator_after}
+use Rattle.gx_law_runs.specs.Replays.{AreReplayed, coordinator_after, segment_after, world_behind}
 use Rattle.gx_law_runs.proofs.Reaching.{replayed}
-use Rattle.gx_law_schedules.specs.Enabled.{awaiting, drawn, ends_by, is_next_by, resends_by, sessions_of, starts_by}
-use Rattle.gx_law_schedules.proofs.Enabled.{enabled-same}
+use Rattle.gx_waits.specs.declared.claim.Claim.{Claim}
+use Rattle.gx_locks.specs.Locks.{Locks, is_ready, wait_of}
+use Rattle.gx_rules.specs.Segments.{Seg}
+use Rattle.gx_law_order.proofs.Past.{there-drawn}
+use Rattle.gx_law_order.proofs.Waiting.{has-statement}
+use Rattle.gx_law_order.proofs.World.{world_knows}
+use Rattle.gx_law_commit.proofs.Events.{live-stage}
+use Rattle.gx_law_schedules.specs.Enabled.{at_segment_by, drawn, ends_by, is_due, is_next_by, resends_due, resumes_by, rounds_by, sessions_of, starts_by}
+use Rattle.gx_law_schedules.proofs.Enabled.{each-admitted, enabled-there}
 use Rattle.gx_law_schedules.proofs.Neat.{clash}
 use Rattle.gx_law_schedules.proofs.Sessions.{next-alike, start-alike}
-use Rattle.gx_law_runs.specs.Awaiting.{IsAwaiting}
+use Rattle.gx_law_runs.specs.Awaiting.{IsAwaiting, IsBlocked, locks_at}
 use Rattle.gx_law_runs.proofs.Busy.{busy-awaits}
 use Rattle.gx_law_runs.proofs.Nothing.{in-nodes, in-range, nil-filter, nil-first, nil-flat, nil-left, nil-map, nil-right, none-any}
 
--- NOTHING IS ENABLED
-module _ (script : Script) (some : 1 ≤ script.segments) (inserts : AreInsertsWhole script.tables script.lines) (es : List (Event × Bool)) (nothing : enabled script (world_of script es).steps ≡ []) where
+differ : false ≡ true → ⊥
+differ e = cc
+
+-- NOTHING BUT A ROUND IS ENABLED
+module _ (script : Script) (some : 1 ≤ script.segments) (inserts : AreInsertsWhole script.tables script.lines) (es : List (Event × Bool)) (nothing : list_all is_round (enabled script (world_of script es).steps) ≡ true) where
   abbrev w : World
   w = world_of script es
 
@@ -44,31 +55,56 @@ module _ (script : Script) (some : 1 ≤ script.segments) (inserts : AreInsertsW
   receipts = flat_map (λ segment. first_of (left_on script w.steps segment the_coordinator)) (segments_of script)
 
   abbrev deliveries : List Event
-  deliveries = flat_map (λ segment. first_of (left_on script w.steps the_coordinator segment)) (segments_of script)
+  deliveries = flat_map (at_segment_by script w) (segments_of script)
+
+  abbrev resumptions-here : List Event
+  resumptions-here = resumes_by c the_coordinator c.locks
 
   abbrev again : List Event
-  again = flat_map (resends_by script w) (segments_of script)
+  again = flat_map (resends_due script w) (segments_of script)
 
-  all-parts : receipts ++ deliveries ++ again ++ starts_by script c ++ ends_by script c ≡ []
-  all-parts = sym (enabled-same script some es) ∙ nothing
+  -- no round is admitted, and all else that is enabled is
+  not-round : (e : Event) → can script w e ≡ true → is_round e ≡ true → ⊥
+  not-round (event.Receive from to number) ok e = differ e
+  not-round (event.Resume n g) ok e = differ e
+  not-round (event.Start s) ok e = differ e
+  not-round (event.End s) ok e = differ e
+  not-round (event.Resend i g) ok e = differ e
+  not-round event.Round ok e = differ ok
+
+  none-admitted : (xs ys : List Event) → Each (λ e. can script w e ≡ true) xs → list_all is_round (xs ++ ys) ≡ true → xs ≡ []
+  none-admitted [] ys a e = refl
+  none-admitted (x ∷ xs) ys a e = absurd (not-round x a.0 (first (is_round x) (list_all is_round (xs ++ ys)) e))
+    where
+      first : (a b : Bool) → (a && b) ≡ true → a ≡ true
+      first a b e = grind arith
+
+  six-parts : receipts ++ deliveries ++ resumptions-here ++ again ++ starts_by script c ++ ends_by script c ≡ []
+  six-parts = none-admitted _ (rounds_by script w) (each-admitted script some es) (sym (ap (list_all is_round) (enabled-there script some es)) ∙ nothing)
 
   no-ends : ends_by script c ≡ []
-  no-ends = nil-right (receipts ++ deliveries ++ again ++ starts_by script c) _ all-parts
+  no-ends = nil-right (receipts ++ deliveries ++ resumptions-here ++ again ++ starts_by script c) _ six-parts
 
-  four-parts : receipts ++ deliveries ++ again ++ starts_by script c ≡ []
-  four-parts = nil-left _ (ends_by script c) all-parts
+  five-parts : receipts ++ deliveries ++ resumptions-here ++ again ++ starts_by script c ≡ []
+  five-parts = nil-left _ (ends_by script c) six-parts
 
   no-starts : starts_by script c ≡ []
-  no-starts = nil-right (receipts ++ deliveries ++ again) _ four-parts
+  no-starts = nil-right (receipts ++ deliveries ++ resumptions-here ++ again) _ five-parts
 
-  three-parts : receipts ++ deliveries ++ again ≡ []
-  three-parts = nil-left _ (starts_by script c) four-parts
+  four-parts : receipts ++ deliveries ++ resumptions-here ++ again ≡ []
+  four-parts = nil-left _ (starts_by script c) five-parts
 
   no-resends : again ≡ []
-  no-resends = nil-right (receipts ++ deliveries) again three-parts
+  no-resends = nil-right (receipts ++ deliveries ++ resumptions-here) again four-parts
+
+  three-parts : receipts ++ deliveries ++ resumptions-here ≡ []
+  three-parts = nil-left _ again four-parts
+
+  no-resumption : resumptions-here ≡ []
+  no-resumption = nil-right (receipts ++ deliveries) resumptions-here three-parts
 
   two-parts : receipts ++ deliveries ≡ []
-  two-parts = nil-left (receipts ++ deliveries) again three-parts
+  two-parts = nil-left (receipts ++ deliveries) resumptions-here three-parts
 
   -- SESSIONS THAT WAIT
   at-segment : (P : Node → Type 0) → Each P (segments_of script) → (i : Node) → (1 ≤ i.0) × (i.0 ≤ script.segments) → P i
@@ -77,34 +113,68 @@ module _ (script : Script) (some : 1 ≤ script.segments) (inserts : AreInsertsW
       below : (a n : ℕ) → a ≤ n → a < 1 + n
       below a n l = omega arith
 
+  none-there : (i : Node) → (1 ≤ i.0) × (i.0 ≤ script.segments) → resumes_by c i (w.segs i.0).locks ++ first_of (left_on script w.steps the_coordinator i) ≡ []
+  none-there i r = nil-first _ (at-segment (λ j. at_segment_by script w j ≡ []) (nil-flat _ (segments_of script) (nil-right receipts deliveries two-parts)) i r)
+
   quiet : (i : Node) → (1 ≤ i.0) × (i.0 ≤ script.segments) → is_quiet script w.steps i ≡ true
   quiet i r =
-      ap (λ (xs : List Event). (length xs == 0) && (length (left_on script w.steps i the_coordinator) == 0)) (nil-first _ (at-segment (λ j. first_of (left_on script w.steps the_coordinator j) ≡ []) (nil-flat _ (segments_of script) (nil-right receipts deliveries two-parts)) i r))
+      ap (λ (xs : List Event). (length xs == 0) && (length (left_on script w.steps i the_coordinator) == 0)) (nil-first _ (nil-right (resumes_by c i (w.segs i.0).locks) _ (none-there i r)))
       ∙ ap (λ (xs : List Event). length xs == 0) (nil-first _ (at-segment (λ j. first_of (left_on script w.steps j the_coordinator) ≡ []) (nil-flat _ (segments_of script) (nil-left receipts deliveries two-parts)) i r))
 
-  none-awaiting : (i : Node) → (1 ≤ i.0) × (i.0 ≤ script.segments) → awaiting c i ≡ []
-  none-awaiting i r =
-      nil-map (λ g. event.Resend i (Some g)) (awaiting c i)
-      (ap (λ (b : Bool). if b then map (λ g. event.Resend i (Some g)) (awaiting c i) else []) (sym (quiet i r)) ∙ at-segment (λ j. resends_by script w j ≡ []) (nil-flat (resends_by script w) (segments_of script) no-resends) i r)
+  none-due : (i : Node) → (1 ≤ i.0) × (i.0 ≤ script.segments) → filter (is_due w i) (drawn c) ≡ []
+  none-due i r =
+      nil-map (λ g. event.Resend i (Some g)) (filter (is_due w i) (drawn c))
+      (ap (λ (b : Bool). if b then map (λ g. event.Resend i (Some g)) (filter (is_due w i) (drawn c)) else []) (sym (quiet i r)) ∙ at-segment (λ j. resends_due script w j ≡ []) (nil-flat (resends_due script w) (segments_of script) no-resends) i r)
 
-  none-waits : (k : SessionId) → IsAwaiting script c k → ⊥
-  none-waits k a = clash (is_some (awaited c a.g a.at)) a.answer not-awaited
+  -- of all that were drawn
+  of-drawn : (p : Gxid → Bool) → filter p (drawn c) ≡ [] → (g : Gxid) → (1 ≤ g.0) × (g.0 < c.table.next.0) → p g ≡ false
+  of-drawn p e g d =
+      in-range (λ n. p (record { 0 = n }) ≡ false) 1 (c.table.next.0 - 1) g.0
+      (each-unmap (λ h. p h ≡ false) (λ n. let h : Gxid = record { 0 = n } in h) _ (nil-filter p (drawn c) e))
+      d.0 (below g.0 c.table.next.0 d.1 d.0)
     where
       below : (g n : ℕ) → g < n → 1 ≤ g → g < 1 + (n - 1)
       below g n l h = omega arith
 
-      not-awaited : is_some (awaited (world_of script es).coord a.g a.at) ≡ false
-      not-awaited =
-          in-range (λ n. is_some (awaited (world_of script es).coord (record { 0 = n }) a.at) ≡ false) 1 ((world_of script es).coord.table.next.0 - 1) a.g.0
-          (each-unmap (λ g. is_some (awaited (world_of script es).coord g a.at) ≡ false) (λ n. let g : Gxid = record { 0 = n } in g) _ (nil-filter (λ g. is_some (awaited (world_of script es).coord g a.at)) (drawn (world_of script es).coord) (none-awaiting a.at a.segment)))
-          a.drawn.0 (below a.g.0 (world_of script es).coord.table.next.0 a.drawn.1 a.drawn.0)
+  not-ready : (node : Node) (l : Locks) → resumes_by c node l ≡ [] → (g : Gxid) → (1 ≤ g.0) × (g.0 < c.table.next.0) → is_ready l.holds (wait_of l g) ≡ false
+  not-ready node l e = of-drawn (λ g. is_ready l.holds (wait_of l g)) (nil-map (event.Resume node) _ (nil-first _ e))
 
-  all-idle : (k : SessionId) → is_idle (session_of c k) ≡ true
-  all-idle k = by_test (is_idle (session_of c k)) refl
+  -- what isn't due is an EXEC of who waits there
+  held-back : (k : SessionId) (a : IsAwaiting script c k) → is_some (wait_of (w.segs a.at.0).locks a.g) ≡ true
+  held-back k a = last (is_some (awaited c a.g a.at)) (is_exec (awaited c a.g a.at)) _ a.answer (of-drawn (is_due w a.at) (none-due a.at a.segment) a.g a.drawn)
     where
-      by_test : (b : Bool) → is_idle (session_of (world_of script es).coord k) ≡ b → is_idle (session_of (world_of script es).coord k) ≡ true
-      by_test true e = e
-      by_test false e = absurd (none-waits k (busy-awaits script some inserts es k e))
+      last : (a b d : Bool) → a ≡ true → (a && (not b || not d)) ≡ false → d ≡ true
+      last a b d e f = grind arith
+
+  drawn-waits : (g : Gxid) → is_some (wait_of c.locks g) ≡ true → (1 ≤ g.0) × (g.0 < c.table.next.0)
+  drawn-waits g e = by_wait (wait_of c.locks g) refl e
+    where
+      by_wait : (o : Option Claim) → wait_of (world_of script es).coord.locks g ≡ o → is_some o ≡ true → (1 ≤ g.0) × (g.0 < (world_of script es).coord.table.next.0)
+      by_wait None q f = absurd (cc)
+      by_wait (Some wanted) q f =
+          let live = live-stage (world_of script es).coord g.0 (has-statement script (world_of script es) (world_knows script some es) g wanted q).live in
+          there-drawn (world_of script es).coord.table.next.0 g.0 (world_of script es).coord.table.txns live.txn (world_knows script some es).kept.whole.drawn live.found
+
+  pub all-blocked : (k : SessionId) → is_idle (session_of c k) ≡ false → IsBlocked script w k
+  all-blocked k e = by_kind (busy-awaits script some inserts es k e)
+    where
+      away : (i : ℕ) → 1 ≤ i → (i == 0) ≡ false
+      away i l = grind (arith, nat_tests)
+
+      least : (n : ℕ) → 0 ≤ n
+      least n = omega arith
+
+      by_kind : IsAwaiting script (world_of script es).coord k ⊎ (is_some (wait_of (world_of script es).coord.locks (session_of (world_of script es).coord k).transaction) ≡ true) → IsBlocked script (world_of script es) k
+      by_kind (inl a) =
+          let there : locks_at w a.at ≡ (w.segs a.at.0).locks = ap (λ (b : Bool). if b then c.locks else (w.segs a.at.0).locks) (away a.at.0 a.segment.0) in
+          record {
+            at = a.at;
+            node = a.segment.1;
+            waits = subst (λ (l : Locks). is_some (wait_of l (session_of c k).transaction) ≡ true) (sym there) (subst (λ g. is_some (wait_of (w.segs a.at.0).locks g) ≡ true) a.own (held-back k a));
+            meets = subst (λ (l : Locks). is_ready l.holds (wait_of l (session_of c k).transaction) ≡ false) (sym there)
+                (subst (λ g. is_ready (w.segs a.at.0).locks.holds (wait_of (w.segs a.at.0).locks g) ≡ false) a.own (not-ready a.at (w.segs a.at.0).locks (nil-left _ _ (none-there a.at a.segment)) a.g a.drawn));
+          }
+      by_kind (inr x) = record { at = the_coordinator; node = least script.segments; waits = x; meets = not-ready the_coordinator c.locks no-resumption (session_of c k).transaction (drawn-waits (session_of c k).transaction x) }
 
   -- SESSIONS THAT ARE IDLE
   none-next : (k : SessionId) → coord_can script c (here.Start k) ≡ false
@@ -129,15 +199,43 @@ module _ (script : Script) (some : 1 ≤ script.segments) (inserts : AreInsertsW
       above : (a n : ℕ) → a < n → a < 0 + n
       above a n l = omega arith
 
-  pub all-finished : (k : SessionId) → k.0 < length script.sessions → is_unfinished_there script c k ≡ false
-  all-finished k l = plain (is_idle (session_of c k)) (is_left (next_line script c k)) (is_in_block (session_of c k).state.block) (all-idle k) (none-next k) (none-ends k l)
+  pub all-finished : (k : SessionId) → k.0 < length script.sessions → is_idle (session_of c k) ≡ true → is_unfinished_there script c k ≡ false
+  all-finished k l idle = plain (is_idle (session_of c k)) (is_left (next_line script c k)) (is_in_block (session_of c k).state.block) idle (none-next k) (none-ends k l)
     where
       plain : (i l b : Bool) → i ≡ true → (i && l) ≡ false → (i && (not l && b)) ≡ false → (not i || (b || l)) ≡ false
       plain i l b e f h = grind arith
 
+  pub unfinished-blocked : (k : SessionId) → k.0 < length script.sessions → is_unfinished_there script c k ≡ true → IsBlocked script w k
+  unfinished-blocked k l u = by_test (is_idle (session_of c k)) refl
+    where
+      by_test : (b : Bool) → is_idle (session_of (world_of script es).coord k) ≡ b → IsBlocked script (world_of script es) k
+      by_test true e = clash (is_unfinished_there script (world_of script es).coord k) u (all-finished k l e)
+      by_test false e = all-blocked k e
+
 -- IN EVERY RUN THAT IS REACHED
-pub goes-on : (script : Script) (steps : List Step) (session : SessionId) → 1 ≤ script.segments → AreInsertsWhole script.tables script.lines → (is : IsReached script steps) → session.0 < length script.sessions → is_unfinished_there script (coordinator_after script steps) session ≡ true → enabled script steps ≡ [] → ⊥
-goes-on script steps session some inserts is l unfinished nothing =
-    clash (is_unfinished_there script (coordinator_after script steps) session) unfinished
-    (subst (λ (c : Coord). is_unfinished_there script c session ≡ false) (replayed script steps is).coordinator
-    (all-finished script some inserts is.events (subst (λ ss. enabled script ss ≡ []) (sym is.is) nothing) session l))
+-- it is so of what the steps tell
+module _ (script : Script) (steps : List Step) (w : World) (r : AreReplayed script steps w) where
+  locks-alike : (at : Node) → locks_at w at ≡ locks_at (world_behind script steps) at
+  locks-alike at = by_node (at.0 == 0) refl
+    where
+      one : (i : ℕ) → (i == 0) ≡ false → 1 ≤ i
+      one i e = grind (arith, nat_tests)
+
+      by_node : (b : Bool) → (at.0 == 0) ≡ b → (if b then w.coord.locks else (w.segs at.0).locks) ≡ (if b then (coordinator_after script steps).locks else (segment_after script at steps).locks)
+      by_node true e = ap (λ (c : Coord). c.locks) r.coordinator
+      by_node false e = ap (λ (s : Seg). s.locks) (r.segments at.0 (one at.0 e))
+
+  blocked-alike : (k : SessionId) → IsBlocked script w k → IsBlocked script (world_behind script steps) k
+  blocked-alike k b =
+      record {
+        at = b.at;
+        node = b.node;
+        waits = subst (λ (l : Locks). is_some (wait_of l (session_of (coordinator_after script steps) k).transaction) ≡ true) (locks-alike b.at) (subst (λ (c : Coord). is_some (wait_of (locks_at w b.at) (session_of c k).transaction) ≡ true) r.coordinator b.waits);
+        meets = subst (λ (l : Locks). is_ready l.holds (wait_of l (session_of (coordinator_after script steps) k).transaction) ≡ false) (locks-alike b.at) (subst (λ (c : Coord). is_ready (locks_at w b.at).holds (wait_of (locks_at w b.at) (session_of c k).transaction) ≡ false) r.coordinator b.meets);
+      }
+
+pub goes-on-or-blocked : (script : Script) (steps : List Step) (session : SessionId) → 1 ≤ script.segments → AreInsertsWhole script.tables script.lines → (is : IsReached script steps) → session.0 < length script.sessions → is_unfinished_there script (coordinator_after script steps) session ≡ true → list_all is_round (enabled script steps) ≡ true → IsBlocked script (world_behind script steps) session
+goes-on-or-blocked script steps session some inserts is l unfinished nothing =
+    blocked-alike script steps (world_of script is.events) (replayed script steps is) session
+    (unfinished-blocked script some inserts is.events (subst (λ ss. list_all is_round (enabled script ss) ≡ true) (sym is.is) nothing) session l
+    (subst (λ (c : Coord). is_unfinished_there script c session ≡ true) (sym (replayed script steps is).coordinator) unfinished))

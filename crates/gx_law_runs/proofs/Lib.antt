@@ -10,6 +10,7 @@ pub mod Alike
 pub mod Running
 pub mod Finishing
 pub mod Plans
+pub mod Sparing
 pub mod Asked
 pub mod Turns
 pub mod Replies
@@ -18,6 +19,7 @@ pub mod Carried
 pub mod Busy
 pub mod Nothing
 pub mod Going
+pub mod Nobody
 pub mod Marks
 pub mod AtSegments
 pub mod AtCoordinators

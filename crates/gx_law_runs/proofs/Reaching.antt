@@ -1,36 +1,26 @@
 -- The runs that the machine reaches.
-use Rattle.std.proofs.Common.{◌≡◌, ◌≤◌, ℕ, ◌+◌, ◌*◌, List, [], ◌∷◌, ◌++◌, Bool, true, refl, sym, subst, ap, ◌∙◌, ◌&&◌, length, false, if◌then◌else◌}
+use Rattle.std.proofs.Common.{◌≡◌, ◌≤◌, ℕ, ◌+◌, ◌*◌, List, [], ◌∷◌, ◌++◌, Bool, true, refl, sym, subst, ap, ◌∙◌, ◌&&◌, ◌||◌, length, false}
 use Rattle.std.specs.List.{list_all}
 use Rattle.std.specs.declared.alloc.Global.{Global}
 use Rattle.std.specs.declared.vec.Vec.{Vec}
-use Rattle.gx_law_order.proofs.Ordered.{world_well}
-use Rattle.gx_law_order.proofs.CalmSegs.{nobody-can}
-use Rattle.gx_law_order.proofs.Calm.{nobody-ready}
-use Rattle.gx_ids.specs.declared.ids.Node.{Node}
-use Rattle.gx_ids.specs.declared.ids.Gxid.{Gxid}
 use Rattle.gx_ids.specs.declared.ids.Table.{Table}
 use Rattle.gx_msg.specs.declared.message.Envelope.{Envelope}
 use Rattle.gx_script.specs.declared.Script.{Script}
 use Rattle.gx_tree.specs.declared.row.KeyedRow.{KeyedRow}
 use Rattle.gx_store.specs.declared.event.Event.{Event}
-use Rattle.gx_store.specs.declared.event.Event.TheVariants as event
-use Rattle.gx_store.specs.declared.node.NodeEvent.TheVariants as here
-use Rattle.gx_store.specs.Journals.{is_same_node}
-use Rattle.gx_store.specs.Refusals.{the_coordinator}
-use Rattle.gx_rules.specs.AtCoordinator.{coord_can}
 use Rattle.gx_store.specs.declared.run.Step.{Step}
 use Rattle.gx_store.specs.Points.{marks_in}
 use Rattle.gx_store.specs.Rows.{row_at}
-use Rattle.gx_store.specs.Schedule.{enabled}
+use Rattle.gx_store.specs.Schedule.{enabled, is_round}
 use Rattle.gx_rules.specs.Coordinators.{Coord}
-use Rattle.gx_rules.specs.Machine.{Letter, World, can, happens, new_world, world_of, seg_can}
+use Rattle.gx_rules.specs.Machine.{Letter, World, can, happens, new_world, world_of}
 use Rattle.gx_rules.specs.Segments.{Seg}
 use Rattle.gx_rules.specs.Snapshots.{snapshot_of}
 use Rattle.gx_law_order.proofs.Letters.{found_is}
 use Rattle.gx_law_order.proofs.Lists.{Each}
 use Rattle.gx_law_reads.specs.Sights.{AreRowsOf, AreRowsOfAll, IsOnlyAt, shown_to_all}
 use Rattle.gx_law_schedules.proofs.Awaited.{world-asks}
-use Rattle.gx_law_schedules.proofs.Enabled.{all-admitted, enabled-same}
+use Rattle.gx_law_schedules.proofs.Enabled.{all-admitted, all-but-rounds}
 use Rattle.gx_law_schedules.proofs.Room.{Stays, world-stays}
 use Rattle.gx_law_runs.specs.Reached.{HasRoomAfter, IsReached}
 use Rattle.gx_law_runs.specs.Replays.{AreReplayed, IsNextAtCoordinator, IsNextAtSegment, coordinator_after, is_admitted, letters_after, world_behind}
@@ -65,26 +55,22 @@ module _ (script : Script) (steps : List Step) (is : IsReached script steps) whe
       record { events = is.events ++ (e, fails) ∷ []; is = ap (λ (v : World). v.steps) (after-last script new_world is.events (e, fails)) ∙ happens-alike script steps w replayed is.is e fails }
 
 -- WHAT IS ENABLED
-all-same : (p q : Event → Bool) (xs : List Event) → ((x : Event) → p x ≡ q x) → list_all p xs ≡ list_all q xs
+pub all-same : (p q : Event → Bool) (xs : List Event) → ((x : Event) → p x ≡ q x) → list_all p xs ≡ list_all q xs
 all-same p q [] same = refl
 all-same p q (x ∷ xs) same = ap (λ b. b && list_all p xs) (same x) ∙ ap (λ b. q x && b) (all-same p q xs same)
 
--- nobody waits, so nobody resumes
-pub resumes-none : (script : Script) (some : 1 ≤ script.segments) (es : List (Event × Bool)) (n : Node) (g : Gxid) → is_admitted script (world_of script es).steps (event.Resume n g) ≡ false
-resumes-none script some es n g = sym (can-told script w.steps w (world-replayed script es) refl (event.Resume n g)) ∙ by_node (is_same_node n the_coordinator)
-  where
-    w : World
-    w = world_of script es
+module _ (script : Script) (some : 1 ≤ script.segments) (es : List (Event × Bool)) where
+  told : (e : Event) → can script (world_of script es) e ≡ is_admitted script (world_of script es).steps e
+  told = can-told script (world_of script es).steps (world_of script es) (world-replayed script es) refl
 
-    by_node : (b : Bool) → (if b then coord_can script w.coord (here.Resume g) else seg_can script (w.segs n.0) (here.Resume g)) ≡ false
-    by_node true = nobody-ready w.coord.locks g (world_well script some es).coordinator.locks
-    by_node false = nobody-can script (w.segs n.0) g ((world_well script some es).calm n.0)
+  pub admitted-but-rounds : list_all (λ e. is_round e || is_admitted script (world_of script es).steps e) (enabled script (world_of script es).steps) ≡ true
+  admitted-but-rounds =
+      sym (all-same (λ e. is_round e || can script (world_of script es) e) (λ e. is_round e || is_admitted script (world_of script es).steps e) (enabled script (world_of script es).steps) (λ e. ap (λ b. is_round e || b) (told e)))
+      ∙ all-but-rounds script some es
 
-pub enabled-admitted : (script : Script) (some : 1 ≤ script.segments) (es : List (Event × Bool)) → list_all (is_admitted script (world_of script es).steps) (enabled script (world_of script es).steps) ≡ true
-enabled-admitted script some es =
-    let w : World = world_of script es in
-    sym (all-same (can script w) (is_admitted script w.steps) (enabled script w.steps) (can-told script w.steps w (world-replayed script es) refl))
-    ∙ ap (list_all (can script w)) (enabled-same script some es) ∙ all-admitted script some es
+  pub admitted-without-detector : script.detector ≡ false → list_all (is_admitted script (world_of script es).steps) (enabled script (world_of script es).steps) ≡ true
+  admitted-without-detector off =
+      sym (all-same (can script (world_of script es)) (is_admitted script (world_of script es).steps) (enabled script (world_of script es).steps) told) ∙ all-admitted script some es off
 
 -- COUNTS
 pub room-after : (script : Script) (some : 1 ≤ script.segments) (es : List (Event × Bool)) → HasRoomAfter script (world_of script es).steps

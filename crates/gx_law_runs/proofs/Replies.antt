@@ -28,7 +28,7 @@ use Rattle.gx_law_commit.proofs.Events.{both_of, live-stage}
 use Rattle.gx_law_commit.proofs.Nodes.{has-without}
 use Rattle.gx_law_schedules.proofs.Asking.{AreNeat, self}
 use Rattle.gx_law_schedules.proofs.Neat.{IsDone, NeatCommand, NeatPhase, NeatTxn}
-use Rattle.gx_law_runs.proofs.Asked.{IsAsked, IsOrdered, command-asked, done-unless, exec-some, has-first, ordered-asked}
+use Rattle.gx_law_runs.proofs.Asked.{IsAsked, IsBusy, IsOrdered, command-asked, done-unless, exec-some, has-first, ordered-asked}
 use Rattle.gx_law_runs.proofs.Turns.{Goes, answer-settles, changed-finds, commits-goes, ended-not, follows-goes, goes-by, goes-with, refused-settles, settles}
 
 -- a transaction that has its Commit or Abort mark, and isn't forgotten
@@ -64,10 +64,10 @@ module _ (g : ℕ) (t : Txn) (j : Node) (fails : Bool) where
 module _ (c : Coord) (k : Kept c) (n : AreNeat c) (g : ℕ) where
   -- what is known before the answer
   abbrev pub Before : Type 0
-  Before = IsAsked c g × (is_over (stage_of c g) ≡ false)
+  Before = IsBusy c g × (is_over (stage_of c g) ≡ false)
 
   rest-goes : Goes Before c g (rests c)
-  rest-goes = inl (record { sessions = λ j. refl; asked = λ b. b.0 })
+  rest-goes = inl (record { sessions = λ j. refl; asked = λ b. b.0; spares = λ h e. refl })
 
   -- who isn't running its commands awaits none
   stage-done : (stage_of c g ≡ Live → ⊥) → IsDone (c.works g).command
@@ -101,12 +101,12 @@ module _ (c : Coord) (k : Kept c) (n : AreNeat c) (g : ℕ) where
           (changed-finds Before c g k.whole (takes (gx g) t.participants j fails t.phase r) ∙ ap (left_of (takes (gx g) t.participants j fails t.phase r).step) f)
           (takes-ordered g t j fails (c.works g).writers t.phase r e (subst (NeatTxn (c.works g).writers) f (n g).txn).1 (sym (ap (λ x. is_over (stage x)) f) ∙ b.1) s)
 
-      reply-asked : (o : Option Txn) → find_txn c.table (gx g) ≡ o → settles (reply_found (gx g) j r fails o).out.outcome ≡ false → Before → IsAsked (record c { table = changed c.table (gx g) (reply_found (gx g) j r fails o) }) g
+      reply-asked : (o : Option Txn) → find_txn c.table (gx g) ≡ o → settles (reply_found (gx g) j r fails o).out.outcome ≡ false → Before → IsBusy (record c { table = changed c.table (gx g) (reply_found (gx g) j r fails o) }) g
       reply-asked None f s b = b.0
       reply-asked (Some t) f s b = by_test (is_awaited_in t.phase j r) refl s
         where
-          by_test : (q : Bool) → is_awaited_in t.phase j r ≡ q → settles (if q then takes (gx g) t.participants j fails t.phase r else stays).out.outcome ≡ false → IsAsked (record c { table = changed c.table (gx g) (if q then takes (gx g) t.participants j fails t.phase r else stays) }) g
-          by_test true e s = taken-asked t f e s b
+          by_test : (q : Bool) → is_awaited_in t.phase j r ≡ q → settles (if q then takes (gx g) t.participants j fails t.phase r else stays).out.outcome ≡ false → IsBusy (record c { table = changed c.table (gx g) (if q then takes (gx g) t.participants j fails t.phase r else stays) }) g
+          by_test true e s = inl (taken-asked t f e s b)
           by_test false e s = b.0
 
       status-goes : Goes Before c g (on_status c (gx g) j r fails)
@@ -150,10 +150,10 @@ module _ (c : Coord) (k : Kept c) (n : AreNeat c) (g : ℕ) where
       goes-on [] q = completes-goes q _
       goes-on (i ∷ is) q =
           let first : has i (without j m.awaited) ≡ true = ap (has i) q ∙ has-first i is in
-          inl (record { sessions = λ l. refl; asked = λ b. command-asked next g (with_done m j count part) i (ap (λ (w : Work). w.command) own) first (ordered i first) })
+          inl (record { sessions = λ l. refl; asked = λ b. inl (command-asked next g (with_done m j count part) i (ap (λ (w : Work). w.command) own) first (ordered i first)); spares = λ h e. refl })
 
       done-goes : Goes Before c g (takes_done c (gx g) j wrote count part m)
-      done-goes = goes-by Before next c g _ refl (ap (λ (w : Work). w.session) own) (goes-on (without j m.awaited) refl)
+      done-goes = goes-by Before next c g _ refl (ap (λ (w : Work). w.session) own) (λ h e. refl) (goes-on (without j m.awaited) refl)
 
     on-done-goes : (cid : Cid) (wrote : Bool) (count : ℕ) (part : Part) (m : Option Command) → (c.works g).command ≡ m → Goes Before c g (on_done c (gx g) j cid wrote count part m)
     on-done-goes cid wrote count part None e = rest-goes

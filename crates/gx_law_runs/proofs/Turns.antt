@@ -19,7 +19,8 @@ use Rattle.gx_law_order.proofs.Stages.{IsWhole, changed-at, gx, left_of}
 use Rattle.gx_law_commit.proofs.Dispatching.{IsLive}
 use Rattle.gx_law_schedules.proofs.Asking.{self}
 use Rattle.gx_law_schedules.proofs.Neat.{IsDone, clash}
-use Rattle.gx_law_runs.proofs.Asked.{IsAsked, IsOrdered, has-first, ordered-asked}
+use Rattle.gx_law_runs.proofs.Asked.{IsBusy, IsOrdered, has-first, ordered-asked}
+use Rattle.gx_law_runs.proofs.Sparing.{Spares, released-spares}
 
 -- the line under way has its answer
 abbrev pub settles : Outcome → Bool
@@ -45,12 +46,14 @@ module _ (B : Type 0) (c : Coord) (g : ℕ) where
   -- the session waits on
   pub record Waits (turn : CoordTurn) : Type 0 where
     pub sessions : (j : ℕ) → turn.coord.sessions j ≡ c.sessions j
-    pub asked : B → IsAsked turn.coord g
+    pub asked : B → IsBusy turn.coord g
+    pub spares : Spares c.locks turn.coord.locks g
 
   -- or is idle
   pub record Settled (turn : CoordTurn) : Type 0 where
     pub others : (j : ℕ) → eqb j (c.works g).session.0 ≡ false → turn.coord.sessions j ≡ c.sessions j
     pub idle : is_idle (turn.coord.sessions (c.works g).session.0) ≡ true
+    pub spares : Spares c.locks turn.coord.locks g
 
   abbrev pub Goes : CoordTurn → Type 0
   Goes turn = Waits turn ⊎ Settled turn
@@ -59,26 +62,27 @@ module _ (B : Type 0) (c : Coord) (g : ℕ) where
   home = (c.works g).session.0
 
   -- the session is this one, and idle
-  settled : (turn : CoordTurn) (y : Session) → ((j : ℕ) → turn.coord.sessions j ≡ (if eqb j home then y else c.sessions j)) → is_idle y ≡ true → Settled turn
-  settled turn y all i =
+  settled : (turn : CoordTurn) (y : Session) → ((j : ℕ) → turn.coord.sessions j ≡ (if eqb j home then y else c.sessions j)) → is_idle y ≡ true → Spares c.locks turn.coord.locks g → Settled turn
+  settled turn y all i spared =
       record {
         others = λ j e. all j ∙ ap (λ (b : Bool). if b then y else c.sessions j) e;
         idle = ap is_idle (all home ∙ ap (λ (b : Bool). if b then y else c.sessions home) (self home)) ∙ i;
+        spares = spared;
       }
 
   pub committed-settles : (turn : Turn) → Settled (is_committed c (gx g) turn)
-  committed-settles turn = settled (is_committed c (gx g) turn) _ (λ j. refl) refl
+  committed-settles turn = settled (is_committed c (gx g) turn) _ (λ j. refl) refl (released-spares c.locks g)
 
   pub refused-settles : (turn : Turn) (why : List Mark) (reason : Refused) → Settled (is_refused c (gx g) turn why reason)
-  refused-settles turn why reason = settled (is_refused c (gx g) turn why reason) _ (λ j. refl) refl
+  refused-settles turn why reason = settled (is_refused c (gx g) turn why reason) _ (λ j. refl) refl (released-spares c.locks g)
 
   pub answer-settles : Settled (answers c (gx g) (work_of c (gx g)))
-  answer-settles = settled (answers c (gx g) (work_of c (gx g))) _ (λ j. refl) refl
+  answer-settles = settled (answers c (gx g) (work_of c (gx g))) _ (λ j. refl) refl (λ h e. refl)
 
-  pub follows-goes : (turn : Turn) (o : Outcome) → (settles o ≡ false → B → IsAsked (record c { table = turn.table }) g) → Goes (follows c (gx g) turn o)
-  follows-goes turn outcome.Pending f = inl (record { sessions = λ j. refl; asked = f refl })
-  follows-goes turn outcome.Decided f = inl (record { sessions = λ j. refl; asked = f refl })
-  follows-goes turn outcome.Ended f = inl (record { sessions = λ j. refl; asked = f refl })
+  pub follows-goes : (turn : Turn) (o : Outcome) → (settles o ≡ false → B → IsBusy (record c { table = turn.table }) g) → Goes (follows c (gx g) turn o)
+  follows-goes turn outcome.Pending f = inl (record { sessions = λ j. refl; asked = f refl; spares = λ h e. refl })
+  follows-goes turn outcome.Decided f = inl (record { sessions = λ j. refl; asked = f refl; spares = λ h e. refl })
+  follows-goes turn outcome.Ended f = inl (record { sessions = λ j. refl; asked = f refl; spares = λ h e. refl })
   follows-goes turn outcome.Committed f = inr (committed-settles turn)
   follows-goes turn (outcome.Refused i) f = inr (refused-settles turn (failure_marks i (gx g)) (refused.JournalFault i))
 
@@ -89,7 +93,7 @@ module _ (B : Type 0) (c : Coord) (g : ℕ) where
   pub commits-goes : IsWhole c.table → IsLive c g → IsDone (c.works g).command → Goes (commits c (gx g))
   commits-goes whole live done =
       follows-goes (on_commit c.table (gx g) (c.works g).writers) _
-      (λ e b. ordered-asked (record c { table = changed c.table (gx g) ch }) g (left_of ch.step (find_txn c.table (gx g))) done (changed-finds whole ch) (ordered e))
+      (λ e b. inl (ordered-asked (record c { table = changed c.table (gx g) ch }) g (left_of ch.step (find_txn c.table (gx g))) done (changed-finds whole ch) (ordered e)))
     where
       ch : Change
       ch = commit_found (gx g) (c.works g).writers (find_txn c.table (gx g))
@@ -101,14 +105,15 @@ module _ (B : Type 0) (c : Coord) (g : ℕ) where
 
 -- the item of a turn says nothing of sessions
 pub goes-with : (B : Type 0) (c : Coord) (g : ℕ) (turn : CoordTurn) (item : Option JournalItem) → Goes B c g turn → Goes B c g (record turn { item = item })
-goes-with B c g turn item (inl w) = inl (record { sessions = w.sessions; asked = w.asked })
-goes-with B c g turn item (inr s) = inr (record { others = s.others; idle = s.idle })
+goes-with B c g turn item (inl w) = inl (record { sessions = w.sessions; asked = w.asked; spares = w.spares })
+goes-with B c g turn item (inr s) = inr (record { others = s.others; idle = s.idle; spares = s.spares })
 
 -- from other data with the same sessions
-pub goes-by : (B : Type 0) (d c : Coord) (g : ℕ) (turn : CoordTurn) → d.sessions ≡ c.sessions → (d.works g).session ≡ (c.works g).session → Goes B d g turn → Goes B c g turn
-goes-by B d c g turn same at (inl w) = inl (record { sessions = λ j. w.sessions j ∙ ap (λ (f : ℕ → Session). f j) same; asked = w.asked })
-goes-by B d c g turn same at (inr s) =
+pub goes-by : (B : Type 0) (d c : Coord) (g : ℕ) (turn : CoordTurn) → d.sessions ≡ c.sessions → (d.works g).session ≡ (c.works g).session → Spares c.locks d.locks g → Goes B d g turn → Goes B c g turn
+goes-by B d c g turn same at spared (inl w) = inl (record { sessions = λ j. w.sessions j ∙ ap (λ (f : ℕ → Session). f j) same; asked = w.asked; spares = λ h e. w.spares h e ∙ spared h e })
+goes-by B d c g turn same at spared (inr s) =
     inr (record {
       others = λ j e. s.others j (ap (λ x. eqb j x.0) at ∙ e) ∙ ap (λ (f : ℕ → Session). f j) same;
       idle = subst (λ x. is_idle (turn.coord.sessions x.0) ≡ true) at s.idle;
+      spares = λ h e. s.spares h e ∙ spared h e;
     })

@@ -1,20 +1,40 @@
 //! Laws of every run, whatever the network loses, repeats, delays and reorders, and whichever appends fail.
-ghost use Rattle.std.specs.Prelude.{◌≡◌, ◌≤◌, ◌<◌, Bool, true, false, List, [], length};
+ghost use Rattle.std.specs.Prelude.{◌≡◌, ◌≤◌, ◌<◌, ◌⊎◌, Bool, true, false, is_some, List, [], length};
+ghost use Rattle.std.specs.List.{list_all};
 ghost use Rattle.gx_ids.specs.declared.ids.SessionId.{SessionId as OneSession};
 ghost use Rattle.gx_store.specs.Whole.{AreInsertsWhole};
 ghost use Rattle.gx_store.specs.Language.{AreLinesNumbered};
-ghost use Rattle.gx_law_runs.specs.Awaiting.{IsAwaiting};
+ghost use Rattle.gx_locks.specs.Locks.{wait_of};
+ghost use Rattle.gx_law_runs.specs.Awaiting.{IsAwaiting, IsBlocked};
 ghost use Rattle.gx_law_runs.specs.Reached.{IsReached};
-ghost use Rattle.gx_law_runs.specs.Replays.{coordinator_after};
+ghost use Rattle.gx_law_runs.specs.Replays.{coordinator_after, world_behind};
 ghost use Rattle.gx_rules.specs.AtCoordinator.{is_idle, is_unfinished_there};
 ghost use Rattle.gx_rules.specs.Coordinators.{session_of};
 ghost use Rattle.gx_rules.specs.Machine.{world_of};
 ghost use Rattle.gx_script.specs.declared.Script.{Script};
-ghost use Rattle.gx_store.specs.Schedule.{enabled};
+ghost use Rattle.gx_store.specs.Schedule.{enabled, is_round};
 ghost use Rattle.gx_store.specs.declared.event.Event.{Event as OneEvent};
 ghost use Rattle.gx_store.specs.declared.run.Step.{Step as OneStep};
 
-/// A session that has something left to do at the coordinator has a line under way whose answers are awaited, or something of
+/// A session that has something left to do at the coordinator has a line under way whose answers are awaited, or which waits for a
+/// lock, or something of it is enabled. So where nothing but a round of the detector is enabled, each unfinished session waits for a
+/// lock, at the coordinator or at a segment, that meets another transaction's hold there. That holds of scripts whose INSERTs have tuples: one without goes to
+/// no segment, and is never answered.
+pub fn unfinished_runs_go_on_unless_blocked()
+    ensures { (script : Script) (steps : List OneStep) (session : OneSession) → 1 ≤ script.segments → AreLinesNumbered [] script.lines
+        → AreInsertsWhole script.tables script.lines → IsReached script steps
+        → session.0 < length script.sessions → is_unfinished_there script (coordinator_after script steps) session ≡ true → list_all is_round (enabled script steps) ≡ true
+        → IsBlocked script (world_behind script steps) session }
+{}
+
+/// A session that isn't idle awaits an answer, of some segment for its transaction, or waits for a lock at the coordinator.
+pub fn busy_sessions_await_an_answer_or_a_lock()
+    ensures { (script : Script) (events : List (OneEvent × Bool)) (session : OneSession) → 1 ≤ script.segments → AreInsertsWhole script.tables script.lines
+        → is_idle (session_of (world_of script events).coord session) ≡ false
+        → IsAwaiting script (world_of script events).coord session ⊎ (is_some (wait_of (world_of script events).coord.locks (session_of (world_of script events).coord session).transaction) ≡ true) }
+{}
+
+/// Nobody waits yet: a session that has something left to do at the coordinator has a line under way whose answers are awaited, or something of
 /// it is enabled; so while one is unfinished something is enabled. That holds of scripts whose INSERTs have tuples: one without
 /// goes to no segment, and is never answered.
 pub fn unfinished_runs_go_on()
@@ -23,7 +43,7 @@ pub fn unfinished_runs_go_on()
         → session.0 < length script.sessions → is_unfinished_there script (coordinator_after script steps) session ≡ true → enabled script steps ≡ [] → ⊥ }
 {}
 
-/// A session that isn't idle awaits an answer: of some segment, for its transaction.
+/// Nobody waits yet: a session that isn't idle awaits an answer: of some segment, for its transaction.
 pub fn busy_sessions_await_an_answer()
     ensures { (script : Script) (events : List (OneEvent × Bool)) (session : OneSession) → 1 ≤ script.segments → AreInsertsWhole script.tables script.lines
         → is_idle (session_of (world_of script events).coord session) ≡ false → IsAwaiting script (world_of script events).coord session }

@@ -31,8 +31,8 @@ use Rattle.gx_store.specs.declared.answer.Refused.{Refused}
 use Rattle.gx_store.specs.declared.mark.Mark.{Mark}
 use Rattle.gx_store.specs.Schedule.{is_about}
 use Rattle.gx_store.specs.Writes.{dist_of}
-use Rattle.gx_rules.specs.AtCoordinator.{Reading, answers, awaited, commits, completes, dispatches, enlisted_all, fault_mark, follows, goes, goes_on, goes_out, is_refused, kept_at, next_cid, nodes_in, order_to, orders_of, reads_by, reads_for, refusal_of, rolls_back, status_order, table_of, takes_snapshot, unless_kept, goes_on_locked, if_granted, lock_for, requests}
-use Rattle.gx_rules.specs.Coordinators.{Command, Coord, CoordTurn, Work, no_work, rests}
+use Rattle.gx_rules.specs.AtCoordinator.{Reading, answers, awaited, commits, completes, dispatches, enlisted_all, fault_mark, follows, goes, goes_on, goes_out, is_refused, kept_at, next_cid, nodes_in, order_to, orders_of, reads_by, reads_for, refusal_of, rolls_back, status_order, table_of, takes_snapshot, unless_kept, goes_on_locked, if_granted, lock_for, requests, resumes}
+use Rattle.gx_rules.specs.Coordinators.{Command, Coord, CoordTurn, Work, no_work, rests, with_work, work_of}
 use Rattle.gx_rules.specs.Snapshots.{snapshot_of}
 use Rattle.gx_law_order.proofs.Closings.{live-at, set_live}
 use Rattle.gx_law_order.proofs.Lists.{Each}
@@ -41,9 +41,9 @@ use Rattle.gx_law_commit.proofs.Dispatching.{IsLive}
 use Rattle.gx_law_commit.proofs.Nodes.{AreApart, apart-with, has-with}
 use Rattle.gx_law_schedules.proofs.Neat.{CallAsks, IsDone, IsExecOf, Neat, NeatCommand, NeatPhase, NeatTxn, abort-asks, commit-asks, done-neat, done-waiting, txn-less, waiting}
 use Rattle.gx_law_schedules.proofs.Told.{ArePlanApart, orders-other, plan-apart, sends, sends-orders, told-orders, told-other, told_by}
-use Rattle.gx_rules.specs.Locks.{with_hold}
+use Rattle.gx_rules.specs.Locks.{with_hold, with_wait}
 use Rattle.gx_waits.specs.declared.claim.Claim.{Claim}
-use Rattle.gx_law_order.proofs.Calm.{AreCalm, calm-free, lock-calm}
+use Rattle.gx_locks.specs.Locks.{Locks, is_free, resumed}
 
 -- what was asked before, by node and transaction
 abbrev pub Asked : Type 0
@@ -373,14 +373,50 @@ module _ (c : Coord) (whole : IsWhole c.table) (n : AreNeat c) (g : ℕ) (live :
       goes-asks (next_cid (c.works g)) line _ (for-asks (next_cid (c.works g)) line) (plan_of script.segments (dist_of script.tables (table_of line)) (gx g) (next_cid (c.works g)) line)
       (plan-apart script.segments (dist_of script.tables (table_of line)) (gx g) (next_cid (c.works g)) line)
 
+-- IT WAITS, OR HAS WAITED
+-- what waits of a transaction asks for nothing, and answers nothing
+abbrev pub with_waiting : Coord → ℕ → Locks → Option Stmt → Coord
+with_waiting c g locks line = with_work (record c { locks = locks }) (gx g) (record (work_of c (gx g)) { waiting = line })
+
+waits-asks : (c : Coord) → AreNeat c → (g : ℕ) (locks : Locks) (line : Option Stmt) (marks : List Mark) → Asks (now_asked c) (record { coord = with_waiting c g locks line; marks = marks; outs = []; item = None })
+waits-asks c n g locks line marks =
+    one-asks c (now_asked c) (record { coord = with_waiting c g locks line; marks = marks; outs = []; item = None }) g (record (c.works g) { waiting = line }) (find_txn c.table (gx g)) n
+    (record {
+      finds = λ h. same-find h (eqb h g) refl;
+      works = λ h. refl;
+      others = λ i h e. refl;
+      about = λ h e. tt;
+      here = λ i. refl;
+      sends_one = λ i. nothing-sent;
+      neat = record { writers = (n g).writers; txn = (n g).txn; command = (n g).command };
+    })
+  where
+    same-find : (h : ℕ) (b : Bool) → eqb h g ≡ b → find_txn c.table (gx h) ≡ (if b then find_txn c.table (gx g) else find_txn c.table (gx h))
+    same-find h true e = ap (λ k. find_txn c.table (gx k)) (eqb-true h g e)
+    same-find h false e = refl
+
 -- WITH ITS TABLE'S LOCK
-module _ (c : Coord) (whole : IsWhole c.table) (n : AreNeat c) (g : ℕ) (live : IsLive c g) (done : IsDone (c.works g).command) (calm : AreCalm c.locks) (script : Script) (line : Stmt) where
-  request-asks : (o : Option Claim) → lock_for (gx g) line ≡ o → Asks (now_asked c) (requests script c (gx g) line o)
-  request-asks None e = locked-asks c whole n g live done script line
-  request-asks (Some wanted) e =
+module _ (c : Coord) (whole : IsWhole c.table) (n : AreNeat c) (g : ℕ) (live : IsLive c g) (done : IsDone (c.works g).command) (script : Script) (line : Stmt) where
+  granted-asks : (wanted : Claim) (b : Bool) → Asks (now_asked c) (if_granted script c (gx g) line wanted b)
+  granted-asks wanted true =
       let d : Coord = record c { locks = with_hold c.locks wanted } in
       let x = locked-asks d whole n g (record { txn = live.txn; found = live.found; active = live.active }) done script line in
-      subst (λ b. Asks (now_asked c) (if_granted script c (gx g) line wanted b)) (sym (calm-free c.locks wanted calm (lock-calm (gx g) line wanted e))) (record { asked = x.asked; sends_one = x.sends_one; neat = x.neat })
+      record { asked = x.asked; sends_one = x.sends_one; neat = x.neat }
+  granted-asks wanted false = waits-asks c n g (with_wait c.locks wanted) (Some line) _
+
+  request-asks : (o : Option Claim) → Asks (now_asked c) (requests script c (gx g) line o)
+  request-asks None = locked-asks c whole n g live done script line
+  request-asks (Some wanted) = granted-asks wanted (is_free c.locks.holds wanted)
 
   pub dispatch-asks : Asks (now_asked c) (dispatches script c (gx g) line)
-  dispatch-asks = request-asks (lock_for (gx g) line) refl
+  dispatch-asks = request-asks (lock_for (gx g) line)
+
+  -- behind a wait
+  pub resume-asks : (wanted : Claim) → Asks (now_asked c) (resumes script c (gx g) (Some wanted) (Some line))
+  resume-asks wanted =
+      let locks : Locks = resumed c.locks (gx g) (Some wanted) in
+      let d : Coord = with_waiting c g locks None in
+      let w = waits-asks c n g locks None [] in
+      let x = locked-asks d whole w.neat g (record { txn = live.txn; found = live.found; active = live.active }) (subst IsDone (sym (ap (λ (b : Bool). (if b then record (c.works g) { waiting = None } else c.works g).command) (self g))) done) script line in
+      let y = asks-by (now_asked d) (now_asked c) (goes_on_locked script d (gx g) line) (λ i h. sym (w.asked i h)) x in
+      record { asked = y.asked; sends_one = y.sends_one; neat = y.neat }

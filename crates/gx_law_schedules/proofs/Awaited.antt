@@ -21,6 +21,7 @@ use Rattle.gx_store.specs.declared.node.NodeEvent.{NodeEvent}
 use Rattle.gx_store.specs.declared.node.NodeEvent.TheVariants as here
 use Rattle.gx_store.specs.declared.run.Step.{Step}
 use Rattle.gx_store.specs.Journals.{is_same_node}
+use Rattle.gx_store.specs.Ordered.{IsSegment}
 use Rattle.gx_store.specs.Refusals.{the_coordinator}
 use Rattle.gx_store.specs.Schedule.{asked, asked_by, asked_from, is_answer_to, unless_answered}
 use Rattle.gx_rules.specs.AtCoordinator.{awaited, coord_can, coord_rule, on_event}
@@ -33,15 +34,16 @@ use Rattle.gx_law_order.proofs.Letters.{found_is}
 use Rattle.gx_law_order.proofs.Past.{there-drawn}
 use Rattle.gx_law_order.proofs.Sent.{at, counted-all}
 use Rattle.gx_law_order.proofs.Stages.{gx}
+use Rattle.gx_law_order.proofs.Waiting.{going-on, going-out}
 use Rattle.gx_law_order.proofs.World.{world_knows}
 use Rattle.gx_law_commit.proofs.Always.{world-holds}
 use Rattle.gx_law_schedules.proofs.Replies.{left_by}
 use Rattle.gx_law_schedules.proofs.Asking.{AreNeat, Asks}
-use Rattle.gx_law_schedules.proofs.Fitted.{AreServed, LetterServes, Served, coord-served, partless, seg-served}
+use Rattle.gx_law_schedules.proofs.Fitted.{AreServed, LetterServes, Served, coord-served, partless, resume-served, seg-served}
 use Rattle.gx_law_schedules.proofs.Fitting.{SaysSo}
 use Rattle.gx_law_schedules.proofs.Neat.{waiting-none}
 use Rattle.gx_law_schedules.proofs.Room.{length-last}
-use Rattle.gx_law_schedules.proofs.Steps.{IsHere, IsThere, always, by-message}
+use Rattle.gx_law_schedules.proofs.Steps.{IsHere, always, by-kind}
 use Rattle.gx_law_schedules.proofs.Told.{asked-numbered, asked-plain, sends, sent-numbered}
 use Rattle.gx_law_schedules.proofs.Turning.{FitsEvent, FitsMessage, event-asks}
 use Rattle.gx_law_schedules.proofs.World.{world-letters}
@@ -155,7 +157,7 @@ module _ (script : Script) (some : 1 ≤ script.segments) where
     step = record { stamp = record { clock = clock_after v.coord.clock x; node = the_coordinator }; event = e; marks = (coord_rule script v.coord x fails).marks }
 
     asks-now : Asks (λ i g. left_by i (gx g) (awaited v.coord (gx g) i) x) (on_event script v.coord x fails)
-    asks-now = event-asks script v.coord (world_knows script some es).kept q.neat (world_knows script some es).well.coordinator.locks x fails h.admitted (delivered-fits es q e x h)
+    asks-now = event-asks script v.coord (world_knows script some es).kept q.neat (going-out script v (world_knows script some es)) x fails h.admitted (delivered-fits es q e x h)
 
     coord-asks : DoAsk (coord_did v e (coord_rule script v.coord x fails))
     coord-asks =
@@ -176,19 +178,19 @@ module _ (script : Script) (some : 1 ≤ script.segments) where
         adds r a b n k m x e l h f = omega arith
 
   -- A STEP OF A SEGMENT
-  module _ (es : List (Event × Bool)) (q : DoAsk (world_of script es)) (from to : Node) (number : ℕ) (envelope : Envelope) (fails : Bool) (t : IsThere script (world_of script es) from to number envelope) where
+  module _ (es : List (Event × Bool)) (q : DoAsk (world_of script es)) (e : Event) (x : NodeEvent) (fails : Bool) (to : Node) (place : IsSegment script to) where
     abbrev u : World
     u = world_of script es
 
     abbrev seg_step : Step
-    seg_step = record { stamp = record { clock = clock_after (u.segs to.0).clock (here.Deliver from envelope); node = to }; event = event.Receive from to number; marks = (seg_rule script (u.segs to.0) (here.Deliver from envelope) fails).marks }
+    seg_step = record { stamp = record { clock = clock_after (u.segs to.0).clock x; node = to }; event = e; marks = (seg_rule script (u.segs to.0) x fails).marks }
 
-    seg-asks : DoAsk (seg_did u to (event.Receive from to number) (seg_rule script (u.segs to.0) (here.Deliver from envelope) fails))
-    seg-asks =
+    seg-asks : AreServed (seg_did u to e (seg_rule script (u.segs to.0) x fails)) → DoAsk (seg_did u to e (seg_rule script (u.segs to.0) x fails))
+    seg-asks served =
         record {
-          asks = λ i g. asked-last i (gx g) u.steps seg_step ∙ ap (λ (b : Bool). if b then asked_by i (gx g) (unless_answered u.steps i (gx g) (asked u.steps i (gx g)) seg_step.event) seg_step.marks else asked u.steps i (gx g)) (away to.0 t.place.0) ∙ q.asks i g;
+          asks = λ i g. asked-last i (gx g) u.steps seg_step ∙ ap (λ (b : Bool). if b then asked_by i (gx g) (unless_answered u.steps i (gx g) (asked u.steps i (gx g)) seg_step.event) seg_step.marks else asked u.steps i (gx g)) (away to.0 place.0) ∙ q.asks i g;
           neat = q.neat;
-          served = seg-served script some u (world_knows script some es) (world-holds script some es) q.served from to number envelope fails t ((world_knows script some es).well.names to.0);
+          served = served;
           sent = λ i. up (u.coord.sent i) (length u.steps) _ (q.sent i) (length-last u.steps seg_step);
         }
       where
@@ -207,8 +209,11 @@ module _ (script : Script) (some : 1 ≤ script.segments) where
   pub world-asks : (es : List (Event × Bool)) → DoAsk (world_of script es)
   world-asks =
       always script some DoAsk (λ es q e x fails h. coord-asks es q e x fails h)
-      (λ es q e x fails i h. by-message script some es e x i h (λ e x. DoAsk (seg_did (world_of script es) i e (seg_rule script ((world_of script es).segs i.0) x fails)))
-      (λ from number envelope t. seg-asks es q from i number envelope fails t)) new-asks
+      (λ es q e x fails i h. by-kind script some es e x i h (λ e x. DoAsk (seg_did (world_of script es) i e (seg_rule script ((world_of script es).segs i.0) x fails)))
+      (λ from number envelope t. seg-asks es q (event.Receive from i number) (here.Deliver from envelope) fails i h.place
+      (seg-served script some (world_of script es) (world_knows script some es) (world-holds script some es) q.served from i number envelope fails t ((world_knows script some es).well.names i.0)))
+      (λ g ok. seg-asks es q (event.Resume i g) (here.Resume g) fails i h.place
+      (resume-served script some (world_of script es) (world_knows script some es) (world-holds script some es) q.served i g fails h.place ((world_knows script some es).well.names i.0) (going-on script (world_of script es) (world_knows script some es).well i.0 g ok)))) new-asks
 
   -- nothing is awaited of who wasn't drawn
   pub undrawn-none : (es : List (Event × Bool)) (i : Node) (g : ℕ) → ((1 ≤ g) → (g < (world_of script es).coord.table.next.0) → ⊥) → awaited (world_of script es).coord (gx g) i ≡ None

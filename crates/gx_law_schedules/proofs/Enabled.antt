@@ -2,7 +2,7 @@
 use Rattle.std.proofs.Common.{◌≡◌, ◌≤◌, ◌<◌, ℕ, zero, suc, ◌+◌, ◌-◌, List, [], ◌∷◌, ◌++◌, Option, Some, None, Bool, true, false, refl, sym, subst, ap, ◌∙◌, if◌then◌else◌, ◌&&◌, ◌||◌, not, arith, append-nil, cond, eqb, length}
 use Rattle.std.proofs.lemmas.Bool.Decides.{nat_tests}
 use Rattle.std.proofs.lemmas.List.{append_assoc}
-use Rattle.std.specs.Prelude.{◌==◌, filter, is_some, map, nat_le}
+use Rattle.std.specs.Prelude.{◌==◌, filter, find, is_some, map, nat_le}
 use Rattle.std.specs.List.{flat_map, list_all, list_any, range_with_len}
 use Rattle.gx_ids.specs.declared.ids.Gxid.{Gxid}
 use Rattle.gx_ids.specs.declared.ids.Node.{Node}
@@ -19,31 +19,46 @@ use Rattle.gx_store.specs.Marks.{is_same_gxid, is_same_session, start_count}
 use Rattle.gx_store.specs.Ordered.{sent_in}
 use Rattle.gx_store.specs.Points.{marks_in}
 use Rattle.gx_store.specs.Refusals.{the_coordinator}
-use Rattle.gx_store.specs.Schedule.{asked, at_segment, enabled, ends, first_of, gxids_of, is_exec, is_left, is_next, is_quiet, is_to_end, left_on, may_resend, resends, resumptions, rounds, segments_of, starts}
+use Rattle.gx_store.specs.Schedule.{asked, at_segment, enabled, ends, first_of, gxids_of, is_any_wait, is_exec, is_left, is_next, is_quiet, is_ready as ready, is_round, is_to_end, left_on, may_resend, resends, resumptions, rounds, segments_of, starts, waits_of}
+use Rattle.gx_store.specs.Waits.{holds_at, waits_at}
+use Rattle.gx_waits.specs.declared.claim.Claim.{Claim}
+use Rattle.gx_locks.specs.Claims.{is_of}
+use Rattle.gx_locks.specs.Locks.{Locks, is_ready, wait_of}
 use Rattle.gx_rules.specs.AtCoordinator.{awaited, coord_can, is_segment}
 use Rattle.gx_rules.specs.Machine.{World, can, can_here, delivered, found, world_of}
 use Rattle.gx_law_order.proofs.Lists.{Each, each_append, each_flat, each_map, each_weaker}
+use Rattle.gx_law_order.proofs.World.{Knows, world_knows}
 use Rattle.gx_law_sessions.proofs.World.{sessions-stand, world-holds}
-use Rattle.gx_law_schedules.specs.Enabled.{awaiting, drawn, enabled_by, ends_by, is_next_by, resends_by, sessions_of, starts_by}
+use Rattle.gx_law_schedules.specs.Enabled.{at_segment_by, drawn, enabled_there, ends_by, is_anybody_waiting, is_due, is_next_by, resends_due, resumes_by, rounds_by, sessions_of, starts_by}
+use Rattle.gx_law_schedules.specs.Marked.{AreLocksMarked, IsMarked}
 use Rattle.gx_law_schedules.specs.Links.{is_number}
 use Rattle.gx_law_schedules.proofs.Awaited.{undrawn-none, world-asks}
 use Rattle.gx_law_schedules.proofs.Room.{world-stays}
 use Rattle.gx_law_schedules.proofs.Sessions.{end-alike, next-alike, start-alike}
-use Rattle.gx_law_schedules.proofs.Waits.{no-graph, no-resumption, no-rounds, no-wait-of}
+use Rattle.gx_law_schedules.proofs.Marked.{locks-marked, single-here, single-there}
+use Rattle.gx_law_schedules.proofs.Waits.{no-graph, not-running}
 use Rattle.gx_law_schedules.proofs.World.{world-letters}
 
 -- LISTS
-flat-same : {A B : Type 0} (f g : A → List B) → ((x : A) → f x ≡ g x) → (xs : List A) → flat_map f xs ≡ flat_map g xs
-flat-same f g e [] = refl
-flat-same f g e (x ∷ xs) = ap (λ ys. ys ++ flat_map f xs) (e x) ∙ ap (λ ys. g x ++ ys) (flat-same f g e xs)
+flat-each : {A B : Type 0} (f g : A → List B) (xs : List A) → Each (λ x. f x ≡ g x) xs → flat_map f xs ≡ flat_map g xs
+flat-each f g [] e = refl
+flat-each f g (x ∷ xs) e = ap (λ ys. ys ++ flat_map f xs) e.0 ∙ ap (λ ys. g x ++ ys) (flat-each f g xs e.1)
 
-filter-same : {A : Type 0} (f g : A → Bool) → ((x : A) → f x ≡ g x) → (xs : List A) → filter f xs ≡ filter g xs
+any-each : {A : Type 0} (p q : A → Bool) (xs : List A) → Each (λ x. p x ≡ q x) xs → list_any p xs ≡ list_any q xs
+any-each p q [] e = refl
+any-each p q (x ∷ xs) e = ap (λ b. b || list_any p xs) e.0 ∙ ap (λ b. q x || b) (any-each p q xs e.1)
+
+filter-unfound : (p : Claim → Bool) (xs : List Claim) → find p xs ≡ None → filter p xs ≡ []
+filter-unfound p [] e = refl
+filter-unfound p (x ∷ xs) e = by_test (p x) e (filter-unfound p xs)
+  where
+    by_test : (b : Bool) → (if b then Some x else find p xs) ≡ None → (find p xs ≡ None → filter p xs ≡ []) → cond b (x ∷ filter p xs) (filter p xs) ≡ []
+    by_test true q f = absurd (cc)
+    by_test false q f = f q
+
+pub filter-same : {A : Type 0} (f g : A → Bool) → ((x : A) → f x ≡ g x) → (xs : List A) → filter f xs ≡ filter g xs
 filter-same f g e [] = refl
 filter-same f g e (x ∷ xs) = ap (λ b. cond b (x ∷ filter f xs) (filter f xs)) (e x) ∙ ap (λ ys. cond (g x) (x ∷ ys) ys) (filter-same f g e xs)
-
-first-once : (xs : List Event) → first_of (first_of xs) ≡ first_of xs
-first-once [] = refl
-first-once (x ∷ xs) = refl
 
 each-first : (P : Event → Type 0) (xs : List Event) → Each P xs → Each P (first_of xs)
 each-first P [] e = tt
@@ -62,7 +77,7 @@ each-every : {A : Type 0} (P : A → Type 0) → ((x : A) → P x) → (xs : Lis
 each-every P f [] = tt
 each-every P f (x ∷ xs) = (f x, each-every P f xs)
 
-all-each : (t : Event → Bool) (xs : List Event) → Each (λ x. t x ≡ true) xs → list_all t xs ≡ true
+pub all-each : (t : Event → Bool) (xs : List Event) → Each (λ x. t x ≡ true) xs → list_all t xs ≡ true
 all-each t [] e = refl
 all-each t (x ∷ xs) e = both (t x) (list_all t xs) e.0 (all-each t xs e.1)
   where
@@ -116,51 +131,7 @@ module _ (script : Script) (some : 1 ≤ script.segments) (es : List (Event × B
   ends-same : ends script w.steps ≡ ends_by script w.coord
   ends-same = ap (map event.End) (filter-same (is_to_end script w.steps) (λ s. coord_can script w.coord (here.End s)) (λ s. end-alike script s w.steps w.coord (sessions-stand script some es s)) (sessions_of script))
 
-  -- RECEIPTS
-  at-same : (segment : Node) → at_segment script w.steps segment ≡ first_of (left_on script w.steps the_coordinator segment)
-  at-same segment = ap (λ xs. first_of (xs ++ first_of (left_on script w.steps the_coordinator segment))) (no-resumption ms (world-stays script some es).calm segment) ∙ first-once (left_on script w.steps the_coordinator segment)
-
-  -- MESSAGES SENT AGAIN
-  may-same : (segment : Node) (g : Gxid) → may_resend w.steps segment g ≡ is_some (awaited w.coord g segment)
-  may-same segment g =
-      none-waits (is_some (asked w.steps segment g)) (not (is_exec (asked w.steps segment g))) _ (ap (λ (xs : List _). length xs == 0) (no-wait-of ms (world-stays script some es).calm segment g))
-      ∙ ap is_some ((world-asks script some es).asks segment g.0)
-    where
-      none-waits : (a b c : Bool) → c ≡ true → (a && (b || c)) ≡ a
-      none-waits a b c e = grind arith
-
-  resends-same : (segment : Node) → resends script w.steps segment ≡ resends_by script w segment
-  resends-same segment =
-      ap (λ xs. if is_quiet script w.steps segment then map (λ g. event.Resend segment (Some g)) (filter (may_resend w.steps segment) (gxids_of ms)) ++ xs else [])
-      (ap (λ (b : Bool). if b then event.Resend segment None ∷ [] else []) (no-graph w.steps (world-stays script some es).rounds segment))
-      ∙ ap (λ xs. if is_quiet script w.steps segment then xs else [])
-      (append-nil _ ∙ ap (map (λ g. event.Resend segment (Some g))) (filter-same (may_resend w.steps segment) (λ g. is_some (awaited w.coord g segment)) (may-same segment) (gxids_of ms) ∙ ap (filter (λ g. is_some (awaited w.coord g segment))) drawn-alike))
-
-  -- ALL
-  pub enabled-same : enabled script (world_of script es).steps ≡ enabled_by script (world_of script es)
-  enabled-same =
-      ap (λ xs. receipts ++ xs ++ resumptions ms the_coordinator ++ again ++ starts script w.steps ++ ends script w.steps ++ rounds script w.steps) (flat-same (at_segment script w.steps) _ at-same (segments_of script))
-      ∙ ap (λ xs. receipts ++ there ++ xs ++ again ++ starts script w.steps ++ ends script w.steps ++ rounds script w.steps) (no-resumption ms (world-stays script some es).calm the_coordinator)
-      ∙ ap (λ xs. xs ++ again ++ starts script w.steps ++ ends script w.steps ++ rounds script w.steps) (append-nil (receipts ++ there))
-      ∙ ap (λ xs. receipts ++ there ++ xs ++ starts script w.steps ++ ends script w.steps ++ rounds script w.steps) (flat-same (resends script w.steps) (resends_by script w) resends-same (segments_of script))
-      ∙ ap (λ xs. receipts ++ there ++ flat_map (resends_by script w) (segments_of script) ++ xs ++ ends script w.steps ++ rounds script w.steps) starts-same
-      ∙ ap (λ xs. receipts ++ there ++ flat_map (resends_by script w) (segments_of script) ++ starts_by script w.coord ++ xs ++ rounds script w.steps) ends-same
-      ∙ ap (λ xs. receipts ++ there ++ flat_map (resends_by script w) (segments_of script) ++ starts_by script w.coord ++ ends_by script w.coord ++ xs) (no-rounds script w.steps (world-stays script some es).calm)
-      ∙ append-nil (enabled_by script w)
-    where
-      receipts : List Event
-      receipts = flat_map (λ segment. first_of (left_on script (world_of script es).steps segment the_coordinator)) (segments_of script)
-
-      there : List Event
-      there = flat_map (λ segment. first_of (left_on script (world_of script es).steps the_coordinator segment)) (segments_of script)
-
-      again : List Event
-      again = flat_map (resends script (world_of script es).steps) (segments_of script)
-
-  -- WHAT IS ENABLED IS ADMITTED
-  abbrev Admits : Event → Type 0
-  Admits e = can script w e ≡ true
-
+  -- THE SEGMENTS
   segments-are : (a n : ℕ) → 1 ≤ a → a + n ≤ script.segments + 1 → Each (λ (i : Node). is_segment script i ≡ true) (nodes_from a n)
   segments-are a zero l h = tt
   segments-are a (suc n) l h = (is a n script.segments l h, segments-are (a + 1) n (up a) (on a n script.segments h))
@@ -182,6 +153,107 @@ module _ (script : Script) (some : 1 ≤ script.segments) (es : List (Event × B
 
       first : (a : ℕ) → 1 + a ≤ a + 1
       first a = omega arith
+
+  segments-first : Each (λ (i : Node). 1 ≤ i.0) (segments_of script)
+  segments-first = each_weaker (λ (i : Node). is_segment script i ≡ true) (λ (i : Node). 1 ≤ i.0) (λ i e. above i.0 script.segments e) (segments_of script) all-segments
+    where
+      above : (a k : ℕ) → (nat_le 1 a && nat_le a k) ≡ true → 1 ≤ a
+      above a k e = grind (arith, nat_tests)
+
+  marked : AreLocksMarked (world_of script es)
+  marked = locks-marked script some es
+
+  n : Knows script (world_of script es)
+  n = world_knows script some es
+
+  -- WHO RESUMES
+  -- what stands by the marks at a node of these locks
+  module _ (node : Node) (l : Locks) (m : IsMarked ms node l) (once : (g : Gxid) (wanted : Claim) → wait_of l g ≡ Some wanted → filter (is_of g) l.waits ≡ wanted ∷ []) where
+    own-waits : (g : Gxid) → waits_of ms node g ≡ filter (is_of g) l.waits
+    own-waits g = ap (filter (is_of g)) (sym m.waits)
+
+    or-none : (b : Bool) → (b || false) ≡ b
+    or-none b = grind arith
+
+    ready-so : (g : Gxid) → list_any (ready (holds_at ms node)) (waits_of ms node g) ≡ is_ready l.holds (wait_of l g)
+    ready-so g = ap (list_any (ready (holds_at ms node))) (own-waits g) ∙ ap (λ holds. list_any (ready holds) (filter (is_of g) l.waits)) (sym m.holds) ∙ by_wait (wait_of l g) refl
+      where
+        by_wait : (o : Option Claim) → wait_of l g ≡ o → list_any (ready l.holds) (filter (is_of g) l.waits) ≡ is_ready l.holds o
+        by_wait None e = ap (list_any (ready l.holds)) (filter-unfound (is_of g) l.waits e)
+        by_wait (Some wanted) e = ap (list_any (ready l.holds)) (once g wanted e) ∙ or-none (ready l.holds wanted)
+
+    count-so : (g : Gxid) → (length (waits_of ms node g) == 0) ≡ not (is_some (wait_of l g))
+    count-so g = ap (λ (xs : List Claim). length xs == 0) (own-waits g) ∙ by_wait (wait_of l g) refl
+      where
+        by_wait : (o : Option Claim) → wait_of l g ≡ o → (length (filter (is_of g) l.waits) == 0) ≡ not (is_some o)
+        by_wait None e = ap (λ (xs : List Claim). length xs == 0) (filter-unfound (is_of g) l.waits e)
+        by_wait (Some wanted) e = ap (λ (xs : List Claim). length xs == 0) (once g wanted e)
+
+    resumes-so : resumptions ms node ≡ resumes_by w.coord node l
+    resumes-so =
+        ap (λ gs. first_of (map (event.Resume node) gs))
+        (filter-same (λ g. list_any (ready (holds_at ms node)) (waits_of ms node g)) (λ g. is_ready l.holds (wait_of l g)) ready-so (gxids_of ms) ∙ ap (filter (λ g. is_ready l.holds (wait_of l g))) drawn-alike)
+
+  resumes-here : resumptions ms the_coordinator ≡ resumes_by w.coord the_coordinator w.coord.locks
+  resumes-here = resumes-so the_coordinator w.coord.locks marked.coordinator (single-here script w n).once
+
+  at-same : (segment : Node) → 1 ≤ segment.0 → at_segment script w.steps segment ≡ at_segment_by script w segment
+  at-same segment one =
+      ap (λ xs. first_of (xs ++ first_of (left_on script w.steps the_coordinator segment)))
+      (resumes-so segment (w.segs segment.0).locks (marked.segments segment.0 one) (single-there script w n segment.0).once)
+
+  -- MESSAGES SENT AGAIN
+  due-same : (segment : Node) → 1 ≤ segment.0 → (g : Gxid) → may_resend w.steps segment g ≡ is_due w segment g
+  due-same segment one g =
+      ap (λ b. is_some (asked w.steps segment g) && (not (is_exec (asked w.steps segment g)) || b))
+      (count-so segment (w.segs segment.0).locks (marked.segments segment.0 one) (single-there script w n segment.0).once g)
+      ∙ ap (λ o. is_some o && (not (is_exec o) || not (is_some (wait_of (w.segs segment.0).locks g)))) ((world-asks script some es).asks segment g.0)
+
+  resends-same : (segment : Node) → 1 ≤ segment.0 → resends script w.steps segment ≡ resends_due script w segment
+  resends-same segment one =
+      ap (λ xs. if is_quiet script w.steps segment then map (λ g. event.Resend segment (Some g)) (filter (may_resend w.steps segment) (gxids_of ms)) ++ xs else [])
+      (ap (λ (b : Bool). if b then event.Resend segment None ∷ [] else []) (no-graph w.steps (world-stays script some es).rounds segment))
+      ∙ ap (λ xs. if is_quiet script w.steps segment then xs else [])
+      (append-nil _ ∙ ap (map (λ g. event.Resend segment (Some g))) (filter-same (may_resend w.steps segment) (is_due w segment) (due-same segment one) (gxids_of ms) ∙ ap (filter (is_due w segment)) drawn-alike))
+
+  -- ROUNDS
+  any-same : is_any_wait script ms ≡ is_anybody_waiting script w
+  any-same =
+      ap (λ (xs : List Claim). not (length xs == 0) || list_any (λ node. not (length (waits_at ms node) == 0)) (segments_of script)) (sym marked.coordinator.waits)
+      ∙ ap (λ b. not (length w.coord.locks.waits == 0) || b)
+      (any-each (λ node. not (length (waits_at ms node) == 0)) (λ segment. not (length (w.segs segment.0).locks.waits == 0)) (segments_of script)
+      (each_weaker (λ (i : Node). 1 ≤ i.0) (λ (i : Node). not (length (waits_at ms i) == 0) ≡ not (length (w.segs i.0).locks.waits == 0)) (λ i one. ap (λ (xs : List Claim). not (length xs == 0)) (sym (marked.segments i.0 one).waits)) (segments_of script) segments-first))
+
+  rounds-same : rounds script w.steps ≡ rounds_by script w
+  rounds-same =
+      ap (λ (b : Bool). if b then event.Round ∷ [] else [])
+      (ap (λ b. script.detector && (not b && is_any_wait script ms)) (not-running w.steps (world-stays script some es).rounds) ∙ ap (λ b. script.detector && b) any-same)
+
+  -- ALL
+  pub enabled-there : enabled script (world_of script es).steps ≡ enabled_there script (world_of script es)
+  enabled-there =
+      ap (λ xs. receipts ++ xs ++ resumptions ms the_coordinator ++ again ++ starts script w.steps ++ ends script w.steps ++ rounds script w.steps) (flat-each (at_segment script w.steps) (at_segment_by script w) (segments_of script) (each_weaker (λ (i : Node). 1 ≤ i.0) _ at-same (segments_of script) segments-first))
+      ∙ ap (λ xs. receipts ++ there ++ xs ++ again ++ starts script w.steps ++ ends script w.steps ++ rounds script w.steps) resumes-here
+      ∙ ap (λ xs. receipts ++ there ++ here-too ++ xs ++ starts script w.steps ++ ends script w.steps ++ rounds script w.steps) (flat-each (resends script w.steps) (resends_due script w) (segments_of script) (each_weaker (λ (i : Node). 1 ≤ i.0) _ resends-same (segments_of script) segments-first))
+      ∙ ap (λ xs. receipts ++ there ++ here-too ++ flat_map (resends_due script w) (segments_of script) ++ xs ++ ends script w.steps ++ rounds script w.steps) starts-same
+      ∙ ap (λ xs. receipts ++ there ++ here-too ++ flat_map (resends_due script w) (segments_of script) ++ starts_by script w.coord ++ xs ++ rounds script w.steps) ends-same
+      ∙ ap (λ xs. receipts ++ there ++ here-too ++ flat_map (resends_due script w) (segments_of script) ++ starts_by script w.coord ++ ends_by script w.coord ++ xs) rounds-same
+    where
+      receipts : List Event
+      receipts = flat_map (λ segment. first_of (left_on script (world_of script es).steps segment the_coordinator)) (segments_of script)
+
+      there : List Event
+      there = flat_map (at_segment_by script (world_of script es)) (segments_of script)
+
+      here-too : List Event
+      here-too = resumes_by (world_of script es).coord the_coordinator (world_of script es).coord.locks
+
+      again : List Event
+      again = flat_map (resends script (world_of script es).steps) (segments_of script)
+
+  -- WHAT IS ENABLED IS ADMITTED
+  abbrev Admits : Event → Type 0
+  Admits e = can script w e ≡ true
 
   -- a message of the link is found
   receipt-admitted : (from to : Node) (number : ℕ) → (is_segment script from ≡ true) × (to ≡ the_coordinator) → 1 ≤ number → number ≤ sent_in from to w.steps → Admits (event.Receive from to number)
@@ -222,15 +294,36 @@ module _ (script : Script) (some : 1 ≤ script.segments) (es : List (Event × B
       up-to : (k n : ℕ) → k < 1 + n → k ≤ n
       up-to k n h = omega arith
 
-  again-admitted : (segment : Node) → Each Admits (resends_by script w segment)
+  -- who is ready may resume
+  resumption-admitted : (node : Node) (l : Locks) → ((g : Gxid) → is_ready l.holds (wait_of l g) ≡ true → Admits (event.Resume node g)) → Each Admits (resumes_by w.coord node l)
+  resumption-admitted node l f =
+      each-first Admits _
+      (each_map Admits (event.Resume node) (filter (λ g. is_ready l.holds (wait_of l g)) (drawn w.coord))
+      (each-passing (λ g. Admits (event.Resume node g)) (λ g. is_ready l.holds (wait_of l g)) (drawn w.coord) (each-every (λ g. is_ready l.holds (wait_of l g) ≡ true → Admits (event.Resume node g)) f (drawn w.coord))))
+
+  resumption-there : (segment : Node) → is_segment script segment ≡ true → (g : Gxid) → is_ready (w.segs segment.0).locks.holds (wait_of (w.segs segment.0).locks g) ≡ true → Admits (event.Resume segment g)
+  resumption-there segment s g ok =
+      ap (λ (b : Bool). if b then is_ready w.coord.locks.holds (wait_of w.coord.locks g) else is_segment script (w.segs segment.0).node && is_ready (w.segs segment.0).locks.holds (wait_of (w.segs segment.0).locks g)) (away segment.0 script.segments s)
+      ∙ both (is_segment script (w.segs segment.0).node) _ (ap (is_segment script) (n.well.names segment.0) ∙ s) ok
+    where
+      away : (a k : ℕ) → (nat_le 1 a && nat_le a k) ≡ true → (a == 0) ≡ false
+      away a k e = grind (arith, nat_tests)
+
+      both : (a b : Bool) → a ≡ true → b ≡ true → (a && b) ≡ true
+      both a b e f = grind arith
+
+  again-admitted : (segment : Node) → Each Admits (resends_due script w segment)
   again-admitted segment = by_quiet (is_quiet script w.steps segment)
     where
-      some-there : Each Admits (map (λ g. event.Resend segment (Some g)) (awaiting w.coord segment))
-      some-there =
-          each_map Admits (λ g. event.Resend segment (Some g)) (awaiting w.coord segment)
-          (each-passing (λ g. Admits (event.Resend segment (Some g))) (λ g. is_some (awaited w.coord g segment)) (drawn w.coord) (each-every (λ g. is_some (awaited w.coord g segment) ≡ true → Admits (event.Resend segment (Some g))) (λ g e. e) (drawn w.coord)))
+      first : (a b : Bool) → (a && b) ≡ true → a ≡ true
+      first a b e = grind arith
 
-      by_quiet : (b : Bool) → Each Admits (if b then map (λ g. event.Resend segment (Some g)) (awaiting w.coord segment) else [])
+      some-there : Each Admits (map (λ g. event.Resend segment (Some g)) (filter (is_due w segment) (drawn w.coord)))
+      some-there =
+          each_map Admits (λ g. event.Resend segment (Some g)) (filter (is_due w segment) (drawn w.coord))
+          (each-passing (λ g. Admits (event.Resend segment (Some g))) (is_due w segment) (drawn w.coord) (each-every (λ g. is_due w segment g ≡ true → Admits (event.Resend segment (Some g))) (λ g e. first _ _ e) (drawn w.coord)))
+
+      by_quiet : (b : Bool) → Each Admits (if b then map (λ g. event.Resend segment (Some g)) (filter (is_due w segment) (drawn w.coord)) else [])
       by_quiet true = some-there
       by_quiet false = tt
 
@@ -247,6 +340,18 @@ module _ (script : Script) (some : 1 ≤ script.segments) (es : List (Event × B
   lines-admitted xs [] e = tt
   lines-admitted xs (l ∷ ls) e = (λ next. start-admitted xs l ls e next, lines-admitted (xs ++ l ∷ []) ls (e ∙ sym (append_assoc xs (l ∷ []) ls)))
 
+  abbrev receipts-now : List Event
+  receipts-now = flat_map (λ segment. first_of (left_on script w.steps segment the_coordinator)) (segments_of script)
+
+  abbrev at-segments : List Event
+  at-segments = flat_map (at_segment_by script w) (segments_of script)
+
+  abbrev resumes-now : List Event
+  resumes-now = resumes_by w.coord the_coordinator w.coord.locks
+
+  abbrev again-now : List Event
+  again-now = flat_map (resends_due script w) (segments_of script)
+
   starts-admitted : Each Admits (starts_by script w.coord)
   starts-admitted = each_map Admits (λ (l : Line). event.Start l.session) (filter (is_next_by w.coord) script.lines) (each-passing (λ (l : Line). Admits (event.Start l.session)) (is_next_by w.coord) script.lines (lines-admitted [] script.lines refl))
 
@@ -255,25 +360,46 @@ module _ (script : Script) (some : 1 ≤ script.segments) (es : List (Event × B
       each_map Admits event.End (filter (λ s. coord_can script w.coord (here.End s)) (sessions_of script))
       (each-passing (λ s. Admits (event.End s)) (λ s. coord_can script w.coord (here.End s)) (sessions_of script) (each-every (λ s. coord_can script w.coord (here.End s) ≡ true → Admits (event.End s)) (λ s e. e) (sessions_of script)))
 
-  each-admitted : Each Admits (enabled_by script w)
+  -- all but a round, which no node admits yet
+  abbrev IsTaken : Event → Type 0
+  IsTaken e = (is_round e || can script w e) ≡ true
+
+  taken : (e : Event) → Admits e → IsTaken e
+  taken e f = right (is_round e) (can script w e) f
+    where
+      right : (a b : Bool) → b ≡ true → (a || b) ≡ true
+      right a b e = grind arith
+
+  pub each-admitted : Each Admits (receipts-now ++ at-segments ++ resumes-now ++ again-now ++ starts_by script w.coord ++ ends_by script w.coord)
   each-admitted =
       each_append Admits _ (ends_by script w.coord)
       (each_append Admits _ (starts_by script w.coord)
-      (each_append Admits _ (flat_map (resends_by script w) (segments_of script))
-      (each_append Admits receipts there
+      (each_append Admits _ again-now
+      (each_append Admits _ resumes-now
+      (each_append Admits receipts-now at-segments
       (each_flat Admits _ (segments_of script) (each_weaker (λ (i : Node). is_segment script i ≡ true) _ (λ i s. each-first Admits _ (left-admitted i the_coordinator (λ n l h. receipt-admitted i the_coordinator n (s, refl) l h))) (segments_of script) all-segments))
-      (each_flat Admits _ (segments_of script) (each_weaker (λ (i : Node). is_segment script i ≡ true) _ (λ i s. each-first Admits _ (left-admitted the_coordinator i (λ n l h. delivery-admitted the_coordinator i n s l h))) (segments_of script) all-segments)))
-      (each_flat Admits (resends_by script w) (segments_of script) (each-every (λ (i : Node). Each Admits (resends_by script w i)) again-admitted (segments_of script))))
+      (each_flat Admits _ (segments_of script)
+      (each_weaker (λ (i : Node). is_segment script i ≡ true) _
+      (λ i s. each-first Admits _ (each_append Admits _ _ (resumption-admitted i (w.segs i.0).locks (resumption-there i s)) (each-first Admits _ (left-admitted the_coordinator i (λ n l h. delivery-admitted the_coordinator i n s l h)))))
+      (segments_of script) all-segments)))
+      (resumption-admitted the_coordinator w.coord.locks (λ g ok. ok)))
+      (each_flat Admits (resends_due script w) (segments_of script) (each-every (λ (i : Node). Each Admits (resends_due script w i)) again-admitted (segments_of script))))
       starts-admitted) ends-admitted
+
+  pub all-but-rounds : list_all (λ e. is_round e || can script (world_of script es) e) (enabled script (world_of script es).steps) ≡ true
+  all-but-rounds = ap (list_all (λ e. is_round e || can script w e)) enabled-there ∙ all-each (λ e. is_round e || can script w e) (enabled_there script w) (each_append IsTaken _ (rounds_by script w) (each_weaker Admits IsTaken taken _ each-admitted) (by_test (script.detector && is_anybody_waiting script w)))
     where
-      receipts : List Event
-      receipts = flat_map (λ segment. first_of (left_on script (world_of script es).steps segment the_coordinator)) (segments_of script)
+      by_test : (b : Bool) → Each IsTaken (if b then event.Round ∷ [] else [])
+      by_test true = (refl, tt)
+      by_test false = tt
 
-      there : List Event
-      there = flat_map (λ segment. first_of (left_on script (world_of script es).steps the_coordinator segment)) (segments_of script)
-
-  pub all-admitted : list_all (can script (world_of script es)) (enabled_by script (world_of script es)) ≡ true
-  all-admitted = all-each (can script w) (enabled_by script w) each-admitted
+  -- and all where the script has no detector
+  pub all-admitted : script.detector ≡ false → list_all (can script (world_of script es)) (enabled script (world_of script es).steps) ≡ true
+  all-admitted off = ap (list_all (can script w)) enabled-there ∙ all-each (can script w) (enabled_there script w) (each_append Admits _ (rounds_by script w) each-admitted (by_test script.detector off))
+    where
+      by_test : (b : Bool) → b ≡ false → Each Admits (if b && is_anybody_waiting script w then event.Round ∷ [] else [])
+      by_test true e = absurd (cc)
+      by_test false e = tt
 
   -- who wasn't drawn
   among : (a n g : ℕ) → a ≤ g → g < a + n → list_any (λ h. is_same_gxid h (record { 0 = g })) (map (λ k. let h : Gxid = record { 0 = k } in h) (range_with_len a n)) ≡ true

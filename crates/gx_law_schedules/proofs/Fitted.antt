@@ -3,6 +3,7 @@ use Rattle.std.proofs.Common.{◌≡◌, ◌≤◌, ◌⊎◌, inl, inr, ℕ, �
 use Rattle.std.proofs.lemmas.Bool.Decides.{nat_tests}
 use Rattle.std.specs.Prelude.{nat_le}
 use Rattle.gx_ids.specs.declared.ids.Cid.{Cid}
+use Rattle.gx_ids.specs.declared.ids.Gxid.{Gxid}
 use Rattle.gx_ids.specs.declared.ids.Node.{Node}
 use Rattle.gx_tree.specs.declared.stmt.Stmt.{Stmt}
 use Rattle.gx_msg.specs.declared.message.Envelope.{Envelope}
@@ -22,11 +23,11 @@ use Rattle.gx_store.specs.Points.{marks_in}
 use Rattle.gx_store.specs.Refusals.{the_coordinator}
 use Rattle.gx_rules.specs.AtCoordinator.{coord_can, coord_rule, on_event}
 use Rattle.gx_rules.specs.AtSegment as segment
-use Rattle.gx_rules.specs.AtSegment.{seg_rule}
+use Rattle.gx_rules.specs.AtSegment.{resumes, seg_rule}
 use Rattle.gx_rules.specs.Coordinators.{Command, Coord, CoordTurn}
 use Rattle.gx_rules.specs.Fits.{fits_part}
 use Rattle.gx_rules.specs.Machine.{Letter, World, coord_did, seg_did}
-use Rattle.gx_rules.specs.Segments.{Seg}
+use Rattle.gx_rules.specs.Segments.{Seg, local_of}
 use Rattle.gx_rules.specs.Sending.{clock_after}
 use Rattle.gx_law_order.proofs.AtCoordinators.{coord_stays}
 use Rattle.gx_law_order.proofs.AtSegments.{PlainAt, seg_stays}
@@ -35,6 +36,7 @@ use Rattle.gx_law_order.proofs.Lines.{undrawn}
 use Rattle.gx_law_order.proofs.Lists.{Each, each_append, each_weaker}
 use Rattle.gx_law_order.proofs.Ordered.{at-both}
 use Rattle.gx_law_order.proofs.Stages.{IsWhole}
+use Rattle.gx_law_order.proofs.Waiting.{GoesOn, each-among, going-out}
 use Rattle.gx_law_order.proofs.World.{Knows}
 use Rattle.gx_law_sessions.proofs.Sendings.{SentIs, each-posted, numbered-sent, plain-sent}
 use Rattle.gx_law_commit.specs.Pairs.{IsKept, IsVote, Pair}
@@ -45,7 +47,7 @@ use Rattle.gx_law_commit.proofs.Always.{each-zip}
 use Rattle.gx_law_commit.proofs.Dispatching.{IsLive}
 use Rattle.gx_law_commit.proofs.Everywhere.{Holds, parts_in}
 use Rattle.gx_law_schedules.proofs.Asking.{AreNeat}
-use Rattle.gx_law_schedules.proofs.Fitting.{IsPartless, KeptSo, LocalSo, RightFor, SaysSo, TurnSo, message-so}
+use Rattle.gx_law_schedules.proofs.Fitting.{IsPartless, KeptSo, LocalSo, RightFor, SaysSo, TurnSo, message-so, resume-so}
 use Rattle.gx_law_schedules.proofs.Parts.{IsFor}
 use Rattle.gx_law_schedules.proofs.Ordering.{IsNew, event-serves}
 use Rattle.gx_law_schedules.proofs.Serving.{AreFor, IsOld, OrdersServe, OutServes, Serves}
@@ -191,7 +193,7 @@ module _ (script : Script) (some : 1 ≤ script.segments) (w : World) (n : Knows
     next = coord_did w e (coord_rule script w.coord x fails)
 
     serves : Serves w.coord (IsNew w.coord) (on_event script w.coord x fails)
-    serves = event-serves script w.coord n.kept q.orders n.well.coordinator.locks neat x fails admitted
+    serves = event-serves script w.coord n.kept q.orders neat (going-out script w n) x fails admitted
 
     sent-so : (outs : List Out) → Each (λ (o : Out). OutServes turn.coord o.message) outs → Each (λ (o : Out). (number : ℕ) → LetterServes next.coord (record { from = the_coordinator; to = o.node; envelope = record { number = number; clock = clock_after w.coord.clock x; message = o.message } })) outs
     sent-so [] f = tt
@@ -228,13 +230,28 @@ module _ (script : Script) (some : 1 ≤ script.segments) (w : World) (n : Knows
         }
 
   -- A STEP OF A SEGMENT
-  module _ (from to : Node) (number : ℕ) (envelope : Envelope) (fails : Bool) (t : IsThere script w from to number envelope) (named : (w.segs to.0).node ≡ to) where
+  module _ (e : Event) (x : NodeEvent) (fails : Bool) (to : Node) (place : IsSegment script to) (named : (w.segs to.0).node ≡ to) where
     abbrev s : Seg
     s = w.segs to.0
 
-    abbrev there : NodeEvent
-    there = here.Deliver from envelope
+    told-so : (outs : List Out) → Each (λ (o : Out). SaysSo (Served w.coord) (partless w.coord) o.message) outs → Each (λ (o : Out). (number : ℕ) → LetterServes w.coord (record { from = to; to = o.node; envelope = record { number = number; clock = clock_after s.clock x; message = o.message } })) outs
+    told-so [] f = tt
+    told-so (o ∷ os) f = (λ number. (λ own. absurd (not-zero (subst (λ (y : Node). 1 ≤ y.0) own place.0)), λ one. f.0), told-so os f.1)
 
+    turn-served : TurnSo (Served w.coord) (partless w.coord) (segment.on_event script (w.segs to.0) x fails) → AreServed (seg_did w to e (seg_rule script (w.segs to.0) x fails))
+    turn-served so =
+        record {
+          orders = q.orders;
+          locals = λ i h. at-both (λ j (z : Seg). LocalSo (Served w.coord) (partless w.coord) h (z.locals h)) w.segs to.0 _ (so.locals h) (λ j no. q.locals j h) i;
+          letters = each-posted (LetterServes w.coord) to (clock_after s.clock x) _ w.sent
+              (each_append (SentIs (LetterServes w.coord) to (clock_after s.clock x)) _ _
+              (plain-sent (LetterServes w.coord) script to (clock_after s.clock x) _ (subst (λ y. Each (PlainAt script y) (segment.on_event script s x fails).marks) named (seg_stays script s (subst (IsSegment script) (sym named) place) x fails).marks))
+              (numbered-sent (LetterServes w.coord) to (clock_after s.clock x) _ _ (told-so _ so.outs)))
+              q.letters;
+        }
+
+  -- a message
+  module _ (from to : Node) (number : ℕ) (envelope : Envelope) (fails : Bool) (t : IsThere script w from to number envelope) (named : (w.segs to.0).node ≡ to) where
     right : (m : Message) → OutServes w.coord m → RightFor (Served w.coord) (partless w.coord) (w.segs to.0) (q.locals to.0) m
     right (message.Exec g k level y h slice) f = λ wrote count part is m e counted. f m e counted part is
     right (message.Prepare g) f = tt
@@ -252,18 +269,19 @@ module _ (script : Script) (some : 1 ≤ script.segments) (w : World) (n : Knows
         message-so (Served w.coord) (partless w.coord) (w.segs to.0) (q.locals to.0) script fails envelope.message
         (right envelope.message (subst (λ (y : Envelope). OutServes w.coord y.message) d.told (d.is.0 (d.source ∙ t.source))))
 
-    told-so : (outs : List Out) → Each (λ (o : Out). SaysSo (Served w.coord) (partless w.coord) o.message) outs → Each (λ (o : Out). (number : ℕ) → LetterServes w.coord (record { from = to; to = o.node; envelope = record { number = number; clock = clock_after s.clock there; message = o.message } })) outs
-    told-so [] f = tt
-    told-so (o ∷ os) f = (λ number. (λ own. absurd (not-zero (subst (λ (y : Node). 1 ≤ y.0) own t.place.0)), λ one. f.0), told-so os f.1)
-
     pub seg-served : AreServed (seg_did w to (event.Receive from to number) (seg_rule script (w.segs to.0) (here.Deliver from envelope) fails))
-    seg-served =
-        record {
-          orders = q.orders;
-          locals = λ i h. at-both (λ j (z : Seg). LocalSo (Served w.coord) (partless w.coord) h (z.locals h)) w.segs to.0 _ (so.locals h) (λ j no. q.locals j h) i;
-          letters = each-posted (LetterServes w.coord) to (clock_after s.clock there) _ w.sent
-              (each_append (SentIs (LetterServes w.coord) to (clock_after s.clock there)) _ _
-              (plain-sent (LetterServes w.coord) script to (clock_after s.clock there) _ (subst (λ y. Each (PlainAt script y) (segment.on_event script s there fails).marks) named (seg_stays script s (subst (IsSegment script) (sym named) t.place) there fails).marks))
-              (numbered-sent (LetterServes w.coord) to (clock_after s.clock there) _ _ (told-so _ so.outs)))
-              q.letters;
-        }
+    seg-served = turn-served (event.Receive from to number) (here.Deliver from envelope) fails to t.place named so
+
+  -- a slice that goes on, whose EXEC has come before
+  module _ (to : Node) (g : Gxid) (fails : Bool) (place : IsSegment script to) (named : (w.segs to.0).node ≡ to) (o : GoesOn script w to.0 g) where
+    of-exec : OutServes w.coord (message.Exec g o.slice.cid o.slice.level o.slice.snapshot o.waits.horizon o.slice.slice)
+    of-exec = subst (OutServes w.coord) o.waits.come.told ((each-among (LetterServes w.coord) w.sent o.waits.come.letter q.letters o.waits.come.among).0 o.waits.come.source)
+
+    resume-turn : TurnSo (Served w.coord) (partless w.coord) (segment.on_event script (w.segs to.0) (here.Resume g) fails)
+    resume-turn =
+        subst (λ y. TurnSo (Served w.coord) (partless w.coord) (resumes (w.segs to.0) g y (local_of (w.segs to.0) g).suspended)) (sym o.claims)
+        (subst (λ y. TurnSo (Served w.coord) (partless w.coord) (resumes (w.segs to.0) g (Some o.wanted) y)) (sym o.is)
+        (resume-so (Served w.coord) (partless w.coord) (w.segs to.0) (q.locals to.0) g o.wanted o.slice (λ wrote count part is m e counted. of-exec m e counted part is)))
+
+    pub resume-served : AreServed (seg_did w to (event.Resume to g) (seg_rule script (w.segs to.0) (here.Resume g) fails))
+    resume-served = turn-served (event.Resume to g) (here.Resume g) fails to place named resume-turn

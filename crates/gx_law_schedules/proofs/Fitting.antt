@@ -13,7 +13,7 @@ use Rattle.gx_tree.specs.declared.stmt.Level.{Level}
 use Rattle.gx_dsnap.specs.Gxids.{is_below}
 use Rattle.gx_dsnap.specs.declared.snapshot.Snapshot.{Snapshot}
 use Rattle.gx_waits.specs.declared.claim.Claim.{Claim}
-use Rattle.gx_locks.specs.Locks.{Locks, is_free}
+use Rattle.gx_locks.specs.Locks.{Locks, is_free, resumed}
 use Rattle.gx_meaning.specs.declared.fault.ArithFault.{ArithFault}
 use Rattle.gx_msg.specs.declared.item.JournalItem.{JournalItem}
 use Rattle.gx_msg.specs.declared.message.Message.{Message}
@@ -23,8 +23,8 @@ use Rattle.gx_msg.specs.declared.reply.Reply.TheVariants as reply
 use Rattle.gx_msg.specs.declared.message.Out.{Out}
 use Rattle.gx_script.specs.declared.Script.{Script}
 use Rattle.gx_store.specs.declared.mark.Mark.{Mark}
-use Rattle.gx_rules.specs.AtSegment.{changes, commits, ends, finishes, if_fits, on_abort, on_commit, on_commit_prepared, on_exec, on_forget, on_message, on_prepare, once, promises, raised, repeats, takes, unless_below, was_prepared}
-use Rattle.gx_rules.specs.Segments.{Local, Phase, Seg, SegTurn, local_of, stays, tells, tells_kept}
+use Rattle.gx_rules.specs.AtSegment.{changes, commits, ends, finishes, if_fits, on_abort, on_commit, on_commit_prepared, on_exec, on_forget, on_message, on_prepare, once, promises, raised, repeats, resumes, takes, unless_below, was_prepared}
+use Rattle.gx_rules.specs.Segments.{Local, Phase, Seg, SegTurn, Suspended, local_of, stays, tells, tells_kept, with_local}
 use Rattle.gx_rules.specs.Segments.Phase.{Aborted, Committed, Forgotten, Prepared, Reading, Writing}
 use Rattle.gx_rules.specs.Slices.{Moved, first_fault, inserted, inserts, inserts_row, runs_slice, selects, requests, slice_lock}
 use Rattle.gx_rules.specs.Shown.{shown}
@@ -94,7 +94,7 @@ module _ (P : ℕ → Reply → Type 0) (partless : (g : ℕ) (r : Reply) → Is
 
       -- a segment with another horizon or other locks
       abbrev raised_with : Gxid → Locks → Seg
-      raised_with h locks = record (raised s h) { locks = locks }
+      raised_with h locks = record s { horizon = h; locks = locks }
 
       select : (h : Gxid) (locks : Locks) (q : Query) (rows : List KeyedRow) (f : Option (KeyedRow × ArithFault)) → x ≡ slice.Select q → TurnSo (selects (raised_with h locks) g c q rows f)
       select h locks q rows None e = answered (raised_with h locks) [] _ so (right _ 0 (part_of q (filter (keeps q.cond) rows)) (ap (λ (y : Slice). is_right_part y (part_of q (filter (keeps q.cond) rows))) e ∙ part-right q (filter (keeps q.cond) rows)))
@@ -113,11 +113,11 @@ module _ (P : ℕ → Reply → Type 0) (partless : (g : ℕ) (r : Reply) → Is
       slice-runs h locks snapshot y e = record { locals = so; outs = tt }
 
       starts : (level : Level) (snapshot : Option Snapshot) (h : Gxid) (o : Option Claim) → TurnSo (requests (raised s h) g c level snapshot x o)
-      starts level snapshot h None = slice-runs h s.locks snapshot x refl
+      starts level snapshot h None = slice-runs (raised s h).horizon s.locks snapshot x refl
       starts level snapshot h (Some wanted) = both (is_free s.locks.holds wanted) _ _ (record { locals = run.locals; outs = run.outs }) (record { locals = with-so s.locals so g.0 _ (record { answer = tt; vote = (so g.0).vote }); outs = tt })
         where
-          run : TurnSo (runs_slice (raised_with h (with_hold s.locks wanted)) g c snapshot x)
-          run = slice-runs h (with_hold s.locks wanted) snapshot x refl
+          run : TurnSo (runs_slice (raised_with (raised s h).horizon (with_hold s.locks wanted)) g c snapshot x)
+          run = slice-runs (raised s h).horizon (with_hold s.locks wanted) snapshot x refl
 
       take : (level : Level) (snapshot : Option Snapshot) (h : Gxid) → TurnSo (takes s g c level snapshot h x (local_of s g))
       take level snapshot h = both (nat_lt (local_of s g).last c.0) _ _ (starts level snapshot h (slice_lock g x)) (repeat g c)
@@ -220,3 +220,14 @@ module _ (P : ℕ → Reply → Type 0) (partless : (g : ℕ) (r : Reply) → Is
     message-so script fails (message.Collect round) r = stay
     message-so script fails (message.Answer g a) r = stay
     message-so script fails (message.Graph round graph) r = stay
+
+  -- A SLICE THAT HAS WAITED
+  -- an answer to it
+  abbrev pub RightOf : Gxid → Suspended → Type 0
+  RightOf g x = (wrote : Bool) (count : ℕ) (part : Rattle.gx_tree.specs.declared.part.Part.Part) → is_right_part x.slice part ≡ true → P g.0 (reply.Done x.cid wrote count part)
+
+  pub resume-so : (s : Seg) → ((h : ℕ) → LocalSo h (s.locals h)) → (g : Gxid) (wanted : Claim) (x : Suspended) → RightOf g x → TurnSo (resumes s g (Some wanted) (Some x))
+  resume-so s so g wanted x right =
+      let t : Seg = with_local s g (record (local_of s g) { suspended = None }) in
+      let run = slice-runs t (with-so s so s.locals so g.0 (record (local_of s g) { suspended = None }) (record { answer = (so g.0).answer; vote = (so g.0).vote })) g x.cid x.slice right s.horizon (resumed s.locks g (Some wanted)) x.snapshot x.slice refl in
+      record { locals = run.locals; outs = run.outs }

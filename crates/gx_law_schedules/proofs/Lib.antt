@@ -6,7 +6,6 @@ pub mod Steps
 pub mod Quiet
 pub mod QuietSegs
 pub mod Room
-pub mod Waits
 pub mod Told
 pub mod Neat
 pub mod Asking
@@ -18,5 +17,12 @@ pub mod Fitting
 pub mod Serving
 pub mod Ordering
 pub mod Fitted
+pub mod Standing
+pub mod Released
+pub mod LocksHere
+pub mod LocksThere
+pub mod Marked
 pub mod Awaited
+pub mod Waits
 pub mod Enabled
+pub mod Nobody

@@ -40,13 +40,14 @@ use Rattle.gx_law_order.proofs.Sessions.{Kept, is_nothing_in, is_open_in}
 use Rattle.gx_law_order.proofs.Stages.{gx}
 use Rattle.gx_law_commit.proofs.Dispatching.{IsLive}
 use Rattle.gx_law_commit.proofs.Events.{live-stage}
-use Rattle.gx_law_schedules.proofs.Asking.{self}
+use Rattle.gx_law_schedules.proofs.Asking.{self, with_waiting}
 use Rattle.gx_law_schedules.proofs.Neat.{IsExecOf, Neat, NeatCommand}
 use Rattle.gx_law_schedules.proofs.Parts.{IsFor, PlanFor, plan-for}
 use Rattle.gx_law_schedules.proofs.Serving.{AnyServes, AreFor, ForOut, IsFresh, IsOld, OrdersServe, OutServes, Serves, again, commit, no-command, old-same, order-status, received, refused, rest-serves, rolled, same, serves-map, some-same}
-use Rattle.gx_rules.specs.Locks.{with_hold}
+use Rattle.gx_rules.specs.Locks.{with_hold, with_wait}
+use Rattle.gx_locks.specs.Locks.{Locks, is_free, resumed, wait_of}
 use Rattle.gx_waits.specs.declared.claim.Claim.{Claim}
-use Rattle.gx_law_order.proofs.Calm.{AreCalm, calm-free, lock-calm, nobody-waits}
+use Rattle.gx_law_order.proofs.Waiting.{GoesOut}
 
 module _ (g : ℕ) (last : ℕ) where
   abbrev pub FreshAt : ℕ → Command → Type 0
@@ -132,24 +133,46 @@ module _ (g : ℕ) (last : ℕ) where
         goes-serves (next_cid (c.works g)) line _ (plan_of script.segments (dist_of script.tables (table_of line)) (gx g) (next_cid (c.works g)) line) (ap (λ n. n + 1) e) (for-serve (next_cid (c.works g)) line)
         (plan-for script.segments (dist_of script.tables (table_of line)) (gx g) (next_cid (c.works g)) line)
 
+  -- IT WAITS, OR HAS WAITED
+  module _ (c : Coord) where
+    old-waiting : (locks : Locks) (line : Option Stmt) (h : ℕ) (m : Command) → IsOld (with_waiting c g locks line) h m → IsOld c h m
+    old-waiting locks line h m o = record { was = o.was; is = by (eqb h g) refl o.is; line = o.line; counted = o.counted; orders = o.orders }
+      where
+        by : (b : Bool) → eqb h g ≡ b → (if b then record (c.works g) { waiting = line } else c.works h).command ≡ Some o.was → (c.works h).command ≡ Some o.was
+        by true q e = ap (λ k. (c.works k).command) (eqb-true h g q) ∙ e
+        by false q e = e
+
   -- WITH ITS TABLE'S LOCK
-  module _ (c : Coord) (calm : AreCalm c.locks) (script : Script) (line : Stmt) (e : (c.works g).last ≡ last) where
-    request-serves : (o : Option Claim) → lock_for (gx g) line ≡ o → Serves c FreshAt (requests script c (gx g) line o)
-    request-serves None q = locked-serves c script line e
-    request-serves (Some wanted) q =
+  module _ (c : Coord) (script : Script) (line : Stmt) (e : (c.works g).last ≡ last) where
+    granted-serves : (wanted : Claim) (b : Bool) → Serves c FreshAt (if_granted script c (gx g) line wanted b)
+    granted-serves wanted true =
         let d : Coord = record c { locks = with_hold c.locks wanted } in
         let x = serves-map c d FreshAt FreshAt (goes_on_locked script d (gx g) line) (λ h m o. record { was = o.was; is = o.is; line = o.line; counted = o.counted; orders = o.orders }) (λ h m f. f) (locked-serves d script line e) in
-        subst (λ b. Serves c FreshAt (if_granted script c (gx g) line wanted b)) (sym (calm-free c.locks wanted calm (lock-calm (gx g) line wanted q))) (record { commands = x.commands; outs = x.outs })
+        record { commands = x.commands; outs = x.outs }
+    granted-serves wanted false = record { commands = λ h m q. inl (old-waiting c (with_wait c.locks wanted) (Some line) h m (old-same (with_waiting c g (with_wait c.locks wanted) (Some line)) h m q)); outs = tt }
+
+    request-serves : (o : Option Claim) → Serves c FreshAt (requests script c (gx g) line o)
+    request-serves None = locked-serves c script line e
+    request-serves (Some wanted) = granted-serves wanted (is_free c.locks.holds wanted)
 
     pub dispatch-serves : Serves c FreshAt (dispatches script c (gx g) line)
-    dispatch-serves = request-serves (lock_for (gx g) line) refl
+    dispatch-serves = request-serves (lock_for (gx g) line)
+
+    -- behind a wait
+    pub resume-serves : (wanted : Claim) → Serves c FreshAt (resumes script c (gx g) (Some wanted) (Some line))
+    resume-serves wanted =
+        let locks : Locks = resumed c.locks (gx g) (Some wanted) in
+        let d : Coord = with_waiting c g locks None in
+        let x = serves-map c d FreshAt FreshAt (goes_on_locked script d (gx g) line) (old-waiting c locks None) (λ h m f. f)
+        (locked-serves d script line (ap (λ (b : Bool). (if b then record (c.works g) { waiting = None } else c.works g).last) (self g) ∙ e)) in
+        record { commands = x.commands; outs = x.outs }
 
 -- ALL EVENTS
 -- a command that goes out is the next of a transaction that runs, or the first of one that begins
 abbrev pub IsNew : Coord → ℕ → Command → Type 0
 IsNew c h m = ((IsLive c h × IsFresh (c.works h).last m) ⊎ ((h ≡ c.table.next.0) × IsFresh 0 m))
 
-module _ (script : Script) (c : Coord) (k : Kept c) (own : OrdersServe c) (calm : AreCalm c.locks) where
+module _ (script : Script) (c : Coord) (k : Kept c) (own : OrdersServe c) where
   abbrev Done : CoordTurn → Type 0
   Done turn = Serves c (IsNew c) turn
 
@@ -182,7 +205,7 @@ module _ (script : Script) (c : Coord) (k : Kept c) (own : OrdersServe c) (calm 
     alone-serves line =
         let d : Coord = begins (starts_line c s (step.Command true)) s ReadCommitted in
         let f = serves-map c d (FreshAt c.table.next.0 0) (IsNew c) (dispatches script d c.table.next line) (old-begun (step.Command true) ReadCommitted) (λ h m x. inr x)
-        (dispatch-serves c.table.next.0 0 d calm script line (ap (λ b. (if b then new_work s ReadCommitted else c.works c.table.next.0).last) (self c.table.next.0))) in
+        (dispatch-serves c.table.next.0 0 d script line (ap (λ b. (if b then new_work s ReadCommitted else c.works c.table.next.0).last) (self c.table.next.0))) in
         record { commands = f.commands; outs = f.outs }
 
     inside-serves : (line : Stmt) → is_open_in block ≡ true → Done (dispatches script (starts_line c s (step.Command false)) (session_of (starts_line c s (step.Command false)) s).transaction line)
@@ -192,7 +215,7 @@ module _ (script : Script) (c : Coord) (k : Kept c) (own : OrdersServe c) (calm 
         subst (λ x. Done (dispatches script (starts_line c s (step.Command false)) x line)) (sym (transaction-now (step.Command false)))
         (same-base (step.Command false) _
         (serves-map (starts_line c s (step.Command false)) (starts_line c s (step.Command false)) (FreshAt g (c.works g).last) (IsNew c) _ (λ h m o. o) (λ h m x. inl (subst (λ y. IsLive c y × IsFresh (c.works y).last m) (sym x.0) (l, x.1)))
-        (dispatch-serves g (c.works g).last (starts_line c s (step.Command false)) calm script line refl)))
+        (dispatch-serves g (c.works g).last (starts_line c s (step.Command false)) script line refl)))
 
     line-serves : (line : Stmt) (asked : LineStep) → Admits block asked → Done (on_line script (starts_line c s asked) s line asked)
     line-serves line (step.Answer plain) a = same (IsNew c) c _ (λ h. refl) tt
@@ -270,11 +293,19 @@ module _ (script : Script) (c : Coord) (k : Kept c) (own : OrdersServe c) (calm 
         plain : (q : Pending) → is_nothing q ≡ true → is_nothing_in q ≡ true
         plain q e = grind arith
 
-    pub event-serves : (x : NodeEvent) (fails : Bool) → coord_can script c x ≡ true → Done (on_event script c x fails)
-    event-serves (event.Deliver from envelope) fails e = received (IsNew c) c from fails envelope.message
-    event-serves (event.Start s) fails e = start-serves s (idle-first s _ e) (next_line script c s)
-    event-serves (event.End s) fails e = end-serves s (session_of c s).state.block
-    event-serves (event.Resend i (Some g)) fails e = again (IsNew c) c own i (awaited c g i) (resent g.0 i)
-    event-serves (event.Resend i None) fails e = rest-serves (IsNew c) c
-    event-serves (event.Resume g) fails e = subst (λ o. Done (resumes script c g o (c.works g.0).waiting)) (sym (nobody-waits c.locks g calm)) (rest-serves (IsNew c) c)
-    event-serves event.Round fails e = rest-serves (IsNew c) c
+    -- a statement that has waited goes out
+    goes-out-serves : (g : Gxid) → GoesOut c g → Done (resumes script c g (wait_of c.locks g) (c.works g.0).waiting)
+    goes-out-serves g o =
+        subst (λ w. Done (resumes script c g w (c.works g.0).waiting)) (sym o.claims)
+        (subst (λ l. Done (resumes script c g (Some o.wanted) l)) (sym o.is)
+        (serves-map c c (FreshAt g.0 (c.works g.0).last) (IsNew c) _ (λ h m y. y) (λ h m x. inl (subst (λ y. IsLive c y × IsFresh (c.works y).last m) (sym x.0) (live-stage c g.0 o.live, x.1)))
+        (resume-serves g.0 (c.works g.0).last c script o.line refl o.wanted)))
+
+    pub event-serves : ((g : Gxid) → coord_can script c (event.Resume g) ≡ true → GoesOut c g) → (x : NodeEvent) (fails : Bool) → coord_can script c x ≡ true → Done (on_event script c x fails)
+    event-serves out (event.Deliver from envelope) fails e = received (IsNew c) c from fails envelope.message
+    event-serves out (event.Start s) fails e = start-serves s (idle-first s _ e) (next_line script c s)
+    event-serves out (event.End s) fails e = end-serves s (session_of c s).state.block
+    event-serves out (event.Resend i (Some g)) fails e = again (IsNew c) c own i (awaited c g i) (resent g.0 i)
+    event-serves out (event.Resend i None) fails e = rest-serves (IsNew c) c
+    event-serves out (event.Resume g) fails e = goes-out-serves g (out g e)
+    event-serves out event.Round fails e = rest-serves (IsNew c) c

@@ -1,9 +1,8 @@
--- A segment sends one message at most in a turn, and marks no lock and no round.
-use Rattle.std.proofs.Common.{◌≤◌, ℕ, List, [], ◌∷◌, Option, Some, None, Bool, true, false, not, nat_lt, ◌==◌, if◌then◌else◌, arith}
-use Rattle.std.specs.Prelude.{fold, length}
+-- A segment sends one message at most in a turn.
+use Rattle.std.proofs.Common.{◌≤◌, ℕ, List, Option, Some, None, Bool, true, false, not, nat_lt, ◌==◌, if◌then◌else◌, arith}
+use Rattle.std.specs.Prelude.{length}
 use Rattle.gx_ids.specs.declared.ids.Cid.{Cid}
 use Rattle.gx_ids.specs.declared.ids.Gxid.{Gxid}
-use Rattle.gx_ids.specs.declared.ids.Table.{Table}
 use Rattle.gx_tree.specs.declared.query.Query.{Query}
 use Rattle.gx_tree.specs.declared.row.KeyedRow.{KeyedRow}
 use Rattle.gx_tree.specs.declared.slice.Slice.{Slice}
@@ -18,20 +17,17 @@ use Rattle.gx_msg.specs.declared.reply.Reply.{Reply}
 use Rattle.gx_script.specs.declared.Script.{Script}
 use Rattle.gx_store.specs.declared.node.NodeEvent.{NodeEvent}
 use Rattle.gx_store.specs.declared.node.NodeEvent.TheVariants as event
-use Rattle.gx_rules.specs.AtSegment.{ends, commits, finishes, if_fits, on_abort, on_commit, on_commit_prepared, on_event, on_exec, on_forget, on_message, on_prepare, once, promises, raised, repeats, takes, unless_below, was_prepared}
-use Rattle.gx_rules.specs.Segments.{Local, Phase, Seg, SegTurn, local_of, stays, tells, tells_kept}
+use Rattle.gx_rules.specs.AtSegment.{ends, commits, finishes, if_fits, on_abort, on_commit, on_commit_prepared, on_event, on_exec, on_forget, on_message, on_prepare, once, promises, raised, repeats, resumes, takes, unless_below, was_prepared}
+use Rattle.gx_rules.specs.Segments.{Local, Phase, Seg, SegTurn, Suspended, local_of, stays, tells, tells_kept, with_local}
 use Rattle.gx_rules.specs.Segments.Phase.{Aborted, Committed, Forgotten, Prepared, Reading, Writing}
-use Rattle.gx_rules.specs.Slices.{Moved, first_fault, inserted, inserts, inserts_row, runs_slice, selects, starts_slice}
+use Rattle.gx_rules.specs.Slices.{Moved, first_fault, inserted, inserts, requests, runs_locked, runs_slice, selects, slice_lock, suspends}
 use Rattle.gx_rules.specs.Shown.{shown}
 use Rattle.gx_rules.specs.Fits.{fits_exec, is_waiting}
 use Rattle.gx_rules.specs.Locks.{with_hold}
-use Rattle.gx_law_order.proofs.Lists.{Each, each_append}
-use Rattle.gx_law_order.proofs.Calm.{AreCalm, each-released}
-use Rattle.gx_law_order.proofs.CalmSegs.{IsCalm as Quiet, resumes-calm, starts-calm}
-use Rattle.gx_law_schedules.proofs.Quiet.{IsCalm}
+use Rattle.gx_waits.specs.declared.claim.Claim.{Claim}
+use Rattle.gx_locks.specs.Locks.{is_free, resumed, wait_of}
 
 pub record IsStill (turn : SegTurn) : Type 0 where
-  pub marks : Each IsCalm turn.marks
   pub outs : length turn.outs ≤ 1
 
 none-sent : 0 ≤ 1
@@ -40,12 +36,12 @@ none-sent = omega arith
 one-sent : 1 ≤ 1
 one-sent = omega arith
 
-module _ (script : Script) (s : Seg) (quiet : Quiet s) where
+module _ (script : Script) (s : Seg) where
   stay : IsStill (stays s)
-  stay = record { marks = tt; outs = none-sent }
+  stay = record { outs = none-sent }
 
   tell : (g : Gxid) (r : Reply) → IsStill (tells s g r)
-  tell g r = record { marks = tt; outs = one-sent }
+  tell g r = record { outs = one-sent }
 
   kept : (g : Gxid) (r : Option Reply) → IsStill (tells_kept s g r)
   kept g None = stay
@@ -53,35 +49,35 @@ module _ (script : Script) (s : Seg) (quiet : Quiet s) where
 
   -- slices of any segment
   select : (t : Seg) (g : Gxid) (c : Cid) (q : Query) (rows : List KeyedRow) (f : Option (KeyedRow × ArithFault)) → IsStill (selects t g c q rows f)
-  select t g c q rows None = record { marks = tt; outs = one-sent }
-  select t g c q rows (Some f) = record { marks = (tt, tt); outs = one-sent }
+  select t g c q rows None = record { outs = one-sent }
+  select t g c q rows (Some f) = record { outs = one-sent }
 
-  insert_rows : (g : Gxid) (c : Cid) (table : Table) (rows : List KeyedRow) (m : Moved) → Each IsCalm m.marks → Each IsCalm (fold (inserts_row g c table) m rows).marks
-  insert_rows g c table [] m f = f
-  insert_rows g c table (r ∷ rs) m f = insert_rows g c table rs (inserts_row g c table m r) (each_append IsCalm m.marks _ f (tt, tt))
-
-  insert : (g : Gxid) (c : Cid) (count : ℕ) (m : Moved) → Each IsCalm m.marks → IsStill (inserts g c count m)
-  insert g c count m f = record { marks = f; outs = one-sent }
+  insert : (g : Gxid) (c : Cid) (count : ℕ) (m : Moved) → IsStill (inserts g c count m)
+  insert g c count m = record { outs = one-sent }
 
   slice_runs : (t : Seg) (g : Gxid) (c : Cid) (snapshot : Option Snapshot) (x : Slice) → IsStill (runs_slice t g c snapshot x)
   slice_runs t g c (Some snapshot) (slice.Select q) = select t g c q (shown t snapshot g c q.table) (first_fault q.cond (shown t snapshot g c q.table))
-  slice_runs t g c (Some snapshot) (slice.Insert table rows) = insert g c (length rows) (inserted t g c table rows) (insert_rows g c table rows (record { seg = t; marks = [] }) tt)
-  slice_runs t g c snapshot x = record { marks = tt; outs = none-sent }
-
-  starts : (t : Seg) → AreCalm t.locks → (g : Gxid) (c : Cid) (level : Level) (snapshot : Option Snapshot) (x : Slice) → IsStill (starts_slice t g c level snapshot x)
-  starts t calm g c level snapshot x =
-      starts-calm IsStill t calm g c level snapshot x
-      (λ wanted. let run = slice_runs (record t { locks = with_hold t.locks wanted }) g c snapshot x in record { marks = (tt, run.marks); outs = run.outs }) (slice_runs t g c snapshot x)
+  slice_runs t g c (Some snapshot) (slice.Insert table rows) = insert g c (length rows) (inserted t g c table rows)
+  slice_runs t g c snapshot x = record { outs = none-sent }
 
   both : (b : Bool) (x y : SegTurn) → IsStill x → IsStill y → IsStill (if b then x else y)
   both true x y e f = e
   both false x y e f = f
 
+  -- with its lock, or waiting for it
+  request : (t : Seg) (g : Gxid) (c : Cid) (level : Level) (snapshot : Option Snapshot) (x : Slice) (o : Option Claim) → IsStill (requests t g c level snapshot x o)
+  request t g c level snapshot x None = slice_runs t g c snapshot x
+  request t g c level snapshot x (Some wanted) = by_test (is_free t.locks.holds wanted)
+    where
+      by_test : (b : Bool) → IsStill (if b then runs_locked t g c snapshot x wanted else suspends t g c level snapshot x wanted)
+      by_test true = let run = slice_runs (record t { locks = with_hold t.locks wanted }) g c snapshot x in record { outs = run.outs }
+      by_test false = record { outs = none-sent }
+
   repeat : (g : Gxid) (c : Cid) (l : Local) → IsStill (repeats s g c l)
   repeat g c l = both (c.0 == l.last) _ _ (kept g l.answer) stay
 
   take : (g : Gxid) (c : Cid) (level : Level) (snapshot : Option Snapshot) (h : Gxid) (x : Slice) (l : Local) → IsStill (takes s g c level snapshot h x l)
-  take g c level snapshot h x l = both (nat_lt l.last c.0) _ _ (starts (raised s h) quiet.locks g c level snapshot x) (repeat g c l)
+  take g c level snapshot h x l = both (nat_lt l.last c.0) _ _ (request (raised s h) g c level snapshot x (slice_lock g x)) (repeat g c l)
 
   exec : (g : Gxid) (c : Cid) (level : Level) (snapshot : Option Snapshot) (h : Gxid) (x : Slice) (l : Local) (p : Phase) → IsStill (on_exec s g c level snapshot h x l p)
   exec g c level snapshot h x l Reading = take g c level snapshot h x l
@@ -96,8 +92,8 @@ module _ (script : Script) (s : Seg) (quiet : Quiet s) where
   only g (Some v) turn e = tell g v
 
   promise : (g : Gxid) (fails : Bool) (l : Local) → IsStill (promises s g fails l)
-  promise g true l = record { marks = (tt, tt); outs = one-sent }
-  promise g false l = record { marks = (tt, tt); outs = one-sent }
+  promise g true l = record { outs = one-sent }
+  promise g false l = record { outs = one-sent }
 
   prepare : (g : Gxid) (fails : Bool) (l : Local) (p : Phase) → IsStill (on_prepare s g fails l p)
   prepare g fails l Reading = only g l.vote _ (promise g fails l)
@@ -108,8 +104,8 @@ module _ (script : Script) (s : Seg) (quiet : Quiet s) where
   prepare g fails l Aborted = stay
 
   commit_one : (g : Gxid) (fails : Bool) (l : Local) → IsStill (commits s g fails l)
-  commit_one g true l = record { marks = (tt, tt); outs = one-sent }
-  commit_one g false l = record { marks = (tt, tt); outs = one-sent }
+  commit_one g true l = record { outs = one-sent }
+  commit_one g false l = record { outs = one-sent }
 
   commit : (g : Gxid) (fails : Bool) (l : Local) (p : Phase) → IsStill (on_commit s g fails l p)
   commit g fails l Reading = only g l.vote _ (commit_one g fails l)
@@ -120,8 +116,8 @@ module _ (script : Script) (s : Seg) (quiet : Quiet s) where
   commit g fails l Aborted = stay
 
   finish : (g : Gxid) (fails : Bool) (l : Local) → IsStill (finishes s g fails l)
-  finish g true l = record { marks = (tt, tt); outs = one-sent }
-  finish g false l = record { marks = (tt, tt); outs = one-sent }
+  finish g true l = record { outs = one-sent }
+  finish g false l = record { outs = one-sent }
 
   commit_prepared : (g : Gxid) (fails : Bool) (l : Local) (p : Phase) → IsStill (on_commit_prepared s g fails l p)
   commit_prepared g fails l Reading = stay
@@ -133,7 +129,7 @@ module _ (script : Script) (s : Seg) (quiet : Quiet s) where
   commit_prepared g fails l Aborted = stay
 
   ended : (g : Gxid) (l : Local) (p : Phase) (r : Reply) → IsStill (ends s g l p r)
-  ended g l p r = record { marks = each-released IsCalm s.node s.locks g (λ claim. tt); outs = one-sent }
+  ended g l p r = record { outs = one-sent }
 
   abort : (g : Gxid) (l : Local) (p : Phase) → IsStill (on_abort s g l p)
   abort g l Reading = ended g l _ _
@@ -169,9 +165,14 @@ module _ (script : Script) (s : Seg) (quiet : Quiet s) where
   message_still fails (message.Answer g r) = stay
   message_still fails (message.Graph round graph) = stay
 
+  resume : (g : Gxid) (o : Option Claim) (x : Option Suspended) → IsStill (resumes s g o x)
+  resume g (Some wanted) (Some x) = let run = slice_runs (record (with_local s g (record (local_of s g) { suspended = None })) { locks = resumed s.locks g (Some wanted) }) g x.cid x.snapshot x.slice in record { outs = run.outs }
+  resume g (Some wanted) None = stay
+  resume g None x = stay
+
   pub seg-still : (e : NodeEvent) (fails : Bool) → IsStill (on_event script s e fails)
   seg-still (event.Deliver from envelope) fails = message_still fails envelope.message
-  seg-still (event.Resume g) fails = resumes-calm IsStill s g quiet stay
+  seg-still (event.Resume g) fails = resume g (wait_of s.locks g) (local_of s g).suspended
   seg-still (event.Start x) fails = stay
   seg-still (event.End x) fails = stay
   seg-still (event.Resend i g) fails = stay

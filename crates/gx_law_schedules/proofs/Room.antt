@@ -1,4 +1,4 @@
--- Over every run: clocks, numbers of messages and gxids stay below the number of steps, and no wait and no round is marked.
+-- Over every run: clocks, numbers of messages and gxids stay below the number of steps, and no round begins.
 use Rattle.std.proofs.Common.{◌≡◌, ◌≤◌, ℕ, suc, ◌+◌, List, [], ◌∷◌, ◌++◌, Some, Bool, true, false, refl, sym, subst, ap, ◌∙◌, arith, length}
 use Rattle.std.proofs.lemmas.Bool.Decides.{nat_tests}
 use Rattle.gx_ids.specs.declared.ids.Node.{Node}
@@ -11,25 +11,21 @@ use Rattle.gx_store.specs.declared.mark.Mark.TheVariants as mark
 use Rattle.gx_store.specs.declared.node.NodeEvent.{NodeEvent}
 use Rattle.gx_store.specs.declared.node.NodeEvent.TheVariants as here
 use Rattle.gx_store.specs.declared.run.Step.{Step}
-use Rattle.gx_store.specs.Points.{marks_in}
 use Rattle.gx_store.specs.Refusals.{the_coordinator}
 use Rattle.gx_store.specs.Schedule.{is_round}
 use Rattle.gx_rules.specs.AtCoordinator.{coord_can, coord_rule}
 use Rattle.gx_rules.specs.AtSegment as segment
 use Rattle.gx_rules.specs.AtSegment.{seg_rule}
-use Rattle.gx_rules.specs.Machine.{Letter, World, at_node, coord_did, new_world, posted, seg_did, world_of}
+use Rattle.gx_rules.specs.Machine.{Letter, World, at_node, coord_did, new_world, posted, seg_can, seg_did, world_of}
 use Rattle.gx_rules.specs.Segments.{Seg}
 use Rattle.gx_rules.specs.Sending.{clock_after, heard_in}
-use Rattle.gx_law_order.proofs.CalmSegs.{IsCalm as Quiet}
 use Rattle.gx_law_order.proofs.AtSegments.{seg_stays}
 use Rattle.gx_law_order.proofs.Letters.{found_is}
 use Rattle.gx_law_order.proofs.Lists.{Each, each_append, each_weaker}
 use Rattle.gx_law_order.proofs.Ordered.{at-both, world_well}
-use Rattle.gx_law_order.proofs.World.{marks-last}
-use Rattle.gx_law_schedules.proofs.Quiet.{IsCalm, event-still, sent-calm}
+use Rattle.gx_law_schedules.proofs.Quiet.{event-still}
 use Rattle.gx_law_schedules.proofs.QuietSegs.{seg-still}
-use Rattle.gx_law_schedules.proofs.Steps.{IsHere, IsThere, always, by-message}
-use Rattle.gx_law_order.proofs.Calm.{AreCalm}
+use Rattle.gx_law_schedules.proofs.Steps.{IsAt, IsHere, always}
 
 pub length-last : {A : Type 0} (xs : List A) (x : A) → length (xs ++ x ∷ []) ≡ length xs + 1
 length-last [] x = refl
@@ -56,7 +52,6 @@ pub record IsBelow (w : World) : Type 0 where
 pub record Stays (w : World) : Type 0 where
   pub room : IsBelow w
   pub letters : Each (IsBy (length w.steps)) w.sent
-  pub calm : Each IsCalm (marks_in w.steps)
   pub rounds : Each (λ (s : Step). is_round s.event ≡ false) w.steps
 
 up : (a n m : ℕ) → a ≤ n → m ≡ n + 1 → a ≤ m
@@ -75,14 +70,8 @@ least : (n : ℕ) → 0 ≤ n
 least n = omega arith
 
 module _ (script : Script) (some : 1 ≤ script.segments) where
-  -- A STEP OF THE COORDINATOR
-  module _ (w : World) (q : Stays w) (e : Event) (x : NodeEvent) (fails : Bool) (h : IsHere script w e x) where
-    abbrev step : Step
-    step = record { stamp = record { clock = clock_after w.coord.clock x; node = the_coordinator }; event = e; marks = (coord_rule script w.coord x fails).marks }
-
-    more : length (w.steps ++ step ∷ []) ≡ length w.steps + 1
-    more = length-last w.steps step
-
+  -- what an event hears was sent
+  module _ (w : World) (q : Stays w) where
     heard : (e : Event) (x : NodeEvent) → at_node w e ≡ Some x → heard_in x ≤ length w.steps
     heard (event.Receive from to number) x s = by_found (Rattle.gx_rules.specs.Machine.found from to number w.sent) refl s
       where
@@ -113,6 +102,14 @@ module _ (script : Script) (some : 1 ≤ script.segments) where
         same : (a b : NodeEvent) → Some a ≡ Some b → a ≡ b
         same a b e = (cc)
 
+  -- A STEP OF THE COORDINATOR
+  module _ (w : World) (q : Stays w) (e : Event) (x : NodeEvent) (fails : Bool) (h : IsHere script w e x) where
+    abbrev step : Step
+    step = record { stamp = record { clock = clock_after w.coord.clock x; node = the_coordinator }; event = e; marks = (coord_rule script w.coord x fails).marks }
+
+    more : length (w.steps ++ step ∷ []) ≡ length w.steps + 1
+    more = length-last w.steps step
+
     no-round : (e : Event) → at_node w e ≡ Some x → is_round e ≡ false
     no-round (event.Receive from to number) s = refl
     no-round (event.Resume n g) s = refl
@@ -128,20 +125,19 @@ module _ (script : Script) (some : 1 ≤ script.segments) where
         differ b e f = grind arith
 
     clock-now : clock_after w.coord.clock x ≤ length (w.steps ++ step ∷ [])
-    clock-now = hears w.coord.clock (length w.steps) _ x q.room.clock (heard e x h.is) more
+    clock-now = hears w.coord.clock (length w.steps) _ x q.room.clock (heard w q e x h.is) more
 
-    pub coord-stays : AreCalm w.coord.locks → Stays (coord_did w e (coord_rule script w.coord x fails))
-    coord-stays calm =
-        let f = event-still script w.coord calm x fails in
+    pub coord-stays : Stays (coord_did w e (coord_rule script w.coord x fails))
+    coord-stays =
+        let f = event-still script w.coord x fails in
         record {
           room = record {
             clock = clock-now;
             clocks = λ i. up (w.segs i).clock (length w.steps) _ (q.room.clocks i) more;
-            next = two w.coord.table.next.0 (length w.steps) _ _ f.next q.room.next more;
+            next = two w.coord.table.next.0 (length w.steps) _ _ f q.room.next more;
             answered = λ i. up (w.segs i).sent (length w.steps) _ (q.room.answered i) more;
           };
           letters = posted-by _ (clock_after w.coord.clock x) the_coordinator step.marks w.sent clock-now (each_weaker (IsBy (length w.steps)) (IsBy (length (w.steps ++ step ∷ []))) (λ l y. up l.envelope.clock (length w.steps) _ y more) w.sent q.letters);
-          calm = subst (Each IsCalm) (sym (marks-last w.steps step)) (each_append IsCalm (marks_in w.steps) step.marks q.calm (each_append IsCalm _ _ f.marks (sent-calm _ _)));
           rounds = each_append (λ (s : Step). is_round s.event ≡ false) w.steps (step ∷ []) q.rounds (no-round e h.is, tt);
         }
       where
@@ -149,25 +145,36 @@ module _ (script : Script) (some : 1 ≤ script.segments) where
         two a n b m x y z = omega arith
 
   -- A STEP OF A SEGMENT
-  module _ (w : World) (q : Stays w) (from to : Node) (number : ℕ) (envelope : Envelope) (fails : Bool) (h : IsThere script w from to number envelope) (named : (w.segs to.0).node ≡ to) (calm : Quiet (w.segs to.0)) where
-    abbrev x : NodeEvent
-    x = here.Deliver from envelope
-
+  module _ (w : World) (q : Stays w) (e : Event) (x : NodeEvent) (fails : Bool) (to : Node) (h : IsAt script w e x to) (named : (w.segs to.0).node ≡ to) where
     abbrev s : Seg
     s = w.segs to.0
 
     abbrev seg_step : Step
-    seg_step = record { stamp = record { clock = clock_after s.clock x; node = to }; event = event.Receive from to number; marks = (seg_rule script s x fails).marks }
+    seg_step = record { stamp = record { clock = clock_after s.clock x; node = to }; event = e; marks = (seg_rule script s x fails).marks }
 
     one-more : length (w.steps ++ seg_step ∷ []) ≡ length w.steps + 1
     one-more = length-last w.steps seg_step
 
     seg-clock : clock_after s.clock x ≤ length (w.steps ++ seg_step ∷ [])
-    seg-clock = hears s.clock (length w.steps) _ x (q.room.clocks to.0) (heard-found w from to number envelope q.letters h.is) one-more
+    seg-clock = hears s.clock (length w.steps) _ x (q.room.clocks to.0) (heard w q e x h.is) one-more
 
-    seg-stays : Stays (seg_did w to (event.Receive from to number) (seg_rule script s x fails))
+    no-round-there : (e : Event) → at_node w e ≡ Some x → is_round e ≡ false
+    no-round-there (event.Receive from to number) s = refl
+    no-round-there (event.Resume n g) s = refl
+    no-round-there (event.Start t) s = refl
+    no-round-there (event.End t) s = refl
+    no-round-there (event.Resend i g) s = refl
+    no-round-there event.Round s = absurd (differ (seg_can script (w.segs to.0) x) h.admitted (ap (seg_can script (w.segs to.0)) (sym (same here.Round x s))))
+      where
+        same : (a b : NodeEvent) → Some a ≡ Some b → a ≡ b
+        same a b e = (cc)
+
+        differ : (b : Bool) → b ≡ true → b ≡ false → ⊥
+        differ b e f = grind arith
+
+    seg-stays : Stays (seg_did w to e (seg_rule script s x fails))
     seg-stays =
-        let f = seg-still script s calm x fails in
+        let f = seg-still script s x fails in
         record {
           room = record {
             clock = up w.coord.clock (length w.steps) _ q.room.clock one-more;
@@ -178,21 +185,19 @@ module _ (script : Script) (some : 1 ≤ script.segments) where
                 (λ j no. up (w.segs j).sent (length w.steps) _ (q.room.answered j) one-more);
           };
           letters = posted-by _ (clock_after s.clock x) to seg_step.marks w.sent seg-clock (each_weaker (IsBy (length w.steps)) (IsBy (length (w.steps ++ seg_step ∷ []))) (λ l y. up l.envelope.clock (length w.steps) _ y one-more) w.sent q.letters);
-          calm = subst (Each IsCalm) (sym (marks-last w.steps seg_step)) (each_append IsCalm (marks_in w.steps) seg_step.marks q.calm (each_append IsCalm _ _ f.marks (sent-calm _ _)));
-          rounds = each_append (λ (s : Step). is_round s.event ≡ false) w.steps (seg_step ∷ []) q.rounds (refl, tt);
+          rounds = each_append (λ (s : Step). is_round s.event ≡ false) w.steps (seg_step ∷ []) q.rounds (no-round-there e h.is, tt);
         }
       where
         adds : (a b n k m : ℕ) → a ≡ b → k ≤ 1 → b ≤ n → m ≡ n + 1 → a + k ≤ m
         adds a b n k m e l h f = omega arith
 
   new-stays : Stays new_world
-  new-stays = record { room = record { clock = least 0; clocks = λ i. least 0; next = one; answered = λ i. least 0 }; letters = tt; calm = tt; rounds = tt }
+  new-stays = record { room = record { clock = least 0; clocks = λ i. least 0; next = one; answered = λ i. least 0 }; letters = tt; rounds = tt }
     where
       one : 1 ≤ 0 + 1
       one = omega arith
 
   pub world-stays : (es : List (Event × Bool)) → Stays (world_of script es)
   world-stays =
-      always script some Stays (λ es q e x fails h. coord-stays (world_of script es) q e x fails h (world_well script some es).coordinator.locks)
-      (λ es q e x fails i h. by-message script some es e x i h (λ e x. Stays (seg_did (world_of script es) i e (seg_rule script ((world_of script es).segs i.0) x fails)))
-      (λ from number envelope t. seg-stays (world_of script es) q from i number envelope fails t ((world_well script some es).names i.0) ((world_well script some es).calm i.0))) new-stays
+      always script some Stays (λ es q e x fails h. coord-stays (world_of script es) q e x fails h)
+      (λ es q e x fails i h. seg-stays (world_of script es) q e x fails i h ((world_well script some es).names i.0)) new-stays

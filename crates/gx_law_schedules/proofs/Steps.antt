@@ -15,7 +15,6 @@ use Rattle.gx_rules.specs.AtCoordinator.{coord_can, coord_rule}
 use Rattle.gx_rules.specs.AtSegment.{seg_rule}
 use Rattle.gx_rules.specs.Machine.{World, after, at_node, can, can_here, coord_did, delivered, does, found, happens, new_world, node_of, seg_can, seg_did, world_of}
 use Rattle.gx_law_order.proofs.Letters.{IsFound, IsLetter, found_is, same_node}
-use Rattle.gx_law_order.proofs.CalmSegs.{nobody-goes-on}
 use Rattle.gx_law_order.proofs.Ordered.{resumes_there, world_well}
 use Rattle.gx_law_sessions.proofs.World.{after-last}
 use Rattle.gx_ids.specs.declared.ids.Gxid.{Gxid}
@@ -39,9 +38,9 @@ pub record IsThere (script : Script) (w : World) (from to : Node) (number : ℕ)
   pub place : IsSegment script to
   pub is : found from to number w.sent ≡ Some envelope
 
--- so far a segment hears messages alone
-pub by-message : (script : Script) (some : 1 ≤ script.segments) (es : List (Event × Bool)) (e : Event) (x : NodeEvent) (i : Node) → IsAt script (world_of script es) e x i → (P : Event → NodeEvent → Type 0) → ((from : Node) (number : ℕ) (envelope : Envelope) → IsThere script (world_of script es) from i number envelope → P (event.Receive from i number) (here.Deliver from envelope)) → P e x
-by-message script some es e x i h P f = by_event e h.node h.is
+-- a segment hears a message, or resumes who waits there
+pub by-kind : (script : Script) (some : 1 ≤ script.segments) (es : List (Event × Bool)) (e : Event) (x : NodeEvent) (i : Node) → IsAt script (world_of script es) e x i → (P : Event → NodeEvent → Type 0) → ((from : Node) (number : ℕ) (envelope : Envelope) → IsThere script (world_of script es) from i number envelope → P (event.Receive from i number) (here.Deliver from envelope)) → ((g : Gxid) → seg_can script ((world_of script es).segs i.0) (here.Resume g) ≡ true → P (event.Resume i g) (here.Resume g)) → P e x
+by-kind script some es e x i h P f resumed = by_event e h.node h.is
   where
     same : (a b : NodeEvent) → Some a ≡ Some b → a ≡ b
     same a b q = cc
@@ -52,8 +51,8 @@ by-message script some es e x i h P f = by_event e h.node h.is
         zero-one : (k : ℕ) → 1 ≤ k → 0 ≡ k → ⊥
         zero-one k l z = omega (arith, l, z)
 
-    nobody : (g : Gxid) → here.Resume g ≡ x → ⊥
-    nobody g q = nobody-goes-on script ((world_of script es).segs i.0) g ((world_well script some es).calm i.0) (subst (λ y. seg_can script ((world_of script es).segs i.0) y ≡ true) (sym q) h.admitted)
+    goes-on : (g : Gxid) → here.Resume g ≡ x → P (event.Resume i g) x
+    goes-on g q = subst (P (event.Resume i g)) q (resumed g (subst (λ y. seg_can script ((world_of script es).segs i.0) y ≡ true) (sym q) h.admitted))
 
     came : (from : Node) (number : ℕ) (o : Option Envelope) → found from i number (world_of script es).sent ≡ o → delivered from o ≡ Some x → P (event.Receive from i number) x
     came from number None fd q = absurd (cc)
@@ -68,7 +67,7 @@ by-message script some es e x i h P f = by_event e h.node h.is
 
     by_event : (d : Event) → node_of d ≡ i → at_node (world_of script es) d ≡ Some x → P d x
     by_event (event.Receive from to number) q r = subst (λ n. P (event.Receive from n number) x) (sym q) (came from number (found from i number (world_of script es).sent) refl (subst (λ n. delivered from (found from n number (world_of script es).sent) ≡ Some x) q r))
-    by_event (event.Resume n g) q r = absurd (nobody g (same (here.Resume g) x r))
+    by_event (event.Resume n g) q r = subst (λ m. P (event.Resume m g) x) (sym q) (goes-on g (same (here.Resume g) x r))
     by_event (event.Start s) q r = absurd (not-zero i h.place.0 q)
     by_event (event.End s) q r = absurd (not-zero i h.place.0 q)
     by_event (event.Resend j g) q r = absurd (not-zero i h.place.0 q)

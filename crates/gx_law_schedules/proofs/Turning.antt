@@ -39,9 +39,11 @@ use Rattle.gx_law_commit.proofs.Dispatching.{IsLive}
 use Rattle.gx_law_commit.proofs.Events.{live-stage}
 use Rattle.gx_law_schedules.proofs.Answered.{FitsIn, answer-asks}
 use Rattle.gx_law_schedules.proofs.Replies.{left_by, no-answer, unanswered}
-use Rattle.gx_law_schedules.proofs.Asking.{AreNeat, Asks, OneOf, asks-by, commits-asks, dispatch-asks, live-none, nothing-sent, now_asked, one-asks, rest-asks, rolled-asks, self}
+use Rattle.gx_law_schedules.proofs.Asking.{AreNeat, Asks, OneOf, asks-by, commits-asks, dispatch-asks, live-none, nothing-sent, now_asked, one-asks, rest-asks, resume-asks, rolled-asks, self}
 use Rattle.gx_law_schedules.proofs.Neat.{IsDone, IsExecOf, Neat, NeatCommand, waiting, waiting-none}
-use Rattle.gx_law_order.proofs.Calm.{AreCalm, nobody-waits}
+use Rattle.gx_ids.specs.declared.ids.Gxid.{Gxid}
+use Rattle.gx_locks.specs.Locks.{wait_of}
+use Rattle.gx_law_order.proofs.Waiting.{GoesOut}
 
 -- A MESSAGE THAT IS SENT AGAIN
 -- what is awaited is about its transaction alone
@@ -173,20 +175,20 @@ module _ (script : Script) (c : Coord) (k : Kept c) (n : AreNeat c) where
     begun-done : (asked : LineStep) (level : Level) → IsDone ((begins (starts_line c s asked) s level).works c.table.next.0).command
     begun-done asked level = subst (λ (w : Work). IsDone w.command) (sym (ap (λ b. if b then new_work s level else c.works c.table.next.0) (self c.table.next.0))) tt
 
-    alone-asks : AreCalm c.locks → (line : Stmt) → Asks (now_asked c) (behind (mark.Start c.table.next s ∷ []) (dispatches script (begins (starts_line c s (step.Command true)) s ReadCommitted) c.table.next line))
-    alone-asks calm line =
+    alone-asks : (line : Stmt) → Asks (now_asked c) (behind (mark.Start c.table.next s ∷ []) (dispatches script (begins (starts_line c s (step.Command true)) s ReadCommitted) c.table.next line))
+    alone-asks line =
         let d : Coord = begins (starts_line c s (step.Command true)) s ReadCommitted in
         let b = begun-asks (step.Command true) ReadCommitted [] in
-        let f = dispatch-asks d (begun-whole c.table k.whole) b.neat c.table.next.0 (begun-live (step.Command true) ReadCommitted) (begun-done (step.Command true) ReadCommitted) calm script line in
+        let f = dispatch-asks d (begun-whole c.table k.whole) b.neat c.table.next.0 (begun-live (step.Command true) ReadCommitted) (begun-done (step.Command true) ReadCommitted) script line in
         let x = asks-by (now_asked d) (now_asked c) (dispatches script d c.table.next line) (λ i g. sym (b.asked i g)) f in
         record { asked = x.asked; sends_one = x.sends_one; neat = x.neat }
 
-    inside-asks : AreCalm c.locks → (line : Stmt) → is_open_in block ≡ true → Asks (now_asked c) (dispatches script (starts_line c s (step.Command false)) (session_of (starts_line c s (step.Command false)) s).transaction line)
-    inside-asks calm line opened =
+    inside-asks : (line : Stmt) → is_open_in block ≡ true → Asks (now_asked c) (dispatches script (starts_line c s (step.Command false)) (session_of (starts_line c s (step.Command false)) s).transaction line)
+    inside-asks line opened =
         let l = own-live opened in
         subst (λ g. Asks (now_asked c) (dispatches script (starts_line c s (step.Command false)) g line)) (sym (transaction-now (step.Command false)))
         (same-asks (starts_line c s (step.Command false)) _ refl refl
-        (dispatch-asks (starts_line c s (step.Command false)) k.whole n own (record { txn = l.txn; found = l.found; active = l.active }) (own-done opened) calm script line))
+        (dispatch-asks (starts_line c s (step.Command false)) k.whole n own (record { txn = l.txn; found = l.found; active = l.active }) (own-done opened) script line))
 
     commit-asks : is_open_in block ≡ true → Asks (now_asked c) (commits (starts_line c s step.CommitBlock) (session_of (starts_line c s step.CommitBlock) s).transaction)
     commit-asks opened =
@@ -204,19 +206,19 @@ module _ (script : Script) (c : Coord) (k : Kept c) (n : AreNeat c) where
         subst (λ g. Asks (now_asked c) (rolls_back (starts_line c s step.RollbackBlock) g marks (on_abort c.table g))) (sym (transaction-now step.RollbackBlock))
         (same-asks d _ refl refl (rolled-asks d k.whole n own (now_asked d) (λ i h e. refl) (λ i e. live-none d own live (own-done opened) i) marks))
 
-    line-asks : AreCalm c.locks → (line : Stmt) (asked : LineStep) → Admits block asked → Asks (now_asked c) (on_line script (starts_line c s asked) s line asked)
-    line-asks calm line (step.Answer plain) a = quiet (starts_line c s (step.Answer plain)) _ refl refl
-    line-asks calm line step.Refuse5 a = quiet (starts_line c s step.Refuse5) _ refl refl
-    line-asks calm line step.Refuse7 a = quiet (starts_line c s step.Refuse7) _ refl refl
-    line-asks calm line (step.BeginBlock level) a = begun-asks (step.BeginBlock level) level _
-    line-asks calm line step.CommitBlock a = commit-asks a
-    line-asks calm line step.RollbackBlock a = rollback-asks a (answer_mark (starts_line c s step.RollbackBlock) s told.Rollback ∷ [])
-    line-asks calm line (step.Command true) a = alone-asks calm line
-    line-asks calm line (step.Command false) a = inside-asks calm line a
+    line-asks : (line : Stmt) (asked : LineStep) → Admits block asked → Asks (now_asked c) (on_line script (starts_line c s asked) s line asked)
+    line-asks line (step.Answer plain) a = quiet (starts_line c s (step.Answer plain)) _ refl refl
+    line-asks line step.Refuse5 a = quiet (starts_line c s step.Refuse5) _ refl refl
+    line-asks line step.Refuse7 a = quiet (starts_line c s step.Refuse7) _ refl refl
+    line-asks line (step.BeginBlock level) a = begun-asks (step.BeginBlock level) level _
+    line-asks line step.CommitBlock a = commit-asks a
+    line-asks line step.RollbackBlock a = rollback-asks a (answer_mark (starts_line c s step.RollbackBlock) s told.Rollback ∷ [])
+    line-asks line (step.Command true) a = alone-asks line
+    line-asks line (step.Command false) a = inside-asks line a
 
-    start-asks : AreCalm c.locks → (line : Option Stmt) → Asks (now_asked c) (starts script c s line)
-    start-asks calm None = rest-asks c n
-    start-asks calm (Some line) = line-asks calm line (line_step block line) (admits block line)
+    start-asks : (line : Option Stmt) → Asks (now_asked c) (starts script c s line)
+    start-asks None = rest-asks c n
+    start-asks (Some line) = line-asks line (line_step block line) (admits block line)
 
     end-asks : (b : Block) → b ≡ block → Asks (now_asked c) (ends_in c s b)
     end-asks (Open level) e =
@@ -258,11 +260,18 @@ module _ (script : Script) (c : Coord) (k : Kept c) (n : AreNeat c) where
       plain : (q : Pending) → is_nothing q ≡ true → is_nothing_in q ≡ true
       plain q e = grind arith
 
-  pub event-asks : AreCalm c.locks → (x : NodeEvent) (fails : Bool) → coord_can script c x ≡ true → FitsEvent x → Asks (λ i g. left_by i (gx g) (awaited c (gx g) i) x) (on_event script c x fails)
-  event-asks calm (event.Deliver from envelope) fails e f = message-asks from fails envelope.message f
-  event-asks calm (event.Start s) fails e f = start-asks s (idle-first s _ e) calm (next_line script c s)
-  event-asks calm (event.End s) fails e f = end-asks s (idle-first s _ e) (session_of c s).state.block refl
-  event-asks calm (event.Resend i (Some g)) fails e f = again-asks c n g.0 i (awaited c g i) refl (waiting-about g.0 (c.works g.0) (find_txn c.table g) i (n g.0))
-  event-asks calm (event.Resend i None) fails e f = rest-asks c n
-  event-asks calm (event.Resume g) fails e f = subst (λ o. Asks (now_asked c) (resumes script c g o (c.works g.0).waiting)) (sym (nobody-waits c.locks g calm)) (rest-asks c n)
-  event-asks calm event.Round fails e f = rest-asks c n
+  -- a statement that has waited goes out
+  goes-out-asks : (g : Gxid) → GoesOut c g → Asks (now_asked c) (resumes script c g (wait_of c.locks g) (c.works g.0).waiting)
+  goes-out-asks g o =
+      subst (λ w. Asks (now_asked c) (resumes script c g w (c.works g.0).waiting)) (sym o.claims)
+      (subst (λ l. Asks (now_asked c) (resumes script c g (Some o.wanted) l)) (sym o.is)
+      (resume-asks c k.whole n g.0 (live-stage c g.0 o.live) (subst IsDone (sym o.idle) tt) script o.line o.wanted))
+
+  pub event-asks : ((g : Gxid) → coord_can script c (event.Resume g) ≡ true → GoesOut c g) → (x : NodeEvent) (fails : Bool) → coord_can script c x ≡ true → FitsEvent x → Asks (λ i g. left_by i (gx g) (awaited c (gx g) i) x) (on_event script c x fails)
+  event-asks out (event.Deliver from envelope) fails e f = message-asks from fails envelope.message f
+  event-asks out (event.Start s) fails e f = start-asks s (idle-first s _ e) (next_line script c s)
+  event-asks out (event.End s) fails e f = end-asks s (idle-first s _ e) (session_of c s).state.block refl
+  event-asks out (event.Resend i (Some g)) fails e f = again-asks c n g.0 i (awaited c g i) refl (waiting-about g.0 (c.works g.0) (find_txn c.table g) i (n g.0))
+  event-asks out (event.Resend i None) fails e f = rest-asks c n
+  event-asks out (event.Resume g) fails e f = goes-out-asks g (out g e)
+  event-asks out event.Round fails e f = rest-asks c n

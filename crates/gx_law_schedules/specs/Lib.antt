@@ -1,3 +1,4 @@
 pub mod Links
 pub mod Room
+pub mod Marked
 pub mod Enabled

@@ -1,5 +1,5 @@
 //! Laws of every run, whatever the network loses, repeats, delays and reorders, and whichever appends fail.
-ghost use Rattle.std.specs.Prelude.{◌≡◌, ◌≤◌, ℕ, ◌+◌, ◌==◌, Bool, true, false, ◌&&◌, is_some, List, [], None, Some, Contains};
+ghost use Rattle.std.specs.Prelude.{◌≡◌, ◌≤◌, ℕ, ◌+◌, ◌==◌, Bool, true, false, ◌&&◌, ◌||◌, is_some, List, [], None, Some, Contains};
 ghost use Rattle.std.specs.List.{list_all, list_any};
 ghost use Rattle.gx_ids.specs.declared.ids.Gxid.{Gxid as OneGxid};
 ghost use Rattle.gx_ids.specs.declared.ids.Node.{Node as OneNode};
@@ -17,8 +17,9 @@ ghost use Rattle.gx_store.specs.Refusals.{the_coordinator};
 ghost use Rattle.gx_store.specs.Schedule as schedule;
 ghost use Rattle.gx_store.specs.declared.event.Event.{Event as OneEvent};
 ghost use Rattle.gx_store.specs.declared.node.NodeEvent.TheVariants as here;
-ghost use Rattle.gx_law_schedules.specs.Enabled.{drawn, enabled_by};
+ghost use Rattle.gx_law_schedules.specs.Enabled.{drawn, enabled_by, enabled_there};
 ghost use Rattle.gx_law_schedules.specs.Links.{is_number, message_of};
+ghost use Rattle.gx_law_schedules.specs.Marked.{AreLocksMarked};
 ghost use Rattle.gx_law_schedules.specs.Room.{HasRoom};
 
 /// As many messages were sent to a segment as the coordinator counts.
@@ -88,7 +89,12 @@ pub fn counts_have_room()
     ensures { (script : Script) (events : List (OneEvent × Bool)) → 1 ≤ script.segments → HasRoom (world_of script events) }
 {}
 
-/// Nobody waits for a lock.
+/// Each node's holds and waits are those that stand by the marks, in order.
+pub fn locks_are_marked()
+    ensures { (script : Script) (events : List (OneEvent × Bool)) → 1 ≤ script.segments → AreLocksMarked (world_of script events) }
+{}
+
+/// Nobody waits for a lock yet.
 pub fn nobody_waits()
     ensures { (script : Script) (events : List (OneEvent × Bool)) (node : OneNode) (g : OneGxid) → 1 ≤ script.segments → schedule.waits_of (marks_in (world_of script events).steps) node g ≡ [] }
 {}
@@ -126,12 +132,29 @@ pub fn nothing_is_awaited_before_it_begins()
         → list_any (λ h. is_same_gxid h g) (schedule.gxids_of (marks_in (world_of script events).steps)) ≡ false → awaited (world_of script events).coord g segment ≡ None }
 {}
 
-/// What is enabled by the steps is what is enabled by what the nodes hold.
+/// What is enabled by the steps is what is enabled by what the nodes hold, whoever waits.
+pub fn enabled_by_what_nodes_hold()
+    ensures { (script : Script) (events : List (OneEvent × Bool)) → 1 ≤ script.segments → schedule.enabled script (world_of script events).steps ≡ enabled_there script (world_of script events) }
+{}
+
+/// The machine admits each event that is enabled, whoever waits, but for a round.
+pub fn enabled_is_admitted_but_for_rounds()
+    ensures { (script : Script) (events : List (OneEvent × Bool)) → 1 ≤ script.segments
+        → list_all (λ e. schedule.is_round e || can script (world_of script events) e) (schedule.enabled script (world_of script events).steps) ≡ true }
+{}
+
+/// So it admits all of them where the script has no detector.
+pub fn enabled_is_admitted_without_detector()
+    ensures { (script : Script) (events : List (OneEvent × Bool)) → 1 ≤ script.segments → script.detector ≡ false
+        → list_all (can script (world_of script events)) (schedule.enabled script (world_of script events).steps) ≡ true }
+{}
+
+/// What is enabled where nobody waits.
 pub fn enabled_by_the_nodes()
     ensures { (script : Script) (events : List (OneEvent × Bool)) → 1 ≤ script.segments → schedule.enabled script (world_of script events).steps ≡ enabled_by script (world_of script events) }
 {}
 
-/// The machine admits each event that is enabled.
+/// The machine admits each event that is enabled where nobody waits.
 pub fn enabled_is_admitted()
     ensures { (script : Script) (events : List (OneEvent × Bool)) → 1 ≤ script.segments
         → list_all (can script (world_of script events)) (schedule.enabled script (world_of script events).steps) ≡ true }

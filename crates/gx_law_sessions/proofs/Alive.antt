@@ -119,7 +119,7 @@ module _ (script : Script) (steps : List Step) (c : Coord) (k : Kept c) (all : (
       of-works : AreLinesNumbered [] script.lines → Works script steps c k all gath the_coordinator the_coordinator 0 g y.state.block m → stmt_of_command script (marks_in steps) g cid ≡ Some m.stmt
       of-works n z =
           let r = (z.is_busy_so.stands.owns z.is_busy_so.busy).2 in
-          ap (λ o. command_at script o cid.0) r.began ∙ ap (λ (x : Cid). command_at script (Some (s, r.first)) x.0) (sym same) ∙ r.now n m it
+          ap (λ o. command_at script o cid.0) r.began ∙ ap (λ (x : Cid). command_at script (Some (s, r.first)) x.0) (sym same) ∙ (r.now n).0 m it
 
 -- ALL ORDERS
 pub alive-now : (script : Script) (w : World) → Kept w.coord → ((j : SessionId) → IsSession script j w.steps w.coord) → ((j : ℕ) → GathersIn script (IsHeard w.steps) (gx j) (w.coord.works j).command) → (i : Node) (m : Message) → StateOf w.coord (IsHeard w.steps) (marks_in w.steps) i m → IsAlive script w i m

@@ -34,6 +34,7 @@ use Rattle.gx_store.specs.Marks.{answer_count, is_committed, is_ended, start_cou
 use Rattle.gx_store.specs.Points.{Point, ends_in, marks_in, starts_in}
 use Rattle.gx_rules.specs.AtCoordinator.{answer_at_commit, answer_mark, answers_at_once, begins, behind, commits, dispatches, follows, next_cid, next_line, on_line, rolls_back, starts, starts_line}
 use Rattle.gx_rules.specs.Coordinators.{Command, Coord, Session, Work, no_work, session_of, work_of}
+use Rattle.gx_law_order.proofs.Lines.{idle-none}
 use Rattle.gx_law_order.proofs.Past.{Past}
 use Rattle.gx_law_order.proofs.Sessions.{Kept, is_nothing_in, is_open_in}
 use Rattle.gx_law_order.proofs.Statuses.{Closes, Turned, commit-turns, stage}
@@ -48,14 +49,13 @@ use Rattle.gx_law_sessions.proofs.Ends.{Fresh}
 use Rattle.gx_law_sessions.proofs.Frame.{Does}
 use Rattle.gx_law_sessions.proofs.Given.{Given}
 use Rattle.gx_law_sessions.proofs.Outs.{abort-bare, bare-outs, commit-bare}
-use Rattle.gx_law_sessions.proofs.Roots.{roots-command, roots-commit}
+use Rattle.gx_law_sessions.proofs.Roots.{roots-command, roots-commit, roots-held-up}
 use Rattle.gx_law_sessions.proofs.Said.{Said}
 use Rattle.gx_law_sessions.proofs.Under.{Under, answered-self, closed-does, commit-does}
 use Rattle.gx_law_sessions.proofs.Lines.{alone-does, at-once, at-zero, begin-does, ended, others, plus-none, session-now, st, started}
 use Rattle.gx_rules.specs.Locks.{release_marks}
 use Rattle.gx_store.specs.Refusals.{the_coordinator}
 use Rattle.gx_law_sessions.proofs.Locked.{back-locks}
-use Rattle.gx_law_order.proofs.Calm.{AreCalm}
 
 differ : false ≡ true → ⊥
 differ e = cc
@@ -107,6 +107,10 @@ module _ (script : Script) (steps : List Step) (c : Coord) (k : Kept c) (p : Pas
     own l eb =
         let o = (st script steps c k p fr number s all idle line is_next).1.owns (subst (λ q. is_busy q pending.Nothing ≡ true) eb refl) in
         (subst (λ q. Owns s (st script steps c k p fr number s all idle line is_next).1.commands ms next q g (work_of c g)) (sym eb) o.0, o.1)
+
+    -- nothing of it waits
+    free : (l : Level) → block.Open l ≡ y.state.block → (work_of c g).waiting ≡ None
+    free l eb = (idle-none c s k (subst (λ q. is_open_in q ≡ true) eb refl) idle).1
 
     own-roots : (l : Level) → block.Open l ≡ y.state.block → Roots script s ms (block.Open l) pending.Nothing y.lines g (work_of c g)
     own-roots l eb = subst (λ q. Roots script s ms q pending.Nothing y.lines g (work_of c g)) (sym eb) ((st script steps c k p fr number s all idle line is_next).1.owns (subst (λ q. is_busy q pending.Nothing ≡ true) eb refl)).2
@@ -268,13 +272,13 @@ module _ (script : Script) (steps : List Step) (c : Coord) (k : Kept c) (p : Pas
         )
 
     -- A COMMAND IN A BLOCK
-    inside-does : AreCalm c.locks → (l : Level) → block.Open l ≡ y.state.block → is_command (InBlock l (st script steps c k p fr number s all idle line is_next).1.commands) line ≡ true → Does script steps c e (dispatches script (starts_line c s (step.Command false)) (session_of (starts_line c s (step.Command false)) s).transaction line)
-    inside-does calm l eb cmd =
+    inside-does : (l : Level) → block.Open l ≡ y.state.block → is_command (InBlock l (st script steps c k p fr number s all idle line is_next).1.commands) line ≡ true → Does script steps c e (dispatches script (starts_line c s (step.Command false)) (session_of (starts_line c s (step.Command false)) s).transaction line)
+    inside-does l eb cmd =
         subst (λ q. Does script steps c e (dispatches script (starts_line c s (step.Command false)) q line)) (sym (transaction-now (step.Command false)))
-        (dispatch-does script steps c (starts_line c s (step.Command false)) s g (moved (step.Command false)) y.lines (block.Open l) (st script steps c k p fr number s all idle line is_next).1.commands line [] (under-own (step.Command false) l eb)
-        (subst (λ q. block_after q (step.Command false) ≡ block.Open l) eb refl) refl refl cmd (own-late l eb) (own l eb).1
+        (dispatch-does script steps e (λ A. tt) c (starts_line c s (step.Command false)) s g (moved (step.Command false)) y.lines (block.Open l) (st script steps c k p fr number s all idle line is_next).1.commands line [] (under-own (step.Command false) l eb)
+        (subst (λ q. block_after q (step.Command false) ≡ block.Open l) eb refl) refl refl cmd (own-late l eb) (own l eb).1 (free l eb)
         (ap (λ i. let d : Cid = record { 0 = i + 1 } in d) (same-plus (st script steps c k p fr number s all idle line is_next).1.commands _ (sym (ap (λ q. (st script steps c k p fr number s all idle line is_next).1.commands + under_way q) (own l eb).1) ∙ (own l eb).0.counted refl)))
-        (subst (λ m. Past (starts_line c s (step.Command false)) m) (sym (append-nil ms)) (record { committed = p.committed; ended = p.ended; dropped = p.dropped; latest = p.latest; drawn = p.drawn })) roots (λ a i level q. none-awaited (work_of c g) a i level (own l eb).1 q) calm)
+        (subst (λ m. Past (starts_line c s (step.Command false)) m) (sym (append-nil ms)) (record { committed = p.committed; ended = p.ended; dropped = p.dropped; latest = p.latest; drawn = p.drawn })) roots (λ a i level q. none-awaited (work_of c g) a i level (own l eb).1 q) held_up)
       where
         command-any : (q : Stmt) → is_command (InBlock l (st script steps c k p fr number s all idle line is_next).1.commands) q ≡ is_command (InBlock ReadCommitted 0) q
         command-any (stmt.Begin v) = refl
@@ -286,10 +290,15 @@ module _ (script : Script) (steps : List Step) (c : Coord) (k : Kept c) (p : Pas
         command-any (stmt.Delete t x) = refl
         command-any (stmt.Lock t m) = refl
 
-        roots : (m : Command) (v : Work) (ns : List Mark) → m.stmt ≡ line → m.cid ≡ next_cid (work_of c g) → v.last ≡ (work_of c g).last + 1 → v.command ≡ Some m → Roots script s ((ms ++ []) ++ ns) (block.Open l) pending.Command (y.lines + 1) g v
-        roots m v ns same number last has =
+        roots : (m : Command) (v : Work) (ns : List Mark) → m.stmt ≡ line → m.cid ≡ next_cid (work_of c g) → v.last ≡ (work_of c g).last + 1 → v.command ≡ Some m → v.waiting ≡ None → Roots script s ((ms ++ []) ++ ns) (block.Open l) pending.Command (y.lines + 1) g v
+        roots m v ns same number last has out =
             subst (λ z. Roots script s (z ++ ns) (block.Open l) pending.Command (y.lines + 1) g v) (sym (append-nil ms))
-            (roots-command script s ms ns l y.lines g (work_of c g) v m (own-roots l eb) (is_next ∙ ap (λ q. Some q) (sym same)) (ap (is_command (InBlock ReadCommitted 0)) same ∙ sym (command-any line) ∙ cmd) last has (ap (λ (z : Cid). z.0) number))
+            (roots-command script s ms ns l y.lines g (work_of c g) v m (own-roots l eb) (free l eb) (is_next ∙ ap (λ q. Some q) (sym same)) (ap (is_command (InBlock ReadCommitted 0)) same ∙ sym (command-any line) ∙ cmd) last has out (ap (λ (z : Cid). z.0) number))
+
+        held_up : (v : Work) (ns : List Mark) → v.last ≡ (work_of c g).last → v.command ≡ None → v.waiting ≡ Some line → Roots script s ((ms ++ []) ++ ns) (block.Open l) pending.Command (y.lines + 1) g v
+        held_up v ns last none has =
+            subst (λ z. Roots script s (z ++ ns) (block.Open l) pending.Command (y.lines + 1) g v) (sym (append-nil ms))
+            (roots-held-up script s ms ns l y.lines g (work_of c g) v line (own-roots l eb) (free l eb) is_next (sym (command-any line) ∙ cmd) last none has)
 
         same-plus : (a n : ℕ) → a + 0 ≡ n → a ≡ n
         same-plus a n h = omega arith
@@ -301,44 +310,44 @@ module _ (script : Script) (steps : List Step) (c : Coord) (k : Kept c) (p : Pas
         (λ later. subst (λ q. IsAnswer script (record { steps = steps; event = e; earlier = []; later = later }) s (state_in q (st script steps c k p fr number s all idle line is_next).1.commands) line r) eb (subst (λ q. IsAnswer script (record { steps = steps; event = e; earlier = []; later = later }) s (state_in b (st script steps c k p fr number s all idle line is_next).1.commands) q r) (sym el) (is later)))
         (subst (λ q. state_after (state_in q (st script steps c k p fr number s all idle line is_next).1.commands) line r ≡ state_in (block_after b asked) (st script steps c k p fr number s all idle line is_next).1.commands) eb (subst (λ q. state_after (state_in b (st script steps c k p fr number s all idle line is_next).1.commands) q r ≡ state_in (block_after b asked) (st script steps c k p fr number s all idle line is_next).1.commands) (sym el) after)) rest
 
-    alone-line : AreCalm c.locks → (l : Stmt) → block.Outside ≡ y.state.block → line ≡ l → is_command Outside l ≡ true → Rattle.gx_store.specs.Legal.draws Outside l ≡ true → Does script steps c e (behind (begun ∷ []) (dispatches script (begins (starts_line c s (step.Command true)) s ReadCommitted) c.table.next l))
-    alone-line calm l eb el cmd d =
+    alone-line : (l : Stmt) → block.Outside ≡ y.state.block → line ≡ l → is_command Outside l ≡ true → Rattle.gx_store.specs.Legal.draws Outside l ≡ true → Does script steps c e (behind (begun ∷ []) (dispatches script (begins (starts_line c s (step.Command true)) s ReadCommitted) c.table.next l))
+    alone-line l eb el cmd d =
         subst (λ q. Does script steps c e (behind (begun ∷ []) (dispatches script (begins (starts_line c s (step.Command true)) s ReadCommitted) c.table.next q))) el
-        ((alone-does script steps c k p fr number s all idle line is_next) calm eb (ap (is_command Outside) el ∙ cmd) (ap (Rattle.gx_store.specs.Legal.draws Outside) el ∙ d))
+        ((alone-does script steps c k p fr number s all idle line is_next) eb (ap (is_command Outside) el ∙ cmd) (ap (Rattle.gx_store.specs.Legal.draws Outside) el ∙ d))
 
-    inside-line : AreCalm c.locks → (l : Level) (q : Stmt) → block.Open l ≡ y.state.block → line ≡ q → is_command (InBlock l (st script steps c k p fr number s all idle line is_next).1.commands) q ≡ true → Does script steps c e (dispatches script (starts_line c s (step.Command false)) (session_of (starts_line c s (step.Command false)) s).transaction q)
-    inside-line calm l q eb el cmd =
+    inside-line : (l : Level) (q : Stmt) → block.Open l ≡ y.state.block → line ≡ q → is_command (InBlock l (st script steps c k p fr number s all idle line is_next).1.commands) q ≡ true → Does script steps c e (dispatches script (starts_line c s (step.Command false)) (session_of (starts_line c s (step.Command false)) s).transaction q)
+    inside-line l q eb el cmd =
         subst (λ z. Does script steps c e (dispatches script (starts_line c s (step.Command false)) (session_of (starts_line c s (step.Command false)) s).transaction z)) el
-        (inside-does calm l eb (ap (is_command (InBlock l (st script steps c k p fr number s all idle line is_next).1.commands)) el ∙ cmd))
+        (inside-does l eb (ap (is_command (InBlock l (st script steps c k p fr number s all idle line is_next).1.commands)) el ∙ cmd))
 
-    line-does : AreCalm c.locks → (b : Block) (l : Stmt) → b ≡ y.state.block → line ≡ l → Does script steps c e (on_line script (starts_line c s (line_step b l)) s l (line_step b l))
-    line-does calm block.Outside (stmt.Begin level) eb el = (begin-does script steps c k p fr number s all idle line is_next) level el eb
-    line-does calm block.Outside stmt.Commit eb el = simply block.Outside (step.Answer plain.Commit) told.Commit stmt.Commit eb el refl (λ h. refl) (λ h. absurd (differ h)) (λ later. tt) refl (λ later. tt)
-    line-does calm block.Outside stmt.Rollback eb el = simply block.Outside (step.Answer plain.Rollback) told.Rollback stmt.Rollback eb el refl (λ h. refl) (λ h. absurd (differ h)) (λ later. tt) refl (λ later. tt)
-    line-does calm block.Outside (stmt.Lock t m) eb el = simply block.Outside step.Refuse7 (told.Refused refused.NotInBlock) (stmt.Lock t m) eb el refl (λ h. refl) (λ h. absurd (differ h)) (λ later. tt) refl (λ later. tt)
-    line-does calm block.Outside (stmt.Select q) eb el = alone-line calm (stmt.Select q) eb el refl refl
-    line-does calm block.Outside (stmt.Insert t x) eb el = alone-line calm (stmt.Insert t x) eb el refl refl
-    line-does calm block.Outside (stmt.Update t x z) eb el = alone-line calm (stmt.Update t x z) eb el refl refl
-    line-does calm block.Outside (stmt.Delete t x) eb el = alone-line calm (stmt.Delete t x) eb el refl refl
-    line-does calm (block.Open v) (stmt.Begin level) eb el = simply (block.Open v) (step.Answer plain.Begin) told.Begin (stmt.Begin level) eb el refl (λ h. refl) (λ h. (refl, refl)) (λ later. tt) refl (λ later. tt)
-    line-does calm (block.Open v) stmt.Commit eb el = close-does v eb el
-    line-does calm (block.Open v) stmt.Rollback eb el = back-does v eb el
-    line-does calm (block.Open v) (stmt.Lock t m) eb el = inside-line calm v (stmt.Lock t m) eb el refl
-    line-does calm (block.Open v) (stmt.Select q) eb el = inside-line calm v (stmt.Select q) eb el refl
-    line-does calm (block.Open v) (stmt.Insert t x) eb el = inside-line calm v (stmt.Insert t x) eb el refl
-    line-does calm (block.Open v) (stmt.Update t x z) eb el = inside-line calm v (stmt.Update t x z) eb el refl
-    line-does calm (block.Open v) (stmt.Delete t x) eb el = inside-line calm v (stmt.Delete t x) eb el refl
-    line-does calm block.Failed (stmt.Begin level) eb el = simply block.Failed step.Refuse5 (told.Refused refused.InFailedBlock) (stmt.Begin level) eb el refl (λ h. refl) (λ h. absurd (differ h)) (λ later. tt) refl (λ later. tt)
-    line-does calm block.Failed stmt.Commit eb el = simply block.Failed (step.Answer plain.Rollback) told.Rollback stmt.Commit eb el refl (λ h. absurd (differ h)) (λ h. absurd (differ h)) (λ later. tt) refl (λ later. tt)
-    line-does calm block.Failed stmt.Rollback eb el = simply block.Failed (step.Answer plain.Rollback) told.Rollback stmt.Rollback eb el refl (λ h. absurd (differ h)) (λ h. absurd (differ h)) (λ later. tt) refl (λ later. tt)
-    line-does calm block.Failed (stmt.Lock t m) eb el = simply block.Failed step.Refuse5 (told.Refused refused.InFailedBlock) (stmt.Lock t m) eb el refl (λ h. refl) (λ h. absurd (differ h)) (λ later. tt) refl (λ later. tt)
-    line-does calm block.Failed (stmt.Select q) eb el = simply block.Failed step.Refuse5 (told.Refused refused.InFailedBlock) (stmt.Select q) eb el refl (λ h. refl) (λ h. absurd (differ h)) (λ later. tt) refl (λ later. tt)
-    line-does calm block.Failed (stmt.Insert t x) eb el = simply block.Failed step.Refuse5 (told.Refused refused.InFailedBlock) (stmt.Insert t x) eb el refl (λ h. refl) (λ h. absurd (differ h)) (λ later. tt) refl (λ later. tt)
-    line-does calm block.Failed (stmt.Update t x z) eb el = simply block.Failed step.Refuse5 (told.Refused refused.InFailedBlock) (stmt.Update t x z) eb el refl (λ h. refl) (λ h. absurd (differ h)) (λ later. tt) refl (λ later. tt)
-    line-does calm block.Failed (stmt.Delete t x) eb el = simply block.Failed step.Refuse5 (told.Refused refused.InFailedBlock) (stmt.Delete t x) eb el refl (λ h. refl) (λ h. absurd (differ h)) (λ later. tt) refl (λ later. tt)
+    line-does : (b : Block) (l : Stmt) → b ≡ y.state.block → line ≡ l → Does script steps c e (on_line script (starts_line c s (line_step b l)) s l (line_step b l))
+    line-does block.Outside (stmt.Begin level) eb el = (begin-does script steps c k p fr number s all idle line is_next) level el eb
+    line-does block.Outside stmt.Commit eb el = simply block.Outside (step.Answer plain.Commit) told.Commit stmt.Commit eb el refl (λ h. refl) (λ h. absurd (differ h)) (λ later. tt) refl (λ later. tt)
+    line-does block.Outside stmt.Rollback eb el = simply block.Outside (step.Answer plain.Rollback) told.Rollback stmt.Rollback eb el refl (λ h. refl) (λ h. absurd (differ h)) (λ later. tt) refl (λ later. tt)
+    line-does block.Outside (stmt.Lock t m) eb el = simply block.Outside step.Refuse7 (told.Refused refused.NotInBlock) (stmt.Lock t m) eb el refl (λ h. refl) (λ h. absurd (differ h)) (λ later. tt) refl (λ later. tt)
+    line-does block.Outside (stmt.Select q) eb el = alone-line (stmt.Select q) eb el refl refl
+    line-does block.Outside (stmt.Insert t x) eb el = alone-line (stmt.Insert t x) eb el refl refl
+    line-does block.Outside (stmt.Update t x z) eb el = alone-line (stmt.Update t x z) eb el refl refl
+    line-does block.Outside (stmt.Delete t x) eb el = alone-line (stmt.Delete t x) eb el refl refl
+    line-does (block.Open v) (stmt.Begin level) eb el = simply (block.Open v) (step.Answer plain.Begin) told.Begin (stmt.Begin level) eb el refl (λ h. refl) (λ h. (refl, refl)) (λ later. tt) refl (λ later. tt)
+    line-does (block.Open v) stmt.Commit eb el = close-does v eb el
+    line-does (block.Open v) stmt.Rollback eb el = back-does v eb el
+    line-does (block.Open v) (stmt.Lock t m) eb el = inside-line v (stmt.Lock t m) eb el refl
+    line-does (block.Open v) (stmt.Select q) eb el = inside-line v (stmt.Select q) eb el refl
+    line-does (block.Open v) (stmt.Insert t x) eb el = inside-line v (stmt.Insert t x) eb el refl
+    line-does (block.Open v) (stmt.Update t x z) eb el = inside-line v (stmt.Update t x z) eb el refl
+    line-does (block.Open v) (stmt.Delete t x) eb el = inside-line v (stmt.Delete t x) eb el refl
+    line-does block.Failed (stmt.Begin level) eb el = simply block.Failed step.Refuse5 (told.Refused refused.InFailedBlock) (stmt.Begin level) eb el refl (λ h. refl) (λ h. absurd (differ h)) (λ later. tt) refl (λ later. tt)
+    line-does block.Failed stmt.Commit eb el = simply block.Failed (step.Answer plain.Rollback) told.Rollback stmt.Commit eb el refl (λ h. absurd (differ h)) (λ h. absurd (differ h)) (λ later. tt) refl (λ later. tt)
+    line-does block.Failed stmt.Rollback eb el = simply block.Failed (step.Answer plain.Rollback) told.Rollback stmt.Rollback eb el refl (λ h. absurd (differ h)) (λ h. absurd (differ h)) (λ later. tt) refl (λ later. tt)
+    line-does block.Failed (stmt.Lock t m) eb el = simply block.Failed step.Refuse5 (told.Refused refused.InFailedBlock) (stmt.Lock t m) eb el refl (λ h. refl) (λ h. absurd (differ h)) (λ later. tt) refl (λ later. tt)
+    line-does block.Failed (stmt.Select q) eb el = simply block.Failed step.Refuse5 (told.Refused refused.InFailedBlock) (stmt.Select q) eb el refl (λ h. refl) (λ h. absurd (differ h)) (λ later. tt) refl (λ later. tt)
+    line-does block.Failed (stmt.Insert t x) eb el = simply block.Failed step.Refuse5 (told.Refused refused.InFailedBlock) (stmt.Insert t x) eb el refl (λ h. refl) (λ h. absurd (differ h)) (λ later. tt) refl (λ later. tt)
+    line-does block.Failed (stmt.Update t x z) eb el = simply block.Failed step.Refuse5 (told.Refused refused.InFailedBlock) (stmt.Update t x z) eb el refl (λ h. refl) (λ h. absurd (differ h)) (λ later. tt) refl (λ later. tt)
+    line-does block.Failed (stmt.Delete t x) eb el = simply block.Failed step.Refuse5 (told.Refused refused.InFailedBlock) (stmt.Delete t x) eb el refl (λ h. refl) (λ h. absurd (differ h)) (λ later. tt) refl (λ later. tt)
 
-    pub start-does : AreCalm c.locks → Does script steps c e (starts script c s (Some line))
-    start-does calm = line-does calm y.state.block line refl refl
+    pub start-does : Does script steps c e (starts script c s (Some line))
+    start-does = line-does y.state.block line refl refl
 
     pub start-idle : ends_in s steps ≡ 0
     start-idle = (st script steps c k p fr number s all idle line is_next).0

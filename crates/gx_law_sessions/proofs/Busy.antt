@@ -164,6 +164,7 @@ module _ (script : Script) (steps : List Step) (c : Coord) (from : Node) (to : N
       pub last : w.last ≡ (work_of c g).last
       pub snapshot : w.snapshot ≡ (work_of c g).snapshot
       pub under : under_way w.command ≡ under_way (work_of c g).command
+      pub waiting : w.waiting ≡ (work_of c g).waiting
       pub now_too : (first : ℕ) → IsNow script s (work_of c g) P first → IsNow script s w P first
       pub its_line : IsLineOf script s y.lines B q.stands.commands w P
 
@@ -222,7 +223,7 @@ module _ (script : Script) (steps : List Step) (c : Coord) (from : Node) (to : N
               state = at-now.said.state;
               begun = at-now.said.begun;
               sound = q.stands.sound;
-              owns = λ h. (likewise-owns w k, k.its_line, roots-on script s ms [] B P y.lines g (work_of c g) w (q.stands.owns q.busy).2 k.last k.now_too);
+              owns = λ h. (likewise-owns w k, k.its_line, roots-on script s ms [] B P y.lines g (work_of c g) w (q.stands.owns q.busy).2 k.last k.waiting k.now_too);
             }
 
     -- A COMMAND OUTSIDE A BLOCK COMMITS
@@ -422,7 +423,7 @@ module _ (script : Script) (steps : List Step) (c : Coord) (from : Node) (to : N
 
         there : Stands script s (ms ++ mark.Answer s (session_of c1 s).lines (answer_of_command (work_of c1 g).command) ∷ []) c.table.next.0 (block.Open l) pending.Nothing y.lines g (record w { command = None })
         there =
-            record { commands = q.stands.commands + 1; answered = plus-zero _ ∙ said.answered ∙ lines-are; state = said.state; begun = said.begun; sound = refl; owns = λ h. (owns-done, refl, roots-answered script s ms _ l y.lines g (work_of c g) done (subst (λ z. Roots script s ms (block.Open l) z y.lines g (work_of c g)) working (subst (λ z. Roots script s ms z P y.lines g (work_of c g)) opened (q.stands.owns q.busy).2)) k.last) }
+            record { commands = q.stands.commands + 1; answered = plus-zero _ ∙ said.answered ∙ lines-are; state = said.state; begun = said.begun; sound = refl; owns = λ h. (owns-done, refl, roots-answered script s ms _ l y.lines g (work_of c g) done (subst (λ z. Roots script s ms (block.Open l) z y.lines g (work_of c g)) working (subst (λ z. Roots script s ms z P y.lines g (work_of c g)) opened (q.stands.owns q.busy).2)) k.last k.waiting) }
 
         abbrev-turn : CoordTurn
         abbrev-turn = answers c1 g (work_of c1 g)

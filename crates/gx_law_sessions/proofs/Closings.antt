@@ -50,7 +50,7 @@ use Rattle.gx_law_order.proofs.Stages.{gx}
 use Rattle.gx_law_order.proofs.Statuses.{Moves, Turned, reply-turns, stage}
 use Rattle.gx_law_order.proofs.Statuses.Stage.{Live, Closing}
 use Rattle.gx_law_sessions.specs.Rest.{EachMark, Rest, RestAnswer}
-use Rattle.gx_law_sessions.specs.Standing.{IsSession, is_alone, state_in}
+use Rattle.gx_law_sessions.specs.Standing.{IsLineOf, IsSession, is_alone, state_in}
 use Rattle.gx_law_sessions.proofs.Answers.{done-outside}
 use Rattle.gx_law_sessions.proofs.Awaited.{all-answered, bare-all}
 use Rattle.gx_law_sessions.proofs.Busy.{Busy, alone-commit, block-commit, busy-under}
@@ -128,6 +128,12 @@ module _ (script : Script) (steps : List Step) (c : Coord) (k : Kept c) (all : (
       same : y.transaction ≡ g
       same = same-gxid script steps c k all gath from to number g (its-closing h).0
 
+      not-both : (a : Rattle.gx_law_order.proofs.Statuses.Stage) → a ≡ Live → a ≡ Closing → ⊥
+      not-both a p q = differ (sym p ∙ q)
+        where
+          differ : Live ≡ Closing → ⊥
+          differ z = cc
+
       -- an answer that is awaited keeps its transaction from closing
       none-left : (m : Command) → (work_of c g).command ≡ Some m → (left : List Node) → m.awaited ≡ left → left ≡ []
       none-left m it [] f = refl
@@ -136,16 +142,13 @@ module _ (script : Script) (steps : List Step) (c : Coord) (k : Kept c) (all : (
           some-left : i ∷ is ≡ [] → ⊥
           some-left z = cc
 
-          not-both : (a : Rattle.gx_law_order.proofs.Statuses.Stage) → a ≡ Live → a ≡ Closing → ⊥
-          not-both a p q = differ (sym p ∙ q)
-            where
-              differ : Live ≡ Closing → ⊥
-              differ z = cc
-
       alone : y.state.block ≡ block.Outside → y.state.pending ≡ pending.Command → AloneSo
-      alone eb ep =
-          let l = ((stand script steps c k all gath from to number g block.Outside pending.Command eb ep refl same).1.owns refl).1 in
-          (l.0, works-on script steps c k all gath from to number g block.Outside l.0 eb ep refl same l.1, none-left l.0 l.1 l.0.awaited refl)
+      alone eb ep = by_line ((stand script steps c k all gath from to number g block.Outside pending.Command eb ep refl same).1.owns refl).1
+        where
+          -- what waits is of a transaction that is live
+          by_line : IsLineOf script s y.lines block.Outside (stand script steps c k all gath from to number g block.Outside pending.Command eb ep refl same).1.commands (work_of c g) pending.Command → AloneSo
+          by_line (inl l) = (l.0, works-on script steps c k all gath from to number g block.Outside l.0 eb ep refl same l.1, none-left l.0 l.1 l.0.awaited refl)
+          by_line (inr l) = absurd (not-both (stage_of c g.0) ((k.tied g.0).waits l.0 l.1).0 h)
 
       in_block : (l : Level) → y.state.block ≡ block.Open l → y.state.pending ≡ pending.Commit → BlockSo
       in_block l eb ep =

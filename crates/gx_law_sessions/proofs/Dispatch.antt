@@ -1,5 +1,5 @@
 -- A command that goes out, or whose constants fault.
-use Rattle.std.proofs.Common.{◌≡◌, ◌<◌, ◌≤◌, inl, ℕ, ◌+◌, List, [], ◌∷◌, ◌++◌, Some, None, Result, Ok, Err, Bool, true, false, refl, sym, subst, ap, ◌∙◌, if◌then◌else◌, ◌||◌, arith, eqb, length, Option}
+use Rattle.std.proofs.Common.{◌≡◌, ◌<◌, ◌≤◌, inl, inr, ℕ, ◌+◌, List, [], ◌∷◌, ◌++◌, Some, None, Result, Ok, Err, Bool, true, false, refl, sym, subst, ap, ◌∙◌, if◌then◌else◌, ◌||◌, arith, eqb, length}
 use Rattle.std.proofs.Math.Seq.{take-append_seam}
 use Rattle.std.proofs.lemmas.List.{append_assoc, length-append}
 use Rattle.std.proofs.lemmas.List.Elements.{Contains-append_left, Contains-append_right, Contains-push}
@@ -29,7 +29,7 @@ use Rattle.gx_script.specs.declared.state.Block.{Block}
 use Rattle.gx_script.specs.declared.state.Block.TheVariants as block
 use Rattle.gx_script.specs.declared.state.Pending.TheVariants as pending
 use Rattle.gx_store.specs.declared.answer.StmtAnswer.TheVariants as told
-use Rattle.gx_store.specs.declared.event.Event.TheVariants as event
+use Rattle.gx_store.specs.declared.event.Event.{Event}
 use Rattle.gx_store.specs.declared.mark.Mark.{Mark}
 use Rattle.gx_store.specs.declared.mark.Mark.TheVariants as mark
 use Rattle.gx_store.specs.declared.run.Step.{Step}
@@ -39,20 +39,20 @@ use Rattle.gx_store.specs.Marks.{has_snapshot, is_aborted, is_ended, is_snapped,
 use Rattle.gx_store.specs.Points.{marks_in}
 use Rattle.gx_store.specs.Refusals.{IsCause, the_coordinator, is_journal}
 use Rattle.gx_store.specs.Writes.{dist_of}
-use Rattle.gx_rules.specs.AtCoordinator.{Reading, behind, dispatches, enlisted_all, fault_mark, faulting_from, goes, goes_out, kept_at, next_cid, nodes_in, orders_of, reads_by, reads_for, refusal_of, table_of, takes_snapshot, goes_on_locked, if_granted, lock_for, requests}
-use Rattle.gx_rules.specs.Coordinators.{Command, Coord, Session, Work, work_of}
+use Rattle.gx_rules.specs.AtCoordinator.{Reading, behind, dispatches, enlisted_all, fault_mark, faulting_from, goes, goes_out, kept_at, next_cid, nodes_in, orders_of, reads_by, reads_for, refusal_of, table_of, takes_snapshot, goes_on_locked, waits_for}
+use Rattle.gx_rules.specs.Coordinators.{Command, Coord, CoordTurn, Session, Work, work_of}
 use Rattle.gx_rules.specs.Slices.{cause_of}
 use Rattle.gx_law_order.proofs.Lists.{Each, each_append, get_last}
 use Rattle.gx_law_order.proofs.Past.{Past}
 use Rattle.gx_law_order.proofs.Turns.{self-test}
 use Rattle.gx_law_sessions.specs.Scanned.{command_at}
 use Rattle.gx_law_sessions.specs.Orders.{IsReadBy}
-use Rattle.gx_law_sessions.specs.Rest.{Rest}
+use Rattle.gx_law_sessions.specs.Rest.{Rest, UnlessStart}
 use Rattle.gx_law_sessions.specs.Standing.{Owns, Roots, Stands, is_alone, is_busy, is_sound, state_in, under_way}
 use Rattle.gx_law_sessions.proofs.Answers.{command-refusable, done-outside, refused-inside}
 use Rattle.gx_law_sessions.proofs.AtLine.{AtLine, at-calm, legal-snap}
 use Rattle.gx_law_sessions.proofs.AtLine as at_line
-use Rattle.gx_law_sessions.proofs.Awaited.{IsAwaited, IsOwn, OutAwaits}
+use Rattle.gx_law_sessions.proofs.Awaited.{IsAwaited, IsOwn, OutAwaits, own-none}
 use Rattle.gx_law_sessions.proofs.Ends.{IsOf, ended-more, of-fresh, snapped-more}
 use Rattle.gx_law_sessions.proofs.Faults.{constants-fault}
 use Rattle.gx_law_sessions.proofs.Frame.{Does, owns-more}
@@ -64,10 +64,10 @@ use Rattle.gx_law_sessions.proofs.Said.{CalmFor, said-calm}
 use Rattle.gx_law_sessions.proofs.Under.{Under, refuse-does}
 use Rattle.gx_law_sessions.proofs.Reading.{Reads, reads-for}
 use Rattle.gx_locks.specs.Locks.{Locks}
-use Rattle.gx_rules.specs.Locks.{hold_mark, with_hold}
+use Rattle.gx_rules.specs.Locks.{hold_mark, wait_mark, with_hold}
 use Rattle.gx_waits.specs.declared.claim.Claim.{Claim}
 use Rattle.gx_law_order.proofs.Lines.{past-still}
-use Rattle.gx_law_order.proofs.Calm.{AreCalm, calm-free, lock-calm}
+use Rattle.gx_law_order.proofs.Dispatches.{dispatch-ways}
 
 enlisted-next : (nodes : List Node) (d : Table) (g : Gxid) → (enlisted_all d g nodes).next ≡ d.next
 enlisted-next [] d g = refl
@@ -97,12 +97,12 @@ plan-faults n d g c (stmt.Begin level) fault e = absurd (cc)
 plan-faults n d g c stmt.Commit fault e = absurd (cc)
 plan-faults n d g c stmt.Rollback fault e = absurd (cc)
 
-module _ (script : Script) (steps : List Step) (c c1 : Coord) (s : SessionId) (g : Gxid) (x : Session) (n : ℕ) (B : Block) (commands : ℕ) (line : Stmt) (earlier : List Mark)
-    (o : Under script steps c (event.Start s) c1 s g (work_of c1 g) x n (state_in B commands) (is_alone B pending.Command) line earlier)
+module _ (script : Script) (steps : List Step) (ev : Event) (exempt : (A : Type 0) → UnlessStart ev A) (c c1 : Coord) (s : SessionId) (g : Gxid) (x : Session) (n : ℕ) (B : Block) (commands : ℕ) (line : Stmt) (earlier : List Mark)
+    (o : Under script steps c ev c1 s g (work_of c1 g) x n (state_in B commands) (is_alone B pending.Command) line earlier)
     (xb : x.state.block ≡ B) (xp : x.state.pending ≡ pending.Command) (busy : is_busy B pending.Command ≡ true) (cmd : is_command (state_in B commands) line ≡ true)
-    (owns : Owns s commands (marks_in steps ++ earlier) c1.table.next.0 B g (work_of c1 g)) (none : (work_of c1 g).command ≡ None) (cid : cid_of (state_in B commands) ≡ next_cid (work_of c1 g))
+    (owns : Owns s commands (marks_in steps ++ earlier) c1.table.next.0 B g (work_of c1 g)) (none : (work_of c1 g).command ≡ None) (free : (work_of c1 g).waiting ≡ None) (cid : cid_of (state_in B commands) ≡ next_cid (work_of c1 g))
     (past : Past c1 (marks_in steps ++ earlier))
-    (roots : (m : Command) (v : Work) (ns : List Mark) → m.stmt ≡ line → m.cid ≡ next_cid (work_of c1 g) → v.last ≡ (work_of c1 g).last + 1 → v.command ≡ Some m → Roots script s ((marks_in steps ++ earlier) ++ ns) B pending.Command x.lines g v)
+    (roots : (m : Command) (v : Work) (ns : List Mark) → m.stmt ≡ line → m.cid ≡ next_cid (work_of c1 g) → v.last ≡ (work_of c1 g).last + 1 → v.command ≡ Some m → v.waiting ≡ None → Roots script s ((marks_in steps ++ earlier) ++ ns) B pending.Command x.lines g v)
     (unawaited : (k : Cid) (i : Node) (level : Level) → IsAwaited (c.works g.0) k i level → ⊥) where
   abbrev w : Work
   w = work_of c1 g
@@ -114,11 +114,11 @@ module _ (script : Script) (steps : List Step) (c c1 : Coord) (s : SessionId) (g
   ms = marks_in steps ++ earlier
 
   abbrev ReadsHere : Reading → Type 0
-  ReadsHere r = Reads script steps c c1 s g x n B commands line earlier o xb xp busy cmd owns none cid past r
+  ReadsHere r = Reads script steps ev c c1 s g x n B commands line earlier o xb xp busy cmd owns none cid past r
 
   -- THE COMMAND GOES OUT
-  at-reading : (r : Reading) → ReadsHere r → AtLine script steps (event.Start s) s line n b (is_alone B pending.Command) (Some g) (earlier ++ r.marks)
-  at-reading r R = at-calm script steps (event.Start s) s line n b (is_alone B pending.Command) (Some g) earlier r.marks o.at R.calm
+  at-reading : (r : Reading) → ReadsHere r → AtLine script steps ev s line n b (is_alone B pending.Command) (Some g) (earlier ++ r.marks)
+  at-reading r R = at-calm script steps ev s line n b (is_alone B pending.Command) (Some g) earlier r.marks o.at R.calm
 
   running-there : (r : Reading) → ReadsHere r → is_ended (marks_in steps ++ (earlier ++ r.marks)) g ≡ false
   running-there r R = subst (λ m. is_ended m g ≡ false) (append_assoc (marks_in steps) earlier r.marks) (ended-more ms r.marks g o.running R.running)
@@ -154,14 +154,14 @@ module _ (script : Script) (steps : List Step) (c c1 : Coord) (s : SessionId) (g
   unfolding sent-command
   sent-roots r pieces R =
       subst (λ m. Roots script s m B pending.Command x.lines g (sent-work r pieces R.w2)) (append_assoc (marks_in steps) earlier r.marks)
-      (roots (sent-command r pieces R.w2) (sent-work r pieces R.w2) r.marks refl refl refl refl)
+      (roots (sent-command r pieces R.w2) (sent-work r pieces R.w2) r.marks refl refl refl refl (R.waiting ∙ free))
 
   out-orders : (all : List Piece) (r : Reading) (R : ReadsHere r) (v : Work) → v.level ≡ w.level → plan_of script.segments (dist_of script.tables (table_of line)) g (next_cid w) line ≡ Ok all → (pieces : List Piece) → Each (Contains all) pieces → Each (OutIs script (marks_in steps ++ (earlier ++ r.marks))) (orders_of g (next_cid w) v.level r.snapshot (horizon_of r.coord.table) pieces)
   out-orders all r R v lev plan [] e = tt
   out-orders all r R v lev plan (q ∷ qs) e = (
     λ n. record {
       line = line;
-      of = ap (λ o. command_at script o (w.last + 1)) z.began ∙ z.now n (sent-command-of r all) refl;
+      of = ap (λ o. command_at script o (w.last + 1)) z.began ∙ (z.now n).0 (sent-command-of r all) refl;
       level_is = lev ∙ owns.level ∙ roots-level script s (marks_in steps ++ (earlier ++ r.marks)) B x.lines g (sent-work r all R.w2) line commands z (ap (λ i. stmt_of s i script.lines) o.lines ∙ o.at.is_line) cmd;
       counted = one-more w.last;
       pieces = all;
@@ -186,7 +186,7 @@ module _ (script : Script) (steps : List Step) (c c1 : Coord) (s : SessionId) (g
   each-contained xs (y ∷ ys) =
       (Contains-append_right xs (y ∷ ys) y (Contains-append_left (y ∷ []) ys y (Contains-push [] y)), subst (λ m. Each (Contains m) ys) (append_assoc xs (y ∷ []) ys) (each-contained (xs ++ y ∷ []) ys))
 
-  out-does : (pieces : List Piece) (r : Reading) → ReadsHere r → plan_of script.segments (dist_of script.tables (table_of line)) g (next_cid w) line ≡ Ok pieces → Does script steps c (event.Start s) (behind earlier (goes_out g (next_cid w) line pieces r))
+  out-does : (pieces : List Piece) (r : Reading) → ReadsHere r → plan_of script.segments (dist_of script.tables (table_of line)) g (next_cid w) line ≡ Ok pieces → Does script steps c ev (behind earlier (goes_out g (next_cid w) line pieces r))
   out-does pieces r R plan =
       record {
         s = s.0;
@@ -201,14 +201,14 @@ module _ (script : Script) (steps : List Step) (c c1 : Coord) (s : SessionId) (g
         alone = o.alone;
         starts = o.at.starts ∙ sym o.lines;
         stands = inl (o.ends, at_x (subst (λ v. Stands script s (marks_in steps ++ (earlier ++ r.marks)) late.coord.table.next.0 B pending.Command x.lines g v) (sym work-now) there));
-        legal = λ later. marks-append (Given script) steps (event.Start s) [] earlier r.marks later (o.legal (r.marks ++ later)) (R.legal later);
-        rest = λ t later. marks-append (Rest script) steps (event.Start s) [] earlier r.marks later (o.rests (r.marks ++ later)) (R.rests later);
+        legal = λ later. marks-append (Given script) steps ev [] earlier r.marks later (o.legal (r.marks ++ later)) (R.legal later);
+        rest = λ t later. marks-append (Rest script) steps ev [] earlier r.marks later (o.rests (r.marks ++ later)) (R.rests later);
         outs = sent_orders;
         owned = λ h m q. subst (λ (z : Command). Each (λ (o : Out). IsOwn g z.cid ((goes_out g (next_cid w) line pieces r).coord.works g.0).level o.message) z.orders) (some-same _ m (sym command-now ∙ q)) (own-all pieces);
         sent = awaited-all pieces (λ i h. h);
         keeps = λ k i level a. absurd (unawaited k i level a);
         orders = λ h. subst (CommandIs script (marks_in steps ++ (earlier ++ r.marks))) (sym command-now) sent_orders;
-        gathers = λ h. subst (GathersIn script (HeardNow steps (event.Start s)) g) (sym command-now)
+        gathers = λ h. subst (GathersIn script (HeardNow steps ev) g) (sym command-now)
             (record { pieces = pieces; plan = plan; taken = []; heard = tt; fits = tt; apart = tt; all = λ i. or-none (has i (nodes_in pieces)); free = λ i q. refl; parts = refl; counted = refl });
       }
     where
@@ -268,7 +268,7 @@ module _ (script : Script) (steps : List Step) (c c1 : Coord) (s : SessionId) (g
             state = (at-reading r R).said.state;
             begun = (at-reading r R).said.begun;
             sound = sounds B busy;
-            owns = λ h. (sent-owns r pieces R, (_, refl, ap (λ i. stmt_of s i script.lines) o.lines ∙ o.at.is_line, cmd, sym cid), sent-roots r pieces R);
+            owns = λ h. (sent-owns r pieces R, inl (_, refl, ap (λ i. stmt_of s i script.lines) o.lines ∙ o.at.is_line, cmd, sym cid), sent-roots r pieces R);
           }
 
       at_x : Stands script s (marks_in steps ++ (earlier ++ r.marks)) late.coord.table.next.0 B pending.Command x.lines g (late.coord.works g.0) → Stands script s (marks_in steps ++ (earlier ++ r.marks)) late.coord.table.next.0 x.state.block x.state.pending x.lines x.transaction (late.coord.works x.transaction.0)
@@ -305,7 +305,7 @@ module _ (script : Script) (steps : List Step) (c c1 : Coord) (s : SessionId) (g
         right : (p q : Bool) → (p || q) ≡ false → q ≡ false
         right p q e = grind arith
 
-    has-faulted : (later : List Mark) → Rattle.gx_store.specs.Refusals.HasFaulted (record { steps = steps; event = event.Start s; earlier = (earlier ++ why) ++ mark.Abort g ∷ []; later = later }) line (level_of b) g (next_cid w) fault (cause_of fault)
+    has-faulted : (later : List Mark) → Rattle.gx_store.specs.Refusals.HasFaulted (record { steps = steps; event = ev; earlier = (earlier ++ why) ++ mark.Abort g ∷ []; later = later }) line (level_of b) g (next_cid w) fault (cause_of fault)
     has-faulted later =
         record {
           place = length seam;
@@ -314,32 +314,32 @@ module _ (script : Script) (steps : List Step) (c c1 : Coord) (s : SessionId) (g
           noted = subst (λ m. slice_get m (length seam) ≡ Some noted) (sym joined) (get_last seam (mark.Abort g ∷ []) noted);
           unaborted = subst (λ m. is_aborted (take (length seam) m) g ≡ false) (sym joined) (subst (λ m. is_aborted m g ≡ false) (sym (take-append_seam seam (noted ∷ mark.Abort g ∷ []))) (not-aborted seam (running-there r R)));
           faults = is-fault _;
-          heard = subst (λ l. Rattle.gx_store.specs.Refusals.IsHeard (record { steps = steps; event = event.Start s; earlier = (earlier ++ why) ++ mark.Abort g ∷ []; later = later }) (length seam) l g (next_cid w) rid None (cause_of fault)) (sym is_insert) (at-least (length (marks_in steps)) (length (earlier ++ r.marks)) (length seam) (length-append (marks_in steps) (earlier ++ r.marks)));
+          heard = subst (λ l. Rattle.gx_store.specs.Refusals.IsHeard (record { steps = steps; event = ev; earlier = (earlier ++ why) ++ mark.Abort g ∷ []; later = later }) (length seam) l g (next_cid w) rid None (cause_of fault)) (sym is_insert) (at-least (length (marks_in steps)) (length (earlier ++ r.marks)) (length seam) (length-append (marks_in steps) (earlier ++ r.marks)));
         }
       where
         at-least : (a d e : ℕ) → e ≡ a + d → a ≤ e
         at-least a d e h = omega arith
 
-    cause : (later : List Mark) → IsCause (record { steps = steps; event = event.Start s; earlier = (earlier ++ why) ++ mark.Abort g ∷ []; later = later }) line (level_of b) g (cid_of b) (refusal_of fault)
-    cause later = subst (λ q. IsCause (record { steps = steps; event = event.Start s; earlier = (earlier ++ why) ++ mark.Abort g ∷ []; later = later }) line (level_of b) g q (refusal_of fault)) (sym cid) (by_fault fault (has-faulted later))
+    cause : (later : List Mark) → IsCause (record { steps = steps; event = ev; earlier = (earlier ++ why) ++ mark.Abort g ∷ []; later = later }) line (level_of b) g (cid_of b) (refusal_of fault)
+    cause later = subst (λ q. IsCause (record { steps = steps; event = ev; earlier = (earlier ++ why) ++ mark.Abort g ∷ []; later = later }) line (level_of b) g q (refusal_of fault)) (sym cid) (by_fault fault (has-faulted later))
       where
-        by_fault : (f : ArithFault) → Rattle.gx_store.specs.Refusals.HasFaulted (record { steps = steps; event = event.Start s; earlier = (earlier ++ why) ++ mark.Abort g ∷ []; later = later }) line (level_of b) g (next_cid w) f (cause_of f) → IsCause (record { steps = steps; event = event.Start s; earlier = (earlier ++ why) ++ mark.Abort g ∷ []; later = later }) line (level_of b) g (next_cid w) (refusal_of f)
+        by_fault : (f : ArithFault) → Rattle.gx_store.specs.Refusals.HasFaulted (record { steps = steps; event = ev; earlier = (earlier ++ why) ++ mark.Abort g ∷ []; later = later }) line (level_of b) g (next_cid w) f (cause_of f) → IsCause (record { steps = steps; event = ev; earlier = (earlier ++ why) ++ mark.Abort g ∷ []; later = later }) line (level_of b) g (next_cid w) (refusal_of f)
         by_fault arithmetic.Overflow h = h
         by_fault arithmetic.DivisionByZero h = h
 
-    live-fault : (later : List Mark) → Rattle.gx_store.specs.Faults.LegalFault script (record { steps = steps; event = event.Start s; earlier = earlier ++ r.marks; later = later }) g (next_cid w) rid None
+    live-fault : (later : List Mark) → Rattle.gx_store.specs.Faults.LegalFault script (record { steps = steps; event = ev; earlier = earlier ++ r.marks; later = later }) g (next_cid w) rid None
     live-fault later =
         inl (record {
           session = s;
           stmt = line;
           level = level_of b;
           fault = fault;
-          runs = subst (λ q. Rattle.gx_store.specs.Commands.IsUnderWay script (record { steps = steps; event = event.Start s; earlier = earlier ++ r.marks; later = later }) s line (level_of b) g q) cid
-              (at_line.under-way script steps (event.Start s) s line n b (is_alone B pending.Command) (Some g) (earlier ++ r.marks) (at-reading r R) later g o.has refl cmd (running-there r R));
+          runs = subst (λ q. Rattle.gx_store.specs.Commands.IsUnderWay script (record { steps = steps; event = ev; earlier = earlier ++ r.marks; later = later }) s line (level_of b) g q) cid
+              (at_line.under-way script steps ev s line n b (is_alone B pending.Command) (Some g) (earlier ++ r.marks) (at-reading r R) later g o.has refl cmd (running-there r R));
           faults = is-fault _;
         })
 
-    under2 : Under script steps c (event.Start s) r.coord s g R.w2 x n b (is_alone B pending.Command) line earlier
+    under2 : Under script steps c ev r.coord s g R.w2 x n b (is_alone B pending.Command) line earlier
     under2 =
         record {
           work = R.work;
@@ -365,19 +365,19 @@ module _ (script : Script) (steps : List Step) (c c1 : Coord) (s : SessionId) (g
     not-journal arithmetic.Overflow = refl
     not-journal arithmetic.DivisionByZero = refl
 
-    faults-does : Does script steps c (event.Start s) (behind earlier (Rattle.gx_rules.specs.AtCoordinator.is_refused r.coord g (on_abort r.coord.table g) why (refusal_of fault)))
+    faults-does : Does script steps c ev (behind earlier (Rattle.gx_rules.specs.AtCoordinator.is_refused r.coord g (on_abort r.coord.table g) why (refusal_of fault)))
     faults-does =
-        refuse-does script steps c (event.Start s) r.coord s g R.w2 x n b (is_alone B pending.Command) line earlier under2 (on_abort r.coord.table g) why (refusal_of fault) (block_after_refusal B pending.Command) refl (command-refusable b line (refusal_of fault) cmd (not-journal fault))
+        refuse-does script steps c ev r.coord s g R.w2 x n b (is_alone B pending.Command) line earlier under2 (on_abort r.coord.table g) why (refusal_of fault) (block_after_refusal B pending.Command) refl (command-refusable b line (refusal_of fault) cmd (not-journal fault))
         (ap (λ q. block_after_refusal q x.state.pending) xb ∙ ap (block_after_refusal B) xp) (not-busy B) (after B busy cmd)
         (each_append (IsOf s.0 g.0) r.marks (noted ∷ []) R.of (tt, tt)) (each_append (CalmFor s) r.marks (noted ∷ []) R.calm (tt, tt))
         (subst (λ m. is_ended m g ≡ false) (append_assoc (marks_in steps) (earlier ++ r.marks) (noted ∷ []) ∙ ap (λ m. marks_in steps ++ m) (append_assoc earlier r.marks (noted ∷ []))) (ended-more seam (noted ∷ []) g (running-there r R) refl))
-        (λ later. marks-append (Given script) steps (event.Start s) earlier r.marks (noted ∷ []) later (R.legal _) (λ q. live-fault later, tt))
+        (λ later. marks-append (Given script) steps ev earlier r.marks (noted ∷ []) later (R.legal _) (λ q. live-fault later, tt))
         (λ later q. cause later) (abort-bare r.coord.table g)
-        (λ later. marks-append (Rest script) steps (event.Start s) earlier r.marks (noted ∷ []) later (R.rests _) (tt, tt)) (λ t later. by-start ((earlier ++ why) ++ mark.Abort g ∷ []) later fault)
+        (λ later. marks-append (Rest script) steps ev earlier r.marks (noted ∷ []) later (R.rests _) (exempt _, tt)) (λ t later. by-start ((earlier ++ why) ++ mark.Abort g ∷ []) later fault)
       where
-        by-start : (earlier later : List Mark) (f : ArithFault) → Rattle.gx_law_sessions.specs.Rest.RestAnswer script (record { steps = steps; event = event.Start s; earlier = earlier; later = later }) s (told.Refused (refusal_of f))
-        by-start earlier later arithmetic.Overflow = tt
-        by-start earlier later arithmetic.DivisionByZero = tt
+        by-start : (earlier later : List Mark) (f : ArithFault) → Rattle.gx_law_sessions.specs.Rest.RestAnswer script (record { steps = steps; event = ev; earlier = earlier; later = later }) s (told.Refused (refusal_of f))
+        by-start earlier later arithmetic.Overflow = exempt _
+        by-start earlier later arithmetic.DivisionByZero = exempt _
 
         not-busy : (q : Block) → is_busy (block_after_refusal q pending.Command) pending.Nothing ≡ false
         not-busy block.Outside = refl
@@ -389,25 +389,25 @@ module _ (script : Script) (steps : List Step) (c c1 : Coord) (s : SessionId) (g
         after (block.Open l) h e = refused-inside l commands line (refusal_of fault) e
         after block.Failed h e = absurd (differ h)
 
-  goes-does : (r : Reading) → ReadsHere r → (plan : Result (List Piece) ArithFault) → plan_of script.segments (dist_of script.tables (table_of line)) g (next_cid w) line ≡ plan → Does script steps c (event.Start s) (behind earlier (goes g (next_cid w) line r plan))
+  goes-does : (r : Reading) → ReadsHere r → (plan : Result (List Piece) ArithFault) → plan_of script.segments (dist_of script.tables (table_of line)) g (next_cid w) line ≡ plan → Does script steps c ev (behind earlier (goes g (next_cid w) line r plan))
   goes-does r R (Ok pieces) e = out-does pieces r R e
   goes-does r R (Err fault) e = by_insert (plan-faults script.segments (dist_of script.tables (table_of line)) g (next_cid w) line fault e)
     where
-      by_insert : ((table : Rattle.gx_ids.specs.declared.ids.Table.Table) × ((tuples : List (List Expr)) × (line ≡ stmt.Insert table tuples) × (rows_of g (next_cid w) tuples ≡ Err fault))) → Does script steps c (event.Start s) (behind earlier (goes g (next_cid w) line r (Err fault)))
+      by_insert : ((table : Rattle.gx_ids.specs.declared.ids.Table.Table) × ((tuples : List (List Expr)) × (line ≡ stmt.Insert table tuples) × (rows_of g (next_cid w) tuples ≡ Err fault))) → Does script steps c ev (behind earlier (goes g (next_cid w) line r (Err fault)))
       by_insert h =
-          subst (λ f. Does script steps c (event.Start s) (behind earlier (Rattle.gx_rules.specs.AtCoordinator.is_refused r.coord g (on_abort r.coord.table g) (r.marks ++ f) (refusal_of fault)))) (sym (ap (fault_mark g (next_cid w)) h.1.1))
+          subst (λ f. Does script steps c ev (behind earlier (Rattle.gx_rules.specs.AtCoordinator.is_refused r.coord g (on_abort r.coord.table g) (r.marks ++ f) (refusal_of fault)))) (sym (ap (fault_mark g (next_cid w)) h.1.1))
           (faults-does r R h.0 h.1.0 h.1.1 fault h.1.2)
 
-  pub locked-does : Does script steps c (event.Start s) (behind earlier (goes_on_locked script c1 g line))
-  locked-does = goes-does _ (reads-for script steps c c1 s g x n B commands line earlier o xb xp busy cmd owns none cid past line refl cmd) (plan_of script.segments (dist_of script.tables (table_of line)) g (next_cid w) line) refl
+  pub locked-does : Does script steps c ev (behind earlier (goes_on_locked script c1 g line))
+  locked-does = goes-does _ (reads-for script steps ev c c1 s g x n B commands line earlier o xb xp busy cmd owns none cid past line refl cmd) (plan_of script.segments (dist_of script.tables (table_of line)) g (next_cid w) line) refl
 
 -- WITH ITS TABLE'S LOCK
-module _ (script : Script) (steps : List Step) (c c1 : Coord) (s : SessionId) (g : Gxid) (x : Session) (n : ℕ) (B : Block) (commands : ℕ) (line : Stmt) (earlier : List Mark)
-    (o : Under script steps c (event.Start s) c1 s g (work_of c1 g) x n (state_in B commands) (is_alone B pending.Command) line earlier)
+module _ (script : Script) (steps : List Step) (ev : Event) (exempt : (A : Type 0) → UnlessStart ev A) (c c1 : Coord) (s : SessionId) (g : Gxid) (x : Session) (n : ℕ) (B : Block) (commands : ℕ) (line : Stmt) (earlier : List Mark)
+    (o : Under script steps c ev c1 s g (work_of c1 g) x n (state_in B commands) (is_alone B pending.Command) line earlier)
     (xb : x.state.block ≡ B) (xp : x.state.pending ≡ pending.Command) (busy : is_busy B pending.Command ≡ true) (cmd : is_command (state_in B commands) line ≡ true)
-    (owns : Owns s commands (marks_in steps ++ earlier) c1.table.next.0 B g (work_of c1 g)) (none : (work_of c1 g).command ≡ None) (cid : cid_of (state_in B commands) ≡ next_cid (work_of c1 g))
+    (owns : Owns s commands (marks_in steps ++ earlier) c1.table.next.0 B g (work_of c1 g)) (none : (work_of c1 g).command ≡ None) (free : (work_of c1 g).waiting ≡ None) (cid : cid_of (state_in B commands) ≡ next_cid (work_of c1 g))
     (past : Past c1 (marks_in steps ++ earlier))
-    (roots : (m : Command) (v : Work) (ns : List Mark) → m.stmt ≡ line → m.cid ≡ next_cid (work_of c1 g) → v.last ≡ (work_of c1 g).last + 1 → v.command ≡ Some m → Roots script s ((marks_in steps ++ earlier) ++ ns) B pending.Command x.lines g v)
+    (roots : (m : Command) (v : Work) (ns : List Mark) → m.stmt ≡ line → m.cid ≡ next_cid (work_of c1 g) → v.last ≡ (work_of c1 g).last + 1 → v.command ≡ Some m → v.waiting ≡ None → Roots script s ((marks_in steps ++ earlier) ++ ns) B pending.Command x.lines g v)
     (unawaited : (k : Cid) (i : Node) (level : Level) → IsAwaited (c.works g.0) k i level → ⊥) where
   module _ (locks : Locks) (wanted : Claim) where
     abbrev held : Coord
@@ -419,7 +419,7 @@ module _ (script : Script) (steps : List Step) (c c1 : Coord) (s : SessionId) (g
     seam-held : marks_in steps ++ (earlier ++ hold ∷ []) ≡ (marks_in steps ++ earlier) ++ hold ∷ []
     seam-held = sym (append_assoc (marks_in steps) earlier (hold ∷ []))
 
-    under-held : Under script steps c (event.Start s) held s g (work_of c1 g) x n (state_in B commands) (is_alone B pending.Command) line (earlier ++ hold ∷ [])
+    under-held : Under script steps c ev held s g (work_of c1 g) x n (state_in B commands) (is_alone B pending.Command) line (earlier ++ hold ∷ [])
     under-held =
         record {
           work = o.work;
@@ -433,22 +433,22 @@ module _ (script : Script) (steps : List Step) (c c1 : Coord) (s : SessionId) (g
           whose = o.whose;
           ends = o.ends;
           alone = o.alone;
-          at = at-calm script steps (event.Start s) s line n (state_in B commands) (is_alone B pending.Command) (Some g) earlier (hold ∷ []) o.at (tt, tt);
+          at = at-calm script steps ev s line n (state_in B commands) (is_alone B pending.Command) (Some g) earlier (hold ∷ []) o.at (tt, tt);
           has = o.has;
           running = subst (λ m. is_ended m g ≡ false) (sym seam-held) (ended-more (marks_in steps ++ earlier) (hold ∷ []) g o.running refl);
           of = each_append (IsOf s.0 g.0) earlier (hold ∷ []) o.of (tt, tt);
-          legal = λ later. marks-append (Given script) steps (event.Start s) [] earlier (hold ∷ []) later (o.legal (hold ∷ later)) (λ r. tt, tt);
-          rests = λ later. marks-append (Rest script) steps (event.Start s) [] earlier (hold ∷ []) later (o.rests (hold ∷ later)) (tt, tt);
+          legal = λ later. marks-append (Given script) steps ev [] earlier (hold ∷ []) later (o.legal (hold ∷ later)) (λ r. tt, tt);
+          rests = λ later. marks-append (Rest script) steps ev [] earlier (hold ∷ []) later (o.rests (hold ∷ later)) (tt, tt);
         }
 
-    held-does : Does script steps c (event.Start s) (behind earlier (behind (hold ∷ []) (goes_on_locked script held g line)))
+    pub held-does : Does script steps c ev (behind earlier (behind (hold ∷ []) (goes_on_locked script held g line)))
     held-does =
-        subst (λ m. Does script steps c (event.Start s) (record (goes_on_locked script held g line) { marks = m })) (append_assoc earlier (hold ∷ []) (goes_on_locked script held g line).marks)
-        (locked-does script steps c held s g x n B commands line (earlier ++ hold ∷ []) under-held xb xp busy cmd
+        subst (λ m. Does script steps c ev (record (goes_on_locked script held g line) { marks = m })) (append_assoc earlier (hold ∷ []) (goes_on_locked script held g line).marks)
+        (locked-does script steps ev exempt c held s g x n B commands line (earlier ++ hold ∷ []) under-held xb xp busy cmd
         (subst (λ m. Owns s commands m c1.table.next.0 B g (work_of c1 g)) (sym seam-held) (owns-more script s commands (marks_in steps ++ earlier) (hold ∷ []) c1.table.next.0 c1.table.next.0 B g (work_of c1 g) owns (same-le c1.table.next.0) started refl refl))
-        none cid
+        none free cid
         (subst (λ m. Past held m) (sym seam-held) (past-still c1 held (marks_in steps ++ earlier) (hold ∷ []) past refl (tt, tt)))
-        (λ m v ns a b d e. subst (λ ms. Roots script s ms B pending.Command x.lines g v) (ap (λ ms. ms ++ ns) (sym seam-held)) (subst (λ ms. Roots script s ms B pending.Command x.lines g v) (sym (append_assoc (marks_in steps ++ earlier) (hold ∷ []) ns)) (roots m v (hold ∷ ns) a b d e)))
+        (λ m v ns a b d e f. subst (λ ms. Roots script s ms B pending.Command x.lines g v) (ap (λ ms. ms ++ ns) (sym seam-held)) (subst (λ ms. Roots script s ms B pending.Command x.lines g v) (sym (append_assoc (marks_in steps ++ earlier) (hold ∷ []) ns)) (roots m v (hold ∷ ns) a b d e f)))
         unawaited)
       where
         same-le : (a : ℕ) → a ≤ a
@@ -457,11 +457,90 @@ module _ (script : Script) (steps : List Step) (c c1 : Coord) (s : SessionId) (g
         started : started_after s None ((marks_in steps ++ earlier) ++ hold ∷ []) ≡ started_after s None (marks_in steps ++ earlier)
         started = (said-calm script s (marks_in steps ++ earlier) (hold ∷ []) (answer_count s (marks_in steps ++ earlier)) (state_of script s (marks_in steps ++ earlier)) (is_begun s (marks_in steps ++ earlier)) (started_after s None (marks_in steps ++ earlier)) (record { answered = refl; state = refl; begun = refl; started = refl }) (tt, tt)).started
 
-  request-does : AreCalm c1.locks → (q : Option Claim) → lock_for g line ≡ q → Does script steps c (event.Start s) (behind earlier (requests script c1 g line q))
-  request-does calm None e = locked-does script steps c c1 s g x n B commands line earlier o xb xp busy cmd owns none cid past roots unawaited
-  request-does calm (Some wanted) e =
-      subst (λ t. Does script steps c (event.Start s) (behind earlier (if_granted script c1 g line wanted t))) (sym (calm-free c1.locks wanted calm (lock-calm g line wanted e)))
-      (held-does (with_hold c1.locks wanted) wanted)
+  -- OR IT WAITS
+  module _ (wanted : Claim) (held_up_roots : (v : Work) (ns : List Mark) → v.last ≡ (work_of c1 g).last → v.command ≡ None → v.waiting ≡ Some line → Roots script s ((marks_in steps ++ earlier) ++ ns) B pending.Command x.lines g v) where
+    abbrev late : CoordTurn
+    late = waits_for c1 g line wanted
 
-  pub dispatch-does : AreCalm c1.locks → Does script steps c (event.Start s) (behind earlier (dispatches script c1 g line))
-  dispatch-does calm = request-does calm (lock_for g line) refl
+    abbrev tail : List Mark
+    tail = wait_mark the_coordinator wanted ∷ []
+
+    abbrev held_work : Work
+    held_work = record (work_of c1 g) { waiting = Some line }
+
+    seam-late : (marks_in steps ++ earlier) ++ tail ≡ marks_in steps ++ (earlier ++ tail)
+    seam-late = append_assoc (marks_in steps) earlier tail
+
+    at-late : AtLine script steps ev s line n (state_in B commands) (is_alone B pending.Command) (Some g) (earlier ++ tail)
+    at-late = at-calm script steps ev s line n (state_in B commands) (is_alone B pending.Command) (Some g) earlier tail o.at (tt, tt)
+
+    work-now : late.coord.works g.0 ≡ held_work
+    work-now = ap (λ q. if q then held_work else c1.works g.0) (self-test g.0)
+
+    no-command : (late.coord.works g.0).command ≡ None
+    no-command = ap (λ (v : Work). v.command) work-now ∙ none
+
+    owns-late : Owns s commands (marks_in steps ++ (earlier ++ tail)) c1.table.next.0 B g held_work
+    owns-late =
+        let z = owns-more script s commands (marks_in steps ++ earlier) tail c1.table.next.0 c1.table.next.0 B g (work_of c1 g) owns (same-le c1.table.next.0) (ap (started_after s None) seam-late ∙ at-late.said.started ∙ sym owns.started) refl refl in
+        let v = subst (λ m. Owns s commands m c1.table.next.0 B g (work_of c1 g)) seam-late z in
+        record { home = v.home; started = v.started; level = v.level; drawn = v.drawn; running = v.running; counted = v.counted; unsnapped = v.unsnapped; snapshot = v.snapshot }
+      where
+        same-le : (a : ℕ) → a ≤ a
+        same-le a = omega arith
+
+    there : Stands script s (marks_in steps ++ (earlier ++ tail)) c1.table.next.0 B pending.Command x.lines g held_work
+    there =
+        record {
+          commands = commands;
+          answered = ap (λ i. i + 1) at-late.said.answered ∙ sym o.lines;
+          state = at-late.said.state;
+          begun = at-late.said.begun;
+          sound = sounds B busy;
+          owns = λ h. (
+            owns-late,
+            inr (line, refl, none, ap (λ i. stmt_of s i script.lines) o.lines ∙ o.at.is_line, cmd, ap (λ (i : Cid). i.0) cid),
+            subst (λ m. Roots script s m B pending.Command x.lines g held_work) seam-late (held_up_roots held_work tail refl none refl),
+          );
+        }
+      where
+        sounds : (q : Block) → is_busy q pending.Command ≡ true → is_sound q pending.Command ≡ true
+        sounds block.Outside h = refl
+        sounds (block.Open l) h = refl
+        sounds block.Failed h = absurd (differ h)
+
+    at_x : Stands script s (marks_in steps ++ (earlier ++ tail)) c1.table.next.0 B pending.Command x.lines g (late.coord.works g.0) → Stands script s (marks_in steps ++ (earlier ++ tail)) c1.table.next.0 x.state.block x.state.pending x.lines x.transaction (late.coord.works x.transaction.0)
+    at_x h =
+        subst (λ q. Stands script s (marks_in steps ++ (earlier ++ tail)) c1.table.next.0 q x.state.pending x.lines x.transaction (late.coord.works x.transaction.0)) (sym xb)
+        (subst (λ q. Stands script s (marks_in steps ++ (earlier ++ tail)) c1.table.next.0 B q x.lines x.transaction (late.coord.works x.transaction.0)) (sym xp)
+        (subst (λ (q : Gxid). Stands script s (marks_in steps ++ (earlier ++ tail)) c1.table.next.0 B pending.Command x.lines q (late.coord.works q.0)) (sym o.its) h))
+
+    pub waits-does : Does script steps c ev (behind earlier late)
+    waits-does =
+        record {
+          s = s.0;
+          g = g.0;
+          x = x;
+          sessions = o.sessions;
+          works = λ j h. ap (λ q. if q then held_work else c1.works j) h ∙ o.works j h;
+          next = o.next;
+          whose = o.whose;
+          of = each_append (IsOf s.0 g.0) earlier tail o.of (tt, tt);
+          fresh = of-fresh s.0 g.0 _ (earlier ++ tail) o.drawn (each_append (IsOf s.0 g.0) earlier tail o.of (tt, tt));
+          alone = o.alone;
+          starts = o.at.starts ∙ sym o.lines;
+          stands = inl (o.ends, at_x (subst (λ v. Stands script s (marks_in steps ++ (earlier ++ tail)) c1.table.next.0 B pending.Command x.lines g v) (sym work-now) there));
+          legal = λ later. marks-append (Given script) steps ev [] earlier tail later (o.legal (tail ++ later)) (λ r. tt, tt);
+          rest = λ t later. marks-append (Rest script) steps ev [] earlier tail later (o.rests (tail ++ later)) (tt, tt);
+          outs = tt;
+          orders = λ h. subst (CommandIs script (marks_in steps ++ (earlier ++ tail))) (sym no-command) tt;
+          gathers = λ h. subst (GathersIn script (HeardNow steps ev) g) (sym no-command) tt;
+          owned = λ h. own-none g (late.coord.works g.0) no-command;
+          sent = tt;
+          keeps = λ k i level a. absurd (unawaited k i level a);
+        }
+
+  pub dispatch-does : ((v : Work) (ns : List Mark) → v.last ≡ (work_of c1 g).last → v.command ≡ None → v.waiting ≡ Some line → Roots script s ((marks_in steps ++ earlier) ++ ns) B pending.Command x.lines g v) → Does script steps c ev (behind earlier (dispatches script c1 g line))
+  dispatch-does held_up_roots =
+      dispatch-ways (λ t. Does script steps c ev (behind earlier t)) script c1 g line (λ e. locked-does script steps ev exempt c c1 s g x n B commands line earlier o xb xp busy cmd owns none free cid past roots unawaited)
+      (λ wanted e f. held-does (with_hold c1.locks wanted) wanted) (λ wanted e f. waits-does wanted held_up_roots)

@@ -20,6 +20,7 @@ pub mod Closed
 pub mod Busy
 pub mod Replies
 pub mod Closings
+pub mod Resuming
 pub mod Notes
 pub mod Alive
 pub mod Ran
@@ -28,3 +29,4 @@ pub mod Drawn
 pub mod Sendings
 pub mod Stepping
 pub mod World
+pub mod Waiting

@@ -45,10 +45,9 @@ use Rattle.gx_law_sessions.proofs.Ends.{Fresh, began-behind, ended-more, of-fres
 use Rattle.gx_law_sessions.proofs.Frame.{Does, owns-more}
 use Rattle.gx_law_sessions.proofs.Gathers.{GathersIn, HeardNow}
 use Rattle.gx_law_sessions.proofs.Outs.{CommandIs}
-use Rattle.gx_law_sessions.proofs.Roots.{roots-alone, roots-begin, roots-other}
+use Rattle.gx_law_sessions.proofs.Roots.{roots-alone, roots-alone-held-up, roots-begin, roots-other}
 use Rattle.gx_law_sessions.proofs.Said.{Said}
 use Rattle.gx_law_sessions.proofs.Under.{Under}
-use Rattle.gx_law_order.proofs.Calm.{AreCalm}
 
 differ : false ≡ true → ⊥
 differ e = cc
@@ -313,17 +312,17 @@ module _ (script : Script) (steps : List Step) (c : Coord) (k : Kept c) (p : Pas
               owns = λ h. (
                 fresh-owns level (block.Open level) 0 (begun ∷ answer_mark (begins (starts_line c s (step.BeginBlock level)) s level) s told.Begin ∷ []) refl refl said.started refl refl,
                 refl,
-                roots-begin script s (ms ++ begun ∷ answer_mark (begins (starts_line c s (step.BeginBlock level)) s level) s told.Begin ∷ []) level (y.lines + 1) c.table.next (new_work s level) (fresh-began _) (is_next ∙ ap (λ q. Some q) is) refl,
+                roots-begin script s (ms ++ begun ∷ answer_mark (begins (starts_line c s (step.BeginBlock level)) s level) s told.Begin ∷ []) level (y.lines + 1) c.table.next (new_work s level) (fresh-began _) (is_next ∙ ap (λ q. Some q) is) refl refl,
               );
             }
 
     -- A COMMAND OUTSIDE A BLOCK
-    pub alone-does : AreCalm c.locks → block.Outside ≡ y.state.block → is_command Outside line ≡ true → Rattle.gx_store.specs.Legal.draws Outside line ≡ true → Does script steps c e (behind (begun ∷ []) (dispatches script (begins (starts_line c s (step.Command true)) s ReadCommitted) c.table.next line))
-    alone-does calm outside cmd d =
-        dispatch-does script steps c c1 s c.table.next (fresh asked) y.lines block.Outside 0 line (begun ∷ []) under (ap (λ q. block_after q asked) (sym outside)) refl refl cmd
+    pub alone-does : block.Outside ≡ y.state.block → is_command Outside line ≡ true → Rattle.gx_store.specs.Legal.draws Outside line ≡ true → Does script steps c e (behind (begun ∷ []) (dispatches script (begins (starts_line c s (step.Command true)) s ReadCommitted) c.table.next line))
+    alone-does outside cmd d =
+        dispatch-does script steps e (λ A. tt) c c1 s c.table.next (fresh asked) y.lines block.Outside 0 line (begun ∷ []) under (ap (λ q. block_after q asked) (sym outside)) refl refl cmd
         (subst (λ v. Owns s 0 (ms ++ begun ∷ []) (next + 1) block.Outside c.table.next v) (sym (fresh-work asked ReadCommitted)) (fresh-owns ReadCommitted block.Outside 0 (begun ∷ []) refl refl (at-begun outside).said.started refl refl))
-        (ap (λ (v : Work). v.command) (fresh-work asked ReadCommitted)) (ap (λ (v : Work). next_cid v) (sym (fresh-work asked ReadCommitted)))
-        (past-begun c c1 ms (begun ∷ []) p k.whole refl (tt, tt)) roots undrawn-unawaited calm
+        (ap (λ (v : Work). v.command) (fresh-work asked ReadCommitted)) (ap (λ (v : Work). v.waiting) (fresh-work asked ReadCommitted)) (ap (λ (v : Work). next_cid v) (sym (fresh-work asked ReadCommitted)))
+        (past-begun c c1 ms (begun ∷ []) p k.whole refl (tt, tt)) roots undrawn-unawaited held_up
       where
         asked : LineStep
         asked = step.Command true
@@ -356,7 +355,12 @@ module _ (script : Script) (steps : List Step) (c : Coord) (k : Kept c) (p : Pas
         one : (a : ℕ) → a ≡ 0 → a + 1 ≡ 1
         one a e = omega arith
 
-        roots : (m : Command) (v : Work) (ns : List Mark) → m.stmt ≡ line → m.cid ≡ next_cid (work_of (begins (starts_line c s (step.Command true)) s ReadCommitted) c.table.next) → v.last ≡ (work_of (begins (starts_line c s (step.Command true)) s ReadCommitted) c.table.next).last + 1 → v.command ≡ Some m → Roots script s ((ms ++ begun ∷ []) ++ ns) block.Outside pending.Command (y.lines + 1) c.table.next v
-        roots m v ns same number last has =
-            roots-alone script s ((ms ++ begun ∷ []) ++ ns) (y.lines + 1) c.table.next v m (ap (λ z. began_from [] z c.table.next) (append_assoc ms (begun ∷ []) ns) ∙ fresh-began ns) (is_next ∙ ap (λ q. Some q) (sym same)) (ap is_on_rows same ∙ cmd) has
+        roots : (m : Command) (v : Work) (ns : List Mark) → m.stmt ≡ line → m.cid ≡ next_cid (work_of (begins (starts_line c s (step.Command true)) s ReadCommitted) c.table.next) → v.last ≡ (work_of (begins (starts_line c s (step.Command true)) s ReadCommitted) c.table.next).last + 1 → v.command ≡ Some m → v.waiting ≡ None → Roots script s ((ms ++ begun ∷ []) ++ ns) block.Outside pending.Command (y.lines + 1) c.table.next v
+        roots m v ns same number last has out =
+            roots-alone script s ((ms ++ begun ∷ []) ++ ns) (y.lines + 1) c.table.next v m (ap (λ z. began_from [] z c.table.next) (append_assoc ms (begun ∷ []) ns) ∙ fresh-began ns) (is_next ∙ ap (λ q. Some q) (sym same)) (ap is_on_rows same ∙ cmd) has out
             (ap (λ (z : Cid). z.0) number ∙ one _ (ap (λ (z : Work). z.last) (fresh-work (step.Command true) ReadCommitted)))
+
+        held_up : (v : Work) (ns : List Mark) → v.last ≡ (work_of (begins (starts_line c s (step.Command true)) s ReadCommitted) c.table.next).last → v.command ≡ None → v.waiting ≡ Some line → Roots script s ((ms ++ begun ∷ []) ++ ns) block.Outside pending.Command (y.lines + 1) c.table.next v
+        held_up v ns last none has =
+            roots-alone-held-up script s ((ms ++ begun ∷ []) ++ ns) (y.lines + 1) c.table.next v line (ap (λ z. began_from [] z c.table.next) (append_assoc ms (begun ∷ []) ns) ∙ fresh-began ns) is_next cmd
+            (last ∙ ap (λ (z : Work). z.last) (fresh-work (step.Command true) ReadCommitted)) none has

@@ -15,7 +15,7 @@ use Rattle.gx_script.specs.declared.Script.{Script}
 use Rattle.gx_script.specs.declared.state.Block.{Block}
 use Rattle.gx_script.specs.declared.state.Block.TheVariants as block
 use Rattle.gx_script.specs.declared.state.Pending.TheVariants as pending
-use Rattle.gx_store.specs.declared.event.Event.TheVariants as event
+use Rattle.gx_store.specs.declared.event.Event.{Event}
 use Rattle.gx_store.specs.declared.mark.Mark.{Mark}
 use Rattle.gx_store.specs.declared.mark.Mark.TheVariants as mark
 use Rattle.gx_store.specs.declared.run.Step.{Step}
@@ -41,8 +41,8 @@ use Rattle.gx_law_sessions.proofs.Under.{Under}
 differ : false ≡ true → ⊥
 differ e = cc
 
-module _ (script : Script) (steps : List Step) (c c1 : Coord) (s : SessionId) (g : Gxid) (x : Session) (n : ℕ) (B : Block) (commands : ℕ) (line : Stmt) (earlier : List Mark)
-    (o : Under script steps c (event.Start s) c1 s g (work_of c1 g) x n (state_in B commands) (is_alone B pending.Command) line earlier)
+module _ (script : Script) (steps : List Step) (ev : Event) (c c1 : Coord) (s : SessionId) (g : Gxid) (x : Session) (n : ℕ) (B : Block) (commands : ℕ) (line : Stmt) (earlier : List Mark)
+    (o : Under script steps c ev c1 s g (work_of c1 g) x n (state_in B commands) (is_alone B pending.Command) line earlier)
     (xb : x.state.block ≡ B) (xp : x.state.pending ≡ pending.Command) (busy : is_busy B pending.Command ≡ true) (cmd : is_command (state_in B commands) line ≡ true)
     (owns : Owns s commands (marks_in steps ++ earlier) c1.table.next.0 B g (work_of c1 g)) (none : (work_of c1 g).command ≡ None) (cid : cid_of (state_in B commands) ≡ next_cid (work_of c1 g))
     (past : Past c1 (marks_in steps ++ earlier)) where
@@ -69,6 +69,7 @@ module _ (script : Script) (steps : List Step) (c c1 : Coord) (s : SessionId) (g
     pub work : work_of r.coord g ≡ w2
     pub home : w2.session ≡ w.session
     pub level : w2.level ≡ w.level
+    pub waiting : w2.waiting ≡ w.waiting
     pub works : (j : ℕ) → eqb j g.0 ≡ false → r.coord.works j ≡ c1.works j
     pub sessions : (j : ℕ) → r.coord.sessions j ≡ c1.sessions j
     pub next : r.coord.table.next ≡ c1.table.next
@@ -77,8 +78,8 @@ module _ (script : Script) (steps : List Step) (c c1 : Coord) (s : SessionId) (g
     pub running : is_ended r.marks g ≡ false
     pub unread : (d : Cid) → w.last + 1 < d.0 → is_snapped r.marks g d ≡ false
     pub snapshot : HasSnapshot w2.level (marks_in steps ++ (earlier ++ r.marks)) g w2.snapshot
-    pub legal : (later : List Mark) → EachMark (Given script) steps (event.Start s) earlier r.marks later
-    pub rests : (later : List Mark) → EachMark (Rest script) steps (event.Start s) earlier r.marks later
+    pub legal : (later : List Mark) → EachMark (Given script) steps ev earlier r.marks later
+    pub rests : (later : List Mark) → EachMark (Rest script) steps ev earlier r.marks later
     pub by : IsReadBy (marks_in steps ++ (earlier ++ r.marks)) w.level g (next_cid w) line r.snapshot
 
   same-marks : ms ≡ marks_in steps ++ (earlier ++ [])
@@ -91,6 +92,7 @@ module _ (script : Script) (steps : List Step) (c c1 : Coord) (s : SessionId) (g
         work = refl;
         home = refl;
         level = refl;
+        waiting = refl;
         works = λ j h. refl;
         sessions = λ j. refl;
         next = refl;
@@ -116,6 +118,7 @@ module _ (script : Script) (steps : List Step) (c c1 : Coord) (s : SessionId) (g
         work = ap (λ q. if q then (record w { snapshot = kept_at w.level (snapshot_of c1.table) }) else w) (self-test g.0);
         home = refl;
         level = refl;
+        waiting = refl;
         works = λ j h. ap (λ q. if q then (record w { snapshot = kept_at w.level (snapshot_of c1.table) }) else c1.works j) h;
         sessions = λ j. refl;
         next = refl;
@@ -162,10 +165,10 @@ module _ (script : Script) (steps : List Step) (c c1 : Coord) (s : SessionId) (g
       one-more : (a : ℕ) → a < a + 1
       one-more a = omega arith
 
-      snap : (later : List Mark) → Rattle.gx_store.specs.Legal.LegalSnap script (record { steps = steps; event = event.Start s; earlier = earlier; later = later }) g (next_cid w) shot
+      snap : (later : List Mark) → Rattle.gx_store.specs.Legal.LegalSnap script (record { steps = steps; event = ev; earlier = earlier; later = later }) g (next_cid w) shot
       snap later =
-          subst (λ q. Rattle.gx_store.specs.Legal.LegalSnap script (record { steps = steps; event = event.Start s; earlier = earlier; later = later }) g q shot) cid
-          (legal-snap script steps (event.Start s) s line n b (is_alone B pending.Command) (Some g) earlier o.at later g shot o.has refl cmd o.running rows
+          subst (λ q. Rattle.gx_store.specs.Legal.LegalSnap script (record { steps = steps; event = ev; earlier = earlier; later = later }) g q shot) cid
+          (legal-snap script steps ev s line n b (is_alone B pending.Command) (Some g) earlier o.at later g shot o.has refl cmd o.running rows
           (subst (λ q. has_own_snapshot (level_of b) ms g q ≡ false) (sym cid) (subst (λ l. has_own_snapshot l ms g (next_cid w) ≡ false) (sym level-is)
           (reads-none w.snapshot w.level owns.snapshot fresh (owns.unsnapped (next_cid w) (one-more w.last)))))
           (seen-now c1 ms past))

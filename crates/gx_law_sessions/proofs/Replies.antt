@@ -157,7 +157,11 @@ module _ (script : Script) (steps : List Step) (c : Coord) (k : Kept c) (all : (
   works-on B m eb ep busy same it = by_line (stand B pending.Command eb ep busy same) ((stand B pending.Command eb ep busy same).1.owns busy).1
     where
       by_line : (st : (ends_in s steps ≡ 0) × Stands script s ms c.table.next.0 B pending.Command y.lines g (work_of c g)) → IsLineOf script s y.lines B st.1.commands (work_of c g) pending.Command → Works B m
-      by_line st l =
+      by_line st (inr l) = absurd (nothing (work_of c g).command l.2 it)
+        where
+          nothing : (o : Option Command) → o ≡ None → o ≡ Some m → ⊥
+          nothing o e f = cc
+      by_line st (inl l) =
           let is : l.0 ≡ m = some-same l.0 m (sym l.1 ∙ it) in
           record {
             is_busy_so = record { its = same; in_block = eb; in_line = ep; busy = busy; waiting = refl; starts = (all s).starts; ends = st.0; stands = st.1; line_is = l.2 ∙ ap (λ (z : Command). Some z.stmt) is };
@@ -213,7 +217,7 @@ module _ (script : Script) (steps : List Step) (c : Coord) (k : Kept c) (all : (
 
       likewise : (B : Block) (z : Works B m) → Likewise script steps c from to number g B pending.Command m.stmt z.is_busy_so w1
       likewise B z =
-          record { session = refl; level = refl; last = refl; snapshot = refl; under = sym (ap under_way has_it); now_too = λ first h o f. subst (λ (v : Command). command_at script (Some (s, first)) v.cid.0 ≡ Some v.stmt) (some-same done o f) (h m has_it); its_line = (done, refl, z.is_busy_so.line_is, z.command, z.counted) }
+          record { session = refl; level = refl; last = refl; snapshot = refl; under = sym (ap under_way has_it); waiting = refl; now_too = λ first h. (λ o f. subst (λ (v : Command). command_at script (Some (s, first)) v.cid.0 ≡ Some v.stmt) (some-same done o f) (h.0 m has_it), h.1); its_line = inl (done, refl, z.is_busy_so.line_is, z.command, z.counted) }
 
       -- an answer that was awaited is this one, or is awaited still
       same-awaited : (a : Cid) (j : Node) (level : Level) → (z : IsAwaited (c.works g.0) a j level) → (m.cid ≡ a) × (has j m.awaited ≡ true)

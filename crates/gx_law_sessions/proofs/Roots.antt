@@ -22,7 +22,7 @@ use Rattle.gx_rules.specs.Coordinators.{Command, Work}
 use Rattle.gx_law_sessions.specs.Orders.{level_by, level_of_began}
 use Rattle.gx_store.specs.Language.{AreLinesNumbered, lines_in}
 use Rattle.gx_law_sessions.specs.Scanned.{began_from, closes_block, command_at, command_from, nth_command}
-use Rattle.gx_law_sessions.specs.Standing.{AreLeft, IsNow, Roots, is_open, level_in, state_in}
+use Rattle.gx_law_sessions.specs.Standing.{AreLeft, IsNow, Roots, held_up, is_open, level_in, state_in}
 use Rattle.gx_law_sessions.proofs.Ends.{began-kept}
 
 lines-more : (k : ℕ) (before : List Line) (l : Line) → lines_in k (before ++ l ∷ []) ≡ (if eqb l.session.0 k then lines_in k before + 1 else lines_in k before)
@@ -174,19 +174,29 @@ roots-other script k ms ns (block.Open l) lines g w line o r next cmd closes =
 roots-other script k ms ns block.Outside lines g w line o r next cmd closes = absurd (cc)
 roots-other script k ms ns block.Failed lines g w line o r next cmd closes = absurd (cc)
 
+no-line : (o : Option Stmt) (l : Stmt) → o ≡ None → o ≡ Some l → ⊥
+no-line o l e f = cc
+
+no-command : (o : Option Command) (m : Command) → o ≡ None → o ≡ Some m → ⊥
+no-command o m e f = cc
+
+plus-none : (a d : ℕ) → d ≡ 0 → a + 1 ≡ a + d + 1
+plus-none a d e = omega arith
+
 -- A COMMAND IN A BLOCK
-pub roots-command : (script : Script) (k : SessionId) (ms ns : List Mark) (l : Level) (lines : ℕ) (g : Gxid) (w v : Work) (m : Command) → Roots script k ms (block.Open l) pending.Nothing lines g w → stmt_of k (lines + 1) script.lines ≡ Some m.stmt → is_command (InBlock ReadCommitted 0) m.stmt ≡ true → v.last ≡ w.last + 1 → v.command ≡ Some m → m.cid.0 ≡ w.last + 1 → Roots script k (ms ++ ns) (block.Open l) pending.Command (lines + 1) g v
-roots-command script k ms ns l lines g w v m r next cmd last has cid =
+pub roots-command : (script : Script) (k : SessionId) (ms ns : List Mark) (l : Level) (lines : ℕ) (g : Gxid) (w v : Work) (m : Command) → Roots script k ms (block.Open l) pending.Nothing lines g w → w.waiting ≡ None → stmt_of k (lines + 1) script.lines ≡ Some m.stmt → is_command (InBlock ReadCommitted 0) m.stmt ≡ true → v.last ≡ w.last + 1 → v.command ≡ Some m → v.waiting ≡ None → m.cid.0 ≡ w.last + 1 → Roots script k (ms ++ ns) (block.Open l) pending.Command (lines + 1) g v
+roots-command script k ms ns l lines g w v m r free next cmd last has out cid =
     record {
       first = r.first;
       began = began-kept [] ms ns g (k, r.first) r.began;
       opening = r.opening;
-      left = λ n c one. ap (λ i. nth_command k (r.first + 1) i script.lines) (further v.last w.last c last) ∙ r.left n (c + 1) (more c) ∙ nth-later k (lines + 1) m.stmt cmd c one [] script.lines n (at-least-one lines) next;
-      now = λ n z e. subst (λ (y : Command). command_at script (Some (k, r.first)) y.cid.0 ≡ Some y.stmt) (some-same m z (sym has ∙ e)) (here n);
+      left = λ n c one. ap (λ i. nth_command k (r.first + 1) i script.lines) (further v.last w.last (held_up v.waiting) (held_up w.waiting) c last (ap held_up out) (ap held_up free)) ∙ r.left n (c + 1) (more c)
+          ∙ nth-later k (lines + 1) m.stmt cmd c one [] script.lines n (at-least-one lines) next;
+      now = λ n. (λ z e. subst (λ (y : Command). command_at script (Some (k, r.first)) y.cid.0 ≡ Some y.stmt) (some-same m z (sym has ∙ e)) (here n), λ z e. absurd (no-line v.waiting z out e));
     }
   where
-    further : (a d c : ℕ) → a ≡ d + 1 → a + c ≡ d + (c + 1)
-    further a d c e = omega arith
+    further : (a d x y c : ℕ) → a ≡ d + 1 → x ≡ 0 → y ≡ 0 → a + x + c ≡ d + y + (c + 1)
+    further a d x y c e f h = omega arith
 
     more : (c : ℕ) → 1 ≤ c + 1
     more c = omega arith
@@ -199,8 +209,62 @@ roots-command script k ms ns l lines g w v m r next cmd last has cid =
 
     here : AreLinesNumbered [] script.lines → command_at script (Some (k, r.first)) m.cid.0 ≡ Some m.stmt
     here n =
-        ap (λ o. command_from script k r.first o m.cid.0) r.opening ∙ ap (λ i. nth_command k (r.first + 1) i script.lines) cid ∙ r.left n 1 one-one
+        ap (λ o. command_from script k r.first o m.cid.0) r.opening ∙ ap (λ i. nth_command k (r.first + 1) i script.lines) (cid ∙ plus-none w.last (held_up w.waiting) (ap held_up free)) ∙ r.left n 1 one-one
         ∙ nth-first k (lines + 1) m.stmt cmd [] script.lines n (at-least-one lines) next
+
+-- it waits to go out
+pub roots-held-up : (script : Script) (k : SessionId) (ms ns : List Mark) (l : Level) (lines : ℕ) (g : Gxid) (w v : Work) (line : Stmt) → Roots script k ms (block.Open l) pending.Nothing lines g w → w.waiting ≡ None → stmt_of k (lines + 1) script.lines ≡ Some line → is_command (InBlock ReadCommitted 0) line ≡ true → v.last ≡ w.last → v.command ≡ None → v.waiting ≡ Some line → Roots script k (ms ++ ns) (block.Open l) pending.Command (lines + 1) g v
+roots-held-up script k ms ns l lines g w v line r free next cmd last none has =
+    record {
+      first = r.first;
+      began = began-kept [] ms ns g (k, r.first) r.began;
+      opening = r.opening;
+      left = λ n c one. ap (λ i. nth_command k (r.first + 1) i script.lines) (further v.last w.last (held_up v.waiting) (held_up w.waiting) c last (ap held_up has) (ap held_up free)) ∙ r.left n (c + 1) (more c)
+          ∙ nth-later k (lines + 1) line cmd c one [] script.lines n (at-least-one lines) next;
+      now = λ n. (λ z e. absurd (no-command v.command z none e), λ z e. subst (λ y. command_at script (Some (k, r.first)) (v.last + 1) ≡ Some y) (some-same line z (sym has ∙ e)) (here n));
+    }
+  where
+    further : (a d x y c : ℕ) → a ≡ d → x ≡ 1 → y ≡ 0 → a + x + c ≡ d + y + (c + 1)
+    further a d x y c e f h = omega arith
+
+    more : (c : ℕ) → 1 ≤ c + 1
+    more c = omega arith
+
+    one-one : 1 ≤ 1
+    one-one = omega arith
+
+    some-same : (a b : Stmt) → Some a ≡ Some b → a ≡ b
+    some-same a b h = cc
+
+    here : AreLinesNumbered [] script.lines → command_at script (Some (k, r.first)) (v.last + 1) ≡ Some line
+    here n =
+        ap (λ o. command_from script k r.first o (v.last + 1)) r.opening ∙ ap (λ i. nth_command k (r.first + 1) i script.lines) (ap (λ i. i + 1) last ∙ plus-none w.last (held_up w.waiting) (ap held_up free)) ∙ r.left n 1 one-one
+        ∙ nth-first k (lines + 1) line cmd [] script.lines n (at-least-one lines) next
+
+-- what has waited goes out
+pub roots-out : (script : Script) (k : SessionId) (ms ns : List Mark) (b : Block) (lines : ℕ) (g : Gxid) (w v : Work) (line : Stmt) (m : Command) → Roots script k ms b pending.Command lines g w → w.waiting ≡ Some line → m.stmt ≡ line → v.last ≡ w.last + 1 → v.command ≡ Some m → v.waiting ≡ None → m.cid.0 ≡ w.last + 1 → Roots script k (ms ++ ns) b pending.Command lines g v
+roots-out script k ms ns b lines g w v line m r waits same last has out cid =
+    record {
+      first = r.first;
+      began = began-kept [] ms ns g (k, r.first) r.began;
+      opening = r.opening;
+      left = λ n. by_block b (r.left n);
+      now = λ n. (λ z e. subst (λ (y : Command). command_at script (Some (k, r.first)) y.cid.0 ≡ Some y.stmt) (some-same m z (sym has ∙ e)) (here n), λ z e. absurd (no-line v.waiting z out e));
+    }
+  where
+    further : (a d x y c : ℕ) → a ≡ d + 1 → x ≡ 0 → y ≡ 1 → a + x + c ≡ d + y + c
+    further a d x y c e f h = omega arith
+
+    some-same : (a b : Command) → Some a ≡ Some b → a ≡ b
+    some-same a b h = cc
+
+    here : AreLinesNumbered [] script.lines → command_at script (Some (k, r.first)) m.cid.0 ≡ Some m.stmt
+    here n = ap (command_at script (Some (k, r.first))) cid ∙ (r.now n).1 line waits ∙ ap (λ z. Some z) (sym same)
+
+    by_block : (q : Block) → AreLeft script k lines w q pending.Command r.first → AreLeft script k lines v q pending.Command r.first
+    by_block block.Outside h = tt
+    by_block block.Failed h = tt
+    by_block (block.Open l) h = λ c one. ap (λ i. nth_command k (r.first + 1) i script.lines) (further v.last w.last (held_up v.waiting) (held_up w.waiting) c last (ap held_up out) (ap held_up waits)) ∙ h c one
 
 -- A COMMAND OUTSIDE A BLOCK
 from-alone : (script : Script) (k : SessionId) (n : ℕ) (line : Stmt) → is_on_rows line ≡ true → command_from script k n (Some line) 1 ≡ Some line
@@ -213,46 +277,62 @@ from-alone script k n stmt.Commit e = absurd (cc)
 from-alone script k n stmt.Rollback e = absurd (cc)
 from-alone script k n (stmt.Lock t m) e = absurd (cc)
 
-pub roots-alone : (script : Script) (k : SessionId) (ms : List Mark) (lines : ℕ) (g : Gxid) (v : Work) (m : Command) → began_from [] ms g ≡ Some (k, lines) → stmt_of k lines script.lines ≡ Some m.stmt → is_on_rows m.stmt ≡ true → v.command ≡ Some m → m.cid.0 ≡ 1 → Roots script k ms block.Outside pending.Command lines g v
-roots-alone script k ms lines g v m began next rows has cid =
+pub roots-alone : (script : Script) (k : SessionId) (ms : List Mark) (lines : ℕ) (g : Gxid) (v : Work) (m : Command) → began_from [] ms g ≡ Some (k, lines) → stmt_of k lines script.lines ≡ Some m.stmt → is_on_rows m.stmt ≡ true → v.command ≡ Some m → v.waiting ≡ None → m.cid.0 ≡ 1 → Roots script k ms block.Outside pending.Command lines g v
+roots-alone script k ms lines g v m began next rows has out cid =
     record {
       first = lines;
       began = began;
       opening = refl;
       left = λ n. tt;
-      now = λ n z e. subst (λ (y : Command). command_at script (Some (k, lines)) y.cid.0 ≡ Some y.stmt) (some-same m z (sym has ∙ e)) (ap (λ o. command_from script k lines o m.cid.0) next ∙ ap (command_from script k lines (Some m.stmt)) cid ∙ from-alone script k lines m.stmt rows);
+      now = λ n. (λ z e. subst (λ (y : Command). command_at script (Some (k, lines)) y.cid.0 ≡ Some y.stmt) (some-same m z (sym has ∙ e)) (ap (λ o. command_from script k lines o m.cid.0) next ∙ ap (command_from script k lines (Some m.stmt)) cid ∙ from-alone script k lines m.stmt rows), λ z e. absurd (no-line v.waiting z out e));
     }
   where
     some-same : (a b : Command) → Some a ≡ Some b → a ≡ b
     some-same a b h = cc
 
--- BEGIN
-pub roots-begin : (script : Script) (k : SessionId) (ms : List Mark) (l : Level) (lines : ℕ) (g : Gxid) (w : Work) → began_from [] ms g ≡ Some (k, lines) → stmt_of k lines script.lines ≡ Some (stmt.Begin l) → w.last ≡ 0 → Roots script k ms (block.Open l) pending.Nothing lines g w
-roots-begin script k ms l lines g w began next last =
-    record { first = lines; began = began; opening = next; left = λ n c one. ap (λ i. nth_command k (lines + 1) i script.lines) (none w.last c last); now = λ n. tt }
+pub roots-alone-held-up : (script : Script) (k : SessionId) (ms : List Mark) (lines : ℕ) (g : Gxid) (v : Work) (line : Stmt) → began_from [] ms g ≡ Some (k, lines) → stmt_of k lines script.lines ≡ Some line → is_on_rows line ≡ true → v.last ≡ 0 → v.command ≡ None → v.waiting ≡ Some line → Roots script k ms block.Outside pending.Command lines g v
+roots-alone-held-up script k ms lines g v line began next rows last none has =
+    record {
+      first = lines;
+      began = began;
+      opening = refl;
+      left = λ n. tt;
+      now = λ n. (λ z e. absurd (no-command v.command z none e), λ z e. subst (λ y. command_at script (Some (k, lines)) (v.last + 1) ≡ Some y) (some-same line z (sym has ∙ e)) (ap (λ o. command_from script k lines o (v.last + 1)) next ∙ ap (λ i. command_from script k lines (Some line) (i + 1)) last ∙ from-alone script k lines line rows));
+    }
   where
-    none : (a c : ℕ) → a ≡ 0 → a + c ≡ c
-    none a c e = omega arith
+    some-same : (a b : Stmt) → Some a ≡ Some b → a ≡ b
+    some-same a b h = cc
+
+-- BEGIN
+pub roots-begin : (script : Script) (k : SessionId) (ms : List Mark) (l : Level) (lines : ℕ) (g : Gxid) (w : Work) → began_from [] ms g ≡ Some (k, lines) → stmt_of k lines script.lines ≡ Some (stmt.Begin l) → w.last ≡ 0 → w.waiting ≡ None → Roots script k ms (block.Open l) pending.Nothing lines g w
+roots-begin script k ms l lines g w began next last free =
+    record { first = lines; began = began; opening = next; left = λ n c one. ap (λ i. nth_command k (lines + 1) i script.lines) (none w.last (held_up w.waiting) c last (ap held_up free)); now = λ n. tt }
+  where
+    none : (a x c : ℕ) → a ≡ 0 → x ≡ 0 → a + x + c ≡ c
+    none a x c e f = omega arith
 
 -- COMMIT
 pub roots-commit : (script : Script) (k : SessionId) (ms ns : List Mark) (l : Level) (lines : ℕ) (g : Gxid) (w : Work) → Roots script k ms (block.Open l) pending.Nothing lines g w → Roots script k (ms ++ ns) (block.Open l) pending.Commit (lines + 1) g w
 roots-commit script k ms ns l lines g w r = record { first = r.first; began = began-kept [] ms ns g (k, r.first) r.began; opening = r.opening; left = λ n. tt; now = λ n. tt }
 
 -- THE LINE GOES ON, AND IS ANSWERED
-left-same : (script : Script) (k : SessionId) (lines : ℕ) (w v : Work) (b : Block) (p : Pending) (first : ℕ) → v.last ≡ w.last → AreLeft script k lines w b p first → AreLeft script k lines v b p first
+left-same : (script : Script) (k : SessionId) (lines : ℕ) (w v : Work) (b : Block) (p : Pending) (first : ℕ) → v.last + held_up v.waiting ≡ w.last + held_up w.waiting → AreLeft script k lines w b p first → AreLeft script k lines v b p first
 left-same script k lines w v block.Outside p first e h = tt
 left-same script k lines w v block.Failed p first e h = tt
 left-same script k lines w v (block.Open l) pending.Commit first e h = tt
 left-same script k lines w v (block.Open l) pending.Nothing first e h = λ c one. ap (λ i. nth_command k (first + 1) (i + c) script.lines) e ∙ h c one
 left-same script k lines w v (block.Open l) pending.Command first e h = λ c one. ap (λ i. nth_command k (first + 1) (i + c) script.lines) e ∙ h c one
 
-pub roots-on : (script : Script) (k : SessionId) (ms ns : List Mark) (b : Block) (p : Pending) (lines : ℕ) (g : Gxid) (w v : Work) → Roots script k ms b p lines g w → v.last ≡ w.last → ((first : ℕ) → IsNow script k w p first → IsNow script k v p first) → Roots script k (ms ++ ns) b p lines g v
-roots-on script k ms ns b p lines g w v r last now =
-    record { first = r.first; began = began-kept [] ms ns g (k, r.first) r.began; opening = r.opening; left = λ n. left-same script k lines w v b p r.first last (r.left n); now = λ n. now r.first (r.now n) }
+same-sum : (w v : Work) → v.last ≡ w.last → v.waiting ≡ w.waiting → v.last + held_up v.waiting ≡ w.last + held_up w.waiting
+same-sum w v e f = ap (λ i. i + held_up v.waiting) e ∙ ap (λ o. w.last + held_up o) f
 
-pub roots-answered : (script : Script) (k : SessionId) (ms ns : List Mark) (l : Level) (lines : ℕ) (g : Gxid) (w v : Work) → Roots script k ms (block.Open l) pending.Command lines g w → v.last ≡ w.last → Roots script k (ms ++ ns) (block.Open l) pending.Nothing lines g v
-roots-answered script k ms ns l lines g w v r last =
-    record { first = r.first; began = began-kept [] ms ns g (k, r.first) r.began; opening = r.opening; left = λ n c one. ap (λ i. nth_command k (r.first + 1) (i + c) script.lines) last ∙ r.left n c one; now = λ n. tt }
+pub roots-on : (script : Script) (k : SessionId) (ms ns : List Mark) (b : Block) (p : Pending) (lines : ℕ) (g : Gxid) (w v : Work) → Roots script k ms b p lines g w → v.last ≡ w.last → v.waiting ≡ w.waiting → ((first : ℕ) → IsNow script k w p first → IsNow script k v p first) → Roots script k (ms ++ ns) b p lines g v
+roots-on script k ms ns b p lines g w v r last waits now =
+    record { first = r.first; began = began-kept [] ms ns g (k, r.first) r.began; opening = r.opening; left = λ n. left-same script k lines w v b p r.first (same-sum w v last waits) (r.left n); now = λ n. now r.first (r.now n) }
+
+pub roots-answered : (script : Script) (k : SessionId) (ms ns : List Mark) (l : Level) (lines : ℕ) (g : Gxid) (w v : Work) → Roots script k ms (block.Open l) pending.Command lines g w → v.last ≡ w.last → v.waiting ≡ w.waiting → Roots script k (ms ++ ns) (block.Open l) pending.Nothing lines g v
+roots-answered script k ms ns l lines g w v r last waits =
+    record { first = r.first; began = began-kept [] ms ns g (k, r.first) r.began; opening = r.opening; left = λ n c one. ap (λ i. nth_command k (r.first + 1) (i + c) script.lines) (same-sum w v last waits) ∙ r.left n c one; now = λ n. tt }
 
 -- THE LEVEL
 level-rows : (line : Stmt) → is_on_rows line ≡ true → level_by (Some line) ≡ ReadCommitted

@@ -35,7 +35,7 @@ use Rattle.gx_law_order.proofs.Sent.{at}
 use Rattle.gx_law_order.proofs.Stages.{gx}
 use Rattle.gx_law_order.proofs.World.{Knows, marks-last}
 use Rattle.gx_law_sessions.specs.Finish.{AreCommandsTold}
-use Rattle.gx_law_sessions.specs.Rest.{EachMark, Rest, StartsNothing}
+use Rattle.gx_law_sessions.specs.Rest.{EachMark, Rest, StartsNothing, is_going_out}
 use Rattle.gx_law_sessions.specs.Standing.{AreSessions, IsSession}
 use Rattle.gx_law_sessions.proofs.After.{does-sessions, quiet-silent, sent-silent, silent-fresh, silent-sessions}
 use Rattle.gx_law_sessions.proofs.Awaited.{IsAwaited, IsSettled, OutAwaits, OwnIn, StateOf}
@@ -250,13 +250,13 @@ module _ (script : Script) (some : 1 ≤ script.segments) (w : World) (n : Knows
       }
 
   -- A STEP OF A SEGMENT
-  pub seg-holds : (i : ℕ) → StartsNothing e → IsSegment script (at i) → Holds script (seg_did w (at i) e (seg_rule script (w.segs i) x fails))
-  seg-holds i q place =
+  pub seg-holds : (i : ℕ) → StartsNothing e → is_going_out e ≡ false → IsSegment script (at i) → Holds script (seg_did w (at i) e (seg_rule script (w.segs i) x fails))
+  seg-holds i q still place =
       record {
         numbers = h.numbers ∙ ap (λ a. a + 1) (sym (ap start_count (marks-last w.steps late) ∙ calm-more (marks_in w.steps) late.marks (no-start late.marks silent)));
         fresh = subst (λ m. Fresh m w.coord.table.next.0) (sym (marks-last w.steps late)) (fresh-more (marks_in w.steps) late.marks w.coord.table.next.0 w.coord.table.next.0 h.fresh (le-same w.coord.table.next.0) (silent-fresh w.coord.table.next.0 late.marks silent));
         sessions = silent-sessions script w.steps w.coord h.sessions e w.coord late (λ j. refl) (λ j. refl) refl refl silent (λ j. (starts-no e q j, ends-no e q j));
-        given = given-last script [] w.steps late h.given (legal-no script w.steps e q, drawn-no script w.steps e late.marks q, silent-given script w.steps e q [] late.marks [] silent);
+        given = given-last script [] w.steps late h.given (legal-no script w.steps e q, drawn-no script w.steps e late.marks q, silent-given script w.steps e still [] late.marks [] silent);
         notes = at-both (λ j (t : Seg). SegNoted (marks_in (w.steps ++ late ∷ [])) (at j) t) w.segs i _ (λ j. own-notes j) (λ j no. notes-kept late j);
         letters = each-posted (IsToldOf (marks_in (w.steps ++ late ∷ []))) (at i) (clock_after (w.segs i).clock x) late.marks w.sent told (letters-kept late);
         commands = commands-kept late;

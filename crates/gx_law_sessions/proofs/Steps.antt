@@ -1,5 +1,5 @@
 -- Steps whose marks are legal if the rest is.
-use Rattle.std.proofs.Common.{◌≡◌, ◌≤◌, ℕ, List, [], ◌∷◌, ◌++◌, sym, subst, ap, arith, append-nil, refl}
+use Rattle.std.proofs.Common.{◌≡◌, ◌≤◌, ℕ, Bool, true, false, List, [], ◌∷◌, ◌++◌, sym, subst, ap, arith, append-nil, refl}
 use Rattle.std.proofs.lemmas.List.{append_assoc}
 use Rattle.gx_ids.specs.declared.ids.Node.{Node}
 use Rattle.gx_script.specs.declared.Script.{Script}
@@ -14,7 +14,7 @@ use Rattle.gx_store.specs.Refusals.{the_coordinator}
 use Rattle.gx_law_order.proofs.Lists.{Each}
 use Rattle.gx_law_order.proofs.Numbers.{NoStart}
 use Rattle.gx_law_order.proofs.Sent.{at}
-use Rattle.gx_law_sessions.specs.Rest.{AreEventsLegal, AreRestLegal, EachMark, Rest, StartsNothing, UnlessStart}
+use Rattle.gx_law_sessions.specs.Rest.{AreEventsLegal, AreRestLegal, EachMark, Rest, StartsNothing, is_going_out, unless}
 use Rattle.gx_law_sessions.proofs.Frame.{Quiet}
 use Rattle.gx_law_sessions.specs.Alive.{IsSilent}
 use Rattle.gx_law_sessions.proofs.Given.{Given, given-legal}
@@ -136,20 +136,16 @@ drawn-no script steps (event.End t) ms q = tt
 drawn-no script steps (event.Resend i g) ms q = tt
 drawn-no script steps event.Round ms q = tt
 
-pub unless-no : (e : Event) (A : Type 0) → StartsNothing e → UnlessStart e A → A
-unless-no (event.Receive from to number) A q a = a
-unless-no (event.Resume n g) A q a = a
-unless-no (event.Start t) A q a = absurd q
-unless-no (event.End t) A q a = absurd q
-unless-no (event.Resend i g) A q a = a
-unless-no event.Round A q a = a
+pub unless-no : (b : Bool) (A : Type 0) → b ≡ false → unless b A → A
+unless-no true A q a = absurd (cc)
+unless-no false A q a = a
 
--- they are legal if the rest is, in a step that starts nothing
-pub silent-given : (script : Script) (steps : List Step) (e : Event) (q : StartsNothing e) (earlier ms later : List Mark) → Each IsSilent ms → EachMark (Given script) steps e earlier ms later
+-- they are legal if the rest is, in a step in which no command goes out
+pub silent-given : (script : Script) (steps : List Step) (e : Event) (q : is_going_out e ≡ false) (earlier ms later : List Mark) → Each IsSilent ms → EachMark (Given script) steps e earlier ms later
 silent-given script steps e q earlier [] later h = tt
 silent-given script steps e q earlier (mark.Write g c n t r x ∷ ms) later h = (λ r. r, silent-given script steps e q (earlier ++ mark.Write g c n t r x ∷ []) ms later h.1)
 silent-given script steps e q earlier (mark.Skip g c r ∷ ms) later h = (λ r. r, silent-given script steps e q (earlier ++ mark.Skip g c r ∷ []) ms later h.1)
-silent-given script steps e q earlier (mark.Fault g c r x ∷ ms) later h = (λ a. unless-no e (LegalFault script (record { steps = steps; event = e; earlier = earlier; later = ms ++ later }) g c r x) q a, silent-given script steps e q (earlier ++ mark.Fault g c r x ∷ []) ms later h.1)
+silent-given script steps e q earlier (mark.Fault g c r x ∷ ms) later h = (λ a. unless-no (is_going_out e) (LegalFault script (record { steps = steps; event = e; earlier = earlier; later = ms ++ later }) g c r x) q a, silent-given script steps e q (earlier ++ mark.Fault g c r x ∷ []) ms later h.1)
 silent-given script steps e q earlier (mark.Recheck round own verdict ∷ ms) later h = (λ r. r, silent-given script steps e q (earlier ++ mark.Recheck round own verdict ∷ []) ms later h.1)
 silent-given script steps e q earlier (mark.Start g s ∷ ms) later h = absurd h.0
 silent-given script steps e q earlier (mark.Snap g c x ∷ ms) later h = absurd h.0

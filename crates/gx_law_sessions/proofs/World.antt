@@ -23,9 +23,9 @@ use Rattle.gx_store.specs.Messages.{IsSending, Receives}
 use Rattle.gx_store.specs.Ordered.{IsLink, IsSegment}
 use Rattle.gx_store.specs.Points.{marks_in}
 use Rattle.gx_store.specs.Refusals.{the_coordinator}
-use Rattle.gx_rules.specs.AtCoordinator.{awaited, coord_can, coord_rule, is_idle, is_in_block, is_left, is_nothing, next_line, on_event, resends, starts}
+use Rattle.gx_rules.specs.AtCoordinator.{awaited, coord_can, coord_rule, is_idle, is_in_block, is_left, is_nothing, next_line, on_event, resends, resumes, starts}
 use Rattle.gx_rules.specs.AtSegment.{seg_rule}
-use Rattle.gx_rules.specs.Coordinators.{CoordTurn, session_of, rests}
+use Rattle.gx_rules.specs.Coordinators.{CoordTurn, session_of, rests, work_of}
 use Rattle.gx_rules.specs.Machine.{World, after, at_node, can, can_here, coord_did, delivered, does, found, happens, new_world, node_of, seg_can, seg_did, world_of}
 use Rattle.gx_rules.specs.Sending.{numbered}
 use Rattle.gx_law_order.proofs.Letters.{IsFound, IsLetter, found_is, same_node}
@@ -49,7 +49,9 @@ use Rattle.gx_law_sessions.proofs.Blocks.{start-counts, start-does}
 use Rattle.gx_law_sessions.proofs.Steps.{given-events, given-steps, rest-last, starts-no, ends-no}
 use Rattle.gx_law_sessions.proofs.Sendings.{IsToldOf, command-order-is, orders-all}
 use Rattle.gx_law_sessions.proofs.Stepping.{Holds, coord-holds, coord-rest, seg-holds}
-use Rattle.gx_law_order.proofs.Calm.{nobody-ready}
+use Rattle.gx_locks.specs.Locks.{wait_of}
+use Rattle.gx_law_order.proofs.Dispatches.{resume-ways}
+use Rattle.gx_law_sessions.proofs.Resuming.{resume-does}
 
 -- ALL EVENTS
 both_of : (a b : Bool) → (a && b) ≡ true → (a ≡ true) × (b ≡ true)
@@ -104,7 +106,7 @@ module _ (script : Script) (some : 1 ≤ script.segments) where
         by_next (Some line) e q =
             let counts = start-counts script w.steps w.coord n.kept n.past h.fresh h.numbers s (h.sessions s) idle line e in
             let same : next_stmt s script (marks_in w.steps) ≡ Some line = ap (λ i. stmt_of s (i + 1) script.lines) (sym counts ∙ (h.sessions s).starts) ∙ e in (
-              inl (start-does script w.steps w.coord n.kept n.past h.fresh h.numbers s (h.sessions s) idle line e n.well.coordinator.locks),
+              inl (start-does script w.steps w.coord n.kept n.past h.fresh h.numbers s (h.sessions s) idle line e),
               (counts, subst IsSome (sym same) refl),
               drawn-at script w.steps w.coord s (h.sessions s) line e same (numbered (starts script w.coord s (Some line)).coord.sent (starts script w.coord s (Some line)).outs),
             )
@@ -163,18 +165,21 @@ module _ (script : Script) (some : 1 ≤ script.segments) where
 
         by_test : (b : Bool) → is_same_node to the_coordinator ≡ b → (if b then coord_can script w.coord (here.Deliver from envelope) else seg_can script (w.segs to.0) (here.Deliver from envelope)) ≡ true → Holds script (if b then coord_did w (event.Receive from to number) (coord_rule script w.coord (here.Deliver from envelope) fails) else seg_did w to (event.Receive from to number) (seg_rule script (w.segs to.0) (here.Deliver from envelope) fails))
         by_test true is ok = coord-holds script some w n h (event.Receive from to number) (here.Deliver from envelope) fails (heard from to number envelope fails (same_node to the_coordinator is) f ok) tt tt
-        by_test false is ok = seg-holds script some w n h (event.Receive from to number) (here.Deliver from envelope) fails to.0 tt (place is d.is.link)
+        by_test false is ok = seg-holds script some w n h (event.Receive from to number) (here.Deliver from envelope) fails to.0 tt refl (place is d.is.link)
 
     arrives : (from to : Node) (number : ℕ) (fails : Bool) (o : Option Envelope) → found from to number w.sent ≡ o → can_here script w to (delivered from o) ≡ true → Holds script (does script w (event.Receive from to number) to fails (delivered from o))
     arrives from to number fails None f ok = h
     arrives from to number fails (Some envelope) f ok = received from to number envelope fails f ok
 
-    clash : (q : Bool) → q ≡ true → q ≡ false → ⊥
-    clash q e f = grind arith
-
     -- where nothing is done
     nothing : (e : Event) → StartsNothing e → Effect script w.steps w.coord e (rests w.coord)
     nothing e q = inr (record { sessions = λ j. refl; works = λ j. refl; next = refl; quiet = tt; alone = λ j. (starts-no e q j, ends-no e q j); outs = λ o. tt; sent = λ o. tt })
+
+    -- a statement that has waited goes out
+    resume-effect : (m : Node) (g : Gxid) → is_same_node m the_coordinator ≡ true → Effect script w.steps w.coord (event.Resume m g) (resumes script w.coord g (wait_of w.coord.locks g) (work_of w.coord g).waiting)
+    resume-effect m g is =
+        resume-ways (Effect script w.steps w.coord (event.Resume m g)) script w.coord g (nothing (event.Resume m g) tt)
+        (λ wanted line e f. inl (resume-does script w.steps w.coord n.kept n.past h.sessions h.gathers m is g wanted line f))
 
     resumed : (m : Node) (g : Gxid) (fails : Bool) → can_here script w m (Some (here.Resume g)) ≡ true → Holds script (does script w (event.Resume m g) m fails (Some (here.Resume g)))
     resumed m g fails ok = by_test (is_same_node m the_coordinator) refl ok
@@ -186,8 +191,8 @@ module _ (script : Script) (some : 1 ≤ script.segments) where
         x = here.Resume g
 
         by_test : (b : Bool) → is_same_node m the_coordinator ≡ b → (if b then coord_can script w.coord x else seg_can script (w.segs m.0) x) ≡ true → Holds script (if b then coord_did w e (coord_rule script w.coord x fails) else seg_did w m e (seg_rule script (w.segs m.0) x fails))
-        by_test true is ok = absurd (clash (coord_can script w.coord x) ok (nobody-ready w.coord.locks g n.well.coordinator.locks))
-        by_test false is ok = seg-holds script some w n h e x fails m.0 tt (resumes_there script some w m g n.well ok)
+        by_test true is ok = coord-holds script some w n h e x fails (resume-effect m g is) tt tt
+        by_test false is ok = seg-holds script some w n h e x fails m.0 tt is (resumes_there script some w m g n.well ok)
 
     event-holds : (e : Event) (fails : Bool) → can script w e ≡ true → Holds script (does script w e (node_of e) fails (at_node w e))
     event-holds (event.Receive from to number) fails ok = arrives from to number fails (found from to number w.sent) refl ok
@@ -302,7 +307,7 @@ module _ (script : Script) (some : 1 ≤ script.segments) where
         x = here.Resume g
 
         by_test : (b : Bool) → is_same_node m the_coordinator ≡ b → (if b then coord_can script w.coord x else seg_can script (w.segs m.0) x) ≡ true → AreRestLegal script [] (if b then coord_did w e (coord_rule script w.coord x fails) else seg_did w m e (seg_rule script (w.segs m.0) x fails)).steps
-        by_test true is ok = absurd (clash w n h (coord_can script w.coord x) ok (nobody-ready w.coord.locks g n.well.coordinator.locks))
+        by_test true is ok = coord-shown e x fails (resume-effect w n h m g is)
         by_test false is ok = rest-last script [] w.steps _ rest (shown.segments done e x fails (resumes_there script some w m g n.well ok) refl ok)
 
     event-shown : (e : Event) (fails : Bool) → can script w e ≡ true → AreRestLegal script [] (does script w e (node_of e) fails (at_node w e)).steps

@@ -1,6 +1,6 @@
 -- A history by its coordinator and its segments: what the coordinator alone doesn't decide of a mark is what segments do of
 -- rows, what they refuse, and what the answers of commands that succeeded say.
-use Rattle.std.specs.Prelude.{◌≡◌, List, [], ◌∷◌, ◌++◌}
+use Rattle.std.specs.Prelude.{◌≡◌, Bool, true, false, List, [], ◌∷◌, ◌++◌}
 use Rattle.gx_ids.specs.declared.ids.Cid.{Cid}
 use Rattle.gx_ids.specs.declared.ids.Gxid.{Gxid}
 use Rattle.gx_ids.specs.declared.ids.Node.{Node}
@@ -23,6 +23,7 @@ use Rattle.gx_store.specs.declared.run.Step.{Step}
 use Rattle.gx_store.specs.Answers.{Tells}
 use Rattle.gx_store.specs.Commands.{RunsCommand}
 use Rattle.gx_store.specs.Faults.{LegalFault}
+use Rattle.gx_store.specs.Journals.{is_same_node}
 use Rattle.gx_store.specs.Legal.{LegalEvent, LegalVerdict}
 use Rattle.gx_store.specs.Messages.{Receives}
 use Rattle.gx_store.specs.Points.{Point, before}
@@ -55,10 +56,19 @@ StartsNothing (event.Start session) = ⊥
 StartsNothing (event.End session) = ⊥
 StartsNothing _ = Unit {0}
 
--- constants fault in the step that starts their line, at the coordinator
+-- a command may go out in this event, at the coordinator: its line starts, or it has waited
+abbrev pub is_going_out : Event → Bool
+is_going_out (event.Start session) = true
+is_going_out (event.Resume node g) = is_same_node node the_coordinator
+is_going_out _ = false
+
+abbrev pub unless : Bool → Type 0 → Type 0
+unless true A = Unit {0}
+unless false A = A
+
+-- constants fault in the step in which their command goes out
 abbrev pub UnlessStart : Event → Type 0 → Type 0
-UnlessStart (event.Start session) A = Unit {0}
-UnlessStart _ A = A
+UnlessStart e A = unless (is_going_out e) A
 
 abbrev pub RestRefusal : Script → Point → SessionId → Refused → Type 0
 RestRefusal script point session (refused.JournalFault node) = Unit {0}

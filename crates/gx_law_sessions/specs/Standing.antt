@@ -6,6 +6,7 @@ use Rattle.gx_ids.specs.declared.ids.Gxid.{Gxid}
 use Rattle.gx_ids.specs.declared.ids.SessionId.{SessionId}
 use Rattle.gx_tree.specs.declared.stmt.Level.{Level}
 use Rattle.gx_tree.specs.declared.stmt.Level.TheVariants.{ReadCommitted, RepeatableRead}
+use Rattle.gx_tree.specs.declared.stmt.Stmt.{Stmt}
 use Rattle.gx_tree.specs.declared.stmt.Stmt.TheVariants as stmt
 use Rattle.gx_dsnap.specs.declared.snapshot.Snapshot.{Snapshot}
 use Rattle.gx_script.specs.declared.Script.{Script}
@@ -61,11 +62,24 @@ abbrev pub under_way : Option Command → ℕ
 under_way None = 0
 under_way (Some m) = 1
 
+-- a statement that waits for its table's lock has no number yet, and will have the next one
+abbrev pub held_up : Option Stmt → ℕ
+held_up None = 0
+held_up (Some line) = 1
+
+-- the line under way is a command that has gone out
+abbrev pub IsOut : Script → SessionId → ℕ → BlockState → Work → Type 0
+IsOut script k lines b w = (m : Command) × (w.command ≡ Some m) × (stmt_of k lines script.lines ≡ Some m.stmt) × (is_command b m.stmt ≡ true) × (m.cid ≡ cid_of b)
+
+-- or one that waits to go out
+abbrev pub IsHeldUp : Script → SessionId → ℕ → BlockState → Work → Type 0
+IsHeldUp script k lines b w =
+    (line : Stmt) × (w.waiting ≡ Some line) × (w.command ≡ None) × (stmt_of k lines script.lines ≡ Some line) × (is_command b line ≡ true) × ((cid_of b).0 ≡ w.last + 1)
+
 -- the line under way, where there is one
 abbrev pub IsLineOf : Script → SessionId → ℕ → Block → ℕ → Work → Pending → Type 0
 IsLineOf script k lines b commands w pending.Nothing = w.command ≡ None
-IsLineOf script k lines b commands w pending.Command =
-    (m : Command) × (w.command ≡ Some m) × (stmt_of k lines script.lines ≡ Some m.stmt) × (is_command (state_in b commands) m.stmt ≡ true) × (m.cid ≡ cid_of (state_in b commands))
+IsLineOf script k lines b commands w pending.Command = IsOut script k lines (state_in b commands) w ⊎ IsHeldUp script k lines (state_in b commands) w
 IsLineOf script k lines b commands w pending.Commit = (w.command ≡ None) × (stmt_of k lines script.lines ≡ Some stmt.Commit)
 
 -- among the marks is the taking of this snapshot
@@ -84,7 +98,8 @@ abbrev pub is_open : Block → Bool
 is_open (block.Open level) = true
 is_open _ = false
 
--- what is known of the transaction g that a session has: its work, and that it hasn't ended
+-- What is known of the transaction g that a session has: its work, and that it hasn't ended. A command's number counts, and its
+-- snapshot may be taken, once it goes out.
 pub record Owns (k : SessionId) (commands : ℕ) (marks : List Mark) (next : ℕ) (b : Block) (g : Gxid) (w : Work) : Type 0 where
   pub home : w.session ≡ k
   pub started : started_after k None marks ≡ Some g
@@ -105,11 +120,14 @@ abbrev pub AreLeft : Script → SessionId → ℕ → Work → Block → Pending
 AreLeft script k lines w block.Outside p first = Unit {0}
 AreLeft script k lines w block.Failed p first = Unit {0}
 AreLeft script k lines w (block.Open level) pending.Commit first = Unit {0}
-AreLeft script k lines w (block.Open level) p first = (c : ℕ) → 1 ≤ c → nth_command k (first + 1) (w.last + c) script.lines ≡ nth_command k (lines + 1) c script.lines
+AreLeft script k lines w (block.Open level) p first =
+    (c : ℕ) → 1 ≤ c → nth_command k (first + 1) (w.last + held_up w.waiting + c) script.lines ≡ nth_command k (lines + 1) c script.lines
 
--- the command under way is the transaction's command of its number
+-- the command under way is the transaction's command of its number, and the statement that waits is the one of the next number
 abbrev pub IsNow : Script → SessionId → Work → Pending → ℕ → Type 0
-IsNow script k w pending.Command first = (m : Command) → w.command ≡ Some m → command_at script (Some (k, first)) m.cid.0 ≡ Some m.stmt
+IsNow script k w pending.Command first =
+    ((m : Command) → w.command ≡ Some m → command_at script (Some (k, first)) m.cid.0 ≡ Some m.stmt)
+    × ((line : Stmt) → w.waiting ≡ Some line → command_at script (Some (k, first)) (w.last + 1) ≡ Some line)
 IsNow script k w _ first = Unit {0}
 
 -- where the transaction began, and which of its commands are left, if the script's lines are numbered

@@ -13,7 +13,8 @@ ghost use Rattle.gx_store.specs.Runs.{IsLegalHistory};
 ghost use Rattle.gx_store.specs.declared.event.Event.{Event as OneEvent};
 
 /// The marks tell where each session stands at the coordinator: how many of its lines were started and answered, its block,
-/// its transaction, and its line under way.
+/// its transaction, and its line under way, which has gone out or waits for its table's lock. What waits has no number, snapshot
+/// or pieces yet; its number will be the next.
 pub fn sessions_stand()
     ensures { (script : Script) (events : List (OneEvent × Bool)) → 1 ≤ script.segments → AreSessions script (world_of script events) }
 {}

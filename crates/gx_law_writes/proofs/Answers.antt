@@ -171,6 +171,9 @@ module _ (script : Script) (some : 1 ≤ script.segments) (numbered : AreLinesNu
       pub number : m.cid ≡ run.command.cid
       pub told : (table : Table) (tuples : List (List Expr)) → m.stmt ≡ stmt.Insert table tuples → Progress script table ms g (c.works g).level m tuples
 
+    live-closing : Rattle.gx_law_order.proofs.Statuses.Stage.Live ≡ Rattle.gx_law_order.proofs.Statuses.Stage.Closing → ⊥
+    live-closing z = cc
+
     pub answered : (s : SessionId) (a : StmtAnswer) → (q : Completes script c x s a) → Answered q.g q.m
     answered s a q = by_how q.how
       where
@@ -178,7 +181,7 @@ module _ (script : Script) (some : 1 ≤ script.segments) (numbered : AreLinesNu
         by_how (inl z) =
             let l = (kept.tied q.g).closing z.1 in
             let p : (session_of c (c.works q.g).session).state.pending ≡ pending.Command = subst (λ k. (session_of c k).state.pending ≡ pending.Command) (sym q.home) z.2 in
-            let r : Running script w q.g = running-in script w sessions q.g l.0 p (closing-busy _ (subst (λ y. is_closing_in (session_of c (c.works q.g).session).state.block y ≡ true) p l.1)) in
+            let r : Running script w q.g = running-in script w sessions q.g l.0 p (closing-busy _ (subst (λ y. is_closing_in (session_of c (c.works q.g).session).state.block y ≡ true) p l.1)) (λ line y. live-closing (sym ((kept.tied q.g).waits line y).0 ∙ z.1)) in
             let same : q.m ≡ r.command = some-same q.m r.command (sym z.0 ∙ r.has_it) in
             record { run = r; line = ap (λ (k : Command). k.stmt) same; number = ap (λ (k : Command). k.cid) same; told = subst (IsProgress script ms q.g (c.works q.g).level) z.0 (progress q.g) }
         by_how (inr z) =

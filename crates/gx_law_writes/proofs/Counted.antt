@@ -33,6 +33,7 @@ use Rattle.gx_rules.specs.Sending.{clock_after, counted, numbered}
 use Rattle.gx_law_order.proofs.Letters.{IsFound, IsLetter, found_is}
 use Rattle.gx_law_order.proofs.Lists.{Each}
 use Rattle.gx_law_order.proofs.Ordered.{resumes_there, seg_marks}
+use Rattle.gx_law_order.proofs.Waiting.{going-out}
 use Rattle.gx_law_order.proofs.World.{marks-last}
 use Rattle.gx_store.specs.Language.{AreLinesNumbered}
 use Rattle.gx_law_sessions.specs.Rest.{EachMark}
@@ -75,7 +76,7 @@ module _ (script : Script) (some : 1 ≤ script.segments) (numbered_lines : AreL
     -- A STEP OF THE COORDINATOR
     coord-counted : (e : Event) (x : NodeEvent) (fails : Bool) → coord_can script w.coord x ≡ true → ((i : Node) (envelope : Envelope) (g : ℕ) (cid : Cid) (wrote : Bool) (count : ℕ) (part : QueryPart) → x ≡ here.Deliver i envelope → envelope.message ≡ message.Answer (gx g) (reply.Done cid wrote count part) → IsReport script (marks_in w.steps) i (gx g) cid count)
         → ((i : Node) (envelope : Envelope) → x ≡ here.Deliver i envelope → (s : SessionId) → starts_by s e ≡ 0) → Counted script (coord_did w e (coord_rule script w.coord x fails))
-    coord-counted e x fails ok report quiet = from-walk (event-walk script w.coord x b.knows.kept b.knows.well.coordinator.locks x refl fails ok)
+    coord-counted e x fails ok report quiet = from-walk (event-walk script w.coord x b.knows.kept (going-out script w b.knows) x refl fails ok)
       where
         turn : CoordTurn
         turn = on_event script w.coord x fails

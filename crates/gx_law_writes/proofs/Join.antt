@@ -41,17 +41,19 @@ use Rattle.gx_rules.specs.AtSegment as segment
 use Rattle.gx_rules.specs.AtSegment.{seg_rule}
 use Rattle.gx_rules.specs.Coordinators.{Coord, CoordTurn}
 use Rattle.gx_rules.specs.Machine.{Letter, World, after, at_node, can, can_here, coord_did, delivered, does, found, happens, new_world, node_of, seg_can, seg_did, world_of}
-use Rattle.gx_rules.specs.Segments.{Seg, SegTurn}
+use Rattle.gx_rules.specs.Segments.{Seg, SegTurn, Suspended}
 use Rattle.gx_rules.specs.Sending.{clock_after, counted, numbered}
-use Rattle.gx_law_order.proofs.CalmSegs.{nobody-goes-on}
 use Rattle.gx_law_order.proofs.Letters.{IsFound, IsLetter, found_is}
 use Rattle.gx_law_order.proofs.Lists.{Each, each_append}
-use Rattle.gx_law_order.proofs.Ordered.{seg_marks}
+use Rattle.gx_law_order.proofs.Ordered.{resumes_there, seg_marks}
+use Rattle.gx_law_order.proofs.Waiting.{GoesOn, each-among, going-on, going-out}
 use Rattle.gx_store.specs.Language.{AreLinesNumbered}
-use Rattle.gx_law_sessions.specs.Rest.{AreRestLegal, EachMark, IsCaused, Rest, RestAnswer, RestRefusal, UnlessStart}
+use Rattle.gx_law_sessions.specs.Orders.{IsOrder}
+use Rattle.gx_law_sessions.specs.Rest.{AreRestLegal, EachMark, IsCaused, Rest, RestAnswer, RestRefusal, UnlessStart, is_going_out}
 use Rattle.gx_law_sessions.proofs.Given.{marks-append}
 use Rattle.gx_law_sessions.proofs.Outs.{MessageIs}
 use Rattle.gx_law_sessions.proofs.Stepping as stepping
+use Rattle.gx_law_sessions.proofs.Waiting.{goes-out-there}
 use Rattle.gx_law_sessions.proofs.World as histories
 use Rattle.gx_law_sessions.proofs.World.{after-last, legal-with-rest}
 use Rattle.gx_law_commit.specs.Standings.{at, gx}
@@ -61,10 +63,10 @@ use Rattle.gx_law_writes.specs.Writes.{AreWritesLegal, WriteLegal}
 use Rattle.gx_law_writes.proofs.Answers.{answered, tells}
 use Rattle.gx_law_writes.proofs.Counted.{Counted, world-counted}
 use Rattle.gx_law_writes.proofs.Inserting.{insert-only, no-select-order, stmt-inserting}
-use Rattle.gx_law_writes.proofs.Rows.{insert-no-fault}
+use Rattle.gx_law_writes.proofs.Rows.{insert-no-fault, resumption-no-fault}
 use Rattle.gx_law_writes.proofs.Told.{IsReport, IsWordOf, sending-told}
-use Rattle.gx_law_writes.proofs.Turns.{NoFault, Turns, message-turns, row-no-fault}
-use Rattle.gx_law_writes.proofs.Walk.{AnswerAt, AnswerOk, AnswersOk, Completes, IsStarting, Walk, event-walk}
+use Rattle.gx_law_writes.proofs.Turns.{Continues, NoFault, Turns, message-turns, resumption-turns, row-no-fault}
+use Rattle.gx_law_writes.proofs.Walk.{AnswerAt, AnswerOk, AnswersOk, Completes, IsGoingOut, Walk, event-walk}
 use Rattle.gx_law_writes.proofs.World as writes
 use Rattle.gx_law_writes.proofs.World.{locals_in, world-holds}
 
@@ -120,23 +122,28 @@ sent-no-fault f [] = tt
 sent-no-fault f (o ∷ outs) = (tt, sent-no-fault (counted f o) outs)
 
 unless : (e : Event) (A : Type 0) → A → UnlessStart e A
-unless (event.Start s) A a = tt
-unless (event.Receive from to number) A a = a
-unless (event.Resume n g) A a = a
-unless (event.End s) A a = a
-unless (event.Resend i g) A a = a
-unless event.Round A a = a
+unless e A a = by_test (is_going_out e)
+  where
+    by_test : (b : Bool) → Rattle.gx_law_sessions.specs.Rest.unless b A
+    by_test true = tt
+    by_test false = a
 
 module _ (script : Script) (some : 1 ≤ script.segments) (numbered_lines : AreLinesNumbered [] script.lines) (inserting : AreInserting script.lines) where
   no-faults : (ms : List Mark) (i : ℕ) (s : Seg) (m : Message) (turn : SegTurn) → MessageIs script ms (at i) m → Turns s m turn → Each NoFault turn.marks
   no-faults ms i s m turn o (inl q) = row-no-fault turn.marks q.marks
   no-faults ms i s m turn o (inr (inl x)) = absurd (no-select-order script inserting ms (at i) x.g x.c x.level (Some x.snapshot) x.query (subst (λ (y : Message). MessageIs script ms (at i) y) x.is o numbered_lines))
-  no-faults ms i s m turn o (inr (inr x)) = insert-no-fault s m turn x
+  no-faults ms i s m turn o (inr (inr (inl x))) = insert-no-fault s m turn x
+  no-faults ms i s m turn o (inr (inr (inr x))) = subst (λ (y : SegTurn). Each NoFault y.marks) (sym x.ran) (tt, tt)
+
+  -- who goes on inserts
+  resumption-faults : (ms : List Mark) (i : ℕ) (s : Seg) (g : Gxid) (x : Suspended) (horizon : Gxid) (turn : SegTurn) → MessageIs script ms (at i) (message.Exec g x.cid x.level x.snapshot horizon x.slice) → Continues s g x turn → Each NoFault turn.marks
+  resumption-faults ms i s g x horizon turn o (inl y) = absurd (no-select-order script inserting ms (at i) g x.cid x.level x.snapshot y.query (subst (IsOrder script ms (at i) g x.cid x.level x.snapshot) y.is (o numbered_lines)))
+  resumption-faults ms i s g x horizon turn o (inr y) = resumption-no-fault s g x turn y
 
   module _ (w : World) (b : Both script some w) (k : stepping.Holds script w) (h : writes.Holds script w.segs w.steps) (n : Counted script w) where
     -- A STEP OF THE COORDINATOR
     module _ (e : Event) (x : NodeEvent) (report : (i : Node) (envelope : Envelope) (g : ℕ) (cid : Cid) (wrote : Bool) (count : ℕ) (part : QueryPart) → x ≡ here.Deliver i envelope → envelope.message ≡ message.Answer (gx g) (reply.Done cid wrote count part) → IsReport script (marks_in w.steps) i (gx g) cid count)
-        (quiet : (i : Node) (envelope : Envelope) → x ≡ here.Deliver i envelope → (s : SessionId) → starts_by s e ≡ 0) (starts : IsStarting script w.coord x x → (A : Type 0) → UnlessStart e A) (heard : (from : Node) (number : ℕ) → e ≡ event.Receive from the_coordinator number → 1 ≤ from.0) where
+        (quiet : (i : Node) (envelope : Envelope) → x ≡ here.Deliver i envelope → (s : SessionId) → starts_by s e ≡ 0) (starts : IsGoingOut script w.coord x x → (A : Type 0) → UnlessStart e A) (heard : (from : Node) (number : ℕ) → e ≡ event.Receive from the_coordinator number → 1 ≤ from.0) where
       abbrev c : Coord
       c = w.coord
 
@@ -205,7 +212,7 @@ module _ (script : Script) (some : 1 ≤ script.segments) (numbered_lines : AreL
       coord-others fails ok o =
           let turn : CoordTurn = on_event script w.coord x fails in
           let sent : List Mark = numbered (on_event script w.coord x fails).coord.sent (on_event script w.coord x fails).outs in
-          let v : Walk script w.coord x [] (on_event script w.coord x fails) = event-walk script w.coord x b.knows.kept b.knows.well.coordinator.locks x refl fails ok in
+          let v : Walk script w.coord x [] (on_event script w.coord x fails) = event-walk script w.coord x b.knows.kept (going-out script w b.knows) x refl fails ok in
           others-push script [] w.steps (record { stamp = record { clock = clock_after w.coord.clock x; node = the_coordinator }; event = e; marks = (coord_rule script w.coord x fails).marks }) o
           (marks-append (Others script) w.steps e [] (on_event script w.coord x fails).marks sent [] (marks-others [] (on_event script w.coord x fails).marks (sent ++ []) v.answers)
           (sent-others script w.steps e (on_event script w.coord x fails).coord.sent (on_event script w.coord x fails).outs (on_event script w.coord x fails).marks []))
@@ -219,7 +226,7 @@ module _ (script : Script) (some : 1 ≤ script.segments) (numbered_lines : AreL
     -- a message of the coordinator makes no fault there
     none-faults : (from : Node) (envelope : Envelope) (fails : Bool) (i : ℕ) → MessageIs script (marks_in w.steps) (at i) envelope.message → Each NoFault (seg_rule script (w.segs i) (here.Deliver from envelope) fails).marks
     none-faults from envelope fails i o =
-        each_append NoFault (segment.on_message script (w.segs i) fails envelope.message).marks _ (no-faults (marks_in w.steps) i (w.segs i) envelope.message (segment.on_message script (w.segs i) fails envelope.message) o (message-turns (w.segs i) (b.knows.well.calm i).locks script fails envelope.message)) (sent-no-fault (λ node. (segment.on_message script (w.segs i) fails envelope.message).seg.sent) (segment.on_message script (w.segs i) fails envelope.message).outs)
+        each_append NoFault (segment.on_message script (w.segs i) fails envelope.message).marks _ (no-faults (marks_in w.steps) i (w.segs i) envelope.message (segment.on_message script (w.segs i) fails envelope.message) o (message-turns (w.segs i) script fails envelope.message)) (sent-no-fault (λ node. (segment.on_message script (w.segs i) fails envelope.message).seg.sent) (segment.on_message script (w.segs i) fails envelope.message).outs)
 
     abbrev IsPost : Letter → Type 0
     IsPost l = IsLetter script w.steps l × (l.from ≡ the_coordinator → MessageIs script (marks_in w.steps) l.to l.envelope.message)
@@ -301,8 +308,20 @@ module _ (script : Script) (some : 1 ≤ script.segments) (numbered_lines : AreL
     resumed-no : (n : Node) (g : Gxid) (a : Node) (m : ℕ) → event.Resume n g ≡ event.Receive a the_coordinator m → ⊥
     resumed-no n g a m q = cc
 
+    goes-on-faults : (i : ℕ) (g : Gxid) (fails : Bool) → GoesOn script w i g → Each NoFault (seg_rule script (w.segs i) (here.Resume g) fails).marks
+    goes-on-faults i g fails o =
+        each_append NoFault (segment.on_event script (w.segs i) (here.Resume g) fails).marks _
+        (resumption-faults (marks_in w.steps) i (w.segs i) g o.slice o.waits.horizon _ order (resumption-turns script w i g o))
+        (sent-no-fault (λ node. (segment.on_event script (w.segs i) (here.Resume g) fails).seg.sent) (segment.on_event script (w.segs i) (here.Resume g) fails).outs)
+      where
+        post : IsPost o.waits.come.letter
+        post = each-among IsPost w.sent o.waits.come.letter (each-both (IsLetter script w.steps) _ w.sent b.knows.well.letters k.orders) o.waits.come.among
+
+        order : MessageIs script (marks_in w.steps) (at i) (message.Exec g o.slice.cid o.slice.level o.slice.snapshot o.waits.horizon o.slice.slice)
+        order = subst (MessageIs script (marks_in w.steps) (at i)) o.waits.come.told (subst (λ n. MessageIs script (marks_in w.steps) n o.waits.come.letter.envelope.message) o.waits.come.target (post.1 o.waits.come.source))
+
     resumed : (m : Node) (g : Gxid) (fails : Bool) → AreOthers script [] w.steps → can_here script w m (Some (here.Resume g)) ≡ true → AreOthers script [] (does script w (event.Resume m g) m fails (Some (here.Resume g))).steps
-    resumed m g fails o ok = by_test (is_same_node m the_coordinator) ok
+    resumed m g fails o ok = by_test (is_same_node m the_coordinator) refl ok
       where
         e : Event
         e = event.Resume m g
@@ -310,9 +329,9 @@ module _ (script : Script) (some : 1 ≤ script.segments) (numbered_lines : AreL
         x : NodeEvent
         x = here.Resume g
 
-        by_test : (q : Bool) → (if q then coord_can script w.coord x else seg_can script (w.segs m.0) x) ≡ true → AreOthers script [] (if q then coord_did w e (coord_rule script w.coord x fails) else seg_did w m e (seg_rule script (w.segs m.0) x fails)).steps
-        by_test true ok = coord-others e x (λ i v h cid wrote count part q t. absurd (resume-no g i v q)) (λ i v q t. absurd (resume-no g i v q)) (λ z A. absurd z) (λ a n q. absurd (resumed-no m g a n q)) fails ok o
-        by_test false ok = absurd (nobody-goes-on script (w.segs m.0) g (b.knows.well.calm m.0) ok)
+        by_test : (q : Bool) → is_same_node m the_coordinator ≡ q → (if q then coord_can script w.coord x else seg_can script (w.segs m.0) x) ≡ true → AreOthers script [] (if q then coord_did w e (coord_rule script w.coord x fails) else seg_did w m e (seg_rule script (w.segs m.0) x fails)).steps
+        by_test true there ok = coord-others e x (λ i v h cid wrote count part q t. absurd (resume-no g i v q)) (λ i v q t. absurd (resume-no g i v q)) (λ z A. goes-out-there script w b.knows m g there ok A) (λ a n q. absurd (resumed-no m g a n q)) fails ok o
+        by_test false there ok = seg-others e x fails m.0 (resumes_there script some w m g b.knows.well ok) (goes-on-faults m.0 g fails (going-on script w b.knows.well m.0 g ok)) o
 
     event-others : (e : Event) (fails : Bool) → AreOthers script [] w.steps → can script w e ≡ true → AreOthers script [] (does script w e (node_of e) fails (at_node w e)).steps
     event-others (event.Receive from to number) fails o ok = arrives from to number fails (found from to number w.sent) o refl ok

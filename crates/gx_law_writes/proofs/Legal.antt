@@ -100,22 +100,23 @@ abbrev pub IsPlacedMark : Script → List Mark → Mark → Type 0
 IsPlacedMark script ms (mark.Write g c n t r x) = IsPlaced script ms g c n t r x
 IsPlacedMark script ms m = Unit {0}
 
+-- a write is of a command that has run: those from this number on have still to run at the node
 abbrev pub IsPastMark : (ℕ → ℕ → ℕ) → Mark → Type 0
-IsPastMark lasts (mark.Write g c n t r x) = c.0 ≤ lasts n.0 g.0
-IsPastMark lasts m = Unit {0}
+IsPastMark nexts (mark.Write g c n t r x) = c.0 < nexts n.0 g.0
+IsPastMark nexts m = Unit {0}
 
-module _ (script : Script) (ms : List Mark) (lasts : ℕ → ℕ → ℕ) (g : Gxid) (c : Cid) (node : Node) (table : Table) (rid : Rid) (image : Option (List Value)) (p : IsPlaced script ms g c node table rid image) (fresh : lasts node.0 g.0 < c.0) where
-  beyond : (a b : ℕ) → a < b → b ≤ a → ⊥
+module _ (script : Script) (ms : List Mark) (nexts : ℕ → ℕ → ℕ) (g : Gxid) (c : Cid) (node : Node) (table : Table) (rid : Rid) (image : Option (List Value)) (p : IsPlaced script ms g c node table rid image) (fresh : nexts node.0 g.0 ≤ c.0) where
+  beyond : (a b : ℕ) → a ≤ b → b < a → ⊥
   beyond a b x y = omega arith
 
-  pub fresh-row : (xs : List Mark) → Each (IsPlacedMark script ms) xs → Each (IsPastMark lasts) xs → is_written xs rid ≡ false
+  pub fresh-row : (xs : List Mark) → Each (IsPlacedMark script ms) xs → Each (IsPastMark nexts) xs → is_written xs rid ≡ false
   fresh-row [] e f = refl
   fresh-row (mark.Write h d m u r x ∷ xs) e f = or-none (is_same_rid r rid) (is_written xs rid) (by_test (is_same_rid r rid) refl) (fresh-row xs e.1 f.1)
     where
       clash : is_same_rid r rid ≡ true → ⊥
       clash q =
           let s = same-place script ms g h c d node m table u rid r image x p e.0 q in
-          beyond (lasts node.0 g.0) c.0 fresh (subst (λ (z : Cid). z.0 ≤ lasts node.0 g.0) s.cid (subst (λ (z : Gxid). d.0 ≤ lasts node.0 z.0) s.gxid (subst (λ (z : Node). d.0 ≤ lasts z.0 h.0) s.node f.0)))
+          beyond (nexts node.0 g.0) c.0 fresh (subst (λ (z : Cid). z.0 < nexts node.0 g.0) s.cid (subst (λ (z : Gxid). d.0 < nexts node.0 z.0) s.gxid (subst (λ (z : Node). d.0 < nexts z.0 h.0) s.node f.0)))
 
       by_test : (b : Bool) → is_same_rid r rid ≡ b → b ≡ false
       by_test true q = absurd (clash q)
@@ -182,7 +183,7 @@ module _ (script : Script) (numbered : AreLinesNumbered [] script.lines) (w : Wo
   ms = marks_in w.steps
 
   pub its-line : stmt_of_command script ms (gx g) r.command.cid ≡ Some r.command.stmt
-  its-line = ap (λ o. command_at script o r.command.cid.0) r.roots.began ∙ r.roots.now numbered r.command r.has_it
+  its-line = ap (λ o. command_at script o r.command.cid.0) r.roots.began ∙ (r.roots.now numbered).0 r.command r.has_it
 
   pub line-is : (c : Cid) (line : Stmt) → c.0 ≡ r.command.cid.0 → stmt_of_command script ms (gx g) c ≡ Some line → r.command.stmt ≡ line
   line-is c line same of = some-stmt r.command.stmt line (sym its-line ∙ ap (λ n. command_at script (began_from [] ms (gx g)) n) (sym same) ∙ of)

@@ -1,4 +1,5 @@
 pub mod Plans
+pub mod Next
 pub mod Turns
 pub mod Live
 pub mod Rows
@@ -7,6 +8,7 @@ pub mod Told
 pub mod Legal
 pub mod Moves
 pub mod World
+pub mod Waiting
 pub mod Walk
 pub mod Counts
 pub mod Progress

@@ -1,5 +1,6 @@
 -- A command whose answers are awaited is its session's line under way.
 use Rattle.std.proofs.Common.{◌≡◌, inl, inr, ℕ, ◌+◌, List, [], ◌++◌, Option, Some, None, Bool, true, false, refl, sym, subst, ap, ◌∙◌, if◌then◌else◌, arith}
+use Rattle.gx_tree.specs.declared.stmt.Stmt.{Stmt}
 use Rattle.gx_ids.specs.declared.ids.Gxid.{Gxid}
 use Rattle.gx_ids.specs.declared.ids.SessionId.{SessionId}
 use Rattle.gx_dtx.specs.Nodes.{has}
@@ -66,12 +67,13 @@ module _ (script : Script) (w : World) (sessions : AreSessions script w) (g : �
   abbrev ms : List Mark
   ms = marks_in w.steps
 
-  -- a session whose line is a command has it under way
-  pub running-in : (x.transaction.0 ≡ g) → x.state.pending ≡ pending.Command → is_busy x.state.block pending.Command ≡ true → Running script w g
-  running-in mine p busy = by_standing (subst (λ q. IsStanding script home ms w.coord.table.next.0 x.state.block q x.lines x.transaction (work_of w.coord x.transaction) (Rattle.gx_store.specs.Points.ends_in home w.steps)) p (sessions home).stands)
+  -- a session whose line is a command has it under way, where it doesn't wait to go out
+  pub running-in : (x.transaction.0 ≡ g) → x.state.pending ≡ pending.Command → is_busy x.state.block pending.Command ≡ true → ((line : Stmt) → work.waiting ≡ Some line → ⊥) → Running script w g
+  running-in mine p busy out = by_standing (subst (λ q. IsStanding script home ms w.coord.table.next.0 x.state.block q x.lines x.transaction (work_of w.coord x.transaction) (Rattle.gx_store.specs.Points.ends_in home w.steps)) p (sessions home).stands)
     where
       by_line : (s : Stands script home ms w.coord.table.next.0 x.state.block pending.Command x.lines (gx g) work) → IsLineOf script home x.lines x.state.block s.commands work pending.Command → Running script w g
-      by_line s l =
+      by_line s (inr l) = absurd (out l.0 l.1)
+      by_line s (inl l) =
           record {
             block = x.state.block;
             commands = s.commands;
@@ -135,7 +137,10 @@ module _ (script : Script) (w : World) (sessions : AreSessions script w) (g : �
           let t = (k.tied g).awaits m f (waits-some i m e) in
           let l = (k.tied g).live t.0 in
           let p : x.state.pending ≡ pending.Command = working-is x.state.pending t.1 in
-          running-in l.0 p (busy-is x.state.block (subst (λ q. is_live_in x.state.block q ≡ true) p l.1))
+          running-in l.0 p (busy-is x.state.block (subst (λ q. is_live_in x.state.block q ≡ true) p l.1)) (λ line z. differ (sym ((k.tied g).waits line z).1 ∙ f))
+        where
+          differ : None ≡ Some m → ⊥
+          differ z = cc
 
 -- behind marks that start and answer nothing of the session
 module _ (script : Script) (w : World) (g : ℕ) (r : Running script w g) (e : Event) (earlier later : List Mark) (quiet : starts_by (w.coord.works g).session e ≡ 0) (calm : Each (CalmFor (w.coord.works g).session) earlier) where

@@ -1,5 +1,5 @@
 -- What a segment has told of a command: that it ran, and, of an INSERT, that its rows are written.
-use Rattle.std.proofs.Common.{◌≡◌, ◌≤◌, ℕ, List, [], ◌∷◌, ◌++◌, Option, Some, None, Bool, true, sym, subst, ◌∙◌, ◌||◌, arith, zero, suc}
+use Rattle.std.proofs.Common.{◌≡◌, ◌≤◌, ◌<◌, ℕ, List, [], ◌∷◌, ◌++◌, Option, Some, None, Bool, true, sym, subst, ◌∙◌, ◌||◌, arith, zero, suc}
 use Rattle.std.specs.Prelude.{length, slice_get, take}
 use Rattle.gx_ids.specs.declared.ids.Cid.{Cid}
 use Rattle.gx_ids.specs.declared.ids.Gxid.{Gxid}
@@ -27,6 +27,7 @@ use Rattle.gx_law_sessions.specs.Orders.{IsOrder}
 use Rattle.gx_store.specs.Language.{AreLinesNumbered}
 use Rattle.gx_law_sessions.proofs.Outs.{order-more}
 use Rattle.gx_law_writes.specs.Rows.{is_own_written}
+use Rattle.gx_law_writes.proofs.Next.{next_command}
 
 abbrev pub IsWritten : List Mark → KeyedRow → Type 0
 IsWritten ms row = is_own_written ms row.rid ≡ true
@@ -51,18 +52,18 @@ pub record IsFailure (script : Script) (ms : List Mark) (node : Node) (g : Gxid)
   pub query : Query
   pub order : IsOrder script ms node g c level snapshot (slice.Select query)
 
--- a reply of a segment whose last command of the transaction has this number
+-- a reply of a segment where the transaction's commands from this number on have still to run
 abbrev pub IsToldOf : Script → List Mark → ℕ → Node → Gxid → Reply → Type 0
-IsToldOf script ms last node g (reply.Done c w count p) = (c.0 ≤ last) × IsReport script ms node g c count
-IsToldOf script ms last node g (reply.Failed c x) = (c.0 ≤ last) × IsFailure script ms node g c
-IsToldOf script ms last node g r = Unit {0}
+IsToldOf script ms next node g (reply.Done c w count p) = (c.0 < next) × IsReport script ms node g c count
+IsToldOf script ms next node g (reply.Failed c x) = (c.0 < next) × IsFailure script ms node g c
+IsToldOf script ms next node g r = Unit {0}
 
 abbrev pub IsAnswerOf : Script → List Mark → ℕ → Node → Gxid → Option Reply → Type 0
-IsAnswerOf script ms last node g None = Unit {0}
-IsAnswerOf script ms last node g (Some r) = IsToldOf script ms last node g r
+IsAnswerOf script ms next node g None = Unit {0}
+IsAnswerOf script ms next node g (Some r) = IsToldOf script ms next node g r
 
 abbrev pub IsWordOf : Script → List Mark → (ℕ → ℕ → Local) → Node → Message → Type 0
-IsWordOf script ms locals node (message.Answer g r) = IsToldOf script ms (locals node.0 g.0).last node g r
+IsWordOf script ms locals node (message.Answer g r) = IsToldOf script ms (next_command (locals node.0 g.0)) node g r
 IsWordOf script ms locals node m = Unit {0}
 
 -- what the marks of a node's step send, of a segment's
@@ -87,8 +88,8 @@ done-more ms ns (slice.Update t a b) count d = tt
 done-more ms ns (slice.Delete t b) count d = tt
 done-more ms ns (slice.Lock t m) count d = tt
 
-le-trans : {a b c : ℕ} → a ≤ b → b ≤ c → a ≤ c
-le-trans x y = omega arith
+lt-le : {a b c : ℕ} → a < b → b ≤ c → a < c
+lt-le x y = omega arith
 
 module _ (script : Script) (numbered : AreLinesNumbered [] script.lines) (ms ns : List Mark) where
   -- an order stays one
@@ -102,8 +103,8 @@ module _ (script : Script) (numbered : AreLinesNumbered [] script.lines) (ms ns 
   failure-more node g c r = record { level = r.level; snapshot = r.snapshot; query = r.query; order = order-later node g c r.level r.snapshot (slice.Select r.query) r.order }
 
   pub told-more : (a b : ℕ) (node : Node) (g : Gxid) (r : Reply) → a ≤ b → IsToldOf script ms a node g r → IsToldOf script (ms ++ ns) b node g r
-  told-more a b node g (reply.Done c w count p) l d = (le-trans d.0 l, report-more node g c count d.1)
-  told-more a b node g (reply.Failed c x) l d = (le-trans d.0 l, failure-more node g c d.1)
+  told-more a b node g (reply.Done c w count p) l d = (lt-le d.0 l, report-more node g c count d.1)
+  told-more a b node g (reply.Failed c x) l d = (lt-le d.0 l, failure-more node g c d.1)
   told-more a b node g reply.Prepared l d = tt
   told-more a b node g reply.Committed l d = tt
   told-more a b node g reply.Jfault l d = tt
@@ -115,7 +116,7 @@ module _ (script : Script) (numbered : AreLinesNumbered [] script.lines) (ms ns 
   answer-more a b node g None l d = tt
   answer-more a b node g (Some r) l d = told-more a b node g r l d
 
-  module _ (f h : ℕ → ℕ → Local) (later : (i g : ℕ) → (f i g).last ≤ (h i g).last) where
+  module _ (f h : ℕ → ℕ → Local) (later : (i g : ℕ) → next_command (f i g) ≤ next_command (h i g)) where
     pub word-more : (node : Node) (m : Message) → IsWordOf script ms f node m → IsWordOf script (ms ++ ns) h node m
     word-more node (message.Answer g r) d = told-more _ _ node g r (later node.0 g.0) d
     word-more node (message.Exec g c l x y z) d = tt

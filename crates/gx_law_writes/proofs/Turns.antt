@@ -1,8 +1,9 @@
--- What a segment does when a message comes: it runs a command's slice, or it writes nothing and repeats what it kept.
-use Rattle.std.proofs.Common.{◌≡◌, ◌<◌, ◌⊎◌, inl, inr, ℕ, List, [], ◌∷◌, Option, Some, None, Bool, true, false, not, refl, sym, ap, ◌∙◌, if◌then◌else◌, ◌==◌, arith, eqb}
+-- What a segment does when a message comes: it runs a command's slice, or the slice waits, or it writes nothing and repeats what
+-- it kept; and what it does when a slice goes on.
+use Rattle.std.proofs.Common.{◌≡◌, ◌≤◌, ◌<◌, ◌⊎◌, inl, inr, ℕ, List, [], ◌∷◌, ◌++◌, Option, Some, None, Bool, true, false, not, refl, sym, subst, ap, ◌∙◌, if◌then◌else◌, ◌==◌, ◌&&◌, arith, eqb}
 use Rattle.std.proofs.lemmas.Bool.{eqb-true}
 use Rattle.std.proofs.lemmas.Bool.Decides.{nat_tests}
-use Rattle.std.specs.Prelude.{length, nat_lt}
+use Rattle.std.specs.Prelude.{is_some, length, nat_le, nat_lt}
 use Rattle.gx_ids.specs.declared.ids.Cid.{Cid}
 use Rattle.gx_ids.specs.declared.ids.Gxid.{Gxid}
 use Rattle.gx_ids.specs.declared.ids.Table.{Table}
@@ -13,10 +14,8 @@ use Rattle.gx_tree.specs.declared.slice.Slice.TheVariants as slice
 use Rattle.gx_tree.specs.declared.stmt.Level.{Level}
 use Rattle.gx_dsnap.specs.Gxids.{is_below}
 use Rattle.gx_dsnap.specs.declared.snapshot.Snapshot.{Snapshot}
-use Rattle.gx_modes.specs.declared.modes.Mode.TheVariants.{AccessShare, RowExclusive}
 use Rattle.gx_waits.specs.declared.claim.Claim.{Claim}
-use Rattle.gx_waits.specs.declared.object.Object.TheVariants.{Relation}
-use Rattle.gx_locks.specs.Locks.{Locks}
+use Rattle.gx_locks.specs.Locks.{Locks, is_free, resumed, wait_of}
 use Rattle.gx_msg.specs.declared.item.JournalItem.{JournalItem}
 use Rattle.gx_msg.specs.declared.message.Message.{Message}
 use Rattle.gx_msg.specs.declared.message.Message.TheVariants as message
@@ -26,18 +25,20 @@ use Rattle.gx_msg.specs.declared.reply.Reply.TheVariants as reply
 use Rattle.gx_script.specs.declared.Script.{Script}
 use Rattle.gx_store.specs.declared.mark.Mark.{Mark}
 use Rattle.gx_store.specs.declared.mark.Mark.TheVariants as mark
-use Rattle.gx_rules.specs.AtSegment.{changes, commits, ends, finishes, if_fits, is_refused, on_abort, on_commit, on_commit_prepared, on_exec, on_forget, on_message, on_prepare, once, promises, raised, repeats, takes, unless_below, was_prepared}
-use Rattle.gx_rules.specs.Fits.{fits_exec, is_waiting}
+use Rattle.gx_rules.specs.AtSegment.{changes, commits, ends, finishes, if_fits, is_refused, on_abort, on_commit, on_commit_prepared, on_exec, on_forget, on_message, on_prepare, once, promises, raised, repeats, resumes, takes, unless_below, was_prepared}
+use Rattle.gx_rules.specs.Fits.{fits_exec, holds_locks, is_right_slice, is_waiting}
 use Rattle.gx_rules.specs.Locks.{hold_mark, release_marks, with_hold}
-use Rattle.gx_rules.specs.Segments.{Local, Phase, Seg, SegTurn, after_marks, local_of, stays, tells, tells_kept}
+use Rattle.gx_rules.specs.Machine.{World}
+use Rattle.gx_rules.specs.Maps.{each_below}
+use Rattle.gx_rules.specs.Segments.{Local, Phase, Seg, SegTurn, Suspended, after_marks, local_of, stays, tells, tells_kept, with_local}
 use Rattle.gx_rules.specs.Segments.Phase.{Reading, Writing, Prepared, Committed, Forgotten, Aborted}
 use Rattle.gx_rules.specs.Shown.{shown}
-use Rattle.gx_rules.specs.Slices.{first_fault, inserted, inserts, selects, starts_slice}
-use Rattle.gx_store.specs.Waits.{claim}
-use Rattle.gx_law_order.proofs.Calm.{AreCalm, each-released}
-use Rattle.gx_law_order.proofs.CalmSegs.{granted-calm}
+use Rattle.gx_rules.specs.Slices.{first_fault, inserted, inserts, requests, runs_locked, runs_slice, selects, slice_lock, starts_slice, suspends}
+use Rattle.gx_law_order.proofs.Calm.{each-released}
 use Rattle.gx_law_order.proofs.Lists.{Each}
+use Rattle.gx_law_order.proofs.Waiting.{GoesOn, goes-on-is}
 use Rattle.gx_law_commit.specs.Pairs.{is_open}
+use Rattle.gx_law_writes.proofs.Next.{drops-next, next_command}
 
 abbrev pub NoWrite : Mark → Type 0
 NoWrite (mark.Write g c n t r x) = ⊥
@@ -74,6 +75,7 @@ pub record Quiet (s : Seg) (turn : SegTurn) : Type 0 where
   pub marks : Each NoRow turn.marks
   pub answers : (h : ℕ) → (turn.seg.locals h).answer ≡ (s.locals h).answer
   pub lasts : (h : ℕ) → (turn.seg.locals h).last ≡ (s.locals h).last
+  pub nexts : (h : ℕ) → next_command (s.locals h) ≤ next_command (turn.seg.locals h)
   pub outs : Each (λ (o : Out). IsOldWord s o.message) turn.outs
 
 -- the segment with a new horizon and its lock
@@ -90,6 +92,7 @@ pub record Selected (s : Seg) (m : Message) (turn : SegTurn) : Type 0 where
   pub query : Query
   pub is : m ≡ message.Exec g c level (Some snapshot) horizon (slice.Select query)
   pub fresh : (s.locals g.0).last < c.0
+  pub alone : (s.locals g.0).suspended ≡ None
   pub locks : Locks
   pub wanted : Claim
   pub ran : turn ≡ after_marks (hold_mark s.node wanted ∷ []) (selects (base s horizon locks) g c query (shown (raised s horizon) snapshot g c query.table) (first_fault query.cond (shown (raised s horizon) snapshot g c query.table)))
@@ -105,22 +108,50 @@ pub record Inserted (s : Seg) (m : Message) (turn : SegTurn) : Type 0 where
   pub is : m ≡ message.Exec g c level (Some snapshot) horizon (slice.Insert table rows)
   pub opened : is_open (s.locals g.0).phase ≡ true
   pub fresh : (s.locals g.0).last < c.0
+  pub alone : (s.locals g.0).suspended ≡ None
   pub locks : Locks
   pub wanted : Claim
   pub ran : turn ≡ after_marks (hold_mark s.node wanted ∷ []) (inserts g c (length rows) (inserted (base s horizon locks) g c table rows))
 
-abbrev pub Turns : Seg → Message → SegTurn → Type 0
-Turns s m turn = Quiet s turn ⊎ Selected s m turn ⊎ Inserted s m turn
+-- the slice waits for its table's lock: nothing is sent or written
+pub record Waited (s : Seg) (m : Message) (turn : SegTurn) : Type 0 where
+  pub g : Gxid
+  pub c : Cid
+  pub level : Level
+  pub snapshot : Option Snapshot
+  pub horizon : Gxid
+  pub slice : Slice
+  pub is : m ≡ message.Exec g c level snapshot horizon slice
+  pub opened : is_open (s.locals g.0).phase ≡ true
+  pub fresh : (s.locals g.0).last < c.0
+  pub alone : (s.locals g.0).suspended ≡ None
+  pub wanted : Claim
+  pub locked : slice_lock g slice ≡ Some wanted
+  pub ran : turn ≡ suspends (raised s horizon) g c level snapshot slice wanted
 
-module _ (s : Seg) (calm : AreCalm s.locks) where
+abbrev pub Turns : Seg → Message → SegTurn → Type 0
+Turns s m turn = Quiet s turn ⊎ Selected s m turn ⊎ Inserted s m turn ⊎ Waited s m turn
+
+-- what holds of a slice with its lock, and of one that waits for it, holds of one that starts
+pub by-lock : (P : SegTurn → Type 0) (s : Seg) (g : Gxid) (c : Cid) (level : Level) (snapshot : Option Snapshot) (x : Slice) (wanted : Claim) → slice_lock g x ≡ Some wanted → P (runs_locked s g c snapshot x wanted) → P (suspends s g c level snapshot x wanted) → P (starts_slice s g c level snapshot x)
+by-lock P s g c level snapshot x wanted e p q = subst (λ o. P (requests s g c level snapshot x o)) (sym e) (by_test (is_free s.locks.holds wanted))
+  where
+    by_test : (b : Bool) → P (if b then runs_locked s g c snapshot x wanted else suspends s g c level snapshot x wanted)
+    by_test true = p
+    by_test false = q
+
+module _ (s : Seg) where
   abbrev Rests : SegTurn → Type 0
   Rests turn = Quiet s turn
 
+  same-le : (a : ℕ) → a ≤ a
+  same-le a = omega arith
+
   stay : Rests (stays s)
-  stay = record { marks = tt; answers = λ h. refl; lasts = λ h. refl; outs = tt }
+  stay = record { marks = tt; answers = λ h. refl; lasts = λ h. refl; nexts = λ h. same-le (next_command (s.locals h)); outs = tt }
 
   tell : (g : Gxid) (r : Reply) → IsOldReply s g r → Rests (tells s g r)
-  tell g r o = record { marks = tt; answers = λ h. refl; lasts = λ h. refl; outs = (o, tt) }
+  tell g r o = record { marks = tt; answers = λ h. refl; lasts = λ h. refl; nexts = λ h. same-le (next_command (s.locals h)); outs = (o, tt) }
 
   answer-old : (g : Gxid) (r : Reply) → (s.locals g.0).answer ≡ Some r → IsOldReply s g r
   answer-old g (reply.Done c w n p) e = inl e
@@ -150,8 +181,9 @@ module _ (s : Seg) (calm : AreCalm s.locks) where
   kept-vote g None e = stay
   kept-vote g (Some r) e = tell g r (vote-old g r e)
 
-  change : (g : Gxid) (l : Local) (marks : List Mark) (r : Reply) (it : Option JournalItem) → Each NoRow marks → l.answer ≡ (s.locals g.0).answer → l.last ≡ (s.locals g.0).last → IsOldReply s g r → Rests (changes s g l marks r it)
-  change g l marks r it n a b o = record { marks = n; answers = λ h. answers-test h (eqb h g.0) refl; lasts = λ h. lasts-test h (eqb h g.0) refl; outs = (o, tt) }
+  change : (g : Gxid) (l : Local) (marks : List Mark) (r : Reply) (it : Option JournalItem) → Each NoRow marks → l.answer ≡ (s.locals g.0).answer → l.last ≡ (s.locals g.0).last → next_command (s.locals g.0) ≤ next_command l → IsOldReply s g r → Rests (changes s g l marks r it)
+  change g l marks r it n a b d o =
+      record { marks = n; answers = λ h. answers-test h (eqb h g.0) refl; lasts = λ h. lasts-test h (eqb h g.0) refl; nexts = λ h. nexts-test h (eqb h g.0) refl; outs = (o, tt) }
     where
       answers-test : (h : ℕ) (q : Bool) → eqb h g.0 ≡ q → (if q then l else s.locals h).answer ≡ (s.locals h).answer
       answers-test h true e = a ∙ ap (λ j. (s.locals j).answer) (sym (eqb-true h g.0 e))
@@ -161,6 +193,10 @@ module _ (s : Seg) (calm : AreCalm s.locks) where
       lasts-test h true e = b ∙ ap (λ j. (s.locals j).last) (sym (eqb-true h g.0 e))
       lasts-test h false e = refl
 
+      nexts-test : (h : ℕ) (q : Bool) → eqb h g.0 ≡ q → next_command (s.locals h) ≤ next_command (if q then l else s.locals h)
+      nexts-test h true e = subst (λ j. next_command (s.locals j) ≤ next_command l) (sym (eqb-true h g.0 e)) d
+      nexts-test h false e = same-le (next_command (s.locals h))
+
   both : (b : Bool) (x y : SegTurn) → Rests x → Rests y → Rests (if b then x else y)
   both true x y e f = e
   both false x y e f = f
@@ -169,7 +205,7 @@ module _ (s : Seg) (calm : AreCalm s.locks) where
   repeat g c = both (c.0 == (s.locals g.0).last) _ _ (kept-answer g (s.locals g.0).answer refl) stay
 
   refuse : (g : Gxid) (it : JournalItem) → Rests (is_refused s g (s.locals g.0) it)
-  refuse g it = change g _ _ reply.Jfault (Some it) (tt, tt) refl refl tt
+  refuse g it = change g _ _ reply.Jfault (Some it) (tt, tt) refl refl (same-le (next_command (s.locals g.0))) tt
 
   only : (g : Gxid) (v : Option Reply) (turn : SegTurn) → (s.locals g.0).vote ≡ v → Rests turn → Rests (once s g v turn)
   only g None turn e f = f
@@ -177,7 +213,7 @@ module _ (s : Seg) (calm : AreCalm s.locks) where
 
   promise : (g : Gxid) (fails : Bool) → Rests (promises s g fails (s.locals g.0))
   promise g true = refuse g _
-  promise g false = change g _ _ reply.Prepared _ (tt, tt) refl refl tt
+  promise g false = change g _ _ reply.Prepared _ (tt, tt) refl refl (same-le (next_command (s.locals g.0))) tt
 
   prepare : (g : Gxid) (fails : Bool) (p : Phase) → Rests (on_prepare s g fails (s.locals g.0) p)
   prepare g fails Reading = only g _ _ refl (promise g fails)
@@ -189,7 +225,7 @@ module _ (s : Seg) (calm : AreCalm s.locks) where
 
   commit-one : (g : Gxid) (fails : Bool) → Rests (commits s g fails (s.locals g.0))
   commit-one g true = refuse g _
-  commit-one g false = change g _ _ reply.Committed _ (tt, tt) refl refl tt
+  commit-one g false = change g _ _ reply.Committed _ (tt, tt) refl refl (same-le (next_command (s.locals g.0))) tt
 
   commit : (g : Gxid) (fails : Bool) (p : Phase) → Rests (on_commit s g fails (s.locals g.0) p)
   commit g fails Reading = only g _ _ refl (commit-one g fails)
@@ -200,8 +236,8 @@ module _ (s : Seg) (calm : AreCalm s.locks) where
   commit g fails Aborted = stay
 
   finish : (g : Gxid) (fails : Bool) → Rests (finishes s g fails (s.locals g.0))
-  finish g true = change g _ _ reply.Again _ (tt, tt) refl refl tt
-  finish g false = change g _ _ reply.Committed _ (tt, tt) refl refl tt
+  finish g true = change g _ _ reply.Again _ (tt, tt) refl refl (same-le (next_command (s.locals g.0))) tt
+  finish g false = change g _ _ reply.Committed _ (tt, tt) refl refl (same-le (next_command (s.locals g.0))) tt
 
   commit-prepared : (g : Gxid) (fails : Bool) (p : Phase) → Rests (on_commit_prepared s g fails (s.locals g.0) p)
   commit-prepared g fails Reading = stay
@@ -214,8 +250,8 @@ module _ (s : Seg) (calm : AreCalm s.locks) where
 
   moved : (g : Gxid) (p : Phase) (r : Reply) → IsOldReply s g r → Rests (ends s g (s.locals g.0) p r)
   moved g p r o =
-      let x = change g (record (s.locals g.0) { phase = p; suspended = None }) (release_marks s.node s.locks g) r None (each-released NoRow s.node s.locks g (λ claim. tt)) refl refl o in
-      record { marks = x.marks; answers = x.answers; lasts = x.lasts; outs = x.outs }
+      let x = change g (record (s.locals g.0) { phase = p; suspended = None }) (release_marks s.node s.locks g) r None (each-released NoRow s.node s.locks g (λ claim. tt)) refl refl (drops-next (s.locals g.0).suspended (s.locals g.0).last) o in
+      record { marks = x.marks; answers = x.answers; lasts = x.lasts; nexts = x.nexts; outs = x.outs }
 
   abort : (g : Gxid) (p : Phase) → Rests (on_abort s g (s.locals g.0) p)
   abort g Reading = moved g Aborted reply.Aborted tt
@@ -234,47 +270,72 @@ module _ (s : Seg) (calm : AreCalm s.locks) where
   forget g Aborted = stay
 
   -- SLICES
-  module _ (g : Gxid) (c : Cid) (level : Level) (h : Gxid) (fresh : (s.locals g.0).last < c.0) (opened : is_open (s.locals g.0).phase ≡ true) where
-    lies : Quiet s (stays (raised s h))
-    lies = record { marks = tt; answers = λ j. refl; lasts = λ j. refl; outs = tt }
+  module _ (g : Gxid) (c : Cid) (level : Level) (h : Gxid) (fresh : (s.locals g.0).last < c.0) (alone : (s.locals g.0).suspended ≡ None) (opened : is_open (s.locals g.0).phase ≡ true) where
+    lies : (marks : List Mark) (locks : Locks) → Each NoRow marks → Quiet s (after_marks marks (stays (base s h locks)))
+    lies marks locks e = record { marks = append-none marks e; answers = λ j. refl; lasts = λ j. refl; nexts = λ j. same-le (next_command (s.locals j)); outs = tt }
+      where
+        append-none : (ms : List Mark) → Each NoRow ms → Each NoRow (ms ++ [])
+        append-none [] e = tt
+        append-none (m ∷ ms) e = (e.0, append-none ms e.1)
 
-    start : (x : Option Snapshot) (y : Slice) → Turns s (message.Exec g c level x h y) (starts_slice (raised s h) g c level x y)
-    start (Some x) (slice.Select q) =
-        granted-calm (Turns s (message.Exec g c level (Some x) h (slice.Select q))) (raised s h) calm g c level (Some x) (slice.Select q) (claim g (Relation q.table) AccessShare) refl
-        (inr (inl (record { g = g; c = c; level = level; snapshot = x; horizon = h; query = q; is = refl; fresh = fresh; locks = with_hold s.locks (claim g (Relation q.table) AccessShare); wanted = claim g (Relation q.table) AccessShare; ran = refl })))
-    start (Some x) (slice.Insert t rows) =
-        granted-calm (Turns s (message.Exec g c level (Some x) h (slice.Insert t rows))) (raised s h) calm g c level (Some x) (slice.Insert t rows) (claim g (Relation t) RowExclusive) refl
-        (inr (inr (record { g = g; c = c; level = level; snapshot = x; horizon = h; table = t; rows = rows; is = refl; opened = opened; fresh = fresh; locks = with_hold s.locks (claim g (Relation t) RowExclusive); wanted = claim g (Relation t) RowExclusive; ran = refl })))
-    start None (slice.Select q) =
-        granted-calm (Turns s (message.Exec g c level None h (slice.Select q))) (raised s h) calm g c level None (slice.Select q) (claim g (Relation q.table) AccessShare) refl
-        (inl (record { marks = (tt, tt); answers = λ j. refl; lasts = λ j. refl; outs = tt }))
-    start None (slice.Insert t rows) =
-        granted-calm (Turns s (message.Exec g c level None h (slice.Insert t rows))) (raised s h) calm g c level None (slice.Insert t rows) (claim g (Relation t) RowExclusive) refl
-        (inl (record { marks = (tt, tt); answers = λ j. refl; lasts = λ j. refl; outs = tt }))
-    start (Some x) (slice.Update t a d) = inl lies
-    start (Some x) (slice.Delete t d) = inl lies
-    start (Some x) (slice.Lock t m) = inl lies
-    start None (slice.Update t a d) = inl lies
-    start None (slice.Delete t d) = inl lies
-    start None (slice.Lock t m) = inl lies
+    waits : (x : Option Snapshot) (y : Slice) (wanted : Claim) → slice_lock g y ≡ Some wanted → Turns s (message.Exec g c level x h y) (suspends (raised s h) g c level x y wanted)
+    waits x y wanted e = inr (inr (inr (record { g = g; c = c; level = level; snapshot = x; horizon = h; slice = y; is = refl; opened = opened; fresh = fresh; alone = alone; wanted = wanted; locked = e; ran = refl })))
+
+    locked : (x : Option Snapshot) (y : Slice) (wanted : Claim) → slice_lock g y ≡ Some wanted → Turns s (message.Exec g c level x h y) (runs_locked (raised s h) g c x y wanted)
+    locked (Some x) (slice.Select q) wanted e =
+        inr (inl (record { g = g; c = c; level = level; snapshot = x; horizon = h; query = q; is = refl; fresh = fresh; alone = alone; locks = with_hold s.locks wanted; wanted = wanted; ran = refl }))
+    locked (Some x) (slice.Insert t rows) wanted e =
+        inr (inr (inl (record { g = g; c = c; level = level; snapshot = x; horizon = h; table = t; rows = rows; is = refl; opened = opened; fresh = fresh; alone = alone; locks = with_hold s.locks wanted; wanted = wanted; ran = refl })))
+    locked None (slice.Select q) wanted e = inl (lies (hold_mark s.node wanted ∷ []) (with_hold s.locks wanted) (tt, tt))
+    locked None (slice.Insert t rows) wanted e = inl (lies (hold_mark s.node wanted ∷ []) (with_hold s.locks wanted) (tt, tt))
+    locked x (slice.Update t a d) wanted e = absurd (cc)
+    locked x (slice.Delete t d) wanted e = absurd (cc)
+    locked x (slice.Lock t m) wanted e = absurd (cc)
+
+    start : (x : Option Snapshot) (y : Slice) (o : Option Claim) → slice_lock g y ≡ o → Turns s (message.Exec g c level x h y) (requests (raised s h) g c level x y o)
+    start x y (Some wanted) e = by_test (is_free s.locks.holds wanted)
+      where
+        by_test : (b : Bool) → Turns s (message.Exec g c level x h y) (if b then runs_locked (raised s h) g c x y wanted else suspends (raised s h) g c level x y wanted)
+        by_test true = locked x y wanted e
+        by_test false = waits x y wanted e
+    start x (slice.Select q) None e = absurd (cc)
+    start x (slice.Insert t rows) None e = absurd (cc)
+    start (Some x) (slice.Update t a d) None e = inl (lies [] s.locks tt)
+    start (Some x) (slice.Delete t d) None e = inl (lies [] s.locks tt)
+    start (Some x) (slice.Lock t m) None e = inl (lies [] s.locks tt)
+    start None (slice.Update t a d) None e = inl (lies [] s.locks tt)
+    start None (slice.Delete t d) None e = inl (lies [] s.locks tt)
+    start None (slice.Lock t m) None e = inl (lies [] s.locks tt)
 
   below-is : (a b : ℕ) → nat_lt a b ≡ true → a < b
   below-is a b e = grind (arith, nat_tests)
 
-  take : (g : Gxid) (c : Cid) (level : Level) (x : Option Snapshot) (h : Gxid) (y : Slice) → is_open (s.locals g.0).phase ≡ true → Turns s (message.Exec g c level x h y) (takes s g c level x h y (s.locals g.0))
-  take g c level x h y o = by_test (nat_lt (s.locals g.0).last c.0) refl
+  take : (g : Gxid) (c : Cid) (level : Level) (x : Option Snapshot) (h : Gxid) (y : Slice) → is_open (s.locals g.0).phase ≡ true → (nat_lt (s.locals g.0).last c.0 ≡ true → (s.locals g.0).suspended ≡ None) → Turns s (message.Exec g c level x h y) (takes s g c level x h y (s.locals g.0))
+  take g c level x h y o alone = by_test (nat_lt (s.locals g.0).last c.0) refl
     where
       by_test : (b : Bool) → nat_lt (s.locals g.0).last c.0 ≡ b → Turns s (message.Exec g c level x h y) (if b then starts_slice (raised s h) g c level x y else repeats s g c (s.locals g.0))
-      by_test true e = start g c level h (below-is _ _ e) o x y
+      by_test true e = start g c level h (below-is _ _ e) (alone e) o x y (slice_lock g y) refl
       by_test false e = inl (repeat g c)
 
-  exec : (g : Gxid) (c : Cid) (level : Level) (x : Option Snapshot) (h : Gxid) (y : Slice) (p : Phase) → (s.locals g.0).phase ≡ p → Turns s (message.Exec g c level x h y) (on_exec s g c level x h y (s.locals g.0) p)
-  exec g c level x h y Reading e = take g c level x h y (ap is_open e)
-  exec g c level x h y Writing e = take g c level x h y (ap is_open e)
-  exec g c level x h y Prepared e = inl (repeat g c)
-  exec g c level x h y Committed e = inl (repeat g c)
-  exec g c level x h y (Forgotten b) e = inl stay
-  exec g c level x h y Aborted e = inl stay
+  exec : (g : Gxid) (c : Cid) (level : Level) (x : Option Snapshot) (h : Gxid) (y : Slice) (p : Phase) → (s.locals g.0).phase ≡ p → (nat_lt (s.locals g.0).last c.0 ≡ true → (s.locals g.0).suspended ≡ None) → Turns s (message.Exec g c level x h y) (on_exec s g c level x h y (s.locals g.0) p)
+  exec g c level x h y Reading e alone = take g c level x h y (ap is_open e) alone
+  exec g c level x h y Writing e alone = take g c level x h y (ap is_open e) alone
+  exec g c level x h y Prepared e alone = inl (repeat g c)
+  exec g c level x h y Committed e alone = inl (repeat g c)
+  exec g c level x h y (Forgotten b) e alone = inl stay
+  exec g c level x h y Aborted e alone = inl stay
+
+  -- a new command fits only where nobody waits
+  fits-alone : (script : Script) (g : Gxid) (c : Cid) (x : Option Snapshot) (h : Gxid) (y : Slice) → fits_exec script s g c x h y ≡ true → nat_lt (s.locals g.0).last c.0 ≡ true → (s.locals g.0).suspended ≡ None
+  fits-alone script g c x h y e =
+      from (nat_le h.0 g.0) (each_below h.0 (λ j. not (holds_locks (s.locals j)))) (is_some x) (is_right_slice script g c y) (nat_lt (s.locals g.0).last c.0) (s.locals g.0).suspended e
+    where
+      clash : (a b c d later : Bool) → (a && (b && (c && (d && not (later && true))))) ≡ true → later ≡ true → ⊥
+      clash a b c d later e q = grind arith
+
+      from : (a b c d later : Bool) (o : Option Suspended) → (a && (b && (c && (d && not (later && is_some o))))) ≡ true → later ≡ true → o ≡ None
+      from a b c d later None e q = refl
+      from a b c d later (Some x) e q = absurd (clash a b c d later e q)
 
   below : (m : Message) (g : Gxid) (turn : SegTurn) → Turns s m turn → Turns s m (unless_below s g turn)
   below m g turn e = by_test (is_below s.horizon g)
@@ -288,7 +349,11 @@ module _ (s : Seg) (calm : AreCalm s.locks) where
   fits m false turn e = inl stay
 
   pub message-turns : (script : Script) (fails : Bool) (m : Message) → Turns s m (on_message script s fails m)
-  message-turns script fails (message.Exec g c level x h y) = below _ g _ (fits _ (fits_exec script s g c x h y) _ (exec g c level x h y (local_of s g).phase refl))
+  message-turns script fails (message.Exec g c level x h y) = below _ g _ (by_fits (fits_exec script s g c x h y) refl)
+    where
+      by_fits : (b : Bool) → fits_exec script s g c x h y ≡ b → Turns s (message.Exec g c level x h y) (if_fits s b (on_exec s g c level x h y (local_of s g) (local_of s g).phase))
+      by_fits true e = exec g c level x h y (local_of s g).phase refl (fits-alone script g c x h y e)
+      by_fits false e = inl stay
   message-turns script fails (message.Prepare g) = below _ g _ (fits _ (not (is_waiting (local_of s g))) _ (inl (prepare g fails _)))
   message-turns script fails (message.Commit g) = below _ g _ (fits _ (not (is_waiting (local_of s g))) _ (inl (commit g fails _)))
   message-turns script fails (message.CommitPrepared g) = below _ g _ (inl (commit-prepared g fails _))
@@ -297,3 +362,45 @@ module _ (s : Seg) (calm : AreCalm s.locks) where
   message-turns script fails (message.Collect round) = inl stay
   message-turns script fails (message.Answer g r) = inl stay
   message-turns script fails (message.Graph round graph) = inl stay
+
+-- A SLICE GOES ON
+-- the segment without that wait, with its lock
+abbrev pub freed : Seg → Gxid → Locks → Seg
+freed s g locks = record (with_local s g (record (local_of s g) { suspended = None })) { locks = locks }
+
+-- a SELECT that waited runs on the rows that the segment shows now
+pub record SelectGoesOn (s : Seg) (g : Gxid) (x : Suspended) (turn : SegTurn) : Type 0 where
+  pub snapshot : Snapshot
+  pub query : Query
+  pub reads : x.snapshot ≡ Some snapshot
+  pub is : x.slice ≡ slice.Select query
+  pub locks : Locks
+  pub wanted : Claim
+  pub ran : turn ≡ after_marks (hold_mark s.node wanted ∷ []) (selects (freed s g locks) g x.cid query (shown (freed s g locks) snapshot g x.cid query.table) (first_fault query.cond (shown (freed s g locks) snapshot g x.cid query.table)))
+
+pub record InsertGoesOn (s : Seg) (g : Gxid) (x : Suspended) (turn : SegTurn) : Type 0 where
+  pub snapshot : Snapshot
+  pub table : Table
+  pub rows : List KeyedRow
+  pub reads : x.snapshot ≡ Some snapshot
+  pub is : x.slice ≡ slice.Insert table rows
+  pub locks : Locks
+  pub wanted : Claim
+  pub ran : turn ≡ after_marks (hold_mark s.node wanted ∷ []) (inserts g x.cid (length rows) (inserted (freed s g locks) g x.cid table rows))
+
+abbrev pub Continues : Seg → Gxid → Suspended → SegTurn → Type 0
+Continues s g x turn = SelectGoesOn s g x turn ⊎ InsertGoesOn s g x turn
+
+continues : (script : Script) (s : Seg) (g : Gxid) (x : Suspended) (wanted : Claim) (snapshot : Option Snapshot) (y : Slice) → x.snapshot ≡ snapshot → x.slice ≡ y → is_some snapshot ≡ true → is_right_slice script g x.cid y ≡ true
+    → Continues s g x (after_marks (hold_mark s.node wanted ∷ []) (runs_slice (freed s g (resumed s.locks g (Some wanted))) g x.cid snapshot y))
+continues script s g x wanted (Some snapshot) (slice.Select q) e f reads right = inl (record { snapshot = snapshot; query = q; reads = e; is = f; locks = resumed s.locks g (Some wanted); wanted = wanted; ran = refl })
+continues script s g x wanted (Some snapshot) (slice.Insert t rows) e f reads right = inr (record { snapshot = snapshot; table = t; rows = rows; reads = e; is = f; locks = resumed s.locks g (Some wanted); wanted = wanted; ran = refl })
+continues script s g x wanted snapshot (slice.Update t a d) e f reads right = absurd (cc)
+continues script s g x wanted snapshot (slice.Delete t d) e f reads right = absurd (cc)
+continues script s g x wanted snapshot (slice.Lock t m) e f reads right = absurd (cc)
+continues script s g x wanted None y e f reads right = absurd (cc)
+
+pub resumption-turns : (script : Script) (w : World) (i : ℕ) (g : Gxid) (o : GoesOn script w i g) → Continues (w.segs i) g o.slice (resumes (w.segs i) g (wait_of (w.segs i).locks g) (local_of (w.segs i) g).suspended)
+resumption-turns script w i g o =
+    subst (Continues (w.segs i) g o.slice) (sym (goes-on-is (w.segs i) g o.wanted o.slice o.claims o.is))
+    (continues script (w.segs i) g o.slice o.wanted o.slice.snapshot o.slice.slice refl refl o.waits.reads o.waits.right)

@@ -51,7 +51,7 @@ use Rattle.gx_store.specs.declared.node.NodeEvent.TheVariants as event
 use Rattle.gx_store.specs.Marks.{has_snapshot, is_snapped}
 use Rattle.gx_store.specs.Refusals.{the_coordinator}
 use Rattle.gx_store.specs.Writes.{dist_of}
-use Rattle.gx_rules.specs.AtCoordinator.{Reading, answer_at_commit, answer_mark, answer_of_command, answers, answers_at_once, awaited, begins, behind, command_answer, commits, completes, coord_can, dispatches, ends_in, failure_marks, fault_mark, follows, goes, goes_on, goes_out, is_awaited, is_committed, is_idle, is_nothing, is_refused, kept_at, next_cid, next_line, nodes_in, on_answer, on_done, on_event, on_failed, on_line, on_message, on_status, orders_of, plain_answer_of, reads_by, reads_for, reason_of, refusal_of, resends, rolls_back, starts, starts_line, table_of, takes_done, takes_snapshot, with_done, writers_with, goes_on_locked, if_granted, lock_for, requests, resumes}
+use Rattle.gx_rules.specs.AtCoordinator.{Reading, answer_at_commit, answer_mark, answer_of_command, answers, answers_at_once, awaited, begins, behind, command_answer, commits, completes, coord_can, dispatches, ends_in, failure_marks, fault_mark, follows, goes, goes_on, goes_out, is_awaited, is_committed, is_idle, is_nothing, is_refused, kept_at, next_cid, next_line, nodes_in, on_answer, on_done, on_event, on_failed, on_line, on_message, on_status, orders_of, plain_answer_of, reads_by, reads_for, reason_of, refusal_of, resends, rolls_back, starts, starts_line, table_of, takes_done, takes_snapshot, with_done, writers_with, goes_on_locked, if_granted, lock_for, requests, resumes, waits_for}
 use Rattle.gx_rules.specs.Coordinators.{Command, Coord, CoordTurn, Session, Work, new_work, no_work, rests, session_of, with_state, with_work, work_of}
 use Rattle.gx_rules.specs.Fits.{fits_part}
 use Rattle.gx_rules.specs.Maps.{with_at}
@@ -63,9 +63,10 @@ use Rattle.gx_law_order.proofs.Statuses.Stage.{Closing, Live as LiveStage}
 use Rattle.gx_law_order.proofs.Statuses.{Moves, Turned, reply-turns, stage}
 use Rattle.gx_law_commit.specs.Standings.{gx}
 use Rattle.gx_rules.specs.Locks.{with_hold, hold_mark, release_marks}
-use Rattle.gx_locks.specs.Locks.{Locks}
+use Rattle.gx_locks.specs.Locks.{Locks, is_free, resumed, wait_of}
 use Rattle.gx_waits.specs.declared.claim.Claim.{Claim}
-use Rattle.gx_law_order.proofs.Calm.{AreCalm, calm-free, each-released, lock-calm, nobody-waits}
+use Rattle.gx_law_order.proofs.Calm.{each-released}
+use Rattle.gx_law_order.proofs.Waiting.{GoesOut}
 
 -- a mark that starts and answers nothing
 abbrev pub Still : Mark → Type 0
@@ -134,14 +135,15 @@ module _ (script : Script) (c : Coord) (x : NodeEvent) where
   AnswerOk earlier s (told.Refused reason) = Unit {0}
   AnswerOk earlier s a = Completes s a × Each Still earlier
 
-  -- constants fault where their line starts
-  abbrev pub IsStarting : NodeEvent → Type 0
-  IsStarting (event.Start s) = Unit {0}
-  IsStarting _ = ⊥
+  -- constants fault where their command goes out: its line starts, or it has waited
+  abbrev pub IsGoingOut : NodeEvent → Type 0
+  IsGoingOut (event.Start s) = Unit {0}
+  IsGoingOut (event.Resume g) = Unit {0}
+  IsGoingOut _ = ⊥
 
   abbrev pub AnswerAt : List Mark → Mark → Type 0
   AnswerAt earlier (mark.Answer s n a) = AnswerOk earlier s a
-  AnswerAt earlier (mark.Fault g d r i) = IsStarting x
+  AnswerAt earlier (mark.Fault g d r i) = IsGoingOut x
   AnswerAt earlier (mark.Recheck round own verdict) = ⊥
   AnswerAt earlier m = Unit {0}
 
@@ -151,7 +153,7 @@ module _ (script : Script) (c : Coord) (x : NodeEvent) where
 
   abbrev NoAnswer : Mark → Type 0
   NoAnswer (mark.Answer s n a) = ⊥
-  NoAnswer (mark.Fault g d r i) = IsStarting x
+  NoAnswer (mark.Fault g d r i) = IsGoingOut x
   NoAnswer (mark.Recheck round own verdict) = ⊥
   NoAnswer _ = Unit {0}
 
@@ -194,6 +196,20 @@ module _ (script : Script) (c : Coord) (x : NodeEvent) where
   is_success told.Rollback = false
   is_success (told.Refused reason) = false
   is_success a = true
+
+  -- the transaction's work is as before, but for its statement that waits, or new
+  pub record AsBefore (c1 : Coord) (g : ℕ) : Type 0 where
+    pub live : stage_of c g ≡ LiveStage
+    pub command : (c1.works g).command ≡ (c.works g).command
+    pub level : (c1.works g).level ≡ (c.works g).level
+    pub snapshot : (c1.works g).snapshot ≡ (c.works g).snapshot
+
+  pub record IsNew (c1 : Coord) (g : ℕ) : Type 0 where
+    pub command : (c1.works g).command ≡ None
+    pub snapshot : (c1.works g).snapshot ≡ None
+
+  abbrev Base : Coord → ℕ → Type 0
+  Base c1 g = AsBefore c1 g ⊎ IsNew c1 g
 
   -- TURNS of a coordinator on the way, whose works but one are as before
   module _ (c1 : Coord) (g : ℕ) (others : (h : ℕ) → eqb h g ≡ false → c1.works h ≡ c.works h) (earlier : List Mark) where
@@ -306,7 +322,7 @@ module _ (script : Script) (c : Coord) (x : NodeEvent) where
     reads cid (stmt.Update t a v) = reads-old cid _ (c1.works g).snapshot refl
     reads cid (stmt.Delete t v) = reads-old cid _ (c1.works g).snapshot refl
 
-    fault-none : IsStarting x → (h : Gxid) (cid : Cid) (line : Stmt) → Each NoAnswer (fault_mark h cid line)
+    fault-none : IsGoingOut x → (h : Gxid) (cid : Cid) (line : Stmt) → Each NoAnswer (fault_mark h cid line)
     fault-none it h cid (stmt.Insert t v) = (it, tt)
     fault-none it h cid (stmt.Begin level) = tt
     fault-none it h cid stmt.Commit = tt
@@ -315,10 +331,6 @@ module _ (script : Script) (c : Coord) (x : NodeEvent) where
     fault-none it h cid (stmt.Update t a v) = tt
     fault-none it h cid (stmt.Delete t v) = tt
     fault-none it h cid (stmt.Lock t m) = tt
-
-    -- the transaction's work is as before, or new
-    abbrev Base : Type 0
-    Base = ((stage_of c g ≡ LiveStage) × (c1.works g ≡ c.works g)) ⊎ ((c1.works g).snapshot ≡ None)
 
     has-more : (ns ms : List Mark) (g : Gxid) → has_snapshot ms g ≡ true → has_snapshot (ns ++ ms) g ≡ true
     has-more ns ms g e = Rattle.gx_store.proofs.Marks.has_snapshot-append ns ms g ∙ or-right (has_snapshot ns g) (has_snapshot ms g) e
@@ -335,7 +347,7 @@ module _ (script : Script) (c : Coord) (x : NodeEvent) where
     some-none : (y : Snapshot) → None ≡ Some y → ⊥
     some-none y e = cc
 
-    goes-walk : IsStarting x → Base → (cid : Cid) (line : Stmt) (r : Reading) → Reads cid line r → (plan : Result (List Piece) ArithFault) → plan_of script.segments (dist_of script.tables (table_of line)) (gx g) cid line ≡ plan → Walk earlier (goes (gx g) cid line r plan)
+    goes-walk : IsGoingOut x → Base c1 g → (cid : Cid) (line : Stmt) (r : Reading) → Reads cid line r → (plan : Result (List Piece) ArithFault) → plan_of script.segments (dist_of script.tables (table_of line)) (gx g) cid line ≡ plan → Walk earlier (goes (gx g) cid line r plan)
     goes-walk it base cid line r f (Ok pieces) e =
         record {
           works = one-goes (goes_out (gx g) cid line pieces r).coord.works (earlier ++ r.marks) g (λ h q. ap (λ b. if b then after else r.coord.works h) q ∙ f.works h q) (inr (inr (inr new)));
@@ -348,10 +360,10 @@ module _ (script : Script) (c : Coord) (x : NodeEvent) where
         here : (goes_out (gx g) cid line pieces r).coord.works g ≡ after
         here = ap (λ b. if b then after else r.coord.works g) (self-test g)
 
-        by_read : Base → ((has_snapshot r.marks (gx g) ≡ true) × (is_snapped r.marks (gx g) cid ≡ true)) ⊎ ((y : Snapshot) × ((c1.works g).snapshot ≡ Some y)) → ((has_snapshot (earlier ++ r.marks) (gx g) ≡ true) × (is_snapped (earlier ++ r.marks) (gx g) cid ≡ true)) ⊎ ((stage_of c g ≡ LiveStage) × ((y : Snapshot) × ((c.works g).snapshot ≡ Some y)) × (((goes_out (gx g) cid line pieces r).coord.works g).level ≡ (c.works g).level))
+        by_read : Base c1 g → ((has_snapshot r.marks (gx g) ≡ true) × (is_snapped r.marks (gx g) cid ≡ true)) ⊎ ((y : Snapshot) × ((c1.works g).snapshot ≡ Some y)) → ((has_snapshot (earlier ++ r.marks) (gx g) ≡ true) × (is_snapped (earlier ++ r.marks) (gx g) cid ≡ true)) ⊎ ((stage_of c g ≡ LiveStage) × ((y : Snapshot) × ((c.works g).snapshot ≡ Some y)) × (((goes_out (gx g) cid line pieces r).coord.works g).level ≡ (c.works g).level))
         by_read b (inl z) = inl (has-more earlier r.marks (gx g) z.0, snapped-more earlier r.marks (gx g) cid z.1)
-        by_read (inl b) (inr z) = inr (b.0, (z.0, ap (λ (w : Work). w.snapshot) (sym b.1) ∙ z.1), ap (λ (w : Work). w.level) here ∙ f.level ∙ ap (λ (w : Work). w.level) b.1)
-        by_read (inr b) (inr z) = absurd (some-none z.0 (sym b ∙ z.1))
+        by_read (inl b) (inr z) = inr (b.live, (z.0, sym b.snapshot ∙ z.1), ap (λ (w : Work). w.level) here ∙ f.level ∙ b.level)
+        by_read (inr b) (inr z) = absurd (some-none z.0 (sym b.snapshot ∙ z.1))
 
         new : New g (earlier ++ r.marks) (c.works g) ((goes_out (gx g) cid line pieces r).coord.works g)
         new =
@@ -375,27 +387,72 @@ module _ (script : Script) (c : Coord) (x : NodeEvent) where
               answers = ok-append earlier why _ (none-ok earlier why n) (tt, (tt, none-ok _ _ (back-none d.locks (gx g))));
             }
 
-    pub locked-walk : IsStarting x → Base → (line : Stmt) → Walk earlier (goes_on_locked script c1 (gx g) line)
+    pub locked-walk : IsGoingOut x → Base c1 g → (line : Stmt) → Walk earlier (goes_on_locked script c1 (gx g) line)
     locked-walk it base line = goes-walk it base (next_cid (c1.works g)) line _ (reads (next_cid (c1.works g)) line) (plan_of script.segments (dist_of script.tables (table_of line)) (gx g) (next_cid (c1.works g)) line) refl
 
-  -- WITH ITS TABLE'S LOCK
-  module _ (c1 : Coord) (g : ℕ) (others : (h : ℕ) → eqb h g ≡ false → c1.works h ≡ c.works h) (earlier : List Mark) (it : IsStarting x) (base : ((stage_of c g ≡ LiveStage) × (c1.works g ≡ c.works g)) ⊎ ((c1.works g).snapshot ≡ None)) (calm : AreCalm c1.locks) (line : Stmt) where
-    held-walk : (locks : Locks) (wanted : Claim) → Walk earlier (behind (hold_mark the_coordinator wanted ∷ []) (goes_on_locked script (record c1 { locks = locks }) (gx g) line))
+  -- WITH ITS TABLE'S LOCK, OR WAITING FOR IT
+  module _ (c1 : Coord) (g : ℕ) (others : (h : ℕ) → eqb h g ≡ false → c1.works h ≡ c.works h) (earlier : List Mark) (it : IsGoingOut x) (base : Base c1 g) (line : Stmt) where
+    pub held-walk : (locks : Locks) (wanted : Claim) → Walk earlier (behind (hold_mark the_coordinator wanted ∷ []) (goes_on_locked script (record c1 { locks = locks }) (gx g) line))
     held-walk locks wanted =
-        let y = locked-walk (record c1 { locks = locks }) g others (earlier ++ hold_mark the_coordinator wanted ∷ []) it base line in
+        let y = locked-walk (record c1 { locks = locks }) g others (earlier ++ hold_mark the_coordinator wanted ∷ []) it (base-held base) line in
         record {
           works = λ h. subst (λ ms. Goes h ms (c.works h) ((goes_on_locked script (record c1 { locks = locks }) (gx g) line).coord.works h)) (append_assoc earlier (hold_mark the_coordinator wanted ∷ []) (goes_on_locked script (record c1 { locks = locks }) (gx g) line).marks) (y.works h);
           answers = (tt, y.answers);
         }
+      where
+        base-held : Base c1 g → Base (record c1 { locks = locks }) g
+        base-held (inl b) = inl (record { live = b.live; command = b.command; level = b.level; snapshot = b.snapshot })
+        base-held (inr b) = inr (record { command = b.command; snapshot = b.snapshot })
 
-    request-walk : (o : Option Claim) → lock_for (gx g) line ≡ o → Walk earlier (requests script c1 (gx g) line o)
-    request-walk None e = locked-walk c1 g others earlier it base line
-    request-walk (Some wanted) e =
-        subst (λ q. Walk earlier (if_granted script c1 (gx g) line wanted q)) (sym (calm-free c1.locks wanted calm (lock-calm (gx g) line wanted e)))
-        (held-walk (with_hold c1.locks wanted) wanted)
+    waits-walk : (wanted : Claim) → Walk earlier (waits_for c1 (gx g) line wanted)
+    waits-walk wanted =
+        record {
+          works = one-goes _ (earlier ++ (waits_for c1 (gx g) line wanted).marks) g (with-others c1 g others earlier waits) (here base);
+          answers = (tt, tt);
+        }
+      where
+        waits : Work
+        waits = record (c1.works g) { waiting = Some line }
+
+        now : (waits_for c1 (gx g) line wanted).coord.works g ≡ waits
+        now = with-here c1 g others earlier waits
+
+        here : Base c1 g → Goes g (earlier ++ (waits_for c1 (gx g) line wanted).marks) (c.works g) ((waits_for c1 (gx g) line wanted).coord.works g)
+        here (inl b) = inl (ap (λ (w : Work). w.command) now ∙ b.command, ap (λ (w : Work). w.level) now ∙ b.level)
+        here (inr b) = inr (inl (ap (λ (w : Work). w.command) now ∙ b.command))
+
+    request-walk : (o : Option Claim) → Walk earlier (requests script c1 (gx g) line o)
+    request-walk None = locked-walk c1 g others earlier it base line
+    request-walk (Some wanted) = by_test (is_free c1.locks.holds wanted)
+      where
+        by_test : (b : Bool) → Walk earlier (if_granted script c1 (gx g) line wanted b)
+        by_test true = held-walk (with_hold c1.locks wanted) wanted
+        by_test false = waits-walk wanted
 
     pub dispatch-walk : Walk earlier (dispatches script c1 (gx g) line)
-    dispatch-walk = request-walk (lock_for (gx g) line) refl
+    dispatch-walk = request-walk (lock_for (gx g) line)
+
+  -- A STATEMENT THAT HAS WAITED
+  module _ (g : Gxid) (it : IsGoingOut x) (o : GoesOut c g) where
+    abbrev out : Work
+    out = record (work_of c g) { waiting = None }
+
+    abbrev unlocked : Coord
+    unlocked = with_work c g out
+
+    out-others : (h : ℕ) → eqb h g.0 ≡ false → unlocked.works h ≡ c.works h
+    out-others h e = ap (λ b. if b then out else c.works h) e
+
+    out-here : unlocked.works g.0 ≡ out
+    out-here = ap (λ b. if b then out else c.works g.0) (self-test g.0)
+
+    out-base : Base unlocked g.0
+    out-base = inl (record { live = o.live; command = ap (λ (w : Work). w.command) out-here; level = ap (λ (w : Work). w.level) out-here; snapshot = ap (λ (w : Work). w.snapshot) out-here })
+
+    pub resume-walk : Walk [] (resumes script c g (wait_of c.locks g) (work_of c g).waiting)
+    resume-walk =
+        subst (λ q. Walk [] (resumes script c g q (work_of c g).waiting)) (sym o.claims)
+        (subst (λ q. Walk [] (resumes script c g (Some o.wanted) q)) (sym o.is) (held-walk unlocked g.0 out-others [] it out-base o.line (resumed c.locks g (Some o.wanted)) o.wanted))
 
   -- ANSWERS OF SEGMENTS
   module _ (k : Kept c) where
@@ -529,7 +586,7 @@ module _ (script : Script) (c : Coord) (x : NodeEvent) where
     again-walk i (Some m) = record { works = λ h. inl (refl, refl); answers = tt }
 
     -- LINES
-    module _ (s : SessionId) (it : IsStarting x) (idle : is_nothing_in (session_of c s).state.pending ≡ true) where
+    module _ (s : SessionId) (it : IsGoingOut x) (idle : is_nothing_in (session_of c s).state.pending ≡ true) where
       abbrev block : Block
       block = (session_of c s).state.block
 
@@ -565,10 +622,10 @@ module _ (script : Script) (c : Coord) (x : NodeEvent) where
       rollback-line : Walk [] (rolls_back (starts_line c s step.RollbackBlock) (session_of (starts_line c s step.RollbackBlock) s).transaction (answer_mark (starts_line c s step.RollbackBlock) s told.Rollback ∷ []) (on_abort c.table (session_of (starts_line c s step.RollbackBlock) s).transaction))
       rollback-line = rolled-walk (starts_line c s step.RollbackBlock) (session_of (starts_line c s step.RollbackBlock) s).transaction.0 (same-others _) [] (on_abort c.table (session_of (starts_line c s step.RollbackBlock) s).transaction) (answer_mark (starts_line c s step.RollbackBlock) s told.Rollback ∷ []) (tt, tt)
 
-      inside-line : AreCalm c.locks → (line : Stmt) → is_open_in block ≡ true → Walk [] (dispatches script (starts_line c s (step.Command false)) (session_of (starts_line c s (step.Command false)) s).transaction line)
-      inside-line calm line opened =
+      inside-line : (line : Stmt) → is_open_in block ≡ true → Walk [] (dispatches script (starts_line c s (step.Command false)) (session_of (starts_line c s (step.Command false)) s).transaction line)
+      inside-line line opened =
           subst (λ g. Walk [] (dispatches script (starts_line c s (step.Command false)) g line)) (sym (transaction-now (step.Command false)))
-          (dispatch-walk (starts_line c s (step.Command false)) (session_of c s).transaction.0 (same-others (session_of c s).transaction.0) [] it (inl (own-live opened, refl)) calm line)
+          (dispatch-walk (starts_line c s (step.Command false)) (session_of c s).transaction.0 (same-others (session_of c s).transaction.0) [] it (inl (record { live = own-live opened; command = refl; level = refl; snapshot = refl })) line)
 
       -- a new transaction
       begun-others : (asked : LineStep) (level : Level) (h : ℕ) → eqb h c.table.next.0 ≡ false → (begins (starts_line c s asked) s level).works h ≡ c.works h
@@ -585,9 +642,9 @@ module _ (script : Script) (c : Coord) (x : NodeEvent) where
           behind-walk (answers_at_once (begins (starts_line c s (step.BeginBlock level)) s level) s told.Begin)
           (record { works = one-goes (begins (starts_line c s (step.BeginBlock level)) s level).works _ c.table.next.0 (begun-others (step.BeginBlock level) level) (inr (inl (ap (λ (w : Work). w.command) (begun-here (step.BeginBlock level) level)))); answers = (tt, tt) })
 
-      alone-line : AreCalm c.locks → (line : Stmt) → Walk [] (behind (mark.Start c.table.next s ∷ []) (dispatches script (begins (starts_line c s (step.Command true)) s ReadCommitted) c.table.next line))
-      alone-line calm line =
-          behind-walk _ (dispatch-walk (begins (starts_line c s (step.Command true)) s ReadCommitted) c.table.next.0 (begun-others (step.Command true) ReadCommitted) (mark.Start c.table.next s ∷ []) it (inr (ap (λ (w : Work). w.snapshot) (begun-here (step.Command true) ReadCommitted))) calm line)
+      alone-line : (line : Stmt) → Walk [] (behind (mark.Start c.table.next s ∷ []) (dispatches script (begins (starts_line c s (step.Command true)) s ReadCommitted) c.table.next line))
+      alone-line line =
+          behind-walk _ (dispatch-walk (begins (starts_line c s (step.Command true)) s ReadCommitted) c.table.next.0 (begun-others (step.Command true) ReadCommitted) (mark.Start c.table.next s ∷ []) it (inr (record { command = ap (λ (w : Work). w.command) (begun-here (step.Command true) ReadCommitted); snapshot = ap (λ (w : Work). w.snapshot) (begun-here (step.Command true) ReadCommitted) })) line)
 
       plain-ok : (p : Plain) → AnswerOk [] s (plain_answer_of p)
       plain-ok plain.Begin = tt
@@ -597,19 +654,19 @@ module _ (script : Script) (c : Coord) (x : NodeEvent) where
       at-once : (asked : LineStep) (a : StmtAnswer) → AnswerOk [] s a → Walk [] (answers_at_once (starts_line c s asked) s a)
       at-once asked a ok = record { works = λ h. inl (refl, refl); answers = (ok, tt) }
 
-      line-walk : AreCalm c.locks → (line : Stmt) (asked : LineStep) → Asks block asked → Walk [] (on_line script (starts_line c s asked) s line asked)
-      line-walk calm line (step.Answer p) a = at-once (step.Answer p) _ (plain-ok p)
-      line-walk calm line step.Refuse5 a = at-once step.Refuse5 _ tt
-      line-walk calm line step.Refuse7 a = at-once step.Refuse7 _ tt
-      line-walk calm line (step.BeginBlock level) a = begin-line level
-      line-walk calm line step.CommitBlock a = commit-line a
-      line-walk calm line step.RollbackBlock a = rollback-line
-      line-walk calm line (step.Command true) a = alone-line calm line
-      line-walk calm line (step.Command false) a = inside-line calm line a
+      line-walk : (line : Stmt) (asked : LineStep) → Asks block asked → Walk [] (on_line script (starts_line c s asked) s line asked)
+      line-walk line (step.Answer p) a = at-once (step.Answer p) _ (plain-ok p)
+      line-walk line step.Refuse5 a = at-once step.Refuse5 _ tt
+      line-walk line step.Refuse7 a = at-once step.Refuse7 _ tt
+      line-walk line (step.BeginBlock level) a = begin-line level
+      line-walk line step.CommitBlock a = commit-line a
+      line-walk line step.RollbackBlock a = rollback-line
+      line-walk line (step.Command true) a = alone-line line
+      line-walk line (step.Command false) a = inside-line line a
 
-      start-walk : AreCalm c.locks → (o : Option Stmt) → Walk [] (starts script c s o)
-      start-walk calm None = rest-walk
-      start-walk calm (Some line) = line-walk calm line (line_step block line) (asks block line)
+      start-walk : (o : Option Stmt) → Walk [] (starts script c s o)
+      start-walk None = rest-walk
+      start-walk (Some line) = line-walk line (line_step block line) (asks block line)
 
     end-walk : (s : SessionId) (b : Block) → Walk [] (ends_in c s b)
     end-walk s (Open level) = rolled-walk (with_state c s idle_outside) (session_of c s).transaction.0 (same-others _) [] (on_abort c.table (session_of c s).transaction) [] tt
@@ -622,11 +679,11 @@ module _ (script : Script) (c : Coord) (x : NodeEvent) where
         by_pending : (q : Pending) → is_nothing q ≡ true → is_nothing_in q ≡ true
         by_pending q e = grind arith
 
-    pub event-walk : AreCalm c.locks → (y : NodeEvent) → x ≡ y → (fails : Bool) → coord_can script c y ≡ true → Walk [] (on_event script c y fails)
-    event-walk calm (event.Deliver from envelope) is fails can = message-walk from fails envelope is envelope.message refl
-    event-walk calm (event.Start s) is fails can = start-walk s (subst IsStarting (sym is) tt) (idle-first s _ can) calm (next_line script c s)
-    event-walk calm (event.End s) is fails can = end-walk s (session_of c s).state.block
-    event-walk calm (event.Resend i (Some g)) is fails can = again-walk i (awaited c g i)
-    event-walk calm (event.Resend i None) is fails can = rest-walk
-    event-walk calm (event.Resume g) is fails can = subst (λ o. Walk [] (resumes script c g o (work_of c g).waiting)) (sym (nobody-waits c.locks g calm)) rest-walk
-    event-walk calm event.Round is fails can = rest-walk
+    pub event-walk : ((g : Gxid) → coord_can script c (event.Resume g) ≡ true → GoesOut c g) → (y : NodeEvent) → x ≡ y → (fails : Bool) → coord_can script c y ≡ true → Walk [] (on_event script c y fails)
+    event-walk going (event.Deliver from envelope) is fails can = message-walk from fails envelope is envelope.message refl
+    event-walk going (event.Start s) is fails can = start-walk s (subst IsGoingOut (sym is) tt) (idle-first s _ can) (next_line script c s)
+    event-walk going (event.End s) is fails can = end-walk s (session_of c s).state.block
+    event-walk going (event.Resend i (Some g)) is fails can = again-walk i (awaited c g i)
+    event-walk going (event.Resend i None) is fails can = rest-walk
+    event-walk going (event.Resume g) is fails can = resume-walk g (subst IsGoingOut (sym is) tt) (going g can)
+    event-walk going event.Round is fails can = rest-walk

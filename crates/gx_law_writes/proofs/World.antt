@@ -3,7 +3,20 @@ use Rattle.std.proofs.Common.{◌≡◌, ◌≤◌, ◌<◌, ◌⊎◌, inl, inr
 use Rattle.std.proofs.lemmas.Bool.{eqb-true}
 use Rattle.std.proofs.lemmas.Bool.Decides.{nat_tests}
 use Rattle.std.proofs.lemmas.List.{append_assoc}
+use Rattle.std.specs.Prelude.{length}
+use Rattle.gx_ids.specs.declared.ids.Cid.{Cid}
+use Rattle.gx_ids.specs.declared.ids.Gxid.{Gxid}
 use Rattle.gx_ids.specs.declared.ids.Node.{Node}
+use Rattle.gx_ids.specs.declared.ids.SessionId.{SessionId}
+use Rattle.gx_ids.specs.declared.ids.Table.{Table}
+use Rattle.gx_tree.specs.declared.expr.Expr.{Expr}
+use Rattle.gx_tree.specs.declared.query.Query.{Query}
+use Rattle.gx_tree.specs.declared.row.KeyedRow.{KeyedRow}
+use Rattle.gx_tree.specs.declared.slice.Slice.TheVariants as slice
+use Rattle.gx_tree.specs.declared.stmt.Level.{Level}
+use Rattle.gx_dsnap.specs.declared.snapshot.Snapshot.{Snapshot}
+use Rattle.gx_waits.specs.declared.claim.Claim.{Claim}
+use Rattle.gx_meaning.specs.declared.fault.ArithFault.{ArithFault}
 use Rattle.gx_msg.specs.declared.message.Envelope.{Envelope}
 use Rattle.gx_msg.specs.declared.message.Message.{Message}
 use Rattle.gx_msg.specs.declared.message.Message.TheVariants as message
@@ -20,23 +33,27 @@ use Rattle.gx_store.specs.declared.run.Step.{Step}
 use Rattle.gx_store.specs.Journals.{is_same_node}
 use Rattle.gx_store.specs.Messages.{IsSending}
 use Rattle.gx_store.specs.Ordered.{IsAtNode, IsLink, IsSegment}
-use Rattle.gx_store.specs.Points.{marks_in}
+use Rattle.gx_store.specs.Points.{marks_in, starts_by}
 use Rattle.gx_store.specs.Refusals.{the_coordinator}
 use Rattle.gx_rules.specs.AtCoordinator.{coord_rule, coord_can}
 use Rattle.gx_rules.specs.AtSegment as segment
-use Rattle.gx_rules.specs.AtSegment.{seg_rule}
+use Rattle.gx_rules.specs.AtSegment.{raised, seg_rule}
+use Rattle.gx_rules.specs.Locks.{hold_mark}
 use Rattle.gx_rules.specs.Machine.{Letter, World, after, at_node, can, coord_did, delivered, does, found, happens, new_world, node_of, seg_did, world_of, can_here, seg_can}
 use Rattle.gx_rules.specs.Maps.{with_at}
-use Rattle.gx_rules.specs.Segments.{Local, Seg, SegTurn}
+use Rattle.gx_rules.specs.Segments.{Local, Seg, SegTurn, Suspended, after_marks}
 use Rattle.gx_rules.specs.Sending.{clock_after, counted, numbered}
-use Rattle.gx_law_order.proofs.CalmSegs.{nobody-goes-on}
+use Rattle.gx_rules.specs.Shown.{shown}
+use Rattle.gx_rules.specs.Slices.{first_fault, inserted, inserts, selects}
 use Rattle.gx_law_order.proofs.AtSegments.{PlainAt, seg_stays}
 use Rattle.gx_law_order.proofs.Letters.{IsFound, IsLetter, found_is}
 use Rattle.gx_law_order.proofs.Lists.{Each, each_append, each_weaker}
-use Rattle.gx_law_order.proofs.Ordered.{Well, at_coordinator}
+use Rattle.gx_law_order.proofs.Ordered.{Well, at_coordinator, resumes_there}
+use Rattle.gx_law_order.proofs.Waiting.{GoesOn, each-among, going-on}
 use Rattle.gx_law_order.proofs.World.{marks-last}
 use Rattle.gx_store.specs.Language.{AreLinesNumbered}
-use Rattle.gx_law_sessions.specs.Alive.{HasRun}
+use Rattle.gx_law_sessions.specs.Alive.{HasRun, WasUnderWay}
+use Rattle.gx_law_sessions.specs.Orders.{IsOrder}
 use Rattle.gx_law_sessions.specs.Rest.{EachMark}
 use Rattle.gx_law_sessions.proofs.Given.{marks-append}
 use Rattle.gx_law_sessions.proofs.Outs.{MessageIs, of-more}
@@ -51,22 +68,23 @@ use Rattle.gx_law_commit.proofs.Whole.{Both, world-both}
 use Rattle.gx_law_writes.specs.Writes.{AreWritesLegal, WriteLegal}
 use Rattle.gx_law_writes.proofs.Legal.{IsPastMark, IsPlacedMark, Late, Live, no-writes-legal, order-live, sent-no-write}
 use Rattle.gx_law_writes.proofs.Live.{Running, running}
-use Rattle.gx_law_writes.proofs.Moves.{IsOutOf, IsPastHere, Move, insert-move, line-of, no-write-placed, order, piece, quiet-move, select-move}
+use Rattle.gx_law_writes.proofs.Moves.{IsBase, IsOutOf, IsPastHere, Move, freed-base, insert-move, line-of, no-write-placed, piece, quiet-move, select-move, started-base, waited-move}
+use Rattle.gx_law_writes.proofs.Next.{new-next, next_command, waits-next}
 use Rattle.gx_law_writes.proofs.Told.{IsAnswerOf, IsToldOf, IsWordOf, SentTold, StepTold, answer-more, each-get, steps-more, taken-told, told-more}
-use Rattle.gx_law_writes.proofs.Turns.{Inserted, NoWrite, Turns, message-turns}
-use Rattle.gx_ids.specs.declared.ids.Gxid.{Gxid}
+use Rattle.gx_law_writes.proofs.Turns.{Continues, NoWrite, Turns, base, freed, message-turns, resumption-turns}
 
 abbrev pub locals_in : (ℕ → Seg) → ℕ → ℕ → Local
 locals_in segs i g = (segs i).locals g
 
-abbrev pub lasts_in : (ℕ → Seg) → ℕ → ℕ → ℕ
-lasts_in segs i g = ((segs i).locals g).last
+-- the first of a transaction's commands that may still run at a segment
+abbrev pub nexts_in : (ℕ → Seg) → ℕ → ℕ → ℕ
+nexts_in segs i g = next_command ((segs i).locals g)
 
 pub record Holds (script : Script) (segs : ℕ → Seg) (steps : List Step) : Type 0 where
   pub placed : Each (IsPlacedMark script (marks_in steps)) (marks_in steps)
-  pub past : Each (IsPastMark (lasts_in segs)) (marks_in steps)
+  pub past : Each (IsPastMark (nexts_in segs)) (marks_in steps)
   pub told : Each (StepTold script (marks_in steps) (locals_in segs)) steps
-  pub kept : (i h : ℕ) → IsAnswerOf script (marks_in steps) ((segs i).locals h).last (at i) (gx h) ((segs i).locals h).answer
+  pub kept : (i h : ℕ) → IsAnswerOf script (marks_in steps) (nexts_in segs i h) (at i) (gx h) ((segs i).locals h).answer
   pub legal : AreWritesLegal script [] steps
 
 -- ONE STEP MORE
@@ -95,11 +113,11 @@ placed-more script ms ns (mark.Sent a b d) p = tt
 placed-more script ms ns (mark.Report n x y) p = tt
 placed-more script ms ns (mark.Recheck x y z) p = tt
 
-le-trans : {a b c : ℕ} → a ≤ b → b ≤ c → a ≤ c
-le-trans x y = omega arith
+lt-le : {a b c : ℕ} → a < b → b ≤ c → a < c
+lt-le x y = omega arith
 
 past-later : (f h : ℕ → ℕ → ℕ) (later : (i g : ℕ) → f i g ≤ h i g) (m : Mark) → IsPastMark f m → IsPastMark h m
-past-later f h later (mark.Write g c n t r x) p = le-trans p (later n.0 g.0)
+past-later f h later (mark.Write g c n t r x) p = lt-le p (later n.0 g.0)
 past-later f h later (mark.Start a s) p = tt
 past-later f h later (mark.Snap a d x) p = tt
 past-later f h later (mark.Skip a d r) p = tt
@@ -118,14 +136,14 @@ past-later f h later (mark.Sent a b d) p = tt
 past-later f h later (mark.Report n x y) p = tt
 past-later f h later (mark.Recheck x y z) p = tt
 
-module _ (script : Script) (numbered_lines : AreLinesNumbered [] script.lines) (segs next : ℕ → Seg) (steps : List Step) (s : Step) (later : (i g : ℕ) → lasts_in segs i g ≤ lasts_in next i g) where
-  pub one-more : Holds script segs steps → Each (IsPlacedMark script (marks_in steps)) s.marks → Each (IsPastMark (lasts_in next)) s.marks → StepTold script (marks_in steps ++ s.marks) (locals_in next) s → ((i h : ℕ) → IsAnswerOf script (marks_in steps ++ s.marks) ((next i).locals h).last (at i) (gx h) ((next i).locals h).answer) → EachMark (WriteLegal script) steps s.event [] s.marks [] → Holds script next (steps ++ s ∷ [])
+module _ (script : Script) (numbered_lines : AreLinesNumbered [] script.lines) (segs next : ℕ → Seg) (steps : List Step) (s : Step) (later : (i g : ℕ) → nexts_in segs i g ≤ nexts_in next i g) where
+  pub one-more : Holds script segs steps → Each (IsPlacedMark script (marks_in steps)) s.marks → Each (IsPastMark (nexts_in next)) s.marks → StepTold script (marks_in steps ++ s.marks) (locals_in next) s → ((i h : ℕ) → IsAnswerOf script (marks_in steps ++ s.marks) (nexts_in next i h) (at i) (gx h) ((next i).locals h).answer) → EachMark (WriteLegal script) steps s.event [] s.marks [] → Holds script next (steps ++ s ∷ [])
   one-more h placed past told kept legal =
       record {
         placed = subst (λ q. Each (IsPlacedMark script q) q) all (each_append (IsPlacedMark script (marks_in steps ++ s.marks)) (marks_in steps) s.marks (each_weaker (IsPlacedMark script (marks_in steps)) _ (λ m p. placed-more script (marks_in steps) s.marks m p) (marks_in steps) h.placed) (each_weaker (IsPlacedMark script (marks_in steps)) _ (λ m p. placed-more script (marks_in steps) s.marks m p) s.marks placed));
-        past = subst (Each (IsPastMark (lasts_in next))) all (each_append (IsPastMark (lasts_in next)) (marks_in steps) s.marks (each_weaker (IsPastMark (lasts_in segs)) (IsPastMark (lasts_in next)) (λ m p. past-later (lasts_in segs) (lasts_in next) later m p) (marks_in steps) h.past) past);
+        past = subst (Each (IsPastMark (nexts_in next))) all (each_append (IsPastMark (nexts_in next)) (marks_in steps) s.marks (each_weaker (IsPastMark (nexts_in segs)) (IsPastMark (nexts_in next)) (λ m p. past-later (nexts_in segs) (nexts_in next) later m p) (marks_in steps) h.past) past);
         told = subst (λ q. Each (StepTold script q (locals_in next)) (steps ++ s ∷ [])) all (each_append (StepTold script (marks_in steps ++ s.marks) (locals_in next)) steps (s ∷ []) (steps-more script numbered_lines (marks_in steps) s.marks (locals_in segs) (locals_in next) later steps h.told) (told, tt));
-        kept = λ i g. subst (λ q. IsAnswerOf script q ((next i).locals g).last (at i) (gx g) ((next i).locals g).answer) all (kept i g);
+        kept = λ i g. subst (λ q. IsAnswerOf script q (nexts_in next i g) (at i) (gx g) ((next i).locals g).answer) all (kept i g);
         legal = legal-push script [] steps s h.legal legal;
       }
     where
@@ -145,9 +163,9 @@ here-no-write script (mark.Write g c n t r x ∷ ms) e = absurd (none-here scrip
 here-no-write script (mark.Skip g c r ∷ ms) e = absurd (none-here script e.0)
 here-no-write script (m ∷ ms) e = (tt, here-no-write script ms e.1)
 
-no-write-past : (lasts : ℕ → ℕ → ℕ) (m : Mark) → NoWrite m → IsPastMark lasts m
-no-write-past lasts (mark.Write g c n t r x) e = absurd e
-no-write-past lasts m e = tt
+no-write-past : (nexts : ℕ → ℕ → ℕ) (m : Mark) → NoWrite m → IsPastMark nexts m
+no-write-past nexts (mark.Write g c n t r x) e = absurd e
+no-write-past nexts m e = tt
 
 le-same : (a : ℕ) → a ≤ a
 le-same a = omega arith
@@ -158,11 +176,11 @@ zero-one l = omega arith
 module _ (script : Script) (some : 1 ≤ script.segments) (numbered_lines : AreLinesNumbered [] script.lines) where
   pub coord-holds : (w : World) → Well script w → Holds script w.segs w.steps → (e : Event) (x : NodeEvent) (fails : Bool) → Holds script w.segs (coord_did w e (coord_rule script w.coord x fails)).steps
   coord-holds w n h e x fails =
-      one-more script numbered_lines w.segs w.segs w.steps step (λ i g. le-same (lasts_in w.segs i g)) h
+      one-more script numbered_lines w.segs w.segs w.steps step (λ i g. le-same (nexts_in w.segs i g)) h
       (each_weaker NoWrite (IsPlacedMark script (marks_in w.steps)) (λ m k. no-write-placed script (marks_in w.steps) m k) step.marks none)
-      (each_weaker NoWrite (IsPastMark (lasts_in w.segs)) (λ m k. no-write-past (lasts_in w.segs) m k) step.marks none)
+      (each_weaker NoWrite (IsPastMark (nexts_in w.segs)) (λ m k. no-write-past (nexts_in w.segs) m k) step.marks none)
       (λ one. absurd (zero-one one))
-      (λ i g. answer-more script numbered_lines (marks_in w.steps) step.marks _ _ (at i) (gx g) ((w.segs i).locals g).answer (le-same (lasts_in w.segs i g)) (h.kept i g))
+      (λ i g. answer-more script numbered_lines (marks_in w.steps) step.marks _ _ (at i) (gx g) ((w.segs i).locals g).answer (le-same (nexts_in w.segs i g)) (h.kept i g))
       (no-writes-legal script w.steps e [] step.marks [] none)
     where
       step : Step
@@ -172,10 +190,7 @@ module _ (script : Script) (some : 1 ≤ script.segments) (numbered_lines : AreL
       none = here-no-write script (coord_rule script w.coord x fails).marks (at_coordinator script some w n e x fails)
 
   -- A STEP OF A SEGMENT
-  module _ (w : World) (b : Both script some w) (k : stepping.Holds script w) (h : Holds script w.segs w.steps) (from to : Node) (number i : ℕ) (place : IsSegment script (at i)) (envelope : Envelope) (fails : Bool) (order_is : MessageIs script (marks_in w.steps) (at i) envelope.message) (ran_is : HasRun script w.steps envelope.message) (back : SentBack w.coord w.steps the_coordinator (mark.Sent (at i) number envelope.message)) where
-    abbrev e : Event
-    e = event.Receive from to number
-
+  module _ (w : World) (b : Both script some w) (k : stepping.Holds script w) (h : Holds script w.segs w.steps) (e : Event) (quiet-event : (t : SessionId) → starts_by t e ≡ 0) (x : NodeEvent) (fails : Bool) (i : ℕ) (place : IsSegment script (at i)) where
     abbrev ms : List Mark
     ms = marks_in w.steps
 
@@ -183,46 +198,73 @@ module _ (script : Script) (some : 1 ≤ script.segments) (numbered_lines : AreL
     s = w.segs i
 
     abbrev turn : SegTurn
-    turn = segment.on_message script (w.segs i) fails envelope.message
+    turn = segment.on_event script (w.segs i) x fails
 
     abbrev sent : List Mark
     sent = numbered (λ node. turn.seg.sent) turn.outs
 
     abbrev step : Step
-    step = record { stamp = record { clock = clock_after s.clock (here.Deliver from envelope); node = at i }; event = e; marks = turn.marks ++ sent }
+    step = record { stamp = record { clock = clock_after s.clock x; node = at i }; event = e; marks = turn.marks ++ sent }
 
     abbrev next : ℕ → Seg
-    next = with_at w.segs i (seg_rule script (w.segs i) (here.Deliver from envelope) fails).seg
+    next = with_at w.segs i (seg_rule script (w.segs i) x fails).seg
 
-    -- the EXEC is awaited, or its transaction has aborted
-    how : (x : Inserted s envelope.message turn) → (Live script numbered_lines w x.g.0 x.c (at i) x.table (piece script numbered_lines w e (λ t. refl) i s (b.knows.well.names i) (h.kept i) (lasts_in w.segs) (λ g. refl) h.placed h.past envelope.message turn order_is x).tuples e (λ t. refl)) ⊎ (Late script numbered_lines w x.g.0 x.c (at i) x.table (piece script numbered_lines w e (λ t. refl) i s (b.knows.well.names i) (h.kept i) (lasts_in w.segs) (λ g. refl) h.placed h.past envelope.message turn order_is x).tuples e (λ t. refl))
-    how x = by_back (subst (λ (m : Message). SentBack w.coord w.steps the_coordinator (mark.Sent (at i) number m)) x.is back refl)
-      where
-        beyond : (a b : ℕ) → a < b → b ≤ a → ⊥
-        beyond a b p q = omega arith
+    abbrev Moves : SegTurn → Type 0
+    Moves = Move script ms w.steps e (at i) s
 
-        by_running : Running script w x.g.0 → x.c.0 ≡ (w.coord.works x.g.0).last → Live script numbered_lines w x.g.0 x.c (at i) x.table (piece script numbered_lines w e (λ t. refl) i s (b.knows.well.names i) (h.kept i) (lasts_in w.segs) (λ g. refl) h.placed h.past envelope.message turn order_is x).tuples e (λ t. refl)
-        by_running r same =
-            order-live script numbered_lines w x.g.0 x.c (at i) x.table (piece script numbered_lines w e (λ t. refl) i s (b.knows.well.names i) (h.kept i) (lasts_in w.segs) (λ g. refl) h.placed h.past envelope.message turn order_is x).tuples e (λ t. refl) x.level (Some x.snapshot) x.rows r
-            (same ∙ sym (subst (CommandOf x.g.0 (w.coord.works x.g.0).last) r.has_it (b.holds.stands.works x.g.0).command).0)
-            (order script numbered_lines w e (λ t. refl) i s (b.knows.well.names i) (h.kept i) (lasts_in w.segs) (λ g. refl) h.placed h.past envelope.message turn order_is x)
-            (line-of script numbered_lines w e (λ t. refl) i s (b.knows.well.names i) (h.kept i) (lasts_in w.segs) (λ g. refl) h.placed h.past envelope.message turn order_is x)
+    -- a slice runs that came with this EXEC, which the coordinator sent
+    module _ (g : Gxid) (c : Cid) (level : Level) (snapshot : Option Snapshot) (fresh : next_command (s.locals g.0) ≤ c.0) (base : Seg) (on : IsBase s g base) (wanted : Claim) where
+      select-runs : (query : Query) → IsOrder script ms (at i) g c level snapshot (slice.Select query) → (rows : List KeyedRow) (f : Option (KeyedRow × ArithFault)) → Moves (after_marks (hold_mark s.node wanted ∷ []) (selects base g c query rows f))
+      select-runs query order = select-move script numbered_lines ms w.steps e i s (h.kept i) g c level snapshot query order fresh base on wanted
 
-        by_back : IsBack w.coord w.steps i x.g.0 x.c.0 → (Live script numbered_lines w x.g.0 x.c (at i) x.table (piece script numbered_lines w e (λ t. refl) i s (b.knows.well.names i) (h.kept i) (lasts_in w.segs) (λ g. refl) h.placed h.past envelope.message turn order_is x).tuples e (λ t. refl)) ⊎ (Late script numbered_lines w x.g.0 x.c (at i) x.table (piece script numbered_lines w e (λ t. refl) i s (b.knows.well.names i) (h.kept i) (lasts_in w.segs) (λ g. refl) h.placed h.past envelope.message turn order_is x).tuples e (λ t. refl))
-        by_back (inl z) = inl (by_running (running script w k.sessions x.g.0 b.knows.kept i z.0) z.1)
-        by_back (inr (inl z)) = absurd (beyond _ _ x.fresh (taken-told script ms (locals_in w.segs) w.steps z.place z.received.sent.step z.received.sent.mark (at i) the_coordinator z.received.number (message.Answer (gx x.g.0) (reply.Done (record { 0 = x.c.0 }) z.wrote z.count z.part)) place.0 h.told z.received.sent.sending).0)
-        by_back (inr (inr z)) = inr (record { aborted = z; was = subst (HasRun script w.steps) x.is ran_is })
+      insert-runs : (table : Table) (rows : List KeyedRow) → IsOrder script ms (at i) g c level snapshot (slice.Insert table rows) → WasUnderWay script w.steps g c → IsBack w.coord w.steps i g.0 c.0 → Moves (after_marks (hold_mark s.node wanted ∷ []) (inserts g c (length rows) (inserted base g c table rows)))
+      insert-runs table rows order was back =
+          insert-move script numbered_lines w e quiet-event i s (b.knows.well.names i) (h.kept i) (nexts_in w.segs) (λ j. refl) h.placed h.past g c level snapshot table rows order fresh base on wanted (by_back back)
+        where
+          tuples : List (List Expr)
+          tuples = (piece script numbered_lines w e quiet-event i s (b.knows.well.names i) (h.kept i) (nexts_in w.segs) (λ j. refl) h.placed h.past g c level snapshot table rows order).tuples
 
-    move : Move script ms w.steps e (at i) s turn
-    move = by_turn (message-turns s (b.knows.well.calm i).locks script fails envelope.message)
-      where
-        by_turn : Turns s envelope.message turn → Move script ms w.steps e (at i) s turn
-        by_turn (inl q) = quiet-move script numbered_lines ms w.steps e i s (h.kept i) (λ g. (b.holds.stands.pairs i g).vote) turn q
-        by_turn (inr (inl x)) = select-move script numbered_lines ms w.steps e i s (h.kept i) envelope.message turn order_is x
-        by_turn (inr (inr x)) = insert-move script numbered_lines w e (λ t. refl) i s (b.knows.well.names i) (h.kept i) (lasts_in w.segs) (λ g. refl) h.placed h.past envelope.message turn order_is x (how x)
+          beyond : (m n : ℕ) → m ≤ n → n < m → ⊥
+          beyond m n p q = omega arith
 
-    pub seg-holds : Holds script next (w.steps ++ step ∷ [])
-    seg-holds = from-move move
+          -- the EXEC is awaited, or its transaction has aborted
+          by_running : Running script w g.0 → c.0 ≡ (w.coord.works g.0).last → Live script numbered_lines w g.0 c (at i) table tuples e quiet-event
+          by_running r same =
+              order-live script numbered_lines w g.0 c (at i) table tuples e quiet-event level snapshot rows r
+              (same ∙ sym (subst (CommandOf g.0 (w.coord.works g.0).last) r.has_it (b.holds.stands.works g.0).command).0)
+              order (line-of script numbered_lines w e quiet-event i s (b.knows.well.names i) (h.kept i) (nexts_in w.segs) (λ j. refl) h.placed h.past g c level snapshot table rows order)
+
+          by_back : IsBack w.coord w.steps i g.0 c.0 → Live script numbered_lines w g.0 c (at i) table tuples e quiet-event ⊎ Late script numbered_lines w g.0 c (at i) table tuples e quiet-event
+          by_back (inl z) = inl (by_running (running script w k.sessions g.0 b.knows.kept i z.0) z.1)
+          by_back (inr (inl z)) = absurd (beyond _ _ fresh (taken-told script ms (locals_in w.segs) w.steps z.place z.received.sent.step z.received.sent.mark (at i) the_coordinator z.received.number (message.Answer (gx g.0) (reply.Done (record { 0 = c.0 }) z.wrote z.count z.part)) place.0 h.told z.received.sent.sending).0)
+          by_back (inr (inr z)) = inr (record { aborted = z; was = was })
+
+    -- by a message of the coordinator
+    message-move : (m : Message) (number : ℕ) → MessageIs script ms (at i) m → HasRun script w.steps m → SentBack w.coord w.steps the_coordinator (mark.Sent (at i) number m) → (y : SegTurn) → Turns s m y → Moves y
+    message-move m number order ran back y (inl q) = quiet-move script numbered_lines ms w.steps e i s (h.kept i) (λ g. (b.holds.stands.pairs i g).vote) y q
+    message-move m number order ran back y (inr (inl z)) =
+        subst Moves (sym z.ran)
+        (select-runs z.g z.c z.level (Some z.snapshot) (new-next (s.locals z.g.0) z.c.0 z.alone z.fresh) (base s z.horizon z.locks) (started-base s z.g z.horizon z.locks z.alone) z.wanted z.query (subst (λ (a : Message). MessageIs script ms (at i) a) z.is order numbered_lines)
+        (shown (raised s z.horizon) z.snapshot z.g z.c z.query.table) (first_fault z.query.cond (shown (raised s z.horizon) z.snapshot z.g z.c z.query.table)))
+    message-move m number order ran back y (inr (inr (inl z))) =
+        subst Moves (sym z.ran)
+        (insert-runs z.g z.c z.level (Some z.snapshot) (new-next (s.locals z.g.0) z.c.0 z.alone z.fresh) (base s z.horizon z.locks) (started-base s z.g z.horizon z.locks z.alone) z.wanted z.table z.rows (subst (λ (a : Message). MessageIs script ms (at i) a) z.is order numbered_lines)
+        (subst (HasRun script w.steps) z.is ran) (subst (λ (a : Message). SentBack w.coord w.steps the_coordinator (mark.Sent (at i) number a)) z.is back refl))
+    message-move m number order ran back y (inr (inr (inr z))) = waited-move script numbered_lines ms w.steps e i s (h.kept i) m y z
+
+    -- by the end of a wait
+    resumption-move : (g : Gxid) (z : Suspended) (horizon : Gxid) (number : ℕ) → (s.locals g.0).suspended ≡ Some z → (s.locals g.0).last ≡ z.cid.0 → (let m : Message = message.Exec g z.cid z.level z.snapshot horizon z.slice in MessageIs script ms (at i) m × HasRun script w.steps m × SentBack w.coord w.steps the_coordinator (mark.Sent (at i) number m))
+        → (y : SegTurn) → Continues s g z y → Moves y
+    resumption-move g z horizon number is last sent y (inl q) =
+        subst Moves (sym q.ran)
+        (select-runs g z.cid z.level z.snapshot (waits-next (s.locals g.0) z is last) (freed s g q.locks) (freed-base s g q.locks) q.wanted q.query (subst (IsOrder script ms (at i) g z.cid z.level z.snapshot) q.is (sent.0 numbered_lines))
+        (shown (freed s g q.locks) q.snapshot g z.cid q.query.table) (first_fault q.query.cond (shown (freed s g q.locks) q.snapshot g z.cid q.query.table)))
+    resumption-move g z horizon number is last sent y (inr q) =
+        subst Moves (sym q.ran)
+        (insert-runs g z.cid z.level z.snapshot (waits-next (s.locals g.0) z is last) (freed s g q.locks) (freed-base s g q.locks) q.wanted q.table q.rows (subst (IsOrder script ms (at i) g z.cid z.level z.snapshot) q.is (sent.0 numbered_lines)) sent.1 (sent.2 refl))
+
+    pub seg-holds : Moves turn → Holds script next (w.steps ++ step ∷ [])
+    seg-holds = from-move
       where
         quiet : Each NoWrite (numbered (λ node. turn.seg.sent) turn.outs)
         quiet = sent-no-write (λ node. turn.seg.sent) turn.outs
@@ -230,18 +272,18 @@ module _ (script : Script) (some : 1 ≤ script.segments) (numbered_lines : AreL
         self-test : (a : ℕ) → eqb a a ≡ true
         self-test a = grind (arith, nat_tests)
 
-        late-lasts : Move script ms w.steps e (at i) s turn → (j g : ℕ) → lasts_in w.segs j g ≤ lasts_in next j g
-        late-lasts v j g = by_test (eqb j i) refl
+        late-nexts : Move script ms w.steps e (at i) s turn → (j g : ℕ) → nexts_in w.segs j g ≤ nexts_in next j g
+        late-nexts v j g = by_test (eqb j i) refl
           where
-            by_test : (q : Bool) → eqb j i ≡ q → ((w.segs j).locals g).last ≤ ((if q then (seg_rule script (w.segs i) (here.Deliver from envelope) fails).seg else w.segs j).locals g).last
-            by_test true q = subst (λ a. ((w.segs a).locals g).last ≤ (turn.seg.locals g).last) (sym (eqb-true j i q)) (v.lasts g)
-            by_test false q = le-same ((w.segs j).locals g).last
+            by_test : (q : Bool) → eqb j i ≡ q → next_command ((w.segs j).locals g) ≤ next_command ((if q then (seg_rule script (w.segs i) x fails).seg else w.segs j).locals g)
+            by_test true q = subst (λ a. next_command ((w.segs a).locals g) ≤ next_command (turn.seg.locals g)) (sym (eqb-true j i q)) (v.nexts g)
+            by_test false q = le-same (next_command ((w.segs j).locals g))
 
-        last-here : (g : ℕ) → lasts_in next i g ≡ (turn.seg.locals g).last
-        last-here g = ap (λ q. ((if q then (seg_rule script (w.segs i) (here.Deliver from envelope) fails).seg else w.segs i).locals g).last) (self-test i)
+        next-here : (g : ℕ) → nexts_in next i g ≡ next_command (turn.seg.locals g)
+        next-here g = ap (λ q. next_command ((if q then (seg_rule script (w.segs i) x fails).seg else w.segs i).locals g)) (self-test i)
 
-        past-one : (m : Mark) → IsPastHere (λ g. (turn.seg.locals g).last) (at i) m → IsPastMark (lasts_in next) m
-        past-one (mark.Write g c n t r x) p = subst (λ (a : Node). c.0 ≤ lasts_in next a.0 g.0) (sym p.0) (subst (λ a. c.0 ≤ a) (sym (last-here g.0)) p.1)
+        past-one : (m : Mark) → IsPastHere (λ g. next_command (turn.seg.locals g)) (at i) m → IsPastMark (nexts_in next) m
+        past-one (mark.Write g c n t r x) p = subst (λ (a : Node). c.0 < nexts_in next a.0 g.0) (sym p.0) (subst (λ a. c.0 < a) (sym (next-here g.0)) p.1)
         past-one (mark.Start a t) p = tt
         past-one (mark.Snap a d x) p = tt
         past-one (mark.Skip a d r) p = tt
@@ -260,8 +302,8 @@ module _ (script : Script) (some : 1 ≤ script.segments) (numbered_lines : AreL
         past-one (mark.Report n x y) p = tt
         past-one (mark.Recheck x y z) p = tt
 
-        word-one : (ns : List Mark) (m : Message) → IsOutOf script ns (λ g. (turn.seg.locals g).last) (at i) m → IsWordOf script ns (locals_in next) (at i) m
-        word-one ns (message.Answer g r) d = subst (λ n. IsToldOf script ns n (at i) g r) (sym (last-here g.0)) d
+        word-one : (ns : List Mark) (m : Message) → IsOutOf script ns (λ g. next_command (turn.seg.locals g)) (at i) m → IsWordOf script ns (locals_in next) (at i) m
+        word-one ns (message.Answer g r) d = subst (λ n. IsToldOf script ns n (at i) g r) (sym (next-here g.0)) d
         word-one ns (message.Exec g c l x y z) d = tt
         word-one ns (message.Prepare g) d = tt
         word-one ns (message.Commit g) d = tt
@@ -271,7 +313,7 @@ module _ (script : Script) (some : 1 ≤ script.segments) (numbered_lines : AreL
         word-one ns (message.Collect round) d = tt
         word-one ns (message.Graph round graph) d = tt
 
-        sent-told : (ns : List Mark) (f : ℕ → ℕ) (outs : List Out) → Each (λ (o : Out). IsOutOf script ns (λ g. (turn.seg.locals g).last) (at i) o.message) outs → Each (SentTold script ns (locals_in next) (at i)) (numbered f outs)
+        sent-told : (ns : List Mark) (f : ℕ → ℕ) (outs : List Out) → Each (λ (o : Out). IsOutOf script ns (λ g. next_command (turn.seg.locals g)) (at i) o.message) outs → Each (SentTold script ns (locals_in next) (at i)) (numbered f outs)
         sent-told ns f [] d = tt
         sent-told ns f (o ∷ outs) d = (word-one ns o.message d.0, sent-told ns (counted f o) outs d.1)
 
@@ -282,10 +324,10 @@ module _ (script : Script) (some : 1 ≤ script.segments) (numbered_lines : AreL
         plain-told ns (m ∷ xs) d = (tt, plain-told ns xs d.1)
 
         plain : Each (PlainAt script (at i)) turn.marks
-        plain = subst (λ node. Each (PlainAt script node) turn.marks) (b.knows.well.names i) (seg_stays script (w.segs i) (subst (IsSegment script) (sym (b.knows.well.names i)) place) (here.Deliver from envelope) fails).marks
+        plain = subst (λ node. Each (PlainAt script node) turn.marks) (b.knows.well.names i) (seg_stays script (w.segs i) (subst (IsSegment script) (sym (b.knows.well.names i)) place) x fails).marks
 
-        out-more : (m : Message) → IsOutOf script (ms ++ turn.marks) (λ g. (turn.seg.locals g).last) (at i) m → IsOutOf script (ms ++ (turn.marks ++ sent)) (λ g. (turn.seg.locals g).last) (at i) m
-        out-more (message.Answer g r) d = subst (λ ns. IsToldOf script ns (turn.seg.locals g.0).last (at i) g r) (append_assoc ms turn.marks sent) (told-more script numbered_lines (ms ++ turn.marks) sent _ _ (at i) g r (le-same (turn.seg.locals g.0).last) d)
+        out-more : (m : Message) → IsOutOf script (ms ++ turn.marks) (λ g. next_command (turn.seg.locals g)) (at i) m → IsOutOf script (ms ++ (turn.marks ++ sent)) (λ g. next_command (turn.seg.locals g)) (at i) m
+        out-more (message.Answer g r) d = subst (λ ns. IsToldOf script ns (next_command (turn.seg.locals g.0)) (at i) g r) (append_assoc ms turn.marks sent) (told-more script numbered_lines (ms ++ turn.marks) sent _ _ (at i) g r (le-same (next_command (turn.seg.locals g.0))) d)
         out-more (message.Exec g c l x y z) d = tt
         out-more (message.Prepare g) d = tt
         out-more (message.Commit g) d = tt
@@ -296,28 +338,28 @@ module _ (script : Script) (some : 1 ≤ script.segments) (numbered_lines : AreL
         out-more (message.Graph round graph) d = tt
 
         from-move : Move script ms w.steps e (at i) s turn → Holds script next (w.steps ++ step ∷ [])
-        from-move v = one-more script numbered_lines w.segs next w.steps step (late-lasts v) h placed past told kept legal
+        from-move v = one-more script numbered_lines w.segs next w.steps step (late-nexts v) h placed past told kept legal
           where
             placed : Each (IsPlacedMark script ms) (turn.marks ++ sent)
             placed = each_append (IsPlacedMark script ms) turn.marks sent v.placed (each_weaker NoWrite (IsPlacedMark script ms) (λ m q. no-write-placed script ms m q) sent quiet)
 
-            past : Each (IsPastMark (lasts_in next)) (turn.marks ++ sent)
-            past = each_append (IsPastMark (lasts_in next)) turn.marks sent (each_weaker (IsPastHere (λ g. (turn.seg.locals g).last) (at i)) (IsPastMark (lasts_in next)) past-one turn.marks v.past) (each_weaker NoWrite (IsPastMark (lasts_in next)) (λ m q. no-write-past (lasts_in next) m q) sent quiet)
+            past : Each (IsPastMark (nexts_in next)) (turn.marks ++ sent)
+            past = each_append (IsPastMark (nexts_in next)) turn.marks sent (each_weaker (IsPastHere (λ g. next_command (turn.seg.locals g)) (at i)) (IsPastMark (nexts_in next)) past-one turn.marks v.past) (each_weaker NoWrite (IsPastMark (nexts_in next)) (λ m q. no-write-past (nexts_in next) m q) sent quiet)
 
             told : StepTold script (ms ++ (turn.marks ++ sent)) (locals_in next) step
             told one =
                 each_append (SentTold script (ms ++ (turn.marks ++ sent)) (locals_in next) (at i)) turn.marks sent (plain-told (ms ++ (turn.marks ++ sent)) turn.marks plain)
                 (sent-told (ms ++ (turn.marks ++ sent)) (λ node. turn.seg.sent) turn.outs
-                (each_weaker (λ (o : Out). IsOutOf script (ms ++ turn.marks) (λ g. (turn.seg.locals g).last) (at i) o.message) (λ (o : Out). IsOutOf script (ms ++ (turn.marks ++ sent)) (λ g. (turn.seg.locals g).last) (at i) o.message) (λ o d. out-more o.message d) turn.outs v.outs))
+                (each_weaker (λ (o : Out). IsOutOf script (ms ++ turn.marks) (λ g. next_command (turn.seg.locals g)) (at i) o.message) (λ (o : Out). IsOutOf script (ms ++ (turn.marks ++ sent)) (λ g. next_command (turn.seg.locals g)) (at i) o.message) (λ o d. out-more o.message d) turn.outs v.outs))
 
-            kept : (j g : ℕ) → IsAnswerOf script (ms ++ (turn.marks ++ sent)) ((next j).locals g).last (at j) (gx g) ((next j).locals g).answer
+            kept : (j g : ℕ) → IsAnswerOf script (ms ++ (turn.marks ++ sent)) (next_command ((next j).locals g)) (at j) (gx g) ((next j).locals g).answer
             kept j g = by_test (eqb j i) refl
               where
-                by_test : (q : Bool) → eqb j i ≡ q → IsAnswerOf script (ms ++ (turn.marks ++ sent)) ((if q then (seg_rule script (w.segs i) (here.Deliver from envelope) fails).seg else w.segs j).locals g).last (at j) (gx g) ((if q then (seg_rule script (w.segs i) (here.Deliver from envelope) fails).seg else w.segs j).locals g).answer
+                by_test : (q : Bool) → eqb j i ≡ q → IsAnswerOf script (ms ++ (turn.marks ++ sent)) (next_command ((if q then (seg_rule script (w.segs i) x fails).seg else w.segs j).locals g)) (at j) (gx g) ((if q then (seg_rule script (w.segs i) x fails).seg else w.segs j).locals g).answer
                 by_test true q =
-                    subst (λ a. IsAnswerOf script (ms ++ (turn.marks ++ sent)) (turn.seg.locals g).last (at a) (gx g) (turn.seg.locals g).answer) (sym (eqb-true j i q))
-                    (subst (λ ns. IsAnswerOf script ns (turn.seg.locals g).last (at i) (gx g) (turn.seg.locals g).answer) (append_assoc ms turn.marks sent) (answer-more script numbered_lines (ms ++ turn.marks) sent _ _ (at i) (gx g) (turn.seg.locals g).answer (le-same (turn.seg.locals g).last) (v.kept g)))
-                by_test false q = answer-more script numbered_lines ms (turn.marks ++ sent) _ _ (at j) (gx g) ((w.segs j).locals g).answer (le-same ((w.segs j).locals g).last) (h.kept j g)
+                    subst (λ a. IsAnswerOf script (ms ++ (turn.marks ++ sent)) (next_command (turn.seg.locals g)) (at a) (gx g) (turn.seg.locals g).answer) (sym (eqb-true j i q))
+                    (subst (λ ns. IsAnswerOf script ns (next_command (turn.seg.locals g)) (at i) (gx g) (turn.seg.locals g).answer) (append_assoc ms turn.marks sent) (answer-more script numbered_lines (ms ++ turn.marks) sent _ _ (at i) (gx g) (turn.seg.locals g).answer (le-same (next_command (turn.seg.locals g))) (v.kept g)))
+                by_test false q = answer-more script numbered_lines ms (turn.marks ++ sent) _ _ (at j) (gx g) ((w.segs j).locals g).answer (le-same (next_command ((w.segs j).locals g))) (h.kept j g)
 
             legal : EachMark (WriteLegal script) w.steps e [] (turn.marks ++ sent) []
             legal = marks-append (WriteLegal script) w.steps e [] turn.marks sent [] (v.legal (sent ++ [])) (no-writes-legal script w.steps e turn.marks sent [] quiet)
@@ -361,13 +403,36 @@ module _ (script : Script) (some : 1 ≤ script.segments) (numbered_lines : AreL
 
         by_test : (q : Bool) → is_same_node to the_coordinator ≡ q → let v : World = if q then coord_did w e (coord_rule script w.coord x fails) else seg_did w to e (seg_rule script (w.segs to.0) x fails) in Holds script v.segs v.steps
         by_test true q = coord-holds w b.knows.well h e x fails
-        by_test false q = let p = place q d.is.0.link in seg-holds w b k h from to number to.0 p.0 envelope fails (order_is p.1) (subst (λ (a : Envelope). HasRun script w.steps a.message) d.told (d.is.2 p.1)) (back p.1)
+        by_test false q =
+            let p = place q d.is.0.link in
+            seg-holds w b k h e (λ t. refl) x fails to.0 p.0
+            (message-move w b k h e (λ t. refl) x fails to.0 p.0 envelope.message number (order_is p.1) (subst (λ (a : Envelope). HasRun script w.steps a.message) d.told (d.is.2 p.1)) (back p.1) (segment.on_message script (w.segs to.0) fails envelope.message) (message-turns (w.segs to.0) script fails envelope.message))
 
     arrives : (from to : Node) (number : ℕ) (fails : Bool) (o : Option Envelope) → found from to number w.sent ≡ o → let v : World = does script w (event.Receive from to number) to fails (delivered from o) in Holds script v.segs v.steps
     arrives from to number fails None f = h
     arrives from to number fails (Some envelope) f = received from to number envelope fails (found_is IsPost from to number w.sent envelope (each-post w.sent b.knows.well.letters k.orders k.ran) f)
 
-    -- nobody goes on at a segment yet
+    -- what is known of a letter of the coordinator
+    known-letter : (l : Letter) (i : ℕ) (m : Message) → IsPost l → l.from ≡ the_coordinator → l.to ≡ at i → l.envelope.message ≡ m → MessageIs script (marks_in w.steps) (at i) m × HasRun script w.steps m × SentBack w.coord w.steps the_coordinator (mark.Sent (at i) l.envelope.number m)
+    known-letter l i m p source target told =
+        subst (λ a. MessageIs script (marks_in w.steps) (at i) a × HasRun script w.steps a × SentBack w.coord w.steps the_coordinator (mark.Sent (at i) l.envelope.number a)) told
+        (subst (λ n. MessageIs script (marks_in w.steps) n l.envelope.message × HasRun script w.steps l.envelope.message × SentBack w.coord w.steps the_coordinator (mark.Sent n l.envelope.number l.envelope.message)) target (p.1 source, p.2 source, back))
+      where
+        sending : IsSending w.steps p.0.step p.0.mark l.from l.to l.envelope.number l.envelope.message
+        sending = p.0.sending
+
+        back : SentBack w.coord w.steps the_coordinator (mark.Sent l.to l.envelope.number l.envelope.message)
+        back =
+            subst (λ n. SentBack w.coord w.steps n (mark.Sent l.to l.envelope.number l.envelope.message)) (sending.node ∙ source)
+            (each-get (SentBack w.coord w.steps sending.sender.stamp.node) sending.sender.marks p.0.mark _ (each-get (StepBack w.coord w.steps) w.steps p.0.step sending.sender b.replied.back sending.at) sending.sent)
+
+    goes-on : (e : Event) → ((t : SessionId) → starts_by t e ≡ 0) → (fails : Bool) (i : ℕ) (g : Gxid) → IsSegment script (at i) → GoesOn script w i g → let v : World = seg_did w (at i) e (seg_rule script (w.segs i) (here.Resume g) fails) in Holds script v.segs v.steps
+    goes-on e quiet fails i g place o =
+        seg-holds w b k h e quiet (here.Resume g) fails i place
+        (resumption-move w b k h e quiet (here.Resume g) fails i place g o.slice o.waits.horizon o.waits.come.letter.envelope.number o.is o.waits.last
+        (known-letter o.waits.come.letter i _ (each-among IsPost w.sent o.waits.come.letter (each-post w.sent b.knows.well.letters k.orders k.ran) o.waits.come.among) o.waits.come.source o.waits.come.target o.waits.come.told)
+        (segment.on_event script (w.segs i) (here.Resume g) fails) (resumption-turns script w i g o))
+
     resumed : (m : Node) (g : Gxid) (fails : Bool) → can_here script w m (Some (here.Resume g)) ≡ true → let v : World = does script w (event.Resume m g) m fails (Some (here.Resume g)) in Holds script v.segs v.steps
     resumed m g fails ok = by_test (is_same_node m the_coordinator) ok
       where
@@ -379,7 +444,7 @@ module _ (script : Script) (some : 1 ≤ script.segments) (numbered_lines : AreL
 
         by_test : (q : Bool) → (if q then coord_can script w.coord x else seg_can script (w.segs m.0) x) ≡ true → let v : World = if q then coord_did w e (coord_rule script w.coord x fails) else seg_did w m e (seg_rule script (w.segs m.0) x fails) in Holds script v.segs v.steps
         by_test true ok = coord-holds w b.knows.well h e x fails
-        by_test false ok = absurd (nobody-goes-on script (w.segs m.0) g (b.knows.well.calm m.0) ok)
+        by_test false ok = goes-on e (λ t. refl) fails m.0 g (resumes_there script some w m g b.knows.well ok) (going-on script w b.knows.well m.0 g ok)
 
     event-holds : (e : Event) (fails : Bool) → can script w e ≡ true → let v : World = does script w e (node_of e) fails (at_node w e) in Holds script v.segs v.steps
     event-holds (event.Receive from to number) fails ok = arrives from to number fails (found from to number w.sent) refl

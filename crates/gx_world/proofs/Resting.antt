@@ -4,7 +4,8 @@ use Rattle.gx_ids.specs.declared.ids.Gxid.{Gxid}
 use Rattle.gx_ids.specs.declared.ids.Node.{Node}
 use Rattle.gx_store.specs.declared.event.Event.TheVariants.{Resume}
 use Rattle.gx_law_runs.specs.Replays.{is_admitted}
-use Rattle.gx_law_runs.proofs.Reaching.{by-events, resumes-none}
+use Rattle.gx_law_runs.proofs.Nobody.{resumes-none}
+use Rattle.gx_law_runs.proofs.Reaching.{by-events}
 use Rattle.gx_world.specs.declared.network.Network.{Network}
 use Rattle.gx_world.specs.Networks.{IsNetwork}
 

@@ -1,4 +1,4 @@
-use Rattle.gx_law_runs.proofs.Going.{goes-on}
+use Rattle.gx_law_runs.proofs.Nobody.{goes-on}
 use Rattle.gx_law_runs.proofs.progress.unfinished_runs_go_on.Goals as goal
 
 pub returns : goal.returns

@@ -2,7 +2,8 @@ use Rattle.std.proofs.Common.{◌≡◌, true}
 use Rattle.std.specs.List.{list_all}
 use Rattle.gx_store.specs.Schedule.{enabled}
 use Rattle.gx_law_runs.specs.Replays.{is_admitted}
-use Rattle.gx_law_runs.proofs.Reaching.{by-events, enabled-admitted}
+use Rattle.gx_law_runs.proofs.Nobody.{enabled-admitted}
+use Rattle.gx_law_runs.proofs.Reaching.{by-events}
 use Rattle.gx_law_runs.proofs.reached.enabled_events_are_admitted.Goals as goal
 
 pub returns : goal.returns

@@ -1,0 +1,373 @@
+-- Whatever happens at a segment, the slices that wait there stand as they do.
+use Rattle.std.proofs.Common.{◌≡◌, ◌≤◌, ℕ, List, [], ◌∷◌, ◌++◌, Option, Some, None, Bool, true, false, not, refl, sym, subst, ap, ◌∙◌, if◌then◌else◌, ◌&&◌, nat_lt, ◌==◌, arith, eqb}
+use Rattle.std.proofs.lemmas.Bool.{eqb-true}
+use Rattle.std.proofs.lemmas.Bool.Decides.{nat_tests}
+use Rattle.std.specs.Prelude.{cond, filter, fold, is_some}
+use Rattle.gx_ids.specs.declared.ids.Cid.{Cid}
+use Rattle.gx_ids.specs.declared.ids.Gxid.{Gxid}
+use Rattle.gx_ids.specs.declared.ids.Table.{Table}
+use Rattle.gx_tree.specs.declared.query.Query.{Query}
+use Rattle.gx_tree.specs.declared.row.KeyedRow.{KeyedRow}
+use Rattle.gx_tree.specs.declared.slice.Slice.{Slice}
+use Rattle.gx_tree.specs.declared.slice.Slice.TheVariants as slice
+use Rattle.gx_tree.specs.declared.stmt.Level.{Level}
+use Rattle.gx_dsnap.specs.Gxids.{is_below}
+use Rattle.gx_dsnap.specs.declared.snapshot.Snapshot.{Snapshot}
+use Rattle.gx_waits.specs.declared.claim.Claim.{Claim}
+use Rattle.gx_locks.specs.Claims.{is_of}
+use Rattle.gx_locks.specs.Locks.{Locks, is_free, resumed, wait_of, without}
+use Rattle.gx_meaning.specs.declared.fault.ArithFault.{ArithFault}
+use Rattle.gx_msg.specs.declared.message.Message.{Message}
+use Rattle.gx_msg.specs.declared.message.Message.TheVariants as message
+use Rattle.gx_msg.specs.declared.reply.Reply.{Reply}
+use Rattle.gx_msg.specs.declared.reply.Reply.TheVariants as answer
+use Rattle.gx_script.specs.declared.Script.{Script}
+use Rattle.gx_store.specs.declared.node.NodeEvent.{NodeEvent}
+use Rattle.gx_store.specs.declared.node.NodeEvent.TheVariants as event
+use Rattle.gx_rules.specs.AtSegment.{commits, ends, finishes, if_fits, on_abort, on_commit, on_commit_prepared, on_event, on_exec, on_forget, on_message, on_prepare, once, promises, raised, repeats, resumes, takes, unless_below, was_prepared}
+use Rattle.gx_rules.specs.Fits.{fits_exec, is_right_slice, is_waiting}
+use Rattle.gx_rules.specs.Locks.{with_hold, with_wait}
+use Rattle.gx_rules.specs.Segments.{Local, Phase, Seg, SegTurn, Suspended, local_of, tells_kept, with_local}
+use Rattle.gx_rules.specs.Segments.Phase.{Aborted, Committed, Forgotten, Prepared, Reading, Writing}
+use Rattle.gx_rules.specs.Shown.{shown}
+use Rattle.gx_rules.specs.Slices.{Moved, first_fault, inserted, inserts_row, requests, runs_locked, runs_slice, selects, slice_lock, suspended_slice, suspends}
+use Rattle.gx_law_order.proofs.Stages.{gx}
+use Rattle.gx_law_order.proofs.Suspended.{AreSuspended, Stands, Suits, claims_of, is_open_phase, one_claim, stands-later}
+
+-- THE WAITS OF ONE AND OF THE OTHERS
+filter-more : {A : Type 0} (p : A → Bool) (xs : List A) (x : A) (b : Bool) → p x ≡ b → filter p (xs ++ x ∷ []) ≡ filter p xs ++ cond b (x ∷ []) []
+filter-more p [] x b e = ap (λ q. cond q (x ∷ []) []) e
+filter-more p (y ∷ xs) x b e = by_test (p y) (filter-more p xs x b e)
+  where
+    by_test : (q : Bool) → filter p (xs ++ x ∷ []) ≡ filter p xs ++ cond b (x ∷ []) [] → cond q (y ∷ filter p (xs ++ x ∷ [])) (filter p (xs ++ x ∷ [])) ≡ cond q (y ∷ filter p xs) (filter p xs) ++ cond b (x ∷ []) []
+    by_test true e = ap (λ z. y ∷ z) e
+    by_test false e = e
+
+none-left : (g : Gxid) (xs : List Claim) → filter (is_of g) (without g xs) ≡ []
+none-left g [] = refl
+none-left g (x ∷ xs) = by_test (is_of g x) refl (none-left g xs)
+  where
+    by_test : (b : Bool) → is_of g x ≡ b → filter (is_of g) (without g xs) ≡ [] → filter (is_of g) (cond (not b) (x ∷ without g xs) (without g xs)) ≡ []
+    by_test true q e = e
+    by_test false q e = ap (λ b. cond b (x ∷ filter (is_of g) (without g xs)) (filter (is_of g) (without g xs))) q ∙ e
+
+others-left : (g h : Gxid) (xs : List Claim) → eqb h.0 g.0 ≡ false → filter (is_of h) (without g xs) ≡ filter (is_of h) xs
+others-left g h [] n = refl
+others-left g h (x ∷ xs) n = by_test (is_of g x) refl (others-left g h xs n)
+  where
+    apart : (a b c : ℕ) → eqb b c ≡ false → eqb a c ≡ true → eqb a b ≡ false
+    apart a b c e f = grind (arith, nat_tests)
+
+    by_test : (b : Bool) → is_of g x ≡ b → filter (is_of h) (without g xs) ≡ filter (is_of h) xs → filter (is_of h) (cond (not b) (x ∷ without g xs) (without g xs)) ≡ cond (is_of h x) (x ∷ filter (is_of h) xs) (filter (is_of h) xs)
+    by_test true q e = e ∙ sym (ap (λ b. cond b (x ∷ filter (is_of h) xs) (filter (is_of h) xs)) (apart x.gxid.0 h.0 g.0 n q))
+    by_test false q e = ap (λ z. cond (is_of h x) (x ∷ z) z) e
+
+-- a slice's lock is its transaction's
+lock-owner : (g : Gxid) (x : Slice) (wanted : Claim) → slice_lock g x ≡ Some wanted → wanted.gxid ≡ g
+lock-owner g (slice.Select query) wanted e = sym (owner _ wanted e)
+  where
+    owner : (a b : Claim) → Some a ≡ Some b → a.gxid ≡ b.gxid
+    owner a b q = cc
+lock-owner g (slice.Insert table rows) wanted e = sym (owner _ wanted e)
+  where
+    owner : (a b : Claim) → Some a ≡ Some b → a.gxid ≡ b.gxid
+    owner a b q = cc
+lock-owner g (slice.Update table assigns cond) wanted e = absurd (cc)
+lock-owner g (slice.Delete table cond) wanted e = absurd (cc)
+lock-owner g (slice.Lock table mode) wanted e = absurd (cc)
+
+-- WHERE NOBODY OF A TRANSACTION WAITS
+pub nothing-suits : (script : Script) (Come : Message → Type 0) (top : Gxid) (h : ℕ) (l : Local) → l.suspended ≡ None → Suits script Come top h l
+nothing-suits script Come top h l e x f = absurd (clash l.suspended e f)
+  where
+    clash : (o : Option Suspended) → o ≡ None → o ≡ Some x → ⊥
+    clash o e f = cc
+
+-- who has promised or ended doesn't wait
+pub closed-rests : (script : Script) (Come : Message → Type 0) (top : Gxid) (h : ℕ) (l : Local) → Suits script Come top h l → is_open_phase l.phase ≡ false → l.suspended ≡ None
+closed-rests script Come top h l f e = by_slice l.suspended refl
+  where
+    clash : (b : Bool) → b ≡ true → b ≡ false → ⊥
+    clash b e f = cc
+
+    by_slice : (o : Option Suspended) → l.suspended ≡ o → o ≡ None
+    by_slice None q = refl
+    by_slice (Some x) q = absurd (clash (is_open_phase l.phase) (f x q).opens e)
+
+-- a new command fits where none waits, and has its snapshot and a right slice
+pub record FitsNew (script : Script) (g : Gxid) (c : Cid) (snapshot : Option Snapshot) (x : Slice) (l : Local) : Type 0 where
+  pub reads : is_some snapshot ≡ true
+  pub right : is_right_slice script g c x ≡ true
+  pub rests : nat_lt l.last c.0 ≡ true → l.suspended ≡ None
+
+pub fits-new : (script : Script) (s : Seg) (g : Gxid) (c : Cid) (snapshot : Option Snapshot) (h : Gxid) (x : Slice) → fits_exec script s g c snapshot h x ≡ true → FitsNew script g c snapshot x (local_of s g)
+fits-new script s g c snapshot h x e =
+    let t = parts _ _ (is_some snapshot) (is_right_slice script g c x) (nat_lt (local_of s g).last c.0) (is_waiting (local_of s g)) e in
+    record { reads = t.0; right = t.1; rests = λ n. nobody (local_of s g).suspended (t.2 n) }
+  where
+    parts : (a b r q n w : Bool) → (a && (b && (r && (q && not (n && w))))) ≡ true → (r ≡ true) × (q ≡ true) × (n ≡ true → w ≡ false)
+    parts true true true true true false e = (refl, refl, λ n. refl)
+    parts true true true true false w e = (refl, refl, λ n. absurd (cc))
+    parts true true true true true true e = absurd (cc)
+    parts true true true false n w e = absurd (cc)
+    parts true true false q n w e = absurd (cc)
+    parts true false r q n w e = absurd (cc)
+    parts false b r q n w e = absurd (cc)
+
+    nobody : (o : Option Suspended) → is_some o ≡ false → o ≡ None
+    nobody None e = refl
+    nobody (Some x) e = absurd (cc)
+
+-- EACH MESSAGE AND A RESUMPTION
+-- what a delivery brings has come
+abbrev pub Arrives : (Message → Type 0) → NodeEvent → Type 0
+Arrives Come (event.Deliver from envelope) = Come envelope.message
+Arrives Come e = Unit {0}
+
+module _ (script : Script) (Come : Message → Type 0) where
+  abbrev Rightly : Seg → Type 0
+  Rightly s = AreSuspended script Come s
+
+  abbrev Keeps : SegTurn → Type 0
+  Keeps turn = Rightly turn.seg
+
+  both : (b : Bool) (x y : SegTurn) → Keeps x → Keeps y → Keeps (if b then x else y)
+  both true x y e f = e
+  both false x y e f = f
+
+  -- one transaction changes, with the waits that are its own
+  changed : (s : Seg) (g : Gxid) (l : Local) (locks : Locks) → Rightly s → Suits script Come s.horizon g.0 l → filter (is_of g) locks.waits ≡ claims_of g l.suspended → ((h : ℕ) → eqb h g.0 ≡ false → filter (is_of (gx h)) locks.waits ≡ filter (is_of (gx h)) s.locks.waits) → Rightly (record (with_local s g l) { locks = locks })
+  changed s g l locks k suits own others = record { each = λ h. each_by h (eqb h g.0) refl; own = λ h. own_by h (eqb h g.0) refl }
+    where
+      each_by : (h : ℕ) (b : Bool) → eqb h g.0 ≡ b → Suits script Come s.horizon h (if b then l else s.locals h)
+      each_by h true e = subst (λ j. Suits script Come s.horizon j l) (sym (eqb-true h g.0 e)) suits
+      each_by h false e = k.each h
+
+      own_by : (h : ℕ) (b : Bool) → eqb h g.0 ≡ b → filter (is_of (gx h)) locks.waits ≡ claims_of (gx h) (if b then l else s.locals h).suspended
+      own_by h true e = subst (λ j. filter (is_of (gx j)) locks.waits ≡ claims_of (gx j) l.suspended) (sym (eqb-true h g.0 e)) own
+      own_by h false e = others h e ∙ k.own h
+
+  -- one of whom none waits goes on so
+  resting : (s : Seg) (g : Gxid) (l : Local) → Rightly s → (local_of s g).suspended ≡ None → l.suspended ≡ None → Rightly (with_local s g l)
+  resting s g l k was is =
+      let a = changed s g l s.locks k (nothing-suits script Come s.horizon g.0 l is) (k.own g.0 ∙ ap (claims_of g) was ∙ sym (ap (claims_of g) is)) (λ h n. refl) in
+      record { each = a.each; own = a.own }
+
+  self : (s : Seg) (g : Gxid) (l : Local) → (with_local s g l).locals g.0 ≡ l
+  self s g l = ap (λ b. if b then l else s.locals g.0) (same g.0)
+    where
+      same : (n : ℕ) → eqb n n ≡ true
+      same n = grind (arith, nat_tests)
+
+  -- slices
+  select : (t : Seg) (g : Gxid) (c : Cid) (q : Query) (rows : List KeyedRow) (f : Option (KeyedRow × ArithFault)) → Rightly t → (local_of t g).suspended ≡ None → Keeps (selects t g c q rows f)
+  select t g c q rows None k e = resting t g _ k e e
+  select t g c q rows (Some f) k e = resting t g _ k e e
+
+  insert_rows : (g : Gxid) (c : Cid) (table : Table) (rows : List KeyedRow) (m : Moved) → Rightly m.seg → (local_of m.seg g).suspended ≡ None → Rightly (fold (inserts_row g c table) m rows).seg × ((local_of (fold (inserts_row g c table) m rows).seg g).suspended ≡ None)
+  insert_rows g c table [] m k e = (k, e)
+  insert_rows g c table (r ∷ rs) m k e =
+      let a = resting m.seg g (record (local_of m.seg g) { phase = Writing }) k e e in
+      insert_rows g c table rs (inserts_row g c table m r) (record { each = a.each; own = a.own }) (ap (λ (l : Local). l.suspended) (self m.seg g (record (local_of m.seg g) { phase = Writing })) ∙ e)
+
+  slice_runs : (t : Seg) (g : Gxid) (c : Cid) (snapshot : Option Snapshot) (x : Slice) → Rightly t → (local_of t g).suspended ≡ None → Keeps (runs_slice t g c snapshot x)
+  slice_runs t g c (Some snapshot) (slice.Select q) k e = select t g c q (shown t snapshot g c q.table) (first_fault q.cond (shown t snapshot g c q.table)) k e
+  slice_runs t g c (Some snapshot) (slice.Insert table rows) k e =
+      let a = insert_rows g c table rows (record { seg = t; marks = [] }) k e in
+      resting (inserted t g c table rows).seg g _ a.0 a.1 a.1
+  slice_runs t g c snapshot x k e = k
+
+  -- it is suspended
+  suspend : (t : Seg) (g : Gxid) (c : Cid) (level : Level) (snapshot : Option Snapshot) (h : Gxid) (x : Slice) (wanted : Claim) → Rightly t → Come (message.Exec g c level snapshot h x) → h.0 ≤ t.horizon.0 → FitsNew script g c snapshot x (local_of t g) → nat_lt (local_of t g).last c.0 ≡ true → is_open_phase (local_of t g).phase ≡ true → slice_lock g x ≡ Some wanted → Keeps (suspends t g c level snapshot x wanted)
+  suspend t g c level snapshot h x wanted k come up fits new opens is = changed t g _ (with_wait t.locks wanted) k suits own others
+    where
+      l : Local
+      l = record (local_of t g) { last = c.0; answer = None; suspended = Some (suspended_slice c level snapshot x) }
+
+      positive : (a b : ℕ) → nat_lt a b ≡ true → 1 ≤ b
+      positive a b e = grind (arith, nat_tests)
+
+      some-same : (a b : Suspended) → Some a ≡ Some b → a ≡ b
+      some-same a b e = cc
+
+      suits : Suits script Come t.horizon g.0 l
+      suits y e =
+          subst (Stands script Come t.horizon g l) (some-same _ y e)
+          (record { horizon = h; come = come; raised = up; right = fits.right; reads = fits.reads; numbered = positive (local_of t g).last c.0 new; last = refl; unanswered = refl; opens = opens })
+
+      owner : wanted.gxid ≡ g
+      owner = lock-owner g x wanted is
+
+      eqb-self : (n : ℕ) → eqb n n ≡ true
+      eqb-self n = grind (arith, nat_tests)
+
+      own : filter (is_of g) (t.locks.waits ++ wanted ∷ []) ≡ one_claim (slice_lock g x)
+      own =
+          filter-more (is_of g) t.locks.waits wanted true (ap (λ (q : Gxid). eqb q.0 g.0) owner ∙ eqb-self g.0)
+          ∙ ap (λ q. q ++ wanted ∷ []) (k.own g.0 ∙ ap (claims_of g) (fits.rests new)) ∙ sym (ap one_claim is)
+
+      turned : (a b : ℕ) → eqb a b ≡ false → eqb b a ≡ false
+      turned a b e = grind (arith, nat_tests)
+
+      nil-end : (xs : List Claim) → xs ++ [] ≡ xs
+      nil-end [] = refl
+      nil-end (y ∷ ys) = ap (λ q. y ∷ q) (nil-end ys)
+
+      others : (i : ℕ) → eqb i g.0 ≡ false → filter (is_of (gx i)) (t.locks.waits ++ wanted ∷ []) ≡ filter (is_of (gx i)) t.locks.waits
+      others i n = filter-more (is_of (gx i)) t.locks.waits wanted false (ap (λ (q : Gxid). eqb q.0 i) owner ∙ turned i g.0 n) ∙ nil-end (filter (is_of (gx i)) t.locks.waits)
+
+  start : (t : Seg) (g : Gxid) (c : Cid) (level : Level) (snapshot : Option Snapshot) (h : Gxid) (x : Slice) (o : Option Claim) → Rightly t → Come (message.Exec g c level snapshot h x) → h.0 ≤ t.horizon.0 → FitsNew script g c snapshot x (local_of t g) → nat_lt (local_of t g).last c.0 ≡ true → is_open_phase (local_of t g).phase ≡ true → slice_lock g x ≡ o → Keeps (requests t g c level snapshot x o)
+  start t g c level snapshot h x None k come up fits new opens is = slice_runs t g c snapshot x k (fits.rests new)
+  start t g c level snapshot h x (Some wanted) k come up fits new opens is =
+      both (is_free t.locks.holds wanted) (runs_locked t g c snapshot x wanted) (suspends t g c level snapshot x wanted)
+      (slice_runs (record t { locks = with_hold t.locks wanted }) g c snapshot x (record { each = k.each; own = k.own }) (fits.rests new))
+      (suspend t g c level snapshot h x wanted k come up fits new opens is)
+
+  module _ (s : Seg) (k : Rightly s) where
+    -- the horizon is raised
+    higher : (h : Gxid) → (s.horizon.0 ≤ (raised s h).horizon.0) × (h.0 ≤ (raised s h).horizon.0)
+    higher h = by_test (is_below h s.horizon) refl
+      where
+        top : (a b : ℕ) → nat_lt a b ≡ true → (a ≤ b) × (b ≤ b)
+        top a b e = (grind (arith, nat_tests), grind arith)
+
+        low : (a b : ℕ) → nat_lt a b ≡ false → (a ≤ a) × (b ≤ a)
+        low a b e = (grind arith, grind (arith, nat_tests))
+
+        by_test : (b : Bool) → is_below h s.horizon ≡ b → (s.horizon.0 ≤ (if b then h else s.horizon).0) × (h.0 ≤ (if b then h else s.horizon).0)
+        by_test true e = top s.horizon.0 h.0 e
+        by_test false e = low s.horizon.0 h.0 e
+
+    raise : (h : Gxid) → Rightly (raised s h)
+    raise h = record { each = λ j x e. stands-later script Come Come s.horizon (raised s h).horizon (gx j) (s.locals j) x (λ m c. c) (higher h).0 (k.each j x e); own = k.own }
+
+    tell_kept : (g : Gxid) (r : Option Reply) → Keeps (tells_kept s g r)
+    tell_kept g None = k
+    tell_kept g (Some r) = k
+
+    repeat : (g : Gxid) (c : Cid) (l : Local) → Keeps (repeats s g c l)
+    repeat g c l = both (c.0 == l.last) _ _ (tell_kept g l.answer) k
+
+    take : (g : Gxid) (c : Cid) (level : Level) (snapshot : Option Snapshot) (h : Gxid) (x : Slice) → Come (message.Exec g c level snapshot h x) → FitsNew script g c snapshot x (local_of s g) → is_open_phase (local_of s g).phase ≡ true → Keeps (takes s g c level snapshot h x (local_of s g))
+    take g c level snapshot h x come fits opens = by_test (nat_lt (local_of s g).last c.0) refl
+      where
+        by_test : (b : Bool) → nat_lt (local_of s g).last c.0 ≡ b → Keeps (if b then requests (raised s h) g c level snapshot x (slice_lock g x) else repeats s g c (local_of s g))
+        by_test true new = start (raised s h) g c level snapshot h x (slice_lock g x) (raise h) come (higher h).1 fits new opens refl
+        by_test false new = repeat g c (local_of s g)
+
+    exec : (g : Gxid) (c : Cid) (level : Level) (snapshot : Option Snapshot) (h : Gxid) (x : Slice) (p : Phase) → Come (message.Exec g c level snapshot h x) → FitsNew script g c snapshot x (local_of s g) → (local_of s g).phase ≡ p → Keeps (on_exec s g c level snapshot h x (local_of s g) p)
+    exec g c level snapshot h x Reading come fits e = take g c level snapshot h x come fits (ap is_open_phase e)
+    exec g c level snapshot h x Writing come fits e = take g c level snapshot h x come fits (ap is_open_phase e)
+    exec g c level snapshot h x Prepared come fits e = repeat g c (local_of s g)
+    exec g c level snapshot h x Committed come fits e = repeat g c (local_of s g)
+    exec g c level snapshot h x (Forgotten b) come fits e = k
+    exec g c level snapshot h x Aborted come fits e = k
+
+    only : (g : Gxid) (v : Option Reply) (turn : SegTurn) → Keeps turn → Keeps (once s g v turn)
+    only g None turn e = e
+    only g (Some v) turn e = k
+
+    -- endings, where none of it waits
+    module _ (g : Gxid) (rests : (local_of s g).suspended ≡ None) where
+      promise : (fails : Bool) → Keeps (promises s g fails (local_of s g))
+      promise true = resting s g _ k rests rests
+      promise false = resting s g _ k rests rests
+
+      prepare : (fails : Bool) (p : Phase) → Keeps (on_prepare s g fails (local_of s g) p)
+      prepare fails Reading = only g (local_of s g).vote _ (promise fails)
+      prepare fails Writing = only g (local_of s g).vote _ (promise fails)
+      prepare fails Prepared = tell_kept g (local_of s g).vote
+      prepare fails Committed = tell_kept g (local_of s g).vote
+      prepare fails (Forgotten b) = tell_kept g (local_of s g).vote
+      prepare fails Aborted = k
+
+      commit_one : (fails : Bool) → Keeps (commits s g fails (local_of s g))
+      commit_one true = resting s g _ k rests rests
+      commit_one false = resting s g _ k rests rests
+
+      commit : (fails : Bool) (p : Phase) → Keeps (on_commit s g fails (local_of s g) p)
+      commit fails Reading = only g (local_of s g).vote _ (commit_one fails)
+      commit fails Writing = only g (local_of s g).vote _ (commit_one fails)
+      commit fails Prepared = k
+      commit fails Committed = both (was_prepared (local_of s g).vote) _ _ k (tell_kept g (local_of s g).vote)
+      commit fails (Forgotten b) = both (was_prepared (local_of s g).vote) _ _ k (tell_kept g (local_of s g).vote)
+      commit fails Aborted = k
+
+      finish : (fails : Bool) → Keeps (finishes s g fails (local_of s g))
+      finish true = resting s g _ k rests rests
+      finish false = resting s g _ k rests rests
+
+    commit_prepared : (g : Gxid) (fails : Bool) (p : Phase) → (local_of s g).phase ≡ p → Keeps (on_commit_prepared s g fails (local_of s g) p)
+    commit_prepared g fails Reading e = k
+    commit_prepared g fails Writing e = k
+    commit_prepared g fails Prepared e = finish g (closed-rests script Come s.horizon g.0 (local_of s g) (k.each g.0) (ap is_open_phase e)) fails
+    commit_prepared g fails Committed e = k
+    commit_prepared g fails (Forgotten true) e = k
+    commit_prepared g fails (Forgotten false) e = k
+    commit_prepared g fails Aborted e = k
+
+    -- its wait goes, and the others stay
+    others : (g : Gxid) (h : ℕ) → eqb h g.0 ≡ false → filter (is_of (gx h)) (without g s.locks.waits) ≡ filter (is_of (gx h)) s.locks.waits
+    others g h n = others-left g (gx h) s.locks.waits n
+
+    ended : (g : Gxid) (p : Phase) (r : Reply) → Keeps (ends s g (local_of s g) p r)
+    ended g p r =
+        let a = changed s g (record (local_of s g) { phase = p; suspended = None }) (record s.locks { holds = without g s.locks.holds; waits = without g s.locks.waits }) k (nothing-suits script Come s.horizon g.0 _ refl) (none-left g s.locks.waits) (others g) in
+        record { each = a.each; own = a.own }
+
+    abort : (g : Gxid) (p : Phase) → Keeps (on_abort s g (local_of s g) p)
+    abort g Reading = ended g _ answer.Aborted
+    abort g Writing = ended g _ answer.Aborted
+    abort g Prepared = ended g _ answer.Aborted
+    abort g Committed = k
+    abort g (Forgotten b) = k
+    abort g Aborted = k
+
+    forget : (g : Gxid) (p : Phase) → Keeps (on_forget s g (local_of s g) p)
+    forget g Reading = ended g _ answer.Forgotten
+    forget g Writing = ended g _ answer.Forgotten
+    forget g Prepared = ended g _ answer.Forgotten
+    forget g Committed = ended g _ answer.Forgotten
+    forget g (Forgotten b) = k
+    forget g Aborted = k
+
+    below : (g : Gxid) (turn : SegTurn) → Keeps turn → Keeps (unless_below s g turn)
+    below g turn e = both (is_below s.horizon g) _ _ k e
+
+    fits : (b : Bool) (turn : SegTurn) → (b ≡ true → Keeps turn) → Keeps (if_fits s b turn)
+    fits true turn e = e refl
+    fits false turn e = k
+
+    nobody : (l : Local) → not (is_waiting l) ≡ true → l.suspended ≡ None
+    nobody l e = by_slice l.suspended e
+      where
+        by_slice : (o : Option Suspended) → not (is_some o) ≡ true → o ≡ None
+        by_slice None e = refl
+        by_slice (Some x) e = absurd (cc)
+
+    message_keeps : (fails : Bool) (m : Message) → Come m → Keeps (on_message script s fails m)
+    message_keeps fails (message.Exec g c level snapshot h x) come = below g _ (fits (fits_exec script s g c snapshot h x) _ (λ e. exec g c level snapshot h x (local_of s g).phase come (fits-new script s g c snapshot h x e) refl))
+    message_keeps fails (message.Prepare g) come = below g _ (fits (not (is_waiting (local_of s g))) _ (λ e. prepare g (nobody (local_of s g) e) fails (local_of s g).phase))
+    message_keeps fails (message.Commit g) come = below g _ (fits (not (is_waiting (local_of s g))) _ (λ e. commit g (nobody (local_of s g) e) fails (local_of s g).phase))
+    message_keeps fails (message.CommitPrepared g) come = below g _ (commit_prepared g fails (local_of s g).phase refl)
+    message_keeps fails (message.Abort g) come = below g _ (abort g (local_of s g).phase)
+    message_keeps fails (message.Forget g) come = below g _ (forget g (local_of s g).phase)
+    message_keeps fails (message.Collect round) come = k
+    message_keeps fails (message.Answer g r) come = k
+    message_keeps fails (message.Graph round graph) come = k
+
+    resume : (g : Gxid) (w : Option Claim) (o : Option Suspended) → Keeps (resumes s g w o)
+    resume g (Some wanted) (Some x) =
+        let rest : Local = record (local_of s g) { suspended = None } in
+        let free : Seg = record (with_local s g rest) { locks = resumed s.locks g (Some wanted) } in
+        slice_runs free g x.cid x.snapshot x.slice (changed s g rest _ k (nothing-suits script Come s.horizon g.0 rest refl) (none-left g s.locks.waits) (others g)) (ap (λ (l : Local). l.suspended) (self s g rest))
+    resume g (Some wanted) None = k
+    resume g None o = k
+
+    pub event_suspends : (e : NodeEvent) (fails : Bool) → Arrives Come e → Keeps (on_event script s e fails)
+    event_suspends (event.Deliver from envelope) fails come = message_keeps fails envelope.message come
+    event_suspends (event.Resume g) fails come = resume g (wait_of s.locks g) (local_of s g).suspended
+    event_suspends (event.Start x) fails come = k
+    event_suspends (event.End x) fails come = k
+    event_suspends (event.Resend i g) fails come = k
+    event_suspends event.Round fails come = k

@@ -1,0 +1,168 @@
+-- Who waits. A slice that waits at a segment: where it came from, how its transaction stands there meanwhile, and what it does when
+-- it goes on. A statement that waits at the coordinator, and how its transaction and its session stand meanwhile.
+use Rattle.std.proofs.Common.{◌≡◌, ℕ, [], ◌∷◌, Option, Some, None, Bool, true, false, refl, sym, ap, ◌∙◌, ◌&&◌, ◌≤◌, ◌⊎◌, inl, inr, List, subst, not, nat_lt, arith}
+use Rattle.std.specs.Prelude.{filter, slice_get, is_some, take}
+use Rattle.std.proofs.lemmas.Bool.Decides.{nat_tests}
+use Rattle.gx_ids.specs.declared.ids.Gxid.{Gxid}
+use Rattle.gx_tree.specs.declared.stmt.Stmt.{Stmt}
+use Rattle.gx_waits.specs.declared.claim.Claim.{Claim}
+use Rattle.gx_locks.specs.Claims.{is_of}
+use Rattle.gx_locks.specs.Locks.{is_free, is_ready, wait_of}
+use Rattle.gx_msg.specs.declared.message.Message.{Message}
+use Rattle.gx_msg.specs.declared.message.Message.TheVariants as message
+use Rattle.gx_script.specs.declared.Script.{Script}
+use Rattle.gx_store.specs.declared.node.NodeEvent.TheVariants as event
+use Rattle.gx_rules.specs.AtCoordinator.{coord_can, is_segment, lock_for}
+use Rattle.gx_rules.specs.AtSegment.{resumes}
+use Rattle.gx_rules.specs.Coordinators.{Coord, session_of, work_of}
+use Rattle.gx_rules.specs.Machine.{World, seg_can, Letter}
+use Rattle.gx_rules.specs.Segments.{Seg, Suspended, local_of, Phase, has_ended}
+use Rattle.gx_rules.specs.Fits.{holds_locks}
+use Rattle.gx_rules.specs.Segments.Phase.{Aborted, Committed, Forgotten, Prepared, Reading, Writing}
+use Rattle.gx_rules.specs.Slices.{slice_lock}
+use Rattle.gx_rules.specs.Fits.{is_right_slice}
+use Rattle.gx_rules.specs.Segments.Phase.{Reading, Writing}
+use Rattle.gx_law_order.proofs.Lists.{Each}
+use Rattle.gx_law_order.proofs.Ordered.{Well}
+use Rattle.gx_law_order.proofs.Sessions.{is_working_in, stage_of, Kept}
+use Rattle.gx_law_order.proofs.Queued.{WaitsFor, claims_for, listed, waits-for}
+use Rattle.gx_law_order.proofs.Stages.{gx}
+use Rattle.gx_law_order.proofs.Sent.{at}
+use Rattle.gx_law_order.proofs.Statuses.Stage.{Live}
+use Rattle.gx_law_order.proofs.Suspended.{claims_of, find-filter, one_claim, waits-there}
+use Rattle.gx_law_order.proofs.Suspensions.{closed-rests}
+use Rattle.gx_law_order.proofs.World.{Knows}
+pub use Rattle.gx_law_order.proofs.Suspended.{HasCome, IsAmong, Waits, each-among, is_open_phase}
+
+-- a slice that goes on: it waits, and its lock is free
+pub record GoesOn (script : Script) (w : World) (i : ℕ) (g : Gxid) : Type 0 where
+  pub slice : Suspended
+  pub is : (local_of (w.segs i) g).suspended ≡ Some slice
+  pub waits : Waits script w i g slice
+  pub wanted : Claim
+  pub claims : wait_of (w.segs i).locks g ≡ Some wanted
+  pub free : is_free (w.segs i).locks.holds wanted ≡ true
+
+-- a wait in the locks of a segment: the slice that waits for it, whose lock it is; its transaction has no other
+pub record HasSlice (s : Seg) (g : Gxid) (wanted : Claim) : Type 0 where
+  pub slice : Suspended
+  pub is : (local_of s g).suspended ≡ Some slice
+  pub lock : slice_lock g slice.slice ≡ Some wanted
+  pub once : filter (is_of g) s.locks.waits ≡ wanted ∷ []
+
+-- who waits at a segment does so by these words
+pub waiting : (script : Script) (w : World) → Well script w → (i : ℕ) (g : Gxid) (x : Suspended) → (local_of (w.segs i) g).suspended ≡ Some x → Waits script w i g x
+waiting script w good i g x e = waits-there script w i (good.waiting i) g x e
+
+-- and counts among those who hold locks there, at and above whose gxids horizons stay
+pub holds-there : (script : Script) (w : World) (i : ℕ) (g : Gxid) (x : Suspended) → Waits script w i g x → holds_locks (local_of (w.segs i) g) ≡ true
+holds-there script w i g x a = by_phase (local_of (w.segs i) g).last x.cid.0 (local_of (w.segs i) g).phase a.last a.numbered a.opens
+  where
+    begun : (a b : ℕ) → a ≡ b → 1 ≤ b → nat_lt 0 a ≡ true
+    begun a b e f = grind (arith, nat_tests)
+
+    by_phase : (a b : ℕ) (p : Phase) → a ≡ b → 1 ≤ b → is_open_phase p ≡ true → (nat_lt 0 a && not (has_ended p)) ≡ true
+    by_phase a b Reading e f o = ap (λ q. q && true) (begun a b e f)
+    by_phase a b Writing e f o = ap (λ q. q && true) (begun a b e f)
+    by_phase a b Prepared e f o = absurd (cc)
+    by_phase a b Committed e f o = absurd (cc)
+    by_phase a b (Forgotten q) e f o = absurd (cc)
+    by_phase a b Aborted e f o = absurd (cc)
+
+-- who has a wait in the locks there has a slice that waits for it, and no other wait
+pub has-slice : (script : Script) (w : World) → Well script w → (i : ℕ) (g : Gxid) (wanted : Claim) → wait_of (w.segs i).locks g ≡ Some wanted → HasSlice (w.segs i) g wanted
+has-slice script w good i g wanted e = by_slice (local_of s g).suspended refl (sym e ∙ find-filter (is_of g) s.locks.waits (claims_of g (local_of s g).suspended) own)
+  where
+    s : Seg
+    s = w.segs i
+
+    own : filter (is_of g) s.locks.waits ≡ claims_of g (local_of s g).suspended
+    own = (good.waiting i).own g.0
+
+    one : (o : Option Claim) → Some wanted ≡ slice_get (one_claim o) 0 → o ≡ Some wanted
+    one None q = absurd (cc)
+    one (Some other) q = sym q
+
+    by_slice : (o : Option Suspended) → (local_of s g).suspended ≡ o → Some wanted ≡ slice_get (claims_of g o) 0 → HasSlice s g wanted
+    by_slice None is q = absurd (cc)
+    by_slice (Some x) is q =
+        let lock = one (slice_lock g x.slice) q in
+        record { slice = x; is = is; lock = lock; once = own ∙ ap (claims_of g) is ∙ ap one_claim lock }
+
+-- and whose slices don't wait there has none
+pub no-wait : (script : Script) (w : World) → Well script w → (i : ℕ) (g : Gxid) → (local_of (w.segs i) g).suspended ≡ None → filter (is_of g) (w.segs i).locks.waits ≡ []
+no-wait script w good i g e = (good.waiting i).own g.0 ∙ ap (claims_of g) e
+
+-- of who has promised, committed or ended there none waits
+pub no-slice : (script : Script) (w : World) → Well script w → (i : ℕ) (g : Gxid) → is_open_phase (local_of (w.segs i) g).phase ≡ false → (local_of (w.segs i) g).suspended ≡ None
+no-slice script w good i g e = closed-rests script (HasCome w i) (w.segs i).horizon g.0 (local_of (w.segs i) g) ((good.waiting i).each g.0) e
+
+-- who is admitted to go on waits, and its lock is free
+pub going-on : (script : Script) (w : World) → Well script w → (i : ℕ) (g : Gxid) → seg_can script (w.segs i) (event.Resume g) ≡ true → GoesOn script w i g
+going-on script w good i g ok = by_wait (wait_of s.locks g) refl (ready (is_segment script s.node) (is_ready s.locks.holds (wait_of s.locks g)) ok)
+  where
+    s : Seg
+    s = w.segs i
+
+    ready : (a b : Bool) → (a && b) ≡ true → b ≡ true
+    ready true b e = e
+    ready false b e = absurd (cc)
+
+    by_wait : (o : Option Claim) → wait_of s.locks g ≡ o → is_ready s.locks.holds o ≡ true → GoesOn script w i g
+    by_wait None e f = absurd (cc)
+    by_wait (Some wanted) e f =
+        let has = has-slice script w good i g wanted e in
+        record { slice = has.slice; is = has.is; waits = waiting script w good i g has.slice has.is; wanted = wanted; claims = e; free = f }
+
+-- what it does then
+pub goes-on-is : (s : Seg) (g : Gxid) (wanted : Claim) (x : Suspended) → wait_of s.locks g ≡ Some wanted → (local_of s g).suspended ≡ Some x → resumes s g (wait_of s.locks g) (local_of s g).suspended ≡ resumes s g (Some wanted) (Some x)
+goes-on-is s g wanted x e f = cc
+
+-- AT THE COORDINATOR
+-- A statement that goes out behind a wait: it waits for its table's lock, which is free; its transaction is live and has no command
+-- under way; and it is its session's line under way.
+pub record GoesOut (c : Coord) (g : Gxid) : Type 0 where
+  pub line : Stmt
+  pub is : (work_of c g).waiting ≡ Some line
+  pub wanted : Claim
+  pub claims : wait_of c.locks g ≡ Some wanted
+  pub lock : lock_for g line ≡ Some wanted
+  pub free : is_free c.locks.holds wanted ≡ true
+  pub idle : (work_of c g).command ≡ None
+  pub live : stage_of c g.0 ≡ Live
+  pub home : (session_of c (work_of c g).session).transaction ≡ g
+  pub working : is_working_in (session_of c (work_of c g).session).state.pending ≡ true
+
+-- whoever has a wait at the coordinator has a statement that waits for it, and no other wait
+pub record HasStatement (c : Coord) (g : Gxid) (wanted : Claim) : Type 0 where
+  pub line : Stmt
+  pub is : (work_of c g).waiting ≡ Some line
+  pub once : filter (is_of g) c.locks.waits ≡ wanted ∷ []
+  pub lock : lock_for g line ≡ Some wanted
+  pub idle : (work_of c g).command ≡ None
+  pub live : stage_of c g.0 ≡ Live
+  pub home : (session_of c (work_of c g).session).transaction ≡ g
+  pub working : is_working_in (session_of c (work_of c g).session).state.pending ≡ true
+
+pub statement-of : (c : Coord) → Kept c → (g : Gxid) (wanted : Claim) → wait_of c.locks g ≡ Some wanted → HasStatement c g wanted
+statement-of c k g wanted e = by_line (waits-for g.0 (work_of c g).waiting c.locks (k.queued g.0) wanted e)
+  where
+    by_line : WaitsFor g.0 (work_of c g).waiting wanted → HasStatement c g wanted
+    by_line f =
+        let t = (k.tied g.0).waits f.line f.is in
+        let l = (k.tied g.0).live t.0 in
+        record { line = f.line; is = f.is; once = (k.queued g.0).claims ∙ ap (claims_for g) f.is ∙ ap listed f.lock; lock = f.lock; idle = t.1; live = t.0; home = ap gx l.0; working = t.2 }
+
+pub has-statement : (script : Script) (w : World) → Knows script w → (g : Gxid) (wanted : Claim) → wait_of w.coord.locks g ≡ Some wanted → HasStatement w.coord g wanted
+has-statement script w n g wanted e = statement-of w.coord n.kept g wanted e
+
+-- who is admitted to go out is one of these
+pub going-out : (script : Script) (w : World) → Knows script w → (g : Gxid) → coord_can script w.coord (event.Resume g) ≡ true → GoesOut w.coord g
+going-out script w n g ok = by_wait (wait_of w.coord.locks g) refl ok
+  where
+    line-waits : (wanted : Claim) → wait_of w.coord.locks g ≡ Some wanted → is_free w.coord.locks.holds wanted ≡ true → HasStatement w.coord g wanted → GoesOut w.coord g
+    line-waits wanted e free f = record { line = f.line; is = f.is; wanted = wanted; claims = e; lock = f.lock; free = free; idle = f.idle; live = f.live; home = f.home; working = f.working }
+
+    by_wait : (o : Option Claim) → wait_of w.coord.locks g ≡ o → is_ready w.coord.locks.holds o ≡ true → GoesOut w.coord g
+    by_wait None e f = absurd (cc)
+    by_wait (Some wanted) e f = line-waits wanted e f (has-statement script w n g wanted e)
