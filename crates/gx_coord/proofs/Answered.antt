@@ -64,6 +64,7 @@ done-sound w lines t k i cid wrote count part h e a f s =
         awaited = λ l j q. under.awaited l j (right (not (eqb i.0 j.0)) (has j k.awaited) (sym (has-without j i k.awaited) ∙ q));
       };
       last = h.last;
+      room = h.room;
     }
   where
     under : IsSoundCommand k (participants_in t) (stage t)

@@ -18,7 +18,7 @@ use Rattle.gx_dtx.specs.Nodes.{has, with_node}
 use Rattle.gx_dtx.specs.Rules.{abort_found, begun, enlisted, with_live}
 use Rattle.gx_dtx.specs.Table.{Table, find_txn, new_txn, xmin_of}
 use Rattle.gx_dtx.specs.declared.txn.Txn.{Txn}
-use Rattle.gx_locks.specs.Locks.{is_free}
+use Rattle.gx_locks.specs.Locks.{is_free, resumed}
 use Rattle.gx_waits.specs.declared.claim.Claim.{Claim}
 use Rattle.gx_meaning.specs.declared.fault.ArithFault.{ArithFault}
 use Rattle.gx_meaning.specs.Plan.{plan_of}
@@ -30,14 +30,14 @@ use Rattle.gx_script.specs.declared.line_step.LineStep.TheVariants as step
 use Rattle.gx_script.specs.declared.state.Block.{Block}
 use Rattle.gx_script.specs.declared.state.Block.TheVariants as block
 use Rattle.gx_store.specs.Writes.{dist_of}
-use Rattle.gx_rules.specs.AtCoordinator.{Reading, begins, dispatches, ends_in, enlisted_all, fault_mark, goes, goes_on_locked, goes_out, if_granted, lock_for, next_cid, nodes_in, on_line, reads_by, reads_for, refusal_of, requests, rolls_back, starts, starts_line, table_of, takes_snapshot, waits_for}
-use Rattle.gx_rules.specs.Coordinators.{Command, Coord, Session, Work, new_work, session_of, with_state}
+use Rattle.gx_rules.specs.AtCoordinator.{Reading, begins, dispatches, ends_in, enlisted_all, fault_mark, goes, goes_on_locked, goes_out, if_granted, lock_for, next_cid, nodes_in, on_line, reads_by, reads_for, refusal_of, requests, resumes, rolls_back, starts, starts_line, table_of, takes_snapshot, waits_for}
+use Rattle.gx_rules.specs.Coordinators.{Command, Coord, Session, Work, new_work, session_of, with_state, with_work}
 use Rattle.gx_rules.specs.Locks.{with_hold}
 use Rattle.gx_rules.specs.Maps.{with_at}
 use Rattle.gx_rules.specs.Snapshots.{snapshot_of}
 use Rattle.gx_law_order.proofs.Closings.{live-at, set_live}
-use Rattle.gx_law_order.proofs.Lines.{Asks, asks, begun-whole}
-use Rattle.gx_law_order.proofs.Sessions.{Kept, is_open_in}
+use Rattle.gx_law_order.proofs.Lines.{Asks, asks, begun-whole, idle-none}
+use Rattle.gx_law_order.proofs.Sessions.{Kept, is_nothing_in, is_open_in}
 use Rattle.gx_law_order.proofs.Stages.{IsWhole, append-at, gx}
 use Rattle.gx_coord.specs.Sound.{AreSound, IsSoundWork}
 use Rattle.gx_coord.proofs.Keeping.{commits-sound, refused-sound, rolled-sound}
@@ -62,16 +62,17 @@ pub record Reads (c : Coord) (g : ℕ) (r : Reading) : Type 0 where
   pub whole : IsWhole r.coord.table
   pub sound : AreSound r.coord
   pub last : (r.coord.works g).last ≡ (c.works g).last
+  pub waiting : (r.coord.works g).waiting ≡ (c.works g).waiting
   pub home : (r.coord.works g).session ≡ (c.works g).session
   pub sessions : (s : ℕ) → r.coord.sessions s ≡ c.sessions s
 
 module _ (c : Coord) (whole : IsWhole c.table) (e : AreSound c) (g : ℕ) where
   as-it-is : (x : Option Snapshot) → Reads c g (record { coord = c; snapshot = x; marks = [] })
-  as-it-is x = record { whole = whole; sound = e; last = refl; home = refl; sessions = λ s. refl }
+  as-it-is x = record { whole = whole; sound = e; last = refl; waiting = refl; home = refl; sessions = λ s. refl }
 
   kept-sound : (w : Work) (lines : ℕ) (t : Option Txn) (x : Option Gxid) (y : Option Snapshot) → IsSoundWork w lines t → IsSoundWork (record w { snapshot = y }) lines (option_map (set_live x) t)
-  kept-sound w lines None x y h = record { writers = h.writers; among = h.among; command = h.command; last = h.last }
-  kept-sound w lines (Some t) x y h = record { writers = h.writers; among = h.among; command = h.command; last = h.last }
+  kept-sound w lines None x y h = record { writers = h.writers; among = h.among; command = h.command; last = h.last; room = h.room }
+  kept-sound w lines (Some t) x y h = record { writers = h.writers; among = h.among; command = h.command; last = h.last; room = h.room }
 
   snapshot-taken : (cid : Cid) → Reads c g (takes_snapshot c (gx g) cid (c.works g))
   snapshot-taken cid =
@@ -89,6 +90,7 @@ module _ (c : Coord) (whole : IsWhole c.table) (e : AreSound c) (g : ℕ) where
                   (subst (λ t. IsSoundWork w (c.sessions (c.works g).session.0).lines t) (sym (itself c.table (with_live c.table (gx g) x) g _ a)) (kept-sound (c.works g) _ (find_txn c.table (gx g)) x _ (e g)));
             });
         last = ap (λ (v : Work). v.last) (with_at-same c.works g w);
+        waiting = ap (λ (v : Work). v.waiting) (with_at-same c.works g w);
         home = ap (λ (v : Work). v.session) (with_at-same c.works g w);
         sessions = λ s. refl;
       }
@@ -169,18 +171,22 @@ comes-in (i ∷ is) ps j e = by_test (eqb i.0 j.0) refl (comes-in is (with_node 
     by_test true q more = stays-in is (with_node i ps) j (comes-with i j ps q)
     by_test false q more = more (left (eqb i.0 j.0) (has j is) q e)
 
-sent-sound : (w : Work) (k : Command) (lines : ℕ) (nodes : List Node) (t : Option Txn) → IsSoundWork w lines t → k.parts ≡ [] → k.count ≡ 0 → k.awaited ≡ nodes → k.cid.0 ≤ lines → IsSoundWork (record w { last = k.cid.0; command = Some k }) lines (option_map (enlisted_in nodes) t)
-sent-sound w k lines nodes None h p n a l =
+never : {B : Type 0} (o : Option Stmt) (line : Stmt) → o ≡ None → o ≡ Some line → B
+never o line e f = absurd (cc)
+
+sent-sound : (w : Work) (k : Command) (lines : ℕ) (nodes : List Node) (t : Option Txn) → IsSoundWork w lines t → k.parts ≡ [] → k.count ≡ 0 → k.awaited ≡ nodes → k.cid.0 ≤ lines → w.waiting ≡ None → IsSoundWork (record w { last = k.cid.0; command = Some k }) lines (option_map (enlisted_in nodes) t)
+sent-sound w k lines nodes None h p n a l f =
     record {
       writers = h.writers;
       among = λ v j q. absurd (cc);
       command = record { fits = subst (λ ps. All (λ x. Rattle.gx_rules.specs.Fits.fits_part k.stmt x ≡ true) ps) (sym p) (All-nil _); count = none k.count (length k.parts) n; awaited = λ v j q. absurd (cc) };
       last = l;
+      room = λ line q. never w.waiting line f q;
     }
   where
     none : (n m : ℕ) → n ≡ 0 → n ≤ 2 ^ 64 * m
     none n m e = subst (λ x. x ≤ 2 ^ 64 * m) (sym e) (omega arith)
-sent-sound w k lines nodes (Some t) h p n a l =
+sent-sound w k lines nodes (Some t) h p n a l f =
     record {
       writers = h.writers;
       among = λ v j q. stays-in nodes t.participants j (h.among v j q);
@@ -190,14 +196,15 @@ sent-sound w k lines nodes (Some t) h p n a l =
         awaited = λ v j q. comes-in nodes t.participants j (subst (λ ns. has j ns ≡ true) a q);
       };
       last = l;
+      room = λ line q. never w.waiting line f q;
     }
   where
     none : (n m : ℕ) → n ≡ 0 → n ≤ 2 ^ 64 * m
     none n m e = subst (λ x. x ≤ 2 ^ 64 * m) (sym e) (omega arith)
 
 module _ (c : Coord) (g : ℕ) where
-  out-sound : (r : Reading) → Reads c g r → (cid : Cid) (line : Stmt) (pieces : List Piece) → cid.0 ≤ (c.sessions (c.works g).session.0).lines → AreSound (goes_out (gx g) cid line pieces r).coord
-  out-sound r reads cid line pieces l =
+  out-sound : (r : Reading) → Reads c g r → (cid : Cid) (line : Stmt) (pieces : List Piece) → cid.0 ≤ (c.sessions (c.works g).session.0).lines → (c.works g).waiting ≡ None → AreSound (goes_out (gx g) cid line pieces r).coord
+  out-sound r reads cid line pieces l f =
       let nodes : List Node = nodes_in pieces in
       let k : Command = record { stmt = line; cid = cid; orders = (goes_out (gx g) cid line pieces r).outs; awaited = nodes; count = 0; parts = [] } in
       let w : Work = record (r.coord.works g) { last = cid.0; command = Some k } in
@@ -208,42 +215,61 @@ module _ (c : Coord) (g : ℕ) where
         lines = λ j. le_refl _;
         here = subst (λ (v : Work). IsSoundWork v (r.coord.sessions v.session.0).lines (find_txn (enlisted_all r.coord.table (gx g) nodes) (gx g))) (sym (with_at-same r.coord.works g w))
             (subst (λ t. IsSoundWork w (r.coord.sessions (r.coord.works g).session.0).lines t) (sym (all-found nodes r.coord.table g))
-            (sent-sound (r.coord.works g) k _ nodes (find_txn r.coord.table (gx g)) (reads.sound g) refl refl refl (subst (λ n. cid.0 ≤ n) (sym (ap (λ (x : Session). x.lines) (reads.sessions _ ∙ ap (λ (i : SessionId). c.sessions i.0) reads.home))) l)));
+            (sent-sound (r.coord.works g) k _ nodes (find_txn r.coord.table (gx g)) (reads.sound g) refl refl refl (subst (λ n. cid.0 ≤ n) (sym (ap (λ (x : Session). x.lines) (reads.sessions _ ∙ ap (λ (i : SessionId). c.sessions i.0) reads.home))) l) (reads.waiting ∙ f)));
       })
 
-  gone-sound : (r : Reading) → Reads c g r → (cid : Cid) (line : Stmt) (plan : Result (List Piece) ArithFault) → cid.0 ≤ (c.sessions (c.works g).session.0).lines → AreSound (goes (gx g) cid line r plan).coord
-  gone-sound r reads cid line (Ok pieces) l = out-sound r reads cid line pieces l
-  gone-sound r reads cid line (Err f) l = refused-sound r.coord reads.whole reads.sound g (abort_found (gx g) (find_txn r.coord.table (gx g))) (r.marks ++ fault_mark (gx g) cid line) (refusal_of f)
+  gone-sound : (r : Reading) → Reads c g r → (cid : Cid) (line : Stmt) (plan : Result (List Piece) ArithFault) → cid.0 ≤ (c.sessions (c.works g).session.0).lines → (c.works g).waiting ≡ None → AreSound (goes (gx g) cid line r plan).coord
+  gone-sound r reads cid line (Ok pieces) l f = out-sound r reads cid line pieces l f
+  gone-sound r reads cid line (Err x) l f = refused-sound r.coord reads.whole reads.sound g (abort_found (gx g) (find_txn r.coord.table (gx g))) (r.marks ++ fault_mark (gx g) cid line) (refusal_of x)
 
-  locked-sound : IsWhole c.table → AreSound c → (script : Script) (line : Stmt) → (c.works g).last + 1 ≤ (c.sessions (c.works g).session.0).lines → AreSound (goes_on_locked script c (gx g) line).coord
-  locked-sound whole e script line l =
-      gone-sound _ (read-for c whole e g (next_cid (c.works g)) line) (next_cid (c.works g)) line (plan_of script.segments (dist_of script.tables (table_of line)) (gx g) (next_cid (c.works g)) line) l
+  locked-sound : IsWhole c.table → AreSound c → (script : Script) (line : Stmt) → (c.works g).last + 1 ≤ (c.sessions (c.works g).session.0).lines → (c.works g).waiting ≡ None → AreSound (goes_on_locked script c (gx g) line).coord
+  locked-sound whole e script line l f =
+      gone-sound _ (read-for c whole e g (next_cid (c.works g)) line) (next_cid (c.works g)) line (plan_of script.segments (dist_of script.tables (table_of line)) (gx g) (next_cid (c.works g)) line) l f
 
 -- ITS TABLE'S LOCK
-waits-sound : (w : Work) (lines : ℕ) (t : Option Txn) (line : Option Stmt) → IsSoundWork w lines t → IsSoundWork (record w { waiting = line }) lines t
-waits-sound w lines t line h = record { writers = h.writers; among = h.among; command = h.command; last = h.last }
+waits-sound : (w : Work) (lines : ℕ) (t : Option Txn) (line : Option Stmt) → ((other : Stmt) → line ≡ Some other → w.last + 1 ≤ lines) → IsSoundWork w lines t → IsSoundWork (record w { waiting = line }) lines t
+waits-sound w lines t line r h = record { writers = h.writers; among = h.among; command = h.command; last = h.last; room = r }
 
-waiting-sound : (c : Coord) (g : ℕ) → AreSound c → (line : Stmt) (wanted : Claim) → AreSound (waits_for c (gx g) line wanted).coord
-waiting-sound c g e line wanted =
+waiting-sound : (c : Coord) (g : ℕ) → AreSound c → (line : Stmt) (wanted : Claim) → (c.works g).last + 1 ≤ (c.sessions (c.works g).session.0).lines → AreSound (waits_for c (gx g) line wanted).coord
+waiting-sound c g e line wanted l =
     let w : Work = record (c.works g) { waiting = Some line } in
     sound-after c (waits_for c (gx g) line wanted).coord g e
     (record {
       finds = λ j q. refl;
       works = λ j q. with_at-other c.works g w j q;
       lines = λ j. le_refl _;
-      here = subst (λ (v : Work). IsSoundWork v (c.sessions v.session.0).lines (find_txn c.table (gx g))) (sym (with_at-same c.works g w)) (waits-sound (c.works g) _ _ (Some line) (e g));
+      here = subst (λ (v : Work). IsSoundWork v (c.sessions v.session.0).lines (find_txn c.table (gx g))) (sym (with_at-same c.works g w)) (waits-sound (c.works g) _ _ (Some line) (λ other q. l) (e g));
     })
 
-request-sound : (c : Coord) (g : ℕ) → IsWhole c.table → AreSound c → (script : Script) (line : Stmt) → (c.works g).last + 1 ≤ (c.sessions (c.works g).session.0).lines → (o : Option Claim) → AreSound (requests script c (gx g) line o).coord
-request-sound c g whole e script line l None = locked-sound c g whole e script line l
-request-sound c g whole e script line l (Some wanted) = by_test (is_free c.locks.holds wanted)
+request-sound : (c : Coord) (g : ℕ) → IsWhole c.table → AreSound c → (script : Script) (line : Stmt) → (c.works g).last + 1 ≤ (c.sessions (c.works g).session.0).lines → (c.works g).waiting ≡ None → (o : Option Claim) → AreSound (requests script c (gx g) line o).coord
+request-sound c g whole e script line l f None = locked-sound c g whole e script line l f
+request-sound c g whole e script line l f (Some wanted) = by_test (is_free c.locks.holds wanted)
   where
     by_test : (b : Bool) → AreSound (if_granted script c (gx g) line wanted b).coord
-    by_test true = locked-sound (record c { locks = with_hold c.locks wanted }) g whole e script line l
-    by_test false = waiting-sound c g e line wanted
+    by_test true = locked-sound (record c { locks = with_hold c.locks wanted }) g whole e script line l f
+    by_test false = waiting-sound c g e line wanted l
 
-pub dispatch-sound : (c : Coord) (g : ℕ) → IsWhole c.table → AreSound c → (script : Script) (line : Stmt) → (c.works g).last + 1 ≤ (c.sessions (c.works g).session.0).lines → AreSound (dispatches script c (gx g) line).coord
-dispatch-sound c g whole e script line l = request-sound c g whole e script line l (lock_for (gx g) line)
+pub dispatch-sound : (c : Coord) (g : ℕ) → IsWhole c.table → AreSound c → (script : Script) (line : Stmt) → (c.works g).last + 1 ≤ (c.sessions (c.works g).session.0).lines → (c.works g).waiting ≡ None → AreSound (dispatches script c (gx g) line).coord
+dispatch-sound c g whole e script line l f = request-sound c g whole e script line l f (lock_for (gx g) line)
+
+-- and goes on
+pub resume-sound : (c : Coord) (g : ℕ) → IsWhole c.table → AreSound c → (script : Script) (o : Option Claim) (waiting : Option Stmt) → (c.works g).waiting ≡ waiting → AreSound (resumes script c (gx g) o waiting).coord
+resume-sound c g whole e script (Some wanted) (Some line) q =
+    let w : Work = record (c.works g) { waiting = None } in
+    let d : Coord = with_work (record c { locks = resumed c.locks (gx g) (Some wanted) }) (gx g) w in
+    locked-sound d g whole
+    (sound-after c d g e
+    (record {
+      finds = λ j q. refl;
+      works = λ j q. with_at-other c.works g w j q;
+      lines = λ j. le_refl _;
+      here = subst (λ (v : Work). IsSoundWork v (c.sessions v.session.0).lines (find_txn c.table (gx g))) (sym (with_at-same c.works g w)) (waits-sound (c.works g) _ _ None (λ other r. absurd (cc)) (e g));
+    }))
+    script line
+    (subst (λ (v : Work). v.last + 1 ≤ (c.sessions v.session.0).lines) (sym (with_at-same c.works g w)) ((e g).room line q))
+    (ap (λ (v : Work). v.waiting) (with_at-same c.works g w))
+resume-sound c g whole e script (Some wanted) None q = e
+resume-sound c g whole e script None waiting q = e
 
 -- A SESSION'S NEXT LINE
 module _ (script : Script) (c : Coord) (kept : Kept c) (e : AreSound c) (s : SessionId) where
@@ -287,22 +313,26 @@ module _ (script : Script) (c : Coord) (kept : Kept c) (e : AreSound c) (s : Ses
       more : (m n : ℕ) → m ≤ n → m + 1 ≤ n + 1
       more m n l = omega (arith, l)
 
-  line-sound : (line : Stmt) (asked : LineStep) → Asks (session_of c s).state.block asked → AreSound (on_line script (now asked) s line asked).coord
-  line-sound line (step.Answer plain) a = started (step.Answer plain)
-  line-sound line step.Refuse5 a = started step.Refuse5
-  line-sound line step.Refuse7 a = started step.Refuse7
-  line-sound line (step.BeginBlock level) a = begun-now (step.BeginBlock level) level
-  line-sound line step.CommitBlock a = commits-sound (now step.CommitBlock) kept.whole (started step.CommitBlock) (session_of (now step.CommitBlock) s).transaction.0
-  line-sound line step.RollbackBlock a =
+  -- no statement of the block waits
+  block-free : (asked : LineStep) → is_nothing_in (session_of c s).state.pending ≡ true → is_open_in (session_of c s).state.block ≡ true → (c.works (session_of (now asked) s).transaction.0).waiting ≡ None
+  block-free asked idle opened = subst (λ (x : Session). (c.works x.transaction.0).waiting ≡ None) (sym (session-now asked)) (idle-none c s kept opened idle).1
+
+  line-sound : is_nothing_in (session_of c s).state.pending ≡ true → (line : Stmt) (asked : LineStep) → Asks (session_of c s).state.block asked → AreSound (on_line script (now asked) s line asked).coord
+  line-sound idle line (step.Answer plain) a = started (step.Answer plain)
+  line-sound idle line step.Refuse5 a = started step.Refuse5
+  line-sound idle line step.Refuse7 a = started step.Refuse7
+  line-sound idle line (step.BeginBlock level) a = begun-now (step.BeginBlock level) level
+  line-sound idle line step.CommitBlock a = commits-sound (now step.CommitBlock) kept.whole (started step.CommitBlock) (session_of (now step.CommitBlock) s).transaction.0
+  line-sound idle line step.RollbackBlock a =
       let d : Coord = now step.RollbackBlock in
       let g : Gxid = (session_of d s).transaction in
       rolled-sound d kept.whole (started step.RollbackBlock) g.0 (Rattle.gx_rules.specs.AtCoordinator.answer_mark d s Rattle.gx_store.specs.declared.answer.StmtAnswer.TheVariants.Rollback ∷ []) (abort_found g (find_txn d.table g))
-  line-sound line (step.Command true) a = dispatch-sound (begins (now (step.Command true)) s ReadCommitted) c.table.next.0 (begun-whole c.table kept.whole) (begun-now (step.Command true) ReadCommitted) script line (alone-room (step.Command true))
-  line-sound line (step.Command false) a = dispatch-sound (now (step.Command false)) (session_of (now (step.Command false)) s).transaction.0 kept.whole (started (step.Command false)) script line (block-room (step.Command false) a)
+  line-sound idle line (step.Command true) a = dispatch-sound (begins (now (step.Command true)) s ReadCommitted) c.table.next.0 (begun-whole c.table kept.whole) (begun-now (step.Command true) ReadCommitted) script line (alone-room (step.Command true)) (ap (λ (v : Work). v.waiting) (with_at-same c.works c.table.next.0 (new_work s ReadCommitted)))
+  line-sound idle line (step.Command false) a = dispatch-sound (now (step.Command false)) (session_of (now (step.Command false)) s).transaction.0 kept.whole (started (step.Command false)) script line (block-room (step.Command false) a) (block-free (step.Command false) idle a)
 
-  pub start-sound : (line : Option Stmt) → AreSound (starts script c s line).coord
-  start-sound None = e
-  start-sound (Some line) = line-sound line (line_step (session_of c s).state.block line) (asks (session_of c s).state.block line)
+  pub start-sound : is_nothing_in (session_of c s).state.pending ≡ true → (line : Option Stmt) → AreSound (starts script c s line).coord
+  start-sound idle None = e
+  start-sound idle (Some line) = line-sound idle line (line_step (session_of c s).state.block line) (asks (session_of c s).state.block line)
 
   pub end-sound : (b : Block) → AreSound (ends_in c s b).coord
   end-sound (block.Open level) =

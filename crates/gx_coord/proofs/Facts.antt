@@ -47,7 +47,7 @@ pub live-active : (c : Coord) (g : ℕ) → stage_of c g ≡ Live → IsActive c
 live-active c g e = found-active (find_txn c.table (gx g)) e
 
 -- a session that waits
-working-busy : (p : Pending) → is_working_in p ≡ true → p ≡ pending.Nothing → ⊥
+pub working-busy : (p : Pending) → is_working_in p ≡ true → p ≡ pending.Nothing → ⊥
 working-busy p e n = grind arith
 
 closing-busy : (b : Block) (p : Pending) → is_closing_in b p ≡ true → p ≡ pending.Nothing → ⊥

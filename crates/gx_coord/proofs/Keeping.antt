@@ -156,10 +156,10 @@ module _ (c : Coord) (whole : IsWhole c.table) (e : AreSound c) (g : ℕ) where
   -- ANSWERS IN A BLOCK
   pub live-sound : (w : Work) (lines : ℕ) (x : Option Gxid) (t : Option Txn) → IsSoundWork w lines t → IsSoundWork w lines (option_map (set_live x) t)
   live-sound w lines x None h = h
-  live-sound w lines x (Some t) h = record { writers = h.writers; among = h.among; command = h.command; last = h.last }
+  live-sound w lines x (Some t) h = record { writers = h.writers; among = h.among; command = h.command; last = h.last; room = h.room }
 
   without-sound : (w : Work) (lines : ℕ) (t : Option Txn) → IsSoundWork w lines t → IsSoundWork (record w { command = None }) lines t
-  without-sound w lines t h = record { writers = h.writers; among = h.among; command = tt; last = h.last }
+  without-sound w lines t h = record { writers = h.writers; among = h.among; command = tt; last = h.last; room = h.room }
 
   answered-sound : (u : Table) (now : Option Txn) (x : SessionState) → At c.table u g now → IsSoundWork (c.works g) (c.sessions (c.works g).session.0).lines now → AreSound (record (with_state (with_work c (gx g) (record (c.works g) { command = None })) (c.works g).session x) { table = u })
   answered-sound u now x a h =

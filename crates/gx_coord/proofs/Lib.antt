@@ -26,6 +26,7 @@ pub mod Requested
 pub mod Few
 pub mod Gone
 pub mod MayAsk
+pub mod Resumed
 pub mod Started
 pub mod Unfinished
 pub mod Sent

@@ -1,7 +1,8 @@
 -- What a line asks for may be done.
-use Rattle.std.proofs.Common.{◌≡◌, ◌≤◌, ◌<◌, ◌+◌, ◌^◌, ◌∙◌, ℕ, Some, Bool, true, false, sym, subst, ap, arith, eqb, if◌then◌else◌}
+use Rattle.std.proofs.Common.{◌≡◌, ◌≤◌, ◌<◌, ◌+◌, ◌^◌, ◌∙◌, ℕ, List, [], ◌∷◌, Option, Some, None, Bool, true, false, refl, sym, subst, ap, arith, eqb, if◌then◌else◌, cond, ◌||◌}
 use Rattle.std.proofs.lemmas.Bool.Decides.{nat_tests}
 use Rattle.std.specs.List.{list_any}
+use Rattle.std.specs.Prelude.{find}
 use Rattle.gx_ids.specs.declared.ids.SessionId.{SessionId}
 use Rattle.gx_locks.specs.Claims.{is_of}
 use Rattle.gx_tree.specs.declared.stmt.Level.TheVariants.{ReadCommitted}
@@ -19,7 +20,8 @@ use Rattle.gx_script.specs.declared.state.Pending.TheVariants as pending
 use Rattle.gx_rules.specs.AtCoordinator.{begins, starts_line}
 use Rattle.gx_rules.specs.Coordinators.{Coord, Session, Work, new_work, session_of}
 use Rattle.gx_rules.specs.Snapshots.{latest_number}
-use Rattle.gx_law_order.proofs.Lines.{Asks, asks, begun-whole}
+use Rattle.gx_law_order.proofs.Lines.{Asks, asks, begun-whole, idle-none, unqueued}
+use Rattle.gx_law_order.proofs.Queued.{IsQueued, nothing-queued}
 use Rattle.gx_law_order.proofs.Sessions.{is_nothing_in, is_open_in, stage_of}
 use Rattle.gx_law_order.proofs.Stages.{append-at, gx}
 use Rattle.gx_law_order.proofs.Statuses.{stage}
@@ -48,6 +50,14 @@ command-asked Failed (stmt.Begin level) alone e = absurd (cc)
 command-asked Failed stmt.Commit alone e = absurd (cc)
 command-asked Failed stmt.Rollback alone e = absurd (cc)
 
+find-none : {A : Type 0} (p : A → Bool) (xs : List A) → find p xs ≡ None → list_any p xs ≡ false
+find-none p [] e = refl
+find-none p (x ∷ xs) e = by_test (p x) (find-none p xs) e
+  where
+    by_test : (b : Bool) → (find p xs ≡ None → list_any p xs ≡ false) → cond b (Some x) (find p xs) ≡ None → (b || list_any p xs) ≡ false
+    by_test true more q = absurd (cc)
+    by_test false more q = more q
+
 module _ (script : Script) (c : Coord) (h : IsSound script c) (s : SessionId) (idle : IsIdle (session_of c s).state) (few : (session_of c s).lines + 1 < 2 ^ 32) where
   abbrev now : LineStep → Coord
   now asked = starts_line c s asked
@@ -60,6 +70,10 @@ module _ (script : Script) (c : Coord) (h : IsSound script c) (s : SessionId) (i
 
   waits : (asked : LineStep) → (pending_after asked ≡ pending.Nothing → ⊥) → IsIdle (session_of (now asked) s).state → ⊥
   waits asked n i = n (subst (λ (x : Session). IsIdle x.state) (session_now asked) i)
+
+  -- whose statement doesn't wait has no wait
+  waits-none : (j : ℕ) {o : Option Stmt} → o ≡ None → IsQueued j o c.locks.waits → list_any (is_of (gx j)) c.locks.waits ≡ false
+  waits-none j e q = find-none (is_of (gx j)) c.locks.waits (nothing-queued j _ c.locks q e)
 
   -- IN A BLOCK
   module _ (opened : is_open_in (session_of c s).state.block ≡ true) where
@@ -85,7 +99,7 @@ module _ (script : Script) (c : Coord) (h : IsSound script c) (s : SessionId) (i
     ready = record { active = active; writers = sound-writers c g _ (c.works g) (h.works g) live; busy = busy step.CommitBlock (λ e. cc); fits = sound-fit (c.works g) _ _ (h.works g) }
 
     sends : (line : Stmt) → IsCommand line → MaySend (now (step.Command false)) (session_of c s).transaction line
-    sends line k = record { command = k; room = room; active = active; drawn = record { whole = h.kept.whole; late = h.past.drawn }; busy = busy (step.Command false) (λ e. cc); waits_not = ap (list_any (is_of (session_of c s).transaction)) h.inside.locks.nobody }
+    sends line k = record { command = k; room = room; active = active; drawn = record { whole = h.kept.whole; late = h.past.drawn }; busy = busy (step.Command false) (λ e. cc); waits_not = waits-none g (idle-none c s h.kept opened (ap is_nothing_in idle)).1 (h.kept.queued g) }
 
   -- BY ITSELF
   abbrev d : Coord
@@ -114,7 +128,7 @@ module _ (script : Script) (c : Coord) (h : IsSound script c) (s : SessionId) (i
         active = live-active d c.table.next.0 begun-live;
         drawn = record { whole = begun-whole c.table h.kept.whole; late = more (latest_number c.table.latest_ended) c.table.next.0 h.past.drawn };
         busy = busy-begun;
-        waits_not = ap (list_any (is_of c.table.next)) h.inside.locks.nobody;
+        waits_not = waits-none c.table.next.0 refl (unqueued c h.kept);
       }
     where
       more : (m n : ℕ) → m < n → m < n + 1

@@ -1,22 +1,21 @@
 -- A request for a table's lock, and what follows it.
-use Rattle.std.proofs.Common.{◌≡◌, ◌++◌, ◌∙◌, ℕ, List, [], ◌∷◌, Result, Ok, Err, OnOk, IfOk, Option, Some, None, Bool, true, false, ap, append-nil, refl, subst, sym}
+use Rattle.std.proofs.Common.{◌≡◌, ◌++◌, ◌∙◌, ℕ, List, [], ◌∷◌, Result, Ok, Err, OnOk, IfOk, Option, Some, None, Bool, true, false, ap, subst, sym}
 use Rattle.gx_ids.specs.declared.ids.Gxid.{Gxid}
-use Rattle.gx_locks.specs.Locks.{is_free, wait_of}
+use Rattle.gx_locks.specs.Locks.{is_free}
 use Rattle.gx_waits.specs.declared.claim.Claim.{Claim}
 use Rattle.gx_tree.specs.declared.stmt.Stmt.{Stmt}
 use Rattle.gx_msg.specs.declared.message.Out.{Out}
 use Rattle.gx_script.specs.declared.Script.{Script}
 use Rattle.gx_store.specs.declared.mark.Mark.{Mark}
-use Rattle.gx_rules.specs.AtCoordinator.{dispatches, goes_on_locked, if_granted, lock_for, requests, resumes}
+use Rattle.gx_rules.specs.AtCoordinator.{dispatches, goes_on_locked, if_granted, lock_for, requests}
 use Rattle.gx_rules.specs.Coordinators as rule
-use Rattle.gx_law_order.proofs.Calm.{AreCalm, nobody-waits}
 use Rattle.gx_coord.specs.Books.{IsFramed, coord_of, stmt_at}
 use Rattle.gx_store.specs.Refusals.{the_coordinator}
 use Rattle.gx_node.specs.Locking.{asked_mark}
 use Rattle.gx_coord.specs.Locking.{asked}
 use Rattle.gx_coord.specs.Turns.{IsTurn}
 use Rattle.gx_coord.specs.declared.coord.Coord.{Coord}
-use Rattle.gx_coord.proofs.Turned.{behind-turn, framed-refl, framed-trans, turn-from}
+use Rattle.gx_coord.proofs.Turned.{behind-turn, framed-trans}
 
 -- it is granted
 pub granted-turn : {A B : Type 0} (r : Result A B) (old mid new : Coord) (before middle after : List Mark) (g : Gxid) (s p : Script) (place : ℕ) (wanted : Claim) (granted : Bool) → IsFramed old mid → p ≡ s → granted ≡ true → granted ≡ is_free old.locks.holds wanted → coord_of mid ≡ asked (coord_of old) wanted granted → middle ≡ before ++ asked_mark the_coordinator wanted granted ∷ [] → OnOk r (IsTurn mid new middle after (goes_on_locked p (coord_of mid) g (stmt_at p.lines place))) → OnOk r (IsTurn old new before after (requests s (coord_of old) g (stmt_at s.lines place) (Some wanted)))
@@ -50,13 +49,6 @@ waits-turn old mid new before middle g s p place wanted granted f same no_ free 
 
 pub waits-outs : (old : Coord) (g : Gxid) (s : Script) (line : Stmt) (wanted : Claim) (granted : Bool) → granted ≡ false → granted ≡ is_free old.locks.holds wanted → [] ≡ (requests s (coord_of old) g line (Some wanted)).outs
 waits-outs old g s line wanted granted no_ free = ap (λ b. (if_granted s (coord_of old) g line wanted b).outs) (sym no_ ∙ free)
-
--- nobody resumes
-pub resumes-none : (script : Script) (c : rule.Coord) (g : Gxid) → AreCalm c.locks → rule.rests c ≡ resumes script c g (wait_of c.locks g) (c.works g.0).waiting
-resumes-none script c g h = ap (λ o. resumes script c g o (c.works g.0).waiting) (sym (nobody-waits c.locks g h))
-
-pub resumes-turn : (k : Coord) (script : Script) (g : Gxid) (ms : List Mark) → AreCalm k.locks → IsTurn k k ms ms (resumes script (coord_of k) g (wait_of k.locks g) ((coord_of k).works g.0).waiting)
-resumes-turn k script g ms h = turn-from k k k ms ms (rule.rests (coord_of k)) _ (framed-refl k) (resumes-none script (coord_of k) g h) (record { framed = framed-refl k; coord = refl; marks = sym (append-nil ms) })
 
 -- by what it asks for
 pub dispatched-by : (s : Script) (c : rule.Coord) (g : Gxid) (line : Stmt) (o : Option Claim) → o ≡ lock_for g line → requests s c g line o ≡ dispatches s c g line

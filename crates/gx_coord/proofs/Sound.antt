@@ -23,7 +23,7 @@ pub record Changes (c d : Coord) (g : ℕ) : Type 0 where
   pub here : IsSoundWork (d.works g) (d.sessions (d.works g).session.0).lines (find_txn d.table (gx g))
 
 pub more-lines : (w : Work) (m n : ℕ) (t : Option Txn) → m ≤ n → IsSoundWork w m t → IsSoundWork w n t
-more-lines w m n t l e = record { writers = e.writers; among = e.among; command = e.command; last = le_trans e.last l }
+more-lines w m n t l e = record { writers = e.writers; among = e.among; command = e.command; last = le_trans e.last l; room = λ line q. le_trans (e.room line q) l }
 
 pub sound-after : (c d : Coord) (g : ℕ) → AreSound c → Changes c d g → AreSound d
 sound-after c d g e h j = by_test (eqb j g) refl
@@ -43,11 +43,11 @@ none-rising = tt
 
 -- nothing is known of a transaction, or nothing yet
 pub none-sound : (s : SessionId) (level : Level) (lines : ℕ) (t : Option Txn) → IsSoundWork (new_work s level) lines t
-none-sound s level lines t = record { writers = none-rising; among = λ l i q. absurd (cc); command = tt; last = omega arith }
+none-sound s level lines t = record { writers = none-rising; among = λ l i q. absurd (cc); command = tt; last = omega arith; room = λ line q. absurd (cc) }
 
 -- the transaction's commands run no more, or it is as before
 pub moved-sound : (w : Work) (lines : ℕ) (t now : Option Txn) → (stage now ≡ Live → now ≡ t) → IsSoundWork w lines t → IsSoundWork w lines now
-moved-sound w lines t now f e = record { writers = e.writers; among = λ l i q. subst (λ o. has i (participants_in o) ≡ true) (sym (f l)) (e.among (live l) i q); command = under w.command e.command; last = e.last }
+moved-sound w lines t now f e = record { writers = e.writers; among = λ l i q. subst (λ o. has i (participants_in o) ≡ true) (sym (f l)) (e.among (live l) i q); command = under w.command e.command; last = e.last; room = e.room }
   where
     live : stage now ≡ Live → stage t ≡ Live
     live l = sym (ap stage (f l)) ∙ l

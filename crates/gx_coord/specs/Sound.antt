@@ -1,7 +1,8 @@
 -- What the rule's data keeps, whatever an envelope holds.
-use Rattle.std.specs.Prelude.{◌≡◌, ℕ, ◌*◌, ◌^◌, ◌<◌, ◌≤◌, true, List, length, Some, None}
+use Rattle.std.specs.Prelude.{◌≡◌, ℕ, ◌+◌, ◌*◌, ◌^◌, ◌<◌, ◌≤◌, true, List, length, Some, None}
 use Rattle.std.specs.declared.option.Option.{Option}
 use Rattle.gx_ids.specs.declared.ids.Node.{Node}
+use Rattle.gx_tree.specs.declared.stmt.Stmt.{Stmt}
 use Rattle.gx_dtx.specs.Nodes.{AreRising, has}
 use Rattle.gx_dtx.specs.Table.{Table, find_txn, participants_in}
 use Rattle.gx_dtx.specs.declared.txn.Txn.{Txn}
@@ -34,12 +35,14 @@ abbrev pub AreSoundIn : Option Command → List Node → Stage → Type 0
 AreSoundIn None participants now = Unit {0}
 AreSoundIn (Some k) participants now = IsSoundCommand k participants now
 
--- the writers rise and are participants, and the session's lines are no fewer than the commands
+-- The writers rise and are participants; the session's lines are no fewer than the commands, and no fewer with a statement that
+-- waits, which gets its number when it goes out.
 pub record IsSoundWork (w : Work) (lines : ℕ) (t : Option Txn) : Type 0 where
   pub writers : AreRising w.writers
   pub among : stage t ≡ Live → (i : Node) → has i w.writers ≡ true → has i (participants_in t) ≡ true
   pub command : AreSoundIn w.command (participants_in t) (stage t)
   pub last : w.last ≤ lines
+  pub room : (line : Stmt) → w.waiting ≡ Some line → w.last + 1 ≤ lines
 
 abbrev pub AreSound : Coord → Type 0
 AreSound c = (g : ℕ) → IsSoundWork (c.works g) (c.sessions (c.works g).session.0).lines (find_txn c.table (gx g))

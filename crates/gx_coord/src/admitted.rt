@@ -1,7 +1,6 @@
 // What is admitted.
 ghost use Rattle.std.specs.Prelude.{◌≡◌, IfOk, is_some, length};
 ghost use Rattle.gx_store.specs.Language.{IsScript};
-ghost use Rattle.gx_law_order.proofs.Calm.{AreCalm};
 ghost use Rattle.gx_rules.specs.AtCoordinator as turns;
 ghost use Rattle.gx_coord.specs.Books.{coord_of};
 ghost use Rattle.gx_coord.specs.Places.{AreIndexed};
@@ -9,6 +8,7 @@ ghost use Rattle.gx_coord.specs.Places.{AreIndexed};
 use crate::again::awaited;
 use crate::books::find_session;
 use crate::coord::Coord;
+use crate::locking::can_take;
 use crate::starting::next_place;
 use crate::work::Session;
 use gx_ids::{Gxid, Mem, Node, SessionId};
@@ -74,21 +74,10 @@ fn can_resend(alloc: Global, coord: &Coord, node: Node, gxid: Gxid) -> Mem<bool>
     Ok(message.is_some())
 }
 
-// Nobody waits, so nobody resumes.
-fn can_resume(coord: &Coord, gxid: Gxid) -> bool
-    requires calm { AreCalm coord.now.locks }
-    ensures { result ≡ turns.coord_can coord.now.script.value (coord_of coord.now) (NodeEvent.Resume gxid) }
-{
-    let _coord = coord;
-    let _gxid = gxid;
-    false
-}
-
 // Whether the event may happen.
 pub(crate) fn can(alloc: Global, coord: &Coord, event: &NodeEvent) -> Mem<bool>
     requires language { IsScript coord.now.script.value }
     requires places { AreIndexed coord.now.script.value.lines (length coord.now.script.value.sessions) coord.now.places.items }
-    requires calm { AreCalm coord.now.locks }
     ensures { IfOk result (λ can. can ≡ turns.coord_can coord.now.script.value (coord_of coord.now) event.now) }
 {
     match event {
@@ -99,7 +88,7 @@ pub(crate) fn can(alloc: Global, coord: &Coord, event: &NodeEvent) -> Mem<bool>
             Some(gxid) => can_resend(alloc, coord, *node, *gxid),
             None => Ok(false),
         },
-        NodeEvent::Resume(gxid) => Ok(can_resume(coord, *gxid)),
+        NodeEvent::Resume(gxid) => can_take(coord, *gxid),
         NodeEvent::Round => Ok(false),
     }
 }

@@ -1,5 +1,5 @@
 // A command goes out.
-ghost use Rattle.std.specs.Prelude.{◌≡◌, ◌<◌, ◌+◌, ◌^◌, [], Err, IfOk, IfSome, None, OnOk, Ok, Some, false, length, slice_get};
+ghost use Rattle.std.specs.Prelude.{◌≡◌, ◌<◌, ◌+◌, ◌^◌, [], Err, IfOk, IfSome, None, OnOk, Ok, Some, false, length, option_map, slice_get};
 ghost use Rattle.std.specs.List.{list_any};
 ghost use Rattle.gx_dtx.specs.Table.{IsActive};
 ghost use Rattle.gx_eval.specs.Faults.{eval_fault};
@@ -275,7 +275,7 @@ fn read_and_go(
 
 // With its table's lock a command of a transaction goes out to its segments, or its first fault refuses it. The line stands
 // at this place of the script.
-fn go_locked(
+pub(crate) fn go_locked(
     alloc: Global,
     coord: &mut Coord,
     gxid: Gxid,
@@ -302,14 +302,19 @@ fn go_locked(
     )
 }
 
-// Its statement waits.
-fn set_waiting(alloc: Global, coord: &mut Coord, gxid: Gxid, place: usize) -> Mem<()>
+// The statement of the line at this place waits, or none does.
+pub(crate) fn set_waiting(
+    alloc: Global,
+    coord: &mut Coord,
+    gxid: Gxid,
+    waiting: Option<usize>,
+) -> Mem<()>
     ensures framed { OnOk result (IsFramed coord.old coord.new) }
     ensures coord { OnOk result (coord_of coord.new ≡ with_work (coord_of coord.old) gxid
-        (record ((coord_of coord.old).works gxid.0) { waiting = Some (stmt_at coord.old.script.value.lines place) })) }
+        (record ((coord_of coord.old).works gxid.0) { waiting = option_map (stmt_at coord.old.script.value.lines) waiting })) }
 {
     if let Some(work) = coord.works.get_mut(&gxid) {
-        work.waiting = Some(place);
+        work.waiting = waiting;
         return Ok(());
     }
     let work = Work {
@@ -319,7 +324,7 @@ fn set_waiting(alloc: Global, coord: &mut Coord, gxid: Gxid, place: usize) -> Me
         snapshot: None,
         writers: Seq::new(alloc),
         command: None,
-        waiting: Some(place),
+        waiting,
     };
     set_work(coord, gxid, work)
 }
@@ -350,7 +355,7 @@ fn go_with_lock(
     if granted {
         go_locked(alloc, coord, gxid, place, marks)
     } else {
-        set_waiting(alloc, coord, gxid, place)?;
+        set_waiting(alloc, coord, gxid, Some(place))?;
         Ok(Seq::new(alloc))
     }
 }

@@ -1,7 +1,6 @@
 // One event, before its messages are numbered.
 ghost use Rattle.std.specs.Prelude.{◌≡◌, ◌≤◌, ◌∷◌, ◌^◌, [], length, true, IfOk, OnOk};
 ghost use Rattle.gx_store.specs.Language.{IsScript};
-ghost use Rattle.gx_locks.specs.Locks.{wait_of};
 ghost use Rattle.gx_outside.specs.Shelves.{IsLater};
 ghost use Rattle.gx_node.specs.Orders.{Took};
 ghost use Rattle.gx_rules.specs.AtCoordinator as turns;
@@ -15,6 +14,7 @@ use crate::books::{find_session, set_state};
 use crate::coord::Coord;
 use crate::lines::roll_back;
 use crate::messages::{take_message, unfailing};
+use crate::resuming::resume;
 use crate::starting::start;
 use crate::statuses::Turned;
 use gx_ids::{Gxid, Mem, Node, Seq, SessionId};
@@ -41,22 +41,6 @@ pub(crate) fn resend(alloc: Global, coord: &Coord, node: Node, gxid: Gxid) -> Me
         Some(message) => one_out(alloc, node, message),
         None => Ok(Seq::new(alloc)),
     }
-}
-
-// Nobody waits yet, so nothing happens.
-fn resume(
-    alloc: Global,
-    script: &Script,
-    coord: &mut Coord,
-    gxid: Gxid,
-    marks: &mut Vec<Mark>,
-) -> Seq<Out>
-    requires sound { IsSound script.now (coord_of coord.old) }
-    ensures turn { IsTurn coord.old coord.new marks.old.items marks.new.items (turns.resumes script.now (coord_of coord.old) gxid
-        (wait_of coord.old.locks gxid) ((coord_of coord.old).works gxid.0).waiting) }
-    ensures outs { result ≡ (turns.resumes script.now (coord_of coord.old) gxid (wait_of coord.old.locks gxid) ((coord_of coord.old).works gxid.0).waiting).outs }
-{
-    Seq::new(alloc)
 }
 
 // A session ends: its open block aborts, and one that has failed is closed.
@@ -127,7 +111,7 @@ pub(crate) fn take_event<J: Journal>(
             None => Ok(unfailing(Seq::new(alloc))),
         },
         NodeEvent::Resume(gxid) => {
-            let outs = resume(alloc, script, coord, gxid, marks);
+            let outs = resume(alloc, script, coord, gxid, marks)?;
             Ok(unfailing(outs))
         }
         NodeEvent::Round => Ok(unfailing(Seq::new(alloc))),

@@ -21,6 +21,7 @@ mod orders;
 mod places;
 mod probe;
 mod replies;
+mod resuming;
 mod sending;
 mod snapshots;
 mod starting;

@@ -45,7 +45,7 @@ pub(crate) fn next_place(coord: &Coord, id: SessionId) -> Option<usize>
 }
 
 // It has 32 bits.
-fn small(number: u32) -> u32
+pub(crate) fn small(number: u32) -> u32
     ensures same { result ≡ number }
     ensures small { number < 2 ^ 32 }
 {
