@@ -3,6 +3,8 @@ use Rattle.std.proofs.Common.{◌≡◌, ◌≤◌, ◌<◌, ℕ, ◌+◌, ◌*�
 use Rattle.std.proofs.lemmas.Bool.Decides.{nat_tests}
 use Rattle.std.proofs.lemmas.List.Elements.{All-push}
 use Rattle.std.proofs.lemmas.List.{length_push}
+use Rattle.std.proofs.lemmas.Bool.{and_parts}
+use Rattle.gx_lemmas.proofs.Tests.{and-second, or-other}
 use Rattle.gx_ids.specs.declared.ids.Cid.{Cid}
 use Rattle.gx_ids.specs.declared.ids.Node.{Node}
 use Rattle.gx_tree.specs.declared.part.Part.{Part}
@@ -26,10 +28,6 @@ use Rattle.gx_coord.proofs.Keeping.{completes-sound, refused-sound, replies-soun
 use Rattle.gx_coord.proofs.Rising.{rising-with}
 use Rattle.gx_coord.proofs.Sound.{sound-after, with_at-other, with_at-same}
 
-both_of : (a b : Bool) → (a && b) ≡ true → (a ≡ true) × (b ≡ true)
-both_of true b e = (refl, e)
-both_of false b e = grind arith
-
 -- the writer is a participant, since its answer was awaited
 with-among : (b : Bool) (i : Node) (writers all : List Node) → ((j : Node) → has j writers ≡ true → has j all ≡ true) → has i all ≡ true → (j : Node) → has j (writers_with b i writers) ≡ true → has j all ≡ true
 with-among false i writers all f h j e = f j e
@@ -38,12 +36,9 @@ with-among true i writers all f h j e = by_test (eqb i.0 j.0) refl
     same : (i j : Node) → eqb i.0 j.0 ≡ true → i ≡ j
     same i j q = grind (arith, nat_tests)
 
-    left : (a b : Bool) → a ≡ false → (a || b) ≡ true → b ≡ true
-    left a b n q = grind arith
-
     by_test : (q : Bool) → eqb i.0 j.0 ≡ q → has j all ≡ true
     by_test true q = subst (λ n. has n all ≡ true) (same i j q) h
-    by_test false q = f j (left (eqb i.0 j.0) (has j writers) q (sym (has-with j i writers) ∙ e))
+    by_test false q = f j (or-other (eqb i.0 j.0) (has j writers) q (sym (has-with j i writers) ∙ e))
 
 with-rising : (b : Bool) (i : Node) (writers : List Node) → AreRising writers → AreRising (writers_with b i writers)
 with-rising false i writers r = r
@@ -57,11 +52,11 @@ pub done-sound : (w : Work) (lines : ℕ) (t : Option Txn) (k : Command) (i : No
 done-sound w lines t k i cid wrote count part h e a f s =
     record {
       writers = with-rising wrote i w.writers h.writers;
-      among = λ l j q. with-among wrote i w.writers (participants_in t) (h.among l) (under.awaited l i (both_of _ _ a).1) j q;
+      among = λ l j q. with-among wrote i w.writers (participants_in t) (h.among l) (under.awaited l i (and_parts _ _ a).1) j q;
       command = record {
         fits = All-push (λ p. fits_part k.stmt p ≡ true) k.parts part under.fits f;
         count = subst (λ n. k.count + count ≤ 2 ^ 64 * n) (sym (length_push k.parts part)) (counted k.count count (length k.parts) under.count s);
-        awaited = λ l j q. under.awaited l j (right (not (eqb i.0 j.0)) (has j k.awaited) (sym (has-without j i k.awaited) ∙ q));
+        awaited = λ l j q. under.awaited l j (and-second (not (eqb i.0 j.0)) (has j k.awaited) (sym (has-without j i k.awaited) ∙ q));
       };
       last = h.last;
       room = h.room;
@@ -69,9 +64,6 @@ done-sound w lines t k i cid wrote count part h e a f s =
   where
     under : IsSoundCommand k (participants_in t) (stage t)
     under = subst (λ o. AreSoundIn o (participants_in t) (stage t)) e h.command
-
-    right : (a b : Bool) → (a && b) ≡ true → b ≡ true
-    right a b e = grind arith
 
 module _ (c : Coord) (whole : IsWhole c.table) (e : AreSound c) (g : ℕ) where
   work-sound : (w : Work) → w.session ≡ (c.works g).session → IsSoundWork w (c.sessions (c.works g).session.0).lines (find_txn c.table (gx g)) → AreSound (with_work c (gx g) w)
@@ -85,7 +77,7 @@ module _ (c : Coord) (whole : IsWhole c.table) (e : AreSound c) (g : ℕ) where
             (subst (λ (i : Rattle.gx_ids.specs.declared.ids.SessionId.SessionId). IsSoundWork w (c.sessions i.0).lines (find_txn c.table (gx g))) (sym s) h);
       })
 
-  goes-sound : (left : List Node) → AreSound (goes_on c (gx g) left).coord
+  goes-sound : (or-other : List Node) → AreSound (goes_on c (gx g) or-other).coord
   goes-sound [] = completes-sound c whole e g _
   goes-sound (i ∷ is) = e
 
@@ -98,7 +90,7 @@ module _ (c : Coord) (whole : IsWhole c.table) (e : AreSound c) (g : ℕ) where
       w = record (c.works g) { writers = writers_with wrote i (c.works g).writers; command = Some (with_done k i count part) }
 
       at : (b : Bool) → (is_awaited k i cid && fits_part k.stmt part) ≡ b → AreSound (if b then takes_done c (gx g) i wrote count part k else rests c).coord
-      at true f = goes-sound (with_work c (gx g) w) whole (work-sound c whole e g w refl (done-sound (c.works g) _ _ k i cid wrote count part (e g) q (both_of _ _ f).0 (both_of _ _ f).1 s)) g _
+      at true f = goes-sound (with_work c (gx g) w) whole (work-sound c whole e g w refl (done-sound (c.works g) _ _ k i cid wrote count part (e g) q (and_parts _ _ f).0 (and_parts _ _ f).1 s)) g _
       at false f = e
 
   failed_sound : (i : Node) (cid : Cid) (cause : Cause) (k : Option Command) → AreSound (on_failed c (gx g) i cid cause k).coord

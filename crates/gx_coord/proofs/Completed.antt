@@ -1,5 +1,6 @@
 -- A command that is complete.
 use Rattle.std.proofs.Common.{◌≡◌, ◌∙◌, ◌<◌, ◌^◌, ℕ, is_some, List, Option, Some, None, Bool, true, false, refl, sym, ap, subst, ◌&&◌, if◌then◌else◌, arith}
+use Rattle.std.proofs.lemmas.Bool.{and_parts}
 use Rattle.gx_ids.specs.declared.ids.Cid.{Cid}
 use Rattle.gx_ids.specs.declared.ids.Gxid.{Gxid}
 use Rattle.gx_ids.specs.declared.ids.Node.{Node}
@@ -26,13 +27,9 @@ answers-from c m1 m2 n t g id x e1 e2 ei ex en =
     ∙ ap (λ y. with_state d id y) ex
     ∙ ap (λ (i : SessionId). with_state d i (after_done (c.sessions i.0).state)) ei
 
-both_of : (a b : Bool) → (a && b) ≡ true → (a ≡ true) × (b ≡ true)
-both_of true b e = (refl, e)
-both_of false b e = grind arith
-
 takes-asks : (k : Option Command) (i : Node) (cid : Cid) (part : Part) → takes k i cid part ≡ true → asks k i cid ≡ true
 takes-asks None i cid part e = e
-takes-asks (Some k) i cid part e = (both_of _ _ e).0
+takes-asks (Some k) i cid part e = (and_parts _ _ e).0
 
 counted-of : (k : Option Command) (ps : List Node) (now : Stage) → AreSoundIn k ps now → AreCounted k
 counted-of None ps now h = tt
@@ -52,7 +49,7 @@ sound-done : (w : Work) (lines : ℕ) (t : Option Rattle.gx_dtx.specs.declared.t
 sound-done w lines t None i cid wrote count part h q e s = absurd (cc)
 sound-done w lines t (Some k) i cid wrote count part h q e s =
     subst (λ (o : Option Command). IsSoundWork (record (done_work w i wrote count part) { command = Rattle.std.specs.Prelude.option_map (λ (x : Command). with_done x i count part) o }) lines t) (sym q)
-    (done-sound w lines t k i cid wrote count part h q (both_of _ _ e).0 (both_of _ _ e).1 s)
+    (done-sound w lines t k i cid wrote count part h q (and_parts _ _ e).0 (and_parts _ _ e).1 s)
 
 -- its transaction is ready
 pub ready-done : (script : Script) (c m : Coord) (g : Gxid) (i : Node) (cid : Cid) (wrote : Bool) (count : ℕ) (part : Part) → IsSound script c → takes (c.works g.0).command i cid part ≡ true → count < 2 ^ 64 → m ≡ with_work c g (done_work (c.works g.0) i wrote count part) → IsReady m g

@@ -3,6 +3,8 @@ use Rattle.std.proofs.Common.{◌≡◌, ◌≤◌, ℕ, ◌+◌, ◌*◌, ◌^�
 use Rattle.std.proofs.lemmas.Bool.Decides.{nat_tests}
 use Rattle.std.proofs.lemmas.List.Elements.{All-nil}
 use Rattle.std.specs.Prelude.{option_map}
+use Rattle.std.proofs.lemmas.Bool.{or_right}
+use Rattle.gx_lemmas.proofs.Numbers.{eqb-self}
 use Rattle.gx_ids.specs.declared.ids.Cid.{Cid}
 use Rattle.gx_ids.specs.declared.ids.Gxid.{Gxid}
 use Rattle.gx_ids.specs.declared.ids.Node.{Node}
@@ -119,11 +121,8 @@ with_nodes nodes ps = fold (λ qs i. with_node i qs) ps nodes
 abbrev enlisted_in : List Node → Txn → Txn
 enlisted_in nodes t = record t { participants = with_nodes nodes t.participants }
 
-same-test : (n : ℕ) → eqb n n ≡ true
-same-test n = grind (arith, nat_tests)
-
 pub one-found : (d : Table) (g : ℕ) (i : Node) → find_txn (enlisted d (gx g) i) (gx g) ≡ option_map (with_part i) (find_txn d (gx g))
-one-found d g i = find-with (gx g) (gx g) (with_part i) d.txns ∙ ap (λ b. cond b (option_map (with_part i) (find_txn d (gx g))) (find_txn d (gx g))) (same-test g)
+one-found d g i = find-with (gx g) (gx g) (with_part i) d.txns ∙ ap (λ b. cond b (option_map (with_part i) (find_txn d (gx g))) (find_txn d (gx g))) (eqb-self g)
 
 in-turn : (i : Node) (is : List Node) (t : Option Txn) → option_map (enlisted_in is) (option_map (with_part i) t) ≡ option_map (enlisted_in (i ∷ is)) t
 in-turn i is None = refl
@@ -145,10 +144,7 @@ others-found [] d g j e = refl
 others-found (i ∷ is) d g j e = others-found is (enlisted d (gx g) i) g j e ∙ other-test d g j i e
 
 stays-with : (i j : Node) (ps : List Node) → has j ps ≡ true → has j (with_node i ps) ≡ true
-stays-with i j ps e = has-with j i ps ∙ right (eqb i.0 j.0) (has j ps) e
-  where
-    right : (a b : Bool) → b ≡ true → (a || b) ≡ true
-    right a b q = grind arith
+stays-with i j ps e = has-with j i ps ∙ or_right (eqb i.0 j.0) (has j ps) e
 
 comes-with : (i j : Node) (ps : List Node) → eqb i.0 j.0 ≡ true → has j (with_node i ps) ≡ true
 comes-with i j ps e = has-with j i ps ∙ left (eqb i.0 j.0) (has j ps) e

@@ -3,6 +3,7 @@ use Rattle.std.proofs.Common.{◌≡◌, ℕ, List, [], ◌∷◌, Option, Some,
 use Rattle.std.proofs.lemmas.Bool.Decides.{nat_tests}
 use Rattle.std.proofs.lemmas.List.Elements.{All-nil, All-cons}
 use Rattle.std.specs.Prelude.{option_map}
+use Rattle.std.proofs.lemmas.Bool.{and_parts, or_right}
 use Rattle.gx_ids.specs.declared.ids.Cid.{Cid}
 use Rattle.gx_ids.specs.declared.ids.Node.{Node}
 use Rattle.gx_dtx.specs.Nodes.{has}
@@ -25,10 +26,6 @@ use Rattle.gx_law_order.proofs.Statuses.{Moves, Stage, reply-turns, stage, stage
 use Rattle.gx_law_order.proofs.Statuses.Stage.{Live, Closing}
 use Rattle.gx_coord.specs.Sound.{AreSoundIn, IsSoundWork}
 use Rattle.gx_coord.specs.Turns.{IsBusy, IsFit, answers_line, asks}
-
-both_of : (a b : Bool) → (a && b) ≡ true → (a ≡ true) × (b ≡ true)
-both_of true b e = (refl, e)
-both_of false b e = grind arith
 
 -- a transaction whose commands run
 phase-active : (p : Phase) → stage_in p ≡ Live → status_in p ≡ status.Active
@@ -61,7 +58,7 @@ module _ (c : Coord) (kept : Kept c) (g : ℕ) where
   -- an answer to its command is awaited
   asked : (i : Node) (cid : Cid) (k : Option Command) → (c.works g).command ≡ k → asks k i cid ≡ true → (stage_of c g ≡ Live) × (is_working_in (c.sessions (c.works g).session.0).state.pending ≡ true)
   asked i cid None q e = absurd (cc)
-  asked i cid (Some k) q e = (kept.tied g).awaits k q (some-awaited i k.awaited (both_of (eqb k.cid.0 cid.0) _ e).1)
+  asked i cid (Some k) q e = (kept.tied g).awaits k q (some-awaited i k.awaited (and_parts (eqb k.cid.0 cid.0) _ e).1)
 
   pub asked-live : (i : Node) (cid : Cid) → asks (c.works g).command i cid ≡ true → stage_of c g ≡ Live
   asked-live i cid e = (asked i cid _ refl e).0
@@ -88,13 +85,10 @@ module _ (c : Coord) (kept : Kept c) (g : ℕ) where
 -- writers that rise and are participants
 all-has : (ws all : List Node) → ((j : Node) → has j ws ≡ true → has j all ≡ true) → All (λ w. IsTrue (has w all)) ws
 all-has [] all f = All-nil (λ w. IsTrue (has w all))
-all-has (w ∷ ws) all f = All-cons (λ w. IsTrue (has w all)) w ws (f w (first w.0 (has w ws))) (all-has ws all (λ j e. f j (later (eqb w.0 j.0) (has j ws) e)))
+all-has (w ∷ ws) all f = All-cons (λ w. IsTrue (has w all)) w ws (f w (first w.0 (has w ws))) (all-has ws all (λ j e. f j (or_right (eqb w.0 j.0) (has j ws) e)))
   where
     first : (n : ℕ) (b : Bool) → (eqb n n || b) ≡ true
     first n b = grind (arith, nat_tests)
-
-    later : (a b : Bool) → b ≡ true → (a || b) ≡ true
-    later a b e = grind arith
 
 fit-of : (k : Option Command) (participants : List Node) (now : Stage) → AreSoundIn k participants now → IsFit k
 fit-of None p s h = tt

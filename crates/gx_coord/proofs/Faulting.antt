@@ -5,6 +5,7 @@ use Rattle.std.proofs.lemmas.Bool.Decides.{nat_tests}
 use Rattle.std.proofs.lemmas.List.{length-map}
 use Rattle.std.proofs.lemmas.List.Elements.{All-from_recursion, All-get_or, recursion_from_All}
 use Rattle.std.specs.List.{AllByRecursion}
+use Rattle.gx_lemmas.proofs.Lists.{place-below}
 use Rattle.gx_tree.specs.declared.expr.Expr.{Expr}
 use Rattle.gx_tree.specs.declared.schema.Column.{Column}
 use Rattle.gx_tree.specs.declared.schema.Dist.{Dist}
@@ -75,17 +76,9 @@ over-at tables (stmt.Lock t m) c h = h
 some-same : {X : Type 0} {a b : X} → Some a ≡ Some b → a ≡ b
 some-same e = cc
 
-inside-at : {X : Type 0} (xs : List X) (n : ℕ) (x : X) → slice_get xs n ≡ Some x → n < length xs
-inside-at [] n x e = absurd (none e)
-  where
-    none : None ≡ Some x → ⊥
-    none e = cc
-inside-at (y ∷ ys) zero x e = omega arith
-inside-at (y ∷ ys) (suc n) x e = omega (arith, inside-at ys n x e)
-
 -- its table is one of the script's
 pub none-beyond : (tables : List Schema) (line : Stmt) → IsCommand line → IsStmtOf tables line → false ≡ nat_lt (table_of line) (length tables) → ⊥
-none-beyond tables line c h e = let o = over-at tables line c h in clash (table_of line) (length tables) (inside-at tables (table_of line) o.0 o.1) e
+none-beyond tables line c h e = let o = over-at tables line c h in clash (table_of line) (length tables) (place-below tables (table_of line) o.0 o.1) e
   where
     clash : (n m : ℕ) → n < m → false ≡ nat_lt n m → ⊥
     clash n m l q = grind (arith, nat_tests)

@@ -2,6 +2,7 @@
 use Rattle.std.proofs.Common.{◌≡◌, ◌∙◌, ℕ, List, [], ◌++◌, Option, Some, None, Result, Ok, Err, OnOk, IfOk, true, refl, sym, ap, subst, cond, append-nil, append_assoc, eqb, arith}
 use Rattle.std.proofs.lemmas.Bool.Decides.{nat_tests}
 use Rattle.std.specs.Prelude.{option_map}
+use Rattle.gx_lemmas.proofs.Numbers.{eqb-self}
 use Rattle.gx_ids.specs.declared.ids.Cid.{Cid}
 use Rattle.gx_ids.specs.declared.ids.Gxid.{Gxid}
 use Rattle.gx_tree.specs.declared.stmt.Stmt.{Stmt}
@@ -33,15 +34,12 @@ pub record Holds (g : Gxid) (r : Reading) : Type 0 where
   pub active : IsActive r.coord.table g
   pub busy : IsBusy r.coord g.0
 
-same-test : (n : ℕ) → eqb n n ≡ true
-same-test n = grind (arith, nat_tests)
-
 same-status : (x : Option Gxid) (t : Option Txn) → option_map (λ (u : Txn). status_in u.phase) (option_map (λ (u : Txn). record u { live = x }) t) ≡ option_map (λ (u : Txn). status_in u.phase) t
 same-status x None = refl
 same-status x (Some t) = refl
 
 live-found : (d : Table) (g : Gxid) (x : Option Gxid) → find_txn (with_live d g x) g ≡ option_map (λ (u : Txn). record u { live = x }) (find_txn d g)
-live-found d g x = find-with g g (λ u. record u { live = x }) d.txns ∙ ap (λ b. cond b (option_map (λ (u : Txn). record u { live = x }) (find_txn d g)) (find_txn d g)) (same-test g.0)
+live-found d g x = find-with g g (λ u. record u { live = x }) d.txns ∙ ap (λ b. cond b (option_map (λ (u : Txn). record u { live = x }) (find_txn d g)) (find_txn d g)) (eqb-self g.0)
 
 active-live : (d : Table) (g : Gxid) (x : Option Gxid) → IsActive d g → IsActive (with_live d g x) g
 active-live d g x e = ap (option_map (λ (u : Txn). status_in u.phase)) (live-found d g x) ∙ same-status x (find_txn d g) ∙ e

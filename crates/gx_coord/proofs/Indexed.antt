@@ -2,10 +2,12 @@
 use Rattle.std.proofs.Common.{◌≡◌, ℕ, ◌+◌, ◌<◌, ◌≤◌, ◌==◌, zero, suc, Bool, cond, List, [], ◌∷◌, ◌++◌, length, take, slice_get, slice_set, get_or, refl, sym, ap, ◌∙◌, subst, arith, append-nil, ⊎_elim, All}
 use Rattle.std.proofs.lemmas.Bool.{cases_eq}
 use Rattle.std.specs.Prelude.{Some, replicate}
+use Rattle.gx_lemmas.proofs.Numbers.{eqb-self}
+use Rattle.gx_lemmas.proofs.Lists.{get-set, get-set-other, length-set}
 use Rattle.gx_script.specs.declared.Line.{Line}
 use Rattle.gx_coord.specs.Places.{AreIndexed, places_from}
-use Rattle.gx_coord.proofs.LinePlaces.{apart_from, places_from-push, same_number}
-use Rattle.gx_coord.proofs.Items.{set_here, set_other, some_same}
+use Rattle.gx_coord.proofs.LinePlaces.{apart_from, places_from-push}
+use Rattle.gx_coord.proofs.Items.{some_same}
 
 -- one item more of a list's front
 pub take-item : {X : Type 0} (xs : List X) (i : ℕ) (d : X) → i < length xs → d ≡ get_or xs i d → take i xs ++ d ∷ [] ≡ take (i + 1) xs
@@ -39,10 +41,6 @@ get_or-found (y ∷ ys) zero x d e = some_same e
 get_or-found (y ∷ ys) (suc i) x d e = get_or-found ys i x d e
 
 -- THE INDEX
-same_length : {X : Type 0} (xs : List X) (i : ℕ) (y : X) → length (slice_set xs i y) ≡ length xs
-same_length [] i y = refl
-same_length (x ∷ xs) zero y = refl
-same_length (x ∷ xs) (suc i) y = ap suc (same_length xs i y)
 
 pub indexed_none : (n : ℕ) → AreIndexed [] n (replicate n [])
 indexed_none n = record { all = many n; each = λ k ps e. empty n k ps e }
@@ -58,16 +56,16 @@ indexed_none n = record { all = many n; each = λ k ps e. empty n k ps e }
 
 pub indexed_more : (ls : List Line) (n : ℕ) (places places' : List (List ℕ)) (l : Line) (p : ℕ) → AreIndexed ls n places → p ≡ length ls → l.session.0 < n → places' ≡ slice_set places l.session.0 (get_or places l.session.0 [] ++ p ∷ []) → AreIndexed (ls ++ l ∷ []) n places'
 indexed_more ls n places places' l p is at inside set = subst (AreIndexed (ls ++ l ∷ []) n) (sym set) (record {
-  all = same_length places l.session.0 (get_or places l.session.0 [] ++ p ∷ []) ∙ is.all;
+  all = length-set places l.session.0 (get_or places l.session.0 [] ++ p ∷ []) ∙ is.all;
   each = λ k ps e. ⊎_elim
       (λ (here : k ≡ l.session.0).
       let found : slice_get (slice_set places l.session.0 (get_or places l.session.0 [] ++ p ∷ [])) l.session.0 ≡ Some ps = ap (slice_get (slice_set places l.session.0 (get_or places l.session.0 [] ++ p ∷ []))) (sym here) ∙ e in
       let old = old_at places l.session.0 (omega (arith, inside, is.all)) in
-      let now : ps ≡ get_or places l.session.0 [] ++ p ∷ [] = some_same (sym found ∙ set_here places l.session.0 old.0 (get_or places l.session.0 [] ++ p ∷ []) old.1) in
+      let now : ps ≡ get_or places l.session.0 [] ++ p ∷ [] = some_same (sym found ∙ get-set places l.session.0 old.0 (get_or places l.session.0 [] ++ p ∷ []) old.1) in
       let was : get_or places l.session.0 [] ≡ places_from k 0 ls = get_or-found places l.session.0 old.0 [] old.1 ∙ is.each k old.0 (ap (slice_get places) here ∙ old.1) in
-      now ∙ ap (λ x. x ++ p ∷ []) was ∙ ap (λ m. places_from k 0 ls ++ m ∷ []) (at ∙ plus (length ls)) ∙ sym (places_from-push k 0 ls l ∙ ap (λ (b : Bool). places_from k 0 ls ++ cond b ((0 + length ls) ∷ []) []) (ap (λ m. l.session.0 == m) here ∙ same_number l.session.0)))
+      now ∙ ap (λ x. x ++ p ∷ []) was ∙ ap (λ m. places_from k 0 ls ++ m ∷ []) (at ∙ plus (length ls)) ∙ sym (places_from-push k 0 ls l ∙ ap (λ (b : Bool). places_from k 0 ls ++ cond b ((0 + length ls) ∷ []) []) (ap (λ m. l.session.0 == m) here ∙ eqb-self l.session.0)))
       (λ (away : k ≡ l.session.0 → ⊥).
-      is.each k ps (sym (set_other places l.session.0 k (get_or places l.session.0 [] ++ p ∷ []) away) ∙ e)
+      is.each k ps (sym (get-set-other places l.session.0 k (get_or places l.session.0 [] ++ p ∷ []) away) ∙ e)
       ∙ sym (places_from-push k 0 ls l ∙ ap (λ (b : Bool). places_from k 0 ls ++ cond b ((0 + length ls) ∷ []) []) (apart_from l.session.0 k (λ f. away (sym f))) ∙ append-nil (places_from k 0 ls)))
       (cases_eq k l.session.0);
 })

@@ -2,6 +2,7 @@
 use Rattle.std.proofs.Common.{◌≡◌, ℕ, ◌+◌, ◌≤◌, ◌==◌, zero, suc, Bool, true, false, cond, ◌&&◌, List, [], ◌∷◌, ◌++◌, length, slice_get, refl, sym, ap, ◌∙◌, subst, arith}
 use Rattle.std.proofs.lemmas.Bool.Decides.{nat_tests}
 use Rattle.std.specs.Prelude.{None, Some}
+use Rattle.gx_lemmas.proofs.Numbers.{eqb-self, plus-none, same-of}
 use Rattle.gx_ids.specs.declared.ids.SessionId.{SessionId}
 use Rattle.gx_store.specs.Language.{AreLinesNumbered, lines_in}
 use Rattle.gx_script.specs.declared.Line.{Line}
@@ -10,12 +11,6 @@ use Rattle.gx_coord.specs.Places.{places_from}
 
 abbrev pub session_at : ℕ → SessionId
 session_at n = record { 0 = n }
-
-pub same_from : (m n : ℕ) → (m == n) ≡ true → m ≡ n
-same_from m n h = grind (arith, nat_tests)
-
-pub same_number : (n : ℕ) → (n == n) ≡ true
-same_number n = grind (arith, nat_tests)
 
 pub apart_from : (m n : ℕ) → (m ≡ n → ⊥) → (m == n) ≡ false
 apart_from m n h = grind (arith, nat_tests)
@@ -40,10 +35,7 @@ pub push_same : (session : ℕ) (before : List Line) (l : Line) → (l.session.0
 push_same session before l e = lines_in-push session before l ∙ ap (λ (b : Bool). lines_in session before + cond b 1 0) e
 
 pub push_other : (session : ℕ) (before : List Line) (l : Line) → (l.session.0 == session) ≡ false → lines_in session (before ++ l ∷ []) ≡ lines_in session before
-push_other session before l e = lines_in-push session before l ∙ ap (λ (b : Bool). lines_in session before + cond b 1 0) e ∙ plus_zero (lines_in session before)
-  where
-    plus_zero : (n : ℕ) → n + 0 ≡ n
-    plus_zero n = omega arith
+push_other session before l e = lines_in-push session before l ∙ ap (λ (b : Bool). lines_in session before + cond b 1 0) e ∙ plus-none (lines_in session before)
 
 -- a line that isn't the one that is looked for
 pub skipped : (s : SessionId) (n : ℕ) (l : Line) (ls : List Line) → ((l.session.0 == s.0) && (l.number == n)) ≡ false → stmt_of s n (l ∷ ls) ≡ stmt_of s n ls
@@ -110,9 +102,9 @@ module _ (session : ℕ) where
   placed before (l ∷ ls) o i p numbered e = first (l.session.0 == session) refl i e (λ j f. placed (before ++ l ∷ []) ls (o + 1) j p numbered.1 f)
     where
       first : (b : Bool) → (l.session.0 == session) ≡ b → (i : ℕ) → slice_get (cond b (o ∷ places_from session (o + 1) ls) (places_from session (o + 1) ls)) i ≡ Some p → ((j : ℕ) → slice_get (places_from session (o + 1) ls) j ≡ Some p → Placed ls (o + 1) (lines_in session (before ++ l ∷ [])) j p) → Placed (l ∷ ls) o (lines_in session before) i p
-      first true same zero e more = let of = same_from l.session.0 session same in here l ls o (lines_in session before) p of (numbered_at session before l numbered.0 of) e
+      first true same zero e more = let of = same-of l.session.0 session same in here l ls o (lines_in session before) p of (numbered_at session before l numbered.0 of) e
       first true same (suc j) e more =
-          later l ls o (lines_in session before) (lines_in session (before ++ l ∷ [])) (suc j) j p same (numbered_at session before l numbered.0 (same_from l.session.0 session same)) (push_same session before l same) (omega arith) (more j e)
+          later l ls o (lines_in session before) (lines_in session (before ++ l ∷ [])) (suc j) j p same (numbered_at session before l numbered.0 (same-of l.session.0 session same)) (push_same session before l same) (omega arith) (more j e)
       first false other i e more = aside l ls o (lines_in session before) (lines_in session (before ++ l ∷ [])) i p other (push_other session before l other) (more i e)
 
   abbrev HasPlace : List Line → ℕ → ℕ → ℕ → Line → Type 0
@@ -124,7 +116,7 @@ module _ (session : ℕ) where
   has_place before (x ∷ ls) o zero l numbered e of =
       let same : x ≡ l = cc in
       let its : x.session.0 ≡ session = ap (λ (k : Line). k.session.0) same ∙ of in
-      let is : (x.session.0 == session) ≡ true = ap (λ n. n == session) its ∙ same_number session in (
+      let is : (x.session.0 == session) ≡ true = ap (λ n. n == session) its ∙ eqb-self session in (
         0,
         ap (λ (b : Bool). slice_get (cond b (o ∷ places_from session (o + 1) ls) (places_from session (o + 1) ls)) 0) is ∙ ap Some (omega arith),
         ap (λ (k : Line). k.number) (sym same) ∙ numbered_at session before x numbered.0 its ∙ omega arith,
@@ -153,7 +145,7 @@ module _ (session : ℕ) where
       first : (b : Bool) → (l.session.0 == session) ≡ b → (i : ℕ) → length (cond b (o ∷ places_from session (o + 1) ls) (places_from session (o + 1) ls)) ≤ i → ((j : ℕ) → length (places_from session (o + 1) ls) ≤ j → stmt_of (session_at session) (lines_in session (before ++ l ∷ []) + j + 1) ls ≡ None) → stmt_of (session_at session) (lines_in session before + i + 1) (l ∷ ls) ≡ None
       first true same zero past more = absurd (omega (arith, past))
       first true same (suc j) past more =
-          let of = same_from l.session.0 session same in
+          let of = same-of l.session.0 session same in
           let number = numbered_at session before l numbered.0 of in
           let n : lines_in session (before ++ l ∷ []) + j + 1 ≡ lines_in session before + suc j + 1 = omega (arith, push_same session before l same) in
           let other : l.number ≡ lines_in session before + suc j + 1 → ⊥ = λ e. omega (arith, e, number) in

@@ -3,6 +3,7 @@ use Rattle.std.proofs.Common.{◌≡◌, ◌≤◌, ◌<◌, ◌+◌, ◌^◌, �
 use Rattle.std.proofs.lemmas.Bool.Decides.{nat_tests}
 use Rattle.std.specs.List.{list_any}
 use Rattle.std.specs.Prelude.{find}
+use Rattle.gx_lemmas.proofs.Numbers.{eqb-self}
 use Rattle.gx_ids.specs.declared.ids.SessionId.{SessionId}
 use Rattle.gx_locks.specs.Claims.{is_of}
 use Rattle.gx_tree.specs.declared.stmt.Level.TheVariants.{ReadCommitted}
@@ -105,11 +106,8 @@ module _ (script : Script) (c : Coord) (h : IsSound script c) (s : SessionId) (i
   abbrev d : Coord
   d = begins (now (step.Command true)) s ReadCommitted
 
-  same : (n : ℕ) → eqb n n ≡ true
-  same n = grind (arith, nat_tests)
-
   begun-live : stage (find_txn (begun c.table) c.table.next) ≡ Live
-  begun-live = ap stage (append-at c.table.next.0 c.table.txns c.table.next.0 new_txn h.kept.whole.drawn ∙ ap (λ b. if b then Some new_txn else find_txn c.table c.table.next) (same c.table.next.0))
+  begun-live = ap stage (append-at c.table.next.0 c.table.txns c.table.next.0 new_txn h.kept.whole.drawn ∙ ap (λ b. if b then Some new_txn else find_txn c.table c.table.next) (eqb-self c.table.next.0))
 
   work-begun : d.works c.table.next.0 ≡ new_work s ReadCommitted
   work-begun = with_at-same c.works c.table.next.0 (new_work s ReadCommitted)

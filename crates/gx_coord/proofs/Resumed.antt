@@ -1,5 +1,6 @@
 -- A statement that goes on.
 use Rattle.std.proofs.Common.{◌≡◌, ◌≤◌, ◌<◌, ◌^◌, ◌++◌, ◌∙◌, ℕ, ◌+◌, zero, suc, List, [], ◌∷◌, Option, Some, None, Result, Ok, Err, OnOk, IfOk, Bool, true, false, refl, sym, subst, ap, arith, length}
+use Rattle.gx_lemmas.proofs.Options.{some-same}
 use Rattle.gx_ids.specs.declared.ids.Gxid.{Gxid}
 use Rattle.gx_tree.specs.declared.stmt.Stmt.{Stmt}
 use Rattle.gx_tree.specs.declared.stmt.Stmt.TheVariants as stmt
@@ -95,10 +96,7 @@ module _ (old mid awake : Coord) (script : Script) (g : Gxid) (sound : IsSound s
     line-is = ap (λ (s : Script). Some (stmt_at s.lines place)) (sym (script-same old mid f1 ∙ same)) ∙ at ∙ ap (λ (k : rule.Coord). (k.works g.0).waiting) e1
 
     lock : lock_for g line ≡ Some wakes.wanted
-    lock = ap (lock_for g) (same-line line wakes.statement.line (line-is ∙ wakes.statement.is)) ∙ wakes.statement.lock
-      where
-        same-line : (a b : Stmt) → Some a ≡ Some b → a ≡ b
-        same-line a b e = cc
+    lock = ap (lock_for g) (some-same line wakes.statement.line (line-is ∙ wakes.statement.is)) ∙ wakes.statement.lock
 
     pub wakes-inside : place < length awake.script.value.lines
     wakes-inside = subst (λ (s : Script). place < length s.lines) (sym script-is) (locked-inside script.lines place g wakes.wanted lock)

@@ -1,9 +1,10 @@
 -- A snapshot that was taken is the rule's.
 use Rattle.std.proofs.Common.{◌≡◌, ◌≤◌, ◌<◌, Result, Ok, Err, IfOk, ℕ, zero, suc, ◌+◌, List, [], ◌∷◌, Bool, true, false, refl, sym, subst, ap, ◌∙◌, cond, ◌==◌, ◌&&◌, ◌||◌, not, arith, ltb, nat_cmp, Less, map, filter, nat_lt, nat_le, All}
-use Rattle.std.proofs.lemmas.Bool.{eqb-true}
+use Rattle.std.proofs.lemmas.Bool.{eqb-true, or_from}
 use Rattle.std.proofs.lemmas.Bool.Decides.{nat_tests}
 use Rattle.std.specs.List.{AllByRecursion}
 use Rattle.std.specs.List.Sorted.{IsStrictlySortedBy}
+use Rattle.gx_lemmas.proofs.Numbers.{le-of}
 use Rattle.gx_ids.specs.declared.ids.Gxid.{Gxid}
 use Rattle.std.proofs.Props.{props}
 use Rattle.std.proofs.lemmas.List.Elements.{recursion_from_All}
@@ -25,16 +26,13 @@ under m n e = grind (arith, nat_tests)
 
 not-listed : (x g : Gxid) (ys : List Gxid) → AllByRecursion (λ y. gxid_cmp x y ≡ Less) ys → g.0 ≤ x.0 → is_listed g ys ≡ false
 not-listed x g [] a l = refl
-not-listed x g (y ∷ ys) a l = both (y.0 == g.0) (is_listed g ys) (apart y.0 g.0 (beyond (under x.0 y.0 a.0) l)) (not-listed x g ys a.1 l)
+not-listed x g (y ∷ ys) a l = or_from (y.0 == g.0) (is_listed g ys) (apart y.0 g.0 (beyond (under x.0 y.0 a.0) l)) (not-listed x g ys a.1 l)
   where
     beyond : x.0 < y.0 → g.0 ≤ x.0 → g.0 < y.0
     beyond p q = omega (arith, p, q)
 
     apart : (m n : ℕ) → n < m → (m == n) ≡ false
     apart m n p = grind (arith, nat_tests)
-
-    both : (a b : Bool) → a ≡ false → b ≡ false → (a || b) ≡ false
-    both a b e f = grind arith
 
 -- two rising lists of the same gxids are one
 pub rising-same : (xs ys : List Gxid) → IsRising xs → IsRising ys → ((g : Gxid) → is_listed g xs ≡ is_listed g ys) → xs ≡ ys
@@ -124,13 +122,10 @@ same-snapshot a b e f h = by_running b.running h b.rising b.below b.least
 -- below the limit alone
 none-above : (m : ℕ) (g : Gxid) (xs : List Gxid) → AllByRecursion (λ h. h.0 < m) xs → m ≤ g.0 → is_listed g xs ≡ false
 none-above m g [] a l = refl
-none-above m g (x ∷ xs) a l = both (x.0 == g.0) (is_listed g xs) (apart x.0 g.0 a.0 l) (none-above m g xs a.1 l)
+none-above m g (x ∷ xs) a l = or_from (x.0 == g.0) (is_listed g xs) (apart x.0 g.0 a.0 l) (none-above m g xs a.1 l)
   where
     apart : (k n : ℕ) → k < m → m ≤ n → (k == n) ≡ false
     apart k n p q = grind (arith, nat_tests)
-
-    both : (a b : Bool) → a ≡ false → b ≡ false → (a || b) ≡ false
-    both a b e f = grind arith
 
 none-zero : (next : ℕ) (p : Gxid → Bool) (q : Gxid × Txn → Bool) (g : Gxid) (es : List (Gxid × Txn)) → g.0 ≡ 0 → Below next es → is_listed g (filter p (map (λ (e : Gxid × Txn). e.0) (filter q es))) ≡ false
 none-zero next p q g [] z b = refl
@@ -139,11 +134,8 @@ none-zero next p q g (e ∷ es) z b = by_test (q e) (none-zero next p q g es z b
     apart : (k n : ℕ) → 1 ≤ k → n ≡ 0 → (k == n) ≡ false
     apart k n x y = grind (arith, nat_tests)
 
-    both : (a c : Bool) → a ≡ false → c ≡ false → (a || c) ≡ false
-    both a c u v = grind arith
-
     by_head : (c : Bool) → is_listed g (filter p (map (λ (e : Gxid × Txn). e.0) (filter q es))) ≡ false → is_listed g (cond c (e.0 ∷ filter p (map (λ (e : Gxid × Txn). e.0) (filter q es))) (filter p (map (λ (e : Gxid × Txn). e.0) (filter q es)))) ≡ false
-    by_head true h = both (e.0.0 == g.0) _ (apart e.0.0 g.0 b.0.0 z) h
+    by_head true h = or_from (e.0.0 == g.0) _ (apart e.0.0 g.0 b.0.0 z) h
     by_head false h = h
 
     by_test : (c : Bool) → is_listed g (filter p (map (λ (e : Gxid × Txn). e.0) (filter q es))) ≡ false → is_listed g (filter p (map (λ (e : Gxid × Txn). e.0) (cond c (e ∷ filter q es) (filter q es)))) ≡ false
@@ -171,10 +163,7 @@ module _ (d : Table) (snap : Snapshot) (whole : IsWhole d) (late : latest_number
       solved below listed pos drawn ran x y z e = grind arith
 
   above-limit : (g : Gxid) → nat_lt g.0 (1 + latest_number d.latest_ended) ≡ false → is_listed g snap.running ≡ false
-  above-limit g high = none-above snap.xmax.0 g snap.running (recursion_from_All (λ (h : Gxid). h.0 < snap.xmax.0) snap.running snap.below) (subst (λ n. n ≤ g.0) (sym limit) (over g.0 (1 + latest_number d.latest_ended) high))
-    where
-      over : (n m : ℕ) → nat_lt n m ≡ false → m ≤ n
-      over n m e = grind (arith, nat_tests)
+  above-limit g high = none-above snap.xmax.0 g snap.running (recursion_from_All (λ (h : Gxid). h.0 < snap.xmax.0) snap.running snap.below) (subst (λ n. n ≤ g.0) (sym limit) (le-of g.0 (1 + latest_number d.latest_ended) high))
 
   listed-is : (g : Gxid) (n : ℕ) → g.0 ≡ n → (b : Bool) → nat_lt g.0 (1 + latest_number d.latest_ended) ≡ b → is_listed g snap.running ≡ ((nat_le 1 g.0 && nat_lt g.0 (1 + latest_number d.latest_ended)) && runs (find_txn d g))
   listed-is g zero z b e = at-zero g z ∙ sym (none g.0 (nat_lt g.0 (1 + latest_number d.latest_ended)) (runs (find_txn d g)) z)

@@ -3,6 +3,7 @@ use Rattle.std.proofs.Common.{◌≡◌, ◌≤◌, ℕ, [], Option, Some, None,
 use Rattle.std.proofs.lemmas.Bool.{eqb-true}
 use Rattle.std.proofs.lemmas.Bool.Decides.{nat_tests}
 use Rattle.std.specs.List.Sorted.{IsStrictlySortedBy}
+use Rattle.gx_lemmas.proofs.Numbers.{eqb-self}
 use Rattle.gx_ids.specs.declared.ids.SessionId.{SessionId}
 use Rattle.gx_tree.specs.declared.stmt.Level.{Level}
 use Rattle.gx_dtx.specs.Nodes.{AreRising, has}
@@ -61,19 +62,13 @@ pub others : (d u : Table) (g : ℕ) (now : Option Txn) → At d u g now → (j 
 others d u g now a j e = a.finds j ∙ ap (λ b. if b then now else find_txn d (gx j)) e
 
 pub itself : (d u : Table) (g : ℕ) (now : Option Txn) → At d u g now → find_txn u (gx g) ≡ now
-itself d u g now a = a.finds g ∙ ap (λ b. if b then now else find_txn d (gx g)) (same g)
-  where
-    same : (n : ℕ) → eqb n n ≡ true
-    same n = grind (arith, nat_tests)
+itself d u g now a = a.finds g ∙ ap (λ b. if b then now else find_txn d (gx g)) (eqb-self g)
 
 pub with_at-other : {A : Type 0} (f : ℕ → A) (k : ℕ) (a : A) (j : ℕ) → eqb j k ≡ false → with_at f k a j ≡ f j
 with_at-other f k a j e = ap (λ b. if b then a else f j) e
 
 pub with_at-same : {A : Type 0} (f : ℕ → A) (k : ℕ) (a : A) → with_at f k a k ≡ a
-with_at-same f k a = ap (λ b. if b then a else f k) (same k)
-  where
-    same : (n : ℕ) → eqb n n ≡ true
-    same n = grind (arith, nat_tests)
+with_at-same f k a = ap (λ b. if b then a else f k) (eqb-self k)
 
 -- a session moves on, with no fewer lines
 pub session-lines : (f : ℕ → Session) (k : ℕ) (x : Session) → (f k).lines ≤ x.lines → (j : ℕ) → (f j).lines ≤ (with_at f k x j).lines

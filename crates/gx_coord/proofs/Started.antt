@@ -4,6 +4,8 @@ use Rattle.std.proofs.lemmas.Option.{slice_get_within}
 use Rattle.std.proofs.lemmas.List.Elements.{recursion_from_All}
 use Rattle.std.specs.List.{AllByRecursion}
 use Rattle.std.specs.Prelude.{option_map}
+use Rattle.gx_lemmas.proofs.Numbers.{lt-le}
+use Rattle.gx_lemmas.proofs.Options.{some-same}
 use Rattle.gx_ids.specs.declared.ids.SessionId.{SessionId}
 use Rattle.gx_tree.specs.declared.stmt.Stmt.TheVariants as stmt
 use Rattle.gx_script.specs.declared.Line.{Line}
@@ -42,10 +44,7 @@ next-there script language places indexed s n p (Some ps) q e = line_at s script
 
 at-place : (P : Line → Type 0) (ls : List Line) (p : ℕ) (l : Line) → AllByRecursion P ls → slice_get ls p ≡ Some l → P l
 at-place P [] p l a e = absurd (cc)
-at-place P (x ∷ xs) zero l a e = subst P (some-is x l e) a.0
-  where
-    some-is : (x y : Line) → Some x ≡ Some y → x ≡ y
-    some-is x y e = cc
+at-place P (x ∷ xs) zero l a e = subst P (some-same x l e) a.0
 at-place P (x ∷ xs) (suc p) l a e = at-place P xs p l a.1 e
 
 -- its session is one of the script's
@@ -55,16 +54,10 @@ next-session script language s n p h = subst (λ k. k < length script.sessions) 
 pub line-number : (ls xs : List Line) (s n p : ℕ) (l : Line) → xs ≡ ls → IsLineOf s ls n p → l ≡ get_or xs p l → l.number ≡ n + 1
 line-number ls xs s n p l q h e = ap (λ (x : Line). x.number) (e ∙ ap (λ ys. get_or ys p l) q ∙ read ls p l h.line h.there) ∙ h.number
   where
-    some-is : (x y : Line) → Some x ≡ Some y → x ≡ y
-    some-is x y e = cc
-
     read : (ls : List Line) (p : ℕ) (d l : Line) → slice_get ls p ≡ Some l → get_or ls p d ≡ l
     read [] p d l e = absurd (cc)
-    read (x ∷ xs) zero d l e = some-is x l e
+    read (x ∷ xs) zero d l e = some-same x l e
     read (x ∷ xs) (suc p) d l e = read xs p d l e
 
 pub no-line : (ls xs : List Line) (s n p : ℕ) → xs ≡ ls → IsLineOf s ls n p → length xs ≤ p → ⊥
-no-line ls xs s n p q h e = past p (length ls) (slice_get_within ls p h.line h.there) (subst (λ (ys : List Line). length ys ≤ p) q e)
-  where
-    past : (p m : ℕ) → p < m → m ≤ p → ⊥
-    past p m a b = omega (arith, a, b)
+no-line ls xs s n p q h e = lt-le p (length ls) (slice_get_within ls p h.line h.there) (subst (λ (ys : List Line). length ys ≤ p) q e)

@@ -3,6 +3,7 @@ use Rattle.std.proofs.Common.{◌≡◌, ◌≤◌, ◌<◌, ℕ, zero, suc, ◌
 use Rattle.std.proofs.lemmas.Option.{same_Some}
 use Rattle.std.specs.List.{AllByRecursion, flat_map, list_all, range_with_len}
 use Rattle.std.specs.Prelude.{filter, map}
+use Rattle.gx_lemmas.proofs.Tests.{and-first, and-second}
 use Rattle.gx_ids.specs.declared.ids.Node.{Node}
 use Rattle.gx_meaning.specs.Plan.{nodes_from}
 use Rattle.gx_script.specs.declared.Script.{Script}
@@ -54,14 +55,8 @@ module _ (P : Event → Type 0) where
 
 passes-at : (p : Event → Bool) (xs : List Event) (k : ℕ) (x : Event) → list_all p xs ≡ true → slice_get xs k ≡ Some x → p x ≡ true
 passes-at p [] k x all there = absurd (cc)
-passes-at p (y ∷ ys) zero x all there = subst (λ z. p z ≡ true) (same_Some y x there) (left (p y) (list_all p ys) all)
-  where
-    left : (a b : Bool) → (a && b) ≡ true → a ≡ true
-    left a b h = grind arith
-passes-at p (y ∷ ys) (suc k) x all there = passes-at p ys k x (right (p y) (list_all p ys) all) there
-  where
-    right : (a b : Bool) → (a && b) ≡ true → b ≡ true
-    right a b h = grind arith
+passes-at p (y ∷ ys) zero x all there = subst (λ z. p z ≡ true) (same_Some y x there) (and-first (p y) (list_all p ys) all)
+passes-at p (y ∷ ys) (suc k) x all there = passes-at p ys k x (and-second (p y) (list_all p ys) all) there
 
 module _ (script : Script) (steps : List Step) where
   abbrev AreDue : List Event → Type 0

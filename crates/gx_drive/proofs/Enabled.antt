@@ -1,6 +1,7 @@
 -- What is enabled in a run of the machine: deliveries, what is sent again, and what sessions do.
 use Rattle.std.proofs.Common.{◌≡◌, ◌≤◌, List, [], ◌∷◌, ◌++◌, Bool, true, ◌&&◌, refl, ap, ◌∙◌, subst, arith, append-nil}
 use Rattle.std.specs.List.{flat_map, list_all}
+use Rattle.gx_lemmas.proofs.Tests.{and-first}
 use Rattle.gx_ids.specs.declared.ids.Node.{Node}
 use Rattle.gx_ids.specs.declared.ids.SessionId.{SessionId}
 use Rattle.gx_script.specs.declared.Script.{Script}
@@ -100,13 +101,10 @@ module _ (script : Script) (some : 1 ≤ script.segments) where
 
     all-first : (p : Event → Bool) (xs : List Event) (e : Event) → list_all p xs ≡ true → first_of xs ≡ e ∷ [] → p e ≡ true
     all-first p [] e all first = absurd (cc)
-    all-first p (x ∷ xs) e all first = subst (λ y. p y ≡ true) (same x e first) (left (p x) (list_all p xs) all)
+    all-first p (x ∷ xs) e all first = subst (λ y. p y ≡ true) (same x e first) (and-first (p x) (list_all p xs) all)
       where
         same : (x y : Event) → x ∷ [] ≡ y ∷ [] → x ≡ y
         same x y h = cc
-
-        left : (a b : Bool) → (a && b) ≡ true → a ≡ true
-        left a b h = grind arith
 
     -- what is first is admitted
     pub first-admitted : (e : Event) → first_of (enabled script steps) ≡ e ∷ [] → is_admitted script steps e ≡ true

@@ -1,6 +1,8 @@
 -- What the agenda takes note of once a step was done.
 use Rattle.std.proofs.Common.{◌≡◌, ◌≤◌, ◌<◌, ◌^◌, ℕ, ◌+◌, ◌-◌, List, [], ◌∷◌, ◌++◌, Option, Some, None, true, false, refl, sym, ap, ◌∙◌, subst, arith, length, length-append}
 use Rattle.std.specs.Prelude.{slice_get}
+use Rattle.gx_lemmas.proofs.Options.{some-same}
+use Rattle.gx_lemmas.proofs.Tests.{false-true}
 use Rattle.gx_ids.specs.declared.ids.Node.{Node}
 use Rattle.gx_ids.specs.declared.ids.SessionId.{SessionId}
 use Rattle.gx_msg.specs.declared.message.Envelope.{Envelope}
@@ -53,10 +55,7 @@ module _ (script : Script) (some : 1 ≤ script.segments) where
     told-kept step (event.Receive from to number) admitted = by (found from to number (letters_after steps)) refl
       where
         by : (o : Option Envelope) → found from to number (letters_after steps) ≡ o → sent_message from to number (steps ++ step ∷ []) ≡ sent_message from to number steps
-        by None e = absurd (never (sym (ap (λ x. can_here script (world_behind script steps) to (delivered from x)) e) ∙ admitted))
-          where
-            never : false ≡ true → ⊥
-            never h = cc
+        by None e = absurd (false-true (sym (ap (λ x. can_here script (world_behind script steps) to (delivered from x)) e) ∙ admitted))
         by (Some envelope) e =
             let m : sent_message from to number steps ≡ Some envelope.message = sent-found from to number ∙ ap message_of e in
             sent_message-kept from to number steps step envelope.message m ∙ sym m
@@ -68,20 +67,17 @@ module _ (script : Script) (some : 1 ≤ script.segments) where
 
 -- what stands last in a list with one more
 pub last-is : (all steps : List Step) (step last : Step) → all ≡ steps ++ step ∷ [] → Some last ≡ slice_get all (length all - 1) → last ≡ step
-last-is all steps step last e h = same last step (h ∙ ap (λ ss. slice_get ss (length ss - 1)) e ∙ ap (slice_get (steps ++ step ∷ [])) (short (length-append steps (step ∷ []))) ∙ get_last steps [] step)
+last-is all steps step last e h = some-same last step (h ∙ ap (λ ss. slice_get ss (length ss - 1)) e ∙ ap (slice_get (steps ++ step ∷ [])) (short (length-append steps (step ∷ []))) ∙ get_last steps [] step)
   where
-    same : (a b : Step) → Some a ≡ Some b → a ≡ b
-    same a b e = cc
-
     short : {m n : ℕ} → m ≡ n + 1 → m - 1 ≡ n
     short e = omega (arith, e)
 
-module _ (script : Script) (some : 1 ≤ script.segments) (all steps : List Step) (step last : Step) (same : all ≡ steps ++ step ∷ []) (is : last ≡ step) where
+module _ (script : Script) (some : 1 ≤ script.segments) (all steps : List Step) (step last : Step) (some-same : all ≡ steps ++ step ∷ []) (is : last ≡ step) where
   pub last-due : IsDue script steps step.event → IsDue script steps last.event
   last-due due = subst (λ (s : Step). IsDue script steps s.event) (sym is) due
 
   pub last-all : steps ++ last ∷ [] ≡ all
-  last-all = ap (λ s. steps ++ s ∷ []) is ∙ sym same
+  last-all = ap (λ s. steps ++ s ∷ []) is ∙ sym some-same
 
   pub last-told : IsReached script steps → is_admitted script steps step.event ≡ true → told_in all last.event ≡ told_in steps last.event
-  last-told reached admitted = ap (λ ss. told_in ss last.event) same ∙ told-kept script some steps reached step last.event (subst (λ (s : Step). is_admitted script steps s.event ≡ true) (sym is) admitted)
+  last-told reached admitted = ap (λ ss. told_in ss last.event) some-same ∙ told-kept script some steps reached step last.event (subst (λ (s : Step). is_admitted script steps s.event ≡ true) (sym is) admitted)

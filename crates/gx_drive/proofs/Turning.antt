@@ -32,9 +32,6 @@ pub chosen-more : (choice : Choice) (before ss : List Step) (s : Step) → AreCh
 chosen-more choice before [] s all chosen = (subst (λ xs. choice xs s.event) (append-nil before) chosen, tt)
 chosen-more choice before (x ∷ ss) s all chosen = (all.0, chosen-more choice (before ++ x ∷ []) ss s all.1 (subst (λ xs. choice xs s.event) (sym (append_assoc before (x ∷ []) ss)) chosen))
 
-same-some : {A : Type 0} (a b : A) → Some a ≡ Some b → a ≡ b
-same-some a b e = cc
-
 -- a place of a list is one of another list of the same length
 there-too : (xs ys : List Shelf) (k : ℕ) (y : Shelf) → length xs ≡ length ys → slice_get ys k ≡ Some y → (x : Shelf) × (slice_get xs k ≡ Some x)
 there-too [] [] k y e h = absurd (cc)

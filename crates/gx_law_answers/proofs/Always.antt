@@ -2,6 +2,7 @@
 use Rattle.std.proofs.Common.{◌≡◌, ◌≤◌, inl, inr, ℕ, List, [], ◌∷◌, ◌++◌, Option, Some, None, Bool, true, false, refl, sym, subst, ap, ◌∙◌, if◌then◌else◌, eqb, arith, append_assoc, append-nil}
 use Rattle.std.proofs.lemmas.Bool.{eqb-true}
 use Rattle.std.proofs.lemmas.Bool.Decides.{nat_tests}
+use Rattle.gx_lemmas.proofs.Numbers.{one-le-zero}
 use Rattle.gx_law_order.proofs.Ordered.{resumes_there, world_well}
 use Rattle.gx_ids.specs.declared.ids.Gxid.{Gxid}
 use Rattle.gx_ids.specs.declared.ids.Node.{Node}
@@ -118,10 +119,7 @@ module _ (script : Script) (some : 1 ≤ script.segments) (numbered_lines : AreL
         d = found_is (IsPost script some es) from to number (world_of script es).sent envelope (posts script some es) f
 
         zero-one : (n : Node) → 1 ≤ n.0 → n ≡ the_coordinator → ⊥
-        zero-one n one z = absurd' n.0 one (ap (λ (m : Node). m.0) z)
-          where
-            absurd' : (k : ℕ) → 1 ≤ k → k ≡ 0 → ⊥
-            absurd' k l z = omega (arith, l, z)
+        zero-one n one z = one-le-zero n.0 one (ap (λ (m : Node). m.0) z)
 
         by_link : IsLink script d.letter.from d.letter.to → IsSegment script to
         by_link (inl l) = subst (IsSegment script) d.target l.1

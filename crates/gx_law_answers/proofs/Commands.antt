@@ -1,5 +1,6 @@
 -- The command under way at a point of a step that receives: its statement and its level are those of its transaction's command.
 use Rattle.std.proofs.Common.{◌≡◌, inl, inr, ℕ, ◌+◌, List, [], ◌++◌, Some, None, true, false, refl, sym, subst, ap, ◌∙◌, if◌then◌else◌, arith}
+use Rattle.gx_lemmas.proofs.Options.{some-same}
 use Rattle.gx_ids.specs.declared.ids.Cid.{Cid}
 use Rattle.gx_ids.specs.declared.ids.Gxid.{Gxid}
 use Rattle.gx_ids.specs.declared.ids.SessionId.{SessionId}
@@ -34,12 +35,6 @@ pub record IsOf (script : Script) (ms : List Mark) (stmt : Stmt) (level : Level)
   pub level_is : level ≡ level_of_began script (began_from [] ms g)
   pub running : is_ended ms g ≡ false
 
-some-stmt : (a b : Stmt) → Some a ≡ Some b → a ≡ b
-some-stmt a b e = cc
-
-some-gxid : (a b : Gxid) → Some a ≡ Some b → a ≡ b
-some-gxid a b e = cc
-
 one-zero : (n : ℕ) → n ≡ n + 1 → ⊥
 one-zero n e = omega (arith, e)
 
@@ -63,14 +58,14 @@ module _ (script : Script) (numbered : AreLinesNumbered [] script.lines) (k : Se
   its-level block.Failed commands first busy asks f = absurd (cc)
 
   its-gxid : (b : Block) (commands : ℕ) (h : Gxid) → is_busy b pending.Command ≡ true → is_begun k ms ≡ is_alone b pending.Command → started_after k None ms ≡ Some h → transaction_of (state_in b commands) k ms ≡ Some g → h ≡ g
-  its-gxid (block.Open l) commands h busy begun s t = some-gxid h g (sym s ∙ t)
-  its-gxid block.Outside commands h busy begun s t = some-gxid h g (sym s ∙ sym (ap (λ b. if b then started_after k None ms else None) begun) ∙ t)
+  its-gxid (block.Open l) commands h busy begun s t = some-same h g (sym s ∙ t)
+  its-gxid block.Outside commands h busy begun s t = some-same h g (sym s ∙ sym (ap (λ b. if b then started_after k None ms else None) begun) ∙ t)
   its-gxid block.Failed commands h busy begun s t = absurd (cc)
 
   from-owns : (b : Block) (h : Gxid) (w : Work) (s : Stands script k ms next b pending.Command lines h w) → is_busy b pending.Command ≡ true → Owns k s.commands ms next b h w → IsLineOf script k lines b s.commands w pending.Command → Roots script k ms b pending.Command lines h w → IsOf script ms stmt level g c
   from-owns b h w s busy o (inr l) r =
       record {
-        of = subst (λ y. stmt_of_command script ms y c ≡ Some stmt) same (ap (λ z. command_at script z c.0) r.began ∙ ap (command_at script (Some (k, r.first))) cid-is ∙ (r.now numbered).1 l.0 l.1 ∙ ap Some (some-stmt l.0 stmt (sym l.3 ∙ line)));
+        of = subst (λ y. stmt_of_command script ms y c ≡ Some stmt) same (ap (λ z. command_at script z c.0) r.began ∙ ap (command_at script (Some (k, r.first))) cid-is ∙ (r.now numbered).1 l.0 l.1 ∙ ap Some (some-same l.0 stmt (sym l.3 ∙ line)));
         level_is = isolation ∙ ap level_of s.state ∙ its-level b s.commands r.first busy (sym (ap (λ z. is_command z stmt) s.state) ∙ command) r.opening ∙ sym (ap (level_of_began script) r.began) ∙ ap (λ y. level_of_began script (began_from [] ms y)) same;
         running = ap (is_ended ms) (sym same) ∙ o.running;
       }
@@ -83,7 +78,7 @@ module _ (script : Script) (numbered : AreLinesNumbered [] script.lines) (k : Se
       cid-is = ap (λ (d : Cid). d.0) (number ∙ ap cid_of s.state) ∙ l.5
   from-owns b h w s busy o (inl l) r =
       record {
-        of = subst (λ y. stmt_of_command script ms y c ≡ Some stmt) same (ap (λ z. command_at script z c.0) r.began ∙ ap (command_at script (Some (k, r.first))) cid-is ∙ (r.now numbered).0 l.0 l.1 ∙ ap Some (some-stmt l.0.stmt stmt (sym l.2 ∙ line)));
+        of = subst (λ y. stmt_of_command script ms y c ≡ Some stmt) same (ap (λ z. command_at script z c.0) r.began ∙ ap (command_at script (Some (k, r.first))) cid-is ∙ (r.now numbered).0 l.0 l.1 ∙ ap Some (some-same l.0.stmt stmt (sym l.2 ∙ line)));
         level_is = isolation ∙ ap level_of s.state ∙ its-level b s.commands r.first busy (sym (ap (λ z. is_command z stmt) s.state) ∙ command) r.opening ∙ sym (ap (level_of_began script) r.began) ∙ ap (λ y. level_of_began script (began_from [] ms y)) same;
         running = ap (is_ended ms) (sym same) ∙ o.running;
       }
@@ -118,7 +113,7 @@ module _ (script : Script) (numbered : AreLinesNumbered [] script.lines) (k : Se
   from-stands b pending.Commit h w s =
       let busy = commit-busy b s.sound in
       let o = s.owns busy in
-      absurd (no-commit b s.commands busy (sym (ap (λ z. is_command (state_in b s.commands) z) (some-stmt stmt statement.Commit (sym line ∙ o.1.1))) ∙ sym (ap (λ z. is_command z stmt) s.state) ∙ command))
+      absurd (no-commit b s.commands busy (sym (ap (λ z. is_command (state_in b s.commands) z) (some-same stmt statement.Commit (sym line ∙ o.1.1))) ∙ sym (ap (λ z. is_command z stmt) s.state) ∙ command))
 
   pub from-standing : (b : Block) (p : Pending) (h : Gxid) (w : Work) (ends : ℕ) → IsStanding script k ms next b p lines h w ends → IsOf script ms stmt level g c
   from-standing b p h w ends (inl s) = from-stands b p h w s.1

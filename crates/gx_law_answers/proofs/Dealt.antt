@@ -4,6 +4,8 @@ use Rattle.std.proofs.lemmas.Bool.Decides.{nat_tests}
 use Rattle.std.proofs.lemmas.List.Sorted.{IsPermutation-append_right, IsPermutation-filter_both, IsPermutation-refl, IsPermutation-trans}
 use Rattle.std.specs.List.{AllByRecursion}
 use Rattle.std.specs.List.Sorted.{IsPermutation}
+use Rattle.std.proofs.lemmas.Bool.{or_parts}
+use Rattle.gx_lemmas.proofs.Tests.{false-true}
 use Rattle.gx_ids.specs.declared.ids.Node.{Node}
 use Rattle.gx_tree.specs.declared.row.KeyedRow.{KeyedRow}
 use Rattle.gx_dtx.specs.Nodes.{has}
@@ -34,14 +36,10 @@ module _ (owner : KeyedRow → ℕ) where
   part-others : (node other : Node) (rows : List KeyedRow) → eqb other.0 node.0 ≡ false → part (others node rows) other ≡ part rows other
   part-others node other rows e = filter-through (λ row. owner row == other.0) (λ row. not (owner row == node.0)) (λ row is. apart (owner row) other.0 node.0 e is) rows
 
-  or-none : (a b : Bool) → (a || b) ≡ false → (a ≡ false) × (b ≡ false)
-  or-none true b e = absurd (cc)
-  or-none false b e = (refl, e)
-
   parts-others : (node : Node) (nodes : List Node) (rows : List KeyedRow) → has node nodes ≡ false → map (part (others node rows)) nodes ≡ map (part rows) nodes
   parts-others node [] rows e = refl
   parts-others node (n ∷ ns) rows e =
-      let both = or-none (eqb n.0 node.0) (has node ns) e in
+      let both = or_parts (eqb n.0 node.0) (has node ns) e in
       ap (λ l. l ∷ map (part (others node rows)) ns) (part-others node n rows both.0) ∙ ap (λ l. part rows n ∷ l) (parts-others node ns rows both.1)
 
   within-one : (o k : ℕ) (b : Bool) → (eqb k o || b) ≡ true → not (eqb o k) ≡ true → b ≡ true
@@ -58,10 +56,7 @@ module _ (owner : KeyedRow → ℕ) where
 
   none-within : (rows : List KeyedRow) → Within [] rows → IsPermutation rows []
   none-within [] all = IsPermutation-refl []
-  none-within (row ∷ rows) all = absurd (no all.0)
-    where
-      no : false ≡ true → ⊥
-      no e = cc
+  none-within (row ∷ rows) all = absurd (false-true all.0)
 
   pub divided : (nodes : List Node) (rows : List KeyedRow) → AreApartNodes nodes → Within nodes rows → IsPermutation rows (together (map (part rows) nodes))
   divided [] rows distinct all = none-within rows all

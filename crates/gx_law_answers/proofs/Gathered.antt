@@ -2,6 +2,9 @@
 use Rattle.std.proofs.Common.{◌≡◌, ◌≤◌, inl, inr, ℕ, ◌+◌, List, [], ◌∷◌, ◌++◌, length, Some, Result, Ok, Err, Bool, true, false, refl, sym, subst, ap, ◌∙◌, if◌then◌else◌, ◌||◌, arith, eqb}
 use Rattle.std.proofs.lemmas.Bool.Decides.{nat_tests}
 use Rattle.std.proofs.lemmas.Bool.{eqb-true}
+use Rattle.gx_lemmas.proofs.Tests.{false-true}
+use Rattle.gx_lemmas.proofs.Options.{some-same}
+use Rattle.gx_lemmas.proofs.Numbers.{eqb-self, none-plus, plus-none}
 use Rattle.gx_ids.specs.declared.ids.Cid.{Cid}
 use Rattle.gx_ids.specs.declared.ids.Gxid.{Gxid}
 use Rattle.gx_ids.specs.declared.ids.Node.{Node}
@@ -59,11 +62,8 @@ without-at i j xs b e f = has-without i j xs ∙ by_test (eqb j.0 i.0) refl e
 
 no-nodes : (xs : List Node) → ((i : Node) → has i xs ≡ false) → xs ≡ []
 no-nodes [] h = refl
-no-nodes (x ∷ xs) h = absurd (differ (eqb x.0 x.0) (self x.0) (h x))
+no-nodes (x ∷ xs) h = absurd (differ (eqb x.0 x.0) (eqb-self x.0) (h x))
   where
-    self : (a : ℕ) → eqb a a ≡ true
-    self a = grind (arith, nat_tests)
-
     differ : (b : Bool) → b ≡ true → (b || has x xs) ≡ false → ⊥
     differ b e f = grind arith
 
@@ -71,33 +71,24 @@ module _ (script : Script) (some : 1 ≤ script.segments) (numbered : AreLinesNu
   abbrev ms : List Mark
   ms = marks_in (world_of script es).steps
 
-  some-stmt : (a b : Stmt) → Some a ≡ Some b → a ≡ b
-  some-stmt a b e = cc
-
   abbrev Reported : Taken → Type 0
   Reported t = IsReport script ms t.node g c t.count
 
   line-is : (t : Taken) (r : Reported t) → r.order.line ≡ stmt.Insert table tuples
-  line-is t r = some-stmt r.order.line (stmt.Insert table tuples) (sym r.order.of ∙ is.of)
+  line-is t r = some-same r.order.line (stmt.Insert table tuples) (sym r.order.of ∙ is.of)
 
   -- one segment after the other
   steps : (taken : List Taken) (m : Command) (p : Progress script table ms g.0 level m tuples) → m.cid ≡ c → ((i : Node) → has i m.awaited ≡ has i (nodes_taken taken)) → AreApart taken → AreAll Reported taken → Inserts ms level g c tuples (m.count + total taken)
   steps [] m p same all distinct reported =
       subst (λ n. Inserts ms level g c tuples n) (sym (plus-none m.count))
       (subst (λ d. Inserts ms level g d tuples m.count) same (progress-end script ms g.0 level m table tuples p (no-nodes m.awaited all)))
-    where
-      plus-none : (n : ℕ) → n + 0 ≡ n
-      plus-none n = omega arith
   steps (t ∷ ts) m p same all distinct reported =
       subst (λ n. Inserts ms level g c tuples n) (plus-more m.count t.count (total ts))
-      (steps ts (with_done m t.node t.count t.part) (progress-done script table ms g.0 level m tuples t.node t.count t.part (all t.node ∙ itself (eqb t.node.0 t.node.0) (self t.node.0)) p done) same
+      (steps ts (with_done m t.node t.count t.part) (progress-done script table ms g.0 level m tuples t.node t.count t.part (all t.node ∙ itself (eqb t.node.0 t.node.0) (eqb-self t.node.0)) p done) same
       (λ i. without-at i t.node m.awaited (has i (nodes_taken ts)) (all i) (λ q. subst (λ k. has (let n : Node = record { 0 = k } in n) (nodes_taken ts) ≡ false) (eqb-true t.node.0 i.0 q) distinct.0)) distinct.1 reported.1)
     where
       plus-more : (a b d : ℕ) → (a + b) + d ≡ a + (b + d)
       plus-more a b d = omega arith
-
-      self : (a : ℕ) → eqb a a ≡ true
-      self a = grind (arith, nat_tests)
 
       itself : (b : Bool) → b ≡ true → (b || has t.node (nodes_taken ts)) ≡ true
       itself true e = refl
@@ -134,9 +125,6 @@ module _ (script : Script) (some : 1 ≤ script.segments) (numbered : AreLinesNu
     reports [] h = tt
     reports (t ∷ ts) h = (report t h.0, reports ts h.1)
 
-    no : false ≡ true → ⊥
-    no e = cc
-
     ok-same : {xs ys : List Piece} → (let o : Result (List Piece) ArithFault = Ok xs in o) ≡ Ok ys → xs ≡ ys
     ok-same q = cc
 
@@ -148,7 +136,7 @@ module _ (script : Script) (some : 1 ≤ script.segments) (numbered : AreLinesNu
     none-taken [] v pieces (Ok rows) r e h = filled ms g c table (is.of ∙ ap (λ z. Some (stmt.Insert table z)) v)
     none-taken (t ∷ ts) v pieces (Ok []) r e h = subst (λ z. AreRowsOf g c 1 z []) v (rows-are g c 1 tuples [] r)
     none-taken (t ∷ ts) v pieces (Ok (row ∷ rows)) r e h =
-        no (sym (h _) ∙ ap (λ ps. has (let n : Node = record { 0 = place_of script table row } in n) (nodes_in ps)) (sym (ok-same e)) ∙ (all-there script.segments (dist_of script.tables table.0) table [] (row ∷ rows) (row ∷ rows) some refl).0)
+        false-true (sym (h _) ∙ ap (λ ps. has (let n : Node = record { 0 = place_of script table row } in n) (nodes_in ps)) (sym (ok-same e)) ∙ (all-there script.segments (dist_of script.tables table.0) table [] (row ∷ rows) (row ∷ rows) some refl).0)
 
     snapped : (pieces : List Piece) → plan_of script.segments (dist_of script.tables table.0) g c (stmt.Insert table tuples) ≡ Ok pieces → (taken : List Taken) → AreAll Reported taken → ((i : Node) → has i (nodes_in pieces) ≡ has i (nodes_taken taken)) → has_own_snapshot level ms g c ≡ true
     snapped pieces plan [] h all = absurd (none-taken tuples refl pieces (rows_of g c tuples) refl plan all)
@@ -164,6 +152,3 @@ module _ (script : Script) (some : 1 ≤ script.segments) (numbered : AreLinesNu
         (inserts-more (total x.taken)
         (subst (λ n. Inserts ms level g c tuples n) (none-plus (total x.taken))
         (steps x.taken _ (progress-new script table ms g.0 level c (stmt.Insert table tuples) tuples x.pieces [] some x.plan (snapped x.pieces x.plan x.taken r x.all)) refl x.all x.apart r)))
-      where
-        none-plus : (n : ℕ) → 0 + n ≡ n
-        none-plus n = omega arith

@@ -3,6 +3,9 @@ use Rattle.std.proofs.Common.{◌≡◌, ◌≤◌, inl, inr, ℕ, zero, suc, Li
 use Rattle.std.proofs.lemmas.List.Elements.{recursion_from_All}
 use Rattle.std.specs.List.{AllByRecursion}
 use Rattle.std.specs.Prelude.{slice_get, take}
+use Rattle.gx_lemmas.proofs.Lists.{get-append}
+use Rattle.gx_lemmas.proofs.Numbers.{one-le-none}
+use Rattle.gx_lemmas.proofs.Options.{some-same}
 use Rattle.gx_ids.specs.declared.ids.Cid.{Cid}
 use Rattle.gx_ids.specs.declared.ids.Gxid.{Gxid}
 use Rattle.gx_ids.specs.declared.ids.Node.{Node}
@@ -26,7 +29,7 @@ use Rattle.gx_rules.specs.AtSegment.{seg_rule}
 use Rattle.gx_rules.specs.Machine.{World, after, at_node, can, does, happens, new_world, node_of, world_of}
 use Rattle.gx_store.specs.Journals.{is_same_node}
 use Rattle.gx_store.specs.declared.node.NodeEvent.{NodeEvent}
-use Rattle.gx_law_order.proofs.Lists.{Each, get_kept, get_last}
+use Rattle.gx_law_order.proofs.Lists.{Each, get_last}
 use Rattle.gx_law_sessions.specs.Orders.{IsOrder}
 use Rattle.gx_store.specs.Language.{AreLinesNumbered}
 use Rattle.gx_law_sessions.proofs.Outs.{order-more}
@@ -45,17 +48,11 @@ use Rattle.gx_law_answers.proofs.Truths.{aborted-more, part-later, snapshot-more
 by-recursion-get : {A : Type 0} (P : A → Type 0) (xs : List A) (k : ℕ) (x : A) → AllByRecursion P xs → slice_get xs k ≡ Some x → P x
 by-recursion-get P [] k x e f = absurd (cc)
 by-recursion-get P (y ∷ ys) zero x e f = subst P (some-same y x f) e.0
-  where
-    some-same : {A : Type 0} (a b : A) → Some a ≡ Some b → a ≡ b
-    some-same a b q = cc
 by-recursion-get P (y ∷ ys) (suc k) x e f = by-recursion-get P ys k x e.1 f
 
 ordered-at : (script : Script) (before ss : List Step) (k : ℕ) (s : Step) → AreOrdered script before ss → slice_get ss k ≡ Some s → AllByRecursion (IsAtNode script s.stamp.node) s.marks
 ordered-at script before [] k s o e = absurd (cc)
 ordered-at script before (x ∷ ss) zero s o e = subst (λ (y : Step). AllByRecursion (IsAtNode script y.stamp.node) y.marks) (some-same x s e) (recursion_from_All (IsAtNode script x.stamp.node) x.marks o.0.marks)
-  where
-    some-same : (a b : Step) → Some a ≡ Some b → a ≡ b
-    some-same a b q = cc
 ordered-at script before (x ∷ ss) (suc k) s o e = ordered-at script (before ++ x ∷ []) ss k s o.1 e
 
 -- ---- more events
@@ -106,10 +103,7 @@ module _ (script : Script) (some : 1 ≤ script.segments) (numbered : AreLinesNu
     pub word_earned : IsWordEarned script es from m
 
   no-self : (n : Node) → IsLink script n the_coordinator → IsSegment script n
-  no-self n (inl l) = absurd (zero-one l.1.0)
-    where
-      zero-one : 1 ≤ 0 → ⊥
-      zero-one z = omega (arith, z)
+  no-self n (inl l) = absurd (one-le-none l.1.0)
   no-self n (inr l) = l.0
 
   from-sending : (n step place : ℕ) (from : Node) (number : ℕ) (m : Message) → IsSending (take n (world_of script es).steps) step place from the_coordinator number m → Heard from m
@@ -160,7 +154,7 @@ module _ (script : Script) (some : 1 ≤ script.segments) (numbered : AreLinesNu
         ap (λ (v : World). slice_get v.steps (length (world_of script t.given.before).steps)) (sym late-is)
         ∙ ap (λ ss. slice_get ss (length (world_of script t.given.before).steps)) grown.is
         ∙ ap (λ ss. slice_get (ss ++ grown.extra) (length (world_of script t.given.before).steps)) t.given.steps
-        ∙ get_kept ((world_of script t.given.before).steps ++ t.given.step ∷ []) grown.extra (length (world_of script t.given.before).steps) t.given.step (get_last (world_of script t.given.before).steps [] t.given.step)
+        ∙ get-append ((world_of script t.given.before).steps ++ t.given.step ∷ []) grown.extra (length (world_of script t.given.before).steps) t.given.step (get_last (world_of script t.given.before).steps [] t.given.step)
 
     -- its order
     pub order-now : IsOrder script ms node g c t.level (Some t.snapshot) t.slice

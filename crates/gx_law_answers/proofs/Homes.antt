@@ -1,6 +1,7 @@
 -- Where the rows of a view stand: each at its place.
 use Rattle.std.proofs.Common.{◌≡◌, ◌==◌, ◌⊎◌, inl, inr, ℕ, ◌+◌, ◌-◌, ◌<◌, suc, List, [], ◌∷◌, length, Option, Some, None, Result, Ok, Err, Bool, true, false, refl, sym, subst, ap, ◌∙◌, if◌then◌else◌, ◌&&◌, eqb, arith}
 use Rattle.std.proofs.lemmas.Bool.{eqb-true}
+use Rattle.gx_lemmas.proofs.Options.{some-same}
 use Rattle.gx_ids.specs.declared.ids.Cid.{Cid}
 use Rattle.gx_ids.specs.declared.ids.Gxid.{Gxid}
 use Rattle.gx_ids.specs.declared.ids.Node.{Node}
@@ -52,9 +53,6 @@ key-within Randomly tuple values key e = tt
 -- ---- writes
 table-is : (a b : Table) → a.0 ≡ b.0 → a ≡ b
 table-is a b e = ap (λ n. let r : Table = record { 0 = n } in r) e
-
-some-same : {A : Type 0} (a b : A) → Some a ≡ Some b → a ≡ b
-some-same a b e = cc
 
 -- where a row with these values stands
 pub record IsHome (script : Script) (table : Table) (rid : Rid) (row : List Value) (node : Node) : Type 0 where

@@ -7,6 +7,7 @@ use Rattle.std.specs.List.{flat_map, list_any}
 use Rattle.std.specs.List.Sorted.{IsPermutation}
 use Rattle.std.specs.Ordering.{is_eq}
 use Rattle.std.specs.Prelude.{Some, None, unwrap_or}
+use Rattle.std.proofs.lemmas.Bool.{or_right}
 use Rattle.gx_tree.specs.declared.part.Group.{Group}
 use Rattle.gx_tree.specs.declared.part.Part.{Part}
 use Rattle.gx_tree.specs.declared.part.Part.TheVariants.{Rows, Groups}
@@ -100,15 +101,12 @@ keys-at (column ∷ columns) groups cs q same =
     filter-once q (names groups) ∙ ap (λ b. if_there b q) (same refl) ∙ sym (filter-keys_of (column ∷ columns) cs q)
 
 -- ---- each key's group
-or-later : (a b : Bool) → b ≡ true → (a || b) ≡ true
-or-later true b e = refl
-or-later false b e = e
 
 map-on : {Y : Type 0} (f h : List Value → Y) (ks : List (List Value)) → ((k : List Value) → list_any (is_same_key k) ks ≡ true → f k ≡ h k) → map f ks ≡ map h ks
 map-on f h [] same = refl
 map-on f h (k ∷ ks) same =
     ap (λ y. y ∷ map f ks) (same k (ap (λ t. is_eq t || list_any (is_same_key k) ks) (tied_itself rising-total k)))
-    ∙ ap (λ l. h k ∷ l) (map-on f h ks (λ q e. same q (or-later (is_same_key q k) (list_any (is_same_key q) ks) e)))
+    ∙ ap (λ l. h k ∷ l) (map-on f h ks (λ q e. same q (or_right (is_same_key q k) (list_any (is_same_key q) ks) e)))
 
 module _ (query : Query) (dealt : List (List KeyedRow)) (grouped : query.grouped ≡ true) where
   abbrev cs : List KeyedRow

@@ -3,6 +3,8 @@ use Rattle.std.proofs.Common.{◌≡◌, ◌≤◌, ◌⊎◌, inl, inr, ℕ, Li
 use Rattle.std.proofs.lemmas.Bool.{eqb-true}
 use Rattle.std.proofs.lemmas.Bool.Decides.{nat_tests}
 use Rattle.std.specs.Prelude.{length, take}
+use Rattle.gx_lemmas.proofs.Options.{some-same}
+use Rattle.gx_lemmas.proofs.Numbers.{eqb-self}
 use Rattle.gx_ids.specs.declared.ids.Cid.{Cid}
 use Rattle.gx_ids.specs.declared.ids.Gxid.{Gxid}
 use Rattle.gx_ids.specs.declared.ids.Node.{Node}
@@ -141,10 +143,7 @@ module _ (script : Script) (some : 1 ≤ script.segments) (numbered_lines : AreL
   late-marks = marks-last (world_of script es).steps _
 
   self : eqb to.0 to.0 ≡ true
-  self = self-test to.0
-    where
-      self-test : (a : ℕ) → eqb a a ≡ true
-      self-test a = grind (arith, nat_tests)
+  self = eqb-self to.0
 
   -- a SELECT
   module _ (query : Query) (z : Runs script es to e fails x (slice.Select query)) where
@@ -160,9 +159,6 @@ module _ (script : Script) (some : 1 ≤ script.segments) (numbered_lines : AreL
     pub served : IsServed ms z.level z.g z.c z.snapshot
     served = from-read (subst (λ l. IsReadBy ms z.level z.g z.c l (Some z.snapshot)) select-is select-order.read)
       where
-        some-same : (a b : Snapshot) → Some a ≡ Some b → a ≡ b
-        some-same a b q = cc
-
         from-read : (y : Snapshot) × (Some z.snapshot ≡ Some y) × IsServed ms z.level z.g z.c y → IsServed ms z.level z.g z.c z.snapshot
         from-read y = subst (IsServed ms z.level z.g z.c) (sym (some-same z.snapshot y.0 y.1)) y.2
 
@@ -235,9 +231,6 @@ module _ (script : Script) (some : 1 ≤ script.segments) (numbered_lines : AreL
           outs = subst (λ (t : SegTurn). Each (λ (o : Out). IsWordEarned script behind to o.message) t.outs) (sym ran) (said, tt);
         }
       where
-        self-test : (a : ℕ) → eqb a a ≡ true
-        self-test a = grind (arith, nat_tests)
-
         le-same : (a b : ℕ) → a ≡ b → b ≤ a
         le-same a b q = omega (arith, q)
 
@@ -245,7 +238,7 @@ module _ (script : Script) (some : 1 ≤ script.segments) (numbered_lines : AreL
         after = record (local_of base g) { last = c.0; answer = Some r }
 
         earned : IsReplyEarned script behind to g r
-        earned = now (le-same _ _ (ap (λ (t : SegTurn). (t.seg.locals g.0).last) ran ∙ ap (λ b. (if b then after else base.locals g.0).last) (self-test g.0)))
+        earned = now (le-same _ _ (ap (λ (t : SegTurn). (t.seg.locals g.0).last) ran ∙ ap (λ b. (if b then after else base.locals g.0).last) (eqb-self g.0)))
 
         said : (h : Gxid) (a : Reply) → message.Answer g r ≡ message.Answer h a → IsReplyEarned script behind to h a
         said h a q = subst (IsReplyEarned script behind to h) (same-reply q) (subst (λ k. IsReplyEarned script behind to k r) (same-gxid q) earned)

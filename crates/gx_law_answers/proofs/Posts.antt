@@ -1,5 +1,6 @@
 -- What is known of a message that has come to a segment, now or before.
 use Rattle.std.proofs.Common.{◌≡◌, ◌≤◌, inl, inr, ℕ, List, [], ◌∷◌, Some, sym, subst, ap, ◌∙◌, arith}
+use Rattle.gx_lemmas.proofs.Numbers.{one-le-zero}
 use Rattle.gx_ids.specs.declared.ids.Node.{Node}
 use Rattle.gx_msg.specs.declared.message.Envelope.{Envelope}
 use Rattle.gx_msg.specs.declared.message.Message.{Message}
@@ -54,10 +55,7 @@ module _ (script : Script) (some : 1 ≤ script.segments) (es : Events) where
       d = found_is IsPost from to number (world_of script es).sent envelope posts f
 
       not-here : (n : Node) → 1 ≤ n.0 → n ≡ the_coordinator → ⊥
-      not-here n one q = zero-one n.0 one (ap (λ (m : Node). m.0) q)
-        where
-          zero-one : (k : ℕ) → 1 ≤ k → k ≡ 0 → ⊥
-          zero-one k l z = omega (arith, l, z)
+      not-here n one q = one-le-zero n.0 one (ap (λ (m : Node). m.0) q)
 
       by_link : IsLink script d.letter.from d.letter.to → Came script es to envelope.message
       by_link (inl l) = its d.letter to envelope.message d.target (ap (λ (a : Envelope). a.message) d.told) (d.is.1 l.0)

@@ -1,6 +1,7 @@
 -- The marks of a segment's step may stand there.
 use Rattle.std.proofs.Common.{◌≡◌, ◌≤◌, ◌⊎◌, inl, inr, ℕ, List, [], ◌∷◌, ◌++◌, Option, Some, None, Bool, true, false, refl, sym, subst, ap, ◌∙◌, arith, append_assoc, append-nil, ◌||◌}
 use Rattle.std.specs.Prelude.{map}
+use Rattle.gx_lemmas.proofs.Options.{some-same}
 use Rattle.gx_ids.specs.declared.ids.Cid.{Cid}
 use Rattle.gx_ids.specs.declared.ids.Gxid.{Gxid}
 use Rattle.gx_ids.specs.declared.ids.Node.{Node}
@@ -136,9 +137,6 @@ module _ (script : Script) (some : 1 ≤ script.segments) (numbered_lines : AreL
     abbrev turn : SegTurn
     turn = on_event script ((world_of script es).segs to.0) x fails
 
-    some-stmt : (a b : Stmt) → Some a ≡ Some b → a ≡ b
-    some-stmt a b q = cc
-
     module _ (query : Query) (z : Runs script es to e fails x (slice.Select query)) where
       abbrev rows : List KeyedRow
       rows = shown (raised z.like z.horizon) z.snapshot z.g z.c query.table
@@ -183,7 +181,7 @@ module _ (script : Script) (some : 1 ≤ script.segments) (numbered_lines : AreL
                   earlier = inl was.among;
                   session = was.session;
                   level = was.level;
-                  ran = subst (λ q. IsUnderWay script was.point was.session q was.level z.g z.c) (some-stmt was.line (stmt.Select query) (sym (was.of numbered_lines) ∙ the-line)) was.ran;
+                  ran = subst (λ q. IsUnderWay script was.point was.session q was.level z.g z.c) (some-same was.line (stmt.Select query) (sym (was.of numbered_lines) ∙ the-line)) was.ran;
                 };
                 kind = refl;
               })
@@ -203,7 +201,7 @@ module _ (script : Script) (some : 1 ≤ script.segments) (numbered_lines : AreL
                 fault = fault.1;
                 runs = u.runs e (hold ∷ []) later (starts u.session) (tt, tt);
                 faults = let taken = snapshot-at script some numbered_lines es to e fails x place is-late query z in
-                    subst (λ l. IsFaultOf (ms ++ hold ∷ []) z.level z.g z.c l fault.0.rid (Some fault.0.row) fault.1) (some-stmt (stmt.Select query) u.line (sym the-line ∙ u.of numbered_lines))
+                    subst (λ l. IsFaultOf (ms ++ hold ∷ []) z.level z.g z.c l fault.0.rid (Some fault.0.row) fault.1) (some-same (stmt.Select query) u.line (sym the-line ∙ u.of numbered_lines))
                     (seen-fault (ms ++ hold ∷ []) to z.level z.g z.c _ (snapshot-more ms (hold ∷ []) z.level z.g z.c _ taken) query rows (part-more ms (hold ∷ []) (tt, tt) z.level z.g z.c _ taken to query.table rows (rows-part script some numbered_lines es to e fails x place is-late query z a)) fault q);
               })
 
@@ -245,9 +243,6 @@ module _ (script : Script) (some : 1 ≤ script.segments) (numbered_lines : AreL
         marks-append (Rest script) (world_of script es).steps e [] turn.marks sent []
         (all-rest script (world_of script es).steps to e place.0 [] turn.marks (sent ++ []) (front (WriteLegal script) (world_of script es).steps e [] turn.marks sent [] step-writes) (faults (sent ++ []) does-it) plain)
         (sent-rest script (world_of script es).steps e (λ node. turn.seg.sent) turn.outs turn.marks [])
-
-  some-same : (a b : NodeEvent) → Some a ≡ Some b → a ≡ b
-  some-same a b q = cc
 
   zero-one : {A : Type 0} → 1 ≤ 0 → A
   zero-one l = absurd (omega (arith, l))

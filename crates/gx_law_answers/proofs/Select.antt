@@ -5,6 +5,9 @@ use Rattle.std.proofs.lemmas.List.Elements.{All-from_recursion, filter_passes, r
 use Rattle.std.proofs.lemmas.Nat.{mod_below}
 use Rattle.std.specs.List.{AllByRecursion}
 use Rattle.std.specs.Prelude.{ℤ, pos, negsuc, slice_get, ◌-◌}
+use Rattle.std.proofs.lemmas.Bool.{or_right}
+use Rattle.gx_lemmas.proofs.Numbers.{eqb-back}
+use Rattle.gx_lemmas.proofs.Tests.{false-true}
 use Rattle.gx_ids.specs.declared.ids.Cid.{Cid}
 use Rattle.gx_ids.specs.declared.ids.Gxid.{Gxid}
 use Rattle.gx_ids.specs.declared.ids.Node.{Node}
@@ -80,10 +83,6 @@ row-first : (n : ℕ) (dist : Dist) (row : List Value) (rid : Rid) → 1 ≤ row
 row-first n (By column) row rid = key-first n (slice_get row column)
 row-first n Randomly row rid = omega arith
 
-or-later : (a b : Bool) → b ≡ true → (a || b) ≡ true
-or-later true b e = refl
-or-later false b e = e
-
 pub has-from : (k from count : ℕ) → from ≤ k → k < from + count → has (at k) (nodes_from from count) ≡ true
 has-from k from zero low high = absurd (omega (arith, low, high))
 has-from k from (suc count) low high = by_test (eqb from k) refl (has-from k (from + 1) count)
@@ -97,7 +96,7 @@ has-from k from (suc count) low high = by_test (eqb from k) refl (has-from k (fr
 
     by_test : (b : Bool) → eqb from k ≡ b → (from + 1 ≤ k → k < from + 1 + count → has (at k) (nodes_from (from + 1) count) ≡ true) → (eqb from k || has (at k) (nodes_from (from + 1) count)) ≡ true
     by_test true e more = self (eqb from k) e
-    by_test false e more = or-later (eqb from k) _ (more (above e) (omega (arith, high)))
+    by_test false e more = or_right (eqb from k) _ (more (above e) (omega (arith, high)))
 
 -- ---- a row is placed at a node of the target, or the condition is false on it
 stands : (n : ℕ) (dist : Dist) (cond : Option Cond) (target : Target) (row : List Value) (rid : Rid) → 1 ≤ n → IsWithin dist row → IsFalseOutside n dist cond target → (has (at (row_place n dist row rid)) (nodes_of n target) ≡ true) ⊎ (condition_on cond row ≡ Ok false)
@@ -193,7 +192,7 @@ module _ (script : Script) (some : 1 ≤ script.segments) (keyed : AreInsertsKey
   parts-are [] all = refl
   parts-are (t ∷ ts) all = ap (λ p. p ∷ parts_taken ts) (its-part t all.0) ∙ ap (λ ps. part_of query (part owner kept t.node) ∷ ps) (parts-are ts all.1)
 
-  -- no fault
+  -- false-true fault
   abbrev Whole : KeyedRow → Type 0
   Whole row = (truth : Bool) × (condition_on query.cond row.row ≡ Ok truth)
 
@@ -203,23 +202,17 @@ module _ (script : Script) (some : 1 ≤ script.segments) (keyed : AreInsertsKey
   all-rows : (taken : List Taken) → AreAll Says taken → AllByRecursion (λ row. has (at (owner row)) (nodes_taken taken) ≡ true → Whole row) seen
   all-rows [] all = never seen
     where
-      no : false ≡ true → ⊥
-      no e = cc
-
       never : (rows : List KeyedRow) → AllByRecursion (λ row. false ≡ true → Whole row) rows
       never [] = tt
-      never (row ∷ rows) = (λ e. absurd (no e), never rows)
+      never (row ∷ rows) = (λ e. absurd (false-true e), never rows)
   all-rows (t ∷ ts) all = all-both _ _ _ one seen (its-rows t all.0) (all-rows ts all.1)
     where
-      turned : (a b : ℕ) → eqb a b ≡ true → eqb b a ≡ true
-      turned a b e = grind (arith, nat_tests)
-
       either : (a b : Bool) (A : Type 0) → (a || b) ≡ true → (a ≡ true → A) → (b ≡ true → A) → A
       either true b A e f h = f refl
       either false b A e f h = h e
 
       one : (row : KeyedRow) → ((owner row == t.node.0) ≡ true → Whole row) → (has (at (owner row)) (nodes_taken ts) ≡ true → Whole row) → has (at (owner row)) (t.node ∷ nodes_taken ts) ≡ true → Whole row
-      one row f h e = either (eqb t.node.0 (owner row)) (has (at (owner row)) (nodes_taken ts)) (Whole row) e (λ x. f (turned t.node.0 (owner row) x)) h
+      one row f h e = either (eqb t.node.0 (owner row)) (has (at (owner row)) (nodes_taken ts)) (Whole row) e (λ x. f (eqb-back t.node.0 (owner row) x)) h
 
   module _ (taken : List Taken) (says : AreAll Says taken) (distinct : AreApart taken) (all : (i : Node) → has i (nodes_of n (target_of n dist query.cond)) ≡ has i (nodes_taken taken)) where
     abbrev Stands : KeyedRow → Type 0
@@ -245,12 +238,9 @@ module _ (script : Script) (some : 1 ≤ script.segments) (keyed : AreInsertsKey
     kept-within : AllByRecursion (λ row. has (at (owner row)) (nodes_taken taken) ≡ true) kept
     kept-within = all-both Stands (λ row. keeps query.cond row ≡ true) (λ row. has (at (owner row)) (nodes_taken taken) ≡ true) one kept (all-filter (keeps query.cond) Stands seen all-stand) (recursion_from_All (λ row. keeps query.cond row ≡ true) kept (filter_passes (keeps query.cond) seen))
       where
-        no : false ≡ true → ⊥
-        no e = cc
-
         one : (row : KeyedRow) → Stands row → keeps query.cond row ≡ true → has (at (owner row)) (nodes_taken taken) ≡ true
         one row (inl e) t = e
-        one row (inr e) t = absurd (no (sym (keeps-false query.cond row e) ∙ t))
+        one row (inr e) t = absurd (false-true (sym (keeps-false query.cond row e) ∙ t))
 
     parts-of : ArePartsOf query kept (parts_taken taken)
     parts-of = record {

@@ -8,6 +8,9 @@ use Rattle.std.specs.List.Sorted.{IsStrictlySortedBy}
 use Rattle.std.specs.Option.{option_or}
 use Rattle.std.specs.Prelude.{filter, map, take}
 use Rattle.std.specs.declared.cmp.Ordering.TheVariants.{Less}
+use Rattle.gx_lemmas.proofs.Numbers.{eqb-of}
+use Rattle.gx_lemmas.proofs.Options.{some-same}
+use Rattle.gx_lemmas.proofs.Tests.{and-last, true-false}
 use Rattle.gx_ids.specs.declared.ids.Cid.{Cid}
 use Rattle.gx_ids.specs.declared.ids.Gxid.{Gxid}
 use Rattle.gx_ids.specs.declared.ids.Node.{Node}
@@ -45,8 +48,6 @@ use Rattle.gx_law_writes.proofs.Placed.{IsPlaced, same-place}
 use Rattle.gx_law_answers.specs.Parts.{IsPartOf, is_home}
 
 -- ---- where a row stands alone
-no-test : (b : Bool) → b ≡ true → b ≡ false → ⊥
-no-test b e f = grind arith
 
 pub never-only : (node : Node) (rid : Rid) (ms : List Mark) → node_of ms rid ≡ None → IsOnlyAt node rid ms
 never-only node rid [] e = tt
@@ -54,7 +55,7 @@ never-only node rid (mark.Write g c n t r x ∷ ms) e = by_test (is_same_rid r r
   where
     by_test : (b : Bool) → is_same_rid r rid ≡ b → (if b then Some n else node_of ms rid) ≡ None → (node_of ms rid ≡ None → IsOnlyAt node rid ms) → (is_same_rid r rid ≡ true → is_same_node n node ≡ true) × IsOnlyAt node rid ms
     by_test true s q more = absurd (cc)
-    by_test false s q more = (λ t. absurd (no-test (is_same_rid r rid) t s), more q)
+    by_test false s q more = (λ t. absurd (true-false (is_same_rid r rid) t s), more q)
 never-only node rid (m ∷ ms) e = never-only node rid ms e
 
 module _ (script : Script) (all : List Mark) (node : Node) (rid : Rid) where
@@ -65,9 +66,6 @@ module _ (script : Script) (all : List Mark) (node : Node) (rid : Rid) where
     pub t : Table
     pub x : Option (List Value)
     pub placed : IsPlaced script all g c node t rid x
-
-  some-same : {A : Type 0} (a b : A) → Some a ≡ Some b → a ≡ b
-  some-same a b e = cc
 
   pub first-at : (ms : List Mark) → Each (IsPlacedMark script all) ms → node_of ms rid ≡ Some node → IsAt
   first-at [] e f = absurd (cc)
@@ -81,10 +79,7 @@ module _ (script : Script) (all : List Mark) (node : Node) (rid : Rid) where
 
   only-rest : IsAt → (ms : List Mark) → Each (IsPlacedMark script all) ms → IsOnlyAt node rid ms
   only-rest a [] e = tt
-  only-rest a (mark.Write g c n t r x ∷ ms) e = (λ s. self n.0 node.0 (ap (λ (k : Node). k.0) (same-place script all a.g g a.c c node n a.t t rid r a.x x a.placed e.0 s).node), only-rest a ms e.1)
-    where
-      self : (m n : ℕ) → m ≡ n → eqb m n ≡ true
-      self m n e = grind (arith, nat_tests)
+  only-rest a (mark.Write g c n t r x ∷ ms) e = (λ s. eqb-of n.0 node.0 (ap (λ (k : Node). k.0) (same-place script all a.g g a.c c node n a.t t rid r a.x x a.placed e.0 s).node), only-rest a ms e.1)
   only-rest a (m ∷ ms) e = only-rest a ms e.1
 
   pub only-at : (ms : List Mark) → Each (IsPlacedMark script all) ms → node_of ms rid ≡ Some node → IsOnlyAt node rid ms
@@ -123,12 +118,9 @@ module _ (script : Script) (ms : List Mark) (placed : Each (IsPlacedMark script 
   never-image shows rid [] start e = refl
   never-image shows rid (mark.Write h d n t r y ∷ xs) start e = by_test (is_same_rid r rid) refl e (λ i q. never-image shows rid xs i q)
     where
-      off : (a b d : Bool) → d ≡ false → (a && (b && d)) ≡ false
-      off a b d e = grind arith
-
       by_test : (b : Bool) → is_same_rid r rid ≡ b → (if b then Some n else node_of xs rid) ≡ None → ((i : Option (List Value)) → node_of xs rid ≡ None → image_after shows table rid i xs ≡ i) → image_after shows table rid (if shows h d && ((t.0 == table.0) && is_same_rid r rid) then y else start) xs ≡ start
       by_test true q n more = absurd (cc)
-      by_test false q n more = ap (λ b. image_after shows table rid (if b then y else start) xs) (off (shows h d) (eqb t.0 table.0) (is_same_rid r rid) q) ∙ more start n
+      by_test false q n more = ap (λ b. image_after shows table rid (if b then y else start) xs) (and-last (shows h d) (eqb t.0 table.0) (is_same_rid r rid) q) ∙ more start n
   never-image shows rid (m ∷ xs) start e = never-image shows rid xs start e
 
   its-row : (rid : Rid) (o : Option Node) → node_of ms rid ≡ o → row_at (shown s x g c table) rid ≡ (if is_home o node then image ms (take place ms) (Some (g, c)) table rid else None)

@@ -2,6 +2,10 @@
 use Rattle.std.proofs.Common.{◌≡◌, ◌≢◌, ◌≤◌, ◌<◌, ◌⊎◌, inl, inr, ⊎_elim, ℕ, zero, suc, ◌+◌, List, [], ◌∷◌, ◌++◌, Option, Some, None, Result, Ok, Err, Bool, true, false, refl, sym, subst, ap, ◌∙◌, ◌||◌, ◌&&◌, if◌then◌else◌, arith, eqb, length}
 use Rattle.std.proofs.lemmas.Bool.Decides.{nat_tests}
 use Rattle.std.specs.Prelude.{All, ◌==◌, slice_get, map}
+use Rattle.std.proofs.lemmas.Bool.{or_right}
+use Rattle.gx_lemmas.proofs.Numbers.{eqb-self}
+use Rattle.gx_lemmas.proofs.Tests.{true-false}
+use Rattle.gx_lemmas.proofs.Options.{some-same}
 use Rattle.gx_ids.specs.declared.ids.Cid.{Cid}
 use Rattle.gx_ids.specs.declared.ids.Gxid.{Gxid}
 use Rattle.gx_ids.specs.declared.ids.Node.{Node}
@@ -47,7 +51,6 @@ use Rattle.gx_rules.specs.AtSegment.{seg_rule}
 use Rattle.gx_rules.specs.Machine.{World, after, at_node, can, can_here, coord_did, does, happens, new_world, node_of, seg_can, seg_did, world_of}
 use Rattle.gx_rules.specs.Sending.{counted, numbered}
 use Rattle.gx_law_order.proofs.Ordered.{Well, happens_well}
-use Rattle.gx_law_order.proofs.Turns.{self-test}
 use Rattle.gx_law_order.proofs.World.{Knows, marks-last, world_knows}
 use Rattle.gx_law_sessions.specs.Scanned.{began_from}
 use Rattle.gx_law_sessions.specs.Orders.{level_by}
@@ -272,7 +275,7 @@ module _ (script : Script) (w : World) (h : Holds script w) where
       asked = line_step (session_of w.coord s).state.block line
 
       same : (session_of (starts_line w.coord s (line_step (session_of w.coord s).state.block line)) s).transaction ≡ (session_of w.coord s).transaction
-      same = ap (λ b. (if b then record (session_of w.coord s) { lines = (session_of w.coord s).lines + 1; state = after_line (session_of w.coord s).state.block (line_step (session_of w.coord s).state.block line) } else session_of w.coord s).transaction) (self-test s.0)
+      same = ap (λ b. (if b then record (session_of w.coord s) { lines = (session_of w.coord s).lines + 1; state = after_line (session_of w.coord s).state.block (line_step (session_of w.coord s).state.block line) } else session_of w.coord s).transaction) (eqb-self s.0)
 
       inside : line_step (session_of w.coord s).state.block line ≡ step.Command false → (work_of w.coord (session_of (starts_line w.coord s (line_step (session_of w.coord s).state.block line)) s).transaction).snapshot ≡ None → May (session_of (starts_line w.coord s (line_step (session_of w.coord s).state.block line)) s).transaction
       inside e none =
@@ -293,7 +296,7 @@ module _ (script : Script) (w : World) (h : Holds script w) where
       (λ none. begun-may g b (sym same ∙ none))
     where
       same : (if eqb g.0 g.0 then record (work_of w.coord g) { waiting = None } else work_of w.coord g).snapshot ≡ (work_of w.coord g).snapshot
-      same = ap (λ b. (if b then record (work_of w.coord g) { waiting = None } else work_of w.coord g).snapshot) (self-test g.0)
+      same = ap (λ b. (if b then record (work_of w.coord g) { waiting = None } else work_of w.coord g).snapshot) (eqb-self g.0)
   resume-one g b (Some wanted) None = tt
   resume-one g b None line = tt
 
@@ -316,37 +319,31 @@ module _ (script : Script) (w : World) (h : Holds script w) where
 abbrev pub AreReaders : Script → List Mark → Type 0
 AreReaders script ms = (g : Gxid) (p q : ℕ) (d e : Cid) (x y : Snapshot) → p < q → slice_get ms p ≡ Some (mark.Snap g d x) → slice_get ms q ≡ Some (mark.Snap g e y) → IsCommittedReader script ms g
 
-some-mark : (a b : Mark) → Some a ≡ Some b → a ≡ b
-some-mark a b f = cc
-
 has-snap : (g : Gxid) (d : Cid) (x : Snapshot) (ms : List Mark) (p : ℕ) → slice_get ms p ≡ Some (mark.Snap g d x) → has_snapshot ms g ≡ true
 has-snap g d x [] p e = absurd (cc)
-has-snap g d x (m ∷ ms) zero e = subst (λ y. has_snapshot (y ∷ ms) g ≡ true) (sym (some-mark m (mark.Snap g d x) e)) (first g (has_snapshot ms g))
+has-snap g d x (m ∷ ms) zero e = subst (λ y. has_snapshot (y ∷ ms) g ≡ true) (sym (some-same m (mark.Snap g d x) e)) (first g (has_snapshot ms g))
   where
     first : (g : Gxid) (b : Bool) → (is_same_gxid g g || b) ≡ true
     first g b = grind (arith, nat_tests)
-has-snap g d x (mark.Snap h f y ∷ ms) (suc p) e = later (is_same_gxid h g) (has_snapshot ms g) (has-snap g d x ms p e)
-  where
-    later : (a b : Bool) → b ≡ true → (a || b) ≡ true
-    later a b z = grind arith
+has-snap g d x (mark.Snap h f y ∷ ms) (suc p) e = or_right (is_same_gxid h g) (has_snapshot ms g) (has-snap g d x ms p e)
 has-snap g d x (m ∷ ms) (suc p) e = has-snap g d x ms p e
 
 none-at : (g : Gxid) (d : Cid) (x : Snapshot) (ms : List Mark) (p : ℕ) → NoSnaps ms → slice_get ms p ≡ Some (mark.Snap g d x) → ⊥
 none-at g d x [] p n e = cc
-none-at g d x (m ∷ ms) zero n e = subst (λ y. NoSnaps (y ∷ ms)) (some-mark m (mark.Snap g d x) e) n
+none-at g d x (m ∷ ms) zero n e = subst (λ y. NoSnaps (y ∷ ms)) (some-same m (mark.Snap g d x) e) n
 none-at g d x (mark.Snap h f y ∷ ms) (suc p) n e = n
 none-at g d x (m ∷ ms) (suc p) n e = none-at g d x ms p n e
 
 one-at : (P : Gxid → Type 0) (g : Gxid) (d : Cid) (x : Snapshot) (ms : List Mark) (q : ℕ) → OneSnap P ms → slice_get ms q ≡ Some (mark.Snap g d x) → P g
 one-at P g d x [] q o e = absurd (cc)
-one-at P g d x (m ∷ ms) zero o e = (subst (λ y. OneSnap P (y ∷ ms)) (some-mark m (mark.Snap g d x) e) o).0
+one-at P g d x (m ∷ ms) zero o e = (subst (λ y. OneSnap P (y ∷ ms)) (some-same m (mark.Snap g d x) e) o).0
 one-at P g d x (mark.Snap h f y ∷ ms) (suc q) o e = absurd (none-at g d x ms q o.1 e)
 one-at P g d x (m ∷ ms) (suc q) o e = one-at P g d x ms q o e
 
 no-two : (P : Gxid → Type 0) (g : Gxid) (d e : Cid) (x y : Snapshot) (ms : List Mark) (p q : ℕ) → OneSnap P ms → p < q → slice_get ms p ≡ Some (mark.Snap g d x) → slice_get ms q ≡ Some (mark.Snap g e y) → ⊥
 no-two P g d e x y [] p q o l a b = cc
 no-two P g d e x y (m ∷ ms) p zero o l a b = absurd (omega (arith, l))
-no-two P g d e x y (m ∷ ms) zero (suc q) o l a b = none-at g e y ms q (subst (λ z. OneSnap P (z ∷ ms)) (some-mark m (mark.Snap g d x) a) o).1 b
+no-two P g d e x y (m ∷ ms) zero (suc q) o l a b = none-at g e y ms q (subst (λ z. OneSnap P (z ∷ ms)) (some-same m (mark.Snap g d x) a) o).1 b
 no-two P g d e x y (mark.Snap h f z ∷ ms) (suc p) (suc q) o l a b = none-at g d x ms p o.1 a
 no-two P g d e x y (m ∷ ms) (suc p) (suc q) o l a b = no-two P g d e x y ms p q o (omega (arith, l)) a b
 
@@ -370,10 +367,7 @@ readers-more : (script : Script) (ms ns : List Mark) → AreReaders script ms �
 readers-more script ms ns u o g p q d e x y l a b = by (get-split ms ns p (mark.Snap g d x) a) (get-split ms ns q (mark.Snap g e y) b)
   where
     from-may : MayTake script ms g → (p : ℕ) → slice_get ms p ≡ Some (mark.Snap g d x) → IsCommittedReader script (ms ++ ns) g
-    from-may (inl z) p f = absurd (clash (has_snapshot ms g) (has-snap g d x ms p f) z)
-      where
-        clash : (b : Bool) → b ≡ true → b ≡ false → ⊥
-        clash b e f = grind arith
+    from-may (inl z) p f = absurd (true-false (has_snapshot ms g) (has-snap g d x ms p f) z)
     from-may (inr r) p f = reader-kept script ms ns g r
 
     by : ((slice_get ms p ≡ Some (mark.Snap g d x)) × (p < length ms)) ⊎ ((j : ℕ) × (slice_get ns j ≡ Some (mark.Snap g d x)) × (p ≡ length ms + j)) → ((slice_get ms q ≡ Some (mark.Snap g e y)) × (q < length ms)) ⊎ ((j : ℕ) × (slice_get ns j ≡ Some (mark.Snap g e y)) × (q ≡ length ms + j)) → IsCommittedReader script (ms ++ ns) g

@@ -2,6 +2,9 @@
 use Rattle.std.proofs.Common.{◌≡◌, ◌≤◌, ◌<◌, ◌⊎◌, inl, inr, ℕ, zero, suc, List, [], ◌∷◌, ◌++◌, Some, Bool, true, false, refl, sym, subst, ap, ◌∙◌, ◌||◌, ◌&&◌, arith, eqb, append_assoc, append-nil}
 use Rattle.std.proofs.lemmas.Bool.Decides.{nat_tests}
 use Rattle.std.specs.Prelude.{slice_get, take}
+use Rattle.std.proofs.lemmas.Bool.{or_left, or_right}
+use Rattle.gx_lemmas.proofs.Tests.{true-false}
+use Rattle.gx_lemmas.proofs.Options.{some-same}
 use Rattle.gx_ids.specs.declared.ids.Cid.{Cid}
 use Rattle.gx_ids.specs.declared.ids.Gxid.{Gxid}
 use Rattle.gx_tree.specs.declared.stmt.Level.{Level}
@@ -33,8 +36,6 @@ pub record Once (ms : List Mark) (g : Gxid) (d : Cid) : Type 0 where
   pub once : has_own_snapshot level ms g d ≡ false
 
 module _ (script : Script) (g : Gxid) (d : Cid) (x : Snapshot) where
-  some-same : (a b : Mark) → Some a ≡ Some b → a ≡ b
-  some-same a b e = cc
 
   in-step : (steps : List Step) (e : Event) (earlier ms later : List Mark) (q : ℕ) → EachMark (Given script) steps e earlier ms later → slice_get ms q ≡ Some (mark.Snap g d x) → Once ((marks_in steps ++ earlier) ++ take q ms) g d
   in-step steps e earlier [] later q h f = absurd (cc)
@@ -64,20 +65,11 @@ module _ (script : Script) (g : Gxid) (d : Cid) (x : Snapshot) where
 self : (g : Gxid) (c : Cid) → (is_same_gxid g g && eqb c.0 c.0) ≡ true
 self g c = grind (arith, nat_tests)
 
-or-first : (a b : Bool) → a ≡ true → (a || b) ≡ true
-or-first a b e = grind arith
-
-or-later : (a b : Bool) → b ≡ true → (a || b) ≡ true
-or-later a b e = grind arith
-
 is-snapped : (g : Gxid) (c : Cid) (x : Snapshot) (ms : List Mark) (p q : ℕ) → p < q → slice_get ms p ≡ Some (mark.Snap g c x) → is_snapped (take q ms) g c ≡ true
 is-snapped g c x [] p q l e = absurd (cc)
 is-snapped g c x (m ∷ ms) p zero l e = absurd (omega (arith, l))
-is-snapped g c x (m ∷ ms) zero (suc q) l e = subst (λ y. is_snapped (y ∷ take q ms) g c ≡ true) (sym (some-mark m (mark.Snap g c x) e)) (or-first _ _ (self g c))
-  where
-    some-mark : (a b : Mark) → Some a ≡ Some b → a ≡ b
-    some-mark a b f = cc
-is-snapped g c x (mark.Snap h d y ∷ ms) (suc p) (suc q) l e = or-later _ _ (is-snapped g c x ms p q (omega (arith, l)) e)
+is-snapped g c x (m ∷ ms) zero (suc q) l e = subst (λ y. is_snapped (y ∷ take q ms) g c ≡ true) (sym (some-same m (mark.Snap g c x) e)) (or_left _ _ (self g c))
+is-snapped g c x (mark.Snap h d y ∷ ms) (suc p) (suc q) l e = or_right _ _ (is-snapped g c x ms p q (omega (arith, l)) e)
 is-snapped g c x (m ∷ ms) (suc p) (suc q) l e = is-snapped g c x ms p q (omega (arith, l)) e
 
 has-snapped : (g : Gxid) (c : Cid) (ms : List Mark) → is_snapped ms g c ≡ true → has_snapshot ms g ≡ true
@@ -93,12 +85,9 @@ module _ (script : Script) (some : 1 ≤ script.segments) (es : Events) (g : Gxi
   abbrev ms : List Mark
   ms = marks_in (world_of script es).steps
 
-  clash : (b : Bool) → b ≡ true → b ≡ false → ⊥
-  clash b e f = grind arith
-
   by-level : (l : Level) (before : List Mark) → has_own_snapshot l before g c ≡ false → is_snapped before g c ≡ true → ⊥
-  by-level ReadCommitted before e f = clash (is_snapped before g c) f e
-  by-level RepeatableRead before e f = clash (has_snapshot before g) (has-snapped g c before f) e
+  by-level ReadCommitted before e f = true-false (is_snapped before g c) f e
+  by-level RepeatableRead before e f = true-false (has_snapshot before g) (has-snapped g c before f) e
 
   no-two : (p q : ℕ) (x y : Snapshot) → p < q → slice_get ms p ≡ Some (mark.Snap g c x) → slice_get ms q ≡ Some (mark.Snap g c y) → ⊥
   no-two p q x y l e f =

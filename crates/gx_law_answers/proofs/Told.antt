@@ -3,6 +3,10 @@ use Rattle.std.proofs.Common.{◌≡◌, ◌≤◌, inl, inr, ℕ, List, [], ◌
 use Rattle.std.proofs.lemmas.Option.{get_or_from_slice_get, slice_get_within}
 use Rattle.std.proofs.lemmas.Bool.Decides.{nat_tests}
 use Rattle.std.specs.Prelude.{Contains, length, slice_get, take}
+use Rattle.gx_lemmas.proofs.Lists.{get-append}
+use Rattle.gx_lemmas.proofs.Tests.{false-true}
+use Rattle.gx_lemmas.proofs.Options.{some-same}
+use Rattle.gx_lemmas.proofs.Numbers.{eqb-self}
 use Rattle.gx_ids.specs.declared.ids.Cid.{Cid}
 use Rattle.gx_ids.specs.declared.ids.Gxid.{Gxid}
 use Rattle.gx_ids.specs.declared.ids.Node.{Node}
@@ -43,7 +47,7 @@ use Rattle.gx_rules.specs.AtCoordinator.{nodes_in, reason_of}
 use Rattle.gx_rules.specs.Machine.{world_of}
 use Rattle.gx_meaning.specs.Merged.{merged_answer}
 use Rattle.gx_rules.specs.Slices.{cause_of}
-use Rattle.gx_law_order.proofs.Lists.{Each, get_kept}
+use Rattle.gx_law_order.proofs.Lists.{Each}
 use Rattle.gx_law_sessions.specs.Scanned.{began_from}
 use Rattle.gx_law_sessions.specs.Finish.{point_at}
 use Rattle.gx_law_sessions.specs.Gathering.{AreAll, AreApart, IsGathered, Taken, nodes_taken, parts_taken}
@@ -92,11 +96,8 @@ nodes-of-pieces s [] = refl
 nodes-of-pieces s (n ∷ ns) = ap (λ l. n ∷ l) (nodes-of-pieces s ns)
 
 some-node : (n : ℕ) (target : Target) → 1 ≤ n → (i : Node) × (has i (nodes_of n target) ≡ true)
-some-node n (One node) some = (node, first (eqb node.0 node.0) (self node.0))
+some-node n (One node) some = (node, first (eqb node.0 node.0) (eqb-self node.0))
   where
-    self : (a : ℕ) → eqb a a ≡ true
-    self a = grind (arith, nat_tests)
-
     first : (b : Bool) → b ≡ true → (b || false) ≡ true
     first true e = refl
     first false e = cc
@@ -115,13 +116,10 @@ module _ (script : Script) (some : 1 ≤ script.segments) (numbered : AreLinesNu
   abbrev ms : List Mark
   ms = marks_in (world_of script es).steps
 
-  some-stmt : (a b : Stmt) → Some a ≡ Some b → a ≡ b
-  some-stmt a b e = cc
-
   -- what a true answer is of, where its command runs
   module _ (node : Node) (line : Stmt) (level : Level) (g : Gxid) (c : Cid) (is : IsOf script ms line level g c) (r : Reply) (t : IsEarned script es node g c r) where
     line-is : (order-now script some numbered es node g c r t).line ≡ line
-    line-is = some-stmt _ line (sym (order-now script some numbered es node g c r t).of ∙ is.of)
+    line-is = some-same _ line (sym (order-now script some numbered es node g c r t).of ∙ is.of)
 
     pub its-slice : IsSliceOf line t.slice
     its-slice = subst (λ l. IsSliceOf l t.slice) line-is (slice-is _ _ g c _ (order-now script some numbered es node g c r t).pieces _ (order-now script some numbered es node g c r t).plan (order-now script some numbered es node g c r t).among)
@@ -150,13 +148,10 @@ module _ (script : Script) (some : 1 ≤ script.segments) (numbered : AreLinesNu
         by_level : (p : ℕ) → IsSnapshotAt ms level g c p → IsSnapshotAt ms (level_of_began script (began_from [] ms g)) g c p
         by_level p x = subst (λ l. IsSnapshotAt ms l g c p) is.level_is x
 
-    no : false ≡ true → ⊥
-    no e = cc
-
     shows : (pieces : List Piece) → plan_of script.segments (dist_of script.tables query.table.0) g c (stmt.Select query) ≡ Ok pieces → (taken : List Taken) → AreAll (λ t. IsTruePart ms t.node level g c query t.part) taken → AreApart taken → ((i : Node) → has i (nodes_in pieces) ≡ has i (nodes_taken taken)) → Shows ms level g c query (merged_answer query (parts_taken taken))
     shows pieces plan [] h distinct all =
         let i = some-node script.segments (target_of script.segments (dist_of script.tables query.table.0) query.cond) some in
-        absurd (no (sym (all i.0) ∙ ap (has i.0) (ap nodes_in (sym (ok-same plan)) ∙ nodes-of-pieces (slice.Select query) _) ∙ i.1))
+        absurd (false-true (sym (all i.0) ∙ ap (has i.0) (ap nodes_in (sym (ok-same plan)) ∙ nodes-of-pieces (slice.Select query) _) ∙ i.1))
     shows pieces plan (t ∷ ts) h distinct all =
         record {
           rows = seen script some keyed ms before placed g c query;
@@ -185,10 +180,7 @@ module _ (script : Script) (some : 1 ≤ script.segments) (numbered : AreLinesNu
 
     -- segments don't run the others yet
     never : (line : Stmt) (s : Slice) → IsOf script ms line level g c → ((x : Slice) → IsSliceOf line x → x ≡ s) → ((before marks : List Mark) (node : Node) (l : Level) (r : Reply) → IsTruth before marks node l g c s r → ⊥) → (nodes : List Node) → (i : Node) × (has i nodes ≡ true) → (taken : List Taken) → AreAll (λ t. IsEarned script es t.node g c (reply.Done c t.wrote t.count t.part)) taken → ((i : Node) → has i nodes ≡ has i (nodes_taken taken)) → ⊥
-    never line s is same false_ nodes i [] h all = no-one (sym (all i.0) ∙ i.1)
-      where
-        no-one : false ≡ true → ⊥
-        no-one e = cc
+    never line s is same false_ nodes i [] h all = false-true (sym (all i.0) ∙ i.1)
     never line s is same false_ nodes i (t ∷ ts) h all =
         false_ (marks_in (world_of script h.0.given.before).steps) (marks_in (world_of script h.0.upto).steps) t.node h.0.level (reply.Done c t.wrote t.count t.part) (subst (λ y. IsTruth (marks_in (world_of script h.0.given.before).steps) (marks_in (world_of script h.0.upto).steps) t.node h.0.level g c y (reply.Done c t.wrote t.count t.part)) (same h.0.slice (its-slice t.node line level g c is _ h.0)) h.0.truth)
 
@@ -243,7 +235,7 @@ module _ (script : Script) (some : 1 ≤ script.segments) (numbered : AreLinesNu
           place = f.place;
           rid = f.rid;
           image = f.image;
-          noted = get_kept ms behind f.place _ there;
+          noted = get-append ms behind f.place _ there;
           unaborted = ap (λ m. is_aborted m g) same ∙ f.unaborted;
           faults = subst (λ m. Rattle.gx_store.specs.Faults.FaultsOnSeen m level g c query.table query.cond f.rid f.image f.fault) (sym same) f.faults;
           heard = record {
@@ -265,7 +257,7 @@ module _ (script : Script) (some : 1 ≤ script.segments) (numbered : AreLinesNu
         rest = more script some numbered es segment g c r x
 
         there : slice_get ms f.place ≡ Some (mark.Fault g c f.rid f.image)
-        there = ap (λ m. slice_get m f.place) (marks-are script some numbered es segment g c r x) ∙ get_kept before rest f.place _ f.noted
+        there = ap (λ m. slice_get m f.place) (marks-are script some numbered es segment g c r x) ∙ get-append before rest f.place _ f.noted
 
         same : take f.place (ms ++ behind) ≡ take f.place before
         same = take-kept ms behind f.place _ there ∙ ap (take f.place) (marks-are script some numbered es segment g c r x) ∙ take-kept before rest f.place _ f.noted

@@ -1,10 +1,12 @@
 -- What is true of a segment's answer stays true.
 use Rattle.std.proofs.Common.{◌≡◌, ◌==◌, inr, ℕ, List, [], ◌∷◌, ◌++◌, length, Option, Some, None, Bool, true, false, refl, sym, subst, ap, ◌∙◌, cond, if◌then◌else◌, ◌&&◌, ◌||◌, eqb, arith, ◌+◌, suc}
 use Rattle.std.proofs.Math.Seq.{take-append_seam}
-use Rattle.std.proofs.lemmas.Bool.{eqb-true}
+use Rattle.std.proofs.lemmas.Bool.{eqb-true, or_left}
 use Rattle.std.specs.Option.{option_or}
 use Rattle.std.specs.Prelude.{filter, take, slice_get}
 use Rattle.std.proofs.lemmas.List.{append_assoc}
+use Rattle.gx_lemmas.proofs.Lists.{get-append}
+use Rattle.gx_lemmas.proofs.Tests.{and-last}
 use Rattle.gx_ids.specs.declared.ids.Cid.{Cid}
 use Rattle.gx_ids.specs.declared.ids.Gxid.{Gxid}
 use Rattle.gx_ids.specs.declared.ids.Node.{Node}
@@ -32,7 +34,7 @@ use Rattle.gx_store.proofs.Marks.{image_after-append, is_aborted-append}
 use Rattle.gx_rules.specs.Locks.{hold_mark}
 use Rattle.gx_rules.specs.Slices.{cause_of, first_fault}
 use Rattle.gx_waits.specs.declared.claim.Claim.{Claim}
-use Rattle.gx_law_order.proofs.Lists.{Each, get_kept, get_last}
+use Rattle.gx_law_order.proofs.Lists.{Each, get_last}
 use Rattle.gx_law_commit.proofs.Commits.{take-kept}
 use Rattle.gx_law_reads.specs.Sights.{IsOnlyAt}
 use Rattle.gx_law_writes.proofs.Legal.{IsPlacedMark}
@@ -74,7 +76,7 @@ node-more : (xs ys : List Mark) (rid : Rid) → Each NoWrite ys → node_of (xs 
 node-more xs ys rid e = node-append xs ys rid ∙ ap (option_or (node_of xs rid)) (node-alone ys rid e) ∙ or-none (node_of xs rid)
 
 pub snapshot-more : (ms extra : List Mark) (level : Level) (g : Gxid) (c : Cid) (place : ℕ) → IsSnapshotAt ms level g c place → IsSnapshotAt (ms ++ extra) level g c place
-snapshot-more ms extra level g c place t = record { d = t.d; snapshot = t.snapshot; taken = get_kept ms extra place _ t.taken; serves = t.serves }
+snapshot-more ms extra level g c place t = record { d = t.d; snapshot = t.snapshot; taken = get-append ms extra place _ t.taken; serves = t.serves }
 
 module _ (ms extra : List Mark) (quiet : Each NoWrite extra) (level : Level) (g : Gxid) (c : Cid) (place : ℕ) (t : IsSnapshotAt ms level g c place) where
   abbrev all : List Mark
@@ -113,16 +115,13 @@ module _ (script : Script) (ms more : List Mark) (placed : Each (IsPlacedMark sc
   abbrev later : Rid → Option (List Value)
   later rid = image (ms ++ more) (take place (ms ++ more)) (Some (g, c)) table rid
 
-  off : (a b d : Bool) → d ≡ false → (a && (b && d)) ≡ false
-  off a b d e = grind arith
-
   never : (shows : Gxid → Cid → Bool) (rid : Rid) (xs : List Mark) (start : Option (List Value)) → node_of xs rid ≡ None → image_after shows table rid start xs ≡ start
   never shows rid [] start e = refl
   never shows rid (mark.Write h d n u r y ∷ xs) start e = by_test (is_same_rid r rid) refl e (λ i q. never shows rid xs i q)
     where
       by_test : (b : Bool) → is_same_rid r rid ≡ b → (if b then Some n else node_of xs rid) ≡ None → ((i : Option (List Value)) → node_of xs rid ≡ None → image_after shows table rid i xs ≡ i) → image_after shows table rid (if shows h d && ((u.0 == table.0) && is_same_rid r rid) then y else start) xs ≡ start
       by_test true q n more' = absurd (cc)
-      by_test false q n more' = ap (λ b. image_after shows table rid (if b then y else start) xs) (off (shows h d) (eqb u.0 table.0) (is_same_rid r rid) q) ∙ more' start n
+      by_test false q n more' = ap (λ b. image_after shows table rid (if b then y else start) xs) (and-last (shows h d) (eqb u.0 table.0) (is_same_rid r rid) q) ∙ more' start n
   never shows rid (m ∷ xs) start e = never shows rid xs start e
 
   node-is : (a b : Node) → is_same_node a b ≡ true → a ≡ b
@@ -223,7 +222,4 @@ select-truth ms sent quiet node level g c unaborted place t query rows p wrote a
 
 -- who has aborted has aborted
 pub aborted-more : (ms extra : List Mark) (g : Gxid) → is_aborted ms g ≡ true → is_aborted (ms ++ extra) g ≡ true
-aborted-more ms extra g e = is_aborted-append ms extra g ∙ or-first (is_aborted ms g) (is_aborted extra g) e
-  where
-    or-first : (a b : Bool) → a ≡ true → (a || b) ≡ true
-    or-first a b q = grind arith
+aborted-more ms extra g e = is_aborted-append ms extra g ∙ or_left (is_aborted ms g) (is_aborted extra g) e

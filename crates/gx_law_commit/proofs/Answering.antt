@@ -1,7 +1,8 @@
 -- What stands when a session's line is answered: every command that was sent out for it has come back.
 use Rattle.std.proofs.Common.{◌≡◌, ◌⊎◌, inl, inr, ℕ, List, [], ◌∷◌, ◌++◌, Some, None, Bool, true, false, refl, sym, subst, ap, ◌∙◌, if◌then◌else◌, ◌||◌, eqb, append-nil}
-use Rattle.std.proofs.lemmas.Bool.{eqb-true}
+use Rattle.std.proofs.lemmas.Bool.{eqb-true, or_left, or_right}
 use Rattle.std.proofs.lemmas.List.{append_assoc}
+use Rattle.gx_lemmas.proofs.Numbers.{eqb-self}
 use Rattle.gx_ids.specs.declared.ids.SessionId.{SessionId}
 use Rattle.gx_tree.specs.declared.stmt.Stmt.{Stmt}
 use Rattle.gx_dtx.specs.Rules.{Turn}
@@ -23,7 +24,6 @@ use Rattle.gx_law_order.proofs.Lists.{Each, each_append}
 use Rattle.gx_law_order.proofs.Numbers.{NoStart}
 use Rattle.gx_law_order.proofs.Past.{aborted-append}
 use Rattle.gx_law_commit.specs.Standings.{gx, waits_in}
-use Rattle.gx_law_commit.proofs.Calls.{or-left, or-right, self}
 use Rattle.gx_locks.specs.Locks.{Locks}
 use Rattle.gx_rules.specs.Locks.{release_marks}
 use Rattle.gx_store.specs.Refusals.{the_coordinator}
@@ -131,7 +131,7 @@ module _ (script : Script) (c : Coord) (ms : List Mark) (Gets : ℕ → ℕ → 
     with-others w h e = ap (λ b. if b then w else c1.works h) e ∙ others h e
 
     rested : (w : Work) → w.command ≡ None → IsRested (with_at c1.works g w g)
-    rested w e i = ap (λ q. waits_in (if q then w else c1.works g).command i) (self g) ∙ ap (λ o. waits_in o i) e
+    rested w e i = ap (λ q. waits_in (if q then w else c1.works g).command i) (eqb-self g) ∙ ap (λ o. waits_in o i) e
 
     -- its line is answered
     abbrev pub HomeSettles : List Mark → Type 0
@@ -159,7 +159,7 @@ module _ (script : Script) (c : Coord) (ms : List Mark) (Gets : ℕ → ℕ → 
         }
 
     abort-told : (why rest : List Mark) → is_aborted (why ++ mark.Abort (gx g) ∷ rest) (gx g) ≡ true
-    abort-told why rest = aborted-append why (mark.Abort (gx g) ∷ rest) (gx g) ∙ or-right (is_aborted why (gx g)) (eqb g g || is_aborted rest (gx g)) (or-left (eqb g g) (is_aborted rest (gx g)) (self g))
+    abort-told why rest = aborted-append why (mark.Abort (gx g) ∷ rest) (gx g) ∙ or_right (is_aborted why (gx g)) (eqb g g || is_aborted rest (gx g)) (or_left (eqb g g) (is_aborted rest (gx g)) (eqb-self g))
 
     pub refused-tidy : (turn : Turn) (why : List Mark) (reason : Refused) → Each NoStart why → Each NoAnswer why → Tidy c1.sessions earlier (is_refused c1 (gx g) turn why reason)
     refused-tidy turn why reason n a =

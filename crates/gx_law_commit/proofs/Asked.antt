@@ -3,6 +3,9 @@ use Rattle.std.proofs.Common.{◌≡◌, inl, inr, ℕ, ◌+◌, List, [], ◌�
 use Rattle.std.proofs.lemmas.Bool.{eqb-true}
 use Rattle.std.proofs.lemmas.Bool.Decides.{nat_tests}
 use Rattle.std.specs.Prelude.{nat_le}
+use Rattle.gx_lemmas.proofs.Options.{some-same}
+use Rattle.gx_lemmas.proofs.Numbers.{same-plus-none}
+use Rattle.gx_lemmas.proofs.Tests.{and-second, true-false}
 use Rattle.gx_ids.specs.declared.ids.Cid.{Cid}
 use Rattle.gx_ids.specs.declared.ids.Gxid.{Gxid}
 use Rattle.gx_ids.specs.declared.ids.SessionId.{SessionId}
@@ -143,16 +146,13 @@ module _ (script : Script) (P : ℕ → ℕ → Part) (c : Coord) (ms : List Mar
     for cid (stmt.Update t x z) = by cid (d.works g).snapshot
     for cid (stmt.Delete t x) = by cid (d.works g).snapshot
 
-    clash : (b : Bool) → b ≡ true → b ≡ false → ⊥
-    clash b x y = grind arith
-
     goes-tidy : (cid : Cid) (line : Stmt) (r : Reading) (plan : Result (List Piece) ArithFault) → ReadsTidy r → TidyIn d.sessions earlier (goes (gx g) cid line r plan)
     goes-tidy cid line r (Ok pieces) f =
         record {
           lines = λ t. ap (λ (x : Session). x.lines) (f.same_sessions t);
           transaction = λ t. ap (λ (x : Session). x.transaction) (f.same_sessions t);
           marks = f.no_start;
-          works = one-go script c ms Gets starting (goes_out (gx g) cid line pieces r).coord.works r.marks g (λ h e. ap (λ b. if b then record (r.coord.works g) { last = cid.0; command = Some (record { stmt = line; cid = cid; orders = orders_of (gx g) cid (r.coord.works g).level r.snapshot (horizon_of r.coord.table) pieces; awaited = nodes_in pieces; count = 0; parts = [] }) } else r.coord.works h) e ∙ f.same_works h e) (λ i e. absurd (clash (waits_in (c.works g).command i) e (idle i)));
+          works = one-go script c ms Gets starting (goes_out (gx g) cid line pieces r).coord.works r.marks g (λ h e. ap (λ b. if b then record (r.coord.works g) { last = cid.0; command = Some (record { stmt = line; cid = cid; orders = orders_of (gx g) cid (r.coord.works g).level r.snapshot (horizon_of r.coord.table) pieces; awaited = nodes_in pieces; count = 0; parts = [] }) } else r.coord.works h) e ∙ f.same_works h e) (λ i e. absurd (true-false (waits_in (c.works g).command i) e (idle i)));
           may = none-may script c ms Gets starting (goes_out (gx g) cid line pieces r).coord.works earlier r.marks f.no_answer;
         }
     goes-tidy cid line r (Err fault) f =
@@ -181,12 +181,9 @@ module _ (script : Script) (P : ℕ → ℕ → Part) (c : Coord) (ms : List Mar
           lines = λ t. refl;
           transaction = λ t. refl;
           marks = (tt, tt);
-          works = one-go script c ms Gets starting (waits_for d (gx g) line wanted).coord.works (waits_for d (gx g) line wanted).marks g (λ h e. ap (λ b. if b then record (d.works g) { waiting = Some line } else d.works h) e ∙ others h e) (λ i e. absurd (clash (waits_in (c.works g).command i) e (idle i)));
+          works = one-go script c ms Gets starting (waits_for d (gx g) line wanted).coord.works (waits_for d (gx g) line wanted).marks g (λ h e. ap (λ b. if b then record (d.works g) { waiting = Some line } else d.works h) e ∙ others h e) (λ i e. absurd (true-false (waits_in (c.works g).command i) e (idle i)));
           may = (tt, tt);
         }
-      where
-        clash : (b : Bool) → b ≡ true → b ≡ false → ⊥
-        clash b x y = grind arith
 
     request-tidy : (o : Option Claim) → TidyIn d.sessions earlier (requests script d (gx g) line o)
     request-tidy None = locked-tidy d g others earlier idle line
@@ -216,11 +213,8 @@ module _ (script : Script) (P : ℕ → ℕ → Part) (c : Coord) (ms : List Mar
         may = x.may;
       }
 
-  plus-none : (n : ℕ) → n ≡ n + 0
-  plus-none n = omega arith
-
   quiet-told : (turn : CoordTurn) → TidyIn c.sessions [] turn → Told (λ t. 0) turn
-  quiet-told turn x = tidy-told c.sessions (λ t. 0) turn (λ t. plus-none (c.sessions t).lines) (λ t. refl) x
+  quiet-told turn x = tidy-told c.sessions (λ t. 0) turn (λ t. same-plus-none (c.sessions t).lines) (λ t. refl) x
 
   module _ (s : SessionId) (idle : is_nothing_in (session_of c s).state.pending ≡ true) where
     abbrev block : Block
@@ -240,7 +234,7 @@ module _ (script : Script) (P : ℕ → ℕ → Part) (c : Coord) (ms : List Mar
 
         by_test : (b : Bool) → eqb t s.0 ≡ b → (if b then moved asked else c.sessions t).lines ≡ (c.sessions t).lines + one_line t
         by_test true e = ap (λ j. (c.sessions j).lines + 1) (sym (eqb-true t s.0 e)) ∙ ap (λ b. (c.sessions t).lines + (if b then 1 else 0)) (sym (same-way t s.0 true e))
-        by_test false e = plus-none (c.sessions t).lines ∙ ap (λ b. (c.sessions t).lines + (if b then 1 else 0)) (sym (same-way t s.0 false e))
+        by_test false e = same-plus-none (c.sessions t).lines ∙ ap (λ b. (c.sessions t).lines + (if b then 1 else 0)) (sym (same-way t s.0 false e))
 
     moved-transaction : (asked : LineStep) (t : ℕ) → ((starts_line c s asked).sessions t).transaction ≡ (c.sessions t).transaction
     moved-transaction asked t = by_test (eqb t s.0) refl
@@ -261,10 +255,7 @@ module _ (script : Script) (P : ℕ → ℕ → Part) (c : Coord) (ms : List Mar
 
     block-settles : is_open_in block ≡ true → Settles script c ms Gets starting (session_of c s).transaction.0
     block-settles opened =
-        record { waits = λ i e. absurd (clash2 (waits_in (c.works (session_of c s).transaction.0).command i) e (block-idle opened i)); alive = live-alive script P c ms st k Gets starting last_is (session_of c s).transaction.0 (live-stage c (session_of c s).transaction.0 ((k.placed s.0).free opened idle)) }
-      where
-        clash2 : (b : Bool) → b ≡ true → b ≡ false → ⊥
-        clash2 b x y = grind arith
+        record { waits = λ i e. absurd (true-false (waits_in (c.works (session_of c s).transaction.0).command i) e (block-idle opened i)); alive = live-alive script P c ms st k Gets starting last_is (session_of c s).transaction.0 (live-stage c (session_of c s).transaction.0 ((k.placed s.0).free opened idle)) }
 
     same-others : (asked : LineStep) (g : ℕ) (h : ℕ) → eqb h g ≡ false → (starts_line c s asked).works h ≡ c.works h
     same-others asked g h e = refl
@@ -339,9 +330,6 @@ module _ (script : Script) (P : ℕ → ℕ → Part) (c : Coord) (ms : List Mar
         same-way : (a b : ℕ) (q : Bool) → eqb a b ≡ q → eqb b a ≡ q
         same-way a b q e = grind (arith, nat_tests)
 
-        some-same : (a b : Gxid) → Some a ≡ Some b → a ≡ b
-        some-same a b e = (cc)
-
         by_test : (t : SessionId) (h : ℕ) (b : Bool) → eqb s.0 t.0 ≡ b → (if eqb s.0 t.0 then Some c.table.next else started_after t None ms) ≡ Some (gx h) → (if eqb t.0 s.0 then c.table.next else (c.sessions t.0).transaction).0 ≡ h
         by_test t h true q e = ap (λ b. (if b then c.table.next else (c.sessions t.0).transaction).0) (same-way s.0 t.0 true q) ∙ ap (λ (y : Gxid). y.0) (some-same c.table.next (gx h) (sym (ap (λ b. if b then Some c.table.next else started_after t None ms) q) ∙ e))
         by_test t h false q e = ap (λ b. (if b then c.table.next else (c.sessions t.0).transaction).0) (same-way s.0 t.0 false q) ∙ last_is t h (sym (ap (λ b. if b then Some c.table.next else started_after t None ms) q) ∙ e)
@@ -352,10 +340,7 @@ module _ (script : Script) (P : ℕ → ℕ → Part) (c : Coord) (ms : List Mar
     begin-told : (level : Level) → IsPlain script c ms Gets starting s → Told one_line (behind (mark.Start c.table.next s ∷ []) (answers_at_once (begins (starts_line c s (step.BeginBlock level)) s level) s told.Begin))
     begin-told level q =
         begun-told (step.BeginBlock level) level (answers_at_once (begins (starts_line c s (step.BeginBlock level)) s level) s told.Begin)
-        (record { lines = λ t. refl; transaction = λ t. refl; marks = (tt, tt); works = one-go script c ms Gets starting (begins (starts_line c s (step.BeginBlock level)) s level).works ((answers_at_once (begins (starts_line c s (step.BeginBlock level)) s level) s told.Begin).marks) c.table.next.0 (begins-others (step.BeginBlock level) level) (λ i e. absurd (clash3 (waits_in (c.works c.table.next.0).command i) e (new-idle i))); may = (inr q, tt) })
-      where
-        clash3 : (b : Bool) → b ≡ true → b ≡ false → ⊥
-        clash3 b x y = grind arith
+        (record { lines = λ t. refl; transaction = λ t. refl; marks = (tt, tt); works = one-go script c ms Gets starting (begins (starts_line c s (step.BeginBlock level)) s level).works ((answers_at_once (begins (starts_line c s (step.BeginBlock level)) s level) s told.Begin).marks) c.table.next.0 (begins-others (step.BeginBlock level) level) (λ i e. absurd (true-false (waits_in (c.works c.table.next.0).command i) e (new-idle i))); may = (inr q, tt) })
 
     alone-told : (line : Stmt) → Told one_line (behind (mark.Start c.table.next s ∷ []) (dispatches script (begins (starts_line c s (step.Command true)) s ReadCommitted) c.table.next line))
     alone-told line =
@@ -385,7 +370,7 @@ module _ (script : Script) (P : ℕ → ℕ → Part) (c : Coord) (ms : List Mar
 
     state-told : (x : SessionState) (turn : CoordTurn) → TidyIn (with_state c s x).sessions [] turn → Told (λ t. 0) turn
     state-told x turn f =
-        tidy-told (with_state c s x).sessions (λ t. 0) turn (λ t. by_lines t (eqb t s.0) refl ∙ plus-none (c.sessions t).lines) (λ t. by_txn t (eqb t s.0) refl) f
+        tidy-told (with_state c s x).sessions (λ t. 0) turn (λ t. by_lines t (eqb t s.0) refl ∙ same-plus-none (c.sessions t).lines) (λ t. by_txn t (eqb t s.0) refl) f
       where
         by_lines : (t : ℕ) (b : Bool) → eqb t s.0 ≡ b → (if b then record (session_of c s) { state = x } else c.sessions t).lines ≡ (c.sessions t).lines
         by_lines t true e = ap (λ j. (c.sessions j).lines) (sym (eqb-true t s.0 e))
@@ -415,13 +400,9 @@ module _ (script : Script) (P : ℕ → ℕ → Part) (c : Coord) (ms : List Mar
   start-any s idle it None e f = absurd (cc)
   start-any s idle it (Some line) e f = start-told s idle it line e
 
-  right-of : (a b : Bool) → (a && b) ≡ true → b ≡ true
-  right-of true b e = e
-  right-of false b e = grind arith
-
   pub event-told : ((g : Gxid) → coord_can script c (event.Resume g) ≡ true → GoesOut c g) → (x : NodeEvent) (fails : Bool) → coord_can script c x ≡ true → IsGot x → Told (counted x) (on_event script c x fails)
   event-told out (event.Deliver from envelope) fails e d = quiet-told _ (message-tidy script P c ms st k Gets starting last_is from fails envelope.message d)
-  event-told out (event.Start s) fails e d = start-any s (idle-first script P c ms st k p ins s _ e) d (next_line script c s) refl (right-of _ _ e)
+  event-told out (event.Start s) fails e d = start-any s (idle-first script P c ms st k p ins s _ e) d (next_line script c s) refl (and-second _ _ e)
   event-told out (event.End s) fails e d = end-told s (idle-first script P c ms st k p ins s _ e) (session_of c s).state.block
   event-told out (event.Resend i (Some g)) fails e d = quiet-told _ (again-tidy script P c ms st k Gets starting last_is i (awaited c g i))
   event-told out (event.Resend i None) fails e d = quiet-told (rests c) (rest-tidy script P c ms st k Gets starting last_is)

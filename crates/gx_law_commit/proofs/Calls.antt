@@ -1,8 +1,10 @@
 -- What the calls on the coordinator's transactions lead to: commits, aborts and answers.
 use Rattle.std.proofs.Common.{◌≡◌, ◌≤◌, ◌<◌, ℕ, ◌+◌, List, [], ◌∷◌, ◌++◌, Option, Some, None, Bool, true, false, refl, sym, subst, ap, ◌∙◌, if◌then◌else◌, ◌||◌, arith, eqb, append-nil}
-use Rattle.std.proofs.lemmas.Bool.{eqb-true}
+use Rattle.std.proofs.lemmas.Bool.{eqb-true, false_from_ne_true, or_left, or_right}
 use Rattle.std.proofs.lemmas.Bool.Decides.{nat_tests}
 use Rattle.std.specs.Prelude.{nat_le}
+use Rattle.gx_lemmas.proofs.Tests.{false-true, or-false, true-false}
+use Rattle.gx_lemmas.proofs.Numbers.{eqb-self, plus-none}
 use Rattle.gx_ids.specs.declared.ids.Gxid.{Gxid}
 use Rattle.gx_ids.specs.declared.ids.Node.{Node}
 use Rattle.gx_dtx.specs.Nodes.{has, to_each}
@@ -42,25 +44,9 @@ use Rattle.gx_rules.specs.Locks.{release_marks}
 use Rattle.gx_law_order.proofs.Calm.{each-released}
 use Rattle.gx_store.specs.Refusals.{the_coordinator}
 
-pub self : (a : ℕ) → eqb a a ≡ true
-self a = grind (arith, nat_tests)
-
 -- no work is in order
 pub nothing-working : (g : ℕ) → Working g no_work
 nothing-working g = record { apart = tt; command = tt }
-
-pub or-right : (a b : Bool) → b ≡ true → (a || b) ≡ true
-or-right a b e = grind arith
-
-pub or-left : (a b : Bool) → a ≡ true → (a || b) ≡ true
-or-left a b e = grind arith
-
-pub or-none : (b : Bool) → (b || false) ≡ b
-or-none true = refl
-or-none false = refl
-
-pub plus-none : (n : ℕ) → n + 0 ≡ n
-plus-none n = omega arith
 
 pub to-nodes : (P : Out → Type 0) (m : Message) (nodes : List Node) → Each (λ i. P (record { node = i; message = m })) nodes → Each P (to_each m nodes)
 to-nodes P m nodes e = each_map P (λ i. record { node = i; message = m }) nodes e
@@ -150,8 +136,8 @@ module _ (script : Script) (P : ℕ → ℕ → Part) (c : Coord) (ms : List Mar
   pub becomes-calm : (ns : List Mark) (now : Option Txn) (w : Work) (i : ℕ) → decided_count ns (gx g) ≡ 0 → is_aborted ns (gx g) ≡ false → is_committed ns (gx g) ≡ false → becomes script P c ms ns g now w i ≡ known_of (standing (nat_le c.table.next.0 g) now i) w i (decided_count ms (gx g)) (is_aborted ms (gx g)) (is_committed ms (gx g))
   becomes-calm ns now w i p q r =
       ap (λ n. known_of (standing (nat_le c.table.next.0 g) now i) w i n (is_aborted ms (gx g) || is_aborted ns (gx g)) (is_committed ms (gx g) || is_committed ns (gx g))) (ap (λ n. decided_count ms (gx g) + n) p ∙ plus-none (decided_count ms (gx g)))
-      ∙ ap (λ b. known_of (standing (nat_le c.table.next.0 g) now i) w i (decided_count ms (gx g)) b (is_committed ms (gx g) || is_committed ns (gx g))) (ap (λ b. is_aborted ms (gx g) || b) q ∙ or-none (is_aborted ms (gx g)))
-      ∙ ap (λ b. known_of (standing (nat_le c.table.next.0 g) now i) w i (decided_count ms (gx g)) (is_aborted ms (gx g)) b) (ap (λ b. is_committed ms (gx g) || b) r ∙ or-none (is_committed ms (gx g)))
+      ∙ ap (λ b. known_of (standing (nat_le c.table.next.0 g) now i) w i (decided_count ms (gx g)) b (is_committed ms (gx g) || is_committed ns (gx g))) (ap (λ b. is_aborted ms (gx g) || b) q ∙ or-false (is_aborted ms (gx g)))
+      ∙ ap (λ b. known_of (standing (nat_le c.table.next.0 g) now i) w i (decided_count ms (gx g)) (is_aborted ms (gx g)) b) (ap (λ b. is_committed ms (gx g) || b) r ∙ or-false (is_committed ms (gx g)))
 
   -- nothing changes
   pub still-led : Led script P c ms (follows c (gx g) (turns c.table (gx g) Rattle.gx_dtx.specs.Rules.stays) outcome.Pending)
@@ -217,18 +203,10 @@ module _ (script : Script) (P : ℕ → ℕ → Part) (c : Coord) (ms : List Mar
       pub both : (i : ℕ) → (known i).at ≡ Two true → has_committed (P i g).phase ≡ true
 
     pub unaborted : (k : Known) (p : Part) → Pair k p → (k.at ≡ Over → ⊥) → k.aborted ≡ false
-    unaborted k p e n = plain k.aborted (λ x. n (e.aborts x))
-      where
-        plain : (b : Bool) → (b ≡ true → ⊥) → b ≡ false
-        plain true n = absurd (n refl)
-        plain false n = refl
+    unaborted k p e n = false_from_ne_true k.aborted (λ x. n (e.aborts x))
 
     pub uncommitted : (k : Known) (p : Part) → Pair k p → (k.at ≡ Over → ⊥) → k.committed ≡ false
-    uncommitted k p e n = plain k.committed (λ x. n (e.ends x))
-      where
-        plain : (b : Bool) → (b ≡ true → ⊥) → b ≡ false
-        plain true n = absurd (n refl)
-        plain false n = refl
+    uncommitted k p e n = false_from_ne_true k.committed (λ x. n (e.ends x))
 
     pub over-none : (i : ℕ) → standing (nat_le c.table.next.0 g) None i ≡ Over
     over-none i = ap (λ b. if b then Unborn else Over) drawn
@@ -259,20 +237,20 @@ module _ (script : Script) (P : ℕ → ℕ → Part) (c : Coord) (ms : List Mar
         let turn : CoordTurn = is_closed c (gx g) (turns c.table (gx g) (ends_committed (gx g) parts)) in
         let o = one-change (ends_committed (gx g) parts) turn.coord turn.marks no_work refl (λ h. refl) (commit-elsewhere tail (record { others = λ h e. (mute-decided tail (gx h) tail-mute, mute-aborted tail (gx h) tail-mute, mute-committed tail (gx h) tail-mute) })) in
         record {
-          way = at-one script P c turn.coord ms turn.marks g (left_of (ends_committed (gx g) parts).step (Some t)) no_work o s shift (nothing-working g) (ended-agrees (ms ++ turn.marks) parts (committed-append ms turn.marks (gx g) ∙ or-right (is_committed ms (gx g)) (is_committed turn.marks (gx g)) (or-left (eqb g g) _ (self g)))) (fol, mute-fol script (ms ++ mark.Commit (gx g) ∷ []) tail tail-mute);
+          way = at-one script P c turn.coord ms turn.marks g (left_of (ends_committed (gx g) parts).step (Some t)) no_work o s shift (nothing-working g) (ended-agrees (ms ++ turn.marks) parts (committed-append ms turn.marks (gx g) ∙ or_right (is_committed ms (gx g)) (is_committed turn.marks (gx g)) (or_left (eqb g g) _ (eqb-self g)))) (fol, mute-fol script (ms ++ mark.Commit (gx g) ∷ []) tail tail-mute);
           outs = outs parts;
         }
       where
         none-aborted : (i : ℕ) → (is_aborted ms (gx g) || is_aborted tail (gx g)) ≡ false
-        none-aborted i = ap (λ b. is_aborted ms (gx g) || b) (mute-aborted tail (gx g) tail-mute) ∙ or-none (is_aborted ms (gx g)) ∙ unaborted (known i) (P i g) (s.pairs i g) (can.going i)
+        none-aborted i = ap (λ b. is_aborted ms (gx g) || b) (mute-aborted tail (gx g) tail-mute) ∙ or-false (is_aborted ms (gx g)) ∙ unaborted (known i) (P i g) (s.pairs i g) (can.going i)
 
         shift : (i : ℕ) → Shift (known i) (becomes script P c ms (is_closed c (gx g) (turns c.table (gx g) (ends_committed (gx g) parts))).marks g (left_of (ends_committed (gx g) parts).step (Some t)) no_work i) (P i g)
         shift i =
-            over-shift (known i) _ (P i g) (s.pairs i g) (ended-over parts i) (can.born i) (λ x. or-left (is_aborted ms (gx g)) (is_aborted tail (gx g)) x) (λ x. or-left (is_committed ms (gx g)) _ x) (λ x. none-aborted i)
+            over-shift (known i) _ (P i g) (s.pairs i g) (ended-over parts i) (can.born i) (λ x. or_left (is_aborted ms (gx g)) (is_aborted tail (gx g)) x) (λ x. or_left (is_committed ms (gx g)) _ x) (λ x. none-aborted i)
             (λ v x. absurd (asked i v x)) (can.alone i) (can.both i) (λ x f. idle i x)
 
         told : (d : Coord) (ns : List Mark) (x : Node) → SaidOut script P d (ms ++ mark.Commit (gx g) ∷ ns) (record { node = x; message = message.Forget (gx g) })
-        told d ns x = (refl, committed-append ms (mark.Commit (gx g) ∷ ns) (gx g) ∙ or-right (is_committed ms (gx g)) (eqb g g || is_committed ns (gx g)) (or-left (eqb g g) (is_committed ns (gx g)) (self g)), tt)
+        told d ns x = (refl, committed-append ms (mark.Commit (gx g) ∷ ns) (gx g) ∙ or_right (is_committed ms (gx g)) (eqb g g || is_committed ns (gx g)) (or_left (eqb g g) (is_committed ns (gx g)) (eqb-self g)), tt)
 
         outs : (parts : List Node) → Each (SaidOut script P (is_closed c (gx g) (turns c.table (gx g) (ends_committed (gx g) parts))).coord (ms ++ (is_closed c (gx g) (turns c.table (gx g) (ends_committed (gx g) parts))).marks)) (ends_committed (gx g) parts).out.outs
         outs [] = tt
@@ -289,25 +267,22 @@ module _ (script : Script) (P : ℕ → ℕ → Part) (c : Coord) (ms : List Mar
         let o = one-change ch turn.coord turn.marks no_work e works others in
         record {
           way = at-one script P c turn.coord ms turn.marks g (left_of ch.step (Some t)) no_work o s shift (nothing-working g) agree fol;
-          outs = subst (Each (SaidOut script P turn.coord (ms ++ turn.marks))) (sym outs) (to-nodes _ (message.Abort (gx g)) parts (for-all _ (λ x. (refl, aborted-append ms turn.marks (gx g) ∙ or-right (is_aborted ms (gx g)) (is_aborted turn.marks (gx g)) ab, tt)) parts));
+          outs = subst (Each (SaidOut script P turn.coord (ms ++ turn.marks))) (sym outs) (to-nodes _ (message.Abort (gx g)) parts (for-all _ (λ x. (refl, aborted-append ms turn.marks (gx g) ∙ or_right (is_aborted ms (gx g)) (is_aborted turn.marks (gx g)) ab, tt)) parts));
         }
       where
         none-committed : (i : ℕ) → (is_committed ms (gx g) || is_committed turn.marks (gx g)) ≡ false
-        none-committed i = ap (λ b. is_committed ms (gx g) || b) co ∙ or-none (is_committed ms (gx g)) ∙ uncommitted (known i) (P i g) (s.pairs i g) (can.going i)
-
-        clash : (b : Bool) → b ≡ true → b ≡ false → ⊥
-        clash b x y = grind arith
+        none-committed i = ap (λ b. is_committed ms (gx g) || b) co ∙ or-false (is_committed ms (gx g)) ∙ uncommitted (known i) (P i g) (s.pairs i g) (can.going i)
 
         shift : (i : ℕ) → Shift (known i) (becomes script P c ms turn.marks g (left_of ch.step (Some t)) no_work i) (P i g)
         shift i =
-            over-shift (known i) _ (P i g) (s.pairs i g) (over i) (can.born i) (λ x. or-left (is_aborted ms (gx g)) (is_aborted turn.marks (gx g)) x) (λ x. or-left (is_committed ms (gx g)) (is_committed turn.marks (gx g)) x)
-            (λ x. absurd (clash _ x (none-committed i))) (λ v x. or-right (is_aborted ms (gx g)) (is_aborted turn.marks (gx g)) ab) (can.alone i) (can.both i)
-            (λ x f. absurd (clash _ (or-right (is_aborted ms (gx g)) (is_aborted turn.marks (gx g)) ab) f))
+            over-shift (known i) _ (P i g) (s.pairs i g) (over i) (can.born i) (λ x. or_left (is_aborted ms (gx g)) (is_aborted turn.marks (gx g)) x) (λ x. or_left (is_committed ms (gx g)) (is_committed turn.marks (gx g)) x)
+            (λ x. absurd (true-false _ x (none-committed i))) (λ v x. or_right (is_aborted ms (gx g)) (is_aborted turn.marks (gx g)) ab) (can.alone i) (can.both i)
+            (λ x f. absurd (true-false _ (or_right (is_aborted ms (gx g)) (is_aborted turn.marks (gx g)) ab) f))
 
     -- with marks around it that tell of nothing
     pub abort-led : (turn : CoordTurn) (ch : Change) (why rest : List Mark) → turn.marks ≡ why ++ mark.Abort (gx g) ∷ rest → Each Mute why → Each Mute rest → CanEnd → decided_count ms (gx g) ≡ 0 → ((i : ℕ) → local_count ms (at i) (gx g) ≡ 0) → turn.coord.table ≡ changed c.table (gx g) ch → ((h : ℕ) → turn.coord.works h ≡ (if eqb h g then no_work else c.works h)) → ((i : ℕ) → standing (nat_le c.table.next.0 g) (left_of ch.step (Some t)) i ≡ Over) → Agrees (ms ++ turn.marks) g (left_of ch.step (Some t)) [] → (parts : List Node) → turn.outs ≡ to_each (message.Abort (gx g)) parts → Led script P c ms turn
     abort-led turn ch why rest m a b can dec loc e works over agree parts outs =
-        aborted-led turn ch can e works over agree (subst (λ x. Elsewhere x g) (sym m) (abort-elsewhere why rest g a b)) (ap (λ x. is_aborted x (gx g)) m ∙ aborted-append why (mark.Abort (gx g) ∷ rest) (gx g) ∙ or-right (is_aborted why (gx g)) (eqb g g || is_aborted rest (gx g)) (or-left (eqb g g) (is_aborted rest (gx g)) (self g)))
+        aborted-led turn ch can e works over agree (subst (λ x. Elsewhere x g) (sym m) (abort-elsewhere why rest g a b)) (ap (λ x. is_aborted x (gx g)) m ∙ aborted-append why (mark.Abort (gx g) ∷ rest) (gx g) ∙ or_right (is_aborted why (gx g)) (eqb g g || is_aborted rest (gx g)) (or_left (eqb g g) (is_aborted rest (gx g)) (eqb-self g)))
         (ap (λ x. is_committed x (gx g)) m ∙ committed-append why (mark.Abort (gx g) ∷ rest) (gx g) ∙ ap (λ x. x || is_committed rest (gx g)) (mute-committed why (gx g) a) ∙ mute-committed rest (gx g) b)
         (subst (Fol script ms) (sym m) (fol-append script ms why (mark.Abort (gx g) ∷ rest) (mute-fol script ms why a)
         ((decided-append ms why (gx g) ∙ ap (λ n. decided_count ms (gx g) + n) (mute-decided why (gx g) a) ∙ plus-none (decided_count ms (gx g)) ∙ dec, λ n. local-append ms why n (gx g) ∙ ap (λ x. local_count ms n (gx g) + x) (mute-local why n (gx g) a) ∙ plus-none (local_count ms n (gx g)) ∙ loc n.0), mute-fol script ((ms ++ why) ++ mark.Abort (gx g) ∷ []) rest b))) parts outs
@@ -358,7 +333,7 @@ module _ (script : Script) (P : ℕ → ℕ → Part) (c : Coord) (ms : List Mar
 
     none-commits : IsReady → (c.works g).writers ≡ [] → CommitsBy (writers_of script ms (gx g)) ms (gx g)
     none-commits r e =
-        few (writers_of script ms (gx g)) ms g (filter-few (is_writer ms (gx g)) 0 (λ i x. absurd (differ (sym (no-writes i) ∙ x))) 1 script.segments)
+        few (writers_of script ms (gx g)) ms g (filter-few (is_writer ms (gx g)) 0 (λ i x. absurd (false-true (sym (no-writes i) ∙ x))) 1 script.segments)
         (record {
           local = λ node. (live-calm r.live node.0).uncommitted_there ∙ ap bit (sym (no-writes node.0)) ∙ as-bit (is_writer ms (gx g) node);
           unprepared = λ node. (live-calm r.live node.0).unpromised;
@@ -367,9 +342,6 @@ module _ (script : Script) (P : ℕ → ℕ → Part) (c : Coord) (ms : List Mar
       where
         no-writes : (i : ℕ) → is_writer ms (gx g) (at i) ≡ false
         no-writes i = writes-as r i ∙ ap (has (at i)) e
-
-        differ : false ≡ true → ⊥
-        differ x = cc
 
         as-bit : (b : Bool) → bit b ≡ (if b then 1 else 0)
         as-bit true = refl
@@ -392,7 +364,7 @@ module _ (script : Script) (P : ℕ → ℕ → Part) (c : Coord) (ms : List Mar
         never : (a : Standing) → a ≡ Live → a ≡ Preparing true → ⊥
         never a x y = grind arith
     commit-writers r (w ∷ []) e =
-        calm-led (commit_change (gx g) (w ∷ []) t) (λ i. let x = ready-shift r (w ∷ []) e i in alone-shift (eqb w.0 i) (known i) (P i g) (s.pairs i g) x.0 x.1 (sym (or-none (eqb w.0 i)) ∙ x.2)) tt ((refl, refl, λ v. ap One (self w.0), λ d. tt), tt)
+        calm-led (commit_change (gx g) (w ∷ []) t) (λ i. let x = ready-shift r (w ∷ []) e i in alone-shift (eqb w.0 i) (known i) (P i g) (s.pairs i g) x.0 x.1 (sym (or-false (eqb w.0 i)) ∙ x.2)) tt ((refl, refl, λ v. ap One (eqb-self w.0), λ d. tt), tt)
     commit-writers r (w ∷ x ∷ ws) e =
         calm-led (commit_change (gx g) (w ∷ x ∷ ws) t) (λ i. let y = ready-shift r (w ∷ x ∷ ws) e i in ask-shift (has (at i) (w ∷ x ∷ ws)) (known i) (P i g) (s.pairs i g) y.0 y.1 y.2) (sym e, subst AreSeveral (sym e) tt)
         (to-nodes _ (message.Prepare (gx g)) (w ∷ x ∷ ws) (each_weaker (λ (y : Node). has y (w ∷ x ∷ ws) ≡ true) _ (λ y h. (refl, refl, (wrote-there y h, λ v. Rattle.std.proofs.Common.inl (ap Preparing h)), λ d. tt)) (w ∷ x ∷ ws) (each-has (w ∷ x ∷ ws))))

@@ -1,15 +1,16 @@
 -- What stands before a commit: the writers, and the decision.
 use Rattle.std.proofs.Common.{◌≡◌, ◌≤◌, ◌<◌, ℕ, zero, suc, ◌+◌, List, [], ◌∷◌, ◌++◌, Some, Bool, true, false, refl, sym, subst, ap, ◌∙◌, ◌||◌, cond, arith, eqb}
-use Rattle.std.proofs.lemmas.Bool.{eqb-true}
+use Rattle.std.proofs.lemmas.Bool.{eqb-true, or_right}
 use Rattle.std.proofs.lemmas.Bool.Decides.{nat_tests}
 use Rattle.std.specs.Prelude.{filter, slice_get, take}
+use Rattle.gx_lemmas.proofs.Lists.{get-append}
+use Rattle.gx_lemmas.proofs.Numbers.{le-apart}
 use Rattle.gx_ids.specs.declared.ids.Node.{Node}
 use Rattle.gx_dtx.specs.Nodes.{has}
 use Rattle.gx_meaning.specs.Plan.{nodes_from}
 use Rattle.gx_store.specs.declared.mark.Mark.{Mark}
 use Rattle.gx_store.specs.declared.mark.Mark.TheVariants as mark
 use Rattle.gx_store.specs.Protocol.{AreSeveral, CommitsAtOnce, CommitsBy, CommitsInTwo, local_count, prepared_count}
-use Rattle.gx_law_order.proofs.Lists.{get_kept}
 use Rattle.gx_law_commit.specs.Pairs.{bit}
 use Rattle.gx_law_commit.specs.Standings.{at, gx}
 
@@ -70,12 +71,6 @@ filter-has t i a (suc k) e l m = by_same (eqb a i) refl (λ x y. filter-has t i 
     self : (a : ℕ) (b : Bool) → (eqb a a || b) ≡ true
     self a b = grind (arith, nat_tests)
 
-    or-true : (a b : Bool) → b ≡ true → (a || b) ≡ true
-    or-true a b h = grind arith
-
-    further : (a i : ℕ) → a ≤ i → eqb a i ≡ false → a + 1 ≤ i
-    further a i l q = grind (arith, nat_tests)
-
     nearer : (a k i : ℕ) → i < a + suc k → i < (a + 1) + k
     nearer a k i m = omega arith
 
@@ -84,12 +79,12 @@ filter-has t i a (suc k) e l m = by_same (eqb a i) refl (λ x y. filter-has t i 
     here false h = absurd (cc)
 
     later : (b : Bool) → has (at i) (filter t (nodes_from (a + 1) k)) ≡ true → has (at i) (cond b (at a ∷ filter t (nodes_from (a + 1) k)) (filter t (nodes_from (a + 1) k))) ≡ true
-    later true h = or-true (eqb a i) (has (at i) (filter t (nodes_from (a + 1) k))) h
+    later true h = or_right (eqb a i) (has (at i) (filter t (nodes_from (a + 1) k))) h
     later false h = h
 
     by_same : (b : Bool) → eqb a i ≡ b → (a + 1 ≤ i → i < (a + 1) + k → has (at i) (filter t (nodes_from (a + 1) k)) ≡ true) → has (at i) (cond (t (at a)) (at a ∷ filter t (nodes_from (a + 1) k)) (filter t (nodes_from (a + 1) k))) ≡ true
     by_same true q f = subst (λ j. has (at i) (cond (t (at j)) (at j ∷ filter t (nodes_from (a + 1) k)) (filter t (nodes_from (a + 1) k))) ≡ true) (sym (eqb-true a i q)) (here (t (at i)) e)
-    by_same false q f = later (t (at a)) (f (further a i l q) (nearer a k i m))
+    by_same false q f = later (t (at a)) (f (le-apart a i l q) (nearer a k i m))
 
 one-has : (xs : List Node) (i j : ℕ) → AtMostOne xs → has (at i) xs ≡ true → has (at j) xs ≡ true → i ≡ j
 one-has [] i j a e f = absurd (cc)
@@ -124,7 +119,7 @@ pub decision-append : (ms ns : List Mark) (ws : List Node) (g : ℕ) → Decisio
 decision-append ms ns ws g d =
     record {
       place = d.place;
-      decided = get_kept ms ns d.place (mark.Decided (gx g)) d.decided;
+      decided = get-append ms ns d.place (mark.Decided (gx g)) d.decided;
       promised = λ i. ap (λ xs. prepared_count xs (at i) (gx g)) (take-kept ms ns d.place (mark.Decided (gx g)) d.decided) ∙ d.promised i;
       uncommitted = λ i. ap (λ xs. local_count xs (at i) (gx g)) (take-kept ms ns d.place (mark.Decided (gx g)) d.decided) ∙ d.uncommitted i;
     }

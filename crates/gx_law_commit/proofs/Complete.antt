@@ -2,6 +2,11 @@
 use Rattle.std.proofs.Common.{◌≡◌, ◌⊎◌, inl, inr, ℕ, zero, suc, ◌+◌, List, [], ◌∷◌, ◌++◌, Option, Some, None, Bool, true, false, refl, sym, subst, ap, ◌∙◌, if◌then◌else◌, arith, append-nil}
 use Rattle.std.proofs.lemmas.List.{append_assoc}
 use Rattle.std.specs.Prelude.{◌<◌, Contains, length, slice_get, slice_index_or, take}
+use Rattle.std.proofs.lemmas.Bool.{or_left, or_right}
+use Rattle.gx_lemmas.proofs.Lists.{get-append}
+use Rattle.gx_lemmas.proofs.Tests.{true-false}
+use Rattle.gx_lemmas.proofs.Numbers.{lt-none}
+use Rattle.gx_lemmas.proofs.Options.{some-same}
 use Rattle.gx_ids.specs.declared.ids.Cid.{Cid}
 use Rattle.gx_ids.specs.declared.ids.Gxid.{Gxid}
 use Rattle.gx_ids.specs.declared.ids.Node.{Node}
@@ -34,7 +39,7 @@ use Rattle.gx_rules.specs.AtCoordinator.{coord_can, coord_rule, on_event}
 use Rattle.gx_rules.specs.Coordinators.{Coord, CoordTurn, session_of}
 use Rattle.gx_rules.specs.Machine.{World, coord_did}
 use Rattle.gx_rules.specs.Sending.{clock_after, counted, numbered}
-use Rattle.gx_law_order.proofs.Lists.{Each, each_append, each_weaker, get_kept, get_last}
+use Rattle.gx_law_order.proofs.Lists.{Each, each_append, each_weaker, get_last}
 use Rattle.gx_law_order.proofs.Past.{aborted-append}
 use Rattle.gx_law_order.proofs.Waiting.{going-out}
 use Rattle.gx_law_order.proofs.World.{Knows, marks-last}
@@ -43,7 +48,6 @@ use Rattle.gx_law_commit.specs.Followed.{AnswersAt, DoMarksAnswer, DoStepsAnswer
 use Rattle.gx_law_commit.specs.Standings.{at, gx, waits_in}
 use Rattle.gx_law_commit.proofs.Answering.{IsPlain, IsRested, MayAll, MayAt, NoAnswer, Settles}
 use Rattle.gx_law_commit.proofs.Asked.{IsGot, Told, counted as counted_by, event-told}
-use Rattle.gx_law_commit.proofs.Calls.{or-left, or-right}
 use Rattle.gx_law_commit.proofs.Commits.{take-kept}
 use Rattle.gx_law_commit.proofs.Completing.{calm-started}
 use Rattle.gx_law_commit.proofs.Events.{IsSaidIn, event-led}
@@ -74,7 +78,7 @@ came-append steps ss i g n c =
     record {
       place = c.place;
       step = c.step;
-      there = get_kept steps ss c.place c.step c.there;
+      there = get-append steps ss c.place c.step c.there;
       wrote = c.wrote;
       count = c.count;
       part = c.part;
@@ -118,19 +122,13 @@ pub record Replied (script : Script) (w : World) : Type 0 where
 each-get : {A : Type 0} (P : A → Type 0) (xs : List A) (k : ℕ) (x : A) → Each P xs → slice_get xs k ≡ Some x → P x
 each-get P [] k x e f = absurd (cc)
 each-get P (y ∷ ys) zero x e f = subst P (some-same y x f) e.0
-  where
-    some-same : {A : Type 0} (a b : A) → Some a ≡ Some b → a ≡ b
-    some-same a b e = (cc)
 each-get P (y ∷ ys) (suc k) x e f = each-get P ys k x e.1 f
 
 below : (k n : ℕ) → suc k < suc n → k < n
 below k n l = omega arith
 
 each-at : {A : Type 0} (P : A → Type 0) (xs : List A) (k : ℕ) (x : A) → Each P xs → k < length xs → slice_index_or xs k x ≡ x → P x
-each-at P [] k x e l q = absurd (none k l)
-  where
-    none : (k : ℕ) → k < 0 → ⊥
-    none k l = omega arith
+each-at P [] k x e l q = absurd (lt-none k l)
 each-at P (y ∷ ys) zero x e l q = subst P q e.0
 each-at P (y ∷ ys) (suc k) x e l q = each-at P ys k x e.1 (below k (length ys) l) q
 
@@ -265,13 +263,10 @@ module _ (script : Script) (w : World) (n : Knows script w) (v : Holds script w)
       started (InBlock l k) f = f
       started Failed f = absurd (cc)
 
-      clash : (b : Bool) → b ≡ true → b ≡ false → ⊥
-      clash b y z = grind arith
-
       by_back : Settles script w.coord ms Gets starting g.0 → IsBack w.coord w.steps node.0 g.0 c.0 → IsReturned (record { steps = w.steps; event = e; earlier = earlier; later = later }) g c node
       by_back y (inl z) = returned earlier later node g.0 c.0 (subst (Comes w.steps e node.0 g.0) (sym z.1) (y.waits node.0 z.0))
       by_back y (inr (inl z)) = returned-before earlier later node g.0 c.0 z
-      by_back y (inr (inr z)) = absurd (clash (is_aborted ms g) z y.alive)
+      by_back y (inr (inr z)) = absurd (true-false (is_aborted ms g) z y.alive)
 
       settled : Settles script w.coord ms Gets starting g.0 × IsRested (turn.coord.works g.0)
       settled = settle g.0 (started (state_at script s (record { steps = w.steps; event = e; earlier = earlier; later = later })) runs.transaction)
@@ -279,18 +274,12 @@ module _ (script : Script) (w : World) (n : Knows script w) (v : Holds script w)
       -- what this step sends is awaited behind it
       by_sent : IsSentBy (record { steps = w.steps; event = e; earlier = earlier; later = later }) node sent.number (message.Exec g c sent.level sent.snapshot sent.horizon sent.slice) → IsReturned (record { steps = w.steps; event = e; earlier = earlier; later = later }) g c node
       by_sent (inl z) = by_back settled.0 (sent-there node sent.number z.step z.mark g c sent.level sent.snapshot sent.horizon sent.slice z.sending)
-      by_sent (inr z) = absurd (clash (waits_in (turn.coord.works g.0).command node.0) (each-contained (SentAsks turn.coord) (earlier ++ later) _ asks z).0 (settled.1 node.0))
+      by_sent (inr z) = absurd (true-false (waits_in (turn.coord.works g.0).command node.0) (each-contained (SentAsks turn.coord) (earlier ++ later) _ asks z).0 (settled.1 node.0))
   complete-one earlier later s a asks (inr plain) line level g c node runs sent =
-      absurd (clash (is_command (state_at script s point) plain.line) (subst (λ q. is_command (state_at script s point) q ≡ true) same runs.command) (plain.plain (state_at script s point)))
+      absurd (true-false (is_command (state_at script s point) plain.line) (subst (λ q. is_command (state_at script s point) q ≡ true) same runs.command) (plain.plain (state_at script s point)))
     where
       point : Point
       point = record { steps = w.steps; event = e; earlier = earlier; later = later }
-
-      clash : (b : Bool) → b ≡ true → b ≡ false → ⊥
-      clash b y z = grind arith
-
-      some-same : (a b : Stmt) → Some a ≡ Some b → a ≡ b
-      some-same a b e = (cc)
 
       number : answer_count s (ms ++ earlier) + 1 ≡ (session_of w.coord s).lines + 1
       number = sym runs.line.started ∙ ap (λ q. starts_in s w.steps + q) (plain.starts_it s refl) ∙ ap (λ q. q + 1) (sym (r.lines s))
@@ -348,7 +337,7 @@ module _ (script : Script) (w : World) (n : Knows script w) (v : Holds script w)
           asks (message.Graph round graph) i a = tt
 
           aborted-later : (g : ℕ) → is_aborted turn.marks (gx g) ≡ true → is_aborted (marks_in next.steps) (gx g) ≡ true
-          aborted-later g y = ap (λ q. is_aborted q (gx g)) (sym all) ∙ aborted-append ms (turn.marks ++ sent) (gx g) ∙ or-right (is_aborted ms (gx g)) (is_aborted (turn.marks ++ sent) (gx g)) (aborted-append turn.marks sent (gx g) ∙ or-left (is_aborted turn.marks (gx g)) (is_aborted sent (gx g)) y)
+          aborted-later g y = ap (λ q. is_aborted q (gx g)) (sym all) ∙ aborted-append ms (turn.marks ++ sent) (gx g) ∙ or_right (is_aborted ms (gx g)) (is_aborted (turn.marks ++ sent) (gx g)) (aborted-append turn.marks sent (gx g) ∙ or_left (is_aborted turn.marks (gx g)) (is_aborted sent (gx g)) y)
 
           stays : (i g m : ℕ) → IsBack w.coord w.steps i g m → IsBack last_coord (w.steps ++ step ∷ []) i g m
           stays i g m (inl y) = by_works (t.works g i y.0)
@@ -358,4 +347,4 @@ module _ (script : Script) (w : World) (n : Knows script w) (v : Holds script w)
               by_works (inr (inl z)) = inr (inr (aborted-later g z))
               by_works (inr (inr z)) = inr (inl (came-now w.steps step i g m (subst (Comes w.steps e i g) (sym y.1) z)))
           stays i g m (inr (inl y)) = inr (inl (came-append w.steps (step ∷ []) i g m y))
-          stays i g m (inr (inr y)) = inr (inr (ap (λ q. is_aborted q (gx g)) (sym all) ∙ aborted-append ms (turn.marks ++ sent) (gx g) ∙ or-left (is_aborted ms (gx g)) (is_aborted (turn.marks ++ sent) (gx g)) y))
+          stays i g m (inr (inr y)) = inr (inr (ap (λ q. is_aborted q (gx g)) (sym all) ∙ aborted-append ms (turn.marks ++ sent) (gx g) ∙ or_left (is_aborted ms (gx g)) (is_aborted (turn.marks ++ sent) (gx g)) y))

@@ -1,6 +1,8 @@
 -- Every event of the coordinator answers a line only when its commands have come back.
 use Rattle.std.proofs.Common.{◌≡◌, ◌⊎◌, inl, inr, ℕ, List, [], ◌∷◌, ◌++◌, Option, Some, None, Bool, true, false, refl, sym, subst, ap, ◌∙◌, if◌then◌else◌, ◌==◌, ◌&&◌, arith, eqb}
-use Rattle.std.proofs.lemmas.Bool.{eqb-true}
+use Rattle.std.proofs.lemmas.Bool.{and_parts, eqb-true, false_from_ne_true}
+use Rattle.gx_lemmas.proofs.Numbers.{eqb-self}
+use Rattle.gx_lemmas.proofs.Tests.{true-false}
 use Rattle.gx_ids.specs.declared.ids.Cid.{Cid}
 use Rattle.gx_ids.specs.declared.ids.Gxid.{Gxid}
 use Rattle.gx_ids.specs.declared.ids.Node.{Node}
@@ -37,9 +39,9 @@ use Rattle.gx_store.proofs.Marks.{started_after-append}
 use Rattle.gx_law_commit.specs.Standings.{Part, Standing, at, gx, known_at, standing_in, waits_in}
 use Rattle.gx_law_commit.specs.Standings.Standing.{Live, Over}
 use Rattle.gx_law_commit.proofs.Answering.{NoAnswer, Settles, Tidy, answered-tidy, closed-tidy, refused-tidy, rests-tidy}
-use Rattle.gx_law_commit.proofs.Calls.{live-there, self, stands-as}
+use Rattle.gx_law_commit.proofs.Calls.{live-there, stands-as}
 use Rattle.gx_law_commit.proofs.Dispatching.{IsLive}
-use Rattle.gx_law_commit.proofs.Events.{both_of, live-stage}
+use Rattle.gx_law_commit.proofs.Events.{live-stage}
 use Rattle.gx_law_commit.proofs.Nodes.{has-without}
 use Rattle.gx_law_commit.proofs.Ways.{CommandOf, Stands}
 
@@ -82,11 +84,7 @@ module _ (script : Script) (P : ℕ → ℕ → Part) (c : Coord) (ms : List Mar
 
   -- it isn't aborted while it runs
   pub alive-at : (g : ℕ) → ((known_at c ms 0 g).at ≡ Over → ⊥) → is_aborted ms (gx g) ≡ false
-  alive-at g n = plain (is_aborted ms (gx g)) (λ e. n ((st.pairs 0 g).aborts e))
-    where
-      plain : (b : Bool) → (b ≡ true → ⊥) → b ≡ false
-      plain true n = absurd (n refl)
-      plain false n = refl
+  alive-at g n = false_from_ne_true (is_aborted ms (gx g)) (λ e. n ((st.pairs 0 g).aborts e))
 
   pub live-alive : (g : ℕ) → IsLive c g → is_aborted ms (gx g) ≡ false
   live-alive g live = alive-at g (λ x. differ (known_at c ms 0 g).at (live-there script P c ms st k.whole g live.txn live.found live.active 0) x)
@@ -136,7 +134,7 @@ module _ (script : Script) (P : ℕ → ℕ → Part) (c : Coord) (ms : List Mar
     others1 h e = ap (λ b. if b then w1 else c.works h) e
 
     work-now : c1.works g ≡ w1
-    work-now = ap (λ q. if q then w1 else c.works g) (self g)
+    work-now = ap (λ q. if q then w1 else c.works g) (eqb-self g)
 
     all-back : without j m.awaited ≡ [] → SettlesIt g
     all-back e = record { waits = λ i h. by_same i (eqb j.0 i) refl (waits-has i h); alive = live-alive g (live-stage c g runs-it.0) }
@@ -144,12 +142,9 @@ module _ (script : Script) (P : ℕ → ℕ → Part) (c : Coord) (ms : List Mar
         none : (i : ℕ) (b : Bool) → eqb j.0 i ≡ b → has (at i) [] ≡ (if b then false else has (at i) m.awaited)
         none i b q = ap (has (at i)) (sym e) ∙ has-without (at i) j m.awaited ∙ ap (λ x. if x then false else has (at i) m.awaited) q
 
-        clash : (b : Bool) → b ≡ true → b ≡ false → ⊥
-        clash b x y = grind arith
-
         by_same : (i : ℕ) (b : Bool) → eqb j.0 i ≡ b → has (at i) m.awaited ≡ true → Gets i g (c.works g).last
         by_same i true q h = subst (λ n. Gets n g (c.works g).last) (eqb-true j.0 i q) gets
-        by_same i false q h = absurd (clash (has (at i) m.awaited) h (sym (none i false q)))
+        by_same i false q h = absurd (true-false (has (at i) m.awaited) h (sym (none i false q)))
 
     home-here : without j m.awaited ≡ [] → (before : List Mark) → Each NoStart before → (h : ℕ) → started_after (work_of c1 (gx g)).session None (ms ++ before) ≡ Some (gx h) → SettlesIt h × (h ≡ g)
     home-here e before calm h q =
@@ -200,7 +195,7 @@ module _ (script : Script) (P : ℕ → ℕ → Part) (c : Coord) (ms : List Mar
       number q = sym (eqb-true m.cid.0 cid.0 q) ∙ (subst (CommandOf g (c.works g).last) e (st.works g).command).0
 
       by_test : (b : Bool) → (is_awaited m j cid && fits_part m.stmt part) ≡ b → TidyFrom c.sessions [] (if b then takes_done c (gx g) j wrote count part m else rests c)
-      by_test true f = let x = both_of _ _ (both_of _ _ f).0 in done-tidy g m e j x.1 wrote count part (subst (Gets j.0 g) (number x.0) gets)
+      by_test true f = let x = and_parts _ _ (and_parts _ _ f).0 in done-tidy g m e j x.1 wrote count part (subst (Gets j.0 g) (number x.0) gets)
       by_test false f = rest-tidy
 
   on-failed-tidy : (g : ℕ) (j : Node) (cid : Cid) (cause : Cause) (m : Option Command) → TidyFrom c.sessions [] (on_failed c (gx g) j cid cause m)

@@ -1,5 +1,6 @@
 -- What marks say of writers, promises, commits and decisions, mark by mark.
 use Rattle.std.proofs.Common.{◌≡◌, ℕ, ◌+◌, List, [], ◌∷◌, ◌++◌, Bool, true, false, refl, ap, ◌∙◌, if◌then◌else◌, ◌||◌, ◌&&◌, arith}
+use Rattle.gx_lemmas.proofs.Tests.{or-assoc}
 use Rattle.gx_ids.specs.declared.ids.Gxid.{Gxid}
 use Rattle.gx_ids.specs.declared.ids.Node.{Node}
 use Rattle.gx_msg.specs.declared.message.Out.{Out}
@@ -13,11 +14,7 @@ use Rattle.gx_law_order.proofs.Lists.{Each}
 
 pub writer-append : (xs ys : List Mark) (g : Gxid) (n : Node) → is_writer (xs ++ ys) g n ≡ is_writer xs g n || is_writer ys g n
 writer-append [] ys g n = refl
-writer-append (mark.Write h c m t r x ∷ xs) ys g n = ap (λ b. (is_same_gxid h g && is_same_node m n) || b) (writer-append xs ys g n) ∙ or-or (is_same_gxid h g && is_same_node m n) (is_writer xs g n) (is_writer ys g n)
-  where
-    or-or : (a b c : Bool) → (a || (b || c)) ≡ ((a || b) || c)
-    or-or true b c = refl
-    or-or false b c = refl
+writer-append (mark.Write h c m t r x ∷ xs) ys g n = ap (λ b. (is_same_gxid h g && is_same_node m n) || b) (writer-append xs ys g n) ∙ or-assoc (is_same_gxid h g && is_same_node m n) (is_writer xs g n) (is_writer ys g n)
 writer-append (m ∷ xs) ys g n = writer-append xs ys g n
 
 counts-on : (b : Bool) (x y z : ℕ) → x ≡ y + z → (if b then x + 1 else x) ≡ (if b then y + 1 else y) + z

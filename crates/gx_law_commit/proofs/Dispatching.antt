@@ -3,6 +3,8 @@ use Rattle.std.proofs.Common.{◌≡◌, ℕ, ◌+◌, List, [], ◌∷◌, ◌+
 use Rattle.std.proofs.lemmas.Bool.{eqb-true}
 use Rattle.std.proofs.lemmas.List.{append_assoc}
 use Rattle.std.specs.Prelude.{map, nat_le, option_map}
+use Rattle.gx_lemmas.proofs.Numbers.{eqb-self}
+use Rattle.gx_lemmas.proofs.Tests.{and-false, and-true}
 use Rattle.gx_ids.specs.declared.ids.Cid.{Cid}
 use Rattle.gx_ids.specs.declared.ids.Gxid.{Gxid}
 use Rattle.gx_ids.specs.declared.ids.Node.{Node}
@@ -41,7 +43,7 @@ use Rattle.gx_law_order.proofs.Stages.{At, IsWhole, left_of, txn-at}
 use Rattle.gx_law_commit.specs.Said.{IsDone, Said}
 use Rattle.gx_law_commit.specs.Standings.{Known, Part, at, gx, is_undecided, known_at, known_of, standing, standing_in, waits_in}
 use Rattle.gx_law_commit.specs.Standings.Standing.{Live}
-use Rattle.gx_law_commit.proofs.Calls.{Mute, abort-led, becomes-calm, commits-ready, dropped-over, live-calm, live-can, live-there, mute-aborted, mute-committed, mute-decided, mute-fol, self, stands-as, back-mute}
+use Rattle.gx_law_commit.proofs.Calls.{Mute, abort-led, becomes-calm, commits-ready, dropped-over, live-calm, live-can, live-there, mute-aborted, mute-committed, mute-decided, mute-fol, stands-as, back-mute}
 use Rattle.gx_law_commit.proofs.Nodes.{AreApart, apart-with, each-has, has-with, has-without}
 use Rattle.gx_law_commit.proofs.Shifts.{Shift, is-sent, learn-shift, send-shift, sending, shift-same}
 use Rattle.gx_law_commit.proofs.Ways.{Agrees, AgreesIn, CommandOf, IsOrderOf, Led, Same, SaidOut, Stands, Way, Working, at-one, rest-led, same-then, way-same, way-then}
@@ -97,7 +99,7 @@ all-more [] d g t w f = record { now = t; phase = refl; at = record { whole = w;
     by_test h false e = refl
 all-more (i ∷ is) d g t w f =
     let a = one-more d g i t w f in
-    joined a (all-more is (enlisted d (gx g) i) g a.now a.at.whole (a.at.finds g ∙ ap (λ b. if b then Some a.now else find_txn d (gx g)) (self g)))
+    joined a (all-more is (enlisted d (gx g) i) g a.now a.at.whole (a.at.finds g ∙ ap (λ b. if b then Some a.now else find_txn d (gx g)) (eqb-self g)))
   where
     joined : (a : Enlists d (enlisted d (gx g) i) g t) → Enlists (enlisted d (gx g) i) (enlisted_all (enlisted d (gx g) i) (gx g) is) g a.now → Enlists d (enlisted_all (enlisted d (gx g) i) (gx g) is) g t
     joined a b =
@@ -211,12 +213,12 @@ module _ (script : Script) (P : ℕ → ℕ → Part) (c : Coord) (ms : List Mar
       let a = live-at c.table g (Some (xmin_of c.table)) whole in
       let w : Work = record (c.works g) { snapshot = kept_at (c.works g).level (snapshot_of c.table) } in
       let d : Coord = (takes_snapshot c (gx g) cid (c.works g)).coord in
-      let there : d.works g ≡ w = ap (λ b. if b then w else c.works g) (self g) in
+      let there : d.works g ≡ w = ap (λ b. if b then w else c.works g) (eqb-self g) in
       let finds : (h : ℕ) → find_txn d.table (gx h) ≡ (if eqb h g then Some (set_live (Some (xmin_of c.table)) live.txn) else find_txn c.table (gx h)) = λ h. a.finds h ∙ ap (λ o. if eqb h g then option_map (set_live (Some (xmin_of c.table))) o else find_txn c.table (gx h)) live.found in
       record {
         way = keeps-way d (mark.Snap (gx g) cid (snapshot_of c.table) ∷ []) (set_live (Some (xmin_of c.table)) live.txn) w refl refl finds (λ h. refl) (tt, tt) (record { apart = (s.works g).apart; command = (s.works g).command }) (λ i. shift-same (k i) (P i g) (s.pairs i g));
         whole_there = a.whole;
-        live_there = record { txn = set_live (Some (xmin_of c.table)) live.txn; found = finds g ∙ ap (λ b. if b then Some (set_live (Some (xmin_of c.table)) live.txn) else find_txn c.table (gx g)) (self g); active = live.active };
+        live_there = record { txn = set_live (Some (xmin_of c.table)) live.txn; found = finds g ∙ ap (λ b. if b then Some (set_live (Some (xmin_of c.table)) live.txn) else find_txn c.table (gx g)) (eqb-self g); active = live.active };
         last = ap (λ (v : Work). v.last) there;
         command = ap (λ (v : Work). v.command) there;
       }
@@ -268,13 +270,13 @@ module _ (script : Script) (P : ℕ → ℕ → Part) (c : Coord) (ms : List Mar
       known-there : Enlists c.table (enlisted_all c.table (gx g) (nodes_in pieces)) g live.txn → (i : ℕ) → IsOut d_there ms g i (nodes_in pieces) cid.0
       known-there e i =
           record {
-            at_live = ap (λ o. standing (nat_le d_there.table.next.0 g) o i) (e.at.finds g ∙ ap (λ b. if b then Some e.now else find_txn c.table (gx g)) (self g)) ∙ ap (λ p. standing_in p i) (e.phase ∙ live.active);
+            at_live = ap (λ o. standing (nat_le d_there.table.next.0 g) o i) (e.at.finds g ∙ ap (λ b. if b then Some e.now else find_txn c.table (gx g)) (eqb-self g)) ∙ ap (λ p. standing_in p i) (e.phase ∙ live.active);
             awaits = ap (λ (v : Work). waits_in v.command i) (here work_there);
             numbered = ap (λ (v : Work). v.last) (here work_there);
           }
         where
           here : (v : Work) → (if eqb g g then v else c.works g) ≡ v
-          here v = ap (λ b. if b then v else c.works g) (self g)
+          here v = ap (λ b. if b then v else c.works g) (eqb-self g)
 
       all-sent : (d : Coord) (level : Level) → ((i : ℕ) → IsOut d ms g i (nodes_in pieces) cid.0) → (ps : List Piece) → Each (λ (p : Piece). has p.node (nodes_in pieces) ≡ true) ps → Each (SaidOut script P d ms) (orders_of (gx g) cid level x (horizon_of c.table) ps)
       all-sent d level there [] f = tt
@@ -352,7 +354,7 @@ module _ (script : Script) (P : ℕ → ℕ → Part) (c : Coord) (ms : List Mar
       let free : Coord = waiting_now (resumed c.locks (gx g) (Some wanted)) None in
       let way : Way script P c ms free (hold_mark the_coordinator wanted ∷ []) = waiting-led (resumed c.locks (gx g) (Some wanted)) None (hold_mark the_coordinator wanted) tt in
       way-then script P c ms free (hold_mark the_coordinator wanted ∷ []) (goes_on_locked script free (gx g) line) (behind (hold_mark the_coordinator wanted ∷ []) (goes_on_locked script free (gx g) line)) way
-      (locked-led script P free (ms ++ hold_mark the_coordinator wanted ∷ []) way.stands whole g (record { txn = live.txn; found = live.found; active = live.active }) (λ i. ap (λ b. waits_in (if b then record (c.works g) { waiting = None } else c.works g).command i) (self g) ∙ idle i) line) refl refl refl
+      (locked-led script P free (ms ++ hold_mark the_coordinator wanted ∷ []) way.stands whole g (record { txn = live.txn; found = live.found; active = live.active }) (λ i. ap (λ b. waits_in (if b then record (c.works g) { waiting = None } else c.works g).command i) (eqb-self g) ∙ idle i) line) refl refl refl
 
 -- A SEGMENT IS DONE
 module _ (script : Script) (P : ℕ → ℕ → Part) (c : Coord) (ms : List Mark) (s : Stands script P c ms) (whole : IsWhole c.table) (g : ℕ) (live : IsLive c g) where
@@ -386,24 +388,16 @@ module _ (script : Script) (P : ℕ → ℕ → Part) (c : Coord) (ms : List Mar
     shift : (i : ℕ) → Shift (known_at c ms i g) (known_of (known_at c ms i g).at w1 i (decided_count ms (gx g)) (is_aborted ms (gx g)) (is_committed ms (gx g))) (P i g)
     shift i = by_same (eqb j.0 i) refl
       where
-        both-true : (b : Bool) → (b && true) ≡ b
-        both-true true = refl
-        both-true false = refl
-
-        both-false : (b : Bool) → (b && false) ≡ false
-        both-false true = refl
-        both-false false = refl
-
         by_same : (q : Bool) → eqb j.0 i ≡ q → Shift (known_at c ms i g) (known_of (known_at c ms i g).at w1 i (decided_count ms (gx g)) (is_aborted ms (gx g)) (is_committed ms (gx g))) (P i g)
         by_same true q =
             subst (λ x. Shift (known_at c ms i g) (record (known_at c ms i g) { waits = x; writes = has (at i) w1.writers }) (P i g)) (sym (waits-now true i q))
-            (subst (λ x. Shift (known_at c ms i g) (record (known_at c ms i g) { waits = false; writes = x }) (P i g)) (sym (learns-it wrote true i q ∙ ap (λ x. x || has (at i) (c.works g).writers) (both-true wrote)))
+            (subst (λ x. Shift (known_at c ms i g) (record (known_at c ms i g) { waits = false; writes = x }) (P i g)) (sym (learns-it wrote true i q ∙ ap (λ x. x || has (at i) (c.works g).writers) (and-true wrote)))
             (let y = said.same (live-at-all script P c ms s whole g live j.0) number-is in
             let n : j.0 ≡ i = eqb-true j.0 i q in
             learn-shift wrote (known_at c ms i g) (P i g) (s.pairs i g) (live-at-all script P c ms s whole g live i) (subst (λ x. (P x g).last ≡ (c.works g).last) n (y.0 ∙ number-is)) (subst (λ x. wrote ≡ (P x g).wrote) n y.1) (subst (λ x. (P x g).waits ≡ false) n y.2)))
         by_same false q =
             subst (λ x. Shift (known_at c ms i g) (record (known_at c ms i g) { waits = x; writes = has (at i) w1.writers }) (P i g)) (sym (waits-now false i q))
-            (subst (λ x. Shift (known_at c ms i g) (record (known_at c ms i g) { waits = has (at i) m.awaited; writes = x }) (P i g)) (sym (learns-it wrote false i q ∙ ap (λ x. x || has (at i) (c.works g).writers) (both-false wrote)))
+            (subst (λ x. Shift (known_at c ms i g) (record (known_at c ms i g) { waits = has (at i) m.awaited; writes = x }) (P i g)) (sym (learns-it wrote false i q ∙ ap (λ x. x || has (at i) (c.works g).writers) (and-false wrote)))
             (subst (λ x. Shift (known_at c ms i g) (record (known_at c ms i g) { waits = x }) (P i g)) (waits-before i) (shift-same (known_at c ms i g) (P i g) (s.pairs i g))))
 
     same-found : (h : ℕ) (b : Bool) → eqb h g ≡ b → find_txn c.table (gx h) ≡ (if b then Some live.txn else find_txn c.table (gx h))
@@ -419,7 +413,7 @@ module _ (script : Script) (P : ℕ → ℕ → Part) (c : Coord) (ms : List Mar
     live-now = record { txn = live.txn; found = live.found; active = live.active }
 
     work-now : c1.works g ≡ w1
-    work-now = ap (λ q. if q then w1 else c.works g) (self g)
+    work-now = ap (λ q. if q then w1 else c.works g) (eqb-self g)
 
     idle-now : without j m.awaited ≡ [] → IsIdle c1 g
     idle-now e i = ap (λ (v : Work). waits_in v.command i) work-now ∙ ap (has (at i)) e

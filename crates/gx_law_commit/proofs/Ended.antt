@@ -2,6 +2,8 @@
 use Rattle.std.proofs.Common.{◌≡◌, ◌⊎◌, inl, inr, ℕ, List, [], ◌∷◌, Option, Some, None, Bool, true, false, not, refl, sym, subst, ap, ◌∙◌, nat_lt, ◌==◌, if◌then◌else◌, arith, eqb}
 use Rattle.std.proofs.lemmas.Bool.Decides.{nat_tests}
 use Rattle.std.specs.Prelude.{length}
+use Rattle.gx_lemmas.proofs.Tests.{true-false}
+use Rattle.gx_lemmas.proofs.Numbers.{eqb-self}
 use Rattle.gx_ids.specs.declared.ids.Cid.{Cid}
 use Rattle.gx_ids.specs.declared.ids.Gxid.{Gxid}
 use Rattle.gx_tree.specs.declared.query.Query.{Query}
@@ -93,10 +95,7 @@ module _ (script : Script) (told : Message) (s : Seg) (g : ℕ) (wrote : Bool) (
   once-votes (Some r) turn f new = tell r (vote-tells r (subst (IsVote l.phase) f vote))
 
   here : (x : Local) → with_at s.locals g x g ≡ x
-  here x = ap (λ b. if b then x else l) (self g)
-    where
-      self : (a : ℕ) → eqb a a ≡ true
-      self a = grind (arith, nat_tests)
+  here x = ap (λ b. if b then x else l) (eqb-self g)
 
   change : (x : Local) (ms : List Mark) (r : Reply) (it : Option JournalItem) → (has_ended l.phase ≡ true → has_ended x.phase ≡ true) → x.last ≡ l.last → TellsEnd x.phase (message.Answer (gx g) r) → EndsSo (changes s (gx g) x ms r it)
   change x ms r it e n t =
@@ -107,10 +106,7 @@ module _ (script : Script) (told : Message) (s : Seg) (g : ℕ) (wrote : Bool) (
       }
 
   open-not : (p : Phase) → l.phase ≡ p → has_ended p ≡ false → has_ended l.phase ≡ true → ⊥
-  open-not p f n e = clash (has_ended p) (sym (ap has_ended f) ∙ e) n
-    where
-      clash : (b : Bool) → b ≡ true → b ≡ false → ⊥
-      clash b x y = grind arith
+  open-not p f n e = true-false (has_ended p) (sym (ap has_ended f) ∙ e) n
 
   both : (b : Bool) (x y : SegTurn) → EndsSo x → EndsSo y → EndsSo (if b then x else y)
   both true x y e f = e

@@ -1,6 +1,7 @@
 -- Every event of the coordinator.
 use Rattle.std.proofs.Common.{◌≡◌, inl, ℕ, ◌+◌, List, [], ◌∷◌, ◌++◌, Option, Some, None, Bool, true, false, refl, sym, subst, ap, ◌∙◌, if◌then◌else◌, ◌==◌, ◌&&◌, arith, eqb, append-nil}
-use Rattle.std.proofs.lemmas.Bool.{eqb-true}
+use Rattle.std.proofs.lemmas.Bool.{and_parts, eqb-true}
+use Rattle.gx_lemmas.proofs.Numbers.{eqb-self}
 use Rattle.gx_ids.specs.declared.ids.Cid.{Cid}
 use Rattle.gx_ids.specs.declared.ids.Node.{Node}
 use Rattle.gx_ids.specs.declared.ids.SessionId.{SessionId}
@@ -52,7 +53,7 @@ use Rattle.gx_law_commit.specs.Pairs.{Pair}
 use Rattle.gx_law_commit.specs.Said.{Answers, IsDone, Said, gxid_in, is_answer}
 use Rattle.gx_law_commit.specs.Standings.{Part, at, gx, is_closing, known_at, standing_in, waits_in}
 use Rattle.gx_law_commit.specs.Standings.Standing.{Live, One, Preparing, Two}
-use Rattle.gx_law_commit.proofs.Calls.{Mute, becomes-calm, commits-ready, mute-aborted, mute-committed, mute-decided, mute-fol, self, stands-as}
+use Rattle.gx_law_commit.proofs.Calls.{Mute, becomes-calm, commits-ready, mute-aborted, mute-committed, mute-decided, mute-fol, stands-as}
 use Rattle.gx_law_commit.proofs.Dispatching.{IsIdle, IsLive, dispatch-led, done-led, goes-out-is, live-at-all, refusing-led, resume-led, rolling-led}
 use Rattle.gx_law_commit.proofs.Replying.{status-led}
 use Rattle.gx_law_commit.proofs.Shifts.{Shift, is-sent, shift-same}
@@ -76,10 +77,6 @@ live-stage c g e = by_found (find_txn c.table (gx g)) refl e
     by_found : (o : Option Txn) → find_txn c.table (gx g) ≡ o → stage o ≡ LiveStage → IsLive c g
     by_found None f e = absurd (cc)
     by_found (Some t) f e = record { txn = t; found = f; active = active t.phase e }
-
-pub both_of : (a b : Bool) → (a && b) ≡ true → (a ≡ true) × (b ≡ true)
-both_of true b e = (refl, e)
-both_of false b e = grind arith
 
 -- marks that tell of nothing, and nothing changes
 still : (script : Script) (P : ℕ → ℕ → Part) (c : Coord) (ms : List Mark) → Stands script P c ms → IsWhole c.table → (ns : List Mark) → Each Mute ns → Led script P c ms (record { coord = c; marks = ns; outs = []; item = None })
@@ -128,7 +125,7 @@ module _ (script : Script) (P : ℕ → ℕ → Part) (c : Coord) (ms : List Mar
   on-done-led g j cid wrote count part (Some m) e d = by_test (is_awaited m j cid && fits_part m.stmt part) refl
     where
       by_test : (b : Bool) → (is_awaited m j cid && fits_part m.stmt part) ≡ b → Leads (if b then takes_done c (gx g) j wrote count part m else rests c)
-      by_test true f = let x = both_of _ _ (both_of _ _ f).0 in done-led script P c ms st k.whole g (awaited-live g m e j x.1) m e j x.1 cid x.0 wrote d count part
+      by_test true f = let x = and_parts _ _ (and_parts _ _ f).0 in done-led script P c ms st k.whole g (awaited-live g m e j x.1) m e j x.1 cid x.0 wrote d count part
       by_test false f = rest
 
   on-failed-led : (g : ℕ) (j : Node) (cid : Cid) (cause : Cause) (m : Option Command) → (c.works g).command ≡ m → Leads (on_failed c (gx g) j cid cause m)
@@ -136,7 +133,7 @@ module _ (script : Script) (P : ℕ → ℕ → Part) (c : Coord) (ms : List Mar
   on-failed-led g j cid cause (Some m) e = by_test (is_awaited m j cid) refl
     where
       by_test : (b : Bool) → is_awaited m j cid ≡ b → Leads (if b then is_refused c (gx g) (on_abort c.table (gx g)) [] (reason_of cause) else rests c)
-      by_test true f = refusing-led script P c ms st k.whole g (awaited-live g m e j (both_of _ _ f).1) [] (reason_of cause) tt
+      by_test true f = refusing-led script P c ms st k.whole g (awaited-live g m e j (and_parts _ _ f).1) [] (reason_of cause) tt
       by_test false f = rest
 
   answer-led : (g : ℕ) (j : Node) (fails : Bool) (r : Reply) → Answers (known_at c ms j.0 g) (P j.0 g) r → Leads (on_answer c (gx g) j fails r)
@@ -258,7 +255,7 @@ module _ (script : Script) (P : ℕ → ℕ → Part) (c : Coord) (ms : List Mar
     here asked = starts_line c s asked
 
     transaction-now : (asked : LineStep) → (session_of (starts_line c s asked) s).transaction ≡ (session_of c s).transaction
-    transaction-now asked = ap (λ q. (if q then moved asked else session_of c s).transaction) (self s.0)
+    transaction-now asked = ap (λ q. (if q then moved asked else session_of c s).transaction) (eqb-self s.0)
 
     here-stands : (asked : LineStep) → Stands script P (starts_line c s asked) ms
     here-stands asked = moved-stands script P c ms s (moved asked) st
@@ -310,10 +307,10 @@ module _ (script : Script) (P : ℕ → ℕ → Part) (c : Coord) (ms : List Mar
         record { stands = x.stands; stays = x.stays; fol = x.fol }
 
     begins-live : (asked : LineStep) (level : Level) → IsLive (begins (starts_line c s asked) s level) c.table.next.0
-    begins-live asked level = record { txn = new_txn; found = begun-finds c.table k.whole c.table.next.0 ∙ ap (λ b. if b then Some new_txn else find_txn c.table c.table.next) (self c.table.next.0); active = refl }
+    begins-live asked level = record { txn = new_txn; found = begun-finds c.table k.whole c.table.next.0 ∙ ap (λ b. if b then Some new_txn else find_txn c.table c.table.next) (eqb-self c.table.next.0); active = refl }
 
     begins-idle : (asked : LineStep) (level : Level) → IsIdle (begins (starts_line c s asked) s level) c.table.next.0
-    begins-idle asked level i = ap (λ b. waits_in (if b then new_work s level else c.works c.table.next.0).command i) (self c.table.next.0)
+    begins-idle asked level i = ap (λ b. waits_in (if b then new_work s level else c.works c.table.next.0).command i) (eqb-self c.table.next.0)
 
     begin-led : (level : Level) → Leads (behind (mark.Start c.table.next s ∷ []) (answers_at_once (begins (starts_line c s (step.BeginBlock level)) s level) s told.Begin))
     begin-led level =
@@ -360,7 +357,7 @@ module _ (script : Script) (P : ℕ → ℕ → Part) (c : Coord) (ms : List Mar
         by_block Outside e = rest
 
   pub idle-first : (s : SessionId) (b : Bool) → (is_idle (session_of c s) && b) ≡ true → is_nothing_in (session_of c s).state.pending ≡ true
-  idle-first s b e = by_pending (session_of c s).state.pending (both_of _ _ e).0
+  idle-first s b e = by_pending (session_of c s).state.pending (and_parts _ _ e).0
     where
       by_pending : (q : Pending) → is_nothing q ≡ true → is_nothing_in q ≡ true
       by_pending q e = grind arith

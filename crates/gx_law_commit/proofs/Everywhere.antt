@@ -1,9 +1,11 @@
 -- Over every run of the machine: what always holds of transactions, messages and marks.
 use Rattle.std.proofs.Common.{◌≡◌, ◌⊎◌, inl, inr, ℕ, ◌+◌, List, [], ◌∷◌, ◌++◌, Option, Some, None, Bool, true, false, refl, sym, subst, ap, ◌∙◌, if◌then◌else◌, ◌||◌, ◌&&◌, arith, eqb, append-nil}
-use Rattle.std.proofs.lemmas.Bool.{eqb-true}
+use Rattle.std.proofs.lemmas.Bool.{and_parts, eqb-true, or_from}
 use Rattle.std.proofs.lemmas.Bool.Decides.{nat_tests}
 use Rattle.std.proofs.lemmas.List.{append_assoc}
 use Rattle.std.specs.Prelude.{is_some, nat_le}
+use Rattle.gx_lemmas.proofs.Numbers.{eqb-self, eqb-swap, plus-none}
+use Rattle.gx_lemmas.proofs.Tests.{or-false}
 use Rattle.gx_ids.specs.declared.ids.Gxid.{Gxid}
 use Rattle.gx_ids.specs.declared.ids.Node.{Node}
 use Rattle.gx_dtx.specs.Table.{find_txn}
@@ -79,18 +81,12 @@ fol-no-sent script ms [] e = tt
 fol-no-sent script ms (m ∷ ns) e = (fol-sent-one script ms m e.0, fol-no-sent script (ms ++ m ∷ []) ns e.1)
 
 -- MARKS THAT TELL OF NO END
-or-none : (b : Bool) → (b || false) ≡ b
-or-none true = refl
-or-none false = refl
-
-plus-none : (n : ℕ) → n + 0 ≡ n
-plus-none n = omega arith
 
 known-append : (script : Script) (P : ℕ → ℕ → Part) (c : Coord) (ms ns : List Mark) (i g : ℕ) → Each NoEnd ns → known_at c (ms ++ ns) i g ≡ known_at c ms i g
 known-append script P c ms ns i g e =
     known-eq script P i _ _ (c.works g) (c.works g) _ _ _ _ _ _ refl refl (decided-append ms ns (gx g) ∙ ap (λ n. decided_count ms (gx g) + n) (no-decided ns (gx g) e) ∙ plus-none (decided_count ms (gx g)))
-    (aborted-append ms ns (gx g) ∙ ap (λ b. is_aborted ms (gx g) || b) (no-aborted ns (gx g) e) ∙ or-none (is_aborted ms (gx g)))
-    (committed-append ms ns (gx g) ∙ ap (λ b. is_committed ms (gx g) || b) (no-committed ns (gx g) e) ∙ or-none (is_committed ms (gx g)))
+    (aborted-append ms ns (gx g) ∙ ap (λ b. is_aborted ms (gx g) || b) (no-aborted ns (gx g) e) ∙ or-false (is_aborted ms (gx g)))
+    (committed-append ms ns (gx g) ∙ ap (λ b. is_committed ms (gx g) || b) (no-committed ns (gx g) e) ∙ or-false (is_committed ms (gx g)))
 
 part-eq : (l : Local) (a b : Bool) (p q x y : ℕ) → a ≡ b → p ≡ q → x ≡ y → part_of l a p x ≡ part_of l b q y
 part-eq l a b p q x y e f h = ap (λ a. part_of l a p x) e ∙ ap (λ p. part_of l b p x) f ∙ ap (λ x. part_of l b q x) h
@@ -148,7 +144,7 @@ module _ (script : Script) (w : World) (n : Knows script w) (v : Holds script w)
               let quiet : Each NoPart sent = sent-no-part turn.coord.sent turn.outs in
               ap (λ q. part_at (w.segs i) q i g) (sym (append_assoc ms turn.marks sent ∙ all))
               ∙ part-eq ((w.segs i).locals g) _ _ _ _ _ _
-              (writer-append (ms ++ turn.marks) sent (gx g) (at i) ∙ ap (λ b. is_writer (ms ++ turn.marks) (gx g) (at i) || b) (no-writer sent (gx g) (at i) quiet) ∙ or-none (is_writer (ms ++ turn.marks) (gx g) (at i)) ∙ o.wrote)
+              (writer-append (ms ++ turn.marks) sent (gx g) (at i) ∙ ap (λ b. is_writer (ms ++ turn.marks) (gx g) (at i) || b) (no-writer sent (gx g) (at i) quiet) ∙ or-false (is_writer (ms ++ turn.marks) (gx g) (at i)) ∙ o.wrote)
               (prepared-append (ms ++ turn.marks) sent (at i) (gx g) ∙ ap (λ m. prepared_count (ms ++ turn.marks) (at i) (gx g) + m) (no-prepared sent (at i) (gx g) quiet) ∙ plus-none (prepared_count (ms ++ turn.marks) (at i) (gx g)) ∙ o.promises)
               (local-append (ms ++ turn.marks) sent (at i) (gx g) ∙ ap (λ m. local_count (ms ++ turn.marks) (at i) (gx g) + m) (no-local sent (at i) (gx g) quiet) ∙ plus-none (local_count (ms ++ turn.marks) (at i) (gx g)) ∙ o.commits)
 
@@ -179,16 +175,13 @@ both-apart a n g i h j e f q = grind (arith, nat_tests)
 both-apart-back : (a n g i h j : ℕ) → a ≡ g → n ≡ i → (eqb j i && eqb h g) ≡ false → (eqb n j && eqb a h) ≡ false
 both-apart-back a n g i h j e f q = grind (arith, nat_tests)
 
-or-both : (a b : Bool) → a ≡ false → b ≡ false → (a || b) ≡ false
-or-both a b e f = grind arith
-
 if-none : (b : Bool) (n : ℕ) → b ≡ false → n ≡ 0 → (if b then n + 1 else n) ≡ 0
 if-none b n e f = grind arith
 
 module _ (told : Message) (k : Known) (i g : ℕ) (j h : ℕ) (apart : (eqb j i && eqb h g) ≡ false) where
   no-writer-there : (ns : List Mark) → Each (Follows told k i g) ns → is_writer ns (gx h) (at j) ≡ false
   no-writer-there [] e = refl
-  no-writer-there (mark.Write a c n t r x ∷ ns) e = or-both (eqb a.0 h && eqb n.0 j) (is_writer ns (gx h) (at j)) (both-apart a.0 n.0 g i h j e.0.0 e.0.1 apart) (no-writer-there ns e.1)
+  no-writer-there (mark.Write a c n t r x ∷ ns) e = or_from (eqb a.0 h && eqb n.0 j) (is_writer ns (gx h) (at j)) (both-apart a.0 n.0 g i h j e.0.0 e.0.1 apart) (no-writer-there ns e.1)
   no-writer-there (m ∷ ns) e = no-writer-there ns e.1
 
   no-prepared-there : (ns : List Mark) → Each (Follows told k i g) ns → prepared_count ns (at j) (gx h) ≡ 0
@@ -280,15 +273,12 @@ module _ (script : Script) (w : World) (n : Knows script w) (v : Holds script w)
   pub known-then : (j h : ℕ) → known_at w.coord (marks_in world_then.steps) j h ≡ known j h
   known-then j h = ap (λ q. known_at w.coord q j h) (sym all2) ∙ known-append script (parts_in w) w.coord ms2 (turn2.marks ++ sent2) j h no-ends
 
-  self-test : (a : ℕ) → eqb a a ≡ true
-  self-test a = grind (arith, nat_tests)
-
   pub here-then : parts_in world_then i g ≡ part_then
   here-then =
-      ap (λ b. part_at (if b then (seg_rule script s x fails).seg else w.segs i) (marks_in world_then.steps) i g) (self-test i)
+      ap (λ b. part_at (if b then (seg_rule script s x fails).seg else w.segs i) (marks_in world_then.steps) i g) (eqb-self i)
       ∙ ap (λ q. part_at turn2.seg q i g) (sym all2)
       ∙ part-eq (turn2.seg.locals g) _ _ _ _ _ _
-      (writer-append ms2 (turn2.marks ++ sent2) (gx g) (at i) ∙ ap (λ b. is_writer ms2 (gx g) (at i) || b) (writer-append turn2.marks sent2 (gx g) (at i) ∙ ap (λ b. is_writer turn2.marks (gx g) (at i) || b) (no-writer sent2 (gx g) (at i) quiet-sent) ∙ or-none (is_writer turn2.marks (gx g) (at i))))
+      (writer-append ms2 (turn2.marks ++ sent2) (gx g) (at i) ∙ ap (λ b. is_writer ms2 (gx g) (at i) || b) (writer-append turn2.marks sent2 (gx g) (at i) ∙ ap (λ b. is_writer turn2.marks (gx g) (at i) || b) (no-writer sent2 (gx g) (at i) quiet-sent) ∙ or-false (is_writer turn2.marks (gx g) (at i))))
       (prepared-append ms2 (turn2.marks ++ sent2) (at i) (gx g) ∙ ap (λ m. prepared_count ms2 (at i) (gx g) + m) (prepared-append turn2.marks sent2 (at i) (gx g) ∙ ap (λ m. prepared_count turn2.marks (at i) (gx g) + m) (no-prepared sent2 (at i) (gx g) quiet-sent) ∙ plus-none (prepared_count turn2.marks (at i) (gx g))))
       (local-append ms2 (turn2.marks ++ sent2) (at i) (gx g) ∙ ap (λ m. local_count ms2 (at i) (gx g) + m) (local-append turn2.marks sent2 (at i) (gx g) ∙ ap (λ m. local_count turn2.marks (at i) (gx g) + m) (no-local sent2 (at i) (gx g) quiet-sent) ∙ plus-none (local_count turn2.marks (at i) (gx g))))
 
@@ -307,23 +297,19 @@ module _ (script : Script) (w : World) (n : Knows script w) (v : Holds script w)
       ap (λ l. part_of l (is_writer (marks_in world_then.steps) (gx h) (at j)) (prepared_count (marks_in world_then.steps) (at j) (gx h)) (local_count (marks_in world_then.steps) (at j) (gx h))) (local-there j h apart)
       ∙ ap (λ q. part_at (w.segs j) q j h) (sym all2)
       ∙ part-eq ((w.segs j).locals h) _ _ _ _ _ _
-      (writer-append ms2 (turn2.marks ++ sent2) (gx h) (at j) ∙ ap (λ b. is_writer ms2 (gx h) (at j) || b) (writer-append turn2.marks sent2 (gx h) (at j) ∙ or-both (is_writer turn2.marks (gx h) (at j)) (is_writer sent2 (gx h) (at j)) (no-writer-there msg (known i g) i g j h apart turn2.marks does.marks) (no-writer sent2 (gx h) (at j) quiet-sent)) ∙ or-none (is_writer ms2 (gx h) (at j)))
+      (writer-append ms2 (turn2.marks ++ sent2) (gx h) (at j) ∙ ap (λ b. is_writer ms2 (gx h) (at j) || b) (writer-append turn2.marks sent2 (gx h) (at j) ∙ or_from (is_writer turn2.marks (gx h) (at j)) (is_writer sent2 (gx h) (at j)) (no-writer-there msg (known i g) i g j h apart turn2.marks does.marks) (no-writer sent2 (gx h) (at j) quiet-sent)) ∙ or-false (is_writer ms2 (gx h) (at j)))
       (prepared-append ms2 (turn2.marks ++ sent2) (at j) (gx h) ∙ ap (λ m. prepared_count ms2 (at j) (gx h) + m) (prepared-append turn2.marks sent2 (at j) (gx h) ∙ ap (λ m. m + prepared_count sent2 (at j) (gx h)) (no-prepared-there msg (known i g) i g j h apart turn2.marks does.marks) ∙ ap (λ m. 0 + m) (no-prepared sent2 (at j) (gx h) quiet-sent)) ∙ plus-none (prepared_count ms2 (at j) (gx h)))
       (local-append ms2 (turn2.marks ++ sent2) (at j) (gx h) ∙ ap (λ m. local_count ms2 (at j) (gx h) + m) (local-append turn2.marks sent2 (at j) (gx h) ∙ ap (λ m. m + local_count sent2 (at j) (gx h)) (no-local-there msg (known i g) i g j h apart turn2.marks does.marks) ∙ ap (λ m. 0 + m) (no-local sent2 (at j) (gx h) quiet-sent)) ∙ plus-none (local_count ms2 (at j) (gx h)))
 
-  first-of : (a b : Bool) → (a && b) ≡ true → (a ≡ true) × (b ≡ true)
-  first-of true b x = (refl, x)
-  first-of false b x = grind arith
-
   pair-next : (j h : ℕ) (b : Bool) → (eqb j i && eqb h g) ≡ b → Pair (known j h) (parts_in world_then j h)
   pair-next j h true q =
-      let f = first-of (eqb j i) (eqb h g) q in
+      let f = and_parts (eqb j i) (eqb h g) q in
       subst (λ a. Pair (known a h) (parts_in world_then a h)) (sym (eqb-true j i f.0)) (subst (λ a. Pair (known i a) (parts_in world_then i a)) (sym (eqb-true h g f.1)) (subst (Pair (known i g)) (sym here-then) does.next.pair))
   pair-next j h false q = subst (Pair (known j h)) (sym (there-then j h q)) (v.stands.pairs j h)
 
   said-next : (j h : ℕ) (m : Message) → Said (known j h) (parts_in w j h) m → (b : Bool) → (eqb j i && eqb h g) ≡ b → Said (known j h) (parts_in world_then j h) m
   said-next j h m y true q =
-      let f = first-of (eqb j i) (eqb h g) q in
+      let f = and_parts (eqb j i) (eqb h g) q in
       subst (λ a. Said (known a h) (parts_in world_then a h) m) (sym (eqb-true j i f.0)) (subst (λ a. Said (known i a) (parts_in world_then i a) m) (sym (eqb-true h g f.1))
       (subst (λ p. Said (known i g) p m) (sym here-then) (said-grows (known i g) (parts_in w i g) part_then m does.next.grows does.next.pair (subst (λ a. Said (known i a) (parts_in w i a) m) (eqb-true h g f.1) (subst (λ a. Said (known a h) (parts_in w a h) m) (eqb-true j i f.0) y)))))
   said-next j h m y false q = subst (λ p. Said (known j h) p m) (sym (there-then j h q)) y
@@ -333,9 +319,9 @@ module _ (script : Script) (w : World) (n : Knows script w) (v : Holds script w)
 
   failed-next : (j h : ℕ) → ((world_then.segs j).locals h).vote ≡ Some reply.Jfault → (b : Bool) → (eqb j i && eqb h g) ≡ b → HasMark (mark.JournalFailed (at j) (gx h)) (ms2 ++ turn2.marks)
   failed-next j h y true q =
-      let f = first-of (eqb j i) (eqb h g) q in
+      let f = and_parts (eqb j i) (eqb h g) q in
       subst (λ a. HasMark (mark.JournalFailed (at a) (gx h)) (ms2 ++ turn2.marks)) (sym (eqb-true j i f.0)) (subst (λ a. HasMark (mark.JournalFailed (at i) (gx a)) (ms2 ++ turn2.marks)) (sym (eqb-true h g f.1))
-      (either (does.fails (ap (λ b. ((if b then seg_now else s).locals g).vote) (sym (self-test i)) ∙ subst (λ a. ((world_then.segs i).locals a).vote ≡ Some reply.Jfault) (eqb-true h g f.1) (subst (λ a. ((world_then.segs a).locals h).vote ≡ Some reply.Jfault) (eqb-true j i f.0) y)))))
+      (either (does.fails (ap (λ b. ((if b then seg_now else s).locals g).vote) (sym (eqb-self i)) ∙ subst (λ a. ((world_then.segs i).locals a).vote ≡ Some reply.Jfault) (eqb-true h g f.1) (subst (λ a. ((world_then.segs a).locals h).vote ≡ Some reply.Jfault) (eqb-true j i f.0) y)))))
     where
       either : ((s.locals g).vote ≡ Some reply.Jfault) ⊎ HasMark (mark.JournalFailed (at i) (gx g)) turn2.marks → HasMark (mark.JournalFailed (at i) (gx g)) (ms2 ++ turn2.marks)
       either (inl z) = has-left _ ms2 turn2.marks (v.failed i g z)
@@ -358,7 +344,7 @@ module _ (script : Script) (w : World) (n : Knows script w) (v : Holds script w)
         tells = tell-push [] w.steps step2 v.tells (step-told (at i) ms2 turn2.marks (λ node. turn2.seg.sent) turn2.outs (follows-no-sent msg (known i g) i g turn2.marks does.marks)
             (each_weaker (λ (o : Out). Tells (known i g) part_then i g turn2.marks o.message) (λ (o : Out). IsTold (at i) (ms2 ++ turn2.marks) o.message) (λ o h. seg-told (known i g) part_then i g turn2.marks (ms2 ++ turn2.marks) does.next.pair (sym (prepared-append ms2 turn2.marks (at i) (gx g))) (sym (local-append ms2 turn2.marks (at i) (gx g))) o.message h) turn2.outs does.outs));
         ends = end-push script [] w.steps step2 v.ends (seg-end script w.steps step2 msg (known i g) i g refl reached refl refl refl (parts_in w i g) (v.stands.pairs i g) (v.stands.parts i g) only-one part_then turn2.marks
-            (λ y. failed-next i g (ap (λ b. ((if b then seg_now else s).locals g).vote) (self-test i) ∙ y) (eqb i i && eqb g g) refl) (λ node. turn2.seg.sent) turn2.outs does.marks does.votes does.outs);
+            (λ y. failed-next i g (ap (λ b. ((if b then seg_now else s).locals g).vote) (eqb-self i) ∙ y) (eqb i i && eqb g g) refl) (λ node. turn2.seg.sent) turn2.outs does.marks does.votes does.outs);
       }
     where
       -- the only writer
@@ -366,10 +352,7 @@ module _ (script : Script) (w : World) (n : Knows script w) (v : Holds script w)
       only-one alone n =
           let one : (known n.0 g).at ≡ One (eqb i n.0) = one-of (nat_le w.coord.table.next.0 g) (find_txn w.coord.table (gx g)) i n.0 alone in
           let pair : Pair (known n.0 g) (parts_in w n.0 g) = v.stands.pairs n.0 g in
-          sym (pair.closing (ap is_closing one)) ∙ sym (pair.alone (eqb i n.0) one).0 ∙ same-test i n.0
-        where
-          same-test : (a b : ℕ) → eqb a b ≡ eqb b a
-          same-test a b = grind (arith, nat_tests)
+          sym (pair.closing (ap is_closing one)) ∙ sym (pair.alone (eqb i n.0) one).0 ∙ eqb-swap i n.0
 
       each-out : (outs : List Out) → Each (λ (o : Out). Tells (known i g) part_then i g turn2.marks o.message) outs → Each (λ (o : Out). (number : ℕ) → SaidIn world_then (record { from = at i; to = o.node; envelope = record { number = number; clock = clock_after s.clock x; message = o.message } })) outs
       each-out [] y = tt

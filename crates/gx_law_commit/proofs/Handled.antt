@@ -2,6 +2,8 @@
 use Rattle.std.proofs.Common.{◌≡◌, ◌⊎◌, inl, inr, ◌≤◌, ◌<◌, ℕ, ◌+◌, List, [], ◌∷◌, Option, Some, None, Bool, true, false, not, refl, sym, subst, ap, ◌∙◌, if◌then◌else◌, ◌==◌, ◌||◌, ◌&&◌, nat_lt, arith, eqb}
 use Rattle.std.proofs.lemmas.Bool.Decides.{nat_tests}
 use Rattle.std.specs.Prelude.{fold, is_some, length, map}
+use Rattle.gx_lemmas.proofs.Numbers.{eqb-self, lt-of, plus-none}
+use Rattle.gx_lemmas.proofs.Tests.{or-false, true-false}
 use Rattle.gx_ids.specs.declared.ids.Cid.{Cid}
 use Rattle.gx_ids.specs.declared.ids.Gxid.{Gxid}
 use Rattle.gx_ids.specs.declared.ids.Node.{Node}
@@ -118,14 +120,7 @@ module _ (told : Message) (k : Known) (s : Seg) (i g : ℕ) (named : s.node ≡ 
 
   -- no mark of it
   none-after : (x : Local) → part_of x (w || false) (pc + 0) (lc + 0) ≡ part_of x w pc lc
-  none-after x = ap (λ b. part_of x b (pc + 0) (lc + 0)) (or-none w) ∙ ap (λ n. part_of x w n (lc + 0)) (plus-none pc) ∙ ap (λ n. part_of x w pc n) (plus-none lc)
-    where
-      or-none : (b : Bool) → (b || false) ≡ b
-      or-none true = refl
-      or-none false = refl
-
-      plus-none : (n : ℕ) → n + 0 ≡ n
-      plus-none n = omega arith
+  none-after x = ap (λ b. part_of x b (pc + 0) (lc + 0)) (or-false w) ∙ ap (λ n. part_of x w n (lc + 0)) (plus-none pc) ∙ ap (λ n. part_of x w pc n) (plus-none lc)
 
   same-next : Next k p (part_of l (w || false) (pc + 0) (lc + 0))
   same-next = subst (Next k p) (sym (none-after l)) (record { pair = e; grows = grows-same p })
@@ -184,10 +179,7 @@ module _ (told : Message) (k : Known) (s : Seg) (i g : ℕ) (named : s.node ≡ 
 
   -- a change of the record
   here : (x : Local) → with_at s.locals g x g ≡ x
-  here x = ap (λ b. if b then x else l) (self g)
-    where
-      self : (a : ℕ) → eqb a a ≡ true
-      self a = grind (arith, nat_tests)
+  here x = ap (λ b. if b then x else l) (eqb-self g)
 
   change : (x : Local) (ms : List Mark) (r : Reply) (it : Option JournalItem) → Next k p (after_marks x w pc lc i g ms) → Each (Follows told k i g) ms → Votes told k p g ms → Tells k (after_marks x w pc lc i g ms) i g ms (message.Answer (gx g) r) → (x.vote ≡ Some reply.Jfault → (l.vote ≡ Some reply.Jfault) ⊎ HasMark (mark.JournalFailed (at i) (gx g)) ms) → Does (changes s (gx g) x ms r it)
   change x ms r it n m v t f =
@@ -246,29 +238,16 @@ module _ (told : Message) (k : Known) (s : Seg) (i g : ℕ) (named : s.node ≡ 
 
   -- counts of one mark
   node-is : eqb s.node.0 i ≡ true
-  node-is = ap (λ (n : Node). eqb n.0 i) named ∙ self i
-    where
-      self : (a : ℕ) → eqb a a ≡ true
-      self a = grind (arith, nat_tests)
+  node-is = ap (λ (n : Node). eqb n.0 i) named ∙ eqb-self i
 
   counted-one : (n : ℕ) → n + (if (eqb s.node.0 i && eqb g g) then 0 + 1 else 0) ≡ n + 1
-  counted-one n = ap (λ b. n + (if (b && eqb g g) then 0 + 1 else 0)) node-is ∙ ap (λ b. n + (if b then 0 + 1 else 0)) (self g)
-    where
-      self : (a : ℕ) → eqb a a ≡ true
-      self a = grind (arith, nat_tests)
-
-  or-none : (b : Bool) → (b || false) ≡ b
-  or-none true = refl
-  or-none false = refl
-
-  plus-none : (n : ℕ) → n + 0 ≡ n
-  plus-none n = omega arith
+  counted-one n = ap (λ b. n + (if (b && eqb g g) then 0 + 1 else 0)) node-is ∙ ap (λ b. n + (if b then 0 + 1 else 0)) (eqb-self g)
 
   prepared-after : (x : Local) → after_marks x w pc lc i g (mark.Prepared s.node (gx g) ∷ []) ≡ part_of x w (pc + 1) lc
-  prepared-after x = ap (λ b. part_of x b (pc + prepared_count (mark.Prepared s.node (gx g) ∷ []) (at i) (gx g)) (lc + 0)) (or-none w) ∙ ap (λ n. part_of x w n (lc + 0)) (counted-one pc) ∙ ap (λ n. part_of x w (pc + 1) n) (plus-none lc)
+  prepared-after x = ap (λ b. part_of x b (pc + prepared_count (mark.Prepared s.node (gx g) ∷ []) (at i) (gx g)) (lc + 0)) (or-false w) ∙ ap (λ n. part_of x w n (lc + 0)) (counted-one pc) ∙ ap (λ n. part_of x w (pc + 1) n) (plus-none lc)
 
   local-after : (x : Local) → after_marks x w pc lc i g (mark.LocalCommit s.node (gx g) ∷ []) ≡ part_of x w pc (lc + 1)
-  local-after x = ap (λ b. part_of x b (pc + 0) (lc + local_count (mark.LocalCommit s.node (gx g) ∷ []) (at i) (gx g))) (or-none w) ∙ ap (λ n. part_of x w n (lc + local_count (mark.LocalCommit s.node (gx g) ∷ []) (at i) (gx g))) (plus-none pc) ∙ ap (λ n. part_of x w pc n) (counted-one lc)
+  local-after x = ap (λ b. part_of x b (pc + 0) (lc + local_count (mark.LocalCommit s.node (gx g) ∷ []) (at i) (gx g))) (or-false w) ∙ ap (λ n. part_of x w n (lc + local_count (mark.LocalCommit s.node (gx g) ∷ []) (at i) (gx g))) (plus-none pc) ∙ ap (λ n. part_of x w pc n) (counted-one lc)
 
   at-node : s.node.0 ≡ i
   at-node = ap (λ (n : Node). n.0) named
@@ -361,10 +340,7 @@ module _ (told : Message) (k : Known) (s : Seg) (i g : ℕ) (named : s.node ≡ 
 
   decided-still : (ph : Phase) → l.phase ≡ ph → has_committed ph ≡ false → (k.at ≡ Two true) ⊎ (has_committed l.phase ≡ true) → k.at ≡ Two true
   decided-still ph f n (inl x) = x
-  decided-still ph f n (inr x) = absurd (clash (has_committed ph) (sym (ap has_committed f) ∙ x) n)
-    where
-      clash : (b : Bool) → b ≡ true → b ≡ false → ⊥
-      clash b x y = grind arith
+  decided-still ph f n (inr x) = absurd (true-false (has_committed ph) (sym (ap has_committed f) ∙ x) n)
 
   commit-prepared : (fails : Bool) (ph : Phase) → l.phase ≡ ph → told ≡ message.CommitPrepared (gx g) → Said k p (message.CommitPrepared (gx g)) → Does (on_commit_prepared s (gx g) fails l ph)
   commit-prepared fails Reading f m st = stay
@@ -501,7 +477,7 @@ module _ (told : Message) (k : Known) (s : Seg) (i g : ℕ) (named : s.node ≡ 
         ∙ ap (λ n. part_of (record l { suspended = None; phase = f.phase; last = c.0; answer = Some r }) (w || is_writer x.marks (gx g) (at i)) (pc + 0) (lc + n)) f.commits
         ∙ ap (λ n. part_of (record l { suspended = None; phase = f.phase; last = c.0; answer = Some r }) (w || is_writer x.marks (gx g) (at i)) n (lc + 0)) (plus-none pc)
         ∙ ap (λ n. part_of (record l { suspended = None; phase = f.phase; last = c.0; answer = Some r }) (w || is_writer x.marks (gx g) (at i)) pc n) (plus-none lc) in
-        let set : with_at x.seg.locals g y g ≡ y = ap (λ b. if b then y else x.seg.locals g) (self g) in
+        let set : with_at x.seg.locals g y g ≡ y = ap (λ b. if b then y else x.seg.locals g) (eqb-self g) in
         record {
           others = λ j d. ap (λ b. if b then y else x.seg.locals j) d ∙ f.others j d;
           next = subst (λ z. Next k p (after_marks z w pc lc i g x.marks)) (sym set) (subst (Next k p) (sym same) n);
@@ -510,16 +486,13 @@ module _ (told : Message) (k : Known) (s : Seg) (i g : ℕ) (named : s.node ≡ 
           outs = (subst (λ z. Tells k (after_marks z w pc lc i g x.marks) i g x.marks (message.Answer (gx g) r)) (sym set) (subst (λ q. Tells k q i g x.marks (message.Answer (gx g) r)) (sym same) (told-of k _ x.marks r (kept-not-again c.0 _ r a) (kept-answers born _ r n.pair refl))), tt);
           fails = λ v. inl (subst (λ (z : Local). z.vote ≡ Some reply.Jfault) f.local (subst (λ (z : Local). z.vote ≡ Some reply.Jfault) set v));
         }
-      where
-        self : (a : ℕ) → eqb a a ≡ true
-        self a = grind (arith, nat_tests)
 
     quiet : (ms : List Mark) → is_writer ms (gx g) (at i) ≡ false → prepared_count ms (at i) (gx g) ≡ 0 → local_count ms (at i) (gx g) ≡ 0 → Each (Follows told k i g) ms → Each NoVote ms → Inserting (record { seg = t; marks = ms })
     quiet ms a b d f n =
-        record { others = base.others; phase = l.phase; local = base.local; opens = o; wrote = e.written o ∙ sym (or-none w) ∙ ap (λ x. w || x) (sym a); marks = f; calm = n; promises = b; commits = d; node = base.node }
+        record { others = base.others; phase = l.phase; local = base.local; opens = o; wrote = e.written o ∙ sym (or-false w) ∙ ap (λ x. w || x) (sym a); marks = f; calm = n; promises = b; commits = d; node = base.node }
 
     select : (q : Query) (rows : List KeyedRow) (f : Option (KeyedRow × ArithFault)) → Does (selects t (gx g) c q rows f)
-    select q rows None = ran (record { seg = t; marks = [] }) _ (quiet [] refl refl refl tt tt) (refl, ap (λ (z : Local). has_written z.phase) base.local ∙ e.written o ∙ sym (or-none w))
+    select q rows None = ran (record { seg = t; marks = [] }) _ (quiet [] refl refl refl tt tt) (refl, ap (λ (z : Local). has_written z.phase) base.local ∙ e.written o ∙ sym (or-false w))
     select q rows (Some f) = ran (record { seg = t; marks = mark.Fault (gx g) c f.0.rid (Some f.0.row) ∷ [] }) _ (quiet _ refl refl refl (tt, tt) (tt, tt)) tt
 
     insert-row : (table : Table) (x : Moved) (row : KeyedRow) → Inserting x → Inserting (inserts_row (gx g) c table x row)
@@ -527,9 +500,9 @@ module _ (told : Message) (k : Known) (s : Seg) (i g : ℕ) (named : s.node ≡ 
         record {
           others = λ j d. ap (λ b. if b then record (x.seg.locals g) { phase = Writing } else x.seg.locals j) d ∙ f.others j d;
           phase = Writing;
-          local = ap (λ b. if b then record (x.seg.locals g) { phase = Writing } else x.seg.locals g) (self g) ∙ ap (λ (z : Local). record z { phase = Writing }) f.local;
+          local = ap (λ b. if b then record (x.seg.locals g) { phase = Writing } else x.seg.locals g) (eqb-self g) ∙ ap (λ (z : Local). record z { phase = Writing }) f.local;
           opens = refl;
-          wrote = sym (ap (λ b. w || b) (writer-append x.marks (mark.Write (gx g) c x.seg.node table row.rid (Some row.row) ∷ []) (gx g) (at i)) ∙ all-true w (is_writer x.marks (gx g) (at i)) (eqb g g) (eqb x.seg.node.0 i) (self g) (ap (λ (n : Node). eqb n.0 i) f.node ∙ node-is));
+          wrote = sym (ap (λ b. w || b) (writer-append x.marks (mark.Write (gx g) c x.seg.node table row.rid (Some row.row) ∷ []) (gx g) (at i)) ∙ all-true w (is_writer x.marks (gx g) (at i)) (eqb g g) (eqb x.seg.node.0 i) (eqb-self g) (ap (λ (n : Node). eqb n.0 i) f.node ∙ node-is));
           marks = each_append (Follows told k i g) x.marks _ f.marks ((refl, ap (λ (n : Node). n.0) f.node ∙ at-node, m), tt);
           calm = each_append NoVote x.marks _ f.calm (tt, tt);
           promises = prepared-append x.marks (mark.Write (gx g) c x.seg.node table row.rid (Some row.row) ∷ []) (at i) (gx g) ∙ plus-none _ ∙ f.promises;
@@ -537,9 +510,6 @@ module _ (told : Message) (k : Known) (s : Seg) (i g : ℕ) (named : s.node ≡ 
           node = f.node;
         }
       where
-        self : (a : ℕ) → eqb a a ≡ true
-        self a = grind (arith, nat_tests)
-
         all-true : (a b c d : Bool) → c ≡ true → d ≡ true → (a || (b || ((c && d) || false))) ≡ true
         all-true a b c d x y = grind arith
 
@@ -570,8 +540,6 @@ module _ (told : Message) (k : Known) (s : Seg) (i g : ℕ) (named : s.node ≡ 
 
   -- a new command has its lock, or takes none, or waits
   module _ (script : Script) (c : Cid) (m : IsExecOf told g c) (st : IsCommand k p c.0) (level : Level) (x : Option Snapshot) (h : Gxid) (y : Slice) (o : is_open l.phase ≡ true) (fit : fits_exec script s (gx g) c x h y ≡ true) where
-    lower : (a b : ℕ) → nat_lt a b ≡ true → a < b
-    lower a b q = grind (arith, nat_tests)
 
     is-right : (a b d e f : Bool) → (a && (b && (d && (e && f)))) ≡ true → (d ≡ true) × (e ≡ true) × (f ≡ true)
     is-right a b d e f z = (grind arith, grind arith, grind arith)
@@ -593,7 +561,7 @@ module _ (told : Message) (k : Known) (s : Seg) (i g : ℕ) (named : s.node ≡ 
       run : (locks : Locks) → Does (runs_slice (record (raised s h) { locks = locks }) (gx g) c x y) × Each NoVote (runs_slice (record (raised s h) { locks = locks }) (gx g) c x y).marks
       run locks =
           slice-runs c m st.drawn o (record (raised s h) { locks = locks }) (record { others = λ j d. refl; local = idle l (not-waiting (nat_lt l.last c.0) (is_waiting l) right.2 q); node = refl })
-          (λ phase r z a b d. run-next k p phase c.0 (Some r) z e o a b (lower l.last c.0 q) d st) script x y right.0 right.1
+          (λ phase r z a b d. run-next k p phase c.0 (Some r) z e o a b (lt-of l.last c.0 q) d st) script x y right.0 right.1
 
       waits : (wanted : Claim) → Does (suspends (raised s h) (gx g) c level x y wanted)
       waits wanted =
@@ -601,7 +569,7 @@ module _ (told : Message) (k : Known) (s : Seg) (i g : ℕ) (named : s.node ≡ 
           let ms : List Mark = wait_mark s.node wanted ∷ [] in
           record {
             others = λ j d. ap (λ b. if b then v else s.locals j) d;
-            next = subst (λ z. Next k p (after_marks z w pc lc i g ms)) (sym (here v)) (subst (Next k p) (sym (none-after v)) (wait-next k p c.0 e o (lower l.last c.0 q) st));
+            next = subst (λ z. Next k p (after_marks z w pc lc i g ms)) (sym (here v)) (subst (Next k p) (sym (none-after v)) (wait-next k p c.0 e o (lt-of l.last c.0 q) st));
             marks = (tt, tt);
             votes = tt;
             outs = tt;

@@ -1,7 +1,9 @@
 -- Whoever has a transaction at a segment that has not ended there is waited for by the coordinator: the table.
 use Rattle.std.proofs.Common.{◌≡◌, ◌⊎◌, inl, inr, ℕ, List, [], ◌∷◌, Option, Some, None, Bool, true, false, refl, sym, subst, ap, ◌∙◌, if◌then◌else◌, ◌&&◌, ◌||◌, arith, eqb}
-use Rattle.std.proofs.lemmas.Bool.{eqb-true}
+use Rattle.std.proofs.lemmas.Bool.{and_from, and_parts, eqb-true, or_right}
 use Rattle.std.specs.Prelude.{option_map}
+use Rattle.gx_lemmas.proofs.Numbers.{eqb-self}
+use Rattle.gx_lemmas.proofs.Tests.{true-false}
 use Rattle.gx_ids.specs.declared.ids.Gxid.{Gxid}
 use Rattle.gx_ids.specs.declared.ids.Node.{Node}
 use Rattle.gx_dtx.specs.Nodes.{has, with_node, without}
@@ -18,7 +20,6 @@ use Rattle.gx_law_order.proofs.Ends.{begun-finds}
 use Rattle.gx_law_order.proofs.Lines.{undrawn}
 use Rattle.gx_law_order.proofs.Stages.{At, IsWhole, changed-at, left_of, txn-at}
 use Rattle.gx_law_commit.specs.Standings.{at, gx}
-use Rattle.gx_law_commit.proofs.Calls.{self}
 use Rattle.gx_law_commit.proofs.Nodes.{has-with, has-without}
 
 -- the segment is waited for
@@ -33,16 +34,6 @@ is_held (Some t) i = has (at i) t.participants && is_awaited_at t.phase i
 
 abbrev pub held_in : Table → ℕ → ℕ → Bool
 held_in d i g = is_held (find_txn d (gx g)) i
-
-both-of : (a b : Bool) → (a && b) ≡ true → (a ≡ true) × (b ≡ true)
-both-of true b e = (refl, e)
-both-of false b e = grind arith
-
-both-true : (a b : Bool) → a ≡ true → b ≡ true → (a && b) ≡ true
-both-true a b e f = grind arith
-
-clash : (b : Bool) → b ≡ true → b ≡ false → ⊥
-clash b e f = grind arith
 
 -- `E i g`: the transaction has ended at the segment
 module _ (E : ℕ → ℕ → Bool) where
@@ -59,34 +50,31 @@ module _ (E : ℕ → ℕ → Bool) where
       by_same : (b : Bool) → eqb h g ≡ b → (held_in u i h ≡ true) ⊎ (E i h ≡ true)
       by_same true q =
           subst (λ j. (held_in u i j ≡ true) ⊎ (E i j ≡ true)) (sym (eqb-true h g q))
-          (subst (λ o. (is_held o i ≡ true) ⊎ (E i g ≡ true)) (sym (a.finds g ∙ ap (λ b. if b then now else find_txn d (gx g)) (self g))) (k i (subst (λ j. held_in d i j ≡ true) (eqb-true h g q) e)))
+          (subst (λ o. (is_held o i ≡ true) ⊎ (E i g ≡ true)) (sym (a.finds g ∙ ap (λ b. if b then now else find_txn d (gx g)) (eqb-self g))) (k i (subst (λ j. held_in d i j ≡ true) (eqb-true h g q) e)))
       by_same false q = inl (ap (λ o. is_held o i) (a.finds h ∙ ap (λ b. if b then now else find_txn d (gx h)) q) ∙ e)
 
   -- with the same phase and participants
   same-held : (g : ℕ) (f : Txn → Txn) → ((t : Txn) → (f t).phase ≡ t.phase) → ((t : Txn) (i : ℕ) → has (at i) t.participants ≡ true → has (at i) (f t).participants ≡ true) → (o : Option Txn) → KeepsHeld g o (option_map f o)
   same-held g f p q None i e = inl e
   same-held g f p q (Some t) i e =
-      let x = both-of (has (at i) t.participants) (is_awaited_at t.phase i) e in
-      inl (both-true (has (at i) (f t).participants) (is_awaited_at (f t).phase i) (q t i x.0) (ap (λ s. is_awaited_at s i) (p t) ∙ x.1))
+      let x = and_parts (has (at i) t.participants) (is_awaited_at t.phase i) e in
+      inl (and_from (has (at i) (f t).participants) (is_awaited_at (f t).phase i) (q t i x.0) (ap (λ s. is_awaited_at s i) (p t) ∙ x.1))
 
   pub live-held : (d : Table) (g : ℕ) (x : Option Gxid) → IsWhole d → GoesOn d (with_live d (gx g) x)
   live-held d g x w = held-at d (with_live d (gx g) x) g (option_map (set_live x) (find_txn d (gx g))) (live-at d g x w) (same-held g (set_live x) (λ t. refl) (λ t i e. e) (find_txn d (gx g)))
-
-  or-right : (a b : Bool) → b ≡ true → (a || b) ≡ true
-  or-right a b e = grind arith
 
   pub one-held : (d : Table) (g : ℕ) (j : Node) → IsWhole d → GoesOn d (enlisted d (gx g) j)
   one-held d g j w =
       let f : Txn → Txn = λ x. record x { participants = with_node j x.participants } in
       let a = txn-at d g f w in
       held-at d (enlisted d (gx g) j) g (option_map f (find_txn d (gx g))) (record { whole = record { first = a.whole.first; apart = a.whole.apart; drawn = a.whole.drawn }; next = refl; finds = a.finds })
-      (same-held g f (λ t. refl) (λ t i e. has-with (at i) j t.participants ∙ or-right (eqb j.0 i) (has (at i) t.participants) e) (find_txn d (gx g)))
+      (same-held g f (λ t. refl) (λ t i e. has-with (at i) j t.participants ∙ or_right (eqb j.0 i) (has (at i) t.participants) e) (find_txn d (gx g)))
 
   pub begun-held : (d : Table) → IsWhole d → GoesOn d (begun d)
   begun-held d w i h e = by_same (eqb h d.next.0) refl
     where
       by_same : (b : Bool) → eqb h d.next.0 ≡ b → (held_in (begun d) i h ≡ true) ⊎ (E i h ≡ true)
-      by_same true q = absurd (clash (held_in d i h) e (ap (λ j. held_in d i j) (eqb-true h d.next.0 q) ∙ ap (λ o. is_held o i) (undrawn d w)))
+      by_same true q = absurd (true-false (held_in d i h) e (ap (λ j. held_in d i j) (eqb-true h d.next.0 q) ∙ ap (λ o. is_held o i) (undrawn d w)))
       by_same false q = inl (ap (λ o. is_held o i) (begun-finds d w h ∙ ap (λ b. if b then Some new_txn else find_txn d (gx h)) q) ∙ e)
 
   -- CHANGES
@@ -95,10 +83,10 @@ module _ (E : ℕ → ℕ → Bool) where
 
   -- to a phase that waits for each participant
   goes-held : (g : ℕ) (t : Txn) (p : Status) → ((i : ℕ) → has (at i) t.participants ≡ true → is_awaited_at p i ≡ true) → KeepsHeld g (Some t) (Some (moved p t))
-  goes-held g t p f i e = let x = both-of (has (at i) t.participants) (is_awaited_at t.phase i) e in inl (both-true (has (at i) t.participants) (is_awaited_at p i) x.0 (f i x.0))
+  goes-held g t p f i e = let x = and_parts (has (at i) t.participants) (is_awaited_at t.phase i) e in inl (and_from (has (at i) t.participants) (is_awaited_at p i) x.0 (f i x.0))
 
   gone-held : (g : ℕ) (t : Txn) → t.participants ≡ [] → KeepsHeld g (Some t) None
-  gone-held g t q i e = absurd (clash (has (at i) t.participants) (both-of (has (at i) t.participants) (is_awaited_at t.phase i) e).0 (ap (has (at i)) q))
+  gone-held g t q i e = absurd (true-false (has (at i) t.participants) (and_parts (has (at i) t.participants) (is_awaited_at t.phase i) e).0 (ap (has (at i)) q))
 
   ended-held : (g : ℕ) (t : Txn) (ps : List Node) → t.participants ≡ ps → ChangeHeld g (Some t) (ends_committed (gx g) ps)
   ended-held g t [] q = gone-held g t q
@@ -132,7 +120,7 @@ module _ (E : ℕ → ℕ → Bool) where
         by_same : (b : Bool) → eqb j.0 i ≡ b → ((has (at i) t.participants ≡ true) × (has (at i) rest ≡ true)) ⊎ (E i g ≡ true)
         by_same true s = inr (subst (λ n. E n g ≡ true) (eqb-true j.0 i s) gone)
         by_same false s =
-            let x = both-of (has (at i) t.participants) (is_awaited_at t.phase i) e in
+            let x = and_parts (has (at i) t.participants) (is_awaited_at t.phase i) e in
             inl (x.0, ap (has (at i)) (sym q) ∙ has-without (at i) j aw ∙ ap (λ b. if b then false else has (at i) aw) s ∙ sym (awaits i) ∙ x.1)
 
     left-held : without j aw ≡ [] → KeepsHeld g (Some t) None
@@ -146,7 +134,7 @@ module _ (E : ℕ → ℕ → Bool) where
     on-held p rest q f i e = either (rest-held rest q i e)
       where
         either : ((has (at i) t.participants ≡ true) × (has (at i) rest ≡ true)) ⊎ (E i g ≡ true) → (is_held (Some (moved p t)) i ≡ true) ⊎ (E i g ≡ true)
-        either (inl x) = inl (both-true (has (at i) t.participants) (is_awaited_at p i) x.0 (f i ∙ x.1))
+        either (inl x) = inl (and_from (has (at i) t.participants) (is_awaited_at p i) x.0 (f i ∙ x.1))
         either (inr x) = inr x
 
     forgets-held : (rest : List Node) → without j aw ≡ rest → ChangeHeld g (Some t) (forgets rest)

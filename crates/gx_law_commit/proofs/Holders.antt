@@ -1,7 +1,9 @@
 -- Over every run of the machine, no horizon is above a transaction that holds locks at the segment.
 use Rattle.std.proofs.Common.{◌≡◌, ◌≤◌, ◌⊎◌, inl, inr, ℕ, List, [], ◌∷◌, Option, Some, None, Bool, true, false, refl, sym, subst, ap, ◌∙◌, if◌then◌else◌, nat_lt, arith, eqb}
-use Rattle.std.proofs.lemmas.Bool.{eqb-true}
+use Rattle.std.proofs.lemmas.Bool.{eqb-true, false_from_ne_true}
 use Rattle.std.proofs.lemmas.Bool.Decides.{nat_tests}
+use Rattle.gx_lemmas.proofs.Numbers.{eqb-self, one-le-none}
+use Rattle.gx_lemmas.proofs.Tests.{true-false}
 use Rattle.gx_dtx.specs.Table.{Table}
 use Rattle.gx_msg.specs.declared.message.Message.{Message}
 use Rattle.gx_msg.specs.declared.message.Message.TheVariants as message
@@ -52,9 +54,6 @@ pub record Waits (w : World) : Type 0 where
   pub locals : (i g : ℕ) → nat_lt 0 ((w.segs i).locals g).last ≡ true → ended_at w.segs i g ≡ false → held_in w.coord.table i g ≡ true
   pub sent : Each (LetterHeld w) w.sent
 
-clash : (b : Bool) → b ≡ true → b ≡ false → ⊥
-clash b e f = grind arith
-
 -- A STEP OF THE COORDINATOR
 module _ (script : Script) (some : 1 ≤ script.segments) (w : World) (n : Knows script w) (v : Waits w) (e : Event) (x : NodeEvent) (fails : Bool) where
   abbrev turn : CoordTurn
@@ -71,16 +70,13 @@ module _ (script : Script) (some : 1 ≤ script.segments) (w : World) (n : Knows
         locals = λ i g a b. either i g b (f.table i g (v.locals i g a b));
         sent = posted-each (LetterHeld next) the_coordinator (clock_after w.coord.clock x) turn.marks turn.coord.sent turn.outs w.sent
             (plain-none script the_coordinator turn.marks (coord_stays script some w.coord x fails n.well.coordinator).marks)
-            (each_weaker (HeldOut (ended_at w.segs) turn.coord.table) _ (λ o h number. record { held = h; told = λ z. absurd (none z) }) turn.outs f.outs)
+            (each_weaker (HeldOut (ended_at w.segs) turn.coord.table) _ (λ o h number. record { held = h; told = λ z. absurd (one-le-none z) }) turn.outs f.outs)
             (each_weaker (LetterHeld w) (LetterHeld next) (λ l h. record { held = held-goes (ended_at w.segs) w.coord.table turn.coord.table f.table l.to.0 l.envelope.message h.held; told = h.told }) w.sent v.sent);
       }
     where
-      none : 1 ≤ 0 → ⊥
-      none z = omega arith
-
       either : (i g : ℕ) → ended_at w.segs i g ≡ false → (held_in turn.coord.table i g ≡ true) ⊎ (ended_at w.segs i g ≡ true) → held_in turn.coord.table i g ≡ true
       either i g b (inl y) = y
-      either i g b (inr y) = absurd (clash (ended_at w.segs i g) y b)
+      either i g b (inr y) = absurd (true-false (ended_at w.segs i g) y b)
 
 -- A STEP OF A SEGMENT
 held-more : (E F : ℕ → ℕ → Bool) (d : Table) (i : ℕ) (m : Message) → ((j h : ℕ) → E j h ≡ true → F j h ≡ true) → HeldFor E d i m → HeldFor F d i m
@@ -147,9 +143,6 @@ module _ (script : Script) (w : World) (n : Knows script w) (v : Holds script w)
   other-locals : (h : ℕ) → eqb h g ≡ false → seg_now.locals h ≡ s.locals h
   other-locals h q = does.others h q
 
-  self-test : (a : ℕ) → eqb a a ≡ true
-  self-test a = grind (arith, nat_tests)
-
   ended-more : (j h : ℕ) → ended_at w.segs j h ≡ true → ended_at seg_next.segs j h ≡ true
   ended-more j h q = by_seg (eqb j i) refl
     where
@@ -168,18 +161,14 @@ module _ (script : Script) (w : World) (n : Knows script w) (v : Holds script w)
   held-here a b = by_last (so.last a)
     where
       not-before : has_ended (s.locals g).phase ≡ true → ⊥
-      not-before z = clash (has_ended (seg_now.locals g).phase) (so.ended z) b
-
-      false-of : (q : Bool) → (q ≡ true → ⊥) → q ≡ false
-      false-of true f = absurd (f refl)
-      false-of false f = refl
+      not-before z = true-false (has_ended (seg_now.locals g).phase) (so.ended z) b
 
       by_exec : has_ended (s.locals g).phase ≡ false → (held_in w.coord.table i g ≡ true) ⊎ (ended_at w.segs i g ≡ true) → held_in w.coord.table i g ≡ true
       by_exec o (inl z) = z
-      by_exec o (inr z) = absurd (clash (ended_at w.segs i g) z o)
+      by_exec o (inr z) = absurd (true-false (ended_at w.segs i g) z o)
 
       by_last : (nat_lt 0 (s.locals g).last ≡ true) ⊎ ((has_ended (s.locals g).phase ≡ false) × IsExec msg) → held_in w.coord.table i g ≡ true
-      by_last (inl z) = u.locals i g z (false-of (has_ended (s.locals g).phase) not-before)
+      by_last (inl z) = u.locals i g z (false_from_ne_true (has_ended (s.locals g).phase) not-before)
       by_last (inr z) = by_exec z.0 (exec-held (ended_at w.segs) w.coord.table i msg z.1 held)
 
   held-next : (j h : ℕ) → IsHeldThere (seg_next.segs j) j h
@@ -194,7 +183,7 @@ module _ (script : Script) (w : World) (n : Knows script w) (v : Holds script w)
       by_seg false y = u.locals j h
 
   ended-here : (h : ℕ) → h ≡ g → has_ended (seg_turn.seg.locals g).phase ≡ true → ended_at seg_next.segs i h ≡ true
-  ended-here h q z = ap (λ b. has_ended ((if b then seg_now else w.segs i).locals h).phase) (self-test i) ∙ subst (λ k. has_ended (seg_now.locals k).phase ≡ true) (sym q) z
+  ended-here h q z = ap (λ b. has_ended ((if b then seg_now else w.segs i).locals h).phase) (eqb-self i) ∙ subst (λ k. has_ended (seg_now.locals k).phase ≡ true) (sym q) z
 
   told-next : (m : Message) → (is_answer m ≡ true → gxid_in m ≡ g) → TellsEnd (seg_turn.seg.locals g).phase m → EndTold seg_next.segs i m
   told-next (message.Answer h reply.Aborted) q z = ended-here h.0 (q refl) z

@@ -1,7 +1,9 @@
 -- Every event of the coordinator goes on waiting for whoever has not ended.
 use Rattle.std.proofs.Common.{◌≡◌, ◌⊎◌, inl, inr, ℕ, ◌+◌, List, [], ◌∷◌, ◌++◌, Option, Some, None, Result, Ok, Err, Bool, true, false, refl, sym, subst, ap, ◌∙◌, if◌then◌else◌, ◌==◌, ◌&&◌, ◌||◌, arith, eqb}
-use Rattle.std.proofs.lemmas.Bool.{eqb-true}
+use Rattle.std.proofs.lemmas.Bool.{and_from, eqb-true, or_left, or_right}
 use Rattle.std.specs.Prelude.{option_map}
+use Rattle.gx_lemmas.proofs.Numbers.{eqb-self}
+use Rattle.gx_lemmas.proofs.Tests.{and-first, or-cases}
 use Rattle.gx_ids.specs.declared.ids.Cid.{Cid}
 use Rattle.gx_ids.specs.declared.ids.Gxid.{Gxid}
 use Rattle.gx_ids.specs.declared.ids.Node.{Node}
@@ -56,7 +58,6 @@ use Rattle.gx_law_order.proofs.Lists.{Each, each_weaker}
 use Rattle.gx_law_order.proofs.Sessions.{Kept, is_nothing_in}
 use Rattle.gx_law_order.proofs.Stages.{IsWhole, txn-at}
 use Rattle.gx_law_commit.specs.Standings.{at, gx}
-use Rattle.gx_law_commit.proofs.Calls.{self}
 use Rattle.gx_law_commit.proofs.Dispatching.{IsLive, each-unmap, goes-out-is}
 use Rattle.gx_law_commit.proofs.Events.{live-stage}
 use Rattle.gx_law_commit.proofs.Held.{ChangeHeld, GoesOn, SaysEnded, abort-held, begun-held, changed-held, commit-held, held_in, is_awaited_at, is_held, live-held, one-held, reply-held}
@@ -189,7 +190,7 @@ module _ (E : ℕ → ℕ → Bool) where
     complete-holds g (Open level) = answers-holds g (work_of c g)
     complete-holds g Failed = answers-holds g (work_of c g)
 
-    on-holds : (g : Gxid) (left : List Node) → Holding c (goes_on c g left)
+    on-holds : (g : Gxid) (and-first : List Node) → Holding c (goes_on c g and-first)
     on-holds g [] = complete-holds g _
     on-holds g (x ∷ xs) = rest-holds
 
@@ -276,33 +277,21 @@ module _ (E : ℕ → ℕ → Bool) where
     again-holds i (Some m) e = record { table = same-on c.table; orders = ol; outs = (e, tt) }
 
   -- ENLISTING
-  or-split : (a b : Bool) → (a || b) ≡ true → (a ≡ true) ⊎ (b ≡ true)
-  or-split true b e = inl refl
-  or-split false b e = inr e
-
-  or-left : (a b : Bool) → a ≡ true → (a || b) ≡ true
-  or-left a b e = grind arith
-
-  or-right : (a b : Bool) → b ≡ true → (a || b) ≡ true
-  or-right a b e = grind arith
-
-  both-true : (a b : Bool) → a ≡ true → b ≡ true → (a && b) ≡ true
-  both-true a b e f = grind arith
 
   all-held : (nodes : List Node) (d : Table) (g : ℕ) (t : Txn) → IsWhole d → find_txn d (gx g) ≡ Some t → t.phase ≡ status.Active → (i : ℕ) → (has (at i) t.participants ≡ true) ⊎ (has (at i) nodes ≡ true) → held_in (enlisted_all d (gx g) nodes) i g ≡ true
-  all-held [] d g t w f a i (inl e) = ap (λ o. is_held o i) f ∙ both-true (has (at i) t.participants) (is_awaited_at t.phase i) e (ap (λ p. is_awaited_at p i) a)
+  all-held [] d g t w f a i (inl e) = ap (λ o. is_held o i) f ∙ and_from (has (at i) t.participants) (is_awaited_at t.phase i) e (ap (λ p. is_awaited_at p i) a)
   all-held [] d g t w f a i (inr e) = absurd (cc)
   all-held (j ∷ js) d g t w f a i e =
       let x = txn-at d g (λ (y : Txn). record y { participants = with_node j y.participants }) w in
       all-held js (enlisted d (gx g) j) g (record t { participants = with_node j t.participants }) (record { first = x.whole.first; apart = x.whole.apart; drawn = x.whole.drawn })
-      (x.finds g ∙ ap (λ b. if b then option_map (λ (y : Txn). record y { participants = with_node j y.participants }) (find_txn d (gx g)) else find_txn d (gx g)) (self g) ∙ ap (option_map (λ (y : Txn). record y { participants = with_node j y.participants })) f) a i (next e)
+      (x.finds g ∙ ap (λ b. if b then option_map (λ (y : Txn). record y { participants = with_node j y.participants }) (find_txn d (gx g)) else find_txn d (gx g)) (eqb-self g) ∙ ap (option_map (λ (y : Txn). record y { participants = with_node j y.participants })) f) a i (next e)
     where
       next : (has (at i) t.participants ≡ true) ⊎ (has (at i) (j ∷ js) ≡ true) → (has (at i) (with_node j t.participants) ≡ true) ⊎ (has (at i) js ≡ true)
-      next (inl q) = inl (has-with (at i) j t.participants ∙ or-right (eqb j.0 i) (has (at i) t.participants) q)
-      next (inr q) = by_split (or-split (eqb j.0 i) (has (at i) js) q)
+      next (inl q) = inl (has-with (at i) j t.participants ∙ or_right (eqb j.0 i) (has (at i) t.participants) q)
+      next (inr q) = by_split (or-cases (eqb j.0 i) (has (at i) js) q)
         where
           by_split : (eqb j.0 i ≡ true) ⊎ (has (at i) js ≡ true) → (has (at i) (with_node j t.participants) ≡ true) ⊎ (has (at i) js ≡ true)
-          by_split (inl z) = inl (has-with (at i) j t.participants ∙ or-left (eqb j.0 i) (has (at i) t.participants) z)
+          by_split (inl z) = inl (has-with (at i) j t.participants ∙ or_left (eqb j.0 i) (has (at i) t.participants) z)
           by_split (inr z) = inr z
 
   enlist-on : (nodes : List Node) (d : Table) (g : ℕ) → IsWhole d → GoesOn E d (enlisted_all d (gx g) nodes)
@@ -330,7 +319,7 @@ module _ (E : ℕ → ℕ → Bool) where
           goes_there = f;
           whole_there = a.whole;
           orders = work-at (with_live c.table (gx g) (Some (xmin_of c.table))) c.works g (record (c.works g) { snapshot = kept_at (c.works g).level (snapshot_of c.table) }) (all-go c whole ol (with_live c.table (gx g) (Some (xmin_of c.table))) f) (orders-go c.table (with_live c.table (gx g) (Some (xmin_of c.table))) f (c.works g).command (ol g));
-          live_there = record { txn = set_live (Some (xmin_of c.table)) live.txn; found = a.finds g ∙ ap (λ b. if b then option_map (set_live (Some (xmin_of c.table))) (find_txn c.table (gx g)) else find_txn c.table (gx g)) (self g) ∙ ap (option_map (set_live (Some (xmin_of c.table)))) live.found; active = live.active };
+          live_there = record { txn = set_live (Some (xmin_of c.table)) live.txn; found = a.finds g ∙ ap (λ b. if b then option_map (set_live (Some (xmin_of c.table))) (find_txn c.table (gx g)) else find_txn c.table (gx g)) (eqb-self g) ∙ ap (option_map (set_live (Some (xmin_of c.table)))) live.found; active = live.active };
         }
 
     by-held : (cid : Cid) (x : Option Snapshot) → ReadsHeld (reads_by c (gx g) cid (c.works g) x)
@@ -392,13 +381,13 @@ module _ (E : ℕ → ℕ → Bool) where
       block = (session_of c s).state.block
 
       transaction-now : (asked : LineStep) → (session_of (starts_line c s asked) s).transaction ≡ (session_of c s).transaction
-      transaction-now asked = ap (λ q. (if q then record (session_of c s) { lines = (session_of c s).lines + 1; state = after_line block asked } else session_of c s).transaction) (self s.0)
+      transaction-now asked = ap (λ q. (if q then record (session_of c s) { lines = (session_of c s).lines + 1; state = after_line block asked } else session_of c s).transaction) (eqb-self s.0)
 
       begun-orders : (level : Level) → OrdersHeld (begun c.table) (with_at c.works c.table.next.0 (new_work s level))
       begun-orders level = work-at (begun c.table) c.works c.table.next.0 (new_work s level) (all-go c k.whole ol (begun c.table) (begun-held E c.table k.whole)) tt
 
       begun-live : (asked : LineStep) (level : Level) → IsLive (begins (starts_line c s asked) s level) c.table.next.0
-      begun-live asked level = record { txn = new_txn; found = begun-finds c.table k.whole c.table.next.0 ∙ ap (λ b. if b then Some new_txn else find_txn c.table c.table.next) (self c.table.next.0); active = refl }
+      begun-live asked level = record { txn = new_txn; found = begun-finds c.table k.whole c.table.next.0 ∙ ap (λ b. if b then Some new_txn else find_txn c.table c.table.next) (eqb-self c.table.next.0); active = refl }
 
       begins-holds : (asked : LineStep) (level : Level) (turn : CoordTurn) → Holding (begins (starts_line c s asked) s level) turn → Holding c (behind (mark.Start c.table.next s ∷ []) turn)
       begins-holds asked level turn f = record { table = on-then c.table (begun c.table) turn.coord.table (begun-held E c.table k.whole) f.table; orders = f.orders; outs = f.outs }
@@ -429,11 +418,8 @@ module _ (E : ℕ → ℕ → Bool) where
     IsEndedIn _ = Unit {0}
 
     idle-first : (s : SessionId) (b : Bool) → (is_idle (session_of c s) && b) ≡ true → is_nothing_in (session_of c s).state.pending ≡ true
-    idle-first s b e = plain (session_of c s).state.pending (left _ _ e)
+    idle-first s b e = plain (session_of c s).state.pending (and-first _ _ e)
       where
-        left : (a b : Bool) → (a && b) ≡ true → a ≡ true
-        left a b e = grind arith
-
         plain : (q : Rattle.gx_script.specs.declared.state.Pending.Pending) → is_nothing q ≡ true → is_nothing_in q ≡ true
         plain q e = grind arith
 

@@ -4,6 +4,8 @@ use Rattle.std.proofs.lemmas.Bool.{eqb-true}
 use Rattle.std.proofs.lemmas.Bool.Decides.{nat_tests}
 use Rattle.std.specs.Prelude.{option_map, nat_lt}
 use Rattle.std.specs.List.{flat_map}
+use Rattle.gx_lemmas.proofs.Numbers.{eqb-self, lt-next}
+use Rattle.gx_lemmas.proofs.Options.{some-same}
 use Rattle.gx_ids.specs.declared.ids.Gxid.{Gxid}
 use Rattle.gx_ids.specs.declared.ids.Node.{Node}
 use Rattle.gx_dsnap.specs.Gxids.{after_ended, first_or, is_below}
@@ -30,7 +32,6 @@ use Rattle.gx_law_order.proofs.Stages.{At, IsWhole, at_gxid, changed-at, first-a
 use Rattle.gx_law_order.proofs.Statuses.{stage}
 use Rattle.gx_law_commit.specs.Horizons.{IsLow}
 use Rattle.gx_law_commit.specs.Standings.{gx}
-use Rattle.gx_law_commit.proofs.Calls.{self}
 
 -- a table with whole entries, and a horizon that is low
 pub record Fits (n : ℕ) (d : Table) : Type 0 where
@@ -60,9 +61,6 @@ low-at n d u g now l a m f =
     live : (h : ℕ) (t : Txn) (x : Gxid) (b : Bool) → eqb h g ≡ b → (if eqb h g then now else find_txn d (gx h)) ≡ Some t → t.live ≡ Some x → n ≤ x.0
     live h t x true q e y = (f t (sym (ap (λ b. if b then now else find_txn d (gx h)) q) ∙ e)).1 x y
     live h t x false q e y = l.live h t x (sym (ap (λ b. if b then now else find_txn d (gx h)) q) ∙ e) y
-
-some-same : {A : Type 0} (a b : A) → Some a ≡ Some b → a ≡ b
-some-same a b e = (cc)
 
 -- a change of what is there
 mapped-low : (n : ℕ) (d : Table) (g : ℕ) (f : Txn → Txn) → IsLow n d → ((t : Txn) (x : Gxid) → find_txn d (gx g) ≡ Some t → (f t).live ≡ Some x → n ≤ x.0) → NowLow n g (option_map f (find_txn d (gx g)))
@@ -116,7 +114,7 @@ each-low n [] f = tt
 each-low n (x ∷ xs) f = (here, each-low n xs (λ g t e. by_same g t (eqb g x.0.0) refl e))
   where
     here : n ≤ x.0.0
-    here = f x.0.0 x.1 (first-at x.0.0 x xs ∙ ap (λ b. if b then Some x.1 else at_gxid x.0.0 xs) (self x.0.0))
+    here = f x.0.0 x.1 (first-at x.0.0 x xs ∙ ap (λ b. if b then Some x.1 else at_gxid x.0.0 xs) (eqb-self x.0.0))
 
     by_same : (g : ℕ) (t : Txn) (b : Bool) → eqb g x.0.0 ≡ b → at_gxid g xs ≡ Some t → n ≤ g
     by_same g t true q e = subst (λ j. n ≤ j) (sym (eqb-true g x.0.0 q)) here
@@ -184,12 +182,9 @@ past-dense c ms p = record { there = λ h one l m. by_found h (find_txn c.table 
 pub begun-dense : (d : Table) → IsWhole d → IsDense d → IsDense (begun d)
 begun-dense d w k = record { there = λ h one l m. by_same h (eqb h d.next.0) refl one l m }
   where
-    less : (a b : ℕ) → a < b + 1 → eqb a b ≡ false → a < b
-    less a b l q = grind (arith, nat_tests)
-
     by_same : (h : ℕ) (b : Bool) → eqb h d.next.0 ≡ b → 1 ≤ h → h < d.next.0 + 1 → latest_number d.latest_ended < h → (t : Txn) × (find_txn (begun d) (gx h) ≡ Some t)
     by_same h true q one l m = (new_txn, begun-finds d w h ∙ ap (λ b. if b then Some new_txn else find_txn d (gx h)) q)
-    by_same h false q one l m = let x = k.there h one (less h d.next.0 l q) m in (x.0, begun-finds d w h ∙ ap (λ b. if b then Some new_txn else find_txn d (gx h)) q ∙ x.1)
+    by_same h false q one l m = let x = k.there h one (lt-next h d.next.0 l q) m in (x.0, begun-finds d w h ∙ ap (λ b. if b then Some new_txn else find_txn d (gx h)) q ∙ x.1)
 
 pub live-dense : (d : Table) (g : ℕ) (y : Option Gxid) → IsWhole d → IsDense d → IsDense (with_live d (gx g) y)
 live-dense d g y w k = record { there = λ h one l m. by_same h (eqb h g) refl (k.there h one l m) }

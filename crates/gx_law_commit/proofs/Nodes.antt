@@ -3,17 +3,14 @@ use Rattle.std.proofs.Common.{◌≡◌, ℕ, List, [], ◌∷◌, ◌++◌, Boo
 use Rattle.std.proofs.lemmas.Bool.Decides.{nat_tests}
 use Rattle.std.proofs.lemmas.List.{append_assoc}
 use Rattle.std.specs.Prelude.{filter, nat_lt, not}
+use Rattle.gx_lemmas.proofs.Tests.{or-assoc}
 use Rattle.gx_ids.specs.declared.ids.Node.{Node}
 use Rattle.gx_dtx.specs.Nodes.{has, with_node, without}
 use Rattle.gx_law_order.proofs.Lists.{Each, each_append, each_filter}
 
 pub has-append : (i : Node) (xs ys : List Node) → has i (xs ++ ys) ≡ (has i xs || has i ys)
 has-append i [] ys = refl
-has-append i (x ∷ xs) ys = ap (λ b. eqb x.0 i.0 || b) (has-append i xs ys) ∙ or-or (eqb x.0 i.0) (has i xs) (has i ys)
-  where
-    or-or : (a b c : Bool) → (a || (b || c)) ≡ ((a || b) || c)
-    or-or true b c = refl
-    or-or false b c = refl
+has-append i (x ∷ xs) ys = ap (λ b. eqb x.0 i.0 || b) (has-append i xs ys) ∙ or-assoc (eqb x.0 i.0) (has i xs) (has i ys)
 
 has-filter : (t : Node → Bool) (i x : Node) (xs : List Node) (b : Bool) → has i (cond b (x ∷ filter t xs) (filter t xs)) ≡ ((if b then eqb x.0 i.0 else false) || has i (filter t xs))
 has-filter t i x xs true = refl

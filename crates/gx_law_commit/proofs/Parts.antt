@@ -1,6 +1,8 @@
 -- How a segment's part of a transaction may change, and what stays said of it.
 use Rattle.std.proofs.Common.{◌≡◌, ◌⊎◌, inl, inr, ◌≤◌, ◌<◌, ℕ, ◌+◌, Option, Some, None, Bool, true, false, refl, sym, ap, ◌∙◌, ◌||◌, arith}
 use Rattle.std.proofs.lemmas.Bool.Decides.{nat_tests}
+use Rattle.std.proofs.lemmas.Bool.{both_ways, or_left}
+use Rattle.gx_lemmas.proofs.Numbers.{lt-le}
 use Rattle.gx_msg.specs.declared.message.Message.{Message}
 use Rattle.gx_msg.specs.declared.message.Message.TheVariants as message
 use Rattle.gx_msg.specs.declared.reply.Reply.{Reply}
@@ -78,10 +80,7 @@ pub record Next (k : Known) (p q : Part) : Type 0 where
 
 -- no slice of it waits
 pub quiet-waits : {A : Type 0} (b : Bool) → b ≡ false → b ≡ true → A
-quiet-waits b e f = absurd (clash b e f)
-  where
-    clash : (b : Bool) → b ≡ false → b ≡ true → ⊥
-    clash b e f = grind arith
+quiet-waits b e f = absurd (both_ways b e f)
 
 -- a promise
 abbrev pub promising : Part → Part
@@ -291,9 +290,6 @@ one a b x = grind (arith, nat_tests)
 two : (a : Standing) (b : Bool) → a ≡ Two b → is_closing a ≡ true
 two a b x = grind (arith, nat_tests)
 
-beyond : (a b : ℕ) → a < b → b ≤ a → ⊥
-beyond a b x y = omega arith
-
 less : (a b : ℕ) → a < b → a ≤ b
 less a b x = omega arith
 
@@ -320,14 +316,14 @@ runs-next k p phase c r w e m q h kept =
         decided = e.decided;
         unborn = λ x. absurd (m.drawn x);
         live = λ x. (q, (e.live x).1, m.last x);
-        learns = λ x y. or-first p.wrote w (e.learns x y);
+        learns = λ x y. or_left p.wrote w (e.learns x y);
         learned = λ x y. absurd (m.awaited x y);
         closing = λ x. absurd (m.unclosed x);
         asked = λ b x. absurd (m.unclosed (preparing k.at b x));
         alone = λ b x. absurd (m.unclosed (one k.at b x));
         both = λ b x. absurd (m.unclosed (two k.at b x));
       };
-      grows = record { last = m.later; wrote = λ x n. absurd (m.new x n); waits = λ x n. refl; writes = λ x. or-first p.wrote w x; prepared = λ x. x; refused = λ x. x; asked = λ x. x; committed = λ x. still p.phase phase m.opens x };
+      grows = record { last = m.later; wrote = λ x n. absurd (m.new x n); waits = λ x n. refl; writes = λ x. or_left p.wrote w x; prepared = λ x. x; refused = λ x. x; asked = λ x. x; committed = λ x. still p.phase phase m.opens x };
     }
   where
     opens : (a b : Phase) → is_open a ≡ true → is_open b ≡ true → (n : ℕ) → n ≡ bit (has_committed a) → n ≡ bit (has_committed b)
@@ -336,14 +332,11 @@ runs-next k p phase c r w e m q h kept =
     still : (a b : Phase) → is_open a ≡ true → has_committed a ≡ true → has_committed b ≡ true
     still a b x y = grind (arith, nat_tests)
 
-    or-first : (a b : Bool) → a ≡ true → (a || b) ≡ true
-    or-first a b x = grind arith
-
 -- a new command runs
 pub run-next : (k : Known) (p : Part) (phase : Phase) (c : ℕ) (r : Option Reply) (w : Bool) → Pair k p → is_open p.phase ≡ true → is_open phase ≡ true → has_written phase ≡ (p.wrote || w) → p.last < c → IsKept c (p.wrote || w) r → IsCommand k p c → Next k p (running phase c r w p)
 run-next k p phase c r w e o q h l kept m =
     runs-next k p phase c r w e
-    (record { opens = o; later = less p.last c l; drawn = m.drawn; unclosed = λ x. beyond p.last c l (m.closed x); last = m.last; awaited = λ x y. beyond p.last c l (m.taken x y); new = λ x n. beyond p.last c l (same-le c p.last x) }) q h kept
+    (record { opens = o; later = less p.last c l; drawn = m.drawn; unclosed = λ x. lt-le p.last c l (m.closed x); last = m.last; awaited = λ x y. lt-le p.last c l (m.taken x y); new = λ x n. lt-le p.last c l (same-le c p.last x) }) q h kept
 
 -- one that has waited runs
 pub drawn-waits : (k : Known) (p : Part) → Pair k p → p.waits ≡ true → k.at ≡ Unborn → ⊥
@@ -399,30 +392,30 @@ wait-next k p c e o l m =
         unborn = λ x. absurd (m.drawn x);
         live = λ x. (o, (e.live x).1, m.last x);
         learns = e.learns;
-        learned = λ x y. absurd (beyond p.last c l (m.taken x y));
-        closing = λ x. absurd (beyond p.last c l (m.closed x));
-        asked = λ b x. absurd (beyond p.last c l (m.closed (preparing k.at b x)));
-        alone = λ b x. absurd (beyond p.last c l (m.closed (one k.at b x)));
-        both = λ b x. absurd (beyond p.last c l (m.closed (two k.at b x)));
+        learned = λ x y. absurd (lt-le p.last c l (m.taken x y));
+        closing = λ x. absurd (lt-le p.last c l (m.closed x));
+        asked = λ b x. absurd (lt-le p.last c l (m.closed (preparing k.at b x)));
+        alone = λ b x. absurd (lt-le p.last c l (m.closed (one k.at b x)));
+        both = λ b x. absurd (lt-le p.last c l (m.closed (two k.at b x)));
       };
-      grows = record { last = less p.last c l; wrote = λ x n. refl; waits = λ x n. absurd (beyond p.last c l (same-le c p.last x)); writes = λ x. x; prepared = λ x. x; refused = λ x. x; asked = λ x. x; committed = λ x. x };
+      grows = record { last = less p.last c l; wrote = λ x n. refl; waits = λ x n. absurd (lt-le p.last c l (same-le c p.last x)); writes = λ x. x; prepared = λ x. x; refused = λ x. x; asked = λ x. x; committed = λ x. x };
     }
   where
     waits : (b : Bool) → k.waits ≡ b → k.at ≡ Live → k.waits ≡ true
     waits true f x = f
-    waits false f x = absurd (beyond p.last c l (m.taken x f))
+    waits false f x = absurd (lt-le p.last c l (m.taken x f))
 
     latest : (a b d : ℕ) → a < b → b ≤ d → (b < d → b ≤ a) → b ≡ d
     latest a b d x y z = grind arith
 
     ended : (b : Bool) → k.aborted ≡ b → k.at ≡ Over → (k.at ≡ Live) ⊎ (k.aborted ≡ true)
     ended true f x = inr f
-    ended false f x = absurd (beyond p.last c l (m.over x f))
+    ended false f x = absurd (lt-le p.last c l (m.over x f))
 
     stands : (a : Standing) → k.at ≡ a → (k.at ≡ Live) ⊎ (k.aborted ≡ true)
     stands Unborn f = absurd (m.drawn f)
     stands Live f = inl f
-    stands (Preparing b) f = absurd (beyond p.last c l (m.closed (ap is_closing f)))
-    stands (One b) f = absurd (beyond p.last c l (m.closed (ap is_closing f)))
-    stands (Two b) f = absurd (beyond p.last c l (m.closed (ap is_closing f)))
+    stands (Preparing b) f = absurd (lt-le p.last c l (m.closed (ap is_closing f)))
+    stands (One b) f = absurd (lt-le p.last c l (m.closed (ap is_closing f)))
+    stands (Two b) f = absurd (lt-le p.last c l (m.closed (ap is_closing f)))
     stands Over f = ended k.aborted refl f

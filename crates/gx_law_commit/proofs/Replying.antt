@@ -1,8 +1,10 @@
 -- Answers to PREPARE, COMMIT, COMMIT PREPARED, FORGET and ABORT.
 use Rattle.std.proofs.Common.{◌≡◌, inl, ℕ, ◌+◌, List, [], ◌∷◌, ◌++◌, Option, Some, None, Bool, true, false, refl, sym, subst, ap, ◌∙◌, if◌then◌else◌, ◌||◌, ◌==◌, arith, eqb}
-use Rattle.std.proofs.lemmas.Bool.{eqb-true}
+use Rattle.std.proofs.lemmas.Bool.{eqb-true, or_from}
 use Rattle.std.proofs.lemmas.Bool.Decides.{nat_tests}
 use Rattle.std.specs.Prelude.{length, nat_le, take}
+use Rattle.gx_lemmas.proofs.Numbers.{eqb-self}
+use Rattle.gx_lemmas.proofs.Tests.{or-false, true-false}
 use Rattle.gx_ids.specs.declared.ids.Node.{Node}
 use Rattle.gx_dtx.specs.Nodes.{has, without}
 use Rattle.gx_dtx.specs.Rules.{decides, ends_committed, finishes, forgets, gives_up, is_awaited, prepares, refuses, reply_found, stays, takes, turns}
@@ -34,7 +36,7 @@ use Rattle.gx_law_commit.specs.Pairs.{IsVote, Pair, bit}
 use Rattle.gx_law_commit.specs.Said.{Answers}
 use Rattle.gx_law_commit.specs.Standings.{Known, Part, Standing, at, gx, is_closing, is_undecided, known_at, known_of, standing, standing_in}
 use Rattle.gx_law_commit.specs.Standings.Standing.{Unborn, Live, Preparing, One, Two, Over}
-use Rattle.gx_law_commit.proofs.Calls.{CanEnd, Elsewhere, Mute, abort-led, becomes-calm, calm-led, committed-led, ended-follows, for-all, known, one-change, or-none, plus-none, self, stands-as, still-led, to-nodes, unaborted, uncommitted, not-self, back-mute}
+use Rattle.gx_law_commit.proofs.Calls.{CanEnd, Elsewhere, Mute, abort-led, becomes-calm, calm-led, committed-led, ended-follows, for-all, known, one-change, stands-as, still-led, to-nodes, unaborted, uncommitted, not-self, back-mute}
 use Rattle.gx_law_commit.proofs.Commits.{AtMostOne, Decision, few, filter-few, filter-many, many, several}
 use Rattle.gx_law_commit.proofs.Nodes.{AreApart, each-has, has-without}
 use Rattle.gx_law_commit.proofs.Shifts.{Shift, decide-shift, deciding, finished-shift, promised-shift, shift-same}
@@ -170,16 +172,13 @@ module _ (script : Script) (P : ℕ → ℕ → Part) (c : Coord) (ms : List Mar
             same h true q = ap c.works (eqb-true h g q)
             same h false q = refl
 
-            neither : (a b : Bool) → a ≡ false → b ≡ false → (a || b) ≡ false
-            neither a b x y = grind arith
-
             writes : (i : ℕ) → is_writer ms (gx g) (at i) ≡ has (at i) ws
             writes i = writer-is i (preparing-closing i)
 
             decides-here : Decides script ms (gx g)
             decides-here =
                 record {
-                  running = neither (is_committed ms (gx g)) (is_aborted ms (gx g)) (uncommitted script P c ms s whole g t f (k 0) (P 0 g) (pair 0) (not-over 0 (preparing-closing 0))) (unaborted script P c ms s whole g t f (k 0) (P 0 g) (pair 0) (not-over 0 (preparing-closing 0)));
+                  running = or_from (is_committed ms (gx g)) (is_aborted ms (gx g)) (uncommitted script P c ms s whole g t f (k 0) (P 0 g) (pair 0) (not-over 0 (preparing-closing 0))) (unaborted script P c ms s whole g t f (k 0) (P 0 g) (pair 0) (not-over 0 (preparing-closing 0)));
                   first = (pair 0).undecided (ap is_undecided (at-preparing 0));
                   several = several (writers_of script ms (gx g)) (two-writers writes (agrees-in (status.Preparing xs aw) e).1);
                   promised = λ node. promised-is node.0 (has node ws) (all-promised none node.0) ∙ as-bit (has node ws) ∙ ap (λ b. if b then 1 else 0) (sym (writes node.0));
@@ -190,13 +189,13 @@ module _ (script : Script) (P : ℕ → ℕ → Part) (c : Coord) (ms : List Mar
             other h q = ap (λ b. if b then 0 + 1 else 0) q
 
             one-decided : decided_count (mark.Decided (gx g) ∷ []) (gx g) ≡ 1
-            one-decided = ap (λ b. if b then 0 + 1 else 0) (self g)
+            one-decided = ap (λ b. if b then 0 + 1 else 0) (eqb-self g)
 
             known-now : (i : ℕ) → becomes script P c ms (mark.Decided (gx g) ∷ []) g (left_of (decides (gx g) xs t.participants false).step (Some t)) (c.works g) i ≡ deciding (has (at i) xs) (k i)
             known-now i =
                 ap (λ n. known_of (Two (has (at i) xs)) (c.works g) i (decided_count ms (gx g) + n) (is_aborted ms (gx g) || false) (is_committed ms (gx g) || false)) one-decided
-                ∙ ap (λ b. known_of (Two (has (at i) xs)) (c.works g) i (decided_count ms (gx g) + 1) b (is_committed ms (gx g) || false)) (or-none (is_aborted ms (gx g)))
-                ∙ ap (λ b. known_of (Two (has (at i) xs)) (c.works g) i (decided_count ms (gx g) + 1) (is_aborted ms (gx g)) b) (or-none (is_committed ms (gx g)))
+                ∙ ap (λ b. known_of (Two (has (at i) xs)) (c.works g) i (decided_count ms (gx g) + 1) b (is_committed ms (gx g) || false)) (or-false (is_aborted ms (gx g)))
+                ∙ ap (λ b. known_of (Two (has (at i) xs)) (c.works g) i (decided_count ms (gx g) + 1) (is_aborted ms (gx g)) b) (or-false (is_committed ms (gx g)))
 
             decision : Decision (ms ++ mark.Decided (gx g) ∷ []) ws g
             decision =
@@ -275,7 +274,7 @@ module _ (script : Script) (P : ℕ → ℕ → Part) (c : Coord) (ms : List Mar
       one-committed : has_committed (P j.0 g).phase ≡ true → Gives (ends_committed (gx g) t.participants)
       one-committed v =
           subst (Led script P c ms) (sym (ended-follows script P c ms s whole g t f t.participants))
-          (committed-led script P c ms s whole g t f t.participants (one-can (λ x. clash (has_committed (P w.0 g).phase) (subst (λ n. has_committed (P n g).phase ≡ true) j-is v) (no-vote (P w.0 g).phase (P w.0 g).vote (pair w.0).vote x)))
+          (committed-led script P c ms s whole g t f t.participants (one-can (λ x. true-false (has_committed (P w.0 g).phase) (subst (λ n. has_committed (P n g).phase ≡ true) j-is v) (no-vote (P w.0 g).phase (P w.0 g).vote (pair w.0).vote x)))
           (λ i x y. asked (k i).at (eqb w.0 i) (at-one-writer i) y) (λ i x. absurd (alive (k i).at (eqb w.0 i) (at-one-writer i) x))
           (few (writers_of script ms (gx g)) ms g (filter-few (is_writer ms (gx g)) w.0 (λ i x. sym (eqb-true w.0 i (sym (writes i) ∙ x))) 1 script.segments)
           (record {
@@ -284,9 +283,6 @@ module _ (script : Script) (P : ℕ → ℕ → Part) (c : Coord) (ms : List Mar
             undecided = (pair 0).undecided (ap is_undecided (at-one-writer 0));
           })))
         where
-          clash : (b : Bool) → b ≡ true → b ≡ false → ⊥
-          clash b x y = grind arith
-
           asked : (a : Standing) (b : Bool) → a ≡ One b → a ≡ Preparing true → ⊥
           asked a b x y = grind arith
 

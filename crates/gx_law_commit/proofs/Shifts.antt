@@ -1,6 +1,7 @@
 -- How what the coordinator knows of a transaction at a segment changes, and what stays said.
 use Rattle.std.proofs.Common.{◌≡◌, ◌⊎◌, inl, inr, ◌≤◌, ℕ, ◌+◌, None, Bool, true, false, refl, ap, ◌||◌, arith}
 use Rattle.std.proofs.lemmas.Bool.Decides.{nat_tests}
+use Rattle.std.proofs.lemmas.Bool.{false_from_ne_true}
 use Rattle.gx_msg.specs.declared.message.Message.{Message}
 use Rattle.gx_msg.specs.declared.message.Message.TheVariants as message
 use Rattle.gx_msg.specs.declared.reply.Reply.{Reply}
@@ -453,17 +454,13 @@ over-shift k n p e o b ab co ei pr on tw fi =
     still : k.aborted ≡ true → n.aborted ≡ false → ⊥
     still x f = quiet-waits n.aborted f (ab x)
 
-    false-of : (c : Bool) → (c ≡ true → ⊥) → c ≡ false
-    false-of true g = absurd (g refl)
-    false-of false g = refl
-
     taken : (c : ℕ) → IsCommand k p c → n.aborted ≡ false → (a : Standing) → k.at ≡ a → c ≤ p.last
     taken c d f Unborn g = absurd (d.drawn g)
     taken c d f Live g = d.taken g (fi g f)
     taken c d f (Preparing x) g = d.closed (ap is_closing g)
     taken c d f (One x) g = d.closed (ap is_closing g)
     taken c d f (Two x) g = d.closed (ap is_closing g)
-    taken c d f Over g = d.over g (false-of k.aborted (λ x. still x f))
+    taken c d f Over g = d.over g (false_from_ne_true k.aborted (λ x. still x f))
 
     waits-end : p.waits ≡ true → n.aborted ≡ true
     waits-end x = by_test n.aborted refl (e.waits x).2

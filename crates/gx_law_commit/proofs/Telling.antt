@@ -1,6 +1,8 @@
 -- What stands before a message that tells of a mark.
 use Rattle.std.proofs.Common.{◌≡◌, ℕ, ◌+◌, List, [], ◌∷◌, ◌++◌, Bool, true, false, sym, subst, ap, ◌∙◌, ◌||◌, arith, append-nil}
 use Rattle.std.proofs.lemmas.List.{append_assoc}
+use Rattle.std.proofs.lemmas.Bool.{or_left}
+use Rattle.gx_lemmas.proofs.Numbers.{plus-none}
 use Rattle.gx_ids.specs.declared.ids.Gxid.{Gxid}
 use Rattle.gx_ids.specs.declared.ids.Node.{Node}
 use Rattle.gx_msg.specs.declared.message.Message.{Message}
@@ -29,12 +31,6 @@ pub tell-push : (before ss : List Step) (s : Step) → DoStepsTell before ss →
 tell-push before [] s e h = (subst (λ x. AreTold s.stamp.node (marks_in x) s.marks) (append-nil before) h, tt)
 tell-push before (x ∷ ss) s e h = (e.0, tell-push (before ++ x ∷ []) ss s e.1 (subst (λ y. AreTold s.stamp.node (marks_in y) s.marks) (sym (append_assoc before (x ∷ []) ss)) h))
 
-or-true : (a b : Bool) → a ≡ true → (a || b) ≡ true
-or-true a b e = grind arith
-
-plus-none : (n : ℕ) → n + 0 ≡ n
-plus-none n = omega arith
-
 -- other marks don't take it back
 told-append : (node : Node) (ms xs : List Mark) (m : Message) → Each NoPart xs → IsTold node ms m → IsTold node (ms ++ xs) m
 told-append node ms xs (message.Answer g reply.Prepared) e t = prepared-append ms xs node g ∙ ap (λ n. prepared_count ms node g + n) (no-prepared xs node g e) ∙ plus-none (prepared_count ms node g) ∙ t
@@ -45,8 +41,8 @@ told-append node ms xs (message.Answer g reply.Jfault) e t = tt
 told-append node ms xs (message.Answer g reply.Again) e t = tt
 told-append node ms xs (message.Answer g reply.Aborted) e t = tt
 told-append node ms xs (message.Answer g reply.Forgotten) e t = tt
-told-append node ms xs (message.Abort g) e t = aborted-append ms xs g ∙ or-true (is_aborted ms g) (is_aborted xs g) t
-told-append node ms xs (message.Forget g) e t = committed-append ms xs g ∙ or-true (is_committed ms g) (is_committed xs g) t
+told-append node ms xs (message.Abort g) e t = aborted-append ms xs g ∙ or_left (is_aborted ms g) (is_aborted xs g) t
+told-append node ms xs (message.Forget g) e t = committed-append ms xs g ∙ or_left (is_committed ms g) (is_committed xs g) t
 told-append node ms xs (message.Exec g c level x h y) e t = tt
 told-append node ms xs (message.Prepare g) e t = tt
 told-append node ms xs (message.Commit g) e t = tt

@@ -1,6 +1,7 @@
 -- What the coordinator knows of a transaction of which a slice waits at a segment.
 use Rattle.std.proofs.Common.{◌≡◌, ◌⊎◌, inl, inr, ℕ, Option, Some, Bool, true, false, refl, sym, ◌∙◌}
 use Rattle.std.specs.Prelude.{is_some}
+use Rattle.std.proofs.lemmas.Bool.{false_from_ne_true}
 use Rattle.gx_ids.specs.declared.ids.Gxid.{Gxid}
 use Rattle.gx_script.specs.declared.Script.{Script}
 use Rattle.gx_store.specs.Points.{marks_in}
@@ -36,16 +37,12 @@ awaited script w n v i g x e =
       waits = λ l. (pair.awaited l y).0;
       last = λ l. sym (pair.awaited l y).1 ∙ (waiting script w n.well i g x e).last;
       drawn = drawn-waits k p pair y;
-      opens = not-so (is_closing k.at) (unclosed-waits k p pair y);
-      uncommitted = not-so k.committed (uncommitted-waits k p pair y);
+      opens = false_from_ne_true (is_closing k.at) (unclosed-waits k p pair y);
+      uncommitted = false_from_ne_true k.committed (uncommitted-waits k p pair y);
     }
   where
     is-some : (o : Option Suspended) → o ≡ Some x → is_some o ≡ true
     is-some o q = cc
-
-    not-so : (b : Bool) → (b ≡ true → ⊥) → b ≡ false
-    not-so true f = absurd (f refl)
-    not-so false f = refl
 
     uncommitted-waits : (k : Known) (p : Part) → Pair k p → p.waits ≡ true → k.committed ≡ true → ⊥
     uncommitted-waits k p pair y c = by_place (pair.waits y).2

@@ -4,6 +4,8 @@ use Rattle.std.proofs.lemmas.Bool.{eqb-true}
 use Rattle.std.proofs.lemmas.Bool.Decides.{nat_tests}
 use Rattle.std.proofs.lemmas.List.{append_assoc}
 use Rattle.std.specs.Prelude.{nat_le}
+use Rattle.gx_lemmas.proofs.Numbers.{plus-none}
+use Rattle.gx_lemmas.proofs.Tests.{or-false}
 use Rattle.gx_ids.specs.declared.ids.Gxid.{Gxid}
 use Rattle.gx_ids.specs.declared.ids.Node.{Node}
 use Rattle.gx_dtx.specs.Rules.{begun}
@@ -43,17 +45,10 @@ pub record IsOf (p : Part) (ms : List Mark) (i g : ℕ) : Type 0 where
 pub part-append : (p : Part) (ms ns : List Mark) (i g : ℕ) → Each NoPart ns → IsOf p ms i g → IsOf p (ms ++ ns) i g
 part-append p ms ns i g e o =
     record {
-      wrote = writer-append ms ns (gx g) (at i) ∙ ap (λ b. is_writer ms (gx g) (at i) || b) (no-writer ns (gx g) (at i) e) ∙ or-none (is_writer ms (gx g) (at i)) ∙ o.wrote;
+      wrote = writer-append ms ns (gx g) (at i) ∙ ap (λ b. is_writer ms (gx g) (at i) || b) (no-writer ns (gx g) (at i) e) ∙ or-false (is_writer ms (gx g) (at i)) ∙ o.wrote;
       promises = prepared-append ms ns (at i) (gx g) ∙ ap (λ n. prepared_count ms (at i) (gx g) + n) (no-prepared ns (at i) (gx g) e) ∙ plus-none (prepared_count ms (at i) (gx g)) ∙ o.promises;
       commits = local-append ms ns (at i) (gx g) ∙ ap (λ n. local_count ms (at i) (gx g) + n) (no-local ns (at i) (gx g) e) ∙ plus-none (local_count ms (at i) (gx g)) ∙ o.commits;
     }
-  where
-    or-none : (b : Bool) → (b || false) ≡ b
-    or-none true = refl
-    or-none false = refl
-
-    plus-none : (n : ℕ) → n + 0 ≡ n
-    plus-none n = omega arith
 
 -- WHAT THE COORDINATOR'S MARKS FOLLOW
 abbrev pub FolAt : Script → List Mark → Mark → Type 0
@@ -185,13 +180,6 @@ module _ (script : Script) (P : ℕ → ℕ → Part) where
   known-eq i a b v w d e x y z u p q r s t =
       ap (λ a. known_of a v i d x z) p ∙ ap (λ v. known_of b v i d x z) q ∙ ap (λ d. known_of b w i d x z) r ∙ ap (λ x. known_of b w i e x z) s ∙ ap (λ z. known_of b w i e y z) t
 
-  or-none : (b : Bool) → (b || false) ≡ b
-  or-none true = refl
-  or-none false = refl
-
-  plus-none : (n : ℕ) → n + 0 ≡ n
-  plus-none n = omega arith
-
   pub record One (c d : Coord) (ms ns : List Mark) (g : ℕ) (now : Option Txn) (w : Work) : Type 0 where
     pub next : d.table.next ≡ c.table.next
     pub finds : (h : ℕ) → find_txn d.table (gx h) ≡ (if eqb h g then now else find_txn c.table (gx h))
@@ -216,7 +204,7 @@ module _ (script : Script) (P : ℕ → ℕ → Part) where
         let x = o.others h e in
         known-eq i _ _ _ _ _ _ _ _ _ _ (ap (λ (n : Gxid). standing (nat_le n.0 h) (find_txn d.table (gx h)) i) o.next ∙ ap (λ t. standing (nat_le c.table.next.0 h) t i) (o.finds h ∙ ap (λ b. if b then now else find_txn c.table (gx h)) e))
         (o.works h ∙ ap (λ b. if b then w else c.works h) e) (decided-append ms ns (gx h) ∙ ap (λ n. decided_count ms (gx h) + n) x.0 ∙ plus-none (decided_count ms (gx h)))
-        (aborted-append ms ns (gx h) ∙ ap (λ b. is_aborted ms (gx h) || b) x.1 ∙ or-none (is_aborted ms (gx h))) (committed-append ms ns (gx h) ∙ ap (λ b. is_committed ms (gx h) || b) x.2 ∙ or-none (is_committed ms (gx h)))
+        (aborted-append ms ns (gx h) ∙ ap (λ b. is_aborted ms (gx h) || b) x.1 ∙ or-false (is_aborted ms (gx h))) (committed-append ms ns (gx h) ∙ ap (λ b. is_committed ms (gx h) || b) x.2 ∙ or-false (is_committed ms (gx h)))
 
     pub at-one : Stands c ms → ((i : ℕ) → Shift (known_at c ms i g) (becomes c ms ns g now w i) (P i g)) → Working g w → Agrees (ms ++ ns) g now w.writers → Fol script ms ns → Way c ms d ns
     at-one s shift working agree fol =
@@ -265,8 +253,8 @@ module _ (script : Script) (P : ℕ → ℕ → Part) where
         (ap (λ (t : Table). standing (nat_le t.next.0 new) (find_txn t (gx new)) i) table ∙ ap (λ t. standing (nat_le (new + 1) new) t i) (begun-finds c.table whole new ∙ ap (λ b. if b then Some new_txn else find_txn c.table (gx new)) (self new)))
         (works new ∙ ap (λ b. if b then w else c.works new) (self new))
         (decided-append ms (m ∷ []) (gx new) ∙ ap (λ n. decided_count ms (gx new) + n) p ∙ plus-none (decided_count ms (gx new)))
-        (aborted-append ms (m ∷ []) (gx new) ∙ ap (λ b. is_aborted ms (gx new) || b) q ∙ or-none (is_aborted ms (gx new)))
-        (committed-append ms (m ∷ []) (gx new) ∙ ap (λ b. is_committed ms (gx new) || b) r ∙ or-none (is_committed ms (gx new)))
+        (aborted-append ms (m ∷ []) (gx new) ∙ ap (λ b. is_aborted ms (gx new) || b) q ∙ or-false (is_aborted ms (gx new)))
+        (committed-append ms (m ∷ []) (gx new) ∙ ap (λ b. is_committed ms (gx new) || b) r ∙ or-false (is_committed ms (gx new)))
         ∙ ap (λ ws. record (known_at c ms i new) { at = Live; writes = Rattle.gx_dtx.specs.Nodes.has (at i) ws; waits = Rattle.gx_law_commit.specs.Standings.waits_in w.command i; last = w.last }) a
         ∙ ap (λ k. record (known_at c ms i new) { at = Live; writes = false; waits = Rattle.gx_law_commit.specs.Standings.waits_in k i; last = w.last }) b
         ∙ ap (λ n. record (known_at c ms i new) { at = Live; writes = false; waits = false; last = n }) e
@@ -280,8 +268,8 @@ module _ (script : Script) (P : ℕ → ℕ → Part) where
         (ap (λ (t : Table). standing (nat_le t.next.0 h) (find_txn t (gx h)) i) table ∙ ap (λ b. standing b (find_txn (begun c.table) (gx h)) i) (later new h e) ∙ ap (λ t. standing (nat_le new h) t i) (begun-finds c.table whole h ∙ ap (λ b. if b then Some new_txn else find_txn c.table (gx h)) e))
         (works h ∙ ap (λ b. if b then w else c.works h) e)
         (decided-append ms (m ∷ []) (gx h) ∙ ap (λ n. decided_count ms (gx h) + n) p ∙ plus-none (decided_count ms (gx h)))
-        (aborted-append ms (m ∷ []) (gx h) ∙ ap (λ b. is_aborted ms (gx h) || b) q ∙ or-none (is_aborted ms (gx h)))
-        (committed-append ms (m ∷ []) (gx h) ∙ ap (λ b. is_committed ms (gx h) || b) r ∙ or-none (is_committed ms (gx h)))
+        (aborted-append ms (m ∷ []) (gx h) ∙ ap (λ b. is_aborted ms (gx h) || b) q ∙ or-false (is_aborted ms (gx h)))
+        (committed-append ms (m ∷ []) (gx h) ∙ ap (λ b. is_committed ms (gx h) || b) r ∙ or-false (is_committed ms (gx h)))
       where
         later : (n h : ℕ) → eqb h n ≡ false → nat_le (n + 1) h ≡ nat_le n h
         later n h e = grind (arith, nat_tests)

@@ -1,6 +1,8 @@
 -- Every run of the machine follows the commit protocol.
 use Rattle.std.proofs.Common.{◌≡◌, ◌≤◌, inl, inr, ℕ, ◌+◌, List, [], ◌∷◌, ◌++◌, Option, Some, None, Bool, true, false, refl, sym, subst, ap, ◌∙◌, if◌then◌else◌, arith, eqb}
 use Rattle.std.proofs.lemmas.Bool.Decides.{nat_tests}
+use Rattle.std.proofs.lemmas.Bool.{or_left}
+use Rattle.gx_lemmas.proofs.Numbers.{one-le-zero, same-plus-none}
 use Rattle.gx_ids.specs.declared.ids.Node.{Node}
 use Rattle.gx_ids.specs.declared.ids.SessionId.{SessionId}
 use Rattle.gx_msg.specs.declared.message.Envelope.{Envelope}
@@ -40,7 +42,6 @@ use Rattle.gx_law_commit.specs.Said.{Said, SaidAt, SaidIn, gxid_in, is_answer}
 use Rattle.gx_law_commit.specs.Standings.{Known, at, gx, known_at}
 use Rattle.gx_law_commit.proofs.Always.{IsPosted, answer-of, each-zip, happens-holds, new-holds}
 use Rattle.gx_law_commit.proofs.Answering.{NoAnswer}
-use Rattle.gx_law_commit.proofs.Calls.{or-left}
 use Rattle.gx_law_commit.proofs.Complete.{Comes, IsBack, Replied, StepBack, answer-push, away-back, back-all, came-append, coord-replied, none-answers, starts-last}
 use Rattle.gx_law_commit.proofs.Completing.{GetsBy, calm-started}
 use Rattle.gx_law_commit.proofs.Everywhere.{Holds, does-it, parts_in, resumed-does}
@@ -84,22 +85,16 @@ module _ (script : Script) (w : World) (n : Knows script w) (v : Holds script w)
   seg-replied : Replied script next
   seg-replied =
       record {
-        lines = λ t. r.lines t ∙ plus-none (starts_in t w.steps) ∙ ap (λ q. starts_in t w.steps + q) (sym (none t)) ∙ sym (starts-last t w.steps step);
+        lines = λ t. r.lines t ∙ same-plus-none (starts_in t w.steps) ∙ ap (λ q. starts_in t w.steps + q) (sym (none t)) ∙ sym (starts-last t w.steps step);
         last = λ t h q. r.last t h (sym (started_after-append t None ms (turn.marks ++ sent) ∙ calm-started t (started_after t None ms) (turn.marks ++ sent) (each_append NoStart turn.marks sent (follows-no-start told known i g turn.marks follows) (sent-no-start (λ node. turn.seg.sent) turn.outs))) ∙ ap (started_after t None) all ∙ q);
-        back = each_append (StepBack w.coord next.steps) w.steps (step ∷ []) (back-all w.coord w.coord w.steps (step ∷ []) w.steps stays r.back) (away-back w.coord next.steps (at i) (λ q. not-zero i place (ap (λ (a : Node). a.0) q)) (turn.marks ++ sent), tt);
+        back = each_append (StepBack w.coord next.steps) w.steps (step ∷ []) (back-all w.coord w.coord w.steps (step ∷ []) w.steps stays r.back) (away-back w.coord next.steps (at i) (λ q. one-le-zero i place (ap (λ (a : Node). a.0) q)) (turn.marks ++ sent), tt);
         answers = answer-push script [] w.steps step r.answers (none-answers script w.steps step [] turn.marks (λ node. turn.seg.sent) turn.outs (follows-no-answer told known i g turn.marks follows));
       }
     where
-      plus-none : (n : ℕ) → n ≡ n + 0
-      plus-none n = omega arith
-
-      not-zero : (i : ℕ) → 1 ≤ i → i ≡ 0 → ⊥
-      not-zero i l e = omega arith
-
       stays : (j g m : ℕ) → IsBack w.coord w.steps j g m → IsBack w.coord (w.steps ++ step ∷ []) j g m
       stays j g m (inl y) = inl y
       stays j g m (inr (inl y)) = inr (inl (came-append w.steps (step ∷ []) j g m y))
-      stays j g m (inr (inr y)) = inr (inr (ap (λ q. is_aborted q (gx g)) (sym all) ∙ aborted-append ms (turn.marks ++ sent) (gx g) ∙ or-left (is_aborted ms (gx g)) (is_aborted (turn.marks ++ sent) (gx g)) y))
+      stays j g m (inr (inr y)) = inr (inr (ap (λ q. is_aborted q (gx g)) (sym all) ∙ aborted-append ms (turn.marks ++ sent) (gx g) ∙ or_left (is_aborted ms (gx g)) (is_aborted (turn.marks ++ sent) (gx g)) y))
 
 -- ALL EVENTS
 gets-by : (steps : List Step) (e : Event) (from : Node) (m : Message) → Receives steps e from the_coordinator m → (g n : ℕ) → (wrote : Bool) (count : ℕ) (part : Rattle.gx_tree.specs.declared.part.Part.Part) → m ≡ message.Answer (gx g) (reply.Done (record { 0 = n }) wrote count part) → Comes steps e from.0 g n

@@ -1,5 +1,6 @@
 -- Where the coordinator's answers stand among its marks.
 use Rattle.std.proofs.Common.{◌≡◌, ◌==◌, ◌&&◌, ◌+◌, ◌⊎◌, inl, inr, ℕ, List, [], ◌∷◌, ◌++◌, Option, Some, None, Result, Ok, Err, Bool, true, false, refl, sym, subst, ◌∙◌, if◌then◌else◌}
+use Rattle.gx_lemmas.proofs.Options.{none-some}
 use Rattle.gx_store.specs.declared.answer.StmtAnswer.{StmtAnswer}
 use Rattle.gx_msg.specs.declared.message.Out.{Out}
 use Rattle.gx_rules.specs.Sending.{counted, numbered}
@@ -96,9 +97,6 @@ IsServed c s = (work_of c (session_of c s).transaction).waiting ≡ None
 module _ (c : Coord) (kept : Kept c) (g : Gxid) where
   is-home : (session_of c (work_of c g).session).transaction.0 ≡ g.0 → (work_of c g).waiting ≡ None → IsServed c (work_of c g).session
   is-home e f = subst (λ j. (c.works j).waiting ≡ None) (sym e) f
-
-  none-some : {A : Type 0} (o : Option A) (x : A) → o ≡ None → o ≡ Some x → ⊥
-  none-some o x e f = cc
 
   idle-busy : (k : Command) → (work_of c g).command ≡ Some k → (o : Option Stmt) → (work_of c g).waiting ≡ o → o ≡ None
   idle-busy k e None f = refl

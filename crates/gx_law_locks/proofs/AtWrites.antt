@@ -1,6 +1,7 @@
 -- Rows are written with their table's lock at their segment.
 use Rattle.std.proofs.Common.{◌≡◌, ◌==◌, ℕ, List, [], ◌∷◌, ◌++◌, Option, Some, None, Bool, true, false, not, refl, sym, subst, ap, ◌∙◌, if◌then◌else◌, nat_lt}
 use Rattle.std.specs.Prelude.{map}
+use Rattle.gx_lemmas.proofs.Options.{some-same}
 use Rattle.gx_ids.specs.declared.ids.Node.{Node}
 use Rattle.gx_modes.specs.declared.modes.Mode.TheVariants.{AccessShare, RowExclusive}
 use Rattle.gx_waits.specs.declared.object.Object.TheVariants.{Relation}
@@ -140,14 +141,11 @@ module _ (script : Script) (P : Gxid → Table → Type 0) (s : Seg) where
   pub resume_writes : (g : Gxid) (wanted : Claim) (x : Suspended) (y : Slice) → slice_lock g y ≡ Some wanted → SliceHas P g y → Writes (resumes s g (Some wanted) (Some (record x { slice = y })))
   resume_writes g wanted x (slice.Select q) e p = select_runs _ g x.cid x.snapshot q _
   resume_writes g wanted x (slice.Insert table rows) e p =
-      subst (λ (w : Claim). Writes (resumes s g (Some w) (Some (record x { slice = slice.Insert table rows })))) (same (claim g (Relation table) RowExclusive) wanted e)
+      subst (λ (w : Claim). Writes (resumes s g (Some w) (Some (record x { slice = slice.Insert table rows })))) (some-same (claim g (Relation table) RowExclusive) wanted e)
       (subst (λ holds. AreWritesHeld P s.node holds (runs_slice (free (claim g (Relation table) RowExclusive)) g x.cid x.snapshot (slice.Insert table rows)).marks)
       (sym (ap (λ b. if b then added (claim g (Relation table) RowExclusive) s.locks.holds else s.locks.holds) (node-itself s.node)))
       (insert_runs (free (claim g (Relation table) RowExclusive)) g x.cid x.snapshot table rows (added (claim g (Relation table) RowExclusive) s.locks.holds) (in-new (claim g (Relation table) RowExclusive) s.locks.holds) p))
     where
-      same : (a b : Claim) → Some a ≡ Some b → a ≡ b
-      same a b q = cc
-
       free : Claim → Seg
       free w = record (with_local s g (record (local_of s g) { suspended = None })) { locks = resumed s.locks g (Some w) }
   resume_writes g wanted x (slice.Update table assigns cond) e p = absurd (cc)

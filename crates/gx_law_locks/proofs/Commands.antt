@@ -2,6 +2,9 @@
 use Rattle.std.proofs.Common.{◌≡◌, ◌<◌, ◌⊎◌, ◌||◌, not, cond, ◌==◌, inl, inr, ℕ, ◌+◌, List, [], ◌∷◌, ◌++◌, Option, Some, None, Bool, true, false, refl, sym, subst, ap, ◌∙◌, if◌then◌else◌, arith}
 use Rattle.std.specs.List.{list_any}
 use Rattle.std.specs.Prelude.{find, is_some}
+use Rattle.std.proofs.lemmas.Bool.{or_right}
+use Rattle.gx_lemmas.proofs.Options.{some-same}
+use Rattle.gx_lemmas.proofs.Tests.{true-false}
 use Rattle.gx_ids.specs.declared.ids.Cid.{Cid}
 use Rattle.gx_ids.specs.declared.ids.Gxid.{Gxid}
 use Rattle.gx_ids.specs.declared.ids.SessionId.{SessionId}
@@ -76,12 +79,9 @@ same-in a b (x ∷ xs) e h = by_test (same_claim a x) (sym (same_claim-along a b
 in-apart : (old c : Claim) (xs : List Claim) → same_claim old c ≡ false → IsIn xs c → IsIn (without old xs) c
 in-apart old c xs e h = in-filter (λ x. not (same_claim old x)) c xs (λ x s. differs x s (same_claim old x) refl) h
   where
-    clash : (b : Bool) → b ≡ true → b ≡ false → ⊥
-    clash b e f = grind arith
-
     differs : (x : Claim) → same_claim c x ≡ true → (b : Bool) → same_claim old x ≡ b → not (same_claim old x) ≡ true
     differs x s false f = ap not f
-    differs x s true f = absurd (clash (same_claim old c) (same_claim-along old x c f ∙ same_claim-turned c x s) e)
+    differs x s true f = absurd (true-false (same_claim old c) (same_claim-along old x c f ∙ same_claim-turned c x s) e)
 
 stays-either : (k : SessionId) (g : Gxid) (c : Claim) (holds waits : List Claim) (ms : List Mark) → c.gxid ≡ g → AreLeftAlone k g ms → IsIn holds c ⊎ IsIn waits c → IsIn (holds_from the_coordinator holds ms) c ⊎ IsIn (waits_from the_coordinator waits ms) c
 stays-either k g c holds waits [] own e h = h
@@ -164,15 +164,6 @@ pub record IsWaitingOf (marks : List Mark) (w : Work) (line : Stmt) (h : Gxid) (
   pub next : w.last < c.0
   pub unsnapped : is_snapped marks h c ≡ false
 
-some-line : (a b : Stmt) → Some a ≡ Some b → a ≡ b
-some-line a b e = cc
-
-some-gxid : (a b : Gxid) → Some a ≡ Some b → a ≡ b
-some-gxid a b e = cc
-
-clash : (b : Bool) → b ≡ true → b ≡ false → ⊥
-clash b e f = grind arith
-
 module _ (script : Script) (k : SessionId) (marks : List Mark) (next starts lines : ℕ) (line : Stmt) (g h : Gxid) (c : Cid) (w : Work) (r : Runs script k marks starts line g c) (same : starts ≡ lines) where
   abbrev Way : Type 0
   Way = IsCommandOf w line ⊎ IsWaitingOf marks w line h c
@@ -181,11 +172,11 @@ module _ (script : Script) (k : SessionId) (marks : List Mark) (next starts line
   its-line = subst (λ i. stmt_of k i script.lines ≡ Some line) (sym r.started ∙ same) r.is_line
 
   by-line : (b : Block) (n : ℕ) → state_of script k marks ≡ state_in b n → Owns k n marks next b h w → IsLineOf script k lines b n w pending.Command → Way
-  by-line b n state o (inl l) = inl (record { command = l.0; has_it = l.1; is_line = some-line l.0.stmt line (sym l.2 ∙ its-line) })
+  by-line b n state o (inl l) = inl (record { command = l.0; has_it = l.1; is_line = some-same l.0.stmt line (sym l.2 ∙ its-line) })
   by-line b n state o (inr l) =
       inr
       (record {
-        has_it = l.1 ∙ ap (λ x. Some x) (some-line l.0 line (sym l.3 ∙ its-line));
+        has_it = l.1 ∙ ap (λ x. Some x) (some-same l.0 line (sym l.3 ∙ its-line));
         next = later w.last c.0 (ap (λ (x : Cid). x.0) (r.number ∙ ap cid_of state) ∙ l.5);
         unsnapped = o.unsnapped c (later w.last c.0 (ap (λ (x : Cid). x.0) (r.number ∙ ap cid_of state) ∙ l.5));
       })
@@ -194,12 +185,12 @@ module _ (script : Script) (k : SessionId) (marks : List Mark) (next starts line
       later a b e = omega arith
 
   by-transaction : (b : Block) (n : ℕ) → is_busy b pending.Command ≡ true → state_of script k marks ≡ state_in b n → is_begun k marks ≡ is_alone b pending.Command → started_after k None marks ≡ Some h → g ≡ h
-  by-transaction block.Outside n busy state begun started = some-gxid g h (sym r.transaction ∙ ap (λ q. transaction_of q k marks) state ∙ ap (λ u. if u then started_after k None marks else None) begun ∙ started)
-  by-transaction (block.Open level) n busy state begun started = some-gxid g h (sym r.transaction ∙ ap (λ q. transaction_of q k marks) state ∙ started)
-  by-transaction block.Failed n busy state begun started = absurd (clash (is_busy block.Failed pending.Command) busy refl)
+  by-transaction block.Outside n busy state begun started = some-same g h (sym r.transaction ∙ ap (λ q. transaction_of q k marks) state ∙ ap (λ u. if u then started_after k None marks else None) begun ∙ started)
+  by-transaction (block.Open level) n busy state begun started = some-same g h (sym r.transaction ∙ ap (λ q. transaction_of q k marks) state ∙ started)
+  by-transaction block.Failed n busy state begun started = absurd (true-false (is_busy block.Failed pending.Command) busy refl)
 
   not-commit : (b : Block) (n : ℕ) → state_of script k marks ≡ state_in b n → line ≡ stmt.Commit → ⊥
-  not-commit b n state is = clash (is_command (state_of script k marks) line) r.command (ap (λ l. is_command (state_of script k marks) l) is ∙ commit-none (state_of script k marks))
+  not-commit b n state is = true-false (is_command (state_of script k marks) line) r.command (ap (λ l. is_command (state_of script k marks) l) is ∙ commit-none (state_of script k marks))
     where
       commit-none : (q : BlockState) → is_command q stmt.Commit ≡ false
       commit-none Outside = refl
@@ -216,10 +207,10 @@ module _ (script : Script) (k : SessionId) (marks : List Mark) (next starts line
   stands-so b pending.Nothing s = absurd (waits-none s.answered)
   stands-so block.Outside pending.Command s = let o = s.owns refl in (by-transaction block.Outside s.commands refl s.state s.begun o.0.started, by-line block.Outside s.commands s.state o.0 o.1)
   stands-so (block.Open l) pending.Command s = let o = s.owns refl in (by-transaction (block.Open l) s.commands refl s.state s.begun o.0.started, by-line (block.Open l) s.commands s.state o.0 o.1)
-  stands-so block.Failed pending.Command s = absurd (clash (is_sound block.Failed pending.Command) s.sound refl)
-  stands-so (block.Open l) pending.Commit s = let o = s.owns refl in absurd (not-commit (block.Open l) s.commands s.state (some-line line stmt.Commit (sym its-line ∙ o.1.1)))
-  stands-so block.Outside pending.Commit s = absurd (clash (is_sound block.Outside pending.Commit) s.sound refl)
-  stands-so block.Failed pending.Commit s = absurd (clash (is_sound block.Failed pending.Commit) s.sound refl)
+  stands-so block.Failed pending.Command s = absurd (true-false (is_sound block.Failed pending.Command) s.sound refl)
+  stands-so (block.Open l) pending.Commit s = let o = s.owns refl in absurd (not-commit (block.Open l) s.commands s.state (some-same line stmt.Commit (sym its-line ∙ o.1.1)))
+  stands-so block.Outside pending.Commit s = absurd (true-false (is_sound block.Outside pending.Commit) s.sound refl)
+  stands-so block.Failed pending.Commit s = absurd (true-false (is_sound block.Failed pending.Commit) s.sound refl)
 
   standing-so : (b : Block) (p : Pending) (ends : ℕ) → IsStanding script k marks next b p lines h w ends → (g ≡ h) × Way
   standing-so b p ends (inl s) = stands-so b p s.1
@@ -251,23 +242,14 @@ wait-in : (g : Gxid) (waits : List Claim) (wanted : Claim) → find (is_of g) wa
 wait-in g [] wanted e = absurd (cc)
 wait-in g (x ∷ xs) wanted e = by_test (is_of g x) e (wait-in g xs wanted)
   where
-    some-same : (a b : Claim) → Some a ≡ Some b → a ≡ b
-    some-same a b q = cc
-
-    or-right : (a b : Bool) → b ≡ true → (a || b) ≡ true
-    or-right a b e = grind arith
-
     by_test : (b : Bool) → cond b (Some x) (find (is_of g) xs) ≡ Some wanted → (find (is_of g) xs ≡ Some wanted → IsIn xs wanted) → IsIn (x ∷ xs) wanted
     by_test true q more = subst (λ y. IsIn (x ∷ xs) y) (some-same x wanted q) (ap (λ b. b || list_any (same_claim x) xs) (same_claim-itself x))
-    by_test false q more = or-right (same_claim wanted x) (list_any (same_claim wanted) xs) (more q)
+    by_test false q more = or_right (same_claim wanted x) (list_any (same_claim wanted) xs) (more q)
 
 module _ (script : Script) (w : World) (sessions : (k : SessionId) → IsSession script k w.steps w.coord) (kept : Kept w.coord) (locked : (j : ℕ) → CommandLocked w.coord.locks.holds j (w.coord.works j).command) (marked : w.coord.locks.holds ≡ holds_at (marks_in w.steps) the_coordinator) (queued : w.coord.locks.waits ≡ waits_at (marks_in w.steps) the_coordinator) where
   has : (h : Gxid) (q : Option Command) → CommandLocked w.coord.locks.holds h.0 q → (m : Command) → q ≡ Some m → HasLock w.coord.locks.holds h m.stmt
   has h None e m same = absurd (cc)
   has h (Some a) e m same = subst (λ (x : Command). HasLock w.coord.locks.holds h x.stmt) (some-same a m same) e.0
-    where
-      some-same : (a b : Command) → Some a ≡ Some b → a ≡ b
-      some-same a b q = cc
 
   -- a command that has gone out holds its table
   pub out-holds : (earlier : List Mark) (k : SessionId) (line : Stmt) (g : Gxid) → AreLeftAlone k g earlier → g ≡ (session_of w.coord k).transaction → IsCommandOf (work_of w.coord (session_of w.coord k).transaction) line → HoldsTableOf (marks_in w.steps ++ earlier) g line

@@ -2,6 +2,7 @@
 use Rattle.std.proofs.Common.{◌≡◌, ◌==◌, ◌&&◌, ℕ, List, [], ◌∷◌, Option, Some, None, Result, Ok, Err, Bool, true, false, refl, sym, subst, ap, ◌∙◌, if◌then◌else◌, eqb}
 use Rattle.std.proofs.lemmas.Bool.{eqb-true}
 use Rattle.std.specs.Prelude.{map}
+use Rattle.gx_lemmas.proofs.Options.{some-same}
 use Rattle.gx_ids.specs.declared.ids.Table.{Table}
 use Rattle.gx_tree.specs.declared.row.KeyedRow.{KeyedRow}
 use Rattle.gx_tree.specs.declared.slice.Slice.{Slice}
@@ -103,27 +104,15 @@ pub record Going (turn : CoordTurn) : Type 0 where
 
 -- LOCKS
 pub own-gxid : (g : Gxid) (x : Slice) (wanted : Claim) → slice_lock g x ≡ Some wanted → wanted.gxid ≡ g
-own-gxid g (slice.Select query) wanted e = ap (λ (c : Claim). c.gxid) (sym (same _ wanted e))
-  where
-    same : (a b : Claim) → Some a ≡ Some b → a ≡ b
-    same a b q = cc
-own-gxid g (slice.Insert table rows) wanted e = ap (λ (c : Claim). c.gxid) (sym (same _ wanted e))
-  where
-    same : (a b : Claim) → Some a ≡ Some b → a ≡ b
-    same a b q = cc
+own-gxid g (slice.Select query) wanted e = ap (λ (c : Claim). c.gxid) (sym (some-same _ wanted e))
+own-gxid g (slice.Insert table rows) wanted e = ap (λ (c : Claim). c.gxid) (sym (some-same _ wanted e))
 own-gxid g (slice.Update table assigns cond) wanted e = absurd (cc)
 own-gxid g (slice.Delete table cond) wanted e = absurd (cc)
 own-gxid g (slice.Lock table mode) wanted e = absurd (cc)
 
 pub own-line : (g : Gxid) (line : Stmt) (wanted : Claim) → lock_for g line ≡ Some wanted → wanted.gxid ≡ g
-own-line g (stmt.Select query) wanted e = ap (λ (c : Claim). c.gxid) (sym (same _ wanted e))
-  where
-    same : (a b : Claim) → Some a ≡ Some b → a ≡ b
-    same a b q = cc
-own-line g (stmt.Insert table tuples) wanted e = ap (λ (c : Claim). c.gxid) (sym (same _ wanted e))
-  where
-    same : (a b : Claim) → Some a ≡ Some b → a ≡ b
-    same a b q = cc
+own-line g (stmt.Select query) wanted e = ap (λ (c : Claim). c.gxid) (sym (some-same _ wanted e))
+own-line g (stmt.Insert table tuples) wanted e = ap (λ (c : Claim). c.gxid) (sym (some-same _ wanted e))
 own-line g (stmt.Update table assigns cond) wanted e = absurd (cc)
 own-line g (stmt.Delete table cond) wanted e = absurd (cc)
 own-line g (stmt.Lock table mode) wanted e = absurd (cc)
@@ -283,9 +272,6 @@ go_locked : (script : Script) (c : Coord) (g : Gxid) (line : Stmt) → Good c �
 go_locked script c g line e has =
     go c.locks g (next_cid (work_of c g)) line (reads_for c g (next_cid (work_of c g)) (work_of c g) line) (plan_of script.segments (dist_of script.tables (table_of line)) g (next_cid (work_of c g)) line)
     (read_for c g (next_cid (work_of c g)) line e) has (plan_locked script.segments (dist_of script.tables (table_of line)) g (next_cid (work_of c g)) line)
-
-some-same : (a b : Claim) → Some a ≡ Some b → a ≡ b
-some-same a b q = cc
 
 request : (script : Script) (c : Coord) (g : Gxid) (line : Stmt) (o : Option Claim) → lock_for g line ≡ o → Good c → Going (requests script c g line o)
 request script c g line None is e = go_locked script c g line e (λ wanted f. absurd (none (sym is ∙ f)))

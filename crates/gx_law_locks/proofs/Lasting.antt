@@ -4,6 +4,8 @@ use Rattle.std.proofs.lemmas.Bool.Decides.{nat_tests}
 use Rattle.std.proofs.lemmas.List.Folds.{list_any-append}
 use Rattle.std.specs.List.{list_any}
 use Rattle.std.specs.Prelude.{filter}
+use Rattle.std.proofs.lemmas.Bool.{or_left, or_right}
+use Rattle.gx_lemmas.proofs.Tests.{true-false}
 use Rattle.gx_ids.specs.declared.ids.Gxid.{Gxid}
 use Rattle.gx_ids.specs.declared.ids.Node.{Node}
 use Rattle.gx_modes.specs.declared.modes.Mode.{Mode}
@@ -24,24 +26,15 @@ use Rattle.gx_law_locks.proofs.Released.{claim-itself}
 abbrev pub IsIn : List Claim → Claim → Type 0
 IsIn holds c = list_any (same_claim c) holds ≡ true
 
-clash : (b : Bool) → b ≡ true → b ≡ false → ⊥
-clash b e f = grind arith
-
-or-left : (a b : Bool) → a ≡ true → (a || b) ≡ true
-or-left a b e = grind arith
-
-or-right : (a b : Bool) → b ≡ true → (a || b) ≡ true
-or-right a b e = grind arith
-
 -- HOLDS
 pub in-filter : (p : Claim → Bool) (c : Claim) (xs : List Claim) → ((x : Claim) → same_claim c x ≡ true → p x ≡ true) → IsIn xs c → IsIn (filter p xs) c
 in-filter p c [] f e = e
 in-filter p c (x ∷ xs) f e = by_tests (p x) refl (same_claim c x) refl e (in-filter p c xs f)
   where
     by_tests : (b : Bool) → p x ≡ b → (q : Bool) → same_claim c x ≡ q → (q || list_any (same_claim c) xs) ≡ true → (IsIn xs c → IsIn (filter p xs) c) → IsIn (cond b (x ∷ filter p xs) (filter p xs)) c
-    by_tests true pe true qe e r = or-left (same_claim c x) _ qe
-    by_tests true pe false qe e r = or-right (same_claim c x) _ (r e)
-    by_tests false pe true qe e r = absurd (clash (p x) (f x qe) pe)
+    by_tests true pe true qe e r = or_left (same_claim c x) _ qe
+    by_tests true pe false qe e r = or_right (same_claim c x) _ (r e)
+    by_tests false pe true qe e r = absurd (true-false (p x) (f x qe) pe)
     by_tests false pe false qe e r = r e
 
 pub in-added : (new c : Claim) (xs : List Claim) → IsIn xs c → IsIn (added new xs) c
@@ -49,14 +42,14 @@ in-added new c xs e = by_test (list_any (same_claim new) xs)
   where
     by_test : (b : Bool) → IsIn (if b then xs else xs ++ new ∷ []) c
     by_test true = e
-    by_test false = list_any-append (same_claim c) xs (new ∷ []) ∙ or-left (list_any (same_claim c) xs) _ e
+    by_test false = list_any-append (same_claim c) xs (new ∷ []) ∙ or_left (list_any (same_claim c) xs) _ e
 
 pub in-new : (c : Claim) (xs : List Claim) → IsIn (added c xs) c
 in-new c xs = by_test (list_any (same_claim c) xs) refl
   where
     by_test : (b : Bool) → list_any (same_claim c) xs ≡ b → IsIn (if b then xs else xs ++ c ∷ []) c
     by_test true e = e
-    by_test false e = list_any-append (same_claim c) xs (c ∷ []) ∙ or-right (list_any (same_claim c) xs) _ (or-left (same_claim c c) false (claim-itself c))
+    by_test false e = list_any-append (same_claim c) xs (c ∷ []) ∙ or_right (list_any (same_claim c) xs) _ (or_left (same_claim c c) false (claim-itself c))
 
 apart : (a b d : ℕ) (r s : Bool) → (a == b) ≡ false → ((a == d) && r) ≡ true → not ((b == d) && s) ≡ true
 apart a b d r s e f = grind (arith, nat_tests)
@@ -97,7 +90,7 @@ runs-on before ms g h e f = by_test (h.0 == g.0) refl
     same-gxid a b q = grind (arith, nat_tests)
 
     by_test : (b : Bool) → (h.0 == g.0) ≡ b → b ≡ false
-    by_test true q = absurd (clash (is_ended (before ++ ms) h) (ended-more before ms h (subst (λ (k : Gxid). is_ended before k ≡ true) (same-gxid h g q) e)) f)
+    by_test true q = absurd (true-false (is_ended (before ++ ms) h) (ended-more before ms h (subst (λ (k : Gxid). is_ended before k ≡ true) (same-gxid h g q) e)) f)
     by_test false q = refl
 
 pub still-held : (node : Node) (c : Claim) (before ms : List Mark) → AreReleasesLate before ms → is_ended (before ++ ms) c.gxid ≡ false → IsIn (holds_at before node) c → IsIn (holds_at (before ++ ms) node) c

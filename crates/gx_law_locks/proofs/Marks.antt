@@ -4,6 +4,7 @@ use Rattle.std.proofs.lemmas.Bool.Decides.{nat_tests}
 use Rattle.std.proofs.lemmas.List.Elements.{All-cons, All-nil}
 use Rattle.std.specs.List.{list_any}
 use Rattle.std.specs.Prelude.{All}
+use Rattle.gx_lemmas.proofs.Tests.{true-false}
 use Rattle.gx_ids.specs.declared.ids.Gxid.{Gxid}
 use Rattle.gx_ids.specs.declared.ids.Node.{Node}
 use Rattle.gx_waits.specs.Claim.{Meets, meets}
@@ -121,14 +122,11 @@ not-both : (a b : Bool) → not (a || b) ≡ true → (a ≡ false) × (not b �
 not-both true b e = absurd (cc)
 not-both false b e = (refl, e)
 
-clash : (b : Bool) → b ≡ true → b ≡ false → ⊥
-clash b e f = grind arith
-
 pub free-meets : (wanted : Claim) (holds : List Claim) → is_free holds wanted ≡ true → All (λ hold. Meets wanted hold → ⊥) holds
 free-meets wanted [] e = All-nil (λ hold. Meets wanted hold → ⊥)
 free-meets wanted (h ∷ hs) e =
     let two = not-both (meets wanted h) (list_any (meets wanted) hs) e in
-    All-cons (λ hold. Meets wanted hold → ⊥) h hs (λ m. clash (meets wanted h) (test_from_Meets wanted h m) two.0) (free-meets wanted hs two.1)
+    All-cons (λ hold. Meets wanted hold → ⊥) h hs (λ m. true-false (meets wanted h) (test_from_Meets wanted h m) two.0) (free-meets wanted hs two.1)
 
 pub free-granted : (script : Script) (node : Node) (marks ms : List Mark) → Each (IsAtNode script node) ms → AreFree node (holds_at marks node) ms → AreGranted marks ms
 free-granted script node marks [] e f = tt

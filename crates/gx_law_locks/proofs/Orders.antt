@@ -1,5 +1,7 @@
 -- Over every run of the machine, commands go out and rows are written with their table's lock.
 use Rattle.std.proofs.Common.{◌≡◌, ◌≤◌, inl, inr, ℕ, List, [], ◌∷◌, ◌++◌, Bool, true, false, refl, sym, subst, ap, ◌∙◌, append_assoc, append-nil, arith}
+use Rattle.gx_lemmas.proofs.Numbers.{one-le-none, one-le-zero}
+use Rattle.gx_lemmas.proofs.Tests.{true-false}
 use Rattle.gx_ids.specs.declared.ids.Gxid.{Gxid}
 use Rattle.gx_ids.specs.declared.ids.Node.{Node}
 use Rattle.gx_ids.specs.declared.ids.Table.{Table}
@@ -59,11 +61,8 @@ use Rattle.gx_law_locks.proofs.World as world
 ended-less : (xs ys : List Mark) (g : Gxid) → is_ended (xs ++ ys) g ≡ false → is_ended xs g ≡ false
 ended-less xs ys g e = by_test (is_ended xs g) refl
   where
-    clash : (b : Bool) → b ≡ true → b ≡ false → ⊥
-    clash b e f = grind arith
-
     by_test : (b : Bool) → is_ended xs g ≡ b → b ≡ false
-    by_test true q = absurd (clash (is_ended (xs ++ ys) g) (ended-more xs ys g q) e)
+    by_test true q = absurd (true-false (is_ended (xs ++ ys) g) (ended-more xs ys g q) e)
     by_test false q = refl
 
 writes-append : (script : Script) (before xs ys : List Mark) → AreWritesLocked script before xs → AreWritesLocked script (before ++ xs) ys → AreWritesLocked script before (xs ++ ys)
@@ -75,10 +74,7 @@ writes-append script before (m ∷ xs) ys e f = writes-append script (before ++ 
 -- the coordinator writes no row
 no-writes : (script : Script) (before ms : List Mark) → Each (IsAtNode script the_coordinator) ms → AreWritesLocked script before ms
 no-writes script before [] e = tt
-no-writes script before (mark.Write g c n table rid image ∷ ms) e = absurd (none e.0.1.0)
-  where
-    none : 1 ≤ 0 → ⊥
-    none h = omega arith
+no-writes script before (mark.Write g c n table rid image ∷ ms) e = absurd (one-le-none e.0.1.0)
 no-writes script before (m ∷ ms) e = no-writes script (before ++ m ∷ []) ms e.1
 
 -- ORDERS
@@ -197,10 +193,7 @@ module _ (script : Script) (some : 1 ≤ script.segments) where
       f = given-is w e i from envelope d (λ l. IsLetter script w.steps l × LetterLocked (marks_in w.steps) l) (each-zip (IsLetter script w.steps) (LetterLocked (marks_in w.steps)) w.sent k.well.letters q.letters)
 
       not-zero : (n : Node) → n ≡ at i → n ≡ the_coordinator → ⊥
-      not-zero n a z = zero-one i one (ap (λ (m : Node). m.0) (sym a ∙ z))
-        where
-          zero-one : (j : ℕ) → 1 ≤ j → j ≡ 0 → ⊥
-          zero-one j l e = omega arith
+      not-zero n a z = one-le-zero i one (ap (λ (m : Node). m.0) (sym a ∙ z))
 
       by_link : IsLink script f.letter.from f.letter.to → IsLockedOrder (marks_in w.steps) envelope.message
       by_link (inl l) = subst (λ (a : Envelope). IsLockedOrder (marks_in w.steps) a.message) f.told (f.is.1 l.0)
@@ -262,10 +255,7 @@ module _ (script : Script) (some : 1 ≤ script.segments) where
       locked = seg-keeps script some w k v q.locked e x fails i place h
 
       not-zero : at i ≡ the_coordinator → ⊥
-      not-zero z = zero-one i place.0 (ap (λ (m : Node). m.0) z)
-        where
-          zero-one : (j : ℕ) → 1 ≤ j → j ≡ 0 → ⊥
-          zero-one j l e = omega arith
+      not-zero z = one-le-zero i place.0 (ap (λ (m : Node). m.0) z)
 
       plain : Each (PlainAt script (at i)) turn.marks
       plain = subst (λ node. Each (PlainAt script node) turn.marks) (k.well.names i) (seg_stays script (w.segs i) (subst (IsSegment script) (sym (k.well.names i)) place) x fails).marks

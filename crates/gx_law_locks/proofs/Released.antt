@@ -6,6 +6,8 @@ use Rattle.std.specs.List.{list_any}
 use Rattle.std.specs.Ordering.{is_gt}
 use Rattle.std.specs.Prelude.{filter, map}
 use Rattle.std.specs.declared.cmp.Ordering.{Ordering}
+use Rattle.std.proofs.lemmas.Bool.{or_from, or_right}
+use Rattle.gx_lemmas.proofs.Numbers.{eqb-self}
 use Rattle.gx_ids.specs.declared.ids.Gxid.{Gxid}
 use Rattle.gx_ids.specs.declared.ids.Node.{Node}
 use Rattle.gx_modes.specs.Table.{number_of}
@@ -106,11 +108,8 @@ released-from node (c ∷ cs) holds =
 
 -- the transaction's own, and nobody else's
 pub claim-itself : (c : Claim) → same_claim c c ≡ true
-claim-itself c = three (c.gxid.0 == c.gxid.0) (same_object c.object c.object) (number_of c.mode == number_of c.mode) (number-itself c.gxid.0) (same_object-itself c.object) (number-itself (number_of c.mode))
+claim-itself c = three (c.gxid.0 == c.gxid.0) (same_object c.object c.object) (number_of c.mode == number_of c.mode) (eqb-self c.gxid.0) (same_object-itself c.object) (eqb-self (number_of c.mode))
   where
-    number-itself : (k : ℕ) → (k == k) ≡ true
-    number-itself k = grind (arith, nat_tests)
-
     three : (a b d : Bool) → a ≡ true → b ≡ true → d ≡ true → (a && (b && d)) ≡ true
     three a b d e f h = grind arith
 
@@ -122,33 +121,24 @@ own-among g (y ∷ ys) = (at_head (is_of g y), each_weaker (λ x. is_of g x ≡ 
     at_head true e = ap (λ b. b || among (filter (is_of g) ys) y) (claim-itself y)
     at_head false e = absurd (cc)
 
-    or-on : (a b : Bool) → b ≡ true → (a || b) ≡ true
-    or-on a b e = grind arith
-
     more : (x : Claim) (b : Bool) → among (filter (is_of g) ys) x ≡ true → among (cond b (y ∷ filter (is_of g) ys) (filter (is_of g) ys)) x ≡ true
-    more x true e = or-on (same_claim y x) _ e
+    more x true e = or_right (same_claim y x) _ e
     more x false e = e
 
 not-among : (g : Gxid) (x : Claim) (cs : List Claim) → Each (λ c. is_of g c ≡ true) cs → is_of g x ≡ false → among cs x ≡ false
 not-among g x [] e f = refl
-not-among g x (c ∷ cs) e f = or-off (same_claim c x) (among cs x) (apart c.gxid.0 x.gxid.0 g.0 _ e.0 f) (not-among g x cs e.1 f)
+not-among g x (c ∷ cs) e f = or_from (same_claim c x) (among cs x) (apart c.gxid.0 x.gxid.0 g.0 _ e.0 f) (not-among g x cs e.1 f)
   where
     apart : (a b h : ℕ) (r : Bool) → (a == h) ≡ true → (b == h) ≡ false → ((a == b) && r) ≡ false
     apart a b h r e f = grind (arith, nat_tests)
 
-    or-off : (a b : Bool) → a ≡ false → b ≡ false → (a || b) ≡ false
-    or-off a b e f = grind arith
-
 all-of : (l : Locks) (g : Gxid) → Each (λ x. among (has_there l g) x ≡ is_of g x) l.holds
 all-of l g = each_weaker (λ x. is_of g x ≡ true → among (filter (is_of g) l.holds) x ≡ true) (λ x. among (has_there l g) x ≡ is_of g x) (λ x f. by_test x f (is_of g x) refl) l.holds (own-among g l.holds)
   where
-    or-on : (a b : Bool) → b ≡ true → (a || b) ≡ true
-    or-on a b e = grind arith
-
     by_test : (x : Claim) → (is_of g x ≡ true → among (filter (is_of g) l.holds) x ≡ true) → (b : Bool) → is_of g x ≡ b → among (has_there l g) x ≡ b
     by_test x f true e =
         list_any-append (λ c. same_claim c x) (filter (is_of g) l.waits) (in_order claim_order (filter (is_of g) l.holds))
-        ∙ or-on (among (filter (is_of g) l.waits) x) _ (any-in_order claim_order (λ c. same_claim c x) (filter (is_of g) l.holds) ∙ f e)
+        ∙ or_right (among (filter (is_of g) l.waits) x) _ (any-in_order claim_order (λ c. same_claim c x) (filter (is_of g) l.holds) ∙ f e)
     by_test x f false e = not-among g x (has_there l g) (each-own l g) e
 
 pub released-holds : (node : Node) (l : Locks) (g : Gxid) → holds_from node l.holds (release_marks node l g) ≡ locks.without g l.holds

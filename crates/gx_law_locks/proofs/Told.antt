@@ -1,5 +1,8 @@
 -- Over every run of the machine, a command that succeeds holds its table at its answer's point.
 use Rattle.std.proofs.Common.{◌≡◌, ◌≤◌, ◌⊎◌, inl, inr, ℕ, ◌+◌, List, [], ◌∷◌, ◌++◌, Option, Some, None, Bool, true, false, refl, sym, subst, ap, ◌∙◌, if◌then◌else◌, append_assoc, append-nil, arith, ◌&&◌}
+use Rattle.std.proofs.lemmas.Bool.{and_parts}
+use Rattle.gx_lemmas.proofs.Numbers.{eqb-self, one-le-zero}
+use Rattle.gx_lemmas.proofs.Options.{some-same}
 use Rattle.gx_ids.specs.declared.ids.Cid.{Cid}
 use Rattle.gx_ids.specs.declared.ids.Gxid.{Gxid}
 use Rattle.gx_ids.specs.declared.ids.Node.{Node}
@@ -39,7 +42,6 @@ use Rattle.gx_rules.specs.Machine.{World, at_node, coord_did, seg_did, world_of}
 use Rattle.gx_rules.specs.Sending.{clock_after, counted, numbered}
 use Rattle.gx_law_order.proofs.Lists.{Each, each_append}
 use Rattle.gx_law_order.proofs.Ordered.{seg_marks, world_well}
-use Rattle.gx_law_order.proofs.Turns.{self-test}
 use Rattle.gx_law_order.proofs.World.{world_knows}
 use Rattle.gx_law_schedules.proofs.Marked.{locks-marked}
 use Rattle.gx_law_schedules.proofs.Steps.{IsAt, IsHere, always}
@@ -119,9 +121,6 @@ starts-told : (script : Script) (steps : List Step) (e : Event) (s : SessionId) 
 starts-told script steps e s line is earlier [] later d h = tt
 starts-told script steps e s line is earlier (mark.Answer k n a ∷ ms) later d h = (by_case h.0, none-told script steps e (earlier ++ mark.Answer k n a ∷ []) ms later h.1)
   where
-    some-same : (a b : Stmt) → Some a ≡ Some b → a ≡ b
-    some-same a b q = cc
-
     none : {wanted : Claim} → None ≡ Some wanted → ⊥
     none q = cc
 
@@ -143,10 +142,7 @@ answers-last script done (x ∷ ss) s e h = (e.0, answers-last script (done ++ x
 
 at-node-none : (script : Script) (i : Node) → 1 ≤ i.0 → (ms : List Mark) → Each (IsAtNode script i) ms → Each NoAnswer ms
 at-node-none script i one [] e = tt
-at-node-none script i one (mark.Answer s n a ∷ ms) e = absurd (zero-one i.0 one (ap (λ (n : Node). n.0) e.0))
-  where
-    zero-one : (k : ℕ) → 1 ≤ k → k ≡ 0 → ⊥
-    zero-one k l z = omega (arith, l, z)
+at-node-none script i one (mark.Answer s n a ∷ ms) e = absurd (one-le-zero i.0 one (ap (λ (n : Node). n.0) e.0))
 at-node-none script i one (m ∷ ms) e = (tt, at-node-none script i one ms e.1)
 
 -- ALL STEPS
@@ -178,10 +174,6 @@ module _ (script : Script) (some : 1 ≤ script.segments) where
     delivery-starts (event.Resend i g) from envelope q s = refl
     delivery-starts event.Round from envelope q s = refl
 
-    both-of : (a b : Bool) → (a && b) ≡ true → (a ≡ true) × (b ≡ true)
-    both-of true b h = (refl, h)
-    both-of false b h = grind arith
-
     idle-is : (p : Pending) → is_nothing p ≡ true → waits p ≡ 0
     idle-is pending.Nothing h = refl
     idle-is pending.Command h = absurd (cc)
@@ -212,7 +204,7 @@ module _ (script : Script) (some : 1 ≤ script.segments) where
 
     started : (s : SessionId) (asked : LineStep) (b : Block) → (session_of (world_of script es).coord s).state.block ≡ b → IsHome (starts_line (world_of script es).coord s asked) s b
     started s asked (block.Open level) q =
-        ap (λ (t : Bool). ((world_of script es).coord.works (if t then record (session_of (world_of script es).coord s) { lines = (session_of (world_of script es).coord s).lines + 1; state = after_line (session_of (world_of script es).coord s).state.block asked } else (world_of script es).coord.sessions s.0).transaction.0).session) (self-test s.0)
+        ap (λ (t : Bool). ((world_of script es).coord.works (if t then record (session_of (world_of script es).coord s) { lines = (session_of (world_of script es).coord s).lines + 1; state = after_line (session_of (world_of script es).coord s).state.block asked } else (world_of script es).coord.sessions s.0).transaction.0).session) (eqb-self s.0)
         ∙ home-so s (session_of (world_of script es).coord s).state.block (session_of (world_of script es).coord s).state.pending (session_of (world_of script es).coord s).lines (session_of (world_of script es).coord s).transaction _ _ (work_of (world_of script es).coord (session_of (world_of script es).coord s).transaction) (sessions-stand script some es s).stands level q
     started s asked block.Outside q = tt
     started s asked block.Failed q = tt
@@ -231,7 +223,7 @@ module _ (script : Script) (some : 1 ≤ script.segments) where
         deals-told script (world_of script es).steps e (IsServed (world_of script es).coord) (serve (delivery-starts e from envelope h.is)) [] _ [] tt
         (one-more Dull (λ s a. IsRefusal a ⊎ IsServed (world_of script es).coord s) (on_event script (world_of script es).coord (here.Deliver from envelope) fails).marks _ (on_event script (world_of script es).coord (here.Deliver from envelope) fails).outs (λ to number told. tt)
         (message-deals (world_of script es).coord (world_knows script some es).kept from fails envelope.message))
-    step-told (here.Start s) h = line-told s (next_line script (world_of script es).coord s) refl (idle-is (session_of (world_of script es).coord s).state.pending (both-of _ _ h.admitted).0)
+    step-told (here.Start s) h = line-told s (next_line script (world_of script es).coord s) refl (idle-is (session_of (world_of script es).coord s).state.pending (and_parts _ _ h.admitted).0)
     step-told (here.End s) h = quiet (here.End s) (end-none (world_of script es).coord s (session_of (world_of script es).coord s).state.block)
     step-told (here.Resend i (Some g)) h = quiet (here.Resend i (Some g)) (resent-none i (awaited (world_of script es).coord g i))
     step-told (here.Resend i None) h = tt

@@ -1,6 +1,8 @@
 -- Over every run of the machine, holds are as marked, granted where they meet none, and given back behind the end.
 use Rattle.std.proofs.Common.{◌≡◌, ◌≤◌, ◌&&◌, ℕ, List, [], ◌∷◌, ◌++◌, Bool, true, false, refl, sym, subst, ap, ◌∙◌, ◌||◌, arith}
 use Rattle.std.proofs.lemmas.Bool.Decides.{nat_tests}
+use Rattle.std.proofs.lemmas.Bool.{or_left, or_right}
+use Rattle.gx_lemmas.proofs.Tests.{and-second}
 use Rattle.gx_ids.specs.declared.ids.Node.{Node}
 use Rattle.gx_waits.specs.declared.claim.Claim.{Claim}
 use Rattle.gx_locks.specs.Locks.{is_ready, wait_of}
@@ -106,15 +108,9 @@ module _ (script : Script) (some : 1 ≤ script.segments) where
   ended-for : (w : World) (e : Event) (i : ℕ) (from : Node) (envelope : Envelope) → HeardAt script w e i (here.Deliver from envelope) → IsEndedFor (marks_in w.steps) envelope.message
   ended-for w e i from envelope h = by_message envelope.message h.said
     where
-      or-left : (a b : Bool) → a ≡ true → (a || b) ≡ true
-      or-left a b e = grind arith
-
-      or-right : (a b : Bool) → b ≡ true → (a || b) ≡ true
-      or-right a b e = grind arith
-
       by_message : (m : Message) → (is_answer m ≡ false → Said (known_at w.coord (marks_in w.steps) i (gxid_in m)) (parts_in w i (gxid_in m)) m) → IsEndedFor (marks_in w.steps) m
-      by_message (message.Abort g) f = or-right (is_committed (marks_in w.steps) g) (is_aborted (marks_in w.steps) g) (f refl)
-      by_message (message.Forget g) f = or-left (is_committed (marks_in w.steps) g) (is_aborted (marks_in w.steps) g) (f refl)
+      by_message (message.Abort g) f = or_right (is_committed (marks_in w.steps) g) (is_aborted (marks_in w.steps) g) (f refl)
+      by_message (message.Forget g) f = or_left (is_committed (marks_in w.steps) g) (is_aborted (marks_in w.steps) g) (f refl)
       by_message (message.Exec g c level snapshot h x) f = tt
       by_message (message.Prepare g) f = tt
       by_message (message.Commit g) f = tt
@@ -126,10 +122,7 @@ module _ (script : Script) (some : 1 ≤ script.segments) where
   heard-locks : (w : World) (e : Event) (i : ℕ) (x : NodeEvent) (fails : Bool) → HeardAt script w e i x → Turn script (w.segs i) (marks_in w.steps) (segment.on_event script (w.segs i) x fails)
   heard-locks w e i (here.Deliver from envelope) fails h = message_locks script (w.segs i) (marks_in w.steps) fails envelope.message (ended-for w e i from envelope h)
   heard-locks w e i (here.Resume g) fails h =
-      resume_locks script (w.segs i) (marks_in w.steps) g (wait_of (w.segs i).locks g) (local_of (w.segs i) g).suspended (right (is_segment script (w.segs i).node) (is_ready (w.segs i).locks.holds (wait_of (w.segs i).locks g)) h)
-    where
-      right : (a b : Bool) → (a && b) ≡ true → b ≡ true
-      right a b e = grind arith
+      resume_locks script (w.segs i) (marks_in w.steps) g (wait_of (w.segs i).locks g) (local_of (w.segs i) g).suspended (and-second (is_segment script (w.segs i).node) (is_ready (w.segs i).locks.holds (wait_of (w.segs i).locks g)) h)
   heard-locks w e i (here.Start s) fails h = absurd h
   heard-locks w e i (here.End s) fails h = absurd h
   heard-locks w e i (here.Resend j g) fails h = absurd h

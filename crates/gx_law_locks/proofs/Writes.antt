@@ -1,5 +1,6 @@
 -- A write is of a transaction that runs, or has aborted.
 use Rattle.std.proofs.Common.{◌≡◌, inl, inr, List, [], ◌∷◌, ◌++◌, Bool, true, false, sym, subst, append_assoc, append-nil, arith}
+use Rattle.gx_lemmas.proofs.Tests.{true-false}
 use Rattle.gx_script.specs.declared.Script.{Script}
 use Rattle.gx_store.specs.declared.event.Event.{Event}
 use Rattle.gx_store.specs.declared.mark.Mark.{Mark}
@@ -31,9 +32,6 @@ under-append script before (mark.Write g c n table rid image ∷ xs) ys e f =
     (e.0, under-append script (before ++ mark.Write g c n table rid image ∷ []) xs ys e.1 (subst (λ b. AreWritesUnderLock script b ys) (sym (append_assoc before (mark.Write g c n table rid image ∷ []) xs)) f))
 under-append script before (m ∷ xs) ys e f = under-append script (before ++ m ∷ []) xs ys e (subst (λ b. AreWritesUnderLock script b ys) (sym (append_assoc before (m ∷ []) xs)) f)
 
-clash : (b : Bool) → b ≡ true → b ≡ false → ⊥
-clash b e f = grind arith
-
 under-marks : (script : Script) (steps : List Step) (e : Event) (earlier ms later : List Mark) → EachMark (WriteLegal script) steps e earlier ms later → AreWritesLocked script (marks_in steps ++ earlier) ms → AreWritesUnderLock script (marks_in steps ++ earlier) ms
 under-marks script steps e earlier [] later l w = tt
 under-marks script steps e earlier (mark.Write g c n table rid image ∷ ms) later l w = (
@@ -44,7 +42,7 @@ under-marks script steps e earlier (mark.Write g c n table rid image ∷ ms) lat
   where
     by_case : LegalWrite script (record { steps = steps; event = e; earlier = earlier; later = ms ++ later }) g c n table rid image → is_aborted (marks_in steps ++ earlier) g ≡ false → WritesUnderLock script (marks_in steps ++ earlier) n g table
     by_case (inl live) runs = w.0 live.runs.running
-    by_case (inr late) runs = absurd (clash (is_aborted (marks_in steps ++ earlier) g) late.late.aborted runs)
+    by_case (inr late) runs = absurd (true-false (is_aborted (marks_in steps ++ earlier) g) late.late.aborted runs)
 under-marks script steps e earlier (m ∷ ms) later l w =
     subst (λ b. AreWritesUnderLock script b ms) (sym (append_assoc (marks_in steps) earlier (m ∷ [])))
     (under-marks script steps e (earlier ++ m ∷ []) ms later l.1 (subst (λ b. AreWritesLocked script b ms) (append_assoc (marks_in steps) earlier (m ∷ [])) w))

@@ -2,6 +2,7 @@
 use Rattle.std.proofs.Common.{◌≡◌, ◌≤◌, ℕ, List, [], ◌∷◌, Option, Some, None, Result, Ok, Err, Bool, true, false, refl, if◌then◌else◌, ◌==◌, ◌&&◌, arith, eqb, sym, subst}
 use Rattle.std.proofs.lemmas.Bool.Decides.{nat_tests}
 use Rattle.std.specs.Prelude.{is_some}
+use Rattle.std.proofs.lemmas.Bool.{and_parts, both_ways}
 use Rattle.gx_ids.specs.declared.ids.Cid.{Cid}
 use Rattle.gx_ids.specs.declared.ids.Gxid.{Gxid}
 use Rattle.gx_ids.specs.declared.ids.Node.{Node}
@@ -222,10 +223,7 @@ module _ (script : Script) where
       where
         by_test : (b : Bool) → is_free c.locks.holds wanted ≡ b → CoordStays c.sent (if_granted script c g line wanted b)
         by_test true f = go_held c g line (with_hold c.locks wanted) wanted e (hold-calm c.locks wanted e.locks (lock-calm g line wanted is))
-        by_test false f = waits_here c g line wanted e (absurd (clash (is_free c.locks.holds wanted) f (calm-free c.locks wanted e.locks (lock-calm g line wanted is))))
-          where
-            clash : (q : Bool) → q ≡ false → q ≡ true → ⊥
-            clash q e f = cc
+        by_test false f = waits_here c g line wanted e (absurd (both_ways (is_free c.locks.holds wanted) f (calm-free c.locks wanted e.locks (lock-calm g line wanted is))))
 
     dispatch : (c : Coord) (g : Gxid) (line : Stmt) → CoordIn c → CoordStays c.sent (dispatches script c g line)
     dispatch c g line e = request c g line (lock_for g line) refl e
@@ -304,16 +302,12 @@ module _ (script : Script) where
         go_on _ g _
         (works_with c g _ e (record { writers = writers_in wrote i (work_of c g).writers a (e.works g.0).writers; command = record { orders = h.orders; awaited = without_in n i k.awaited h.awaited } }))
 
-    both_of : (a b : Bool) → (a && b) ≡ true → (a ≡ true) × (b ≡ true)
-    both_of true b e = (refl, e)
-    both_of false b e = grind arith
-
     done : (c : Coord) (g : Gxid) (i : Node) (cid : Cid) (wrote : Bool) (count : ℕ) (part : Part) (k : Option Command) → CoordIn c → UnderWay k → CoordStays c.sent (on_done c g i cid wrote count part k)
     done c g i cid wrote count part None e h = rest c e
     done c g i cid wrote count part (Some k) e h = at (is_awaited k i cid && fits_part k.stmt part) refl
       where
         at : (b : Bool) → (is_awaited k i cid && fits_part k.stmt part) ≡ b → CoordStays c.sent (if b then takes_done c g i wrote count part k else rests c)
-        at true f = done_taken c g i wrote count part k e h (has_in n i k.awaited h.awaited (both_of _ _ (both_of _ _ f).0).1)
+        at true f = done_taken c g i wrote count part k e h (has_in n i k.awaited h.awaited (and_parts _ _ (and_parts _ _ f).0).1)
         at false f = rest c e
 
     failed : (c : Coord) (g : Gxid) (i : Node) (cid : Cid) (cause : Cause) (k : Option Command) → CoordIn c → CoordStays c.sent (on_failed c g i cid cause k)

@@ -2,6 +2,8 @@
 use Rattle.std.proofs.Common.{◌≡◌, List, [], ◌∷◌, ◌++◌, Some, None, Bool, true, false, refl, subst, ap, ◌∙◌, if◌then◌else◌, ◌&&◌, ◌||◌, not, arith}
 use Rattle.std.specs.Prelude.{find}
 use Rattle.std.specs.List.{list_any}
+use Rattle.gx_lemmas.proofs.Options.{some-same}
+use Rattle.gx_lemmas.proofs.Tests.{and-last}
 use Rattle.gx_ids.specs.declared.ids.Gxid.{Gxid}
 use Rattle.gx_ids.specs.declared.ids.Node.{Node}
 use Rattle.gx_modes.specs.Table.{conflict}
@@ -54,11 +56,8 @@ calm-conflict ShareRowExclusive b e f = absurd (cc)
 calm-conflict Exclusive b e f = absurd (cc)
 calm-conflict AccessExclusive b e f = absurd (cc)
 
-and-off : (a b c : Bool) → c ≡ false → (a && (b && c)) ≡ false
-and-off a b c e = grind arith
-
 meets-none : (wanted hold : Claim) → HasCalmMode wanted → HasCalmMode hold → meets wanted hold ≡ false
-meets-none wanted hold e f = and-off _ _ _ (calm-conflict wanted.mode hold.mode e f)
+meets-none wanted hold e f = and-last _ _ _ (calm-conflict wanted.mode hold.mode e f)
 
 meets-nobody : (wanted : Claim) (holds : List Claim) → HasCalmMode wanted → Each HasCalmMode holds → list_any (meets wanted) holds ≡ false
 meets-nobody wanted [] e f = refl
@@ -69,14 +68,8 @@ pub calm-free : (locks : Locks) (wanted : Claim) → AreCalm locks → HasCalmMo
 calm-free locks wanted e f = ap not (meets-nobody wanted locks.holds f e.modes)
 
 pub lock-calm : (g : Gxid) (line : Stmt) (wanted : Claim) → lock_for g line ≡ Some wanted → HasCalmMode wanted
-lock-calm g (stmt.Select query) wanted e = subst HasCalmMode (same _ wanted e) refl
-  where
-    same : (a b : Claim) → Some a ≡ Some b → a ≡ b
-    same a b q = cc
-lock-calm g (stmt.Insert table tuples) wanted e = subst HasCalmMode (same _ wanted e) refl
-  where
-    same : (a b : Claim) → Some a ≡ Some b → a ≡ b
-    same a b q = cc
+lock-calm g (stmt.Select query) wanted e = subst HasCalmMode (some-same _ wanted e) refl
+lock-calm g (stmt.Insert table tuples) wanted e = subst HasCalmMode (some-same _ wanted e) refl
 lock-calm g (stmt.Update table assigns cond) wanted e = absurd (cc)
 lock-calm g (stmt.Delete table cond) wanted e = absurd (cc)
 lock-calm g (stmt.Lock table mode) wanted e = absurd (cc)

@@ -1,6 +1,8 @@
 -- At a segment nobody waits, as long as only those who read or add rows take locks.
 use Rattle.std.proofs.Common.{◌≡◌, ℕ, List, [], ◌∷◌, Option, Some, None, Bool, true, false, not, refl, subst, sym, ap, arith, nat_lt, ◌==◌, ◌&&◌, if◌then◌else◌}
 use Rattle.std.specs.Prelude.{fold, length}
+use Rattle.gx_lemmas.proofs.Tests.{true-false}
+use Rattle.gx_lemmas.proofs.Options.{some-same}
 use Rattle.gx_ids.specs.declared.ids.Cid.{Cid}
 use Rattle.gx_ids.specs.declared.ids.Gxid.{Gxid}
 use Rattle.gx_ids.specs.declared.ids.Table.{Table}
@@ -37,14 +39,8 @@ pub record IsCalm (s : Seg) : Type 0 where
   pub nobody : (h : ℕ) → (s.locals h).suspended ≡ None
 
 pub slice-calm : (g : Gxid) (x : Slice) (wanted : Claim) → slice_lock g x ≡ Some wanted → HasCalmMode wanted
-slice-calm g (slice.Select query) wanted e = subst HasCalmMode (same _ wanted e) refl
-  where
-    same : (a b : Claim) → Some a ≡ Some b → a ≡ b
-    same a b q = cc
-slice-calm g (slice.Insert table rows) wanted e = subst HasCalmMode (same _ wanted e) refl
-  where
-    same : (a b : Claim) → Some a ≡ Some b → a ≡ b
-    same a b q = cc
+slice-calm g (slice.Select query) wanted e = subst HasCalmMode (some-same _ wanted e) refl
+slice-calm g (slice.Insert table rows) wanted e = subst HasCalmMode (some-same _ wanted e) refl
 slice-calm g (slice.Update table assigns cond) wanted e = absurd (cc)
 slice-calm g (slice.Delete table cond) wanted e = absurd (cc)
 slice-calm g (slice.Lock table mode) wanted e = absurd (cc)
@@ -78,10 +74,7 @@ nobody-can script s g calm = and-off (is_segment script s.node) (is_ready s.lock
     and-off false b e = refl
 
 pub nobody-goes-on : (script : Script) (s : Seg) (g : Gxid) → IsCalm s → seg_can script s (event.Resume g) ≡ true → ⊥
-nobody-goes-on script s g calm ok = clash (seg_can script s (event.Resume g)) ok (nobody-can script s g calm)
-  where
-    clash : (b : Bool) → b ≡ true → b ≡ false → ⊥
-    clash b e f = grind arith
+nobody-goes-on script s g calm ok = true-false (seg_can script s (event.Resume g)) ok (nobody-can script s g calm)
 
 pub nothing-resumes : (s : Seg) (g : Gxid) (o : Option Suspended) → IsCalm s → stays s ≡ resumes s g (wait_of s.locks g) o
 nothing-resumes s g o calm = ap (λ w. resumes s g w o) (sym (nobody-waits s.locks g calm.locks))

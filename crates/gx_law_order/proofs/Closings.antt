@@ -3,6 +3,7 @@ use Rattle.std.proofs.Common.{◌≡◌, ◌≤◌, ◌<◌, inl, inr, ℕ, List
 use Rattle.std.proofs.lemmas.Bool.{eqb-true}
 use Rattle.std.proofs.lemmas.List.{append_assoc}
 use Rattle.std.specs.Prelude.{option_map}
+use Rattle.gx_lemmas.proofs.Numbers.{eqb-self}
 use Rattle.gx_ids.specs.declared.ids.Gxid.{Gxid}
 use Rattle.gx_tree.specs.declared.stmt.Level.{Level}
 use Rattle.gx_tree.specs.declared.stmt.Level.TheVariants.{ReadCommitted, RepeatableRead}
@@ -32,7 +33,7 @@ use Rattle.gx_law_order.proofs.Sessions.{Kept, Placed, Tied, is_closing_in, is_l
 use Rattle.gx_law_order.proofs.Stages.{At, IsWhole, gx, txn-at}
 use Rattle.gx_law_order.proofs.Statuses.{Closes, Falls, Stage, Turned, abort-turns, commit-turns, is_running, stage}
 use Rattle.gx_law_order.proofs.Statuses.Stage.{Absent, Live, Closing, Finished, Dropped}
-use Rattle.gx_law_order.proofs.Turns.{Base, Good, base-kept, closed-good, falls-is, refused-good, same-sessions, same-works, self-test, stage-is, work-is, y-is}
+use Rattle.gx_law_order.proofs.Turns.{Base, Good, base-kept, closed-good, falls-is, refused-good, same-sessions, same-works, stage-is, work-is, y-is}
 
 -- sessions' states
 closing-closed : (b : Block) (p : Pending) → is_closing_in b p ≡ true → is_open_in (block_after_done b p) ≡ false
@@ -111,7 +112,7 @@ module _ (c c1 : Coord) (g s : ℕ) (w1 : Work) (y : Session) (said : Stage) (k 
           here z q = subst (λ x. Tied (stage t.now) g w1 x) (sym q) (record { live = λ l. absurd (never-live (sym e ∙ l)); closing = λ l. (b.same_txn, closing); awaits = λ m f r. absurd (none m f r); busy = λ m f. (ap is_said e, working m f); waits = λ l f. absurd (no-line w1.waiting l unqueued f) })
 
           tied : (z : Session) → z ≡ (if eqb w1.session.0 s then y else c.sessions w1.session.0) → Tied (stage t.now) g w1 z
-          tied z q = here z (q ∙ ap (λ x. if x then y else c.sessions w1.session.0) (ap (λ x. eqb x s) b.home1 ∙ self-test s))
+          tied z q = here z (q ∙ ap (λ x. if x then y else c.sessions w1.session.0) (ap (λ x. eqb x s) b.home1 ∙ eqb-self s))
 
           placed : Placed s y (stage t.now) w1
           placed = record { stands = λ o. (inr e, b.home1); free = λ o n. absurd (not-both y.state.block y.state.pending closing n) }
@@ -158,7 +159,7 @@ module _ (c c1 : Coord) (g s : ℕ) (w1 : Work) (y : Session) (said : Stage) (k 
 
       here : (a : Stage) → a ≡ Live → (z : Session) → z ≡ (if eqb w2.session.0 s then x else c.sessions w2.session.0) → Tied a g w2 z
       here a l z q =
-          subst (λ r. Tied a g w2 r) (sym (q ∙ ap (λ r. if r then x else c.sessions w2.session.0) (ap (λ r. eqb r s) home ∙ self-test s)))
+          subst (λ r. Tied a g w2 r) (sym (q ∙ ap (λ r. if r then x else c.sessions w2.session.0) (ap (λ r. eqb r s) home ∙ eqb-self s)))
           (record { live = λ m. (b.same_txn, live-too (after_done y.state).block (stays-open y.state.block y.state.pending opened working)); closing = λ m. absurd (differ (sym l ∙ m)); awaits = λ m f r. absurd (cc); busy = λ m f. absurd (cc); waits = λ o f. absurd (no-line w.waiting o unqueued f) })
         where
           differ : Live ≡ Closing → ⊥

@@ -3,6 +3,7 @@ use Rattle.std.proofs.Common.{◌≡◌, inl, ℕ, List, [], ◌∷◌, ◌++◌
 use Rattle.std.proofs.lemmas.Bool.{eqb-true}
 use Rattle.std.proofs.lemmas.List.{append_assoc}
 use Rattle.std.specs.Prelude.{option_map}
+use Rattle.gx_lemmas.proofs.Numbers.{eqb-self}
 use Rattle.gx_ids.specs.declared.ids.Cid.{Cid}
 use Rattle.gx_ids.specs.declared.ids.Gxid.{Gxid}
 use Rattle.gx_ids.specs.declared.ids.Node.{Node}
@@ -32,7 +33,7 @@ use Rattle.gx_law_order.proofs.Sessions.{Kept, Placed, Tied, is_live_in, is_noth
 use Rattle.gx_law_order.proofs.Stages.{At, IsWhole, gx, txn-at}
 use Rattle.gx_law_order.proofs.Statuses.{Stage, stage}
 use Rattle.gx_law_order.proofs.Statuses.Stage.{Live, Closing}
-use Rattle.gx_law_order.proofs.Turns.{Base, Good, base-kept, home-is, merged, same-sessions, self-test, stage-is, work-is}
+use Rattle.gx_law_order.proofs.Turns.{Base, Good, base-kept, home-is, merged, same-sessions, stage-is, work-is}
 use Rattle.gx_rules.specs.Locks.{hold_mark, wait_mark, with_hold}
 use Rattle.gx_locks.specs.Locks.{Locks, is_free}
 use Rattle.gx_waits.specs.declared.claim.Claim.{Claim}
@@ -71,7 +72,7 @@ all-enlists (i ∷ is) d g w = joined (one-enlists d g i w) (all-enlists is (enl
         record {
           now = b.now;
           at = record { whole = b.at.whole; next = b.at.next ∙ a.at.next; finds = λ h. b.at.finds h ∙ merged (eqb h g) b.now a.now (find_txn d (gx h)) (find_txn (enlisted d (gx g) i) (gx h)) (a.at.finds h) };
-          same = b.same ∙ ap stage (a.at.finds g ∙ ap (λ q. if q then a.now else find_txn d (gx g)) (self-test g)) ∙ a.same;
+          same = b.same ∙ ap stage (a.at.finds g ∙ ap (λ q. if q then a.now else find_txn d (gx g)) (eqb-self g)) ∙ a.same;
           latest = b.latest ∙ a.latest;
         }
 
@@ -170,7 +171,7 @@ module _ (c c1 : Coord) (g s : ℕ) (w1 : Work) (y : Session) (k : Kept c) (b : 
 
         tied : (r : Reading) (cid : Cid) (line : Stmt) (pieces : List Piece) → (r.coord.works g).waiting ≡ None → (r.coord.works g).session.0 ≡ s → (a : Stage) → a ≡ Live → (z : Session) → z ≡ (if eqb (r.coord.works g).session.0 s then y else c.sessions (r.coord.works g).session.0) → Tied a g (sent r cid line pieces) z
         tied r cid line pieces none home a l z q =
-            subst (λ x. Tied a g (sent r cid line pieces) x) (sym (q ∙ ap (λ x. if x then y else c.sessions (r.coord.works g).session.0) (ap (λ x. eqb x s) home ∙ self-test s)))
+            subst (λ x. Tied a g (sent r cid line pieces) x) (sym (q ∙ ap (λ x. if x then y else c.sessions (r.coord.works g).session.0) (ap (λ x. eqb x s) home ∙ eqb-self s)))
             (record { live = λ m. (b.same_txn, live); closing = λ m. absurd (differ (sym l ∙ m)); awaits = λ m f n. (l, working); busy = λ m f. (ap is_said l, working); waits = λ o f. absurd (nothing (r.coord.works g).waiting o none f) })
 
         sits : (r : Reading) (cid : Cid) (line : Stmt) (pieces : List Piece) → (r.coord.works g).session.0 ≡ s → (a : Stage) → a ≡ Live → Placed s y a (sent r cid line pieces)
@@ -231,7 +232,7 @@ module _ (script : Script) (c c1 : Coord) (g s : ℕ) (w1 : Work) (y : Session) 
 
       tied : (a : Stage) → a ≡ Live → (z : Session) → z ≡ (if eqb w.session.0 s then y else c.sessions w.session.0) → Tied a g w z
       tied a l z q =
-          subst (λ x. Tied a g w x) (sym (q ∙ ap (λ x. if x then y else c.sessions w.session.0) (ap (λ x. eqb x s) home ∙ self-test s)))
+          subst (λ x. Tied a g w x) (sym (q ∙ ap (λ x. if x then y else c.sessions w.session.0) (ap (λ x. eqb x s) home ∙ eqb-self s)))
           (record {
             live = λ m. (b.same_txn, live);
             closing = λ m. absurd (differ (sym l ∙ m));

@@ -1,7 +1,9 @@
 -- How the marks of an event keep what they say of the stages.
 use Rattle.std.proofs.Common.{◌≡◌, ◌≤◌, ◌<◌, ℕ, ◌+◌, List, ◌++◌, Option, Some, None, Bool, true, false, refl, sym, subst, ap, ◌∙◌, if◌then◌else◌, ◌||◌, arith, eqb}
-use Rattle.std.proofs.lemmas.Bool.{eqb-true}
+use Rattle.std.proofs.lemmas.Bool.{eqb-true, or_left, or_right}
 use Rattle.std.proofs.lemmas.Bool.Decides.{nat_tests}
+use Rattle.gx_lemmas.proofs.Numbers.{lt-next}
+use Rattle.gx_lemmas.proofs.Tests.{true-false}
 use Rattle.gx_ids.specs.declared.ids.Gxid.{Gxid}
 use Rattle.gx_dtx.specs.Rules.{begun, with_ended}
 use Rattle.gx_dtx.specs.Table.{Table, find_txn, new_txn}
@@ -24,17 +26,8 @@ pub record AtOne (next g : ℕ) (b : Stage) (marks : List Mark) (latest : ℕ) :
   pub dropped : b ≡ Dropped → is_aborted marks (gx g) ≡ true
   pub latest_one : 1 ≤ g → g < next → is_running b ≡ false → g ≤ latest
 
-clash : (b : Bool) → b ≡ true → b ≡ false → ⊥
-clash b e f = grind arith
-
 or-left : (a b : Bool) → b ≡ false → (a || b) ≡ true → a ≡ true
 or-left a b e f = grind arith
-
-or-right : (a b : Bool) → b ≡ true → (a || b) ≡ true
-or-right a b e = grind arith
-
-or-first : (a b : Bool) → a ≡ true → (a || b) ≡ true
-or-first a b e = grind arith
 
 running-not-dropped : (b : Stage) → is_running b ≡ false → b ≡ Dropped → ⊥
 running-not-dropped b e f = grind arith
@@ -50,10 +43,10 @@ module _ (c : Coord) (ms ns : List Mark) (p : Past c ms) (g : ℕ) (b : Stage) (
   pub at-runs : is_running (stage_of c g) ≡ true → is_running b ≡ true → is_committed ns (gx g) ≡ false → (b ≡ Dropped → is_aborted ns (gx g) ≡ true) → AtOne c.table.next.0 g b marks latest
   at-runs r s n a =
       record {
-        committed = λ f. absurd (clash (is_running (stage_of c g)) r (p.committed g (before-committed n f)).2);
-        ended = λ x y z. absurd (clash (is_running b) s z);
-        dropped = λ d. aborted-append ms ns (gx g) ∙ or-right (is_aborted ms (gx g)) (is_aborted ns (gx g)) (a d);
-        latest_one = λ x y z. absurd (clash (is_running b) s z);
+        committed = λ f. absurd (true-false (is_running (stage_of c g)) r (p.committed g (before-committed n f)).2);
+        ended = λ x y z. absurd (true-false (is_running b) s z);
+        dropped = λ d. aborted-append ms ns (gx g) ∙ or_right (is_aborted ms (gx g)) (is_aborted ns (gx g)) (a d);
+        latest_one = λ x y z. absurd (true-false (is_running b) s z);
       }
 
   -- it commits
@@ -61,7 +54,7 @@ module _ (c : Coord) (ms ns : List Mark) (p : Past c ms) (g : ℕ) (b : Stage) (
   at-commits w r s n l =
       record {
         committed = λ f. ((running-drawn c g w r).0, (running-drawn c g w r).1, s);
-        ended = λ x y z. or-first (is_committed marks (gx g)) (is_aborted marks (gx g)) (committed-append ms ns (gx g) ∙ or-right (is_committed ms (gx g)) (is_committed ns (gx g)) n);
+        ended = λ x y z. or_left (is_committed marks (gx g)) (is_aborted marks (gx g)) (committed-append ms ns (gx g) ∙ or_right (is_committed ms (gx g)) (is_committed ns (gx g)) n);
         dropped = λ d. absurd (running-not-dropped b s d);
         latest_one = λ x y z. l;
       }
@@ -70,8 +63,8 @@ module _ (c : Coord) (ms ns : List Mark) (p : Past c ms) (g : ℕ) (b : Stage) (
   pub at-falls : is_running (stage_of c g) ≡ true → is_running b ≡ false → is_committed ns (gx g) ≡ false → is_aborted marks (gx g) ≡ true → g ≤ latest → AtOne c.table.next.0 g b marks latest
   at-falls r s n a l =
       record {
-        committed = λ f. absurd (clash (is_running (stage_of c g)) r (p.committed g (before-committed n f)).2);
-        ended = λ x y z. or-right (is_committed marks (gx g)) (is_aborted marks (gx g)) a;
+        committed = λ f. absurd (true-false (is_running (stage_of c g)) r (p.committed g (before-committed n f)).2);
+        ended = λ x y z. or_right (is_committed marks (gx g)) (is_aborted marks (gx g)) a;
         dropped = λ d. a;
         latest_one = λ x y z. l;
       }
@@ -82,7 +75,7 @@ module _ (c : Coord) (ms ns : List Mark) (p : Past c ms) (g : ℕ) (b : Stage) (
       record {
         committed = λ f. let x = p.committed g (before-committed n f) in (x.0, x.1, e ∙ x.2);
         ended = λ x y z. both-ended (p.ended g x y (sym e ∙ z));
-        dropped = λ f. aborted-append ms ns (gx g) ∙ or-first (is_aborted ms (gx g)) (is_aborted ns (gx g)) (p.dropped g (d f));
+        dropped = λ f. aborted-append ms ns (gx g) ∙ or_left (is_aborted ms (gx g)) (is_aborted ns (gx g)) (p.dropped g (d f));
         latest_one = λ x y z. le-trans (p.latest g x y (sym e ∙ z)) l;
       }
     where
@@ -119,7 +112,7 @@ past-at c d ms ns g now p n f other l drawn one =
 pub greater-facts : (b : Bool) (g : ℕ) (latest : Option Gxid) (next : ℕ) → latest_number latest < next → (b ≡ true → g < next) → (latest_number latest ≤ latest_number (with_ended b (gx g) latest)) × (b ≡ true → g ≤ latest_number (with_ended b (gx g) latest)) × (latest_number (with_ended b (gx g) latest) < next)
 greater-facts true g None next l h = (grind (arith, nat_tests), λ e. grind (arith, nat_tests), h refl)
 greater-facts true g (Some x) next l h = (grind (arith, nat_tests), λ e. grind (arith, nat_tests), grind (arith, nat_tests))
-greater-facts false g latest next l h = (le-refl (latest_number latest), λ e. absurd (clash false e refl), l)
+greater-facts false g latest next l h = (le-refl (latest_number latest), λ e. absurd (true-false false e refl), l)
   where
     le-refl : (a : ℕ) → a ≤ a
     le-refl a = omega arith
@@ -153,12 +146,9 @@ past-begun c d ms ns p w e s =
     older : (h : ℕ) → h < c.table.next.0 + 1 → is_running (stage (find_txn (begun c.table) (gx h))) ≡ false → h < c.table.next.0
     older h l z = by_test (eqb h c.table.next.0) refl (subst (λ t. is_running (stage t) ≡ false) (begun-finds c.table w h) z)
       where
-        less : (a b : ℕ) → a < b + 1 → eqb a b ≡ false → a < b
-        less a b l q = grind (arith, nat_tests)
-
         by_test : (b : Bool) → eqb h c.table.next.0 ≡ b → is_running (stage (if b then Some new_txn else find_txn c.table (gx h))) ≡ false → h < c.table.next.0
-        by_test true q z = absurd (clash true refl z)
-        by_test false q z = less h c.table.next.0 l q
+        by_test true q z = absurd (true-false true refl z)
+        by_test false q z = lt-next h c.table.next.0 l q
 
     old-runs : (h : ℕ) → h < c.table.next.0 + 1 → is_running (stage (find_txn (begun c.table) (gx h))) ≡ false → is_running (stage_of c h) ≡ false
     old-runs h l z = subst (λ t. is_running (stage t) ≡ false) (begun-finds c.table w h ∙ not-new h (older h l z)) z
@@ -177,4 +167,4 @@ past-begun c d ms ns p w e s =
           where
             differ : Live ≡ Dropped → ⊥
             differ q = cc
-        by_test false q = aborted-append ms ns (gx h) ∙ or-first (is_aborted ms (gx h)) (is_aborted ns (gx h)) (p.dropped h q)
+        by_test false q = aborted-append ms ns (gx h) ∙ or_left (is_aborted ms (gx h)) (is_aborted ns (gx h)) (p.dropped h q)

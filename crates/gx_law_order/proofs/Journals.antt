@@ -2,6 +2,7 @@
 use Rattle.std.proofs.Common.{◌≡◌, ◌≤◌, inl, inr, ℕ, List, [], ◌∷◌, ◌++◌, Option, Some, None, Bool, true, false, refl, sym, subst, ap, ◌∙◌, if◌then◌else◌, ◌==◌, ◌&&◌, ◌||◌, arith, eqb, append-nil}
 use Rattle.std.proofs.lemmas.Bool.Decides.{nat_tests}
 use Rattle.std.proofs.lemmas.List.{append_assoc}
+use Rattle.gx_lemmas.proofs.Numbers.{one-le-zero}
 use Rattle.gx_ids.specs.declared.ids.Node.{Node}
 use Rattle.gx_msg.specs.declared.item.JournalItem.{JournalItem}
 use Rattle.gx_msg.specs.declared.item.JournalItem.TheVariants as item
@@ -150,10 +151,7 @@ module _ (script : Script) (some : 1 ≤ script.segments) (w : World) (well : We
       apart a b n = grind (arith, nat_tests)
 
       not-coordinator : at j ≡ the_coordinator → (i == 0) ≡ false
-      not-coordinator z = absurd (no-zero j place.0 (ap (λ (n : Node). n.0) z))
-        where
-          no-zero : (a : ℕ) → 1 ≤ a → a ≡ 0 → ⊥
-          no-zero a l e = omega arith
+      not-coordinator z = absurd (one-le-zero j place.0 (ap (λ (n : Node). n.0) z))
 
       its : Items (at j) (marks_in w.steps) fails turn
       its = subst (λ n. Items n (marks_in w.steps) fails turn) (well.names j) (event_items script (w.segs j) (λ h y q. ((well.waiting j).each h y q).opens) (marks_in w.steps) (subst (λ n. Holds n (w.segs j) (marks_in w.steps)) (sym (well.names j)) (hold j place.0)) x fails)

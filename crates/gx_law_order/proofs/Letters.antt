@@ -1,8 +1,9 @@
 -- Every message that the machine has sent is in its steps.
 use Rattle.std.proofs.Common.{◌≡◌, ℕ, List, [], ◌∷◌, ◌++◌, Some, Bool, true, false, refl, sym, subst, ap, ◌∙◌, if◌then◌else◌, ◌&&◌, arith, length}
-use Rattle.std.proofs.lemmas.Bool.{eqb-true}
+use Rattle.std.proofs.lemmas.Bool.{and_parts, eqb-true}
 use Rattle.std.proofs.lemmas.List.{append_assoc}
 use Rattle.std.specs.Prelude.{slice_get}
+use Rattle.gx_lemmas.proofs.Lists.{get-append}
 use Rattle.gx_ids.specs.declared.ids.Node.{Node}
 use Rattle.gx_msg.specs.declared.message.Envelope.{Envelope}
 use Rattle.gx_script.specs.declared.Script.{Script}
@@ -13,7 +14,7 @@ use Rattle.gx_store.specs.Journals.{is_same_node}
 use Rattle.gx_store.specs.Messages.{IsSending}
 use Rattle.gx_store.specs.Ordered.{IsAtNode, IsLink}
 use Rattle.gx_rules.specs.Machine.{Letter, found, is_at, posted}
-use Rattle.gx_law_order.proofs.Lists.{Each, get_kept, get_last}
+use Rattle.gx_law_order.proofs.Lists.{Each, get_last}
 
 pub record IsLetter (script : Script) (steps : List Step) (l : Letter) : Type 0 where
   pub link : IsLink script l.from l.to
@@ -31,7 +32,7 @@ letter_kept script steps s l e =
       link = e.link;
       step = e.step;
       mark = e.mark;
-      sending = record { sender = e.sending.sender; at = get_kept steps (s ∷ []) e.step e.sending.sender e.sending.at; node = e.sending.node; sent = e.sending.sent };
+      sending = record { sender = e.sending.sender; at = get-append steps (s ∷ []) e.step e.sending.sender e.sending.at; node = e.sending.node; sent = e.sending.sent };
       clock = e.clock;
     }
 
@@ -67,18 +68,14 @@ pub record IsFound (P : Letter → Type 0) (from to : Node) (number : ℕ) (enve
   pub counted : letter.envelope.number ≡ number
   pub told : letter.envelope ≡ envelope
 
-pub both_of : (a b : Bool) → (a && b) ≡ true → (a ≡ true) × (b ≡ true)
-both_of true b e = (refl, e)
-both_of false b e = grind arith
-
 pub found_is : (P : Letter → Type 0) (from to : Node) (number : ℕ) (ls : List Letter) (envelope : Envelope) → Each P ls → found from to number ls ≡ Some envelope → IsFound P from to number envelope
 found_is P from to number [] envelope h e = absurd (cc)
 found_is P from to number (l ∷ ls) envelope h e = at (is_at from to number l) refl e (found_is P from to number ls envelope h.1)
   where
     here : is_at from to number l ≡ true → Some l.envelope ≡ Some envelope → IsFound P from to number envelope
     here a b =
-        let x = both_of _ _ a in
-        let y = both_of _ _ x.1 in
+        let x = and_parts _ _ a in
+        let y = and_parts _ _ x.1 in
         record { letter = l; is = h.0; source = same_node l.from from x.0; target = same_node l.to to y.0; counted = eqb-true l.envelope.number number y.1; told = (cc) }
 
     at : (b : Bool) → is_at from to number l ≡ b → (if b then Some l.envelope else found from to number ls) ≡ Some envelope → (found from to number ls ≡ Some envelope → IsFound P from to number envelope) → IsFound P from to number envelope

@@ -2,6 +2,7 @@
 use Rattle.std.proofs.Common.{◌≡◌, ◌≤◌, ◌<◌, inl, inr, ℕ, ◌+◌, List, [], ◌∷◌, ◌++◌, Option, Some, None, Bool, true, false, refl, sym, subst, ap, ◌∙◌, if◌then◌else◌, arith, eqb, append-nil}
 use Rattle.std.proofs.lemmas.Bool.{eqb-true}
 use Rattle.std.proofs.lemmas.Bool.Decides.{nat_tests}
+use Rattle.gx_lemmas.proofs.Numbers.{eqb-self}
 use Rattle.gx_ids.specs.declared.ids.Gxid.{Gxid}
 use Rattle.gx_ids.specs.declared.ids.SessionId.{SessionId}
 use Rattle.gx_tree.specs.declared.stmt.Level.{Level}
@@ -34,7 +35,7 @@ use Rattle.gx_law_order.proofs.Sessions.{Kept, Placed, Tied, is_live_in, is_noth
 use Rattle.gx_law_order.proofs.Stages.{Apart, Below, IsWhole, gx, none-at}
 use Rattle.gx_law_order.proofs.Statuses.{Falls, Turned, abort-turns, stage}
 use Rattle.gx_law_order.proofs.Statuses.Stage.{Absent, Live, Closing}
-use Rattle.gx_law_order.proofs.Turns.{Base, Good, base-kept, falls-is, merged, rolled-good, same-sessions, same-works, self-test, stage-is}
+use Rattle.gx_law_order.proofs.Turns.{Base, Good, base-kept, falls-is, merged, rolled-good, same-sessions, same-works, stage-is}
 use Rattle.gx_law_order.proofs.Queued.{IsQueued, Queues, queue-stays, queued-by}
 
 -- marks that tell of no end
@@ -192,7 +193,7 @@ module _ (script : Script) (c : Coord) (before : List Mark) (k : Kept c) (p : Pa
   moved asked = record (session_of c s) { lines = (session_of c s).lines + 1; state = after_line block asked }
 
   session-now : (asked : LineStep) → session_of (starts_line c s asked) s ≡ moved asked
-  session-now asked = ap (λ q. if q then moved asked else session_of c s) (self-test s.0)
+  session-now asked = ap (λ q. if q then moved asked else session_of c s) (eqb-self s.0)
 
   transaction-now : (asked : LineStep) → (session_of (starts_line c s asked) s).transaction ≡ (session_of c s).transaction
   transaction-now asked = ap (λ (x : Session). x.transaction) (session-now asked)
@@ -308,7 +309,7 @@ module _ (script : Script) (c : Coord) (before : List Mark) (k : Kept c) (p : Pa
 
       tied : (z : Session) → z ≡ (if eqb s.0 s.0 then fresh (step.BeginBlock level) else c.sessions s.0) → Tied (stage_of c1 c.table.next.0) c.table.next.0 (new_work s level) z
       tied z q =
-          subst (λ x. Tied (stage_of c1 c.table.next.0) c.table.next.0 (new_work s level) x) (sym (q ∙ ap (λ x. if x then fresh (step.BeginBlock level) else c.sessions s.0) (self-test s.0)))
+          subst (λ x. Tied (stage_of c1 c.table.next.0) c.table.next.0 (new_work s level) x) (sym (q ∙ ap (λ x. if x then fresh (step.BeginBlock level) else c.sessions s.0) (eqb-self s.0)))
           (record { live = λ m. (refl, opens block outside); closing = λ m. absurd (differ (sym now ∙ m)); awaits = λ m f r. absurd (cc); busy = λ m f. absurd (cc); waits = λ o f. absurd (cc) })
 
       sits : Placed s.0 (fresh (step.BeginBlock level)) (stage_of c1 c.table.next.0) (new_work s level)

@@ -33,10 +33,6 @@ each_flat P f [] e = tt
 each_flat P f (x ∷ xs) e = each_append P (f x) (flat_map f xs) e.0 (each_flat P f xs e.1)
 
 -- places in an append
-pub get_kept : {A : Type 0} (xs ys : List A) (k : ℕ) (x : A) → slice_get xs k ≡ Some x → slice_get (xs ++ ys) k ≡ Some x
-get_kept [] ys k x e = grind arith
-get_kept (y ∷ xs) ys zero x e = e
-get_kept (y ∷ xs) ys (suc k) x e = get_kept xs ys k x e
 
 pub get_last : {A : Type 0} (xs ys : List A) (x : A) → slice_get (xs ++ x ∷ ys) (length xs) ≡ Some x
 get_last [] ys x = refl

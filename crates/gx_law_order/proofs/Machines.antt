@@ -1,9 +1,10 @@
 -- Every system run is a run of the machine.
 use Rattle.std.proofs.Common.{◌≡◌, ◌≤◌, ◌⊎◌, inl, inr, ⊎_elim, ℕ, zero, suc, ◌+◌, List, [], ◌∷◌, ◌++◌, Option, Some, Bool, true, false, refl, sym, subst, ap, ◌∙◌, if◌then◌else◌, arith, append-nil}
-use Rattle.std.proofs.lemmas.Bool.{eqb-true}
+use Rattle.std.proofs.lemmas.Bool.{and_parts, eqb-true}
 use Rattle.std.proofs.lemmas.Bool.Decides.{nat_tests}
 use Rattle.std.proofs.lemmas.List.{append_assoc}
 use Rattle.std.specs.Prelude.{slice_get}
+use Rattle.gx_lemmas.proofs.Options.{some-same}
 use Rattle.gx_ids.specs.declared.ids.Node.{Node}
 use Rattle.gx_msg.specs.declared.message.Envelope.{Envelope}
 use Rattle.gx_msg.specs.declared.message.Message.{Message}
@@ -26,7 +27,7 @@ use Rattle.gx_rules.specs.Segments.{Seg}
 use Rattle.gx_rules.specs.System.{AreAtNodes, DoesCoordFollow, DoesSegFollow, Either, IsCoordStep, IsHere, IsPosted, IsSegStep, IsSystemRun}
 use Rattle.gx_law_order.specs.Runs.{IsOfMachine}
 use Rattle.gx_law_order.proofs.AtSegments.{seg_stays}
-use Rattle.gx_law_order.proofs.Letters.{both_of, same_node}
+use Rattle.gx_law_order.proofs.Letters.{same_node}
 use Rattle.gx_law_order.proofs.Ordered.{apart-back, apart-two, at-both, test-self}
 use Rattle.gx_law_order.proofs.Sent.{at, sent_count-append, sent_in-last}
 
@@ -40,8 +41,8 @@ not_at from to number l h = by_test (is_at from to number l) refl
     by_test : (b : Bool) → is_at from to number l ≡ b → b ≡ false
     by_test false e = refl
     by_test true e =
-        let x = both_of _ _ e in
-        let y = both_of _ _ x.1 in
+        let x = and_parts _ _ e in
+        let y = and_parts _ _ x.1 in
         absurd (h (same_node l.from from x.0) (same_node l.to to y.0) (eqb-true l.envelope.number number y.1))
 
 found-not : (from to : Node) (number : ℕ) (l : Letter) (ls : List Letter) → is_at from to number l ≡ false → found from to number (l ∷ ls) ≡ found from to number ls
@@ -64,9 +65,6 @@ found-kept from to number node clock steps earlier (mark.Sent t k told ∷ ms) s
         over a k number is under same = absurd (omega arith)
 found-kept from to number node clock steps earlier (m ∷ ms) sent e h =
     found-kept from to number node clock steps (earlier ++ m ∷ []) ms sent e (λ same. count-grows to earlier m (sent_in node to steps) number (h same))
-
-some-same : {A : Type 0} (a b : A) → Some a ≡ Some b → a ≡ b
-some-same a b e = (cc)
 
 -- a step's message is found
 module _ (to : Node) (number : ℕ) (told : Message) (node : Node) (clock : ℕ) (steps : List Step) where

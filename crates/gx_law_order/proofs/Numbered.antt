@@ -2,6 +2,7 @@
 use Rattle.std.proofs.Common.{◌≡◌, ◌≤◌, inl, inr, ℕ, ◌+◌, List, [], ◌∷◌, ◌++◌, Option, Some, None, Bool, true, false, refl, sym, subst, ap, ◌∙◌, if◌then◌else◌, arith}
 use Rattle.std.proofs.lemmas.Bool.Decides.{nat_tests}
 use Rattle.std.proofs.lemmas.List.{append_assoc}
+use Rattle.gx_lemmas.proofs.Numbers.{one-le-zero}
 use Rattle.gx_ids.specs.declared.ids.Node.{Node}
 use Rattle.gx_msg.specs.declared.message.Envelope.{Envelope}
 use Rattle.gx_msg.specs.declared.message.Out.{Out}
@@ -42,10 +43,7 @@ sent-calm f (o ∷ outs) = (tt, sent-calm (counted f o) outs)
 
 segment-calm : (script : Script) (i : ℕ) → 1 ≤ i → (ms : List Mark) → Each (IsAtNode script (at i)) ms → Each NoStart ms
 segment-calm script i one [] e = tt
-segment-calm script i one (mark.Start g s ∷ ms) e = absurd (zero-one i one (ap (λ (n : Node). n.0) e.0))
-  where
-    zero-one : (i : ℕ) → 1 ≤ i → i ≡ 0 → ⊥
-    zero-one i l e = omega arith
+segment-calm script i one (mark.Start g s ∷ ms) e = absurd (one-le-zero i one (ap (λ (n : Node). n.0) e.0))
 segment-calm script i one (m ∷ ms) e = (tt, segment-calm script i one ms e.1)
 
 more-calm : (steps : List Step) (s : Step) (next : ℕ) → AreStartsNumbered [] (marks_in steps) → AreStartsNumbered (marks_in steps) s.marks → next ≡ start_count (marks_in steps ++ s.marks) + 1 → AreStartsNumbered [] (marks_in (steps ++ s ∷ [])) × (next ≡ start_count (marks_in (steps ++ s ∷ [])) + 1)

@@ -1,6 +1,7 @@
 -- Transactions are numbered in the order of their Start marks.
 use Rattle.std.proofs.Common.{◌≡◌, ℕ, ◌+◌, List, [], ◌∷◌, ◌++◌, Option, Some, None, Result, Ok, Err, Bool, true, false, refl, sym, subst, ap, append-nil, ◌∙◌, if◌then◌else◌, ◌==◌, ◌&&◌, arith}
 use Rattle.std.proofs.lemmas.List.{append_assoc}
+use Rattle.gx_lemmas.proofs.Numbers.{plus-none}
 use Rattle.gx_ids.specs.declared.ids.Cid.{Cid}
 use Rattle.gx_ids.specs.declared.ids.Gxid.{Gxid}
 use Rattle.gx_ids.specs.declared.ids.Node.{Node}
@@ -242,9 +243,6 @@ calm-numbered before (m ∷ ms) e = calm-numbered (before ++ m ∷ []) ms e.1
 
 pub calm-more : (before ms : List Mark) → Each NoStart ms → start_count (before ++ ms) ≡ start_count before
 calm-more before ms e = count-append before ms ∙ ap (λ n. start_count before + n) (calm-count ms e) ∙ plus-none (start_count before)
-  where
-    plus-none : (a : ℕ) → a + 0 ≡ a
-    plus-none a = omega arith
 
 pub numbered-append : (before xs ys : List Mark) → AreStartsNumbered before xs → AreStartsNumbered (before ++ xs) ys → AreStartsNumbered before (xs ++ ys)
 numbered-append before [] ys e f = subst (λ b. AreStartsNumbered b ys) (append-nil before) f

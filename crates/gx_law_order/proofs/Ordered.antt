@@ -5,6 +5,8 @@ use Rattle.std.proofs.lemmas.Bool.Decides.{nat_tests}
 use Rattle.std.proofs.lemmas.List.{append_assoc}
 use Rattle.std.proofs.lemmas.List.Elements.{All-cons, All-nil}
 use Rattle.std.specs.Prelude.{All, slice_get}
+use Rattle.gx_lemmas.proofs.Tests.{and-first}
+use Rattle.gx_lemmas.proofs.Options.{some-same}
 use Rattle.gx_ids.specs.declared.ids.Node.{Node}
 use Rattle.gx_msg.specs.declared.message.Envelope.{Envelope}
 use Rattle.gx_msg.specs.declared.message.Out.{Out}
@@ -271,9 +273,6 @@ delivery-ok script w good from to number envelope clock f h =
       later = λ sender k. earlier sender (same_sender sender k);
     }
   where
-    some-same : (a b : Step) → Some a ≡ Some b → a ≡ b
-    some-same a b e = (cc)
-
     same_sender : (sender : Step) → slice_get w.steps f.is.step ≡ Some sender → sender.stamp.clock ≡ envelope.clock
     same_sender sender k = ap (λ (a : Step). a.stamp.clock) (some-same sender f.is.sending.sender (sym k ∙ f.is.sending.at)) ∙ f.is.clock ∙ ap (λ (a : Envelope). a.clock) f.told
 
@@ -313,11 +312,8 @@ module _ (script : Script) (some : 1 ≤ script.segments) where
   resumes_there w n g good ok = inside (w.segs n.0).node (good.names n.0) _ ok
     where
       inside : (m : Node) → m ≡ at n.0 → (c : Bool) → (is_segment script m && c) ≡ true → IsSegment script n
-      inside m same c e = subst (IsSegment script) same (placed m (left (is_segment script m) c e))
+      inside m same c e = subst (IsSegment script) same (placed m (and-first (is_segment script m) c e))
         where
-          left : (a b : Bool) → (a && b) ≡ true → a ≡ true
-          left a b e = grind arith
-
           placed : (m : Node) → is_segment script m ≡ true → IsSegment script m
           placed m e = (grind (arith, nat_tests), grind (arith, nat_tests))
 

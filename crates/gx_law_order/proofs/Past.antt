@@ -4,6 +4,7 @@ use Rattle.std.proofs.lemmas.Bool.{eqb-true}
 use Rattle.std.proofs.lemmas.Bool.Decides.{nat_tests}
 use Rattle.std.proofs.lemmas.List.{append_assoc}
 use Rattle.std.specs.Prelude.{filter}
+use Rattle.gx_lemmas.proofs.Tests.{or-assoc, true-false}
 use Rattle.gx_ids.specs.declared.ids.Gxid.{Gxid}
 use Rattle.gx_dsnap.specs.Gxids.{after_ended, is_below, is_listed}
 use Rattle.gx_dsnap.specs.Snapshot.{sees}
@@ -25,20 +26,12 @@ use Rattle.gx_law_order.proofs.Statuses.Stage.{Absent, Dropped}
 -- MARKS
 pub committed-append : (xs ys : List Mark) (g : Gxid) → is_committed (xs ++ ys) g ≡ is_committed xs g || is_committed ys g
 committed-append [] ys g = refl
-committed-append (mark.Commit h ∷ xs) ys g = ap (λ b. is_same_gxid h g || b) (committed-append xs ys g) ∙ or-or (is_same_gxid h g) (is_committed xs g) (is_committed ys g)
-  where
-    or-or : (a b c : Bool) → (a || (b || c)) ≡ ((a || b) || c)
-    or-or true b c = refl
-    or-or false b c = refl
+committed-append (mark.Commit h ∷ xs) ys g = ap (λ b. is_same_gxid h g || b) (committed-append xs ys g) ∙ or-assoc (is_same_gxid h g) (is_committed xs g) (is_committed ys g)
 committed-append (m ∷ xs) ys g = committed-append xs ys g
 
 pub aborted-append : (xs ys : List Mark) (g : Gxid) → is_aborted (xs ++ ys) g ≡ is_aborted xs g || is_aborted ys g
 aborted-append [] ys g = refl
-aborted-append (mark.Abort h ∷ xs) ys g = ap (λ b. is_same_gxid h g || b) (aborted-append xs ys g) ∙ or-or (is_same_gxid h g) (is_aborted xs g) (is_aborted ys g)
-  where
-    or-or : (a b c : Bool) → (a || (b || c)) ≡ ((a || b) || c)
-    or-or true b c = refl
-    or-or false b c = refl
+aborted-append (mark.Abort h ∷ xs) ys g = ap (λ b. is_same_gxid h g || b) (aborted-append xs ys g) ∙ or-assoc (is_same_gxid h g) (is_aborted xs g) (is_aborted ys g)
 aborted-append (m ∷ xs) ys g = aborted-append xs ys g
 
 pub seen-append : (before xs ys : List Mark) → AreEndedSeen before xs → AreEndedSeen (before ++ xs) ys → AreEndedSeen before (xs ++ ys)
@@ -170,11 +163,8 @@ seen-now c ms p = record { committed = λ h e. seen h (p.committed h.0 e); ended
     not-listed : (h : Gxid) → runs_at h ≡ false → is_listed h (running_below c.table c.table.latest_ended) ≡ false
     not-listed h e = by_test (is_listed h (running_below c.table c.table.latest_ended)) refl
       where
-        clash : (b : Bool) → b ≡ true → b ≡ false → ⊥
-        clash b e f = grind arith
-
         by_test : (b : Bool) → is_listed h (running_below c.table c.table.latest_ended) ≡ b → b ≡ false
-        by_test true f = absurd (clash (runs_at h) (listed-is runs_at 1 limit h.0 f).2 e)
+        by_test true f = absurd (true-false (runs_at h) (listed-is runs_at 1 limit h.0 f).2 e)
         by_test false f = refl
 
     seen : (h : Gxid) → (1 ≤ h.0) × (h.0 < c.table.next.0) × (is_running (stage_of c h.0) ≡ false) → sees (snapshot_of c.table) h ≡ true
@@ -196,13 +186,10 @@ seen-now c ms p = record { committed = λ h e. seen h (p.committed h.0 e); ended
         under : {a b d : ℕ} → a ≤ b → b < d → a < d
         under l m = omega arith
 
-        clash : (b : Bool) → b ≡ true → b ≡ false → ⊥
-        clash b e f = grind arith
-
         higher : (a b : ℕ) → a ≤ b → a < 1 + b
         higher a b l = omega arith
 
         still : (b : Bool) → is_running (stage_of c h.0) ≡ b → b ≡ false
         still true f =
-            absurd (clash (is_listed h (running_below c.table c.table.latest_ended)) (listed-has runs_at 1 limit h.0 one (higher h.0 limit (below_gives c.table.latest_ended h one (left _ _ e))) (runs-stage (find_txn c.table h) ∙ f)) (right _ _ e))
+            absurd (true-false (is_listed h (running_below c.table c.table.latest_ended)) (listed-has runs_at 1 limit h.0 one (higher h.0 limit (below_gives c.table.latest_ended h one (left _ _ e))) (runs-stage (find_txn c.table h) ∙ f)) (right _ _ e))
         still false f = refl

@@ -1,9 +1,11 @@
 -- Which statements wait at the coordinator: a transaction has a wait among the coordinator's locks exactly where a statement of it
--- waits; it is one, and it is the lock of that statement's table.
+-- waits; it is some-same, and it is the lock of that statement's table.
 use Rattle.std.proofs.Common.{◌≡◌, ℕ, List, [], ◌∷◌, ◌++◌, Option, Some, None, Bool, true, false, refl, sym, subst, ap, ◌∙◌, ◌==◌, arith, eqb, cond, not}
 use Rattle.std.proofs.lemmas.Bool.Decides.{nat_tests}
 use Rattle.std.proofs.lemmas.List.Elements.{filter-append}
 use Rattle.std.specs.Prelude.{filter, find, is_some}
+use Rattle.gx_lemmas.proofs.Numbers.{eqb-self}
+use Rattle.gx_lemmas.proofs.Options.{some-same}
 use Rattle.gx_ids.specs.declared.ids.Gxid.{Gxid}
 use Rattle.gx_tree.specs.declared.stmt.Stmt.{Stmt}
 use Rattle.gx_tree.specs.declared.stmt.Stmt.TheVariants as stmt
@@ -22,12 +24,12 @@ abbrev pub claims_for : Gxid → Option Stmt → List Claim
 claims_for g None = []
 claims_for g (Some line) = listed (lock_for g line)
 
--- of one transaction: the statement of it that waits, and its waits
+-- of some-same transaction: the statement of it that waits, and its waits
 pub record IsQueued (g : ℕ) (waiting : Option Stmt) (waits : List Claim) : Type 0 where
   pub claims : filter (is_of (gx g)) waits ≡ claims_for (gx g) waiting
   pub locks : (line : Stmt) → waiting ≡ Some line → is_some (lock_for (gx g) line) ≡ true
 
--- the waits of one transaction have changed
+-- the waits of some-same transaction have changed
 pub record Queues (old new : List Claim) (g : ℕ) (waiting : Option Stmt) : Type 0 where
   pub others : (j : ℕ) → eqb j g ≡ false → filter (is_of (gx j)) new ≡ filter (is_of (gx j)) old
   pub here : IsQueued g waiting new
@@ -90,21 +92,15 @@ queue-waits waits g line wanted q e =
       others = λ j n. filter-append (is_of (gx j)) waits (wanted ∷ []) ∙ ap (λ b. filter (is_of (gx j)) waits ++ cond b (wanted ∷ []) []) (away j n) ∙ nothing-more (filter (is_of (gx j)) waits);
       here = record {
         claims = filter-append (is_of (gx g)) waits (wanted ∷ []) ∙ ap (λ b. filter (is_of (gx g)) waits ++ cond b (wanted ∷ []) []) mine ∙ ap (λ l. l ++ wanted ∷ []) q.claims ∙ sym (ap listed e);
-        locks = λ other same. subst (λ l. is_some (lock_for (gx g) l) ≡ true) (one line other same) (ap is_some e);
+        locks = λ other same. subst (λ l. is_some (lock_for (gx g) l) ≡ true) (some-same line other same) (ap is_some e);
       };
     }
   where
-    one : (a b : Stmt) → Some a ≡ Some b → a ≡ b
-    one a b q = cc
-
     nothing-more : (xs : List Claim) → xs ++ [] ≡ xs
     nothing-more xs = Rattle.std.proofs.Common.append-nil xs
 
     mine : is_of (gx g) wanted ≡ true
-    mine = ap (λ (h : Gxid). h.0 == g) (lock-of (gx g) line wanted e) ∙ self g
-      where
-        self : (a : ℕ) → (a == a) ≡ true
-        self a = grind (arith, nat_tests)
+    mine = ap (λ (h : Gxid). h.0 == g) (lock-of (gx g) line wanted e) ∙ eqb-self g
 
     away : (j : ℕ) → eqb j g ≡ false → is_of (gx j) wanted ≡ false
     away j n = ap (λ (h : Gxid). h.0 == j) (lock-of (gx g) line wanted e) ∙ other g j n

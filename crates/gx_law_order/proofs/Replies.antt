@@ -1,6 +1,9 @@
 -- Answers of segments, and all events of the coordinator.
 use Rattle.std.proofs.Common.{◌≡◌, ◌≤◌, ◌<◌, inl, inr, ℕ, List, [], ◌∷◌, ◌++◌, Option, Some, None, Bool, true, false, refl, sym, subst, ap, ◌∙◌, if◌then◌else◌, ◌==◌, ◌&&◌, arith, eqb, append-nil}
-use Rattle.std.proofs.lemmas.Bool.{eqb-true}
+use Rattle.std.proofs.lemmas.Bool.{and_parts, eqb-true}
+use Rattle.gx_lemmas.proofs.Numbers.{eqb-self}
+use Rattle.gx_lemmas.proofs.Tests.{and-first}
+use Rattle.gx_lemmas.proofs.Options.{some-same}
 use Rattle.gx_ids.specs.declared.ids.Cid.{Cid}
 use Rattle.gx_ids.specs.declared.ids.Node.{Node}
 use Rattle.gx_ids.specs.declared.ids.SessionId.{SessionId}
@@ -41,7 +44,7 @@ use Rattle.gx_law_order.proofs.Sessions.{IsQuiet, Kept, Tied, is_closing_in, is_
 use Rattle.gx_law_order.proofs.Stages.{gx}
 use Rattle.gx_law_order.proofs.Statuses.{Moves, Stage, Turned, is_running, reply-turns, stage}
 use Rattle.gx_law_order.proofs.Statuses.Stage.{Absent, Live, Closing, Dropped}
-use Rattle.gx_law_order.proofs.Turns.{Base, Good, base-kept, closed-good, refused-good, self-test}
+use Rattle.gx_law_order.proofs.Turns.{Base, Good, base-kept, closed-good, refused-good}
 use Rattle.gx_law_order.proofs.Queued.{queue-released, queue-stays, queued-by}
 use Rattle.gx_locks.specs.Locks.{resumed, wait_of}
 use Rattle.gx_tree.specs.declared.stmt.Stmt.{Stmt}
@@ -155,13 +158,13 @@ module _ (c : Coord) (before : List Mark) (k : Kept c) (p : Past c before) (g : 
         b = base-work w Live refl refl runs-it.0 is-its.0
 
         work-now : c1.works g ≡ w
-        work-now = ap (λ q. if q then w else c.works g) (self-test g)
+        work-now = ap (λ q. if q then w else c.works g) (eqb-self g)
 
-        goes : (left : List Node) → without i m.awaited ≡ left → (x : Node) (xs : List Node) → left ≡ x ∷ xs → Good before (rests c1)
-        goes left e x xs f =
+        goes : (and-first : List Node) → without i m.awaited ≡ and-first → (x : Node) (xs : List Node) → and-first ≡ x ∷ xs → Good before (rests c1)
+        goes and-first e x xs f =
             rest-good c1 before
             (base-kept c c1 g home w its Live k b c1 (find_txn c.table (gx g)) w its k.whole (same-finds c.table g) (λ j. same-one j (eqb j g) refl) same-sessions
-            (λ z q. subst (λ y. Tied (stage_of c g) g w y) (sym (q ∙ ap (λ t. if t then its else c.sessions home) (self-test home)))
+            (λ z q. subst (λ y. Tied (stage_of c g) g w y) (sym (q ∙ ap (λ t. if t then its else c.sessions home) (eqb-self home)))
             (record { live = (k.tied g).live; closing = (k.tied g).closing; awaits = λ r h n. runs-it; busy = λ r h. (ap is_said runs-it.0, runs-it.1); waits = λ o h. absurd (clashes o h) }))
             is-its.0 (record { stands = λ o. (inl runs-it.0, refl); free = λ o n. runs-it.0 }) (queue-stays c.locks.waits g w.waiting b.queues1.here))
             (past-work w)
@@ -176,9 +179,6 @@ module _ (c : Coord) (before : List Mark) (k : Kept c) (p : Past c before) (g : 
           where
             same-command : (r : Command) → Some (with_done m i count part) ≡ Some r → r.awaited ≡ without i m.awaited
             same-command r h = ap (λ (q : Command). q.awaited) (sym (some-same (with_done m i count part) r h))
-              where
-                some-same : (a b : Command) → Some a ≡ Some b → a ≡ b
-                some-same a b e = (cc)
 
         inside : is_open_in its.state.block ≡ true → Good before (answers c1 (gx g) (work_of c1 (gx g)))
         inside opened = answers-good c c1 g home w its Live k b before (past-work w) refl opened runs-it.1 (c1.works g) (ap (λ (q : Work). q.session.0) work-now) refl (ap (λ (q : Work). q.waiting) work-now ∙ unqueued)
@@ -191,7 +191,7 @@ module _ (c : Coord) (before : List Mark) (k : Kept c) (p : Past c before) (g : 
             not-failed : (b : Block) (q : Pending) → b ≡ Failed → is_live_in b q ≡ true → ⊥
             not-failed b q e f = grind arith
 
-        by_left : (left : List Node) → without i m.awaited ≡ left → Good before (goes_on c1 (gx g) left)
+        by_left : (and-first : List Node) → without i m.awaited ≡ and-first → Good before (goes_on c1 (gx g) and-first)
         by_left [] e = by_block _ (ap (λ (q : Work). (c.sessions q.session.0).state.block) (sym work-now)) e
         by_left (x ∷ xs) e = goes (x ∷ xs) e x xs refl
 
@@ -202,16 +202,12 @@ module _ (c : Coord) (before : List Mark) (k : Kept c) (p : Past c before) (g : 
         waits : (q : Pending) → is_working_in q ≡ true → is_nothing_in q ≡ false
         waits q e = grind arith
 
-  both_of : (a b : Bool) → (a && b) ≡ true → (a ≡ true) × (b ≡ true)
-  both_of true b e = (refl, e)
-  both_of false b e = grind arith
-
   on-done-good : (i : Node) (cid : Cid) (wrote : Bool) (count : ℕ) (part : Part) (m : Option Command) → (c.works g).command ≡ m → Good before (on_done c (gx g) i cid wrote count part m)
   on-done-good i cid wrote count part None e = rest-good c before k p
   on-done-good i cid wrote count part (Some m) e = by_test (is_awaited m i cid && fits_part m.stmt part) refl
     where
       by_test : (b : Bool) → (is_awaited m i cid && fits_part m.stmt part) ≡ b → Good before (if b then takes_done c (gx g) i wrote count part m else rests c)
-      by_test true f = done-good m e i (both_of _ _ (both_of _ _ f).0).1 wrote count part
+      by_test true f = done-good m e i (and_parts _ _ (and_parts _ _ f).0).1 wrote count part
       by_test false f = rest-good c before k p
 
   on-failed-good : (i : Node) (cid : Cid) (cause : Cause) (m : Option Command) → (c.works g).command ≡ m → Good before (on_failed c (gx g) i cid cause m)
@@ -219,7 +215,7 @@ module _ (c : Coord) (before : List Mark) (k : Kept c) (p : Past c before) (g : 
   on-failed-good i cid cause (Some m) e = by_test (is_awaited m i cid) refl
     where
       by_test : (b : Bool) → is_awaited m i cid ≡ b → Good before (if b then is_refused c (gx g) (on_abort c.table (gx g)) [] (reason_of cause) else rests c)
-      by_test true f = failed-good m e i (both_of _ _ f).1 cause
+      by_test true f = failed-good m e i (and_parts _ _ f).1 cause
       by_test false f = rest-good c before k p
 
   -- STATUSES
@@ -311,11 +307,8 @@ module _ (script : Script) (c : Coord) (before : List Mark) (k : Kept c) (p : Pa
   again-good i (Some m) = let x = rest-good c before k p in record { kept = k; past = x.past; seen = tt }
 
   idle-first : (s : SessionId) (b : Bool) → (is_idle (session_of c s) && b) ≡ true → is_nothing_in (session_of c s).state.pending ≡ true
-  idle-first s b e = by_pending (session_of c s).state.pending (left (is_nothing (session_of c s).state.pending) b e)
+  idle-first s b e = by_pending (session_of c s).state.pending (and-first (is_nothing (session_of c s).state.pending) b e)
     where
-      left : (a b : Bool) → (a && b) ≡ true → a ≡ true
-      left a b e = grind arith
-
       by_pending : (q : Pending) → is_nothing q ≡ true → is_nothing_in q ≡ true
       by_pending q e = grind arith
 

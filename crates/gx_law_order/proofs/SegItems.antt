@@ -4,6 +4,7 @@ use Rattle.std.proofs.lemmas.Bool.{eqb-true}
 use Rattle.std.proofs.lemmas.Bool.Decides.{nat_tests}
 use Rattle.std.proofs.lemmas.List.{append_assoc}
 use Rattle.std.specs.Prelude.{filter, fold, length, map}
+use Rattle.gx_lemmas.proofs.Tests.{or-assoc}
 use Rattle.gx_ids.specs.declared.ids.Cid.{Cid}
 use Rattle.gx_ids.specs.declared.ids.Gxid.{Gxid}
 use Rattle.gx_ids.specs.declared.ids.Node.{Node}
@@ -84,11 +85,7 @@ kept-is node g k (m ∷ ms) = kept-is node g k ms
 
 pub prepared-append : (xs ys : List Mark) (node : Node) (g : Gxid) → is_prepared (xs ++ ys) node g ≡ is_prepared xs node g || is_prepared ys node g
 prepared-append [] ys node g = refl
-prepared-append (mark.Prepared n h ∷ xs) ys node g = ap (λ b. (is_same_node n node && is_same_gxid h g) || b) (prepared-append xs ys node g) ∙ or-or (is_same_node n node && is_same_gxid h g) (is_prepared xs node g) (is_prepared ys node g)
-  where
-    or-or : (a b c : Bool) → (a || (b || c)) ≡ ((a || b) || c)
-    or-or true b c = refl
-    or-or false b c = refl
+prepared-append (mark.Prepared n h ∷ xs) ys node g = ap (λ b. (is_same_node n node && is_same_gxid h g) || b) (prepared-append xs ys node g) ∙ or-assoc (is_same_node n node && is_same_gxid h g) (is_prepared xs node g) (is_prepared ys node g)
 prepared-append (m ∷ xs) ys node g = prepared-append xs ys node g
 
 pub items-append : (node : Node) (before xs ys : List Mark) → items_from node before (xs ++ ys) ≡ items_from node before xs ++ items_from node (before ++ xs) ys

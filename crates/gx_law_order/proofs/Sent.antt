@@ -3,6 +3,7 @@ use Rattle.std.proofs.Common.{◌≡◌, ℕ, suc, ◌+◌, List, [], ◌∷◌,
 use Rattle.std.proofs.lemmas.Bool.Decides.{nat_tests}
 use Rattle.std.proofs.lemmas.List.{append_assoc}
 use Rattle.std.specs.Prelude.{length}
+use Rattle.gx_lemmas.proofs.Numbers.{none-plus}
 use Rattle.gx_ids.specs.declared.ids.Node.{Node}
 use Rattle.gx_msg.specs.declared.message.Out.{Out}
 use Rattle.gx_script.specs.declared.Script.{Script}
@@ -64,10 +65,7 @@ all-counted f (o ∷ outs) e = one o (f o.node.0 + 1) (numbered (counted f o) ou
 
 -- what a turn's marks have sent
 pub count-both : (script : Script) (node to : Node) (ms ns : List Mark) → Each (PlainAt script node) ms → sent_count to (ms ++ ns) ≡ sent_count to ns
-count-both script node to ms ns e = sent_count-append to ms ns ∙ ap (λ x. x + sent_count to ns) (plain-count script node to ms e) ∙ zero-plus (sent_count to ns)
-  where
-    zero-plus : (k : ℕ) → 0 + k ≡ k
-    zero-plus k = omega arith
+count-both script node to ms ns e = sent_count-append to ms ns ∙ ap (λ x. x + sent_count to ns) (plain-count script node to ms e) ∙ none-plus (sent_count to ns)
 
 -- a step more
 pub sent_in-last : (from to : Node) (steps : List Step) (s : Step) → sent_in from to (steps ++ s ∷ []) ≡ sent_in from to steps + (if is_same_node s.stamp.node from then sent_count to s.marks else 0)

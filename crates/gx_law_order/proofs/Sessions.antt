@@ -2,6 +2,7 @@
 use Rattle.std.proofs.Common.{◌≡◌, ◌⊎◌, inl, inr, ℕ, [], Option, Some, None, Bool, true, false, refl, sym, subst, ap, ◌∙◌, if◌then◌else◌, arith, eqb}
 use Rattle.std.proofs.lemmas.Bool.{eqb-true}
 use Rattle.std.proofs.lemmas.Bool.Decides.{nat_tests}
+use Rattle.gx_lemmas.proofs.Numbers.{eqb-of}
 use Rattle.gx_ids.specs.declared.ids.Gxid.{Gxid}
 use Rattle.gx_script.specs.declared.state.Block.{Block}
 use Rattle.gx_script.specs.declared.state.Block.TheVariants.{Outside, Open}
@@ -165,14 +166,11 @@ module _ (c d : Coord) (g s : ℕ) (now : Option Txn) (w : Work) (x : Session) (
       record {
         whole = ch.whole;
         tied = tied-here new (λ h e. others h e (eqb (c.works h).session.0 s) refl);
-        placed = placed-here (subst (λ b. Placed s x (if b then stage now else stage_of c x.transaction.0) (if b then w else c.works x.transaction.0)) (sym (is-same x.transaction.0 g same_txn)) newp)
+        placed = placed-here (subst (λ b. Placed s x (if b then stage now else stage_of c x.transaction.0) (if b then w else c.works x.transaction.0)) (sym (eqb-of x.transaction.0 g same_txn)) newp)
             (λ j e. elsewhere j e (eqb (c.sessions j).transaction.0 g) refl);
         queued = queued-here;
       }
     where
-      is-same : (a b : ℕ) → a ≡ b → eqb a b ≡ true
-      is-same a b e = grind (arith, nat_tests)
-
       others : (h : ℕ) → eqb h g ≡ false → (b : Bool) → eqb (c.works h).session.0 s ≡ b → Tied (stage_of c h) h (c.works h) (if b then x else c.sessions (c.works h).session.0)
       others h e true q = other-tied (stage_of c h) h g (c.works h) (c.sessions (c.works h).session.0) x (k.tied h) (ap (λ i. (c.sessions i).transaction.0) (eqb-true (c.works h).session.0 s q) ∙ mine) e
       others h e false q = k.tied h
@@ -194,14 +192,11 @@ module _ (c d : Coord) (g s : ℕ) (now : Option Txn) (w : Work) (x : Session) (
       record {
         whole = ch.whole;
         tied = tied-here new (λ h e. others h (eqb (c.works h).session.0 s) refl);
-        placed = placed-here (subst (λ b. Placed s x (if b then stage now else stage_of c x.transaction.0) (if b then w else c.works x.transaction.0)) (sym (is-same x.transaction.0 g same_txn)) newp)
+        placed = placed-here (subst (λ b. Placed s x (if b then stage now else stage_of c x.transaction.0) (if b then w else c.works x.transaction.0)) (sym (eqb-of x.transaction.0 g same_txn)) newp)
             (λ j e. elsewhere j (eqb (c.sessions j).transaction.0 g) refl);
         queued = queued-here;
       }
     where
-      is-same : (a b : ℕ) → a ≡ b → eqb a b ≡ true
-      is-same a b e = grind (arith, nat_tests)
-
       others : (h : ℕ) (b : Bool) → eqb (c.works h).session.0 s ≡ b → Tied (stage_of c h) h (c.works h) (if b then x else c.sessions (c.works h).session.0)
       others h true q = idle-tied (stage_of c h) h (c.works h) (c.sessions (c.works h).session.0) x (k.tied h) (ap (λ i. (c.sessions i).state.block) (eqb-true (c.works h).session.0 s q) ∙ outside) (ap (λ i. (c.sessions i).state.pending) (eqb-true (c.works h).session.0 s q) ∙ idle)
       others h false q = k.tied h

@@ -1,6 +1,8 @@
 -- Slices that wait at a segment: where each came from, and how its transaction stands there meanwhile.
 use Rattle.std.proofs.Common.{◌≡◌, ◌≤◌, ◌⊎◌, inl, inr, ℕ, zero, suc, List, [], ◌∷◌, ◌++◌, Option, Some, None, Bool, true, false, refl, sym, subst, ap, ◌∙◌, arith, length}
 use Rattle.std.specs.Prelude.{cond, filter, find, is_some, slice_get, take}
+use Rattle.gx_lemmas.proofs.Lists.{get-append}
+use Rattle.gx_lemmas.proofs.Numbers.{one-le-zero}
 use Rattle.gx_ids.specs.declared.ids.Gxid.{Gxid}
 use Rattle.gx_ids.specs.declared.ids.Node.{Node}
 use Rattle.gx_waits.specs.declared.claim.Claim.{Claim}
@@ -23,7 +25,7 @@ use Rattle.gx_rules.specs.Segments.{Local, Phase, Seg, Suspended, local_of}
 use Rattle.gx_rules.specs.Segments.Phase.{Reading, Writing}
 use Rattle.gx_rules.specs.Slices.{slice_lock}
 use Rattle.gx_law_order.proofs.Letters.{IsFound, IsLetter}
-use Rattle.gx_law_order.proofs.Lists.{Each, get_kept, get_last}
+use Rattle.gx_law_order.proofs.Lists.{Each, get_last}
 use Rattle.gx_law_order.proofs.Sent.{at}
 use Rattle.gx_law_order.proofs.Stages.{gx}
 
@@ -91,7 +93,7 @@ come-later w v i s m e more h =
       told = h.told;
       place = h.place;
       step = h.step;
-      stands = subst (λ ss. slice_get ss h.place ≡ Some h.step) (sym e) (get_kept w.steps (s ∷ []) h.place h.step h.stands);
+      stands = subst (λ ss. slice_get ss h.place ≡ Some h.step) (sym e) (get-append w.steps (s ∷ []) h.place h.step h.stands);
       node = h.node;
       received = subst (λ ss. Receives ss h.step.event the_coordinator (at i) m) (sym (ap (take h.place) e ∙ take-kept w.steps (s ∷ []) h.place h.step h.stands)) h.received;
     }
@@ -122,10 +124,7 @@ module _ (script : Script) (w v : World) (i : ℕ) (one : 1 ≤ i) (s : Step) (f
 
       source : IsLink script f.letter.from f.letter.to → f.letter.from ≡ the_coordinator
       source (inl l) = l.0
-      source (inr l) = absurd (none i one (ap (λ (a : Node). a.0) (sym f.target ∙ l.1)))
-        where
-          none : (i : ℕ) → 1 ≤ i → i ≡ 0 → ⊥
-          none i one e = omega arith
+      source (inr l) = absurd (one-le-zero i one (ap (λ (a : Node). a.0) (sym f.target ∙ l.1)))
 
       sent : IsSent w.steps the_coordinator (at i) number envelope.message
       sent =

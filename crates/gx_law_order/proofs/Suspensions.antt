@@ -3,6 +3,8 @@ use Rattle.std.proofs.Common.{◌≡◌, ◌≤◌, ℕ, List, [], ◌∷◌, �
 use Rattle.std.proofs.lemmas.Bool.{eqb-true}
 use Rattle.std.proofs.lemmas.Bool.Decides.{nat_tests}
 use Rattle.std.specs.Prelude.{cond, filter, fold, is_some}
+use Rattle.gx_lemmas.proofs.Options.{some-same}
+use Rattle.gx_lemmas.proofs.Numbers.{eqb-self, eqb-turned}
 use Rattle.gx_ids.specs.declared.ids.Cid.{Cid}
 use Rattle.gx_ids.specs.declared.ids.Gxid.{Gxid}
 use Rattle.gx_ids.specs.declared.ids.Table.{Table}
@@ -154,10 +156,7 @@ module _ (script : Script) (Come : Message → Type 0) where
       record { each = a.each; own = a.own }
 
   self : (s : Seg) (g : Gxid) (l : Local) → (with_local s g l).locals g.0 ≡ l
-  self s g l = ap (λ b. if b then l else s.locals g.0) (same g.0)
-    where
-      same : (n : ℕ) → eqb n n ≡ true
-      same n = grind (arith, nat_tests)
+  self s g l = ap (λ b. if b then l else s.locals g.0) (eqb-self g.0)
 
   -- slices
   select : (t : Seg) (g : Gxid) (c : Cid) (q : Query) (rows : List KeyedRow) (f : Option (KeyedRow × ArithFault)) → Rightly t → (local_of t g).suspended ≡ None → Keeps (selects t g c q rows f)
@@ -187,9 +186,6 @@ module _ (script : Script) (Come : Message → Type 0) where
       positive : (a b : ℕ) → nat_lt a b ≡ true → 1 ≤ b
       positive a b e = grind (arith, nat_tests)
 
-      some-same : (a b : Suspended) → Some a ≡ Some b → a ≡ b
-      some-same a b e = cc
-
       suits : Suits script Come t.horizon g.0 l
       suits y e =
           subst (Stands script Come t.horizon g l) (some-same _ y e)
@@ -198,23 +194,17 @@ module _ (script : Script) (Come : Message → Type 0) where
       owner : wanted.gxid ≡ g
       owner = lock-owner g x wanted is
 
-      eqb-self : (n : ℕ) → eqb n n ≡ true
-      eqb-self n = grind (arith, nat_tests)
-
       own : filter (is_of g) (t.locks.waits ++ wanted ∷ []) ≡ one_claim (slice_lock g x)
       own =
           filter-more (is_of g) t.locks.waits wanted true (ap (λ (q : Gxid). eqb q.0 g.0) owner ∙ eqb-self g.0)
           ∙ ap (λ q. q ++ wanted ∷ []) (k.own g.0 ∙ ap (claims_of g) (fits.rests new)) ∙ sym (ap one_claim is)
-
-      turned : (a b : ℕ) → eqb a b ≡ false → eqb b a ≡ false
-      turned a b e = grind (arith, nat_tests)
 
       nil-end : (xs : List Claim) → xs ++ [] ≡ xs
       nil-end [] = refl
       nil-end (y ∷ ys) = ap (λ q. y ∷ q) (nil-end ys)
 
       others : (i : ℕ) → eqb i g.0 ≡ false → filter (is_of (gx i)) (t.locks.waits ++ wanted ∷ []) ≡ filter (is_of (gx i)) t.locks.waits
-      others i n = filter-more (is_of (gx i)) t.locks.waits wanted false (ap (λ (q : Gxid). eqb q.0 i) owner ∙ turned i g.0 n) ∙ nil-end (filter (is_of (gx i)) t.locks.waits)
+      others i n = filter-more (is_of (gx i)) t.locks.waits wanted false (ap (λ (q : Gxid). eqb q.0 i) owner ∙ eqb-turned i g.0 n) ∙ nil-end (filter (is_of (gx i)) t.locks.waits)
 
   start : (t : Seg) (g : Gxid) (c : Cid) (level : Level) (snapshot : Option Snapshot) (h : Gxid) (x : Slice) (o : Option Claim) → Rightly t → Come (message.Exec g c level snapshot h x) → h.0 ≤ t.horizon.0 → FitsNew script g c snapshot x (local_of t g) → nat_lt (local_of t g).last c.0 ≡ true → is_open_phase (local_of t g).phase ≡ true → slice_lock g x ≡ o → Keeps (requests t g c level snapshot x o)
   start t g c level snapshot h x None k come up fits new opens is = slice_runs t g c snapshot x k (fits.rests new)

@@ -2,6 +2,8 @@
 use Rattle.std.proofs.Common.{◌≡◌, ◌≤◌, ◌<◌, ◌⊎◌, inl, inr, ℕ, List, [], ◌∷◌, ◌++◌, Option, None, Bool, true, false, refl, sym, subst, ap, ◌∙◌, if◌then◌else◌, ◌||◌, arith, eqb}
 use Rattle.std.proofs.lemmas.Bool.{eqb-true}
 use Rattle.std.proofs.lemmas.Bool.Decides.{nat_tests}
+use Rattle.gx_lemmas.proofs.Tests.{true-false}
+use Rattle.gx_lemmas.proofs.Numbers.{eqb-self}
 use Rattle.gx_ids.specs.declared.ids.Gxid.{Gxid}
 use Rattle.gx_dtx.specs.Rules.{Turn, ends, with_ended}
 use Rattle.gx_dtx.specs.Table.{Table, find_txn}
@@ -53,9 +55,6 @@ pub record Base (c c1 : Coord) (g s : ℕ) (w1 : Work) (y : Session) (said : Sta
   pub home1 : w1.session.0 ≡ s
   pub queues1 : Queues c.locks.waits c1.locks.waits g w1.waiting
 
-pub self-test : (a : ℕ) → eqb a a ≡ true
-self-test a = grind (arith, nat_tests)
-
 pub merged : {A : Type 0} (b : Bool) (x y z v : A) → v ≡ (if b then y else z) → (if b then x else v) ≡ (if b then x else z)
 merged true x y z v e = refl
 merged false x y z v e = e
@@ -70,10 +69,7 @@ tied-none a g x e = record { live = λ l. absurd (no-live a e l); closing = λ l
     no-closing a e l = grind arith
 
 pub not-open : (s : ℕ) (x : Session) (a : Stage) (w : Work) → is_open_in x.state.block ≡ false → Placed s x a w
-not-open s x a w e = record { stands = λ o. absurd (clash (is_open_in x.state.block) o e); free = λ o n. absurd (clash (is_open_in x.state.block) o e) }
-  where
-    clash : (b : Bool) → b ≡ true → b ≡ false → ⊥
-    clash b e f = grind arith
+not-open s x a w e = record { stands = λ o. absurd (true-false (is_open_in x.state.block) o e); free = λ o n. absurd (true-false (is_open_in x.state.block) o e) }
 
 -- marks of one end
 commit-elsewhere : (g : ℕ) (ns : List Mark) → Each Still ns → (h : ℕ) → eqb h g ≡ false → is_committed (mark.Commit (gx g) ∷ ns) (gx h) ≡ false
@@ -83,10 +79,10 @@ commit-elsewhere g ns e h n = ap (λ b. eqb g h || b) (still-committed ns (gx h)
     apart g h n = grind (arith, nat_tests)
 
 commit-here : (g : ℕ) (ns : List Mark) → is_committed (mark.Commit (gx g) ∷ ns) (gx g) ≡ true
-commit-here g ns = ap (λ b. b || is_committed ns (gx g)) (self-test g)
+commit-here g ns = ap (λ b. b || is_committed ns (gx g)) (eqb-self g)
 
 abort-here : (g : ℕ) (why ns : List Mark) → is_aborted (why ++ mark.Abort (gx g) ∷ ns) (gx g) ≡ true
-abort-here g why ns = aborted-append why (mark.Abort (gx g) ∷ ns) (gx g) ∙ or-true (is_aborted why (gx g)) (ap (λ b. b || is_aborted ns (gx g)) (self-test g))
+abort-here g why ns = aborted-append why (mark.Abort (gx g) ∷ ns) (gx g) ∙ or-true (is_aborted why (gx g)) (ap (λ b. b || is_aborted ns (gx g)) (eqb-self g))
   where
     or-true : (a : Bool) {b : Bool} → b ≡ true → (a || b) ≡ true
     or-true true e = refl
@@ -100,16 +96,16 @@ abort-seen before why ns g e f = seen-append before why (mark.Abort g ∷ ns) (s
 
 module _ (c c1 : Coord) (g s : ℕ) (w1 : Work) (y : Session) (said : Stage) (k : Kept c) (b : Base c c1 g s w1 y said) where
   pub work-is : c1.works g ≡ w1
-  work-is = b.works1 g ∙ ap (λ q. if q then w1 else c.works g) (self-test g)
+  work-is = b.works1 g ∙ ap (λ q. if q then w1 else c.works g) (eqb-self g)
 
   pub home-is : (c1.works g).session.0 ≡ s
   home-is = ap (λ (w : Work). w.session.0) work-is ∙ b.home1
 
   pub y-is : c1.sessions s ≡ y
-  y-is = b.sessions1 s ∙ ap (λ q. if q then y else c.sessions s) (self-test s)
+  y-is = b.sessions1 s ∙ ap (λ q. if q then y else c.sessions s) (eqb-self s)
 
   pub stage-is : stage_of c1 g ≡ said
-  stage-is = ap stage (b.finds1 g ∙ ap (λ q. if q then b.now1 else find_txn c.table (gx g)) (self-test g)) ∙ b.stage1
+  stage-is = ap stage (b.finds1 g ∙ ap (λ q. if q then b.now1 else find_txn c.table (gx g)) (eqb-self g)) ∙ b.stage1
 
   pub session-set : (f : Session → Session) (j : ℕ) → with_at c1.sessions (c1.works g).session.0 (f (c1.sessions (c1.works g).session.0)) j ≡ (if eqb j s then f y else c1.sessions j)
   session-set f j =

@@ -3,6 +3,7 @@
 use Rattle.std.proofs.Common.{◌≡◌, ℕ, [], ◌∷◌, Option, Some, None, Bool, true, false, refl, sym, ap, ◌∙◌, ◌&&◌, ◌≤◌, ◌⊎◌, inl, inr, List, subst, not, nat_lt, arith}
 use Rattle.std.specs.Prelude.{filter, slice_get, is_some, take}
 use Rattle.std.proofs.lemmas.Bool.Decides.{nat_tests}
+use Rattle.gx_lemmas.proofs.Tests.{and-second}
 use Rattle.gx_ids.specs.declared.ids.Gxid.{Gxid}
 use Rattle.gx_tree.specs.declared.stmt.Stmt.{Stmt}
 use Rattle.gx_waits.specs.declared.claim.Claim.{Claim}
@@ -99,14 +100,10 @@ no-slice script w good i g e = closed-rests script (HasCome w i) (w.segs i).hori
 
 -- who is admitted to go on waits, and its lock is free
 pub going-on : (script : Script) (w : World) → Well script w → (i : ℕ) (g : Gxid) → seg_can script (w.segs i) (event.Resume g) ≡ true → GoesOn script w i g
-going-on script w good i g ok = by_wait (wait_of s.locks g) refl (ready (is_segment script s.node) (is_ready s.locks.holds (wait_of s.locks g)) ok)
+going-on script w good i g ok = by_wait (wait_of s.locks g) refl (and-second (is_segment script s.node) (is_ready s.locks.holds (wait_of s.locks g)) ok)
   where
     s : Seg
     s = w.segs i
-
-    ready : (a b : Bool) → (a && b) ≡ true → b ≡ true
-    ready true b e = e
-    ready false b e = absurd (cc)
 
     by_wait : (o : Option Claim) → wait_of s.locks g ≡ o → is_ready s.locks.holds o ≡ true → GoesOn script w i g
     by_wait None e f = absurd (cc)

@@ -2,6 +2,8 @@
 use Rattle.std.proofs.Common.{◌≡◌, ◌≤◌, ◌<◌, inl, inr, ℕ, List, [], ◌∷◌, ◌++◌, Option, Some, None, Bool, true, false, refl, sym, subst, ap, ◌∙◌, if◌then◌else◌, arith, append-nil}
 use Rattle.std.proofs.lemmas.Bool.Decides.{nat_tests}
 use Rattle.std.proofs.lemmas.List.{append_assoc}
+use Rattle.gx_lemmas.proofs.Tests.{false-true}
+use Rattle.gx_lemmas.proofs.Numbers.{one-le-zero}
 use Rattle.gx_ids.specs.declared.ids.Node.{Node}
 use Rattle.gx_msg.specs.declared.message.Envelope.{Envelope}
 use Rattle.gx_msg.specs.declared.message.Out.{Out}
@@ -53,24 +55,15 @@ segment-still script i one [] e = tt
 segment-still script i one (mark.Commit g ∷ ms) e = absurd (not-zero e.0)
   where
     not-zero : at i ≡ the_coordinator → ⊥
-    not-zero q = zero-one i one (ap (λ (n : Node). n.0) q)
-      where
-        zero-one : (i : ℕ) → 1 ≤ i → i ≡ 0 → ⊥
-        zero-one i l e = omega arith
+    not-zero q = one-le-zero i one (ap (λ (n : Node). n.0) q)
 segment-still script i one (mark.Abort g ∷ ms) e = absurd (not-zero e.0)
   where
     not-zero : at i ≡ the_coordinator → ⊥
-    not-zero q = zero-one i one (ap (λ (n : Node). n.0) q)
-      where
-        zero-one : (i : ℕ) → 1 ≤ i → i ≡ 0 → ⊥
-        zero-one i l e = omega arith
+    not-zero q = one-le-zero i one (ap (λ (n : Node). n.0) q)
 segment-still script i one (mark.Snap g c x ∷ ms) e = absurd (not-zero e.0)
   where
     not-zero : at i ≡ the_coordinator → ⊥
-    not-zero q = zero-one i one (ap (λ (n : Node). n.0) q)
-      where
-        zero-one : (i : ℕ) → 1 ≤ i → i ≡ 0 → ⊥
-        zero-one i l e = omega arith
+    not-zero q = one-le-zero i one (ap (λ (n : Node). n.0) q)
 segment-still script i one (m ∷ ms) e = (tt, segment-still script i one ms e.1)
 
 -- ONE STEP
@@ -169,10 +162,10 @@ module _ (script : Script) where
           kept = record {
             whole = record { first = one; apart = tt; drawn = tt };
             tied = λ g. record { live = λ l. absurd (cc); closing = λ l. absurd (cc); awaits = λ m f r. absurd (cc); busy = λ m f. absurd (cc); waits = λ l f. absurd (cc) };
-            placed = λ s. record { stands = λ o. absurd (closed o); free = λ o n. absurd (closed o) };
+            placed = λ s. record { stands = λ o. absurd (false-true o); free = λ o n. absurd (false-true o) };
             queued = λ g. record { claims = refl; locks = λ l f. absurd (cc) };
           };
-          past = record { committed = λ h e. absurd (closed e); ended = λ h x y z. absurd (none h x y); dropped = λ h e. absurd (cc); latest = λ h x y z. absurd (none h x y); drawn = first };
+          past = record { committed = λ h e. absurd (false-true e); ended = λ h x y z. absurd (none h x y); dropped = λ h e. absurd (cc); latest = λ h x y z. absurd (none h x y); drawn = first };
           seen = tt;
         }
       where
@@ -184,9 +177,6 @@ module _ (script : Script) where
 
         none : (h : ℕ) → 1 ≤ h → h < 1 → ⊥
         none h x y = omega arith
-
-        closed : false ≡ true → ⊥
-        closed e = cc
 
     pub world_knows : (es : List (Event × Bool)) → Knows script (world_of script es)
     world_knows es = after_knows es new_world new_knows

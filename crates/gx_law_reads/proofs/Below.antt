@@ -2,6 +2,9 @@
 use Rattle.std.proofs.Common.{◌≡◌, ◌⊎◌, inl, inr, ◌≤◌, ◌<◌, ℕ, List, [], ◌∷◌, Option, Some, None, Bool, true, false, refl, sym, subst, ap, ◌∙◌, if◌then◌else◌, ◌||◌, ltb, arith}
 use Rattle.std.proofs.lemmas.Bool.Decides.{nat_tests}
 use Rattle.std.specs.Prelude.{nat_le}
+use Rattle.std.proofs.lemmas.Bool.{both_ways}
+use Rattle.gx_lemmas.proofs.Tests.{false-true}
+use Rattle.gx_lemmas.proofs.Numbers.{lt-le}
 use Rattle.gx_ids.specs.declared.ids.Cid.{Cid}
 use Rattle.gx_ids.specs.declared.ids.Gxid.{Gxid}
 use Rattle.gx_ids.specs.declared.ids.Node.{Node}
@@ -51,12 +54,6 @@ module _ (script : Script) (w : World) (k : Knows script w) (v : Holds script w)
   runs-still : (i : ℕ) (g : Gxid) (c : Cid) → IsCommand (known_at w.coord (marks_in w.steps) i g.0) (parts_in w i g.0) c.0 → 1 ≤ g.0 → (is_committed (marks_in w.steps) (gx g.0) ≡ true → c.0 ≤ ((w.segs i).locals g.0).last) → is_aborted (marks_in w.steps) g ≡ false → ((w.segs i).locals g.0).last < c.0 → stage (find_txn w.coord.table (gx g.0)) ≡ Running
   runs-still i g c s one taken unaborted new = by_stage (stage (find_txn w.coord.table (gx g.0))) refl
     where
-      over : (a b : ℕ) → a < b → b ≤ a → ⊥
-      over a b l m = omega arith
-
-      clash : (b : Bool) → b ≡ false → b ≡ true → ⊥
-      clash b e f = grind arith
-
       left : (a b : Bool) → b ≡ false → (a || b) ≡ true → a ≡ true
       left a b e f = grind arith
 
@@ -64,14 +61,14 @@ module _ (script : Script) (w : World) (k : Knows script w) (v : Holds script w)
       drawn = drawn-is script w k g.0 i s.drawn
 
       over-now : is_running (stage_of w.coord g.0) ≡ false → ⊥
-      over-now e = over ((w.segs i).locals g.0).last c.0 new (taken (left (is_committed (marks_in w.steps) g) (is_aborted (marks_in w.steps) g) unaborted (k.past.ended g.0 one drawn e)))
+      over-now e = lt-le ((w.segs i).locals g.0).last c.0 new (taken (left (is_committed (marks_in w.steps) g) (is_aborted (marks_in w.steps) g) unaborted (k.past.ended g.0 one drawn e)))
 
       by_stage : (a : Stage) → stage (find_txn w.coord.table (gx g.0)) ≡ a → a ≡ Running
       by_stage Running e = refl
-      by_stage Closing e = absurd (over ((w.segs i).locals g.0).last c.0 new (closing-taken script w k v q g.0 e i c.0 s))
+      by_stage Closing e = absurd (lt-le ((w.segs i).locals g.0).last c.0 new (closing-taken script w k v q g.0 e i c.0 s))
       by_stage Finished e = absurd (over-now (ap is_running e))
       by_stage Absent e = absurd (over-now (ap is_running e))
-      by_stage Dropped e = absurd (clash (is_aborted (marks_in w.steps) g) unaborted (k.past.dropped g.0 e))
+      by_stage Dropped e = absurd (both_ways (is_aborted (marks_in w.steps) g) unaborted (k.past.dropped g.0 e))
 
   -- its commands run, and this one is under way
   record IsUnderWay (g : ℕ) (c : Cid) : Type 0 where
@@ -87,11 +84,8 @@ module _ (script : Script) (w : World) (k : Knows script w) (v : Holds script w)
     standing-is : kn.at ≡ Live
     standing-is = live-standing script w k g.0 i live (nat_le w.coord.table.next.0 g.0)
 
-    over : (a b : ℕ) → a < b → b ≤ a → ⊥
-    over a b l m = omega arith
-
     is-last : c.0 ≡ (w.coord.works g.0).last
-    is-last = equal c.0 (w.coord.works g.0).last (s.last standing-is) (λ l. over ((w.segs i).locals g.0).last c.0 new (s.older standing-is l))
+    is-last = equal c.0 (w.coord.works g.0).last (s.last standing-is) (λ l. lt-le ((w.segs i).locals g.0).last c.0 new (s.older standing-is l))
       where
         equal : (a b : ℕ) → a ≤ b → (a < b → ⊥) → a ≡ b
         equal a b l n = by_test (ltb a b) refl
@@ -108,7 +102,7 @@ module _ (script : Script) (w : World) (k : Knows script w) (v : Holds script w)
 
     -- and its command is under way
     under-way : (m : Option Command) → (w.coord.works g.0).command ≡ m → IsUnderWay g.0 c
-    under-way None e = absurd (over ((w.segs i).locals g.0).last c.0 new (s.taken standing-is (ap (λ o. waits_in o i) e)))
+    under-way None e = absurd (lt-le ((w.segs i).locals g.0).last c.0 new (s.taken standing-is (ap (λ o. waits_in o i) e)))
     under-way (Some z) e = record { live = live; command = z; is = e; numbered = (subst (CommandOf g.0 (w.coord.works g.0).last) e (v.stands.works g.0).command).0 ∙ sym is-last }
 
   -- so is that of a slice that waits
@@ -123,10 +117,7 @@ module _ (script : Script) (w : World) (k : Knows script w) (v : Holds script w)
 
     is-live : ((known_at w.coord (marks_in w.steps) i g.0).at ≡ Live) ⊎ (is_aborted (marks_in w.steps) g ≡ true) → (known_at w.coord (marks_in w.steps) i g.0).at ≡ Live
     is-live (inl l) = l
-    is-live (inr a) = absurd (clash (is_aborted (marks_in w.steps) g) unaborted a)
-      where
-        clash : (b : Bool) → b ≡ false → b ≡ true → ⊥
-        clash b e f = grind arith
+    is-live (inr a) = absurd (both_ways (is_aborted (marks_in w.steps) g) unaborted a)
 
     waits-way : (x : Suspended) → ((w.segs i).locals g.0).suspended ≡ Some x → x.cid.0 ≡ c.0 → IsUnderWay g.0 c
     waits-way x e same = by_command (w.coord.works g.0).command refl
@@ -138,10 +129,7 @@ module _ (script : Script) (w : World) (k : Knows script w) (v : Holds script w)
         live = is-live z.stands
 
         none : (o : Option Command) → o ≡ None → waits_in o i ≡ true → ⊥
-        none o e f = differ (sym (ap (λ o. waits_in o i) e) ∙ f)
-          where
-            differ : false ≡ true → ⊥
-            differ e = cc
+        none o e f = false-true (sym (ap (λ o. waits_in o i) e) ∙ f)
 
         by_command : (m : Option Command) → (w.coord.works g.0).command ≡ m → IsUnderWay g.0 c
         by_command None f = absurd (none (w.coord.works g.0).command f (z.waits live))

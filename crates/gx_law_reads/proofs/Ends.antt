@@ -3,6 +3,8 @@ use Rattle.std.proofs.Common.{◌≡◌, ◌⊎◌, inl, inr, ◌≤◌, ◌<◌
 use Rattle.std.proofs.lemmas.Bool.{eqb-true}
 use Rattle.std.proofs.lemmas.Bool.Decides.{nat_tests}
 use Rattle.std.specs.Prelude.{nat_lt}
+use Rattle.gx_lemmas.proofs.Tests.{or-false}
+use Rattle.gx_lemmas.proofs.Numbers.{le-of, lt-le, lt-of, plus-none}
 use Rattle.gx_ids.specs.declared.ids.Cid.{Cid}
 use Rattle.gx_ids.specs.declared.ids.Gxid.{Gxid}
 use Rattle.gx_ids.specs.declared.ids.Node.{Node}
@@ -81,18 +83,11 @@ commits-once [] ms g i c = c.local (at i)
 commits-once (x ∷ []) ms g i c = c.local (at i)
 commits-once (x ∷ y ∷ ys) ms g i c = c.local (at i)
 
-plus-none : (n : ℕ) → n + 0 ≡ n
-plus-none n = omega arith
-
-or-none : (b : Bool) → (b || false) ≡ b
-or-none true = refl
-or-none false = refl
-
 one-local : (ms : List Mark) (m : Mark) (i g : ℕ) → NoPart m → local_count (ms ++ m ∷ []) (at i) (gx g) ≡ local_count ms (at i) (gx g)
 one-local ms m i g e = local-append ms (m ∷ []) (at i) (gx g) ∙ ap (λ n. local_count ms (at i) (gx g) + n) (no-local (m ∷ []) (at i) (gx g) (e, tt)) ∙ plus-none (local_count ms (at i) (gx g))
 
 one-writer : (ms : List Mark) (m : Mark) (i g : ℕ) → NoPart m → is_writer (ms ++ m ∷ []) (gx g) (at i) ≡ is_writer ms (gx g) (at i)
-one-writer ms m i g e = writer-append ms (m ∷ []) (gx g) (at i) ∙ ap (λ b. is_writer ms (gx g) (at i) || b) (no-writer (m ∷ []) (gx g) (at i) (e, tt)) ∙ or-none (is_writer ms (gx g) (at i))
+one-writer ms m i g e = writer-append ms (m ∷ []) (gx g) (at i) ∙ ap (λ b. is_writer ms (gx g) (at i) || b) (no-writer (m ∷ []) (gx g) (at i) (e, tt)) ∙ or-false (is_writer ms (gx g) (at i))
 
 module _ (script : Script) (i g : ℕ) where
   abbrev Once : List Mark → Type 0
@@ -174,7 +169,7 @@ module _ (script : Script) (w : World) (k : Knows script w) (v : Holds script w)
     no-part = each_append NoPart turn.marks sent (fol-no-part script ms turn.marks f.way.fol) (sent-no-part turn.coord.sent turn.outs)
 
     writer-is : (i g : ℕ) → is_writer new (gx g) (at i) ≡ is_writer ms (gx g) (at i)
-    writer-is i g = ap (λ z. is_writer z (gx g) (at i)) all ∙ writer-append ms (turn.marks ++ sent) (gx g) (at i) ∙ ap (λ b. is_writer ms (gx g) (at i) || b) (no-writer (turn.marks ++ sent) (gx g) (at i) no-part) ∙ or-none (is_writer ms (gx g) (at i))
+    writer-is i g = ap (λ z. is_writer z (gx g) (at i)) all ∙ writer-append ms (turn.marks ++ sent) (gx g) (at i) ∙ ap (λ b. is_writer ms (gx g) (at i) || b) (no-writer (turn.marks ++ sent) (gx g) (at i) no-part) ∙ or-false (is_writer ms (gx g) (at i))
 
     coord-ended : (i g : ℕ) → EndedAt next i g
     coord-ended i g = record { committed = λ t. by_old t (is_committed ms (gx g)) refl ∙ sym (writer-is i g); aborted = λ t. by_old2 t (is_aborted ms (gx g)) refl }
@@ -361,15 +356,15 @@ module _ (script : Script) (w : World) (q : Ends w) (e : Event) (x : NodeEvent) 
   no-ends = each_append NoEnd turn3.marks sent3 (each_weaker (NewMark w i g) NoEnd (new-no-end w i g) turn3.marks d.marks) (sent-no-end (λ node. turn3.seg.sent) turn3.outs)
 
   same-committed : (h : ℕ) → is_committed (marks_in late.steps) (gx h) ≡ is_committed ms3 (gx h)
-  same-committed h = ap (λ z. is_committed z (gx h)) all3 ∙ committed-append ms3 (turn3.marks ++ sent3) (gx h) ∙ ap (λ b. is_committed ms3 (gx h) || b) (no-committed (turn3.marks ++ sent3) (gx h) no-ends) ∙ or-none (is_committed ms3 (gx h))
+  same-committed h = ap (λ z. is_committed z (gx h)) all3 ∙ committed-append ms3 (turn3.marks ++ sent3) (gx h) ∙ ap (λ b. is_committed ms3 (gx h) || b) (no-committed (turn3.marks ++ sent3) (gx h) no-ends) ∙ or-false (is_committed ms3 (gx h))
 
   same-aborted : (h : ℕ) → is_aborted (marks_in late.steps) (gx h) ≡ is_aborted ms3 (gx h)
-  same-aborted h = ap (λ z. is_aborted z (gx h)) all3 ∙ aborted-append ms3 (turn3.marks ++ sent3) (gx h) ∙ ap (λ b. is_aborted ms3 (gx h) || b) (no-aborted (turn3.marks ++ sent3) (gx h) no-ends) ∙ or-none (is_aborted ms3 (gx h))
+  same-aborted h = ap (λ z. is_aborted z (gx h)) all3 ∙ aborted-append ms3 (turn3.marks ++ sent3) (gx h) ∙ ap (λ b. is_aborted ms3 (gx h) || b) (no-aborted (turn3.marks ++ sent3) (gx h) no-ends) ∙ or-false (is_aborted ms3 (gx h))
 
   writer-late : (j h : ℕ) → is_writer (marks_in late.steps) (gx h) (at j) ≡ is_writer ms3 (gx h) (at j) || is_writer turn3.marks (gx h) (at j)
   writer-late j h =
       ap (λ z. is_writer z (gx h) (at j)) all3 ∙ writer-append ms3 (turn3.marks ++ sent3) (gx h) (at j)
-      ∙ ap (λ b. is_writer ms3 (gx h) (at j) || b) (writer-append turn3.marks sent3 (gx h) (at j) ∙ ap (λ b. is_writer turn3.marks (gx h) (at j) || b) (no-writer sent3 (gx h) (at j) (sent-no-part (λ node. turn3.seg.sent) turn3.outs)) ∙ or-none (is_writer turn3.marks (gx h) (at j)))
+      ∙ ap (λ b. is_writer ms3 (gx h) (at j) || b) (writer-append turn3.marks sent3 (gx h) (at j) ∙ ap (λ b. is_writer turn3.marks (gx h) (at j) || b) (no-writer sent3 (gx h) (at j) (sent-no-part (λ node. turn3.seg.sent) turn3.outs)) ∙ or-false (is_writer turn3.marks (gx h) (at j)))
 
   -- what holds of a record that stays and of this one holds of all
   local-late : (R : ℕ → ℕ → Local → Local → Type 0) → ((j h : ℕ) (l : Local) → R j h l l) → R i g ((w.segs i).locals g) (turn3.seg.locals g) → (j h : ℕ) → R j h ((w.segs j).locals h) ((late.segs j).locals h)
@@ -404,7 +399,7 @@ module _ (script : Script) (w : World) (q : Ends w) (e : Event) (x : NodeEvent) 
   ended-late j h =
       record {
         committed = λ t. let c : is_committed ms3 (gx h) ≡ true = sym (same-committed h) ∙ t in
-            committed-still j h c ∙ (q.ended j h).committed c ∙ sym (writer-late j h ∙ ap (λ b. is_writer ms3 (gx h) (at j) || b) (no-writes j h c) ∙ or-none (is_writer ms3 (gx h) (at j)));
+            committed-still j h c ∙ (q.ended j h).committed c ∙ sym (writer-late j h ∙ ap (λ b. is_writer ms3 (gx h) (at j) || b) (no-writes j h c) ∙ or-false (is_writer ms3 (gx h) (at j)));
         aborted = λ t. let a : is_aborted ms3 (gx h) ≡ true = sym (same-aborted h) ∙ t in aborted-still j h a ∙ (q.ended j h).aborted a;
       }
 
@@ -522,13 +517,13 @@ module _ (script : Script) (w : World) (k : Knows script w) (v : Holds script w)
   none-new f (m ∷ ns) h = (tt, none-new f ns h.1)
 
   each-new : (c : Cid) → ((d : Cid) → IsExecOf envelope.message its d → d.0 ≡ c.0) → ((w.segs i).locals its).last ≤ c.0 → is_committed (marks_in w.steps) (gx its) ≡ false → 1 ≤ its → (ns : List Mark) → Each (Follows envelope.message kn i its) ns → Each (NewMark w i its) ns
-  each-new c same less runs one [] h = tt
-  each-new c same less runs one (mark.Write y d n t r x ∷ ns) h = ((h.0.0, h.0.1, subst (λ z. ((w.segs i).locals its).last ≤ z) (sym (same d h.0.2)) less, runs, one), each-new c same less runs one ns h.1)
-  each-new c same less runs one (mark.Commit y ∷ ns) h = absurd h.0
-  each-new c same less runs one (mark.Abort y ∷ ns) h = absurd h.0
-  each-new c same less runs one (mark.Decided y ∷ ns) h = absurd h.0
-  each-new c same less runs one (mark.Sent to number m ∷ ns) h = absurd h.0
-  each-new c same less runs one (m ∷ ns) h = (tt, each-new c same less runs one ns h.1)
+  each-new c same lt-of runs one [] h = tt
+  each-new c same lt-of runs one (mark.Write y d n t r x ∷ ns) h = ((h.0.0, h.0.1, subst (λ z. ((w.segs i).locals its).last ≤ z) (sym (same d h.0.2)) lt-of, runs, one), each-new c same lt-of runs one ns h.1)
+  each-new c same lt-of runs one (mark.Commit y ∷ ns) h = absurd h.0
+  each-new c same lt-of runs one (mark.Abort y ∷ ns) h = absurd h.0
+  each-new c same lt-of runs one (mark.Decided y ∷ ns) h = absurd h.0
+  each-new c same lt-of runs one (mark.Sent to number m ∷ ns) h = absurd h.0
+  each-new c same lt-of runs one (m ∷ ns) h = (tt, each-new c same lt-of runs one ns h.1)
 
   not-exec-new : (m : Message) → envelope.message ≡ m → is_exec m ≡ false → Each (NewMark w i its) turn4.marks
   not-exec-new m z f = none-new (λ c x. differ (sym (ap is_exec (sym z ∙ x.is)) ∙ f)) turn4.marks does.marks
@@ -543,17 +538,8 @@ module _ (script : Script) (w : World) (k : Knows script w) (v : Holds script w)
       same : (d : Cid) → IsExecOf envelope.message its d → d.0 ≡ c.0
       same d q = sym (ap exec-cid q.is) ∙ ap exec-cid f
 
-      less : (a b : ℕ) → nat_lt a b ≡ true → a < b
-      less a b e = grind (arith, nat_tests)
-
       weaker : (a b : ℕ) → a < b → a ≤ b
       weaker a b l = omega arith
-
-      at-most : (a b : ℕ) → nat_lt a b ≡ false → b ≤ a
-      at-most a b e = grind (arith, nat_tests)
-
-      over : (a b : ℕ) → a < b → b ≤ a → ⊥
-      over a b l m = omega arith
 
       here_is : its ≡ h.0
       here_is = ap gxid_in f
@@ -561,15 +547,15 @@ module _ (script : Script) (w : World) (k : Knows script w) (v : Holds script w)
       running : (b : Bool) → is_committed (marks_in w.steps) (gx its) ≡ b → ((w.segs i).locals its).last < c.0 → b ≡ false
       running false e l = refl
       running true e l =
-          absurd (over ((w.segs i).locals its).last c.0 l (subst (λ j. c.0 ≤ ((w.segs i).locals j).last) (sym here_is) ((subst (TakenAt w (at i)) f taken).1 (subst (λ j. is_committed (marks_in w.steps) (gx j) ≡ true) here_is e))))
+          absurd (lt-le ((w.segs i).locals its).last c.0 l (subst (λ j. c.0 ≤ ((w.segs i).locals j).last) (sym here_is) ((subst (TakenAt w (at i)) f taken).1 (subst (λ j. is_committed (marks_in w.steps) (gx j) ≡ true) here_is e))))
 
       by_old : (b : Bool) → nat_lt ((w.segs i).locals its).last c.0 ≡ b → Each (NewMark w i its) turn4.marks
       by_old true e =
-          let l = less ((w.segs i).locals its).last c.0 e in
+          let l = lt-of ((w.segs i).locals its).last c.0 e in
           each-new c same (weaker _ _ l) (running (is_committed (marks_in w.steps) (gx its)) refl l) (subst (λ j. 1 ≤ j) (sym here_is) (subst (TakenAt w (at i)) f taken).0) turn4.marks does.marks
       by_old false e =
           subst (Each (NewMark w i its))
-          (sym (ap (λ m. (on_message script (w.segs i) fails m).marks) f ∙ old-quiet script (w.segs i) fails h c level x y z (subst (λ j. c.0 ≤ ((w.segs i).locals j).last) here_is (at-most ((w.segs i).locals its).last c.0 e)))) tt
+          (sym (ap (λ m. (on_message script (w.segs i) fails m).marks) f ∙ old-quiet script (w.segs i) fails h c level x y z (subst (λ j. c.0 ≤ ((w.segs i).locals j).last) here_is (le-of ((w.segs i).locals its).last c.0 e)))) tt
 
   message-new : Each (NewMark w i (gxid_in envelope.message)) (on_event script (w.segs i) (here.Deliver from envelope) fails).marks
   message-new = by_message envelope.message refl

@@ -2,6 +2,8 @@
 use Rattle.std.proofs.Common.{◌≡◌, ◌≤◌, ◌<◌, ℕ, ◌+◌, List, [], ◌∷◌, Option, Some, None, Result, Ok, Err, Bool, true, false, refl, sym, subst, ap, ◌∙◌, cond, if◌then◌else◌, arith, eqb, eqb-true}
 use Rattle.std.proofs.lemmas.Bool.Decides.{nat_tests}
 use Rattle.std.specs.Prelude.{option_map}
+use Rattle.gx_lemmas.proofs.Options.{none-some, some-same}
+use Rattle.gx_lemmas.proofs.Numbers.{eqb-self, lt-next}
 use Rattle.gx_ids.specs.declared.ids.Cid.{Cid}
 use Rattle.gx_ids.specs.declared.ids.Gxid.{Gxid}
 use Rattle.gx_ids.specs.declared.ids.Node.{Node}
@@ -46,8 +48,8 @@ use Rattle.gx_law_order.proofs.Statuses.Stage.{Live}
 use Rattle.gx_law_reads.proofs.Heights.{Rises, Sorted, begun-rises, changed-rises, enlisted-rises, live-rises, rises-same, rises-then}
 use Rattle.gx_law_reads.proofs.Held.{Held, Latest, held-now, horizon-xmin}
 use Rattle.gx_law_reads.proofs.Plain.{abort-mild, sent-fine}
-use Rattle.gx_law_reads.proofs.Reading.{CommandLow, CountedIn, Fine, OrderHeld, OrderLow, OutFine, Reads, Stood, Went, Works, apart-same, at-self, le-refl, one-went, reads-none, self, step-apart}
-use Rattle.gx_law_reads.proofs.Turns.{WentBy, commits-went, counted-by, live-apart, live-here, message-went, none-some, rest-went, rolled-went, some-same, went-then, work-went}
+use Rattle.gx_law_reads.proofs.Reading.{CommandLow, CountedIn, Fine, OrderHeld, OrderLow, OutFine, Reads, Stood, Went, Works, apart-same, at-self, le-refl, one-went, reads-none, step-apart}
+use Rattle.gx_law_reads.proofs.Turns.{WentBy, commits-went, counted-by, live-apart, live-here, message-went, rest-went, rolled-went, went-then, work-went}
 use Rattle.gx_rules.specs.Locks.{with_hold}
 use Rattle.gx_waits.specs.declared.claim.Claim.{Claim}
 use Rattle.gx_locks.specs.Locks.{is_free, resumed, wait_of}
@@ -67,7 +69,7 @@ joins i t = record t { participants = with_node i t.participants }
 
 one-enlists : (d : Table) (g : ℕ) (i : Node) → Enlists d (enlisted d (gx g) i) g
 one-enlists d g i =
-    let here : find_txn (enlisted d (gx g) i) (gx g) ≡ option_map (joins i) (find_txn d (gx g)) = find-with (gx g) (gx g) (joins i) d.txns ∙ ap (λ b. cond b (option_map (joins i) (find_txn d (gx g))) (find_txn d (gx g))) (self g) in
+    let here : find_txn (enlisted d (gx g) i) (gx g) ≡ option_map (joins i) (find_txn d (gx g)) = find-with (gx g) (gx g) (joins i) d.txns ∙ ap (λ b. cond b (option_map (joins i) (find_txn d (gx g))) (find_txn d (gx g))) (eqb-self g) in
     let k = kept-both (joins i) (λ t. refl) (λ t. refl) (find_txn d (gx g)) in
     record {
       finds = λ j e. find-with (gx g) (gx j) (joins i) d.txns ∙ ap (λ b. cond b (option_map (joins i) (find_txn d (gx g))) (find_txn d (gx j))) e;
@@ -306,15 +308,12 @@ module _ (d : Table) (ws : Works) (session : SessionId) (level : Level) (s : Sto
       less : {a b : ℕ} → a < b → a < b + 1
       less l = omega arith
 
-      older : (h n : ℕ) → h < n + 1 → eqb h n ≡ false → h < n
-      older h n l e = grind (arith, nat_tests)
-
       clash : true ≡ false → ⊥
       clash e = cc
 
       by_test : (h : ℕ) → 1 ≤ h → h < new + 1 → runs (find_txn (begun d) (gx h)) ≡ false → (b : Bool) → eqb h new ≡ b → h ≤ Rattle.gx_rules.specs.Snapshots.latest_number d.latest_ended
       by_test h one l e true q = absurd (clash (sym (ap runs (begun-find d h s.sorted ∙ ap (λ b. cond b (Some new_txn) (find_txn d (gx h))) q)) ∙ e))
-      by_test h one l e false q = k.all h one (older h new l q) (sym (ap runs (apart-find h q)) ∙ e)
+      by_test h one l e false q = k.all h one (lt-next h new l q) (sym (ap runs (apart-find h q)) ∙ e)
 
 -- LINES
 module _ (script : Script) (c : Coord) (s : Stood c.table c.works) (latest : Latest c.table) where

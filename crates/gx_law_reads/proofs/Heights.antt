@@ -4,6 +4,7 @@ use Rattle.std.proofs.lemmas.Bool.Decides.{nat_tests}
 use Rattle.std.specs.List.{flat_map}
 use Rattle.std.specs.BTreeMap.{is_at}
 use Rattle.std.specs.Map.{lookup, remove_entry, set_value}
+use Rattle.gx_lemmas.proofs.Options.{some-same}
 use Rattle.gx_ids.specs.declared.ids.Gxid.{Gxid}
 use Rattle.gx_ids.specs.declared.ids.Node.{Node}
 use Rattle.gx_dsnap.specs.Gxids.{gxid_cmp, least_of, lesser}
@@ -114,9 +115,6 @@ module _ (n : ℕ) where
     where
       by_test : (b : Bool) → cond b (Some x.1) (lookup test es) ≡ Some t → (lookup test es ≡ Some t → LiveAbove n t.live) → LiveAbove n t.live
       by_test true f more = subst (λ (u : Txn). LiveAbove n u.live) (some-same x.1 t f) e.0.1
-        where
-          some-same : (a b : Txn) → Some a ≡ Some b → a ≡ b
-          some-same a b e = cc
       by_test false f more = more f
 
   set-above : (test : Gxid → Bool) (u : Txn) (es : Txns) → LiveAbove n u.live → Each (Above n) es → Each (Above n) (set_value test es u)

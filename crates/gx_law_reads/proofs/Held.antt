@@ -2,6 +2,7 @@
 use Rattle.std.proofs.Common.{◌≡◌, ◌≤◌, ◌<◌, ℕ, ◌+◌, List, [], ◌∷◌, Option, Some, None, Bool, true, false, refl, sym, subst, ap, ◌∙◌, cond, if◌then◌else◌, ◌&&◌, not, ltb, arith, eqb, map, filter}
 use Rattle.std.proofs.lemmas.Bool.{eqb-true}
 use Rattle.std.proofs.lemmas.Bool.Decides.{nat_tests}
+use Rattle.gx_lemmas.proofs.Options.{some-same}
 use Rattle.gx_ids.specs.declared.ids.Gxid.{Gxid}
 use Rattle.gx_dsnap.specs.Gxids.{after_ended, first_or, is_below, is_listed}
 use Rattle.gx_dsnap.specs.Snapshot.{sees}
@@ -43,9 +44,6 @@ first-running : (limit : Gxid) (h : ℕ) (t : Txn) (es : Txns) → AreRisen es �
 first-running limit h t [] r e s l = absurd (cc)
 first-running limit h t (x ∷ es) r e s l = by_same (eqb h x.0.0) refl (sym (first-at h x es) ∙ e) (λ f. first-running limit h t es r.1 f s l)
   where
-    some-same : (a b : Txn) → Some a ≡ Some b → a ≡ b
-    some-same a b e = cc
-
     le-refl : (a b : ℕ) → a ≡ b → a ≤ b
     le-refl a b e = omega arith
 

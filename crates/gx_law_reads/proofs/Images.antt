@@ -3,6 +3,9 @@ use Rattle.std.proofs.Common.{◌≡◌, ℕ, List, [], ◌∷◌, Option, Some,
 use Rattle.std.proofs.lemmas.Bool.Decides.{nat_tests}
 use Rattle.std.specs.Prelude.{filter}
 use Rattle.std.specs.Option.{option_or}
+use Rattle.std.proofs.lemmas.Bool.{or_right}
+use Rattle.gx_lemmas.proofs.Numbers.{eqb-self}
+use Rattle.gx_lemmas.proofs.Tests.{and-last, false-true}
 use Rattle.gx_ids.specs.declared.ids.Cid.{Cid}
 use Rattle.gx_ids.specs.declared.ids.Gxid.{Gxid}
 use Rattle.gx_ids.specs.declared.ids.Node.{Node}
@@ -53,14 +56,8 @@ module _ (node : Node) (table : Table) (rid : Rid) (q : Version → Bool) (shown
   same-test : (s t d q : Bool) → q ≡ s → (s && (t && d)) ≡ ((t && q) && d)
   same-test s t d q e = grind arith
 
-  no-test : (s t d : Bool) → d ≡ false → (s && (t && d)) ≡ false
-  no-test s t d e = grind arith
-
   not-true : (d : Bool) → (d ≡ true → false ≡ true) → d ≡ false
-  not-true true f = absurd (differ (f refl))
-    where
-      differ : false ≡ true → ⊥
-      differ e = cc
+  not-true true f = absurd (false-true (f refl))
   not-true false f = refl
 
   images-are : (ms : List Mark) (image : Image) → IsOnlyAt node rid ms → Each (λ (v : Version). q v ≡ shown v.gxid v.cid) (writes_at node ms) → image_after shown table rid image ms ≡ or_image (left (writes_at node ms)) image
@@ -76,7 +73,7 @@ module _ (node : Node) (table : Table) (rid : Rid) (q : Version → Bool) (shown
           ∙ ap (λ b. or_image (left (writes_at node ms)) (if b then x else image)) (same-test (shown g c) (eqb t.0 table.0) (is_same_rid r rid) (q v) e.0)
           ∙ front v (writes_at node ms) image (passes v) refl
       by_node false a e more =
-          ap (λ b. image_after shown table rid (if b then x else image) ms) (no-test (shown g c) (eqb t.0 table.0) (is_same_rid r rid) (not-true (is_same_rid r rid) (λ d. sym a ∙ o.0 d)))
+          ap (λ b. image_after shown table rid (if b then x else image) ms) (and-last (shown g c) (eqb t.0 table.0) (is_same_rid r rid) (not-true (is_same_rid r rid) (λ d. sym a ∙ o.0 d)))
           ∙ more image e
   images-are (m ∷ ms) image o e = images-are ms image o e
 
@@ -88,19 +85,13 @@ pub versions-written : (node : Node) (ms : List Mark) → Each (λ (v : Version)
 versions-written node [] = tt
 versions-written node (mark.Write g c n t r x ∷ ms) = by_node (is_same_node n node) refl (versions-written node ms)
   where
-    self : (a : ℕ) → eqb a a ≡ true
-    self a = grind (arith, nat_tests)
-
-    or-right : (a b : Bool) → b ≡ true → (a || b) ≡ true
-    or-right a b e = grind arith
-
     both : (a b d : Bool) → a ≡ true → b ≡ true → ((a && b) || d) ≡ true
     both a b d e f = grind arith
 
     rest : Each (λ (v : Version). is_writer ms v.gxid node ≡ true) (writes_at node ms) → Each (λ (v : Version). is_writer (mark.Write g c n t r x ∷ ms) v.gxid node ≡ true) (writes_at node ms)
-    rest e = each_weaker (λ (v : Version). is_writer ms v.gxid node ≡ true) (λ (v : Version). is_writer (mark.Write g c n t r x ∷ ms) v.gxid node ≡ true) (λ v f. or-right (is_same_gxid g v.gxid && is_same_node n node) (is_writer ms v.gxid node) f) (writes_at node ms) e
+    rest e = each_weaker (λ (v : Version). is_writer ms v.gxid node ≡ true) (λ (v : Version). is_writer (mark.Write g c n t r x ∷ ms) v.gxid node ≡ true) (λ v f. or_right (is_same_gxid g v.gxid && is_same_node n node) (is_writer ms v.gxid node) f) (writes_at node ms) e
 
     by_node : (a : Bool) → is_same_node n node ≡ a → Each (λ (v : Version). is_writer ms v.gxid node ≡ true) (writes_at node ms) → Each (λ (v : Version). is_writer (mark.Write g c n t r x ∷ ms) v.gxid node ≡ true) (if a then record { gxid = g; cid = c; table = t; rid = r; image = x } ∷ writes_at node ms else writes_at node ms)
-    by_node true a e = (both (is_same_gxid g g) (is_same_node n node) (is_writer ms g node) (self g.0) a, rest e)
+    by_node true a e = (both (is_same_gxid g g) (is_same_node n node) (is_writer ms g node) (eqb-self g.0) a, rest e)
     by_node false a e = rest e
 versions-written node (m ∷ ms) = versions-written node ms

@@ -2,6 +2,7 @@
 use Rattle.std.proofs.Common.{◌≡◌, ◌≤◌, ◌<◌, ℕ, List, [], ◌∷◌, Option, Some, None, Bool, true, false, not, refl, sym, subst, ap, ◌∙◌, if◌then◌else◌, ltb, arith, eqb}
 use Rattle.std.proofs.lemmas.Bool.Decides.{nat_tests}
 use Rattle.std.specs.Prelude.{fold, nat_le, nat_lt}
+use Rattle.gx_lemmas.proofs.Options.{none-some}
 use Rattle.gx_ids.specs.declared.ids.Cid.{Cid}
 use Rattle.gx_ids.specs.declared.ids.Gxid.{Gxid}
 use Rattle.gx_ids.specs.declared.ids.Node.{Node}
@@ -64,7 +65,7 @@ use Rattle.gx_law_reads.proofs.Going.{event-went}
 use Rattle.gx_law_reads.proofs.Reading.{CountedIn, FineIn, OutFine, Stood, low-then}
 use Rattle.gx_law_reads.proofs.Ran.{IsAnswer, OfSlice, going-ran}
 use Rattle.gx_law_reads.proofs.Steps.{HeardAt, IsGiven, SaidTo, by-heard, event-leads, given-is, world-keeps}
-use Rattle.gx_law_reads.proofs.Turns.{WentBy, none-some}
+use Rattle.gx_law_reads.proofs.Turns.{WentBy}
 
 abbrev pub LetterLow : Table → (ℕ → Work) → Letter → Type 0
 LetterLow d ws l = IsLowIn (horizon_of d) l.envelope.message × FineIn d ws l.envelope.message

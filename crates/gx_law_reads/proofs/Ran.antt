@@ -2,6 +2,7 @@
 use Rattle.std.proofs.Common.{◌≡◌, ℕ, List, [], ◌∷◌, Option, Some, None, Bool, true, false, refl, sym, subst, ap, ◌∙◌, if◌then◌else◌, arith, eqb}
 use Rattle.std.proofs.lemmas.Bool.Decides.{nat_tests}
 use Rattle.std.specs.Prelude.{fold}
+use Rattle.gx_lemmas.proofs.Numbers.{eqb-self}
 use Rattle.gx_ids.specs.declared.ids.Cid.{Cid}
 use Rattle.gx_ids.specs.declared.ids.Gxid.{Gxid}
 use Rattle.gx_ids.specs.declared.ids.Node.{Node}
@@ -51,11 +52,8 @@ pub record Ran (s : Seg) (g c : ℕ) (turn : SegTurn) : Type 0 where
   pub marks : Each (OfSlice s.node g c) turn.marks
   pub outs : Each IsAnswer turn.outs
 
-self : (a : ℕ) → eqb a a ≡ true
-self a = grind (arith, nat_tests)
-
 set-here : (f : ℕ → Local) (g : ℕ) (l : Local) → with_at f g l g ≡ l
-set-here f g l = ap (λ b. if b then l else f g) (self g)
+set-here f g l = ap (λ b. if b then l else f g) (eqb-self g)
 
 set-there : (f : ℕ → Local) (g h : ℕ) (l : Local) → eqb h g ≡ false → with_at f g l h ≡ f h
 set-there f g h l e = ap (λ b. if b then l else f h) e

@@ -5,6 +5,7 @@ use Rattle.std.proofs.lemmas.Bool.Decides.{nat_tests}
 use Rattle.std.specs.Prelude.{option_map}
 use Rattle.std.specs.Map.{lookup}
 use Rattle.std.specs.BTreeMap.{is_at}
+use Rattle.gx_lemmas.proofs.Numbers.{eqb-self}
 use Rattle.gx_ids.specs.declared.ids.Gxid.{Gxid}
 use Rattle.gx_tree.specs.declared.stmt.Level.TheVariants.{ReadCommitted}
 use Rattle.gx_dsnap.specs.Gxids.{gxid_cmp}
@@ -106,9 +107,6 @@ command-low a b g (Some m) l e = each_weaker (OrderLow a g) (OrderLow b g) (λ o
 pub le-refl : (a : ℕ) → a ≤ a
 le-refl a = omega arith
 
-pub self : (a : ℕ) → eqb a a ≡ true
-self a = grind (arith, nat_tests)
-
 pub went-same : (d : Table) (ws : Works) → Stood d ws → Went d ws d ws
 went-same d ws s = record { stood = s; low = le-refl (horizon_of d).0; fine = λ m c f. f }
 
@@ -158,7 +156,7 @@ pub apart-same : (ws : Works) (g : ℕ) (v : Work) (j : ℕ) → eqb j g ≡ fal
 apart-same ws g v j e = ap (λ b. if b then v else ws j) e
 
 pub at-self : (ws : Works) (g : ℕ) (v : Work) → with_at ws g v g ≡ v
-at-self ws g v = ap (λ b. if b then v else ws g) (self g)
+at-self ws g v = ap (λ b. if b then v else ws g) (eqb-self g)
 
 -- STEPS OF ONE TRANSACTION
 pub step-apart : (d : Table) (g j : ℕ) (x : Step) → Sorted d → eqb j g ≡ false → lookup (is_at (gxid_cmp (gx j))) (with_step d.txns (gx g) x) ≡ find_txn d (gx j)
@@ -168,8 +166,8 @@ step-apart d g j Leaves s e = find-remove (gx g) (gx j) d.txns s.risen ∙ ap (�
 
 pub step-here : (d : Table) (g : ℕ) (x : Step) → Sorted d → lookup (is_at (gxid_cmp (gx g))) (with_step d.txns (gx g) x) ≡ left_of x (find_txn d (gx g))
 step-here d g Stays s = refl
-step-here d g (GoesTo p) s = find-with (gx g) (gx g) (moved p) d.txns ∙ ap (λ b. cond b (option_map (moved p) (find_txn d (gx g))) (find_txn d (gx g))) (self g)
-step-here d g Leaves s = find-remove (gx g) (gx g) d.txns s.risen ∙ ap (λ b. cond b None (find_txn d (gx g))) (self g)
+step-here d g (GoesTo p) s = find-with (gx g) (gx g) (moved p) d.txns ∙ ap (λ b. cond b (option_map (moved p) (find_txn d (gx g))) (find_txn d (gx g))) (eqb-self g)
+step-here d g Leaves s = find-remove (gx g) (gx g) d.txns s.risen ∙ ap (λ b. cond b None (find_txn d (gx g))) (eqb-self g)
 
 -- it is over for the coordinator
 pub over-went : (d : Table) (ws : Works) (g : ℕ) (c : Change) → Stood d ws → Went d ws (changed d (gx g) c) (with_at ws g no_work)

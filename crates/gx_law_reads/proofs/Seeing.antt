@@ -3,6 +3,8 @@ use Rattle.std.proofs.Common.{◌≡◌, ◌≤◌, ℕ, ◌+◌, zero, suc, Lis
 use Rattle.std.proofs.lemmas.Bool.Decides.{nat_tests}
 use Rattle.std.proofs.lemmas.List.{append_assoc}
 use Rattle.std.specs.Prelude.{filter, slice_get, take}
+use Rattle.std.proofs.lemmas.Bool.{and_from, or_left}
+use Rattle.gx_lemmas.proofs.Tests.{or-other, true-false}
 use Rattle.gx_ids.specs.declared.ids.Cid.{Cid}
 use Rattle.gx_ids.specs.declared.ids.Gxid.{Gxid}
 use Rattle.gx_ids.specs.declared.ids.Node.{Node}
@@ -82,25 +84,16 @@ module _ (w : World) (q : Ends w) (i : ℕ) (before : List Mark) (x : Snapshot) 
   counts-is : (h : Gxid) → is_writer (marks_in w.steps) h (at i) ≡ true → (has_committed ((w.segs i).locals h.0).phase && sees x h) ≡ is_committed before h
   counts-is h wrote = by_committed (is_committed before h) refl
     where
-      both : (a b : Bool) → a ≡ true → b ≡ true → (a && b) ≡ true
-      both a b e f = grind arith
-
-      clash : (b : Bool) → b ≡ true → b ≡ false → ⊥
-      clash b e f = grind arith
-
-      right : (a b : Bool) → a ≡ false → (a || b) ≡ true → b ≡ true
-      right a b e f = grind arith
-
       neither : (a b : Bool) → (a ≡ true → b ≡ true → ⊥) → (a && b) ≡ false
       neither true true f = absurd (f refl refl)
       neither true false f = refl
       neither false b f = refl
 
       by_committed : (b : Bool) → is_committed before h ≡ b → (has_committed ((w.segs i).locals h.0).phase && sees x h) ≡ b
-      by_committed true e = both (has_committed ((w.segs i).locals h.0).phase) (sees x h) ((q.ended i h.0).committed (committed-later h e) ∙ wrote) (seen.committed h e)
+      by_committed true e = and_from (has_committed ((w.segs i).locals h.0).phase) (sees x h) ((q.ended i h.0).committed (committed-later h e) ∙ wrote) (seen.committed h e)
       by_committed false e =
           neither (has_committed ((w.segs i).locals h.0).phase) (sees x h)
-          (λ c s. clash (has_committed ((w.segs i).locals h.0).phase) c ((q.ended i h.0).aborted (aborted-later h (right (is_committed before h) (is_aborted before h) e (seen.ended h (q.drawn i h.0 wrote) s)))))
+          (λ c s. true-false (has_committed ((w.segs i).locals h.0).phase) c ((q.ended i h.0).aborted (aborted-later h (or-other (is_committed before h) (is_aborted before h) e (seen.ended h (q.drawn i h.0 wrote) s)))))
 
 -- THE ROWS
 shown-row : (vs : List Version) (rid : Rid) → row_at (rows_in (last_images vs)) rid ≡ row_of (last_image rid vs)
@@ -146,14 +139,11 @@ module _ (script : Script) (w : World) (k : Knows script w) (v : Holds script w)
     rest : (ys : List Mark) × (ms ≡ take place ms ++ ys)
     rest = take-rest place ms
 
-    or-first : (a b : Bool) → a ≡ true → (a || b) ≡ true
-    or-first a b e = grind arith
-
     committed-later : (h : Gxid) → is_committed (take place ms) h ≡ true → is_committed ms h ≡ true
-    committed-later h e = ap (λ z. is_committed z h) rest.1 ∙ committed-append (take place ms) rest.0 h ∙ or-first (is_committed (take place ms) h) (is_committed rest.0 h) e
+    committed-later h e = ap (λ z. is_committed z h) rest.1 ∙ committed-append (take place ms) rest.0 h ∙ or_left (is_committed (take place ms) h) (is_committed rest.0 h) e
 
     aborted-later : (h : Gxid) → is_aborted (take place ms) h ≡ true → is_aborted ms h ≡ true
-    aborted-later h e = ap (λ z. is_aborted z h) rest.1 ∙ aborted-append (take place ms) rest.0 h ∙ or-first (is_aborted (take place ms) h) (is_aborted rest.0 h) e
+    aborted-later h e = ap (λ z. is_aborted z h) rest.1 ∙ aborted-append (take place ms) rest.0 h ∙ or_left (is_aborted (take place ms) h) (is_aborted rest.0 h) e
 
     one-counts : (y : Version) → is_writer ms y.gxid node ≡ true → counts (raised (w.segs node.0) horizon) x g c y ≡ is_shown_to (Some (g, c)) (take place ms) y.gxid y.cid
     one-counts y e =

@@ -3,6 +3,8 @@ use Rattle.std.proofs.Common.{◌≡◌, ◌≤◌, ℕ, zero, suc, List, [], �
 use Rattle.std.proofs.lemmas.Bool.Decides.{nat_tests}
 use Rattle.std.proofs.lemmas.List.{append_assoc}
 use Rattle.std.specs.Prelude.{slice_get, take}
+use Rattle.std.proofs.lemmas.Bool.{or_left}
+use Rattle.gx_lemmas.proofs.Tests.{and-last, true-false}
 use Rattle.gx_ids.specs.declared.ids.Cid.{Cid}
 use Rattle.gx_ids.specs.declared.ids.Gxid.{Gxid}
 use Rattle.gx_ids.specs.declared.ids.Node.{Node}
@@ -85,9 +87,6 @@ module _ (node : Node) (g : Gxid) (c : Cid) (before : List Mark) where
       elsewhere : (a b : Bool) → (a ≡ true → b ≡ true) → b ≡ false → a ≡ false
       elsewhere a b f e = grind arith
 
-      off-row : (s t d : Bool) → d ≡ false → (s && (t && d)) ≡ false
-      off-row s t d e = grind arith
-
       off-shown : (s t d : Bool) → s ≡ false → (s && (t && d)) ≡ false
       off-shown s t d e = grind arith
 
@@ -99,7 +98,7 @@ module _ (node : Node) (g : Gxid) (c : Cid) (before : List Mark) where
         where
           by_node : (b : Bool) → is_same_node n node ≡ b → (is_shown_to (Some (g, c)) before h d && ((t.0 == table.0) && is_same_rid r rid)) ≡ false
           by_node true q = off-shown (is_shown_to (Some (g, c)) before h d) (eqb t.0 table.0) (is_same_rid r rid) (let u = e.0 q in hidden (is_committed before h) (is_same_gxid g h) c.0 d.0 u.0 u.1)
-          by_node false q = off-row (is_shown_to (Some (g, c)) before h d) (eqb t.0 table.0) (is_same_rid r rid) (elsewhere (is_same_rid r rid) (is_same_node n node) o.0 q)
+          by_node false q = and-last (is_shown_to (Some (g, c)) before h d) (eqb t.0 table.0) (is_same_rid r rid) (elsewhere (is_same_rid r rid) (is_same_node n node) o.0 q)
       alone (m ∷ ys) o e = alone ys o e.1
 
 -- FROM A WORLD ON
@@ -123,15 +122,12 @@ module _ (w0 : World) (node : Node) (g : Gxid) (c : Cid) (place : ℕ) where
   no-part-quiet (mark.Snap h d x) e = tt
   no-part-quiet m e = tt
 
-  or-first : (a b : Bool) → a ≡ true → (a || b) ≡ true
-  or-first a b e = grind arith
-
   -- who had committed before has committed
   still-committed : (w : World) → Stayed w → (h : Gxid) → is_committed (take place (marks_in w0.steps)) h ≡ true → is_committed (marks_in w.steps) h ≡ true
   still-committed w s h e =
       let r = taken-whole place (marks_in w0.steps) in
       ap (λ z. is_committed z h) (s.are ∙ ap (λ z. z ++ s.more) r.1) ∙ committed-append (take place (marks_in w0.steps) ++ r.0) s.more h
-      ∙ or-first (is_committed (take place (marks_in w0.steps) ++ r.0) h) (is_committed s.more h) (committed-append (take place (marks_in w0.steps)) r.0 h ∙ or-first (is_committed (take place (marks_in w0.steps)) h) (is_committed r.0 h) e)
+      ∙ or_left (is_committed (take place (marks_in w0.steps) ++ r.0) h) (is_committed s.more h) (committed-append (take place (marks_in w0.steps)) r.0 h ∙ or_left (is_committed (take place (marks_in w0.steps)) h) (is_committed r.0 h) e)
 
   new-quiet : (w : World) → Stayed w → (i its : ℕ) (m : Mark) → NewMark w i its m → Quiet m
   new-quiet w s i its (mark.Write h d n t r x) e = λ at_node. (not-committed (is_committed (take place (marks_in w0.steps)) h) refl, λ same. le-trans c.0 ((w.segs i).locals its).last d.0 (subst (λ j. c.0 ≤ ((w.segs j).locals its).last) (same-node n.0 node.0 i e.1 at_node) (subst (λ j. c.0 ≤ ((w.segs node.0).locals j).last) (same-gxid g.0 h.0 its same e.0) s.taken)) e.2)
@@ -145,12 +141,9 @@ module _ (w0 : World) (node : Node) (g : Gxid) (c : Cid) (place : ℕ) where
       le-trans : (a b c : ℕ) → a ≤ b → b ≤ c → a ≤ c
       le-trans a b c l m = omega arith
 
-      clash : (b : Bool) → b ≡ true → b ≡ false → ⊥
-      clash b e f = grind arith
-
       not-committed : (b : Bool) → is_committed (take place (marks_in w0.steps)) h ≡ b → b ≡ false
       not-committed false q = refl
-      not-committed true q = absurd (clash (is_committed (marks_in w.steps) h) (still-committed w s h q) (ap (λ j. is_committed (marks_in w.steps) (gx j)) e.0 ∙ e.3))
+      not-committed true q = absurd (true-false (is_committed (marks_in w.steps) h) (still-committed w s h q) (ap (λ j. is_committed (marks_in w.steps) (gx j)) e.0 ∙ e.3))
   new-quiet w s i its (mark.Start h z) e = tt
   new-quiet w s i its m e = tt
 

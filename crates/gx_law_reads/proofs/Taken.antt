@@ -1,8 +1,11 @@
 -- A transaction commits once each segment has taken what was sent to it.
 use Rattle.std.proofs.Common.{◌≡◌, ◌≤◌, ◌<◌, inl, inr, ℕ, ◌+◌, List, [], ◌∷◌, ◌++◌, Option, Some, None, Result, Ok, Err, Bool, true, false, refl, sym, subst, ap, ◌∙◌, if◌then◌else◌, ◌||◌, ◌&&◌, arith, eqb}
-use Rattle.std.proofs.lemmas.Bool.{eqb-true}
+use Rattle.std.proofs.lemmas.Bool.{and_parts, both_ways, eqb-true}
 use Rattle.std.proofs.lemmas.Bool.Decides.{nat_tests}
 use Rattle.std.specs.Prelude.{nat_le}
+use Rattle.gx_lemmas.proofs.Options.{none-some, some-same}
+use Rattle.gx_lemmas.proofs.Numbers.{eqb-self}
+use Rattle.gx_lemmas.proofs.Tests.{and-first}
 use Rattle.gx_ids.specs.declared.ids.Cid.{Cid}
 use Rattle.gx_ids.specs.declared.ids.Gxid.{Gxid}
 use Rattle.gx_ids.specs.declared.ids.Node.{Node}
@@ -70,9 +73,8 @@ use Rattle.gx_law_reads.proofs.Going.{ReadsTo, all-enlist, begins-latest, begins
 use Rattle.gx_law_reads.proofs.Held.{Latest}
 use Rattle.gx_law_reads.proofs.Low.{Lows, latest, live-standing}
 use Rattle.gx_law_reads.proofs.Plain.{NoExec, abort-mild, commit-mild, reply-mild}
-use Rattle.gx_law_reads.proofs.Reading.{CommandLow, OrderLow, Stood, self}
+use Rattle.gx_law_reads.proofs.Reading.{CommandLow, OrderLow, Stood}
 use Rattle.gx_law_reads.proofs.Steps.{SaidTo}
-use Rattle.gx_law_reads.proofs.Turns.{none-some, some-same}
 use Rattle.gx_rules.specs.Locks.{with_hold, hold_mark, release_marks}
 use Rattle.gx_locks.specs.Locks.{Locks, is_free, resumed, wait_of}
 use Rattle.gx_waits.specs.declared.claim.Claim.{Claim}
@@ -139,11 +141,8 @@ module _ (script : Script) (w : World) (k : Knows script w) (v : Holds script w)
     pub outs : Each (λ (o : Out). LiveMessage turn.coord.table o.message) turn.outs
     pub takes : (g : ℕ) → is_committed turn.marks (gx g) ≡ true → AllTaken g
 
-  clash : (b : Bool) → b ≡ false → b ≡ true → ⊥
-  clash b e f = grind arith
-
   plain : (turn : CoordTurn) → Each (λ (o : Out). LiveMessage turn.coord.table o.message) turn.outs → Each NoCommit turn.marks → Passes turn
-  plain turn e n = record { outs = e; takes = λ g f. absurd (clash (is_committed turn.marks (gx g)) (committed-none turn.marks (gx g) n) f) }
+  plain turn e n = record { outs = e; takes = λ g f. absurd (both_ways (is_committed turn.marks (gx g)) (committed-none turn.marks (gx g) n) f) }
 
   rest : Passes (rests w.coord)
   rest = plain (rests w.coord) tt tt
@@ -201,7 +200,7 @@ module _ (script : Script) (w : World) (k : Knows script w) (v : Holds script w)
   -- DONE
   module _ (g : ℕ) (m : Command) (has_it : (w.coord.works g).command ≡ Some m) (i : Node) (cid : Cid) (wrote : Bool) (same_cid : eqb m.cid.0 cid.0 ≡ true) (taken : has i m.awaited ≡ true) (said : IsDone (known i.0 g) (parts_in w i.0 g) cid.0 wrote) where
     some-awaited : m.awaited ≡ [] → ⊥
-    some-awaited e = clash (has i m.awaited) (ap (has i) e) taken
+    some-awaited e = both_ways (has i m.awaited) (ap (has i) e) taken
 
     runs : stage_of w.coord g ≡ Running
     runs = ((k.kept.tied g).awaits m has_it some-awaited).0
@@ -232,20 +231,16 @@ module _ (script : Script) (w : World) (k : Knows script w) (v : Holds script w)
         by_block (Open level) e = plain (answers c1 (gx g) (c1.works g)) tt (tt, tt)
         by_block Failed e = plain (answers c1 (gx g) (c1.works g)) tt (tt, tt)
 
-        by_left : (left : List Node) → without i m.awaited ≡ left → Passes (goes_on c1 (gx g) left)
+        by_left : (and-first : List Node) → without i m.awaited ≡ and-first → Passes (goes_on c1 (gx g) and-first)
         by_left [] e = by_block (session_of c1 (work_of c1 (gx g)).session).state.block e
         by_left (x ∷ xs) e = plain (rests c1) tt tt
-
-  both_of : (a b : Bool) → (a && b) ≡ true → (a ≡ true) × (b ≡ true)
-  both_of true b e = (refl, e)
-  both_of false b e = grind arith
 
   on-done-pass : (g : ℕ) (i : Node) (cid : Cid) (wrote : Bool) (count : ℕ) (part : QueryPart) → IsDone (known i.0 g) (parts_in w i.0 g) cid.0 wrote → (m : Option Command) → (w.coord.works g).command ≡ m → Passes (on_done w.coord (gx g) i cid wrote count part m)
   on-done-pass g i cid wrote count part said None e = rest
   on-done-pass g i cid wrote count part said (Some m) e = by_test (is_awaited m i cid && fits_part m.stmt part) refl
     where
       by_test : (b : Bool) → (is_awaited m i cid && fits_part m.stmt part) ≡ b → Passes (if b then takes_done w.coord (gx g) i wrote count part m else rests w.coord)
-      by_test true f = let x = both_of _ _ (both_of _ _ f).0 in done-pass g m e i cid wrote x.0 x.1 said count part
+      by_test true f = let x = and_parts _ _ (and_parts _ _ f).0 in done-pass g m e i cid wrote x.0 x.1 said count part
       by_test false f = rest
 
   failed-pass : (g : ℕ) (i : Node) (cid : Cid) (cause : Cause) (m : Option Command) → Passes (on_failed w.coord (gx g) i cid cause m)
@@ -367,7 +362,7 @@ module _ (script : Script) (w : World) (k : Knows script w) (v : Holds script w)
     started asked = starts_line w.coord s asked
 
     own-same : (asked : LineStep) → (session_of (started asked) s).transaction.0 ≡ g1
-    own-same asked = ap (λ b. (let x : Session = if b then record (session_of w.coord s) { lines = (session_of w.coord s).lines + 1; state = Rattle.gx_script.specs.Session.after_line (session_of w.coord s).state.block asked } else session_of w.coord s in x).transaction.0) (self s.0)
+    own-same asked = ap (λ b. (let x : Session = if b then record (session_of w.coord s) { lines = (session_of w.coord s).lines + 1; state = Rattle.gx_script.specs.Session.after_line (session_of w.coord s).state.block asked } else session_of w.coord s in x).transaction.0) (eqb-self s.0)
 
     line-pass : (line : Stmt) (asked : LineStep) → Rattle.gx_law_order.proofs.Lines.Asks (session_of w.coord s).state.block asked → Passes (on_line script (started asked) s line asked)
     line-pass line (step.Answer x) a = plain (on_line script (started (step.Answer x)) s line (step.Answer x)) tt (tt, tt)
@@ -379,7 +374,7 @@ module _ (script : Script) (w : World) (k : Knows script w) (v : Holds script w)
     line-pass line (step.Command true) a =
         behind-pass (mark.Start w.coord.table.next s) (dispatches script (begins (started (step.Command true)) s ReadCommitted) w.coord.table.next line) tt
         (dispatch-pass (begins (started (step.Command true)) s ReadCommitted) w.coord.table.next.0 (begins-went w.coord.table w.coord.works s ReadCommitted q.stood).stood (begins-latest w.coord.table w.coord.works s ReadCommitted q.stood (latest script w k))
-        (ap stage (begun-find w.coord.table w.coord.table.next.0 q.stood.sorted ∙ ap (λ b. Rattle.std.proofs.Common.cond b (Some new_txn) (find_txn w.coord.table w.coord.table.next)) (self w.coord.table.next.0))) line)
+        (ap stage (begun-find w.coord.table w.coord.table.next.0 q.stood.sorted ∙ ap (λ b. Rattle.std.proofs.Common.cond b (Some new_txn) (find_txn w.coord.table w.coord.table.next)) (eqb-self w.coord.table.next.0))) line)
     line-pass line (step.Command false) a =
         dispatch-pass (started (step.Command false)) (session_of (started (step.Command false)) s).transaction.0 q.stood (latest script w k) (subst (λ z. stage_of w.coord z ≡ Running) (sym (own-same (step.Command false))) (own-live a)) line
 
@@ -428,7 +423,7 @@ module _ (script : Script) (w : World) (k : Knows script w) (v : Holds script w)
   awaited-live i g (Some m) z told e = by_test (has i m.awaited) refl e
     where
       by_test : (b : Bool) → has i m.awaited ≡ b → (if b then order_to i m.orders else status_order (gx g) (awaited_order w.coord.table (gx g) i)) ≡ Some told → LiveMessage w.coord.table told
-      by_test true f e = order-live i g ((k.kept.tied g).awaits m z (λ n. clash (has i m.awaited) (ap (has i) n) f)).0 m.orders (subst (CommandLow (horizon_of w.coord.table) g) z (q.stood.orders g)) told e
+      by_test true f e = order-live i g ((k.kept.tied g).awaits m z (λ n. both_ways (has i m.awaited) (ap (has i) n) f)).0 m.orders (subst (CommandLow (horizon_of w.coord.table) g) z (q.stood.orders g)) told e
       by_test false f e = status-live (gx g) (awaited_order w.coord.table (gx g) i) told e
 
   again-pass : (i : Node) (g : ℕ) (told : Option Message) → awaited w.coord (gx g) i ≡ told → Passes (resends w.coord i told)
@@ -436,11 +431,8 @@ module _ (script : Script) (w : World) (k : Knows script w) (v : Holds script w)
   again-pass i g (Some told) e = plain (resends w.coord i (Some told)) (awaited-live i g (w.coord.works g).command refl told e, tt) tt
 
   idle-first : (s : SessionId) (b : Bool) → (is_idle (session_of w.coord s) && b) ≡ true → is_nothing_in (session_of w.coord s).state.pending ≡ true
-  idle-first s b e = by_pending (session_of w.coord s).state.pending (left (is_nothing (session_of w.coord s).state.pending) b e)
+  idle-first s b e = by_pending (session_of w.coord s).state.pending (and-first (is_nothing (session_of w.coord s).state.pending) b e)
     where
-      left : (a b : Bool) → (a && b) ≡ true → a ≡ true
-      left a b e = grind arith
-
       by_pending : (p : Pending) → is_nothing p ≡ true → is_nothing_in p ≡ true
       by_pending p e = grind arith
 

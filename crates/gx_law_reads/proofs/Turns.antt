@@ -2,6 +2,8 @@
 use Rattle.std.proofs.Common.{◌≡◌, ◌≤◌, ◌<◌, ℕ, List, [], ◌∷◌, Option, Some, None, Bool, true, false, refl, sym, subst, ap, ◌∙◌, cond, if◌then◌else◌, ◌&&◌, arith, eqb}
 use Rattle.std.proofs.lemmas.Bool.{eqb-true}
 use Rattle.std.specs.Prelude.{option_map}
+use Rattle.gx_lemmas.proofs.Numbers.{eqb-self}
+use Rattle.gx_lemmas.proofs.Options.{none-some, some-same}
 use Rattle.gx_ids.specs.declared.ids.Cid.{Cid}
 use Rattle.gx_ids.specs.declared.ids.Gxid.{Gxid}
 use Rattle.gx_ids.specs.declared.ids.Node.{Node}
@@ -37,7 +39,7 @@ use Rattle.gx_law_order.proofs.Stages.{gx}
 use Rattle.gx_law_order.proofs.Statuses.{stage}
 use Rattle.gx_law_reads.proofs.Heights.{live-rises, rises-same}
 use Rattle.gx_law_reads.proofs.Plain.{Mild, abort-mild, commit-mild, reply-mild, sent-fine}
-use Rattle.gx_law_reads.proofs.Reading.{CommandLow, CountedIn, Fine, OrderHeld, OutFine, Reads, Stood, Went, Works, apart-same, at-self, le-refl, one-went, over-went, quiet-went, self, went-same}
+use Rattle.gx_law_reads.proofs.Reading.{CommandLow, CountedIn, Fine, OrderHeld, OutFine, Reads, Stood, Went, Works, apart-same, at-self, le-refl, one-went, over-went, quiet-went, went-same}
 
 -- what an event has made of what is known
 pub record WentBy (c : Coord) (turn : CoordTurn) : Type 0 where
@@ -92,11 +94,6 @@ rolled-went c g marks s =
     record { went = over-went c.table c.works g (abort_found (gx g) (find_txn c.table (gx g))) s; outs = sent-fine (changed c.table (gx g) (abort_found (gx g) (find_txn c.table (gx g)))) (with_at c.works g no_work) (abort_found (gx g) (find_txn c.table (gx g))).out.outs m.sent }
 
 -- A CHANGE OF WHAT IS KNOWN OF A TRANSACTION
-pub some-same : {A : Type 0} (a b : A) → Some a ≡ Some b → a ≡ b
-some-same a b e = cc
-
-pub none-some : {A : Type 0} (o : Option A) (a : A) → o ≡ None → o ≡ Some a → ⊥
-none-some o a e f = cc
 
 pub work-went : (d : Table) (ws : Works) (g : ℕ) (v : Work) → Stood d ws → Reads (find_txn d (gx g)) v → CommandLow (horizon_of d) g v.command → ((cid : ℕ) (x : Snapshot) → Fine (find_txn d (gx g)) (ws g) cid x → Fine (find_txn d (gx g)) v cid x) → Went d ws d (with_at ws g v)
 work-went d ws g v s r l f =
@@ -144,7 +141,7 @@ pub live-apart : (d : Table) (g j : ℕ) (live : Option Gxid) → eqb j g ≡ fa
 live-apart d g j live e = find-with (gx g) (gx j) (λ t. record t { live = live }) d.txns ∙ ap (λ b. cond b (option_map (λ (t : Txn). record t { live = live }) (find_txn d (gx g))) (find_txn d (gx j))) e
 
 pub live-here : (d : Table) (g : ℕ) (live : Option Gxid) → find_txn (with_live d (gx g) live) (gx g) ≡ option_map (λ (t : Txn). record t { live = live }) (find_txn d (gx g))
-live-here d g live = find-with (gx g) (gx g) (λ t. record t { live = live }) d.txns ∙ ap (λ b. cond b (option_map (λ (t : Txn). record t { live = live }) (find_txn d (gx g))) (find_txn d (gx g))) (self g)
+live-here d g live = find-with (gx g) (gx g) (λ t. record t { live = live }) d.txns ∙ ap (λ b. cond b (option_map (λ (t : Txn). record t { live = live }) (find_txn d (gx g))) (find_txn d (gx g))) (eqb-self g)
 
 -- a command in a block is answered
 answers-went : (c : Coord) (g : ℕ) → Stood c.table c.works → WentBy c (answers c (gx g) (c.works g))

@@ -2,6 +2,7 @@
 use Rattle.std.proofs.Common.{◌≡◌, ◌⊎◌, ℕ, List, [], ◌∷◌, Option, Some, None, Bool, true, false, refl, sym, subst, ap, ◌∙◌, if◌then◌else◌, ◌||◌, eqb}
 use Rattle.std.proofs.lemmas.Bool.{eqb-true}
 use Rattle.std.specs.Prelude.{is_some}
+use Rattle.gx_lemmas.proofs.Numbers.{eqb-self}
 use Rattle.gx_ids.specs.declared.ids.Cid.{Cid}
 use Rattle.gx_ids.specs.declared.ids.Gxid.{Gxid}
 use Rattle.gx_ids.specs.declared.ids.Node.{Node}
@@ -20,7 +21,6 @@ use Rattle.gx_law_order.proofs.AtCoordinators.{CoordIn, UnderWay}
 use Rattle.gx_law_order.proofs.Places.{IsOneOf}
 use Rattle.gx_law_order.proofs.Stages.{gx}
 use Rattle.gx_law_order.proofs.Tables.{FoundIn, PhaseIn, find_in, has_in}
-use Rattle.gx_law_schedules.proofs.Asking.{self}
 use Rattle.gx_law_schedules.proofs.Neat.{IsDone, IsExecOf, done-waiting}
 use Rattle.gx_law_runs.proofs.Sparing.{HasWait}
 
@@ -32,7 +32,7 @@ abbrev pub IsBusy : Coord → ℕ → Type 0
 IsBusy c g = IsAsked c g ⊎ HasWait c g
 
 pub has-first : (x : Node) (xs : List Node) → has x (x ∷ xs) ≡ true
-has-first x xs = ap (λ b. b || has x xs) (self x.0)
+has-first x xs = ap (λ b. b || has x xs) (eqb-self x.0)
 
 -- BY THE STATUS
 abbrev pub IsOrdered : Option Txn → Type 0

@@ -1,8 +1,10 @@
 -- In every world, a session that isn't idle has a transaction for which some answer is awaited, or which waits for a lock.
 use Rattle.std.proofs.Common.{◌≡◌, ◌≤◌, ◌<◌, ◌⊎◌, inl, inr, ℕ, List, [], ◌∷◌, Option, Some, None, Bool, true, false, refl, sym, subst, ap, ◌∙◌, if◌then◌else◌, ◌&&◌, ◌||◌, arith, eqb}
-use Rattle.std.proofs.lemmas.Bool.{eqb-true}
+use Rattle.std.proofs.lemmas.Bool.{and_parts, eqb-true, or_right}
 use Rattle.std.proofs.lemmas.Bool.Decides.{nat_tests}
 use Rattle.std.specs.Prelude.{is_some, nat_le, nat_lt}
+use Rattle.gx_lemmas.proofs.Options.{some-same}
+use Rattle.gx_lemmas.proofs.Numbers.{eqb-self, eqb-turned}
 use Rattle.gx_ids.specs.declared.ids.Node.{Node}
 use Rattle.gx_ids.specs.declared.ids.SessionId.{SessionId}
 use Rattle.gx_tree.specs.declared.stmt.Stmt.{Stmt}
@@ -36,9 +38,7 @@ use Rattle.gx_law_order.proofs.Stages.{gx}
 use Rattle.gx_law_order.proofs.Statuses.{Stage, is_running, stage}
 use Rattle.gx_law_order.proofs.Statuses.Stage.{Absent, Live, Closing, Finished, Dropped}
 use Rattle.gx_law_order.proofs.World.{world_knows}
-use Rattle.gx_law_commit.proofs.Events.{both_of}
 use Rattle.gx_law_runs.specs.Awaiting.{IsAwaiting}
-use Rattle.gx_law_schedules.proofs.Asking.{self}
 use Rattle.gx_law_schedules.proofs.Awaited.{undrawn-none, world-asks}
 use Rattle.gx_law_schedules.proofs.Neat.{clash}
 use Rattle.gx_law_schedules.proofs.Steps.{IsHere, always}
@@ -58,9 +58,6 @@ use Rattle.gx_law_schedules.proofs.Marked.{single-here}
 use Rattle.gx_law_runs.proofs.Plans.{IsFilled}
 use Rattle.gx_law_runs.proofs.Sparing.{HasWait}
 
-turned : (g h : ℕ) → eqb g h ≡ false → eqb h g ≡ false
-turned g h e = grind (arith, nat_tests)
-
 -- a command that takes a lock is filled
 lock-filled : (tables : List Schema) (g : Gxid) (line : Stmt) (wanted : Claim) → lock_for g line ≡ Some wanted → IsWholeStmt tables line → IsFilled line
 lock-filled tables g (stmt.Select q) wanted e w = tt
@@ -77,15 +74,12 @@ lock-filled tables g stmt.Rollback wanted e w = absurd (cc)
 not-over : (c : Coord) (ms : List Mark) → Kept c → Past c ms → (g : ℕ) → is_ended ms (gx g) ≡ false → is_over (stage_of c g) ≡ false
 not-over c ms k p g running = by_found (find_txn c.table (gx g)) refl
   where
-    aborted : (a b : Bool) → b ≡ true → (a || b) ≡ true
-    aborted a b e = grind arith
-
     by_stage : (a : Stage) → stage_of c g ≡ a → (1 ≤ g) × (g < c.table.next.0) → is_over a ≡ false
     by_stage Absent e d = refl
     by_stage Live e d = refl
     by_stage Closing e d = refl
     by_stage Finished e d = clash (is_ended ms (gx g)) (p.ended g d.0 d.1 (ap is_running e)) running
-    by_stage Dropped e d = clash (is_ended ms (gx g)) (aborted (is_committed ms (gx g)) (is_aborted ms (gx g)) (p.dropped g e)) running
+    by_stage Dropped e d = clash (is_ended ms (gx g)) (or_right (is_committed ms (gx g)) (is_aborted ms (gx g)) (p.dropped g e)) running
 
     by_found : (o : Option Txn) → find_txn c.table (gx g) ≡ o → is_over (stage_of c g) ≡ false
     by_found None f = ap (λ t. is_over (stage t)) f
@@ -122,9 +116,6 @@ module _ (script : Script) (some : 1 ≤ script.segments) where
     whole-line k n [] line h e = absurd (cc)
     whole-line k n (l ∷ ls) line h e = by_test (is_same_session l.session k && eqb l.number n) e (λ f. whole-line k n ls line h.1 f)
       where
-        some-same : (a b : Stmt) → Some a ≡ Some b → a ≡ b
-        some-same a b e = cc
-
         by_test : (b : Bool) → (if b then Some l.stmt else stmt_of k n ls) ≡ Some line → (stmt_of k n ls ≡ Some line → IsWholeStmt script.tables line) → IsWholeStmt script.tables line
         by_test true e later = subst (IsWholeStmt script.tables) (some-same l.stmt line e) h.0
         by_test false e later = later e
@@ -190,7 +181,7 @@ module _ (script : Script) (some : 1 ≤ script.segments) where
               let same : g ≡ (session_of c t).transaction.0 = eqb-true g (session_of c t).transaction.0 f in
               subst (IsBusy next) (same ∙ sym (ap (λ (y : Session). y.transaction.0) (z.sessions t.0)))
               (z.asked (subst (IsBusy c) (sym same) (q t now), its g same))
-          by_test false f = as-before t (z.sessions t.0) (other _ f) (λ a. ap is_some (z.spares (session_of c t).transaction.0 (turned g (session_of c t).transaction.0 f)) ∙ a) i
+          by_test false f = as-before t (z.sessions t.0) (other _ f) (λ a. ap is_some (z.spares (session_of c t).transaction.0 (eqb-turned g (session_of c t).transaction.0 f)) ∙ a) i
       goes-wait g other (inr z) t i = by_home (eqb t.0 (c.works g).session.0) refl
         where
           by_home : (b : Bool) → eqb t.0 (c.works g).session.0 ≡ b → IsBusy next (next.sessions t.0).transaction.0
@@ -203,8 +194,8 @@ module _ (script : Script) (some : 1 ≤ script.segments) where
               by_test : (b : Bool) → eqb g (session_of c t).transaction.0 ≡ b → IsBusy next (next.sessions t.0).transaction.0
               by_test true r =
                   let home : (c.works g).session ≡ t = ap (λ n. (c.works n).session) (eqb-true g (session_of c t).transaction.0 r) ∙ (busy-runs es t now).home in
-                  clash (eqb t.0 (c.works g).session.0) (ap (λ (z : SessionId). eqb t.0 z.0) home ∙ self t.0) f
-              by_test false r = as-before t (z.others t.0 f) (other _ r) (λ a. ap is_some (z.spares (session_of c t).transaction.0 (turned g (session_of c t).transaction.0 r)) ∙ a) i
+                  clash (eqb t.0 (c.works g).session.0) (ap (λ (z : SessionId). eqb t.0 z.0) home ∙ eqb-self t.0) f
+              by_test false r = as-before t (z.others t.0 f) (other _ r) (λ a. ap is_some (z.spares (session_of c t).transaction.0 (eqb-turned g (session_of c t).transaction.0 r)) ∙ a) i
 
     -- EVENTS
     module _ (es : List (Event × Bool)) (q : DoWait (world_of script es)) (e : Event) (fails : Bool) where
@@ -254,8 +245,8 @@ module _ (script : Script) (some : 1 ≤ script.segments) where
 
       event-waits : (x : NodeEvent) → IsHere script v e x → DoWait (coord_did v e (coord_rule script v.coord x fails))
       event-waits (here.Deliver from envelope) h = message-waits from envelope h envelope.message refl
-      event-waits (here.Start s) h = stays-wait es q e (here.Start s) fails h s (λ g. tt) (start-stays s (both_of _ _ h.admitted).0 (next_line script v.coord s) refl)
-      event-waits (here.End s) h = stays-wait es q e (here.End s) fails h s (λ g. tt) (end-stays script some v.coord kept s (idle-so _ (both_of _ _ h.admitted).0) (both_of _ _ h.admitted).0 (session_of v.coord s).state.block refl)
+      event-waits (here.Start s) h = stays-wait es q e (here.Start s) fails h s (λ g. tt) (start-stays s (and_parts _ _ h.admitted).0 (next_line script v.coord s) refl)
+      event-waits (here.End s) h = stays-wait es q e (here.End s) fails h s (λ g. tt) (end-stays script some v.coord kept s (idle-so _ (and_parts _ _ h.admitted).0) (and_parts _ _ h.admitted).0 (session_of v.coord s).state.block refl)
       event-waits (here.Resend i (Some g)) h = rest-wait es q e (here.Resend i (Some g)) fails h (resend-same i (awaited v.coord g i)) (resend-locks i (awaited v.coord g i)) (λ g. tt)
       event-waits (here.Resend i None) h = rest-wait es q e (here.Resend i None) fails h (λ t. refl) refl (λ g. tt)
       event-waits (here.Resume g) h = goes-wait es q e (here.Resume g) fails h g.0 (λ n other. tt) (out-goes g (going-out script v (world_knows script some es) g h.admitted))

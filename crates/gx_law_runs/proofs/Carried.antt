@@ -2,6 +2,8 @@
 use Rattle.std.proofs.Common.{◌≡◌, ◌≤◌, ℕ, List, [], ◌∷◌, ◌++◌, Option, Some, None, Bool, true, false, refl, sym, subst, ap, ◌∙◌, if◌then◌else◌, ◌&&◌, arith, eqb}
 use Rattle.std.proofs.lemmas.Bool.Decides.{nat_tests}
 use Rattle.std.specs.Prelude.{is_some}
+use Rattle.gx_lemmas.proofs.Options.{some-same}
+use Rattle.gx_lemmas.proofs.Numbers.{eqb-turned}
 use Rattle.gx_ids.specs.declared.ids.Gxid.{Gxid}
 use Rattle.gx_ids.specs.declared.ids.Node.{Node}
 use Rattle.gx_msg.specs.declared.message.Envelope.{Envelope}
@@ -40,10 +42,7 @@ IsOther g (here.Deliver from envelope) = IsOtherMessage g envelope.message
 IsOther g _ = Unit {0}
 
 other-answer : (a : Option Message) (g : ℕ) (m : Message) → IsOtherMessage g m → is_answer_to a (gx g) (Some m) ≡ false
-other-answer a g (message.Answer h r) e = answer-other a h.0 g r (turned h.0 g e)
-  where
-    turned : (h g : ℕ) → eqb h g ≡ false → eqb g h ≡ false
-    turned h g e = grind (arith, nat_tests)
+other-answer a g (message.Answer h r) e = answer-other a h.0 g r (eqb-turned h.0 g e)
 other-answer a g (message.Exec h c l x y s) e = no-answer a (gx g) (message.Exec h c l x y s) tt
 other-answer a g (message.Prepare h) e = no-answer a (gx g) (message.Prepare h) tt
 other-answer a g (message.Commit h) e = no-answer a (gx g) (message.Commit h) tt
@@ -94,9 +93,6 @@ module _ (script : Script) (some : 1 ≤ script.segments) (es : List (Event × B
   unless-other : (i : Node) (g : ℕ) (a : Option Message) → IsOther g x → unless_answered w.steps i (gx g) a e ≡ a
   unless-other i g a o = by_event e x h.is o
     where
-      some-same : {A : Type 0} (a b : A) → Some a ≡ Some b → a ≡ b
-      some-same a b e = cc
-
       by_event : (e : Event) (x : NodeEvent) → at_node (world_of script es) e ≡ Some x → IsOther g x → unless_answered (world_of script es).steps i (gx g) a e ≡ a
       by_event (event.Receive from to number) x s o = by_found (found from to number (world_of script es).sent) refl s
         where

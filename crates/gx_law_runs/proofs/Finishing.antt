@@ -4,6 +4,8 @@ use Rattle.std.proofs.lemmas.Bool.{eqb-true}
 use Rattle.std.proofs.lemmas.Bool.Decides.{nat_tests}
 use Rattle.std.proofs.lemmas.List.Folds.{list_any_at}
 use Rattle.std.proofs.lemmas.List.FromFn.{get_or-map-range_with_len, length-map-range_with_len}
+use Rattle.gx_lemmas.proofs.Numbers.{le-of, lt-of}
+use Rattle.gx_lemmas.proofs.Tests.{true-false}
 use Rattle.gx_ids.specs.declared.ids.SessionId.{SessionId}
 use Rattle.gx_script.specs.declared.Script.{Script}
 use Rattle.gx_store.specs.declared.event.Event.{Event}
@@ -79,9 +81,6 @@ module _ (script : Script) (some : 1 ≤ script.segments) where
       among-finished : (k : SessionId) → k.0 < count → is_unfinished script w.steps k ≡ false
       among-finished k l = by_test (is_unfinished script w.steps k) refl
         where
-          not-both : (b : Bool) → b ≡ true → b ≡ false → ⊥
-          not-both b e f = cc
-
           at : get_or (sessions_of script) k.0 k ≡ k
           at = get_or-map-range_with_len (λ n. let x : SessionId = record { 0 = n } in x) 0 count k.0 k.0 k l (omega arith)
 
@@ -91,21 +90,15 @@ module _ (script : Script) (some : 1 ≤ script.segments) where
               (subst (λ n. k.0 < n) (sym (length-map-range_with_len (λ n. let x : SessionId = record { 0 = n } in x) 0 count)) l) (ap (is_unfinished script w.steps) at ∙ e)
 
           by_test : (b : Bool) → is_unfinished script w.steps k ≡ b → b ≡ false
-          by_test true e = absurd (not-both (is_any_unfinished script w.steps) (found e) over)
+          by_test true e = absurd (true-false (is_any_unfinished script w.steps) (found e) over)
           by_test false e = refl
 
       finished : (k : SessionId) → is_unfinished script w.steps k ≡ false
       finished k = by_test (nat_lt k.0 count) refl
         where
-          below : (a b : ℕ) → nat_lt a b ≡ true → a < b
-          below a b e = grind (arith, nat_tests)
-
-          above : (a b : ℕ) → nat_lt a b ≡ false → b ≤ a
-          above a b e = grind (arith, nat_tests)
-
           by_test : (b : Bool) → nat_lt k.0 count ≡ b → is_unfinished script w.steps k ≡ false
-          by_test true e = among-finished k (below k.0 count e)
-          by_test false e = beyond-finished k (above k.0 count e)
+          by_test true e = among-finished k (lt-of k.0 count e)
+          by_test false e = beyond-finished k (le-of k.0 count e)
 
       all-answered : (k : SessionId) → answer_count k (marks_in w.steps) ≡ line_count k script.lines
       all-answered k = eqb-true (answer_count k (marks_in w.steps)) (line_count k script.lines) (same _ _ (finished k))

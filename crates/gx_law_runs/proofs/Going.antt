@@ -3,6 +3,7 @@ use Rattle.std.proofs.lemmas.Bool.Decides.{nat_tests}
 use Rattle.std.proofs.Common.{◌≡◌, ◌≤◌, ◌<◌, ◌⊎◌, inl, inr, ℕ, ◌+◌, ◌-◌, List, [], ◌∷◌, ◌++◌, Option, None, Some, Bool, true, false, refl, sym, subst, ap, ◌∙◌, if◌then◌else◌, ◌&&◌, ◌||◌, not, arith, length}
 use Rattle.std.specs.Prelude.{◌==◌, filter, is_some, map}
 use Rattle.std.specs.List.{flat_map, list_all}
+use Rattle.gx_lemmas.proofs.Tests.{and-first, false-true}
 use Rattle.gx_ids.specs.declared.ids.Gxid.{Gxid}
 use Rattle.gx_ids.specs.declared.ids.Node.{Node}
 use Rattle.gx_ids.specs.declared.ids.SessionId.{SessionId}
@@ -40,9 +41,6 @@ use Rattle.gx_law_runs.specs.Awaiting.{IsAwaiting, IsBlocked, locks_at}
 use Rattle.gx_law_runs.proofs.Busy.{busy-awaits}
 use Rattle.gx_law_runs.proofs.Nothing.{in-nodes, in-range, nil-filter, nil-first, nil-flat, nil-left, nil-map, nil-right, none-any}
 
-differ : false ≡ true → ⊥
-differ e = cc
-
 -- NOTHING BUT A ROUND IS ENABLED
 module _ (script : Script) (some : 1 ≤ script.segments) (inserts : AreInsertsWhole script.tables script.lines) (es : List (Event × Bool)) (nothing : list_all is_round (enabled script (world_of script es).steps) ≡ true) where
   abbrev w : World
@@ -65,19 +63,16 @@ module _ (script : Script) (some : 1 ≤ script.segments) (inserts : AreInsertsW
 
   -- no round is admitted, and all else that is enabled is
   not-round : (e : Event) → can script w e ≡ true → is_round e ≡ true → ⊥
-  not-round (event.Receive from to number) ok e = differ e
-  not-round (event.Resume n g) ok e = differ e
-  not-round (event.Start s) ok e = differ e
-  not-round (event.End s) ok e = differ e
-  not-round (event.Resend i g) ok e = differ e
-  not-round event.Round ok e = differ ok
+  not-round (event.Receive from to number) ok e = false-true e
+  not-round (event.Resume n g) ok e = false-true e
+  not-round (event.Start s) ok e = false-true e
+  not-round (event.End s) ok e = false-true e
+  not-round (event.Resend i g) ok e = false-true e
+  not-round event.Round ok e = false-true ok
 
   none-admitted : (xs ys : List Event) → Each (λ e. can script w e ≡ true) xs → list_all is_round (xs ++ ys) ≡ true → xs ≡ []
   none-admitted [] ys a e = refl
-  none-admitted (x ∷ xs) ys a e = absurd (not-round x a.0 (first (is_round x) (list_all is_round (xs ++ ys)) e))
-    where
-      first : (a b : Bool) → (a && b) ≡ true → a ≡ true
-      first a b e = grind arith
+  none-admitted (x ∷ xs) ys a e = absurd (not-round x a.0 (and-first (is_round x) (list_all is_round (xs ++ ys)) e))
 
   six-parts : receipts ++ deliveries ++ resumptions-here ++ again ++ starts_by script c ++ ends_by script c ≡ []
   six-parts = none-admitted _ (rounds_by script w) (each-admitted script some es) (sym (ap (list_all is_round) (enabled-there script some es)) ∙ nothing)

@@ -1,9 +1,10 @@
 -- Lists with nothing in them, and what holds of each in a row.
 use Rattle.std.proofs.Common.{◌≡◌, ◌≤◌, ◌<◌, ℕ, zero, suc, ◌+◌, List, [], ◌∷◌, ◌++◌, Bool, true, false, refl, subst, ◌||◌, arith, cond, eqb}
-use Rattle.std.proofs.lemmas.Bool.{eqb-true}
+use Rattle.std.proofs.lemmas.Bool.{eqb-true, or_from}
 use Rattle.std.proofs.lemmas.Bool.Decides.{nat_tests}
 use Rattle.std.specs.Prelude.{filter, map}
 use Rattle.std.specs.List.{flat_map, list_any, range_with_len}
+use Rattle.gx_lemmas.proofs.Numbers.{le-apart}
 use Rattle.gx_ids.specs.declared.ids.Node.{Node}
 use Rattle.gx_meaning.specs.Plan.{nodes_from}
 use Rattle.gx_store.specs.declared.event.Event.{Event}
@@ -35,8 +36,8 @@ nil-filter t [] e = tt
 nil-filter t (x ∷ xs) e = by_test (t x) refl e (λ f. nil-filter t xs f)
   where
     by_test : (b : Bool) → t x ≡ b → cond b (x ∷ filter t xs) (filter t xs) ≡ [] → (filter t xs ≡ [] → Each (λ x. t x ≡ false) xs) → (t x ≡ false) × Each (λ x. t x ≡ false) xs
-    by_test true q e later = absurd (cc)
-    by_test false q e later = (q, later e)
+    by_test true q e le-apart = absurd (cc)
+    by_test false q e le-apart = (q, le-apart e)
 
 -- of each in a row of numbers
 pub in-range : (P : ℕ → Type 0) (a n k : ℕ) → Each P (range_with_len a n) → a ≤ k → k < a + n → P k
@@ -46,15 +47,12 @@ in-range P a zero k e l h = absurd (none a k l h)
     none a k l h = omega arith
 in-range P a (suc n) k e l h = by_first (eqb a k) refl (λ m. in-range P (a + 1) n k e.1 m (on a n k h))
   where
-    later : (a k : ℕ) → a ≤ k → eqb a k ≡ false → a + 1 ≤ k
-    later a k l e = grind (arith, nat_tests)
-
     on : (a n k : ℕ) → k < a + suc n → k < a + 1 + n
     on a n k h = omega arith
 
     by_first : (b : Bool) → eqb a k ≡ b → (a + 1 ≤ k → P k) → P k
     by_first true q beyond = subst P (eqb-true a k q) e.0
-    by_first false q beyond = beyond (later a k l q)
+    by_first false q beyond = beyond (le-apart a k l q)
 
 -- of each in a row of segments
 pub in-nodes : (P : Node → Type 0) (a n : ℕ) (i : Node) → Each P (nodes_from a n) → a ≤ i.0 → i.0 < a + n → P i
@@ -64,19 +62,13 @@ in-nodes P a zero i e l h = absurd (none a i.0 l h)
     none a k l h = omega arith
 in-nodes P a (suc n) i e l h = by_first (eqb a i.0) refl (λ m. in-nodes P (a + 1) n i e.1 m (on a n i.0 h))
   where
-    later : (a k : ℕ) → a ≤ k → eqb a k ≡ false → a + 1 ≤ k
-    later a k l e = grind (arith, nat_tests)
-
     on : (a n k : ℕ) → k < a + suc n → k < a + 1 + n
     on a n k h = omega arith
 
     by_first : (b : Bool) → eqb a i.0 ≡ b → (a + 1 ≤ i.0 → P i) → P i
     by_first true q beyond = subst (λ k. P (record { 0 = k })) (eqb-true a i.0 q) e.0
-    by_first false q beyond = beyond (later a i.0 l q)
+    by_first false q beyond = beyond (le-apart a i.0 l q)
 
 pub none-any : {A : Type 0} (t : A → Bool) (xs : List A) → Each (λ x. t x ≡ false) xs → list_any t xs ≡ false
 none-any t [] e = refl
-none-any t (x ∷ xs) e = neither (t x) (list_any t xs) e.0 (none-any t xs e.1)
-  where
-    neither : (a b : Bool) → a ≡ false → b ≡ false → (a || b) ≡ false
-    neither a b e f = grind arith
+none-any t (x ∷ xs) e = or_from (t x) (list_any t xs) e.0 (none-any t xs e.1)

@@ -1,6 +1,7 @@
 -- A command goes to some segment.
 use Rattle.std.proofs.Common.{◌≡◌, ◌≤◌, ℕ, zero, suc, List, [], ◌∷◌, Option, Some, None, Result, Ok, Err, true, refl, arith}
 use Rattle.std.specs.Prelude.{map}
+use Rattle.gx_lemmas.proofs.Numbers.{one-le-none}
 use Rattle.gx_ids.specs.declared.ids.Cid.{Cid}
 use Rattle.gx_ids.specs.declared.ids.Gxid.{Gxid}
 use Rattle.gx_ids.specs.declared.ids.Node.{Node}
@@ -54,11 +55,8 @@ module _ (n : ℕ) (some : 1 ≤ n) where
   all-full : IsFull (nodes_from 1 n)
   all-full = by_count n some
     where
-      none : 1 ≤ 0 → ⊥
-      none l = omega arith
-
       by_count : (k : ℕ) → 1 ≤ k → IsFull (nodes_from 1 k)
-      by_count zero l = absurd (none l)
+      by_count zero l = absurd (one-le-none l)
       by_count (suc k) l = tt
 
   key-full : (v : Option Value) → IsFull (nodes_of n (key_target n v))

@@ -1,6 +1,9 @@
 -- What an answer makes of the session of its transaction.
 use Rattle.std.proofs.Common.{◌≡◌, inl, inr, ℕ, List, [], ◌∷◌, Option, Some, None, Bool, true, false, refl, sym, subst, ap, ◌∙◌, if◌then◌else◌, ◌&&◌, eqb}
 use Rattle.std.specs.Prelude.{is_some}
+use Rattle.std.proofs.lemmas.Bool.{and_parts}
+use Rattle.gx_lemmas.proofs.Numbers.{eqb-self}
+use Rattle.gx_lemmas.proofs.Tests.{false-true}
 use Rattle.gx_ids.specs.declared.ids.Cid.{Cid}
 use Rattle.gx_ids.specs.declared.ids.Node.{Node}
 use Rattle.gx_tree.specs.declared.part.Part.{Part}
@@ -24,9 +27,9 @@ use Rattle.gx_law_order.proofs.Stages.{gx, left_of}
 use Rattle.gx_law_order.proofs.Statuses.{Stage, stage, stage_in}
 use Rattle.gx_law_order.proofs.Statuses.Stage.{Finished, Dropped, Live}
 use Rattle.gx_law_commit.proofs.Dispatching.{IsLive}
-use Rattle.gx_law_commit.proofs.Events.{both_of, live-stage}
+use Rattle.gx_law_commit.proofs.Events.{live-stage}
 use Rattle.gx_law_commit.proofs.Nodes.{has-without}
-use Rattle.gx_law_schedules.proofs.Asking.{AreNeat, self}
+use Rattle.gx_law_schedules.proofs.Asking.{AreNeat}
 use Rattle.gx_law_schedules.proofs.Neat.{IsDone, NeatCommand, NeatPhase, NeatTxn}
 use Rattle.gx_law_runs.proofs.Asked.{IsAsked, IsBusy, IsOrdered, command-asked, done-unless, exec-some, has-first, ordered-asked}
 use Rattle.gx_law_runs.proofs.Turns.{Goes, answer-settles, changed-finds, commits-goes, ended-not, follows-goes, goes-by, goes-with, refused-settles, settles}
@@ -121,13 +124,10 @@ module _ (c : Coord) (k : Kept c) (n : AreNeat c) (g : ℕ) where
       next = with_work c (gx g) work
 
       own : next.works g ≡ work
-      own = ap (λ (b : Bool). if b then work else c.works g) (self g)
+      own = ap (λ (b : Bool). if b then work else c.works g) (eqb-self g)
 
       live : IsLive c g
-      live = live-stage c g ((k.tied g).awaits m it (λ z. differ (sym (ap (has j) z) ∙ there))).0
-        where
-          differ : false ≡ true → ⊥
-          differ z = cc
+      live = live-stage c g ((k.tied g).awaits m it (λ z. false-true (sym (ap (has j) z) ∙ there))).0
 
       -- who is still awaited has an order
       ordered : (i : Node) → has i (without j m.awaited) ≡ true → is_some (order_to i m.orders) ≡ true
@@ -160,7 +160,7 @@ module _ (c : Coord) (k : Kept c) (n : AreNeat c) (g : ℕ) where
     on-done-goes cid wrote count part (Some m) e = by_test (is_awaited m j cid && fits_part m.stmt part) refl
       where
         by_test : (b : Bool) → (is_awaited m j cid && fits_part m.stmt part) ≡ b → Goes Before c g (if b then takes_done c (gx g) j wrote count part m else rests c)
-        by_test true q = done-goes wrote count part m e (both_of _ _ (both_of _ _ q).0).1
+        by_test true q = done-goes wrote count part m e (and_parts _ _ (and_parts _ _ q).0).1
         by_test false q = rest-goes
 
     on-failed-goes : (cid : Cid) (why : Cause) (m : Option Command) → Goes Before c g (on_failed c (gx g) j cid why m)

@@ -1,5 +1,7 @@
 -- A transaction that hasn't ended is that of a session that is unfinished.
 use Rattle.std.proofs.Common.{◌≡◌, ◌≤◌, ◌<◌, ℕ, List, Bool, true, false, refl, ap, ◌||◌, not, arith}
+use Rattle.std.proofs.lemmas.Bool.{or_right}
+use Rattle.gx_lemmas.proofs.Tests.{true-false}
 use Rattle.gx_ids.specs.declared.ids.SessionId.{SessionId}
 use Rattle.gx_script.specs.declared.Script.{Script}
 use Rattle.gx_script.specs.declared.state.Block.{Block}
@@ -28,24 +30,18 @@ module _ (script : Script) (c : Coord) (ms : List Mark) (kept : Kept c) (past : 
     abbrev x : Session
     x = session_of c s
 
-    not-both : (b : Bool) → b ≡ true → b ≡ false → ⊥
-    not-both b e f = cc
-
     not-live : stage_of c g ≡ Live → ⊥
-    not-live e = not-both (is_unfinished_there script c s) (live-unfinished x.state.block x.state.pending (is_left (next_line script c s)) ((kept.tied g).live e).1) (finished s)
+    not-live e = true-false (is_unfinished_there script c s) (live-unfinished x.state.block x.state.pending (is_left (next_line script c s)) ((kept.tied g).live e).1) (finished s)
 
     not-closing : stage_of c g ≡ Closing → ⊥
-    not-closing e = not-both (is_unfinished_there script c s) (closing-unfinished x.state.block x.state.pending (is_left (next_line script c s)) ((kept.tied g).closing e).1) (finished s)
+    not-closing e = true-false (is_unfinished_there script c s) (closing-unfinished x.state.block x.state.pending (is_left (next_line script c s)) ((kept.tied g).closing e).1) (finished s)
 
     pub all-ended : 1 ≤ g → g < c.table.next.0 → is_ended ms (gx g) ≡ true
     all-ended one drawn = by_stage (stage_of c g) refl
       where
-        either : (a b : Bool) → b ≡ true → (a || b) ≡ true
-        either a b e = grind arith
-
         by_stage : (a : Stage) → stage_of c g ≡ a → is_ended ms (gx g) ≡ true
         by_stage Absent e = past.ended g one drawn (ap is_running e)
         by_stage Live e = absurd (not-live e)
         by_stage Closing e = absurd (not-closing e)
         by_stage Finished e = past.ended g one drawn (ap is_running e)
-        by_stage Dropped e = either (is_committed ms (gx g)) _ (past.dropped g e)
+        by_stage Dropped e = or_right (is_committed ms (gx g)) _ (past.dropped g e)

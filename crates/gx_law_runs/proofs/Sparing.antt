@@ -2,6 +2,7 @@
 use Rattle.std.proofs.Common.{◌≡◌, ◌==◌, ℕ, List, [], ◌∷◌, ◌++◌, Some, None, Bool, true, false, not, refl, ap, ◌∙◌, if◌then◌else◌, arith, cond, eqb}
 use Rattle.std.proofs.lemmas.Bool.Decides.{nat_tests}
 use Rattle.std.specs.Prelude.{find, is_some}
+use Rattle.gx_lemmas.proofs.Numbers.{eqb-self}
 use Rattle.gx_waits.specs.declared.claim.Claim.{Claim}
 use Rattle.gx_locks.specs.Claims.{is_of}
 use Rattle.gx_locks.specs.Locks.{Locks, resumed, wait_of, without}
@@ -59,7 +60,4 @@ module _ (l : Locks) (g : ℕ) (wanted : Claim) (own : wanted.gxid ≡ gx g) whe
       turned h g e = grind (arith, nat_tests)
 
   pub waits-own : is_some (wait_of (with_wait l wanted) (gx g)) ≡ true
-  waits-own = find-own g l.waits wanted (ap (λ k. k.0 == g) own ∙ same g)
-    where
-      same : (g : ℕ) → (g == g) ≡ true
-      same g = grind (arith, nat_tests)
+  waits-own = find-own g l.waits wanted (ap (λ k. k.0 == g) own ∙ eqb-self g)

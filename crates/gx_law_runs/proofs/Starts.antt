@@ -1,6 +1,7 @@
 -- What the start of a line and the end of a session make of it: it is idle, or it waits for some node's answer.
 use Rattle.std.proofs.Common.{◌≡◌, ◌≤◌, inl, inr, ℕ, ◌+◌, List, [], ◌∷◌, ◌++◌, Option, Some, None, Result, Ok, Err, Bool, true, false, refl, sym, subst, ap, ◌∙◌, if◌then◌else◌, arith, eqb}
 use Rattle.std.specs.Prelude.{is_some}
+use Rattle.gx_lemmas.proofs.Numbers.{eqb-self}
 use Rattle.gx_ids.specs.declared.ids.Cid.{Cid}
 use Rattle.gx_ids.specs.declared.ids.SessionId.{SessionId}
 use Rattle.gx_tree.specs.declared.schema.Schema.{Schema}
@@ -31,7 +32,7 @@ use Rattle.gx_law_order.proofs.Sessions.{Kept, is_nothing_in, is_open_in, is_wor
 use Rattle.gx_law_order.proofs.Stages.{gx}
 use Rattle.gx_law_commit.proofs.Dispatching.{IsLive}
 use Rattle.gx_law_commit.proofs.Events.{live-stage}
-use Rattle.gx_law_schedules.proofs.Asking.{self, with_waiting}
+use Rattle.gx_law_schedules.proofs.Asking.{with_waiting}
 use Rattle.gx_law_schedules.proofs.Neat.{IsDone, clash}
 use Rattle.gx_law_runs.proofs.Asked.{IsBusy, command-asked, done-unless, has-first}
 use Rattle.gx_law_runs.proofs.Plans.{IsFilled, IsPlanFull, plan-full}
@@ -72,7 +73,7 @@ module _ (script : Script) (some : 1 ≤ script.segments) (c : Coord) (g : ℕ) 
     locks : r.coord.locks ≡ c.locks
 
   reads-by : (cid : Cid) (o : Option Snapshot) → Reads (reads_by c (gx g) cid (work_of c (gx g)) o)
-  reads-by cid None = record { sessions = refl; home = ap (λ (b : Bool). (if b then record (work_of c (gx g)) { snapshot = kept_at (work_of c (gx g)).level (snapshot_of c.table) } else c.works g).session) (self g); locks = refl }
+  reads-by cid None = record { sessions = refl; home = ap (λ (b : Bool). (if b then record (work_of c (gx g)) { snapshot = kept_at (work_of c (gx g)).level (snapshot_of c.table) } else c.works g).session) (eqb-self g); locks = refl }
   reads-by cid (Some x) = record { sessions = refl; home = refl; locks = refl }
 
   reads-so : (cid : Cid) (line : Stmt) → Reads (reads_for c (gx g) cid (work_of c (gx g)) line)
@@ -97,10 +98,10 @@ module _ (script : Script) (some : 1 ≤ script.segments) (c : Coord) (g : ℕ) 
       m = record { stmt = line; cid = cid; orders = orders_of (gx g) cid (work_of r.coord (gx g)).level r.snapshot (horizon_of r.coord.table) (p ∷ ps); awaited = nodes_in (p ∷ ps); count = 0; parts = [] }
 
       own : (turn.coord.works g).command ≡ Some m
-      own = ap (λ (b : Bool). (if b then record (work_of r.coord (gx g)) { last = cid.0; command = Some m } else r.coord.works g).command) (self g)
+      own = ap (λ (b : Bool). (if b then record (work_of r.coord (gx g)) { last = cid.0; command = Some m } else r.coord.works g).command) (eqb-self g)
 
       first : is_some (order_to p.node m.orders) ≡ true
-      first = ap (λ (b : Bool). is_some (if b then Some (order_of (gx g) cid (work_of r.coord (gx g)).level r.snapshot (horizon_of r.coord.table) p).message else order_to p.node (orders_of (gx g) cid (work_of r.coord (gx g)).level r.snapshot (horizon_of r.coord.table) ps))) (self p.node.0)
+      first = ap (λ (b : Bool). is_some (if b then Some (order_of (gx g) cid (work_of r.coord (gx g)).level r.snapshot (horizon_of r.coord.table) p).message else order_to p.node (orders_of (gx g) cid (work_of r.coord (gx g)).level r.snapshot (horizon_of r.coord.table) ps))) (eqb-self p.node.0)
 
   locked-goes : (line : Stmt) → IsFilled line → Goes (Unit {0}) c g (goes_on_locked script c (gx g) line)
   locked-goes line f =
@@ -134,7 +135,7 @@ module _ (script : Script) (some : 1 ≤ script.segments) (c : Coord) (g : ℕ) 
   resume-goes wanted =
       let d : Coord = with_waiting c g (resumed c.locks (gx g) (Some wanted)) None in
       held-goes d wanted
-      (goes-by (Unit {0}) d c g (goes_on_locked script d (gx g) line) refl (ap (λ (b : Bool). (if b then record (c.works g) { waiting = None } else c.works g).session) (self g)) (resumed-spares c.locks g wanted) (locked-goes script some d g line f))
+      (goes-by (Unit {0}) d c g (goes_on_locked script d (gx g) line) refl (ap (λ (b : Bool). (if b then record (c.works g) { waiting = None } else c.works g).session) (eqb-self g)) (resumed-spares c.locks g wanted) (locked-goes script some d g line f))
 
 -- THE SESSION
 module _ (c : Coord) (s : SessionId) where
@@ -152,7 +153,7 @@ module _ (c : Coord) (s : SessionId) where
   quiet turn y all i spared =
       record {
         others = λ j e. all j ∙ ap (λ (b : Bool). if b then y else c.sessions j) e;
-        asked = λ e. clash (is_idle (turn.coord.sessions s.0)) (ap is_idle (all s.0 ∙ ap (λ (b : Bool). if b then y else c.sessions s.0) (self s.0)) ∙ i) e;
+        asked = λ e. clash (is_idle (turn.coord.sessions s.0)) (ap is_idle (all s.0 ∙ ap (λ (b : Bool). if b then y else c.sessions s.0) (eqb-self s.0)) ∙ i) e;
         spares = spared;
       }
 
@@ -190,7 +191,7 @@ module _ (script : Script) (some : 1 ≤ script.segments) (c : Coord) (k : Kept 
   own-apart opened h e = by_test (eqb h own) refl
     where
       by_test : (b : Bool) → eqb h own ≡ b → eqb h own ≡ false
-      by_test true q = clash (eqb (c.works h).session.0 s.0) (ap (λ k. eqb (c.works k).session.0 s.0) (eqb-true h own q) ∙ ap (λ (x : SessionId). eqb x.0 s.0) (own-home opened) ∙ self s.0) e
+      by_test true q = clash (eqb (c.works h).session.0 s.0) (ap (λ k. eqb (c.works k).session.0 s.0) (eqb-true h own q) ∙ ap (λ (x : SessionId). eqb x.0 s.0) (own-home opened) ∙ eqb-self s.0) e
       by_test false q = q
 
   -- it is idle, so no answer to a command is awaited
@@ -207,7 +208,7 @@ module _ (script : Script) (some : 1 ≤ script.segments) (c : Coord) (k : Kept 
   led asked = record (session_of c s) { lines = (session_of c s).lines + 1; state = after_line block asked }
 
   led-now : (asked : LineStep) → session_of (starts_line c s asked) s ≡ led asked
-  led-now asked = ap (λ (b : Bool). if b then led asked else session_of c s) (self s.0)
+  led-now asked = ap (λ (b : Bool). if b then led asked else session_of c s) (eqb-self s.0)
 
   led-others : (asked : LineStep) (j : ℕ) → eqb j s.0 ≡ false → (starts_line c s asked).sessions j ≡ c.sessions j
   led-others asked j e = ap (λ (b : Bool). if b then led asked else c.sessions j) e
@@ -227,8 +228,8 @@ module _ (script : Script) (some : 1 ≤ script.segments) (c : Coord) (k : Kept 
   alone-stays line f =
       does c s (fresh (step.Command true) ReadCommitted) c.table.next.0 _
       (λ j e. fresh-at (step.Command true) ReadCommitted j ∙ ap (λ (b : Bool). if b then record (led (step.Command true)) { transaction = c.table.next } else c.sessions j) e)
-      (ap (λ (b : Bool). (if b then new_work s ReadCommitted else c.works c.table.next.0).session) (self c.table.next.0))
-      (ap (λ (y : Session). y.transaction.0) (fresh-at (step.Command true) ReadCommitted s.0 ∙ ap (λ (b : Bool). if b then record (led (step.Command true)) { transaction = c.table.next } else c.sessions s.0) (self s.0)))
+      (ap (λ (b : Bool). (if b then new_work s ReadCommitted else c.works c.table.next.0).session) (eqb-self c.table.next.0))
+      (ap (λ (y : Session). y.transaction.0) (fresh-at (step.Command true) ReadCommitted s.0 ∙ ap (λ (b : Bool). if b then record (led (step.Command true)) { transaction = c.table.next } else c.sessions s.0) (eqb-self s.0)))
       refl (λ h e n. n) (behind-goes (dispatch-goes script some (fresh (step.Command true) ReadCommitted) c.table.next.0 line f))
     where
       behind-goes : Goes (Unit {0}) (fresh (step.Command true) ReadCommitted) c.table.next.0 (dispatches script (fresh (step.Command true) ReadCommitted) c.table.next line) → Goes (Unit {0}) (fresh (step.Command true) ReadCommitted) c.table.next.0 (behind (mark.Start c.table.next s ∷ []) (dispatches script (fresh (step.Command true) ReadCommitted) c.table.next line))

@@ -3,6 +3,7 @@ use Rattle.std.proofs.Common.{◌==◌, ◌≡◌, ◌≤◌, ℕ, ◌&&◌, Boo
 use Rattle.std.proofs.lemmas.Bool.Decides.{nat_tests}
 use Rattle.std.proofs.lemmas.List.{append_cancel_left}
 use Rattle.std.specs.Prelude.{None, Option, Some}
+use Rattle.gx_lemmas.proofs.Numbers.{same-of}
 use Rattle.gx_ids.specs.declared.ids.Node.{Node}
 use Rattle.gx_script.specs.declared.Script.{Script}
 use Rattle.gx_store.specs.declared.event.Event.{Event}
@@ -35,10 +36,7 @@ same-marks steps done step e =
     ap (λ (s : Step). s.marks) same
 
 same-node : (at node : Node) → is_same_node at node ≡ true → at ≡ node
-same-node at node e = let n : at.0 ≡ node.0 = number at.0 node.0 e in ap (λ m. record { 0 = m }) n
-  where
-    number : (m n : ℕ) → (m == n) ≡ true → m ≡ n
-    number m n e = grind (arith, nat_tests)
+same-node at node e = let n : at.0 ≡ node.0 = same-of at.0 node.0 e in ap (λ m. record { 0 = m }) n
 
 module _ (script : Script) (w : World) (named : (i : ℕ) → 1 ≤ i → (w.segs i).node ≡ record { 0 = i }) (e : Event) (fails : Bool) (step : Step) where
   abbrev Leads : World → Type 0

@@ -1,6 +1,7 @@
 -- What a turn about one transaction makes of its session: it has an answer, or it waits for some node's.
 use Rattle.std.proofs.Common.{◌≡◌, ◌⊎◌, inl, inr, ℕ, List, [], ◌∷◌, Option, Some, None, Bool, true, false, refl, sym, subst, ap, ◌∙◌, if◌then◌else◌, eqb}
 use Rattle.std.specs.Prelude.{is_some}
+use Rattle.gx_lemmas.proofs.Numbers.{eqb-self}
 use Rattle.gx_ids.specs.declared.ids.Node.{Node}
 use Rattle.gx_dtx.specs.Rules.{Turn, changed, commit_found, commits as commits_in, ends_committed, on_commit}
 use Rattle.gx_dtx.specs.Table.{find_txn}
@@ -17,7 +18,6 @@ use Rattle.gx_rules.specs.AtCoordinator.{answers, commits, failure_marks, follow
 use Rattle.gx_rules.specs.Coordinators.{Coord, CoordTurn, Session, work_of}
 use Rattle.gx_law_order.proofs.Stages.{IsWhole, changed-at, gx, left_of}
 use Rattle.gx_law_commit.proofs.Dispatching.{IsLive}
-use Rattle.gx_law_schedules.proofs.Asking.{self}
 use Rattle.gx_law_schedules.proofs.Neat.{IsDone, clash}
 use Rattle.gx_law_runs.proofs.Asked.{IsBusy, IsOrdered, has-first, ordered-asked}
 use Rattle.gx_law_runs.proofs.Sparing.{Spares, released-spares}
@@ -38,7 +38,7 @@ ended-not g nodes e = clash (settles (ends_committed (gx g) nodes).out.outcome) 
 
 commit-ordered : (g : ℕ) (ws : List Node) (t : Txn) → settles (commits_in (gx g) ws t).out.outcome ≡ false → IsOrdered (left_of (commits_in (gx g) ws t).step (Some t))
 commit-ordered g [] t e = ended-not g t.participants e
-commit-ordered g (x ∷ []) t e = (x, ap (λ (b : Bool). is_some (if b then Some order.Commit else None)) (self x.0))
+commit-ordered g (x ∷ []) t e = (x, ap (λ (b : Bool). is_some (if b then Some order.Commit else None)) (eqb-self x.0))
 commit-ordered g (x ∷ y ∷ ws) t e = (x, ap (λ (b : Bool). is_some (if b then Some order.Prepare else None)) (has-first x (y ∷ ws)))
 
 -- TURNS
@@ -66,7 +66,7 @@ module _ (B : Type 0) (c : Coord) (g : ℕ) where
   settled turn y all i spared =
       record {
         others = λ j e. all j ∙ ap (λ (b : Bool). if b then y else c.sessions j) e;
-        idle = ap is_idle (all home ∙ ap (λ (b : Bool). if b then y else c.sessions home) (self home)) ∙ i;
+        idle = ap is_idle (all home ∙ ap (λ (b : Bool). if b then y else c.sessions home) (eqb-self home)) ∙ i;
         spares = spared;
       }
 
@@ -88,7 +88,7 @@ module _ (B : Type 0) (c : Coord) (g : ℕ) where
 
   -- what a change leaves of the transaction
   pub changed-finds : IsWhole c.table → (ch : Change) → find_txn (changed c.table (gx g) ch) (gx g) ≡ left_of ch.step (find_txn c.table (gx g))
-  changed-finds whole ch = (changed-at c.table g ch whole).finds g ∙ ap (λ (b : Bool). if b then left_of ch.step (find_txn c.table (gx g)) else find_txn c.table (gx g)) (self g)
+  changed-finds whole ch = (changed-at c.table g ch whole).finds g ∙ ap (λ (b : Bool). if b then left_of ch.step (find_txn c.table (gx g)) else find_txn c.table (gx g)) (eqb-self g)
 
   pub commits-goes : IsWhole c.table → IsLive c g → IsDone (c.works g).command → Goes (commits c (gx g))
   commits-goes whole live done =

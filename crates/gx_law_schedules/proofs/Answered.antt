@@ -1,7 +1,9 @@
 -- What an answer leaves asked, at the coordinator.
 use Rattle.std.proofs.Common.{◌≡◌, ℕ, List, [], ◌∷◌, Option, Some, None, Bool, true, false, refl, sym, subst, ap, ◌∙◌, if◌then◌else◌, ◌&&◌, ◌||◌, arith, eqb}
-use Rattle.std.proofs.lemmas.Bool.{eqb-true}
+use Rattle.std.proofs.lemmas.Bool.{and_parts, eqb-true}
 use Rattle.std.proofs.lemmas.Bool.Decides.{nat_tests}
+use Rattle.gx_lemmas.proofs.Options.{some-same}
+use Rattle.gx_lemmas.proofs.Numbers.{eqb-back, eqb-self}
 use Rattle.gx_ids.specs.declared.ids.Cid.{Cid}
 use Rattle.gx_ids.specs.declared.ids.Node.{Node}
 use Rattle.gx_tree.specs.declared.part.Part.{Part}
@@ -30,7 +32,7 @@ use Rattle.gx_law_order.proofs.Statuses.Stage.{Live}
 use Rattle.gx_law_commit.proofs.Dispatching.{IsLive}
 use Rattle.gx_law_commit.proofs.Events.{live-stage}
 use Rattle.gx_law_commit.proofs.Nodes.{AreApart, apart-with, has-with, has-without}
-use Rattle.gx_law_schedules.proofs.Asking.{AreNeat, Asked, Asks, asks-by, commits-asks, complete-asks, now_asked, nothing-sent, one-asks, refused-asks, rest-asks, self, same-works}
+use Rattle.gx_law_schedules.proofs.Asking.{AreNeat, Asked, Asks, asks-by, commits-asks, complete-asks, now_asked, nothing-sent, one-asks, refused-asks, rest-asks, same-works}
 use Rattle.gx_law_schedules.proofs.Neat.{IsDone, Neat, NeatCommand, NeatPhase, NeatTxn, done-waiting, reply-asks, waiting, waiting-none}
 use Rattle.gx_law_schedules.proofs.Replies.{IsAboutStatus, IsOfCommand, answer-other, exec-command, exec-no-status, order-no-command, status-alike, unanswered}
 
@@ -203,12 +205,9 @@ module _ (c : Coord) (k : Kept c) (n : AreNeat c) where
 
     -- it is, and answers the node's order
     module _ (m : Command) (e : (c.works g).command ≡ Some m) (waits : is_awaited m j cid ≡ true) where
-      both : (a b : Bool) → (a && b) ≡ true → (a ≡ true) × (b ≡ true)
-      both true b e = (refl, e)
-      both false b e = grind arith
 
       is-there : has j m.awaited ≡ true
-      is-there = (both (eqb m.cid.0 cid.0) (has j m.awaited) waits).1
+      is-there = (and_parts (eqb m.cid.0 cid.0) (has j m.awaited) waits).1
 
       live : IsLive c g
       live = awaited-live g m j e is-there
@@ -223,10 +222,7 @@ module _ (c : Coord) (k : Kept c) (n : AreNeat c) where
           answered : is_answer_to (if has j m.awaited then order_to j m.orders else status_order (gx g) (order_found j (find_txn c.table (gx g)))) (gx g) (Some (message.Answer (gx g) r)) ≡ true
           answered =
               ap (λ (b : Bool). is_answer_to (if b then order_to j m.orders else status_order (gx g) (order_found j (find_txn c.table (gx g)))) (gx g) (Some (message.Answer (gx g) r))) is-there
-              ∙ exec-command (order_to j m.orders) g m.cid cid r (command j is-there).1 of ∙ turned m.cid.0 cid.0 (both (eqb m.cid.0 cid.0) (has j m.awaited) waits).0
-            where
-              turned : (a b : ℕ) → eqb a b ≡ true → eqb b a ≡ true
-              turned a b e = grind (arith, nat_tests)
+              ∙ exec-command (order_to j m.orders) g m.cid cid r (command j is-there).1 of ∙ eqb-back m.cid.0 cid.0 (and_parts (eqb m.cid.0 cid.0) (has j m.awaited) waits).0
 
           quiet : (i : Node) → status_order (gx g) (order_found i (find_txn c.table (gx g))) ≡ None
           quiet i = ap (λ x. status_order (gx g) (order_found i x)) live.found ∙ ap (λ p. status_order (gx g) (order_in p i)) live.active
@@ -253,7 +249,7 @@ module _ (c : Coord) (k : Kept c) (n : AreNeat c) where
         lives = live g j cid (reply.Done cid wrote count part) refl m e waits
 
         own : c1.works g ≡ w1
-        own = ap (λ b. if b then w1 else c.works g) (self g)
+        own = ap (λ b. if b then w1 else c.works g) (eqb-self g)
 
         quiet : (i : Node) → status_order (gx g) (order_found i (find_txn c.table (gx g))) ≡ None
         quiet i = ap (λ x. status_order (gx g) (order_found i x)) lives.found ∙ ap (λ p. status_order (gx g) (order_in p i)) lives.active
@@ -324,9 +320,6 @@ module _ (c : Coord) (k : Kept c) (n : AreNeat c) where
     done-asks None e fits = not-asked g j cid (reply.Done cid wrote count part) refl None e (λ x q. absurd (cc))
     done-asks (Some m) e fits = by_waits (is_awaited m j cid) refl
       where
-        some-same : (a b : Command) → Some a ≡ Some b → a ≡ b
-        some-same a b q = cc
-
         by_waits : (b : Bool) → is_awaited m j cid ≡ b → Asks (left g j (reply.Done cid wrote count part)) (if b && fits_part m.stmt part then takes_done c (gx g) j wrote count part m else rests c)
         by_waits true q = subst (λ (b : Bool). Asks (left g j (reply.Done cid wrote count part)) (if b then takes_done c (gx g) j wrote count part m else rests c)) (sym (fits m refl q)) (taken m e q)
         by_waits false q = not-asked g j cid (reply.Done cid wrote count part) refl (Some m) e (λ x z. subst (λ (y : Command). is_awaited y j cid ≡ false) (some-same m x z) q)
@@ -336,9 +329,6 @@ module _ (c : Coord) (k : Kept c) (n : AreNeat c) where
   failed-asks g j cid why None e = not-asked g j cid (reply.Failed cid why) refl None e (λ x q. absurd (cc))
   failed-asks g j cid why (Some m) e = by_waits (is_awaited m j cid) refl
     where
-      some-same : (a b : Command) → Some a ≡ Some b → a ≡ b
-      some-same a b q = cc
-
       by_waits : (b : Bool) → is_awaited m j cid ≡ b → Asks (left g j (reply.Failed cid why)) (if b then is_refused c (gx g) (on_abort c.table (gx g)) [] (reason_of why) else rests c)
       by_waits true q = refused-asks c k.whole n g (left g j (reply.Failed cid why)) (left-others g j (reply.Failed cid why)) (left-outside g j (reply.Failed cid why)) [] (reason_of why)
       by_waits false q = not-asked g j cid (reply.Failed cid why) refl (Some m) e (λ x z. subst (λ (y : Command). is_awaited y j cid ≡ false) (some-same m x z) q)

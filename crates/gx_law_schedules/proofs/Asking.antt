@@ -1,8 +1,9 @@
 -- What the coordinator's turns send is what they leave awaited: calls and commands.
 use Rattle.std.proofs.Common.{◌≡◌, ◌≤◌, ℕ, List, [], ◌∷◌, ◌++◌, Option, Some, None, Result, Ok, Err, Bool, true, false, refl, sym, subst, ap, ◌∙◌, if◌then◌else◌, ◌||◌, arith, eqb}
-use Rattle.std.proofs.lemmas.Bool.{eqb-true}
+use Rattle.std.proofs.lemmas.Bool.{eqb-true, or_right}
 use Rattle.std.proofs.lemmas.Bool.Decides.{nat_tests}
 use Rattle.std.specs.Prelude.{option_map}
+use Rattle.gx_lemmas.proofs.Numbers.{eqb-self, eqb-turned}
 use Rattle.gx_ids.specs.declared.ids.Cid.{Cid}
 use Rattle.gx_ids.specs.declared.ids.Gxid.{Gxid}
 use Rattle.gx_ids.specs.declared.ids.Node.{Node}
@@ -69,9 +70,6 @@ nothing-sent = omega arith
 
 pub rest-asks : (c : Coord) → AreNeat c → Asks (now_asked c) (rests c)
 rest-asks c n = record { asked = λ i g. refl; sends_one = λ i. nothing-sent; neat = n }
-
-pub self : (a : ℕ) → eqb a a ≡ true
-self a = grind (arith, nat_tests)
 
 -- ONE TRANSACTION CHANGES
 pub record OneOf (c : Coord) (A : Asked) (turn : CoordTurn) (g : ℕ) (w : Work) (t : Option Txn) : Type 0 where
@@ -242,22 +240,19 @@ enlist (j ∷ js) d g t whole f a =
     let d1 : Table = enlisted d (gx g) j in
     let r : Enlisted d1 (enlisted_all d1 (gx g) js) g (add t) js
     = enlist js d1 g (add t) (record { first = x.whole.first; apart = x.whole.apart; drawn = x.whole.drawn })
-    (x.finds g ∙ ap (λ b. if b then option_map add (find_txn d (gx g)) else find_txn d (gx g)) (self g) ∙ ap (option_map add) f) (apart-with j t.participants a) in
+    (x.finds g ∙ ap (λ b. if b then option_map add (find_txn d (gx g)) else find_txn d (gx g)) (eqb-self g) ∙ ap (option_map add) f) (apart-with j t.participants a) in
     record {
       now = r.now;
       phase = r.phase;
       at = record { whole = r.at.whole; next = r.at.next; finds = λ h. r.at.finds h ∙ ap (λ o. if eqb h g then Some r.now else o) (x.finds h) ∙ merged (eqb h g) (Some r.now) (option_map add (find_txn d (gx g))) (find_txn d (gx h)) };
       apart = r.apart;
-      old = λ i e. r.old i (has-with i j t.participants ∙ right (eqb j.0 i.0) (has i t.participants) e);
+      old = λ i e. r.old i (has-with i j t.participants ∙ or_right (eqb j.0 i.0) (has i t.participants) e);
       new = λ i e. by_split i (eqb j.0 i.0) refl e r;
     }
   where
     merged : (b : Bool) (x y z : Option Txn) → (if b then x else (if b then y else z)) ≡ (if b then x else z)
     merged true x y z = refl
     merged false x y z = refl
-
-    right : (a b : Bool) → b ≡ true → (a || b) ≡ true
-    right a b e = grind arith
 
     by_split : (i : Node) (b : Bool) → eqb j.0 i.0 ≡ b → (b || has i js) ≡ true → (r : Enlisted (enlisted d (gx g) j) (enlisted_all (enlisted d (gx g) j) (gx g) js) g (record t { participants = with_node j t.participants }) js) → has i r.now.participants ≡ true
     by_split i true q e r = r.old i (has-with i j t.participants ∙ ap (λ b. b || has i t.participants) q)
@@ -304,8 +299,8 @@ module _ (c : Coord) (whole : IsWhole c.table) (n : AreNeat c) (g : ℕ) (live :
         whole_there = a.whole;
         neat = f.neat;
         same = f.asked;
-        live_there = record { txn = set_live x live.txn; found = a.finds g ∙ ap (λ b. if b then option_map (set_live x) (find_txn c.table (gx g)) else find_txn c.table (gx g)) (self g) ∙ ap (option_map (set_live x)) live.found; active = live.active };
-        done_there = subst IsDone (sym (ap (λ b. (if b then w else c.works g).command) (self g))) done;
+        live_there = record { txn = set_live x live.txn; found = a.finds g ∙ ap (λ b. if b then option_map (set_live x) (find_txn c.table (gx g)) else find_txn c.table (gx g)) (eqb-self g) ∙ ap (option_map (set_live x)) live.found; active = live.active };
+        done_there = subst IsDone (sym (ap (λ b. (if b then w else c.works g).command) (eqb-self g))) done;
       }
 
   by-asks : (cid : Cid) (x : Option Snapshot) → ReadsAsks (reads_by c (gx g) cid (c.works g) x)
@@ -333,7 +328,7 @@ module _ (c : Coord) (whole : IsWhole c.table) (n : AreNeat c) (g : ℕ) (live :
         finds = e.at.finds;
         works = λ h. refl;
         others = λ i h q. refl;
-        about = λ h q. orders-other (gx g) cid w.level r.snapshot (horizon_of r.coord.table) (gx h) (turned h g q) ps;
+        about = λ h q. orders-other (gx g) cid w.level r.snapshot (horizon_of r.coord.table) (gx h) (eqb-turned h g q) ps;
         here = λ i. by_test i (has i (nodes_in ps)) refl ∙ sym (told-orders (gx g) cid w.level r.snapshot (horizon_of r.coord.table) i (now_asked r.coord i g) ps a);
         sends_one = λ i. sends-orders (gx g) cid w.level r.snapshot (horizon_of r.coord.table) i ps a;
         neat = record {
@@ -354,9 +349,6 @@ module _ (c : Coord) (whole : IsWhole c.table) (n : AreNeat c) (g : ℕ) (live :
 
       e : Enlisted r.coord.table (enlisted_all r.coord.table (gx g) (nodes_in ps)) g f.live_there.txn (nodes_in ps)
       e = enlist (nodes_in ps) r.coord.table g f.live_there.txn f.whole_there f.live_there.found own.0
-
-      turned : (h g : ℕ) → eqb h g ≡ false → eqb g h ≡ false
-      turned h g q = grind (arith, nat_tests)
 
       sent : Work
       sent = record (r.coord.works g) { last = cid.0; command = Some (record { stmt = line; cid = cid; orders = orders_of (gx g) cid (r.coord.works g).level r.snapshot (horizon_of r.coord.table) ps; awaited = nodes_in ps; count = 0; parts = [] }) }
@@ -417,6 +409,6 @@ module _ (c : Coord) (whole : IsWhole c.table) (n : AreNeat c) (g : ℕ) (live :
       let locks : Locks = resumed c.locks (gx g) (Some wanted) in
       let d : Coord = with_waiting c g locks None in
       let w = waits-asks c n g locks None [] in
-      let x = locked-asks d whole w.neat g (record { txn = live.txn; found = live.found; active = live.active }) (subst IsDone (sym (ap (λ (b : Bool). (if b then record (c.works g) { waiting = None } else c.works g).command) (self g))) done) script line in
+      let x = locked-asks d whole w.neat g (record { txn = live.txn; found = live.found; active = live.active }) (subst IsDone (sym (ap (λ (b : Bool). (if b then record (c.works g) { waiting = None } else c.works g).command) (eqb-self g))) done) script line in
       let y = asks-by (now_asked d) (now_asked c) (goes_on_locked script d (gx g) line) (λ i h. sym (w.asked i h)) x in
       record { asked = y.asked; sends_one = y.sends_one; neat = y.neat }

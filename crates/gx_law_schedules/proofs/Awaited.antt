@@ -4,6 +4,9 @@ use Rattle.std.proofs.lemmas.Bool.{eqb-true}
 use Rattle.std.proofs.lemmas.Bool.Decides.{nat_tests}
 use Rattle.std.proofs.lemmas.List.{append_assoc}
 use Rattle.std.specs.Prelude.{nat_le}
+use Rattle.gx_lemmas.proofs.Lists.{length-push}
+use Rattle.gx_lemmas.proofs.Tests.{and-first}
+use Rattle.gx_lemmas.proofs.Options.{some-same}
 use Rattle.gx_ids.specs.declared.ids.Cid.{Cid}
 use Rattle.gx_ids.specs.declared.ids.Gxid.{Gxid}
 use Rattle.gx_ids.specs.declared.ids.Node.{Node}
@@ -42,7 +45,6 @@ use Rattle.gx_law_schedules.proofs.Asking.{AreNeat, Asks}
 use Rattle.gx_law_schedules.proofs.Fitted.{AreServed, LetterServes, Served, coord-served, partless, resume-served, seg-served}
 use Rattle.gx_law_schedules.proofs.Fitting.{SaysSo}
 use Rattle.gx_law_schedules.proofs.Neat.{waiting-none}
-use Rattle.gx_law_schedules.proofs.Room.{length-last}
 use Rattle.gx_law_schedules.proofs.Steps.{IsHere, always, by-kind}
 use Rattle.gx_law_schedules.proofs.Told.{asked-numbered, asked-plain, sends, sent-numbered}
 use Rattle.gx_law_schedules.proofs.Turning.{FitsEvent, FitsMessage, event-asks}
@@ -61,8 +63,6 @@ pub asked-last : (i : Node) (g : Gxid) (steps : List Step) (s : Step) → asked 
 asked-last i g steps s = asked-more [] i g None steps s
 
 -- what an event answers, at the node and by the steps
-some-same : {A : Type 0} (a b : A) → Some a ≡ Some b → a ≡ b
-some-same a b e = (cc)
 
 module _ (script : Script) (some : 1 ≤ script.segments) (es : List (Event × Bool)) where
   abbrev w : World
@@ -96,11 +96,8 @@ module _ (script : Script) (some : 1 ≤ script.segments) where
     c = (world_of script es).coord
 
     message-fits : (from : Node) (m : Message) → SaysSo (Served c) (partless c) m → FitsMessage script c (world_knows script some es).kept q.neat from m
-    message-fits from (message.Answer g (reply.Done cid wrote count part)) f = λ m e waits. f m e (counted m.cid cid (first (eqb m.cid.0 cid.0) (has from m.awaited) waits))
+    message-fits from (message.Answer g (reply.Done cid wrote count part)) f = λ m e waits. f m e (counted m.cid cid (and-first (eqb m.cid.0 cid.0) (has from m.awaited) waits))
       where
-        first : (a b : Bool) → (a && b) ≡ true → a ≡ true
-        first a b e = grind arith
-
         counted : (a b : Cid) → eqb a.0 b.0 ≡ true → a ≡ b
         counted a b e = ap (λ n. let z : Cid = record { 0 = n } in z) (eqb-true a.0 b.0 e)
     message-fits from (message.Answer g (reply.Failed c x)) f = tt
@@ -125,9 +122,6 @@ module _ (script : Script) (some : 1 ≤ script.segments) where
     delivered-fits : (e : Event) (x : NodeEvent) → IsHere script (world_of script es) e x → Fits x
     delivered-fits (event.Receive from to number) x h = by_found (found from to number (world_of script es).sent) refl h.is
       where
-        first : (a b : Bool) → (a && b) ≡ true → a ≡ true
-        first a b e = grind arith
-
         at-least : (a : ℕ) → nat_le 1 a ≡ true → 1 ≤ a
         at-least a e = grind (arith, nat_tests)
 
@@ -135,7 +129,7 @@ module _ (script : Script) (some : 1 ≤ script.segments) where
         by_found None f s = absurd (cc)
         by_found (Some envelope) f s =
             let same : here.Deliver from envelope ≡ x = some-same (here.Deliver from envelope) x s in
-            let one : 1 ≤ from.0 = at-least from.0 (first (nat_le 1 from.0) (nat_le from.0 script.segments) (ap (coord_can script (world_of script es).coord) same ∙ h.admitted)) in
+            let one : 1 ≤ from.0 = at-least from.0 (and-first (nat_le 1 from.0) (nat_le from.0 script.segments) (ap (coord_can script (world_of script es).coord) same ∙ h.admitted)) in
             let d = found_is (LetterServes (world_of script es).coord) from to number (world_of script es).sent envelope q.served.letters f in
             subst (FitsEvent script (world_of script es).coord (world_knows script some es).kept q.neat) same
             (message-fits from envelope.message (subst (λ (y : Envelope). SaysSo (Served (world_of script es).coord) (partless (world_of script es).coord) y.message) d.told (d.is.1 (subst (λ (y : Node). 1 ≤ y.0) (sym d.source) one))))
@@ -171,7 +165,7 @@ module _ (script : Script) (some : 1 ≤ script.segments) where
               ∙ sym (asks-now.asked i g);
           neat = asks-now.neat;
           served = coord-served script some v (world_knows script some es) (world-holds script some es) q.served q.neat e x fails h.admitted;
-          sent = λ i. adds _ (turn.coord.sent i) (v.coord.sent i) (length v.steps) (sends (at i) turn.outs) _ (counted-all turn.coord.sent turn.outs i ∙ ap (λ k. turn.coord.sent i + k) (sent-numbered (at i) turn.coord.sent turn.outs)) (ap (λ (f : ℕ → ℕ). f i) stays.counts) (asks-now.sends_one (at i)) (q.sent i) (length-last v.steps step);
+          sent = λ i. adds _ (turn.coord.sent i) (v.coord.sent i) (length v.steps) (sends (at i) turn.outs) _ (counted-all turn.coord.sent turn.outs i ∙ ap (λ k. turn.coord.sent i + k) (sent-numbered (at i) turn.coord.sent turn.outs)) (ap (λ (f : ℕ → ℕ). f i) stays.counts) (asks-now.sends_one (at i)) (q.sent i) (length-push v.steps step);
         }
       where
         adds : (r a b n k m : ℕ) → r ≡ a + k → a ≡ b → k ≤ 1 → b ≤ 64 * n → m ≡ n + 1 → r ≤ 64 * m
@@ -191,7 +185,7 @@ module _ (script : Script) (some : 1 ≤ script.segments) where
           asks = λ i g. asked-last i (gx g) u.steps seg_step ∙ ap (λ (b : Bool). if b then asked_by i (gx g) (unless_answered u.steps i (gx g) (asked u.steps i (gx g)) seg_step.event) seg_step.marks else asked u.steps i (gx g)) (away to.0 place.0) ∙ q.asks i g;
           neat = q.neat;
           served = served;
-          sent = λ i. up (u.coord.sent i) (length u.steps) _ (q.sent i) (length-last u.steps seg_step);
+          sent = λ i. up (u.coord.sent i) (length u.steps) _ (q.sent i) (length-push u.steps seg_step);
         }
       where
         away : (a : ℕ) → 1 ≤ a → is_same_node (at a) the_coordinator ≡ false

@@ -4,6 +4,9 @@ use Rattle.std.proofs.lemmas.Bool.Decides.{nat_tests}
 use Rattle.std.proofs.lemmas.List.{append_assoc}
 use Rattle.std.specs.Prelude.{◌==◌, filter, find, is_some, map, nat_le}
 use Rattle.std.specs.List.{flat_map, list_all, list_any, range_with_len}
+use Rattle.std.proofs.lemmas.Bool.{or_right}
+use Rattle.gx_lemmas.proofs.Numbers.{le-apart}
+use Rattle.gx_lemmas.proofs.Tests.{or-false, true-false}
 use Rattle.gx_ids.specs.declared.ids.Gxid.{Gxid}
 use Rattle.gx_ids.specs.declared.ids.Node.{Node}
 use Rattle.gx_msg.specs.declared.message.Envelope.{Envelope}
@@ -102,10 +105,7 @@ each-range P a (suc n) f = (f a (same a) (first a n), each-range P (a + 1) n (λ
 
 any-there : {A : Type 0} (t : A → Bool) (xs : List A) (x : A) (ys : List A) → t x ≡ true → list_any t (xs ++ x ∷ ys) ≡ true
 any-there t [] x ys e = ap (λ b. b || list_any t ys) e
-any-there t (z ∷ xs) x ys e = right (t z) (list_any t (xs ++ x ∷ ys)) (any-there t xs x ys e)
-  where
-    right : (a b : Bool) → b ≡ true → (a || b) ≡ true
-    right a b e = grind arith
+any-there t (z ∷ xs) x ys e = or_right (t z) (list_any t (xs ++ x ∷ ys)) (any-there t xs x ys e)
 
 -- THE GXIDS THAT WERE DRAWN
 module _ (script : Script) (some : 1 ≤ script.segments) (es : List (Event × Bool)) where
@@ -172,15 +172,12 @@ module _ (script : Script) (some : 1 ≤ script.segments) (es : List (Event × B
     own-waits : (g : Gxid) → waits_of ms node g ≡ filter (is_of g) l.waits
     own-waits g = ap (filter (is_of g)) (sym m.waits)
 
-    or-none : (b : Bool) → (b || false) ≡ b
-    or-none b = grind arith
-
     ready-so : (g : Gxid) → list_any (ready (holds_at ms node)) (waits_of ms node g) ≡ is_ready l.holds (wait_of l g)
     ready-so g = ap (list_any (ready (holds_at ms node))) (own-waits g) ∙ ap (λ holds. list_any (ready holds) (filter (is_of g) l.waits)) (sym m.holds) ∙ by_wait (wait_of l g) refl
       where
         by_wait : (o : Option Claim) → wait_of l g ≡ o → list_any (ready l.holds) (filter (is_of g) l.waits) ≡ is_ready l.holds o
         by_wait None e = ap (list_any (ready l.holds)) (filter-unfound (is_of g) l.waits e)
-        by_wait (Some wanted) e = ap (list_any (ready l.holds)) (once g wanted e) ∙ or-none (ready l.holds wanted)
+        by_wait (Some wanted) e = ap (list_any (ready l.holds)) (once g wanted e) ∙ or-false (ready l.holds wanted)
 
     count-so : (g : Gxid) → (length (waits_of ms node g) == 0) ≡ not (is_some (wait_of l g))
     count-so g = ap (λ (xs : List Claim). length xs == 0) (own-waits g) ∙ by_wait (wait_of l g) refl
@@ -365,10 +362,7 @@ module _ (script : Script) (some : 1 ≤ script.segments) (es : List (Event × B
   IsTaken e = (is_round e || can script w e) ≡ true
 
   taken : (e : Event) → Admits e → IsTaken e
-  taken e f = right (is_round e) (can script w e) f
-    where
-      right : (a b : Bool) → b ≡ true → (a || b) ≡ true
-      right a b e = grind arith
+  taken e f = or_right (is_round e) (can script w e) f
 
   pub each-admitted : Each Admits (receipts-now ++ at-segments ++ resumes-now ++ again-now ++ starts_by script w.coord ++ ends_by script w.coord)
   each-admitted =
@@ -412,20 +406,14 @@ module _ (script : Script) (some : 1 ≤ script.segments) (es : List (Event × B
       on : (a n g : ℕ) → g < a + suc n → g < a + 1 + n
       on a n g h = omega arith
 
-      later : (a g : ℕ) → a ≤ g → eqb a g ≡ false → a + 1 ≤ g
-      later a g l e = grind (arith, nat_tests)
-
       by_first : (b : Bool) → eqb a g ≡ b → (a + 1 ≤ g → list_any (λ h. is_same_gxid h (record { 0 = g })) (map (λ k. let h : Gxid = record { 0 = k } in h) (range_with_len (a + 1) n)) ≡ true) → (b || list_any (λ h. is_same_gxid h (record { 0 = g })) (map (λ k. let h : Gxid = record { 0 = k } in h) (range_with_len (a + 1) n))) ≡ true
       by_first true e f = refl
-      by_first false e f = f (later a g l e)
+      by_first false e f = f (le-apart a g l e)
 
   pub unknown-none : (segment : Node) (g : Gxid) → list_any (λ h. is_same_gxid h g) (gxids_of (marks_in (world_of script es).steps)) ≡ false → awaited (world_of script es).coord g segment ≡ None
   unknown-none segment g e =
       undrawn-none script some es segment g.0
-      (λ one below. clash (list_any (λ h. is_same_gxid h g) (drawn w.coord)) (among 1 (w.coord.table.next.0 - 1) g.0 one (in-range g.0 w.coord.table.next.0 one below)) (sym (ap (list_any (λ h. is_same_gxid h g)) drawn-alike) ∙ e))
+      (λ one below. true-false (list_any (λ h. is_same_gxid h g) (drawn w.coord)) (among 1 (w.coord.table.next.0 - 1) g.0 one (in-range g.0 w.coord.table.next.0 one below)) (sym (ap (list_any (λ h. is_same_gxid h g)) drawn-alike) ∙ e))
     where
       in-range : (a b : ℕ) → 1 ≤ a → a < b → a < 1 + (b - 1)
       in-range a b l h = omega arith
-
-      clash : (b : Bool) → b ≡ true → b ≡ false → ⊥
-      clash b e f = grind arith

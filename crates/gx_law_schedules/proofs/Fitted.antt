@@ -2,6 +2,7 @@
 use Rattle.std.proofs.Common.{◌≡◌, ◌≤◌, ◌⊎◌, inl, inr, ℕ, ◌+◌, List, [], ◌∷◌, Option, Some, None, Bool, true, refl, sym, subst, ap, ◌∙◌, if◌then◌else◌, arith}
 use Rattle.std.proofs.lemmas.Bool.Decides.{nat_tests}
 use Rattle.std.specs.Prelude.{nat_le}
+use Rattle.gx_lemmas.proofs.Numbers.{one-le-none}
 use Rattle.gx_ids.specs.declared.ids.Cid.{Cid}
 use Rattle.gx_ids.specs.declared.ids.Gxid.{Gxid}
 use Rattle.gx_ids.specs.declared.ids.Node.{Node}
@@ -180,9 +181,6 @@ module _ (c d : Coord) (turn : CoordTurn) (serves : Serves c (IsNew c) turn) (sa
     vote-so g p (Some reply.Aborted) v = tt
     vote-so g p (Some reply.Forgotten) v = tt
 
-not-zero : 1 ≤ 0 → ⊥
-not-zero l = omega arith
-
 module _ (script : Script) (some : 1 ≤ script.segments) (w : World) (n : Knows script w) (v : Holds script w) (q : AreServed w) where
   -- A STEP OF THE COORDINATOR
   module _ (neat : AreNeat w.coord) (e : Event) (x : NodeEvent) (fails : Bool) (admitted : coord_can script w.coord x ≡ true) where
@@ -197,7 +195,7 @@ module _ (script : Script) (some : 1 ≤ script.segments) (w : World) (n : Knows
 
     sent-so : (outs : List Out) → Each (λ (o : Out). OutServes turn.coord o.message) outs → Each (λ (o : Out). (number : ℕ) → LetterServes next.coord (record { from = the_coordinator; to = o.node; envelope = record { number = number; clock = clock_after w.coord.clock x; message = o.message } })) outs
     sent-so [] f = tt
-    sent-so (o ∷ os) f = (λ number. (λ own. moved o.message f.0, λ one. absurd (not-zero one)), sent-so os f.1)
+    sent-so (o ∷ os) f = (λ number. (λ own. moved o.message f.0, λ one. absurd (one-le-none one)), sent-so os f.1)
       where
         moved : (m : Message) → OutServes turn.coord m → OutServes next.coord m
         moved (message.Exec g k l y h s) f = f
@@ -236,7 +234,7 @@ module _ (script : Script) (some : 1 ≤ script.segments) (w : World) (n : Knows
 
     told-so : (outs : List Out) → Each (λ (o : Out). SaysSo (Served w.coord) (partless w.coord) o.message) outs → Each (λ (o : Out). (number : ℕ) → LetterServes w.coord (record { from = to; to = o.node; envelope = record { number = number; clock = clock_after s.clock x; message = o.message } })) outs
     told-so [] f = tt
-    told-so (o ∷ os) f = (λ number. (λ own. absurd (not-zero (subst (λ (y : Node). 1 ≤ y.0) own place.0)), λ one. f.0), told-so os f.1)
+    told-so (o ∷ os) f = (λ number. (λ own. absurd (one-le-none (subst (λ (y : Node). 1 ≤ y.0) own place.0)), λ one. f.0), told-so os f.1)
 
     turn-served : TurnSo (Served w.coord) (partless w.coord) (segment.on_event script (w.segs to.0) x fails) → AreServed (seg_did w to e (seg_rule script (w.segs to.0) x fails))
     turn-served so =

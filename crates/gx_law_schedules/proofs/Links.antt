@@ -1,9 +1,11 @@
 -- What a link's messages are, by the steps and by the letters.
 use Rattle.std.proofs.Common.{◌≡◌, ◌≤◌, ℕ, ◌+◌, List, [], ◌∷◌, ◌++◌, Option, Some, None, Bool, true, false, refl, sym, subst, ap, ◌∙◌, if◌then◌else◌, ◌&&◌, arith, append-nil}
-use Rattle.std.proofs.lemmas.Bool.{eqb-true}
+use Rattle.std.proofs.lemmas.Bool.{and_parts, eqb-true}
 use Rattle.std.proofs.lemmas.Bool.Decides.{nat_tests}
 use Rattle.std.proofs.lemmas.List.{append_assoc}
 use Rattle.std.specs.Prelude.{is_some, nat_le, nat_lt, ◌==◌}
+use Rattle.gx_lemmas.proofs.Options.{some-same}
+use Rattle.gx_lemmas.proofs.Numbers.{eqb-self, plus-none}
 use Rattle.gx_ids.specs.declared.ids.Node.{Node}
 use Rattle.gx_msg.specs.declared.message.Envelope.{Envelope}
 use Rattle.gx_msg.specs.declared.message.Message.{Message}
@@ -83,9 +85,6 @@ module _ (node to : Node) (number : ℕ) (steps : List Step) where
           own (sent_in node to steps) (sent_count to earlier) k number (sent_count to ms) (message_in to number ms) (first same)
           (subst (λ x. is_some (message_in to number ms) ≡ is_within (sent_in node to steps + x) (sent_count to ms)) (more ∙ ap (λ (b : Bool). sent_count to earlier + (if b then 0 + 1 else 0)) same) h)
       by_node false same h = subst (λ x. is_some (message_in to number ms) ≡ is_within (sent_in node to steps + x) (sent_count to ms)) (more ∙ ap (λ (b : Bool). sent_count to earlier + (if b then 0 + 1 else 0)) same ∙ plus-none (sent_count to earlier)) h
-        where
-          plus-none : (a : ℕ) → a + 0 ≡ a
-          plus-none a = omega arith
   in-marks earlier (m ∷ ms) e = grind (arith, nat_tests, in-marks (earlier ++ m ∷ []) ms e, sent_count-append to earlier (m ∷ []))
 
   not-some : {A : Type 0} (o : Option A) → is_some o ≡ false → o ≡ None
@@ -102,31 +101,21 @@ module _ (node to : Node) (number : ℕ) (steps : List Step) where
   found-new clock earlier [] sent m e h = absurd (cc)
   found-new clock earlier (mark.Sent t k told ∷ ms) sent m e h = by_test (is_same_node t to && (k == number)) refl h (λ q. found-new clock (earlier ++ mark.Sent t k told ∷ []) ms (letter node clock t k told ∷ sent) m e.1 q)
     where
-      both : (a b : Bool) → (a && b) ≡ true → (a ≡ true) × (b ≡ true)
-      both true b e = (refl, e)
-      both false b e = grind arith
-
-      some-same : (a b : Message) → Some a ≡ Some b → a ≡ b
-      some-same a b e = (cc)
-
       at-most : (a s c : ℕ) → number ≡ s + a + 1 → c ≡ a + (0 + 1) → number ≤ s + c
       at-most a s c e h = omega arith
 
       by_test : (b : Bool) → (is_same_node t to && (k == number)) ≡ b → (if b then Some told else message_in to number ms) ≡ Some m → (message_in to number ms ≡ Some m → found node to number (posted node clock ms (letter node clock t k told ∷ sent)) ≡ Some (letter node clock to number m).envelope) → found node to number (posted node clock ms (letter node clock t k told ∷ sent)) ≡ Some (letter node clock to number m).envelope
       by_test true is h r =
-          let z = both _ _ is in
+          let z = and_parts _ _ is in
           let same : t ≡ to = same_node t to z.0 in
           let counted : k ≡ number = eqb-true k number z.1 in
           found-none node to number clock ms (letter node clock t k told ∷ sent)
           (not-yet (earlier ++ mark.Sent t k told ∷ []) ms e.1
           (at-most (sent_count to earlier) (sent_in node to steps) (sent_count to (earlier ++ mark.Sent t k told ∷ [])) (sym counted ∙ subst (λ x. k ≡ sent_in node x steps + sent_count x earlier + 1) same e.0)
           (sent_count-append to earlier (mark.Sent t k told ∷ []) ∙ ap (λ (b : Bool). sent_count to earlier + (if b then 0 + 1 else 0)) z.0)))
-          ∙ here (is_same_node node node) (is_same_node t to && (k == number)) (self node.0) is
+          ∙ here (is_same_node node node) (is_same_node t to && (k == number)) (eqb-self node.0) is
           ∙ ap Some (ap (λ n. let x : Envelope = record { number = n; clock = clock; message = told } in x) counted ∙ ap (λ y. let x : Envelope = record { number = number; clock = clock; message = y } in x) (some-same told m h))
         where
-          self : (a : ℕ) → (a == a) ≡ true
-          self a = grind (arith, nat_tests)
-
           here : (a b : Bool) → a ≡ true → b ≡ true → (if a && b then Some (letter node clock t k told).envelope else found node to number sent) ≡ Some (letter node clock t k told).envelope
           here true b e f = ap (λ (b : Bool). if b then Some (letter node clock t k told).envelope else found node to number sent) f
           here false b e f = absurd (cc)
@@ -156,9 +145,6 @@ module _ (steps : List Step) (sent : List Letter) (s : Step) (from to : Node) (n
         counted = ap is_some same ∙ agree.counted ∙ ap (is_number number) (sym (one-more ∙ ap (λ (b : Bool). sent_in from to steps + (if b then sent_count to s.marks else 0)) away ∙ plus-none (sent_in from to steps)));
       }
     where
-      plus-none : (a : ℕ) → a + 0 ≡ a
-      plus-none a = omega arith
-
       same : found from to number now ≡ found from to number sent
       same = found-elsewhere from to number s.stamp.node s.stamp.clock s.marks sent away
 

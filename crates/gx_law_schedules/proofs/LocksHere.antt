@@ -1,6 +1,9 @@
 -- What the marks of the coordinator's event make of its locks.
 use Rattle.std.proofs.Common.{◌≡◌, ◌==◌, ◌&&◌, ℕ, ◌+◌, List, [], ◌∷◌, ◌++◌, Option, Some, None, Result, Ok, Err, Bool, true, false, refl, sym, subst, ap, ◌∙◌, if◌then◌else◌, arith}
 use Rattle.std.specs.Prelude.{filter}
+use Rattle.gx_lemmas.proofs.Numbers.{eqb-self}
+use Rattle.gx_lemmas.proofs.Tests.{and-first}
+use Rattle.gx_lemmas.proofs.Options.{some-same}
 use Rattle.gx_ids.specs.declared.ids.Cid.{Cid}
 use Rattle.gx_ids.specs.declared.ids.Gxid.{Gxid}
 use Rattle.gx_ids.specs.declared.ids.Node.{Node}
@@ -45,7 +48,6 @@ use Rattle.gx_rules.specs.Locks.{hold_mark, release_marks, released, with_hold}
 use Rattle.gx_law_order.proofs.Lines.{Asks as Admits, asks as admits}
 use Rattle.gx_law_order.proofs.Lists.{Each, each_append}
 use Rattle.gx_law_order.proofs.Sessions.{is_open_in}
-use Rattle.gx_law_schedules.proofs.Asking.{self}
 use Rattle.gx_law_schedules.proofs.Released.{gives-back}
 use Rattle.gx_law_schedules.proofs.Standing.{Leads, Quiet, both, grant, quiet, resumption, wait}
 
@@ -140,14 +142,8 @@ go-held script c d g line wanted e = both the_coordinator c.locks (hold_mark the
 
 -- the lock is for the transaction
 pub lock-own : (g : Gxid) (line : Stmt) (wanted : Claim) → lock_for g line ≡ Some wanted → wanted.gxid ≡ g
-lock-own g (stmt.Select q) wanted e = sym (ap (λ (c : Claim). c.gxid) (same _ wanted e))
-  where
-    same : (a b : Claim) → Some a ≡ Some b → a ≡ b
-    same a b q = cc
-lock-own g (stmt.Insert t x) wanted e = sym (ap (λ (c : Claim). c.gxid) (same _ wanted e))
-  where
-    same : (a b : Claim) → Some a ≡ Some b → a ≡ b
-    same a b q = cc
+lock-own g (stmt.Select q) wanted e = sym (ap (λ (c : Claim). c.gxid) (some-same _ wanted e))
+lock-own g (stmt.Insert t x) wanted e = sym (ap (λ (c : Claim). c.gxid) (some-same _ wanted e))
 lock-own g (stmt.Begin level) wanted e = absurd (cc)
 lock-own g stmt.Commit wanted e = absurd (cc)
 lock-own g stmt.Rollback wanted e = absurd (cc)
@@ -242,7 +238,7 @@ pub record AreSingle (c : Coord) : Type 0 where
 
 module _ (script : Script) (c : Coord) (single : AreSingle c) where
   transaction-now : (s : SessionId) (asked : LineStep) → (session_of (starts_line c s asked) s).transaction ≡ (session_of c s).transaction
-  transaction-now s asked = ap (λ (q : Bool). (if q then record (session_of c s) { lines = (session_of c s).lines + 1; state = after_line (session_of c s).state.block asked } else session_of c s).transaction) (self s.0)
+  transaction-now s asked = ap (λ (q : Bool). (if q then record (session_of c s) { lines = (session_of c s).lines + 1; state = after_line (session_of c s).state.block asked } else session_of c s).transaction) (eqb-self s.0)
 
   line-done : (s : SessionId) → is_idle (session_of c s) ≡ true → (line : Stmt) (asked : LineStep) → Admits (session_of c s).state.block asked → Marks c (on_line script (starts_line c s asked) s line asked)
   line-done s idle line (step.Answer plain) a = quiet the_coordinator c.locks _ (tt, tt)
@@ -262,12 +258,9 @@ module _ (script : Script) (c : Coord) (single : AreSingle c) where
   start s idle None = rest c
   start s idle (Some line) = line-done s idle line (line_step (session_of c s).state.block line) (admits (session_of c s).state.block line)
 
-  idle-first : (a b : Bool) → (a && b) ≡ true → a ≡ true
-  idle-first a b e = grind arith
-
   pub event-marks : (x : NodeEvent) (fails : Bool) → coord_can script c x ≡ true → Marks c (on_event script c x fails)
   event-marks (event.Deliver from envelope) fails ok = message-taken c from fails envelope.message
-  event-marks (event.Start s) fails ok = start s (idle-first _ _ ok) (next_line script c s)
+  event-marks (event.Start s) fails ok = start s (and-first _ _ ok) (next_line script c s)
   event-marks (event.End s) fails ok = end c s (session_of c s).state.block
   event-marks (event.Resend i (Some g)) fails ok = again c i (awaited c g i)
   event-marks (event.Resend i None) fails ok = rest c

@@ -1,6 +1,7 @@
 -- What the marks of a segment's event make of its locks.
 use Rattle.std.proofs.Common.{◌≡◌, ◌==◌, ◌&&◌, List, [], ◌∷◌, Option, Some, None, Bool, true, false, not, refl, sym, subst, ap, ◌∙◌, if◌then◌else◌, nat_lt, arith}
 use Rattle.std.specs.Prelude.{filter, fold, is_some, nat_le}
+use Rattle.gx_lemmas.proofs.Options.{some-same}
 use Rattle.gx_ids.specs.declared.ids.Cid.{Cid}
 use Rattle.gx_ids.specs.declared.ids.Gxid.{Gxid}
 use Rattle.gx_ids.specs.declared.ids.Table.{Table}
@@ -63,14 +64,8 @@ slice-runs t g c snapshot x = record { locks = refl; marks = tt }
 
 -- the lock is for the transaction
 lock-own : (g : Gxid) (x : Slice) (wanted : Claim) → slice_lock g x ≡ Some wanted → wanted.gxid ≡ g
-lock-own g (slice.Select q) wanted e = sym (ap (λ (c : Claim). c.gxid) (same _ wanted e))
-  where
-    same : (a b : Claim) → Some a ≡ Some b → a ≡ b
-    same a b q = cc
-lock-own g (slice.Insert t rows) wanted e = sym (ap (λ (c : Claim). c.gxid) (same _ wanted e))
-  where
-    same : (a b : Claim) → Some a ≡ Some b → a ≡ b
-    same a b q = cc
+lock-own g (slice.Select q) wanted e = sym (ap (λ (c : Claim). c.gxid) (some-same _ wanted e))
+lock-own g (slice.Insert t rows) wanted e = sym (ap (λ (c : Claim). c.gxid) (some-same _ wanted e))
 lock-own g (slice.Update t x y) wanted e = absurd (cc)
 lock-own g (slice.Delete t x) wanted e = absurd (cc)
 lock-own g (slice.Lock t m) wanted e = absurd (cc)

@@ -2,6 +2,8 @@
 use Rattle.std.proofs.Common.{◌≡◌, ◌≤◌, ℕ, List, [], ◌∷◌, Option, Some, None, Bool, true, false, refl, sym, subst, ap, ◌∙◌, if◌then◌else◌, ◌&&◌, ◌||◌, arith, eqb}
 use Rattle.std.proofs.lemmas.Bool.{eqb-true}
 use Rattle.std.proofs.lemmas.Bool.Decides.{nat_tests}
+use Rattle.gx_lemmas.proofs.Numbers.{eqb-self, eqb-turned}
+use Rattle.gx_lemmas.proofs.Tests.{true-false}
 use Rattle.gx_ids.specs.declared.ids.Cid.{Cid}
 use Rattle.gx_ids.specs.declared.ids.Gxid.{Gxid}
 use Rattle.gx_ids.specs.declared.ids.Node.{Node}
@@ -60,10 +62,7 @@ pub record Neat (g : ℕ) (w : Work) (t : Option Txn) : Type 0 where
   pub command : NeatCommand g (participants_in t) w.command
 
 pub clash : {A : Type 0} (b : Bool) → b ≡ true → b ≡ false → A
-clash b e f = absurd (no-way b e f)
-  where
-    no-way : (b : Bool) → b ≡ true → b ≡ false → ⊥
-    no-way b e f = grind arith
+clash b e f = absurd (true-false b e f)
 
 -- with fewer writers
 phase-less : (ws vs ps : List Node) (p : Phase) → ((i : Node) → has i vs ≡ true → has i ws ≡ true) → NeatPhase ws ps p → NeatPhase vs ps p
@@ -152,26 +151,20 @@ module _ (g : ℕ) (ws : List Node) (A : Node → Option Message) where
     pub here : is_about (gx g) m ≡ true
     pub there : (h : ℕ) → eqb h g ≡ false → is_about (gx h) m ≡ false
 
-  self : (a : ℕ) → eqb a a ≡ true
-  self a = grind (arith, nat_tests)
-
-  turned : (h g : ℕ) → eqb h g ≡ false → eqb g h ≡ false
-  turned h g e = grind (arith, nat_tests)
-
   own-abort : IsOwn (message.Abort (gx g))
-  own-abort = record { here = self g; there = λ h e. turned h g e }
+  own-abort = record { here = eqb-self g; there = λ h e. eqb-turned h g e }
 
   own-forget : IsOwn (message.Forget (gx g))
-  own-forget = record { here = self g; there = λ h e. turned h g e }
+  own-forget = record { here = eqb-self g; there = λ h e. eqb-turned h g e }
 
   own-commit : IsOwn (message.Commit (gx g))
-  own-commit = record { here = self g; there = λ h e. turned h g e }
+  own-commit = record { here = eqb-self g; there = λ h e. eqb-turned h g e }
 
   own-prepare : IsOwn (message.Prepare (gx g))
-  own-prepare = record { here = self g; there = λ h e. turned h g e }
+  own-prepare = record { here = eqb-self g; there = λ h e. eqb-turned h g e }
 
   own-finish : IsOwn (message.CommitPrepared (gx g))
-  own-finish = record { here = self g; there = λ h e. turned h g e }
+  own-finish = record { here = eqb-self g; there = λ h e. eqb-turned h g e }
 
   each-other : (m : Message) → IsOwn m → (h : ℕ) → eqb h g ≡ false → (nodes : List Node) → Each (λ (o : Out). is_about (gx h) o.message ≡ false) (to_each m nodes)
   each-other m own h e [] = tt

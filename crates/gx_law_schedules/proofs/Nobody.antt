@@ -4,6 +4,7 @@ use Rattle.std.proofs.lemmas.Bool.{eqb-true}
 use Rattle.std.proofs.lemmas.Bool.Decides.{nat_tests}
 use Rattle.std.specs.Prelude.{◌==◌, find, is_some, map}
 use Rattle.std.specs.List.{flat_map, list_all, list_any}
+use Rattle.gx_lemmas.proofs.Tests.{and-false}
 use Rattle.gx_ids.specs.declared.ids.Gxid.{Gxid}
 use Rattle.gx_ids.specs.declared.ids.Node.{Node}
 use Rattle.gx_waits.specs.declared.claim.Claim.{Claim}
@@ -72,11 +73,8 @@ module _ (script : Script) (some : 1 ≤ script.segments) (es : List (Event × B
       due g = ap (λ (o : Option Claim). is_some (awaited w.coord g segment) && (not (is_exec (awaited w.coord g segment)) || not (is_some o))) (no-wait-in (w.segs segment.0).locks (none-there segment.0) g) ∙ plain _ _
 
   no-round : rounds_by script w ≡ []
-  no-round = ap (λ (b : Bool). if b then event.Round ∷ [] else []) (ap (λ b. script.detector && b) (ap (λ (xs : List Claim). not (length xs == 0) || list_any (λ segment. not (length (w.segs segment.0).locks.waits == 0)) (segments_of script)) none-here ∙ any-off (segments_of script)) ∙ off script.detector)
+  no-round = ap (λ (b : Bool). if b then event.Round ∷ [] else []) (ap (λ b. script.detector && b) (ap (λ (xs : List Claim). not (length xs == 0) || list_any (λ segment. not (length (w.segs segment.0).locks.waits == 0)) (segments_of script)) none-here ∙ any-off (segments_of script)) ∙ and-false script.detector)
     where
-      off : (a : Bool) → (a && false) ≡ false
-      off a = grind arith
-
       any-off : (xs : List Node) → list_any (λ (segment : Node). not (length (w.segs segment.0).locks.waits == 0)) xs ≡ false
       any-off [] = refl
       any-off (x ∷ xs) = ap (λ (ys : List Claim). not (length ys == 0) || list_any (λ (segment : Node). not (length (w.segs segment.0).locks.waits == 0)) xs) (none-there x.0) ∙ any-off xs

@@ -5,6 +5,7 @@ use Rattle.std.proofs.lemmas.Bool.Decides.{nat_tests}
 use Rattle.std.proofs.lemmas.List.Elements.{All-contains, All-from_recursion}
 use Rattle.std.specs.Prelude.{Contains, ◌==◌}
 use Rattle.std.specs.List.{AllByRecursion}
+use Rattle.gx_lemmas.proofs.Tests.{and-second}
 use Rattle.gx_script.specs.declared.Line.{Line}
 use Rattle.gx_script.specs.declared.Script.{Script}
 use Rattle.gx_store.specs.declared.run.Step.{Step}
@@ -76,9 +77,5 @@ each-all P (l ∷ ls) e = (e.0, each-all P ls e.1)
 -- so a line that is next is the one that its session starts
 pub next-is : (script : Script) (steps : List Step) (c : Coord) (line : Line) → IsSession script line.session steps c → AreLinesNumbered [] script.lines → Contains script.lines line → is_next steps line ≡ true → next_line script c line.session ≡ Some line.stmt
 next-is script steps c line s numbered there next =
-    ap (λ n. stmt_of line.session n script.lines) (sym (eqb-true line.number _ (second _ _ (sym (next-alike script line.session steps c s line refl) ∙ next))))
+    ap (λ n. stmt_of line.session n script.lines) (sym (eqb-true line.number _ (and-second _ _ (sym (next-alike script line.session steps c s line refl) ∙ next))))
     ∙ All-contains (IsItself script.lines) script.lines line (All-from_recursion (IsItself script.lines) script.lines (each-all (IsItself script.lines) script.lines (all-themselves [] script.lines numbered))) there
-  where
-    second : (a b : Bool) → (a && b) ≡ true → b ≡ true
-    second true b e = e
-    second false b e = absurd (cc)

@@ -1,6 +1,8 @@
 -- A command that goes out has a new number, and its orders are of its statement.
 use Rattle.std.proofs.Common.{◌≡◌, ◌⊎◌, inl, inr, ℕ, ◌+◌, List, [], ◌∷◌, ◌++◌, Option, Some, None, Result, Ok, Err, Bool, true, false, refl, sym, subst, ap, ◌∙◌, if◌then◌else◌, ◌&&◌, arith, eqb}
 use Rattle.std.proofs.lemmas.Bool.{eqb-true}
+use Rattle.gx_lemmas.proofs.Numbers.{eqb-self}
+use Rattle.gx_lemmas.proofs.Tests.{and-first}
 use Rattle.gx_ids.specs.declared.ids.Cid.{Cid}
 use Rattle.gx_ids.specs.declared.ids.Gxid.{Gxid}
 use Rattle.gx_ids.specs.declared.ids.Node.{Node}
@@ -40,7 +42,7 @@ use Rattle.gx_law_order.proofs.Sessions.{Kept, is_nothing_in, is_open_in}
 use Rattle.gx_law_order.proofs.Stages.{gx}
 use Rattle.gx_law_commit.proofs.Dispatching.{IsLive}
 use Rattle.gx_law_commit.proofs.Events.{live-stage}
-use Rattle.gx_law_schedules.proofs.Asking.{self, with_waiting}
+use Rattle.gx_law_schedules.proofs.Asking.{with_waiting}
 use Rattle.gx_law_schedules.proofs.Neat.{IsExecOf, Neat, NeatCommand}
 use Rattle.gx_law_schedules.proofs.Parts.{IsFor, PlanFor, plan-for}
 use Rattle.gx_law_schedules.proofs.Serving.{AnyServes, AreFor, ForOut, IsFresh, IsOld, OrdersServe, OutServes, Serves, again, commit, no-command, old-same, order-status, received, refused, rest-serves, rolled, same, serves-map, some-same}
@@ -118,7 +120,7 @@ module _ (g : ℕ) (last : ℕ) where
         sent-for (x ∷ xs) e = ((refl, e.0), sent-for xs e.1)
 
         served : (m : Message) → Sent m → OutServes turn.coord m
-        served (message.Exec h d level snapshot horizon slice) s = λ m e counted. subst (λ l. IsFor l slice) (ap (λ (z : Command). z.stmt) (same-command new m (sym (ap (λ b. (if b then record (r.coord.works g) { last = cid.0; command = Some new } else r.coord.works h.0).command) (ap (λ n. eqb n g) s.0 ∙ self g)) ∙ e))) s.1
+        served (message.Exec h d level snapshot horizon slice) s = λ m e counted. subst (λ l. IsFor l slice) (ap (λ (z : Command). z.stmt) (same-command new m (sym (ap (λ b. (if b then record (r.coord.works g) { last = cid.0; command = Some new } else r.coord.works h.0).command) (ap (λ n. eqb n g) s.0 ∙ eqb-self g)) ∙ e))) s.1
         served (message.Prepare h) s = absurd s
         served (message.Commit h) s = absurd s
         served (message.CommitPrepared h) s = absurd s
@@ -164,11 +166,11 @@ module _ (g : ℕ) (last : ℕ) where
         let locks : Locks = resumed c.locks (gx g) (Some wanted) in
         let d : Coord = with_waiting c g locks None in
         let x = serves-map c d FreshAt FreshAt (goes_on_locked script d (gx g) line) (old-waiting c locks None) (λ h m f. f)
-        (locked-serves d script line (ap (λ (b : Bool). (if b then record (c.works g) { waiting = None } else c.works g).last) (self g) ∙ e)) in
+        (locked-serves d script line (ap (λ (b : Bool). (if b then record (c.works g) { waiting = None } else c.works g).last) (eqb-self g) ∙ e)) in
         record { commands = x.commands; outs = x.outs }
 
 -- ALL EVENTS
--- a command that goes out is the next of a transaction that runs, or the first of one that begins
+-- a command that goes out is the next of a transaction that runs, or the and-first of one that begins
 abbrev pub IsNew : Coord → ℕ → Command → Type 0
 IsNew c h m = ((IsLive c h × IsFresh (c.works h).last m) ⊎ ((h ≡ c.table.next.0) × IsFresh 0 m))
 
@@ -181,7 +183,7 @@ module _ (script : Script) (c : Coord) (k : Kept c) (own : OrdersServe c) where
     block = (session_of c s).state.block
 
     transaction-now : (asked : LineStep) → (session_of (starts_line c s asked) s).transaction ≡ (session_of c s).transaction
-    transaction-now asked = ap (λ q. (if q then record (session_of c s) { lines = (session_of c s).lines + 1; state = after_line block asked } else session_of c s).transaction) (self s.0)
+    transaction-now asked = ap (λ q. (if q then record (session_of c s) { lines = (session_of c s).lines + 1; state = after_line block asked } else session_of c s).transaction) (eqb-self s.0)
 
     same-base : (asked : LineStep) (turn : CoordTurn) → Serves (starts_line c s asked) (IsNew c) turn → Done turn
     same-base asked turn f = record { commands = λ h m e. by h m (f.commands h m e); outs = f.outs }
@@ -205,7 +207,7 @@ module _ (script : Script) (c : Coord) (k : Kept c) (own : OrdersServe c) where
     alone-serves line =
         let d : Coord = begins (starts_line c s (step.Command true)) s ReadCommitted in
         let f = serves-map c d (FreshAt c.table.next.0 0) (IsNew c) (dispatches script d c.table.next line) (old-begun (step.Command true) ReadCommitted) (λ h m x. inr x)
-        (dispatch-serves c.table.next.0 0 d script line (ap (λ b. (if b then new_work s ReadCommitted else c.works c.table.next.0).last) (self c.table.next.0))) in
+        (dispatch-serves c.table.next.0 0 d script line (ap (λ b. (if b then new_work s ReadCommitted else c.works c.table.next.0).last) (eqb-self c.table.next.0))) in
         record { commands = f.commands; outs = f.outs }
 
     inside-serves : (line : Stmt) → is_open_in block ≡ true → Done (dispatches script (starts_line c s (step.Command false)) (session_of (starts_line c s (step.Command false)) s).transaction line)
@@ -285,11 +287,8 @@ module _ (script : Script) (c : Coord) (k : Kept c) (own : OrdersServe c) where
             by_test false q = order-status (IsNew c) c own (gx g) (awaited_order c.table (gx g) i)
 
     idle-first : (s : SessionId) (b : Bool) → (is_idle (session_of c s) && b) ≡ true → is_nothing_in (session_of c s).state.pending ≡ true
-    idle-first s b e = plain (session_of c s).state.pending (first _ _ e)
+    idle-first s b e = plain (session_of c s).state.pending (and-first _ _ e)
       where
-        first : (a b : Bool) → (a && b) ≡ true → a ≡ true
-        first a b e = grind arith
-
         plain : (q : Pending) → is_nothing q ≡ true → is_nothing_in q ≡ true
         plain q e = grind arith
 

@@ -5,6 +5,7 @@ use Rattle.std.specs.Prelude.{◌==◌, map}
 use Rattle.std.specs.List.{list_all}
 use Rattle.std.specs.Ordering.{is_gt}
 use Rattle.std.specs.declared.cmp.Ordering.{Ordering}
+use Rattle.std.proofs.lemmas.Bool.{and_from}
 use Rattle.gx_ids.specs.declared.ids.Cid.{Cid}
 use Rattle.gx_ids.specs.declared.ids.Gxid.{Gxid}
 use Rattle.gx_ids.specs.declared.ids.Node.{Node}
@@ -73,22 +74,16 @@ keys-right (column ∷ columns) rows =
 
 groups-right : (query : Query) (rows : List KeyedRow) (keys : List (List Value)) → Each (IsKeyOf query.group) keys → list_all (fits_group query) (map (group_of query rows) keys) ≡ true
 groups-right query rows [] e = refl
-groups-right query rows (key ∷ keys) e = both _ _ (lengths (length key) (length query.group) _ (length query.items) e.0 (length-map _ query.items)) (groups-right query rows keys e.1)
+groups-right query rows (key ∷ keys) e = and_from _ _ (lengths (length key) (length query.group) _ (length query.items) e.0 (length-map _ query.items)) (groups-right query rows keys e.1)
   where
     lengths : (a b c d : ℕ) → a ≡ b → c ≡ d → ((a == b) && (c == d)) ≡ true
     lengths a b c d e f = grind (arith, nat_tests)
 
-    both : (a b : Bool) → a ≡ true → b ≡ true → (a && b) ≡ true
-    both a b e f = grind arith
-
 pub part-right : (query : Query) (rows : List KeyedRow) → fits_query query (part_of query rows) ≡ true
 part-right query rows = by_grouped query.grouped refl
   where
-    both : (a b : Bool) → a ≡ true → b ≡ true → (a && b) ≡ true
-    both a b e f = grind arith
-
     by_grouped : (b : Bool) → query.grouped ≡ b → fits_query query (if b then Groups (map (group_of query rows) (in_order rising (keys_of query.group rows))) else Rows rows) ≡ true
-    by_grouped true e = both query.grouped _ e (groups-right query rows (in_order rising (keys_of query.group rows)) (each-order (IsKeyOf query.group) rising (keys_of query.group rows) (keys-right query.group rows)))
+    by_grouped true e = and_from query.grouped _ e (groups-right query rows (in_order rising (keys_of query.group rows)) (each-order (IsKeyOf query.group) rising (keys_of query.group rows) (keys-right query.group rows)))
     by_grouped false e = ap not e
 
 -- PLANS

@@ -6,6 +6,7 @@ use Rattle.std.specs.List.{list_any}
 use Rattle.std.specs.Ordering.{is_gt}
 use Rattle.std.specs.Prelude.{filter, map}
 use Rattle.std.specs.declared.cmp.Ordering.{Ordering}
+use Rattle.std.proofs.lemmas.Bool.{or_from, or_left, or_right}
 use Rattle.gx_ids.specs.declared.ids.Gxid.{Gxid}
 use Rattle.gx_ids.specs.declared.ids.Node.{Node}
 use Rattle.gx_waits.specs.Claim.{same_claim}
@@ -110,28 +111,16 @@ own-among g (y ∷ ys) = (at_head (is_of g y), each_weaker (λ x. is_of g x ≡ 
     at_head true e = ap (λ b. b || among (filter (is_of g) ys) y) (claim-itself y)
     at_head false e = absurd (cc)
 
-    or-on : (a b : Bool) → b ≡ true → (a || b) ≡ true
-    or-on a b e = grind arith
-
     more : (x : Claim) (b : Bool) → among (filter (is_of g) ys) x ≡ true → among (cond b (y ∷ filter (is_of g) ys) (filter (is_of g) ys)) x ≡ true
-    more x true e = or-on (same_claim y x) _ e
+    more x true e = or_right (same_claim y x) _ e
     more x false e = e
 
 not-among : (g : Gxid) (x : Claim) (cs : List Claim) → Each (λ c. is_of g c ≡ true) cs → is_of g x ≡ false → among cs x ≡ false
 not-among g x [] e f = refl
-not-among g x (c ∷ cs) e f = or-off (same_claim c x) (among cs x) (apart c.gxid.0 x.gxid.0 g.0 _ e.0 f) (not-among g x cs e.1 f)
+not-among g x (c ∷ cs) e f = or_from (same_claim c x) (among cs x) (apart c.gxid.0 x.gxid.0 g.0 _ e.0 f) (not-among g x cs e.1 f)
   where
     apart : (a b h : ℕ) (r : Bool) → (a == h) ≡ true → (b == h) ≡ false → ((a == b) && r) ≡ false
     apart a b h r e f = grind (arith, nat_tests)
-
-    or-off : (a b : Bool) → a ≡ false → b ≡ false → (a || b) ≡ false
-    or-off a b e f = grind arith
-
-or-on : (a b : Bool) → b ≡ true → (a || b) ≡ true
-or-on a b e = grind arith
-
-or-first : (a b : Bool) → a ≡ true → (a || b) ≡ true
-or-first a b e = grind arith
 
 module _ (l : Locks) (g : Gxid) where
   abbrev parted : Claim → Bool
@@ -153,6 +142,6 @@ module _ (l : Locks) (g : Gxid) where
   pub gives-back : (node : Node) → Leads node l (release_marks node l g) (released l g)
   gives-back node =
       record {
-        holds = holds-less node (has_there l g) l.holds ∙ all-of l.holds (each_weaker (λ x. is_of g x ≡ true → among (filter (is_of g) l.holds) x ≡ true) (λ x. is_of g x ≡ true → parted x ≡ true) (λ x f e. or-on (among (filter (is_of g) l.waits) x) _ (any-in_order claim_order (λ c. same_claim c x) (filter (is_of g) l.holds) ∙ f e)) l.holds (own-among g l.holds));
-        waits = waits-less node (has_there l g) l.waits ∙ all-of l.waits (each_weaker (λ x. is_of g x ≡ true → among (filter (is_of g) l.waits) x ≡ true) (λ x. is_of g x ≡ true → parted x ≡ true) (λ x f e. or-first (among (filter (is_of g) l.waits) x) _ (f e)) l.waits (own-among g l.waits));
+        holds = holds-less node (has_there l g) l.holds ∙ all-of l.holds (each_weaker (λ x. is_of g x ≡ true → among (filter (is_of g) l.holds) x ≡ true) (λ x. is_of g x ≡ true → parted x ≡ true) (λ x f e. or_right (among (filter (is_of g) l.waits) x) _ (any-in_order claim_order (λ c. same_claim c x) (filter (is_of g) l.holds) ∙ f e)) l.holds (own-among g l.holds));
+        waits = waits-less node (has_there l g) l.waits ∙ all-of l.waits (each_weaker (λ x. is_of g x ≡ true → among (filter (is_of g) l.waits) x ≡ true) (λ x. is_of g x ≡ true → parted x ≡ true) (λ x f e. or_left (among (filter (is_of g) l.waits) x) _ (f e)) l.waits (own-among g l.waits));
       }

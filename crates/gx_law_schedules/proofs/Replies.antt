@@ -1,6 +1,8 @@
 -- Which replies answer which messages.
 use Rattle.std.proofs.Common.{◌≡◌, ℕ, Option, Some, None, Bool, true, false, refl, ap, ◌∙◌, if◌then◌else◌, ◌&&◌, arith, eqb}
 use Rattle.std.proofs.lemmas.Bool.Decides.{nat_tests}
+use Rattle.gx_lemmas.proofs.Tests.{and-false, and-true}
+use Rattle.gx_lemmas.proofs.Numbers.{eqb-self, eqb-turned}
 use Rattle.gx_ids.specs.declared.ids.Cid.{Cid}
 use Rattle.gx_ids.specs.declared.ids.Gxid.{Gxid}
 use Rattle.gx_ids.specs.declared.ids.Node.{Node}
@@ -22,7 +24,6 @@ use Rattle.gx_store.specs.Journals.{is_same_node}
 use Rattle.gx_store.specs.Schedule.{is_answer_to, is_reply_to}
 use Rattle.gx_rules.specs.AtCoordinator.{status_order}
 use Rattle.gx_law_order.proofs.Stages.{gx}
-use Rattle.gx_law_schedules.proofs.Asking.{self}
 use Rattle.gx_law_schedules.proofs.Neat.{IsExecOf}
 
 -- what a message leaves of what was asked
@@ -57,13 +58,10 @@ no-answer (Some a) g (message.Graph round graph) e = refl
 -- an answer about another transaction
 pub answer-other : (asked : Option Message) (g h : ℕ) (r : Reply) → eqb h g ≡ false → is_answer_to asked (gx h) (Some (message.Answer (gx g) r)) ≡ false
 answer-other None g h r e = refl
-answer-other (Some a) g h r e = ap (λ b. b && is_reply_to a r) (turned h g e)
-  where
-    turned : (h g : ℕ) → eqb h g ≡ false → eqb g h ≡ false
-    turned h g e = grind (arith, nat_tests)
+answer-other (Some a) g h r e = ap (λ b. b && is_reply_to a r) (eqb-turned h g e)
 
 own-answer : (a : Message) (g : ℕ) (r : Reply) → is_answer_to (Some a) (gx g) (Some (message.Answer (gx g) r)) ≡ is_reply_to a r
-own-answer a g r = ap (λ b. b && is_reply_to a r) (self g)
+own-answer a g r = ap (λ b. b && is_reply_to a r) (eqb-self g)
 
 -- ANSWERS TO ORDERS
 -- how the reply meets each order
@@ -131,14 +129,6 @@ same-reply order.Forget g r = by r
 answer-if : (b : Bool) (o : Order) (g : ℕ) (r : Reply) → is_answer_to (status_order (gx g) (if b then Some o else None)) (gx g) (Some (message.Answer (gx g) r)) ≡ (b && IsReplyFor o r)
 answer-if true o g r = own-answer (message_of o (gx g)) g r ∙ same-reply o g r
 answer-if false o g r = refl
-
-and-true : (b : Bool) → (b && true) ≡ b
-and-true true = refl
-and-true false = refl
-
-and-false : (b : Bool) → (b && false) ≡ false
-and-false true = refl
-and-false false = refl
 
 -- the status awaits the reply where it is one to the order
 abbrev pub IsAboutStatus : Reply → Type 0

@@ -1,6 +1,9 @@
 -- Over every run: clocks, numbers of messages and gxids stay below the number of steps, and no round begins.
 use Rattle.std.proofs.Common.{◌≡◌, ◌≤◌, ℕ, suc, ◌+◌, List, [], ◌∷◌, ◌++◌, Some, Bool, true, false, refl, sym, subst, ap, ◌∙◌, arith, length}
 use Rattle.std.proofs.lemmas.Bool.Decides.{nat_tests}
+use Rattle.gx_lemmas.proofs.Tests.{true-false}
+use Rattle.gx_lemmas.proofs.Options.{some-same}
+use Rattle.gx_lemmas.proofs.Lists.{length-push}
 use Rattle.gx_ids.specs.declared.ids.Node.{Node}
 use Rattle.gx_msg.specs.declared.message.Envelope.{Envelope}
 use Rattle.gx_script.specs.declared.Script.{Script}
@@ -26,13 +29,6 @@ use Rattle.gx_law_order.proofs.Ordered.{at-both, world_well}
 use Rattle.gx_law_schedules.proofs.Quiet.{event-still}
 use Rattle.gx_law_schedules.proofs.QuietSegs.{seg-still}
 use Rattle.gx_law_schedules.proofs.Steps.{IsAt, IsHere, always}
-
-pub length-last : {A : Type 0} (xs : List A) (x : A) → length (xs ++ x ∷ []) ≡ length xs + 1
-length-last [] x = refl
-length-last (y ∷ xs) x = ap suc (length-last xs x) ∙ next (length xs)
-  where
-    next : (a : ℕ) → suc (a + 1) ≡ suc a + 1
-    next a = omega arith
 
 abbrev IsBy : ℕ → Letter → Type 0
 IsBy n l = l.envelope.clock ≤ n
@@ -77,30 +73,12 @@ module _ (script : Script) (some : 1 ≤ script.segments) where
       where
         by_found : (o : Rattle.std.specs.declared.option.Option.Option Envelope) → Rattle.gx_rules.specs.Machine.found from to number w.sent ≡ o → Rattle.gx_rules.specs.Machine.delivered from o ≡ Some x → heard_in x ≤ length w.steps
         by_found Rattle.std.specs.Prelude.None f s = absurd (cc)
-        by_found (Some envelope) f s = subst (λ y. heard_in y ≤ length w.steps) (same (here.Deliver from envelope) x s) (heard-found w from to number envelope q.letters f)
-          where
-            same : (a b : NodeEvent) → Some a ≡ Some b → a ≡ b
-            same a b e = (cc)
-    heard (event.Resume n g) x s = subst (λ y. heard_in y ≤ length w.steps) (same (here.Resume g) x s) (least (length w.steps))
-      where
-        same : (a b : NodeEvent) → Some a ≡ Some b → a ≡ b
-        same a b e = (cc)
-    heard (event.Start t) x s = subst (λ y. heard_in y ≤ length w.steps) (same (here.Start t) x s) (least (length w.steps))
-      where
-        same : (a b : NodeEvent) → Some a ≡ Some b → a ≡ b
-        same a b e = (cc)
-    heard (event.End t) x s = subst (λ y. heard_in y ≤ length w.steps) (same (here.End t) x s) (least (length w.steps))
-      where
-        same : (a b : NodeEvent) → Some a ≡ Some b → a ≡ b
-        same a b e = (cc)
-    heard (event.Resend i g) x s = subst (λ y. heard_in y ≤ length w.steps) (same (here.Resend i g) x s) (least (length w.steps))
-      where
-        same : (a b : NodeEvent) → Some a ≡ Some b → a ≡ b
-        same a b e = (cc)
-    heard event.Round x s = subst (λ y. heard_in y ≤ length w.steps) (same here.Round x s) (least (length w.steps))
-      where
-        same : (a b : NodeEvent) → Some a ≡ Some b → a ≡ b
-        same a b e = (cc)
+        by_found (Some envelope) f s = subst (λ y. heard_in y ≤ length w.steps) (some-same (here.Deliver from envelope) x s) (heard-found w from to number envelope q.letters f)
+    heard (event.Resume n g) x s = subst (λ y. heard_in y ≤ length w.steps) (some-same (here.Resume g) x s) (least (length w.steps))
+    heard (event.Start t) x s = subst (λ y. heard_in y ≤ length w.steps) (some-same (here.Start t) x s) (least (length w.steps))
+    heard (event.End t) x s = subst (λ y. heard_in y ≤ length w.steps) (some-same (here.End t) x s) (least (length w.steps))
+    heard (event.Resend i g) x s = subst (λ y. heard_in y ≤ length w.steps) (some-same (here.Resend i g) x s) (least (length w.steps))
+    heard event.Round x s = subst (λ y. heard_in y ≤ length w.steps) (some-same here.Round x s) (least (length w.steps))
 
   -- A STEP OF THE COORDINATOR
   module _ (w : World) (q : Stays w) (e : Event) (x : NodeEvent) (fails : Bool) (h : IsHere script w e x) where
@@ -108,7 +86,7 @@ module _ (script : Script) (some : 1 ≤ script.segments) where
     step = record { stamp = record { clock = clock_after w.coord.clock x; node = the_coordinator }; event = e; marks = (coord_rule script w.coord x fails).marks }
 
     more : length (w.steps ++ step ∷ []) ≡ length w.steps + 1
-    more = length-last w.steps step
+    more = length-push w.steps step
 
     no-round : (e : Event) → at_node w e ≡ Some x → is_round e ≡ false
     no-round (event.Receive from to number) s = refl
@@ -116,13 +94,7 @@ module _ (script : Script) (some : 1 ≤ script.segments) where
     no-round (event.Start t) s = refl
     no-round (event.End t) s = refl
     no-round (event.Resend i g) s = refl
-    no-round event.Round s = absurd (differ (coord_can script w.coord x) h.admitted (ap (coord_can script w.coord) (sym (same here.Round x s))))
-      where
-        same : (a b : NodeEvent) → Some a ≡ Some b → a ≡ b
-        same a b e = (cc)
-
-        differ : (b : Bool) → b ≡ true → b ≡ false → ⊥
-        differ b e f = grind arith
+    no-round event.Round s = absurd (true-false (coord_can script w.coord x) h.admitted (ap (coord_can script w.coord) (sym (some-same here.Round x s))))
 
     clock-now : clock_after w.coord.clock x ≤ length (w.steps ++ step ∷ [])
     clock-now = hears w.coord.clock (length w.steps) _ x q.room.clock (heard w q e x h.is) more
@@ -153,7 +125,7 @@ module _ (script : Script) (some : 1 ≤ script.segments) where
     seg_step = record { stamp = record { clock = clock_after s.clock x; node = to }; event = e; marks = (seg_rule script s x fails).marks }
 
     one-more : length (w.steps ++ seg_step ∷ []) ≡ length w.steps + 1
-    one-more = length-last w.steps seg_step
+    one-more = length-push w.steps seg_step
 
     seg-clock : clock_after s.clock x ≤ length (w.steps ++ seg_step ∷ [])
     seg-clock = hears s.clock (length w.steps) _ x (q.room.clocks to.0) (heard w q e x h.is) one-more
@@ -164,13 +136,7 @@ module _ (script : Script) (some : 1 ≤ script.segments) where
     no-round-there (event.Start t) s = refl
     no-round-there (event.End t) s = refl
     no-round-there (event.Resend i g) s = refl
-    no-round-there event.Round s = absurd (differ (seg_can script (w.segs to.0) x) h.admitted (ap (seg_can script (w.segs to.0)) (sym (same here.Round x s))))
-      where
-        same : (a b : NodeEvent) → Some a ≡ Some b → a ≡ b
-        same a b e = (cc)
-
-        differ : (b : Bool) → b ≡ true → b ≡ false → ⊥
-        differ b e f = grind arith
+    no-round-there event.Round s = absurd (true-false (seg_can script (w.segs to.0) x) h.admitted (ap (seg_can script (w.segs to.0)) (sym (some-same here.Round x s))))
 
     seg-stays : Stays (seg_did w to e (seg_rule script s x fails))
     seg-stays =

@@ -3,6 +3,8 @@ use Rattle.std.proofs.Common.{◌≡◌, ◌==◌, ◌||◌, ◌&&◌, ℕ, Bool
 use Rattle.std.proofs.lemmas.Bool.Decides.{nat_tests}
 use Rattle.std.specs.List.{list_any}
 use Rattle.std.specs.Prelude.{filter, find}
+use Rattle.gx_lemmas.proofs.Tests.{true-false}
+use Rattle.gx_lemmas.proofs.Numbers.{eqb-self}
 use Rattle.gx_ids.specs.declared.ids.Gxid.{Gxid}
 use Rattle.gx_ids.specs.declared.ids.Node.{Node}
 use Rattle.gx_waits.specs.Claim.{same_claim, same_object}
@@ -86,11 +88,8 @@ pub node-itself : (node : Node) → (node.0 == node.0) ≡ true
 node-itself node = grind (arith, nat_tests)
 
 pub claim-itself : (c : Claim) → same_claim c c ≡ true
-claim-itself c = three (c.gxid.0 == c.gxid.0) (same_object c.object c.object) _ (number-itself c.gxid.0) (same_object-itself c.object) (number-itself _)
+claim-itself c = three (c.gxid.0 == c.gxid.0) (same_object c.object c.object) _ (eqb-self c.gxid.0) (same_object-itself c.object) (eqb-self _)
   where
-    number-itself : (k : ℕ) → (k == k) ≡ true
-    number-itself k = grind (arith, nat_tests)
-
     three : (a b d : Bool) → a ≡ true → b ≡ true → d ≡ true → (a && (b && d)) ≡ true
     three a b d e f h = grind arith
 
@@ -139,17 +138,11 @@ each-once p (x ∷ xs) y e = by_test (p x) refl e (each-once p xs y)
       where
         by_none : (b : Bool) → p z ≡ b → cond b (z ∷ filter p zs) (filter p zs) ≡ [] → (filter p zs ≡ [] → Each (λ x. p x ≡ true → x ≡ y) zs) → Each (λ x. p x ≡ true → x ≡ y) (z ∷ zs)
         by_none true r s f = absurd (cc)
-        by_none false r s f = (λ t. absurd (differ (p z) t r), f s)
-          where
-            differ : (b : Bool) → b ≡ true → b ≡ false → ⊥
-            differ b e f = grind arith
+        by_none false r s f = (λ t. absurd (true-false (p z) t r), f s)
 
     by_test : (b : Bool) → p x ≡ b → cond b (x ∷ filter p xs) (filter p xs) ≡ y ∷ [] → (filter p xs ≡ y ∷ [] → Each (λ x. p x ≡ true → x ≡ y) xs) → Each (λ x. p x ≡ true → x ≡ y) (x ∷ xs)
     by_test true q s f = (λ t. same x y (filter p xs) [] s, none xs (rest x y (filter p xs) [] s))
-    by_test false q s f = (λ t. absurd (differ (p x) t q), f s)
-      where
-        differ : (b : Bool) → b ≡ true → b ≡ false → ⊥
-        differ b e f = grind arith
+    by_test false q s f = (λ t. absurd (true-false (p x) t q), f s)
 
 passes : (p : Claim → Bool) (xs : List Claim) (y : Claim) (ys : List Claim) → filter p xs ≡ y ∷ ys → p y ≡ true
 passes p [] y ys e = absurd (cc)

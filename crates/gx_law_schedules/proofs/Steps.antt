@@ -1,6 +1,7 @@
 -- What each step keeps holds in every run of the machine, with the events that led there.
 use Rattle.std.proofs.Common.{◌≡◌, ◌≤◌, inl, inr, ℕ, List, [], ◌∷◌, ◌++◌, Option, Some, None, Bool, true, false, refl, sym, subst, ap, ◌∙◌, if◌then◌else◌, arith}
 use Rattle.std.proofs.lemmas.Bool.Decides.{nat_tests}
+use Rattle.gx_lemmas.proofs.Options.{some-same}
 use Rattle.gx_ids.specs.declared.ids.Node.{Node}
 use Rattle.gx_msg.specs.declared.message.Envelope.{Envelope}
 use Rattle.gx_script.specs.declared.Script.{Script}
@@ -42,9 +43,6 @@ pub record IsThere (script : Script) (w : World) (from to : Node) (number : ℕ)
 pub by-kind : (script : Script) (some : 1 ≤ script.segments) (es : List (Event × Bool)) (e : Event) (x : NodeEvent) (i : Node) → IsAt script (world_of script es) e x i → (P : Event → NodeEvent → Type 0) → ((from : Node) (number : ℕ) (envelope : Envelope) → IsThere script (world_of script es) from i number envelope → P (event.Receive from i number) (here.Deliver from envelope)) → ((g : Gxid) → seg_can script ((world_of script es).segs i.0) (here.Resume g) ≡ true → P (event.Resume i g) (here.Resume g)) → P e x
 by-kind script some es e x i h P f resumed = by_event e h.node h.is
   where
-    same : (a b : NodeEvent) → Some a ≡ Some b → a ≡ b
-    same a b q = cc
-
     not-zero : (n : Node) → 1 ≤ n.0 → the_coordinator ≡ n → ⊥
     not-zero n one q = zero-one n.0 one (ap (λ (m : Node). m.0) q)
       where
@@ -56,7 +54,7 @@ by-kind script some es e x i h P f resumed = by_event e h.node h.is
 
     came : (from : Node) (number : ℕ) (o : Option Envelope) → found from i number (world_of script es).sent ≡ o → delivered from o ≡ Some x → P (event.Receive from i number) x
     came from number None fd q = absurd (cc)
-    came from number (Some envelope) fd q = subst (P (event.Receive from i number)) (same (here.Deliver from envelope) x q) (f from number envelope (there d.is.link))
+    came from number (Some envelope) fd q = subst (P (event.Receive from i number)) (some-same (here.Deliver from envelope) x q) (f from number envelope (there d.is.link))
       where
         d : IsFound (IsLetter script (world_of script es).steps) from i number envelope
         d = found_is (IsLetter script (world_of script es).steps) from i number (world_of script es).sent envelope (world_well script some es).letters fd
@@ -67,7 +65,7 @@ by-kind script some es e x i h P f resumed = by_event e h.node h.is
 
     by_event : (d : Event) → node_of d ≡ i → at_node (world_of script es) d ≡ Some x → P d x
     by_event (event.Receive from to number) q r = subst (λ n. P (event.Receive from n number) x) (sym q) (came from number (found from i number (world_of script es).sent) refl (subst (λ n. delivered from (found from n number (world_of script es).sent) ≡ Some x) q r))
-    by_event (event.Resume n g) q r = subst (λ m. P (event.Resume m g) x) (sym q) (goes-on g (same (here.Resume g) x r))
+    by_event (event.Resume n g) q r = subst (λ m. P (event.Resume m g) x) (sym q) (goes-on g (some-same (here.Resume g) x r))
     by_event (event.Start s) q r = absurd (not-zero i h.place.0 q)
     by_event (event.End s) q r = absurd (not-zero i h.place.0 q)
     by_event (event.Resend j g) q r = absurd (not-zero i h.place.0 q)
@@ -88,7 +86,7 @@ module _ (script : Script) (some : 1 ≤ script.segments) (Q : World → Type 0)
           d = found_is (IsLetter script (world_of script es).steps) from to number (world_of script es).sent envelope (world_well script some es).letters fd
 
           not-here : (n : Node) → n ≡ the_coordinator → is_same_node n the_coordinator ≡ false → ⊥
-          not-here n same away = grind (arith, nat_tests)
+          not-here n some-same away = grind (arith, nat_tests)
 
           place : is_same_node to the_coordinator ≡ false → IsLink script d.letter.from d.letter.to → IsSegment script to
           place away (inl l) = subst (IsSegment script) d.target l.1

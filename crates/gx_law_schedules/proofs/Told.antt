@@ -3,6 +3,7 @@ use Rattle.std.proofs.Common.{◌≡◌, ◌≤◌, ℕ, zero, suc, ◌+◌, Lis
 use Rattle.std.proofs.lemmas.Bool.Decides.{nat_tests}
 use Rattle.std.specs.Prelude.{map}
 use Rattle.std.specs.List.{flat_map}
+use Rattle.gx_lemmas.proofs.Numbers.{eqb-self}
 use Rattle.gx_ids.specs.declared.ids.Cid.{Cid}
 use Rattle.gx_ids.specs.declared.ids.Gxid.{Gxid}
 use Rattle.gx_ids.specs.declared.ids.Node.{Node}
@@ -114,9 +115,6 @@ module _ (g : Gxid) (c : Cid) (level : Level) (snapshot : Option Snapshot) (hori
   abbrev orders : List Piece → List Out
   orders ps = orders_of g c level snapshot horizon ps
 
-  self : (a : ℕ) → eqb a a ≡ true
-  self a = grind (arith, nat_tests)
-
   no-order : (i : Node) (asked : Option Message) (ps : List Piece) → Each (λ (y : Node). eqb y.0 i.0 ≡ false) (nodes_in ps) → told_by i g asked (orders ps) ≡ asked
   no-order i asked [] e = refl
   no-order i asked (p ∷ ps) e =
@@ -127,7 +125,7 @@ module _ (g : Gxid) (c : Cid) (level : Level) (snapshot : Option Snapshot) (hori
   told-orders i asked (p ∷ ps) e = by_test (eqb p.node.0 i.0) refl (told-orders i asked ps e.1)
     where
       by_test : (b : Bool) → eqb p.node.0 i.0 ≡ b → told_by i g asked (orders ps) ≡ (if has i (nodes_in ps) then order_to i (orders ps) else asked) → told_by i g (if b && eqb g.0 g.0 then Some (message.Exec g c level snapshot horizon p.slice) else asked) (orders ps) ≡ (if b || has i (nodes_in ps) then (if b then Some (message.Exec g c level snapshot horizon p.slice) else order_to i (orders ps)) else asked)
-      by_test true q r = ap (λ (b : Bool). told_by i g (if b then Some (message.Exec g c level snapshot horizon p.slice) else asked) (orders ps)) (self g.0) ∙ no-order i (Some (message.Exec g c level snapshot horizon p.slice)) ps (back i p.node (nodes_in ps) q e.0)
+      by_test true q r = ap (λ (b : Bool). told_by i g (if b then Some (message.Exec g c level snapshot horizon p.slice) else asked) (orders ps)) (eqb-self g.0) ∙ no-order i (Some (message.Exec g c level snapshot horizon p.slice)) ps (back i p.node (nodes_in ps) q e.0)
       by_test false q r = r
 
   none-ordered : (i : Node) (ps : List Piece) → Each (λ (y : Node). eqb y.0 i.0 ≡ false) (nodes_in ps) → sends i (orders ps) ≡ 0

@@ -1,6 +1,8 @@
 -- What the coordinator's turns send is what they leave awaited: lines, ends, messages sent again, and all events.
 use Rattle.std.proofs.Common.{◌≡◌, ◌≤◌, ℕ, ◌+◌, List, [], ◌∷◌, Option, Some, None, Bool, true, false, refl, sym, subst, ap, ◌∙◌, if◌then◌else◌, ◌&&◌, arith, eqb}
 use Rattle.std.proofs.lemmas.Bool.{eqb-true}
+use Rattle.gx_lemmas.proofs.Numbers.{eqb-self}
+use Rattle.gx_lemmas.proofs.Tests.{and-first}
 use Rattle.gx_ids.specs.declared.ids.Cid.{Cid}
 use Rattle.gx_ids.specs.declared.ids.Node.{Node}
 use Rattle.gx_ids.specs.declared.ids.SessionId.{SessionId}
@@ -39,7 +41,7 @@ use Rattle.gx_law_commit.proofs.Dispatching.{IsLive}
 use Rattle.gx_law_commit.proofs.Events.{live-stage}
 use Rattle.gx_law_schedules.proofs.Answered.{FitsIn, answer-asks}
 use Rattle.gx_law_schedules.proofs.Replies.{left_by, no-answer, unanswered}
-use Rattle.gx_law_schedules.proofs.Asking.{AreNeat, Asks, OneOf, asks-by, commits-asks, dispatch-asks, live-none, nothing-sent, now_asked, one-asks, rest-asks, resume-asks, rolled-asks, self}
+use Rattle.gx_law_schedules.proofs.Asking.{AreNeat, Asks, OneOf, asks-by, commits-asks, dispatch-asks, live-none, nothing-sent, now_asked, one-asks, rest-asks, resume-asks, rolled-asks}
 use Rattle.gx_law_schedules.proofs.Neat.{IsDone, IsExecOf, Neat, NeatCommand, waiting, waiting-none}
 use Rattle.gx_ids.specs.declared.ids.Gxid.{Gxid}
 use Rattle.gx_locks.specs.Locks.{wait_of}
@@ -127,7 +129,7 @@ module _ (script : Script) (c : Coord) (k : Kept c) (n : AreNeat c) where
     own = (session_of c s).transaction.0
 
     transaction-now : (asked : LineStep) → (session_of (starts_line c s asked) s).transaction ≡ (session_of c s).transaction
-    transaction-now asked = ap (λ q. (if q then record (session_of c s) { lines = (session_of c s).lines + 1; state = after_line block asked } else session_of c s).transaction) (self s.0)
+    transaction-now asked = ap (λ q. (if q then record (session_of c s) { lines = (session_of c s).lines + 1; state = after_line block asked } else session_of c s).transaction) (eqb-self s.0)
 
     own-live : is_open_in block ≡ true → IsLive c own
     own-live opened = live-stage c own ((k.placed s.0).free opened idle)
@@ -170,10 +172,10 @@ module _ (script : Script) (c : Coord) (k : Kept c) (n : AreNeat c) where
     begun-asks asked level marks = one-asks c (now_asked c) _ c.table.next.0 (new_work s level) (Some new_txn) n (begin-one (starts_line c s asked) refl refl level marks)
 
     begun-live : (asked : LineStep) (level : Level) → IsLive (begins (starts_line c s asked) s level) c.table.next.0
-    begun-live asked level = record { txn = new_txn; found = begun-finds c.table k.whole c.table.next.0 ∙ ap (λ b. if b then Some new_txn else find_txn c.table c.table.next) (self c.table.next.0); active = refl }
+    begun-live asked level = record { txn = new_txn; found = begun-finds c.table k.whole c.table.next.0 ∙ ap (λ b. if b then Some new_txn else find_txn c.table c.table.next) (eqb-self c.table.next.0); active = refl }
 
     begun-done : (asked : LineStep) (level : Level) → IsDone ((begins (starts_line c s asked) s level).works c.table.next.0).command
-    begun-done asked level = subst (λ (w : Work). IsDone w.command) (sym (ap (λ b. if b then new_work s level else c.works c.table.next.0) (self c.table.next.0))) tt
+    begun-done asked level = subst (λ (w : Work). IsDone w.command) (sym (ap (λ b. if b then new_work s level else c.works c.table.next.0) (eqb-self c.table.next.0))) tt
 
     alone-asks : (line : Stmt) → Asks (now_asked c) (behind (mark.Start c.table.next s ∷ []) (dispatches script (begins (starts_line c s (step.Command true)) s ReadCommitted) c.table.next line))
     alone-asks line =
@@ -252,11 +254,8 @@ module _ (script : Script) (c : Coord) (k : Kept c) (n : AreNeat c) where
   FitsEvent _ = Unit {0}
 
   idle-first : (s : SessionId) (b : Bool) → (is_idle (session_of c s) && b) ≡ true → is_nothing_in (session_of c s).state.pending ≡ true
-  idle-first s b e = plain (session_of c s).state.pending (first _ _ e)
+  idle-first s b e = plain (session_of c s).state.pending (and-first _ _ e)
     where
-      first : (a b : Bool) → (a && b) ≡ true → a ≡ true
-      first a b e = grind arith
-
       plain : (q : Pending) → is_nothing q ≡ true → is_nothing_in q ≡ true
       plain q e = grind arith
 

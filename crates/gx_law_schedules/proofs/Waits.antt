@@ -3,6 +3,7 @@ use Rattle.std.proofs.Common.{◌≡◌, ℕ, List, [], ◌∷◌, Bool, false, 
 use Rattle.std.proofs.lemmas.Bool.Decides.{nat_tests}
 use Rattle.std.specs.Prelude.{◌==◌, filter, map, nat_lt}
 use Rattle.std.specs.List.{list_any}
+use Rattle.gx_lemmas.proofs.Tests.{and-last}
 use Rattle.gx_ids.specs.declared.ids.Gxid.{Gxid}
 use Rattle.gx_ids.specs.declared.ids.Node.{Node}
 use Rattle.gx_script.specs.declared.Script.{Script}
@@ -56,7 +57,4 @@ module _ (steps : List Step) (none : Each (λ (s : Step). is_round s.event ≡ f
 
 pub no-rounds : (script : Script) (steps : List Step) → ((node : Node) → waits_at (marks_in steps) node ≡ []) → rounds script steps ≡ []
 no-rounds script steps nobody =
-    ap (λ (b : Bool). if b then event.Round ∷ [] else []) (both (script.detector) (not (is_round_running steps)) (is_any_wait script (marks_in steps)) (no-wait (marks_in steps) nobody script))
-  where
-    both : (a b c : Bool) → c ≡ false → (a && (b && c)) ≡ false
-    both a b c e = grind arith
+    ap (λ (b : Bool). if b then event.Round ∷ [] else []) (and-last (script.detector) (not (is_round_running steps)) (is_any_wait script (marks_in steps)) (no-wait (marks_in steps) nobody script))

@@ -3,6 +3,7 @@ use Rattle.std.proofs.Common.{◌≡◌, ◌<◌, ◌≤◌, ◌⊎◌, inl, inr
 use Rattle.std.proofs.lemmas.Bool.{eqb-true}
 use Rattle.std.proofs.lemmas.Bool.Decides.{nat_tests}
 use Rattle.std.proofs.lemmas.List.{append_assoc}
+use Rattle.gx_lemmas.proofs.Numbers.{eqb-self}
 use Rattle.gx_ids.specs.declared.ids.Gxid.{Gxid}
 use Rattle.gx_ids.specs.declared.ids.SessionId.{SessionId}
 use Rattle.gx_msg.specs.declared.message.Out.{Out}
@@ -127,11 +128,8 @@ module _ (script : Script) (steps : List Step) (c : Coord) (all : (k : SessionId
               (silent-calm (sid m.s) sent silent) (le-same turn.coord.table.next.0) (λ h. (refl, silent-ended _ sent silent, silent-snapshot _ sent silent)))));
         }
       where
-        self : (a : ℕ) → eqb a a ≡ true
-        self a = grind (arith, nat_tests)
-
         now : d.sessions m.s ≡ m.x
-        now = m.sessions m.s ∙ ap (λ q. if q then m.x else c.sessions m.s) (self m.s)
+        now = m.sessions m.s ∙ ap (λ q. if q then m.x else c.sessions m.s) (eqb-self m.s)
 
         At : Session → List Mark → ℕ → Type 0
         At y marks ends = IsStanding script (sid m.s) marks turn.coord.table.next.0 y.state.block y.state.pending y.lines y.transaction (turn.coord.works y.transaction.0) ends

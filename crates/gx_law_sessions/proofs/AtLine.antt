@@ -1,6 +1,7 @@
 -- A session's line under way at a point of a step, and the marks that may stand there.
 use Rattle.std.proofs.Common.{◌≡◌, inl, ℕ, ◌+◌, List, [], ◌∷◌, ◌++◌, Option, Some, None, Bool, true, false, sym, subst, ap, ◌∙◌, if◌then◌else◌}
 use Rattle.std.proofs.lemmas.List.{append_assoc}
+use Rattle.gx_lemmas.proofs.Tests.{false-true}
 use Rattle.gx_ids.specs.declared.ids.Gxid.{Gxid}
 use Rattle.gx_ids.specs.declared.ids.SessionId.{SessionId}
 use Rattle.gx_tree.specs.declared.stmt.Stmt.{Stmt}
@@ -57,10 +58,7 @@ module _ (script : Script) (steps : List Step) (e : Event) (k : SessionId) (line
       by_state : (q : BlockState) → has_txn q u ≡ true → transaction_of q k ms ≡ Some h
       by_state Outside t = ap (λ x. if x then started_after k None ms else None) (a.said.begun ∙ t) ∙ a.said.started ∙ same
       by_state (InBlock l c) t = a.said.started ∙ same
-      by_state Failed t = absurd (differ t)
-        where
-          differ : false ≡ true → ⊥
-          differ z = cc
+      by_state Failed t = absurd (false-true t)
 
   pub runs-command : (later : List Mark) (h : Gxid) → has_txn b u ≡ true → g ≡ Some h → is_command b line ≡ true → RunsCommand script (at later) k line (level_of b) h (cid_of b)
   runs-command later h has same c =

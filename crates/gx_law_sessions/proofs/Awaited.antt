@@ -1,5 +1,6 @@
 -- Which EXECs are awaited.
 use Rattle.std.proofs.Common.{◌≡◌, ◌⊎◌, List, [], ◌∷◌, Option, Some, None, Bool, true, false, refl, sym, subst, ap, ◌∙◌, if◌then◌else◌, arith, eqb}
+use Rattle.gx_lemmas.proofs.Options.{some-same}
 use Rattle.gx_ids.specs.declared.ids.Cid.{Cid}
 use Rattle.gx_ids.specs.declared.ids.Gxid.{Gxid}
 use Rattle.gx_ids.specs.declared.ids.Node.{Node}
@@ -67,9 +68,6 @@ none-awaited w c i level none a = differ (sym none ∙ a.is)
 pub all-answered : (w : Work) (m : Command) (c : Cid) (i : Node) (level : Level) → w.command ≡ Some m → m.awaited ≡ [] → IsAwaited w c i level → ⊥
 all-answered w m c i level it none a = differ (sym (ap (has i) (ap (λ (z : Command). z.awaited) (some-same a.its m (sym a.is ∙ it)) ∙ none)) ∙ a.awaits)
   where
-    some-same : (a b : Command) → Some a ≡ Some b → a ≡ b
-    some-same a b q = cc
-
     differ : has i [] ≡ true → ⊥
     differ q = grind arith
 
@@ -92,9 +90,6 @@ order-awaits : (d : Coord) (g : Gxid) (i : Node) (m : Command) (told : Message) 
 order-awaits d g i m told it waits [] e h = absurd (cc)
 order-awaits d g i m told it waits (o ∷ outs) e h = by_test (eqb o.node.0 i.0) h (λ q. order-awaits d g i m told it waits outs e.1 q)
   where
-    some-same : (a b : Message) → Some a ≡ Some b → a ≡ b
-    some-same a b q = cc
-
     by_message : (t : Message) → IsOwn g m.cid (d.works g.0).level t → IsAwaitedOut d i t
     by_message (message.Exec h c level x y slice) f = record { its = m; is = ap (λ (z : Gxid). (d.works z.0).command) f.0 ∙ it; counted = sym f.1; awaits = waits; level_is = f.2 ∙ sym (ap (λ (z : Gxid). (d.works z.0).level) f.0) }
     by_message (message.Prepare h) f = tt
@@ -114,9 +109,6 @@ status-awaits : (d : Coord) (g : Gxid) (i : Node) (told : Message) (order : Opti
 status-awaits d g i told None e = absurd (cc)
 status-awaits d g i told (Some o) e = subst (λ m. IsAwaitedOut d i m) (some-same (message_of o g) told e) (by_order o)
   where
-    some-same : (a b : Message) → Some a ≡ Some b → a ≡ b
-    some-same a b q = cc
-
     by_order : (o : Order) → IsAwaitedOut d i (message_of o g)
     by_order order.Prepare = tt
     by_order order.Commit = tt

@@ -1,6 +1,8 @@
 -- Lines in a block, and all lines.
 use Rattle.std.proofs.Common.{◌≡◌, ◌≤◌, inl, inr, ℕ, ◌+◌, List, [], ◌∷◌, ◌++◌, Some, None, true, false, refl, sym, subst, ap, ◌∙◌, if◌then◌else◌, ◌||◌, arith, eqb, append-nil}
 use Rattle.std.proofs.lemmas.Bool.Decides.{nat_tests}
+use Rattle.gx_lemmas.proofs.Numbers.{eqb-self}
+use Rattle.gx_lemmas.proofs.Tests.{false-true}
 use Rattle.gx_ids.specs.declared.ids.Cid.{Cid}
 use Rattle.gx_ids.specs.declared.ids.Gxid.{Gxid}
 use Rattle.gx_ids.specs.declared.ids.SessionId.{SessionId}
@@ -38,7 +40,6 @@ use Rattle.gx_law_order.proofs.Lines.{idle-none}
 use Rattle.gx_law_order.proofs.Past.{Past}
 use Rattle.gx_law_order.proofs.Sessions.{Kept, is_nothing_in, is_open_in}
 use Rattle.gx_law_order.proofs.Statuses.{Closes, Turned, commit-turns, stage}
-use Rattle.gx_law_order.proofs.Turns.{self-test}
 use Rattle.gx_law_sessions.specs.Scanned.{closes_block}
 use Rattle.gx_law_sessions.specs.Rest.{EachMark, RestAnswer}
 use Rattle.gx_law_sessions.specs.Standing.{IsSession, Owns, Roots, Stands, is_alone, is_busy, is_open, is_sound, state_in, under_way}
@@ -57,9 +58,6 @@ use Rattle.gx_rules.specs.Locks.{release_marks}
 use Rattle.gx_store.specs.Refusals.{the_coordinator}
 use Rattle.gx_law_sessions.proofs.Locked.{back-locks}
 
-differ : false ≡ true → ⊥
-differ e = cc
-
 le-same : (a : ℕ) → a ≤ a
 le-same a = omega arith
 
@@ -75,9 +73,6 @@ is-sound : (q : Block) → is_sound q pending.Nothing ≡ true
 is-sound block.Outside = refl
 is-sound (block.Open l) = refl
 is-sound block.Failed = refl
-
-test-apart : (a b : ℕ) → eqb a b ≡ false → eqb b a ≡ false
-test-apart a b e = grind (arith, nat_tests)
 
 module _ (script : Script) (steps : List Step) (c : Coord) (k : Kept c) (p : Past c (marks_in steps)) (fr : Fresh (marks_in steps) c.table.next.0) (number : c.table.next.0 ≡ start_count (marks_in steps) + 1) (s : SessionId) (all : IsSession script s steps c) (idle : is_nothing_in (session_of c s).state.pending ≡ true) where
   abbrev y : Session
@@ -221,7 +216,7 @@ module _ (script : Script) (steps : List Step) (c : Coord) (k : Kept c) (p : Pas
               record {
                 g = g;
                 transaction = subst (λ z. transaction_of z s (ms ++ mark.Commit g ∷ []) ≡ Some g) a2.said.state (transaction-is script steps e s line y.lines (InBlock l (st script steps c k p fr number s all idle line is_next).1.commands) false (Some g) (mark.Commit g ∷ []) a2 later g refl refl);
-                committed = ap (λ q. q || false) (self-test g.0);
+                committed = ap (λ q. q || false) (eqb-self g.0);
               }
 
       by_outcome : (o : Outcome) → turn.out.outcome ≡ o → Closes (stage closes-now.now) o → Does script steps c e (follows c1 g turn o)
@@ -240,7 +235,7 @@ module _ (script : Script) (steps : List Step) (c : Coord) (k : Kept c) (p : Pas
         subst (λ q. Does script steps c e (rolls_back c1 q (answer_mark c1 s told.Rollback ∷ []) (on_abort c.table q))) (sym (transaction-now step.RollbackBlock))
         (closed-does script steps c e c1 s g (work_of c g) (moved step.RollbackBlock) y.lines (InBlock l (st script steps c k p fr number s all idle line is_next).1.commands) false line [] (under-own step.RollbackBlock l eb)
         (record (rolls_back c1 g (answer_mark c1 s told.Rollback ∷ []) (on_abort c.table g)) { marks = mark.Abort g ∷ answer_mark c1 s told.Rollback ∷ [] }) (release_marks the_coordinator c1.locks g) (back-locks c1.locks g) (moved step.RollbackBlock) block.Outside (λ j. refl) (λ j h. ap (λ q. if q then no_work else c.works j) h) refl
-        (subst (λ q. block_after q step.RollbackBlock ≡ block.Outside) eb refl) refl refl refl (refl, (refl, tt)) legal (λ t later. (tt, (tt, tt))) said (abort-bare c.table g) (ap (λ (z : Work). z.command) (ap (λ q. if q then no_work else c.works g.0) (self-test g.0))) (λ a i level q. inr (ap (λ t. t || false) (self-test g.0))))
+        (subst (λ q. block_after q step.RollbackBlock ≡ block.Outside) eb refl) refl refl refl (refl, (refl, tt)) legal (λ t later. (tt, (tt, tt))) said (abort-bare c.table g) (ap (λ (z : Work). z.command) (ap (λ q. if q then no_work else c.works g.0) (eqb-self g.0))) (λ a i level q. inr (ap (λ t. t || false) (eqb-self g.0))))
       where
         c1 : Coord
         c1 = starts_line c s step.RollbackBlock
@@ -265,7 +260,7 @@ module _ (script : Script) (steps : List Step) (c : Coord) (k : Kept c) (p : Pas
                 (record {
                   g = g;
                   transaction = subst (λ z. transaction_of z s (ms ++ mark.Abort g ∷ []) ≡ Some g) a2.said.state (transaction-is script steps e s line y.lines (InBlock l (st script steps c k p fr number s all idle line is_next).1.commands) false (Some g) (mark.Abort g ∷ []) a2 later g refl refl);
-                  aborted = ap (λ q. q || false) (self-test g.0);
+                  aborted = ap (λ q. q || false) (eqb-self g.0);
                 })),
             tt,
           ),
@@ -322,9 +317,9 @@ module _ (script : Script) (steps : List Step) (c : Coord) (k : Kept c) (p : Pas
 
     line-does : (b : Block) (l : Stmt) → b ≡ y.state.block → line ≡ l → Does script steps c e (on_line script (starts_line c s (line_step b l)) s l (line_step b l))
     line-does block.Outside (stmt.Begin level) eb el = (begin-does script steps c k p fr number s all idle line is_next) level el eb
-    line-does block.Outside stmt.Commit eb el = simply block.Outside (step.Answer plain.Commit) told.Commit stmt.Commit eb el refl (λ h. refl) (λ h. absurd (differ h)) (λ later. tt) refl (λ later. tt)
-    line-does block.Outside stmt.Rollback eb el = simply block.Outside (step.Answer plain.Rollback) told.Rollback stmt.Rollback eb el refl (λ h. refl) (λ h. absurd (differ h)) (λ later. tt) refl (λ later. tt)
-    line-does block.Outside (stmt.Lock t m) eb el = simply block.Outside step.Refuse7 (told.Refused refused.NotInBlock) (stmt.Lock t m) eb el refl (λ h. refl) (λ h. absurd (differ h)) (λ later. tt) refl (λ later. tt)
+    line-does block.Outside stmt.Commit eb el = simply block.Outside (step.Answer plain.Commit) told.Commit stmt.Commit eb el refl (λ h. refl) (λ h. absurd (false-true h)) (λ later. tt) refl (λ later. tt)
+    line-does block.Outside stmt.Rollback eb el = simply block.Outside (step.Answer plain.Rollback) told.Rollback stmt.Rollback eb el refl (λ h. refl) (λ h. absurd (false-true h)) (λ later. tt) refl (λ later. tt)
+    line-does block.Outside (stmt.Lock t m) eb el = simply block.Outside step.Refuse7 (told.Refused refused.NotInBlock) (stmt.Lock t m) eb el refl (λ h. refl) (λ h. absurd (false-true h)) (λ later. tt) refl (λ later. tt)
     line-does block.Outside (stmt.Select q) eb el = alone-line (stmt.Select q) eb el refl refl
     line-does block.Outside (stmt.Insert t x) eb el = alone-line (stmt.Insert t x) eb el refl refl
     line-does block.Outside (stmt.Update t x z) eb el = alone-line (stmt.Update t x z) eb el refl refl
@@ -337,14 +332,14 @@ module _ (script : Script) (steps : List Step) (c : Coord) (k : Kept c) (p : Pas
     line-does (block.Open v) (stmt.Insert t x) eb el = inside-line v (stmt.Insert t x) eb el refl
     line-does (block.Open v) (stmt.Update t x z) eb el = inside-line v (stmt.Update t x z) eb el refl
     line-does (block.Open v) (stmt.Delete t x) eb el = inside-line v (stmt.Delete t x) eb el refl
-    line-does block.Failed (stmt.Begin level) eb el = simply block.Failed step.Refuse5 (told.Refused refused.InFailedBlock) (stmt.Begin level) eb el refl (λ h. refl) (λ h. absurd (differ h)) (λ later. tt) refl (λ later. tt)
-    line-does block.Failed stmt.Commit eb el = simply block.Failed (step.Answer plain.Rollback) told.Rollback stmt.Commit eb el refl (λ h. absurd (differ h)) (λ h. absurd (differ h)) (λ later. tt) refl (λ later. tt)
-    line-does block.Failed stmt.Rollback eb el = simply block.Failed (step.Answer plain.Rollback) told.Rollback stmt.Rollback eb el refl (λ h. absurd (differ h)) (λ h. absurd (differ h)) (λ later. tt) refl (λ later. tt)
-    line-does block.Failed (stmt.Lock t m) eb el = simply block.Failed step.Refuse5 (told.Refused refused.InFailedBlock) (stmt.Lock t m) eb el refl (λ h. refl) (λ h. absurd (differ h)) (λ later. tt) refl (λ later. tt)
-    line-does block.Failed (stmt.Select q) eb el = simply block.Failed step.Refuse5 (told.Refused refused.InFailedBlock) (stmt.Select q) eb el refl (λ h. refl) (λ h. absurd (differ h)) (λ later. tt) refl (λ later. tt)
-    line-does block.Failed (stmt.Insert t x) eb el = simply block.Failed step.Refuse5 (told.Refused refused.InFailedBlock) (stmt.Insert t x) eb el refl (λ h. refl) (λ h. absurd (differ h)) (λ later. tt) refl (λ later. tt)
-    line-does block.Failed (stmt.Update t x z) eb el = simply block.Failed step.Refuse5 (told.Refused refused.InFailedBlock) (stmt.Update t x z) eb el refl (λ h. refl) (λ h. absurd (differ h)) (λ later. tt) refl (λ later. tt)
-    line-does block.Failed (stmt.Delete t x) eb el = simply block.Failed step.Refuse5 (told.Refused refused.InFailedBlock) (stmt.Delete t x) eb el refl (λ h. refl) (λ h. absurd (differ h)) (λ later. tt) refl (λ later. tt)
+    line-does block.Failed (stmt.Begin level) eb el = simply block.Failed step.Refuse5 (told.Refused refused.InFailedBlock) (stmt.Begin level) eb el refl (λ h. refl) (λ h. absurd (false-true h)) (λ later. tt) refl (λ later. tt)
+    line-does block.Failed stmt.Commit eb el = simply block.Failed (step.Answer plain.Rollback) told.Rollback stmt.Commit eb el refl (λ h. absurd (false-true h)) (λ h. absurd (false-true h)) (λ later. tt) refl (λ later. tt)
+    line-does block.Failed stmt.Rollback eb el = simply block.Failed (step.Answer plain.Rollback) told.Rollback stmt.Rollback eb el refl (λ h. absurd (false-true h)) (λ h. absurd (false-true h)) (λ later. tt) refl (λ later. tt)
+    line-does block.Failed (stmt.Lock t m) eb el = simply block.Failed step.Refuse5 (told.Refused refused.InFailedBlock) (stmt.Lock t m) eb el refl (λ h. refl) (λ h. absurd (false-true h)) (λ later. tt) refl (λ later. tt)
+    line-does block.Failed (stmt.Select q) eb el = simply block.Failed step.Refuse5 (told.Refused refused.InFailedBlock) (stmt.Select q) eb el refl (λ h. refl) (λ h. absurd (false-true h)) (λ later. tt) refl (λ later. tt)
+    line-does block.Failed (stmt.Insert t x) eb el = simply block.Failed step.Refuse5 (told.Refused refused.InFailedBlock) (stmt.Insert t x) eb el refl (λ h. refl) (λ h. absurd (false-true h)) (λ later. tt) refl (λ later. tt)
+    line-does block.Failed (stmt.Update t x z) eb el = simply block.Failed step.Refuse5 (told.Refused refused.InFailedBlock) (stmt.Update t x z) eb el refl (λ h. refl) (λ h. absurd (false-true h)) (λ later. tt) refl (λ later. tt)
+    line-does block.Failed (stmt.Delete t x) eb el = simply block.Failed step.Refuse5 (told.Refused refused.InFailedBlock) (stmt.Delete t x) eb el refl (λ h. refl) (λ h. absurd (false-true h)) (λ later. tt) refl (λ later. tt)
 
     pub start-does : Does script steps c e (starts script c s (Some line))
     start-does = line-does y.state.block line refl refl

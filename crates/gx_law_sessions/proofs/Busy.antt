@@ -1,6 +1,8 @@
 -- A session whose line is under way hears of its transaction.
 use Rattle.std.proofs.Common.{◌≡◌, ◌<◌, ◌≤◌, ◌⊎◌, inl, inr, ℕ, ◌+◌, List, [], ◌∷◌, ◌++◌, Some, None, Bool, true, false, refl, sym, subst, ap, ◌∙◌, if◌then◌else◌, ◌||◌, arith, eqb, append-nil}
 use Rattle.std.proofs.lemmas.Bool.{eqb-true}
+use Rattle.gx_lemmas.proofs.Options.{some-same}
+use Rattle.gx_lemmas.proofs.Numbers.{eqb-self, plus-none}
 use Rattle.gx_ids.specs.declared.ids.Cid.{Cid}
 use Rattle.gx_ids.specs.declared.ids.Gxid.{Gxid}
 use Rattle.gx_ids.specs.declared.ids.Node.{Node}
@@ -37,7 +39,6 @@ use Rattle.gx_rules.specs.AtCoordinator.{answer_at_commit, answer_of_command, an
 use Rattle.gx_rules.specs.Coordinators.{Command, Coord, CoordTurn, Session, Work, session_of, work_of}
 use Rattle.gx_rules.specs.Maps.{with_at}
 use Rattle.gx_law_order.proofs.Lists.{Each}
-use Rattle.gx_law_order.proofs.Turns.{self-test}
 use Rattle.gx_law_sessions.specs.Alive.{HasAnswered}
 use Rattle.gx_law_sessions.specs.Gathering.{IsGathered}
 use Rattle.gx_law_sessions.specs.Finish.{AreCommandsTold}
@@ -98,9 +99,6 @@ module _ (script : Script) (steps : List Step) (c : Coord) (from : Node) (to : N
 
     others : (j : SessionId) → (starts_by j e ≡ 0) × (ends_by j e ≡ 0)
     others j = (refl, refl)
-
-    plus-none : (a : ℕ) → a + 0 ≡ a
-    plus-none a = omega arith
 
     started : starts_in s steps + starts_by s e ≡ y.lines
     started = plus-none (starts_in s steps) ∙ q.starts
@@ -247,9 +245,6 @@ module _ (script : Script) (steps : List Step) (c : Coord) (from : Node) (to : N
     -- the transaction of the line is this one
     same-txn : (earlier : List Mark) → AtLine script steps e s line n b (is_alone B P) (Some g) earlier → (later : List Mark) (h : Gxid) → transaction_of (state_at script s (record { steps = steps; event = e; earlier = earlier; later = later })) s (ms ++ earlier) ≡ Some h → g ≡ h
     same-txn earlier a later h q = some-same g h (sym (transaction-is script steps e s line n b (is_alone B P) (Some g) earlier a later g has-txn refl) ∙ q)
-      where
-        some-same : (x y : Gxid) → Some x ≡ Some y → x ≡ y
-        some-same x y z = cc
 
     -- what is left of its answer
     told-committed : AreCommandsTold script steps → (m : Command) (later : List Mark) → IsTold script (record { steps = steps; event = e; earlier = mark.Commit g ∷ []; later = later }) s (command_answer m line)
@@ -275,7 +270,7 @@ module _ (script : Script) (steps : List Step) (c : Coord) (from : Node) (to : N
         (λ later rest. subst (λ z. IsAnswer script (record { steps = steps; event = e; earlier = mark.Commit g ∷ []; later = later }) s b line z) (sym told-as)
         (command-told (mark.Commit g ∷ []) (at-calm script steps e s line n b (is_alone B P) (Some g) [] (mark.Commit g ∷ []) at-now (tt, tt)) later m (gathered-here m gath none its_cid same (mark.Commit g ∷ []) later) cmd
         (subst (λ z. RestAnswer script (record { steps = steps; event = e; earlier = mark.Commit g ∷ []; later = later }) s z) told-as rest)
-        (subst (λ x. Rattle.gx_store.specs.Answers.IsAtItsEnd (state_in x q.stands.commands) (record { steps = steps; event = e; earlier = mark.Commit g ∷ []; later = later }) g) (sym outside) (ap (λ t. t || false) (self-test g.0)))))
+        (subst (λ x. Rattle.gx_store.specs.Answers.IsAtItsEnd (state_in x q.stands.commands) (record { steps = steps; event = e; earlier = mark.Commit g ∷ []; later = later }) g) (sym outside) (ap (λ t. t || false) (eqb-self g.0)))))
         outs over (λ t later. subst (λ z. RestAnswer script (record { steps = steps; event = e; earlier = mark.Commit g ∷ []; later = later }) s z) (sym told-as) (rest-is script (record { steps = steps; event = e; earlier = mark.Commit g ∷ []; later = later }) s line m (told-committed t m later)))
       where
         r : StmtAnswer
@@ -304,7 +299,7 @@ module _ (script : Script) (steps : List Step) (c : Coord) (from : Node) (to : N
         (λ later rest. subst (λ z. IsAnswer script (record { steps = steps; event = e; earlier = mark.Commit g ∷ []; later = later }) s b line z) (sym told-as)
         (subst (λ x. IsAnswer script (record { steps = steps; event = e; earlier = mark.Commit g ∷ []; later = later }) s (state_in x q.stands.commands) line told.Commit) (sym opened)
         (subst (λ z. IsAnswer script (record { steps = steps; event = e; earlier = mark.Commit g ∷ []; later = later }) s (InBlock l q.stands.commands) z told.Commit) (sym is)
-        (record { g = g; transaction = subst (λ x. transaction_of (state_in x q.stands.commands) s (ms ++ mark.Commit g ∷ []) ≡ Some g) opened (transaction later); committed = ap (λ t. t || false) (self-test g.0) }))))
+        (record { g = g; transaction = subst (λ x. transaction_of (state_in x q.stands.commands) s (ms ++ mark.Commit g ∷ []) ≡ Some g) opened (transaction later); committed = ap (λ t. t || false) (eqb-self g.0) }))))
         outs (λ a i level z. absurd (none-awaited (c.works g.0) a i level no-command z))
         (λ t later. subst (λ z. RestAnswer script (record { steps = steps; event = e; earlier = mark.Commit g ∷ []; later = later }) s z) (sym told-as) tt)
       where
@@ -385,7 +380,7 @@ module _ (script : Script) (steps : List Step) (c : Coord) (from : Node) (to : N
         next-is RepeatableRead = refl
 
         work-now : (if eqb g.0 g.0 then record (work_of c1 g) { command = None } else c1.works g.0) ≡ record w { command = None }
-        work-now = ap (λ t. if t then record (work_of c1 g) { command = None } else c1.works g.0) (self-test g.0) ∙ ap (λ (v : Work). let z : Work = record v { command = None } in z) o.work
+        work-now = ap (λ t. if t then record (work_of c1 g) { command = None } else c1.works g.0) (eqb-self g.0) ∙ ap (λ (v : Work). let z : Work = record v { command = None } in z) o.work
 
         told-as : answer_of_command (work_of c1 g).command ≡ command_answer m line
         told-as = ap (λ (v : Work). answer_of_command v.command) o.work ∙ ap answer_of_command has ∙ ap (command_answer m) same
@@ -402,9 +397,6 @@ module _ (script : Script) (steps : List Step) (c : Coord) (from : Node) (to : N
             (ap (λ x. state_after (state_in x q.stands.commands) line (answer_of_command (work_of c1 g).command)) opened ∙ ap (state_after (InBlock l q.stands.commands) line) told-as ∙ done-inside l q.stands.commands line m (subst (λ x. is_command (state_in x q.stands.commands) line ≡ true) opened cmd))
             (answered-now script steps e s line n b (is_alone B P) (Some g) [] at-now (session_of c1 s).lines (answer_of_command (work_of c1 g).command) numbered)
 
-        plus-zero : (a : ℕ) → a + 0 ≡ a
-        plus-zero a = omega arith
-
         owns-done : Owns s (q.stands.commands + 1) (ms ++ mark.Answer s (session_of c1 s).lines (answer_of_command (work_of c1 g).command) ∷ []) c.table.next.0 (block.Open l) g (record w { command = None })
         owns-done =
             let z = owns-more script s q.stands.commands (ms ++ []) (mark.Answer s (session_of c1 s).lines (answer_of_command (work_of c1 g).command) ∷ []) c.table.next.0 c.table.next.0 B g w (likewise-owns w k) (le-same c.table.next.0)
@@ -416,14 +408,14 @@ module _ (script : Script) (steps : List Step) (c : Coord) (from : Node) (to : N
               level = v.level ∙ ap level_in opened;
               drawn = v.drawn;
               running = v.running;
-              counted = λ h. plus-zero (q.stands.commands + 1) ∙ ap (λ a. q.stands.commands + under_way a) (sym has) ∙ v.counted (ap is_open opened);
+              counted = λ h. plus-none (q.stands.commands + 1) ∙ ap (λ a. q.stands.commands + under_way a) (sym has) ∙ v.counted (ap is_open opened);
               unsnapped = v.unsnapped;
               snapshot = v.snapshot;
             }
 
         there : Stands script s (ms ++ mark.Answer s (session_of c1 s).lines (answer_of_command (work_of c1 g).command) ∷ []) c.table.next.0 (block.Open l) pending.Nothing y.lines g (record w { command = None })
         there =
-            record { commands = q.stands.commands + 1; answered = plus-zero _ ∙ said.answered ∙ lines-are; state = said.state; begun = said.begun; sound = refl; owns = λ h. (owns-done, refl, roots-answered script s ms _ l y.lines g (work_of c g) done (subst (λ z. Roots script s ms (block.Open l) z y.lines g (work_of c g)) working (subst (λ z. Roots script s ms z P y.lines g (work_of c g)) opened (q.stands.owns q.busy).2)) k.last k.waiting) }
+            record { commands = q.stands.commands + 1; answered = plus-none _ ∙ said.answered ∙ lines-are; state = said.state; begun = said.begun; sound = refl; owns = λ h. (owns-done, refl, roots-answered script s ms _ l y.lines g (work_of c g) done (subst (λ z. Roots script s ms (block.Open l) z y.lines g (work_of c g)) working (subst (λ z. Roots script s ms z P y.lines g (work_of c g)) opened (q.stands.owns q.busy).2)) k.last k.waiting) }
 
         abbrev-turn : CoordTurn
         abbrev-turn = answers c1 g (work_of c1 g)

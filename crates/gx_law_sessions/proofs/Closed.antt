@@ -1,6 +1,8 @@
 -- A session that ends.
 use Rattle.std.proofs.Common.{◌≡◌, ◌≤◌, inl, inr, ℕ, ◌+◌, List, [], ◌∷◌, ◌++◌, Some, None, true, false, refl, sym, subst, ap, ◌∙◌, if◌then◌else◌, ◌||◌, arith, eqb, append-nil}
 use Rattle.std.proofs.lemmas.Bool.Decides.{nat_tests}
+use Rattle.gx_lemmas.proofs.Numbers.{eqb-self, eqb-turned}
+use Rattle.gx_lemmas.proofs.Tests.{false-true}
 use Rattle.gx_ids.specs.declared.ids.SessionId.{SessionId}
 use Rattle.gx_script.specs.declared.Script.{Script}
 use Rattle.gx_script.specs.Session.{idle_outside}
@@ -20,7 +22,6 @@ use Rattle.gx_store.specs.Points.{ends_by, ends_in, marks_in, starts_by, starts_
 use Rattle.gx_rules.specs.AtCoordinator.{ends_in as ends_session, is_in_block as is_block, next_line, rolls_back}
 use Rattle.gx_rules.specs.Coordinators.{Coord, Session, Work, no_work, session_of, with_state, work_of}
 use Rattle.gx_law_order.proofs.Sessions.{is_nothing_in}
-use Rattle.gx_law_order.proofs.Turns.{self-test}
 use Rattle.gx_law_sessions.specs.Standing.{IsOver, IsSession, IsStanding, Owns, Stands, is_busy, state_in}
 use Rattle.gx_law_sessions.proofs.Awaited.{bare-all, own-none}
 use Rattle.gx_law_sessions.proofs.Ends.{of-fresh}
@@ -33,17 +34,11 @@ use Rattle.gx_store.specs.Refusals.{the_coordinator}
 use Rattle.gx_law_order.proofs.Lists.{Each}
 use Rattle.gx_law_sessions.proofs.Locked.{LockMark, back-locks, lock-for, lock-given, lock-of, lock-rest}
 
-differ : false ≡ true → ⊥
-differ e = cc
-
 le-same : (a : ℕ) → a ≤ a
 le-same a = omega arith
 
 plus-none : (a n : ℕ) → a + 0 ≡ n → a ≡ n
 plus-none a n h = omega arith
-
-test-apart : (a b : ℕ) → eqb a b ≡ false → eqb b a ≡ false
-test-apart a b e = grind (arith, nat_tests)
 
 idle-is : (q : Pending) → is_nothing_in q ≡ true → q ≡ pending.Nothing
 idle-is q e = grind arith
@@ -60,7 +55,7 @@ module _ (script : Script) (steps : List Step) (c : Coord) (s : SessionId) (all 
 
   not-over : IsStanding script s ms next y.state.block y.state.pending y.lines y.transaction (work_of c y.transaction) (ends_in s steps) → (ends_in s steps ≡ 0) × Stands script s ms next y.state.block pending.Nothing y.lines y.transaction (work_of c y.transaction)
   not-over (inl z) = (z.0, subst (λ q. Stands script s ms next y.state.block q y.lines y.transaction (work_of c y.transaction)) (idle-is y.state.pending idle) z.1)
-  not-over (inr z) = absurd (differ (sym (ap is_block z.1.outside) ∙ inside))
+  not-over (inr z) = absurd (false-true (sym (ap is_block z.1.outside) ∙ inside))
 
   st : (ends_in s steps ≡ 0) × Stands script s ms next y.state.block pending.Nothing y.lines y.transaction (work_of c y.transaction)
   st = not-over all.stands
@@ -83,7 +78,7 @@ module _ (script : Script) (steps : List Step) (c : Coord) (s : SessionId) (all 
       by_block block.Failed h = refl
 
   others : (j : SessionId) → eqb j.0 s.0 ≡ false → (starts_by j (event.End s) ≡ 0) × (ends_by j (event.End s) ≡ 0)
-  others j h = (refl, ap (λ q. if q then 1 else 0) (test-apart j.0 s.0 h))
+  others j h = (refl, ap (λ q. if q then 1 else 0) (eqb-turned j.0 s.0 h))
 
   started : starts_in s steps + starts_by s (event.End s) ≡ y.lines
   started = back (starts_in s steps) y.lines all.starts
@@ -92,7 +87,7 @@ module _ (script : Script) (steps : List Step) (c : Coord) (s : SessionId) (all 
       back a n h = omega arith
 
   ended : ends_in s steps + ends_by s (event.End s) ≡ 1
-  ended = ap (λ q. ends_in s steps + (if q then 1 else 0)) (self-test s.0) ∙ ap (λ i. i + 1) st.0
+  ended = ap (λ q. ends_in s steps + (if q then 1 else 0)) (eqb-self s.0) ∙ ap (λ i. i + 1) st.0
 
   over : (ns : List Mark) → Rattle.gx_law_order.proofs.Lists.Each (Rattle.gx_law_sessions.proofs.Said.CalmFor s) ns → IsOver script s (ms ++ ns) block.Outside pending.Nothing y.lines
   over ns calm =
@@ -121,11 +116,11 @@ module _ (script : Script) (steps : List Step) (c : Coord) (s : SessionId) (all 
         legal = λ later. (λ q. record { running = subst (λ m. is_ended m y.transaction ≡ false) (sym (append-nil ms)) own.running; cause = inr (record { session = s; event = refl; transaction = transaction }) }, lock-given script steps (event.End s) (mark.Abort y.transaction ∷ []) tail later back);
         rest = λ t later. (tt, lock-rest script steps (event.End s) (mark.Abort y.transaction ∷ []) tail later back);
         outs = bare-outs script (ms ++ mark.Abort y.transaction ∷ tail) _ (abort-bare c.table y.transaction);
-        owned = λ h. own-none y.transaction ((rolls_back (with_state c s idle_outside) y.transaction [] (on_abort c.table y.transaction)).coord.works y.transaction.0) (ap (λ (z : Work). z.command) (ap (λ q. if q then no_work else c.works y.transaction.0) (self-test y.transaction.0)));
+        owned = λ h. own-none y.transaction ((rolls_back (with_state c s idle_outside) y.transaction [] (on_abort c.table y.transaction)).coord.works y.transaction.0) (ap (λ (z : Work). z.command) (ap (λ q. if q then no_work else c.works y.transaction.0) (eqb-self y.transaction.0)));
         sent = bare-all (rolls_back (with_state c s idle_outside) y.transaction [] (on_abort c.table y.transaction)).coord _ (abort-bare c.table y.transaction);
-        keeps = λ k i level a. inr (inr (ap (λ q. q || is_aborted tail y.transaction) (self-test y.transaction.0)));
-        orders = λ h. subst (CommandIs script (ms ++ mark.Abort y.transaction ∷ tail)) (sym (ap (λ (z : Work). z.command) (ap (λ q. if q then no_work else c.works y.transaction.0) (self-test y.transaction.0)))) tt;
-        gathers = λ h. subst (GathersIn script (HeardNow steps (event.End s)) y.transaction) (sym (ap (λ (z : Work). z.command) (ap (λ q. if q then no_work else c.works y.transaction.0) (self-test y.transaction.0)))) tt;
+        keeps = λ k i level a. inr (inr (ap (λ q. q || is_aborted tail y.transaction) (eqb-self y.transaction.0)));
+        orders = λ h. subst (CommandIs script (ms ++ mark.Abort y.transaction ∷ tail)) (sym (ap (λ (z : Work). z.command) (ap (λ q. if q then no_work else c.works y.transaction.0) (eqb-self y.transaction.0)))) tt;
+        gathers = λ h. subst (GathersIn script (HeardNow steps (event.End s)) y.transaction) (sym (ap (λ (z : Work). z.command) (ap (λ q. if q then no_work else c.works y.transaction.0) (eqb-self y.transaction.0)))) tt;
       }
     where
       tail : List Mark
@@ -170,4 +165,4 @@ module _ (script : Script) (steps : List Step) (c : Coord) (s : SessionId) (all 
   pub end-does : (b : Block) → b ≡ y.state.block → Does script steps c (event.End s) (ends_session c s b)
   end-does (block.Open l) e = open-does l e
   end-does block.Failed e = failed-does
-  end-does block.Outside e = absurd (differ (ap is_block e ∙ inside))
+  end-does block.Outside e = absurd (false-true (ap is_block e ∙ inside))

@@ -1,9 +1,10 @@
 -- Answers to PREPARE, COMMIT and the other orders, and every event of the coordinator.
 use Rattle.std.proofs.Common.{◌≡◌, ◌≤◌, ◌⊎◌, inl, inr, ℕ, zero, suc, List, [], ◌∷◌, ◌++◌, Option, Some, None, Bool, true, false, refl, sym, subst, ap, ◌∙◌, if◌then◌else◌, ◌&&◌, ◌==◌, arith, append-nil}
-use Rattle.std.proofs.lemmas.Bool.{eqb-true}
+use Rattle.std.proofs.lemmas.Bool.{and_parts, eqb-true}
 use Rattle.std.proofs.lemmas.Bool.Decides.{nat_tests}
 use Rattle.std.proofs.lemmas.List.Elements.{Contains-append_left, Contains-push}
 use Rattle.std.specs.Prelude.{Contains}
+use Rattle.gx_lemmas.proofs.Numbers.{one-le-none}
 use Rattle.gx_ids.specs.declared.ids.Cid.{Cid}
 use Rattle.gx_ids.specs.declared.ids.Gxid.{Gxid}
 use Rattle.gx_ids.specs.declared.ids.Node.{Node}
@@ -60,7 +61,7 @@ use Rattle.gx_law_sessions.specs.Alive.{IsHeard}
 use Rattle.gx_law_sessions.proofs.Gathers.{GathersIn}
 use Rattle.gx_law_sessions.proofs.Given.{Given}
 use Rattle.gx_law_sessions.proofs.Outs.{IsBare, bare-outs, reply-bare}
-use Rattle.gx_law_sessions.proofs.Replies.{ByWord, Works, both_of, done-does, failed-does, found-by, gathers-old, same-gxid, stand, works-on}
+use Rattle.gx_law_sessions.proofs.Replies.{ByWord, Works, done-does, failed-does, found-by, gathers-old, same-gxid, stand, works-on}
 use Rattle.gx_law_sessions.proofs.Said.{CalmFor}
 use Rattle.gx_law_sessions.proofs.Under.{Under, refuse-does}
 
@@ -74,10 +75,7 @@ rests-now script steps c from to number = record { sessions = λ j. refl; works 
 
 -- a segment's word is that its journal has failed
 has-failed : (steps : List Step) (e : Event) (earlier later : List Mark) (g : Gxid) (i : ℕ) → 1 ≤ i → Receives steps e (record { 0 = i }) the_coordinator (message.Answer g reply.Jfault) → Contains (marks_in steps ++ earlier) (mark.JournalFailed (record { 0 = i }) g) → HasJournalFailed (record { steps = steps; event = e; earlier = earlier; later = later }) g (record { 0 = i })
-has-failed steps e earlier later g zero l r h = absurd (none l)
-  where
-    none : 1 ≤ 0 → ⊥
-    none l = omega arith
+has-failed steps e earlier later g zero l r h = absurd (one-le-none l)
 has-failed steps e earlier later g (suc i) l r h = (r, h)
 
 module _ (script : Script) (steps : List Step) (c : Coord) (k : Kept c) (all : (j : SessionId) → IsSession script j steps c) (gath : (j : ℕ) → GathersIn script (IsHeard steps) (gx j) (c.works j).command) (from : Node) (some : 1 ≤ from.0) (to : Node) (number : ℕ) (g : Gxid) where
@@ -99,8 +97,8 @@ module _ (script : Script) (steps : List Step) (c : Coord) (k : Kept c) (all : (
   on-done-does cid wrote count part r (Some m) h = by_test (is_awaited m from cid && fits_part m.stmt part) refl
     where
       by_test : (b : Bool) → (is_awaited m from cid && fits_part m.stmt part) ≡ b → Effect script steps c e (if b then takes_done c g from wrote count part m else rests c)
-      by_test true f = inl (done-does script steps c k all gath from to number g m h from (both_of _ _ (both_of _ _ f).0).1 wrote count part (both_of _ _ f).1
-          (subst (λ (i : Cid). Receives steps e from the_coordinator (message.Answer g (reply.Done i wrote count part))) (sym (ap (λ (i : ℕ). let x : Cid = record { 0 = i } in x) (eqb-true m.cid.0 cid.0 (both_of _ _ (both_of _ _ f).0).0))) r))
+      by_test true f = inl (done-does script steps c k all gath from to number g m h from (and_parts _ _ (and_parts _ _ f).0).1 wrote count part (and_parts _ _ f).1
+          (subst (λ (i : Cid). Receives steps e from the_coordinator (message.Answer g (reply.Done i wrote count part))) (sym (ap (λ (i : ℕ). let x : Cid = record { 0 = i } in x) (eqb-true m.cid.0 cid.0 (and_parts _ _ (and_parts _ _ f).0).0))) r))
       by_test false f = inr (rests-now script steps c from to number)
 
   on-failed-does : (cid : Cid) (why : Cause) → Receives steps e from the_coordinator (message.Answer g (reply.Failed cid why)) → (m : Option Command) → (work_of c g).command ≡ m → Effect script steps c e (on_failed c g from cid why m)
@@ -108,7 +106,7 @@ module _ (script : Script) (steps : List Step) (c : Coord) (k : Kept c) (all : (
   on-failed-does cid why r (Some m) h = by_test (is_awaited m from cid) refl
     where
       by_test : (b : Bool) → is_awaited m from cid ≡ b → Effect script steps c e (if b then is_refused c g (on_abort c.table g) [] (reason_of why) else rests c)
-      by_test true f = inl (failed-does script steps c k all gath from to number g m h from (both_of _ _ f).1 why cid (ap (λ (i : ℕ). let x : Cid = record { 0 = i } in x) (eqb-true m.cid.0 cid.0 (both_of _ _ f).0)) r)
+      by_test true f = inl (failed-does script steps c k all gath from to number g m h from (and_parts _ _ f).1 why cid (ap (λ (i : ℕ). let x : Cid = record { 0 = i } in x) (eqb-true m.cid.0 cid.0 (and_parts _ _ f).0)) r)
       by_test false f = inr (rests-now script steps c from to number)
 
   -- STATUSES
@@ -175,7 +173,7 @@ module _ (script : Script) (steps : List Step) (c : Coord) (k : Kept c) (all : (
   commits-now turn next outs (inr z) =
       block-commit script steps c from to number g (block.Open z.0) pending.Commit stmt.Commit z.1 c (work_of c g) turn z.0 (under-same (block.Open z.0) pending.Commit stmt.Commit z.1) refl refl refl next outs
 
-  -- marks that say why: none, or that the coordinator's journal has failed
+  -- marks that say why: one-le-none, or that the coordinator's journal has failed
   abbrev whys : Bool → List Mark
   whys b = if b then mark.JournalFailed the_coordinator g ∷ [] else []
 

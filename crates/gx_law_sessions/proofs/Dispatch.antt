@@ -4,6 +4,9 @@ use Rattle.std.proofs.Math.Seq.{take-append_seam}
 use Rattle.std.proofs.lemmas.List.{append_assoc, length-append}
 use Rattle.std.proofs.lemmas.List.Elements.{Contains-append_left, Contains-append_right, Contains-push}
 use Rattle.std.specs.Prelude.{Contains, slice_get, take}
+use Rattle.gx_lemmas.proofs.Numbers.{eqb-self}
+use Rattle.gx_lemmas.proofs.Options.{some-same}
+use Rattle.gx_lemmas.proofs.Tests.{false-true}
 use Rattle.gx_ids.specs.declared.ids.Cid.{Cid}
 use Rattle.gx_ids.specs.declared.ids.Gxid.{Gxid}
 use Rattle.gx_ids.specs.declared.ids.Node.{Node}
@@ -44,7 +47,6 @@ use Rattle.gx_rules.specs.Coordinators.{Command, Coord, CoordTurn, Session, Work
 use Rattle.gx_rules.specs.Slices.{cause_of}
 use Rattle.gx_law_order.proofs.Lists.{Each, each_append, get_last}
 use Rattle.gx_law_order.proofs.Past.{Past}
-use Rattle.gx_law_order.proofs.Turns.{self-test}
 use Rattle.gx_law_sessions.specs.Scanned.{command_at}
 use Rattle.gx_law_sessions.specs.Orders.{IsReadBy}
 use Rattle.gx_law_sessions.specs.Rest.{Rest, UnlessStart}
@@ -72,9 +74,6 @@ use Rattle.gx_law_order.proofs.Dispatches.{dispatch-ways}
 enlisted-next : (nodes : List Node) (d : Table) (g : Gxid) → (enlisted_all d g nodes).next ≡ d.next
 enlisted-next [] d g = refl
 enlisted-next (i ∷ is) d g = enlisted-next is (enlisted d g i) g
-
-differ : false ≡ true → ⊥
-differ e = cc
 
 -- only the constants of an INSERT fault
 plan-faults : (n : ℕ) (d : Rattle.gx_tree.specs.declared.schema.Dist.Dist) (g : Gxid) (c : Cid) (line : Stmt) (fault : ArithFault) → plan_of n d g c line ≡ Err fault → (table : Rattle.gx_ids.specs.declared.ids.Table.Table) × ((tuples : List (List Expr)) × (line ≡ stmt.Insert table tuples) × (rows_of g c tuples ≡ Err fault))
@@ -212,22 +211,19 @@ module _ (script : Script) (steps : List Step) (ev : Event) (exempt : (A : Type 
             (record { pieces = pieces; plan = plan; taken = []; heard = tt; fits = tt; apart = tt; all = λ i. or-none (has i (nodes_in pieces)); free = λ i q. refl; parts = refl; counted = refl });
       }
     where
-      some-same : (a b : Command) → Some a ≡ Some b → a ≡ b
-      some-same a b h = cc
-
       own-all : (qs : List Piece) → Each (λ (o : Out). IsOwn g (next_cid w) ((goes_out g (next_cid w) line pieces r).coord.works g.0).level o.message) (orders_of g (next_cid w) (work_of r.coord g).level r.snapshot (horizon_of r.coord.table) qs)
       own-all [] = tt
-      own-all (q ∷ qs) = ((refl, refl, sym (ap (λ (v : Work). v.level) (ap (λ t. if t then sent-work r pieces (work_of r.coord g) else r.coord.works g.0) (self-test g.0)))), own-all qs)
+      own-all (q ∷ qs) = ((refl, refl, sym (ap (λ (v : Work). v.level) (ap (λ t. if t then sent-work r pieces (work_of r.coord g) else r.coord.works g.0) (eqb-self g.0)))), own-all qs)
 
       awaited-all : (qs : List Piece) → ((i : Node) → has i (nodes_in qs) ≡ true → has i (nodes_in pieces) ≡ true) → Each (OutAwaits (goes_out g (next_cid w) line pieces r).coord) (orders_of g (next_cid w) (work_of r.coord g).level r.snapshot (horizon_of r.coord.table) qs)
       awaited-all [] f = tt
       awaited-all (q ∷ qs) f = (
         record {
           its = record { stmt = line; cid = next_cid w; orders = orders_of g (next_cid w) (work_of r.coord g).level r.snapshot (horizon_of r.coord.table) pieces; awaited = nodes_in pieces; count = 0; parts = [] };
-          is = ap (λ (v : Work). v.command) (ap (λ t. if t then sent-work r pieces (work_of r.coord g) else r.coord.works g.0) (self-test g.0));
+          is = ap (λ (v : Work). v.command) (ap (λ t. if t then sent-work r pieces (work_of r.coord g) else r.coord.works g.0) (eqb-self g.0));
           counted = refl;
-          awaits = f q.node (ap (λ t. t || has q.node (nodes_in qs)) (self-test q.node.0));
-          level_is = sym (ap (λ (v : Work). v.level) (ap (λ t. if t then sent-work r pieces (work_of r.coord g) else r.coord.works g.0) (self-test g.0)));
+          awaits = f q.node (ap (λ t. t || has q.node (nodes_in qs)) (eqb-self q.node.0));
+          level_is = sym (ap (λ (v : Work). v.level) (ap (λ t. if t then sent-work r pieces (work_of r.coord g) else r.coord.works g.0) (eqb-self g.0)));
         },
         awaited-all qs (λ i h. f i (or-true (eqb q.node.0 i.0) h)),
       )
@@ -244,7 +240,7 @@ module _ (script : Script) (steps : List Step) (ev : Event) (exempt : (A : Type 
       sent_orders = out-orders pieces r R (work_of r.coord g) (ap (λ (v : Work). v.level) R.work ∙ R.level) plan pieces (each-contained [] pieces)
 
       command-now : ((goes_out g (next_cid w) line pieces r).coord.works g.0).command ≡ Some (record { stmt = line; cid = next_cid w; orders = orders_of g (next_cid w) (work_of r.coord g).level r.snapshot (horizon_of r.coord.table) pieces; awaited = nodes_in pieces; count = 0; parts = [] })
-      command-now = ap (λ (v : Work). v.command) (ap (λ q. if q then sent-work r pieces (work_of r.coord g) else r.coord.works g.0) (self-test g.0))
+      command-now = ap (λ (v : Work). v.command) (ap (λ q. if q then sent-work r pieces (work_of r.coord g) else r.coord.works g.0) (eqb-self g.0))
 
       late : Rattle.gx_rules.specs.Coordinators.CoordTurn
       late = goes_out g (next_cid w) line pieces r
@@ -253,12 +249,12 @@ module _ (script : Script) (steps : List Step) (ev : Event) (exempt : (A : Type 
       next-is = enlisted-next (nodes_in pieces) r.coord.table g ∙ R.next
 
       work-now : late.coord.works g.0 ≡ sent-work r pieces R.w2
-      work-now = ap (λ q. if q then sent-work r pieces (work_of r.coord g) else r.coord.works g.0) (self-test g.0) ∙ ap (sent-work r pieces) R.work
+      work-now = ap (λ q. if q then sent-work r pieces (work_of r.coord g) else r.coord.works g.0) (eqb-self g.0) ∙ ap (sent-work r pieces) R.work
 
       sounds : (q : Block) → is_busy q pending.Command ≡ true → is_sound q pending.Command ≡ true
       sounds block.Outside h = refl
       sounds (block.Open l) h = refl
-      sounds block.Failed h = absurd (differ h)
+      sounds block.Failed h = absurd (false-true h)
 
       there : Stands script s (marks_in steps ++ (earlier ++ r.marks)) late.coord.table.next.0 B pending.Command x.lines g (sent-work r pieces R.w2)
       there =
@@ -387,7 +383,7 @@ module _ (script : Script) (steps : List Step) (ev : Event) (exempt : (A : Type 
         after : (q : Block) → is_busy q pending.Command ≡ true → is_command (state_in q commands) line ≡ true → state_after (state_in q commands) line (told.Refused (refusal_of fault)) ≡ state_in (block_after_refusal q pending.Command) 0
         after block.Outside h e = done-outside line (told.Refused (refusal_of fault)) e
         after (block.Open l) h e = refused-inside l commands line (refusal_of fault) e
-        after block.Failed h e = absurd (differ h)
+        after block.Failed h e = absurd (false-true h)
 
   goes-does : (r : Reading) → ReadsHere r → (plan : Result (List Piece) ArithFault) → plan_of script.segments (dist_of script.tables (table_of line)) g (next_cid w) line ≡ plan → Does script steps c ev (behind earlier (goes g (next_cid w) line r plan))
   goes-does r R (Ok pieces) e = out-does pieces r R e
@@ -475,7 +471,7 @@ module _ (script : Script) (steps : List Step) (ev : Event) (exempt : (A : Type 
     at-late = at-calm script steps ev s line n (state_in B commands) (is_alone B pending.Command) (Some g) earlier tail o.at (tt, tt)
 
     work-now : late.coord.works g.0 ≡ held_work
-    work-now = ap (λ q. if q then held_work else c1.works g.0) (self-test g.0)
+    work-now = ap (λ q. if q then held_work else c1.works g.0) (eqb-self g.0)
 
     no-command : (late.coord.works g.0).command ≡ None
     no-command = ap (λ (v : Work). v.command) work-now ∙ none
@@ -507,7 +503,7 @@ module _ (script : Script) (steps : List Step) (ev : Event) (exempt : (A : Type 
         sounds : (q : Block) → is_busy q pending.Command ≡ true → is_sound q pending.Command ≡ true
         sounds block.Outside h = refl
         sounds (block.Open l) h = refl
-        sounds block.Failed h = absurd (differ h)
+        sounds block.Failed h = absurd (false-true h)
 
     at_x : Stands script s (marks_in steps ++ (earlier ++ tail)) c1.table.next.0 B pending.Command x.lines g (late.coord.works g.0) → Stands script s (marks_in steps ++ (earlier ++ tail)) c1.table.next.0 x.state.block x.state.pending x.lines x.transaction (late.coord.works x.transaction.0)
     at_x h =

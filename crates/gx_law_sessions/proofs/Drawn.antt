@@ -1,6 +1,9 @@
 -- A line that draws a transaction draws it in the step that starts it.
 use Rattle.std.proofs.Common.{◌≡◌, inl, inr, ℕ, List, [], ◌∷◌, ◌++◌, Some, None, Bool, true, false, refl, sym, subst, ◌∙◌, if◌then◌else◌}
 use Rattle.std.specs.Prelude.{IsSome}
+use Rattle.gx_lemmas.proofs.Numbers.{eqb-self}
+use Rattle.gx_lemmas.proofs.Options.{some-same}
+use Rattle.gx_lemmas.proofs.Tests.{false-true}
 use Rattle.gx_ids.specs.declared.ids.Gxid.{Gxid}
 use Rattle.gx_ids.specs.declared.ids.SessionId.{SessionId}
 use Rattle.gx_tree.specs.declared.stmt.Level.TheVariants.{ReadCommitted}
@@ -23,7 +26,6 @@ use Rattle.gx_store.specs.Marks.{is_same_session, started_after}
 use Rattle.gx_store.specs.Points.{marks_in}
 use Rattle.gx_rules.specs.AtCoordinator.{answers_at_once, begins, dispatches, next_line, on_line, starts, starts_line}
 use Rattle.gx_rules.specs.Coordinators.{Coord, session_of}
-use Rattle.gx_law_order.proofs.Turns.{self-test}
 use Rattle.gx_law_sessions.specs.Standing.{IsSession, state_in}
 
 started-on : (s : SessionId) (g : Gxid) (ms : List Mark) → IsSome (started_after s (Some g) ms)
@@ -36,10 +38,7 @@ started-on s g (mark.Start h t ∷ ms) = by_test (is_same_session t s) (started-
 started-on s g (_ ∷ ms) = started-on s g ms
 
 started-first : (s : SessionId) (g : Gxid) (ms : List Mark) → IsSome (started_after s None (mark.Start g s ∷ ms))
-started-first s g ms = subst (λ b. IsSome (started_after s (if b then Some g else None) ms)) (sym (self-test s.0)) (started-on s g ms)
-
-differ : false ≡ true → ⊥
-differ e = cc
+started-first s g ms = subst (λ b. IsSome (started_after s (if b then Some g else None) ms)) (sym (eqb-self s.0)) (started-on s g ms)
 
 module _ (script : Script) (c : Coord) (s : SessionId) (sent : List Mark) where
   abbrev StartsIn : Block → Stmt → Type 0
@@ -58,18 +57,15 @@ module _ (script : Script) (c : Coord) (s : SessionId) (sent : List Mark) where
   by-line block.Outside n (stmt.Insert t x) d = alone (stmt.Insert t x)
   by-line block.Outside n (stmt.Update t x y) d = alone (stmt.Update t x y)
   by-line block.Outside n (stmt.Delete t x) d = alone (stmt.Delete t x)
-  by-line block.Outside n (stmt.Lock t m) d = absurd (differ d)
-  by-line block.Outside n stmt.Commit d = absurd (differ d)
-  by-line block.Outside n stmt.Rollback d = absurd (differ d)
-  by-line (block.Open level) n line d = absurd (differ d)
-  by-line block.Failed n line d = absurd (differ d)
+  by-line block.Outside n (stmt.Lock t m) d = absurd (false-true d)
+  by-line block.Outside n stmt.Commit d = absurd (false-true d)
+  by-line block.Outside n stmt.Rollback d = absurd (false-true d)
+  by-line (block.Open level) n line d = absurd (false-true d)
+  by-line block.Failed n line d = absurd (false-true d)
 
 pub drawn-at : (script : Script) (steps : List Step) (c : Coord) (s : SessionId) → IsSession script s steps c → (line : Stmt) → next_line script c s ≡ Some line → next_stmt s script (marks_in steps) ≡ Some line → (sent : List Mark) → IsDrawn script steps (event.Start s) ((starts script c s (Some line)).marks ++ sent)
 drawn-at script steps c s session line e same sent other its drawing = by_standing session.stands
   where
-    some-same : (x y : Stmt) → Some x ≡ Some y → x ≡ y
-    some-same x y z = cc
-
     here : draws (state_of script s (marks_in steps)) line ≡ true
     here = subst (λ l. draws (state_of script s (marks_in steps)) l ≡ true) (some-same other line (sym its ∙ same)) drawing
 

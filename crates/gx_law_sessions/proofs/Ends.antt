@@ -2,6 +2,7 @@
 use Rattle.std.proofs.Common.{◌≡◌, ◌<◌, ◌≤◌, ℕ, ◌+◌, List, [], ◌∷◌, ◌++◌, Option, Some, None, Bool, true, false, refl, sym, ap, ◌∙◌, ◌||◌, ◌&&◌, if◌then◌else◌, arith, eqb, append-nil}
 use Rattle.std.proofs.lemmas.List.{append_assoc}
 use Rattle.std.proofs.lemmas.Bool.Decides.{nat_tests}
+use Rattle.gx_lemmas.proofs.Lists.{get-append}
 use Rattle.gx_ids.specs.declared.ids.Cid.{Cid}
 use Rattle.gx_ids.specs.declared.ids.Gxid.{Gxid}
 use Rattle.gx_ids.specs.declared.ids.SessionId.{SessionId}
@@ -12,7 +13,7 @@ use Rattle.gx_store.specs.declared.mark.Mark.{Mark}
 use Rattle.gx_store.specs.declared.mark.Mark.TheVariants as mark
 use Rattle.gx_store.specs.Marks.{answer_count, has_snapshot, is_aborted, is_committed, is_ended, is_same_gxid, is_snapped, session_of}
 use Rattle.gx_store.proofs.Marks.{has_snapshot-append, is_ended-append, is_snapped-append}
-use Rattle.gx_law_order.proofs.Lists.{Each, get_kept}
+use Rattle.gx_law_order.proofs.Lists.{Each}
 use Rattle.gx_law_sessions.specs.Scanned.{began_from}
 use Rattle.gx_law_sessions.specs.Standing.{HasSnapshot, IsTaken}
 use Rattle.gx_law_sessions.proofs.Said.{CalmFor}
@@ -84,7 +85,7 @@ pub snapped-more : (ms ns : List Mark) (g : Gxid) (c : Cid) → is_snapped ms g 
 snapped-more ms ns g c e f = or-false _ _ _ (is_snapped-append ms ns g c) e f
 
 pub taken-more : (ms ns : List Mark) (g : Gxid) (x : Snapshot) → IsTaken ms g x → IsTaken (ms ++ ns) g x
-taken-more ms ns g x t = record { place = t.place; d = t.d; taken = get_kept ms ns t.place (mark.Snap g t.d x) t.taken }
+taken-more ms ns g x t = record { place = t.place; d = t.d; taken = get-append ms ns t.place (mark.Snap g t.d x) t.taken }
 
 pub keeps-snapshot : (level : Level) (ms ns : List Mark) (g : Gxid) (x : Option Snapshot) → HasSnapshot level ms g x → has_snapshot ns g ≡ false → HasSnapshot level (ms ++ ns) g x
 keeps-snapshot ReadCommitted ms ns g x h n = h

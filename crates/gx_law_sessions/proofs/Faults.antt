@@ -1,6 +1,7 @@
 -- The first constant of an INSERT that faults.
 use Rattle.std.proofs.Common.{◌≡◌, ◌<◌, ◌≤◌, ℕ, zero, suc, ◌+◌, List, [], ◌∷◌, Some, None, Result, Ok, Err, refl, subst, ap, ◌∙◌, arith}
 use Rattle.std.specs.Prelude.{◌-◌, slice_get}
+use Rattle.gx_lemmas.proofs.Numbers.{lt-none, same-plus-none}
 use Rattle.gx_ids.specs.declared.ids.Cid.{Cid}
 use Rattle.gx_ids.specs.declared.ids.Gxid.{Gxid}
 use Rattle.gx_tree.specs.declared.expr.Expr.{Expr}
@@ -30,9 +31,6 @@ finds g c o [] fault e = absurd (differ e)
     differ e = cc
 finds g c o (t ∷ ts) fault e = by_value (values_of t) refl e (λ f h. finds g c (o + 1) ts f h)
   where
-    plus-none : (a : ℕ) → a ≡ a + 0
-    plus-none a = omega arith
-
     further : (a p : ℕ) → a + 1 + p ≡ a + suc p
     further a p = omega arith
 
@@ -41,9 +39,6 @@ finds g c o (t ∷ ts) fault e = by_value (values_of t) refl e (λ f h. finds g 
 
     later : (vs : List Value) → values_of t ≡ Ok vs → faulting_from o (t ∷ ts) ≡ faulting_from (o + 1) ts
     later vs v = rw v refl
-
-    none-before : (k : ℕ) → k < 0 → ⊥
-    none-before k l = omega arith
 
     less : (k p : ℕ) → suc k < suc p → k < p
     less k p l = omega arith
@@ -67,7 +62,7 @@ finds g c o (t ∷ ts) fault e = by_value (values_of t) refl e (λ f h. finds g 
 
     by_value : (v : Result (List Value) ArithFault) → values_of t ≡ v → and_then (and_then v (λ row. Ok (keyed g c o row))) (λ y. and_then (each_from (tuple_row g c) (o + 1) ts) (λ ys. Ok (y ∷ ys))) ≡ Err fault → ((f : ArithFault) → each_from (tuple_row g c) (o + 1) ts ≡ Err f → Finds (o + 1) ts f) → Finds o (t ∷ ts) fault
     by_value (Err x) v h rest =
-        record { place = 0; is = here x v ∙ plus-none o; tuple = t; among = refl; faults = v ∙ ap (λ q. let a : Result (List Value) ArithFault = Err q in a) (same-fault x fault h); first = λ k earlier l m. absurd (none-before k l) }
+        record { place = 0; is = here x v ∙ same-plus-none o; tuple = t; among = refl; faults = v ∙ ap (λ q. let a : Result (List Value) ArithFault = Err q in a) (same-fault x fault h); first = λ k earlier l m. absurd (lt-none k l) }
     by_value (Ok vs) v h rest = more vs v (rest fault (by_rest (each_from (tuple_row g c) (o + 1) ts) (keyed g c o vs) h))
 
 pub constants-fault : (g : Gxid) (c : Cid) (tuples : List (List Expr)) (fault : ArithFault) → rows_of g c tuples ≡ Err fault → FaultsInConstants g c tuples (record { gxid = g; cid = c; ordinal = faulting_from 1 tuples }) None fault

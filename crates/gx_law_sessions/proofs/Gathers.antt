@@ -1,10 +1,14 @@
 -- How a command gathers the answers of its segments.
 use Rattle.std.proofs.Common.{◌≡◌, ◌≤◌, ◌<◌, inl, inr, ℕ, zero, suc, ◌+◌, List, [], ◌∷◌, ◌++◌, Option, Some, None, Result, Ok, Bool, true, false, refl, sym, subst, ap, ◌∙◌, ◌||◌, ◌&&◌, not, arith, eqb, length}
 use Rattle.std.proofs.Math.Seq.{take-append_seam}
-use Rattle.std.proofs.lemmas.Bool.{eqb-true}
+use Rattle.std.proofs.lemmas.Bool.{eqb-true, or_from, or_left}
 use Rattle.std.proofs.lemmas.Bool.Decides.{nat_tests}
 use Rattle.std.proofs.lemmas.List.{take-append-le}
 use Rattle.std.specs.Prelude.{slice_get, slice_index_or}
+use Rattle.gx_lemmas.proofs.Lists.{get-append}
+use Rattle.gx_lemmas.proofs.Tests.{true-false}
+use Rattle.gx_lemmas.proofs.Numbers.{eqb-turned}
+use Rattle.gx_lemmas.proofs.Options.{some-same}
 use Rattle.gx_ids.specs.declared.ids.Cid.{Cid}
 use Rattle.gx_ids.specs.declared.ids.Gxid.{Gxid}
 use Rattle.gx_ids.specs.declared.ids.Node.{Node}
@@ -35,7 +39,7 @@ use Rattle.gx_store.specs.Writes.{dist_of}
 use Rattle.gx_rules.specs.AtCoordinator.{command_answer, nodes_in, table_of, with_done}
 use Rattle.gx_rules.specs.Coordinators.{Command}
 use Rattle.gx_rules.specs.Fits.{fits_part}
-use Rattle.gx_law_order.proofs.Lists.{get_kept, get_last}
+use Rattle.gx_law_order.proofs.Lists.{get_last}
 use Rattle.gx_law_sessions.specs.Alive.{IsHeard}
 use Rattle.gx_law_sessions.specs.Gathering.{AreAll, AreApart, IsGathered, Taken, gathered_answer, nodes_taken, parts_taken, total}
 
@@ -63,7 +67,7 @@ get-inside (y ∷ xs) (suc k) x e = up k (length xs) (get-inside xs k x e)
 
 pub heard-later : (steps : List Step) (s : Step) (e : Event) (from : Node) (m : Message) → s.event ≡ e → HeardNow steps e from m → IsHeard (steps ++ s ∷ []) from m
 heard-later steps s e from m same (k, inl h) =
-    record { place = k; step = h.0; at = get_kept steps (s ∷ []) k h.0 h.1; is = subst (λ ss. Receives ss h.0.event from the_coordinator m) (sym (take-append-le k steps (s ∷ []) (get-inside steps k h.0 h.1))) h.2 }
+    record { place = k; step = h.0; at = get-append steps (s ∷ []) k h.0 h.1; is = subst (λ ss. Receives ss h.0.event from the_coordinator m) (sym (take-append-le k steps (s ∷ []) (get-inside steps k h.0 h.1))) h.2 }
 heard-later steps s e from m same (k, inr h) =
     record { place = length steps; step = s; at = get_last steps [] s; is = subst (λ ss. Receives ss s.event from the_coordinator m) (sym (take-append_seam steps (s ∷ []))) (subst (λ a. Receives steps a from the_coordinator m) (sym same) h.1) }
 
@@ -83,9 +87,6 @@ pub record Gathers (script : Script) (Heard : Node → Message → Type 0) (g : 
 abbrev pub GathersIn : Script → (Node → Message → Type 0) → Gxid → Option Command → Type 0
 GathersIn script Heard g None = Unit {0}
 GathersIn script Heard g (Some m) = Gathers script Heard g m
-
-some-same : {A : Type 0} (a b : A) → Some a ≡ Some b → a ≡ b
-some-same a b e = cc
 
 -- lists
 all-weaker : (P Q : Taken → Type 0) → ((t : Taken) → P t → Q t) → (ts : List Taken) → AreAll P ts → AreAll Q ts
@@ -111,14 +112,8 @@ total-last (x ∷ ts) t = omega (arith, total-last ts t)
 apart-last : (ts : List Taken) (t : Taken) → AreApart ts → has t.node (nodes_taken ts) ≡ false → AreApart (ts ++ t ∷ [])
 apart-last [] t e h = (refl, tt)
 apart-last (x ∷ ts) t e h =
-    (has-last x.node ts t ∙ both (has x.node (nodes_taken ts)) (eqb t.node.0 x.node.0) e.0 (first (eqb x.node.0 t.node.0) (has t.node (nodes_taken ts)) h (other x.node.0 t.node.0)), apart-last ts t e.1 (rest (eqb x.node.0 t.node.0) (has t.node (nodes_taken ts)) h))
+    (has-last x.node ts t ∙ or_from (has x.node (nodes_taken ts)) (eqb t.node.0 x.node.0) e.0 (first (eqb x.node.0 t.node.0) (has t.node (nodes_taken ts)) h (eqb-turned x.node.0 t.node.0)), apart-last ts t e.1 (rest (eqb x.node.0 t.node.0) (has t.node (nodes_taken ts)) h))
   where
-    both : (a b : Bool) → a ≡ false → b ≡ false → (a || b) ≡ false
-    both a b e f = grind arith
-
-    other : (a b : ℕ) → eqb a b ≡ false → eqb b a ≡ false
-    other a b e = grind (arith, nat_tests)
-
     first : (a b : Bool) {q : Bool} → (a || b) ≡ false → (a ≡ false → q ≡ false) → q ≡ false
     first true b e f = absurd (cc)
     first false b e f = f refl
@@ -162,11 +157,8 @@ gathers-done script H g m i wrote count part e waits fit heard =
     t = record { node = i; wrote = wrote; count = count; part = part }
 
     sum : (a b q x y : Bool) → (q ≡ true → a ≡ true) → x ≡ (not q && a) → y ≡ (b || q) → (a || b) ≡ (x || y)
-    sum a b true x y w e f = or-true a b (w refl) ∙ sym (ap (λ z. x || z) f ∙ end x b)
+    sum a b true x y w e f = or_left a b (w refl) ∙ sym (ap (λ z. x || z) f ∙ end x b)
       where
-        or-true : (a b : Bool) → a ≡ true → (a || b) ≡ true
-        or-true a b e = grind arith
-
         end : (x b : Bool) → (x || (b || true)) ≡ true
         end x b = grind arith
     sum a b false x y w e f = sym (ap (λ z. z || y) e ∙ ap (λ z. a || z) (f ∙ none b))
@@ -175,10 +167,7 @@ gathers-done script H g m i wrote count part e waits fit heard =
         none b = grind arith
 
     left : (a b q x y : Bool) → (a ≡ true → b ≡ false) → x ≡ (not q && a) → y ≡ (b || q) → x ≡ true → y ≡ false
-    left a b true x y f e h k = absurd (clash x k e)
-      where
-        clash : (x : Bool) → x ≡ true → x ≡ false → ⊥
-        clash x k e = grind arith
+    left a b true x y f e h k = absurd (true-false x k e)
     left a b false x y f e h k = h ∙ ap (λ z. z || false) (f (sym e ∙ k))
 
 -- all have answered

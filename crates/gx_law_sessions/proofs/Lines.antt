@@ -2,6 +2,8 @@
 use Rattle.std.proofs.Common.{◌≡◌, ◌<◌, ◌≤◌, inl, inr, ℕ, ◌+◌, List, [], ◌∷◌, ◌++◌, Option, Some, None, true, false, refl, sym, subst, ap, ◌∙◌, if◌then◌else◌, arith, eqb, append-nil}
 use Rattle.std.proofs.lemmas.Bool.Decides.{nat_tests}
 use Rattle.std.proofs.lemmas.List.{append_assoc}
+use Rattle.gx_lemmas.proofs.Numbers.{eqb-self, eqb-turned}
+use Rattle.gx_lemmas.proofs.Tests.{false-true}
 use Rattle.gx_ids.specs.declared.ids.Cid.{Cid}
 use Rattle.gx_ids.specs.declared.ids.Node.{Node}
 use Rattle.gx_ids.specs.declared.ids.SessionId.{SessionId}
@@ -34,7 +36,7 @@ use Rattle.gx_law_order.proofs.Ends.{past-begun}
 use Rattle.gx_law_order.proofs.Past.{Past, running-drawn}
 use Rattle.gx_law_order.proofs.Sessions.{Kept, is_nothing_in}
 use Rattle.gx_law_order.proofs.Statuses.{is_running}
-use Rattle.gx_law_order.proofs.Turns.{merged, self-test}
+use Rattle.gx_law_order.proofs.Turns.{merged}
 use Rattle.gx_law_sessions.specs.Scanned.{began_from, closes_block}
 use Rattle.gx_law_sessions.specs.Rest.{RestAnswer}
 use Rattle.gx_law_sessions.specs.Standing.{HasSnapshot, IsSession, IsStanding, Owns, Roots, Stands, is_alone, is_busy, is_open, is_sound, level_in, state_in}
@@ -48,9 +50,6 @@ use Rattle.gx_law_sessions.proofs.Outs.{CommandIs}
 use Rattle.gx_law_sessions.proofs.Roots.{roots-alone, roots-alone-held-up, roots-begin, roots-other}
 use Rattle.gx_law_sessions.proofs.Said.{Said}
 use Rattle.gx_law_sessions.proofs.Under.{Under}
-
-differ : false ≡ true → ⊥
-differ e = cc
 
 le-same : (a : ℕ) → a ≤ a
 le-same a = omega arith
@@ -67,9 +66,6 @@ is-sound : (q : Block) → is_sound q pending.Nothing ≡ true
 is-sound block.Outside = refl
 is-sound (block.Open l) = refl
 is-sound block.Failed = refl
-
-test-apart : (a b : ℕ) → eqb a b ≡ false → eqb b a ≡ false
-test-apart a b e = grind (arith, nat_tests)
 
 module _ (script : Script) (steps : List Step) (c : Coord) (k : Kept c) (p : Past c (marks_in steps)) (fr : Fresh (marks_in steps) c.table.next.0) (number : c.table.next.0 ≡ start_count (marks_in steps) + 1) (s : SessionId) (all : IsSession script s steps c) (idle : is_nothing_in (session_of c s).state.pending ≡ true) where
   abbrev y : Session
@@ -105,7 +101,7 @@ module _ (script : Script) (steps : List Step) (c : Coord) (k : Kept c) (p : Pas
     plus-none a n h = omega arith
 
     pub started : starts_in s steps + starts_by s e ≡ y.lines + 1
-    started = ap (λ q. starts_in s steps + (if q then 1 else 0)) (self-test s.0) ∙ ap (λ i. i + 1) all.starts
+    started = ap (λ q. starts_in s steps + (if q then 1 else 0)) (eqb-self s.0) ∙ ap (λ i. i + 1) all.starts
 
     pub ended : ends_in s steps + ends_by s e ≡ 0
     ended = more (ends_in s steps) st.0
@@ -114,7 +110,7 @@ module _ (script : Script) (steps : List Step) (c : Coord) (k : Kept c) (p : Pas
         more a h = omega arith
 
     pub others : (j : SessionId) → eqb j.0 s.0 ≡ false → (starts_by j e ≡ 0) × (ends_by j e ≡ 0)
-    others j h = (ap (λ q. if q then 1 else 0) (test-apart j.0 s.0 h), refl)
+    others j h = (ap (λ q. if q then 1 else 0) (eqb-turned j.0 s.0 h), refl)
 
     pub at-zero : AtLine script steps e s line y.lines (state_in y.state.block st.1.commands) false (started_after s None ms) []
     at-zero =
@@ -126,7 +122,7 @@ module _ (script : Script) (steps : List Step) (c : Coord) (k : Kept c) (p : Pas
         }
 
     pub session-now : (asked : LineStep) → session_of (starts_line c s asked) s ≡ moved asked
-    session-now asked = ap (λ q. if q then moved asked else y) (self-test s.0)
+    session-now asked = ap (λ q. if q then moved asked else y) (eqb-self s.0)
 
     -- ANSWERED AT ONCE
     pub at-once : (asked : LineStep) (r : StmtAnswer) (B : Block) → pending_after asked ≡ pending.Nothing → block_after y.state.block asked ≡ B → (is_open B ≡ true → y.state.block ≡ B) → (is_open B ≡ true → (is_command (InBlock ReadCommitted 0) line ≡ false) × (closes_block line ≡ false)) → ((later : List Mark) → IsAnswer script (record { steps = steps; event = e; earlier = []; later = later }) s (state_in y.state.block st.1.commands) line r) → state_after (state_in y.state.block st.1.commands) line r ≡ state_in B st.1.commands → ((later : List Mark) → RestAnswer script (record { steps = steps; event = e; earlier = []; later = later }) s r) → Does script steps c e (answers_at_once (starts_line c s asked) s r)
@@ -170,9 +166,9 @@ module _ (script : Script) (steps : List Step) (c : Coord) (k : Kept c) (p : Pas
         same-plus a n h = omega arith
 
         busy-open : (q : Block) → is_busy q pending.Nothing ≡ true → is_open q ≡ true
-        busy-open block.Outside h = absurd (differ h)
+        busy-open block.Outside h = absurd (false-true h)
         busy-open (block.Open l) h = refl
-        busy-open block.Failed h = absurd (differ h)
+        busy-open block.Failed h = absurd (false-true h)
 
         owns : is_busy B pending.Nothing ≡ true → Owns s st.1.commands (ms ++ answer_mark (starts_line c s asked) s r ∷ []) next B y.transaction (work_of c y.transaction) × ((work_of c y.transaction).command ≡ None) × Roots script s (ms ++ answer_mark (starts_line c s asked) s r ∷ []) B pending.Nothing (y.lines + 1) y.transaction (work_of c y.transaction)
         owns h =
@@ -196,7 +192,7 @@ module _ (script : Script) (steps : List Step) (c : Coord) (k : Kept c) (p : Pas
         ap (λ (z : Session). if eqb j s.0 then record z { transaction = c.table.next } else (starts_line c s asked).sessions j) (session-now asked) ∙ merged (eqb j s.0) (fresh asked) (moved asked) (c.sessions j) _ refl
 
     fresh-work : (asked : LineStep) (level : Level) → work_of (begins (starts_line c s asked) s level) c.table.next ≡ new_work s level
-    fresh-work asked level = ap (λ q. if q then new_work s level else c.works c.table.next.0) (self-test c.table.next.0)
+    fresh-work asked level = ap (λ q. if q then new_work s level else c.works c.table.next.0) (eqb-self c.table.next.0)
 
     abbrev begun : Mark
     begun = mark.Start c.table.next s
@@ -253,7 +249,7 @@ module _ (script : Script) (steps : List Step) (c : Coord) (k : Kept c) (p : Pas
     fresh-began : (ns : List Mark) → began_from [] (ms ++ begun ∷ ns) c.table.next ≡ Some (s, y.lines + 1)
     fresh-began ns =
         began-behind [] ms (begun ∷ ns) c.table.next (fr.unstarted c.table.next (le-same next))
-        ∙ ap (λ q. if q then (let o : Option (SessionId × ℕ) = Some (s, answer_count s ms + 1) in o) else began_from (ms ++ begun ∷ []) ns c.table.next) (self-test c.table.next.0)
+        ∙ ap (λ q. if q then (let o : Option (SessionId × ℕ) = Some (s, answer_count s ms + 1) in o) else began_from (ms ++ begun ∷ []) ns c.table.next) (eqb-self c.table.next.0)
         ∙ ap (λ i. let o : Option (SessionId × ℕ) = Some (s, i + 1) in o) (plus-none _ _ st.1.answered)
 
     pub begin-does : (level : Level) → line ≡ stmt.Begin level → block.Outside ≡ y.state.block → Does script steps c e (behind (begun ∷ []) (answers_at_once (begins (starts_line c s (step.BeginBlock level)) s level) s told.Begin))
@@ -288,7 +284,7 @@ module _ (script : Script) (steps : List Step) (c : Coord) (k : Kept c) (p : Pas
         c1 = begins (starts_line c s (step.BeginBlock level)) s level
 
         numbered : (session_of (begins (starts_line c s (step.BeginBlock level)) s level) s).lines ≡ y.lines + 1
-        numbered = ap (λ (z : Session). z.lines) (fresh-sessions (step.BeginBlock level) level s.0 ∙ ap (λ q. if q then fresh (step.BeginBlock level) else y) (self-test s.0))
+        numbered = ap (λ (z : Session). z.lines) (fresh-sessions (step.BeginBlock level) level s.0 ∙ ap (λ q. if q then fresh (step.BeginBlock level) else y) (eqb-self s.0))
 
         late : List Mark
         late = ms ++ begun ∷ answer_mark (begins (starts_line c s (step.BeginBlock level)) s level) s told.Begin ∷ []

@@ -1,5 +1,6 @@
 -- Orders that the coordinator sends.
 use Rattle.std.proofs.Common.{◌≡◌, ℕ, List, [], ◌∷◌, ◌++◌, Option, Some, None, Bool, true, false, refl, sym, ap, ◌∙◌, if◌then◌else◌}
+use Rattle.gx_lemmas.proofs.Lists.{get-append}
 use Rattle.gx_ids.specs.declared.ids.Cid.{Cid}
 use Rattle.gx_ids.specs.declared.ids.Gxid.{Gxid}
 use Rattle.gx_ids.specs.declared.ids.Node.{Node}
@@ -22,7 +23,7 @@ use Rattle.gx_msg.specs.declared.reply.Reply.TheVariants as reply
 use Rattle.gx_script.specs.declared.Script.{Script}
 use Rattle.gx_store.specs.declared.mark.Mark.{Mark}
 use Rattle.gx_rules.specs.Coordinators.{Command}
-use Rattle.gx_law_order.proofs.Lists.{Each, each_weaker, get_kept}
+use Rattle.gx_law_order.proofs.Lists.{Each, each_weaker}
 use Rattle.gx_law_sessions.specs.Orders.{IsOrder, IsOrderOf, IsReadBy, IsServed, level_of_began}
 use Rattle.gx_store.specs.Language.{AreLinesNumbered}
 use Rattle.gx_law_sessions.specs.Scanned.{began_from, command_at, stmt_of_command}
@@ -41,7 +42,7 @@ CommandIs script marks (Some m) = Each (OutIs script marks) m.orders
 
 -- MORE MARKS
 served-more : (ms ns : List Mark) (level : Level) (g : Gxid) (c : Cid) (x : Snapshot) → IsServed ms level g c x → IsServed (ms ++ ns) level g c x
-served-more ms ns level g c x s = record { place = s.place; d = s.d; taken = get_kept ms ns s.place _ s.taken; serves = s.serves }
+served-more ms ns level g c x s = record { place = s.place; d = s.d; taken = get-append ms ns s.place _ s.taken; serves = s.serves }
 
 read-more : (ms ns : List Mark) (level : Level) (g : Gxid) (c : Cid) (line : Stmt) (x : Option Snapshot) → IsReadBy ms level g c line x → IsReadBy (ms ++ ns) level g c line x
 read-more ms ns level g c (stmt.Lock t m) x r = r

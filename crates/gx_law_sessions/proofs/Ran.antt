@@ -1,5 +1,6 @@
 -- The command of each EXEC was under way when it was sent.
 use Rattle.std.proofs.Common.{◌≡◌, ◌⊎◌, inl, inr, ℕ, ◌+◌, List, [], ◌∷◌, ◌++◌, Some, refl, sym, subst, ap, ◌∙◌, arith, append_assoc, append-nil}
+use Rattle.gx_lemmas.proofs.Numbers.{plus-none}
 use Rattle.gx_ids.specs.declared.ids.Cid.{Cid}
 use Rattle.gx_ids.specs.declared.ids.Gxid.{Gxid}
 use Rattle.gx_ids.specs.declared.ids.Node.{Node}
@@ -62,9 +63,6 @@ was-behind script steps level g c u = by_end (ends steps)
           ran = under-there script _ (record { steps = z.0; event = z.1.event; earlier = z.1.marks; later = [] }) u.session u.line level g c
               (plus-none (starts_in u.session steps) ∙ ap (starts_in u.session) z.2 ∙ starts_in-push u.session z.0 z.1) (append-nil (marks_in steps) ∙ ap marks_in z.2 ∙ marks_in-push z.0 z.1) here;
         }
-      where
-        plus-none : (n : ℕ) → n + 0 ≡ n
-        plus-none n = omega arith
 
 -- ONE STEP MORE
 among-more : (steps : List Step) (s : Step) (point : Point) → IsPointOf steps point → IsPointOf (steps ++ s ∷ []) point

@@ -3,6 +3,8 @@ use Rattle.std.proofs.Common.{◌≡◌, ◌<◌, ℕ, ◌+◌, List, [], ◌∷
 use Rattle.std.proofs.lemmas.Bool.Decides.{nat_tests}
 use Rattle.std.proofs.lemmas.List.{append_assoc}
 use Rattle.std.specs.Prelude.{slice_get}
+use Rattle.gx_lemmas.proofs.Numbers.{eqb-self}
+use Rattle.gx_lemmas.proofs.Tests.{false-true}
 use Rattle.gx_ids.specs.declared.ids.Cid.{Cid}
 use Rattle.gx_ids.specs.declared.ids.Gxid.{Gxid}
 use Rattle.gx_ids.specs.declared.ids.SessionId.{SessionId}
@@ -28,7 +30,6 @@ use Rattle.gx_rules.specs.Coordinators.{Coord, Session, Work, work_of}
 use Rattle.gx_rules.specs.Snapshots.{snapshot_of}
 use Rattle.gx_law_order.proofs.Lists.{Each, get_last}
 use Rattle.gx_law_order.proofs.Past.{Past, seen-now}
-use Rattle.gx_law_order.proofs.Turns.{self-test}
 use Rattle.gx_law_sessions.specs.Orders.{IsReadBy, IsServed}
 use Rattle.gx_law_sessions.specs.Rest.{EachMark, Rest}
 use Rattle.gx_law_sessions.specs.Standing.{HasSnapshot, Owns, is_alone, is_busy, level_in, state_in}
@@ -37,9 +38,6 @@ use Rattle.gx_law_sessions.proofs.Ends.{IsOf}
 use Rattle.gx_law_sessions.proofs.Given.{Given}
 use Rattle.gx_law_sessions.proofs.Said.{CalmFor}
 use Rattle.gx_law_sessions.proofs.Under.{Under}
-
-differ : false ≡ true → ⊥
-differ e = cc
 
 module _ (script : Script) (steps : List Step) (ev : Event) (c c1 : Coord) (s : SessionId) (g : Gxid) (x : Session) (n : ℕ) (B : Block) (commands : ℕ) (line : Stmt) (earlier : List Mark)
     (o : Under script steps c ev c1 s g (work_of c1 g) x n (state_in B commands) (is_alone B pending.Command) line earlier)
@@ -115,7 +113,7 @@ module _ (script : Script) (steps : List Step) (ev : Event) (c c1 : Coord) (s : 
   reads-new rows fresh =
       record {
         w2 = record w { snapshot = kept_at w.level (snapshot_of c1.table) };
-        work = ap (λ q. if q then (record w { snapshot = kept_at w.level (snapshot_of c1.table) }) else w) (self-test g.0);
+        work = ap (λ q. if q then (record w { snapshot = kept_at w.level (snapshot_of c1.table) }) else w) (eqb-self g.0);
         home = refl;
         level = refl;
         waiting = refl;
@@ -157,10 +155,10 @@ module _ (script : Script) (steps : List Step) (ev : Event) (c c1 : Coord) (s : 
       by_line (stmt.Insert t q) h = (shot, refl, served)
       by_line (stmt.Update t a q) h = (shot, refl, served)
       by_line (stmt.Delete t q) h = (shot, refl, served)
-      by_line (stmt.Begin level) h = absurd (differ h)
-      by_line stmt.Commit h = absurd (differ h)
-      by_line stmt.Rollback h = absurd (differ h)
-      by_line (stmt.Lock t m) h = absurd (differ h)
+      by_line (stmt.Begin level) h = absurd (false-true h)
+      by_line stmt.Commit h = absurd (false-true h)
+      by_line stmt.Rollback h = absurd (false-true h)
+      by_line (stmt.Lock t m) h = absurd (false-true h)
 
       one-more : (a : ℕ) → a < a + 1
       one-more a = omega arith
@@ -189,10 +187,10 @@ module _ (script : Script) (steps : List Step) (ev : Event) (c c1 : Coord) (s : 
       by_line (stmt.Insert t q) h = (z, refl, served)
       by_line (stmt.Update t a q) h = (z, refl, served)
       by_line (stmt.Delete t q) h = (z, refl, served)
-      by_line (stmt.Begin level) h = absurd (differ h)
-      by_line stmt.Commit h = absurd (differ h)
-      by_line stmt.Rollback h = absurd (differ h)
-      by_line (stmt.Lock t m) h = absurd (differ h)
+      by_line (stmt.Begin level) h = absurd (false-true h)
+      by_line stmt.Commit h = absurd (false-true h)
+      by_line stmt.Rollback h = absurd (false-true h)
+      by_line (stmt.Lock t m) h = absurd (false-true h)
 
   pub reads-for : (l : Stmt) → line ≡ l → is_command b l ≡ true → Reads (reads_for c1 g (next_cid w) w l)
   reads-for (stmt.Lock t m) e h = reads-kept None (subst (λ q. IsReadBy ms w.level g (next_cid w) q None) (sym e) refl)
@@ -203,18 +201,18 @@ module _ (script : Script) (steps : List Step) (ev : Event) (c c1 : Coord) (s : 
   reads-for (stmt.Begin level) e h = absurd (by_block B h)
     where
       by_block : (q : Block) → is_command (state_in q commands) (stmt.Begin level) ≡ true → ⊥
-      by_block block.Outside h = differ h
-      by_block (block.Open l) h = differ h
-      by_block block.Failed h = differ h
+      by_block block.Outside h = false-true h
+      by_block (block.Open l) h = false-true h
+      by_block block.Failed h = false-true h
   reads-for stmt.Commit e h = absurd (by_block B h)
     where
       by_block : (q : Block) → is_command (state_in q commands) stmt.Commit ≡ true → ⊥
-      by_block block.Outside h = differ h
-      by_block (block.Open l) h = differ h
-      by_block block.Failed h = differ h
+      by_block block.Outside h = false-true h
+      by_block (block.Open l) h = false-true h
+      by_block block.Failed h = false-true h
   reads-for stmt.Rollback e h = absurd (by_block B h)
     where
       by_block : (q : Block) → is_command (state_in q commands) stmt.Rollback ≡ true → ⊥
-      by_block block.Outside h = differ h
-      by_block (block.Open l) h = differ h
-      by_block block.Failed h = differ h
+      by_block block.Outside h = false-true h
+      by_block (block.Open l) h = false-true h
+      by_block block.Failed h = false-true h

@@ -1,6 +1,9 @@
 -- Answers of segments.
 use Rattle.std.proofs.Common.{◌≡◌, ◌⊎◌, inl, inr, ℕ, List, [], ◌∷◌, ◌++◌, Option, Some, None, Bool, true, false, refl, sym, subst, ap, ◌∙◌, if◌then◌else◌, ◌&&◌, not, arith, eqb}
 use Rattle.std.proofs.lemmas.Bool.{eqb-true}
+use Rattle.gx_lemmas.proofs.Numbers.{eqb-self}
+use Rattle.gx_lemmas.proofs.Options.{some-same}
+use Rattle.gx_lemmas.proofs.Tests.{false-true}
 use Rattle.gx_ids.specs.declared.ids.Cid.{Cid}
 use Rattle.gx_ids.specs.declared.ids.Gxid.{Gxid}
 use Rattle.gx_ids.specs.declared.ids.Node.{Node}
@@ -46,7 +49,6 @@ use Rattle.gx_law_order.proofs.Sessions.{Kept, is_live_in, is_working_in, stage_
 use Rattle.gx_law_order.proofs.Stages.{gx}
 use Rattle.gx_law_order.proofs.Statuses.{Closes, Turned, commit-turns, stage}
 use Rattle.gx_law_order.proofs.Statuses.Stage.{Live}
-use Rattle.gx_law_order.proofs.Turns.{self-test}
 use Rattle.gx_law_sessions.specs.Scanned.{command_at}
 use Rattle.gx_law_sessions.specs.Rest.{IsCaused, RestAnswer}
 use Rattle.gx_law_sessions.specs.Standing.{IsLineOf, IsSession, IsStanding, Stands, is_alone, is_busy, state_in, under_way}
@@ -59,13 +61,6 @@ use Rattle.gx_law_sessions.proofs.Awaited.{IsAwaited, IsOwn, IsSettled, bare-all
 use Rattle.gx_law_sessions.proofs.Gathers.{Gathers, GathersIn, HeardNow, gathers-done, gathers-weaker, heard-now, hears}
 use Rattle.gx_law_sessions.proofs.Outs.{CommandIs, IsBare, abort-bare, bare-outs, commit-bare}
 use Rattle.gx_law_sessions.proofs.Under.{Under, refuse-does}
-
-differ : false ≡ true → ⊥
-differ e = cc
-
-pub both_of : (a b : Bool) → (a && b) ≡ true → (a ≡ true) × (b ≡ true)
-both_of true b e = (refl, e)
-both_of false b e = grind arith
 
 -- WHAT A REFUSAL IS BY
 abbrev pub ByWord : Node → Reply → Outcome → Type 0
@@ -150,9 +145,6 @@ module _ (script : Script) (steps : List Step) (c : Coord) (k : Kept c) (all : (
     pub command : is_command (state_in B is_busy_so.stands.commands) m.stmt ≡ true
     pub counted : m.cid ≡ cid_of (state_in B is_busy_so.stands.commands)
 
-  some-same : (a b : Command) → Some a ≡ Some b → a ≡ b
-  some-same a b h = cc
-
   pub works-on : (B : Block) (m : Command) → y.state.block ≡ B → y.state.pending ≡ pending.Command → is_busy B pending.Command ≡ true → y.transaction ≡ g → (work_of c g).command ≡ Some m → Works B m
   works-on B m eb ep busy same it = by_line (stand B pending.Command eb ep busy same) ((stand B pending.Command eb ep busy same).1.owns busy).1
     where
@@ -210,7 +202,7 @@ module _ (script : Script) (steps : List Step) (c : Coord) (k : Kept c) (all : (
       gathers-now = gathers-done script (HeardNow steps e) g m i wrote count part (gathers-old m has_it) taken fit (hears steps e i _ received)
 
       work-now : work_of c1 g ≡ w1
-      work-now = ap (λ q. if q then w1 else work_of c g) (self-test g.0)
+      work-now = ap (λ q. if q then w1 else work_of c g) (eqb-self g.0)
 
       other-works : (j : ℕ) → eqb j g.0 ≡ false → c1.works j ≡ c.works j
       other-works j h = ap (λ q. if q then w1 else c.works j) h
@@ -322,7 +314,7 @@ module _ (script : Script) (steps : List Step) (c : Coord) (k : Kept c) (all : (
           after : (q : Block) → is_busy q pending.Command ≡ true → is_command (state_in q z.is_busy_so.stands.commands) m.stmt ≡ true → state_after (state_in q z.is_busy_so.stands.commands) m.stmt (told.Refused (reason_of why)) ≡ state_in (block_after_refusal q pending.Command) 0
           after block.Outside h f = done-outside m.stmt (told.Refused (reason_of why)) f
           after (block.Open l) h f = refused-inside l z.is_busy_so.stands.commands m.stmt (reason_of why) f
-          after block.Failed h f = absurd (differ h)
+          after block.Failed h f = absurd (false-true h)
 
           point : List Mark → Point
           point later = record { steps = steps; event = event.Receive from to number; earlier = mark.Abort g ∷ []; later = later }

@@ -1,5 +1,7 @@
 -- A statement that has waited goes out: its session has it as its line under way.
 use Rattle.std.proofs.Common.{◌≡◌, inl, inr, ℕ, ◌+◌, List, [], ◌++◌, Option, Some, None, true, refl, sym, subst, ap, ◌∙◌, if◌then◌else◌, arith, append-nil}
+use Rattle.gx_lemmas.proofs.Numbers.{eqb-self}
+use Rattle.gx_lemmas.proofs.Options.{some-same}
 use Rattle.gx_ids.specs.declared.ids.Cid.{Cid}
 use Rattle.gx_ids.specs.declared.ids.Gxid.{Gxid}
 use Rattle.gx_ids.specs.declared.ids.Node.{Node}
@@ -29,7 +31,6 @@ use Rattle.gx_law_order.proofs.Past.{Past}
 use Rattle.gx_law_order.proofs.Sessions.{Kept, is_live_in, is_working_in, stage_of}
 use Rattle.gx_law_order.proofs.Stages.{gx}
 use Rattle.gx_law_order.proofs.Statuses.Stage.{Live}
-use Rattle.gx_law_order.proofs.Turns.{self-test}
 use Rattle.gx_law_sessions.specs.Alive.{IsHeard}
 use Rattle.gx_law_sessions.specs.Rest.{UnlessStart, unless}
 use Rattle.gx_law_sessions.specs.Standing.{IsLineOf, IsSession, Owns, Roots, Stands, is_alone, is_busy, state_in}
@@ -80,7 +81,7 @@ module _ (script : Script) (steps : List Step) (c : Coord) (k : Kept c) (p : Pas
   c1 = with_work c g w
 
   work-now : work_of c1 g ≡ w
-  work-now = ap (λ q. if q then w else work_of c g) (self-test g.0)
+  work-now = ap (λ q. if q then w else work_of c g) (eqb-self g.0)
 
   unawaited : (a : Cid) (i : Node) (level : Level) → IsAwaited (c.works g.0) a i level → ⊥
   unawaited a i level z = none-awaited (work_of c g) a i level live.1 z
@@ -151,9 +152,6 @@ module _ (script : Script) (steps : List Step) (c : Coord) (k : Kept c) (p : Pas
     by_line (inr l) =
         let a : l.0 ≡ line = some-same l.0 line (sym l.1 ∙ held) in
         out-does (l.3 ∙ ap (λ z. Some z) a) (subst (λ z. is_command (state_in B st.1.commands) z ≡ true) a l.4) l.5
-      where
-        some-same : (a b : Stmt) → Some a ≡ Some b → a ≡ b
-        some-same a b h = cc
 
     in-block : Does script steps c (event.Resume m g) (out_of_wait script c g line wanted)
     in-block = by_line (st.1.owns busy).1

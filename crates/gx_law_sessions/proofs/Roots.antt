@@ -3,6 +3,7 @@ use Rattle.std.proofs.Common.{◌≡◌, ◌<◌, ◌≤◌, ℕ, ◌+◌, List,
 use Rattle.std.proofs.lemmas.Bool.{eqb-true}
 use Rattle.std.proofs.lemmas.Bool.Decides.{nat_tests}
 use Rattle.std.specs.Prelude.{nat_le, ◌-◌}
+use Rattle.gx_lemmas.proofs.Options.{some-same}
 use Rattle.gx_ids.specs.declared.ids.Gxid.{Gxid}
 use Rattle.gx_ids.specs.declared.ids.SessionId.{SessionId}
 use Rattle.gx_tree.specs.declared.stmt.Level.{Level}
@@ -80,9 +81,6 @@ module _ (k : SessionId) where
         none q = cc
     reach P at-it skips before (l ∷ ls) n h e = by_session (λ i f. reach P at-it skips (before ++ l ∷ []) ls n.1 i f) (eqb l.session.0 k.0) refl e
       where
-        some-same : (a b : Stmt) → Some a ≡ Some b → a ≡ b
-        some-same a b q = cc
-
         counted : eqb l.session.0 k.0 ≡ true → l.number ≡ lines_in k.0 before + 1
         counted s = n.0 ∙ ap (λ i. lines_in i before + 1) (eqb-true l.session.0 k.0 s)
 
@@ -204,9 +202,6 @@ roots-command script k ms ns l lines g w v m r free next cmd last has out cid =
     one-one : 1 ≤ 1
     one-one = omega arith
 
-    some-same : (a b : Command) → Some a ≡ Some b → a ≡ b
-    some-same a b h = cc
-
     here : AreLinesNumbered [] script.lines → command_at script (Some (k, r.first)) m.cid.0 ≡ Some m.stmt
     here n =
         ap (λ o. command_from script k r.first o m.cid.0) r.opening ∙ ap (λ i. nth_command k (r.first + 1) i script.lines) (cid ∙ plus-none w.last (held_up w.waiting) (ap held_up free)) ∙ r.left n 1 one-one
@@ -233,9 +228,6 @@ roots-held-up script k ms ns l lines g w v line r free next cmd last none has =
     one-one : 1 ≤ 1
     one-one = omega arith
 
-    some-same : (a b : Stmt) → Some a ≡ Some b → a ≡ b
-    some-same a b h = cc
-
     here : AreLinesNumbered [] script.lines → command_at script (Some (k, r.first)) (v.last + 1) ≡ Some line
     here n =
         ap (λ o. command_from script k r.first o (v.last + 1)) r.opening ∙ ap (λ i. nth_command k (r.first + 1) i script.lines) (ap (λ i. i + 1) last ∙ plus-none w.last (held_up w.waiting) (ap held_up free)) ∙ r.left n 1 one-one
@@ -254,9 +246,6 @@ roots-out script k ms ns b lines g w v line m r waits same last has out cid =
   where
     further : (a d x y c : ℕ) → a ≡ d + 1 → x ≡ 0 → y ≡ 1 → a + x + c ≡ d + y + c
     further a d x y c e f h = omega arith
-
-    some-same : (a b : Command) → Some a ≡ Some b → a ≡ b
-    some-same a b h = cc
 
     here : AreLinesNumbered [] script.lines → command_at script (Some (k, r.first)) m.cid.0 ≡ Some m.stmt
     here n = ap (command_at script (Some (k, r.first))) cid ∙ (r.now n).1 line waits ∙ ap (λ z. Some z) (sym same)
@@ -286,9 +275,6 @@ roots-alone script k ms lines g v m began next rows has out cid =
       left = λ n. tt;
       now = λ n. (λ z e. subst (λ (y : Command). command_at script (Some (k, lines)) y.cid.0 ≡ Some y.stmt) (some-same m z (sym has ∙ e)) (ap (λ o. command_from script k lines o m.cid.0) next ∙ ap (command_from script k lines (Some m.stmt)) cid ∙ from-alone script k lines m.stmt rows), λ z e. absurd (no-line v.waiting z out e));
     }
-  where
-    some-same : (a b : Command) → Some a ≡ Some b → a ≡ b
-    some-same a b h = cc
 
 pub roots-alone-held-up : (script : Script) (k : SessionId) (ms : List Mark) (lines : ℕ) (g : Gxid) (v : Work) (line : Stmt) → began_from [] ms g ≡ Some (k, lines) → stmt_of k lines script.lines ≡ Some line → is_on_rows line ≡ true → v.last ≡ 0 → v.command ≡ None → v.waiting ≡ Some line → Roots script k ms block.Outside pending.Command lines g v
 roots-alone-held-up script k ms lines g v line began next rows last none has =
@@ -299,9 +285,6 @@ roots-alone-held-up script k ms lines g v line began next rows last none has =
       left = λ n. tt;
       now = λ n. (λ z e. absurd (no-command v.command z none e), λ z e. subst (λ y. command_at script (Some (k, lines)) (v.last + 1) ≡ Some y) (some-same line z (sym has ∙ e)) (ap (λ o. command_from script k lines o (v.last + 1)) next ∙ ap (λ i. command_from script k lines (Some line) (i + 1)) last ∙ from-alone script k lines line rows));
     }
-  where
-    some-same : (a b : Stmt) → Some a ≡ Some b → a ≡ b
-    some-same a b h = cc
 
 -- BEGIN
 pub roots-begin : (script : Script) (k : SessionId) (ms : List Mark) (l : Level) (lines : ℕ) (g : Gxid) (w : Work) → began_from [] ms g ≡ Some (k, lines) → stmt_of k lines script.lines ≡ Some (stmt.Begin l) → w.last ≡ 0 → w.waiting ≡ None → Roots script k ms (block.Open l) pending.Nothing lines g w

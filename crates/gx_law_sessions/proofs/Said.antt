@@ -1,5 +1,6 @@
 -- What marks say of one session: how many of its lines were answered, where it stands, and its transaction.
 use Rattle.std.proofs.Common.{◌≡◌, ℕ, ◌+◌, List, [], ◌∷◌, ◌++◌, Option, Some, None, Bool, true, false, refl, ap, ◌∙◌, if◌then◌else◌, ◌||◌, arith}
+use Rattle.gx_lemmas.proofs.Numbers.{eqb-self}
 use Rattle.gx_ids.specs.declared.ids.Gxid.{Gxid}
 use Rattle.gx_ids.specs.declared.ids.SessionId.{SessionId}
 use Rattle.gx_script.specs.declared.Script.{Script}
@@ -11,7 +12,6 @@ use Rattle.gx_store.specs.Marks.{answer_count, is_begun, is_begun_after, is_same
 use Rattle.gx_store.proofs.Lines.{state_from-append}
 use Rattle.gx_store.proofs.Marks.{answer_count-append, is_begun_after-append, started_after-append}
 use Rattle.gx_law_order.proofs.Lists.{Each}
-use Rattle.gx_law_order.proofs.Turns.{self-test}
 
 pub record Said (script : Script) (k : SessionId) (ms : List Mark) (n : ℕ) (b : BlockState) (u : Bool) (g : Option Gxid) : Type 0 where
   pub answered : answer_count k ms ≡ n
@@ -67,16 +67,16 @@ said-start script k ms n b u g h e =
     record {
       answered = answer_count-append k ms (mark.Start h k ∷ []) ∙ plus-none (answer_count k ms) n e.answered;
       state = state_from-append script k Outside ms (mark.Start h k ∷ []) ∙ e.state;
-      begun = is_begun_after-append k false ms (mark.Start h k ∷ []) ∙ ap (λ q. q || is_begun k ms) (self-test k.0);
-      started = started_after-append k None ms (mark.Start h k ∷ []) ∙ ap (λ q. if q then Some h else started_after k None ms) (self-test k.0);
+      begun = is_begun_after-append k false ms (mark.Start h k ∷ []) ∙ ap (λ q. q || is_begun k ms) (eqb-self k.0);
+      started = started_after-append k None ms (mark.Start h k ∷ []) ∙ ap (λ q. if q then Some h else started_after k None ms) (eqb-self k.0);
     }
 
 pub said-answer : (script : Script) (k : SessionId) (ms : List Mark) (n : ℕ) (b : BlockState) (u : Bool) (g : Option Gxid) (i : ℕ) (a : StmtAnswer) → Said script k ms n b u g → Said script k (ms ++ mark.Answer k i a ∷ []) (n + 1) (state_after_line b (stmt_of k i script.lines) a) false g
 said-answer script k ms n b u g i a e =
     record {
-      answered = answer_count-append k ms (mark.Answer k i a ∷ []) ∙ ap (λ q. answer_count k ms + (if q then 1 else 0)) (self-test k.0) ∙ plus-one (answer_count k ms) n e.answered;
-      state = state_from-append script k Outside ms (mark.Answer k i a ∷ []) ∙ ap (λ q. if q then state_after_line (state_of script k ms) (stmt_of k i script.lines) a else state_of script k ms) (self-test k.0)
+      answered = answer_count-append k ms (mark.Answer k i a ∷ []) ∙ ap (λ q. answer_count k ms + (if q then 1 else 0)) (eqb-self k.0) ∙ plus-one (answer_count k ms) n e.answered;
+      state = state_from-append script k Outside ms (mark.Answer k i a ∷ []) ∙ ap (λ q. if q then state_after_line (state_of script k ms) (stmt_of k i script.lines) a else state_of script k ms) (eqb-self k.0)
           ∙ ap (λ s. state_after_line s (stmt_of k i script.lines) a) e.state;
-      begun = is_begun_after-append k false ms (mark.Answer k i a ∷ []) ∙ ap (λ q. if q then false else is_begun k ms) (self-test k.0);
+      begun = is_begun_after-append k false ms (mark.Answer k i a ∷ []) ∙ ap (λ q. if q then false else is_begun k ms) (eqb-self k.0);
       started = started_after-append k None ms (mark.Answer k i a ∷ []) ∙ e.started;
     }

@@ -1,5 +1,7 @@
 -- What holds of every message that was sent.
 use Rattle.std.proofs.Common.{◌≡◌, ◌≤◌, ◌⊎◌, inl, inr, ℕ, List, [], ◌∷◌, ◌++◌, Option, Some, None, Bool, true, false, refl, sym, subst, ap, ◌∙◌, if◌then◌else◌, ◌||◌, arith, eqb}
+use Rattle.gx_lemmas.proofs.Options.{some-same}
+use Rattle.gx_lemmas.proofs.Numbers.{one-le-none, one-le-zero}
 use Rattle.gx_ids.specs.declared.ids.Cid.{Cid}
 use Rattle.gx_ids.specs.declared.ids.Gxid.{Gxid}
 use Rattle.gx_ids.specs.declared.ids.Node.{Node}
@@ -59,10 +61,7 @@ IsToldOf marks l = 1 ≤ l.from.0 → IsNoted marks l.from l.envelope.message
 
 pub coord-sent : (marks : List Mark) (clock : ℕ) (ms : List Mark) → Each (SentIs (IsToldOf marks) the_coordinator clock) ms
 coord-sent marks clock [] = tt
-coord-sent marks clock (mark.Sent to number told ∷ ms) = (λ l. absurd (none l), coord-sent marks clock ms)
-  where
-    none : 1 ≤ 0 → ⊥
-    none l = omega arith
+coord-sent marks clock (mark.Sent to number told ∷ ms) = (λ l. absurd (one-le-none l), coord-sent marks clock ms)
 coord-sent marks clock (m ∷ ms) = (tt, coord-sent marks clock ms)
 
 pub le-same : (a : ℕ) → a ≤ a
@@ -118,10 +117,7 @@ states-sent d steps clock (o ∷ outs) e = (λ number same. awaited-state d (IsH
 -- what a segment sends isn't the coordinator's
 pub away-all : (P : Letter → Type 0) (i clock : ℕ) → 1 ≤ i → (ms : List Mark) → Each (SentIs (λ l. l.from ≡ the_coordinator → P l) (at i) clock) ms
 away-all P i clock one [] = tt
-away-all P i clock one (mark.Sent to number told ∷ ms) = (λ same. absurd (zero-one i one (ap (λ (n : Node). n.0) same)), away-all P i clock one ms)
-  where
-    zero-one : (i : ℕ) → 1 ≤ i → i ≡ 0 → ⊥
-    zero-one i l e = omega arith
+away-all P i clock one (mark.Sent to number told ∷ ms) = (λ same. absurd (one-le-zero i one (ap (λ (n : Node). n.0) same)), away-all P i clock one ms)
 away-all P i clock one (m ∷ ms) = (tt, away-all P i clock one ms)
 
 pub outs-sent : (script : Script) (marks : List Mark) (clock : ℕ) (outs : List Out) → Each (OutIs script marks) outs → Each (λ (o : Out). (number : ℕ) → IsOrderLetter script marks (record { from = the_coordinator; to = o.node; envelope = record { number = number; clock = clock; message = o.message } })) outs
@@ -133,9 +129,6 @@ pub order-to-is : (script : Script) (marks : List Mark) (i : Node) (told : Messa
 order-to-is script marks i told [] e h = absurd (cc)
 order-to-is script marks i told (o ∷ outs) e h = by_test (eqb o.node.0 i.0) refl h (λ q. order-to-is script marks i told outs e.1 q)
   where
-    some-same : (a b : Message) → Some a ≡ Some b → a ≡ b
-    some-same a b q = cc
-
     here : o.node ≡ i → o.message ≡ told → MessageIs script marks i told
     here a b = subst (λ n. MessageIs script marks n told) a (subst (λ m. MessageIs script marks o.node m) b e.0)
 
@@ -147,9 +140,6 @@ pub status-order-is : (script : Script) (marks : List Mark) (i : Node) (g : Gxid
 status-order-is script marks i g told None e = absurd (cc)
 status-order-is script marks i g told (Some o) e = subst (λ m. MessageIs script marks i m) (some-same (message_of o g) told e) (by_order o)
   where
-    some-same : (a b : Message) → Some a ≡ Some b → a ≡ b
-    some-same a b q = cc
-
     by_order : (o : Order) → MessageIs script marks i (message_of o g)
     by_order order.Prepare n = tt
     by_order order.Commit n = tt

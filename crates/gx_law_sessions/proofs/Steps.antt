@@ -1,6 +1,7 @@
 -- Steps whose marks are legal if the rest is.
 use Rattle.std.proofs.Common.{◌≡◌, ◌≤◌, ℕ, Bool, true, false, List, [], ◌∷◌, ◌++◌, sym, subst, ap, arith, append-nil, refl}
 use Rattle.std.proofs.lemmas.List.{append_assoc}
+use Rattle.gx_lemmas.proofs.Numbers.{one-le-zero}
 use Rattle.gx_ids.specs.declared.ids.Node.{Node}
 use Rattle.gx_script.specs.declared.Script.{Script}
 use Rattle.gx_store.specs.declared.event.Event.{Event}
@@ -69,38 +70,23 @@ segment-silent script i one [] e = tt
 segment-silent script i one (mark.Start g s ∷ ms) e = absurd (not-zero e.0)
   where
     not-zero : at i ≡ the_coordinator → ⊥
-    not-zero q = zero-one i one (ap (λ (n : Node). n.0) q)
-      where
-        zero-one : (i : ℕ) → 1 ≤ i → i ≡ 0 → ⊥
-        zero-one i l e = omega arith
+    not-zero q = one-le-zero i one (ap (λ (n : Node). n.0) q)
 segment-silent script i one (mark.Snap g c x ∷ ms) e = absurd (not-zero e.0)
   where
     not-zero : at i ≡ the_coordinator → ⊥
-    not-zero q = zero-one i one (ap (λ (n : Node). n.0) q)
-      where
-        zero-one : (i : ℕ) → 1 ≤ i → i ≡ 0 → ⊥
-        zero-one i l e = omega arith
+    not-zero q = one-le-zero i one (ap (λ (n : Node). n.0) q)
 segment-silent script i one (mark.Commit g ∷ ms) e = absurd (not-zero e.0)
   where
     not-zero : at i ≡ the_coordinator → ⊥
-    not-zero q = zero-one i one (ap (λ (n : Node). n.0) q)
-      where
-        zero-one : (i : ℕ) → 1 ≤ i → i ≡ 0 → ⊥
-        zero-one i l e = omega arith
+    not-zero q = one-le-zero i one (ap (λ (n : Node). n.0) q)
 segment-silent script i one (mark.Abort g ∷ ms) e = absurd (not-zero e.0)
   where
     not-zero : at i ≡ the_coordinator → ⊥
-    not-zero q = zero-one i one (ap (λ (n : Node). n.0) q)
-      where
-        zero-one : (i : ℕ) → 1 ≤ i → i ≡ 0 → ⊥
-        zero-one i l e = omega arith
+    not-zero q = one-le-zero i one (ap (λ (n : Node). n.0) q)
 segment-silent script i one (mark.Answer s n a ∷ ms) e = absurd (not-zero e.0)
   where
     not-zero : at i ≡ the_coordinator → ⊥
-    not-zero q = zero-one i one (ap (λ (n : Node). n.0) q)
-      where
-        zero-one : (i : ℕ) → 1 ≤ i → i ≡ 0 → ⊥
-        zero-one i l e = omega arith
+    not-zero q = one-le-zero i one (ap (λ (n : Node). n.0) q)
 segment-silent script i one (m ∷ ms) e = (tt, segment-silent script i one ms e.1)
 
 -- WHERE NOTHING STARTS

@@ -1,6 +1,8 @@
 -- A session's line under way in its transaction, and the marks with which it ends.
 use Rattle.std.proofs.Common.{◌≡◌, ◌<◌, ◌≤◌, ◌⊎◌, inl, inr, ℕ, ◌+◌, List, [], ◌∷◌, ◌++◌, Option, Some, None, Bool, true, false, refl, sym, subst, ap, ◌∙◌, if◌then◌else◌, ◌||◌, arith, eqb}
 use Rattle.std.proofs.lemmas.List.{append_assoc}
+use Rattle.gx_lemmas.proofs.Numbers.{eqb-self}
+use Rattle.gx_lemmas.proofs.Tests.{true-false}
 use Rattle.gx_ids.specs.declared.ids.Cid.{Cid}
 use Rattle.gx_ids.specs.declared.ids.Gxid.{Gxid}
 use Rattle.gx_ids.specs.declared.ids.Node.{Node}
@@ -31,7 +33,6 @@ use Rattle.gx_rules.specs.Coordinators.{Coord, CoordTurn, Session, Work, no_work
 use Rattle.gx_rules.specs.Maps.{with_at}
 use Rattle.gx_law_order.proofs.Lists.{Each, each_append}
 use Rattle.gx_law_order.proofs.Past.{aborted-append}
-use Rattle.gx_law_order.proofs.Turns.{self-test}
 use Rattle.gx_law_sessions.specs.Alive.{HasAnswered}
 use Rattle.gx_law_sessions.specs.Finish.{AreCommandsTold}
 use Rattle.gx_law_sessions.specs.Rest.{EachMark, Rest, RestAnswer}
@@ -77,7 +78,7 @@ stands-closed script k ms next b lines n g w h idle same said =
       state = said.state;
       begun = said.begun ∙ sym (not-alone b);
       sound = is-sound b;
-      owns = λ f. absurd (clash (is_busy b pending.Nothing) f idle);
+      owns = λ f. absurd (true-false (is_busy b pending.Nothing) f idle);
     }
   where
     answer-is : Said script k ms n (state_in b 0) false h → Rattle.gx_store.specs.Marks.answer_count k ms ≡ n
@@ -96,11 +97,8 @@ stands-closed script k ms next b lines n g w h idle same said =
     is-sound (block.Open l) = refl
     is-sound block.Failed = refl
 
-    clash : (q : Bool) → q ≡ true → q ≡ false → ⊥
-    clash q e f = grind arith
-
 abort-last : (e : List Mark) (g : Gxid) → is_aborted (e ++ mark.Abort g ∷ []) g ≡ true
-abort-last e g = aborted-append e (mark.Abort g ∷ []) g ∙ or-true (is_aborted e g) (ap (λ q. q || false) (self-test g.0))
+abort-last e g = aborted-append e (mark.Abort g ∷ []) g ∙ or-true (is_aborted e g) (ap (λ q. q || false) (eqb-self g.0))
   where
     or-true : (a : Bool) {b : Bool} → b ≡ true → (a || b) ≡ true
     or-true true e = refl
@@ -108,18 +106,18 @@ abort-last e g = aborted-append e (mark.Abort g ∷ []) g ∙ or-true (is_aborte
 
 aborts : (earlier why : List Mark) (g : Gxid) (ns : List Mark) → is_aborted (earlier ++ (why ++ mark.Abort g ∷ ns)) g ≡ true
 aborts earlier why g ns =
-    aborted-append earlier (why ++ mark.Abort g ∷ ns) g ∙ or-true (is_aborted earlier g) (aborted-append why (mark.Abort g ∷ ns) g ∙ or-true (is_aborted why g) (ap (λ q. q || is_aborted ns g) (self-test g.0)))
+    aborted-append earlier (why ++ mark.Abort g ∷ ns) g ∙ or-true (is_aborted earlier g) (aborted-append why (mark.Abort g ∷ ns) g ∙ or-true (is_aborted why g) (ap (λ q. q || is_aborted ns g) (eqb-self g.0)))
   where
     or-true : (a : Bool) {b : Bool} → b ≡ true → (a || b) ≡ true
     or-true true e = refl
     or-true false e = e
 
 pub answered-self : (k : SessionId) (i : ℕ) (r : StmtAnswer) (later : List Mark) → is_answered k (mark.Answer k i r ∷ later) ≡ true
-answered-self k i r later = ap (λ q. q || is_answered k later) (self-test k.0)
+answered-self k i r later = ap (λ q. q || is_answered k later) (eqb-self k.0)
 
 module _ (script : Script) (steps : List Step) (c : Coord) (e : Event) (c1 : Coord) (s : SessionId) (g : Gxid) (w : Work) (x : Session) (n : ℕ) (b : BlockState) (u : Bool) (line : Stmt) (earlier : List Mark) (o : Under script steps c e c1 s g w x n b u line earlier) where
   pub x-is : session_of c1 s ≡ x
-  x-is = o.sessions s.0 ∙ ap (λ q. if q then x else c.sessions s.0) (self-test s.0)
+  x-is = o.sessions s.0 ∙ ap (λ q. if q then x else c.sessions s.0) (eqb-self s.0)
 
   pub home-is : (work_of c1 g).session ≡ s
   home-is = ap (λ (z : Work). z.session) o.work ∙ o.home
@@ -191,7 +189,7 @@ module _ (script : Script) (steps : List Step) (c : Coord) (e : Event) (c1 : Coo
   works-set v j h = ap (λ q. if q then v else c1.works j) h ∙ o.works j h
 
   reset-none : (v : Work) → v.command ≡ None → (with_at c1.works g.0 v g.0).command ≡ None
-  reset-none v h = ap (λ (z : Work). z.command) (ap (λ q. if q then v else c1.works g.0) (self-test g.0)) ∙ h
+  reset-none v h = ap (λ (z : Work). z.command) (ap (λ q. if q then v else c1.works g.0) (eqb-self g.0)) ∙ h
 
   -- COMMITS
   pub commit-does : (turn : Turn) → turn.table.next.0 ≡ c1.table.next.0 → may_commit b line ≡ true → (after_done x.state).block ≡ block.Outside → state_after b line (answer_at_commit (work_of c1 g) (session_of c1 (work_of c1 g).session).state.pending) ≡ Outside

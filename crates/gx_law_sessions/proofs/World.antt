@@ -2,6 +2,7 @@
 use Rattle.std.proofs.Common.{◌≡◌, ◌≤◌, inl, inr, ℕ, ◌+◌, List, [], ◌∷◌, ◌++◌, Option, Some, None, Bool, true, false, refl, sym, subst, ap, ◌∙◌, if◌then◌else◌, ◌&&◌, not, arith}
 use Rattle.std.proofs.lemmas.Bool.Decides.{nat_tests}
 use Rattle.std.specs.Prelude.{IsSome, nat_le}
+use Rattle.std.proofs.lemmas.Bool.{and_parts}
 use Rattle.gx_ids.specs.declared.ids.Gxid.{Gxid}
 use Rattle.gx_ids.specs.declared.ids.Node.{Node}
 use Rattle.gx_ids.specs.declared.ids.SessionId.{SessionId}
@@ -54,9 +55,6 @@ use Rattle.gx_law_order.proofs.Dispatches.{resume-ways}
 use Rattle.gx_law_sessions.proofs.Resuming.{resume-does}
 
 -- ALL EVENTS
-both_of : (a b : Bool) → (a && b) ≡ true → (a ≡ true) × (b ≡ true)
-both_of true b e = (refl, e)
-both_of false b e = grind arith
 
 idle-so : (q : Pending) → is_nothing q ≡ true → is_nothing_in q ≡ true
 idle-so q e = grind arith
@@ -83,7 +81,7 @@ module _ (script : Script) (some : 1 ≤ script.segments) where
     heard : (from to : Node) (number : ℕ) (envelope : Envelope) (fails : Bool) → to ≡ the_coordinator → found from to number w.sent ≡ Some envelope → coord_can script w.coord (here.Deliver from envelope) ≡ true → Effect script w.steps w.coord (event.Receive from to number) (on_event script w.coord (here.Deliver from envelope) fails)
     heard from to number envelope fails is f can =
         let t = found_is (IsToldOf (marks_in w.steps)) from to number w.sent envelope h.letters f in
-        let one : 1 ≤ from.0 = at-least from.0 (both_of _ _ can).0 in
+        let one : 1 ≤ from.0 = at-least from.0 (and_parts _ _ can).0 in
         message-does script w.steps w.coord n.kept h.sessions h.gathers from one to number fails envelope.message (received-so script w.steps from to number envelope is (found_is (IsLetter script w.steps) from to number w.sent envelope n.well.letters f))
         (subst (λ (a : Envelope). IsNoted (marks_in w.steps) from a.message) t.told (subst (λ a. IsNoted (marks_in w.steps) a t.letter.envelope.message) t.source (t.is (subst (λ (a : Node). 1 ≤ a.0) (sym t.source) one))))
       where
@@ -96,10 +94,10 @@ module _ (script : Script) (some : 1 ≤ script.segments) where
 
     -- a line starts
     start-effect : (s : SessionId) (fails : Bool) → coord_can script w.coord (here.Start s) ≡ true → Effect script w.steps w.coord (event.Start s) (on_event script w.coord (here.Start s) fails) × LegalEvent script w.steps (event.Start s) × Draws s (on_event script w.coord (here.Start s) fails)
-    start-effect s fails can = by_next (next_line script w.coord s) refl (both_of _ _ can).1
+    start-effect s fails can = by_next (next_line script w.coord s) refl (and_parts _ _ can).1
       where
         idle : is_nothing_in (session_of w.coord s).state.pending ≡ true
-        idle = idle-so (session_of w.coord s).state.pending (both_of _ _ can).0
+        idle = idle-so (session_of w.coord s).state.pending (and_parts _ _ can).0
 
         by_next : (o : Option Stmt) → next_line script w.coord s ≡ o → is_left o ≡ true → Effect script w.steps w.coord (event.Start s) (starts script w.coord s o) × LegalEvent script w.steps (event.Start s) × Draws s (starts script w.coord s o)
         by_next None e q = absurd (cc)
@@ -114,8 +112,8 @@ module _ (script : Script) (some : 1 ≤ script.segments) where
     -- a session ends
     ends-ok : (s : SessionId) → coord_can script w.coord (here.End s) ≡ true → (is_nothing_in (session_of w.coord s).state.pending ≡ true) × (next_line script w.coord s ≡ None) × (is_in_block (session_of w.coord s).state.block ≡ true)
     ends-ok s ok =
-        let a = both_of (is_idle (session_of w.coord s)) (not (is_left (next_line script w.coord s)) && is_in_block (session_of w.coord s).state.block) ok in
-        let b = both_of (not (is_left (next_line script w.coord s))) (is_in_block (session_of w.coord s).state.block) a.1 in
+        let a = and_parts (is_idle (session_of w.coord s)) (not (is_left (next_line script w.coord s)) && is_in_block (session_of w.coord s).state.block) ok in
+        let b = and_parts (not (is_left (next_line script w.coord s))) (is_in_block (session_of w.coord s).state.block) a.1 in
         (idle-so (session_of w.coord s).state.pending a.0, none-left (next_line script w.coord s) b.0, b.1)
       where
         none-left : (o : Option Stmt) → not (is_left o) ≡ true → o ≡ None

@@ -1,5 +1,7 @@
 -- An INSERT's answer tells what was done.
 use Rattle.std.proofs.Common.{◌≡◌, ◌≤◌, ◌⊎◌, inl, inr, ℕ, List, [], ◌∷◌, ◌++◌, Option, Some, None, Ok, Bool, true, refl, sym, subst, ap, ◌∙◌, ◌||◌, arith}
+use Rattle.std.proofs.lemmas.Bool.{or_left, or_right}
+use Rattle.gx_lemmas.proofs.Options.{some-same}
 use Rattle.gx_ids.specs.declared.ids.Cid.{Cid}
 use Rattle.gx_ids.specs.declared.ids.Gxid.{Gxid}
 use Rattle.gx_ids.specs.declared.ids.Node.{Node}
@@ -63,22 +65,13 @@ pub is-progress-more : (script : Script) (ms ns : List Mark) (g : ℕ) (level : 
 is-progress-more script ms ns g level None p = tt
 is-progress-more script ms ns g level (Some m) p = λ table tuples e. progress-more script table ms ns g level m tuples (p table tuples e)
 
-some-same : (a b : Command) → Some a ≡ Some b → a ≡ b
-some-same a b e = (cc)
-
 cid-is : (a b : Cid) → a.0 ≡ b.0 → a ≡ b
 cid-is a b e = ap (λ n. let r : Cid = record { 0 = n } in r) e
 
-or-right : (a b : Bool) → b ≡ true → (a || b) ≡ true
-or-right a b e = grind arith
-
-or-left : (a b : Bool) → a ≡ true → (a || b) ≡ true
-or-left a b e = grind arith
-
 -- a snapshot of the marks
 own-of : (level : Level) (ms ns : List Mark) (g : Gxid) (c : Cid) → has_snapshot ns g ≡ true → is_snapped ns g c ≡ true → has_own_snapshot level (ms ++ ns) g c ≡ true
-own-of ReadCommitted ms ns g c a b = is_snapped-append ms ns g c ∙ or-right (is_snapped ms g c) (is_snapped ns g c) b
-own-of RepeatableRead ms ns g c a b = has_snapshot-append ms ns g ∙ or-right (has_snapshot ms g) (has_snapshot ns g) a
+own-of ReadCommitted ms ns g c a b = is_snapped-append ms ns g c ∙ or_right (is_snapped ms g c) (is_snapped ns g c) b
+own-of RepeatableRead ms ns g c a b = has_snapshot-append ms ns g ∙ or_right (has_snapshot ms g) (has_snapshot ns g) a
 
 own-kept : (level : Level) (ms ns : List Mark) (g : Gxid) (c : Cid) (o : Option Snapshot) (y : Snapshot) → o ≡ Some y → HasSnapshot level ms g o → has_own_snapshot level (ms ++ ns) g c ≡ true
 own-kept ReadCommitted ms ns g c o y e h = absurd (differ (sym h ∙ e))
@@ -88,7 +81,7 @@ own-kept ReadCommitted ms ns g c o y e h = absurd (differ (sym h ∙ e))
 own-kept RepeatableRead ms ns g c o y e h = from (subst (HasSnapshot RepeatableRead ms g) e h)
   where
     from : Rattle.gx_law_sessions.specs.Standing.IsTaken ms g y → has_own_snapshot RepeatableRead (ms ++ ns) g c ≡ true
-    from t = has_snapshot-append ms ns g ∙ or-left (has_snapshot ms g) (has_snapshot ns g) (has-snap ms t.place g t.d y t.taken).0
+    from t = has_snapshot-append ms ns g ∙ or_left (has_snapshot ms g) (has_snapshot ns g) (has-snap ms t.place g t.d y t.taken).0
 
 busy-level : (b : Block) (n : ℕ) → level_of (state_in b n) ≡ level_in b
 busy-level block.Outside n = refl
@@ -194,12 +187,6 @@ module _ (script : Script) (some : 1 ≤ script.segments) (numbered : AreLinesNu
               told = λ table tuples f. subst (λ k. Progress script table ms q.g (c.works q.g).level k tuples) (sym z.5) (took-progress q.g z.0 z.1 z.2 z.3 z.4 z.6 table tuples (ap (λ (k : Command). k.stmt) (sym z.5) ∙ f));
             }
 
-    some-stmt : (a b : Stmt) → Some a ≡ Some b → a ≡ b
-    some-stmt a b f = (cc)
-
-    some-gxid : (a b : Gxid) → Some a ≡ Some b → a ≡ b
-    some-gxid a b f = (cc)
-
     pub tells : (earlier later : List Mark) (s : SessionId) (n : ℕ) (q : Completes script c x s (told.Inserted n)) → Each Still earlier → Answered q.g q.m → HasInserted script (record { steps = w.steps; event = e; earlier = earlier; later = later }) s n
     tells earlier later s n q calm a asked level g cid theirs =
         subst (λ y. Tells script (ms ++ earlier) level g cid y (told.Inserted n)) (sym line)
@@ -216,10 +203,10 @@ module _ (script : Script) (some : 1 ≤ script.segments) (numbered : AreLinesNu
             (runs script w q.g a.run e earlier later (quiet q.from q.envelope q.heard (c.works q.g).session) (each_weaker Still (CalmFor (c.works q.g).session) (λ m h. still-calm (c.works q.g).session m h) earlier calm))
 
         line : asked ≡ q.m.stmt
-        line = some-stmt asked a.run.command.stmt (sym theirs.line.line ∙ ours.line.line) ∙ sym a.line
+        line = some-same asked a.run.command.stmt (sym theirs.line.line ∙ ours.line.line) ∙ sym a.line
 
         gxid : g ≡ gx q.g
-        gxid = some-gxid g (gx q.g) (sym theirs.transaction ∙ ours.transaction)
+        gxid = some-same g (gx q.g) (sym theirs.transaction ∙ ours.transaction)
 
         number : cid ≡ q.m.cid
         number = theirs.number ∙ sym ours.number ∙ sym a.number

@@ -3,6 +3,7 @@ use Rattle.std.proofs.Common.{◌≡◌, ◌≤◌, inl, inr, ℕ, List, [], ◌
 use Rattle.std.proofs.lemmas.Bool.Decides.{nat_tests}
 use Rattle.std.proofs.lemmas.List.{append_assoc}
 use Rattle.std.specs.Prelude.{nat_le}
+use Rattle.gx_lemmas.proofs.Numbers.{one-le-zero}
 use Rattle.gx_ids.specs.declared.ids.Cid.{Cid}
 use Rattle.gx_ids.specs.declared.ids.Gxid.{Gxid}
 use Rattle.gx_ids.specs.declared.ids.Node.{Node}
@@ -65,10 +66,7 @@ sent-told script steps e f (o ∷ outs) earlier later = (tt, sent-told script st
 -- a segment answers no line
 away-told : (script : Script) (i : ℕ) → 1 ≤ i → (steps : List Step) (e : Event) (earlier ms later : List Mark) → Each (IsAtNode script (at i)) ms → EachMark (InsertTold script) steps e earlier ms later
 away-told script i one steps e earlier [] later h = tt
-away-told script i one steps e earlier (mark.Answer s n a ∷ ms) later h = absurd (zero-one i one (ap (λ (n : Node). n.0) h.0))
-  where
-    zero-one : (i : ℕ) → 1 ≤ i → i ≡ 0 → ⊥
-    zero-one i l e = omega arith
+away-told script i one steps e earlier (mark.Answer s n a ∷ ms) later h = absurd (one-le-zero i one (ap (λ (n : Node). n.0) h.0))
 away-told script i one steps e earlier (m ∷ ms) later h = (tt, away-told script i one steps e (earlier ++ m ∷ []) ms later h.1)
 
 module _ (script : Script) (some : 1 ≤ script.segments) (numbered_lines : AreLinesNumbered [] script.lines) where

@@ -1,10 +1,11 @@
 -- Rows by the segments that have still to answer for them.
 use Rattle.std.proofs.Common.{◌≡◌, ◌≤◌, ◌<◌, ℕ, ◌+◌, ◌-◌, List, [], ◌∷◌, ◌++◌, Option, Some, None, Bool, true, false, refl, sym, subst, ap, ◌∙◌, if◌then◌else◌, ◌==◌, ◌||◌, arith, eqb, zero, suc, cond, ℤ, pos, negsuc, ◌%◌}
-use Rattle.std.proofs.lemmas.Bool.{eqb-true}
+use Rattle.std.proofs.lemmas.Bool.{both_ways, eqb-true, or_left, or_right}
 use Rattle.std.proofs.lemmas.Bool.Decides.{nat_tests}
 use Rattle.std.proofs.Math.Nat.{mod-lt}
 use Rattle.std.specs.Prelude.{filter, length, slice_get}
 use Rattle.std.specs.List.{flat_map}
+use Rattle.gx_lemmas.proofs.Numbers.{eqb-self}
 use Rattle.gx_ids.specs.declared.ids.Node.{Node}
 use Rattle.gx_ids.specs.declared.ids.Table.{Table}
 use Rattle.gx_ids.specs.declared.rid.Rid.{Rid}
@@ -73,12 +74,9 @@ pub each-passing : {A : Type 0} (p : A → Bool) (Q : A → Type 0) (rows : List
 each-passing p Q [] e = tt
 each-passing p Q (r ∷ rs) e = by_test (p r) refl e (λ f. each-passing p Q rs f)
   where
-    not-so : (b : Bool) → b ≡ false → b ≡ true → ⊥
-    not-so b x y = grind arith
-
     by_test : (b : Bool) → p r ≡ b → Each Q (cond b (r ∷ filter p rs) (filter p rs)) → (Each Q (filter p rs) → Each (λ row. p row ≡ true → Q row) rs) → (p r ≡ true → Q r) × Each (λ row. p row ≡ true → Q row) rs
     by_test true q f later = (λ z. f.0, later f.1)
-    by_test false q f later = (λ z. absurd (not-so (p r) q z), later f)
+    by_test false q f later = (λ z. absurd (both_ways (p r) q z), later f)
 
 -- PLACES
 remainder-below : (z : ℤ) (n : ℕ) → 1 ≤ n → remainder z n < n
@@ -117,18 +115,9 @@ nodes-append : (xs ys : List Piece) → nodes_in (xs ++ ys) ≡ nodes_in xs ++ n
 nodes-append [] ys = refl
 nodes-append (x ∷ xs) ys = ap (λ q. x.node ∷ q) (nodes-append xs ys)
 
-or-left : (a b : Bool) → a ≡ true → (a || b) ≡ true
-or-left a b e = grind arith
-
-or-right : (a b : Bool) → b ≡ true → (a || b) ≡ true
-or-right a b e = grind arith
-
-self-test : (a : ℕ) → eqb a a ≡ true
-self-test a = grind (arith, nat_tests)
-
 piece-there : (table : Table) (p : ℕ) (rows : List KeyedRow) → (rows ≡ [] → ⊥) → has (at p) (nodes_in (row_pieces table (at p) rows)) ≡ true
 piece-there table p [] e = absurd (e refl)
-piece-there table p (r ∷ rs) e = or-left (eqb p p) false (self-test p)
+piece-there table p (r ∷ rs) e = or_left (eqb p p) false (eqb-self p)
 
 module _ (table : Table) (rows : ℕ → List KeyedRow) (p : ℕ) (some : rows p ≡ [] → ⊥) where
   pieces-there : (k count : ℕ) → k ≤ p → p < k + count → has (at p) (nodes_in (flat_map (λ (node : Node). row_pieces table node (rows node.0)) (nodes_from k count))) ≡ true
@@ -148,8 +137,8 @@ module _ (table : Table) (rows : ℕ → List KeyedRow) (p : ℕ) (some : rows p
       beyond k p e l = grind (arith, nat_tests)
 
       by_test : (b : Bool) → eqb k p ≡ b → (k + 1 ≤ p → has (at p) (nodes_in (flat_map (λ (node : Node). row_pieces table node (rows node.0)) (nodes_from (k + 1) count))) ≡ true) → (has (at p) (nodes_in (row_pieces table (at k) (rows k))) || has (at p) (nodes_in (flat_map (λ (node : Node). row_pieces table node (rows node.0)) (nodes_from (k + 1) count)))) ≡ true
-      by_test true e later = or-left _ _ (subst (λ j. has (at p) (nodes_in (row_pieces table (at j) (rows j))) ≡ true) (sym (eqb-true k p e)) (piece-there table p (rows p) some))
-      by_test false e later = or-right _ _ (later (beyond k p e l))
+      by_test true e later = or_left _ _ (subst (λ j. has (at p) (nodes_in (row_pieces table (at j) (rows j))) ≡ true) (sym (eqb-true k p e)) (piece-there table p (rows p) some))
+      by_test false e later = or_right _ _ (later (beyond k p e l))
 
 filter-some : (p : KeyedRow → Bool) (done : List KeyedRow) (row : KeyedRow) (rows : List KeyedRow) → p row ≡ true → filter p (done ++ row ∷ rows) ≡ [] → ⊥
 filter-some p [] row rows e q = differ (ap (λ b. cond b (row ∷ filter p rows) (filter p rows)) (sym e) ∙ q)
@@ -165,7 +154,7 @@ filter-some p (d ∷ done) row rows e q = by_test (p d) q (λ z. filter-some p d
 pub all-there : (n : ℕ) (dist : Dist) (table : Table) (done rows all : List KeyedRow) → 1 ≤ n → all ≡ done ++ rows → Each (λ (row : KeyedRow). has (at (row_place n dist row.row row.rid)) (nodes_in (insert_pieces n dist table all)) ≡ true) rows
 all-there n dist table done [] all l e = tt
 all-there n dist table done (r ∷ rs) all l e = (
-  pieces-there table (rows_at n dist all) (row_place n dist r.row r.rid) (λ z. filter-some (λ (row : KeyedRow). row_place n dist row.row row.rid == row_place n dist r.row r.rid) done r rs (self-test (row_place n dist r.row r.rid)) (ap (filter (λ (row : KeyedRow). row_place n dist row.row row.rid == row_place n dist r.row r.rid)) (sym e) ∙ z)) 1 n w.0 (less n (row_place n dist r.row r.rid) w.1),
+  pieces-there table (rows_at n dist all) (row_place n dist r.row r.rid) (λ z. filter-some (λ (row : KeyedRow). row_place n dist row.row row.rid == row_place n dist r.row r.rid) done r rs (eqb-self (row_place n dist r.row r.rid)) (ap (filter (λ (row : KeyedRow). row_place n dist row.row row.rid == row_place n dist r.row r.rid)) (sym e) ∙ z)) 1 n w.0 (less n (row_place n dist r.row r.rid) w.1),
   all-there n dist table (done ++ r ∷ []) rs all l (e ∙ sym (Rattle.std.proofs.lemmas.List.append_assoc done (r ∷ []) rs)),
 )
   where

@@ -1,6 +1,7 @@
 -- What a script that only inserts has: its commands are INSERTs.
 use Rattle.std.proofs.Common.{◌≡◌, ℕ, ◌+◌, ◌-◌, List, [], ◌∷◌, Option, Some, None, Result, Ok, Err, Bool, true, false, refl, subst, if◌then◌else◌, ◌&&◌, ◌==◌}
 use Rattle.std.specs.Prelude.{Contains, nat_le}
+use Rattle.gx_lemmas.proofs.Options.{some-same}
 use Rattle.gx_ids.specs.declared.ids.Cid.{Cid}
 use Rattle.gx_ids.specs.declared.ids.Gxid.{Gxid}
 use Rattle.gx_ids.specs.declared.ids.Node.{Node}
@@ -31,9 +32,6 @@ use Rattle.gx_law_sessions.specs.Scanned.{began_from, closes_block, command_at, 
 use Rattle.gx_law_sessions.specs.Orders.{IsOrder}
 use Rattle.gx_law_writes.specs.Inserting.{AreInserting, is_inserting}
 use Rattle.gx_law_writes.proofs.Plans.{insert-slice, none-at-all}
-
-some-same : (a b : Stmt) → Some a ≡ Some b → a ≡ b
-some-same a b e = (cc)
 
 pub stmt-inserting : (k : SessionId) (n : ℕ) (ls : List Line) (st : Stmt) → AreInserting ls → stmt_of k n ls ≡ Some st → is_inserting st ≡ true
 stmt-inserting k n [] st a e = absurd (cc)

@@ -3,6 +3,7 @@ use Rattle.std.proofs.Common.{◌≡◌, ◌≤◌, inl, inr, ℕ, List, [], ◌
 use Rattle.std.proofs.lemmas.Bool.Decides.{nat_tests}
 use Rattle.std.proofs.lemmas.List.{append_assoc}
 use Rattle.std.specs.Prelude.{nat_le}
+use Rattle.gx_lemmas.proofs.Numbers.{one-le-zero}
 use Rattle.gx_ids.specs.declared.ids.Cid.{Cid}
 use Rattle.gx_ids.specs.declared.ids.Gxid.{Gxid}
 use Rattle.gx_ids.specs.declared.ids.Node.{Node}
@@ -107,13 +108,11 @@ sent-others script steps e f [] earlier later = tt
 sent-others script steps e f (o ∷ outs) earlier later = (tt, sent-others script steps e (counted f o) outs _ later)
 
 -- AT A SEGMENT
-zero-one : (i : ℕ) → 1 ≤ i → i ≡ 0 → ⊥
-zero-one i l e = omega arith
 
 away-others : (script : Script) (i : ℕ) → 1 ≤ i → (steps : List Step) (e : Event) (earlier ms later : List Mark) → Each (IsAtNode script (at i)) ms → Each NoFault ms → EachMark (Others script) steps e earlier ms later
 away-others script i one steps e earlier [] later h n = tt
-away-others script i one steps e earlier (mark.Answer s k a ∷ ms) later h n = absurd (zero-one i one (ap (λ (x : Node). x.0) h.0))
-away-others script i one steps e earlier (mark.Recheck x y z ∷ ms) later h n = absurd (zero-one i one (ap (λ (x : Node). x.0) h.0))
+away-others script i one steps e earlier (mark.Answer s k a ∷ ms) later h n = absurd (one-le-zero i one (ap (λ (x : Node). x.0) h.0))
+away-others script i one steps e earlier (mark.Recheck x y z ∷ ms) later h n = absurd (one-le-zero i one (ap (λ (x : Node). x.0) h.0))
 away-others script i one steps e earlier (mark.Fault g c r x ∷ ms) later h n = absurd n.0
 away-others script i one steps e earlier (m ∷ ms) later h n = (tt, away-others script i one steps e (earlier ++ m ∷ []) ms later h.1 n.1)
 

@@ -2,6 +2,10 @@
 use Rattle.std.proofs.Common.{◌≡◌, ◌≤◌, ◌<◌, ◌⊎◌, inl, inr, ℕ, ◌+◌, List, [], ◌∷◌, ◌++◌, Option, Some, None, Bool, true, false, refl, sym, subst, ap, ◌∙◌, if◌then◌else◌, ◌||◌, ◌&&◌, arith, eqb, zero, suc}
 use Rattle.std.proofs.lemmas.Bool.Decides.{nat_tests}
 use Rattle.std.specs.Prelude.{◌-◌, length, map, slice_get}
+use Rattle.std.proofs.lemmas.Bool.{and_from, or_from, or_left, or_right}
+use Rattle.gx_lemmas.proofs.Options.{some-same}
+use Rattle.gx_lemmas.proofs.Numbers.{eqb-self}
+use Rattle.gx_lemmas.proofs.Lists.{place-below}
 use Rattle.gx_ids.specs.declared.ids.Cid.{Cid}
 use Rattle.gx_ids.specs.declared.ids.Gxid.{Gxid}
 use Rattle.gx_ids.specs.declared.ids.Node.{Node}
@@ -65,21 +69,10 @@ sent-no-write f (o ∷ outs) = (tt, sent-no-write (counted f o) outs)
 
 -- a tuple that is there has a number up to theirs
 within : {A : Type 0} (o : ℕ) (xs : List A) (x : A) → 1 ≤ o → slice_get xs (o - 1) ≡ Some x → o ≤ length xs
-within o xs x l e = up o (length xs) l (below xs (o - 1) x e)
+within o xs x l e = up o (length xs) l (place-below xs (o - 1) x e)
   where
     up : (o n : ℕ) → 1 ≤ o → o - 1 < n → o ≤ n
     up o n l h = omega arith
-
-    below : {A : Type 0} (xs : List A) (k : ℕ) (x : A) → slice_get xs k ≡ Some x → k < length xs
-    below [] k x e = absurd (cc)
-    below (y ∷ ys) zero x e = positive (length ys)
-      where
-        positive : (n : ℕ) → 0 < suc n
-        positive n = omega arith
-    below (y ∷ ys) (suc k) x e = more k (length ys) (below ys k x e)
-      where
-        more : (k n : ℕ) → k < n → suc k < suc n
-        more k n h = omega arith
 
 -- A ROW THAT ISN'T WRITTEN
 -- it has no node yet
@@ -91,9 +84,6 @@ unwritten-node (mark.Write g c n t r x ∷ ms) rid e = by_test (is_same_rid r ri
     by_test true later e = absurd (cc)
     by_test false later e = later e
 unwritten-node (m ∷ ms) rid e = unwritten-node ms rid e
-
-or-none : (a b : Bool) → a ≡ false → b ≡ false → (a || b) ≡ false
-or-none a b e f = grind arith
 
 -- a command's rows aren't written before it runs: each write of the row is of that command, at its node
 abbrev pub IsPlacedMark : Script → List Mark → Mark → Type 0
@@ -111,7 +101,7 @@ module _ (script : Script) (ms : List Mark) (nexts : ℕ → ℕ → ℕ) (g : G
 
   pub fresh-row : (xs : List Mark) → Each (IsPlacedMark script ms) xs → Each (IsPastMark nexts) xs → is_written xs rid ≡ false
   fresh-row [] e f = refl
-  fresh-row (mark.Write h d m u r x ∷ xs) e f = or-none (is_same_rid r rid) (is_written xs rid) (by_test (is_same_rid r rid) refl) (fresh-row xs e.1 f.1)
+  fresh-row (mark.Write h d m u r x ∷ xs) e f = or_from (is_same_rid r rid) (is_written xs rid) (by_test (is_same_rid r rid) refl) (fresh-row xs e.1 f.1)
     where
       clash : is_same_rid r rid ≡ true → ⊥
       clash q =
@@ -140,43 +130,27 @@ module _ (script : Script) (ms : List Mark) (nexts : ℕ → ℕ → ℕ) (g : G
   fresh-row (mark.Recheck x y z ∷ xs) e f = fresh-row xs e.1 f.1
 
 -- THE COMMAND'S SNAPSHOT
-self-test : (a : ℕ) → eqb a a ≡ true
-self-test a = grind (arith, nat_tests)
-
-or-right : (a b : Bool) → b ≡ true → (a || b) ≡ true
-or-right a b e = grind arith
-
-or-left : (a b : Bool) → a ≡ true → (a || b) ≡ true
-or-left a b e = grind arith
-
-and-both : (a b : Bool) → a ≡ true → b ≡ true → (a && b) ≡ true
-and-both a b e f = grind arith
 
 pub has-snap : (ms : List Mark) (k : ℕ) (g : Gxid) (d : Cid) (x : Snapshot) → slice_get ms k ≡ Some (mark.Snap g d x) → (has_snapshot ms g ≡ true) × (is_snapped ms g d ≡ true)
 has-snap [] k g d x e = absurd (cc)
-has-snap (m ∷ ms) zero g d x e = subst (λ (y : Mark). (has_snapshot (y ∷ ms) g ≡ true) × (is_snapped (y ∷ ms) g d ≡ true)) (some-same (mark.Snap g d x) m (sym e)) (or-left _ _ (self-test g.0), or-left _ _ (and-both _ _ (self-test g.0) (self-test d.0)))
-  where
-    some-same : (a b : Mark) → Some a ≡ Some b → a ≡ b
-    some-same a b q = cc
+has-snap (m ∷ ms) zero g d x e = subst (λ (y : Mark). (has_snapshot (y ∷ ms) g ≡ true) × (is_snapped (y ∷ ms) g d ≡ true)) (some-same (mark.Snap g d x) m (sym e)) (or_left _ _ (eqb-self g.0), or_left _ _ (and_from _ _ (eqb-self g.0) (eqb-self d.0)))
 has-snap (m ∷ ms) (suc k) g d x e = let y = has-snap ms k g d x e in (has-more m y.0, snapped-more m y.1)
   where
     has-more : (m : Mark) → has_snapshot ms g ≡ true → has_snapshot (m ∷ ms) g ≡ true
-    has-more m q = has_snapshot-append (m ∷ []) ms g ∙ or-right (has_snapshot (m ∷ []) g) (has_snapshot ms g) q
+    has-more m q = has_snapshot-append (m ∷ []) ms g ∙ or_right (has_snapshot (m ∷ []) g) (has_snapshot ms g) q
 
     snapped-more : (m : Mark) → is_snapped ms g d ≡ true → is_snapped (m ∷ ms) g d ≡ true
-    snapped-more m q = is_snapped-append (m ∷ []) ms g d ∙ or-right (is_snapped (m ∷ []) g d) (is_snapped ms g d) q
+    snapped-more m q = is_snapped-append (m ∷ []) ms g d ∙ or_right (is_snapped (m ∷ []) g d) (is_snapped ms g d) q
 
 served-has : (level : Level) (ms : List Mark) (g : Gxid) (c : Cid) (x : Snapshot) → IsServed ms level g c x → has_own_snapshot level ms g c ≡ true
 served-has ReadCommitted ms g c x s = subst (λ d. is_snapped ms g d ≡ true) s.serves (has-snap ms s.place g s.d x s.taken).1
 served-has RepeatableRead ms g c x s = (has-snap ms s.place g s.d x s.taken).0
 
 pub own-more : (level : Level) (ms ns : List Mark) (g : Gxid) (c : Cid) → has_own_snapshot level ms g c ≡ true → has_own_snapshot level (ms ++ ns) g c ≡ true
-own-more ReadCommitted ms ns g c e = is_snapped-append ms ns g c ∙ or-left (is_snapped ms g c) (is_snapped ns g c) e
-own-more RepeatableRead ms ns g c e = has_snapshot-append ms ns g ∙ or-left (has_snapshot ms g) (has_snapshot ns g) e
+own-more ReadCommitted ms ns g c e = is_snapped-append ms ns g c ∙ or_left (is_snapped ms g c) (is_snapped ns g c) e
+own-more RepeatableRead ms ns g c e = has_snapshot-append ms ns g ∙ or_left (has_snapshot ms g) (has_snapshot ns g) e
 
 -- AN ORDER IS OF THE COMMAND UNDER WAY
-some-stmt : (a b : Stmt) → Some a ≡ Some b → a ≡ b
-some-stmt a b e = (cc)
 
 module _ (script : Script) (numbered : AreLinesNumbered [] script.lines) (w : World) (g : ℕ) (r : Running script w g) where
   abbrev ms : List Mark
@@ -186,7 +160,7 @@ module _ (script : Script) (numbered : AreLinesNumbered [] script.lines) (w : Wo
   its-line = ap (λ o. command_at script o r.command.cid.0) r.roots.began ∙ (r.roots.now numbered).0 r.command r.has_it
 
   pub line-is : (c : Cid) (line : Stmt) → c.0 ≡ r.command.cid.0 → stmt_of_command script ms (gx g) c ≡ Some line → r.command.stmt ≡ line
-  line-is c line same of = some-stmt r.command.stmt line (sym its-line ∙ ap (λ n. command_at script (began_from [] ms (gx g)) n) (sym same) ∙ of)
+  line-is c line same of = some-same r.command.stmt line (sym its-line ∙ ap (λ n. command_at script (began_from [] ms (gx g)) n) (sym same) ∙ of)
 
   first-level : (b : Block) (first lines commands : ℕ) (line : Stmt) (t : Table) (tuples : List (List Expr)) → is_busy b pending.Command ≡ true → IsFirst script (w.coord.works g).session lines b first → stmt_of (w.coord.works g).session lines script.lines ≡ Some line → line ≡ stmt.Insert t tuples → level_by (stmt_of (w.coord.works g).session first script.lines) ≡ level_of (state_in b commands)
   first-level (block.Open l) first lines commands line t tuples busy f e q = ap level_by f
@@ -216,8 +190,8 @@ behind-next : (g : Gxid) (c : Cid) (k : ℕ) (earlier : List Mark) (node : Node)
 behind-next g c k earlier node table row b l =
     record {
       calm = λ s. each_append (CalmFor s) earlier (row_mark g c node table row ∷ []) (b.calm s) (tt, tt);
-      running = is_ended-append earlier (row_mark g c node table row ∷ []) g ∙ or-none (is_ended earlier g) false b.running refl;
-      unwritten = λ rid m. is_written-append earlier (row_mark g c node table row ∷ []) rid ∙ or-none (is_written earlier rid) (is_same_rid row.rid rid || false) (b.unwritten rid (le-trans l m)) (or-none (is_same_rid row.rid rid) false (apart row.rid rid m) refl);
+      running = is_ended-append earlier (row_mark g c node table row ∷ []) g ∙ or_from (is_ended earlier g) false b.running refl;
+      unwritten = λ rid m. is_written-append earlier (row_mark g c node table row ∷ []) rid ∙ or_from (is_written earlier rid) (is_same_rid row.rid rid || false) (b.unwritten rid (le-trans l m)) (or_from (is_same_rid row.rid rid) false (apart row.rid rid m) refl);
     }
   where
     le-trans : {a b d : ℕ} → a ≤ b → b + 1 ≤ d → a ≤ d
@@ -253,7 +227,7 @@ module _ (script : Script) (numbered : AreLinesNumbered [] script.lines) (w : Wo
         point = record { steps = w.steps; event = e; earlier = earlier; later = later }
 
         once : is_written (now ++ earlier) row.rid ≡ false
-        once = is_written-append now earlier row.rid ∙ or-none (is_written now row.rid) (is_written earlier row.rid) fresh (b.unwritten row.rid l)
+        once = is_written-append now earlier row.rid ∙ or_from (is_written now row.rid) (is_written earlier row.rid) fresh (b.unwritten row.rid l)
 
         placed : IsPlaced script now (gx g) c node table row.rid (Some row.row)
         placed = row-placed script now (gx g) c node table tuples row of p
@@ -278,12 +252,12 @@ module _ (script : Script) (numbered : AreLinesNumbered [] script.lines) (w : Wo
             inr (record {
               stmt = stmt.Insert table tuples;
               late = record {
-                aborted = is_aborted-append now earlier (gx g) ∙ or-left (is_aborted now (gx g)) (is_aborted earlier (gx g)) v.aborted;
+                aborted = is_aborted-append now earlier (gx g) ∙ or_left (is_aborted now (gx g)) (is_aborted earlier (gx g)) v.aborted;
                 early = v.was.point;
                 earlier = inl v.was.among;
                 session = v.was.session;
                 level = v.was.level;
-                ran = subst (λ q. IsUnderWay script v.was.point v.was.session q v.was.level (gx g) c) (some-stmt v.was.line (stmt.Insert table tuples) (sym (v.was.of numbered) ∙ of)) v.was.ran;
+                ran = subst (λ q. IsUnderWay script v.was.point v.was.session q v.was.level (gx g) c) (some-same v.was.line (stmt.Insert table tuples) (sym (v.was.of numbered) ∙ of)) v.was.ran;
               };
               writes = (
                 refl,

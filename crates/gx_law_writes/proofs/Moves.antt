@@ -1,9 +1,11 @@
 -- What a segment's turn keeps: its writes are placed and legal, and what it tells of commands is so.
 use Rattle.std.proofs.Common.{◌≡◌, ◌≤◌, ◌<◌, ◌⊎◌, inl, inr, ℕ, ◌+◌, List, [], ◌∷◌, ◌++◌, Option, Some, None, Bool, true, false, refl, sym, subst, ap, ◌∙◌, if◌then◌else◌, ◌||◌, ◌&&◌, arith, eqb}
 use Rattle.std.proofs.lemmas.List.{append_assoc}
-use Rattle.std.proofs.lemmas.Bool.{eqb-true}
+use Rattle.std.proofs.lemmas.Bool.{eqb-true, or_left, or_right}
 use Rattle.std.proofs.lemmas.Bool.Decides.{nat_tests}
 use Rattle.std.specs.Prelude.{length, map}
+use Rattle.gx_lemmas.proofs.Options.{some-same}
+use Rattle.gx_lemmas.proofs.Numbers.{eqb-self}
 use Rattle.gx_ids.specs.declared.ids.Cid.{Cid}
 use Rattle.gx_ids.specs.declared.ids.Gxid.{Gxid}
 use Rattle.gx_ids.specs.declared.ids.Node.{Node}
@@ -97,13 +99,10 @@ pub record IsBase (s : Seg) (g : Gxid) (b : Seg) : Type 0 where
 pub started-base : (s : Seg) (g horizon : Gxid) (locks : Locks) → (s.locals g.0).suspended ≡ None → IsBase s g (base s horizon locks)
 started-base s g horizon locks e = record { node = refl; alone = e; others = λ h q. refl }
 
-self-test : (a : ℕ) → eqb a a ≡ true
-self-test a = grind (arith, nat_tests)
-
 pub freed-base : (s : Seg) (g : Gxid) (locks : Locks) → IsBase s g (freed s g locks)
 freed-base s g locks =
     let free : Local = record (s.locals g.0) { suspended = None } in
-    record { node = refl; alone = ap (λ q. (if q then free else s.locals g.0).suspended) (self-test g.0); others = λ h e. ap (λ q. if q then free else s.locals h) e }
+    record { node = refl; alone = ap (λ q. (if q then free else s.locals g.0).suspended) (eqb-self g.0); others = λ h e. ap (λ q. if q then free else s.locals h) e }
 
 module _ (script : Script) (numbered : AreLinesNumbered [] script.lines) (ms : List Mark) (steps : List Step) (e : Event) (i : ℕ) (s : Seg) (kept : (h : ℕ) → IsAnswerOf script ms (next_command (s.locals h)) (at i) (gx h) (s.locals h).answer) where
   abbrev Moves : SegTurn → Type 0
@@ -237,9 +236,9 @@ module _ (script : Script) (numbered : AreLinesNumbered [] script.lines) (ms : L
     select-ran marks r told =
         record {
           fresh = fresh;
-          last = ap (λ q. (if q then after else b.locals g.0).last) (self-test g.0);
-          answer = ap (λ q. (if q then after else b.locals g.0).answer) (self-test g.0);
-          alone = ap (λ q. (if q then after else b.locals g.0).suspended) (self-test g.0) ∙ on.alone;
+          last = ap (λ q. (if q then after else b.locals g.0).last) (eqb-self g.0);
+          answer = ap (λ q. (if q then after else b.locals g.0).answer) (eqb-self g.0);
+          alone = ap (λ q. (if q then after else b.locals g.0).suspended) (eqb-self g.0) ∙ on.alone;
           others = λ h q. ap (λ z. if z then after else b.locals h) q ∙ on.others h q;
           outs = refl;
           told = told;
@@ -274,18 +273,12 @@ pub mark-written : (g : Gxid) (c : Cid) (node : Node) (table : Table) (ms : List
 mark-written g c node table ms [] own = tt
 mark-written g c node table ms (r ∷ rs) own = (
   is_processed-append ms (row_mark g c node table r ∷ map (row_mark g c node table) rs) r.rid.gxid r.rid.cid r.rid
-      ∙ or-right (is_own_written ms r.rid) _ (or-left (is_command_of r.rid.gxid r.rid.cid g c && is_same_rid r.rid r.rid) _ (own-mark r.rid own.0)),
+      ∙ or_right (is_own_written ms r.rid) _ (or_left (is_command_of r.rid.gxid r.rid.cid g c && is_same_rid r.rid r.rid) _ (own-mark r.rid own.0)),
   each_weaker (IsWritten (ms ++ map (row_mark g c node table) rs)) (IsWritten (ms ++ row_mark g c node table r ∷ map (row_mark g c node table) rs))
       (λ x k. is_processed-append ms (row_mark g c node table r ∷ map (row_mark g c node table) rs) x.rid.gxid x.rid.cid x.rid
       ∙ middle (is_own_written ms x.rid) (is_command_of x.rid.gxid x.rid.cid g c && is_same_rid r.rid x.rid) (is_own_written (map (row_mark g c node table) rs) x.rid) (sym (is_processed-append ms (map (row_mark g c node table) rs) x.rid.gxid x.rid.cid x.rid) ∙ k)) rs (mark-written g c node table ms rs own.1),
 )
   where
-    or-right : (a b : Bool) → b ≡ true → (a || b) ≡ true
-    or-right a b e = grind arith
-
-    or-left : (a b : Bool) → a ≡ true → (a || b) ≡ true
-    or-left a b e = grind arith
-
     middle : (a b c : Bool) → (a || c) ≡ true → (a || (b || c)) ≡ true
     middle a b c e = grind arith
 
@@ -305,11 +298,8 @@ module _ (script : Script) (numbered : AreLinesNumbered [] script.lines) (w : Wo
     pub piece : IsRowPiece script ms (at i) g c table rows
     piece = row-piece script ms (at i) g c level snapshot table rows order
 
-    some-stmt : (a b : Stmt) → Some a ≡ Some b → a ≡ b
-    some-stmt a b e = (cc)
-
     pub line-of : order.line ≡ stmt.Insert table piece.tuples
-    line-of = some-stmt order.line (stmt.Insert table piece.tuples) (sym order.of ∙ piece.of)
+    line-of = some-same order.line (stmt.Insert table piece.tuples) (sym order.of ∙ piece.of)
 
     -- the command is under way, or its transaction has aborted
     abbrev pub How : Type 0

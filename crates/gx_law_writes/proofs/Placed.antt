@@ -1,7 +1,8 @@
 -- Each write is of a tuple of its statement, at the row's place; so a row is written at one node alone.
 use Rattle.std.proofs.Common.{◌≡◌, ◌≤◌, ℕ, ◌+◌, ◌-◌, List, [], ◌∷◌, Option, Some, Result, Ok, Bool, true, false, refl, sym, subst, ap, ◌∙◌, ◌&&◌, ◌==◌, arith, suc, cond}
-use Rattle.std.proofs.lemmas.Bool.{eqb-true}
+use Rattle.std.proofs.lemmas.Bool.{and_parts, eqb-true}
 use Rattle.std.specs.Prelude.{filter, slice_get}
+use Rattle.gx_lemmas.proofs.Options.{some-same}
 use Rattle.gx_ids.specs.declared.ids.Cid.{Cid}
 use Rattle.gx_ids.specs.declared.ids.Gxid.{Gxid}
 use Rattle.gx_ids.specs.declared.ids.Node.{Node}
@@ -142,11 +143,7 @@ pub record SameRid (a b : Rid) : Type 0 where
   pub ordinal : a.ordinal ≡ b.ordinal
 
 pub rid-same : (a b : Rid) → is_same_rid a b ≡ true → SameRid a b
-rid-same a b e = let x = both_of _ _ e in let y = both_of _ _ x.1 in record { gxid = eqb-true _ _ x.0; cid = eqb-true _ _ y.0; ordinal = eqb-true _ _ y.1 }
-  where
-    both_of : (a b : Bool) → (a && b) ≡ true → (a ≡ true) × (b ≡ true)
-    both_of true b e = (refl, e)
-    both_of false b e = grind arith
+rid-same a b e = let x = and_parts _ _ e in let y = and_parts _ _ x.1 in record { gxid = eqb-true _ _ x.0; cid = eqb-true _ _ y.0; ordinal = eqb-true _ _ y.1 }
 
 rid-is : (a b : Rid) → SameRid a b → a ≡ b
 rid-is a b e = ap (λ n. let r : Rid = record { gxid = record { 0 = n }; cid = a.cid; ordinal = a.ordinal } in r) e.gxid ∙ ap (λ n. let r : Rid = record { gxid = b.gxid; cid = record { 0 = n }; ordinal = a.ordinal } in r) e.cid ∙ ap (λ n. let r : Rid = record { gxid = b.gxid; cid = b.cid; ordinal = n } in r) e.ordinal
@@ -164,9 +161,6 @@ pub record SamePlace (g h : Gxid) (c d : Cid) (n m : Node) : Type 0 where
   pub gxid : h ≡ g
   pub cid : d ≡ c
   pub node : m ≡ n
-
-some-same : {A : Type 0} (a b : A) → Some a ≡ Some b → a ≡ b
-some-same a b e = (cc)
 
 ok-same : (a b : List Value) → (let o : Result (List Value) ArithFault = Ok a in o) ≡ Ok b → a ≡ b
 ok-same a b e = (cc)

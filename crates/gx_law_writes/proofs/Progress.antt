@@ -4,6 +4,8 @@ use Rattle.std.proofs.lemmas.Bool.{eqb-true}
 use Rattle.std.proofs.lemmas.Bool.Decides.{nat_tests}
 use Rattle.std.proofs.lemmas.List.Elements.{All-cons, All-nil}
 use Rattle.std.specs.Prelude.{All, filter, length}
+use Rattle.gx_lemmas.proofs.Numbers.{eqb-back}
+use Rattle.gx_lemmas.proofs.Tests.{true-false}
 use Rattle.gx_ids.specs.declared.ids.Cid.{Cid}
 use Rattle.gx_ids.specs.declared.ids.Gxid.{Gxid}
 use Rattle.gx_ids.specs.declared.ids.Node.{Node}
@@ -67,9 +69,6 @@ module _ (script : Script) (table : Table) where
       ok-same : {xs ys : List Piece} → (let o : Result (List Piece) ArithFault = Ok xs in o) ≡ Ok ys → xs ≡ ys
       ok-same q = cc
 
-      not-so : (b : Bool) → b ≡ true → b ≡ false → ⊥
-      not-so b x y = grind arith
-
       none-more : (a b : ℕ) → a ≡ b → 0 + a ≡ b
       none-more a b e = omega arith
 
@@ -81,7 +80,7 @@ module _ (script : Script) (table : Table) where
             rows = rows;
             planned = r;
             count = none-more _ _ (left-all place_of (nodes_in pieces) rows there);
-            written = each_weaker (λ (row : KeyedRow). waits_for place_of (nodes_in pieces) row ≡ true) (λ (row : KeyedRow). waits_for place_of (nodes_in pieces) row ≡ false → is_own_written ms row.rid ≡ true) (λ row t f. absurd (not-so _ t f)) rows there;
+            written = each_weaker (λ (row : KeyedRow). waits_for place_of (nodes_in pieces) row ≡ true) (λ (row : KeyedRow). waits_for place_of (nodes_in pieces) row ≡ false → is_own_written ms row.rid ≡ true) (λ row t f. absurd (true-false _ t f)) rows there;
             snapped = snapped;
           }
 
@@ -99,11 +98,8 @@ module _ (script : Script) (table : Table) where
       sum : (a b l r n : ℕ) {t : ℕ} → a + l ≡ t → b ≡ n → l ≡ n + r → (a + b) + r ≡ t
       sum a b l r n x y z = omega arith
 
-      same-way : (a b : ℕ) → eqb a b ≡ true → eqb b a ≡ true
-      same-way a b e = grind (arith, nat_tests)
-
       by_test : (row : KeyedRow) → (stands_at place_of i row ≡ true → IsWritten ms row) → (waits_for place_of m.awaited row ≡ false → is_own_written ms row.rid ≡ true) → (b : Bool) → eqb i.0 (place_of row) ≡ b → has (at (place_of row)) (without i m.awaited) ≡ false → is_own_written ms row.rid ≡ true
-      by_test row f h true e q = f (same-way i.0 (place_of row) e)
+      by_test row f h true e q = f (eqb-back i.0 (place_of row) e)
       by_test row f h false e q = h (ap (λ b. if b then false else has (at (place_of row)) m.awaited) (sym e) ∙ sym (has-without (at (place_of row)) i m.awaited) ∙ q)
 
       each-two : (rows : List KeyedRow) → Each (λ (row : KeyedRow). stands_at place_of i row ≡ true → IsWritten ms row) rows → Each (λ (row : KeyedRow). waits_for place_of m.awaited row ≡ false → is_own_written ms row.rid ≡ true) rows → Each (λ (row : KeyedRow). waits_for place_of (without i m.awaited) row ≡ false → is_own_written ms row.rid ≡ true) rows

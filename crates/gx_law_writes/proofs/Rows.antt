@@ -4,6 +4,7 @@ use Rattle.std.proofs.lemmas.Bool.{eqb-true}
 use Rattle.std.proofs.lemmas.Bool.Decides.{nat_tests}
 use Rattle.std.proofs.lemmas.List.{append_assoc}
 use Rattle.std.specs.Prelude.{fold, length, map}
+use Rattle.gx_lemmas.proofs.Numbers.{eqb-self}
 use Rattle.gx_ids.specs.declared.ids.Cid.{Cid}
 use Rattle.gx_ids.specs.declared.ids.Gxid.{Gxid}
 use Rattle.gx_ids.specs.declared.ids.Node.{Node}
@@ -34,9 +35,6 @@ pub record Wrote (s : Seg) (g : Gxid) (c : Cid) (table : Table) (rows : List Key
   pub answer : (turn.seg.locals g.0).answer ≡ Some (reply.Done c wrote (length rows) part)
   pub suspended : (turn.seg.locals g.0).suspended ≡ (s.locals g.0).suspended
   pub others : (h : ℕ) → eqb h g.0 ≡ false → turn.seg.locals h ≡ s.locals h
-
-self-test : (a : ℕ) → eqb a a ≡ true
-self-test a = grind (arith, nat_tests)
 
 module _ (g : Gxid) (c : Cid) (table : Table) where
   rows-node : (rows : List KeyedRow) (m : Moved) → (fold (inserts_row g c table) m rows).seg.node ≡ m.seg.node
@@ -76,9 +74,9 @@ rows-wrote b g c table rows =
       wrote = Rattle.gx_rules.specs.Slices.has_written (done.seg.locals g.0).phase;
       part = Rattle.gx_tree.specs.declared.part.Part.TheVariants.Rows [];
       outs = refl;
-      last = ap (λ q. (if q then after else done.seg.locals g.0).last) (self-test g.0);
-      answer = ap (λ q. (if q then after else done.seg.locals g.0).answer) (self-test g.0);
-      suspended = ap (λ q. (if q then after else done.seg.locals g.0).suspended) (self-test g.0) ∙ (rows-locals g c table rows m g.0).2;
+      last = ap (λ q. (if q then after else done.seg.locals g.0).last) (eqb-self g.0);
+      answer = ap (λ q. (if q then after else done.seg.locals g.0).answer) (eqb-self g.0);
+      suspended = ap (λ q. (if q then after else done.seg.locals g.0).suspended) (eqb-self g.0) ∙ (rows-locals g c table rows m g.0).2;
       others = λ h e. ap (λ q. if q then after else done.seg.locals h) e ∙ rows-others g c table rows m h e;
     }
   where

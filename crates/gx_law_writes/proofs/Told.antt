@@ -1,6 +1,8 @@
 -- What a segment has told of a command: that it ran, and, of an INSERT, that its rows are written.
 use Rattle.std.proofs.Common.{◌≡◌, ◌≤◌, ◌<◌, ℕ, List, [], ◌∷◌, ◌++◌, Option, Some, None, Bool, true, sym, subst, ◌∙◌, ◌||◌, arith, zero, suc}
 use Rattle.std.specs.Prelude.{length, slice_get, take}
+use Rattle.std.proofs.lemmas.Bool.{or_left}
+use Rattle.gx_lemmas.proofs.Options.{some-same}
 use Rattle.gx_ids.specs.declared.ids.Cid.{Cid}
 use Rattle.gx_ids.specs.declared.ids.Gxid.{Gxid}
 use Rattle.gx_ids.specs.declared.ids.Node.{Node}
@@ -75,11 +77,9 @@ abbrev pub StepTold : Script → List Mark → (ℕ → ℕ → Local) → Step 
 StepTold script ms locals s = 1 ≤ s.stamp.node.0 → Each (SentTold script ms locals s.stamp.node) s.marks
 
 -- MORE MARKS, AND LATER COMMANDS
-or-first : (a b : Bool) → a ≡ true → (a || b) ≡ true
-or-first a b e = grind arith
 
 pub written-more : (ms ns : List Mark) (rid : Rid) → is_own_written ms rid ≡ true → is_own_written (ms ++ ns) rid ≡ true
-written-more ms ns rid e = is_processed-append ms ns rid.gxid rid.cid rid ∙ or-first (is_own_written ms rid) (is_own_written ns rid) e
+written-more ms ns rid e = is_processed-append ms ns rid.gxid rid.cid rid ∙ or_left (is_own_written ms rid) (is_own_written ns rid) e
 
 done-more : (ms ns : List Mark) (s : Slice) (count : ℕ) → IsDoneSlice ms s count → IsDoneSlice (ms ++ ns) s count
 done-more ms ns (slice.Insert table rows) count d = (d.0, each_weaker (IsWritten ms) (IsWritten (ms ++ ns)) (λ r e. written-more ms ns r.rid e) rows d.1)
@@ -155,9 +155,6 @@ module _ (script : Script) (numbered : AreLinesNumbered [] script.lines) (ms ns 
 pub each-get : {A : Type 0} (P : A → Type 0) (xs : List A) (k : ℕ) (x : A) → Each P xs → slice_get xs k ≡ Some x → P x
 each-get P [] k x e f = absurd (cc)
 each-get P (y ∷ ys) zero x e f = subst P (some-same y x f) e.0
-  where
-    some-same : {A : Type 0} (a b : A) → Some a ≡ Some b → a ≡ b
-    some-same a b e = (cc)
 each-get P (y ∷ ys) (suc k) x e f = each-get P ys k x e.1 f
 
 pub take-get : {A : Type 0} (n : ℕ) (xs : List A) (k : ℕ) (x : A) → slice_get (take n xs) k ≡ Some x → slice_get xs k ≡ Some x

@@ -4,6 +4,7 @@ use Rattle.std.proofs.Common.{◌≡◌, ◌≤◌, ◌<◌, ◌⊎◌, inl, inr
 use Rattle.std.proofs.lemmas.Bool.{eqb-true}
 use Rattle.std.proofs.lemmas.Bool.Decides.{nat_tests}
 use Rattle.std.specs.Prelude.{is_some, length, nat_le, nat_lt}
+use Rattle.gx_lemmas.proofs.Numbers.{lt-of}
 use Rattle.gx_ids.specs.declared.ids.Cid.{Cid}
 use Rattle.gx_ids.specs.declared.ids.Gxid.{Gxid}
 use Rattle.gx_ids.specs.declared.ids.Table.{Table}
@@ -307,14 +308,11 @@ module _ (s : Seg) where
     start None (slice.Delete t d) None e = inl (lies [] s.locks tt)
     start None (slice.Lock t m) None e = inl (lies [] s.locks tt)
 
-  below-is : (a b : ℕ) → nat_lt a b ≡ true → a < b
-  below-is a b e = grind (arith, nat_tests)
-
   take : (g : Gxid) (c : Cid) (level : Level) (x : Option Snapshot) (h : Gxid) (y : Slice) → is_open (s.locals g.0).phase ≡ true → (nat_lt (s.locals g.0).last c.0 ≡ true → (s.locals g.0).suspended ≡ None) → Turns s (message.Exec g c level x h y) (takes s g c level x h y (s.locals g.0))
   take g c level x h y o alone = by_test (nat_lt (s.locals g.0).last c.0) refl
     where
       by_test : (b : Bool) → nat_lt (s.locals g.0).last c.0 ≡ b → Turns s (message.Exec g c level x h y) (if b then starts_slice (raised s h) g c level x y else repeats s g c (s.locals g.0))
-      by_test true e = start g c level h (below-is _ _ e) (alone e) o x y (slice_lock g y) refl
+      by_test true e = start g c level h (lt-of _ _ e) (alone e) o x y (slice_lock g y) refl
       by_test false e = inl (repeat g c)
 
   exec : (g : Gxid) (c : Cid) (level : Level) (x : Option Snapshot) (h : Gxid) (y : Slice) (p : Phase) → (s.locals g.0).phase ≡ p → (nat_lt (s.locals g.0).last c.0 ≡ true → (s.locals g.0).suspended ≡ None) → Turns s (message.Exec g c level x h y) (on_exec s g c level x h y (s.locals g.0) p)

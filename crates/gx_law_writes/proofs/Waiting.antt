@@ -1,5 +1,6 @@
 -- Slices that wait: the ways of a segment's turn, and that a command that has still to run there isn't answered there.
 use Rattle.std.proofs.Common.{◌≡◌, ◌≤◌, ◌<◌, ℕ, List, [], Some, Bool, arith}
+use Rattle.gx_lemmas.proofs.Numbers.{lt-le}
 use Rattle.gx_ids.specs.declared.ids.Cid.{Cid}
 use Rattle.gx_ids.specs.declared.ids.Gxid.{Gxid}
 use Rattle.gx_ids.specs.declared.ids.Node.{Node}
@@ -35,15 +36,12 @@ module _ (script : Script) (some : 1 ≤ script.segments) (numbered : AreLinesNu
   told-below c to number wrote count part sent =
       (sending-told script (marks_in (world_of script es).steps) (locals_in (world_of script es).segs) (world_of script es).steps sent.step sent.mark node to number (message.Answer g (reply.Done c wrote count part)) one (world-holds script some numbered es).told sent.sending).0
 
-  beyond : (a b : ℕ) → a < b → b ≤ a → ⊥
-  beyond a b x y = omega arith
-
   -- what is new there isn't answered there
   pub new-untold : (c : Cid) (to : Node) (number : ℕ) (wrote : Bool) (count : ℕ) (part : Part) → (local_of ((world_of script es).segs node.0) g).last < c.0 → IsSent (world_of script es).steps node to number (message.Answer g (reply.Done c wrote count part)) → ⊥
-  new-untold c to number wrote count part fresh sent = beyond _ _ fresh (below-next (local_of ((world_of script es).segs node.0) g) c.0 (told-below c to number wrote count part sent))
+  new-untold c to number wrote count part fresh sent = lt-le _ _ fresh (below-next (local_of ((world_of script es).segs node.0) g) c.0 (told-below c to number wrote count part sent))
 
   -- nor is what waits there
   pub waits-untold : (x : Suspended) (to : Node) (number : ℕ) (wrote : Bool) (count : ℕ) (part : Part) → (local_of ((world_of script es).segs node.0) g).suspended ≡ Some x → IsSent (world_of script es).steps node to number (message.Answer g (reply.Done x.cid wrote count part)) → ⊥
   waits-untold x to number wrote count part e sent =
-      beyond _ _ (told-below x.cid to number wrote count part sent)
+      lt-le _ _ (told-below x.cid to number wrote count part sent)
       (waits-next (local_of ((world_of script es).segs node.0) g) x e (waiting script (world_of script es) (world_well script some es) node.0 g x e).last)

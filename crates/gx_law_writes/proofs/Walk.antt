@@ -1,8 +1,9 @@
 -- What each event does to the commands under way, and which of them it answers.
 use Rattle.std.proofs.Common.{◌≡◌, ◌⊎◌, inl, inr, ℕ, ◌+◌, List, [], ◌∷◌, ◌++◌, Option, Some, None, Result, Ok, Err, Bool, true, false, refl, sym, subst, ap, ◌∙◌, if◌then◌else◌, ◌==◌, ◌&&◌, ◌||◌, arith, eqb, append-nil}
-use Rattle.std.proofs.lemmas.Bool.{eqb-true}
+use Rattle.std.proofs.lemmas.Bool.{and_from, and_parts, eqb-true, or_left, or_right}
 use Rattle.std.proofs.lemmas.Bool.Decides.{nat_tests}
 use Rattle.std.proofs.lemmas.List.{append_assoc}
+use Rattle.gx_lemmas.proofs.Numbers.{eqb-self}
 use Rattle.gx_ids.specs.declared.ids.Cid.{Cid}
 use Rattle.gx_ids.specs.declared.ids.Gxid.{Gxid}
 use Rattle.gx_ids.specs.declared.ids.Node.{Node}
@@ -73,13 +74,6 @@ abbrev pub Still : Mark → Type 0
 Still (mark.Start g s) = ⊥
 Still (mark.Answer s n a) = ⊥
 Still _ = Unit {0}
-
-self-test : (a : ℕ) → eqb a a ≡ true
-self-test a = grind (arith, nat_tests)
-
-both_of : (a b : Bool) → (a && b) ≡ true → (a ≡ true) × (b ≡ true)
-both_of true b e = (refl, e)
-both_of false b e = grind arith
 
 module _ (script : Script) (c : Coord) (x : NodeEvent) where
   -- the event is the segment's answer to the command, which is awaited
@@ -217,7 +211,7 @@ module _ (script : Script) (c : Coord) (x : NodeEvent) where
     with-others w h e = ap (λ b. if b then w else c1.works h) e ∙ others h e
 
     with-here : (w : Work) → with_at c1.works g w g ≡ w
-    with-here w = ap (λ b. if b then w else c1.works g) (self-test g)
+    with-here w = ap (λ b. if b then w else c1.works g) (eqb-self g)
 
     -- an answer to a command
     by-answer : (before : List Mark) (s : SessionId) (a : StmtAnswer) → (is_success a ≡ true → Completes s a × Each Still before) → AnswerOk before s a
@@ -287,19 +281,13 @@ module _ (script : Script) (c : Coord) (x : NodeEvent) where
       pub marks : Each NoAnswer r.marks
       pub read : (t : Table) (tuples : List (List Expr)) → line ≡ stmt.Insert t tuples → ((has_snapshot r.marks (gx g) ≡ true) × (is_snapped r.marks (gx g) cid ≡ true)) ⊎ ((y : Snapshot) × ((c1.works g).snapshot ≡ Some y))
 
-    or-left : (a b : Bool) → a ≡ true → (a || b) ≡ true
-    or-left a b e = grind arith
-
-    and-both : (a b : Bool) → a ≡ true → b ≡ true → (a && b) ≡ true
-    and-both a b e f = grind arith
-
     reads-new : (cid : Cid) (line : Stmt) → Reads cid line (takes_snapshot c1 (gx g) cid (c1.works g))
     reads-new cid line =
         record {
           works = λ h e. with-others _ h e;
           level = ap (λ (w : Work). w.level) (with-here (record (c1.works g) { snapshot = kept_at (c1.works g).level (snapshot_of c1.table) }));
           marks = (tt, tt);
-          read = λ t tuples e. inl (or-left _ _ (self-test g), or-left _ _ (and-both _ _ (self-test g) (self-test cid.0)));
+          read = λ t tuples e. inl (or_left _ _ (eqb-self g), or_left _ _ (and_from _ _ (eqb-self g) (eqb-self cid.0)));
         }
 
     reads-old : (cid : Cid) (line : Stmt) (o : Option Snapshot) → (c1.works g).snapshot ≡ o → Reads cid line (reads_by c1 (gx g) cid (c1.works g) o)
@@ -333,16 +321,10 @@ module _ (script : Script) (c : Coord) (x : NodeEvent) where
     fault-none it h cid (stmt.Lock t m) = tt
 
     has-more : (ns ms : List Mark) (g : Gxid) → has_snapshot ms g ≡ true → has_snapshot (ns ++ ms) g ≡ true
-    has-more ns ms g e = Rattle.gx_store.proofs.Marks.has_snapshot-append ns ms g ∙ or-right (has_snapshot ns g) (has_snapshot ms g) e
-      where
-        or-right : (a b : Bool) → b ≡ true → (a || b) ≡ true
-        or-right a b e = grind arith
+    has-more ns ms g e = Rattle.gx_store.proofs.Marks.has_snapshot-append ns ms g ∙ or_right (has_snapshot ns g) (has_snapshot ms g) e
 
     snapped-more : (ns ms : List Mark) (g : Gxid) (cid : Cid) → is_snapped ms g cid ≡ true → is_snapped (ns ++ ms) g cid ≡ true
-    snapped-more ns ms g cid e = Rattle.gx_store.proofs.Marks.is_snapped-append ns ms g cid ∙ or-right (is_snapped ns g cid) (is_snapped ms g cid) e
-      where
-        or-right : (a b : Bool) → b ≡ true → (a || b) ≡ true
-        or-right a b e = grind arith
+    snapped-more ns ms g cid e = Rattle.gx_store.proofs.Marks.is_snapped-append ns ms g cid ∙ or_right (is_snapped ns g cid) (is_snapped ms g cid) e
 
     some-none : (y : Snapshot) → None ≡ Some y → ⊥
     some-none y e = cc
@@ -358,7 +340,7 @@ module _ (script : Script) (c : Coord) (x : NodeEvent) where
         after = record (r.coord.works g) { last = cid.0; command = Some (record { stmt = line; cid = cid; orders = orders_of (gx g) cid (r.coord.works g).level r.snapshot (horizon_of r.coord.table) pieces; awaited = nodes_in pieces; count = 0; parts = [] }) }
 
         here : (goes_out (gx g) cid line pieces r).coord.works g ≡ after
-        here = ap (λ b. if b then after else r.coord.works g) (self-test g)
+        here = ap (λ b. if b then after else r.coord.works g) (eqb-self g)
 
         by_read : Base c1 g → ((has_snapshot r.marks (gx g) ≡ true) × (is_snapped r.marks (gx g) cid ≡ true)) ⊎ ((y : Snapshot) × ((c1.works g).snapshot ≡ Some y)) → ((has_snapshot (earlier ++ r.marks) (gx g) ≡ true) × (is_snapped (earlier ++ r.marks) (gx g) cid ≡ true)) ⊎ ((stage_of c g ≡ LiveStage) × ((y : Snapshot) × ((c.works g).snapshot ≡ Some y)) × (((goes_out (gx g) cid line pieces r).coord.works g).level ≡ (c.works g).level))
         by_read b (inl z) = inl (has-more earlier r.marks (gx g) z.0, snapped-more earlier r.marks (gx g) cid z.1)
@@ -383,7 +365,7 @@ module _ (script : Script) (c : Coord) (x : NodeEvent) where
         refused-walk-at : (d : Coord) → ((h : ℕ) → eqb h g ≡ false → d.works h ≡ c.works h) → (turn : Turn) (why : List Mark) (reason : Refused) → Each NoAnswer why → Walk earlier (is_refused d (gx g) turn why reason)
         refused-walk-at d away turn why reason n =
             record {
-              works = one-goes _ (earlier ++ (is_refused d (gx g) turn why reason).marks) g (λ h q. ap (λ b. if b then no_work else d.works h) q ∙ away h q) (inr (inl (ap (λ (w : Work). w.command) (ap (λ b. if b then no_work else d.works g) (self-test g)))));
+              works = one-goes _ (earlier ++ (is_refused d (gx g) turn why reason).marks) g (λ h q. ap (λ b. if b then no_work else d.works h) q ∙ away h q) (inr (inl (ap (λ (w : Work). w.command) (ap (λ b. if b then no_work else d.works g) (eqb-self g)))));
               answers = ok-append earlier why _ (none-ok earlier why n) (tt, (tt, none-ok _ _ (back-none d.locks (gx g))));
             }
 
@@ -444,7 +426,7 @@ module _ (script : Script) (c : Coord) (x : NodeEvent) where
     out-others h e = ap (λ b. if b then out else c.works h) e
 
     out-here : unlocked.works g.0 ≡ out
-    out-here = ap (λ b. if b then out else c.works g.0) (self-test g.0)
+    out-here = ap (λ b. if b then out else c.works g.0) (eqb-self g.0)
 
     out-base : Base unlocked g.0
     out-base = inl (record { live = o.live; command = ap (λ (w : Work). w.command) out-here; level = ap (λ (w : Work). w.level) out-here; snapshot = ap (λ (w : Work). w.snapshot) out-here })
@@ -473,7 +455,7 @@ module _ (script : Script) (c : Coord) (x : NodeEvent) where
       others1 h e = ap (λ b. if b then w1 else c.works h) e
 
       work-now : c1.works g ≡ w1
-      work-now = ap (λ q. if q then w1 else c.works g) (self-test g)
+      work-now = ap (λ q. if q then w1 else c.works g) (eqb-self g)
 
       took : (ns : List Mark) → Goes g ns (c.works g) (c1.works g)
       took ns = inr (inr (inl (record { m = m; i = i; count = count; part = part; has_it = has_it; now = ap (λ (w : Work). w.command) work-now; by = by; level = ap (λ (w : Work). w.level) work-now })))
@@ -518,7 +500,7 @@ module _ (script : Script) (c : Coord) (x : NodeEvent) where
       where
         by_test : (b : Bool) → (is_awaited m i cid && fits_part m.stmt part) ≡ b → Walk [] (if b then takes_done c (gx g) i wrote count part m else rests c)
         by_test true f =
-            let y = both_of _ _ (both_of _ _ f).0 in
+            let y = and_parts _ _ (and_parts _ _ f).0 in
             done-walk g m e i wrote count part (record { envelope = envelope; is = is; cid = cid; wrote = wrote; part = part; told = told; number = eqb-true m.cid.0 cid.0 y.0; awaited = y.1 })
         by_test false f = rest-walk
 
@@ -594,7 +576,7 @@ module _ (script : Script) (c : Coord) (x : NodeEvent) where
       moved asked = record (session_of c s) { lines = (session_of c s).lines + 1; state = after_line block asked }
 
       transaction-now : (asked : LineStep) → (session_of (starts_line c s asked) s).transaction ≡ (session_of c s).transaction
-      transaction-now asked = ap (λ q. (if q then moved asked else session_of c s).transaction) (self-test s.0)
+      transaction-now asked = ap (λ q. (if q then moved asked else session_of c s).transaction) (eqb-self s.0)
 
       own-live : is_open_in block ≡ true → stage_of c (session_of c s).transaction.0 ≡ LiveStage
       own-live opened = (k.placed s.0).free opened idle
@@ -614,7 +596,7 @@ module _ (script : Script) (c : Coord) (x : NodeEvent) where
           home = ((k.placed s.0).stands opened).1
 
           commit-pending : (session_of (starts_line c s step.CommitBlock) (c.works (session_of c s).transaction.0).session).state.pending ≡ pending.Commit
-          commit-pending = ap (λ j. (with_at c.sessions s.0 (moved step.CommitBlock) j).state.pending) home ∙ ap (λ q. (if q then moved step.CommitBlock else session_of c s).state.pending) (self-test s.0)
+          commit-pending = ap (λ j. (with_at c.sessions s.0 (moved step.CommitBlock) j).state.pending) home ∙ ap (λ q. (if q then moved step.CommitBlock else session_of c s).state.pending) (eqb-self s.0)
 
           differ : pending.Commit ≡ pending.Command → ⊥
           differ z = cc
@@ -632,7 +614,7 @@ module _ (script : Script) (c : Coord) (x : NodeEvent) where
       begun-others asked level h e = ap (λ b. if b then new_work s level else c.works h) e
 
       begun-here : (asked : LineStep) (level : Level) → (begins (starts_line c s asked) s level).works c.table.next.0 ≡ new_work s level
-      begun-here asked level = ap (λ b. if b then new_work s level else c.works c.table.next.0) (self-test c.table.next.0)
+      begun-here asked level = ap (λ b. if b then new_work s level else c.works c.table.next.0) (eqb-self c.table.next.0)
 
       behind-walk : (turn : CoordTurn) → Walk (mark.Start c.table.next s ∷ []) turn → Walk [] (behind (mark.Start c.table.next s ∷ []) turn)
       behind-walk turn y = record { works = y.works; answers = (tt, y.answers) }
@@ -674,7 +656,7 @@ module _ (script : Script) (c : Coord) (x : NodeEvent) where
     end-walk s Outside = rest-walk
 
     idle-first : (s : SessionId) (b : Bool) → (is_idle (session_of c s) && b) ≡ true → is_nothing_in (session_of c s).state.pending ≡ true
-    idle-first s b e = by_pending (session_of c s).state.pending (both_of _ _ e).0
+    idle-first s b e = by_pending (session_of c s).state.pending (and_parts _ _ e).0
       where
         by_pending : (q : Pending) → is_nothing q ≡ true → is_nothing_in q ≡ true
         by_pending q e = grind arith

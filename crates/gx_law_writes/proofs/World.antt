@@ -4,6 +4,7 @@ use Rattle.std.proofs.lemmas.Bool.{eqb-true}
 use Rattle.std.proofs.lemmas.Bool.Decides.{nat_tests}
 use Rattle.std.proofs.lemmas.List.{append_assoc}
 use Rattle.std.specs.Prelude.{length}
+use Rattle.gx_lemmas.proofs.Numbers.{eqb-self, one-le-none}
 use Rattle.gx_ids.specs.declared.ids.Cid.{Cid}
 use Rattle.gx_ids.specs.declared.ids.Gxid.{Gxid}
 use Rattle.gx_ids.specs.declared.ids.Node.{Node}
@@ -152,10 +153,7 @@ module _ (script : Script) (numbered_lines : AreLinesNumbered [] script.lines) (
 
 -- A STEP OF THE COORDINATOR
 none-here : (script : Script) → IsSegment script the_coordinator → ⊥
-none-here script e = zero-one e.0
-  where
-    zero-one : 1 ≤ 0 → ⊥
-    zero-one l = omega arith
+none-here script e = one-le-none e.0
 
 here-no-write : (script : Script) (ms : List Mark) → Each (IsAtNode script the_coordinator) ms → Each NoWrite ms
 here-no-write script [] e = tt
@@ -170,16 +168,13 @@ no-write-past nexts m e = tt
 le-same : (a : ℕ) → a ≤ a
 le-same a = omega arith
 
-zero-one : 1 ≤ 0 → ⊥
-zero-one l = omega arith
-
 module _ (script : Script) (some : 1 ≤ script.segments) (numbered_lines : AreLinesNumbered [] script.lines) where
   pub coord-holds : (w : World) → Well script w → Holds script w.segs w.steps → (e : Event) (x : NodeEvent) (fails : Bool) → Holds script w.segs (coord_did w e (coord_rule script w.coord x fails)).steps
   coord-holds w n h e x fails =
       one-more script numbered_lines w.segs w.segs w.steps step (λ i g. le-same (nexts_in w.segs i g)) h
       (each_weaker NoWrite (IsPlacedMark script (marks_in w.steps)) (λ m k. no-write-placed script (marks_in w.steps) m k) step.marks none)
       (each_weaker NoWrite (IsPastMark (nexts_in w.segs)) (λ m k. no-write-past (nexts_in w.segs) m k) step.marks none)
-      (λ one. absurd (zero-one one))
+      (λ one. absurd (one-le-none one))
       (λ i g. answer-more script numbered_lines (marks_in w.steps) step.marks _ _ (at i) (gx g) ((w.segs i).locals g).answer (le-same (nexts_in w.segs i g)) (h.kept i g))
       (no-writes-legal script w.steps e [] step.marks [] none)
     where
@@ -269,9 +264,6 @@ module _ (script : Script) (some : 1 ≤ script.segments) (numbered_lines : AreL
         quiet : Each NoWrite (numbered (λ node. turn.seg.sent) turn.outs)
         quiet = sent-no-write (λ node. turn.seg.sent) turn.outs
 
-        self-test : (a : ℕ) → eqb a a ≡ true
-        self-test a = grind (arith, nat_tests)
-
         late-nexts : Move script ms w.steps e (at i) s turn → (j g : ℕ) → nexts_in w.segs j g ≤ nexts_in next j g
         late-nexts v j g = by_test (eqb j i) refl
           where
@@ -280,7 +272,7 @@ module _ (script : Script) (some : 1 ≤ script.segments) (numbered_lines : AreL
             by_test false q = le-same (next_command ((w.segs j).locals g))
 
         next-here : (g : ℕ) → nexts_in next i g ≡ next_command (turn.seg.locals g)
-        next-here g = ap (λ q. next_command ((if q then (seg_rule script (w.segs i) x fails).seg else w.segs i).locals g)) (self-test i)
+        next-here g = ap (λ q. next_command ((if q then (seg_rule script (w.segs i) x fails).seg else w.segs i).locals g)) (eqb-self i)
 
         past-one : (m : Mark) → IsPastHere (λ g. next_command (turn.seg.locals g)) (at i) m → IsPastMark (nexts_in next) m
         past-one (mark.Write g c n t r x) p = subst (λ (a : Node). c.0 < nexts_in next a.0 g.0) (sym p.0) (subst (λ a. c.0 < a) (sym (next-here g.0)) p.1)

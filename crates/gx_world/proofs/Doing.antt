@@ -1,6 +1,7 @@
 -- An event that its own run admits is done by a network.
 use Rattle.std.proofs.Common.{◌≡◌, ◌<◌, ◌≤◌, ◌^◌, List, [], ◌∷◌, ◌++◌, Some, Bool, true, false, refl, sym, subst, ap, ◌∙◌, length, cond, arith}
 use Rattle.std.specs.Prelude.{◌&&◌}
+use Rattle.gx_lemmas.proofs.Lists.{length-set}
 use Rattle.gx_ids.specs.declared.ids.Node.{Node}
 use Rattle.gx_outside.specs.Shelves.{Shelf}
 use Rattle.gx_script.specs.declared.Script.{Script}
@@ -30,7 +31,6 @@ use Rattle.gx_world.specs.Worlds.{HasTaken}
 use Rattle.gx_world.proofs.Alike.{AreAlike, does-alike, does-steps, replayed-alike, stands-alike, step-event, step_of, turned-round}
 use Rattle.gx_world.proofs.Events.{admitted-here, few-here, happens-here, heard-within, next-here, taken}
 use Rattle.gx_world.proofs.Room.{below, network-room}
-use Rattle.gx_world.proofs.Segs.{length-set}
 
 -- where the machine stands is told by the network's own run
 own-run : (script : Script) (steps : List Step) (new : Network) → script ≡ new.script.value → steps ≡ new.run.steps → Stands script (world_behind script steps) new → Stands new.script.value (world_behind new.script.value new.run.steps) new

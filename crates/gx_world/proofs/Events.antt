@@ -3,6 +3,7 @@ use Rattle.std.proofs.Common.{◌≡◌, ◌≤◌, ◌⊎◌, inl, inr, ℕ, Li
 use Rattle.std.proofs.lemmas.Bool.Decides.{nat_tests}
 use Rattle.std.proofs.lemmas.List.{append_assoc}
 use Rattle.std.specs.Prelude.{map, slice_get}
+use Rattle.gx_lemmas.proofs.Options.{some-same}
 use Rattle.gx_ids.specs.declared.ids.Node.{Node}
 use Rattle.gx_msg.specs.ItemBytes.{bytes_of_item}
 use Rattle.gx_msg.specs.declared.item.JournalItem.{JournalItem}
@@ -30,7 +31,7 @@ use Rattle.gx_world.specs.declared.network.Network.{Network}
 use Rattle.gx_world.specs.Networks.{HasMoved}
 use Rattle.gx_world.specs.Turns.{IsNext}
 use Rattle.gx_world.specs.Worlds.{HasTaken}
-use Rattle.gx_world.proofs.Segs.{get-set, some-same}
+use Rattle.gx_world.proofs.Segs.{get-set}
 use Rattle.gx_rules.specs.AtCoordinator.{coord_can}
 
 -- the last of ordered steps

@@ -9,6 +9,8 @@ use Rattle.std.specs.Option.{option_or}
 use Rattle.std.specs.Ordering.{is_eq}
 use Rattle.std.specs.declared.alloc.Global.{Global}
 use Rattle.std.specs.declared.vec.Vec.{Vec}
+use Rattle.gx_lemmas.proofs.Options.{option_or-none}
+use Rattle.gx_lemmas.proofs.Numbers.{plus-none}
 use Rattle.gx_ids.specs.declared.ids.Node.{Node}
 use Rattle.gx_ids.specs.declared.ids.Table.{Table}
 use Rattle.gx_ids.specs.declared.rid.Rid.{Rid}
@@ -37,7 +39,7 @@ use Rattle.gx_law_runs.specs.Replays.{AreReplayed, coordinator_after, segment_af
 use Rattle.gx_law_runs.proofs.Reaching.{by-events, replayed}
 use Rattle.gx_segment.specs.Steps.{nobody, no_command}
 use Rattle.gx_world.specs.Tables.{entry_row, last_at, shown_by}
-use Rattle.gx_world.proofs.Shows.{last_at-append, last_at-rising, or-none, shown-elsewhere, shown-past, shown-rising, shown-to-all}
+use Rattle.gx_world.proofs.Shows.{last_at-append, last_at-rising, shown-elsewhere, shown-past, shown-rising, shown-to-all}
 
 positive : (n : ℕ) → 1 ≤ n + 1
 positive n = omega arith
@@ -73,7 +75,7 @@ module _ (script : Script) (steps : List Step) (x : Snapshot) (table : Table) (q
       by_last : (b : Bool) → eqb k (n + 1) ≡ b → (k ≤ n → last_at (shown_by script steps x table n) q ≡ last_at (part k) q) → option_or (last_at (part (n + 1)) q) (last_at (shown_by script steps x table n) q) ≡ last_at (part k) q
       by_last true e before =
           ap (option_or (last_at (part (n + 1)) q)) (all-none n (λ i first l. h i first (not-later i (eqb-true k (n + 1) e) l)))
-          ∙ or-none (last_at (part (n + 1)) q) ∙ ap (λ i. last_at (part i) q) (sym (eqb-true k (n + 1) e))
+          ∙ option_or-none (last_at (part (n + 1)) q) ∙ ap (λ i. last_at (part i) q) (sym (eqb-true k (n + 1) e))
       by_last false e before = ap (λ o. option_or o (last_at (shown_by script steps x table n) q)) (h (n + 1) (positive n) (differ e)) ∙ before (earlier e)
 
   pub one-more : (n : ℕ) → option_or (last_at (part (n + 1)) q) (last_at (shown_by script steps x table n) q) ≡ last_at (shown_by script steps x table (n + 1)) q
@@ -149,10 +151,7 @@ module _ (script : Script) (some : 1 ≤ script.segments) (steps : List Step) (i
 
 -- one table more
 pub tables-more : (w : machine.World) (k n : ℕ) (ts : List (Vec KeyedRow Global)) (rows : Vec KeyedRow Global) → AreRowsOfAll k w ts → n ≡ k + length ts → AreRowsOf w (record { 0 = n }) rows.items → AreRowsOfAll k w (ts ++ rows ∷ [])
-tables-more w k n [] rows all e more = (subst (λ i. AreRowsOf w (record { 0 = i }) rows.items) (e ∙ none k) more, tt)
-  where
-    none : (a : ℕ) → a + 0 ≡ a
-    none a = omega arith
+tables-more w k n [] rows all e more = (subst (λ i. AreRowsOf w (record { 0 = i }) rows.items) (e ∙ plus-none k) more, tt)
 tables-more w k n (t ∷ ts) rows all e more = (all.0, tables-more w (k + 1) n ts rows all.1 (e ∙ next k (length ts)) more)
   where
     next : (a b : ℕ) → a + suc b ≡ a + 1 + b

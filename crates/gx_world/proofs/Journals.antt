@@ -1,6 +1,8 @@
 -- One journal of a list changes.
 use Rattle.std.proofs.Common.{◌≡◌, ◌<◌, ◌≤◌, ◌⊎◌, ℕ, zero, suc, List, [], ◌∷◌, Some, inl, inr, refl, sym, ap, ◌∙◌, subst, arith, length, get_or}
 use Rattle.std.specs.Prelude.{map, slice_get, slice_set}
+use Rattle.gx_lemmas.proofs.Options.{some-same}
+use Rattle.gx_lemmas.proofs.Lists.{length-set}
 use Rattle.gx_ids.specs.declared.ids.Node.{Node}
 use Rattle.gx_outside.specs.Shelves.{Shelf, IsLater}
 use Rattle.gx_script.specs.declared.Script.{Script}
@@ -11,7 +13,7 @@ use Rattle.gx_rules.specs.Machine as machine
 use Rattle.gx_world.specs.declared.network.Network.{Network}
 use Rattle.gx_world.specs.Networks.{HasMoved, HasTurned}
 use Rattle.gx_world.specs.Worlds.{AreLater}
-use Rattle.gx_world.proofs.Segs.{get-set, some-same}
+use Rattle.gx_world.proofs.Segs.{get-set}
 
 get-map : {A B : Type 0} (f : A → B) (xs : List A) (k : ℕ) (x : A) → slice_get xs k ≡ Some x → slice_get (map f xs) k ≡ Some (f x)
 get-map f [] k x e = absurd (cc)
@@ -57,11 +59,6 @@ later-same shelves = record { count = refl; each = λ k b a was now. same b a (s
   where
     same : (b a : Shelf) → a ≡ b → IsLater b a
     same b a e = subst (λ (x : Shelf). b.faults ≤ x.faults) (sym e) (omega arith)
-
-length-set : {A : Type 0} (xs : List A) (k : ℕ) (x : A) → length (slice_set xs k x) ≡ length xs
-length-set [] k x = refl
-length-set (y ∷ xs) zero x = refl
-length-set (y ∷ xs) (suc k) x = ap suc (length-set xs k x)
 
 later-set : (shelves : List Shelf) (k : ℕ) (was now : Shelf) → slice_get shelves k ≡ Some was → IsLater was now → AreLater shelves (slice_set shelves k now)
 later-set shelves k was now there h = record { count = length-set shelves k now; each = λ i b a old new. by_place i b a old (get-set shelves k i now a new) }

@@ -4,6 +4,9 @@ use Rattle.std.proofs.lemmas.Bool.{eqb-true}
 use Rattle.std.proofs.lemmas.Bool.Decides.{nat_tests}
 use Rattle.std.proofs.lemmas.List.{append_assoc}
 use Rattle.std.specs.Prelude.{slice_get}
+use Rattle.gx_lemmas.proofs.Numbers.{plus-none}
+use Rattle.gx_lemmas.proofs.Options.{some-same}
+use Rattle.gx_lemmas.proofs.Lists.{length-push}
 use Rattle.gx_ids.specs.declared.ids.Node.{Node}
 use Rattle.gx_msg.specs.declared.message.Envelope.{Envelope}
 use Rattle.gx_msg.specs.declared.message.Message.{Message}
@@ -35,10 +38,6 @@ get-push (y ∷ xs) x (suc k) = get-push xs x k ∙ ap (λ (b : Bool). if b then
     both : (i j : ℕ) → eqb i j ≡ eqb (suc i) (suc j)
     both i j = grind (arith, nat_tests)
 
-pub length-push : {A : Type 0} (xs : List A) (x : A) → length (xs ++ x ∷ []) ≡ length xs + 1
-length-push [] x = refl
-length-push (y ∷ xs) x = grind (arith, length-push xs x)
-
 pub length-both : {A : Type 0} (xs ys : List A) → length (xs ++ ys) ≡ length xs + length ys
 length-both [] ys = grind arith
 length-both (y ∷ xs) ys = grind (arith, length-both xs ys)
@@ -63,9 +62,6 @@ pub places-count : (step k : ℕ) (to : Node) (ms : List Mark) → length (place
 places-count step k to [] = refl
 places-count step k to (mark.Sent t n told ∷ ms) = grind (arith, nat_tests, places-count step (k + 1) to ms)
 places-count step k to (m ∷ ms) = places-count step (k + 1) to ms
-
-some-same : {A : Type 0} (a b : A) → Some a ≡ Some b → a ≡ b
-some-same a b e = (cc)
 
 pub places-step : (step k : ℕ) (to : Node) (ms : List Mark) (j : ℕ) (p : Place) → slice_get (places_from step k to ms) j ≡ Some p → p.step ≡ step
 places-step step k to [] j p e = absurd (cc)
@@ -157,6 +153,3 @@ module _ (node to : Node) (steps all : List Step) (s : Step) (last : slice_get a
     where
       nothing-more : (x : Mark) → x ≡ m → sent_count to (earlier ++ m ∷ []) ≡ sent_count to earlier
       nothing-more x same = sent_count-append to earlier (m ∷ []) ∙ plus-none (sent_count to earlier)
-        where
-          plus-none : (a : ℕ) → a + 0 ≡ a
-          plus-none a = omega arith

@@ -4,6 +4,7 @@ use Rattle.std.proofs.lemmas.Bool.Decides.{nat_tests}
 use Rattle.std.proofs.Math.Seq.{take-suc}
 use Rattle.std.proofs.lemmas.List.{append_assoc, length-take-le}
 use Rattle.std.specs.Prelude.{length, take}
+use Rattle.gx_lemmas.proofs.Numbers.{none-plus}
 use Rattle.gx_ids.specs.declared.ids.Node.{Node}
 use Rattle.gx_store.specs.declared.mark.Mark.{Mark}
 use Rattle.gx_store.specs.declared.mark.Mark.TheVariants.{Sent}
@@ -20,13 +21,10 @@ places-next step t ms k m inside is =
     ∙ ap (places_from step 0 t) (take-suc ms k m inside)
     ∙ places_from-append step 0 t (take k ms) (get_or ms k m ∷ [])
     ∙ ap (λ x. places_from step 0 t (take k ms) ++ places_from step (0 + length (take k ms)) t (x ∷ [])) (sym is)
-    ∙ ap (λ n. places_from step 0 t (take k ms) ++ places_from step n t (m ∷ [])) (zero-add _ ∙ length-take-le k ms (lt-le inside))
+    ∙ ap (λ n. places_from step 0 t (take k ms) ++ places_from step n t (m ∷ [])) (none-plus _ ∙ length-take-le k ms (lt-le inside))
   where
     add-one : (n : ℕ) → n + 1 ≡ suc n
     add-one n = grind arith
-
-    zero-add : (n : ℕ) → 0 + n ≡ n
-    zero-add n = grind arith
 
     lt-le : {a b : ℕ} → a < b → a ≤ b
     lt-le x = omega arith

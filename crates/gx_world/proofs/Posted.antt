@@ -2,6 +2,8 @@
 use Rattle.std.proofs.Common.{◌≡◌, ◌<◌, ⊎_elim, ℕ, zero, suc, ◌+◌, List, [], ◌∷◌, ◌++◌, Option, Some, None, Bool, true, false, refl, sym, subst, ap, ◌∙◌, if◌then◌else◌, ◌&&◌, arith, length, append-nil}
 use Rattle.std.proofs.lemmas.Bool.Decides.{nat_tests}
 use Rattle.std.specs.Prelude.{slice_get, ◌==◌}
+use Rattle.gx_lemmas.proofs.Lists.{length-push}
+use Rattle.gx_lemmas.proofs.Numbers.{same-plus-none}
 use Rattle.gx_ids.specs.declared.ids.Node.{Node}
 use Rattle.gx_store.specs.declared.mark.Mark.{Mark}
 use Rattle.gx_store.specs.declared.mark.Mark.TheVariants as mark
@@ -16,7 +18,7 @@ use Rattle.gx_law_order.proofs.Letters.{same_node}
 use Rattle.gx_law_order.proofs.Lists.{get_last}
 use Rattle.gx_law_order.proofs.Sent.{sent_in-last}
 use Rattle.gx_world.specs.Networks.{ArePlaced}
-use Rattle.gx_world.proofs.Links.{IsIn, get-either, get-kept, length-both, length-push, own-link, places-count, places-step}
+use Rattle.gx_world.proofs.Links.{IsIn, get-either, get-kept, length-both, own-link, places-count, places-step}
 
 -- another node's links have nothing new
 found-other : (from to : Node) (n : ℕ) (node : Node) (clock : ℕ) (ms : List Mark) (sent : List Letter) → is_same_node node from ≡ false → found from to n (posted node clock ms sent) ≡ found from to n sent
@@ -47,10 +49,7 @@ module _ (steps : List Step) (sent : List Letter) (s : Step) (old new : Letters)
       by_place (Some p) e = ap (sent_in_step (suc m) p.mark) (get-kept steps (s ∷ []) p.step (placed f t m p e))
 
   own-count : (t : Node) → length (link_in old s.stamp.node t) ≡ sent_in s.stamp.node t steps + 0
-  own-count t = were.count s.stamp.node t ∙ plus-none (sent_in s.stamp.node t steps)
-    where
-      plus-none : (a : ℕ) → a ≡ a + 0
-      plus-none a = omega arith
+  own-count t = were.count s.stamp.node t ∙ same-plus-none (sent_in s.stamp.node t steps)
 
   letter-now : (f t : Node) (n : ℕ) → letter_at all (link_in new f t) n ≡ found f t n (posted s.stamp.node s.stamp.clock s.marks sent)
   letter-now f t n = ap (λ x. letter_at all x n) (links f t) ∙ by_test (is_same_node f s.stamp.node) refl

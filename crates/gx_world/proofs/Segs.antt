@@ -2,6 +2,9 @@
 use Rattle.std.proofs.Common.{◌≡◌, ◌≤◌, ◌⊎◌, inl, inr, ⊎_elim, ℕ, zero, suc, ◌+◌, ◌-◌, List, [], ◌∷◌, Some, Bool, true, false, eqb, refl, sym, subst, ap, ◌∙◌, if◌then◌else◌, arith, length, All}
 use Rattle.std.proofs.lemmas.Bool.Decides.{nat_tests}
 use Rattle.std.specs.Prelude.{slice_get, slice_set}
+use Rattle.gx_lemmas.proofs.Numbers.{eqb-self}
+use Rattle.gx_lemmas.proofs.Lists.{length-set}
+use Rattle.gx_lemmas.proofs.Options.{some-same}
 use Rattle.gx_ids.specs.declared.ids.Node.{Node}
 use Rattle.gx_outside.specs.Shelves.{Shelf}
 use Rattle.gx_node.specs.Orders.{Took}
@@ -25,9 +28,6 @@ use Rattle.gx_world.specs.Turns.{HasSteppedAt, IsFit, IsNext}
 use Rattle.gx_world.specs.Networks.{HasTurned, IsAt, Stands}
 use Rattle.gx_world.proofs.Turned.{AreKept, IsPushed, addressed, are-kept}
 
-pub some-same : {A : Type 0} (a b : A) → Some a ≡ Some b → a ≡ b
-some-same a b e = (cc)
-
 -- a place in a list with one changed
 pub get-set : {A : Type 0} (xs : List A) (i k : ℕ) (y x : A) → slice_get (slice_set xs i y) k ≡ Some x → ((k ≡ i) × (x ≡ y)) ⊎ ((k ≡ i → ⊥) × (slice_get xs k ≡ Some x))
 get-set [] i k y x e = absurd (cc)
@@ -36,19 +36,11 @@ get-set (z ∷ xs) zero (suc k) y x e = inr (λ h. absurd (omega (arith, h)), e)
 get-set (z ∷ xs) (suc i) zero y x e = inr (λ h. absurd (omega (arith, h)), e)
 get-set (z ∷ xs) (suc i) (suc k) y x e = ⊎_elim (λ (h : (k ≡ i) × (x ≡ y)). inl (ap suc h.0, h.1)) (λ (h : (k ≡ i → ⊥) × (slice_get xs k ≡ Some x)). inr (λ same. h.0 (omega (arith, same)), h.1)) (get-set xs i k y x e)
 
-pub length-set : {A : Type 0} (xs : List A) (i : ℕ) (y : A) → length (slice_set xs i y) ≡ length xs
-length-set [] i y = refl
-length-set (z ∷ xs) zero y = refl
-length-set (z ∷ xs) (suc i) y = ap suc (length-set xs i y)
-
 one-back : (i : ℕ) → 1 ≤ i → i - 1 + 1 ≡ i
 one-back i h = omega arith
 
 here-at : {A : Type 0} (f : ℕ → A) (i : ℕ) (x : A) → with_at f i x i ≡ x
-here-at f i x = ap (λ (b : Bool). if b then x else f i) (self i)
-  where
-    self : (k : ℕ) → eqb k k ≡ true
-    self k = grind (arith, nat_tests)
+here-at f i x = ap (λ (b : Bool). if b then x else f i) (eqb-self i)
 
 elsewhere-at : {A : Type 0} (f : ℕ → A) (i : ℕ) (x : A) (j : ℕ) → (j ≡ i → ⊥) → with_at f i x j ≡ f j
 elsewhere-at f i x j differ = ap (λ (b : Bool). if b then x else f j) (apart j i differ)

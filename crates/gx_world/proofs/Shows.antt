@@ -7,6 +7,7 @@ use Rattle.std.specs.List.{AllByRecursion}
 use Rattle.std.specs.List.Sorted.{IsStrictlySortedBy}
 use Rattle.std.specs.Option.{option_or}
 use Rattle.std.specs.declared.cmp.Ordering.TheVariants.{Less}
+use Rattle.gx_lemmas.proofs.Options.{option_or-none}
 use Rattle.gx_ids.specs.declared.ids.Node.{Node}
 use Rattle.gx_ids.specs.declared.ids.Table.{Table}
 use Rattle.gx_ids.specs.declared.rid.Rid.{Rid}
@@ -38,17 +39,13 @@ use Rattle.gx_law_reads.specs.Sights.{IsOnlyAt, counts_for_all, shown_to_all}
 use Rattle.gx_segment.specs.Steps.{nobody, no_command}
 use Rattle.gx_world.specs.Tables.{last_at}
 
-pub or-none : {A : Type 0} (o : Option A) → option_or o None ≡ o
-or-none None = refl
-or-none (Some x) = refl
-
 or-or : {A : Type 0} (a b c : Option A) → option_or (option_or a b) c ≡ option_or a (option_or b c)
 or-or None b c = refl
 or-or (Some x) b c = refl
 
 -- ROWS
 pub last_at-append : (xs ys : List KeyedRow) (q : Rid) → last_at (xs ++ ys) q ≡ option_or (last_at ys q) (last_at xs q)
-last_at-append [] ys q = sym (or-none (last_at ys q))
+last_at-append [] ys q = sym (option_or-none (last_at ys q))
 last_at-append (x ∷ xs) ys q = ap (λ o. option_or o (if is_same_rid x.rid q then Some x.row else None)) (last_at-append xs ys q) ∙ or-or (last_at ys q) (last_at xs q) (if is_same_rid x.rid q then Some x.row else None)
 
 above-none : (rid : Rid) (xs : List KeyedRow) → AllByRecursion (λ r. rid_order rid r ≡ Less) (map (λ row. row.rid) xs) → row_at xs rid ≡ None
@@ -63,7 +60,7 @@ last_at-rising (x ∷ xs) q rising =
   where
     by_test : (b : Bool) → is_same_rid x.rid q ≡ b → option_or (row_at xs q) (if b then Some x.row else None) ≡ (if b then Some x.row else row_at xs q)
     by_test true e = ap (λ o. option_or o (Some x.row)) (subst (λ r. row_at xs r ≡ None) (same_rid x.rid q e) (above-none x.rid xs rising.0))
-    by_test false e = or-none (row_at xs q)
+    by_test false e = option_or-none (row_at xs q)
 
 -- WHERE ROWS ARE WRITTEN
 abbrev NotOf : Rid → Version → Type 0

@@ -2,6 +2,8 @@
 use Rattle.std.proofs.Common.{◌≡◌, ℕ, zero, suc, ◌+◌, List, [], ◌∷◌, ◌++◌, Some, None, Bool, true, false, eqb, refl, sym, subst, ap, ◌∙◌, if◌then◌else◌, length, replicate}
 use Rattle.std.proofs.lemmas.Bool.{eqb-true}
 use Rattle.std.specs.Prelude.{slice_get}
+use Rattle.gx_lemmas.proofs.Options.{some-same}
+use Rattle.gx_lemmas.proofs.Lists.{length-push}
 use Rattle.gx_ids.specs.declared.ids.Node.{Node}
 use Rattle.gx_script.specs.declared.Script.{Script}
 use Rattle.gx_store.specs.Journals.{is_same_node}
@@ -13,8 +15,7 @@ use Rattle.gx_world.specs.declared.letters.Place.{Place}
 use Rattle.gx_world.specs.Links.{ArePosted, IsLong, letter_at, link_in, nth_link}
 use Rattle.gx_world.specs.Made.{AreNew}
 use Rattle.gx_world.specs.Networks.{ArePlaced, IsAt}
-use Rattle.gx_world.proofs.Links.{get-push, length-push}
-use Rattle.gx_world.proofs.Segs.{some-same}
+use Rattle.gx_world.proofs.Links.{get-push}
 
 pub more-new : (script : Script) (xs : List Segment) (s : Segment) (count : ℕ) → (length xs ≡ count) × AreNew script xs → IsAt script new_world (count + 1) s → (ys : List Segment) → ys ≡ xs ++ s ∷ [] → (length ys ≡ count + 1) × AreNew script ys
 more-new script xs s count were is ys same = (
