@@ -23,17 +23,16 @@ use Rattle.gx_store.specs.declared.event.Event.TheVariants.{Resend}
 use Rattle.gx_store.specs.declared.run.Step.{Step}
 use Rattle.gx_store.specs.Marks.{start_count}
 use Rattle.gx_store.specs.Points.{marks_in}
-use Rattle.gx_store.specs.Schedule as schedule
-use Rattle.gx_store.specs.Schedule.{gxids_of, resends}
+use Rattle.gx_store.specs.Schedule.{may_resend, resends}
 use Rattle.gx_agenda.specs.declared.asked.Asked.{Asked}
 use Rattle.gx_agenda.specs.declared.expected.Expected.{Expected}
 use Rattle.gx_agenda.specs.declared.request.Request.{Request}
-use Rattle.gx_agenda.specs.Awaited.{AreAsked, IsResendable, expected_at}
+use Rattle.gx_agenda.specs.Awaited.{AreAsked, IsResendable, due_at}
 use Rattle.gx_agenda.specs.Requests.{is_of, request_cmp, resend_of}
 use Rattle.gx_agenda.proofs.FirstAsked.{gxid-within}
 use Rattle.gx_agenda.proofs.Lists.{same_from, same_number}
 use Rattle.gx_agenda.proofs.Numbered.{IsNumbered, entry, numbered}
-use Rattle.gx_agenda.proofs.Resending.{awaited, resends-row}
+use Rattle.gx_agenda.proofs.Resending.{due-again, may-asked, resends-row}
 
 request-total : IsTotalOrder request_cmp
 request-total = then_total (on_total (λ (r : Request). r.segment.0) nat_cmp_total) (on_total (λ (r : Request). r.gxid.0) nat_cmp_total)
@@ -72,7 +71,7 @@ module _ (script : Script) (steps : List Step) (segment : Node) (known : Asked) 
   at n = record { segment = segment; gxid = record { 0 = n } }
 
   abbrev known_at : ℕ → Option Expected
-  known_at n = expected_at known segment (record { 0 = n })
+  known_at n = due_at known segment (record { 0 = n })
 
   abbrev again : Gxid → Event
   again g = Resend segment (Some g)
@@ -99,17 +98,17 @@ module _ (script : Script) (steps : List Step) (segment : Node) (known : Asked) 
       by None is rest = ap put is ∙ rest ∙ sym (ap passing (sym (same first) ∙ ap is_some is))
       by (Some v) is rest = ap put is ∙ ap (λ xs. again (record { 0 = first }) ∷ xs) rest ∙ sym (ap passing (sym (same first) ∙ ap is_some is))
 
-  module _ (fit : IsResendable script steps segment) (asks : AreAsked steps known) (sorted : IsStrictlySortedBy request_cmp (keys_of known.pending.entries)) where
+  module _ (fit : IsResendable script steps segment) (asks : AreAsked steps known) (sorted : IsStrictlySortedBy request_cmp (keys_of known.due.entries)) where
     abbrev of_segment : List (Request × Expected)
-    of_segment = filter (λ e. is_of segment e.0) known.pending.entries
+    of_segment = filter (λ e. is_of segment e.0) known.due.entries
 
     abbrev find : Request → Option Expected
     find k = lookup (is_at (request_cmp k)) of_segment
 
-    found : (k : Request) → find k ≡ cond (is_of segment k) (get request_cmp known.pending k) None
+    found : (k : Request) → find k ≡ cond (is_of segment k) (get request_cmp known.due k) None
     found k =
         lookup-filter-keys (is_at (request_cmp k)) (is_of segment) (is_of segment k)
-        (λ q tied. ap (λ n. n == segment.0) (sym (tied-numbers k.segment.0 k.gxid.0 q.segment.0 q.gxid.0 tied))) known.pending.entries
+        (λ q tied. ap (λ n. n == segment.0) (sym (tied-numbers k.segment.0 k.gxid.0 q.segment.0 q.gxid.0 tied))) known.due.entries
 
     within : (k : Request) → is_some (find k) ≡ true → IsNumbered at 1 (start_count (marks_in steps)) k
     within k there = by (is_of segment k) refl
@@ -117,10 +116,10 @@ module _ (script : Script) (steps : List Step) (segment : Node) (known : Asked) 
         by : (b : Bool) → is_of segment k ≡ b → IsNumbered at 1 (start_count (marks_in steps)) k
         by true is =
             let same = same-request segment k is in
-            let some : is_some (expected_at known segment k.gxid) ≡ true = ap (λ r. is_some (get request_cmp known.pending r)) (sym same) ∙ ap is_some (sym (found k ∙ ap (λ b. cond b (get request_cmp known.pending k) None) is)) ∙ there in
-            let w = gxid-within k.gxid 1 (start_count (marks_in steps)) (fit.begun k.gxid (sym (awaited script steps known asks segment k.gxid) ∙ some)) in
+            let some : is_some (due_at known segment k.gxid) ≡ true = ap (λ r. is_some (get request_cmp known.due r)) (sym same) ∙ ap is_some (sym (found k ∙ ap (λ b. cond b (get request_cmp known.due k) None) is)) ∙ there in
+            let w = gxid-within k.gxid 1 (start_count (marks_in steps)) (fit.begun k.gxid (may-asked steps segment k.gxid (sym (due-again steps known asks segment k.gxid) ∙ some))) in
             record { number = k.gxid.0; is = same; low = w.0; high = w.1 }
-        by false off = absurd (never (sym (ap is_some (found k ∙ ap (λ b. cond b (get request_cmp known.pending k) None) off)) ∙ there))
+        by false off = absurd (never (sym (ap is_some (found k ∙ ap (λ b. cond b (get request_cmp known.due k) None) off)) ∙ there))
           where
             never : false ≡ true → ⊥
             never e = cc
@@ -132,7 +131,7 @@ module _ (script : Script) (steps : List Step) (segment : Node) (known : Asked) 
     resends-listed =
         ap (map (λ (e : Request × Expected). resend_of e.0))
         (numbered request-total at (λ m n. request-rises segment.0 m n) known_at 1 (start_count (marks_in steps)) of_segment
-        (subst (IsStrictlySortedBy request_cmp) (sym (keys-filter (is_of segment) known.pending.entries)) (IsStrictlySortedBy-filter request_cmp (is_of segment) (keys_of known.pending.entries) sorted))
+        (subst (IsStrictlySortedBy request_cmp) (sym (keys-filter (is_of segment) known.due.entries)) (IsStrictlySortedBy-filter request_cmp (is_of segment) (keys_of known.due.entries) sorted))
         within (λ n low high. finds n))
-        ∙ again-listed (λ g. is_some (schedule.asked steps segment g)) (λ n. awaited script steps known asks segment (record { 0 = n })) 1 (start_count (marks_in steps))
+        ∙ again-listed (may_resend steps segment) (λ n. due-again steps known asks segment (record { 0 = n })) 1 (start_count (marks_in steps))
         ∙ sym (resends-row script steps segment fit)

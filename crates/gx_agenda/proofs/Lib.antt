@@ -13,6 +13,7 @@ pub mod Noting
 pub mod Changes
 pub mod FirstAsked
 pub mod Resending
+pub mod Waiting
 pub mod Steps
 pub mod Numbered
 pub mod NextLines

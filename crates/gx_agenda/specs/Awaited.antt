@@ -1,7 +1,7 @@
 -- What is awaited after steps, and when the first of it is what is sent again.
-use Rattle.std.specs.Prelude.{◌≡◌, true, false, is_some, List, [], None, Option, option_map}
-use Rattle.std.specs.BTreeMap.{get}
-use Rattle.std.specs.List.{list_any}
+use Rattle.std.specs.Prelude.{◌≡◌, ◌==◌, ◌&&◌, if◌then◌else◌, not, true, false, is_some, List, [], length, None, Some, Option, option_map, unwrap_or}
+use Rattle.std.specs.BTreeMap.{BTreeMap, get}
+use Rattle.std.specs.List.{filter, list_any}
 use Rattle.gx_ids.specs.declared.ids.Gxid.{Gxid}
 use Rattle.gx_ids.specs.declared.ids.Node.{Node}
 use Rattle.gx_msg.specs.declared.message.Message.{Message}
@@ -13,19 +13,51 @@ use Rattle.gx_store.specs.Marks.{is_same_gxid}
 use Rattle.gx_store.specs.Ordered.{IsSegment}
 use Rattle.gx_store.specs.Points.{marks_in}
 use Rattle.gx_store.specs.Schedule as schedule
-use Rattle.gx_store.specs.Schedule.{gxids_of, is_about, is_graph_awaited, is_quiet, sent_message, waits_of}
+use Rattle.gx_store.specs.Schedule.{gxids_of, is_about, is_graph_awaited, is_quiet, sent_message}
+use Rattle.gx_store.specs.Waits.{waits_at}
+use Rattle.gx_waits.specs.declared.claim.Claim.{Claim}
 use Rattle.gx_agenda.specs.declared.asked.Asked.{Asked}
 use Rattle.gx_agenda.specs.declared.expected.Expected.{Expected}
-use Rattle.gx_agenda.specs.Expected.{expected_of}
+use Rattle.gx_agenda.specs.declared.request.Request.{Request}
+use Rattle.gx_agenda.specs.Expected.{expected_of, is_command}
 use Rattle.gx_agenda.specs.Requests.{request_cmp}
 
 -- the answer of a segment for a transaction that is awaited
 abbrev pub expected_at : Asked → Node → Gxid → Option Expected
 expected_at asked segment g = get request_cmp asked.pending (record { segment = segment; gxid = g })
 
+-- the waits of a transaction at a node
+abbrev pub waits_in : BTreeMap Request (List Claim) → Request → List Claim
+waits_in waiting r = unwrap_or (get request_cmp waiting r) []
+
+abbrev pub waits_for : Asked → Node → Gxid → List Claim
+waits_for asked node g = waits_in asked.waiting (record { segment = node; gxid = g })
+
+-- An awaited answer, where it may be asked for again, by the transaction's waits there: that to a command only where there are none.
+abbrev pub due_of : Option Expected → List Claim → Option Expected
+due_of None waits = None
+due_of (Some expected) waits = if is_command expected && not (length waits == 0) then None else Some expected
+
+abbrev pub due_at : Asked → Node → Gxid → Option Expected
+due_at asked segment g = get request_cmp asked.due (record { segment = segment; gxid = g })
+
 -- each segment's answer for each transaction is awaited as the steps say
-abbrev pub AreAsked : List Step → Asked → Type 0
-AreAsked steps asked = (segment : Node) (g : Gxid) → expected_at asked segment g ≡ option_map expected_of (schedule.asked steps segment g)
+abbrev pub AreAwaited : List Step → Asked → Type 0
+AreAwaited steps asked = (segment : Node) (g : Gxid) → expected_at asked segment g ≡ option_map expected_of (schedule.asked steps segment g)
+
+-- each transaction's waits at each node are among those that stand there
+abbrev pub AreWaits : (Node → List Claim) → Asked → Type 0
+AreWaits standing asked = (node : Node) (g : Gxid) → waits_for asked node g ≡ filter (λ wait. is_same_gxid wait.gxid g) (standing node)
+
+-- what may be asked for again is found
+abbrev pub IsIndexed : Asked → Type 0
+IsIndexed asked = (r : Request) → get request_cmp asked.due r ≡ due_of (get request_cmp asked.pending r) (waits_in asked.waiting r)
+
+-- all of it is as the steps say
+pub record AreAsked (steps : List Step) (asked : Asked) : Type 0 where
+  pub answers : AreAwaited steps asked
+  pub waits : AreWaits (waits_at (marks_in steps)) asked
+  pub due : IsIndexed asked
 
 -- the message that an event receives, if it receives one
 abbrev pub told_in : List Step → Event → Option Message
@@ -35,7 +67,6 @@ told_in steps _ = None
 -- there is nothing to do for a segment but to send again what is asked of transactions
 pub record IsResendable (script : Script) (steps : List Step) (segment : Node) : Type 0 where
   pub quiet : is_quiet script steps segment ≡ true
-  pub waits : (g : Gxid) → waits_of (marks_in steps) segment g ≡ []
   pub graph : is_graph_awaited steps segment ≡ false
   pub begun : (g : Gxid) → is_some (schedule.asked steps segment g) ≡ true → list_any (λ h. is_same_gxid h g) (gxids_of (marks_in steps)) ≡ true
 

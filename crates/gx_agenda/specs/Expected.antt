@@ -28,6 +28,15 @@ expected_of (message.CommitPrepared g) = SecondPhase
 expected_of (message.Abort g) = Abort
 expected_of _ = Forget
 
+-- it is the answer to a command
+abbrev pub is_command : Expected → Bool
+is_command (Command c) = true
+is_command Promise = false
+is_command Commit = false
+is_command SecondPhase = false
+is_command Abort = false
+is_command Forget = false
+
 -- the reply says what became of the command
 abbrev pub is_command_met : Cid → Reply → Bool
 is_command_met c (reply.Done d wrote count part) = d.0 == c.0

@@ -1,6 +1,6 @@
-ghost use Rattle.std.specs.Prelude.{◌≡◌, ◌++◌, ◌∷◌, [], ℕ, List, Option, Some, None, if◌then◌else◌, ◌&&◌, OnOk, IfSome, IfNone, IsSome, map, option_map, ◌<◌};
+ghost use Rattle.std.specs.Prelude.{◌≡◌, ◌++◌, ◌∷◌, [], ℕ, List, Option, Some, None, if◌then◌else◌, ◌&&◌, OnOk, IfSome, IfNone, IsSome, map, option_map, ◌<◌, ◌==◌, not, length};
 ghost use Rattle.std.specs.Option.{option_copied, option_to_list};
-ghost use Rattle.std.specs.BTreeMap.{IsLowerBound, IsOrdered, get};
+ghost use Rattle.std.specs.BTreeMap.{IsLowerBound, IsOrdered, get, is_at};
 ghost use Rattle.std.specs.List.{filter, flat_map};
 ghost use Rattle.gx_ids.specs.declared.ids.Gxid.{Gxid};
 ghost use Rattle.gx_ids.specs.declared.ids.Node.{Node};
@@ -11,23 +11,28 @@ ghost use Rattle.gx_store.specs.Marks.{is_same_gxid};
 ghost use Rattle.gx_store.specs.Schedule.{asked_by, first_of, is_about, resends, segments_of, unless_answered};
 ghost use Rattle.gx_agenda.specs.declared.expected.Expected.{Expected as OneExpected};
 ghost use Rattle.gx_agenda.specs.declared.request.Request.{Request as OneRequest};
-ghost use Rattle.gx_agenda.specs.Awaited.{AreAsked, AreResendable, IsResendable, expected_at, told_in};
+ghost use Rattle.gx_agenda.specs.Awaited.{AreAsked, AreAwaited, AreResendable, IsIndexed, IsResendable, due_of, expected_at, told_in, waits_in};
 ghost use Rattle.gx_agenda.specs.Expected.{expected_of, unless_met};
 ghost use Rattle.gx_agenda.specs.Following.{Follows, FollowsOrders, unless_told};
 ghost use Rattle.gx_agenda.specs.Requests.{is_of, request_cmp, resend_of};
 
 use crate::expected::{Expected, expected_answer, is_met_by, transaction_of};
 use crate::request::Request;
-use gx_ids::{Gxid, Mem, Node};
+use gx_ids::{Gxid, Mem, Node, Seq};
 use gx_msg::{Message, Reply};
 use gx_store::{Event, Mark, Step};
+use gx_waits::Claim;
 use std::alloc::Global;
 use std::collections::BTreeMap;
 
-/// The answers that are awaited.
+/// The answers that are awaited, the waits that stand at each node, and which of the answers may be asked for again: that to a
+/// command only while its transaction doesn't wait where it was sent.
 #[derive(Drop)]
 pub struct Asked {
     pub pending: BTreeMap<Request, Expected>,
+    pub waiting: BTreeMap<Request, Seq<Claim>>,
+    pub due: BTreeMap<Request, Expected>,
+    pub alloc: Global,
 }
 
 impl Asked {
@@ -37,6 +42,9 @@ impl Asked {
     {
         Asked {
             pending: BTreeMap::new(alloc),
+            waiting: BTreeMap::new(alloc),
+            due: BTreeMap::new(alloc),
+            alloc,
         }
     }
 
@@ -45,19 +53,16 @@ impl Asked {
     pub fn note(&mut self, step: &Step, told: Option<&Message>) -> Mem<()>
         ensures { OnOk result ((steps : List Step) → AreAsked steps self.old → option_copied told.entry ≡ told_in steps step.now.event → AreAsked (steps ++ step.now ∷ []) self.new) }
     {
-        if step.stamp.node == Node(0) {
-            self.received(step.event, told);
-            self.sent_all(step.marks.as_slice())?;
-        }
-        Ok(())
+        self.note_answers(step, told)?;
+        self.note_waits(step.marks.as_slice())
     }
 
-    /// The first awaited answer, by segment and then by transaction.
+    /// The first answer that may be asked for again, by segment and then by transaction.
     pub fn first(&self) -> Option<Request>
         ensures { (script : Script) (steps : List Step) → AreAsked steps self.now → AreResendable script steps
             → option_to_list (option_map resend_of result) ≡ first_of (flat_map (resends script steps) (segments_of script)) }
     {
-        first_key(&self.pending)
+        first_key(&self.due)
     }
 
     /// Adds all that is sent again to a segment, by transaction, where nothing else is to be done for it.
@@ -66,12 +71,27 @@ impl Asked {
         ensures { OnOk result ((script : Script) (steps : List Step) → AreAsked steps self.now → IsResendable script steps segment
             → events.new.items ≡ events.old.items ++ resends script steps segment) }
     {
-        push_requests(&self.pending, segment, events)
+        push_requests(&self.due, segment, events)
+    }
+
+    // A step has sent or answered what it did.
+    fn note_answers(&mut self, step: &Step, told: Option<&Message>) -> Mem<()>
+        ensures answers { OnOk result ((steps : List Step) → AreAwaited steps self.old → option_copied told.entry ≡ told_in steps step.now.event → AreAwaited (steps ++ step.now ∷ []) self.new) }
+        ensures waiting { self.new.waiting ≡ self.old.waiting }
+        ensures due { OnOk result (IsIndexed self.old → IsIndexed self.new) }
+    {
+        if step.stamp.node == Node(0) {
+            self.received(step.event, told);
+            self.sent_all(step.marks.as_slice())?;
+        }
+        Ok(())
     }
 
     // The coordinator has received a message, if its event is a receipt.
     fn received(&mut self, event: Event, told: Option<&Message>)
-        ensures { (steps : List Step) → option_copied told.entry ≡ told_in steps event → FollowsOrders (λ segment g was. unless_answered steps segment g was event) self.old self.new }
+        ensures asked { (steps : List Step) → option_copied told.entry ≡ told_in steps event → FollowsOrders (λ segment g was. unless_answered steps segment g was event) self.old self.new }
+        ensures waiting { self.new.waiting ≡ self.old.waiting }
+        ensures due { IsIndexed self.old → IsIndexed self.new }
     {
         if let Event::Receive { from, .. } = event {
             if let Some(told) = told {
@@ -82,7 +102,9 @@ impl Asked {
 
     // A node has told the coordinator a message.
     fn heard(&mut self, from: Node, told: &Message)
-        ensures { FollowsOrders (λ segment g was. unless_told from told.now segment g was) self.old self.new }
+        ensures asked { FollowsOrders (λ segment g was. unless_told from told.now segment g was) self.old self.new }
+        ensures waiting { self.new.waiting ≡ self.old.waiting }
+        ensures due { IsIndexed self.old → IsIndexed self.new }
     {
         if let Message::Answer(gxid, reply) = told {
             self.answered(from, *gxid, reply);
@@ -91,19 +113,23 @@ impl Asked {
 
     // A node has answered for a transaction.
     fn answered(&mut self, segment: Node, gxid: Gxid, reply: &Reply)
-        ensures { (s : Node) (g : Gxid) → expected_at self.new s g ≡ unless_met (is_same_node segment s && is_same_gxid gxid g) reply.now (expected_at self.old s g) }
+        ensures asked { (s : Node) (g : Gxid) → expected_at self.new s g ≡ unless_met (is_same_node segment s && is_same_gxid gxid g) reply.now (expected_at self.old s g) }
+        ensures waiting { self.new.waiting ≡ self.old.waiting }
+        ensures due { IsIndexed self.old → IsIndexed self.new }
     {
         let request = Request { segment, gxid };
         if let Some(expected) = self.pending.get(&request).copied() {
             if is_met_by(expected, reply) {
-                self.pending.remove(&request);
+                self.withdraw(&request);
             }
         }
     }
 
     // The coordinator's step made these marks.
     fn sent_all(&mut self, marks: &[Mark]) -> Mem<()>
-        ensures { OnOk result (Follows (λ segment g was. asked_by segment g was marks.now) self.old self.new) }
+        ensures asked { OnOk result (Follows (λ segment g was. asked_by segment g was marks.now) self.old self.new) }
+        ensures waiting { self.new.waiting ≡ self.old.waiting }
+        ensures due { OnOk result (IsIndexed self.old → IsIndexed self.new) }
     {
         for mark in marks {
             self.marked(mark)?;
@@ -113,7 +139,9 @@ impl Asked {
 
     // The coordinator's step made a mark.
     fn marked(&mut self, mark: &Mark) -> Mem<()>
-        ensures { OnOk result (Follows (λ segment g was. asked_by segment g was (mark.now ∷ [])) self.old self.new) }
+        ensures asked { OnOk result (Follows (λ segment g was. asked_by segment g was (mark.now ∷ [])) self.old self.new) }
+        ensures waiting { self.new.waiting ≡ self.old.waiting }
+        ensures due { OnOk result (IsIndexed self.old → IsIndexed self.new) }
     {
         if let Mark::Sent { to, message, .. } = mark {
             self.sent(*to, message)?;
@@ -123,13 +151,82 @@ impl Asked {
 
     // The coordinator has sent a message.
     fn sent(&mut self, to: Node, message: &Message) -> Mem<()>
-        ensures { OnOk result ((s : Node) (g : Gxid) → expected_at self.new s g ≡ (if is_same_node to s && is_about g message.now then Some (expected_of message.now) else expected_at self.old s g)) }
+        ensures asked { OnOk result ((s : Node) (g : Gxid) → expected_at self.new s g ≡ (if is_same_node to s && is_about g message.now then Some (expected_of message.now) else expected_at self.old s g)) }
+        ensures waiting { self.new.waiting ≡ self.old.waiting }
+        ensures due { OnOk result (IsIndexed self.old → IsIndexed self.new) }
     {
         if let Some(gxid) = transaction_of(message) {
             let request = Request { segment: to, gxid };
-            self.pending.insert(request, expected_answer(message))?;
+            self.expect(request, expected_answer(message))?;
         }
         Ok(())
+    }
+
+    // An answer is awaited no more.
+    fn withdraw(&mut self, request: &Request)
+        ensures pending { (r : OneRequest) → get request_cmp self.new.pending r ≡ (if is_at (request_cmp request.now) r then None else get request_cmp self.old.pending r) }
+        ensures waiting { self.new.waiting ≡ self.old.waiting }
+        ensures due { IsIndexed self.old → IsIndexed self.new }
+    {
+        self.pending.remove(request);
+        self.due.remove(request);
+    }
+
+    // An answer is awaited.
+    fn expect(&mut self, request: Request, expected: Expected) -> Mem<()>
+        ensures pending { OnOk result ((r : OneRequest) → get request_cmp self.new.pending r ≡ (if is_at (request_cmp request) r then Some expected else get request_cmp self.old.pending r)) }
+        ensures waiting { self.new.waiting ≡ self.old.waiting }
+        ensures due { OnOk result (IsIndexed self.old → IsIndexed self.new) }
+    {
+        self.pending.insert(request, expected)?;
+        self.settle(request)
+    }
+
+    // Whether a request's answer may be asked for again is told by its answer and its waits.
+    pub(crate) fn settle(&mut self, request: Request) -> Mem<()>
+        ensures pending { self.new.pending ≡ self.old.pending }
+        ensures waiting { self.new.waiting ≡ self.old.waiting }
+        ensures due { OnOk result ((r : OneRequest) → get request_cmp self.new.due r
+            ≡ (if is_at (request_cmp request) r then due_of (get request_cmp self.old.pending request) (waits_in self.old.waiting request) else get request_cmp self.old.due r)) }
+    {
+        match self.due_answer(&request) {
+            Some(expected) => self.offer(request, expected),
+            None => {
+                self.due.remove(&request);
+                Ok(())
+            }
+        }
+    }
+
+    fn offer(&mut self, request: Request, expected: Expected) -> Mem<()>
+        ensures pending { self.new.pending ≡ self.old.pending }
+        ensures waiting { self.new.waiting ≡ self.old.waiting }
+        ensures due { OnOk result ((r : OneRequest) → get request_cmp self.new.due r ≡ (if is_at (request_cmp request) r then Some expected else get request_cmp self.old.due r)) }
+    {
+        self.due.insert(request, expected)?;
+        Ok(())
+    }
+
+    // The answer of a request, where it may be asked for again.
+    fn due_answer(&self, request: &Request) -> Option<Expected>
+        ensures { result ≡ due_of (get request_cmp self.now.pending request.now) (waits_in self.now.waiting request.now) }
+    {
+        let expected = self.pending.get(request).copied()?;
+        if expected.is_command() && self.is_waiting(request) {
+            None
+        } else {
+            Some(expected)
+        }
+    }
+
+    // Whether the transaction of a request waits at its node.
+    fn is_waiting(&self, request: &Request) -> bool
+        ensures { result ≡ not (length (waits_in self.now.waiting request.now) == 0) }
+    {
+        match self.waiting.get(request) {
+            Some(claims) => claims.len() > 0,
+            None => false,
+        }
     }
 }
 

@@ -1,6 +1,6 @@
 // What orders to segments ask for, and the replies that meet it.
 ghost use Rattle.std.specs.Prelude.{◌≡◌, ◌==◌};
-ghost use Rattle.gx_agenda.specs.Expected.{expected_of, gxid_of, is_command_met, is_met};
+ghost use Rattle.gx_agenda.specs.Expected.{expected_of, gxid_of, is_command, is_command_met, is_met};
 
 use gx_ids::{Cid, Gxid};
 use gx_msg::{Message, Reply};
@@ -18,6 +18,15 @@ pub enum Expected {
     SecondPhase,
     Abort,
     Forget,
+}
+
+impl Expected {
+    /// Whether it is the answer to a command.
+    pub fn is_command(self) -> bool
+        ensures { result ≡ is_command self }
+    {
+        matches!(self, Expected::Command(_))
+    }
 }
 
 // Whether a reply is the one that is expected.

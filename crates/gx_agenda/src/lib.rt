@@ -1,4 +1,4 @@
-//! Where each link of a run stands: the message that it delivers next, found in constant time.
+//! What a driver keeps of a run: where each link stands, the next line of each session, the answers that are awaited, and which of these may be asked for again.
 #![tactic(auto)]
 
 pub mod asked;
@@ -12,6 +12,7 @@ mod places;
 pub mod queue;
 pub mod request;
 pub mod standing;
+mod waits;
 
 pub use asked::Asked;
 pub use cursor::Cursor;

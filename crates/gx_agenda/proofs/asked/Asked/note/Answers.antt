@@ -1,16 +1,8 @@
-use Rattle.std.proofs.Common.{sym, ap, ◌∙◌}
-use Rattle.std.specs.Prelude.{option_map}
-use Rattle.gx_store.specs.Schedule.{asked, asked_by, unless_answered}
-use Rattle.gx_agenda.specs.Expected.{expected_of}
-use Rattle.gx_agenda.proofs.Steps.{asked-order, asked-other, asked-own}
+use Rattle.gx_agenda.proofs.Oks.{on_ok-both}
+use Rattle.gx_agenda.proofs.Waiting.{noted}
 use Rattle.gx_agenda.proofs.asked.Asked.note.Goals as goal
 
-pub returns-in_ok-sent_all : goal.returns-in_ok-sent_all
-returns-in_ok-sent_all c = λ steps asks told segment g.
-    let heard = c.received.ensures steps told segment g (asked steps segment g) (asked-order steps segment g) (asks segment g) in
-    c.in_ok-sent_all.ensures segment g (unless_answered steps segment g (asked steps segment g) c.args.step.now.event) heard
-    ∙ ap (λ ms. option_map expected_of (asked_by segment g (unless_answered steps segment g (asked steps segment g) c.args.step.now.event) ms)) c.as_slice.ensures
-    ∙ sym (ap (option_map expected_of) (asked-own steps c.args.step.now segment g (sym c.eq.ensures ∙ c.if-eq.true)))
-
-pub returns-else-eq : goal.returns-else-eq
-returns-else-eq c = λ steps asks told segment g. asks segment g ∙ sym (ap (option_map expected_of) (asked-other steps c.args.step.now segment g (sym c.eq.ensures ∙ c.if-eq.false)))
+pub returns : goal.returns
+returns c = on_ok-both c.note_waits.result _ _ _ c.note_waits.ensures.waits c.note_waits.ensures.due
+    (λ waits due steps were told. noted steps c.args.step.now c.args.self.now c.note_answers.new.self c.note_waits.new.self were (c.in_ok-note_answers.ensures.answers steps were.answers told)
+    c.note_answers.ensures.waiting (c.in_ok-note_answers.ensures.due were.due) c.note_waits.ensures.pending c.as_slice.result.now c.as_slice.ensures waits due)

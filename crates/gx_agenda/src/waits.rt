@@ -1,0 +1,171 @@
+// The waits at each node, mark by mark.
+ghost use Rattle.std.specs.Prelude.{◌≡◌, ◌&&◌, ◌∷◌, [], ◌++◌, List, Option, OnOk, IfOk, if◌then◌else◌, not, unwrap_or, length, ◌==◌};
+ghost use Rattle.std.specs.BTreeMap.{get, is_at};
+ghost use Rattle.std.specs.List.{list_any};
+ghost use Rattle.gx_ids.specs.declared.ids.Gxid.{Gxid as OneGxid};
+ghost use Rattle.gx_ids.specs.declared.ids.Node.{Node as OneNode};
+ghost use Rattle.gx_store.specs.Journals.{is_same_node};
+ghost use Rattle.gx_store.specs.Marks.{is_same_gxid};
+ghost use Rattle.gx_store.specs.Waits.{added, waits_from, without};
+ghost use Rattle.gx_waits.specs.Claim.{same_claim};
+ghost use Rattle.gx_waits.specs.declared.claim.Claim.{Claim as OneClaim};
+ghost use Rattle.gx_agenda.specs.declared.request.Request.{Request as OneRequest};
+ghost use Rattle.gx_agenda.specs.Awaited.{AreWaits, IsIndexed, due_of, waits_in};
+ghost use Rattle.gx_agenda.specs.Requests.{request_cmp};
+
+use crate::asked::Asked;
+use crate::request::Request;
+use gx_ids::{Mem, Node, Seq};
+use gx_locks::is_same_object;
+use gx_store::Mark;
+use gx_waits::Claim;
+use std::alloc::Global;
+
+impl Asked {
+    // A step made these marks.
+    pub(crate) fn note_waits(&mut self, marks: &[Mark]) -> Mem<()>
+        ensures pending { self.new.pending ≡ self.old.pending }
+        ensures waits { OnOk result ((standing : OneNode → List OneClaim) → AreWaits standing self.old → AreWaits (λ node. waits_from node (standing node) marks.now) self.new) }
+        ensures due { OnOk result (IsIndexed self.old → IsIndexed self.new) }
+    {
+        for mark in marks {
+            self.note_wait(mark)?;
+        }
+        Ok(())
+    }
+
+    // A wait begins by its own mark, and ends by the hold or the release of the same lock.
+    fn note_wait(&mut self, mark: &Mark) -> Mem<()>
+        ensures pending { self.new.pending ≡ self.old.pending }
+        ensures waits { OnOk result ((standing : OneNode → List OneClaim) → AreWaits standing self.old → AreWaits (λ node. waits_from node (standing node) (mark.now ∷ [])) self.new) }
+        ensures due { OnOk result (IsIndexed self.old → IsIndexed self.new) }
+    {
+        match mark {
+            Mark::Wait {
+                node,
+                gxid,
+                object,
+                mode,
+            } => self.begin(
+                *node,
+                Claim {
+                    gxid: *gxid,
+                    object: *object,
+                    mode: *mode,
+                },
+            ),
+            Mark::Hold {
+                node,
+                gxid,
+                object,
+                mode,
+            } => self.end(
+                *node,
+                Claim {
+                    gxid: *gxid,
+                    object: *object,
+                    mode: *mode,
+                },
+            ),
+            Mark::Release {
+                node,
+                gxid,
+                object,
+                mode,
+            } => self.end(
+                *node,
+                Claim {
+                    gxid: *gxid,
+                    object: *object,
+                    mode: *mode,
+                },
+            ),
+            _ => Ok(()),
+        }
+    }
+
+    fn begin(&mut self, node: Node, claim: Claim) -> Mem<()>
+        ensures pending { self.new.pending ≡ self.old.pending }
+        ensures waits { OnOk result ((r : OneRequest) → waits_in self.new.waiting r
+            ≡ (if is_at (request_cmp (record { segment = node; gxid = claim.gxid })) r then added claim (waits_in self.old.waiting r) else waits_in self.old.waiting r)) }
+        ensures due { OnOk result (IsIndexed self.old → IsIndexed self.new) }
+    {
+        let request = Request {
+            segment: node,
+            gxid: claim.gxid,
+        };
+        let claims = with_claim(self.alloc, self.waiting.remove(&request), claim)?;
+        self.put(request, claims)
+    }
+
+    fn end(&mut self, node: Node, claim: Claim) -> Mem<()>
+        ensures pending { self.new.pending ≡ self.old.pending }
+        ensures waits { OnOk result ((r : OneRequest) → waits_in self.new.waiting r
+            ≡ (if is_at (request_cmp (record { segment = node; gxid = claim.gxid })) r then without claim (waits_in self.old.waiting r) else waits_in self.old.waiting r)) }
+        ensures due { OnOk result (IsIndexed self.old → IsIndexed self.new) }
+    {
+        let request = Request {
+            segment: node,
+            gxid: claim.gxid,
+        };
+        match self.waiting.remove(&request) {
+            Some(claims) => self.put(request, without_claim(claims, &claim)),
+            None => Ok(()),
+        }
+    }
+
+    // These are the waits of a request whose waits were taken out.
+    fn put(&mut self, request: Request, claims: Seq<Claim>) -> Mem<()>
+        ensures pending { self.new.pending ≡ self.old.pending }
+        ensures waits { OnOk result ((r : OneRequest) → waits_in self.new.waiting r ≡ (if is_at (request_cmp request) r then claims else waits_in self.old.waiting r)) }
+        ensures due { OnOk result ((r : OneRequest) → get request_cmp self.new.due r
+            ≡ (if is_at (request_cmp request) r then due_of (get request_cmp self.old.pending request) claims else get request_cmp self.old.due r)) }
+    {
+        self.fill(request, claims)?;
+        self.settle(request)
+    }
+
+    fn fill(&mut self, request: Request, claims: Seq<Claim>) -> Mem<()>
+        ensures pending { self.new.pending ≡ self.old.pending }
+        ensures waits { OnOk result ((r : OneRequest) → waits_in self.new.waiting r ≡ (if is_at (request_cmp request) r then claims else waits_in self.old.waiting r)) }
+        ensures due { self.new.due ≡ self.old.due }
+    {
+        if claims.is_empty() {
+            self.waiting.remove(&request);
+        } else {
+            self.waiting.insert(request, claims)?;
+        }
+        Ok(())
+    }
+}
+
+// Claims with one more, unless it is among them.
+fn with_claim(alloc: Global, claims: Option<Seq<Claim>>, claim: Claim) -> Mem<Seq<Claim>>
+    ensures { IfOk result (λ more. more ≡ added claim (unwrap_or claims [])) }
+{
+    let mut claims = claims.unwrap_or(Seq::new(alloc));
+    if !is_among(claims.as_slice(), &claim) {
+        claims.push(claim)?;
+    }
+    Ok(claims)
+}
+
+fn without_claim(claims: Seq<Claim>, claim: &Claim) -> Seq<Claim>
+    ensures { result ≡ without claim.now claims }
+{
+    let mut left = claims.into_vec();
+    left.retain(|other| !is_same(claim, other));
+    Seq::from_vec(left)
+}
+
+fn is_among(claims: &[Claim], claim: &Claim) -> bool
+    ensures { result ≡ list_any (same_claim claim.now) claims.now }
+{
+    claims.iter().any(|other| is_same(claim, other))
+}
+
+fn is_same(a: &Claim, b: &Claim) -> bool
+    ensures { result ≡ same_claim a.now b.now }
+{
+    a.gxid == b.gxid && is_same_object(&a.object, &b.object) && a.mode.number() == b.mode.number()
+}
