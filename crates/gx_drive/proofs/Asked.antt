@@ -18,15 +18,14 @@ use Rattle.gx_store.specs.Marks.{is_same_gxid}
 use Rattle.gx_store.specs.Ordered.{AreOrdered, IsAtNode, IsLink, IsSegment}
 use Rattle.gx_store.specs.Points.{marks_in}
 use Rattle.gx_store.specs.Refusals.{the_coordinator}
-use Rattle.gx_store.specs.Schedule.{asked, asked_by, asked_from, first_of, gxids_of, is_about, is_graph_awaited, is_quiet, left_on, segments_of, unless_answered, waits_of}
+use Rattle.gx_store.specs.Schedule.{asked, asked_by, asked_from, first_of, gxids_of, is_about, is_graph_awaited, is_quiet, left_on, segments_of, unless_answered}
 use Rattle.gx_rules.specs.AtCoordinator.{awaited}
 use Rattle.gx_rules.specs.Machine.{world_of}
 use Rattle.gx_law_order.proofs.Ordered.{world_well}
 use Rattle.gx_law_schedules.proofs.Awaited.{world-asks}
 use Rattle.gx_law_schedules.proofs.Enabled.{unknown-none}
-use Rattle.gx_law_schedules.proofs.Nobody.{nobody-waits}
 use Rattle.gx_law_schedules.proofs.Room.{world-stays}
-use Rattle.gx_law_schedules.proofs.Waits.{no-graph, no-wait-of}
+use Rattle.gx_law_schedules.proofs.Waits.{no-graph}
 use Rattle.gx_law_runs.specs.Reached.{IsReached}
 use Rattle.gx_law_runs.proofs.Reaching.{by-events}
 use Rattle.gx_agenda.specs.Awaited.{AreResendable, IsResendable}
@@ -96,7 +95,6 @@ module _ (script : Script) (some : 1 ≤ script.segments) (steps : List Step) (i
   resendable-at segment quiet =
       record {
         quiet = quiet;
-        waits = λ g. by-events script steps is (λ ss. waits_of (marks_in ss) segment g ≡ []) (λ es. no-wait-of (marks_in (world_of script es).steps) (nobody-waits script some es) segment g);
         graph = by-events script steps is (λ ss. is_graph_awaited ss segment ≡ false) (λ es. no-graph (world_of script es).steps (world-stays script some es).rounds segment);
         begun = begun segment;
       }
