@@ -151,7 +151,8 @@ impl Asked {
 
     // The coordinator has sent a message.
     fn sent(&mut self, to: Node, message: &Message) -> Mem<()>
-        ensures asked { OnOk result ((s : Node) (g : Gxid) → expected_at self.new s g ≡ (if is_same_node to s && is_about g message.now then Some (expected_of message.now) else expected_at self.old s g)) }
+        ensures asked { OnOk result ((s : Node) (g : Gxid) → expected_at self.new s g
+            ≡ (if is_same_node to s && is_about g message.now then Some (expected_of message.now) else expected_at self.old s g)) }
         ensures waiting { self.new.waiting ≡ self.old.waiting }
         ensures due { OnOk result (IsIndexed self.old → IsIndexed self.new) }
     {
