@@ -36,7 +36,6 @@ pub record Once (ms : List Mark) (g : Gxid) (d : Cid) : Type 0 where
   pub once : has_own_snapshot level ms g d ≡ false
 
 module _ (script : Script) (g : Gxid) (d : Cid) (x : Snapshot) where
-
   in-step : (steps : List Step) (e : Event) (earlier ms later : List Mark) (q : ℕ) → EachMark (Given script) steps e earlier ms later → slice_get ms q ≡ Some (mark.Snap g d x) → Once ((marks_in steps ++ earlier) ++ take q ms) g d
   in-step steps e earlier [] later q h f = absurd (cc)
   in-step steps e earlier (m ∷ ms) later zero h f =

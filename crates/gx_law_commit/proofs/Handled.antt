@@ -540,7 +540,6 @@ module _ (told : Message) (k : Known) (s : Seg) (i g : ℕ) (named : s.node ≡ 
 
   -- a new command has its lock, or takes none, or waits
   module _ (script : Script) (c : Cid) (m : IsExecOf told g c) (st : IsCommand k p c.0) (level : Level) (x : Option Snapshot) (h : Gxid) (y : Slice) (o : is_open l.phase ≡ true) (fit : fits_exec script s (gx g) c x h y ≡ true) where
-
     is-right : (a b d e f : Bool) → (a && (b && (d && (e && f)))) ≡ true → (d ≡ true) × (e ≡ true) × (f ≡ true)
     is-right a b d e f z = (grind arith, grind arith, grind arith)
 

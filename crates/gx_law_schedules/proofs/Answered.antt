@@ -205,7 +205,6 @@ module _ (c : Coord) (k : Kept c) (n : AreNeat c) where
 
     -- it is, and answers the node's order
     module _ (m : Command) (e : (c.works g).command ≡ Some m) (waits : is_awaited m j cid ≡ true) where
-
       is-there : has j m.awaited ≡ true
       is-there = (and_parts (eqb m.cid.0 cid.0) (has j m.awaited) waits).1
 
