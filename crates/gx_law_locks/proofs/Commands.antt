@@ -43,8 +43,8 @@ use Rattle.gx_law_schedules.proofs.Standing.{waits_from-append}
 use Rattle.gx_law_sessions.proofs.Said.{CalmFor, Said, said-calm}
 use Rattle.gx_law_sessions.specs.Standing.{IsLineOf, IsSession, IsStanding, Owns, Stands, is_alone, is_busy, is_sound, state_in}
 use Rattle.gx_law_locks.specs.Commands.{AreLeftAlone, AreUnsent, AwaitsTable, DoCommandsHold, HasNotGoneOut, HoldsTableOf}
-use Rattle.gx_law_locks.proofs.Going.{CommandLocked, HasLock, own-line}
-use Rattle.gx_law_locks.proofs.Lasting.{IsIn, in-added, in-filter, in-new, in-without}
+use Rattle.gx_law_holds.proofs.Going.{CommandLocked, HasLock, own-line}
+use Rattle.gx_law_holds.proofs.Lasting.{IsIn, in-added, in-filter, in-new, in-without}
 
 -- MARKS
 calm-for : (k : SessionId) (g : Gxid) (ms : List Mark) → AreLeftAlone k g ms → Each (CalmFor k) ms

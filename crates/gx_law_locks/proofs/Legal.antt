@@ -6,8 +6,8 @@ use Rattle.gx_store.specs.Language.{AreLinesNumbered}
 use Rattle.gx_rules.specs.Machine.{world_of}
 use Rattle.gx_law_locks.specs.Legal.{AreLocksLegal}
 use Rattle.gx_law_writes.proofs.World.{world-holds}
-use Rattle.gx_law_locks.proofs.Orders.{world-orders}
-use Rattle.gx_law_locks.proofs.World.{world-exclusive, world-lasting, world-locked}
+use Rattle.gx_law_holds.proofs.Orders.{world-orders}
+use Rattle.gx_law_holds.proofs.World.{world-exclusive, world-lasting, world-locked}
 use Rattle.gx_law_locks.proofs.Told.{answers-held}
 use Rattle.gx_law_locks.proofs.Writes.{under-steps}
 

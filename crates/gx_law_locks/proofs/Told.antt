@@ -48,10 +48,11 @@ use Rattle.gx_law_schedules.proofs.Steps.{IsAt, IsHere, always}
 use Rattle.gx_law_sessions.proofs.World.{sessions-stand}
 use Rattle.gx_law_sessions.specs.Rest.{EachMark}
 use Rattle.gx_law_sessions.specs.Standing.{IsStanding, waits}
-use Rattle.gx_law_locks.specs.Commands.{AnswerHolds, AreAnswersHeld, AreLeftAlone, HoldsTableOf, HoldsWhenTold}
+use Rattle.gx_law_locks.specs.Commands.{AnswerHolds, AreAnswersHeld, AreLeftAlone, HoldsTableOf, HoldsWhenTold, DoCommandsHold}
 use Rattle.gx_law_locks.proofs.Answering.{AtOnce, Dull, IsHome, IsRefusal, IsServed, NoAnswer, OneAnswer, Starts, end-none, line-starts, message-deals, one-more, resume-refuses}
 use Rattle.gx_law_locks.proofs.Commands.{IsCommandOf, IsRun, IsWaitingOf, out-holds, run-is}
-use Rattle.gx_law_locks.proofs.Orders.{world-orders}
+use Rattle.gx_law_order.proofs.World.{world_knows}
+use Rattle.gx_law_holds.proofs.Orders.{world-orders}
 use Rattle.gx_msg.specs.declared.message.Out.{Out}
 
 -- MARKS

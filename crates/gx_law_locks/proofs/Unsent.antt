@@ -26,7 +26,7 @@ use Rattle.gx_law_commit.specs.Said.{SaidAt, SaidIn, segment_of}
 use Rattle.gx_law_commit.specs.Standings.{at}
 use Rattle.gx_law_commit.proofs.Everywhere.{Holds}
 use Rattle.gx_law_reads.proofs.Low.{live-standing}
-use Rattle.gx_law_reads.proofs.Steps.{world-keeps}
+use Rattle.gx_law_commit.proofs.Steps.{world-keeps}
 use Rattle.gx_law_locks.specs.Commands.{AreUnsent, IsOther}
 
 -- a message that is sent is among these letters

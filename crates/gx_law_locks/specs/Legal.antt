@@ -6,9 +6,9 @@ use Rattle.gx_store.specs.declared.run.Step.{Step}
 use Rattle.gx_store.specs.Locks.{AreExclusive, AreGranted}
 use Rattle.gx_store.specs.Points.{marks_in}
 use Rattle.gx_law_locks.specs.Commands.{AreAnswersHeld}
-use Rattle.gx_law_locks.specs.Lasting.{DoHoldsLast}
-use Rattle.gx_law_locks.specs.Late.{AreReleasesLate}
-use Rattle.gx_law_locks.specs.Writes.{AreWritesUnderLock}
+use Rattle.gx_law_holds.specs.Lasting.{DoHoldsLast}
+use Rattle.gx_law_holds.specs.Late.{AreReleasesLate}
+use Rattle.gx_law_holds.specs.Writes.{AreWritesUnderLock}
 
 -- A lock is granted only where it meets no hold, so that at no point two transactions hold conflicting modes on one object at one
 -- node. Only who has a Commit or Abort mark gives a lock back, and until then whoever was granted one holds it. A command that

@@ -19,7 +19,7 @@ use Rattle.gx_store.specs.Whole.{AreInsertsWhole}
 use Rattle.gx_rules.specs.AtCoordinator.{coord_can, is_idle, is_unfinished_there}
 use Rattle.gx_rules.specs.Coordinators.{Coord, session_of}
 use Rattle.gx_rules.specs.Machine.{World, can, seg_can, world_of}
-use Rattle.gx_law_order.proofs.Calm.{nobody-ready}
+use Rattle.gx_law_order.proofs.Releases.{nobody-ready}
 use Rattle.gx_law_order.proofs.CalmSegs.{nobody-can}
 use Rattle.gx_law_order.proofs.Ordered.{world_well}
 use Rattle.gx_law_schedules.proofs.Neat.{clash}

@@ -19,6 +19,7 @@ use Rattle.gx_tree.specs.declared.stmt.Level.{Level}
 use Rattle.gx_tree.specs.declared.stmt.Stmt.{Stmt}
 use Rattle.gx_tree.specs.declared.stmt.Stmt.TheVariants as stmt
 use Rattle.gx_dsnap.specs.declared.snapshot.Snapshot.{Snapshot}
+use Rattle.gx_modes.specs.declared.modes.Mode.{Mode}
 use Rattle.gx_waits.specs.declared.claim.Claim.{Claim}
 use Rattle.gx_locks.specs.Locks.{Locks}
 use Rattle.gx_meaning.specs.declared.fault.ArithFault.{ArithFault}
@@ -39,7 +40,7 @@ use Rattle.gx_rules.specs.AtSegment.{raised}
 use Rattle.gx_rules.specs.Locks.{hold_mark}
 use Rattle.gx_rules.specs.Machine.{World}
 use Rattle.gx_rules.specs.Segments.{Local, Seg, SegTurn, after_marks, reply as reply_out}
-use Rattle.gx_rules.specs.Slices.{answers, inserted, inserts, selects, suspended_slice, suspends}
+use Rattle.gx_rules.specs.Slices.{answers, inserted, inserts, locks as locks_only, selects, suspended_slice, suspends}
 use Rattle.gx_law_order.proofs.Lists.{Each, each_map, each_weaker}
 use Rattle.gx_law_sessions.specs.Orders.{IsOrder}
 use Rattle.gx_store.specs.Language.{AreLinesNumbered}
@@ -221,19 +222,16 @@ module _ (script : Script) (numbered : AreLinesNumbered [] script.lines) (ms : L
           legal = legal;
         }
 
-  -- a SELECT
-  module _ (g : Gxid) (c : Cid) (level : Level) (snapshot : Option Snapshot) (query : Query) (order : IsOrder script ms (at i) g c level snapshot (slice.Select query)) (fresh : next_command (s.locals g.0) ≤ c.0) (b : Seg) (on : IsBase s g b) (wanted : Claim) where
-    order-then : (marks : List Mark) → IsOrder script (ms ++ marks) (at i) g c level snapshot (slice.Select query)
-    order-then marks = order-later script numbered ms marks (at i) g c level snapshot (slice.Select query) order
-
+  -- a slice that writes nothing is answered behind its lock
+  module _ (g : Gxid) (c : Cid) (fresh : next_command (s.locals g.0) ≤ c.0) (b : Seg) (on : IsBase s g b) (wanted : Claim) where
     abbrev hold : Mark
     hold = hold_mark s.node wanted
 
     abbrev told-of : List Mark → Reply → SegTurn
     told-of marks r = after_marks (hold ∷ []) (answers b g c marks r)
 
-    select-ran : (marks : List Mark) (r : Reply) → IsToldOf script (ms ++ hold ∷ marks) (c.0 + 1) (at i) g r → Ran g c r (told-of marks r)
-    select-ran marks r told =
+    slice-ran : (marks : List Mark) (r : Reply) → IsToldOf script (ms ++ hold ∷ marks) (c.0 + 1) (at i) g r → Ran g c r (told-of marks r)
+    slice-ran marks r told =
         record {
           fresh = fresh;
           last = ap (λ q. (if q then after else b.locals g.0).last) (eqb-self g.0);
@@ -249,15 +247,20 @@ module _ (script : Script) (numbered : AreLinesNumbered [] script.lines) (ms : L
 
     answered : (marks : List Mark) (r : Reply) → Each NoWrite marks → IsToldOf script (ms ++ hold ∷ marks) (c.0 + 1) (at i) g r → Moves (told-of marks r)
     answered marks r quiet told =
-        ran-move g c r now (select-ran marks r told) (each_weaker NoWrite (IsPlacedMark script ms) (λ m n. no-write-placed script ms m n) (hold ∷ marks) (tt, quiet))
+        ran-move g c r now (slice-ran marks r told) (each_weaker NoWrite (IsPlacedMark script ms) (λ m n. no-write-placed script ms m n) (hold ∷ marks) (tt, quiet))
         (each_weaker NoWrite (IsPastHere (λ h. next_command (now.seg.locals h)) (at i)) (λ m n. no-write-here (λ h. next_command (now.seg.locals h)) (at i) m n) (hold ∷ marks) (tt, quiet)) (λ later. no-writes-legal script steps e [] (hold ∷ marks) later (tt, quiet))
       where
         now : SegTurn
         now = told-of marks r
 
-    pub select-move : (rows : List KeyedRow) (f : Option (KeyedRow × ArithFault)) → Moves (after_marks (hold ∷ []) (selects b g c query rows f))
-    select-move rows None = answered [] _ tt (lt-next refl, record { level = level; snapshot = snapshot; slice = slice.Select query; order = order-then (hold ∷ []); done = tt })
-    select-move rows (Some f) = answered _ _ (tt, tt) (lt-next refl, record { level = level; snapshot = snapshot; query = query; order = order-then _ })
+    -- a SELECT
+    pub select-move : (level : Level) (snapshot : Option Snapshot) (query : Query) → IsOrder script ms (at i) g c level snapshot (slice.Select query) → (rows : List KeyedRow) (f : Option (KeyedRow × ArithFault)) → Moves (after_marks (hold ∷ []) (selects b g c query rows f))
+    select-move level snapshot query order rows None = answered [] _ tt (lt-next refl, record { level = level; snapshot = snapshot; slice = slice.Select query; order = order-later script numbered ms (hold ∷ []) (at i) g c level snapshot (slice.Select query) order; done = tt })
+    select-move level snapshot query order rows (Some f) = answered _ _ (tt, tt) (lt-next refl, record { level = level; snapshot = snapshot; query = query; order = order-later script numbered ms _ (at i) g c level snapshot (slice.Select query) order })
+
+    -- a LOCK TABLE
+    pub lock-move : (level : Level) (snapshot : Option Snapshot) (table : Table) (mode : Mode) → IsOrder script ms (at i) g c level snapshot (slice.Lock table mode) → Moves (after_marks (hold ∷ []) (locks_only b g c))
+    lock-move level snapshot table mode order = answered [] _ tt (lt-next refl, record { level = level; snapshot = snapshot; slice = slice.Lock table mode; order = order-later script numbered ms (hold ∷ []) (at i) g c level snapshot (slice.Lock table mode) order; done = tt })
 
 -- an INSERT's rows have the command's identity
 abbrev pub IsOwnRow : Gxid → Cid → KeyedRow → Type 0

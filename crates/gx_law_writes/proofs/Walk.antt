@@ -66,7 +66,7 @@ use Rattle.gx_law_commit.specs.Standings.{gx}
 use Rattle.gx_rules.specs.Locks.{with_hold, hold_mark, release_marks}
 use Rattle.gx_locks.specs.Locks.{Locks, is_free, resumed, wait_of}
 use Rattle.gx_waits.specs.declared.claim.Claim.{Claim}
-use Rattle.gx_law_order.proofs.Calm.{each-released}
+use Rattle.gx_law_order.proofs.Releases.{each-released}
 use Rattle.gx_law_order.proofs.Waiting.{GoesOut}
 
 -- a mark that starts and answers nothing

@@ -11,6 +11,7 @@ use Rattle.gx_ids.specs.declared.ids.Node.{Node}
 use Rattle.gx_ids.specs.declared.ids.SessionId.{SessionId}
 use Rattle.gx_ids.specs.declared.ids.Table.{Table}
 use Rattle.gx_tree.specs.declared.expr.Expr.{Expr}
+use Rattle.gx_modes.specs.declared.modes.Mode.{Mode}
 use Rattle.gx_tree.specs.declared.query.Query.{Query}
 use Rattle.gx_tree.specs.declared.row.KeyedRow.{KeyedRow}
 use Rattle.gx_tree.specs.declared.slice.Slice.TheVariants as slice
@@ -45,7 +46,7 @@ use Rattle.gx_rules.specs.Maps.{with_at}
 use Rattle.gx_rules.specs.Segments.{Local, Seg, SegTurn, Suspended, after_marks}
 use Rattle.gx_rules.specs.Sending.{clock_after, counted, numbered}
 use Rattle.gx_rules.specs.Shown.{shown}
-use Rattle.gx_rules.specs.Slices.{first_fault, inserted, inserts, selects}
+use Rattle.gx_rules.specs.Slices.{first_fault, inserted, inserts, locks as locks_only, selects}
 use Rattle.gx_law_order.proofs.AtSegments.{PlainAt, seg_stays}
 use Rattle.gx_law_order.proofs.Letters.{IsFound, IsLetter, found_is}
 use Rattle.gx_law_order.proofs.Lists.{Each, each_append, each_weaker}
@@ -69,7 +70,7 @@ use Rattle.gx_law_commit.proofs.Whole.{Both, world-both}
 use Rattle.gx_law_writes.specs.Writes.{AreWritesLegal, WriteLegal}
 use Rattle.gx_law_writes.proofs.Legal.{IsPastMark, IsPlacedMark, Late, Live, no-writes-legal, order-live, sent-no-write}
 use Rattle.gx_law_writes.proofs.Live.{Running, running}
-use Rattle.gx_law_writes.proofs.Moves.{IsBase, IsOutOf, IsPastHere, Move, freed-base, insert-move, line-of, no-write-placed, piece, quiet-move, select-move, started-base, waited-move}
+use Rattle.gx_law_writes.proofs.Moves.{IsBase, IsOutOf, IsPastHere, Move, freed-base, insert-move, line-of, lock-move, no-write-placed, piece, quiet-move, select-move, started-base, waited-move}
 use Rattle.gx_law_writes.proofs.Next.{new-next, next_command, waits-next}
 use Rattle.gx_law_writes.proofs.Told.{IsAnswerOf, IsToldOf, IsWordOf, SentTold, StepTold, answer-more, each-get, steps-more, taken-told, told-more}
 use Rattle.gx_law_writes.proofs.Turns.{Continues, NoWrite, Turns, base, freed, message-turns, resumption-turns}
@@ -210,7 +211,10 @@ module _ (script : Script) (some : 1 ≤ script.segments) (numbered_lines : AreL
     -- a slice runs that came with this EXEC, which the coordinator sent
     module _ (g : Gxid) (c : Cid) (level : Level) (snapshot : Option Snapshot) (fresh : next_command (s.locals g.0) ≤ c.0) (base : Seg) (on : IsBase s g base) (wanted : Claim) where
       select-runs : (query : Query) → IsOrder script ms (at i) g c level snapshot (slice.Select query) → (rows : List KeyedRow) (f : Option (KeyedRow × ArithFault)) → Moves (after_marks (hold_mark s.node wanted ∷ []) (selects base g c query rows f))
-      select-runs query order = select-move script numbered_lines ms w.steps e i s (h.kept i) g c level snapshot query order fresh base on wanted
+      select-runs query order = select-move script numbered_lines ms w.steps e i s (h.kept i) g c fresh base on wanted level snapshot query order
+
+      lock-runs : (table : Table) (mode : Mode) → IsOrder script ms (at i) g c level snapshot (slice.Lock table mode) → Moves (after_marks (hold_mark s.node wanted ∷ []) (locks_only base g c))
+      lock-runs table mode order = lock-move script numbered_lines ms w.steps e i s (h.kept i) g c fresh base on wanted level snapshot table mode order
 
       insert-runs : (table : Table) (rows : List KeyedRow) → IsOrder script ms (at i) g c level snapshot (slice.Insert table rows) → WasUnderWay script w.steps g c → IsBack w.coord w.steps i g.0 c.0 → Moves (after_marks (hold_mark s.node wanted ∷ []) (inserts g c (length rows) (inserted base g c table rows)))
       insert-runs table rows order was back =
@@ -245,7 +249,10 @@ module _ (script : Script) (some : 1 ≤ script.segments) (numbered_lines : AreL
         subst Moves (sym z.ran)
         (insert-runs z.g z.c z.level (Some z.snapshot) (new-next (s.locals z.g.0) z.c.0 z.alone z.fresh) (base s z.horizon z.locks) (started-base s z.g z.horizon z.locks z.alone) z.wanted z.table z.rows (subst (λ (a : Message). MessageIs script ms (at i) a) z.is order numbered_lines)
         (subst (HasRun script w.steps) z.is ran) (subst (λ (a : Message). SentBack w.coord w.steps the_coordinator (mark.Sent (at i) number a)) z.is back refl))
-    message-move m number order ran back y (inr (inr (inr z))) = waited-move script numbered_lines ms w.steps e i s (h.kept i) m y z
+    message-move m number order ran back y (inr (inr (inr (inl z)))) = waited-move script numbered_lines ms w.steps e i s (h.kept i) m y z
+    message-move m number order ran back y (inr (inr (inr (inr z)))) =
+        subst Moves (sym z.ran)
+        (lock-runs z.g z.c z.level z.snapshot (new-next (s.locals z.g.0) z.c.0 z.alone z.fresh) (base s z.horizon z.locks) (started-base s z.g z.horizon z.locks z.alone) z.wanted z.table z.mode (subst (λ (a : Message). MessageIs script ms (at i) a) z.is order numbered_lines))
 
     -- by the end of a wait
     resumption-move : (g : Gxid) (z : Suspended) (horizon : Gxid) (number : ℕ) → (s.locals g.0).suspended ≡ Some z → (s.locals g.0).last ≡ z.cid.0 → (let m : Message = message.Exec g z.cid z.level z.snapshot horizon z.slice in MessageIs script ms (at i) m × HasRun script w.steps m × SentBack w.coord w.steps the_coordinator (mark.Sent (at i) number m))
@@ -254,9 +261,12 @@ module _ (script : Script) (some : 1 ≤ script.segments) (numbered_lines : AreL
         subst Moves (sym q.ran)
         (select-runs g z.cid z.level z.snapshot (waits-next (s.locals g.0) z is last) (freed s g q.locks) (freed-base s g q.locks) q.wanted q.query (subst (IsOrder script ms (at i) g z.cid z.level z.snapshot) q.is (sent.0 numbered_lines))
         (shown (freed s g q.locks) q.snapshot g z.cid q.query.table) (first_fault q.query.cond (shown (freed s g q.locks) q.snapshot g z.cid q.query.table)))
-    resumption-move g z horizon number is last sent y (inr q) =
+    resumption-move g z horizon number is last sent y (inr (inl q)) =
         subst Moves (sym q.ran)
         (insert-runs g z.cid z.level z.snapshot (waits-next (s.locals g.0) z is last) (freed s g q.locks) (freed-base s g q.locks) q.wanted q.table q.rows (subst (IsOrder script ms (at i) g z.cid z.level z.snapshot) q.is (sent.0 numbered_lines)) sent.1 (sent.2 refl))
+    resumption-move g z horizon number is last sent y (inr (inr q)) =
+        subst Moves (sym q.ran)
+        (lock-runs g z.cid z.level z.snapshot (waits-next (s.locals g.0) z is last) (freed s g q.locks) (freed-base s g q.locks) q.wanted q.table q.mode (subst (IsOrder script ms (at i) g z.cid z.level z.snapshot) q.is (sent.0 numbered_lines)))
 
     pub seg-holds : Moves turn → Holds script next (w.steps ++ step ∷ [])
     seg-holds = from-move

@@ -1,43 +1,5 @@
-use Rattle.std.proofs.Common.{◌∙◌, sym, refl, subst, ap, List, Bool}
-use Rattle.gx_tree.specs.declared.row.KeyedRow.{KeyedRow}
-use Rattle.gx_rules.specs.Segments.{Local}
-use Rattle.gx_rules.specs.Slices.{first_fault, has_written}
-use Rattle.gx_rules.specs.Shown.{shown}
-use Rattle.gx_slices.specs.Picked.{AreTypedOn, select_marks, select_reply}
-use Rattle.gx_slices.specs.declared.held.Held.{Held}
-use Rattle.gx_slices.proofs.Closing.{IsApart-taken, IsHeld-back, IsStored-held}
-use Rattle.gx_slices.proofs.Counting.{rows-shown}
-use Rattle.gx_slices.proofs.Rightness.{right-shown, typed-select}
-use Rattle.gx_slices.proofs.Turning.{HasRun-selects}
+use Rattle.gx_slices.proofs.Turning.{never-reads}
 use Rattle.gx_slices.proofs.selecting.select.Goals as goal
 
-pub selection-requires : goal.selection-requires
-selection-requires g c =
-    let held = c.args.held.now in
-    let is = c.requires.0 in
-    let may = c.requires.1 in
-    let query = c.args.query in
-    let rows = rows-shown held.store g.s (IsStored-held c.args.tables.now held g.s is) c.args.snapshot.now c.args.gxid c.args.cid query.table c.in_ok-rows.rows.items c.in_ok-rows.ensures.rising c.in_ok-rows.ensures.images in
-    let typed = typed-select c.args.tables.now c.args.gxid c.args.cid query may.right (shown g.s c.args.snapshot.now c.args.gxid c.args.cid query.table) (right-shown c.args.tables.now query.table g.s c.args.snapshot.now c.args.gxid c.args.cid is.typed) in
-    subst (λ (l : List KeyedRow). AreTypedOn query.cond l) (sym rows) typed
-
-pub returns : goal.returns
-returns g c =
-    let held = c.args.held.now in
-    let is = c.requires.0 in
-    let may = c.requires.1 in
-    let query = c.args.query in
-    let entry = c.take_entry-entry.result in
-    let took = c.take_entry-entry.ensures in
-    let mid : Held = record { store = held.store; entries = c.take_entry-entry.new.entries; holders = held.holders; locks = held.locks } in
-    let rows = rows-shown held.store g.s (IsStored-held c.args.tables.now held g.s is) c.args.snapshot.now c.args.gxid c.args.cid query.table c.in_ok-rows.rows.items c.in_ok-rows.ensures.rising c.in_ok-rows.ensures.images in
-    let apart = IsApart-taken c.args.tables.now held g.s c.args.gxid entry is may.alive may.open_here took.local took.kept in
-    let back = IsHeld-back c.args.tables.now held mid c.keep_answer.new.held g.s g.s c.args.gxid c.args.cid entry c.in_ok-ran.ran.reply is may.alive may.free apart took.others refl refl c.in_ok-keep_answer.ensures is.typed in
-    let chosen = c.in_ok-ran.ensures in
-    let all = shown g.s c.args.snapshot.now c.args.gxid c.args.cid query.table in
-    let wrote = c.has_written-wrote.ensures ∙ ap (λ (l : Local). has_written l.phase) apart.local in
-    HasRun-selects c.args.tables.now c.keep_answer.new.held c.args.gxid c.args.cid g.s query all (first_fault query.cond all) c.in_ok-ran.ran back
-    (chosen.marks ∙ ap (λ (l : List KeyedRow). select_marks c.args.gxid c.args.cid (first_fault query.cond l)) rows)
-    (chosen.reply
-    ∙ ap (λ (l : List KeyedRow). select_reply c.args.cid c.has_written-wrote.result query l (first_fault query.cond l)) rows
-    ∙ ap (λ (b : Bool). select_reply c.args.cid b query all (first_fault query.cond all)) wrote)
+pub unreachable-requires : goal.unreachable-requires
+unreachable-requires g c = never-reads c.args.snapshot.now c.in-None.is c.requires.1.reads

@@ -1,0 +1,163 @@
+-- What a transaction gives back at its end is all that it holds, and nothing else.
+use Rattle.std.proofs.Common.{◌≡◌, ◌==◌, ◌||◌, ◌&&◌, ℕ, Bool, true, false, not, cond, List, [], ◌∷◌, ◌++◌, refl, sym, subst, ap, ◌∙◌, if◌then◌else◌, arith}
+use Rattle.std.proofs.lemmas.Bool.Decides.{nat_tests}
+use Rattle.std.proofs.lemmas.List.Folds.{list_any-append}
+use Rattle.std.specs.List.{list_any}
+use Rattle.std.specs.Ordering.{is_gt}
+use Rattle.std.specs.Prelude.{filter, map}
+use Rattle.std.specs.declared.cmp.Ordering.{Ordering}
+use Rattle.std.proofs.lemmas.Bool.{or_from, or_right}
+use Rattle.gx_lemmas.proofs.Numbers.{eqb-self}
+use Rattle.gx_ids.specs.declared.ids.Gxid.{Gxid}
+use Rattle.gx_ids.specs.declared.ids.Node.{Node}
+use Rattle.gx_modes.specs.Table.{number_of}
+use Rattle.gx_waits.specs.Claim.{same_claim, same_object}
+use Rattle.gx_waits.specs.declared.claim.Claim.{Claim}
+use Rattle.gx_locks.proofs.Meets.{same_object-itself}
+use Rattle.gx_locks.specs.Claims.{is_of}
+use Rattle.gx_locks.specs.Locks.{Locks}
+use Rattle.gx_locks.specs.Locks as locks
+use Rattle.gx_meaning.specs.Order.{in_order, placed}
+use Rattle.gx_store.specs.declared.mark.Mark.{Mark}
+use Rattle.gx_store.specs.Marks.{is_ended}
+use Rattle.gx_store.specs.Waits.{holds_from, without}
+use Rattle.gx_rules.specs.Locks.{claim_order, has_there, release_mark, release_marks}
+use Rattle.gx_law_order.proofs.Lists.{Each, each_append, each_weaker}
+use Rattle.gx_law_holds.specs.Late.{AreReleasesLate}
+use Rattle.gx_law_holds.proofs.Marks.{AreFree, Locking, ended-more, node-itself}
+
+-- A LIST IN ORDER HAS THE SAME ITEMS
+or-swap : (a b c : Bool) → (a || (b || c)) ≡ (b || (a || c))
+or-swap true true c = refl
+or-swap true false c = refl
+or-swap false b c = refl
+
+any-placed : {X : Type 0} (R : X → X → Ordering) (p : X → Bool) (x : X) (ys : List X) → list_any p (placed R x ys) ≡ p x || list_any p ys
+any-placed R p x [] = refl
+any-placed R p x (y ∷ ys) = by_test (is_gt (R x y)) (any-placed R p x ys)
+  where
+    by_test : (b : Bool) → list_any p (placed R x ys) ≡ p x || list_any p ys → list_any p (if b then y ∷ placed R x ys else x ∷ y ∷ ys) ≡ p x || (p y || list_any p ys)
+    by_test true e = ap (λ b. p y || b) e ∙ or-swap (p y) (p x) (list_any p ys)
+    by_test false e = refl
+
+any-in_order : {X : Type 0} (R : X → X → Ordering) (p : X → Bool) (xs : List X) → list_any p (in_order R xs) ≡ list_any p xs
+any-in_order R p [] = refl
+any-in_order R p (x ∷ xs) = any-placed R p x (in_order R xs) ∙ ap (λ b. p x || b) (any-in_order R p xs)
+
+each-placed : {X : Type 0} (R : X → X → Ordering) (P : X → Type 0) (x : X) (ys : List X) → P x → Each P ys → Each P (placed R x ys)
+each-placed R P x [] e f = (e, tt)
+each-placed R P x (y ∷ ys) e f = by_test (is_gt (R x y)) (each-placed R P x ys e f.1)
+  where
+    by_test : (b : Bool) → Each P (placed R x ys) → Each P (if b then y ∷ placed R x ys else x ∷ y ∷ ys)
+    by_test true h = (f.0, h)
+    by_test false h = (e, f)
+
+each-in_order : {X : Type 0} (R : X → X → Ordering) (P : X → Type 0) (xs : List X) → Each P xs → Each P (in_order R xs)
+each-in_order R P [] e = tt
+each-in_order R P (x ∷ xs) e = each-placed R P x (in_order R xs) e.0 (each-in_order R P xs e.1)
+
+each-passes : {X : Type 0} (p : X → Bool) (xs : List X) → Each (λ x. p x ≡ true) (filter p xs)
+each-passes p [] = tt
+each-passes p (x ∷ xs) = by_test (p x) refl (each-passes p xs)
+  where
+    by_test : (b : Bool) → p x ≡ b → Each (λ x. p x ≡ true) (filter p xs) → Each (λ x. p x ≡ true) (cond b (x ∷ filter p xs) (filter p xs))
+    by_test true e h = (e, h)
+    by_test false e h = h
+
+-- all that the transaction has there is its own
+pub each-own : (l : Locks) (g : Gxid) → Each (λ c. is_of g c ≡ true) (has_there l g)
+each-own l g =
+    each_append (λ c. is_of g c ≡ true) (filter (is_of g) l.waits) _ (each-passes (is_of g) l.waits)
+    (each-in_order claim_order (λ c. is_of g c ≡ true) (filter (is_of g) l.holds) (each-passes (is_of g) l.holds))
+
+-- WHAT IS TAKEN AWAY
+-- one after the other
+abbrev among : List Claim → Claim → Bool
+among cs x = list_any (λ c. same_claim c x) cs
+
+filter-twice : (p q : Claim → Bool) (xs : List Claim) → filter q (filter p xs) ≡ filter (λ x. p x && q x) xs
+filter-twice p q [] = refl
+filter-twice p q (x ∷ xs) = by_test (p x) (filter-twice p q xs)
+  where
+    by_test : (b : Bool) → filter q (filter p xs) ≡ filter (λ x. p x && q x) xs → filter q (cond b (x ∷ filter p xs) (filter p xs)) ≡ cond (b && q x) (x ∷ filter (λ x. p x && q x) xs) (filter (λ x. p x && q x) xs)
+    by_test true e = ap (λ ys. cond (q x) (x ∷ ys) ys) e
+    by_test false e = e
+
+filter-alike : (p q : Claim → Bool) (xs : List Claim) → Each (λ x. p x ≡ q x) xs → filter p xs ≡ filter q xs
+filter-alike p q [] e = refl
+filter-alike p q (x ∷ xs) e = ap (λ b. cond b (x ∷ filter p xs) (filter p xs)) e.0 ∙ ap (λ ys. cond (q x) (x ∷ ys) ys) (filter-alike p q xs e.1)
+
+pub each-of : {X : Type 0} (P : X → Type 0) → ((x : X) → P x) → (xs : List X) → Each P xs
+each-of P f [] = tt
+each-of P f (x ∷ xs) = (f x, each-of P f xs)
+
+nor : (a b : Bool) → (not a && not b) ≡ not (a || b)
+nor true b = refl
+nor false b = refl
+
+released-from : (node : Node) (cs holds : List Claim) → holds_from node holds (map (release_mark node) cs) ≡ filter (λ x. not (among cs x)) holds
+released-from node [] holds = all-stay holds
+  where
+    all-stay : (xs : List Claim) → xs ≡ filter (λ x. true) xs
+    all-stay [] = refl
+    all-stay (x ∷ xs) = ap (λ ys. x ∷ ys) (all-stay xs)
+released-from node (c ∷ cs) holds =
+    ap (λ b. holds_from node (if b then without c holds else holds) (map (release_mark node) cs)) (node-itself node) ∙ released-from node cs (without c holds)
+    ∙ filter-twice (λ x. not (same_claim c x)) (λ x. not (among cs x)) holds
+    ∙ filter-alike (λ x. not (same_claim c x) && not (among cs x)) (λ x. not (among (c ∷ cs) x)) holds (each-of (λ x. (not (same_claim c x) && not (among cs x)) ≡ not (among (c ∷ cs) x)) (λ x. nor (same_claim c x) (among cs x)) holds)
+
+-- the transaction's own, and nobody else's
+pub claim-itself : (c : Claim) → same_claim c c ≡ true
+claim-itself c = three (c.gxid.0 == c.gxid.0) (same_object c.object c.object) (number_of c.mode == number_of c.mode) (eqb-self c.gxid.0) (same_object-itself c.object) (eqb-self (number_of c.mode))
+  where
+    three : (a b d : Bool) → a ≡ true → b ≡ true → d ≡ true → (a && (b && d)) ≡ true
+    three a b d e f h = grind arith
+
+own-among : (g : Gxid) (xs : List Claim) → Each (λ x. is_of g x ≡ true → among (filter (is_of g) xs) x ≡ true) xs
+own-among g [] = tt
+own-among g (y ∷ ys) = (at_head (is_of g y), each_weaker (λ x. is_of g x ≡ true → among (filter (is_of g) ys) x ≡ true) (λ x. is_of g x ≡ true → among (filter (is_of g) (y ∷ ys)) x ≡ true) (λ x f e. more x (is_of g y) (f e)) ys (own-among g ys))
+  where
+    at_head : (b : Bool) → b ≡ true → among (cond b (y ∷ filter (is_of g) ys) (filter (is_of g) ys)) y ≡ true
+    at_head true e = ap (λ b. b || among (filter (is_of g) ys) y) (claim-itself y)
+    at_head false e = absurd (cc)
+
+    more : (x : Claim) (b : Bool) → among (filter (is_of g) ys) x ≡ true → among (cond b (y ∷ filter (is_of g) ys) (filter (is_of g) ys)) x ≡ true
+    more x true e = or_right (same_claim y x) _ e
+    more x false e = e
+
+not-among : (g : Gxid) (x : Claim) (cs : List Claim) → Each (λ c. is_of g c ≡ true) cs → is_of g x ≡ false → among cs x ≡ false
+not-among g x [] e f = refl
+not-among g x (c ∷ cs) e f = or_from (same_claim c x) (among cs x) (apart c.gxid.0 x.gxid.0 g.0 _ e.0 f) (not-among g x cs e.1 f)
+  where
+    apart : (a b h : ℕ) (r : Bool) → (a == h) ≡ true → (b == h) ≡ false → ((a == b) && r) ≡ false
+    apart a b h r e f = grind (arith, nat_tests)
+
+all-of : (l : Locks) (g : Gxid) → Each (λ x. among (has_there l g) x ≡ is_of g x) l.holds
+all-of l g = each_weaker (λ x. is_of g x ≡ true → among (filter (is_of g) l.holds) x ≡ true) (λ x. among (has_there l g) x ≡ is_of g x) (λ x f. by_test x f (is_of g x) refl) l.holds (own-among g l.holds)
+  where
+    by_test : (x : Claim) → (is_of g x ≡ true → among (filter (is_of g) l.holds) x ≡ true) → (b : Bool) → is_of g x ≡ b → among (has_there l g) x ≡ b
+    by_test x f true e =
+        list_any-append (λ c. same_claim c x) (filter (is_of g) l.waits) (in_order claim_order (filter (is_of g) l.holds))
+        ∙ or_right (among (filter (is_of g) l.waits) x) _ (any-in_order claim_order (λ c. same_claim c x) (filter (is_of g) l.holds) ∙ f e)
+    by_test x f false e = not-among g x (has_there l g) (each-own l g) e
+
+pub released-holds : (node : Node) (l : Locks) (g : Gxid) → holds_from node l.holds (release_marks node l g) ≡ locks.without g l.holds
+released-holds node l g =
+    released-from node (has_there l g) l.holds
+    ∙ filter-alike (λ x. not (among (has_there l g) x)) (λ x. not (is_of g x)) l.holds (each_weaker (λ x. among (has_there l g) x ≡ is_of g x) (λ x. not (among (has_there l g) x) ≡ not (is_of g x)) (λ x e. ap not e) l.holds (all-of l g))
+
+-- THE MARKS
+free-releases : (node : Node) (holds cs : List Claim) → AreFree node holds (map (release_mark node) cs)
+free-releases node holds [] = tt
+free-releases node holds (c ∷ cs) = free-releases node (holds_from node holds (release_mark node c ∷ [])) cs
+
+late-releases : (node : Node) (g : Gxid) (before : List Mark) (cs : List Claim) → Each (λ c. is_of g c ≡ true) cs → is_ended before g ≡ true → AreReleasesLate before (map (release_mark node) cs)
+late-releases node g before [] e f = tt
+late-releases node g before (c ∷ cs) e f =
+    (subst (λ (h : Gxid). is_ended before h ≡ true) (sym (same-gxid c.gxid g e.0)) f, late-releases node g (before ++ release_mark node c ∷ []) cs e.1 (ended-more before (release_mark node c ∷ []) g f))
+  where
+    same-gxid : (h k : Gxid) → (h.0 == k.0) ≡ true → h ≡ k
+    same-gxid h k e = grind (arith, nat_tests)
+
+pub gives-back : (node : Node) (before : List Mark) (l : Locks) (g : Gxid) → is_ended before g ≡ true → Locking node before l.holds (release_marks node l g) (locks.without g l.holds)
+gives-back node before l g e = record { leads = released-holds node l g; free = free-releases node l.holds (has_there l g); late = late-releases node g before (has_there l g) (each-own l g) e }
