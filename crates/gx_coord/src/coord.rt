@@ -1,4 +1,5 @@
-ghost use Rattle.std.specs.Prelude.{◌≡◌, ◌<◌, ◌^◌, All, length, true, false, IfOk, OnErr, IsErr};
+ghost use Rattle.std.specs.Prelude.{◌≡◌, ◌<◌, ◌^◌, All, length, true, false, None, IfOk, OnErr, IsErr};
+ghost use Rattle.gx_locks.specs.Locks.{least_with, ready_ones};
 ghost use Rattle.gx_outside.specs.Shelves.{IsLater};
 ghost use Rattle.gx_rules.specs.AtCoordinator.{coord_can, is_unfinished_there};
 ghost use Rattle.gx_rules.specs.Coordinators.{Coord as RuleCoord, new_coordinator};
@@ -106,6 +107,15 @@ impl Coord {
         ensures { IfOk result (λ can. can ≡ coord_can self.now.script.value c event.now) }
     {
         admitted::can(self.alloc, self, event)
+    }
+
+    /// The least transaction whose wait here is ready.
+    pub fn ready(&self) -> Option<Gxid>
+        ghost c: { RuleCoord }
+        requires { IsCoord self.now c }
+        ensures { result ≡ least_with None (ready_ones c.locks) }
+    {
+        self.locks.ready()
     }
 
     /// Whether some session has a line without an answer, an open or failed block, or a line left.

@@ -20,6 +20,7 @@ pub mod Busy
 pub mod Nothing
 pub mod Going
 pub mod Nobody
+pub mod Resuming
 pub mod Marks
 pub mod AtSegments
 pub mod AtCoordinators
