@@ -33,8 +33,8 @@ pub(crate) fn is_met(claim: &Claim, hold: &Claim) -> bool
         && conflicts(claim.mode, hold.mode)
 }
 
-// Whether two claims are one.
-pub(crate) fn is_same(a: &Claim, b: &Claim) -> bool
+/// Whether two claims are one.
+pub fn is_same_claim(a: &Claim, b: &Claim) -> bool
     ensures { result ≡ same_claim a.now b.now }
 {
     a.gxid == b.gxid && is_same_object(&a.object, &b.object) && a.mode.number() == b.mode.number()
@@ -44,7 +44,7 @@ pub(crate) fn is_same(a: &Claim, b: &Claim) -> bool
 pub(crate) fn is_same_hold(a: &Hold, b: &Hold) -> bool
     ensures { result ≡ same_hold a.now b.now }
 {
-    a.number == b.number && is_same(&a.claim, &b.claim)
+    a.number == b.number && is_same_claim(&a.claim, &b.claim)
 }
 
 // Whether a claim meets some hold.
@@ -58,7 +58,7 @@ pub(crate) fn is_any_met(holds: &[Hold], claim: &Claim) -> bool
 pub(crate) fn is_any_same(holds: &[Hold], claim: &Claim) -> bool
     ensures { result ≡ list_any (λ hold. same_claim claim.now hold.claim) holds.now }
 {
-    holds.iter().any(|hold| is_same(claim, &hold.claim))
+    holds.iter().any(|hold| is_same_claim(claim, &hold.claim))
 }
 
 // The hold of a claim.
@@ -68,7 +68,7 @@ pub(crate) fn find_same(holds: &[Hold], claim: &Claim) -> Option<Hold>
     holds
         .iter()
         .copied()
-        .find(|hold| is_same(claim, &hold.claim))
+        .find(|hold| is_same_claim(claim, &hold.claim))
 }
 
 // The transactions whose holds a claim meets, rising.

@@ -16,5 +16,5 @@ mod slot;
 pub mod table;
 
 pub use answer::LockAnswer;
-pub use claims::is_same_object;
+pub use claims::{is_same_claim, is_same_object};
 pub use table::LockTable;

@@ -117,6 +117,16 @@ impl LockTable {
         least_ready(self.waits.as_slice(), &self.book)
     }
 
+    /// Whether a transaction waits here and its wait is ready.
+    pub fn is_ready(&self, gxid: Gxid) -> bool
+        ensures { result ≡ is_ready self.now.holds (wait_of self.now gxid) }
+    {
+        match find_of(self.waits.as_slice(), gxid) {
+            Some(wait) => self.book.is_free(&wait),
+            None => false,
+        }
+    }
+
     /// Makes the ready wait of a transaction a hold. It takes no memory: `request` made the room.
     pub fn resume(&mut self, gxid: Gxid)
         requires { is_ready self.old.holds (wait_of self.old gxid) ≡ true }
