@@ -11,3 +11,4 @@ pub mod Exclusive
 mod RefusedParts
 mod RefusedHistories
 mod RefusedCommits
+mod RefusedLocks

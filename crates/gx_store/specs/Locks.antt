@@ -53,6 +53,7 @@ HoldsTable script marks g (stmt.Select query) = is_held marks the_coordinator g 
 HoldsTable script marks g (stmt.Insert table tuples) = is_held marks the_coordinator g (Relation table) RowExclusive ≡ true
 HoldsTable script marks g (stmt.Update table assigns cond) = is_held marks the_coordinator g (Relation table) (changing_mode script) ≡ true
 HoldsTable script marks g (stmt.Delete table cond) = is_held marks the_coordinator g (Relation table) (changing_mode script) ≡ true
+HoldsTable script marks g (stmt.Lock table mode) = is_held marks the_coordinator g (Relation table) mode ≡ true
 HoldsTable script marks g _ = Unit {0}
 
 -- who writes a row holds the table at the coordinator and at the row's node, unless the transaction has aborted
@@ -70,7 +71,7 @@ IsMomentary node (Tuple rid) mode = node ≡ the_coordinator → ⊥
 IsMomentary node (Transaction other) mode = (node ≡ the_coordinator → ⊥) × (mode ≡ Share)
 IsMomentary node _ mode = ⊥
 
--- a command on rows that succeeds holds its table at the coordinator when it is answered
+-- a command that succeeds holds its table at the coordinator when it is answered
 abbrev pub HoldsAtAnswer : Script → Point → SessionId → StmtAnswer → Type 0
 HoldsAtAnswer script point session (Refused reason) = Unit {0}
 HoldsAtAnswer script point session answer = (line : Stmt) (level : Level) (g : Gxid) (c : Cid) → RunsCommand script point session line level g c → HoldsTable script (before point) g line
@@ -93,7 +94,7 @@ pub record HasGoneOut (marks : List Mark) (g : Gxid) (c : Cid) : Type 0 where
   pub slice : Slice
   pub sent : Contains marks (Sent node number (message.Exec g c level snapshot horizon slice))
 
--- from its own snapshot, or from its first sending, to its answer, a command on rows holds its table at the coordinator, whoever has
+-- from its own snapshot, or from its first sending, to its answer, a command holds its table at the coordinator, whoever has
 -- ended in between
 abbrev pub LocksWhileReading : Script → Point → Type 0
 LocksWhileReading script point =
