@@ -33,17 +33,17 @@ use Rattle.gx_store.specs.Waits.{claim}
 use Rattle.gx_rules.specs.Locks.{hold_mark, with_hold}
 use Rattle.gx_store.specs.Refusals.{the_coordinator}
 
-values_of-tuple : (a b : ℕ) → values_of (tuple a b) ≡ Ok (value.Int (pos a) ∷ value.Int (pos b) ∷ [])
+pub values_of-tuple : (a b : ℕ) → values_of (tuple a b) ≡ Ok (value.Int (pos a) ∷ value.Int (pos b) ∷ [])
 values_of-tuple a b = ap (λ x. and_then x (λ u. and_then (each_from constant 1 (number b ∷ [])) (λ ys. Ok (u ∷ ys)))) (value_of-lit [] (value.Int (pos a))) ∙ ap (λ y. and_then (and_then y (λ v. and_then (Ok []) (λ ys. Ok (v ∷ ys)))) (λ ys. Ok (value.Int (pos a) ∷ ys))) (value_of-lit [] (value.Int (pos b)))
 
-each-next : (g : Gxid) (c : Cid) (k : ℕ) (t : List Expr) (ts : List (List Expr)) (vs : List Value) (rows : List KeyedRow) → values_of t ≡ Ok vs → each_from (tuple_row g c) (k + 1) ts ≡ Ok rows → each_from (tuple_row g c) k (t ∷ ts) ≡ Ok (keyed g c k vs ∷ rows)
+pub each-next : (g : Gxid) (c : Cid) (k : ℕ) (t : List Expr) (ts : List (List Expr)) (vs : List Value) (rows : List KeyedRow) → values_of t ≡ Ok vs → each_from (tuple_row g c) (k + 1) ts ≡ Ok rows → each_from (tuple_row g c) k (t ∷ ts) ≡ Ok (keyed g c k vs ∷ rows)
 each-next g c k t ts vs rows e f =
     ap (λ r. and_then (and_then r (λ row. Ok (keyed g c k row))) (λ y. and_then (each_from (tuple_row g c) (k + 1) ts) (λ ys. Ok (y ∷ ys)))) e ∙ ap (λ r. and_then r (λ ys. Ok (keyed g c k vs ∷ ys))) f
 
 abbrev g1 : Gxid
 g1 = record { 0 = 1 }
 
-abbrev c1 : Cid
+abbrev pub c1 : Cid
 c1 = record { 0 = 1 }
 
 abbrev the_rows : List KeyedRow

@@ -228,10 +228,11 @@ goes_on_locked script c g line =
     let cid = next_cid (work_of c g) in
     goes g cid line (reads_for c g cid (work_of c g) line) (plan_of script.segments (dist_of script.tables (table_of line)) g cid line)
 
--- the lock that it takes on its table: those that read or add rows; the others take none yet
+-- the lock that it takes on its table; those that change rows take none yet
 abbrev pub lock_for : Gxid → Stmt → Option Claim
 lock_for g (stmt.Select query) = Some (claim g (Relation query.table) AccessShare)
 lock_for g (stmt.Insert table tuples) = Some (claim g (Relation table) RowExclusive)
+lock_for g (stmt.Lock table mode) = Some (claim g (Relation table) mode)
 lock_for g _ = None
 
 abbrev pub waits_for : Coord → Gxid → Stmt → Claim → CoordTurn

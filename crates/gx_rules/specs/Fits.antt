@@ -90,12 +90,14 @@ is_rid_of g c rid = (rid.gxid.0 == g.0) && (rid.cid.0 == c.0)
 abbrev pub is_right_on : Gxid → Cid → Option Schema → Slice → Bool
 is_right_on g c (Some schema) (slice.Select query) = is_right_query (kinds_in schema) query
 is_right_on g c (Some schema) (slice.Insert table rows) = list_all (λ row. is_rid_of g c row.rid && is_right_row (kinds_in schema) row.row) rows
+is_right_on g c (Some schema) (slice.Lock table mode) = true
 is_right_on g c _ _ = false
 
--- the slice is one of the script's tables, and right for it; those that change rows or lock a table aren't run yet
+-- the slice is one of the script's tables, and right for it; those that change rows aren't run yet
 abbrev pub is_right_slice : Script → Gxid → Cid → Slice → Bool
 is_right_slice script g c (slice.Select query) = is_right_on g c (slice_get script.tables query.table.0) (slice.Select query)
 is_right_slice script g c (slice.Insert table rows) = is_right_on g c (slice_get script.tables table.0) (slice.Insert table rows)
+is_right_slice script g c (slice.Lock table mode) = is_right_on g c (slice_get script.tables table.0) (slice.Lock table mode)
 is_right_slice script g c _ = false
 
 -- AT A SEGMENT
@@ -107,13 +109,18 @@ holds_locks l = nat_lt 0 l.last && not (has_ended l.phase)
 abbrev pub is_waiting : Local → Bool
 is_waiting l = is_some l.suspended
 
--- An EXEC fits where its horizon is at most its gxid and at most each gxid that holds or waits there, it has a snapshot, and
--- its slice is right for the script. A new command fits only where no slice of its transaction waits.
+-- only LOCK TABLE reads nothing
+abbrev pub reads_nothing : Slice → Bool
+reads_nothing (slice.Lock table mode) = true
+reads_nothing _ = false
+
+-- An EXEC fits where its horizon is at most its gxid and at most each gxid that holds or waits there, it has a snapshot unless it
+-- reads nothing, and its slice is right for the script. A new command fits only where no slice of its transaction waits.
 abbrev pub fits_exec : Script → Seg → Gxid → Cid → Option Snapshot → Gxid → Slice → Bool
 fits_exec script s g c snapshot horizon slice =
     nat_le horizon.0 g.0
     && (each_below horizon.0 (λ h. not (holds_locks (s.locals h)))
-    && (is_some snapshot && (is_right_slice script g c slice && not (nat_lt (s.locals g.0).last c.0 && is_waiting (s.locals g.0)))))
+    && ((is_some snapshot || reads_nothing slice) && (is_right_slice script g c slice && not (nat_lt (s.locals g.0).last c.0 && is_waiting (s.locals g.0)))))
 
 -- AT THE COORDINATOR
 -- a part has the form that a segment's part of a query has

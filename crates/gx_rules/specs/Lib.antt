@@ -14,4 +14,5 @@ pub mod Machine
 pub mod System
 pub mod Rows
 pub mod Expected
+pub mod WaitRuns
 pub mod Last

@@ -85,18 +85,34 @@ inserted s g c table rows = fold (inserts_row g c table) (record { seg = s; mark
 abbrev pub inserts : Gxid → Cid → ℕ → Moved → SegTurn
 inserts g c count m = answers m.seg g c m.marks (Done c (has_written (local_of m.seg g).phase) count (Rows []))
 
--- a slice runs; those that change rows or lock a table don't yet
+-- LOCK TABLE
+-- with the lock everything is done
+abbrev pub locks : Seg → Gxid → Cid → SegTurn
+locks s g c = answers s g c [] (Done c (has_written (local_of s g).phase) 0 (Rows []))
+
+-- ALL SLICES
+-- who reads or adds rows has a snapshot
+abbrev pub reads : Seg → Gxid → Cid → Query → Option Snapshot → SegTurn
+reads s g c query None = stays s
+reads s g c query (Some snapshot) = selects s g c query (shown s snapshot g c query.table) (first_fault query.cond (shown s snapshot g c query.table))
+
+abbrev pub adds : Seg → Gxid → Cid → Table → List KeyedRow → Option Snapshot → SegTurn
+adds s g c table rows None = stays s
+adds s g c table rows (Some snapshot) = inserts g c (length rows) (inserted s g c table rows)
+
+-- a slice runs; those that change rows don't yet
 abbrev pub runs_slice : Seg → Gxid → Cid → Option Snapshot → Slice → SegTurn
-runs_slice s g c (Some snapshot) (slice.Select query) =
-    selects s g c query (shown s snapshot g c query.table) (first_fault query.cond (shown s snapshot g c query.table))
-runs_slice s g c (Some snapshot) (slice.Insert table rows) = inserts g c (length rows) (inserted s g c table rows)
-runs_slice s g c snapshot slice = stays s
+runs_slice s g c snapshot (slice.Select query) = reads s g c query snapshot
+runs_slice s g c snapshot (slice.Insert table rows) = adds s g c table rows snapshot
+runs_slice s g c snapshot (slice.Lock table mode) = locks s g c
+runs_slice s g c snapshot _ = stays s
 
 -- THE TABLE'S LOCK
--- the lock that a slice takes on its table: those that read or add rows; the others take none yet
+-- the lock that a slice takes on its table; those that change rows take none yet
 abbrev pub slice_lock : Gxid → Slice → Option Claim
 slice_lock g (slice.Select query) = Some (claim g (Relation query.table) AccessShare)
 slice_lock g (slice.Insert table rows) = Some (claim g (Relation table) RowExclusive)
+slice_lock g (slice.Lock table mode) = Some (claim g (Relation table) mode)
 slice_lock g _ = None
 
 -- it waits for the lock: the command has come, and isn't answered yet

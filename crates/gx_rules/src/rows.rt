@@ -1,6 +1,7 @@
 //! Small runs of the machine, whose marks, answers and journals are computed.
 
 ghost use Rattle.gx_rules.specs.Expected.{CommitsByOne, FinishesLost, KeepsSnapshot, ReadsBetween, RefusesPromise, RunsOnce, between, kept_run, lost, one_phase, refused_run, repeated};
+ghost use Rattle.gx_rules.specs.WaitRuns.{GivesBackInOrder, IsHeldUp, WaitsForForget, WaitsForShare, lost_forget_run, share_lock_run, waiting_run};
 
 /// A block that has written at one segment commits there at once: nothing is promised or decided, and both segments that
 /// a command went to are told to forget.
@@ -31,4 +32,26 @@ pub fn reader_between_commits()
 /// A repeatable-read block reads the same before and after a commit of a transaction that began before it.
 pub fn kept_snapshot()
     ensures { KeepsSnapshot kept_run }
+{}
+
+/// An INSERT waits at the coordinator while a block holds the table in share mode, and goes out, by a new snapshot, once the
+/// block has committed.
+pub fn share_lock_blocks_insert()
+    ensures { WaitsForShare share_lock_run }
+{}
+
+/// LOCK TABLE is answered when each segment has locked the table. A slice waits at a segment that hasn't yet been told to forget who
+/// locked it, and goes on then.
+pub fn slice_waits_for_forget()
+    ensures { WaitsForForget lost_forget_run }
+{}
+
+/// A slice that waits doesn't resume while its lock isn't free, and its transaction runs, promises or commits nothing there.
+pub fn waiting_slice_is_left_alone()
+    ensures { IsHeldUp waiting_run }
+{}
+
+/// What a transaction has at a node is given back in order.
+pub fn locks_go_back_in_order()
+    ensures { GivesBackInOrder }
 {}
