@@ -27,7 +27,7 @@ use Rattle.gx_law_commit.specs.Standings.{gx, waits_in}
 use Rattle.gx_locks.specs.Locks.{Locks}
 use Rattle.gx_rules.specs.Locks.{release_marks}
 use Rattle.gx_store.specs.Refusals.{the_coordinator}
-use Rattle.gx_law_order.proofs.Calm.{each-released}
+use Rattle.gx_law_order.proofs.Releases.{each-released}
 use Rattle.gx_ids.specs.declared.ids.Gxid.{Gxid}
 
 -- a mark that answers no line

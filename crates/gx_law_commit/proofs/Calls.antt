@@ -41,7 +41,7 @@ use Rattle.gx_law_commit.proofs.Shifts.{Shift, alone-shift, ask-shift, over-shif
 use Rattle.gx_law_commit.proofs.Ways.{Agrees, AsksFor, Fol, FolAt, Led, One as OneChange, SaidOut, Stands, Working, at-one, becomes, fol-append, known-here}
 use Rattle.gx_locks.specs.Locks.{Locks}
 use Rattle.gx_rules.specs.Locks.{release_marks}
-use Rattle.gx_law_order.proofs.Calm.{each-released}
+use Rattle.gx_law_order.proofs.Releases.{each-released}
 use Rattle.gx_store.specs.Refusals.{the_coordinator}
 
 -- no work is in order

@@ -128,10 +128,17 @@ module _ (script : Script) (told : Message) (s : Seg) (g : ℕ) (wrote : Bool) (
     abbrev raised_with : Gxid → Locks → Seg
     raised_with h locks = record (raised s h) { locks = locks }
 
+    nothing : (h : Gxid) (locks : Locks) → EndsSo (stays (raised_with h locks))
+    nothing h locks = record { ended = λ e. e; last = λ e. inl e; outs = tt }
+
     slice-runs : (h : Gxid) (locks : Locks) (c : Cid) (x : Option Snapshot) (y : Slice) → EndsSo (runs_slice (raised_with h locks) (gx g) c x y)
     slice-runs h locks c (Some x) (slice.Select q) = select (raised_with h locks) c q (shown (raised_with h locks) x (gx g) c q.table) (first_fault q.cond (shown (raised_with h locks) x (gx g) c q.table))
     slice-runs h locks c (Some x) (slice.Insert table rows) = insert c (length rows) (inserted (raised_with h locks) (gx g) c table rows)
-    slice-runs h locks c x y = record { ended = λ e. e; last = λ e. inl e; outs = tt }
+    slice-runs h locks c None (slice.Select q) = nothing h locks
+    slice-runs h locks c None (slice.Insert table rows) = nothing h locks
+    slice-runs h locks c x (slice.Lock table mode) = ran _ (tt, tt)
+    slice-runs h locks c x (slice.Update table assigns cond) = nothing h locks
+    slice-runs h locks c x (slice.Delete table cond) = nothing h locks
 
     starts : (h : Gxid) (c : Cid) (level : Level) (x : Option Snapshot) (y : Slice) (o : Option Claim) → EndsSo (requests (raised s h) (gx g) c level x y o)
     starts h c level x y None = slice-runs h s.locks c x y
@@ -160,7 +167,11 @@ module _ (script : Script) (told : Message) (s : Seg) (g : ℕ) (wrote : Bool) (
       by_slice : (v : Option Snapshot) (y : Slice) → EndsSo (behind (hold_mark s.node wanted ∷ []) (runs_slice free (gx g) x.cid v y))
       by_slice (Some v) (slice.Select q) = select q (shown free v (gx g) x.cid q.table) (first_fault q.cond (shown free v (gx g) x.cid q.table))
       by_slice (Some v) (slice.Insert table rows) = ran-so _ (tt, tt)
-      by_slice v y = ran-so _ tt
+      by_slice None (slice.Select q) = ran-so _ tt
+      by_slice None (slice.Insert table rows) = ran-so _ tt
+      by_slice v (slice.Lock table mode) = ran-so _ (tt, tt)
+      by_slice v (slice.Update table assigns cond) = ran-so _ tt
+      by_slice v (slice.Delete table cond) = ran-so _ tt
   resume (Some wanted) None n a = stay
   resume None x n a = stay
 

@@ -29,14 +29,14 @@ use Rattle.gx_store.specs.declared.mark.Mark.{Mark}
 use Rattle.gx_store.specs.declared.mark.Mark.TheVariants as mark
 use Rattle.gx_store.specs.Protocol.{is_writer, local_count, prepared_count}
 use Rattle.gx_rules.specs.AtSegment.{changes, commits, ends, finishes, if_fits, is_refused, on_abort, on_commit, on_commit_prepared, on_exec, on_forget, on_message, on_prepare, once, promises, raised, repeats, resumes, takes, unless_below, was_prepared}
-use Rattle.gx_rules.specs.Fits.{fits_exec, is_right_slice, is_waiting}
+use Rattle.gx_rules.specs.Fits.{fits_exec, is_right_slice, is_waiting, reads_nothing}
 use Rattle.gx_rules.specs.Locks.{has_there, hold_mark, release_mark, release_marks, wait_mark, with_hold}
 use Rattle.gx_rules.specs.Maps.{with_at}
 use Rattle.gx_rules.specs.Segments.{Local, Phase, Seg, SegTurn, Suspended, after_marks as behind, has_committed, stays, tells, tells_kept, with_local}
 use Rattle.gx_rules.specs.Segments.Phase.{Reading, Writing, Prepared, Committed, Forgotten, Aborted}
 use Rattle.gx_rules.specs.Shown.{shown}
-use Rattle.gx_rules.specs.Slices.{Moved, answers, first_fault, has_written, inserted, inserts, inserts_row, requests, runs_locked, runs_slice, selects, slice_lock, starts_slice, suspended_slice, suspends}
-use Rattle.gx_law_order.proofs.Calm.{each-released}
+use Rattle.gx_rules.specs.Slices.{Moved, answers, first_fault, has_written, inserted, inserts, inserts_row, locks as locks_only, requests, runs_locked, runs_slice, selects, slice_lock, starts_slice, suspended_slice, suspends}
+use Rattle.gx_law_order.proofs.Releases.{each-released}
 use Rattle.gx_law_order.proofs.Lists.{Each, each_append, each_weaker}
 use Rattle.gx_law_commit.specs.Pairs.{IsKept, IsVote, Pair, bit, is_open}
 use Rattle.gx_law_commit.specs.Said.{Answers, IsCommand, Said, gxid_in, is_answer}
@@ -495,6 +495,9 @@ module _ (told : Message) (k : Known) (s : Seg) (i g : ℕ) (named : s.node ≡ 
     select q rows None = ran (record { seg = t; marks = [] }) _ (quiet [] refl refl refl tt tt) (refl, ap (λ (z : Local). has_written z.phase) base.local ∙ e.written o ∙ sym (or-false w))
     select q rows (Some f) = ran (record { seg = t; marks = mark.Fault (gx g) c f.0.rid (Some f.0.row) ∷ [] }) _ (quiet _ refl refl refl (tt, tt) (tt, tt)) tt
 
+    locks-table : Does (locks_only t (gx g) c)
+    locks-table = ran (record { seg = t; marks = [] }) _ (quiet [] refl refl refl tt tt) (refl, ap (λ (z : Local). has_written z.phase) base.local ∙ e.written o ∙ sym (or-false w))
+
     insert-row : (table : Table) (x : Moved) (row : KeyedRow) → Inserting x → Inserting (inserts_row (gx g) c table x row)
     insert-row table x row f =
         record {
@@ -528,15 +531,16 @@ module _ (told : Message) (k : Known) (s : Seg) (i g : ℕ) (named : s.node ≡ 
     selected q rows None = (select q rows None, tt)
     selected q rows (Some f) = (select q rows (Some f), (tt, tt))
 
-    slice-runs : (script : Script) (x : Option Snapshot) (y : Slice) → is_some x ≡ true → is_right_slice script (gx g) c y ≡ true → Runs (runs_slice t (gx g) c x y)
+    slice-runs : (script : Script) (x : Option Snapshot) (y : Slice) → (is_some x || reads_nothing y) ≡ true → is_right_slice script (gx g) c y ≡ true → Runs (runs_slice t (gx g) c x y)
     slice-runs script (Some x) (slice.Select q) a r = selected q (shown t x (gx g) c q.table) (first_fault q.cond (shown t x (gx g) c q.table))
     slice-runs script (Some x) (slice.Insert table rows) a r =
         let all = insert-rows table rows (record { seg = t; marks = [] }) (quiet [] refl refl refl tt tt) in
         (insert (length rows) (inserted t (gx g) c table rows) all, all.calm)
-    slice-runs script (Some x) (slice.Update table assigns cond) a r = absurd (cc)
-    slice-runs script (Some x) (slice.Delete table cond) a r = absurd (cc)
-    slice-runs script (Some x) (slice.Lock table mode) a r = absurd (cc)
-    slice-runs script None y a r = absurd (cc)
+    slice-runs script None (slice.Select q) a r = absurd (cc)
+    slice-runs script None (slice.Insert table rows) a r = absurd (cc)
+    slice-runs script x (slice.Lock table mode) a r = (locks-table, tt)
+    slice-runs script x (slice.Update table assigns cond) a r = absurd (cc)
+    slice-runs script x (slice.Delete table cond) a r = absurd (cc)
 
   -- a new command has its lock, or takes none, or waits
   module _ (script : Script) (c : Cid) (m : IsExecOf told g c) (st : IsCommand k p c.0) (level : Level) (x : Option Snapshot) (h : Gxid) (y : Slice) (o : is_open l.phase ≡ true) (fit : fits_exec script s (gx g) c x h y ≡ true) where
@@ -546,8 +550,8 @@ module _ (told : Message) (k : Known) (s : Seg) (i g : ℕ) (named : s.node ≡ 
     not-waiting : (a b : Bool) → not (a && b) ≡ true → a ≡ true → b ≡ false
     not-waiting a b z q = grind arith
 
-    abbrev right : (is_some x ≡ true) × (is_right_slice script (gx g) c y ≡ true) × (not (nat_lt l.last c.0 && is_waiting l) ≡ true)
-    right = is-right _ _ (is_some x) (is_right_slice script (gx g) c y) (not (nat_lt l.last c.0 && is_waiting l)) fit
+    abbrev right : ((is_some x || reads_nothing y) ≡ true) × (is_right_slice script (gx g) c y ≡ true) × (not (nat_lt l.last c.0 && is_waiting l) ≡ true)
+    right = is-right _ _ (is_some x || reads_nothing y) (is_right_slice script (gx g) c y) (not (nat_lt l.last c.0 && is_waiting l)) fit
 
     idle : (v : Local) → is_waiting v ≡ false → v ≡ record v { suspended = None }
     idle v q = ap (λ o. record v { suspended = o }) (none-of v.suspended q)
@@ -599,7 +603,7 @@ module _ (told : Message) (k : Known) (s : Seg) (i g : ℕ) (named : s.node ≡ 
   exec script c m st level x h y fit Aborted f = stay
 
   -- a slice that has waited goes on
-  resume : (script : Script) (x : Suspended) (wanted : Claim) → IsExecOf told g x.cid → is_waiting l ≡ true → l.last ≡ x.cid.0 → is_some x.snapshot ≡ true → is_right_slice script (gx g) x.cid x.slice ≡ true → Does (resumes s (gx g) (Some wanted) (Some x))
+  resume : (script : Script) (x : Suspended) (wanted : Claim) → IsExecOf told g x.cid → is_waiting l ≡ true → l.last ≡ x.cid.0 → (is_some x.snapshot || reads_nothing x.slice) ≡ true → is_right_slice script (gx g) x.cid x.slice ≡ true → Does (resumes s (gx g) (Some wanted) (Some x))
   resume script x wanted m y last a r =
       let free : Seg = record (with_local s (gx g) (record l { suspended = None })) { locks = resumed s.locks (gx g) (Some wanted) } in
       let run = slice-runs x.cid m (drawn-waits k p e y) (e.waits y).0 free (record { others = λ j d. ap (λ b. if b then record l { suspended = None } else s.locals j) d; local = here (record l { suspended = None }); node = refl }) (λ phase z b c d f. resume-next k p phase x.cid.0 (Some z) b e y c d last f) script x.snapshot x.slice a r in
@@ -634,5 +638,5 @@ handled script fails k s i named w pc lc (message.Collect round) e st = stay (me
 handled script fails k s i named w pc lc (message.Graph round graph) e st = stay (message.Graph round graph) k s i 0 named w pc lc e
 
 -- and its slice that has waited, which comes of a command that was told before
-pub went-on : (script : Script) (k : Known) (s : Seg) (i : ℕ) (named : s.node ≡ at i) (w : Bool) (pc lc : ℕ) (g h : Gxid) (x : Suspended) (wanted : Claim) (e : Pair k (part_of (s.locals g.0) w pc lc)) → is_waiting (s.locals g.0) ≡ true → (s.locals g.0).last ≡ x.cid.0 → is_some x.snapshot ≡ true → is_right_slice script g x.cid x.slice ≡ true → Does (message.Exec g x.cid x.level x.snapshot h x.slice) k s i g.0 named w pc lc e (resumes s g (Some wanted) (Some x))
+pub went-on : (script : Script) (k : Known) (s : Seg) (i : ℕ) (named : s.node ≡ at i) (w : Bool) (pc lc : ℕ) (g h : Gxid) (x : Suspended) (wanted : Claim) (e : Pair k (part_of (s.locals g.0) w pc lc)) → is_waiting (s.locals g.0) ≡ true → (s.locals g.0).last ≡ x.cid.0 → (is_some x.snapshot || reads_nothing x.slice) ≡ true → is_right_slice script g x.cid x.slice ≡ true → Does (message.Exec g x.cid x.level x.snapshot h x.slice) k s i g.0 named w pc lc e (resumes s g (Some wanted) (Some x))
 went-on script k s i named w pc lc g h x wanted e y last a r = resume _ k s i g.0 named w pc lc e script x wanted (record { level = x.level; snapshot = x.snapshot; horizon = h; slice = x.slice; is = refl }) y last a r

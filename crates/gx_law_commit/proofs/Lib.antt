@@ -28,3 +28,4 @@ pub mod Ended
 pub mod Holders
 pub mod Above
 pub mod Waiting
+pub mod Steps

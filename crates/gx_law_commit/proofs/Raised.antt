@@ -71,7 +71,11 @@ module _ (script : Script) (s : Seg) (Q : Gxid → Type 0) (base : Q s.horizon) 
     slice_runs : (g : Gxid) (c : Cid) (snapshot : Option Snapshot) (x : Slice) → SegKeeps (runs_slice t g c snapshot x)
     slice_runs g c (Some snapshot) (slice.Select q) = select g c q (shown t snapshot g c q.table) (first_fault q.cond (shown t snapshot g c q.table))
     slice_runs g c (Some snapshot) (slice.Insert table rows) = insert g c (length rows) (inserted t g c table rows) (insert_rows g c table rows (record { seg = t; marks = [] }) good)
-    slice_runs g c snapshot x = record { horizon = good; outs = tt }
+    slice_runs g c None (slice.Select q) = record { horizon = good; outs = tt }
+    slice_runs g c None (slice.Insert table rows) = record { horizon = good; outs = tt }
+    slice_runs g c snapshot (slice.Lock table mode) = record { horizon = good; outs = (refl, tt) }
+    slice_runs g c snapshot (slice.Update table assigns cond) = record { horizon = good; outs = tt }
+    slice_runs g c snapshot (slice.Delete table cond) = record { horizon = good; outs = tt }
 
   starts : (t : Seg) → Q t.horizon → (g : Gxid) (c : Cid) (level : Level) (snapshot : Option Snapshot) (x : Slice) (o : Option Claim) → SegKeeps (requests t g c level snapshot x o)
   starts t good g c level snapshot x None = slice_runs t good g c snapshot x

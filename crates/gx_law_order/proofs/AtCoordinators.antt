@@ -1,5 +1,5 @@
 -- What the coordinator sends goes to segments, and its marks stand at the coordinator.
-use Rattle.std.proofs.Common.{◌≡◌, ◌≤◌, ℕ, List, [], ◌∷◌, Option, Some, None, Result, Ok, Err, Bool, true, false, refl, if◌then◌else◌, ◌==◌, ◌&&◌, arith, eqb, sym, subst}
+use Rattle.std.proofs.Common.{◌≡◌, ◌≤◌, ℕ, List, [], ◌∷◌, Option, Some, None, Result, Ok, Err, Bool, true, false, refl, if◌then◌else◌, ◌==◌, ◌&&◌, arith, eqb}
 use Rattle.std.proofs.lemmas.Bool.Decides.{nat_tests}
 use Rattle.std.specs.Prelude.{is_some}
 use Rattle.std.proofs.lemmas.Bool.{and_parts, both_ways}
@@ -51,10 +51,10 @@ use Rattle.gx_law_order.proofs.AtSegments.{PlainAt}
 use Rattle.gx_law_order.proofs.Lists.{Each, each_append, each_map}
 use Rattle.gx_law_order.proofs.Places.{IsAtOneOf, IsOneOf, PlanIn, plan_in}
 use Rattle.gx_law_order.proofs.Tables.{AreIn, FoundIn, OutIn, PhaseIn, TableIn, TurnIn, begun_in, enlisted_in, find_in, has_in, live_in, on_abort_in, on_commit_in, on_reply_in, with_in, without_in}
-use Rattle.gx_rules.specs.Locks.{hold_mark, release_marks, with_hold, with_wait}
+use Rattle.gx_rules.specs.Locks.{hold_mark, release_marks, with_hold}
 use Rattle.gx_locks.specs.Locks.{Locks, is_free, resumed, wait_of}
 use Rattle.gx_waits.specs.declared.claim.Claim.{Claim}
-use Rattle.gx_law_order.proofs.Calm.{each-released, AreCalm, calm-free, hold-calm, lock-calm, nobody-waits, release-calm}
+use Rattle.gx_law_order.proofs.Releases.{each-released}
 
 module _ (script : Script) where
   abbrev n : ℕ
@@ -78,7 +78,6 @@ module _ (script : Script) where
   pub record CoordIn (c : Coord) : Type 0 where
     pub table : TableIn n c.table
     pub works : (g : ℕ) → WorkIn (c.works g)
-    pub locks : AreCalm c.locks
 
   -- what an event keeps, and where what it does stands; `sent` is what was sent before it
   pub record CoordStays (sent : ℕ → ℕ) (turn : CoordTurn) : Type 0 where
@@ -98,13 +97,13 @@ module _ (script : Script) where
       at false = f j
 
   pub works_with : (c : Coord) (g : Gxid) (w : Work) → CoordIn c → WorkIn w → CoordIn (with_work c g w)
-  works_with c g w e h = record { table = e.table; works = λ j. work_at c.works g.0 j w e.works h; locks = e.locks }
+  works_with c g w e h = record { table = e.table; works = λ j. work_at c.works g.0 j w e.works h }
 
   pub table_with : (c : Coord) (d : Table) → CoordIn c → TableIn n d → CoordIn (record c { table = d })
-  table_with c d e h = record { table = h; works = e.works; locks = e.locks }
+  table_with c d e h = record { table = h; works = e.works }
 
   pub state_with : (c : Coord) (s : SessionId) (x : Session) → CoordIn c → CoordIn (with_session c s x)
-  state_with c s x e = record { table = e.table; works = e.works; locks = e.locks }
+  state_with c s x e = record { table = e.table; works = e.works }
 
   rest : (c : Coord) → CoordIn c → CoordStays c.sent (rests c)
   rest c e = record { coord = e; counts = refl; marks = tt; outs = tt }
@@ -114,11 +113,11 @@ module _ (script : Script) where
 
   committed : (c : Coord) (g : Gxid) (turn : Turn) → CoordIn c → TurnIn n turn → CoordStays c.sent (is_committed c g turn)
   committed c g turn e h =
-      record { coord = record { table = h.table; works = λ j. work_at c.works g.0 j no_work e.works none_in; locks = release-calm c.locks g e.locks }; counts = refl; marks = (refl, (refl, back_here c.locks g)); outs = h.outs }
+      record { coord = record { table = h.table; works = λ j. work_at c.works g.0 j no_work e.works none_in }; counts = refl; marks = (refl, (refl, back_here c.locks g)); outs = h.outs }
 
   refused : (c : Coord) (g : Gxid) (turn : Turn) (why : List Mark) (reason : Refused) → CoordIn c → TurnIn n turn → Each PlainHere why → CoordStays c.sent (is_refused c g turn why reason)
   refused c g turn why reason e h m =
-      record { coord = record { table = h.table; works = λ j. work_at c.works g.0 j no_work e.works none_in; locks = release-calm c.locks g e.locks }; counts = refl; marks = each_append PlainHere why _ m (refl, (refl, back_here c.locks g)); outs = h.outs }
+      record { coord = record { table = h.table; works = λ j. work_at c.works g.0 j no_work e.works none_in }; counts = refl; marks = each_append PlainHere why _ m (refl, (refl, back_here c.locks g)); outs = h.outs }
 
   failure_in : (i : Node) (g : Gxid) → Each PlainHere (failure_marks i g)
   failure_in i g = at (i.0 == 0)
@@ -145,7 +144,7 @@ module _ (script : Script) where
 
   snapshot_taken : (c : Coord) (g : Gxid) (cid : Cid) (w : Work) → CoordIn c → WorkIn w → ReadIn c.sent (takes_snapshot c g cid w)
   snapshot_taken c g cid w e h =
-      record { coord = record { table = live_in n c.table g _ e.table; works = λ j. work_at c.works g.0 j _ e.works (record { writers = h.writers; command = h.command }); locks = e.locks }; counts = refl; marks = (refl, tt) }
+      record { coord = record { table = live_in n c.table g _ e.table; works = λ j. work_at c.works g.0 j _ e.works (record { writers = h.writers; command = h.command }) }; counts = refl; marks = (refl, tt) }
 
   read_by : (c : Coord) (g : Gxid) (cid : Cid) (w : Work) (x : Option Snapshot) → CoordIn c → WorkIn w → ReadIn c.sent (reads_by c g cid w x)
   read_by c g cid w None e h = snapshot_taken c g cid w e h
@@ -187,7 +186,6 @@ module _ (script : Script) where
         coord = record {
           table = all_enlisted g (nodes_in pieces) r.coord.table (nodes_are pieces p) e.coord.table;
           works = λ j. work_at r.coord.works g.0 j _ e.coord.works (record { writers = (e.coord.works g.0).writers; command = record { orders = orders_are g cid _ _ _ pieces p; awaited = nodes_are pieces p } });
-          locks = e.coord.locks;
         };
         counts = e.counts;
         marks = e.marks;
@@ -207,44 +205,44 @@ module _ (script : Script) where
         (plan_in n some (dist_of script.tables (table_of line)) g (next_cid (work_of c g)) line)
 
     -- with its table's lock
-    go_held : (c : Coord) (g : Gxid) (line : Stmt) (locks : Locks) (wanted : Claim) → CoordIn c → AreCalm locks → CoordStays c.sent (behind (hold_mark the_coordinator wanted ∷ []) (goes_on_locked script (record c { locks = locks }) g line))
-    go_held c g line locks wanted e calm =
-        let x = go_locked (record c { locks = locks }) g line (record { table = e.table; works = e.works; locks = calm }) in
+    go_held : (c : Coord) (g : Gxid) (line : Stmt) (locks : Locks) (wanted : Claim) → CoordIn c → CoordStays c.sent (behind (hold_mark the_coordinator wanted ∷ []) (goes_on_locked script (record c { locks = locks }) g line))
+    go_held c g line locks wanted e =
+        let x = go_locked (record c { locks = locks }) g line (record { table = e.table; works = e.works }) in
         record { coord = x.coord; counts = x.counts; marks = (refl, x.marks); outs = x.outs }
 
     -- or it waits
-    waits_here : (c : Coord) (g : Gxid) (line : Stmt) (wanted : Claim) → CoordIn c → AreCalm (with_wait c.locks wanted) → CoordStays c.sent (waits_for c g line wanted)
-    waits_here c g line wanted e calm =
-        record { coord = record { table = e.table; works = λ j. work_at c.works g.0 j _ e.works (record { writers = (e.works g.0).writers; command = (e.works g.0).command }); locks = calm }; counts = refl; marks = (refl, tt); outs = tt }
+    waits_here : (c : Coord) (g : Gxid) (line : Stmt) (wanted : Claim) → CoordIn c → CoordStays c.sent (waits_for c g line wanted)
+    waits_here c g line wanted e =
+        record { coord = record { table = e.table; works = λ j. work_at c.works g.0 j _ e.works (record { writers = (e.works g.0).writers; command = (e.works g.0).command }) }; counts = refl; marks = (refl, tt); outs = tt }
 
-    request : (c : Coord) (g : Gxid) (line : Stmt) (o : Option Claim) → lock_for g line ≡ o → CoordIn c → CoordStays c.sent (requests script c g line o)
-    request c g line None is e = go_locked c g line e
-    request c g line (Some wanted) is e = by_test (is_free c.locks.holds wanted) refl
+    request : (c : Coord) (g : Gxid) (line : Stmt) (o : Option Claim) → CoordIn c → CoordStays c.sent (requests script c g line o)
+    request c g line None e = go_locked c g line e
+    request c g line (Some wanted) e = by_test (is_free c.locks.holds wanted)
       where
-        by_test : (b : Bool) → is_free c.locks.holds wanted ≡ b → CoordStays c.sent (if_granted script c g line wanted b)
-        by_test true f = go_held c g line (with_hold c.locks wanted) wanted e (hold-calm c.locks wanted e.locks (lock-calm g line wanted is))
-        by_test false f = waits_here c g line wanted e (absurd (both_ways (is_free c.locks.holds wanted) f (calm-free c.locks wanted e.locks (lock-calm g line wanted is))))
+        by_test : (b : Bool) → CoordStays c.sent (if_granted script c g line wanted b)
+        by_test true = go_held c g line (with_hold c.locks wanted) wanted e
+        by_test false = waits_here c g line wanted e
 
     dispatch : (c : Coord) (g : Gxid) (line : Stmt) → CoordIn c → CoordStays c.sent (dispatches script c g line)
-    dispatch c g line e = request c g line (lock_for g line) refl e
+    dispatch c g line e = request c g line (lock_for g line) e
 
     -- a statement that has waited goes out with its lock
-    resume : (c : Coord) (g : Gxid) (o : Option Claim) (line : Option Stmt) → AreCalm (resumed c.locks g o) → CoordIn c → CoordStays c.sent (resumes script c g o line)
-    resume c g None line calm e = rest c e
-    resume c g (Some wanted) None calm e = rest c e
-    resume c g (Some wanted) (Some line) calm e =
+    resume : (c : Coord) (g : Gxid) (o : Option Claim) (line : Option Stmt) → CoordIn c → CoordStays c.sent (resumes script c g o line)
+    resume c g None line e = rest c e
+    resume c g (Some wanted) None e = rest c e
+    resume c g (Some wanted) (Some line) e =
         let w : Work = record (work_of c g) { waiting = None } in
-        go_held (with_work c g w) g line (resumed c.locks g (Some wanted)) wanted (works_with c g w e (record { writers = (e.works g.0).writers; command = (e.works g.0).command })) calm
+        go_held (with_work c g w) g line (resumed c.locks g (Some wanted)) wanted (works_with c g w e (record { writers = (e.works g.0).writers; command = (e.works g.0).command }))
 
     -- lines
     begin : (c : Coord) (s : SessionId) (level : Level) → CoordIn c → CoordIn (begins c s level)
-    begin c s level e = record { table = begun_in n c.table e.table; works = λ j. work_at c.works c.table.next.0 j (new_work s level) e.works (record { writers = tt; command = tt }); locks = e.locks }
+    begin c s level e = record { table = begun_in n c.table e.table; works = λ j. work_at c.works c.table.next.0 j (new_work s level) e.works (record { writers = tt; command = tt }) }
 
     at_once : (c : Coord) (s : SessionId) (a : StmtAnswer) → CoordIn c → CoordStays c.sent (answers_at_once c s a)
     at_once c s a e = record { coord = e; counts = refl; marks = (refl, tt); outs = tt }
 
     back : (c : Coord) (g : Gxid) (marks : List Mark) (turn : Turn) → CoordIn c → TurnIn n turn → Each PlainHere marks → CoordStays c.sent (rolls_back c g marks turn)
-    back c g marks turn e h m = record { coord = record { table = h.table; works = λ j. work_at c.works g.0 j no_work e.works none_in; locks = release-calm c.locks g e.locks }; counts = refl; marks = (refl, each_append PlainHere marks _ m (back_here c.locks g)); outs = h.outs }
+    back c g marks turn e h m = record { coord = record { table = h.table; works = λ j. work_at c.works g.0 j no_work e.works none_in }; counts = refl; marks = (refl, each_append PlainHere marks _ m (back_here c.locks g)); outs = h.outs }
 
     line_done : (c : Coord) (s : SessionId) (line : Stmt) (asked : LineStep) → CoordIn c → CoordStays c.sent (on_line script c s line asked)
     line_done c s line (step.Answer plain) e = at_once c s _ e
@@ -262,12 +260,12 @@ module _ (script : Script) where
     start c s None e = rest c e
     start c s (Some line) e =
         let asked = line_step (session_of c s).state.block line in
-        line_done (starts_line c s asked) s line asked (record { table = e.table; works = e.works; locks = e.locks })
+        line_done (starts_line c s asked) s line asked (record { table = e.table; works = e.works })
 
     end : (c : Coord) (s : SessionId) (b : Block) → CoordIn c → CoordStays c.sent (ends_in c s b)
     end c s (block.Open level) e =
-        back (with_state c s idle_outside) (session_of c s).transaction [] _ (record { table = e.table; works = e.works; locks = e.locks }) (on_abort_in n c.table (session_of c s).transaction e.table) tt
-    end c s block.Failed e = record { coord = record { table = e.table; works = e.works; locks = e.locks }; counts = refl; marks = tt; outs = tt }
+        back (with_state c s idle_outside) (session_of c s).transaction [] _ (record { table = e.table; works = e.works }) (on_abort_in n c.table (session_of c s).transaction e.table) tt
+    end c s block.Failed e = record { coord = record { table = e.table; works = e.works }; counts = refl; marks = tt; outs = tt }
     end c s block.Outside e = rest c e
 
     -- answers of segments
@@ -282,7 +280,7 @@ module _ (script : Script) where
     answer : (c : Coord) (g : Gxid) (w : Work) → CoordIn c → WorkIn w → CoordStays c.sent (answers c g w)
     answer c g w e h =
         record {
-          coord = record { table = kept_table w.level c.table g e.table; works = λ j. work_at c.works g.0 j _ e.works (record { writers = h.writers; command = tt }); locks = e.locks };
+          coord = record { table = kept_table w.level c.table g e.table; works = λ j. work_at c.works g.0 j _ e.works (record { writers = h.writers; command = tt }) };
           counts = refl;
           marks = (refl, tt);
           outs = tt;
@@ -385,5 +383,5 @@ module _ (script : Script) where
     coord_stays c (event.End s) fails e = end c s _ e
     coord_stays c (event.Resend i (Some g)) fails e = again c i _ e (awaited_has c g i e)
     coord_stays c (event.Resend i None) fails e = rest c e
-    coord_stays c (event.Resume g) fails e = resume c g (wait_of c.locks g) (work_of c g).waiting (subst (λ o. AreCalm (resumed c.locks g o)) (sym (nobody-waits c.locks g e.locks)) e.locks) e
+    coord_stays c (event.Resume g) fails e = resume c g (wait_of c.locks g) (work_of c g).waiting e
     coord_stays c event.Round fails e = rest c e

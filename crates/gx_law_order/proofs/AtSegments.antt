@@ -32,7 +32,7 @@ use Rattle.gx_rules.specs.Segments.Phase.{Aborted, Committed, Forgotten, Prepare
 use Rattle.gx_rules.specs.Slices.{Moved, first_fault, inserted, inserts, inserts_row, requests, runs_slice, selects, slice_lock}
 use Rattle.gx_rules.specs.Shown.{shown}
 use Rattle.gx_rules.specs.Fits.{fits_exec, is_waiting}
-use Rattle.gx_law_order.proofs.Calm.{each-released}
+use Rattle.gx_law_order.proofs.Releases.{each-released}
 use Rattle.gx_law_order.proofs.Lists.{Each, each_append}
 
 -- a mark that stands at its node and sends nothing
@@ -95,7 +95,11 @@ module _ (script : Script) (s : Seg) (at : IsSegment script s.node) where
   slice_runs t n g c (Some snapshot) (slice.Select q) = select t n g c q (shown t snapshot g c q.table) (first_fault q.cond (shown t snapshot g c q.table))
   slice_runs t n g c (Some snapshot) (slice.Insert table rows) =
       insert g c (length rows) (inserted t g c table rows) (insert_rows g c table rows (record { seg = t; marks = [] }) (record { node = n.node; sent = n.sent; marks = tt }))
-  slice_runs t n g c snapshot x = record { node = n.node; sent = n.sent; marks = tt; outs = tt }
+  slice_runs t n g c None (slice.Select q) = record { node = n.node; sent = n.sent; marks = tt; outs = tt }
+  slice_runs t n g c None (slice.Insert table rows) = record { node = n.node; sent = n.sent; marks = tt; outs = tt }
+  slice_runs t n g c snapshot (slice.Lock table mode) = record { node = n.node; sent = n.sent; marks = tt; outs = (refl, tt) }
+  slice_runs t n g c snapshot (slice.Update table assigns cond) = record { node = n.node; sent = n.sent; marks = tt; outs = tt }
+  slice_runs t n g c snapshot (slice.Delete table cond) = record { node = n.node; sent = n.sent; marks = tt; outs = tt }
 
   both : (b : Bool) (x y : SegTurn) → Stays x → Stays y → Stays (if b then x else y)
   both true x y e f = e

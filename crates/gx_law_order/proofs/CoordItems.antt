@@ -49,7 +49,7 @@ use Rattle.gx_law_order.proofs.SegItems.{Dull, dull-items}
 use Rattle.gx_rules.specs.Locks.{hold_mark, release_marks, with_hold}
 use Rattle.gx_locks.specs.Locks.{Locks, is_free, wait_of, resumed}
 use Rattle.gx_waits.specs.declared.claim.Claim.{Claim}
-use Rattle.gx_law_order.proofs.Calm.{each-released}
+use Rattle.gx_law_order.proofs.Releases.{each-released}
 
 -- a turn that appends nothing and whose marks stand for no item
 pub record IsDull (turn : CoordTurn) : Type 0 where

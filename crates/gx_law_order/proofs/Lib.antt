@@ -1,7 +1,6 @@
 pub mod Lists
 pub mod Places
-pub mod Calm
-pub mod CalmSegs
+pub mod Releases
 pub mod AtSegments
 pub mod Tables
 pub mod AtCoordinators

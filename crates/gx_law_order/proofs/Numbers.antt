@@ -46,7 +46,7 @@ use Rattle.gx_law_order.specs.Numbers.{AreStartsNumbered}
 use Rattle.gx_rules.specs.Locks.{hold_mark, release_marks, with_hold}
 use Rattle.gx_locks.specs.Locks.{Locks, is_free, resumed, wait_of}
 use Rattle.gx_waits.specs.declared.claim.Claim.{Claim}
-use Rattle.gx_law_order.proofs.Calm.{each-released}
+use Rattle.gx_law_order.proofs.Releases.{each-released}
 
 -- a mark that starts no transaction
 abbrev pub NoStart : Mark → Type 0

@@ -32,7 +32,6 @@ use Rattle.gx_rules.specs.Segments.{Seg, SegTurn}
 use Rattle.gx_rules.specs.Sending.{clock_after, counted, numbered}
 use Rattle.gx_law_order.proofs.AtCoordinators.{CoordIn, CoordStays, coord_stays}
 use Rattle.gx_law_order.proofs.AtSegments.{PlainAt, SegStays, seg_stays}
-use Rattle.gx_law_order.proofs.CalmSegs.{IsCalm, event_calm}
 use Rattle.gx_law_order.proofs.Clocks.{clock_after-above, clock_after-hears, clock_after-positive, clock_of-other, clock_of-same}
 use Rattle.gx_law_order.proofs.Letters.{IsFound, IsLetter, found_is, posted_letters, same_node}
 use Rattle.gx_law_order.proofs.Lists.{Each, each_append, each_weaker}
@@ -46,7 +45,6 @@ pub record Well (script : Script) (w : World) : Type 0 where
   pub steps : AreOrdered script [] w.steps
   pub coordinator : CoordIn script w.coord
   pub names : (i : ℕ) → (w.segs i).node ≡ at i
-  pub calm : (i : ℕ) → IsCalm (w.segs i)
   pub clock : clock_of the_coordinator w.steps ≤ w.coord.clock
   pub clocks : (i : ℕ) → 1 ≤ i → clock_of (at i) w.steps ≤ (w.segs i).clock
   pub sent : (i : ℕ) → w.coord.sent i ≡ sent_in the_coordinator (at i) w.steps
@@ -136,9 +134,8 @@ module _ (script : Script) (some : 1 ≤ script.segments) (w : World) (good : We
   coord_well h =
       record {
         steps = ordered-last script [] w.steps step good.steps (is_ordered h);
-        coordinator = record { table = kept.coord.table; works = kept.coord.works; locks = kept.coord.locks };
+        coordinator = record { table = kept.coord.table; works = kept.coord.works };
         names = good.names;
-        calm = good.calm;
         clock = same-le (clock_of-same the_coordinator w.steps step refl (clock_after-positive w.coord.clock x));
         clocks = λ i k. subst (λ c. c ≤ (w.segs i).clock) (sym (clock_of-other (at i) w.steps step (apart i k))) (good.clocks i k);
         sent = λ i. counted-all turn.coord.sent turn.outs i ∙ ap (λ a. a + sent_count (at i) (numbered turn.coord.sent turn.outs)) (counts i)
@@ -180,9 +177,6 @@ module _ (script : Script) (w : World) (good : Well script w) (e : Event) (x : N
 
   seg_kept : SegStays script s seg_turn
   seg_kept = seg_stays script s (subst (IsSegment script) (sym (good.names i)) place) x fails
-
-  seg_calm : IsCalm seg_turn.seg
-  seg_calm = event_calm script s (good.calm i) x fails
 
   plain_here : Each (PlainAt script (at i)) seg_turn.marks
   plain_here = subst (λ n. Each (PlainAt script n) seg_turn.marks) (good.names i) seg_kept.marks
@@ -241,7 +235,6 @@ module _ (script : Script) (w : World) (good : Well script w) (e : Event) (x : N
         steps = ordered-last script [] w.steps seg_step good.steps (seg_ordered h);
         coordinator = good.coordinator;
         names = at-both (λ j (t : Seg). t.node ≡ at j) w.segs i _ (seg_kept.node ∙ good.names i) (λ j no. good.names j);
-        calm = at-both (λ j t. IsCalm t) w.segs i _ (record { locks = seg_calm.locks; nobody = seg_calm.nobody }) (λ j no. good.calm j);
         clock = subst (λ c. c ≤ w.coord.clock) (sym (clock_of-other the_coordinator w.steps seg_step (apart-back i place.0))) good.clock;
         clocks = at-both (λ j (t : Seg). 1 ≤ j → clock_of (at j) (w.steps ++ seg_step ∷ []) ≤ t.clock) w.segs i _
             (λ k. same-le (clock_of-same (at i) w.steps seg_step (test-self i) (clock_after-positive s.clock x)))
@@ -346,9 +339,8 @@ module _ (script : Script) (some : 1 ≤ script.segments) where
   new_well =
       record {
         steps = tt;
-        coordinator = record { table = tt; works = λ g. record { writers = tt; command = tt }; locks = record { nobody = refl; modes = tt } };
+        coordinator = record { table = tt; works = λ g. record { writers = tt; command = tt } };
         names = λ i. refl;
-        calm = λ i. record { locks = record { nobody = refl; modes = tt }; nobody = λ h. refl };
         clock = least 0;
         clocks = λ i h. least 0;
         sent = λ i. refl;

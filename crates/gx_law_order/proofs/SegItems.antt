@@ -42,7 +42,7 @@ use Rattle.gx_rules.specs.Segments.{Local, Phase, Seg, SegTurn, Suspended, Versi
 use Rattle.gx_rules.specs.Segments.Phase.{Aborted, Committed, Forgotten, Prepared, Reading, Writing}
 use Rattle.gx_rules.specs.Shown.{kept_of, kept_one, last_images, shown}
 use Rattle.gx_rules.specs.Slices.{Moved, first_fault, inserted, inserts, inserts_row, requests, runs_locked, runs_slice, selects, slice_lock, suspends}
-use Rattle.gx_law_order.proofs.Calm.{each-released}
+use Rattle.gx_law_order.proofs.Releases.{each-released}
 use Rattle.gx_law_order.proofs.Lists.{Each}
 use Rattle.gx_law_order.proofs.Stages.{gx}
 use Rattle.gx_law_order.proofs.Suspended.{is_open_phase}
@@ -250,7 +250,11 @@ module _ (s : Seg) (before : List Mark) (k : Holds s.node s before) where
   slice_runs fails top locks g c (Some snapshot) (slice.Select q) n = select fails top locks g c q (shown (raised_with top locks) snapshot g c q.table) (first_fault q.cond (shown (raised_with top locks) snapshot g c q.table))
   slice_runs fails top locks g c (Some snapshot) (slice.Insert table rows) n =
       insert fails g c (length rows) (inserted (raised_with top locks) g c table rows) (add-rows g c table rows (record { seg = raised_with top locks; marks = [] }) n (record { node = refl; dull = tt; versions = sym (append-nil s.versions); bound = k.bound }))
-  slice_runs fails top locks g c snapshot x n = dull-turn fails (stays (raised_with top locks)) tt refl (none-kept fails) refl k.bound
+  slice_runs fails top locks g c None (slice.Select q) n = dull-turn fails (stays (raised_with top locks)) tt refl (none-kept fails) refl k.bound
+  slice_runs fails top locks g c None (slice.Insert table rows) n = dull-turn fails (stays (raised_with top locks)) tt refl (none-kept fails) refl k.bound
+  slice_runs fails top locks g c snapshot (slice.Lock table mode) n = dull-turn fails _ tt refl (none-kept fails) refl (bound-with s.locals g.0 _ (λ i. is_prepared before s.node (gx i)) k.bound (k.bound g.0))
+  slice_runs fails top locks g c snapshot (slice.Update table assigns cond) n = dull-turn fails (stays (raised_with top locks)) tt refl (none-kept fails) refl k.bound
+  slice_runs fails top locks g c snapshot (slice.Delete table cond) n = dull-turn fails (stays (raised_with top locks)) tt refl (none-kept fails) refl k.bound
 
 -- who runs hasn't promised
 open-bound : (b : Bool) (p : Phase) → is_open_phase p ≡ true → Bound b p → b ≡ false

@@ -1,5 +1,5 @@
 -- Slices that wait at a segment: where each came from, and how its transaction stands there meanwhile.
-use Rattle.std.proofs.Common.{◌≡◌, ◌≤◌, ◌⊎◌, inl, inr, ℕ, zero, suc, List, [], ◌∷◌, ◌++◌, Option, Some, None, Bool, true, false, refl, sym, subst, ap, ◌∙◌, arith, length}
+use Rattle.std.proofs.Common.{◌≡◌, ◌||◌, ◌≤◌, ◌⊎◌, inl, inr, ℕ, zero, suc, List, [], ◌∷◌, ◌++◌, Option, Some, None, Bool, true, false, refl, sym, subst, ap, ◌∙◌, arith, length}
 use Rattle.std.specs.Prelude.{cond, filter, find, is_some, slice_get, take}
 use Rattle.gx_lemmas.proofs.Lists.{get-append}
 use Rattle.gx_lemmas.proofs.Numbers.{one-le-zero}
@@ -19,7 +19,7 @@ use Rattle.gx_store.specs.declared.run.Step.{Step}
 use Rattle.gx_store.specs.Messages.{IsSending, IsSent, Receives}
 use Rattle.gx_store.specs.Ordered.{IsLink}
 use Rattle.gx_store.specs.Refusals.{the_coordinator}
-use Rattle.gx_rules.specs.Fits.{is_right_slice}
+use Rattle.gx_rules.specs.Fits.{is_right_slice, reads_nothing}
 use Rattle.gx_rules.specs.Machine.{Letter, World, posted}
 use Rattle.gx_rules.specs.Segments.{Local, Phase, Seg, Suspended, local_of}
 use Rattle.gx_rules.specs.Segments.Phase.{Reading, Writing}
@@ -140,15 +140,15 @@ is_open_phase Reading = true
 is_open_phase Writing = true
 is_open_phase _ = false
 
--- Of a slice that waits: its EXEC has come and has raised the horizon; it is right for the script and has its snapshot; it is of
--- the transaction's last command there, which isn't answered; the transaction has neither promised anything nor ended there; and
+-- Of a slice that waits: its EXEC has come and has raised the horizon; it is right for the script and has its snapshot, unless it
+-- reads nothing; it is of the transaction's last command there, which isn't answered; the transaction has neither promised anything nor ended there; and
 -- what it waits for is its table's lock.
 pub record Waits (script : Script) (w : World) (i : ℕ) (g : Gxid) (x : Suspended) : Type 0 where
   pub horizon : Gxid
   pub come : HasCome w i (message.Exec g x.cid x.level x.snapshot horizon x.slice)
   pub raised : horizon.0 ≤ (w.segs i).horizon.0
   pub right : is_right_slice script g x.cid x.slice ≡ true
-  pub reads : is_some x.snapshot ≡ true
+  pub reads : (is_some x.snapshot || reads_nothing x.slice) ≡ true
   pub numbered : 1 ≤ x.cid.0
   pub last : (local_of (w.segs i) g).last ≡ x.cid.0
   pub unanswered : (local_of (w.segs i) g).answer ≡ None
@@ -161,7 +161,7 @@ pub record Stands (script : Script) (Come : Message → Type 0) (top : Gxid) (g 
   pub come : Come (message.Exec g x.cid x.level x.snapshot horizon x.slice)
   pub raised : horizon.0 ≤ top.0
   pub right : is_right_slice script g x.cid x.slice ≡ true
-  pub reads : is_some x.snapshot ≡ true
+  pub reads : (is_some x.snapshot || reads_nothing x.slice) ≡ true
   pub numbered : 1 ≤ x.cid.0
   pub last : l.last ≡ x.cid.0
   pub unanswered : l.answer ≡ None

@@ -1,5 +1,5 @@
 -- Whatever happens at a segment, the slices that wait there stand as they do.
-use Rattle.std.proofs.Common.{◌≡◌, ◌≤◌, ℕ, List, [], ◌∷◌, ◌++◌, Option, Some, None, Bool, true, false, not, refl, sym, subst, ap, ◌∙◌, if◌then◌else◌, ◌&&◌, nat_lt, ◌==◌, arith, eqb}
+use Rattle.std.proofs.Common.{◌≡◌, ◌≤◌, ℕ, List, [], ◌∷◌, ◌++◌, Option, Some, None, Bool, true, false, not, refl, sym, subst, ap, ◌∙◌, if◌then◌else◌, ◌&&◌, ◌||◌, nat_lt, ◌==◌, arith, eqb}
 use Rattle.std.proofs.lemmas.Bool.{eqb-true}
 use Rattle.std.proofs.lemmas.Bool.Decides.{nat_tests}
 use Rattle.std.specs.Prelude.{cond, filter, fold, is_some}
@@ -27,7 +27,7 @@ use Rattle.gx_script.specs.declared.Script.{Script}
 use Rattle.gx_store.specs.declared.node.NodeEvent.{NodeEvent}
 use Rattle.gx_store.specs.declared.node.NodeEvent.TheVariants as event
 use Rattle.gx_rules.specs.AtSegment.{commits, ends, finishes, if_fits, on_abort, on_commit, on_commit_prepared, on_event, on_exec, on_forget, on_message, on_prepare, once, promises, raised, repeats, resumes, takes, unless_below, was_prepared}
-use Rattle.gx_rules.specs.Fits.{fits_exec, is_right_slice, is_waiting}
+use Rattle.gx_rules.specs.Fits.{fits_exec, is_right_slice, is_waiting, reads_nothing}
 use Rattle.gx_rules.specs.Locks.{with_hold, with_wait}
 use Rattle.gx_rules.specs.Segments.{Local, Phase, Seg, SegTurn, Suspended, local_of, tells_kept, with_local}
 use Rattle.gx_rules.specs.Segments.Phase.{Aborted, Committed, Forgotten, Prepared, Reading, Writing}
@@ -76,7 +76,10 @@ lock-owner g (slice.Insert table rows) wanted e = sym (owner _ wanted e)
     owner a b q = cc
 lock-owner g (slice.Update table assigns cond) wanted e = absurd (cc)
 lock-owner g (slice.Delete table cond) wanted e = absurd (cc)
-lock-owner g (slice.Lock table mode) wanted e = absurd (cc)
+lock-owner g (slice.Lock table mode) wanted e = sym (owner _ wanted e)
+  where
+    owner : (a b : Claim) → Some a ≡ Some b → a.gxid ≡ b.gxid
+    owner a b q = cc
 
 -- WHERE NOBODY OF A TRANSACTION WAITS
 pub nothing-suits : (script : Script) (Come : Message → Type 0) (top : Gxid) (h : ℕ) (l : Local) → l.suspended ≡ None → Suits script Come top h l
@@ -96,15 +99,15 @@ closed-rests script Come top h l f e = by_slice l.suspended refl
     by_slice None q = refl
     by_slice (Some x) q = absurd (clash (is_open_phase l.phase) (f x q).opens e)
 
--- a new command fits where none waits, and has its snapshot and a right slice
+-- a new command fits where none waits, and has a snapshot unless it reads nothing, and a right slice
 pub record FitsNew (script : Script) (g : Gxid) (c : Cid) (snapshot : Option Snapshot) (x : Slice) (l : Local) : Type 0 where
-  pub reads : is_some snapshot ≡ true
+  pub reads : (is_some snapshot || reads_nothing x) ≡ true
   pub right : is_right_slice script g c x ≡ true
   pub rests : nat_lt l.last c.0 ≡ true → l.suspended ≡ None
 
 pub fits-new : (script : Script) (s : Seg) (g : Gxid) (c : Cid) (snapshot : Option Snapshot) (h : Gxid) (x : Slice) → fits_exec script s g c snapshot h x ≡ true → FitsNew script g c snapshot x (local_of s g)
 fits-new script s g c snapshot h x e =
-    let t = parts _ _ (is_some snapshot) (is_right_slice script g c x) (nat_lt (local_of s g).last c.0) (is_waiting (local_of s g)) e in
+    let t = parts _ _ (is_some snapshot || reads_nothing x) (is_right_slice script g c x) (nat_lt (local_of s g).last c.0) (is_waiting (local_of s g)) e in
     record { reads = t.0; right = t.1; rests = λ n. nobody (local_of s g).suspended (t.2 n) }
   where
     parts : (a b r q n w : Bool) → (a && (b && (r && (q && not (n && w))))) ≡ true → (r ≡ true) × (q ≡ true) × (n ≡ true → w ≡ false)
@@ -174,7 +177,11 @@ module _ (script : Script) (Come : Message → Type 0) where
   slice_runs t g c (Some snapshot) (slice.Insert table rows) k e =
       let a = insert_rows g c table rows (record { seg = t; marks = [] }) k e in
       resting (inserted t g c table rows).seg g _ a.0 a.1 a.1
-  slice_runs t g c snapshot x k e = k
+  slice_runs t g c None (slice.Select q) k e = k
+  slice_runs t g c None (slice.Insert table rows) k e = k
+  slice_runs t g c snapshot (slice.Lock table mode) k e = resting t g _ k e e
+  slice_runs t g c snapshot (slice.Update table assigns cond) k e = k
+  slice_runs t g c snapshot (slice.Delete table cond) k e = k
 
   -- it is suspended
   suspend : (t : Seg) (g : Gxid) (c : Cid) (level : Level) (snapshot : Option Snapshot) (h : Gxid) (x : Slice) (wanted : Claim) → Rightly t → Come (message.Exec g c level snapshot h x) → h.0 ≤ t.horizon.0 → FitsNew script g c snapshot x (local_of t g) → nat_lt (local_of t g).last c.0 ≡ true → is_open_phase (local_of t g).phase ≡ true → slice_lock g x ≡ Some wanted → Keeps (suspends t g c level snapshot x wanted)

@@ -32,7 +32,7 @@ use Rattle.gx_law_order.proofs.Queued.{Queues, queue-released, queue-then}
 use Rattle.gx_law_order.proofs.Stages.{IsWhole, gx}
 use Rattle.gx_law_order.proofs.Statuses.{Falls, Stage, Turned, is_running, stage}
 use Rattle.gx_law_order.proofs.Statuses.Stage.{Absent, Live, Closing, Finished, Dropped}
-use Rattle.gx_law_order.proofs.Calm.{each-released}
+use Rattle.gx_law_order.proofs.Releases.{each-released}
 use Rattle.gx_rules.specs.Locks.{release_marks}
 use Rattle.gx_store.specs.Refusals.{the_coordinator}
 

@@ -1,7 +1,7 @@
 -- Who waits. A slice that waits at a segment: where it came from, how its transaction stands there meanwhile, and what it does when
 -- it goes on. A statement that waits at the coordinator, and how its transaction and its session stand meanwhile.
-use Rattle.std.proofs.Common.{◌≡◌, ℕ, [], ◌∷◌, Option, Some, None, Bool, true, false, refl, sym, ap, ◌∙◌, ◌&&◌, ◌≤◌, ◌⊎◌, inl, inr, List, subst, not, nat_lt, arith}
-use Rattle.std.specs.Prelude.{filter, slice_get, is_some, take}
+use Rattle.std.proofs.Common.{◌≡◌, ℕ, [], ◌∷◌, Option, Some, None, Bool, true, false, refl, sym, ap, ◌∙◌, ◌&&◌, ◌≤◌, not, nat_lt, arith}
+use Rattle.std.specs.Prelude.{filter, slice_get}
 use Rattle.std.proofs.lemmas.Bool.Decides.{nat_tests}
 use Rattle.gx_lemmas.proofs.Tests.{and-second}
 use Rattle.gx_ids.specs.declared.ids.Gxid.{Gxid}
@@ -9,26 +9,21 @@ use Rattle.gx_tree.specs.declared.stmt.Stmt.{Stmt}
 use Rattle.gx_waits.specs.declared.claim.Claim.{Claim}
 use Rattle.gx_locks.specs.Claims.{is_of}
 use Rattle.gx_locks.specs.Locks.{is_free, is_ready, wait_of}
-use Rattle.gx_msg.specs.declared.message.Message.{Message}
-use Rattle.gx_msg.specs.declared.message.Message.TheVariants as message
 use Rattle.gx_script.specs.declared.Script.{Script}
 use Rattle.gx_store.specs.declared.node.NodeEvent.TheVariants as event
 use Rattle.gx_rules.specs.AtCoordinator.{coord_can, is_segment, lock_for}
 use Rattle.gx_rules.specs.AtSegment.{resumes}
 use Rattle.gx_rules.specs.Coordinators.{Coord, session_of, work_of}
-use Rattle.gx_rules.specs.Machine.{World, seg_can, Letter}
+use Rattle.gx_rules.specs.Machine.{World, seg_can}
 use Rattle.gx_rules.specs.Segments.{Seg, Suspended, local_of, Phase, has_ended}
 use Rattle.gx_rules.specs.Fits.{holds_locks}
 use Rattle.gx_rules.specs.Segments.Phase.{Aborted, Committed, Forgotten, Prepared, Reading, Writing}
 use Rattle.gx_rules.specs.Slices.{slice_lock}
-use Rattle.gx_rules.specs.Fits.{is_right_slice}
 use Rattle.gx_rules.specs.Segments.Phase.{Reading, Writing}
-use Rattle.gx_law_order.proofs.Lists.{Each}
 use Rattle.gx_law_order.proofs.Ordered.{Well}
 use Rattle.gx_law_order.proofs.Sessions.{is_working_in, stage_of, Kept}
 use Rattle.gx_law_order.proofs.Queued.{WaitsFor, claims_for, listed, waits-for}
 use Rattle.gx_law_order.proofs.Stages.{gx}
-use Rattle.gx_law_order.proofs.Sent.{at}
 use Rattle.gx_law_order.proofs.Statuses.Stage.{Live}
 use Rattle.gx_law_order.proofs.Suspended.{claims_of, find-filter, one_claim, waits-there}
 use Rattle.gx_law_order.proofs.Suspensions.{closed-rests}

@@ -56,7 +56,7 @@ use Rattle.gx_law_commit.proofs.Waiting.{awaited}
 use Rattle.gx_law_commit.proofs.Ways.{Fol, Led, fol-no-part}
 use Rattle.gx_law_reads.proofs.Low.{Lows, coord-low, heard-low, new-lows}
 use Rattle.gx_law_reads.proofs.Ran.{IsAnswer, OfSlice, Ran, going-ran}
-use Rattle.gx_law_reads.proofs.Steps.{HeardAt, IsGiven, SaidTo, by-heard, event-leads, given-is, world-keeps}
+use Rattle.gx_law_commit.proofs.Steps.{HeardAt, IsGiven, SaidTo, by-heard, event-leads, given-is, world-keeps}
 use Rattle.gx_law_reads.proofs.Taken.{LiveMessage, Passes, event-pass}
 
 -- who has committed has its writes committed at each segment, and who was aborted nowhere

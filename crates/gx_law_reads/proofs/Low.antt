@@ -64,7 +64,7 @@ use Rattle.gx_law_reads.proofs.Held.{Latest}
 use Rattle.gx_law_reads.proofs.Going.{event-went}
 use Rattle.gx_law_reads.proofs.Reading.{CountedIn, FineIn, OutFine, Stood, low-then}
 use Rattle.gx_law_reads.proofs.Ran.{IsAnswer, OfSlice, going-ran}
-use Rattle.gx_law_reads.proofs.Steps.{HeardAt, IsGiven, SaidTo, by-heard, event-leads, given-is, world-keeps}
+use Rattle.gx_law_commit.proofs.Steps.{HeardAt, IsGiven, SaidTo, by-heard, event-leads, given-is, world-keeps}
 use Rattle.gx_law_reads.proofs.Turns.{WentBy}
 
 abbrev pub LetterLow : Table → (ℕ → Work) → Letter → Type 0

@@ -107,7 +107,11 @@ module _ (s : Seg) (g : ℕ) (c : Cid) where
     slice-ran : (x : Option Snapshot) (y : Slice) → Ran s g c.0 (runs_slice start (gx g) c x y)
     slice-ran (Some x) (slice.Select q) = select q (shown start x (gx g) c q.table) (first_fault q.cond (shown start x (gx g) c q.table))
     slice-ran (Some x) (slice.Insert table rows) = ran (fold (inserts_row (gx g) c table) (record { seg = start; marks = [] }) rows) _ (insert-rows table rows (record { seg = start; marks = [] }) on)
-    slice-ran x y = rest
+    slice-ran None (slice.Select q) = rest
+    slice-ran None (slice.Insert table rows) = rest
+    slice-ran x (slice.Lock table mode) = ran (record { seg = start; marks = [] }) _ on
+    slice-ran x (slice.Update table assigns cond) = rest
+    slice-ran x (slice.Delete table cond) = rest
 
 -- with its lock, the slice that has waited
 abbrev pub freed : Seg → Gxid → Claim → Seg

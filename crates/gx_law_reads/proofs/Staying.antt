@@ -40,7 +40,7 @@ use Rattle.gx_law_reads.specs.Horizons.{HasRisen}
 use Rattle.gx_law_reads.specs.Sights.{DoViewsStay, IsOnlyAt}
 use Rattle.gx_law_reads.proofs.Low.{by}
 use Rattle.gx_law_reads.proofs.Ends.{Facts, MadeOf, NewMark, all-marks, coord-facts, heard-made, last-late, no-parts, seg-facts, world-facts}
-use Rattle.gx_law_reads.proofs.Steps.{HeardAt, SaidTo, event-leads, keeps-after}
+use Rattle.gx_law_commit.proofs.Steps.{HeardAt, SaidTo, event-leads, keeps-after}
 
 take-kept : {A : Type 0} (xs ys : List A) (k : ℕ) (x : A) → slice_get xs k ≡ Some x → take k (xs ++ ys) ≡ take k xs
 take-kept [] ys k x e = absurd (cc)

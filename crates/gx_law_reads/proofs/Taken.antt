@@ -74,12 +74,12 @@ use Rattle.gx_law_reads.proofs.Held.{Latest}
 use Rattle.gx_law_reads.proofs.Low.{Lows, latest, live-standing}
 use Rattle.gx_law_reads.proofs.Plain.{NoExec, abort-mild, commit-mild, reply-mild}
 use Rattle.gx_law_reads.proofs.Reading.{CommandLow, OrderLow, Stood}
-use Rattle.gx_law_reads.proofs.Steps.{SaidTo}
+use Rattle.gx_law_commit.proofs.Steps.{SaidTo}
 use Rattle.gx_rules.specs.Locks.{with_hold, hold_mark, release_marks}
 use Rattle.gx_locks.specs.Locks.{Locks, is_free, resumed, wait_of}
 use Rattle.gx_waits.specs.declared.claim.Claim.{Claim}
 use Rattle.gx_store.specs.Refusals.{the_coordinator}
-use Rattle.gx_law_order.proofs.Calm.{each-released}
+use Rattle.gx_law_order.proofs.Releases.{each-released}
 use Rattle.gx_law_order.proofs.Waiting.{going-out}
 
 abbrev pub NoCommit : Mark → Type 0

@@ -48,7 +48,8 @@ pub record IsToRun (w : World) (node : Node) (g : Gxid) (c : Cid) : Type 0 where
   pub unaborted : is_aborted (marks_in w.steps) g ≡ false
   pub new : IsNewOrWaits (local_of (w.segs node.0) g) c
 
--- such a command sees whoever is below the horizon that the node then has
+-- Such a command sees whoever is below the horizon that the node then has, unless it has no snapshot: LOCK TABLE has none, and
+-- sees nothing.
 abbrev pub IsSeenBelow : World → Node → Message → Type 0
 IsSeenBelow w node (message.Exec g c level (Some snapshot) horizon slice) =
     IsToRun w node g c → (h : Gxid) → 1 ≤ h.0 → (is_below (raised (w.segs node.0) horizon).horizon h || sees snapshot h) ≡ sees snapshot h

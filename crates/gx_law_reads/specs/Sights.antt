@@ -72,8 +72,8 @@ AreRowsOfAll k w [] = Unit {0}
 AreRowsOfAll k w (rows ∷ tables) = AreRowsOf w (record { 0 = k }) rows.items × AreRowsOfAll (k + 1) w tables
 
 -- WHAT A SEGMENT SHOWS TO A COMMAND
--- When a command comes to a segment that has still to run it, the segment shows to it each row that is written there alone as
--- it is for the command at the place where its snapshot was taken.
+-- When a command with a snapshot comes to a segment that has still to run it, the segment shows to it each row that is written
+-- there alone as it is for the command at the place where its snapshot was taken.
 abbrev pub IsShownView : World → Node → Message → Type 0
 IsShownView w node (message.Exec g c level (Some snapshot) horizon slice) =
     1 ≤ node.0 → IsToRun w node g c → (place : ℕ) (d : Cid) → slice_get (marks_in w.steps) place ≡ Some (mark.Snap g d snapshot) → (table : Table) (rid : Rid) → IsOnlyAt node rid (marks_in w.steps)

@@ -26,7 +26,8 @@ pub fn the_horizon_never_falls()
         → HasRisen (world_of script events) (after script (world_of script events) later) }
 {}
 
-/// A command that a segment has still to run, of a transaction that wasn't aborted, sees whoever is below the horizon there.
+/// A command with a snapshot that a segment has still to run, of a transaction that wasn't aborted, sees whoever is below the
+/// horizon there. Only LOCK TABLE has no snapshot, and it sees nothing.
 pub fn nobody_is_dropped_too_early()
     ensures { (script : Script) (events : List (OneEvent × Bool)) → 1 ≤ script.segments → IsNobodyDropped (world_of script events) (world_of script events).sent }
 {}
@@ -37,8 +38,8 @@ pub fn ends_are_the_same_everywhere()
     ensures { (script : Script) (events : List (OneEvent × Bool)) (node : OneNode) (g : OneGxid) → 1 ≤ script.segments → DoesEndAt (world_of script events) node g }
 {}
 
-/// To a command that it has still to run, a segment shows each row that is written there alone as it is for the command at
-/// the place where its snapshot was taken.
+/// To a command with a snapshot that it has still to run, a segment shows each row that is written there alone as it is for the
+/// command at the place where its snapshot was taken. Only LOCK TABLE has no snapshot, and it is shown nothing.
 pub fn segments_show_the_view()
     ensures { (script : Script) (events : List (OneEvent × Bool)) → 1 ≤ script.segments → AreShownViews (world_of script events) (world_of script events).sent }
 {}

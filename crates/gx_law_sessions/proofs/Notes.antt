@@ -208,11 +208,18 @@ module _ (ms : List Mark) (node : Node) where
   row-noted g c table [] m all = all
   row-noted g c table (r ∷ rs) m all = row-noted g c table rs (inserts_row g c table m r) (local-at ms m.seg g _ all (record { answer = (all g.0).answer; vote = (all g.0).vote }))
 
+  idle-noted : (s : Seg) → SegNoted ms node s → Notes (stays s)
+  idle-noted s all = record { locals = λ j. local-more ms [] node (gx j) (s.locals j) (all j); outs = tt }
+
   slice-noted : (s : Seg) → SegNoted ms node s → (g : Gxid) (c : Cid) (snapshot : Option Snapshot) (x : Slice) → Notes (runs_slice s g c snapshot x)
   slice-noted s all g c (Some snapshot) (slice.Select q) = select s all g c q (shown s snapshot g c q.table) (first_fault q.cond (shown s snapshot g c q.table))
   slice-noted s all g c (Some snapshot) (slice.Insert table rows) =
       answered (inserted s g c table rows).seg (row-noted g c table rows (record { seg = s; marks = [] }) all) g c (inserted s g c table rows).marks _ tt
-  slice-noted s all g c snapshot x = record { locals = λ j. local-more ms [] node (gx j) (s.locals j) (all j); outs = tt }
+  slice-noted s all g c None (slice.Select q) = idle-noted s all
+  slice-noted s all g c None (slice.Insert table rows) = idle-noted s all
+  slice-noted s all g c snapshot (slice.Lock table mode) = answered s all g c [] _ tt
+  slice-noted s all g c snapshot (slice.Update table assigns cond) = idle-noted s all
+  slice-noted s all g c snapshot (slice.Delete table cond) = idle-noted s all
 
 -- behind the mark of a lock
 behind : (ms : List Mark) (node : Node) (m : Mark) (turn : SegTurn) → Notes (ms ++ m ∷ []) node turn → Notes ms node (after_marks (m ∷ []) turn)

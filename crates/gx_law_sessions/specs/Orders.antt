@@ -49,7 +49,7 @@ level_of_began script None = ReadCommitted
 level_of_began script (Some began) = level_by (stmt_of began.0 began.1 script.lines)
 
 -- An EXEC to a node: its statement is that of the transaction's command of this number, at the transaction's level; its slice
--- is that node's piece of the statement's plan, and its snapshot was taken for the command.
+-- is that node's piece of the statement's plan, and its snapshot was taken for the command; a LOCK TABLE's has none.
 pub record IsOrder (script : Script) (marks : List Mark) (node : Node) (g : Gxid) (c : Cid) (level : Level) (snapshot : Option Snapshot) (slice : Slice) : Type 0 where
   pub line : Stmt
   pub of : stmt_of_command script marks g c ≡ Some line

@@ -37,7 +37,8 @@ pub fn histories_are_legal_once_shown()
 {}
 
 /// Each EXEC that was ever sent is of a statement of its transaction's session: the one that the command's number says. It
-/// has the transaction's level, the node's piece of the statement's plan, and a snapshot that was taken for the command.
+/// has the transaction's level, the node's piece of the statement's plan, and a snapshot that was taken for the command, or
+/// none where it is a LOCK TABLE.
 pub fn orders_are_of_their_lines()
     ensures { (script : Script) (events : List (OneEvent × Bool)) → 1 ≤ script.segments → AreLinesNumbered [] script.lines → AreOrdersOf script (world_of script events) }
 {}
