@@ -1,6 +1,7 @@
 -- A segment's turn when a message comes.
-use Rattle.std.proofs.Common.{◌≡◌, ◌≤◌, ◌<◌, ◌⊎◌, inl, inr, ℕ, [], ◌∷◌, Option, Some, None, Bool, true, false, refl, sym, subst, ap, ◌∙◌, if◌then◌else◌, eqb, arith}
+use Rattle.std.proofs.Common.{◌≡◌, ◌≤◌, ◌<◌, ◌⊎◌, inl, inr, ℕ, [], ◌∷◌, Option, Some, None, Bool, true, false, refl, sym, subst, ap, ◌∙◌, if◌then◌else◌, ◌||◌, eqb, arith}
 use Rattle.std.proofs.lemmas.Bool.Decides.{nat_tests}
+use Rattle.std.specs.Prelude.{is_some}
 use Rattle.gx_ids.specs.declared.ids.Cid.{Cid}
 use Rattle.gx_ids.specs.declared.ids.Gxid.{Gxid}
 use Rattle.gx_ids.specs.declared.ids.Node.{Node}
@@ -19,10 +20,11 @@ use Rattle.gx_store.specs.Language.{AreLinesNumbered}
 use Rattle.gx_store.specs.Ordered.{IsSegment}
 use Rattle.gx_rules.specs.AtCoordinator.{coord_can, coord_rule}
 use Rattle.gx_rules.specs.AtSegment.{on_message, seg_rule}
+use Rattle.gx_rules.specs.Fits.{reads_nothing}
 use Rattle.gx_rules.specs.Locks.{hold_mark}
 use Rattle.gx_rules.specs.Machine.{World, can_here, coord_did, delivered, does, found, new_world, seg_did, world_of}
 use Rattle.gx_rules.specs.Segments.{Seg, SegTurn, after_marks, local_of}
-use Rattle.gx_rules.specs.Slices.{runs_slice, suspends}
+use Rattle.gx_rules.specs.Slices.{runs_slice, slice_lock, suspends}
 use Rattle.gx_law_order.proofs.Lists.{Each}
 use Rattle.gx_law_order.proofs.Ordered.{world_well}
 use Rattle.gx_law_sessions.proofs.World.{after-last}
@@ -32,6 +34,10 @@ use Rattle.gx_law_writes.proofs.Waiting.{Waited, Ways, message-ways, new-untold}
 use Rattle.gx_law_answers.specs.Earned.{Events}
 use Rattle.gx_law_answers.proofs.Posts.{Came, came-now}
 use Rattle.gx_law_answers.proofs.Running.{Doings, Idle, IsLate, Runs}
+
+or-true : (b : Bool) → (b || true) ≡ true
+or-true true = refl
+or-true false = refl
 
 not-here : (n : ℕ) → 1 ≤ n → eqb n 0 ≡ false
 not-here n l = grind (arith, nat_tests)
@@ -58,28 +64,30 @@ module _ (script : Script) (some : 1 ≤ script.segments) (numbered_lines : AreL
       late : World
       late = seg_did (world_of script es) to (event.Receive from to number) (seg_rule script ((world_of script es).segs to.0) (here.Deliver from envelope) fails)
 
-  at-once : (g : Gxid) (c : Cid) (level : Level) (q : Snapshot) (horizon : Gxid) (y : Slice) → envelope.message ≡ message.Exec g c level (Some q) horizon y → (s.locals g.0).last < c.0 → (locks : Locks) (wanted : Claim) → turn ≡ after_marks (hold_mark s.node wanted ∷ []) (runs_slice (base s horizon locks) g c (Some q) y)
+  at-once : (g : Gxid) (c : Cid) (level : Level) (q : Option Snapshot) (horizon : Gxid) (y : Slice) → (is_some q || reads_nothing y) ≡ true → envelope.message ≡ message.Exec g c level q horizon y → (s.locals g.0).last < c.0 → (locks : Locks) (wanted : Claim) → slice_lock g y ≡ Some wanted → turn ≡ after_marks (hold_mark s.node wanted ∷ []) (runs_slice (base s horizon locks) g c q y)
       → Runs script es to (event.Receive from to number) fails (here.Deliver from envelope) y
-  at-once g c level q horizon y told fresh locks wanted ran =
+  at-once g c level q horizon y reads told fresh locks wanted lock ran =
       record {
         g = g;
         c = c;
         level = level;
         snapshot = q;
+        reads = reads;
         horizon = horizon;
         came = its;
         untold = λ n k wrote count part. new-untold script some numbered_lines es to place.0 g c n k wrote count part fresh;
         like = s;
         versions = refl;
         answers = λ h. refl;
-        sight = λ unaborted. its.view_is place.0 (new-to-run w to g c unaborted fresh);
+        sight = λ unaborted v same. (subst (λ z. Came script es to (message.Exec g c level z horizon y)) same its).view_is place.0 (new-to-run w to g c unaborted fresh);
         locks = locks;
         wanted = wanted;
+        lock = lock;
         ran = ran;
-        given = λ r o. inl (record { from = from; number = number; is = refl; envelope = envelope; posted = is_found; horizon = horizon; told = told; new = fresh; locks = locks; wanted = wanted; ran = ran; given = o });
+        given = λ r o. inl (record { from = from; number = number; is = refl; envelope = envelope; posted = is_found; horizon = horizon; told = told; new = fresh; locks = locks; wanted = wanted; lock = lock; ran = ran; given = o });
       }
     where
-      its : Came script es to (message.Exec g c level (Some q) horizon y)
+      its : Came script es to (message.Exec g c level q horizon y)
       its = subst (Came script es to) told (came-now script some es from to number envelope place is_found)
 
   idle : Waited s envelope.message turn → Idle script es to (event.Receive from to number) fails (here.Deliver from envelope)
@@ -101,6 +109,7 @@ module _ (script : Script) (some : 1 ≤ script.segments) (numbered_lines : AreL
     where
       by_way : Ways s envelope.message turn → Doings script es to (event.Receive from to number) fails (here.Deliver from envelope)
       by_way (inl q) = inl q
-      by_way (inr (inl z)) = inr (inr (slice.Select z.query, at-once z.g z.c z.level z.snapshot z.horizon (slice.Select z.query) z.is z.fresh z.locks z.wanted z.ran))
-      by_way (inr (inr (inl z))) = inr (inr (slice.Insert z.table z.rows, at-once z.g z.c z.level z.snapshot z.horizon (slice.Insert z.table z.rows) z.is z.fresh z.locks z.wanted z.ran))
-      by_way (inr (inr (inr z))) = inr (inl (idle z))
+      by_way (inr (inl z)) = inr (inr (slice.Select z.query, at-once z.g z.c z.level (Some z.snapshot) z.horizon (slice.Select z.query) refl z.is z.fresh z.locks z.wanted z.locked z.ran))
+      by_way (inr (inr (inl z))) = inr (inr (slice.Insert z.table z.rows, at-once z.g z.c z.level (Some z.snapshot) z.horizon (slice.Insert z.table z.rows) refl z.is z.fresh z.locks z.wanted z.locked z.ran))
+      by_way (inr (inr (inr (inl z)))) = inr (inl (idle z))
+      by_way (inr (inr (inr (inr z)))) = inr (inr (slice.Lock z.table z.mode, at-once z.g z.c z.level z.snapshot z.horizon (slice.Lock z.table z.mode) (or-true (is_some z.snapshot)) z.is z.fresh z.locks z.wanted z.locked z.ran))

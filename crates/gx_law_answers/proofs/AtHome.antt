@@ -37,6 +37,6 @@ at-home script some numbered es rid = by_node (node_of (marks_in (world_of scrip
     by_node : (o : Option Node) → node_of (marks_in (world_of script es).steps) rid ≡ o → (node : Node) × (1 ≤ node.0) × IsOnlyAt node rid (marks_in (world_of script es).steps)
     by_node None q = (record { 0 = 1 }, omega arith, never-only (record { 0 = 1 }) rid (marks_in (world_of script es).steps) q)
     by_node (Some node) q =
-        let placed = (writes.world-holds script some numbered es).placed in
+        let placed = writes.world-placed script some numbered es in
         let a = first-at script (marks_in (world_of script es).steps) node rid (marks_in (world_of script es).steps) placed q in
         (node, subst (λ k. 1 ≤ k) (sym a.placed.place) (row_place-least script.segments _ a.placed.values rid), only-at script (marks_in (world_of script es).steps) node rid (marks_in (world_of script es).steps) placed q)

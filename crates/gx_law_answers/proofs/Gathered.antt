@@ -1,6 +1,5 @@
 -- An INSERT that was gathered has written its rows.
 use Rattle.std.proofs.Common.{◌≡◌, ◌≤◌, inl, inr, ℕ, ◌+◌, List, [], ◌∷◌, ◌++◌, length, Some, Result, Ok, Err, Bool, true, false, refl, sym, subst, ap, ◌∙◌, if◌then◌else◌, ◌||◌, arith, eqb}
-use Rattle.std.proofs.lemmas.Bool.Decides.{nat_tests}
 use Rattle.std.proofs.lemmas.Bool.{eqb-true}
 use Rattle.gx_lemmas.proofs.Tests.{false-true}
 use Rattle.gx_lemmas.proofs.Options.{some-same}
@@ -13,7 +12,6 @@ use Rattle.gx_tree.specs.declared.expr.Expr.{Expr}
 use Rattle.gx_tree.specs.declared.row.KeyedRow.{KeyedRow}
 use Rattle.gx_tree.specs.declared.slice.Slice.TheVariants as slice
 use Rattle.gx_tree.specs.declared.stmt.Level.{Level}
-use Rattle.gx_tree.specs.declared.stmt.Stmt.{Stmt}
 use Rattle.gx_tree.specs.declared.stmt.Stmt.TheVariants as stmt
 use Rattle.gx_meaning.specs.Expressions.{and_then}
 use Rattle.gx_meaning.specs.declared.fault.ArithFault.{ArithFault}

@@ -9,6 +9,7 @@ use Rattle.gx_lemmas.proofs.Options.{some-same}
 use Rattle.gx_ids.specs.declared.ids.Cid.{Cid}
 use Rattle.gx_ids.specs.declared.ids.Gxid.{Gxid}
 use Rattle.gx_ids.specs.declared.ids.Node.{Node}
+use Rattle.gx_ids.specs.declared.ids.Table.{Table}
 use Rattle.gx_tree.specs.declared.query.Query.{Query}
 use Rattle.gx_tree.specs.declared.part.Part.{Part}
 use Rattle.gx_tree.specs.declared.stmt.Level.{Level}
@@ -24,6 +25,9 @@ use Rattle.gx_store.specs.Messages.{HasReceived, IsSending, IsSent}
 use Rattle.gx_store.specs.Ordered.{AreOrdered, IsAtNode, IsLink, IsSegment}
 use Rattle.gx_store.specs.Points.{marks_in}
 use Rattle.gx_store.specs.Refusals.{the_coordinator}
+use Rattle.gx_store.specs.Waits.{claim, is_held}
+use Rattle.gx_waits.specs.declared.object.Object.TheVariants.{Relation}
+use Rattle.gx_modes.specs.declared.modes.Mode.{Mode}
 use Rattle.gx_rules.specs.AtCoordinator.{coord_rule}
 use Rattle.gx_rules.specs.AtSegment.{seg_rule}
 use Rattle.gx_rules.specs.Machine.{World, after, at_node, can, does, happens, new_world, node_of, world_of}
@@ -34,13 +38,17 @@ use Rattle.gx_law_sessions.specs.Orders.{IsOrder}
 use Rattle.gx_store.specs.Language.{AreLinesNumbered}
 use Rattle.gx_law_sessions.proofs.Outs.{order-more}
 use Rattle.gx_law_commit.proofs.Whole.{world-both}
+use Rattle.gx_law_holds.specs.Late.{AreReleasesLate}
+use Rattle.gx_law_holds.proofs.Lasting.{late-behind, still-held}
+use Rattle.gx_law_holds.proofs.Orders.{ended-less}
+use Rattle.gx_law_holds.proofs.World.{world-locked}
 use Rattle.gx_law_reads.specs.Sights.{DoViewsStay}
 use Rattle.gx_law_reads.proofs.Staying.{views-stay}
-use Rattle.gx_law_writes.proofs.Legal.{IsPlacedMark}
+use Rattle.gx_law_writes.specs.Homes.{IsPlacedMark}
 use Rattle.gx_law_writes.proofs.Told.{take-get}
 use Rattle.gx_law_writes.proofs.World as writes
 use Rattle.gx_law_answers.specs.Earned.{Events, IsEarned}
-use Rattle.gx_law_answers.specs.Truth.{IsTruePart}
+use Rattle.gx_law_answers.specs.Truth.{IsLocked, IsTruePart}
 use Rattle.gx_law_answers.proofs.Always.{word-earned}
 use Rattle.gx_law_answers.proofs.Origins.{IsWordEarned}
 use Rattle.gx_law_answers.proofs.Truths.{aborted-more, part-later, snapshot-more}
@@ -157,10 +165,10 @@ module _ (script : Script) (some : 1 ≤ script.segments) (numbered : AreLinesNu
         ∙ get-append ((world_of script t.given.before).steps ++ t.given.step ∷ []) grown.extra (length (world_of script t.given.before).steps) t.given.step (get_last (world_of script t.given.before).steps [] t.given.step)
 
     -- its order
-    pub order-now : IsOrder script ms node g c t.level (Some t.snapshot) t.slice
+    pub order-now : IsOrder script ms node g c t.level t.snapshot t.slice
     order-now =
-        subst (λ m. IsOrder script m node g c t.level (Some t.snapshot) t.slice) (sym marks-are)
-        (order-more script (marks_in (world_of script t.upto).steps) more node (message.Exec g c t.level (Some t.snapshot) g t.slice) (λ n. t.order) numbered)
+        subst (λ m. IsOrder script m node g c t.level t.snapshot t.slice) (sym marks-are)
+        (order-more script (marks_in (world_of script t.upto).steps) more node (message.Exec g c t.level t.snapshot g t.slice) (λ n. t.order) numbered)
 
     -- whoever runs hadn't aborted
     pub unaborted-then : is_ended ms g ≡ false → is_aborted (marks_in (world_of script t.upto).steps) g ≡ true → ⊥
@@ -169,8 +177,24 @@ module _ (script : Script) (some : 1 ≤ script.segments) (numbered : AreLinesNu
         clash : (a b : Bool) → (a || b) ≡ false → b ≡ true → ⊥
         clash a b e f = grind arith
 
+    -- what was held is held, while it runs
+    pub lock-now : (table : Table) (mode : Mode) → is_ended ms g ≡ false → IsLocked (marks_in (world_of script t.upto).steps) node g table mode → (is_held ms node g (Relation table) mode ≡ true) × (is_held ms the_coordinator g (Relation table) mode ≡ true)
+    lock-now table mode runs l = (now node l.segment, now the_coordinator (l.coordinator (ended-less before more g runs-on)))
+      where
+        before : List Mark
+        before = marks_in (world_of script t.upto).steps
+
+        runs-on : is_ended (before ++ more) g ≡ false
+        runs-on = subst (λ m. is_ended m g ≡ false) marks-are runs
+
+        late : AreReleasesLate before more
+        late = late-behind [] before more (subst (AreReleasesLate []) marks-are (world-locked script some es).late)
+
+        now : (n : Node) → is_held before n g (Relation table) mode ≡ true → is_held ms n g (Relation table) mode ≡ true
+        now n h = subst (λ m. is_held m n g (Relation table) mode ≡ true) (sym marks-are) (still-held n (claim g (Relation table) mode) before more late runs-on h)
+
     placed : Each (IsPlacedMark script ms) ms
-    placed = (writes.world-holds script some numbered es).placed
+    placed = writes.world-placed script some numbered es
 
     stays : DoViewsStay (world_of script t.upto) (world_of script es)
     stays = subst (DoViewsStay (world_of script t.upto)) late-is (views-stay script some t.upto t.rest)

@@ -1,7 +1,7 @@
 -- Where the rows of a view stand: each at its place.
-use Rattle.std.proofs.Common.{◌≡◌, ◌==◌, ◌⊎◌, inl, inr, ℕ, ◌+◌, ◌-◌, ◌<◌, suc, List, [], ◌∷◌, length, Option, Some, None, Result, Ok, Err, Bool, true, false, refl, sym, subst, ap, ◌∙◌, if◌then◌else◌, ◌&&◌, eqb, arith}
+use Rattle.std.proofs.Common.{◌≡◌, ◌==◌, ◌⊎◌, inl, inr, ℕ, ◌+◌, ◌-◌, ◌<◌, pos, suc, List, [], ◌∷◌, length, Option, Some, None, Result, Ok, Err, Bool, true, false, refl, sym, subst, ap, ◌∙◌, if◌then◌else◌, ◌&&◌, eqb, arith}
 use Rattle.std.proofs.lemmas.Bool.{eqb-true}
-use Rattle.gx_lemmas.proofs.Options.{some-same}
+use Rattle.std.proofs.lemmas.Option.{slice_get-get_or, slice_get_within}
 use Rattle.gx_ids.specs.declared.ids.Cid.{Cid}
 use Rattle.gx_ids.specs.declared.ids.Gxid.{Gxid}
 use Rattle.gx_ids.specs.declared.ids.Node.{Node}
@@ -11,9 +11,10 @@ use Rattle.gx_tree.specs.declared.expr.Expr.{Expr}
 use Rattle.gx_tree.specs.declared.schema.Dist.{Dist}
 use Rattle.gx_tree.specs.declared.schema.Dist.TheVariants.{By, Randomly}
 use Rattle.gx_tree.specs.declared.value.Value.{Value}
+use Rattle.gx_tree.specs.declared.value.Value.TheVariants.{Int}
 use Rattle.gx_meaning.specs.Expressions.{and_then}
 use Rattle.gx_meaning.specs.declared.fault.ArithFault.{ArithFault}
-use Rattle.gx_meaning.specs.Place.{IsWithin, row_place}
+use Rattle.gx_meaning.specs.Place.{IsWithin, key_place, row_place}
 use Rattle.gx_meaning.specs.Constants.{HasKey, constant, each_from, values_of}
 use Rattle.gx_script.specs.declared.Script.{Script}
 use Rattle.gx_store.specs.declared.mark.Mark.{Mark}
@@ -21,11 +22,12 @@ use Rattle.gx_store.specs.declared.mark.Mark.TheVariants as mark
 use Rattle.gx_store.specs.Marks.{is_same_rid, node_of}
 use Rattle.gx_store.specs.View.{image_after}
 use Rattle.gx_store.specs.Writes.{dist_of}
-use Rattle.gx_store.proofs.Rows.{is_same_rid-refl, same_rid}
+use Rattle.gx_store.proofs.Rows.{same_rid}
 use Rattle.gx_law_order.proofs.Lists.{Each}
-use Rattle.gx_law_writes.proofs.Legal.{IsPlacedMark}
-use Rattle.gx_law_writes.proofs.Placed.{IsPlaced, same-place}
+use Rattle.gx_law_writes.specs.Homes.{IsPlaced, IsPlacedMark, IsSameKey, KeepsKey}
+use Rattle.gx_law_writes.proofs.Placed.{same-place}
 use Rattle.gx_law_answers.specs.Keyed.{AreInsertsKeyed}
+use Rattle.gx_law_answers.proofs.Shown.{IsAt, first-at}
 
 -- ---- a tuple's values are as many as the tuple
 values-step : (k : ℕ) (x : Expr) (xs : List Expr) (values : List Value) (one : Result Value ArithFault) (rest : Result (List Value) ArithFault) → ((ys : List Value) → rest ≡ Ok ys → length ys ≡ length xs) → and_then one (λ y. and_then rest (λ ys. Ok (y ∷ ys))) ≡ Ok values → length values ≡ length (x ∷ xs)
@@ -50,6 +52,15 @@ key-within (By column) tuple values key e = less column (length tuple) (length v
     less c m n l f = omega (arith, l, f)
 key-within Randomly tuple values key e = tt
 
+-- ---- a row with the same in the distribution column stands at the same place
+within-kept : (dist : Dist) (old new : List Value) → IsSameKey dist old new → IsWithin dist old → IsWithin dist new
+within-kept (By column) old new e w = slice_get_within new column _ (e ∙ slice_get-get_or old column (Int (pos 0)) w)
+within-kept Randomly old new e w = tt
+
+place-kept : (n : ℕ) (dist : Dist) (old new : List Value) (rid : Rid) → IsSameKey dist old new → row_place n dist old rid ≡ row_place n dist new rid
+place-kept n (By column) old new rid e = ap (key_place n) (sym e)
+place-kept n Randomly old new rid e = refl
+
 -- ---- writes
 table-is : (a b : Table) → a.0 ≡ b.0 → a ≡ b
 table-is a b e = ap (λ n. let r : Table = record { 0 = n } in r) e
@@ -60,39 +71,21 @@ pub record IsHome (script : Script) (table : Table) (rid : Rid) (row : List Valu
   pub within : IsWithin (dist_of script.tables table.0) row
 
 module _ (script : Script) (keyed : AreInsertsKeyed script) (all : List Mark) (shown : Gxid → Cid → Bool) (table : Table) (rid : Rid) where
-  -- a write of the row
-  pub record IsOf (node : Node) : Type 0 where
-    pub g : Gxid
-    pub c : Cid
-    pub t : Table
-    pub x : Option (List Value)
-    pub placed : IsPlaced script all g c node t rid x
-
   pub record Wrote (row : List Value) : Type 0 where
     pub node : Node
-    pub by : IsOf node
+    pub by : IsAt script all node rid
     pub table_is : by.t ≡ table
     pub image_is : by.x ≡ Some row
 
-  abbrev here : (g : Gxid) (c : Cid) (n : Node) (t : Table) (r : Rid) (x : Option (List Value)) → is_same_rid r rid ≡ true → IsPlaced script all g c n t r x → IsOf n
-  here g c n t r x e p = record { g = g; c = c; t = t; x = x; placed = subst (λ q. IsPlaced script all g c n t q x) (same_rid r rid e) p }
-
-  -- the first write
-  first-is : (ms : List Mark) (node : Node) → Each (IsPlacedMark script all) ms → node_of ms rid ≡ Some node → IsOf node
-  first-is [] node e f = absurd (cc)
-  first-is (mark.Write g c n t r x ∷ ms) node e f = by_test (is_same_rid r rid) refl f (first-is ms node e.1)
-    where
-      by_test : (b : Bool) → is_same_rid r rid ≡ b → (if b then Some n else node_of ms rid) ≡ Some node → (node_of ms rid ≡ Some node → IsOf node) → IsOf node
-      by_test true s q more = subst IsOf (some-same n node q) (here g c n t r x s e.0)
-      by_test false s q more = more q
-  first-is (m ∷ ms) node e f = first-is ms node e.1 f
+  abbrev here : (n : Node) (t : Table) (r : Rid) (x : Option (List Value)) → is_same_rid r rid ≡ true → IsPlaced script all n t r x → IsAt script all n rid
+  here n t r x e p = record { t = t; x = x; placed = subst (λ q. IsPlaced script all n t q x) (same_rid r rid e) p }
 
   -- the write of the image that is shown
-  wrote-step : (row : List Value) (g : Gxid) (c : Cid) (n : Node) (t : Table) (r : Rid) (x image : Option (List Value)) (a b d : Bool) → eqb t.0 table.0 ≡ b → is_same_rid r rid ≡ d → IsPlaced script all g c n t r x → (if a && (b && d) then x else image) ≡ Some row → (image ≡ Some row) ⊎ Wrote row
-  wrote-step row g c n t r x image true true true e f p i = inr (record { node = n; by = here g c n t r x f p; table_is = table-is t table (eqb-true t.0 table.0 e); image_is = i })
-  wrote-step row g c n t r x image true true false e f p i = inl i
-  wrote-step row g c n t r x image true false d e f p i = inl i
-  wrote-step row g c n t r x image false b d e f p i = inl i
+  wrote-step : (row : List Value) (n : Node) (t : Table) (r : Rid) (x image : Option (List Value)) (a b d : Bool) → eqb t.0 table.0 ≡ b → is_same_rid r rid ≡ d → IsPlaced script all n t r x → (if a && (b && d) then x else image) ≡ Some row → (image ≡ Some row) ⊎ Wrote row
+  wrote-step row n t r x image true true true e f p i = inr (record { node = n; by = here n t r x f p; table_is = table-is t table (eqb-true t.0 table.0 e); image_is = i })
+  wrote-step row n t r x image true true false e f p i = inl i
+  wrote-step row n t r x image true false d e f p i = inl i
+  wrote-step row n t r x image false b d e f p i = inl i
 
   wrote : (row : List Value) (image : Option (List Value)) (ms : List Mark) → Each (IsPlacedMark script all) ms → image_after shown table rid image ms ≡ Some row → (image ≡ Some row) ⊎ Wrote row
   wrote row image [] e i = inl i
@@ -100,7 +93,7 @@ module _ (script : Script) (keyed : AreInsertsKeyed script) (all : List Mark) (s
       by_case (wrote row (if shown g c && ((t.0 == table.0) && is_same_rid r rid) then x else image) ms e.1 i)
     where
       by_case : ((if shown g c && ((t.0 == table.0) && is_same_rid r rid) then x else image) ≡ Some row) ⊎ Wrote row → (image ≡ Some row) ⊎ Wrote row
-      by_case (inl q) = wrote-step row g c n t r x image (shown g c) (eqb t.0 table.0) (is_same_rid r rid) refl refl e.0 q
+      by_case (inl q) = wrote-step row n t r x image (shown g c) (eqb t.0 table.0) (is_same_rid r rid) refl refl e.0 q
       by_case (inr q) = inr q
   wrote row image (m ∷ ms) e i = wrote row image ms e.1 i
 
@@ -120,18 +113,25 @@ module _ (script : Script) (keyed : AreInsertsKeyed script) (all : List Mark) (s
       by_test false s q more = more (if shown g c && ((t.0 == table.0) && is_same_rid r rid) then x else image) q ∙ no-write (shown g c) (eqb t.0 table.0) (is_same_rid r rid) x image s
   never image (m ∷ ms) e = never image ms e
 
-  home-of : (row : List Value) (node : Node) → IsOf node → Wrote row → IsHome script table rid row node
+  home-of : (row : List Value) (node : Node) → IsAt script all node rid → Wrote row → IsHome script table rid row node
   home-of row node a w =
       record {
-        place = node-0 ∙ w.by.placed.place ∙ ap (λ (t : Table). row_place script.segments (dist_of script.tables t.0) w.by.placed.values rid) w.table_is ∙ ap (λ v. row_place script.segments (dist_of script.tables table.0) v rid) values;
-        within = subst (IsWithin (dist_of script.tables table.0)) values (subst (λ (t : Table). IsWithin (dist_of script.tables t.0) w.by.placed.values) w.table_is (key-within (dist_of script.tables w.by.t.0) w.by.placed.tuple w.by.placed.values (keyed all w.by.g w.by.c w.by.t w.by.placed.tuples w.by.placed.of (rid.ordinal - 1) w.by.placed.tuple w.by.placed.among) w.by.placed.constants));
+        place = ap (λ (n : Node). n.0) same-node ∙ w.by.placed.place ∙ ap (λ (t : Table). row_place script.segments (dist_of script.tables t.0) w.by.placed.values rid) w.table_is ∙ place-kept script.segments dist w.by.placed.values row rid key;
+        within = within-kept dist w.by.placed.values row key (subst (λ (t : Table). IsWithin (dist_of script.tables t.0) w.by.placed.values) w.table_is within);
       }
     where
-      values : w.by.placed.values ≡ row
-      values = some-same _ _ (sym w.by.placed.written ∙ w.image_is)
+      dist : Dist
+      dist = dist_of script.tables table.0
 
-      node-0 : node.0 ≡ w.node.0
-      node-0 = ap (λ (n : Node). n.0) (same-place script all w.by.g a.g w.by.c a.c w.node node w.by.t a.t rid rid w.by.x a.x w.by.placed a.placed (is_same_rid-refl rid)).node
+      same-node : node ≡ w.node
+      same-node = same-place script all w.node node w.by.t a.t rid w.by.x a.x w.by.placed a.placed
+
+      key : IsSameKey dist w.by.placed.values row
+      key = subst (λ (t : Table). KeepsKey (dist_of script.tables t.0) w.by.placed.values (Some row)) w.table_is (subst (KeepsKey (dist_of script.tables w.by.t.0) w.by.placed.values) w.image_is w.by.placed.key)
+
+      -- what was inserted has a value for the distribution column
+      within : IsWithin (dist_of script.tables w.by.t.0) w.by.placed.values
+      within = key-within (dist_of script.tables w.by.t.0) w.by.placed.row_of.tuple w.by.placed.values (keyed all rid.gxid rid.cid w.by.t w.by.placed.row_of.tuples w.by.placed.row_of.of (rid.ordinal - 1) w.by.placed.row_of.tuple w.by.placed.row_of.among) w.by.placed.row_of.constants
 
   pub home : (ms : List Mark) (row : List Value) → Each (IsPlacedMark script all) ms → image_after shown table rid None ms ≡ Some row → (node : Node) × (node_of ms rid ≡ Some node) × IsHome script table rid row node
   home ms row e i = by_node (node_of ms rid) refl
@@ -139,10 +139,10 @@ module _ (script : Script) (keyed : AreInsertsKeyed script) (all : List Mark) (s
       none-some : None ≡ Some row → ⊥
       none-some q = cc
 
-      by_wrote : (node : Node) → IsOf node → (None ≡ Some row) ⊎ Wrote row → IsHome script table rid row node
+      by_wrote : (node : Node) → IsAt script all node rid → (None ≡ Some row) ⊎ Wrote row → IsHome script table rid row node
       by_wrote node a (inl q) = absurd (none-some q)
       by_wrote node a (inr w) = home-of row node a w
 
       by_node : (o : Option Node) → node_of ms rid ≡ o → (node : Node) × (node_of ms rid ≡ Some node) × IsHome script table rid row node
       by_node None q = absurd (none-some (sym (never None ms q) ∙ i))
-      by_node (Some node) q = (node, q, by_wrote node (first-is ms node e q) (wrote row None ms e i))
+      by_node (Some node) q = (node, q, by_wrote node (first-at script all node rid ms e q) (wrote row None ms e i))

@@ -47,12 +47,12 @@ module _ (script : Script) (some : 1 ≤ script.segments) (numbered : AreLinesNu
     told = record {
       told = λ now later session stmt level g c answer none runs x.
           let is = its now [] later session stmt level g c none tt runs in
-          tells-by script some numbered keyed es (one-snapshot script some once es) now [] later session level g c answer tt tt stmt is runs x
+          tells-by script some numbered keyed es (one-snapshot script some once es) now [] later session level g c answer tt tt tt stmt is runs x
           (λ t v e. insert-tells script some numbered filled es t v level g c (subst (λ l. IsOf script (marks_in steps) l level g c) e is) now [] later answer
           (subst (λ l. IsGathered script (point_at steps now [] later) g c l answer) e x));
       committed = λ now later session stmt level g c answer none runs x.
           let is = its now (mark.Commit g ∷ []) later session stmt level g c none (tt, tt) runs in
-          tells-by script some numbered keyed es (one-snapshot script some once es) now (mark.Commit g ∷ []) later session level g c answer (tt, tt) (tt, tt) stmt is runs x
+          tells-by script some numbered keyed es (one-snapshot script some once es) now (mark.Commit g ∷ []) later session level g c answer (tt, tt) (tt, tt) (tt, tt) stmt is runs x
           (λ t v e. insert-tells script some numbered filled es t v level g c (subst (λ l. IsOf script (marks_in steps) l level g c) e is) now (mark.Commit g ∷ []) later answer
           (subst (λ l. IsGathered script (point_at steps now (mark.Commit g ∷ []) later) g c l answer) e x));
       refused = λ now later session stmt level g c segment cause none runs x.

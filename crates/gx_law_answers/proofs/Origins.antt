@@ -1,7 +1,6 @@
 -- Every answer to a command that a segment sends was earned when it was sent first.
 use Rattle.std.proofs.Common.{◌≡◌, ◌≤◌, ◌⊎◌, inl, inr, ℕ, List, [], ◌∷◌, ◌++◌, Option, Some, None, Bool, true, false, refl, sym, subst, ap, ◌∙◌, if◌then◌else◌, eqb, arith, append_assoc, append-nil}
 use Rattle.std.proofs.lemmas.Bool.{eqb-true}
-use Rattle.std.proofs.lemmas.Bool.Decides.{nat_tests}
 use Rattle.std.specs.Prelude.{length, take}
 use Rattle.gx_lemmas.proofs.Options.{some-same}
 use Rattle.gx_lemmas.proofs.Numbers.{eqb-self}
@@ -31,14 +30,19 @@ use Rattle.gx_store.specs.Commands.{IsSnapshotAt}
 use Rattle.gx_store.specs.Marks.{is_aborted}
 use Rattle.gx_store.specs.Ordered.{IsSegment}
 use Rattle.gx_store.specs.Points.{marks_in}
+use Rattle.gx_store.specs.Waits.{claim, is_held}
+use Rattle.gx_waits.specs.declared.claim.Claim.{Claim}
+use Rattle.gx_waits.specs.declared.object.Object.TheVariants.{Relation}
+use Rattle.gx_modes.specs.declared.modes.Mode.{Mode}
 use Rattle.gx_rules.specs.AtSegment.{on_event, raised, seg_rule}
 use Rattle.gx_rules.specs.Machine.{World, seg_did, world_of}
 use Rattle.gx_rules.specs.Segments.{Local, Seg, SegTurn, after_marks, local_of, stays, reply as reply_out}
 use Rattle.gx_rules.specs.Locks.{hold_mark}
 use Rattle.gx_rules.specs.Sending.{numbered}
 use Rattle.gx_rules.specs.Shown.{shown}
-use Rattle.gx_rules.specs.Slices.{answers, first_fault, has_written, inserted, selects}
+use Rattle.gx_rules.specs.Slices.{adds, answers, first_fault, has_written, inserted, inserts, reads, selects}
 use Rattle.gx_law_order.proofs.Lists.{Each, each_weaker}
+use Rattle.gx_law_order.proofs.Ordered.{world_well}
 use Rattle.gx_law_order.proofs.World.{marks-last}
 use Rattle.gx_law_sessions.specs.Orders.{IsOrder, IsReadBy, IsServed}
 use Rattle.gx_store.specs.Language.{AreLinesNumbered}
@@ -46,7 +50,13 @@ use Rattle.gx_law_sessions.proofs.Outs.{order-more}
 use Rattle.gx_law_commit.specs.Pairs.{IsVote}
 use Rattle.gx_law_commit.specs.Standings.{at, gx}
 use Rattle.gx_law_reads.proofs.Seeing.{world-hold}
-use Rattle.gx_law_writes.proofs.Legal.{IsPlacedMark, sent-no-write}
+use Rattle.gx_law_holds.specs.Late.{AreReleasesLate}
+use Rattle.gx_law_holds.proofs.Lasting.{granted-held}
+use Rattle.gx_law_holds.proofs.Marks.{quiet-late}
+use Rattle.gx_law_holds.proofs.Orders.{order-still}
+use Rattle.gx_law_holds.proofs.World.{numbered-quiet}
+use Rattle.gx_law_writes.specs.Homes.{IsPlacedMark}
+use Rattle.gx_law_writes.proofs.Legal.{sent-no-write}
 use Rattle.gx_law_writes.proofs.Moves.{mark-written, own-rows}
 use Rattle.gx_law_writes.proofs.Plans.{row-piece}
 use Rattle.gx_law_writes.proofs.Rows.{insert-wrote, rows-locals}
@@ -55,9 +65,9 @@ use Rattle.gx_law_writes.proofs.Turns.{IsOldReply, IsOldWord, NoWrite, Quiet, ba
 use Rattle.gx_law_writes.proofs.World as writes
 use Rattle.gx_law_answers.specs.Earned.{Events, IsEarned, IsReplyEarned}
 use Rattle.gx_law_answers.specs.Parts.{IsPartOf}
-use Rattle.gx_law_answers.specs.Truth.{AreWritten, IsTruth}
+use Rattle.gx_law_answers.specs.Truth.{AreWritten, IsLocked, IsTruth}
 use Rattle.gx_law_answers.proofs.Plans.{select-line, slice-is}
-use Rattle.gx_law_answers.proofs.Running.{Doings, Idle, IsLate, Runs}
+use Rattle.gx_law_answers.proofs.Running.{Doings, Idle, IsLate, Runs, snapshot-of}
 use Rattle.gx_law_answers.proofs.Shown.{shown-part}
 use Rattle.gx_law_answers.proofs.Truths.{aborted-more, marks_of, reply_of, select-truth}
 
@@ -137,7 +147,7 @@ module _ (script : Script) (some : 1 ≤ script.segments) (numbered_lines : AreL
   late-step = record { stamp = record { clock = (seg_rule script ((world_of script es).segs to.0) x fails).seg.clock; node = to }; event = e; marks = turn.marks ++ sent }
 
   placed : Each (IsPlacedMark script ms) ms
-  placed = (writes.world-holds script some numbered_lines es).placed
+  placed = writes.world-placed script some numbered_lines es
 
   late-marks : marks_in late.steps ≡ ms ++ (turn.marks ++ sent)
   late-marks = marks-last (world_of script es).steps _
@@ -146,29 +156,32 @@ module _ (script : Script) (some : 1 ≤ script.segments) (numbered_lines : AreL
   self = eqb-self to.0
 
   -- a SELECT
-  module _ (query : Query) (z : Runs script es to e fails x (slice.Select query)) where
+  module _ (query : Query) (z : Runs script es to e fails x (slice.Select query)) (v : Snapshot) (has_it : z.snapshot ≡ Some v) where
     abbrev rows : List KeyedRow
-    rows = shown (raised z.like z.horizon) z.snapshot z.g z.c query.table
+    rows = shown (raised z.like z.horizon) v z.g z.c query.table
 
-    pub select-order : IsOrder script ms to z.g z.c z.level (Some z.snapshot) (slice.Select query)
+    pub select-ran : on_event script ((world_of script es).segs to.0) x fails ≡ after_marks (hold_mark ((world_of script es).segs to.0).node z.wanted ∷ []) (selects (base z.like z.horizon z.locks) z.g z.c query (shown (raised z.like z.horizon) v z.g z.c query.table) (first_fault query.cond (shown (raised z.like z.horizon) v z.g z.c query.table)))
+    select-ran = z.ran ∙ ap (λ o. after_marks (hold_mark ((world_of script es).segs to.0).node z.wanted ∷ []) (reads (base z.like z.horizon z.locks) z.g z.c query o)) has_it
+
+    pub select-order : IsOrder script ms to z.g z.c z.level z.snapshot (slice.Select query)
     select-order = z.came.order_is numbered_lines
 
     pub select-is : select-order.line ≡ stmt.Select query
     select-is = select-line select-order.line query (slice-is _ _ z.g z.c select-order.line select-order.pieces _ select-order.plan select-order.among)
 
-    pub served : IsServed ms z.level z.g z.c z.snapshot
-    served = from-read (subst (λ l. IsReadBy ms z.level z.g z.c l (Some z.snapshot)) select-is select-order.read)
+    pub served : IsServed ms z.level z.g z.c v
+    served = from-read (subst (λ l. IsReadBy ms z.level z.g z.c l z.snapshot) select-is select-order.read)
       where
-        from-read : (y : Snapshot) × (Some z.snapshot ≡ Some y) × IsServed ms z.level z.g z.c y → IsServed ms z.level z.g z.c z.snapshot
-        from-read y = subst (IsServed ms z.level z.g z.c) (sym (some-same z.snapshot y.0 y.1)) y.2
+        from-read : (y : Snapshot) × (z.snapshot ≡ Some y) × IsServed ms z.level z.g z.c y → IsServed ms z.level z.g z.c v
+        from-read y = subst (IsServed ms z.level z.g z.c) (sym (some-same v y.0 (sym has_it ∙ y.1))) y.2
 
     pub snapshot-at : IsSnapshotAt ms z.level z.g z.c served.place
-    snapshot-at = record { d = served.d; snapshot = z.snapshot; taken = served.taken; serves = served.serves }
+    snapshot-at = record { d = served.d; snapshot = v; taken = served.taken; serves = served.serves }
 
     pub rows-part : is_aborted ms z.g ≡ false → IsPartOf ms (take served.place ms) to z.g z.c query.table rows
     rows-part unaborted =
-        shown-part script ms placed served.place to (raised z.like z.horizon) (z.versions ∙ (world-hold script some es to.0 place.0).versions) z.snapshot z.g z.c query.table
-        (λ rid only. z.sight unaborted served.place served.d served.taken query.table rid only)
+        shown-part script ms placed served.place to (raised z.like z.horizon) (z.versions ∙ (world-hold script some es to.0 place.0).versions) v z.g z.c query.table
+        (λ rid only. z.sight unaborted v has_it served.place served.d served.taken query.table rid only)
 
   pub record TurnEarned : Type 0 where
     pub kept : (h : ℕ) → IsKeptEarned script behind to (gx h) (turn.seg.locals h).answer
@@ -186,7 +199,7 @@ module _ (script : Script) (some : 1 ≤ script.segments) (numbered_lines : AreL
           snapshot = z.snapshot;
           slice = y;
           given = record { before = es; event = e; fails = fails; last = refl; step = late-step; steps = ap (λ (v : World). v.steps) is-late; place = refl; ran = z.given r given };
-          order = subst (λ v. IsOrder script (marks_in v.steps) to z.g z.c z.level (Some z.snapshot) y) (sym is-late) (subst (λ m. IsOrder script m to z.g z.c z.level (Some z.snapshot) y) (sym late-marks) (order-more script ms (turn.marks ++ sent) to (message.Exec z.g z.c z.level (Some z.snapshot) z.horizon y) z.came.order_is numbered_lines));
+          order = subst (λ v. IsOrder script (marks_in v.steps) to z.g z.c z.level z.snapshot y) (sym is-late) (subst (λ m. IsOrder script m to z.g z.c z.level z.snapshot y) (sym late-marks) (order-more script ms (turn.marks ++ sent) to (message.Exec z.g z.c z.level z.snapshot z.horizon y) z.came.order_is numbered_lines));
           taken = subst (λ v. z.c.0 ≤ (local_of (v.segs to.0) z.g).last) (sym is-late) (subst (λ b. z.c.0 ≤ ((if b then (seg_rule script s x fails).seg else s).locals z.g.0).last) (sym self) taken);
           truth = subst (λ v. IsTruth ms (marks_in v.steps) to z.level z.g z.c y r) (sym is-late) (subst (λ m. IsTruth ms m to z.level z.g z.c y r) (sym late-marks) (subst (λ m. IsTruth ms (ms ++ (m ++ sent)) to z.level z.g z.c y r) (sym same) truth));
         }
@@ -257,28 +270,37 @@ module _ (script : Script) (some : 1 ≤ script.segments) (numbered_lines : AreL
     quiet-sent = sent-no-write (λ node. turn.seg.sent) turn.outs
 
     select-earned : (query : Query) → Runs script es to e fails x (slice.Select query) → TurnEarned
-    select-earned query z = by_fault (first_fault query.cond (rows query z)) refl z.ran
+    select-earned query z = by_fault (first_fault query.cond (rows query z v has_it)) refl (select-ran query z v has_it)
       where
+        v : Snapshot
+        v = (snapshot-of z.snapshot z.reads).0
+
+        has_it : z.snapshot ≡ Some v
+        has_it = (snapshot-of z.snapshot z.reads).1
+
         hold : Mark
         hold = hold_mark s.node z.wanted
 
-        truth : (o : Option (KeyedRow × ArithFault)) → first_fault query.cond (rows query z) ≡ o → (wrote : Bool) → IsTruth ms (ms ++ (hold ∷ marks_of z.g z.c o ++ sent)) to z.level z.g z.c (slice.Select query) (reply_of z.c wrote query (rows query z) o)
+        truth : (o : Option (KeyedRow × ArithFault)) → first_fault query.cond (rows query z v has_it) ≡ o → (wrote : Bool) → IsTruth ms (ms ++ (hold ∷ marks_of z.g z.c o ++ sent)) to z.level z.g z.c (slice.Select query) (reply_of z.c wrote query (rows query z v has_it) o)
         truth o q wrote = by_abort o q (is_aborted ms z.g) refl
           where
-            by_abort : (o : Option (KeyedRow × ArithFault)) → first_fault query.cond (rows query z) ≡ o → (b : Bool) → is_aborted ms z.g ≡ b → IsTruth ms (ms ++ (hold ∷ marks_of z.g z.c o ++ sent)) to z.level z.g z.c (slice.Select query) (reply_of z.c wrote query (rows query z) o)
+            by_abort : (o : Option (KeyedRow × ArithFault)) → first_fault query.cond (rows query z v has_it) ≡ o → (b : Bool) → is_aborted ms z.g ≡ b → IsTruth ms (ms ++ (hold ∷ marks_of z.g z.c o ++ sent)) to z.level z.g z.c (slice.Select query) (reply_of z.c wrote query (rows query z v has_it) o)
             by_abort None f true a = inl (aborted-more ms _ z.g a)
             by_abort (Some fault) f true a = inl (aborted-more ms _ z.g a)
-            by_abort o f false a = select-truth ms sent quiet-sent to z.level z.g z.c a (served query z).place (snapshot-at query z) query (rows query z) (rows-part query z a) wrote s.node z.wanted o f
+            by_abort o f false a = select-truth ms sent quiet-sent to z.level z.g z.c a (served query z v has_it).place (snapshot-at query z v has_it) query (rows query z v has_it) (rows-part query z v has_it a) wrote s.node z.wanted o f
 
-        by_fault : (o : Option (KeyedRow × ArithFault)) → first_fault query.cond (rows query z) ≡ o → turn ≡ after_marks (hold ∷ []) (selects (base z.like z.horizon z.locks) z.g z.c query (rows query z) o) → TurnEarned
+        by_fault : (o : Option (KeyedRow × ArithFault)) → first_fault query.cond (rows query z v has_it) ≡ o → turn ≡ after_marks (hold ∷ []) (selects (base z.like z.horizon z.locks) z.g z.c query (rows query z v has_it) o) → TurnEarned
         by_fault None f ran = ran-earned z.g z.c _ (hold ∷ []) (base z.like z.horizon z.locks) [] ran z.answers (new-reply (slice.Select query) z _ (hold ∷ []) (ap (λ (t : SegTurn). t.outs) ran) (ap (λ (t : SegTurn). t.marks) ran) (truth None f (has_written (local_of z.like z.g).phase)))
         by_fault (Some fault) f ran = ran-earned z.g z.c _ (hold ∷ []) (base z.like z.horizon z.locks) _ ran z.answers (new-reply (slice.Select query) z _ _ (ap (λ (t : SegTurn). t.outs) ran) (ap (λ (t : SegTurn). t.marks) ran) (truth (Some fault) f (has_written (local_of z.like z.g).phase)))
 
     insert-earned : (table : Table) (rows : List KeyedRow) → Runs script es to e fails x (slice.Insert table rows) → TurnEarned
     insert-earned table rows z =
-        ran-earned z.g z.c _ (hold ∷ []) (inserted (base z.like z.horizon z.locks) z.g z.c table rows).seg _ z.ran (λ h. (rows-locals z.g z.c table rows (record { seg = base z.like z.horizon z.locks; marks = [] }) h).1 ∙ z.answers h)
-        (new-reply (slice.Insert table rows) z _ (hold ∷ marks) (ap (λ (t : SegTurn). t.outs) z.ran) (ap (λ (t : SegTurn). t.marks) z.ran) truth)
+        ran-earned z.g z.c _ (hold ∷ []) (inserted (base z.like z.horizon z.locks) z.g z.c table rows).seg _ ran (λ h. (rows-locals z.g z.c table rows (record { seg = base z.like z.horizon z.locks; marks = [] }) h).1 ∙ z.answers h)
+        (new-reply (slice.Insert table rows) z _ (hold ∷ marks) (ap (λ (t : SegTurn). t.outs) ran) (ap (λ (t : SegTurn). t.marks) ran) truth)
       where
+        ran : turn ≡ after_marks (hold_mark s.node z.wanted ∷ []) (inserts z.g z.c (length rows) (inserted (base z.like z.horizon z.locks) z.g z.c table rows))
+        ran = z.ran ∙ ap (λ o. after_marks (hold_mark s.node z.wanted ∷ []) (adds (base z.like z.horizon z.locks) z.g z.c table rows o)) (snapshot-of z.snapshot z.reads).1
+
         hold : Mark
         hold = hold_mark s.node z.wanted
 
@@ -289,7 +311,7 @@ module _ (script : Script) (some : 1 ≤ script.segments) (numbered_lines : AreL
         held = ms ++ hold ∷ []
 
         written : Each (IsWritten (held ++ marks)) rows
-        written = subst (λ ns. Each (IsWritten (held ++ ns)) rows) (sym (insert-wrote z.like z.horizon z.locks z.g z.c table rows).marks) (mark-written z.g z.c z.like.node table held rows (own-rows script ms to z.g z.c table rows (row-piece script ms to z.g z.c z.level (Some z.snapshot) table rows (z.came.order_is numbered_lines))))
+        written = subst (λ ns. Each (IsWritten (held ++ ns)) rows) (sym (insert-wrote z.like z.horizon z.locks z.g z.c table rows).marks) (mark-written z.g z.c z.like.node table held rows (own-rows script ms to z.g z.c table rows (row-piece script ms to z.g z.c z.level z.snapshot table rows (z.came.order_is numbered_lines))))
 
         all : List Mark
         all = ms ++ (hold ∷ marks ++ sent)
@@ -299,6 +321,31 @@ module _ (script : Script) (some : 1 ≤ script.segments) (numbered_lines : AreL
 
         truth : (length rows ≡ length rows) × AreWritten all rows
         truth = (refl, subst (λ m. AreWritten m rows) seam (are-written ((held ++ marks) ++ sent) rows (each_weaker (IsWritten (held ++ marks)) (IsWritten ((held ++ marks) ++ sent)) (λ r k. written-more (held ++ marks) sent r.rid k) rows written)))
+
+    -- what a LOCK TABLE asks for is held
+    lock-earned : (table : Table) (mode : Mode) → Runs script es to e fails x (slice.Lock table mode) → TurnEarned
+    lock-earned table mode z =
+        ran-earned z.g z.c _ (hold ∷ []) (base z.like z.horizon z.locks) [] z.ran z.answers
+        (new-reply (slice.Lock table mode) z _ (hold ∷ []) (ap (λ (t : SegTurn). t.outs) z.ran) (ap (λ (t : SegTurn). t.marks) z.ran) (refl, locked))
+      where
+        hold : Mark
+        hold = hold_mark s.node z.wanted
+
+        some-claim : (a b : Claim) → Some a ≡ Some b → a ≡ b
+        some-claim a b q = cc
+
+        hold-is : mark.Hold to z.g (Relation table) mode ≡ hold
+        hold-is = ap (λ (n : Node). hold_mark n (claim z.g (Relation table) mode)) (sym ((world_well script some es).names to.0)) ∙ ap (hold_mark s.node) (some-claim (claim z.g (Relation table) mode) z.wanted z.lock)
+
+        late-sent : AreReleasesLate ms (hold ∷ sent)
+        late-sent = quiet-late (ms ++ hold ∷ []) sent (numbered-quiet (λ node. turn.seg.sent) turn.outs)
+
+        locked : IsLocked (ms ++ (hold ∷ sent)) to z.g table mode
+        locked =
+            record {
+              segment = subst (λ h. is_held (ms ++ (h ∷ sent)) to z.g (Relation table) mode ≡ true) hold-is (granted-held ms sent to z.g (Relation table) mode (numbered-quiet (λ node. turn.seg.sent) turn.outs));
+              coordinator = λ runs. order-still ms (hold ∷ sent) late-sent (message.Exec z.g z.c z.level z.snapshot z.horizon (slice.Lock table mode)) z.came.locked runs (claim z.g (Relation table) mode) refl;
+            }
 
     -- the other slices do nothing yet
     stays-earned : (lead : List Mark) (base : Seg) → turn ≡ after_marks lead (stays base) → ((h : ℕ) → (base.locals h).answer ≡ (s.locals h).answer) → TurnEarned
@@ -313,7 +360,7 @@ module _ (script : Script) (some : 1 ≤ script.segments) (numbered_lines : AreL
     runs-earned (slice.Insert table rows) z = insert-earned table rows z
     runs-earned (slice.Update t a d) z = stays-earned (hold_mark s.node z.wanted ∷ []) (base z.like z.horizon z.locks) z.ran z.answers
     runs-earned (slice.Delete t d) z = stays-earned (hold_mark s.node z.wanted ∷ []) (base z.like z.horizon z.locks) z.ran z.answers
-    runs-earned (slice.Lock t m) z = stays-earned (hold_mark s.node z.wanted ∷ []) (base z.like z.horizon z.locks) z.ran z.answers
+    runs-earned (slice.Lock t m) z = lock-earned t m z
 
     pub turn-earned : Doings script es to e fails x → TurnEarned
     turn-earned (inl q) = quiet-earned q

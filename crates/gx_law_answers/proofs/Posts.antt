@@ -1,5 +1,5 @@
 -- What is known of a message that has come to a segment, now or before.
-use Rattle.std.proofs.Common.{◌≡◌, ◌≤◌, inl, inr, ℕ, List, [], ◌∷◌, Some, sym, subst, ap, ◌∙◌, arith}
+use Rattle.std.proofs.Common.{◌≡◌, ◌≤◌, inl, inr, ℕ, List, [], ◌∷◌, Some, sym, subst, ap, ◌∙◌}
 use Rattle.gx_lemmas.proofs.Numbers.{one-le-zero}
 use Rattle.gx_ids.specs.declared.ids.Node.{Node}
 use Rattle.gx_msg.specs.declared.message.Envelope.{Envelope}
@@ -17,16 +17,20 @@ use Rattle.gx_law_sessions.proofs.Outs.{MessageIs}
 use Rattle.gx_law_sessions.proofs.World as histories
 use Rattle.gx_law_sessions.proofs.World.{orders-alive, orders-ran}
 use Rattle.gx_law_commit.proofs.Whole.{world-both}
+use Rattle.gx_law_holds.specs.Orders.{IsLockedOrder}
+use Rattle.gx_law_holds.proofs.Orders.{LetterLocked, world-orders}
 use Rattle.gx_law_reads.specs.Sights.{AreShownViews, IsShownView}
 use Rattle.gx_law_reads.proofs.Seeing.{world-views}
 use Rattle.gx_law_answers.specs.Earned.{Events}
 
--- it is of the coordinator's orders; its command is alive, and was under way; and who has still to run it is shown what it sees
+-- it is of the coordinator's orders; its command is alive, and was under way, and went out with its table's lock; and who has still
+-- to run it is shown what it sees
 pub record Came (script : Script) (es : Events) (to : Node) (m : Message) : Type 0 where
   pub order_is : MessageIs script (marks_in (world_of script es).steps) to m
   pub view_is : IsShownView (world_of script es) to m
   pub alive : IsAlive script (world_of script es) to m
   pub was : HasRun script (world_of script es).steps m
+  pub locked : IsLockedOrder (marks_in (world_of script es).steps) m
 
 module _ (script : Script) (some : 1 ≤ script.segments) (es : Events) where
   abbrev w : World
@@ -36,13 +40,13 @@ module _ (script : Script) (some : 1 ≤ script.segments) (es : Events) where
   abbrev pub IsPost : Letter → Type 0
   IsPost l = IsLetter script (world_of script es).steps l × (l.from ≡ the_coordinator → Came script es l.to l.envelope.message)
 
-  each-post : (ls : List Letter) → Each (IsLetter script (world_of script es).steps) ls → Each (λ l. l.from ≡ the_coordinator → MessageIs script (marks_in (world_of script es).steps) l.to l.envelope.message) ls → AreShownViews (world_of script es) ls → AreAlive script (world_of script es) ls → HaveRun script (world_of script es).steps ls → Each IsPost ls
-  each-post [] a b c d e = tt
-  each-post (l ∷ ls) a b c d e = ((a.0, λ q. record { order_is = b.0 q; view_is = c.0; alive = d.0 q; was = e.0 q }), each-post ls a.1 b.1 c.1 d.1 e.1)
+  each-post : (ls : List Letter) → Each (IsLetter script (world_of script es).steps) ls → Each (λ l. l.from ≡ the_coordinator → MessageIs script (marks_in (world_of script es).steps) l.to l.envelope.message) ls → AreShownViews (world_of script es) ls → AreAlive script (world_of script es) ls → HaveRun script (world_of script es).steps ls → Each (LetterLocked (marks_in (world_of script es).steps)) ls → Each IsPost ls
+  each-post [] a b c d e f = tt
+  each-post (l ∷ ls) a b c d e f = ((a.0, λ q. record { order_is = b.0 q; view_is = c.0; alive = d.0 q; was = e.0 q; locked = f.0 q }), each-post ls a.1 b.1 c.1 d.1 e.1 f.1)
 
   pub posts : Each IsPost (world_of script es).sent
   posts =
-      each-post (world_of script es).sent (world-both script some es).knows.well.letters (histories.world-holds script some es).orders (world-views script some es) (orders-alive script some es) (orders-ran script some es)
+      each-post (world_of script es).sent (world-both script some es).knows.well.letters (histories.world-holds script some es).orders (world-views script some es) (orders-alive script some es) (orders-ran script some es) (world-orders script some es).letters
 
   its : (l : Letter) (to : Node) (m : Message) → l.to ≡ to → l.envelope.message ≡ m → Came script es l.to l.envelope.message → Came script es to m
   its l to m a b c = subst (λ n. Came script es n m) a (subst (λ k. Came script es l.to k) b c)

@@ -1,8 +1,8 @@
 -- A segment's turn when a slice goes on.
-use Rattle.std.proofs.Common.{◌≡◌, ◌≤◌, inr, ℕ, List, [], ◌∷◌, Option, Some, None, Bool, true, false, refl, sym, subst, ap, ◌∙◌, if◌then◌else◌, cond, ◌==◌, ◌&&◌, ◌||◌, nat_lt, eqb, arith}
+use Rattle.std.proofs.Common.{◌≡◌, ◌≤◌, inr, ℕ, List, [], ◌∷◌, Some, None, Bool, true, false, refl, sym, subst, ap, ◌∙◌, if◌then◌else◌, cond, ◌==◌, ◌&&◌, ◌||◌, nat_lt, eqb, arith}
 use Rattle.std.proofs.lemmas.Bool.{eqb-true}
 use Rattle.std.proofs.lemmas.Bool.Decides.{nat_tests}
-use Rattle.std.specs.Prelude.{filter, is_some}
+use Rattle.std.specs.Prelude.{filter}
 use Rattle.gx_ids.specs.declared.ids.Cid.{Cid}
 use Rattle.gx_ids.specs.declared.ids.Gxid.{Gxid}
 use Rattle.gx_ids.specs.declared.ids.Node.{Node}
@@ -27,7 +27,7 @@ use Rattle.gx_rules.specs.Segments.{Phase, Seg, SegTurn, Version, after_marks, h
 use Rattle.gx_rules.specs.Shown.{last_images, rows_in, shown}
 use Rattle.gx_rules.specs.Slices.{runs_slice}
 use Rattle.gx_law_order.proofs.Ordered.{world_well}
-use Rattle.gx_law_order.proofs.Waiting.{GoesOn, HasCome, goes-on-is, going-on}
+use Rattle.gx_law_order.proofs.Waiting.{GoesOn, goes-on-is, going-on}
 use Rattle.gx_law_sessions.proofs.World.{after-last}
 use Rattle.gx_law_reads.proofs.Waiting.{waits-to-run}
 use Rattle.gx_law_writes.proofs.Waiting.{waits-untold}
@@ -99,24 +99,25 @@ module _ (script : Script) (some : 1 ≤ script.segments) (numbered_lines : AreL
   o : GoesOn script w to.0 g
   o = going-on script w (world_well script some es) to.0 g ok
 
-  behind-wait : (q : Option Snapshot) → o.slice.snapshot ≡ q → is_some q ≡ true → Runs script es to (event.Resume to g) fails (here.Resume g) o.slice.slice
-  behind-wait None same reads = absurd (cc)
-  behind-wait (Some q) same reads =
+  behind-wait : Runs script es to (event.Resume to g) fails (here.Resume g) o.slice.slice
+  behind-wait =
       record {
         g = g;
         c = o.slice.cid;
         level = o.slice.level;
-        snapshot = q;
+        snapshot = o.slice.snapshot;
+        reads = o.waits.reads;
         horizon = o.waits.horizon;
         came = its;
         untold = λ n k wrote count part. waits-untold script some numbered_lines es to place.0 g o.slice n k wrote count part o.is;
         like = unsuspended s g;
         versions = refl;
         answers = λ h. answer-of s g h;
-        sight = λ unaborted k d taken table rid only. ap (λ rows. row_at rows rid) (shown-still s g o.waits.horizon q o.slice.cid table) ∙ its.view_is place.0 (waits-to-run script w (world_well script some es) to g o.slice o.is unaborted) k d taken table rid only;
+        sight = λ unaborted v same k d taken table rid only. ap (λ rows. row_at rows rid) (shown-still s g o.waits.horizon v o.slice.cid table) ∙ (subst (λ z. Came script es to (message.Exec g o.slice.cid o.slice.level z o.waits.horizon o.slice.slice)) same its).view_is place.0 (waits-to-run script w (world_well script some es) to g o.slice o.is unaborted) k d taken table rid only;
         locks = resumed s.locks g (Some o.wanted);
         wanted = o.wanted;
-        ran = ran ∙ ap (λ (t : Seg). after_marks (hold_mark s.node o.wanted ∷ []) (runs_slice (record t { locks = resumed s.locks g (Some o.wanted) }) g o.slice.cid (Some q) o.slice.slice)) (sym (raised-same (unsuspended s g) o.waits.horizon o.waits.raised));
+        lock = sym o.waits.wants ∙ o.claims;
+        ran = ran ∙ ap (λ (t : Seg). after_marks (hold_mark s.node o.wanted ∷ []) (runs_slice (record t { locks = resumed s.locks g (Some o.wanted) }) g o.slice.cid o.slice.snapshot o.slice.slice)) (sym (raised-same (unsuspended s g) o.waits.horizon o.waits.raised));
         given = λ r given.
             inr (record {
               is = refl;
@@ -124,10 +125,10 @@ module _ (script : Script) (some : 1 ≤ script.segments) (numbered_lines : AreL
               waits = o.is;
               command = refl;
               level_is = refl;
-              snapshot_is = same;
+              snapshot_is = refl;
               slice_is = refl;
               horizon = o.waits.horizon;
-              came = record { place = before.place; step = before.step; at = before.stands; there = before.node; received = before.received };
+              came = record { place = o.waits.come.place; step = o.waits.come.step; at = o.waits.come.stands; there = o.waits.come.node; received = o.waits.come.received };
               last = o.waits.last;
               unanswered = o.waits.unanswered;
               wanted = o.wanted;
@@ -139,14 +140,11 @@ module _ (script : Script) (some : 1 ≤ script.segments) (numbered_lines : AreL
             });
       }
     where
-      before : HasCome w to.0 (message.Exec g o.slice.cid o.slice.level (Some q) o.waits.horizon o.slice.slice)
-      before = subst (λ z. HasCome w to.0 (message.Exec g o.slice.cid o.slice.level z o.waits.horizon o.slice.slice)) same o.waits.come
+      its : Came script es to (message.Exec g o.slice.cid o.slice.level o.slice.snapshot o.waits.horizon o.slice.slice)
+      its = came-before script some es to _ o.waits.come
 
-      its : Came script es to (message.Exec g o.slice.cid o.slice.level (Some q) o.waits.horizon o.slice.slice)
-      its = came-before script some es to _ before
-
-      ran : turn ≡ after_marks (hold_mark s.node o.wanted ∷ []) (runs_slice (record (unsuspended s g) { locks = resumed s.locks g (Some o.wanted) }) g o.slice.cid (Some q) o.slice.slice)
-      ran = goes-on-is s g o.wanted o.slice o.claims o.is ∙ ap (λ z. after_marks (hold_mark s.node o.wanted ∷ []) (runs_slice (record (unsuspended s g) { locks = resumed s.locks g (Some o.wanted) }) g o.slice.cid z o.slice.slice)) same
+      ran : turn ≡ after_marks (hold_mark s.node o.wanted ∷ []) (runs_slice (record (unsuspended s g) { locks = resumed s.locks g (Some o.wanted) }) g o.slice.cid o.slice.snapshot o.slice.slice)
+      ran = goes-on-is s g o.wanted o.slice o.claims o.is
 
   pub resumption-does : Doings script es to (event.Resume to g) fails (here.Resume g)
-  resumption-does = inr (inr (o.slice.slice, behind-wait o.slice.snapshot refl o.waits.reads))
+  resumption-does = inr (inr (o.slice.slice, behind-wait))

@@ -1,6 +1,6 @@
 -- What a segment does in a turn: a slice takes its lock and runs, at once or behind a wait, or it rests, or begins to wait.
-use Rattle.std.proofs.Common.{◌≡◌, ◌⊎◌, ℕ, List, [], ◌∷◌, ◌++◌, Some, None, Bool, false}
-use Rattle.std.specs.Prelude.{slice_get, take}
+use Rattle.std.proofs.Common.{◌≡◌, ◌⊎◌, ℕ, List, [], ◌∷◌, ◌++◌, Option, Some, None, Bool, true, false, refl, ◌||◌}
+use Rattle.std.specs.Prelude.{is_some, slice_get, take}
 use Rattle.gx_ids.specs.declared.ids.Cid.{Cid}
 use Rattle.gx_ids.specs.declared.ids.Gxid.{Gxid}
 use Rattle.gx_ids.specs.declared.ids.Node.{Node}
@@ -26,16 +26,22 @@ use Rattle.gx_store.specs.Points.{marks_in}
 use Rattle.gx_store.specs.Rows.{row_at}
 use Rattle.gx_store.specs.View.{image}
 use Rattle.gx_rules.specs.AtSegment.{on_event, raised, seg_rule}
+use Rattle.gx_rules.specs.Fits.{reads_nothing}
 use Rattle.gx_rules.specs.Locks.{hold_mark}
 use Rattle.gx_rules.specs.Machine.{World, seg_did, world_of}
 use Rattle.gx_rules.specs.Segments.{Seg, SegTurn, after_marks, reply as reply_out}
 use Rattle.gx_rules.specs.Shown.{shown}
-use Rattle.gx_rules.specs.Slices.{runs_slice}
+use Rattle.gx_rules.specs.Slices.{runs_slice, slice_lock}
 use Rattle.gx_law_order.proofs.Lists.{Each}
 use Rattle.gx_law_reads.specs.Sights.{IsOnlyAt}
 use Rattle.gx_law_writes.proofs.Turns.{NoRow, Quiet, base}
 use Rattle.gx_law_answers.specs.Earned.{Events, RunsAtOnce, RunsBehindWait}
 use Rattle.gx_law_answers.proofs.Posts.{Came}
+
+-- who reads or adds rows has a snapshot
+pub snapshot-of : (o : Option Snapshot) → (is_some o || false) ≡ true → (v : Snapshot) × (o ≡ Some v)
+snapshot-of None e = absurd (cc)
+snapshot-of (Some v) e = (v, refl)
 
 module _ (script : Script) (es : Events) (to : Node) (e : Event) (fails : Bool) (x : NodeEvent) where
   abbrev w : World
@@ -56,18 +62,20 @@ module _ (script : Script) (es : Events) (to : Node) (e : Event) (fails : Bool) 
     pub g : Gxid
     pub c : Cid
     pub level : Level
-    pub snapshot : Snapshot
+    pub snapshot : Option Snapshot
+    pub reads : (is_some snapshot || reads_nothing y) ≡ true
     pub horizon : Gxid
-    pub came : Came script es to (message.Exec g c level (Some snapshot) horizon y)
+    pub came : Came script es to (message.Exec g c level snapshot horizon y)
     pub untold : (n : Node) (number : ℕ) (wrote : Bool) (count : ℕ) (part : Part) → IsSent (world_of script es).steps to n number (message.Answer g (reply.Done c wrote count part)) → ⊥
     pub like : Seg
     pub versions : like.versions ≡ ((world_of script es).segs to.0).versions
     pub answers : (h : ℕ) → (like.locals h).answer ≡ (((world_of script es).segs to.0).locals h).answer
-    pub sight : is_aborted (marks_in (world_of script es).steps) g ≡ false → (k : ℕ) (d : Cid) → slice_get (marks_in (world_of script es).steps) k ≡ Some (mark.Snap g d snapshot) → (table : Table) (rid : Rid) → IsOnlyAt to rid (marks_in (world_of script es).steps)
-        → row_at (shown (raised like horizon) snapshot g c table) rid ≡ image (marks_in (world_of script es).steps) (take k (marks_in (world_of script es).steps)) (Some (g, c)) table rid
+    pub sight : is_aborted (marks_in (world_of script es).steps) g ≡ false → (v : Snapshot) → snapshot ≡ Some v → (k : ℕ) (d : Cid) → slice_get (marks_in (world_of script es).steps) k ≡ Some (mark.Snap g d v) → (table : Table) (rid : Rid) → IsOnlyAt to rid (marks_in (world_of script es).steps)
+        → row_at (shown (raised like horizon) v g c table) rid ≡ image (marks_in (world_of script es).steps) (take k (marks_in (world_of script es).steps)) (Some (g, c)) table rid
     pub locks : Locks
     pub wanted : Claim
-    pub ran : on_event script ((world_of script es).segs to.0) x fails ≡ after_marks (hold_mark ((world_of script es).segs to.0).node wanted ∷ []) (runs_slice (base like horizon locks) g c (Some snapshot) y)
+    pub lock : slice_lock g y ≡ Some wanted
+    pub ran : on_event script ((world_of script es).segs to.0) x fails ≡ after_marks (hold_mark ((world_of script es).segs to.0).node wanted ∷ []) (runs_slice (base like horizon locks) g c snapshot y)
     pub given : (r : Reply) → (on_event script ((world_of script es).segs to.0) x fails).outs ≡ reply_out g r ∷ [] → RunsAtOnce script (world_of script es) e fails to g c level snapshot y r ⊎ RunsBehindWait script (world_of script es) e to g c level snapshot y r
 
   -- it tells nothing, and no row

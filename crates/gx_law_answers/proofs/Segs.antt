@@ -11,7 +11,7 @@ use Rattle.gx_tree.specs.declared.query.Query.{Query}
 use Rattle.gx_tree.specs.declared.row.KeyedRow.{KeyedRow}
 use Rattle.gx_tree.specs.declared.slice.Slice.{Slice}
 use Rattle.gx_tree.specs.declared.slice.Slice.TheVariants as slice
-use Rattle.gx_tree.specs.declared.stmt.Stmt.{Stmt}
+use Rattle.gx_dsnap.specs.declared.snapshot.Snapshot.{Snapshot}
 use Rattle.gx_tree.specs.declared.stmt.Stmt.TheVariants as stmt
 use Rattle.gx_waits.specs.declared.claim.Claim.{Claim}
 use Rattle.gx_meaning.specs.declared.fault.ArithFault.{ArithFault}
@@ -36,7 +36,7 @@ use Rattle.gx_rules.specs.Locks.{hold_mark}
 use Rattle.gx_rules.specs.Segments.{Seg, SegTurn, after_marks, stays}
 use Rattle.gx_rules.specs.Sending.{numbered}
 use Rattle.gx_rules.specs.Shown.{shown}
-use Rattle.gx_rules.specs.Slices.{first_fault, selects}
+use Rattle.gx_rules.specs.Slices.{adds, first_fault, selects}
 use Rattle.gx_law_order.proofs.AtSegments.{PlainAt, seg_stays}
 use Rattle.gx_law_order.proofs.Lists.{Each}
 use Rattle.gx_law_sessions.specs.Scanned.{stmt_of_command}
@@ -53,10 +53,10 @@ use Rattle.gx_law_writes.proofs.Turns.{NoFault, base, row-no-fault}
 use Rattle.gx_law_writes.proofs.World as writes
 use Rattle.gx_store.proofs.Marks.{is_aborted-append}
 use Rattle.gx_law_answers.specs.Earned.{Events}
-use Rattle.gx_law_answers.proofs.Running.{Doings, IsLate, Runs}
+use Rattle.gx_law_answers.proofs.Running.{Doings, IsLate, Runs, snapshot-of}
 use Rattle.gx_law_answers.proofs.Arrivals.{message-does, received-late}
 use Rattle.gx_law_answers.proofs.Resumptions.{resumed-late, resumption-does}
-use Rattle.gx_law_answers.proofs.Origins.{rows-part, select-is, select-order, snapshot-at}
+use Rattle.gx_law_answers.proofs.Origins.{rows-part, select-is, select-order, select-ran, snapshot-at}
 use Rattle.gx_law_answers.proofs.Truths.{part-more, seen-fault, snapshot-more}
 
 abbrev FaultLegal : Script → Point → Mark → Type 0
@@ -137,12 +137,12 @@ module _ (script : Script) (some : 1 ≤ script.segments) (numbered_lines : AreL
     abbrev turn : SegTurn
     turn = on_event script ((world_of script es).segs to.0) x fails
 
-    module _ (query : Query) (z : Runs script es to e fails x (slice.Select query)) where
+    module _ (query : Query) (z : Runs script es to e fails x (slice.Select query)) (v : Snapshot) (has_it : z.snapshot ≡ Some v) where
       abbrev rows : List KeyedRow
-      rows = shown (raised z.like z.horizon) z.snapshot z.g z.c query.table
+      rows = shown (raised z.like z.horizon) v z.g z.c query.table
 
       the-line : stmt_of_command script ms z.g z.c ≡ Some (stmt.Select query)
-      the-line = (select-order script some numbered_lines es to e fails x place is-late query z).of ∙ ap Some (select-is script some numbered_lines es to e fails x place is-late query z)
+      the-line = (select-order script some numbered_lines es to e fails x place is-late query z v has_it).of ∙ ap Some (select-is script some numbered_lines es to e fails x place is-late query z v has_it)
 
       abbrev hold : Mark
       hold = hold_mark s.node z.wanted
@@ -200,9 +200,9 @@ module _ (script : Script) (some : 1 ≤ script.segments) (numbered_lines : AreL
                 level = z.level;
                 fault = fault.1;
                 runs = u.runs e (hold ∷ []) later (starts u.session) (tt, tt);
-                faults = let taken = snapshot-at script some numbered_lines es to e fails x place is-late query z in
+                faults = let taken = snapshot-at script some numbered_lines es to e fails x place is-late query z v has_it in
                     subst (λ l. IsFaultOf (ms ++ hold ∷ []) z.level z.g z.c l fault.0.rid (Some fault.0.row) fault.1) (some-same (stmt.Select query) u.line (sym the-line ∙ u.of numbered_lines))
-                    (seen-fault (ms ++ hold ∷ []) to z.level z.g z.c _ (snapshot-more ms (hold ∷ []) z.level z.g z.c _ taken) query rows (part-more ms (hold ∷ []) (tt, tt) z.level z.g z.c _ taken to query.table rows (rows-part script some numbered_lines es to e fails x place is-late query z a)) fault q);
+                    (seen-fault (ms ++ hold ∷ []) to z.level z.g z.c _ (snapshot-more ms (hold ∷ []) z.level z.g z.c _ taken) query rows (part-more ms (hold ∷ []) (tt, tt) z.level z.g z.c _ taken to query.table rows (rows-part script some numbered_lines es to e fails x place is-late query z v has_it a)) fault q);
               })
 
       select-faults : (later : List Mark) (o : Option (KeyedRow × ArithFault)) → first_fault query.cond rows ≡ o → turn ≡ after_marks (hold ∷ []) (selects (base z.like z.horizon z.locks) z.g z.c query rows o) → EachMark (FaultLegal script) (world_of script es).steps e [] turn.marks later
@@ -216,13 +216,13 @@ module _ (script : Script) (some : 1 ≤ script.segments) (numbered_lines : AreL
     stays-faults later m t ran = quiet-faults later (subst (λ (t : SegTurn). Each NoFault t.marks) (sym ran) (tt, tt))
 
     slice-faults : (later : List Mark) (y : Slice) → Runs script es to e fails x y → EachMark (FaultLegal script) (world_of script es).steps e [] turn.marks later
-    slice-faults later (slice.Select query) z = select-faults query z later (first_fault query.cond (rows query z)) refl z.ran
+    slice-faults later (slice.Select query) z = let o = snapshot-of z.snapshot z.reads in select-faults query z o.0 o.1 later (first_fault query.cond (rows query z o.0 o.1)) refl (select-ran script some numbered_lines es to e fails x place is-late query z o.0 o.1)
     slice-faults later (slice.Insert table tuples) z =
         quiet-faults later
-        (subst (λ (t : SegTurn). Each NoFault t.marks) (sym z.ran) (tt, subst (Each NoFault) (sym (insert-wrote z.like z.horizon z.locks z.g z.c table tuples).marks) (rows-no-fault z.g z.c z.like.node table tuples)))
+        (subst (λ (t : SegTurn). Each NoFault t.marks) (sym (z.ran ∙ ap (λ o. after_marks (hold_mark s.node z.wanted ∷ []) (adds (base z.like z.horizon z.locks) z.g z.c table tuples o)) (snapshot-of z.snapshot z.reads).1)) (tt, subst (Each NoFault) (sym (insert-wrote z.like z.horizon z.locks z.g z.c table tuples).marks) (rows-no-fault z.g z.c z.like.node table tuples)))
     slice-faults later (slice.Update t a d) z = stays-faults later z.wanted (base z.like z.horizon z.locks) z.ran
     slice-faults later (slice.Delete t d) z = stays-faults later z.wanted (base z.like z.horizon z.locks) z.ran
-    slice-faults later (slice.Lock t m) z = stays-faults later z.wanted (base z.like z.horizon z.locks) z.ran
+    slice-faults later (slice.Lock t m) z = quiet-faults later (subst (λ (t : SegTurn). Each NoFault t.marks) (sym z.ran) (tt, tt))
 
     faults : (later : List Mark) → Doings script es to e fails x → EachMark (FaultLegal script) (world_of script es).steps e [] turn.marks later
     faults later (inl q) = quiet-faults later (row-no-fault turn.marks q.marks)

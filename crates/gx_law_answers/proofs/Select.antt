@@ -39,7 +39,7 @@ use Rattle.gx_meaning.specs.Merged.{merged_answer}
 use Rattle.gx_law_order.proofs.Lists.{Each}
 use Rattle.gx_rules.proofs.ShownRows.{rows-same}
 use Rattle.gx_law_sessions.specs.Gathering.{AreAll, AreApart, Taken, nodes_taken, parts_taken}
-use Rattle.gx_law_writes.proofs.Legal.{IsPlacedMark}
+use Rattle.gx_law_writes.specs.Homes.{IsPlacedMark}
 use Rattle.gx_law_answers.specs.Keyed.{AreInsertsKeyed}
 use Rattle.gx_law_answers.specs.Parts.{IsPartOf, SaysItsPart, is_home}
 use Rattle.gx_law_answers.proofs.Dealt.{AreApartNodes, at, divided, part}

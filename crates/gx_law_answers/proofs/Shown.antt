@@ -43,8 +43,8 @@ use Rattle.gx_rules.proofs.KeptImages.{image_in-last_images, in_order-last_image
 use Rattle.gx_rules.proofs.RowOrder.{less_apart_back}
 use Rattle.gx_rules.proofs.ShownRows.{rising-rows_in, row_at-rows_in}
 use Rattle.gx_law_reads.specs.Sights.{IsOnlyAt}
-use Rattle.gx_law_writes.proofs.Legal.{IsPlacedMark}
-use Rattle.gx_law_writes.proofs.Placed.{IsPlaced, same-place}
+use Rattle.gx_law_writes.specs.Homes.{IsPlaced, IsPlacedMark}
+use Rattle.gx_law_writes.proofs.Placed.{same-place}
 use Rattle.gx_law_answers.specs.Parts.{IsPartOf, is_home}
 
 -- ---- where a row stands alone
@@ -61,11 +61,9 @@ never-only node rid (m ∷ ms) e = never-only node rid ms e
 module _ (script : Script) (all : List Mark) (node : Node) (rid : Rid) where
   -- a write of the row at the node
   pub record IsAt : Type 0 where
-    pub g : Gxid
-    pub c : Cid
     pub t : Table
     pub x : Option (List Value)
-    pub placed : IsPlaced script all g c node t rid x
+    pub placed : IsPlaced script all node t rid x
 
   pub first-at : (ms : List Mark) → Each (IsPlacedMark script all) ms → node_of ms rid ≡ Some node → IsAt
   first-at [] e f = absurd (cc)
@@ -73,13 +71,13 @@ module _ (script : Script) (all : List Mark) (node : Node) (rid : Rid) where
     where
       by_test : (b : Bool) → is_same_rid r rid ≡ b → (if b then Some n else node_of ms rid) ≡ Some node → (node_of ms rid ≡ Some node → IsAt) → IsAt
       by_test true s q more =
-          record { g = g; c = c; t = t; x = x; placed = subst (λ k. IsPlaced script all g c k t rid x) (some-same n node q) (subst (λ k. IsPlaced script all g c n t k x) (same_rid r rid s) e.0) }
+          record { t = t; x = x; placed = subst (λ k. IsPlaced script all k t rid x) (some-same n node q) (subst (λ k. IsPlaced script all n t k x) (same_rid r rid s) e.0) }
       by_test false s q more = more q
   first-at (m ∷ ms) e f = first-at ms e.1 f
 
   only-rest : IsAt → (ms : List Mark) → Each (IsPlacedMark script all) ms → IsOnlyAt node rid ms
   only-rest a [] e = tt
-  only-rest a (mark.Write g c n t r x ∷ ms) e = (λ s. eqb-of n.0 node.0 (ap (λ (k : Node). k.0) (same-place script all a.g g a.c c node n a.t t rid r a.x x a.placed e.0 s).node), only-rest a ms e.1)
+  only-rest a (mark.Write g c n t r x ∷ ms) e = (λ s. eqb-of n.0 node.0 (ap (λ (k : Node). k.0) (same-place script all node n a.t t rid a.x x a.placed (subst (λ k. IsPlaced script all n t k x) (same_rid r rid s) e.0))), only-rest a ms e.1)
   only-rest a (m ∷ ms) e = only-rest a ms e.1
 
   pub only-at : (ms : List Mark) → Each (IsPlacedMark script all) ms → node_of ms rid ≡ Some node → IsOnlyAt node rid ms

@@ -1,7 +1,9 @@
 -- A gathered SELECT shows what its answer says, and a command that a segment failed has faulted so.
-use Rattle.std.proofs.Common.{◌≡◌, ◌≤◌, inl, inr, ℕ, List, [], ◌∷◌, ◌++◌, Some, None, Result, Ok, Bool, true, false, refl, sym, subst, ap, ◌∙◌, ◌||◌, arith, eqb, map, zero, suc, ◌+◌}
+use Rattle.std.proofs.Common.{◌≡◌, ◌≤◌, ◌<◌, inl, inr, ℕ, List, [], ◌∷◌, ◌++◌, Some, None, Result, Ok, Bool, true, false, refl, sym, subst, ap, ◌∙◌, ◌||◌, arith, eqb, map, zero, suc, ◌+◌}
 use Rattle.std.proofs.lemmas.Option.{get_or_from_slice_get, slice_get_within}
+use Rattle.std.proofs.lemmas.Bool.{eqb-true}
 use Rattle.std.proofs.lemmas.Bool.Decides.{nat_tests}
+use Rattle.std.specs.List.{list_any}
 use Rattle.std.specs.Prelude.{Contains, length, slice_get, take}
 use Rattle.gx_lemmas.proofs.Lists.{get-append}
 use Rattle.gx_lemmas.proofs.Tests.{false-true}
@@ -11,6 +13,10 @@ use Rattle.gx_ids.specs.declared.ids.Cid.{Cid}
 use Rattle.gx_ids.specs.declared.ids.Gxid.{Gxid}
 use Rattle.gx_ids.specs.declared.ids.Node.{Node}
 use Rattle.gx_ids.specs.declared.ids.SessionId.{SessionId}
+use Rattle.gx_ids.specs.declared.ids.Table.{Table}
+use Rattle.gx_modes.specs.declared.modes.Mode.{Mode}
+use Rattle.gx_waits.specs.Claim.{same_claim}
+use Rattle.gx_waits.specs.declared.object.Object.TheVariants.{Relation}
 use Rattle.gx_tree.specs.declared.cell.Cell.{Cell}
 use Rattle.gx_tree.specs.declared.query.Query.{Query}
 use Rattle.gx_tree.specs.declared.slice.Slice.{Slice}
@@ -34,13 +40,15 @@ use Rattle.gx_script.specs.declared.Script.{Script}
 use Rattle.gx_store.specs.declared.answer.StmtAnswer.{StmtAnswer}
 use Rattle.gx_store.specs.declared.mark.Mark.{Mark}
 use Rattle.gx_store.specs.declared.mark.Mark.TheVariants as mark
-use Rattle.gx_store.specs.Answers.{Shows, Tells}
+use Rattle.gx_store.specs.Answers.{Locks, Shows, Tells}
 use Rattle.gx_store.specs.Commands.{IsSnapshotAt, RunsCommand}
 use Rattle.gx_store.specs.Marks.{is_aborted}
 use Rattle.gx_store.specs.Messages.{HasReceived, Receives}
 use Rattle.gx_store.specs.Points.{marks_in}
 use Rattle.gx_store.specs.Refusals.{HasFaulted, IsCause, the_coordinator}
 use Rattle.gx_store.specs.View.{image, is_shown_to}
+use Rattle.gx_store.specs.Waits.{claim, holds_at, is_held}
+use Rattle.gx_store.proofs.Exclusive.{holds_from-append}
 use Rattle.gx_store.specs.Writes.{dist_of}
 use Rattle.gx_store.proofs.Runs.{marks_in-push}
 use Rattle.gx_rules.specs.AtCoordinator.{nodes_in, reason_of}
@@ -55,6 +63,7 @@ use Rattle.gx_law_sessions.specs.Orders.{level_of_began}
 use Rattle.gx_store.specs.Language.{AreLinesNumbered}
 use Rattle.gx_law_sessions.proofs.Said.{CalmFor}
 use Rattle.gx_law_commit.proofs.Commits.{take-kept}
+use Rattle.gx_law_holds.proofs.Marks.{Quiet, quiet-holds}
 use Rattle.gx_law_writes.proofs.Turns.{NoWrite}
 use Rattle.gx_law_writes.proofs.World as writes
 use Rattle.gx_law_answers.specs.Earned.{Events, IsEarned}
@@ -63,7 +72,7 @@ use Rattle.gx_law_answers.specs.Once.{IsOneSnapshot}
 use Rattle.gx_law_answers.specs.Parts.{SaysItsPart}
 use Rattle.gx_law_answers.specs.Truth.{IsTrueFault, IsTruePart, IsTruth}
 use Rattle.gx_law_answers.proofs.Commands.{IsOf}
-use Rattle.gx_law_answers.proofs.Heard.{heard, marks-are, more, order-now, own-step, part-now, unaborted-then}
+use Rattle.gx_law_answers.proofs.Heard.{heard, lock-now, marks-are, more, order-now, own-step, part-now, unaborted-then}
 use Rattle.gx_law_answers.proofs.Plans.{IsSliceOf, slice-is}
 use Rattle.gx_law_answers.proofs.Select.{has-from, merged, seen, whole}
 use Rattle.gx_law_answers.proofs.Truths.{image-more, snapshot-more}
@@ -163,8 +172,8 @@ module _ (script : Script) (some : 1 ≤ script.segments) (numbered : AreLinesNu
         before : List Mark
         before = take h.0.place ms
 
-        placed : Each (Rattle.gx_law_writes.proofs.Legal.IsPlacedMark script ms) ms
-        placed = (writes.world-holds script some numbered es).placed
+        placed : Each (Rattle.gx_law_writes.specs.Homes.IsPlacedMark script ms) ms
+        placed = writes.world-placed script some numbered es
 
         says : AreAll (λ t. SaysItsPart ms (take h.0.place ms) t.node g c query t.part) (t ∷ ts)
         says = at-place h.0.place h.0.taken (t ∷ ts) h
@@ -173,7 +182,7 @@ module _ (script : Script) (some : 1 ≤ script.segments) (numbered : AreLinesNu
         covers i = sym (ap (has i) (ap nodes_in (sym (ok-same plan)) ∙ nodes-of-pieces (slice.Select query) _)) ∙ all i
 
   -- A COMMAND THAT WAS GATHERED
-  module _ (once : IsOneSnapshot script ms) (now : Event) (earlier later : List Mark) (session : SessionId) (level : Level) (g : Gxid) (c : Cid) (answer : StmtAnswer) (calm : Each (CalmFor session) earlier) (quiet : Each NoWrite earlier) where
+  module _ (once : IsOneSnapshot script ms) (now : Event) (earlier later : List Mark) (session : SessionId) (level : Level) (g : Gxid) (c : Cid) (answer : StmtAnswer) (calm : Each (CalmFor session) earlier) (quiet : Each NoWrite earlier) (holding : Each Quiet earlier) where
     true-replies : (taken : List Taken) → AreAll (λ t. HasReceived (point_at (world_of script es).steps now earlier later) t.node the_coordinator (message.Answer g (reply.Done c t.wrote t.count t.part))) taken → AreAll (λ t. IsEarned script es t.node g c (reply.Done c t.wrote t.count t.part)) taken
     true-replies [] h = tt
     true-replies (t ∷ ts) h = ((heard script some numbered es now earlier later t.node _ h.0).word_earned g (reply.Done c t.wrote t.count t.part) refl, true-replies ts h.1)
@@ -187,6 +196,48 @@ module _ (script : Script) (some : 1 ≤ script.segments) (numbered : AreLinesNu
     covers-pieces : (s : Slice) (nodes : List Node) (pieces : List Piece) (taken : List Taken) → (let o : Result (List Piece) ArithFault = Ok (map (piece s) nodes) in o) ≡ Ok pieces → ((i : Node) → has i (nodes_in pieces) ≡ has i (nodes_taken taken)) → (i : Node) → has i nodes ≡ has i (nodes_taken taken)
     covers-pieces s nodes pieces taken plan all i = sym (ap (has i) (ap nodes_in (sym (ok-same plan)) ∙ nodes-of-pieces s nodes)) ∙ all i
 
+    -- LOCK TABLE: each segment has told that the mode is held there, and at the coordinator
+    module _ (table : Table) (mode : Mode) (is : IsOf script ms (stmt.Lock table mode) level g c) where
+      both-hold : (t : Taken) → IsEarned script es t.node g c (reply.Done c t.wrote t.count t.part) → (is_held ms t.node g (Relation table) mode ≡ true) × (is_held ms the_coordinator g (Relation table) mode ≡ true)
+      both-hold t x =
+          lock-now script some numbered es t.node g c _ x table mode is.running
+          (subst (λ s. IsTruth (marks_in (world_of script x.given.before).steps) (marks_in (world_of script x.upto).steps) t.node x.level g c s (reply.Done c t.wrote t.count t.part)) (its-slice t.node (stmt.Lock table mode) level g c is _ x) x.truth).1
+
+      no-one : false ≡ true → ⊥
+      no-one e = cc
+
+      node-is : (a b : Node) → eqb a.0 b.0 ≡ true → a ≡ b
+      node-is a b q = ap (λ n. let r : Node = record { 0 = n } in r) (eqb-true a.0 b.0 q)
+
+      segment-holds : (taken : List Taken) → AreAll (λ t. IsEarned script es t.node g c (reply.Done c t.wrote t.count t.part)) taken → (node : Node) → has node (nodes_taken taken) ≡ true → is_held ms node g (Relation table) mode ≡ true
+      segment-holds [] h node e = absurd (no-one e)
+      segment-holds (t ∷ ts) h node e = by_test (eqb t.node.0 node.0) refl e (segment-holds ts h.1 node)
+        where
+          by_test : (b : Bool) → eqb t.node.0 node.0 ≡ b → (b || has node (nodes_taken ts)) ≡ true → (has node (nodes_taken ts) ≡ true → is_held ms node g (Relation table) mode ≡ true) → is_held ms node g (Relation table) mode ≡ true
+          by_test true q e more = subst (λ n. is_held ms n g (Relation table) mode ≡ true) (node-is t.node node q) (both-hold t h.0).0
+          by_test false q e more = more e
+
+      coordinator-holds : (taken : List Taken) → AreAll (λ t. IsEarned script es t.node g c (reply.Done c t.wrote t.count t.part)) taken → (i : Node) → has i (nodes_taken taken) ≡ true → is_held ms the_coordinator g (Relation table) mode ≡ true
+      coordinator-holds [] h i e = absurd (no-one e)
+      coordinator-holds (t ∷ ts) h i e = (both-hold t h.0).1
+
+      -- nothing of it is given back at the point
+      held-still : (node : Node) → is_held ms node g (Relation table) mode ≡ true → is_held (ms ++ earlier) node g (Relation table) mode ≡ true
+      held-still node h = subst (λ hs. list_any (same_claim (claim g (Relation table) mode)) hs ≡ true) (sym (holds_from-append node [] ms earlier ∙ quiet-holds node (holds_at ms node) earlier holding)) h
+
+      pub locks : (taken : List Taken) → AreAll (λ t. IsEarned script es t.node g c (reply.Done c t.wrote t.count t.part)) taken → ((i : Node) → has i (nodes_of script.segments AllOfThem) ≡ has i (nodes_taken taken)) → Locks script (ms ++ earlier) g table mode
+      locks taken h all node low = held-still node (by_test (eqb node.0 0) refl)
+        where
+          one : eqb node.0 0 ≡ false → 1 ≤ node.0
+          one q = grind (arith, nat_tests)
+
+          below : (k n : ℕ) → k ≤ n → k < 1 + n
+          below k n l = omega (arith, l)
+
+          by_test : (b : Bool) → eqb node.0 0 ≡ b → is_held ms node g (Relation table) mode ≡ true
+          by_test true q = let i = some-node script.segments AllOfThem some in subst (λ n. is_held ms n g (Relation table) mode ≡ true) (sym (node-is node the_coordinator q)) (coordinator-holds taken h i.0 (sym (all i.0) ∙ i.1))
+          by_test false q = segment-holds taken h node (sym (all node) ∙ has-from node.0 1 script.segments (one q) (below node.0 script.segments low))
+
     pub tells-by : (line : Stmt) → IsOf script ms line level g c → RunsCommand script (point_at (world_of script es).steps now earlier later) session line level g c → IsGathered script (point_at (world_of script es).steps now earlier later) g c line answer
         → ((table : _) (tuples : _) → line ≡ stmt.Insert table tuples → Tells script (ms ++ earlier) level g c (stmt.Insert table tuples) answer) → Tells script (ms ++ earlier) level g c line answer
     tells-by (stmt.Select q) is runs x inserts =
@@ -199,7 +250,8 @@ module _ (script : Script) (some : 1 ≤ script.segments) (numbered : AreLinesNu
     tells-by (stmt.Delete t d) is runs x inserts =
         absurd (never (stmt.Delete t d) (slice.Delete t d) is (λ s e. e) (λ b m n l r z. z) (nodes_of script.segments (target_of script.segments (dist_of script.tables t.0) d)) (some-node script.segments _ some) x.taken (true-replies x.taken x.received) (covers-pieces (slice.Delete t d) _ x.pieces x.taken x.plan x.all))
     tells-by (stmt.Lock t m) is runs x inserts =
-        absurd (never (stmt.Lock t m) (slice.Lock t m) is (λ s e. e) (λ b m n l r z. z) (nodes_of script.segments AllOfThem) (some-node script.segments AllOfThem some) x.taken (true-replies x.taken x.received) (covers-pieces (slice.Lock t m) _ x.pieces x.taken x.plan x.all))
+        subst (Tells script (ms ++ earlier) level g c (stmt.Lock t m)) (sym x.is)
+        (locks t m is x.taken (true-replies x.taken x.received) (covers-pieces (slice.Lock t m) (nodes_of script.segments AllOfThem) x.pieces x.taken x.plan x.all))
     tells-by (stmt.Begin l) is runs x inserts = absurd (no-begin _ l runs.command)
       where
         no-begin : (b : Rattle.gx_store.specs.Lines.BlockState) (l : Level) → Rattle.gx_store.specs.Lines.is_command b (stmt.Begin l) ≡ true → ⊥

@@ -37,7 +37,7 @@ use Rattle.gx_waits.specs.declared.claim.Claim.{Claim}
 use Rattle.gx_law_order.proofs.Lists.{Each, get_last}
 use Rattle.gx_law_commit.proofs.Commits.{take-kept}
 use Rattle.gx_law_reads.specs.Sights.{IsOnlyAt}
-use Rattle.gx_law_writes.proofs.Legal.{IsPlacedMark}
+use Rattle.gx_law_writes.specs.Homes.{IsPlacedMark}
 use Rattle.gx_law_writes.proofs.Turns.{NoWrite}
 use Rattle.gx_law_answers.specs.Parts.{IsPartOf, SaysItsPart, is_home}
 use Rattle.gx_law_answers.specs.Truth.{IsTruePart, IsTruth}

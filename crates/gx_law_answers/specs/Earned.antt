@@ -1,6 +1,7 @@
 -- What a segment's answer to a command was earned by: its rule gave it when the command came, or when its slice went on behind a
 -- wait for its lock, and what it says was so then.
 use Rattle.std.specs.Prelude.{◌≡◌, ◌≤◌, ◌<◌, ◌⊎◌, ℕ, Bool, true, List, [], ◌∷◌, ◌++◌, slice_get, take, Some, None}
+use Rattle.std.specs.declared.option.Option.{Option}
 use Rattle.gx_ids.specs.declared.ids.Cid.{Cid}
 use Rattle.gx_ids.specs.declared.ids.Gxid.{Gxid}
 use Rattle.gx_ids.specs.declared.ids.Node.{Node}
@@ -34,23 +35,25 @@ use Rattle.gx_law_answers.specs.Truth.{IsTruth}
 abbrev pub Events : Type 0
 Events = List (Event × Bool)
 
--- The event brings an EXEC to the segment, of a command that is new there; its slice takes its lock and runs by the rule, and so it
--- is answered.
-pub record RunsAtOnce (script : Script) (w : World) (e : Event) (fails : Bool) (segment : Node) (g : Gxid) (c : Cid) (level : Level) (snapshot : Snapshot) (slice : Slice) (said : Reply) : Type 0 where
+-- The event brings an EXEC to the segment, of a command that is new there; its slice takes its table's lock and runs by the rule,
+-- and so it is answered.
+pub record RunsAtOnce (script : Script) (w : World) (event : Event) (fails : Bool) (segment : Node) (g : Gxid) (c : Cid)
+    (level : Level) (snapshot : Option Snapshot) (slice : Slice) (answer : Reply) : Type 0 where
   pub from : Node
   pub number : ℕ
-  pub is : e ≡ Receive from segment number
+  pub is : event ≡ Receive from segment number
   pub envelope : Envelope
   pub posted : found from segment number w.sent ≡ Some envelope
   pub horizon : Gxid
-  pub told : envelope.message ≡ Exec g c level (Some snapshot) horizon slice
+  pub told : envelope.message ≡ Exec g c level snapshot horizon slice
   pub new : (local_of (w.segs segment.0) g).last < c.0
   pub locks : Locks
   pub wanted : Claim
+  pub lock : slice_lock g slice ≡ Some wanted
   pub ran : on_message script (w.segs segment.0) fails envelope.message
       ≡ after_marks (hold_mark (w.segs segment.0).node wanted ∷ [])
-      (runs_slice (record (raised (w.segs segment.0) horizon) { locks = locks }) g c (Some snapshot) slice)
-  pub given : (on_message script (w.segs segment.0) fails envelope.message).outs ≡ reply g said ∷ []
+      (runs_slice (record (raised (w.segs segment.0) horizon) { locks = locks }) g c snapshot slice)
+  pub given : (on_message script (w.segs segment.0) fails envelope.message).outs ≡ reply g answer ∷ []
 
 -- one of the steps, at the node, received the message from the coordinator
 pub record WasReceived (steps : List Step) (node : Node) (m : Message) : Type 0 where
@@ -63,16 +66,17 @@ pub record WasReceived (steps : List Step) (node : Node) (m : Message) : Type 0 
 -- The event is the resumption of the transaction's slice, which came with an EXEC before, of the last command there, and has waited
 -- since then, unanswered; what it waits for is its table's lock, which is free now; it takes it and runs by the rule, and so it is
 -- answered.
-pub record RunsBehindWait (script : Script) (w : World) (event : Event) (segment : Node) (g : Gxid) (c : Cid) (level : Level) (snapshot : Snapshot) (slice : Slice) (answer : Reply) : Type 0 where
+pub record RunsBehindWait (script : Script) (w : World) (event : Event) (segment : Node) (g : Gxid) (c : Cid)
+    (level : Level) (snapshot : Option Snapshot) (slice : Slice) (answer : Reply) : Type 0 where
   pub is : event ≡ Resume segment g
   pub waiting : Suspended
   pub waits : (local_of (w.segs segment.0) g).suspended ≡ Some waiting
   pub command : waiting.cid ≡ c
   pub level_is : waiting.level ≡ level
-  pub snapshot_is : waiting.snapshot ≡ Some snapshot
+  pub snapshot_is : waiting.snapshot ≡ snapshot
   pub slice_is : waiting.slice ≡ slice
   pub horizon : Gxid
-  pub came : WasReceived w.steps segment (Exec g c level (Some snapshot) horizon slice)
+  pub came : WasReceived w.steps segment (Exec g c level snapshot horizon slice)
   pub last : (local_of (w.segs segment.0) g).last ≡ c.0
   pub unanswered : (local_of (w.segs segment.0) g).answer ≡ None
   pub wanted : Claim
@@ -85,11 +89,11 @@ pub record RunsBehindWait (script : Script) (w : World) (event : Event) (segment
       (record (with_local (w.segs segment.0) g (record (local_of (w.segs segment.0) g) { suspended = None })) {
         locks = resumed (w.segs segment.0).locks g (Some wanted);
       })
-      g c (Some snapshot) slice)
+      g c snapshot slice)
   pub given : (resumes (w.segs segment.0) g (wait_of (w.segs segment.0).locks g) (local_of (w.segs segment.0) g).suspended).outs ≡ reply g answer ∷ []
 
 -- in the last of these events, with a step of the segment, a command's slice took its lock there and ran, and so it was answered
-pub record IsGiven (script : Script) (events : Events) (segment : Node) (g : Gxid) (c : Cid) (level : Level) (snapshot : Snapshot) (slice : Slice) (answer : Reply) : Type 0 where
+pub record IsGiven (script : Script) (events : Events) (segment : Node) (g : Gxid) (c : Cid) (level : Level) (snapshot : Option Snapshot) (slice : Slice) (answer : Reply) : Type 0 where
   pub before : Events
   pub event : Event
   pub fails : Bool
@@ -107,10 +111,10 @@ pub record IsEarned (script : Script) (events : Events) (segment : Node) (g : Gx
   pub rest : Events
   pub split : events ≡ upto ++ rest
   pub level : Level
-  pub snapshot : Snapshot
+  pub snapshot : Option Snapshot
   pub slice : Slice
   pub given : IsGiven script upto segment g c level snapshot slice answer
-  pub order : IsOrder script (marks_in (world_of script upto).steps) segment g c level (Some snapshot) slice
+  pub order : IsOrder script (marks_in (world_of script upto).steps) segment g c level snapshot slice
   pub taken : c.0 ≤ (local_of ((world_of script upto).segs segment.0) g).last
   pub truth : IsTruth (marks_in (world_of script given.before).steps) (marks_in (world_of script upto).steps) segment level g c slice answer
 

@@ -4,7 +4,9 @@ use Rattle.std.specs.declared.option.Option.{Option}
 use Rattle.gx_ids.specs.declared.ids.Cid.{Cid}
 use Rattle.gx_ids.specs.declared.ids.Gxid.{Gxid}
 use Rattle.gx_ids.specs.declared.ids.Node.{Node}
+use Rattle.gx_ids.specs.declared.ids.Table.{Table}
 use Rattle.gx_ids.specs.declared.rid.Rid.{Rid}
+use Rattle.gx_modes.specs.declared.modes.Mode.{Mode}
 use Rattle.gx_tree.specs.declared.part.Part.{Part}
 use Rattle.gx_tree.specs.declared.query.Query.{Query}
 use Rattle.gx_tree.specs.declared.row.KeyedRow.{KeyedRow}
@@ -20,7 +22,10 @@ use Rattle.gx_store.specs.declared.mark.Mark.{Mark}
 use Rattle.gx_store.specs.declared.mark.Mark.TheVariants as mark
 use Rattle.gx_store.specs.Commands.{IsSnapshotAt}
 use Rattle.gx_store.specs.Faults.{FaultsOnSeen}
-use Rattle.gx_store.specs.Marks.{is_aborted}
+use Rattle.gx_store.specs.Marks.{is_aborted, is_ended}
+use Rattle.gx_store.specs.Refusals.{the_coordinator}
+use Rattle.gx_store.specs.Waits.{is_held}
+use Rattle.gx_waits.specs.declared.object.Object.TheVariants.{Relation}
 use Rattle.gx_rules.specs.Slices.{cause_of}
 use Rattle.gx_law_writes.specs.Rows.{is_own_written}
 use Rattle.gx_law_answers.specs.Parts.{SaysItsPart}
@@ -48,10 +53,16 @@ abbrev pub AreWritten : List Mark → List KeyedRow → Type 0
 AreWritten marks [] = Unit {0}
 AreWritten marks (row ∷ rows) = (is_own_written marks row.rid ≡ true) × AreWritten marks rows
 
+-- the mode is held on the table at the node, and at the coordinator too, unless the transaction has ended
+pub record IsLocked (marks : List Mark) (node : Node) (g : Gxid) (table : Table) (mode : Mode) : Type 0 where
+  pub segment : is_held marks node g (Relation table) mode ≡ true
+  pub coordinator : is_ended marks g ≡ false → is_held marks the_coordinator g (Relation table) mode ≡ true
+
 -- A SELECT's answer is its part, or the fault of its condition, unless its transaction has aborted; an INSERT's counts the rows
--- that were sent to it, which are all written.
+-- that were sent to it, which are all written; a LOCK TABLE's counts none, and its mode is held.
 abbrev pub IsTruth : List Mark → List Mark → Node → Level → Gxid → Cid → Slice → Reply → Type 0
 IsTruth before marks node level g c (slice.Select query) (reply.Done d wrote count part) = (is_aborted marks g ≡ true) ⊎ IsTruePart marks node level g c query part
 IsTruth before marks node level g c (slice.Select query) (reply.Failed d cause) = (is_aborted marks g ≡ true) ⊎ IsTrueFault before marks level g c query cause
 IsTruth before marks node level g c (slice.Insert table rows) (reply.Done d wrote count part) = (count ≡ length rows) × AreWritten marks rows
+IsTruth before marks node level g c (slice.Lock table mode) (reply.Done d wrote count part) = (count ≡ 0) × IsLocked marks node g table mode
 IsTruth before marks node level g c slice r = ⊥

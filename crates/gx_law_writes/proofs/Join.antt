@@ -132,12 +132,14 @@ module _ (script : Script) (some : 1 ≤ script.segments) (numbered_lines : AreL
   no-faults ms i s m turn o (inl q) = row-no-fault turn.marks q.marks
   no-faults ms i s m turn o (inr (inl x)) = absurd (no-select-order script inserting ms (at i) x.g x.c x.level (Some x.snapshot) x.query (subst (λ (y : Message). MessageIs script ms (at i) y) x.is o numbered_lines))
   no-faults ms i s m turn o (inr (inr (inl x))) = insert-no-fault s m turn x
-  no-faults ms i s m turn o (inr (inr (inr x))) = subst (λ (y : SegTurn). Each NoFault y.marks) (sym x.ran) (tt, tt)
+  no-faults ms i s m turn o (inr (inr (inr (inl x)))) = subst (λ (y : SegTurn). Each NoFault y.marks) (sym x.ran) (tt, tt)
+  no-faults ms i s m turn o (inr (inr (inr (inr x)))) = subst (λ (y : SegTurn). Each NoFault y.marks) (sym x.ran) (tt, tt)
 
-  -- who goes on inserts
+  -- who goes on inserts or locks
   resumption-faults : (ms : List Mark) (i : ℕ) (s : Seg) (g : Gxid) (x : Suspended) (horizon : Gxid) (turn : SegTurn) → MessageIs script ms (at i) (message.Exec g x.cid x.level x.snapshot horizon x.slice) → Continues s g x turn → Each NoFault turn.marks
   resumption-faults ms i s g x horizon turn o (inl y) = absurd (no-select-order script inserting ms (at i) g x.cid x.level x.snapshot y.query (subst (IsOrder script ms (at i) g x.cid x.level x.snapshot) y.is (o numbered_lines)))
-  resumption-faults ms i s g x horizon turn o (inr y) = resumption-no-fault s g x turn y
+  resumption-faults ms i s g x horizon turn o (inr (inl y)) = resumption-no-fault s g x turn y
+  resumption-faults ms i s g x horizon turn o (inr (inr y)) = subst (λ (z : SegTurn). Each NoFault z.marks) (sym y.ran) (tt, tt)
 
   module _ (w : World) (b : Both script some w) (k : stepping.Holds script w) (h : writes.Holds script w.segs w.steps) (n : Counted script w) where
     -- A STEP OF THE COORDINATOR

@@ -36,6 +36,7 @@ use Rattle.gx_store.specs.Marks.{has_snapshot, is_aborted, is_ended, is_same_rid
 use Rattle.gx_store.specs.Points.{Point, marks_in, starts_by}
 use Rattle.gx_store.specs.Writes.{IsAtHome, IsInserted, IsWriteOf, LegalWrite}
 use Rattle.gx_store.proofs.Marks.{has_snapshot-append, is_aborted-append, is_ended-append, is_snapped-append, is_written-append}
+use Rattle.gx_store.proofs.Rows.{same_rid}
 use Rattle.gx_rules.specs.Machine.{World}
 use Rattle.gx_rules.specs.Sending.{counted, numbered}
 use Rattle.gx_law_order.proofs.Lists.{Each, each_append}
@@ -47,9 +48,10 @@ use Rattle.gx_law_sessions.specs.Rest.{EachMark}
 use Rattle.gx_law_sessions.specs.Standing.{IsFirst, is_busy, state_in}
 use Rattle.gx_law_sessions.proofs.Said.{CalmFor}
 use Rattle.gx_law_commit.specs.Standings.{gx}
+use Rattle.gx_law_writes.specs.Homes.{IsPlaced, IsPlacedMark}
 use Rattle.gx_law_writes.specs.Writes.{WriteLegal}
 use Rattle.gx_law_writes.proofs.Live.{Running, under-way}
-use Rattle.gx_law_writes.proofs.Placed.{IsPlaced, IsPlacedRow, Rising, row-placed, same-place}
+use Rattle.gx_law_writes.proofs.Placed.{IsPlacedRow, Rising, same-place}
 use Rattle.gx_law_writes.proofs.Rows.{row_mark}
 use Rattle.gx_law_writes.proofs.Turns.{NoWrite}
 
@@ -85,17 +87,13 @@ unwritten-node (mark.Write g c n t r x ∷ ms) rid e = by_test (is_same_rid r ri
     by_test false later e = later e
 unwritten-node (m ∷ ms) rid e = unwritten-node ms rid e
 
--- a command's rows aren't written before it runs: each write of the row is of that command, at its node
-abbrev pub IsPlacedMark : Script → List Mark → Mark → Type 0
-IsPlacedMark script ms (mark.Write g c n t r x) = IsPlaced script ms g c n t r x
-IsPlacedMark script ms m = Unit {0}
-
--- a write is of a command that has run: those from this number on have still to run at the node
+-- where a row is written, its INSERT has run: the commands from this number on have still to run at the node
 abbrev pub IsPastMark : (ℕ → ℕ → ℕ) → Mark → Type 0
-IsPastMark nexts (mark.Write g c n t r x) = c.0 < nexts n.0 g.0
+IsPastMark nexts (mark.Write g c n t r x) = r.cid.0 < nexts n.0 r.gxid.0
 IsPastMark nexts m = Unit {0}
 
-module _ (script : Script) (ms : List Mark) (nexts : ℕ → ℕ → ℕ) (g : Gxid) (c : Cid) (node : Node) (table : Table) (rid : Rid) (image : Option (List Value)) (p : IsPlaced script ms g c node table rid image) (fresh : nexts node.0 g.0 ≤ c.0) where
+-- a row isn't written before its INSERT runs: each write of it stands at its node, where its INSERT has run
+module _ (script : Script) (ms : List Mark) (nexts : ℕ → ℕ → ℕ) (node : Node) (table : Table) (rid : Rid) (image : Option (List Value)) (p : IsPlaced script ms node table rid image) (fresh : nexts node.0 rid.gxid.0 ≤ rid.cid.0) where
   beyond : (a b : ℕ) → a ≤ b → b < a → ⊥
   beyond a b x y = omega arith
 
@@ -105,29 +103,14 @@ module _ (script : Script) (ms : List Mark) (nexts : ℕ → ℕ → ℕ) (g : G
     where
       clash : is_same_rid r rid ≡ true → ⊥
       clash q =
-          let s = same-place script ms g h c d node m table u rid r image x p e.0 q in
-          beyond (nexts node.0 g.0) c.0 fresh (subst (λ (z : Cid). z.0 < nexts node.0 g.0) s.cid (subst (λ (z : Gxid). d.0 < nexts node.0 z.0) s.gxid (subst (λ (z : Node). d.0 < nexts z.0 h.0) s.node f.0)))
+          let there = same-place script ms node m table u rid image x p (subst (λ (z : Rid). IsPlaced script ms m u z x) (same_rid r rid q) e.0) in
+          let past = subst (λ (z : Rid). z.cid.0 < nexts m.0 z.gxid.0) (same_rid r rid q) f.0 in
+          beyond (nexts node.0 rid.gxid.0) rid.cid.0 fresh (subst (λ (z : Node). rid.cid.0 < nexts z.0 rid.gxid.0) there past)
 
       by_test : (b : Bool) → is_same_rid r rid ≡ b → b ≡ false
       by_test true q = absurd (clash q)
       by_test false q = refl
-  fresh-row (mark.Start h s ∷ xs) e f = fresh-row xs e.1 f.1
-  fresh-row (mark.Snap h d x ∷ xs) e f = fresh-row xs e.1 f.1
-  fresh-row (mark.Skip h d r ∷ xs) e f = fresh-row xs e.1 f.1
-  fresh-row (mark.Fault h d r x ∷ xs) e f = fresh-row xs e.1 f.1
-  fresh-row (mark.Commit h ∷ xs) e f = fresh-row xs e.1 f.1
-  fresh-row (mark.Abort h ∷ xs) e f = fresh-row xs e.1 f.1
-  fresh-row (mark.Answer s n a ∷ xs) e f = fresh-row xs e.1 f.1
-  fresh-row (mark.Hold n h x m ∷ xs) e f = fresh-row xs e.1 f.1
-  fresh-row (mark.Wait n h x m ∷ xs) e f = fresh-row xs e.1 f.1
-  fresh-row (mark.Release n h x m ∷ xs) e f = fresh-row xs e.1 f.1
-  fresh-row (mark.Prepared n h ∷ xs) e f = fresh-row xs e.1 f.1
-  fresh-row (mark.LocalCommit n h ∷ xs) e f = fresh-row xs e.1 f.1
-  fresh-row (mark.Decided h ∷ xs) e f = fresh-row xs e.1 f.1
-  fresh-row (mark.JournalFailed n h ∷ xs) e f = fresh-row xs e.1 f.1
-  fresh-row (mark.Sent a b d ∷ xs) e f = fresh-row xs e.1 f.1
-  fresh-row (mark.Report n x y ∷ xs) e f = fresh-row xs e.1 f.1
-  fresh-row (mark.Recheck x y z ∷ xs) e f = fresh-row xs e.1 f.1
+  fresh-row (m ∷ xs) e f = fresh-row xs e.1 f.1
 
 -- THE COMMAND'S SNAPSHOT
 
@@ -228,9 +211,6 @@ module _ (script : Script) (numbered : AreLinesNumbered [] script.lines) (w : Wo
 
         once : is_written (now ++ earlier) row.rid ≡ false
         once = is_written-append now earlier row.rid ∙ or_from (is_written now row.rid) (is_written earlier row.rid) fresh (b.unwritten row.rid l)
-
-        placed : IsPlaced script now (gx g) c node table row.rid (Some row.row)
-        placed = row-placed script now (gx g) c node table tuples row of p
 
         writes : (table ≡ table) × IsInserted script (now ++ earlier) (gx g) c table tuples node row.rid (Some row.row)
         writes = (

@@ -4,6 +4,7 @@ pub mod Turns
 pub mod Live
 pub mod Rows
 pub mod Placed
+pub mod Homes
 pub mod Told
 pub mod Legal
 pub mod Moves

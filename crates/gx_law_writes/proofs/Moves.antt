@@ -16,9 +16,9 @@ use Rattle.gx_tree.specs.declared.query.Query.{Query}
 use Rattle.gx_tree.specs.declared.row.KeyedRow.{KeyedRow}
 use Rattle.gx_tree.specs.declared.slice.Slice.TheVariants as slice
 use Rattle.gx_tree.specs.declared.stmt.Level.{Level}
-use Rattle.gx_tree.specs.declared.stmt.Stmt.{Stmt}
 use Rattle.gx_tree.specs.declared.stmt.Stmt.TheVariants as stmt
 use Rattle.gx_dsnap.specs.declared.snapshot.Snapshot.{Snapshot}
+use Rattle.gx_modes.specs.declared.modes.Mode.{Mode}
 use Rattle.gx_waits.specs.declared.claim.Claim.{Claim}
 use Rattle.gx_locks.specs.Locks.{Locks}
 use Rattle.gx_meaning.specs.declared.fault.ArithFault.{ArithFault}
@@ -39,7 +39,7 @@ use Rattle.gx_rules.specs.AtSegment.{raised}
 use Rattle.gx_rules.specs.Locks.{hold_mark}
 use Rattle.gx_rules.specs.Machine.{World}
 use Rattle.gx_rules.specs.Segments.{Local, Seg, SegTurn, after_marks, reply as reply_out}
-use Rattle.gx_rules.specs.Slices.{answers, inserted, inserts, selects, suspended_slice, suspends}
+use Rattle.gx_rules.specs.Slices.{answers, inserted, inserts, locks as locks_only, selects, suspended_slice, suspends}
 use Rattle.gx_law_order.proofs.Lists.{Each, each_map, each_weaker}
 use Rattle.gx_law_sessions.specs.Orders.{IsOrder}
 use Rattle.gx_store.specs.Language.{AreLinesNumbered}
@@ -49,8 +49,10 @@ use Rattle.gx_law_commit.specs.Standings.{at, gx}
 use Rattle.gx_law_writes.specs.Rows.{IsRowPiece, is_own_written}
 use Rattle.gx_law_writes.specs.Writes.{WriteLegal}
 use Rattle.gx_law_writes.proofs.Next.{new-next, next_command, ran-next}
-use Rattle.gx_law_writes.proofs.Legal.{Behind, IsPastMark, IsPlacedMark, Late, Live, fresh-row, no-writes-legal, rows-legal}
-use Rattle.gx_law_writes.proofs.Placed.{IsPlaced, IsPlacedRow, piece-rows, row-placed}
+use Rattle.gx_law_writes.specs.Homes.{AreRowsHome, IsPlacedMark}
+use Rattle.gx_law_writes.proofs.Homes.{no-writes-home, rows-home}
+use Rattle.gx_law_writes.proofs.Legal.{Behind, IsPastMark, Late, Live, fresh-row, no-writes-legal, rows-legal}
+use Rattle.gx_law_writes.proofs.Placed.{IsPlacedRow, piece-rows, row-placed}
 use Rattle.gx_law_writes.proofs.Plans.{row-piece, rows-are}
 use Rattle.gx_law_writes.proofs.Rows.{Wrote, row_mark, rows-wrote}
 use Rattle.gx_law_writes.proofs.Told.{IsAnswerOf, IsToldOf, IsWritten, answer-more, order-later, told-more}
@@ -62,20 +64,16 @@ IsOutOf script ms nexts node (message.Answer g r) = IsToldOf script ms (nexts g.
 IsOutOf script ms nexts node m = Unit {0}
 
 abbrev pub IsPastHere : (ℕ → ℕ) → Node → Mark → Type 0
-IsPastHere nexts node (mark.Write g c n t r x) = (n ≡ node) × (c.0 < nexts g.0)
+IsPastHere nexts node (mark.Write g c n t r x) = (n ≡ node) × (r.cid.0 < nexts r.gxid.0)
 IsPastHere nexts node m = Unit {0}
 
 pub record Move (script : Script) (ms : List Mark) (steps : List Step) (e : Event) (node : Node) (s : Seg) (turn : SegTurn) : Type 0 where
   pub nexts : (h : ℕ) → next_command (s.locals h) ≤ next_command (turn.seg.locals h)
-  pub placed : Each (IsPlacedMark script ms) turn.marks
+  pub homes : AreRowsHome script ms ms turn.marks
   pub past : Each (IsPastHere (λ h. next_command (turn.seg.locals h)) node) turn.marks
   pub kept : (h : ℕ) → IsAnswerOf script (ms ++ turn.marks) (next_command (turn.seg.locals h)) node (gx h) (turn.seg.locals h).answer
   pub outs : Each (λ (o : Out). IsOutOf script (ms ++ turn.marks) (λ h. next_command (turn.seg.locals h)) node o.message) turn.outs
   pub legal : (later : List Mark) → EachMark (WriteLegal script) steps e [] turn.marks later
-
-pub no-write-placed : (script : Script) (ms : List Mark) (m : Mark) → NoWrite m → IsPlacedMark script ms m
-no-write-placed script ms (mark.Write g c n t r x) e = absurd e
-no-write-placed script ms m e = tt
 
 no-write-here : (nexts : ℕ → ℕ) (node : Node) (m : Mark) → NoWrite m → IsPastHere nexts node m
 no-write-here nexts node (mark.Write g c n t r x) e = absurd e
@@ -147,7 +145,7 @@ module _ (script : Script) (numbered : AreLinesNumbered [] script.lines) (ms : L
     quiet-move =
         record {
           nexts = q.nexts;
-          placed = each_weaker NoWrite (IsPlacedMark script ms) (λ m n. no-write-placed script ms m n) turn.marks writes-none;
+          homes = no-writes-home script ms ms turn.marks writes-none;
           past = each_weaker NoWrite (IsPastHere (λ h. next_command (turn.seg.locals h)) (at i)) (λ m n. no-write-here (λ h. next_command (turn.seg.locals h)) (at i) m n) turn.marks writes-none;
           kept = λ h. subst (IsAnswerOf script (ms ++ turn.marks) (next_command (turn.seg.locals h)) (at i) (gx h)) (sym (q.answers h)) (answer-more script numbered ms turn.marks (next_command (s.locals h)) (next_command (turn.seg.locals h)) (at i) (gx h) (s.locals h).answer (q.nexts h) (kept h));
           outs = each_weaker (λ (o : Out). IsOldWord s o.message) (λ (o : Out). IsOutOf script (ms ++ turn.marks) (λ h. next_command (turn.seg.locals h)) (at i) o.message) (λ o k. old-out o.message k) turn.outs q.outs;
@@ -165,7 +163,7 @@ module _ (script : Script) (numbered : AreLinesNumbered [] script.lines) (ms : L
     pub waited-move : Moves turn
     waited-move =
         subst Moves (sym x.ran)
-        (record { nexts = λ h. nexts-test h (eqb h x.g.0) refl; placed = (tt, tt); past = (tt, tt); kept = λ h. kept-test h (eqb h x.g.0) refl; outs = tt; legal = λ later. (tt, tt) })
+        (record { nexts = λ h. nexts-test h (eqb h x.g.0) refl; homes = (tt, tt); past = (tt, tt); kept = λ h. kept-test h (eqb h x.g.0) refl; outs = tt; legal = λ later. (tt, tt) })
       where
         nexts-test : (h : ℕ) (q : Bool) → eqb h x.g.0 ≡ q → next_command (s.locals h) ≤ next_command (if q then waits-now else s.locals h)
         nexts-test h true e = subst (λ j. next_command (s.locals j) ≤ x.c.0) (sym (eqb-true h x.g.0 e)) (new-next (s.locals x.g.0) x.c.0 x.alone x.fresh)
@@ -210,30 +208,27 @@ module _ (script : Script) (numbered : AreLinesNumbered [] script.lines) (ms : L
             subst (λ (l : Local). IsAnswerOf script (ms ++ turn.marks) (next_command l) (at i) (gx h) l.answer) (sym (a.others h q))
             (answer-more script numbered ms turn.marks (next_command (s.locals h)) (next_command (s.locals h)) (at i) (gx h) (s.locals h).answer (same-le refl) (kept h))
 
-    pub ran-move : Each (IsPlacedMark script ms) turn.marks → Each (IsPastHere (λ h. next_command (turn.seg.locals h)) (at i)) turn.marks → ((later : List Mark) → EachMark (WriteLegal script) steps e [] turn.marks later) → Moves turn
-    ran-move placed past legal =
+    pub ran-move : AreRowsHome script ms ms turn.marks → Each (IsPastHere (λ h. next_command (turn.seg.locals h)) (at i)) turn.marks → ((later : List Mark) → EachMark (WriteLegal script) steps e [] turn.marks later) → Moves turn
+    ran-move homes past legal =
         record {
           nexts = ran-nexts;
-          placed = placed;
+          homes = homes;
           past = past;
           kept = ran-kept;
           outs = subst (Each (λ (o : Out). IsOutOf script (ms ++ turn.marks) (λ h. next_command (turn.seg.locals h)) (at i) o.message)) (sym a.outs) (told-now, tt);
           legal = legal;
         }
 
-  -- a SELECT
-  module _ (g : Gxid) (c : Cid) (level : Level) (snapshot : Option Snapshot) (query : Query) (order : IsOrder script ms (at i) g c level snapshot (slice.Select query)) (fresh : next_command (s.locals g.0) ≤ c.0) (b : Seg) (on : IsBase s g b) (wanted : Claim) where
-    order-then : (marks : List Mark) → IsOrder script (ms ++ marks) (at i) g c level snapshot (slice.Select query)
-    order-then marks = order-later script numbered ms marks (at i) g c level snapshot (slice.Select query) order
-
+  -- a slice that writes nothing is answered behind its lock
+  module _ (g : Gxid) (c : Cid) (fresh : next_command (s.locals g.0) ≤ c.0) (b : Seg) (on : IsBase s g b) (wanted : Claim) where
     abbrev hold : Mark
     hold = hold_mark s.node wanted
 
     abbrev told-of : List Mark → Reply → SegTurn
     told-of marks r = after_marks (hold ∷ []) (answers b g c marks r)
 
-    select-ran : (marks : List Mark) (r : Reply) → IsToldOf script (ms ++ hold ∷ marks) (c.0 + 1) (at i) g r → Ran g c r (told-of marks r)
-    select-ran marks r told =
+    slice-ran : (marks : List Mark) (r : Reply) → IsToldOf script (ms ++ hold ∷ marks) (c.0 + 1) (at i) g r → Ran g c r (told-of marks r)
+    slice-ran marks r told =
         record {
           fresh = fresh;
           last = ap (λ q. (if q then after else b.locals g.0).last) (eqb-self g.0);
@@ -249,15 +244,20 @@ module _ (script : Script) (numbered : AreLinesNumbered [] script.lines) (ms : L
 
     answered : (marks : List Mark) (r : Reply) → Each NoWrite marks → IsToldOf script (ms ++ hold ∷ marks) (c.0 + 1) (at i) g r → Moves (told-of marks r)
     answered marks r quiet told =
-        ran-move g c r now (select-ran marks r told) (each_weaker NoWrite (IsPlacedMark script ms) (λ m n. no-write-placed script ms m n) (hold ∷ marks) (tt, quiet))
+        ran-move g c r now (slice-ran marks r told) (no-writes-home script ms ms (hold ∷ marks) (tt, quiet))
         (each_weaker NoWrite (IsPastHere (λ h. next_command (now.seg.locals h)) (at i)) (λ m n. no-write-here (λ h. next_command (now.seg.locals h)) (at i) m n) (hold ∷ marks) (tt, quiet)) (λ later. no-writes-legal script steps e [] (hold ∷ marks) later (tt, quiet))
       where
         now : SegTurn
         now = told-of marks r
 
-    pub select-move : (rows : List KeyedRow) (f : Option (KeyedRow × ArithFault)) → Moves (after_marks (hold ∷ []) (selects b g c query rows f))
-    select-move rows None = answered [] _ tt (lt-next refl, record { level = level; snapshot = snapshot; slice = slice.Select query; order = order-then (hold ∷ []); done = tt })
-    select-move rows (Some f) = answered _ _ (tt, tt) (lt-next refl, record { level = level; snapshot = snapshot; query = query; order = order-then _ })
+    -- a SELECT
+    pub select-move : (level : Level) (snapshot : Option Snapshot) (query : Query) → IsOrder script ms (at i) g c level snapshot (slice.Select query) → (rows : List KeyedRow) (f : Option (KeyedRow × ArithFault)) → Moves (after_marks (hold ∷ []) (selects b g c query rows f))
+    select-move level snapshot query order rows None = answered [] _ tt (lt-next refl, record { level = level; snapshot = snapshot; slice = slice.Select query; order = order-later script numbered ms (hold ∷ []) (at i) g c level snapshot (slice.Select query) order; done = tt })
+    select-move level snapshot query order rows (Some f) = answered _ _ (tt, tt) (lt-next refl, record { level = level; snapshot = snapshot; query = query; order = order-later script numbered ms _ (at i) g c level snapshot (slice.Select query) order })
+
+    -- a LOCK TABLE
+    pub lock-move : (level : Level) (snapshot : Option Snapshot) (table : Table) (mode : Mode) → IsOrder script ms (at i) g c level snapshot (slice.Lock table mode) → Moves (after_marks (hold ∷ []) (locks_only b g c))
+    lock-move level snapshot table mode order = answered [] _ tt (lt-next refl, record { level = level; snapshot = snapshot; slice = slice.Lock table mode; order = order-later script numbered ms (hold ∷ []) (at i) g c level snapshot (slice.Lock table mode) order; done = tt })
 
 -- an INSERT's rows have the command's identity
 abbrev pub IsOwnRow : Gxid → Cid → KeyedRow → Type 0
@@ -309,8 +309,11 @@ module _ (script : Script) (numbered : AreLinesNumbered [] script.lines) (w : Wo
     rows-ok = piece-rows script g c (at i) table piece.tuples piece.all rows (rows-are g c 1 piece.tuples piece.all piece.planned) piece.here
 
     module _ (fresh : next_command (s.locals g.0) ≤ c.0) (b : Seg) (on : IsBase s g b) (wanted : Claim) where
+      still-to-run : (rid : Rid) → (rid.gxid ≡ g) × (rid.cid ≡ c) → nexts i rid.gxid.0 ≤ rid.cid.0
+      still-to-run rid own = subst (λ (h : Gxid). nexts i h.0 ≤ rid.cid.0) (sym own.0) (subst (λ (d : Cid). nexts i g.0 ≤ d.0) (sym own.1) (subst (λ n. n ≤ c.0) (sym (here g.0)) fresh))
+
       unwritten : Each (λ (row : KeyedRow). is_written ms row.rid ≡ false) rows
-      unwritten = each_weaker (IsPlacedRow script g c (at i) table piece.tuples) (λ (row : KeyedRow). is_written ms row.rid ≡ false) (λ r p. fresh-row script ms nexts g c (at i) table r.rid (Some r.row) (row-placed script ms g c (at i) table piece.tuples r piece.of p) (subst (λ n. n ≤ c.0) (sym (here g.0)) fresh) ms placed past) rows rows-ok.0
+      unwritten = each_weaker (IsPlacedRow script g c (at i) table piece.tuples) (λ (row : KeyedRow). is_written ms row.rid ≡ false) (λ r p. fresh-row script ms nexts (at i) table r.rid (Some r.row) (row-placed script ms g c (at i) table piece.tuples r piece.of p) (still-to-run r.rid p.row_is.own) ms placed past) rows rows-ok.0
 
       abbrev inner : SegTurn
       inner = inserts g c (length rows) (inserted b g c table rows)
@@ -353,8 +356,8 @@ module _ (script : Script) (numbered : AreLinesNumbered [] script.lines) (w : Wo
                   },
                 );
               })
-              (tt, subst (Each (IsPlacedMark script ms)) (sym same) (each_map (IsPlacedMark script ms) (row_mark g c (at i) table) rows (each_weaker (IsPlacedRow script g c (at i) table piece.tuples) _ (λ r p. row-placed script ms g c (at i) table piece.tuples r piece.of p) rows rows-ok.0)))
-              (tt, subst (Each (IsPastHere (λ h. next_command (inner.seg.locals h)) (at i))) (sym same) (each_map _ (row_mark g c (at i) table) rows (each_weaker (IsPlacedRow script g c (at i) table piece.tuples) _ (λ r p. (refl, lt-next now)) rows rows-ok.0)))
+              (tt, subst (AreRowsHome script ms (ms ++ held ∷ [])) (sym same) (rows-home script ms g c (at i) table piece.tuples piece.of (ms ++ held ∷ []) rows rows-ok.0))
+              (tt, subst (Each (IsPastHere (λ h. next_command (inner.seg.locals h)) (at i))) (sym same) (each_map _ (row_mark g c (at i) table) rows (each_weaker (IsPlacedRow script g c (at i) table piece.tuples) _ (λ r p. (refl, has-run r.rid p.row_is.own)) rows rows-ok.0)))
               (λ later. (tt, subst (λ ns. EachMark (WriteLegal script) w.steps e (held ∷ []) ns later) (sym same) (rows-legal script numbered w g.0 c (at i) table piece.tuples e quiet piece.of how rows 1 (held ∷ []) later rows-ok.0 rows-ok.1 unwritten behind-held)))
             where
               same : inner.marks ≡ writes
@@ -362,3 +365,6 @@ module _ (script : Script) (numbered : AreLinesNumbered [] script.lines) (w : Wo
 
               now : next_command (inner.seg.locals g.0) ≡ c.0 + 1
               now = ran-next (inner.seg.locals g.0) c.0 (f.suspended ∙ on.alone) f.last
+
+              has-run : (rid : Rid) → (rid.gxid ≡ g) × (rid.cid ≡ c) → rid.cid.0 < next_command (inner.seg.locals rid.gxid.0)
+              has-run rid own = subst (λ (h : Gxid). rid.cid.0 < next_command (inner.seg.locals h.0)) (sym own.0) (subst (λ (d : Cid). d.0 < next_command (inner.seg.locals g.0)) (sym own.1) (lt-next now))

@@ -1,6 +1,6 @@
--- Each write is of a tuple of its statement, at the row's place; so a row is written at one node alone.
-use Rattle.std.proofs.Common.{◌≡◌, ◌≤◌, ℕ, ◌+◌, ◌-◌, List, [], ◌∷◌, Option, Some, Result, Ok, Bool, true, false, refl, sym, subst, ap, ◌∙◌, ◌&&◌, ◌==◌, arith, suc, cond}
-use Rattle.std.proofs.lemmas.Bool.{and_parts, eqb-true}
+-- An INSERT's rows are of its tuples, each at its place; all writes of a row stand at one node.
+use Rattle.std.proofs.Common.{◌≡◌, ◌≤◌, ℕ, ◌+◌, ◌-◌, List, [], ◌∷◌, Option, Some, Result, Ok, Bool, true, false, refl, sym, subst, ap, ◌∙◌, ◌==◌, arith, suc, cond}
+use Rattle.std.proofs.lemmas.Bool.{eqb-true}
 use Rattle.std.specs.Prelude.{filter, slice_get}
 use Rattle.gx_lemmas.proofs.Options.{some-same}
 use Rattle.gx_ids.specs.declared.ids.Cid.{Cid}
@@ -10,6 +10,8 @@ use Rattle.gx_ids.specs.declared.ids.Table.{Table}
 use Rattle.gx_ids.specs.declared.rid.Rid.{Rid}
 use Rattle.gx_tree.specs.declared.expr.Expr.{Expr}
 use Rattle.gx_tree.specs.declared.row.KeyedRow.{KeyedRow}
+use Rattle.gx_tree.specs.declared.schema.Dist.{Dist}
+use Rattle.gx_tree.specs.declared.schema.Dist.TheVariants.{By, Randomly}
 use Rattle.gx_tree.specs.declared.stmt.Stmt.TheVariants as stmt
 use Rattle.gx_tree.specs.declared.value.Value.{Value}
 use Rattle.gx_meaning.specs.declared.fault.ArithFault.{ArithFault}
@@ -18,9 +20,9 @@ use Rattle.gx_meaning.specs.Constants.{keyed, values_of}
 use Rattle.gx_meaning.specs.Plan.{rows_at}
 use Rattle.gx_script.specs.declared.Script.{Script}
 use Rattle.gx_store.specs.declared.mark.Mark.{Mark}
-use Rattle.gx_store.specs.Marks.{is_same_rid}
 use Rattle.gx_store.specs.Writes.{dist_of}
 use Rattle.gx_law_order.proofs.Lists.{Each}
+use Rattle.gx_law_writes.specs.Homes.{IsPlaced, IsRowOf, IsSameKey}
 use Rattle.gx_law_writes.specs.Rows.{AreRowsOf}
 use Rattle.gx_law_sessions.specs.Scanned.{stmt_of_command}
 
@@ -96,19 +98,6 @@ filter-rises p k (r ∷ rs) e = by_test (p r) (filter-rises p (r.rid.ordinal + 1
     by_test false h = rising-weaker k (r.rid.ordinal + 1) (filter p rs) (up k r.rid.ordinal e.0) h
 
 -- WRITES
--- the write is of a tuple of the command's statement, at the row's place
-pub record IsPlaced (script : Script) (ms : List Mark) (g : Gxid) (c : Cid) (node : Node) (table : Table) (rid : Rid) (image : Option (List Value)) : Type 0 where
-  pub tuples : List (List Expr)
-  pub of : stmt_of_command script ms g c ≡ Some (stmt.Insert table tuples)
-  pub own : (rid.gxid ≡ g) × (rid.cid ≡ c)
-  pub counted : 1 ≤ rid.ordinal
-  pub tuple : List Expr
-  pub among : slice_get tuples (rid.ordinal - 1) ≡ Some tuple
-  pub values : List Value
-  pub constants : values_of tuple ≡ Ok values
-  pub written : image ≡ Some values
-  pub place : node.0 ≡ row_place script.segments (dist_of script.tables table.0) values rid
-
 -- the rows of a piece
 pub record IsPlacedRow (script : Script) (g : Gxid) (c : Cid) (node : Node) (table : Table) (tuples : List (List Expr)) (row : KeyedRow) : Type 0 where
   pub row_is : IsRow g c 1 tuples row
@@ -132,35 +121,28 @@ piece-rows script g c node table tuples all rows a e = (
     here : KeyedRow → Bool
     here row = row_place script.segments (dist_of script.tables table.0) row.row row.rid == node.0
 
-pub row-placed : (script : Script) (ms : List Mark) (g : Gxid) (c : Cid) (node : Node) (table : Table) (tuples : List (List Expr)) (row : KeyedRow) → stmt_of_command script ms g c ≡ Some (stmt.Insert table tuples) → IsPlacedRow script g c node table tuples row → IsPlaced script ms g c node table row.rid (Some row.row)
+pub row-of : (script : Script) (ms : List Mark) (g : Gxid) (c : Cid) (node : Node) (table : Table) (tuples : List (List Expr)) (row : KeyedRow) → stmt_of_command script ms g c ≡ Some (stmt.Insert table tuples) → IsPlacedRow script g c node table tuples row → IsRowOf script ms table row.rid row.row
+row-of script ms g c node table tuples row of r =
+    record {
+      tuples = tuples;
+      of = ap (λ z. stmt_of_command script ms z row.rid.cid) r.row_is.own.0 ∙ ap (stmt_of_command script ms g) r.row_is.own.1 ∙ of;
+      counted = r.row_is.counted;
+      tuple = r.row_is.tuple;
+      among = r.row_is.among;
+      constants = r.row_is.constants;
+    }
+
+same-key : (dist : Dist) (row : List Value) → IsSameKey dist row row
+same-key (By column) row = refl
+same-key Randomly row = tt
+
+pub row-placed : (script : Script) (ms : List Mark) (g : Gxid) (c : Cid) (node : Node) (table : Table) (tuples : List (List Expr)) (row : KeyedRow) → stmt_of_command script ms g c ≡ Some (stmt.Insert table tuples) → IsPlacedRow script g c node table tuples row → IsPlaced script ms node table row.rid (Some row.row)
 row-placed script ms g c node table tuples row of r =
-    record { tuples = tuples; of = of; own = r.row_is.own; counted = r.row_is.counted; tuple = r.row_is.tuple; among = r.row_is.among; values = row.row; constants = r.row_is.constants; written = refl; place = r.place }
+    record { values = row.row; row_of = row-of script ms g c node table tuples row of r; place = r.place; key = same-key (dist_of script.tables table.0) row.row }
 
 -- ONE ROW, ONE PLACE
-pub record SameRid (a b : Rid) : Type 0 where
-  pub gxid : a.gxid.0 ≡ b.gxid.0
-  pub cid : a.cid.0 ≡ b.cid.0
-  pub ordinal : a.ordinal ≡ b.ordinal
-
-pub rid-same : (a b : Rid) → is_same_rid a b ≡ true → SameRid a b
-rid-same a b e = let x = and_parts _ _ e in let y = and_parts _ _ x.1 in record { gxid = eqb-true _ _ x.0; cid = eqb-true _ _ y.0; ordinal = eqb-true _ _ y.1 }
-
-rid-is : (a b : Rid) → SameRid a b → a ≡ b
-rid-is a b e = ap (λ n. let r : Rid = record { gxid = record { 0 = n }; cid = a.cid; ordinal = a.ordinal } in r) e.gxid ∙ ap (λ n. let r : Rid = record { gxid = b.gxid; cid = record { 0 = n }; ordinal = a.ordinal } in r) e.cid ∙ ap (λ n. let r : Rid = record { gxid = b.gxid; cid = b.cid; ordinal = n } in r) e.ordinal
-
-gxid-is : (a b : Gxid) → a.0 ≡ b.0 → a ≡ b
-gxid-is a b e = ap (λ n. let r : Gxid = record { 0 = n } in r) e
-
-cid-is : (a b : Cid) → a.0 ≡ b.0 → a ≡ b
-cid-is a b e = ap (λ n. let r : Cid = record { 0 = n } in r) e
-
 node-is : (a b : Node) → a.0 ≡ b.0 → a ≡ b
 node-is a b e = ap (λ n. let r : Node = record { 0 = n } in r) e
-
-pub record SamePlace (g h : Gxid) (c d : Cid) (n m : Node) : Type 0 where
-  pub gxid : h ≡ g
-  pub cid : d ≡ c
-  pub node : m ≡ n
 
 ok-same : (a b : List Value) → (let o : Result (List Value) ArithFault = Ok a in o) ≡ Ok b → a ≡ b
 ok-same a b e = (cc)
@@ -168,28 +150,21 @@ ok-same a b e = (cc)
 insert-same : (t u : Table) (a b : List (List Expr)) → Some (stmt.Insert t a) ≡ Some (stmt.Insert u b) → (t ≡ u) × (a ≡ b)
 insert-same t u a b e = (cc, cc)
 
--- two writes of one row are of one command, at one node
-module _ (script : Script) (ms : List Mark) (g h : Gxid) (c d : Cid) (n m : Node) (t u : Table) (a b : Rid) (x y : Option (List Value)) (p : IsPlaced script ms g c n t a x) where
-  same-tuple : (tuples others : List (List Expr)) → tuples ≡ others → (i j : ℕ) → i ≡ j → (v w : List Expr) → slice_get tuples i ≡ Some v → slice_get others j ≡ Some w → v ≡ w
-  same-tuple tuples others e i j f v w r s = some-same v w (sym r ∙ ap (λ q. slice_get q i) e ∙ ap (slice_get others) f ∙ s)
+-- a row was inserted into one table, with the values of one tuple
+module _ (script : Script) (ms : List Mark) (rid : Rid) (t u : Table) (v w : List Value) (p : IsRowOf script ms t rid v) (q : IsRowOf script ms u rid w) where
+  line : (t ≡ u) × (p.tuples ≡ q.tuples)
+  line = insert-same t u p.tuples q.tuples (sym p.of ∙ q.of)
 
-  pub same-place : IsPlaced script ms h d m u b y → is_same_rid b a ≡ true → SamePlace g h c d n m
-  same-place q e = record { gxid = gxid; cid = cid; node = node-is m n (q.place ∙ ap (λ (z : Table). row_place script.segments (dist_of script.tables z.0) q.values b) (sym stmt.0) ∙ ap (λ z. row_place script.segments (dist_of script.tables t.0) z b) values ∙ ap (row_place script.segments (dist_of script.tables t.0) p.values) (rid-is b a r) ∙ sym p.place) }
-    where
-      r : SameRid b a
-      r = rid-same b a e
+  tuple : p.tuple ≡ q.tuple
+  tuple = some-same p.tuple q.tuple (sym p.among ∙ ap (λ z. slice_get z (rid.ordinal - 1)) line.1 ∙ q.among)
 
-      gxid : h ≡ g
-      gxid = sym q.own.0 ∙ gxid-is b.gxid a.gxid r.gxid ∙ p.own.0
+  one-row : (t ≡ u) × (v ≡ w)
+  one-row = (line.0, ok-same v w (sym p.constants ∙ ap values_of tuple ∙ q.constants))
 
-      cid : d ≡ c
-      cid = sym q.own.1 ∙ cid-is b.cid a.cid r.cid ∙ p.own.1
-
-      stmt : (t ≡ u) × (p.tuples ≡ q.tuples)
-      stmt = insert-same t u p.tuples q.tuples (sym p.of ∙ ap (λ z. stmt_of_command script ms z c) (sym gxid) ∙ ap (stmt_of_command script ms h) (sym cid) ∙ q.of)
-
-      tuple : q.tuple ≡ p.tuple
-      tuple = sym (same-tuple p.tuples q.tuples stmt.1 (a.ordinal - 1) (b.ordinal - 1) (ap (λ o. o - 1) (sym r.ordinal)) p.tuple q.tuple p.among q.among)
-
-      values : q.values ≡ p.values
-      values = ok-same q.values p.values (sym q.constants ∙ ap values_of tuple ∙ p.constants)
+-- two writes of one row stand at one node
+pub same-place : (script : Script) (ms : List Mark) (n m : Node) (t u : Table) (rid : Rid) (x y : Option (List Value)) → IsPlaced script ms n t rid x → IsPlaced script ms m u rid y → m ≡ n
+same-place script ms n m t u rid x y p q =
+    node-is m n (q.place ∙ ap (λ (z : Table). row_place script.segments (dist_of script.tables z.0) q.values rid) (sym one.0) ∙ ap (λ z. row_place script.segments (dist_of script.tables t.0) z rid) (sym one.1) ∙ sym p.place)
+  where
+    one : (t ≡ u) × (p.values ≡ q.values)
+    one = one-row script ms rid t u p.values q.values p.row_of q.row_of

@@ -1,5 +1,5 @@
 -- What a segment has told of a command: that it ran, and, of an INSERT, that its rows are written.
-use Rattle.std.proofs.Common.{◌≡◌, ◌≤◌, ◌<◌, ℕ, List, [], ◌∷◌, ◌++◌, Option, Some, None, Bool, true, sym, subst, ◌∙◌, ◌||◌, arith, zero, suc}
+use Rattle.std.proofs.Common.{◌≡◌, ◌≤◌, ◌<◌, ℕ, List, [], ◌∷◌, ◌++◌, Option, Some, None, true, sym, subst, ◌∙◌, arith, zero, suc}
 use Rattle.std.specs.Prelude.{length, slice_get, take}
 use Rattle.std.proofs.lemmas.Bool.{or_left}
 use Rattle.gx_lemmas.proofs.Options.{some-same}

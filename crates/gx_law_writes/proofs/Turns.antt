@@ -1,8 +1,7 @@
--- What a segment does when a message comes: it runs a command's slice, or the slice waits, or it writes nothing and repeats what
--- it kept; and what it does when a slice goes on.
-use Rattle.std.proofs.Common.{◌≡◌, ◌≤◌, ◌<◌, ◌⊎◌, inl, inr, ℕ, List, [], ◌∷◌, ◌++◌, Option, Some, None, Bool, true, false, not, refl, sym, subst, ap, ◌∙◌, if◌then◌else◌, ◌==◌, ◌&&◌, arith, eqb}
+-- What a segment does when a message comes: it runs a command's slice, or locks a table, or the slice waits, or it writes nothing
+-- and repeats what it kept; and what it does when a slice goes on.
+use Rattle.std.proofs.Common.{◌≡◌, ◌≤◌, ◌<◌, ◌⊎◌, inl, inr, ℕ, List, [], ◌∷◌, ◌++◌, Option, Some, None, Bool, true, false, not, refl, sym, subst, ap, ◌∙◌, if◌then◌else◌, ◌==◌, ◌&&◌, ◌||◌, arith, eqb}
 use Rattle.std.proofs.lemmas.Bool.{eqb-true}
-use Rattle.std.proofs.lemmas.Bool.Decides.{nat_tests}
 use Rattle.std.specs.Prelude.{is_some, length, nat_le, nat_lt}
 use Rattle.gx_lemmas.proofs.Numbers.{lt-of}
 use Rattle.gx_ids.specs.declared.ids.Cid.{Cid}
@@ -14,6 +13,7 @@ use Rattle.gx_tree.specs.declared.slice.Slice.{Slice}
 use Rattle.gx_tree.specs.declared.slice.Slice.TheVariants as slice
 use Rattle.gx_tree.specs.declared.stmt.Level.{Level}
 use Rattle.gx_dsnap.specs.Gxids.{is_below}
+use Rattle.gx_modes.specs.declared.modes.Mode.{Mode}
 use Rattle.gx_dsnap.specs.declared.snapshot.Snapshot.{Snapshot}
 use Rattle.gx_waits.specs.declared.claim.Claim.{Claim}
 use Rattle.gx_locks.specs.Locks.{Locks, is_free, resumed, wait_of}
@@ -27,15 +27,15 @@ use Rattle.gx_script.specs.declared.Script.{Script}
 use Rattle.gx_store.specs.declared.mark.Mark.{Mark}
 use Rattle.gx_store.specs.declared.mark.Mark.TheVariants as mark
 use Rattle.gx_rules.specs.AtSegment.{changes, commits, ends, finishes, if_fits, is_refused, on_abort, on_commit, on_commit_prepared, on_exec, on_forget, on_message, on_prepare, once, promises, raised, repeats, resumes, takes, unless_below, was_prepared}
-use Rattle.gx_rules.specs.Fits.{fits_exec, holds_locks, is_right_slice, is_waiting}
+use Rattle.gx_rules.specs.Fits.{fits_exec, holds_locks, is_right_slice, is_waiting, reads_nothing}
 use Rattle.gx_rules.specs.Locks.{hold_mark, release_marks, with_hold}
 use Rattle.gx_rules.specs.Machine.{World}
 use Rattle.gx_rules.specs.Maps.{each_below}
 use Rattle.gx_rules.specs.Segments.{Local, Phase, Seg, SegTurn, Suspended, after_marks, local_of, stays, tells, tells_kept, with_local}
 use Rattle.gx_rules.specs.Segments.Phase.{Reading, Writing, Prepared, Committed, Forgotten, Aborted}
 use Rattle.gx_rules.specs.Shown.{shown}
-use Rattle.gx_rules.specs.Slices.{first_fault, inserted, inserts, requests, runs_locked, runs_slice, selects, slice_lock, starts_slice, suspends}
-use Rattle.gx_law_order.proofs.Calm.{each-released}
+use Rattle.gx_rules.specs.Slices.{first_fault, inserted, inserts, locks as locks_only, requests, runs_locked, runs_slice, selects, slice_lock, starts_slice, suspends}
+use Rattle.gx_law_order.proofs.Releases.{each-released}
 use Rattle.gx_law_order.proofs.Lists.{Each}
 use Rattle.gx_law_order.proofs.Waiting.{GoesOn, goes-on-is}
 use Rattle.gx_law_commit.specs.Pairs.{is_open}
@@ -96,6 +96,7 @@ pub record Selected (s : Seg) (m : Message) (turn : SegTurn) : Type 0 where
   pub alone : (s.locals g.0).suspended ≡ None
   pub locks : Locks
   pub wanted : Claim
+  pub locked : slice_lock g (slice.Select query) ≡ Some wanted
   pub ran : turn ≡ after_marks (hold_mark s.node wanted ∷ []) (selects (base s horizon locks) g c query (shown (raised s horizon) snapshot g c query.table) (first_fault query.cond (shown (raised s horizon) snapshot g c query.table)))
 
 pub record Inserted (s : Seg) (m : Message) (turn : SegTurn) : Type 0 where
@@ -112,6 +113,7 @@ pub record Inserted (s : Seg) (m : Message) (turn : SegTurn) : Type 0 where
   pub alone : (s.locals g.0).suspended ≡ None
   pub locks : Locks
   pub wanted : Claim
+  pub locked : slice_lock g (slice.Insert table rows) ≡ Some wanted
   pub ran : turn ≡ after_marks (hold_mark s.node wanted ∷ []) (inserts g c (length rows) (inserted (base s horizon locks) g c table rows))
 
 -- the slice waits for its table's lock: nothing is sent or written
@@ -130,8 +132,26 @@ pub record Waited (s : Seg) (m : Message) (turn : SegTurn) : Type 0 where
   pub locked : slice_lock g slice ≡ Some wanted
   pub ran : turn ≡ suspends (raised s horizon) g c level snapshot slice wanted
 
+-- a LOCK TABLE has its lock, and with it everything is done
+pub record Locked (s : Seg) (m : Message) (turn : SegTurn) : Type 0 where
+  pub g : Gxid
+  pub c : Cid
+  pub level : Level
+  pub snapshot : Option Snapshot
+  pub horizon : Gxid
+  pub table : Table
+  pub mode : Mode
+  pub is : m ≡ message.Exec g c level snapshot horizon (slice.Lock table mode)
+  pub opened : is_open (s.locals g.0).phase ≡ true
+  pub fresh : (s.locals g.0).last < c.0
+  pub alone : (s.locals g.0).suspended ≡ None
+  pub locks : Locks
+  pub wanted : Claim
+  pub locked : slice_lock g (slice.Lock table mode) ≡ Some wanted
+  pub ran : turn ≡ after_marks (hold_mark s.node wanted ∷ []) (locks_only (base s horizon locks) g c)
+
 abbrev pub Turns : Seg → Message → SegTurn → Type 0
-Turns s m turn = Quiet s turn ⊎ Selected s m turn ⊎ Inserted s m turn ⊎ Waited s m turn
+Turns s m turn = Quiet s turn ⊎ Selected s m turn ⊎ Inserted s m turn ⊎ Waited s m turn ⊎ Locked s m turn
 
 -- what holds of a slice with its lock, and of one that waits for it, holds of one that starts
 pub by-lock : (P : SegTurn → Type 0) (s : Seg) (g : Gxid) (c : Cid) (level : Level) (snapshot : Option Snapshot) (x : Slice) (wanted : Claim) → slice_lock g x ≡ Some wanted → P (runs_locked s g c snapshot x wanted) → P (suspends s g c level snapshot x wanted) → P (starts_slice s g c level snapshot x)
@@ -280,18 +300,19 @@ module _ (s : Seg) where
         append-none (m ∷ ms) e = (e.0, append-none ms e.1)
 
     waits : (x : Option Snapshot) (y : Slice) (wanted : Claim) → slice_lock g y ≡ Some wanted → Turns s (message.Exec g c level x h y) (suspends (raised s h) g c level x y wanted)
-    waits x y wanted e = inr (inr (inr (record { g = g; c = c; level = level; snapshot = x; horizon = h; slice = y; is = refl; opened = opened; fresh = fresh; alone = alone; wanted = wanted; locked = e; ran = refl })))
+    waits x y wanted e = inr (inr (inr (inl (record { g = g; c = c; level = level; snapshot = x; horizon = h; slice = y; is = refl; opened = opened; fresh = fresh; alone = alone; wanted = wanted; locked = e; ran = refl }))))
 
     locked : (x : Option Snapshot) (y : Slice) (wanted : Claim) → slice_lock g y ≡ Some wanted → Turns s (message.Exec g c level x h y) (runs_locked (raised s h) g c x y wanted)
     locked (Some x) (slice.Select q) wanted e =
-        inr (inl (record { g = g; c = c; level = level; snapshot = x; horizon = h; query = q; is = refl; fresh = fresh; alone = alone; locks = with_hold s.locks wanted; wanted = wanted; ran = refl }))
+        inr (inl (record { g = g; c = c; level = level; snapshot = x; horizon = h; query = q; is = refl; fresh = fresh; alone = alone; locks = with_hold s.locks wanted; wanted = wanted; locked = e; ran = refl }))
     locked (Some x) (slice.Insert t rows) wanted e =
-        inr (inr (inl (record { g = g; c = c; level = level; snapshot = x; horizon = h; table = t; rows = rows; is = refl; opened = opened; fresh = fresh; alone = alone; locks = with_hold s.locks wanted; wanted = wanted; ran = refl })))
+        inr (inr (inl (record { g = g; c = c; level = level; snapshot = x; horizon = h; table = t; rows = rows; is = refl; opened = opened; fresh = fresh; alone = alone; locks = with_hold s.locks wanted; wanted = wanted; locked = e; ran = refl })))
     locked None (slice.Select q) wanted e = inl (lies (hold_mark s.node wanted ∷ []) (with_hold s.locks wanted) (tt, tt))
     locked None (slice.Insert t rows) wanted e = inl (lies (hold_mark s.node wanted ∷ []) (with_hold s.locks wanted) (tt, tt))
     locked x (slice.Update t a d) wanted e = absurd (cc)
     locked x (slice.Delete t d) wanted e = absurd (cc)
-    locked x (slice.Lock t m) wanted e = absurd (cc)
+    locked x (slice.Lock t m) wanted e =
+        inr (inr (inr (inr (record { g = g; c = c; level = level; snapshot = x; horizon = h; table = t; mode = m; is = refl; opened = opened; fresh = fresh; alone = alone; locks = with_hold s.locks wanted; wanted = wanted; locked = e; ran = refl }))))
 
     start : (x : Option Snapshot) (y : Slice) (o : Option Claim) → slice_lock g y ≡ o → Turns s (message.Exec g c level x h y) (requests (raised s h) g c level x y o)
     start x y (Some wanted) e = by_test (is_free s.locks.holds wanted)
@@ -301,12 +322,9 @@ module _ (s : Seg) where
         by_test false = waits x y wanted e
     start x (slice.Select q) None e = absurd (cc)
     start x (slice.Insert t rows) None e = absurd (cc)
-    start (Some x) (slice.Update t a d) None e = inl (lies [] s.locks tt)
-    start (Some x) (slice.Delete t d) None e = inl (lies [] s.locks tt)
-    start (Some x) (slice.Lock t m) None e = inl (lies [] s.locks tt)
-    start None (slice.Update t a d) None e = inl (lies [] s.locks tt)
-    start None (slice.Delete t d) None e = inl (lies [] s.locks tt)
-    start None (slice.Lock t m) None e = inl (lies [] s.locks tt)
+    start x (slice.Lock t m) None e = absurd (cc)
+    start x (slice.Update t a d) None e = inl (lies [] s.locks tt)
+    start x (slice.Delete t d) None e = inl (lies [] s.locks tt)
 
   take : (g : Gxid) (c : Cid) (level : Level) (x : Option Snapshot) (h : Gxid) (y : Slice) → is_open (s.locals g.0).phase ≡ true → (nat_lt (s.locals g.0).last c.0 ≡ true → (s.locals g.0).suspended ≡ None) → Turns s (message.Exec g c level x h y) (takes s g c level x h y (s.locals g.0))
   take g c level x h y o alone = by_test (nat_lt (s.locals g.0).last c.0) refl
@@ -326,7 +344,7 @@ module _ (s : Seg) where
   -- a new command fits only where nobody waits
   fits-alone : (script : Script) (g : Gxid) (c : Cid) (x : Option Snapshot) (h : Gxid) (y : Slice) → fits_exec script s g c x h y ≡ true → nat_lt (s.locals g.0).last c.0 ≡ true → (s.locals g.0).suspended ≡ None
   fits-alone script g c x h y e =
-      from (nat_le h.0 g.0) (each_below h.0 (λ j. not (holds_locks (s.locals j)))) (is_some x) (is_right_slice script g c y) (nat_lt (s.locals g.0).last c.0) (s.locals g.0).suspended e
+      from (nat_le h.0 g.0) (each_below h.0 (λ j. not (holds_locks (s.locals j)))) (is_some x || reads_nothing y) (is_right_slice script g c y) (nat_lt (s.locals g.0).last c.0) (s.locals g.0).suspended e
     where
       clash : (a b c d later : Bool) → (a && (b && (c && (d && not (later && true))))) ≡ true → later ≡ true → ⊥
       clash a b c d later e q = grind arith
@@ -386,19 +404,30 @@ pub record InsertGoesOn (s : Seg) (g : Gxid) (x : Suspended) (turn : SegTurn) : 
   pub wanted : Claim
   pub ran : turn ≡ after_marks (hold_mark s.node wanted ∷ []) (inserts g x.cid (length rows) (inserted (freed s g locks) g x.cid table rows))
 
-abbrev pub Continues : Seg → Gxid → Suspended → SegTurn → Type 0
-Continues s g x turn = SelectGoesOn s g x turn ⊎ InsertGoesOn s g x turn
+-- a LOCK TABLE that waited has its lock
+pub record LockGoesOn (s : Seg) (g : Gxid) (x : Suspended) (turn : SegTurn) : Type 0 where
+  pub table : Table
+  pub mode : Mode
+  pub is : x.slice ≡ slice.Lock table mode
+  pub locks : Locks
+  pub wanted : Claim
+  pub locked : slice_lock g (slice.Lock table mode) ≡ Some wanted
+  pub ran : turn ≡ after_marks (hold_mark s.node wanted ∷ []) (locks_only (freed s g locks) g x.cid)
 
-continues : (script : Script) (s : Seg) (g : Gxid) (x : Suspended) (wanted : Claim) (snapshot : Option Snapshot) (y : Slice) → x.snapshot ≡ snapshot → x.slice ≡ y → is_some snapshot ≡ true → is_right_slice script g x.cid y ≡ true
+abbrev pub Continues : Seg → Gxid → Suspended → SegTurn → Type 0
+Continues s g x turn = SelectGoesOn s g x turn ⊎ InsertGoesOn s g x turn ⊎ LockGoesOn s g x turn
+
+continues : (script : Script) (s : Seg) (g : Gxid) (x : Suspended) (wanted : Claim) (snapshot : Option Snapshot) (y : Slice) → x.snapshot ≡ snapshot → x.slice ≡ y → (is_some snapshot || reads_nothing y) ≡ true → is_right_slice script g x.cid y ≡ true → slice_lock g y ≡ Some wanted
     → Continues s g x (after_marks (hold_mark s.node wanted ∷ []) (runs_slice (freed s g (resumed s.locks g (Some wanted))) g x.cid snapshot y))
-continues script s g x wanted (Some snapshot) (slice.Select q) e f reads right = inl (record { snapshot = snapshot; query = q; reads = e; is = f; locks = resumed s.locks g (Some wanted); wanted = wanted; ran = refl })
-continues script s g x wanted (Some snapshot) (slice.Insert t rows) e f reads right = inr (record { snapshot = snapshot; table = t; rows = rows; reads = e; is = f; locks = resumed s.locks g (Some wanted); wanted = wanted; ran = refl })
-continues script s g x wanted snapshot (slice.Update t a d) e f reads right = absurd (cc)
-continues script s g x wanted snapshot (slice.Delete t d) e f reads right = absurd (cc)
-continues script s g x wanted snapshot (slice.Lock t m) e f reads right = absurd (cc)
-continues script s g x wanted None y e f reads right = absurd (cc)
+continues script s g x wanted (Some snapshot) (slice.Select q) e f reads right l = inl (record { snapshot = snapshot; query = q; reads = e; is = f; locks = resumed s.locks g (Some wanted); wanted = wanted; ran = refl })
+continues script s g x wanted (Some snapshot) (slice.Insert t rows) e f reads right l = inr (inl (record { snapshot = snapshot; table = t; rows = rows; reads = e; is = f; locks = resumed s.locks g (Some wanted); wanted = wanted; ran = refl }))
+continues script s g x wanted None (slice.Select q) e f reads right l = absurd (cc)
+continues script s g x wanted None (slice.Insert t rows) e f reads right l = absurd (cc)
+continues script s g x wanted snapshot (slice.Lock t m) e f reads right l = inr (inr (record { table = t; mode = m; is = f; locks = resumed s.locks g (Some wanted); wanted = wanted; locked = l; ran = refl }))
+continues script s g x wanted snapshot (slice.Update t a d) e f reads right l = absurd (cc)
+continues script s g x wanted snapshot (slice.Delete t d) e f reads right l = absurd (cc)
 
 pub resumption-turns : (script : Script) (w : World) (i : ℕ) (g : Gxid) (o : GoesOn script w i g) → Continues (w.segs i) g o.slice (resumes (w.segs i) g (wait_of (w.segs i).locks g) (local_of (w.segs i) g).suspended)
 resumption-turns script w i g o =
     subst (Continues (w.segs i) g o.slice) (sym (goes-on-is (w.segs i) g o.wanted o.slice o.claims o.is))
-    (continues script (w.segs i) g o.slice o.wanted o.slice.snapshot o.slice.slice refl refl o.waits.reads o.waits.right)
+    (continues script (w.segs i) g o.slice o.wanted o.slice.snapshot o.slice.slice refl refl o.waits.reads o.waits.right (sym o.waits.wants ∙ o.claims))

@@ -1,5 +1,5 @@
 -- Slices that wait: the ways of a segment's turn, and that a command that has still to run there isn't answered there.
-use Rattle.std.proofs.Common.{◌≡◌, ◌≤◌, ◌<◌, ℕ, List, [], Some, Bool, arith}
+use Rattle.std.proofs.Common.{◌≡◌, ◌≤◌, ◌<◌, ℕ, List, [], Some, Bool}
 use Rattle.gx_lemmas.proofs.Numbers.{lt-le}
 use Rattle.gx_ids.specs.declared.ids.Cid.{Cid}
 use Rattle.gx_ids.specs.declared.ids.Gxid.{Gxid}

@@ -1,7 +1,6 @@
 -- What each event does to the commands under way, and which of them it answers.
-use Rattle.std.proofs.Common.{◌≡◌, ◌⊎◌, inl, inr, ℕ, ◌+◌, List, [], ◌∷◌, ◌++◌, Option, Some, None, Result, Ok, Err, Bool, true, false, refl, sym, subst, ap, ◌∙◌, if◌then◌else◌, ◌==◌, ◌&&◌, ◌||◌, arith, eqb, append-nil}
+use Rattle.std.proofs.Common.{◌≡◌, ◌⊎◌, inl, inr, ℕ, ◌+◌, List, [], ◌∷◌, ◌++◌, Option, Some, None, Result, Ok, Err, Bool, true, false, refl, sym, subst, ap, ◌∙◌, if◌then◌else◌, ◌==◌, ◌&&◌, arith, eqb, append-nil}
 use Rattle.std.proofs.lemmas.Bool.{and_from, and_parts, eqb-true, or_left, or_right}
-use Rattle.std.proofs.lemmas.Bool.Decides.{nat_tests}
 use Rattle.std.proofs.lemmas.List.{append_assoc}
 use Rattle.gx_lemmas.proofs.Numbers.{eqb-self}
 use Rattle.gx_ids.specs.declared.ids.Cid.{Cid}
@@ -66,7 +65,7 @@ use Rattle.gx_law_commit.specs.Standings.{gx}
 use Rattle.gx_rules.specs.Locks.{with_hold, hold_mark, release_marks}
 use Rattle.gx_locks.specs.Locks.{Locks, is_free, resumed, wait_of}
 use Rattle.gx_waits.specs.declared.claim.Claim.{Claim}
-use Rattle.gx_law_order.proofs.Calm.{each-released}
+use Rattle.gx_law_order.proofs.Releases.{each-released}
 use Rattle.gx_law_order.proofs.Waiting.{GoesOut}
 
 -- a mark that starts and answers nothing

@@ -11,6 +11,7 @@ use Rattle.gx_ids.specs.declared.ids.Node.{Node}
 use Rattle.gx_ids.specs.declared.ids.SessionId.{SessionId}
 use Rattle.gx_ids.specs.declared.ids.Table.{Table}
 use Rattle.gx_tree.specs.declared.expr.Expr.{Expr}
+use Rattle.gx_modes.specs.declared.modes.Mode.{Mode}
 use Rattle.gx_tree.specs.declared.query.Query.{Query}
 use Rattle.gx_tree.specs.declared.row.KeyedRow.{KeyedRow}
 use Rattle.gx_tree.specs.declared.slice.Slice.TheVariants as slice
@@ -45,7 +46,7 @@ use Rattle.gx_rules.specs.Maps.{with_at}
 use Rattle.gx_rules.specs.Segments.{Local, Seg, SegTurn, Suspended, after_marks}
 use Rattle.gx_rules.specs.Sending.{clock_after, counted, numbered}
 use Rattle.gx_rules.specs.Shown.{shown}
-use Rattle.gx_rules.specs.Slices.{first_fault, inserted, inserts, selects}
+use Rattle.gx_rules.specs.Slices.{first_fault, inserted, inserts, locks as locks_only, selects}
 use Rattle.gx_law_order.proofs.AtSegments.{PlainAt, seg_stays}
 use Rattle.gx_law_order.proofs.Letters.{IsFound, IsLetter, found_is}
 use Rattle.gx_law_order.proofs.Lists.{Each, each_append, each_weaker}
@@ -57,7 +58,7 @@ use Rattle.gx_law_sessions.specs.Alive.{HasRun, WasUnderWay}
 use Rattle.gx_law_sessions.specs.Orders.{IsOrder}
 use Rattle.gx_law_sessions.specs.Rest.{EachMark}
 use Rattle.gx_law_sessions.proofs.Given.{marks-append}
-use Rattle.gx_law_sessions.proofs.Outs.{MessageIs, of-more}
+use Rattle.gx_law_sessions.proofs.Outs.{MessageIs}
 use Rattle.gx_law_sessions.proofs.Ran.{LetterRan, has-run}
 use Rattle.gx_law_sessions.proofs.Stepping as stepping
 use Rattle.gx_law_sessions.proofs.World as histories
@@ -66,10 +67,12 @@ use Rattle.gx_law_commit.specs.Standings.{at, gx}
 use Rattle.gx_law_commit.proofs.Complete.{IsBack, SentBack, StepBack}
 use Rattle.gx_law_commit.proofs.Ways.{CommandOf}
 use Rattle.gx_law_commit.proofs.Whole.{Both, world-both}
+use Rattle.gx_law_writes.specs.Homes.{AreRowsHome, IsPlacedMark}
 use Rattle.gx_law_writes.specs.Writes.{AreWritesLegal, WriteLegal}
-use Rattle.gx_law_writes.proofs.Legal.{IsPastMark, IsPlacedMark, Late, Live, no-writes-legal, order-live, sent-no-write}
+use Rattle.gx_law_writes.proofs.Homes.{homes-append, homes-more, homes-placed, no-writes-home}
+use Rattle.gx_law_writes.proofs.Legal.{IsPastMark, Late, Live, no-writes-legal, order-live, sent-no-write}
 use Rattle.gx_law_writes.proofs.Live.{Running, running}
-use Rattle.gx_law_writes.proofs.Moves.{IsBase, IsOutOf, IsPastHere, Move, freed-base, insert-move, line-of, no-write-placed, piece, quiet-move, select-move, started-base, waited-move}
+use Rattle.gx_law_writes.proofs.Moves.{IsBase, IsOutOf, IsPastHere, Move, freed-base, insert-move, line-of, lock-move, piece, quiet-move, select-move, started-base, waited-move}
 use Rattle.gx_law_writes.proofs.Next.{new-next, next_command, waits-next}
 use Rattle.gx_law_writes.proofs.Told.{IsAnswerOf, IsToldOf, IsWordOf, SentTold, StepTold, answer-more, each-get, steps-more, taken-told, told-more}
 use Rattle.gx_law_writes.proofs.Turns.{Continues, NoWrite, Turns, base, freed, message-turns, resumption-turns}
@@ -82,7 +85,7 @@ abbrev pub nexts_in : (ℕ → Seg) → ℕ → ℕ → ℕ
 nexts_in segs i g = next_command ((segs i).locals g)
 
 pub record Holds (script : Script) (segs : ℕ → Seg) (steps : List Step) : Type 0 where
-  pub placed : Each (IsPlacedMark script (marks_in steps)) (marks_in steps)
+  pub homes : AreRowsHome script (marks_in steps) [] (marks_in steps)
   pub past : Each (IsPastMark (nexts_in segs)) (marks_in steps)
   pub told : Each (StepTold script (marks_in steps) (locals_in segs)) steps
   pub kept : (i h : ℕ) → IsAnswerOf script (marks_in steps) (nexts_in segs i h) (at i) (gx h) ((segs i).locals h).answer
@@ -93,55 +96,18 @@ legal-push : (script : Script) (before ss : List Step) (s : Step) → AreWritesL
 legal-push script before [] s e h = (subst (λ b. EachMark (WriteLegal script) b s.event [] s.marks []) (append-nil before) h, tt)
 legal-push script before (x ∷ ss) s e h = (e.0, legal-push script (before ++ x ∷ []) ss s e.1 (subst (λ b. EachMark (WriteLegal script) b s.event [] s.marks []) (sym (append_assoc before (x ∷ []) ss)) h))
 
-placed-more : (script : Script) (ms ns : List Mark) (m : Mark) → IsPlacedMark script ms m → IsPlacedMark script (ms ++ ns) m
-placed-more script ms ns (mark.Write g c n t r x) p =
-    record { tuples = p.tuples; of = of-more script ms ns g c _ p.of; own = p.own; counted = p.counted; tuple = p.tuple; among = p.among; values = p.values; constants = p.constants; written = p.written; place = p.place }
-placed-more script ms ns (mark.Start h s) p = tt
-placed-more script ms ns (mark.Snap h d x) p = tt
-placed-more script ms ns (mark.Skip h d r) p = tt
-placed-more script ms ns (mark.Fault h d r x) p = tt
-placed-more script ms ns (mark.Commit h) p = tt
-placed-more script ms ns (mark.Abort h) p = tt
-placed-more script ms ns (mark.Answer s n a) p = tt
-placed-more script ms ns (mark.Hold n h x m) p = tt
-placed-more script ms ns (mark.Wait n h x m) p = tt
-placed-more script ms ns (mark.Release n h x m) p = tt
-placed-more script ms ns (mark.Prepared n h) p = tt
-placed-more script ms ns (mark.LocalCommit n h) p = tt
-placed-more script ms ns (mark.Decided h) p = tt
-placed-more script ms ns (mark.JournalFailed n h) p = tt
-placed-more script ms ns (mark.Sent a b d) p = tt
-placed-more script ms ns (mark.Report n x y) p = tt
-placed-more script ms ns (mark.Recheck x y z) p = tt
-
 lt-le : {a b c : ℕ} → a < b → b ≤ c → a < c
 lt-le x y = omega arith
 
 past-later : (f h : ℕ → ℕ → ℕ) (later : (i g : ℕ) → f i g ≤ h i g) (m : Mark) → IsPastMark f m → IsPastMark h m
-past-later f h later (mark.Write g c n t r x) p = lt-le p (later n.0 g.0)
-past-later f h later (mark.Start a s) p = tt
-past-later f h later (mark.Snap a d x) p = tt
-past-later f h later (mark.Skip a d r) p = tt
-past-later f h later (mark.Fault a d r x) p = tt
-past-later f h later (mark.Commit a) p = tt
-past-later f h later (mark.Abort a) p = tt
-past-later f h later (mark.Answer s n a) p = tt
-past-later f h later (mark.Hold n a x m) p = tt
-past-later f h later (mark.Wait n a x m) p = tt
-past-later f h later (mark.Release n a x m) p = tt
-past-later f h later (mark.Prepared n a) p = tt
-past-later f h later (mark.LocalCommit n a) p = tt
-past-later f h later (mark.Decided a) p = tt
-past-later f h later (mark.JournalFailed n a) p = tt
-past-later f h later (mark.Sent a b d) p = tt
-past-later f h later (mark.Report n x y) p = tt
-past-later f h later (mark.Recheck x y z) p = tt
+past-later f h later (mark.Write g c n t r x) p = lt-le p (later n.0 r.gxid.0)
+past-later f h later m p = tt
 
 module _ (script : Script) (numbered_lines : AreLinesNumbered [] script.lines) (segs next : ℕ → Seg) (steps : List Step) (s : Step) (later : (i g : ℕ) → nexts_in segs i g ≤ nexts_in next i g) where
-  pub one-more : Holds script segs steps → Each (IsPlacedMark script (marks_in steps)) s.marks → Each (IsPastMark (nexts_in next)) s.marks → StepTold script (marks_in steps ++ s.marks) (locals_in next) s → ((i h : ℕ) → IsAnswerOf script (marks_in steps ++ s.marks) (nexts_in next i h) (at i) (gx h) ((next i).locals h).answer) → EachMark (WriteLegal script) steps s.event [] s.marks [] → Holds script next (steps ++ s ∷ [])
-  one-more h placed past told kept legal =
+  pub one-more : Holds script segs steps → AreRowsHome script (marks_in steps) (marks_in steps) s.marks → Each (IsPastMark (nexts_in next)) s.marks → StepTold script (marks_in steps ++ s.marks) (locals_in next) s → ((i h : ℕ) → IsAnswerOf script (marks_in steps ++ s.marks) (nexts_in next i h) (at i) (gx h) ((next i).locals h).answer) → EachMark (WriteLegal script) steps s.event [] s.marks [] → Holds script next (steps ++ s ∷ [])
+  one-more h homes past told kept legal =
       record {
-        placed = subst (λ q. Each (IsPlacedMark script q) q) all (each_append (IsPlacedMark script (marks_in steps ++ s.marks)) (marks_in steps) s.marks (each_weaker (IsPlacedMark script (marks_in steps)) _ (λ m p. placed-more script (marks_in steps) s.marks m p) (marks_in steps) h.placed) (each_weaker (IsPlacedMark script (marks_in steps)) _ (λ m p. placed-more script (marks_in steps) s.marks m p) s.marks placed));
+        homes = subst (λ q. AreRowsHome script q [] q) all (homes-append script (marks_in steps ++ s.marks) [] (marks_in steps) s.marks (homes-more script (marks_in steps) s.marks [] (marks_in steps) h.homes) (homes-more script (marks_in steps) s.marks (marks_in steps) s.marks homes));
         past = subst (Each (IsPastMark (nexts_in next))) all (each_append (IsPastMark (nexts_in next)) (marks_in steps) s.marks (each_weaker (IsPastMark (nexts_in segs)) (IsPastMark (nexts_in next)) (λ m p. past-later (nexts_in segs) (nexts_in next) later m p) (marks_in steps) h.past) past);
         told = subst (λ q. Each (StepTold script q (locals_in next)) (steps ++ s ∷ [])) all (each_append (StepTold script (marks_in steps ++ s.marks) (locals_in next)) steps (s ∷ []) (steps-more script numbered_lines (marks_in steps) s.marks (locals_in segs) (locals_in next) later steps h.told) (told, tt));
         kept = λ i g. subst (λ q. IsAnswerOf script q (nexts_in next i g) (at i) (gx g) ((next i).locals g).answer) all (kept i g);
@@ -172,7 +138,7 @@ module _ (script : Script) (some : 1 ≤ script.segments) (numbered_lines : AreL
   pub coord-holds : (w : World) → Well script w → Holds script w.segs w.steps → (e : Event) (x : NodeEvent) (fails : Bool) → Holds script w.segs (coord_did w e (coord_rule script w.coord x fails)).steps
   coord-holds w n h e x fails =
       one-more script numbered_lines w.segs w.segs w.steps step (λ i g. le-same (nexts_in w.segs i g)) h
-      (each_weaker NoWrite (IsPlacedMark script (marks_in w.steps)) (λ m k. no-write-placed script (marks_in w.steps) m k) step.marks none)
+      (no-writes-home script (marks_in w.steps) (marks_in w.steps) step.marks none)
       (each_weaker NoWrite (IsPastMark (nexts_in w.segs)) (λ m k. no-write-past (nexts_in w.segs) m k) step.marks none)
       (λ one. absurd (one-le-none one))
       (λ i g. answer-more script numbered_lines (marks_in w.steps) step.marks _ _ (at i) (gx g) ((w.segs i).locals g).answer (le-same (nexts_in w.segs i g)) (h.kept i g))
@@ -207,17 +173,23 @@ module _ (script : Script) (some : 1 ≤ script.segments) (numbered_lines : AreL
     abbrev Moves : SegTurn → Type 0
     Moves = Move script ms w.steps e (at i) s
 
+    placed : Each (IsPlacedMark script ms) ms
+    placed = homes-placed script ms [] ms h.homes
+
     -- a slice runs that came with this EXEC, which the coordinator sent
     module _ (g : Gxid) (c : Cid) (level : Level) (snapshot : Option Snapshot) (fresh : next_command (s.locals g.0) ≤ c.0) (base : Seg) (on : IsBase s g base) (wanted : Claim) where
       select-runs : (query : Query) → IsOrder script ms (at i) g c level snapshot (slice.Select query) → (rows : List KeyedRow) (f : Option (KeyedRow × ArithFault)) → Moves (after_marks (hold_mark s.node wanted ∷ []) (selects base g c query rows f))
-      select-runs query order = select-move script numbered_lines ms w.steps e i s (h.kept i) g c level snapshot query order fresh base on wanted
+      select-runs query order = select-move script numbered_lines ms w.steps e i s (h.kept i) g c fresh base on wanted level snapshot query order
+
+      lock-runs : (table : Table) (mode : Mode) → IsOrder script ms (at i) g c level snapshot (slice.Lock table mode) → Moves (after_marks (hold_mark s.node wanted ∷ []) (locks_only base g c))
+      lock-runs table mode order = lock-move script numbered_lines ms w.steps e i s (h.kept i) g c fresh base on wanted level snapshot table mode order
 
       insert-runs : (table : Table) (rows : List KeyedRow) → IsOrder script ms (at i) g c level snapshot (slice.Insert table rows) → WasUnderWay script w.steps g c → IsBack w.coord w.steps i g.0 c.0 → Moves (after_marks (hold_mark s.node wanted ∷ []) (inserts g c (length rows) (inserted base g c table rows)))
       insert-runs table rows order was back =
-          insert-move script numbered_lines w e quiet-event i s (b.knows.well.names i) (h.kept i) (nexts_in w.segs) (λ j. refl) h.placed h.past g c level snapshot table rows order fresh base on wanted (by_back back)
+          insert-move script numbered_lines w e quiet-event i s (b.knows.well.names i) (h.kept i) (nexts_in w.segs) (λ j. refl) placed h.past g c level snapshot table rows order fresh base on wanted (by_back back)
         where
           tuples : List (List Expr)
-          tuples = (piece script numbered_lines w e quiet-event i s (b.knows.well.names i) (h.kept i) (nexts_in w.segs) (λ j. refl) h.placed h.past g c level snapshot table rows order).tuples
+          tuples = (piece script numbered_lines w e quiet-event i s (b.knows.well.names i) (h.kept i) (nexts_in w.segs) (λ j. refl) placed h.past g c level snapshot table rows order).tuples
 
           beyond : (m n : ℕ) → m ≤ n → n < m → ⊥
           beyond m n p q = omega arith
@@ -227,7 +199,7 @@ module _ (script : Script) (some : 1 ≤ script.segments) (numbered_lines : AreL
           by_running r same =
               order-live script numbered_lines w g.0 c (at i) table tuples e quiet-event level snapshot rows r
               (same ∙ sym (subst (CommandOf g.0 (w.coord.works g.0).last) r.has_it (b.holds.stands.works g.0).command).0)
-              order (line-of script numbered_lines w e quiet-event i s (b.knows.well.names i) (h.kept i) (nexts_in w.segs) (λ j. refl) h.placed h.past g c level snapshot table rows order)
+              order (line-of script numbered_lines w e quiet-event i s (b.knows.well.names i) (h.kept i) (nexts_in w.segs) (λ j. refl) placed h.past g c level snapshot table rows order)
 
           by_back : IsBack w.coord w.steps i g.0 c.0 → Live script numbered_lines w g.0 c (at i) table tuples e quiet-event ⊎ Late script numbered_lines w g.0 c (at i) table tuples e quiet-event
           by_back (inl z) = inl (by_running (running script w k.sessions g.0 b.knows.kept i z.0) z.1)
@@ -245,7 +217,10 @@ module _ (script : Script) (some : 1 ≤ script.segments) (numbered_lines : AreL
         subst Moves (sym z.ran)
         (insert-runs z.g z.c z.level (Some z.snapshot) (new-next (s.locals z.g.0) z.c.0 z.alone z.fresh) (base s z.horizon z.locks) (started-base s z.g z.horizon z.locks z.alone) z.wanted z.table z.rows (subst (λ (a : Message). MessageIs script ms (at i) a) z.is order numbered_lines)
         (subst (HasRun script w.steps) z.is ran) (subst (λ (a : Message). SentBack w.coord w.steps the_coordinator (mark.Sent (at i) number a)) z.is back refl))
-    message-move m number order ran back y (inr (inr (inr z))) = waited-move script numbered_lines ms w.steps e i s (h.kept i) m y z
+    message-move m number order ran back y (inr (inr (inr (inl z)))) = waited-move script numbered_lines ms w.steps e i s (h.kept i) m y z
+    message-move m number order ran back y (inr (inr (inr (inr z)))) =
+        subst Moves (sym z.ran)
+        (lock-runs z.g z.c z.level z.snapshot (new-next (s.locals z.g.0) z.c.0 z.alone z.fresh) (base s z.horizon z.locks) (started-base s z.g z.horizon z.locks z.alone) z.wanted z.table z.mode (subst (λ (a : Message). MessageIs script ms (at i) a) z.is order numbered_lines))
 
     -- by the end of a wait
     resumption-move : (g : Gxid) (z : Suspended) (horizon : Gxid) (number : ℕ) → (s.locals g.0).suspended ≡ Some z → (s.locals g.0).last ≡ z.cid.0 → (let m : Message = message.Exec g z.cid z.level z.snapshot horizon z.slice in MessageIs script ms (at i) m × HasRun script w.steps m × SentBack w.coord w.steps the_coordinator (mark.Sent (at i) number m))
@@ -254,9 +229,12 @@ module _ (script : Script) (some : 1 ≤ script.segments) (numbered_lines : AreL
         subst Moves (sym q.ran)
         (select-runs g z.cid z.level z.snapshot (waits-next (s.locals g.0) z is last) (freed s g q.locks) (freed-base s g q.locks) q.wanted q.query (subst (IsOrder script ms (at i) g z.cid z.level z.snapshot) q.is (sent.0 numbered_lines))
         (shown (freed s g q.locks) q.snapshot g z.cid q.query.table) (first_fault q.query.cond (shown (freed s g q.locks) q.snapshot g z.cid q.query.table)))
-    resumption-move g z horizon number is last sent y (inr q) =
+    resumption-move g z horizon number is last sent y (inr (inl q)) =
         subst Moves (sym q.ran)
         (insert-runs g z.cid z.level z.snapshot (waits-next (s.locals g.0) z is last) (freed s g q.locks) (freed-base s g q.locks) q.wanted q.table q.rows (subst (IsOrder script ms (at i) g z.cid z.level z.snapshot) q.is (sent.0 numbered_lines)) sent.1 (sent.2 refl))
+    resumption-move g z horizon number is last sent y (inr (inr q)) =
+        subst Moves (sym q.ran)
+        (lock-runs g z.cid z.level z.snapshot (waits-next (s.locals g.0) z is last) (freed s g q.locks) (freed-base s g q.locks) q.wanted q.table q.mode (subst (IsOrder script ms (at i) g z.cid z.level z.snapshot) q.is (sent.0 numbered_lines)))
 
     pub seg-holds : Moves turn → Holds script next (w.steps ++ step ∷ [])
     seg-holds = from-move
@@ -275,24 +253,8 @@ module _ (script : Script) (some : 1 ≤ script.segments) (numbered_lines : AreL
         next-here g = ap (λ q. next_command ((if q then (seg_rule script (w.segs i) x fails).seg else w.segs i).locals g)) (eqb-self i)
 
         past-one : (m : Mark) → IsPastHere (λ g. next_command (turn.seg.locals g)) (at i) m → IsPastMark (nexts_in next) m
-        past-one (mark.Write g c n t r x) p = subst (λ (a : Node). c.0 < nexts_in next a.0 g.0) (sym p.0) (subst (λ a. c.0 < a) (sym (next-here g.0)) p.1)
-        past-one (mark.Start a t) p = tt
-        past-one (mark.Snap a d x) p = tt
-        past-one (mark.Skip a d r) p = tt
-        past-one (mark.Fault a d r x) p = tt
-        past-one (mark.Commit a) p = tt
-        past-one (mark.Abort a) p = tt
-        past-one (mark.Answer t n a) p = tt
-        past-one (mark.Hold n a x m) p = tt
-        past-one (mark.Wait n a x m) p = tt
-        past-one (mark.Release n a x m) p = tt
-        past-one (mark.Prepared n a) p = tt
-        past-one (mark.LocalCommit n a) p = tt
-        past-one (mark.Decided a) p = tt
-        past-one (mark.JournalFailed n a) p = tt
-        past-one (mark.Sent a c d) p = tt
-        past-one (mark.Report n x y) p = tt
-        past-one (mark.Recheck x y z) p = tt
+        past-one (mark.Write g c n t r x) p = subst (λ (a : Node). r.cid.0 < nexts_in next a.0 r.gxid.0) (sym p.0) (subst (λ a. r.cid.0 < a) (sym (next-here r.gxid.0)) p.1)
+        past-one m p = tt
 
         word-one : (ns : List Mark) (m : Message) → IsOutOf script ns (λ g. next_command (turn.seg.locals g)) (at i) m → IsWordOf script ns (locals_in next) (at i) m
         word-one ns (message.Answer g r) d = subst (λ n. IsToldOf script ns n (at i) g r) (sym (next-here g.0)) d
@@ -330,10 +292,10 @@ module _ (script : Script) (some : 1 ≤ script.segments) (numbered_lines : AreL
         out-more (message.Graph round graph) d = tt
 
         from-move : Move script ms w.steps e (at i) s turn → Holds script next (w.steps ++ step ∷ [])
-        from-move v = one-more script numbered_lines w.segs next w.steps step (late-nexts v) h placed past told kept legal
+        from-move v = one-more script numbered_lines w.segs next w.steps step (late-nexts v) h homes past told kept legal
           where
-            placed : Each (IsPlacedMark script ms) (turn.marks ++ sent)
-            placed = each_append (IsPlacedMark script ms) turn.marks sent v.placed (each_weaker NoWrite (IsPlacedMark script ms) (λ m q. no-write-placed script ms m q) sent quiet)
+            homes : AreRowsHome script ms ms (turn.marks ++ sent)
+            homes = homes-append script ms ms turn.marks sent v.homes (no-writes-home script ms (ms ++ turn.marks) sent quiet)
 
             past : Each (IsPastMark (nexts_in next)) (turn.marks ++ sent)
             past = each_append (IsPastMark (nexts_in next)) turn.marks sent (each_weaker (IsPastHere (λ g. next_command (turn.seg.locals g)) (at i)) (IsPastMark (nexts_in next)) past-one turn.marks v.past) (each_weaker NoWrite (IsPastMark (nexts_in next)) (λ m q. no-write-past (nexts_in next) m q) sent quiet)
@@ -463,4 +425,7 @@ module _ (script : Script) (some : 1 ≤ script.segments) (numbered_lines : AreL
       (after-holds (done ++ x ∷ []) es (subst HoldsIn (sym (after-last script some new_world done x)) (happens-holds (world_of script done) (world-both script some done) (histories.world-holds script some done) h x.0 x.1)))
 
   pub world-holds : (es : List (Event × Bool)) → Holds script (world_of script es).segs (world_of script es).steps
-  world-holds es = after-holds [] es (record { placed = tt; past = tt; told = tt; kept = λ i h. tt; legal = tt })
+  world-holds es = after-holds [] es (record { homes = tt; past = tt; told = tt; kept = λ i h. tt; legal = tt })
+
+  pub world-placed : (es : List (Event × Bool)) → Each (IsPlacedMark script (marks_in (world_of script es).steps)) (marks_in (world_of script es).steps)
+  world-placed es = homes-placed script (marks_in (world_of script es).steps) [] (marks_in (world_of script es).steps) (world-holds es).homes

@@ -8,9 +8,11 @@ ghost use Rattle.gx_meaning.specs.Constants.{rows_of};
 ghost use Rattle.gx_rules.specs.Machine.{run_of, world_of};
 ghost use Rattle.gx_script.specs.declared.Script.{Script};
 ghost use Rattle.gx_store.specs.declared.event.Event.{Event as OneEvent};
+ghost use Rattle.gx_store.specs.Points.{marks_in};
 ghost use Rattle.gx_store.specs.Runs.{IsLegalHistory};
 ghost use Rattle.gx_tree.specs.declared.expr.Expr.{Expr as OneExpr};
 ghost use Rattle.gx_tree.specs.declared.row.KeyedRow.{KeyedRow as OneRow};
+ghost use Rattle.gx_law_writes.specs.Homes.{AreRowsHome};
 ghost use Rattle.gx_law_writes.specs.Inserting.{AreInserting};
 ghost use Rattle.gx_law_writes.specs.Inserts.{AreInsertsTold};
 ghost use Rattle.gx_law_writes.specs.Left.{AreLeftLegal};
@@ -25,6 +27,13 @@ pub fn rows_are_of_their_tuples()
 /// An EXEC of an INSERT has the rows of its statement that are placed at the segment, all of them, in their order.
 pub fn rows_go_where_they_are_placed()
     ensures { (script : Script) (events : List (OneEvent × Bool)) → 1 ≤ script.segments → AreLinesNumbered [] script.lines → ArePiecesOf script (world_of script events) }
+{}
+
+/// A row's first write is its INSERT's, of the values of its tuple, at the segment where these are placed. Each later write of the
+/// row stands there too, and deletes it or has the same in the distribution column.
+pub fn rows_stay_where_they_are_inserted()
+    ensures { (script : Script) (events : List (OneEvent × Bool)) → 1 ≤ script.segments → AreLinesNumbered [] script.lines
+        → AreRowsHome script (marks_in (world_of script events).steps) [] (marks_in (world_of script events).steps) }
 {}
 
 /// Every write is legal at its point: its command is under way and has its snapshot, or its transaction has aborted, and the row

@@ -1,0 +1,72 @@
+-- Rows stay where they were inserted: an INSERT's writes are so, and what was so stays so.
+use Rattle.std.proofs.Common.{◌≡◌, List, [], ◌∷◌, ◌++◌, Some, refl, sym, subst, append-nil}
+use Rattle.std.proofs.lemmas.List.{append_assoc}
+use Rattle.std.specs.Prelude.{map}
+use Rattle.gx_ids.specs.declared.ids.Cid.{Cid}
+use Rattle.gx_ids.specs.declared.ids.Gxid.{Gxid}
+use Rattle.gx_ids.specs.declared.ids.Node.{Node}
+use Rattle.gx_ids.specs.declared.ids.Table.{Table}
+use Rattle.gx_ids.specs.declared.rid.Rid.{Rid}
+use Rattle.gx_tree.specs.declared.expr.Expr.{Expr}
+use Rattle.gx_tree.specs.declared.row.KeyedRow.{KeyedRow}
+use Rattle.gx_tree.specs.declared.stmt.Stmt.TheVariants as stmt
+use Rattle.gx_tree.specs.declared.value.Value.{Value}
+use Rattle.gx_script.specs.declared.Script.{Script}
+use Rattle.gx_store.specs.declared.mark.Mark.{Mark}
+use Rattle.gx_store.specs.declared.mark.Mark.TheVariants as mark
+use Rattle.gx_law_order.proofs.Lists.{Each}
+use Rattle.gx_law_sessions.specs.Scanned.{stmt_of_command}
+use Rattle.gx_law_sessions.proofs.Outs.{of-more}
+use Rattle.gx_law_writes.specs.Homes.{AreRowsHome, IsHomeMark, IsPlacedMark, IsRowOf}
+use Rattle.gx_law_writes.proofs.Placed.{IsPlacedRow, row-of, row-placed}
+use Rattle.gx_law_writes.proofs.Rows.{row_mark}
+use Rattle.gx_law_writes.proofs.Turns.{NoWrite}
+
+-- LATER MARKS
+row_of-more : (script : Script) (ms ns : List Mark) (table : Table) (rid : Rid) (values : List Value) → IsRowOf script ms table rid values → IsRowOf script (ms ++ ns) table rid values
+row_of-more script ms ns table rid values r =
+    record { tuples = r.tuples; of = of-more script ms ns rid.gxid rid.cid _ r.of; counted = r.counted; tuple = r.tuple; among = r.among; constants = r.constants }
+
+home-more : (script : Script) (ms ns before : List Mark) (m : Mark) → IsHomeMark script ms before m → IsHomeMark script (ms ++ ns) before m
+home-more script ms ns before (mark.Write g c n t r x) p = (
+  record { values = p.0.values; row_of = row_of-more script ms ns t r p.0.values p.0.row_of; place = p.0.place; key = p.0.key },
+  λ unwritten. let f = p.1 unwritten in record { own = f.own; values = f.values; row_of = row_of-more script ms ns t r f.values f.row_of; written = f.written },
+)
+home-more script ms ns before m p = tt
+
+pub homes-more : (script : Script) (ms ns before xs : List Mark) → AreRowsHome script ms before xs → AreRowsHome script (ms ++ ns) before xs
+homes-more script ms ns before [] e = tt
+homes-more script ms ns before (x ∷ xs) e = (home-more script ms ns before x e.0, homes-more script ms ns (before ++ x ∷ []) xs e.1)
+
+pub homes-append : (script : Script) (ms before xs ys : List Mark) → AreRowsHome script ms before xs → AreRowsHome script ms (before ++ xs) ys → AreRowsHome script ms before (xs ++ ys)
+homes-append script ms before [] ys e f = subst (λ b. AreRowsHome script ms b ys) (append-nil before) f
+homes-append script ms before (x ∷ xs) ys e f = (e.0, homes-append script ms (before ++ x ∷ []) xs ys e.1 (subst (λ b. AreRowsHome script ms b ys) (sym (append_assoc before (x ∷ []) xs)) f))
+
+-- MARKS THAT WRITE NOTHING
+no-write-home : (script : Script) (ms before : List Mark) (m : Mark) → NoWrite m → IsHomeMark script ms before m
+no-write-home script ms before (mark.Write g c n t r x) e = absurd e
+no-write-home script ms before m e = tt
+
+pub no-writes-home : (script : Script) (ms before xs : List Mark) → Each NoWrite xs → AreRowsHome script ms before xs
+no-writes-home script ms before [] e = tt
+no-writes-home script ms before (x ∷ xs) e = (no-write-home script ms before x e.0, no-writes-home script ms (before ++ x ∷ []) xs e.1)
+
+-- AN INSERT'S WRITES
+pub rows-home : (script : Script) (ms : List Mark) (g : Gxid) (c : Cid) (node : Node) (table : Table) (tuples : List (List Expr)) → stmt_of_command script ms g c ≡ Some (stmt.Insert table tuples) → (before : List Mark) (rows : List KeyedRow) → Each (IsPlacedRow script g c node table tuples) rows → AreRowsHome script ms before (map (row_mark g c node table) rows)
+rows-home script ms g c node table tuples of before [] p = tt
+rows-home script ms g c node table tuples of before (r ∷ rs) p = (
+  (
+    row-placed script ms g c node table tuples r of p.0,
+    λ unwritten. record { own = p.0.row_is.own; values = r.row; row_of = row-of script ms g c node table tuples r of p.0; written = refl },
+  ),
+  rows-home script ms g c node table tuples of (before ++ row_mark g c node table r ∷ []) rs p.1,
+)
+
+-- ALL WRITES
+home-placed : (script : Script) (ms before : List Mark) (m : Mark) → IsHomeMark script ms before m → IsPlacedMark script ms m
+home-placed script ms before (mark.Write g c n t r x) p = p.0
+home-placed script ms before m p = tt
+
+pub homes-placed : (script : Script) (ms before xs : List Mark) → AreRowsHome script ms before xs → Each (IsPlacedMark script ms) xs
+homes-placed script ms before [] e = tt
+homes-placed script ms before (x ∷ xs) e = (home-placed script ms before x e.0, homes-placed script ms (before ++ x ∷ []) xs e.1)
