@@ -4,7 +4,7 @@ use Rattle.gx_lemmas.proofs.Options.{none-some}
 use Rattle.gx_store.specs.declared.answer.StmtAnswer.{StmtAnswer}
 use Rattle.gx_msg.specs.declared.message.Out.{Out}
 use Rattle.gx_rules.specs.Sending.{counted, numbered}
-use Rattle.gx_law_order.proofs.Calm.{each-released}
+use Rattle.gx_law_order.proofs.Releases.{each-released}
 use Rattle.gx_dtx.specs.Table.{find_txn}
 use Rattle.gx_law_order.proofs.Lists.{Each, each_append}
 use Rattle.gx_law_order.proofs.Sessions.{Kept, is_said, stage_of}
@@ -312,7 +312,7 @@ line-starts script c s block.Outside (stmt.Delete t x) h = (tt, dispatch_starts 
 line-starts script c s (block.Open l) (stmt.Begin level) h = (inl (refl, λ g. refl), tt)
 line-starts script c s (block.Open l) stmt.Commit h = follow_starts script s stmt.Commit c (session_of c s).transaction (on_commit c.table (session_of c s).transaction (work_of c (session_of c s).transaction).writers) (on_commit c.table (session_of c s).transaction (work_of c (session_of c s).transaction).writers).out.outcome h (λ g. refl)
 line-starts script c s (block.Open l) stmt.Rollback h = (tt, (inl (refl, λ g. refl), back-none c.locks (session_of c s).transaction))
-line-starts script c s (block.Open l) (stmt.Lock table mode) h = dispatch_starts script s (stmt.Lock table mode) c (session_of c s).transaction (stmt.Lock table mode) None
+line-starts script c s (block.Open l) (stmt.Lock table mode) h = dispatch_starts script s (stmt.Lock table mode) c (session_of c s).transaction (stmt.Lock table mode) (lock_for (session_of c s).transaction (stmt.Lock table mode))
 line-starts script c s (block.Open l) (stmt.Select q) h = dispatch_starts script s (stmt.Select q) c (session_of c s).transaction (stmt.Select q) (lock_for (session_of c s).transaction (stmt.Select q))
 line-starts script c s (block.Open l) (stmt.Insert t x) h = dispatch_starts script s (stmt.Insert t x) c (session_of c s).transaction (stmt.Insert t x) (lock_for (session_of c s).transaction (stmt.Insert t x))
 line-starts script c s (block.Open l) (stmt.Update t x y) h = dispatch_starts script s (stmt.Update t x y) c (session_of c s).transaction (stmt.Update t x y) None

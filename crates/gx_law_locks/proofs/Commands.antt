@@ -43,8 +43,8 @@ use Rattle.gx_law_schedules.proofs.Standing.{waits_from-append}
 use Rattle.gx_law_sessions.proofs.Said.{CalmFor, Said, said-calm}
 use Rattle.gx_law_sessions.specs.Standing.{IsLineOf, IsSession, IsStanding, Owns, Stands, is_alone, is_busy, is_sound, state_in}
 use Rattle.gx_law_locks.specs.Commands.{AreLeftAlone, AreUnsent, AwaitsTable, DoCommandsHold, HasNotGoneOut, HoldsTableOf}
-use Rattle.gx_law_locks.proofs.Going.{CommandLocked, HasLock, own-line}
-use Rattle.gx_law_locks.proofs.Lasting.{IsIn, in-added, in-filter, in-new, in-without}
+use Rattle.gx_law_holds.proofs.Going.{CommandLocked, HasLock, own-line}
+use Rattle.gx_law_holds.proofs.Lasting.{IsIn, in-added, in-filter, in-new, in-without}
 
 -- MARKS
 calm-for : (k : SessionId) (g : Gxid) (ms : List Mark) → AreLeftAlone k g ms → Each (CalmFor k) ms
@@ -124,33 +124,43 @@ pub record Runs (script : Script) (k : SessionId) (marks : List Mark) (starts : 
   pub transaction : transaction_of (state_of script k marks) k marks ≡ Some g
   pub number : c ≡ cid_of (state_of script k marks)
 
+-- where the session's own marks say the same
+runs-same : (script : Script) (k : SessionId) (xs ys : List Mark) (starts : ℕ) (line : Stmt) (g : Gxid) (c : Cid) → answer_count k ys ≡ answer_count k xs → state_of script k ys ≡ state_of script k xs → is_begun k ys ≡ is_begun k xs → started_after k None ys ≡ started_after k None xs → Runs script k xs starts line g c → Runs script k ys starts line g c
+runs-same script k xs ys starts line g c answered state begun started r =
+    record {
+      started = r.started ∙ ap (λ i. i + 1) (sym answered);
+      is_line = subst (λ i. stmt_of k (i + 1) script.lines ≡ Some line) (sym answered) r.is_line;
+      command = subst (λ b. is_command b line ≡ true) (sym state) r.command;
+      transaction = ap (λ q. transaction_of q k ys) state ∙ by_state (state_of script k xs) ∙ r.transaction;
+      number = r.number ∙ ap cid_of (sym state);
+    }
+  where
+    by_state : (q : BlockState) → transaction_of q k ys ≡ transaction_of q k xs
+    by_state Outside = ap (λ u. if u then started_after k None ys else None) begun ∙ ap (λ h. if is_begun k xs then h else None) started
+    by_state (InBlock l n) = started
+    by_state Failed = refl
+
+module _ (script : Script) (k : SessionId) (xs ys : List Mark) (starts : ℕ) (line : Stmt) (g : Gxid) (c : Cid) (calm : Each (CalmFor k) ys) where
+  z : Said script k (xs ++ ys) (answer_count k xs) (state_of script k xs) (is_begun k xs) (started_after k None xs)
+  z = said-calm script k xs ys _ _ _ _ (record { answered = refl; state = refl; begun = refl; started = refl }) calm
+
+  pub runs-on : Runs script k xs starts line g c → Runs script k (xs ++ ys) starts line g c
+  runs-on r = runs-same script k xs (xs ++ ys) starts line g c z.answered z.state z.begun z.started r
+
+  pub runs-back : Runs script k (xs ++ ys) starts line g c → Runs script k xs starts line g c
+  runs-back r = runs-same script k (xs ++ ys) xs starts line g c (sym z.answered) (sym z.state) (sym z.begun) (sym z.started) r
+
+pub runs-here : (script : Script) (steps : List Step) (event : Event) (earlier later : List Mark) (k : SessionId) (line : Stmt) (level : Level) (g : Gxid) (c : Cid) → RunsCommand script (record { steps = steps; event = event; earlier = earlier; later = later }) k line level g c → Runs script k (marks_in steps ++ earlier) (starts_in k steps + starts_by k event) line g c
+runs-here script steps event earlier later k line level g c r = record { started = r.line.started; is_line = r.line.line; command = r.command; transaction = r.transaction; number = r.number }
+
 -- it ran so before marks that leave it alone
 ran-before : (script : Script) (steps : List Step) (event : Event) (earlier later : List Mark) (k : SessionId) (line : Stmt) (level : Level) (g : Gxid) (c : Cid) → starts_by k event ≡ 0 → Each (CalmFor k) earlier → RunsCommand script (record { steps = steps; event = event; earlier = earlier; later = later }) k line level g c → Runs script k (marks_in steps) (starts_in k steps) line g c
 ran-before script steps event earlier later k line level g c none calm r =
-    record {
-      started = plus-none (starts_in k steps) (starts_by k event) none ∙ r.line.started ∙ ap (λ i. i + 1) z.answered;
-      is_line = subst (λ i. stmt_of k (i + 1) script.lines ≡ Some line) z.answered r.line.line;
-      command = subst (λ b. is_command b line ≡ true) z.state r.command;
-      transaction = sym (same-transaction (state_of script k ms) (state_of script k (ms ++ earlier)) z.state) ∙ r.transaction;
-      number = r.number ∙ ap cid_of z.state;
-    }
+    subst (λ n. Runs script k (marks_in steps) n line g c) (plus-none (starts_in k steps) (starts_by k event) none)
+    (runs-back script k (marks_in steps) earlier (starts_in k steps + starts_by k event) line g c calm (runs-here script steps event earlier later k line level g c r))
   where
-    plus-none : (a b : ℕ) → b ≡ 0 → a ≡ a + b
+    plus-none : (a b : ℕ) → b ≡ 0 → a + b ≡ a
     plus-none a b e = omega arith
-
-    ms : List Mark
-    ms = marks_in steps
-
-    z : Said script k (marks_in steps ++ earlier) (answer_count k (marks_in steps)) (state_of script k (marks_in steps)) (is_begun k (marks_in steps)) (started_after k None (marks_in steps))
-    z = said-calm script k (marks_in steps) earlier _ _ _ _ (record { answered = refl; state = refl; begun = refl; started = refl }) calm
-
-    same-transaction : (a b : BlockState) → b ≡ a → transaction_of b k (marks_in steps ++ earlier) ≡ transaction_of a k (marks_in steps)
-    same-transaction a b e = subst (λ q. transaction_of q k (marks_in steps ++ earlier) ≡ transaction_of a k (marks_in steps)) (sym e) (by_state a)
-      where
-        by_state : (q : BlockState) → transaction_of q k (marks_in steps ++ earlier) ≡ transaction_of q k (marks_in steps)
-        by_state Outside = ap (λ u. if u then started_after k None (marks_in steps ++ earlier) else None) z.begun ∙ ap (λ h. if is_begun k (marks_in steps) then h else None) z.started
-        by_state (InBlock l n) = z.started
-        by_state Failed = refl
 
 -- the line under way is the coordinator's command
 pub record IsCommandOf (w : Work) (line : Stmt) : Type 0 where
@@ -225,17 +235,18 @@ pub record IsRun (marks : List Mark) (c : Coord) (k : SessionId) (line : Stmt) (
   pub txn : g ≡ (session_of c k).transaction
   pub way : IsCommandOf (work_of c (session_of c k).transaction) line ⊎ IsWaitingOf marks (work_of c (session_of c k).transaction) line (session_of c k).transaction n
 
-pub run-is : (script : Script) (w : World) → ((k : SessionId) → IsSession script k w.steps w.coord) → (event : Event) (earlier later : List Mark) (k : SessionId) (line : Stmt) (level : Level) (g : Gxid) (c : Cid) → starts_by k event ≡ 0 → AreLeftAlone k g earlier → RunsCommand script (record { steps = w.steps; event = event; earlier = earlier; later = later }) k line level g c → IsRun (marks_in w.steps) w.coord k line g c
-run-is script w sessions event earlier later k line level g c none alone runs = record { txn = its.0; way = its.1 }
+pub run-between : (script : Script) (w : World) → ((k : SessionId) → IsSession script k w.steps w.coord) → (k : SessionId) (line : Stmt) (g : Gxid) (c : Cid) → Runs script k (marks_in w.steps) (starts_in k w.steps) line g c → IsRun (marks_in w.steps) w.coord k line g c
+run-between script w sessions k line g c r = record { txn = its.0; way = its.1 }
   where
     h : Gxid
     h = (session_of w.coord k).transaction
 
-    r : Runs script k (marks_in w.steps) (starts_in k w.steps) line g c
-    r = ran-before script w.steps event earlier later k line level g c none (calm-for k g earlier alone) runs
-
     its : (g ≡ (session_of w.coord k).transaction) × (IsCommandOf (work_of w.coord (session_of w.coord k).transaction) line ⊎ IsWaitingOf (marks_in w.steps) (work_of w.coord (session_of w.coord k).transaction) line (session_of w.coord k).transaction c)
-    its = standing-so script k (marks_in w.steps) w.coord.table.next.0 (starts_in k w.steps) (session_of w.coord k).lines line g (session_of w.coord k).transaction c (work_of w.coord (session_of w.coord k).transaction) r (sessions k).starts (session_of w.coord k).state.block (session_of w.coord k).state.pending _ (sessions k).stands
+    its = standing-so script k (marks_in w.steps) w.coord.table.next.0 (starts_in k w.steps) (session_of w.coord k).lines line g h c (work_of w.coord h) r (sessions k).starts (session_of w.coord k).state.block (session_of w.coord k).state.pending _ (sessions k).stands
+
+pub run-is : (script : Script) (w : World) → ((k : SessionId) → IsSession script k w.steps w.coord) → (event : Event) (earlier later : List Mark) (k : SessionId) (line : Stmt) (level : Level) (g : Gxid) (c : Cid) → starts_by k event ≡ 0 → AreLeftAlone k g earlier → RunsCommand script (record { steps = w.steps; event = event; earlier = earlier; later = later }) k line level g c → IsRun (marks_in w.steps) w.coord k line g c
+run-is script w sessions event earlier later k line level g c none alone runs =
+    run-between script w sessions k line g c (ran-before script w.steps event earlier later k line level g c none (calm-for k g earlier alone) runs)
 
 -- a wait is among the waits
 wait-in : (g : Gxid) (waits : List Claim) (wanted : Claim) → find (is_of g) waits ≡ Some wanted → IsIn waits wanted

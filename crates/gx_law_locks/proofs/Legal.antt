@@ -6,8 +6,10 @@ use Rattle.gx_store.specs.Language.{AreLinesNumbered}
 use Rattle.gx_rules.specs.Machine.{world_of}
 use Rattle.gx_law_locks.specs.Legal.{AreLocksLegal}
 use Rattle.gx_law_writes.proofs.World.{world-holds}
-use Rattle.gx_law_locks.proofs.Orders.{world-orders}
-use Rattle.gx_law_locks.proofs.World.{world-exclusive, world-lasting, world-locked}
+use Rattle.gx_law_holds.proofs.Orders.{world-orders}
+use Rattle.gx_law_holds.proofs.World.{world-exclusive, world-lasting, world-locked}
+use Rattle.gx_law_schedules.proofs.Marked.{waits-legal}
+use Rattle.gx_law_locks.proofs.Reading.{reads-held}
 use Rattle.gx_law_locks.proofs.Told.{answers-held}
 use Rattle.gx_law_locks.proofs.Writes.{under-steps}
 
@@ -16,9 +18,11 @@ locks-legal script some numbered es =
     let l = world-locked script some es in
     record {
       granted = l.granted;
+      waits = waits-legal script some es;
       exclusive = world-exclusive script some es;
       late = l.late;
       lasting = world-lasting script some es;
       answers = answers-held script some es;
+      reading = reads-held script some es;
       writes = under-steps script [] (world_of script es).steps (world-holds script some numbered es).legal (world-orders script some es).writes;
     }

@@ -1,15 +1,8 @@
-pub mod Marks
-pub mod Released
-pub mod AtSegments
-pub mod AtCoordinators
-pub mod World
-pub mod Lasting
-pub mod Going
-pub mod AtWrites
-pub mod Orders
 pub mod Writes
 pub mod Legal
 pub mod Commands
 pub mod Unsent
 pub mod Answering
 pub mod Told
+pub mod Shapes
+pub mod Reading

@@ -1,5 +1,5 @@
 -- Over every run of the machine, a command that succeeds holds its table at its answer's point.
-use Rattle.std.proofs.Common.{◌≡◌, ◌≤◌, ◌⊎◌, inl, inr, ℕ, ◌+◌, List, [], ◌∷◌, ◌++◌, Option, Some, None, Bool, true, false, refl, sym, subst, ap, ◌∙◌, if◌then◌else◌, append_assoc, append-nil, arith, ◌&&◌}
+use Rattle.std.proofs.Common.{◌≡◌, ◌≤◌, ◌⊎◌, inl, inr, ℕ, ◌+◌, List, [], ◌∷◌, ◌++◌, Option, Some, None, Bool, true, refl, sym, subst, ap, ◌∙◌, if◌then◌else◌, append_assoc, append-nil, arith}
 use Rattle.std.proofs.lemmas.Bool.{and_parts}
 use Rattle.gx_lemmas.proofs.Numbers.{eqb-self, one-le-zero}
 use Rattle.gx_lemmas.proofs.Options.{some-same}
@@ -9,6 +9,7 @@ use Rattle.gx_ids.specs.declared.ids.Node.{Node}
 use Rattle.gx_ids.specs.declared.ids.SessionId.{SessionId}
 use Rattle.gx_tree.specs.declared.stmt.Level.{Level}
 use Rattle.gx_tree.specs.declared.stmt.Stmt.{Stmt}
+use Rattle.gx_tree.specs.declared.stmt.Stmt.TheVariants as stmt
 use Rattle.gx_waits.specs.declared.claim.Claim.{Claim}
 use Rattle.gx_msg.specs.declared.message.Envelope.{Envelope}
 use Rattle.gx_script.specs.declared.Script.{Script}
@@ -48,10 +49,11 @@ use Rattle.gx_law_schedules.proofs.Steps.{IsAt, IsHere, always}
 use Rattle.gx_law_sessions.proofs.World.{sessions-stand}
 use Rattle.gx_law_sessions.specs.Rest.{EachMark}
 use Rattle.gx_law_sessions.specs.Standing.{IsStanding, waits}
-use Rattle.gx_law_locks.specs.Commands.{AnswerHolds, AreAnswersHeld, AreLeftAlone, HoldsTableOf, HoldsWhenTold}
+use Rattle.gx_law_locks.specs.Commands.{AnswerHolds, AreAnswersHeld, AreLeftAlone, HoldsAsMeant, HoldsTableOf, HoldsWhenTold}
 use Rattle.gx_law_locks.proofs.Answering.{AtOnce, Dull, IsHome, IsRefusal, IsServed, NoAnswer, OneAnswer, Starts, end-none, line-starts, message-deals, one-more, resume-refuses}
 use Rattle.gx_law_locks.proofs.Commands.{IsCommandOf, IsRun, IsWaitingOf, out-holds, run-is}
-use Rattle.gx_law_locks.proofs.Orders.{world-orders}
+use Rattle.gx_law_order.proofs.World.{world_knows}
+use Rattle.gx_law_holds.proofs.Orders.{world-orders}
 use Rattle.gx_msg.specs.declared.message.Out.{Out}
 
 -- MARKS
@@ -60,16 +62,27 @@ none-told script steps e earlier [] later h = tt
 none-told script steps e earlier (mark.Answer s n a ∷ ms) later h = absurd h.0
 none-told script steps e earlier (m ∷ ms) later h = (tt, none-told script steps e (earlier ++ m ∷ []) ms later h.1)
 
+-- what the rule takes is what is meant
+pub as-meant : (script : Script) (marks : List Mark) (g : Gxid) (line : Stmt) → HoldsTableOf marks g line → HoldsAsMeant script marks g line
+as-meant script marks g (stmt.Select query) h = h _ refl
+as-meant script marks g (stmt.Insert table tuples) h = h _ refl
+as-meant script marks g (stmt.Lock table mode) h = h _ refl
+as-meant script marks g (stmt.Update table assigns cond) h = tt
+as-meant script marks g (stmt.Delete table cond) h = tt
+as-meant script marks g (stmt.Begin level) h = tt
+as-meant script marks g stmt.Commit h = tt
+as-meant script marks g stmt.Rollback h = tt
+
 told-so : (script : Script) (point : Point) (s : SessionId) (a : StmtAnswer) → ((line : Stmt) (level : Level) (g : Gxid) (c : Cid) → RunsCommand script point s line level g c → HoldsTableOf (before point) g line) → HoldsWhenTold script point s a
 told-so script point s (told.Refused reason) f = tt
-told-so script point s told.Begin f = f
-told-so script point s told.Commit f = f
-told-so script point s told.Rollback f = f
-told-so script point s (told.Rows rows) f = f
-told-so script point s (told.Inserted n) f = f
-told-so script point s (told.Updated n) f = f
-told-so script point s (told.Deleted n) f = f
-told-so script point s told.Locked f = f
+told-so script point s told.Begin f = λ line level g c r. as-meant script (before point) g line (f line level g c r)
+told-so script point s told.Commit f = λ line level g c r. as-meant script (before point) g line (f line level g c r)
+told-so script point s told.Rollback f = λ line level g c r. as-meant script (before point) g line (f line level g c r)
+told-so script point s (told.Rows rows) f = λ line level g c r. as-meant script (before point) g line (f line level g c r)
+told-so script point s (told.Inserted n) f = λ line level g c r. as-meant script (before point) g line (f line level g c r)
+told-so script point s (told.Updated n) f = λ line level g c r. as-meant script (before point) g line (f line level g c r)
+told-so script point s (told.Deleted n) f = λ line level g c r. as-meant script (before point) g line (f line level g c r)
+told-so script point s told.Locked f = λ line level g c r. as-meant script (before point) g line (f line level g c r)
 
 refused-so : (script : Script) (point : Point) (s : SessionId) (a : StmtAnswer) → IsRefusal a → HoldsWhenTold script point s a
 refused-so script point s (told.Refused reason) f = tt

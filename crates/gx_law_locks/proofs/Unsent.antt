@@ -25,8 +25,8 @@ use Rattle.gx_law_order.proofs.World.{Knows, marks-last}
 use Rattle.gx_law_commit.specs.Said.{SaidAt, SaidIn, segment_of}
 use Rattle.gx_law_commit.specs.Standings.{at}
 use Rattle.gx_law_commit.proofs.Everywhere.{Holds}
-use Rattle.gx_law_reads.proofs.Low.{live-standing}
-use Rattle.gx_law_reads.proofs.Steps.{world-keeps}
+use Rattle.gx_law_reads.proofs.Low.{drawn-is, live-standing}
+use Rattle.gx_law_commit.proofs.Steps.{world-keeps}
 use Rattle.gx_law_locks.specs.Commands.{AreUnsent, IsOther}
 
 -- a message that is sent is among these letters
@@ -67,6 +67,12 @@ module _ (script : Script) (some : 1 ≤ script.segments) where
       (λ w k v q e x fails i place h. one-more w (at i) (clock_after (w.segs i).clock x) (record { stamp = record { clock = clock_after (w.segs i).clock x; node = at i }; event = e; marks = (seg_rule script (w.segs i) x fails).marks }) q)
       tt
 
+-- none of the messages is the command's
+pub unsent-by : (w : World) (g : Gxid) (c : Cid) → Each (SaidIn w) w.sent → ((l : Letter) → SaidIn w l → (m : Message) → l.envelope.message ≡ m → IsOther g c m) → (ms : List Mark) → Each (HasLetter w.sent) ms → AreUnsent g c ms
+unsent-by w g c said other [] h = tt
+unsent-by w g c said other (mark.Sent to number m ∷ ms) h = (other h.0.0 (each-among (SaidIn w) w.sent h.0.0 said h.0.1) m h.0.2, unsent-by w g c said other ms h.1)
+unsent-by w g c said other (m ∷ ms) h = (tt, unsent-by w g c said other ms h.1)
+
 -- of a live transaction, the command after its last
 module _ (script : Script) (w : World) (k : Knows script w) (v : Holds script w) (g : Gxid) (c : Cid) (live : stage_of w.coord g.0 ≡ Live) (next : (w.coord.works g.0).last < c.0) where
   other : (l : Letter) → SaidIn w l → (m : Message) → l.envelope.message ≡ m → IsOther g c m
@@ -86,10 +92,26 @@ module _ (script : Script) (w : World) (k : Knows script w) (v : Holds script w)
   other l s (message.Answer h r) e = tt
   other l s (message.Graph round graph) e = tt
 
-  all-unsent : (ms : List Mark) → Each (HasLetter w.sent) ms → AreUnsent g c ms
-  all-unsent [] h = tt
-  all-unsent (mark.Sent to number m ∷ ms) h = (other h.0.0 (each-among (SaidIn w) w.sent h.0.0 v.said h.0.1) m h.0.2, all-unsent ms h.1)
-  all-unsent (m ∷ ms) h = (tt, all-unsent ms h.1)
-
   pub next-unsent : Each (HasLetter w.sent) (marks_in w.steps) → AreUnsent g c (marks_in w.steps)
-  next-unsent h = all-unsent (marks_in w.steps) h
+  next-unsent h = unsent-by w g c v.said other (marks_in w.steps) h
+
+-- of a transaction that isn't drawn yet, any command
+module _ (script : Script) (w : World) (k : Knows script w) (v : Holds script w) (g : Gxid) (c : Cid) (undrawn : w.coord.table.next.0 ≤ g.0) where
+  other-drawn : (l : Letter) → SaidIn w l → (m : Message) → l.envelope.message ≡ m → IsOther g c m
+  other-drawn l s (message.Exec h d level x y z) e =
+      λ its. let said = subst (SaidAt w.coord w.segs (marks_in w.steps) (segment_of l)) e s in
+      over h.0 g.0 w.coord.table.next.0 (drawn-is script w k h.0 (segment_of l) said.drawn) undrawn (ap (λ (x : Gxid). x.0) its.0)
+    where
+      over : (h g n : ℕ) → h < n → n ≤ g → h ≡ g → ⊥
+      over h g n l m e = omega arith
+  other-drawn l s (message.Prepare h) e = tt
+  other-drawn l s (message.Commit h) e = tt
+  other-drawn l s (message.CommitPrepared h) e = tt
+  other-drawn l s (message.Abort h) e = tt
+  other-drawn l s (message.Forget h) e = tt
+  other-drawn l s (message.Collect round) e = tt
+  other-drawn l s (message.Answer h r) e = tt
+  other-drawn l s (message.Graph round graph) e = tt
+
+  pub new-unsent : Each (HasLetter w.sent) (marks_in w.steps) → AreUnsent g c (marks_in w.steps)
+  new-unsent h = unsent-by w g c v.said other-drawn (marks_in w.steps) h

@@ -1,5 +1,5 @@
 -- A write is of a transaction that runs, or has aborted.
-use Rattle.std.proofs.Common.{◌≡◌, inl, inr, List, [], ◌∷◌, ◌++◌, Bool, true, false, sym, subst, append_assoc, append-nil, arith}
+use Rattle.std.proofs.Common.{◌≡◌, inl, inr, List, [], ◌∷◌, ◌++◌, false, sym, subst, append_assoc, append-nil}
 use Rattle.gx_lemmas.proofs.Tests.{true-false}
 use Rattle.gx_script.specs.declared.Script.{Script}
 use Rattle.gx_store.specs.declared.event.Event.{Event}
@@ -13,7 +13,7 @@ use Rattle.gx_store.specs.Writes.{LegalWrite}
 use Rattle.gx_store.specs.Locks.{WritesUnderLock}
 use Rattle.gx_law_sessions.specs.Rest.{EachMark}
 use Rattle.gx_law_writes.specs.Writes.{AreWritesLegal, WriteLegal}
-use Rattle.gx_law_locks.specs.Writes.{AreWritesLocked, AreWritesUnderLock}
+use Rattle.gx_law_holds.specs.Writes.{AreWritesLocked, AreWritesUnderLock}
 
 front : (script : Script) (before xs ys : List Mark) → AreWritesLocked script before (xs ++ ys) → AreWritesLocked script before xs
 front script before [] ys e = tt

@@ -6,6 +6,7 @@ use Rattle.gx_ids.specs.declared.ids.Gxid.{Gxid}
 use Rattle.gx_ids.specs.declared.ids.SessionId.{SessionId}
 use Rattle.gx_tree.specs.declared.stmt.Level.{Level}
 use Rattle.gx_tree.specs.declared.stmt.Stmt.{Stmt}
+use Rattle.gx_tree.specs.declared.stmt.Stmt.TheVariants as stmt
 use Rattle.gx_waits.specs.Claim.{same_claim}
 use Rattle.gx_waits.specs.declared.claim.Claim.{Claim}
 use Rattle.gx_msg.specs.declared.message.Message.{Message}
@@ -16,6 +17,7 @@ use Rattle.gx_store.specs.declared.mark.Mark.{Mark}
 use Rattle.gx_store.specs.declared.mark.Mark.TheVariants.{Answer, Release, Sent, Start}
 use Rattle.gx_store.specs.declared.run.Step.{Step}
 use Rattle.gx_store.specs.Commands.{RunsCommand}
+use Rattle.gx_store.specs.Locks.{HasGoneOut, HoldsTable}
 use Rattle.gx_store.specs.Marks.{is_same_gxid, is_same_session, is_snapped}
 use Rattle.gx_store.specs.Points.{Point, before, marks_in, starts_by}
 use Rattle.gx_store.specs.Refusals.{the_coordinator}
@@ -72,10 +74,16 @@ DoCommandsHold script steps =
     → RunsCommand script (record { steps = steps; event = event; earlier = earlier; later = later }) session line level g c
     → HoldsTableOf (marks_in steps ++ earlier) g line ⊎ (AwaitsTable (marks_in steps ++ earlier) g line × HasNotGoneOut (marks_in steps) g c)
 
+-- the transaction holds at the coordinator what its statement is to hold there; those that change rows take no lock yet
+abbrev pub HoldsAsMeant : Script → List Mark → Gxid → Stmt → Type 0
+HoldsAsMeant script marks g (stmt.Update table assigns cond) = Unit {0}
+HoldsAsMeant script marks g (stmt.Delete table cond) = Unit {0}
+HoldsAsMeant script marks g line = HoldsTable script marks g line
+
 -- a command that succeeds holds its table at its answer's point
 abbrev pub HoldsWhenTold : Script → Point → SessionId → StmtAnswer → Type 0
 HoldsWhenTold script point session (Refused reason) = Unit {0}
-HoldsWhenTold script point session answer = (line : Stmt) (level : Level) (g : Gxid) (c : Cid) → RunsCommand script point session line level g c → HoldsTableOf (before point) g line
+HoldsWhenTold script point session answer = (line : Stmt) (level : Level) (g : Gxid) (c : Cid) → RunsCommand script point session line level g c → HoldsAsMeant script (before point) g line
 
 abbrev pub AnswerHolds : Script → Point → Mark → Type 0
 AnswerHolds script point (Answer session number answer) = HoldsWhenTold script point session answer
@@ -84,3 +92,18 @@ AnswerHolds script point _ = Unit {0}
 abbrev pub AreAnswersHeld : Script → List Step → List Step → Type 0
 AreAnswersHeld script before [] = Unit {0}
 AreAnswersHeld script before (s ∷ ss) = EachMark (AnswerHolds script) before s.event [] s.marks [] × AreAnswersHeld script (before ++ s ∷ []) ss
+
+-- at each point of a step, also behind its last mark
+abbrev pub EachPoint : (Point → Type 0) → List Step → Event → List Mark → List Mark → Type 0
+EachPoint P steps event earlier [] = P (record { steps = steps; event = event; earlier = earlier; later = [] })
+EachPoint P steps event earlier (m ∷ ms) = P (record { steps = steps; event = event; earlier = earlier; later = ms }) × EachPoint P steps event (earlier ++ m ∷ []) ms
+
+-- from its own snapshot, or from its first sending, to its answer, a command holds its table
+abbrev pub HoldsWhileReading : Script → Point → Type 0
+HoldsWhileReading script point =
+    (session : SessionId) (line : Stmt) (level : Level) (g : Gxid) (c : Cid) → RunsCommand script point session line level g c
+    → (is_snapped (before point) g c ≡ true) ⊎ HasGoneOut (before point) g c → HoldsAsMeant script (before point) g line
+
+abbrev pub AreReadsHeld : Script → List Step → List Step → Type 0
+AreReadsHeld script before [] = Unit {0}
+AreReadsHeld script before (s ∷ ss) = EachPoint (HoldsWhileReading script) before s.event [] s.marks × AreReadsHeld script (before ++ s ∷ []) ss

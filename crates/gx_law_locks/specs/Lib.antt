@@ -1,7 +1,2 @@
-pub mod Held
-pub mod Late
-pub mod Lasting
-pub mod Orders
-pub mod Writes
 pub mod Legal
 pub mod Commands

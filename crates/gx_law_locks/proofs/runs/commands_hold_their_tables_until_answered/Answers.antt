@@ -3,7 +3,7 @@ use Rattle.gx_law_schedules.proofs.Marked.{locks-marked}
 use Rattle.gx_law_sessions.proofs.World.{sessions-stand}
 use Rattle.gx_rules.specs.Machine.{world_of}
 use Rattle.gx_law_locks.proofs.Commands.{commands-hold}
-use Rattle.gx_law_locks.proofs.Orders.{world-orders}
+use Rattle.gx_law_holds.proofs.Orders.{world-orders}
 use Rattle.gx_law_locks.proofs.Unsent.{next-unsent, world-has}
 use Rattle.gx_law_commit.proofs.Always.{world-holds}
 use Rattle.gx_law_locks.proofs.runs.commands_hold_their_tables_until_answered.Goals as goal

@@ -29,8 +29,8 @@ use Rattle.gx_rules.specs.Segments.Phase.{Aborted, Committed, Forgotten, Prepare
 use Rattle.gx_rules.specs.Shown.{shown}
 use Rattle.gx_rules.specs.Slices.{Moved, first_fault, inserts_row, requests, runs_locked, runs_slice, selects, slice_lock, suspends}
 use Rattle.gx_law_order.proofs.Lists.{Each, each_append}
-use Rattle.gx_law_locks.proofs.Marks.{Locking, Quiet, both, grant, quiet}
-use Rattle.gx_law_locks.proofs.Released.{gives-back}
+use Rattle.gx_law_holds.proofs.Marks.{Locking, Quiet, both, grant, quiet}
+use Rattle.gx_law_holds.proofs.Released.{gives-back}
 
 -- a turn that leaves the locks as they are
 pub record LeavesLocks (l : Locks) (turn : SegTurn) : Type 0 where
@@ -57,7 +57,11 @@ slice_runs t g c (Some snapshot) (slice.Select q) = select t g c q (shown t snap
 slice_runs t g c (Some snapshot) (slice.Insert table rows) =
     let f = insert_rows t.locks g c table rows (record { seg = t; marks = [] }) (record { locks = refl; marks = tt }) in
     record { locks = f.locks; marks = f.marks }
-slice_runs t g c snapshot x = record { locks = refl; marks = tt }
+slice_runs t g c None (slice.Select q) = record { locks = refl; marks = tt }
+slice_runs t g c None (slice.Insert table rows) = record { locks = refl; marks = tt }
+slice_runs t g c snapshot (slice.Lock table mode) = record { locks = refl; marks = tt }
+slice_runs t g c snapshot (slice.Update table assigns cond) = record { locks = refl; marks = tt }
+slice_runs t g c snapshot (slice.Delete table cond) = record { locks = refl; marks = tt }
 
 -- who is told to end has its Commit or Abort mark
 abbrev pub IsEndedFor : List Mark → Message → Type 0

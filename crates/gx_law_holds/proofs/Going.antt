@@ -31,8 +31,8 @@ use Rattle.gx_rules.specs.Slices.{slice_lock}
 use Rattle.gx_law_order.proofs.Waiting.{GoesOut}
 use Rattle.gx_law_order.proofs.Lists.{Each, each_flat, each_map, each_weaker}
 use Rattle.gx_law_sessions.proofs.Outs.{IsBare, NoExec, abort-bare, commit-bare, reply-bare}
-use Rattle.gx_law_locks.proofs.Lasting.{IsIn, in-added, in-new, in-released}
-use Rattle.gx_law_locks.proofs.Released.{each-of}
+use Rattle.gx_law_holds.proofs.Lasting.{IsIn, in-added, in-new, in-released}
+use Rattle.gx_law_holds.proofs.Released.{each-of}
 use Rattle.gx_ids.specs.declared.ids.Cid.{Cid}
 use Rattle.gx_ids.specs.declared.ids.Gxid.{Gxid}
 use Rattle.gx_ids.specs.declared.ids.Node.{Node}
@@ -108,14 +108,20 @@ own-gxid g (slice.Select query) wanted e = ap (λ (c : Claim). c.gxid) (sym (som
 own-gxid g (slice.Insert table rows) wanted e = ap (λ (c : Claim). c.gxid) (sym (some-same _ wanted e))
 own-gxid g (slice.Update table assigns cond) wanted e = absurd (cc)
 own-gxid g (slice.Delete table cond) wanted e = absurd (cc)
-own-gxid g (slice.Lock table mode) wanted e = absurd (cc)
+own-gxid g (slice.Lock table mode) wanted e = ap (λ (c : Claim). c.gxid) (sym (same _ wanted e))
+  where
+    same : (a b : Claim) → Some a ≡ Some b → a ≡ b
+    same a b q = cc
 
 pub own-line : (g : Gxid) (line : Stmt) (wanted : Claim) → lock_for g line ≡ Some wanted → wanted.gxid ≡ g
 own-line g (stmt.Select query) wanted e = ap (λ (c : Claim). c.gxid) (sym (some-same _ wanted e))
 own-line g (stmt.Insert table tuples) wanted e = ap (λ (c : Claim). c.gxid) (sym (some-same _ wanted e))
 own-line g (stmt.Update table assigns cond) wanted e = absurd (cc)
 own-line g (stmt.Delete table cond) wanted e = absurd (cc)
-own-line g (stmt.Lock table mode) wanted e = absurd (cc)
+own-line g (stmt.Lock table mode) wanted e = ap (λ (c : Claim). c.gxid) (sym (same _ wanted e))
+  where
+    same : (a b : Claim) → Some a ≡ Some b → a ≡ b
+    same a b q = cc
 own-line g (stmt.Begin level) wanted e = absurd (cc)
 own-line g stmt.Commit wanted e = absurd (cc)
 own-line g stmt.Rollback wanted e = absurd (cc)

@@ -43,8 +43,8 @@ use Rattle.gx_rules.specs.Fits.{fits_part}
 use Rattle.gx_rules.specs.Locks.{hold_mark, release_marks, with_hold}
 use Rattle.gx_waits.specs.declared.claim.Claim.{Claim}
 use Rattle.gx_law_order.proofs.Lists.{Each, each_append}
-use Rattle.gx_law_locks.proofs.Marks.{Locking, Quiet, both, ended-behind, grant, quiet}
-use Rattle.gx_law_locks.proofs.Released.{gives-back}
+use Rattle.gx_law_holds.proofs.Marks.{Locking, Quiet, both, ended-behind, grant, quiet}
+use Rattle.gx_law_holds.proofs.Released.{gives-back}
 
 abbrev pub Holding : List Mark → Coord → CoordTurn → Type 0
 Holding before c turn = Locking the_coordinator before c.locks.holds turn.marks turn.coord.locks.holds

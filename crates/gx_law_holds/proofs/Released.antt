@@ -23,8 +23,8 @@ use Rattle.gx_store.specs.Marks.{is_ended}
 use Rattle.gx_store.specs.Waits.{holds_from, without}
 use Rattle.gx_rules.specs.Locks.{claim_order, has_there, release_mark, release_marks}
 use Rattle.gx_law_order.proofs.Lists.{Each, each_append, each_weaker}
-use Rattle.gx_law_locks.specs.Late.{AreReleasesLate}
-use Rattle.gx_law_locks.proofs.Marks.{AreFree, Locking, ended-more, node-itself}
+use Rattle.gx_law_holds.specs.Late.{AreReleasesLate}
+use Rattle.gx_law_holds.proofs.Marks.{AreFree, Locking, ended-more, node-itself}
 
 -- A LIST IN ORDER HAS THE SAME ITEMS
 or-swap : (a b c : Bool) → (a || (b || c)) ≡ (b || (a || c))

@@ -44,21 +44,21 @@ use Rattle.gx_law_order.proofs.World.{Knows, marks-last}
 use Rattle.gx_law_commit.proofs.Always.{each-zip}
 use Rattle.gx_law_commit.proofs.Counts.{NoSent}
 use Rattle.gx_law_commit.proofs.Everywhere.{Holds, posted-each}
-use Rattle.gx_law_reads.proofs.Steps.{HeardAt, IsGiven, SaidTo, given-is, world-keeps}
-use Rattle.gx_law_locks.specs.Late.{AreReleasesLate}
-use Rattle.gx_law_locks.specs.Orders.{AreLockedOrders, AreOrdersLocked, IsLockedOrder}
-use Rattle.gx_law_locks.specs.Writes.{AreWritesLocked}
-use Rattle.gx_law_locks.proofs.AtWrites.{AreWritesHeld, MessageHas, Writes, message_writes, none-held, resume_writes}
-use Rattle.gx_law_locks.proofs.Going.{AreLocked, Going, GoneOut, Locked, LockedOut, event-goes, own-gxid}
+use Rattle.gx_law_commit.proofs.Steps.{HeardAt, IsGiven, SaidTo, given-is, world-keeps}
+use Rattle.gx_law_holds.specs.Late.{AreReleasesLate}
+use Rattle.gx_law_holds.specs.Orders.{AreLockedOrders, AreOrdersLocked, IsLockedOrder}
+use Rattle.gx_law_holds.specs.Writes.{AreWritesLocked}
+use Rattle.gx_law_holds.proofs.AtWrites.{AreWritesHeld, MessageHas, Writes, message_writes, none-held, resume_writes}
+use Rattle.gx_law_holds.proofs.Going.{AreLocked, Going, GoneOut, Locked, LockedOut, event-goes, own-gxid}
 use Rattle.gx_law_order.proofs.Waiting.{GoesOn, HasCome, each-among, goes-on-is, going-on, going-out}
-use Rattle.gx_law_locks.proofs.Lasting.{IsIn, late-behind, still-held}
-use Rattle.gx_law_locks.proofs.Marks.{ended-more, other-holds}
-use Rattle.gx_law_locks.proofs.Released.{each-of}
-use Rattle.gx_law_locks.proofs.World.{coord-keeps, new-locked, seg-keeps}
-use Rattle.gx_law_locks.proofs.World as world
+use Rattle.gx_law_holds.proofs.Lasting.{IsIn, late-behind, still-held}
+use Rattle.gx_law_holds.proofs.Marks.{ended-more, other-holds}
+use Rattle.gx_law_holds.proofs.Released.{each-of}
+use Rattle.gx_law_holds.proofs.World.{coord-keeps, new-locked, seg-keeps}
+use Rattle.gx_law_holds.proofs.World as world
 
 -- MARKS
-ended-less : (xs ys : List Mark) (g : Gxid) → is_ended (xs ++ ys) g ≡ false → is_ended xs g ≡ false
+pub ended-less : (xs ys : List Mark) (g : Gxid) → is_ended (xs ++ ys) g ≡ false → is_ended xs g ≡ false
 ended-less xs ys g e = by_test (is_ended xs g) refl
   where
     by_test : (b : Bool) → is_ended xs g ≡ b → b ≡ false
@@ -92,7 +92,7 @@ order-now holds marks same (message.Collect round) l = tt
 order-now holds marks same (message.Answer g r) l = tt
 order-now holds marks same (message.Graph round graph) l = tt
 
-order-still : (marks ms : List Mark) → AreReleasesLate marks ms → (m : Message) → IsLockedOrder marks m → IsLockedOrder (marks ++ ms) m
+pub order-still : (marks ms : List Mark) → AreReleasesLate marks ms → (m : Message) → IsLockedOrder marks m → IsLockedOrder (marks ++ ms) m
 order-still marks ms late (message.Exec g c level x h slice) l =
     λ run wanted e. still-held the_coordinator wanted marks ms late (subst (λ (k : Gxid). is_ended (marks ++ ms) k ≡ false) (sym (own-gxid g slice wanted e)) run) (l (ended-less marks ms g run) wanted e)
 order-still marks ms late (message.Prepare g) l = tt

@@ -19,9 +19,10 @@ use Rattle.gx_store.specs.declared.mark.Mark.{Mark}
 use Rattle.gx_store.specs.declared.mark.Mark.TheVariants as mark
 use Rattle.gx_store.specs.Marks.{is_ended}
 use Rattle.gx_store.specs.Waits.{added, claim, holds_at, is_held, without}
-use Rattle.gx_law_locks.specs.Late.{AreReleasesLate}
-use Rattle.gx_law_locks.proofs.Marks.{ended-more, node-itself}
-use Rattle.gx_law_locks.proofs.Released.{claim-itself}
+use Rattle.gx_law_order.proofs.Lists.{Each}
+use Rattle.gx_law_holds.specs.Late.{AreReleasesLate}
+use Rattle.gx_law_holds.proofs.Marks.{Quiet, ended-more, node-itself, quiet-holds}
+use Rattle.gx_law_holds.proofs.Released.{claim-itself}
 
 abbrev pub IsIn : List Claim → Claim → Type 0
 IsIn holds c = list_any (same_claim c) holds ≡ true
@@ -115,3 +116,9 @@ holds-last before later node g object mode e f =
     (subst (λ b. is_ended b g ≡ false) (sym (append_assoc before (mark.Hold node g object mode ∷ []) later)) f)
     (subst (λ xs. IsIn xs (claim g object mode)) (sym (holds_from-append node [] before (mark.Hold node g object mode ∷ [])))
     (subst (λ b. IsIn (if b then added (claim g object mode) (holds_at before node) else holds_at before node) (claim g object mode)) (sym (node-itself node)) (in-new (claim g object mode) (holds_at before node)))))
+
+-- a grant stands behind marks that change no hold
+pub granted-held : (before ms : List Mark) (node : Node) (g : Gxid) (object : Object) (mode : Mode) → Each Quiet ms → is_held (before ++ mark.Hold node g object mode ∷ ms) node g object mode ≡ true
+granted-held before ms node g object mode quiet =
+    subst (λ hs. IsIn hs (claim g object mode)) (sym (holds_from-append node [] before (mark.Hold node g object mode ∷ ms) ∙ quiet-holds node (if node.0 == node.0 then added (claim g object mode) (holds_at before node) else holds_at before node) ms quiet))
+    (subst (λ b. IsIn (if b then added (claim g object mode) (holds_at before node) else holds_at before node) (claim g object mode)) (sym (node-itself node)) (in-new (claim g object mode) (holds_at before node)))

@@ -8,8 +8,8 @@ use Rattle.gx_waits.specs.declared.object.Object.TheVariants.{Relation}
 use Rattle.gx_locks.specs.Locks.{is_free, resumed}
 use Rattle.gx_store.specs.Waits.{added, claim, holds_from}
 use Rattle.gx_rules.specs.Locks.{has_there, release_mark, with_hold}
-use Rattle.gx_law_locks.proofs.Lasting.{IsIn, in-new}
-use Rattle.gx_law_locks.proofs.Marks.{node-itself}
+use Rattle.gx_law_holds.proofs.Lasting.{IsIn, in-new}
+use Rattle.gx_law_holds.proofs.Marks.{node-itself}
 use Rattle.gx_msg.specs.declared.message.Out.{Out}
 use Rattle.gx_rules.specs.Sending.{counted, numbered}
 use Rattle.std.specs.Prelude.{fold}
@@ -130,12 +130,13 @@ module _ (script : Script) (P : Gxid → Table → Type 0) (s : Seg) where
   starts : (h g : Gxid) (c : Cid) (level : Level) (snapshot : Option Snapshot) (x : Slice) → SliceHas P g x → Writes (requests (raised s h) g c level snapshot x (slice_lock g x))
   starts h g c level snapshot (slice.Select q) p = select_locked (raised s h) g c level snapshot q (is_free s.locks.holds (claim g (Relation q.table) AccessShare)) refl refl
   starts h g c level snapshot (slice.Insert table rows) p = insert_locked (raised s h) g c level snapshot table rows (is_free s.locks.holds (claim g (Relation table) RowExclusive)) refl p
-  starts h g c level None (slice.Update table assigns cond) p = tt
-  starts h g c level None (slice.Delete table cond) p = tt
-  starts h g c level None (slice.Lock table mode) p = tt
-  starts h g c level (Some snapshot) (slice.Update table assigns cond) p = tt
-  starts h g c level (Some snapshot) (slice.Delete table cond) p = tt
-  starts h g c level (Some snapshot) (slice.Lock table mode) p = tt
+  starts h g c level snapshot (slice.Update table assigns cond) p = tt
+  starts h g c level snapshot (slice.Delete table cond) p = tt
+  starts h g c level snapshot (slice.Lock table mode) p = by_test (is_free s.locks.holds (claim g (Relation table) mode))
+    where
+      by_test : (b : Bool) → Writes (if b then runs_locked (raised s h) g c snapshot (slice.Lock table mode) (claim g (Relation table) mode) else suspends (raised s h) g c level snapshot (slice.Lock table mode) (claim g (Relation table) mode))
+      by_test true = tt
+      by_test false = tt
 
   -- behind a wait
   pub resume_writes : (g : Gxid) (wanted : Claim) (x : Suspended) (y : Slice) → slice_lock g y ≡ Some wanted → SliceHas P g y → Writes (resumes s g (Some wanted) (Some (record x { slice = y })))
@@ -150,7 +151,7 @@ module _ (script : Script) (P : Gxid → Table → Type 0) (s : Seg) where
       free w = record (with_local s g (record (local_of s g) { suspended = None })) { locks = resumed s.locks g (Some w) }
   resume_writes g wanted x (slice.Update table assigns cond) e p = absurd (cc)
   resume_writes g wanted x (slice.Delete table cond) e p = absurd (cc)
-  resume_writes g wanted x (slice.Lock table mode) e p = absurd (cc)
+  resume_writes g wanted x (slice.Lock table mode) e p = tt
 
   repeat : (g : Gxid) (c : Cid) (l : Local) → Writes (repeats s g c l)
   repeat g c l = either (c.0 == l.last) _ _ (kept g l.answer) stay

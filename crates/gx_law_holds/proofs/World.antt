@@ -38,21 +38,21 @@ use Rattle.gx_law_order.proofs.World.{Knows, marks-last}
 use Rattle.gx_law_commit.proofs.Everywhere.{Holds, parts_in}
 use Rattle.gx_law_commit.specs.Said.{Said, gxid_in, is_answer}
 use Rattle.gx_law_commit.specs.Standings.{known_at}
-use Rattle.gx_law_reads.proofs.Steps.{HeardAt, SaidTo, world-keeps}
-use Rattle.gx_law_locks.specs.Held.{AreHoldsMarked}
-use Rattle.gx_law_locks.specs.Lasting.{DoHoldsLast}
-use Rattle.gx_law_locks.specs.Late.{AreReleasesLate}
-use Rattle.gx_law_locks.proofs.AtCoordinators.{event-holds}
-use Rattle.gx_law_locks.proofs.AtSegments.{IsEndedFor, Turn, message_locks, resume_locks}
-use Rattle.gx_law_locks.proofs.Lasting.{holds-last, late-front}
-use Rattle.gx_law_locks.proofs.Marks.{AreFree, Locking, Quiet, both, free-granted, late-append, other-holds, quiet}
+use Rattle.gx_law_commit.proofs.Steps.{HeardAt, SaidTo, world-keeps}
+use Rattle.gx_law_holds.specs.Held.{AreHoldsMarked}
+use Rattle.gx_law_holds.specs.Lasting.{DoHoldsLast}
+use Rattle.gx_law_holds.specs.Late.{AreReleasesLate}
+use Rattle.gx_law_holds.proofs.AtCoordinators.{event-holds}
+use Rattle.gx_law_holds.proofs.AtSegments.{IsEndedFor, Turn, message_locks, resume_locks}
+use Rattle.gx_law_holds.proofs.Lasting.{holds-last, late-front}
+use Rattle.gx_law_holds.proofs.Marks.{AreFree, Locking, Quiet, both, free-granted, late-append, other-holds, quiet}
 
 pub record Locked (w : World) : Type 0 where
   pub marked : AreHoldsMarked w
   pub granted : AreGranted [] (marks_in w.steps)
   pub late : AreReleasesLate [] (marks_in w.steps)
 
-numbered-quiet : (f : ℕ → ℕ) (outs : List Out) → Each Quiet (numbered f outs)
+pub numbered-quiet : (f : ℕ → ℕ) (outs : List Out) → Each Quiet (numbered f outs)
 numbered-quiet f [] = tt
 numbered-quiet f (o ∷ outs) = (tt, numbered-quiet (counted f o) outs)
 

@@ -23,7 +23,7 @@ use Rattle.gx_store.specs.Waits.{added, claim, holds_at, holds_from, without}
 use Rattle.gx_rules.specs.Locks.{hold_mark}
 use Rattle.gx_law_order.proofs.Lists.{Each}
 use Rattle.gx_law_order.proofs.Past.{aborted-append, committed-append}
-use Rattle.gx_law_locks.specs.Late.{AreReleasesLate}
+use Rattle.gx_law_holds.specs.Late.{AreReleasesLate}
 
 -- each hold among these marks of a node is free where it stands
 abbrev pub AreFree : Node → List Claim → List Mark → Type 0
@@ -76,7 +76,7 @@ quiet-free node holds (mark.Hold n g object mode ∷ ms) e = absurd e.0
 quiet-free node holds (mark.Release n g object mode ∷ ms) e = absurd e.0
 quiet-free node holds (m ∷ ms) e = quiet-free node holds ms e.1
 
-quiet-late : (before ms : List Mark) → Each Quiet ms → AreReleasesLate before ms
+pub quiet-late : (before ms : List Mark) → Each Quiet ms → AreReleasesLate before ms
 quiet-late before [] e = tt
 quiet-late before (mark.Release n g object mode ∷ ms) e = absurd e.0
 quiet-late before (m ∷ ms) e = quiet-late (before ++ m ∷ []) ms e.1

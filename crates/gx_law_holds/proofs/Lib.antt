@@ -1,0 +1,9 @@
+pub mod Marks
+pub mod Released
+pub mod AtSegments
+pub mod AtCoordinators
+pub mod World
+pub mod Lasting
+pub mod Going
+pub mod AtWrites
+pub mod Orders

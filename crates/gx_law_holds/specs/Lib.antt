@@ -1,0 +1,5 @@
+pub mod Held
+pub mod Late
+pub mod Lasting
+pub mod Orders
+pub mod Writes

@@ -1,0 +1,51 @@
+//! Laws of every run, whatever the network loses, repeats, delays and reorders, and whichever appends fail.
+ghost use Rattle.std.specs.Prelude.{◌≡◌, ◌≤◌, ◌++◌, Bool, List, []};
+ghost use Rattle.gx_law_holds.specs.Held.{AreHoldsMarked};
+ghost use Rattle.gx_law_holds.specs.Lasting.{DoHoldsLast};
+ghost use Rattle.gx_law_holds.specs.Late.{AreReleasesLate};
+ghost use Rattle.gx_law_holds.specs.Orders.{AreOrdersLocked};
+ghost use Rattle.gx_law_holds.specs.Writes.{AreWritesLocked};
+ghost use Rattle.gx_law_order.specs.Runs.{steps_after};
+ghost use Rattle.gx_rules.specs.Machine.{world_of};
+ghost use Rattle.gx_script.specs.declared.Script.{Script};
+ghost use Rattle.gx_store.specs.declared.event.Event.{Event as OneEvent};
+ghost use Rattle.gx_store.specs.declared.mark.Mark.{Mark as OneMark};
+ghost use Rattle.gx_store.specs.Locks.{AreExclusive, AreGranted};
+ghost use Rattle.gx_store.specs.Points.{marks_in};
+
+/// What stands by the marks at a node is what the node holds.
+pub fn nodes_hold_what_is_marked()
+    ensures { (script : Script) (events : List (OneEvent × Bool)) → 1 ≤ script.segments → AreHoldsMarked (world_of script events) }
+{}
+
+/// A lock is granted only where it meets no hold.
+pub fn locks_are_granted_where_they_meet_none()
+    ensures { (script : Script) (events : List (OneEvent × Bool)) → 1 ≤ script.segments → AreGranted [] (marks_in (steps_after script events)) }
+{}
+
+/// At no point do two transactions hold conflicting modes on one object at one node.
+pub fn locks_are_exclusive()
+    ensures { (script : Script) (events : List (OneEvent × Bool)) (before later : List OneMark) → 1 ≤ script.segments → marks_in (steps_after script events) ≡ before ++ later → AreExclusive before }
+{}
+
+/// A lock is given back only by a transaction that has its Commit or Abort mark.
+pub fn locks_are_given_back_at_the_end()
+    ensures { (script : Script) (events : List (OneEvent × Bool)) → 1 ≤ script.segments → AreReleasesLate [] (marks_in (steps_after script events)) }
+{}
+
+/// At each point, whoever has no Commit or Abort mark holds all that it was granted.
+pub fn who_runs_holds_what_it_was_granted()
+    ensures { (script : Script) (events : List (OneEvent × Bool)) (before later : List OneMark) → 1 ≤ script.segments → marks_in (steps_after script events) ≡ before ++ later → DoHoldsLast before }
+{}
+
+/// From the first sending of a command to its transaction's end, the transaction holds at the coordinator the lock that the
+/// command asks for at its segments: AccessShare of a SELECT's table, RowExclusive of an INSERT's, the mode that a LOCK TABLE names
+/// of its.
+pub fn commands_go_out_with_their_lock()
+    ensures { (script : Script) (events : List (OneEvent × Bool)) → 1 ≤ script.segments → AreOrdersLocked (world_of script events) }
+{}
+
+/// Whoever writes a row, and has not ended, holds its table at the coordinator and at the row's node.
+pub fn rows_are_written_with_the_lock()
+    ensures { (script : Script) (events : List (OneEvent × Bool)) → 1 ≤ script.segments → AreWritesLocked script [] (marks_in (steps_after script events)) }
+{}
