@@ -43,7 +43,11 @@ rows-none g c table (row ∷ rows) m none = rows-none g c table rows (inserts_ro
 slice-none : (s : Seg) (g : Gxid) (c : Cid) (snapshot : Option Snapshot) (x : Slice) → NoFailures (runs_slice s g c snapshot x).marks
 slice-none s g c (Some snapshot) (slice.Select q) = select-none s g c q (shown s snapshot g c q.table) (first_fault q.cond (shown s snapshot g c q.table))
 slice-none s g c (Some snapshot) (slice.Insert table rows) = rows-none g c table rows (record { seg = s; marks = [] }) tt
-slice-none s g c snapshot x = tt
+slice-none s g c None (slice.Select q) = tt
+slice-none s g c None (slice.Insert table rows) = tt
+slice-none s g c snapshot (slice.Lock table mode) = tt
+slice-none s g c snapshot (slice.Update table assigns cond) = tt
+slice-none s g c snapshot (slice.Delete table cond) = tt
 
 -- the marks of locks fail nothing
 starts-none : (s : Seg) (g : Gxid) (c : Cid) (level : Level) (snapshot : Option Snapshot) (x : Slice) (o : Option Claim) → NoFailures (requests s g c level snapshot x o).marks

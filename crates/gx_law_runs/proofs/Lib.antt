@@ -19,7 +19,8 @@ pub mod Carried
 pub mod Busy
 pub mod Nothing
 pub mod Going
-pub mod Nobody
+pub mod Resuming
+pub mod Waiters
 pub mod Marks
 pub mod AtSegments
 pub mod AtCoordinators

@@ -1,7 +1,6 @@
 -- Lists with nothing in them, and what holds of each in a row.
-use Rattle.std.proofs.Common.{◌≡◌, ◌≤◌, ◌<◌, ℕ, zero, suc, ◌+◌, List, [], ◌∷◌, ◌++◌, Bool, true, false, refl, subst, ◌||◌, arith, cond, eqb}
+use Rattle.std.proofs.Common.{◌≡◌, ◌≤◌, ◌<◌, ℕ, zero, suc, ◌+◌, List, [], ◌∷◌, ◌++◌, Bool, true, false, refl, subst, arith, cond, eqb}
 use Rattle.std.proofs.lemmas.Bool.{eqb-true, or_from}
-use Rattle.std.proofs.lemmas.Bool.Decides.{nat_tests}
 use Rattle.std.specs.Prelude.{filter, map}
 use Rattle.std.specs.List.{flat_map, list_any, range_with_len}
 use Rattle.gx_lemmas.proofs.Numbers.{le-apart}

@@ -1,5 +1,5 @@
 -- A command goes to some segment.
-use Rattle.std.proofs.Common.{◌≡◌, ◌≤◌, ℕ, zero, suc, List, [], ◌∷◌, Option, Some, None, Result, Ok, Err, true, refl, arith}
+use Rattle.std.proofs.Common.{◌≡◌, ◌≤◌, ℕ, zero, suc, List, [], ◌∷◌, Option, Some, None, Result, Ok, Err, true, refl}
 use Rattle.std.specs.Prelude.{map}
 use Rattle.gx_lemmas.proofs.Numbers.{one-le-none}
 use Rattle.gx_ids.specs.declared.ids.Cid.{Cid}

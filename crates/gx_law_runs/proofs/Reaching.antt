@@ -29,7 +29,7 @@ use Rattle.gx_law_runs.proofs.Replaying.{world-replayed}
 use Rattle.gx_law_runs.proofs.Telling.{can-told, happens-alike}
 
 module _ (script : Script) (steps : List Step) (is : IsReached script steps) where
-  abbrev w : World
+  abbrev pub w : World
   w = world_of script is.events
 
   -- what holds after every list of events

@@ -7,3 +7,4 @@ pub mod failures;
 pub mod progress;
 pub mod reached;
 pub mod replays;
+pub mod waits;

@@ -1,18 +1,22 @@
 //! Laws of every run, whatever the network loses, repeats, delays and reorders, and whichever appends fail.
-ghost use Rattle.std.specs.Prelude.{◌≡◌, ◌≤◌, ◌<◌, ◌⊎◌, Bool, true, false, is_some, List, [], length};
+ghost use Rattle.std.specs.Prelude.{◌≡◌, ◌≤◌, ◌<◌, ◌⊎◌, Bool, true, false, ℕ, None, option_map, is_some, List, [], length};
 ghost use Rattle.std.specs.List.{list_all};
+ghost use Rattle.std.specs.Option.{option_to_list};
 ghost use Rattle.gx_ids.specs.declared.ids.SessionId.{SessionId as OneSession};
 ghost use Rattle.gx_store.specs.Whole.{AreInsertsWhole};
 ghost use Rattle.gx_store.specs.Language.{AreLinesNumbered};
-ghost use Rattle.gx_locks.specs.Locks.{wait_of};
+ghost use Rattle.gx_locks.specs.Locks.{least_with, ready_ones, wait_of};
 ghost use Rattle.gx_law_runs.specs.Awaiting.{IsAwaiting, IsBlocked};
 ghost use Rattle.gx_law_runs.specs.Reached.{IsReached};
-ghost use Rattle.gx_law_runs.specs.Replays.{coordinator_after, world_behind};
+ghost use Rattle.gx_law_runs.specs.Replays.{coordinator_after, segment_after, world_behind};
 ghost use Rattle.gx_rules.specs.AtCoordinator.{is_idle, is_unfinished_there};
 ghost use Rattle.gx_rules.specs.Coordinators.{session_of};
 ghost use Rattle.gx_rules.specs.Machine.{world_of};
 ghost use Rattle.gx_script.specs.declared.Script.{Script};
-ghost use Rattle.gx_store.specs.Schedule.{enabled, is_round};
+ghost use Rattle.gx_store.specs.Schedule.{enabled, is_round, resumptions};
+ghost use Rattle.gx_store.specs.Points.{marks_in};
+ghost use Rattle.gx_store.specs.Refusals.{the_coordinator};
+ghost use Rattle.gx_store.specs.declared.event.Event.TheVariants.{Resume};
 ghost use Rattle.gx_store.specs.declared.event.Event.{Event as OneEvent};
 ghost use Rattle.gx_store.specs.declared.run.Step.{Step as OneStep};
 
@@ -34,17 +38,15 @@ pub fn busy_sessions_await_an_answer_or_a_lock()
         → IsAwaiting script (world_of script events).coord session ⊎ (is_some (wait_of (world_of script events).coord.locks (session_of (world_of script events).coord session).transaction) ≡ true) }
 {}
 
-/// Nobody waits yet: a session that has something left to do at the coordinator has a line under way whose answers are awaited, or something of
-/// it is enabled; so while one is unfinished something is enabled. That holds of scripts whose INSERTs have tuples: one without
-/// goes to no segment, and is never answered.
-pub fn unfinished_runs_go_on()
-    ensures { (script : Script) (steps : List OneStep) (session : OneSession) → 1 ≤ script.segments → AreLinesNumbered [] script.lines
-        → AreInsertsWhole script.tables script.lines → IsReached script steps
-        → session.0 < length script.sessions → is_unfinished_there script (coordinator_after script steps) session ≡ true → enabled script steps ≡ [] → ⊥ }
+/// Who resumes at the coordinator is the least of those whose waits in its locks are ready.
+pub fn the_least_ready_wait_resumes_at_the_coordinator()
+    ensures { (script : Script) (steps : List OneStep) → 1 ≤ script.segments → IsReached script steps
+        → resumptions (marks_in steps) the_coordinator ≡ option_to_list (option_map (Resume the_coordinator) (least_with None (ready_ones (coordinator_after script steps).locks))) }
 {}
 
-/// Nobody waits yet: a session that isn't idle awaits an answer: of some segment, for its transaction.
-pub fn busy_sessions_await_an_answer()
-    ensures { (script : Script) (events : List (OneEvent × Bool)) (session : OneSession) → 1 ≤ script.segments → AreInsertsWhole script.tables script.lines
-        → is_idle (session_of (world_of script events).coord session) ≡ false → IsAwaiting script (world_of script events).coord session }
+/// And so it is at a segment.
+pub fn the_least_ready_wait_resumes_at_a_segment()
+    ensures { (script : Script) (steps : List OneStep) (i : ℕ) → 1 ≤ script.segments → IsReached script steps → 1 ≤ i
+        → resumptions (marks_in steps) (record { 0 = i })
+        ≡ option_to_list (option_map (Resume (record { 0 = i })) (least_with None (ready_ones (segment_after script (record { 0 = i }) steps).locks))) }
 {}

@@ -53,11 +53,6 @@ pub fn enabled_events_are_admitted_without_detector()
     ensures { (script : Script) (steps : List OneStep) → 1 ≤ script.segments → script.detector ≡ false → IsReached script steps → list_all (is_admitted script steps) (enabled script steps) ≡ true }
 {}
 
-/// Nobody waits yet: each event that is enabled there is admitted.
-pub fn enabled_events_are_admitted()
-    ensures { (script : Script) (steps : List OneStep) → 1 ≤ script.segments → IsReached script steps → list_all (is_admitted script steps) (enabled script steps) ≡ true }
-{}
-
 /// Counts have room.
 pub fn reached_counts_have_room()
     ensures { (script : Script) (steps : List OneStep) → 1 ≤ script.segments → IsReached script steps → HasRoomAfter script steps }

@@ -1,7 +1,6 @@
 -- What the coordinator's turns send is what they leave awaited: calls and commands.
 use Rattle.std.proofs.Common.{◌≡◌, ◌≤◌, ℕ, List, [], ◌∷◌, ◌++◌, Option, Some, None, Result, Ok, Err, Bool, true, false, refl, sym, subst, ap, ◌∙◌, if◌then◌else◌, ◌||◌, arith, eqb}
 use Rattle.std.proofs.lemmas.Bool.{eqb-true, or_right}
-use Rattle.std.proofs.lemmas.Bool.Decides.{nat_tests}
 use Rattle.std.specs.Prelude.{option_map}
 use Rattle.gx_lemmas.proofs.Numbers.{eqb-self, eqb-turned}
 use Rattle.gx_ids.specs.declared.ids.Cid.{Cid}

@@ -47,7 +47,7 @@ flat-each : {A B : Type 0} (f g : A → List B) (xs : List A) → Each (λ x. f 
 flat-each f g [] e = refl
 flat-each f g (x ∷ xs) e = ap (λ ys. ys ++ flat_map f xs) e.0 ∙ ap (λ ys. g x ++ ys) (flat-each f g xs e.1)
 
-any-each : {A : Type 0} (p q : A → Bool) (xs : List A) → Each (λ x. p x ≡ q x) xs → list_any p xs ≡ list_any q xs
+pub any-each : {A : Type 0} (p q : A → Bool) (xs : List A) → Each (λ x. p x ≡ q x) xs → list_any p xs ≡ list_any q xs
 any-each p q [] e = refl
 any-each p q (x ∷ xs) e = ap (λ b. b || list_any p xs) e.0 ∙ ap (λ b. q x || b) (any-each p q xs e.1)
 
@@ -154,7 +154,7 @@ module _ (script : Script) (some : 1 ≤ script.segments) (es : List (Event × B
       first : (a : ℕ) → 1 + a ≤ a + 1
       first a = omega arith
 
-  segments-first : Each (λ (i : Node). 1 ≤ i.0) (segments_of script)
+  pub segments-first : Each (λ (i : Node). 1 ≤ i.0) (segments_of script)
   segments-first = each_weaker (λ (i : Node). is_segment script i ≡ true) (λ (i : Node). 1 ≤ i.0) (λ i e. above i.0 script.segments e) (segments_of script) all-segments
     where
       above : (a k : ℕ) → (nat_le 1 a && nat_le a k) ≡ true → 1 ≤ a
@@ -194,10 +194,11 @@ module _ (script : Script) (some : 1 ≤ script.segments) (es : List (Event × B
   resumes-here : resumptions ms the_coordinator ≡ resumes_by w.coord the_coordinator w.coord.locks
   resumes-here = resumes-so the_coordinator w.coord.locks marked.coordinator (single-here script w n).once
 
+  resumes-there : (segment : Node) → 1 ≤ segment.0 → resumptions ms segment ≡ resumes_by w.coord segment (w.segs segment.0).locks
+  resumes-there segment one = resumes-so segment (w.segs segment.0).locks (marked.segments segment.0 one) (single-there script w n segment.0).once
+
   at-same : (segment : Node) → 1 ≤ segment.0 → at_segment script w.steps segment ≡ at_segment_by script w segment
-  at-same segment one =
-      ap (λ xs. first_of (xs ++ first_of (left_on script w.steps the_coordinator segment)))
-      (resumes-so segment (w.segs segment.0).locks (marked.segments segment.0 one) (single-there script w n segment.0).once)
+  at-same segment one = ap (λ xs. first_of (xs ++ first_of (left_on script w.steps the_coordinator segment))) (resumes-there segment one)
 
   -- MESSAGES SENT AGAIN
   due-same : (segment : Node) → 1 ≤ segment.0 → (g : Gxid) → may_resend w.steps segment g ≡ is_due w segment g
@@ -214,7 +215,7 @@ module _ (script : Script) (some : 1 ≤ script.segments) (es : List (Event × B
       (append-nil _ ∙ ap (map (λ g. event.Resend segment (Some g))) (filter-same (may_resend w.steps segment) (is_due w segment) (due-same segment one) (gxids_of ms) ∙ ap (filter (is_due w segment)) drawn-alike))
 
   -- ROUNDS
-  any-same : is_any_wait script ms ≡ is_anybody_waiting script w
+  pub any-same : is_any_wait script (marks_in (world_of script es).steps) ≡ is_anybody_waiting script (world_of script es)
   any-same =
       ap (λ (xs : List Claim). not (length xs == 0) || list_any (λ node. not (length (waits_at ms node) == 0)) (segments_of script)) (sym marked.coordinator.waits)
       ∙ ap (λ b. not (length w.coord.locks.waits == 0) || b)
@@ -308,6 +309,16 @@ module _ (script : Script) (some : 1 ≤ script.segments) (es : List (Event × B
 
       both : (a b : Bool) → a ≡ true → b ≡ true → (a && b) ≡ true
       both a b e f = grind arith
+
+  -- so who resumes may do so
+  pub resumes-here-admitted : Each (λ e. can script (world_of script es) e ≡ true) (resumptions (marks_in (world_of script es).steps) the_coordinator)
+  resumes-here-admitted = subst (Each Admits) (sym resumes-here) (resumption-admitted the_coordinator w.coord.locks (λ g ok. ok))
+
+  pub resumes-there-admitted : (segment : Node) → is_segment script segment ≡ true → Each (λ e. can script (world_of script es) e ≡ true) (resumptions (marks_in (world_of script es).steps) segment)
+  resumes-there-admitted segment s = subst (Each Admits) (sym (resumes-there segment (from-one segment.0 script.segments s))) (resumption-admitted segment (w.segs segment.0).locks (resumption-there segment s))
+    where
+      from-one : (a k : ℕ) → (nat_le 1 a && nat_le a k) ≡ true → 1 ≤ a
+      from-one a k e = grind (arith, nat_tests)
 
   again-admitted : (segment : Node) → Each Admits (resends_due script w segment)
   again-admitted segment = by_quiet (is_quiet script w.steps segment)

@@ -110,7 +110,11 @@ module _ (P : ℕ → Reply → Type 0) (partless : (g : ℕ) (r : Reply) → Is
       slice-runs : (h : Gxid) (locks : Locks) (snapshot : Option Snapshot) (y : Slice) → x ≡ y → TurnSo (runs_slice (raised_with h locks) g c snapshot y)
       slice-runs h locks (Some snapshot) (slice.Select q) e = select h locks q (shown (raised_with h locks) snapshot g c q.table) (first_fault q.cond (shown (raised_with h locks) snapshot g c q.table)) e
       slice-runs h locks (Some snapshot) (slice.Insert table rows) e = insert table rows (inserted (raised_with h locks) g c table rows) (insert-rows table rows (record { seg = raised_with h locks; marks = [] }) so) e
-      slice-runs h locks snapshot y e = record { locals = so; outs = tt }
+      slice-runs h locks snapshot (slice.Lock table mode) e = answered (raised_with h locks) [] _ so (right _ 0 (Rows []) (ap (λ (y : Slice). is_right_part y (Rows [])) e))
+      slice-runs h locks None (slice.Select q) e = record { locals = so; outs = tt }
+      slice-runs h locks None (slice.Insert table rows) e = record { locals = so; outs = tt }
+      slice-runs h locks snapshot (slice.Update table assigns cond) e = record { locals = so; outs = tt }
+      slice-runs h locks snapshot (slice.Delete table cond) e = record { locals = so; outs = tt }
 
       starts : (level : Level) (snapshot : Option Snapshot) (h : Gxid) (o : Option Claim) → TurnSo (requests (raised s h) g c level snapshot x o)
       starts level snapshot h None = slice-runs (raised s h).horizon s.locks snapshot x refl

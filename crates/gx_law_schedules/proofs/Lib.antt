@@ -25,4 +25,3 @@ pub mod Marked
 pub mod Awaited
 pub mod Waits
 pub mod Enabled
-pub mod Nobody

@@ -1,5 +1,5 @@
 -- What the marks of the coordinator's event make of its locks.
-use Rattle.std.proofs.Common.{◌≡◌, ◌==◌, ◌&&◌, ℕ, ◌+◌, List, [], ◌∷◌, ◌++◌, Option, Some, None, Result, Ok, Err, Bool, true, false, refl, sym, subst, ap, ◌∙◌, if◌then◌else◌, arith}
+use Rattle.std.proofs.Common.{◌≡◌, ◌==◌, ◌&&◌, ℕ, ◌+◌, List, [], ◌∷◌, ◌++◌, Option, Some, None, Result, Ok, Err, Bool, true, false, refl, sym, subst, ap, ◌∙◌, if◌then◌else◌}
 use Rattle.std.specs.Prelude.{filter}
 use Rattle.gx_lemmas.proofs.Numbers.{eqb-self}
 use Rattle.gx_lemmas.proofs.Tests.{and-first}
@@ -149,19 +149,19 @@ lock-own g stmt.Commit wanted e = absurd (cc)
 lock-own g stmt.Rollback wanted e = absurd (cc)
 lock-own g (stmt.Update t x y) wanted e = absurd (cc)
 lock-own g (stmt.Delete t x) wanted e = absurd (cc)
-lock-own g (stmt.Lock t m) wanted e = absurd (cc)
+lock-own g (stmt.Lock t m) wanted e = sym (ap (λ (c : Claim). c.gxid) (some-same _ wanted e))
 
 -- whose transaction has no wait here
 request : (script : Script) (c : Coord) (g : Gxid) (line : Stmt) → wait_of c.locks g ≡ None → (o : Option Claim) → lock_for g line ≡ o → Marks c (requests script c g line o)
 request script c g line none None e = go-locked script c g line
-request script c g line none (Some wanted) e = by_test (is_free c.locks.holds wanted)
+request script c g line none (Some wanted) e = by_test (is_free c.locks.holds wanted) refl
   where
     none-own : wait_of c.locks wanted.gxid ≡ None
     none-own = ap (wait_of c.locks) (lock-own g line wanted e) ∙ none
 
-    by_test : (b : Bool) → Marks c (if_granted script c g line wanted b)
-    by_test true = go-held script c (record c { locks = with_hold c.locks wanted }) g line wanted (grant the_coordinator c.locks wanted none-own)
-    by_test false = wait the_coordinator c.locks wanted none-own
+    by_test : (b : Bool) → is_free c.locks.holds wanted ≡ b → Marks c (if_granted script c g line wanted b)
+    by_test true f = go-held script c (record c { locks = with_hold c.locks wanted }) g line wanted (grant the_coordinator c.locks wanted none-own)
+    by_test false f = wait the_coordinator c.locks wanted f none-own
 
 dispatch : (script : Script) (c : Coord) (g : Gxid) (line : Stmt) → wait_of c.locks g ≡ None → Marks c (dispatches script c g line)
 dispatch script c g line none = request script c g line none (lock_for g line) refl
@@ -198,7 +198,7 @@ failed c g i cid cause None = rest c
 failed c g i cid cause (Some k) = either c (is_awaited k i cid) (is_refused c g (on_abort c.table g) [] (reason_of cause)) (rests c) (refused c g (on_abort c.table g) [] (reason_of cause) tt) (rest c)
 
 status : (c : Coord) (g : Gxid) (i : Node) (r : Reply) (fails : Bool) → Marks c (on_status c g i r fails)
-status c g i r fails = let x = follow c g (on_reply c.table g i r fails) (on_reply c.table g i r fails).out.outcome in record { holds = x.holds; waits = x.waits }
+status c g i r fails = let x = follow c g (on_reply c.table g i r fails) (on_reply c.table g i r fails).out.outcome in record { holds = x.holds; waits = x.waits; begin = x.begin }
 
 answered : (c : Coord) (g : Gxid) (i : Node) (fails : Bool) (r : Reply) → Marks c (on_answer c g i fails r)
 answered c g i fails (reply.Done cid wrote count part) = done c g i cid wrote count part (work_of c g).command

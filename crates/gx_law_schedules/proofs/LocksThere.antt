@@ -1,5 +1,5 @@
 -- What the marks of a segment's event make of its locks.
-use Rattle.std.proofs.Common.{◌≡◌, ◌==◌, ◌&&◌, List, [], ◌∷◌, Option, Some, None, Bool, true, false, not, refl, sym, subst, ap, ◌∙◌, if◌then◌else◌, nat_lt, arith}
+use Rattle.std.proofs.Common.{◌≡◌, ◌==◌, ◌&&◌, ◌||◌, List, [], ◌∷◌, Option, Some, None, Bool, true, false, not, refl, sym, subst, ap, ◌∙◌, if◌then◌else◌, nat_lt, arith}
 use Rattle.std.specs.Prelude.{filter, fold, is_some, nat_le}
 use Rattle.gx_lemmas.proofs.Options.{some-same}
 use Rattle.gx_ids.specs.declared.ids.Cid.{Cid}
@@ -24,7 +24,7 @@ use Rattle.gx_store.specs.declared.mark.Mark.TheVariants as mark
 use Rattle.gx_store.specs.declared.node.NodeEvent.{NodeEvent}
 use Rattle.gx_store.specs.declared.node.NodeEvent.TheVariants as event
 use Rattle.gx_rules.specs.AtSegment.{commits, finishes, if_fits, on_abort, on_commit, on_commit_prepared, on_event, on_exec, on_forget, on_message, on_prepare, once, promises, raised, repeats, resumes, takes, unless_below, was_prepared}
-use Rattle.gx_rules.specs.Fits.{fits_exec, holds_locks, is_right_slice, is_waiting}
+use Rattle.gx_rules.specs.Fits.{fits_exec, holds_locks, is_right_slice, is_waiting, reads_nothing}
 use Rattle.gx_rules.specs.Maps.{each_below}
 use Rattle.gx_rules.specs.Locks.{hold_mark, with_hold}
 use Rattle.gx_rules.specs.Segments.{Local, Phase, Seg, SegTurn, Suspended, after_marks, local_of, stays, tells, tells_kept}
@@ -60,7 +60,11 @@ slice-runs t g c (Some snapshot) (slice.Select q) = select t g c q (shown t snap
 slice-runs t g c (Some snapshot) (slice.Insert table rows) =
     let f = insert-rows t.locks g c table rows (record { seg = t; marks = [] }) (record { locks = refl; marks = tt }) in
     record { locks = f.locks; marks = f.marks }
-slice-runs t g c snapshot x = record { locks = refl; marks = tt }
+slice-runs t g c None (slice.Select q) = record { locks = refl; marks = tt }
+slice-runs t g c None (slice.Insert table rows) = record { locks = refl; marks = tt }
+slice-runs t g c snapshot (slice.Lock table mode) = record { locks = refl; marks = tt }
+slice-runs t g c snapshot (slice.Update table assigns cond) = record { locks = refl; marks = tt }
+slice-runs t g c snapshot (slice.Delete table cond) = record { locks = refl; marks = tt }
 
 -- the lock is for the transaction
 lock-own : (g : Gxid) (x : Slice) (wanted : Claim) → slice_lock g x ≡ Some wanted → wanted.gxid ≡ g
@@ -68,7 +72,7 @@ lock-own g (slice.Select q) wanted e = sym (ap (λ (c : Claim). c.gxid) (some-sa
 lock-own g (slice.Insert t rows) wanted e = sym (ap (λ (c : Claim). c.gxid) (some-same _ wanted e))
 lock-own g (slice.Update t x y) wanted e = absurd (cc)
 lock-own g (slice.Delete t x) wanted e = absurd (cc)
-lock-own g (slice.Lock t m) wanted e = absurd (cc)
+lock-own g (slice.Lock t m) wanted e = sym (ap (λ (c : Claim). c.gxid) (some-same _ wanted e))
 
 -- who has no slice that waits has no wait here, and nobody has two
 pub record AreSingle (s : Seg) : Type 0 where
@@ -104,14 +108,14 @@ module _ (script : Script) (s : Seg) (single : AreSingle s) where
 
   starts : (h g : Gxid) (c : Cid) (level : Level) (snapshot : Option Snapshot) (x : Slice) → wait_of s.locks g ≡ None → (o : Option Claim) → slice_lock g x ≡ o → Marks (requests (raised s h) g c level snapshot x o)
   starts h g c level snapshot x none None q = plain _ (slice-runs (raised s h) g c snapshot x)
-  starts h g c level snapshot x none (Some wanted) q = by_test (is_free s.locks.holds wanted)
+  starts h g c level snapshot x none (Some wanted) q = by_test (is_free s.locks.holds wanted) refl
     where
       none-own : wait_of s.locks wanted.gxid ≡ None
       none-own = ap (wait_of s.locks) (lock-own g x wanted q) ∙ none
 
-      by_test : (b : Bool) → Marks (if b then runs_locked (raised s h) g c snapshot x wanted else suspends (raised s h) g c level snapshot x wanted)
-      by_test true = hold wanted (with_hold s.locks wanted) (runs_slice (record (raised s h) { locks = with_hold s.locks wanted }) g c snapshot x) (grant s.node s.locks wanted none-own) (slice-runs (record (raised s h) { locks = with_hold s.locks wanted }) g c snapshot x)
-      by_test false = wait s.node s.locks wanted none-own
+      by_test : (b : Bool) → is_free s.locks.holds wanted ≡ b → Marks (if b then runs_locked (raised s h) g c snapshot x wanted else suspends (raised s h) g c level snapshot x wanted)
+      by_test true f = hold wanted (with_hold s.locks wanted) (runs_slice (record (raised s h) { locks = with_hold s.locks wanted }) g c snapshot x) (grant s.node s.locks wanted none-own) (slice-runs (record (raised s h) { locks = with_hold s.locks wanted }) g c snapshot x)
+      by_test false f = wait s.node s.locks wanted f none-own
 
   repeat : (g : Gxid) (c : Cid) (l : Local) → Marks (repeats s g c l)
   repeat g c l = either (c.0 == l.last) _ _ (kept g l.answer) stay
@@ -200,7 +204,7 @@ module _ (script : Script) (s : Seg) (single : AreSingle s) where
   fits false turn e = stay
 
   message-marks : (fails : Bool) (m : Message) → Marks (on_message script s fails m)
-  message-marks fails (message.Exec g c level snapshot h x) = below g _ (fits (fits_exec script s g c snapshot h x) _ (λ fit. exec g c level snapshot h x (last-of (nat_le h.0 g.0) (each_below h.0 (λ k. not (holds_locks (s.locals k)))) (is_some snapshot) (is_right_slice script g c x) (nat_lt (local_of s g).last c.0 && is_waiting (local_of s g)) fit) (local_of s g).phase))
+  message-marks fails (message.Exec g c level snapshot h x) = below g _ (fits (fits_exec script s g c snapshot h x) _ (λ fit. exec g c level snapshot h x (last-of (nat_le h.0 g.0) (each_below h.0 (λ k. not (holds_locks (s.locals k)))) (is_some snapshot || reads_nothing x) (is_right_slice script g c x) (nat_lt (local_of s g).last c.0 && is_waiting (local_of s g)) fit) (local_of s g).phase))
     where
       last-of : (a b d e f : Bool) → (a && (b && (d && (e && not f)))) ≡ true → f ≡ false
       last-of a b d e f q = grind arith

@@ -58,7 +58,11 @@ module _ (script : Script) (s : Seg) where
   slice_runs : (t : Seg) (g : Gxid) (c : Cid) (snapshot : Option Snapshot) (x : Slice) → IsStill (runs_slice t g c snapshot x)
   slice_runs t g c (Some snapshot) (slice.Select q) = select t g c q (shown t snapshot g c q.table) (first_fault q.cond (shown t snapshot g c q.table))
   slice_runs t g c (Some snapshot) (slice.Insert table rows) = insert g c (length rows) (inserted t g c table rows)
-  slice_runs t g c snapshot x = record { outs = none-sent }
+  slice_runs t g c None (slice.Select q) = record { outs = none-sent }
+  slice_runs t g c None (slice.Insert table rows) = record { outs = none-sent }
+  slice_runs t g c snapshot (slice.Lock table mode) = record { outs = one-sent }
+  slice_runs t g c snapshot (slice.Update table assigns cond) = record { outs = none-sent }
+  slice_runs t g c snapshot (slice.Delete table cond) = record { outs = none-sent }
 
   both : (b : Bool) (x y : SegTurn) → IsStill x → IsStill y → IsStill (if b then x else y)
   both true x y e f = e

@@ -18,7 +18,7 @@ use Rattle.gx_meaning.specs.Order.{in_order, placed}
 use Rattle.gx_store.specs.Waits.{holds_from, waits_from, without}
 use Rattle.gx_rules.specs.Locks.{claim_order, has_there, release_mark, release_marks, released}
 use Rattle.gx_law_order.proofs.Lists.{Each, each_append, each_weaker}
-use Rattle.gx_law_schedules.proofs.Standing.{Leads, claim-itself, filter-alike, node-itself}
+use Rattle.gx_law_schedules.proofs.Standing.{AllBegin, Leads, claim-itself, filter-alike, node-itself}
 
 -- A LIST IN ORDER HAS THE SAME ITEMS
 or-swap : (a b c : Bool) → (a || (b || c)) ≡ (b || (a || c))
@@ -102,6 +102,11 @@ waits-less : (node : Node) (cs waits : List Claim) → waits_from node waits (ma
 waits-less node [] waits = all-stay waits
 waits-less node (c ∷ cs) waits = ap (λ b. waits_from node (if b then without c waits else waits) (map (release_mark node) cs)) (node-itself node) ∙ waits-less node cs (without c waits) ∙ one-less c cs waits
 
+-- who gives back begins no wait
+releases-begin : (node : Node) (cs holds waits : List Claim) → AllBegin node holds waits (map (release_mark node) cs)
+releases-begin node [] holds waits = tt
+releases-begin node (c ∷ cs) holds waits = releases-begin node cs (holds_from node holds (release_mark node c ∷ [])) (waits_from node waits (release_mark node c ∷ []))
+
 -- the transaction's own, and nobody else's
 own-among : (g : Gxid) (xs : List Claim) → Each (λ x. is_of g x ≡ true → among (filter (is_of g) xs) x ≡ true) xs
 own-among g [] = tt
@@ -144,4 +149,5 @@ module _ (l : Locks) (g : Gxid) where
       record {
         holds = holds-less node (has_there l g) l.holds ∙ all-of l.holds (each_weaker (λ x. is_of g x ≡ true → among (filter (is_of g) l.holds) x ≡ true) (λ x. is_of g x ≡ true → parted x ≡ true) (λ x f e. or_right (among (filter (is_of g) l.waits) x) _ (any-in_order claim_order (λ c. same_claim c x) (filter (is_of g) l.holds) ∙ f e)) l.holds (own-among g l.holds));
         waits = waits-less node (has_there l g) l.waits ∙ all-of l.waits (each_weaker (λ x. is_of g x ≡ true → among (filter (is_of g) l.waits) x ≡ true) (λ x. is_of g x ≡ true → parted x ≡ true) (λ x f e. or_left (among (filter (is_of g) l.waits) x) _ (f e)) l.waits (own-among g l.waits));
+        begin = releases-begin node (has_there l g) l.holds l.waits;
       }

@@ -1,6 +1,5 @@
 -- Which replies answer which messages.
-use Rattle.std.proofs.Common.{◌≡◌, ℕ, Option, Some, None, Bool, true, false, refl, ap, ◌∙◌, if◌then◌else◌, ◌&&◌, arith, eqb}
-use Rattle.std.proofs.lemmas.Bool.Decides.{nat_tests}
+use Rattle.std.proofs.Common.{◌≡◌, ℕ, Option, Some, None, Bool, true, false, refl, ap, ◌∙◌, if◌then◌else◌, ◌&&◌, eqb}
 use Rattle.gx_lemmas.proofs.Tests.{and-false, and-true}
 use Rattle.gx_lemmas.proofs.Numbers.{eqb-self, eqb-turned}
 use Rattle.gx_ids.specs.declared.ids.Cid.{Cid}

@@ -1,5 +1,5 @@
 -- Over every run: clocks, numbers of messages and gxids stay below the number of steps, and no round begins.
-use Rattle.std.proofs.Common.{◌≡◌, ◌≤◌, ℕ, suc, ◌+◌, List, [], ◌∷◌, ◌++◌, Some, Bool, true, false, refl, sym, subst, ap, ◌∙◌, arith, length}
+use Rattle.std.proofs.Common.{◌≡◌, ◌≤◌, ℕ, ◌+◌, List, [], ◌∷◌, ◌++◌, Some, Bool, false, refl, sym, subst, ap, arith, length}
 use Rattle.std.proofs.lemmas.Bool.Decides.{nat_tests}
 use Rattle.gx_lemmas.proofs.Tests.{true-false}
 use Rattle.gx_lemmas.proofs.Options.{some-same}

@@ -11,7 +11,7 @@ use Rattle.gx_waits.specs.Claim.{same_claim, same_object}
 use Rattle.gx_waits.specs.declared.claim.Claim.{Claim}
 use Rattle.gx_locks.proofs.Meets.{same_object-itself}
 use Rattle.gx_locks.specs.Claims.{is_of}
-use Rattle.gx_locks.specs.Locks.{Locks, resumed, wait_of}
+use Rattle.gx_locks.specs.Locks.{Locks, is_free, resumed, wait_of}
 use Rattle.gx_script.specs.declared.Script.{Script}
 use Rattle.gx_store.proofs.Exclusive.{holds_from-append}
 use Rattle.gx_store.specs.declared.mark.Mark.{Mark}
@@ -22,10 +22,24 @@ use Rattle.gx_store.specs.Waits.{added, claim, holds_from, waits_from, without}
 use Rattle.gx_rules.specs.Locks.{hold_mark, wait_mark, with_hold, with_wait}
 use Rattle.gx_law_order.proofs.Lists.{Each}
 
+-- who begins to wait meets one of these holds, and has none of these waits
+pub record Begins (holds waits : List Claim) (wanted : Claim) : Type 0 where
+  pub met : is_free holds wanted ≡ false
+  pub alone : find (is_of wanted.gxid) waits ≡ None
+
+-- so does whoever begins to wait among these marks of a node
+abbrev pub AllBegin : Node → List Claim → List Claim → List Mark → Type 0
+AllBegin node holds waits [] = Unit {0}
+AllBegin node holds waits (mark.Wait n g object mode ∷ ms) = Begins holds waits (claim g object mode) × AllBegin node holds (waits_from node waits (mark.Wait n g object mode ∷ [])) ms
+AllBegin node holds waits (mark.Hold n g object mode ∷ ms) = AllBegin node (holds_from node holds (mark.Hold n g object mode ∷ [])) (waits_from node waits (mark.Hold n g object mode ∷ [])) ms
+AllBegin node holds waits (mark.Release n g object mode ∷ ms) = AllBegin node (holds_from node holds (mark.Release n g object mode ∷ [])) (waits_from node waits (mark.Release n g object mode ∷ [])) ms
+AllBegin node holds waits (m ∷ ms) = AllBegin node holds waits ms
+
 -- marks of a node lead from these locks to those
 pub record Leads (node : Node) (from : Locks) (marks : List Mark) (to : Locks) : Type 0 where
   pub holds : holds_from node from.holds marks ≡ to.holds
   pub waits : waits_from node from.waits marks ≡ to.waits
+  pub begin : AllBegin node from.holds from.waits marks
 
 pub waits_from-append : (node : Node) (waits : List Claim) (xs ys : List Mark) → waits_from node waits (xs ++ ys) ≡ waits_from node (waits_from node waits xs) ys
 waits_from-append node waits [] ys = refl
@@ -34,11 +48,21 @@ waits_from-append node waits (mark.Hold n g object mode ∷ xs) ys = waits_from-
 waits_from-append node waits (mark.Release n g object mode ∷ xs) ys = waits_from-append node (if n.0 == node.0 then without (claim g object mode) waits else waits) xs ys
 waits_from-append node waits (m ∷ xs) ys = waits_from-append node waits xs ys
 
+begin-append : (node : Node) (holds waits : List Claim) (xs ys : List Mark) → AllBegin node holds waits xs → AllBegin node (holds_from node holds xs) (waits_from node waits xs) ys → AllBegin node holds waits (xs ++ ys)
+begin-append node holds waits [] ys e f = f
+begin-append node holds waits (mark.Wait n g object mode ∷ xs) ys e f = (e.0, begin-append node holds (waits_from node waits (mark.Wait n g object mode ∷ [])) xs ys e.1 f)
+begin-append node holds waits (mark.Hold n g object mode ∷ xs) ys e f =
+    begin-append node (holds_from node holds (mark.Hold n g object mode ∷ [])) (waits_from node waits (mark.Hold n g object mode ∷ [])) xs ys e f
+begin-append node holds waits (mark.Release n g object mode ∷ xs) ys e f =
+    begin-append node (holds_from node holds (mark.Release n g object mode ∷ [])) (waits_from node waits (mark.Release n g object mode ∷ [])) xs ys e f
+begin-append node holds waits (m ∷ xs) ys e f = begin-append node holds waits xs ys e f
+
 pub both : (node : Node) (a : Locks) (xs : List Mark) (b : Locks) (ys : List Mark) (c : Locks) → Leads node a xs b → Leads node b ys c → Leads node a (xs ++ ys) c
 both node a xs b ys c e f =
     record {
       holds = holds_from-append node a.holds xs ys ∙ ap (λ h. holds_from node h ys) e.holds ∙ f.holds;
       waits = waits_from-append node a.waits xs ys ∙ ap (λ h. waits_from node h ys) e.waits ∙ f.waits;
+      begin = begin-append node a.holds a.waits xs ys e.begin (subst (λ h. AllBegin node h (waits_from node a.waits xs) ys) (sym e.holds) (subst (λ h. AllBegin node b.holds h ys) (sym e.waits) f.begin));
     }
 
 -- MARKS THAT TELL OF NO LOCK
@@ -61,8 +85,15 @@ quiet-waits node waits (mark.Wait n g object mode ∷ ms) e = absurd e.0
 quiet-waits node waits (mark.Release n g object mode ∷ ms) e = absurd e.0
 quiet-waits node waits (m ∷ ms) e = quiet-waits node waits ms e.1
 
+quiet-begin : (node : Node) (holds waits : List Claim) (ms : List Mark) → Each Quiet ms → AllBegin node holds waits ms
+quiet-begin node holds waits [] e = tt
+quiet-begin node holds waits (mark.Hold n g object mode ∷ ms) e = absurd e.0
+quiet-begin node holds waits (mark.Wait n g object mode ∷ ms) e = absurd e.0
+quiet-begin node holds waits (mark.Release n g object mode ∷ ms) e = absurd e.0
+quiet-begin node holds waits (m ∷ ms) e = quiet-begin node holds waits ms e.1
+
 pub quiet : (node : Node) (l : Locks) (ms : List Mark) → Each Quiet ms → Leads node l ms l
-quiet node l ms e = record { holds = quiet-holds node l.holds ms e; waits = quiet-waits node l.waits ms e }
+quiet node l ms e = record { holds = quiet-holds node l.holds ms e; waits = quiet-waits node l.waits ms e; begin = quiet-begin node l.holds l.waits ms e }
 
 -- OTHER NODES
 pub other-holds : (script : Script) (here other : Node) (holds : List Claim) (ms : List Mark) → is_same_node here other ≡ false → Each (IsAtNode script here) ms → holds_from other holds ms ≡ holds
@@ -163,13 +194,15 @@ grant node l wanted e =
       holds = ap (λ b. if b then added wanted l.holds else l.holds) (node-itself node);
       waits = ap (λ b. if b then without wanted l.waits else l.waits) (node-itself node)
           ∙ filter-all (λ x. not (same_claim wanted x)) l.waits (each-so {P = λ x. same_claim wanted x ≡ false} {Q = λ x. not (same_claim wanted x) ≡ true} (λ x f. ap not f) l.waits (none-same wanted l.waits e));
+      begin = tt;
     }
 
-pub wait : (node : Node) (l : Locks) (wanted : Claim) → wait_of l wanted.gxid ≡ None → Leads node l (wait_mark node wanted ∷ []) (with_wait l wanted)
-wait node l wanted e =
+pub wait : (node : Node) (l : Locks) (wanted : Claim) → is_free l.holds wanted ≡ false → wait_of l wanted.gxid ≡ None → Leads node l (wait_mark node wanted ∷ []) (with_wait l wanted)
+wait node l wanted f e =
     record {
       holds = refl;
       waits = ap (λ b. if b then added wanted l.waits else l.waits) (node-itself node) ∙ ap (λ b. if b then l.waits else l.waits ++ wanted ∷ []) (any-none (same_claim wanted) l.waits (none-same wanted l.waits e));
+      begin = (record { met = f; alone = e }, tt);
     }
 
 -- A RESUMPTION
@@ -180,6 +213,7 @@ resumption node l g wanted e =
       holds = ap (λ b. if b then added wanted l.holds else l.holds) (node-itself node);
       waits = ap (λ b. if b then without wanted l.waits else l.waits) (node-itself node)
           ∙ filter-alike (λ x. not (same_claim wanted x)) (λ x. not (is_of g x)) l.waits (each-so {P = λ x. is_of g x ≡ true → x ≡ wanted} {Q = λ x. not (same_claim wanted x) ≡ not (is_of g x)} (λ x f. ap not (by_test x f (is_of g x) refl)) l.waits (each-once (is_of g) l.waits wanted e));
+      begin = tt;
     }
   where
     own : is_of g wanted ≡ true

@@ -20,13 +20,6 @@ use Rattle.gx_rules.specs.Machine.{World}
 abbrev pub drawn : Coord → List Gxid
 drawn c = map (λ n. record { 0 = n }) (range_with_len 1 (c.table.next.0 - 1))
 
-abbrev pub awaiting : Coord → Node → List Gxid
-awaiting c segment = filter (λ g. is_some (awaited c g segment)) (drawn c)
-
--- what is awaited of a segment is sent again once nothing is left on its links
-abbrev pub resends_by : Script → World → Node → List Event
-resends_by script w segment = if is_quiet script w.steps segment then map (λ g. Resend segment (Some g)) (awaiting w.coord segment) else []
-
 -- the line follows those that its session, which is idle, has started
 abbrev pub is_next_by : Coord → Line → Bool
 is_next_by c line = is_idle (session_of c line.session) && (line.number == (session_of c line.session).lines + 1)
@@ -40,17 +33,6 @@ sessions_of script = map (λ n. record { 0 = n }) (range_with_len 0 (length scri
 abbrev pub ends_by : Script → Coord → List Event
 ends_by script c = map End (filter (λ session. coord_can script c (node.End session)) (sessions_of script))
 
--- Where nobody waits, as now: the first message of each link to the coordinator, the first of each link to a segment, what is sent
--- again, and the lines and ends of sessions.
-abbrev pub enabled_by : Script → World → List Event
-enabled_by script w =
-    flat_map (λ segment. first_of (left_on script w.steps segment the_coordinator)) (segments_of script)
-    ++ flat_map (λ segment. first_of (left_on script w.steps the_coordinator segment)) (segments_of script)
-    ++ flat_map (resends_by script w) (segments_of script)
-    ++ starts_by script w.coord
-    ++ ends_by script w.coord
-
--- WHERE SOMEBODY MAY WAIT
 -- the least transaction whose wait at a node meets no hold resumes
 abbrev pub resumes_by : Coord → Node → Locks → List Event
 resumes_by c node locks = first_of (map (Resume node) (filter (λ g. is_ready locks.holds (wait_of locks g)) (drawn c)))

@@ -17,7 +17,7 @@ ghost use Rattle.gx_store.specs.Refusals.{the_coordinator};
 ghost use Rattle.gx_store.specs.Schedule as schedule;
 ghost use Rattle.gx_store.specs.declared.event.Event.{Event as OneEvent};
 ghost use Rattle.gx_store.specs.declared.node.NodeEvent.TheVariants as here;
-ghost use Rattle.gx_law_schedules.specs.Enabled.{drawn, enabled_by, enabled_there};
+ghost use Rattle.gx_law_schedules.specs.Enabled.{drawn, enabled_there};
 ghost use Rattle.gx_law_schedules.specs.Links.{is_number, message_of};
 ghost use Rattle.gx_law_schedules.specs.Marked.{AreLocksMarked};
 ghost use Rattle.gx_law_schedules.specs.Room.{HasRoom};
@@ -94,21 +94,6 @@ pub fn locks_are_marked()
     ensures { (script : Script) (events : List (OneEvent × Bool)) → 1 ≤ script.segments → AreLocksMarked (world_of script events) }
 {}
 
-/// Nobody waits for a lock yet.
-pub fn nobody_waits()
-    ensures { (script : Script) (events : List (OneEvent × Bool)) (node : OneNode) (g : OneGxid) → 1 ≤ script.segments → schedule.waits_of (marks_in (world_of script events).steps) node g ≡ [] }
-{}
-
-/// So nobody resumes.
-pub fn nobody_resumes()
-    ensures { (script : Script) (events : List (OneEvent × Bool)) (node : OneNode) → 1 ≤ script.segments → schedule.resumptions (marks_in (world_of script events).steps) node ≡ [] }
-{}
-
-/// No round begins.
-pub fn no_round_begins()
-    ensures { (script : Script) (events : List (OneEvent × Bool)) → 1 ≤ script.segments → schedule.rounds script (world_of script events).steps ≡ [] }
-{}
-
 /// No graph is awaited.
 pub fn no_graph_is_awaited()
     ensures { (script : Script) (events : List (OneEvent × Bool)) (segment : OneNode) → 1 ≤ script.segments → schedule.is_graph_awaited (world_of script events).steps segment ≡ false }
@@ -146,16 +131,5 @@ pub fn enabled_is_admitted_but_for_rounds()
 /// So it admits all of them where the script has no detector.
 pub fn enabled_is_admitted_without_detector()
     ensures { (script : Script) (events : List (OneEvent × Bool)) → 1 ≤ script.segments → script.detector ≡ false
-        → list_all (can script (world_of script events)) (schedule.enabled script (world_of script events).steps) ≡ true }
-{}
-
-/// What is enabled where nobody waits.
-pub fn enabled_by_the_nodes()
-    ensures { (script : Script) (events : List (OneEvent × Bool)) → 1 ≤ script.segments → schedule.enabled script (world_of script events).steps ≡ enabled_by script (world_of script events) }
-{}
-
-/// The machine admits each event that is enabled where nobody waits.
-pub fn enabled_is_admitted()
-    ensures { (script : Script) (events : List (OneEvent × Bool)) → 1 ≤ script.segments
         → list_all (can script (world_of script events)) (schedule.enabled script (world_of script events).steps) ≡ true }
 {}
