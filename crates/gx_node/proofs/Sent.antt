@@ -12,7 +12,7 @@ use Rattle.gx_node.specs.contracts.local.Local as Local
 use Rattle.gx_node.specs.contracts.local.Suspended as Suspended
 
 pub suspended_send : IsSend Suspended.the_field.row
-suspended_send = search (sendable, cid.the_field_send, level.the_field_send, snapshot.the_field_send, slice_send) depth 20
+suspended_send = search (sendable, option.the_field_send, cid.the_field_send, level.the_field_send, snapshot.the_field_send, slice_send) depth 20
 
 pub local_field_send : IsSend Local.the_field.row
 local_field_send = search (sendable, option.the_field_send, phase.the_field_send, vote.the_field_send, reply.the_field_send, suspended_send) depth 20

@@ -25,7 +25,7 @@ reply_of vote.Jfault = reply.Jfault
 
 -- it waits for its table, and has come to no row yet
 abbrev pub suspended_of : Suspended → rule.Suspended
-suspended_of w = record { cid = w.cid; level = w.level; snapshot = Some w.snapshot; slice = w.slice; count = 0; row = None; rows = [] }
+suspended_of w = record { cid = w.cid; level = w.level; snapshot = w.snapshot; slice = w.slice; count = 0; row = None; rows = [] }
 
 abbrev pub local_of : Local → rule.Local
 local_of l =

@@ -22,4 +22,4 @@ pub use local::{Local, Phase, Suspended, Taken, Vote};
 pub use locking::{ask_for, claim_on, give_back, take_ready};
 pub use orders::take_order;
 pub use parts::fits_part;
-pub use slices::is_right_slice;
+pub use slices::{is_right_slice, reads_nothing};

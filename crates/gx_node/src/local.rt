@@ -46,12 +46,12 @@ impl Vote {
     }
 }
 
-/// A command's slice that waits for its table.
+/// A command's slice, which has its table's lock or waits for it. It has a snapshot unless it reads nothing.
 #[derive(Debug, Drop)]
 pub struct Suspended {
     pub cid: Cid,
     pub level: Level,
-    pub snapshot: Snapshot,
+    pub snapshot: Option<Snapshot>,
     pub slice: Slice,
 }
 

@@ -1,4 +1,7 @@
 ghost use Rattle.std.specs.Prelude.{◌≡◌, slice_get};
+ghost use Rattle.gx_ids.specs.declared.ids.Cid.{Cid};
+ghost use Rattle.gx_ids.specs.declared.ids.Gxid.{Gxid};
+ghost use Rattle.gx_modes.specs.declared.modes.Mode.{Mode};
 ghost use Rattle.gx_node.specs.Right.{IsRightFor};
 ghost use Rattle.gx_rules.specs.Fits as fits;
 ghost use Rattle.gx_tree.specs.declared.slice.Slice.TheVariants as slice;
@@ -26,14 +29,35 @@ fn is_right_insert(tables: &[Schema], gxid: Gxid, cid: Cid, table: Table, rows: 
     }
 }
 
+// A lock names a table that is there.
+fn is_right_lock(tables: &[Schema], table: Table) -> bool
+    ensures { (g : Gxid) (c : Cid) (mode : Mode) → result ≡ fits.is_right_on g c (slice_get tables.now table.0) (slice.Lock table mode) }
+{
+    match tables.get(usize::from(table.0)) {
+        Some(_schema) => true,
+        None => false,
+    }
+}
+
 /// Whether a slice is right for a script's tables: a query whose columns are there and whose comparisons are of one kind, or
-/// rows of this very command with a value of each column's kind. Slices that change rows or lock a table aren't run yet.
+/// rows of this very command with a value of each column's kind, or a lock. Slices that change rows aren't run yet.
 pub fn is_right_slice(tables: &[Schema], gxid: Gxid, cid: Cid, slice: &Slice) -> bool
     ensures { IsRightFor tables.now gxid cid slice.now result }
 {
     match slice {
         Slice::Select(query) => is_right_select(tables, gxid, cid, query),
         Slice::Insert(table, rows) => is_right_insert(tables, gxid, cid, *table, rows.as_slice()),
+        Slice::Lock(table, _) => is_right_lock(tables, *table),
+        _ => false,
+    }
+}
+
+/// Whether a slice reads nothing, so that it needs no snapshot.
+pub fn reads_nothing(slice: &Slice) -> bool
+    ensures { result ≡ fits.reads_nothing slice.now }
+{
+    match slice {
+        Slice::Lock(_, _) => true,
         _ => false,
     }
 }

@@ -1,13 +1,12 @@
 -- What a message came to.
-use Rattle.std.proofs.Common.{◌≡◌, ◌≤◌, Bool, true, false, if◌then◌else◌, Option, Some, None, List, [], refl, sym, ap, ◌∙◌, subst, arith}
+use Rattle.std.proofs.Common.{◌≡◌, ◌≤◌, Bool, false, if◌then◌else◌, Option, Some, None, List, [], refl, sym, ap, ◌∙◌, subst, arith}
 use Rattle.std.proofs.lemmas.Bool.Decides.{nat_tests}
 use Rattle.gx_ids.specs.declared.ids.Cid.{Cid}
 use Rattle.gx_ids.specs.declared.ids.Gxid.{Gxid}
 use Rattle.gx_ids.specs.declared.ids.Node.{Node}
-use Rattle.std.specs.Prelude.{◌&&◌, ◌++◌, not, nat_le, nat_lt}
+use Rattle.std.specs.Prelude.{◌++◌}
 use Rattle.gx_tree.specs.declared.schema.Schema.{Schema}
 use Rattle.gx_tree.specs.declared.slice.Slice.{Slice}
-use Rattle.gx_tree.specs.declared.stmt.Level.{Level}
 use Rattle.gx_dsnap.specs.Gxids.{is_below}
 use Rattle.gx_dsnap.specs.declared.snapshot.Snapshot.{Snapshot}
 use Rattle.gx_dtx.specs.declared.order.Order.{Order}
@@ -20,21 +19,16 @@ use Rattle.gx_outside.specs.Shelves.{Shelf}
 use Rattle.gx_node.specs.Orders.{Took}
 use Rattle.gx_node.specs.declared.local.Taken.{Taken}
 use Rattle.gx_node.proofs.Turns.{turn-makes}
-use Rattle.gx_rules.specs.AtSegment.{if_fits, on_exec}
-use Rattle.gx_rules.specs.Fits.{holds_locks, is_right_slice, is_waiting}
-use Rattle.gx_rules.specs.Maps.{each_below}
 use Rattle.gx_rules.specs.Segments.{Local, Seg, SegTurn, after_marks, local_of, stays, tells_kept}
 use Rattle.gx_store.specs.declared.mark.Mark.{Mark}
 use Rattle.gx_rules.specs.Shown.{kept_of}
 use Rattle.gx_rules.specs.Slices.{runs_slice}
-use Rattle.gx_script.specs.declared.Script.{Script}
 use Rattle.gx_slices.specs.Agrees.{IsHeld, entry_at, local_in, rows_in}
 use Rattle.gx_slices.specs.Ran.{HasRun}
 use Rattle.gx_slices.specs.declared.held.Held.{Held}
 use Rattle.gx_slices.specs.declared.running.Ran.{Ran}
 use Rattle.gx_segment.specs.Done.{HasDone, answer_of, to_coordinator}
 use Rattle.gx_segment.specs.Moves.{HasMoved, order_turn}
-use Rattle.gx_segment.specs.Ways.{exec_turn}
 use Rattle.gx_segment.specs.declared.done.Done.{Done}
 use Rattle.gx_segment.proofs.Following.{follows-change_of}
 use Rattle.gx_segment.proofs.Keeping.{horizon-runs_slice}
@@ -43,12 +37,6 @@ use Rattle.gx_segment.proofs.Moving.{IsHeld-moved}
 out-answer_of : (g : Gxid) (r : Option Reply) → to_coordinator (answer_of g r) ≡ outs_in g r
 out-answer_of g None = refl
 out-answer_of g (Some r) = refl
-
-abbrev pub no_done : Done
-no_done = record { marks = []; answer = None; fails = false }
-
-HasDone-stays : (tables : List Schema) (held : Held) (horizon : Gxid) (s : Seg) → IsHeld tables held s → horizon ≡ s.horizon → HasDone tables held horizon no_done (stays s)
-HasDone-stays tables held horizon s is e = record { held = is; horizon = e; marks = refl; outs = refl }
 
 HasDone-kept : (tables : List Schema) (held : Held) (horizon : Gxid) (s : Seg) (g : Gxid) (answer : Option Reply) → IsHeld tables held s → horizon ≡ s.horizon → HasDone tables held horizon (record { marks = []; answer = answer_of g answer; fails = false }) (tells_kept s g answer)
 HasDone-kept tables held horizon s g None is e = record { held = is; horizon = e; marks = refl; outs = refl }
@@ -97,13 +85,13 @@ module _ (o : Order) (s : Seg) (g : Gxid) (fails : Bool) where
 
 -- SLICES
 -- a slice has run behind these marks
-pub HasDone-ran : (tables tables' : List Schema) (held : Held) (s : Seg) (g : Gxid) (c : Cid) (snapshot : Snapshot) (slice : Slice) (ran : Ran) (done : Done) (marks : List Mark) → HasRun tables' held g ran (runs_slice s g c (Some snapshot) slice) → tables' ≡ tables → done ≡ record { marks = marks ++ ran.marks; answer = answer_of g (Some ran.reply); fails = false } → HasDone tables held s.horizon done (after_marks marks (runs_slice s g c (Some snapshot) slice))
+pub HasDone-ran : (tables tables' : List Schema) (held : Held) (s : Seg) (g : Gxid) (c : Cid) (snapshot : Option Snapshot) (slice : Slice) (ran : Ran) (done : Done) (marks : List Mark) → HasRun tables' held g ran (runs_slice s g c snapshot slice) → tables' ≡ tables → done ≡ record { marks = marks ++ ran.marks; answer = answer_of g (Some ran.reply); fails = false } → HasDone tables held s.horizon done (after_marks marks (runs_slice s g c snapshot slice))
 HasDone-ran tables tables' held s g c snapshot slice ran done marks run t d =
-    let turn = runs_slice s g c (Some snapshot) slice in
+    let turn = runs_slice s g c snapshot slice in
     let r : HasRun tables held g ran turn = subst (λ (ts : List Schema). HasRun ts held g ran turn) t run in
     subst (λ (x : Done). HasDone tables held s.horizon x (after_marks marks turn)) (sym d) (record {
       held = r.agrees;
-      horizon = sym (horizon-runs_slice s g c (Some snapshot) slice);
+      horizon = sym (horizon-runs_slice s g c snapshot slice);
       marks = ap (λ (ms : List Mark). marks ++ ms) r.marks;
       outs = sym r.outs;
     })
@@ -113,22 +101,6 @@ HasDone-told tables held s g r done is alive e d =
     let same : r ≡ (local_of s g).answer = e ∙ ap (λ (l : Local). l.answer) (is.locals g alive) in
     subst (λ (x : Done). HasDone tables held s.horizon x (tells_kept s g (local_of s g).answer)) (sym d)
     (subst (λ (x : Option Reply). HasDone tables held s.horizon (record { marks = []; answer = answer_of g r; fails = false }) (tells_kept s g x)) same (HasDone-kept tables held s.horizon s g r is refl))
-
--- without a snapshot nothing is done
-never : (a b c : Bool) → (a && (b && (false && c))) ≡ false
-never true true c = refl
-never true false c = refl
-never false b c = refl
-
-either : (s : Seg) (b : Bool) (turn : SegTurn) → (if b then stays s else (if_fits s false turn)) ≡ stays s
-either s true turn = refl
-either s false turn = refl
-
-exec_turn-none : (script : Script) (s : Seg) (g : Gxid) (c : Cid) (level : Level) (h : Gxid) (slice : Slice) → exec_turn script s g c level None h slice ≡ stays s
-exec_turn-none script s g c level h slice =
-    let turn = on_exec s g c level None h slice (local_of s g) (local_of s g).phase in
-    ap (λ (b : Bool). if is_below s.horizon g then stays s else if_fits s b turn) (never (nat_le h.0 g.0) (each_below h.0 (λ n. not (holds_locks (s.locals n)))) (is_right_slice script g c slice && not (nat_lt (local_of s g).last c.0 && is_waiting (local_of s g))))
-    ∙ either s (is_below s.horizon g) turn
 
 -- AN ORDER IS DONE
 module _ (o : Order) (s : Seg) (g : Gxid) (tables : List Schema) (held held' : Held) (node : Node) (taken : Taken) (done : Done) (is : IsHeld tables held s) (n : node ≡ s.node) (alive : s.horizon.0 ≤ g.0) (d : done ≡ record { marks = marks_in taken.mark ++ left_marks taken.ends node held'.locks g; answer = answer_of g taken.reply; fails = taken.fails }) where
@@ -147,9 +119,3 @@ module _ (o : Order) (s : Seg) (g : Gxid) (tables : List Schema) (held held' : H
   Took-order before after took =
       subst (λ (b : Bool). Took before after b (turn b).item) (sym (ap (λ (x : Done). x.fails) d))
       (subst (λ (it : Option JournalItem). Took before after taken.fails it) (item-ordered o s g taken.fails change alive (made-held o s g taken.fails tables held node is n alive)) took)
-
-pub HasDone-none : (script : Script) (s : Seg) (g : Gxid) (c : Cid) (level : Level) (snapshot : Option Snapshot) (h : Gxid) (slice : Slice) (tables : List Schema) (held : Held) (horizon : Gxid) (done : Done) → IsHeld tables held s → horizon ≡ s.horizon → snapshot ≡ None → done ≡ no_done → HasDone tables held horizon done (exec_turn script s g c level snapshot h slice)
-HasDone-none script s g c level snapshot h slice tables held horizon done is e none d =
-    subst (λ (o : Option Snapshot). HasDone tables held horizon done (exec_turn script s g c level o h slice)) (sym none)
-    (subst (λ (t : SegTurn). HasDone tables held horizon done t) (sym (exec_turn-none script s g c level h slice))
-    (subst (λ (x : Done). HasDone tables held horizon x (stays s)) (sym d) (HasDone-stays tables held horizon s is e)))

@@ -1,7 +1,8 @@
 -- Which way a command goes.
 use Rattle.std.proofs.Common.{◌≡◌, ◌≤◌, Bool, true, false, if◌then◌else◌, List, refl, sym, ap, ◌∙◌, eqb, arith, subst}
 use Rattle.std.proofs.lemmas.Bool.Decides.{nat_tests}
-use Rattle.std.specs.Prelude.{◌&&◌, not, nat_le, nat_lt, Some, slice_get}
+use Rattle.std.specs.Prelude.{◌&&◌, ◌||◌, is_some, not, nat_le, nat_lt, slice_get}
+use Rattle.std.specs.declared.option.Option.{Option}
 use Rattle.gx_ids.specs.declared.ids.Cid.{Cid}
 use Rattle.gx_ids.specs.declared.ids.Gxid.{Gxid}
 use Rattle.gx_tree.specs.declared.schema.Schema.{Schema}
@@ -13,7 +14,7 @@ use Rattle.gx_dsnap.specs.declared.snapshot.Snapshot.{Snapshot}
 use Rattle.gx_node.specs.Right.{IsRightFor}
 use Rattle.gx_script.specs.declared.Script.{Script}
 use Rattle.gx_rules.specs.AtSegment.{if_fits, on_exec, raised, repeats}
-use Rattle.gx_rules.specs.Fits.{holds_locks, is_right_on, is_right_slice, is_waiting}
+use Rattle.gx_rules.specs.Fits.{holds_locks, is_right_on, is_right_slice, is_waiting, reads_nothing}
 use Rattle.gx_rules.specs.Maps.{each_below}
 use Rattle.gx_rules.specs.Segments.{Local, Phase, Reading, Writing, Prepared, Committed, Forgotten, Aborted, Seg, SegTurn, local_of, stays}
 use Rattle.gx_slices.specs.Waiting.{AreWaits, is_open}
@@ -28,7 +29,7 @@ right-tables script other g c (slice.Select query) e = ap (λ (ts : List Schema)
 right-tables script other g c (slice.Insert table rows) e = ap (λ (ts : List Schema). is_right_on g c (slice_get ts table.0) (slice.Insert table rows)) (sym e)
 right-tables script other g c (slice.Update table assigns cond) e = refl
 right-tables script other g c (slice.Delete table cond) e = refl
-right-tables script other g c (slice.Lock table mode) e = refl
+right-tables script other g c (slice.Lock table mode) e = ap (λ (ts : List Schema). is_right_on g c (slice_get ts table.0) (slice.Lock table mode)) (sym e)
 
 third : (a b c : Bool) → (a && (b && c)) ≡ true → c ≡ true
 third true true c e = e
@@ -43,70 +44,85 @@ first : (a b : Bool) → (a && b) ≡ true → a ≡ true
 first true b e = refl
 first false b e = e
 
-module _ (script : Script) (s : Seg) (g : Gxid) (c : Cid) (h : Gxid) (sl : Slice) where
+module _ (script : Script) (s : Seg) (g : Gxid) (c : Cid) (snapshot : Option Snapshot) (h : Gxid) (sl : Slice) where
   abbrev l : Local
   l = local_of s g
 
   abbrev unless_waits : Bool
   unless_waits = not (nat_lt l.last c.0 && is_waiting l)
 
-  abbrev after : Level → Snapshot → Phase → SegTurn
-  after level snapshot p = on_exec s g c level (Some snapshot) h sl l p
+  abbrev after : Level → Phase → SegTurn
+  after level p = on_exec s g c level snapshot h sl l p
 
-  again-turn : (level : Level) (snapshot : Snapshot) (b : Bool) → eqb c.0 l.last ≡ b → repeats s g c l ≡ turn_by (if b then Repeats else Nothing) s g c level (Some snapshot) h sl
-  again-turn level snapshot true e = rw e refl
-  again-turn level snapshot false e = rw e refl
+  again-turn : (level : Level) (b : Bool) → eqb c.0 l.last ≡ b → repeats s g c l ≡ turn_by (if b then Repeats else Nothing) s g c level snapshot h sl
+  again-turn level true e = rw e refl
+  again-turn level false e = rw e refl
 
-  takes-turn : (level : Level) (snapshot : Snapshot) (b : Bool) → nat_lt l.last c.0 ≡ b → after level snapshot Reading ≡ turn_by (if b then Runs else again_at l.last c) s g c level (Some snapshot) h sl
-  takes-turn level snapshot true e = rw e refl
-  takes-turn level snapshot false e = rw e (again-turn level snapshot (eqb c.0 l.last) refl)
+  takes-turn : (level : Level) (b : Bool) → nat_lt l.last c.0 ≡ b → after level Reading ≡ turn_by (if b then Runs else again_at l.last c) s g c level snapshot h sl
+  takes-turn level true e = rw e refl
+  takes-turn level false e = rw e (again-turn level (eqb c.0 l.last) refl)
 
-  way-turn : (level : Level) (snapshot : Snapshot) (p : Phase) → after level snapshot p ≡ turn_by (way_in l.last c p) s g c level (Some snapshot) h sl
-  way-turn level snapshot Reading = takes-turn level snapshot (nat_lt l.last c.0) refl
-  way-turn level snapshot Writing = takes-turn level snapshot (nat_lt l.last c.0) refl
-  way-turn level snapshot Prepared = again-turn level snapshot (eqb c.0 l.last) refl
-  way-turn level snapshot Committed = again-turn level snapshot (eqb c.0 l.last) refl
-  way-turn level snapshot (Forgotten committed) = refl
-  way-turn level snapshot Aborted = refl
+  way-turn : (level : Level) (p : Phase) → after level p ≡ turn_by (way_in l.last c p) s g c level snapshot h sl
+  way-turn level Reading = takes-turn level (nat_lt l.last c.0) refl
+  way-turn level Writing = takes-turn level (nat_lt l.last c.0) refl
+  way-turn level Prepared = again-turn level (eqb c.0 l.last) refl
+  way-turn level Committed = again-turn level (eqb c.0 l.last) refl
+  way-turn level (Forgotten committed) = refl
+  way-turn level Aborted = refl
 
   low-raised : s.horizon.0 ≤ g.0 → h.0 ≤ g.0 → (raised s h).horizon.0 ≤ g.0
   low-raised alive e = grind (arith, nat_tests)
 
-  low : fits_here script s g c h sl ≡ true → h.0 ≤ g.0
-  low fits = let t : nat_le h.0 g.0 ≡ true = first (nat_le h.0 g.0) (each_below h.0 (λ n. not (holds_locks (s.locals n))) && (is_right_slice script g c sl && unless_waits)) fits in grind (arith, nat_tests)
+  abbrev nobody : Bool
+  nobody = each_below h.0 (λ n. not (holds_locks (s.locals n)))
 
-  right : fits_here script s g c h sl ≡ true → IsRightFor script.tables g c sl true
-  right fits = λ other e. sym (first (is_right_slice script g c sl) unless_waits (third (nat_le h.0 g.0) (each_below h.0 (λ n. not (holds_locks (s.locals n)))) (is_right_slice script g c sl && unless_waits) fits)) ∙ right-tables script other g c sl e
+  abbrev reads_it : Bool
+  reads_it = is_some snapshot || reads_nothing sl
+
+  abbrev is_right : Bool
+  is_right = is_right_slice script g c sl
+
+  low : fits_here script s g c snapshot h sl ≡ true → h.0 ≤ g.0
+  low fits = let t : nat_le h.0 g.0 ≡ true = first (nat_le h.0 g.0) (nobody && (reads_it && (is_right && unless_waits))) fits in grind (arith, nat_tests)
+
+  slice-fits : fits_here script s g c snapshot h sl ≡ true → (reads_it && (is_right && unless_waits)) ≡ true
+  slice-fits fits = third (nat_le h.0 g.0) nobody (reads_it && (is_right && unless_waits)) fits
+
+  reads : fits_here script s g c snapshot h sl ≡ true → reads_it ≡ true
+  reads fits = first reads_it (is_right && unless_waits) (slice-fits fits)
+
+  right : fits_here script s g c snapshot h sl ≡ true → IsRightFor script.tables g c sl true
+  right fits = λ other e. sym (first is_right unless_waits (second reads_it (is_right && unless_waits) (slice-fits fits))) ∙ right-tables script other g c sl e
 
   -- a new command's transaction waits for nothing
-  free : fits_here script s g c h sl ≡ true → nat_lt l.last c.0 ≡ true → is_waiting l ≡ false
-  free fits new = waits_not (nat_lt l.last c.0) (is_waiting l) new (second (is_right_slice script g c sl) unless_waits (third (nat_le h.0 g.0) (each_below h.0 (λ n. not (holds_locks (s.locals n)))) (is_right_slice script g c sl && unless_waits) fits))
+  free : fits_here script s g c snapshot h sl ≡ true → nat_lt l.last c.0 ≡ true → is_waiting l ≡ false
+  free fits new = waits_not (nat_lt l.last c.0) (is_waiting l) new (third reads_it is_right unless_waits (slice-fits fits))
     where
       waits_not : (a b : Bool) → a ≡ true → not (a && b) ≡ true → b ≡ false
       waits_not true true e f = absurd (cc)
       waits_not true false e f = refl
       waits_not false b e f = absurd (cc)
 
-  nobody_below : fits_here script s g c h sl ≡ true → each_below h.0 (λ n. not (holds_locks (s.locals n))) ≡ true
-  nobody_below fits = first (each_below h.0 (λ n. not (holds_locks (s.locals n)))) (is_right_slice script g c sl && unless_waits) (second (nat_le h.0 g.0) (each_below h.0 (λ n. not (holds_locks (s.locals n))) && (is_right_slice script g c sl && unless_waits)) fits)
+  nobody_below : fits_here script s g c snapshot h sl ≡ true → nobody ≡ true
+  nobody_below fits = first nobody (reads_it && (is_right && unless_waits)) (second (nat_le h.0 g.0) (nobody && (reads_it && (is_right && unless_waits))) fits)
 
-  module _ (alive : s.horizon.0 ≤ g.0) (waits : AreWaits script.tables s) (fits : fits_here script s g c h sl ≡ true) where
-    again-goes : (b : Bool) → Goes script s g c h sl (if b then Repeats else Nothing)
+  module _ (alive : s.horizon.0 ≤ g.0) (waits : AreWaits script.tables s) (fits : fits_here script s g c snapshot h sl ≡ true) where
+    again-goes : (b : Bool) → Goes script s g c snapshot h sl (if b then Repeats else Nothing)
     again-goes true = alive
     again-goes false = tt
 
     first_is_new : nat_lt l.last c.0 ≡ true → nat_lt 0 c.0 ≡ true
     first_is_new e = grind (arith, nat_tests)
 
-    takes-goes : is_open l.phase ≡ true → (b : Bool) → nat_lt l.last c.0 ≡ b → Goes script s g c h sl (if b then Runs else again_at l.last c)
+    takes-goes : is_open l.phase ≡ true → (b : Bool) → nat_lt l.last c.0 ≡ b → Goes script s g c snapshot h sl (if b then Runs else again_at l.last c)
     takes-goes is true e = record {
-      may = record { alive = low-raised alive (low fits); open_here = is; free = free fits e; right = right fits };
+      may = record { alive = low-raised alive (low fits); open_here = is; free = free fits e; reads = reads fits; right = right fits };
       new = first_is_new e;
       waits = AreWaits-raised script.tables s h waits (nobody_below fits);
     }
     takes-goes is false e = again-goes (eqb c.0 l.last)
 
-    way-goes : (p : Phase) → is_open l.phase ≡ is_open p → Goes script s g c h sl (way_in l.last c p)
+    way-goes : (p : Phase) → is_open l.phase ≡ is_open p → Goes script s g c snapshot h sl (way_in l.last c p)
     way-goes Reading e = takes-goes e (nat_lt l.last c.0) refl
     way-goes Writing e = takes-goes e (nat_lt l.last c.0) refl
     way-goes Prepared e = again-goes (eqb c.0 l.last)
@@ -117,14 +133,14 @@ module _ (script : Script) (s : Seg) (g : Gxid) (c : Cid) (h : Gxid) (sl : Slice
   not_below : s.horizon.0 ≤ g.0 → is_below s.horizon g ≡ false
   not_below alive = grind (arith, nat_tests)
 
-  past : (level : Level) (snapshot : Snapshot) → is_below s.horizon g ≡ false → (b : Bool) → fits_here script s g c h sl ≡ b → exec_turn script s g c level (Some snapshot) h sl ≡ if_fits s b (after level snapshot l.phase)
-  past level snapshot e b f =
-      ap (λ (x : Bool). if x then stays s else if_fits s (fits_here script s g c h sl) (after level snapshot l.phase)) e
-      ∙ ap (λ (x : Bool). if_fits s x (after level snapshot l.phase)) f
+  past : (level : Level) → is_below s.horizon g ≡ false → (b : Bool) → fits_here script s g c snapshot h sl ≡ b → exec_turn script s g c level snapshot h sl ≡ if_fits s b (after level l.phase)
+  past level e b f =
+      ap (λ (x : Bool). if x then stays s else if_fits s (fits_here script s g c snapshot h sl) (after level l.phase)) e
+      ∙ ap (λ (x : Bool). if_fits s x (after level l.phase)) f
 
   -- it goes by the transaction's record
-  pub way-held : s.horizon.0 ≤ g.0 → AreWaits script.tables s → fits_here script s g c h sl ≡ true → (way : Way) → way ≡ way_of l c → IsWay script s g c h sl way
-  way-held alive waits fits way e = subst (IsWay script s g c h sl) (sym e) (record {
-    turn = λ level snapshot. past level snapshot (not_below alive) true fits ∙ way-turn level snapshot l.phase;
+  pub way-held : s.horizon.0 ≤ g.0 → AreWaits script.tables s → fits_here script s g c snapshot h sl ≡ true → (way : Way) → way ≡ way_of l c → IsWay script s g c snapshot h sl way
+  way-held alive waits fits way e = subst (IsWay script s g c snapshot h sl) (sym e) (record {
+    turn = λ level. past level (not_below alive) true fits ∙ way-turn level l.phase;
     goes = way-goes alive waits fits l.phase refl;
   })

@@ -37,7 +37,7 @@ held-sends tables held s sent clock is = record {
   locks = is.locks;
   waits = record {
     standing = is.waits.standing;
-    right = λ g w e. let right = is.waits.right g w e in record { alive = right.alive; open_here = right.open_here; came = right.came; right = right.right };
+    right = λ g w e. let right = is.waits.right g w e in record { alive = right.alive; open_here = right.open_here; came = right.came; reads = right.reads; right = right.right };
   };
 }
 

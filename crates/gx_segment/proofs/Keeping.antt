@@ -64,14 +64,15 @@ selects-stand s g c query rows None = record { node = refl; sent = refl; horizon
 selects-stand s g c query rows (Some fault) = record { node = refl; sent = refl; horizon = refl }
 
 slice-stands : (s : Seg) (g : Gxid) (c : Cid) (snapshot : Option Snapshot) (sl : Slice) → Stands s (runs_slice s g c snapshot sl).seg
+slice-stands s g c None (slice.Select query) = record { node = refl; sent = refl; horizon = refl }
 slice-stands s g c (Some snapshot) (slice.Select query) =
     selects-stand s g c query (shown s snapshot g c query.table) (first_fault query.cond (shown s snapshot g c query.table))
+slice-stands s g c None (slice.Insert table rows) = record { node = refl; sent = refl; horizon = refl }
 slice-stands s g c (Some snapshot) (slice.Insert table rows) =
     let more = rows-stand g c table rows (record { seg = s; marks = [] }) in record { node = more.node; sent = more.sent; horizon = more.horizon }
-slice-stands s g c (Some snapshot) (slice.Update table assigns cond) = record { node = refl; sent = refl; horizon = refl }
-slice-stands s g c (Some snapshot) (slice.Delete table cond) = record { node = refl; sent = refl; horizon = refl }
-slice-stands s g c (Some snapshot) (slice.Lock table mode) = record { node = refl; sent = refl; horizon = refl }
-slice-stands s g c None sl = record { node = refl; sent = refl; horizon = refl }
+slice-stands s g c snapshot (slice.Update table assigns cond) = record { node = refl; sent = refl; horizon = refl }
+slice-stands s g c snapshot (slice.Delete table cond) = record { node = refl; sent = refl; horizon = refl }
+slice-stands s g c snapshot (slice.Lock table mode) = record { node = refl; sent = refl; horizon = refl }
 
 pub horizon-runs_slice : (s : Seg) (g : Gxid) (c : Cid) (snapshot : Option Snapshot) (sl : Slice) → (runs_slice s g c snapshot sl).seg.horizon ≡ s.horizon
 horizon-runs_slice s g c snapshot sl = (slice-stands s g c snapshot sl).horizon

@@ -31,7 +31,7 @@ use Rattle.gx_segment.specs.Done.{HasDone, IsQuiet}
 use Rattle.gx_segment.specs.Waking.{awakened}
 use Rattle.gx_segment.specs.declared.done.Done.{Done}
 
-module _ (tables : List Schema) (held : Held) (s : Seg) (g : Gxid) (c : Cid) (slice : Slice) (wanted : Claim) (is : IsHeld tables held s) (may : MayRun tables s g c slice) (own : wanted.gxid ≡ g) where
+module _ (tables : List Schema) (held : Held) (s : Seg) (g : Gxid) (c : Cid) (snapshot : Option Snapshot) (slice : Slice) (wanted : Claim) (is : IsHeld tables held s) (may : MayRun tables s g c snapshot slice) (own : wanted.gxid ≡ g) where
   -- it asks once
   pub waits-for-nothing : list_any (is_of wanted.gxid) held.locks.waits ≡ false
   waits-for-nothing = ap (λ (l : Locks). list_any (is_of wanted.gxid) l.waits) is.locks ∙ ap (λ (k : Gxid). list_any (is_of k) s.locks.waits) own ∙ is.waits.standing g ∙ may.free
@@ -59,8 +59,8 @@ module _ (tables : List Schema) (held : Held) (s : Seg) (wanted : Claim) (is : I
     waits = waits-locked;
   }
 
-  pub MayRun-locked : (g : Gxid) (c : Cid) (slice : Slice) → MayRun tables s g c slice → MayRun tables (record s { locks = now }) g c slice
-  MayRun-locked g c slice may = record { alive = may.alive; open_here = may.open_here; free = may.free; right = may.right }
+  pub MayRun-locked : (g : Gxid) (c : Cid) (snapshot : Option Snapshot) (slice : Slice) → MayRun tables s g c snapshot slice → MayRun tables (record s { locks = now }) g c snapshot slice
+  MayRun-locked g c snapshot slice may = record { alive = may.alive; open_here = may.open_here; free = may.free; reads = may.reads; right = may.right }
 
   module _ (g : Gxid) (c : Cid) (level : Level) (snapshot : Option Snapshot) (slice : Slice) (node : Node) (marks : List Mark) (free : granted ≡ is_free held.locks.holds wanted) (n : node ≡ s.node) (told : marks ≡ [] ++ asked_mark node wanted granted ∷ []) where
     is-free : is_free s.locks.holds wanted ≡ true
@@ -81,22 +81,22 @@ pub IsQuiet-same : (done : Done) (turn turn' : SegTurn) → turn ≡ turn' → I
 IsQuiet-same done turn turn' e is = subst (IsQuiet done) e is
 
 -- IT WAITS
-module _ (tables : List Schema) (held new : Held) (s : Seg) (g : Gxid) (w : code.Suspended) (wanted : Claim) (granted : Bool) (now : Locks) (node : Node) (marks : List Mark) (done : Done) (is : IsHeld tables held s) (may : MayRun tables s g w.cid w.slice) (came : nat_lt 0 w.cid.0 ≡ true) (own : wanted.gxid ≡ g) (no_it_isnt : granted ≡ false) (asked : now ≡ asked_locks held.locks wanted granted) (free : granted ≡ is_free held.locks.holds wanted) (n : node ≡ s.node) (told : marks ≡ [] ++ asked_mark node wanted granted ∷ []) (did : HasSuspended (record held { locks = now }) new g w) (d : done ≡ record { marks = marks; answer = None; fails = false }) where
-  turn-waits : suspends s g w.cid w.level (Some w.snapshot) w.slice wanted ≡ requests s g w.cid w.level (Some w.snapshot) w.slice (Some wanted)
+module _ (tables : List Schema) (held new : Held) (s : Seg) (g : Gxid) (w : code.Suspended) (wanted : Claim) (granted : Bool) (now : Locks) (node : Node) (marks : List Mark) (done : Done) (is : IsHeld tables held s) (may : MayRun tables s g w.cid w.snapshot w.slice) (came : nat_lt 0 w.cid.0 ≡ true) (own : wanted.gxid ≡ g) (no_it_isnt : granted ≡ false) (asked : now ≡ asked_locks held.locks wanted granted) (free : granted ≡ is_free held.locks.holds wanted) (n : node ≡ s.node) (told : marks ≡ [] ++ asked_mark node wanted granted ∷ []) (did : HasSuspended (record held { locks = now }) new g w) (d : done ≡ record { marks = marks; answer = None; fails = false }) where
+  turn-waits : suspends s g w.cid w.level w.snapshot w.slice wanted ≡ requests s g w.cid w.level w.snapshot w.slice (Some wanted)
   turn-waits =
-      ap (λ (b : Bool). if b then runs_locked s g w.cid (Some w.snapshot) w.slice wanted else suspends s g w.cid w.level (Some w.snapshot) w.slice wanted)
+      ap (λ (b : Bool). if b then runs_locked s g w.cid w.snapshot w.slice wanted else suspends s g w.cid w.level w.snapshot w.slice wanted)
       (sym (ap (λ (l : Locks). is_free l.holds wanted) (sym is.locks) ∙ sym free ∙ no_it_isnt))
 
-  pub HasDone-waits : HasDone tables new s.horizon done (requests s g w.cid w.level (Some w.snapshot) w.slice (Some wanted))
+  pub HasDone-waits : HasDone tables new s.horizon done (requests s g w.cid w.level w.snapshot w.slice (Some wanted))
   HasDone-waits =
-      HasDone-same tables new s.horizon done _ _ turn-waits (subst (λ (x : Done). HasDone tables new s.horizon x (suspends s g w.cid w.level (Some w.snapshot) w.slice wanted)) (sym d) (record {
+      HasDone-same tables new s.horizon done _ _ turn-waits (subst (λ (x : Done). HasDone tables new s.horizon x (suspends s g w.cid w.level w.snapshot w.slice wanted)) (sym d) (record {
         held = IsHeld-suspended tables held (record held { locks = now }) new s g w wanted is may came own refl refl refl (asked ∙ ap (asked_locks held.locks wanted) no_it_isnt ∙ ap (λ (l : Locks). asked_locks l wanted false) is.locks) did;
         horizon = refl;
         marks = told ∙ ap (λ (b : Bool). asked_mark node wanted b ∷ []) no_it_isnt ∙ ap (λ (i : Node). asked_mark i wanted false ∷ []) n;
         outs = refl;
       }))
 
-  pub IsQuiet-waits : IsQuiet done (requests s g w.cid w.level (Some w.snapshot) w.slice (Some wanted))
+  pub IsQuiet-waits : IsQuiet done (requests s g w.cid w.level w.snapshot w.slice (Some wanted))
   IsQuiet-waits = IsQuiet-same done _ _ turn-waits (record { fails = ap (λ (x : Done). x.fails) d; item = refl })
 
 -- IT HAS WAITED
@@ -133,7 +133,7 @@ module _ (tables : List Schema) (held woke : Held) (s : Seg) (g : Gxid) (found :
     its-slice : (local_of s g).suspended ≡ Some (suspended_of w)
     its-slice = sym found-is ∙ ap (option_map suspended_of) some
 
-    pub MayRun-awakened : MayRun tables (awakened s g) g w.cid w.slice
+    pub MayRun-awakened : MayRun tables (awakened s g) g w.cid w.snapshot w.slice
     MayRun-awakened =
         MayRun-woken tables held woke s g found (resumed s.locks g (wait_of s.locks g)) is alive did (emptied-resumed tables s g is.waits ready) (suspended_of w)
         (is.waits.right g (suspended_of w) its-slice)
@@ -141,13 +141,13 @@ module _ (tables : List Schema) (held woke : Held) (s : Seg) (g : Gxid) (found :
     abbrev with_wait_of : Option Claim → Seg
     with_wait_of o = record (with_local s g (record (local_of s g) { suspended = None })) { locks = resumed s.locks g o }
 
-    by-wait : (o : Option Claim) → is_ready s.locks.holds o ≡ true → after_marks (resumed_marks s.node o) (runs_slice (with_wait_of o) g w.cid (Some w.snapshot) w.slice) ≡ resumes s g o (Some (suspended_of w))
+    by-wait : (o : Option Claim) → is_ready s.locks.holds o ≡ true → after_marks (resumed_marks s.node o) (runs_slice (with_wait_of o) g w.cid w.snapshot w.slice) ≡ resumes s g o (Some (suspended_of w))
     by-wait None e = absurd (cc)
     by-wait (Some wanted) e = refl
 
-    pub turn-resumed : (node : Node) (marks : List Mark) → node ≡ s.node → marks ≡ [] ++ resumed_marks node (wait_of woke.locks g) → after_marks marks (runs_slice (awakened s g) g w.cid (Some w.snapshot) w.slice) ≡ resumes s g (wait_of s.locks g) (local_of s g).suspended
+    pub turn-resumed : (node : Node) (marks : List Mark) → node ≡ s.node → marks ≡ [] ++ resumed_marks node (wait_of woke.locks g) → after_marks marks (runs_slice (awakened s g) g w.cid w.snapshot w.slice) ≡ resumes s g (wait_of s.locks g) (local_of s g).suspended
     turn-resumed node marks n told =
-        ap (λ (ms : List Mark). after_marks ms (runs_slice (awakened s g) g w.cid (Some w.snapshot) w.slice))
+        ap (λ (ms : List Mark). after_marks ms (runs_slice (awakened s g) g w.cid w.snapshot w.slice))
         (told ∙ ap (λ (i : Node). resumed_marks i (wait_of woke.locks g)) n ∙ ap (λ (l : Locks). resumed_marks s.node (wait_of l g)) (did.locks ∙ is.locks))
         ∙ by-wait (wait_of s.locks g) ready
         ∙ ap (resumes s g (wait_of s.locks g)) (sym its-slice)

@@ -148,6 +148,7 @@ module _ (tables : List Schema) (held held' : Held) (s : Seg) (g : Gxid) (change
             alive = subst (λ (x : Gxid). x.0 ≤ g.0) (sym horizon) right.alive;
             open_here = ap (λ (l : Local). is_open l.phase) same ∙ right.open_here;
             came = ap (λ (l : Local). nat_lt 0 l.last) same ∙ right.came;
+            reads = right.reads;
             right = right.right;
           }
 

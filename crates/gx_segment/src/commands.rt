@@ -1,10 +1,10 @@
 // What becomes of a command that comes.
-ghost use Rattle.std.specs.Prelude.{◌≡◌, ◌≤◌, ◌&&◌, nat_lt, not};
+ghost use Rattle.std.specs.Prelude.{◌≡◌, ◌≤◌, ◌&&◌, ◌||◌, is_some, nat_lt, not};
 ghost use Rattle.std.specs.BTreeMap.{get};
 ghost use Rattle.std.specs.BTreeSet.{contains};
 ghost use Rattle.gx_dsnap.specs.Gxids.{gxid_cmp};
 ghost use Rattle.gx_node.specs.Phases.{local_of};
-ghost use Rattle.gx_rules.specs.Fits.{is_waiting};
+ghost use Rattle.gx_rules.specs.Fits.{is_waiting, reads_nothing};
 ghost use Rattle.gx_rules.specs.Maps.{each_below};
 ghost use Rattle.gx_slices.specs.Agrees.{IsHeld, local_in};
 ghost use Rattle.gx_segment.specs.Before.{Before};
@@ -12,10 +12,9 @@ ghost use Rattle.gx_segment.specs.Ways.{IsWay, again_at, fits_here, way_of};
 
 use crate::entries::Entries;
 use gx_ids::{Cid, Gxid};
-use gx_node::{Local, Phase, is_right_slice};
+use gx_node::{Local, Phase, Suspended, is_right_slice, reads_nothing};
 use gx_script::Script;
 use gx_slices::Held;
-use gx_tree::Slice;
 use std::collections::BTreeSet;
 
 /// A command that is new runs, the last one is answered again, and any other is nothing.
@@ -26,43 +25,49 @@ pub enum Way {
     Nothing,
 }
 
-// The way of a command with a snapshot.
+// The way of a command.
 pub(crate) fn find_way(
     script: &Script,
     held: &Held,
     horizon: Gxid,
     gxid: Gxid,
-    cid: Cid,
+    command: &Suspended,
     low: Gxid,
-    slice: &Slice,
 ) -> Way
     ghost was: { Before }
     requires script { script.now ≡ was.script }
     requires held { IsHeld was.script.tables held.now was.seg }
     requires horizon { horizon ≡ was.seg.horizon }
-    ensures { IsWay was.script was.seg gxid cid low slice.now result }
+    ensures { IsWay was.script was.seg gxid command.now.cid command.now.snapshot low command.now.slice result }
 {
     if gxid < horizon {
         return Way::Nothing;
     }
-    if !fits(script, held, gxid, cid, low, slice) {
+    if !fits(script, held, gxid, command, low) {
         return Way::Nothing;
     }
-    way_at(&held.entries, gxid, cid)
+    way_at(&held.entries, gxid, command.cid)
 }
 
-// Whether the command fits, given that it has a snapshot.
-fn fits(script: &Script, held: &Held, gxid: Gxid, cid: Cid, low: Gxid, slice: &Slice) -> bool
+fn fits(script: &Script, held: &Held, gxid: Gxid, command: &Suspended, low: Gxid) -> bool
     ghost was: { Before }
     requires script { script.now ≡ was.script }
     requires held { IsHeld was.script.tables held.now was.seg }
     requires alive { was.seg.horizon.0 ≤ gxid.0 }
-    ensures { result ≡ fits_here was.script was.seg gxid cid low slice.now }
+    ensures { result ≡ fits_here was.script was.seg gxid command.now.cid command.now.snapshot low command.now.slice }
 {
     low <= gxid
         && is_none_below(&held.holders, low)
-        && is_right_slice(script.tables.as_slice(), gxid, cid, slice)
-        && waits_not(&held.entries, gxid, cid)
+        && has_what_it_reads(command)
+        && is_right_slice(script.tables.as_slice(), gxid, command.cid, &command.slice)
+        && waits_not(&held.entries, gxid, command.cid)
+}
+
+// It has a snapshot, or reads nothing.
+fn has_what_it_reads(command: &Suspended) -> bool
+    ensures { result ≡ (is_some command.now.snapshot || reads_nothing command.now.slice) }
+{
+    command.snapshot.is_some() || reads_nothing(&command.slice)
 }
 
 // The command isn't new, or no slice of its transaction waits.

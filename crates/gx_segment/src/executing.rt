@@ -1,5 +1,5 @@
 // EXEC.
-ghost use Rattle.std.specs.Prelude.{◌≡◌, ◌<◌, ◌≤◌, [], false, None, Some, IfOk};
+ghost use Rattle.std.specs.Prelude.{◌≡◌, ◌<◌, ◌≤◌, [], false, None, IfOk};
 ghost use Rattle.std.specs.BTreeMap.{get};
 ghost use Rattle.gx_ids.specs.declared.ids.Gxid.{Gxid};
 ghost use Rattle.gx_dsnap.specs.Gxids.{gxid_cmp};
@@ -16,64 +16,17 @@ use crate::commands::{Way, find_way};
 use crate::done::{Done, nothing, tell};
 use crate::entries::kept_answer;
 use crate::starting::start;
-use gx_dsnap::Snapshot;
-use gx_ids::{Cid, Gxid, Mem, Node};
+use gx_ids::{Gxid, Mem, Node};
 use gx_node::Suspended;
 use gx_outside::Gate;
 use gx_rows::drop_below;
 use gx_script::Script;
 use gx_slices::Held;
-use gx_tree::{Level, Slice};
+use gx_tree::Slice;
 use std::alloc::Global;
 
 // Takes a command's part for this segment.
 pub(crate) fn exec<G: Gate>(
-    alloc: Global,
-    node: Node,
-    script: &Script,
-    held: &mut Held,
-    horizon: &mut Gxid,
-    gxid: Gxid,
-    cid: Cid,
-    level: Level,
-    snapshot: Option<Snapshot>,
-    low: Gxid,
-    slice: Slice,
-    gate: &G,
-) -> Mem<Done>
-    ghost was: { Before }
-    requires script { script.now ≡ was.script }
-    requires held { IsHeld was.script.tables held.old was.seg }
-    requires horizon { horizon.old ≡ was.seg.horizon }
-    requires node { node ≡ was.seg.node }
-    ensures done { IfOk result (λ done. HasDone was.script.tables held.new horizon.new done (exec_turn was.script was.seg gxid cid level snapshot low slice)) }
-    ensures quiet { IfOk result (λ done. IsQuiet done (exec_turn was.script was.seg gxid cid level snapshot low slice)) }
-{
-    match snapshot {
-        Some(snapshot) => {
-            let command = Suspended {
-                cid,
-                level,
-                snapshot,
-                slice,
-            };
-            exec_by(alloc, node, script, held, horizon, gxid, command, low, gate)
-        }
-        None => Ok(leave(alloc, slice)),
-    }
-}
-
-fn leave(alloc: Global, slice: Slice) -> Done
-    ensures { result ≡ record { marks = []; answer = None; fails = false } }
-{
-    let_go(slice);
-    nothing(alloc)
-}
-
-fn let_go(_slice: Slice) {}
-
-// The same with the snapshot.
-fn exec_by<G: Gate>(
     alloc: Global,
     node: Node,
     script: &Script,
@@ -89,18 +42,10 @@ fn exec_by<G: Gate>(
     requires held { IsHeld was.script.tables held.old was.seg }
     requires horizon { horizon.old ≡ was.seg.horizon }
     requires node { node ≡ was.seg.node }
-    ensures done { IfOk result (λ done. HasDone was.script.tables held.new horizon.new done (exec_turn was.script was.seg gxid command.cid command.level (Some command.snapshot) low command.slice)) }
-    ensures quiet { IfOk result (λ done. IsQuiet done (exec_turn was.script was.seg gxid command.cid command.level (Some command.snapshot) low command.slice)) }
+    ensures done { IfOk result (λ done. HasDone was.script.tables held.new horizon.new done (exec_turn was.script was.seg gxid command.cid command.level command.snapshot low command.slice)) }
+    ensures quiet { IfOk result (λ done. IsQuiet done (exec_turn was.script was.seg gxid command.cid command.level command.snapshot low command.slice)) }
 {
-    match find_way(
-        script,
-        held,
-        *horizon,
-        gxid,
-        command.cid,
-        low,
-        &command.slice,
-    ) {
+    match find_way(script, held, *horizon, gxid, &command, low) {
         Way::Runs => run(alloc, node, script, held, horizon, gxid, command, low, gate),
         Way::Repeats => {
             let_go(command.slice);
@@ -109,6 +54,15 @@ fn exec_by<G: Gate>(
         Way::Nothing => Ok(leave(alloc, command.slice)),
     }
 }
+
+fn leave(alloc: Global, slice: Slice) -> Done
+    ensures { result ≡ record { marks = []; answer = None; fails = false } }
+{
+    let_go(slice);
+    nothing(alloc)
+}
+
+fn let_go(_slice: Slice) {}
 
 // What was kept is answered again.
 fn repeat(alloc: Global, held: &Held, gxid: Gxid) -> Mem<Done>
@@ -138,10 +92,10 @@ fn run<G: Gate>(
     requires script { script.now ≡ was.script }
     requires held { IsHeld was.script.tables held.old was.seg }
     requires horizon { horizon.old ≡ was.seg.horizon }
-    requires may { MayStart was.script.tables (raised was.seg low) gxid command.cid command.slice }
+    requires may { MayStart was.script.tables (raised was.seg low) gxid command.cid command.snapshot command.slice }
     requires node { node ≡ was.seg.node }
-    ensures done { IfOk result (λ done. HasDone was.script.tables held.new horizon.new done (starts_slice (raised was.seg low) gxid command.cid command.level (Some command.snapshot) command.slice)) }
-    ensures quiet { IfOk result (λ done. IsQuiet done (starts_slice (raised was.seg low) gxid command.cid command.level (Some command.snapshot) command.slice)) }
+    ensures done { IfOk result (λ done. HasDone was.script.tables held.new horizon.new done (starts_slice (raised was.seg low) gxid command.cid command.level command.snapshot command.slice)) }
+    ensures quiet { IfOk result (λ done. IsQuiet done (starts_slice (raised was.seg low) gxid command.cid command.level command.snapshot command.slice)) }
 {
     raise(held, horizon, low);
     let done = start(alloc, node, script, held, gxid, command, gate)?;

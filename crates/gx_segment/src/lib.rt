@@ -12,5 +12,6 @@ pub mod segment;
 mod sending;
 mod starting;
 mod stepping;
+mod waits;
 
 pub use segment::Segment;

@@ -15,6 +15,7 @@ use crate::starting::resume;
 use gx_dtx::order::Order;
 use gx_ids::{Gxid, Mem, Node};
 use gx_msg::Message;
+use gx_node::Suspended;
 use gx_outside::{Gate, Journal};
 use gx_script::Script;
 use gx_slices::Held;
@@ -88,9 +89,13 @@ fn take_message<J: Journal, G: Gate>(
             horizon: low,
             slice,
         } => {
-            exec(
-                alloc, node, script, held, horizon, gxid, cid, level, snapshot, low, slice, gate,
-            )
+            let command = Suspended {
+                cid,
+                level,
+                snapshot,
+                slice,
+            };
+            exec(alloc, node, script, held, horizon, gxid, command, low, gate)
         }
         Message::Prepare(gxid) => {
             take(alloc, node, held, *horizon, gxid, Order::Prepare, journal)

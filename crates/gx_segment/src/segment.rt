@@ -1,5 +1,4 @@
 ghost use Rattle.std.specs.Prelude.{◌≡◌, ◌<◌, ◌^◌, true, false, None, IfOk, OnErr, IsErr};
-ghost use Rattle.gx_meaning.specs.Answer.{AreRising};
 ghost use Rattle.gx_outside.specs.Shelves.{IsLater};
 ghost use Rattle.gx_rules.specs.Machine.{seg_can};
 ghost use Rattle.gx_rules.specs.Segments.{Seg, new_segment};

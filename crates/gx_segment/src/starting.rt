@@ -31,7 +31,7 @@ fn lock_of(gxid: Gxid, slice: &Slice) -> Option<Claim>
         Slice::Insert(table, _) => Some(claim_on(gxid, *table, Mode::RowExclusive)),
         Slice::Update(_, _, _) => None,
         Slice::Delete(_, _) => None,
-        Slice::Lock(_, _) => None,
+        Slice::Lock(table, mode) => Some(claim_on(gxid, *table, *mode)),
     }
 }
 
@@ -48,11 +48,11 @@ pub(crate) fn start<G: Gate>(
     ghost was: { Before }
     requires script { script.now ≡ was.script }
     requires held { IsHeld was.script.tables held.old was.seg }
-    requires may { MayRun was.script.tables was.seg gxid command.cid command.slice }
+    requires may { MayRun was.script.tables was.seg gxid command.cid command.snapshot command.slice }
     requires new { nat_lt 0 command.cid.0 ≡ true }
     requires node { node ≡ was.seg.node }
-    ensures done { IfOk result (λ done. HasDone was.script.tables held.new was.seg.horizon done (starts_slice was.seg gxid command.cid command.level (Some command.snapshot) command.slice)) }
-    ensures quiet { IfOk result (λ done. IsQuiet done (starts_slice was.seg gxid command.cid command.level (Some command.snapshot) command.slice)) }
+    ensures done { IfOk result (λ done. HasDone was.script.tables held.new was.seg.horizon done (starts_slice was.seg gxid command.cid command.level command.snapshot command.slice)) }
+    ensures quiet { IfOk result (λ done. IsQuiet done (starts_slice was.seg gxid command.cid command.level command.snapshot command.slice)) }
 {
     match lock_of(gxid, &command.slice) {
         Some(wanted) => request(alloc, node, script, held, gxid, command, wanted, gate),
@@ -83,12 +83,12 @@ fn request<G: Gate>(
     ghost was: { Before }
     requires script { script.now ≡ was.script }
     requires held { IsHeld was.script.tables held.old was.seg }
-    requires may { MayRun was.script.tables was.seg gxid command.cid command.slice }
+    requires may { MayRun was.script.tables was.seg gxid command.cid command.snapshot command.slice }
     requires new { nat_lt 0 command.cid.0 ≡ true }
     requires own { wanted.gxid ≡ gxid }
     requires node { node ≡ was.seg.node }
-    ensures done { IfOk result (λ done. HasDone was.script.tables held.new was.seg.horizon done (requests was.seg gxid command.cid command.level (Some command.snapshot) command.slice (Some wanted))) }
-    ensures quiet { IfOk result (λ done. IsQuiet done (requests was.seg gxid command.cid command.level (Some command.snapshot) command.slice (Some wanted))) }
+    ensures done { IfOk result (λ done. HasDone was.script.tables held.new was.seg.horizon done (requests was.seg gxid command.cid command.level command.snapshot command.slice (Some wanted))) }
+    ensures quiet { IfOk result (λ done. IsQuiet done (requests was.seg gxid command.cid command.level command.snapshot command.slice (Some wanted))) }
 {
     let mut marks = Vec::new(alloc);
     if ask_for(node, &mut held.locks, wanted, &mut marks)? {
@@ -124,10 +124,10 @@ fn go_on<G: Gate>(
     ghost was: { Before }
     requires script { script.now ≡ was.script }
     requires held { IsHeld was.script.tables held.old was.seg }
-    requires may { MayRun was.script.tables was.seg gxid command.cid command.slice }
+    requires may { MayRun was.script.tables was.seg gxid command.cid command.snapshot command.slice }
     requires node { node ≡ was.seg.node }
-    ensures done { IfOk result (λ done. HasDone was.script.tables held.new was.seg.horizon done (after_marks marks.items (runs_slice was.seg gxid command.cid (Some command.snapshot) command.slice))) }
-    ensures quiet { IfOk result (λ done. IsQuiet done (after_marks marks.items (runs_slice was.seg gxid command.cid (Some command.snapshot) command.slice))) }
+    ensures done { IfOk result (λ done. HasDone was.script.tables held.new was.seg.horizon done (after_marks marks.items (runs_slice was.seg gxid command.cid command.snapshot command.slice))) }
+    ensures quiet { IfOk result (λ done. IsQuiet done (after_marks marks.items (runs_slice was.seg gxid command.cid command.snapshot command.slice))) }
 {
     let passed = pass(gate, node);
     let tables = script.tables.as_slice();

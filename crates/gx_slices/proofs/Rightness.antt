@@ -7,6 +7,7 @@ use Rattle.std.specs.Ordering.{is_lt}
 use Rattle.gx_ids.specs.declared.ids.Cid.{Cid}
 use Rattle.gx_ids.specs.declared.ids.Gxid.{Gxid}
 use Rattle.gx_ids.specs.declared.ids.Table.{Table}
+use Rattle.gx_modes.specs.declared.modes.Mode.{Mode}
 use Rattle.gx_tree.specs.declared.cond.Cond.{Cond}
 use Rattle.gx_tree.specs.declared.query.Query.{Query}
 use Rattle.gx_tree.specs.declared.row.KeyedRow.{KeyedRow}
@@ -135,9 +136,9 @@ module _ (tables : List Schema) (g : Gxid) (c : Cid) (table : Table) where
   typed-inserted s rows typed right = typed-moved rows (record { seg = s; marks = [] }) typed right
 
 -- no other slice is right
-pub right-others : (tables : List Schema) (g : Gxid) (c : Cid) (it : Slice) → IsRightFor tables g c it true → ((query : Query) → it ≡ slice.Select query → ⊥) → ((table : Table) (rows : List KeyedRow) → it ≡ slice.Insert table rows → ⊥) → ⊥
-right-others tables g c (slice.Select query) right select insert = select query refl
-right-others tables g c (slice.Insert table rows) right select insert = insert table rows refl
-right-others tables g c (slice.Update table assigns cond) right select insert = let e : true ≡ false = right (some_script tables) refl in absurd (cc)
-right-others tables g c (slice.Delete table cond) right select insert = let e : true ≡ false = right (some_script tables) refl in absurd (cc)
-right-others tables g c (slice.Lock table mode) right select insert = let e : true ≡ false = right (some_script tables) refl in absurd (cc)
+pub right-others : (tables : List Schema) (g : Gxid) (c : Cid) (it : Slice) → IsRightFor tables g c it true → ((query : Query) → it ≡ slice.Select query → ⊥) → ((table : Table) (rows : List KeyedRow) → it ≡ slice.Insert table rows → ⊥) → ((table : Table) (mode : Mode) → it ≡ slice.Lock table mode → ⊥) → ⊥
+right-others tables g c (slice.Select query) right select insert lock = select query refl
+right-others tables g c (slice.Insert table rows) right select insert lock = insert table rows refl
+right-others tables g c (slice.Update table assigns cond) right select insert lock = let e : true ≡ false = right (some_script tables) refl in absurd (cc)
+right-others tables g c (slice.Delete table cond) right select insert lock = let e : true ≡ false = right (some_script tables) refl in absurd (cc)
+right-others tables g c (slice.Lock table mode) right select insert lock = lock table mode refl

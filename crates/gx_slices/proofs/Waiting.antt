@@ -62,6 +62,7 @@ module _ (tables : List Schema) (s s' : Seg) (g : Gxid) (was : AreWaits tables s
     alive = subst (λ (k : Gxid). k.0 ≤ h.0) (sym horizon) is.alive;
     open_here = ap (λ (l : Local). is_open l.phase) same ∙ is.open_here;
     came = ap (λ (l : Local). nat_lt 0 l.last) same ∙ is.came;
+    reads = is.reads;
     right = is.right;
   }
 
@@ -85,5 +86,5 @@ module _ (tables : List Schema) (s s' : Seg) (g : Gxid) (was : AreWaits tables s
 pub AreWaits-hold : (tables : List Schema) (s : Seg) (wanted : Claim) → AreWaits tables s → AreWaits tables (record s { locks = with_hold s.locks wanted })
 AreWaits-hold tables s wanted was = record {
   standing = was.standing;
-  right = λ g w e. let is = was.right g w e in record { alive = is.alive; open_here = is.open_here; came = is.came; right = is.right };
+  right = λ g w e. let is = was.right g w e in record { alive = is.alive; open_here = is.open_here; came = is.came; reads = is.reads; right = is.right };
 }

@@ -2,7 +2,7 @@
 use Rattle.std.proofs.Common.{◌≡◌, ◌≢◌, ◌≤◌, Bool, true, false, if◌then◌else◌, List, [], ◌∷◌, Option, Some, None, refl, sym, ap, ◌∙◌, subst}
 use Rattle.std.specs.List.{list_any}
 use Rattle.std.specs.BTreeSet.{contains}
-use Rattle.std.specs.Prelude.{◌||◌, find, nat_lt, option_map}
+use Rattle.std.specs.Prelude.{◌||◌, find, is_some, nat_lt, option_map}
 use Rattle.gx_dsnap.specs.Gxids.{gxid_cmp}
 use Rattle.gx_ids.specs.declared.ids.Gxid.{Gxid}
 use Rattle.gx_tree.specs.declared.schema.Schema.{Schema}
@@ -13,7 +13,7 @@ use Rattle.gx_node.specs.Phases as code_of
 use Rattle.gx_node.specs.Phases.{suspended_of}
 use Rattle.gx_node.specs.Right.{IsRightFor}
 use Rattle.gx_node.specs.declared.local.Suspended as code
-use Rattle.gx_rules.specs.Fits.{is_waiting}
+use Rattle.gx_rules.specs.Fits.{is_waiting, reads_nothing}
 use Rattle.gx_rules.specs.Locks.{with_wait}
 use Rattle.gx_rules.specs.Segments.{Local, Seg, Suspended, local_of, with_local}
 use Rattle.gx_rules.specs.Shown.{kept_of}
@@ -37,7 +37,7 @@ module _ (s : Seg) (g : Gxid) (l : Local) where
   other_at h other = ap (λ (b : Bool). if b then l else local_of s h) (apart h.0 g.0 other)
 
 -- IT WAITS
-module _ (tables : List Schema) (held locked new : Held) (s : Seg) (g : Gxid) (w : code.Suspended) (wanted : Claim) (was : IsHeld tables held s) (may : MayRun tables s g w.cid w.slice) (came : nat_lt 0 w.cid.0 ≡ true) (own : wanted.gxid ≡ g) (entries : locked.entries ≡ held.entries) (holders : locked.holders ≡ held.holders) (store : locked.store ≡ held.store) (locks : locked.locks ≡ with_wait s.locks wanted) (did : HasSuspended locked new g w) where
+module _ (tables : List Schema) (held locked new : Held) (s : Seg) (g : Gxid) (w : code.Suspended) (wanted : Claim) (was : IsHeld tables held s) (may : MayRun tables s g w.cid w.snapshot w.slice) (came : nat_lt 0 w.cid.0 ≡ true) (own : wanted.gxid ≡ g) (entries : locked.entries ≡ held.entries) (holders : locked.holders ≡ held.holders) (store : locked.store ≡ held.store) (locks : locked.locks ≡ with_wait s.locks wanted) (did : HasSuspended locked new g w) where
   abbrev waiting : Local
   waiting = record (local_of s g) { last = w.cid.0; answer = None; suspended = Some (suspended_of w) }
 
@@ -55,6 +55,7 @@ module _ (tables : List Schema) (held locked new : Held) (s : Seg) (g : Gxid) (w
         alive = may.alive;
         open_here = ap (λ (l : Local). is_open l.phase) (own_at s g waiting) ∙ may.open_here;
         came = ap (λ (l : Local). nat_lt 0 l.last) (own_at s g waiting) ∙ came;
+        reads = subst (λ (x : Suspended). (is_some x.snapshot || reads_nothing x.slice) ≡ true) (same (suspended_of w) v (sym (ap (λ (l : Local). l.suspended) (own_at s g waiting)) ∙ e)) may.reads;
         right = subst (λ (x : Suspended). IsRightFor tables g x.cid x.slice true) (same (suspended_of w) v (sym (ap (λ (l : Local). l.suspended) (own_at s g waiting)) ∙ e)) may.right;
       })
     where
@@ -111,11 +112,12 @@ module _ (tables : List Schema) (old woke : Held) (s : Seg) (g : Gxid) (waiting 
       refl same waits-free was.typed
 
   -- and may run
-  pub MayRun-woken : (v : Suspended) → IsRightWait tables s g v → MayRun tables free g v.cid v.slice
+  pub MayRun-woken : (v : Suspended) → IsRightWait tables s g v → MayRun tables free g v.cid v.snapshot v.slice
   MayRun-woken v right = record {
     alive = alive;
     open_here = ap (λ (l : Local). is_open l.phase) (own_at s g (awake (local_of s g))) ∙ right.open_here;
     free = ap is_waiting (own_at s g (awake (local_of s g)));
+    reads = right.reads;
     right = right.right;
   }
 

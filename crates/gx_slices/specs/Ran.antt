@@ -1,22 +1,26 @@
 -- When a command may run at a segment, and that it has run.
-use Rattle.std.specs.Prelude.{◌≡◌, ◌≤◌, true, false, List, [], ◌∷◌, None}
+use Rattle.std.specs.Prelude.{◌≡◌, ◌≤◌, ◌||◌, is_some, true, false, List, [], ◌∷◌, None}
+use Rattle.std.specs.declared.option.Option.{Option}
 use Rattle.gx_ids.specs.declared.ids.Cid.{Cid}
 use Rattle.gx_ids.specs.declared.ids.Gxid.{Gxid}
 use Rattle.gx_tree.specs.declared.schema.Schema.{Schema}
 use Rattle.gx_tree.specs.declared.slice.Slice.{Slice}
+use Rattle.gx_dsnap.specs.declared.snapshot.Snapshot.{Snapshot}
 use Rattle.gx_node.specs.Right.{IsRightFor}
-use Rattle.gx_rules.specs.Fits.{is_waiting}
+use Rattle.gx_rules.specs.Fits.{is_waiting, reads_nothing}
 use Rattle.gx_rules.specs.Segments.{Seg, SegTurn, local_of, reply}
 use Rattle.gx_slices.specs.Agrees.{IsHeld}
 use Rattle.gx_slices.specs.Waiting.{is_open}
 use Rattle.gx_slices.specs.declared.held.Held.{Held}
 use Rattle.gx_slices.specs.declared.running.Ran.{Ran}
 
--- it has come no sooner than the horizon, waits for nothing, and its transaction is open here
-pub record MayRun (tables : List Schema) (s : Seg) (g : Gxid) (c : Cid) (slice : Slice) : Type 0 where
+-- it has come no sooner than the horizon, waits for nothing, its transaction is open here, and it has a snapshot unless it reads
+-- nothing
+pub record MayRun (tables : List Schema) (s : Seg) (g : Gxid) (c : Cid) (snapshot : Option Snapshot) (slice : Slice) : Type 0 where
   pub alive : s.horizon.0 ≤ g.0
   pub open_here : is_open (local_of s g).phase ≡ true
   pub free : is_waiting (local_of s g) ≡ false
+  pub reads : (is_some snapshot || reads_nothing slice) ≡ true
   pub right : IsRightFor tables g c slice true
 
 -- what is held afterwards, the marks and the answer are the turn's

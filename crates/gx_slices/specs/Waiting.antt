@@ -1,11 +1,11 @@
 -- Slices that wait at a segment for their table's lock.
-use Rattle.std.specs.Prelude.{◌≡◌, ◌≤◌, nat_lt, Bool, true, false, List, Some}
+use Rattle.std.specs.Prelude.{◌≡◌, ◌≤◌, ◌||◌, is_some, nat_lt, Bool, true, false, List, Some}
 use Rattle.std.specs.List.{list_any}
 use Rattle.gx_ids.specs.declared.ids.Gxid.{Gxid}
 use Rattle.gx_tree.specs.declared.schema.Schema.{Schema}
 use Rattle.gx_locks.specs.Claims.{is_of}
 use Rattle.gx_node.specs.Right.{IsRightFor}
-use Rattle.gx_rules.specs.Fits.{is_waiting}
+use Rattle.gx_rules.specs.Fits.{is_waiting, reads_nothing}
 use Rattle.gx_rules.specs.Segments.{Phase, Reading, Writing, Seg, Suspended, local_of}
 
 -- the transaction has neither promised anything nor ended here
@@ -14,11 +14,13 @@ is_open Reading = true
 is_open Writing = true
 is_open _ = false
 
--- the slice is right for the tables, and of a command that has come to a transaction that is open here
+-- the slice is right for the tables, has a snapshot unless it reads nothing, and is of a command that has come to a transaction
+-- that is open here
 pub record IsRightWait (tables : List Schema) (s : Seg) (g : Gxid) (waiting : Suspended) : Type 0 where
   pub alive : s.horizon.0 ≤ g.0
   pub open_here : is_open (local_of s g).phase ≡ true
   pub came : nat_lt 0 (local_of s g).last ≡ true
+  pub reads : (is_some waiting.snapshot || reads_nothing waiting.slice) ≡ true
   pub right : IsRightFor tables g waiting.cid waiting.slice true
 
 -- those who wait for a lock are those whose slices wait

@@ -1,12 +1,15 @@
 // An INSERT at a segment.
-ghost use Rattle.std.specs.Prelude.{◌≡◌, ◌≤◌, length, IfOk, OnOk};
-ghost use Rattle.gx_rules.specs.Segments.{Seg};
+ghost use Rattle.std.specs.Prelude.{◌≡◌, ◌≤◌, true, false, length, IfOk, OnOk};
+ghost use Rattle.gx_node.specs.Right.{IsRightFor};
+ghost use Rattle.gx_rules.specs.Fits.{is_waiting};
+ghost use Rattle.gx_rules.specs.Segments.{Seg, local_of};
 ghost use Rattle.gx_rules.specs.Slices.{inserted, inserts};
 ghost use Rattle.gx_tree.specs.declared.slice.Slice.TheVariants as slice;
 ghost use Rattle.gx_slices.specs.Agrees.{IsHeld};
 ghost use Rattle.gx_slices.specs.Apart.{IsApart};
 ghost use Rattle.gx_slices.specs.Inserts.{IsInserted, IsPut};
-ghost use Rattle.gx_slices.specs.Ran.{HasRun, MayRun};
+ghost use Rattle.gx_slices.specs.Ran.{HasRun};
+ghost use Rattle.gx_slices.specs.Waiting.{is_open};
 
 use crate::answering::{has_written, keep_answer};
 use crate::entries::take_entry;
@@ -32,7 +35,10 @@ pub(crate) fn insert(
 ) -> Mem<Ran>
     ghost s: { Seg }
     requires held { IsHeld tables.now held.old s }
-    requires may { MayRun tables.now s gxid cid (slice.Insert table rows) }
+    requires alive { s.horizon.0 ≤ gxid.0 }
+    requires open_here { is_open (local_of s gxid).phase ≡ true }
+    requires free { is_waiting (local_of s gxid) ≡ false }
+    requires right { IsRightFor tables.now gxid cid (slice.Insert table rows) true }
     requires node { node ≡ s.node }
     ensures { IfOk result (λ ran. HasRun tables.now held.new gxid ran (inserts gxid cid (length rows) (inserted s gxid cid table rows))) }
 {

@@ -8,6 +8,7 @@ mod entries;
 pub mod held;
 mod inserting;
 pub mod kept;
+mod locked;
 mod picking;
 mod probe;
 mod reading;

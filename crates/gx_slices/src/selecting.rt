@@ -27,12 +27,33 @@ pub(crate) fn select(
     held: &mut Held,
     gxid: Gxid,
     cid: Cid,
+    snapshot: &Option<Snapshot>,
+    query: Query,
+) -> Mem<Ran>
+    ghost s: { Seg }
+    requires held { IsHeld tables.now held.old s }
+    requires may { MayRun tables.now s gxid cid snapshot.now (slice.Select query) }
+    ensures { IfOk result (λ ran. HasRun tables.now held.new gxid ran (runs_slice s gxid cid snapshot.now (slice.Select query))) }
+{
+    match snapshot {
+        Some(snapshot) => select_by(alloc, tables, held, gxid, cid, snapshot, query),
+        None => unreachable!(),
+    }
+}
+
+// The same by its snapshot.
+fn select_by(
+    alloc: Global,
+    tables: &[Schema],
+    held: &mut Held,
+    gxid: Gxid,
+    cid: Cid,
     snapshot: &Snapshot,
     query: Query,
 ) -> Mem<Ran>
     ghost s: { Seg }
     requires held { IsHeld tables.now held.old s }
-    requires may { MayRun tables.now s gxid cid (slice.Select query) }
+    requires may { MayRun tables.now s gxid cid (Some snapshot.now) (slice.Select query) }
     ensures { IfOk result (λ ran. HasRun tables.now held.new gxid ran (runs_slice s gxid cid (Some snapshot.now) (slice.Select query))) }
 {
     let rows = held

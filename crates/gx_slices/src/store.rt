@@ -1,4 +1,4 @@
-ghost use Rattle.std.specs.Prelude.{◌≡◌, ◌≢◌, ◌≤◌, ◌⊎◌, ◌++◌, ◌∷◌, [], Some, IsSome, IfOk, OnOk, OnErr, unwrap_or, is_some, option_map, option_and_then};
+ghost use Rattle.std.specs.Prelude.{◌≡◌, ◌≢◌, ◌≤◌, ◌⊎◌, ◌++◌, ◌∷◌, [], Some, IfOk, OnOk, OnErr, unwrap_or, is_some, option_map, option_and_then};
 ghost use Rattle.std.specs.Option.{ForSome, option_copied};
 ghost use Rattle.gx_ids.specs.declared.ids.Gxid.{Gxid};
 ghost use Rattle.gx_ids.specs.declared.ids.Table.{Table};

@@ -1,5 +1,5 @@
 // Slices that wait for their table's lock.
-ghost use Rattle.std.specs.Prelude.{◌≡◌, IfOk, OnOk};
+ghost use Rattle.std.specs.Prelude.{IfOk, OnOk};
 ghost use Rattle.gx_slices.specs.Suspensions.{HasSuspended, HasWoken};
 
 use crate::entries::{put_entry, set_holder, take_entry};

@@ -1,4 +1,4 @@
-use Rattle.std.proofs.Common.{Some, ap, ◌∙◌, sym, subst}
+use Rattle.std.proofs.Common.{ap, ◌∙◌, sym, subst}
 use Rattle.gx_ids.specs.declared.ids.Gxid.{Gxid}
 use Rattle.gx_slices.specs.Agrees.{IsHeld}
 use Rattle.gx_slices.specs.Ran.{MayRun}
@@ -24,7 +24,7 @@ start-requires g c κs within =
         c.requires.1.0,
         (
           subst (IsHeld tables now) same risen,
-          (subst (λ (x : Seg). MayRun tables x c.args.gxid c.args.command.cid c.args.command.slice) same may.may, (may.new, c.requires.1.1.1.1.1)),
+          (subst (λ (x : Seg). MayRun tables x c.args.gxid c.args.command.cid c.args.command.snapshot c.args.command.slice) same may.may, (may.new, c.requires.1.1.1.1.1)),
         ),
       ),
     )
@@ -34,10 +34,10 @@ returns-clause-done g c =
     let command = c.args.command in
     let same = seg-raised g.was.seg c.args.low c.args.held.now.store c.raise.new.held.store c.requires.1.1.0.horizon c.raise.ensures.store in
     subst
-    (λ (h : Gxid). HasDone g.was.script.tables c.start.new.held h c.in_ok-done.done (starts_slice (raised g.was.seg c.args.low) c.args.gxid command.cid command.level (Some command.snapshot) command.slice))
+    (λ (h : Gxid). HasDone g.was.script.tables c.start.new.held h c.in_ok-done.done (starts_slice (raised g.was.seg c.args.low) c.args.gxid command.cid command.level command.snapshot command.slice))
     (sym (c.raise.ensures.horizon ∙ ap (λ (h : Gxid). greater h c.args.low) c.requires.1.1.1.0))
     (subst
-    (λ (x : Seg). HasDone g.was.script.tables c.start.new.held x.horizon c.in_ok-done.done (starts_slice x c.args.gxid command.cid command.level (Some command.snapshot) command.slice))
+    (λ (x : Seg). HasDone g.was.script.tables c.start.new.held x.horizon c.in_ok-done.done (starts_slice x c.args.gxid command.cid command.level command.snapshot command.slice))
     (sym same)
     c.in_ok-done.ensures.done)
 
@@ -45,4 +45,4 @@ pub returns-clause-quiet : goal.returns-clause-quiet
 returns-clause-quiet g c =
     let command = c.args.command in
     let same = seg-raised g.was.seg c.args.low c.args.held.now.store c.raise.new.held.store c.requires.1.1.0.horizon c.raise.ensures.store in
-    subst (λ (x : Seg). IsQuiet c.in_ok-done.done (starts_slice x c.args.gxid command.cid command.level (Some command.snapshot) command.slice)) (sym same) c.in_ok-done.ensures.quiet
+    subst (λ (x : Seg). IsQuiet c.in_ok-done.done (starts_slice x c.args.gxid command.cid command.level command.snapshot command.slice)) (sym same) c.in_ok-done.ensures.quiet

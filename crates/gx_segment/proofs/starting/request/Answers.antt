@@ -6,7 +6,7 @@ use Rattle.gx_segment.proofs.starting.request.Goals as goal
 
 pub ask_for-requires : goal.ask_for-requires
 ask_for-requires g c =
-    waits-for-nothing g.was.script.tables c.args.held.now g.was.seg c.args.gxid c.args.command.cid c.args.command.slice c.args.wanted c.requires.1.1.0 c.requires.1.1.1.0 c.requires.1.1.1.1.1.0
+    waits-for-nothing g.was.script.tables c.args.held.now g.was.seg c.args.gxid c.args.command.cid c.args.command.snapshot c.args.command.slice c.args.wanted c.requires.1.1.0 c.requires.1.1.1.0 c.requires.1.1.1.1.1.0
 
 pub go_on-requires : goal.go_on-requires
 go_on-requires g c κs within =
@@ -21,7 +21,7 @@ go_on-requires g c κs within =
         (
           IsHeld-locked tables held g.was.seg c.args.wanted c.requires.1.1.0 granted now c.if-branch.true asked,
           (
-            MayRun-locked tables held g.was.seg c.args.wanted c.requires.1.1.0 granted now c.if-branch.true asked c.args.gxid c.args.command.cid c.args.command.slice c.requires.1.1.1.0,
+            MayRun-locked tables held g.was.seg c.args.wanted c.requires.1.1.0 granted now c.if-branch.true asked c.args.gxid c.args.command.cid c.args.command.snapshot c.args.command.slice c.requires.1.1.1.0,
             c.requires.1.1.1.1.1.1,
           ),
         ),

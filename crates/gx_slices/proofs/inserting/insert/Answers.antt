@@ -21,16 +21,18 @@ returns g c =
     let cid = c.args.cid in
     let rows = c.args.rows in
     let is = c.requires.0 in
-    let may = c.requires.1.0 in
+    let alive = c.requires.1.0 in
+    let free = c.requires.1.1.1.0 in
+    let right = c.requires.1.1.1.1.0 in
     let store = c.insert_rows.new.store in
     let entry = c.insert_rows.new.entry in
     let new = c.keep_answer.new.held in
     let m = inserted g.s gxid cid c.args.table rows in
     let put = subst (λ (l : List KeyedRow). IsInserted g.s gxid cid c.args.table l store entry c.in_ok-marks.marks.items) c.into_vec.ensures c.in_ok-marks.ensures in
-    let typed = typed-inserted tables gxid cid c.args.table g.s rows is.typed (right-insert tables gxid cid c.args.table rows may.right) in
+    let typed = typed-inserted tables gxid cid c.args.table g.s rows is.typed (right-insert tables gxid cid c.args.table rows right) in
     let mid : Held = record { store = store; entries = c.take_entry-entry.new.entries; holders = held.holders; locks = held.locks } in
     let reply : Reply = Done cid c.has_written.result c.len-count.result (Rows c.new.result) in
-    let back = IsHeld-back tables held mid new g.s m.seg gxid cid entry reply is may.alive may.free put.apart c.take_entry-entry.ensures.others refl refl c.in_ok-keep_answer.ensures typed in
+    let back = IsHeld-back tables held mid new g.s m.seg gxid cid entry reply is alive free put.apart c.take_entry-entry.ensures.others refl refl c.in_ok-keep_answer.ensures typed in
     let ran : Ran = record { marks = c.from_vec.result; reply = reply } in
     let wrote = c.has_written.ensures ∙ ap (λ (l : Local). has_written l.phase) put.apart.local in
     HasRun-answers tables new gxid cid m.seg ran m.marks (Done cid (has_written (local_of m.seg gxid).phase) (length rows) (Rows [])) back

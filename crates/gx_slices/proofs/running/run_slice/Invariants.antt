@@ -5,3 +5,6 @@ ghost-select g a = g.s
 
 abbrev pub ghost-insert : goal.ghost-insert
 ghost-insert g a = g.s
+
+abbrev pub ghost-lock : goal.ghost-lock
+ghost-lock g a = g.s

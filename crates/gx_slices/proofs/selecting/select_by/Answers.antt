@@ -9,7 +9,7 @@ use Rattle.gx_slices.proofs.Closing.{IsApart-taken, IsHeld-back, IsStored-held}
 use Rattle.gx_slices.proofs.Counting.{rows-shown}
 use Rattle.gx_slices.proofs.Rightness.{right-shown, typed-select}
 use Rattle.gx_slices.proofs.Turning.{HasRun-selects}
-use Rattle.gx_slices.proofs.selecting.select.Goals as goal
+use Rattle.gx_slices.proofs.selecting.select_by.Goals as goal
 
 pub selection-requires : goal.selection-requires
 selection-requires g c =

@@ -1,0 +1,48 @@
+// Who waits at a segment.
+ghost use Rattle.std.specs.Prelude.{◌≡◌, ◌==◌, not, length, None};
+ghost use Rattle.std.specs.List.{list_any};
+ghost use Rattle.gx_locks.specs.Claims.{is_of};
+ghost use Rattle.gx_locks.specs.Locks.{is_ready, least_with, ready_ones, wait_of};
+ghost use Rattle.gx_rules.specs.Segments.{Seg};
+ghost use Rattle.gx_segment.specs.Steps.{IsSegment};
+
+use crate::segment::Segment;
+use gx_ids::Gxid;
+
+impl Segment {
+    /// The least transaction whose wait here is ready.
+    pub fn ready(&self) -> Option<Gxid>
+        ghost s: { Seg }
+        requires { IsSegment self.now s }
+        ensures { result ≡ least_with None (ready_ones s.locks) }
+    {
+        self.held.locks.ready()
+    }
+
+    /// Whether a transaction waits here and its wait is ready.
+    pub fn can_resume(&self, gxid: Gxid) -> bool
+        ghost s: { Seg }
+        requires { IsSegment self.now s }
+        ensures { result ≡ is_ready s.locks.holds (wait_of s.locks gxid) }
+    {
+        self.held.locks.is_ready(gxid)
+    }
+
+    /// Whether a transaction waits here.
+    pub fn waits(&self, gxid: Gxid) -> bool
+        ghost s: { Seg }
+        requires { IsSegment self.now s }
+        ensures { result ≡ list_any (is_of gxid) s.locks.waits }
+    {
+        self.held.locks.is_waiting(gxid)
+    }
+
+    /// Whether some transaction waits here.
+    pub fn any_wait(&self) -> bool
+        ghost s: { Seg }
+        requires { IsSegment self.now s }
+        ensures { result ≡ not (length s.locks.waits == 0) }
+    {
+        !self.held.locks.waits().is_empty()
+    }
+}
