@@ -1,5 +1,5 @@
 -- Items at places.
-use Rattle.std.proofs.Common.{◌≡◌, ◌≢◌, ℕ, ◌<◌, zero, suc, List, [], ◌∷◌, length, slice_get, slice_set, refl, ap, arith, All, get_or, subst, sym}
+use Rattle.std.proofs.Common.{◌≡◌, ℕ, ◌<◌, zero, suc, List, [], ◌∷◌, length, slice_get, arith, All, get_or, subst, sym}
 use Rattle.std.specs.Prelude.{Some}
 
 pub some_same : {X : Type 0} {a b : X} → Some a ≡ Some b → a ≡ b

@@ -70,6 +70,6 @@ new-sound script some =
       kept = n.kept;
       marks = marks_in new_world.steps;
       past = n.past;
-      inside = record { table = tt; works = λ g. record { writers = tt; command = tt }; locks = record { nobody = refl; modes = tt } };
+      inside = record { table = tt; works = λ g. record { writers = tt; command = tt } };
       works = λ g. none-sound (record { 0 = 0 }) ReadCommitted 0 _;
     }

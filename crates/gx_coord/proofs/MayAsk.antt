@@ -1,6 +1,5 @@
 -- What a line asks for may be done.
-use Rattle.std.proofs.Common.{◌≡◌, ◌≤◌, ◌<◌, ◌+◌, ◌^◌, ◌∙◌, ℕ, List, [], ◌∷◌, Option, Some, None, Bool, true, false, refl, sym, subst, ap, arith, eqb, if◌then◌else◌, cond, ◌||◌}
-use Rattle.std.proofs.lemmas.Bool.Decides.{nat_tests}
+use Rattle.std.proofs.Common.{◌≡◌, ◌≤◌, ◌<◌, ◌+◌, ◌^◌, ◌∙◌, ℕ, List, [], ◌∷◌, Option, Some, None, Bool, true, false, refl, sym, subst, ap, arith, if◌then◌else◌, cond, ◌||◌}
 use Rattle.std.specs.List.{list_any}
 use Rattle.std.specs.Prelude.{find}
 use Rattle.gx_lemmas.proofs.Numbers.{eqb-self}

@@ -1,5 +1,5 @@
 -- A request for a table's lock, and what follows it.
-use Rattle.std.proofs.Common.{◌≡◌, ◌++◌, ◌∙◌, ℕ, List, [], ◌∷◌, Result, Ok, Err, OnOk, IfOk, Option, Some, None, Bool, true, false, ap, subst, sym}
+use Rattle.std.proofs.Common.{◌≡◌, ◌++◌, ◌∙◌, ℕ, List, [], ◌∷◌, Result, Ok, Err, OnOk, IfOk, Option, Some, Bool, true, false, ap, subst, sym}
 use Rattle.gx_ids.specs.declared.ids.Gxid.{Gxid}
 use Rattle.gx_locks.specs.Locks.{is_free}
 use Rattle.gx_waits.specs.declared.claim.Claim.{Claim}

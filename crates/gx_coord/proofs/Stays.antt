@@ -41,6 +41,6 @@ sound-stays script c some h x fails small ok =
       kept = record { whole = f.kept.whole; tied = f.kept.tied; placed = f.kept.placed; queued = f.kept.queued };
       marks = h.marks ++ (on_event script c x fails).marks;
       past = record { committed = f.past.committed; ended = f.past.ended; dropped = f.past.dropped; latest = f.past.latest; drawn = f.past.drawn };
-      inside = record { table = i.coord.table; works = i.coord.works; locks = i.coord.locks };
+      inside = record { table = i.coord.table; works = i.coord.works };
       works = works-after script c h x fails small ok;
     }

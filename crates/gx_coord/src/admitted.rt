@@ -88,7 +88,7 @@ pub(crate) fn can(alloc: Global, coord: &Coord, event: &NodeEvent) -> Mem<bool>
             Some(gxid) => can_resend(alloc, coord, *node, *gxid),
             None => Ok(false),
         },
-        NodeEvent::Resume(gxid) => can_take(coord, *gxid),
+        NodeEvent::Resume(gxid) => Ok(can_take(coord, *gxid)),
         NodeEvent::Round => Ok(false),
     }
 }

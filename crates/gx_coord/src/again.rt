@@ -1,7 +1,8 @@
 // Messages that are sent again.
-ghost use Rattle.std.specs.Prelude.{◌≡◌, IfOk};
+ghost use Rattle.std.specs.Prelude.{◌≡◌, IfOk, Some};
 ghost use Rattle.gx_rules.specs.AtCoordinator as turns;
 ghost use Rattle.gx_dtx.specs.Rules.{awaited_order};
+ghost use Rattle.gx_store.specs.Schedule.{is_exec as asks_exec};
 ghost use Rattle.gx_coord.specs.Books.{coord_of};
 ghost use Rattle.gx_coord.specs.Turns.{has_order, order_in};
 
@@ -64,4 +65,45 @@ pub(crate) fn awaited(alloc: Global, coord: &Coord, gxid: Gxid, node: Node) -> M
     } else {
         status_order(coord, gxid, node)
     }
+}
+
+fn is_exec(message: &Message) -> bool
+    ensures { result ≡ asks_exec (Some message.now) }
+{
+    match message {
+        Message::Exec { .. } => true,
+        _ => false,
+    }
+}
+
+// Whether the order to a node is an EXEC.
+fn is_exec_to(node: Node, orders: &[Out]) -> bool
+    ensures { result ≡ asks_exec (turns.order_to node orders.now) }
+{
+    for out in orders {
+        if out.node == node {
+            return is_exec(&out.message);
+        }
+    }
+    false
+}
+
+// Whether the command of the transaction has an EXEC for the node.
+fn has_exec(coord: &Coord, gxid: Gxid, node: Node) -> bool
+    ensures { result ≡ asks_exec (order_in ((coord_of coord.now).works gxid.0).command node) }
+{
+    match coord.works.get(&gxid) {
+        None => false,
+        Some(work) => match &work.command {
+            None => false,
+            Some(command) => is_exec_to(node, command.orders.as_slice()),
+        },
+    }
+}
+
+// Whether the answer of the node that is awaited is that of an EXEC.
+pub(crate) fn awaits_exec(coord: &Coord, gxid: Gxid, node: Node) -> bool
+    ensures { result ≡ asks_exec (turns.awaited (coord_of coord.now) gxid node) }
+{
+    is_ordered(coord, gxid, node) && has_exec(coord, gxid, node)
 }

@@ -1,10 +1,12 @@
-ghost use Rattle.std.specs.Prelude.{◌≡◌, ◌<◌, ◌^◌, All, length, true, false, IfOk, OnErr, IsErr};
+ghost use Rattle.std.specs.Prelude.{◌≡◌, ◌==◌, ◌<◌, ◌^◌, All, length, not, true, false, None, IfOk, OnErr, IsErr};
+ghost use Rattle.gx_locks.specs.Locks.{least_with, ready_ones};
 ghost use Rattle.gx_outside.specs.Shelves.{IsLater};
-ghost use Rattle.gx_rules.specs.AtCoordinator.{coord_can, is_unfinished_there};
+ghost use Rattle.gx_rules.specs.AtCoordinator.{awaited, coord_can, is_unfinished_there};
 ghost use Rattle.gx_rules.specs.Coordinators.{Coord as RuleCoord, new_coordinator};
 ghost use Rattle.gx_rules.specs.Sending.{heard_in};
 ghost use Rattle.gx_ids.specs.declared.ids.SessionId.{SessionId as Id};
 ghost use Rattle.gx_store.specs.Language.{IsScript};
+ghost use Rattle.gx_store.specs.Schedule.{is_exec};
 ghost use Rattle.gx_rules.specs.Snapshots.{snapshot_of as rule_snapshot};
 ghost use Rattle.gx_coord.specs.Steps.{HasStepped, IsCoord};
 
@@ -13,7 +15,7 @@ use crate::places::places_of;
 use crate::snapshots::snapshot_of;
 use crate::stepping::step_on;
 use crate::work::{Session, Work};
-use crate::{admitted, finished};
+use crate::{admitted, again, finished};
 use gx_dsnap::Snapshot;
 use gx_dtx::Dtx;
 use gx_ids::{Gxid, Mem, Node, OutOfMemory, Seq};
@@ -106,6 +108,33 @@ impl Coord {
         ensures { IfOk result (λ can. can ≡ coord_can self.now.script.value c event.now) }
     {
         admitted::can(self.alloc, self, event)
+    }
+
+    /// The least transaction whose wait here is ready.
+    pub fn ready(&self) -> Option<Gxid>
+        ghost c: { RuleCoord }
+        requires { IsCoord self.now c }
+        ensures { result ≡ least_with None (ready_ones c.locks) }
+    {
+        self.locks.ready()
+    }
+
+    /// Whether some transaction waits here.
+    pub fn any_wait(&self) -> bool
+        ghost c: { RuleCoord }
+        requires { IsCoord self.now c }
+        ensures { result ≡ not (length c.locks.waits == 0) }
+    {
+        self.locks.waits().len() > 0
+    }
+
+    /// Whether the answer of the segment for the transaction is awaited, and is that of an EXEC.
+    pub fn awaits_exec(&self, segment: Node, gxid: Gxid) -> bool
+        ghost c: { RuleCoord }
+        requires { IsCoord self.now c }
+        ensures { result ≡ is_exec (awaited c gxid segment) }
+    {
+        again::awaits_exec(self, gxid, segment)
     }
 
     /// Whether some session has a line without an answer, an open or failed block, or a line left.

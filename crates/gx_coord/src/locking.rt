@@ -1,5 +1,5 @@
 // The locks that transactions have here, how they wait for them, and how they are given back.
-ghost use Rattle.std.specs.Prelude.{◌≡◌, ◌++◌, ◌∷◌, [], find, IfOk, IfSome, OnOk, false, true};
+ghost use Rattle.std.specs.Prelude.{◌≡◌, ◌++◌, ◌∷◌, [], IfOk, IfSome, OnOk, false, true};
 ghost use Rattle.std.specs.List.{list_any};
 ghost use Rattle.gx_locks.specs.Claims.{is_of};
 ghost use Rattle.gx_locks.specs.Locks.{is_free, is_ready, resumed, wait_of};
@@ -7,14 +7,12 @@ ghost use Rattle.gx_node.specs.Locking.{asked_mark, resumed_marks};
 ghost use Rattle.gx_rules.specs.AtCoordinator as turns;
 ghost use Rattle.gx_rules.specs.Locks as rule;
 ghost use Rattle.gx_store.specs.Refusals.{the_coordinator};
-ghost use Rattle.gx_waits.specs.Claim.{meets};
 ghost use Rattle.gx_coord.specs.Books.{IsFramed, coord_of};
 ghost use Rattle.gx_coord.specs.Locking.{asked};
 
 use crate::coord::Coord;
 use gx_ids::{Gxid, Mem, Node};
-use gx_locks::is_same_object;
-use gx_modes::{Mode, conflicts};
+use gx_modes::Mode;
 use gx_node::claim_on;
 use gx_store::Mark;
 use gx_tree::Stmt;
@@ -39,7 +37,7 @@ pub(crate) fn lock_for(gxid: Gxid, line: &Stmt) -> Option<Claim>
         Stmt::Insert(table, _) => Some(claim_on(gxid, *table, Mode::RowExclusive)),
         Stmt::Update(_, _, _) => None,
         Stmt::Delete(_, _) => None,
-        Stmt::Lock(_, _) => None,
+        Stmt::Lock(table, mode) => Some(claim_on(gxid, *table, *mode)),
         Stmt::Begin(_) => None,
         Stmt::Commit => None,
         Stmt::Rollback => None,
@@ -67,42 +65,9 @@ pub(crate) fn take_ready(coord: &mut Coord, gxid: Gxid, marks: &mut Vec<Mark>) -
     gx_node::take_ready(Node(0), &mut coord.locks, gxid, marks)
 }
 
-// The wait of a transaction.
-fn find_wait(waits: &[Claim], gxid: Gxid) -> Option<Claim>
-    ensures { result ≡ find (is_of gxid) waits.now }
-{
-    waits.iter().copied().find(|claim| claim.gxid == gxid)
-}
-
-fn is_met(wait: &Claim, hold: &Claim) -> bool
-    ensures { result ≡ meets wait.now hold.now }
-{
-    wait.gxid != hold.gxid
-        && is_same_object(&wait.object, &hold.object)
-        && conflicts(wait.mode, hold.mode)
-}
-
-fn is_any_met(wait: &Claim, holds: &[Claim]) -> bool
-    ensures { result ≡ list_any (meets wait.now) holds.now }
-{
-    holds.iter().any(|hold| is_met(wait, hold))
-}
-
-fn meets_none(wait: &Claim, holds: &[Claim]) -> bool
-    ensures { result ≡ is_free holds.now wait.now }
-{
-    !is_any_met(wait, holds)
-}
-
 // Whether the wait of a transaction is ready.
-pub(crate) fn can_take(coord: &Coord, gxid: Gxid) -> Mem<bool>
-    ensures { IfOk result (λ can. can ≡ is_ready coord.now.locks.holds (wait_of coord.now.locks gxid)) }
+pub(crate) fn can_take(coord: &Coord, gxid: Gxid) -> bool
+    ensures { result ≡ is_ready coord.now.locks.holds (wait_of coord.now.locks gxid) }
 {
-    match find_wait(coord.locks.waits(), gxid) {
-        Some(wait) => {
-            let holds = coord.locks.holds()?;
-            Ok(meets_none(&wait, holds.as_slice()))
-        }
-        None => Ok(false),
-    }
+    coord.locks.is_ready(gxid)
 }

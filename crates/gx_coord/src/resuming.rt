@@ -1,8 +1,6 @@
 // A statement that has waited for its table's lock goes out.
 ghost use Rattle.std.specs.Prelude.{◌≡◌, ◌<◌, ◌^◌, option_map, IfOk, OnOk, true};
-ghost use Rattle.std.specs.List.{list_any};
-ghost use Rattle.gx_locks.specs.Claims.{is_of};
-ghost use Rattle.gx_locks.specs.Locks.{is_ready, wait_of};
+ghost use Rattle.gx_locks.specs.Locks.{wait_of};
 ghost use Rattle.gx_store.specs.Language.{IsScript};
 ghost use Rattle.gx_rules.specs.AtCoordinator as turns;
 ghost use Rattle.gx_coord.specs.Books.{coord_of, stmt_at};
@@ -18,7 +16,7 @@ use crate::starting::small;
 use gx_ids::{Gxid, Mem, Seq};
 use gx_msg::Out;
 use gx_script::Script;
-use gx_store::Mark;
+use gx_store::{Mark, NodeEvent};
 use std::alloc::Global;
 
 // How many lines the session of a transaction has started.
@@ -40,7 +38,7 @@ fn waiting_of(coord: &Coord, gxid: Gxid) -> Option<usize>
     }
 }
 
-// A statement whose lock is free takes it and goes out; nothing happens to one that doesn't wait.
+// A statement whose lock is free takes it and goes out.
 pub(crate) fn resume(
     alloc: Global,
     script: &Script,
@@ -51,14 +49,11 @@ pub(crate) fn resume(
     requires same { coord.old.script.value ≡ script.now }
     requires language { IsScript script.now }
     requires sound { IsSound script.now (coord_of coord.old) }
-    requires ready { list_any (is_of gxid) coord.old.locks.waits ≡ true → is_ready coord.old.locks.holds (wait_of coord.old.locks gxid) ≡ true }
+    requires admitted { turns.coord_can script.now (coord_of coord.old) (NodeEvent.Resume gxid) ≡ true }
     ensures turn { OnOk result (IsTurn coord.old coord.new marks.old.items marks.new.items (turns.resumes script.now (coord_of coord.old) gxid
         (wait_of coord.old.locks gxid) ((coord_of coord.old).works gxid.0).waiting)) }
     ensures outs { IfOk result (λ outs. outs ≡ (turns.resumes script.now (coord_of coord.old) gxid (wait_of coord.old.locks gxid) ((coord_of coord.old).works gxid.0).waiting).outs) }
 {
-    if !coord.locks.is_waiting(gxid) {
-        return Ok(Seq::new(alloc));
-    }
     let _lines = lines_of(coord, gxid);
     take_ready(coord, gxid, marks)?;
     match waiting_of(coord, gxid) {
