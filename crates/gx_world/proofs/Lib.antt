@@ -14,4 +14,4 @@ pub mod Shows
 pub mod Starting
 pub mod Turned
 pub mod Places
-pub mod Resting
+pub mod Waits

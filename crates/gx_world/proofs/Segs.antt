@@ -1,6 +1,7 @@
 -- A segment's step, as its code does it, is one of the machine.
-use Rattle.std.proofs.Common.{◌≡◌, ◌≤◌, ◌⊎◌, inl, inr, ⊎_elim, ℕ, zero, suc, ◌+◌, ◌-◌, List, [], ◌∷◌, Some, Bool, true, false, eqb, refl, sym, subst, ap, ◌∙◌, if◌then◌else◌, arith, length, All}
+use Rattle.std.proofs.Common.{◌≡◌, ◌≤◌, ◌<◌, ◌⊎◌, inl, inr, ⊎_elim, ℕ, zero, suc, ◌+◌, ◌-◌, List, [], ◌∷◌, Some, Bool, true, false, eqb, refl, sym, subst, ap, ◌∙◌, if◌then◌else◌, arith, length, slice_index_or, All}
 use Rattle.std.proofs.lemmas.Bool.Decides.{nat_tests}
+use Rattle.std.proofs.lemmas.Option.{slice_get_read}
 use Rattle.std.specs.Prelude.{slice_get, slice_set}
 use Rattle.gx_lemmas.proofs.Numbers.{eqb-self}
 use Rattle.gx_lemmas.proofs.Lists.{length-set}
@@ -35,6 +36,13 @@ get-set (z ∷ xs) zero zero y x e = inl (refl, sym (some-same y x e))
 get-set (z ∷ xs) zero (suc k) y x e = inr (λ h. absurd (omega (arith, h)), e)
 get-set (z ∷ xs) (suc i) zero y x e = inr (λ h. absurd (omega (arith, h)), e)
 get-set (z ∷ xs) (suc i) (suc k) y x e = ⊎_elim (λ (h : (k ≡ i) × (x ≡ y)). inl (ap suc h.0, h.1)) (λ (h : (k ≡ i → ⊥) × (slice_get xs k ≡ Some x)). inr (λ same. h.0 (omega (arith, same)), h.1)) (get-set xs i k y x e)
+
+below : (a n : ℕ) → 1 ≤ a → a ≤ n → a - 1 < n
+below a n l m = omega (arith, l, m)
+
+-- the segment that is read by its number
+pub segment-read : (xs : List Segment) (a b : ℕ) (x : Segment) → b ≡ a → 1 ≤ a → a ≤ length xs → x ≡ slice_index_or xs (b - 1) x → slice_get xs (a - 1) ≡ Some x
+segment-read xs a b x same l m e = slice_get_read xs (length xs) (a - 1) x refl (below a (length xs) l m) (subst (λ n. x ≡ slice_index_or xs (n - 1) x) same e)
 
 one-back : (i : ℕ) → 1 ≤ i → i - 1 + 1 ≡ i
 one-back i h = omega arith

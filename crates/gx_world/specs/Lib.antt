@@ -4,3 +4,4 @@ pub mod Made
 pub mod Turns
 pub mod Tables
 pub mod Links
+pub mod Waiting

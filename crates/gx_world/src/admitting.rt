@@ -1,11 +1,15 @@
 // What is admitted.
-ghost use Rattle.std.specs.Prelude.{◌≡◌, true, false, if◌then◌else◌, IfOk, length};
+ghost use Rattle.std.specs.Prelude.{◌≡◌, ◌≤◌, ◌-◌, true, false, Some, if◌then◌else◌, IfOk, length, slice_get};
 ghost use Rattle.gx_coord.specs.Steps.{IsCoord};
 ghost use Rattle.gx_world.specs.Links.{link_in};
 ghost use Rattle.gx_law_runs.specs.Replays.{coordinator_after, is_admitted};
 ghost use Rattle.gx_rules.specs.AtCoordinator.{coord_can, is_segment};
 ghost use Rattle.gx_rules.specs.Coordinators.{Coord as RuleCoord};
+ghost use Rattle.gx_rules.specs.Segments.{Seg};
+ghost use Rattle.gx_segment.specs.Steps.{IsSegment};
+ghost use Rattle.gx_segment.specs.declared.segment.Segment.{Segment as OneSegment};
 ghost use Rattle.gx_law_schedules.specs.Links.{is_number};
+ghost use Rattle.gx_locks.specs.Locks.{is_ready, wait_of};
 ghost use Rattle.gx_store.specs.Journals.{is_same_node};
 ghost use Rattle.gx_store.specs.Refusals.{the_coordinator};
 ghost use Rattle.gx_store.specs.declared.event.Event.TheVariants.{Receive, Resume};
@@ -29,19 +33,33 @@ pub(crate) fn can(network: &Network, event: Event) -> Mem<bool>
         Event::End(session) => can_begin(network, NodeEvent::End(session)),
         Event::Resend { segment, gxid } => { can_begin(network, NodeEvent::Resend(segment, gxid)) }
         Event::Round => can_begin(network, NodeEvent::Round),
-        Event::Resume { node, gxid } => Ok(can_resume(network, node, gxid)),
+        Event::Resume { node, gxid } => can_resume(network, node, gxid),
     }
 }
 
-// Nobody waits, so nobody resumes.
-fn can_resume(network: &Network, node: Node, gxid: Gxid) -> bool
+// Who waits at a node resumes there once its wait is ready.
+fn can_resume(network: &Network, node: Node, gxid: Gxid) -> Mem<bool>
     requires is { IsNetwork network.now }
-    ensures { result ≡ is_admitted network.now.script.value network.now.run.steps (Resume node gxid) }
+    requires usable { network.now.spent ≡ false }
+    ensures { IfOk result (λ can. can ≡ is_admitted network.now.script.value network.now.run.steps (Resume node gxid)) }
 {
-    let _network = network;
-    let _node = node;
-    let _gxid = gxid;
-    false
+    if node.0 == 0 {
+        can_begin(network, NodeEvent::Resume(gxid))
+    } else if node.0 <= network.script.segments {
+        Ok(is_ready_there(network, node, gxid))
+    } else {
+        Ok(false)
+    }
+}
+
+fn is_ready_there(network: &Network, node: Node, gxid: Gxid) -> bool
+    ghost s: { Seg }
+    requires some { 1 ≤ node.0 }
+    requires few { node.0 ≤ length network.now.segments.items }
+    requires is { (segment : OneSegment) → slice_get network.now.segments.items (node.0 - 1) ≡ Some segment → IsSegment segment s }
+    ensures { result ≡ is_ready s.locks.holds (wait_of s.locks gxid) }
+{
+    network.segments[usize::from(node.0) - 1].can_resume(gxid)
 }
 
 fn can_begin(network: &Network, there: NodeEvent) -> Mem<bool>

@@ -10,6 +10,7 @@ mod moves;
 mod network;
 mod tables;
 mod turning;
+mod waiting;
 pub mod world;
 
 pub use letters::{Letters, Place};

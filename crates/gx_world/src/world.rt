@@ -1,4 +1,5 @@
-ghost use Rattle.std.specs.Prelude.{◌≡◌, ◌<◌, ◌^◌, true, false, [], IfOk, IsErr, OnOk, OnErr, length, map, option_copied};
+ghost use Rattle.std.specs.Prelude.{◌≡◌, ◌<◌, ◌^◌, true, false, [], IfOk, IsErr, OnOk, OnErr, length, map, option_copied, option_map};
+ghost use Rattle.std.specs.Option.{option_to_list};
 ghost use Rattle.gx_store.specs.Whole.{AreInsertsWhole};
 ghost use Rattle.gx_law_locks.specs.Legal.{AreLocksLegal};
 ghost use Rattle.gx_law_commit.specs.Told.{DoStepsTell};
@@ -9,18 +10,20 @@ ghost use Rattle.gx_law_runs.specs.Replays.{coordinator_after, is_admitted};
 ghost use Rattle.gx_rules.specs.System.{IsSystemRun};
 ghost use Rattle.gx_store.specs.Language.{IsScript};
 ghost use Rattle.gx_store.specs.Ordered.{AreOrdered, sent_in};
-ghost use Rattle.gx_store.specs.Points.{marks_of};
+ghost use Rattle.gx_store.specs.Points.{marks_in, marks_of};
 ghost use Rattle.gx_store.specs.Protocol.{DoStepsFollow};
 ghost use Rattle.gx_store.specs.Runs.{IsLegalHistory};
-ghost use Rattle.gx_store.specs.Schedule.{sent_message};
+ghost use Rattle.gx_store.specs.Schedule.{is_any_wait, resumptions, sent_message};
 ghost use Rattle.gx_store.specs.View.{AreFinalFrom};
+ghost use Rattle.gx_store.specs.declared.event.Event.TheVariants.{Resume};
 ghost use Rattle.gx_world.specs.Worlds.{AreLater, HasStepped};
 
 use crate::admitting::can;
 use crate::looking::{is_unfinished, message, sent};
 use crate::network::Network;
 use crate::tables::tables;
-use gx_ids::{Mem, Node, OutOfMemory};
+use crate::waiting::{any_wait, ready};
+use gx_ids::{Gxid, Mem, Node, OutOfMemory};
 use gx_msg::Message;
 use gx_outside::{Gate, Journal};
 use gx_script::Script;
@@ -104,6 +107,23 @@ impl World {
             × (is_unfinished_there self.now.script (coordinator_after self.now.script self.now.run.steps) id ≡ true) }
     {
         !self.network.spent && is_unfinished(&self.network)
+    }
+
+    /// The least transaction whose wait at a node is ready: it is the one that resumes there. It is told while the world isn't spent.
+    pub fn ready(&self, node: Node) -> Option<Gxid>
+        ensures { self.now.spent ≡ false → option_to_list (option_map (Resume node) result) ≡ resumptions (marks_in self.now.run.steps) node }
+    {
+        if self.network.spent {
+            return None;
+        }
+        ready(&self.network, node)
+    }
+
+    /// Whether some transaction waits at some node. It is told while the world isn't spent.
+    pub fn any_wait(&self) -> bool
+        ensures { self.now.spent ≡ false → result ≡ is_any_wait self.now.script (marks_in self.now.run.steps) }
+    {
+        !self.network.spent && any_wait(&self.network)
     }
 
     /// Whether an event may be done now.

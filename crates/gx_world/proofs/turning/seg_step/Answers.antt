@@ -1,20 +1,13 @@
-use Rattle.std.proofs.Common.{◌≡◌, ◌≤◌, ◌<◌, ◌-◌, ◌^◌, ℕ, List, Some, refl, subst, ap, arith, length, slice_get, slice_index_or, slice_set}
-use Rattle.std.proofs.lemmas.Option.{slice_get_read}
+use Rattle.std.proofs.Common.{◌<◌, ◌-◌, ◌^◌, ap, slice_set}
 use Rattle.gx_coord.proofs.Items.{all_at}
 use Rattle.gx_segment.specs.declared.segment.Segment.{Segment}
 use Rattle.gx_world.proofs.Answers.{if_ok}
+use Rattle.gx_world.proofs.Segs.{segment-read}
 use Rattle.gx_world.proofs.turning.seg_step.Goals as goal
-
-inside : (a n : ℕ) → 1 ≤ a → a ≤ n → a - 1 < n
-inside a n l m = omega (arith, l, m)
-
--- the segment that was read stands at its place
-found : (xs : List Segment) (a b : ℕ) (x : Segment) → b ≡ a → 1 ≤ a → a ≤ length xs → x ≡ slice_index_or xs (b - 1) x → slice_get xs (a - 1) ≡ Some x
-found xs a b x same l m e = slice_get_read xs (length xs) (a - 1) x refl (inside a (length xs) l m) (subst (λ n. x ≡ slice_index_or xs (n - 1) x) same e)
 
 pub step-requires : goal.step-requires
 step-requires g c κs within =
-    let there = found c.args.segments.now.items c.args.at.0 c.from.result c.index_mut.result.now c.from.ensures c.requires.1.1.0 c.requires.1.1.1.0 c.index_mut.ensures.value in
+    let there = segment-read c.args.segments.now.items c.args.at.0 c.from.result c.index_mut.result.now c.from.ensures c.requires.1.1.0 c.requires.1.1.1.0 c.index_mut.ensures.value in
     let room = all_at (λ (s : Segment). (s.clock < 2 ^ 62) × (s.sent < 2 ^ 62)) c.args.segments.now.items (c.args.at.0 - 1) c.index_mut.result.now c.requires.1.1.1.1.1.1.0 there in
     (within.0, (within.1, (λ u. c.requires.1.1.1.1.1.0 _ there, (c.requires.1.1.1.1.1.1.1.0 _ there, (room.0, (c.requires.1.1.1.1.1.1.1.1, room.1))))))
 
@@ -23,7 +16,7 @@ returns-clause-stepped g c =
     if_ok c.step.result _ _ c.step.ensures.stepped
     (λ out h. record {
       was = c.index_mut.result.now;
-      there = found c.args.segments.now.items c.args.at.0 c.from.result c.index_mut.result.now c.from.ensures c.requires.1.1.0 c.requires.1.1.1.0 c.index_mut.ensures.value;
+      there = segment-read c.args.segments.now.items c.args.at.0 c.from.result c.index_mut.result.now c.from.ensures c.requires.1.1.0 c.requires.1.1.1.0 c.index_mut.ensures.value;
       now = c.step.new.self;
       all = ap (λ n. slice_set c.args.segments.now.items (n - 1) c.step.new.self) c.from.ensures;
       stepped = h;

@@ -1,0 +1,4 @@
+use Rattle.gx_world.proofs.waiting.ready_here.Given as goal
+
+abbrev pub ghost-ready : goal.ghost-ready
+ghost-ready g a = g.c
