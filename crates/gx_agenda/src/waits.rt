@@ -1,11 +1,8 @@
 // The waits at each node, mark by mark.
-ghost use Rattle.std.specs.Prelude.{◌≡◌, ◌&&◌, ◌∷◌, [], ◌++◌, List, Option, OnOk, IfOk, if◌then◌else◌, not, unwrap_or, length, ◌==◌};
+ghost use Rattle.std.specs.Prelude.{◌≡◌, ◌∷◌, [], List, OnOk, IfOk, if◌then◌else◌, unwrap_or};
 ghost use Rattle.std.specs.BTreeMap.{get, is_at};
 ghost use Rattle.std.specs.List.{list_any};
-ghost use Rattle.gx_ids.specs.declared.ids.Gxid.{Gxid as OneGxid};
 ghost use Rattle.gx_ids.specs.declared.ids.Node.{Node as OneNode};
-ghost use Rattle.gx_store.specs.Journals.{is_same_node};
-ghost use Rattle.gx_store.specs.Marks.{is_same_gxid};
 ghost use Rattle.gx_store.specs.Waits.{added, waits_from, without};
 ghost use Rattle.gx_waits.specs.Claim.{same_claim};
 ghost use Rattle.gx_waits.specs.declared.claim.Claim.{Claim as OneClaim};
@@ -15,10 +12,11 @@ ghost use Rattle.gx_agenda.specs.Requests.{request_cmp};
 
 use crate::asked::Asked;
 use crate::request::Request;
-use gx_ids::{Mem, Node, Seq};
-use gx_locks::is_same_object;
+use gx_ids::{Gxid, Mem, Node, Seq};
+use gx_locks::is_same_claim;
+use gx_modes::Mode;
 use gx_store::Mark;
-use gx_waits::Claim;
+use gx_waits::{Claim, Object};
 use std::alloc::Global;
 
 impl Asked {
@@ -46,40 +44,19 @@ impl Asked {
                 gxid,
                 object,
                 mode,
-            } => self.begin(
-                *node,
-                Claim {
-                    gxid: *gxid,
-                    object: *object,
-                    mode: *mode,
-                },
-            ),
+            } => self.begin(*node, claim_of(gxid, object, mode)),
             Mark::Hold {
                 node,
                 gxid,
                 object,
                 mode,
-            } => self.end(
-                *node,
-                Claim {
-                    gxid: *gxid,
-                    object: *object,
-                    mode: *mode,
-                },
-            ),
+            } => self.end(*node, claim_of(gxid, object, mode)),
             Mark::Release {
                 node,
                 gxid,
                 object,
                 mode,
-            } => self.end(
-                *node,
-                Claim {
-                    gxid: *gxid,
-                    object: *object,
-                    mode: *mode,
-                },
-            ),
+            } => self.end(*node, claim_of(gxid, object, mode)),
             _ => Ok(()),
         }
     }
@@ -139,6 +116,16 @@ impl Asked {
     }
 }
 
+fn claim_of(gxid: &Gxid, object: &Object, mode: &Mode) -> Claim
+    ensures { result ≡ record { gxid = gxid.now; object = object.now; mode = mode.now } }
+{
+    Claim {
+        gxid: *gxid,
+        object: *object,
+        mode: *mode,
+    }
+}
+
 // Claims with one more, unless it is among them.
 fn with_claim(alloc: Global, claims: Option<Seq<Claim>>, claim: Claim) -> Mem<Seq<Claim>>
     ensures { IfOk result (λ more. more ≡ added claim (unwrap_or claims [])) }
@@ -154,18 +141,12 @@ fn without_claim(claims: Seq<Claim>, claim: &Claim) -> Seq<Claim>
     ensures { result ≡ without claim.now claims }
 {
     let mut left = claims.into_vec();
-    left.retain(|other| !is_same(claim, other));
+    left.retain(|other| !is_same_claim(claim, other));
     Seq::from_vec(left)
 }
 
 fn is_among(claims: &[Claim], claim: &Claim) -> bool
     ensures { result ≡ list_any (same_claim claim.now) claims.now }
 {
-    claims.iter().any(|other| is_same(claim, other))
-}
-
-fn is_same(a: &Claim, b: &Claim) -> bool
-    ensures { result ≡ same_claim a.now b.now }
-{
-    a.gxid == b.gxid && is_same_object(&a.object, &b.object) && a.mode.number() == b.mode.number()
+    claims.iter().any(|other| is_same_claim(claim, other))
 }

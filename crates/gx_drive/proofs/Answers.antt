@@ -1,7 +1,8 @@
--- What holds where a call answers Ok.
-use Rattle.std.specs.Prelude.{IfOk, OnOk}
+-- What holds where a call answers Ok, or gives something.
+use Rattle.std.specs.Prelude.{IfNone, IfOk, IfSome, OnOk}
+use Rattle.std.specs.declared.option.Option.{Option}
 use Rattle.std.specs.declared.result.Result.{Result}
-use Rattle.std.proofs.Common.{Ok, Err}
+use Rattle.std.proofs.Common.{Ok, Err, None, Some}
 
 pub on_ok : {A E : Type 0} (r : Result A E) (P Q : Type 0) → OnOk r P → (P → Q) → OnOk r Q
 on_ok (Ok a) P Q h f = f h
@@ -18,3 +19,11 @@ always_ok (Err e) P p = tt
 pub if_ok : {A E : Type 0} (r : Result A E) (P Q : A → Type 0) → IfOk r P → ((a : A) → P a → Q a) → IfOk r Q
 if_ok (Ok a) P Q h f = f a h
 if_ok (Err e) P Q h f = tt
+
+pub if_some : {A : Type 0} (o : Option A) (P Q : A → Type 0) → IfSome o P → ((a : A) → P a → Q a) → IfSome o Q
+if_some None P Q h f = tt
+if_some (Some a) P Q h f = f a h
+
+pub if_none : {A : Type 0} (o : Option A) (P Q : Type 0) → IfNone o P → (P → Q) → IfNone o Q
+if_none None P Q h f = f h
+if_none (Some a) P Q h f = tt

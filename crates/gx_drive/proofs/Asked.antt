@@ -1,4 +1,4 @@
--- Where no delivery is left the awaited answers are all that is to be sent again.
+-- Where no node does anything by itself the awaited answers are all that is to be sent again.
 use Rattle.std.proofs.Common.{◌≡◌, ◌≤◌, inl, inr, ℕ, ◌-◌, ◌==◌, List, [], ◌∷◌, ◌++◌, Option, Some, None, Bool, true, false, if◌then◌else◌, ◌&&◌, refl, sym, ap, ◌∙◌, subst, arith, length}
 use Rattle.std.proofs.lemmas.Bool.{eqb-true}
 use Rattle.std.proofs.lemmas.List.Elements.{recursion_from_All}
@@ -18,7 +18,7 @@ use Rattle.gx_store.specs.Marks.{is_same_gxid}
 use Rattle.gx_store.specs.Ordered.{AreOrdered, IsAtNode, IsLink, IsSegment}
 use Rattle.gx_store.specs.Points.{marks_in}
 use Rattle.gx_store.specs.Refusals.{the_coordinator}
-use Rattle.gx_store.specs.Schedule.{asked, asked_by, asked_from, first_of, gxids_of, is_about, is_graph_awaited, is_quiet, left_on, segments_of, unless_answered}
+use Rattle.gx_store.specs.Schedule.{asked, asked_by, asked_from, at_segment, first_of, gxids_of, is_about, is_graph_awaited, is_quiet, left_on, resumptions, segments_of, unless_answered}
 use Rattle.gx_rules.specs.AtCoordinator.{awaited}
 use Rattle.gx_rules.specs.Machine.{world_of}
 use Rattle.gx_law_order.proofs.Ordered.{world_well}
@@ -29,7 +29,7 @@ use Rattle.gx_law_schedules.proofs.Waits.{no-graph}
 use Rattle.gx_law_runs.specs.Reached.{IsReached}
 use Rattle.gx_law_runs.proofs.Reaching.{by-events}
 use Rattle.gx_agenda.specs.Awaited.{AreResendable, IsResendable}
-use Rattle.gx_drive.specs.Agrees.{deliveries_of}
+use Rattle.gx_drive.specs.Agrees.{moves_of}
 use Rattle.gx_drive.proofs.Firsts.{first-none, none-left, none-right, nodes-none}
 
 -- WHO IS ASKED
@@ -99,12 +99,18 @@ module _ (script : Script) (some : 1 ≤ script.segments) (steps : List Step) (i
         begun = begun segment;
       }
 
-  module _ (none : first_of (deliveries_of script steps) ≡ []) where
-    none-from : flat_map (λ segment. first_of (left_on script steps segment the_coordinator)) (segments_of script) ≡ []
-    none-from = none-left _ (flat_map (λ segment. first_of (left_on script steps the_coordinator segment)) (segments_of script)) (first-none (deliveries_of script steps) none)
+  module _ (none : first_of (moves_of script steps) ≡ []) where
+    abbrev from : List Event
+    from = flat_map (λ segment. first_of (left_on script steps segment the_coordinator)) (segments_of script)
 
-    none-to : flat_map (λ segment. first_of (left_on script steps the_coordinator segment)) (segments_of script) ≡ []
-    none-to = none-right (flat_map (λ segment. first_of (left_on script steps segment the_coordinator)) (segments_of script)) _ (first-none (deliveries_of script steps) none)
+    none-there : from ++ flat_map (at_segment script steps) (segments_of script) ≡ []
+    none-there = none-left (from ++ flat_map (at_segment script steps) (segments_of script)) (resumptions (marks_in steps) the_coordinator) (first-none (moves_of script steps) none)
+
+    none-from : from ≡ []
+    none-from = none-left from (flat_map (at_segment script steps) (segments_of script)) none-there
+
+    none-at : flat_map (at_segment script steps) (segments_of script) ≡ []
+    none-at = none-right from (flat_map (at_segment script steps) (segments_of script)) none-there
 
     at : (f : Node → List Event) → flat_map f (segments_of script) ≡ [] → (segment : Node) → IsSegment script segment → f segment ≡ []
     at f e segment within = subst (λ (k : ℕ). f (record { 0 = k }) ≡ []) (omega (arith, within.0)) (nodes-none f 1 script.segments e (segment.0 - 1) (omega (arith, within.0, within.1)))
@@ -118,7 +124,7 @@ module _ (script : Script) (some : 1 ≤ script.segments) (steps : List Step) (i
           each = λ segment within.
               resendable-at segment
               (both-empty (left_on script steps the_coordinator segment) (left_on script steps segment the_coordinator)
-              (first-none _ (at (λ i. first_of (left_on script steps the_coordinator i)) none-to segment within))
+              (first-none _ (none-right (resumptions (marks_in steps) segment) (first_of (left_on script steps the_coordinator segment)) (first-none _ (at (at_segment script steps) none-at segment within))))
               (first-none _ (at (λ i. first_of (left_on script steps i the_coordinator)) none-from segment within)));
           there = λ segment g. by-steps script segment g [] steps None (by-events script steps is (AreOrdered script []) (λ es. (world_well script some es).steps)) (λ h. absurd (cc));
         }

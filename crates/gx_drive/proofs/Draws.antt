@@ -1,25 +1,25 @@
--- Whatever is enabled is due and admitted, so whatever is drawn.
-use Rattle.std.proofs.Common.{◌≡◌, ◌≤◌, ◌<◌, ℕ, zero, suc, ◌+◌, List, [], ◌∷◌, ◌++◌, Bool, true, false, ◌&&◌, if◌then◌else◌, inl, inr, None, Some, refl, sym, ap, subst, arith, length, slice_get}
+-- Whatever is enabled is due, and admitted unless it is a round, so whatever is drawn; and rounds stand last.
+use Rattle.std.proofs.Common.{◌≡◌, ◌≤◌, ◌<◌, ℕ, zero, suc, ◌+◌, List, [], ◌∷◌, ◌++◌, Bool, true, false, ◌&&◌, ◌||◌, if◌then◌else◌, not, inl, inr, None, Some, refl, sym, ap, ◌∙◌, subst, arith, slice_get}
 use Rattle.std.proofs.lemmas.Option.{same_Some}
-use Rattle.std.specs.List.{AllByRecursion, flat_map, list_all, range_with_len}
+use Rattle.std.specs.List.{AllByRecursion, flat_map, list_all, list_any, range_with_len}
 use Rattle.std.specs.Prelude.{filter, map}
-use Rattle.gx_lemmas.proofs.Tests.{and-first, and-second}
+use Rattle.gx_lemmas.proofs.Tests.{and-first, and-second, false-true}
 use Rattle.gx_ids.specs.declared.ids.Node.{Node}
 use Rattle.gx_meaning.specs.Plan.{nodes_from}
 use Rattle.gx_script.specs.declared.Script.{Script}
 use Rattle.gx_store.specs.declared.event.Event.{Event}
-use Rattle.gx_store.specs.declared.event.Event.TheVariants.{Receive, End, Resend, Start}
+use Rattle.gx_store.specs.declared.event.Event.TheVariants.{Receive, End, Resend, Resume, Round, Start}
 use Rattle.gx_store.specs.declared.run.Step.{Step}
-use Rattle.gx_store.specs.Ordered.{IsLink, sent_in}
+use Rattle.gx_store.specs.Ordered.{IsLink, IsSegment, sent_in}
 use Rattle.gx_store.specs.Points.{marks_in}
 use Rattle.gx_store.specs.Refusals.{the_coordinator}
-use Rattle.gx_store.specs.Schedule.{enabled, ends, first_of, gxids_of, is_graph_awaited, is_left, is_next, is_quiet, is_to_end, left_on, may_resend, resends, segments_of, sessions_of, starts}
+use Rattle.gx_store.specs.Schedule.{at_segment, enabled, ends, first_of, gxids_of, is_any_wait, is_graph_awaited, is_left, is_next, is_quiet, is_ready, is_round, is_round_running, is_to_end, left_on, may_resend, resends, resumptions, rounds, segments_of, sessions_of, starts, waits_of}
+use Rattle.gx_store.specs.Waits.{holds_at}
 use Rattle.gx_law_runs.specs.Reached.{IsReached}
 use Rattle.gx_law_runs.specs.Replays.{is_admitted}
-use Rattle.gx_law_runs.proofs.Nobody.{enabled-admitted}
-use Rattle.gx_law_runs.proofs.Reaching.{by-events}
-use Rattle.gx_drive.specs.Agrees.{IsDue}
-use Rattle.gx_drive.proofs.Enabled.{parts}
+use Rattle.gx_law_runs.proofs.Reaching.{admitted-but-rounds, by-events}
+use Rattle.gx_drive.specs.Agrees.{IsDue, moves_of}
+use Rattle.gx_drive.specs.Ordered.{IsNoneFirst}
 
 module _ (P : Event → Type 0) where
   all-append : (xs ys : List Event) → AllByRecursion P xs → AllByRecursion P ys → AllByRecursion P (xs ++ ys)
@@ -29,6 +29,10 @@ module _ (P : Event → Type 0) where
   all-map : {X : Type 0} (f : X → Event) → ((x : X) → P (f x)) → (xs : List X) → AllByRecursion P (map f xs)
   all-map f each [] = tt
   all-map f each (x ∷ xs) = (each x, all-map f each xs)
+
+  all-first : (xs : List Event) → AllByRecursion P xs → AllByRecursion P (first_of xs)
+  all-first [] h = tt
+  all-first (x ∷ xs) h = (h.0, tt)
 
   all-nodes : (f : Node → List Event) (k n : ℕ) → ((i : Node) → k ≤ i.0 → i.0 < k + n → AllByRecursion P (f i)) → AllByRecursion P (flat_map f (nodes_from k n))
   all-nodes f k zero each = tt
@@ -53,65 +57,116 @@ module _ (P : Event → Type 0) where
   at-place (y ∷ ys) zero x all there = subst P (same_Some y x there) all.0
   at-place (y ∷ ys) (suc k) x all there = at-place ys k x all.1 there
 
+all-weaker : (P Q : Event → Type 0) → ((x : Event) → P x → Q x) → (xs : List Event) → AllByRecursion P xs → AllByRecursion Q xs
+all-weaker P Q f [] h = tt
+all-weaker P Q f (x ∷ xs) h = (f x h.0, all-weaker P Q f xs h.1)
+
+-- where rounds stand behind what is none and the first is one, all are
+last-rounds : (xs ys : List Event) → AllByRecursion (λ x. is_round x ≡ false) xs → list_all is_round ys ≡ true → list_all is_round (first_of (xs ++ ys)) ≡ true → list_all is_round (xs ++ ys) ≡ true
+last-rounds [] ys none all first = all
+last-rounds (x ∷ xs) ys none all first = absurd (false-true (sym none.0 ∙ and-first (is_round x) true first))
+
 passes-at : (p : Event → Bool) (xs : List Event) (k : ℕ) (x : Event) → list_all p xs ≡ true → slice_get xs k ≡ Some x → p x ≡ true
 passes-at p [] k x all there = absurd (cc)
 passes-at p (y ∷ ys) zero x all there = subst (λ z. p z ≡ true) (same_Some y x there) (and-first (p y) (list_all p ys) all)
 passes-at p (y ∷ ys) (suc k) x all there = passes-at p ys k x (and-second (p y) (list_all p ys) all) there
 
 module _ (script : Script) (steps : List Step) where
-  abbrev AreDue : List Event → Type 0
-  AreDue events = AllByRecursion (IsDue script steps) events
+  -- it is due, and no round
+  abbrev IsPlain : Event → Type 0
+  IsPlain e = IsDue script steps e × (is_round e ≡ false)
 
-  receipt-due : (from to : Node) → IsLink script from to → AreDue (first_of (left_on script steps from to))
-  receipt-due from to link = by (filter (is_left script steps from to) (range_with_len 1 (sent_in from to steps))) refl
+  abbrev ArePlain : List Event → Type 0
+  ArePlain events = AllByRecursion IsPlain events
+
+  receipt-plain : (from to : Node) → IsLink script from to → ArePlain (first_of (left_on script steps from to))
+  receipt-plain from to link = by (filter (is_left script steps from to) (range_with_len 1 (sent_in from to steps))) refl
     where
-      by : (ns : List ℕ) → left_on script steps from to ≡ map (Receive from to) ns → AreDue (first_of (map (Receive from to) ns))
+      by : (ns : List ℕ) → left_on script steps from to ≡ map (Receive from to) ns → ArePlain (first_of (map (Receive from to) ns))
       by [] is = tt
-      by (n ∷ ns) is = ((link, ap first_of is), tt)
+      by (n ∷ ns) is = (((link, ap first_of is), refl), tt)
 
-  resends-due : (segment : Node) → AreDue (resends script steps segment)
-  resends-due segment = by (is_quiet script steps segment) (is_graph_awaited steps segment)
+  resumptions-plain : (node : Node) → ArePlain (resumptions (marks_in steps) node)
+  resumptions-plain node =
+      all-first IsPlain _ (all-map IsPlain (Resume node) (λ g. (tt, refl)) (filter (λ g. list_any (is_ready (holds_at (marks_in steps) node)) (waits_of (marks_in steps) node g)) (gxids_of (marks_in steps))))
+
+  segment-plain : (segment : Node) → IsSegment script segment → ArePlain (at_segment script steps segment)
+  segment-plain segment there =
+      all-first IsPlain _
+      (all-append IsPlain (resumptions (marks_in steps) segment) (first_of (left_on script steps the_coordinator segment)) (resumptions-plain segment) (receipt-plain the_coordinator segment (inl (refl, there))))
+
+  resends-plain : (segment : Node) → ArePlain (resends script steps segment)
+  resends-plain segment = by (is_quiet script steps segment) (is_graph_awaited steps segment)
     where
-      by : (quiet graph : Bool) → AreDue (if quiet then map (λ g. Resend segment (Some g)) (filter (may_resend steps segment) (gxids_of (marks_in steps))) ++ (if graph then Resend segment None ∷ [] else []) else [])
-      by true true = all-append (IsDue script steps) (map (λ g. Resend segment (Some g)) (filter (may_resend steps segment) (gxids_of (marks_in steps)))) (Resend segment None ∷ []) (all-map (IsDue script steps) (λ g. Resend segment (Some g)) (λ g. tt) (filter (may_resend steps segment) (gxids_of (marks_in steps)))) (tt, tt)
-      by true false = all-append (IsDue script steps) (map (λ g. Resend segment (Some g)) (filter (may_resend steps segment) (gxids_of (marks_in steps)))) [] (all-map (IsDue script steps) (λ g. Resend segment (Some g)) (λ g. tt) (filter (may_resend steps segment) (gxids_of (marks_in steps)))) tt
+      again : List Event
+      again = map (λ g. Resend segment (Some g)) (filter (may_resend steps segment) (gxids_of (marks_in steps)))
+
+      again-plain : ArePlain again
+      again-plain = all-map IsPlain (λ g. Resend segment (Some g)) (λ g. (tt, refl)) (filter (may_resend steps segment) (gxids_of (marks_in steps)))
+
+      by : (quiet graph : Bool) → ArePlain (if quiet then again ++ (if graph then Resend segment None ∷ [] else []) else [])
+      by true true = all-append IsPlain again (Resend segment None ∷ []) again-plain ((tt, refl), tt)
+      by true false = all-append IsPlain again [] again-plain tt
       by false graph = tt
 
+  abbrev before_rounds : List Event
+  before_rounds = moves_of script steps ++ flat_map (resends script steps) (segments_of script) ++ starts script steps ++ ends script steps
+
+  all-plain : ArePlain before_rounds
+  all-plain =
+      all-append IsPlain (from ++ at ++ here ++ again ++ starts script steps) (ends script steps)
+      (all-append IsPlain (from ++ at ++ here ++ again) (starts script steps)
+      (all-append IsPlain (from ++ at ++ here) again
+      (all-append IsPlain (from ++ at) here
+      (all-append IsPlain from at
+      (all-nodes IsPlain (λ segment. first_of (left_on script steps segment the_coordinator)) 1 script.segments (λ i low high. receipt-plain i the_coordinator (inr ((low, within i.0 script.segments high), refl))))
+      (all-nodes IsPlain (at_segment script steps) 1 script.segments (λ i low high. segment-plain i (low, within i.0 script.segments high))))
+      (resumptions-plain the_coordinator))
+      (all-nodes IsPlain (resends script steps) 1 script.segments (λ i low high. resends-plain i)))
+      (all-map IsPlain (λ line. Start line.session) (λ line. (tt, refl)) (filter (is_next steps) script.lines)))
+      (all-map IsPlain End (λ session. (tt, refl)) (filter (is_to_end script steps) (sessions_of script)))
+    where
+      from : List Event
+      from = flat_map (λ segment. first_of (left_on script steps segment the_coordinator)) (segments_of script)
+
+      at : List Event
+      at = flat_map (at_segment script steps) (segments_of script)
+
+      here : List Event
+      here = resumptions (marks_in steps) the_coordinator
+
+      again : List Event
+      again = flat_map (resends script steps) (segments_of script)
+
+      within : (a n : ℕ) → a < 1 + n → a ≤ n
+      within a n h = omega (arith, h)
+
+  all-rounds : (list_all is_round (rounds script steps) ≡ true) × AllByRecursion (IsDue script steps) (rounds script steps)
+  all-rounds = by (script.detector && (not (is_round_running steps) && is_any_wait script (marks_in steps)))
+    where
+      by : (b : Bool) → (list_all is_round (if b then Round ∷ [] else []) ≡ true) × AllByRecursion (IsDue script steps) (if b then Round ∷ [] else [])
+      by true = (refl, (tt, tt))
+      by false = (refl, tt)
+
+  pub none-taken : list_all is_round (first_of (enabled script steps)) ≡ true → IsNoneFirst script steps
+  none-taken first = last-rounds before_rounds (rounds script steps) (all-weaker IsPlain (λ x. is_round x ≡ false) (λ x p. p.1) before_rounds all-plain) all-rounds.0 first
+
+  pub drawn-due : (k : ℕ) (e : Event) → slice_get (enabled script steps) k ≡ Some e → IsDue script steps e
+  drawn-due k e there =
+      at-place (IsDue script steps) (enabled script steps) k e
+      (all-append (IsDue script steps) before_rounds (rounds script steps) (all-weaker IsPlain (IsDue script steps) (λ x p. p.0) before_rounds all-plain) all-rounds.1) there
+
   module _ (some : 1 ≤ script.segments) (is : IsReached script steps) where
-    all-due : AreDue (enabled script steps)
-    all-due =
-        subst AreDue (sym (parts script some steps is))
-        (all-append (IsDue script steps) (from ++ to ++ again ++ starts script steps) (ends script steps)
-        (all-append (IsDue script steps) (from ++ to ++ again) (starts script steps)
-        (all-append (IsDue script steps) (from ++ to) again
-        (all-append (IsDue script steps) from to
-        (all-nodes (IsDue script steps) (λ segment. first_of (left_on script steps segment the_coordinator)) 1 script.segments (λ i low high. receipt-due i the_coordinator (inr ((low, within i.0 script.segments high), refl))))
-        (all-nodes (IsDue script steps) (λ segment. first_of (left_on script steps the_coordinator segment)) 1 script.segments (λ i low high. receipt-due the_coordinator i (inl (refl, (low, within i.0 script.segments high))))))
-        (all-nodes (IsDue script steps) (resends script steps) 1 script.segments (λ i low high. resends-due i)))
-        (all-map (IsDue script steps) (λ line. Start line.session) (λ line. tt) (filter (is_next steps) script.lines)))
-        (all-map (IsDue script steps) End (λ session. tt) (filter (is_to_end script steps) (sessions_of script))))
+    pub drawn-admitted : (k : ℕ) (e : Event) → slice_get (enabled script steps) k ≡ Some e → is_round e ≡ false → is_admitted script steps e ≡ true
+    drawn-admitted k e there plain =
+        sym (ap (λ b. b || is_admitted script steps e) plain)
+        ∙ passes-at (λ x. is_round x || is_admitted script steps x) (enabled script steps) k e
+        (by-events script steps is (λ ss. list_all (λ x. is_round x || is_admitted script ss x) (enabled script ss) ≡ true) (admitted-but-rounds script some)) there
+
+    -- what is first is so too
+    pub first-admitted : (e : Event) → first_of (enabled script steps) ≡ e ∷ [] → is_round e ≡ false → is_admitted script steps e ≡ true
+    first-admitted e first plain = drawn-admitted 0 e (place (enabled script steps) first) plain
       where
-        from : List Event
-        from = flat_map (λ segment. first_of (left_on script steps segment the_coordinator)) (segments_of script)
-
-        to : List Event
-        to = flat_map (λ segment. first_of (left_on script steps the_coordinator segment)) (segments_of script)
-
-        again : List Event
-        again = flat_map (resends script steps) (segments_of script)
-
-        within : (a n : ℕ) → a < 1 + n → a ≤ n
-        within a n h = omega (arith, h)
-
-    pub drawn-due : (k : ℕ) (e : Event) → slice_get (enabled script steps) k ≡ Some e → IsDue script steps e
-    drawn-due k e there = at-place (IsDue script steps) (enabled script steps) k e all-due there
-
-    pub drawn-admitted : (k : ℕ) (e : Event) → slice_get (enabled script steps) k ≡ Some e → is_admitted script steps e ≡ true
-    drawn-admitted k e there =
-        passes-at (is_admitted script steps) (enabled script steps) k e
-        (by-events script steps is (λ ss. list_all (is_admitted script ss) (enabled script ss) ≡ true) (enabled-admitted script some)) there
-
--- a list that isn't empty has a first
-pub some-there : (xs : List Event) → (xs ≡ [] → ⊥) → 0 < length xs
-some-there [] h = absurd (h refl)
-some-there (x ∷ xs) h = omega arith
+        place : (xs : List Event) → first_of xs ≡ e ∷ [] → slice_get xs 0 ≡ Some e
+        place [] h = absurd (cc)
+        place (x ∷ xs) h = cc

@@ -11,11 +11,11 @@ use Rattle.gx_store.specs.declared.event.Event.TheVariants.{End}
 use Rattle.gx_store.specs.Schedule.{first_of}
 
 -- where the first list has nothing the second decides
-pub first-behind : (xs ys : List Event) → first_of xs ≡ [] → first_of (xs ++ ys) ≡ first_of ys
+first-behind : (xs ys : List Event) → first_of xs ≡ [] → first_of (xs ++ ys) ≡ first_of ys
 first-behind [] ys e = refl
 first-behind (x ∷ xs) ys e = absurd (cc)
 
-pub first-before : (xs ys : List Event) (e : Event) → first_of xs ≡ e ∷ [] → first_of (xs ++ ys) ≡ e ∷ []
+first-before : (xs ys : List Event) (e : Event) → first_of xs ≡ e ∷ [] → first_of (xs ++ ys) ≡ e ∷ []
 first-before [] ys e h = absurd (cc)
 first-before (x ∷ xs) ys e h = h
 
@@ -27,10 +27,12 @@ pub first-twice : (xs : List Event) → first_of (first_of xs) ≡ first_of xs
 first-twice [] = refl
 first-twice (x ∷ xs) = refl
 
--- the list of an option is its own first
-pub first-option : (o : Option Event) → first_of (option_to_list o) ≡ option_to_list o
-first-option None = refl
-first-option (Some e) = refl
+-- what is first is so before others, and what is first behind nothing
+pub some-first : (e : Event) (xs ys : List Event) → e ∷ [] ≡ first_of xs → e ∷ [] ≡ first_of (xs ++ ys)
+some-first e xs ys h = sym (first-before xs ys e (sym h))
+
+pub none-first : (zs xs ys : List Event) → [] ≡ first_of xs → zs ≡ first_of ys → zs ≡ first_of (xs ++ ys)
+none-first zs xs ys none h = h ∙ sym (first-behind xs ys (sym none))
 
 pub option-none : (o : Option Event) → is_some o ≡ false → option_to_list o ≡ []
 option-none None e = refl

@@ -8,7 +8,6 @@ pub mod Journals
 pub mod Unfinished
 pub mod Noting
 pub mod Answers
-pub mod Dues
 pub mod Pushed
 pub mod Draws
 pub mod Words

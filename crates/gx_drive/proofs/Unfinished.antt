@@ -1,5 +1,5 @@
 -- Whether any session is unfinished, by what the world tells of each.
-use Rattle.std.proofs.Common.{◌≡◌, ◌<◌, ℕ, zero, suc, ◌+◌, List, [], Bool, true, false, ◌||◌, refl, sym, ap, ◌∙◌, subst, arith, length, get_or}
+use Rattle.std.proofs.Common.{◌≡◌, ◌<◌, ℕ, List, Bool, true, false, sym, ap, ◌∙◌, subst, arith, length, get_or}
 use Rattle.std.proofs.lemmas.List.Elements.{All-from_get_or}
 use Rattle.std.proofs.lemmas.List.Folds.{list_any_at, list_any_none}
 use Rattle.std.proofs.lemmas.List.FromFn.{get_or-map-range_with_len, length-map-range_with_len}
@@ -9,11 +9,9 @@ use Rattle.gx_ids.specs.declared.ids.SessionId.{SessionId}
 use Rattle.gx_script.specs.declared.Script.{Script}
 use Rattle.gx_store.specs.Language.{IsScript}
 use Rattle.gx_store.specs.declared.run.Step.{Step}
-use Rattle.gx_store.specs.Schedule.{enabled, is_any_unfinished, is_unfinished}
-use Rattle.gx_store.specs.Whole.{AreInsertsWhole}
+use Rattle.gx_store.specs.Schedule.{is_any_unfinished, is_unfinished}
 use Rattle.gx_rules.specs.AtCoordinator.{is_unfinished_there}
 use Rattle.gx_law_runs.proofs.Finishing.{replayed-alike}
-use Rattle.gx_law_runs.proofs.Nobody.{goes-on}
 use Rattle.gx_law_runs.specs.Reached.{IsReached}
 use Rattle.gx_law_runs.specs.Replays.{coordinator_after}
 use Rattle.gx_law_runs.proofs.Reaching.{by-events}
@@ -32,17 +30,6 @@ any-none p n none =
 any-some : (p : SessionId → Bool) (n : ℕ) (id : SessionId) → id.0 < n → p id ≡ true → list_any p (ids 0 n) ≡ true
 any-some p n id h is = list_any_at p (ids 0 n) id.0 id (subst (λ m. id.0 < m) (sym (length-map-range_with_len (λ m. let x : SessionId = record { 0 = m } in x) 0 n)) h) (at-id p true n id.0 id h is)
 
-some-any : (p : SessionId → Bool) (k n : ℕ) → list_any p (ids k n) ≡ true → (id : SessionId) × (id.0 < k + n) × (p id ≡ true)
-some-any p k zero e = absurd (cc)
-some-any p k (suc n) e = by (p (record { 0 = k })) refl (some-any p (k + 1) n)
-  where
-    next : (id : SessionId) × (id.0 < k + 1 + n) × (p id ≡ true) → (id : SessionId) × (id.0 < k + suc n) × (p id ≡ true)
-    next found = (found.0, omega (arith, found.1), found.2)
-
-    by : (b : Bool) → p (record { 0 = k }) ≡ b → (list_any p (ids (k + 1) n) ≡ true → (id : SessionId) × (id.0 < k + 1 + n) × (p id ≡ true)) → (id : SessionId) × (id.0 < k + suc n) × (p id ≡ true)
-    by true is rest = (record { 0 = k }, omega arith, is)
-    by false is rest = next (rest (sym (ap (λ b. b || list_any p (ids (k + 1) n)) is) ∙ e))
-
 module _ (script : Script) (language : IsScript script) (steps : List Step) (is : IsReached script steps) where
   alike : (session : SessionId) → is_unfinished script steps session ≡ is_unfinished_there script (coordinator_after script steps) session
   alike session =
@@ -54,9 +41,3 @@ module _ (script : Script) (language : IsScript script) (steps : List Step) (is 
 
   pub unfinished-some : (id : SessionId) × (id.0 < length script.sessions) × (is_unfinished_there script (coordinator_after script steps) id ≡ true) → is_any_unfinished script steps ≡ true
   unfinished-some found = any-some (is_unfinished script steps) (length script.sessions) found.0 found.1 (alike found.0 ∙ found.2)
-
-  -- something is enabled while a session is unfinished
-  pub something-enabled : AreInsertsWhole script.tables script.lines → is_any_unfinished script steps ≡ true → enabled script steps ≡ [] → ⊥
-  something-enabled inserts unfinished nothing =
-      let found = some-any (is_unfinished script steps) 0 (length script.sessions) unfinished in
-      goes-on script steps found.0 language.some_segments inserts is (omega (arith, found.1)) (sym (alike found.0) ∙ found.2) nothing

@@ -7,8 +7,9 @@ use Rattle.gx_store.specs.declared.event.Event.{Event}
 use Rattle.gx_store.specs.declared.event.Event.TheVariants.{Receive}
 use Rattle.gx_store.specs.declared.run.Step.{Step}
 use Rattle.gx_store.specs.Ordered.{IsLink}
+use Rattle.gx_store.specs.Points.{marks_in}
 use Rattle.gx_store.specs.Refusals.{the_coordinator}
-use Rattle.gx_store.specs.Schedule.{first_of, left_on, segments_of}
+use Rattle.gx_store.specs.Schedule.{at_segment, first_of, left_on, resumptions, segments_of}
 use Rattle.gx_agenda.specs.Awaited.{AreAsked}
 use Rattle.gx_agenda.specs.Agrees.{Agree}
 use Rattle.gx_world.specs.Worlds.{WorldState}
@@ -29,11 +30,12 @@ abbrev pub IsDue : Script → List Step → Event → Type 0
 IsDue script steps (Receive from to number) = IsLink script from to × (first_of (left_on script steps from to) ≡ Receive from to number ∷ [])
 IsDue script steps _ = Unit {0}
 
--- the next delivery of each link: those to the coordinator first
-abbrev pub deliveries_of : Script → List Step → List Event
-deliveries_of script steps =
+-- what comes before anything is sent again: the next delivery from each segment, what each segment does, and who resumes at the coordinator
+abbrev pub moves_of : Script → List Step → List Event
+moves_of script steps =
     flat_map (λ segment. first_of (left_on script steps segment the_coordinator)) (segments_of script)
-    ++ flat_map (λ segment. first_of (left_on script steps the_coordinator segment)) (segments_of script)
+    ++ flat_map (at_segment script steps) (segments_of script)
+    ++ resumptions (marks_in steps) the_coordinator
 
 -- the event was done
 pub record IsNextStep (event : Event) (old new : List Step) : Type 0 where

@@ -1,11 +1,13 @@
 -- The run of the seeded driver.
 use Rattle.std.specs.Prelude.{◌≡◌, ℕ, ◌%◌, zero, suc, true, List, length, slice_get, Some}
+use Rattle.std.specs.List.{list_all}
+use Rattle.std.specs.Option.{option_to_list}
 use Rattle.rand_xoshiro.specs.SplitMix64.{splitmix_seed}
 use Rattle.rand_xoshiro.specs.Xoshiro256.{of_seed, plus_plus}
 use Rattle.gx_script.specs.declared.Script.{Script}
 use Rattle.gx_store.specs.declared.event.Event.{Event}
 use Rattle.gx_store.specs.declared.run.Step.{Step}
-use Rattle.gx_store.specs.Schedule.{enabled, is_any_unfinished}
+use Rattle.gx_store.specs.Schedule.{enabled, is_any_unfinished, is_round}
 use Rattle.gx_drive.specs.Chosen.{AreChosen}
 
 -- the generator of a seed
@@ -25,6 +27,10 @@ word_of seed n = (plus_plus (behind n (seeded seed))).0
 pub record IsDrawn (script : Script) (seed : ℕ) (before : List Step) (event : Event) : Type 0 where
   pub unfinished : is_any_unfinished script before ≡ true
   pub drawn : slice_get (enabled script before) (word_of seed (length before) % length (enabled script before)) ≡ Some event
+
+-- the seed's next word draws nothing but a round, which no node takes yet
+abbrev pub IsNoneDrawn : Script → ℕ → List Step → Type 0
+IsNoneDrawn script seed steps = list_all is_round (option_to_list (slice_get (enabled script steps) (word_of seed (length steps) % length (enabled script steps)))) ≡ true
 
 -- each step does what the seed draws where the steps before it have led
 abbrev pub AreDrawn : Script → ℕ → List Step → List Step → Type 0

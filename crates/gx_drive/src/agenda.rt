@@ -10,12 +10,11 @@ ghost use Rattle.gx_store.specs.Language.{IsScript};
 ghost use Rattle.gx_store.specs.declared.event.Event.TheVariants.{Receive};
 ghost use Rattle.gx_store.specs.declared.run.Step.{Step as OneStep};
 ghost use Rattle.gx_store.specs.Ordered.{IsLink};
-ghost use Rattle.gx_store.specs.Refusals.{the_coordinator};
-ghost use Rattle.gx_store.specs.Schedule.{enabled, ends, first_of, left_on, resends, segments_of, starts};
-ghost use Rattle.gx_drive.specs.Agrees.{IsAgreed, IsDue, deliveries_of};
+ghost use Rattle.gx_store.specs.Schedule.{enabled, ends, first_of, left_on, resends, rounds, segments_of, starts};
+ghost use Rattle.gx_drive.specs.Agrees.{IsAgreed, IsDue, moves_of};
 
-use crate::ends::first_end;
-use crate::links::{first_from, first_to};
+use crate::ends::first_end_or_round;
+use crate::moves::first_move;
 use gx_agenda::{Asked, Cursors, Queue};
 use gx_ids::{Mem, Node};
 use gx_msg::Message;
@@ -57,33 +56,21 @@ impl Agenda {
         ensures first { IfOk result (λ event. option_to_list event ≡ first_of (enabled world.now.script world.now.run.steps)) }
         ensures due { IfOk result (λ event. IfSome event (IsDue world.now.script world.now.run.steps)) }
     {
-        match self.received(world) {
+        match first_move(&self.cursors, world) {
             Some(event) => Ok(Some(event)),
             None => self.asked_for(world),
         }
     }
 
-    // The first delivery: those to the coordinator come first.
-    fn received(&self, world: &World) -> Option<Event>
-        requires usable { world.now.spent ≡ false }
-        requires agreed { IsAgreed world.now.script world.now.run.steps self.now }
-        ensures first { option_to_list result ≡ first_of (deliveries_of world.now.script world.now.run.steps) }
-        ensures due { IfSome result (IsDue world.now.script world.now.run.steps) }
-    {
-        match first_from(&self.cursors, world) {
-            Some(event) => Some(event),
-            None => first_to(&self.cursors, world),
-        }
-    }
-
-    // What is sent again, where nothing is left on any link, or else what a session does.
+    // What is sent again, where no node does anything by itself, or else what a session does, or else a round.
     fn asked_for(&self, world: &World) -> Mem<Option<Event>>
         requires usable { world.now.spent ≡ false }
         requires language { IsScript world.now.script }
         requires reached { IsReached world.now.script world.now.run.steps }
         requires agreed { IsAgreed world.now.script world.now.run.steps self.now }
-        requires none { first_of (deliveries_of world.now.script world.now.run.steps) ≡ [] }
-        ensures first { IfOk result (λ event. option_to_list event ≡ first_of (enabled world.now.script world.now.run.steps)) }
+        requires none { first_of (moves_of world.now.script world.now.run.steps) ≡ [] }
+        ensures first { IfOk result (λ event. option_to_list event ≡ first_of (flat_map (resends world.now.script world.now.run.steps) (segments_of world.now.script)
+            ++ starts world.now.script world.now.run.steps ++ ends world.now.script world.now.run.steps ++ rounds world.now.script world.now.run.steps)) }
         ensures due { IfOk result (λ event. IfSome event (IsDue world.now.script world.now.run.steps)) }
     {
         match self.asked.first() {
@@ -95,20 +82,18 @@ impl Agenda {
         }
     }
 
-    // The first line, or else the first end of a session.
+    // The first line, or else the first end of a session, or else a round.
     fn begun(&self, world: &World) -> Mem<Option<Event>>
         requires usable { world.now.spent ≡ false }
-        requires language { IsScript world.now.script }
         requires reached { IsReached world.now.script world.now.run.steps }
         requires agreed { IsAgreed world.now.script world.now.run.steps self.now }
-        requires none { first_of (deliveries_of world.now.script world.now.run.steps) ≡ [] }
-        requires asked { first_of (flat_map (resends world.now.script world.now.run.steps) (segments_of world.now.script)) ≡ [] }
-        ensures first { IfOk result (λ event. option_to_list event ≡ first_of (enabled world.now.script world.now.run.steps)) }
+        ensures first { IfOk result (λ event. option_to_list event ≡ first_of (starts world.now.script world.now.run.steps
+            ++ ends world.now.script world.now.run.steps ++ rounds world.now.script world.now.run.steps)) }
         ensures due { IfOk result (λ event. IfSome event (IsDue world.now.script world.now.run.steps)) }
     {
         match self.queue.first() {
             Some(session) => Ok(Some(Event::Start(session))),
-            None => first_end(world),
+            None => first_end_or_round(world),
         }
     }
 

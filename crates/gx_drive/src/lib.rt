@@ -1,4 +1,4 @@
-//! The drivers of a script in a fixed order and by a seed: each does one of what is enabled, until no session is unfinished or its turns are spent.
+//! The drivers of a script in a fixed order and by a seed: each does one of what is enabled, until no session is unfinished, its turns are spent, or no node takes what comes next.
 #![tactic(auto)]
 
 pub mod agenda;
@@ -7,6 +7,7 @@ pub mod end;
 mod ends;
 mod links;
 mod listing;
+mod moves;
 pub mod ordered;
 pub mod seeded;
 mod turn;

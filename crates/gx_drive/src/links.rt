@@ -1,5 +1,5 @@
 // The next deliveries of the links.
-ghost use Rattle.std.specs.Prelude.{◌≡◌, ◌++◌, false, IfSome};
+ghost use Rattle.std.specs.Prelude.{◌≡◌, false, IfSome};
 ghost use Rattle.std.specs.List.{flat_map};
 ghost use Rattle.std.specs.Option.{option_to_list};
 ghost use Rattle.gx_agenda.specs.Agrees.{Agree};
@@ -34,22 +34,6 @@ pub(crate) fn first_from(cursors: &Cursors, world: &World) -> Option<Event>
 {
     for number in 1..world.script().segments + 1 {
         let event = delivery(cursors, world, Node(number), Node(0));
-        if event.is_some() {
-            return event;
-        }
-    }
-    None
-}
-
-// The first delivery to a segment.
-pub(crate) fn first_to(cursors: &Cursors, world: &World) -> Option<Event>
-    requires usable { world.now.spent ≡ false }
-    requires agreed { Agree world.now.script world.now.run.steps cursors.now }
-    ensures first { option_to_list result ≡ first_of (flat_map (λ segment. first_of (left_on world.now.script world.now.run.steps the_coordinator segment)) (segments_of world.now.script)) }
-    ensures due { IfSome result (IsDue world.now.script world.now.run.steps) }
-{
-    for number in 1..world.script().segments + 1 {
-        let event = delivery(cursors, world, Node(0), Node(number));
         if event.is_some() {
             return event;
         }

@@ -1,18 +1,20 @@
 // All that is enabled, point by point in the order of the schedule.
-ghost use Rattle.std.specs.Prelude.{◌≡◌, ◌≤◌, ◌<◌, ◌++◌, ◌==◌, ◌∷◌, [], false, length, IfOk, OnOk, if◌then◌else◌};
+ghost use Rattle.std.specs.Prelude.{◌≡◌, ◌<◌, ◌++◌, ◌==◌, ◌∷◌, [], false, length, IfOk, OnOk, if◌then◌else◌};
 ghost use Rattle.std.specs.List.{flat_map};
+ghost use Rattle.std.specs.Option.{option_to_list};
 ghost use Rattle.gx_agenda.specs.Agrees.{Agree};
 ghost use Rattle.gx_law_runs.specs.Reached.{IsReached};
 ghost use Rattle.gx_store.specs.Language.{IsScript};
 ghost use Rattle.gx_store.specs.Ordered.{IsLink, IsSegment};
 ghost use Rattle.gx_store.specs.Refusals.{the_coordinator};
-ghost use Rattle.gx_store.specs.Schedule.{enabled, ends, first_of, is_quiet, is_to_end, left_on, resends, segments_of};
+ghost use Rattle.gx_store.specs.Schedule.{at_segment, enabled, ends, first_of, is_quiet, is_to_end, left_on, resends, segments_of};
 ghost use Rattle.gx_store.specs.declared.event.Event.TheVariants.{End};
 ghost use Rattle.gx_drive.specs.Agrees.{IsAgreed};
 
 use crate::agenda::Agenda;
-use crate::ends::end_of;
+use crate::ends::{end_of, round};
 use crate::links::delivery;
+use crate::moves::{resumption, segment_move};
 use gx_agenda::Cursors;
 use gx_ids::{Mem, Node};
 use gx_store::Event;
@@ -20,7 +22,7 @@ use gx_world::World;
 use std::alloc::Global;
 
 impl Agenda {
-    /// All that is enabled, in the order of the schedule. It looks once at each link, at each answer that is awaited of a segment on whose links nothing is left, at
+    /// All that is enabled, in the order of the schedule. It looks once at each link and each node, at each answer that is awaited of a segment on whose links nothing is left, at
     /// each line that is its session's next, and at each session.
     pub fn enabled(&self, alloc: Global, world: &World) -> Mem<Vec<Event>>
         requires usable { world.now.spent ≡ false }
@@ -31,10 +33,12 @@ impl Agenda {
     {
         let mut events = Vec::new(alloc);
         push_from(&self.cursors, world, &mut events)?;
-        push_to(&self.cursors, world, &mut events)?;
+        push_segment_moves(&self.cursors, world, &mut events)?;
+        push_option(resumption(world, Node(0)), &mut events)?;
         push_resends(self, world, &mut events)?;
         self.queue.push_starts(&mut events)?;
         push_ends(world, &mut events)?;
+        push_option(round(world), &mut events)?;
         Ok(events)
     }
 }
@@ -47,38 +51,28 @@ fn push_from(cursors: &Cursors, world: &World, events: &mut Vec<Event>) -> Mem<(
         ++ flat_map (λ segment. first_of (left_on world.now.script world.now.run.steps segment the_coordinator)) (segments_of world.now.script)) }
 {
     for number in 1..world.script().segments + 1 {
-        push_delivery(cursors, world, Node(number), Node(0), events)?;
+        push_option(delivery(cursors, world, Node(number), Node(0)), events)?;
     }
     Ok(())
 }
 
-// What each segment may do: it receives.
-fn push_to(cursors: &Cursors, world: &World, events: &mut Vec<Event>) -> Mem<()>
+// What each segment does.
+fn push_segment_moves(cursors: &Cursors, world: &World, events: &mut Vec<Event>) -> Mem<()>
     requires usable { world.now.spent ≡ false }
     requires agreed { Agree world.now.script world.now.run.steps cursors.now }
-    ensures { OnOk result (events.new.items ≡ events.old.items
-        ++ flat_map (λ segment. first_of (left_on world.now.script world.now.run.steps the_coordinator segment)) (segments_of world.now.script)) }
+    ensures { OnOk result (events.new.items ≡ events.old.items ++ flat_map (at_segment world.now.script world.now.run.steps) (segments_of world.now.script)) }
 {
     for number in 1..world.script().segments + 1 {
-        push_delivery(cursors, world, Node(0), Node(number), events)?;
+        push_option(segment_move(cursors, world, Node(number)), events)?;
     }
     Ok(())
 }
 
-// The next delivery of a link, if it owes one.
-fn push_delivery(
-    cursors: &Cursors,
-    world: &World,
-    from: Node,
-    to: Node,
-    events: &mut Vec<Event>,
-) -> Mem<()>
-    requires usable { world.now.spent ≡ false }
-    requires agreed { Agree world.now.script world.now.run.steps cursors.now }
-    requires link { IsLink world.now.script from to }
-    ensures { OnOk result (events.new.items ≡ events.old.items ++ first_of (left_on world.now.script world.now.run.steps from to)) }
+// An event, if there is one.
+fn push_option(event: Option<Event>, events: &mut Vec<Event>) -> Mem<()>
+    ensures { OnOk result (events.new.items ≡ events.old.items ++ option_to_list event) }
 {
-    if let Some(event) = delivery(cursors, world, from, to) {
+    if let Some(event) = event {
         events.push(event)?;
     }
     Ok(())

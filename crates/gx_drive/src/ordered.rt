@@ -1,9 +1,9 @@
-ghost use Rattle.std.specs.Prelude.{◌≡◌, ◌≤◌, [], false, IfOk, OnOk, length, map};
-ghost use Rattle.gx_store.specs.Whole.{AreInsertsWhole};
+ghost use Rattle.std.specs.Prelude.{◌≡◌, ◌≤◌, [], false, if◌then◌else◌, IfOk, OnOk, length, map};
 ghost use Rattle.gx_store.specs.Schedule.{is_any_unfinished};
 ghost use Rattle.gx_outside.specs.Shelves.{AreEmpty};
 ghost use Rattle.gx_law_runs.specs.Reached.{IsReached};
-ghost use Rattle.gx_drive.specs.Ordered.{AreFailuresFew, AreFirst, AreHeld, IsEnd};
+ghost use Rattle.gx_drive.specs.Ordered.{AreFailuresFew, AreFirst, AreHeld, IsEnd, IsNoneFirst};
+ghost use Rattle.gx_drive.specs.declared.end.End.TheVariants.{Done, Turns};
 
 use crate::agenda::Agenda;
 use crate::end::End;
@@ -13,9 +13,10 @@ use gx_outside::{Gate, Journal};
 use gx_world::World;
 use std::alloc::Global;
 
-/// Runs a new world by the ordered schedule: it does the first of what is enabled at each turn, until no session is unfinished or
-/// so many turns were taken. The journals are those of the coordinator and 16 segments, and hold nothing. Besides the step itself a turn costs the
-/// logarithm of what is under way, and a look at each link and session until one has what is first.
+/// Runs a new world by the ordered schedule: it does the first of what is enabled at each turn, until no session is unfinished, so
+/// many turns were taken, or nothing is enabled but rounds. The journals are those of the coordinator and 16 segments, and hold
+/// nothing. Besides the step itself a turn costs the logarithm of what is under way, and a look at each link, node and session until
+/// one has what is first.
 pub fn run_ordered<J: Journal, G: Gate>(
     alloc: Global,
     world: &mut World,
@@ -25,7 +26,6 @@ pub fn run_ordered<J: Journal, G: Gate>(
 ) -> Mem<End>
     requires new { world.old.run.steps ≡ [] }
     requires usable { world.old.spent ≡ false }
-    requires inserts { AreInsertsWhole world.old.script.tables world.old.script.lines }
     requires journals { length journals.old ≡ 17 }
     requires empty { AreEmpty (map J.shelf journals.old) }
     requires turns { turns ≤ 10000000 }
@@ -33,7 +33,7 @@ pub fn run_ordered<J: Journal, G: Gate>(
     ensures script { world.new.script ≡ world.old.script }
     ensures first { AreFirst world.old.script [] world.new.run.steps }
     ensures failures { AreFailuresFew world.new.run.steps (map J.shelf journals.old) (map J.shelf journals.new) }
-    ensures end { IfOk result (IsEnd world.old.script world.new.run.steps turns) }
+    ensures end { IfOk result (IsEnd (IsNoneFirst world.old.script) world.old.script world.new.run.steps turns) }
     ensures held { OnOk result (AreHeld world.new.run.steps (map J.shelf journals.new)) }
     ensures unspent { OnOk result (world.new.spent ≡ false) }
 {
@@ -42,7 +42,9 @@ pub fn run_ordered<J: Journal, G: Gate>(
         if !is_unfinished(world) {
             return Ok(End::Done);
         }
-        let event = next_event(world, &agenda)?;
+        let Some(event) = next_event(world, &agenda)? else {
+            return Ok(End::Stuck);
+        };
         turn(world, &mut agenda, journals, gate, event)?;
     }
     Ok(end_of(world))
@@ -52,7 +54,7 @@ pub fn run_ordered<J: Journal, G: Gate>(
 pub(crate) fn end_of(world: &World) -> End
     requires usable { world.now.spent ≡ false }
     requires reached { IsReached world.now.script world.now.run.steps }
-    ensures { IsEnd world.now.script world.now.run.steps (length world.now.run.steps) result }
+    ensures { result ≡ (if is_any_unfinished world.now.script world.now.run.steps then Turns else Done) }
 {
     if is_unfinished(world) {
         End::Turns

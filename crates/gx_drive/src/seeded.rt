@@ -1,8 +1,7 @@
 ghost use Rattle.std.specs.Prelude.{◌≡◌, ◌≤◌, [], false, IfOk, OnOk, length, map};
-ghost use Rattle.gx_store.specs.Whole.{AreInsertsWhole};
 ghost use Rattle.gx_outside.specs.Shelves.{AreEmpty};
 ghost use Rattle.gx_drive.specs.Ordered.{AreFailuresFew, AreHeld, IsEnd};
-ghost use Rattle.gx_drive.specs.Seeded.{AreDrawn};
+ghost use Rattle.gx_drive.specs.Seeded.{AreDrawn, IsNoneDrawn};
 
 use crate::agenda::Agenda;
 use crate::drawing::{drawn_event, generator_of};
@@ -15,9 +14,10 @@ use gx_world::World;
 use rand_core::utils::NextWord;
 use std::alloc::Global;
 
-/// Runs a new world by a seed, until no session is unfinished or so many turns were taken: at each turn it draws a word of the generator and does the event whose
-/// place among all that is enabled is what is left of the word by their number. The journals are those of the coordinator and 16 segments, and hold nothing.
-/// Besides the step itself a turn costs a list of what is enabled: a look at each link and each session, and what it holds.
+/// Runs a new world by a seed, until no session is unfinished, so many turns were taken, or the seed draws a round or from nothing: at
+/// each turn it draws a word of the generator and does the event whose place among all that is enabled is what is left of the word by
+/// their number. The journals are those of the coordinator and 16 segments, and hold nothing. Besides the step itself a turn costs a
+/// list of what is enabled: a look at each link, node and session, and what it holds.
 pub fn run_seeded<J: Journal, G: Gate>(
     alloc: Global,
     world: &mut World,
@@ -28,7 +28,6 @@ pub fn run_seeded<J: Journal, G: Gate>(
 ) -> Mem<End>
     requires new { world.old.run.steps ≡ [] }
     requires usable { world.old.spent ≡ false }
-    requires inserts { AreInsertsWhole world.old.script.tables world.old.script.lines }
     requires journals { length journals.old ≡ 17 }
     requires empty { AreEmpty (map J.shelf journals.old) }
     requires turns { turns ≤ 10000000 }
@@ -36,7 +35,7 @@ pub fn run_seeded<J: Journal, G: Gate>(
     ensures script { world.new.script ≡ world.old.script }
     ensures drawn { AreDrawn world.old.script seed [] world.new.run.steps }
     ensures failures { AreFailuresFew world.new.run.steps (map J.shelf journals.old) (map J.shelf journals.new) }
-    ensures end { IfOk result (IsEnd world.old.script world.new.run.steps turns) }
+    ensures end { IfOk result (IsEnd (IsNoneDrawn world.old.script seed) world.old.script world.new.run.steps turns) }
     ensures held { OnOk result (AreHeld world.new.run.steps (map J.shelf journals.new)) }
     ensures unspent { OnOk result (world.new.spent ≡ false) }
 {
@@ -47,7 +46,9 @@ pub fn run_seeded<J: Journal, G: Gate>(
             return Ok(End::Done);
         }
         let word = generator.next_word();
-        let event = drawn_event(alloc, world, &agenda, word)?;
+        let Some(event) = drawn_event(alloc, world, &agenda, word)? else {
+            return Ok(End::Stuck);
+        };
         turn(world, &mut agenda, journals, gate, event)?;
     }
     Ok(end_of(world))

@@ -1,13 +1,14 @@
-use Rattle.std.proofs.Common.{ap, ◌∙◌, ◌∷◌, [], sym, arith, length}
+use Rattle.std.proofs.Common.{ap, ◌∙◌, ◌∷◌, [], subst, sym, arith, length}
 use Rattle.gx_script.specs.declared.Script.{Script}
 use Rattle.gx_law_runs.specs.Replays.{is_admitted}
 use Rattle.gx_store.specs.Schedule.{first_of, is_to_end}
+use Rattle.gx_drive.specs.Agrees.{IsDue}
 use Rattle.gx_drive.proofs.Enabled.{end-admitted}
 use Rattle.gx_drive.proofs.Firsts.{passing-skips, passing-takes}
 use Rattle.gx_drive.proofs.ends.first_end.Goals as goal
 
-pub returns-then-branch : goal.returns-then-branch
-returns-then-branch c =
+pub returns-then-branch-clause-first : goal.returns-then-branch-clause-first
+returns-then-branch-clause-first c =
     ap (λ e. e ∷ []) c.end_of-event.ensures
     ∙ sym (passing-takes (is_to_end c.args.world.now.script c.args.world.now.run.steps) c.loop-place.place _ (omega (arith, c.loop-place.auto.place-end, c.len-place-end.ensures, ap (λ (s : Script). length s.sessions) c.script.ensures.value))
     (end-admitted c.args.world.now.script c.script.ensures.language.some_segments c.args.world.now.run.steps c.requires.reached _ ∙ ap (is_admitted c.args.world.now.script c.args.world.now.run.steps) (sym c.end_of-event.ensures) ∙ sym c.in_ok-can.ensures.value ∙ c.if-branch.true))
@@ -19,3 +20,6 @@ loop-place-preserved c =
     (sym (passing-skips (is_to_end c.args.world.now.script c.args.world.now.run.steps) c.loop-place.place _ (omega (arith, c.loop-place.auto.place-end, c.len-place-end.ensures, ap (λ (s : Script). length s.sessions) c.script.ensures.value))
     (end-admitted c.args.world.now.script c.script.ensures.language.some_segments c.args.world.now.run.steps c.requires.reached _ ∙ ap (is_admitted c.args.world.now.script c.args.world.now.run.steps) (sym c.end_of-event.ensures) ∙ sym c.in_ok-can.ensures.value ∙ c.if-branch.false)))
     ∙ c.loop-place.invariant
+
+pub returns-then-branch-clause-due : goal.returns-then-branch-clause-due
+returns-then-branch-clause-due c = subst (IsDue c.args.world.now.script c.args.world.now.run.steps) (sym c.end_of-event.ensures) tt
