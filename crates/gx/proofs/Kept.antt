@@ -9,7 +9,7 @@ use Rattle.gx_drive.proofs.Journals.{none-failed, none-held}
 use Rattle.gx_sql.specs.declared.refusal.Refusal.{Refusal}
 use Rattle.gx_store.specs.declared.run.Run.{Run}
 use Rattle.gx.specs.declared.attempt.Attempt.{Attempt}
-use Rattle.gx.specs.declared.attempt.Attempt.TheVariants.{Done, Stopped, Usage, Refused, ReadFault, TooLarge, NotBuilt, OutOfMemory}
+use Rattle.gx.specs.declared.attempt.Attempt.TheVariants.{Done, Stopped, Stuck, Usage, Refused, ReadFault, TooLarge, NotBuilt, OutOfMemory}
 use Rattle.gx.specs.Top.{AreKept, IsRefusedFor, no_run, run_in}
 
 -- nothing was run
@@ -21,6 +21,7 @@ refused-run refusal (Refused text) is = refl
 refused-run refusal (OutOfMemory run) is = is
 refused-run refusal (Done run text) is = absurd is
 refused-run refusal (Stopped run text) is = absurd is
+refused-run refusal (Stuck run) is = absurd is
 refused-run refusal Usage is = absurd is
 refused-run refusal ReadFault is = absurd is
 refused-run refusal TooLarge is = absurd is

@@ -6,9 +6,9 @@ use Rattle.gx_store.specs.declared.run.Run.{Run}
 use Rattle.gx_outside.specs.Shelves.{Shelf}
 use Rattle.gx_drive.specs.Ordered.{AreFailuresFew, AreHeld}
 use Rattle.gx.specs.declared.attempt.Attempt.{Attempt}
-use Rattle.gx.specs.declared.attempt.Attempt.TheVariants.{Done, Stopped, Usage, Refused, ReadFault, TooLarge, NotBuilt, OutOfMemory}
+use Rattle.gx.specs.declared.attempt.Attempt.TheVariants.{Done, Stopped, Stuck, Usage, Refused, ReadFault, TooLarge, NotBuilt, OutOfMemory}
 use Rattle.gx.specs.declared.top.Report.{Report}
-use Rattle.gx.specs.Top.{AreKept, IsAttempt, IsCutShort, IsDone, IsDue, IsNotBuilt, IsPartRun, IsReadFault, IsRefused, IsStatus, IsStopped, IsTold, IsToldOf, IsTooLarge, IsUsage, IsWritten, is_over, run_in, status_in, text_in}
+use Rattle.gx.specs.Top.{AreKept, IsAttempt, IsCutShort, IsDone, IsDue, IsPartRun, IsReadFault, IsRefused, IsStatus, IsStopped, IsTold, IsToldOf, IsTooLarge, IsUnbuilt, IsUsage, IsWritten, is_over, run_in, status_in, text_in}
 
 abbrev pub pick : Bool → Type 0 → Type 0 → Type 0
 pick true A B = A
@@ -20,6 +20,7 @@ module _ (written shown : Option (List ℕ)) (faults more : ℕ) (report : Repor
       ⊎ ((is_over a ≡ false) × (report.status ≡ 6) × (report.run ≡ run_in a) × (shown ≡ written))
   told (Done run text) is = inl (refl, is)
   told (Stopped run text) is = inl (refl, is)
+  told (Stuck run) is = inl (refl, is)
   told Usage is = inl (refl, is)
   told (Refused text) is = inl (refl, is)
   told ReadFault is = inl (refl, is)
@@ -36,6 +37,7 @@ module _ (written shown : Option (List ℕ)) (faults more : ℕ) (report : Repor
   status (Stopped run text) = inl (inl (inr refl))
   status TooLarge = inl (inr refl)
   status NotBuilt = inr refl
+  status (Stuck run) = inr refl
 
   pub known : (a : Attempt) → IsToldOf a written shown faults more report → IsStatus report.status
   known a is = elim (told a is) [
@@ -56,6 +58,7 @@ module _ (written shown : Option (List ℕ)) (faults more : ℕ) (report : Repor
   ended : (a : Attempt) → is_over a ≡ true → (status_in a ≡ 5 → ⊥) × (status_in a ≡ 6 → ⊥)
   ended (Done run text) over = (λ e. cc, λ e. cc)
   ended (Stopped run text) over = (λ e. cc, λ e. cc)
+  ended (Stuck run) over = (λ e. cc, λ e. cc)
   ended Usage over = (λ e. cc, λ e. cc)
   ended (Refused text) over = (λ e. cc, λ e. cc)
   ended ReadFault over = (λ e. cc, λ e. cc)
@@ -86,16 +89,17 @@ module _ (words : List (String Global)) (left after : Option (List ℕ)) (before
       (pick (nat_eq n 4) (IsReadFault words before now run text)
       (pick (nat_eq n 7) (IsStopped words left after run text)
       (pick (nat_eq n 9) (IsTooLarge words left after run text)
-      (pick (nat_eq n 10) (IsNotBuilt words left after run text) ⊥))))))
+      (pick (nat_eq n 10) (IsUnbuilt words left after run text) ⊥))))))
 
   due : (a : Attempt) → IsAttempt words left after before now a → is_over a ≡ true → IsDueAt (status_in a) (run_in a) (text_in a)
   due (Done run text) is over = is
   due (Stopped run text) is over = is
+  due (Stuck run) is over = inr (record { is = is; told = refl })
   due Usage is over = record { unknown = is; empty = refl; told = refl }
   due (Refused text) is over = is
   due ReadFault is over = record { asked = is.0; rose = is.1; empty = refl; told = refl }
   due TooLarge is over = record { asked = is.0; much = is.1; empty = refl; told = refl }
-  due NotBuilt is over = record { cause = is; empty = refl; told = refl }
+  due NotBuilt is over = inl (record { cause = is; empty = refl; told = refl })
   due (OutOfMemory run) is over = absurd (cc)
 
   -- so it's one of those that may be cut short
@@ -107,12 +111,14 @@ module _ (words : List (String Global)) (left after : Option (List ℕ)) (before
   at-any ReadFault is over = inl (inl (inr (due ReadFault is over)))
   at-any TooLarge is over = inl (inr (due TooLarge is over))
   at-any NotBuilt is over = inr (due NotBuilt is over)
+  at-any (Stuck run) is over = inr (due (Stuck run) is over)
   at-any (OutOfMemory run) is over = absurd (cc)
 
   part : (a : Attempt) → IsAttempt words left after before now a → is_over a ≡ false → IsPartRun words left after (run_in a)
   part (OutOfMemory run) of out = of
   part (Done run text) of out = absurd (cc)
   part (Stopped run text) of out = absurd (cc)
+  part (Stuck run) of out = absurd (cc)
   part Usage of out = absurd (cc)
   part (Refused text) of out = absurd (cc)
   part ReadFault of out = absurd (cc)

@@ -29,11 +29,11 @@ use Rattle.gx_store.specs.Schedule.{is_any_unfinished}
 use Rattle.gx_law_locks.specs.Legal.{AreLocksLegal}
 use Rattle.gx_law_runs.specs.Endings.{IsFinished}
 use Rattle.gx_law_commit.specs.Told.{DoStepsTell}
-use Rattle.gx_drive.specs.Ordered.{AreFailuresFew, AreFirst, AreHeld}
-use Rattle.gx_drive.specs.Seeded.{AreDrawn}
+use Rattle.gx_drive.specs.Ordered.{AreFailuresFew, AreFirst, AreHeld, IsNoneFirst}
+use Rattle.gx_drive.specs.Seeded.{AreDrawn, IsNoneDrawn}
 use Rattle.gx.specs.declared.top.Report.{Report}
 use Rattle.gx.specs.declared.attempt.Attempt.{Attempt}
-use Rattle.gx.specs.declared.attempt.Attempt.TheVariants.{Done, Stopped, Usage, Refused, ReadFault, TooLarge, NotBuilt, OutOfMemory}
+use Rattle.gx.specs.declared.attempt.Attempt.TheVariants.{Done, Stopped, Stuck, Usage, Refused, ReadFault, TooLarge, NotBuilt, OutOfMemory}
 use Rattle.gx.specs.Refused.{refusal_text}
 use Rattle.gx_report.specs.Text.{stopped_text, text_of}
 
@@ -75,6 +75,11 @@ abbrev pub AreDriven : Option ℕ → Script → List Step → Type 0
 AreDriven None script steps = AreFirst script [] steps
 AreDriven (Some seed) script steps = AreDrawn script seed [] steps
 
+-- the driver has no event that a node takes
+abbrev pub IsStuckBy : Option ℕ → Script → List Step → Type 0
+IsStuckBy None script steps = IsNoneFirst script steps
+IsStuckBy (Some seed) script steps = IsNoneDrawn script seed steps
+
 -- The run is a legal history of one store without segments. Its nodes follow their rules and the commit protocol, its messages are
 -- numbered, follow what they tell of, and arrive after they were sent, clocks rise, its locks are legal, and each event is the one
 -- that the driver takes.
@@ -104,6 +109,14 @@ pub record IsStoppedRunOf (script : Script) (options : Options) (run : Run) (tex
   pub unfinished : is_any_unfinished script run.steps ≡ true
   pub told : text ≡ stopped_text script run ++ traced options.trace script run
 
+-- Turns are left and a session is unfinished, but the driver's next event is none, or a round of the detector, which isn't built yet. In the
+-- fixed order nothing else is enabled then.
+pub record IsStuckRunOf (script : Script) (options : Options) (run : Run) : Type 0 where
+  pub is : IsRunOf script options.seed run
+  pub left : length run.steps < options.turns
+  pub unfinished : is_any_unfinished script run.steps ≡ true
+  pub stuck : IsStuckBy options.seed script run.steps
+
 -- nothing was run, or a part of a run of the script
 abbrev pub IsPartOf : Script → Option ℕ → Run → Type 0
 IsPartOf script seed run = (run ≡ no_run) ⊎ IsRunOf script seed run
@@ -112,6 +125,7 @@ IsPartOf script seed run = (run ≡ no_run) ⊎ IsRunOf script seed run
 abbrev pub IsRan : Script → Options → Attempt → Type 0
 IsRan script options (Done run text) = IsWholeRunOf script options run text.items
 IsRan script options (Stopped run text) = IsStoppedRunOf script options run text.items
+IsRan script options (Stuck run) = IsStuckRunOf script options run
 IsRan script options (OutOfMemory run) = IsPartOf script options.seed run
 IsRan script options _ = ⊥
 
@@ -170,6 +184,15 @@ pub record IsStopped (words : List (String Global)) (left after : Option (List �
   pub built : is_of_form script ≡ true
   pub is : IsStoppedRunOf script options run text
 
+-- a script of the form that is built was read, and its run is stuck
+pub record IsStuck (words : List (String Global)) (left after : Option (List ℕ)) (run : Run) : Type 0 where
+  pub options : Options
+  pub asked : AreAsked words options
+  pub script : Script
+  pub read : IsRead left after (Ok script)
+  pub built : is_of_form script ≡ true
+  pub is : IsStuckRunOf script options run
+
 -- a script was asked for and read
 pub record IsForScript (words : List (String Global)) : Type 0 where
   pub options : Options
@@ -222,10 +245,20 @@ pub record IsNotBuilt (words : List (String Global)) (left after : Option (List 
   pub empty : run ≡ no_run
   pub told : text ≡ codes "not built\n"
 
+-- the run is stuck, and the text says that what it would need isn't built
+pub record IsHalted (words : List (String Global)) (left after : Option (List ℕ)) (run : Run) (text : List ℕ) : Type 0 where
+  pub is : IsStuck words left after run
+  pub told : text ≡ codes "not built\n"
+
+-- what isn't built was asked for or read, or is what the run would need
+abbrev pub IsUnbuilt : List (String Global) → Option (List ℕ) → Option (List ℕ) → Run → List ℕ → Type 0
+IsUnbuilt words left after run text = IsNotBuilt words left after run text ⊎ IsHalted words left after run text
+
 -- what the work before the writing came to
 abbrev pub IsAttempt : List (String Global) → Option (List ℕ) → Option (List ℕ) → ℕ → ℕ → Attempt → Type 0
 IsAttempt words left after before now (Done run text) = IsDone words left after run text.items
 IsAttempt words left after before now (Stopped run text) = IsStopped words left after run text.items
+IsAttempt words left after before now (Stuck run) = IsStuck words left after run
 IsAttempt words left after before now Usage = AreUnknown words
 IsAttempt words left after before now (Refused text) = IsRefused words left after no_run text.items
 IsAttempt words left after before now ReadFault = IsForScript words × Rose before now
@@ -237,6 +270,7 @@ IsAttempt words left after before now (OutOfMemory run) = IsPartRun words left a
 abbrev pub run_in : Attempt → Run
 run_in (Done run text) = run
 run_in (Stopped run text) = run
+run_in (Stuck run) = run
 run_in (OutOfMemory run) = run
 run_in _ = no_run
 
@@ -244,6 +278,7 @@ run_in _ = no_run
 abbrev pub status_in : Attempt → ℕ
 status_in (Done run text) = 0
 status_in (Stopped run text) = 7
+status_in (Stuck run) = 10
 status_in Usage = 2
 status_in (Refused text) = 3
 status_in ReadFault = 4
@@ -255,6 +290,7 @@ status_in (OutOfMemory run) = 6
 abbrev pub text_in : Attempt → List ℕ
 text_in (Done run text) = text.items
 text_in (Stopped run text) = text.items
+text_in (Stuck run) = codes "not built\n"
 text_in (Refused text) = text.items
 text_in Usage = usage
 text_in ReadFault = codes "read fault\n"
@@ -296,7 +332,7 @@ IsStatus n = ((((((((n ≡ 0) ⊎ (n ≡ 2)) ⊎ (n ≡ 3)) ⊎ (n ≡ 4)) ⊎ (
 abbrev pub IsDue : List (String Global) → Option (List ℕ) → Option (List ℕ) → ℕ → ℕ → Run → List ℕ → Type 0
 IsDue words left after before now run text =
     (((((IsDone words left after run text ⊎ IsStopped words left after run text) ⊎ IsUsage words run text) ⊎ IsRefused words left after run text)
-    ⊎ IsReadFault words before now run text) ⊎ IsTooLarge words left after run text) ⊎ IsNotBuilt words left after run text
+    ⊎ IsReadFault words before now run text) ⊎ IsTooLarge words left after run text) ⊎ IsUnbuilt words left after run text
 
 -- the sink failed, and a part of the text that was due stands there, from its front
 pub record IsCutShort (IsText : List ℕ → Type 0) (written after : Option (List ℕ)) (before now : ℕ) : Type 0 where

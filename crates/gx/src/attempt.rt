@@ -17,12 +17,13 @@ use std::alloc::Global;
 // The most bytes of a script.
 const LIMIT: usize = 16_777_216;
 
-/// How the work before the writing ended: with a run and its text, with one that stopped once its turns were taken, with words that
-/// aren't in the language, with the text of a refusal, or with neither.
+/// How the work before the writing ended: with a run and its text, with one that stopped once its turns were taken, with one that
+/// can't go on, with words that aren't in the language, with the text of a refusal, or with neither.
 #[derive(Drop)]
 pub enum Attempt {
     Done(Run, Vec<u8>),
     Stopped(Run, Vec<u8>),
+    Stuck(Run),
     Usage,
     Refused(Vec<u8>),
     ReadFault,

@@ -17,7 +17,9 @@ fn is_stmt_of_form(stmt: &Stmt) -> bool
         Stmt::Rollback => true,
         Stmt::Insert(_, tuples) => tuples.len() < COUNT,
         Stmt::Select(_) => true,
-        _ => false,
+        Stmt::Lock(_, _) => true,
+        Stmt::Update(_, _, _) => false,
+        Stmt::Delete(_, _) => false,
     }
 }
 
@@ -27,7 +29,7 @@ fn are_of_form(lines: &[Line]) -> bool
     lines.iter().all(|line| is_stmt_of_form(&line.stmt))
 }
 
-/// Whether the script is of the form that is run for now: lines that are BEGIN, COMMIT, ROLLBACK, INSERTs or SELECTs.
+/// Whether the script is of the form that is run for now: lines that are BEGIN, COMMIT, ROLLBACK, INSERT, SELECT or LOCK TABLE.
 pub fn is_of_form(script: &Script) -> bool
     ensures { result ≡ of.is_of_form script.now }
 {

@@ -1,12 +1,12 @@
 // Running a script that was read, and telling its run.
-ghost use Rattle.std.specs.Prelude.{◌≡◌, ◌≤◌, ◌++◌, [], true, false, IfOk, length, map};
+ghost use Rattle.std.specs.Prelude.{◌≡◌, ◌≤◌, ◌<◌, ◌++◌, [], true, false, IfOk, length, map};
 ghost use Rattle.gx_store.specs.Whole.{AreInsertsWhole};
 ghost use Rattle.gx_drive.specs.Ordered.{IsEnd};
 ghost use Rattle.gx_store.specs.Schedule.{is_any_unfinished};
 ghost use Rattle.gx_outside.specs.Shelves.{AreEmpty};
 ghost use Rattle.gx_store.specs.Language.{IsScript};
 ghost use Rattle.gx_report.specs.Text.{stopped_text as of_stopped};
-ghost use Rattle.gx.specs.Top.{AreDriven, AreKept, IsRan, IsWholeRunOf, is_over, run_in, traced};
+ghost use Rattle.gx.specs.Top.{AreDriven, AreKept, IsRan, IsStuckBy, IsWholeRunOf, is_over, run_in, traced};
 
 use crate::attempt::Attempt;
 use crate::driving::drive;
@@ -54,13 +54,14 @@ fn ended(alloc: Global, world: World, options: Options, end: End) -> Attempt
     requires language { IsScript world.script }
     requires inserts { AreInsertsWhole world.script.tables world.script.lines }
     requires driven { AreDriven options.seed world.script world.run.steps }
-    requires ended { IsEnd world.script world.run.steps options.turns end }
+    requires ended { IsEnd (IsStuckBy options.seed world.script) world.script world.run.steps options.turns end }
     ensures ran { IsRan world.script options result }
     ensures run { run_in result ≡ world.run }
 {
     match end {
         End::Done => finished(alloc, world, options),
         End::Turns => stopped(alloc, world, options),
+        End::Stuck => stuck(world, options),
     }
 }
 
@@ -116,6 +117,20 @@ fn stopped(alloc: Global, world: World, options: Options) -> Attempt
         Ok(text) => Attempt::Stopped(world.into_run(), text),
         Err(_) => Attempt::OutOfMemory(world.into_run()),
     }
+}
+
+// A run that can't go on.
+fn stuck(world: World, _options: Options) -> Attempt
+    requires language { IsScript world.script }
+    requires inserts { AreInsertsWhole world.script.tables world.script.lines }
+    requires driven { AreDriven _options.seed world.script world.run.steps }
+    requires left { length world.run.steps < _options.turns }
+    requires unfinished { is_any_unfinished world.script world.run.steps ≡ true }
+    requires stuck { IsStuckBy _options.seed world.script world.run.steps }
+    ensures ran { IsRan world.script _options result }
+    ensures run { run_in result ≡ world.run }
+{
+    Attempt::Stuck(world.into_run())
 }
 
 fn stopped_text(alloc: Global, world: &World, trace: bool) -> Mem<Vec<u8>>

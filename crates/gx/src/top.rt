@@ -3,7 +3,7 @@ ghost use Rattle.std.specs.Prelude.{◌≡◌, ◌≢◌, length, map};
 ghost use Rattle.gx_drive.specs.Ordered.{AreFailuresFew, AreHeld};
 ghost use Rattle.gx_outside.specs.Shelves.{AreEmpty};
 ghost use Rattle.gx_words.specs.declared.options.Options.{Options as Asked};
-ghost use Rattle.gx.specs.Top.{AreAsked, IsCutShort, IsDone, IsDue, IsNotBuilt, IsOfLanguage, IsPartRun, IsReadFault, IsRefused, IsStatus, IsStopped, IsTold, IsToldOf, IsTooLarge, IsUsage, IsWritten};
+ghost use Rattle.gx.specs.Top.{AreAsked, IsCutShort, IsDone, IsDue, IsOfLanguage, IsPartRun, IsReadFault, IsRefused, IsStatus, IsStopped, IsTold, IsToldOf, IsTooLarge, IsUnbuilt, IsUsage, IsWritten};
 
 use crate::attempt::{Attempt, make_attempt};
 use gx_outside::{Failed, Gate, Journal, Sink, Source, write_whole};
@@ -11,7 +11,7 @@ use gx_store::Run;
 use std::alloc::Global;
 
 /// What a call did: its status, and the run that it made. 0 is done, 2 words that aren't in the language, 3 a refused script, 4 a read fault, 5 a write fault, 6
-/// want of memory, 7 a run that took all its turns, 9 too many bytes, and 10 a form that isn't built yet.
+/// want of memory, 7 a run that took all its turns, 9 too many bytes, and 10 a form that isn't built yet, or a run whose next event is none, or one that isn't built.
 #[derive(Drop)]
 pub struct Report {
     pub status: u8,
@@ -45,6 +45,7 @@ fn told_of<K: Sink>(alloc: Global, attempt: Attempt, sink: &mut K) -> Report
         Attempt::ReadFault => told(4, Run::new(alloc), b"read fault\n", sink),
         Attempt::TooLarge => told(9, Run::new(alloc), b"too large\n", sink),
         Attempt::NotBuilt => told(10, Run::new(alloc), b"not built\n", sink),
+        Attempt::Stuck(run) => told(10, run, b"not built\n", sink),
         Attempt::OutOfMemory(run) => Report { status: 6, run },
     }
 }
@@ -88,7 +89,8 @@ pub fn run_gx<S: Source, K: Sink, J: Journal, G: Gate>(
 
     ensures too_large { result.status ≡ 9 → IsWritten (IsTooLarge words.now (S.left source.old) (S.left source.new) result.run) (K.written sink.old) (K.written sink.new) }
 
-    ensures not_built { result.status ≡ 10 → IsWritten (IsNotBuilt words.now (S.left source.old) (S.left source.new) result.run) (K.written sink.old) (K.written sink.new) }
+    // The words or the script ask for what isn't built, and nothing was run; or what the driver would do next is nothing, or a round of the detector.
+    ensures not_built { result.status ≡ 10 → IsWritten (IsUnbuilt words.now (S.left source.old) (S.left source.new) result.run) (K.written sink.old) (K.written sink.new) }
 
     // Nothing is read unless the words ask for a script that is read.
     ensures unread { ((options : Asked) → AreAsked words.now options → ⊥) → source.new ≡ source.old }
