@@ -40,7 +40,7 @@ pub each-next : (g : Gxid) (c : Cid) (k : ℕ) (t : List Expr) (ts : List (List 
 each-next g c k t ts vs rows e f =
     ap (λ r. and_then (and_then r (λ row. Ok (keyed g c k row))) (λ y. and_then (each_from (tuple_row g c) (k + 1) ts) (λ ys. Ok (y ∷ ys)))) e ∙ ap (λ r. and_then r (λ ys. Ok (keyed g c k vs ∷ ys))) f
 
-abbrev g1 : Gxid
+abbrev pub g1 : Gxid
 g1 = record { 0 = 1 }
 
 abbrev pub c1 : Cid
@@ -55,14 +55,14 @@ plan-two_rows =
     (each-next g1 c1 1 (tuple 0 1) (tuple 1 1 ∷ []) _ (row_of 2 1 1 ∷ []) (values_of-tuple 0 1) (each-next g1 c1 2 (tuple 1 1) [] _ [] (values_of-tuple 1 1) refl))
 
 -- the table's lock of an INSERT
-abbrev table_lock : Gxid → Claim
+abbrev pub table_lock : Gxid → Claim
 table_lock g = claim g (Relation the_table) RowExclusive
 
 abbrev with_table : Coord → Gxid → Coord
 with_table c g = record c { locks = with_hold c.locks (table_lock g) }
 
 -- the world after the line has started, with its plan in its place
-abbrev started : World → Coord → Gxid → Cid → SessionId → Stmt → List Mark → Result (List Piece) ArithFault → World
+abbrev pub started : World → Coord → Gxid → Cid → SessionId → Stmt → List Mark → Result (List Piece) ArithFault → World
 started w c g cid s line begun plan =
     coord_did w (event.Start s) (coord_sends (w.coord.clock + 1) (behind begun (behind (hold_mark the_coordinator (table_lock g) ∷ []) (goes g cid line (reads_for (with_table c g) g cid (work_of (with_table c g) g) line) plan))))
 
@@ -70,10 +70,10 @@ started w c g cid s line begun plan =
 abbrev first_coord : Coord
 first_coord = begins (starts_line new_world.coord (session 0) (Command true)) (session 0) ReadCommitted
 
-abbrev first_world : World
+abbrev pub first_world : World
 first_world = started new_world first_coord g1 c1 (session 0) two_rows (mark.Start g1 (session 0) ∷ []) (Ok (insert_pieces 2 (By 0) the_table the_rows))
 
-starts-two_rows : started new_world first_coord g1 c1 (session 0) two_rows (mark.Start g1 (session 0) ∷ []) (plan_of 2 (By 0) g1 c1 two_rows) ≡ first_world
+pub starts-two_rows : started new_world first_coord g1 c1 (session 0) two_rows (mark.Start g1 (session 0) ∷ []) (plan_of 2 (By 0) g1 c1 two_rows) ≡ first_world
 starts-two_rows = ap (started new_world first_coord g1 c1 (session 0) two_rows (mark.Start g1 (session 0) ∷ [])) plan-two_rows
 
 drives-lost : (n : ℕ) → drives (suc n) lost_committed never new_world ≡ drives n lost_committed never first_world

@@ -54,6 +54,7 @@ use Rattle.gx_store.specs.declared.mark.Mark.TheVariants as mark
 use Rattle.gx_store.specs.declared.node.NodeEvent.{NodeEvent}
 use Rattle.gx_store.specs.declared.node.NodeEvent.TheVariants as node
 use Rattle.gx_store.specs.Lines.{stmt_of}
+use Rattle.gx_store.specs.Locks.{changing_mode}
 use Rattle.gx_store.specs.Refusals.{the_coordinator}
 use Rattle.gx_store.specs.Waits.{claim}
 use Rattle.gx_store.specs.Writes.{dist_of}
@@ -228,12 +229,14 @@ goes_on_locked script c g line =
     let cid = next_cid (work_of c g) in
     goes g cid line (reads_for c g cid (work_of c g) line) (plan_of script.segments (dist_of script.tables (table_of line)) g cid line)
 
--- the lock that it takes on its table; those that change rows take none yet
-abbrev pub lock_for : Gxid → Stmt → Option Claim
-lock_for g (stmt.Select query) = Some (claim g (Relation query.table) AccessShare)
-lock_for g (stmt.Insert table tuples) = Some (claim g (Relation table) RowExclusive)
-lock_for g (stmt.Lock table mode) = Some (claim g (Relation table) mode)
-lock_for g _ = None
+-- the lock that it takes on its table
+abbrev pub lock_for : Script → Gxid → Stmt → Option Claim
+lock_for script g (stmt.Select query) = Some (claim g (Relation query.table) AccessShare)
+lock_for script g (stmt.Insert table tuples) = Some (claim g (Relation table) RowExclusive)
+lock_for script g (stmt.Update table assigns cond) = Some (claim g (Relation table) (changing_mode script))
+lock_for script g (stmt.Delete table cond) = Some (claim g (Relation table) (changing_mode script))
+lock_for script g (stmt.Lock table mode) = Some (claim g (Relation table) mode)
+lock_for script g _ = None
 
 abbrev pub waits_for : Coord → Gxid → Stmt → Claim → CoordTurn
 waits_for c g line wanted =
@@ -253,7 +256,7 @@ requests script c g line None = goes_on_locked script c g line
 requests script c g line (Some wanted) = if_granted script c g line wanted (is_free c.locks.holds wanted)
 
 abbrev pub dispatches : Script → Coord → Gxid → Stmt → CoordTurn
-dispatches script c g line = requests script c g line (lock_for g line)
+dispatches script c g line = requests script c g line (lock_for script g line)
 
 -- LINES
 -- a transaction of a session begins

@@ -8,7 +8,7 @@ use Rattle.gx_tree.specs.declared.stmt.Level.{Level}
 use Rattle.gx_dsnap.specs.Gxids.{is_below}
 use Rattle.gx_dsnap.specs.declared.snapshot.Snapshot.{Snapshot}
 use Rattle.gx_waits.specs.declared.claim.Claim.{Claim}
-use Rattle.gx_locks.specs.Locks.{resumed, wait_of}
+use Rattle.gx_locks.specs.Locks.{wait_of}
 use Rattle.gx_msg.specs.declared.item.JournalItem.{JournalItem}
 use Rattle.gx_msg.specs.declared.item.JournalItem.TheVariants as item
 use Rattle.gx_msg.specs.declared.message.Message.{Message}
@@ -21,12 +21,12 @@ use Rattle.gx_store.specs.declared.mark.Mark.TheVariants as mark
 use Rattle.gx_store.specs.declared.node.NodeEvent.{NodeEvent}
 use Rattle.gx_store.specs.declared.node.NodeEvent.TheVariants.{Deliver, Resume}
 use Rattle.gx_rules.specs.Fits.{fits_exec, is_waiting}
-use Rattle.gx_rules.specs.Locks.{hold_mark, release_marks, released}
+use Rattle.gx_rules.specs.Locks.{release_marks, released}
 use Rattle.gx_rules.specs.Sending.{clock_after, numbered}
-use Rattle.gx_rules.specs.Segments.{Local, Phase, Seg, SegTurn, Suspended, after_marks, has_committed, local_of, reply, stays, tells, tells_kept, with_local}
+use Rattle.gx_rules.specs.Segments.{Local, Phase, Seg, SegTurn, Suspended, has_committed, local_of, reply, stays, tells, tells_kept, with_local}
 use Rattle.gx_rules.specs.Segments.Phase.{Reading, Writing, Prepared, Committed, Forgotten, Aborted}
 use Rattle.gx_rules.specs.Shown.{kept_of}
-use Rattle.gx_rules.specs.Slices.{runs_slice, starts_slice}
+use Rattle.gx_rules.specs.Running.{goes_on, is_granted, starts_slice}
 
 -- the transaction's record changes, with marks before the answer
 abbrev pub changes : Seg → Gxid → Local → List Mark → Reply → Option JournalItem → SegTurn
@@ -41,15 +41,15 @@ raised s h = record s { horizon = if is_below h s.horizon then h else s.horizon 
 abbrev pub repeats : Seg → Gxid → Cid → Local → SegTurn
 repeats s g c l = if c.0 == l.last then tells_kept s g l.answer else stays s
 
-abbrev pub takes : Seg → Gxid → Cid → Level → Option Snapshot → Gxid → Slice → Local → SegTurn
-takes s g c level snapshot h slice l = if nat_lt l.last c.0 then starts_slice (raised s h) g c level snapshot slice else repeats s g c l
+abbrev pub takes : Script → Seg → Gxid → Cid → Level → Option Snapshot → Gxid → Slice → Local → SegTurn
+takes script s g c level snapshot h slice l = if nat_lt l.last c.0 then starts_slice script (raised s h) g c level snapshot slice else repeats s g c l
 
-abbrev pub on_exec : Seg → Gxid → Cid → Level → Option Snapshot → Gxid → Slice → Local → Phase → SegTurn
-on_exec s g c level snapshot h slice l Reading = takes s g c level snapshot h slice l
-on_exec s g c level snapshot h slice l Writing = takes s g c level snapshot h slice l
-on_exec s g c level snapshot h slice l Prepared = repeats s g c l
-on_exec s g c level snapshot h slice l Committed = repeats s g c l
-on_exec s g c level snapshot h slice l _ = stays s
+abbrev pub on_exec : Script → Seg → Gxid → Cid → Level → Option Snapshot → Gxid → Slice → Local → Phase → SegTurn
+on_exec script s g c level snapshot h slice l Reading = takes script s g c level snapshot h slice l
+on_exec script s g c level snapshot h slice l Writing = takes script s g c level snapshot h slice l
+on_exec script s g c level snapshot h slice l Prepared = repeats s g c l
+on_exec script s g c level snapshot h slice l Committed = repeats s g c l
+on_exec script s g c level snapshot h slice l _ = stays s
 
 -- PREPARE
 -- It is answered once, and then always with what was kept. While a slice of it waits there, it doesn't fit.
@@ -139,7 +139,7 @@ if_fits s false turn = stays s
 
 abbrev pub on_message : Script → Seg → Bool → Message → SegTurn
 on_message script s fails (message.Exec g c level snapshot h slice) =
-    unless_below s g (if_fits s (fits_exec script s g c snapshot h slice) (on_exec s g c level snapshot h slice (local_of s g) (local_of s g).phase))
+    unless_below s g (if_fits s (fits_exec script s g c snapshot h slice) (on_exec script s g c level snapshot h slice (local_of s g) (local_of s g).phase))
 on_message script s fails (message.Prepare g) =
     unless_below s g (if_fits s (not (is_waiting (local_of s g))) (on_prepare s g fails (local_of s g) (local_of s g).phase))
 on_message script s fails (message.Commit g) =
@@ -152,9 +152,7 @@ on_message script s fails _ = stays s
 -- RESUMPTIONS
 -- A slice whose lock is free takes it and goes on.
 abbrev pub resumes : Seg → Gxid → Option Claim → Option Suspended → SegTurn
-resumes s g (Some wanted) (Some waiting) =
-    let free = record (with_local s g (record (local_of s g) { suspended = None })) { locks = resumed s.locks g (Some wanted) } in
-    after_marks (hold_mark s.node wanted ∷ []) (runs_slice free g waiting.cid waiting.snapshot waiting.slice)
+resumes s g (Some wanted) (Some waiting) = goes_on (is_granted s g wanted) g waiting
 resumes s g _ _ = stays s
 
 -- THE RULE

@@ -14,9 +14,9 @@ use Rattle.gx_rules.specs.Machine.{World, new_world, world_of}
 use Rattle.gx_rules.specs.Segments.{local_of}
 use Rattle.gx_rules.specs.Segments.Phase.{Aborted}
 use Rattle.gx_rules.specs.Rows.{answers_of, between_commits, drives, journal_of, kept_snapshot, last_marks, locks_of, lost_committed, never, numbers, once_at_second, one_writer, protocol_of, reader_between, refused_promise, repeated_exec, row_of, session, snaps_of, the_table, write_marks}
-use Rattle.gx_waits.specs.declared.object.Object.TheVariants.{Relation}
+use Rattle.gx_waits.specs.declared.object.Object.TheVariants.{Relation, Transaction}
 use Rattle.gx_modes.specs.declared.modes.Mode.{Mode}
-use Rattle.gx_modes.specs.declared.modes.Mode.TheVariants.{RowExclusive, AccessShare}
+use Rattle.gx_modes.specs.declared.modes.Mode.TheVariants.{AccessShare, Exclusive, RowExclusive}
 use Rattle.gx_waits.specs.declared.object.Object.{Object}
 
 abbrev pub gxid : ℕ → Gxid
@@ -42,15 +42,25 @@ hold at g mode = mark.Hold (node at) (gxid g) table mode
 abbrev pub release : ℕ → ℕ → Mode → Mark
 release at g mode = mark.Release (node at) (gxid g) table mode
 
+-- a transaction's own lock, which it holds at a segment where it has written
+abbrev pub own : ℕ → Object
+own g = Transaction (gxid g)
+
+abbrev pub hold_own : ℕ → ℕ → Mark
+hold_own at g = mark.Hold (node at) (gxid g) (own g) Exclusive
+
+abbrev pub release_own : ℕ → ℕ → Mark
+release_own at g = mark.Release (node at) (gxid g) (own g) Exclusive
+
 -- the same at all three nodes, where the coordinator comes first
 abbrev pub at_each : (ℕ → Mark) → List Mark
 at_each made = made 0 ∷ made 1 ∷ made 2 ∷ []
 
--- The query's lock at each node, the INSERT's at the coordinator and at its row's segment. The coordinator gives its own back with
+-- The query's lock at each node, the INSERT's at the coordinator and at its row's segment, where the transaction locks itself. The coordinator gives its own back with
 -- the answer; the run is over before FORGET comes to the segments.
 pub record CommitsByOne (w : World) : Type 0 where
   pub locks : locks_of w
-      ≡ at_each (λ n. hold n 1 AccessShare) ++ hold 0 1 RowExclusive ∷ hold 1 1 RowExclusive
+      ≡ at_each (λ n. hold n 1 AccessShare) ++ hold 0 1 RowExclusive ∷ hold 1 1 RowExclusive ∷ hold_own 1 1
       ∷ release 0 1 AccessShare ∷ release 0 1 RowExclusive ∷ []
   pub answers : answers_of w ≡ (session 0, 1, told.Begin) ∷ (session 0, 2, told.Rows []) ∷ (session 0, 3, told.Inserted 1) ∷ (session 0, 4, told.Commit) ∷ []
   pub marks : protocol_of w ≡ mark.LocalCommit (node 1) (gxid 1) ∷ mark.Commit (gxid 1) ∷ []
@@ -93,8 +103,9 @@ refused_run = drives 40 refused_promise once_at_second new_world
 
 pub record RefusesPromise (w : World) : Type 0 where
   pub locks : locks_of w
-      ≡ at_each (λ n. hold n 1 RowExclusive) ++ at_each (λ n. release n 1 RowExclusive)
-      ++ at_each (λ n. hold n 2 AccessShare) ++ release 0 2 AccessShare ∷ []
+      ≡ hold 0 1 RowExclusive ∷ hold 1 1 RowExclusive ∷ hold_own 1 1 ∷ hold 2 1 RowExclusive ∷ hold_own 2 1
+      ∷ release 0 1 RowExclusive ∷ release 1 1 RowExclusive ∷ release_own 1 1 ∷ release 2 1 RowExclusive ∷ release_own 2 1
+      ∷ at_each (λ n. hold n 2 AccessShare) ++ release 0 2 AccessShare ∷ []
   pub answers : answers_of w ≡ (session 0, 1, told.Refused (refused.JournalFault (node 2))) ∷ (session 0, 2, told.Rows []) ∷ []
   pub marks : protocol_of w ≡ mark.Prepared (node 1) (gxid 1) ∷ mark.JournalFailed (node 2) (gxid 1) ∷ mark.Abort (gxid 1) ∷ mark.Commit (gxid 2) ∷ []
   pub journal : journal_of w (node 2) ≡ []

@@ -6,6 +6,7 @@ pub mod Segments
 pub mod Locks
 pub mod Shown
 pub mod Slices
+pub mod Running
 pub mod Fits
 pub mod AtSegment
 pub mod Coordinators

@@ -1,21 +1,19 @@
--- What a segment does for a command: it takes its table's lock, and then goes row by row.
-use Rattle.std.specs.Prelude.{ℕ, Bool, true, false, if◌then◌else◌, List, [], ◌∷◌, ◌++◌, filter, fold, length, Some, None, Result, Ok, Err}
+-- What a segment does for a command that reads, adds or locks, and how a command leaves it.
+use Rattle.std.specs.Prelude.{ℕ, Bool, true, false, List, [], ◌∷◌, ◌++◌, filter, fold, length, Some, None, Result, Ok, Err}
 use Rattle.std.specs.declared.option.Option.{Option}
 use Rattle.gx_ids.specs.declared.ids.Cid.{Cid}
 use Rattle.gx_ids.specs.declared.ids.Gxid.{Gxid}
 use Rattle.gx_ids.specs.declared.ids.Table.{Table}
+use Rattle.gx_ids.specs.declared.rid.Rid.{Rid}
 use Rattle.gx_tree.specs.declared.cond.Cond.{Cond}
 use Rattle.gx_tree.specs.declared.part.Part.TheVariants.{Rows}
 use Rattle.gx_tree.specs.declared.query.Query.{Query}
 use Rattle.gx_tree.specs.declared.row.KeyedRow.{KeyedRow}
-use Rattle.gx_tree.specs.declared.slice.Slice.{Slice}
-use Rattle.gx_tree.specs.declared.slice.Slice.TheVariants as slice
-use Rattle.gx_tree.specs.declared.stmt.Level.{Level}
+use Rattle.gx_tree.specs.declared.value.Value.{Value}
 use Rattle.gx_dsnap.specs.declared.snapshot.Snapshot.{Snapshot}
-use Rattle.gx_modes.specs.declared.modes.Mode.TheVariants.{AccessShare, RowExclusive}
+use Rattle.gx_modes.specs.declared.modes.Mode.TheVariants.{Exclusive}
 use Rattle.gx_waits.specs.declared.claim.Claim.{Claim}
-use Rattle.gx_waits.specs.declared.object.Object.TheVariants.{Relation}
-use Rattle.gx_locks.specs.Locks.{is_free}
+use Rattle.gx_waits.specs.declared.object.Object.TheVariants.{Transaction}
 use Rattle.gx_meaning.specs.declared.fault.ArithFault.{ArithFault}
 use Rattle.gx_meaning.specs.declared.fault.ArithFault.TheVariants as arith
 use Rattle.gx_meaning.specs.Answer.{keeps, part_of}
@@ -27,8 +25,8 @@ use Rattle.gx_store.specs.declared.mark.Mark.{Mark}
 use Rattle.gx_store.specs.declared.mark.Mark.TheVariants.{Write, Fault}
 use Rattle.gx_store.specs.Commands.{condition_on}
 use Rattle.gx_store.specs.Waits.{claim}
-use Rattle.gx_rules.specs.Locks.{hold_mark, wait_mark, with_hold, with_wait}
-use Rattle.gx_rules.specs.Segments.{Phase, Seg, SegTurn, Suspended, Version, after_marks, local_of, reply, stays, with_local}
+use Rattle.gx_rules.specs.Locks.{hold_mark, with_hold}
+use Rattle.gx_rules.specs.Segments.{Phase, Seg, SegTurn, Version, local_of, reply, stays, with_local}
 use Rattle.gx_rules.specs.Segments.Phase.{Reading, Writing}
 use Rattle.gx_rules.specs.Shown.{shown}
 
@@ -56,31 +54,55 @@ abbrev pub cause_of : ArithFault → Cause
 cause_of arith.Overflow = cause.Overflow
 cause_of arith.DivisionByZero = cause.DivisionByZero
 
+-- the command fails on the row
+abbrev pub fails_on : Seg → Gxid → Cid → KeyedRow × ArithFault → SegTurn
+fails_on s g c fault = answers s g c (Fault g c fault.0.rid (Some fault.0.row) ∷ []) (Failed c (cause_of fault.1))
+
 abbrev pub selects : Seg → Gxid → Cid → Query → List KeyedRow → Option (KeyedRow × ArithFault) → SegTurn
 selects s g c query rows None =
     answers s g c [] (Done c (has_written (local_of s g).phase) 0 (part_of query (filter (keeps query.cond) rows)))
-selects s g c query rows (Some fault) =
-    answers s g c (Fault g c fault.0.rid (Some fault.0.row) ∷ []) (Failed c (cause_of fault.1))
+selects s g c query rows (Some fault) = fails_on s g c fault
 
--- INSERT
--- the rows so far have left the segment so, with these marks
+-- ROW BY ROW
+-- what the rows so far have made of the segment, with their marks
 pub record Moved : Type 0 where
   pub seg : Seg
   pub marks : List Mark
 
-abbrev pub version : Gxid → Cid → Table → KeyedRow → Version
-version g c table row = record { gxid = g; cid = c; table = table; rid = row.rid; image = Some row.row }
+abbrev pub starts_from : Seg → Moved
+starts_from s = record { seg = s; marks = [] }
 
--- one row is added
+-- a lock is granted
+abbrev pub takes_lock : Claim → Moved → Moved
+takes_lock wanted m = record { seg = record m.seg { locks = with_hold m.seg.locks wanted }; marks = m.marks ++ hold_mark m.seg.node wanted ∷ [] }
+
+-- WRITES
+-- a transaction's own lock, which it holds at a segment from its first write there
+abbrev pub own_lock : Gxid → Claim
+own_lock g = claim g (Transaction g) Exclusive
+
+abbrev pub takes_own : Gxid → Phase → Moved → Moved
+takes_own g Reading m = takes_lock (own_lock g) m
+takes_own g _ m = m
+
+abbrev pub version : Gxid → Cid → Table → Rid → Option (List Value) → Version
+version g c table rid image = record { gxid = g; cid = c; table = table; rid = rid; image = image }
+
+abbrev pub adds_version : Seg → Gxid → Version → Seg
+adds_version s g v = record (with_local s g (record (local_of s g) { phase = Writing })) { versions = s.versions ++ v ∷ [] }
+
+-- a row gets a new image
+abbrev pub writes_row : Gxid → Cid → Table → Moved → Rid → Option (List Value) → Moved
+writes_row g c table m rid image =
+    takes_own g (local_of m.seg g).phase
+    (record { seg = adds_version m.seg g (version g c table rid image); marks = m.marks ++ Write g c m.seg.node table rid image ∷ [] })
+
+-- INSERT
 abbrev pub inserts_row : Gxid → Cid → Table → Moved → KeyedRow → Moved
-inserts_row g c table m row =
-    record {
-      seg = record (with_local m.seg g (record (local_of m.seg g) { phase = Writing })) { versions = m.seg.versions ++ version g c table row ∷ [] };
-      marks = m.marks ++ Write g c m.seg.node table row.rid (Some row.row) ∷ [];
-    }
+inserts_row g c table m row = writes_row g c table m row.rid (Some row.row)
 
 abbrev pub inserted : Seg → Gxid → Cid → Table → List KeyedRow → Moved
-inserted s g c table rows = fold (inserts_row g c table) (record { seg = s; marks = [] }) rows
+inserted s g c table rows = fold (inserts_row g c table) (starts_from s) rows
 
 abbrev pub inserts : Gxid → Cid → ℕ → Moved → SegTurn
 inserts g c count m = answers m.seg g c m.marks (Done c (has_written (local_of m.seg g).phase) count (Rows []))
@@ -90,8 +112,8 @@ inserts g c count m = answers m.seg g c m.marks (Done c (has_written (local_of m
 abbrev pub locks : Seg → Gxid → Cid → SegTurn
 locks s g c = answers s g c [] (Done c (has_written (local_of s g).phase) 0 (Rows []))
 
--- ALL SLICES
--- who reads or adds rows has a snapshot
+-- WITH A SNAPSHOT
+-- who reads or adds rows has one
 abbrev pub reads : Seg → Gxid → Cid → Query → Option Snapshot → SegTurn
 reads s g c query None = stays s
 reads s g c query (Some snapshot) = selects s g c query (shown s snapshot g c query.table) (first_fault query.cond (shown s snapshot g c query.table))
@@ -99,47 +121,3 @@ reads s g c query (Some snapshot) = selects s g c query (shown s snapshot g c qu
 abbrev pub adds : Seg → Gxid → Cid → Table → List KeyedRow → Option Snapshot → SegTurn
 adds s g c table rows None = stays s
 adds s g c table rows (Some snapshot) = inserts g c (length rows) (inserted s g c table rows)
-
--- a slice runs; those that change rows don't yet
-abbrev pub runs_slice : Seg → Gxid → Cid → Option Snapshot → Slice → SegTurn
-runs_slice s g c snapshot (slice.Select query) = reads s g c query snapshot
-runs_slice s g c snapshot (slice.Insert table rows) = adds s g c table rows snapshot
-runs_slice s g c snapshot (slice.Lock table mode) = locks s g c
-runs_slice s g c snapshot _ = stays s
-
--- THE TABLE'S LOCK
--- the lock that a slice takes on its table; those that change rows take none yet
-abbrev pub slice_lock : Gxid → Slice → Option Claim
-slice_lock g (slice.Select query) = Some (claim g (Relation query.table) AccessShare)
-slice_lock g (slice.Insert table rows) = Some (claim g (Relation table) RowExclusive)
-slice_lock g (slice.Lock table mode) = Some (claim g (Relation table) mode)
-slice_lock g _ = None
-
--- it waits for the lock: the command has come, and isn't answered yet
-abbrev pub suspended_slice : Cid → Level → Option Snapshot → Slice → Suspended
-suspended_slice c level snapshot slice = record { cid = c; level = level; snapshot = snapshot; slice = slice; count = 0; row = None; rows = [] }
-
-abbrev pub suspends : Seg → Gxid → Cid → Level → Option Snapshot → Slice → Claim → SegTurn
-suspends s g c level snapshot slice wanted =
-    record {
-      seg =
-          record (with_local s g (record (local_of s g) { last = c.0; answer = None; suspended = Some (suspended_slice c level snapshot slice) })) {
-            locks = with_wait s.locks wanted;
-          };
-      marks = wait_mark s.node wanted ∷ [];
-      outs = [];
-      item = None;
-    }
-
--- with the lock it runs
-abbrev pub runs_locked : Seg → Gxid → Cid → Option Snapshot → Slice → Claim → SegTurn
-runs_locked s g c snapshot slice wanted =
-    after_marks (hold_mark s.node wanted ∷ []) (runs_slice (record s { locks = with_hold s.locks wanted }) g c snapshot slice)
-
-abbrev pub requests : Seg → Gxid → Cid → Level → Option Snapshot → Slice → Option Claim → SegTurn
-requests s g c level snapshot slice None = runs_slice s g c snapshot slice
-requests s g c level snapshot slice (Some wanted) =
-    if is_free s.locks.holds wanted then runs_locked s g c snapshot slice wanted else suspends s g c level snapshot slice wanted
-
-abbrev pub starts_slice : Seg → Gxid → Cid → Level → Option Snapshot → Slice → SegTurn
-starts_slice s g c level snapshot slice = requests s g c level snapshot slice (slice_lock g slice)

@@ -23,7 +23,7 @@ use Rattle.gx_waits.specs.declared.claim.Claim.{Claim}
 use Rattle.gx_waits.specs.declared.object.Object.TheVariants.{Relation}
 use Rattle.gx_locks.specs.Locks.{Locks}
 use Rattle.gx_rules.specs.AtSegment.{seg_rule}
-use Rattle.gx_rules.specs.Expected.{at_each, gxid, hold, node, release, table}
+use Rattle.gx_rules.specs.Expected.{at_each, gxid, hold, hold_own, node, release, table}
 use Rattle.gx_rules.specs.Locks.{release_marks}
 use Rattle.gx_rules.specs.Machine.{World, can, new_world}
 use Rattle.gx_rules.specs.Rows.{at_two, drives, insert, line, lock_in, never, protocol_of, select_all, session, snaps_of, the_table, tuple}
@@ -71,7 +71,7 @@ pub record WaitsForShare (w : World) : Type 0 where
       ∷ hold 0 1 AccessShare ∷ hold 1 1 AccessShare ∷ answer 0 3 (told.Rows [])
       ∷ answer 0 4 told.Commit ∷ release 0 1 AccessShare ∷ release 0 1 Share
       ∷ release 1 1 AccessShare ∷ release 1 1 Share
-      ∷ hold 0 2 RowExclusive ∷ hold 1 2 RowExclusive ∷ answer 1 1 (told.Inserted 1) ∷ release 0 2 RowExclusive ∷ []
+      ∷ hold 0 2 RowExclusive ∷ hold 1 2 RowExclusive ∷ hold_own 1 2 ∷ answer 1 1 (told.Inserted 1) ∷ release 0 2 RowExclusive ∷ []
   pub resumed : resumptions_of w ≡ event.Resume (node 0) (gxid 2) ∷ []
   pub snapshots : snaps_of w ≡ (1, 1) ∷ (2, 2) ∷ []
   pub marks : protocol_of w ≡ mark.Commit (gxid 1) ∷ mark.LocalCommit (node 1) (gxid 2) ∷ mark.Commit (gxid 2) ∷ []
