@@ -2,7 +2,7 @@
 use Rattle.std.proofs.Common.{◌≡◌, ◌≤◌, ℕ, List, [], ◌∷◌, Option, Some, None, Result, Ok, Err, Bool, true, false, refl, if◌then◌else◌, ◌==◌, ◌&&◌, arith, eqb}
 use Rattle.std.proofs.lemmas.Bool.Decides.{nat_tests}
 use Rattle.std.specs.Prelude.{is_some}
-use Rattle.std.proofs.lemmas.Bool.{and_parts, both_ways}
+use Rattle.std.proofs.lemmas.Bool.{and_parts}
 use Rattle.gx_ids.specs.declared.ids.Cid.{Cid}
 use Rattle.gx_ids.specs.declared.ids.Gxid.{Gxid}
 use Rattle.gx_ids.specs.declared.ids.Node.{Node}
@@ -224,7 +224,7 @@ module _ (script : Script) where
         by_test false = waits_here c g line wanted e
 
     dispatch : (c : Coord) (g : Gxid) (line : Stmt) → CoordIn c → CoordStays c.sent (dispatches script c g line)
-    dispatch c g line e = request c g line (lock_for g line) e
+    dispatch c g line e = request c g line (lock_for script g line) e
 
     -- a statement that has waited goes out with its lock
     resume : (c : Coord) (g : Gxid) (o : Option Claim) (line : Option Stmt) → CoordIn c → CoordStays c.sent (resumes script c g o line)

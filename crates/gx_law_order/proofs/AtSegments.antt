@@ -5,11 +5,13 @@ use Rattle.gx_ids.specs.declared.ids.Cid.{Cid}
 use Rattle.gx_ids.specs.declared.ids.Gxid.{Gxid}
 use Rattle.gx_ids.specs.declared.ids.Node.{Node}
 use Rattle.gx_ids.specs.declared.ids.Table.{Table}
+use Rattle.gx_ids.specs.declared.rid.Rid.{Rid}
 use Rattle.gx_tree.specs.declared.query.Query.{Query}
 use Rattle.gx_tree.specs.declared.row.KeyedRow.{KeyedRow}
 use Rattle.gx_tree.specs.declared.slice.Slice.{Slice}
 use Rattle.gx_tree.specs.declared.slice.Slice.TheVariants as slice
 use Rattle.gx_tree.specs.declared.stmt.Level.{Level}
+use Rattle.gx_tree.specs.declared.value.Value.{Value}
 use Rattle.gx_dsnap.specs.Gxids.{is_below}
 use Rattle.gx_dsnap.specs.declared.snapshot.Snapshot.{Snapshot}
 use Rattle.gx_waits.specs.declared.claim.Claim.{Claim}
@@ -29,7 +31,8 @@ use Rattle.gx_rules.specs.AtSegment.{commits, ends, finishes, if_fits, on_abort,
 use Rattle.gx_rules.specs.Locks.{hold_mark, with_hold}
 use Rattle.gx_rules.specs.Segments.{Local, Phase, Seg, SegTurn, Suspended, after_marks, local_of, stays, tells, tells_kept}
 use Rattle.gx_rules.specs.Segments.Phase.{Aborted, Committed, Forgotten, Prepared, Reading, Writing}
-use Rattle.gx_rules.specs.Slices.{Moved, first_fault, inserted, inserts, inserts_row, requests, runs_slice, selects, slice_lock}
+use Rattle.gx_rules.specs.Running.{goes_on, is_granted, requests, runs_slice, slice_lock}
+use Rattle.gx_rules.specs.Slices.{Moved, first_fault, inserted, inserts, inserts_row, own_lock, selects, starts_from, takes_lock, takes_own, writes_row}
 use Rattle.gx_rules.specs.Shown.{shown}
 use Rattle.gx_rules.specs.Fits.{fits_exec, is_waiting}
 use Rattle.gx_law_order.proofs.Releases.{each-released}
@@ -82,44 +85,57 @@ module _ (script : Script) (s : Seg) (at : IsSegment script s.node) where
     pub sent : m.seg.sent ≡ s.sent
     pub marks : Each (PlainAt script s.node) m.marks
 
+  -- a lock, and a write with the writer's own lock
+  lock_moves : (wanted : Claim) (m : Moved) → MovedFrom m → MovedFrom (takes_lock wanted m)
+  lock_moves wanted m f = record { node = f.node; sent = f.sent; marks = each_append (PlainAt script s.node) m.marks _ f.marks (f.node, tt) }
+
+  own_moves : (g : Gxid) (p : Phase) (m : Moved) → MovedFrom m → MovedFrom (takes_own g p m)
+  own_moves g Reading m f = lock_moves (own_lock g) m f
+  own_moves g Writing m f = f
+  own_moves g Prepared m f = f
+  own_moves g Committed m f = f
+  own_moves g (Forgotten b) m f = f
+  own_moves g Aborted m f = f
+
+  write_moves : (g : Gxid) (c : Cid) (table : Table) (m : Moved) (rid : Rid) (image : Option (List Value)) → MovedFrom m → MovedFrom (writes_row g c table m rid image)
+  write_moves g c table m rid image f =
+      own_moves g (local_of m.seg g).phase _ (record { node = f.node; sent = f.sent; marks = each_append (PlainAt script s.node) m.marks _ f.marks ((f.node, at), tt) })
+
   insert_rows : (g : Gxid) (c : Cid) (table : Table) (rows : List KeyedRow) (m : Moved) → MovedFrom m → MovedFrom (fold (inserts_row g c table) m rows)
   insert_rows g c table [] m f = f
-  insert_rows g c table (r ∷ rs) m f =
-      insert_rows g c table rs (inserts_row g c table m r)
-      (record { node = f.node; sent = f.sent; marks = each_append (PlainAt script s.node) m.marks _ f.marks ((f.node, at), tt) })
+  insert_rows g c table (r ∷ rs) m f = insert_rows g c table rs (inserts_row g c table m r) (write_moves g c table m r.rid (Some r.row) f)
 
   insert : (g : Gxid) (c : Cid) (count : ℕ) (m : Moved) → MovedFrom m → Stays (inserts g c count m)
   insert g c count m f = record { node = f.node; sent = f.sent; marks = f.marks; outs = (refl, tt) }
 
-  slice_runs : (t : Seg) → Near t → (g : Gxid) (c : Cid) (snapshot : Option Snapshot) (x : Slice) → Stays (runs_slice t g c snapshot x)
-  slice_runs t n g c (Some snapshot) (slice.Select q) = select t n g c q (shown t snapshot g c q.table) (first_fault q.cond (shown t snapshot g c q.table))
-  slice_runs t n g c (Some snapshot) (slice.Insert table rows) =
-      insert g c (length rows) (inserted t g c table rows) (insert_rows g c table rows (record { seg = t; marks = [] }) (record { node = n.node; sent = n.sent; marks = tt }))
-  slice_runs t n g c None (slice.Select q) = record { node = n.node; sent = n.sent; marks = tt; outs = tt }
-  slice_runs t n g c None (slice.Insert table rows) = record { node = n.node; sent = n.sent; marks = tt; outs = tt }
-  slice_runs t n g c snapshot (slice.Lock table mode) = record { node = n.node; sent = n.sent; marks = tt; outs = (refl, tt) }
-  slice_runs t n g c snapshot (slice.Update table assigns cond) = record { node = n.node; sent = n.sent; marks = tt; outs = tt }
-  slice_runs t n g c snapshot (slice.Delete table cond) = record { node = n.node; sent = n.sent; marks = tt; outs = tt }
+  slice_runs : (t : Seg) → Near t → (g : Gxid) (c : Cid) (level : Level) (snapshot : Option Snapshot) (x : Slice) → Stays (runs_slice t g c level snapshot x)
+  slice_runs t n g c level (Some snapshot) (slice.Select q) = select t n g c q (shown t snapshot g c q.table) (first_fault q.cond (shown t snapshot g c q.table))
+  slice_runs t n g c level (Some snapshot) (slice.Insert table rows) =
+      insert g c (length rows) (inserted t g c table rows) (insert_rows g c table rows (starts_from t) (record { node = n.node; sent = n.sent; marks = tt }))
+  slice_runs t n g c level None (slice.Select q) = record { node = n.node; sent = n.sent; marks = tt; outs = tt }
+  slice_runs t n g c level None (slice.Insert table rows) = record { node = n.node; sent = n.sent; marks = tt; outs = tt }
+  slice_runs t n g c level snapshot (slice.Lock table mode) = record { node = n.node; sent = n.sent; marks = tt; outs = (refl, tt) }
+  slice_runs t n g c level snapshot (slice.Update table assigns cond) = record { node = n.node; sent = n.sent; marks = tt; outs = tt }
+  slice_runs t n g c level snapshot (slice.Delete table cond) = record { node = n.node; sent = n.sent; marks = tt; outs = tt }
 
   both : (b : Bool) (x y : SegTurn) → Stays x → Stays y → Stays (if b then x else y)
   both true x y e f = e
   both false x y e f = f
 
   -- with its table's lock, or a wait for it
-  starts : (t : Seg) → Near t → (g : Gxid) (c : Cid) (level : Level) (snapshot : Option Snapshot) (x : Slice) (o : Option Claim) → Stays (requests t g c level snapshot x o)
-  starts t n g c level snapshot x None = slice_runs t n g c snapshot x
-  starts t n g c level snapshot x (Some wanted) =
+  starts : (t : Seg) → Near t → (g : Gxid) (c : Cid) (level : Level) (snapshot : Option Snapshot) (x : Slice) (wanted : Claim) → Stays (requests t g c level snapshot x wanted)
+  starts t n g c level snapshot x wanted =
       both (is_free t.locks.holds wanted) _ _
-      (behind (hold_mark t.node wanted ∷ []) _ (n.node, tt) (slice_runs (record t { locks = with_hold t.locks wanted }) (record { node = n.node; sent = n.sent }) g c snapshot x))
+      (behind (hold_mark t.node wanted ∷ []) _ (n.node, tt) (slice_runs (record t { locks = with_hold t.locks wanted }) (record { node = n.node; sent = n.sent }) g c level snapshot x))
       (record { node = n.node; sent = n.sent; marks = (n.node, tt); outs = tt })
 
   repeat : (g : Gxid) (c : Cid) (l : Local) → Stays (repeats s g c l)
   repeat g c l = both (c.0 == l.last) _ _ (kept g l.answer) stay
 
-  take : (g : Gxid) (c : Cid) (level : Level) (snapshot : Option Snapshot) (h : Gxid) (x : Slice) (l : Local) → Stays (takes s g c level snapshot h x l)
-  take g c level snapshot h x l = both (nat_lt l.last c.0) _ _ (starts (raised s h) (record { node = refl; sent = refl }) g c level snapshot x (slice_lock g x)) (repeat g c l)
+  take : (g : Gxid) (c : Cid) (level : Level) (snapshot : Option Snapshot) (h : Gxid) (x : Slice) (l : Local) → Stays (takes script s g c level snapshot h x l)
+  take g c level snapshot h x l = both (nat_lt l.last c.0) _ _ (starts (raised s h) (record { node = refl; sent = refl }) g c level snapshot x (slice_lock script g x)) (repeat g c l)
 
-  exec : (g : Gxid) (c : Cid) (level : Level) (snapshot : Option Snapshot) (h : Gxid) (x : Slice) (l : Local) (p : Phase) → Stays (on_exec s g c level snapshot h x l p)
+  exec : (g : Gxid) (c : Cid) (level : Level) (snapshot : Option Snapshot) (h : Gxid) (x : Slice) (l : Local) (p : Phase) → Stays (on_exec script s g c level snapshot h x l p)
   exec g c level snapshot h x l Reading = take g c level snapshot h x l
   exec g c level snapshot h x l Writing = take g c level snapshot h x l
   exec g c level snapshot h x l Prepared = repeat g c l
@@ -205,8 +221,14 @@ module _ (script : Script) (s : Seg) (at : IsSegment script s.node) where
   message_stays fails (message.Answer g r) = stay
   message_stays fails (message.Graph round graph) = stay
 
+  granted : (g : Gxid) (wanted : Claim) → MovedFrom (is_granted s g wanted)
+  granted g wanted = record { node = refl; sent = refl; marks = (refl, tt) }
+
+  go_on : (m : Moved) (g : Gxid) (x : Suspended) → MovedFrom m → Stays (goes_on m g x)
+  go_on m g x f = behind m.marks _ f.marks (slice_runs m.seg (record { node = f.node; sent = f.sent }) g x.cid x.level x.snapshot x.slice)
+
   resume : (g : Gxid) (w : Option Claim) (o : Option Suspended) → Stays (resumes s g w o)
-  resume g (Some wanted) (Some x) = behind (hold_mark s.node wanted ∷ []) _ (refl, tt) (slice_runs _ (record { node = refl; sent = refl }) g x.cid x.snapshot x.slice)
+  resume g (Some wanted) (Some x) = go_on (is_granted s g wanted) g x (granted g wanted)
   resume g (Some wanted) None = stay
   resume g None o = stay
 

@@ -5,6 +5,7 @@ use Rattle.std.proofs.lemmas.List.{append_assoc}
 use Rattle.std.specs.Prelude.{option_map}
 use Rattle.gx_lemmas.proofs.Numbers.{eqb-self}
 use Rattle.gx_ids.specs.declared.ids.Gxid.{Gxid}
+use Rattle.gx_script.specs.declared.Script.{Script}
 use Rattle.gx_tree.specs.declared.stmt.Level.{Level}
 use Rattle.gx_tree.specs.declared.stmt.Level.TheVariants.{ReadCommitted, RepeatableRead}
 use Rattle.gx_dtx.specs.Rules.{Turn, ends, on_abort, on_commit, with_ended, with_live}
@@ -43,10 +44,10 @@ refused-closed : (b : Block) (p : Pending) → is_nothing_in p ≡ false → is_
 refused-closed b p e = grind arith
 
 -- a turn whose marks stand behind others
-pub behind-good : (before ms : List Mark) (turn late : CoordTurn) → AreEndedSeen before ms → Good (before ++ ms) turn → late.coord ≡ turn.coord → late.marks ≡ ms ++ turn.marks → Good before late
-behind-good before ms turn late seen good same marks =
+pub behind-good : {script : Script} (before ms : List Mark) (turn late : CoordTurn) → AreEndedSeen before ms → Good script (before ++ ms) turn → late.coord ≡ turn.coord → late.marks ≡ ms ++ turn.marks → Good script before late
+behind-good {script = script} before ms turn late seen good same marks =
     record {
-      kept = subst Kept (sym same) good.kept;
+      kept = subst (Kept script) (sym same) good.kept;
       past = subst (λ c. Past c (before ++ late.marks)) (sym same) (subst (λ x. Past turn.coord x) (append_assoc before ms turn.marks ∙ ap (λ x. before ++ x) (sym marks)) good.past);
       seen = subst (λ x. AreEndedSeen before x) (sym marks) (seen-append before ms turn.marks seen good.seen);
     }
@@ -72,9 +73,9 @@ past-same c1 d before ns g now p n f same latest quiet =
     le-refl : (a : ℕ) → a ≤ a
     le-refl a = omega arith
 
-module _ (c c1 : Coord) (g s : ℕ) (w1 : Work) (y : Session) (said : Stage) (k : Kept c) (b : Base c c1 g s w1 y said) (before : List Mark) (p : Past c1 before) where
+module _ {script : Script} (c c1 : Coord) (g s : ℕ) (w1 : Work) (y : Session) (said : Stage) (k : Kept script c) (b : Base script c c1 g s w1 y said) (before : List Mark) (p : Past c1 before) where
   -- COMMIT of a transaction whose session waits for it
-  pub commits-good : said ≡ Live → is_closing_in y.state.block y.state.pending ≡ true → ((m : Command) → w1.command ≡ Some m → (m.awaited ≡ [] → ⊥) → ⊥) → ((m : Command) → w1.command ≡ Some m → is_working_in y.state.pending ≡ true) → w1.waiting ≡ None → Good before (commits c1 (gx g))
+  pub commits-good : said ≡ Live → is_closing_in y.state.block y.state.pending ≡ true → ((m : Command) → w1.command ≡ Some m → (m.awaited ≡ [] → ⊥) → ⊥) → ((m : Command) → w1.command ≡ Some m → is_working_in y.state.pending ≡ true) → w1.waiting ≡ None → Good script before (commits c1 (gx g))
   commits-good live closing none working unqueued = by_outcome turn.out.outcome refl t.how
     where
       turn : Turn
@@ -83,7 +84,7 @@ module _ (c c1 : Coord) (g s : ℕ) (w1 : Work) (y : Session) (said : Stage) (k 
       t : Turned c1.table g turn (λ a b o. Closes b o)
       t = commit-turns c1.table g (work_of c1 (gx g)).writers b.whole1 (stage-is c c1 g s w1 y said k b ∙ live)
 
-      waits : turn.out.outcome ≡ outcome.Pending → stage t.now ≡ Closing → Good before (follows c1 (gx g) turn outcome.Pending)
+      waits : turn.out.outcome ≡ outcome.Pending → stage t.now ≡ Closing → Good script before (follows c1 (gx g) turn outcome.Pending)
       waits o e =
           record {
             kept = base-kept c c1 g s w1 y said k b _ t.now w1 y t.at.whole t.at.finds (same-works c c1 g s w1 y said k b) (same-sessions c c1 g s w1 y said k b) tied b.same_txn placed (queue-stays c1.locks.waits g w1.waiting b.queues1.here);
@@ -120,7 +121,7 @@ module _ (c c1 : Coord) (g s : ℕ) (w1 : Work) (y : Session) (said : Stage) (k 
               not-both : (b : Block) (p : Pending) → is_closing_in b p ≡ true → is_nothing_in p ≡ true → ⊥
               not-both b p e f = grind arith
 
-      by_outcome : (o : Outcome) → turn.out.outcome ≡ o → Closes (stage t.now) o → Good before (follows c1 (gx g) turn o)
+      by_outcome : (o : Outcome) → turn.out.outcome ≡ o → Closes (stage t.now) o → Good script before (follows c1 (gx g) turn o)
       by_outcome outcome.Pending q h = waits q h
       by_outcome outcome.Committed q h = closed-good c c1 g s w1 y said k b before p turn _ t (ap is_running live) q h (closing-closed y.state.block y.state.pending closing)
       by_outcome outcome.Decided q h = absurd h
@@ -128,7 +129,7 @@ module _ (c c1 : Coord) (g s : ℕ) (w1 : Work) (y : Session) (said : Stage) (k 
       by_outcome outcome.Ended q h = absurd h
 
   -- a refusal
-  pub refuses-good : said ≡ Live → (why : List Mark) (reason : Refused) → Each Still why → is_nothing_in y.state.pending ≡ false → Good before (is_refused c1 (gx g) (on_abort c1.table (gx g)) why reason)
+  pub refuses-good : said ≡ Live → (why : List Mark) (reason : Refused) → Each Still why → is_nothing_in y.state.pending ≡ false → Good script before (is_refused c1 (gx g) (on_abort c1.table (gx g)) why reason)
   refuses-good live why reason e waiting =
       refused-good c c1 g s w1 y said k b before p (on_abort c1.table (gx g)) _ why reason t (ap is_running live) (falls-is c c1 g s w1 y said k b before p (stage t.now) _ t.how) e (refused-closed y.state.block y.state.pending waiting)
     where
@@ -136,7 +137,7 @@ module _ (c c1 : Coord) (g s : ℕ) (w1 : Work) (y : Session) (said : Stage) (k 
       t = abort-turns c1.table g b.whole1 (stage-is c c1 g s w1 y said k b ∙ live)
 
   -- an answer in a block
-  pub answers-good : said ≡ Live → is_open_in y.state.block ≡ true → is_working_in y.state.pending ≡ true → (w : Work) → w.session.0 ≡ s → c1.works g ≡ w → w.waiting ≡ None → Good before (answers c1 (gx g) w)
+  pub answers-good : said ≡ Live → is_open_in y.state.block ≡ true → is_working_in y.state.pending ≡ true → (w : Work) → w.session.0 ≡ s → c1.works g ≡ w → w.waiting ≡ None → Good script before (answers c1 (gx g) w)
   answers-good live opened working w home same unqueued = by_level w.level
     where
       x : Session
@@ -165,13 +166,13 @@ module _ (c c1 : Coord) (g s : ℕ) (w1 : Work) (y : Session) (said : Stage) (k 
           differ : Live ≡ Closing → ⊥
           differ z = cc
 
-      queues : Queues c1.locks.waits c1.locks.waits g w2.waiting
+      queues : Queues script c1.locks.waits c1.locks.waits g w2.waiting
       queues = queue-stays c1.locks.waits g w.waiting (queued-by g w1.waiting w.waiting c1.locks.waits (ap (λ (v : Work). v.waiting) (sym same ∙ work-is c c1 g s w1 y said k b)) b.queues1.here)
 
       sits : (a : Stage) → a ≡ Live → Placed s x a w2
       sits a l = record { stands = λ o. (inl l, home); free = λ o n. l }
 
-      by_level : (level : Level) → Good before (record (answers c1 (gx g) w) { coord = record (answers c1 (gx g) w).coord { table = unless_kept level c1.table (gx g) } })
+      by_level : (level : Level) → Good script before (record (answers c1 (gx g) w) { coord = record (answers c1 (gx g) w).coord { table = unless_kept level c1.table (gx g) } })
       by_level ReadCommitted =
           let a = live-at c1.table g None b.whole1 in
           let st : stage (option_map (set_live None) (find_txn c1.table (gx g))) ≡ stage_of c1 g = kept-stage (set_live None) (λ t. refl) (find_txn c1.table (gx g)) in

@@ -89,12 +89,12 @@ fault-still g cid (stmt.Lock t m) = tt
 working-waits : (p : Pending) → is_working_in p ≡ true → is_nothing_in p ≡ false
 working-waits p e = grind arith
 
-module _ (c c1 : Coord) (g s : ℕ) (w1 : Work) (y : Session) (k : Kept c) (b : Base c c1 g s w1 y Live) (before : List Mark) (p : Past c1 before) (unqueued : w1.waiting ≡ None) where
+module _ {script : Script} (c c1 : Coord) (g s : ℕ) (w1 : Work) (y : Session) (k : Kept script c) (b : Base script c c1 g s w1 y Live) (before : List Mark) (p : Past c1 before) (unqueued : w1.waiting ≡ None) where
   -- with the snapshot by which the command reads
   record ReadsWell (r : Reading) : Type 0 where
     w2 : Work
     none : w2.waiting ≡ None
-    base : Base c r.coord g s w2 y Live
+    base : Base script c r.coord g s w2 y Live
     past : Past r.coord (before ++ r.marks)
     seen : AreEndedSeen before r.marks
 
@@ -143,7 +143,7 @@ module _ (c c1 : Coord) (g s : ℕ) (w1 : Work) (y : Session) (k : Kept c) (b : 
   for-reading cid (stmt.Delete t x) = by-reading cid (c1.works g).snapshot
 
   module _ (live : is_live_in y.state.block y.state.pending ≡ true) (working : is_working_in y.state.pending ≡ true) where
-    out-good : (cid : Cid) (line : Stmt) (pieces : List Piece) (r : Reading) → ReadsWell r → Good before (goes_out (gx g) cid line pieces r)
+    out-good : (cid : Cid) (line : Stmt) (pieces : List Piece) (r : Reading) → ReadsWell r → Good script before (goes_out (gx g) cid line pieces r)
     out-good cid line pieces r f =
         let e = all-enlists (nodes_in pieces) r.coord.table g f.base.whole1 in
         let here : stage e.now ≡ Live = e.same ∙ stage-is c r.coord g s f.w2 y Live k f.base in
@@ -177,31 +177,31 @@ module _ (c c1 : Coord) (g s : ℕ) (w1 : Work) (y : Session) (k : Kept c) (b : 
         sits : (r : Reading) (cid : Cid) (line : Stmt) (pieces : List Piece) → (r.coord.works g).session.0 ≡ s → (a : Stage) → a ≡ Live → Placed s y a (sent r cid line pieces)
         sits r cid line pieces home a l = record { stands = λ o. (inl l, home); free = λ o n. absurd (clash y.state.pending working n) }
 
-    goes-good : (cid : Cid) (line : Stmt) (r : Reading) (plan : Result (List Piece) ArithFault) → ReadsWell r → Good before (goes (gx g) cid line r plan)
+    goes-good : (cid : Cid) (line : Stmt) (r : Reading) (plan : Result (List Piece) ArithFault) → ReadsWell r → Good script before (goes (gx g) cid line r plan)
     goes-good cid line r (Ok pieces) f = out-good cid line pieces r f
     goes-good cid line r (Err fault) f =
         behind-good before r.marks (is_refused r.coord (gx g) (on_abort r.coord.table (gx g)) (fault_mark (gx g) cid line) (refusal_of fault)) (goes (gx g) cid line r (Err fault)) f.seen
         (refuses-good c r.coord g s f.w2 y Live k f.base (before ++ r.marks) f.past refl (fault_mark (gx g) cid line) (refusal_of fault) (fault-still (gx g) cid line) (working-waits y.state.pending working))
         refl (append_assoc r.marks (fault_mark (gx g) cid line) _)
 
-    pub locked-good : (script : Script) (line : Stmt) → Good before (goes_on_locked script c1 (gx g) line)
-    locked-good script line = goes-good (next_cid (c1.works g)) line _ (plan_of script.segments (dist_of script.tables (table_of line)) (gx g) (next_cid (c1.works g)) line) (for-reading (next_cid (c1.works g)) line)
+    pub locked-good : (line : Stmt) → Good script before (goes_on_locked script c1 (gx g) line)
+    locked-good line = goes-good (next_cid (c1.works g)) line _ (plan_of script.segments (dist_of script.tables (table_of line)) (gx g) (next_cid (c1.works g)) line) (for-reading (next_cid (c1.works g)) line)
 
 -- A command takes its table's lock, where it takes one, or waits for it. Neither is seen by statuses.
-module _ (script : Script) (c c1 : Coord) (g s : ℕ) (w1 : Work) (y : Session) (k : Kept c) (b : Base c c1 g s w1 y Live) (before : List Mark) (p : Past c1 before) (live : is_live_in y.state.block y.state.pending ≡ true) (working : is_working_in y.state.pending ≡ true) (idle : w1.command ≡ None) (unqueued : w1.waiting ≡ None) (line : Stmt) where
+module _ (script : Script) (c c1 : Coord) (g s : ℕ) (w1 : Work) (y : Session) (k : Kept script c) (b : Base script c c1 g s w1 y Live) (before : List Mark) (p : Past c1 before) (live : is_live_in y.state.block y.state.pending ≡ true) (working : is_working_in y.state.pending ≡ true) (idle : w1.command ≡ None) (unqueued : w1.waiting ≡ None) (line : Stmt) where
   past-stays : (d : Coord) (ns : List Mark) → d.table ≡ c1.table → Each Still ns → Past d (before ++ ns)
   past-stays d ns same e =
       past-same c1 d before ns 0 (find_txn c1.table (gx 0)) p (ap (λ (q : Table). q.next) same) (λ h. ap (λ (q : Table). find_txn q (gx h)) same ∙ same-finds c1.table 0 h) refl (ap (λ (q : Table). q.latest_ended) same) (λ h. still-committed ns (gx h) e)
 
-  pub held-good : (locks : Locks) (wanted : Claim) → locks.waits ≡ c1.locks.waits → Good before (behind (hold_mark the_coordinator wanted ∷ []) (goes_on_locked script (record c1 { locks = locks }) (gx g) line))
+  pub held-good : (locks : Locks) (wanted : Claim) → locks.waits ≡ c1.locks.waits → Good script before (behind (hold_mark the_coordinator wanted ∷ []) (goes_on_locked script (record c1 { locks = locks }) (gx g) line))
   held-good locks wanted same =
       behind-good before (hold_mark the_coordinator wanted ∷ []) (goes_on_locked script (record c1 { locks = locks }) (gx g) line) _ tt
       (locked-good c (record c1 { locks = locks }) g s w1 y k
-      (record { whole1 = b.whole1; now1 = b.now1; stage1 = b.stage1; finds1 = b.finds1; works1 = b.works1; sessions1 = b.sessions1; kind = b.kind; same_txn = b.same_txn; home1 = b.home1; queues1 = subst (λ l. Queues c.locks.waits l g w1.waiting) (sym same) b.queues1 })
-      (before ++ hold_mark the_coordinator wanted ∷ []) (past-stays (record c1 { locks = locks }) (hold_mark the_coordinator wanted ∷ []) refl (tt, tt)) unqueued live working script line) refl refl
+      (record { whole1 = b.whole1; now1 = b.now1; stage1 = b.stage1; finds1 = b.finds1; works1 = b.works1; sessions1 = b.sessions1; kind = b.kind; same_txn = b.same_txn; home1 = b.home1; queues1 = subst (λ l. Queues script c.locks.waits l g w1.waiting) (sym same) b.queues1 })
+      (before ++ hold_mark the_coordinator wanted ∷ []) (past-stays (record c1 { locks = locks }) (hold_mark the_coordinator wanted ∷ []) refl (tt, tt)) unqueued live working line) refl refl
 
   -- it waits: its session keeps it as its line under way
-  waits-good : (wanted : Claim) → lock_for (gx g) line ≡ Some wanted → Good before (waits_for c1 (gx g) line wanted)
+  waits-good : (wanted : Claim) → lock_for script (gx g) line ≡ Some wanted → Good script before (waits_for c1 (gx g) line wanted)
   waits-good wanted e =
       record {
         kept = base-kept c c1 g s w1 y Live k b (waits_for c1 (gx g) line wanted).coord (find_txn c1.table (gx g)) w y b.whole1 (same-finds c1.table g) (λ j. refl) (same-sessions c c1 g s w1 y Live k b)
@@ -241,13 +241,13 @@ module _ (script : Script) (c c1 : Coord) (g s : ℕ) (w1 : Work) (y : Session) 
             waits = λ o f. (l, no-command, working);
           })
 
-  request-good : (o : Option Claim) → lock_for (gx g) line ≡ o → Good before (requests script c1 (gx g) line o)
-  request-good None e = locked-good c c1 g s w1 y k b before p unqueued live working script line
+  request-good : (o : Option Claim) → lock_for script (gx g) line ≡ o → Good script before (requests script c1 (gx g) line o)
+  request-good None e = locked-good c c1 g s w1 y k b before p unqueued live working line
   request-good (Some wanted) e = by_test (is_free c1.locks.holds wanted)
     where
-      by_test : (q : Bool) → Good before (if_granted script c1 (gx g) line wanted q)
+      by_test : (q : Bool) → Good script before (if_granted script c1 (gx g) line wanted q)
       by_test true = held-good (with_hold c1.locks wanted) wanted refl
       by_test false = waits-good wanted e
 
-  pub dispatch-good : Good before (dispatches script c1 (gx g) line)
-  dispatch-good = request-good (lock_for (gx g) line) refl
+  pub dispatch-good : Good script before (dispatches script c1 (gx g) line)
+  dispatch-good = request-good (lock_for script (gx g) line) refl

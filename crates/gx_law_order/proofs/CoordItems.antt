@@ -144,7 +144,7 @@ request-dull script c g line (Some wanted) = by_test (is_free c.locks.holds want
     by_test false = record { marks = (tt, tt); item = refl }
 
 dispatch-dull : (script : Script) (c : Coord) (g : Gxid) (line : Stmt) → IsDull (dispatches script c g line)
-dispatch-dull script c g line = request-dull script c g line (lock_for g line)
+dispatch-dull script c g line = request-dull script c g line (lock_for script g line)
 
 resume-dull : (script : Script) (c : Coord) (g : Gxid) (o : Option Claim) (line : Option Stmt) → IsDull (resumes script c g o line)
 resume-dull script c g None line = rest-dull c

@@ -43,7 +43,7 @@ pub past-still : (c d : Coord) (before ns : List Mark) → Past c before → d.t
 past-still c d before ns p same e =
     past-same c d before ns 0 (find_txn c.table (gx 0)) p (ap (λ (q : Table). q.next) same) (λ h. ap (λ (q : Table). find_txn q (gx h)) same ∙ same-finds c.table 0 h) refl (ap (λ (q : Table). q.latest_ended) same) (λ h. still-committed ns (gx h) e)
 
-pub rest-good : (c : Coord) (before : List Mark) → Kept c → Past c before → Good before (rests c)
+pub rest-good : {script : Script} (c : Coord) (before : List Mark) → Kept script c → Past c before → Good script before (rests c)
 rest-good c before k p = record { kept = k; past = subst (λ m. Past c m) (sym (append-nil before)) p; seen = tt }
 
 -- what a line asks for, by the block
@@ -94,7 +94,7 @@ same7 (Open level) = refl
 same7 Failed = refl
 
 -- A SESSION IN A BLOCK, AND ITS TRANSACTION
-base-own : (c : Coord) (s : SessionId) (y : Session) → Kept c → is_open_in (session_of c s).state.block ≡ true → is_nothing_in (session_of c s).state.pending ≡ true → y.transaction ≡ (session_of c s).transaction → Base c (with_session c s y) (session_of c s).transaction.0 s.0 (c.works (session_of c s).transaction.0) y Live
+base-own : {script : Script} (c : Coord) (s : SessionId) (y : Session) → Kept script c → is_open_in (session_of c s).state.block ≡ true → is_nothing_in (session_of c s).state.pending ≡ true → y.transaction ≡ (session_of c s).transaction → Base script c (with_session c s y) (session_of c s).transaction.0 s.0 (c.works (session_of c s).transaction.0) y Live
 base-own c s y k opened idle same =
     record {
       whole1 = k.whole;
@@ -114,7 +114,7 @@ base-own c s y k opened idle same =
     by_test j false q = refl
 
 -- who isn't working has neither a command under way nor a statement that waits
-pub idle-none : (c : Coord) (s : SessionId) → Kept c → is_open_in (session_of c s).state.block ≡ true → is_nothing_in (session_of c s).state.pending ≡ true → ((c.works (session_of c s).transaction.0).command ≡ None) × ((c.works (session_of c s).transaction.0).waiting ≡ None)
+pub idle-none : {script : Script} (c : Coord) (s : SessionId) → Kept script c → is_open_in (session_of c s).state.block ≡ true → is_nothing_in (session_of c s).state.pending ≡ true → ((c.works (session_of c s).transaction.0).command ≡ None) × ((c.works (session_of c s).transaction.0).waiting ≡ None)
 idle-none c s k opened idle = (none-is _ (λ m e. never ((k.tied g).busy m e).1), none-is _ (λ l e. never ((k.tied g).waits l e).2))
   where
     g : ℕ
@@ -142,7 +142,7 @@ undrawn d w = none-at d.next.0 d.txns (apart d.txns w.drawn)
     apart (x ∷ xs) e = (other d.next.0 x.0.0 e.0.1, apart xs e.1)
 
 -- nothing waits of a transaction that wasn't drawn
-pub unqueued : (c : Coord) → Kept c → IsQueued c.table.next.0 None c.locks.waits
+pub unqueued : {script : Script} (c : Coord) → Kept script c → IsQueued script c.table.next.0 None c.locks.waits
 unqueued c k = queued-by c.table.next.0 _ None c.locks.waits (sym (none-is _ (λ l e. absent (undrawn c.table k.whole) ((k.tied c.table.next.0).waits l e).0))) (k.queued c.table.next.0)
   where
     none-is : {A : Type 0} (o : Option A) → ((x : A) → o ≡ Some x → ⊥) → o ≡ None
@@ -185,7 +185,7 @@ begun-whole d w = record { first = more d.next.0 w.first; apart = apart d.txns w
         last a = omega arith
     drawn (x ∷ xs) e = (wider x.0.0 e.0, drawn xs e.1)
 
-module _ (script : Script) (c : Coord) (before : List Mark) (k : Kept c) (p : Past c before) (s : SessionId) (idle : is_nothing_in (session_of c s).state.pending ≡ true) where
+module _ (script : Script) (c : Coord) (before : List Mark) (k : Kept script c) (p : Past c before) (s : SessionId) (idle : is_nothing_in (session_of c s).state.pending ≡ true) where
   abbrev block : Block
   block = (session_of c s).state.block
 
@@ -198,7 +198,7 @@ module _ (script : Script) (c : Coord) (before : List Mark) (k : Kept c) (p : Pa
   transaction-now : (asked : LineStep) → (session_of (starts_line c s asked) s).transaction ≡ (session_of c s).transaction
   transaction-now asked = ap (λ (x : Session). x.transaction) (session-now asked)
 
-  at-once-good : (asked : LineStep) (a : StmtAnswer) → is_nothing_in (after_line block asked).pending ≡ true → is_open_in (after_line block asked).block ≡ is_open_in block → Good before (answers_at_once (starts_line c s asked) s a)
+  at-once-good : (asked : LineStep) (a : StmtAnswer) → is_nothing_in (after_line block asked).pending ≡ true → is_open_in (after_line block asked).block ≡ is_open_in block → Good script before (answers_at_once (starts_line c s asked) s a)
   at-once-good asked a n o =
       record { kept = kept-idle c s.0 (moved asked) k refl idle n o; past = past-still c _ before (answer_mark (starts_line c s asked) s a ∷ []) p refl (tt, tt); seen = tt }
 
@@ -206,9 +206,9 @@ module _ (script : Script) (c : Coord) (before : List Mark) (k : Kept c) (p : Pa
   idle-is q e = grind arith
 
   -- COMMIT and ROLLBACK
-  commit-good : is_open_in block ≡ true → Good before (commits (starts_line c s step.CommitBlock) (session_of (starts_line c s step.CommitBlock) s).transaction)
+  commit-good : is_open_in block ≡ true → Good script before (commits (starts_line c s step.CommitBlock) (session_of (starts_line c s step.CommitBlock) s).transaction)
   commit-good opened =
-      subst (λ g. Good before (commits (starts_line c s step.CommitBlock) g)) (sym (transaction-now step.CommitBlock))
+      subst (λ g. Good script before (commits (starts_line c s step.CommitBlock) g)) (sym (transaction-now step.CommitBlock))
       (commits-good c (starts_line c s step.CommitBlock) (session_of c s).transaction.0 s.0 (c.works (session_of c s).transaction.0) (moved step.CommitBlock) Live k
       (base-own c s (moved step.CommitBlock) k opened idle refl) before (past-table p) refl (closing block opened) (λ m f r. nothing _ m f (idle-none c s k opened idle).0) (λ m f. absurd (nothing _ m f (idle-none c s k opened idle).0)) (idle-none c s k opened idle).1)
     where
@@ -221,7 +221,7 @@ module _ (script : Script) (c : Coord) (before : List Mark) (k : Kept c) (p : Pa
       closing : (b : Block) → is_open_in b ≡ true → Rattle.gx_law_order.proofs.Sessions.is_closing_in (block_after b step.CommitBlock) pending.Commit ≡ true
       closing b e = grind arith
 
-  roll-good : (c1 : Coord) (y : Session) (marks : List Mark) → Base c c1 (session_of c s).transaction.0 s.0 (c.works (session_of c s).transaction.0) y Live → Past c1 before → Each Still marks → is_open_in y.state.block ≡ false → Good before (rolls_back c1 (session_of c s).transaction marks (on_abort c1.table (session_of c s).transaction))
+  roll-good : (c1 : Coord) (y : Session) (marks : List Mark) → Base script c c1 (session_of c s).transaction.0 s.0 (c.works (session_of c s).transaction.0) y Live → Past c1 before → Each Still marks → is_open_in y.state.block ≡ false → Good script before (rolls_back c1 (session_of c s).transaction marks (on_abort c1.table (session_of c s).transaction))
   roll-good c1 y marks b q e closed =
       rolled-good c c1 (session_of c s).transaction.0 s.0 (c.works (session_of c s).transaction.0) y Live k b before q (on_abort c1.table (session_of c s).transaction) (λ a b o. Falls b o) marks t refl (falls-is c c1 (session_of c s).transaction.0 s.0 (c.works (session_of c s).transaction.0) y Live k b before q (stage t.now) _ t.how) e closed
     where
@@ -231,27 +231,27 @@ module _ (script : Script) (c : Coord) (before : List Mark) (k : Kept c) (p : Pa
   past-now : (y : Session) → Past (with_session c s y) before
   past-now y = record { committed = p.committed; ended = p.ended; dropped = p.dropped; latest = p.latest; drawn = p.drawn }
 
-  rollback-good : is_open_in block ≡ true → Good before (rolls_back (starts_line c s step.RollbackBlock) (session_of (starts_line c s step.RollbackBlock) s).transaction (answer_mark (starts_line c s step.RollbackBlock) s told.Rollback ∷ []) (on_abort c.table (session_of (starts_line c s step.RollbackBlock) s).transaction))
+  rollback-good : is_open_in block ≡ true → Good script before (rolls_back (starts_line c s step.RollbackBlock) (session_of (starts_line c s step.RollbackBlock) s).transaction (answer_mark (starts_line c s step.RollbackBlock) s told.Rollback ∷ []) (on_abort c.table (session_of (starts_line c s step.RollbackBlock) s).transaction))
   rollback-good opened =
-      subst (λ g. Good before (rolls_back (starts_line c s step.RollbackBlock) g (answer_mark (starts_line c s step.RollbackBlock) s told.Rollback ∷ []) (on_abort c.table g))) (sym (transaction-now step.RollbackBlock))
+      subst (λ g. Good script before (rolls_back (starts_line c s step.RollbackBlock) g (answer_mark (starts_line c s step.RollbackBlock) s told.Rollback ∷ []) (on_abort c.table g))) (sym (transaction-now step.RollbackBlock))
       (roll-good (starts_line c s step.RollbackBlock) (moved step.RollbackBlock) (answer_mark (starts_line c s step.RollbackBlock) s told.Rollback ∷ []) (base-own c s (moved step.RollbackBlock) k opened idle refl) (past-now (moved step.RollbackBlock)) (tt, tt) (closed block opened))
     where
       closed : (b : Block) → is_open_in b ≡ true → is_open_in (block_after b step.RollbackBlock) ≡ false
       closed b e = grind arith
 
-  pub end-good : Good before (ends_in c s block)
+  pub end-good : Good script before (ends_in c s block)
   end-good = by_block block refl
     where
-      by_block : (b : Block) → b ≡ block → Good before (ends_in c s b)
+      by_block : (b : Block) → b ≡ block → Good script before (ends_in c s b)
       by_block (Open level) e =
           roll-good (with_state c s idle_outside) (record (session_of c s) { state = idle_outside }) [] (base-own c s (record (session_of c s) { state = idle_outside }) k (sym (ap is_open_in e)) idle refl) (past-now (record (session_of c s) { state = idle_outside })) tt refl
       by_block Failed e = record { kept = kept-idle c s.0 (record (session_of c s) { state = idle_outside }) k refl idle refl (ap is_open_in e); past = past-still c _ before [] p refl tt; seen = tt }
       by_block Outside e = rest-good c before k p
 
   -- a command in a block
-  inside-good : (line : Stmt) → is_open_in block ≡ true → Good before (dispatches script (starts_line c s (step.Command false)) (session_of (starts_line c s (step.Command false)) s).transaction line)
+  inside-good : (line : Stmt) → is_open_in block ≡ true → Good script before (dispatches script (starts_line c s (step.Command false)) (session_of (starts_line c s (step.Command false)) s).transaction line)
   inside-good line opened =
-      subst (λ g. Good before (dispatches script (starts_line c s (step.Command false)) g line)) (sym (transaction-now (step.Command false)))
+      subst (λ g. Good script before (dispatches script (starts_line c s (step.Command false)) g line)) (sym (transaction-now (step.Command false)))
       (dispatch-good script c (starts_line c s (step.Command false)) (session_of c s).transaction.0 s.0 (c.works (session_of c s).transaction.0) (moved (step.Command false)) k (base-own c s (moved (step.Command false)) k opened idle refl) before (past-now (moved (step.Command false)))
       (live block opened) refl (idle-none c s k opened idle).0 (idle-none c s k opened idle).1 line)
     where
@@ -262,7 +262,7 @@ module _ (script : Script) (c : Coord) (before : List Mark) (k : Kept c) (p : Pa
   abbrev fresh : LineStep → Session
   fresh asked = record (moved asked) { transaction = c.table.next }
 
-  begins-base : (asked : LineStep) (level : Level) → block ≡ Outside → Base c (begins (starts_line c s asked) s level) c.table.next.0 s.0 (new_work s level) (fresh asked) Live
+  begins-base : (asked : LineStep) (level : Level) → block ≡ Outside → Base script c (begins (starts_line c s asked) s level) c.table.next.0 s.0 (new_work s level) (fresh asked) Live
   begins-base asked level outside =
       record {
         whole1 = begun-whole c.table k.whole;
@@ -280,7 +280,7 @@ module _ (script : Script) (c : Coord) (before : List Mark) (k : Kept c) (p : Pa
   begins-past : (asked : LineStep) (level : Level) → Past (begins (starts_line c s asked) s level) (before ++ mark.Start c.table.next s ∷ [])
   begins-past asked level = past-begun c _ before (mark.Start c.table.next s ∷ []) p k.whole refl (tt, tt)
 
-  begin-good : (level : Level) → block ≡ Outside → Good before (behind (mark.Start c.table.next s ∷ []) (answers_at_once (begins (starts_line c s (step.BeginBlock level)) s level) s told.Begin))
+  begin-good : (level : Level) → block ≡ Outside → Good script before (behind (mark.Start c.table.next s ∷ []) (answers_at_once (begins (starts_line c s (step.BeginBlock level)) s level) s told.Begin))
   begin-good level outside =
       behind-good before (mark.Start c.table.next s ∷ []) (answers_at_once (begins (starts_line c s (step.BeginBlock level)) s level) s told.Begin) _ tt
       (record {
@@ -295,7 +295,7 @@ module _ (script : Script) (c : Coord) (before : List Mark) (k : Kept c) (p : Pa
       c1 : Coord
       c1 = begins (starts_line c s (step.BeginBlock level)) s level
 
-      b : Base c c1 c.table.next.0 s.0 (new_work s level) (fresh (step.BeginBlock level)) Live
+      b : Base script c c1 c.table.next.0 s.0 (new_work s level) (fresh (step.BeginBlock level)) Live
       b = begins-base (step.BeginBlock level) level outside
 
       now : stage_of c1 c.table.next.0 ≡ Live
@@ -315,10 +315,10 @@ module _ (script : Script) (c : Coord) (before : List Mark) (k : Kept c) (p : Pa
       sits : Placed s.0 (fresh (step.BeginBlock level)) (stage_of c1 c.table.next.0) (new_work s level)
       sits = record { stands = λ o. (inl now, refl); free = λ o n. now }
 
-      queues : Queues c.locks.waits c.locks.waits c.table.next.0 None
+      queues : Queues script c.locks.waits c.locks.waits c.table.next.0 None
       queues = queue-stays c.locks.waits c.table.next.0 None (unqueued c k)
 
-  alone-good : (line : Stmt) → block ≡ Outside → Good before (behind (mark.Start c.table.next s ∷ []) (dispatches script (begins (starts_line c s (step.Command true)) s ReadCommitted) c.table.next line))
+  alone-good : (line : Stmt) → block ≡ Outside → Good script before (behind (mark.Start c.table.next s ∷ []) (dispatches script (begins (starts_line c s (step.Command true)) s ReadCommitted) c.table.next line))
   alone-good line outside =
       behind-good before (mark.Start c.table.next s ∷ []) (dispatches script (begins (starts_line c s (step.Command true)) s ReadCommitted) c.table.next line) _ tt
       (dispatch-good script c (begins (starts_line c s (step.Command true)) s ReadCommitted) c.table.next.0 s.0 (new_work s ReadCommitted) (fresh (step.Command true)) k (begins-base (step.Command true) ReadCommitted outside) (before ++ mark.Start c.table.next s ∷ []) (begins-past (step.Command true) ReadCommitted)
@@ -327,7 +327,7 @@ module _ (script : Script) (c : Coord) (before : List Mark) (k : Kept c) (p : Pa
       live : (q : Block) → q ≡ Outside → is_live_in (block_after q (step.Command true)) pending.Command ≡ true
       live q e = subst (λ r. is_live_in (block_after r (step.Command true)) pending.Command ≡ true) (sym e) refl
 
-  line-good : (line : Stmt) (asked : LineStep) → Asks block asked → Good before (on_line script (starts_line c s asked) s line asked)
+  line-good : (line : Stmt) (asked : LineStep) → Asks block asked → Good script before (on_line script (starts_line c s asked) s line asked)
   line-good line (step.Answer plain) a = at-once-good (step.Answer plain) _ refl a
   line-good line step.Refuse5 a = at-once-good step.Refuse5 _ refl (same5 block)
   line-good line step.Refuse7 a = at-once-good step.Refuse7 _ refl (same7 block)
@@ -337,6 +337,6 @@ module _ (script : Script) (c : Coord) (before : List Mark) (k : Kept c) (p : Pa
   line-good line (step.Command true) a = alone-good line a
   line-good line (step.Command false) a = inside-good line a
 
-  pub start-good : (line : Option Stmt) → Good before (starts script c s line)
+  pub start-good : (line : Option Stmt) → Good script before (starts script c s line)
   start-good None = rest-good c before k p
   start-good (Some line) = line-good line (line_step block line) (asks block line)

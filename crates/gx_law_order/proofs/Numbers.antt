@@ -149,7 +149,7 @@ request-calm script c g line (Some wanted) = by_test (is_free c.locks.holds want
     by_test false = record { marks = (tt, tt); stands = refl }
 
 dispatch-calm : (script : Script) (c : Coord) (g : Gxid) (line : Stmt) → IsCalm c.table.next (dispatches script c g line)
-dispatch-calm script c g line = request-calm script c g line (lock_for g line)
+dispatch-calm script c g line = request-calm script c g line (lock_for script g line)
 
 resume-calm : (script : Script) (c : Coord) (g : Gxid) (o : Option Claim) (line : Option Stmt) → IsCalm c.table.next (resumes script c g o line)
 resume-calm script c g None line = rest-calm c

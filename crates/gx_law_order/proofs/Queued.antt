@@ -7,6 +7,7 @@ use Rattle.std.specs.Prelude.{filter, find, is_some}
 use Rattle.gx_lemmas.proofs.Numbers.{eqb-self}
 use Rattle.gx_lemmas.proofs.Options.{some-same}
 use Rattle.gx_ids.specs.declared.ids.Gxid.{Gxid}
+use Rattle.gx_script.specs.declared.Script.{Script}
 use Rattle.gx_tree.specs.declared.stmt.Stmt.{Stmt}
 use Rattle.gx_tree.specs.declared.stmt.Stmt.TheVariants as stmt
 use Rattle.gx_waits.specs.declared.claim.Claim.{Claim}
@@ -20,30 +21,30 @@ listed None = []
 listed (Some claim) = claim ∷ []
 
 -- what a statement that waits has among the waits
-abbrev pub claims_for : Gxid → Option Stmt → List Claim
-claims_for g None = []
-claims_for g (Some line) = listed (lock_for g line)
+abbrev pub claims_for : Script → Gxid → Option Stmt → List Claim
+claims_for script g None = []
+claims_for script g (Some line) = listed (lock_for script g line)
 
 -- of some-same transaction: the statement of it that waits, and its waits
-pub record IsQueued (g : ℕ) (waiting : Option Stmt) (waits : List Claim) : Type 0 where
-  pub claims : filter (is_of (gx g)) waits ≡ claims_for (gx g) waiting
-  pub locks : (line : Stmt) → waiting ≡ Some line → is_some (lock_for (gx g) line) ≡ true
+pub record IsQueued (script : Script) (g : ℕ) (waiting : Option Stmt) (waits : List Claim) : Type 0 where
+  pub claims : filter (is_of (gx g)) waits ≡ claims_for script (gx g) waiting
+  pub locks : (line : Stmt) → waiting ≡ Some line → is_some (lock_for script (gx g) line) ≡ true
 
 -- the waits of some-same transaction have changed
-pub record Queues (old new : List Claim) (g : ℕ) (waiting : Option Stmt) : Type 0 where
+pub record Queues (script : Script) (old new : List Claim) (g : ℕ) (waiting : Option Stmt) : Type 0 where
   pub others : (j : ℕ) → eqb j g ≡ false → filter (is_of (gx j)) new ≡ filter (is_of (gx j)) old
-  pub here : IsQueued g waiting new
+  pub here : IsQueued script g waiting new
 
-nothing-waits : (g : ℕ) (waits : List Claim) → filter (is_of (gx g)) waits ≡ [] → IsQueued g None waits
+nothing-waits : {script : Script} (g : ℕ) (waits : List Claim) → filter (is_of (gx g)) waits ≡ [] → IsQueued script g None waits
 nothing-waits g waits e = record { claims = e; locks = λ line q. absurd (cc) }
 
-pub queued-by : (g : ℕ) (a b : Option Stmt) (waits : List Claim) → b ≡ a → IsQueued g a waits → IsQueued g b waits
-queued-by g a b waits e q = subst (λ o. IsQueued g o waits) (sym e) q
+pub queued-by : {script : Script} (g : ℕ) (a b : Option Stmt) (waits : List Claim) → b ≡ a → IsQueued script g a waits → IsQueued script g b waits
+queued-by {script = script} g a b waits e q = subst (λ o. IsQueued script g o waits) (sym e) q
 
-pub queue-stays : (waits : List Claim) (g : ℕ) (waiting : Option Stmt) → IsQueued g waiting waits → Queues waits waits g waiting
+pub queue-stays : {script : Script} (waits : List Claim) (g : ℕ) (waiting : Option Stmt) → IsQueued script g waiting waits → Queues script waits waits g waiting
 queue-stays waits g waiting q = record { others = λ j n. refl; here = q }
 
-pub queue-then : (a b c : List Claim) (g : ℕ) (x y : Option Stmt) → Queues a b g x → Queues b c g y → Queues a c g y
+pub queue-then : {script : Script} (a b c : List Claim) (g : ℕ) (x y : Option Stmt) → Queues script a b g x → Queues script b c g y → Queues script a c g y
 queue-then a b c g x y q r = record { others = λ j n. r.others j n ∙ q.others j n; here = r.here }
 
 -- GIVEN BACK
@@ -66,33 +67,33 @@ others-left g j (w ∷ ws) n = by_test (is_of (gx g) w) refl (others-left g j ws
     by_test true e f = f ∙ sym (ap (λ b. cond b (w ∷ filter (is_of (gx j)) ws) (filter (is_of (gx j)) ws)) (apart w.gxid.0 e))
     by_test false e f = ap (λ l. cond (is_of (gx j) w) (w ∷ l) l) f
 
-pub queue-released : (waits : List Claim) (g : ℕ) → Queues waits (without (gx g) waits) g None
+pub queue-released : {script : Script} (waits : List Claim) (g : ℕ) → Queues script waits (without (gx g) waits) g None
 queue-released waits g = record { others = λ j n. others-left g j waits n; here = nothing-waits g (without (gx g) waits) (none-left (gx g) waits) }
 
 -- ONE MORE
-pub lock-of : (g : Gxid) (line : Stmt) (wanted : Claim) → lock_for g line ≡ Some wanted → wanted.gxid ≡ g
-lock-of g line wanted e = by_line line e
+pub lock-of : (script : Script) (g : Gxid) (line : Stmt) (wanted : Claim) → lock_for script g line ≡ Some wanted → wanted.gxid ≡ g
+lock-of script g line wanted e = by_line line e
   where
     same : (a b : Claim) → Some a ≡ Some b → b.gxid ≡ a.gxid
     same a b q = cc
 
-    by_line : (line : Stmt) → lock_for g line ≡ Some wanted → wanted.gxid ≡ g
+    by_line : (line : Stmt) → lock_for script g line ≡ Some wanted → wanted.gxid ≡ g
     by_line (stmt.Select query) e = same _ wanted e
     by_line (stmt.Insert table tuples) e = same _ wanted e
-    by_line (stmt.Update table assigns cond) e = absurd (cc)
-    by_line (stmt.Delete table cond) e = absurd (cc)
+    by_line (stmt.Update table assigns cond) e = same _ wanted e
+    by_line (stmt.Delete table cond) e = same _ wanted e
     by_line (stmt.Lock table mode) e = same _ wanted e
     by_line (stmt.Begin level) e = absurd (cc)
     by_line stmt.Commit e = absurd (cc)
     by_line stmt.Rollback e = absurd (cc)
 
-pub queue-waits : (waits : List Claim) (g : ℕ) (line : Stmt) (wanted : Claim) → IsQueued g None waits → lock_for (gx g) line ≡ Some wanted → Queues waits (waits ++ wanted ∷ []) g (Some line)
-queue-waits waits g line wanted q e =
+pub queue-waits : {script : Script} (waits : List Claim) (g : ℕ) (line : Stmt) (wanted : Claim) → IsQueued script g None waits → lock_for script (gx g) line ≡ Some wanted → Queues script waits (waits ++ wanted ∷ []) g (Some line)
+queue-waits {script = script} waits g line wanted q e =
     record {
       others = λ j n. filter-append (is_of (gx j)) waits (wanted ∷ []) ∙ ap (λ b. filter (is_of (gx j)) waits ++ cond b (wanted ∷ []) []) (away j n) ∙ nothing-more (filter (is_of (gx j)) waits);
       here = record {
         claims = filter-append (is_of (gx g)) waits (wanted ∷ []) ∙ ap (λ b. filter (is_of (gx g)) waits ++ cond b (wanted ∷ []) []) mine ∙ ap (λ l. l ++ wanted ∷ []) q.claims ∙ sym (ap listed e);
-        locks = λ other same. subst (λ l. is_some (lock_for (gx g) l) ≡ true) (some-same line other same) (ap is_some e);
+        locks = λ other same. subst (λ l. is_some (lock_for script (gx g) l) ≡ true) (some-same line other same) (ap is_some e);
       };
     }
   where
@@ -100,10 +101,10 @@ queue-waits waits g line wanted q e =
     nothing-more xs = Rattle.std.proofs.Common.append-nil xs
 
     mine : is_of (gx g) wanted ≡ true
-    mine = ap (λ (h : Gxid). h.0 == g) (lock-of (gx g) line wanted e) ∙ eqb-self g
+    mine = ap (λ (h : Gxid). h.0 == g) (lock-of script (gx g) line wanted e) ∙ eqb-self g
 
     away : (j : ℕ) → eqb j g ≡ false → is_of (gx j) wanted ≡ false
-    away j n = ap (λ (h : Gxid). h.0 == j) (lock-of (gx g) line wanted e) ∙ other g j n
+    away j n = ap (λ (h : Gxid). h.0 == j) (lock-of script (gx g) line wanted e) ∙ other g j n
       where
         other : (a b : ℕ) → eqb b a ≡ false → (a == b) ≡ false
         other a b n = grind (arith, nat_tests)
@@ -122,32 +123,32 @@ first-wait g (w ∷ ws) = by_test (is_of g w) (first-wait g ws)
     by_test false f = f
 
 -- whose statement waits has its table's lock as its wait, and no other
-pub statement-waits : (g : ℕ) (waiting : Option Stmt) (locks : Locks) → IsQueued g waiting locks.waits → (line : Stmt) → waiting ≡ Some line → wait_of locks (gx g) ≡ lock_for (gx g) line
-statement-waits g waiting locks q line e = by_lock (lock_for (gx g) line) refl
+pub statement-waits : {script : Script} (g : ℕ) (waiting : Option Stmt) (locks : Locks) → IsQueued script g waiting locks.waits → (line : Stmt) → waiting ≡ Some line → wait_of locks (gx g) ≡ lock_for script (gx g) line
+statement-waits {script = script} g waiting locks q line e = by_lock (lock_for script (gx g) line) refl
   where
-    claims : filter (is_of (gx g)) locks.waits ≡ listed (lock_for (gx g) line)
-    claims = q.claims ∙ ap (claims_for (gx g)) e
+    claims : filter (is_of (gx g)) locks.waits ≡ listed (lock_for script (gx g) line)
+    claims = q.claims ∙ ap (claims_for script (gx g)) e
 
-    by_lock : (o : Option Claim) → lock_for (gx g) line ≡ o → wait_of locks (gx g) ≡ o
+    by_lock : (o : Option Claim) → lock_for script (gx g) line ≡ o → wait_of locks (gx g) ≡ o
     by_lock None f = (first-wait (gx g) locks.waits).0 (claims ∙ ap listed f)
     by_lock (Some wanted) f = (first-wait (gx g) locks.waits).1 wanted [] (claims ∙ ap listed f)
 
 -- and whose doesn't has none
-pub nothing-queued : (g : ℕ) (waiting : Option Stmt) (locks : Locks) → IsQueued g waiting locks.waits → waiting ≡ None → wait_of locks (gx g) ≡ None
-nothing-queued g waiting locks q e = (first-wait (gx g) locks.waits).0 (q.claims ∙ ap (claims_for (gx g)) e)
+pub nothing-queued : {script : Script} (g : ℕ) (waiting : Option Stmt) (locks : Locks) → IsQueued script g waiting locks.waits → waiting ≡ None → wait_of locks (gx g) ≡ None
+nothing-queued {script = script} g waiting locks q e = (first-wait (gx g) locks.waits).0 (q.claims ∙ ap (claims_for script (gx g)) e)
 
 -- who has a wait has a statement that waits for it
-pub record WaitsFor (g : ℕ) (waiting : Option Stmt) (wanted : Claim) : Type 0 where
+pub record WaitsFor (script : Script) (g : ℕ) (waiting : Option Stmt) (wanted : Claim) : Type 0 where
   pub line : Stmt
   pub is : waiting ≡ Some line
-  pub lock : lock_for (gx g) line ≡ Some wanted
+  pub lock : lock_for script (gx g) line ≡ Some wanted
 
-pub waits-for : (g : ℕ) (waiting : Option Stmt) (locks : Locks) → IsQueued g waiting locks.waits → (wanted : Claim) → wait_of locks (gx g) ≡ Some wanted → WaitsFor g waiting wanted
-waits-for g waiting locks q wanted e = by_waiting waiting refl
+pub waits-for : {script : Script} (g : ℕ) (waiting : Option Stmt) (locks : Locks) → IsQueued script g waiting locks.waits → (wanted : Claim) → wait_of locks (gx g) ≡ Some wanted → WaitsFor script g waiting wanted
+waits-for {script = script} g waiting locks q wanted e = by_waiting waiting refl
   where
     neither : {B : Type 0} (o : Option Claim) → o ≡ None → o ≡ Some wanted → B
     neither o e f = absurd (cc)
 
-    by_waiting : (o : Option Stmt) → waiting ≡ o → WaitsFor g o wanted
+    by_waiting : (o : Option Stmt) → waiting ≡ o → WaitsFor script g o wanted
     by_waiting None f = neither (wait_of locks (gx g)) (nothing-queued g waiting locks q f) e
     by_waiting (Some line) f = record { line = line; is = refl; lock = sym (statement-waits g waiting locks q line f) ∙ e }

@@ -56,7 +56,7 @@ closing-closed b p e = grind arith
 closing-refused : (b : Block) (p : Pending) → is_closing_in b p ≡ true → is_open_in (block_after_refusal b p) ≡ false
 closing-refused b p e = grind arith
 
-module _ (c : Coord) (before : List Mark) (k : Kept c) (p : Past c before) (g : ℕ) where
+module _ {script : Script} (c : Coord) (before : List Mark) (k : Kept script c) (p : Past c before) (g : ℕ) where
   abbrev home : ℕ
   home = (c.works g).session.0
 
@@ -81,7 +81,7 @@ module _ (c : Coord) (before : List Mark) (k : Kept c) (p : Past c before) (g : 
       by_test false q = refl
 
   -- the transaction and its session, where the work has changed
-  base-work : (w : Work) (said : Stage) → w.session ≡ (c.works g).session → w.waiting ≡ (c.works g).waiting → stage_of c g ≡ said → its.transaction.0 ≡ g → Base c (with_work c (gx g) w) g home w its said
+  base-work : (w : Work) (said : Stage) → w.session ≡ (c.works g).session → w.waiting ≡ (c.works g).waiting → stage_of c g ≡ said → its.transaction.0 ≡ g → Base script c (with_work c (gx g) w) g home w its said
   base-work w said e waits st mine =
       record {
         whole1 = k.whole;
@@ -96,7 +96,7 @@ module _ (c : Coord) (before : List Mark) (k : Kept c) (p : Past c before) (g : 
         queues1 = queue-stays c.locks.waits g w.waiting (queued-by g (c.works g).waiting w.waiting c.locks.waits waits (k.queued g));
       }
 
-  base-itself : (said : Stage) → stage_of c g ≡ said → its.transaction.0 ≡ g → Base c c g home (c.works g) its said
+  base-itself : (said : Stage) → stage_of c g ≡ said → its.transaction.0 ≡ g → Base script c c g home (c.works g) its said
   base-itself said st mine =
       record {
         whole1 = k.whole;
@@ -145,7 +145,7 @@ module _ (c : Coord) (before : List Mark) (k : Kept c) (p : Past c before) (g : 
     alone-closing : (b : Block) (q : Pending) → is_open_in b ≡ false → is_live_in b q ≡ true → is_closing_in b q ≡ true
     alone-closing b q e f = grind arith
 
-    done-good : (wrote : Bool) (count : ℕ) (part : Part) → Good before (takes_done c (gx g) i wrote count part m)
+    done-good : (wrote : Bool) (count : ℕ) (part : Part) → Good script before (takes_done c (gx g) i wrote count part m)
     done-good wrote count part = by_left (without i m.awaited) refl
       where
         w : Work
@@ -154,13 +154,13 @@ module _ (c : Coord) (before : List Mark) (k : Kept c) (p : Past c before) (g : 
         c1 : Coord
         c1 = with_work c (gx g) w
 
-        b : Base c c1 g home w its Live
+        b : Base script c c1 g home w its Live
         b = base-work w Live refl refl runs-it.0 is-its.0
 
         work-now : c1.works g ≡ w
         work-now = ap (λ q. if q then w else c.works g) (eqb-self g)
 
-        goes : (and-first : List Node) → without i m.awaited ≡ and-first → (x : Node) (xs : List Node) → and-first ≡ x ∷ xs → Good before (rests c1)
+        goes : (and-first : List Node) → without i m.awaited ≡ and-first → (x : Node) (xs : List Node) → and-first ≡ x ∷ xs → Good script before (rests c1)
         goes and-first e x xs f =
             rest-good c1 before
             (base-kept c c1 g home w its Live k b c1 (find_txn c.table (gx g)) w its k.whole (same-finds c.table g) (λ j. same-one j (eqb j g) refl) same-sessions
@@ -173,17 +173,17 @@ module _ (c : Coord) (before : List Mark) (k : Kept c) (p : Past c before) (g : 
             same-one j true q = refl
             same-one j false q = refl
 
-        alone : is_open_in its.state.block ≡ false → without i m.awaited ≡ [] → Good before (commits c1 (gx g))
+        alone : is_open_in its.state.block ≡ false → without i m.awaited ≡ [] → Good script before (commits c1 (gx g))
         alone closed e =
             commits-good c c1 g home w its Live k b before (past-work w) refl (alone-closing its.state.block its.state.pending closed is-its.1) (λ r h n. n (same-command r h ∙ e)) (λ r h. runs-it.1) unqueued
           where
             same-command : (r : Command) → Some (with_done m i count part) ≡ Some r → r.awaited ≡ without i m.awaited
             same-command r h = ap (λ (q : Command). q.awaited) (sym (some-same (with_done m i count part) r h))
 
-        inside : is_open_in its.state.block ≡ true → Good before (answers c1 (gx g) (work_of c1 (gx g)))
+        inside : is_open_in its.state.block ≡ true → Good script before (answers c1 (gx g) (work_of c1 (gx g)))
         inside opened = answers-good c c1 g home w its Live k b before (past-work w) refl opened runs-it.1 (c1.works g) (ap (λ (q : Work). q.session.0) work-now) refl (ap (λ (q : Work). q.waiting) work-now ∙ unqueued)
 
-        by_block : (x : Block) → its.state.block ≡ x → without i m.awaited ≡ [] → Good before (completes c1 (gx g) x)
+        by_block : (x : Block) → its.state.block ≡ x → without i m.awaited ≡ [] → Good script before (completes c1 (gx g) x)
         by_block Outside e f = alone (ap is_open_in e) f
         by_block (Open level) e f = inside (ap is_open_in e)
         by_block Failed e f = absurd (not-failed its.state.block its.state.pending e is-its.1)
@@ -191,36 +191,36 @@ module _ (c : Coord) (before : List Mark) (k : Kept c) (p : Past c before) (g : 
             not-failed : (b : Block) (q : Pending) → b ≡ Failed → is_live_in b q ≡ true → ⊥
             not-failed b q e f = grind arith
 
-        by_left : (and-first : List Node) → without i m.awaited ≡ and-first → Good before (goes_on c1 (gx g) and-first)
+        by_left : (and-first : List Node) → without i m.awaited ≡ and-first → Good script before (goes_on c1 (gx g) and-first)
         by_left [] e = by_block _ (ap (λ (q : Work). (c.sessions q.session.0).state.block) (sym work-now)) e
         by_left (x ∷ xs) e = goes (x ∷ xs) e x xs refl
 
-    failed-good : (cause : Cause) → Good before (is_refused c (gx g) (on_abort c.table (gx g)) [] (reason_of cause))
+    failed-good : (cause : Cause) → Good script before (is_refused c (gx g) (on_abort c.table (gx g)) [] (reason_of cause))
     failed-good cause =
         refuses-good c c g home (c.works g) its Live k (base-itself Live runs-it.0 is-its.0) before p refl [] (reason_of cause) tt (waits its.state.pending runs-it.1)
       where
         waits : (q : Pending) → is_working_in q ≡ true → is_nothing_in q ≡ false
         waits q e = grind arith
 
-  on-done-good : (i : Node) (cid : Cid) (wrote : Bool) (count : ℕ) (part : Part) (m : Option Command) → (c.works g).command ≡ m → Good before (on_done c (gx g) i cid wrote count part m)
+  on-done-good : (i : Node) (cid : Cid) (wrote : Bool) (count : ℕ) (part : Part) (m : Option Command) → (c.works g).command ≡ m → Good script before (on_done c (gx g) i cid wrote count part m)
   on-done-good i cid wrote count part None e = rest-good c before k p
   on-done-good i cid wrote count part (Some m) e = by_test (is_awaited m i cid && fits_part m.stmt part) refl
     where
-      by_test : (b : Bool) → (is_awaited m i cid && fits_part m.stmt part) ≡ b → Good before (if b then takes_done c (gx g) i wrote count part m else rests c)
+      by_test : (b : Bool) → (is_awaited m i cid && fits_part m.stmt part) ≡ b → Good script before (if b then takes_done c (gx g) i wrote count part m else rests c)
       by_test true f = done-good m e i (and_parts _ _ (and_parts _ _ f).0).1 wrote count part
       by_test false f = rest-good c before k p
 
-  on-failed-good : (i : Node) (cid : Cid) (cause : Cause) (m : Option Command) → (c.works g).command ≡ m → Good before (on_failed c (gx g) i cid cause m)
+  on-failed-good : (i : Node) (cid : Cid) (cause : Cause) (m : Option Command) → (c.works g).command ≡ m → Good script before (on_failed c (gx g) i cid cause m)
   on-failed-good i cid cause None e = rest-good c before k p
   on-failed-good i cid cause (Some m) e = by_test (is_awaited m i cid) refl
     where
-      by_test : (b : Bool) → is_awaited m i cid ≡ b → Good before (if b then is_refused c (gx g) (on_abort c.table (gx g)) [] (reason_of cause) else rests c)
+      by_test : (b : Bool) → is_awaited m i cid ≡ b → Good script before (if b then is_refused c (gx g) (on_abort c.table (gx g)) [] (reason_of cause) else rests c)
       by_test true f = failed-good m e i (and_parts _ _ f).1 cause
       by_test false f = rest-good c before k p
 
   -- STATUSES
   -- only the status changes
-  quiet-kept : (turn : Turn) → (t : Turned c.table g turn Moves) → IsQuiet (stage_of c g) (stage t.now) → Kept (record c { table = turn.table })
+  quiet-kept : (turn : Turn) → (t : Turned c.table g turn Moves) → IsQuiet (stage_of c g) (stage t.now) → Kept script (record c { table = turn.table })
   quiet-kept turn t q = kept-quiet c (record c { table = turn.table }) k t.at.whole (λ j. by_test j (eqb j g) refl) (λ j. refl) (λ j. refl) refl
     where
       by_test : (j : ℕ) (b : Bool) → eqb j g ≡ b → IsQuiet (stage_of c j) (stage (find_txn turn.table (gx j)))
@@ -258,7 +258,7 @@ module _ (c : Coord) (before : List Mark) (k : Kept c) (p : Past c before) (g : 
         by_test true = (tt, tt)
         by_test false = tt
 
-    status-good : (o : Outcome) → turn.out.outcome ≡ o → Moves (stage_of c g) (stage t.now) o → Good before (follows c (gx g) turn o)
+    status-good : (o : Outcome) → turn.out.outcome ≡ o → Moves (stage_of c g) (stage t.now) o → Good script before (follows c (gx g) turn o)
     status-good outcome.Pending e (inl s) = record { kept = quiet-kept turn t (inl s); past = stays-past [] tt (ap ends e) (ap is_running s) (λ d. sym s ∙ d); seen = tt }
     status-good outcome.Pending e (inr s) =
         record { kept = quiet-kept turn t (inr (ap is_said s.0, ap is_said s.1)); past = stays-past [] tt (ap ends e) (ap is_running s.1 ∙ sym (ap is_running s.0)) (λ d. absurd (differ (sym s.1 ∙ d))); seen = tt }
@@ -274,13 +274,13 @@ module _ (c : Coord) (before : List Mark) (k : Kept c) (p : Past c before) (g : 
         refused-good c c g home (c.works g) its Closing k (base-itself Closing s.0 mine.0) before p turn Moves (failure_marks i (gx g)) _ t refl (inl s.1) (failure-still i) (closing-refused its.state.block its.state.pending mine.1)
     status-good outcome.Ended e s = record { kept = quiet-kept turn t (inr (ap is_said s.0, ap is_said s.1)); past = gone-past s.0 s.1 e; seen = tt }
 
-  on-status-good : (i : Node) (r : Reply) (fails : Bool) → Good before (on_status c (gx g) i r fails)
+  on-status-good : (i : Node) (r : Reply) (fails : Bool) → Good script before (on_status c (gx g) i r fails)
   on-status-good i r fails =
       let t : Turned c.table g (on_reply c.table (gx g) i r fails) Moves = reply-turns c.table g i r fails k.whole in
-      let x : Good before (follows c (gx g) (on_reply c.table (gx g) i r fails) (on_reply c.table (gx g) i r fails).out.outcome) = status-good (on_reply c.table (gx g) i r fails) t (on_reply c.table (gx g) i r fails).out.outcome refl t.how in
+      let x : Good script before (follows c (gx g) (on_reply c.table (gx g) i r fails) (on_reply c.table (gx g) i r fails).out.outcome) = status-good (on_reply c.table (gx g) i r fails) t (on_reply c.table (gx g) i r fails).out.outcome refl t.how in
       record { kept = x.kept; past = x.past; seen = x.seen }
 
-  answer-good : (i : Node) (fails : Bool) (r : Reply) → Good before (on_answer c (gx g) i fails r)
+  answer-good : (i : Node) (fails : Bool) (r : Reply) → Good script before (on_answer c (gx g) i fails r)
   answer-good i fails (reply.Done cid wrote count part) = on-done-good i cid wrote count part (c.works g).command refl
   answer-good i fails (reply.Failed cid cause) = on-failed-good i cid cause (c.works g).command refl
   answer-good i fails reply.Prepared = on-status-good i reply.Prepared fails
@@ -290,8 +290,8 @@ module _ (c : Coord) (before : List Mark) (k : Kept c) (p : Past c before) (g : 
   answer-good i fails reply.Aborted = on-status-good i reply.Aborted fails
   answer-good i fails reply.Forgotten = on-status-good i reply.Forgotten fails
 
-module _ (script : Script) (c : Coord) (before : List Mark) (k : Kept c) (p : Past c before) where
-  message-good : (from : Node) (fails : Bool) (m : Message) → Good before (on_message c from fails m)
+module _ (script : Script) (c : Coord) (before : List Mark) (k : Kept script c) (p : Past c before) where
+  message-good : (from : Node) (fails : Bool) (m : Message) → Good script before (on_message c from fails m)
   message-good from fails (message.Answer g r) = answer-good c before k p g.0 from fails r
   message-good from fails (message.Exec g cid level x h y) = rest-good c before k p
   message-good from fails (message.Prepare g) = rest-good c before k p
@@ -302,7 +302,7 @@ module _ (script : Script) (c : Coord) (before : List Mark) (k : Kept c) (p : Pa
   message-good from fails (message.Collect round) = rest-good c before k p
   message-good from fails (message.Graph round graph) = rest-good c before k p
 
-  again-good : (i : Node) (m : Option Message) → Good before (resends c i m)
+  again-good : (i : Node) (m : Option Message) → Good script before (resends c i m)
   again-good i None = rest-good c before k p
   again-good i (Some m) = let x = rest-good c before k p in record { kept = k; past = x.past; seen = tt }
 
@@ -313,7 +313,7 @@ module _ (script : Script) (c : Coord) (before : List Mark) (k : Kept c) (p : Pa
       by_pending q e = grind arith
 
   -- A statement that has waited goes out: its transaction is live, no command of it is under way, and it has its session.
-  resume-good : (g : ℕ) (o : Option Claim) (line : Option Stmt) → (c.works g).waiting ≡ line → Good before (resumes script c (gx g) o line)
+  resume-good : (g : ℕ) (o : Option Claim) (line : Option Stmt) → (c.works g).waiting ≡ line → Good script before (resumes script c (gx g) o line)
   resume-good g None line e = rest-good c before k p
   resume-good g (Some wanted) None e = rest-good c before k p
   resume-good g (Some wanted) (Some line) e =
@@ -346,7 +346,7 @@ module _ (script : Script) (c : Coord) (before : List Mark) (k : Kept c) (p : Pa
       past : Past c1 before
       past = record { committed = p.committed; ended = p.ended; dropped = p.dropped; latest = p.latest; drawn = p.drawn }
 
-  pub event-good : (x : NodeEvent) (fails : Bool) → coord_can script c x ≡ true → Good before (on_event script c x fails)
+  pub event-good : (x : NodeEvent) (fails : Bool) → coord_can script c x ≡ true → Good script before (on_event script c x fails)
   event-good (event.Deliver from envelope) fails e = message-good from fails envelope.message
   event-good (event.Start s) fails e = start-good script c before k p s (idle-first s _ e) (next_line script c s)
   event-good (event.End s) fails e = end-good script c before k p s (idle-first s _ e)

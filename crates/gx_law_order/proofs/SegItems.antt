@@ -9,11 +9,13 @@ use Rattle.gx_ids.specs.declared.ids.Cid.{Cid}
 use Rattle.gx_ids.specs.declared.ids.Gxid.{Gxid}
 use Rattle.gx_ids.specs.declared.ids.Node.{Node}
 use Rattle.gx_ids.specs.declared.ids.Table.{Table}
+use Rattle.gx_ids.specs.declared.rid.Rid.{Rid}
 use Rattle.gx_tree.specs.declared.query.Query.{Query}
 use Rattle.gx_tree.specs.declared.row.KeyedRow.{KeyedRow}
 use Rattle.gx_tree.specs.declared.slice.Slice.{Slice}
 use Rattle.gx_tree.specs.declared.slice.Slice.TheVariants as slice
 use Rattle.gx_tree.specs.declared.stmt.Level.{Level}
+use Rattle.gx_tree.specs.declared.value.Value.{Value}
 use Rattle.gx_dsnap.specs.Gxids.{is_below}
 use Rattle.gx_dsnap.specs.declared.snapshot.Snapshot.{Snapshot}
 use Rattle.gx_waits.specs.declared.claim.Claim.{Claim}
@@ -41,7 +43,8 @@ use Rattle.gx_rules.specs.Maps.{with_at}
 use Rattle.gx_rules.specs.Segments.{Local, Phase, Seg, SegTurn, Suspended, Version, after_marks, has_ended, local_of, stays, tells, tells_kept, with_local}
 use Rattle.gx_rules.specs.Segments.Phase.{Aborted, Committed, Forgotten, Prepared, Reading, Writing}
 use Rattle.gx_rules.specs.Shown.{kept_of, kept_one, last_images, shown}
-use Rattle.gx_rules.specs.Slices.{Moved, first_fault, inserted, inserts, inserts_row, requests, runs_locked, runs_slice, selects, slice_lock, suspends}
+use Rattle.gx_rules.specs.Running.{requests, runs_locked, runs_slice, slice_lock, suspends}
+use Rattle.gx_rules.specs.Slices.{Moved, first_fault, inserted, inserts, inserts_row, own_lock, selects, starts_from, takes_lock, takes_own, writes_row}
 use Rattle.gx_law_order.proofs.Releases.{each-released}
 use Rattle.gx_law_order.proofs.Lists.{Each}
 use Rattle.gx_law_order.proofs.Stages.{gx}
@@ -217,24 +220,45 @@ module _ (s : Seg) (before : List Mark) (k : Holds s.node s before) where
   each-last [] m e f = (f, tt)
   each-last (x ∷ xs) m e f = (e.0, each-last xs m e.1 f)
 
-  add-row : (g : Gxid) (c : Cid) (table : Table) (m : Moved) (r : KeyedRow) → is_prepared before s.node g ≡ false → Added g m → Added g (inserts_row g c table m r)
-  add-row g c table m r n f =
+  -- a lock that is taken
+  add-lock : (g : Gxid) (wanted : Claim) (m : Moved) → Added g m → Added g (takes_lock wanted m)
+  add-lock g wanted m f =
       record {
         node = f.node;
         dull = each-last m.marks _ f.dull tt;
-        versions = ap (λ vs. vs ++ v ∷ []) f.versions ∙ append_assoc s.versions (writes_at s.node m.marks) (v ∷ []) ∙ ap (λ vs. s.versions ++ vs) (sym (writes-append s.node m.marks (mark.Write g c m.seg.node table r.rid (Some r.row) ∷ []) ∙ ap (λ vs. writes_at s.node m.marks ++ vs) here));
-        bound = bound-with m.seg.locals g.0 _ (λ i. is_prepared before s.node (gx i)) f.bound n;
+        versions = f.versions ∙ ap (λ vs. s.versions ++ vs) (sym (writes-append s.node m.marks (hold_mark m.seg.node wanted ∷ []) ∙ append-nil (writes_at s.node m.marks)));
+        bound = f.bound;
       }
+
+  add-own : (g : Gxid) (p : Phase) (m : Moved) → Added g m → Added g (takes_own g p m)
+  add-own g Reading m f = add-lock g (own_lock g) m f
+  add-own g Writing m f = f
+  add-own g Prepared m f = f
+  add-own g Committed m f = f
+  add-own g (Forgotten b) m f = f
+  add-own g Aborted m f = f
+
+  -- a row that is written
+  add-row : (g : Gxid) (c : Cid) (table : Table) (m : Moved) (rid : Rid) (image : Option (List Value)) → is_prepared before s.node g ≡ false → Added g m → Added g (writes_row g c table m rid image)
+  add-row g c table m rid image n f =
+      add-own g (local_of m.seg g).phase _
+      (record {
+        node = f.node;
+        dull = each-last m.marks _ f.dull tt;
+        versions = ap (λ vs. vs ++ v ∷ []) f.versions ∙ append_assoc s.versions (writes_at s.node m.marks) (v ∷ [])
+            ∙ ap (λ vs. s.versions ++ vs) (sym (writes-append s.node m.marks (mark.Write g c m.seg.node table rid image ∷ []) ∙ ap (λ vs. writes_at s.node m.marks ++ vs) here));
+        bound = bound-with m.seg.locals g.0 _ (λ i. is_prepared before s.node (gx i)) f.bound n;
+      })
     where
       v : Version
-      v = record { gxid = g; cid = c; table = table; rid = r.rid; image = Some r.row }
+      v = record { gxid = g; cid = c; table = table; rid = rid; image = image }
 
-      here : writes_at s.node (mark.Write g c m.seg.node table r.rid (Some r.row) ∷ []) ≡ v ∷ []
+      here : writes_at s.node (mark.Write g c m.seg.node table rid image ∷ []) ≡ v ∷ []
       here = ap (λ q. if q then v ∷ [] else []) (ap (λ z. is_same_node z s.node) f.node ∙ node-self s.node)
 
   add-rows : (g : Gxid) (c : Cid) (table : Table) (rows : List KeyedRow) (m : Moved) → is_prepared before s.node g ≡ false → Added g m → Added g (fold (inserts_row g c table) m rows)
   add-rows g c table [] m n f = f
-  add-rows g c table (r ∷ rs) m n f = add-rows g c table rs (inserts_row g c table m r) n (add-row g c table m r n f)
+  add-rows g c table (r ∷ rs) m n f = add-rows g c table rs (inserts_row g c table m r) n (add-row g c table m r.rid (Some r.row) n f)
 
   insert : (fails : Bool) (g : Gxid) (c : Cid) (count : ℕ) (m : Moved) → Added g m → Well fails (inserts g c count m)
   insert fails g c count m f =
@@ -246,15 +270,15 @@ module _ (s : Seg) (before : List Mark) (k : Holds s.node s before) where
         };
       }
 
-  slice_runs : (fails : Bool) (top : Gxid) (locks : Locks) (g : Gxid) (c : Cid) (snapshot : Option Snapshot) (x : Slice) → is_prepared before s.node g ≡ false → Well fails (runs_slice (raised_with top locks) g c snapshot x)
-  slice_runs fails top locks g c (Some snapshot) (slice.Select q) n = select fails top locks g c q (shown (raised_with top locks) snapshot g c q.table) (first_fault q.cond (shown (raised_with top locks) snapshot g c q.table))
-  slice_runs fails top locks g c (Some snapshot) (slice.Insert table rows) n =
-      insert fails g c (length rows) (inserted (raised_with top locks) g c table rows) (add-rows g c table rows (record { seg = raised_with top locks; marks = [] }) n (record { node = refl; dull = tt; versions = sym (append-nil s.versions); bound = k.bound }))
-  slice_runs fails top locks g c None (slice.Select q) n = dull-turn fails (stays (raised_with top locks)) tt refl (none-kept fails) refl k.bound
-  slice_runs fails top locks g c None (slice.Insert table rows) n = dull-turn fails (stays (raised_with top locks)) tt refl (none-kept fails) refl k.bound
-  slice_runs fails top locks g c snapshot (slice.Lock table mode) n = dull-turn fails _ tt refl (none-kept fails) refl (bound-with s.locals g.0 _ (λ i. is_prepared before s.node (gx i)) k.bound (k.bound g.0))
-  slice_runs fails top locks g c snapshot (slice.Update table assigns cond) n = dull-turn fails (stays (raised_with top locks)) tt refl (none-kept fails) refl k.bound
-  slice_runs fails top locks g c snapshot (slice.Delete table cond) n = dull-turn fails (stays (raised_with top locks)) tt refl (none-kept fails) refl k.bound
+  slice_runs : (fails : Bool) (top : Gxid) (locks : Locks) (g : Gxid) (c : Cid) (level : Level) (snapshot : Option Snapshot) (x : Slice) → is_prepared before s.node g ≡ false → Well fails (runs_slice (raised_with top locks) g c level snapshot x)
+  slice_runs fails top locks g c level (Some snapshot) (slice.Select q) n = select fails top locks g c q (shown (raised_with top locks) snapshot g c q.table) (first_fault q.cond (shown (raised_with top locks) snapshot g c q.table))
+  slice_runs fails top locks g c level (Some snapshot) (slice.Insert table rows) n =
+      insert fails g c (length rows) (inserted (raised_with top locks) g c table rows) (add-rows g c table rows (starts_from (raised_with top locks)) n (record { node = refl; dull = tt; versions = sym (append-nil s.versions); bound = k.bound }))
+  slice_runs fails top locks g c level None (slice.Select q) n = dull-turn fails (stays (raised_with top locks)) tt refl (none-kept fails) refl k.bound
+  slice_runs fails top locks g c level None (slice.Insert table rows) n = dull-turn fails (stays (raised_with top locks)) tt refl (none-kept fails) refl k.bound
+  slice_runs fails top locks g c level snapshot (slice.Lock table mode) n = dull-turn fails _ tt refl (none-kept fails) refl (bound-with s.locals g.0 _ (λ i. is_prepared before s.node (gx i)) k.bound (k.bound g.0))
+  slice_runs fails top locks g c level snapshot (slice.Update table assigns cond) n = dull-turn fails (stays (raised_with top locks)) tt refl (none-kept fails) refl k.bound
+  slice_runs fails top locks g c level snapshot (slice.Delete table cond) n = dull-turn fails (stays (raised_with top locks)) tt refl (none-kept fails) refl k.bound
 
 -- who runs hasn't promised
 open-bound : (b : Bool) (p : Phase) → is_open_phase p ≡ true → Bound b p → b ≡ false
@@ -277,12 +301,11 @@ module _ (script : Script) (s : Seg) (opens : AreOpen s) (before : List Mark) (k
   still g wanted n = prepared-append before (hold_mark s.node wanted ∷ []) s.node g ∙ ap (λ q. q || false) n
 
   -- it runs with its lock, or waits for it
-  starts : (fails : Bool) (h g : Gxid) (c : Cid) (level : Level) (snapshot : Option Snapshot) (x : Slice) (o : Option Claim) → is_prepared before s.node g ≡ false → Good fails (requests (raised s h) g c level snapshot x o)
-  starts fails h g c level snapshot x None n = slice_runs s before k fails (raised s h).horizon s.locks g c snapshot x n
-  starts fails h g c level snapshot x (Some wanted) n =
-      both s before k fails (is_free s.locks.holds wanted) (runs_locked (raised s h) g c snapshot x wanted) (suspends (raised s h) g c level snapshot x wanted)
+  starts : (fails : Bool) (h g : Gxid) (c : Cid) (level : Level) (snapshot : Option Snapshot) (x : Slice) (wanted : Claim) → is_prepared before s.node g ≡ false → Good fails (requests (raised s h) g c level snapshot x wanted)
+  starts fails h g c level snapshot x wanted n =
+      both s before k fails (is_free s.locks.holds wanted) (runs_locked (raised s h) g c level snapshot x wanted) (suspends (raised s h) g c level snapshot x wanted)
       (hold-items s.node s.node before wanted fails _
-      (slice_runs s (before ++ hold_mark s.node wanted ∷ []) (hold-holds s.node s.node s before wanted k) fails (raised s h).horizon (with_hold s.locks wanted) g c snapshot x (still g wanted n)))
+      (slice_runs s (before ++ hold_mark s.node wanted ∷ []) (hold-holds s.node s.node s before wanted k) fails (raised s h).horizon (with_hold s.locks wanted) g c level snapshot x (still g wanted n)))
       (dull-turn s before k fails _ (tt, tt) refl (none-kept s before k fails) refl (bound-with s.locals g.0 _ (λ i. is_prepared before s.node (gx i)) k.bound (k.bound g.0)))
 
   -- a slice that goes on
@@ -292,7 +315,7 @@ module _ (script : Script) (s : Seg) (opens : AreOpen s) (before : List Mark) (k
       let free : Seg = with_local s g rest in
       let kept : Holds s.node free before = record { versions = k.versions; bound = bound-with s.locals g.0 rest (λ i. is_prepared before s.node (gx i)) k.bound (k.bound g.0) } in
       hold-items s.node s.node before wanted fails _
-      (slice_runs free (before ++ hold_mark s.node wanted ∷ []) (hold-holds s.node s.node free before wanted kept) fails s.horizon (resumed s.locks g (Some wanted)) g x.cid x.snapshot x.slice
+      (slice_runs free (before ++ hold_mark s.node wanted ∷ []) (hold-holds s.node s.node free before wanted kept) fails s.horizon (resumed s.locks g (Some wanted)) g x.cid x.level x.snapshot x.slice
       (still g wanted (open-bound (is_prepared before s.node g) (local_of s g).phase (opens g.0 x e) (k.bound g.0))))
   resume fails g (Some wanted) None e = stay s before k fails
   resume fails g None o e = stay s before k fails
@@ -300,10 +323,10 @@ module _ (script : Script) (s : Seg) (opens : AreOpen s) (before : List Mark) (k
   repeat : (fails : Bool) (g : Gxid) (c : Cid) (l : Local) → Good fails (repeats s g c l)
   repeat fails g c l = both s before k fails (c.0 == l.last) _ _ (kept s before k fails g l.answer) (stay s before k fails)
 
-  take : (fails : Bool) (g : Gxid) (c : Cid) (level : Level) (snapshot : Option Snapshot) (h : Gxid) (x : Slice) (l : Local) → is_prepared before s.node g ≡ false → Good fails (takes s g c level snapshot h x l)
-  take fails g c level snapshot h x l n = both s before k fails (nat_lt l.last c.0) _ _ (starts fails h g c level snapshot x (slice_lock g x) n) (repeat fails g c l)
+  take : (fails : Bool) (g : Gxid) (c : Cid) (level : Level) (snapshot : Option Snapshot) (h : Gxid) (x : Slice) (l : Local) → is_prepared before s.node g ≡ false → Good fails (takes script s g c level snapshot h x l)
+  take fails g c level snapshot h x l n = both s before k fails (nat_lt l.last c.0) _ _ (starts fails h g c level snapshot x (slice_lock script g x) n) (repeat fails g c l)
 
-  exec : (fails : Bool) (g : Gxid) (c : Cid) (level : Level) (snapshot : Option Snapshot) (h : Gxid) (x : Slice) (l : Local) (p : Phase) → Bound (is_prepared before s.node g) p → Good fails (on_exec s g c level snapshot h x l p)
+  exec : (fails : Bool) (g : Gxid) (c : Cid) (level : Level) (snapshot : Option Snapshot) (h : Gxid) (x : Slice) (l : Local) (p : Phase) → Bound (is_prepared before s.node g) p → Good fails (on_exec script s g c level snapshot h x l p)
   exec fails g c level snapshot h x l Reading n = take fails g c level snapshot h x l n
   exec fails g c level snapshot h x l Writing n = take fails g c level snapshot h x l n
   exec fails g c level snapshot h x l Prepared n = repeat fails g c l

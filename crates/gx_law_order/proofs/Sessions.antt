@@ -4,6 +4,7 @@ use Rattle.std.proofs.lemmas.Bool.{eqb-true}
 use Rattle.std.proofs.lemmas.Bool.Decides.{nat_tests}
 use Rattle.gx_lemmas.proofs.Numbers.{eqb-of}
 use Rattle.gx_ids.specs.declared.ids.Gxid.{Gxid}
+use Rattle.gx_script.specs.declared.Script.{Script}
 use Rattle.gx_script.specs.declared.state.Block.{Block}
 use Rattle.gx_script.specs.declared.state.Block.TheVariants.{Outside, Open}
 use Rattle.gx_script.specs.declared.state.Pending.{Pending}
@@ -64,11 +65,11 @@ pub record Placed (s : ℕ) (x : Session) (a : Stage) (w : Work) : Type 0 where
 abbrev pub stage_of : Coord → ℕ → Stage
 stage_of c g = stage (find_txn c.table (gx g))
 
-pub record Kept (c : Coord) : Type 0 where
+pub record Kept (script : Script) (c : Coord) : Type 0 where
   pub whole : IsWhole c.table
   pub tied : (g : ℕ) → Tied (stage_of c g) g (c.works g) (c.sessions (c.works g).session.0)
   pub placed : (s : ℕ) → Placed s (c.sessions s) (stage_of c (c.sessions s).transaction.0) (c.works (c.sessions s).transaction.0)
-  pub queued : (g : ℕ) → IsQueued g (c.works g).waiting c.locks.waits
+  pub queued : (g : ℕ) → IsQueued script g (c.works g).waiting c.locks.waits
 
 -- facts moved along equations
 tied-by : (a b : Stage) (g : ℕ) (w v : Work) (x y : Session) → b ≡ a → v ≡ w → y ≡ x → Tied a g w x → Tied b g v y
@@ -119,14 +120,14 @@ idle-tied a h w x y t e f =
         differ q = grind arith
 
 -- A CHANGE AT ONE TRANSACTION AND ITS SESSION
-pub record Change (c d : Coord) (g s : ℕ) (now : Option Txn) (w : Work) (x : Session) : Type 0 where
+pub record Change (script : Script) (c d : Coord) (g s : ℕ) (now : Option Txn) (w : Work) (x : Session) : Type 0 where
   pub whole : IsWhole d.table
   pub finds : (j : ℕ) → find_txn d.table (gx j) ≡ (if eqb j g then now else find_txn c.table (gx j))
   pub works : (j : ℕ) → d.works j ≡ (if eqb j g then w else c.works j)
   pub sessions : (j : ℕ) → d.sessions j ≡ (if eqb j s then x else c.sessions j)
-  pub queues : Queues c.locks.waits d.locks.waits g w.waiting
+  pub queues : Queues script c.locks.waits d.locks.waits g w.waiting
 
-module _ (c d : Coord) (g s : ℕ) (now : Option Txn) (w : Work) (x : Session) (k : Kept c) (ch : Change c d g s now w x) where
+module _ {script : Script} (c d : Coord) (g s : ℕ) (now : Option Txn) (w : Work) (x : Session) (k : Kept script c) (ch : Change script c d g s now w x) where
   abbrev session_at : ℕ → Session
   session_at j = if eqb j s then x else c.sessions j
 
@@ -153,15 +154,15 @@ module _ (c d : Coord) (g s : ℕ) (now : Option Txn) (w : Work) (x : Session) (
       by_test true e = subst (λ q. Placed q x (if eqb x.transaction.0 g then stage now else stage_of c x.transaction.0) (if eqb x.transaction.0 g then w else c.works x.transaction.0)) (sym (eqb-true j s e)) new
       by_test false e = old j e
 
-  queued-here : (h : ℕ) → IsQueued h (d.works h).waiting d.locks.waits
+  queued-here : (h : ℕ) → IsQueued script h (d.works h).waiting d.locks.waits
   queued-here h = queued-by h _ _ d.locks.waits (ap (λ (v : Work). v.waiting) (ch.works h)) (by_test (eqb h g) refl)
     where
-      by_test : (b : Bool) → eqb h g ≡ b → IsQueued h (if b then w else c.works h).waiting d.locks.waits
-      by_test true e = subst (λ i. IsQueued i w.waiting d.locks.waits) (sym (eqb-true h g e)) ch.queues.here
+      by_test : (b : Bool) → eqb h g ≡ b → IsQueued script h (if b then w else c.works h).waiting d.locks.waits
+      by_test true e = subst (λ i. IsQueued script i w.waiting d.locks.waits) (sym (eqb-true h g e)) ch.queues.here
       by_test false e = record { claims = ch.queues.others h e ∙ (k.queued h).claims; locks = (k.queued h).locks }
 
   -- the session's own transaction
-  pub kept-own : (c.sessions s).transaction.0 ≡ g → (c.works g).session.0 ≡ s → Tied (stage now) g w (session_at w.session.0) → (x.transaction.0 ≡ g) → Placed s x (stage now) w → Kept d
+  pub kept-own : (c.sessions s).transaction.0 ≡ g → (c.works g).session.0 ≡ s → Tied (stage now) g w (session_at w.session.0) → (x.transaction.0 ≡ g) → Placed s x (stage now) w → Kept script d
   kept-own mine home new same_txn newp =
       record {
         whole = ch.whole;
@@ -187,7 +188,7 @@ module _ (c d : Coord) (g s : ℕ) (now : Option Txn) (w : Work) (x : Session) (
       elsewhere j e false q = k.placed j
 
   -- a new transaction of an idle session
-  pub kept-new : find_txn c.table (gx g) ≡ None → (c.sessions s).state.block ≡ Outside → (c.sessions s).state.pending ≡ pending.Nothing → Tied (stage now) g w (session_at w.session.0) → (x.transaction.0 ≡ g) → Placed s x (stage now) w → Kept d
+  pub kept-new : find_txn c.table (gx g) ≡ None → (c.sessions s).state.block ≡ Outside → (c.sessions s).state.pending ≡ pending.Nothing → Tied (stage now) g w (session_at w.session.0) → (x.transaction.0 ≡ g) → Placed s x (stage now) w → Kept script d
   kept-new fresh outside idle new same_txn newp =
       record {
         whole = ch.whole;
@@ -251,14 +252,14 @@ quiet-placed s x a b w (inr n) t = record { stands = λ o. absurd (not-said (t.s
         closing : (a : Stage) → is_said a ≡ false → a ≡ Closing → ⊥
         closing a e l = grind arith
 
-pub kept-quiet : (c d : Coord) → Kept c → IsWhole d.table → ((j : ℕ) → IsQuiet (stage_of c j) (stage_of d j)) → ((j : ℕ) → d.works j ≡ c.works j) → ((j : ℕ) → d.sessions j ≡ c.sessions j) → d.locks.waits ≡ c.locks.waits → Kept d
-kept-quiet c d k whole q works sessions waits =
+pub kept-quiet : {script : Script} (c d : Coord) → Kept script c → IsWhole d.table → ((j : ℕ) → IsQuiet (stage_of c j) (stage_of d j)) → ((j : ℕ) → d.works j ≡ c.works j) → ((j : ℕ) → d.sessions j ≡ c.sessions j) → d.locks.waits ≡ c.locks.waits → Kept script d
+kept-quiet {script = script} c d k whole q works sessions waits =
     record {
       whole = whole;
       tied = λ g. tied-by _ _ g _ _ _ _ refl (works g) (ap (λ (v : Work). d.sessions v.session.0) (works g) ∙ sessions _) (quiet-tied (stage_of c g) (stage_of d g) g (c.works g) (c.sessions (c.works g).session.0) (q g) (k.tied g));
       placed = λ s. placed-by s _ _ _ _ _ _ (sessions s) (ap (λ (y : Session). stage_of d y.transaction.0) (sessions s)) (ap (λ (y : Session). d.works y.transaction.0) (sessions s) ∙ works _)
           (quiet-placed s (c.sessions s) (stage_of c (c.sessions s).transaction.0) (stage_of d (c.sessions s).transaction.0) (c.works (c.sessions s).transaction.0) (q (c.sessions s).transaction.0) (k.placed s));
-      queued = λ g. subst (λ l. IsQueued g (d.works g).waiting l) (sym waits) (queued-by g _ _ c.locks.waits (ap (λ (v : Work). v.waiting) (works g)) (k.queued g));
+      queued = λ g. subst (λ l. IsQueued script g (d.works g).waiting l) (sym waits) (queued-by g _ _ c.locks.waits (ap (λ (v : Work). v.waiting) (works g)) (k.queued g));
     }
 
 -- A CHANGE OF AN IDLE SESSION ALONE
@@ -281,7 +282,7 @@ idle-same a g w x y e n m o t =
     no-work : (p : Pending) → is_nothing_in p ≡ true → is_working_in p ≡ true → ⊥
     no-work p n l = grind arith
 
-pub kept-idle : (c : Coord) (s : ℕ) (x : Session) → Kept c → x.transaction ≡ (c.sessions s).transaction → is_nothing_in (c.sessions s).state.pending ≡ true → is_nothing_in x.state.pending ≡ true → is_open_in x.state.block ≡ is_open_in (c.sessions s).state.block → Kept (record c { sessions = with_at c.sessions s x })
+pub kept-idle : {script : Script} (c : Coord) (s : ℕ) (x : Session) → Kept script c → x.transaction ≡ (c.sessions s).transaction → is_nothing_in (c.sessions s).state.pending ≡ true → is_nothing_in x.state.pending ≡ true → is_open_in x.state.block ≡ is_open_in (c.sessions s).state.block → Kept script (record c { sessions = with_at c.sessions s x })
 kept-idle c s x k e n m o =
     record {
       whole = k.whole;

@@ -23,7 +23,7 @@ use Rattle.gx_rules.specs.Fits.{is_right_slice, reads_nothing}
 use Rattle.gx_rules.specs.Machine.{Letter, World, posted}
 use Rattle.gx_rules.specs.Segments.{Local, Phase, Seg, Suspended, local_of}
 use Rattle.gx_rules.specs.Segments.Phase.{Reading, Writing}
-use Rattle.gx_rules.specs.Slices.{slice_lock}
+use Rattle.gx_rules.specs.Running.{slice_lock}
 use Rattle.gx_law_order.proofs.Letters.{IsFound, IsLetter}
 use Rattle.gx_law_order.proofs.Lists.{Each, get_last}
 use Rattle.gx_law_order.proofs.Sent.{at}
@@ -140,6 +140,10 @@ is_open_phase Reading = true
 is_open_phase Writing = true
 is_open_phase _ = false
 
+-- what a slice waits for
+abbrev pub IsWanted : Script → Gxid → Suspended → Claim → Type 0
+IsWanted script g x wanted = slice_lock script g x.slice ≡ wanted
+
 -- Of a slice that waits: its EXEC has come and has raised the horizon; it is right for the script and has its snapshot, unless it
 -- reads nothing; it is of the transaction's last command there, which isn't answered; the transaction has neither promised anything nor ended there; and
 -- what it waits for is its table's lock.
@@ -153,7 +157,9 @@ pub record Waits (script : Script) (w : World) (i : ℕ) (g : Gxid) (x : Suspend
   pub last : (local_of (w.segs i) g).last ≡ x.cid.0
   pub unanswered : (local_of (w.segs i) g).answer ≡ None
   pub opens : is_open_phase (local_of (w.segs i) g).phase ≡ true
-  pub wants : wait_of (w.segs i).locks g ≡ slice_lock g x.slice
+  pub wanted : Claim
+  pub wants : wait_of (w.segs i).locks g ≡ Some wanted
+  pub lock : IsWanted script g x wanted
 
 -- the same of a transaction's record, but for the locks, where `Come` says what has come and `top` is the horizon
 pub record Stands (script : Script) (Come : Message → Type 0) (top : Gxid) (g : Gxid) (l : Local) (x : Suspended) : Type 0 where
@@ -167,14 +173,15 @@ pub record Stands (script : Script) (Come : Message → Type 0) (top : Gxid) (g 
   pub unanswered : l.answer ≡ None
   pub opens : is_open_phase l.phase ≡ true
 
--- the claims that a transaction's slice waits for
-abbrev pub one_claim : Option Claim → List Claim
-one_claim None = []
-one_claim (Some wanted) = wanted ∷ []
+-- the waits of a transaction are its slice's, which has one
+pub record IsWait (script : Script) (g : Gxid) (x : Suspended) (those : List Claim) : Type 0 where
+  pub wanted : Claim
+  pub lock : IsWanted script g x wanted
+  pub alone : those ≡ wanted ∷ []
 
-abbrev pub claims_of : Gxid → Option Suspended → List Claim
-claims_of g None = []
-claims_of g (Some x) = one_claim (slice_lock g x.slice)
+abbrev pub AreWaits : Script → Gxid → Option Suspended → List Claim → Type 0
+AreWaits script g None those = those ≡ []
+AreWaits script g (Some x) those = IsWait script g x those
 
 abbrev pub Suits : Script → (Message → Type 0) → Gxid → ℕ → Local → Type 0
 Suits script Come top h l = (x : Suspended) → l.suspended ≡ Some x → Stands script Come top (gx h) l x
@@ -182,7 +189,7 @@ Suits script Come top h l = (x : Suspended) → l.suspended ≡ Some x → Stand
 -- Each slice that waits at a segment stands so; and the waits there are those of the slices, one a transaction.
 pub record AreSuspended (script : Script) (Come : Message → Type 0) (s : Seg) : Type 0 where
   pub each : (h : ℕ) → Suits script Come s.horizon h (s.locals h)
-  pub own : (h : ℕ) → filter (is_of (gx h)) s.locks.waits ≡ claims_of (gx h) (s.locals h).suspended
+  pub own : (h : ℕ) → AreWaits script (gx h) (s.locals h).suspended (filter (is_of (gx h)) s.locks.waits)
 
 -- the first of those that pass
 pub find-filter : {A : Type 0} (p : A → Bool) (xs ys : List A) → filter p xs ≡ ys → find p xs ≡ slice_get ys 0
@@ -193,14 +200,11 @@ find-filter p (x ∷ xs) ys e = by_test (p x) refl e (find-filter p xs ys)
     by_test true q e later = ap (λ z. slice_get z 0) e
     by_test false q e later = later e
 
-pub first-claim : (o : Option Claim) → slice_get (one_claim o) 0 ≡ o
-first-claim None = refl
-first-claim (Some wanted) = refl
-
 -- so it waits
 pub waits-there : (script : Script) (w : World) (i : ℕ) → AreSuspended script (HasCome w i) (w.segs i) → (g : Gxid) (x : Suspended) → (local_of (w.segs i) g).suspended ≡ Some x → Waits script w i g x
 waits-there script w i k g x e =
     let a = k.each g.0 x e in
+    let b : IsWait script g x (filter (is_of g) (w.segs i).locks.waits) = subst (λ o. AreWaits script g o (filter (is_of g) (w.segs i).locks.waits)) e (k.own g.0) in
     record {
       horizon = a.horizon;
       come = a.come;
@@ -211,7 +215,9 @@ waits-there script w i k g x e =
       last = a.last;
       unanswered = a.unanswered;
       opens = a.opens;
-      wants = find-filter (is_of g) (w.segs i).locks.waits (claims_of g (local_of (w.segs i) g).suspended) (k.own g.0) ∙ ap (λ o. slice_get (claims_of g o) 0) e ∙ first-claim (slice_lock g x.slice);
+      wanted = b.wanted;
+      wants = find-filter (is_of g) (w.segs i).locks.waits (b.wanted ∷ []) b.alone;
+      lock = b.lock;
     }
 
 -- what has come and how high the horizon is may only grow

@@ -8,16 +8,18 @@ use Rattle.gx_lemmas.proofs.Numbers.{eqb-self, eqb-turned}
 use Rattle.gx_ids.specs.declared.ids.Cid.{Cid}
 use Rattle.gx_ids.specs.declared.ids.Gxid.{Gxid}
 use Rattle.gx_ids.specs.declared.ids.Table.{Table}
+use Rattle.gx_ids.specs.declared.rid.Rid.{Rid}
 use Rattle.gx_tree.specs.declared.query.Query.{Query}
 use Rattle.gx_tree.specs.declared.row.KeyedRow.{KeyedRow}
 use Rattle.gx_tree.specs.declared.slice.Slice.{Slice}
 use Rattle.gx_tree.specs.declared.slice.Slice.TheVariants as slice
 use Rattle.gx_tree.specs.declared.stmt.Level.{Level}
+use Rattle.gx_tree.specs.declared.value.Value.{Value}
 use Rattle.gx_dsnap.specs.Gxids.{is_below}
 use Rattle.gx_dsnap.specs.declared.snapshot.Snapshot.{Snapshot}
 use Rattle.gx_waits.specs.declared.claim.Claim.{Claim}
 use Rattle.gx_locks.specs.Claims.{is_of}
-use Rattle.gx_locks.specs.Locks.{Locks, is_free, resumed, wait_of, without}
+use Rattle.gx_locks.specs.Locks.{Locks, is_free, wait_of, without}
 use Rattle.gx_meaning.specs.declared.fault.ArithFault.{ArithFault}
 use Rattle.gx_msg.specs.declared.message.Message.{Message}
 use Rattle.gx_msg.specs.declared.message.Message.TheVariants as message
@@ -32,9 +34,10 @@ use Rattle.gx_rules.specs.Locks.{with_hold, with_wait}
 use Rattle.gx_rules.specs.Segments.{Local, Phase, Seg, SegTurn, Suspended, local_of, tells_kept, with_local}
 use Rattle.gx_rules.specs.Segments.Phase.{Aborted, Committed, Forgotten, Prepared, Reading, Writing}
 use Rattle.gx_rules.specs.Shown.{shown}
-use Rattle.gx_rules.specs.Slices.{Moved, first_fault, inserted, inserts_row, requests, runs_locked, runs_slice, selects, slice_lock, suspended_slice, suspends}
+use Rattle.gx_rules.specs.Running.{goes_on, is_granted, requests, runs_locked, runs_slice, slice_lock, suspended_slice, suspends}
+use Rattle.gx_rules.specs.Slices.{Moved, first_fault, inserted, inserts_row, own_lock, selects, starts_from, takes_lock, takes_own, writes_row}
 use Rattle.gx_law_order.proofs.Stages.{gx}
-use Rattle.gx_law_order.proofs.Suspended.{AreSuspended, Stands, Suits, claims_of, is_open_phase, one_claim, stands-later}
+use Rattle.gx_law_order.proofs.Suspended.{AreSuspended, AreWaits, IsWanted, Stands, Suits, is_open_phase, stands-later}
 
 -- THE WAITS OF ONE AND OF THE OTHERS
 filter-more : {A : Type 0} (p : A → Bool) (xs : List A) (x : A) (b : Bool) → p x ≡ b → filter p (xs ++ x ∷ []) ≡ filter p xs ++ cond b (x ∷ []) []
@@ -65,21 +68,16 @@ others-left g h (x ∷ xs) n = by_test (is_of g x) refl (others-left g h xs n)
     by_test false q e = ap (λ z. cond (is_of h x) (x ∷ z) z) e
 
 -- a slice's lock is its transaction's
-lock-owner : (g : Gxid) (x : Slice) (wanted : Claim) → slice_lock g x ≡ Some wanted → wanted.gxid ≡ g
-lock-owner g (slice.Select query) wanted e = sym (owner _ wanted e)
-  where
-    owner : (a b : Claim) → Some a ≡ Some b → a.gxid ≡ b.gxid
-    owner a b q = cc
-lock-owner g (slice.Insert table rows) wanted e = sym (owner _ wanted e)
-  where
-    owner : (a b : Claim) → Some a ≡ Some b → a.gxid ≡ b.gxid
-    owner a b q = cc
-lock-owner g (slice.Update table assigns cond) wanted e = absurd (cc)
-lock-owner g (slice.Delete table cond) wanted e = absurd (cc)
-lock-owner g (slice.Lock table mode) wanted e = sym (owner _ wanted e)
-  where
-    owner : (a b : Claim) → Some a ≡ Some b → a.gxid ≡ b.gxid
-    owner a b q = cc
+lock-owner : (script : Script) (g : Gxid) (x : Slice) → (slice_lock script g x).gxid ≡ g
+lock-owner script g (slice.Select query) = refl
+lock-owner script g (slice.Insert table rows) = refl
+lock-owner script g (slice.Update table assigns cond) = refl
+lock-owner script g (slice.Delete table cond) = refl
+lock-owner script g (slice.Lock table mode) = refl
+
+-- and so is what it waits for
+pub wanted-owner : (script : Script) (g : Gxid) (x : Suspended) (wanted : Claim) → IsWanted script g x wanted → wanted.gxid ≡ g
+wanted-owner script g x wanted e = ap (λ (c : Claim). c.gxid) (sym e) ∙ lock-owner script g x.slice
 
 -- WHERE NOBODY OF A TRANSACTION WAITS
 pub nothing-suits : (script : Script) (Come : Message → Type 0) (top : Gxid) (h : ℕ) (l : Local) → l.suspended ≡ None → Suits script Come top h l
@@ -141,21 +139,25 @@ module _ (script : Script) (Come : Message → Type 0) where
   both false x y e f = f
 
   -- one transaction changes, with the waits that are its own
-  changed : (s : Seg) (g : Gxid) (l : Local) (locks : Locks) → Rightly s → Suits script Come s.horizon g.0 l → filter (is_of g) locks.waits ≡ claims_of g l.suspended → ((h : ℕ) → eqb h g.0 ≡ false → filter (is_of (gx h)) locks.waits ≡ filter (is_of (gx h)) s.locks.waits) → Rightly (record (with_local s g l) { locks = locks })
+  changed : (s : Seg) (g : Gxid) (l : Local) (locks : Locks) → Rightly s → Suits script Come s.horizon g.0 l → AreWaits script g l.suspended (filter (is_of g) locks.waits) → ((h : ℕ) → eqb h g.0 ≡ false → filter (is_of (gx h)) locks.waits ≡ filter (is_of (gx h)) s.locks.waits) → Rightly (record (with_local s g l) { locks = locks })
   changed s g l locks k suits own others = record { each = λ h. each_by h (eqb h g.0) refl; own = λ h. own_by h (eqb h g.0) refl }
     where
       each_by : (h : ℕ) (b : Bool) → eqb h g.0 ≡ b → Suits script Come s.horizon h (if b then l else s.locals h)
       each_by h true e = subst (λ j. Suits script Come s.horizon j l) (sym (eqb-true h g.0 e)) suits
       each_by h false e = k.each h
 
-      own_by : (h : ℕ) (b : Bool) → eqb h g.0 ≡ b → filter (is_of (gx h)) locks.waits ≡ claims_of (gx h) (if b then l else s.locals h).suspended
-      own_by h true e = subst (λ j. filter (is_of (gx j)) locks.waits ≡ claims_of (gx j) l.suspended) (sym (eqb-true h g.0 e)) own
-      own_by h false e = others h e ∙ k.own h
+      own_by : (h : ℕ) (b : Bool) → eqb h g.0 ≡ b → AreWaits script (gx h) (if b then l else s.locals h).suspended (filter (is_of (gx h)) locks.waits)
+      own_by h true e = subst (λ j. AreWaits script (gx j) l.suspended (filter (is_of (gx j)) locks.waits)) (sym (eqb-true h g.0 e)) own
+      own_by h false e = subst (AreWaits script (gx h) (s.locals h).suspended) (sym (others h e)) (k.own h)
+
+  -- of whom none waits there is no wait
+  no-waits : (s : Seg) (g : Gxid) → Rightly s → (local_of s g).suspended ≡ None → filter (is_of g) s.locks.waits ≡ []
+  no-waits s g k was = subst (λ o. AreWaits script g o (filter (is_of g) s.locks.waits)) was (k.own g.0)
 
   -- one of whom none waits goes on so
   resting : (s : Seg) (g : Gxid) (l : Local) → Rightly s → (local_of s g).suspended ≡ None → l.suspended ≡ None → Rightly (with_local s g l)
   resting s g l k was is =
-      let a = changed s g l s.locks k (nothing-suits script Come s.horizon g.0 l is) (k.own g.0 ∙ ap (claims_of g) was ∙ sym (ap (claims_of g) is)) (λ h n. refl) in
+      let a = changed s g l s.locks k (nothing-suits script Come s.horizon g.0 l is) (subst (λ o. AreWaits script g o (filter (is_of g) s.locks.waits)) (sym is) (no-waits s g k was)) (λ h n. refl) in
       record { each = a.each; own = a.own }
 
   self : (s : Seg) (g : Gxid) (l : Local) → (with_local s g l).locals g.0 ≡ l
@@ -166,27 +168,50 @@ module _ (script : Script) (Come : Message → Type 0) where
   select t g c q rows None k e = resting t g _ k e e
   select t g c q rows (Some f) k e = resting t g _ k e e
 
-  insert_rows : (g : Gxid) (c : Cid) (table : Table) (rows : List KeyedRow) (m : Moved) → Rightly m.seg → (local_of m.seg g).suspended ≡ None → Rightly (fold (inserts_row g c table) m rows).seg × ((local_of (fold (inserts_row g c table) m rows).seg g).suspended ≡ None)
-  insert_rows g c table [] m k e = (k, e)
-  insert_rows g c table (r ∷ rs) m k e =
-      let a = resting m.seg g (record (local_of m.seg g) { phase = Writing }) k e e in
-      insert_rows g c table rs (inserts_row g c table m r) (record { each = a.each; own = a.own }) (ap (λ (l : Local). l.suspended) (self m.seg g (record (local_of m.seg g) { phase = Writing })) ∙ e)
+  -- what the rows so far have made of the segment: it is right, and none of the transaction waits
+  record Goes (g : Gxid) (m : Moved) : Type 0 where
+    rightly : Rightly m.seg
+    rests : (local_of m.seg g).suspended ≡ None
 
-  slice_runs : (t : Seg) (g : Gxid) (c : Cid) (snapshot : Option Snapshot) (x : Slice) → Rightly t → (local_of t g).suspended ≡ None → Keeps (runs_slice t g c snapshot x)
-  slice_runs t g c (Some snapshot) (slice.Select q) k e = select t g c q (shown t snapshot g c q.table) (first_fault q.cond (shown t snapshot g c q.table)) k e
-  slice_runs t g c (Some snapshot) (slice.Insert table rows) k e =
-      let a = insert_rows g c table rows (record { seg = t; marks = [] }) k e in
-      resting (inserted t g c table rows).seg g _ a.0 a.1 a.1
-  slice_runs t g c None (slice.Select q) k e = k
-  slice_runs t g c None (slice.Insert table rows) k e = k
-  slice_runs t g c snapshot (slice.Lock table mode) k e = resting t g _ k e e
-  slice_runs t g c snapshot (slice.Update table assigns cond) k e = k
-  slice_runs t g c snapshot (slice.Delete table cond) k e = k
+  lock_goes : (g : Gxid) (wanted : Claim) (m : Moved) → Goes g m → Goes g (takes_lock wanted m)
+  lock_goes g wanted m e = record { rightly = record { each = e.rightly.each; own = e.rightly.own }; rests = e.rests }
+
+  own_goes : (g : Gxid) (p : Phase) (m : Moved) → Goes g m → Goes g (takes_own g p m)
+  own_goes g Reading m e = lock_goes g (own_lock g) m e
+  own_goes g Writing m e = e
+  own_goes g Prepared m e = e
+  own_goes g Committed m e = e
+  own_goes g (Forgotten b) m e = e
+  own_goes g Aborted m e = e
+
+  write_goes : (g : Gxid) (c : Cid) (table : Table) (m : Moved) (rid : Rid) (image : Option (List Value)) → Goes g m → Goes g (writes_row g c table m rid image)
+  write_goes g c table m rid image e =
+      let l : Local = record (local_of m.seg g) { phase = Writing } in
+      let a = resting m.seg g l e.rightly e.rests e.rests in
+      own_goes g (local_of m.seg g).phase _ (record { rightly = record { each = a.each; own = a.own }; rests = ap (λ (l : Local). l.suspended) (self m.seg g l) ∙ e.rests })
+
+  insert_rows : (g : Gxid) (c : Cid) (table : Table) (rows : List KeyedRow) (m : Moved) → Goes g m → Goes g (fold (inserts_row g c table) m rows)
+  insert_rows g c table [] m e = e
+  insert_rows g c table (r ∷ rs) m e = insert_rows g c table rs (inserts_row g c table m r) (write_goes g c table m r.rid (Some r.row) e)
+
+  slice_runs : (t : Seg) (g : Gxid) (c : Cid) (level : Level) (snapshot : Option Snapshot) (x : Slice) → Rightly t → (local_of t g).suspended ≡ None → Keeps (runs_slice t g c level snapshot x)
+  slice_runs t g c level (Some snapshot) (slice.Select q) k e = select t g c q (shown t snapshot g c q.table) (first_fault q.cond (shown t snapshot g c q.table)) k e
+  slice_runs t g c level (Some snapshot) (slice.Insert table rows) k e =
+      let a = insert_rows g c table rows (starts_from t) (record { rightly = k; rests = e }) in
+      resting (inserted t g c table rows).seg g _ a.rightly a.rests a.rests
+  slice_runs t g c level None (slice.Select q) k e = k
+  slice_runs t g c level None (slice.Insert table rows) k e = k
+  slice_runs t g c level snapshot (slice.Lock table mode) k e = resting t g _ k e e
+  slice_runs t g c level snapshot (slice.Update table assigns cond) k e = k
+  slice_runs t g c level snapshot (slice.Delete table cond) k e = k
 
   -- it is suspended
-  suspend : (t : Seg) (g : Gxid) (c : Cid) (level : Level) (snapshot : Option Snapshot) (h : Gxid) (x : Slice) (wanted : Claim) → Rightly t → Come (message.Exec g c level snapshot h x) → h.0 ≤ t.horizon.0 → FitsNew script g c snapshot x (local_of t g) → nat_lt (local_of t g).last c.0 ≡ true → is_open_phase (local_of t g).phase ≡ true → slice_lock g x ≡ Some wanted → Keeps (suspends t g c level snapshot x wanted)
-  suspend t g c level snapshot h x wanted k come up fits new opens is = changed t g _ (with_wait t.locks wanted) k suits own others
+  suspend : (t : Seg) (g : Gxid) (c : Cid) (level : Level) (snapshot : Option Snapshot) (h : Gxid) (x : Slice) → Rightly t → Come (message.Exec g c level snapshot h x) → h.0 ≤ t.horizon.0 → FitsNew script g c snapshot x (local_of t g) → nat_lt (local_of t g).last c.0 ≡ true → is_open_phase (local_of t g).phase ≡ true → Keeps (suspends t g c level snapshot x (slice_lock script g x))
+  suspend t g c level snapshot h x k come up fits new opens = changed t g _ (with_wait t.locks wanted) k suits (record { wanted = wanted; lock = refl; alone = alone }) others
     where
+      wanted : Claim
+      wanted = slice_lock script g x
+
       l : Local
       l = record (local_of t g) { last = c.0; answer = None; suspended = Some (suspended_slice c level snapshot x) }
 
@@ -199,12 +224,12 @@ module _ (script : Script) (Come : Message → Type 0) where
           (record { horizon = h; come = come; raised = up; right = fits.right; reads = fits.reads; numbered = positive (local_of t g).last c.0 new; last = refl; unanswered = refl; opens = opens })
 
       owner : wanted.gxid ≡ g
-      owner = lock-owner g x wanted is
+      owner = lock-owner script g x
 
-      own : filter (is_of g) (t.locks.waits ++ wanted ∷ []) ≡ one_claim (slice_lock g x)
-      own =
+      alone : filter (is_of g) (t.locks.waits ++ wanted ∷ []) ≡ wanted ∷ []
+      alone =
           filter-more (is_of g) t.locks.waits wanted true (ap (λ (q : Gxid). eqb q.0 g.0) owner ∙ eqb-self g.0)
-          ∙ ap (λ q. q ++ wanted ∷ []) (k.own g.0 ∙ ap (claims_of g) (fits.rests new)) ∙ sym (ap one_claim is)
+          ∙ ap (λ q. q ++ wanted ∷ []) (no-waits t g k (fits.rests new))
 
       nil-end : (xs : List Claim) → xs ++ [] ≡ xs
       nil-end [] = refl
@@ -213,12 +238,11 @@ module _ (script : Script) (Come : Message → Type 0) where
       others : (i : ℕ) → eqb i g.0 ≡ false → filter (is_of (gx i)) (t.locks.waits ++ wanted ∷ []) ≡ filter (is_of (gx i)) t.locks.waits
       others i n = filter-more (is_of (gx i)) t.locks.waits wanted false (ap (λ (q : Gxid). eqb q.0 i) owner ∙ eqb-turned i g.0 n) ∙ nil-end (filter (is_of (gx i)) t.locks.waits)
 
-  start : (t : Seg) (g : Gxid) (c : Cid) (level : Level) (snapshot : Option Snapshot) (h : Gxid) (x : Slice) (o : Option Claim) → Rightly t → Come (message.Exec g c level snapshot h x) → h.0 ≤ t.horizon.0 → FitsNew script g c snapshot x (local_of t g) → nat_lt (local_of t g).last c.0 ≡ true → is_open_phase (local_of t g).phase ≡ true → slice_lock g x ≡ o → Keeps (requests t g c level snapshot x o)
-  start t g c level snapshot h x None k come up fits new opens is = slice_runs t g c snapshot x k (fits.rests new)
-  start t g c level snapshot h x (Some wanted) k come up fits new opens is =
-      both (is_free t.locks.holds wanted) (runs_locked t g c snapshot x wanted) (suspends t g c level snapshot x wanted)
-      (slice_runs (record t { locks = with_hold t.locks wanted }) g c snapshot x (record { each = k.each; own = k.own }) (fits.rests new))
-      (suspend t g c level snapshot h x wanted k come up fits new opens is)
+  start : (t : Seg) (g : Gxid) (c : Cid) (level : Level) (snapshot : Option Snapshot) (h : Gxid) (x : Slice) → Rightly t → Come (message.Exec g c level snapshot h x) → h.0 ≤ t.horizon.0 → FitsNew script g c snapshot x (local_of t g) → nat_lt (local_of t g).last c.0 ≡ true → is_open_phase (local_of t g).phase ≡ true → Keeps (requests t g c level snapshot x (slice_lock script g x))
+  start t g c level snapshot h x k come up fits new opens =
+      both (is_free t.locks.holds (slice_lock script g x)) (runs_locked t g c level snapshot x (slice_lock script g x)) (suspends t g c level snapshot x (slice_lock script g x))
+      (slice_runs (record t { locks = with_hold t.locks (slice_lock script g x) }) g c level snapshot x (record { each = k.each; own = k.own }) (fits.rests new))
+      (suspend t g c level snapshot h x k come up fits new opens)
 
   module _ (s : Seg) (k : Rightly s) where
     -- the horizon is raised
@@ -245,14 +269,14 @@ module _ (script : Script) (Come : Message → Type 0) where
     repeat : (g : Gxid) (c : Cid) (l : Local) → Keeps (repeats s g c l)
     repeat g c l = both (c.0 == l.last) _ _ (tell_kept g l.answer) k
 
-    take : (g : Gxid) (c : Cid) (level : Level) (snapshot : Option Snapshot) (h : Gxid) (x : Slice) → Come (message.Exec g c level snapshot h x) → FitsNew script g c snapshot x (local_of s g) → is_open_phase (local_of s g).phase ≡ true → Keeps (takes s g c level snapshot h x (local_of s g))
+    take : (g : Gxid) (c : Cid) (level : Level) (snapshot : Option Snapshot) (h : Gxid) (x : Slice) → Come (message.Exec g c level snapshot h x) → FitsNew script g c snapshot x (local_of s g) → is_open_phase (local_of s g).phase ≡ true → Keeps (takes script s g c level snapshot h x (local_of s g))
     take g c level snapshot h x come fits opens = by_test (nat_lt (local_of s g).last c.0) refl
       where
-        by_test : (b : Bool) → nat_lt (local_of s g).last c.0 ≡ b → Keeps (if b then requests (raised s h) g c level snapshot x (slice_lock g x) else repeats s g c (local_of s g))
-        by_test true new = start (raised s h) g c level snapshot h x (slice_lock g x) (raise h) come (higher h).1 fits new opens refl
+        by_test : (b : Bool) → nat_lt (local_of s g).last c.0 ≡ b → Keeps (if b then requests (raised s h) g c level snapshot x (slice_lock script g x) else repeats s g c (local_of s g))
+        by_test true new = start (raised s h) g c level snapshot h x (raise h) come (higher h).1 fits new opens
         by_test false new = repeat g c (local_of s g)
 
-    exec : (g : Gxid) (c : Cid) (level : Level) (snapshot : Option Snapshot) (h : Gxid) (x : Slice) (p : Phase) → Come (message.Exec g c level snapshot h x) → FitsNew script g c snapshot x (local_of s g) → (local_of s g).phase ≡ p → Keeps (on_exec s g c level snapshot h x (local_of s g) p)
+    exec : (g : Gxid) (c : Cid) (level : Level) (snapshot : Option Snapshot) (h : Gxid) (x : Slice) (p : Phase) → Come (message.Exec g c level snapshot h x) → FitsNew script g c snapshot x (local_of s g) → (local_of s g).phase ≡ p → Keeps (on_exec script s g c level snapshot h x (local_of s g) p)
     exec g c level snapshot h x Reading come fits e = take g c level snapshot h x come fits (ap is_open_phase e)
     exec g c level snapshot h x Writing come fits e = take g c level snapshot h x come fits (ap is_open_phase e)
     exec g c level snapshot h x Prepared come fits e = repeat g c (local_of s g)
@@ -353,11 +377,19 @@ module _ (script : Script) (Come : Message → Type 0) where
     message_keeps fails (message.Answer g r) come = k
     message_keeps fails (message.Graph round graph) come = k
 
-    resume : (g : Gxid) (w : Option Claim) (o : Option Suspended) → Keeps (resumes s g w o)
-    resume g (Some wanted) (Some x) =
+    granted : (g : Gxid) (wanted : Claim) → Goes g (is_granted s g wanted)
+    granted g wanted =
         let rest : Local = record (local_of s g) { suspended = None } in
-        let free : Seg = record (with_local s g rest) { locks = resumed s.locks g (Some wanted) } in
-        slice_runs free g x.cid x.snapshot x.slice (changed s g rest _ k (nothing-suits script Come s.horizon g.0 rest refl) (none-left g s.locks.waits) (others g)) (ap (λ (l : Local). l.suspended) (self s g rest))
+        record {
+          rightly = changed s g rest _ k (nothing-suits script Come s.horizon g.0 rest refl) (none-left g s.locks.waits) (others g);
+          rests = ap (λ (l : Local). l.suspended) (self s g rest);
+        }
+
+    go_on : (m : Moved) (g : Gxid) (x : Suspended) → Goes g m → Keeps (goes_on m g x)
+    go_on m g x e = slice_runs m.seg g x.cid x.level x.snapshot x.slice e.rightly e.rests
+
+    resume : (g : Gxid) (w : Option Claim) (o : Option Suspended) → Keeps (resumes s g w o)
+    resume g (Some wanted) (Some x) = go_on (is_granted s g wanted) g x (granted g wanted)
     resume g (Some wanted) None = k
     resume g None o = k
 

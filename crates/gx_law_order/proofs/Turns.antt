@@ -5,6 +5,7 @@ use Rattle.std.proofs.lemmas.Bool.Decides.{nat_tests}
 use Rattle.gx_lemmas.proofs.Tests.{true-false}
 use Rattle.gx_lemmas.proofs.Numbers.{eqb-self}
 use Rattle.gx_ids.specs.declared.ids.Gxid.{Gxid}
+use Rattle.gx_script.specs.declared.Script.{Script}
 use Rattle.gx_dtx.specs.Rules.{Turn, ends, with_ended}
 use Rattle.gx_dtx.specs.Table.{Table, find_txn}
 use Rattle.gx_dtx.specs.declared.outcome.Outcome.{Outcome}
@@ -37,13 +38,13 @@ use Rattle.gx_rules.specs.Locks.{release_marks}
 use Rattle.gx_store.specs.Refusals.{the_coordinator}
 
 -- what an event leaves
-pub record Good (before : List Mark) (turn : CoordTurn) : Type 0 where
-  pub kept : Kept turn.coord
+pub record Good (script : Script) (before : List Mark) (turn : CoordTurn) : Type 0 where
+  pub kept : Kept script turn.coord
   pub past : Past turn.coord (before ++ turn.marks)
   pub seen : AreEndedSeen before turn.marks
 
 -- on the way from c, the coordinator stands at c1: one transaction and its session have changed
-pub record Base (c c1 : Coord) (g s : ℕ) (w1 : Work) (y : Session) (said : Stage) : Type 0 where
+pub record Base (script : Script) (c c1 : Coord) (g s : ℕ) (w1 : Work) (y : Session) (said : Stage) : Type 0 where
   pub whole1 : IsWhole c1.table
   pub now1 : Option Txn
   pub stage1 : stage now1 ≡ said
@@ -53,7 +54,7 @@ pub record Base (c c1 : Coord) (g s : ℕ) (w1 : Work) (y : Session) (said : Sta
   pub kind : (((c.sessions s).transaction.0 ≡ g) × ((c.works g).session.0 ≡ s)) ⊎ ((find_txn c.table (gx g) ≡ None) × ((c.sessions s).state.block ≡ Outside) × ((c.sessions s).state.pending ≡ pending.Nothing))
   pub same_txn : y.transaction.0 ≡ g
   pub home1 : w1.session.0 ≡ s
-  pub queues1 : Queues c.locks.waits c1.locks.waits g w1.waiting
+  pub queues1 : Queues script c.locks.waits c1.locks.waits g w1.waiting
 
 pub merged : {A : Type 0} (b : Bool) (x y z v : A) → v ≡ (if b then y else z) → (if b then x else v) ≡ (if b then x else z)
 merged true x y z v e = refl
@@ -94,7 +95,7 @@ no-commit why ns g h e f = committed-append why (mark.Abort (gx g) ∷ ns) (gx h
 abort-seen : (before why ns : List Mark) (g : Gxid) → Each Still why → Each Still ns → AreEndedSeen before (why ++ mark.Abort g ∷ ns)
 abort-seen before why ns g e f = seen-append before why (mark.Abort g ∷ ns) (still-seen before why e) (still-seen (before ++ why ++ mark.Abort g ∷ []) ns f)
 
-module _ (c c1 : Coord) (g s : ℕ) (w1 : Work) (y : Session) (said : Stage) (k : Kept c) (b : Base c c1 g s w1 y said) where
+module _ {script : Script} (c c1 : Coord) (g s : ℕ) (w1 : Work) (y : Session) (said : Stage) (k : Kept script c) (b : Base script c c1 g s w1 y said) where
   pub work-is : c1.works g ≡ w1
   work-is = b.works1 g ∙ ap (λ q. if q then w1 else c.works g) (eqb-self g)
 
@@ -111,10 +112,10 @@ module _ (c c1 : Coord) (g s : ℕ) (w1 : Work) (y : Session) (said : Stage) (k 
   session-set f j =
       ap (λ i. if eqb j i then f (c1.sessions i) else c1.sessions j) home-is ∙ ap (λ x. if eqb j s then f x else c1.sessions j) y-is
 
-  pub base-kept : (d : Coord) (now : Option Txn) (w : Work) (x : Session) → IsWhole d.table → ((j : ℕ) → find_txn d.table (gx j) ≡ (if eqb j g then now else find_txn c1.table (gx j))) → ((j : ℕ) → d.works j ≡ (if eqb j g then w else c1.works j)) → ((j : ℕ) → d.sessions j ≡ (if eqb j s then x else c1.sessions j)) → ((z : Session) → z ≡ (if eqb w.session.0 s then x else c.sessions w.session.0) → Tied (stage now) g w z) → x.transaction.0 ≡ g → Placed s x (stage now) w → Queues c1.locks.waits d.locks.waits g w.waiting → Kept d
+  pub base-kept : (d : Coord) (now : Option Txn) (w : Work) (x : Session) → IsWhole d.table → ((j : ℕ) → find_txn d.table (gx j) ≡ (if eqb j g then now else find_txn c1.table (gx j))) → ((j : ℕ) → d.works j ≡ (if eqb j g then w else c1.works j)) → ((j : ℕ) → d.sessions j ≡ (if eqb j s then x else c1.sessions j)) → ((z : Session) → z ≡ (if eqb w.session.0 s then x else c.sessions w.session.0) → Tied (stage now) g w z) → x.transaction.0 ≡ g → Placed s x (stage now) w → Queues script c1.locks.waits d.locks.waits g w.waiting → Kept script d
   base-kept d now w x whole finds works sessions tied same placed queues = by_kind b.kind
     where
-      ch : Change c d g s now w x
+      ch : Change script c d g s now w x
       ch = record {
         whole = whole;
         finds = λ j. finds j ∙ merged (eqb j g) now b.now1 (find_txn c.table (gx j)) (find_txn c1.table (gx j)) (b.finds1 j);
@@ -123,15 +124,15 @@ module _ (c c1 : Coord) (g s : ℕ) (w1 : Work) (y : Session) (said : Stage) (k 
         queues = queue-then c.locks.waits c1.locks.waits d.locks.waits g w1.waiting w.waiting b.queues1 queues;
       }
 
-      by_kind : (((c.sessions s).transaction.0 ≡ g) × ((c.works g).session.0 ≡ s)) ⊎ ((find_txn c.table (gx g) ≡ None) × ((c.sessions s).state.block ≡ Outside) × ((c.sessions s).state.pending ≡ pending.Nothing)) → Kept d
+      by_kind : (((c.sessions s).transaction.0 ≡ g) × ((c.works g).session.0 ≡ s)) ⊎ ((find_txn c.table (gx g) ≡ None) × ((c.sessions s).state.block ≡ Outside) × ((c.sessions s).state.pending ≡ pending.Nothing)) → Kept script d
       by_kind (inl o) = kept-own c d g s now w x k ch o.0 o.1 (tied _ refl) same placed
       by_kind (inr n) = kept-new c d g s now w x k ch n.0 n.1 n.2 (tied _ refl) same placed
 
   -- the transaction has its mark, and nothing is known of it any more
-  pub reset-kept : (d : Coord) (now : Option Txn) (x : Session) → IsWhole d.table → ((j : ℕ) → find_txn d.table (gx j) ≡ (if eqb j g then now else find_txn c1.table (gx j))) → ((j : ℕ) → d.works j ≡ (if eqb j g then no_work else c1.works j)) → ((j : ℕ) → d.sessions j ≡ (if eqb j s then x else c1.sessions j)) → is_said (stage now) ≡ false → x.transaction.0 ≡ g → is_open_in x.state.block ≡ false → d.locks.waits ≡ without (gx g) c1.locks.waits → Kept d
+  pub reset-kept : (d : Coord) (now : Option Txn) (x : Session) → IsWhole d.table → ((j : ℕ) → find_txn d.table (gx j) ≡ (if eqb j g then now else find_txn c1.table (gx j))) → ((j : ℕ) → d.works j ≡ (if eqb j g then no_work else c1.works j)) → ((j : ℕ) → d.sessions j ≡ (if eqb j s then x else c1.sessions j)) → is_said (stage now) ≡ false → x.transaction.0 ≡ g → is_open_in x.state.block ≡ false → d.locks.waits ≡ without (gx g) c1.locks.waits → Kept script d
   reset-kept d now x whole finds works sessions unsaid same closed waits =
       base-kept d now no_work x whole finds works sessions (λ z e. tied-none (stage now) g z unsaid) same (not-open s x (stage now) no_work closed)
-      (subst (λ l. Queues c1.locks.waits l g None) (sym waits) (queue-released c1.locks.waits g))
+      (subst (λ l. Queues script c1.locks.waits l g None) (sym waits) (queue-released c1.locks.waits g))
 
   pub same-sessions : (j : ℕ) → c1.sessions j ≡ (if eqb j s then y else c1.sessions j)
   same-sessions j = by_test (eqb j s) refl
@@ -155,7 +156,7 @@ module _ (c c1 : Coord) (g s : ℕ) (w1 : Work) (y : Session) (said : Stage) (k 
     back-still = each-released Still the_coordinator c1.locks (gx g) (λ claim. tt)
 
     -- a commit
-    pub closed-good : (turn : Turn) (How : Stage → Stage → Outcome → Type 0) → (t : Turned c1.table g turn How) → is_running said ≡ true → turn.out.outcome ≡ outcome.Committed → ((stage t.now ≡ Finished) ⊎ (stage t.now ≡ Absent)) → is_open_in (after_done y.state).block ≡ false → Good before (is_closed c1 (gx g) turn)
+    pub closed-good : (turn : Turn) (How : Stage → Stage → Outcome → Type 0) → (t : Turned c1.table g turn How) → is_running said ≡ true → turn.out.outcome ≡ outcome.Committed → ((stage t.now ≡ Finished) ⊎ (stage t.now ≡ Absent)) → is_open_in (after_done y.state).block ≡ false → Good script before (is_closed c1 (gx g) turn)
     closed-good turn How t r o how closed =
         let said_last : List Mark = answer_mark c1 (work_of c1 (gx g)).session (answer_at_commit (work_of c1 (gx g)) (session_of c1 (work_of c1 (gx g)).session).state.pending) ∷ release_marks the_coordinator c1.locks (gx g) in
         let still : Each Still said_last = (tt, back-still) in
@@ -212,7 +213,7 @@ module _ (c c1 : Coord) (g s : ℕ) (w1 : Work) (y : Session) (said : Stage) (k 
     unsaid-end a o (inl e) = ap is_said e
     unsaid-end a o (inr e) = ap is_said e.0
 
-    pub refused-good : (turn : Turn) (How : Stage → Stage → Outcome → Type 0) (why : List Mark) (reason : Refused) → (t : Turned c1.table g turn How) → is_running said ≡ true → ((stage t.now ≡ Dropped) ⊎ ((stage t.now ≡ Absent) × (turn.out.outcome ≡ outcome.Ended))) → Each Still why → is_open_in (after_refused y.state).block ≡ false → Good before (is_refused c1 (gx g) turn why reason)
+    pub refused-good : (turn : Turn) (How : Stage → Stage → Outcome → Type 0) (why : List Mark) (reason : Refused) → (t : Turned c1.table g turn How) → is_running said ≡ true → ((stage t.now ≡ Dropped) ⊎ ((stage t.now ≡ Absent) × (turn.out.outcome ≡ outcome.Ended))) → Each Still why → is_open_in (after_refused y.state).block ≡ false → Good script before (is_refused c1 (gx g) turn why reason)
     refused-good turn How why reason t r how e closed =
         let said_last : List Mark = answer_mark c1 (work_of c1 (gx g)).session (told.Refused reason) ∷ release_marks the_coordinator c1.locks (gx g) in
         let still : Each Still said_last = (tt, back-still) in
@@ -222,7 +223,7 @@ module _ (c c1 : Coord) (g s : ℕ) (w1 : Work) (y : Session) (said : Stage) (k 
           seen = abort-seen before why said_last (gx g) e still;
         }
 
-    pub rolled-good : (turn : Turn) (How : Stage → Stage → Outcome → Type 0) (marks : List Mark) → (t : Turned c1.table g turn How) → is_running said ≡ true → ((stage t.now ≡ Dropped) ⊎ ((stage t.now ≡ Absent) × (turn.out.outcome ≡ outcome.Ended))) → Each Still marks → is_open_in y.state.block ≡ false → Good before (rolls_back c1 (gx g) marks turn)
+    pub rolled-good : (turn : Turn) (How : Stage → Stage → Outcome → Type 0) (marks : List Mark) → (t : Turned c1.table g turn How) → is_running said ≡ true → ((stage t.now ≡ Dropped) ⊎ ((stage t.now ≡ Absent) × (turn.out.outcome ≡ outcome.Ended))) → Each Still marks → is_open_in y.state.block ≡ false → Good script before (rolls_back c1 (gx g) marks turn)
     rolled-good turn How marks t r how e closed =
         let all : Each Still (marks ++ release_marks the_coordinator c1.locks (gx g)) = each_append Still marks _ e back-still in
         record {

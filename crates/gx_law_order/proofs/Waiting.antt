@@ -1,8 +1,9 @@
 -- Who waits. A slice that waits at a segment: where it came from, how its transaction stands there meanwhile, and what it does when
 -- it goes on. A statement that waits at the coordinator, and how its transaction and its session stand meanwhile.
-use Rattle.std.proofs.Common.{◌≡◌, ℕ, [], ◌∷◌, Option, Some, None, Bool, true, false, refl, sym, ap, ◌∙◌, ◌&&◌, ◌≤◌, not, nat_lt, arith}
-use Rattle.std.specs.Prelude.{filter, slice_get}
+use Rattle.std.proofs.Common.{◌≡◌, ℕ, List, [], ◌∷◌, Option, Some, None, true, false, refl, sym, subst, ap, ◌∙◌, ◌&&◌, ◌≤◌, not, nat_lt, arith}
+use Rattle.std.specs.Prelude.{filter}
 use Rattle.std.proofs.lemmas.Bool.Decides.{nat_tests}
+use Rattle.gx_lemmas.proofs.Options.{none-some, some-same}
 use Rattle.gx_lemmas.proofs.Tests.{and-second}
 use Rattle.gx_ids.specs.declared.ids.Gxid.{Gxid}
 use Rattle.gx_tree.specs.declared.stmt.Stmt.{Stmt}
@@ -18,17 +19,16 @@ use Rattle.gx_rules.specs.Machine.{World, seg_can}
 use Rattle.gx_rules.specs.Segments.{Seg, Suspended, local_of, Phase, has_ended}
 use Rattle.gx_rules.specs.Fits.{holds_locks}
 use Rattle.gx_rules.specs.Segments.Phase.{Aborted, Committed, Forgotten, Prepared, Reading, Writing}
-use Rattle.gx_rules.specs.Slices.{slice_lock}
 use Rattle.gx_rules.specs.Segments.Phase.{Reading, Writing}
 use Rattle.gx_law_order.proofs.Ordered.{Well}
 use Rattle.gx_law_order.proofs.Sessions.{is_working_in, stage_of, Kept}
 use Rattle.gx_law_order.proofs.Queued.{WaitsFor, claims_for, listed, waits-for}
 use Rattle.gx_law_order.proofs.Stages.{gx}
 use Rattle.gx_law_order.proofs.Statuses.Stage.{Live}
-use Rattle.gx_law_order.proofs.Suspended.{claims_of, find-filter, one_claim, waits-there}
+use Rattle.gx_law_order.proofs.Suspended.{AreWaits, find-filter, waits-there}
 use Rattle.gx_law_order.proofs.Suspensions.{closed-rests}
 use Rattle.gx_law_order.proofs.World.{Knows}
-pub use Rattle.gx_law_order.proofs.Suspended.{HasCome, IsAmong, Waits, each-among, is_open_phase}
+pub use Rattle.gx_law_order.proofs.Suspended.{HasCome, IsAmong, IsWanted, Waits, each-among, is_open_phase}
 
 -- a slice that goes on: it waits, and its lock is free
 pub record GoesOn (script : Script) (w : World) (i : ℕ) (g : Gxid) : Type 0 where
@@ -37,13 +37,14 @@ pub record GoesOn (script : Script) (w : World) (i : ℕ) (g : Gxid) : Type 0 wh
   pub waits : Waits script w i g slice
   pub wanted : Claim
   pub claims : wait_of (w.segs i).locks g ≡ Some wanted
+  pub lock : IsWanted script g slice wanted
   pub free : is_free (w.segs i).locks.holds wanted ≡ true
 
 -- a wait in the locks of a segment: the slice that waits for it, whose lock it is; its transaction has no other
-pub record HasSlice (s : Seg) (g : Gxid) (wanted : Claim) : Type 0 where
+pub record HasSlice (script : Script) (s : Seg) (g : Gxid) (wanted : Claim) : Type 0 where
   pub slice : Suspended
   pub is : (local_of s g).suspended ≡ Some slice
-  pub lock : slice_lock g slice.slice ≡ Some wanted
+  pub lock : IsWanted script g slice wanted
   pub once : filter (is_of g) s.locks.waits ≡ wanted ∷ []
 
 -- who waits at a segment does so by these words
@@ -66,28 +67,24 @@ holds-there script w i g x a = by_phase (local_of (w.segs i) g).last x.cid.0 (lo
     by_phase a b Aborted e f o = absurd (cc)
 
 -- who has a wait in the locks there has a slice that waits for it, and no other wait
-pub has-slice : (script : Script) (w : World) → Well script w → (i : ℕ) (g : Gxid) (wanted : Claim) → wait_of (w.segs i).locks g ≡ Some wanted → HasSlice (w.segs i) g wanted
-has-slice script w good i g wanted e = by_slice (local_of s g).suspended refl (sym e ∙ find-filter (is_of g) s.locks.waits (claims_of g (local_of s g).suspended) own)
+pub has-slice : (script : Script) (w : World) → Well script w → (i : ℕ) (g : Gxid) (wanted : Claim) → wait_of (w.segs i).locks g ≡ Some wanted → HasSlice script (w.segs i) g wanted
+has-slice script w good i g wanted e = by_slice (local_of s g).suspended refl ((good.waiting i).own g.0)
   where
     s : Seg
     s = w.segs i
 
-    own : filter (is_of g) s.locks.waits ≡ claims_of g (local_of s g).suspended
-    own = (good.waiting i).own g.0
+    those : List Claim
+    those = filter (is_of g) s.locks.waits
 
-    one : (o : Option Claim) → Some wanted ≡ slice_get (one_claim o) 0 → o ≡ Some wanted
-    one None q = absurd (cc)
-    one (Some other) q = sym q
-
-    by_slice : (o : Option Suspended) → (local_of s g).suspended ≡ o → Some wanted ≡ slice_get (claims_of g o) 0 → HasSlice s g wanted
-    by_slice None is q = absurd (cc)
-    by_slice (Some x) is q =
-        let lock = one (slice_lock g x.slice) q in
-        record { slice = x; is = is; lock = lock; once = own ∙ ap (claims_of g) is ∙ ap one_claim lock }
+    by_slice : (o : Option Suspended) → (local_of s g).suspended ≡ o → AreWaits script g o those → HasSlice script s g wanted
+    by_slice None is none = absurd (none-some _ wanted (find-filter (is_of g) s.locks.waits [] none) e)
+    by_slice (Some x) is own =
+        let same : own.wanted ≡ wanted = some-same own.wanted wanted (sym (find-filter (is_of g) s.locks.waits (own.wanted ∷ []) own.alone) ∙ e) in
+        record { slice = x; is = is; lock = subst (IsWanted script g x) same own.lock; once = own.alone ∙ ap (λ claim. claim ∷ []) same }
 
 -- and whose slices don't wait there has none
 pub no-wait : (script : Script) (w : World) → Well script w → (i : ℕ) (g : Gxid) → (local_of (w.segs i) g).suspended ≡ None → filter (is_of g) (w.segs i).locks.waits ≡ []
-no-wait script w good i g e = (good.waiting i).own g.0 ∙ ap (claims_of g) e
+no-wait script w good i g e = subst (λ o. AreWaits script g o (filter (is_of g) (w.segs i).locks.waits)) e ((good.waiting i).own g.0)
 
 -- of who has promised, committed or ended there none waits
 pub no-slice : (script : Script) (w : World) → Well script w → (i : ℕ) (g : Gxid) → is_open_phase (local_of (w.segs i) g).phase ≡ false → (local_of (w.segs i) g).suspended ≡ None
@@ -104,7 +101,7 @@ going-on script w good i g ok = by_wait (wait_of s.locks g) refl (and-second (is
     by_wait None e f = absurd (cc)
     by_wait (Some wanted) e f =
         let has = has-slice script w good i g wanted e in
-        record { slice = has.slice; is = has.is; waits = waiting script w good i g has.slice has.is; wanted = wanted; claims = e; free = f }
+        record { slice = has.slice; is = has.is; waits = waiting script w good i g has.slice has.is; wanted = wanted; claims = e; lock = has.lock; free = f }
 
 -- what it does then
 pub goes-on-is : (s : Seg) (g : Gxid) (wanted : Claim) (x : Suspended) → wait_of s.locks g ≡ Some wanted → (local_of s g).suspended ≡ Some x → resumes s g (wait_of s.locks g) (local_of s g).suspended ≡ resumes s g (Some wanted) (Some x)
@@ -113,12 +110,12 @@ goes-on-is s g wanted x e f = cc
 -- AT THE COORDINATOR
 -- A statement that goes out behind a wait: it waits for its table's lock, which is free; its transaction is live and has no command
 -- under way; and it is its session's line under way.
-pub record GoesOut (c : Coord) (g : Gxid) : Type 0 where
+pub record GoesOut (script : Script) (c : Coord) (g : Gxid) : Type 0 where
   pub line : Stmt
   pub is : (work_of c g).waiting ≡ Some line
   pub wanted : Claim
   pub claims : wait_of c.locks g ≡ Some wanted
-  pub lock : lock_for g line ≡ Some wanted
+  pub lock : lock_for script g line ≡ Some wanted
   pub free : is_free c.locks.holds wanted ≡ true
   pub idle : (work_of c g).command ≡ None
   pub live : stage_of c g.0 ≡ Live
@@ -126,35 +123,35 @@ pub record GoesOut (c : Coord) (g : Gxid) : Type 0 where
   pub working : is_working_in (session_of c (work_of c g).session).state.pending ≡ true
 
 -- whoever has a wait at the coordinator has a statement that waits for it, and no other wait
-pub record HasStatement (c : Coord) (g : Gxid) (wanted : Claim) : Type 0 where
+pub record HasStatement (script : Script) (c : Coord) (g : Gxid) (wanted : Claim) : Type 0 where
   pub line : Stmt
   pub is : (work_of c g).waiting ≡ Some line
   pub once : filter (is_of g) c.locks.waits ≡ wanted ∷ []
-  pub lock : lock_for g line ≡ Some wanted
+  pub lock : lock_for script g line ≡ Some wanted
   pub idle : (work_of c g).command ≡ None
   pub live : stage_of c g.0 ≡ Live
   pub home : (session_of c (work_of c g).session).transaction ≡ g
   pub working : is_working_in (session_of c (work_of c g).session).state.pending ≡ true
 
-pub statement-of : (c : Coord) → Kept c → (g : Gxid) (wanted : Claim) → wait_of c.locks g ≡ Some wanted → HasStatement c g wanted
-statement-of c k g wanted e = by_line (waits-for g.0 (work_of c g).waiting c.locks (k.queued g.0) wanted e)
+pub statement-of : {script : Script} (c : Coord) → Kept script c → (g : Gxid) (wanted : Claim) → wait_of c.locks g ≡ Some wanted → HasStatement script c g wanted
+statement-of {script = script} c k g wanted e = by_line (waits-for g.0 (work_of c g).waiting c.locks (k.queued g.0) wanted e)
   where
-    by_line : WaitsFor g.0 (work_of c g).waiting wanted → HasStatement c g wanted
+    by_line : WaitsFor script g.0 (work_of c g).waiting wanted → HasStatement script c g wanted
     by_line f =
         let t = (k.tied g.0).waits f.line f.is in
         let l = (k.tied g.0).live t.0 in
-        record { line = f.line; is = f.is; once = (k.queued g.0).claims ∙ ap (claims_for g) f.is ∙ ap listed f.lock; lock = f.lock; idle = t.1; live = t.0; home = ap gx l.0; working = t.2 }
+        record { line = f.line; is = f.is; once = (k.queued g.0).claims ∙ ap (claims_for script g) f.is ∙ ap listed f.lock; lock = f.lock; idle = t.1; live = t.0; home = ap gx l.0; working = t.2 }
 
-pub has-statement : (script : Script) (w : World) → Knows script w → (g : Gxid) (wanted : Claim) → wait_of w.coord.locks g ≡ Some wanted → HasStatement w.coord g wanted
+pub has-statement : (script : Script) (w : World) → Knows script w → (g : Gxid) (wanted : Claim) → wait_of w.coord.locks g ≡ Some wanted → HasStatement script w.coord g wanted
 has-statement script w n g wanted e = statement-of w.coord n.kept g wanted e
 
 -- who is admitted to go out is one of these
-pub going-out : (script : Script) (w : World) → Knows script w → (g : Gxid) → coord_can script w.coord (event.Resume g) ≡ true → GoesOut w.coord g
+pub going-out : (script : Script) (w : World) → Knows script w → (g : Gxid) → coord_can script w.coord (event.Resume g) ≡ true → GoesOut script w.coord g
 going-out script w n g ok = by_wait (wait_of w.coord.locks g) refl ok
   where
-    line-waits : (wanted : Claim) → wait_of w.coord.locks g ≡ Some wanted → is_free w.coord.locks.holds wanted ≡ true → HasStatement w.coord g wanted → GoesOut w.coord g
+    line-waits : (wanted : Claim) → wait_of w.coord.locks g ≡ Some wanted → is_free w.coord.locks.holds wanted ≡ true → HasStatement script w.coord g wanted → GoesOut script w.coord g
     line-waits wanted e free f = record { line = f.line; is = f.is; wanted = wanted; claims = e; lock = f.lock; free = free; idle = f.idle; live = f.live; home = f.home; working = f.working }
 
-    by_wait : (o : Option Claim) → wait_of w.coord.locks g ≡ o → is_ready w.coord.locks.holds o ≡ true → GoesOut w.coord g
+    by_wait : (o : Option Claim) → wait_of w.coord.locks g ≡ o → is_ready w.coord.locks.holds o ≡ true → GoesOut script w.coord g
     by_wait None e f = absurd (cc)
     by_wait (Some wanted) e f = line-waits wanted e f (has-statement script w n g wanted e)

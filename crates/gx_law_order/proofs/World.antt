@@ -37,7 +37,7 @@ use Rattle.gx_ids.specs.declared.ids.Gxid.{Gxid}
 
 pub record Knows (script : Script) (w : World) : Type 0 where
   pub well : Well script w
-  pub kept : Kept w.coord
+  pub kept : Kept script w.coord
   pub past : Past w.coord (marks_in w.steps)
   pub seen : AreEndedSeen [] (marks_in w.steps)
 
@@ -75,7 +75,7 @@ module _ (script : Script) (w : World) (n : Knows script w) (e : Event) (x : Nod
       let sent : List Mark = numbered turn.coord.sent turn.outs in
       let still : Each Still sent = numbered-still turn.coord.sent turn.outs in
       let last : Coord = (coord_rule script w.coord x fails).coord in
-      let kept : Kept last = record { whole = f.kept.whole; tied = f.kept.tied; placed = f.kept.placed; queued = f.kept.queued } in
+      let kept : Kept script last = record { whole = f.kept.whole; tied = f.kept.tied; placed = f.kept.placed; queued = f.kept.queued } in
       let step : Step = record { stamp = record { clock = clock_after w.coord.clock x; node = the_coordinator }; event = e; marks = (coord_rule script w.coord x fails).marks } in
       record {
         well = well;
