@@ -5,12 +5,14 @@ ghost use Rattle.gx_locks.specs.Claims.{is_of};
 ghost use Rattle.gx_locks.specs.Locks.{is_free, is_ready, resumed, wait_of};
 ghost use Rattle.gx_meaning.specs.Order.{in_order};
 ghost use Rattle.gx_rules.specs.Locks as rule;
+ghost use Rattle.gx_store.specs.Locks as legal;
 ghost use Rattle.gx_waits.specs.declared.object.Object.TheVariants as object;
 ghost use Rattle.gx_node.specs.Locking.{asked_locks, asked_mark, resumed_marks};
 
 use gx_ids::{Gxid, Mem, Node, Table};
 use gx_locks::{LockAnswer, LockTable};
 use gx_modes::Mode;
+use gx_script::Script;
 use gx_store::Mark;
 use gx_waits::{Claim, Object};
 use std::alloc::Global;
@@ -102,6 +104,18 @@ pub fn claim_on(gxid: Gxid, table: Table, mode: Mode) -> Claim
         gxid,
         object: Object::Relation(table),
         mode,
+    }
+}
+
+/// The mode in which UPDATE and DELETE lock their table. Where no detector finds deadlocks, one transaction at a time changes a
+/// table's rows.
+pub fn changing_mode(script: &Script) -> Mode
+    ensures { result ≡ legal.changing_mode script.now }
+{
+    if script.detector {
+        Mode::RowExclusive
+    } else {
+        Mode::Exclusive
     }
 }
 
