@@ -19,7 +19,7 @@ pub mod slices;
 
 pub use laws::orders_follow_the_rule;
 pub use local::{Local, Phase, Suspended, Taken, Vote};
-pub use locking::{ask_for, changing_mode, claim_on, give_back, take_ready};
+pub use locking::{ask_for, changing_mode, claim_on, give_back, take_free, take_ready};
 pub use orders::take_order;
 pub use parts::fits_part;
 pub use slices::{is_right_slice, reads_nothing};

@@ -180,6 +180,17 @@ pub fn ask_for(node: Node, locks: &mut LockTable, wanted: Claim, marks: &mut Vec
     Ok(granted)
 }
 
+/// A transaction that doesn't wait at a node takes a lock that is free there, with the mark of a hold.
+pub fn take_free(node: Node, locks: &mut LockTable, wanted: Claim, marks: &mut Vec<Mark>) -> Mem<()>
+    requires waits { list_any (is_of wanted.gxid) locks.old.waits ≡ false }
+    requires free { is_free locks.old.holds wanted ≡ true }
+    ensures locks { OnOk result (locks.new ≡ rule.with_hold locks.old wanted) }
+    ensures marks { OnOk result (marks.new.items ≡ marks.old.items ++ rule.hold_mark node wanted ∷ []) }
+{
+    ask_for(node, locks, wanted, marks)?;
+    Ok(())
+}
+
 // RESUMED
 // The wait of a transaction.
 fn find_wait(waits: &[Claim], gxid: Gxid) -> Option<Claim>
