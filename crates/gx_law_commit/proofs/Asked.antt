@@ -114,7 +114,7 @@ fault-no-answer g cid (stmt.Update t x y) = tt
 fault-no-answer g cid (stmt.Delete t x) = tt
 fault-no-answer g cid (stmt.Lock t m) = tt
 
-module _ (script : Script) (P : ℕ → ℕ → Part) (c : Coord) (ms : List Mark) (st : Stands script P c ms) (k : Kept c) (p : Past c ms) (ins : (g : ℕ) → AreIn script.segments (c.works g).writers) (Gets : ℕ → ℕ → ℕ → Type 0) (starting : ℕ → Type 0) (last_is : (t : SessionId) (h : ℕ) → started_after t None ms ≡ Some (gx h) → (session_of c t).transaction.0 ≡ h) where
+module _ (script : Script) (P : ℕ → ℕ → Part) (c : Coord) (ms : List Mark) (st : Stands script P c ms) (k : Kept script c) (p : Past c ms) (ins : (g : ℕ) → AreIn script.segments (c.works g).writers) (Gets : ℕ → ℕ → ℕ → Type 0) (starting : ℕ → Type 0) (last_is : (t : SessionId) (h : ℕ) → started_after t None ms ≡ Some (gx h) → (session_of c t).transaction.0 ≡ h) where
   abbrev TidyIn : (ℕ → Session) → List Mark → CoordTurn → Type 0
   TidyIn sessions earlier turn = Tidy script c ms Gets starting sessions earlier turn
 
@@ -194,7 +194,7 @@ module _ (script : Script) (P : ℕ → ℕ → Part) (c : Coord) (ms : List Mar
         by_test false = waits-tidy wanted
 
     dispatch-tidy : TidyIn d.sessions earlier (dispatches script d (gx g) line)
-    dispatch-tidy = request-tidy (lock_for (gx g) line)
+    dispatch-tidy = request-tidy (lock_for script (gx g) line)
 
   -- A WHOLE EVENT
   pub record Told (count : ℕ → ℕ) (turn : CoordTurn) : Type 0 where
@@ -400,7 +400,7 @@ module _ (script : Script) (P : ℕ → ℕ → Part) (c : Coord) (ms : List Mar
   start-any s idle it None e f = absurd (cc)
   start-any s idle it (Some line) e f = start-told s idle it line e
 
-  pub event-told : ((g : Gxid) → coord_can script c (event.Resume g) ≡ true → GoesOut c g) → (x : NodeEvent) (fails : Bool) → coord_can script c x ≡ true → IsGot x → Told (counted x) (on_event script c x fails)
+  pub event-told : ((g : Gxid) → coord_can script c (event.Resume g) ≡ true → GoesOut script c g) → (x : NodeEvent) (fails : Bool) → coord_can script c x ≡ true → IsGot x → Told (counted x) (on_event script c x fails)
   event-told out (event.Deliver from envelope) fails e d = quiet-told _ (message-tidy script P c ms st k Gets starting last_is from fails envelope.message d)
   event-told out (event.Start s) fails e d = start-any s (idle-first script P c ms st k p ins s _ e) d (next_line script c s) refl (and-second _ _ e)
   event-told out (event.End s) fails e d = end-told s (idle-first script P c ms st k p ins s _ e) (session_of c s).state.block
@@ -411,7 +411,7 @@ module _ (script : Script) (P : ℕ → ℕ → Part) (c : Coord) (ms : List Mar
       free : Coord
       free = with_work c g (record (work_of c g) { waiting = None })
 
-      resumed-told : GoesOut c g → Told (λ t. 0) (resumes script c g (wait_of c.locks g) (work_of c g).waiting)
+      resumed-told : GoesOut script c g → Told (λ t. 0) (resumes script c g (wait_of c.locks g) (work_of c g).waiting)
       resumed-told o =
           subst (Told (λ t. 0)) (goes-out-is script c g o.wanted o.line o.claims o.is)
           (quiet-told _ (held-tidy free g.0 (λ h q. ap (λ b. if b then record (work_of c g) { waiting = None } else c.works h) q) [] (λ i. ap (λ q. waits_in q i) o.idle) o.line (resumed c.locks g (Some o.wanted)) o.wanted))

@@ -64,7 +64,7 @@ failure-no-answer i g = by_test (i.0 == 0)
     by_test true = (tt, tt)
     by_test false = tt
 
-module _ (script : Script) (P : ℕ → ℕ → Part) (c : Coord) (ms : List Mark) (st : Stands script P c ms) (k : Kept c) (Gets : ℕ → ℕ → ℕ → Type 0) (starting : ℕ → Type 0) (last_is : (t : SessionId) (h : ℕ) → started_after t None ms ≡ Some (gx h) → (session_of c t).transaction.0 ≡ h) where
+module _ (script : Script) (P : ℕ → ℕ → Part) (c : Coord) (ms : List Mark) (st : Stands script P c ms) (k : Kept script c) (Gets : ℕ → ℕ → ℕ → Type 0) (starting : ℕ → Type 0) (last_is : (t : SessionId) (h : ℕ) → started_after t None ms ≡ Some (gx h) → (session_of c t).transaction.0 ≡ h) where
   abbrev TidyFrom : (ℕ → Session) → List Mark → CoordTurn → Type 0
   TidyFrom sessions earlier turn = Tidy script c ms Gets starting sessions earlier turn
 

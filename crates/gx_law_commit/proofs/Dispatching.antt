@@ -346,7 +346,7 @@ module _ (script : Script) (P : ℕ → ℕ → Part) (c : Coord) (ms : List Mar
       by_test false = record { way = waiting-led (with_wait c.locks wanted) (Some line) (wait_mark the_coordinator wanted) tt; outs = tt }
 
   pub dispatch-led : (line : Stmt) → Led script P c ms (dispatches script c (gx g) line)
-  dispatch-led line = request-led line (lock_for (gx g) line)
+  dispatch-led line = request-led line (lock_for script (gx g) line)
 
   -- a statement that has waited goes out
   pub resume-led : (line : Stmt) (wanted : Claim) → Led script P c ms (resumes script c (gx g) (Some wanted) (Some line))

@@ -1,21 +1,15 @@
 -- Where a transaction has ended at a segment, it stays so; where it gets a command, it had not ended.
-use Rattle.std.proofs.Common.{◌≡◌, ◌⊎◌, inl, inr, ℕ, List, [], ◌∷◌, Option, Some, None, Bool, true, false, not, refl, sym, subst, ap, ◌∙◌, nat_lt, ◌==◌, if◌then◌else◌, arith, eqb}
+use Rattle.std.proofs.Common.{◌≡◌, ◌⊎◌, inl, inr, ℕ, List, Option, Some, None, Bool, true, false, not, refl, sym, subst, ap, ◌∙◌, nat_lt, ◌==◌, if◌then◌else◌, arith, eqb}
 use Rattle.std.proofs.lemmas.Bool.Decides.{nat_tests}
-use Rattle.std.specs.Prelude.{length}
 use Rattle.gx_lemmas.proofs.Tests.{true-false}
 use Rattle.gx_lemmas.proofs.Numbers.{eqb-self}
 use Rattle.gx_ids.specs.declared.ids.Cid.{Cid}
 use Rattle.gx_ids.specs.declared.ids.Gxid.{Gxid}
-use Rattle.gx_tree.specs.declared.query.Query.{Query}
-use Rattle.gx_tree.specs.declared.row.KeyedRow.{KeyedRow}
 use Rattle.gx_tree.specs.declared.slice.Slice.{Slice}
-use Rattle.gx_tree.specs.declared.slice.Slice.TheVariants as slice
 use Rattle.gx_tree.specs.declared.stmt.Level.{Level}
 use Rattle.gx_dsnap.specs.Gxids.{is_below}
 use Rattle.gx_dsnap.specs.declared.snapshot.Snapshot.{Snapshot}
 use Rattle.gx_waits.specs.declared.claim.Claim.{Claim}
-use Rattle.gx_locks.specs.Locks.{Locks, is_free, resumed}
-use Rattle.gx_meaning.specs.declared.fault.ArithFault.{ArithFault}
 use Rattle.gx_msg.specs.declared.item.JournalItem.{JournalItem}
 use Rattle.gx_msg.specs.declared.message.Message.{Message}
 use Rattle.gx_msg.specs.declared.message.Message.TheVariants as message
@@ -26,16 +20,15 @@ use Rattle.gx_script.specs.declared.Script.{Script}
 use Rattle.gx_store.specs.declared.mark.Mark.{Mark}
 use Rattle.gx_rules.specs.AtSegment.{changes, commits, ends, finishes, if_fits, on_abort, on_commit, on_commit_prepared, on_exec, on_forget, on_message, on_prepare, once, promises, raised, repeats, resumes, takes, unless_below, was_prepared}
 use Rattle.gx_rules.specs.Fits.{fits_exec, is_waiting}
-use Rattle.gx_rules.specs.Locks.{hold_mark, with_hold}
 use Rattle.gx_rules.specs.Maps.{with_at}
-use Rattle.gx_rules.specs.Segments.{Local, Phase, Seg, SegTurn, Suspended, after_marks as behind, has_committed, has_ended, stays, tells, tells_kept, with_local}
+use Rattle.gx_rules.specs.Segments.{Local, Phase, Seg, SegTurn, Suspended, has_committed, has_ended, stays, tells, tells_kept}
 use Rattle.gx_rules.specs.Segments.Phase.{Aborted, Committed, Forgotten, Prepared, Reading, Writing}
-use Rattle.gx_rules.specs.Shown.{shown}
-use Rattle.gx_rules.specs.Slices.{Moved, first_fault, inserted, inserts, requests, runs_slice, selects, slice_lock}
+use Rattle.gx_rules.specs.Running.{is_granted, slice_lock, starts_slice}
 use Rattle.gx_law_order.proofs.Lists.{Each}
 use Rattle.gx_law_commit.specs.Pairs.{IsKept, IsVote}
 use Rattle.gx_law_commit.specs.Said.{gxid_in}
 use Rattle.gx_law_commit.specs.Standings.{gx}
+use Rattle.gx_law_commit.proofs.Leaving.{request-leaves, slice-leaves}
 
 -- what an answer tells of the phase
 abbrev pub TellsEnd : Phase → Message → Type 0
@@ -117,68 +110,23 @@ module _ (script : Script) (told : Message) (s : Seg) (g : ℕ) (wrote : Bool) (
     ran : (turn : SegTurn) → Each (λ (o : Out). TellsEnd (turn.seg.locals g).phase o.message) turn.outs → EndsSo turn
     ran turn o = record { ended = λ e. absurd (open-not p f n e); last = λ e. inr (ap has_ended f ∙ n, is); outs = o }
 
-    select : (t : Seg) (c : Cid) (q : Query) (rows : List KeyedRow) (o : Option (KeyedRow × ArithFault)) → EndsSo (selects t (gx g) c q rows o)
-    select t c q rows None = ran _ (tt, tt)
-    select t c q rows (Some o) = ran _ (tt, tt)
-
-    insert : (c : Cid) (count : ℕ) (m : Moved) → EndsSo (inserts (gx g) c count m)
-    insert c count m = ran _ (tt, tt)
-
-    -- of a segment with another horizon or other locks
-    abbrev raised_with : Gxid → Locks → Seg
-    raised_with h locks = record (raised s h) { locks = locks }
-
-    nothing : (h : Gxid) (locks : Locks) → EndsSo (stays (raised_with h locks))
-    nothing h locks = record { ended = λ e. e; last = λ e. inl e; outs = tt }
-
-    slice-runs : (h : Gxid) (locks : Locks) (c : Cid) (x : Option Snapshot) (y : Slice) → EndsSo (runs_slice (raised_with h locks) (gx g) c x y)
-    slice-runs h locks c (Some x) (slice.Select q) = select (raised_with h locks) c q (shown (raised_with h locks) x (gx g) c q.table) (first_fault q.cond (shown (raised_with h locks) x (gx g) c q.table))
-    slice-runs h locks c (Some x) (slice.Insert table rows) = insert c (length rows) (inserted (raised_with h locks) (gx g) c table rows)
-    slice-runs h locks c None (slice.Select q) = nothing h locks
-    slice-runs h locks c None (slice.Insert table rows) = nothing h locks
-    slice-runs h locks c x (slice.Lock table mode) = ran _ (tt, tt)
-    slice-runs h locks c x (slice.Update table assigns cond) = nothing h locks
-    slice-runs h locks c x (slice.Delete table cond) = nothing h locks
-
-    starts : (h : Gxid) (c : Cid) (level : Level) (x : Option Snapshot) (y : Slice) (o : Option Claim) → EndsSo (requests (raised s h) (gx g) c level x y o)
-    starts h c level x y None = slice-runs h s.locks c x y
-    starts h c level x y (Some wanted) = both (is_free s.locks.holds wanted) _ _ (record { ended = run.ended; last = run.last; outs = run.outs }) (ran _ tt)
-      where
-        run : EndsSo (runs_slice (raised_with h (with_hold s.locks wanted)) (gx g) c x y)
-        run = slice-runs h (with_hold s.locks wanted) c x y
-
-    take : (c : Cid) (level : Level) (x : Option Snapshot) (h : Gxid) (y : Slice) → EndsSo (takes s (gx g) c level x h y l)
-    take c level x h y = both (nat_lt l.last c.0) _ _ (starts h c level x y (slice_lock (gx g) y)) (both (c.0 == l.last) _ _ (kept-answer l.answer refl) stay)
+    take : (c : Cid) (level : Level) (x : Option Snapshot) (h : Gxid) (y : Slice) → EndsSo (takes script s (gx g) c level x h y l)
+    take c level x h y =
+        both (nat_lt l.last c.0) _ _
+        (ran (starts_slice script (raised s h) (gx g) c level x y) (request-leaves (gx g) c (λ o. TellsEnd _ o.message) (λ a b d. tt) (λ d. tt) (raised s h) level x y (slice_lock script (gx g) y)).outs)
+        (both (c.0 == l.last) _ _ (kept-answer l.answer refl) stay)
 
   -- a slice that goes on, of a transaction that has not ended
   resume : (o : Option Claim) (x : Option Suspended) → has_ended l.phase ≡ false → nat_lt 0 l.last ≡ true → EndsSo (resumes s (gx g) o x)
-  resume (Some wanted) (Some x) n a = by_slice x.snapshot x.slice
-    where
-      free : Seg
-      free = record (with_local s (gx g) (record l { suspended = None })) { locks = resumed s.locks (gx g) (Some wanted) }
-
-      ran-so : (turn : SegTurn) → Each (λ (o : Out). TellsEnd (turn.seg.locals g).phase o.message) turn.outs → EndsSo turn
-      ran-so turn o = record { ended = λ e. absurd (open-not l.phase refl n e); last = λ e. inl a; outs = o }
-
-      select : (q : Query) (rows : List KeyedRow) (o : Option (KeyedRow × ArithFault)) → EndsSo (behind (hold_mark s.node wanted ∷ []) (selects free (gx g) x.cid q rows o))
-      select q rows None = ran-so _ (tt, tt)
-      select q rows (Some o) = ran-so _ (tt, tt)
-
-      by_slice : (v : Option Snapshot) (y : Slice) → EndsSo (behind (hold_mark s.node wanted ∷ []) (runs_slice free (gx g) x.cid v y))
-      by_slice (Some v) (slice.Select q) = select q (shown free v (gx g) x.cid q.table) (first_fault q.cond (shown free v (gx g) x.cid q.table))
-      by_slice (Some v) (slice.Insert table rows) = ran-so _ (tt, tt)
-      by_slice None (slice.Select q) = ran-so _ tt
-      by_slice None (slice.Insert table rows) = ran-so _ tt
-      by_slice v (slice.Lock table mode) = ran-so _ (tt, tt)
-      by_slice v (slice.Update table assigns cond) = ran-so _ tt
-      by_slice v (slice.Delete table cond) = ran-so _ tt
+  resume (Some wanted) (Some x) n a =
+      record { ended = λ e. absurd (open-not l.phase refl n e); last = λ e. inl a; outs = (slice-leaves (gx g) x.cid (λ o. TellsEnd _ o.message) (λ b d f. tt) (λ d. tt) (is_granted s (gx g) wanted).seg x.level x.snapshot x.slice).outs }
   resume (Some wanted) None n a = stay
   resume None x n a = stay
 
   repeat : (c : Cid) → EndsSo (repeats s (gx g) c l)
   repeat c = both (c.0 == l.last) _ _ (kept-answer l.answer refl) stay
 
-  exec : (c : Cid) (level : Level) (x : Option Snapshot) (h : Gxid) (y : Slice) (p : Phase) → l.phase ≡ p → IsExec told → EndsSo (on_exec s (gx g) c level x h y l p)
+  exec : (c : Cid) (level : Level) (x : Option Snapshot) (h : Gxid) (y : Slice) (p : Phase) → l.phase ≡ p → IsExec told → EndsSo (on_exec script s (gx g) c level x h y l p)
   exec c level x h y Reading f is = take Reading f refl is c level x h y
   exec c level x h y Writing f is = take Writing f refl is c level x h y
   exec c level x h y Prepared f is = repeat c

@@ -97,7 +97,7 @@ still script P c ms st whole ns e =
     work h true q = ap c.works (eqb-true h 0 q)
     work h false q = refl
 
-module _ (script : Script) (P : ℕ → ℕ → Part) (c : Coord) (ms : List Mark) (st : Stands script P c ms) (k : Kept c) (p : Past c ms) (ins : (g : ℕ) → AreIn script.segments (c.works g).writers) where
+module _ (script : Script) (P : ℕ → ℕ → Part) (c : Coord) (ms : List Mark) (st : Stands script P c ms) (k : Kept script c) (p : Past c ms) (ins : (g : ℕ) → AreIn script.segments (c.works g).writers) where
   abbrev Leads : CoordTurn → Type 0
   Leads turn = Led script P c ms turn
 
@@ -367,7 +367,7 @@ module _ (script : Script) (P : ℕ → ℕ → Part) (c : Coord) (ms : List Mar
   IsSaidIn (event.Deliver from envelope) = is_answer envelope.message ≡ true → Said (known_at c ms from.0 (gxid_in envelope.message)) (P from.0 (gxid_in envelope.message)) envelope.message
   IsSaidIn _ = Unit {0}
 
-  pub event-led : ((g : Gxid) → coord_can script c (event.Resume g) ≡ true → GoesOut c g) → (x : NodeEvent) (fails : Bool) → coord_can script c x ≡ true → IsSaidIn x → Leads (on_event script c x fails)
+  pub event-led : ((g : Gxid) → coord_can script c (event.Resume g) ≡ true → GoesOut script c g) → (x : NodeEvent) (fails : Bool) → coord_can script c x ≡ true → IsSaidIn x → Leads (on_event script c x fails)
   event-led out (event.Deliver from envelope) fails e d = message-led from fails envelope.message d
   event-led out (event.Start s) fails e d = start-led s (idle-first s _ e) (next_line script c s)
   event-led out (event.End s) fails e d = end-led s (idle-first s _ e)
@@ -375,7 +375,7 @@ module _ (script : Script) (P : ℕ → ℕ → Part) (c : Coord) (ms : List Mar
   event-led out (event.Resend i None) fails e d = rest
   event-led out (event.Resume g) fails e d = resumed-led (out g e)
     where
-      resumed-led : GoesOut c g → Leads (resumes script c g (wait_of c.locks g) (work_of c g).waiting)
+      resumed-led : GoesOut script c g → Leads (resumes script c g (wait_of c.locks g) (work_of c g).waiting)
       resumed-led o =
           subst Leads (goes-out-is script c g o.wanted o.line o.claims o.is)
           (resume-led script P c ms st k.whole g.0 (live-stage c g.0 o.live) (λ i. ap (λ q. waits_in q i) o.idle) o.line o.wanted)

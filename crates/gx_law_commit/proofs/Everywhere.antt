@@ -51,7 +51,7 @@ use Rattle.gx_law_commit.proofs.Telling.{coord-told, seg-told, step-told, tell-p
 use Rattle.gx_law_commit.proofs.Counts.{NoEnd, NoPart, NoSent, decided-append, local-append, no-aborted, no-committed, no-decided, no-local, no-prepared, no-writer, prepared-append, sent-no-end, sent-no-part, writer-append}
 use Rattle.gx_law_commit.proofs.Events.{IsSaidIn, event-led}
 use Rattle.gx_law_commit.proofs.Following.{HasReached, coord-end, end-push, has-left, has-right, seg-end}
-use Rattle.gx_law_commit.proofs.Handled.{Does, Follows, HasMark, Tells, after_marks, handled, went-on}
+use Rattle.gx_law_commit.proofs.Handled.{Does, Follows, HasMark, Tells, after_marks, handled, part-eq, went-on}
 use Rattle.gx_law_commit.proofs.Parts.{said-grows}
 use Rattle.gx_law_commit.proofs.Ways.{Agrees, Fol, FolAt, Led, SaidOut, Stands, agrees-append, known-eq}
 
@@ -87,9 +87,6 @@ known-append script P c ms ns i g e =
     known-eq script P i _ _ (c.works g) (c.works g) _ _ _ _ _ _ refl refl (decided-append ms ns (gx g) ∙ ap (λ n. decided_count ms (gx g) + n) (no-decided ns (gx g) e) ∙ plus-none (decided_count ms (gx g)))
     (aborted-append ms ns (gx g) ∙ ap (λ b. is_aborted ms (gx g) || b) (no-aborted ns (gx g) e) ∙ or-false (is_aborted ms (gx g)))
     (committed-append ms ns (gx g) ∙ ap (λ b. is_committed ms (gx g) || b) (no-committed ns (gx g) e) ∙ or-false (is_committed ms (gx g)))
-
-part-eq : (l : Local) (a b : Bool) (p q x y : ℕ) → a ≡ b → p ≡ q → x ≡ y → part_of l a p x ≡ part_of l b q y
-part-eq l a b p q x y e f h = ap (λ a. part_of l a p x) e ∙ ap (λ p. part_of l b p x) f ∙ ap (λ x. part_of l b q x) h
 
 -- A STEP OF THE COORDINATOR
 module _ (script : Script) (w : World) (n : Knows script w) (v : Holds script w) (e : Event) (x : NodeEvent) (fails : Bool) where

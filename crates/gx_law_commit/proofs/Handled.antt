@@ -1,22 +1,25 @@
 -- What a segment's rule makes of its part of a transaction, message by message.
-use Rattle.std.proofs.Common.{◌≡◌, ◌⊎◌, inl, inr, ◌≤◌, ◌<◌, ℕ, ◌+◌, List, [], ◌∷◌, Option, Some, None, Bool, true, false, not, refl, sym, subst, ap, ◌∙◌, if◌then◌else◌, ◌==◌, ◌||◌, ◌&&◌, nat_lt, arith, eqb}
+use Rattle.std.proofs.Common.{◌≡◌, ◌⊎◌, inl, inr, ◌≤◌, ◌<◌, ℕ, ◌+◌, List, [], ◌∷◌, ◌++◌, Option, Some, None, Bool, true, false, not, refl, sym, subst, ap, ◌∙◌, if◌then◌else◌, ◌==◌, ◌||◌, ◌&&◌, nat_lt, arith, eqb}
 use Rattle.std.proofs.lemmas.Bool.Decides.{nat_tests}
-use Rattle.std.specs.Prelude.{fold, is_some, length, map}
+use Rattle.std.specs.Prelude.{fold, is_some, length}
 use Rattle.gx_lemmas.proofs.Numbers.{eqb-self, lt-of, plus-none}
 use Rattle.gx_lemmas.proofs.Tests.{or-false, true-false}
 use Rattle.gx_ids.specs.declared.ids.Cid.{Cid}
 use Rattle.gx_ids.specs.declared.ids.Gxid.{Gxid}
 use Rattle.gx_ids.specs.declared.ids.Node.{Node}
 use Rattle.gx_ids.specs.declared.ids.Table.{Table}
+use Rattle.gx_ids.specs.declared.rid.Rid.{Rid}
+use Rattle.gx_tree.specs.declared.part.Part.{Part as QueryPart}
 use Rattle.gx_tree.specs.declared.query.Query.{Query}
 use Rattle.gx_tree.specs.declared.row.KeyedRow.{KeyedRow}
 use Rattle.gx_tree.specs.declared.slice.Slice.{Slice}
 use Rattle.gx_tree.specs.declared.slice.Slice.TheVariants as slice
 use Rattle.gx_tree.specs.declared.stmt.Level.{Level}
+use Rattle.gx_tree.specs.declared.value.Value.{Value}
 use Rattle.gx_dsnap.specs.Gxids.{is_below}
 use Rattle.gx_dsnap.specs.declared.snapshot.Snapshot.{Snapshot}
 use Rattle.gx_waits.specs.declared.claim.Claim.{Claim}
-use Rattle.gx_locks.specs.Locks.{Locks, is_free, resumed}
+use Rattle.gx_locks.specs.Locks.{Locks, is_free}
 use Rattle.gx_meaning.specs.declared.fault.ArithFault.{ArithFault}
 use Rattle.gx_msg.specs.declared.item.JournalItem.{JournalItem}
 use Rattle.gx_msg.specs.declared.message.Message.{Message}
@@ -30,20 +33,21 @@ use Rattle.gx_store.specs.declared.mark.Mark.TheVariants as mark
 use Rattle.gx_store.specs.Protocol.{is_writer, local_count, prepared_count}
 use Rattle.gx_rules.specs.AtSegment.{changes, commits, ends, finishes, if_fits, is_refused, on_abort, on_commit, on_commit_prepared, on_exec, on_forget, on_message, on_prepare, once, promises, raised, repeats, resumes, takes, unless_below, was_prepared}
 use Rattle.gx_rules.specs.Fits.{fits_exec, is_right_slice, is_waiting, reads_nothing}
-use Rattle.gx_rules.specs.Locks.{has_there, hold_mark, release_mark, release_marks, wait_mark, with_hold}
+use Rattle.gx_rules.specs.Locks.{hold_mark, release_marks, wait_mark, with_hold, with_wait}
 use Rattle.gx_rules.specs.Maps.{with_at}
-use Rattle.gx_rules.specs.Segments.{Local, Phase, Seg, SegTurn, Suspended, after_marks as behind, has_committed, stays, tells, tells_kept, with_local}
+use Rattle.gx_rules.specs.Segments.{Local, Phase, Seg, SegTurn, Suspended, after_marks as behind, has_committed, local_of, reply, stays, tells, tells_kept, with_local}
 use Rattle.gx_rules.specs.Segments.Phase.{Reading, Writing, Prepared, Committed, Forgotten, Aborted}
+use Rattle.gx_rules.specs.Running.{is_granted, requests, runs_locked, runs_slice, slice_lock, starts_slice, suspended_slice, suspends}
 use Rattle.gx_rules.specs.Shown.{shown}
-use Rattle.gx_rules.specs.Slices.{Moved, answers, first_fault, has_written, inserted, inserts, inserts_row, locks as locks_only, requests, runs_locked, runs_slice, selects, slice_lock, starts_slice, suspended_slice, suspends}
+use Rattle.gx_rules.specs.Slices.{Moved, adds_version, answers, cause_of, first_fault, has_written, inserted, inserts_row, own_lock, selects, starts_from, takes_own, version, writes_row}
 use Rattle.gx_law_order.proofs.Releases.{each-released}
 use Rattle.gx_law_order.proofs.Lists.{Each, each_append, each_weaker}
 use Rattle.gx_law_commit.specs.Pairs.{IsKept, IsVote, Pair, bit, is_open}
 use Rattle.gx_law_commit.specs.Said.{Answers, IsCommand, Said, gxid_in, is_answer}
 use Rattle.gx_law_commit.specs.Standings.{Known, Part, at, gx, part_of}
 use Rattle.gx_law_commit.specs.Standings.Standing.{Unborn, Live, Over, One, Preparing, Two}
-use Rattle.gx_law_commit.proofs.Counts.{local-append, prepared-append, writer-append}
-use Rattle.gx_law_commit.proofs.Parts.{Next, commit-next, committing, drawn-waits, end-next, finish-next, finishing, grows-same, promise-next, promising, refuse-next, refusing, resume-next, run-next, running, wait-next}
+use Rattle.gx_law_commit.proofs.Counts.{NoPart, no-local, no-prepared, no-writer, writer-append}
+use Rattle.gx_law_commit.proofs.Parts.{MayRun, Next, commit-next, committing, drawn-runs, end-next, finish-next, finishing, grows-same, new-runs, promise-next, promising, refuse-next, refusing, running, runs-next, waited-runs}
 
 -- a mark is among these
 abbrev pub HasMark : Mark → List Mark → Type 0
@@ -91,6 +95,16 @@ no-votes told k p g (mark.Prepared n h ∷ ms) e = absurd e.0
 no-votes told k p g (mark.LocalCommit n h ∷ ms) e = absurd e.0
 no-votes told k p g (m ∷ ms) e = e.1
 
+no-votes-prepared : (ms : List Mark) (n : Node) (g : Gxid) → Each NoVote ms → prepared_count ms n g ≡ 0
+no-votes-prepared [] n g e = refl
+no-votes-prepared (mark.Prepared m h ∷ ms) n g e = absurd e.0
+no-votes-prepared (m ∷ ms) n g e = no-votes-prepared ms n g e.1
+
+no-votes-local : (ms : List Mark) (n : Node) (g : Gxid) → Each NoVote ms → local_count ms n g ≡ 0
+no-votes-local [] n g e = refl
+no-votes-local (mark.LocalCommit m h ∷ ms) n g e = absurd e.0
+no-votes-local (m ∷ ms) n g e = no-votes-local ms n g e.1
+
 -- what it sends
 abbrev pub Tells : Known → Part → ℕ → ℕ → List Mark → Message → Type 0
 Tells k q i g marks (message.Answer h reply.Again) = (h.0 ≡ g) × HasMark (mark.JournalFailed (at i) (gx g)) marks
@@ -99,6 +113,9 @@ Tells k q i g marks _ = ⊥
 
 abbrev pub after_marks : Local → Bool → ℕ → ℕ → ℕ → ℕ → List Mark → Part
 after_marks l w pc lc i g ms = part_of l (w || is_writer ms (gx g) (at i)) (pc + prepared_count ms (at i) (gx g)) (lc + local_count ms (at i) (gx g))
+
+pub part-eq : (l : Local) (a b : Bool) (p q x y : ℕ) → a ≡ b → p ≡ q → x ≡ y → part_of l a p x ≡ part_of l b q y
+part-eq l a b p q x y e f h = ap (λ a. part_of l a p x) e ∙ ap (λ p. part_of l b p x) f ∙ ap (λ x. part_of l b q x) h
 
 module _ (told : Message) (k : Known) (s : Seg) (i g : ℕ) (named : s.node ≡ at i) (w : Bool) (pc lc : ℕ) (e : Pair k (part_of (s.locals g) w pc lc)) where
   abbrev l : Local
@@ -120,7 +137,7 @@ module _ (told : Message) (k : Known) (s : Seg) (i g : ℕ) (named : s.node ≡ 
 
   -- no mark of it
   none-after : (x : Local) → part_of x (w || false) (pc + 0) (lc + 0) ≡ part_of x w pc lc
-  none-after x = ap (λ b. part_of x b (pc + 0) (lc + 0)) (or-false w) ∙ ap (λ n. part_of x w n (lc + 0)) (plus-none pc) ∙ ap (λ n. part_of x w pc n) (plus-none lc)
+  none-after x = part-eq x (w || false) w (pc + 0) pc (lc + 0) lc (or-false w) (plus-none pc) (plus-none lc)
 
   same-next : Next k p (part_of l (w || false) (pc + 0) (lc + 0))
   same-next = subst (Next k p) (sym (none-after l)) (record { pair = e; grows = grows-same p })
@@ -192,39 +209,14 @@ module _ (told : Message) (k : Known) (s : Seg) (i g : ℕ) (named : s.node ≡ 
         fails = λ v. f (subst (λ (y : Local). y.vote ≡ Some reply.Jfault) (here x) v);
       }
 
-  -- the mark of a lock stands before it
-  tells-more : (q : Part) (ms : List Mark) (x : Mark) (m : Message) → Tells k q i g ms m → Tells k q i g (x ∷ ms) m
-  tells-more q ms x (message.Answer h reply.Again) t = (t.0, inr t.1)
-  tells-more q ms x (message.Answer h (reply.Done c a b d)) t = t
-  tells-more q ms x (message.Answer h (reply.Failed c a)) t = t
-  tells-more q ms x (message.Answer h reply.Prepared) t = t
-  tells-more q ms x (message.Answer h reply.Committed) t = t
-  tells-more q ms x (message.Answer h reply.Jfault) t = t
-  tells-more q ms x (message.Answer h reply.Aborted) t = t
-  tells-more q ms x (message.Answer h reply.Forgotten) t = t
-  tells-more q ms x (message.Exec a b c d f y) t = absurd t
-  tells-more q ms x (message.Prepare a) t = absurd t
-  tells-more q ms x (message.Commit a) t = absurd t
-  tells-more q ms x (message.CommitPrepared a) t = absurd t
-  tells-more q ms x (message.Abort a) t = absurd t
-  tells-more q ms x (message.Forget a) t = absurd t
-  tells-more q ms x (message.Collect a) t = absurd t
-  tells-more q ms x (message.Graph a b) t = absurd t
+  -- marks that say nothing of its part
+  abbrev IsAside : Mark → Type 0
+  IsAside x = NoPart x × NoVote x × Follows told k i g x
 
-  held : (n : Node) (wanted : Claim) (turn : SegTurn) → Does turn → Each NoVote turn.marks → Does (behind (hold_mark n wanted ∷ []) turn)
-  held n wanted turn d v =
-      record {
-        others = d.others;
-        next = d.next;
-        marks = (tt, d.marks);
-        votes = v;
-        outs = each_weaker (λ (o : Out). Tells k (after turn) i g turn.marks o.message) (λ (o : Out). Tells k (after turn) i g (hold_mark n wanted ∷ turn.marks) o.message) (λ o t. tells-more (after turn) turn.marks (hold_mark n wanted) o.message t) turn.outs d.outs;
-        fails = λ x. more (d.fails x);
-      }
-    where
-      more : (l.vote ≡ Some reply.Jfault) ⊎ HasMark (mark.JournalFailed (at i) (gx g)) turn.marks → (l.vote ≡ Some reply.Jfault) ⊎ HasMark (mark.JournalFailed (at i) (gx g)) (hold_mark n wanted ∷ turn.marks)
-      more (inl x) = inl x
-      more (inr x) = inr (inr x)
+  aside-after : (x : Local) (ms : List Mark) → Each NoPart ms → after_marks x w pc lc i g ms ≡ part_of x w pc lc
+  aside-after x ms f =
+      part-eq x _ w _ pc _ lc (ap (λ b. w || b) (no-writer ms (gx g) (at i) f) ∙ or-false w)
+      (ap (λ n. pc + n) (no-prepared ms (at i) (gx g) f) ∙ plus-none pc) (ap (λ n. lc + n) (no-local ms (at i) (gx g) f) ∙ plus-none lc)
 
   -- the journal's failure
   failed-here : HasMark (mark.JournalFailed (at i) (gx g)) (mark.JournalFailed s.node (gx g) ∷ [])
@@ -244,10 +236,10 @@ module _ (told : Message) (k : Known) (s : Seg) (i g : ℕ) (named : s.node ≡ 
   counted-one n = ap (λ b. n + (if (b && eqb g g) then 0 + 1 else 0)) node-is ∙ ap (λ b. n + (if b then 0 + 1 else 0)) (eqb-self g)
 
   prepared-after : (x : Local) → after_marks x w pc lc i g (mark.Prepared s.node (gx g) ∷ []) ≡ part_of x w (pc + 1) lc
-  prepared-after x = ap (λ b. part_of x b (pc + prepared_count (mark.Prepared s.node (gx g) ∷ []) (at i) (gx g)) (lc + 0)) (or-false w) ∙ ap (λ n. part_of x w n (lc + 0)) (counted-one pc) ∙ ap (λ n. part_of x w (pc + 1) n) (plus-none lc)
+  prepared-after x = part-eq x _ w _ (pc + 1) _ lc (or-false w) (counted-one pc) (plus-none lc)
 
   local-after : (x : Local) → after_marks x w pc lc i g (mark.LocalCommit s.node (gx g) ∷ []) ≡ part_of x w pc (lc + 1)
-  local-after x = ap (λ b. part_of x b (pc + 0) (lc + local_count (mark.LocalCommit s.node (gx g) ∷ []) (at i) (gx g))) (or-false w) ∙ ap (λ n. part_of x w n (lc + local_count (mark.LocalCommit s.node (gx g) ∷ []) (at i) (gx g))) (plus-none pc) ∙ ap (λ n. part_of x w pc n) (counted-one lc)
+  local-after x = part-eq x _ w _ pc _ (lc + 1) (or-false w) (plus-none pc) (counted-one lc)
 
   at-node : s.node.0 ≡ i
   at-node = ap (λ (n : Node). n.0) named
@@ -358,30 +350,13 @@ module _ (told : Message) (k : Known) (s : Seg) (i g : ℕ) (named : s.node ≡ 
       let back : List Mark = release_marks s.node s.locks (gx g) in
       record {
         others = λ h q. ap (λ b. if b then x else s.locals h) q;
-        next = subst (λ y. Next k p (after_marks y w pc lc i g back)) (sym (here x)) (subst (Next k p) (sym (released-after x)) (end-next k p ph e o d c st));
+        next = subst (λ y. Next k p (after_marks y w pc lc i g back)) (sym (here x))
+            (subst (Next k p) (sym (aside-after x back (each-released NoPart s.node s.locks (gx g) (λ claim. tt)))) (end-next k p ph e o d c st));
         marks = each-released (Follows told k i g) s.node s.locks (gx g) (λ claim. tt);
         votes = no-votes told k p g back (each-released NoVote s.node s.locks (gx g) (λ claim. tt));
         outs = (told-of k _ back r n (a _), tt);
         fails = λ v. inl (subst (λ (y : Local). y.vote ≡ Some reply.Jfault) (here x) v);
       }
-    where
-      no-writer : (claims : List Claim) → is_writer (map (release_mark s.node) claims) (gx g) (at i) ≡ false
-      no-writer [] = refl
-      no-writer (claim ∷ claims) = no-writer claims
-
-      no-promise : (claims : List Claim) → prepared_count (map (release_mark s.node) claims) (at i) (gx g) ≡ 0
-      no-promise [] = refl
-      no-promise (claim ∷ claims) = no-promise claims
-
-      no-commit : (claims : List Claim) → local_count (map (release_mark s.node) claims) (at i) (gx g) ≡ 0
-      no-commit [] = refl
-      no-commit (claim ∷ claims) = no-commit claims
-
-      released-after : (x : Local) → after_marks x w pc lc i g (release_marks s.node s.locks (gx g)) ≡ part_of x w pc lc
-      released-after x =
-          ap (λ b. part_of x (w || b) (pc + prepared_count (release_marks s.node s.locks (gx g)) (at i) (gx g)) (lc + local_count (release_marks s.node s.locks (gx g)) (at i) (gx g))) (no-writer (has_there s.locks (gx g)))
-          ∙ ap (λ n. part_of x (w || false) (pc + n) (lc + local_count (release_marks s.node s.locks (gx g)) (at i) (gx g))) (no-promise (has_there s.locks (gx g)))
-          ∙ ap (λ n. part_of x (w || false) (pc + 0) (lc + n)) (no-commit (has_there s.locks (gx g))) ∙ none-after x
 
   abort : (ph : Phase) → l.phase ≡ ph → Said k p (message.Abort (gx g)) → Does (on_abort s (gx g) l ph)
   abort Reading f st = ended Aborted reply.Aborted refl (λ q. tt) refl (λ x. absurd (cc)) (sym (ap has_committed f)) (e.aborts st)
@@ -453,9 +428,10 @@ module _ (told : Message) (k : Known) (s : Seg) (i g : ℕ) (named : s.node ≡ 
     local : t.locals g ≡ record l { suspended = None }
     node : t.node ≡ s.node
 
-  module _ (c : Cid) (m : IsExecOf told g c) (born : k.at ≡ Unborn → ⊥) (o : is_open l.phase ≡ true) (t : Seg) (base : Base t) (goes : (phase : Phase) (r : Reply) (x : Bool) → is_open phase ≡ true → has_written phase ≡ (w || x) → IsKept c.0 (w || x) (Some r) → Next k p (running phase c.0 (Some r) x p)) where
+  -- a command runs there, behind the marks of its lock
+  module _ (c : Cid) (m : IsExecOf told g c) (may : MayRun k p c.0) (t : Seg) (base : Base t) (ns : List Mark) (aside : Each IsAside ns) where
     -- on the way through its rows
-    record Inserting (x : Moved) : Type 0 where
+    record Going (x : Moved) : Type 0 where
       others : (j : ℕ) → eqb j g ≡ false → x.seg.locals j ≡ s.locals j
       phase : Phase
       local : x.seg.locals g ≡ record l { suspended = None; phase = phase }
@@ -463,86 +439,146 @@ module _ (told : Message) (k : Known) (s : Seg) (i g : ℕ) (named : s.node ≡ 
       wrote : has_written phase ≡ (w || is_writer x.marks (gx g) (at i))
       marks : Each (Follows told k i g) x.marks
       calm : Each NoVote x.marks
-      promises : prepared_count x.marks (at i) (gx g) ≡ 0
-      commits : local_count x.marks (at i) (gx g) ≡ 0
       node : x.seg.node ≡ s.node
 
-    ran : (x : Moved) (r : Reply) → Inserting x → IsKept c.0 (w || is_writer x.marks (gx g) (at i)) (Some r) → Does (answers x.seg (gx g) c x.marks r)
-    ran x r f a =
-        let y : Local = record (x.seg.locals g) { last = c.0; answer = Some r } in
-        let n : Next k p (running f.phase c.0 (Some r) (is_writer x.marks (gx g) (at i)) p) = goes f.phase r (is_writer x.marks (gx g) (at i)) f.opens f.wrote a in
-        let same : after_marks y w pc lc i g x.marks ≡ running f.phase c.0 (Some r) (is_writer x.marks (gx g) (at i)) p
-        = ap (λ (z : Local). after_marks (record z { last = c.0; answer = Some r }) w pc lc i g x.marks) f.local
-        ∙ ap (λ n. part_of (record l { suspended = None; phase = f.phase; last = c.0; answer = Some r }) (w || is_writer x.marks (gx g) (at i)) (pc + n) (lc + local_count x.marks (at i) (gx g))) f.promises
-        ∙ ap (λ n. part_of (record l { suspended = None; phase = f.phase; last = c.0; answer = Some r }) (w || is_writer x.marks (gx g) (at i)) (pc + 0) (lc + n)) f.commits
-        ∙ ap (λ n. part_of (record l { suspended = None; phase = f.phase; last = c.0; answer = Some r }) (w || is_writer x.marks (gx g) (at i)) n (lc + 0)) (plus-none pc)
-        ∙ ap (λ n. part_of (record l { suspended = None; phase = f.phase; last = c.0; answer = Some r }) (w || is_writer x.marks (gx g) (at i)) pc n) (plus-none lc) in
-        let set : with_at x.seg.locals g y g ≡ y = ap (λ b. if b then y else x.seg.locals g) (eqb-self g) in
+    -- ONE MOVE
+    starts : Going (starts_from t)
+    starts = record { others = base.others; phase = l.phase; local = base.local; opens = may.opens; wrote = e.written may.opens ∙ sym (or-false w); marks = tt; calm = tt; node = base.node }
+
+    -- a mark that says nothing of its part, and other locks
+    aside-more : (x : Moved) (locks : Locks) (y : Mark) → Going x → IsAside y → Going (record { seg = record x.seg { locks = locks }; marks = x.marks ++ y ∷ [] })
+    aside-more x locks y f a =
         record {
-          others = λ j d. ap (λ b. if b then y else x.seg.locals j) d ∙ f.others j d;
-          next = subst (λ z. Next k p (after_marks z w pc lc i g x.marks)) (sym set) (subst (Next k p) (sym same) n);
-          marks = f.marks;
-          votes = no-votes told k p g x.marks f.calm;
-          outs = (subst (λ z. Tells k (after_marks z w pc lc i g x.marks) i g x.marks (message.Answer (gx g) r)) (sym set) (subst (λ q. Tells k q i g x.marks (message.Answer (gx g) r)) (sym same) (told-of k _ x.marks r (kept-not-again c.0 _ r a) (kept-answers born _ r n.pair refl))), tt);
-          fails = λ v. inl (subst (λ (z : Local). z.vote ≡ Some reply.Jfault) f.local (subst (λ (z : Local). z.vote ≡ Some reply.Jfault) set v));
-        }
-
-    quiet : (ms : List Mark) → is_writer ms (gx g) (at i) ≡ false → prepared_count ms (at i) (gx g) ≡ 0 → local_count ms (at i) (gx g) ≡ 0 → Each (Follows told k i g) ms → Each NoVote ms → Inserting (record { seg = t; marks = ms })
-    quiet ms a b d f n =
-        record { others = base.others; phase = l.phase; local = base.local; opens = o; wrote = e.written o ∙ sym (or-false w) ∙ ap (λ x. w || x) (sym a); marks = f; calm = n; promises = b; commits = d; node = base.node }
-
-    select : (q : Query) (rows : List KeyedRow) (f : Option (KeyedRow × ArithFault)) → Does (selects t (gx g) c q rows f)
-    select q rows None = ran (record { seg = t; marks = [] }) _ (quiet [] refl refl refl tt tt) (refl, ap (λ (z : Local). has_written z.phase) base.local ∙ e.written o ∙ sym (or-false w))
-    select q rows (Some f) = ran (record { seg = t; marks = mark.Fault (gx g) c f.0.rid (Some f.0.row) ∷ [] }) _ (quiet _ refl refl refl (tt, tt) (tt, tt)) tt
-
-    locks-table : Does (locks_only t (gx g) c)
-    locks-table = ran (record { seg = t; marks = [] }) _ (quiet [] refl refl refl tt tt) (refl, ap (λ (z : Local). has_written z.phase) base.local ∙ e.written o ∙ sym (or-false w))
-
-    insert-row : (table : Table) (x : Moved) (row : KeyedRow) → Inserting x → Inserting (inserts_row (gx g) c table x row)
-    insert-row table x row f =
-        record {
-          others = λ j d. ap (λ b. if b then record (x.seg.locals g) { phase = Writing } else x.seg.locals j) d ∙ f.others j d;
-          phase = Writing;
-          local = ap (λ b. if b then record (x.seg.locals g) { phase = Writing } else x.seg.locals g) (eqb-self g) ∙ ap (λ (z : Local). record z { phase = Writing }) f.local;
-          opens = refl;
-          wrote = sym (ap (λ b. w || b) (writer-append x.marks (mark.Write (gx g) c x.seg.node table row.rid (Some row.row) ∷ []) (gx g) (at i)) ∙ all-true w (is_writer x.marks (gx g) (at i)) (eqb g g) (eqb x.seg.node.0 i) (eqb-self g) (ap (λ (n : Node). eqb n.0 i) f.node ∙ node-is));
-          marks = each_append (Follows told k i g) x.marks _ f.marks ((refl, ap (λ (n : Node). n.0) f.node ∙ at-node, m), tt);
-          calm = each_append NoVote x.marks _ f.calm (tt, tt);
-          promises = prepared-append x.marks (mark.Write (gx g) c x.seg.node table row.rid (Some row.row) ∷ []) (at i) (gx g) ∙ plus-none _ ∙ f.promises;
-          commits = local-append x.marks (mark.Write (gx g) c x.seg.node table row.rid (Some row.row) ∷ []) (at i) (gx g) ∙ plus-none _ ∙ f.commits;
+          others = f.others;
+          phase = f.phase;
+          local = f.local;
+          opens = f.opens;
+          wrote = f.wrote ∙ ap (λ b. w || b) (sym same);
+          marks = each_append (Follows told k i g) x.marks (y ∷ []) f.marks (a.2, tt);
+          calm = each_append NoVote x.marks (y ∷ []) f.calm (a.1, tt);
           node = f.node;
         }
       where
+        same : is_writer (x.marks ++ y ∷ []) (gx g) (at i) ≡ is_writer x.marks (gx g) (at i)
+        same =
+            writer-append x.marks (y ∷ []) (gx g) (at i)
+            ∙ ap (λ b. is_writer x.marks (gx g) (at i) || b) (no-writer (y ∷ []) (gx g) (at i) (a.0, tt))
+            ∙ or-false (is_writer x.marks (gx g) (at i))
+
+    -- a row is written
+    write-more : (table : Table) (x : Moved) (rid : Rid) (image : Option (List Value)) → Going x
+        → Going (record { seg = adds_version x.seg (gx g) (version (gx g) c table rid image); marks = x.marks ++ mark.Write (gx g) c x.seg.node table rid image ∷ [] })
+    write-more table x rid image f =
+        record {
+          others = λ j d. ap (λ b. if b then new else x.seg.locals j) d ∙ f.others j d;
+          phase = Writing;
+          local = ap (λ b. if b then new else x.seg.locals g) (eqb-self g) ∙ ap (λ (z : Local). record z { phase = Writing }) f.local;
+          opens = refl;
+          wrote = sym (ap (λ b. w || b) (writer-append x.marks (y ∷ []) (gx g) (at i)) ∙ all-true w (is_writer x.marks (gx g) (at i)) (eqb g g) (eqb x.seg.node.0 i) (eqb-self g) at-node-there);
+          marks = each_append (Follows told k i g) x.marks (y ∷ []) f.marks ((refl, ap (λ (n : Node). n.0) f.node ∙ at-node, m), tt);
+          calm = each_append NoVote x.marks (y ∷ []) f.calm (tt, tt);
+          node = f.node;
+        }
+      where
+        new : Local
+        new = record (x.seg.locals g) { phase = Writing }
+
+        at-node-there : eqb x.seg.node.0 i ≡ true
+        at-node-there = ap (λ (n : Node). eqb n.0 i) f.node ∙ node-is
+
+        y : Mark
+        y = mark.Write (gx g) c x.seg.node table rid image
+
         all-true : (a b c d : Bool) → c ≡ true → d ≡ true → (a || (b || ((c && d) || false))) ≡ true
         all-true a b c d x y = grind arith
 
-    insert-rows : (table : Table) (rows : List KeyedRow) (x : Moved) → Inserting x → Inserting (fold (inserts_row (gx g) c table) x rows)
+    own-more : (phase : Phase) (x : Moved) → Going x → Going (takes_own (gx g) phase x)
+    own-more Reading x f = aside-more x (with_hold x.seg.locks (own_lock (gx g))) (hold_mark x.seg.node (own_lock (gx g))) f (tt, tt, tt)
+    own-more Writing x f = f
+    own-more Prepared x f = f
+    own-more Committed x f = f
+    own-more (Forgotten b) x f = f
+    own-more Aborted x f = f
+
+    writes-more : (table : Table) (x : Moved) (rid : Rid) (image : Option (List Value)) → Going x → Going (writes_row (gx g) c table x rid image)
+    writes-more table x rid image f = own-more (x.seg.locals g).phase _ (write-more table x rid image f)
+
+    -- WHERE IT STOPS
+    -- its record there, and what it sends
+    stopped : (x : Moved) (f : Going x) (y : Local) (r : Option Reply) (o : Option Suspended) (outs : List Out) → y ≡ record l { phase = f.phase; last = c.0; answer = r; suspended = o }
+        → IsKept c.0 (w || is_writer x.marks (gx g) (at i)) r → (is_some o ≡ true → r ≡ None)
+        → ((q : Part) → Pair k q → q.answer ≡ r → Each (λ (out : Out). Tells k q i g (ns ++ x.marks) out.message) outs)
+        → Does (behind ns (record { seg = with_local x.seg (gx g) y; marks = x.marks; outs = outs; item = None }))
+    stopped x f y r o outs is a unanswered tells-so =
+        record {
+          others = λ j d. ap (λ b. if b then y else x.seg.locals j) d ∙ f.others j d;
+          next = subst (Next k p) (sym same) next;
+          marks = each_append (Follows told k i g) ns x.marks (each_weaker IsAside (Follows told k i g) (λ z q. q.2) ns aside) f.marks;
+          votes = no-votes told k p g (ns ++ x.marks) calm;
+          outs = subst (λ q. Each (λ (out : Out). Tells k q i g (ns ++ x.marks) out.message) outs) (sym same) (tells-so left next.pair refl);
+          fails = λ v. inl (ap (λ (z : Local). z.vote) (sym set) ∙ v);
+        }
+      where
+        left : Part
+        left = running f.phase c.0 r (is_writer x.marks (gx g) (at i)) (is_some o) p
+
+        next : Next k p left
+        next = runs-next k p f.phase c.0 r (is_writer x.marks (gx g) (at i)) (is_some o) e may f.opens f.wrote a unanswered
+
+        calm : Each NoVote (ns ++ x.marks)
+        calm = each_append NoVote ns x.marks (each_weaker IsAside NoVote (λ z q. q.1) ns aside) f.calm
+
+        set : with_at x.seg.locals g y g ≡ record l { phase = f.phase; last = c.0; answer = r; suspended = o }
+        set = ap (λ b. if b then y else x.seg.locals g) (eqb-self g) ∙ is
+
+        wrote-so : is_writer (ns ++ x.marks) (gx g) (at i) ≡ is_writer x.marks (gx g) (at i)
+        wrote-so = writer-append ns x.marks (gx g) (at i) ∙ ap (λ b. b || is_writer x.marks (gx g) (at i)) (no-writer ns (gx g) (at i) (each_weaker IsAside NoPart (λ z q. q.0) ns aside))
+
+        same : after_marks (with_at x.seg.locals g y g) w pc lc i g (ns ++ x.marks) ≡ left
+        same =
+            ap (λ z. after_marks z w pc lc i g (ns ++ x.marks)) set
+            ∙ part-eq (record l { phase = f.phase; last = c.0; answer = r; suspended = o }) _ _ _ _ _ _ (ap (λ b. w || b) wrote-so)
+            (ap (λ n. pc + n) (no-votes-prepared (ns ++ x.marks) (at i) (gx g) calm) ∙ plus-none pc) (ap (λ n. lc + n) (no-votes-local (ns ++ x.marks) (at i) (gx g) calm) ∙ plus-none lc)
+
+    -- it answers
+    ran : (x : Moved) (r : Reply) → Going x → IsKept c.0 (w || is_writer x.marks (gx g) (at i)) (Some r) → Does (behind ns (answers x.seg (gx g) c x.marks r))
+    ran x r f a =
+        stopped x f (record (x.seg.locals g) { last = c.0; answer = Some r }) (Some r) None (reply (gx g) r ∷ [])
+        (ap (λ (z : Local). record z { last = c.0; answer = Some r }) f.local) a (λ z. absurd (cc))
+        (λ q pair is. (told-of k q (ns ++ x.marks) r (kept-not-again c.0 _ r a) (kept-answers (drawn-runs k p e may.stands) q r pair is), tt))
+
+    is-done : (x : Moved) (count : ℕ) (part : QueryPart) → Going x → Does (behind ns (answers x.seg (gx g) c x.marks (reply.Done c (has_written (local_of x.seg (gx g)).phase) count part)))
+    is-done x count part f = ran x (reply.Done c (has_written (local_of x.seg (gx g)).phase) count part) f (refl, ap (λ (z : Local). has_written z.phase) f.local ∙ f.wrote)
+
+    -- or waits
+    waits : (x : Moved) (z : Suspended) → Going x
+        → Does (behind ns (record { seg = with_local x.seg (gx g) (record (local_of x.seg (gx g)) { last = c.0; answer = None; suspended = Some z }); marks = x.marks; outs = []; item = None }))
+    waits x z f =
+        stopped x f (record (x.seg.locals g) { last = c.0; answer = None; suspended = Some z }) None (Some z) []
+        (ap (λ (v : Local). record v { last = c.0; answer = None; suspended = Some z }) f.local) tt (λ q. refl) (λ q pair is. tt)
+
+    -- ALL SLICES
+    select : (q : Query) (rows : List KeyedRow) (f : Option (KeyedRow × ArithFault)) → Does (behind ns (selects t (gx g) c q rows f))
+    select q rows None = is-done (starts_from t) 0 _ starts
+    select q rows (Some f) =
+        ran (record { seg = t; marks = mark.Fault (gx g) c f.0.rid (Some f.0.row) ∷ [] }) (reply.Failed c (cause_of f.1))
+        (aside-more (starts_from t) t.locks (mark.Fault (gx g) c f.0.rid (Some f.0.row)) starts (tt, tt, tt)) tt
+
+    insert-rows : (table : Table) (rows : List KeyedRow) (x : Moved) → Going x → Going (fold (inserts_row (gx g) c table) x rows)
     insert-rows table [] x f = f
-    insert-rows table (r ∷ rs) x f = insert-rows table rs (inserts_row (gx g) c table x r) (insert-row table x r f)
+    insert-rows table (r ∷ rs) x f = insert-rows table rs (inserts_row (gx g) c table x r) (writes-more table x r.rid (Some r.row) f)
 
-    insert : (count : ℕ) (x : Moved) → Inserting x → Does (inserts (gx g) c count x)
-    insert count x f = ran x _ f (refl, ap (λ (z : Local). has_written z.phase) f.local ∙ f.wrote)
+    slice-runs : (script : Script) (level : Level) (x : Option Snapshot) (y : Slice) → (is_some x || reads_nothing y) ≡ true → is_right_slice script (gx g) c y ≡ true
+        → Does (behind ns (runs_slice t (gx g) c level x y))
+    slice-runs script level (Some x) (slice.Select q) a r = select q (shown t x (gx g) c q.table) (first_fault q.cond (shown t x (gx g) c q.table))
+    slice-runs script level (Some x) (slice.Insert table rows) a r = is-done (inserted t (gx g) c table rows) (length rows) _ (insert-rows table rows (starts_from t) starts)
+    slice-runs script level None (slice.Select q) a r = absurd (cc)
+    slice-runs script level None (slice.Insert table rows) a r = absurd (cc)
+    slice-runs script level x (slice.Lock table mode) a r = is-done (starts_from t) 0 _ starts
+    slice-runs script level x (slice.Update table assigns cond) a r = absurd (cc)
+    slice-runs script level x (slice.Delete table cond) a r = absurd (cc)
 
-    -- it runs, and neither promises nor commits
-    abbrev Runs : SegTurn → Type 0
-    Runs turn = Does turn × Each NoVote turn.marks
-
-    selected : (q : Query) (rows : List KeyedRow) (f : Option (KeyedRow × ArithFault)) → Runs (selects t (gx g) c q rows f)
-    selected q rows None = (select q rows None, tt)
-    selected q rows (Some f) = (select q rows (Some f), (tt, tt))
-
-    slice-runs : (script : Script) (x : Option Snapshot) (y : Slice) → (is_some x || reads_nothing y) ≡ true → is_right_slice script (gx g) c y ≡ true → Runs (runs_slice t (gx g) c x y)
-    slice-runs script (Some x) (slice.Select q) a r = selected q (shown t x (gx g) c q.table) (first_fault q.cond (shown t x (gx g) c q.table))
-    slice-runs script (Some x) (slice.Insert table rows) a r =
-        let all = insert-rows table rows (record { seg = t; marks = [] }) (quiet [] refl refl refl tt tt) in
-        (insert (length rows) (inserted t (gx g) c table rows) all, all.calm)
-    slice-runs script None (slice.Select q) a r = absurd (cc)
-    slice-runs script None (slice.Insert table rows) a r = absurd (cc)
-    slice-runs script x (slice.Lock table mode) a r = (locks-table, tt)
-    slice-runs script x (slice.Update table assigns cond) a r = absurd (cc)
-    slice-runs script x (slice.Delete table cond) a r = absurd (cc)
-
-  -- a new command has its lock, or takes none, or waits
+  -- a new command has its lock, or waits
   module _ (script : Script) (c : Cid) (m : IsExecOf told g c) (st : IsCommand k p c.0) (level : Level) (x : Option Snapshot) (h : Gxid) (y : Slice) (o : is_open l.phase ≡ true) (fit : fits_exec script s (gx g) c x h y ≡ true) where
     is-right : (a b d e f : Bool) → (a && (b && (d && (e && f)))) ≡ true → (d ≡ true) × (e ≡ true) × (f ≡ true)
     is-right a b d e f z = (grind arith, grind arith, grind arith)
@@ -561,40 +597,37 @@ module _ (told : Message) (k : Known) (s : Seg) (i g : ℕ) (named : s.node ≡ 
         none-of (Some z) q = absurd (cc)
 
     module _ (q : nat_lt l.last c.0 ≡ true) where
-      run : (locks : Locks) → Does (runs_slice (record (raised s h) { locks = locks }) (gx g) c x y) × Each NoVote (runs_slice (record (raised s h) { locks = locks }) (gx g) c x y).marks
-      run locks =
-          slice-runs c m st.drawn o (record (raised s h) { locks = locks }) (record { others = λ j d. refl; local = idle l (not-waiting (nat_lt l.last c.0) (is_waiting l) right.2 q); node = refl })
-          (λ phase r z a b d. run-next k p phase c.0 (Some r) z e o a b (lt-of l.last c.0 q) d st) script x y right.0 right.1
+      may-run : MayRun k p c.0
+      may-run = new-runs k p c.0 o (lt-of l.last c.0 q) st
 
-      waits : (wanted : Claim) → Does (suspends (raised s h) (gx g) c level x y wanted)
-      waits wanted =
-          let v : Local = record l { last = c.0; answer = None; suspended = Some (suspended_slice c level x y) } in
-          let ms : List Mark = wait_mark s.node wanted ∷ [] in
-          record {
-            others = λ j d. ap (λ b. if b then v else s.locals j) d;
-            next = subst (λ z. Next k p (after_marks z w pc lc i g ms)) (sym (here v)) (subst (Next k p) (sym (none-after v)) (wait-next k p c.0 e o (lt-of l.last c.0 q) st));
-            marks = (tt, tt);
-            votes = tt;
-            outs = tt;
-            fails = λ z. inl (subst (λ (u : Local). u.vote ≡ Some reply.Jfault) (here v) z);
-          }
+      raised-base : Base (raised s h)
+      raised-base = record { others = λ j d. refl; local = idle l (not-waiting (nat_lt l.last c.0) (is_waiting l) right.2 q); node = refl }
 
-      by_free : (wanted : Claim) (b : Bool) → Does (if b then runs_locked (raised s h) (gx g) c x y wanted else suspends (raised s h) (gx g) c level x y wanted)
-      by_free wanted true = let r = run (with_hold s.locks wanted) in held s.node wanted _ r.0 r.1
-      by_free wanted false = waits wanted
+      locked-base : (locks : Locks) → Base (record (raised s h) { locks = locks })
+      locked-base locks = record { others = λ j d. refl; local = raised-base.local; node = refl }
 
-      starts : (wanted : Option Claim) → Does (requests (raised s h) (gx g) c level x y wanted)
-      starts None = (run s.locks).0
-      starts (Some wanted) = by_free wanted (is_free s.locks.holds wanted)
+      by_free : (wanted : Claim) (b : Bool) → Does (if b then runs_locked (raised s h) (gx g) c level x y wanted else suspends (raised s h) (gx g) c level x y wanted)
+      by_free wanted true =
+          slice-runs c m may-run (record (raised s h) { locks = with_hold s.locks wanted }) (locked-base (with_hold s.locks wanted))
+          (hold_mark s.node wanted ∷ []) ((tt, tt, tt), tt) script level x y right.0 right.1
+      by_free wanted false =
+          waits c m may-run (raised s h) raised-base [] tt
+          (record { seg = record (raised s h) { locks = with_wait s.locks wanted }; marks = wait_mark s.node wanted ∷ [] }) (suspended_slice c level x y)
+          (aside-more c m may-run (raised s h) raised-base [] tt (starts_from (raised s h)) (with_wait s.locks wanted) (wait_mark s.node wanted)
+          (starts c m may-run (raised s h) raised-base [] tt) (tt, tt, tt))
 
-    take : Does (takes s (gx g) c level x h y l)
+      request : (wanted : Claim) → Does (requests (raised s h) (gx g) c level x y wanted)
+      request wanted = by_free wanted (is_free s.locks.holds wanted)
+
+    take : Does (takes script s (gx g) c level x h y l)
     take = by_test (nat_lt l.last c.0) refl
       where
-        by_test : (b : Bool) → nat_lt l.last c.0 ≡ b → Does (if b then starts_slice (raised s h) (gx g) c level x y else repeats s (gx g) c l)
-        by_test true q = starts q (slice_lock (gx g) y)
+        by_test : (b : Bool) → nat_lt l.last c.0 ≡ b → Does (if b then starts_slice script (raised s h) (gx g) c level x y else repeats s (gx g) c l)
+        by_test true q = request q (slice_lock script (gx g) y)
         by_test false q = repeat st.drawn c
 
-  exec : (script : Script) (c : Cid) → IsExecOf told g c → IsCommand k p c.0 → (level : Level) (x : Option Snapshot) (h : Gxid) (y : Slice) → fits_exec script s (gx g) c x h y ≡ true → (ph : Phase) → l.phase ≡ ph → Does (on_exec s (gx g) c level x h y l ph)
+  exec : (script : Script) (c : Cid) → IsExecOf told g c → IsCommand k p c.0 → (level : Level) (x : Option Snapshot) (h : Gxid) (y : Slice) → fits_exec script s (gx g) c x h y ≡ true
+      → (ph : Phase) → l.phase ≡ ph → Does (on_exec script s (gx g) c level x h y l ph)
   exec script c m st level x h y fit Reading f = take script c m st level x h y (ap is_open f) fit
   exec script c m st level x h y fit Writing f = take script c m st level x h y (ap is_open f) fit
   exec script c m st level x h y fit Prepared f = repeat st.drawn c
@@ -603,11 +636,12 @@ module _ (told : Message) (k : Known) (s : Seg) (i g : ℕ) (named : s.node ≡ 
   exec script c m st level x h y fit Aborted f = stay
 
   -- a slice that has waited goes on
-  resume : (script : Script) (x : Suspended) (wanted : Claim) → IsExecOf told g x.cid → is_waiting l ≡ true → l.last ≡ x.cid.0 → (is_some x.snapshot || reads_nothing x.slice) ≡ true → is_right_slice script (gx g) x.cid x.slice ≡ true → Does (resumes s (gx g) (Some wanted) (Some x))
+  resume : (script : Script) (x : Suspended) (wanted : Claim) → IsExecOf told g x.cid → is_waiting l ≡ true → l.last ≡ x.cid.0
+      → (is_some x.snapshot || reads_nothing x.slice) ≡ true → is_right_slice script (gx g) x.cid x.slice ≡ true → Does (resumes s (gx g) (Some wanted) (Some x))
   resume script x wanted m y last a r =
-      let free : Seg = record (with_local s (gx g) (record l { suspended = None })) { locks = resumed s.locks (gx g) (Some wanted) } in
-      let run = slice-runs x.cid m (drawn-waits k p e y) (e.waits y).0 free (record { others = λ j d. ap (λ b. if b then record l { suspended = None } else s.locals j) d; local = here (record l { suspended = None }); node = refl }) (λ phase z b c d f. resume-next k p phase x.cid.0 (Some z) b e y c d last f) script x.snapshot x.slice a r in
-      held s.node wanted _ run.0 run.1
+      slice-runs x.cid m (waited-runs k p x.cid.0 e y last) (is_granted s (gx g) wanted).seg
+      (record { others = λ j d. ap (λ b. if b then record l { suspended = None } else s.locals j) d; local = here (record l { suspended = None }); node = refl })
+      (is_granted s (gx g) wanted).marks ((tt, tt, tt), tt) script x.level x.snapshot x.slice a r
 
   unless-low : (turn : SegTurn) → Does turn → Does (unless_below s (gx g) turn)
   unless-low turn d = by_test (is_below s.horizon (gx g))

@@ -369,10 +369,10 @@ module _ (E : ℕ → ℕ → Bool) where
         by_test false = record { table = same-on c.table; orders = work-at c.table c.works g (record (c.works g) { waiting = Some line }) ol (ol g); outs = tt }
 
     dispatch-holds : Holding c (dispatches script c (gx g) line)
-    dispatch-holds = request-holds (lock_for (gx g) line)
+    dispatch-holds = request-holds (lock_for script (gx g) line)
 
   -- LINES, AND ALL EVENTS
-  module _ (script : Script) (c : Coord) (k : Kept c) (ol : OrdersHeld c.table c.works) where
+  module _ (script : Script) (c : Coord) (k : Kept script c) (ol : OrdersHeld c.table c.works) where
     moved-holds : (s : SessionId) (x : Session) (turn : CoordTurn) → Holding (with_session c s x) turn → Holding c turn
     moved-holds s x turn f = record { table = f.table; orders = f.orders; outs = f.outs }
 
@@ -423,7 +423,7 @@ module _ (E : ℕ → ℕ → Bool) where
         plain : (q : Rattle.gx_script.specs.declared.state.Pending.Pending) → is_nothing q ≡ true → is_nothing_in q ≡ true
         plain q e = grind arith
 
-    pub event-holds : ((g : Gxid) → coord_can script c (event.Resume g) ≡ true → GoesOut c g) → (x : NodeEvent) (fails : Bool) → coord_can script c x ≡ true → IsEndedIn x → Holding c (on_event script c x fails)
+    pub event-holds : ((g : Gxid) → coord_can script c (event.Resume g) ≡ true → GoesOut script c g) → (x : NodeEvent) (fails : Bool) → coord_can script c x ≡ true → IsEndedIn x → Holding c (on_event script c x fails)
     event-holds out (event.Deliver from envelope) fails e d = message-holds c k.whole ol from fails envelope.message d
     event-holds out (event.Start s) fails e d = start-holds s (idle-first s _ e) (next_line script c s)
     event-holds out (event.End s) fails e d = end-holds s (session_of c s).state.block
@@ -431,7 +431,7 @@ module _ (E : ℕ → ℕ → Bool) where
     event-holds out (event.Resend i None) fails e d = rest-holds c k.whole ol
     event-holds out (event.Resume g) fails e d = resumed-holds (out g e)
       where
-        resumed-holds : GoesOut c g → Holding c (resumes script c g (wait_of c.locks g) (work_of c g).waiting)
+        resumed-holds : GoesOut script c g → Holding c (resumes script c g (wait_of c.locks g) (work_of c g).waiting)
         resumed-holds o =
             let free : Coord = with_work (record c { locks = resumed c.locks g (Some o.wanted) }) g (record (work_of c g) { waiting = None }) in
             let live = live-stage c g.0 o.live in

@@ -20,6 +20,7 @@ pub mod Complete
 pub mod Whole
 pub mod Lows
 pub mod Lowered
+pub mod Leaving
 pub mod Raised
 pub mod Low
 pub mod Held

@@ -390,7 +390,7 @@ module _ (script : Script) (c : Coord) (whole : IsWhole c.table) (dense : IsDens
       by_test false = record { table = λ n f. f; orders = work-at c.table c.works g.0 (record (work_of c g) { waiting = Some line }) ol (ol g.0); outs = tt }
 
   dispatch-low : (line : Stmt) → Lowered c (dispatches script c g line)
-  dispatch-low line = request-low line (lock_for g line)
+  dispatch-low line = request-low line (lock_for script g line)
 
 module _ (script : Script) (c : Coord) (whole : IsWhole c.table) (dense : IsDense c.table) (ol : OrdersLow c.table c.works) (g : Gxid) where
   resume-low : (o : Option Claim) (line : Option Stmt) → Lowered c (resumes script c g o line)

@@ -261,9 +261,9 @@ end-next k p phase e o n c s =
       grows = record { last = grind (arith, nat_tests); wrote = λ x n. refl; waits = λ x n. refl; writes = λ x. x; prepared = λ x. x; refused = λ x. x; asked = λ x. x; committed = λ x. grind (arith, nat_tests) };
     }
 
--- a command
-abbrev pub running : Phase → ℕ → Option Reply → Bool → Part → Part
-running phase c r w p = record p { phase = phase; last = c; answer = r; wrote = p.wrote || w; waits = false }
+-- a command runs, up to its answer or up to where it waits
+abbrev pub running : Phase → ℕ → Option Reply → Bool → Bool → Part → Part
+running phase c r w y p = record p { phase = phase; last = c; answer = r; wrote = p.wrote || w; waits = y }
 
 open-vote : (a b : Phase) (v : Option Reply) → is_open a ≡ true → is_open b ≡ true → IsVote a v → IsVote b v
 open-vote a b v o p w = vote-same a b v (same a b o p) w
@@ -272,14 +272,12 @@ open-vote a b v o p w = vote-same a b v (same a b o p) w
     same a b o p = grind (arith, nat_tests)
 
 -- what a slice that runs may change: it is a new command's, or one that has waited
-record Runs (k : Known) (p : Part) (c : ℕ) : Type 0 where
-  opens : is_open p.phase ≡ true
-  later : p.last ≤ c
-  drawn : k.at ≡ Unborn → ⊥
-  unclosed : is_closing k.at ≡ true → ⊥
-  last : k.at ≡ Live → c ≤ k.last
-  awaited : k.at ≡ Live → k.waits ≡ false → ⊥
-  new : c ≡ p.last → p.waits ≡ false → ⊥
+pub record MayRun (k : Known) (p : Part) (c : ℕ) : Type 0 where
+  pub opens : is_open p.phase ≡ true
+  pub later : p.last ≤ c
+  pub stands : (k.at ≡ Live) ⊎ (k.aborted ≡ true)
+  pub awaited : k.at ≡ Live → (k.waits ≡ true) × (c ≡ k.last)
+  pub new : c ≡ p.last → p.waits ≡ false → ⊥
 
 preparing : (a : Standing) (b : Bool) → a ≡ Preparing b → is_closing a ≡ true
 preparing a b x = grind (arith, nat_tests)
@@ -296,51 +294,9 @@ less a b x = omega arith
 same-le : (a b : ℕ) → a ≡ b → a ≤ b
 same-le a b x = omega arith
 
-runs-next : (k : Known) (p : Part) (phase : Phase) (c : ℕ) (r : Option Reply) (w : Bool) → Pair k p → Runs k p c → is_open phase ≡ true → has_written phase ≡ (p.wrote || w) → IsKept c (p.wrote || w) r → Next k p (running phase c r w p)
-runs-next k p phase c r w e m q h kept =
-    record {
-      pair = record {
-        promised = e.promised;
-        committed = opens p.phase phase m.opens q p.commits e.committed;
-        written = λ x. h;
-        unpromised = λ x. e.unpromised m.opens;
-        prepared = λ x. grind (arith, nat_tests);
-        kept = kept;
-        vote = open-vote p.phase phase p.vote m.opens q e.vote;
-        waits = λ x. absurd (cc);
-        awaited = λ x z. absurd (cc);
-        aborts = e.aborts;
-        ends = e.ends;
-        either = e.either;
-        undecided = e.undecided;
-        decided = e.decided;
-        unborn = λ x. absurd (m.drawn x);
-        live = λ x. (q, (e.live x).1, m.last x);
-        learns = λ x y. or_left p.wrote w (e.learns x y);
-        learned = λ x y. absurd (m.awaited x y);
-        closing = λ x. absurd (m.unclosed x);
-        asked = λ b x. absurd (m.unclosed (preparing k.at b x));
-        alone = λ b x. absurd (m.unclosed (one k.at b x));
-        both = λ b x. absurd (m.unclosed (two k.at b x));
-      };
-      grows = record { last = m.later; wrote = λ x n. absurd (m.new x n); waits = λ x n. refl; writes = λ x. or_left p.wrote w x; prepared = λ x. x; refused = λ x. x; asked = λ x. x; committed = λ x. still p.phase phase m.opens x };
-    }
-  where
-    opens : (a b : Phase) → is_open a ≡ true → is_open b ≡ true → (n : ℕ) → n ≡ bit (has_committed a) → n ≡ bit (has_committed b)
-    opens a b x y n z = grind (arith, nat_tests)
-
-    still : (a b : Phase) → is_open a ≡ true → has_committed a ≡ true → has_committed b ≡ true
-    still a b x y = grind (arith, nat_tests)
-
--- a new command runs
-pub run-next : (k : Known) (p : Part) (phase : Phase) (c : ℕ) (r : Option Reply) (w : Bool) → Pair k p → is_open p.phase ≡ true → is_open phase ≡ true → has_written phase ≡ (p.wrote || w) → p.last < c → IsKept c (p.wrote || w) r → IsCommand k p c → Next k p (running phase c r w p)
-run-next k p phase c r w e o q h l kept m =
-    runs-next k p phase c r w e
-    (record { opens = o; later = less p.last c l; drawn = m.drawn; unclosed = λ x. lt-le p.last c l (m.closed x); last = m.last; awaited = λ x y. lt-le p.last c l (m.taken x y); new = λ x n. lt-le p.last c l (same-le c p.last x) }) q h kept
-
--- one that has waited runs
-pub drawn-waits : (k : Known) (p : Part) → Pair k p → p.waits ≡ true → k.at ≡ Unborn → ⊥
-drawn-waits k p e y u = by_place (e.waits y).2
+-- who runs or has aborted is drawn, and isn't on the way to a commit
+pub drawn-runs : (k : Known) (p : Part) → Pair k p → (k.at ≡ Live) ⊎ (k.aborted ≡ true) → k.at ≡ Unborn → ⊥
+drawn-runs k p e s u = by_place s
   where
     not-live : Unborn ≡ Live → ⊥
     not-live x = cc
@@ -352,8 +308,8 @@ drawn-waits k p e y u = by_place (e.waits y).2
     by_place (inl x) = not-live (sym u ∙ x)
     by_place (inr x) = not-over (sym u ∙ e.aborts x)
 
-pub unclosed-waits : (k : Known) (p : Part) → Pair k p → p.waits ≡ true → is_closing k.at ≡ true → ⊥
-unclosed-waits k p e y u = by_place (e.waits y).2
+unclosed-runs : (k : Known) (p : Part) → Pair k p → (k.at ≡ Live) ⊎ (k.aborted ≡ true) → is_closing k.at ≡ true → ⊥
+unclosed-runs k p e s u = by_place s
   where
     open-one : (a b : Standing) → is_closing a ≡ true → a ≡ b → is_closing b ≡ false → ⊥
     open-one a b x y z = grind arith
@@ -362,43 +318,78 @@ unclosed-waits k p e y u = by_place (e.waits y).2
     by_place (inl x) = open-one k.at Live u x refl
     by_place (inr x) = open-one k.at Over u (e.aborts x) refl
 
-pub resume-next : (k : Known) (p : Part) (phase : Phase) (c : ℕ) (r : Option Reply) (w : Bool) → Pair k p → p.waits ≡ true → is_open phase ≡ true → has_written phase ≡ (p.wrote || w) → p.last ≡ c → IsKept c (p.wrote || w) r → Next k p (running phase c r w p)
-resume-next k p phase c r w e y q h l kept =
-    runs-next k p phase c r w e
-    (record { opens = (e.waits y).0; later = same-le p.last c l; drawn = drawn-waits k p e y; unclosed = unclosed-waits k p e y; last = λ x. same-le c k.last (sym l ∙ (e.awaited x y).1); awaited = λ x z. quiet-waits k.waits z (e.awaited x y).0; new = λ x n. quiet-waits p.waits n y }) q h kept
+pub drawn-waits : (k : Known) (p : Part) → Pair k p → p.waits ≡ true → k.at ≡ Unborn → ⊥
+drawn-waits k p e y u = drawn-runs k p e (e.waits y).2 u
 
--- a new command waits
-abbrev pub suspending : ℕ → Part → Part
-suspending c p = record p { last = c; answer = None; waits = true }
+pub unclosed-waits : (k : Known) (p : Part) → Pair k p → p.waits ≡ true → is_closing k.at ≡ true → ⊥
+unclosed-waits k p e y u = unclosed-runs k p e (e.waits y).2 u
 
-pub wait-next : (k : Known) (p : Part) (c : ℕ) → Pair k p → is_open p.phase ≡ true → p.last < c → IsCommand k p c → Next k p (suspending c p)
-wait-next k p c e o l m =
+pub runs-next : (k : Known) (p : Part) (phase : Phase) (c : ℕ) (r : Option Reply) (w y : Bool) → Pair k p → MayRun k p c → is_open phase ≡ true → has_written phase ≡ (p.wrote || w)
+    → IsKept c (p.wrote || w) r → (y ≡ true → r ≡ None) → Next k p (running phase c r w y p)
+runs-next k p phase c r w y e m q h kept unanswered =
     record {
       pair = record {
         promised = e.promised;
-        committed = e.committed;
-        written = e.written;
-        unpromised = e.unpromised;
-        prepared = e.prepared;
-        kept = tt;
-        vote = e.vote;
-        waits = λ x. (o, refl, stands k.at refl);
-        awaited = λ x z. (waits k.waits refl x, latest p.last c k.last l (m.last x) (m.older x));
+        committed = opens p.phase phase m.opens q p.commits e.committed;
+        written = λ x. h;
+        unpromised = λ x. e.unpromised m.opens;
+        prepared = λ x. grind (arith, nat_tests);
+        kept = kept;
+        vote = open-vote p.phase phase p.vote m.opens q e.vote;
+        waits = λ x. (q, unanswered x, m.stands);
+        awaited = λ x z. m.awaited x;
         aborts = e.aborts;
         ends = e.ends;
         either = e.either;
         undecided = e.undecided;
         decided = e.decided;
-        unborn = λ x. absurd (m.drawn x);
-        live = λ x. (o, (e.live x).1, m.last x);
-        learns = e.learns;
-        learned = λ x y. absurd (lt-le p.last c l (m.taken x y));
-        closing = λ x. absurd (lt-le p.last c l (m.closed x));
-        asked = λ b x. absurd (lt-le p.last c l (m.closed (preparing k.at b x)));
-        alone = λ b x. absurd (lt-le p.last c l (m.closed (one k.at b x)));
-        both = λ b x. absurd (lt-le p.last c l (m.closed (two k.at b x)));
+        unborn = λ x. absurd (drawn-runs k p e m.stands x);
+        live = λ x. (q, (e.live x).1, same-le c k.last (m.awaited x).1);
+        learns = λ x y. or_left p.wrote w (e.learns x y);
+        learned = λ x n. quiet-waits k.waits n (m.awaited x).0;
+        closing = λ x. absurd (unclosed-runs k p e m.stands x);
+        asked = λ b x. absurd (unclosed-runs k p e m.stands (preparing k.at b x));
+        alone = λ b x. absurd (unclosed-runs k p e m.stands (one k.at b x));
+        both = λ b x. absurd (unclosed-runs k p e m.stands (two k.at b x));
       };
-      grows = record { last = less p.last c l; wrote = λ x n. refl; waits = λ x n. absurd (lt-le p.last c l (same-le c p.last x)); writes = λ x. x; prepared = λ x. x; refused = λ x. x; asked = λ x. x; committed = λ x. x };
+      grows = record {
+        last = m.later;
+        wrote = λ x n. absurd (m.new x n);
+        waits = λ x n. absurd (m.new x n);
+        writes = λ x. or_left p.wrote w x;
+        prepared = λ x. x;
+        refused = λ x. x;
+        asked = λ x. x;
+        committed = λ x. still p.phase phase m.opens x;
+      };
+    }
+  where
+    opens : (a b : Phase) → is_open a ≡ true → is_open b ≡ true → (n : ℕ) → n ≡ bit (has_committed a) → n ≡ bit (has_committed b)
+    opens a b x y n z = grind (arith, nat_tests)
+
+    still : (a b : Phase) → is_open a ≡ true → has_committed a ≡ true → has_committed b ≡ true
+    still a b x y = grind (arith, nat_tests)
+
+-- a slice that has waited
+pub waited-runs : (k : Known) (p : Part) (c : ℕ) → Pair k p → p.waits ≡ true → p.last ≡ c → MayRun k p c
+waited-runs k p c e y l =
+    record {
+      opens = (e.waits y).0;
+      later = same-le p.last c l;
+      stands = (e.waits y).2;
+      awaited = λ x. ((e.awaited x y).0, sym l ∙ (e.awaited x y).1);
+      new = λ x n. quiet-waits p.waits n y;
+    }
+
+-- a new command
+pub new-runs : (k : Known) (p : Part) (c : ℕ) → is_open p.phase ≡ true → p.last < c → IsCommand k p c → MayRun k p c
+new-runs k p c o l m =
+    record {
+      opens = o;
+      later = less p.last c l;
+      stands = stands k.at refl;
+      awaited = λ x. (waits k.waits refl x, latest p.last c k.last l (m.last x) (m.older x));
+      new = λ x n. lt-le p.last c l (same-le c p.last x);
     }
   where
     waits : (b : Bool) → k.waits ≡ b → k.at ≡ Live → k.waits ≡ true

@@ -1,19 +1,12 @@
 -- What a segment's horizon becomes, and that it sends answers alone.
-use Rattle.std.proofs.Common.{◌≡◌, ℕ, List, [], ◌∷◌, Option, Some, None, Bool, true, false, not, refl, nat_lt, ◌==◌, if◌then◌else◌}
-use Rattle.std.specs.Prelude.{fold, length}
+use Rattle.std.proofs.Common.{◌≡◌, List, Option, Some, None, Bool, true, false, not, refl, sym, subst, nat_lt, ◌==◌, if◌then◌else◌}
 use Rattle.gx_ids.specs.declared.ids.Cid.{Cid}
 use Rattle.gx_ids.specs.declared.ids.Gxid.{Gxid}
-use Rattle.gx_ids.specs.declared.ids.Table.{Table}
-use Rattle.gx_tree.specs.declared.query.Query.{Query}
-use Rattle.gx_tree.specs.declared.row.KeyedRow.{KeyedRow}
 use Rattle.gx_tree.specs.declared.slice.Slice.{Slice}
-use Rattle.gx_tree.specs.declared.slice.Slice.TheVariants as slice
 use Rattle.gx_tree.specs.declared.stmt.Level.{Level}
 use Rattle.gx_dsnap.specs.Gxids.{is_below}
 use Rattle.gx_dsnap.specs.declared.snapshot.Snapshot.{Snapshot}
 use Rattle.gx_waits.specs.declared.claim.Claim.{Claim}
-use Rattle.gx_locks.specs.Locks.{is_free, resumed}
-use Rattle.gx_meaning.specs.declared.fault.ArithFault.{ArithFault}
 use Rattle.gx_msg.specs.declared.item.JournalItem.{JournalItem}
 use Rattle.gx_msg.specs.declared.message.Message.{Message}
 use Rattle.gx_msg.specs.declared.message.Message.TheVariants as message
@@ -23,13 +16,12 @@ use Rattle.gx_script.specs.declared.Script.{Script}
 use Rattle.gx_store.specs.declared.mark.Mark.{Mark}
 use Rattle.gx_rules.specs.AtSegment.{changes, commits, ends, finishes, if_fits, on_abort, on_commit, on_commit_prepared, on_exec, on_forget, on_message, on_prepare, once, promises, raised, repeats, resumes, takes, unless_below, was_prepared}
 use Rattle.gx_rules.specs.Fits.{fits_exec, is_waiting}
-use Rattle.gx_rules.specs.Locks.{with_hold}
-use Rattle.gx_rules.specs.Segments.{Local, Phase, Seg, SegTurn, Suspended, local_of, stays, tells, tells_kept, with_local}
+use Rattle.gx_rules.specs.Segments.{Local, Phase, Seg, SegTurn, Suspended, local_of, stays, tells, tells_kept}
 use Rattle.gx_rules.specs.Segments.Phase.{Aborted, Committed, Forgotten, Prepared, Reading, Writing}
-use Rattle.gx_rules.specs.Shown.{shown}
-use Rattle.gx_rules.specs.Slices.{Moved, first_fault, inserted, inserts, inserts_row, requests, runs_slice, selects, slice_lock}
+use Rattle.gx_rules.specs.Running.{goes_on, is_granted, slice_lock, starts_slice}
 use Rattle.gx_law_order.proofs.Lists.{Each}
 use Rattle.gx_law_commit.specs.Said.{is_answer}
+use Rattle.gx_law_commit.proofs.Leaving.{Leaves, request-leaves, slice-leaves}
 
 -- what holds of a command's horizon
 abbrev pub OfHorizon : (Gxid → Type 0) → Message → Type 0
@@ -56,33 +48,8 @@ module _ (script : Script) (s : Seg) (Q : Gxid → Type 0) (base : Q s.horizon) 
   both false x y e f = f
 
   -- a slice of a segment whose horizon is good
-  module _ (t : Seg) (good : Q t.horizon) where
-    select : (g : Gxid) (c : Cid) (q : Query) (rows : List KeyedRow) (f : Option (KeyedRow × ArithFault)) → SegKeeps (selects t g c q rows f)
-    select g c q rows None = record { horizon = good; outs = (refl, tt) }
-    select g c q rows (Some f) = record { horizon = good; outs = (refl, tt) }
-
-    insert_rows : (g : Gxid) (c : Cid) (table : Table) (rows : List KeyedRow) (m : Moved) → Q m.seg.horizon → Q (fold (inserts_row g c table) m rows).seg.horizon
-    insert_rows g c table [] m f = f
-    insert_rows g c table (r ∷ rs) m f = insert_rows g c table rs (inserts_row g c table m r) f
-
-    insert : (g : Gxid) (c : Cid) (count : ℕ) (m : Moved) → Q m.seg.horizon → SegKeeps (inserts g c count m)
-    insert g c count m f = record { horizon = f; outs = (refl, tt) }
-
-    slice_runs : (g : Gxid) (c : Cid) (snapshot : Option Snapshot) (x : Slice) → SegKeeps (runs_slice t g c snapshot x)
-    slice_runs g c (Some snapshot) (slice.Select q) = select g c q (shown t snapshot g c q.table) (first_fault q.cond (shown t snapshot g c q.table))
-    slice_runs g c (Some snapshot) (slice.Insert table rows) = insert g c (length rows) (inserted t g c table rows) (insert_rows g c table rows (record { seg = t; marks = [] }) good)
-    slice_runs g c None (slice.Select q) = record { horizon = good; outs = tt }
-    slice_runs g c None (slice.Insert table rows) = record { horizon = good; outs = tt }
-    slice_runs g c snapshot (slice.Lock table mode) = record { horizon = good; outs = (refl, tt) }
-    slice_runs g c snapshot (slice.Update table assigns cond) = record { horizon = good; outs = tt }
-    slice_runs g c snapshot (slice.Delete table cond) = record { horizon = good; outs = tt }
-
-  starts : (t : Seg) → Q t.horizon → (g : Gxid) (c : Cid) (level : Level) (snapshot : Option Snapshot) (x : Slice) (o : Option Claim) → SegKeeps (requests t g c level snapshot x o)
-  starts t good g c level snapshot x None = slice_runs t good g c snapshot x
-  starts t good g c level snapshot x (Some wanted) = both (is_free t.locks.holds wanted) _ _ (record { horizon = run.horizon; outs = run.outs }) (record { horizon = good; outs = tt })
-    where
-      run : SegKeeps (runs_slice (record t { locks = with_hold t.locks wanted }) g c snapshot x)
-      run = slice_runs (record t { locks = with_hold t.locks wanted }) good g c snapshot x
+  leaves : (turn : SegTurn) (h : Gxid) → Q h → Leaves (λ o. is_answer o.message ≡ true) h turn → SegKeeps turn
+  leaves turn h good e = record { horizon = subst Q (sym e.horizon) good; outs = e.outs }
 
   module _ (h : Gxid) (up : Q h) where
     raises : Q (raised s h).horizon
@@ -95,10 +62,12 @@ module _ (script : Script) (s : Seg) (Q : Gxid → Type 0) (base : Q s.horizon) 
     repeat : (g : Gxid) (c : Cid) (l : Local) → SegKeeps (repeats s g c l)
     repeat g c l = both (c.0 == l.last) _ _ (kept g l.answer) stay
 
-    take : (g : Gxid) (c : Cid) (level : Level) (snapshot : Option Snapshot) (x : Slice) (l : Local) → SegKeeps (takes s g c level snapshot h x l)
-    take g c level snapshot x l = both (nat_lt l.last c.0) _ _ (starts (raised s h) raises g c level snapshot x (slice_lock g x)) (repeat g c l)
+    take : (g : Gxid) (c : Cid) (level : Level) (snapshot : Option Snapshot) (x : Slice) (l : Local) → SegKeeps (takes script s g c level snapshot h x l)
+    take g c level snapshot x l =
+        both (nat_lt l.last c.0) _ _ (leaves (starts_slice script (raised s h) g c level snapshot x) (raised s h).horizon raises (request-leaves g c (λ o. is_answer o.message ≡ true) (λ a b d. refl) (λ d. refl) (raised s h) level snapshot x (slice_lock script g x)))
+        (repeat g c l)
 
-    exec : (g : Gxid) (c : Cid) (level : Level) (snapshot : Option Snapshot) (x : Slice) (l : Local) (p : Phase) → SegKeeps (on_exec s g c level snapshot h x l p)
+    exec : (g : Gxid) (c : Cid) (level : Level) (snapshot : Option Snapshot) (x : Slice) (l : Local) (p : Phase) → SegKeeps (on_exec script s g c level snapshot h x l p)
     exec g c level snapshot x l Reading = take g c level snapshot x l
     exec g c level snapshot x l Writing = take g c level snapshot x l
     exec g c level snapshot x l Prepared = repeat g c l
@@ -189,9 +158,8 @@ module _ (script : Script) (s : Seg) (Q : Gxid → Type 0) (base : Q s.horizon) 
 
   -- a slice that goes on
   pub resume_keeps : (g : Gxid) (o : Option Claim) (x : Option Suspended) → SegKeeps (resumes s g o x)
-  resume_keeps g (Some wanted) (Some x) = record { horizon = run.horizon; outs = run.outs }
-    where
-      run : SegKeeps (runs_slice (record (with_local s g (record (local_of s g) { suspended = None })) { locks = resumed s.locks g (Some wanted) }) g x.cid x.snapshot x.slice)
-      run = slice_runs (record (with_local s g (record (local_of s g) { suspended = None })) { locks = resumed s.locks g (Some wanted) }) base g x.cid x.snapshot x.slice
+  resume_keeps g (Some wanted) (Some x) =
+      let e = slice-leaves g x.cid (λ o. is_answer o.message ≡ true) (λ a b d. refl) (λ d. refl) (is_granted s g wanted).seg x.level x.snapshot x.slice in
+      leaves (goes_on (is_granted s g wanted) g x) s.horizon base (record { horizon = e.horizon; outs = e.outs })
   resume_keeps g (Some wanted) None = stay
   resume_keeps g None x = stay
