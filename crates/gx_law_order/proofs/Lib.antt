@@ -10,6 +10,7 @@ pub mod Letters
 pub mod Stages
 pub mod Suspended
 pub mod Suspensions
+pub mod Writers
 pub mod Ordered
 pub mod Follows
 pub mod Machines

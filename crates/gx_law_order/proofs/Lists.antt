@@ -1,5 +1,5 @@
 -- Facts about lists.
-use Rattle.std.proofs.Common.{◌≡◌, ℕ, zero, suc, List, [], ◌∷◌, ◌++◌, Some, length, Bool, true, false, arith, refl, cond}
+use Rattle.std.proofs.Common.{◌≡◌, List, [], ◌∷◌, ◌++◌, Some, length, Bool, true, false, refl, cond}
 use Rattle.std.specs.Prelude.{filter, map, slice_get}
 use Rattle.std.specs.List.{flat_map}
 

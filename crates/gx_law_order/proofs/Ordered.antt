@@ -39,6 +39,7 @@ use Rattle.gx_law_order.proofs.Sent.{all-counted, at, count-both, counted-all, n
 use Rattle.gx_law_order.proofs.Suspended.{AreSuspended, HasCome, IsAmong, among-posted, come-later, come-now, each-both, each-own, suspended-later}
 use Rattle.gx_law_order.proofs.Suspensions.{Arrives, event_suspends}
 use Rattle.gx_law_order.proofs.Tables.{OutIn}
+use Rattle.gx_law_order.proofs.Writers.{WritersLock, event_locks}
 use Rattle.gx_ids.specs.declared.ids.Gxid.{Gxid}
 
 pub record Well (script : Script) (w : World) : Type 0 where
@@ -51,6 +52,7 @@ pub record Well (script : Script) (w : World) : Type 0 where
   pub answered : (i : ℕ) → 1 ≤ i → (w.segs i).sent ≡ sent_in (at i) the_coordinator w.steps
   pub letters : Each (IsLetter script w.steps) w.sent
   pub waiting : (i : ℕ) → AreSuspended script (HasCome w i) (w.segs i)
+  pub writers : (i : ℕ) → WritersLock (w.segs i)
 
 -- one step more
 pub ordered-last : (script : Script) (before ss : List Step) (s : Step) → AreOrdered script before ss → IsOrderedStep script (before ++ ss) s → AreOrdered script before (ss ++ s ∷ [])
@@ -143,6 +145,7 @@ module _ (script : Script) (some : 1 ≤ script.segments) (w : World) (good : We
         answered = λ i k. good.answered i k ∙ sym (other-adds (at i) the_coordinator w.steps step (apart i k));
         letters = posted_letters script w.steps step w.sent at_coordinator good.letters;
         waiting = λ i. suspended-later script (HasCome w i) (HasCome next i) (w.segs i) (λ m. come-later w next i step m refl (among-posted the_coordinator step.stamp.clock step.marks w.sent)) (good.waiting i);
+        writers = good.writers;
       }
     where
       next : World
@@ -229,6 +232,9 @@ module _ (script : Script) (w : World) (good : Well script w) (e : Event) (x : N
   seg_waiting : Arrives (HasCome seg_next i) x → AreSuspended script (HasCome seg_next i) seg_turn.seg
   seg_waiting = event_suspends script (HasCome seg_next i) s (waiting_later i) x fails
 
+  seg_writers : WritersLock seg_turn.seg
+  seg_writers = event_locks script (HasCome w i) s (good.waiting i) (good.writers i) x fails
+
   pub seg_well : IsEventAt script w.steps seg_step e → Arrives (HasCome seg_next i) x → Well script seg_next
   seg_well h come =
       record {
@@ -245,6 +251,7 @@ module _ (script : Script) (w : World) (good : Well script w) (e : Event) (x : N
             (λ j no k. good.answered j k ∙ sym (other-adds (at j) the_coordinator w.steps seg_step (apart-two i j no)));
         letters = posted_letters script w.steps seg_step w.sent seg_marks good.letters;
         waiting = at-both (λ j t. AreSuspended script (HasCome seg_next j) t) w.segs i _ (record { each = (seg_waiting come).each; own = (seg_waiting come).own }) (λ j no. waiting_later j);
+        writers = at-both (λ j t. WritersLock t) w.segs i _ (record { owns = seg_writers.owns; each = seg_writers.each }) (λ j no. good.writers j);
       }
     where
       same-le : {a b : ℕ} → a ≡ b → a ≤ b
@@ -347,6 +354,7 @@ module _ (script : Script) (some : 1 ≤ script.segments) where
         answered = λ i h. refl;
         letters = tt;
         waiting = λ i. record { each = λ h x none. absurd (cc); own = λ h. refl };
+        writers = λ i. record { owns = tt; each = λ h. record { says = refl; holds = refl } };
       }
     where
       least : (k : ℕ) → 0 ≤ k
