@@ -59,7 +59,7 @@ silents : (ms : List Mark) → AreSilent ms → Each IsSilent ms
 silents [] e = tt
 silents (m ∷ ms) e = (e.0, silents ms e.1)
 
-module _ (script : Script) (steps : List Step) (c : Coord) (k : Kept c) (all : (j : SessionId) → IsSession script j steps c) (gath : (j : ℕ) → GathersIn script (IsHeard steps) (gx j) (c.works j).command) (g : Gxid) (m : Command) (it : (work_of c g).command ≡ Some m) (i : Node) (waits : has i m.awaited ≡ true) where
+module _ (script : Script) (steps : List Step) (c : Coord) (k : Kept script c) (all : (j : SessionId) → IsSession script j steps c) (gath : (j : ℕ) → GathersIn script (IsHeard steps) (gx j) (c.works j).command) (g : Gxid) (m : Command) (it : (work_of c g).command ≡ Some m) (i : Node) (waits : has i m.awaited ≡ true) where
   abbrev s : SessionId
   s = (work_of c g).session
 
@@ -122,7 +122,7 @@ module _ (script : Script) (steps : List Step) (c : Coord) (k : Kept c) (all : (
           ap (λ o. command_at script o cid.0) r.began ∙ ap (λ (x : Cid). command_at script (Some (s, r.first)) x.0) (sym same) ∙ (r.now n).0 m it
 
 -- ALL ORDERS
-pub alive-now : (script : Script) (w : World) → Kept w.coord → ((j : SessionId) → IsSession script j w.steps w.coord) → ((j : ℕ) → GathersIn script (IsHeard w.steps) (gx j) (w.coord.works j).command) → (i : Node) (m : Message) → StateOf w.coord (IsHeard w.steps) (marks_in w.steps) i m → IsAlive script w i m
+pub alive-now : (script : Script) (w : World) → Kept script w.coord → ((j : SessionId) → IsSession script j w.steps w.coord) → ((j : ℕ) → GathersIn script (IsHeard w.steps) (gx j) (w.coord.works j).command) → (i : Node) (m : Message) → StateOf w.coord (IsHeard w.steps) (marks_in w.steps) i m → IsAlive script w i m
 alive-now script w k all gath i (message.Exec g c level x h slice) (inl a) = inl (behind script w.steps w.coord k all gath g a.its a.is i a.awaits c level a.counted a.level_is)
 alive-now script w k all gath i (message.Exec g c level x h slice) (inr a) = inr a
 alive-now script w k all gath i (message.Prepare g) a = tt
@@ -134,6 +134,6 @@ alive-now script w k all gath i (message.Collect round) a = tt
 alive-now script w k all gath i (message.Answer g r) a = tt
 alive-now script w k all gath i (message.Graph round graph) a = tt
 
-pub alive-all : (script : Script) (w : World) → Kept w.coord → ((j : SessionId) → IsSession script j w.steps w.coord) → ((j : ℕ) → GathersIn script (IsHeard w.steps) (gx j) (w.coord.works j).command) → (ls : List Letter) → Each (λ l. l.from ≡ the_coordinator → StateOf w.coord (IsHeard w.steps) (marks_in w.steps) l.to l.envelope.message) ls → AreAlive script w ls
+pub alive-all : (script : Script) (w : World) → Kept script w.coord → ((j : SessionId) → IsSession script j w.steps w.coord) → ((j : ℕ) → GathersIn script (IsHeard w.steps) (gx j) (w.coord.works j).command) → (ls : List Letter) → Each (λ l. l.from ≡ the_coordinator → StateOf w.coord (IsHeard w.steps) (marks_in w.steps) l.to l.envelope.message) ls → AreAlive script w ls
 alive-all script w k all gath [] e = tt
 alive-all script w k all gath (l ∷ ls) e = (λ same. alive-now script w k all gath l.to l.envelope.message (e.0 same), alive-all script w k all gath ls e.1)

@@ -74,7 +74,7 @@ is-sound block.Outside = refl
 is-sound (block.Open l) = refl
 is-sound block.Failed = refl
 
-module _ (script : Script) (steps : List Step) (c : Coord) (k : Kept c) (p : Past c (marks_in steps)) (fr : Fresh (marks_in steps) c.table.next.0) (number : c.table.next.0 ≡ start_count (marks_in steps) + 1) (s : SessionId) (all : IsSession script s steps c) (idle : is_nothing_in (session_of c s).state.pending ≡ true) where
+module _ (script : Script) (steps : List Step) (c : Coord) (k : Kept script c) (p : Past c (marks_in steps)) (fr : Fresh (marks_in steps) c.table.next.0) (number : c.table.next.0 ≡ start_count (marks_in steps) + 1) (s : SessionId) (all : IsSession script s steps c) (idle : is_nothing_in (session_of c s).state.pending ≡ true) where
   abbrev y : Session
   y = session_of c s
 

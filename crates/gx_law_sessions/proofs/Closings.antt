@@ -78,7 +78,7 @@ has-failed : (steps : List Step) (e : Event) (earlier later : List Mark) (g : Gx
 has-failed steps e earlier later g zero l r h = absurd (one-le-none l)
 has-failed steps e earlier later g (suc i) l r h = (r, h)
 
-module _ (script : Script) (steps : List Step) (c : Coord) (k : Kept c) (all : (j : SessionId) → IsSession script j steps c) (gath : (j : ℕ) → GathersIn script (IsHeard steps) (gx j) (c.works j).command) (from : Node) (some : 1 ≤ from.0) (to : Node) (number : ℕ) (g : Gxid) where
+module _ (script : Script) (steps : List Step) (c : Coord) (k : Kept script c) (all : (j : SessionId) → IsSession script j steps c) (gath : (j : ℕ) → GathersIn script (IsHeard steps) (gx j) (c.works j).command) (from : Node) (some : 1 ≤ from.0) (to : Node) (number : ℕ) (g : Gxid) where
   abbrev e : Event
   e = event.Receive from to number
 
@@ -251,7 +251,7 @@ abbrev pub IsNoted : List Mark → Node → Message → Type 0
 IsNoted marks from (message.Answer g reply.Jfault) = Contains marks (mark.JournalFailed from g)
 IsNoted marks from _ = Unit {0}
 
-pub message-does : (script : Script) (steps : List Step) (c : Coord) → Kept c → ((j : SessionId) → IsSession script j steps c) → ((j : ℕ) → GathersIn script (IsHeard steps) (gx j) (c.works j).command) → (from : Node) → 1 ≤ from.0 → (to : Node) (number : ℕ) (fails : Bool) (m : Message) → Receives steps (event.Receive from to number) from the_coordinator m → IsNoted (marks_in steps) from m → Effect script steps c (event.Receive from to number) (on_message c from fails m)
+pub message-does : (script : Script) (steps : List Step) (c : Coord) → Kept script c → ((j : SessionId) → IsSession script j steps c) → ((j : ℕ) → GathersIn script (IsHeard steps) (gx j) (c.works j).command) → (from : Node) → 1 ≤ from.0 → (to : Node) (number : ℕ) (fails : Bool) (m : Message) → Receives steps (event.Receive from to number) from the_coordinator m → IsNoted (marks_in steps) from m → Effect script steps c (event.Receive from to number) (on_message c from fails m)
 message-does script steps c k all gath from some to number fails (message.Answer g r) h n = answer-does script steps c k all gath from some to number g fails r h (noted r n)
   where
     noted : (q : Reply) → IsNoted (marks_in steps) from (message.Answer g q) → q ≡ reply.Jfault → Contains (marks_in steps) (mark.JournalFailed from g)

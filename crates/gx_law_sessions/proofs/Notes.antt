@@ -8,15 +8,17 @@ use Rattle.gx_ids.specs.declared.ids.Cid.{Cid}
 use Rattle.gx_ids.specs.declared.ids.Gxid.{Gxid}
 use Rattle.gx_ids.specs.declared.ids.Node.{Node}
 use Rattle.gx_ids.specs.declared.ids.Table.{Table}
+use Rattle.gx_ids.specs.declared.rid.Rid.{Rid}
 use Rattle.gx_tree.specs.declared.query.Query.{Query}
 use Rattle.gx_tree.specs.declared.row.KeyedRow.{KeyedRow}
 use Rattle.gx_tree.specs.declared.slice.Slice.{Slice}
 use Rattle.gx_tree.specs.declared.slice.Slice.TheVariants as slice
 use Rattle.gx_tree.specs.declared.stmt.Level.{Level}
+use Rattle.gx_tree.specs.declared.value.Value.{Value}
 use Rattle.gx_dsnap.specs.Gxids.{is_below}
 use Rattle.gx_dsnap.specs.declared.snapshot.Snapshot.{Snapshot}
 use Rattle.gx_waits.specs.declared.claim.Claim.{Claim}
-use Rattle.gx_locks.specs.Locks.{is_free, resumed, wait_of}
+use Rattle.gx_locks.specs.Locks.{is_free, wait_of}
 use Rattle.gx_meaning.specs.declared.fault.ArithFault.{ArithFault}
 use Rattle.gx_msg.specs.declared.item.JournalItem.{JournalItem}
 use Rattle.gx_msg.specs.declared.message.Message.{Message}
@@ -31,11 +33,12 @@ use Rattle.gx_store.specs.declared.node.NodeEvent.{NodeEvent}
 use Rattle.gx_store.specs.declared.node.NodeEvent.TheVariants as event
 use Rattle.gx_rules.specs.AtSegment.{commits, ends, finishes, if_fits, on_abort, on_commit, on_commit_prepared, on_event, on_exec, on_forget, on_message, on_prepare, once, promises, raised, repeats, resumes, takes, unless_below, was_prepared, changes}
 use Rattle.gx_rules.specs.Fits.{fits_exec, is_waiting}
-use Rattle.gx_rules.specs.Locks.{hold_mark, release_marks, wait_mark, with_hold}
+use Rattle.gx_rules.specs.Locks.{hold_mark, release_marks, wait_mark, with_hold, with_wait}
+use Rattle.gx_rules.specs.Running.{is_granted, requests, runs_locked, runs_slice, slice_lock, suspended_slice, suspends}
 use Rattle.gx_rules.specs.Segments.{Local, Phase, Seg, SegTurn, Suspended, after_marks, local_of, stays, tells, tells_kept, with_local}
 use Rattle.gx_rules.specs.Segments.Phase.{Reading, Writing, Prepared, Committed, Forgotten, Aborted}
 use Rattle.gx_rules.specs.Shown.{shown}
-use Rattle.gx_rules.specs.Slices.{Moved, answers, first_fault, inserted, inserts_row, requests, runs_locked, runs_slice, selects, slice_lock, suspends}
+use Rattle.gx_rules.specs.Slices.{Moved, answers, first_fault, inserted, inserts_row, selects, starts_from, takes_own, writes_row}
 use Rattle.gx_law_order.proofs.Lists.{Each}
 use Rattle.gx_law_order.proofs.Stages.{gx}
 use Rattle.gx_law_sessions.proofs.Closings.{IsNoted}
@@ -200,56 +203,75 @@ module _ (ms : List Mark) (node : Node) where
         outs = (n, tt);
       }
 
+  unanswered : (s : Seg) → SegNoted ms node s → (g : Gxid) (c : Cid) (marks : List Mark) (waiting : Suspended)
+      → Notes (record { seg = with_local s g (record (local_of s g) { last = c.0; answer = None; suspended = Some waiting }); marks = marks; outs = []; item = None })
+  unanswered s all g c marks waiting =
+      record {
+        locals = local-at (ms ++ marks) s g _ (λ h. local-more ms marks node (gx h) (s.locals h) (all h)) (record { answer = tt; vote = in-more ms marks node g (local_of s g).vote (all g.0).vote });
+        outs = tt;
+      }
+
   select : (s : Seg) → SegNoted ms node s → (g : Gxid) (c : Cid) (q : Query) (rows : List KeyedRow) (f : Option (KeyedRow × ArithFault)) → Notes (selects s g c q rows f)
   select s all g c q rows None = answered s all g c [] _ tt
   select s all g c q rows (Some f) = answered s all g c _ _ tt
 
+  -- a write, with the writer's own lock
+  own-noted : (g : Gxid) (p : Phase) (m : Moved) → SegNoted ms node m.seg → SegNoted ms node (takes_own g p m).seg
+  own-noted g Reading m all = all
+  own-noted g Writing m all = all
+  own-noted g Prepared m all = all
+  own-noted g Committed m all = all
+  own-noted g (Forgotten b) m all = all
+  own-noted g Aborted m all = all
+
+  write-noted : (g : Gxid) (c : Cid) (table : Table) (m : Moved) (rid : Rid) (image : Option (List Value)) → SegNoted ms node m.seg → SegNoted ms node (writes_row g c table m rid image).seg
+  write-noted g c table m rid image all = own-noted g (local_of m.seg g).phase _ (local-at ms m.seg g _ all (record { answer = (all g.0).answer; vote = (all g.0).vote }))
+
   row-noted : (g : Gxid) (c : Cid) (table : Table) (rows : List KeyedRow) (m : Moved) → SegNoted ms node m.seg → SegNoted ms node (fold (inserts_row g c table) m rows).seg
   row-noted g c table [] m all = all
-  row-noted g c table (r ∷ rs) m all = row-noted g c table rs (inserts_row g c table m r) (local-at ms m.seg g _ all (record { answer = (all g.0).answer; vote = (all g.0).vote }))
+  row-noted g c table (r ∷ rs) m all = row-noted g c table rs (inserts_row g c table m r) (write-noted g c table m r.rid (Some r.row) all)
 
   idle-noted : (s : Seg) → SegNoted ms node s → Notes (stays s)
   idle-noted s all = record { locals = λ j. local-more ms [] node (gx j) (s.locals j) (all j); outs = tt }
 
-  slice-noted : (s : Seg) → SegNoted ms node s → (g : Gxid) (c : Cid) (snapshot : Option Snapshot) (x : Slice) → Notes (runs_slice s g c snapshot x)
-  slice-noted s all g c (Some snapshot) (slice.Select q) = select s all g c q (shown s snapshot g c q.table) (first_fault q.cond (shown s snapshot g c q.table))
-  slice-noted s all g c (Some snapshot) (slice.Insert table rows) =
-      answered (inserted s g c table rows).seg (row-noted g c table rows (record { seg = s; marks = [] }) all) g c (inserted s g c table rows).marks _ tt
-  slice-noted s all g c None (slice.Select q) = idle-noted s all
-  slice-noted s all g c None (slice.Insert table rows) = idle-noted s all
-  slice-noted s all g c snapshot (slice.Lock table mode) = answered s all g c [] _ tt
-  slice-noted s all g c snapshot (slice.Update table assigns cond) = idle-noted s all
-  slice-noted s all g c snapshot (slice.Delete table cond) = idle-noted s all
+  slice-noted : (s : Seg) → SegNoted ms node s → (g : Gxid) (c : Cid) (level : Level) (snapshot : Option Snapshot) (x : Slice) → Notes (runs_slice s g c level snapshot x)
+  slice-noted s all g c level (Some snapshot) (slice.Select q) = select s all g c q (shown s snapshot g c q.table) (first_fault q.cond (shown s snapshot g c q.table))
+  slice-noted s all g c level (Some snapshot) (slice.Insert table rows) =
+      answered (inserted s g c table rows).seg (row-noted g c table rows (starts_from s) all) g c (inserted s g c table rows).marks _ tt
+  slice-noted s all g c level None (slice.Select q) = idle-noted s all
+  slice-noted s all g c level None (slice.Insert table rows) = idle-noted s all
+  slice-noted s all g c level snapshot (slice.Lock table mode) = answered s all g c [] _ tt
+  slice-noted s all g c level snapshot (slice.Update table assigns cond) = idle-noted s all
+  slice-noted s all g c level snapshot (slice.Delete table cond) = idle-noted s all
 
--- behind the mark of a lock
-behind : (ms : List Mark) (node : Node) (m : Mark) (turn : SegTurn) → Notes (ms ++ m ∷ []) node turn → Notes ms node (after_marks (m ∷ []) turn)
-behind ms node m turn n =
+-- behind the marks of locks
+locked : (ms ns : List Mark) (node : Node) (s : Seg) → SegNoted ms node s → (g : Gxid) (c : Cid) (level : Level) (snapshot : Option Snapshot) (x : Slice)
+    → Notes ms node (after_marks ns (runs_slice s g c level snapshot x))
+locked ms ns node s all g c level snapshot x =
     record {
-      locals = subst (λ all. SegNoted all node turn.seg) (append_assoc ms (m ∷ []) turn.marks) n.locals;
-      outs = subst (λ all. Each (λ (o : Out). IsNoted all node o.message) turn.outs) (append_assoc ms (m ∷ []) turn.marks) n.outs;
+      locals = subst (λ all. SegNoted all node turn.seg) (append_assoc ms ns turn.marks) n.locals;
+      outs = subst (λ all. Each (λ (o : Out). IsNoted all node o.message) turn.outs) (append_assoc ms ns turn.marks) n.outs;
     }
+  where
+    turn : SegTurn
+    turn = runs_slice s g c level snapshot x
 
-locked : (ms : List Mark) (node : Node) (s : Seg) → SegNoted ms node s → (g : Gxid) (c : Cid) (snapshot : Option Snapshot) (x : Slice) (m : Mark) → Notes ms node (after_marks (m ∷ []) (runs_slice s g c snapshot x))
-locked ms node s all g c snapshot x m = behind ms node m _ (slice-noted (ms ++ m ∷ []) node s (λ h. local-more ms (m ∷ []) node (gx h) (s.locals h) (all h)) g c snapshot x)
+    n : Notes (ms ++ ns) node turn
+    n = slice-noted (ms ++ ns) node s (λ h. local-more ms ns node (gx h) (s.locals h) (all h)) g c level snapshot x
 
 module _ (ms : List Mark) (node : Node) where
-  starts : (s : Seg) → SegNoted ms node s → (g : Gxid) (c : Cid) (level : Level) (snapshot : Option Snapshot) (x : Slice) (o : Option Claim) → Notes ms node (requests s g c level snapshot x o)
-  starts s all g c level snapshot x None = slice-noted ms node s all g c snapshot x
-  starts s all g c level snapshot x (Some wanted) = by_test (is_free s.locks.holds wanted)
+  starts : (s : Seg) → SegNoted ms node s → (g : Gxid) (c : Cid) (level : Level) (snapshot : Option Snapshot) (x : Slice) (wanted : Claim) → Notes ms node (requests s g c level snapshot x wanted)
+  starts s all g c level snapshot x wanted = by_test (is_free s.locks.holds wanted)
     where
-      by_test : (b : Bool) → Notes ms node (if b then runs_locked s g c snapshot x wanted else suspends s g c level snapshot x wanted)
-      by_test true = locked ms node (record s { locks = with_hold s.locks wanted }) all g c snapshot x (hold_mark s.node wanted)
-      by_test false =
-          record {
-            locals = local-at ms node (ms ++ wait_mark s.node wanted ∷ []) s g _ (λ h. local-more ms (wait_mark s.node wanted ∷ []) node (gx h) (s.locals h) (all h)) (record { answer = tt; vote = in-more ms (wait_mark s.node wanted ∷ []) node g (local_of s g).vote (all g.0).vote });
-            outs = tt;
-          }
+      by_test : (b : Bool) → Notes ms node (if b then runs_locked s g c level snapshot x wanted else suspends s g c level snapshot x wanted)
+      by_test true = locked ms (hold_mark s.node wanted ∷ []) node (record s { locks = with_hold s.locks wanted }) all g c level snapshot x
+      by_test false = unanswered ms node (record s { locks = with_wait s.locks wanted }) all g c (wait_mark s.node wanted ∷ []) (suspended_slice c level snapshot x)
 
   module _ (script : Script) (s : Seg) (is : s.node ≡ node) (all : SegNoted ms node s) where
-    take : (g : Gxid) (c : Cid) (level : Level) (snapshot : Option Snapshot) (h : Gxid) (x : Slice) (l : Local) → LocalNoted ms node g l → Notes ms node (takes s g c level snapshot h x l)
-    take g c level snapshot h x l n = both ms node s is all (nat_lt l.last c.0) _ _ (starts (raised s h) all g c level snapshot x (slice_lock g x)) (repeat ms node s is all g c l n)
+    take : (g : Gxid) (c : Cid) (level : Level) (snapshot : Option Snapshot) (h : Gxid) (x : Slice) (l : Local) → LocalNoted ms node g l → Notes ms node (takes script s g c level snapshot h x l)
+    take g c level snapshot h x l n = both ms node s is all (nat_lt l.last c.0) _ _ (starts (raised s h) all g c level snapshot x (slice_lock script g x)) (repeat ms node s is all g c l n)
 
-    exec : (g : Gxid) (c : Cid) (level : Level) (snapshot : Option Snapshot) (h : Gxid) (x : Slice) (l : Local) (p : Phase) → LocalNoted ms node g l → Notes ms node (on_exec s g c level snapshot h x l p)
+    exec : (g : Gxid) (c : Cid) (level : Level) (snapshot : Option Snapshot) (h : Gxid) (x : Slice) (l : Local) (p : Phase) → LocalNoted ms node g l → Notes ms node (on_exec script s g c level snapshot h x l p)
     exec g c level snapshot h x l Reading n = take g c level snapshot h x l n
     exec g c level snapshot h x l Writing n = take g c level snapshot h x l n
     exec g c level snapshot h x l Prepared n = repeat ms node s is all g c l n
@@ -277,8 +299,8 @@ module _ (ms : List Mark) (node : Node) where
 
     resume : (g : Gxid) (w : Option Claim) (o : Option Suspended) → Notes ms node (resumes s g w o)
     resume g (Some wanted) (Some waiting) =
-        locked ms node (record (with_local s g (record (local_of s g) { suspended = None })) { locks = resumed s.locks g (Some wanted) })
-        (local-at ms node ms s g _ all (record { answer = (all g.0).answer; vote = (all g.0).vote })) g waiting.cid waiting.snapshot waiting.slice (hold_mark s.node wanted)
+        locked ms (is_granted s g wanted).marks node (is_granted s g wanted).seg (local-at ms node ms s g _ all (record { answer = (all g.0).answer; vote = (all g.0).vote }))
+        g waiting.cid waiting.level waiting.snapshot waiting.slice
     resume g (Some wanted) None = stay ms node s is all
     resume g None o = stay ms node s is all
 

@@ -90,7 +90,7 @@ RanOf script d steps i _ = Unit {0}
 abbrev pub LetterRan : Script → Coord → List Step → Letter → Type 0
 LetterRan script d steps l = l.from ≡ the_coordinator → RanOf script d steps l.to l.envelope.message
 
-module _ (script : Script) (c : Coord) (steps : List Step) (kept : Kept c) (all : (j : SessionId) → IsSession script j steps c) (gath : (j : ℕ) → GathersIn script (IsHeard steps) (gx j) (c.works j).command) where
+module _ (script : Script) (c : Coord) (steps : List Step) (kept : Kept script c) (all : (j : SessionId) → IsSession script j steps c) (gath : (j : ℕ) → GathersIn script (IsHeard steps) (gx j) (c.works j).command) where
   was-now : (g : Gxid) (k : Cid) (level : Level) (i : Node) → IsAwaited (c.works g.0) k i level ⊎ WasUnderWay script steps g k → WasUnderWay script steps g k
   was-now g k level i (inl a) = was-behind script steps level g k (behind script steps c kept all gath g a.its a.is i a.awaits k level a.counted a.level_is)
   was-now g k level i (inr w) = w

@@ -106,7 +106,7 @@ found-by g i r b (Some t) = by_test (is_expected t.phase i r)
     by_test true = takes-by g t.participants i b t.phase r
     by_test false = tt
 
-module _ (script : Script) (steps : List Step) (c : Coord) (k : Kept c) (all : (j : SessionId) → IsSession script j steps c) (gath : (j : ℕ) → GathersIn script (IsHeard steps) (gx j) (c.works j).command) (from : Node) (to : Node) (number : ℕ) (g : Gxid) where
+module _ (script : Script) (steps : List Step) (c : Coord) (k : Kept script c) (all : (j : SessionId) → IsSession script j steps c) (gath : (j : ℕ) → GathersIn script (IsHeard steps) (gx j) (c.works j).command) (from : Node) (to : Node) (number : ℕ) (g : Gxid) where
   abbrev e : Event
   e = event.Receive from to number
 

@@ -43,7 +43,7 @@ use Rattle.gx_law_sessions.proofs.Replies.{same-gxid, stand}
 use Rattle.gx_law_sessions.proofs.Roots.{roots-out}
 use Rattle.gx_law_sessions.proofs.Under.{Under}
 
-module _ (script : Script) (steps : List Step) (c : Coord) (k : Kept c) (p : Past c (marks_in steps)) (all : (j : SessionId) → IsSession script j steps c) (gath : (j : ℕ) → GathersIn script (IsHeard steps) (gx j) (c.works j).command) (m : Node) (is : is_same_node m the_coordinator ≡ true) (g : Gxid) (wanted : Claim) (line : Stmt) (held : (work_of c g).waiting ≡ Some line) where
+module _ (script : Script) (steps : List Step) (c : Coord) (k : Kept script c) (p : Past c (marks_in steps)) (all : (j : SessionId) → IsSession script j steps c) (gath : (j : ℕ) → GathersIn script (IsHeard steps) (gx j) (c.works j).command) (m : Node) (is : is_same_node m the_coordinator ≡ true) (g : Gxid) (wanted : Claim) (line : Stmt) (held : (work_of c g).waiting ≡ Some line) where
   abbrev e : Event
   e = event.Resume m g
 

@@ -129,7 +129,7 @@ stands-began script k ms next lines g w b pending.Commit s e = absurd (cc)
 pub going-began : (script : Script) (w : World) → Knows script w → Holds script w → (g : Gxid) → coord_can script w.coord (here.Resume g) ≡ true → Began script (marks_in w.steps) g (work_of w.coord g)
 going-began script w n h g ok = by_standing (h.sessions k).stands
   where
-    o : GoesOut w.coord g
+    o : GoesOut script w.coord g
     o = going-out script w n g ok
 
     k : SessionId
