@@ -173,7 +173,7 @@ module _ (script : Script) (w : World) (k : Knows script w) (v : Holds script w)
   seen-one : (from to : Node) (m : Message) → Said (known_at w.coord (marks_in w.steps) (if is_answer m then from.0 else to.0) (gxid_in m)) (parts_in w (if is_answer m then from.0 else to.0) (gxid_in m)) m → IsLowIn (horizon_of w.coord.table) m → FineIn w.coord.table w.coord.works m → TakenAt w to m → IsSeenBelow w to m
   seen-one from to (message.Exec g c level (Some x) horizon slice) s low fine taken =
       λ run. let z = runs-way to.0 g c s taken.0 taken.1 run.unaborted run.new in
-      held-seen g (raised (w.segs to.0) horizon).horizon x (raised-under (horizon_of w.coord.table).0 (w.segs to.0) horizon (q.segs to.0) low) (find_txn w.coord.table g) refl (fine z.live z.command z.is z.numbered)
+      held-seen g (raised (w.segs to.0) horizon).horizon x (raised-under script (horizon_of w.coord.table).0 (w.segs to.0) horizon (q.segs to.0) low) (find_txn w.coord.table g) refl (fine z.live z.command z.is z.numbered)
   seen-one from to (message.Exec g c level None horizon slice) s low fine taken = tt
   seen-one from to (message.Prepare g) s low fine taken = tt
   seen-one from to (message.Commit g) s low fine taken = tt

@@ -34,28 +34,27 @@ use Rattle.gx_rules.specs.AtCoordinator.{coord_can, coord_rule}
 use Rattle.gx_rules.specs.AtSegment.{if_fits, on_event, on_exec, on_message, raised, repeats, seg_rule, takes, unless_below}
 use Rattle.gx_rules.specs.Coordinators.{CoordTurn}
 use Rattle.gx_rules.specs.Fits.{fits_exec}
-use Rattle.gx_rules.specs.Machine.{Letter, World, coord_did, new_world, seg_did, world_of}
+use Rattle.gx_rules.specs.Machine.{Letter, World, coord_did, new_world, seg_can, seg_did, world_of}
 use Rattle.gx_rules.specs.Segments.{Local, Phase, Seg, SegTurn, has_committed, local_of, stays, tells_kept}
 use Rattle.gx_rules.specs.Segments.Phase.{Aborted, Committed, Forgotten, Prepared, Reading, Writing}
 use Rattle.gx_rules.specs.Sending.{clock_after, numbered}
-use Rattle.gx_rules.specs.Slices.{starts_slice}
+use Rattle.gx_rules.specs.Running.{starts_slice}
 use Rattle.gx_law_order.proofs.Lists.{Each, each_append, each_weaker}
 use Rattle.gx_law_order.proofs.Past.{Past, aborted-append, committed-append, running-drawn}
 use Rattle.gx_law_order.proofs.Replies.{event-good}
 use Rattle.gx_law_order.proofs.Stages.{IsWhole, gx}
 use Rattle.gx_law_order.proofs.Statuses.{is_running}
-use Rattle.gx_law_order.proofs.Waiting.{GoesOn, each-among, going-on, is_open_phase}
+use Rattle.gx_law_order.proofs.Waiting.{each-among}
 use Rattle.gx_law_order.proofs.World.{Knows, marks-last}
 use Rattle.gx_law_commit.specs.Pairs.{bit}
 use Rattle.gx_law_commit.specs.Said.{Said, SaidIn, gxid_in, is_answer}
 use Rattle.gx_law_commit.specs.Standings.{Known, at, known_at}
 use Rattle.gx_law_commit.proofs.Counts.{NoEnd, NoPart, NoSent, local-append, no-aborted, no-committed, no-local, no-writer, sent-no-end, sent-no-part, writer-append}
-use Rattle.gx_law_commit.proofs.Everywhere.{Holds, does-it, fol-no-sent, parts_in, posted-each, told-answer}
+use Rattle.gx_law_commit.proofs.Everywhere.{Holds, IsResumed, does-it, fol-no-sent, parts_in, posted-each, resumed-does, told-answer}
 use Rattle.gx_law_commit.proofs.Handled.{Does, Follows, IsExecOf}
 use Rattle.gx_law_commit.proofs.Waiting.{awaited}
 use Rattle.gx_law_commit.proofs.Ways.{Fol, Led, fol-no-part}
-use Rattle.gx_law_reads.proofs.Low.{Lows, coord-low, heard-low, new-lows}
-use Rattle.gx_law_reads.proofs.Ran.{IsAnswer, OfSlice, Ran, going-ran}
+use Rattle.gx_law_reads.proofs.Low.{IsAnswer, Lows, coord-low, heard-low, new-lows}
 use Rattle.gx_law_commit.proofs.Steps.{HeardAt, IsGiven, SaidTo, by-heard, event-leads, given-is, world-keeps}
 use Rattle.gx_law_reads.proofs.Taken.{LiveMessage, Passes, event-pass}
 
@@ -241,7 +240,7 @@ is_exec (message.Exec h c level x y z) = true
 is_exec _ = false
 
 -- what was taken isn't run again
-module _ (s : Seg) (g : Gxid) (c : Cid) where
+module _ (script : Script) (s : Seg) (g : Gxid) (c : Cid) where
   kept-quiet : (o : Option Reply) → (tells_kept s g o).marks ≡ []
   kept-quiet None = refl
   kept-quiet (Some r) = refl
@@ -257,10 +256,10 @@ module _ (s : Seg) (g : Gxid) (c : Cid) where
     not-new : (a b : ℕ) → b ≤ a → nat_lt a b ≡ false
     not-new a b l = grind (arith, nat_tests)
 
-    takes-quiet : (takes s g c level x h y l).marks ≡ []
-    takes-quiet = ap (λ b. (let t : SegTurn = if b then starts_slice (raised s h) g c level x y else repeats s g c l in t).marks) (not-new l.last c.0 old) ∙ repeats-quiet l
+    takes-quiet : (takes script s g c level x h y l).marks ≡ []
+    takes-quiet = ap (λ b. (let t : SegTurn = if b then starts_slice script (raised s h) g c level x y else repeats s g c l in t).marks) (not-new l.last c.0 old) ∙ repeats-quiet l
 
-    exec-quiet : (p : Phase) → (on_exec s g c level x h y l p).marks ≡ []
+    exec-quiet : (p : Phase) → (on_exec script s g c level x h y l p).marks ≡ []
     exec-quiet Reading = takes-quiet
     exec-quiet Writing = takes-quiet
     exec-quiet Prepared = repeats-quiet l
@@ -280,7 +279,7 @@ module _ (s : Seg) (g : Gxid) (c : Cid) where
   fits-quiet false t e = refl
 
 old-quiet : (script : Script) (s : Seg) (fails : Bool) (g : Gxid) (c : Cid) (level : Level) (x : Option Snapshot) (h : Gxid) (y : Slice) → c.0 ≤ (s.locals g.0).last → (on_message script s fails (message.Exec g c level x h y)).marks ≡ []
-old-quiet script s fails g c level x h y old = unless-quiet s g c _ (fits-quiet s g c (fits_exec script s g c x h y) _ (exec-quiet s g c level x h y (local_of s g) old (local_of s g).phase))
+old-quiet script s fails g c level x h y old = unless-quiet script s g c _ (fits-quiet script s g c (fits_exec script s g c x h y) _ (exec-quiet script s g c level x h y (local_of s g) old (local_of s g).phase))
 
 -- what a segment writes is of a command that isn't before its transaction's last there, and of a transaction that was drawn and
 -- hasn't committed
@@ -452,37 +451,25 @@ module _ (script : Script) (w : World) (q : Ends w) (e : Event) (x : NodeEvent) 
         drawn = drawn-late;
       }
 
--- A MESSAGE
-module _ (script : Script) (w : World) (k : Knows script w) (v : Holds script w) (q : Ends w) (e : Event) (fails : Bool) (i : ℕ) (from : Node) (envelope : Envelope) (given : IsGiven w e i from envelope) where
-  abbrev its : ℕ
-  its = gxid_in envelope.message
-
-  abbrev turn4 : SegTurn
-  turn4 = on_event script (w.segs i) (here.Deliver from envelope) fails
-
+-- WHAT A SEGMENT DOES FOR A TRANSACTION
+-- by a message, or by that of a slice that goes on
+module _ (script : Script) (w : World) (k : Knows script w) (v : Holds script w) (i g : ℕ) (told : Message) (turn : SegTurn)
+    (does : Does told (known_at w.coord (marks_in w.steps) i g) (w.segs i) i g (k.well.names i) (is_writer (marks_in w.steps) (gx g) (at i)) (prepared_count (marks_in w.steps) (at i) (gx g)) (local_count (marks_in w.steps) (at i) (gx g)) (v.stands.pairs i g) turn) where
   abbrev kn : Known
-  kn = known_at w.coord (marks_in w.steps) i its
-
-  does : Does envelope.message kn (w.segs i) i its (k.well.names i) (is_writer (marks_in w.steps) (gx its) (at i)) (prepared_count (marks_in w.steps) (at i) (gx its)) (local_count (marks_in w.steps) (at i) (gx its)) (v.stands.pairs i its) turn4
-  does = does-it script w k v e fails i from envelope given.received given.said
-
-  taken : TakenAt w (at i) envelope.message
-  taken =
-      let t = given-is w e i from envelope given (λ (l : Letter). TakenAt w l.to l.envelope.message) q.taken in
-      subst (λ (z : Envelope). TakenAt w (at i) z.message) t.told (subst (λ (n : Node). TakenAt w n t.letter.envelope.message) t.target t.is)
+  kn = known_at w.coord (marks_in w.steps) i g
 
   clash : (x : Bool) → x ≡ true → x ≡ false → ⊥
   clash x e f = grind arith
 
   -- no local commit of who has ended
-  no-locals : (kn.committed ≡ true) ⊎ (kn.aborted ≡ true) → local_count turn4.marks (at i) (gx its) ≡ 0
-  no-locals a = none turn4.marks does.marks
+  no-locals : (kn.committed ≡ true) ⊎ (kn.aborted ≡ true) → local_count turn.marks (at i) (gx g) ≡ 0
+  no-locals a = none turn.marks does.marks
     where
       ended : (kn.committed ≡ true) ⊎ (kn.aborted ≡ true) → kn.aborted ≡ false → kn.committed ≡ false → ⊥
       ended (inl c) x y = clash kn.committed c y
       ended (inr c) x y = clash kn.aborted c x
 
-      none : (ns : List Mark) → Each (Follows envelope.message kn i its) ns → local_count ns (at i) (gx its) ≡ 0
+      none : (ns : List Mark) → Each (Follows told kn i g) ns → local_count ns (at i) (gx g) ≡ 0
       none [] f = refl
       none (mark.LocalCommit m y ∷ ns) f = absurd (ended a f.0.3 f.0.4)
       none (m ∷ ns) f = none ns f.1
@@ -499,34 +486,67 @@ module _ (script : Script) (w : World) (k : Knows script w) (v : Holds script w)
       differ : (n m : ℕ) → n ≡ 0 → n + m ≡ 1 → m ≡ 0 → ⊥
       differ n m e f h = omega arith
 
-  phase-same : (kn.committed ≡ true) ⊎ (kn.aborted ≡ true) → has_committed (turn4.seg.locals its).phase ≡ has_committed ((w.segs i).locals its).phase
-  phase-same a =
-      bit-same (has_committed ((w.segs i).locals its).phase) (has_committed (turn4.seg.locals its).phase) (local_count (marks_in w.steps) (at i) (gx its)) (local_count turn4.marks (at i) (gx its)) (v.stands.pairs i its).committed does.next.pair.committed (no-locals a)
+  phase-same : (kn.committed ≡ true) ⊎ (kn.aborted ≡ true) → has_committed (turn.seg.locals g).phase ≡ has_committed ((w.segs i).locals g).phase
+  phase-same a = bit-same (has_committed ((w.segs i).locals g).phase) (has_committed (turn.seg.locals g).phase) (local_count (marks_in w.steps) (at i) (gx g)) (local_count turn.marks (at i) (gx g)) (v.stands.pairs i g).committed does.next.pair.committed (no-locals a)
 
-  exec-cid : Message → ℕ
-  exec-cid (message.Exec h c level x y z) = c.0
-  exec-cid _ = 0
+  -- its writes are of this command
+  pub none-new : ((c : Cid) → IsExecOf told g c → ⊥) → Each (NewMark w i g) turn.marks
+  none-new f = each turn.marks does.marks
+    where
+      each : (ns : List Mark) → Each (Follows told kn i g) ns → Each (NewMark w i g) ns
+      each [] h = tt
+      each (mark.Write y c n t r x ∷ ns) h = absurd (f c h.0.2)
+      each (mark.Commit y ∷ ns) h = absurd h.0
+      each (mark.Abort y ∷ ns) h = absurd h.0
+      each (mark.Decided y ∷ ns) h = absurd h.0
+      each (mark.Sent to number m ∷ ns) h = absurd h.0
+      each (m ∷ ns) h = (tt, each ns h.1)
 
-  none-new : ((c : Cid) → IsExecOf envelope.message its c → ⊥) → (ns : List Mark) → Each (Follows envelope.message kn i its) ns → Each (NewMark w i its) ns
-  none-new f [] h = tt
-  none-new f (mark.Write y c n t r x ∷ ns) h = absurd (f c h.0.2)
-  none-new f (mark.Commit y ∷ ns) h = absurd h.0
-  none-new f (mark.Abort y ∷ ns) h = absurd h.0
-  none-new f (mark.Decided y ∷ ns) h = absurd h.0
-  none-new f (mark.Sent to number m ∷ ns) h = absurd h.0
-  none-new f (m ∷ ns) h = (tt, none-new f ns h.1)
+  pub each-new : (c : Cid) → ((d : Cid) → IsExecOf told g d → d.0 ≡ c.0) → ((w.segs i).locals g).last ≤ c.0 → is_committed (marks_in w.steps) (gx g) ≡ false → 1 ≤ g → Each (NewMark w i g) turn.marks
+  each-new c same last runs one = each turn.marks does.marks
+    where
+      each : (ns : List Mark) → Each (Follows told kn i g) ns → Each (NewMark w i g) ns
+      each [] h = tt
+      each (mark.Write y d n t r x ∷ ns) h = ((h.0.0, h.0.1, subst (λ z. ((w.segs i).locals g).last ≤ z) (sym (same d h.0.2)) last, runs, one), each ns h.1)
+      each (mark.Commit y ∷ ns) h = absurd h.0
+      each (mark.Abort y ∷ ns) h = absurd h.0
+      each (mark.Decided y ∷ ns) h = absurd h.0
+      each (mark.Sent to number m ∷ ns) h = absurd h.0
+      each (m ∷ ns) h = (tt, each ns h.1)
 
-  each-new : (c : Cid) → ((d : Cid) → IsExecOf envelope.message its d → d.0 ≡ c.0) → ((w.segs i).locals its).last ≤ c.0 → is_committed (marks_in w.steps) (gx its) ≡ false → 1 ≤ its → (ns : List Mark) → Each (Follows envelope.message kn i its) ns → Each (NewMark w i its) ns
-  each-new c same lt-of runs one [] h = tt
-  each-new c same lt-of runs one (mark.Write y d n t r x ∷ ns) h = ((h.0.0, h.0.1, subst (λ z. ((w.segs i).locals its).last ≤ z) (sym (same d h.0.2)) lt-of, runs, one), each-new c same lt-of runs one ns h.1)
-  each-new c same lt-of runs one (mark.Commit y ∷ ns) h = absurd h.0
-  each-new c same lt-of runs one (mark.Abort y ∷ ns) h = absurd h.0
-  each-new c same lt-of runs one (mark.Decided y ∷ ns) h = absurd h.0
-  each-new c same lt-of runs one (mark.Sent to number m ∷ ns) h = absurd h.0
-  each-new c same lt-of runs one (m ∷ ns) h = (tt, each-new c same lt-of runs one ns h.1)
+  pub is-made : Each (NewMark w i g) turn.marks → Made w i g turn
+  is-made marks =
+      record {
+        others = does.others;
+        last = does.next.grows.last;
+        committed = λ c. phase-same (inl c);
+        aborted = λ a. phase-same (inr a);
+        marks = marks;
+        outs = each_weaker _ IsAnswer (λ o h. (told-answer _ _ _ _ _ o.message h).0) turn.outs does.outs;
+      }
+
+abbrev exec-cid : Message → ℕ
+exec-cid (message.Exec h c level x y z) = c.0
+exec-cid _ = 0
+
+-- A MESSAGE
+module _ (script : Script) (w : World) (k : Knows script w) (v : Holds script w) (q : Ends w) (e : Event) (fails : Bool) (i : ℕ) (from : Node) (envelope : Envelope) (given : IsGiven w e i from envelope) where
+  abbrev its : ℕ
+  its = gxid_in envelope.message
+
+  abbrev turn4 : SegTurn
+  turn4 = on_event script (w.segs i) (here.Deliver from envelope) fails
+
+  does4 : Does envelope.message (known_at w.coord (marks_in w.steps) i its) (w.segs i) i its (k.well.names i) (is_writer (marks_in w.steps) (gx its) (at i)) (prepared_count (marks_in w.steps) (at i) (gx its)) (local_count (marks_in w.steps) (at i) (gx its)) (v.stands.pairs i its) turn4
+  does4 = does-it script w k v e fails i from envelope given.received given.said
+
+  taken : TakenAt w (at i) envelope.message
+  taken =
+      let t = given-is w e i from envelope given (λ (l : Letter). TakenAt w l.to l.envelope.message) q.taken in
+      subst (λ (z : Envelope). TakenAt w (at i) z.message) t.told (subst (λ (n : Node). TakenAt w n t.letter.envelope.message) t.target t.is)
 
   not-exec-new : (m : Message) → envelope.message ≡ m → is_exec m ≡ false → Each (NewMark w i its) turn4.marks
-  not-exec-new m z f = none-new (λ c x. differ (sym (ap is_exec (sym z ∙ x.is)) ∙ f)) turn4.marks does.marks
+  not-exec-new m z f = none-new script w k v i its envelope.message turn4 does4 (λ c x. differ (sym (ap is_exec (sym z ∙ x.is)) ∙ f))
     where
       differ : true ≡ false → ⊥
       differ e = cc
@@ -552,7 +572,7 @@ module _ (script : Script) (w : World) (k : Knows script w) (v : Holds script w)
       by_old : (b : Bool) → nat_lt ((w.segs i).locals its).last c.0 ≡ b → Each (NewMark w i its) turn4.marks
       by_old true e =
           let l = lt-of ((w.segs i).locals its).last c.0 e in
-          each-new c same (weaker _ _ l) (running (is_committed (marks_in w.steps) (gx its)) refl l) (subst (λ j. 1 ≤ j) (sym here_is) (subst (TakenAt w (at i)) f taken).0) turn4.marks does.marks
+          each-new script w k v i its envelope.message turn4 does4 c same (weaker _ _ l) (running (is_committed (marks_in w.steps) (gx its)) refl l) (subst (λ j. 1 ≤ j) (sym here_is) (subst (TakenAt w (at i)) f taken).0)
       by_old false e =
           subst (Each (NewMark w i its))
           (sym (ap (λ m. (on_message script (w.segs i) fails m).marks) f ∙ old-quiet script (w.segs i) fails h c level x y z (subst (λ j. c.0 ≤ ((w.segs i).locals j).last) here_is (le-of ((w.segs i).locals its).last c.0 e)))) tt
@@ -572,60 +592,28 @@ module _ (script : Script) (w : World) (k : Knows script w) (v : Holds script w)
       by_message (message.Graph round graph) f = not-exec-new _ f refl
 
   pub message-made : Made w i (gxid_in envelope.message) (on_event script (w.segs i) (here.Deliver from envelope) fails)
-  message-made =
-      record {
-        others = does.others;
-        last = does.next.grows.last;
-        committed = λ c. phase-same (inl c);
-        aborted = λ a. phase-same (inr a);
-        marks = message-new;
-        outs = each_weaker _ IsAnswer (λ o h. (told-answer _ _ _ _ _ o.message h).0) turn4.outs does.outs;
-      }
+  message-made = is-made script w k v i its envelope.message turn4 does4 message-new
 
 -- A SLICE THAT GOES ON
--- it writes rows of the last command there, of a transaction that is still open
-module _ (script : Script) (w : World) (k : Knows script w) (v : Holds script w) (q : Ends w) (fails : Bool) (i : ℕ) (g : Gxid) (d : GoesOn script w i g) where
-  abbrev turn5 : SegTurn
-  turn5 = on_event script (w.segs i) (here.Resume g) fails
+-- it writes rows of the last command there, of a transaction that hasn't committed
+pub going-made : (script : Script) (w : World) (k : Knows script w) (v : Holds script w) → Ends w → (e : Event) (fails : Bool) (i : ℕ) (g : Gxid) → seg_can script (w.segs i) (here.Resume g) ≡ true → Made w i g.0 (on_event script (w.segs i) (here.Resume g) fails)
+unfolding exec-cid
+going-made script w k v q e fails i g ok =
+    is-made script w k v i g.0 told (on_event script (w.segs i) (here.Resume g) fails) o.does
+    (each-new script w k v i g.0 told (on_event script (w.segs i) (here.Resume g) fails) o.does o.slice.cid (λ d z. sym (ap exec-cid z.is)) (same-le _ _ o.waits.last) (awaited script w k v i g o.slice o.is).uncommitted drawn)
+  where
+    o : IsResumed script w k v e i g fails
+    o = resumed-does script w k v e i g fails ok
 
-  r : Ran (w.segs i) g.0 d.slice.cid.0 turn5
-  r = going-ran script w i g fails d
+    told : Message
+    told = message.Exec g o.slice.cid o.slice.level o.slice.snapshot o.waits.horizon o.slice.slice
 
-  closed : (p : Phase) → is_open_phase p ≡ true → has_committed p ≡ false
-  closed p e = grind arith
+    same-le : (a b : ℕ) → a ≡ b → a ≤ b
+    same-le a b e = omega arith
 
-  none-committed : has_committed (turn5.seg.locals g.0).phase ≡ has_committed ((w.segs i).locals g.0).phase
-  none-committed = closed (turn5.seg.locals g.0).phase (r.opens d.waits.opens) ∙ sym (closed ((w.segs i).locals g.0).phase d.waits.opens)
-
-  -- its command came
-  drawn : 1 ≤ g.0
-  drawn = let c = d.waits.come in (subst (TakenAt w c.letter.to) c.told (each-among (λ (l : Letter). TakenAt w l.to l.envelope.message) w.sent c.letter q.taken c.among)).0
-
-  going-new : (m : Mark) → OfSlice (w.segs i).node g.0 d.slice.cid.0 m → NewMark w i g.0 m
-  going-new (mark.Write h c n t s x) e =
-      (e.0, ap (λ (z : Node). z.0) (e.2 ∙ k.well.names i), same-le ((w.segs i).locals g.0).last d.slice.cid.0 c.0 d.waits.last e.1, (awaited script w k v i g d.slice d.is).uncommitted, drawn)
-    where
-      same-le : (a b c : ℕ) → a ≡ b → c ≡ b → a ≤ c
-      same-le a b c e f = omega arith
-  going-new (mark.Commit h) e = absurd e
-  going-new (mark.Abort h) e = absurd e
-  going-new (mark.Decided h) e = absurd e
-  going-new (mark.Sent to number told) e = absurd e
-  going-new m e = tt
-
-  pub going-made : Made w i g.0 (on_event script (w.segs i) (here.Resume g) fails)
-  going-made =
-      record {
-        others = r.others;
-        last = same-le ((w.segs i).locals g.0).last (turn5.seg.locals g.0).last d.slice.cid.0 d.waits.last (r.last d.waits.last);
-        committed = λ c. none-committed;
-        aborted = λ a. none-committed;
-        marks = each_weaker (OfSlice (w.segs i).node g.0 d.slice.cid.0) (NewMark w i g.0) going-new turn5.marks r.marks;
-        outs = r.outs;
-      }
-    where
-      same-le : (a b c : ℕ) → a ≡ c → b ≡ c → a ≤ b
-      same-le a b c e f = omega arith
+    -- its command came
+    drawn : 1 ≤ g.0
+    drawn = let c = o.waits.come in (subst (TakenAt w c.letter.to) c.told (each-among (λ (l : Letter). TakenAt w l.to l.envelope.message) w.sent c.letter q.taken c.among)).0
 
 -- ALL THAT A SEGMENT HEARS
 pub record MadeOf (w : World) (i : ℕ) (turn : SegTurn) : Type 0 where
@@ -636,7 +624,7 @@ pub heard-made : (script : Script) (w : World) → Knows script w → Holds scri
 heard-made script w k v q e x fails i h =
     by-heard script w e i (λ x. MadeOf w i (on_event script (w.segs i) x fails))
     (λ from envelope d. record { txn = gxid_in envelope.message; made = message-made script w k v q e fails i from envelope d })
-    (λ g ok. record { txn = g.0; made = going-made script w k v q fails i g (going-on script w k.well i g ok) }) x h
+    (λ g ok. record { txn = g.0; made = going-made script w k v q e fails i g ok }) x h
 
 -- EVERY RUN
 pub record Facts (w : World) : Type 0 where

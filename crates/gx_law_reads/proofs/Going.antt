@@ -260,7 +260,7 @@ module _ (c : Coord) (g : ℕ) (s : Stood c.table c.works) (latest : Latest c.ta
   request-went (Some wanted) = granted-went wanted (is_free c.locks.holds wanted)
 
   pub dispatch-went : WentBy c (dispatches script c (gx g) line)
-  dispatch-went = request-went (lock_for (gx g) line)
+  dispatch-went = request-went (lock_for script (gx g) line)
 
 -- and behind a wait
 resumes-went : (c : Coord) (g : ℕ) → Stood c.table c.works → Latest c.table → (script : Script) (o : Option Claim) (line : Option Stmt) → WentBy c (resumes script c (gx g) o line)

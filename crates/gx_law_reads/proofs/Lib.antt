@@ -4,7 +4,6 @@ pub mod Reading
 pub mod Plain
 pub mod Turns
 pub mod Going
-pub mod Ran
 pub mod Low
 pub mod Taken
 pub mod Ends

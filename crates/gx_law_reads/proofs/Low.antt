@@ -1,16 +1,12 @@
 -- Horizons are low, and commands see whoever is below, in every run of the machine.
 use Rattle.std.proofs.Common.{◌≡◌, ◌≤◌, ◌<◌, ℕ, List, [], ◌∷◌, Option, Some, None, Bool, true, false, not, refl, sym, subst, ap, ◌∙◌, if◌then◌else◌, ltb, arith, eqb}
 use Rattle.std.proofs.lemmas.Bool.Decides.{nat_tests}
-use Rattle.std.specs.Prelude.{fold, nat_le, nat_lt}
+use Rattle.std.specs.Prelude.{nat_le, nat_lt}
 use Rattle.gx_lemmas.proofs.Options.{none-some}
 use Rattle.gx_ids.specs.declared.ids.Cid.{Cid}
 use Rattle.gx_ids.specs.declared.ids.Gxid.{Gxid}
 use Rattle.gx_ids.specs.declared.ids.Node.{Node}
-use Rattle.gx_ids.specs.declared.ids.Table.{Table as TableId}
-use Rattle.gx_tree.specs.declared.query.Query.{Query}
-use Rattle.gx_tree.specs.declared.row.KeyedRow.{KeyedRow}
 use Rattle.gx_tree.specs.declared.slice.Slice.{Slice}
-use Rattle.gx_tree.specs.declared.slice.Slice.TheVariants as slice
 use Rattle.gx_dsnap.specs.Gxids.{is_below}
 use Rattle.gx_tree.specs.declared.stmt.Level.{Level}
 use Rattle.gx_dsnap.specs.declared.snapshot.Snapshot.{Snapshot}
@@ -18,15 +14,13 @@ use Rattle.gx_dtx.specs.Table.{Table, find_txn, horizon_of}
 use Rattle.gx_dtx.specs.declared.phase.Phase.{Phase as Status}
 use Rattle.gx_dtx.specs.declared.txn.Txn.{Txn}
 use Rattle.gx_dtx.proofs.Low.{found-low, live_found-low}
-use Rattle.gx_meaning.specs.declared.fault.ArithFault.{ArithFault}
 use Rattle.gx_msg.specs.declared.message.Envelope.{Envelope}
 use Rattle.gx_msg.specs.declared.message.Message.{Message}
 use Rattle.gx_msg.specs.declared.message.Message.TheVariants as message
+use Rattle.gx_msg.specs.declared.message.Out.{Out}
 use Rattle.gx_msg.specs.declared.reply.Reply.{Reply}
 use Rattle.gx_script.specs.declared.Script.{Script}
 use Rattle.gx_store.specs.declared.event.Event.{Event}
-use Rattle.gx_store.specs.declared.mark.Mark.{Mark}
-use Rattle.gx_store.specs.declared.mark.Mark.TheVariants as mark
 use Rattle.gx_store.specs.declared.node.NodeEvent.{NodeEvent}
 use Rattle.gx_store.specs.declared.node.NodeEvent.TheVariants as here
 use Rattle.gx_store.specs.Marks.{is_ended}
@@ -37,33 +31,29 @@ use Rattle.gx_rules.specs.AtCoordinator.{coord_can, coord_rule}
 use Rattle.gx_rules.specs.AtSegment.{commits, if_fits, on_abort, on_commit, on_commit_prepared, on_event, on_exec, on_forget, on_message, on_prepare, once, promises, raised, repeats, seg_rule, takes, unless_below, was_prepared}
 use Rattle.gx_rules.specs.Coordinators.{CoordTurn, Work, no_work}
 use Rattle.gx_rules.specs.Fits.{fits_exec, is_waiting}
-use Rattle.gx_rules.specs.Machine.{Letter, World, coord_did, new_world, seg_did, world_of}
+use Rattle.gx_rules.specs.Machine.{Letter, World, coord_did, new_world, seg_can, seg_did, world_of}
 use Rattle.gx_rules.specs.Segments.{Local, Phase, Seg, SegTurn, local_of, stays, tells_kept}
 use Rattle.gx_rules.specs.Segments.Phase.{Aborted, Committed, Forgotten, Prepared, Reading, Writing}
 use Rattle.gx_rules.specs.Sending.{clock_after}
-use Rattle.gx_rules.specs.Shown.{shown}
-use Rattle.gx_rules.specs.Slices.{Moved, first_fault, inserts_row, runs_slice, selects, requests, runs_locked, slice_lock, starts_slice, suspends}
-use Rattle.gx_rules.specs.Locks.{with_hold}
-use Rattle.gx_waits.specs.declared.claim.Claim.{Claim}
-use Rattle.gx_locks.specs.Locks.{is_free}
+use Rattle.gx_rules.specs.Running.{is_granted, slice_lock, starts_slice}
 use Rattle.gx_law_order.proofs.Lists.{Each, each_weaker}
 use Rattle.gx_law_order.proofs.Past.{there-drawn}
 use Rattle.gx_law_order.proofs.Stages.{gx}
 use Rattle.gx_law_order.proofs.Statuses.{is_running, runs-stage, stage, stage_in}
 use Rattle.gx_law_order.proofs.Statuses.Stage.{Live as Running}
-use Rattle.gx_law_order.proofs.Waiting.{GoesOn, going-on}
+use Rattle.gx_law_order.proofs.Waiting.{GoesOn, goes-on-is, going-on}
 use Rattle.gx_law_order.proofs.World.{Knows}
 use Rattle.gx_law_commit.specs.Said.{Said, SaidIn, gxid_in, is_answer, segment_of}
 use Rattle.gx_law_commit.specs.Standings.{at, known_at, standing, standing_in}
 use Rattle.gx_law_commit.specs.Standings.Standing.{Unborn, Over, Live}
 use Rattle.gx_law_commit.proofs.Counts.{NoSent}
-use Rattle.gx_law_commit.proofs.Everywhere.{Holds, does-it, fol-no-sent, follows-no-sent, parts_in, posted-each, told-answer}
+use Rattle.gx_law_commit.proofs.Everywhere.{Holds, does-it, fol-no-sent, follows-no-sent, parts_in, posted-each, resumed-does, told-answer}
+use Rattle.gx_law_commit.proofs.Leaving.{request-leaves, slice-leaves}
 use Rattle.gx_law_reads.specs.Horizons.{AreHorizonsLow, AreLowIn, IsLowIn}
 use Rattle.gx_law_reads.proofs.Heights.{horizon-bounds}
 use Rattle.gx_law_reads.proofs.Held.{Latest}
 use Rattle.gx_law_reads.proofs.Going.{event-went}
 use Rattle.gx_law_reads.proofs.Reading.{CountedIn, FineIn, OutFine, Stood, low-then}
-use Rattle.gx_law_reads.proofs.Ran.{IsAnswer, OfSlice, going-ran}
 use Rattle.gx_law_commit.proofs.Steps.{HeardAt, IsGiven, SaidTo, by-heard, event-leads, given-is, world-keeps}
 use Rattle.gx_law_reads.proofs.Turns.{WentBy}
 
@@ -212,28 +202,11 @@ forget-stays s g l Writing = refl
 forget-stays s g l Prepared = refl
 forget-stays s g l Committed = refl
 
-inserted-stays : (g : Gxid) (c : Cid) (table : TableId) (rows : List KeyedRow) (m : Moved) → (fold (inserts_row g c table) m rows).seg.horizon ≡ m.seg.horizon
-inserted-stays g c table [] m = refl
-inserted-stays g c table (row ∷ rows) m = inserted-stays g c table rows (inserts_row g c table m row)
-
-select-stays : (s : Seg) (g : Gxid) (c : Cid) (query : Query) (rows : List KeyedRow) (o : Option (KeyedRow × ArithFault)) → Stays s (selects s g c query rows o)
-select-stays s g c query rows None = refl
-select-stays s g c query rows (Some f) = refl
-
-slice-stays : (s : Seg) (g : Gxid) (c : Cid) (x : Option Snapshot) (y : Slice) → Stays s (runs_slice s g c x y)
-slice-stays s g c (Some x) (slice.Select query) = select-stays s g c query (shown s x g c query.table) (first_fault query.cond (shown s x g c query.table))
-slice-stays s g c (Some x) (slice.Insert table rows) = inserted-stays g c table rows (record { seg = s; marks = [] })
-slice-stays s g c (Some x) (slice.Update t y z) = refl
-slice-stays s g c (Some x) (slice.Delete t y) = refl
-slice-stays s g c (Some x) (slice.Lock t y) = refl
-slice-stays s g c None (slice.Select query) = refl
-slice-stays s g c None (slice.Insert table rows) = refl
-slice-stays s g c None (slice.Update t y z) = refl
-slice-stays s g c None (slice.Delete t y) = refl
-slice-stays s g c None (slice.Lock t y) = refl
+abbrev pub IsAnswer : Out → Type 0
+IsAnswer o = is_answer o.message ≡ true
 
 -- at or below a limit
-module _ (limit : ℕ) where
+module _ (script : Script) (limit : ℕ) where
   abbrev Under : SegTurn → Type 0
   Under t = t.seg.horizon.0 ≤ limit
 
@@ -261,25 +234,17 @@ module _ (limit : ℕ) where
       by_test true = by-stays s (tells_kept s g l.answer) u (kept-stays s g l.answer)
       by_test false = u
 
-  starts-under : (s : Seg) (g : Gxid) (c : Cid) (level : Level) (x : Option Snapshot) (y : Slice) (o : Option Claim) → s.horizon.0 ≤ limit → Under (requests s g c level x y o)
-  starts-under s g c level x y None u = by-stays s (runs_slice s g c x y) u (slice-stays s g c x y)
-  starts-under s g c level x y (Some wanted) u = by_test (is_free s.locks.holds wanted)
-    where
-      held : Seg
-      held = record s { locks = with_hold s.locks wanted }
+  starts-under : (s : Seg) (g : Gxid) (c : Cid) (level : Level) (x : Option Snapshot) (y : Slice) → s.horizon.0 ≤ limit → Under (starts_slice script s g c level x y)
+  starts-under s g c level x y u = by-stays s (starts_slice script s g c level x y) u (request-leaves g c IsAnswer (λ wrote count part. refl) (λ cause. refl) s level x y (slice_lock script g y)).horizon
 
-      by_test : (b : Bool) → Under (if b then runs_locked s g c x y wanted else suspends s g c level x y wanted)
-      by_test true = by-stays held (runs_slice held g c x y) u (slice-stays held g c x y)
-      by_test false = u
-
-  takes-under : (s : Seg) (g : Gxid) (c : Cid) (level : Level) (x : Option Snapshot) (h : Gxid) (y : Slice) (l : Local) → s.horizon.0 ≤ limit → h.0 ≤ limit → Under (takes s g c level x h y l)
+  takes-under : (s : Seg) (g : Gxid) (c : Cid) (level : Level) (x : Option Snapshot) (h : Gxid) (y : Slice) (l : Local) → s.horizon.0 ≤ limit → h.0 ≤ limit → Under (takes script s g c level x h y l)
   takes-under s g c level x h y l u m = by_test (nat_lt l.last c.0)
     where
-      by_test : (b : Bool) → Under (if b then starts_slice (raised s h) g c level x y else repeats s g c l)
-      by_test true = starts-under (raised s h) g c level x y (slice_lock g y) (raised-under s h u m)
+      by_test : (b : Bool) → Under (if b then starts_slice script (raised s h) g c level x y else repeats s g c l)
+      by_test true = starts-under (raised s h) g c level x y (raised-under s h u m)
       by_test false = repeats-under s g c l u
 
-  exec-under : (s : Seg) (g : Gxid) (c : Cid) (level : Level) (x : Option Snapshot) (h : Gxid) (y : Slice) (l : Local) (p : Phase) → s.horizon.0 ≤ limit → h.0 ≤ limit → Under (on_exec s g c level x h y l p)
+  exec-under : (s : Seg) (g : Gxid) (c : Cid) (level : Level) (x : Option Snapshot) (h : Gxid) (y : Slice) (l : Local) (p : Phase) → s.horizon.0 ≤ limit → h.0 ≤ limit → Under (on_exec script s g c level x h y l p)
   exec-under s g c level x h y l Reading u m = takes-under s g c level x h y l u m
   exec-under s g c level x h y l Writing u m = takes-under s g c level x h y l u m
   exec-under s g c level x h y l Prepared u m = repeats-under s g c l u
@@ -291,16 +256,16 @@ module _ (limit : ℕ) where
   fits-under s true t l u = u
   fits-under s false t l u = l
 
-  pub message-under : (script : Script) (s : Seg) (fails : Bool) (m : Message) → s.horizon.0 ≤ limit → IsLowIn (gx limit) m → Under (on_message script s fails m)
-  message-under script s fails (message.Exec g c level x h y) l u = unless-under s g _ l (fits-under s (fits_exec script s g c x h y) _ l (exec-under s g c level x h y (local_of s g) (local_of s g).phase l u))
-  message-under script s fails (message.Prepare g) l u = unless-under s g _ l (fits-under s (not (is_waiting (local_of s g))) _ l (by-stays s (on_prepare s g fails (local_of s g) (local_of s g).phase) l (prepare-stays s g fails (local_of s g) (local_of s g).phase)))
-  message-under script s fails (message.Commit g) l u = unless-under s g _ l (fits-under s (not (is_waiting (local_of s g))) _ l (by-stays s (on_commit s g fails (local_of s g) (local_of s g).phase) l (commit-stays s g fails (local_of s g) (local_of s g).phase)))
-  message-under script s fails (message.CommitPrepared g) l u = unless-under s g _ l (by-stays s (on_commit_prepared s g fails (local_of s g) (local_of s g).phase) l (finish-stays s g fails (local_of s g) (local_of s g).phase))
-  message-under script s fails (message.Abort g) l u = unless-under s g _ l (by-stays s (on_abort s g (local_of s g) (local_of s g).phase) l (abort-stays s g (local_of s g) (local_of s g).phase))
-  message-under script s fails (message.Forget g) l u = unless-under s g _ l (by-stays s (on_forget s g (local_of s g) (local_of s g).phase) l (forget-stays s g (local_of s g) (local_of s g).phase))
-  message-under script s fails (message.Answer g r) l u = l
-  message-under script s fails (message.Collect round) l u = l
-  message-under script s fails (message.Graph round graph) l u = l
+  pub message-under : (s : Seg) (fails : Bool) (m : Message) → s.horizon.0 ≤ limit → IsLowIn (gx limit) m → Under (on_message script s fails m)
+  message-under s fails (message.Exec g c level x h y) l u = unless-under s g _ l (fits-under s (fits_exec script s g c x h y) _ l (exec-under s g c level x h y (local_of s g) (local_of s g).phase l u))
+  message-under s fails (message.Prepare g) l u = unless-under s g _ l (fits-under s (not (is_waiting (local_of s g))) _ l (by-stays s (on_prepare s g fails (local_of s g) (local_of s g).phase) l (prepare-stays s g fails (local_of s g) (local_of s g).phase)))
+  message-under s fails (message.Commit g) l u = unless-under s g _ l (fits-under s (not (is_waiting (local_of s g))) _ l (by-stays s (on_commit s g fails (local_of s g) (local_of s g).phase) l (commit-stays s g fails (local_of s g) (local_of s g).phase)))
+  message-under s fails (message.CommitPrepared g) l u = unless-under s g _ l (by-stays s (on_commit_prepared s g fails (local_of s g) (local_of s g).phase) l (finish-stays s g fails (local_of s g) (local_of s g).phase))
+  message-under s fails (message.Abort g) l u = unless-under s g _ l (by-stays s (on_abort s g (local_of s g) (local_of s g).phase) l (abort-stays s g (local_of s g) (local_of s g).phase))
+  message-under s fails (message.Forget g) l u = unless-under s g _ l (by-stays s (on_forget s g (local_of s g) (local_of s g).phase) l (forget-stays s g (local_of s g) (local_of s g).phase))
+  message-under s fails (message.Answer g r) l u = l
+  message-under s fails (message.Collect round) l u = l
+  message-under s fails (message.Graph round graph) l u = l
 
 -- what a step of a segment is to send, and where it may leave the horizon
 pub record StaysLow (limit : ℕ) (turn : SegTurn) : Type 0 where
@@ -341,26 +306,24 @@ module _ (script : Script) (w : World) (k : Knows script w) (v : Holds script w)
       = (let f = given-is w e i from envelope given (LetterLow w.coord.table w.coord.works) q.sent in subst (λ (z : Envelope). IsLowIn (horizon_of w.coord.table) z.message) f.told f.is.0) in
       let d = does-it script w k v e fails i from envelope given.received given.said in
       record {
-        horizon = message-under (horizon_of w.coord.table).0 script (w.segs i) fails envelope.message (q.segs i) low;
+        horizon = message-under script (horizon_of w.coord.table).0 (w.segs i) fails envelope.message (q.segs i) low;
         quiet = follows-no-sent envelope.message (known_at w.coord (marks_in w.steps) i (gxid_in envelope.message)) i (gxid_in envelope.message) (on_event script (w.segs i) (here.Deliver from envelope) fails).marks d.marks;
         outs = each_weaker _ IsAnswer (λ o h. (told-answer _ _ _ _ _ o.message h).0) (on_event script (w.segs i) (here.Deliver from envelope) fails).outs d.outs;
       }
 
 -- the step of a slice that goes on
-slice-quiet : (n : Node) (g c : ℕ) (m : Mark) → OfSlice n g c m → NoSent m
-slice-quiet n g c (mark.Sent to number told) e = absurd e
-slice-quiet n g c (mark.Write h d m t r x) e = tt
-slice-quiet n g c (mark.Fault h d r x) e = tt
-slice-quiet n g c (mark.Hold m h o x) e = tt
-slice-quiet n g c m e = tt
+going-stays : (script : Script) (w : World) (fails : Bool) (i : ℕ) (g : Gxid) → GoesOn script w i g → Stays (w.segs i) (on_event script (w.segs i) (here.Resume g) fails)
+going-stays script w fails i g d =
+    subst (Stays (w.segs i)) (sym (goes-on-is (w.segs i) g d.wanted d.slice d.claims d.is))
+    (slice-leaves g d.slice.cid IsAnswer (λ wrote count part. refl) (λ cause. refl) (is_granted (w.segs i) g d.wanted).seg d.slice.level d.slice.snapshot d.slice.slice).horizon
 
-pub going-low : (script : Script) (w : World) → Lows w → (fails : Bool) (i : ℕ) (g : Gxid) → GoesOn script w i g → StaysLow (horizon_of w.coord.table).0 (on_event script (w.segs i) (here.Resume g) fails)
-going-low script w q fails i g d =
-    let r = going-ran script w i g fails d in
+pub going-low : (script : Script) (w : World) (k : Knows script w) (v : Holds script w) → Lows w → (e : Event) (fails : Bool) (i : ℕ) (g : Gxid) → seg_can script (w.segs i) (here.Resume g) ≡ true → StaysLow (horizon_of w.coord.table).0 (on_event script (w.segs i) (here.Resume g) fails)
+going-low script w k v q e fails i g ok =
+    let o = resumed-does script w k v e i g fails ok in
     record {
-      horizon = subst (λ (h : Gxid). h.0 ≤ (horizon_of w.coord.table).0) (sym r.horizon) (q.segs i);
-      quiet = each_weaker (OfSlice (w.segs i).node g.0 d.slice.cid.0) NoSent (slice-quiet (w.segs i).node g.0 d.slice.cid.0) (on_event script (w.segs i) (here.Resume g) fails).marks r.marks;
-      outs = r.outs;
+      horizon = subst (λ (h : Gxid). h.0 ≤ (horizon_of w.coord.table).0) (sym (going-stays script w fails i g (going-on script w k.well i g ok))) (q.segs i);
+      quiet = follows-no-sent _ (known_at w.coord (marks_in w.steps) i g.0) i g.0 (on_event script (w.segs i) (here.Resume g) fails).marks o.does.marks;
+      outs = each_weaker _ IsAnswer (λ o h. (told-answer _ _ _ _ _ o.message h).0) (on_event script (w.segs i) (here.Resume g) fails).outs o.does.outs;
     }
 
 -- of all that a segment hears
@@ -368,7 +331,7 @@ pub heard-low : (script : Script) (w : World) → Knows script w → Holds scrip
 heard-low script w k v q e x fails i h =
     by-heard script w e i (λ x. Lows (seg_did w (at i) e (seg_rule script (w.segs i) x fails)))
     (λ from envelope d. seg-low script w q e (here.Deliver from envelope) fails i (message-low script w k v q e fails i from envelope d))
-    (λ g ok. seg-low script w q e (here.Resume g) fails i (going-low script w q fails i g (going-on script w k.well i g ok)))
+    (λ g ok. seg-low script w q e (here.Resume g) fails i (going-low script w k v q e fails i g ok))
     x h
 
 pub new-lows : Lows new_world

@@ -319,7 +319,7 @@ module _ (script : Script) (w : World) (k : Knows script w) (v : Holds script w)
     request-pass (Some wanted) = granted-pass wanted (is_free c1.locks.holds wanted)
 
     dispatch-pass : Passes (dispatches script c1 (gx g) line)
-    dispatch-pass = request-pass (lock_for (gx g) line)
+    dispatch-pass = request-pass (lock_for script (gx g) line)
 
   -- and behind a wait
   resumes-pass : (g : ℕ) → stage_of w.coord g ≡ Running → (o : Option Claim) (line : Option Stmt) → Passes (resumes script w.coord (gx g) o line)
