@@ -1,6 +1,5 @@
 -- Where a transaction has ended at a segment, it stays so; where it gets a command, it had not ended.
-use Rattle.std.proofs.Common.{◌≡◌, ◌⊎◌, inl, inr, ℕ, List, Option, Some, None, Bool, true, false, not, refl, sym, subst, ap, ◌∙◌, nat_lt, ◌==◌, if◌then◌else◌, arith, eqb}
-use Rattle.std.proofs.lemmas.Bool.Decides.{nat_tests}
+use Rattle.std.proofs.Common.{◌≡◌, ◌⊎◌, inl, inr, ℕ, List, Option, Some, None, Bool, true, false, not, refl, sym, subst, ap, ◌∙◌, nat_lt, ◌==◌, if◌then◌else◌}
 use Rattle.gx_lemmas.proofs.Tests.{true-false}
 use Rattle.gx_lemmas.proofs.Numbers.{eqb-self}
 use Rattle.gx_ids.specs.declared.ids.Cid.{Cid}

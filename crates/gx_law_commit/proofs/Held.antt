@@ -1,5 +1,5 @@
 -- Whoever has a transaction at a segment that has not ended there is waited for by the coordinator: the table.
-use Rattle.std.proofs.Common.{◌≡◌, ◌⊎◌, inl, inr, ℕ, List, [], ◌∷◌, Option, Some, None, Bool, true, false, refl, sym, subst, ap, ◌∙◌, if◌then◌else◌, ◌&&◌, ◌||◌, arith, eqb}
+use Rattle.std.proofs.Common.{◌≡◌, ◌⊎◌, inl, inr, ℕ, List, [], ◌∷◌, Option, Some, None, Bool, true, false, refl, sym, subst, ap, ◌∙◌, if◌then◌else◌, ◌&&◌, eqb}
 use Rattle.std.proofs.lemmas.Bool.{and_from, and_parts, eqb-true, or_right}
 use Rattle.std.specs.Prelude.{option_map}
 use Rattle.gx_lemmas.proofs.Numbers.{eqb-self}

@@ -1,5 +1,5 @@
 -- Every event of the coordinator goes on waiting for whoever has not ended.
-use Rattle.std.proofs.Common.{◌≡◌, ◌⊎◌, inl, inr, ℕ, ◌+◌, List, [], ◌∷◌, ◌++◌, Option, Some, None, Result, Ok, Err, Bool, true, false, refl, sym, subst, ap, ◌∙◌, if◌then◌else◌, ◌==◌, ◌&&◌, ◌||◌, arith, eqb}
+use Rattle.std.proofs.Common.{◌≡◌, ◌⊎◌, inl, inr, ℕ, ◌+◌, List, [], ◌∷◌, ◌++◌, Option, Some, None, Result, Ok, Err, Bool, true, false, refl, sym, subst, ap, ◌∙◌, if◌then◌else◌, ◌==◌, ◌&&◌, arith, eqb}
 use Rattle.std.proofs.lemmas.Bool.{and_from, eqb-true, or_left, or_right}
 use Rattle.std.specs.Prelude.{option_map}
 use Rattle.gx_lemmas.proofs.Numbers.{eqb-self}

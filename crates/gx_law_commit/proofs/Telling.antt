@@ -1,5 +1,5 @@
 -- What stands before a message that tells of a mark.
-use Rattle.std.proofs.Common.{◌≡◌, ℕ, ◌+◌, List, [], ◌∷◌, ◌++◌, Bool, true, false, sym, subst, ap, ◌∙◌, ◌||◌, arith, append-nil}
+use Rattle.std.proofs.Common.{◌≡◌, ℕ, ◌+◌, List, [], ◌∷◌, ◌++◌, false, sym, subst, ap, ◌∙◌, append-nil}
 use Rattle.std.proofs.lemmas.List.{append_assoc}
 use Rattle.std.proofs.lemmas.Bool.{or_left}
 use Rattle.gx_lemmas.proofs.Numbers.{plus-none}

@@ -1,6 +1,5 @@
 -- Lines that start, and sessions that end.
 use Rattle.std.proofs.Common.{◌≡◌, ◌<◌, ◌≤◌, inl, inr, ℕ, ◌+◌, List, [], ◌∷◌, ◌++◌, Option, Some, None, true, false, refl, sym, subst, ap, ◌∙◌, if◌then◌else◌, arith, eqb, append-nil}
-use Rattle.std.proofs.lemmas.Bool.Decides.{nat_tests}
 use Rattle.std.proofs.lemmas.List.{append_assoc}
 use Rattle.gx_lemmas.proofs.Numbers.{eqb-self, eqb-turned}
 use Rattle.gx_lemmas.proofs.Tests.{false-true}

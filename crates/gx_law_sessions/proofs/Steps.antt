@@ -1,5 +1,5 @@
 -- Steps whose marks are legal if the rest is.
-use Rattle.std.proofs.Common.{◌≡◌, ◌≤◌, ℕ, Bool, true, false, List, [], ◌∷◌, ◌++◌, sym, subst, ap, arith, append-nil, refl}
+use Rattle.std.proofs.Common.{◌≡◌, ◌≤◌, ℕ, Bool, true, false, List, [], ◌∷◌, ◌++◌, sym, subst, ap, append-nil, refl}
 use Rattle.std.proofs.lemmas.List.{append_assoc}
 use Rattle.gx_lemmas.proofs.Numbers.{one-le-zero}
 use Rattle.gx_ids.specs.declared.ids.Node.{Node}
