@@ -91,7 +91,7 @@ busy-level block.Failed n = refl
 closing-busy : (b : Block) → is_closing_in b pending.Command ≡ true → is_busy b pending.Command ≡ true
 closing-busy b e = grind arith
 
-module _ (script : Script) (some : 1 ≤ script.segments) (numbered : AreLinesNumbered [] script.lines) (w : World) (kept : Kept w.coord) (sessions : AreSessions script w) (x : NodeEvent) (progress : (g : ℕ) → IsProgress script (marks_in w.steps) g (w.coord.works g).level (w.coord.works g).command)
+module _ (script : Script) (some : 1 ≤ script.segments) (numbered : AreLinesNumbered [] script.lines) (w : World) (kept : Kept script w.coord) (sessions : AreSessions script w) (x : NodeEvent) (progress : (g : ℕ) → IsProgress script (marks_in w.steps) g (w.coord.works g).level (w.coord.works g).command)
     (report : (i : Node) (envelope : Envelope) (g : ℕ) (cid : Cid) (wrote : Bool) (count : ℕ) (part : QueryPart) → x ≡ here.Deliver i envelope → envelope.message ≡ message.Answer (gx g) (reply.Done cid wrote count part) → IsReport script (marks_in w.steps) i (gx g) cid count) where
   abbrev ms : List Mark
   ms = marks_in w.steps

@@ -1,7 +1,6 @@
 -- Rows stay where they were inserted: an INSERT's writes are so, and what was so stays so.
 use Rattle.std.proofs.Common.{◌≡◌, List, [], ◌∷◌, ◌++◌, Some, refl, sym, subst, append-nil}
 use Rattle.std.proofs.lemmas.List.{append_assoc}
-use Rattle.std.specs.Prelude.{map}
 use Rattle.gx_ids.specs.declared.ids.Cid.{Cid}
 use Rattle.gx_ids.specs.declared.ids.Gxid.{Gxid}
 use Rattle.gx_ids.specs.declared.ids.Node.{Node}
@@ -19,7 +18,6 @@ use Rattle.gx_law_sessions.specs.Scanned.{stmt_of_command}
 use Rattle.gx_law_sessions.proofs.Outs.{of-more}
 use Rattle.gx_law_writes.specs.Homes.{AreRowsHome, IsHomeMark, IsPlacedMark, IsRowOf}
 use Rattle.gx_law_writes.proofs.Placed.{IsPlacedRow, row-of, row-placed}
-use Rattle.gx_law_writes.proofs.Rows.{row_mark}
 use Rattle.gx_law_writes.proofs.Turns.{NoWrite}
 
 -- LATER MARKS
@@ -51,15 +49,12 @@ pub no-writes-home : (script : Script) (ms before xs : List Mark) → Each NoWri
 no-writes-home script ms before [] e = tt
 no-writes-home script ms before (x ∷ xs) e = (no-write-home script ms before x e.0, no-writes-home script ms (before ++ x ∷ []) xs e.1)
 
--- AN INSERT'S WRITES
-pub rows-home : (script : Script) (ms : List Mark) (g : Gxid) (c : Cid) (node : Node) (table : Table) (tuples : List (List Expr)) → stmt_of_command script ms g c ≡ Some (stmt.Insert table tuples) → (before : List Mark) (rows : List KeyedRow) → Each (IsPlacedRow script g c node table tuples) rows → AreRowsHome script ms before (map (row_mark g c node table) rows)
-rows-home script ms g c node table tuples of before [] p = tt
-rows-home script ms g c node table tuples of before (r ∷ rs) p = (
-  (
-    row-placed script ms g c node table tuples r of p.0,
-    λ unwritten. record { own = p.0.row_is.own; values = r.row; row_of = row-of script ms g c node table tuples r of p.0; written = refl },
-  ),
-  rows-home script ms g c node table tuples of (before ++ row_mark g c node table r ∷ []) rs p.1,
+-- AN INSERT'S WRITE
+pub row-home : (script : Script) (ms : List Mark) (g : Gxid) (c : Cid) (node : Node) (table : Table) (tuples : List (List Expr)) → stmt_of_command script ms g c ≡ Some (stmt.Insert table tuples) → (before : List Mark) (row : KeyedRow) → IsPlacedRow script g c node table tuples row
+    → IsHomeMark script ms before (mark.Write g c node table row.rid (Some row.row))
+row-home script ms g c node table tuples of before row p = (
+  row-placed script ms g c node table tuples row of p,
+  λ unwritten. record { own = p.row_is.own; values = row.row; row_of = row-of script ms g c node table tuples row of p; written = refl },
 )
 
 -- ALL WRITES

@@ -128,10 +128,10 @@ unless e A a = by_test (is_going_out e)
     by_test false = a
 
 module _ (script : Script) (some : 1 ≤ script.segments) (numbered_lines : AreLinesNumbered [] script.lines) (inserting : AreInserting script.lines) where
-  no-faults : (ms : List Mark) (i : ℕ) (s : Seg) (m : Message) (turn : SegTurn) → MessageIs script ms (at i) m → Turns s m turn → Each NoFault turn.marks
+  no-faults : (ms : List Mark) (i : ℕ) (s : Seg) (m : Message) (turn : SegTurn) → MessageIs script ms (at i) m → Turns script s m turn → Each NoFault turn.marks
   no-faults ms i s m turn o (inl q) = row-no-fault turn.marks q.marks
   no-faults ms i s m turn o (inr (inl x)) = absurd (no-select-order script inserting ms (at i) x.g x.c x.level (Some x.snapshot) x.query (subst (λ (y : Message). MessageIs script ms (at i) y) x.is o numbered_lines))
-  no-faults ms i s m turn o (inr (inr (inl x))) = insert-no-fault s m turn x
+  no-faults ms i s m turn o (inr (inr (inl x))) = insert-no-fault script s m turn x
   no-faults ms i s m turn o (inr (inr (inr (inl x)))) = subst (λ (y : SegTurn). Each NoFault y.marks) (sym x.ran) (tt, tt)
   no-faults ms i s m turn o (inr (inr (inr (inr x)))) = subst (λ (y : SegTurn). Each NoFault y.marks) (sym x.ran) (tt, tt)
 
@@ -227,7 +227,7 @@ module _ (script : Script) (some : 1 ≤ script.segments) (numbered_lines : AreL
     -- a message of the coordinator makes no fault there
     none-faults : (from : Node) (envelope : Envelope) (fails : Bool) (i : ℕ) → MessageIs script (marks_in w.steps) (at i) envelope.message → Each NoFault (seg_rule script (w.segs i) (here.Deliver from envelope) fails).marks
     none-faults from envelope fails i o =
-        each_append NoFault (segment.on_message script (w.segs i) fails envelope.message).marks _ (no-faults (marks_in w.steps) i (w.segs i) envelope.message (segment.on_message script (w.segs i) fails envelope.message) o (message-turns (w.segs i) script fails envelope.message)) (sent-no-fault (λ node. (segment.on_message script (w.segs i) fails envelope.message).seg.sent) (segment.on_message script (w.segs i) fails envelope.message).outs)
+        each_append NoFault (segment.on_message script (w.segs i) fails envelope.message).marks _ (no-faults (marks_in w.steps) i (w.segs i) envelope.message (segment.on_message script (w.segs i) fails envelope.message) o (message-turns script (w.segs i) fails envelope.message)) (sent-no-fault (λ node. (segment.on_message script (w.segs i) fails envelope.message).seg.sent) (segment.on_message script (w.segs i) fails envelope.message).outs)
 
     abbrev IsPost : Letter → Type 0
     IsPost l = IsLetter script w.steps l × (l.from ≡ the_coordinator → MessageIs script (marks_in w.steps) l.to l.envelope.message)

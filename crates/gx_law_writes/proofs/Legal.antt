@@ -1,7 +1,7 @@
 -- Each write of a segment's step is legal at its point.
 use Rattle.std.proofs.Common.{◌≡◌, ◌≤◌, ◌<◌, ◌⊎◌, inl, inr, ℕ, ◌+◌, List, [], ◌∷◌, ◌++◌, Option, Some, None, Bool, true, false, refl, sym, subst, ap, ◌∙◌, if◌then◌else◌, ◌||◌, ◌&&◌, arith, eqb, zero, suc}
 use Rattle.std.proofs.lemmas.Bool.Decides.{nat_tests}
-use Rattle.std.specs.Prelude.{◌-◌, length, map, slice_get}
+use Rattle.std.specs.Prelude.{◌-◌, length, slice_get}
 use Rattle.std.proofs.lemmas.Bool.{and_from, or_from, or_left, or_right}
 use Rattle.gx_lemmas.proofs.Options.{some-same}
 use Rattle.gx_lemmas.proofs.Numbers.{eqb-self}
@@ -21,6 +21,7 @@ use Rattle.gx_tree.specs.declared.stmt.Stmt.{Stmt}
 use Rattle.gx_tree.specs.declared.stmt.Stmt.TheVariants as stmt
 use Rattle.gx_tree.specs.declared.value.Value.{Value}
 use Rattle.gx_dsnap.specs.declared.snapshot.Snapshot.{Snapshot}
+use Rattle.gx_waits.specs.declared.claim.Claim.{Claim}
 use Rattle.gx_msg.specs.declared.message.Out.{Out}
 use Rattle.gx_script.specs.declared.Script.{Script}
 use Rattle.gx_script.specs.declared.state.Block.{Block}
@@ -37,6 +38,7 @@ use Rattle.gx_store.specs.Points.{Point, marks_in, starts_by}
 use Rattle.gx_store.specs.Writes.{IsAtHome, IsInserted, IsWriteOf, LegalWrite}
 use Rattle.gx_store.proofs.Marks.{has_snapshot-append, is_aborted-append, is_ended-append, is_snapped-append, is_written-append}
 use Rattle.gx_store.proofs.Rows.{same_rid}
+use Rattle.gx_rules.specs.Locks.{hold_mark}
 use Rattle.gx_rules.specs.Machine.{World}
 use Rattle.gx_rules.specs.Sending.{counted, numbered}
 use Rattle.gx_law_order.proofs.Lists.{Each, each_append}
@@ -51,8 +53,7 @@ use Rattle.gx_law_commit.specs.Standings.{gx}
 use Rattle.gx_law_writes.specs.Homes.{IsPlaced, IsPlacedMark}
 use Rattle.gx_law_writes.specs.Writes.{WriteLegal}
 use Rattle.gx_law_writes.proofs.Live.{Running, under-way}
-use Rattle.gx_law_writes.proofs.Placed.{IsPlacedRow, Rising, same-place}
-use Rattle.gx_law_writes.proofs.Rows.{row_mark}
+use Rattle.gx_law_writes.proofs.Placed.{IsPlacedRow, same-place}
 use Rattle.gx_law_writes.proofs.Turns.{NoWrite}
 
 -- MARKS THAT WRITE NOTHING
@@ -91,6 +92,11 @@ unwritten-node (m ∷ ms) rid e = unwritten-node ms rid e
 abbrev pub IsPastMark : (ℕ → ℕ → ℕ) → Mark → Type 0
 IsPastMark nexts (mark.Write g c n t r x) = r.cid.0 < nexts n.0 r.gxid.0
 IsPastMark nexts m = Unit {0}
+
+-- the same of a segment's own marks
+abbrev pub IsPastHere : (ℕ → ℕ) → Node → Mark → Type 0
+IsPastHere nexts node (mark.Write g c n t r x) = (n ≡ node) × (r.cid.0 < nexts r.gxid.0)
+IsPastHere nexts node m = Unit {0}
 
 -- a row isn't written before its INSERT runs: each write of it stands at its node, where its INSERT has run
 module _ (script : Script) (ms : List Mark) (nexts : ℕ → ℕ → ℕ) (node : Node) (table : Table) (rid : Rid) (image : Option (List Value)) (p : IsPlaced script ms node table rid image) (fresh : nexts node.0 rid.gxid.0 ≤ rid.cid.0) where
@@ -169,14 +175,17 @@ pub record Behind (g : Gxid) (c : Cid) (k : ℕ) (earlier : List Mark) : Type 0 
 pub behind-none : (g : Gxid) (c : Cid) → Behind g c 1 []
 behind-none g c = record { calm = λ s. tt; running = refl; unwritten = λ rid l. refl }
 
-behind-next : (g : Gxid) (c : Cid) (k : ℕ) (earlier : List Mark) (node : Node) (table : Table) (row : KeyedRow) → Behind g c k earlier → k ≤ row.rid.ordinal → Behind g c (row.rid.ordinal + 1) (earlier ++ row_mark g c node table row ∷ [])
+pub behind-next : (g : Gxid) (c : Cid) (k : ℕ) (earlier : List Mark) (node : Node) (table : Table) (row : KeyedRow) → Behind g c k earlier → k ≤ row.rid.ordinal → Behind g c (row.rid.ordinal + 1) (earlier ++ mark.Write g c node table row.rid (Some row.row) ∷ [])
 behind-next g c k earlier node table row b l =
     record {
-      calm = λ s. each_append (CalmFor s) earlier (row_mark g c node table row ∷ []) (b.calm s) (tt, tt);
-      running = is_ended-append earlier (row_mark g c node table row ∷ []) g ∙ or_from (is_ended earlier g) false b.running refl;
-      unwritten = λ rid m. is_written-append earlier (row_mark g c node table row ∷ []) rid ∙ or_from (is_written earlier rid) (is_same_rid row.rid rid || false) (b.unwritten rid (le-trans l m)) (or_from (is_same_rid row.rid rid) false (apart row.rid rid m) refl);
+      calm = λ s. each_append (CalmFor s) earlier (write ∷ []) (b.calm s) (tt, tt);
+      running = is_ended-append earlier (write ∷ []) g ∙ or_from (is_ended earlier g) false b.running refl;
+      unwritten = λ rid m. is_written-append earlier (write ∷ []) rid ∙ or_from (is_written earlier rid) (is_same_rid row.rid rid || false) (b.unwritten rid (le-trans l m)) (or_from (is_same_rid row.rid rid) false (apart row.rid rid m) refl);
     }
   where
+    write : Mark
+    write = mark.Write g c node table row.rid (Some row.row)
+
     le-trans : {a b d : ℕ} → a ≤ b → b + 1 ≤ d → a ≤ d
     le-trans x y = omega arith
 
@@ -185,6 +194,18 @@ behind-next g c k earlier node table row b l =
       where
         three : (p q : Bool) (i j : ℕ) → i + 1 ≤ j → (p && (q && eqb i j)) ≡ false
         three p q i j m = grind (arith, nat_tests)
+
+-- a lock between them
+pub behind-hold : (g : Gxid) (c : Cid) (k : ℕ) (earlier : List Mark) (node : Node) (wanted : Claim) → Behind g c k earlier → Behind g c k (earlier ++ hold_mark node wanted ∷ [])
+behind-hold g c k earlier node wanted b =
+    record {
+      calm = λ s. each_append (CalmFor s) earlier (hold ∷ []) (b.calm s) (tt, tt);
+      running = is_ended-append earlier (hold ∷ []) g ∙ or_from (is_ended earlier g) false b.running refl;
+      unwritten = λ rid l. is_written-append earlier (hold ∷ []) rid ∙ or_from (is_written earlier rid) false (b.unwritten rid l) refl;
+    }
+  where
+    hold : Mark
+    hold = hold_mark node wanted
 
 -- the command is under way, or its transaction has aborted
 module _ (script : Script) (numbered : AreLinesNumbered [] script.lines) (w : World) (g : ℕ) (c : Cid) (node : Node) (table : Table) (tuples : List (List Expr)) (e : Event) (quiet : (s : SessionId) → starts_by s e ≡ 0) where
@@ -203,8 +224,8 @@ module _ (script : Script) (numbered : AreLinesNumbered [] script.lines) (w : Wo
 
   module _ (of : stmt_of_command script now (gx g) c ≡ Some (stmt.Insert table tuples)) (how : Live ⊎ Late) where
     -- one row
-    one-legal : (earlier later : List Mark) (k : ℕ) (row : KeyedRow) → IsPlacedRow script (gx g) c node table tuples row → Behind (gx g) c k earlier → k ≤ row.rid.ordinal → is_written now row.rid ≡ false → LegalWrite script (record { steps = w.steps; event = e; earlier = earlier; later = later }) (gx g) c node table row.rid (Some row.row)
-    one-legal earlier later k row p b l fresh = by_how how
+    pub row-legal : (earlier later : List Mark) (k : ℕ) (row : KeyedRow) → IsPlacedRow script (gx g) c node table tuples row → Behind (gx g) c k earlier → k ≤ row.rid.ordinal → is_written now row.rid ≡ false → LegalWrite script (record { steps = w.steps; event = e; earlier = earlier; later = later }) (gx g) c node table row.rid (Some row.row)
+    row-legal earlier later k row p b l fresh = by_how how
       where
         point : Point
         point = record { steps = w.steps; event = e; earlier = earlier; later = later }
@@ -245,14 +266,6 @@ module _ (script : Script) (numbered : AreLinesNumbered [] script.lines) (w : Wo
                 subst (λ o. IsAtHome o node) (sym (unwritten-node (now ++ earlier) row.rid once)) tt,
               );
             })
-
-    -- all rows
-    pub rows-legal : (rows : List KeyedRow) (k : ℕ) (earlier later : List Mark) → Each (IsPlacedRow script (gx g) c node table tuples) rows → Rising k rows → Each (λ (row : KeyedRow). is_written now row.rid ≡ false) rows → Behind (gx g) c k earlier → EachMark (WriteLegal script) w.steps e earlier (map (row_mark (gx g) c node table) rows) later
-    rows-legal [] k earlier later p o f b = tt
-    rows-legal (r ∷ rs) k earlier later p o f b = (
-      one-legal earlier (map (row_mark (gx g) c node table) rs ++ later) k r p.0 b o.0 f.0,
-      rows-legal rs (r.rid.ordinal + 1) (earlier ++ row_mark (gx g) c node table r ∷ []) later p.1 o.1 f.1 (behind-next (gx g) c k earlier node table r b o.0),
-    )
 
 -- an order that is awaited is live
 pub order-live : (script : Script) (numbered : AreLinesNumbered [] script.lines) (w : World) (g : ℕ) (c : Cid) (node : Node) (table : Table) (tuples : List (List Expr)) (e : Event) (quiet : (s : SessionId) → starts_by s e ≡ 0) (level : Level) (x : Option Snapshot) (rows : List KeyedRow) (r : Running script w g) → c.0 ≡ r.command.cid.0 → (o : IsOrder script (marks_in w.steps) node (gx g) c level x (slice.Insert table rows)) → o.line ≡ stmt.Insert table tuples → Live script numbered w g c node table tuples e quiet

@@ -2,11 +2,11 @@ pub mod Plans
 pub mod Next
 pub mod Turns
 pub mod Live
-pub mod Rows
 pub mod Placed
 pub mod Homes
 pub mod Told
 pub mod Legal
+pub mod Rows
 pub mod Moves
 pub mod World
 pub mod Waiting

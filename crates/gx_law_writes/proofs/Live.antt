@@ -104,7 +104,7 @@ module _ (script : Script) (w : World) (sessions : AreSessions script w) (g : �
           differ z = cc
 
   -- what is known of a transaction whose commands run
-  pub live-owns : Kept w.coord → stage_of w.coord g ≡ LiveStage → (n : ℕ) × (b : Block) × Owns home n ms w.coord.table.next.0 b (gx g) work
+  pub live-owns : Kept script w.coord → stage_of w.coord g ≡ LiveStage → (n : ℕ) × (b : Block) × Owns home n ms w.coord.table.next.0 b (gx g) work
   live-owns k live = by_standing (sessions home).stands
     where
       l : (x.transaction.0 ≡ g) × (is_live_in x.state.block x.state.pending ≡ true)
@@ -128,7 +128,7 @@ module _ (script : Script) (w : World) (sessions : AreSessions script w) (g : �
           (t.commands, x.state.block, (t.owns busy).0)
       by_standing (inr o) = absurd (not-over x.state.block x.state.pending l.1 o.1.outside o.1.idle)
 
-  pub running : Kept w.coord → (i : ℕ) → waits_in work.command i ≡ true → Running script w g
+  pub running : Kept script w.coord → (i : ℕ) → waits_in work.command i ≡ true → Running script w g
   running k i e = by_command work.command refl e
     where
       by_command : (o : Option Command) → work.command ≡ o → waits_in o i ≡ true → Running script w g

@@ -1,9 +1,8 @@
 -- What a segment's turn keeps: its writes are placed and legal, and what it tells of commands is so.
-use Rattle.std.proofs.Common.{◌≡◌, ◌≤◌, ◌<◌, ◌⊎◌, inl, inr, ℕ, ◌+◌, List, [], ◌∷◌, ◌++◌, Option, Some, None, Bool, true, false, refl, sym, subst, ap, ◌∙◌, if◌then◌else◌, ◌||◌, ◌&&◌, arith, eqb}
+use Rattle.std.proofs.Common.{◌≡◌, ◌≤◌, ◌<◌, ◌⊎◌, inl, inr, ℕ, ◌+◌, List, [], ◌∷◌, ◌++◌, Option, Some, None, Bool, true, false, refl, sym, subst, ap, ◌∙◌, if◌then◌else◌, arith, eqb, append-nil}
 use Rattle.std.proofs.lemmas.List.{append_assoc}
-use Rattle.std.proofs.lemmas.Bool.{eqb-true, or_left, or_right}
-use Rattle.std.proofs.lemmas.Bool.Decides.{nat_tests}
-use Rattle.std.specs.Prelude.{length, map}
+use Rattle.std.proofs.lemmas.Bool.{eqb-true}
+use Rattle.std.specs.Prelude.{fold, length}
 use Rattle.gx_lemmas.proofs.Options.{some-same}
 use Rattle.gx_lemmas.proofs.Numbers.{eqb-self}
 use Rattle.gx_ids.specs.declared.ids.Cid.{Cid}
@@ -19,7 +18,6 @@ use Rattle.gx_tree.specs.declared.stmt.Level.{Level}
 use Rattle.gx_tree.specs.declared.stmt.Stmt.TheVariants as stmt
 use Rattle.gx_dsnap.specs.declared.snapshot.Snapshot.{Snapshot}
 use Rattle.gx_modes.specs.declared.modes.Mode.{Mode}
-use Rattle.gx_waits.specs.declared.claim.Claim.{Claim}
 use Rattle.gx_locks.specs.Locks.{Locks}
 use Rattle.gx_meaning.specs.declared.fault.ArithFault.{ArithFault}
 use Rattle.gx_msg.specs.declared.message.Message.{Message}
@@ -32,29 +30,30 @@ use Rattle.gx_store.specs.declared.event.Event.{Event}
 use Rattle.gx_store.specs.declared.mark.Mark.{Mark}
 use Rattle.gx_store.specs.declared.mark.Mark.TheVariants as mark
 use Rattle.gx_store.specs.declared.run.Step.{Step}
-use Rattle.gx_store.specs.Marks.{is_same_rid, is_written, is_command_of}
+use Rattle.gx_store.specs.Marks.{is_written}
 use Rattle.gx_store.specs.Points.{marks_in, starts_by}
-use Rattle.gx_store.proofs.Marks.{is_processed-append}
 use Rattle.gx_rules.specs.AtSegment.{raised}
-use Rattle.gx_rules.specs.Locks.{hold_mark}
+use Rattle.gx_rules.specs.Locks.{wait_mark, with_wait}
 use Rattle.gx_rules.specs.Machine.{World}
-use Rattle.gx_rules.specs.Segments.{Local, Seg, SegTurn, after_marks, reply as reply_out}
-use Rattle.gx_rules.specs.Slices.{answers, inserted, inserts, locks as locks_only, selects, suspended_slice, suspends}
-use Rattle.gx_law_order.proofs.Lists.{Each, each_map, each_weaker}
+use Rattle.gx_rules.specs.Segments.{Local, Seg, SegTurn, Suspended, after_marks, local_of, reply as reply_out, with_local}
+use Rattle.gx_rules.specs.Running.{suspended_slice}
+use Rattle.gx_rules.specs.Slices.{Moved, answers, inserted, inserts, inserts_row, locks as locks_only, selects, starts_from}
+use Rattle.gx_law_order.proofs.Lists.{Each, each_append, each_weaker}
 use Rattle.gx_law_sessions.specs.Orders.{IsOrder}
 use Rattle.gx_store.specs.Language.{AreLinesNumbered}
 use Rattle.gx_law_sessions.specs.Rest.{EachMark}
+use Rattle.gx_law_sessions.proofs.Given.{marks-append}
 use Rattle.gx_law_commit.specs.Pairs.{IsVote}
 use Rattle.gx_law_commit.specs.Standings.{at, gx}
-use Rattle.gx_law_writes.specs.Rows.{IsRowPiece, is_own_written}
+use Rattle.gx_law_writes.specs.Rows.{IsRowPiece}
 use Rattle.gx_law_writes.specs.Writes.{WriteLegal}
-use Rattle.gx_law_writes.proofs.Next.{new-next, next_command, ran-next}
+use Rattle.gx_law_writes.proofs.Next.{new-next, next-above, next_by, next_command}
 use Rattle.gx_law_writes.specs.Homes.{AreRowsHome, IsPlacedMark}
-use Rattle.gx_law_writes.proofs.Homes.{no-writes-home, rows-home}
-use Rattle.gx_law_writes.proofs.Legal.{Behind, IsPastMark, Late, Live, fresh-row, no-writes-legal, rows-legal}
-use Rattle.gx_law_writes.proofs.Placed.{IsPlacedRow, piece-rows, row-placed}
+use Rattle.gx_law_writes.proofs.Homes.{homes-append, no-writes-home, row-home}
+use Rattle.gx_law_writes.proofs.Legal.{Behind, IsPastHere, IsPastMark, Late, Live, fresh-row, no-writes-legal, row-legal}
+use Rattle.gx_law_writes.proofs.Placed.{IsPlacedRow, Rising, piece-rows, row-placed}
 use Rattle.gx_law_writes.proofs.Plans.{row-piece, rows-are}
-use Rattle.gx_law_writes.proofs.Rows.{Wrote, row_mark, rows-wrote}
+use Rattle.gx_law_writes.proofs.Rows.{IsOwnRow, IsStillAt, MayFollow, SoFar, behind-wrote, inserted-written, marked-so-far, no-write-follows, none-so-far, still-itself, wrote-so-far}
 use Rattle.gx_law_writes.proofs.Told.{IsAnswerOf, IsToldOf, IsWritten, answer-more, order-later, told-more}
 use Rattle.gx_law_writes.proofs.Turns.{IsOldReply, IsOldWord, NoRow, NoWrite, Quiet, Waited, base, freed}
 
@@ -62,10 +61,6 @@ use Rattle.gx_law_writes.proofs.Turns.{IsOldReply, IsOldWord, NoRow, NoWrite, Qu
 abbrev pub IsOutOf : Script → List Mark → (ℕ → ℕ) → Node → Message → Type 0
 IsOutOf script ms nexts node (message.Answer g r) = IsToldOf script ms (nexts g.0) node g r
 IsOutOf script ms nexts node m = Unit {0}
-
-abbrev pub IsPastHere : (ℕ → ℕ) → Node → Mark → Type 0
-IsPastHere nexts node (mark.Write g c n t r x) = (n ≡ node) × (r.cid.0 < nexts r.gxid.0)
-IsPastHere nexts node m = Unit {0}
 
 pub record Move (script : Script) (ms : List Mark) (steps : List Step) (e : Event) (node : Node) (s : Seg) (turn : SegTurn) : Type 0 where
   pub nexts : (h : ℕ) → next_command (s.locals h) ≤ next_command (turn.seg.locals h)
@@ -82,8 +77,8 @@ no-write-here nexts node m e = tt
 same-le : {a b : ℕ} → b ≡ a → a ≤ b
 same-le e = omega arith
 
-le-next : {a b c : ℕ} → a ≤ b → c ≡ b + 1 → a ≤ c
-le-next e f = omega arith
+le-next : {a b c d : ℕ} → a ≤ b → b ≤ c → d ≡ c → a ≤ d
+le-next e f h = omega arith
 
 lt-next : {a b : ℕ} → b ≡ a + 1 → a < b
 lt-next e = omega arith
@@ -101,6 +96,15 @@ pub freed-base : (s : Seg) (g : Gxid) (locks : Locks) → IsBase s g (freed s g 
 freed-base s g locks =
     let free : Local = record (s.locals g.0) { suspended = None } in
     record { node = refl; alone = ap (λ q. (if q then free else s.locals g.0).suspended) (eqb-self g.0); others = λ h e. ap (λ q. if q then free else s.locals h) e }
+
+-- which commands have still to run there once this one has stopped, with an answer or in a wait
+abbrev pub stop_nexts : Seg → Gxid → Cid → Option Suspended → ℕ → ℕ
+stop_nexts s g c o h = if eqb h g.0 then next_by o c.0 else next_command (s.locals h)
+
+-- what it sends then
+abbrev pub answer_out : Gxid → Option Reply → List Out
+answer_out g None = []
+answer_out g (Some r) = reply_out g r ∷ []
 
 module _ (script : Script) (numbered : AreLinesNumbered [] script.lines) (ms : List Mark) (steps : List Step) (e : Event) (i : ℕ) (s : Seg) (kept : (h : ℕ) → IsAnswerOf script ms (next_command (s.locals h)) (at i) (gx h) (s.locals h).answer) where
   abbrev Moves : SegTurn → Type 0
@@ -152,143 +156,121 @@ module _ (script : Script) (numbered : AreLinesNumbered [] script.lines) (ms : L
           legal = λ later. no-writes-legal script steps e [] turn.marks later writes-none;
         }
 
-  -- A SLICE WAITS
-  module _ (m : Message) (turn : SegTurn) (x : Waited s m turn) where
-    abbrev waits-now : Local
-    waits-now = record (s.locals x.g.0) { last = x.c.0; answer = None; suspended = Some (suspended_slice x.c x.level x.snapshot x.slice) }
+  -- A SLICE STOPS
+  -- it runs on a segment, behind marks that write nothing, up to its answer or a wait
+  module _ (g : Gxid) (c : Cid) (fresh : next_command (s.locals g.0) ≤ c.0) (b : Seg) (on : IsBase s g b) (named : s.node ≡ at i) (lead : List Mark) (silent : Each NoWrite lead) where
+    abbrev RowsSoFar : Option Suspended → Moved → Type 0
+    RowsSoFar o m = SoFar script ms steps e b g (stop_nexts s g c o) lead m
 
-    abbrev waiting : SegTurn
-    waiting = suspends (raised s x.horizon) x.g x.c x.level x.snapshot x.slice x.wanted
+    nothing : (o : Option Suspended) → RowsSoFar o (starts_from b)
+    nothing o = none-so-far script ms steps e b g (stop_nexts s g c o) lead
 
-    pub waited-move : Moves turn
-    waited-move =
-        subst Moves (sym x.ran)
-        (record { nexts = λ h. nexts-test h (eqb h x.g.0) refl; homes = (tt, tt); past = (tt, tt); kept = λ h. kept-test h (eqb h x.g.0) refl; outs = tt; legal = λ later. (tt, tt) })
-      where
-        nexts-test : (h : ℕ) (q : Bool) → eqb h x.g.0 ≡ q → next_command (s.locals h) ≤ next_command (if q then waits-now else s.locals h)
-        nexts-test h true e = subst (λ j. next_command (s.locals j) ≤ x.c.0) (sym (eqb-true h x.g.0 e)) (new-next (s.locals x.g.0) x.c.0 x.alone x.fresh)
-        nexts-test h false e = same-le refl
+    -- a mark that writes nothing
+    marked : (o : Option Suspended) (t : Seg) (x : Mark) → IsStillAt b g t → NoWrite x → RowsSoFar o (record { seg = t; marks = x ∷ [] })
+    marked o t x still none = marked-so-far script ms steps e b g (stop_nexts s g c o) lead (starts_from b) t x (nothing o) still (no-write-follows script ms steps e b g (stop_nexts s g c o) lead (starts_from b) x none)
 
-        kept-test : (h : ℕ) (q : Bool) → eqb h x.g.0 ≡ q → IsAnswerOf script (ms ++ waiting.marks) (next_command (if q then waits-now else s.locals h)) (at i) (gx h) (if q then waits-now else s.locals h).answer
-        kept-test h true e = tt
-        kept-test h false e = answer-more script numbered ms waiting.marks (next_command (s.locals h)) (next_command (s.locals h)) (at i) (gx h) (s.locals h).answer (same-le refl) (kept h)
+    module _ (m : Moved) (y : Local) (r : Option Reply) (o : Option Suspended) (last : y.last ≡ c.0) (answer : y.answer ≡ r) (waits : y.suspended ≡ o) (rows : RowsSoFar o m) (told : IsAnswerOf script (ms ++ (lead ++ m.marks)) (next_by o c.0) (at i) g r) where
+      abbrev turn : SegTurn
+      turn = after_marks lead (record { seg = with_local m.seg g y; marks = m.marks; outs = answer_out g r; item = None })
 
-  -- A COMMAND RUNS
-  pub record Ran (g : Gxid) (c : Cid) (r : Reply) (turn : SegTurn) : Type 0 where
-    pub fresh : next_command (s.locals g.0) ≤ c.0
-    pub last : (turn.seg.locals g.0).last ≡ c.0
-    pub answer : (turn.seg.locals g.0).answer ≡ Some r
-    pub alone : (turn.seg.locals g.0).suspended ≡ None
-    pub others : (h : ℕ) → eqb h g.0 ≡ false → turn.seg.locals h ≡ s.locals h
-    pub outs : turn.outs ≡ reply_out g r ∷ []
-    pub told : IsToldOf script (ms ++ turn.marks) (c.0 + 1) (at i) g r
+      abbrev nexts : ℕ → ℕ
+      nexts h = next_command (turn.seg.locals h)
 
-  module _ (g : Gxid) (c : Cid) (r : Reply) (turn : SegTurn) (a : Ran g c r turn) where
-    next : next_command (turn.seg.locals g.0) ≡ c.0 + 1
-    next = ran-next (turn.seg.locals g.0) c.0 a.alone a.last
+      here : turn.seg.locals g.0 ≡ y
+      here = ap (λ q. if q then y else m.seg.locals g.0) (eqb-self g.0)
 
-    ran-nexts : (h : ℕ) → next_command (s.locals h) ≤ next_command (turn.seg.locals h)
-    ran-nexts h = by_test (eqb h g.0) refl
-      where
-        by_test : (b : Bool) → eqb h g.0 ≡ b → next_command (s.locals h) ≤ next_command (turn.seg.locals h)
-        by_test true q = subst (λ j. next_command (s.locals j) ≤ next_command (turn.seg.locals j)) (sym (eqb-true h g.0 q)) (le-next a.fresh next)
-        by_test false q = same-le (ap next_command (a.others h q))
+      others : (h : ℕ) → eqb h g.0 ≡ false → turn.seg.locals h ≡ s.locals h
+      others h q = ap (λ z. if z then y else m.seg.locals h) q ∙ rows.still.others h q ∙ on.others h q
 
-    told-now : IsToldOf script (ms ++ turn.marks) (next_command (turn.seg.locals g.0)) (at i) g r
-    told-now = subst (λ n. IsToldOf script (ms ++ turn.marks) n (at i) g r) (sym next) a.told
+      next-here : nexts g.0 ≡ next_by o c.0
+      next-here = ap next_command here ∙ ap (λ z. next_by z y.last) waits ∙ ap (next_by o) last
 
-    ran-kept : (h : ℕ) → IsAnswerOf script (ms ++ turn.marks) (next_command (turn.seg.locals h)) (at i) (gx h) (turn.seg.locals h).answer
-    ran-kept h = by_test (eqb h g.0) refl
-      where
-        by_test : (b : Bool) → eqb h g.0 ≡ b → IsAnswerOf script (ms ++ turn.marks) (next_command (turn.seg.locals h)) (at i) (gx h) (turn.seg.locals h).answer
-        by_test true q =
-            subst (λ j. IsAnswerOf script (ms ++ turn.marks) (next_command (turn.seg.locals j)) (at i) (gx j) (turn.seg.locals j).answer) (sym (eqb-true h g.0 q))
-            (subst (IsAnswerOf script (ms ++ turn.marks) (next_command (turn.seg.locals g.0)) (at i) g) (sym a.answer) told-now)
-        by_test false q =
-            subst (λ (l : Local). IsAnswerOf script (ms ++ turn.marks) (next_command l) (at i) (gx h) l.answer) (sym (a.others h q))
-            (answer-more script numbered ms turn.marks (next_command (s.locals h)) (next_command (s.locals h)) (at i) (gx h) (s.locals h).answer (same-le refl) (kept h))
+      -- what holds of it and of the others holds of all
+      all : (R : ℕ → Type 0) → R g.0 → ((h : ℕ) → eqb h g.0 ≡ false → R h) → (h : ℕ) → R h
+      all R own rest h = by_test (eqb h g.0) refl
+        where
+          by_test : (q : Bool) → eqb h g.0 ≡ q → R h
+          by_test true q = subst R (sym (eqb-true h g.0 q)) own
+          by_test false q = rest h q
 
-    pub ran-move : AreRowsHome script ms ms turn.marks → Each (IsPastHere (λ h. next_command (turn.seg.locals h)) (at i)) turn.marks → ((later : List Mark) → EachMark (WriteLegal script) steps e [] turn.marks later) → Moves turn
-    ran-move homes past legal =
-        record {
-          nexts = ran-nexts;
-          homes = homes;
-          past = past;
-          kept = ran-kept;
-          outs = subst (Each (λ (o : Out). IsOutOf script (ms ++ turn.marks) (λ h. next_command (turn.seg.locals h)) (at i) o.message)) (sym a.outs) (told-now, tt);
-          legal = legal;
-        }
+      nexts-are : (h : ℕ) → stop_nexts s g c o h ≡ nexts h
+      nexts-are =
+          all (λ h. stop_nexts s g c o h ≡ nexts h) (ap (λ q. if q then next_by o c.0 else next_command (s.locals g.0)) (eqb-self g.0) ∙ sym next-here)
+          (λ h q. ap (λ z. if z then next_by o c.0 else next_command (s.locals h)) q ∙ sym (ap next_command (others h q)))
 
-  -- a slice that writes nothing is answered behind its lock
-  module _ (g : Gxid) (c : Cid) (fresh : next_command (s.locals g.0) ≤ c.0) (b : Seg) (on : IsBase s g b) (wanted : Claim) where
-    abbrev hold : Mark
-    hold = hold_mark s.node wanted
+      nexts-rise : (h : ℕ) → next_command (s.locals h) ≤ nexts h
+      nexts-rise = all (λ h. next_command (s.locals h) ≤ nexts h) (le-next fresh (next-above o c.0) next-here) (λ h q. same-le (ap next_command (others h q)))
 
-    abbrev told-of : List Mark → Reply → SegTurn
-    told-of marks r = after_marks (hold ∷ []) (answers b g c marks r)
+      kept-now : (h : ℕ) → IsAnswerOf script (ms ++ turn.marks) (nexts h) (at i) (gx h) (turn.seg.locals h).answer
+      kept-now =
+          all (λ h. IsAnswerOf script (ms ++ turn.marks) (nexts h) (at i) (gx h) (turn.seg.locals h).answer)
+          (subst (IsAnswerOf script (ms ++ turn.marks) (nexts g.0) (at i) g) (sym (ap (λ (l : Local). l.answer) here ∙ answer)) (subst (λ n. IsAnswerOf script (ms ++ turn.marks) n (at i) g r) (sym next-here) told))
+          (λ h q.
+          subst (λ (l : Local). IsAnswerOf script (ms ++ turn.marks) (next_command l) (at i) (gx h) l.answer) (sym (others h q))
+          (answer-more script numbered ms turn.marks (next_command (s.locals h)) (next_command (s.locals h)) (at i) (gx h) (s.locals h).answer (same-le refl) (kept h)))
 
-    slice-ran : (marks : List Mark) (r : Reply) → IsToldOf script (ms ++ hold ∷ marks) (c.0 + 1) (at i) g r → Ran g c r (told-of marks r)
-    slice-ran marks r told =
-        record {
-          fresh = fresh;
-          last = ap (λ q. (if q then after else b.locals g.0).last) (eqb-self g.0);
-          answer = ap (λ q. (if q then after else b.locals g.0).answer) (eqb-self g.0);
-          alone = ap (λ q. (if q then after else b.locals g.0).suspended) (eqb-self g.0) ∙ on.alone;
-          others = λ h q. ap (λ z. if z then after else b.locals h) q ∙ on.others h q;
-          outs = refl;
-          told = told;
-        }
-      where
-        after : Local
-        after = record (b.locals g.0) { last = c.0; answer = Some r }
+      outs-now : (a : Option Reply) → IsAnswerOf script (ms ++ turn.marks) (nexts g.0) (at i) g a → Each (λ (x : Out). IsOutOf script (ms ++ turn.marks) nexts (at i) x.message) (answer_out g a)
+      outs-now None d = tt
+      outs-now (Some a) d = (d, tt)
 
-    answered : (marks : List Mark) (r : Reply) → Each NoWrite marks → IsToldOf script (ms ++ hold ∷ marks) (c.0 + 1) (at i) g r → Moves (told-of marks r)
-    answered marks r quiet told =
-        ran-move g c r now (slice-ran marks r told) (no-writes-home script ms ms (hold ∷ marks) (tt, quiet))
-        (each_weaker NoWrite (IsPastHere (λ h. next_command (now.seg.locals h)) (at i)) (λ m n. no-write-here (λ h. next_command (now.seg.locals h)) (at i) m n) (hold ∷ marks) (tt, quiet)) (λ later. no-writes-legal script steps e [] (hold ∷ marks) later (tt, quiet))
-      where
-        now : SegTurn
-        now = told-of marks r
+      past-now : (x : Mark) → IsPastHere (stop_nexts s g c o) b.node x → IsPastHere nexts (at i) x
+      past-now (mark.Write h d n t x z) p = (p.0 ∙ on.node ∙ named, subst (λ k. x.cid.0 < k) (nexts-are x.gxid.0) p.1)
+      past-now x p = tt
+
+      pub stopped-move : Moves (after_marks lead (record { seg = with_local m.seg g y; marks = m.marks; outs = answer_out g r; item = None }))
+      stopped-move =
+          record {
+            nexts = nexts-rise;
+            homes = homes-append script ms ms lead m.marks (no-writes-home script ms ms lead silent) rows.homes;
+            past = each_append (IsPastHere nexts (at i)) lead m.marks (each_weaker NoWrite (IsPastHere nexts (at i)) (no-write-here nexts (at i)) lead silent) (each_weaker (IsPastHere (stop_nexts s g c o) b.node) (IsPastHere nexts (at i)) past-now m.marks rows.past);
+            kept = kept-now;
+            outs = outs-now r (subst (λ n. IsAnswerOf script (ms ++ turn.marks) n (at i) g r) (sym next-here) told);
+            legal = λ later. marks-append (WriteLegal script) steps e [] lead m.marks later (no-writes-legal script steps e [] lead (m.marks ++ later) silent) (rows.legal later);
+          }
+
+    -- with an answer
+    pub answered-move : (m : Moved) → RowsSoFar None m → (r : Reply) → IsToldOf script (ms ++ (lead ++ m.marks)) (c.0 + 1) (at i) g r → Moves (after_marks lead (answers m.seg g c m.marks r))
+    answered-move m rows r told = stopped-move m (record (local_of m.seg g) { last = c.0; answer = Some r }) (Some r) None refl refl (rows.still.suspended ∙ on.alone) rows told
 
     -- a SELECT
-    pub select-move : (level : Level) (snapshot : Option Snapshot) (query : Query) → IsOrder script ms (at i) g c level snapshot (slice.Select query) → (rows : List KeyedRow) (f : Option (KeyedRow × ArithFault)) → Moves (after_marks (hold ∷ []) (selects b g c query rows f))
-    select-move level snapshot query order rows None = answered [] _ tt (lt-next refl, record { level = level; snapshot = snapshot; slice = slice.Select query; order = order-later script numbered ms (hold ∷ []) (at i) g c level snapshot (slice.Select query) order; done = tt })
-    select-move level snapshot query order rows (Some f) = answered _ _ (tt, tt) (lt-next refl, record { level = level; snapshot = snapshot; query = query; order = order-later script numbered ms _ (at i) g c level snapshot (slice.Select query) order })
+    pub select-move : (level : Level) (snapshot : Option Snapshot) (query : Query) → IsOrder script ms (at i) g c level snapshot (slice.Select query) → (rows : List KeyedRow) (f : Option (KeyedRow × ArithFault)) → Moves (after_marks lead (selects b g c query rows f))
+    select-move level snapshot query order rows None =
+        answered-move (starts_from b) (nothing None) _
+        (lt-next refl, record { level = level; snapshot = snapshot; slice = slice.Select query; order = order-later script numbered ms _ (at i) g c level snapshot (slice.Select query) order; done = tt })
+    select-move level snapshot query order rows (Some f) =
+        answered-move (record { seg = b; marks = mark.Fault g c f.0.rid (Some f.0.row) ∷ [] }) (marked None b _ (still-itself b g) tt) _
+        (lt-next refl, record { level = level; snapshot = snapshot; query = query; order = order-later script numbered ms _ (at i) g c level snapshot (slice.Select query) order })
 
     -- a LOCK TABLE
-    pub lock-move : (level : Level) (snapshot : Option Snapshot) (table : Table) (mode : Mode) → IsOrder script ms (at i) g c level snapshot (slice.Lock table mode) → Moves (after_marks (hold ∷ []) (locks_only b g c))
-    lock-move level snapshot table mode order = answered [] _ tt (lt-next refl, record { level = level; snapshot = snapshot; slice = slice.Lock table mode; order = order-later script numbered ms (hold ∷ []) (at i) g c level snapshot (slice.Lock table mode) order; done = tt })
+    pub lock-move : (level : Level) (snapshot : Option Snapshot) (table : Table) (mode : Mode) → IsOrder script ms (at i) g c level snapshot (slice.Lock table mode) → Moves (after_marks lead (locks_only b g c))
+    lock-move level snapshot table mode order =
+        answered-move (starts_from b) (nothing None) _
+        (lt-next refl, record { level = level; snapshot = snapshot; slice = slice.Lock table mode; order = order-later script numbered ms _ (at i) g c level snapshot (slice.Lock table mode) order; done = tt })
+
+  -- or in a wait for its table's lock
+  pub waited-move : s.node ≡ at i → (m : Message) (turn : SegTurn) → Waited script s m turn → Moves turn
+  waited-move named m turn x =
+      subst Moves (sym x.ran)
+      (stopped-move x.g x.c (new-next (s.locals x.g.0) x.c.0 x.alone x.fresh) (raised s x.horizon) on named [] tt (record { seg = waiting; marks = wait_mark s.node x.wanted ∷ [] }) now None (Some slice-waits) refl refl refl
+      (marked x.g x.c (new-next (s.locals x.g.0) x.c.0 x.alone x.fresh) (raised s x.horizon) on named [] tt (Some slice-waits) waiting (wait_mark s.node x.wanted) (record { node = refl; last = refl; answer = refl; suspended = refl; others = λ h q. refl }) tt) tt)
+    where
+      on : IsBase s x.g (raised s x.horizon)
+      on = record { node = refl; alone = x.alone; others = λ h q. refl }
+
+      slice-waits : Suspended
+      slice-waits = suspended_slice x.c x.level x.snapshot x.slice
+
+      now : Local
+      now = record (s.locals x.g.0) { last = x.c.0; answer = None; suspended = Some slice-waits }
+
+      waiting : Seg
+      waiting = record (raised s x.horizon) { locks = with_wait s.locks x.wanted }
 
 -- an INSERT's rows have the command's identity
-abbrev pub IsOwnRow : Gxid → Cid → KeyedRow → Type 0
-IsOwnRow g c row = (row.rid.gxid ≡ g) × (row.rid.cid ≡ c)
-
 pub own-rows : (script : Script) (ms : List Mark) (node : Node) (g : Gxid) (c : Cid) (table : Table) (rows : List KeyedRow) → IsRowPiece script ms node g c table rows → Each (IsOwnRow g c) rows
 own-rows script ms node g c table rows piece =
     each_weaker (IsPlacedRow script g c node table piece.tuples) (IsOwnRow g c) (λ r p. p.row_is.own) rows
     (piece-rows script g c node table piece.tuples piece.all rows (rows-are g c 1 piece.tuples piece.all piece.planned) piece.here).0
-
--- an INSERT's writes
-pub mark-written : (g : Gxid) (c : Cid) (node : Node) (table : Table) (ms : List Mark) (rows : List KeyedRow) → Each (IsOwnRow g c) rows → Each (IsWritten (ms ++ map (row_mark g c node table) rows)) rows
-mark-written g c node table ms [] own = tt
-mark-written g c node table ms (r ∷ rs) own = (
-  is_processed-append ms (row_mark g c node table r ∷ map (row_mark g c node table) rs) r.rid.gxid r.rid.cid r.rid
-      ∙ or_right (is_own_written ms r.rid) _ (or_left (is_command_of r.rid.gxid r.rid.cid g c && is_same_rid r.rid r.rid) _ (own-mark r.rid own.0)),
-  each_weaker (IsWritten (ms ++ map (row_mark g c node table) rs)) (IsWritten (ms ++ row_mark g c node table r ∷ map (row_mark g c node table) rs))
-      (λ x k. is_processed-append ms (row_mark g c node table r ∷ map (row_mark g c node table) rs) x.rid.gxid x.rid.cid x.rid
-      ∙ middle (is_own_written ms x.rid) (is_command_of x.rid.gxid x.rid.cid g c && is_same_rid r.rid x.rid) (is_own_written (map (row_mark g c node table) rs) x.rid) (sym (is_processed-append ms (map (row_mark g c node table) rs) x.rid.gxid x.rid.cid x.rid) ∙ k)) rs (mark-written g c node table ms rs own.1),
-)
-  where
-    middle : (a b c : Bool) → (a || c) ≡ true → (a || (b || c)) ≡ true
-    middle a b c e = grind arith
-
-    own-mark : (r : Rid) → (r.gxid ≡ g) × (r.cid ≡ c) → (is_command_of r.gxid r.cid g c && is_same_rid r r) ≡ true
-    own-mark r own =
-        subst (λ (h : Gxid). (is_command_of r.gxid r.cid h c && is_same_rid r r) ≡ true) own.0
-        (subst (λ (d : Cid). (is_command_of r.gxid r.cid r.gxid d && is_same_rid r r) ≡ true) own.1 (five r.gxid.0 r.cid.0 r.ordinal))
-      where
-        five : (a b c : ℕ) → ((eqb a a && eqb b b) && (eqb a a && (eqb b b && eqb c c))) ≡ true
-        five a b c = grind (arith, nat_tests)
 
 module _ (script : Script) (numbered : AreLinesNumbered [] script.lines) (w : World) (e : Event) (quiet : (s : SessionId) → starts_by s e ≡ 0) (i : ℕ) (s : Seg) (named : s.node ≡ at i) (kept : (h : ℕ) → IsAnswerOf script (marks_in w.steps) (next_command (s.locals h)) (at i) (gx h) (s.locals h).answer) (nexts : ℕ → ℕ → ℕ) (here : (h : ℕ) → nexts i h ≡ next_command (s.locals h)) (placed : Each (IsPlacedMark script (marks_in w.steps)) (marks_in w.steps)) (past : Each (IsPastMark nexts) (marks_in w.steps)) where
   abbrev ms : List Mark
@@ -308,63 +290,55 @@ module _ (script : Script) (numbered : AreLinesNumbered [] script.lines) (w : Wo
     rows-ok : Each (IsPlacedRow script g c (at i) table piece.tuples) rows × Rattle.gx_law_writes.proofs.Placed.Rising 1 rows
     rows-ok = piece-rows script g c (at i) table piece.tuples piece.all rows (rows-are g c 1 piece.tuples piece.all piece.planned) piece.here
 
-    module _ (fresh : next_command (s.locals g.0) ≤ c.0) (b : Seg) (on : IsBase s g b) (wanted : Claim) where
+    module _ (fresh : next_command (s.locals g.0) ≤ c.0) (b : Seg) (on : IsBase s g b) (lead : List Mark) (silent : Each NoWrite lead) (behind : Behind g c 1 lead) where
       still-to-run : (rid : Rid) → (rid.gxid ≡ g) × (rid.cid ≡ c) → nexts i rid.gxid.0 ≤ rid.cid.0
       still-to-run rid own = subst (λ (h : Gxid). nexts i h.0 ≤ rid.cid.0) (sym own.0) (subst (λ (d : Cid). nexts i g.0 ≤ d.0) (sym own.1) (subst (λ n. n ≤ c.0) (sym (here g.0)) fresh))
 
-      unwritten : Each (λ (row : KeyedRow). is_written ms row.rid ≡ false) rows
-      unwritten = each_weaker (IsPlacedRow script g c (at i) table piece.tuples) (λ (row : KeyedRow). is_written ms row.rid ≡ false) (λ r p. fresh-row script ms nexts (at i) table r.rid (Some r.row) (row-placed script ms g c (at i) table piece.tuples r piece.of p) (still-to-run r.rid p.row_is.own) ms placed past) rows rows-ok.0
+      -- no row of it is written yet
+      unwritten : (row : KeyedRow) → IsPlacedRow script g c (at i) table piece.tuples row → is_written ms row.rid ≡ false
+      unwritten row p = fresh-row script ms nexts (at i) table row.rid (Some row.row) (row-placed script ms g c (at i) table piece.tuples row piece.of p) (still-to-run row.rid p.row_is.own) ms placed past
 
-      abbrev inner : SegTurn
-      inner = inserts g c (length rows) (inserted b g c table rows)
+      abbrev InsertedSoFar : Moved → Type 0
+      InsertedSoFar m = SoFar script ms w.steps e b g (stop_nexts s g c None) lead m
 
-      abbrev held : Mark
-      held = hold_mark s.node wanted
+      has-run : (rid : Rid) → (rid.gxid ≡ g) × (rid.cid ≡ c) → rid.cid.0 < stop_nexts s g c None rid.gxid.0
+      has-run rid own = subst (λ (h : Gxid). rid.cid.0 < stop_nexts s g c None h.0) (sym own.0) (subst (λ (d : Cid). d.0 < stop_nexts s g c None g.0) (sym own.1) (lt-next (ap (λ q. if q then c.0 + 1 else next_command (s.locals g.0)) (eqb-self g.0))))
 
-      abbrev writes : List Mark
-      writes = map (row_mark g c (at i) table) rows
+      -- one of its rows may follow
+      row-follows : How → (k : ℕ) (m : Moved) (row : KeyedRow) → InsertedSoFar m → Behind g c k (lead ++ m.marks) → IsPlacedRow script g c (at i) table piece.tuples row → k ≤ row.rid.ordinal
+          → MayFollow script ms w.steps e b g (stop_nexts s g c None) lead m (mark.Write g c m.seg.node table row.rid (Some row.row))
+      row-follows how k m row f before p l =
+          subst (λ n. MayFollow script ms w.steps e b g (stop_nexts s g c None) lead m (mark.Write g c n table row.rid (Some row.row))) (sym (f.still.node ∙ on.node ∙ named))
+          (record {
+            home = row-home script ms g c (at i) table piece.tuples piece.of ((ms ++ lead) ++ m.marks) row p;
+            past = (sym (on.node ∙ named), has-run row.rid p.row_is.own);
+            legal = λ later. row-legal script numbered w g.0 c (at i) table piece.tuples e quiet piece.of how (lead ++ m.marks) later k row p before l (unwritten row p);
+          })
 
-      behind-held : Behind g c 1 (held ∷ [])
-      behind-held = record { calm = λ s. (tt, tt); running = refl; unwritten = λ rid l. refl }
+      rows-follow : How → (rows : List KeyedRow) (k : ℕ) (m : Moved) → Each (IsPlacedRow script g c (at i) table piece.tuples) rows → Rising k rows → InsertedSoFar m → Behind g c k (lead ++ m.marks) → InsertedSoFar (fold (inserts_row g c table) m rows)
+      rows-follow how [] k m p o f before = f
+      rows-follow how (r ∷ rs) k m p o f before =
+          rows-follow how rs (r.rid.ordinal + 1) (inserts_row g c table m r) p.1 o.1
+          (wrote-so-far script ms w.steps e b g (stop_nexts s g c None) lead c table m r.rid (Some r.row) f (row-follows how k m r f before p.0 o.0))
+          (behind-wrote g c k lead table m r before o.0)
 
-      written : Each (IsWritten (ms ++ held ∷ writes)) rows
-      written =
-          subst (λ ns. Each (IsWritten ns) rows) (append_assoc ms (held ∷ []) writes)
-          (mark-written g c (at i) table (ms ++ held ∷ []) rows (own-rows script ms (at i) g c table rows piece))
-
-      pub insert-move : How → Move script ms w.steps e (at i) s (after_marks (hold_mark s.node wanted ∷ []) (inserts g c (length rows) (inserted b g c table rows)))
-      insert-move how = moves (rows-wrote b g c table rows)
+      pub insert-move : How → Move script ms w.steps e (at i) s (after_marks lead (inserts g c (length rows) (inserted b g c table rows)))
+      insert-move how =
+          answered-move script numbered ms w.steps e i s kept g c fresh b on named lead silent m
+          (rows-follow how rows 1 (starts_from b) rows-ok.0 rows-ok.1 (none-so-far script ms w.steps e b g (stop_nexts s g c None) lead) (subst (Behind g c 1) (sym (append-nil lead)) behind)) _
+          (
+            lt-next refl,
+            record {
+              level = level;
+              snapshot = snapshot;
+              slice = slice.Insert table rows;
+              order = order-later script numbered ms (lead ++ m.marks) (at i) g c level snapshot (slice.Insert table rows) order;
+              done = (refl, written);
+            },
+          )
         where
-          moves : Wrote b g c table rows inner → Move script ms w.steps e (at i) s (after_marks (held ∷ []) inner)
-          moves f =
-              ran-move script numbered ms w.steps e i s kept g c (reply.Done c f.wrote (length rows) f.part) (after_marks (held ∷ []) inner)
-              (record {
-                fresh = fresh;
-                last = f.last;
-                answer = f.answer;
-                alone = f.suspended ∙ on.alone;
-                others = λ h q. f.others h q ∙ on.others h q;
-                outs = f.outs;
-                told = subst (λ ns. IsToldOf script (ms ++ held ∷ ns) (c.0 + 1) (at i) g (reply.Done c f.wrote (length rows) f.part)) (sym same) (
-                  lt-next refl,
-                  record {
-                    level = level;
-                    snapshot = snapshot;
-                    slice = slice.Insert table rows;
-                    order = order-later script numbered ms (held ∷ writes) (at i) g c level snapshot (slice.Insert table rows) order;
-                    done = (refl, written);
-                  },
-                );
-              })
-              (tt, subst (AreRowsHome script ms (ms ++ held ∷ [])) (sym same) (rows-home script ms g c (at i) table piece.tuples piece.of (ms ++ held ∷ []) rows rows-ok.0))
-              (tt, subst (Each (IsPastHere (λ h. next_command (inner.seg.locals h)) (at i))) (sym same) (each_map _ (row_mark g c (at i) table) rows (each_weaker (IsPlacedRow script g c (at i) table piece.tuples) _ (λ r p. (refl, has-run r.rid p.row_is.own)) rows rows-ok.0)))
-              (λ later. (tt, subst (λ ns. EachMark (WriteLegal script) w.steps e (held ∷ []) ns later) (sym same) (rows-legal script numbered w g.0 c (at i) table piece.tuples e quiet piece.of how rows 1 (held ∷ []) later rows-ok.0 rows-ok.1 unwritten behind-held)))
-            where
-              same : inner.marks ≡ writes
-              same = f.marks ∙ ap (λ n. map (row_mark g c n table) rows) (on.node ∙ named)
+          m : Moved
+          m = inserted b g c table rows
 
-              now : next_command (inner.seg.locals g.0) ≡ c.0 + 1
-              now = ran-next (inner.seg.locals g.0) c.0 (f.suspended ∙ on.alone) f.last
-
-              has-run : (rid : Rid) → (rid.gxid ≡ g) × (rid.cid ≡ c) → rid.cid.0 < next_command (inner.seg.locals rid.gxid.0)
-              has-run rid own = subst (λ (h : Gxid). rid.cid.0 < next_command (inner.seg.locals h.0)) (sym own.0) (subst (λ (d : Cid). d.0 < next_command (inner.seg.locals g.0)) (sym own.1) (lt-next now))
+          written : Each (IsWritten (ms ++ (lead ++ m.marks))) rows
+          written = subst (λ ns. Each (IsWritten ns) rows) (append_assoc ms lead m.marks) (inserted-written (ms ++ lead) b g c table rows (own-rows script ms (at i) g c table rows piece))

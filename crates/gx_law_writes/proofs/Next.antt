@@ -1,5 +1,5 @@
 -- Which commands of a transaction have still to run at a segment.
-use Rattle.std.proofs.Common.{◌≡◌, ◌≤◌, ◌<◌, ℕ, ◌+◌, Option, Some, None, sym, subst, ap, ◌∙◌, arith}
+use Rattle.std.proofs.Common.{◌≡◌, ◌≤◌, ◌<◌, ℕ, ◌+◌, Option, Some, None, sym, subst, arith}
 use Rattle.gx_rules.specs.Segments.{Local, Suspended}
 
 -- the first that may run there: the one that waits, or the next after the last
@@ -37,6 +37,7 @@ pub drops-next : (o : Option Suspended) (last : ℕ) → next_by o last ≤ last
 drops-next None last = omega arith
 drops-next (Some x) last = omega arith
 
--- once a command has run it is the next one's turn
-pub ran-next : (l : Local) (c : ℕ) → l.suspended ≡ None → l.last ≡ c → next_command l ≡ c + 1
-ran-next l c e h = ap (λ o. next_by o l.last) e ∙ ap (λ n. n + 1) h
+-- where a command has stopped, none before it runs
+pub next-above : (o : Option Suspended) (last : ℕ) → last ≤ next_by o last
+next-above None last = omega arith
+next-above (Some x) last = omega arith

@@ -1,6 +1,6 @@
 -- What a segment does when a message comes: it runs a command's slice, or locks a table, or the slice waits, or it writes nothing
 -- and repeats what it kept; and what it does when a slice goes on.
-use Rattle.std.proofs.Common.{◌≡◌, ◌≤◌, ◌<◌, ◌⊎◌, inl, inr, ℕ, List, [], ◌∷◌, ◌++◌, Option, Some, None, Bool, true, false, not, refl, sym, subst, ap, ◌∙◌, if◌then◌else◌, ◌==◌, ◌&&◌, ◌||◌, arith, eqb}
+use Rattle.std.proofs.Common.{◌≡◌, ◌≤◌, ◌<◌, ◌⊎◌, inl, inr, ℕ, List, [], ◌∷◌, Option, Some, None, Bool, true, false, not, refl, sym, subst, ap, ◌∙◌, if◌then◌else◌, ◌==◌, ◌&&◌, ◌||◌, arith, eqb}
 use Rattle.std.proofs.lemmas.Bool.{eqb-true}
 use Rattle.std.specs.Prelude.{is_some, length, nat_le, nat_lt}
 use Rattle.gx_lemmas.proofs.Numbers.{lt-of}
@@ -34,7 +34,8 @@ use Rattle.gx_rules.specs.Maps.{each_below}
 use Rattle.gx_rules.specs.Segments.{Local, Phase, Seg, SegTurn, Suspended, after_marks, local_of, stays, tells, tells_kept, with_local}
 use Rattle.gx_rules.specs.Segments.Phase.{Reading, Writing, Prepared, Committed, Forgotten, Aborted}
 use Rattle.gx_rules.specs.Shown.{shown}
-use Rattle.gx_rules.specs.Slices.{first_fault, inserted, inserts, locks as locks_only, requests, runs_locked, runs_slice, selects, slice_lock, starts_slice, suspends}
+use Rattle.gx_rules.specs.Running.{goes_on, is_granted, runs_locked, slice_lock, starts_slice, suspends}
+use Rattle.gx_rules.specs.Slices.{first_fault, inserted, inserts, locks as locks_only, selects}
 use Rattle.gx_law_order.proofs.Releases.{each-released}
 use Rattle.gx_law_order.proofs.Lists.{Each}
 use Rattle.gx_law_order.proofs.Waiting.{GoesOn, goes-on-is}
@@ -84,7 +85,7 @@ abbrev pub base : Seg → Gxid → Locks → Seg
 base s horizon locks = record (raised s horizon) { locks = locks }
 
 -- a SELECT runs on the rows that the segment shows, behind the mark of its lock
-pub record Selected (s : Seg) (m : Message) (turn : SegTurn) : Type 0 where
+pub record Selected (script : Script) (s : Seg) (m : Message) (turn : SegTurn) : Type 0 where
   pub g : Gxid
   pub c : Cid
   pub level : Level
@@ -96,10 +97,10 @@ pub record Selected (s : Seg) (m : Message) (turn : SegTurn) : Type 0 where
   pub alone : (s.locals g.0).suspended ≡ None
   pub locks : Locks
   pub wanted : Claim
-  pub locked : slice_lock g (slice.Select query) ≡ Some wanted
+  pub locked : slice_lock script g (slice.Select query) ≡ wanted
   pub ran : turn ≡ after_marks (hold_mark s.node wanted ∷ []) (selects (base s horizon locks) g c query (shown (raised s horizon) snapshot g c query.table) (first_fault query.cond (shown (raised s horizon) snapshot g c query.table)))
 
-pub record Inserted (s : Seg) (m : Message) (turn : SegTurn) : Type 0 where
+pub record Inserted (script : Script) (s : Seg) (m : Message) (turn : SegTurn) : Type 0 where
   pub g : Gxid
   pub c : Cid
   pub level : Level
@@ -113,11 +114,11 @@ pub record Inserted (s : Seg) (m : Message) (turn : SegTurn) : Type 0 where
   pub alone : (s.locals g.0).suspended ≡ None
   pub locks : Locks
   pub wanted : Claim
-  pub locked : slice_lock g (slice.Insert table rows) ≡ Some wanted
+  pub locked : slice_lock script g (slice.Insert table rows) ≡ wanted
   pub ran : turn ≡ after_marks (hold_mark s.node wanted ∷ []) (inserts g c (length rows) (inserted (base s horizon locks) g c table rows))
 
 -- the slice waits for its table's lock: nothing is sent or written
-pub record Waited (s : Seg) (m : Message) (turn : SegTurn) : Type 0 where
+pub record Waited (script : Script) (s : Seg) (m : Message) (turn : SegTurn) : Type 0 where
   pub g : Gxid
   pub c : Cid
   pub level : Level
@@ -129,11 +130,11 @@ pub record Waited (s : Seg) (m : Message) (turn : SegTurn) : Type 0 where
   pub fresh : (s.locals g.0).last < c.0
   pub alone : (s.locals g.0).suspended ≡ None
   pub wanted : Claim
-  pub locked : slice_lock g slice ≡ Some wanted
+  pub locked : slice_lock script g slice ≡ wanted
   pub ran : turn ≡ suspends (raised s horizon) g c level snapshot slice wanted
 
 -- a LOCK TABLE has its lock, and with it everything is done
-pub record Locked (s : Seg) (m : Message) (turn : SegTurn) : Type 0 where
+pub record Locked (script : Script) (s : Seg) (m : Message) (turn : SegTurn) : Type 0 where
   pub g : Gxid
   pub c : Cid
   pub level : Level
@@ -147,21 +148,13 @@ pub record Locked (s : Seg) (m : Message) (turn : SegTurn) : Type 0 where
   pub alone : (s.locals g.0).suspended ≡ None
   pub locks : Locks
   pub wanted : Claim
-  pub locked : slice_lock g (slice.Lock table mode) ≡ Some wanted
+  pub locked : slice_lock script g (slice.Lock table mode) ≡ wanted
   pub ran : turn ≡ after_marks (hold_mark s.node wanted ∷ []) (locks_only (base s horizon locks) g c)
 
-abbrev pub Turns : Seg → Message → SegTurn → Type 0
-Turns s m turn = Quiet s turn ⊎ Selected s m turn ⊎ Inserted s m turn ⊎ Waited s m turn ⊎ Locked s m turn
+abbrev pub Turns : Script → Seg → Message → SegTurn → Type 0
+Turns script s m turn = Quiet s turn ⊎ Selected script s m turn ⊎ Inserted script s m turn ⊎ Waited script s m turn ⊎ Locked script s m turn
 
--- what holds of a slice with its lock, and of one that waits for it, holds of one that starts
-pub by-lock : (P : SegTurn → Type 0) (s : Seg) (g : Gxid) (c : Cid) (level : Level) (snapshot : Option Snapshot) (x : Slice) (wanted : Claim) → slice_lock g x ≡ Some wanted → P (runs_locked s g c snapshot x wanted) → P (suspends s g c level snapshot x wanted) → P (starts_slice s g c level snapshot x)
-by-lock P s g c level snapshot x wanted e p q = subst (λ o. P (requests s g c level snapshot x o)) (sym e) (by_test (is_free s.locks.holds wanted))
-  where
-    by_test : (b : Bool) → P (if b then runs_locked s g c snapshot x wanted else suspends s g c level snapshot x wanted)
-    by_test true = p
-    by_test false = q
-
-module _ (s : Seg) where
+module _ (script : Script) (s : Seg) where
   abbrev Rests : SegTurn → Type 0
   Rests turn = Quiet s turn
 
@@ -291,93 +284,97 @@ module _ (s : Seg) where
   forget g Aborted = stay
 
   -- SLICES
+  -- what is known of a command that fits: its slice is right, and a new one comes only where nobody waits
+  abbrev Fits : Gxid → Cid → Slice → Type 0
+  Fits g c y = (is_right_slice script g c y ≡ true) × (nat_lt (s.locals g.0).last c.0 ≡ true → (s.locals g.0).suspended ≡ None)
+
   module _ (g : Gxid) (c : Cid) (level : Level) (h : Gxid) (fresh : (s.locals g.0).last < c.0) (alone : (s.locals g.0).suspended ≡ None) (opened : is_open (s.locals g.0).phase ≡ true) where
-    lies : (marks : List Mark) (locks : Locks) → Each NoRow marks → Quiet s (after_marks marks (stays (base s h locks)))
-    lies marks locks e = record { marks = append-none marks e; answers = λ j. refl; lasts = λ j. refl; nexts = λ j. same-le (next_command (s.locals j)); outs = tt }
+    lies-held : (m : Message) (wanted : Claim) → Turns script s m (after_marks (hold_mark s.node wanted ∷ []) (stays (base s h (with_hold s.locks wanted))))
+    lies-held m wanted = inl (record { marks = (tt, tt); answers = λ j. refl; lasts = λ j. refl; nexts = λ j. same-le (next_command (s.locals j)); outs = tt })
+
+    waits : (x : Option Snapshot) (y : Slice) → Turns script s (message.Exec g c level x h y) (suspends (raised s h) g c level x y (slice_lock script g y))
+    waits x y =
+        inr (inr (inr (inl (record { g = g; c = c; level = level; snapshot = x; horizon = h; slice = y; is = refl; opened = opened; fresh = fresh; alone = alone; wanted = slice_lock script g y; locked = refl; ran = refl }))))
+
+    locked : (x : Option Snapshot) (y : Slice) → is_right_slice script g c y ≡ true → Turns script s (message.Exec g c level x h y) (runs_locked (raised s h) g c level x y (slice_lock script g y))
+    locked (Some x) (slice.Select q) right =
+        let wanted = slice_lock script g (slice.Select q) in
+        inr (inl (record { g = g; c = c; level = level; snapshot = x; horizon = h; query = q; is = refl; fresh = fresh; alone = alone; locks = with_hold s.locks wanted; wanted = wanted; locked = refl; ran = refl }))
+    locked (Some x) (slice.Insert t rows) right =
+        let wanted = slice_lock script g (slice.Insert t rows) in
+        inr (inr (inl (record { g = g; c = c; level = level; snapshot = x; horizon = h; table = t; rows = rows; is = refl; opened = opened; fresh = fresh; alone = alone; locks = with_hold s.locks wanted; wanted = wanted; locked = refl; ran = refl })))
+    locked None (slice.Select q) right = lies-held _ (slice_lock script g (slice.Select q))
+    locked None (slice.Insert t rows) right = lies-held _ (slice_lock script g (slice.Insert t rows))
+    locked x (slice.Update t a d) right = absurd (cc)
+    locked x (slice.Delete t d) right = absurd (cc)
+    locked x (slice.Lock t m) right =
+        let wanted = slice_lock script g (slice.Lock t m) in
+        inr (inr (inr (inr (record { g = g; c = c; level = level; snapshot = x; horizon = h; table = t; mode = m; is = refl; opened = opened; fresh = fresh; alone = alone; locks = with_hold s.locks wanted; wanted = wanted; locked = refl; ran = refl }))))
+
+    start : (x : Option Snapshot) (y : Slice) → is_right_slice script g c y ≡ true → Turns script s (message.Exec g c level x h y) (starts_slice script (raised s h) g c level x y)
+    start x y right = by_test (is_free s.locks.holds (slice_lock script g y))
       where
-        append-none : (ms : List Mark) → Each NoRow ms → Each NoRow (ms ++ [])
-        append-none [] e = tt
-        append-none (m ∷ ms) e = (e.0, append-none ms e.1)
+        by_test : (b : Bool) → Turns script s (message.Exec g c level x h y) (if b then runs_locked (raised s h) g c level x y (slice_lock script g y) else suspends (raised s h) g c level x y (slice_lock script g y))
+        by_test true = locked x y right
+        by_test false = waits x y
 
-    waits : (x : Option Snapshot) (y : Slice) (wanted : Claim) → slice_lock g y ≡ Some wanted → Turns s (message.Exec g c level x h y) (suspends (raised s h) g c level x y wanted)
-    waits x y wanted e = inr (inr (inr (inl (record { g = g; c = c; level = level; snapshot = x; horizon = h; slice = y; is = refl; opened = opened; fresh = fresh; alone = alone; wanted = wanted; locked = e; ran = refl }))))
-
-    locked : (x : Option Snapshot) (y : Slice) (wanted : Claim) → slice_lock g y ≡ Some wanted → Turns s (message.Exec g c level x h y) (runs_locked (raised s h) g c x y wanted)
-    locked (Some x) (slice.Select q) wanted e =
-        inr (inl (record { g = g; c = c; level = level; snapshot = x; horizon = h; query = q; is = refl; fresh = fresh; alone = alone; locks = with_hold s.locks wanted; wanted = wanted; locked = e; ran = refl }))
-    locked (Some x) (slice.Insert t rows) wanted e =
-        inr (inr (inl (record { g = g; c = c; level = level; snapshot = x; horizon = h; table = t; rows = rows; is = refl; opened = opened; fresh = fresh; alone = alone; locks = with_hold s.locks wanted; wanted = wanted; locked = e; ran = refl })))
-    locked None (slice.Select q) wanted e = inl (lies (hold_mark s.node wanted ∷ []) (with_hold s.locks wanted) (tt, tt))
-    locked None (slice.Insert t rows) wanted e = inl (lies (hold_mark s.node wanted ∷ []) (with_hold s.locks wanted) (tt, tt))
-    locked x (slice.Update t a d) wanted e = absurd (cc)
-    locked x (slice.Delete t d) wanted e = absurd (cc)
-    locked x (slice.Lock t m) wanted e =
-        inr (inr (inr (inr (record { g = g; c = c; level = level; snapshot = x; horizon = h; table = t; mode = m; is = refl; opened = opened; fresh = fresh; alone = alone; locks = with_hold s.locks wanted; wanted = wanted; locked = e; ran = refl }))))
-
-    start : (x : Option Snapshot) (y : Slice) (o : Option Claim) → slice_lock g y ≡ o → Turns s (message.Exec g c level x h y) (requests (raised s h) g c level x y o)
-    start x y (Some wanted) e = by_test (is_free s.locks.holds wanted)
-      where
-        by_test : (b : Bool) → Turns s (message.Exec g c level x h y) (if b then runs_locked (raised s h) g c x y wanted else suspends (raised s h) g c level x y wanted)
-        by_test true = locked x y wanted e
-        by_test false = waits x y wanted e
-    start x (slice.Select q) None e = absurd (cc)
-    start x (slice.Insert t rows) None e = absurd (cc)
-    start x (slice.Lock t m) None e = absurd (cc)
-    start x (slice.Update t a d) None e = inl (lies [] s.locks tt)
-    start x (slice.Delete t d) None e = inl (lies [] s.locks tt)
-
-  take : (g : Gxid) (c : Cid) (level : Level) (x : Option Snapshot) (h : Gxid) (y : Slice) → is_open (s.locals g.0).phase ≡ true → (nat_lt (s.locals g.0).last c.0 ≡ true → (s.locals g.0).suspended ≡ None) → Turns s (message.Exec g c level x h y) (takes s g c level x h y (s.locals g.0))
-  take g c level x h y o alone = by_test (nat_lt (s.locals g.0).last c.0) refl
+  take : (g : Gxid) (c : Cid) (level : Level) (x : Option Snapshot) (h : Gxid) (y : Slice) → is_open (s.locals g.0).phase ≡ true → Fits g c y → Turns script s (message.Exec g c level x h y) (takes script s g c level x h y (s.locals g.0))
+  take g c level x h y o fit = by_test (nat_lt (s.locals g.0).last c.0) refl
     where
-      by_test : (b : Bool) → nat_lt (s.locals g.0).last c.0 ≡ b → Turns s (message.Exec g c level x h y) (if b then starts_slice (raised s h) g c level x y else repeats s g c (s.locals g.0))
-      by_test true e = start g c level h (lt-of _ _ e) (alone e) o x y (slice_lock g y) refl
+      by_test : (b : Bool) → nat_lt (s.locals g.0).last c.0 ≡ b → Turns script s (message.Exec g c level x h y) (if b then starts_slice script (raised s h) g c level x y else repeats s g c (s.locals g.0))
+      by_test true e = start g c level h (lt-of _ _ e) (fit.1 e) o x y fit.0
       by_test false e = inl (repeat g c)
 
-  exec : (g : Gxid) (c : Cid) (level : Level) (x : Option Snapshot) (h : Gxid) (y : Slice) (p : Phase) → (s.locals g.0).phase ≡ p → (nat_lt (s.locals g.0).last c.0 ≡ true → (s.locals g.0).suspended ≡ None) → Turns s (message.Exec g c level x h y) (on_exec s g c level x h y (s.locals g.0) p)
-  exec g c level x h y Reading e alone = take g c level x h y (ap is_open e) alone
-  exec g c level x h y Writing e alone = take g c level x h y (ap is_open e) alone
-  exec g c level x h y Prepared e alone = inl (repeat g c)
-  exec g c level x h y Committed e alone = inl (repeat g c)
-  exec g c level x h y (Forgotten b) e alone = inl stay
-  exec g c level x h y Aborted e alone = inl stay
+  exec : (g : Gxid) (c : Cid) (level : Level) (x : Option Snapshot) (h : Gxid) (y : Slice) (p : Phase) → (s.locals g.0).phase ≡ p → Fits g c y → Turns script s (message.Exec g c level x h y) (on_exec script s g c level x h y (s.locals g.0) p)
+  exec g c level x h y Reading e fit = take g c level x h y (ap is_open e) fit
+  exec g c level x h y Writing e fit = take g c level x h y (ap is_open e) fit
+  exec g c level x h y Prepared e fit = inl (repeat g c)
+  exec g c level x h y Committed e fit = inl (repeat g c)
+  exec g c level x h y (Forgotten b) e fit = inl stay
+  exec g c level x h y Aborted e fit = inl stay
 
-  -- a new command fits only where nobody waits
-  fits-alone : (script : Script) (g : Gxid) (c : Cid) (x : Option Snapshot) (h : Gxid) (y : Slice) → fits_exec script s g c x h y ≡ true → nat_lt (s.locals g.0).last c.0 ≡ true → (s.locals g.0).suspended ≡ None
-  fits-alone script g c x h y e =
+  fits-by : (g : Gxid) (c : Cid) (x : Option Snapshot) (h : Gxid) (y : Slice) → fits_exec script s g c x h y ≡ true → Fits g c y
+  fits-by g c x h y e =
       from (nat_le h.0 g.0) (each_below h.0 (λ j. not (holds_locks (s.locals j)))) (is_some x || reads_nothing y) (is_right_slice script g c y) (nat_lt (s.locals g.0).last c.0) (s.locals g.0).suspended e
     where
       clash : (a b c d later : Bool) → (a && (b && (c && (d && not (later && true))))) ≡ true → later ≡ true → ⊥
       clash a b c d later e q = grind arith
 
-      from : (a b c d later : Bool) (o : Option Suspended) → (a && (b && (c && (d && not (later && is_some o))))) ≡ true → later ≡ true → o ≡ None
-      from a b c d later None e q = refl
-      from a b c d later (Some x) e q = absurd (clash a b c d later e q)
+      fourth : (a b c d f : Bool) → (a && (b && (c && (d && f)))) ≡ true → d ≡ true
+      fourth a b c d f e = grind arith
 
-  below : (m : Message) (g : Gxid) (turn : SegTurn) → Turns s m turn → Turns s m (unless_below s g turn)
+      rests : (a b c d later : Bool) (o : Option Suspended) → (a && (b && (c && (d && not (later && is_some o))))) ≡ true → later ≡ true → o ≡ None
+      rests a b c d later None e q = refl
+      rests a b c d later (Some x) e q = absurd (clash a b c d later e q)
+
+      from : (a b c d later : Bool) (o : Option Suspended) → (a && (b && (c && (d && not (later && is_some o))))) ≡ true → (d ≡ true) × (later ≡ true → o ≡ None)
+      from a b c d later o e = (fourth a b c d _ e, rests a b c d later o e)
+
+  below : (m : Message) (g : Gxid) (turn : SegTurn) → Turns script s m turn → Turns script s m (unless_below s g turn)
   below m g turn e = by_test (is_below s.horizon g)
     where
-      by_test : (b : Bool) → Turns s m (if b then stays s else turn)
+      by_test : (b : Bool) → Turns script s m (if b then stays s else turn)
       by_test true = inl stay
       by_test false = e
 
-  fits : (m : Message) (b : Bool) (turn : SegTurn) → Turns s m turn → Turns s m (if_fits s b turn)
+  fits : (m : Message) (b : Bool) (turn : SegTurn) → Turns script s m turn → Turns script s m (if_fits s b turn)
   fits m true turn e = e
   fits m false turn e = inl stay
 
-  pub message-turns : (script : Script) (fails : Bool) (m : Message) → Turns s m (on_message script s fails m)
-  message-turns script fails (message.Exec g c level x h y) = below _ g _ (by_fits (fits_exec script s g c x h y) refl)
+  pub message-turns : (fails : Bool) (m : Message) → Turns script s m (on_message script s fails m)
+  message-turns fails (message.Exec g c level x h y) = below _ g _ (by_fits (fits_exec script s g c x h y) refl)
     where
-      by_fits : (b : Bool) → fits_exec script s g c x h y ≡ b → Turns s (message.Exec g c level x h y) (if_fits s b (on_exec s g c level x h y (local_of s g) (local_of s g).phase))
-      by_fits true e = exec g c level x h y (local_of s g).phase refl (fits-alone script g c x h y e)
+      by_fits : (b : Bool) → fits_exec script s g c x h y ≡ b → Turns script s (message.Exec g c level x h y) (if_fits s b (on_exec script s g c level x h y (local_of s g) (local_of s g).phase))
+      by_fits true e = exec g c level x h y (local_of s g).phase refl (fits-by g c x h y e)
       by_fits false e = inl stay
-  message-turns script fails (message.Prepare g) = below _ g _ (fits _ (not (is_waiting (local_of s g))) _ (inl (prepare g fails _)))
-  message-turns script fails (message.Commit g) = below _ g _ (fits _ (not (is_waiting (local_of s g))) _ (inl (commit g fails _)))
-  message-turns script fails (message.CommitPrepared g) = below _ g _ (inl (commit-prepared g fails _))
-  message-turns script fails (message.Abort g) = below _ g _ (inl (abort g _))
-  message-turns script fails (message.Forget g) = below _ g _ (inl (forget g _))
-  message-turns script fails (message.Collect round) = inl stay
-  message-turns script fails (message.Answer g r) = inl stay
-  message-turns script fails (message.Graph round graph) = inl stay
+  message-turns fails (message.Prepare g) = below _ g _ (fits _ (not (is_waiting (local_of s g))) _ (inl (prepare g fails _)))
+  message-turns fails (message.Commit g) = below _ g _ (fits _ (not (is_waiting (local_of s g))) _ (inl (commit g fails _)))
+  message-turns fails (message.CommitPrepared g) = below _ g _ (inl (commit-prepared g fails _))
+  message-turns fails (message.Abort g) = below _ g _ (inl (abort g _))
+  message-turns fails (message.Forget g) = below _ g _ (inl (forget g _))
+  message-turns fails (message.Collect round) = inl stay
+  message-turns fails (message.Answer g r) = inl stay
+  message-turns fails (message.Graph round graph) = inl stay
 
 -- A SLICE GOES ON
 -- the segment without that wait, with its lock
@@ -411,23 +408,22 @@ pub record LockGoesOn (s : Seg) (g : Gxid) (x : Suspended) (turn : SegTurn) : Ty
   pub is : x.slice ≡ slice.Lock table mode
   pub locks : Locks
   pub wanted : Claim
-  pub locked : slice_lock g (slice.Lock table mode) ≡ Some wanted
   pub ran : turn ≡ after_marks (hold_mark s.node wanted ∷ []) (locks_only (freed s g locks) g x.cid)
 
 abbrev pub Continues : Seg → Gxid → Suspended → SegTurn → Type 0
 Continues s g x turn = SelectGoesOn s g x turn ⊎ InsertGoesOn s g x turn ⊎ LockGoesOn s g x turn
 
-continues : (script : Script) (s : Seg) (g : Gxid) (x : Suspended) (wanted : Claim) (snapshot : Option Snapshot) (y : Slice) → x.snapshot ≡ snapshot → x.slice ≡ y → (is_some snapshot || reads_nothing y) ≡ true → is_right_slice script g x.cid y ≡ true → slice_lock g y ≡ Some wanted
-    → Continues s g x (after_marks (hold_mark s.node wanted ∷ []) (runs_slice (freed s g (resumed s.locks g (Some wanted))) g x.cid snapshot y))
-continues script s g x wanted (Some snapshot) (slice.Select q) e f reads right l = inl (record { snapshot = snapshot; query = q; reads = e; is = f; locks = resumed s.locks g (Some wanted); wanted = wanted; ran = refl })
-continues script s g x wanted (Some snapshot) (slice.Insert t rows) e f reads right l = inr (inl (record { snapshot = snapshot; table = t; rows = rows; reads = e; is = f; locks = resumed s.locks g (Some wanted); wanted = wanted; ran = refl }))
-continues script s g x wanted None (slice.Select q) e f reads right l = absurd (cc)
-continues script s g x wanted None (slice.Insert t rows) e f reads right l = absurd (cc)
-continues script s g x wanted snapshot (slice.Lock t m) e f reads right l = inr (inr (record { table = t; mode = m; is = f; locks = resumed s.locks g (Some wanted); wanted = wanted; locked = l; ran = refl }))
-continues script s g x wanted snapshot (slice.Update t a d) e f reads right l = absurd (cc)
-continues script s g x wanted snapshot (slice.Delete t d) e f reads right l = absurd (cc)
+continues : (script : Script) (s : Seg) (g : Gxid) (x : Suspended) (wanted : Claim) (snapshot : Option Snapshot) (y : Slice) → x.snapshot ≡ snapshot → x.slice ≡ y → (is_some snapshot || reads_nothing y) ≡ true → is_right_slice script g x.cid y ≡ true
+    → Continues s g x (goes_on (is_granted s g wanted) g (record x { snapshot = snapshot; slice = y }))
+continues script s g x wanted (Some snapshot) (slice.Select q) e f reads right = inl (record { snapshot = snapshot; query = q; reads = e; is = f; locks = resumed s.locks g (Some wanted); wanted = wanted; ran = refl })
+continues script s g x wanted (Some snapshot) (slice.Insert t rows) e f reads right = inr (inl (record { snapshot = snapshot; table = t; rows = rows; reads = e; is = f; locks = resumed s.locks g (Some wanted); wanted = wanted; ran = refl }))
+continues script s g x wanted None (slice.Select q) e f reads right = absurd (cc)
+continues script s g x wanted None (slice.Insert t rows) e f reads right = absurd (cc)
+continues script s g x wanted snapshot (slice.Lock t m) e f reads right = inr (inr (record { table = t; mode = m; is = f; locks = resumed s.locks g (Some wanted); wanted = wanted; ran = refl }))
+continues script s g x wanted snapshot (slice.Update t a d) e f reads right = absurd (cc)
+continues script s g x wanted snapshot (slice.Delete t d) e f reads right = absurd (cc)
 
 pub resumption-turns : (script : Script) (w : World) (i : ℕ) (g : Gxid) (o : GoesOn script w i g) → Continues (w.segs i) g o.slice (resumes (w.segs i) g (wait_of (w.segs i).locks g) (local_of (w.segs i) g).suspended)
 resumption-turns script w i g o =
     subst (Continues (w.segs i) g o.slice) (sym (goes-on-is (w.segs i) g o.wanted o.slice o.claims o.is))
-    (continues script (w.segs i) g o.slice o.wanted o.slice.snapshot o.slice.slice refl refl o.waits.reads o.waits.right (sym o.waits.wants ∙ o.claims))
+    (continues script (w.segs i) g o.slice o.wanted o.slice.snapshot o.slice.slice refl refl o.waits.reads o.waits.right)

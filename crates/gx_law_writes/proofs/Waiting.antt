@@ -24,11 +24,11 @@ use Rattle.gx_law_writes.proofs.Turns.{Turns, message-turns}
 use Rattle.gx_law_writes.proofs.World.{locals_in, world-holds}
 pub use Rattle.gx_law_writes.proofs.Turns.{Waited}
 
-abbrev pub Ways : Seg → Message → SegTurn → Type 0
-Ways s m turn = Turns s m turn
+abbrev pub Ways : Script → Seg → Message → SegTurn → Type 0
+Ways script s m turn = Turns script s m turn
 
-pub message-ways : (script : Script) (w : World) → Well script w → (i : ℕ) (fails : Bool) (m : Message) → Ways (w.segs i) m (on_message script (w.segs i) fails m)
-message-ways script w good i fails m = message-turns (w.segs i) script fails m
+pub message-ways : (script : Script) (w : World) → Well script w → (i : ℕ) (fails : Bool) (m : Message) → Ways script (w.segs i) m (on_message script (w.segs i) fails m)
+message-ways script w good i fails m = message-turns script (w.segs i) fails m
 
 module _ (script : Script) (some : 1 ≤ script.segments) (numbered : AreLinesNumbered [] script.lines) (es : List (Event × Bool)) (node : Node) (one : 1 ≤ node.0) (g : Gxid) where
   -- what the segment has told of is below what has still to run

@@ -411,10 +411,10 @@ module _ (script : Script) (c : Coord) (x : NodeEvent) where
         by_test false = waits-walk wanted
 
     pub dispatch-walk : Walk earlier (dispatches script c1 (gx g) line)
-    dispatch-walk = request-walk (lock_for (gx g) line)
+    dispatch-walk = request-walk (lock_for script (gx g) line)
 
   -- A STATEMENT THAT HAS WAITED
-  module _ (g : Gxid) (it : IsGoingOut x) (o : GoesOut c g) where
+  module _ (g : Gxid) (it : IsGoingOut x) (o : GoesOut script c g) where
     abbrev out : Work
     out = record (work_of c g) { waiting = None }
 
@@ -436,7 +436,7 @@ module _ (script : Script) (c : Coord) (x : NodeEvent) where
         (subst (λ q. Walk [] (resumes script c g (Some o.wanted) q)) (sym o.is) (held-walk unlocked g.0 out-others [] it out-base o.line (resumed c.locks g (Some o.wanted)) o.wanted))
 
   -- ANSWERS OF SEGMENTS
-  module _ (k : Kept c) where
+  module _ (k : Kept script c) where
     same-others : (g : ℕ) (h : ℕ) → eqb h g ≡ false → c.works h ≡ c.works h
     same-others g h e = refl
 
@@ -660,7 +660,7 @@ module _ (script : Script) (c : Coord) (x : NodeEvent) where
         by_pending : (q : Pending) → is_nothing q ≡ true → is_nothing_in q ≡ true
         by_pending q e = grind arith
 
-    pub event-walk : ((g : Gxid) → coord_can script c (event.Resume g) ≡ true → GoesOut c g) → (y : NodeEvent) → x ≡ y → (fails : Bool) → coord_can script c y ≡ true → Walk [] (on_event script c y fails)
+    pub event-walk : ((g : Gxid) → coord_can script c (event.Resume g) ≡ true → GoesOut script c g) → (y : NodeEvent) → x ≡ y → (fails : Bool) → coord_can script c y ≡ true → Walk [] (on_event script c y fails)
     event-walk going (event.Deliver from envelope) is fails can = message-walk from fails envelope is envelope.message refl
     event-walk going (event.Start s) is fails can = start-walk s (subst IsGoingOut (sym is) tt) (idle-first s _ can) (next_line script c s)
     event-walk going (event.End s) is fails can = end-walk s (session_of c s).state.block

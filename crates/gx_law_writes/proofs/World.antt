@@ -70,9 +70,9 @@ use Rattle.gx_law_commit.proofs.Whole.{Both, world-both}
 use Rattle.gx_law_writes.specs.Homes.{AreRowsHome, IsPlacedMark}
 use Rattle.gx_law_writes.specs.Writes.{AreWritesLegal, WriteLegal}
 use Rattle.gx_law_writes.proofs.Homes.{homes-append, homes-more, homes-placed, no-writes-home}
-use Rattle.gx_law_writes.proofs.Legal.{IsPastMark, Late, Live, no-writes-legal, order-live, sent-no-write}
+use Rattle.gx_law_writes.proofs.Legal.{Behind, IsPastHere, IsPastMark, Late, Live, behind-hold, behind-none, no-writes-legal, order-live, sent-no-write}
 use Rattle.gx_law_writes.proofs.Live.{Running, running}
-use Rattle.gx_law_writes.proofs.Moves.{IsBase, IsOutOf, IsPastHere, Move, freed-base, insert-move, line-of, lock-move, piece, quiet-move, select-move, started-base, waited-move}
+use Rattle.gx_law_writes.proofs.Moves.{IsBase, IsOutOf, Move, freed-base, insert-move, line-of, lock-move, piece, quiet-move, select-move, started-base, waited-move}
 use Rattle.gx_law_writes.proofs.Next.{new-next, next_command, waits-next}
 use Rattle.gx_law_writes.proofs.Told.{IsAnswerOf, IsToldOf, IsWordOf, SentTold, StepTold, answer-more, each-get, steps-more, taken-told, told-more}
 use Rattle.gx_law_writes.proofs.Turns.{Continues, NoWrite, Turns, base, freed, message-turns, resumption-turns}
@@ -178,15 +178,18 @@ module _ (script : Script) (some : 1 ≤ script.segments) (numbered_lines : AreL
 
     -- a slice runs that came with this EXEC, which the coordinator sent
     module _ (g : Gxid) (c : Cid) (level : Level) (snapshot : Option Snapshot) (fresh : next_command (s.locals g.0) ≤ c.0) (base : Seg) (on : IsBase s g base) (wanted : Claim) where
+      behind : Behind g c 1 (hold_mark s.node wanted ∷ [])
+      behind = behind-hold g c 1 [] s.node wanted (behind-none g c)
+
       select-runs : (query : Query) → IsOrder script ms (at i) g c level snapshot (slice.Select query) → (rows : List KeyedRow) (f : Option (KeyedRow × ArithFault)) → Moves (after_marks (hold_mark s.node wanted ∷ []) (selects base g c query rows f))
-      select-runs query order = select-move script numbered_lines ms w.steps e i s (h.kept i) g c fresh base on wanted level snapshot query order
+      select-runs query order = select-move script numbered_lines ms w.steps e i s (h.kept i) g c fresh base on (b.knows.well.names i) (hold_mark s.node wanted ∷ []) (tt, tt) level snapshot query order
 
       lock-runs : (table : Table) (mode : Mode) → IsOrder script ms (at i) g c level snapshot (slice.Lock table mode) → Moves (after_marks (hold_mark s.node wanted ∷ []) (locks_only base g c))
-      lock-runs table mode order = lock-move script numbered_lines ms w.steps e i s (h.kept i) g c fresh base on wanted level snapshot table mode order
+      lock-runs table mode order = lock-move script numbered_lines ms w.steps e i s (h.kept i) g c fresh base on (b.knows.well.names i) (hold_mark s.node wanted ∷ []) (tt, tt) level snapshot table mode order
 
       insert-runs : (table : Table) (rows : List KeyedRow) → IsOrder script ms (at i) g c level snapshot (slice.Insert table rows) → WasUnderWay script w.steps g c → IsBack w.coord w.steps i g.0 c.0 → Moves (after_marks (hold_mark s.node wanted ∷ []) (inserts g c (length rows) (inserted base g c table rows)))
       insert-runs table rows order was back =
-          insert-move script numbered_lines w e quiet-event i s (b.knows.well.names i) (h.kept i) (nexts_in w.segs) (λ j. refl) placed h.past g c level snapshot table rows order fresh base on wanted (by_back back)
+          insert-move script numbered_lines w e quiet-event i s (b.knows.well.names i) (h.kept i) (nexts_in w.segs) (λ j. refl) placed h.past g c level snapshot table rows order fresh base on (hold_mark s.node wanted ∷ []) (tt, tt) behind (by_back back)
         where
           tuples : List (List Expr)
           tuples = (piece script numbered_lines w e quiet-event i s (b.knows.well.names i) (h.kept i) (nexts_in w.segs) (λ j. refl) placed h.past g c level snapshot table rows order).tuples
@@ -207,7 +210,7 @@ module _ (script : Script) (some : 1 ≤ script.segments) (numbered_lines : AreL
           by_back (inr (inr z)) = inr (record { aborted = z; was = was })
 
     -- by a message of the coordinator
-    message-move : (m : Message) (number : ℕ) → MessageIs script ms (at i) m → HasRun script w.steps m → SentBack w.coord w.steps the_coordinator (mark.Sent (at i) number m) → (y : SegTurn) → Turns s m y → Moves y
+    message-move : (m : Message) (number : ℕ) → MessageIs script ms (at i) m → HasRun script w.steps m → SentBack w.coord w.steps the_coordinator (mark.Sent (at i) number m) → (y : SegTurn) → Turns script s m y → Moves y
     message-move m number order ran back y (inl q) = quiet-move script numbered_lines ms w.steps e i s (h.kept i) (λ g. (b.holds.stands.pairs i g).vote) y q
     message-move m number order ran back y (inr (inl z)) =
         subst Moves (sym z.ran)
@@ -217,7 +220,7 @@ module _ (script : Script) (some : 1 ≤ script.segments) (numbered_lines : AreL
         subst Moves (sym z.ran)
         (insert-runs z.g z.c z.level (Some z.snapshot) (new-next (s.locals z.g.0) z.c.0 z.alone z.fresh) (base s z.horizon z.locks) (started-base s z.g z.horizon z.locks z.alone) z.wanted z.table z.rows (subst (λ (a : Message). MessageIs script ms (at i) a) z.is order numbered_lines)
         (subst (HasRun script w.steps) z.is ran) (subst (λ (a : Message). SentBack w.coord w.steps the_coordinator (mark.Sent (at i) number a)) z.is back refl))
-    message-move m number order ran back y (inr (inr (inr (inl z)))) = waited-move script numbered_lines ms w.steps e i s (h.kept i) m y z
+    message-move m number order ran back y (inr (inr (inr (inl z)))) = waited-move script numbered_lines ms w.steps e i s (h.kept i) (b.knows.well.names i) m y z
     message-move m number order ran back y (inr (inr (inr (inr z)))) =
         subst Moves (sym z.ran)
         (lock-runs z.g z.c z.level z.snapshot (new-next (s.locals z.g.0) z.c.0 z.alone z.fresh) (base s z.horizon z.locks) (started-base s z.g z.horizon z.locks z.alone) z.wanted z.table z.mode (subst (λ (a : Message). MessageIs script ms (at i) a) z.is order numbered_lines))
@@ -360,7 +363,7 @@ module _ (script : Script) (some : 1 ≤ script.segments) (numbered_lines : AreL
         by_test false q =
             let p = place q d.is.0.link in
             seg-holds w b k h e (λ t. refl) x fails to.0 p.0
-            (message-move w b k h e (λ t. refl) x fails to.0 p.0 envelope.message number (order_is p.1) (subst (λ (a : Envelope). HasRun script w.steps a.message) d.told (d.is.2 p.1)) (back p.1) (segment.on_message script (w.segs to.0) fails envelope.message) (message-turns (w.segs to.0) script fails envelope.message))
+            (message-move w b k h e (λ t. refl) x fails to.0 p.0 envelope.message number (order_is p.1) (subst (λ (a : Envelope). HasRun script w.steps a.message) d.told (d.is.2 p.1)) (back p.1) (segment.on_message script (w.segs to.0) fails envelope.message) (message-turns script (w.segs to.0) fails envelope.message))
 
     arrives : (from to : Node) (number : ℕ) (fails : Bool) (o : Option Envelope) → found from to number w.sent ≡ o → let v : World = does script w (event.Receive from to number) to fails (delivered from o) in Holds script v.segs v.steps
     arrives from to number fails None f = h
