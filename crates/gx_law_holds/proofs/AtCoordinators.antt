@@ -1,6 +1,9 @@
 -- What the coordinator's event makes of its holds.
-use Rattle.std.proofs.Common.{◌≡◌, ◌==◌, ◌&&◌, ◌||◌, ℕ, List, [], ◌∷◌, ◌++◌, Option, Some, None, Result, Ok, Err, Bool, true, false, refl, sym, subst, if◌then◌else◌, arith}
+use Rattle.std.proofs.Common.{◌≡◌, ◌==◌, ◌&&◌, ◌||◌, List, [], ◌∷◌, ◌++◌, Option, Some, None, Result, Ok, Err, Bool, true, false, refl, sym, subst, ap, ◌∙◌, ℕ, ◌+◌, if◌then◌else◌, arith}
 use Rattle.std.proofs.lemmas.Bool.Decides.{nat_tests}
+use Rattle.std.specs.Prelude.{filter}
+use Rattle.gx_lemmas.proofs.Numbers.{eqb-self}
+use Rattle.gx_lemmas.proofs.Tests.{and-first}
 use Rattle.gx_ids.specs.declared.ids.Cid.{Cid}
 use Rattle.gx_ids.specs.declared.ids.Gxid.{Gxid}
 use Rattle.gx_ids.specs.declared.ids.Node.{Node}
@@ -13,7 +16,8 @@ use Rattle.gx_dsnap.specs.declared.snapshot.Snapshot.{Snapshot}
 use Rattle.gx_dtx.specs.Rules.{Turn, on_abort, on_commit, on_reply}
 use Rattle.gx_dtx.specs.declared.outcome.Outcome.{Outcome}
 use Rattle.gx_dtx.specs.declared.outcome.Outcome.TheVariants as outcome
-use Rattle.gx_locks.specs.Locks.{Locks, held, is_free, is_ready, resumed, wait_of, without}
+use Rattle.gx_locks.specs.Claims.{is_of}
+use Rattle.gx_locks.specs.Locks.{Locks, is_free, is_ready, resumed, wait_of}
 use Rattle.gx_meaning.specs.declared.fault.ArithFault.{ArithFault}
 use Rattle.gx_meaning.specs.declared.piece.Piece.{Piece}
 use Rattle.gx_msg.specs.declared.message.Message.{Message}
@@ -22,7 +26,7 @@ use Rattle.gx_msg.specs.declared.reply.Cause.{Cause}
 use Rattle.gx_msg.specs.declared.reply.Reply.{Reply}
 use Rattle.gx_msg.specs.declared.reply.Reply.TheVariants as reply
 use Rattle.gx_script.specs.declared.Script.{Script}
-use Rattle.gx_script.specs.Session.{idle_outside, line_step}
+use Rattle.gx_script.specs.Session.{after_line, idle_outside, line_step}
 use Rattle.gx_script.specs.declared.line_step.LineStep.{LineStep}
 use Rattle.gx_script.specs.declared.line_step.LineStep.TheVariants as step
 use Rattle.gx_script.specs.declared.state.Block.{Block}
@@ -36,28 +40,32 @@ use Rattle.gx_store.specs.declared.node.NodeEvent.TheVariants as event
 use Rattle.gx_store.specs.Marks.{is_ended, is_same_gxid}
 use Rattle.gx_store.specs.Refusals.{the_coordinator}
 use Rattle.gx_store.specs.Writes.{dist_of}
-use Rattle.gx_rules.specs.AtCoordinator.{Reading, answer_at_commit, answer_mark, awaited, begins, behind, commits, completes, coord_can, dispatches, ends_in, failure_marks, fault_mark, follows, goes, goes_on, goes_out, goes_on_locked, if_granted, is_awaited, is_committed, is_refused, lock_for, next_cid, next_line, on_answer, on_done, on_event, on_failed, on_line, on_message, on_status, reads_by, reads_for, reason_of, requests, resends, resumes, rolls_back, starts, starts_line, table_of, takes_done, with_done, writers_with}
+use Rattle.gx_rules.specs.AtCoordinator.{Reading, answer_at_commit, answer_mark, awaited, begins, behind, commits, completes, coord_can, dispatches, ends_in, failure_marks, fault_mark, follows, goes, goes_on, goes_out, goes_on_locked, if_granted, is_awaited, is_idle, is_committed, is_refused, lock_for, next_cid, next_line, on_answer, on_done, on_event, on_failed, on_line, on_message, on_status, reads_by, reads_for, reason_of, requests, resends, resumes, rolls_back, starts, starts_line, table_of, takes_done, with_done, writers_with}
 use Rattle.gx_meaning.specs.Plan.{plan_of}
 use Rattle.gx_rules.specs.Coordinators.{Command, Coord, CoordTurn, Work, rests, session_of, with_state, with_work, work_of}
 use Rattle.gx_rules.specs.Fits.{fits_part}
-use Rattle.gx_rules.specs.Locks.{hold_mark, release_marks, with_hold}
+use Rattle.gx_rules.specs.Locks.{hold_mark, release_marks, released, with_hold}
 use Rattle.gx_waits.specs.declared.claim.Claim.{Claim}
 use Rattle.gx_law_order.proofs.Lists.{Each, each_append}
-use Rattle.gx_law_holds.proofs.Marks.{Locking, Quiet, both, ended-behind, grant, quiet}
+use Rattle.gx_law_order.proofs.Lines.{Asks as Admits, asks as admits}
+use Rattle.gx_law_order.proofs.Queued.{lock-of}
+use Rattle.gx_law_order.proofs.Sessions.{is_open_in}
+use Rattle.gx_law_holds.proofs.Marks.{Locking, NoLock, both, ended-behind, grant, no-lock, resumption, wait}
 use Rattle.gx_law_holds.proofs.Released.{gives-back}
 
+-- what the turn's marks make of the coordinator's locks, behind those before
 abbrev pub Holding : List Mark → Coord → CoordTurn → Type 0
-Holding before c turn = Locking the_coordinator before c.locks.holds turn.marks turn.coord.locks.holds
+Holding before c turn = Locking the_coordinator before c.locks turn.marks turn.coord.locks
 
-still : (before : List Mark) (c : Coord) (turn : CoordTurn) → turn.coord.locks ≡ c.locks → Each Quiet turn.marks → Holding before c turn
-still before c turn e f = subst (λ (l : Locks). Locking the_coordinator before c.locks.holds turn.marks l.holds) (sym e) (quiet the_coordinator before c.locks.holds turn.marks f)
+still : (before : List Mark) (c : Coord) (turn : CoordTurn) → turn.coord.locks ≡ c.locks → Each NoLock turn.marks → Holding before c turn
+still before c turn e f = subst (Locking the_coordinator before c.locks turn.marks) (sym e) (no-lock the_coordinator before c.locks turn.marks f)
 
 rest : (before : List Mark) (c : Coord) → Holding before c (rests c)
-rest before c = quiet the_coordinator before c.locks.holds [] tt
+rest before c = no-lock the_coordinator before c.locks [] tt
 
--- behind marks that change no hold
-pushed : (before : List Mark) (c : Coord) (ms : List Mark) (turn : CoordTurn) → Each Quiet ms → Holding (before ++ ms) c turn → Holding before c (behind ms turn)
-pushed before c ms turn e f = both the_coordinator before c.locks.holds ms c.locks.holds turn.marks turn.coord.locks.holds (quiet the_coordinator before c.locks.holds ms e) f
+-- behind marks that tell of no lock
+pushed : (before : List Mark) (c : Coord) (ms : List Mark) (turn : CoordTurn) → Each NoLock ms → Holding (before ++ ms) c turn → Holding before c (behind ms turn)
+pushed before c ms turn e f = both the_coordinator before c.locks ms c.locks turn.marks turn.coord.locks (no-lock the_coordinator before c.locks ms e) f
 
 either : (before : List Mark) (c : Coord) (b : Bool) (x y : CoordTurn) → Holding before c x → Holding before c y → Holding before c (if b then x else y)
 either before c true x y e f = e
@@ -68,12 +76,12 @@ gxid-itself : (g : Gxid) → is_same_gxid g g ≡ true
 gxid-itself g = grind (arith, nat_tests)
 
 abbrev GivesBack : List Mark → Coord → Gxid → List Mark → Type 0
-GivesBack before c g ms = Locking the_coordinator before c.locks.holds (ms ++ release_marks the_coordinator c.locks g) (without g c.locks.holds)
+GivesBack before c g ms = Locking the_coordinator before c.locks (ms ++ release_marks the_coordinator c.locks g) (released c.locks g)
 
-back : (before : List Mark) (c : Coord) (g : Gxid) (ms : List Mark) → Each Quiet ms → is_ended ms g ≡ true → GivesBack before c g ms
+back : (before : List Mark) (c : Coord) (g : Gxid) (ms : List Mark) → Each NoLock ms → is_ended ms g ≡ true → GivesBack before c g ms
 back before c g ms e f =
-    both the_coordinator before c.locks.holds ms c.locks.holds (release_marks the_coordinator c.locks g) (without g c.locks.holds) (quiet the_coordinator before c.locks.holds ms e)
-    (gives-back the_coordinator (before ++ ms) c.locks g (ended-behind before ms g f))
+    both the_coordinator before c.locks ms c.locks (release_marks the_coordinator c.locks g) (released c.locks g) (no-lock the_coordinator before c.locks ms e)
+    (gives-back c.locks g the_coordinator (before ++ ms) (ended-behind before ms g f))
 
 committed : (before : List Mark) (c : Coord) (g : Gxid) (turn : Turn) → Holding before c (is_committed c g turn)
 committed before c g turn =
@@ -85,24 +93,24 @@ committed before c g turn =
 abort-ends : (b : Bool) → b ≡ true → (false || (b || false)) ≡ true
 abort-ends b e = grind arith
 
-refused : (before : List Mark) (c : Coord) (g : Gxid) (turn : Turn) (why : List Mark) (reason : Refused) → Each Quiet why → Holding before c (is_refused c g turn why reason)
+refused : (before : List Mark) (c : Coord) (g : Gxid) (turn : Turn) (why : List Mark) (reason : Refused) → Each NoLock why → Holding before c (is_refused c g turn why reason)
 refused before c g turn why reason e =
     pushed before c why (record (is_refused c g turn why reason) { marks = mark.Abort g ∷ answer_mark c (work_of c g).session (told.Refused reason) ∷ release_marks the_coordinator c.locks g }) e
     (back (before ++ why) c g (mark.Abort g ∷ answer_mark c (work_of c g).session (told.Refused reason) ∷ []) (tt, (tt, tt)) (abort-ends (is_same_gxid g g) (gxid-itself g)))
 
-failure_quiet : (i : Node) (g : Gxid) → Each Quiet (failure_marks i g)
+failure_quiet : (i : Node) (g : Gxid) → Each NoLock (failure_marks i g)
 failure_quiet i g = by_test (i.0 == 0)
   where
-    by_test : (b : Bool) → Each Quiet (if b then mark.JournalFailed the_coordinator g ∷ [] else [])
+    by_test : (b : Bool) → Each NoLock (if b then mark.JournalFailed the_coordinator g ∷ [] else [])
     by_test true = (tt, tt)
     by_test false = tt
 
 follow : (before : List Mark) (c : Coord) (g : Gxid) (turn : Turn) (o : Outcome) → Holding before c (follows c g turn o)
-follow before c g turn outcome.Pending = quiet the_coordinator before c.locks.holds _ tt
-follow before c g turn outcome.Decided = quiet the_coordinator before c.locks.holds _ (tt, tt)
+follow before c g turn outcome.Pending = no-lock the_coordinator before c.locks _ tt
+follow before c g turn outcome.Decided = no-lock the_coordinator before c.locks _ (tt, tt)
 follow before c g turn outcome.Committed = committed before c g turn
 follow before c g turn (outcome.Refused i) = refused before c g turn (failure_marks i g) _ (failure_quiet i g)
-follow before c g turn outcome.Ended = quiet the_coordinator before c.locks.holds _ tt
+follow before c g turn outcome.Ended = no-lock the_coordinator before c.locks _ tt
 
 commit : (before : List Mark) (c : Coord) (g : Gxid) → Holding before c (commits c g)
 commit before c g = follow before c g (on_commit c.table g (work_of c g).writers) _
@@ -110,7 +118,7 @@ commit before c g = follow before c g (on_commit c.table g (work_of c g).writers
 -- COMMANDS
 pub record ReadsStill (l : Locks) (r : Reading) : Type 0 where
   pub locks : r.coord.locks ≡ l
-  pub marks : Each Quiet r.marks
+  pub marks : Each NoLock r.marks
 
 read_by : (c : Coord) (g : Gxid) (cid : Cid) (w : Work) (x : Option Snapshot) → ReadsStill c.locks (reads_by c g cid w x)
 read_by c g cid w None = record { locks = refl; marks = (tt, tt) }
@@ -126,7 +134,7 @@ read_for c g cid w (stmt.Insert t x) = read_by c g cid w w.snapshot
 read_for c g cid w (stmt.Update t x y) = read_by c g cid w w.snapshot
 read_for c g cid w (stmt.Delete t x) = read_by c g cid w w.snapshot
 
-fault_quiet : (g : Gxid) (cid : Cid) (line : Stmt) → Each Quiet (fault_mark g cid line)
+fault_quiet : (g : Gxid) (cid : Cid) (line : Stmt) → Each NoLock (fault_mark g cid line)
 fault_quiet g cid (stmt.Insert t x) = (tt, tt)
 fault_quiet g cid (stmt.Begin level) = tt
 fault_quiet g cid stmt.Commit = tt
@@ -139,72 +147,61 @@ fault_quiet g cid (stmt.Lock t m) = tt
 go : (before : List Mark) (c : Coord) (g : Gxid) (cid : Cid) (line : Stmt) (r : Reading) (plan : Result (List Piece) ArithFault) → ReadsStill c.locks r → Holding before c (goes g cid line r plan)
 go before c g cid line r (Ok pieces) e = still before c (goes_out g cid line pieces r) e.locks e.marks
 go before c g cid line r (Err f) e =
-    subst (λ (l : Locks). Locking the_coordinator before l.holds (goes g cid line r (Err f)).marks (goes g cid line r (Err f)).coord.locks.holds) e.locks
-    (refused before r.coord g (on_abort r.coord.table g) (r.marks ++ fault_mark g cid line) _ (each_append Quiet r.marks (fault_mark g cid line) e.marks (fault_quiet g cid line)))
+    subst (λ (l : Locks). Locking the_coordinator before l (goes g cid line r (Err f)).marks (goes g cid line r (Err f)).coord.locks) e.locks
+    (refused before r.coord g (on_abort r.coord.table g) (r.marks ++ fault_mark g cid line) _ (each_append NoLock r.marks (fault_mark g cid line) e.marks (fault_quiet g cid line)))
 
 go_locked : (script : Script) (before : List Mark) (c : Coord) (g : Gxid) (line : Stmt) → Holding before c (goes_on_locked script c g line)
 go_locked script before c g line =
     go before c g (next_cid (work_of c g)) line _ (plan_of script.segments (dist_of script.tables (table_of line)) g (next_cid (work_of c g)) line) (read_for c g (next_cid (work_of c g)) (work_of c g) line)
 
 -- with its table's lock
-go_held : (script : Script) (before : List Mark) (c d : Coord) (g : Gxid) (line : Stmt) (wanted : Claim) → is_free c.locks.holds wanted ≡ true → d.locks.holds ≡ held c.locks.holds wanted → Holding before c (behind (hold_mark the_coordinator wanted ∷ []) (goes_on_locked script d g line))
-go_held script before c d g line wanted free same =
-    both the_coordinator before c.locks.holds (hold_mark the_coordinator wanted ∷ []) (held c.locks.holds wanted) (goes_on_locked script d g line).marks _ (grant the_coordinator before c.locks.holds wanted free)
-    (subst (λ h. Locking the_coordinator (before ++ hold_mark the_coordinator wanted ∷ []) h (goes_on_locked script d g line).marks (goes_on_locked script d g line).coord.locks.holds) same
-    (go_locked script (before ++ hold_mark the_coordinator wanted ∷ []) d g line))
+go_held : (script : Script) (before : List Mark) (c d : Coord) (g : Gxid) (line : Stmt) (wanted : Claim) → Locking the_coordinator before c.locks (hold_mark the_coordinator wanted ∷ []) d.locks
+    → Holding before c (behind (hold_mark the_coordinator wanted ∷ []) (goes_on_locked script d g line))
+go_held script before c d g line wanted e =
+    both the_coordinator before c.locks (hold_mark the_coordinator wanted ∷ []) d.locks (goes_on_locked script d g line).marks _ e (go_locked script (before ++ hold_mark the_coordinator wanted ∷ []) d g line)
 
-request : (script : Script) (before : List Mark) (c : Coord) (g : Gxid) (line : Stmt) (o : Option Claim) → Holding before c (requests script c g line o)
-request script before c g line None = go_locked script before c g line
-request script before c g line (Some wanted) = by_test (is_free c.locks.holds wanted) refl
+-- whose transaction has no wait here
+request : (script : Script) (before : List Mark) (c : Coord) (g : Gxid) (line : Stmt) → wait_of c.locks g ≡ None → (o : Option Claim) → lock_for script g line ≡ o
+    → Holding before c (requests script c g line o)
+request script before c g line none None e = go_locked script before c g line
+request script before c g line none (Some wanted) e = by_test (is_free c.locks.holds wanted) refl
   where
+    none-own : wait_of c.locks wanted.gxid ≡ None
+    none-own = ap (wait_of c.locks) (lock-of script g line wanted e) ∙ none
+
     by_test : (b : Bool) → is_free c.locks.holds wanted ≡ b → Holding before c (if_granted script c g line wanted b)
-    by_test true e = go_held script before c (record c { locks = with_hold c.locks wanted }) g line wanted e refl
-    by_test false e = quiet the_coordinator before c.locks.holds _ (tt, tt)
+    by_test true f = go_held script before c (record c { locks = with_hold c.locks wanted }) g line wanted (grant the_coordinator before c.locks wanted f none-own)
+    by_test false f = wait the_coordinator before c.locks wanted f none-own
 
-dispatch : (script : Script) (before : List Mark) (c : Coord) (g : Gxid) (line : Stmt) → Holding before c (dispatches script c g line)
-dispatch script before c g line = request script before c g line (lock_for g line)
+dispatch : (script : Script) (before : List Mark) (c : Coord) (g : Gxid) (line : Stmt) → wait_of c.locks g ≡ None → Holding before c (dispatches script c g line)
+dispatch script before c g line none = request script before c g line none (lock_for script g line) refl
 
-resume : (script : Script) (before : List Mark) (c : Coord) (g : Gxid) (w : Option Claim) (line : Option Stmt) → is_ready c.locks.holds w ≡ true → Holding before c (resumes script c g w line)
-resume script before c g (Some wanted) (Some line) e =
-    go_held script before c (with_work (record c { locks = resumed c.locks g (Some wanted) }) g (record (work_of c g) { waiting = None })) g line wanted e refl
-resume script before c g (Some wanted) None e = rest before c
-resume script before c g None line e = rest before c
+-- whose transaction has one wait here
+resume : (script : Script) (before : List Mark) (c : Coord) (g : Gxid) (w : Option Claim) (line : Option Stmt)
+    → ((wanted : Claim) → w ≡ Some wanted → filter (is_of g) c.locks.waits ≡ wanted ∷ []) → is_ready c.locks.holds w ≡ true
+    → Holding before c (resumes script c g w line)
+resume script before c g (Some wanted) (Some line) e free =
+    go_held script before c (with_work (record c { locks = resumed c.locks g (Some wanted) }) g (record (work_of c g) { waiting = None })) g line wanted (resumption the_coordinator before c.locks g wanted free (e wanted refl))
+resume script before c g (Some wanted) None e free = rest before c
+resume script before c g None line e free = rest before c
 
 -- LINES
-rolled : (before : List Mark) (c : Coord) (g : Gxid) (marks : List Mark) (turn : Turn) → Each Quiet marks → Holding before c (rolls_back c g marks turn)
+rolled : (before : List Mark) (c : Coord) (g : Gxid) (marks : List Mark) (turn : Turn) → Each NoLock marks → Holding before c (rolls_back c g marks turn)
 rolled before c g marks turn e = back before c g (mark.Abort g ∷ marks) (tt, e) (or-first (is_same_gxid g g) _ _ (gxid-itself g))
   where
     or-first : (b x y : Bool) → b ≡ true → (x || (b || y)) ≡ true
     or-first b x y e = grind arith
 
-line_done : (script : Script) (before : List Mark) (c : Coord) (s : SessionId) (line : Stmt) (asked : LineStep) → Holding before c (on_line script c s line asked)
-line_done script before c s line (step.Answer plain) = quiet the_coordinator before c.locks.holds _ (tt, tt)
-line_done script before c s line step.Refuse5 = quiet the_coordinator before c.locks.holds _ (tt, tt)
-line_done script before c s line step.Refuse7 = quiet the_coordinator before c.locks.holds _ (tt, tt)
-line_done script before c s line (step.BeginBlock level) = quiet the_coordinator before c.locks.holds _ (tt, (tt, tt))
-line_done script before c s line step.CommitBlock = commit before c (session_of c s).transaction
-line_done script before c s line step.RollbackBlock = rolled before c (session_of c s).transaction (answer_mark c s told.Rollback ∷ []) (on_abort c.table (session_of c s).transaction) (tt, tt)
-line_done script before c s line (step.Command true) =
-    pushed before c (mark.Start c.table.next s ∷ []) (dispatches script (begins c s ReadCommitted) c.table.next line) (tt, tt)
-    (dispatch script (before ++ mark.Start c.table.next s ∷ []) (begins c s ReadCommitted) c.table.next line)
-line_done script before c s line (step.Command false) = dispatch script before c (session_of c s).transaction line
-
-start : (script : Script) (before : List Mark) (c : Coord) (s : SessionId) (line : Option Stmt) → Holding before c (starts script c s line)
-start script before c s None = rest before c
-start script before c s (Some line) =
-    let asked = line_step (session_of c s).state.block line in
-    line_done script before (starts_line c s asked) s line asked
-
 end : (before : List Mark) (c : Coord) (s : SessionId) (b : Block) → Holding before c (ends_in c s b)
 end before c s (block.Open level) = rolled before (with_state c s idle_outside) (session_of c s).transaction [] (on_abort c.table (session_of c s).transaction) tt
-end before c s block.Failed = quiet the_coordinator before c.locks.holds _ tt
+end before c s block.Failed = no-lock the_coordinator before c.locks _ tt
 end before c s block.Outside = rest before c
 
 -- ANSWERS OF SEGMENTS
 complete : (before : List Mark) (c : Coord) (g : Gxid) (b : Block) → Holding before c (completes c g b)
 complete before c g block.Outside = commit before c g
-complete before c g (block.Open level) = quiet the_coordinator before c.locks.holds _ (tt, tt)
-complete before c g block.Failed = quiet the_coordinator before c.locks.holds _ (tt, tt)
+complete before c g (block.Open level) = no-lock the_coordinator before c.locks _ (tt, tt)
+complete before c g block.Failed = no-lock the_coordinator before c.locks _ (tt, tt)
 
 go_on : (before : List Mark) (c : Coord) (g : Gxid) (left : List Node) → Holding before c (goes_on c g left)
 go_on before c g [] = complete before c g (session_of c (work_of c g).session).state.block
@@ -246,13 +243,43 @@ message_taken before c from fails (message.Graph round graph) = rest before c
 
 again : (before : List Mark) (c : Coord) (i : Node) (m : Option Message) → Holding before c (resends c i m)
 again before c i None = rest before c
-again before c i (Some told) = quiet the_coordinator before c.locks.holds _ tt
+again before c i (Some told) = no-lock the_coordinator before c.locks _ tt
 
-pub event-holds : (script : Script) (before : List Mark) (c : Coord) (e : NodeEvent) (fails : Bool) → coord_can script c e ≡ true → Holding before c (on_event script c e fails)
-event-holds script before c (event.Deliver from envelope) fails ok = message_taken before c from fails envelope.message
-event-holds script before c (event.Start s) fails ok = start script before c s (next_line script c s)
-event-holds script before c (event.End s) fails ok = end before c s (session_of c s).state.block
-event-holds script before c (event.Resend i (Some g)) fails ok = again before c i (awaited c g i)
-event-holds script before c (event.Resend i None) fails ok = rest before c
-event-holds script before c (event.Resume g) fails ok = resume script before c g (wait_of c.locks g) (work_of c g).waiting ok
-event-holds script before c event.Round fails ok = rest before c
+-- who is idle in its block, and who is to begin, has no wait here; and nobody has two
+pub record AreSingle (c : Coord) : Type 0 where
+  pub new : wait_of c.locks c.table.next ≡ None
+  pub idle : (s : SessionId) → is_idle (session_of c s) ≡ true → is_open_in (session_of c s).state.block ≡ true → wait_of c.locks (session_of c s).transaction ≡ None
+  pub once : (g : Gxid) (wanted : Claim) → wait_of c.locks g ≡ Some wanted → filter (is_of g) c.locks.waits ≡ wanted ∷ []
+
+module _ (script : Script) (before : List Mark) (c : Coord) (single : AreSingle c) where
+  transaction-now : (s : SessionId) (asked : LineStep) → (session_of (starts_line c s asked) s).transaction ≡ (session_of c s).transaction
+  transaction-now s asked = ap (λ (q : Bool). (if q then record (session_of c s) { lines = (session_of c s).lines + 1; state = after_line (session_of c s).state.block asked } else session_of c s).transaction) (eqb-self s.0)
+
+  line-done : (s : SessionId) → is_idle (session_of c s) ≡ true → (line : Stmt) (asked : LineStep) → Admits (session_of c s).state.block asked
+      → Holding before c (on_line script (starts_line c s asked) s line asked)
+  line-done s idle line (step.Answer plain) a = no-lock the_coordinator before c.locks _ (tt, tt)
+  line-done s idle line step.Refuse5 a = no-lock the_coordinator before c.locks _ (tt, tt)
+  line-done s idle line step.Refuse7 a = no-lock the_coordinator before c.locks _ (tt, tt)
+  line-done s idle line (step.BeginBlock level) a = no-lock the_coordinator before c.locks _ (tt, (tt, tt))
+  line-done s idle line step.CommitBlock a = commit before (starts_line c s step.CommitBlock) (session_of (starts_line c s step.CommitBlock) s).transaction
+  line-done s idle line step.RollbackBlock a =
+      rolled before (starts_line c s step.RollbackBlock) (session_of (starts_line c s step.RollbackBlock) s).transaction (answer_mark (starts_line c s step.RollbackBlock) s told.Rollback ∷ [])
+      (on_abort c.table (session_of (starts_line c s step.RollbackBlock) s).transaction) (tt, tt)
+  line-done s idle line (step.Command true) a =
+      pushed before c (mark.Start c.table.next s ∷ []) (dispatches script (begins (starts_line c s (step.Command true)) s ReadCommitted) c.table.next line) (tt, tt)
+      (dispatch script (before ++ mark.Start c.table.next s ∷ []) (begins (starts_line c s (step.Command true)) s ReadCommitted) c.table.next line single.new)
+  line-done s idle line (step.Command false) a =
+      dispatch script before (starts_line c s (step.Command false)) (session_of (starts_line c s (step.Command false)) s).transaction line (ap (wait_of c.locks) (transaction-now s (step.Command false)) ∙ single.idle s idle a)
+
+  start : (s : SessionId) → is_idle (session_of c s) ≡ true → (line : Option Stmt) → Holding before c (starts script c s line)
+  start s idle None = rest before c
+  start s idle (Some line) = line-done s idle line (line_step (session_of c s).state.block line) (admits (session_of c s).state.block line)
+
+  pub event-holds : (e : NodeEvent) (fails : Bool) → coord_can script c e ≡ true → Holding before c (on_event script c e fails)
+  event-holds (event.Deliver from envelope) fails ok = message_taken before c from fails envelope.message
+  event-holds (event.Start s) fails ok = start s (and-first _ _ ok) (next_line script c s)
+  event-holds (event.End s) fails ok = end before c s (session_of c s).state.block
+  event-holds (event.Resend i (Some g)) fails ok = again before c i (awaited c g i)
+  event-holds (event.Resend i None) fails ok = rest before c
+  event-holds (event.Resume g) fails ok = resume script before c g (wait_of c.locks g) (work_of c g).waiting (single.once g) ok
+  event-holds event.Round fails ok = rest before c

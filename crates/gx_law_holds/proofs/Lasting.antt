@@ -21,8 +21,8 @@ use Rattle.gx_store.specs.Marks.{is_ended}
 use Rattle.gx_store.specs.Waits.{added, claim, holds_at, is_held, without}
 use Rattle.gx_law_order.proofs.Lists.{Each}
 use Rattle.gx_law_holds.specs.Late.{AreReleasesLate}
+use Rattle.gx_law_holds.proofs.Claims.{claim-itself}
 use Rattle.gx_law_holds.proofs.Marks.{Quiet, ended-more, node-itself, quiet-holds}
-use Rattle.gx_law_holds.proofs.Released.{claim-itself}
 
 abbrev pub IsIn : List Claim → Claim → Type 0
 IsIn holds c = list_any (same_claim c) holds ≡ true

@@ -1,48 +1,64 @@
--- What marks of locks make of a node's holds.
-use Rattle.std.proofs.Common.{◌≡◌, ◌==◌, ◌||◌, Bool, true, false, not, List, [], ◌∷◌, ◌++◌, refl, sym, subst, ap, ◌∙◌, if◌then◌else◌, append_assoc, append-nil, arith}
+-- What marks of locks make of a node's holds and waits.
+use Rattle.std.proofs.Common.{◌≡◌, ◌==◌, ◌||◌, Bool, true, false, List, [], ◌∷◌, ◌++◌, None, Some, refl, sym, subst, ap, ◌∙◌, if◌then◌else◌, append_assoc, append-nil, arith}
 use Rattle.std.proofs.lemmas.Bool.Decides.{nat_tests}
-use Rattle.std.proofs.lemmas.List.Elements.{All-cons, All-nil}
-use Rattle.std.specs.List.{list_any}
-use Rattle.std.specs.Prelude.{All}
-use Rattle.gx_lemmas.proofs.Tests.{true-false}
+use Rattle.std.specs.Prelude.{filter, find}
 use Rattle.gx_ids.specs.declared.ids.Gxid.{Gxid}
 use Rattle.gx_ids.specs.declared.ids.Node.{Node}
-use Rattle.gx_waits.specs.Claim.{Meets, meets}
 use Rattle.gx_waits.specs.declared.claim.Claim.{Claim}
-use Rattle.gx_locks.proofs.Meets.{test_from_Meets}
-use Rattle.gx_locks.specs.Locks.{held, is_free}
+use Rattle.gx_locks.specs.Claims.{is_of}
+use Rattle.gx_locks.specs.Locks.{Locks, is_free, resumed, wait_of}
 use Rattle.gx_script.specs.declared.Script.{Script}
 use Rattle.gx_store.proofs.Exclusive.{holds_from-append}
 use Rattle.gx_store.specs.declared.mark.Mark.{Mark}
 use Rattle.gx_store.specs.declared.mark.Mark.TheVariants as mark
 use Rattle.gx_store.specs.Journals.{is_same_node}
-use Rattle.gx_store.specs.Locks.{AreGranted, LegalHold}
 use Rattle.gx_store.specs.Marks.{is_aborted, is_committed, is_ended}
 use Rattle.gx_store.specs.Ordered.{IsAtNode}
-use Rattle.gx_store.specs.Waits.{added, claim, holds_at, holds_from, without}
-use Rattle.gx_rules.specs.Locks.{hold_mark}
-use Rattle.gx_law_order.proofs.Lists.{Each}
+use Rattle.gx_store.specs.Waits.{added, claim, holds_from, waits_from, without}
+use Rattle.gx_rules.specs.Locks.{hold_mark, wait_mark, with_hold, with_wait}
+use Rattle.gx_law_order.proofs.Lists.{Each, each_weaker}
 use Rattle.gx_law_order.proofs.Past.{aborted-append, committed-append}
 use Rattle.gx_law_holds.specs.Late.{AreReleasesLate}
+use Rattle.gx_law_holds.proofs.Claims.{not-among, without-none, without-only}
 
--- each hold among these marks of a node is free where it stands
-abbrev pub AreFree : Node → List Claim → List Mark → Type 0
-AreFree node holds [] = Unit {0}
-AreFree node holds (mark.Hold n g object mode ∷ ms) = (is_free holds (claim g object mode) ≡ true) × AreFree node (holds_from node holds (mark.Hold n g object mode ∷ [])) ms
-AreFree node holds (m ∷ ms) = AreFree node (holds_from node holds (m ∷ [])) ms
+-- who begins to wait meets one of these holds, and has none of these waits
+pub record Begins (holds waits : List Claim) (wanted : Claim) : Type 0 where
+  pub met : is_free holds wanted ≡ false
+  pub alone : find (is_of wanted.gxid) waits ≡ None
 
--- marks of a node lead from these holds to those
-pub record Locking (node : Node) (before : List Mark) (holds : List Claim) (marks : List Mark) (left : List Claim) : Type 0 where
-  pub leads : holds_from node holds marks ≡ left
-  pub free : AreFree node holds marks
+-- each hold among these marks of a node is free where it stands, and each wait begins so
+abbrev pub AreRight : Node → List Claim → List Claim → List Mark → Type 0
+AreRight node holds waits [] = Unit {0}
+AreRight node holds waits (mark.Wait n g object mode ∷ ms) = Begins holds waits (claim g object mode) × AreRight node holds (waits_from node waits (mark.Wait n g object mode ∷ [])) ms
+AreRight node holds waits (mark.Hold n g object mode ∷ ms) =
+    (is_free holds (claim g object mode) ≡ true) × AreRight node (holds_from node holds (mark.Hold n g object mode ∷ [])) (waits_from node waits (mark.Hold n g object mode ∷ [])) ms
+AreRight node holds waits (mark.Release n g object mode ∷ ms) = AreRight node (holds_from node holds (mark.Release n g object mode ∷ [])) (waits_from node waits (mark.Release n g object mode ∷ [])) ms
+AreRight node holds waits (m ∷ ms) = AreRight node holds waits ms
+
+-- marks of a node lead from these locks to those
+pub record Locking (node : Node) (before : List Mark) (from : Locks) (marks : List Mark) (to : Locks) : Type 0 where
+  pub holds : holds_from node from.holds marks ≡ to.holds
+  pub waits : waits_from node from.waits marks ≡ to.waits
+  pub right : AreRight node from.holds from.waits marks
   pub late : AreReleasesLate before marks
 
 -- MARKS IN TWO PARTS
-free-append : (node : Node) (holds : List Claim) (xs ys : List Mark) → AreFree node holds xs → AreFree node (holds_from node holds xs) ys → AreFree node holds (xs ++ ys)
-free-append node holds [] ys e f = f
-free-append node holds (mark.Hold n g object mode ∷ xs) ys e f = (e.0, free-append node (holds_from node holds (mark.Hold n g object mode ∷ [])) xs ys e.1 f)
-free-append node holds (mark.Release n g object mode ∷ xs) ys e f = free-append node (holds_from node holds (mark.Release n g object mode ∷ [])) xs ys e f
-free-append node holds (m ∷ xs) ys e f = free-append node holds xs ys e f
+pub waits_from-append : (node : Node) (waits : List Claim) (xs ys : List Mark) → waits_from node waits (xs ++ ys) ≡ waits_from node (waits_from node waits xs) ys
+waits_from-append node waits [] ys = refl
+waits_from-append node waits (mark.Wait n g object mode ∷ xs) ys = waits_from-append node (if n.0 == node.0 then added (claim g object mode) waits else waits) xs ys
+waits_from-append node waits (mark.Hold n g object mode ∷ xs) ys = waits_from-append node (if n.0 == node.0 then without (claim g object mode) waits else waits) xs ys
+waits_from-append node waits (mark.Release n g object mode ∷ xs) ys = waits_from-append node (if n.0 == node.0 then without (claim g object mode) waits else waits) xs ys
+waits_from-append node waits (m ∷ xs) ys = waits_from-append node waits xs ys
+
+right-append : (node : Node) (holds waits : List Claim) (xs ys : List Mark) → AreRight node holds waits xs → AreRight node (holds_from node holds xs) (waits_from node waits xs) ys
+    → AreRight node holds waits (xs ++ ys)
+right-append node holds waits [] ys e f = f
+right-append node holds waits (mark.Wait n g object mode ∷ xs) ys e f = (e.0, right-append node holds (waits_from node waits (mark.Wait n g object mode ∷ [])) xs ys e.1 f)
+right-append node holds waits (mark.Hold n g object mode ∷ xs) ys e f =
+    (e.0, right-append node (holds_from node holds (mark.Hold n g object mode ∷ [])) (waits_from node waits (mark.Hold n g object mode ∷ [])) xs ys e.1 f)
+right-append node holds waits (mark.Release n g object mode ∷ xs) ys e f =
+    right-append node (holds_from node holds (mark.Release n g object mode ∷ [])) (waits_from node waits (mark.Release n g object mode ∷ [])) xs ys e f
+right-append node holds waits (m ∷ xs) ys e f = right-append node holds waits xs ys e f
 
 pub late-append : (before xs ys : List Mark) → AreReleasesLate before xs → AreReleasesLate (before ++ xs) ys → AreReleasesLate before (xs ++ ys)
 late-append before [] ys e f = subst (λ b. AreReleasesLate b ys) (append-nil before) f
@@ -50,11 +66,13 @@ late-append before (mark.Release n g object mode ∷ xs) ys e f =
     (e.0, late-append (before ++ mark.Release n g object mode ∷ []) xs ys e.1 (subst (λ b. AreReleasesLate b ys) (sym (append_assoc before (mark.Release n g object mode ∷ []) xs)) f))
 late-append before (m ∷ xs) ys e f = late-append (before ++ m ∷ []) xs ys e (subst (λ b. AreReleasesLate b ys) (sym (append_assoc before (m ∷ []) xs)) f)
 
-pub both : (node : Node) (before : List Mark) (holds : List Claim) (xs : List Mark) (mid : List Claim) (ys : List Mark) (left : List Claim) → Locking node before holds xs mid → Locking node (before ++ xs) mid ys left → Locking node before holds (xs ++ ys) left
-both node before holds xs mid ys left e f =
+pub both : (node : Node) (before : List Mark) (a : Locks) (xs : List Mark) (b : Locks) (ys : List Mark) (c : Locks) → Locking node before a xs b → Locking node (before ++ xs) b ys c
+    → Locking node before a (xs ++ ys) c
+both node before a xs b ys c e f =
     record {
-      leads = holds_from-append node holds xs ys ∙ ap (λ h. holds_from node h ys) e.leads ∙ f.leads;
-      free = free-append node holds xs ys e.free (subst (λ h. AreFree node h ys) (sym e.leads) f.free);
+      holds = holds_from-append node a.holds xs ys ∙ ap (λ h. holds_from node h ys) e.holds ∙ f.holds;
+      waits = waits_from-append node a.waits xs ys ∙ ap (λ h. waits_from node h ys) e.waits ∙ f.waits;
+      right = right-append node a.holds a.waits xs ys e.right (subst (λ h. AreRight node h (waits_from node a.waits xs) ys) (sym e.holds) (subst (λ h. AreRight node b.holds h ys) (sym e.waits) f.right));
       late = late-append before xs ys e.late f.late;
     }
 
@@ -70,26 +88,79 @@ quiet-holds node holds (mark.Hold n g object mode ∷ ms) e = absurd e.0
 quiet-holds node holds (mark.Release n g object mode ∷ ms) e = absurd e.0
 quiet-holds node holds (m ∷ ms) e = quiet-holds node holds ms e.1
 
-quiet-free : (node : Node) (holds : List Claim) (ms : List Mark) → Each Quiet ms → AreFree node holds ms
-quiet-free node holds [] e = tt
-quiet-free node holds (mark.Hold n g object mode ∷ ms) e = absurd e.0
-quiet-free node holds (mark.Release n g object mode ∷ ms) e = absurd e.0
-quiet-free node holds (m ∷ ms) e = quiet-free node holds ms e.1
-
 pub quiet-late : (before ms : List Mark) → Each Quiet ms → AreReleasesLate before ms
 quiet-late before [] e = tt
 quiet-late before (mark.Release n g object mode ∷ ms) e = absurd e.0
 quiet-late before (m ∷ ms) e = quiet-late (before ++ m ∷ []) ms e.1
 
-pub quiet : (node : Node) (before : List Mark) (holds : List Claim) (ms : List Mark) → Each Quiet ms → Locking node before holds ms holds
-quiet node before holds ms e = record { leads = quiet-holds node holds ms e; free = quiet-free node holds ms e; late = quiet-late before ms e }
+-- MARKS THAT TELL OF NO LOCK
+abbrev pub NoLock : Mark → Type 0
+NoLock (mark.Wait n g object mode) = ⊥
+NoLock m = Quiet m
 
--- A GRANT
+pub no-lock-quiet : (m : Mark) → NoLock m → Quiet m
+no-lock-quiet (mark.Wait n g object mode) e = absurd e
+no-lock-quiet m e = e
+
+no-lock-waits : (node : Node) (waits : List Claim) (ms : List Mark) → Each NoLock ms → waits_from node waits ms ≡ waits
+no-lock-waits node waits [] e = refl
+no-lock-waits node waits (mark.Hold n g object mode ∷ ms) e = absurd e.0
+no-lock-waits node waits (mark.Wait n g object mode ∷ ms) e = absurd e.0
+no-lock-waits node waits (mark.Release n g object mode ∷ ms) e = absurd e.0
+no-lock-waits node waits (m ∷ ms) e = no-lock-waits node waits ms e.1
+
+no-lock-right : (node : Node) (holds waits : List Claim) (ms : List Mark) → Each NoLock ms → AreRight node holds waits ms
+no-lock-right node holds waits [] e = tt
+no-lock-right node holds waits (mark.Hold n g object mode ∷ ms) e = absurd e.0
+no-lock-right node holds waits (mark.Wait n g object mode ∷ ms) e = absurd e.0
+no-lock-right node holds waits (mark.Release n g object mode ∷ ms) e = absurd e.0
+no-lock-right node holds waits (m ∷ ms) e = no-lock-right node holds waits ms e.1
+
+pub no-lock : (node : Node) (before : List Mark) (l : Locks) (ms : List Mark) → Each NoLock ms → Locking node before l ms l
+no-lock node before l ms e =
+    record {
+      holds = quiet-holds node l.holds ms (each_weaker NoLock Quiet no-lock-quiet ms e);
+      waits = no-lock-waits node l.waits ms e;
+      right = no-lock-right node l.holds l.waits ms e;
+      late = quiet-late before ms (each_weaker NoLock Quiet no-lock-quiet ms e);
+    }
+
+-- ONE MARK OF A LOCK
 pub node-itself : (node : Node) → (node.0 == node.0) ≡ true
 node-itself node = grind (arith, nat_tests)
 
-pub grant : (node : Node) (before : List Mark) (holds : List Claim) (wanted : Claim) → is_free holds wanted ≡ true → Locking node before holds (hold_mark node wanted ∷ []) (held holds wanted)
-grant node before holds wanted e = record { leads = ap (λ b. if b then added wanted holds else holds) (node-itself node); free = (e, tt); late = tt }
+-- a lock is granted to who has no wait there
+pub grant : (node : Node) (before : List Mark) (l : Locks) (wanted : Claim) → is_free l.holds wanted ≡ true → wait_of l wanted.gxid ≡ None
+    → Locking node before l (hold_mark node wanted ∷ []) (with_hold l wanted)
+grant node before l wanted free e =
+    record {
+      holds = ap (λ b. if b then added wanted l.holds else l.holds) (node-itself node);
+      waits = ap (λ b. if b then without wanted l.waits else l.waits) (node-itself node) ∙ without-none wanted l.waits e;
+      right = (free, tt);
+      late = tt;
+    }
+
+-- who has no wait there begins to wait
+pub wait : (node : Node) (before : List Mark) (l : Locks) (wanted : Claim) → is_free l.holds wanted ≡ false → wait_of l wanted.gxid ≡ None
+    → Locking node before l (wait_mark node wanted ∷ []) (with_wait l wanted)
+wait node before l wanted met e =
+    record {
+      holds = refl;
+      waits = ap (λ b. if b then added wanted l.waits else l.waits) (node-itself node) ∙ ap (λ b. if b then l.waits else l.waits ++ wanted ∷ []) (not-among wanted l.waits e);
+      right = (record { met = met; alone = e }, tt);
+      late = tt;
+    }
+
+-- what a transaction has waited for, its only wait there, is granted
+pub resumption : (node : Node) (before : List Mark) (l : Locks) (g : Gxid) (wanted : Claim) → is_free l.holds wanted ≡ true → filter (is_of g) l.waits ≡ wanted ∷ []
+    → Locking node before l (hold_mark node wanted ∷ []) (resumed l g (Some wanted))
+resumption node before l g wanted free e =
+    record {
+      holds = ap (λ b. if b then added wanted l.holds else l.holds) (node-itself node);
+      waits = ap (λ b. if b then without wanted l.waits else l.waits) (node-itself node) ∙ without-only g wanted l.waits e;
+      right = (free, tt);
+      late = tt;
+    }
 
 -- ENDS
 or-left : (a b c d : Bool) → (a || b) ≡ true → ((a || c) || (b || d)) ≡ true
@@ -117,22 +188,12 @@ other-holds script here other holds (mark.Release m g object mode ∷ ms) n e =
     ap (λ b. holds_from other (if b then without (claim g object mode) holds else holds) ms) (ap (λ x. is_same_node x other) e.0 ∙ n) ∙ other-holds script here other holds ms n e.1
 other-holds script here other holds (m ∷ ms) n e = other-holds script here other holds ms n e.1
 
--- LEGAL HOLDS
-not-both : (a b : Bool) → not (a || b) ≡ true → (a ≡ false) × (not b ≡ true)
-not-both true b e = absurd (cc)
-not-both false b e = (refl, e)
-
-pub free-meets : (wanted : Claim) (holds : List Claim) → is_free holds wanted ≡ true → All (λ hold. Meets wanted hold → ⊥) holds
-free-meets wanted [] e = All-nil (λ hold. Meets wanted hold → ⊥)
-free-meets wanted (h ∷ hs) e =
-    let two = not-both (meets wanted h) (list_any (meets wanted) hs) e in
-    All-cons (λ hold. Meets wanted hold → ⊥) h hs (λ m. true-false (meets wanted h) (test_from_Meets wanted h m) two.0) (free-meets wanted hs two.1)
-
-pub free-granted : (script : Script) (node : Node) (marks ms : List Mark) → Each (IsAtNode script node) ms → AreFree node (holds_at marks node) ms → AreGranted marks ms
-free-granted script node marks [] e f = tt
-free-granted script node marks (mark.Hold n g object mode ∷ ms) e f = (
-  subst (λ (k : Node). LegalHold marks k (claim g object mode)) (sym e.0) (free-meets (claim g object mode) (holds_at marks node) f.0),
-  free-granted script node (marks ++ mark.Hold n g object mode ∷ []) ms e.1 (subst (λ h. AreFree node h ms) (sym (holds_from-append node [] marks (mark.Hold n g object mode ∷ []))) f.1),
-)
-free-granted script node marks (m ∷ ms) e f =
-    free-granted script node (marks ++ m ∷ []) ms e.1 (subst (λ h. AreFree node h ms) (sym (holds_from-append node [] marks (m ∷ []))) f)
+pub other-waits : (script : Script) (here other : Node) (waits : List Claim) (ms : List Mark) → is_same_node here other ≡ false → Each (IsAtNode script here) ms → waits_from other waits ms ≡ waits
+other-waits script here other waits [] n e = refl
+other-waits script here other waits (mark.Wait m g object mode ∷ ms) n e =
+    ap (λ b. waits_from other (if b then added (claim g object mode) waits else waits) ms) (ap (λ x. is_same_node x other) e.0 ∙ n) ∙ other-waits script here other waits ms n e.1
+other-waits script here other waits (mark.Hold m g object mode ∷ ms) n e =
+    ap (λ b. waits_from other (if b then without (claim g object mode) waits else waits) ms) (ap (λ x. is_same_node x other) e.0 ∙ n) ∙ other-waits script here other waits ms n e.1
+other-waits script here other waits (mark.Release m g object mode ∷ ms) n e =
+    ap (λ b. waits_from other (if b then without (claim g object mode) waits else waits) ms) (ap (λ x. is_same_node x other) e.0 ∙ n) ∙ other-waits script here other waits ms n e.1
+other-waits script here other waits (m ∷ ms) n e = other-waits script here other waits ms n e.1

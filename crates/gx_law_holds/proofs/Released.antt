@@ -1,4 +1,4 @@
--- What a transaction gives back at its end is all that it holds, and nothing else.
+-- What a transaction gives back at its end is all that it holds and waits for, and nothing else.
 use Rattle.std.proofs.Common.{◌≡◌, ◌==◌, ◌||◌, ◌&&◌, ℕ, Bool, true, false, not, cond, List, [], ◌∷◌, ◌++◌, refl, sym, subst, ap, ◌∙◌, if◌then◌else◌, arith}
 use Rattle.std.proofs.lemmas.Bool.Decides.{nat_tests}
 use Rattle.std.proofs.lemmas.List.Folds.{list_any-append}
@@ -6,25 +6,23 @@ use Rattle.std.specs.List.{list_any}
 use Rattle.std.specs.Ordering.{is_gt}
 use Rattle.std.specs.Prelude.{filter, map}
 use Rattle.std.specs.declared.cmp.Ordering.{Ordering}
-use Rattle.std.proofs.lemmas.Bool.{or_from, or_right}
-use Rattle.gx_lemmas.proofs.Numbers.{eqb-self}
+use Rattle.std.proofs.lemmas.Bool.{or_from, or_left, or_right}
 use Rattle.gx_ids.specs.declared.ids.Gxid.{Gxid}
 use Rattle.gx_ids.specs.declared.ids.Node.{Node}
-use Rattle.gx_modes.specs.Table.{number_of}
-use Rattle.gx_waits.specs.Claim.{same_claim, same_object}
+use Rattle.gx_waits.specs.Claim.{same_claim}
 use Rattle.gx_waits.specs.declared.claim.Claim.{Claim}
-use Rattle.gx_locks.proofs.Meets.{same_object-itself}
 use Rattle.gx_locks.specs.Claims.{is_of}
 use Rattle.gx_locks.specs.Locks.{Locks}
 use Rattle.gx_locks.specs.Locks as locks
 use Rattle.gx_meaning.specs.Order.{in_order, placed}
 use Rattle.gx_store.specs.declared.mark.Mark.{Mark}
 use Rattle.gx_store.specs.Marks.{is_ended}
-use Rattle.gx_store.specs.Waits.{holds_from, without}
-use Rattle.gx_rules.specs.Locks.{claim_order, has_there, release_mark, release_marks}
+use Rattle.gx_store.specs.Waits.{holds_from, waits_from, without}
+use Rattle.gx_rules.specs.Locks.{claim_order, has_there, release_mark, release_marks, released}
 use Rattle.gx_law_order.proofs.Lists.{Each, each_append, each_weaker}
 use Rattle.gx_law_holds.specs.Late.{AreReleasesLate}
-use Rattle.gx_law_holds.proofs.Marks.{AreFree, Locking, ended-more, node-itself}
+use Rattle.gx_law_holds.proofs.Claims.{claim-itself, each-of, each-passes, filter-alike}
+use Rattle.gx_law_holds.proofs.Marks.{AreRight, Locking, ended-more, node-itself}
 
 -- A LIST IN ORDER HAS THE SAME ITEMS
 or-swap : (a b c : Bool) → (a || (b || c)) ≡ (b || (a || c))
@@ -52,17 +50,9 @@ each-placed R P x (y ∷ ys) e f = by_test (is_gt (R x y)) (each-placed R P x ys
     by_test true h = (f.0, h)
     by_test false h = (e, f)
 
-each-in_order : {X : Type 0} (R : X → X → Ordering) (P : X → Type 0) (xs : List X) → Each P xs → Each P (in_order R xs)
+pub each-in_order : {X : Type 0} (R : X → X → Ordering) (P : X → Type 0) (xs : List X) → Each P xs → Each P (in_order R xs)
 each-in_order R P [] e = tt
 each-in_order R P (x ∷ xs) e = each-placed R P x (in_order R xs) e.0 (each-in_order R P xs e.1)
-
-each-passes : {X : Type 0} (p : X → Bool) (xs : List X) → Each (λ x. p x ≡ true) (filter p xs)
-each-passes p [] = tt
-each-passes p (x ∷ xs) = by_test (p x) refl (each-passes p xs)
-  where
-    by_test : (b : Bool) → p x ≡ b → Each (λ x. p x ≡ true) (filter p xs) → Each (λ x. p x ≡ true) (cond b (x ∷ filter p xs) (filter p xs))
-    by_test true e h = (e, h)
-    by_test false e h = h
 
 -- all that the transaction has there is its own
 pub each-own : (l : Locks) (g : Gxid) → Each (λ c. is_of g c ≡ true) (has_there l g)
@@ -83,36 +73,28 @@ filter-twice p q (x ∷ xs) = by_test (p x) (filter-twice p q xs)
     by_test true e = ap (λ ys. cond (q x) (x ∷ ys) ys) e
     by_test false e = e
 
-filter-alike : (p q : Claim → Bool) (xs : List Claim) → Each (λ x. p x ≡ q x) xs → filter p xs ≡ filter q xs
-filter-alike p q [] e = refl
-filter-alike p q (x ∷ xs) e = ap (λ b. cond b (x ∷ filter p xs) (filter p xs)) e.0 ∙ ap (λ ys. cond (q x) (x ∷ ys) ys) (filter-alike p q xs e.1)
-
-pub each-of : {X : Type 0} (P : X → Type 0) → ((x : X) → P x) → (xs : List X) → Each P xs
-each-of P f [] = tt
-each-of P f (x ∷ xs) = (f x, each-of P f xs)
-
 nor : (a b : Bool) → (not a && not b) ≡ not (a || b)
 nor true b = refl
 nor false b = refl
 
-released-from : (node : Node) (cs holds : List Claim) → holds_from node holds (map (release_mark node) cs) ≡ filter (λ x. not (among cs x)) holds
-released-from node [] holds = all-stay holds
-  where
-    all-stay : (xs : List Claim) → xs ≡ filter (λ x. true) xs
-    all-stay [] = refl
-    all-stay (x ∷ xs) = ap (λ ys. x ∷ ys) (all-stay xs)
-released-from node (c ∷ cs) holds =
-    ap (λ b. holds_from node (if b then without c holds else holds) (map (release_mark node) cs)) (node-itself node) ∙ released-from node cs (without c holds)
-    ∙ filter-twice (λ x. not (same_claim c x)) (λ x. not (among cs x)) holds
-    ∙ filter-alike (λ x. not (same_claim c x) && not (among cs x)) (λ x. not (among (c ∷ cs) x)) holds (each-of (λ x. (not (same_claim c x) && not (among cs x)) ≡ not (among (c ∷ cs) x)) (λ x. nor (same_claim c x) (among cs x)) holds)
+all-stay : (xs : List Claim) → xs ≡ filter (λ x. true) xs
+all-stay [] = refl
+all-stay (x ∷ xs) = ap (λ ys. x ∷ ys) (all-stay xs)
+
+one-less : (c : Claim) (cs claims : List Claim) → filter (λ x. not (among cs x)) (without c claims) ≡ filter (λ x. not (among (c ∷ cs) x)) claims
+one-less c cs claims =
+    filter-twice (λ x. not (same_claim c x)) (λ x. not (among cs x)) claims
+    ∙ filter-alike (λ x. not (same_claim c x) && not (among cs x)) (λ x. not (among (c ∷ cs) x)) claims (each-of (λ x. (not (same_claim c x) && not (among cs x)) ≡ not (among (c ∷ cs) x)) (λ x. nor (same_claim c x) (among cs x)) claims)
+
+holds-less : (node : Node) (cs holds : List Claim) → holds_from node holds (map (release_mark node) cs) ≡ filter (λ x. not (among cs x)) holds
+holds-less node [] holds = all-stay holds
+holds-less node (c ∷ cs) holds = ap (λ b. holds_from node (if b then without c holds else holds) (map (release_mark node) cs)) (node-itself node) ∙ holds-less node cs (without c holds) ∙ one-less c cs holds
+
+waits-less : (node : Node) (cs waits : List Claim) → waits_from node waits (map (release_mark node) cs) ≡ filter (λ x. not (among cs x)) waits
+waits-less node [] waits = all-stay waits
+waits-less node (c ∷ cs) waits = ap (λ b. waits_from node (if b then without c waits else waits) (map (release_mark node) cs)) (node-itself node) ∙ waits-less node cs (without c waits) ∙ one-less c cs waits
 
 -- the transaction's own, and nobody else's
-pub claim-itself : (c : Claim) → same_claim c c ≡ true
-claim-itself c = three (c.gxid.0 == c.gxid.0) (same_object c.object c.object) (number_of c.mode == number_of c.mode) (eqb-self c.gxid.0) (same_object-itself c.object) (eqb-self (number_of c.mode))
-  where
-    three : (a b d : Bool) → a ≡ true → b ≡ true → d ≡ true → (a && (b && d)) ≡ true
-    three a b d e f h = grind arith
-
 own-among : (g : Gxid) (xs : List Claim) → Each (λ x. is_of g x ≡ true → among (filter (is_of g) xs) x ≡ true) xs
 own-among g [] = tt
 own-among g (y ∷ ys) = (at_head (is_of g y), each_weaker (λ x. is_of g x ≡ true → among (filter (is_of g) ys) x ≡ true) (λ x. is_of g x ≡ true → among (filter (is_of g) (y ∷ ys)) x ≡ true) (λ x f e. more x (is_of g y) (f e)) ys (own-among g ys))
@@ -132,24 +114,10 @@ not-among g x (c ∷ cs) e f = or_from (same_claim c x) (among cs x) (apart c.gx
     apart : (a b h : ℕ) (r : Bool) → (a == h) ≡ true → (b == h) ≡ false → ((a == b) && r) ≡ false
     apart a b h r e f = grind (arith, nat_tests)
 
-all-of : (l : Locks) (g : Gxid) → Each (λ x. among (has_there l g) x ≡ is_of g x) l.holds
-all-of l g = each_weaker (λ x. is_of g x ≡ true → among (filter (is_of g) l.holds) x ≡ true) (λ x. among (has_there l g) x ≡ is_of g x) (λ x f. by_test x f (is_of g x) refl) l.holds (own-among g l.holds)
-  where
-    by_test : (x : Claim) → (is_of g x ≡ true → among (filter (is_of g) l.holds) x ≡ true) → (b : Bool) → is_of g x ≡ b → among (has_there l g) x ≡ b
-    by_test x f true e =
-        list_any-append (λ c. same_claim c x) (filter (is_of g) l.waits) (in_order claim_order (filter (is_of g) l.holds))
-        ∙ or_right (among (filter (is_of g) l.waits) x) _ (any-in_order claim_order (λ c. same_claim c x) (filter (is_of g) l.holds) ∙ f e)
-    by_test x f false e = not-among g x (has_there l g) (each-own l g) e
-
-pub released-holds : (node : Node) (l : Locks) (g : Gxid) → holds_from node l.holds (release_marks node l g) ≡ locks.without g l.holds
-released-holds node l g =
-    released-from node (has_there l g) l.holds
-    ∙ filter-alike (λ x. not (among (has_there l g) x)) (λ x. not (is_of g x)) l.holds (each_weaker (λ x. among (has_there l g) x ≡ is_of g x) (λ x. not (among (has_there l g) x) ≡ not (is_of g x)) (λ x e. ap not e) l.holds (all-of l g))
-
 -- THE MARKS
-free-releases : (node : Node) (holds cs : List Claim) → AreFree node holds (map (release_mark node) cs)
-free-releases node holds [] = tt
-free-releases node holds (c ∷ cs) = free-releases node (holds_from node holds (release_mark node c ∷ [])) cs
+right-releases : (node : Node) (cs holds waits : List Claim) → AreRight node holds waits (map (release_mark node) cs)
+right-releases node [] holds waits = tt
+right-releases node (c ∷ cs) holds waits = right-releases node cs (holds_from node holds (release_mark node c ∷ [])) (waits_from node waits (release_mark node c ∷ []))
 
 late-releases : (node : Node) (g : Gxid) (before : List Mark) (cs : List Claim) → Each (λ c. is_of g c ≡ true) cs → is_ended before g ≡ true → AreReleasesLate before (map (release_mark node) cs)
 late-releases node g before [] e f = tt
@@ -159,5 +127,38 @@ late-releases node g before (c ∷ cs) e f =
     same-gxid : (h k : Gxid) → (h.0 == k.0) ≡ true → h ≡ k
     same-gxid h k e = grind (arith, nat_tests)
 
-pub gives-back : (node : Node) (before : List Mark) (l : Locks) (g : Gxid) → is_ended before g ≡ true → Locking node before l.holds (release_marks node l g) (locks.without g l.holds)
-gives-back node before l g e = record { leads = released-holds node l g; free = free-releases node l.holds (has_there l g); late = late-releases node g before (has_there l g) (each-own l g) e }
+module _ (l : Locks) (g : Gxid) where
+  abbrev parted : Claim → Bool
+  parted x = among (filter (is_of g) l.waits) x || among (in_order claim_order (filter (is_of g) l.holds)) x
+
+  in-parts : (x : Claim) → among (has_there l g) x ≡ parted x
+  in-parts x = list_any-append (λ c. same_claim c x) (filter (is_of g) l.waits) (in_order claim_order (filter (is_of g) l.holds))
+
+  -- all that are its own go, of a list whose own are among what it has there
+  all-of : (xs : List Claim) → Each (λ x. is_of g x ≡ true → parted x ≡ true) xs → filter (λ x. not (among (has_there l g) x)) xs ≡ locks.without g xs
+  all-of xs e =
+      filter-alike (λ x. not (among (has_there l g) x)) (λ x. not (is_of g x)) xs
+      (each_weaker (λ x. is_of g x ≡ true → parted x ≡ true) (λ x. not (among (has_there l g) x) ≡ not (is_of g x)) (λ x f. ap not (by_test x f (is_of g x) refl)) xs e)
+    where
+      by_test : (x : Claim) → (is_of g x ≡ true → parted x ≡ true) → (b : Bool) → is_of g x ≡ b → among (has_there l g) x ≡ b
+      by_test x f true e = in-parts x ∙ f e
+      by_test x f false e = not-among g x (has_there l g) (each-own l g) e
+
+  held-parts : Each (λ x. is_of g x ≡ true → parted x ≡ true) l.holds
+  held-parts =
+      each_weaker (λ x. is_of g x ≡ true → among (filter (is_of g) l.holds) x ≡ true) (λ x. is_of g x ≡ true → parted x ≡ true)
+      (λ x f e. or_right (among (filter (is_of g) l.waits) x) _ (any-in_order claim_order (λ c. same_claim c x) (filter (is_of g) l.holds) ∙ f e)) l.holds (own-among g l.holds)
+
+  awaited-parts : Each (λ x. is_of g x ≡ true → parted x ≡ true) l.waits
+  awaited-parts =
+      each_weaker (λ x. is_of g x ≡ true → among (filter (is_of g) l.waits) x ≡ true) (λ x. is_of g x ≡ true → parted x ≡ true) (λ x f e. or_left (among (filter (is_of g) l.waits) x) _ (f e)) l.waits
+      (own-among g l.waits)
+
+  pub gives-back : (node : Node) (before : List Mark) → is_ended before g ≡ true → Locking node before l (release_marks node l g) (released l g)
+  gives-back node before e =
+      record {
+        holds = holds-less node (has_there l g) l.holds ∙ all-of l.holds held-parts;
+        waits = waits-less node (has_there l g) l.waits ∙ all-of l.waits awaited-parts;
+        right = right-releases node (has_there l g) l.holds l.waits;
+        late = late-releases node g before (has_there l g) (each-own l g) e;
+      }

@@ -1,11 +1,14 @@
--- Over every run of the machine, holds are as marked, granted where they meet none, and given back behind the end.
-use Rattle.std.proofs.Common.{◌≡◌, ◌≤◌, ◌&&◌, ℕ, List, [], ◌∷◌, ◌++◌, Bool, true, false, refl, sym, subst, ap, ◌∙◌, ◌||◌, arith}
+-- Over every run of the machine, holds and waits are as marked, granted and begun where they may be, and given back behind the end;
+-- and whoever writes at a segment locks itself there.
+use Rattle.std.proofs.Common.{◌≡◌, ◌≤◌, ℕ, List, [], ◌∷◌, ◌++◌, Option, Some, None, Bool, true, false, refl, sym, subst, ap, ◌∙◌, arith}
 use Rattle.std.proofs.lemmas.Bool.Decides.{nat_tests}
 use Rattle.std.proofs.lemmas.Bool.{or_left, or_right}
-use Rattle.gx_lemmas.proofs.Tests.{and-second}
+use Rattle.gx_lemmas.proofs.Numbers.{one-le-none}
+use Rattle.gx_ids.specs.declared.ids.Gxid.{Gxid}
 use Rattle.gx_ids.specs.declared.ids.Node.{Node}
+use Rattle.gx_ids.specs.declared.ids.Table.{Table}
 use Rattle.gx_waits.specs.declared.claim.Claim.{Claim}
-use Rattle.gx_locks.specs.Locks.{is_ready, wait_of}
+use Rattle.gx_locks.specs.Locks.{Locks}
 use Rattle.gx_msg.specs.declared.message.Envelope.{Envelope}
 use Rattle.gx_msg.specs.declared.message.Message.{Message}
 use Rattle.gx_msg.specs.declared.message.Message.TheVariants as message
@@ -14,82 +17,165 @@ use Rattle.gx_script.specs.declared.Script.{Script}
 use Rattle.gx_store.proofs.Exclusive.{exclusive-behind, granted-front, granted-more, holds_from-append}
 use Rattle.gx_store.specs.declared.event.Event.{Event}
 use Rattle.gx_store.specs.declared.mark.Mark.{Mark}
+use Rattle.gx_store.specs.declared.mark.Mark.TheVariants as mark
 use Rattle.gx_store.specs.declared.node.NodeEvent.{NodeEvent}
 use Rattle.gx_store.specs.declared.node.NodeEvent.TheVariants as here
 use Rattle.gx_store.specs.declared.run.Step.{Step}
 use Rattle.gx_store.specs.Journals.{is_same_node}
 use Rattle.gx_store.specs.Locks.{AreExclusive, AreGranted}
-use Rattle.gx_store.specs.Marks.{is_ended, is_aborted, is_committed}
+use Rattle.gx_store.specs.Marks.{is_aborted, is_committed, is_ended}
 use Rattle.gx_store.specs.Ordered.{IsAtNode, IsSegment}
 use Rattle.gx_store.specs.Points.{marks_in}
 use Rattle.gx_store.specs.Refusals.{the_coordinator}
-use Rattle.gx_store.specs.Waits.{is_held, holds_at, holds_from}
-use Rattle.gx_rules.specs.AtCoordinator.{coord_can, coord_rule, is_segment, on_event}
+use Rattle.gx_store.specs.Waits.{holds_at, holds_from, is_held, waits_at, waits_from}
+use Rattle.gx_rules.specs.AtCoordinator.{coord_can, coord_rule, on_event}
 use Rattle.gx_rules.specs.AtSegment.{seg_rule}
 use Rattle.gx_rules.specs.AtSegment as segment
 use Rattle.gx_rules.specs.Coordinators.{CoordTurn}
+use Rattle.gx_rules.specs.Maps.{with_at}
 use Rattle.gx_rules.specs.Machine.{World, coord_did, new_world, seg_did, world_of}
-use Rattle.gx_rules.specs.Segments.{Seg, SegTurn, local_of}
+use Rattle.gx_rules.specs.Segments.{Seg, SegTurn, Suspended, local_of}
+use Rattle.gx_rules.specs.Slices.{own_lock}
 use Rattle.gx_rules.specs.Sending.{clock_after, counted, numbered}
-use Rattle.gx_law_order.proofs.Lists.{Each}
+use Rattle.gx_law_order.proofs.Lists.{Each, each_append, each_weaker}
 use Rattle.gx_law_order.proofs.Ordered.{apart-back, apart-two, at-both, at_coordinator, seg_marks}
 use Rattle.gx_law_order.proofs.Sent.{at}
+use Rattle.gx_law_order.proofs.Waiting.{GoesOn, goes-on-is, going-on}
 use Rattle.gx_law_order.proofs.World.{Knows, marks-last}
 use Rattle.gx_law_commit.proofs.Everywhere.{Holds, parts_in}
 use Rattle.gx_law_commit.specs.Said.{Said, gxid_in, is_answer}
 use Rattle.gx_law_commit.specs.Standings.{known_at}
 use Rattle.gx_law_commit.proofs.Steps.{HeardAt, SaidTo, world-keeps}
-use Rattle.gx_law_holds.specs.Held.{AreHoldsMarked}
 use Rattle.gx_law_holds.specs.Lasting.{DoHoldsLast}
 use Rattle.gx_law_holds.specs.Late.{AreReleasesLate}
+use Rattle.gx_law_holds.specs.Marked.{AreLocksMarked, AreWaitsLegal, IsMarked}
+use Rattle.gx_law_holds.specs.Own.{DoHoldOwn, DoWritersHold}
 use Rattle.gx_law_holds.proofs.AtCoordinators.{event-holds}
-use Rattle.gx_law_holds.proofs.AtSegments.{IsEndedFor, Turn, message_locks, resume_locks}
-use Rattle.gx_law_holds.proofs.Lasting.{holds-last, late-front}
-use Rattle.gx_law_holds.proofs.Marks.{AreFree, Locking, Quiet, both, free-granted, late-append, other-holds, quiet}
+use Rattle.gx_law_holds.proofs.AtSegments.{Bids, IsEndedFor, Turn, message_locks, resume_locks}
+use Rattle.gx_law_holds.proofs.Lasting.{IsIn, holds-last, late-front}
+use Rattle.gx_law_holds.proofs.Legal.{right-granted, right-waits, waits-more}
+use Rattle.gx_law_holds.proofs.Marks.{AreRight, Locking, NoLock, Quiet, both, late-append, no-lock, no-lock-quiet, other-holds, other-waits, waits_from-append}
+use Rattle.gx_law_holds.proofs.Moves.{WritesOwn}
+use Rattle.gx_law_holds.proofs.Own.{Stands, hold-own, new-stands, none-there, old-stands, own-last, stands-at}
+use Rattle.gx_law_holds.proofs.Single.{single-here, single-there}
+use Rattle.gx_law_holds.proofs.Tables.{Changes}
 
 pub record Locked (w : World) : Type 0 where
-  pub marked : AreHoldsMarked w
+  pub marked : AreLocksMarked w
   pub granted : AreGranted [] (marks_in w.steps)
+  pub waits : AreWaitsLegal [] (marks_in w.steps)
   pub late : AreReleasesLate [] (marks_in w.steps)
+  pub own : DoHoldOwn [] w.steps
+  pub writers : Each (Stands w.segs) (marks_in w.steps)
+
+-- MESSAGES THAT ARE SENT
+numbered-plain : (f : ℕ → ℕ) (outs : List Out) → Each NoLock (numbered f outs)
+numbered-plain f [] = tt
+numbered-plain f (o ∷ outs) = (tt, numbered-plain (counted f o) outs)
 
 pub numbered-quiet : (f : ℕ → ℕ) (outs : List Out) → Each Quiet (numbered f outs)
-numbered-quiet f [] = tt
-numbered-quiet f (o ∷ outs) = (tt, numbered-quiet (counted f o) outs)
+numbered-quiet f outs = each_weaker NoLock Quiet no-lock-quiet (numbered f outs) (numbered-plain f outs)
 
-with-sent : (node : Node) (before : List Mark) (holds : List Claim) (ms : List Mark) (left : List Claim) (f : ℕ → ℕ) (outs : List Out) → Locking node before holds ms left → Locking node before holds (ms ++ numbered f outs) left
-with-sent node before holds ms left f outs e = both node before holds ms left (numbered f outs) left e (quiet node (before ++ ms) left (numbered f outs) (numbered-quiet f outs))
+with-sent : (node : Node) (before : List Mark) (l : Locks) (ms : List Mark) (k : Locks) (f : ℕ → ℕ) (outs : List Out) → Locking node before l ms k → Locking node before l (ms ++ numbered f outs) k
+with-sent node before l ms k f outs e = both node before l ms k (numbered f outs) k e (no-lock node (before ++ ms) k (numbered f outs) (numbered-plain f outs))
 
 -- ONE STEP OF A NODE
 module _ (script : Script) (steps : List Step) (s : Step) (here : Node) (at_here : Each (IsAtNode script here) s.marks) where
-  own-holds : (holds left : List Claim) → holds ≡ holds_at (marks_in steps) here → Locking here (marks_in steps) holds s.marks left → left ≡ holds_at (marks_in (steps ++ s ∷ [])) here
-  own-holds holds left e l = sym (ap (λ m. holds_at m here) (marks-last steps s) ∙ holds_from-append here [] (marks_in steps) s.marks ∙ ap (λ h. holds_from here h s.marks) (sym e) ∙ l.leads)
+  own-marked : (l k : Locks) → IsMarked (marks_in steps) here l → Locking here (marks_in steps) l s.marks k → IsMarked (marks_in (steps ++ s ∷ [])) here k
+  own-marked l k e f =
+      record {
+        holds = sym (ap (λ m. holds_at m here) (marks-last steps s) ∙ holds_from-append here [] (marks_in steps) s.marks ∙ ap (λ h. holds_from here h s.marks) (sym e.holds) ∙ f.holds);
+        waits = sym (ap (λ m. waits_at m here) (marks-last steps s) ∙ waits_from-append here [] (marks_in steps) s.marks ∙ ap (λ h. waits_from here h s.marks) (sym e.waits) ∙ f.waits);
+      }
 
-  others-hold : (other : Node) (holds : List Claim) → is_same_node here other ≡ false → holds ≡ holds_at (marks_in steps) other → holds ≡ holds_at (marks_in (steps ++ s ∷ [])) other
-  others-hold other holds n e =
-      e ∙ sym (ap (λ m. holds_at m other) (marks-last steps s) ∙ holds_from-append other [] (marks_in steps) s.marks ∙ other-holds script here other (holds_at (marks_in steps) other) s.marks n at_here)
+  others-marked : (other : Node) (l : Locks) → is_same_node here other ≡ false → IsMarked (marks_in steps) other l → IsMarked (marks_in (steps ++ s ∷ [])) other l
+  others-marked other l n e =
+      record {
+        holds = e.holds ∙ sym (ap (λ m. holds_at m other) (marks-last steps s) ∙ holds_from-append other [] (marks_in steps) s.marks ∙ other-holds script here other (holds_at (marks_in steps) other) s.marks n at_here);
+        waits = e.waits ∙ sym (ap (λ m. waits_at m other) (marks-last steps s) ∙ waits_from-append other [] (marks_in steps) s.marks ∙ other-waits script here other (waits_at (marks_in steps) other) s.marks n at_here);
+      }
 
-  still-granted : (holds left : List Claim) → holds ≡ holds_at (marks_in steps) here → Locking here (marks_in steps) holds s.marks left → AreGranted [] (marks_in steps) → AreGranted [] (marks_in (steps ++ s ∷ []))
-  still-granted holds left e l g =
-      subst (AreGranted []) (sym (marks-last steps s))
-      (granted-more [] (marks_in steps) s.marks g (free-granted script here (marks_in steps) s.marks at_here (subst (λ h. AreFree here h s.marks) e l.free)))
+  right : (l k : Locks) → IsMarked (marks_in steps) here l → Locking here (marks_in steps) l s.marks k → AreRight here (holds_at (marks_in steps) here) (waits_at (marks_in steps) here) s.marks
+  right l k e f = subst (λ h. AreRight here h (waits_at (marks_in steps) here) s.marks) e.holds (subst (λ h. AreRight here l.holds h s.marks) e.waits f.right)
 
-  still-late : (holds left : List Claim) → Locking here (marks_in steps) holds s.marks left → AreReleasesLate [] (marks_in steps) → AreReleasesLate [] (marks_in (steps ++ s ∷ []))
-  still-late holds left l g = subst (AreReleasesLate []) (sym (marks-last steps s)) (late-append [] (marks_in steps) s.marks g l.late)
+  still-granted : (l k : Locks) → IsMarked (marks_in steps) here l → Locking here (marks_in steps) l s.marks k → AreGranted [] (marks_in steps) → AreGranted [] (marks_in (steps ++ s ∷ []))
+  still-granted l k e f old = subst (AreGranted []) (sym (marks-last steps s)) (granted-more [] (marks_in steps) s.marks old (right-granted script here (marks_in steps) s.marks at_here (right l k e f)))
+
+  still-waits : (l k : Locks) → IsMarked (marks_in steps) here l → Locking here (marks_in steps) l s.marks k → AreWaitsLegal [] (marks_in steps) → AreWaitsLegal [] (marks_in (steps ++ s ∷ []))
+  still-waits l k e f old = subst (AreWaitsLegal []) (sym (marks-last steps s)) (waits-more [] (marks_in steps) s.marks old (right-waits script here (marks_in steps) s.marks at_here (right l k e f)))
+
+  still-late : (l k : Locks) → Locking here (marks_in steps) l s.marks k → AreReleasesLate [] (marks_in steps) → AreReleasesLate [] (marks_in (steps ++ s ∷ []))
+  still-late l k f old = subst (AreReleasesLate []) (sym (marks-last steps s)) (late-append [] (marks_in steps) s.marks old f.late)
+
+  -- whoever writes in it locks itself
+  still-own : (left : Locks) → IsMarked (marks_in (steps ++ s ∷ [])) here left → Each (WritesOwn left.holds) s.marks → DoHoldOwn [] steps → DoHoldOwn [] (steps ++ s ∷ [])
+  still-own left e f old =
+      own-last [] steps s old
+      (hold-own script here (marks_in steps ++ s.marks) (marks_in steps) s.marks at_here (subst (λ (m : List Mark). Each (WritesOwn (holds_at m here)) s.marks) (marks-last steps s) (subst (λ hs. Each (WritesOwn hs) s.marks) e.holds f)))
+
+-- WHAT A SEGMENT DOES
+-- it is bidden to change rows of the table for the transaction, by a message or by a slice that goes on
+abbrev pub ChangesOf : Option Suspended → Table → Type 0
+ChangesOf None table = ⊥
+ChangesOf (Some x) table = Changes x.slice table
+
+abbrev pub BidsAt : World → ℕ → NodeEvent → Gxid → Table → Type 0
+BidsAt w i (here.Deliver from envelope) k table = Bids envelope.message k table
+BidsAt w i (here.Resume g) k table = (g ≡ k) × ChangesOf (local_of (w.segs i) g).suspended table
+BidsAt w i _ k table = ⊥
+
+-- ABORT and FORGET come to a segment behind the end
+ended-for : (script : Script) (w : World) (e : Event) (i : ℕ) (from : Node) (envelope : Envelope) → HeardAt script w e i (here.Deliver from envelope) → IsEndedFor (marks_in w.steps) envelope.message
+ended-for script w e i from envelope h = by_message envelope.message h.said
+  where
+    by_message : (m : Message) → (is_answer m ≡ false → Said (known_at w.coord (marks_in w.steps) i (gxid_in m)) (parts_in w i (gxid_in m)) m) → IsEndedFor (marks_in w.steps) m
+    by_message (message.Abort g) f = or_right (is_committed (marks_in w.steps) g) (is_aborted (marks_in w.steps) g) (f refl)
+    by_message (message.Forget g) f = or_left (is_committed (marks_in w.steps) g) (is_aborted (marks_in w.steps) g) (f refl)
+    by_message (message.Exec g c level snapshot h x) f = tt
+    by_message (message.Prepare g) f = tt
+    by_message (message.Commit g) f = tt
+    by_message (message.CommitPrepared g) f = tt
+    by_message (message.Collect round) f = tt
+    by_message (message.Answer g r) f = tt
+    by_message (message.Graph round graph) f = tt
+
+pub heard-locks : (script : Script) (P : Gxid → Table → Type 0) (w : World) → Knows script w → (e : Event) (i : ℕ) (x : NodeEvent) (fails : Bool) → HeardAt script w e i x
+    → ((g : Gxid) (table : Table) → BidsAt w i x g table → P g table)
+    → Turn script P (at i) (marks_in w.steps) (w.segs i) (segment.on_event script (w.segs i) x fails)
+heard-locks script P w k e i (here.Deliver from envelope) fails h has =
+    message_locks script P (at i) (marks_in w.steps) (w.segs i) (k.well.names i) (k.well.writers i) (single-there script w k i) fails envelope.message (ended-for script w e i from envelope h) has
+heard-locks script P w k e i (here.Resume g) fails h has =
+    subst (Turn script P (at i) (marks_in w.steps) (w.segs i)) (sym (goes-on-is (w.segs i) g d.wanted d.slice d.claims d.is))
+    (resume_locks script P (at i) (marks_in w.steps) (w.segs i) (k.well.names i) (k.well.writers i) (single-there script w k i) g d.wanted d.slice d.lock d.free d.claims d.waits.opens
+    (λ table b. has g table (refl, subst (λ o. ChangesOf o table) (sym d.is) b)))
+  where
+    d : GoesOn script w i g
+    d = going-on script w k.well i g h
+heard-locks script P w k e i (here.Start s) fails h has = absurd h
+heard-locks script P w k e i (here.End s) fails h has = absurd h
+heard-locks script P w k e i (here.Resend j g) fails h has = absurd h
+heard-locks script P w k e i here.Round fails h has = absurd h
 
 -- ALL STEPS
 module _ (script : Script) (some : 1 ≤ script.segments) where
   apart : (i : ℕ) → 1 ≤ i → is_same_node the_coordinator (at i) ≡ false
   apart i h = grind (arith, nat_tests)
 
-  pub coord-keeps : (w : World) → Knows script w → Holds script w → Locked w → (e : Event) (x : NodeEvent) (fails : Bool) → coord_can script w.coord x ≡ true → SaidTo w x → Locked (coord_did w e (coord_rule script w.coord x fails))
+  no-write : (holds : List Claim) (ms : List Mark) → Each (IsAtNode script the_coordinator) ms → Each (WritesOwn holds) ms
+  no-write holds [] e = tt
+  no-write holds (mark.Write g c n table rid image ∷ ms) e = absurd (one-le-none e.0.1.0)
+  no-write holds (m ∷ ms) e = (tt, no-write holds ms e.1)
+
+  pub coord-keeps : (w : World) → Knows script w → Holds script w → Locked w → (e : Event) (x : NodeEvent) (fails : Bool) → coord_can script w.coord x ≡ true → SaidTo w x
+      → Locked (coord_did w e (coord_rule script w.coord x fails))
   coord-keeps w k v q e x fails ok said =
       record {
-        marked = record {
-          coordinator = own-holds script w.steps step the_coordinator there w.coord.locks.holds turn.coord.locks.holds q.marked.coordinator locking;
-          segments = λ i one. others-hold script w.steps step the_coordinator there (at i) (w.segs i).locks.holds (apart i one) (q.marked.segments i one);
-        };
-        granted = still-granted script w.steps step the_coordinator there w.coord.locks.holds turn.coord.locks.holds q.marked.coordinator locking q.granted;
-        late = still-late script w.steps step the_coordinator there w.coord.locks.holds turn.coord.locks.holds locking q.late;
+        marked = record { coordinator = now; segments = λ i one. others-marked script w.steps step the_coordinator there (at i) (w.segs i).locks (apart i one) (q.marked.segments i one) };
+        granted = still-granted script w.steps step the_coordinator there w.coord.locks turn.coord.locks q.marked.coordinator locking q.granted;
+        waits = still-waits script w.steps step the_coordinator there w.coord.locks turn.coord.locks q.marked.coordinator locking q.waits;
+        late = still-late script w.steps step the_coordinator there w.coord.locks turn.coord.locks locking q.late;
+        own = still-own script w.steps step the_coordinator there turn.coord.locks now (no-write turn.coord.locks.holds step.marks there) q.own;
+        writers = subst (Each (Stands w.segs)) (sym (marks-last w.steps step)) (each_append (Stands w.segs) (marks_in w.steps) step.marks q.writers (none-there script w.segs step.marks there));
       }
     where
       turn : CoordTurn
@@ -101,44 +187,28 @@ module _ (script : Script) (some : 1 ≤ script.segments) where
       there : Each (IsAtNode script the_coordinator) step.marks
       there = at_coordinator script some w k.well e x fails
 
-      locking : Locking the_coordinator (marks_in w.steps) w.coord.locks.holds step.marks turn.coord.locks.holds
-      locking = with-sent the_coordinator (marks_in w.steps) w.coord.locks.holds turn.marks turn.coord.locks.holds turn.coord.sent turn.outs (event-holds script (marks_in w.steps) w.coord x fails ok)
+      locking : Locking the_coordinator (marks_in w.steps) w.coord.locks step.marks turn.coord.locks
+      locking = with-sent the_coordinator (marks_in w.steps) w.coord.locks turn.marks turn.coord.locks turn.coord.sent turn.outs (event-holds script (marks_in w.steps) w.coord (single-here script w k) x fails ok)
 
-  -- ABORT and FORGET come to a segment behind the end
-  ended-for : (w : World) (e : Event) (i : ℕ) (from : Node) (envelope : Envelope) → HeardAt script w e i (here.Deliver from envelope) → IsEndedFor (marks_in w.steps) envelope.message
-  ended-for w e i from envelope h = by_message envelope.message h.said
-    where
-      by_message : (m : Message) → (is_answer m ≡ false → Said (known_at w.coord (marks_in w.steps) i (gxid_in m)) (parts_in w i (gxid_in m)) m) → IsEndedFor (marks_in w.steps) m
-      by_message (message.Abort g) f = or_right (is_committed (marks_in w.steps) g) (is_aborted (marks_in w.steps) g) (f refl)
-      by_message (message.Forget g) f = or_left (is_committed (marks_in w.steps) g) (is_aborted (marks_in w.steps) g) (f refl)
-      by_message (message.Exec g c level snapshot h x) f = tt
-      by_message (message.Prepare g) f = tt
-      by_message (message.Commit g) f = tt
-      by_message (message.CommitPrepared g) f = tt
-      by_message (message.Collect round) f = tt
-      by_message (message.Answer g r) f = tt
-      by_message (message.Graph round graph) f = tt
+      now : IsMarked (marks_in (w.steps ++ step ∷ [])) the_coordinator turn.coord.locks
+      now = own-marked script w.steps step the_coordinator there w.coord.locks turn.coord.locks q.marked.coordinator locking
 
-  heard-locks : (w : World) (e : Event) (i : ℕ) (x : NodeEvent) (fails : Bool) → HeardAt script w e i x → Turn script (w.segs i) (marks_in w.steps) (segment.on_event script (w.segs i) x fails)
-  heard-locks w e i (here.Deliver from envelope) fails h = message_locks script (w.segs i) (marks_in w.steps) fails envelope.message (ended-for w e i from envelope h)
-  heard-locks w e i (here.Resume g) fails h =
-      resume_locks script (w.segs i) (marks_in w.steps) g (wait_of (w.segs i).locks g) (local_of (w.segs i) g).suspended (and-second (is_segment script (w.segs i).node) (is_ready (w.segs i).locks.holds (wait_of (w.segs i).locks g)) h)
-  heard-locks w e i (here.Start s) fails h = absurd h
-  heard-locks w e i (here.End s) fails h = absurd h
-  heard-locks w e i (here.Resend j g) fails h = absurd h
-  heard-locks w e i here.Round fails h = absurd h
-
-  pub seg-keeps : (w : World) → Knows script w → Holds script w → Locked w → (e : Event) (x : NodeEvent) (fails : Bool) (i : ℕ) → IsSegment script (at i) → HeardAt script w e i x → Locked (seg_did w (at i) e (seg_rule script (w.segs i) x fails))
+  pub seg-keeps : (w : World) → Knows script w → Holds script w → Locked w → (e : Event) (x : NodeEvent) (fails : Bool) (i : ℕ) → IsSegment script (at i) → HeardAt script w e i x
+      → Locked (seg_did w (at i) e (seg_rule script (w.segs i) x fails))
   seg-keeps w k v q e x fails i place h =
       record {
         marked = record {
-          coordinator = others-hold script w.steps step (at i) there the_coordinator w.coord.locks.holds (apart-back i place.0) q.marked.coordinator;
-          segments = at-both (λ j (t : Seg). 1 ≤ j → t.locks.holds ≡ holds_at (marks_in (w.steps ++ step ∷ [])) (at j)) w.segs i (seg_rule script (w.segs i) x fails).seg
-              (λ one. own-holds script w.steps step (at i) there (w.segs i).locks.holds turn.seg.locks.holds (q.marked.segments i place.0) locking)
-              (λ j no one. others-hold script w.steps step (at i) there (at j) (w.segs j).locks.holds (apart-two i j no) (q.marked.segments j one));
+          coordinator = others-marked script w.steps step (at i) there the_coordinator w.coord.locks (apart-back i place.0) q.marked.coordinator;
+          segments = at-both (λ j (t : Seg). 1 ≤ j → IsMarked (marks_in (w.steps ++ step ∷ [])) (at j) t.locks) w.segs i (seg_rule script (w.segs i) x fails).seg (λ one. now)
+              (λ j no one. others-marked script w.steps step (at i) there (at j) (w.segs j).locks (apart-two i j no) (q.marked.segments j one));
         };
-        granted = still-granted script w.steps step (at i) there (w.segs i).locks.holds turn.seg.locks.holds (q.marked.segments i place.0) locking q.granted;
-        late = still-late script w.steps step (at i) there (w.segs i).locks.holds turn.seg.locks.holds locking q.late;
+        granted = still-granted script w.steps step (at i) there (w.segs i).locks turn.seg.locks (q.marked.segments i place.0) locking q.granted;
+        waits = still-waits script w.steps step (at i) there (w.segs i).locks turn.seg.locks (q.marked.segments i place.0) locking q.waits;
+        late = still-late script w.steps step (at i) there (w.segs i).locks turn.seg.locks locking q.late;
+        own = still-own script w.steps step (at i) there turn.seg.locks now written q.own;
+        writers = subst (Each (Stands (with_at w.segs i (seg_rule script (w.segs i) x fails).seg))) (sym (marks-last w.steps step))
+            (each_append (Stands (with_at w.segs i (seg_rule script (w.segs i) x fails).seg)) (marks_in w.steps) step.marks
+            (old-stands script w.segs i (seg_rule script (w.segs i) x fails).seg made.lasts (marks_in w.steps) q.writers) (new-stands script w.segs i (seg_rule script (w.segs i) x fails).seg step.marks there written));
       }
     where
       turn : SegTurn
@@ -150,13 +220,24 @@ module _ (script : Script) (some : 1 ≤ script.segments) where
       there : Each (IsAtNode script (at i)) step.marks
       there = seg_marks script w k.well e x fails i place
 
-      locking : Locking (at i) (marks_in w.steps) (w.segs i).locks.holds step.marks turn.seg.locks.holds
-      locking =
-          with-sent (at i) (marks_in w.steps) (w.segs i).locks.holds turn.marks turn.seg.locks.holds (λ node. turn.seg.sent) turn.outs
-          (subst (λ n. Locking n (marks_in w.steps) (w.segs i).locks.holds turn.marks turn.seg.locks.holds) (k.well.names i) (heard-locks w e i x fails h))
+      made : Turn script (λ g table. Unit {0}) (at i) (marks_in w.steps) (w.segs i) turn
+      made = heard-locks script (λ g table. Unit {0}) w k e i x fails h (λ g table b. tt)
+
+      locking : Locking (at i) (marks_in w.steps) (w.segs i).locks step.marks turn.seg.locks
+      locking = with-sent (at i) (marks_in w.steps) (w.segs i).locks turn.marks turn.seg.locks (λ node. turn.seg.sent) turn.outs made.locking
+
+      now : IsMarked (marks_in (w.steps ++ step ∷ [])) (at i) turn.seg.locks
+      now = own-marked script w.steps step (at i) there (w.segs i).locks turn.seg.locks (q.marked.segments i place.0) locking
+
+      sent-written : (f : ℕ → ℕ) (outs : List Out) → Each (WritesOwn turn.seg.locks.holds) (numbered f outs)
+      sent-written f [] = tt
+      sent-written f (o ∷ outs) = (tt, sent-written (counted f o) outs)
+
+      written : Each (WritesOwn turn.seg.locks.holds) step.marks
+      written = each_append (WritesOwn turn.seg.locks.holds) turn.marks (numbered (λ node. turn.seg.sent) turn.outs) made.written (sent-written (λ node. turn.seg.sent) turn.outs)
 
   pub new-locked : Locked new_world
-  new-locked = record { marked = record { coordinator = refl; segments = λ i one. refl }; granted = tt; late = tt }
+  new-locked = record { marked = record { coordinator = record { holds = refl; waits = refl }; segments = λ i one. record { holds = refl; waits = refl } }; granted = tt; waits = tt; late = tt; own = tt; writers = tt }
 
   pub world-locked : (es : List (Event × Bool)) → Locked (world_of script es)
   world-locked = world-keeps script some Locked coord-keeps seg-keeps new-locked
@@ -168,3 +249,9 @@ module _ (script : Script) (some : 1 ≤ script.segments) where
   world-lasting es before later e xs ys node g object mode split f =
       subst (λ m. is_held m node g object mode ≡ true) (sym split)
       (holds-last xs ys node g object mode (subst (AreReleasesLate []) split (late-front [] before later (subst (AreReleasesLate []) e (world-locked es).late))) (subst (λ m. is_ended m g ≡ false) split f))
+
+  pub world-writers : (es : List (Event × Bool)) → DoWritersHold (world_of script es)
+  world-writers es earlier later g c node table rid image split lives =
+      let q : Locked (world_of script es) = world-locked es in
+      let f : Stands (world_of script es).segs (mark.Write g c node table rid image) = stands-at (world_of script es).segs earlier later (mark.Write g c node table rid image) (subst (Each (Stands (world_of script es).segs)) split q.writers) in
+      subst (λ hs. IsIn hs (own_lock g)) (q.marked.segments node.0 f.0).holds (f.1 lives)

@@ -1,5 +1,6 @@
-pub mod Held
+pub mod Marked
 pub mod Late
 pub mod Lasting
 pub mod Orders
 pub mod Writes
+pub mod Own

@@ -1,9 +1,10 @@
 //! Laws of every run, whatever the network loses, repeats, delays and reorders, and whichever appends fail.
 ghost use Rattle.std.specs.Prelude.{◌≡◌, ◌≤◌, ◌++◌, Bool, List, []};
-ghost use Rattle.gx_law_holds.specs.Held.{AreHoldsMarked};
 ghost use Rattle.gx_law_holds.specs.Lasting.{DoHoldsLast};
 ghost use Rattle.gx_law_holds.specs.Late.{AreReleasesLate};
+ghost use Rattle.gx_law_holds.specs.Marked.{AreLocksMarked, AreWaitsLegal};
 ghost use Rattle.gx_law_holds.specs.Orders.{AreOrdersLocked};
+ghost use Rattle.gx_law_holds.specs.Own.{DoHoldOwn, DoWritersHold};
 ghost use Rattle.gx_law_holds.specs.Writes.{AreWritesLocked};
 ghost use Rattle.gx_law_order.specs.Runs.{steps_after};
 ghost use Rattle.gx_rules.specs.Machine.{world_of};
@@ -13,14 +14,19 @@ ghost use Rattle.gx_store.specs.declared.mark.Mark.{Mark as OneMark};
 ghost use Rattle.gx_store.specs.Locks.{AreExclusive, AreGranted};
 ghost use Rattle.gx_store.specs.Points.{marks_in};
 
-/// What stands by the marks at a node is what the node holds.
-pub fn nodes_hold_what_is_marked()
-    ensures { (script : Script) (events : List (OneEvent × Bool)) → 1 ≤ script.segments → AreHoldsMarked (world_of script events) }
+/// Each node's holds and waits are those that stand by the marks, in order.
+pub fn locks_are_marked()
+    ensures { (script : Script) (events : List (OneEvent × Bool)) → 1 ≤ script.segments → AreLocksMarked (world_of script events) }
 {}
 
 /// A lock is granted only where it meets no hold.
 pub fn locks_are_granted_where_they_meet_none()
     ensures { (script : Script) (events : List (OneEvent × Bool)) → 1 ≤ script.segments → AreGranted [] (marks_in (steps_after script events)) }
+{}
+
+/// Whoever begins to wait at a node meets a hold there, and has no other wait there.
+pub fn waits_meet_a_hold()
+    ensures { (script : Script) (events : List (OneEvent × Bool)) → 1 ≤ script.segments → AreWaitsLegal [] (marks_in (steps_after script events)) }
 {}
 
 /// At no point do two transactions hold conflicting modes on one object at one node.
@@ -39,13 +45,23 @@ pub fn who_runs_holds_what_it_was_granted()
 {}
 
 /// From the first sending of a command to its transaction's end, the transaction holds at the coordinator the lock that the
-/// command asks for at its segments: AccessShare of a SELECT's table, RowExclusive of an INSERT's, the mode that a LOCK TABLE names
-/// of its.
+/// command asks for at its segments: AccessShare of a SELECT's table, RowExclusive of an INSERT's, that and without a detector
+/// Exclusive of an UPDATE's and a DELETE's, the mode that a LOCK TABLE names of its.
 pub fn commands_go_out_with_their_lock()
-    ensures { (script : Script) (events : List (OneEvent × Bool)) → 1 ≤ script.segments → AreOrdersLocked (world_of script events) }
+    ensures { (script : Script) (events : List (OneEvent × Bool)) → 1 ≤ script.segments → AreOrdersLocked script (world_of script events) }
 {}
 
 /// Whoever writes a row, and has not ended, holds its table at the coordinator and at the row's node.
 pub fn rows_are_written_with_the_lock()
     ensures { (script : Script) (events : List (OneEvent × Bool)) → 1 ≤ script.segments → AreWritesLocked script [] (marks_in (steps_after script events)) }
+{}
+
+/// Whoever has written a row in a step holds its own transaction at the row's node at the step's end.
+pub fn writers_lock_themselves()
+    ensures { (script : Script) (events : List (OneEvent × Bool)) → 1 ≤ script.segments → DoHoldOwn [] (steps_after script events) }
+{}
+
+/// From its first write at a segment until it has ended there, a transaction holds itself there.
+pub fn writers_hold_until_they_end()
+    ensures { (script : Script) (events : List (OneEvent × Bool)) → 1 ≤ script.segments → DoWritersHold (world_of script events) }
 {}

@@ -1,5 +1,5 @@
 use Rattle.gx_law_holds.proofs.World.{world-locked}
-use Rattle.gx_law_holds.proofs.runs.nodes_hold_what_is_marked.Goals as goal
+use Rattle.gx_law_holds.proofs.runs.locks_are_marked.Goals as goal
 
 pub returns : goal.returns
 returns c = λ script events some. (world-locked script some events).marked
