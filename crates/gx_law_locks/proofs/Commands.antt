@@ -39,11 +39,12 @@ use Rattle.gx_law_order.proofs.Lists.{Each}
 use Rattle.gx_law_order.proofs.Queued.{statement-waits}
 use Rattle.gx_law_order.proofs.Sessions.{Kept, stage_of}
 use Rattle.gx_law_order.proofs.Statuses.Stage.{Live}
-use Rattle.gx_law_schedules.proofs.Standing.{waits_from-append}
+use Rattle.gx_law_order.proofs.Queued.{lock-of}
+use Rattle.gx_law_holds.proofs.Marks.{waits_from-append}
 use Rattle.gx_law_sessions.proofs.Said.{CalmFor, Said, said-calm}
 use Rattle.gx_law_sessions.specs.Standing.{IsLineOf, IsSession, IsStanding, Owns, Stands, is_alone, is_busy, is_sound, state_in}
 use Rattle.gx_law_locks.specs.Commands.{AreLeftAlone, AreUnsent, AwaitsTable, DoCommandsHold, HasNotGoneOut, HoldsTableOf}
-use Rattle.gx_law_holds.proofs.Going.{CommandLocked, HasLock, own-line}
+use Rattle.gx_law_holds.proofs.Going.{CommandLocked, HasLock}
 use Rattle.gx_law_holds.proofs.Lasting.{IsIn, in-added, in-filter, in-new, in-without}
 
 -- MARKS
@@ -266,7 +267,7 @@ module _ (script : Script) (w : World) (sessions : (k : SessionId) → IsSession
   pub out-holds : (earlier : List Mark) (k : SessionId) (line : Stmt) (g : Gxid) → AreLeftAlone k g earlier → g ≡ (session_of w.coord k).transaction → IsCommandOf (work_of w.coord (session_of w.coord k).transaction) line → HoldsTableOf (marks_in w.steps ++ earlier) g line
   out-holds earlier k line g alone txn it wanted takes =
       subst (λ hs. IsIn hs wanted) (sym (holds_from-append the_coordinator [] (marks_in w.steps) earlier))
-      (stays-in k g wanted (holds_at (marks_in w.steps) the_coordinator) earlier (own-line g line wanted takes) alone (subst (λ hs. IsIn hs wanted) marked (there wanted takes)))
+      (stays-in k g wanted (holds_at (marks_in w.steps) the_coordinator) earlier (lock-of script g line wanted takes) alone (subst (λ hs. IsIn hs wanted) marked (there wanted takes)))
     where
       there : HasLock w.coord.locks.holds g line
       there =
@@ -282,7 +283,7 @@ module _ (script : Script) (w : World) (sessions : (k : SessionId) → IsSession
   same-lock o a b e f = cc
 
   waits-or : (earlier : List Mark) (k : SessionId) (line : Stmt) (g : Gxid) (c : Cid) → AreLeftAlone k g earlier → (work_of w.coord g).waiting ≡ Some line → HoldsTableOf (marks_in w.steps ++ earlier) g line ⊎ AwaitsTable (marks_in w.steps ++ earlier) g line
-  waits-or earlier k line g c alone it = by_either (stays-either k g wanted (holds_at (marks_in w.steps) the_coordinator) (waits_at (marks_in w.steps) the_coordinator) earlier (own-line g line wanted takes) alone (inr (subst (λ ws. IsIn ws wanted) queued (wait-in g w.coord.locks.waits wanted stands))))
+  waits-or earlier k line g c alone it = by_either (stays-either k g wanted (holds_at (marks_in w.steps) the_coordinator) (waits_at (marks_in w.steps) the_coordinator) earlier (lock-of script g line wanted takes) alone (inr (subst (λ ws. IsIn ws wanted) queued (wait-in g w.coord.locks.waits wanted stands))))
     where
       found : (wanted : Claim) × (lock_for g line ≡ Some wanted)
       found = some-lock (lock_for g line) ((kept.queued g.0).locks line it)

@@ -8,7 +8,6 @@ use Rattle.gx_law_locks.specs.Legal.{AreLocksLegal}
 use Rattle.gx_law_writes.proofs.World.{world-holds}
 use Rattle.gx_law_holds.proofs.Orders.{world-orders}
 use Rattle.gx_law_holds.proofs.World.{world-exclusive, world-lasting, world-locked}
-use Rattle.gx_law_schedules.proofs.Marked.{waits-legal}
 use Rattle.gx_law_locks.proofs.Reading.{reads-held}
 use Rattle.gx_law_locks.proofs.Told.{answers-held}
 use Rattle.gx_law_locks.proofs.Writes.{under-steps}
@@ -18,7 +17,7 @@ locks-legal script some numbered es =
     let l = world-locked script some es in
     record {
       granted = l.granted;
-      waits = waits-legal script some es;
+      waits = l.waits;
       exclusive = world-exclusive script some es;
       late = l.late;
       lasting = world-lasting script some es;

@@ -57,7 +57,6 @@ use Rattle.gx_law_order.proofs.Waiting.{GoesOut, going-out}
 use Rattle.gx_law_order.proofs.World.{world_knows}
 use Rattle.gx_law_commit.proofs.Always as commit
 use Rattle.gx_law_reads.proofs.Reading.{at-self}
-use Rattle.gx_law_schedules.proofs.Marked.{locks-marked}
 use Rattle.gx_law_schedules.proofs.Steps.{IsAt, IsHere, always}
 use Rattle.gx_law_sessions.proofs.Ends.{unsnapped}
 use Rattle.gx_law_sessions.proofs.Said.{CalmFor, Said, said-start}
@@ -304,7 +303,7 @@ module _ (script : Script) (some : 1 ≤ script.segments) where
       by_way (inl it) = (
         it,
         subst (λ ms. HoldsTableOf ms g line) (append-nil (marks_in w.steps))
-            (out-holds script w (sessions-stand script some es) (world_knows script some es).kept (world-orders script some es).going (world-orders script some es).locked.marked.coordinator (locks-marked script some es).coordinator.waits [] k line g tt its.txn it),
+            (out-holds script w (sessions-stand script some es) (world_knows script some es).kept (world-orders script some es).going (world-orders script some es).locked.marked.coordinator.holds (world-orders script some es).locked.marked.coordinator.waits [] k line g tt its.txn it),
       )
       by_way (inr it) =
           absurd

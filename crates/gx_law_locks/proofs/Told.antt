@@ -44,7 +44,6 @@ use Rattle.gx_rules.specs.Sending.{clock_after, counted, numbered}
 use Rattle.gx_law_order.proofs.Lists.{Each, each_append}
 use Rattle.gx_law_order.proofs.Ordered.{seg_marks, world_well}
 use Rattle.gx_law_order.proofs.World.{world_knows}
-use Rattle.gx_law_schedules.proofs.Marked.{locks-marked}
 use Rattle.gx_law_schedules.proofs.Steps.{IsAt, IsHere, always}
 use Rattle.gx_law_sessions.proofs.World.{sessions-stand}
 use Rattle.gx_law_sessions.specs.Rest.{EachMark}
@@ -175,7 +174,7 @@ module _ (script : Script) (some : 1 ≤ script.segments) where
         clash o a b = cc
 
         by_way : IsCommandOf (work_of w.coord (session_of w.coord s).transaction) line ⊎ IsWaitingOf (marks_in w.steps) (work_of w.coord (session_of w.coord s).transaction) line (session_of w.coord s).transaction c → HoldsTableOf (marks_in w.steps ++ earlier) g line
-        by_way (inl it) = out-holds script w (sessions-stand script some es) (world_knows script some es).kept (world-orders script some es).going (world-orders script some es).locked.marked.coordinator (locks-marked script some es).coordinator.waits earlier s line g alone its.txn it
+        by_way (inl it) = out-holds script w (sessions-stand script some es) (world_knows script some es).kept (world-orders script some es).going (world-orders script some es).locked.marked.coordinator.holds (world-orders script some es).locked.marked.coordinator.waits earlier s line g alone its.txn it
         by_way (inr it) = absurd (clash (work_of w.coord (session_of w.coord s).transaction).waiting served it.has_it)
 
     -- a delivery starts nothing

@@ -9,7 +9,7 @@ use Rattle.gx_law_locks.specs.Commands.{AreAnswersHeld, AreReadsHeld}
 use Rattle.gx_law_holds.specs.Lasting.{DoHoldsLast}
 use Rattle.gx_law_holds.specs.Late.{AreReleasesLate}
 use Rattle.gx_law_holds.specs.Writes.{AreWritesUnderLock}
-use Rattle.gx_law_schedules.specs.Marked.{AreWaitsLegal}
+use Rattle.gx_law_holds.specs.Marked.{AreWaitsLegal}
 
 -- A lock is granted only where it meets no hold, so that at no point two transactions hold conflicting modes on one object at one
 -- node; it is waited for only where it meets one, by who doesn't wait there yet. Only who has a Commit or Abort mark gives a lock

@@ -4,7 +4,7 @@ ghost use Rattle.gx_law_locks.specs.Commands.{AreAnswersHeld, AreReadsHeld, DoCo
 ghost use Rattle.gx_law_locks.specs.Legal.{AreLocksLegal};
 ghost use Rattle.gx_law_holds.specs.Writes.{AreWritesUnderLock};
 ghost use Rattle.gx_law_order.specs.Runs.{steps_after};
-ghost use Rattle.gx_law_schedules.specs.Marked.{AreWaitsLegal};
+ghost use Rattle.gx_law_holds.specs.Marked.{AreWaitsLegal};
 ghost use Rattle.gx_script.specs.declared.Script.{Script};
 ghost use Rattle.gx_store.specs.declared.event.Event.{Event as OneEvent};
 ghost use Rattle.gx_store.specs.Language.{AreLinesNumbered};

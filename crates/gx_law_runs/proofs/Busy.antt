@@ -54,7 +54,7 @@ use Rattle.gx_waits.specs.declared.claim.Claim.{Claim}
 use Rattle.gx_locks.specs.Locks.{Locks, wait_of}
 use Rattle.gx_law_order.proofs.Waiting.{GoesOut, going-out}
 use Rattle.gx_law_sessions.proofs.Waiting.{waiting-line}
-use Rattle.gx_law_schedules.proofs.Marked.{single-here}
+use Rattle.gx_law_holds.proofs.Single.{single-here}
 use Rattle.gx_law_runs.proofs.Plans.{IsFilled}
 use Rattle.gx_law_runs.proofs.Sparing.{HasWait}
 

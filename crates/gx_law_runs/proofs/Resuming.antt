@@ -37,9 +37,9 @@ use Rattle.gx_law_commit.proofs.Waiting.{awaited}
 use Rattle.gx_law_commit.specs.Standings.{standing}
 use Rattle.gx_law_commit.specs.Standings.Standing.{Unborn}
 use Rattle.gx_law_reads.proofs.Ends.{TakenAt, world-facts}
-use Rattle.gx_law_schedules.specs.Marked.{IsMarked}
+use Rattle.gx_law_holds.specs.Marked.{IsMarked}
 use Rattle.gx_law_schedules.proofs.Enabled.{drawn-alike}
-use Rattle.gx_law_schedules.proofs.Marked.{locks-marked}
+use Rattle.gx_law_holds.proofs.World.{world-locked}
 use Rattle.gx_law_runs.specs.Reached.{IsReached}
 use Rattle.gx_law_runs.specs.Replays.{coordinator_after, segment_after}
 use Rattle.gx_law_runs.proofs.Reaching.{replayed}
@@ -199,10 +199,10 @@ module _ (script : Script) (some : 1 ≤ script.segments) (es : List (Event × B
       by_found (Some t) f born = (there-drawn (world_of script es).coord.table.next.0 g.0 (world_of script es).coord.table.txns t n.kept.whole.drawn f).1
 
   pub least-here : resumptions (marks_in (world_of script es).steps) the_coordinator ≡ option_to_list (option_map (Resume the_coordinator) (least_with None (ready_ones (world_of script es).coord.locks)))
-  least-here = resumes-least the_coordinator w.coord.locks (locks-marked script some es).coordinator drawn-here
+  least-here = resumes-least the_coordinator w.coord.locks (world-locked script some es).marked.coordinator drawn-here
 
   pub least-there : (i : ℕ) → 1 ≤ i → resumptions (marks_in (world_of script es).steps) (at i) ≡ option_to_list (option_map (Resume (at i)) (least_with None (ready_ones ((world_of script es).segs i).locks)))
-  least-there i one = resumes-least (at i) (w.segs i).locks ((locks-marked script some es).segments i one) (drawn-there i)
+  least-there i one = resumes-least (at i) (w.segs i).locks ((world-locked script some es).marked.segments i one) (drawn-there i)
 
 -- WHERE STEPS HAVE LED
 module _ (script : Script) (some : 1 ≤ script.segments) (steps : List Step) (is : IsReached script steps) where

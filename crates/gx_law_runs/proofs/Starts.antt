@@ -42,7 +42,7 @@ use Rattle.gx_waits.specs.declared.claim.Claim.{Claim}
 use Rattle.gx_locks.specs.Locks.{Locks, is_free, resumed, wait_of}
 use Rattle.std.proofs.lemmas.Bool.{eqb-true}
 use Rattle.gx_ids.specs.declared.ids.Gxid.{Gxid}
-use Rattle.gx_law_schedules.proofs.LocksHere.{lock-own}
+use Rattle.gx_law_order.proofs.Queued.{lock-of}
 use Rattle.gx_law_runs.proofs.Sparing.{released-spares, resumed-spares, waits-own, waits-spares}
 use Rattle.gx_store.specs.Refusals.{the_coordinator}
 
@@ -125,7 +125,7 @@ module _ (script : Script) (some : 1 ≤ script.segments) (c : Coord) (g : ℕ) 
 
   request-goes : (o : Option Claim) → lock_for (gx g) line ≡ o → Goes (Unit {0}) c g (requests script c (gx g) line o)
   request-goes None e = locked-goes script some c g line f
-  request-goes (Some wanted) e = granted-goes wanted (lock-own (gx g) line wanted e) (is_free c.locks.holds wanted)
+  request-goes (Some wanted) e = granted-goes wanted (lock-of script (gx g) line wanted e) (is_free c.locks.holds wanted)
 
   dispatch-goes : Goes (Unit {0}) c g (dispatches script c (gx g) line)
   dispatch-goes = request-goes (lock_for (gx g) line) refl
