@@ -24,7 +24,7 @@ use Rattle.gx_rules.specs.Fits.{reads_nothing}
 use Rattle.gx_rules.specs.Locks.{hold_mark}
 use Rattle.gx_rules.specs.Machine.{World, can_here, coord_did, delivered, does, found, new_world, seg_did, world_of}
 use Rattle.gx_rules.specs.Segments.{Seg, SegTurn, after_marks, local_of}
-use Rattle.gx_rules.specs.Slices.{runs_slice, slice_lock, suspends}
+use Rattle.gx_rules.specs.Running.{runs_slice, slice_lock, suspended_slice}
 use Rattle.gx_law_order.proofs.Lists.{Each}
 use Rattle.gx_law_order.proofs.Ordered.{world_well}
 use Rattle.gx_law_sessions.proofs.World.{after-last}
@@ -64,7 +64,7 @@ module _ (script : Script) (some : 1 ≤ script.segments) (numbered_lines : AreL
       late : World
       late = seg_did (world_of script es) to (event.Receive from to number) (seg_rule script ((world_of script es).segs to.0) (here.Deliver from envelope) fails)
 
-  at-once : (g : Gxid) (c : Cid) (level : Level) (q : Option Snapshot) (horizon : Gxid) (y : Slice) → (is_some q || reads_nothing y) ≡ true → envelope.message ≡ message.Exec g c level q horizon y → (s.locals g.0).last < c.0 → (locks : Locks) (wanted : Claim) → slice_lock g y ≡ Some wanted → turn ≡ after_marks (hold_mark s.node wanted ∷ []) (runs_slice (base s horizon locks) g c q y)
+  at-once : (g : Gxid) (c : Cid) (level : Level) (q : Option Snapshot) (horizon : Gxid) (y : Slice) → (is_some q || reads_nothing y) ≡ true → envelope.message ≡ message.Exec g c level q horizon y → (s.locals g.0).last < c.0 → (locks : Locks) (wanted : Claim) → slice_lock script g y ≡ wanted → turn ≡ after_marks (hold_mark s.node wanted ∷ []) (runs_slice (base s horizon locks) g c level q y)
       → Runs script es to (event.Receive from to number) fails (here.Deliver from envelope) y
   at-once g c level q horizon y reads told fresh locks wanted lock ran =
       record {
@@ -90,7 +90,7 @@ module _ (script : Script) (some : 1 ≤ script.segments) (numbered_lines : AreL
       its : Came script es to (message.Exec g c level q horizon y)
       its = subst (Came script es to) told (came-now script some es from to number envelope place is_found)
 
-  idle : Waited s envelope.message turn → Idle script es to (event.Receive from to number) fails (here.Deliver from envelope)
+  idle : Waited script s envelope.message turn → Idle script es to (event.Receive from to number) fails (here.Deliver from envelope)
   idle z =
       record {
         marks = subst (λ (t : SegTurn). Each NoRow t.marks) (sym z.ran) (tt, tt);
@@ -99,15 +99,15 @@ module _ (script : Script) (some : 1 ≤ script.segments) (numbered_lines : AreL
       }
     where
       by_test : (h : ℕ) (b : Bool)
-          → ((if b then record (local_of s z.g) { last = z.c.0; answer = None; suspended = Some (Rattle.gx_rules.specs.Slices.suspended_slice z.c z.level z.snapshot z.slice) } else s.locals h).answer ≡ None)
-          ⊎ ((if b then record (local_of s z.g) { last = z.c.0; answer = None; suspended = Some (Rattle.gx_rules.specs.Slices.suspended_slice z.c z.level z.snapshot z.slice) } else s.locals h).answer ≡ (s.locals h).answer)
+          → ((if b then record (local_of s z.g) { last = z.c.0; answer = None; suspended = Some (suspended_slice z.c z.level z.snapshot z.slice) } else s.locals h).answer ≡ None)
+          ⊎ ((if b then record (local_of s z.g) { last = z.c.0; answer = None; suspended = Some (suspended_slice z.c z.level z.snapshot z.slice) } else s.locals h).answer ≡ (s.locals h).answer)
       by_test h true = inl refl
       by_test h false = inr refl
 
   pub message-does : Doings script es to (event.Receive from to number) fails (here.Deliver from envelope)
   message-does = by_way (message-ways script w (world_well script some es) to.0 fails envelope.message)
     where
-      by_way : Ways s envelope.message turn → Doings script es to (event.Receive from to number) fails (here.Deliver from envelope)
+      by_way : Ways script s envelope.message turn → Doings script es to (event.Receive from to number) fails (here.Deliver from envelope)
       by_way (inl q) = inl q
       by_way (inr (inl z)) = inr (inr (slice.Select z.query, at-once z.g z.c z.level (Some z.snapshot) z.horizon (slice.Select z.query) refl z.is z.fresh z.locks z.wanted z.locked z.ran))
       by_way (inr (inr (inl z))) = inr (inr (slice.Insert z.table z.rows, at-once z.g z.c z.level (Some z.snapshot) z.horizon (slice.Insert z.table z.rows) refl z.is z.fresh z.locks z.wanted z.locked z.ran))

@@ -25,7 +25,7 @@ use Rattle.gx_law_sessions.specs.Scanned.{began_from, command_at, stmt_of_comman
 use Rattle.gx_law_sessions.specs.Finish.{point_at}
 use Rattle.gx_law_sessions.specs.Orders.{level_by, level_of_began}
 use Rattle.gx_store.specs.Language.{AreLinesNumbered}
-use Rattle.gx_law_sessions.specs.Standing.{AreSessions, IsFirst, IsLineOf, IsOver, IsStanding, Owns, Roots, Stands, is_alone, is_busy, state_in}
+use Rattle.gx_law_sessions.specs.Standing.{AreSessions, IsFirst, IsLineOf, IsStanding, Owns, Roots, Stands, is_alone, is_busy, state_in}
 use Rattle.gx_law_sessions.proofs.Said.{CalmFor, Said, said-calm}
 use Rattle.gx_store.specs.declared.event.Event.{Event}
 

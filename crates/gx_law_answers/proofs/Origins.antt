@@ -31,7 +31,6 @@ use Rattle.gx_store.specs.Marks.{is_aborted}
 use Rattle.gx_store.specs.Ordered.{IsSegment}
 use Rattle.gx_store.specs.Points.{marks_in}
 use Rattle.gx_store.specs.Waits.{claim, is_held}
-use Rattle.gx_waits.specs.declared.claim.Claim.{Claim}
 use Rattle.gx_waits.specs.declared.object.Object.TheVariants.{Relation}
 use Rattle.gx_modes.specs.declared.modes.Mode.{Mode}
 use Rattle.gx_rules.specs.AtSegment.{on_event, raised, seg_rule}
@@ -57,9 +56,9 @@ use Rattle.gx_law_holds.proofs.Orders.{order-still}
 use Rattle.gx_law_holds.proofs.World.{numbered-quiet}
 use Rattle.gx_law_writes.specs.Homes.{IsPlacedMark}
 use Rattle.gx_law_writes.proofs.Legal.{sent-no-write}
-use Rattle.gx_law_writes.proofs.Moves.{mark-written, own-rows}
+use Rattle.gx_law_writes.proofs.Moves.{own-rows}
 use Rattle.gx_law_writes.proofs.Plans.{row-piece}
-use Rattle.gx_law_writes.proofs.Rows.{insert-wrote, rows-locals}
+use Rattle.gx_law_writes.proofs.Rows.{inserted-answers, inserted-written}
 use Rattle.gx_law_writes.proofs.Told.{IsWritten, written-more}
 use Rattle.gx_law_writes.proofs.Turns.{IsOldReply, IsOldWord, NoWrite, Quiet, base}
 use Rattle.gx_law_writes.proofs.World as writes
@@ -295,7 +294,7 @@ module _ (script : Script) (some : 1 ≤ script.segments) (numbered_lines : AreL
 
     insert-earned : (table : Table) (rows : List KeyedRow) → Runs script es to e fails x (slice.Insert table rows) → TurnEarned
     insert-earned table rows z =
-        ran-earned z.g z.c _ (hold ∷ []) (inserted (base z.like z.horizon z.locks) z.g z.c table rows).seg _ ran (λ h. (rows-locals z.g z.c table rows (record { seg = base z.like z.horizon z.locks; marks = [] }) h).1 ∙ z.answers h)
+        ran-earned z.g z.c _ (hold ∷ []) (inserted (base z.like z.horizon z.locks) z.g z.c table rows).seg _ ran (λ h. inserted-answers (base z.like z.horizon z.locks) z.g z.c table rows h ∙ z.answers h)
         (new-reply (slice.Insert table rows) z _ (hold ∷ marks) (ap (λ (t : SegTurn). t.outs) ran) (ap (λ (t : SegTurn). t.marks) ran) truth)
       where
         ran : turn ≡ after_marks (hold_mark s.node z.wanted ∷ []) (inserts z.g z.c (length rows) (inserted (base z.like z.horizon z.locks) z.g z.c table rows))
@@ -311,7 +310,9 @@ module _ (script : Script) (some : 1 ≤ script.segments) (numbered_lines : AreL
         held = ms ++ hold ∷ []
 
         written : Each (IsWritten (held ++ marks)) rows
-        written = subst (λ ns. Each (IsWritten (held ++ ns)) rows) (sym (insert-wrote z.like z.horizon z.locks z.g z.c table rows).marks) (mark-written z.g z.c z.like.node table held rows (own-rows script ms to z.g z.c table rows (row-piece script ms to z.g z.c z.level z.snapshot table rows (z.came.order_is numbered_lines))))
+        written =
+            inserted-written held (base z.like z.horizon z.locks) z.g z.c table rows
+            (own-rows script ms to z.g z.c table rows (row-piece script ms to z.g z.c z.level z.snapshot table rows (z.came.order_is numbered_lines)))
 
         all : List Mark
         all = ms ++ (hold ∷ marks ++ sent)
@@ -331,11 +332,8 @@ module _ (script : Script) (some : 1 ≤ script.segments) (numbered_lines : AreL
         hold : Mark
         hold = hold_mark s.node z.wanted
 
-        some-claim : (a b : Claim) → Some a ≡ Some b → a ≡ b
-        some-claim a b q = cc
-
         hold-is : mark.Hold to z.g (Relation table) mode ≡ hold
-        hold-is = ap (λ (n : Node). hold_mark n (claim z.g (Relation table) mode)) (sym ((world_well script some es).names to.0)) ∙ ap (hold_mark s.node) (some-claim (claim z.g (Relation table) mode) z.wanted z.lock)
+        hold-is = ap (λ (n : Node). hold_mark n (claim z.g (Relation table) mode)) (sym ((world_well script some es).names to.0)) ∙ ap (hold_mark s.node) z.lock
 
         late-sent : AreReleasesLate ms (hold ∷ sent)
         late-sent = quiet-late (ms ++ hold ∷ []) sent (numbered-quiet (λ node. turn.seg.sent) turn.outs)
@@ -344,7 +342,7 @@ module _ (script : Script) (some : 1 ≤ script.segments) (numbered_lines : AreL
         locked =
             record {
               segment = subst (λ h. is_held (ms ++ (h ∷ sent)) to z.g (Relation table) mode ≡ true) hold-is (granted-held ms sent to z.g (Relation table) mode (numbered-quiet (λ node. turn.seg.sent) turn.outs));
-              coordinator = λ runs. order-still ms (hold ∷ sent) late-sent (message.Exec z.g z.c z.level z.snapshot z.horizon (slice.Lock table mode)) z.came.locked runs (claim z.g (Relation table) mode) refl;
+              coordinator = λ runs. order-still script ms (hold ∷ sent) late-sent (message.Exec z.g z.c z.level z.snapshot z.horizon (slice.Lock table mode)) z.came.locked runs;
             }
 
     -- the other slices do nothing yet

@@ -30,7 +30,7 @@ pub record Came (script : Script) (es : Events) (to : Node) (m : Message) : Type
   pub view_is : IsShownView (world_of script es) to m
   pub alive : IsAlive script (world_of script es) to m
   pub was : HasRun script (world_of script es).steps m
-  pub locked : IsLockedOrder (marks_in (world_of script es).steps) m
+  pub locked : IsLockedOrder script (marks_in (world_of script es).steps) m
 
 module _ (script : Script) (some : 1 ≤ script.segments) (es : Events) where
   abbrev w : World
@@ -40,7 +40,7 @@ module _ (script : Script) (some : 1 ≤ script.segments) (es : Events) where
   abbrev pub IsPost : Letter → Type 0
   IsPost l = IsLetter script (world_of script es).steps l × (l.from ≡ the_coordinator → Came script es l.to l.envelope.message)
 
-  each-post : (ls : List Letter) → Each (IsLetter script (world_of script es).steps) ls → Each (λ l. l.from ≡ the_coordinator → MessageIs script (marks_in (world_of script es).steps) l.to l.envelope.message) ls → AreShownViews (world_of script es) ls → AreAlive script (world_of script es) ls → HaveRun script (world_of script es).steps ls → Each (LetterLocked (marks_in (world_of script es).steps)) ls → Each IsPost ls
+  each-post : (ls : List Letter) → Each (IsLetter script (world_of script es).steps) ls → Each (λ l. l.from ≡ the_coordinator → MessageIs script (marks_in (world_of script es).steps) l.to l.envelope.message) ls → AreShownViews (world_of script es) ls → AreAlive script (world_of script es) ls → HaveRun script (world_of script es).steps ls → Each (LetterLocked script (marks_in (world_of script es).steps)) ls → Each IsPost ls
   each-post [] a b c d e f = tt
   each-post (l ∷ ls) a b c d e f = ((a.0, λ q. record { order_is = b.0 q; view_is = c.0; alive = d.0 q; was = e.0 q; locked = f.0 q }), each-post ls a.1 b.1 c.1 d.1 e.1 f.1)
 

@@ -25,7 +25,7 @@ use Rattle.gx_rules.specs.Locks.{hold_mark}
 use Rattle.gx_rules.specs.Machine.{World, coord_did, new_world, seg_can, seg_did, world_of}
 use Rattle.gx_rules.specs.Segments.{Phase, Seg, SegTurn, Version, after_marks, has_committed, local_of, with_local}
 use Rattle.gx_rules.specs.Shown.{last_images, rows_in, shown}
-use Rattle.gx_rules.specs.Slices.{runs_slice}
+use Rattle.gx_rules.specs.Running.{runs_slice}
 use Rattle.gx_law_order.proofs.Ordered.{world_well}
 use Rattle.gx_law_order.proofs.Waiting.{GoesOn, goes-on-is, going-on}
 use Rattle.gx_law_sessions.proofs.World.{after-last}
@@ -116,8 +116,8 @@ module _ (script : Script) (some : 1 ≤ script.segments) (numbered_lines : AreL
         sight = λ unaborted v same k d taken table rid only. ap (λ rows. row_at rows rid) (shown-still s g o.waits.horizon v o.slice.cid table) ∙ (subst (λ z. Came script es to (message.Exec g o.slice.cid o.slice.level z o.waits.horizon o.slice.slice)) same its).view_is place.0 (waits-to-run script w (world_well script some es) to g o.slice o.is unaborted) k d taken table rid only;
         locks = resumed s.locks g (Some o.wanted);
         wanted = o.wanted;
-        lock = sym o.waits.wants ∙ o.claims;
-        ran = ran ∙ ap (λ (t : Seg). after_marks (hold_mark s.node o.wanted ∷ []) (runs_slice (record t { locks = resumed s.locks g (Some o.wanted) }) g o.slice.cid o.slice.snapshot o.slice.slice)) (sym (raised-same (unsuspended s g) o.waits.horizon o.waits.raised));
+        lock = o.lock;
+        ran = ran ∙ ap (λ (t : Seg). after_marks (hold_mark s.node o.wanted ∷ []) (runs_slice (record t { locks = resumed s.locks g (Some o.wanted) }) g o.slice.cid o.slice.level o.slice.snapshot o.slice.slice)) (sym (raised-same (unsuspended s g) o.waits.horizon o.waits.raised));
         given = λ r given.
             inr (record {
               is = refl;
@@ -133,7 +133,7 @@ module _ (script : Script) (some : 1 ≤ script.segments) (numbered_lines : AreL
               unanswered = o.waits.unanswered;
               wanted = o.wanted;
               wants = o.claims;
-              lock = sym o.waits.wants ∙ o.claims;
+              lock = o.lock;
               free = o.free;
               ran = ran;
               given = given;
@@ -143,7 +143,7 @@ module _ (script : Script) (some : 1 ≤ script.segments) (numbered_lines : AreL
       its : Came script es to (message.Exec g o.slice.cid o.slice.level o.slice.snapshot o.waits.horizon o.slice.slice)
       its = came-before script some es to _ o.waits.come
 
-      ran : turn ≡ after_marks (hold_mark s.node o.wanted ∷ []) (runs_slice (record (unsuspended s g) { locks = resumed s.locks g (Some o.wanted) }) g o.slice.cid o.slice.snapshot o.slice.slice)
+      ran : turn ≡ after_marks (hold_mark s.node o.wanted ∷ []) (runs_slice (record (unsuspended s g) { locks = resumed s.locks g (Some o.wanted) }) g o.slice.cid o.slice.level o.slice.snapshot o.slice.slice)
       ran = goes-on-is s g o.wanted o.slice o.claims o.is
 
   pub resumption-does : Doings script es to (event.Resume to g) fails (here.Resume g)

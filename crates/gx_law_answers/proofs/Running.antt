@@ -31,7 +31,7 @@ use Rattle.gx_rules.specs.Locks.{hold_mark}
 use Rattle.gx_rules.specs.Machine.{World, seg_did, world_of}
 use Rattle.gx_rules.specs.Segments.{Seg, SegTurn, after_marks, reply as reply_out}
 use Rattle.gx_rules.specs.Shown.{shown}
-use Rattle.gx_rules.specs.Slices.{runs_slice, slice_lock}
+use Rattle.gx_rules.specs.Running.{runs_slice, slice_lock}
 use Rattle.gx_law_order.proofs.Lists.{Each}
 use Rattle.gx_law_reads.specs.Sights.{IsOnlyAt}
 use Rattle.gx_law_writes.proofs.Turns.{NoRow, Quiet, base}
@@ -74,8 +74,8 @@ module _ (script : Script) (es : Events) (to : Node) (e : Event) (fails : Bool) 
         → row_at (shown (raised like horizon) v g c table) rid ≡ image (marks_in (world_of script es).steps) (take k (marks_in (world_of script es).steps)) (Some (g, c)) table rid
     pub locks : Locks
     pub wanted : Claim
-    pub lock : slice_lock g y ≡ Some wanted
-    pub ran : on_event script ((world_of script es).segs to.0) x fails ≡ after_marks (hold_mark ((world_of script es).segs to.0).node wanted ∷ []) (runs_slice (base like horizon locks) g c snapshot y)
+    pub lock : slice_lock script g y ≡ wanted
+    pub ran : on_event script ((world_of script es).segs to.0) x fails ≡ after_marks (hold_mark ((world_of script es).segs to.0).node wanted ∷ []) (runs_slice (base like horizon locks) g c level snapshot y)
     pub given : (r : Reply) → (on_event script ((world_of script es).segs to.0) x fails).outs ≡ reply_out g r ∷ [] → RunsAtOnce script (world_of script es) e fails to g c level snapshot y r ⊎ RunsBehindWait script (world_of script es) e to g c level snapshot y r
 
   -- it tells nothing, and no row

@@ -1,12 +1,9 @@
 -- The marks of a segment's step may stand there.
 use Rattle.std.proofs.Common.{◌≡◌, ◌≤◌, ◌⊎◌, inl, inr, ℕ, List, [], ◌∷◌, ◌++◌, Option, Some, None, Bool, true, false, refl, sym, subst, ap, ◌∙◌, arith, append_assoc, append-nil, ◌||◌}
-use Rattle.std.specs.Prelude.{map}
 use Rattle.gx_lemmas.proofs.Options.{some-same}
-use Rattle.gx_ids.specs.declared.ids.Cid.{Cid}
 use Rattle.gx_ids.specs.declared.ids.Gxid.{Gxid}
 use Rattle.gx_ids.specs.declared.ids.Node.{Node}
 use Rattle.gx_ids.specs.declared.ids.SessionId.{SessionId}
-use Rattle.gx_ids.specs.declared.ids.Table.{Table}
 use Rattle.gx_tree.specs.declared.query.Query.{Query}
 use Rattle.gx_tree.specs.declared.row.KeyedRow.{KeyedRow}
 use Rattle.gx_tree.specs.declared.slice.Slice.{Slice}
@@ -47,7 +44,7 @@ use Rattle.gx_law_sessions.specs.Rest.{EachMark, Rest, UnlessStart, is_going_out
 use Rattle.gx_law_sessions.proofs.Given.{marks-append, sent-rest}
 use Rattle.gx_law_commit.proofs.Whole.{world-both}
 use Rattle.gx_law_writes.specs.Writes.{AreWritesLegal, WriteLegal}
-use Rattle.gx_law_writes.proofs.Rows.{insert-wrote, row_mark}
+use Rattle.gx_law_writes.proofs.Rows.{inserted-no-fault}
 use Rattle.gx_law_writes.proofs.Told.{take-get}
 use Rattle.gx_law_writes.proofs.Turns.{NoFault, base, row-no-fault}
 use Rattle.gx_law_writes.proofs.World as writes
@@ -62,11 +59,6 @@ use Rattle.gx_law_answers.proofs.Truths.{part-more, seen-fault, snapshot-more}
 abbrev FaultLegal : Script → Point → Mark → Type 0
 FaultLegal script point (mark.Fault g c rid image) = LegalFault script point g c rid image
 FaultLegal script point m = Unit {0}
-
--- an INSERT faults on no row
-rows-no-fault : (g : Gxid) (c : Cid) (node : Node) (table : Table) (rows : List KeyedRow) → Each NoFault (map (row_mark g c node table) rows)
-rows-no-fault g c node table [] = tt
-rows-no-fault g c node table (r ∷ rs) = (tt, rows-no-fault g c node table rs)
 
 -- ---- lists of marks
 front : (P : Point → Mark → Type 0) (steps : List Step) (e : Event) (earlier xs ys later : List Mark) → EachMark P steps e earlier (xs ++ ys) later → EachMark P steps e earlier xs (ys ++ later)
@@ -219,7 +211,7 @@ module _ (script : Script) (some : 1 ≤ script.segments) (numbered_lines : AreL
     slice-faults later (slice.Select query) z = let o = snapshot-of z.snapshot z.reads in select-faults query z o.0 o.1 later (first_fault query.cond (rows query z o.0 o.1)) refl (select-ran script some numbered_lines es to e fails x place is-late query z o.0 o.1)
     slice-faults later (slice.Insert table tuples) z =
         quiet-faults later
-        (subst (λ (t : SegTurn). Each NoFault t.marks) (sym (z.ran ∙ ap (λ o. after_marks (hold_mark s.node z.wanted ∷ []) (adds (base z.like z.horizon z.locks) z.g z.c table tuples o)) (snapshot-of z.snapshot z.reads).1)) (tt, subst (Each NoFault) (sym (insert-wrote z.like z.horizon z.locks z.g z.c table tuples).marks) (rows-no-fault z.g z.c z.like.node table tuples)))
+        (subst (λ (t : SegTurn). Each NoFault t.marks) (sym (z.ran ∙ ap (λ o. after_marks (hold_mark s.node z.wanted ∷ []) (adds (base z.like z.horizon z.locks) z.g z.c table tuples o)) (snapshot-of z.snapshot z.reads).1)) (tt, inserted-no-fault (base z.like z.horizon z.locks) z.g z.c table tuples))
     slice-faults later (slice.Update t a d) z = stays-faults later z.wanted (base z.like z.horizon z.locks) z.ran
     slice-faults later (slice.Delete t d) z = stays-faults later z.wanted (base z.like z.horizon z.locks) z.ran
     slice-faults later (slice.Lock t m) z = quiet-faults later (subst (λ (t : SegTurn). Each NoFault t.marks) (sym z.ran) (tt, tt))

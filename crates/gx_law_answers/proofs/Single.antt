@@ -1,5 +1,5 @@
 -- A repeatable-read transaction takes one snapshot.
-use Rattle.std.proofs.Common.{◌≡◌, ◌≢◌, ◌≤◌, ◌<◌, ◌⊎◌, inl, inr, ⊎_elim, ℕ, zero, suc, ◌+◌, List, [], ◌∷◌, ◌++◌, Option, Some, None, Result, Ok, Err, Bool, true, false, refl, sym, subst, ap, ◌∙◌, ◌||◌, ◌&&◌, if◌then◌else◌, arith, eqb, length}
+use Rattle.std.proofs.Common.{◌≡◌, ◌≤◌, ◌<◌, ◌⊎◌, inl, inr, ℕ, zero, suc, ◌+◌, List, [], ◌∷◌, ◌++◌, Option, Some, None, Result, Ok, Err, Bool, true, false, refl, sym, subst, ap, ◌∙◌, ◌||◌, ◌&&◌, if◌then◌else◌, arith, eqb, length}
 use Rattle.std.proofs.lemmas.Bool.Decides.{nat_tests}
 use Rattle.std.specs.Prelude.{All, ◌==◌, slice_get, map}
 use Rattle.std.proofs.lemmas.Bool.{or_right}
@@ -151,7 +151,7 @@ module _ (P : Gxid → Type 0) where
       by_test false = tt
 
   dispatch-one : (script : Script) (c : Coord) (g : Gxid) (line : Stmt) → ((work_of c g).snapshot ≡ None → P g) → OneSnap P (dispatches script c g line).marks
-  dispatch-one script c g line p = request-one script c g line p (lock_for g line)
+  dispatch-one script c g line p = request-one script c g line p (lock_for script g line)
 
   on-one : (script : Script) (c : Coord) (s : SessionId) (line : Stmt) (asked : LineStep) → P c.table.next → (asked ≡ step.Command false → (work_of c (session_of c s).transaction).snapshot ≡ None → P (session_of c s).transaction) → OneSnap P (on_line script c s line asked).marks
   on-one script c s line (step.Answer plain) new inside = tt

@@ -23,10 +23,10 @@ use Rattle.gx_store.specs.Points.{marks_in}
 use Rattle.gx_store.specs.Refusals.{the_coordinator}
 use Rattle.gx_rules.specs.AtSegment.{on_message, raised, resumes}
 use Rattle.gx_rules.specs.Machine.{World, found, world_of}
-use Rattle.gx_rules.specs.Segments.{Suspended, after_marks, local_of, reply, with_local}
+use Rattle.gx_rules.specs.Segments.{Suspended, after_marks, local_of, reply}
 use Rattle.gx_rules.specs.Locks.{hold_mark}
-use Rattle.gx_rules.specs.Slices.{runs_slice, slice_lock}
-use Rattle.gx_locks.specs.Locks.{Locks, is_free, resumed, wait_of}
+use Rattle.gx_rules.specs.Running.{goes_on, is_granted, runs_slice, slice_lock}
+use Rattle.gx_locks.specs.Locks.{Locks, is_free, wait_of}
 use Rattle.gx_waits.specs.declared.claim.Claim.{Claim}
 use Rattle.gx_law_sessions.specs.Orders.{IsOrder}
 use Rattle.gx_law_answers.specs.Truth.{IsTruth}
@@ -49,10 +49,10 @@ pub record RunsAtOnce (script : Script) (w : World) (event : Event) (fails : Boo
   pub new : (local_of (w.segs segment.0) g).last < c.0
   pub locks : Locks
   pub wanted : Claim
-  pub lock : slice_lock g slice ≡ Some wanted
+  pub lock : slice_lock script g slice ≡ wanted
   pub ran : on_message script (w.segs segment.0) fails envelope.message
       ≡ after_marks (hold_mark (w.segs segment.0).node wanted ∷ [])
-      (runs_slice (record (raised (w.segs segment.0) horizon) { locks = locks }) g c snapshot slice)
+      (runs_slice (record (raised (w.segs segment.0) horizon) { locks = locks }) g c level snapshot slice)
   pub given : (on_message script (w.segs segment.0) fails envelope.message).outs ≡ reply g answer ∷ []
 
 -- one of the steps, at the node, received the message from the coordinator
@@ -81,15 +81,10 @@ pub record RunsBehindWait (script : Script) (w : World) (event : Event) (segment
   pub unanswered : (local_of (w.segs segment.0) g).answer ≡ None
   pub wanted : Claim
   pub wants : wait_of (w.segs segment.0).locks g ≡ Some wanted
-  pub lock : slice_lock g slice ≡ Some wanted
+  pub lock : slice_lock script g slice ≡ wanted
   pub free : is_free (w.segs segment.0).locks.holds wanted ≡ true
   pub ran : resumes (w.segs segment.0) g (wait_of (w.segs segment.0).locks g) (local_of (w.segs segment.0) g).suspended
-      ≡ after_marks (hold_mark (w.segs segment.0).node wanted ∷ [])
-      (runs_slice
-      (record (with_local (w.segs segment.0) g (record (local_of (w.segs segment.0) g) { suspended = None })) {
-        locks = resumed (w.segs segment.0).locks g (Some wanted);
-      })
-      g c snapshot slice)
+      ≡ goes_on (is_granted (w.segs segment.0) g wanted) g waiting
   pub given : (resumes (w.segs segment.0) g (wait_of (w.segs segment.0).locks g) (local_of (w.segs segment.0) g).suspended).outs ≡ reply g answer ∷ []
 
 -- in the last of these events, with a step of the segment, a command's slice took its lock there and ran, and so it was answered
