@@ -7,6 +7,7 @@ use Rattle.gx_lemmas.proofs.Numbers.{eqb-back, eqb-self}
 use Rattle.gx_ids.specs.declared.ids.Cid.{Cid}
 use Rattle.gx_ids.specs.declared.ids.Node.{Node}
 use Rattle.gx_tree.specs.declared.part.Part.{Part}
+use Rattle.gx_script.specs.declared.Script.{Script}
 use Rattle.gx_dtx.specs.Nodes.{has, without}
 use Rattle.gx_dtx.specs.Rules.{awaits_found, is_awaited as is_awaited_in, on_reply, order_found, order_in, reply_found, stays}
 use Rattle.gx_dtx.specs.Table.{find_txn, participants_in}
@@ -21,7 +22,7 @@ use Rattle.gx_msg.specs.declared.reply.Reply.{Reply}
 use Rattle.gx_msg.specs.declared.reply.Reply.TheVariants as reply
 use Rattle.gx_store.specs.Journals.{is_same_node}
 use Rattle.gx_store.specs.Schedule.{is_answer_to}
-use Rattle.gx_rules.specs.AtCoordinator.{awaited, follows, goes_on, is_awaited, is_refused, on_answer, on_done, on_failed, on_message, on_status, order_to, reason_of, status_order, takes_done, with_done, writers_with}
+use Rattle.gx_rules.specs.AtCoordinator.{awaited, follows, goes_on, is_awaited, is_refused, on_answer, on_done, on_failed, on_status, order_to, reason_of, status_order, takes_done, with_done, writers_with}
 use Rattle.gx_rules.specs.Coordinators.{Command, Coord, Work, rests, with_work, work_of}
 use Rattle.gx_rules.specs.Fits.{fits_part}
 use Rattle.gx_dtx.specs.Rules.{on_abort}
@@ -32,11 +33,11 @@ use Rattle.gx_law_order.proofs.Statuses.Stage.{Live}
 use Rattle.gx_law_commit.proofs.Dispatching.{IsLive}
 use Rattle.gx_law_commit.proofs.Events.{live-stage}
 use Rattle.gx_law_commit.proofs.Nodes.{AreApart, apart-with, has-with, has-without}
-use Rattle.gx_law_schedules.proofs.Asking.{AreNeat, Asked, Asks, asks-by, commits-asks, complete-asks, now_asked, nothing-sent, one-asks, refused-asks, rest-asks, same-works}
+use Rattle.gx_law_schedules.proofs.Asking.{AreNeat, Asked, Asks, asks-by, complete-asks, now_asked, refused-asks, rest-asks}
 use Rattle.gx_law_schedules.proofs.Neat.{IsDone, Neat, NeatCommand, NeatPhase, NeatTxn, done-waiting, reply-asks, waiting, waiting-none}
 use Rattle.gx_law_schedules.proofs.Replies.{IsAboutStatus, IsOfCommand, answer-other, exec-command, exec-no-status, order-no-command, status-alike, unanswered}
 
-module _ (c : Coord) (k : Kept c) (n : AreNeat c) where
+module _ {script : Script} (c : Coord) (k : Kept script c) (n : AreNeat c) where
   -- who isn't running its commands awaits none
   stage-done : (g : ℕ) → (stage_of c g ≡ Live → ⊥) → IsDone (c.works g).command
   stage-done g away = by_command (c.works g).command refl

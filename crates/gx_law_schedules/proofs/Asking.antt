@@ -12,7 +12,7 @@ use Rattle.gx_tree.specs.declared.stmt.Stmt.{Stmt}
 use Rattle.gx_tree.specs.declared.stmt.Stmt.TheVariants as stmt
 use Rattle.gx_dsnap.specs.declared.snapshot.Snapshot.{Snapshot}
 use Rattle.gx_dtx.specs.Nodes.{has, with_node}
-use Rattle.gx_dtx.specs.Rules.{abort_found, changed, commit_found, enlisted, on_abort, order_found, turns, with_live}
+use Rattle.gx_dtx.specs.Rules.{abort_found, changed, commit_found, enlisted, on_abort, order_found, turns}
 use Rattle.gx_dtx.specs.Table.{Table, find_txn, horizon_of, participants_in, xmin_of}
 use Rattle.gx_dtx.specs.declared.change.Change.{Change}
 use Rattle.gx_dtx.specs.declared.outcome.Outcome.{Outcome}
@@ -31,7 +31,7 @@ use Rattle.gx_store.specs.declared.answer.Refused.{Refused}
 use Rattle.gx_store.specs.declared.mark.Mark.{Mark}
 use Rattle.gx_store.specs.Schedule.{is_about}
 use Rattle.gx_store.specs.Writes.{dist_of}
-use Rattle.gx_rules.specs.AtCoordinator.{Reading, answers, awaited, commits, completes, dispatches, enlisted_all, fault_mark, follows, goes, goes_on, goes_out, is_refused, kept_at, next_cid, nodes_in, order_to, orders_of, reads_by, reads_for, refusal_of, rolls_back, status_order, table_of, takes_snapshot, unless_kept, goes_on_locked, if_granted, lock_for, requests, resumes}
+use Rattle.gx_rules.specs.AtCoordinator.{Reading, answers, awaited, commits, completes, dispatches, enlisted_all, fault_mark, follows, goes, goes_out, is_refused, kept_at, next_cid, nodes_in, order_to, orders_of, reads_by, reads_for, refusal_of, rolls_back, status_order, table_of, takes_snapshot, unless_kept, goes_on_locked, if_granted, lock_for, requests, resumes}
 use Rattle.gx_rules.specs.Coordinators.{Command, Coord, CoordTurn, Work, no_work, rests, with_work, work_of}
 use Rattle.gx_rules.specs.Snapshots.{snapshot_of}
 use Rattle.gx_law_order.proofs.Closings.{live-at, set_live}
@@ -400,7 +400,7 @@ module _ (c : Coord) (whole : IsWhole c.table) (n : AreNeat c) (g : ℕ) (live :
   request-asks (Some wanted) = granted-asks wanted (is_free c.locks.holds wanted)
 
   pub dispatch-asks : Asks (now_asked c) (dispatches script c (gx g) line)
-  dispatch-asks = request-asks (lock_for (gx g) line)
+  dispatch-asks = request-asks (lock_for script (gx g) line)
 
   -- behind a wait
   pub resume-asks : (wanted : Claim) → Asks (now_asked c) (resumes script c (gx g) (Some wanted) (Some line))

@@ -33,12 +33,13 @@ use Rattle.gx_law_order.proofs.Lists.{Each, each_append, each_flat, each_map, ea
 use Rattle.gx_law_order.proofs.World.{Knows, world_knows}
 use Rattle.gx_law_sessions.proofs.World.{sessions-stand, world-holds}
 use Rattle.gx_law_schedules.specs.Enabled.{at_segment_by, drawn, enabled_there, ends_by, is_anybody_waiting, is_due, is_next_by, resends_due, resumes_by, rounds_by, sessions_of, starts_by}
-use Rattle.gx_law_schedules.specs.Marked.{AreLocksMarked, IsMarked}
+use Rattle.gx_law_holds.specs.Marked.{AreLocksMarked, IsMarked}
 use Rattle.gx_law_schedules.specs.Links.{is_number}
 use Rattle.gx_law_schedules.proofs.Awaited.{undrawn-none, world-asks}
 use Rattle.gx_law_schedules.proofs.Room.{world-stays}
 use Rattle.gx_law_schedules.proofs.Sessions.{end-alike, next-alike, start-alike}
-use Rattle.gx_law_schedules.proofs.Marked.{locks-marked, single-here, single-there}
+use Rattle.gx_law_holds.proofs.Single.{single-here, single-there}
+use Rattle.gx_law_holds.proofs.World.{world-locked}
 use Rattle.gx_law_schedules.proofs.Waits.{no-graph, not-running}
 use Rattle.gx_law_schedules.proofs.World.{world-letters}
 
@@ -161,7 +162,7 @@ module _ (script : Script) (some : 1 ≤ script.segments) (es : List (Event × B
       above a k e = grind (arith, nat_tests)
 
   marked : AreLocksMarked (world_of script es)
-  marked = locks-marked script some es
+  marked = (world-locked script some es).marked
 
   n : Knows script (world_of script es)
   n = world_knows script some es

@@ -5,11 +5,13 @@ use Rattle.std.specs.Prelude.{filter, fold, length}
 use Rattle.gx_ids.specs.declared.ids.Cid.{Cid}
 use Rattle.gx_ids.specs.declared.ids.Gxid.{Gxid}
 use Rattle.gx_ids.specs.declared.ids.Table.{Table}
+use Rattle.gx_ids.specs.declared.rid.Rid.{Rid}
 use Rattle.gx_tree.specs.declared.query.Query.{Query}
 use Rattle.gx_tree.specs.declared.row.KeyedRow.{KeyedRow}
 use Rattle.gx_tree.specs.declared.slice.Slice.{Slice}
 use Rattle.gx_tree.specs.declared.slice.Slice.TheVariants as slice
 use Rattle.gx_tree.specs.declared.stmt.Level.{Level}
+use Rattle.gx_tree.specs.declared.value.Value.{Value}
 use Rattle.gx_dsnap.specs.Gxids.{is_below}
 use Rattle.gx_dsnap.specs.declared.snapshot.Snapshot.{Snapshot}
 use Rattle.gx_waits.specs.declared.claim.Claim.{Claim}
@@ -26,7 +28,8 @@ use Rattle.gx_store.specs.declared.mark.Mark.{Mark}
 use Rattle.gx_rules.specs.AtSegment.{changes, commits, ends, finishes, if_fits, on_abort, on_commit, on_commit_prepared, on_exec, on_forget, on_message, on_prepare, once, promises, raised, repeats, resumes, takes, unless_below, was_prepared}
 use Rattle.gx_rules.specs.Segments.{Local, Phase, Seg, SegTurn, Suspended, local_of, stays, tells, tells_kept, with_local}
 use Rattle.gx_rules.specs.Segments.Phase.{Aborted, Committed, Forgotten, Prepared, Reading, Writing}
-use Rattle.gx_rules.specs.Slices.{Moved, first_fault, inserted, inserts, inserts_row, runs_slice, selects, requests, slice_lock}
+use Rattle.gx_rules.specs.Running.{requests, runs_slice, slice_lock}
+use Rattle.gx_rules.specs.Slices.{Moved, first_fault, inserted, inserts, inserts_row, selects, starts_from, takes_own, writes_row}
 use Rattle.gx_rules.specs.Shown.{shown}
 use Rattle.gx_rules.specs.Fits.{fits_exec, is_waiting}
 use Rattle.gx_rules.specs.Locks.{with_hold}
@@ -53,6 +56,9 @@ module _ (P : ℕ → Reply → Type 0) (partless : (g : ℕ) (r : Reply) → Is
   pub record LocalSo (g : ℕ) (l : Local) : Type 0 where
     pub answer : KeptSo g l.answer
     pub vote : KeptSo g l.vote
+
+  abbrev MovedSo : Moved → Type 0
+  MovedSo m = (h : ℕ) → LocalSo h (m.seg.locals h)
 
   pub record TurnSo (turn : SegTurn) : Type 0 where
     pub locals : (h : ℕ) → LocalSo h (turn.seg.locals h)
@@ -100,39 +106,55 @@ module _ (P : ℕ → Reply → Type 0) (partless : (g : ℕ) (r : Reply) → Is
       select h locks q rows None e = answered (raised_with h locks) [] _ so (right _ 0 (part_of q (filter (keeps q.cond) rows)) (ap (λ (y : Slice). is_right_part y (part_of q (filter (keeps q.cond) rows))) e ∙ part-right q (filter (keeps q.cond) rows)))
       select h locks q rows (Some f) e = answered (raised_with h locks) _ _ so (partless g.0 (reply.Failed c (Rattle.gx_rules.specs.Slices.cause_of f.1)) tt)
 
-      insert-rows : (table : Table) (rows : List KeyedRow) (m : Moved) → ((h : ℕ) → LocalSo h (m.seg.locals h)) → (h : ℕ) → LocalSo h ((fold (inserts_row g c table) m rows).seg.locals h)
-      insert-rows table [] m f = f
-      insert-rows table (r ∷ rs) m f = insert-rows table rs (inserts_row g c table m r) (with-so m.seg.locals f g.0 (record (local_of m.seg g) { phase = Writing }) (record { answer = (f g.0).answer; vote = (f g.0).vote }))
+      -- a write, with the writer's own lock
+      own-so : (p : Phase) (m : Moved) → MovedSo m → MovedSo (takes_own g p m)
+      own-so Reading m f = f
+      own-so Writing m f = f
+      own-so Prepared m f = f
+      own-so Committed m f = f
+      own-so (Forgotten b) m f = f
+      own-so Aborted m f = f
 
-      insert : (table : Table) (rows : List KeyedRow) (m : Moved) → ((h : ℕ) → LocalSo h (m.seg.locals h)) → x ≡ slice.Insert table rows → TurnSo (inserts g c (length rows) m)
+      written-so : (table : Table) (m : Moved) (rid : Rid) (image : Option (List Value)) → MovedSo m → MovedSo (writes_row g c table m rid image)
+      written-so table m rid image f =
+          own-so (local_of m.seg g).phase _ (with-so m.seg.locals f g.0 (record (local_of m.seg g) { phase = Writing }) (record { answer = (f g.0).answer; vote = (f g.0).vote }))
+
+      insert-rows : (table : Table) (rows : List KeyedRow) (m : Moved) → MovedSo m → MovedSo (fold (inserts_row g c table) m rows)
+      insert-rows table [] m f = f
+      insert-rows table (r ∷ rs) m f = insert-rows table rs (inserts_row g c table m r) (written-so table m r.rid (Some r.row) f)
+
+      insert : (table : Table) (rows : List KeyedRow) (m : Moved) → MovedSo m → x ≡ slice.Insert table rows → TurnSo (inserts g c (length rows) m)
       insert table rows m f e = answered m.seg m.marks _ f (right _ (length rows) (Rows []) (ap (λ (y : Slice). is_right_part y (Rows [])) e))
 
-      slice-runs : (h : Gxid) (locks : Locks) (snapshot : Option Snapshot) (y : Slice) → x ≡ y → TurnSo (runs_slice (raised_with h locks) g c snapshot y)
-      slice-runs h locks (Some snapshot) (slice.Select q) e = select h locks q (shown (raised_with h locks) snapshot g c q.table) (first_fault q.cond (shown (raised_with h locks) snapshot g c q.table)) e
-      slice-runs h locks (Some snapshot) (slice.Insert table rows) e = insert table rows (inserted (raised_with h locks) g c table rows) (insert-rows table rows (record { seg = raised_with h locks; marks = [] }) so) e
-      slice-runs h locks snapshot (slice.Lock table mode) e = answered (raised_with h locks) [] _ so (right _ 0 (Rows []) (ap (λ (y : Slice). is_right_part y (Rows [])) e))
-      slice-runs h locks None (slice.Select q) e = record { locals = so; outs = tt }
-      slice-runs h locks None (slice.Insert table rows) e = record { locals = so; outs = tt }
-      slice-runs h locks snapshot (slice.Update table assigns cond) e = record { locals = so; outs = tt }
-      slice-runs h locks snapshot (slice.Delete table cond) e = record { locals = so; outs = tt }
+      slice-runs : (h : Gxid) (locks : Locks) (level : Level) (snapshot : Option Snapshot) (y : Slice) → x ≡ y → TurnSo (runs_slice (raised_with h locks) g c level snapshot y)
+      slice-runs h locks level (Some snapshot) (slice.Select q) e =
+          select h locks q (shown (raised_with h locks) snapshot g c q.table) (first_fault q.cond (shown (raised_with h locks) snapshot g c q.table)) e
+      slice-runs h locks level (Some snapshot) (slice.Insert table rows) e =
+          insert table rows (inserted (raised_with h locks) g c table rows) (insert-rows table rows (starts_from (raised_with h locks)) so) e
+      slice-runs h locks level snapshot (slice.Lock table mode) e = answered (raised_with h locks) [] _ so (right _ 0 (Rows []) (ap (λ (y : Slice). is_right_part y (Rows [])) e))
+      slice-runs h locks level None (slice.Select q) e = record { locals = so; outs = tt }
+      slice-runs h locks level None (slice.Insert table rows) e = record { locals = so; outs = tt }
+      slice-runs h locks level snapshot (slice.Update table assigns cond) e = record { locals = so; outs = tt }
+      slice-runs h locks level snapshot (slice.Delete table cond) e = record { locals = so; outs = tt }
 
-      starts : (level : Level) (snapshot : Option Snapshot) (h : Gxid) (o : Option Claim) → TurnSo (requests (raised s h) g c level snapshot x o)
-      starts level snapshot h None = slice-runs (raised s h).horizon s.locks snapshot x refl
-      starts level snapshot h (Some wanted) = both (is_free s.locks.holds wanted) _ _ (record { locals = run.locals; outs = run.outs }) (record { locals = with-so s.locals so g.0 _ (record { answer = tt; vote = (so g.0).vote }); outs = tt })
+      starts : (level : Level) (snapshot : Option Snapshot) (h : Gxid) (wanted : Claim) → TurnSo (requests (raised s h) g c level snapshot x wanted)
+      starts level snapshot h wanted =
+          both (is_free s.locks.holds wanted) _ _ (record { locals = run.locals; outs = run.outs })
+          (record { locals = with-so s.locals so g.0 _ (record { answer = tt; vote = (so g.0).vote }); outs = tt })
         where
-          run : TurnSo (runs_slice (raised_with (raised s h).horizon (with_hold s.locks wanted)) g c snapshot x)
-          run = slice-runs (raised s h).horizon (with_hold s.locks wanted) snapshot x refl
+          run : TurnSo (runs_slice (raised_with (raised s h).horizon (with_hold s.locks wanted)) g c level snapshot x)
+          run = slice-runs (raised s h).horizon (with_hold s.locks wanted) level snapshot x refl
 
-      take : (level : Level) (snapshot : Option Snapshot) (h : Gxid) → TurnSo (takes s g c level snapshot h x (local_of s g))
-      take level snapshot h = both (nat_lt (local_of s g).last c.0) _ _ (starts level snapshot h (slice_lock g x)) (repeat g c)
+      take : (script : Script) (level : Level) (snapshot : Option Snapshot) (h : Gxid) → TurnSo (takes script s g c level snapshot h x (local_of s g))
+      take script level snapshot h = both (nat_lt (local_of s g).last c.0) _ _ (starts level snapshot h (slice_lock script g x)) (repeat g c)
 
-      exec : (level : Level) (snapshot : Option Snapshot) (h : Gxid) (p : Phase) → TurnSo (on_exec s g c level snapshot h x (local_of s g) p)
-      exec level snapshot h Reading = take level snapshot h
-      exec level snapshot h Writing = take level snapshot h
-      exec level snapshot h Prepared = repeat g c
-      exec level snapshot h Committed = repeat g c
-      exec level snapshot h (Forgotten b) = stay
-      exec level snapshot h Aborted = stay
+      exec : (script : Script) (level : Level) (snapshot : Option Snapshot) (h : Gxid) (p : Phase) → TurnSo (on_exec script s g c level snapshot h x (local_of s g) p)
+      exec script level snapshot h Reading = take script level snapshot h
+      exec script level snapshot h Writing = take script level snapshot h
+      exec script level snapshot h Prepared = repeat g c
+      exec script level snapshot h Committed = repeat g c
+      exec script level snapshot h (Forgotten b) = stay
+      exec script level snapshot h Aborted = stay
 
     -- THE STATUS
     abbrev own : Gxid → Local
@@ -215,7 +237,7 @@ module _ (P : ℕ → Reply → Type 0) (partless : (g : ℕ) (r : Reply) → Is
     RightFor _ = Unit {0}
 
     pub message-so : (script : Script) (fails : Bool) (m : Message) → RightFor m → TurnSo (on_message script s fails m)
-    message-so script fails (message.Exec g c level snapshot h x) r = below g _ (fits (fits_exec script s g c snapshot h x) _ (exec g c x r level snapshot h (local_of s g).phase))
+    message-so script fails (message.Exec g c level snapshot h x) r = below g _ (fits (fits_exec script s g c snapshot h x) _ (exec g c x r script level snapshot h (local_of s g).phase))
     message-so script fails (message.Prepare g) r = below g _ (fits (not (is_waiting (local_of s g))) _ (prepare g fails (local_of s g).phase))
     message-so script fails (message.Commit g) r = below g _ (fits (not (is_waiting (local_of s g))) _ (commit g fails (local_of s g).phase))
     message-so script fails (message.CommitPrepared g) r = below g _ (commit-prepared g fails (local_of s g).phase)
@@ -233,5 +255,6 @@ module _ (P : ℕ → Reply → Type 0) (partless : (g : ℕ) (r : Reply) → Is
   pub resume-so : (s : Seg) → ((h : ℕ) → LocalSo h (s.locals h)) → (g : Gxid) (wanted : Claim) (x : Suspended) → RightOf g x → TurnSo (resumes s g (Some wanted) (Some x))
   resume-so s so g wanted x right =
       let t : Seg = with_local s g (record (local_of s g) { suspended = None }) in
-      let run = slice-runs t (with-so s so s.locals so g.0 (record (local_of s g) { suspended = None }) (record { answer = (so g.0).answer; vote = (so g.0).vote })) g x.cid x.slice right s.horizon (resumed s.locks g (Some wanted)) x.snapshot x.slice refl in
+      let old = with-so s so s.locals so g.0 (record (local_of s g) { suspended = None }) (record { answer = (so g.0).answer; vote = (so g.0).vote }) in
+      let run = slice-runs t old g x.cid x.slice right s.horizon (resumed s.locks g (Some wanted)) x.level x.snapshot x.slice refl in
       record { locals = run.locals; outs = run.outs }

@@ -17,11 +17,6 @@ pub mod Fitting
 pub mod Serving
 pub mod Ordering
 pub mod Fitted
-pub mod Standing
-pub mod Released
-pub mod LocksHere
-pub mod LocksThere
-pub mod Marked
 pub mod Awaited
 pub mod Waits
 pub mod Enabled

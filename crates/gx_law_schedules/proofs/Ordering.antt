@@ -34,8 +34,8 @@ use Rattle.gx_store.specs.declared.node.NodeEvent.{NodeEvent}
 use Rattle.gx_store.specs.declared.node.NodeEvent.TheVariants as event
 use Rattle.gx_store.specs.Writes.{dist_of}
 use Rattle.gx_store.specs.declared.answer.StmtAnswer.TheVariants as told
-use Rattle.gx_rules.specs.AtCoordinator.{Reading, answers, awaited, begins, behind, command_order, commits, completes, coord_can, dispatches, ends_in, fault_mark, follows, goes, goes_on, goes_out, is_awaited, is_idle, is_nothing, is_refused, next_cid, next_line, on_answer, on_done, on_event, on_failed, on_line, on_message, on_status, order_to, orders_of, reads_by, reads_for, reason_of, refusal_of, resends, rolls_back, starts, starts_line, status_order, table_of, takes_done, takes_snapshot, with_done, writers_with, goes_on_locked, if_granted, lock_for, requests, resumes, answer_mark}
-use Rattle.gx_rules.specs.Coordinators.{Command, Coord, CoordTurn, Session, Work, new_work, no_work, rests, session_of, with_session, with_work, work_of}
+use Rattle.gx_rules.specs.AtCoordinator.{Reading, awaited, begins, behind, command_order, coord_can, dispatches, ends_in, fault_mark, goes, goes_out, is_idle, is_nothing, next_cid, next_line, on_event, on_line, order_to, orders_of, reads_by, reads_for, refusal_of, starts, starts_line, status_order, table_of, takes_snapshot, goes_on_locked, if_granted, lock_for, requests, resumes, answer_mark}
+use Rattle.gx_rules.specs.Coordinators.{Command, Coord, CoordTurn, new_work, session_of}
 use Rattle.gx_law_order.proofs.Lines.{Asks as Admits, asks as admits}
 use Rattle.gx_law_order.proofs.Lists.{Each, each_weaker}
 use Rattle.gx_law_order.proofs.Sessions.{Kept, is_nothing_in, is_open_in}
@@ -158,7 +158,7 @@ module _ (g : ℕ) (last : ℕ) where
     request-serves (Some wanted) = granted-serves wanted (is_free c.locks.holds wanted)
 
     pub dispatch-serves : Serves c FreshAt (dispatches script c (gx g) line)
-    dispatch-serves = request-serves (lock_for (gx g) line)
+    dispatch-serves = request-serves (lock_for script (gx g) line)
 
     -- behind a wait
     pub resume-serves : (wanted : Claim) → Serves c FreshAt (resumes script c (gx g) (Some wanted) (Some line))
@@ -174,7 +174,7 @@ module _ (g : ℕ) (last : ℕ) where
 abbrev pub IsNew : Coord → ℕ → Command → Type 0
 IsNew c h m = ((IsLive c h × IsFresh (c.works h).last m) ⊎ ((h ≡ c.table.next.0) × IsFresh 0 m))
 
-module _ (script : Script) (c : Coord) (k : Kept c) (own : OrdersServe c) where
+module _ (script : Script) (c : Coord) (k : Kept script c) (own : OrdersServe c) where
   abbrev Done : CoordTurn → Type 0
   Done turn = Serves c (IsNew c) turn
 
@@ -293,14 +293,14 @@ module _ (script : Script) (c : Coord) (k : Kept c) (own : OrdersServe c) where
         plain q e = grind arith
 
     -- a statement that has waited goes out
-    goes-out-serves : (g : Gxid) → GoesOut c g → Done (resumes script c g (wait_of c.locks g) (c.works g.0).waiting)
+    goes-out-serves : (g : Gxid) → GoesOut script c g → Done (resumes script c g (wait_of c.locks g) (c.works g.0).waiting)
     goes-out-serves g o =
         subst (λ w. Done (resumes script c g w (c.works g.0).waiting)) (sym o.claims)
         (subst (λ l. Done (resumes script c g (Some o.wanted) l)) (sym o.is)
         (serves-map c c (FreshAt g.0 (c.works g.0).last) (IsNew c) _ (λ h m y. y) (λ h m x. inl (subst (λ y. IsLive c y × IsFresh (c.works y).last m) (sym x.0) (live-stage c g.0 o.live, x.1)))
         (resume-serves g.0 (c.works g.0).last c script o.line refl o.wanted)))
 
-    pub event-serves : ((g : Gxid) → coord_can script c (event.Resume g) ≡ true → GoesOut c g) → (x : NodeEvent) (fails : Bool) → coord_can script c x ≡ true → Done (on_event script c x fails)
+    pub event-serves : ((g : Gxid) → coord_can script c (event.Resume g) ≡ true → GoesOut script c g) → (x : NodeEvent) (fails : Bool) → coord_can script c x ≡ true → Done (on_event script c x fails)
     event-serves out (event.Deliver from envelope) fails e = received (IsNew c) c from fails envelope.message
     event-serves out (event.Start s) fails e = start-serves s (idle-first s _ e) (next_line script c s)
     event-serves out (event.End s) fails e = end-serves s (session_of c s).state.block

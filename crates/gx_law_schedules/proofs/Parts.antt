@@ -1,11 +1,10 @@
 -- A segment's part of a query has the query's form, and a plan's slices ask for the form of their statement.
-use Rattle.std.proofs.Common.{◌≡◌, ℕ, List, [], ◌∷◌, ◌++◌, Option, Some, None, Result, Ok, Err, Bool, true, false, refl, sym, subst, ap, ◌∙◌, if◌then◌else◌, ◌&&◌, not, arith, cond, length}
+use Rattle.std.proofs.Common.{◌≡◌, ℕ, List, [], ◌∷◌, Result, Ok, Err, Bool, true, false, refl, ap, if◌then◌else◌, ◌&&◌, not, arith, length}
 use Rattle.std.proofs.lemmas.Bool.Decides.{nat_tests}
 use Rattle.std.specs.Prelude.{◌==◌, map}
 use Rattle.std.specs.List.{list_all}
-use Rattle.std.specs.Ordering.{is_gt}
-use Rattle.std.specs.declared.cmp.Ordering.{Ordering}
 use Rattle.std.proofs.lemmas.Bool.{and_from}
+use Rattle.std.proofs.lemmas.List.{length-map}
 use Rattle.gx_ids.specs.declared.ids.Cid.{Cid}
 use Rattle.gx_ids.specs.declared.ids.Gxid.{Gxid}
 use Rattle.gx_ids.specs.declared.ids.Node.{Node}
@@ -24,13 +23,15 @@ use Rattle.gx_meaning.specs.Expressions.{and_then}
 use Rattle.gx_meaning.specs.declared.fault.ArithFault.{ArithFault}
 use Rattle.gx_meaning.specs.Answer.{group_of, part_of}
 use Rattle.gx_meaning.specs.Groups.{is_same_key, key_of, keys_of, once}
-use Rattle.gx_meaning.specs.Order.{in_order, placed, rising}
+use Rattle.gx_meaning.specs.Order.{in_order, rising}
 use Rattle.gx_meaning.specs.Target.{target_of}
 use Rattle.gx_meaning.specs.declared.target.Target.TheVariants.{All}
 use Rattle.gx_meaning.specs.Constants.{rows_of}
 use Rattle.gx_meaning.specs.Plan.{insert_pieces, nodes_from, nodes_of, piece, plan_of, row_pieces, rows_at}
 use Rattle.gx_meaning.specs.declared.piece.Piece.{Piece}
 use Rattle.gx_rules.specs.Fits.{fits_group, fits_part, fits_query, is_no_rows}
+use Rattle.gx_law_holds.proofs.Claims.{each-of}
+use Rattle.gx_law_holds.proofs.Released.{each-in_order}
 use Rattle.gx_law_order.proofs.Lists.{Each, each_filter, each_flat, each_map}
 
 -- the part is right for a slice
@@ -43,38 +44,18 @@ each-once : {X : Type 0} (P : X → Type 0) (same : X → X → Bool) (xs : List
 each-once P same [] e = tt
 each-once P same (x ∷ xs) e = (e.0, each_filter P (λ y. not (same x y)) (once same xs) (each-once P same xs e.1))
 
-each-placed : {X : Type 0} (P : X → Type 0) (R : X → X → Ordering) (x : X) (ys : List X) → P x → Each P ys → Each P (placed R x ys)
-each-placed P R x [] p e = (p, tt)
-each-placed P R x (y ∷ ys) p e = by_test (is_gt (R x y)) (each-placed P R x ys p e.1)
-  where
-    by_test : (b : Bool) → Each P (placed R x ys) → Each P (if b then y ∷ placed R x ys else x ∷ y ∷ ys)
-    by_test true f = (e.0, f)
-    by_test false f = (p, e)
-
-each-order : {X : Type 0} (P : X → Type 0) (R : X → X → Ordering) (xs : List X) → Each P xs → Each P (in_order R xs)
-each-order P R [] e = tt
-each-order P R (x ∷ xs) e = each-placed P R x (in_order R xs) e.0 (each-order P R xs e.1)
-
-length-map : {A B : Type 0} (f : A → B) (xs : List A) → length (map f xs) ≡ length xs
-length-map f [] = refl
-length-map f (x ∷ xs) = ap Rattle.std.proofs.Common.suc (length-map f xs)
-
 abbrev IsKeyOf : List ℕ → List Value → Type 0
 IsKeyOf group key = length key ≡ length group
-
-each-every : {A : Type 0} (P : A → Type 0) → ((x : A) → P x) → (xs : List A) → Each P xs
-each-every P f [] = tt
-each-every P f (x ∷ xs) = (f x, each-every P f xs)
 
 keys-right : (group : List ℕ) (rows : List KeyedRow) → Each (IsKeyOf group) (keys_of group rows)
 keys-right [] rows = (refl, tt)
 keys-right (column ∷ columns) rows =
     each-once (IsKeyOf (column ∷ columns)) is_same_key (map (key_of (column ∷ columns)) rows)
-    (each_map (IsKeyOf (column ∷ columns)) (key_of (column ∷ columns)) rows (each-every (λ row. IsKeyOf (column ∷ columns) (key_of (column ∷ columns) row)) (λ row. length-map _ (column ∷ columns)) rows))
+    (each_map (IsKeyOf (column ∷ columns)) (key_of (column ∷ columns)) rows (each-of (λ row. IsKeyOf (column ∷ columns) (key_of (column ∷ columns) row)) (λ row. length-map (column ∷ columns) _) rows))
 
 groups-right : (query : Query) (rows : List KeyedRow) (keys : List (List Value)) → Each (IsKeyOf query.group) keys → list_all (fits_group query) (map (group_of query rows) keys) ≡ true
 groups-right query rows [] e = refl
-groups-right query rows (key ∷ keys) e = and_from _ _ (lengths (length key) (length query.group) _ (length query.items) e.0 (length-map _ query.items)) (groups-right query rows keys e.1)
+groups-right query rows (key ∷ keys) e = and_from _ _ (lengths (length key) (length query.group) _ (length query.items) e.0 (length-map query.items _)) (groups-right query rows keys e.1)
   where
     lengths : (a b c d : ℕ) → a ≡ b → c ≡ d → ((a == b) && (c == d)) ≡ true
     lengths a b c d e f = grind (arith, nat_tests)
@@ -83,7 +64,8 @@ pub part-right : (query : Query) (rows : List KeyedRow) → fits_query query (pa
 part-right query rows = by_grouped query.grouped refl
   where
     by_grouped : (b : Bool) → query.grouped ≡ b → fits_query query (if b then Groups (map (group_of query rows) (in_order rising (keys_of query.group rows))) else Rows rows) ≡ true
-    by_grouped true e = and_from query.grouped _ e (groups-right query rows (in_order rising (keys_of query.group rows)) (each-order (IsKeyOf query.group) rising (keys_of query.group rows) (keys-right query.group rows)))
+    by_grouped true e = and_from query.grouped _ e (groups-right query rows (in_order rising (keys_of query.group rows))
+        (each-in_order rising (IsKeyOf query.group) (keys_of query.group rows) (keys-right query.group rows)))
     by_grouped false e = ap not e
 
 -- PLANS
@@ -110,7 +92,7 @@ plan-for n dist g c (Insert table tuples) = by_rows (rows_of g c tuples)
     by_rows : (r : Result (List KeyedRow) ArithFault) → PlanFor (Insert table tuples) (and_then r (λ rows. Ok (insert_pieces n dist table rows)))
     by_rows (Ok rows) =
         each_flat (λ (p : Piece). IsFor (Insert table tuples) p.slice) (λ node. row_pieces table node (rows_at n dist rows node.0)) (nodes_from 1 n)
-        (each-every (λ node. Each (λ (p : Piece). IsFor (Insert table tuples) p.slice) (row_pieces table node (rows_at n dist rows node.0))) (λ node. rows-for (Insert table tuples) table node (rows_at n dist rows node.0) (λ t rs part e. e)) (nodes_from 1 n))
+        (each-of (λ node. Each (λ (p : Piece). IsFor (Insert table tuples) p.slice) (row_pieces table node (rows_at n dist rows node.0))) (λ node. rows-for (Insert table tuples) table node (rows_at n dist rows node.0) (λ t rs part e. e)) (nodes_from 1 n))
     by_rows (Err f) = tt
 plan-for n dist g c (Update table assigns w) = pieces-for (Update table assigns w) (slice.Update table assigns w) (nodes_of n (target_of n dist w)) (λ part e. e)
 plan-for n dist g c (Delete table w) = pieces-for (Delete table w) (slice.Delete table w) (nodes_of n (target_of n dist w)) (λ part e. e)

@@ -93,7 +93,7 @@ module _ (limit : ℕ) where
   request-still script c g line n (Some wanted) = granted-still script c g line n wanted (is_free c.locks.holds wanted)
 
   dispatch-still : (script : Script) (c : Coord) (g : Gxid) (line : Stmt) → c.table.next.0 ≤ limit → IsStill limit (dispatches script c g line)
-  dispatch-still script c g line n = request-still script c g line n (lock_for g line)
+  dispatch-still script c g line n = request-still script c g line n (lock_for script g line)
 
   resume-still : (script : Script) (c : Coord) (g : Gxid) → c.table.next.0 ≤ limit → (o : Option Claim) (line : Option Stmt) → IsStill limit (resumes script c g o line)
   resume-still script c g n (Some wanted) (Some line) = locked-still script (with_work (record c { locks = resumed c.locks g (Some wanted) }) g (record (work_of c g) { waiting = None })) g line n

@@ -18,14 +18,15 @@ use Rattle.gx_script.specs.declared.Script.{Script}
 use Rattle.gx_store.specs.declared.node.NodeEvent.{NodeEvent}
 use Rattle.gx_store.specs.declared.node.NodeEvent.TheVariants as event
 use Rattle.gx_rules.specs.AtSegment.{ends, commits, finishes, if_fits, on_abort, on_commit, on_commit_prepared, on_event, on_exec, on_forget, on_message, on_prepare, once, promises, raised, repeats, resumes, takes, unless_below, was_prepared}
-use Rattle.gx_rules.specs.Segments.{Local, Phase, Seg, SegTurn, Suspended, local_of, stays, tells, tells_kept, with_local}
+use Rattle.gx_rules.specs.Segments.{Local, Phase, Seg, SegTurn, Suspended, local_of, stays, tells, tells_kept}
 use Rattle.gx_rules.specs.Segments.Phase.{Aborted, Committed, Forgotten, Prepared, Reading, Writing}
-use Rattle.gx_rules.specs.Slices.{Moved, first_fault, inserted, inserts, requests, runs_locked, runs_slice, selects, slice_lock, suspends}
+use Rattle.gx_rules.specs.Running.{goes_on, is_granted, requests, runs_locked, runs_slice, slice_lock, suspends}
+use Rattle.gx_rules.specs.Slices.{Moved, first_fault, inserted, inserts, selects}
 use Rattle.gx_rules.specs.Shown.{shown}
 use Rattle.gx_rules.specs.Fits.{fits_exec, is_waiting}
 use Rattle.gx_rules.specs.Locks.{with_hold}
 use Rattle.gx_waits.specs.declared.claim.Claim.{Claim}
-use Rattle.gx_locks.specs.Locks.{is_free, resumed, wait_of}
+use Rattle.gx_locks.specs.Locks.{is_free, wait_of}
 
 pub record IsStill (turn : SegTurn) : Type 0 where
   pub outs : length turn.outs ≤ 1
@@ -55,35 +56,34 @@ module _ (script : Script) (s : Seg) where
   insert : (g : Gxid) (c : Cid) (count : ℕ) (m : Moved) → IsStill (inserts g c count m)
   insert g c count m = record { outs = one-sent }
 
-  slice_runs : (t : Seg) (g : Gxid) (c : Cid) (snapshot : Option Snapshot) (x : Slice) → IsStill (runs_slice t g c snapshot x)
-  slice_runs t g c (Some snapshot) (slice.Select q) = select t g c q (shown t snapshot g c q.table) (first_fault q.cond (shown t snapshot g c q.table))
-  slice_runs t g c (Some snapshot) (slice.Insert table rows) = insert g c (length rows) (inserted t g c table rows)
-  slice_runs t g c None (slice.Select q) = record { outs = none-sent }
-  slice_runs t g c None (slice.Insert table rows) = record { outs = none-sent }
-  slice_runs t g c snapshot (slice.Lock table mode) = record { outs = one-sent }
-  slice_runs t g c snapshot (slice.Update table assigns cond) = record { outs = none-sent }
-  slice_runs t g c snapshot (slice.Delete table cond) = record { outs = none-sent }
+  slice_runs : (t : Seg) (g : Gxid) (c : Cid) (level : Level) (snapshot : Option Snapshot) (x : Slice) → IsStill (runs_slice t g c level snapshot x)
+  slice_runs t g c level (Some snapshot) (slice.Select q) = select t g c q (shown t snapshot g c q.table) (first_fault q.cond (shown t snapshot g c q.table))
+  slice_runs t g c level (Some snapshot) (slice.Insert table rows) = insert g c (length rows) (inserted t g c table rows)
+  slice_runs t g c level None (slice.Select q) = record { outs = none-sent }
+  slice_runs t g c level None (slice.Insert table rows) = record { outs = none-sent }
+  slice_runs t g c level snapshot (slice.Lock table mode) = record { outs = one-sent }
+  slice_runs t g c level snapshot (slice.Update table assigns cond) = record { outs = none-sent }
+  slice_runs t g c level snapshot (slice.Delete table cond) = record { outs = none-sent }
 
   both : (b : Bool) (x y : SegTurn) → IsStill x → IsStill y → IsStill (if b then x else y)
   both true x y e f = e
   both false x y e f = f
 
   -- with its lock, or waiting for it
-  request : (t : Seg) (g : Gxid) (c : Cid) (level : Level) (snapshot : Option Snapshot) (x : Slice) (o : Option Claim) → IsStill (requests t g c level snapshot x o)
-  request t g c level snapshot x None = slice_runs t g c snapshot x
-  request t g c level snapshot x (Some wanted) = by_test (is_free t.locks.holds wanted)
+  request : (t : Seg) (g : Gxid) (c : Cid) (level : Level) (snapshot : Option Snapshot) (x : Slice) (wanted : Claim) → IsStill (requests t g c level snapshot x wanted)
+  request t g c level snapshot x wanted = by_test (is_free t.locks.holds wanted)
     where
-      by_test : (b : Bool) → IsStill (if b then runs_locked t g c snapshot x wanted else suspends t g c level snapshot x wanted)
-      by_test true = let run = slice_runs (record t { locks = with_hold t.locks wanted }) g c snapshot x in record { outs = run.outs }
+      by_test : (b : Bool) → IsStill (if b then runs_locked t g c level snapshot x wanted else suspends t g c level snapshot x wanted)
+      by_test true = let run = slice_runs (record t { locks = with_hold t.locks wanted }) g c level snapshot x in record { outs = run.outs }
       by_test false = record { outs = none-sent }
 
   repeat : (g : Gxid) (c : Cid) (l : Local) → IsStill (repeats s g c l)
   repeat g c l = both (c.0 == l.last) _ _ (kept g l.answer) stay
 
-  take : (g : Gxid) (c : Cid) (level : Level) (snapshot : Option Snapshot) (h : Gxid) (x : Slice) (l : Local) → IsStill (takes s g c level snapshot h x l)
-  take g c level snapshot h x l = both (nat_lt l.last c.0) _ _ (request (raised s h) g c level snapshot x (slice_lock g x)) (repeat g c l)
+  take : (g : Gxid) (c : Cid) (level : Level) (snapshot : Option Snapshot) (h : Gxid) (x : Slice) (l : Local) → IsStill (takes script s g c level snapshot h x l)
+  take g c level snapshot h x l = both (nat_lt l.last c.0) _ _ (request (raised s h) g c level snapshot x (slice_lock script g x)) (repeat g c l)
 
-  exec : (g : Gxid) (c : Cid) (level : Level) (snapshot : Option Snapshot) (h : Gxid) (x : Slice) (l : Local) (p : Phase) → IsStill (on_exec s g c level snapshot h x l p)
+  exec : (g : Gxid) (c : Cid) (level : Level) (snapshot : Option Snapshot) (h : Gxid) (x : Slice) (l : Local) (p : Phase) → IsStill (on_exec script s g c level snapshot h x l p)
   exec g c level snapshot h x l Reading = take g c level snapshot h x l
   exec g c level snapshot h x l Writing = take g c level snapshot h x l
   exec g c level snapshot h x l Prepared = repeat g c l
@@ -169,8 +169,11 @@ module _ (script : Script) (s : Seg) where
   message_still fails (message.Answer g r) = stay
   message_still fails (message.Graph round graph) = stay
 
+  go_on : (m : Moved) (g : Gxid) (x : Suspended) → IsStill (goes_on m g x)
+  go_on m g x = let run = slice_runs m.seg g x.cid x.level x.snapshot x.slice in record { outs = run.outs }
+
   resume : (g : Gxid) (o : Option Claim) (x : Option Suspended) → IsStill (resumes s g o x)
-  resume g (Some wanted) (Some x) = let run = slice_runs (record (with_local s g (record (local_of s g) { suspended = None })) { locks = resumed s.locks g (Some wanted) }) g x.cid x.snapshot x.slice in record { outs = run.outs }
+  resume g (Some wanted) (Some x) = go_on (is_granted s g wanted) g x
   resume g (Some wanted) None = stay
   resume g None x = stay
 

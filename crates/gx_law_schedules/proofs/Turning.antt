@@ -106,7 +106,7 @@ again-asks c n g i (Some m) e a =
     by_node j h false q = refl
 
 -- LINES
-module _ (script : Script) (c : Coord) (k : Kept c) (n : AreNeat c) where
+module _ (script : Script) (c : Coord) (k : Kept script c) (n : AreNeat c) where
   -- another session's data
   same-asks : (d : Coord) (turn : CoordTurn) → d.table ≡ c.table → d.works ≡ c.works → Asks (now_asked d) turn → Asks (now_asked c) turn
   same-asks d turn t w f =
@@ -260,13 +260,13 @@ module _ (script : Script) (c : Coord) (k : Kept c) (n : AreNeat c) where
       plain q e = grind arith
 
   -- a statement that has waited goes out
-  goes-out-asks : (g : Gxid) → GoesOut c g → Asks (now_asked c) (resumes script c g (wait_of c.locks g) (c.works g.0).waiting)
+  goes-out-asks : (g : Gxid) → GoesOut script c g → Asks (now_asked c) (resumes script c g (wait_of c.locks g) (c.works g.0).waiting)
   goes-out-asks g o =
       subst (λ w. Asks (now_asked c) (resumes script c g w (c.works g.0).waiting)) (sym o.claims)
       (subst (λ l. Asks (now_asked c) (resumes script c g (Some o.wanted) l)) (sym o.is)
       (resume-asks c k.whole n g.0 (live-stage c g.0 o.live) (subst IsDone (sym o.idle) tt) script o.line o.wanted))
 
-  pub event-asks : ((g : Gxid) → coord_can script c (event.Resume g) ≡ true → GoesOut c g) → (x : NodeEvent) (fails : Bool) → coord_can script c x ≡ true → FitsEvent x → Asks (λ i g. left_by i (gx g) (awaited c (gx g) i) x) (on_event script c x fails)
+  pub event-asks : ((g : Gxid) → coord_can script c (event.Resume g) ≡ true → GoesOut script c g) → (x : NodeEvent) (fails : Bool) → coord_can script c x ≡ true → FitsEvent x → Asks (λ i g. left_by i (gx g) (awaited c (gx g) i) x) (on_event script c x fails)
   event-asks out (event.Deliver from envelope) fails e f = message-asks from fails envelope.message f
   event-asks out (event.Start s) fails e f = start-asks s (idle-first s _ e) (next_line script c s)
   event-asks out (event.End s) fails e f = end-asks s (idle-first s _ e) (session_of c s).state.block refl

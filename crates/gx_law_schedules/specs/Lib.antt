@@ -1,4 +1,3 @@
 pub mod Links
 pub mod Room
-pub mod Marked
 pub mod Enabled

@@ -19,7 +19,6 @@ ghost use Rattle.gx_store.specs.declared.event.Event.{Event as OneEvent};
 ghost use Rattle.gx_store.specs.declared.node.NodeEvent.TheVariants as here;
 ghost use Rattle.gx_law_schedules.specs.Enabled.{drawn, enabled_there};
 ghost use Rattle.gx_law_schedules.specs.Links.{is_number, message_of};
-ghost use Rattle.gx_law_schedules.specs.Marked.{AreLocksMarked};
 ghost use Rattle.gx_law_schedules.specs.Room.{HasRoom};
 
 /// As many messages were sent to a segment as the coordinator counts.
@@ -87,11 +86,6 @@ pub fn ends_are_admitted()
 /// No count is above what the number of steps allows.
 pub fn counts_have_room()
     ensures { (script : Script) (events : List (OneEvent × Bool)) → 1 ≤ script.segments → HasRoom (world_of script events) }
-{}
-
-/// Each node's holds and waits are those that stand by the marks, in order.
-pub fn locks_are_marked()
-    ensures { (script : Script) (events : List (OneEvent × Bool)) → 1 ≤ script.segments → AreLocksMarked (world_of script events) }
 {}
 
 /// No graph is awaited.
