@@ -1,35 +1,41 @@
--- One row more.
+-- A row is written.
 use Rattle.std.proofs.Common.{◌≡◌, ◌≢◌, Bool, true, false, if◌then◌else◌, eqb, ◌&&◌, ◌||◌, List, [], ◌∷◌, ◌++◌, Option, Some, None, map, filter, append-nil, refl, sym, ap, ◌∙◌, subst}
 use Rattle.std.proofs.lemmas.List.{map-append}
 use Rattle.std.proofs.lemmas.List.Elements.{filter-append}
 use Rattle.std.proofs.lemmas.List.Folds.{list_any-append}
 use Rattle.std.proofs.lemmas.List.Sums.{fold-append}
-use Rattle.std.specs.Prelude.{is_some, unwrap_or}
+use Rattle.std.specs.List.{list_any}
+use Rattle.std.specs.Prelude.{find, is_some, unwrap_or}
 use Rattle.gx_ids.specs.declared.ids.Cid.{Cid}
 use Rattle.gx_ids.specs.declared.ids.Gxid.{Gxid}
 use Rattle.gx_ids.specs.declared.ids.Node.{Node}
 use Rattle.gx_ids.specs.declared.ids.Table.{Table}
 use Rattle.gx_ids.specs.declared.rid.Rid.{Rid}
-use Rattle.gx_tree.specs.declared.row.KeyedRow.{KeyedRow}
+use Rattle.gx_tree.specs.declared.value.Value.{Value}
+use Rattle.gx_locks.specs.Claims.{is_of}
 use Rattle.gx_msg.specs.declared.item.Kept.{Kept}
 use Rattle.gx_rows.specs.Counts.{is_committed}
 use Rattle.gx_rows.specs.declared.status.LocalStatus.{LocalStatus}
 use Rattle.gx_rows.specs.declared.status.LocalStatus.TheVariants.{Running}
-use Rattle.gx_slices.specs.Store.{Store, Write, passes, status_of, writes_of}
-use Rattle.gx_node.specs.Phases.{local_of}
+use Rattle.gx_slices.specs.Store.{Write, passes, status_of, writes_of}
+use Rattle.gx_node.specs.Phases.{local_of, phase_of}
 use Rattle.gx_store.specs.Marks.{is_same_gxid, is_same_rid}
 use Rattle.gx_store.specs.declared.mark.Mark.{Mark}
+use Rattle.gx_store.specs.declared.mark.Mark.TheVariants as mark
 use Rattle.gx_rules.specs.Fits.{is_waiting}
 use Rattle.gx_rules.specs.Segments as rule
-use Rattle.gx_rules.specs.Segments.{Phase, Reading, Writing, Prepared, Committed, Forgotten, Aborted, Seg, Version, has_committed, with_local}
+use Rattle.gx_rules.specs.Segments.{Phase, Reading, Writing, Prepared, Committed, Forgotten, Aborted, Seg, Version, has_committed}
 use Rattle.gx_rules.specs.Shown.{kept_of, kept_one, last_images}
-use Rattle.gx_rules.specs.Slices.{version}
+use Rattle.gx_rules.specs.Slices.{Moved, adds_version, version, writes_row}
 use Rattle.gx_slices.specs.Agrees.{has_version, is_of_row, write_of}
 use Rattle.gx_slices.specs.Apart.{IsApart}
 use Rattle.gx_slices.specs.Inserts.{IsPut}
+use Rattle.gx_slices.specs.Owning.{own_locks, own_marks}
 use Rattle.gx_slices.specs.Waiting.{is_open}
 use Rattle.gx_slices.specs.declared.held.Entry.{Entry}
+use Rattle.gx_slices.specs.declared.held.Held.{Held}
 use Rattle.gx_slices.proofs.Gxids.{apart, differ, itself, other_row, other_table, row_itself, same_gxid, same_row, same_table, turned}
+use Rattle.gx_slices.proofs.Owning.{AreOwn-own_locks, takes_own-with, waits-own_locks}
 
 -- TESTS
 open_uncommitted : (p : Phase) → is_open p ≡ true → has_committed p ≡ false
@@ -56,16 +62,19 @@ passes_running : (o : Option LocalStatus) → passes is_committed (Some (unwrap_
 passes_running None = refl
 passes_running (Some st) = refl
 
--- the data with one version more
-abbrev pub with_row : Seg → Gxid → Version → Seg
-with_row s g v = record (with_local s g (record (rule.local_of s g) { phase = Writing })) { versions = s.versions ++ v ∷ [] }
+-- a row gets an image, from what the rows so far have made of the segment
+module _ (start : Seg) (first held held' : Held) (g : Gxid) (c : Cid) (node : Node) (table : Table) (rid : Rid) (image : Option (List Value)) (m : Moved) (entry entry' : Entry) (marks marks' : List Mark) (is : IsApart start first held entry g m.seg) (put : IsPut g c node table rid image held held' entry entry' marks marks') where
+  abbrev s : Seg
+  s = m.seg
 
-module _ (start : Seg) (g : Gxid) (c : Cid) (node : Node) (table : Table) (row : KeyedRow) (s : Seg) (store store' : Store) (entry entry' : Entry) (marks marks' : List Mark) (is : IsApart start store entry g s) (put : IsPut g c node table row store store' entry entry' marks marks') where
   abbrev v : Version
-  v = version g c table row
+  v = version g c table rid image
+
+  abbrev was : Phase
+  was = (rule.local_of s g).phase
 
   abbrev s' : Seg
-  s' = with_row s g v
+  s' = record (adds_version s g v) { locks = own_locks g was s.locks }
 
   -- THE TRANSACTIONS
   local_itself : rule.local_of s' g ≡ record (rule.local_of s g) { phase = Writing }
@@ -84,22 +93,22 @@ module _ (start : Seg) (g : Gxid) (c : Cid) (node : Node) (table : Table) (row :
   has_version-itself = has_version-put g ∙ ap (λ (b : Bool). has_version s g || (b || false)) (itself g.0) ∙ or_true (has_version s g)
 
   -- THE STORE
-  wrote : (h : Gxid) (b : Bool) → eqb h.0 g.0 ≡ b → is_some (status_of store' h) ≡ has_version s' h
-  wrote h true e = subst (λ (k : Gxid). is_some (status_of store' k) ≡ has_version s' k) (same_gxid g h e) (ap is_some put.status ∙ sym has_version-itself)
+  wrote : (h : Gxid) (b : Bool) → eqb h.0 g.0 ≡ b → is_some (status_of held'.store h) ≡ has_version s' h
+  wrote h true e = subst (λ (k : Gxid). is_some (status_of held'.store k) ≡ has_version s' k) (same_gxid g h e) (ap is_some put.status ∙ sym has_version-itself)
   wrote h false e = ap is_some (put.others h (differ h.0 g.0 e)) ∙ is.stored.wrote h ∙ sym (has_version-other h e)
 
-  committed_itself : passes is_committed (status_of store' g) ≡ (has_version s' g && has_committed (rule.local_of s' g).phase)
+  committed_itself : passes is_committed (status_of held'.store g) ≡ (has_version s' g && has_committed (rule.local_of s' g).phase)
   committed_itself =
       ap (passes is_committed) put.status
-      ∙ passes_running (status_of store g)
+      ∙ passes_running (status_of held.store g)
       ∙ is.stored.committed g
       ∙ ap (λ (b : Bool). has_version s g && b) (open_uncommitted (rule.local_of s g).phase is.open_here)
       ∙ and_false (has_version s g)
       ∙ sym (and_false (has_version s' g))
       ∙ sym (ap (λ (l : rule.Local). has_version s' g && has_committed l.phase) local_itself)
 
-  committed : (h : Gxid) (b : Bool) → eqb h.0 g.0 ≡ b → passes is_committed (status_of store' h) ≡ (has_version s' h && has_committed (rule.local_of s' h).phase)
-  committed h true e = subst (λ (k : Gxid). passes is_committed (status_of store' k) ≡ (has_version s' k && has_committed (rule.local_of s' k).phase)) (same_gxid g h e) committed_itself
+  committed : (h : Gxid) (b : Bool) → eqb h.0 g.0 ≡ b → passes is_committed (status_of held'.store h) ≡ (has_version s' h && has_committed (rule.local_of s' h).phase)
+  committed h true e = subst (λ (k : Gxid). passes is_committed (status_of held'.store k) ≡ (has_version s' k && has_committed (rule.local_of s' k).phase)) (same_gxid g h e) committed_itself
   committed h false e =
       ap (passes is_committed) (put.others h (differ h.0 g.0 e))
       ∙ is.stored.committed h
@@ -112,7 +121,7 @@ module _ (start : Seg) (g : Gxid) (c : Cid) (node : Node) (table : Table) (row :
       ap (map write_of) (filter-append (is_of_row t r) s.versions (v ∷ []))
       ∙ map-append write_of (filter (is_of_row t r) s.versions) (filter (is_of_row t r) (v ∷ []))
 
-  not_there : (t : Table) (r : Rid) → is_of_row t r v ≡ false → writes_of store' t r ≡ writes_of store t r → writes_of store' t r ≡ map write_of (filter (is_of_row t r) s'.versions)
+  not_there : (t : Table) (r : Rid) → is_of_row t r v ≡ false → writes_of held'.store t r ≡ writes_of held.store t r → writes_of held'.store t r ≡ map write_of (filter (is_of_row t r) s'.versions)
   not_there t r e same =
       same
       ∙ is.stored.writes t r
@@ -120,26 +129,26 @@ module _ (start : Seg) (g : Gxid) (c : Cid) (node : Node) (table : Table) (row :
       ∙ ap (λ (b : Bool). map write_of (filter (is_of_row t r) s.versions) ++ map write_of (if b then v ∷ [] else [])) (sym e)
       ∙ sym (writes_split t r)
 
-  there : writes_of store' table row.rid ≡ map write_of (filter (is_of_row table row.rid) s'.versions)
+  there : writes_of held'.store table rid ≡ map write_of (filter (is_of_row table rid) s'.versions)
   there =
       put.written
-      ∙ ap (λ (ws : List Write). ws ++ write_of v ∷ []) (is.stored.writes table row.rid)
-      ∙ ap (λ (b : Bool). map write_of (filter (is_of_row table row.rid) s.versions) ++ map write_of (if b then v ∷ [] else [])) (sym own)
-      ∙ sym (writes_split table row.rid)
+      ∙ ap (λ (ws : List Write). ws ++ write_of v ∷ []) (is.stored.writes table rid)
+      ∙ ap (λ (b : Bool). map write_of (filter (is_of_row table rid) s.versions) ++ map write_of (if b then v ∷ [] else [])) (sym own)
+      ∙ sym (writes_split table rid)
     where
-      own : is_of_row table row.rid v ≡ true
-      own = ap (λ (b : Bool). b && is_same_rid row.rid row.rid) (itself table.0) ∙ row_itself row.rid
+      own : is_of_row table rid v ≡ true
+      own = ap (λ (b : Bool). b && is_same_rid rid rid) (itself table.0) ∙ row_itself rid
 
-  writes : (t : Table) (r : Rid) (a : Bool) → eqb table.0 t.0 ≡ a → (b : Bool) → is_same_rid row.rid r ≡ b → writes_of store' t r ≡ map write_of (filter (is_of_row t r) s'.versions)
+  writes : (t : Table) (r : Rid) (a : Bool) → eqb table.0 t.0 ≡ a → (b : Bool) → is_same_rid rid r ≡ b → writes_of held'.store t r ≡ map write_of (filter (is_of_row t r) s'.versions)
   writes t r true e true f =
       subst
-      (λ (q : Rid). writes_of store' t q ≡ map write_of (filter (is_of_row t q) s'.versions))
-      (same_row row.rid r f)
-      (subst (λ (u : Table). writes_of store' u row.rid ≡ map write_of (filter (is_of_row u row.rid) s'.versions)) (same_table table t e) there)
+      (λ (q : Rid). writes_of held'.store t q ≡ map write_of (filter (is_of_row t q) s'.versions))
+      (same_row rid r f)
+      (subst (λ (u : Table). writes_of held'.store u rid ≡ map write_of (filter (is_of_row u rid) s'.versions)) (same_table table t e) there)
   writes t r true e false f =
-      not_there t r (ap (λ (b : Bool). b && is_same_rid row.rid r) e ∙ f)
-      (subst (λ (u : Table). writes_of store' u r ≡ writes_of store u r) (same_table table t e) (put.rows r (other_row row.rid r f)))
-  writes t r false e b f = not_there t r (ap (λ (b : Bool). b && is_same_rid row.rid r) e) (put.tables t r (other_table table t e))
+      not_there t r (ap (λ (b : Bool). b && is_same_rid rid r) e ∙ f)
+      (subst (λ (u : Table). writes_of held'.store u r ≡ writes_of held.store u r) (same_table table t e) (put.rows r (other_row rid r f)))
+  writes t r false e b f = not_there t r (ap (λ (b : Bool). b && is_same_rid rid r) e) (put.tables t r (other_table table t e))
 
   -- WHAT IS KEPT
   own_versions : (h : Gxid) (b : Bool) → is_same_gxid g h ≡ b → filter (λ u. is_same_gxid u.gxid h) s'.versions ≡ filter (λ u. is_same_gxid u.gxid h) s.versions ++ (if b then v ∷ [] else [])
@@ -154,22 +163,51 @@ module _ (start : Seg) (g : Gxid) (c : Cid) (node : Node) (table : Table) (row :
   kept_other h other =
       ap last_images (own_versions h false (turned g.0 h.0 ∙ apart h.0 g.0 other) ∙ append-nil (filter (λ u. is_same_gxid u.gxid h) s.versions))
 
+  -- THE LOCKS
+  same_phase : phase_of entry.local.phase ≡ was
+  same_phase = ap (λ (l : rule.Local). l.phase) is.local
+
+  same_locks : held'.locks ≡ own_locks g was s.locks
+  same_locks = put.locks ∙ ap (λ (p : Phase). own_locks g p held.locks) same_phase ∙ ap (own_locks g was) is.locks
+
   -- ALL OF IT
-  pub IsApart-put : IsApart start store' entry' g s'
+  IsApart-put : IsApart start first held' entry' g s'
   IsApart-put = record {
     stored = record {
       horizon = put.horizon ∙ is.stored.horizon;
-      writes = λ t r. writes t r (eqb table.0 t.0) refl (is_same_rid row.rid r) refl;
+      writes = λ t r. writes t r (eqb table.0 t.0) refl (is_same_rid rid r) refl;
       wrote = λ h. wrote h (eqb h.0 g.0) refl;
       committed = λ h. committed h (eqb h.0 g.0) refl;
     };
+    locks = same_locks;
+    entries = put.entries ∙ is.entries;
+    holders = put.holders ∙ is.holders;
     local = ap local_of put.local ∙ ap (λ (l : rule.Local). let m : rule.Local = record l { phase = Writing } in m) is.local ∙ sym local_itself;
     kept = put.kept ∙ ap (λ (ks : List Kept). kept_one ks v) is.kept ∙ sym kept_itself;
     open_here = ap (λ (l : rule.Local). is_open l.phase) local_itself;
     node = is.node;
     horizon = is.horizon;
-    locks = is.locks;
-    waits = ap is_waiting local_itself ∙ is.waits;
+    owned = AreOwn-own_locks g was s.locks is.owned;
+    waiting = ap is_waiting local_itself ∙ is.waiting;
+    other_waits = λ h other. ap (find (is_of h)) (waits-own_locks g was s.locks) ∙ is.other_waits h other;
     other_locals = λ h other. local_other h (apart h.0 g.0 other) ∙ is.other_locals h other;
     other_rows = λ h other. kept_other h other ∙ is.other_rows h other;
   }
+
+  abbrev marked : Moved
+  marked = record { seg = adds_version s g v; marks = m.marks ++ mark.Write g c s.node table rid image ∷ [] }
+
+  pub IsApart-written : IsApart start first held' entry' g (writes_row g c table m rid image).seg
+  IsApart-written = subst (λ (n : Moved). IsApart start first held' entry' g n.seg) (sym (takes_own-with g was marked)) IsApart-put
+
+  pub free-written : list_any (is_of g) s.locks.waits ≡ false → list_any (is_of g) (writes_row g c table m rid image).seg.locks.waits ≡ false
+  free-written free =
+      subst (λ (n : Moved). list_any (is_of g) n.seg.locks.waits ≡ false) (sym (takes_own-with g was marked)) (ap (list_any (is_of g)) (waits-own_locks g was s.locks) ∙ free)
+
+  pub told-written : node ≡ start.node → marks ≡ m.marks → marks' ≡ (writes_row g c table m rid image).marks
+  told-written at told =
+      put.mark
+      ∙ ap (λ (ms : List Mark). ms ++ mark.Write g c node table rid image ∷ [] ++ own_marks node g (phase_of entry.local.phase)) told
+      ∙ ap (λ (n : Node). m.marks ++ mark.Write g c n table rid image ∷ [] ++ own_marks n g (phase_of entry.local.phase)) (at ∙ sym is.node)
+      ∙ ap (λ (p : Phase). marked.marks ++ own_marks s.node g p) same_phase
+      ∙ ap (λ (n : Moved). n.marks) (sym (takes_own-with g was marked))

@@ -1,6 +1,7 @@
 -- What is held, with a transaction's entry taken out, and put back.
 use Rattle.std.proofs.Common.{◌≡◌, ◌≢◌, Bool, true, false, ℕ, if◌then◌else◌, ◌&&◌, not, eqb, List, None, Some, refl, sym, ap, ◌∙◌, subst, arith}
 use Rattle.std.specs.Prelude.{◌<◌, ◌≤◌, nat_lt, All, IsTrue}
+use Rattle.std.specs.BTreeMap.{BTreeMap}
 use Rattle.std.specs.BTreeSet.{contains}
 use Rattle.std.specs.List.{list_any}
 use Rattle.gx_ids.specs.declared.ids.Cid.{Cid}
@@ -19,6 +20,7 @@ use Rattle.gx_rules.specs.Segments.{Phase, Reading, Writing, Prepared, Committed
 use Rattle.gx_rules.specs.Shown.{kept_of}
 use Rattle.gx_slices.specs.Agrees.{IsHeld, entry_at, has_version, is_right_version, local_in, rows_in}
 use Rattle.gx_slices.specs.Apart.{IsApart, IsBack, IsStored, answered}
+use Rattle.gx_slices.specs.Owning.{AreOwn}
 use Rattle.gx_slices.specs.Waiting.{AreWaits, is_open}
 use Rattle.gx_slices.specs.declared.held.Entry.{Entry}
 use Rattle.gx_slices.specs.declared.held.Held.{Held}
@@ -29,19 +31,27 @@ use Rattle.gx_slices.proofs.Waiting.{AreWaits-free}
 pub IsStored-held : (tables : List Schema) (held : Held) (s : Seg) → IsHeld tables held s → IsStored held.store s
 IsStored-held tables held s is = record { horizon = is.horizon; writes = is.writes; wrote = is.wrote; committed = is.committed }
 
-pub IsApart-taken : (tables : List Schema) (held : Held) (s : Seg) (g : Gxid) (entry : Entry) → IsHeld tables held s → s.horizon.0 ≤ g.0 → is_open (rule.local_of s g).phase ≡ true → local_of entry.local ≡ local_in (entry_at held g) → entry.kept ≡ rows_in (entry_at held g) → IsApart s held.store entry g s
-IsApart-taken tables held s g entry is alive open_here local kept = record {
+pub IsApart-taken : (tables : List Schema) (held : Held) (entries : BTreeMap Gxid Entry) (s : Seg) (g : Gxid) (entry : Entry) → IsHeld tables held s → s.horizon.0 ≤ g.0 → is_open (rule.local_of s g).phase ≡ true → local_of entry.local ≡ local_in (entry_at held g) → entry.kept ≡ rows_in (entry_at held g) → IsApart s (record held { entries = entries }) (record held { entries = entries }) entry g s
+IsApart-taken tables held entries s g entry is alive open_here local kept = record {
   stored = IsStored-held tables held s is;
+  locks = is.locks;
+  entries = refl;
+  holders = refl;
   local = local ∙ is.locals g alive;
   kept = kept ∙ is.kept g alive;
   open_here = open_here;
   node = refl;
   horizon = refl;
-  locks = refl;
-  waits = refl;
+  owned = is.owned;
+  waiting = refl;
+  other_waits = λ h other. refl;
   other_locals = λ h other. refl;
   other_rows = λ h other. refl;
 }
+
+-- who waits for nothing has no wait
+pub no-wait : (tables : List Schema) (held : Held) (s : Seg) (g : Gxid) → IsHeld tables held s → is_waiting (rule.local_of s g) ≡ false → list_any (is_of g) s.locks.waits ≡ false
+no-wait tables held s g is free = is.waits.standing g ∙ free
 
 -- PUT BACK
 open_not_ended : (p : Phase) → is_open p ≡ true → has_ended p ≡ false
@@ -103,8 +113,8 @@ module _ (tables : List Schema) (old new : Held) (before s : Seg) (g : Gxid) (lo
   holds h false e =
       let other = differ h.0 g.0 e in now.holders h other ∙ was.holders h ∙ ap holds_locks (sym (other_locals h other) ∙ sym (other_at h other))
 
-  pub IsHeld-now : new.locks ≡ locks → AreWaits tables after → All (λ v. IsTrue (is_right_version tables v)) s.versions → IsHeld tables new after
-  IsHeld-now locks_are waits typed = record {
+  pub IsHeld-now : new.locks ≡ locks → AreOwn locks.holds → AreWaits tables after → All (λ v. IsTrue (is_right_version tables v)) s.versions → IsHeld tables new after
+  IsHeld-now locks_are owned waits typed = record {
     horizon = stored.horizon;
     locals = λ h up. locals h up (eqb h.0 g.0) refl;
     kept = λ h up. rows h up (eqb h.0 g.0) refl;
@@ -115,6 +125,7 @@ module _ (tables : List Schema) (old new : Held) (before s : Seg) (g : Gxid) (lo
     committed = λ h. stored.committed h ∙ ap (λ (p : Phase). has_version s h && has_committed p) (sym (phase_at h (eqb h.0 g.0) refl));
     typed = typed;
     locks = locks_are;
+    owned = owned;
     waits = waits;
   }
 
@@ -133,7 +144,7 @@ module _ (old mid new : Held) (g : Gxid) (c : Cid) (entry : Entry) (taken : (h :
   IsStored-back s stored = subst (λ (store : Store). IsStored store s) (sym back.store) stored
 
 -- with the answer to its command
-module _ (tables : List Schema) (old mid new : Held) (before s : Seg) (g : Gxid) (c : Cid) (entry : Entry) (r : Reply) (was : IsHeld tables old before) (alive : before.horizon.0 ≤ g.0) (free : is_waiting (rule.local_of before g) ≡ false) (is : IsApart before mid.store entry g s) (taken : (h : Gxid) → h.0 ≢ g.0 → entry_at mid h ≡ entry_at old h) (holders : mid.holders ≡ old.holders) (locks : mid.locks ≡ old.locks) (back : IsBack mid new g c (answered entry c r)) where
+module _ (tables : List Schema) (old first mid new : Held) (before s : Seg) (g : Gxid) (c : Cid) (entry : Entry) (r : Reply) (was : IsHeld tables old before) (alive : before.horizon.0 ≤ g.0) (free : is_waiting (rule.local_of before g) ≡ false) (is : IsApart before first mid entry g s) (none : list_any (is_of g) s.locks.waits ≡ false) (taken : (h : Gxid) → h.0 ≢ g.0 → entry_at first h ≡ entry_at old h) (holders : first.holders ≡ old.holders) (back : IsBack mid new g c (answered entry c r)) where
   abbrev told : rule.Local → rule.Local
   told l = record l { last = c.0; answer = Some r }
 
@@ -143,17 +154,18 @@ module _ (tables : List Schema) (old mid new : Held) (before s : Seg) (g : Gxid)
   beside : (h : Gxid) → h.0 ≢ g.0 → rule.local_of (with_local s g (told (rule.local_of s g))) h ≡ rule.local_of before h
   beside h other = ap (λ (b : Bool). if b then told (rule.local_of s g) else rule.local_of s h) (apart h.0 g.0 other) ∙ is.other_locals h other
 
+  still_taken : (h : Gxid) → h.0 ≢ g.0 → entry_at mid h ≡ entry_at old h
+  still_taken h other = ap (λ es. entry_at (record mid { entries = es }) h) is.entries ∙ taken h other
+
   waits : AreWaits tables (with_local s g (told (rule.local_of s g)))
-  waits =
-      AreWaits-free tables before (with_local s g (told (rule.local_of s g))) g was.waits is.horizon beside (λ h other. ap (λ (l : Locks). list_any (is_of h) l.waits) is.locks)
-      (ap (λ (l : Locks). list_any (is_of g) l.waits) is.locks ∙ was.waits.standing g ∙ free)
-      (ap is_waiting answered_at ∙ is.waits ∙ free)
+  waits = AreWaits-free tables before (with_local s g (told (rule.local_of s g))) g was.waits is.horizon beside is.other_waits none (ap is_waiting answered_at ∙ is.waiting ∙ free)
 
   pub IsHeld-back : All (λ v. IsTrue (is_right_version tables v)) s.versions → IsHeld tables new (with_local s g (told (rule.local_of s g)))
   IsHeld-back typed =
-      IsHeld-now tables old new before s g (told (rule.local_of s g)) s.locks was alive (IsStored-back old mid new g c (answered entry c r) taken holders back s is.stored) is.horizon is.other_locals is.other_rows
-      (IsNow-back old mid new g c (answered entry c r) taken holders back (told (rule.local_of s g)) (kept_of s g) (ap told is.local) is.kept is.open_here refl)
+      IsHeld-now tables old new before s g (told (rule.local_of s g)) s.locks was alive (IsStored-back old mid new g c (answered entry c r) still_taken (is.holders ∙ holders) back s is.stored) is.horizon is.other_locals is.other_rows
+      (IsNow-back old mid new g c (answered entry c r) still_taken (is.holders ∙ holders) back (told (rule.local_of s g)) (kept_of s g) (ap told is.local) is.kept is.open_here refl)
       refl
-      (back.locks ∙ locks ∙ was.locks ∙ sym is.locks)
+      (back.locks ∙ is.locks)
+      is.owned
       waits
       typed

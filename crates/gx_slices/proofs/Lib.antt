@@ -2,6 +2,7 @@ pub mod Adding
 pub mod Closing
 pub mod Counting
 pub mod Gxids
+pub mod Owning
 pub mod Waiting
 pub mod Wakes
 pub mod Lists

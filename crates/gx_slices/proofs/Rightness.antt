@@ -10,6 +10,7 @@ use Rattle.gx_ids.specs.declared.ids.Table.{Table}
 use Rattle.gx_modes.specs.declared.modes.Mode.{Mode}
 use Rattle.gx_tree.specs.declared.cond.Cond.{Cond}
 use Rattle.gx_tree.specs.declared.query.Query.{Query}
+use Rattle.gx_ids.specs.declared.rid.Rid.{Rid}
 use Rattle.gx_tree.specs.declared.row.KeyedRow.{KeyedRow}
 use Rattle.gx_tree.specs.declared.schema.Kind.{Kind}
 use Rattle.gx_tree.specs.declared.schema.Kind.TheVariants.{Int, Text}
@@ -25,15 +26,17 @@ use Rattle.gx_msg.specs.declared.item.Kept.{Kept}
 use Rattle.gx_script.specs.declared.Script.{Script}
 use Rattle.gx_store.specs.Journals.{kept_with}
 use Rattle.gx_store.specs.Marks.{is_same_rid}
+use Rattle.gx_store.specs.declared.mark.Mark.TheVariants.{Write}
 use Rattle.gx_rules.specs.Fits.{is_rid_of, is_right_cond, is_right_on, is_right_row, is_same_kind, kinds_in}
-use Rattle.gx_rules.specs.Segments.{Seg, Version}
+use Rattle.gx_rules.specs.Segments.{Seg, Version, local_of}
 use Rattle.gx_rules.specs.Shown.{counts, kept_one, last_images, row_in, rows_in, shown}
-use Rattle.gx_rules.specs.Slices.{Moved, inserted, inserts_row, version}
+use Rattle.gx_rules.specs.Slices.{Moved, adds_version, inserted, inserts_row, starts_from, version, writes_row}
 use Rattle.gx_slices.specs.Agrees.{is_right_image, is_right_version}
 use Rattle.gx_slices.specs.Inserts.{IsRight}
 use Rattle.gx_slices.specs.Picked.{AreTypedOn, IsTypedOn}
 use Rattle.gx_slices.proofs.Gxids.{same_table}
 use Rattle.gx_slices.proofs.Lists.{all_map, and_parts}
+use Rattle.gx_slices.proofs.Owning.{takes_own-with}
 
 -- KINDS
 same_kind : (k l : Kind) → is_same_kind k l ≡ true → l ≡ k
@@ -126,14 +129,25 @@ module _ (tables : List Schema) (g : Gxid) (c : Cid) where
       either None at e = absurd (cc)
       either (Some schema) at e = all-list table schema at rows (sym e)
 
--- with the rows of an INSERT
+-- with a row that is written
 module _ (tables : List Schema) (g : Gxid) (c : Cid) (table : Table) where
-  typed-moved : (rows : List KeyedRow) (m : Moved) → All (λ v. IsTrue (is_right_version tables v)) m.seg.versions → AllByRecursion (IsRight tables table) rows → All (λ v. IsTrue (is_right_version tables v)) (fold (inserts_row g c table) m rows).seg.versions
-  typed-moved [] m typed right = typed
-  typed-moved (row ∷ rows) m typed right = typed-moved rows (inserts_row g c table m row) (All-push (λ (v : Version). IsTrue (is_right_version tables v)) m.seg.versions (version g c table row) typed right.0) right.1
+  abbrev IsTypedVersion : Version → Type 0
+  IsTypedVersion v = IsTrue (is_right_version tables v)
 
-  pub typed-inserted : (s : Seg) (rows : List KeyedRow) → All (λ v. IsTrue (is_right_version tables v)) s.versions → AllByRecursion (IsRight tables table) rows → All (λ v. IsTrue (is_right_version tables v)) (inserted s g c table rows).seg.versions
-  typed-inserted s rows typed right = typed-moved rows (record { seg = s; marks = [] }) typed right
+  pub typed-written : (m : Moved) (rid : Rid) (image : Option (List Value)) → All IsTypedVersion m.seg.versions → IsTrue (is_right_image (slice_get tables table.0) image) → All IsTypedVersion (writes_row g c table m rid image).seg.versions
+  typed-written m rid image typed right =
+      let p = (local_of m.seg g).phase in
+      let v = version g c table rid image in
+      subst (λ (n : Moved). All IsTypedVersion n.seg.versions) (sym (takes_own-with g p (record { seg = adds_version m.seg g v; marks = m.marks ++ Write g c m.seg.node table rid image ∷ [] })))
+      (All-push IsTypedVersion m.seg.versions v typed right)
+
+  -- with the rows of an INSERT
+  typed-moved : (rows : List KeyedRow) (m : Moved) → All IsTypedVersion m.seg.versions → AllByRecursion (IsRight tables table) rows → All IsTypedVersion (fold (inserts_row g c table) m rows).seg.versions
+  typed-moved [] m typed right = typed
+  typed-moved (row ∷ rows) m typed right = typed-moved rows (inserts_row g c table m row) (typed-written m row.rid (Some row.row) typed right.0) right.1
+
+  pub typed-inserted : (s : Seg) (rows : List KeyedRow) → All IsTypedVersion s.versions → AllByRecursion (IsRight tables table) rows → All IsTypedVersion (inserted s g c table rows).seg.versions
+  typed-inserted s rows typed right = typed-moved rows (starts_from s) typed right
 
 -- no other slice is right
 pub right-others : (tables : List Schema) (g : Gxid) (c : Cid) (it : Slice) → IsRightFor tables g c it true → ((query : Query) → it ≡ slice.Select query → ⊥) → ((table : Table) (rows : List KeyedRow) → it ≡ slice.Insert table rows → ⊥) → ((table : Table) (mode : Mode) → it ≡ slice.Lock table mode → ⊥) → ⊥

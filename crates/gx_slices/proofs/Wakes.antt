@@ -1,8 +1,8 @@
 -- What is held, with a slice that waits for its table, and with one that waits no more.
-use Rattle.std.proofs.Common.{◌≡◌, ◌≢◌, ◌≤◌, Bool, true, false, if◌then◌else◌, List, [], ◌∷◌, Option, Some, None, refl, sym, ap, ◌∙◌, subst}
+use Rattle.std.proofs.Common.{◌≡◌, ◌≢◌, ◌≤◌, Bool, true, if◌then◌else◌, List, Option, Some, None, refl, sym, ap, ◌∙◌, subst}
 use Rattle.std.specs.List.{list_any}
 use Rattle.std.specs.BTreeSet.{contains}
-use Rattle.std.specs.Prelude.{◌||◌, find, is_some, nat_lt, option_map}
+use Rattle.std.specs.Prelude.{◌||◌, find, is_some, nat_lt, not, option_map}
 use Rattle.gx_dsnap.specs.Gxids.{gxid_cmp}
 use Rattle.gx_ids.specs.declared.ids.Gxid.{Gxid}
 use Rattle.gx_tree.specs.declared.schema.Schema.{Schema}
@@ -22,11 +22,13 @@ use Rattle.gx_slices.specs.Apart.{IsStored}
 use Rattle.gx_slices.specs.Ran.{MayRun}
 use Rattle.gx_slices.specs.Store.{Store}
 use Rattle.gx_slices.specs.Suspensions.{HasSuspended, HasWoken, suspended}
+use Rattle.gx_slices.specs.Owning.{AreOwn, is_for_other, is_own}
 use Rattle.gx_slices.specs.Waiting.{AreWaits, IsRightWait, is_open}
 use Rattle.gx_slices.specs.declared.held.Held.{Held}
-use Rattle.gx_slices.proofs.Closing.{IsHeld-now, IsNow-back, IsStored-held}
+use Rattle.gx_slices.proofs.Closing.{IsHeld-now, IsNow-back, IsStored-held, no-wait}
 use Rattle.gx_slices.proofs.Gxids.{apart, itself}
-use Rattle.gx_slices.proofs.Waiting.{AreWaits-free, AreWaits-one, waits-more, waits-others, waits-own, waits-without}
+use Rattle.gx_slices.proofs.Owning.{AreOwn-resumed}
+use Rattle.gx_slices.proofs.Waiting.{AreWaits-free, AreWaits-one, find-more, find-others, find-own, waits-found, waits-without}
 
 -- with another record of one transaction
 module _ (s : Seg) (g : Gxid) (l : Local) where
@@ -37,7 +39,7 @@ module _ (s : Seg) (g : Gxid) (l : Local) where
   other_at h other = ap (λ (b : Bool). if b then l else local_of s h) (apart h.0 g.0 other)
 
 -- IT WAITS
-module _ (tables : List Schema) (held locked new : Held) (s : Seg) (g : Gxid) (w : code.Suspended) (wanted : Claim) (was : IsHeld tables held s) (may : MayRun tables s g w.cid w.snapshot w.slice) (came : nat_lt 0 w.cid.0 ≡ true) (own : wanted.gxid ≡ g) (entries : locked.entries ≡ held.entries) (holders : locked.holders ≡ held.holders) (store : locked.store ≡ held.store) (locks : locked.locks ≡ with_wait s.locks wanted) (did : HasSuspended locked new g w) where
+module _ (tables : List Schema) (held locked new : Held) (s : Seg) (g : Gxid) (w : code.Suspended) (wanted : Claim) (was : IsHeld tables held s) (may : MayRun tables s g w.cid w.snapshot w.slice) (came : nat_lt 0 w.cid.0 ≡ true) (own : wanted.gxid ≡ g) (no_other : is_own wanted ≡ true) (entries : locked.entries ≡ held.entries) (holders : locked.holders ≡ held.holders) (store : locked.store ≡ held.store) (locks : locked.locks ≡ with_wait s.locks wanted) (did : HasSuspended locked new g w) where
   abbrev waiting : Local
   waiting = record (local_of s g) { last = w.cid.0; answer = None; suspended = Some (suspended_of w) }
 
@@ -47,16 +49,20 @@ module _ (tables : List Schema) (held locked new : Held) (s : Seg) (g : Gxid) (w
   at_other : (h : Gxid) → h.0 ≢ g.0 → h.0 ≢ wanted.gxid.0
   at_other h other = λ e. other (e ∙ ap (λ (k : Gxid). k.0) own)
 
+  its_wait : wait_of after.locks g ≡ Some wanted
+  its_wait = find-own g s.locks.waits wanted (ap (λ (k : Gxid). is_of g (record wanted { gxid = k })) own ∙ itself g.0) (no-wait tables held s g was may.free)
+
   waits-after : AreWaits tables after
   waits-after =
-      AreWaits-one tables s after g was.waits refl (other_at s g waiting) (λ h other. waits-more h s.locks.waits wanted (at_other h other))
-      (waits-own g s.locks.waits wanted (ap (λ (k : Gxid). is_of g (record wanted { gxid = k })) own ∙ itself g.0) ∙ sym (ap is_waiting (own_at s g waiting)))
+      AreWaits-one tables s after g was.waits refl (other_at s g waiting) (λ h other. find-more h s.locks.waits wanted (at_other h other))
+      (waits-found (is_of g) after.locks.waits ∙ ap (λ (o : Option Claim). is_some o) its_wait ∙ sym (ap is_waiting (own_at s g waiting)))
       (λ v e. record {
         alive = may.alive;
         open_here = ap (λ (l : Local). is_open l.phase) (own_at s g waiting) ∙ may.open_here;
         came = ap (λ (l : Local). nat_lt 0 l.last) (own_at s g waiting) ∙ came;
         reads = subst (λ (x : Suspended). (is_some x.snapshot || reads_nothing x.slice) ≡ true) (same (suspended_of w) v (sym (ap (λ (l : Local). l.suspended) (own_at s g waiting)) ∙ e)) may.reads;
         right = subst (λ (x : Suspended). IsRightFor tables g x.cid x.slice true) (same (suspended_of w) v (sym (ap (λ (l : Local). l.suspended) (own_at s g waiting)) ∙ e)) may.right;
+        at_row = λ f. ap is_for_other its_wait ∙ ap not no_other;
       })
     where
       same : (x y : Suspended) → Some x ≡ Some y → x ≡ y
@@ -77,7 +83,7 @@ module _ (tables : List Schema) (held locked new : Held) (s : Seg) (g : Gxid) (w
       (subst (λ (x : Store). IsStored x s) (sym (did.back.store ∙ store)) (IsStored-held tables held s was)) refl (λ h other. refl) (λ h other. refl)
       (IsNow-back held locked new g w.cid (suspended entry w) (λ h other. entries_at h) holders did.back waiting (kept_of s g)
       (ap (λ (l : Local). let m : Local = record l { last = w.cid.0; answer = None; suspended = Some (suspended_of w) } in m) local) (did.kept ∙ ap rows_in (entries_at g) ∙ was.kept g may.alive) may.open_here refl)
-      refl (did.back.locks ∙ locks) waits-after was.typed
+      refl (did.back.locks ∙ locks) was.owned waits-after was.typed
 
 -- IT WAITS NO MORE
 module _ (tables : List Schema) (old woke : Held) (s : Seg) (g : Gxid) (waiting : Option code.Suspended) (locks : Locks) (was : IsHeld tables old s) (alive : s.horizon.0 ≤ g.0) (did : HasWoken old woke g waiting) (emptied : locks.waits ≡ without g s.locks.waits) where
@@ -95,11 +101,11 @@ module _ (tables : List Schema) (old woke : Held) (s : Seg) (g : Gxid) (waiting 
 
   waits-free : AreWaits tables free
   waits-free =
-      AreWaits-free tables s free g was.waits refl (other_at s g (awake (local_of s g))) (λ h other. ap (list_any (is_of h)) emptied ∙ waits-others g h s.locks.waits other)
+      AreWaits-free tables s free g was.waits refl (other_at s g (awake (local_of s g))) (λ h other. ap (find (is_of h)) emptied ∙ find-others g h s.locks.waits other)
       (ap (list_any (is_of g)) emptied ∙ waits-without g s.locks.waits) (ap is_waiting (own_at s g (awake (local_of s g))))
 
-  pub IsHeld-woken : (now : Locks) → now ≡ locks → IsHeld tables (record woke { locks = now }) free
-  IsHeld-woken now same =
+  pub IsHeld-woken : (now : Locks) → now ≡ locks → AreOwn locks.holds → IsHeld tables (record woke { locks = now }) free
+  IsHeld-woken now same owned =
       IsHeld-now tables old (record woke { locks = now }) s s g (awake (local_of s g)) locks was alive
       (subst (λ (x : Store). IsStored x s) (sym did.store) (IsStored-held tables old s was)) refl (λ h other. refl) (λ h other. refl)
       (record {
@@ -109,7 +115,7 @@ module _ (tables : List Schema) (old woke : Held) (s : Seg) (g : Gxid) (waiting 
         holds = ap (λ hs. contains gxid_cmp hs g) did.holders ∙ was.holders g;
         holders = λ h other. ap (λ hs. contains gxid_cmp hs h) did.holders;
       })
-      refl same waits-free was.typed
+      refl same owned waits-free was.typed
 
   -- and may run
   pub MayRun-woken : (v : Suspended) → IsRightWait tables s g v → MayRun tables free g v.cid v.snapshot v.slice
@@ -122,21 +128,13 @@ module _ (tables : List Schema) (old woke : Held) (s : Seg) (g : Gxid) (waiting 
   }
 
 -- who waits for a lock has a slice that waits
-found-any : (p : Claim → Bool) (claims : List Claim) (claim : Claim) → find p claims ≡ Some claim → list_any p claims ≡ true
-found-any p [] claim e = absurd (cc)
-found-any p (x ∷ xs) claim e = by_test (p x) refl (found-any p xs claim)
-  where
-    by_test : (b : Bool) → p x ≡ b → (find p xs ≡ Some claim → list_any p xs ≡ true) → (p x || list_any p xs) ≡ true
-    by_test true t more = ap (λ (b : Bool). b || list_any p xs) t
-    by_test false t more = ap (λ (b : Bool). b || list_any p xs) t ∙ more (sym (ap (λ (b : Bool). if b then Some x else find p xs) t) ∙ e)
-
 module _ (tables : List Schema) (s : Seg) (g : Gxid) (was : AreWaits tables s) (ready : is_ready s.locks.holds (wait_of s.locks g) ≡ true) where
   pub slice-waits : is_waiting (local_of s g) ≡ true
   slice-waits = sym (was.standing g) ∙ either (wait_of s.locks g) refl ready
     where
       either : (o : Option Claim) → wait_of s.locks g ≡ o → is_ready s.locks.holds o ≡ true → list_any (is_of g) s.locks.waits ≡ true
       either None e f = absurd (cc)
-      either (Some claim) e f = found-any (is_of g) s.locks.waits claim e
+      either (Some claim) e f = waits-found (is_of g) s.locks.waits ∙ ap (λ (o : Option Claim). is_some o) e
 
   pub emptied-resumed : (resumed s.locks g (wait_of s.locks g)).waits ≡ without g s.locks.waits
   emptied-resumed = either (wait_of s.locks g) ready
@@ -144,3 +142,7 @@ module _ (tables : List Schema) (s : Seg) (g : Gxid) (was : AreWaits tables s) (
       either : (o : Option Claim) → is_ready s.locks.holds o ≡ true → (resumed s.locks g o).waits ≡ without g s.locks.waits
       either None f = absurd (cc)
       either (Some claim) f = refl
+
+  -- where it has come to no row, each transaction is held by itself alone
+  pub owned-resumed : AreOwn s.locks.holds → (w : Suspended) → (local_of s g).suspended ≡ Some w → w.row ≡ None → AreOwn (resumed s.locks g (wait_of s.locks g)).holds
+  owned-resumed own w is row = AreOwn-resumed s.locks g (wait_of s.locks g) ((was.right g w is).at_row row) own

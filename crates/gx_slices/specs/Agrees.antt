@@ -21,6 +21,7 @@ use Rattle.gx_rules.specs.Fits.{holds_locks, is_right_row, kinds_in}
 use Rattle.gx_rules.specs.Segments as rule
 use Rattle.gx_rules.specs.Segments.{Seg, Version, has_committed, new_local}
 use Rattle.gx_rules.specs.Shown.{kept_of}
+use Rattle.gx_slices.specs.Owning.{AreOwn}
 use Rattle.gx_slices.specs.Waiting.{AreWaits}
 use Rattle.gx_slices.specs.declared.held.Entry.{Entry}
 use Rattle.gx_slices.specs.declared.held.Held.{Held}
@@ -69,4 +70,5 @@ pub record IsHeld (tables : List Schema) (held : Held) (s : Seg) : Type 0 where
   pub committed : (g : Gxid) → passes is_committed (status_of held.store g) ≡ (has_version s g && has_committed (rule.local_of s g).phase)
   pub typed : All (λ v. IsTrue (is_right_version tables v)) s.versions
   pub locks : held.locks ≡ s.locks
+  pub owned : AreOwn s.locks.holds
   pub waits : AreWaits tables s

@@ -6,6 +6,7 @@ use Rattle.gx_ids.specs.declared.ids.Gxid.{Gxid}
 use Rattle.gx_ids.specs.declared.ids.Table.{Table}
 use Rattle.gx_ids.specs.declared.rid.Rid.{Rid}
 use Rattle.gx_dsnap.specs.Gxids.{gxid_cmp}
+use Rattle.gx_locks.specs.Locks.{wait_of}
 use Rattle.gx_msg.specs.declared.reply.Reply.{Reply}
 use Rattle.gx_rows.specs.Counts.{is_committed}
 use Rattle.gx_slices.specs.Store.{Store, passes, status_of, writes_of}
@@ -15,6 +16,7 @@ use Rattle.gx_rules.specs.Segments as rule
 use Rattle.gx_rules.specs.Segments.{Seg, has_committed}
 use Rattle.gx_rules.specs.Shown.{kept_of}
 use Rattle.gx_slices.specs.Agrees.{entry_at, has_version, is_of_row, write_of}
+use Rattle.gx_slices.specs.Owning.{AreOwn}
 use Rattle.gx_slices.specs.Waiting.{is_open}
 use Rattle.gx_slices.specs.declared.held.Entry.{Entry}
 use Rattle.gx_slices.specs.declared.held.Held.{Held}
@@ -26,16 +28,21 @@ pub record IsStored (store : Store) (s : Seg) : Type 0 where
   pub wrote : (g : Gxid) → is_some (status_of store g) ≡ has_version s g
   pub committed : (g : Gxid) → passes is_committed (status_of store g) ≡ (has_version s g && has_committed (rule.local_of s g).phase)
 
--- the store and the entry are as the data, which differ from those before by this transaction alone
-pub record IsApart (start : Seg) (store : Store) (entry : Entry) (g : Gxid) (s : Seg) : Type 0 where
-  pub stored : IsStored store s
+-- The store, the locks and the entry are as the data, which differ from those before by this transaction alone; all else is held as
+-- at first, without the entry.
+pub record IsApart (start : Seg) (first held : Held) (entry : Entry) (g : Gxid) (s : Seg) : Type 0 where
+  pub stored : IsStored held.store s
+  pub locks : held.locks ≡ s.locks
+  pub entries : held.entries ≡ first.entries
+  pub holders : held.holders ≡ first.holders
   pub local : local_of entry.local ≡ rule.local_of s g
   pub kept : entry.kept ≡ kept_of s g
   pub open_here : is_open (rule.local_of s g).phase ≡ true
   pub node : s.node ≡ start.node
   pub horizon : s.horizon ≡ start.horizon
-  pub locks : s.locks ≡ start.locks
-  pub waits : is_waiting (rule.local_of s g) ≡ is_waiting (rule.local_of start g)
+  pub owned : AreOwn s.locks.holds
+  pub waiting : is_waiting (rule.local_of s g) ≡ is_waiting (rule.local_of start g)
+  pub other_waits : (h : Gxid) → h.0 ≢ g.0 → wait_of s.locks h ≡ wait_of start.locks h
   pub other_locals : (h : Gxid) → h.0 ≢ g.0 → rule.local_of s h ≡ rule.local_of start h
   pub other_rows : (h : Gxid) → h.0 ≢ g.0 → kept_of s h ≡ kept_of start h
 

@@ -1,4 +1,5 @@
 pub mod Kept
+pub mod Owning
 pub mod Waiting
 pub mod Agrees
 pub mod Ran

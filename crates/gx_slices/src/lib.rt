@@ -3,6 +3,7 @@
 #![tactic(auto)]
 
 mod answering;
+mod changing;
 pub mod current;
 mod entries;
 pub mod held;

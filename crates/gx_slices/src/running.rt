@@ -1,16 +1,17 @@
 ghost use Rattle.std.specs.Prelude.{◌≡◌, IfOk};
 ghost use Rattle.gx_rules.specs.Segments.{Seg};
-ghost use Rattle.gx_rules.specs.Slices.{runs_slice};
+ghost use Rattle.gx_rules.specs.Running.{runs_slice};
 ghost use Rattle.gx_slices.specs.Agrees.{IsHeld};
 ghost use Rattle.gx_slices.specs.Ran.{HasRun, MayRun};
 
+use crate::changing::Writer;
 use crate::held::Held;
 use crate::inserting::insert;
 use crate::locked::lock;
 use crate::selecting::select;
-use gx_dsnap::Snapshot;
-use gx_ids::{Cid, Gxid, Mem, Seq};
+use gx_ids::{Gxid, Mem, Seq};
 use gx_msg::Reply;
+use gx_node::Suspended;
 use gx_outside::Passed;
 use gx_store::Mark;
 use gx_tree::{Schema, Slice};
@@ -33,20 +34,30 @@ pub fn run_slice(
     passed: Passed,
     held: &mut Held,
     gxid: Gxid,
-    cid: Cid,
-    snapshot: &Option<Snapshot>,
-    slice: Slice,
+    command: Suspended,
 ) -> Mem<Ran>
     ghost s: { Seg }
     requires held { IsHeld tables.now held.old s }
-    requires may { MayRun tables.now s gxid cid snapshot.now slice }
+    requires may { MayRun tables.now s gxid command.cid command.snapshot command.slice }
     requires passed { passed ≡ s.node }
-    ensures { IfOk result (λ ran. HasRun tables.now held.new gxid ran (runs_slice s gxid cid snapshot.now slice)) }
+    ensures { IfOk result (λ ran. HasRun tables.now held.new gxid ran (runs_slice s gxid command.cid command.level command.snapshot command.slice)) }
 {
+    let Suspended {
+        cid,
+        level: _,
+        snapshot,
+        slice,
+    } = command;
     match slice {
-        Slice::Select(query) => select(alloc, tables, held, gxid, cid, snapshot, query),
+        Slice::Select(query) => select(alloc, tables, held, gxid, cid, &snapshot, query),
         Slice::Insert(table, rows) => {
-            let ran = insert(alloc, tables, passed.node(), held, gxid, cid, table, rows)?;
+            let writer = Writer {
+                node: passed.node(),
+                gxid,
+                cid,
+                table,
+            };
+            let ran = insert(alloc, tables, held, writer, rows)?;
             Ok(ran)
         }
         Slice::Lock(_, _) => lock(alloc, tables, held, gxid, cid),

@@ -1,7 +1,7 @@
 // A SELECT at a segment.
 ghost use Rattle.std.specs.Prelude.{◌≡◌, Some, IfOk};
 ghost use Rattle.gx_rules.specs.Segments.{Seg};
-ghost use Rattle.gx_rules.specs.Slices.{cause_of, runs_slice};
+ghost use Rattle.gx_rules.specs.Slices.{cause_of, reads};
 ghost use Rattle.gx_tree.specs.declared.slice.Slice.TheVariants as slice;
 ghost use Rattle.gx_slices.specs.Agrees.{IsHeld};
 ghost use Rattle.gx_slices.specs.Picked.{AreTypedOn, IsFaulted, IsSelected};
@@ -33,7 +33,7 @@ pub(crate) fn select(
     ghost s: { Seg }
     requires held { IsHeld tables.now held.old s }
     requires may { MayRun tables.now s gxid cid snapshot.now (slice.Select query) }
-    ensures { IfOk result (λ ran. HasRun tables.now held.new gxid ran (runs_slice s gxid cid snapshot.now (slice.Select query))) }
+    ensures { IfOk result (λ ran. HasRun tables.now held.new gxid ran (reads s gxid cid query snapshot.now)) }
 {
     match snapshot {
         Some(snapshot) => select_by(alloc, tables, held, gxid, cid, snapshot, query),
@@ -54,7 +54,7 @@ fn select_by(
     ghost s: { Seg }
     requires held { IsHeld tables.now held.old s }
     requires may { MayRun tables.now s gxid cid (Some snapshot.now) (slice.Select query) }
-    ensures { IfOk result (λ ran. HasRun tables.now held.new gxid ran (runs_slice s gxid cid (Some snapshot.now) (slice.Select query))) }
+    ensures { IfOk result (λ ran. HasRun tables.now held.new gxid ran (reads s gxid cid query (Some snapshot.now))) }
 {
     let rows = held
         .store

@@ -8,31 +8,44 @@ use Rattle.gx_rules.specs.Slices.{has_written, inserted}
 use Rattle.gx_slices.specs.Inserts.{IsInserted}
 use Rattle.gx_slices.specs.declared.held.Held.{Held}
 use Rattle.gx_slices.specs.declared.running.Ran.{Ran}
-use Rattle.gx_slices.proofs.Closing.{IsHeld-back}
+use Rattle.gx_slices.proofs.Closing.{IsApart-taken, IsHeld-back, no-wait}
 use Rattle.gx_slices.proofs.Rightness.{right-insert, typed-inserted}
 use Rattle.gx_slices.proofs.Turning.{HasRun-answers}
 use Rattle.gx_slices.proofs.inserting.insert.Goals as goal
+
+pub insert_rows-requires : goal.insert_rows-requires
+insert_rows-requires g c =
+    let tables = c.args.tables.now in
+    let held = c.args.held.now in
+    let gxid = c.args.writer.gxid in
+    let is = c.requires.0 in
+    let alive = c.requires.1.0 in
+    let took = c.take_entry-entry.ensures in (
+      c.requires.1.1.1.1.1,
+      (alive, (IsApart-taken tables held c.take_entry-entry.new.entries g.s gxid c.take_entry-entry.result is alive c.requires.1.1.0 took.local took.kept, no-wait tables held g.s gxid is c.requires.1.1.1.0)),
+    )
 
 pub returns : goal.returns
 returns g c =
     let tables = c.args.tables.now in
     let held = c.args.held.now in
-    let gxid = c.args.gxid in
-    let cid = c.args.cid in
+    let gxid = c.args.writer.gxid in
+    let cid = c.args.writer.cid in
+    let table = c.args.writer.table in
     let rows = c.args.rows in
     let is = c.requires.0 in
     let alive = c.requires.1.0 in
     let free = c.requires.1.1.1.0 in
     let right = c.requires.1.1.1.1.0 in
-    let store = c.insert_rows.new.store in
+    let first : Held = record held { entries = c.take_entry-entry.new.entries } in
+    let mid = c.insert_rows.new.held in
     let entry = c.insert_rows.new.entry in
     let new = c.keep_answer.new.held in
-    let m = inserted g.s gxid cid c.args.table rows in
-    let put = subst (λ (l : List KeyedRow). IsInserted g.s gxid cid c.args.table l store entry c.in_ok-marks.marks.items) c.into_vec.ensures c.in_ok-marks.ensures in
-    let typed = typed-inserted tables gxid cid c.args.table g.s rows is.typed (right-insert tables gxid cid c.args.table rows right) in
-    let mid : Held = record { store = store; entries = c.take_entry-entry.new.entries; holders = held.holders; locks = held.locks } in
+    let m = inserted g.s gxid cid table rows in
+    let put = subst (λ (l : List KeyedRow). IsInserted g.s gxid cid table l first mid entry c.in_ok-marks.marks.items) c.into_vec.ensures c.in_ok-marks.ensures in
+    let typed = typed-inserted tables gxid cid table g.s rows is.typed (right-insert tables gxid cid table rows right) in
     let reply : Reply = Done cid c.has_written.result c.len-count.result (Rows c.new.result) in
-    let back = IsHeld-back tables held mid new g.s m.seg gxid cid entry reply is alive free put.apart c.take_entry-entry.ensures.others refl refl c.in_ok-keep_answer.ensures typed in
+    let back = IsHeld-back tables held first mid new g.s m.seg gxid cid entry reply is alive free put.apart put.free c.take_entry-entry.ensures.others refl c.in_ok-keep_answer.ensures typed in
     let ran : Ran = record { marks = c.from_vec.result; reply = reply } in
     let wrote = c.has_written.ensures ∙ ap (λ (l : Local). has_written l.phase) put.apart.local in
     HasRun-answers tables new gxid cid m.seg ran m.marks (Done cid (has_written (local_of m.seg gxid).phase) (length rows) (Rows [])) back
