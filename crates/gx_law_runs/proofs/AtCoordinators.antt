@@ -173,7 +173,7 @@ module _ (fails : Bool) where
       by false = tt
 
   dispatch-may : (script : Script) (c : Coord) (g : Gxid) (line : Stmt) → May (dispatches script c g line).marks
-  dispatch-may script c g line = request-may script c g line (lock_for g line)
+  dispatch-may script c g line = request-may script c g line (lock_for script g line)
 
   resume-may : (script : Script) (c : Coord) (g : Gxid) (wait : Option Claim) (line : Option Stmt) → May (resumes script c g wait line).marks
   resume-may script c g (Some wanted) (Some line) =

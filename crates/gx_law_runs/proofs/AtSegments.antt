@@ -4,10 +4,12 @@ use Rattle.std.specs.Prelude.{fold, None, Option, Some, map}
 use Rattle.gx_ids.specs.declared.ids.Cid.{Cid}
 use Rattle.gx_ids.specs.declared.ids.Gxid.{Gxid}
 use Rattle.gx_ids.specs.declared.ids.Table.{Table}
+use Rattle.gx_ids.specs.declared.rid.Rid.{Rid}
 use Rattle.gx_tree.specs.declared.query.Query.{Query}
 use Rattle.gx_tree.specs.declared.row.KeyedRow.{KeyedRow}
 use Rattle.gx_tree.specs.declared.slice.Slice.{Slice}
 use Rattle.gx_tree.specs.declared.slice.Slice.TheVariants as slice
+use Rattle.gx_tree.specs.declared.value.Value.{Value}
 use Rattle.gx_dsnap.specs.Gxids.{is_below}
 use Rattle.gx_tree.specs.declared.stmt.Level.{Level}
 use Rattle.gx_dsnap.specs.declared.snapshot.Snapshot.{Snapshot}
@@ -28,7 +30,9 @@ use Rattle.gx_rules.specs.Locks.{has_there, release_mark, release_marks, with_ho
 use Rattle.gx_rules.specs.Segments.{Local, Phase, Seg, SegTurn, Suspended, has_committed, local_of, stays, tells_kept}
 use Rattle.gx_rules.specs.Segments.Phase.{Reading, Writing, Prepared, Committed, Forgotten, Aborted}
 use Rattle.gx_rules.specs.Shown.{shown}
-use Rattle.gx_rules.specs.Slices.{Moved, first_fault, inserts_row, requests, runs_locked, runs_slice, selects, slice_lock, starts_slice, suspends}
+use Rattle.gx_rules.specs.Running.{is_granted, requests, runs_locked, runs_slice, slice_lock, starts_slice, suspends}
+use Rattle.gx_rules.specs.Slices.{Moved, first_fault, inserts_row, selects, starts_from, writes_row}
+use Rattle.gx_law_writes.proofs.Rows.{by-own, wrote}
 use Rattle.gx_law_runs.proofs.Marks.{MayFail, NoFailures, may-none, may-sent, none-append}
 
 -- SLICES
@@ -36,26 +40,35 @@ select-none : (s : Seg) (g : Gxid) (c : Cid) (q : Query) (rows : List KeyedRow) 
 select-none s g c q rows None = tt
 select-none s g c q rows (Some f) = tt
 
+-- a write, with the writer's own lock
+write-none : (g : Gxid) (c : Cid) (table : Table) (m : Moved) (rid : Rid) (image : Option (List Value)) → NoFailures m.marks → NoFailures (writes_row g c table m rid image).marks
+write-none g c table m rid image none = by-own (λ (x : Moved). NoFailures x.marks) g (local_of m.seg g).phase written (none-append written.marks _ now tt) now
+  where
+    written : Moved
+    written = wrote g c table m rid image
+
+    now : NoFailures written.marks
+    now = none-append m.marks _ none tt
+
 rows-none : (g : Gxid) (c : Cid) (table : Table) (rows : List KeyedRow) (m : Moved) → NoFailures m.marks → NoFailures (fold (inserts_row g c table) m rows).marks
 rows-none g c table [] m none = none
-rows-none g c table (row ∷ rows) m none = rows-none g c table rows (inserts_row g c table m row) (none-append m.marks _ none tt)
+rows-none g c table (row ∷ rows) m none = rows-none g c table rows (inserts_row g c table m row) (write-none g c table m row.rid (Some row.row) none)
 
-slice-none : (s : Seg) (g : Gxid) (c : Cid) (snapshot : Option Snapshot) (x : Slice) → NoFailures (runs_slice s g c snapshot x).marks
-slice-none s g c (Some snapshot) (slice.Select q) = select-none s g c q (shown s snapshot g c q.table) (first_fault q.cond (shown s snapshot g c q.table))
-slice-none s g c (Some snapshot) (slice.Insert table rows) = rows-none g c table rows (record { seg = s; marks = [] }) tt
-slice-none s g c None (slice.Select q) = tt
-slice-none s g c None (slice.Insert table rows) = tt
-slice-none s g c snapshot (slice.Lock table mode) = tt
-slice-none s g c snapshot (slice.Update table assigns cond) = tt
-slice-none s g c snapshot (slice.Delete table cond) = tt
+slice-none : (s : Seg) (g : Gxid) (c : Cid) (level : Level) (snapshot : Option Snapshot) (x : Slice) → NoFailures (runs_slice s g c level snapshot x).marks
+slice-none s g c level (Some snapshot) (slice.Select q) = select-none s g c q (shown s snapshot g c q.table) (first_fault q.cond (shown s snapshot g c q.table))
+slice-none s g c level (Some snapshot) (slice.Insert table rows) = rows-none g c table rows (starts_from s) tt
+slice-none s g c level None (slice.Select q) = tt
+slice-none s g c level None (slice.Insert table rows) = tt
+slice-none s g c level snapshot (slice.Lock table mode) = tt
+slice-none s g c level snapshot (slice.Update table assigns cond) = tt
+slice-none s g c level snapshot (slice.Delete table cond) = tt
 
 -- the marks of locks fail nothing
-starts-none : (s : Seg) (g : Gxid) (c : Cid) (level : Level) (snapshot : Option Snapshot) (x : Slice) (o : Option Claim) → NoFailures (requests s g c level snapshot x o).marks
-starts-none s g c level snapshot x None = slice-none s g c snapshot x
-starts-none s g c level snapshot x (Some wanted) = by_test (is_free s.locks.holds wanted)
+starts-none : (s : Seg) (g : Gxid) (c : Cid) (level : Level) (snapshot : Option Snapshot) (x : Slice) (wanted : Claim) → NoFailures (requests s g c level snapshot x wanted).marks
+starts-none s g c level snapshot x wanted = by_test (is_free s.locks.holds wanted)
   where
-    by_test : (b : Bool) → NoFailures (let t : SegTurn = if b then runs_locked s g c snapshot x wanted else suspends s g c level snapshot x wanted in t).marks
-    by_test true = slice-none (record s { locks = with_hold s.locks wanted }) g c snapshot x
+    by_test : (b : Bool) → NoFailures (let t : SegTurn = if b then runs_locked s g c level snapshot x wanted else suspends s g c level snapshot x wanted in t).marks
+    by_test true = slice-none (record s { locks = with_hold s.locks wanted }) g c level snapshot x
     by_test false = tt
 
 released-none : (node : Node) (claims : List Claim) → NoFailures (map (release_mark node) claims)
@@ -63,7 +76,7 @@ released-none node [] = tt
 released-none node (claim ∷ claims) = released-none node claims
 
 resumed-none : (s : Seg) (g : Gxid) (w : Option Claim) (o : Option Suspended) → NoFailures (resumes s g w o).marks
-resumed-none s g (Some wanted) (Some x) = slice-none _ g x.cid x.snapshot x.slice
+resumed-none s g (Some wanted) (Some x) = slice-none (is_granted s g wanted).seg g x.cid x.level x.snapshot x.slice
 resumed-none s g (Some wanted) None = tt
 resumed-none s g None o = tt
 
@@ -94,19 +107,21 @@ module _ (s : Seg) (g : Gxid) (fails : Bool) where
   repeat : (c : Cid) (l : Local) → May (repeats s g c l)
   repeat c l = both (c.0 == l.last) (tells_kept s g l.answer) (stays s) (kept l.answer) tt
 
-  take : (c : Cid) (level : Level) (snapshot : Option Snapshot) (h : Gxid) (x : Slice) (l : Local) → May (takes s g c level snapshot h x l)
-  take c level snapshot h x l = both (nat_lt l.last c.0) (starts_slice (raised s h) g c level snapshot x) (repeats s g c l) (may-none s.node fails (starts_slice (raised s h) g c level snapshot x).marks (starts-none (raised s h) g c level snapshot x (slice_lock g x))) (repeat c l)
+  take : (script : Script) (c : Cid) (level : Level) (snapshot : Option Snapshot) (h : Gxid) (x : Slice) (l : Local) → May (takes script s g c level snapshot h x l)
+  take script c level snapshot h x l =
+      both (nat_lt l.last c.0) (starts_slice script (raised s h) g c level snapshot x) (repeats s g c l)
+      (may-none s.node fails (starts_slice script (raised s h) g c level snapshot x).marks (starts-none (raised s h) g c level snapshot x (slice_lock script g x))) (repeat c l)
 
   ended : (l : Local) (p : Phase) (r : Reply) → May (ends s g l p r)
   ended l p r = may-none s.node fails (release_marks s.node s.locks g) (released-none s.node (has_there s.locks g))
 
-  exec : (c : Cid) (level : Level) (snapshot : Option Snapshot) (h : Gxid) (x : Slice) (l : Local) (p : Phase) → May (on_exec s g c level snapshot h x l p)
-  exec c level snapshot h x l Reading = take c level snapshot h x l
-  exec c level snapshot h x l Writing = take c level snapshot h x l
-  exec c level snapshot h x l Prepared = repeat c l
-  exec c level snapshot h x l Committed = repeat c l
-  exec c level snapshot h x l (Forgotten b) = tt
-  exec c level snapshot h x l Aborted = tt
+  exec : (script : Script) (c : Cid) (level : Level) (snapshot : Option Snapshot) (h : Gxid) (x : Slice) (l : Local) (p : Phase) → May (on_exec script s g c level snapshot h x l p)
+  exec script c level snapshot h x l Reading = take script c level snapshot h x l
+  exec script c level snapshot h x l Writing = take script c level snapshot h x l
+  exec script c level snapshot h x l Prepared = repeat c l
+  exec script c level snapshot h x l Committed = repeat c l
+  exec script c level snapshot h x l (Forgotten b) = tt
+  exec script c level snapshot h x l Aborted = tt
 
 -- these append an item
 promise : (s : Seg) (g : Gxid) (fails : Bool) (l : Local) → MayFail s.node fails (promises s g fails l).marks
@@ -157,7 +172,9 @@ module _ (s : Seg) (g : Gxid) (fails : Bool) where
 
 told : (script : Script) (s : Seg) (fails : Bool) (m : Message) → MayFail s.node fails (on_message script s fails m).marks
 told script s fails (message.Exec g c level snapshot h x) =
-    unless s g fails (if_fits s (fits_exec script s g c snapshot h x) (on_exec s g c level snapshot h x (local_of s g) (local_of s g).phase)) (fitting s g fails (fits_exec script s g c snapshot h x) (on_exec s g c level snapshot h x (local_of s g) (local_of s g).phase) (exec s g fails c level snapshot h x (local_of s g) (local_of s g).phase))
+    let fits = fits_exec script s g c snapshot h x in
+    let turn : SegTurn = on_exec script s g c level snapshot h x (local_of s g) (local_of s g).phase in
+    unless s g fails (if_fits s fits turn) (fitting s g fails fits turn (exec s g fails script c level snapshot h x (local_of s g) (local_of s g).phase))
 told script s fails (message.Prepare g) =
     unless s g fails (if_fits s (not (is_waiting (local_of s g))) (on_prepare s g fails (local_of s g) (local_of s g).phase)) (fitting s g fails (not (is_waiting (local_of s g))) (on_prepare s g fails (local_of s g) (local_of s g).phase) (prepare s g fails (local_of s g) (local_of s g).phase))
 told script s fails (message.Commit g) =

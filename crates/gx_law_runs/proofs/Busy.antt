@@ -48,7 +48,6 @@ use Rattle.gx_law_runs.proofs.Replies.{Before, answer-goes, is_over}
 use Rattle.gx_law_runs.proofs.Starts.{Stays, end-stays, line-stays, resume-goes}
 use Rattle.gx_law_runs.proofs.Turns.{Goes}
 use Rattle.gx_ids.specs.declared.ids.Gxid.{Gxid}
-use Rattle.gx_tree.specs.declared.schema.Schema.{Schema}
 use Rattle.gx_tree.specs.declared.stmt.Stmt.TheVariants as stmt
 use Rattle.gx_waits.specs.declared.claim.Claim.{Claim}
 use Rattle.gx_locks.specs.Locks.{Locks, wait_of}
@@ -59,19 +58,19 @@ use Rattle.gx_law_runs.proofs.Plans.{IsFilled}
 use Rattle.gx_law_runs.proofs.Sparing.{HasWait}
 
 -- a command that takes a lock is filled
-lock-filled : (tables : List Schema) (g : Gxid) (line : Stmt) (wanted : Claim) → lock_for g line ≡ Some wanted → IsWholeStmt tables line → IsFilled line
-lock-filled tables g (stmt.Select q) wanted e w = tt
-lock-filled tables g (stmt.Insert t []) wanted e w = absurd w
-lock-filled tables g (stmt.Insert t (x ∷ xs)) wanted e w = tt
-lock-filled tables g (stmt.Update t x y) wanted e w = tt
-lock-filled tables g (stmt.Delete t x) wanted e w = tt
-lock-filled tables g (stmt.Lock t m) wanted e w = tt
-lock-filled tables g (stmt.Begin level) wanted e w = absurd (cc)
-lock-filled tables g stmt.Commit wanted e w = absurd (cc)
-lock-filled tables g stmt.Rollback wanted e w = absurd (cc)
+lock-filled : (script : Script) (g : Gxid) (line : Stmt) (wanted : Claim) → lock_for script g line ≡ Some wanted → IsWholeStmt script.tables line → IsFilled line
+lock-filled script g (stmt.Select q) wanted e w = tt
+lock-filled script g (stmt.Insert t []) wanted e w = absurd w
+lock-filled script g (stmt.Insert t (x ∷ xs)) wanted e w = tt
+lock-filled script g (stmt.Update t x y) wanted e w = tt
+lock-filled script g (stmt.Delete t x) wanted e w = tt
+lock-filled script g (stmt.Lock t m) wanted e w = tt
+lock-filled script g (stmt.Begin level) wanted e w = absurd (cc)
+lock-filled script g stmt.Commit wanted e w = absurd (cc)
+lock-filled script g stmt.Rollback wanted e w = absurd (cc)
 
 -- A TRANSACTION WITHOUT ITS COMMIT OR ABORT MARK
-not-over : (c : Coord) (ms : List Mark) → Kept c → Past c ms → (g : ℕ) → is_ended ms (gx g) ≡ false → is_over (stage_of c g) ≡ false
+not-over : {script : Script} (c : Coord) (ms : List Mark) → Kept script c → Past c ms → (g : ℕ) → is_ended ms (gx g) ≡ false → is_over (stage_of c g) ≡ false
 not-over c ms k p g running = by_found (find_txn c.table (gx g)) refl
   where
     by_stage : (a : Stage) → stage_of c g ≡ a → (1 ≤ g) × (g < c.table.next.0) → is_over a ≡ false
@@ -127,7 +126,7 @@ module _ (script : Script) (some : 1 ≤ script.segments) where
       abbrev c : Coord
       c = (world_of script es).coord
 
-      k : Kept (world_of script es).coord
+      k : Kept script (world_of script es).coord
       k = (world_knows script some es).kept
 
       abbrev next : Coord
@@ -202,7 +201,7 @@ module _ (script : Script) (some : 1 ≤ script.segments) where
       abbrev v : World
       v = world_of script es
 
-      kept : Kept (world_of script es).coord
+      kept : Kept script (world_of script es).coord
       kept = (world_knows script some es).kept
 
       message-waits : (from : Node) (envelope : Envelope) (h : IsHere script v e (here.Deliver from envelope)) (m : Message) → envelope.message ≡ m → DoWait (coord_did v e (coord_rule script v.coord (here.Deliver from envelope) fails))
@@ -230,10 +229,10 @@ module _ (script : Script) (some : 1 ≤ script.segments) where
       resend-locks i (Some m) = refl
 
       -- a statement that has waited
-      filled : (g : Gxid) (o : GoesOut v.coord g) → IsFilled o.line
-      filled g o = lock-filled script.tables g o.line o.wanted o.lock (whole-line (work_of v.coord g).session (session_of v.coord (work_of v.coord g).session).lines script.lines o.line inserts (waiting-line script some es g o.wanted o.line o.claims o.is))
+      filled : (g : Gxid) (o : GoesOut script v.coord g) → IsFilled o.line
+      filled g o = lock-filled script g o.line o.wanted o.lock (whole-line (work_of v.coord g).session (session_of v.coord (work_of v.coord g).session).lines script.lines o.line inserts (waiting-line script some es g o.wanted o.line o.claims o.is))
 
-      out-goes : (g : Gxid) → GoesOut v.coord g → Goes (Before v.coord kept (world-asks script some es).neat g.0) v.coord g.0 (on_event script v.coord (here.Resume g) fails)
+      out-goes : (g : Gxid) → GoesOut script v.coord g → Goes (Before v.coord kept (world-asks script some es).neat g.0) v.coord g.0 (on_event script v.coord (here.Resume g) fails)
       out-goes g o =
           subst (λ w. Goes (Before v.coord kept (world-asks script some es).neat g.0) v.coord g.0 (resumes script v.coord g w (work_of v.coord g).waiting)) (sym o.claims)
           (subst (λ l. Goes (Before v.coord kept (world-asks script some es).neat g.0) v.coord g.0 (resumes script v.coord g (Some o.wanted) l)) (sym o.is)

@@ -17,6 +17,7 @@ use Rattle.gx_dtx.specs.declared.txn.Txn.{Txn}
 use Rattle.gx_msg.specs.declared.reply.Cause.{Cause}
 use Rattle.gx_msg.specs.declared.reply.Reply.{Reply}
 use Rattle.gx_msg.specs.declared.reply.Reply.TheVariants as reply
+use Rattle.gx_script.specs.declared.Script.{Script}
 use Rattle.gx_script.specs.declared.state.Block.{Block}
 use Rattle.gx_script.specs.declared.state.Block.TheVariants as block
 use Rattle.gx_rules.specs.AtCoordinator.{completes, goes_on, is_awaited, is_refused, item_for, on_answer, on_done, on_failed, on_status, order_to, reason_of, takes_done, with_done, writers_with}
@@ -64,7 +65,7 @@ module _ (g : ℕ) (t : Txn) (j : Node) (fails : Bool) where
   takes-ordered ws (Aborting aw) r e n o s = absurd (cc)
   takes-ordered ws p r e n o s = absurd (cc)
 
-module _ (c : Coord) (k : Kept c) (n : AreNeat c) (g : ℕ) where
+module _ {script : Script} (c : Coord) (k : Kept script c) (n : AreNeat c) (g : ℕ) where
   -- what is known before the answer
   abbrev pub Before : Type 0
   Before = IsBusy c g × (is_over (stage_of c g) ≡ false)

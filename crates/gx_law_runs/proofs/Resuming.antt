@@ -175,7 +175,7 @@ module _ (script : Script) (some : 1 ≤ script.segments) (es : List (Event × B
   drawn-there : (i : ℕ) (g : Gxid) (wanted : Claim) → wait_of (w.segs i).locks g ≡ Some wanted → (1 ≤ g.0) × (g.0 < w.coord.table.next.0)
   drawn-there i g wanted e = (low, by_found (find_txn (world_of script es).coord.table (gx g.0)) refl (awaited script (world_of script es) n (world-holds script some es) i g has.slice has.is).drawn)
     where
-      has : HasSlice (w.segs i) g wanted
+      has : HasSlice script (w.segs i) g wanted
       has = has-slice script (world_of script es) n.well i g wanted e
 
       x : Waits script (world_of script es) i g has.slice

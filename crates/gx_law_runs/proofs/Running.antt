@@ -22,7 +22,7 @@ live-unfinished b p x e = grind arith
 closing-unfinished : (b : Block) (p : Pending) (x : Bool) → is_closing_in b p ≡ true → (not (is_nothing p) || (is_in_block b || x)) ≡ true
 closing-unfinished b p x e = grind arith
 
-module _ (script : Script) (c : Coord) (ms : List Mark) (kept : Kept c) (past : Past c ms) (finished : (s : SessionId) → is_unfinished_there script c s ≡ false) where
+module _ (script : Script) (c : Coord) (ms : List Mark) (kept : Kept script c) (past : Past c ms) (finished : (s : SessionId) → is_unfinished_there script c s ≡ false) where
   module _ (g : ℕ) where
     abbrev s : SessionId
     s = (work_of c (gx g)).session

@@ -123,12 +123,12 @@ module _ (script : Script) (some : 1 ≤ script.segments) (c : Coord) (g : ℕ) 
       held-goes d wanted (goes-by (Unit {0}) d c g (goes_on_locked script d (gx g) line) refl refl (λ h e. refl) (locked-goes script some d g line f))
   granted-goes wanted own false = inl (record { sessions = λ j. refl; asked = λ b. inr (waits-own c.locks g wanted own); spares = waits-spares c.locks g wanted own })
 
-  request-goes : (o : Option Claim) → lock_for (gx g) line ≡ o → Goes (Unit {0}) c g (requests script c (gx g) line o)
+  request-goes : (o : Option Claim) → lock_for script (gx g) line ≡ o → Goes (Unit {0}) c g (requests script c (gx g) line o)
   request-goes None e = locked-goes script some c g line f
   request-goes (Some wanted) e = granted-goes wanted (lock-of script (gx g) line wanted e) (is_free c.locks.holds wanted)
 
   dispatch-goes : Goes (Unit {0}) c g (dispatches script c (gx g) line)
-  dispatch-goes = request-goes (lock_for (gx g) line) refl
+  dispatch-goes = request-goes (lock_for script (gx g) line) refl
 
   -- and once it has waited
   pub resume-goes : (wanted : Claim) → Goes (Unit {0}) c g (resumes script c (gx g) (Some wanted) (Some line))
@@ -173,7 +173,7 @@ module _ (c : Coord) (s : SessionId) where
       }
 
 -- LINES
-module _ (script : Script) (some : 1 ≤ script.segments) (c : Coord) (k : Kept c) (s : SessionId) (idle : is_nothing_in (session_of c s).state.pending ≡ true) where
+module _ (script : Script) (some : 1 ≤ script.segments) (c : Coord) (k : Kept script c) (s : SessionId) (idle : is_nothing_in (session_of c s).state.pending ≡ true) where
   abbrev block : Block
   block = (session_of c s).state.block
 
