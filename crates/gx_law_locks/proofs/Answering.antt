@@ -94,7 +94,7 @@ abbrev pub IsServed : Coord → SessionId → Type 0
 IsServed c s = (work_of c (session_of c s).transaction).waiting ≡ None
 
 -- who has a command under way, or is on its way to a commit, is served
-module _ (c : Coord) (kept : Kept c) (g : Gxid) where
+module _ {script : Script} (c : Coord) (kept : Kept script c) (g : Gxid) where
   is-home : (session_of c (work_of c g).session).transaction.0 ≡ g.0 → (work_of c g).waiting ≡ None → IsServed c (work_of c g).session
   is-home e f = subst (λ j. (c.works j).waiting ≡ None) (sym e) f
 
@@ -160,7 +160,7 @@ module _ (c0 : Coord) where
   either true x y e f = e
   either false x y e f = f
 
-module _ (c : Coord) (kept : Kept c) where
+module _ {script : Script} (c : Coord) (kept : Kept script c) where
   done : (g : Gxid) (i : Node) (cid : Cid) (wrote : Bool) (count : ℕ) (part : Part) (k : Option Command) → (work_of c g).command ≡ k → Deals c (on_done c g i cid wrote count part k)
   done g i cid wrote count part None e = tt
   done g i cid wrote count part (Some k) e =
@@ -205,20 +205,20 @@ module _ (c : Coord) (kept : Kept c) where
 
 -- LINES
 -- the answer is to the line that starts, which takes no lock, or a refusal
-abbrev pub AtOnce : SessionId → Stmt → SessionId → StmtAnswer → Type 0
-AtOnce s line k a = ((k ≡ s) × ((g : Gxid) → lock_for g line ≡ None)) ⊎ IsRefusal a
+abbrev pub AtOnce : Script → SessionId → Stmt → SessionId → StmtAnswer → Type 0
+AtOnce script s line k a = ((k ≡ s) × ((g : Gxid) → lock_for script g line ≡ None)) ⊎ IsRefusal a
 
-abbrev pub Starts : SessionId → Stmt → List Mark → Type 0
-Starts s line ms = OneAnswer NoAnswer (AtOnce s line) ms
+abbrev pub Starts : Script → SessionId → Stmt → List Mark → Type 0
+Starts script s line ms = OneAnswer NoAnswer (AtOnce script s line) ms
 
 -- only refusals
 abbrev pub Refuses : List Mark → Type 0
 Refuses ms = OneAnswer NoAnswer (λ k a. IsRefusal a) ms
 
-refuses-starts : (s : SessionId) (line : Stmt) (ms : List Mark) → Refuses ms → Starts s line ms
-refuses-starts s line [] e = tt
-refuses-starts s line (mark.Answer k n a ∷ ms) e = (inr e.0, e.1)
-refuses-starts s line (m ∷ ms) e = (e.0, refuses-starts s line ms e.1)
+refuses-starts : (script : Script) (s : SessionId) (line : Stmt) (ms : List Mark) → Refuses ms → Starts script s line ms
+refuses-starts script s line [] e = tt
+refuses-starts script s line (mark.Answer k n a ∷ ms) e = (inr e.0, e.1)
+refuses-starts script s line (m ∷ ms) e = (e.0, refuses-starts script s line ms e.1)
 
 refused_one : (c : Coord) (g : Gxid) (turn : Turn) (why : List Mark) (reason : Refused) → Each NoAnswer why → Refuses (is_refused c g turn why reason).marks
 refused_one c g turn why reason e = pushed NoAnswer (λ k a. IsRefusal a) why (mark.Abort g ∷ answer_mark c (work_of c g).session (told.Refused reason) ∷ release_marks the_coordinator c.locks g) (λ k n a b. b) e (tt, (tt, back-none c.locks g))
@@ -274,49 +274,52 @@ resume-refuses script c g (Some wanted) None = tt
 resume-refuses script c g (Some wanted) (Some line) = (tt, locked_one script (with_work (record c { locks = resumed c.locks g (Some wanted) }) g (record (work_of c g) { waiting = None })) g line)
 
 module _ (script : Script) (s : SessionId) (line : Stmt) where
-  refused_starts : (c : Coord) (g : Gxid) (turn : Turn) (why : List Mark) (reason : Refused) → Each NoAnswer why → Starts s line (is_refused c g turn why reason).marks
-  refused_starts c g turn why reason e = refuses-starts s line (is_refused c g turn why reason).marks (refused_one c g turn why reason e)
+  refused_starts : (c : Coord) (g : Gxid) (turn : Turn) (why : List Mark) (reason : Refused) → Each NoAnswer why → Starts script s line (is_refused c g turn why reason).marks
+  refused_starts c g turn why reason e = refuses-starts script s line (is_refused c g turn why reason).marks (refused_one c g turn why reason e)
 
-  follow_starts : (c : Coord) (g : Gxid) (turn : Turn) (o : Outcome) → (work_of c g).session ≡ s → ((h : Gxid) → lock_for h line ≡ None) → Starts s line (follows c g turn o).marks
+  follow_starts : (c : Coord) (g : Gxid) (turn : Turn) (o : Outcome) → (work_of c g).session ≡ s → ((h : Gxid) → lock_for script h line ≡ None) → Starts script s line (follows c g turn o).marks
   follow_starts c g turn outcome.Pending home free = tt
   follow_starts c g turn outcome.Decided home free = (tt, tt)
   follow_starts c g turn outcome.Committed home free = (tt, (inl (home, free), back-none c.locks g))
   follow_starts c g turn (outcome.Refused i) home free = refused_starts c g turn (failure_marks i g) _ (failure_none i g)
   follow_starts c g turn outcome.Ended home free = tt
 
-  locked_starts : (c : Coord) (g : Gxid) (l : Stmt) → Starts s line (goes_on_locked script c g l).marks
-  locked_starts c g l = refuses-starts s line (goes_on_locked script c g l).marks (locked_one script c g l)
+  locked_starts : (c : Coord) (g : Gxid) (l : Stmt) → Starts script s line (goes_on_locked script c g l).marks
+  locked_starts c g l = refuses-starts script s line (goes_on_locked script c g l).marks (locked_one script c g l)
 
-  dispatch_starts : (c : Coord) (g : Gxid) (l : Stmt) (o : Option Claim) → Starts s line (requests script c g l o).marks
+  dispatch_starts : (c : Coord) (g : Gxid) (l : Stmt) (o : Option Claim) → Starts script s line (requests script c g l o).marks
   dispatch_starts c g l None = locked_starts c g l
   dispatch_starts c g l (Some wanted) = by_test (is_free c.locks.holds wanted)
     where
-      by_test : (b : Bool) → Starts s line (if_granted script c g l wanted b).marks
+      by_test : (b : Bool) → Starts script s line (if_granted script c g l wanted b).marks
       by_test true = (tt, locked_starts (record c { locks = with_hold c.locks wanted }) g l)
       by_test false = (tt, tt)
+
+  command_starts : (c : Coord) (g : Gxid) → Starts script s line (requests script c g line (lock_for script g line)).marks
+  command_starts c g = dispatch_starts c g line (lock_for script g line)
 
 -- a line that starts, by the block of its session
 abbrev pub IsHome : Coord → SessionId → Block → Type 0
 IsHome c s (block.Open level) = (work_of c (session_of c s).transaction).session ≡ s
 IsHome c s _ = Unit {0}
 
-pub line-starts : (script : Script) (c : Coord) (s : SessionId) (b : Block) (line : Stmt) → IsHome c s b → Starts s line (on_line script c s line (line_step b line)).marks
+pub line-starts : (script : Script) (c : Coord) (s : SessionId) (b : Block) (line : Stmt) → IsHome c s b → Starts script s line (on_line script c s line (line_step b line)).marks
 line-starts script c s block.Outside (stmt.Begin level) h = (tt, (inl (refl, λ g. refl), tt))
 line-starts script c s block.Outside stmt.Commit h = (inl (refl, λ g. refl), tt)
 line-starts script c s block.Outside stmt.Rollback h = (inl (refl, λ g. refl), tt)
 line-starts script c s block.Outside (stmt.Lock table mode) h = (inr tt, tt)
-line-starts script c s block.Outside (stmt.Select q) h = (tt, dispatch_starts script s (stmt.Select q) (begins c s ReadCommitted) c.table.next (stmt.Select q) (lock_for c.table.next (stmt.Select q)))
-line-starts script c s block.Outside (stmt.Insert t x) h = (tt, dispatch_starts script s (stmt.Insert t x) (begins c s ReadCommitted) c.table.next (stmt.Insert t x) (lock_for c.table.next (stmt.Insert t x)))
-line-starts script c s block.Outside (stmt.Update t x y) h = (tt, dispatch_starts script s (stmt.Update t x y) (begins c s ReadCommitted) c.table.next (stmt.Update t x y) None)
-line-starts script c s block.Outside (stmt.Delete t x) h = (tt, dispatch_starts script s (stmt.Delete t x) (begins c s ReadCommitted) c.table.next (stmt.Delete t x) None)
+line-starts script c s block.Outside (stmt.Select q) h = (tt, command_starts script s (stmt.Select q) (begins c s ReadCommitted) c.table.next)
+line-starts script c s block.Outside (stmt.Insert t x) h = (tt, command_starts script s (stmt.Insert t x) (begins c s ReadCommitted) c.table.next)
+line-starts script c s block.Outside (stmt.Update t x y) h = (tt, command_starts script s (stmt.Update t x y) (begins c s ReadCommitted) c.table.next)
+line-starts script c s block.Outside (stmt.Delete t x) h = (tt, command_starts script s (stmt.Delete t x) (begins c s ReadCommitted) c.table.next)
 line-starts script c s (block.Open l) (stmt.Begin level) h = (inl (refl, λ g. refl), tt)
 line-starts script c s (block.Open l) stmt.Commit h = follow_starts script s stmt.Commit c (session_of c s).transaction (on_commit c.table (session_of c s).transaction (work_of c (session_of c s).transaction).writers) (on_commit c.table (session_of c s).transaction (work_of c (session_of c s).transaction).writers).out.outcome h (λ g. refl)
 line-starts script c s (block.Open l) stmt.Rollback h = (tt, (inl (refl, λ g. refl), back-none c.locks (session_of c s).transaction))
-line-starts script c s (block.Open l) (stmt.Lock table mode) h = dispatch_starts script s (stmt.Lock table mode) c (session_of c s).transaction (stmt.Lock table mode) (lock_for (session_of c s).transaction (stmt.Lock table mode))
-line-starts script c s (block.Open l) (stmt.Select q) h = dispatch_starts script s (stmt.Select q) c (session_of c s).transaction (stmt.Select q) (lock_for (session_of c s).transaction (stmt.Select q))
-line-starts script c s (block.Open l) (stmt.Insert t x) h = dispatch_starts script s (stmt.Insert t x) c (session_of c s).transaction (stmt.Insert t x) (lock_for (session_of c s).transaction (stmt.Insert t x))
-line-starts script c s (block.Open l) (stmt.Update t x y) h = dispatch_starts script s (stmt.Update t x y) c (session_of c s).transaction (stmt.Update t x y) None
-line-starts script c s (block.Open l) (stmt.Delete t x) h = dispatch_starts script s (stmt.Delete t x) c (session_of c s).transaction (stmt.Delete t x) None
+line-starts script c s (block.Open l) (stmt.Lock table mode) h = command_starts script s (stmt.Lock table mode) c (session_of c s).transaction
+line-starts script c s (block.Open l) (stmt.Select q) h = command_starts script s (stmt.Select q) c (session_of c s).transaction
+line-starts script c s (block.Open l) (stmt.Insert t x) h = command_starts script s (stmt.Insert t x) c (session_of c s).transaction
+line-starts script c s (block.Open l) (stmt.Update t x y) h = command_starts script s (stmt.Update t x y) c (session_of c s).transaction
+line-starts script c s (block.Open l) (stmt.Delete t x) h = command_starts script s (stmt.Delete t x) c (session_of c s).transaction
 line-starts script c s block.Failed (stmt.Begin level) h = (inr tt, tt)
 line-starts script c s block.Failed stmt.Commit h = (inl (refl, λ g. refl), tt)
 line-starts script c s block.Failed stmt.Rollback h = (inl (refl, λ g. refl), tt)

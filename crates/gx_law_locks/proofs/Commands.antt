@@ -24,10 +24,11 @@ use Rattle.gx_store.specs.declared.run.Step.{Step}
 use Rattle.gx_store.proofs.Exclusive.{holds_from-append}
 use Rattle.gx_store.specs.Commands.{RunsCommand}
 use Rattle.gx_store.specs.Lines.{BlockState, Failed, InBlock, Outside, cid_of, is_command, state_of, stmt_of, transaction_of}
+use Rattle.gx_store.specs.Locks.{HoldsTable}
 use Rattle.gx_store.specs.Marks.{answer_count, is_begun, is_snapped, started_after}
 use Rattle.gx_store.specs.Points.{marks_in, starts_by, starts_in}
 use Rattle.gx_store.specs.Refusals.{the_coordinator}
-use Rattle.gx_store.specs.Waits.{added, claim, holds_at, holds_from, waits_at, waits_from, without}
+use Rattle.gx_store.specs.Waits.{added, claim, holds_at, holds_from, is_held, waits_at, waits_from, without}
 use Rattle.gx_rules.specs.AtCoordinator.{lock_for}
 use Rattle.gx_rules.specs.Coordinators.{Command, Coord, Work, session_of, work_of}
 use Rattle.gx_rules.specs.Machine.{World}
@@ -36,16 +37,31 @@ use Rattle.gx_locks.specs.Locks.{wait_of}
 use Rattle.gx_locks.proofs.Filed.{same_claim-along, same_claim-itself, same_claim-turned}
 use Rattle.gx_waits.specs.Claim.{same_claim}
 use Rattle.gx_law_order.proofs.Lists.{Each}
-use Rattle.gx_law_order.proofs.Queued.{statement-waits}
+use Rattle.gx_law_order.proofs.Queued.{lock-of, statement-waits}
 use Rattle.gx_law_order.proofs.Sessions.{Kept, stage_of}
 use Rattle.gx_law_order.proofs.Statuses.Stage.{Live}
-use Rattle.gx_law_order.proofs.Queued.{lock-of}
 use Rattle.gx_law_holds.proofs.Marks.{waits_from-append}
 use Rattle.gx_law_sessions.proofs.Said.{CalmFor, Said, said-calm}
 use Rattle.gx_law_sessions.specs.Standing.{IsLineOf, IsSession, IsStanding, Owns, Stands, is_alone, is_busy, is_sound, state_in}
-use Rattle.gx_law_locks.specs.Commands.{AreLeftAlone, AreUnsent, AwaitsTable, DoCommandsHold, HasNotGoneOut, HoldsTableOf}
+use Rattle.gx_law_locks.specs.Commands.{AreLeftAlone, AreUnsent, AwaitsTable, DoCommandsHold, HasNotGoneOut}
 use Rattle.gx_law_holds.proofs.Going.{CommandLocked, HasLock}
 use Rattle.gx_law_holds.proofs.Lasting.{IsIn, in-added, in-filter, in-new, in-without}
+
+-- THE TABLE
+-- the transaction holds at the coordinator the lock that the statement takes on its table
+abbrev pub HoldsTableOf : Script → List Mark → Gxid → Stmt → Type 0
+HoldsTableOf script marks g line = (wanted : Claim) → lock_for script g line ≡ Some wanted → is_held marks the_coordinator wanted.gxid wanted.object wanted.mode ≡ true
+
+-- what the rule takes is what is meant
+pub as-meant : (script : Script) (marks : List Mark) (g : Gxid) (line : Stmt) → HoldsTableOf script marks g line → HoldsTable script marks g line
+as-meant script marks g (stmt.Select query) h = h _ refl
+as-meant script marks g (stmt.Insert table tuples) h = h _ refl
+as-meant script marks g (stmt.Update table assigns cond) h = h _ refl
+as-meant script marks g (stmt.Delete table cond) h = h _ refl
+as-meant script marks g (stmt.Lock table mode) h = h _ refl
+as-meant script marks g (stmt.Begin level) h = tt
+as-meant script marks g stmt.Commit h = tt
+as-meant script marks g stmt.Rollback h = tt
 
 -- MARKS
 calm-for : (k : SessionId) (g : Gxid) (ms : List Mark) → AreLeftAlone k g ms → Each (CalmFor k) ms
@@ -258,21 +274,21 @@ wait-in g (x ∷ xs) wanted e = by_test (is_of g x) e (wait-in g xs wanted)
     by_test true q more = subst (λ y. IsIn (x ∷ xs) y) (some-same x wanted q) (ap (λ b. b || list_any (same_claim x) xs) (same_claim-itself x))
     by_test false q more = or_right (same_claim wanted x) (list_any (same_claim wanted) xs) (more q)
 
-module _ (script : Script) (w : World) (sessions : (k : SessionId) → IsSession script k w.steps w.coord) (kept : Kept w.coord) (locked : (j : ℕ) → CommandLocked w.coord.locks.holds j (w.coord.works j).command) (marked : w.coord.locks.holds ≡ holds_at (marks_in w.steps) the_coordinator) (queued : w.coord.locks.waits ≡ waits_at (marks_in w.steps) the_coordinator) where
-  has : (h : Gxid) (q : Option Command) → CommandLocked w.coord.locks.holds h.0 q → (m : Command) → q ≡ Some m → HasLock w.coord.locks.holds h m.stmt
+module _ (script : Script) (w : World) (sessions : (k : SessionId) → IsSession script k w.steps w.coord) (kept : Kept script w.coord) (locked : (j : ℕ) → CommandLocked script w.coord.locks.holds j (w.coord.works j).command) (marked : w.coord.locks.holds ≡ holds_at (marks_in w.steps) the_coordinator) (queued : w.coord.locks.waits ≡ waits_at (marks_in w.steps) the_coordinator) where
+  has : (h : Gxid) (q : Option Command) → CommandLocked script w.coord.locks.holds h.0 q → (m : Command) → q ≡ Some m → HasLock script w.coord.locks.holds h m.stmt
   has h None e m same = absurd (cc)
-  has h (Some a) e m same = subst (λ (x : Command). HasLock w.coord.locks.holds h x.stmt) (some-same a m same) e.0
+  has h (Some a) e m same = subst (λ (x : Command). HasLock script w.coord.locks.holds h x.stmt) (some-same a m same) e.0
 
   -- a command that has gone out holds its table
-  pub out-holds : (earlier : List Mark) (k : SessionId) (line : Stmt) (g : Gxid) → AreLeftAlone k g earlier → g ≡ (session_of w.coord k).transaction → IsCommandOf (work_of w.coord (session_of w.coord k).transaction) line → HoldsTableOf (marks_in w.steps ++ earlier) g line
+  pub out-holds : (earlier : List Mark) (k : SessionId) (line : Stmt) (g : Gxid) → AreLeftAlone k g earlier → g ≡ (session_of w.coord k).transaction → IsCommandOf (work_of w.coord (session_of w.coord k).transaction) line → HoldsTableOf script (marks_in w.steps ++ earlier) g line
   out-holds earlier k line g alone txn it wanted takes =
       subst (λ hs. IsIn hs wanted) (sym (holds_from-append the_coordinator [] (marks_in w.steps) earlier))
       (stays-in k g wanted (holds_at (marks_in w.steps) the_coordinator) earlier (lock-of script g line wanted takes) alone (subst (λ hs. IsIn hs wanted) marked (there wanted takes)))
     where
-      there : HasLock w.coord.locks.holds g line
+      there : HasLock script w.coord.locks.holds g line
       there =
-          subst (λ x. HasLock w.coord.locks.holds x line) (sym txn)
-          (subst (λ l. HasLock w.coord.locks.holds (session_of w.coord k).transaction l) it.is_line (has (session_of w.coord k).transaction (work_of w.coord (session_of w.coord k).transaction).command (locked (session_of w.coord k).transaction.0) it.command it.has_it))
+          subst (λ x. HasLock script w.coord.locks.holds x line) (sym txn)
+          (subst (λ l. HasLock script w.coord.locks.holds (session_of w.coord k).transaction l) it.is_line (has (session_of w.coord k).transaction (work_of w.coord (session_of w.coord k).transaction).command (locked (session_of w.coord k).transaction.0) it.command it.has_it))
 
   -- a statement that waits holds it or waits for it
   some-lock : (o : Option Claim) → is_some o ≡ true → (wanted : Claim) × (o ≡ Some wanted)
@@ -282,23 +298,23 @@ module _ (script : Script) (w : World) (sessions : (k : SessionId) → IsSession
   same-lock : (o : Option Claim) (a b : Claim) → o ≡ Some a → o ≡ Some b → a ≡ b
   same-lock o a b e f = cc
 
-  waits-or : (earlier : List Mark) (k : SessionId) (line : Stmt) (g : Gxid) (c : Cid) → AreLeftAlone k g earlier → (work_of w.coord g).waiting ≡ Some line → HoldsTableOf (marks_in w.steps ++ earlier) g line ⊎ AwaitsTable (marks_in w.steps ++ earlier) g line
+  waits-or : (earlier : List Mark) (k : SessionId) (line : Stmt) (g : Gxid) (c : Cid) → AreLeftAlone k g earlier → (work_of w.coord g).waiting ≡ Some line → HoldsTableOf script (marks_in w.steps ++ earlier) g line ⊎ AwaitsTable script (marks_in w.steps ++ earlier) g line
   waits-or earlier k line g c alone it = by_either (stays-either k g wanted (holds_at (marks_in w.steps) the_coordinator) (waits_at (marks_in w.steps) the_coordinator) earlier (lock-of script g line wanted takes) alone (inr (subst (λ ws. IsIn ws wanted) queued (wait-in g w.coord.locks.waits wanted stands))))
     where
-      found : (wanted : Claim) × (lock_for g line ≡ Some wanted)
-      found = some-lock (lock_for g line) ((kept.queued g.0).locks line it)
+      found : (wanted : Claim) × (lock_for script g line ≡ Some wanted)
+      found = some-lock (lock_for script g line) ((kept.queued g.0).locks line it)
 
       wanted : Claim
       wanted = found.0
 
-      takes : lock_for g line ≡ Some wanted
+      takes : lock_for script g line ≡ Some wanted
       takes = found.1
 
       stands : wait_of w.coord.locks g ≡ Some wanted
       stands = statement-waits g.0 (work_of w.coord g).waiting w.coord.locks (kept.queued g.0) line it ∙ takes
 
-      by_either : IsIn (holds_from the_coordinator (holds_at (marks_in w.steps) the_coordinator) earlier) wanted ⊎ IsIn (waits_from the_coordinator (waits_at (marks_in w.steps) the_coordinator) earlier) wanted → HoldsTableOf (marks_in w.steps ++ earlier) g line ⊎ AwaitsTable (marks_in w.steps ++ earlier) g line
-      by_either (inl h) = inl (λ v q. subst (λ hs. IsIn hs v) (sym (holds_from-append the_coordinator [] (marks_in w.steps) earlier)) (subst (λ v. IsIn (holds_from the_coordinator (holds_at (marks_in w.steps) the_coordinator) earlier) v) (same-lock (lock_for g line) wanted v takes q) h))
+      by_either : IsIn (holds_from the_coordinator (holds_at (marks_in w.steps) the_coordinator) earlier) wanted ⊎ IsIn (waits_from the_coordinator (waits_at (marks_in w.steps) the_coordinator) earlier) wanted → HoldsTableOf script (marks_in w.steps ++ earlier) g line ⊎ AwaitsTable script (marks_in w.steps ++ earlier) g line
+      by_either (inl h) = inl (λ v q. subst (λ hs. IsIn hs v) (sym (holds_from-append the_coordinator [] (marks_in w.steps) earlier)) (subst (λ v. IsIn (holds_from the_coordinator (holds_at (marks_in w.steps) the_coordinator) earlier) v) (same-lock (lock_for script g line) wanted v takes q) h))
       by_either (inr h) = inr (record { wanted = wanted; takes = takes; stands = subst (λ ws. IsIn ws wanted) (sym (waits_from-append the_coordinator [] (marks_in w.steps) earlier)) h })
 
   pub commands-hold : ((g : Gxid) (c : Cid) → stage_of w.coord g.0 ≡ Live → (w.coord.works g.0).last < c.0 → AreUnsent g c (marks_in w.steps)) → DoCommandsHold script w.steps
@@ -307,15 +323,15 @@ module _ (script : Script) (w : World) (sessions : (k : SessionId) → IsSession
       its : IsRun (marks_in w.steps) w.coord k line g c
       its = run-is script w sessions event earlier later k line level g c none alone runs
 
-      either : {A B C : Type 0} → A ⊎ B → C → A ⊎ (B × C)
-      either (inl a) c = inl a
-      either (inr b) c = inr (b, c)
+      either : {A B C D : Type 0} → (A → D) → A ⊎ B → C → D ⊎ (B × C)
+      either f (inl a) c = inl (f a)
+      either f (inr b) c = inr (b, c)
 
-      by_way : IsCommandOf (work_of w.coord (session_of w.coord k).transaction) line ⊎ IsWaitingOf (marks_in w.steps) (work_of w.coord (session_of w.coord k).transaction) line (session_of w.coord k).transaction c → HoldsTableOf (marks_in w.steps ++ earlier) g line ⊎ (AwaitsTable (marks_in w.steps ++ earlier) g line × HasNotGoneOut (marks_in w.steps) g c)
-      by_way (inl it) = inl (out-holds earlier k line g alone its.txn it)
+      by_way : IsCommandOf (work_of w.coord (session_of w.coord k).transaction) line ⊎ IsWaitingOf (marks_in w.steps) (work_of w.coord (session_of w.coord k).transaction) line (session_of w.coord k).transaction c → HoldsTable script (marks_in w.steps ++ earlier) g line ⊎ (AwaitsTable script (marks_in w.steps ++ earlier) g line × HasNotGoneOut (marks_in w.steps) g c)
+      by_way (inl it) = inl (as-meant script (marks_in w.steps ++ earlier) g line (out-holds earlier k line g alone its.txn it))
       by_way (inr it) =
           let waits : (work_of w.coord g).waiting ≡ Some line = subst (λ x. (work_of w.coord x).waiting ≡ Some line) (sym its.txn) it.has_it in
-          either (waits-or earlier k line g c alone waits)
+          either (as-meant script (marks_in w.steps ++ earlier) g line) (waits-or earlier k line g c alone waits)
           (record {
             unsnapped = subst (λ x. is_snapped (marks_in w.steps) x c ≡ false) (sym its.txn) it.unsnapped;
             unsent = next-unsent g c ((kept.tied g.0).waits line waits).0 (subst (λ x. (work_of w.coord x).last < c.0) (sym its.txn) it.next);

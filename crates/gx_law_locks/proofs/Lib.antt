@@ -1,4 +1,5 @@
 pub mod Writes
+pub mod Joined
 pub mod Legal
 pub mod Commands
 pub mod Unsent

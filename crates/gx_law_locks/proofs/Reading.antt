@@ -29,7 +29,7 @@ use Rattle.gx_store.proofs.Marks.{is_snapped-append}
 use Rattle.gx_store.proofs.Runs.{marks_in-push, starts_in-push}
 use Rattle.gx_store.specs.Journals.{is_same_node}
 use Rattle.gx_store.specs.Lines.{BlockState, Failed, InBlock, Outside, cid_of, state_of, stmt_of, transaction_of}
-use Rattle.gx_store.specs.Locks.{HasGoneOut}
+use Rattle.gx_store.specs.Locks.{HasGoneOut, LocksWhileReading}
 use Rattle.gx_store.specs.Marks.{answer_count, is_begun, is_same_session, is_snapped, started_after}
 use Rattle.gx_store.specs.Ordered.{IsAtNode}
 use Rattle.gx_store.specs.Points.{marks_in, starts_by, starts_in}
@@ -66,11 +66,10 @@ use Rattle.gx_law_sessions.specs.Standing.{IsSession, IsStanding, Owns, under_wa
 use Rattle.gx_law_holds.proofs.Lasting.{IsIn, granted-held}
 use Rattle.gx_law_holds.proofs.Marks.{Quiet, quiet-holds}
 use Rattle.gx_law_holds.proofs.Orders.{world-orders}
-use Rattle.gx_law_locks.specs.Commands.{AreReadsHeld, AreUnsent, EachPoint, HoldsTableOf, HoldsWhileReading, IsOther}
+use Rattle.gx_law_locks.specs.Commands.{AreReadsHeld, AreUnsent, EachPoint, IsOther}
 use Rattle.gx_law_locks.proofs.Answering.{IsHome}
-use Rattle.gx_law_locks.proofs.Commands.{IsCommandOf, IsRun, IsWaitingOf, Runs, out-holds, run-between, runs-back, runs-here, runs-on}
+use Rattle.gx_law_locks.proofs.Commands.{HoldsTableOf, IsCommandOf, IsRun, IsWaitingOf, Runs, as-meant, out-holds, run-between, runs-back, runs-here, runs-on}
 use Rattle.gx_law_locks.proofs.Shapes.{Anyone, Body, Ebbs, Ends, Free, Locking, Opening, Plain, Shape, Silent, body-more, each-behind, end-ebbs, ends-other, ends-split, line-opens, locked-shape, message-told, plain-ebbs, sent-ebbs, shape-more}
-use Rattle.gx_law_locks.proofs.Told.{as-meant}
 use Rattle.gx_law_locks.proofs.Unsent.{new-unsent, next-unsent, world-has}
 
 -- WHAT HAS GONE OUT
@@ -162,11 +161,11 @@ held-back k c (mark.Start h s ∷ ms) holds e i = held-back k c ms holds e.1 i
 held-back k c (mark.Answer s n a ∷ ms) holds e i = held-back k c ms holds e.1 i
 held-back k c (m ∷ ms) holds e i = held-back k c ms holds e.1 i
 
-table-back : (k : SessionId) (g : Gxid) (line : Stmt) (xs ys : List Mark) → Each (Ebbs k) ys → HoldsTableOf (xs ++ ys) g line → HoldsTableOf xs g line
-table-back k g line xs ys e h wanted takes = held-back k wanted ys (holds_at xs the_coordinator) e (subst (λ hs. IsIn hs wanted) (holds_from-append the_coordinator [] xs ys) (h wanted takes))
+table-back : (script : Script) (k : SessionId) (g : Gxid) (line : Stmt) (xs ys : List Mark) → Each (Ebbs k) ys → HoldsTableOf script (xs ++ ys) g line → HoldsTableOf script xs g line
+table-back script k g line xs ys e h wanted takes = held-back k wanted ys (holds_at xs the_coordinator) e (subst (λ hs. IsIn hs wanted) (holds_from-append the_coordinator [] xs ys) (h wanted takes))
 
-table-quiet : (g : Gxid) (line : Stmt) (xs ys : List Mark) → Each Quiet ys → HoldsTableOf xs g line → HoldsTableOf (xs ++ ys) g line
-table-quiet g line xs ys e h wanted takes = subst (λ hs. IsIn hs wanted) (sym (holds_from-append the_coordinator [] xs ys ∙ quiet-holds the_coordinator (holds_at xs the_coordinator) ys e)) (h wanted takes)
+table-quiet : (script : Script) (g : Gxid) (line : Stmt) (xs ys : List Mark) → Each Quiet ys → HoldsTableOf script xs g line → HoldsTableOf script (xs ++ ys) g line
+table-quiet script g line xs ys e h wanted takes = subst (λ hs. IsIn hs wanted) (sym (holds_from-append the_coordinator [] xs ys ∙ quiet-holds the_coordinator (holds_at xs the_coordinator) ys e)) (h wanted takes)
 
 -- MARKS
 ebbs-calm : (k : SessionId) (m : Mark) → Ebbs k m → CalmFor k m
@@ -199,8 +198,8 @@ plain-quiet (mark.Hold n h object mode) e = e
 plain-quiet (mark.Release n h object mode) e = e
 plain-quiet m e = tt
 
-free-ebbs : (k : SessionId) (h : Gxid) (line : Stmt) (m : Mark) → Free h line m → Ebbs k m
-free-ebbs k h line m e = plain-ebbs k m e.0
+free-ebbs : (script : Script) (k : SessionId) (h : Gxid) (line : Stmt) (m : Mark) → Free script h line m → Ebbs k m
+free-ebbs script k h line m e = plain-ebbs k m e.0
 
 -- a segment starts, answers and grants nothing at the coordinator
 at-node-ebbs : (script : Script) (k : SessionId) (i : Node) → 1 ≤ i.0 → (ms : List Mark) → Each (IsAtNode script i) ms → Each (Ebbs k) ms
@@ -268,29 +267,29 @@ idle-block script s marks next (block.Open level) pending.Nothing lines h w ends
 abbrev Held : Script → List Step → Event → SessionId → List Mark → Type 0
 Held script steps e k earlier =
     (line : Stmt) (g : Gxid) (c : Cid) → Runs script k (marks_in steps ++ earlier) (starts_in k steps + starts_by k e) line g c → IsOut (marks_in steps ++ earlier) g c
-    → HoldsTableOf (marks_in steps ++ earlier) g line
+    → HoldsTableOf script (marks_in steps ++ earlier) g line
 
 abbrev AreHeld : Script → List Step → Event → List Mark → Type 0
 AreHeld script steps e ms = (k : SessionId) (xs ys : List Mark) → ms ≡ xs ++ ys → Held script steps e k xs
 
-at-point : (script : Script) (steps : List Step) (e : Event) (earlier later : List Mark) → ((k : SessionId) → Held script steps e k (earlier ++ [])) → HoldsWhileReading script (record { steps = steps; event = e; earlier = earlier; later = later })
+at-point : (script : Script) (steps : List Step) (e : Event) (earlier later : List Mark) → ((k : SessionId) → Held script steps e k (earlier ++ [])) → LocksWhileReading script (record { steps = steps; event = e; earlier = earlier; later = later })
 at-point script steps e earlier later f =
     λ k line level g c r o. as-meant script (marks_in steps ++ earlier) g line (subst (Held script steps e k) (append-nil earlier) (f k) line g c (runs-here script steps e earlier later k line level g c r) o)
 
-each-held : (script : Script) (steps : List Step) (e : Event) (earlier ms : List Mark) → ((k : SessionId) (xs ys : List Mark) → ms ≡ xs ++ ys → Held script steps e k (earlier ++ xs)) → EachPoint (HoldsWhileReading script) steps e earlier ms
+each-held : (script : Script) (steps : List Step) (e : Event) (earlier ms : List Mark) → ((k : SessionId) (xs ys : List Mark) → ms ≡ xs ++ ys → Held script steps e k (earlier ++ xs)) → EachPoint (LocksWhileReading script) steps e earlier ms
 each-held script steps e earlier [] f = at-point script steps e earlier [] (λ k. f k [] [] refl)
 each-held script steps e earlier (m ∷ ms) f = (
   at-point script steps e earlier ms (λ k. f k [] (m ∷ ms) refl),
   each-held script steps e (earlier ++ m ∷ []) ms (λ k xs ys q. subst (Held script steps e k) (sym (append_assoc earlier (m ∷ []) xs)) (f k (m ∷ xs) ys (ap (λ zs. m ∷ zs) q))),
 )
 
-reads-last : (script : Script) (done ss : List Step) (s : Step) → AreReadsHeld script done ss → EachPoint (HoldsWhileReading script) (done ++ ss) s.event [] s.marks → AreReadsHeld script done (ss ++ s ∷ [])
-reads-last script done [] s e h = (subst (λ x. EachPoint (HoldsWhileReading script) x s.event [] s.marks) (append-nil done) h, tt)
-reads-last script done (x ∷ ss) s e h = (e.0, reads-last script (done ++ x ∷ []) ss s e.1 (subst (λ y. EachPoint (HoldsWhileReading script) y s.event [] s.marks) (sym (append_assoc done (x ∷ []) ss)) h))
+reads-last : (script : Script) (done ss : List Step) (s : Step) → AreReadsHeld script done ss → EachPoint (LocksWhileReading script) (done ++ ss) s.event [] s.marks → AreReadsHeld script done (ss ++ s ∷ [])
+reads-last script done [] s e h = (subst (λ x. EachPoint (LocksWhileReading script) x s.event [] s.marks) (append-nil done) h, tt)
+reads-last script done (x ∷ ss) s e h = (e.0, reads-last script (done ++ x ∷ []) ss s e.1 (subst (λ y. EachPoint (LocksWhileReading script) y s.event [] s.marks) (sym (append_assoc done (x ∷ []) ss)) h))
 
 module _ (script : Script) (some : 1 ≤ script.segments) where
   -- between steps
-  between : (es : List (Event × Bool)) (k : SessionId) (line : Stmt) (g : Gxid) (c : Cid) → Runs script k (marks_in (world_of script es).steps) (starts_in k (world_of script es).steps) line g c → IsOut (marks_in (world_of script es).steps) g c → IsCommandOf (work_of (world_of script es).coord (session_of (world_of script es).coord k).transaction) line × HoldsTableOf (marks_in (world_of script es).steps) g line
+  between : (es : List (Event × Bool)) (k : SessionId) (line : Stmt) (g : Gxid) (c : Cid) → Runs script k (marks_in (world_of script es).steps) (starts_in k (world_of script es).steps) line g c → IsOut (marks_in (world_of script es).steps) g c → IsCommandOf (work_of (world_of script es).coord (session_of (world_of script es).coord k).transaction) line × HoldsTableOf script (marks_in (world_of script es).steps) g line
   between es k line g c r o = by_way its.way
     where
       w : World
@@ -299,10 +298,10 @@ module _ (script : Script) (some : 1 ≤ script.segments) where
       its : IsRun (marks_in w.steps) w.coord k line g c
       its = run-between script w (sessions-stand script some es) k line g c r
 
-      by_way : IsCommandOf (work_of w.coord (session_of w.coord k).transaction) line ⊎ IsWaitingOf (marks_in w.steps) (work_of w.coord (session_of w.coord k).transaction) line (session_of w.coord k).transaction c → IsCommandOf (work_of w.coord (session_of w.coord k).transaction) line × HoldsTableOf (marks_in w.steps) g line
+      by_way : IsCommandOf (work_of w.coord (session_of w.coord k).transaction) line ⊎ IsWaitingOf (marks_in w.steps) (work_of w.coord (session_of w.coord k).transaction) line (session_of w.coord k).transaction c → IsCommandOf (work_of w.coord (session_of w.coord k).transaction) line × HoldsTableOf script (marks_in w.steps) g line
       by_way (inl it) = (
         it,
-        subst (λ ms. HoldsTableOf ms g line) (append-nil (marks_in w.steps))
+        subst (λ ms. HoldsTableOf script ms g line) (append-nil (marks_in w.steps))
             (out-holds script w (sessions-stand script some es) (world_knows script some es).kept (world-orders script some es).going (world-orders script some es).locked.marked.coordinator.holds (world-orders script some es).locked.marked.coordinator.waits [] k line g tt its.txn it),
       )
       by_way (inr it) =
@@ -317,7 +316,7 @@ module _ (script : Script) (some : 1 ≤ script.segments) where
     -- behind marks that say nothing of the session and change no hold
     still-held : (k : SessionId) (xs : List Mark) → starts_by k e ≡ 0 → Each (CalmFor k) xs → Each Quiet xs → Each Still xs → Held script (world_of script es).steps e k xs
     still-held k xs none calm quiet still line g c r o =
-        table-quiet g line (marks_in (world_of script es).steps) xs quiet
+        table-quiet script g line (marks_in (world_of script es).steps) xs quiet
         (between es k line g c
         (subst (λ n. Runs script k (marks_in (world_of script es).steps) n line g c) (plus-none (starts_in k (world_of script es).steps) (starts_by k e) none) (runs-back script k (marks_in (world_of script es).steps) xs _ line g c calm r))
         (out-front g c (marks_in (world_of script es).steps) xs still o)).1
@@ -338,8 +337,8 @@ module _ (script : Script) (some : 1 ≤ script.segments) where
         -- what is held behind the step was held before marks that ebb
         ebb-held : (k : SessionId) (xs ys : List Mark) → ms ≡ xs ++ ys → Each (Ebbs k) ys → Held script (world_of script es).steps e k xs
         ebb-held k xs ys split ebbs line g c r o =
-            table-back k g line (marks_in (world_of script es).steps ++ xs) ys ebbs
-            (subst (λ zs. HoldsTableOf zs g line) all
+            table-back script k g line (marks_in (world_of script es).steps ++ xs) ys ebbs
+            (subst (λ zs. HoldsTableOf script zs g line) all
             (between last k line g c
             (subst (λ zs. Runs script k zs (starts_in k (world_of script last).steps) line g c) (sym all)
             (subst (λ n. Runs script k ((marks_in (world_of script es).steps ++ xs) ++ ys) n line g c) (sym (starts-are k))
@@ -379,17 +378,17 @@ module _ (script : Script) (some : 1 ≤ script.segments) where
             at-first : Held script (world_of script es).steps e k (pre ++ [])
             at-first = subst (Held script (world_of script es).steps e k) (sym (append-nil pre)) (λ line g c r o. absurd ((says line g c r).2 o))
 
-            said-behind : (zs : List Mark) → Each (CalmFor k) zs → (line : Stmt) (g : Gxid) (c : Cid) → Runs script k (marks_in (world_of script es).steps ++ (pre ++ zs)) (starts_in k (world_of script es).steps + starts_by k e) line g c → (wanted : Claim) → lock_for g line ≡ Some wanted → lock_for h asked ≡ Some wanted
-            said-behind zs calm line g c r wanted takes = subst (λ x. lock_for x asked ≡ Some wanted) i.0 (subst (λ l. lock_for g l ≡ Some wanted) i.1 takes)
+            said-behind : (zs : List Mark) → Each (CalmFor k) zs → (line : Stmt) (g : Gxid) (c : Cid) → Runs script k (marks_in (world_of script es).steps ++ (pre ++ zs)) (starts_in k (world_of script es).steps + starts_by k e) line g c → (wanted : Claim) → lock_for script g line ≡ Some wanted → lock_for script h asked ≡ Some wanted
+            said-behind zs calm line g c r wanted takes = subst (λ x. lock_for script x asked ≡ Some wanted) i.0 (subst (λ l. lock_for script g l ≡ Some wanted) i.1 takes)
               where
                 i : (g ≡ h) × (line ≡ asked) × (IsOut (marks_in (world_of script es).steps ++ pre) g c → ⊥)
                 i = says line g c (runs-back script k (marks_in (world_of script es).steps ++ pre) zs _ line g c calm (subst (λ m. Runs script k m (starts_in k (world_of script es).steps + starts_by k e) line g c) (sym (append_assoc (marks_in (world_of script es).steps) pre zs)) r))
 
-            behind-free : (zs : List Mark) → Each (Free h asked) zs → Held script (world_of script es).steps e k (pre ++ zs)
+            behind-free : (zs : List Mark) → Each (Free script h asked) zs → Held script (world_of script es).steps e k (pre ++ zs)
             behind-free [] f = at-first
-            behind-free (z ∷ zs) f = λ line g c r o wanted takes. absurd (none-some (lock_for h asked) wanted f.0.1 (said-behind (z ∷ zs) (each_weaker (Free h asked) (CalmFor k) (λ m q. plain-calm k m q.0) (z ∷ zs) f) line g c r wanted takes))
+            behind-free (z ∷ zs) f = λ line g c r o wanted takes. absurd (none-some (lock_for script h asked) wanted f.0.1 (said-behind (z ∷ zs) (each_weaker (Free script h asked) (CalmFor k) (λ m q. plain-calm k m q.0) (z ∷ zs) f) line g c r wanted takes))
 
-            behind-hold : (own : Claim) → lock_for h asked ≡ Some own → (zs : List Mark) → Each Plain zs → Held script (world_of script es).steps e k (pre ++ hold_mark the_coordinator own ∷ zs)
+            behind-hold : (own : Claim) → lock_for script h asked ≡ Some own → (zs : List Mark) → Each Plain zs → Held script (world_of script es).steps e k (pre ++ hold_mark the_coordinator own ∷ zs)
             behind-hold own takes zs f =
                 λ line g c r o wanted wants.
                 subst (λ (x : Claim). IsIn (holds_at (marks_in (world_of script es).steps ++ (pre ++ hold_mark the_coordinator own ∷ zs)) the_coordinator) x)
@@ -397,7 +396,7 @@ module _ (script : Script) (some : 1 ≤ script.segments) where
                 (subst (λ m. IsIn (holds_at m the_coordinator) own) (append_assoc (marks_in (world_of script es).steps) pre (hold_mark the_coordinator own ∷ zs))
                 (granted-held (marks_in (world_of script es).steps ++ pre) zs the_coordinator own.gxid own.object own.mode (each_weaker Plain Quiet plain-quiet zs f)))
 
-            own-lock : (l : Locking k h asked Q body) → (zs ys : List Mark) → body ≡ zs ++ ys → Held script (world_of script es).steps e k (pre ++ zs)
+            own-lock : (l : Locking script k h asked Q body) → (zs ys : List Mark) → body ≡ zs ++ ys → Held script (world_of script es).steps e k (pre ++ zs)
             own-lock l [] ys split = at-first
             own-lock l (z ∷ zs) ys split = by_shape (subst (Shape Plain Q k) same.1 l.shape)
               where
@@ -412,18 +411,18 @@ module _ (script : Script) (some : 1 ≤ script.segments) where
                 by_shape (inl f) = by_part (inl (each-behind (Ebbs k) zs ys f))
                 by_shape (inr f) = by_part (ends-split Plain Q k zs ys f)
 
-            own-held : Body k h asked Q body → (zs ys : List Mark) → body ≡ zs ++ ys → Held script (world_of script es).steps e k (pre ++ zs)
+            own-held : Body script k h asked Q body → (zs ys : List Mark) → body ≡ zs ++ ys → Held script (world_of script es).steps e k (pre ++ zs)
             own-held (inl f) zs ys split = ebb-body zs ys split f
             own-held (inr (inl l)) zs ys split = own-lock l zs ys split
-            own-held (inr (inr f)) zs ys split = by_part (ends-split (Free h asked) Q k zs ys (subst (Ends (Free h asked) Q k) split f))
+            own-held (inr (inr f)) zs ys split = by_part (ends-split (Free script h asked) Q k zs ys (subst (Ends (Free script h asked) Q k) split f))
               where
-                by_part : Each (Ebbs k) ys ⊎ (Each (Free h asked) zs × Ends (Free h asked) Q k ys) → Held script (world_of script es).steps e k (pre ++ zs)
+                by_part : Each (Ebbs k) ys ⊎ (Each (Free script h asked) zs × Ends (Free script h asked) Q k ys) → Held script (world_of script es).steps e k (pre ++ zs)
                 by_part (inl b) = ebb-held k (pre ++ zs) ys (whole zs ys split) b
                 by_part (inr b) = behind-free zs b.0
 
           -- another session
           module _ (other : (s : SessionId) → Q s → is_same_session s k ≡ false) (before-it : Held script (world_of script es).steps e k pre) where
-            other-lock : (l : Locking k h asked Q body) → (zs ys : List Mark) → body ≡ zs ++ ys → Held script (world_of script es).steps e k (pre ++ zs)
+            other-lock : (l : Locking script k h asked Q body) → (zs ys : List Mark) → body ≡ zs ++ ys → Held script (world_of script es).steps e k (pre ++ zs)
             other-lock l [] ys split = subst (Held script (world_of script es).steps e k) (sym (append-nil pre)) before-it
             other-lock l (z ∷ zs) ys split = ebb-held k (pre ++ z ∷ zs) ys (whole (z ∷ zs) ys split) (each-behind (Ebbs k) zs ys (subst (Each (Ebbs k)) (heads (hold_mark the_coordinator l.wanted) z l.rest (zs ++ ys) (sym l.is ∙ split)).1 (by_shape l.shape)))
               where
@@ -431,10 +430,10 @@ module _ (script : Script) (some : 1 ≤ script.segments) where
                 by_shape (inl f) = f
                 by_shape (inr f) = ends-other Plain Q k (plain-ebbs k) other l.rest f
 
-            other-held : Body k h asked Q body → (zs ys : List Mark) → body ≡ zs ++ ys → Held script (world_of script es).steps e k (pre ++ zs)
+            other-held : Body script k h asked Q body → (zs ys : List Mark) → body ≡ zs ++ ys → Held script (world_of script es).steps e k (pre ++ zs)
             other-held (inl f) zs ys split = ebb-body zs ys split f
             other-held (inr (inl l)) zs ys split = other-lock l zs ys split
-            other-held (inr (inr f)) zs ys split = ebb-body zs ys split (ends-other (Free h asked) Q k (free-ebbs k h asked) other body f)
+            other-held (inr (inr f)) zs ys split = ebb-body zs ys split (ends-other (Free script h asked) Q k (free-ebbs script k h asked) other body f)
 
   -- what happens at a node
   abbrev starts_there : SessionId → NodeEvent → ℕ
@@ -489,13 +488,13 @@ module _ (script : Script) (some : 1 ≤ script.segments) where
     abbrev Home : Gxid → SessionId → Type 0
     Home g s = s ≡ (work_of (world_of script es).coord g).session
 
-    resumed : (g : Gxid) → x ≡ here.Resume g → GoesOut (world_of script es).coord g → ((k : SessionId) → starts_by k e ≡ 0) → (on_event script (world_of script es).coord x fails).marks ≡ (resumes script (world_of script es).coord g (wait_of (world_of script es).coord.locks g) (work_of (world_of script es).coord g).waiting).marks → HeldHere
+    resumed : (g : Gxid) → x ≡ here.Resume g → GoesOut script (world_of script es).coord g → ((k : SessionId) → starts_by k e ≡ 0) → (on_event script (world_of script es).coord x fails).marks ≡ (resumes script (world_of script es).coord g (wait_of (world_of script es).coord.locks g) (work_of (world_of script es).coord g).waiting).marks → HeldHere
     resumed g is d none same k xs ys split = by_session (is_same_session (work_of w.coord g).session k) refl
       where
         out-is : (o : Option Claim) (l : Option Stmt) → o ≡ Some d.wanted → l ≡ Some d.line → resumes script w.coord g o l ≡ resumes script w.coord g (Some d.wanted) (Some d.line)
         out-is o l p q = cc
 
-        shaped : Locking k g d.line (Home g) (on_event script (world_of script es).coord x fails).marks
+        shaped : Locking script k g d.line (Home g) (on_event script (world_of script es).coord x fails).marks
         shaped = record {
           wanted = d.wanted;
           takes = d.lock;
@@ -504,8 +503,8 @@ module _ (script : Script) (some : 1 ≤ script.segments) where
           shape = locked-shape k (Home g) script (without_wait w.coord g d.wanted) g d.line (ap (λ (v : Work). v.session) (at-self w.coord.works g.0 (record (work_of w.coord g) { waiting = None })));
         }
 
-        body : Body k g d.line (Home g) (coord_rule script (world_of script es).coord x fails).marks
-        body = body-more k g d.line (Home g) (on_event script (world_of script es).coord x fails).marks _ (sent-ebbs k _ (on_event script (world_of script es).coord x fails).outs) (inr (inl shaped))
+        body : Body script k g d.line (Home g) (coord_rule script (world_of script es).coord x fails).marks
+        body = body-more script k g d.line (Home g) (on_event script (world_of script es).coord x fails).marks _ (sent-ebbs k _ (on_event script (world_of script es).coord x fails).outs) (inr (inl shaped))
 
         plus-none : (a b : ℕ) → b ≡ 0 → a + b ≡ a
         plus-none a b q = omega arith
@@ -636,12 +635,12 @@ module _ (script : Script) (some : 1 ≤ script.segments) where
             by_opening : Opening s script s led asked line_marks → Held script w.steps e s xs
             by_opening (inl b) =
                 own-held es e (es ++ (e, fails) ∷ []) all_marks marks-are starts-are s [] all_marks own_txn asked Its refl first-says
-                (subst (Body s own_txn asked Its) (sym same) (body-more s own_txn asked Its line_marks _ (sent-ebbs s _ (on_event script w.coord x fails).outs) (subst (λ j. Body s j asked Its line_marks) same-txn b))) xs ys split
+                (subst (Body script s own_txn asked Its) (sym same) (body-more script s own_txn asked Its line_marks _ (sent-ebbs s _ (on_event script w.coord x fails).outs) (subst (λ j. Body script s j asked Its line_marks) same-txn b))) xs ys split
             by_opening (inr b) =
                 split-first (b.0 ++ numbered (on_event script w.coord x fails).coord.sent (on_event script w.coord x fails).outs) xs ys (sym (same ∙ ap (λ m. m ++ numbered (on_event script w.coord x fails).coord.sent (on_event script w.coord x fails).outs) b.1) ∙ split) s
                 (λ line g c r o. absurd ((first-says line g c r).2 o))
                 (λ zs q. own-held es e (es ++ (e, fails) ∷ []) all_marks marks-are starts-are s (mark.Start w.coord.table.next s ∷ []) _ w.coord.table.next asked Its (same ∙ ap (λ m. m ++ numbered (on_event script w.coord x fails).coord.sent (on_event script w.coord x fails).outs) b.1) new-says
-                (body-more s w.coord.table.next asked Its b.0 _ (sent-ebbs s _ (on_event script w.coord x fails).outs) b.2) zs ys q)
+                (body-more script s w.coord.table.next asked Its b.0 _ (sent-ebbs s _ (on_event script w.coord x fails).outs) b.2) zs ys q)
 
         other-start : (k : SessionId) → is_same_session s k ≡ false → starts_by k e ≡ 0 → (xs ys : List Mark) → all_marks ≡ xs ++ ys → Held script (world_of script es).steps e k xs
         other-start k apart none xs ys split = by_opening (opens k)
@@ -649,13 +648,13 @@ module _ (script : Script) (some : 1 ≤ script.segments) where
             by_opening : Opening k script s led asked line_marks → Held script w.steps e k xs
             by_opening (inl b) =
                 other-held es e (es ++ (e, fails) ∷ []) all_marks marks-are starts-are k [] all_marks (session_of led s).transaction asked Its refl (λ j q. subst (λ i. is_same_session i k ≡ false) (sym q) apart) (still-held es e k [] none tt tt tt)
-                (subst (Body k (session_of led s).transaction asked Its) (sym same) (body-more k (session_of led s).transaction asked Its line_marks _ (sent-ebbs k _ (on_event script w.coord x fails).outs) b)) xs ys split
+                (subst (Body script k (session_of led s).transaction asked Its) (sym same) (body-more script k (session_of led s).transaction asked Its line_marks _ (sent-ebbs k _ (on_event script w.coord x fails).outs) b)) xs ys split
             by_opening (inr b) =
                 split-first (b.0 ++ numbered (on_event script w.coord x fails).coord.sent (on_event script w.coord x fails).outs) xs ys (sym (same ∙ ap (λ m. m ++ numbered (on_event script w.coord x fails).coord.sent (on_event script w.coord x fails).outs) b.1) ∙ split) k
                 (still-held es e k [] none tt tt tt)
                 (λ zs q. other-held es e (es ++ (e, fails) ∷ []) all_marks marks-are starts-are k (mark.Start w.coord.table.next s ∷ []) _ w.coord.table.next asked Its (same ∙ ap (λ m. m ++ numbered (on_event script w.coord x fails).coord.sent (on_event script w.coord x fails).outs) b.1) (λ j i. subst (λ t. is_same_session t k ≡ false) (sym i) apart)
                 (still-held es e k (mark.Start w.coord.table.next s ∷ []) none (apart, tt) (tt, tt) (tt, tt))
-                (body-more k w.coord.table.next asked Its b.0 _ (sent-ebbs k _ (on_event script w.coord x fails).outs) b.2) zs ys q)
+                (body-more script k w.coord.table.next asked Its b.0 _ (sent-ebbs k _ (on_event script w.coord x fails).outs) b.2) zs ys q)
 
         started : ((k : SessionId) → starts_by k e ≡ (if is_same_session s k then 1 else 0)) → HeldHere
         started starts k xs ys split = by_session (is_same_session s k) refl

@@ -259,50 +259,51 @@ module _ (k : SessionId) where
 
 -- LINES
 -- a statement of the transaction goes out behind its lock
-pub record Locking (k : SessionId) (h : Gxid) (line : Stmt) (Q : SessionId → Type 0) (ms : List Mark) : Type 0 where
+pub record Locking (script : Script) (k : SessionId) (h : Gxid) (line : Stmt) (Q : SessionId → Type 0) (ms : List Mark) : Type 0 where
   pub wanted : Claim
-  pub takes : lock_for h line ≡ Some wanted
+  pub takes : lock_for script h line ≡ Some wanted
   pub rest : List Mark
   pub is : ms ≡ hold_mark the_coordinator wanted ∷ rest
   pub shape : Shape Plain Q k rest
 
 -- without a lock
-abbrev pub Free : Gxid → Stmt → Mark → Type 0
-Free h line m = Plain m × (lock_for h line ≡ None)
+abbrev pub Free : Script → Gxid → Stmt → Mark → Type 0
+Free script h line m = Plain m × (lock_for script h line ≡ None)
 
 -- a line's marks behind the beginning of its transaction
-abbrev pub Body : SessionId → Gxid → Stmt → (SessionId → Type 0) → List Mark → Type 0
-Body k h line Q ms = Each (Ebbs k) ms ⊎ (Locking k h line Q ms ⊎ Ends (Free h line) Q k ms)
+abbrev pub Body : Script → SessionId → Gxid → Stmt → (SessionId → Type 0) → List Mark → Type 0
+Body script k h line Q ms = Each (Ebbs k) ms ⊎ (Locking script k h line Q ms ⊎ Ends (Free script h line) Q k ms)
 
-pub body-more : (k : SessionId) (h : Gxid) (line : Stmt) (Q : SessionId → Type 0) (ms ns : List Mark) → Each (Ebbs k) ns → Body k h line Q ms → Body k h line Q (ms ++ ns)
-body-more k h line Q ms ns n (inl e) = inl (each_append (Ebbs k) ms ns e n)
-body-more k h line Q ms ns n (inr (inl e)) = inr (inl (record { wanted = e.wanted; takes = e.takes; rest = e.rest ++ ns; is = ap (λ m. m ++ ns) e.is; shape = shape-more Plain Q k e.rest ns n e.shape }))
-body-more k h line Q ms ns n (inr (inr e)) = inr (inr (ends-more (Free h line) Q k ms ns n e))
+pub body-more : (script : Script) (k : SessionId) (h : Gxid) (line : Stmt) (Q : SessionId → Type 0) (ms ns : List Mark)
+    → Each (Ebbs k) ns → Body script k h line Q ms → Body script k h line Q (ms ++ ns)
+body-more script k h line Q ms ns n (inl e) = inl (each_append (Ebbs k) ms ns e n)
+body-more script k h line Q ms ns n (inr (inl e)) = inr (inl (record { wanted = e.wanted; takes = e.takes; rest = e.rest ++ ns; is = ap (λ m. m ++ ns) e.is; shape = shape-more Plain Q k e.rest ns n e.shape }))
+body-more script k h line Q ms ns n (inr (inr e)) = inr (inr (ends-more (Free script h line) Q k ms ns n e))
 
 module _ (k : SessionId) (script : Script) (s : SessionId) where
   abbrev Own : SessionId → Type 0
   Own x = x ≡ s
 
-  free-body : (h : Gxid) (line : Stmt) (B : Mark → Type 0) (ms : List Mark) → ((m : Mark) → B m → Plain m) → lock_for h line ≡ None → Shape B Own k ms → Body k h line Own ms
+  free-body : (h : Gxid) (line : Stmt) (B : Mark → Type 0) (ms : List Mark) → ((m : Mark) → B m → Plain m) → lock_for script h line ≡ None → Shape B Own k ms → Body script k h line Own ms
   free-body h line B ms f none (inl e) = inl e
-  free-body h line B ms f none (inr e) = inr (inr (ends-weaker B (Free h line) Own k (λ m b. (f m b, none)) ms e))
+  free-body h line B ms f none (inr e) = inr (inr (ends-weaker B (Free script h line) Own k (λ m b. (f m b, none)) ms e))
 
-  dispatched : (c : Coord) (h : Gxid) (line : Stmt) → (work_of c h).session ≡ s → Body k h line Own (requests script c h line (lock_for h line)).marks
-  dispatched c h line home = by_lock (lock_for h line) refl
+  dispatched : (c : Coord) (h : Gxid) (line : Stmt) → (work_of c h).session ≡ s → Body script k h line Own (requests script c h line (lock_for script h line)).marks
+  dispatched c h line home = by_lock (lock_for script h line) refl
     where
-      by_test : (wanted : Claim) (b : Bool) → lock_for h line ≡ Some wanted → Body k h line Own (if_granted script c h line wanted b).marks
+      by_test : (wanted : Claim) (b : Bool) → lock_for script h line ≡ Some wanted → Body script k h line Own (if_granted script c h line wanted b).marks
       by_test wanted true e = inr (inl (record { wanted = wanted; takes = e; rest = _; is = refl; shape = locked-shape k Own script (record c { locks = with_hold c.locks wanted }) h line home }))
       by_test wanted false e = inl (tt, tt)
 
-      by_lock : (o : Option Claim) → lock_for h line ≡ o → Body k h line Own (requests script c h line o).marks
+      by_lock : (o : Option Claim) → lock_for script h line ≡ o → Body script k h line Own (requests script c h line o).marks
       by_lock None e = free-body h line Plain _ (λ m b. b) e (locked-shape k Own script c h line home)
       by_lock (Some wanted) e = by_test wanted (is_free c.locks.holds wanted) e
 
   -- in the session's transaction, or behind the start of a new one
   abbrev pub Opening : Coord → Stmt → List Mark → Type 0
-  Opening c line ms = Body k (session_of c s).transaction line Own ms ⊎ ((body : List Mark) × (ms ≡ mark.Start c.table.next s ∷ body) × Body k c.table.next line Own body)
+  Opening c line ms = Body script k (session_of c s).transaction line Own ms ⊎ ((body : List Mark) × (ms ≡ mark.Start c.table.next s ∷ body) × Body script k c.table.next line Own body)
 
-  alone : (c : Coord) (line : Stmt) → Opening c line (mark.Start c.table.next s ∷ (requests script (begins c s ReadCommitted) c.table.next line (lock_for c.table.next line)).marks)
+  alone : (c : Coord) (line : Stmt) → Opening c line (mark.Start c.table.next s ∷ (requests script (begins c s ReadCommitted) c.table.next line (lock_for script c.table.next line)).marks)
   alone c line = inr (_, refl, dispatched (begins c s ReadCommitted) c.table.next line (ap (λ (v : Work). v.session) (at-self c.works c.table.next.0 (new_work s ReadCommitted))))
 
   pub line-opens : (c : Coord) (b : Block) (line : Stmt) → IsHome c s b → Opening c line (on_line script c s line (line_step b line)).marks

@@ -9,7 +9,6 @@ use Rattle.gx_ids.specs.declared.ids.Node.{Node}
 use Rattle.gx_ids.specs.declared.ids.SessionId.{SessionId}
 use Rattle.gx_tree.specs.declared.stmt.Level.{Level}
 use Rattle.gx_tree.specs.declared.stmt.Stmt.{Stmt}
-use Rattle.gx_tree.specs.declared.stmt.Stmt.TheVariants as stmt
 use Rattle.gx_waits.specs.declared.claim.Claim.{Claim}
 use Rattle.gx_msg.specs.declared.message.Envelope.{Envelope}
 use Rattle.gx_script.specs.declared.Script.{Script}
@@ -31,6 +30,7 @@ use Rattle.gx_store.specs.declared.node.NodeEvent.TheVariants as here
 use Rattle.gx_store.specs.declared.run.Step.{Step}
 use Rattle.gx_store.specs.Commands.{RunsCommand}
 use Rattle.gx_store.specs.Lines.{stmt_of}
+use Rattle.gx_store.specs.Locks.{HoldsAtAnswer}
 use Rattle.gx_store.specs.Marks.{is_same_session, answer_count}
 use Rattle.gx_store.specs.Ordered.{IsAtNode}
 use Rattle.gx_store.specs.Points.{Point, before, marks_in, starts_by}
@@ -48,9 +48,9 @@ use Rattle.gx_law_schedules.proofs.Steps.{IsAt, IsHere, always}
 use Rattle.gx_law_sessions.proofs.World.{sessions-stand}
 use Rattle.gx_law_sessions.specs.Rest.{EachMark}
 use Rattle.gx_law_sessions.specs.Standing.{IsStanding, waits}
-use Rattle.gx_law_locks.specs.Commands.{AnswerHolds, AreAnswersHeld, AreLeftAlone, HoldsAsMeant, HoldsTableOf, HoldsWhenTold}
+use Rattle.gx_law_locks.specs.Commands.{AnswerHolds, AreAnswersHeld, AreLeftAlone}
 use Rattle.gx_law_locks.proofs.Answering.{AtOnce, Dull, IsHome, IsRefusal, IsServed, NoAnswer, OneAnswer, Starts, end-none, line-starts, message-deals, one-more, resume-refuses}
-use Rattle.gx_law_locks.proofs.Commands.{IsCommandOf, IsRun, IsWaitingOf, out-holds, run-is}
+use Rattle.gx_law_locks.proofs.Commands.{HoldsTableOf, IsCommandOf, IsRun, IsWaitingOf, as-meant, out-holds, run-is}
 use Rattle.gx_law_order.proofs.World.{world_knows}
 use Rattle.gx_law_holds.proofs.Orders.{world-orders}
 use Rattle.gx_msg.specs.declared.message.Out.{Out}
@@ -61,18 +61,7 @@ none-told script steps e earlier [] later h = tt
 none-told script steps e earlier (mark.Answer s n a ∷ ms) later h = absurd h.0
 none-told script steps e earlier (m ∷ ms) later h = (tt, none-told script steps e (earlier ++ m ∷ []) ms later h.1)
 
--- what the rule takes is what is meant
-pub as-meant : (script : Script) (marks : List Mark) (g : Gxid) (line : Stmt) → HoldsTableOf marks g line → HoldsAsMeant script marks g line
-as-meant script marks g (stmt.Select query) h = h _ refl
-as-meant script marks g (stmt.Insert table tuples) h = h _ refl
-as-meant script marks g (stmt.Lock table mode) h = h _ refl
-as-meant script marks g (stmt.Update table assigns cond) h = tt
-as-meant script marks g (stmt.Delete table cond) h = tt
-as-meant script marks g (stmt.Begin level) h = tt
-as-meant script marks g stmt.Commit h = tt
-as-meant script marks g stmt.Rollback h = tt
-
-told-so : (script : Script) (point : Point) (s : SessionId) (a : StmtAnswer) → ((line : Stmt) (level : Level) (g : Gxid) (c : Cid) → RunsCommand script point s line level g c → HoldsTableOf (before point) g line) → HoldsWhenTold script point s a
+told-so : (script : Script) (point : Point) (s : SessionId) (a : StmtAnswer) → ((line : Stmt) (level : Level) (g : Gxid) (c : Cid) → RunsCommand script point s line level g c → HoldsTableOf script (before point) g line) → HoldsAtAnswer script point s a
 told-so script point s (told.Refused reason) f = tt
 told-so script point s told.Begin f = λ line level g c r. as-meant script (before point) g line (f line level g c r)
 told-so script point s told.Commit f = λ line level g c r. as-meant script (before point) g line (f line level g c r)
@@ -83,7 +72,7 @@ told-so script point s (told.Updated n) f = λ line level g c r. as-meant script
 told-so script point s (told.Deleted n) f = λ line level g c r. as-meant script (before point) g line (f line level g c r)
 told-so script point s told.Locked f = λ line level g c r. as-meant script (before point) g line (f line level g c r)
 
-refused-so : (script : Script) (point : Point) (s : SessionId) (a : StmtAnswer) → IsRefusal a → HoldsWhenTold script point s a
+refused-so : (script : Script) (point : Point) (s : SessionId) (a : StmtAnswer) → IsRefusal a → HoldsAtAnswer script point s a
 refused-so script point s (told.Refused reason) f = tt
 refused-so script point s told.Begin f = absurd f
 refused-so script point s told.Commit f = absurd f
@@ -102,11 +91,11 @@ dull-alone k g (mark.Release n h object mode ∷ ms) e = absurd e.0
 dull-alone k g (m ∷ ms) e = (tt, dull-alone k g ms e.1)
 
 -- an answer that comes of a segment's
-deals-told : (script : Script) (steps : List Step) (e : Event) (P : SessionId → Type 0) → ((s : SessionId) → P s → (earlier later : List Mark) (line : Stmt) (level : Level) (g : Gxid) (c : Cid) → AreLeftAlone s g earlier → RunsCommand script (record { steps = steps; event = e; earlier = earlier; later = later }) s line level g c → HoldsTableOf (marks_in steps ++ earlier) g line) → (earlier ms later : List Mark) → Each Dull earlier → OneAnswer Dull (λ s a. IsRefusal a ⊎ P s) ms → EachMark (AnswerHolds script) steps e earlier ms later
+deals-told : (script : Script) (steps : List Step) (e : Event) (P : SessionId → Type 0) → ((s : SessionId) → P s → (earlier later : List Mark) (line : Stmt) (level : Level) (g : Gxid) (c : Cid) → AreLeftAlone s g earlier → RunsCommand script (record { steps = steps; event = e; earlier = earlier; later = later }) s line level g c → HoldsTableOf script (marks_in steps ++ earlier) g line) → (earlier ms later : List Mark) → Each Dull earlier → OneAnswer Dull (λ s a. IsRefusal a ⊎ P s) ms → EachMark (AnswerHolds script) steps e earlier ms later
 deals-told script steps e P hold earlier [] later d h = tt
 deals-told script steps e P hold earlier (mark.Answer s n a ∷ ms) later d h = (by_case h.0, none-told script steps e (earlier ++ mark.Answer s n a ∷ []) ms later h.1)
   where
-    by_case : IsRefusal a ⊎ P s → HoldsWhenTold script (record { steps = steps; event = e; earlier = earlier; later = ms ++ later }) s a
+    by_case : IsRefusal a ⊎ P s → HoldsAtAnswer script (record { steps = steps; event = e; earlier = earlier; later = ms ++ later }) s a
     by_case (inl f) = refused-so script (record { steps = steps; event = e; earlier = earlier; later = ms ++ later }) s a f
     by_case (inr f) = told-so script (record { steps = steps; event = e; earlier = earlier; later = ms ++ later }) s a (λ line level g c r. hold s f earlier (ms ++ later) line level g c (dull-alone s g earlier d) r)
 deals-told script steps e P hold earlier (m ∷ ms) later d h = (tt, deals-told script steps e P hold (earlier ++ m ∷ []) ms later (each_append Dull earlier (m ∷ []) d (h.0, tt)) h.1)
@@ -129,18 +118,18 @@ count-append k [] ys e = count-none k ys e
 count-append k (mark.Answer s n a ∷ xs) ys e = ap (λ i. if is_same_session s k then i + 1 else i) (count-append k xs ys e)
 count-append k (m ∷ xs) ys e = count-append k xs ys e
 
-starts-told : (script : Script) (steps : List Step) (e : Event) (s : SessionId) (line : Stmt) → stmt_of s (answer_count s (marks_in steps) + 1) script.lines ≡ Some line → (earlier ms later : List Mark) → Each NoAnswer earlier → Starts s line ms → EachMark (AnswerHolds script) steps e earlier ms later
+starts-told : (script : Script) (steps : List Step) (e : Event) (s : SessionId) (line : Stmt) → stmt_of s (answer_count s (marks_in steps) + 1) script.lines ≡ Some line → (earlier ms later : List Mark) → Each NoAnswer earlier → Starts script s line ms → EachMark (AnswerHolds script) steps e earlier ms later
 starts-told script steps e s line is earlier [] later d h = tt
 starts-told script steps e s line is earlier (mark.Answer k n a ∷ ms) later d h = (by_case h.0, none-told script steps e (earlier ++ mark.Answer k n a ∷ []) ms later h.1)
   where
     none : {wanted : Claim} → None ≡ Some wanted → ⊥
     none q = cc
 
-    by_case : AtOnce s line k a → HoldsWhenTold script (record { steps = steps; event = e; earlier = earlier; later = ms ++ later }) k a
+    by_case : AtOnce script s line k a → HoldsAtAnswer script (record { steps = steps; event = e; earlier = earlier; later = ms ++ later }) k a
     by_case (inr r) = refused-so script (record { steps = steps; event = e; earlier = earlier; later = ms ++ later }) k a r
     by_case (inl z) =
         told-so script (record { steps = steps; event = e; earlier = earlier; later = ms ++ later }) k a
-        (λ other level g c r wanted takes. absurd (none (sym (z.1 g) ∙ subst (λ l. lock_for g l ≡ Some wanted)
+        (λ other level g c r wanted takes. absurd (none (sym (z.1 g) ∙ subst (λ l. lock_for script g l ≡ Some wanted)
         (some-same other line (sym r.line.line ∙ ap (λ x. stmt_of k (x + 1) script.lines) (count-append k (marks_in steps) earlier d) ∙ ap (λ (x : SessionId). stmt_of x (answer_count x (marks_in steps) + 1) script.lines) z.0 ∙ is)) takes)))
 starts-told script steps e s line is earlier (m ∷ ms) later d h = (tt, starts-told script steps e s line is (earlier ++ m ∷ []) ms later (each_append NoAnswer earlier (m ∷ []) d (h.0, tt)) h.1)
 
@@ -164,7 +153,7 @@ module _ (script : Script) (some : 1 ≤ script.segments) where
     w = world_of script es
 
     -- who is served holds its table
-    serve : ((s : SessionId) → starts_by s e ≡ 0) → (s : SessionId) → IsServed (world_of script es).coord s → (earlier later : List Mark) (line : Stmt) (level : Level) (g : Gxid) (c : Cid) → AreLeftAlone s g earlier → RunsCommand script (record { steps = (world_of script es).steps; event = e; earlier = earlier; later = later }) s line level g c → HoldsTableOf (marks_in (world_of script es).steps ++ earlier) g line
+    serve : ((s : SessionId) → starts_by s e ≡ 0) → (s : SessionId) → IsServed (world_of script es).coord s → (earlier later : List Mark) (line : Stmt) (level : Level) (g : Gxid) (c : Cid) → AreLeftAlone s g earlier → RunsCommand script (record { steps = (world_of script es).steps; event = e; earlier = earlier; later = later }) s line level g c → HoldsTableOf script (marks_in (world_of script es).steps ++ earlier) g line
     serve none s served earlier later line level g c alone r = by_way its.way
       where
         its : IsRun (marks_in w.steps) w.coord s line g c
@@ -173,7 +162,7 @@ module _ (script : Script) (some : 1 ≤ script.segments) where
         clash : (o : Option Stmt) → o ≡ None → o ≡ Some line → ⊥
         clash o a b = cc
 
-        by_way : IsCommandOf (work_of w.coord (session_of w.coord s).transaction) line ⊎ IsWaitingOf (marks_in w.steps) (work_of w.coord (session_of w.coord s).transaction) line (session_of w.coord s).transaction c → HoldsTableOf (marks_in w.steps ++ earlier) g line
+        by_way : IsCommandOf (work_of w.coord (session_of w.coord s).transaction) line ⊎ IsWaitingOf (marks_in w.steps) (work_of w.coord (session_of w.coord s).transaction) line (session_of w.coord s).transaction c → HoldsTableOf script (marks_in w.steps ++ earlier) g line
         by_way (inl it) = out-holds script w (sessions-stand script some es) (world_knows script some es).kept (world-orders script some es).going (world-orders script some es).locked.marked.coordinator.holds (world-orders script some es).locked.marked.coordinator.waits earlier s line g alone its.txn it
         by_way (inr it) = absurd (clash (work_of w.coord (session_of w.coord s).transaction).waiting served it.has_it)
 
@@ -227,7 +216,7 @@ module _ (script : Script) (some : 1 ≤ script.segments) where
         starts-told script (world_of script es).steps e s line
         (ap (λ i. stmt_of s (i + 1) script.lines) (counts-so s (session_of (world_of script es).coord s).state.block (session_of (world_of script es).coord s).state.pending (session_of (world_of script es).coord s).lines (session_of (world_of script es).coord s).transaction _ _ (work_of (world_of script es).coord (session_of (world_of script es).coord s).transaction) idle (sessions-stand script some es s).stands) ∙ q)
         [] _ [] tt
-        (one-more NoAnswer (AtOnce s line) (starts script (world_of script es).coord s (Some line)).marks (starts script (world_of script es).coord s (Some line)).coord.sent (starts script (world_of script es).coord s (Some line)).outs (λ to number told. tt)
+        (one-more NoAnswer (AtOnce script s line) (starts script (world_of script es).coord s (Some line)).marks (starts script (world_of script es).coord s (Some line)).coord.sent (starts script (world_of script es).coord s (Some line)).outs (λ to number told. tt)
         (line-starts script (starts_line (world_of script es).coord s (line_step (session_of (world_of script es).coord s).state.block line)) s (session_of (world_of script es).coord s).state.block line (started s (line_step (session_of (world_of script es).coord s).state.block line) (session_of (world_of script es).coord s).state.block refl)))
 
     step-told : (y : NodeEvent) → IsHere script (world_of script es) e y → EachMark (AnswerHolds script) (world_of script es).steps e [] ((on_event script (world_of script es).coord y fails).marks ++ numbered (on_event script (world_of script es).coord y fails).coord.sent (on_event script (world_of script es).coord y fails).outs) []

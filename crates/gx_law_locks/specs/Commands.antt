@@ -6,7 +6,6 @@ use Rattle.gx_ids.specs.declared.ids.Gxid.{Gxid}
 use Rattle.gx_ids.specs.declared.ids.SessionId.{SessionId}
 use Rattle.gx_tree.specs.declared.stmt.Level.{Level}
 use Rattle.gx_tree.specs.declared.stmt.Stmt.{Stmt}
-use Rattle.gx_tree.specs.declared.stmt.Stmt.TheVariants as stmt
 use Rattle.gx_waits.specs.Claim.{same_claim}
 use Rattle.gx_waits.specs.declared.claim.Claim.{Claim}
 use Rattle.gx_msg.specs.declared.message.Message.{Message}
@@ -17,19 +16,13 @@ use Rattle.gx_store.specs.declared.mark.Mark.{Mark}
 use Rattle.gx_store.specs.declared.mark.Mark.TheVariants.{Answer, Release, Sent, Start}
 use Rattle.gx_store.specs.declared.run.Step.{Step}
 use Rattle.gx_store.specs.Commands.{RunsCommand}
-use Rattle.gx_store.specs.Locks.{HasGoneOut, HoldsTable}
+use Rattle.gx_store.specs.Locks.{HoldsAtAnswer, HoldsTable, LocksWhileReading}
 use Rattle.gx_store.specs.Marks.{is_same_gxid, is_same_session, is_snapped}
-use Rattle.gx_store.specs.Points.{Point, before, marks_in, starts_by}
+use Rattle.gx_store.specs.Points.{Point, marks_in, starts_by}
 use Rattle.gx_store.specs.Refusals.{the_coordinator}
-use Rattle.gx_store.specs.Waits.{is_held, waits_at}
+use Rattle.gx_store.specs.Waits.{waits_at}
 use Rattle.gx_rules.specs.AtCoordinator.{lock_for}
 use Rattle.gx_law_sessions.specs.Rest.{EachMark}
-use Rattle.gx_store.specs.declared.answer.StmtAnswer.{StmtAnswer}
-use Rattle.gx_store.specs.declared.answer.StmtAnswer.TheVariants.{Refused}
-
--- the transaction holds at the coordinator the lock that the statement takes on its table
-abbrev pub HoldsTableOf : List Mark → Gxid → Stmt → Type 0
-HoldsTableOf marks g line = (wanted : Claim) → lock_for g line ≡ Some wanted → is_held marks the_coordinator wanted.gxid wanted.object wanted.mode ≡ true
 
 -- the mark starts or answers no line of the session, and gives back nothing of the transaction
 abbrev pub LeavesAlone : SessionId → Gxid → Mark → Type 0
@@ -42,10 +35,10 @@ abbrev pub AreLeftAlone : SessionId → Gxid → List Mark → Type 0
 AreLeftAlone session g [] = Unit {0}
 AreLeftAlone session g (m ∷ ms) = LeavesAlone session g m × AreLeftAlone session g ms
 
--- it waits there for that lock
-pub record AwaitsTable (marks : List Mark) (g : Gxid) (line : Stmt) : Type 0 where
+-- the transaction waits at the coordinator for the lock that the statement takes on its table
+pub record AwaitsTable (script : Script) (marks : List Mark) (g : Gxid) (line : Stmt) : Type 0 where
   pub wanted : Claim
-  pub takes : lock_for g line ≡ Some wanted
+  pub takes : lock_for script g line ≡ Some wanted
   pub stands : list_any (same_claim wanted) (waits_at marks the_coordinator) ≡ true
 
 -- the message is no sending of the command
@@ -72,21 +65,11 @@ DoCommandsHold script steps =
     (event : Event) (earlier later : List Mark) (session : SessionId) (line : Stmt) (level : Level) (g : Gxid) (c : Cid)
     → starts_by session event ≡ 0 → AreLeftAlone session g earlier
     → RunsCommand script (record { steps = steps; event = event; earlier = earlier; later = later }) session line level g c
-    → HoldsTableOf (marks_in steps ++ earlier) g line ⊎ (AwaitsTable (marks_in steps ++ earlier) g line × HasNotGoneOut (marks_in steps) g c)
-
--- the transaction holds at the coordinator what its statement is to hold there; those that change rows take no lock yet
-abbrev pub HoldsAsMeant : Script → List Mark → Gxid → Stmt → Type 0
-HoldsAsMeant script marks g (stmt.Update table assigns cond) = Unit {0}
-HoldsAsMeant script marks g (stmt.Delete table cond) = Unit {0}
-HoldsAsMeant script marks g line = HoldsTable script marks g line
+    → HoldsTable script (marks_in steps ++ earlier) g line ⊎ (AwaitsTable script (marks_in steps ++ earlier) g line × HasNotGoneOut (marks_in steps) g c)
 
 -- a command that succeeds holds its table at its answer's point
-abbrev pub HoldsWhenTold : Script → Point → SessionId → StmtAnswer → Type 0
-HoldsWhenTold script point session (Refused reason) = Unit {0}
-HoldsWhenTold script point session answer = (line : Stmt) (level : Level) (g : Gxid) (c : Cid) → RunsCommand script point session line level g c → HoldsAsMeant script (before point) g line
-
 abbrev pub AnswerHolds : Script → Point → Mark → Type 0
-AnswerHolds script point (Answer session number answer) = HoldsWhenTold script point session answer
+AnswerHolds script point (Answer session number answer) = HoldsAtAnswer script point session answer
 AnswerHolds script point _ = Unit {0}
 
 abbrev pub AreAnswersHeld : Script → List Step → List Step → Type 0
@@ -99,11 +82,6 @@ EachPoint P steps event earlier [] = P (record { steps = steps; event = event; e
 EachPoint P steps event earlier (m ∷ ms) = P (record { steps = steps; event = event; earlier = earlier; later = ms }) × EachPoint P steps event (earlier ++ m ∷ []) ms
 
 -- from its own snapshot, or from its first sending, to its answer, a command holds its table
-abbrev pub HoldsWhileReading : Script → Point → Type 0
-HoldsWhileReading script point =
-    (session : SessionId) (line : Stmt) (level : Level) (g : Gxid) (c : Cid) → RunsCommand script point session line level g c
-    → (is_snapped (before point) g c ≡ true) ⊎ HasGoneOut (before point) g c → HoldsAsMeant script (before point) g line
-
 abbrev pub AreReadsHeld : Script → List Step → List Step → Type 0
 AreReadsHeld script before [] = Unit {0}
-AreReadsHeld script before (s ∷ ss) = EachPoint (HoldsWhileReading script) before s.event [] s.marks × AreReadsHeld script (before ++ s ∷ []) ss
+AreReadsHeld script before (s ∷ ss) = EachPoint (LocksWhileReading script) before s.event [] s.marks × AreReadsHeld script (before ++ s ∷ []) ss

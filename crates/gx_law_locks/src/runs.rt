@@ -4,7 +4,6 @@ ghost use Rattle.gx_law_locks.specs.Commands.{AreAnswersHeld, AreReadsHeld, DoCo
 ghost use Rattle.gx_law_locks.specs.Legal.{AreLocksLegal};
 ghost use Rattle.gx_law_holds.specs.Writes.{AreWritesUnderLock};
 ghost use Rattle.gx_law_order.specs.Runs.{steps_after};
-ghost use Rattle.gx_law_holds.specs.Marked.{AreWaitsLegal};
 ghost use Rattle.gx_script.specs.declared.Script.{Script};
 ghost use Rattle.gx_store.specs.declared.event.Event.{Event as OneEvent};
 ghost use Rattle.gx_store.specs.Language.{AreLinesNumbered};
@@ -15,19 +14,15 @@ pub fn rows_are_written_with_the_lock_unless_aborted()
     ensures { (script : Script) (events : List (OneEvent × Bool)) → 1 ≤ script.segments → AreLinesNumbered [] script.lines → AreWritesUnderLock script [] (marks_in (steps_after script events)) }
 {}
 
-/// Locks are legal.
+/// Locks are legal, by the definition whole and by what it doesn't say.
 pub fn locks_are_legal()
     ensures { (script : Script) (events : List (OneEvent × Bool)) → 1 ≤ script.segments → AreLinesNumbered [] script.lines → AreLocksLegal script (steps_after script events) }
 {}
 
-/// A lock is waited for only where it meets a hold of another transaction, and only by who has no other wait at that node.
-pub fn waits_meet_a_hold_and_stand_alone()
-    ensures { (script : Script) (events : List (OneEvent × Bool)) → 1 ≤ script.segments → AreWaitsLegal [] (marks_in (steps_after script events)) }
-{}
-
 /// A command under way holds its table at the coordinator, or waits for it there and hasn't gone out: behind each step, and in each
 /// step that starts no line of its session, up to its own answer. AccessShare is what a SELECT holds, RowExclusive what an INSERT
-/// holds, the mode that it names what a LOCK TABLE holds.
+/// holds, RowExclusive or without the detector Exclusive what an UPDATE or DELETE holds, the mode that it names what a LOCK TABLE
+/// holds.
 pub fn commands_hold_their_tables_until_answered()
     ensures { (script : Script) (events : List (OneEvent × Bool)) → 1 ≤ script.segments → DoCommandsHold script (steps_after script events) }
 {}
@@ -38,7 +33,8 @@ pub fn answered_commands_hold_their_tables()
 {}
 
 /// From its own snapshot, or from its first sending, to its answer, a command holds its table at the coordinator, at every point of
-/// the run: a SELECT AccessShare, an INSERT RowExclusive, a LOCK TABLE the mode that it names. UPDATE and DELETE take no lock yet.
+/// the run: a SELECT AccessShare, an INSERT RowExclusive, an UPDATE or DELETE RowExclusive or without the detector Exclusive, a LOCK
+/// TABLE the mode that it names.
 pub fn commands_hold_their_tables_while_they_read()
     ensures { (script : Script) (events : List (OneEvent × Bool)) → 1 ≤ script.segments → AreReadsHeld script [] (steps_after script events) }
 {}
