@@ -245,7 +245,7 @@ request-sound c g whole e script line l f (Some wanted) = by_test (is_free c.loc
     by_test false = waiting-sound c g e line wanted l
 
 pub dispatch-sound : (c : Coord) (g : ℕ) → IsWhole c.table → AreSound c → (script : Script) (line : Stmt) → (c.works g).last + 1 ≤ (c.sessions (c.works g).session.0).lines → (c.works g).waiting ≡ None → AreSound (dispatches script c (gx g) line).coord
-dispatch-sound c g whole e script line l f = request-sound c g whole e script line l f (lock_for (gx g) line)
+dispatch-sound c g whole e script line l f = request-sound c g whole e script line l f (lock_for script (gx g) line)
 
 -- and goes on
 pub resume-sound : (c : Coord) (g : ℕ) → IsWhole c.table → AreSound c → (script : Script) (o : Option Claim) (waiting : Option Stmt) → (c.works g).waiting ≡ waiting → AreSound (resumes script c (gx g) o waiting).coord
@@ -267,7 +267,7 @@ resume-sound c g whole e script (Some wanted) None q = e
 resume-sound c g whole e script None waiting q = e
 
 -- A SESSION'S NEXT LINE
-module _ (script : Script) (c : Coord) (kept : Kept c) (e : AreSound c) (s : SessionId) where
+module _ (script : Script) (c : Coord) (kept : Kept script c) (e : AreSound c) (s : SessionId) where
   abbrev pub moved : LineStep → Session
   moved asked = record (session_of c s) { lines = (session_of c s).lines + 1; state = Rattle.gx_script.specs.Session.after_line (session_of c s).state.block asked }
 

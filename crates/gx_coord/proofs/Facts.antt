@@ -16,6 +16,7 @@ use Rattle.gx_dtx.specs.declared.phase.Phase.TheVariants.{Active, Preparing, Com
 use Rattle.gx_dtx.specs.declared.status.Status.TheVariants as status
 use Rattle.gx_dtx.specs.declared.txn.Txn.{Txn}
 use Rattle.gx_msg.specs.declared.reply.Reply.{Reply}
+use Rattle.gx_script.specs.declared.Script.{Script}
 use Rattle.gx_script.specs.declared.state.Block.{Block}
 use Rattle.gx_script.specs.declared.state.Pending.{Pending}
 use Rattle.gx_script.specs.declared.state.Pending.TheVariants as pending
@@ -54,7 +55,7 @@ some-awaited : (i : Node) (nodes : List Node) → has i nodes ≡ true → nodes
 some-awaited i [] h e = absurd (cc)
 some-awaited i (j ∷ js) h e = absurd (cc)
 
-module _ (c : Coord) (kept : Kept c) (g : ℕ) where
+module _ {script : Script} (c : Coord) (kept : Kept script c) (g : ℕ) where
   -- an answer to its command is awaited
   asked : (i : Node) (cid : Cid) (k : Option Command) → (c.works g).command ≡ k → asks k i cid ≡ true → (stage_of c g ≡ Live) × (is_working_in (c.sessions (c.works g).session.0).state.pending ≡ true)
   asked i cid None q e = absurd (cc)

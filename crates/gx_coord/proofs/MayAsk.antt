@@ -72,7 +72,7 @@ module _ (script : Script) (c : Coord) (h : IsSound script c) (s : SessionId) (i
   waits asked n i = n (subst (λ (x : Session). IsIdle x.state) (session_now asked) i)
 
   -- whose statement doesn't wait has no wait
-  waits-none : (j : ℕ) {o : Option Stmt} → o ≡ None → IsQueued j o c.locks.waits → list_any (is_of (gx j)) c.locks.waits ≡ false
+  waits-none : (j : ℕ) {o : Option Stmt} → o ≡ None → IsQueued script j o c.locks.waits → list_any (is_of (gx j)) c.locks.waits ≡ false
   waits-none j e q = find-none (is_of (gx j)) c.locks.waits (nothing-queued j _ c.locks q e)
 
   -- IN A BLOCK

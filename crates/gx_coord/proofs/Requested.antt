@@ -51,5 +51,5 @@ pub waits-outs : (old : Coord) (g : Gxid) (s : Script) (line : Stmt) (wanted : C
 waits-outs old g s line wanted granted no_ free = ap (λ b. (if_granted s (coord_of old) g line wanted b).outs) (sym no_ ∙ free)
 
 -- by what it asks for
-pub dispatched-by : (s : Script) (c : rule.Coord) (g : Gxid) (line : Stmt) (o : Option Claim) → o ≡ lock_for g line → requests s c g line o ≡ dispatches s c g line
+pub dispatched-by : (s : Script) (c : rule.Coord) (g : Gxid) (line : Stmt) (o : Option Claim) → o ≡ lock_for s g line → requests s c g line o ≡ dispatches s c g line
 dispatched-by s c g line o e = ap (requests s c g line) e

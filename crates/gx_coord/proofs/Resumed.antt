@@ -29,28 +29,28 @@ use Rattle.gx_coord.proofs.Sound.{with_at-same}
 use Rattle.gx_coord.proofs.Turned.{framed-trans, on_behind-turn, script-same}
 
 -- a statement that takes a lock is a command, and stands in the script
-pub locked-command : (g : Gxid) (line : Stmt) (wanted : Claim) → lock_for g line ≡ Some wanted → IsCommand line
-locked-command g (stmt.Select query) wanted e = tt
-locked-command g (stmt.Insert table tuples) wanted e = tt
-locked-command g (stmt.Update table assigns cond) wanted e = tt
-locked-command g (stmt.Delete table cond) wanted e = tt
-locked-command g (stmt.Lock table mode) wanted e = tt
-locked-command g (stmt.Begin level) wanted e = absurd (cc)
-locked-command g stmt.Commit wanted e = absurd (cc)
-locked-command g stmt.Rollback wanted e = absurd (cc)
+pub locked-command : (script : Script) (g : Gxid) (line : Stmt) (wanted : Claim) → lock_for script g line ≡ Some wanted → IsCommand line
+locked-command script g (stmt.Select query) wanted e = tt
+locked-command script g (stmt.Insert table tuples) wanted e = tt
+locked-command script g (stmt.Update table assigns cond) wanted e = tt
+locked-command script g (stmt.Delete table cond) wanted e = tt
+locked-command script g (stmt.Lock table mode) wanted e = tt
+locked-command script g (stmt.Begin level) wanted e = absurd (cc)
+locked-command script g stmt.Commit wanted e = absurd (cc)
+locked-command script g stmt.Rollback wanted e = absurd (cc)
 
-pub locked-inside : (lines : List Line) (place : ℕ) (g : Gxid) (wanted : Claim) → lock_for g (stmt_at lines place) ≡ Some wanted → place < length lines
-locked-inside [] place g wanted e = absurd (cc)
-locked-inside (x ∷ xs) zero g wanted e = omega arith
-locked-inside (x ∷ xs) (suc place) g wanted e = omega (arith, locked-inside xs place g wanted e)
+pub locked-inside : (script : Script) (lines : List Line) (place : ℕ) (g : Gxid) (wanted : Claim) → lock_for script g (stmt_at lines place) ≡ Some wanted → place < length lines
+locked-inside script [] place g wanted e = absurd (cc)
+locked-inside script (x ∷ xs) zero g wanted e = omega arith
+locked-inside script (x ∷ xs) (suc place) g wanted e = omega (arith, locked-inside script xs place g wanted e)
 
 -- who is admitted to go on waits for a lock, and its statement is there
 pub record Wakes (script : Script) (c : rule.Coord) (g : Gxid) : Type 0 where
   pub wanted : Claim
   pub stands : wait_of c.locks g ≡ Some wanted
-  pub statement : HasStatement c g wanted
+  pub statement : HasStatement script c g wanted
 
-who-wakes : (script : Script) (c : rule.Coord) → Kept c → (g : Gxid) → coord_can script c (event.Resume g) ≡ true → Wakes script c g
+who-wakes : (script : Script) (c : rule.Coord) → Kept script c → (g : Gxid) → coord_can script c (event.Resume g) ≡ true → Wakes script c g
 who-wakes script c k g ok = by_wait (wait_of c.locks g) refl ok
   where
     by_wait : (o : Option Claim) → wait_of c.locks g ≡ o → is_ready c.locks.holds o ≡ true → Wakes script c g
@@ -95,14 +95,14 @@ module _ (old mid awake : Coord) (script : Script) (g : Gxid) (sound : IsSound s
     line-is : Some line ≡ (c.works g.0).waiting
     line-is = ap (λ (s : Script). Some (stmt_at s.lines place)) (sym (script-same old mid f1 ∙ same)) ∙ at ∙ ap (λ (k : rule.Coord). (k.works g.0).waiting) e1
 
-    lock : lock_for g line ≡ Some wakes.wanted
-    lock = ap (lock_for g) (some-same line wakes.statement.line (line-is ∙ wakes.statement.is)) ∙ wakes.statement.lock
+    lock : lock_for script g line ≡ Some wakes.wanted
+    lock = ap (lock_for script g) (some-same line wakes.statement.line (line-is ∙ wakes.statement.is)) ∙ wakes.statement.lock
 
     pub wakes-inside : place < length awake.script.value.lines
-    wakes-inside = subst (λ (s : Script). place < length s.lines) (sym script-is) (locked-inside script.lines place g wakes.wanted lock)
+    wakes-inside = subst (λ (s : Script). place < length s.lines) (sym script-is) (locked-inside script script.lines place g wakes.wanted lock)
 
     pub wakes-command : IsCommand (stmt_at awake.script.value.lines place)
-    wakes-command = subst (λ (s : Script). IsCommand (stmt_at s.lines place)) (sym script-is) (locked-command g line wakes.wanted lock)
+    wakes-command = subst (λ (s : Script). IsCommand (stmt_at s.lines place)) (sym script-is) (locked-command script g line wakes.wanted lock)
 
     pub wakes-room : (c.sessions (c.works g.0).session.0).lines < 2 ^ 32 → ((coord_of awake).works g.0).last + 1 < 2 ^ 32
     wakes-room few = subst (λ (k : rule.Coord). (k.works g.0).last + 1 < 2 ^ 32) (sym awake-is) (subst (λ (v : rule.Work). v.last + 1 < 2 ^ 32) (sym work-is) (less (c.works g.0).last _ ((sound.works g.0).room line (sym line-is)) few))

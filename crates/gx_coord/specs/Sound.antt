@@ -48,7 +48,7 @@ abbrev pub AreSound : Coord → Type 0
 AreSound c = (g : ℕ) → IsSoundWork (c.works g) (c.sessions (c.works g).session.0).lines (find_txn c.table (gx g))
 
 pub record IsSound (script : Script) (c : Coord) : Type 0 where
-  pub kept : Kept c
+  pub kept : Kept script c
   pub marks : List Mark
   pub past : Past c marks
   pub inside : CoordIn script c

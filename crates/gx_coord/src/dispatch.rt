@@ -362,10 +362,10 @@ fn go_with_lock(
 
 fn lock_at(coord: &Coord, gxid: Gxid, place: usize) -> Option<Claim>
     requires { place < length coord.now.script.value.lines }
-    ensures value { result ≡ turns.lock_for gxid (stmt_at coord.now.script.value.lines place) }
+    ensures value { result ≡ turns.lock_for coord.now.script.value gxid (stmt_at coord.now.script.value.lines place) }
     ensures own { IfSome result (λ wanted. wanted.gxid ≡ gxid) }
 {
-    lock_for(gxid, line_at(&coord.script, place))
+    lock_for(&coord.script, gxid, line_at(&coord.script, place))
 }
 
 // A command of a transaction takes its table's lock and goes out, or waits.

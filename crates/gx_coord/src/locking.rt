@@ -13,7 +13,8 @@ ghost use Rattle.gx_coord.specs.Locking.{asked};
 use crate::coord::Coord;
 use gx_ids::{Gxid, Mem, Node};
 use gx_modes::Mode;
-use gx_node::claim_on;
+use gx_node::{changing_mode, claim_on};
+use gx_script::Script;
 use gx_store::Mark;
 use gx_tree::Stmt;
 use gx_waits::Claim;
@@ -28,15 +29,15 @@ pub(crate) fn give_back(coord: &mut Coord, gxid: Gxid, marks: &mut Vec<Mark>) ->
 }
 
 // The lock that a command takes on its table.
-pub(crate) fn lock_for(gxid: Gxid, line: &Stmt) -> Option<Claim>
-    ensures value { result ≡ turns.lock_for gxid line.now }
+pub(crate) fn lock_for(script: &Script, gxid: Gxid, line: &Stmt) -> Option<Claim>
+    ensures value { result ≡ turns.lock_for script.now gxid line.now }
     ensures own { IfSome result (λ wanted. wanted.gxid ≡ gxid) }
 {
     match line {
         Stmt::Select(query) => Some(claim_on(gxid, query.table, Mode::AccessShare)),
         Stmt::Insert(table, _) => Some(claim_on(gxid, *table, Mode::RowExclusive)),
-        Stmt::Update(_, _, _) => None,
-        Stmt::Delete(_, _) => None,
+        Stmt::Update(table, _, _) => Some(claim_on(gxid, *table, changing_mode(script))),
+        Stmt::Delete(table, _) => Some(claim_on(gxid, *table, changing_mode(script))),
         Stmt::Lock(table, mode) => Some(claim_on(gxid, *table, *mode)),
         Stmt::Begin(_) => None,
         Stmt::Commit => None,

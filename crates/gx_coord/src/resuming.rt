@@ -54,6 +54,7 @@ pub(crate) fn resume(
         (wait_of coord.old.locks gxid) ((coord_of coord.old).works gxid.0).waiting)) }
     ensures outs { IfOk result (λ outs. outs ≡ (turns.resumes script.now (coord_of coord.old) gxid (wait_of coord.old.locks gxid) ((coord_of coord.old).works gxid.0).waiting).outs) }
 {
+    // Read for its range: its session has started as many lines, so its next command has a number.
     let _lines = lines_of(coord, gxid);
     take_ready(coord, gxid, marks)?;
     match waiting_of(coord, gxid) {
