@@ -7,6 +7,7 @@ use Rattle.gx_ids.specs.declared.ids.Node.{Node}
 use Rattle.std.specs.Prelude.{◌++◌}
 use Rattle.gx_tree.specs.declared.schema.Schema.{Schema}
 use Rattle.gx_tree.specs.declared.slice.Slice.{Slice}
+use Rattle.gx_tree.specs.declared.stmt.Level.{Level}
 use Rattle.gx_dsnap.specs.Gxids.{is_below}
 use Rattle.gx_dsnap.specs.declared.snapshot.Snapshot.{Snapshot}
 use Rattle.gx_dtx.specs.declared.order.Order.{Order}
@@ -22,7 +23,7 @@ use Rattle.gx_node.proofs.Turns.{turn-makes}
 use Rattle.gx_rules.specs.Segments.{Local, Seg, SegTurn, after_marks, local_of, stays, tells_kept}
 use Rattle.gx_store.specs.declared.mark.Mark.{Mark}
 use Rattle.gx_rules.specs.Shown.{kept_of}
-use Rattle.gx_rules.specs.Slices.{runs_slice}
+use Rattle.gx_rules.specs.Running.{runs_slice}
 use Rattle.gx_slices.specs.Agrees.{IsHeld, entry_at, local_in, rows_in}
 use Rattle.gx_slices.specs.Ran.{HasRun}
 use Rattle.gx_slices.specs.declared.held.Held.{Held}
@@ -85,13 +86,13 @@ module _ (o : Order) (s : Seg) (g : Gxid) (fails : Bool) where
 
 -- SLICES
 -- a slice has run behind these marks
-pub HasDone-ran : (tables tables' : List Schema) (held : Held) (s : Seg) (g : Gxid) (c : Cid) (snapshot : Option Snapshot) (slice : Slice) (ran : Ran) (done : Done) (marks : List Mark) → HasRun tables' held g ran (runs_slice s g c snapshot slice) → tables' ≡ tables → done ≡ record { marks = marks ++ ran.marks; answer = answer_of g (Some ran.reply); fails = false } → HasDone tables held s.horizon done (after_marks marks (runs_slice s g c snapshot slice))
-HasDone-ran tables tables' held s g c snapshot slice ran done marks run t d =
-    let turn = runs_slice s g c snapshot slice in
+pub HasDone-ran : (tables tables' : List Schema) (held : Held) (s : Seg) (g : Gxid) (c : Cid) (level : Level) (snapshot : Option Snapshot) (slice : Slice) (ran : Ran) (done : Done) (marks : List Mark) → HasRun tables' held g ran (runs_slice s g c level snapshot slice) → tables' ≡ tables → done ≡ record { marks = marks ++ ran.marks; answer = answer_of g (Some ran.reply); fails = false } → HasDone tables held s.horizon done (after_marks marks (runs_slice s g c level snapshot slice))
+HasDone-ran tables tables' held s g c level snapshot slice ran done marks run t d =
+    let turn = runs_slice s g c level snapshot slice in
     let r : HasRun tables held g ran turn = subst (λ (ts : List Schema). HasRun ts held g ran turn) t run in
     subst (λ (x : Done). HasDone tables held s.horizon x (after_marks marks turn)) (sym d) (record {
       held = r.agrees;
-      horizon = sym (horizon-runs_slice s g c snapshot slice);
+      horizon = sym (horizon-runs_slice s g c level snapshot slice);
       marks = ap (λ (ms : List Mark). marks ++ ms) r.marks;
       outs = sym r.outs;
     })

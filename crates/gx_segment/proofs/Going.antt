@@ -2,16 +2,14 @@
 use Rattle.std.proofs.Common.{◌≡◌, ◌≤◌, Bool, true, false, if◌then◌else◌, List, refl, sym, ap, ◌∙◌, eqb, arith, subst}
 use Rattle.std.proofs.lemmas.Bool.Decides.{nat_tests}
 use Rattle.std.specs.Prelude.{◌&&◌, ◌||◌, is_some, not, nat_le, nat_lt, slice_get}
-use Rattle.std.specs.declared.option.Option.{Option}
 use Rattle.gx_ids.specs.declared.ids.Cid.{Cid}
 use Rattle.gx_ids.specs.declared.ids.Gxid.{Gxid}
 use Rattle.gx_tree.specs.declared.schema.Schema.{Schema}
 use Rattle.gx_tree.specs.declared.slice.Slice.{Slice}
 use Rattle.gx_tree.specs.declared.slice.Slice.TheVariants as slice
-use Rattle.gx_tree.specs.declared.stmt.Level.{Level}
 use Rattle.gx_dsnap.specs.Gxids.{is_below}
-use Rattle.gx_dsnap.specs.declared.snapshot.Snapshot.{Snapshot}
 use Rattle.gx_node.specs.Right.{IsRightFor}
+use Rattle.gx_node.specs.declared.local.Suspended.{Suspended}
 use Rattle.gx_script.specs.declared.Script.{Script}
 use Rattle.gx_rules.specs.AtSegment.{if_fits, on_exec, raised, repeats}
 use Rattle.gx_rules.specs.Fits.{holds_locks, is_right_on, is_right_slice, is_waiting, reads_nothing}
@@ -44,31 +42,34 @@ first : (a b : Bool) → (a && b) ≡ true → a ≡ true
 first true b e = refl
 first false b e = e
 
-module _ (script : Script) (s : Seg) (g : Gxid) (c : Cid) (snapshot : Option Snapshot) (h : Gxid) (sl : Slice) where
+module _ (script : Script) (s : Seg) (g : Gxid) (w : Suspended) (h : Gxid) where
+  abbrev c : Cid
+  c = w.cid
+
   abbrev l : Local
   l = local_of s g
 
   abbrev unless_waits : Bool
   unless_waits = not (nat_lt l.last c.0 && is_waiting l)
 
-  abbrev after : Level → Phase → SegTurn
-  after level p = on_exec s g c level snapshot h sl l p
+  abbrev after : Phase → SegTurn
+  after p = on_exec script s g c w.level w.snapshot h w.slice l p
 
-  again-turn : (level : Level) (b : Bool) → eqb c.0 l.last ≡ b → repeats s g c l ≡ turn_by (if b then Repeats else Nothing) s g c level snapshot h sl
-  again-turn level true e = rw e refl
-  again-turn level false e = rw e refl
+  again-turn : (b : Bool) → eqb c.0 l.last ≡ b → repeats s g c l ≡ turn_by (if b then Repeats else Nothing) script s g w h
+  again-turn true e = rw e refl
+  again-turn false e = rw e refl
 
-  takes-turn : (level : Level) (b : Bool) → nat_lt l.last c.0 ≡ b → after level Reading ≡ turn_by (if b then Runs else again_at l.last c) s g c level snapshot h sl
-  takes-turn level true e = rw e refl
-  takes-turn level false e = rw e (again-turn level (eqb c.0 l.last) refl)
+  takes-turn : (b : Bool) → nat_lt l.last c.0 ≡ b → after Reading ≡ turn_by (if b then Runs else again_at l.last c) script s g w h
+  takes-turn true e = rw e refl
+  takes-turn false e = rw e (again-turn (eqb c.0 l.last) refl)
 
-  way-turn : (level : Level) (p : Phase) → after level p ≡ turn_by (way_in l.last c p) s g c level snapshot h sl
-  way-turn level Reading = takes-turn level (nat_lt l.last c.0) refl
-  way-turn level Writing = takes-turn level (nat_lt l.last c.0) refl
-  way-turn level Prepared = again-turn level (eqb c.0 l.last) refl
-  way-turn level Committed = again-turn level (eqb c.0 l.last) refl
-  way-turn level (Forgotten committed) = refl
-  way-turn level Aborted = refl
+  way-turn : (p : Phase) → after p ≡ turn_by (way_in l.last c p) script s g w h
+  way-turn Reading = takes-turn (nat_lt l.last c.0) refl
+  way-turn Writing = takes-turn (nat_lt l.last c.0) refl
+  way-turn Prepared = again-turn (eqb c.0 l.last) refl
+  way-turn Committed = again-turn (eqb c.0 l.last) refl
+  way-turn (Forgotten committed) = refl
+  way-turn Aborted = refl
 
   low-raised : s.horizon.0 ≤ g.0 → h.0 ≤ g.0 → (raised s h).horizon.0 ≤ g.0
   low-raised alive e = grind (arith, nat_tests)
@@ -77,25 +78,25 @@ module _ (script : Script) (s : Seg) (g : Gxid) (c : Cid) (snapshot : Option Sna
   nobody = each_below h.0 (λ n. not (holds_locks (s.locals n)))
 
   abbrev reads_it : Bool
-  reads_it = is_some snapshot || reads_nothing sl
+  reads_it = is_some w.snapshot || reads_nothing w.slice
 
   abbrev is_right : Bool
-  is_right = is_right_slice script g c sl
+  is_right = is_right_slice script g c w.slice
 
-  low : fits_here script s g c snapshot h sl ≡ true → h.0 ≤ g.0
+  low : fits_here script s g w h ≡ true → h.0 ≤ g.0
   low fits = let t : nat_le h.0 g.0 ≡ true = first (nat_le h.0 g.0) (nobody && (reads_it && (is_right && unless_waits))) fits in grind (arith, nat_tests)
 
-  slice-fits : fits_here script s g c snapshot h sl ≡ true → (reads_it && (is_right && unless_waits)) ≡ true
+  slice-fits : fits_here script s g w h ≡ true → (reads_it && (is_right && unless_waits)) ≡ true
   slice-fits fits = third (nat_le h.0 g.0) nobody (reads_it && (is_right && unless_waits)) fits
 
-  reads : fits_here script s g c snapshot h sl ≡ true → reads_it ≡ true
+  reads : fits_here script s g w h ≡ true → reads_it ≡ true
   reads fits = first reads_it (is_right && unless_waits) (slice-fits fits)
 
-  right : fits_here script s g c snapshot h sl ≡ true → IsRightFor script.tables g c sl true
-  right fits = λ other e. sym (first is_right unless_waits (second reads_it (is_right && unless_waits) (slice-fits fits))) ∙ right-tables script other g c sl e
+  right : fits_here script s g w h ≡ true → IsRightFor script.tables g c w.slice true
+  right fits = λ other e. sym (first is_right unless_waits (second reads_it (is_right && unless_waits) (slice-fits fits))) ∙ right-tables script other g c w.slice e
 
   -- a new command's transaction waits for nothing
-  free : fits_here script s g c snapshot h sl ≡ true → nat_lt l.last c.0 ≡ true → is_waiting l ≡ false
+  free : fits_here script s g w h ≡ true → nat_lt l.last c.0 ≡ true → is_waiting l ≡ false
   free fits new = waits_not (nat_lt l.last c.0) (is_waiting l) new (third reads_it is_right unless_waits (slice-fits fits))
     where
       waits_not : (a b : Bool) → a ≡ true → not (a && b) ≡ true → b ≡ false
@@ -103,18 +104,18 @@ module _ (script : Script) (s : Seg) (g : Gxid) (c : Cid) (snapshot : Option Sna
       waits_not true false e f = refl
       waits_not false b e f = absurd (cc)
 
-  nobody_below : fits_here script s g c snapshot h sl ≡ true → nobody ≡ true
+  nobody_below : fits_here script s g w h ≡ true → nobody ≡ true
   nobody_below fits = first nobody (reads_it && (is_right && unless_waits)) (second (nat_le h.0 g.0) (nobody && (reads_it && (is_right && unless_waits))) fits)
 
-  module _ (alive : s.horizon.0 ≤ g.0) (waits : AreWaits script.tables s) (fits : fits_here script s g c snapshot h sl ≡ true) where
-    again-goes : (b : Bool) → Goes script s g c snapshot h sl (if b then Repeats else Nothing)
+  module _ (alive : s.horizon.0 ≤ g.0) (waits : AreWaits script.tables s) (fits : fits_here script s g w h ≡ true) where
+    again-goes : (b : Bool) → Goes script s g w h (if b then Repeats else Nothing)
     again-goes true = alive
     again-goes false = tt
 
     first_is_new : nat_lt l.last c.0 ≡ true → nat_lt 0 c.0 ≡ true
     first_is_new e = grind (arith, nat_tests)
 
-    takes-goes : is_open l.phase ≡ true → (b : Bool) → nat_lt l.last c.0 ≡ b → Goes script s g c snapshot h sl (if b then Runs else again_at l.last c)
+    takes-goes : is_open l.phase ≡ true → (b : Bool) → nat_lt l.last c.0 ≡ b → Goes script s g w h (if b then Runs else again_at l.last c)
     takes-goes is true e = record {
       may = record { alive = low-raised alive (low fits); open_here = is; free = free fits e; reads = reads fits; right = right fits };
       new = first_is_new e;
@@ -122,7 +123,7 @@ module _ (script : Script) (s : Seg) (g : Gxid) (c : Cid) (snapshot : Option Sna
     }
     takes-goes is false e = again-goes (eqb c.0 l.last)
 
-    way-goes : (p : Phase) → is_open l.phase ≡ is_open p → Goes script s g c snapshot h sl (way_in l.last c p)
+    way-goes : (p : Phase) → is_open l.phase ≡ is_open p → Goes script s g w h (way_in l.last c p)
     way-goes Reading e = takes-goes e (nat_lt l.last c.0) refl
     way-goes Writing e = takes-goes e (nat_lt l.last c.0) refl
     way-goes Prepared e = again-goes (eqb c.0 l.last)
@@ -133,14 +134,14 @@ module _ (script : Script) (s : Seg) (g : Gxid) (c : Cid) (snapshot : Option Sna
   not_below : s.horizon.0 ≤ g.0 → is_below s.horizon g ≡ false
   not_below alive = grind (arith, nat_tests)
 
-  past : (level : Level) → is_below s.horizon g ≡ false → (b : Bool) → fits_here script s g c snapshot h sl ≡ b → exec_turn script s g c level snapshot h sl ≡ if_fits s b (after level l.phase)
-  past level e b f =
-      ap (λ (x : Bool). if x then stays s else if_fits s (fits_here script s g c snapshot h sl) (after level l.phase)) e
-      ∙ ap (λ (x : Bool). if_fits s x (after level l.phase)) f
+  past : is_below s.horizon g ≡ false → (b : Bool) → fits_here script s g w h ≡ b → exec_turn script s g w h ≡ if_fits s b (after l.phase)
+  past e b f =
+      ap (λ (x : Bool). if x then stays s else if_fits s (fits_here script s g w h) (after l.phase)) e
+      ∙ ap (λ (x : Bool). if_fits s x (after l.phase)) f
 
   -- it goes by the transaction's record
-  pub way-held : s.horizon.0 ≤ g.0 → AreWaits script.tables s → fits_here script s g c snapshot h sl ≡ true → (way : Way) → way ≡ way_of l c → IsWay script s g c snapshot h sl way
-  way-held alive waits fits way e = subst (IsWay script s g c snapshot h sl) (sym e) (record {
-    turn = λ level. past level (not_below alive) true fits ∙ way-turn level l.phase;
+  pub way-held : s.horizon.0 ≤ g.0 → AreWaits script.tables s → fits_here script s g w h ≡ true → (way : Way) → way ≡ way_of l c → IsWay script s g w h way
+  way-held alive waits fits way e = subst (IsWay script s g w h) (sym e) (record {
+    turn = past (not_below alive) true fits ∙ way-turn l.phase;
     goes = way-goes alive waits fits l.phase refl;
   })

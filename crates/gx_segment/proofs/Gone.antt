@@ -35,9 +35,10 @@ held-sends tables held s sent clock is = record {
   committed = is.committed;
   typed = is.typed;
   locks = is.locks;
+  owned = is.owned;
   waits = record {
     standing = is.waits.standing;
-    right = λ g w e. let right = is.waits.right g w e in record { alive = right.alive; open_here = right.open_here; came = right.came; reads = right.reads; right = right.right };
+    right = λ g w e. let right = is.waits.right g w e in record { alive = right.alive; open_here = right.open_here; came = right.came; reads = right.reads; right = right.right; at_row = right.at_row };
   };
 }
 

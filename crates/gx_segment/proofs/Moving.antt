@@ -2,14 +2,15 @@
 use Rattle.std.proofs.Common.{◌≡◌, ◌≢◌, ℕ, ◌<◌, ◌≤◌, Bool, true, false, if◌then◌else◌, Option, Some, None, List, map, refl, sym, ap, ◌∙◌, subst, eqb, arith}
 use Rattle.std.proofs.lemmas.Bool.Decides.{nat_tests}
 use Rattle.std.specs.BTreeSet.{contains}
-use Rattle.std.specs.List.{list_any}
+use Rattle.std.specs.List.{list_all, list_any}
 use Rattle.std.specs.Prelude.{◌&&◌, not, nat_lt, is_some, option_map, filter, All, IsTrue}
 use Rattle.gx_ids.specs.declared.ids.Gxid.{Gxid}
 use Rattle.gx_tree.specs.declared.schema.Schema.{Schema}
 use Rattle.gx_dsnap.specs.Gxids.{gxid_cmp}
 use Rattle.gx_slices.specs.Store.{kept_at, passes, status_of}
+use Rattle.gx_waits.specs.declared.claim.Claim.{Claim}
 use Rattle.gx_locks.specs.Claims.{is_of}
-use Rattle.gx_locks.specs.Locks.{Locks}
+use Rattle.gx_locks.specs.Locks.{Locks, wait_of, without}
 use Rattle.gx_node.specs.Changes.{Change, Makes, left_locks}
 use Rattle.gx_node.specs.declared.local.Taken.{Taken}
 use Rattle.gx_rules.specs.Fits.{holds_locks, is_waiting}
@@ -17,10 +18,12 @@ use Rattle.gx_rules.specs.Segments.{Local, Phase, Reading, Writing, Prepared, Co
 use Rattle.gx_rules.specs.Shown.{last_images}
 use Rattle.gx_store.specs.Marks.{is_same_gxid}
 use Rattle.gx_slices.specs.Agrees.{IsHeld, entry_at, has_version, is_of_row, is_right_version, local_in, write_of}
+use Rattle.gx_slices.specs.Owning.{AreOwn, is_for_other, is_own}
 use Rattle.gx_slices.specs.Waiting.{AreWaits, IsRightWait, is_open}
 use Rattle.gx_slices.specs.declared.held.Held.{Held}
 use Rattle.gx_slices.proofs.Gxids.{itself}
-use Rattle.gx_slices.proofs.Waiting.{AreWaits-one, waits-others, waits-without}
+use Rattle.gx_slices.proofs.Owning.{AreOwn-filter}
+use Rattle.gx_slices.proofs.Waiting.{AreWaits-one, find-others, waits-found, waits-without}
 use Rattle.gx_rows.specs.Counts.{is_committed}
 use Rattle.gx_rows.specs.declared.status.LocalStatus.{LocalStatus}
 use Rattle.gx_segment.specs.Moves.{HasMoved, status_in}
@@ -112,12 +115,31 @@ module _ (tables : List Schema) (held held' : Held) (s : Seg) (g : Gxid) (change
   own : now.locals g.0 ≡ change.now
   own = its g (itself g.0)
 
-  left-waits : (h : Gxid) → h.0 ≢ g.0 → (b : Bool) → change.ends ≡ b → list_any (is_of h) now.locks.waits ≡ list_any (is_of h) s.locks.waits
-  left-waits h other b e = ap (λ (x : Locks). list_any (is_of h) x.waits) (makes.locks ∙ ap (λ (a : Bool). left_locks a s.locks g) e) ∙ either b
+  left-waits : (h : Gxid) → h.0 ≢ g.0 → wait_of now.locks h ≡ wait_of s.locks h
+  left-waits h other = ap (λ (x : Locks). wait_of x h) makes.locks ∙ either change.ends
     where
-      either : (a : Bool) → list_any (is_of h) (left_locks a s.locks g).waits ≡ list_any (is_of h) s.locks.waits
-      either true = waits-others g h s.locks.waits other
+      either : (a : Bool) → wait_of (left_locks a s.locks g) h ≡ wait_of s.locks h
+      either true = find-others g h s.locks.waits other
       either false = refl
+
+  -- who has ended waits for nobody
+  for-no-other : is_for_other (wait_of s.locks g) ≡ false → is_for_other (wait_of now.locks g) ≡ false
+  for-no-other e = ap (λ (x : Locks). is_for_other (wait_of x g)) makes.locks ∙ either change.ends
+    where
+      none : (o : Option Claim) → is_some o ≡ false → is_for_other o ≡ false
+      none None f = refl
+      none (Some x) f = absurd (cc)
+
+      either : (a : Bool) → is_for_other (wait_of (left_locks a s.locks g) g) ≡ false
+      either true = none (wait_of (left_locks true s.locks g) g) (sym (waits-found (is_of g) (without g s.locks.waits)) ∙ waits-without g s.locks.waits)
+      either false = e
+
+  left-own : AreOwn now.locks.holds
+  left-own = ap (λ (x : Locks). list_all is_own x.holds) makes.locks ∙ either change.ends
+    where
+      either : (a : Bool) → AreOwn (left_locks a s.locks g).holds
+      either true = AreOwn-filter (λ claim. not (is_of g claim)) s.locks.holds was.owned
+      either false = was.owned
 
   own-waits : Follows (s.locals g.0) change → list_any (is_of g) now.locks.waits ≡ is_waiting (now.locals g.0)
   own-waits follows = ap (λ (x : Locks). list_any (is_of g) x.waits) makes.locks ∙ either change.ends ∙ sym follows.waits ∙ ap is_waiting (sym own)
@@ -150,11 +172,12 @@ module _ (tables : List Schema) (held held' : Held) (s : Seg) (g : Gxid) (change
             came = ap (λ (l : Local). nat_lt 0 l.last) same ∙ right.came;
             reads = right.reads;
             right = right.right;
+            at_row = λ f. for-no-other (right.at_row f);
           }
 
   waits-moved : Follows (s.locals g.0) change → AreWaits tables now
   waits-moved follows =
-      AreWaits-one tables s now g was.waits horizon (λ h other. others h (not_same h other)) (λ h other. left-waits h other change.ends refl) (own-waits follows) (still-right follows)
+      AreWaits-one tables s now g was.waits horizon (λ h other. others h (not_same h other)) left-waits (own-waits follows) (still-right follows)
     where
       not_same : (h : Gxid) → h.0 ≢ g.0 → eqb h.0 g.0 ≡ false
       not_same h other = grind (arith, nat_tests, other)
@@ -172,5 +195,6 @@ module _ (tables : List Schema) (held held' : Held) (s : Seg) (g : Gxid) (change
     committed = λ h. committed-moved h (eqb h.0 g.0) refl ∙ ap (λ (b : Bool). b && has_committed (now.locals h.0).phase) (ap (λ (x : Seg). has_version x h) (sym makes.others));
     typed = subst (λ (vs : List Version). All (λ v. IsTrue (is_right_version tables v)) vs) (sym versions) was.typed;
     locks = left ∙ ap (λ (x : Locks). left_locks change.ends x g) (moved.locks ∙ was.locks) ∙ sym makes.locks;
+    owned = left-own;
     waits = waits-moved follows;
   }

@@ -47,7 +47,7 @@ module _ (tables : List Schema) (s : Seg) (h : Gxid) (was : AreWaits tables s) (
     standing = was.standing;
     right = λ g w e.
         let is = was.right g w e in
-        record { alive = alive-raised g is.alive (above g (open-holds (local_of s g).phase (local_of s g).last is.open_here is.came)); open_here = is.open_here; came = is.came; reads = is.reads; right = is.right };
+        record { alive = alive-raised g is.alive (above g (open-holds (local_of s g).phase (local_of s g).last is.open_here is.came)); open_here = is.open_here; came = is.came; reads = is.reads; right = is.right; at_row = is.at_row };
   }
 
 -- what is held then, from what was done
@@ -76,6 +76,7 @@ module _ (tables : List Schema) (held held' : Held) (s : Seg) (h : Gxid) (was : 
     committed = λ g. of_store (λ x. passes is_committed (status_of x g) ≡ (has_version s g && has_committed (local_of s g).phase)) (was.committed g);
     typed = was.typed;
     locks = locks ∙ was.locks;
+    owned = was.owned;
     waits = waits;
   }
 

@@ -38,7 +38,7 @@ pub(crate) fn find_way(
     requires script { script.now ≡ was.script }
     requires held { IsHeld was.script.tables held.now was.seg }
     requires horizon { horizon ≡ was.seg.horizon }
-    ensures { IsWay was.script was.seg gxid command.now.cid command.now.snapshot low command.now.slice result }
+    ensures { IsWay was.script was.seg gxid command.now low result }
 {
     if gxid < horizon {
         return Way::Nothing;
@@ -54,7 +54,7 @@ fn fits(script: &Script, held: &Held, gxid: Gxid, command: &Suspended, low: Gxid
     requires script { script.now ≡ was.script }
     requires held { IsHeld was.script.tables held.now was.seg }
     requires alive { was.seg.horizon.0 ≤ gxid.0 }
-    ensures { result ≡ fits_here was.script was.seg gxid command.now.cid command.now.snapshot low command.now.slice }
+    ensures { result ≡ fits_here was.script was.seg gxid command.now low }
 {
     low <= gxid
         && is_none_below(&held.holders, low)

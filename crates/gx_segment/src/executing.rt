@@ -6,11 +6,10 @@ ghost use Rattle.gx_dsnap.specs.Gxids.{gxid_cmp};
 ghost use Rattle.gx_slices.specs.Store.{greater};
 ghost use Rattle.gx_rules.specs.AtSegment.{raised};
 ghost use Rattle.gx_rules.specs.Segments.{local_of, tells_kept};
-ghost use Rattle.gx_rules.specs.Slices.{starts_slice};
 ghost use Rattle.gx_slices.specs.Agrees.{IsHeld};
 ghost use Rattle.gx_segment.specs.Before.{Before};
 ghost use Rattle.gx_segment.specs.Done.{HasDone, IsQuiet};
-ghost use Rattle.gx_segment.specs.Ways.{MayStart, exec_turn};
+ghost use Rattle.gx_segment.specs.Ways.{MayStart, exec_turn, starts};
 
 use crate::commands::{Way, find_way};
 use crate::done::{Done, nothing, tell};
@@ -42,8 +41,8 @@ pub(crate) fn exec<G: Gate>(
     requires held { IsHeld was.script.tables held.old was.seg }
     requires horizon { horizon.old ≡ was.seg.horizon }
     requires node { node ≡ was.seg.node }
-    ensures done { IfOk result (λ done. HasDone was.script.tables held.new horizon.new done (exec_turn was.script was.seg gxid command.cid command.level command.snapshot low command.slice)) }
-    ensures quiet { IfOk result (λ done. IsQuiet done (exec_turn was.script was.seg gxid command.cid command.level command.snapshot low command.slice)) }
+    ensures done { IfOk result (λ done. HasDone was.script.tables held.new horizon.new done (exec_turn was.script was.seg gxid command low)) }
+    ensures quiet { IfOk result (λ done. IsQuiet done (exec_turn was.script was.seg gxid command low)) }
 {
     match find_way(script, held, *horizon, gxid, &command, low) {
         Way::Runs => run(alloc, node, script, held, horizon, gxid, command, low, gate),
@@ -92,10 +91,10 @@ fn run<G: Gate>(
     requires script { script.now ≡ was.script }
     requires held { IsHeld was.script.tables held.old was.seg }
     requires horizon { horizon.old ≡ was.seg.horizon }
-    requires may { MayStart was.script.tables (raised was.seg low) gxid command.cid command.snapshot command.slice }
+    requires may { MayStart was.script.tables (raised was.seg low) gxid command }
     requires node { node ≡ was.seg.node }
-    ensures done { IfOk result (λ done. HasDone was.script.tables held.new horizon.new done (starts_slice (raised was.seg low) gxid command.cid command.level command.snapshot command.slice)) }
-    ensures quiet { IfOk result (λ done. IsQuiet done (starts_slice (raised was.seg low) gxid command.cid command.level command.snapshot command.slice)) }
+    ensures done { IfOk result (λ done. HasDone was.script.tables held.new horizon.new done (starts was.script (raised was.seg low) gxid command)) }
+    ensures quiet { IfOk result (λ done. IsQuiet done (starts was.script (raised was.seg low) gxid command)) }
 {
     raise(held, horizon, low);
     let done = start(alloc, node, script, held, gxid, command, gate)?;

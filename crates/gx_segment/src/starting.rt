@@ -1,18 +1,20 @@
 // A slice takes its table's lock and runs, or waits for it; and one that has waited goes on.
-ghost use Rattle.std.specs.Prelude.{◌≡◌, ◌++◌, true, false, nat_lt, None, Some, IfOk, IfSome};
+ghost use Rattle.std.specs.Prelude.{◌≡◌, ◌++◌, true, false, nat_lt, None, Some, IfOk};
 ghost use Rattle.gx_locks.specs.Locks.{is_ready, wait_of};
 ghost use Rattle.gx_rules.specs.AtSegment.{resumes};
 ghost use Rattle.gx_rules.specs.Segments.{after_marks, local_of};
-ghost use Rattle.gx_rules.specs.Slices.{requests, runs_slice, slice_lock, starts_slice};
+ghost use Rattle.gx_rules.specs.Running.{requests, runs_slice, slice_lock};
 ghost use Rattle.gx_slices.specs.Agrees.{IsHeld};
+ghost use Rattle.gx_slices.specs.Owning.{is_own};
 ghost use Rattle.gx_slices.specs.Ran.{MayRun};
 ghost use Rattle.gx_segment.specs.Before.{Before};
 ghost use Rattle.gx_segment.specs.Done.{HasDone, IsQuiet, answer_of};
+ghost use Rattle.gx_segment.specs.Ways.{starts};
 
 use crate::done::{Done, answer};
 use gx_ids::{Gxid, Mem, Node, Seq};
 use gx_modes::Mode;
-use gx_node::{Suspended, ask_for, claim_on, take_ready};
+use gx_node::{Suspended, ask_for, changing_mode, claim_on, take_ready};
 use gx_outside::{Gate, pass};
 use gx_script::Script;
 use gx_slices::{Held, Ran, run_slice, suspend, wake};
@@ -22,16 +24,17 @@ use gx_waits::Claim;
 use std::alloc::Global;
 
 // The lock that a slice takes on its table.
-fn lock_of(gxid: Gxid, slice: &Slice) -> Option<Claim>
-    ensures value { result ≡ slice_lock gxid slice.now }
-    ensures own { IfSome result (λ wanted. wanted.gxid ≡ gxid) }
+fn lock_of(script: &Script, gxid: Gxid, slice: &Slice) -> Claim
+    ensures value { result ≡ slice_lock script.now gxid slice.now }
+    ensures own { result.gxid ≡ gxid }
+    ensures no_other { is_own result ≡ true }
 {
     match slice {
-        Slice::Select(query) => Some(claim_on(gxid, query.table, Mode::AccessShare)),
-        Slice::Insert(table, _) => Some(claim_on(gxid, *table, Mode::RowExclusive)),
-        Slice::Update(_, _, _) => None,
-        Slice::Delete(_, _) => None,
-        Slice::Lock(table, mode) => Some(claim_on(gxid, *table, *mode)),
+        Slice::Select(query) => claim_on(gxid, query.table, Mode::AccessShare),
+        Slice::Insert(table, _) => claim_on(gxid, *table, Mode::RowExclusive),
+        Slice::Update(table, _, _) => claim_on(gxid, *table, changing_mode(script)),
+        Slice::Delete(table, _) => claim_on(gxid, *table, changing_mode(script)),
+        Slice::Lock(table, mode) => claim_on(gxid, *table, *mode),
     }
 }
 
@@ -51,22 +54,11 @@ pub(crate) fn start<G: Gate>(
     requires may { MayRun was.script.tables was.seg gxid command.cid command.snapshot command.slice }
     requires new { nat_lt 0 command.cid.0 ≡ true }
     requires node { node ≡ was.seg.node }
-    ensures done { IfOk result (λ done. HasDone was.script.tables held.new was.seg.horizon done (starts_slice was.seg gxid command.cid command.level command.snapshot command.slice)) }
-    ensures quiet { IfOk result (λ done. IsQuiet done (starts_slice was.seg gxid command.cid command.level command.snapshot command.slice)) }
+    ensures done { IfOk result (λ done. HasDone was.script.tables held.new was.seg.horizon done (starts was.script was.seg gxid command)) }
+    ensures quiet { IfOk result (λ done. IsQuiet done (starts was.script was.seg gxid command)) }
 {
-    match lock_of(gxid, &command.slice) {
-        Some(wanted) => request(alloc, node, script, held, gxid, command, wanted, gate),
-        None => go_on(
-            alloc,
-            node,
-            script,
-            held,
-            gxid,
-            command,
-            gate,
-            Vec::new(alloc),
-        ),
-    }
+    let wanted = lock_of(script, gxid, &command.slice);
+    request(alloc, node, script, held, gxid, command, wanted, gate)
 }
 
 // It asks for its lock.
@@ -86,9 +78,10 @@ fn request<G: Gate>(
     requires may { MayRun was.script.tables was.seg gxid command.cid command.snapshot command.slice }
     requires new { nat_lt 0 command.cid.0 ≡ true }
     requires own { wanted.gxid ≡ gxid }
+    requires no_other { is_own wanted ≡ true }
     requires node { node ≡ was.seg.node }
-    ensures done { IfOk result (λ done. HasDone was.script.tables held.new was.seg.horizon done (requests was.seg gxid command.cid command.level command.snapshot command.slice (Some wanted))) }
-    ensures quiet { IfOk result (λ done. IsQuiet done (requests was.seg gxid command.cid command.level command.snapshot command.slice (Some wanted))) }
+    ensures done { IfOk result (λ done. HasDone was.script.tables held.new was.seg.horizon done (requests was.seg gxid command.cid command.level command.snapshot command.slice wanted)) }
+    ensures quiet { IfOk result (λ done. IsQuiet done (requests was.seg gxid command.cid command.level command.snapshot command.slice wanted)) }
 {
     let mut marks = Vec::new(alloc);
     if ask_for(node, &mut held.locks, wanted, &mut marks)? {
@@ -126,18 +119,12 @@ fn go_on<G: Gate>(
     requires held { IsHeld was.script.tables held.old was.seg }
     requires may { MayRun was.script.tables was.seg gxid command.cid command.snapshot command.slice }
     requires node { node ≡ was.seg.node }
-    ensures done { IfOk result (λ done. HasDone was.script.tables held.new was.seg.horizon done (after_marks marks.items (runs_slice was.seg gxid command.cid command.snapshot command.slice))) }
-    ensures quiet { IfOk result (λ done. IsQuiet done (after_marks marks.items (runs_slice was.seg gxid command.cid command.snapshot command.slice))) }
+    ensures done { IfOk result (λ done. HasDone was.script.tables held.new was.seg.horizon done (after_marks marks.items (runs_slice was.seg gxid command.cid command.level command.snapshot command.slice))) }
+    ensures quiet { IfOk result (λ done. IsQuiet done (after_marks marks.items (runs_slice was.seg gxid command.cid command.level command.snapshot command.slice))) }
 {
     let passed = pass(gate, node);
     let tables = script.tables.as_slice();
-    let Suspended {
-        cid,
-        level: _,
-        snapshot,
-        slice,
-    } = command;
-    let ran = run_slice(alloc, tables, passed, held, gxid, cid, &snapshot, slice)?;
+    let ran = run_slice(alloc, tables, passed, held, gxid, command)?;
     let done = done_of(gxid, marks, ran)?;
     Ok(done)
 }

@@ -19,10 +19,10 @@ go_on-requires g c κs within =
       (
         c.requires.1.0,
         (
-          IsHeld-locked tables held g.was.seg c.args.wanted c.requires.1.1.0 granted now c.if-branch.true asked,
+          IsHeld-locked tables held g.was.seg c.args.wanted c.requires.1.1.0 granted now c.if-branch.true asked c.requires.1.1.1.1.1.1.0,
           (
             MayRun-locked tables held g.was.seg c.args.wanted c.requires.1.1.0 granted now c.if-branch.true asked c.args.gxid c.args.command.cid c.args.command.snapshot c.args.command.slice c.requires.1.1.1.0,
-            c.requires.1.1.1.1.1.1,
+            c.requires.1.1.1.1.1.1.1,
           ),
         ),
       ),
@@ -31,4 +31,4 @@ go_on-requires g c κs within =
 pub returns-in_ok-suspend-clause-done : goal.returns-in_ok-suspend-clause-done
 returns-in_ok-suspend-clause-done g c =
     HasDone-waits g.was.script.tables c.args.held.now c.suspend.new.held g.was.seg c.args.gxid c.args.command c.args.wanted c.in_ok-ask_for.field-0 c.ask_for.new.locks c.args.node c.ask_for.new.marks.items c.waits.result
-    c.requires.1.1.0 c.requires.1.1.1.0 c.requires.1.1.1.1.0 c.requires.1.1.1.1.1.0 c.if-branch.false c.in_ok-ask_for.ensures.locks c.in_ok-ask_for.ensures.granted c.requires.1.1.1.1.1.1 (c.in_ok-ask_for.ensures.marks ∙ ap (λ (ms : List Mark). ms ++ asked_mark c.args.node c.args.wanted c.in_ok-ask_for.field-0 ∷ []) c.new-marks.ensures.items) c.in_ok-suspend.ensures c.waits.ensures
+    c.requires.1.1.0 c.requires.1.1.1.0 c.requires.1.1.1.1.0 c.requires.1.1.1.1.1.0 c.requires.1.1.1.1.1.1.0 c.if-branch.false c.in_ok-ask_for.ensures.locks c.in_ok-ask_for.ensures.granted c.requires.1.1.1.1.1.1.1 (c.in_ok-ask_for.ensures.marks ∙ ap (λ (ms : List Mark). ms ++ asked_mark c.args.node c.args.wanted c.in_ok-ask_for.field-0 ∷ []) c.new-marks.ensures.items) c.in_ok-suspend.ensures c.waits.ensures

@@ -2,6 +2,3 @@ use Rattle.gx_segment.proofs.starting.start.Given as goal
 
 abbrev pub ghost-request : goal.ghost-request
 ghost-request g a = g.was
-
-abbrev pub ghost-go_on : goal.ghost-go_on
-ghost-go_on g a = g.was
