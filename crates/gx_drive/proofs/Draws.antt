@@ -1,9 +1,12 @@
--- Whatever is enabled is due, and admitted unless it is a round, so whatever is drawn; and rounds stand last.
-use Rattle.std.proofs.Common.{◌≡◌, ◌≤◌, ◌<◌, ℕ, zero, suc, ◌+◌, List, [], ◌∷◌, ◌++◌, Bool, true, false, ◌&&◌, ◌||◌, if◌then◌else◌, not, inl, inr, None, Some, refl, sym, ap, ◌∙◌, subst, arith, slice_get}
+-- Whatever may happen is due and admitted, so whatever is first of it, or drawn.
+use Rattle.std.proofs.Common.{◌≡◌, ◌≤◌, ◌<◌, ℕ, zero, suc, ◌+◌, List, [], ◌∷◌, ◌++◌, Bool, true, false, ◌&&◌, ◌||◌, cond, if◌then◌else◌, not, inl, inr, Option, None, Some, refl, sym, ap, ◌∙◌, subst, append-nil, arith, slice_get}
+use Rattle.std.proofs.lemmas.List.Elements.{filter-append}
+use Rattle.std.proofs.lemmas.List.Folds.{list_all-append}
 use Rattle.std.proofs.lemmas.Option.{same_Some}
 use Rattle.std.specs.List.{AllByRecursion, flat_map, list_all, list_any, range_with_len}
-use Rattle.std.specs.Prelude.{filter, map}
-use Rattle.gx_lemmas.proofs.Tests.{and-first, and-second, false-true}
+use Rattle.std.specs.Option.{option_to_list}
+use Rattle.std.specs.Prelude.{IfNone, IfSome, filter, map}
+use Rattle.gx_lemmas.proofs.Tests.{and-first, and-second}
 use Rattle.gx_ids.specs.declared.ids.Node.{Node}
 use Rattle.gx_meaning.specs.Plan.{nodes_from}
 use Rattle.gx_script.specs.declared.Script.{Script}
@@ -13,13 +16,15 @@ use Rattle.gx_store.specs.declared.run.Step.{Step}
 use Rattle.gx_store.specs.Ordered.{IsLink, IsSegment, sent_in}
 use Rattle.gx_store.specs.Points.{marks_in}
 use Rattle.gx_store.specs.Refusals.{the_coordinator}
-use Rattle.gx_store.specs.Schedule.{at_segment, enabled, ends, first_of, gxids_of, is_any_wait, is_graph_awaited, is_left, is_next, is_quiet, is_ready, is_round, is_round_running, is_to_end, left_on, may_resend, resends, resumptions, rounds, segments_of, sessions_of, starts, waits_of}
+use Rattle.gx_store.specs.Schedule.{at_segment, enabled, ends, first_of, gxids_of, is_any_unfinished, is_any_wait, is_graph_awaited, is_left, is_next, is_quiet, is_ready, is_round, is_round_running, is_to_end, left_on, may_resend, resends, resumptions, rounds, segments_of, sessions_of, starts, waits_of}
 use Rattle.gx_store.specs.Waits.{holds_at}
 use Rattle.gx_law_runs.specs.Reached.{IsReached}
 use Rattle.gx_law_runs.specs.Replays.{is_admitted}
 use Rattle.gx_law_runs.proofs.Reaching.{admitted-but-rounds, by-events}
 use Rattle.gx_drive.specs.Agrees.{IsDue, moves_of}
-use Rattle.gx_drive.specs.Ordered.{IsNoneFirst}
+use Rattle.gx_drive.specs.Chosen.{possible}
+use Rattle.gx_drive.specs.Ordered.{IsFirst}
+use Rattle.gx_drive.proofs.Firsts.{first-none}
 
 module _ (P : Event → Type 0) where
   all-append : (xs ys : List Event) → AllByRecursion P xs → AllByRecursion P ys → AllByRecursion P (xs ++ ys)
@@ -56,15 +61,6 @@ module _ (P : Event → Type 0) where
   at-place [] k x all there = absurd (cc)
   at-place (y ∷ ys) zero x all there = subst P (same_Some y x there) all.0
   at-place (y ∷ ys) (suc k) x all there = at-place ys k x all.1 there
-
-all-weaker : (P Q : Event → Type 0) → ((x : Event) → P x → Q x) → (xs : List Event) → AllByRecursion P xs → AllByRecursion Q xs
-all-weaker P Q f [] h = tt
-all-weaker P Q f (x ∷ xs) h = (f x h.0, all-weaker P Q f xs h.1)
-
--- where rounds stand behind what is none and the first is one, all are
-last-rounds : (xs ys : List Event) → AllByRecursion (λ x. is_round x ≡ false) xs → list_all is_round ys ≡ true → list_all is_round (first_of (xs ++ ys)) ≡ true → list_all is_round (xs ++ ys) ≡ true
-last-rounds [] ys none all first = all
-last-rounds (x ∷ xs) ys none all first = absurd (false-true (sym none.0 ∙ and-first (is_round x) true first))
 
 passes-at : (p : Event → Bool) (xs : List Event) (k : ℕ) (x : Event) → list_all p xs ≡ true → slice_get xs k ≡ Some x → p x ≡ true
 passes-at p [] k x all there = absurd (cc)
@@ -109,10 +105,17 @@ module _ (script : Script) (steps : List Step) where
       by true false = all-append IsPlain again [] again-plain tt
       by false graph = tt
 
-  abbrev before_rounds : List Event
-  before_rounds = moves_of script steps ++ flat_map (resends script steps) (segments_of script) ++ starts script steps ++ ends script steps
+  plain-kept : (xs : List Event) → ArePlain xs → filter (λ event. not (is_round event)) xs ≡ xs
+  plain-kept [] all = refl
+  plain-kept (x ∷ xs) all =
+      ap (λ (b : Bool). cond (not b) (x ∷ filter (λ event. not (is_round event)) xs) (filter (λ event. not (is_round event)) xs)) all.0.1
+      ∙ ap (λ (ys : List Event). x ∷ ys) (plain-kept xs all.1)
 
-  all-plain : ArePlain before_rounds
+  -- all that is enabled up to the rounds
+  abbrev up_to_rounds : List Event
+  up_to_rounds = moves_of script steps ++ flat_map (resends script steps) (segments_of script) ++ starts script steps ++ ends script steps
+
+  all-plain : ArePlain up_to_rounds
   all-plain =
       all-append IsPlain (from ++ at ++ here ++ again ++ starts script steps) (ends script steps)
       (all-append IsPlain (from ++ at ++ here ++ again) (starts script steps)
@@ -141,31 +144,57 @@ module _ (script : Script) (steps : List Step) where
       within : (a n : ℕ) → a < 1 + n → a ≤ n
       within a n h = omega (arith, h)
 
-  all-rounds : (list_all is_round (rounds script steps) ≡ true) × AllByRecursion (IsDue script steps) (rounds script steps)
-  all-rounds = by (script.detector && (not (is_round_running steps) && is_any_wait script (marks_in steps)))
+  no-round-left : filter (λ event. not (is_round event)) (rounds script steps) ≡ []
+  no-round-left = by (script.detector && (not (is_round_running steps) && is_any_wait script (marks_in steps)))
     where
-      by : (b : Bool) → (list_all is_round (if b then Round ∷ [] else []) ≡ true) × AllByRecursion (IsDue script steps) (if b then Round ∷ [] else [])
-      by true = (refl, (tt, tt))
-      by false = (refl, tt)
+      by : (b : Bool) → filter (λ event. not (is_round event)) (if b then Round ∷ [] else []) ≡ []
+      by true = refl
+      by false = refl
 
-  pub none-taken : list_all is_round (first_of (enabled script steps)) ≡ true → IsNoneFirst script steps
-  none-taken first = last-rounds before_rounds (rounds script steps) (all-weaker IsPlain (λ x. is_round x ≡ false) (λ x p. p.1) before_rounds all-plain) all-rounds.0 first
+  -- rounds stand last, so without them the rest is left
+  pub possible-is : possible script steps ≡ up_to_rounds
+  possible-is =
+      filter-append (λ event. not (is_round event)) up_to_rounds (rounds script steps)
+      ∙ ap (λ xs. xs ++ filter (λ event. not (is_round event)) (rounds script steps)) (plain-kept up_to_rounds all-plain)
+      ∙ ap (λ ys. up_to_rounds ++ ys) no-round-left
+      ∙ append-nil up_to_rounds
 
-  pub drawn-due : (k : ℕ) (e : Event) → slice_get (enabled script steps) k ≡ Some e → IsDue script steps e
-  drawn-due k e there =
-      at-place (IsDue script steps) (enabled script steps) k e
-      (all-append (IsDue script steps) before_rounds (rounds script steps) (all-weaker IsPlain (IsDue script steps) (λ x p. p.0) before_rounds all-plain) all-rounds.1) there
+  plain-there : (k : ℕ) (e : Event) → slice_get (possible script steps) k ≡ Some e → IsPlain e
+  plain-there k e there = at-place IsPlain up_to_rounds k e all-plain (ap (λ es. slice_get es k) (sym possible-is) ∙ there)
+
+  pub drawn-due : (k : ℕ) (e : Event) → slice_get (possible script steps) k ≡ Some e → IsDue script steps e
+  drawn-due k e there = (plain-there k e there).0
+
+  pub drawn-is : (o : Option Event) (k : ℕ) → o ≡ slice_get (possible script steps) k → IfSome o (λ e. slice_get (possible script steps) k ≡ Some e)
+  drawn-is None k is = tt
+  drawn-is (Some e) k is = sym is
+
+  -- WHAT IS FIRST
+  pub first-is : (o : Option Event) → is_any_unfinished script steps ≡ true → option_to_list o ≡ first_of (possible script steps) → IfSome o (IsFirst script steps)
+  first-is None unfinished first = tt
+  first-is (Some e) unfinished first = record { unfinished = unfinished; first = sym first }
+
+  pub first-nothing : (o : Option Event) → option_to_list o ≡ first_of (possible script steps) → IfNone o (possible script steps ≡ [])
+  first-nothing None first = first-none (possible script steps) (sym first)
+  first-nothing (Some e) first = tt
+
+  -- a round, or admitted
+  abbrev may : Event → Bool
+  may x = is_round x || is_admitted script steps x
 
   module _ (some : 1 ≤ script.segments) (is : IsReached script steps) where
-    pub drawn-admitted : (k : ℕ) (e : Event) → slice_get (enabled script steps) k ≡ Some e → is_round e ≡ false → is_admitted script steps e ≡ true
-    drawn-admitted k e there plain =
-        sym (ap (λ b. b || is_admitted script steps e) plain)
-        ∙ passes-at (λ x. is_round x || is_admitted script steps x) (enabled script steps) k e
-        (by-events script steps is (λ ss. list_all (λ x. is_round x || is_admitted script ss x) (enabled script ss) ≡ true) (admitted-but-rounds script some)) there
+    all-may : list_all may (enabled script steps) ≡ true
+    all-may = by-events script steps is (λ ss. list_all (λ x. is_round x || is_admitted script ss x) (enabled script ss) ≡ true) (admitted-but-rounds script some)
 
-    -- what is first is so too
-    pub first-admitted : (e : Event) → first_of (enabled script steps) ≡ e ∷ [] → is_round e ≡ false → is_admitted script steps e ≡ true
-    first-admitted e first plain = drawn-admitted 0 e (place (enabled script steps) first) plain
+    pub drawn-admitted : (k : ℕ) (e : Event) → slice_get (possible script steps) k ≡ Some e → is_admitted script steps e ≡ true
+    drawn-admitted k e there =
+        sym (ap (λ b. b || is_admitted script steps e) (plain-there k e there).1)
+        ∙ passes-at may up_to_rounds k e (and-first (list_all may up_to_rounds) (list_all may (rounds script steps)) (sym (list_all-append may up_to_rounds (rounds script steps)) ∙ all-may))
+        (ap (λ es. slice_get es k) (sym possible-is) ∙ there)
+
+    pub first-admitted : (o : Option Event) → option_to_list o ≡ first_of (possible script steps) → IfSome o (λ e. is_admitted script steps e ≡ true)
+    first-admitted None first = tt
+    first-admitted (Some e) first = drawn-admitted 0 e (place (possible script steps) (sym first))
       where
         place : (xs : List Event) → first_of xs ≡ e ∷ [] → slice_get xs 0 ≡ Some e
         place [] h = absurd (cc)

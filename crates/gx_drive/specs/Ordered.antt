@@ -1,6 +1,5 @@
 -- The run of the ordered driver.
-use Rattle.std.specs.Prelude.{◌≡◌, ◌≤◌, ◌<◌, ℕ, ◌+◌, ◌-◌, ◌^◌, min, ◌∷◌, [], true, false, List, length, map, slice_get, Some}
-use Rattle.std.specs.List.{list_all}
+use Rattle.std.specs.Prelude.{◌≡◌, ◌≤◌, ◌+◌, ◌-◌, ◌^◌, min, ◌∷◌, [], true, List, map, slice_get, Some}
 use Rattle.gx_ids.specs.declared.ids.Node.{Node}
 use Rattle.gx_msg.specs.ItemBytes.{bytes_of_item}
 use Rattle.gx_outside.specs.Shelves.{Shelf}
@@ -9,20 +8,14 @@ use Rattle.gx_store.specs.declared.event.Event.{Event}
 use Rattle.gx_store.specs.declared.run.Step.{Step}
 use Rattle.gx_store.specs.Journals.{items_of}
 use Rattle.gx_store.specs.Points.{marks_in}
-use Rattle.gx_store.specs.Schedule.{enabled, first_of, is_any_unfinished, is_round}
+use Rattle.gx_store.specs.Schedule.{first_of, is_any_unfinished}
 use Rattle.gx_law_runs.specs.Failures.{failures_in}
-use Rattle.gx_drive.specs.Chosen.{AreChosen}
-use Rattle.gx_drive.specs.declared.end.End.{End}
-use Rattle.gx_drive.specs.declared.end.End.TheVariants.{Done, Stuck, Turns}
+use Rattle.gx_drive.specs.Chosen.{AreChosen, possible}
 
--- a session is unfinished, and the event is the first of what is enabled
+-- a session is unfinished, and the event is the first that may happen
 pub record IsFirst (script : Script) (before : List Step) (event : Event) : Type 0 where
   pub unfinished : is_any_unfinished script before ≡ true
-  pub first : first_of (enabled script before) ≡ event ∷ []
-
--- nothing is enabled but rounds, which no node takes yet
-abbrev pub IsNoneFirst : Script → List Step → Type 0
-IsNoneFirst script steps = list_all is_round (enabled script steps) ≡ true
+  pub first : first_of (possible script before) ≡ event ∷ []
 
 -- each step does what is first where the steps before it have led
 abbrev pub AreFirst : Script → List Step → List Step → Type 0
@@ -36,10 +29,3 @@ AreHeld steps shelves = (node : Node) (shelf : Shelf) → slice_get shelves node
 abbrev pub AreFailuresFew : List Step → List Shelf → List Shelf → Type 0
 AreFailuresFew steps before after =
     (node : Node) (b a : Shelf) → slice_get before node.0 ≡ Some b → slice_get after node.0 ≡ Some a → min (failures_in node (marks_in steps) + b.faults) (2 ^ 64 - 1) ≤ a.faults
-
--- How it ended: no session is unfinished, or there are as many steps as turns and some session is, or turns are left, some session is
--- and the driver is stuck.
-abbrev pub IsEnd : (List Step → Type 0) → Script → List Step → ℕ → End → Type 0
-IsEnd stuck script steps turns Done = is_any_unfinished script steps ≡ false
-IsEnd stuck script steps turns Turns = (length steps ≡ turns) × (is_any_unfinished script steps ≡ true)
-IsEnd stuck script steps turns Stuck = (length steps < turns) × (is_any_unfinished script steps ≡ true) × stuck steps

@@ -10,10 +10,11 @@ ghost use Rattle.gx_store.specs.Language.{IsScript};
 ghost use Rattle.gx_store.specs.declared.event.Event.TheVariants.{Receive};
 ghost use Rattle.gx_store.specs.declared.run.Step.{Step as OneStep};
 ghost use Rattle.gx_store.specs.Ordered.{IsLink};
-ghost use Rattle.gx_store.specs.Schedule.{enabled, ends, first_of, left_on, resends, rounds, segments_of, starts};
+ghost use Rattle.gx_store.specs.Schedule.{ends, first_of, left_on, resends, segments_of, starts};
 ghost use Rattle.gx_drive.specs.Agrees.{IsAgreed, IsDue, moves_of};
+ghost use Rattle.gx_drive.specs.Chosen.{possible};
 
-use crate::ends::first_end_or_round;
+use crate::ends::first_end;
 use crate::moves::first_move;
 use gx_agenda::{Asked, Cursors, Queue};
 use gx_ids::{Mem, Node};
@@ -47,13 +48,13 @@ impl Agenda {
         })
     }
 
-    /// The first of what is enabled; none where nothing is.
+    /// The first that may happen; none where nothing may.
     pub fn first(&self, world: &World) -> Mem<Option<Event>>
         requires usable { world.now.spent ≡ false }
         requires language { IsScript world.now.script }
         requires reached { IsReached world.now.script world.now.run.steps }
         requires agreed { IsAgreed world.now.script world.now.run.steps self.now }
-        ensures first { IfOk result (λ event. option_to_list event ≡ first_of (enabled world.now.script world.now.run.steps)) }
+        ensures first { IfOk result (λ event. option_to_list event ≡ first_of (possible world.now.script world.now.run.steps)) }
         ensures due { IfOk result (λ event. IfSome event (IsDue world.now.script world.now.run.steps)) }
     {
         match first_move(&self.cursors, world) {
@@ -62,7 +63,7 @@ impl Agenda {
         }
     }
 
-    // What is sent again, where no node does anything by itself, or else what a session does, or else a round.
+    // What is sent again, where no node does anything by itself, or else what a session does.
     fn asked_for(&self, world: &World) -> Mem<Option<Event>>
         requires usable { world.now.spent ≡ false }
         requires language { IsScript world.now.script }
@@ -70,7 +71,7 @@ impl Agenda {
         requires agreed { IsAgreed world.now.script world.now.run.steps self.now }
         requires none { first_of (moves_of world.now.script world.now.run.steps) ≡ [] }
         ensures first { IfOk result (λ event. option_to_list event ≡ first_of (flat_map (resends world.now.script world.now.run.steps) (segments_of world.now.script)
-            ++ starts world.now.script world.now.run.steps ++ ends world.now.script world.now.run.steps ++ rounds world.now.script world.now.run.steps)) }
+            ++ starts world.now.script world.now.run.steps ++ ends world.now.script world.now.run.steps)) }
         ensures due { IfOk result (λ event. IfSome event (IsDue world.now.script world.now.run.steps)) }
     {
         match self.asked.first() {
@@ -82,18 +83,17 @@ impl Agenda {
         }
     }
 
-    // The first line, or else the first end of a session, or else a round.
+    // The first line, or else the first end of a session.
     fn begun(&self, world: &World) -> Mem<Option<Event>>
         requires usable { world.now.spent ≡ false }
         requires reached { IsReached world.now.script world.now.run.steps }
         requires agreed { IsAgreed world.now.script world.now.run.steps self.now }
-        ensures first { IfOk result (λ event. option_to_list event ≡ first_of (starts world.now.script world.now.run.steps
-            ++ ends world.now.script world.now.run.steps ++ rounds world.now.script world.now.run.steps)) }
+        ensures first { IfOk result (λ event. option_to_list event ≡ first_of (starts world.now.script world.now.run.steps ++ ends world.now.script world.now.run.steps)) }
         ensures due { IfOk result (λ event. IfSome event (IsDue world.now.script world.now.run.steps)) }
     {
         match self.queue.first() {
             Some(session) => Ok(Some(Event::Start(session))),
-            None => first_end_or_round(world),
+            None => first_end(world),
         }
     }
 

@@ -1,16 +1,13 @@
 // What the words of a seed draw.
-ghost use Rattle.std.specs.Prelude.{◌≡◌, ◌%◌, true, false, length, slice_get, Some, IfNone, IfOk, IfSome};
-ghost use Rattle.std.specs.List.{list_all};
-ghost use Rattle.std.specs.Option.{option_to_list};
+ghost use Rattle.std.specs.Prelude.{◌≡◌, ◌%◌, [], true, false, length, slice_get, Some, IfNone, IfOk, IfSome};
 ghost use Rattle.gx_law_runs.specs.Reached.{IsReached};
 ghost use Rattle.gx_law_runs.specs.Replays.{is_admitted};
 ghost use Rattle.gx_store.specs.Language.{IsScript};
-ghost use Rattle.gx_store.specs.Schedule.{enabled, is_round};
 ghost use Rattle.gx_drive.specs.Agrees.{IsAgreed, IsDue};
+ghost use Rattle.gx_drive.specs.Chosen.{possible};
 ghost use Rattle.gx_drive.specs.Seeded.{seeded};
 
 use crate::agenda::Agenda;
-use crate::turn::taken;
 use gx_ids::Mem;
 use gx_store::Event;
 use gx_world::World;
@@ -28,7 +25,8 @@ pub(crate) fn generator_of(seed: u64) -> Xoshiro256PlusPlus
 
 // The event that a word draws among these, if there are any.
 fn drawn(events: &[Event], word: u64) -> Option<Event>
-    ensures { result ≡ slice_get events.now (word % length events.now) }
+    ensures is { result ≡ slice_get events.now (word % length events.now) }
+    ensures none { IfNone result (events.now ≡ []) }
 {
     if events.is_empty() {
         return None;
@@ -36,7 +34,7 @@ fn drawn(events: &[Event], word: u64) -> Option<Event>
     Some(events[(word % events.len() as u64) as usize])
 }
 
-// The event that a word draws among all that is enabled; none where nothing is, or it draws a round.
+// The event that a word draws among all that may happen; none where nothing may.
 pub(crate) fn drawn_event(
     alloc: Global,
     world: &World,
@@ -47,12 +45,11 @@ pub(crate) fn drawn_event(
     requires language { IsScript world.now.script }
     requires reached { IsReached world.now.script world.now.run.steps }
     requires agreed { IsAgreed world.now.script world.now.run.steps agenda.now }
-    ensures drawn { IfOk result (λ event. IfSome event (λ e. slice_get (enabled world.now.script world.now.run.steps) (word % length (enabled world.now.script world.now.run.steps)) ≡ Some e)) }
+    ensures drawn { IfOk result (λ event. IfSome event (λ e. slice_get (possible world.now.script world.now.run.steps) (word % length (possible world.now.script world.now.run.steps)) ≡ Some e)) }
     ensures due { IfOk result (λ event. IfSome event (IsDue world.now.script world.now.run.steps)) }
     ensures admitted { IfOk result (λ event. IfSome event (λ e. is_admitted world.now.script world.now.run.steps e ≡ true)) }
-    ensures stuck { IfOk result (λ event. IfNone event (list_all is_round (option_to_list
-        (slice_get (enabled world.now.script world.now.run.steps) (word % length (enabled world.now.script world.now.run.steps)))) ≡ true)) }
+    ensures stuck { IfOk result (λ event. IfNone event (possible world.now.script world.now.run.steps ≡ [])) }
 {
-    let events = agenda.enabled(alloc, world)?;
-    Ok(taken(drawn(events.as_slice(), word)))
+    let events = agenda.possible(alloc, world)?;
+    Ok(drawn(events.as_slice(), word))
 }

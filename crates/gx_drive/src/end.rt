@@ -5,6 +5,6 @@ pub enum End {
     Done,
     /// All turns were taken, and some session is unfinished.
     Turns,
-    /// Turns are left and some session is unfinished, but what comes next is nothing, or a round of the detector, which no node takes yet.
+    /// Turns are left and some session is unfinished, but nothing may happen.
     Stuck,
 }

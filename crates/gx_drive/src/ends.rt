@@ -1,8 +1,8 @@
-// The ends of sessions, and rounds, which stand behind them.
-ghost use Rattle.std.specs.Prelude.{◌≡◌, ◌<◌, ◌++◌, false, IfOk, IfSome};
+// The ends of sessions.
+ghost use Rattle.std.specs.Prelude.{◌≡◌, ◌<◌, false, IfOk, IfSome};
 ghost use Rattle.std.specs.Option.{option_to_list};
 ghost use Rattle.gx_law_runs.specs.Reached.{IsReached};
-ghost use Rattle.gx_store.specs.Schedule.{ends, first_of, rounds};
+ghost use Rattle.gx_store.specs.Schedule.{ends, first_of};
 ghost use Rattle.gx_store.specs.declared.event.Event.TheVariants.{End};
 ghost use Rattle.gx_drive.specs.Agrees.{IsDue};
 
@@ -18,7 +18,7 @@ pub(crate) fn end_of(place: usize) -> Event
 }
 
 // The first session that is to be ended.
-fn first_end(world: &World) -> Mem<Option<Event>>
+pub(crate) fn first_end(world: &World) -> Mem<Option<Event>>
     requires usable { world.now.spent ≡ false }
     requires reached { IsReached world.now.script world.now.run.steps }
     ensures first { IfOk result (λ event. option_to_list event ≡ first_of (ends world.now.script world.now.run.steps)) }
@@ -31,31 +31,4 @@ fn first_end(world: &World) -> Mem<Option<Event>>
         }
     }
     Ok(None)
-}
-
-// A round begins where the script has a detector and somebody waits.
-pub(crate) fn round(world: &World) -> Option<Event>
-    requires usable { world.now.spent ≡ false }
-    requires reached { IsReached world.now.script world.now.run.steps }
-    ensures first { option_to_list result ≡ rounds world.now.script world.now.run.steps }
-    ensures due { IfSome result (IsDue world.now.script world.now.run.steps) }
-{
-    if world.script().detector && world.any_wait() {
-        Some(Event::Round)
-    } else {
-        None
-    }
-}
-
-// The first end, or else a round.
-pub(crate) fn first_end_or_round(world: &World) -> Mem<Option<Event>>
-    requires usable { world.now.spent ≡ false }
-    requires reached { IsReached world.now.script world.now.run.steps }
-    ensures first { IfOk result (λ event. option_to_list event ≡ first_of (ends world.now.script world.now.run.steps ++ rounds world.now.script world.now.run.steps)) }
-    ensures due { IfOk result (λ event. IfSome event (IsDue world.now.script world.now.run.steps)) }
-{
-    match first_end(world)? {
-        Some(event) => Ok(Some(event)),
-        None => Ok(round(world)),
-    }
 }

@@ -1,4 +1,4 @@
-//! The drivers of a script in a fixed order and by a seed: each does one of what is enabled, until no session is unfinished, its turns are spent, or no node takes what comes next.
+//! The drivers of a script in a fixed order and by a seed: each does one of what may happen, until no session is unfinished, its turns are spent, or nothing may happen.
 #![tactic(auto)]
 
 pub mod agenda;

@@ -1,4 +1,4 @@
-// All that is enabled, point by point in the order of the schedule.
+// All that may happen, point by point in the order of the schedule.
 ghost use Rattle.std.specs.Prelude.{◌≡◌, ◌<◌, ◌++◌, ◌==◌, ◌∷◌, [], false, length, IfOk, OnOk, if◌then◌else◌};
 ghost use Rattle.std.specs.List.{flat_map};
 ghost use Rattle.std.specs.Option.{option_to_list};
@@ -7,12 +7,13 @@ ghost use Rattle.gx_law_runs.specs.Reached.{IsReached};
 ghost use Rattle.gx_store.specs.Language.{IsScript};
 ghost use Rattle.gx_store.specs.Ordered.{IsLink, IsSegment};
 ghost use Rattle.gx_store.specs.Refusals.{the_coordinator};
-ghost use Rattle.gx_store.specs.Schedule.{at_segment, enabled, ends, first_of, is_quiet, is_to_end, left_on, resends, segments_of};
+ghost use Rattle.gx_store.specs.Schedule.{at_segment, ends, first_of, is_quiet, is_to_end, left_on, resends, segments_of};
 ghost use Rattle.gx_store.specs.declared.event.Event.TheVariants.{End};
 ghost use Rattle.gx_drive.specs.Agrees.{IsAgreed};
+ghost use Rattle.gx_drive.specs.Chosen.{possible};
 
 use crate::agenda::Agenda;
-use crate::ends::{end_of, round};
+use crate::ends::end_of;
 use crate::links::delivery;
 use crate::moves::{resumption, segment_move};
 use gx_agenda::Cursors;
@@ -22,14 +23,14 @@ use gx_world::World;
 use std::alloc::Global;
 
 impl Agenda {
-    /// All that is enabled, in the order of the schedule. It looks once at each link and each node, at each answer that is awaited of a segment on whose links nothing is left, at
+    /// All that may happen, in the order of the schedule. It looks once at each link and each node, at each answer that is awaited of a segment on whose links nothing is left, at
     /// each line that is its session's next, and at each session.
-    pub fn enabled(&self, alloc: Global, world: &World) -> Mem<Vec<Event>>
+    pub fn possible(&self, alloc: Global, world: &World) -> Mem<Vec<Event>>
         requires usable { world.now.spent ≡ false }
         requires language { IsScript world.now.script }
         requires reached { IsReached world.now.script world.now.run.steps }
         requires agreed { IsAgreed world.now.script world.now.run.steps self.now }
-        ensures { IfOk result (λ events. events.items ≡ enabled world.now.script world.now.run.steps) }
+        ensures { IfOk result (λ events. events.items ≡ possible world.now.script world.now.run.steps) }
     {
         let mut events = Vec::new(alloc);
         push_from(&self.cursors, world, &mut events)?;
@@ -38,7 +39,6 @@ impl Agenda {
         push_resends(self, world, &mut events)?;
         self.queue.push_starts(&mut events)?;
         push_ends(world, &mut events)?;
-        push_option(round(world), &mut events)?;
         Ok(events)
     }
 }

@@ -2,7 +2,8 @@ ghost use Rattle.std.specs.Prelude.{◌≡◌, ◌≤◌, [], false, if◌then�
 ghost use Rattle.gx_store.specs.Schedule.{is_any_unfinished};
 ghost use Rattle.gx_outside.specs.Shelves.{AreEmpty};
 ghost use Rattle.gx_law_runs.specs.Reached.{IsReached};
-ghost use Rattle.gx_drive.specs.Ordered.{AreFailuresFew, AreFirst, AreHeld, IsEnd, IsNoneFirst};
+ghost use Rattle.gx_drive.specs.Ends.{IsEnd};
+ghost use Rattle.gx_drive.specs.Ordered.{AreFailuresFew, AreFirst, AreHeld};
 ghost use Rattle.gx_drive.specs.declared.end.End.TheVariants.{Done, Turns};
 
 use crate::agenda::Agenda;
@@ -13,8 +14,8 @@ use gx_outside::{Gate, Journal};
 use gx_world::World;
 use std::alloc::Global;
 
-/// Runs a new world by the ordered schedule: it does the first of what is enabled at each turn, until no session is unfinished, so
-/// many turns were taken, or nothing is enabled but rounds. The journals are those of the coordinator and 16 segments, and hold
+/// Runs a new world by the ordered schedule: it does the first that may happen at each turn, until no session is unfinished, so
+/// many turns were taken, or nothing may happen. The journals are those of the coordinator and 16 segments, and hold
 /// nothing. Besides the step itself a turn costs the logarithm of what is under way, and a look at each link, node and session until
 /// one has what is first.
 pub fn run_ordered<J: Journal, G: Gate>(
@@ -33,7 +34,7 @@ pub fn run_ordered<J: Journal, G: Gate>(
     ensures script { world.new.script ≡ world.old.script }
     ensures first { AreFirst world.old.script [] world.new.run.steps }
     ensures failures { AreFailuresFew world.new.run.steps (map J.shelf journals.old) (map J.shelf journals.new) }
-    ensures end { IfOk result (IsEnd (IsNoneFirst world.old.script) world.old.script world.new.run.steps turns) }
+    ensures end { IfOk result (IsEnd world.old.script world.new.run.steps turns) }
     ensures held { OnOk result (AreHeld world.new.run.steps (map J.shelf journals.new)) }
     ensures unspent { OnOk result (world.new.spent ≡ false) }
 {

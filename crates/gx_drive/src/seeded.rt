@@ -1,7 +1,8 @@
 ghost use Rattle.std.specs.Prelude.{◌≡◌, ◌≤◌, [], false, IfOk, OnOk, length, map};
 ghost use Rattle.gx_outside.specs.Shelves.{AreEmpty};
-ghost use Rattle.gx_drive.specs.Ordered.{AreFailuresFew, AreHeld, IsEnd};
-ghost use Rattle.gx_drive.specs.Seeded.{AreDrawn, IsNoneDrawn};
+ghost use Rattle.gx_drive.specs.Ends.{IsEnd};
+ghost use Rattle.gx_drive.specs.Ordered.{AreFailuresFew, AreHeld};
+ghost use Rattle.gx_drive.specs.Seeded.{AreDrawn};
 
 use crate::agenda::Agenda;
 use crate::drawing::{drawn_event, generator_of};
@@ -14,10 +15,10 @@ use gx_world::World;
 use rand_core::utils::NextWord;
 use std::alloc::Global;
 
-/// Runs a new world by a seed, until no session is unfinished, so many turns were taken, or the seed draws a round or from nothing: at
-/// each turn it draws a word of the generator and does the event whose place among all that is enabled is what is left of the word by
-/// their number. The journals are those of the coordinator and 16 segments, and hold nothing. Besides the step itself a turn costs a
-/// list of what is enabled: a look at each link, node and session, and what it holds.
+/// Runs a new world by a seed, until no session is unfinished, so many turns were taken, or nothing may happen: at each turn it draws
+/// a word of the generator and does the event whose place among all that may happen is what is left of the word by their number. The
+/// journals are those of the coordinator and 16 segments, and hold nothing. Besides the step itself a turn costs a list of what may
+/// happen: a look at each link, node and session, and what it holds.
 pub fn run_seeded<J: Journal, G: Gate>(
     alloc: Global,
     world: &mut World,
@@ -35,7 +36,7 @@ pub fn run_seeded<J: Journal, G: Gate>(
     ensures script { world.new.script ≡ world.old.script }
     ensures drawn { AreDrawn world.old.script seed [] world.new.run.steps }
     ensures failures { AreFailuresFew world.new.run.steps (map J.shelf journals.old) (map J.shelf journals.new) }
-    ensures end { IfOk result (IsEnd (IsNoneDrawn world.old.script seed) world.old.script world.new.run.steps turns) }
+    ensures end { IfOk result (IsEnd world.old.script world.new.run.steps turns) }
     ensures held { OnOk result (AreHeld world.new.run.steps (map J.shelf journals.new)) }
     ensures unspent { OnOk result (world.new.spent ≡ false) }
 {

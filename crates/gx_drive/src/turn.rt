@@ -1,16 +1,16 @@
-// One turn: an event that is enabled is done.
+// One turn: an event that may happen is done.
 ghost use Rattle.std.specs.Prelude.{◌≡◌, ◌<◌, ◌^◌, ◌++◌, ◌∷◌, [], List, Some, true, false, IfNone, IfOk, IfSome, OnOk, length, map, option_copied};
-ghost use Rattle.std.specs.List.{list_all};
 ghost use Rattle.std.specs.Option.{option_to_list};
 ghost use Rattle.gx_agenda.specs.Awaited.{told_in};
-ghost use Rattle.gx_store.specs.Schedule.{is_any_unfinished, is_round};
+ghost use Rattle.gx_store.specs.Schedule.{is_any_unfinished};
 ghost use Rattle.gx_outside.specs.Shelves.{Shelf};
 ghost use Rattle.gx_law_runs.specs.Reached.{IsReached};
 ghost use Rattle.gx_law_runs.specs.Replays.{is_admitted};
 ghost use Rattle.gx_store.specs.Language.{IsScript};
 ghost use Rattle.gx_store.specs.declared.run.Step.{Step as OneStep};
 ghost use Rattle.gx_drive.specs.Agrees.{HasTurned, IsAgreed, IsDue, IsNoMore};
-ghost use Rattle.gx_drive.specs.Ordered.{AreFailuresFew, IsFirst, IsNoneFirst};
+ghost use Rattle.gx_drive.specs.Chosen.{possible};
+ghost use Rattle.gx_drive.specs.Ordered.{AreFailuresFew, IsFirst};
 
 use crate::agenda::Agenda;
 use gx_ids::Mem;
@@ -19,7 +19,7 @@ use gx_outside::{Gate, Journal};
 use gx_store::Event;
 use gx_world::World;
 
-// What is first, where a session is unfinished; none where that is nothing or a round.
+// What is first, where a session is unfinished; none where nothing may happen.
 pub(crate) fn next_event(world: &World, agenda: &Agenda) -> Mem<Option<Event>>
     requires usable { world.now.spent ≡ false }
     requires language { IsScript world.now.script }
@@ -29,25 +29,9 @@ pub(crate) fn next_event(world: &World, agenda: &Agenda) -> Mem<Option<Event>>
     ensures first { IfOk result (λ event. IfSome event (IsFirst world.now.script world.now.run.steps)) }
     ensures due { IfOk result (λ event. IfSome event (IsDue world.now.script world.now.run.steps)) }
     ensures admitted { IfOk result (λ event. IfSome event (λ e. is_admitted world.now.script world.now.run.steps e ≡ true)) }
-    ensures stuck { IfOk result (λ event. IfNone event (IsNoneFirst world.now.script world.now.run.steps)) }
+    ensures stuck { IfOk result (λ event. IfNone event (possible world.now.script world.now.run.steps ≡ [])) }
 {
-    let event = agenda.first(world)?;
-    Ok(taken(event))
-}
-
-// The event, unless it is a round, which no node takes yet.
-pub(crate) fn taken(event: Option<Event>) -> Option<Event>
-    ensures plain { IfSome result (λ e. (event ≡ Some e) × (is_round e ≡ false)) }
-    ensures stuck { IfNone result (list_all is_round (option_to_list event) ≡ true) }
-{
-    let event = event?;
-    if is_round(&event) { None } else { Some(event) }
-}
-
-fn is_round(event: &Event) -> bool
-    ensures { result ≡ is_round event.now }
-{
-    matches!(event, Event::Round)
+    agenda.first(world)
 }
 
 // The message that an event received.

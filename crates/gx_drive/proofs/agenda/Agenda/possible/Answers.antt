@@ -1,0 +1,11 @@
+use Rattle.std.proofs.Common.{◌++◌, ◌∙◌, ap, rules, sym}
+use Rattle.gx_drive.proofs.Draws.{possible-is}
+use Rattle.gx_drive.proofs.Pushed.{pieces}
+use Rattle.gx_drive.proofs.agenda.Agenda.possible.Goals as goal
+
+pub returns : goal.returns
+returns c =
+    pieces _ _ _ _ _ _ c.new-events.result.items _ _ _ _ _ _ (search rules) c.in_ok-push_from.ensures c.in_ok-push_segment_moves.ensures
+    (c.in_ok-push_option.ensures ∙ ap (λ xs. c.push_segment_moves.new.events.items ++ xs) c.resumption.ensures.first) c.in_ok-push_resends.ensures
+    (c.in_ok-push_starts.ensures c.args.world.now.script c.args.world.now.run.steps c.requires.agreed.queue) c.in_ok-push_ends.ensures
+    ∙ sym (possible-is c.args.world.now.script c.args.world.now.run.steps)
