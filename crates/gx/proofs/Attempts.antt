@@ -5,8 +5,8 @@ use Rattle.std.specs.declared.string.String.{String}
 use Rattle.gx_words.specs.declared.options.Options.{Options}
 use Rattle.gx.specs.Form.{is_of_form}
 use Rattle.gx_script.specs.declared.Script.{Script}
-use Rattle.gx.specs.declared.attempt.Attempt.{Attempt}
-use Rattle.gx.specs.declared.attempt.Attempt.TheVariants.{Done, Stopped, Stuck, Usage, Refused, ReadFault, TooLarge, NotBuilt, OutOfMemory}
+use Rattle.gx_told.specs.declared.attempt.Attempt.{Attempt}
+use Rattle.gx_told.specs.declared.attempt.Attempt.TheVariants.{Done, Stopped, Stuck, Usage, Refused, ReadFault, TooLarge, NotBuilt, OutOfMemory}
 use Rattle.gx.specs.Top.{AreAsked, IsAttempt, IsRan, IsRead}
 
 module _ (words : List (String Global)) (left after : Option (List ℕ)) (before now : ℕ) (options : Options) (asked : AreAsked words options) where

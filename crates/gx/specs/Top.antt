@@ -25,28 +25,22 @@ use Rattle.gx_store.specs.Runs.{IsLegalHistory}
 use Rattle.gx_store.specs.View.{AreFinalFrom}
 use Rattle.gx_store.specs.Whole.{AreInsertsWhole}
 use Rattle.gx_rules.specs.System.{IsSystemRun}
-use Rattle.gx_store.specs.Schedule.{is_any_unfinished}
 use Rattle.gx_law_locks.specs.Legal.{AreLocksLegal}
 use Rattle.gx_law_runs.specs.Endings.{IsFinished}
 use Rattle.gx_law_commit.specs.Told.{DoStepsTell}
-use Rattle.gx_drive.specs.Ordered.{AreFailuresFew, AreFirst, AreHeld, IsNoneFirst}
-use Rattle.gx_drive.specs.Seeded.{AreDrawn, IsNoneDrawn}
-use Rattle.gx.specs.declared.top.Report.{Report}
-use Rattle.gx.specs.declared.attempt.Attempt.{Attempt}
-use Rattle.gx.specs.declared.attempt.Attempt.TheVariants.{Done, Stopped, Stuck, Usage, Refused, ReadFault, TooLarge, NotBuilt, OutOfMemory}
+use Rattle.gx_drive.specs.Ends.{IsEnd}
+use Rattle.gx_drive.specs.Ordered.{AreFailuresFew, AreFirst, AreHeld}
+use Rattle.gx_drive.specs.Seeded.{AreDrawn}
+use Rattle.gx_drive.specs.declared.end.End.TheVariants as end
+use Rattle.gx_told.specs.Told.{no_run, usage}
+use Rattle.gx_told.specs.declared.attempt.Attempt.{Attempt}
+use Rattle.gx_told.specs.declared.attempt.Attempt.TheVariants.{Done, Stopped, Stuck, Usage, Refused, ReadFault, TooLarge, NotBuilt, OutOfMemory}
 use Rattle.gx.specs.Refused.{refusal_text}
 use Rattle.gx_report.specs.Text.{stopped_text, text_of}
 
 -- the most bytes of a script
 abbrev pub limit : ℕ
 limit = 16777216
-
--- the line that says how the program is used
-abbrev pub usage : List ℕ
-usage = codes "usage: gx [--seed N] [--threads] [--trace] [--turns N] [--gen N]\n"
-
-abbrev pub no_run : Run
-no_run = record { steps = [] }
 
 -- the words ask for what is built: a script that is read
 abbrev pub is_plain : Options → Bool
@@ -70,15 +64,10 @@ pub record AreOther (words : List (String Global)) : Type 0 where
 abbrev pub traced : Bool → Script → Run → List ℕ
 traced trace script run = if trace then trace_of script run else []
 
--- each event is the one among all that is enabled then that the seed draws, or the first of these where no seed is given
+-- each event is the one among all that may happen then that the seed draws, or the first of these where no seed is given
 abbrev pub AreDriven : Option ℕ → Script → List Step → Type 0
 AreDriven None script steps = AreFirst script [] steps
 AreDriven (Some seed) script steps = AreDrawn script seed [] steps
-
--- the driver has no event that a node takes
-abbrev pub IsStuckBy : Option ℕ → Script → List Step → Type 0
-IsStuckBy None script steps = IsNoneFirst script steps
-IsStuckBy (Some seed) script steps = IsNoneDrawn script seed steps
 
 -- The run is a legal history of one store without segments. Its nodes follow their rules and the commit protocol, its messages are
 -- numbered, follow what they tell of, and arrive after they were sent, clocks rise, its locks are legal, and each event is the one
@@ -92,10 +81,11 @@ pub record IsRunOf (script : Script) (seed : Option ℕ) (run : Run) : Type 0 wh
   pub locks : AreLocksLegal script run.steps
   pub driven : AreDriven seed script run.steps
 
--- every line was answered in it, every block is closed, every transaction has ended, these are the tables at its end, and the text is that of
--- both, and the run's own behind it where that is asked for
+-- No session is unfinished: every line was answered in it, every block is closed, every transaction has ended. These are the tables at its
+-- end, and the text is that of both, and the run's own behind it where that is asked for.
 pub record IsWholeRunOf (script : Script) (options : Options) (run : Run) (text : List ℕ) : Type 0 where
   pub is : IsRunOf script options.seed run
+  pub ended : IsEnd script run.steps options.turns end.Done
   pub over : IsFinished script run
   pub tables : List (Vec KeyedRow Global)
   pub all : length tables ≡ length script.tables
@@ -105,17 +95,13 @@ pub record IsWholeRunOf (script : Script) (options : Options) (run : Run) (text 
 -- all turns were taken, a session is unfinished, and the text is that of the answers so far, and the run's own where that is asked for
 pub record IsStoppedRunOf (script : Script) (options : Options) (run : Run) (text : List ℕ) : Type 0 where
   pub is : IsRunOf script options.seed run
-  pub all : length run.steps ≡ options.turns
-  pub unfinished : is_any_unfinished script run.steps ≡ true
+  pub ended : IsEnd script run.steps options.turns end.Turns
   pub told : text ≡ stopped_text script run ++ traced options.trace script run
 
--- Turns are left and a session is unfinished, but the driver's next event is none, or a round of the detector, which isn't built yet. In the
--- fixed order nothing else is enabled then.
+-- turns are left and a session is unfinished, but nothing may happen, but for a round of the detector, which isn't built yet
 pub record IsStuckRunOf (script : Script) (options : Options) (run : Run) : Type 0 where
   pub is : IsRunOf script options.seed run
-  pub left : length run.steps < options.turns
-  pub unfinished : is_any_unfinished script run.steps ≡ true
-  pub stuck : IsStuckBy options.seed script run.steps
+  pub ended : IsEnd script run.steps options.turns end.Stuck
 
 -- nothing was run, or a part of a run of the script
 abbrev pub IsPartOf : Script → Option ℕ → Run → Type 0
@@ -266,43 +252,6 @@ IsAttempt words left after before now TooLarge = IsForScript words × IsTooMuch 
 IsAttempt words left after before now NotBuilt = AreOther words ⊎ IsOther words left after
 IsAttempt words left after before now (OutOfMemory run) = IsPartRun words left after run
 
--- its run; nothing was run where there is none
-abbrev pub run_in : Attempt → Run
-run_in (Done run text) = run
-run_in (Stopped run text) = run
-run_in (Stuck run) = run
-run_in (OutOfMemory run) = run
-run_in _ = no_run
-
--- the status that tells it
-abbrev pub status_in : Attempt → ℕ
-status_in (Done run text) = 0
-status_in (Stopped run text) = 7
-status_in (Stuck run) = 10
-status_in Usage = 2
-status_in (Refused text) = 3
-status_in ReadFault = 4
-status_in TooLarge = 9
-status_in NotBuilt = 10
-status_in (OutOfMemory run) = 6
-
--- the text that tells it; none where memory ran out
-abbrev pub text_in : Attempt → List ℕ
-text_in (Done run text) = text.items
-text_in (Stopped run text) = text.items
-text_in (Stuck run) = codes "not built\n"
-text_in (Refused text) = text.items
-text_in Usage = usage
-text_in ReadFault = codes "read fault\n"
-text_in TooLarge = codes "too large\n"
-text_in NotBuilt = codes "not built\n"
-text_in (OutOfMemory run) = []
-
--- it came to an end, or else memory ran out
-abbrev pub is_over : Attempt → Bool
-is_over (OutOfMemory run) = false
-is_over _ = true
-
 -- what became of the journals: no node has more JournalFailed marks than its journal's count has risen, and where the work came to its end each journal
 -- holds the items that the marks of its node stand for, and nothing else
 pub record AreKept (steps : List Step) (over : Bool) (before after : List Shelf) : Type 0 where
@@ -314,16 +263,6 @@ pub record IsWritten (IsText : List ℕ → Type 0) (written after : Option (Lis
   pub text : List ℕ
   pub is : IsText text
   pub all : Appends written after text
-
--- a text was written, or it was a write fault and a part of the text from its front was
-pub record IsTold (status : ℕ) (run : Run) (text : List ℕ) (written after : Option (List ℕ)) (before now : ℕ) (report : Report) : Type 0 where
-  pub same : report.run ≡ run
-  pub ended : ((report.status ≡ status) × Appends written after text) ⊎ ((report.status ≡ 5) × (Rose before now × WritesPrefix written after text))
-
--- what the work came to was told: by its text, or by its status alone where memory ran out
-abbrev pub IsToldOf : Attempt → Option (List ℕ) → Option (List ℕ) → ℕ → ℕ → Report → Type 0
-IsToldOf (OutOfMemory run) written after before now report = (report.status ≡ 6) × (report.run ≡ run) × (after ≡ written)
-IsToldOf attempt written after before now report = IsTold (status_in attempt) (run_in attempt) (text_in attempt) written after before now report
 
 abbrev pub IsStatus : ℕ → Type 0
 IsStatus n = ((((((((n ≡ 0) ⊎ (n ≡ 2)) ⊎ (n ≡ 3)) ⊎ (n ≡ 4)) ⊎ (n ≡ 5)) ⊎ (n ≡ 6)) ⊎ (n ≡ 7)) ⊎ (n ≡ 9)) ⊎ (n ≡ 10)

@@ -3,7 +3,8 @@ ghost use Rattle.std.specs.Prelude.{◌≡◌, Err, IfOk, length, map};
 ghost use Rattle.gx_outside.specs.Shelves.{AreEmpty};
 ghost use Rattle.gx_words.specs.declared.options.Options.{Options as Asked};
 ghost use Rattle.gx.specs.declared.attempt.Unasked.TheVariants as unasked;
-ghost use Rattle.gx.specs.Top.{AreAsked, AreKept, AreOther, AreUnknown, IsAttempt, IsRefusedFor, is_over, is_plain, run_in};
+ghost use Rattle.gx.specs.Top.{AreAsked, AreKept, AreOther, AreUnknown, IsAttempt, IsRefusedFor, is_plain};
+ghost use Rattle.gx_told.specs.Told.{is_over, run_in};
 
 use crate::form::is_of_form;
 use crate::refused::refusal_text;
@@ -11,26 +12,12 @@ use crate::running::run_script;
 use gx_outside::{Gate, Journal, ReadFault, Source, read_up_to};
 use gx_sql::{Refusal, parse_script};
 use gx_store::Run;
+use gx_told::Attempt;
 use gx_words::{Options, WordsFault, read_words};
 use std::alloc::Global;
 
 // The most bytes of a script.
 const LIMIT: usize = 16_777_216;
-
-/// How the work before the writing ended: with a run and its text, with one that stopped once its turns were taken, with one that
-/// can't go on, with words that aren't in the language, with the text of a refusal, or with neither.
-#[derive(Drop)]
-pub enum Attempt {
-    Done(Run, Vec<u8>),
-    Stopped(Run, Vec<u8>),
-    Stuck(Run),
-    Usage,
-    Refused(Vec<u8>),
-    ReadFault,
-    TooLarge,
-    NotBuilt,
-    OutOfMemory(Run),
-}
 
 // Whether the words ask for what is built: a script that is read.
 fn is_plain(options: &Options) -> bool

@@ -1,14 +1,14 @@
 // Running a script that was read, and telling its run.
-ghost use Rattle.std.specs.Prelude.{◌≡◌, ◌≤◌, ◌<◌, ◌++◌, [], true, false, IfOk, length, map};
+ghost use Rattle.std.specs.Prelude.{◌≡◌, ◌≤◌, ◌++◌, [], false, IfOk, length, map};
 ghost use Rattle.gx_store.specs.Whole.{AreInsertsWhole};
-ghost use Rattle.gx_drive.specs.Ordered.{IsEnd};
-ghost use Rattle.gx_store.specs.Schedule.{is_any_unfinished};
+ghost use Rattle.gx_drive.specs.Ends.{IsEnd};
+ghost use Rattle.gx_drive.specs.declared.end.End.TheVariants.{Done, Stuck, Turns};
 ghost use Rattle.gx_outside.specs.Shelves.{AreEmpty};
 ghost use Rattle.gx_store.specs.Language.{IsScript};
 ghost use Rattle.gx_report.specs.Text.{stopped_text as of_stopped};
-ghost use Rattle.gx.specs.Top.{AreDriven, AreKept, IsRan, IsStuckBy, IsWholeRunOf, is_over, run_in, traced};
+ghost use Rattle.gx.specs.Top.{AreDriven, AreKept, IsRan, IsWholeRunOf, traced};
+ghost use Rattle.gx_told.specs.Told.{is_over, run_in};
 
-use crate::attempt::Attempt;
 use crate::driving::drive;
 use gx_drive::End;
 use gx_ids::Mem;
@@ -16,6 +16,7 @@ use gx_outside::{Gate, Journal};
 use gx_report::{push_trace, text, text_of_stopped};
 use gx_script::Script;
 use gx_store::Run;
+use gx_told::Attempt;
 use gx_words::Options;
 use gx_world::World;
 use std::alloc::Global;
@@ -54,7 +55,7 @@ fn ended(alloc: Global, world: World, options: Options, end: End) -> Attempt
     requires language { IsScript world.script }
     requires inserts { AreInsertsWhole world.script.tables world.script.lines }
     requires driven { AreDriven options.seed world.script world.run.steps }
-    requires ended { IsEnd (IsStuckBy options.seed world.script) world.script world.run.steps options.turns end }
+    requires ended { IsEnd world.script world.run.steps options.turns end }
     ensures ran { IsRan world.script options result }
     ensures run { run_in result ≡ world.run }
 {
@@ -70,7 +71,7 @@ fn finished(alloc: Global, world: World, options: Options) -> Attempt
     requires language { IsScript world.script }
     requires inserts { AreInsertsWhole world.script.tables world.script.lines }
     requires driven { AreDriven options.seed world.script world.run.steps }
-    requires over { is_any_unfinished world.script world.run.steps ≡ false }
+    requires ended { IsEnd world.script world.run.steps options.turns Done }
     ensures ran { IsRan world.script options result }
     ensures run { run_in result ≡ world.run }
 {
@@ -85,7 +86,7 @@ fn finished_text(alloc: Global, world: &World, options: Options) -> Mem<Vec<u8>>
     requires language { IsScript world.now.script }
     requires inserts { AreInsertsWhole world.now.script.tables world.now.script.lines }
     requires driven { AreDriven options.seed world.now.script world.now.run.steps }
-    requires over { is_any_unfinished world.now.script world.now.run.steps ≡ false }
+    requires ended { IsEnd world.now.script world.now.run.steps options.turns Done }
     ensures { IfOk result (λ text. IsWholeRunOf world.now.script options world.now.run text.items) }
 {
     let tables = world.final_tables()?;
@@ -108,8 +109,7 @@ fn stopped(alloc: Global, world: World, options: Options) -> Attempt
     requires language { IsScript world.script }
     requires inserts { AreInsertsWhole world.script.tables world.script.lines }
     requires driven { AreDriven options.seed world.script world.run.steps }
-    requires all { length world.run.steps ≡ options.turns }
-    requires unfinished { is_any_unfinished world.script world.run.steps ≡ true }
+    requires ended { IsEnd world.script world.run.steps options.turns Turns }
     ensures ran { IsRan world.script options result }
     ensures run { run_in result ≡ world.run }
 {
@@ -124,9 +124,7 @@ fn stuck(world: World, _options: Options) -> Attempt
     requires language { IsScript world.script }
     requires inserts { AreInsertsWhole world.script.tables world.script.lines }
     requires driven { AreDriven _options.seed world.script world.run.steps }
-    requires left { length world.run.steps < _options.turns }
-    requires unfinished { is_any_unfinished world.script world.run.steps ≡ true }
-    requires stuck { IsStuckBy _options.seed world.script world.run.steps }
+    requires ended { IsEnd world.script world.run.steps _options.turns Stuck }
     ensures ran { IsRan world.script _options result }
     ensures run { run_in result ≡ world.run }
 {

@@ -3,52 +3,12 @@ ghost use Rattle.std.specs.Prelude.{◌≡◌, ◌≢◌, length, map};
 ghost use Rattle.gx_drive.specs.Ordered.{AreFailuresFew, AreHeld};
 ghost use Rattle.gx_outside.specs.Shelves.{AreEmpty};
 ghost use Rattle.gx_words.specs.declared.options.Options.{Options as Asked};
-ghost use Rattle.gx.specs.Top.{AreAsked, IsCutShort, IsDone, IsDue, IsOfLanguage, IsPartRun, IsReadFault, IsRefused, IsStatus, IsStopped, IsTold, IsToldOf, IsTooLarge, IsUnbuilt, IsUsage, IsWritten};
+ghost use Rattle.gx.specs.Top.{AreAsked, IsCutShort, IsDone, IsDue, IsOfLanguage, IsPartRun, IsReadFault, IsRefused, IsStatus, IsStopped, IsTooLarge, IsUnbuilt, IsUsage, IsWritten};
 
-use crate::attempt::{Attempt, make_attempt};
-use gx_outside::{Failed, Gate, Journal, Sink, Source, write_whole};
-use gx_store::Run;
+use crate::attempt::make_attempt;
+use gx_outside::{Gate, Journal, Sink, Source};
+use gx_told::{Report, told_of};
 use std::alloc::Global;
-
-/// What a call did: its status, and the run that it made. 0 is done, 2 words that aren't in the language, 3 a refused script, 4 a read fault, 5 a write fault, 6
-/// want of memory, 7 a run that took all its turns, 9 too many bytes, and 10 a form that isn't built yet, or a run whose next event is none, or one that isn't built.
-#[derive(Drop)]
-pub struct Report {
-    pub status: u8,
-    pub run: Run,
-}
-
-// Writes the text of an ending with this status.
-fn told<K: Sink>(status: u8, run: Run, text: &[u8], sink: &mut K) -> Report
-    ensures { IsTold status run text.now (K.written sink.old) (K.written sink.new) (K.fault_count sink.old) (K.fault_count sink.new) result }
-{
-    match write_whole(sink, text) {
-        Ok(()) => Report { status, run },
-        Err(Failed) => Report { status: 5, run },
-    }
-}
-
-// Tells what the work came to.
-fn told_of<K: Sink>(alloc: Global, attempt: Attempt, sink: &mut K) -> Report
-    ensures { IsToldOf attempt (K.written sink.old) (K.written sink.new) (K.fault_count sink.old) (K.fault_count sink.new) result }
-{
-    match attempt {
-        Attempt::Done(run, text) => told(0, run, text.as_slice(), sink),
-        Attempt::Stopped(run, text) => told(7, run, text.as_slice(), sink),
-        Attempt::Usage => told(
-            2,
-            Run::new(alloc),
-            b"usage: gx [--seed N] [--threads] [--trace] [--turns N] [--gen N]\n",
-            sink,
-        ),
-        Attempt::Refused(text) => told(3, Run::new(alloc), text.as_slice(), sink),
-        Attempt::ReadFault => told(4, Run::new(alloc), b"read fault\n", sink),
-        Attempt::TooLarge => told(9, Run::new(alloc), b"too large\n", sink),
-        Attempt::NotBuilt => told(10, Run::new(alloc), b"not built\n", sink),
-        Attempt::Stuck(run) => told(10, run, b"not built\n", sink),
-        Attempt::OutOfMemory(run) => Report { status: 6, run },
-    }
-}
 
 /// Reads a script from the source, runs it, and writes the text of its run to the sink, which is built whole before the
 /// first write. The words are those of the command line behind the program's name. The journals are those of the coordinator and of 16
@@ -89,7 +49,8 @@ pub fn run_gx<S: Source, K: Sink, J: Journal, G: Gate>(
 
     ensures too_large { result.status ≡ 9 → IsWritten (IsTooLarge words.now (S.left source.old) (S.left source.new) result.run) (K.written sink.old) (K.written sink.new) }
 
-    // The words or the script ask for what isn't built, and nothing was run; or what the driver would do next is nothing, or a round of the detector.
+    // The words or the script ask for what isn't built, and nothing was run; or turns are left and a session is unfinished, but nothing may happen,
+    // but for a round of the detector.
     ensures not_built { result.status ≡ 10 → IsWritten (IsUnbuilt words.now (S.left source.old) (S.left source.new) result.run) (K.written sink.old) (K.written sink.new) }
 
     // Nothing is read unless the words ask for a script that is read.

@@ -1,4 +1,4 @@
-use Rattle.std.proofs.Common.{◌∙◌, ◌++◌, ℕ, List, ap}
+use Rattle.std.proofs.Common.{◌∙◌, ◌++◌, ℕ, List, ap, refl}
 use Rattle.gx_report.specs.Text.{text_of}
 use Rattle.gx_store.specs.declared.run.Run.{Run}
 use Rattle.gx_drive.proofs.Answers.{if_ok}
@@ -11,7 +11,8 @@ returns c =
     if_ok c.with_trace.result _ _ c.with_trace.ensures
     (λ all behind. record {
       is = run-of c.args.world.now.script c.args.options.seed c.args.world.now.run c.requires.language c.requires.inserts c.run.ensures.reached c.requires.driven;
-      over = finished c.args.world.now.script c.args.world.now.run.steps c.requires.language c.run.ensures.reached c.requires.over;
+      ended = c.requires.ended;
+      over = finished c.args.world.now.script c.args.world.now.run.steps c.requires.language c.run.ensures.reached (c.requires.ended.done.0 refl);
       tables = c.in_ok-tables.tables.items;
       all = c.in_ok-tables.ensures.all;
       final = c.in_ok-tables.ensures.rows;
