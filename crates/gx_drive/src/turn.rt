@@ -1,6 +1,5 @@
 // One turn: an event that may happen is done.
 ghost use Rattle.std.specs.Prelude.{◌≡◌, ◌<◌, ◌^◌, ◌++◌, ◌∷◌, [], List, Some, true, false, IfNone, IfOk, IfSome, OnOk, length, map, option_copied};
-ghost use Rattle.std.specs.Option.{option_to_list};
 ghost use Rattle.gx_agenda.specs.Awaited.{told_in};
 ghost use Rattle.gx_store.specs.Schedule.{is_any_unfinished};
 ghost use Rattle.gx_outside.specs.Shelves.{Shelf};
