@@ -98,7 +98,7 @@ pub record IsStoppedRunOf (script : Script) (options : Options) (run : Run) (tex
   pub ended : IsEnd script run.steps options.turns end.Turns
   pub told : text ≡ stopped_text script run ++ traced options.trace script run
 
--- turns are left and a session is unfinished, but nothing may happen, but for a round of the detector, which isn't built yet
+-- turns are left, a session is unfinished, and nothing may happen (but a round of the detector, which isn't built yet)
 pub record IsStuckRunOf (script : Script) (options : Options) (run : Run) : Type 0 where
   pub is : IsRunOf script options.seed run
   pub ended : IsEnd script run.steps options.turns end.Stuck

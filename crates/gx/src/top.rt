@@ -49,8 +49,8 @@ pub fn run_gx<S: Source, K: Sink, J: Journal, G: Gate>(
 
     ensures too_large { result.status ≡ 9 → IsWritten (IsTooLarge words.now (S.left source.old) (S.left source.new) result.run) (K.written sink.old) (K.written sink.new) }
 
-    // The words or the script ask for what isn't built, and nothing was run; or turns are left and a session is unfinished, but nothing may happen,
-    // but for a round of the detector.
+    // The words or the script ask for what isn't built, and nothing was run; or turns are left, a session is unfinished, and nothing may happen (but a
+    // round of the detector).
     ensures not_built { result.status ≡ 10 → IsWritten (IsUnbuilt words.now (S.left source.old) (S.left source.new) result.run) (K.written sink.old) (K.written sink.new) }
 
     // Nothing is read unless the words ask for a script that is read.
