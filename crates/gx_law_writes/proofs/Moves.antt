@@ -325,8 +325,7 @@ module _ (script : Script) (numbered : AreLinesNumbered [] script.lines) (w : Wo
       pub insert-move : How → Move script ms w.steps e (at i) s (after_marks lead (inserts g c (length rows) (inserted b g c table rows)))
       insert-move how =
           answered-move script numbered ms w.steps e i s kept g c fresh b on named lead silent m
-          (rows-follow how rows 1 (starts_from b) rows-ok.0 rows-ok.1 (none-so-far script ms w.steps e b g (stop_nexts s g c None) lead) (subst (Behind g c 1) (sym (append-nil lead)) behind)) _
-          (
+          (rows-follow how rows 1 (starts_from b) rows-ok.0 rows-ok.1 (none-so-far script ms w.steps e b g (stop_nexts s g c None) lead) (subst (Behind g c 1) (sym (append-nil lead)) behind)) _ (
             lt-next refl,
             record {
               level = level;

@@ -60,7 +60,7 @@ module _ (script : Script) (w : machine.World) (good : Well script w) (i : ℕ) 
   not-waiting : (g : Gxid) (wanted : Claim) → wait_of (w.segs i).locks g ≡ Some wanted → ⊥
   not-waiting g wanted e = not-linked x.come.letter.from x.come.letter.to x.come.target (each-among (IsLetter script w.steps) w.sent x.come.letter good.letters x.come.among).link
     where
-      has : HasSlice (w.segs i) g wanted
+      has : HasSlice script (w.segs i) g wanted
       has = has-slice script w good i g wanted e
 
       x : Waits script w i g has.slice
