@@ -119,7 +119,8 @@ fn go_on<G: Gate>(
     requires held { IsHeld was.script.tables held.old was.seg }
     requires may { MayRun was.script.tables was.seg gxid command.cid command.snapshot command.slice }
     requires node { node ≡ was.seg.node }
-    ensures done { IfOk result (λ done. HasDone was.script.tables held.new was.seg.horizon done (after_marks marks.items (runs_slice was.seg gxid command.cid command.level command.snapshot command.slice))) }
+    ensures done { IfOk result (λ done. HasDone was.script.tables held.new was.seg.horizon done
+        (after_marks marks.items (runs_slice was.seg gxid command.cid command.level command.snapshot command.slice))) }
     ensures quiet { IfOk result (λ done. IsQuiet done (after_marks marks.items (runs_slice was.seg gxid command.cid command.level command.snapshot command.slice))) }
 {
     let passed = pass(gate, node);
