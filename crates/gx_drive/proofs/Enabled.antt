@@ -38,7 +38,8 @@ pub past-moves : (moves again starts ends : List Event) → [] ≡ first_of move
 past-moves moves again starts ends none = sym (ap (λ xs. first_of (xs ++ again ++ starts ++ ends)) (first-none moves (sym none)))
 
 -- a session is to be ended where the machine admits its end
-pub end-admitted : (script : Script) → 1 ≤ script.segments → (steps : List Step) → IsReached script steps → (session : SessionId) → is_to_end script steps session ≡ is_admitted script steps (event.End session)
+pub end-admitted : (script : Script) → 1 ≤ script.segments → (steps : List Step) → IsReached script steps → (session : SessionId)
+    → is_to_end script steps session ≡ is_admitted script steps (event.End session)
 end-admitted script some steps is session =
     by-events script steps is (λ ss. is_to_end script ss session ≡ is_admitted script ss (event.End session))
     (λ es.

@@ -1,5 +1,6 @@
 -- The words of a seed, one behind the other.
-use Rattle.std.proofs.Common.{◌≡◌, ℕ, suc, ◌+◌, ◌%◌, List, true, Some, refl, sym, ap, ◌∙◌, subst, add-one, length, slice_get}
+use Rattle.std.proofs.Common.{◌≡◌, ℕ, suc, ◌+◌, ◌%◌, List, true, Option, Some, refl, sym, ap, ◌∙◌, subst, add-one, length, slice_get}
+use Rattle.std.specs.Prelude.{IfSome}
 use Rattle.rand_xoshiro.specs.Xoshiro256.{plus_plus}
 use Rattle.gx_script.specs.declared.Script.{Script}
 use Rattle.gx_store.specs.declared.event.Event.{Event}
@@ -21,11 +22,13 @@ pub behind-next : (n word : ℕ) (start old new : List ℕ) → (word, new) ≡ 
 behind-next n word start old new drawn is = ap (λ (p : ℕ × List ℕ). p.1) drawn ∙ ap (λ g. (plus_plus g).1) is ∙ sym (behind-suc n start) ∙ ap (λ k. behind k start) (sym (add-one n))
 
 -- what a word draws is what the seed draws
-pub word-draws : (script : Script) (seed n word : ℕ) (steps : List Step) (event : Event) (old new : List ℕ) → length steps ≡ n → (word, new) ≡ plus_plus old → old ≡ behind n (seeded seed) → is_any_unfinished script steps ≡ true
-    → slice_get (possible script steps) (word % length (possible script steps)) ≡ Some event → IsDrawn script seed steps event
-word-draws script seed n word steps event old new count drawn is unfinished picked =
+pub word-draws : (script : Script) (seed n word : ℕ) (steps : List Step) (event : Event) (picked : Option Event) (old new : List ℕ) → length steps ≡ n → (word, new) ≡ plus_plus old
+    → old ≡ behind n (seeded seed) → is_any_unfinished script steps ≡ true → picked ≡ Some event
+    → IfSome picked (λ e. slice_get (possible script steps) (word % length (possible script steps)) ≡ Some e) → IsDrawn script seed steps event
+word-draws script seed n word steps event picked old new count drawn is unfinished same there =
     record {
       unfinished = unfinished;
       drawn = subst (λ w. slice_get (possible script steps) (w % length (possible script steps)) ≡ Some event)
-          (ap (λ (p : ℕ × List ℕ). p.0) drawn ∙ ap (λ g. (plus_plus g).0) (is ∙ ap (λ k. behind k (seeded seed)) (sym count))) picked;
+          (ap (λ (p : ℕ × List ℕ). p.0) drawn ∙ ap (λ g. (plus_plus g).0) (is ∙ ap (λ k. behind k (seeded seed)) (sym count)))
+          (subst (λ o. IfSome o (λ e. slice_get (possible script steps) (word % length (possible script steps)) ≡ Some e)) same there);
     }

@@ -1,7 +1,6 @@
-use Rattle.std.proofs.Common.{[], ◌≡◌, ◌%◌, Some, length, rules, slice_get, subst, sym}
-use Rattle.std.specs.Prelude.{IfSome, map}
+use Rattle.std.proofs.Common.{[], ◌≡◌, rules, subst, sym}
+use Rattle.std.specs.Prelude.{map}
 use Rattle.gx_script.specs.declared.Script.{Script}
-use Rattle.gx_drive.specs.Chosen.{possible}
 use Rattle.gx_drive.specs.Agrees.{IsAgreed}
 use Rattle.gx_drive.specs.Seeded.{IsDrawn, behind, seeded}
 use Rattle.gx_drive.proofs.Driving.{no-more, none-done, under-way}
@@ -20,16 +19,16 @@ pub returns-in_err-turn-clause-drawn : goal.returns-in_err-turn-clause-drawn
 returns-in_err-turn-clause-drawn g c =
     no-more (IsDrawn c.args.world.now.script c.args.seed) c.loop-turn.world.run.steps c.turn.new.world.run.steps c.in-Some.event c.loop-turn.invariant.0.driven
     (subst (λ (s : Script). IsDrawn s c.args.seed c.loop-turn.world.run.steps c.in-Some.event) c.loop-turn.invariant.0.same
-    (word-draws c.loop-turn.world.script c.args.seed c.loop-turn._turn _ c.loop-turn.world.run.steps c.in-Some.event _ _ c.loop-turn.invariant.0.count c.next_word-word.ensures c.loop-turn.invariant.1 (search rules)
-    (subst (λ o. IfSome o (λ e. slice_get (possible c.loop-turn.world.script c.loop-turn.world.run.steps) (c.next_word-word.result % length (possible c.loop-turn.world.script c.loop-turn.world.run.steps)) ≡ Some e)) c.in-Some.is c.in_ok-event.ensures.drawn)))
+    (word-draws c.loop-turn.world.script c.args.seed c.loop-turn._turn _ c.loop-turn.world.run.steps c.in-Some.event _ _ _ c.loop-turn.invariant.0.count c.next_word-word.ensures c.loop-turn.invariant.1
+    (search rules) c.in-Some.is c.in_ok-event.ensures.drawn))
     c.turn.ensures.done
 
 pub loop-turn-preserved : goal.loop-turn-preserved
 loop-turn-preserved g c = (
   under-way (IsDrawn c.args.world.now.script c.args.seed) c.args.world.now.script c.loop-turn._turn c.loop-turn.world _ c.loop-turn.agenda _ c.in-Some.event _ _ _ c.loop-turn.invariant.0
       (subst (λ (s : Script). IsDrawn s c.args.seed c.loop-turn.world.run.steps c.in-Some.event) c.loop-turn.invariant.0.same
-      (word-draws c.loop-turn.world.script c.args.seed c.loop-turn._turn _ c.loop-turn.world.run.steps c.in-Some.event _ _ c.loop-turn.invariant.0.count c.next_word-word.ensures c.loop-turn.invariant.1 (search rules)
-      (subst (λ o. IfSome o (λ e. slice_get (possible c.loop-turn.world.script c.loop-turn.world.run.steps) (c.next_word-word.result % length (possible c.loop-turn.world.script c.loop-turn.world.run.steps)) ≡ Some e)) c.in-Some.is c.in_ok-event.ensures.drawn)))
+      (word-draws c.loop-turn.world.script c.args.seed c.loop-turn._turn _ c.loop-turn.world.run.steps c.in-Some.event _ _ _ c.loop-turn.invariant.0.count c.next_word-word.ensures c.loop-turn.invariant.1
+      (search rules) c.in-Some.is c.in_ok-event.ensures.drawn))
       c.in_ok-turn.ensures.script c.in_ok-turn.ensures.done c.in_ok-turn.ensures.turned (c.in_ok-turn.ensures.failures _ c.loop-turn.invariant.0.few),
   behind-next c.loop-turn._turn _ (seeded c.args.seed) _ _ c.next_word-word.ensures c.loop-turn.invariant.1,
 )
