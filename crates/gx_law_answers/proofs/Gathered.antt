@@ -26,6 +26,7 @@ use Rattle.gx_store.specs.declared.answer.StmtAnswer.{StmtAnswer}
 use Rattle.gx_store.specs.declared.mark.Mark.{Mark}
 use Rattle.gx_store.specs.Answers.{Inserts, Tells}
 use Rattle.gx_store.specs.Commands.{has_own_snapshot}
+use Rattle.gx_store.specs.Lines.{is_on_rows}
 use Rattle.gx_store.specs.Messages.{HasReceived, IsSending}
 use Rattle.gx_store.specs.Points.{marks_in}
 use Rattle.gx_store.specs.Refusals.{the_coordinator}
@@ -38,7 +39,7 @@ use Rattle.gx_law_sessions.specs.Gathering.{AreAll, AreApart, IsGathered, Taken,
 use Rattle.gx_store.specs.Language.{AreLinesNumbered}
 use Rattle.gx_law_commit.proofs.Nodes.{has-without}
 use Rattle.gx_law_writes.proofs.Counts.{all-there}
-use Rattle.gx_law_writes.proofs.Legal.{own-more, read-served}
+use Rattle.gx_law_writes.proofs.Alive.{own-more, read-served}
 use Rattle.gx_law_writes.proofs.Plans.{insert-slice, rows-are}
 use Rattle.gx_law_writes.proofs.Progress.{Progress, place_of, progress-done, progress-end, progress-new}
 use Rattle.gx_law_writes.proofs.Told.{IsDoneSlice, IsReport, taken-told, written-more}
@@ -127,7 +128,7 @@ module _ (script : Script) (some : 1 ≤ script.segments) (numbered : AreLinesNu
     ok-same q = cc
 
     snapped-by : (t : Taken) → Reported t → has_own_snapshot level ms g c ≡ true
-    snapped-by t r = subst (λ l. has_own_snapshot l ms g c ≡ true) (r.order.level_is ∙ sym is.level_is) (read-served ms r.level g c table tuples r.order.line r.snapshot (line-is t r) r.order.read)
+    snapped-by t r = subst (λ l. has_own_snapshot l ms g c ≡ true) (r.order.level_is ∙ sym is.level_is) (read-served ms r.level g c r.order.line r.snapshot (ap is_on_rows (line-is t r)) r.order.read)
 
     none-taken : (vs : List (List Expr)) → tuples ≡ vs → (pieces : List Piece) (o : Result (List KeyedRow) ArithFault) → rows_of g c tuples ≡ o → and_then o (λ rows. Ok (insert_pieces script.segments (dist_of script.tables table.0) table rows)) ≡ Ok pieces → ((i : Node) → has i (nodes_in pieces) ≡ false) → ⊥
     none-taken vs v pieces (Err f) r e h = cc

@@ -51,7 +51,9 @@ use Rattle.gx_law_answers.specs.Earned.{Events, IsEarned}
 use Rattle.gx_law_answers.specs.Truth.{IsLocked, IsTruePart}
 use Rattle.gx_law_answers.proofs.Always.{word-earned}
 use Rattle.gx_law_answers.proofs.Origins.{IsWordEarned}
-use Rattle.gx_law_answers.proofs.Truths.{aborted-more, part-later, snapshot-more}
+use Rattle.gx_law_changes.proofs.Parts.{part-later}
+use Rattle.gx_law_answers.proofs.Shown.{only-at}
+use Rattle.gx_law_answers.proofs.Truths.{aborted-more, snapshot-more}
 
 by-recursion-get : {A : Type 0} (P : A → Type 0) (xs : List A) (k : ℕ) (x : A) → AllByRecursion P xs → slice_get xs k ≡ Some x → P x
 by-recursion-get P [] k x e f = absurd (cc)
@@ -208,7 +210,7 @@ module _ (script : Script) (some : 1 ≤ script.segments) (numbered : AreLinesNu
           taken = snapshot-more before more level g c p.place p.taken;
           says = record {
             rows = p.says.rows;
-            of = part-later script before more (subst (λ m. Each (IsPlacedMark script m) m) marks-are placed) node level g c p.place p.taken query.table
+            of = part-later before more (λ rid first e. only-at script (before ++ more) first rid (before ++ more) (subst (λ m. Each (IsPlacedMark script m) m) marks-are placed) e) node level g c p.place p.taken query.table
                 (λ rid only. subst (λ m. Rattle.gx_store.specs.View.image m (take p.place m) (Some (g, c)) query.table rid ≡ Rattle.gx_store.specs.View.image before (take p.place before) (Some (g, c)) query.table rid) marks-are (stays node g c p.place _ query.table rid t.taken p.taken.taken (subst (Rattle.gx_law_reads.specs.Sights.IsOnlyAt node rid) (sym marks-are) only)))
                 p.says.rows p.says.of;
             whole = p.says.whole;

@@ -26,7 +26,7 @@ use Rattle.gx_store.proofs.Rows.{same_rid}
 use Rattle.gx_law_order.proofs.Lists.{Each}
 use Rattle.gx_law_writes.specs.Homes.{IsPlaced, IsPlacedMark, IsSameKey, KeepsKey}
 use Rattle.gx_law_writes.proofs.Placed.{same-place}
-use Rattle.gx_law_answers.specs.Keyed.{AreInsertsKeyed}
+use Rattle.gx_law_answers.specs.Keyed.{AreRowsKeyed}
 use Rattle.gx_law_answers.proofs.Shown.{IsAt, first-at}
 
 -- ---- a tuple's values are as many as the tuple
@@ -70,7 +70,7 @@ pub record IsHome (script : Script) (table : Table) (rid : Rid) (row : List Valu
   pub place : node.0 ≡ row_place script.segments (dist_of script.tables table.0) row rid
   pub within : IsWithin (dist_of script.tables table.0) row
 
-module _ (script : Script) (keyed : AreInsertsKeyed script) (all : List Mark) (shown : Gxid → Cid → Bool) (table : Table) (rid : Rid) where
+module _ (script : Script) (keyed : AreRowsKeyed script) (all : List Mark) (shown : Gxid → Cid → Bool) (table : Table) (rid : Rid) where
   pub record Wrote (row : List Value) : Type 0 where
     pub node : Node
     pub by : IsAt script all node rid
@@ -127,11 +127,11 @@ module _ (script : Script) (keyed : AreInsertsKeyed script) (all : List Mark) (s
       same-node = same-place script all w.node node w.by.t a.t rid w.by.x a.x w.by.placed a.placed
 
       key : IsSameKey dist w.by.placed.values row
-      key = subst (λ (t : Table). KeepsKey (dist_of script.tables t.0) w.by.placed.values (Some row)) w.table_is (subst (KeepsKey (dist_of script.tables w.by.t.0) w.by.placed.values) w.image_is w.by.placed.key)
+      key = subst (λ (t : Table). KeepsKey (dist_of script.tables t.0) w.by.placed.values (Some row)) w.table_is (subst (KeepsKey (dist_of script.tables w.by.t.0) w.by.placed.values) w.image_is (w.by.placed.key (keyed.kept w.by.t)))
 
       -- what was inserted has a value for the distribution column
       within : IsWithin (dist_of script.tables w.by.t.0) w.by.placed.values
-      within = key-within (dist_of script.tables w.by.t.0) w.by.placed.row_of.tuple w.by.placed.values (keyed all rid.gxid rid.cid w.by.t w.by.placed.row_of.tuples w.by.placed.row_of.of (rid.ordinal - 1) w.by.placed.row_of.tuple w.by.placed.row_of.among) w.by.placed.row_of.constants
+      within = key-within (dist_of script.tables w.by.t.0) w.by.placed.row_of.tuple w.by.placed.values (keyed.inserted all rid.gxid rid.cid w.by.t w.by.placed.row_of.tuples w.by.placed.row_of.of (rid.ordinal - 1) w.by.placed.row_of.tuple w.by.placed.row_of.among) w.by.placed.row_of.constants
 
   pub home : (ms : List Mark) (row : List Value) → Each (IsPlacedMark script all) ms → image_after shown table rid None ms ≡ Some row → (node : Node) × (node_of ms rid ≡ Some node) × IsHome script table rid row node
   home ms row e i = by_node (node_of ms rid) refl

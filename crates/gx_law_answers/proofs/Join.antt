@@ -26,7 +26,7 @@ use Rattle.gx_store.specs.Language.{AreLinesNumbered}
 use Rattle.gx_law_sessions.proofs.Said.{CalmFor}
 use Rattle.gx_law_sessions.proofs.World.{all-legal, sessions-stand}
 use Rattle.gx_law_answers.specs.Earned.{Events}
-use Rattle.gx_law_answers.specs.Keyed.{AreInsertsFilled, AreInsertsKeyed}
+use Rattle.gx_law_answers.specs.Keyed.{AreInsertsFilled, AreRowsKeyed}
 use Rattle.gx_law_answers.specs.Once.{AreSnapshotsOne}
 use Rattle.gx_law_answers.proofs.Commands.{IsOf, command-is}
 use Rattle.gx_law_answers.proofs.Gathered.{insert-tells}
@@ -35,7 +35,7 @@ use Rattle.gx_law_answers.proofs.Segs.{segments-legal}
 use Rattle.gx_law_answers.proofs.Snaps.{one-snapshot}
 use Rattle.gx_law_answers.proofs.Told.{caused, tells-by}
 
-module _ (script : Script) (some : 1 ≤ script.segments) (numbered : AreLinesNumbered [] script.lines) (keyed : AreInsertsKeyed script) (once : AreSnapshotsOne script) (filled : AreInsertsFilled script) where
+module _ (script : Script) (some : 1 ≤ script.segments) (numbered : AreLinesNumbered [] script.lines) (keyed : AreRowsKeyed script) (once : AreSnapshotsOne script) (filled : AreInsertsFilled script) where
   module _ (es : Events) where
     abbrev steps : List Step
     steps = (world_of script es).steps

@@ -1,11 +1,9 @@
 pub mod Merging
-pub mod Views
 pub mod Rising
 pub mod Dealt
 pub mod Shown
 pub mod Homes
 pub mod Select
-pub mod Plans
 pub mod Truths
 pub mod Posts
 pub mod Running

@@ -63,11 +63,12 @@ use Rattle.gx_law_writes.proofs.Told.{IsWritten, written-more}
 use Rattle.gx_law_writes.proofs.Turns.{IsOldReply, IsOldWord, NoWrite, Quiet, base}
 use Rattle.gx_law_writes.proofs.World as writes
 use Rattle.gx_law_answers.specs.Earned.{Events, IsEarned, IsReplyEarned}
-use Rattle.gx_law_answers.specs.Parts.{IsPartOf}
+use Rattle.gx_law_changes.specs.Parts.{IsPartOf}
 use Rattle.gx_law_answers.specs.Truth.{AreWritten, IsLocked, IsTruth}
-use Rattle.gx_law_answers.proofs.Plans.{select-line, slice-is}
+use Rattle.gx_law_writes.proofs.Pieces.{select-line, slice-is}
 use Rattle.gx_law_answers.proofs.Running.{Doings, Idle, IsLate, Runs, snapshot-of}
-use Rattle.gx_law_answers.proofs.Shown.{shown-part}
+use Rattle.gx_law_changes.proofs.Shown.{shown-part}
+use Rattle.gx_law_answers.proofs.Shown.{only-at}
 use Rattle.gx_law_answers.proofs.Truths.{aborted-more, marks_of, reply_of, select-truth}
 
 abbrev pub IsKeptEarned : Script → Events → Node → Gxid → Option Reply → Type 0
@@ -179,7 +180,7 @@ module _ (script : Script) (some : 1 ≤ script.segments) (numbered_lines : AreL
 
     pub rows-part : is_aborted ms z.g ≡ false → IsPartOf ms (take served.place ms) to z.g z.c query.table rows
     rows-part unaborted =
-        shown-part script ms placed served.place to (raised z.like z.horizon) (z.versions ∙ (world-hold script some es to.0 place.0).versions) v z.g z.c query.table
+        shown-part ms (λ rid first e. only-at script ms first rid ms placed e) served.place to (raised z.like z.horizon) (z.versions ∙ (world-hold script some es to.0 place.0).versions) v z.g z.c query.table
         (λ rid only. z.sight unaborted v has_it served.place served.d served.taken query.table rid only)
 
   pub record TurnEarned : Type 0 where

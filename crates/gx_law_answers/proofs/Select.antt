@@ -40,13 +40,14 @@ use Rattle.gx_law_order.proofs.Lists.{Each}
 use Rattle.gx_rules.proofs.ShownRows.{rows-same}
 use Rattle.gx_law_sessions.specs.Gathering.{AreAll, AreApart, Taken, nodes_taken, parts_taken}
 use Rattle.gx_law_writes.specs.Homes.{IsPlacedMark}
-use Rattle.gx_law_answers.specs.Keyed.{AreInsertsKeyed}
-use Rattle.gx_law_answers.specs.Parts.{IsPartOf, SaysItsPart, is_home}
+use Rattle.gx_law_answers.specs.Keyed.{AreRowsKeyed}
+use Rattle.gx_law_changes.specs.Parts.{IsPartOf, is_home}
+use Rattle.gx_law_answers.specs.Parts.{SaysItsPart}
 use Rattle.gx_law_answers.proofs.Dealt.{AreApartNodes, at, divided, part}
 use Rattle.gx_law_answers.proofs.Homes.{IsHome, home}
 use Rattle.gx_law_answers.proofs.Merging.{merged-answer}
 use Rattle.gx_law_answers.proofs.Rising.{each-at, filter-at, filter-comm, filter-twice, from-filter, passing, rising-filter}
-use Rattle.gx_law_answers.proofs.Views.{view-is, view_rows}
+use Rattle.gx_law_changes.proofs.Views.{view-is, view_rows}
 
 -- ---- places are among the segments
 one-more : (r n : ℕ) → r < n → 1 + r ≤ n
@@ -140,7 +141,7 @@ apart-nodes [] a = tt
 apart-nodes (t ∷ ts) a = (a.0, apart-nodes ts a.1)
 
 -- ---- the query
-module _ (script : Script) (some : 1 ≤ script.segments) (keyed : AreInsertsKeyed script) (marks before : List Mark) (placed : Each (IsPlacedMark script marks) marks) (g : Gxid) (c : Cid) (query : Query) where
+module _ (script : Script) (some : 1 ≤ script.segments) (keyed : AreRowsKeyed script) (marks before : List Mark) (placed : Each (IsPlacedMark script marks) marks) (g : Gxid) (c : Cid) (query : Query) where
   abbrev n : ℕ
   n = script.segments
 

@@ -67,16 +67,16 @@ use Rattle.gx_law_holds.proofs.Marks.{Quiet, quiet-holds}
 use Rattle.gx_law_writes.proofs.Turns.{NoWrite}
 use Rattle.gx_law_writes.proofs.World as writes
 use Rattle.gx_law_answers.specs.Earned.{Events, IsEarned}
-use Rattle.gx_law_answers.specs.Keyed.{AreInsertsKeyed}
+use Rattle.gx_law_answers.specs.Keyed.{AreRowsKeyed}
 use Rattle.gx_law_answers.specs.Once.{IsOneSnapshot}
 use Rattle.gx_law_answers.specs.Parts.{SaysItsPart}
 use Rattle.gx_law_answers.specs.Truth.{IsTrueFault, IsTruePart, IsTruth}
 use Rattle.gx_law_answers.proofs.Commands.{IsOf}
 use Rattle.gx_law_answers.proofs.Heard.{heard, lock-now, marks-are, more, order-now, own-step, part-now, unaborted-then}
-use Rattle.gx_law_answers.proofs.Plans.{IsSliceOf, slice-is}
+use Rattle.gx_law_writes.proofs.Pieces.{IsSliceOf, slice-is}
 use Rattle.gx_law_answers.proofs.Select.{has-from, merged, seen, whole}
 use Rattle.gx_law_answers.proofs.Truths.{image-more, snapshot-more}
-use Rattle.gx_law_answers.proofs.Views.{view-is}
+use Rattle.gx_law_changes.proofs.Views.{view-is}
 use Rattle.gx_store.specs.declared.event.Event.{Event}
 
 -- ---- what a SELECT shows stays, where nothing is written
@@ -121,7 +121,7 @@ seam-second [] ys p m q e = (p, slice_get_within ys p m e, get_or_from_slice_get
 seam-second (x ∷ xs) ys zero m q e = absurd (omega (arith, q))
 seam-second (x ∷ xs) ys (suc p) m q e = seam-second xs ys p m (omega (arith, q)) e
 
-module _ (script : Script) (some : 1 ≤ script.segments) (numbered : AreLinesNumbered [] script.lines) (keyed : AreInsertsKeyed script) (es : Events) where
+module _ (script : Script) (some : 1 ≤ script.segments) (numbered : AreLinesNumbered [] script.lines) (keyed : AreRowsKeyed script) (es : Events) where
   abbrev ms : List Mark
   ms = marks_in (world_of script es).steps
 

@@ -14,7 +14,7 @@ use Rattle.gx_script.specs.declared.Script.{Script}
 use Rattle.gx_store.specs.Lines.{InBlock, is_command, stmt_of}
 use Rattle.gx_store.specs.Marks.{is_same_session}
 use Rattle.gx_store.specs.Writes.{dist_of}
-use Rattle.gx_law_answers.specs.Keyed.{AreInsertsFilled, AreInsertsKeyed}
+use Rattle.gx_law_answers.specs.Keyed.{AreInsertsFilled, AreInsertsKeyed, AreRowsKeyed}
 use Rattle.gx_store.specs.Whole.{AreInsertsWhole, HaveKeys, IsWholeStmt}
 use Rattle.gx_law_sessions.specs.Scanned.{began_from, closes_block, command_at, command_from, nth_command}
 
@@ -70,5 +70,8 @@ module _ (script : Script) (all : AreInsertsWhole script.tables script.lines) wh
   its-keys table [] h = tt
   its-keys table (t ∷ ts) h = h
 
-  pub keyed : AreInsertsKeyed script
-  keyed = λ marks g c table tuples e k tuple there. keys-at (dist_of script.tables table.0) tuples k tuple (its-keys table tuples (subst Is e (at-command (began_from [] marks g) c.0))) there
+  inserted : AreInsertsKeyed script
+  inserted = λ marks g c table tuples e k tuple there. keys-at (dist_of script.tables table.0) tuples k tuple (its-keys table tuples (subst Is e (at-command (began_from [] marks g) c.0))) there
+
+  pub keyed : AreRowsKeyed script
+  keyed = record { inserted = inserted; kept = λ table marks g c assigns cond e. subst Is e (at-command (began_from [] marks g) c.0) }

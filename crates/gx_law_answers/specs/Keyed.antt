@@ -1,4 +1,4 @@
--- Tuples that have a value for the distribution column.
+-- Rows that have a value in the distribution column, and keep it.
 use Rattle.std.specs.Prelude.{◌≡◌, ℕ, List, [], Some, slice_get}
 use Rattle.gx_ids.specs.declared.ids.Cid.{Cid}
 use Rattle.gx_ids.specs.declared.ids.Gxid.{Gxid}
@@ -10,6 +10,7 @@ use Rattle.gx_script.specs.declared.Script.{Script}
 use Rattle.gx_store.specs.declared.mark.Mark.{Mark}
 use Rattle.gx_store.specs.Writes.{dist_of}
 use Rattle.gx_law_sessions.specs.Scanned.{stmt_of_command}
+use Rattle.gx_law_writes.specs.Homes.{KeepsItsKey}
 
 -- each tuple of an INSERT that is a transaction's command
 abbrev pub AreInsertsKeyed : Script → Type 0
@@ -20,3 +21,8 @@ AreInsertsKeyed script =
 -- no INSERT is without a tuple
 abbrev pub AreInsertsFilled : Script → Type 0
 AreInsertsFilled script = (marks : List Mark) (g : Gxid) (c : Cid) (table : Table) → stmt_of_command script marks g c ≡ Some (stmt.Insert table []) → ⊥
+
+-- a row is inserted with a value in the distribution column, and keeps it
+pub record AreRowsKeyed (script : Script) : Type 0 where
+  pub inserted : AreInsertsKeyed script
+  pub kept : (table : Table) → KeepsItsKey script table

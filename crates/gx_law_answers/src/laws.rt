@@ -42,7 +42,7 @@ pub fn segments_marks_are_legal()
 {}
 
 /// Every run is a legal history of one store without segments, whatever the network does and whichever appends fail: for scripts
-/// whose INSERTs have tuples, each with a value for the distribution column.
+/// whose INSERTs have tuples, each with a value for the distribution column, which no UPDATE sets.
 pub fn every_run_is_a_legal_history()
     ensures { (script : Script) (events : List (OneEvent × Bool)) → 1 ≤ script.segments → AreLinesNumbered [] script.lines → AreInsertsWhole script.tables script.lines
         → IsLegalHistory script (run_of (world_of script events)) }

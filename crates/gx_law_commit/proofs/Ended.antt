@@ -22,12 +22,12 @@ use Rattle.gx_rules.specs.Fits.{fits_exec, is_waiting}
 use Rattle.gx_rules.specs.Maps.{with_at}
 use Rattle.gx_rules.specs.Segments.{Local, Phase, Seg, SegTurn, Suspended, has_committed, has_ended, stays, tells, tells_kept}
 use Rattle.gx_rules.specs.Segments.Phase.{Aborted, Committed, Forgotten, Prepared, Reading, Writing}
-use Rattle.gx_rules.specs.Running.{is_granted, slice_lock, starts_slice}
+use Rattle.gx_rules.specs.Running.{slice_lock, starts_slice}
 use Rattle.gx_law_order.proofs.Lists.{Each}
 use Rattle.gx_law_commit.specs.Pairs.{IsKept, IsVote}
 use Rattle.gx_law_commit.specs.Said.{gxid_in}
 use Rattle.gx_law_commit.specs.Standings.{gx}
-use Rattle.gx_law_commit.proofs.Leaving.{request-leaves, slice-leaves}
+use Rattle.gx_law_commit.proofs.Leaving.{request-leaves, resumed-leaves}
 
 -- what an answer tells of the phase
 abbrev pub TellsEnd : Phase → Message → Type 0
@@ -118,7 +118,7 @@ module _ (script : Script) (told : Message) (s : Seg) (g : ℕ) (wrote : Bool) (
   -- a slice that goes on, of a transaction that has not ended
   resume : (o : Option Claim) (x : Option Suspended) → has_ended l.phase ≡ false → nat_lt 0 l.last ≡ true → EndsSo (resumes s (gx g) o x)
   resume (Some wanted) (Some x) n a =
-      record { ended = λ e. absurd (open-not l.phase refl n e); last = λ e. inl a; outs = (slice-leaves (gx g) x.cid (λ o. TellsEnd _ o.message) (λ b d f. tt) (λ d. tt) (is_granted s (gx g) wanted).seg x.level x.snapshot x.slice).outs }
+      record { ended = λ e. absurd (open-not l.phase refl n e); last = λ e. inl a; outs = (resumed-leaves (gx g) x (λ o. TellsEnd _ o.message) (λ b d f. tt) (λ d. tt) s wanted).outs }
   resume (Some wanted) None n a = stay
   resume None x n a = stay
 

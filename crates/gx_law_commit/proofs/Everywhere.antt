@@ -39,7 +39,7 @@ use Rattle.gx_rules.specs.Segments.{Local, Seg, SegTurn, Suspended, local_of}
 use Rattle.gx_rules.specs.Sending.{clock_after, counted, numbered}
 use Rattle.gx_law_order.proofs.Lists.{Each, each_weaker}
 use Rattle.gx_law_order.proofs.Past.{aborted-append, committed-append}
-use Rattle.gx_law_order.proofs.Waiting.{GoesOn, Waits, goes-on-is, going-on, going-out}
+use Rattle.gx_law_order.proofs.Waiting.{GoesOn, Waits, going-on, going-out, going-ways}
 use Rattle.gx_law_order.proofs.World.{Knows, marks-last}
 use Rattle.gx_law_commit.specs.Followed.{DoStepsEnd}
 use Rattle.gx_law_commit.specs.Pairs.{Pair}
@@ -412,7 +412,7 @@ resumed-does script w n v e i g fails ok = from (going-on script w n.well i g ok
           is = o.is;
           waits = o.waits;
           reached = inr (record { command = tt; place = c.place; step = c.step; stands = c.stands; received = c.received });
-          does = subst (Does (message.Exec g x.cid x.level x.snapshot o.waits.horizon x.slice) (known_at w.coord (marks_in w.steps) i g.0) (w.segs i) i g.0 (n.well.names i) (is_writer (marks_in w.steps) g (at i)) (prepared_count (marks_in w.steps) (at i) g) (local_count (marks_in w.steps) (at i) g) (v.stands.pairs i g.0))
-              (sym (goes-on-is (w.segs i) g o.wanted x o.claims o.is))
-              (went-on script (known_at w.coord (marks_in w.steps) i g.0) (w.segs i) i (n.well.names i) (is_writer (marks_in w.steps) g (at i)) (prepared_count (marks_in w.steps) (at i) g) (local_count (marks_in w.steps) (at i) g) g o.waits.horizon x o.wanted (v.stands.pairs i g.0) (is-some (local_of (w.segs i) g).suspended x o.is) o.waits.last o.waits.reads o.waits.right);
+          does = went-on script (known_at w.coord (marks_in w.steps) i g.0) (w.segs i) i (n.well.names i) (is_writer (marks_in w.steps) g (at i)) (prepared_count (marks_in w.steps) (at i) g)
+              (local_count (marks_in w.steps) (at i) g) g o.waits.horizon x o.wanted _ (v.stands.pairs i g.0) (is-some (local_of (w.segs i) g).suspended x o.is) o.waits.last o.waits.reads
+              o.waits.right (going-ways script w i g o);
         }

@@ -161,7 +161,7 @@ module _ (script : Script) (steps : List Step) (step : Step) where
     follow-one earlier later (mark.JournalFailed n h) e f v = tt
     follow-one earlier later (mark.Start h s) e f v = absurd f
     follow-one earlier later (mark.Snap h c x) e f v = absurd f
-    follow-one earlier later (mark.Skip h c r) e f v = absurd f
+    follow-one earlier later (mark.Skip h c r) e f v = tt
     follow-one earlier later (mark.Commit h) e f v = absurd f
     follow-one earlier later (mark.Abort h) e f v = absurd f
     follow-one earlier later (mark.Answer s n a) e f v = absurd f

@@ -19,6 +19,8 @@ use Rattle.gx_tree.specs.declared.value.Value.{Value}
 use Rattle.gx_dsnap.specs.Gxids.{is_below}
 use Rattle.gx_dsnap.specs.declared.snapshot.Snapshot.{Snapshot}
 use Rattle.gx_waits.specs.declared.claim.Claim.{Claim}
+use Rattle.gx_waits.specs.declared.object.Object.{Object}
+use Rattle.gx_waits.specs.declared.object.Object.TheVariants.{Relation, Transaction, Tuple}
 use Rattle.gx_locks.specs.Locks.{Locks, is_free}
 use Rattle.gx_meaning.specs.declared.fault.ArithFault.{ArithFault}
 use Rattle.gx_msg.specs.declared.item.JournalItem.{JournalItem}
@@ -31,17 +33,23 @@ use Rattle.gx_script.specs.declared.Script.{Script}
 use Rattle.gx_store.specs.declared.mark.Mark.{Mark}
 use Rattle.gx_store.specs.declared.mark.Mark.TheVariants as mark
 use Rattle.gx_store.specs.Protocol.{is_writer, local_count, prepared_count}
-use Rattle.gx_rules.specs.AtSegment.{changes, commits, ends, finishes, if_fits, is_refused, on_abort, on_commit, on_commit_prepared, on_exec, on_forget, on_message, on_prepare, once, promises, raised, repeats, resumes, takes, unless_below, was_prepared}
+use Rattle.gx_rules.specs.AtSegment.{changes, commits, ends, finishes, if_fits, is_refused, on_abort, on_commit, on_commit_prepared, on_exec, on_forget, on_message, on_prepare, once, promises, raised, repeats, takes, unless_below, was_prepared}
+use Rattle.gx_rules.specs.Changes.{Change, RowTurn, change_of, changes_rows, goes_through, suspended_at, suspends_at, tuple_lock}
+use Rattle.gx_rules.specs.Changes as loop
 use Rattle.gx_rules.specs.Fits.{fits_exec, is_right_slice, is_waiting, reads_nothing}
-use Rattle.gx_rules.specs.Locks.{hold_mark, release_marks, wait_mark, with_hold, with_wait}
+use Rattle.gx_rules.specs.Locks.{hold_mark, release_mark, release_marks, wait_mark, with_hold, with_wait, without_hold}
 use Rattle.gx_rules.specs.Maps.{with_at}
 use Rattle.gx_rules.specs.Segments.{Local, Phase, Seg, SegTurn, Suspended, after_marks as behind, has_committed, local_of, reply, stays, tells, tells_kept, with_local}
 use Rattle.gx_rules.specs.Segments.Phase.{Reading, Writing, Prepared, Committed, Forgotten, Aborted}
-use Rattle.gx_rules.specs.Running.{is_granted, requests, runs_locked, runs_slice, slice_lock, starts_slice, suspended_slice, suspends}
+use Rattle.gx_rules.specs.Running.{is_granted, requests, runs_locked, runs_slice, slice_lock, starts_slice, suspended_slice, suspends, unless_end}
 use Rattle.gx_rules.specs.Shown.{shown}
-use Rattle.gx_rules.specs.Slices.{Moved, adds_version, answers, cause_of, first_fault, has_written, inserted, inserts_row, own_lock, selects, starts_from, takes_own, version, writes_row}
+use Rattle.gx_rules.specs.Slices.{Moved, adds_version, answers, cause_of, fails_on, first_fault, has_written, inserted, inserts_row, own_lock, selects, starts_from, takes_own, version, writes_row}
+use Rattle.gx_rules.specs.Visits.{DidStop}
+use Rattle.gx_rules.proofs.Moving.{Ends, Keeps, loop-keeps}
+use Rattle.gx_law_order.proofs.Changing.{change-parts, rows-change, stop-keeps}
 use Rattle.gx_law_order.proofs.Releases.{each-released}
 use Rattle.gx_law_order.proofs.Lists.{Each, each_append, each_weaker}
+use Rattle.gx_law_order.proofs.Waiting.{GoesOnSo, freed}
 use Rattle.gx_law_commit.specs.Pairs.{IsKept, IsVote, Pair, bit, is_open}
 use Rattle.gx_law_commit.specs.Said.{Answers, IsCommand, Said, gxid_in, is_answer}
 use Rattle.gx_law_commit.specs.Standings.{Known, Part, at, gx, part_of}
@@ -67,6 +75,7 @@ abbrev pub Follows : Message → Known → ℕ → ℕ → Mark → Type 0
 Follows told k i g (mark.Write h c n t r x) = (h.0 ≡ g) × (n.0 ≡ i) × IsExecOf told g c
 Follows told k i g (mark.Prepared n h) = (h.0 ≡ g) × (n.0 ≡ i) × (told ≡ message.Prepare (gx g)) × (k.committed ≡ false)
 Follows told k i g (mark.LocalCommit n h) = (h.0 ≡ g) × (n.0 ≡ i) × ((told ≡ message.Commit (gx g)) ⊎ (told ≡ message.CommitPrepared (gx g))) × (k.aborted ≡ false) × (k.committed ≡ false)
+Follows told k i g (mark.Skip h c r) = Unit {0}
 Follows told k i g (mark.Fault h c r x) = Unit {0}
 Follows told k i g (mark.JournalFailed n h) = Unit {0}
 Follows told k i g (mark.Hold n h o m) = Unit {0}
@@ -557,12 +566,59 @@ module _ (told : Message) (k : Known) (s : Seg) (i g : ℕ) (named : s.node ≡ 
         stopped x f (record (x.seg.locals g) { last = c.0; answer = None; suspended = Some z }) None (Some z) []
         (ap (λ (v : Local). record v { last = c.0; answer = None; suspended = Some z }) f.local) tt (λ q. refl) (λ q pair is. tt)
 
+    -- or fails on a row
+    fault : (f : KeyedRow × ArithFault) → Does (behind ns (fails_on t (gx g) c f))
+    fault f =
+        ran (record { seg = t; marks = mark.Fault (gx g) c f.0.rid (Some f.0.row) ∷ [] }) (reply.Failed c (cause_of f.1))
+        (aside-more (starts_from t) t.locks (mark.Fault (gx g) c f.0.rid (Some f.0.row)) starts (tt, tt, tt)) tt
+
+    -- UPDATE and DELETE
+    module _ (change : Change) (own : change.cid ≡ c) where
+      row-keeps : Keeps (gx g) change Going
+      row-keeps =
+          record {
+            takes = λ x rid free f. aside-more x (with_hold x.seg.locks (tuple_lock (gx g) rid)) (hold_mark x.seg.node (tuple_lock (gx g) rid)) f (tt, tt, tt);
+            gives = λ x rid held f. aside-more x (without_hold x.seg.locks (tuple_lock (gx g) rid)) (release_mark x.seg.node (tuple_lock (gx g) rid)) f (tt, tt, tt);
+            writes = λ x rid image why f. subst (λ d. Going (writes_row (gx g) d change.table x rid image)) (sym own) (writes-more change.table x rid image f);
+            skips = λ x rid why f. aside-more x x.seg.locks (mark.Skip (gx g) change.cid rid) f (tt, tt, tt);
+            faults = λ x rid image f. aside-more x x.seg.locks (mark.Fault (gx g) change.cid rid image) f (tt, tt, tt);
+          }
+
+      at-stop : (x : Moved) (rid : Rid) (turn : RowTurn) (stop : DidStop x (gx g) change rid turn) → Going x → Going stop.stopped
+      at-stop x rid turn stop f =
+          let it = stop-keeps (gx g) change Going row-keeps x rid turn stop f in
+          subst Going it.is (aside-more it.before (with_wait it.before.seg.locks it.wanted) (wait_mark it.before.seg.node it.wanted) it.kept (tt, tt, tt))
+
+      suspend : (x : Moved) (z : Suspended) → Going x → Does (behind ns (suspends_at x (gx g) change z))
+      suspend x z f = subst (λ (d : Cid). Does (behind ns (with_last (record (local_of x.seg (gx g)) { last = d.0; answer = None; suspended = Some z })))) (sym own) (waits x z f)
+        where
+          with_last : Local → SegTurn
+          with_last y = record { seg = with_local x.seg (gx g) y; marks = x.marks; outs = []; item = None }
+
+      row-ends : Ends (gx g) change Going (λ turn. Does (behind ns turn))
+      row-ends =
+          record {
+            done = λ x count f. subst (λ d. Does (behind ns (loop.is_done x (gx g) d count))) (sym own) (is-done x count _ f);
+            stopped = λ x rid rest count turn stop f. suspend stop.stopped (suspended_at change rid rest count) (at-stop x rid turn stop f);
+            failed = λ x cause f. subst (λ d. Does (behind ns (answers x.seg (gx g) d x.marks (reply.Failed d cause)))) (sym own) (ran x (reply.Failed c cause) f tt);
+          }
+
+      rows-run : Does (behind ns (changes_rows t (gx g) (Some change)))
+      rows-run =
+          rows-change (gx g) change Going (λ turn. Does (behind ns turn)) row-keeps row-ends t starts
+          (λ f. subst (λ d. Does (behind ns (fails_on t (gx g) d f))) (sym own) (fault f))
+
+      row-on : (rids : List Rid) (x : Moved) (count : ℕ) → Going x → Does (behind ns (goes_through (gx g) change rids x count))
+      row-on rids x count f = loop-keeps (gx g) change Going (λ turn. Does (behind ns turn)) row-keeps row-ends rids x count f
+
+    changes-run : (o : Option Change) → is_some o ≡ true → ((change : Change) → o ≡ Some change → change.cid ≡ c) → Does (behind ns (changes_rows t (gx g) o))
+    changes-run None a own = absurd (cc)
+    changes-run (Some change) a own = rows-run change (own change refl)
+
     -- ALL SLICES
     select : (q : Query) (rows : List KeyedRow) (f : Option (KeyedRow × ArithFault)) → Does (behind ns (selects t (gx g) c q rows f))
     select q rows None = is-done (starts_from t) 0 _ starts
-    select q rows (Some f) =
-        ran (record { seg = t; marks = mark.Fault (gx g) c f.0.rid (Some f.0.row) ∷ [] }) (reply.Failed c (cause_of f.1))
-        (aside-more (starts_from t) t.locks (mark.Fault (gx g) c f.0.rid (Some f.0.row)) starts (tt, tt, tt)) tt
+    select q rows (Some f) = fault f
 
     insert-rows : (table : Table) (rows : List KeyedRow) (x : Moved) → Going x → Going (fold (inserts_row (gx g) c table) x rows)
     insert-rows table [] x f = f
@@ -575,8 +631,12 @@ module _ (told : Message) (k : Known) (s : Seg) (i g : ℕ) (named : s.node ≡ 
     slice-runs script level None (slice.Select q) a r = absurd (cc)
     slice-runs script level None (slice.Insert table rows) a r = absurd (cc)
     slice-runs script level x (slice.Lock table mode) a r = is-done (starts_from t) 0 _ starts
-    slice-runs script level x (slice.Update table assigns cond) a r = absurd (cc)
-    slice-runs script level x (slice.Delete table cond) a r = absurd (cc)
+    slice-runs script level (Some x) (slice.Update table assigns cond) a r =
+        changes-run (change_of c level (Some x) (slice.Update table assigns cond)) refl (λ change e. (change-parts c level (Some x) (slice.Update table assigns cond) change e).cid)
+    slice-runs script level (Some x) (slice.Delete table cond) a r =
+        changes-run (change_of c level (Some x) (slice.Delete table cond)) refl (λ change e. (change-parts c level (Some x) (slice.Delete table cond) change e).cid)
+    slice-runs script level None (slice.Update table assigns cond) a r = absurd (cc)
+    slice-runs script level None (slice.Delete table cond) a r = absurd (cc)
 
   -- a new command has its lock, or waits
   module _ (script : Script) (c : Cid) (m : IsExecOf told g c) (st : IsCommand k p c.0) (level : Level) (x : Option Snapshot) (h : Gxid) (y : Slice) (o : is_open l.phase ≡ true) (fit : fits_exec script s (gx g) c x h y ≡ true) where
@@ -636,12 +696,35 @@ module _ (told : Message) (k : Known) (s : Seg) (i g : ℕ) (named : s.node ≡ 
   exec script c m st level x h y fit Aborted f = stay
 
   -- a slice that has waited goes on
-  resume : (script : Script) (x : Suspended) (wanted : Claim) → IsExecOf told g x.cid → is_waiting l ≡ true → l.last ≡ x.cid.0
-      → (is_some x.snapshot || reads_nothing x.slice) ≡ true → is_right_slice script (gx g) x.cid x.slice ≡ true → Does (resumes s (gx g) (Some wanted) (Some x))
-  resume script x wanted m y last a r =
-      slice-runs x.cid m (waited-runs k p x.cid.0 e y last) (is_granted s (gx g) wanted).seg
-      (record { others = λ j d. ap (λ b. if b then record l { suspended = None } else s.locals j) d; local = here (record l { suspended = None }); node = refl })
-      (is_granted s (gx g) wanted).marks ((tt, tt, tt), tt) script x.level x.snapshot x.slice a r
+  module _ (x : Suspended) (wanted : Claim) (m : IsExecOf told g x.cid) (waiting : is_waiting l ≡ true) (last : l.last ≡ x.cid.0) where
+    abbrev without-wait : Seg
+    without-wait = freed s (gx g) wanted
+
+    may-go-on : MayRun k p x.cid.0
+    may-go-on = waited-runs k p x.cid.0 e waiting last
+
+    base : Base without-wait
+    base = record { others = λ j d. ap (λ b. if b then record l { suspended = None } else s.locals j) d; local = here (record l { suspended = None }); node = refl }
+
+    abbrev hold : Moved
+    hold = record { seg = without-wait; marks = hold_mark s.node wanted ∷ [] }
+
+    held : Going x.cid m may-go-on without-wait base [] tt hold
+    held = aside-more x.cid m may-go-on without-wait base [] tt (starts_from without-wait) without-wait.locks (hold_mark s.node wanted) (starts x.cid m may-go-on without-wait base [] tt) (tt, tt, tt)
+
+    granted : (o : Object) → Going x.cid m may-go-on without-wait base [] tt (unless_end wanted o hold)
+    granted (Transaction other) =
+        aside-more x.cid m may-go-on without-wait base [] tt hold (without_hold without-wait.locks wanted) (release_mark s.node wanted) held (tt, tt, tt)
+    granted (Relation table) = held
+    granted (Tuple rid) = held
+
+    resume : (script : Script) (turn : SegTurn) → (is_some x.snapshot || reads_nothing x.slice) ≡ true → is_right_slice script (gx g) x.cid x.slice ≡ true
+        → GoesOnSo script s (gx g) x wanted turn → Does turn
+    resume script turn a r (inl now) =
+        subst Does (sym now.is) (slice-runs x.cid m may-go-on without-wait base (hold_mark s.node wanted ∷ []) ((tt, tt, tt), tt) script x.level x.snapshot x.slice a r)
+    resume script turn a r (inr on) =
+        let own = (change-parts x.cid x.level x.snapshot x.slice on.at.change on.at.changes).cid in
+        subst Does (sym on.is) (row-on x.cid m may-go-on without-wait base [] tt on.at.change own (on.at.rid ∷ x.rows) (is_granted s (gx g) wanted) x.count (granted wanted.object))
 
   unless-low : (turn : SegTurn) → Does turn → Does (unless_below s (gx g) turn)
   unless-low turn d = by_test (is_below s.horizon (gx g))
@@ -672,5 +755,9 @@ handled script fails k s i named w pc lc (message.Collect round) e st = stay (me
 handled script fails k s i named w pc lc (message.Graph round graph) e st = stay (message.Graph round graph) k s i 0 named w pc lc e
 
 -- and its slice that has waited, which comes of a command that was told before
-pub went-on : (script : Script) (k : Known) (s : Seg) (i : ℕ) (named : s.node ≡ at i) (w : Bool) (pc lc : ℕ) (g h : Gxid) (x : Suspended) (wanted : Claim) (e : Pair k (part_of (s.locals g.0) w pc lc)) → is_waiting (s.locals g.0) ≡ true → (s.locals g.0).last ≡ x.cid.0 → (is_some x.snapshot || reads_nothing x.slice) ≡ true → is_right_slice script g x.cid x.slice ≡ true → Does (message.Exec g x.cid x.level x.snapshot h x.slice) k s i g.0 named w pc lc e (resumes s g (Some wanted) (Some x))
-went-on script k s i named w pc lc g h x wanted e y last a r = resume _ k s i g.0 named w pc lc e script x wanted (record { level = x.level; snapshot = x.snapshot; horizon = h; slice = x.slice; is = refl }) y last a r
+pub went-on : (script : Script) (k : Known) (s : Seg) (i : ℕ) (named : s.node ≡ at i) (w : Bool) (pc lc : ℕ) (g h : Gxid) (x : Suspended) (wanted : Claim) (turn : SegTurn)
+    (e : Pair k (part_of (s.locals g.0) w pc lc))
+    → is_waiting (s.locals g.0) ≡ true → (s.locals g.0).last ≡ x.cid.0 → (is_some x.snapshot || reads_nothing x.slice) ≡ true → is_right_slice script g x.cid x.slice ≡ true
+    → GoesOnSo script s g x wanted turn → Does (message.Exec g x.cid x.level x.snapshot h x.slice) k s i g.0 named w pc lc e turn
+went-on script k s i named w pc lc g h x wanted turn e y last a r on =
+    resume _ k s i g.0 named w pc lc e x wanted (record { level = x.level; snapshot = x.snapshot; horizon = h; slice = x.slice; is = refl }) y last script turn a r on

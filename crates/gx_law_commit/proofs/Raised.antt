@@ -18,10 +18,10 @@ use Rattle.gx_rules.specs.AtSegment.{changes, commits, ends, finishes, if_fits, 
 use Rattle.gx_rules.specs.Fits.{fits_exec, is_waiting}
 use Rattle.gx_rules.specs.Segments.{Local, Phase, Seg, SegTurn, Suspended, local_of, stays, tells, tells_kept}
 use Rattle.gx_rules.specs.Segments.Phase.{Aborted, Committed, Forgotten, Prepared, Reading, Writing}
-use Rattle.gx_rules.specs.Running.{goes_on, is_granted, slice_lock, starts_slice}
+use Rattle.gx_rules.specs.Running.{slice_lock, starts_slice}
 use Rattle.gx_law_order.proofs.Lists.{Each}
 use Rattle.gx_law_commit.specs.Said.{is_answer}
-use Rattle.gx_law_commit.proofs.Leaving.{Leaves, request-leaves, slice-leaves}
+use Rattle.gx_law_commit.proofs.Leaving.{Leaves, request-leaves, resumed-leaves}
 
 -- what holds of a command's horizon
 abbrev pub OfHorizon : (Gxid → Type 0) → Message → Type 0
@@ -158,8 +158,6 @@ module _ (script : Script) (s : Seg) (Q : Gxid → Type 0) (base : Q s.horizon) 
 
   -- a slice that goes on
   pub resume_keeps : (g : Gxid) (o : Option Claim) (x : Option Suspended) → SegKeeps (resumes s g o x)
-  resume_keeps g (Some wanted) (Some x) =
-      let e = slice-leaves g x.cid (λ o. is_answer o.message ≡ true) (λ a b d. refl) (λ d. refl) (is_granted s g wanted).seg x.level x.snapshot x.slice in
-      leaves (goes_on (is_granted s g wanted) g x) s.horizon base (record { horizon = e.horizon; outs = e.outs })
+  resume_keeps g (Some wanted) (Some x) = leaves (resumes s g (Some wanted) (Some x)) s.horizon base (resumed-leaves g x (λ o. is_answer o.message ≡ true) (λ a b d. refl) (λ d. refl) s wanted)
   resume_keeps g (Some wanted) None = stay
   resume_keeps g None x = stay

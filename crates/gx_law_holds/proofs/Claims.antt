@@ -1,5 +1,5 @@
 -- Lists of claims, and a transaction's claims among them.
-use Rattle.std.proofs.Common.{◌≡◌, ◌==◌, ◌||◌, ◌&&◌, ℕ, Bool, true, false, not, List, [], ◌∷◌, Some, None, refl, sym, subst, ap, ◌∙◌, if◌then◌else◌, arith, cond}
+use Rattle.std.proofs.Common.{◌≡◌, ◌==◌, ◌||◌, ◌&&◌, ℕ, Bool, true, false, not, List, [], ◌∷◌, Some, None, refl, sym, subst, ap, ◌∙◌, if◌then◌else◌, arith, cond, eqb}
 use Rattle.std.proofs.lemmas.Bool.Decides.{nat_tests}
 use Rattle.std.specs.List.{list_any}
 use Rattle.std.specs.Prelude.{filter, find}
@@ -86,6 +86,9 @@ claim-itself c = three (c.gxid.0 == c.gxid.0) (same_object c.object c.object) _ 
   where
     three : (a b d : Bool) → a ≡ true → b ≡ true → d ≡ true → (a && (b && d)) ≡ true
     three a b d e f h = grind arith
+
+pub gxid-of : (g h : Gxid) → eqb g.0 h.0 ≡ true → g ≡ h
+gxid-of g h e = grind (arith, nat_tests)
 
 -- a claim of who has none of these is none of these
 none-same : (wanted : Claim) (xs : List Claim) → find (is_of wanted.gxid) xs ≡ None → Each (λ x. same_claim wanted x ≡ false) xs

@@ -3,6 +3,7 @@ pub mod Marks
 pub mod Released
 pub mod Lasting
 pub mod Tables
+pub mod AtRows
 pub mod Moves
 pub mod AtSegments
 pub mod Going

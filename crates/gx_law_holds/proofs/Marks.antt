@@ -1,5 +1,5 @@
 -- What marks of locks make of a node's holds and waits.
-use Rattle.std.proofs.Common.{◌≡◌, ◌==◌, ◌||◌, Bool, true, false, List, [], ◌∷◌, ◌++◌, None, Some, refl, sym, subst, ap, ◌∙◌, if◌then◌else◌, append_assoc, append-nil, arith}
+use Rattle.std.proofs.Common.{◌≡◌, ◌==◌, ◌||◌, inl, Bool, true, false, List, [], ◌∷◌, ◌++◌, None, Some, refl, sym, subst, ap, ◌∙◌, if◌then◌else◌, append_assoc, append-nil, arith}
 use Rattle.std.proofs.lemmas.Bool.Decides.{nat_tests}
 use Rattle.std.specs.Prelude.{filter, find}
 use Rattle.gx_ids.specs.declared.ids.Gxid.{Gxid}
@@ -12,10 +12,11 @@ use Rattle.gx_store.proofs.Exclusive.{holds_from-append}
 use Rattle.gx_store.specs.declared.mark.Mark.{Mark}
 use Rattle.gx_store.specs.declared.mark.Mark.TheVariants as mark
 use Rattle.gx_store.specs.Journals.{is_same_node}
+use Rattle.gx_store.specs.Locks.{IsMomentary}
 use Rattle.gx_store.specs.Marks.{is_aborted, is_committed, is_ended}
 use Rattle.gx_store.specs.Ordered.{IsAtNode}
 use Rattle.gx_store.specs.Waits.{added, claim, holds_from, waits_from, without}
-use Rattle.gx_rules.specs.Locks.{hold_mark, wait_mark, with_hold, with_wait}
+use Rattle.gx_rules.specs.Locks.{hold_mark, release_mark, wait_mark, with_hold, with_wait, without_hold}
 use Rattle.gx_law_order.proofs.Lists.{Each, each_weaker}
 use Rattle.gx_law_order.proofs.Past.{aborted-append, committed-append}
 use Rattle.gx_law_holds.specs.Late.{AreReleasesLate}
@@ -149,6 +150,17 @@ wait node before l wanted met e =
       waits = ap (λ b. if b then added wanted l.waits else l.waits) (node-itself node) ∙ ap (λ b. if b then l.waits else l.waits ++ wanted ∷ []) (not-among wanted l.waits e);
       right = (record { met = met; alone = e }, tt);
       late = tt;
+    }
+
+-- who has no wait there gives a lock back before its end
+pub give : (node : Node) (before : List Mark) (l : Locks) (old : Claim) → IsMomentary node old.object old.mode → wait_of l old.gxid ≡ None
+    → Locking node before l (release_mark node old ∷ []) (without_hold l old)
+give node before l old brief e =
+    record {
+      holds = ap (λ b. if b then without old l.holds else l.holds) (node-itself node);
+      waits = ap (λ b. if b then without old l.waits else l.waits) (node-itself node) ∙ without-none old l.waits e;
+      right = tt;
+      late = (inl brief, tt);
     }
 
 -- what a transaction has waited for, its only wait there, is granted

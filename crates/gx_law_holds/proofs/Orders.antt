@@ -48,7 +48,7 @@ use Rattle.gx_law_holds.specs.Orders.{AreLockedOrders, AreOrdersLocked, IsLocked
 use Rattle.gx_law_holds.specs.Writes.{AreWritesLocked}
 use Rattle.gx_law_holds.proofs.AtSegments.{Bids}
 use Rattle.gx_law_holds.proofs.Moves.{AreWritesHeld, held-append}
-use Rattle.gx_law_holds.proofs.Tables.{HasTable, own-gxid, slice-table}
+use Rattle.gx_law_holds.proofs.Tables.{HasTable, own-gxid, slice-lasts, slice-table}
 use Rattle.gx_law_holds.proofs.Going.{AreLocked, Going, GoneOut, Locked, LockedOut, event-goes}
 use Rattle.gx_law_order.proofs.Waiting.{GoesOn, HasCome, each-among, going-on, going-out}
 use Rattle.gx_law_holds.proofs.Lasting.{IsIn, late-behind, still-held}
@@ -102,7 +102,8 @@ order-now script holds marks same (message.Graph round graph) l = tt
 
 pub order-still : (script : Script) (marks ms : List Mark) → AreReleasesLate marks ms → (m : Message) → IsLockedOrder script marks m → IsLockedOrder script (marks ++ ms) m
 order-still script marks ms late (message.Exec g c level x h slice) l =
-    λ run. still-held the_coordinator (slice_lock script g slice) marks ms late (subst (λ (k : Gxid). is_ended (marks ++ ms) k ≡ false) (sym (own-gxid script g slice)) run) (l (ended-less marks ms g run))
+    λ run. still-held the_coordinator (slice_lock script g slice) (slice-lasts script the_coordinator g slice) marks ms late
+    (subst (λ (k : Gxid). is_ended (marks ++ ms) k ≡ false) (sym (own-gxid script g slice)) run) (l (ended-less marks ms g run))
 order-still script marks ms late (message.Prepare g) l = tt
 order-still script marks ms late (message.Commit g) l = tt
 order-still script marks ms late (message.CommitPrepared g) l = tt
@@ -147,7 +148,7 @@ module _ (script : Script) (marks : List Mark) (node : Node) (away : is_same_nod
       writes-here (before ++ m ∷ []) ms (same-there before m e.0 same) (runs-less before m f) e.1 (subst (λ hs. AreWritesHeld script (HeldThere script marks) node hs ms) (sym (holds_from-append node [] before (m ∷ []))) h)
 
 pub record Ordered (script : Script) (w : World) : Type 0 where
-  pub locked : world.Locked w
+  pub locked : world.Locked script w
   pub going : AreLocked script w.coord.locks.holds w.coord.works
   pub letters : Each (LetterLocked script (marks_in w.steps)) w.sent
   pub writes : AreWritesLocked script [] (marks_in w.steps)
@@ -160,7 +161,7 @@ module _ (script : Script) (some : 1 ≤ script.segments) where
   letters-still steps s ls late e =
       each_weaker (LetterLocked script (marks_in steps)) (LetterLocked script (marks_in (steps ++ s ∷ []))) (λ l f q. subst (λ m. IsLockedOrder script m l.envelope.message) (sym (marks-last steps s)) (order-still script (marks_in steps) s.marks late l.envelope.message (f q))) ls e
 
-  late-of : (w v : World) (s : Step) → v.steps ≡ w.steps ++ s ∷ [] → world.Locked v → AreReleasesLate (marks_in w.steps) s.marks
+  late-of : (w v : World) (s : Step) → v.steps ≡ w.steps ++ s ∷ [] → world.Locked script v → AreReleasesLate (marks_in w.steps) s.marks
   late-of w v s same l = late-behind [] (marks_in w.steps) s.marks (subst (AreReleasesLate []) (ap marks_in same ∙ marks-last w.steps s) l.late)
 
   coord-orders : (w : World) → Knows script w → Holds script w → Ordered script w → (e : Event) (x : NodeEvent) (fails : Bool) → coord_can script w.coord x ≡ true → SaidTo w x
@@ -183,7 +184,7 @@ module _ (script : Script) (some : 1 ≤ script.segments) where
       step : Step
       step = record { stamp = record { clock = clock_after w.coord.clock x; node = the_coordinator }; event = e; marks = (coord_rule script w.coord x fails).marks }
 
-      locked : world.Locked (coord_did w e (coord_rule script w.coord x fails))
+      locked : world.Locked script (coord_did w e (coord_rule script w.coord x fails))
       locked = coord-keeps script some w k v q.locked e x fails ok said
 
       gone : (x : NodeEvent) → coord_can script w.coord x ≡ true → GoneOut script w.coord x
@@ -265,7 +266,7 @@ module _ (script : Script) (some : 1 ≤ script.segments) where
       step : Step
       step = record { stamp = record { clock = clock_after (w.segs i).clock x; node = at i }; event = e; marks = (seg_rule script (w.segs i) x fails).marks }
 
-      locked : world.Locked (seg_did w (at i) e (seg_rule script (w.segs i) x fails))
+      locked : world.Locked script (seg_did w (at i) e (seg_rule script (w.segs i) x fails))
       locked = seg-keeps script some w k v q.locked e x fails i place h
 
       not-zero : at i ≡ the_coordinator → ⊥
@@ -278,7 +279,7 @@ module _ (script : Script) (some : 1 ≤ script.segments) where
       writes =
           none-held script (HeldThere script (marks_in w.steps)) (at i) (λ node. turn.seg.sent) turn.outs (holds_at (marks_in w.steps) (at i)) turn.marks
           (subst (λ hs. AreWritesHeld script (HeldThere script (marks_in w.steps)) (at i) hs turn.marks) (q.locked.marked.segments i place.0).holds
-          (heard-locks script (HeldThere script (marks_in w.steps)) w k e i x fails h (bids-held w k q e i place.0 x h)).writes)
+          (heard-locks script (HeldThere script (marks_in w.steps)) w k e i place.0 (q.locked.rows i) x fails h (bids-held w k q e i place.0 x h)).writes)
 
   new-orders : Ordered script new_world
   new-orders = record { locked = new-locked script some; going = λ g. tt; letters = tt; writes = tt }

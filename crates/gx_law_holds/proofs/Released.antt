@@ -1,5 +1,5 @@
 -- What a transaction gives back at its end is all that it holds and waits for, and nothing else.
-use Rattle.std.proofs.Common.{◌≡◌, ◌==◌, ◌||◌, ◌&&◌, ℕ, Bool, true, false, not, cond, List, [], ◌∷◌, ◌++◌, refl, sym, subst, ap, ◌∙◌, if◌then◌else◌, arith}
+use Rattle.std.proofs.Common.{◌≡◌, ◌==◌, ◌||◌, ◌&&◌, inr, ℕ, Bool, true, false, not, cond, List, [], ◌∷◌, ◌++◌, refl, sym, subst, ap, ◌∙◌, if◌then◌else◌, arith}
 use Rattle.std.proofs.lemmas.Bool.Decides.{nat_tests}
 use Rattle.std.proofs.lemmas.List.Folds.{list_any-append}
 use Rattle.std.specs.List.{list_any}
@@ -122,7 +122,7 @@ right-releases node (c ∷ cs) holds waits = right-releases node cs (holds_from 
 late-releases : (node : Node) (g : Gxid) (before : List Mark) (cs : List Claim) → Each (λ c. is_of g c ≡ true) cs → is_ended before g ≡ true → AreReleasesLate before (map (release_mark node) cs)
 late-releases node g before [] e f = tt
 late-releases node g before (c ∷ cs) e f =
-    (subst (λ (h : Gxid). is_ended before h ≡ true) (sym (same-gxid c.gxid g e.0)) f, late-releases node g (before ++ release_mark node c ∷ []) cs e.1 (ended-more before (release_mark node c ∷ []) g f))
+    (inr (subst (λ (h : Gxid). is_ended before h ≡ true) (sym (same-gxid c.gxid g e.0)) f), late-releases node g (before ++ release_mark node c ∷ []) cs e.1 (ended-more before (release_mark node c ∷ []) g f))
   where
     same-gxid : (h k : Gxid) → (h.0 == k.0) ≡ true → h ≡ k
     same-gxid h k e = grind (arith, nat_tests)

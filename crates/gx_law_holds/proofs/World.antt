@@ -3,7 +3,7 @@
 use Rattle.std.proofs.Common.{◌≡◌, ◌≤◌, ℕ, List, [], ◌∷◌, ◌++◌, Option, Some, None, Bool, true, false, refl, sym, subst, ap, ◌∙◌, arith}
 use Rattle.std.proofs.lemmas.Bool.Decides.{nat_tests}
 use Rattle.std.proofs.lemmas.Bool.{or_left, or_right}
-use Rattle.gx_lemmas.proofs.Numbers.{one-le-none}
+use Rattle.gx_lemmas.proofs.Numbers.{one-le-none, one-le-zero}
 use Rattle.gx_ids.specs.declared.ids.Gxid.{Gxid}
 use Rattle.gx_ids.specs.declared.ids.Node.{Node}
 use Rattle.gx_ids.specs.declared.ids.Table.{Table}
@@ -51,6 +51,7 @@ use Rattle.gx_law_holds.specs.Late.{AreReleasesLate}
 use Rattle.gx_law_holds.specs.Marked.{AreLocksMarked, AreWaitsLegal, IsMarked}
 use Rattle.gx_law_holds.specs.Own.{DoHoldOwn, DoWritersHold}
 use Rattle.gx_law_holds.proofs.AtCoordinators.{event-holds}
+use Rattle.gx_law_holds.proofs.AtRows.{AtRows}
 use Rattle.gx_law_holds.proofs.AtSegments.{Bids, IsEndedFor, Turn, message_locks, resume_locks}
 use Rattle.gx_law_holds.proofs.Lasting.{IsIn, holds-last, late-front}
 use Rattle.gx_law_holds.proofs.Legal.{right-granted, right-waits, waits-more}
@@ -60,13 +61,14 @@ use Rattle.gx_law_holds.proofs.Own.{Stands, hold-own, new-stands, none-there, ol
 use Rattle.gx_law_holds.proofs.Single.{single-here, single-there}
 use Rattle.gx_law_holds.proofs.Tables.{Changes}
 
-pub record Locked (w : World) : Type 0 where
+pub record Locked (script : Script) (w : World) : Type 0 where
   pub marked : AreLocksMarked w
   pub granted : AreGranted [] (marks_in w.steps)
   pub waits : AreWaitsLegal [] (marks_in w.steps)
   pub late : AreReleasesLate [] (marks_in w.steps)
   pub own : DoHoldOwn [] w.steps
   pub writers : Each (Stands w.segs) (marks_in w.steps)
+  pub rows : (i : ℕ) → AtRows script (w.segs i) (w.segs i).locks.holds
 
 -- MESSAGES THAT ARE SENT
 numbered-plain : (f : ℕ → ℕ) (outs : List Out) → Each NoLock (numbered f outs)
@@ -139,22 +141,31 @@ ended-for script w e i from envelope h = by_message envelope.message h.said
     by_message (message.Answer g r) f = tt
     by_message (message.Graph round graph) f = tt
 
-pub heard-locks : (script : Script) (P : Gxid → Table → Type 0) (w : World) → Knows script w → (e : Event) (i : ℕ) (x : NodeEvent) (fails : Bool) → HeardAt script w e i x
+pub heard-locks : (script : Script) (P : Gxid → Table → Type 0) (w : World) → Knows script w → (e : Event) (i : ℕ) → 1 ≤ i → AtRows script (w.segs i) (w.segs i).locks.holds
+    → (x : NodeEvent) (fails : Bool) → HeardAt script w e i x
     → ((g : Gxid) (table : Table) → BidsAt w i x g table → P g table)
     → Turn script P (at i) (marks_in w.steps) (w.segs i) (segment.on_event script (w.segs i) x fails)
-heard-locks script P w k e i (here.Deliver from envelope) fails h has =
-    message_locks script P (at i) (marks_in w.steps) (w.segs i) (k.well.names i) (k.well.writers i) (single-there script w k i) fails envelope.message (ended-for script w e i from envelope h) has
-heard-locks script P w k e i (here.Resume g) fails h has =
-    subst (Turn script P (at i) (marks_in w.steps) (w.segs i)) (sym (goes-on-is (w.segs i) g d.wanted d.slice d.claims d.is))
-    (resume_locks script P (at i) (marks_in w.steps) (w.segs i) (k.well.names i) (k.well.writers i) (single-there script w k i) g d.wanted d.slice d.lock d.free d.claims d.waits.opens
-    (λ table b. has g table (refl, subst (λ o. ChangesOf o table) (sym d.is) b)))
+heard-locks script P w k e i one rows x fails h has = by_event x h has
   where
-    d : GoesOn script w i g
-    d = going-on script w k.well i g h
-heard-locks script P w k e i (here.Start s) fails h has = absurd h
-heard-locks script P w k e i (here.End s) fails h has = absurd h
-heard-locks script P w k e i (here.Resend j g) fails h has = absurd h
-heard-locks script P w k e i here.Round fails h has = absurd h
+    not-zero : at i ≡ the_coordinator → ⊥
+    not-zero z = one-le-zero i one (ap (λ (m : Node). m.0) z)
+
+    by_event : (x : NodeEvent) → HeardAt script w e i x → ((g : Gxid) (table : Table) → BidsAt w i x g table → P g table)
+        → Turn script P (at i) (marks_in w.steps) (w.segs i) (segment.on_event script (w.segs i) x fails)
+    by_event (here.Deliver from envelope) h has =
+        message_locks script P (at i) (marks_in w.steps) (w.segs i) not-zero (k.well.names i) (k.well.writers i) (single-there script w k i) rows fails envelope.message
+        (ended-for script w e i from envelope h) has
+    by_event (here.Resume g) h has =
+        subst (Turn script P (at i) (marks_in w.steps) (w.segs i)) (sym (goes-on-is (w.segs i) g d.wanted d.slice d.claims d.is))
+        (resume_locks script P (at i) (marks_in w.steps) (w.segs i) not-zero (k.well.names i) (k.well.writers i) (single-there script w k i) rows g d.wanted d.slice d.is d.waits.done d.lock d.free d.claims
+        d.waits.opens (λ table b. has g table (refl, subst (λ o. ChangesOf o table) (sym d.is) b)))
+      where
+        d : GoesOn script w i g
+        d = going-on script w k.well i g h
+    by_event (here.Start s) h has = absurd h
+    by_event (here.End s) h has = absurd h
+    by_event (here.Resend j g) h has = absurd h
+    by_event here.Round h has = absurd h
 
 -- ALL STEPS
 module _ (script : Script) (some : 1 ≤ script.segments) where
@@ -166,8 +177,8 @@ module _ (script : Script) (some : 1 ≤ script.segments) where
   no-write holds (mark.Write g c n table rid image ∷ ms) e = absurd (one-le-none e.0.1.0)
   no-write holds (m ∷ ms) e = (tt, no-write holds ms e.1)
 
-  pub coord-keeps : (w : World) → Knows script w → Holds script w → Locked w → (e : Event) (x : NodeEvent) (fails : Bool) → coord_can script w.coord x ≡ true → SaidTo w x
-      → Locked (coord_did w e (coord_rule script w.coord x fails))
+  pub coord-keeps : (w : World) → Knows script w → Holds script w → Locked script w → (e : Event) (x : NodeEvent) (fails : Bool) → coord_can script w.coord x ≡ true → SaidTo w x
+      → Locked script (coord_did w e (coord_rule script w.coord x fails))
   coord-keeps w k v q e x fails ok said =
       record {
         marked = record { coordinator = now; segments = λ i one. others-marked script w.steps step the_coordinator there (at i) (w.segs i).locks (apart i one) (q.marked.segments i one) };
@@ -176,6 +187,7 @@ module _ (script : Script) (some : 1 ≤ script.segments) where
         late = still-late script w.steps step the_coordinator there w.coord.locks turn.coord.locks locking q.late;
         own = still-own script w.steps step the_coordinator there turn.coord.locks now (no-write turn.coord.locks.holds step.marks there) q.own;
         writers = subst (Each (Stands w.segs)) (sym (marks-last w.steps step)) (each_append (Stands w.segs) (marks_in w.steps) step.marks q.writers (none-there script w.segs step.marks there));
+        rows = q.rows;
       }
     where
       turn : CoordTurn
@@ -193,8 +205,8 @@ module _ (script : Script) (some : 1 ≤ script.segments) where
       now : IsMarked (marks_in (w.steps ++ step ∷ [])) the_coordinator turn.coord.locks
       now = own-marked script w.steps step the_coordinator there w.coord.locks turn.coord.locks q.marked.coordinator locking
 
-  pub seg-keeps : (w : World) → Knows script w → Holds script w → Locked w → (e : Event) (x : NodeEvent) (fails : Bool) (i : ℕ) → IsSegment script (at i) → HeardAt script w e i x
-      → Locked (seg_did w (at i) e (seg_rule script (w.segs i) x fails))
+  pub seg-keeps : (w : World) → Knows script w → Holds script w → Locked script w → (e : Event) (x : NodeEvent) (fails : Bool) (i : ℕ) → IsSegment script (at i) → HeardAt script w e i x
+      → Locked script (seg_did w (at i) e (seg_rule script (w.segs i) x fails))
   seg-keeps w k v q e x fails i place h =
       record {
         marked = record {
@@ -209,6 +221,7 @@ module _ (script : Script) (some : 1 ≤ script.segments) where
         writers = subst (Each (Stands (with_at w.segs i (seg_rule script (w.segs i) x fails).seg))) (sym (marks-last w.steps step))
             (each_append (Stands (with_at w.segs i (seg_rule script (w.segs i) x fails).seg)) (marks_in w.steps) step.marks
             (old-stands script w.segs i (seg_rule script (w.segs i) x fails).seg made.lasts (marks_in w.steps) q.writers) (new-stands script w.segs i (seg_rule script (w.segs i) x fails).seg step.marks there written));
+        rows = at-both (λ j (t : Seg). AtRows script t t.locks.holds) w.segs i (seg_rule script (w.segs i) x fails).seg made.rows (λ j no. q.rows j);
       }
     where
       turn : SegTurn
@@ -221,7 +234,7 @@ module _ (script : Script) (some : 1 ≤ script.segments) where
       there = seg_marks script w k.well e x fails i place
 
       made : Turn script (λ g table. Unit {0}) (at i) (marks_in w.steps) (w.segs i) turn
-      made = heard-locks script (λ g table. Unit {0}) w k e i x fails h (λ g table b. tt)
+      made = heard-locks script (λ g table. Unit {0}) w k e i place.0 (q.rows i) x fails h (λ g table b. tt)
 
       locking : Locking (at i) (marks_in w.steps) (w.segs i).locks step.marks turn.seg.locks
       locking = with-sent (at i) (marks_in w.steps) (w.segs i).locks turn.marks turn.seg.locks (λ node. turn.seg.sent) turn.outs made.locking
@@ -236,22 +249,22 @@ module _ (script : Script) (some : 1 ≤ script.segments) where
       written : Each (WritesOwn turn.seg.locks.holds) step.marks
       written = each_append (WritesOwn turn.seg.locks.holds) turn.marks (numbered (λ node. turn.seg.sent) turn.outs) made.written (sent-written (λ node. turn.seg.sent) turn.outs)
 
-  pub new-locked : Locked new_world
-  new-locked = record { marked = record { coordinator = record { holds = refl; waits = refl }; segments = λ i one. record { holds = refl; waits = refl } }; granted = tt; waits = tt; late = tt; own = tt; writers = tt }
+  pub new-locked : Locked script new_world
+  new-locked = record { marked = record { coordinator = record { holds = refl; waits = refl }; segments = λ i one. record { holds = refl; waits = refl } }; granted = tt; waits = tt; late = tt; own = tt; writers = tt; rows = λ i h. tt }
 
-  pub world-locked : (es : List (Event × Bool)) → Locked (world_of script es)
-  world-locked = world-keeps script some Locked coord-keeps seg-keeps new-locked
+  pub world-locked : (es : List (Event × Bool)) → Locked script (world_of script es)
+  world-locked = world-keeps script some (Locked script) coord-keeps seg-keeps new-locked
 
   pub world-exclusive : (es : List (Event × Bool)) (before later : List Mark) → marks_in (world_of script es).steps ≡ before ++ later → AreExclusive before
   world-exclusive es before later e = exclusive-behind before (granted-front [] before later (subst (AreGranted []) e (world-locked es).granted))
 
   pub world-lasting : (es : List (Event × Bool)) (before later : List Mark) → marks_in (world_of script es).steps ≡ before ++ later → DoHoldsLast before
-  world-lasting es before later e xs ys node g object mode split f =
+  world-lasting es before later e xs ys node g object mode split lasts f =
       subst (λ m. is_held m node g object mode ≡ true) (sym split)
-      (holds-last xs ys node g object mode (subst (AreReleasesLate []) split (late-front [] before later (subst (AreReleasesLate []) e (world-locked es).late))) (subst (λ m. is_ended m g ≡ false) split f))
+      (holds-last xs ys node g object mode lasts (subst (AreReleasesLate []) split (late-front [] before later (subst (AreReleasesLate []) e (world-locked es).late))) (subst (λ m. is_ended m g ≡ false) split f))
 
   pub world-writers : (es : List (Event × Bool)) → DoWritersHold (world_of script es)
   world-writers es earlier later g c node table rid image split lives =
-      let q : Locked (world_of script es) = world-locked es in
+      let q : Locked script (world_of script es) = world-locked es in
       let f : Stands (world_of script es).segs (mark.Write g c node table rid image) = stands-at (world_of script es).segs earlier later (mark.Write g c node table rid image) (subst (Each (Stands (world_of script es).segs)) split q.writers) in
       subst (λ hs. IsIn hs (own_lock g)) (q.marked.segments node.0 f.0).holds (f.1 lives)

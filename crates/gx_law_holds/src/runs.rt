@@ -34,12 +34,13 @@ pub fn locks_are_exclusive()
     ensures { (script : Script) (events : List (OneEvent × Bool)) (before later : List OneMark) → 1 ≤ script.segments → marks_in (steps_after script events) ≡ before ++ later → AreExclusive before }
 {}
 
-/// A lock is given back only by a transaction that has its Commit or Abort mark.
+/// A lock is given back only by a transaction that has its Commit or Abort mark, but for a row's lock, and one on another
+/// transaction's end, which a segment gives back at any time.
 pub fn locks_are_given_back_at_the_end()
     ensures { (script : Script) (events : List (OneEvent × Bool)) → 1 ≤ script.segments → AreReleasesLate [] (marks_in (steps_after script events)) }
 {}
 
-/// At each point, whoever has no Commit or Abort mark holds all that it was granted.
+/// At each point, whoever has no Commit or Abort mark holds all that it was granted, but for those.
 pub fn who_runs_holds_what_it_was_granted()
     ensures { (script : Script) (events : List (OneEvent × Bool)) (before later : List OneMark) → 1 ≤ script.segments → marks_in (steps_after script events) ≡ before ++ later → DoHoldsLast before }
 {}

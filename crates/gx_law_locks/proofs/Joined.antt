@@ -1,5 +1,5 @@
 -- The parts of what legal locks are, joined: what holds of each mark, of each point and of each step.
-use Rattle.std.proofs.Common.{◌≡◌, ◌⊎◌, inr, List, [], ◌∷◌, ◌++◌, true, false, sym, subst, append_assoc, append-nil}
+use Rattle.std.proofs.Common.{◌≡◌, ◌⊎◌, List, [], ◌∷◌, ◌++◌, true, false, sym, subst, append_assoc, append-nil}
 use Rattle.gx_script.specs.declared.Script.{Script}
 use Rattle.gx_store.specs.declared.event.Event.{Event}
 use Rattle.gx_store.specs.declared.mark.Mark.{Mark}
@@ -34,7 +34,7 @@ pub at-marks : (script : Script) (marks ms : List Mark) → AreGranted marks ms 
 at-marks script marks [] holds waits late writes = tt
 at-marks script marks (mark.Hold n g object mode ∷ ms) holds waits late writes = (holds.0, at-marks script (marks ++ mark.Hold n g object mode ∷ []) ms holds.1 waits late writes)
 at-marks script marks (mark.Wait n g object mode ∷ ms) holds waits late writes = (waits.0.meets, at-marks script (marks ++ mark.Wait n g object mode ∷ []) ms holds waits.1 late writes)
-at-marks script marks (mark.Release n g object mode ∷ ms) holds waits late writes = (inr late.0, at-marks script (marks ++ mark.Release n g object mode ∷ []) ms holds waits late.1 writes)
+at-marks script marks (mark.Release n g object mode ∷ ms) holds waits late writes = (late.0, at-marks script (marks ++ mark.Release n g object mode ∷ []) ms holds waits late.1 writes)
 at-marks script marks (mark.Write g c n table rid image ∷ ms) holds waits late writes =
     (writes.0, at-marks script (marks ++ mark.Write g c n table rid image ∷ []) ms holds waits late writes.1)
 at-marks script marks (m ∷ ms) holds waits late writes = (tt, at-marks script (marks ++ m ∷ []) ms holds waits late writes)

@@ -26,6 +26,5 @@ locks-legal script some numbered es =
       reading = reading;
       waits = l.waits;
       exclusive = world-exclusive script some es;
-      late = l.late;
       lasting = world-lasting script some es;
     }

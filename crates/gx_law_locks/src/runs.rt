@@ -14,7 +14,8 @@ pub fn rows_are_written_with_the_lock_unless_aborted()
     ensures { (script : Script) (events : List (OneEvent × Bool)) → 1 ≤ script.segments → AreLinesNumbered [] script.lines → AreWritesUnderLock script [] (marks_in (steps_after script events)) }
 {}
 
-/// Locks are legal, by the definition whole and by what it doesn't say.
+/// Locks are legal, by the definition whole and by what it doesn't say. All are kept to their transaction's end, but for those on
+/// rows, and on other transactions' ends, which a segment gives back at any time.
 pub fn locks_are_legal()
     ensures { (script : Script) (events : List (OneEvent × Bool)) → 1 ≤ script.segments → AreLinesNumbered [] script.lines → AreLocksLegal script (steps_after script events) }
 {}

@@ -1,6 +1,6 @@
 -- What a segment's rule keeps, and where its marks stand.
-use Rattle.std.proofs.Common.{◌≡◌, ℕ, List, [], ◌∷◌, Option, Some, None, Bool, true, false, not, refl, nat_lt, ◌==◌, if◌then◌else◌}
-use Rattle.std.specs.Prelude.{fold, length}
+use Rattle.std.proofs.Common.{◌≡◌, ℕ, List, [], ◌∷◌, Option, Some, None, Bool, true, false, not, refl, subst, nat_lt, ◌==◌, if◌then◌else◌}
+use Rattle.std.specs.Prelude.{fold}
 use Rattle.gx_ids.specs.declared.ids.Cid.{Cid}
 use Rattle.gx_ids.specs.declared.ids.Gxid.{Gxid}
 use Rattle.gx_ids.specs.declared.ids.Node.{Node}
@@ -15,6 +15,8 @@ use Rattle.gx_tree.specs.declared.value.Value.{Value}
 use Rattle.gx_dsnap.specs.Gxids.{is_below}
 use Rattle.gx_dsnap.specs.declared.snapshot.Snapshot.{Snapshot}
 use Rattle.gx_waits.specs.declared.claim.Claim.{Claim}
+use Rattle.gx_waits.specs.declared.object.Object.{Object}
+use Rattle.gx_waits.specs.declared.object.Object.TheVariants.{Relation, Transaction, Tuple}
 use Rattle.gx_locks.specs.Locks.{is_free, wait_of}
 use Rattle.gx_meaning.specs.declared.fault.ArithFault.{ArithFault}
 use Rattle.gx_msg.specs.declared.message.Message.{Message}
@@ -28,13 +30,17 @@ use Rattle.gx_store.specs.declared.node.NodeEvent.TheVariants as event
 use Rattle.gx_store.specs.Ordered.{IsAtNode, IsSegment}
 use Rattle.gx_store.specs.Refusals.{the_coordinator}
 use Rattle.gx_rules.specs.AtSegment.{commits, ends, finishes, if_fits, on_abort, on_commit, on_commit_prepared, on_event, on_exec, on_forget, on_message, on_prepare, once, promises, raised, repeats, resumes, takes, unless_below, was_prepared}
+use Rattle.gx_rules.specs.Changes.{Change, RowTurn, change_of, changes_rows, goes_on_at, suspended_at, suspends_at, waits}
 use Rattle.gx_rules.specs.Locks.{hold_mark, with_hold}
 use Rattle.gx_rules.specs.Segments.{Local, Phase, Seg, SegTurn, Suspended, after_marks, local_of, stays, tells, tells_kept}
 use Rattle.gx_rules.specs.Segments.Phase.{Aborted, Committed, Forgotten, Prepared, Reading, Writing}
-use Rattle.gx_rules.specs.Running.{goes_on, is_granted, requests, runs_slice, slice_lock}
-use Rattle.gx_rules.specs.Slices.{Moved, first_fault, inserted, inserts, inserts_row, own_lock, selects, starts_from, takes_lock, takes_own, writes_row}
+use Rattle.gx_rules.specs.Running.{goes_on, is_granted, requests, runs_slice, slice_lock, unless_end}
+use Rattle.gx_rules.specs.Slices.{Moved, answers, first_fault, gives_back, inserted, inserts_row, noted, own_lock, selects, starts_from, takes_lock, takes_own, writes_row}
 use Rattle.gx_rules.specs.Shown.{shown}
 use Rattle.gx_rules.specs.Fits.{fits_exec, is_waiting}
+use Rattle.gx_rules.specs.Visits.{DidStop}
+use Rattle.gx_rules.proofs.Moving.{Ends, Keeps}
+use Rattle.gx_law_order.proofs.Changing.{row-goes-on, rows-change, stop-keeps}
 use Rattle.gx_law_order.proofs.Releases.{each-released}
 use Rattle.gx_law_order.proofs.Lists.{Each, each_append}
 
@@ -105,18 +111,55 @@ module _ (script : Script) (s : Seg) (at : IsSegment script s.node) where
   insert_rows g c table [] m f = f
   insert_rows g c table (r ∷ rs) m f = insert_rows g c table rs (inserts_row g c table m r) (write_moves g c table m r.rid (Some r.row) f)
 
-  insert : (g : Gxid) (c : Cid) (count : ℕ) (m : Moved) → MovedFrom m → Stays (inserts g c count m)
-  insert g c count m f = record { node = f.node; sent = f.sent; marks = f.marks; outs = (refl, tt) }
+  -- a lock that is given back, a wait, and a mark of a row
+  back_moves : (old : Claim) (m : Moved) → MovedFrom m → MovedFrom (gives_back old m)
+  back_moves old m f = record { node = f.node; sent = f.sent; marks = each_append (PlainAt script s.node) m.marks _ f.marks (f.node, tt) }
+
+  wait_moves : (wanted : Claim) (m : Moved) → MovedFrom m → MovedFrom (waits wanted m).moved
+  wait_moves wanted m f = record { node = f.node; sent = f.sent; marks = each_append (PlainAt script s.node) m.marks _ f.marks (f.node, tt) }
+
+  note_moves : (m : Moved) (told : Mark) → PlainAt script s.node told → MovedFrom m → MovedFrom (noted m told)
+  note_moves m told e f = record { node = f.node; sent = f.sent; marks = each_append (PlainAt script s.node) m.marks _ f.marks (e, tt) }
+
+  answer : (g : Gxid) (c : Cid) (m : Moved) (r : Reply) → MovedFrom m → Stays (answers m.seg g c m.marks r)
+  answer g c m r f = record { node = f.node; sent = f.sent; marks = f.marks; outs = (refl, tt) }
+
+  -- rows that are changed
+  change_moves : (g : Gxid) (k : Change) → Keeps g k MovedFrom
+  change_moves g k =
+      record {
+        takes = λ m rid free f. lock_moves _ m f;
+        gives = λ m rid held f. back_moves _ m f;
+        writes = λ m rid image why f. write_moves g k.cid k.table m rid image f;
+        skips = λ m rid why f. note_moves m (mark.Skip g k.cid rid) at f;
+        faults = λ m rid image f. note_moves m (mark.Fault g k.cid rid image) tt f;
+      }
+
+  stop : (g : Gxid) (k : Change) (m : Moved) (rid : Rid) (rest : List Rid) (count : ℕ) (t : RowTurn) (d : DidStop m g k rid t) → MovedFrom m
+      → Stays (suspends_at d.stopped g k (suspended_at k rid rest count))
+  stop g k m rid rest count t d f =
+      let a = stop-keeps g k MovedFrom (change_moves g k) m rid t d f in
+      let b = subst MovedFrom a.is (wait_moves a.wanted a.before a.kept) in
+      record { node = b.node; sent = b.sent; marks = b.marks; outs = tt }
+
+  change_ends : (g : Gxid) (k : Change) → Ends g k MovedFrom Stays
+  change_ends g k = record { done = λ m count f. answer g k.cid m _ f; stopped = stop g k; failed = λ m cause f. answer g k.cid m _ f }
+
+  change : (t : Seg) → Near t → (g : Gxid) (o : Option Change) → Stays (changes_rows t g o)
+  change t n g None = record { node = n.node; sent = n.sent; marks = tt; outs = tt }
+  change t n g (Some k) =
+      rows-change g k MovedFrom Stays (change_moves g k) (change_ends g k) t (record { node = n.node; sent = n.sent; marks = tt })
+      (λ f. record { node = n.node; sent = n.sent; marks = (tt, tt); outs = (refl, tt) })
 
   slice_runs : (t : Seg) → Near t → (g : Gxid) (c : Cid) (level : Level) (snapshot : Option Snapshot) (x : Slice) → Stays (runs_slice t g c level snapshot x)
   slice_runs t n g c level (Some snapshot) (slice.Select q) = select t n g c q (shown t snapshot g c q.table) (first_fault q.cond (shown t snapshot g c q.table))
   slice_runs t n g c level (Some snapshot) (slice.Insert table rows) =
-      insert g c (length rows) (inserted t g c table rows) (insert_rows g c table rows (starts_from t) (record { node = n.node; sent = n.sent; marks = tt }))
+      answer g c (inserted t g c table rows) _ (insert_rows g c table rows (starts_from t) (record { node = n.node; sent = n.sent; marks = tt }))
   slice_runs t n g c level None (slice.Select q) = record { node = n.node; sent = n.sent; marks = tt; outs = tt }
   slice_runs t n g c level None (slice.Insert table rows) = record { node = n.node; sent = n.sent; marks = tt; outs = tt }
+  slice_runs t n g c level snapshot (slice.Update table assigns cond) = change t n g (change_of c level snapshot (slice.Update table assigns cond))
+  slice_runs t n g c level snapshot (slice.Delete table cond) = change t n g (change_of c level snapshot (slice.Delete table cond))
   slice_runs t n g c level snapshot (slice.Lock table mode) = record { node = n.node; sent = n.sent; marks = tt; outs = (refl, tt) }
-  slice_runs t n g c level snapshot (slice.Update table assigns cond) = record { node = n.node; sent = n.sent; marks = tt; outs = tt }
-  slice_runs t n g c level snapshot (slice.Delete table cond) = record { node = n.node; sent = n.sent; marks = tt; outs = tt }
 
   both : (b : Bool) (x y : SegTurn) → Stays x → Stays y → Stays (if b then x else y)
   both true x y e f = e
@@ -222,13 +265,23 @@ module _ (script : Script) (s : Seg) (at : IsSegment script s.node) where
   message_stays fails (message.Graph round graph) = stay
 
   granted : (g : Gxid) (wanted : Claim) → MovedFrom (is_granted s g wanted)
-  granted g wanted = record { node = refl; sent = refl; marks = (refl, tt) }
+  granted g wanted = by_object wanted.object _ (record { node = refl; sent = refl; marks = (refl, tt) })
+    where
+      by_object : (o : Object) (m : Moved) → MovedFrom m → MovedFrom (unless_end wanted o m)
+      by_object (Relation t) m f = f
+      by_object (Tuple rid) m f = f
+      by_object (Transaction other) m f = back_moves wanted m f
 
-  go_on : (m : Moved) (g : Gxid) (x : Suspended) → MovedFrom m → Stays (goes_on m g x)
-  go_on m g x f = behind m.marks _ f.marks (slice_runs m.seg (record { node = f.node; sent = f.sent }) g x.cid x.level x.snapshot x.slice)
+  go_on_at : (m : Moved) (g : Gxid) (o : Option Change) (rid : Rid) (x : Suspended) → MovedFrom m → Stays (goes_on_at m g o rid x)
+  go_on_at m g None rid x f = behind m.marks _ f.marks (record { node = f.node; sent = f.sent; marks = tt; outs = tt })
+  go_on_at m g (Some k) rid x f = row-goes-on g k MovedFrom Stays (change_moves g k) (change_ends g k) m rid x f
+
+  go_on : (m : Moved) (g : Gxid) (x : Suspended) (row : Option Rid) → MovedFrom m → Stays (goes_on m g x row)
+  go_on m g x None f = behind m.marks _ f.marks (slice_runs m.seg (record { node = f.node; sent = f.sent }) g x.cid x.level x.snapshot x.slice)
+  go_on m g x (Some rid) f = go_on_at m g (change_of x.cid x.level x.snapshot x.slice) rid x f
 
   resume : (g : Gxid) (w : Option Claim) (o : Option Suspended) → Stays (resumes s g w o)
-  resume g (Some wanted) (Some x) = go_on (is_granted s g wanted) g x (granted g wanted)
+  resume g (Some wanted) (Some x) = go_on (is_granted s g wanted) g x x.row (granted g wanted)
   resume g (Some wanted) None = stay
   resume g None o = stay
 

@@ -33,7 +33,7 @@ use Rattle.gx_law_order.proofs.Queued.{Queues, queue-stays, queued-by}
 use Rattle.gx_law_order.proofs.Sessions.{Kept, Placed, Tied, is_closing_in, is_live_in, is_nothing_in, is_open_in, is_said, is_working_in, stage_of}
 use Rattle.gx_law_order.proofs.Stages.{At, IsWhole, gx, txn-at}
 use Rattle.gx_law_order.proofs.Statuses.{Closes, Falls, Stage, Turned, abort-turns, commit-turns, is_running, stage}
-use Rattle.gx_law_order.proofs.Statuses.Stage.{Absent, Live, Closing, Finished, Dropped}
+use Rattle.gx_law_order.proofs.Statuses.Stage.{Live, Closing, Dropped}
 use Rattle.gx_law_order.proofs.Turns.{Base, Good, base-kept, closed-good, falls-is, refused-good, same-sessions, same-works, stage-is, work-is, y-is}
 
 -- sessions' states

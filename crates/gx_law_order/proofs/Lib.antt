@@ -8,9 +8,12 @@ pub mod Sent
 pub mod Clocks
 pub mod Letters
 pub mod Stages
+pub mod Changing
 pub mod Suspended
 pub mod Suspensions
+pub mod OwnLocks
 pub mod Writers
+pub mod Settled
 pub mod Ordered
 pub mod Follows
 pub mod Machines

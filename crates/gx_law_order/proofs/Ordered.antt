@@ -39,7 +39,8 @@ use Rattle.gx_law_order.proofs.Sent.{all-counted, at, count-both, counted-all, n
 use Rattle.gx_law_order.proofs.Suspended.{AreSuspended, HasCome, IsAmong, among-posted, come-later, come-now, each-both, each-own, suspended-later}
 use Rattle.gx_law_order.proofs.Suspensions.{Arrives, event_suspends}
 use Rattle.gx_law_order.proofs.Tables.{OutIn}
-use Rattle.gx_law_order.proofs.Writers.{WritersLock, event_locks}
+use Rattle.gx_law_order.proofs.OwnLocks.{WritersLock}
+use Rattle.gx_law_order.proofs.Writers.{event_locks}
 use Rattle.gx_ids.specs.declared.ids.Gxid.{Gxid}
 
 pub record Well (script : Script) (w : World) : Type 0 where

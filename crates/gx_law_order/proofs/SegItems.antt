@@ -3,7 +3,7 @@ use Rattle.std.proofs.Common.{◌≡◌, ℕ, List, [], ◌∷◌, ◌++◌, Opt
 use Rattle.std.proofs.lemmas.Bool.{eqb-true}
 use Rattle.std.proofs.lemmas.Bool.Decides.{nat_tests}
 use Rattle.std.proofs.lemmas.List.{append_assoc}
-use Rattle.std.specs.Prelude.{filter, fold, length, map}
+use Rattle.std.specs.Prelude.{filter, fold, map}
 use Rattle.gx_lemmas.proofs.Tests.{or-assoc}
 use Rattle.gx_ids.specs.declared.ids.Cid.{Cid}
 use Rattle.gx_ids.specs.declared.ids.Gxid.{Gxid}
@@ -19,13 +19,16 @@ use Rattle.gx_tree.specs.declared.value.Value.{Value}
 use Rattle.gx_dsnap.specs.Gxids.{is_below}
 use Rattle.gx_dsnap.specs.declared.snapshot.Snapshot.{Snapshot}
 use Rattle.gx_waits.specs.declared.claim.Claim.{Claim}
-use Rattle.gx_locks.specs.Locks.{Locks, is_free, resumed, wait_of}
+use Rattle.gx_waits.specs.declared.object.Object.{Object}
+use Rattle.gx_waits.specs.declared.object.Object.TheVariants.{Relation, Transaction, Tuple}
+use Rattle.gx_locks.specs.Locks.{Locks, is_free, wait_of}
 use Rattle.gx_meaning.specs.declared.fault.ArithFault.{ArithFault}
 use Rattle.gx_msg.specs.declared.item.JournalItem.{JournalItem}
 use Rattle.gx_msg.specs.declared.item.JournalItem.TheVariants as item
 use Rattle.gx_msg.specs.declared.item.Kept.{Kept}
 use Rattle.gx_msg.specs.declared.message.Message.{Message}
 use Rattle.gx_msg.specs.declared.message.Message.TheVariants as message
+use Rattle.gx_msg.specs.declared.message.Out.{Out}
 use Rattle.gx_msg.specs.declared.reply.Reply.{Reply}
 use Rattle.gx_msg.specs.declared.reply.Reply.TheVariants as answer
 use Rattle.gx_script.specs.declared.Script.{Script}
@@ -36,15 +39,19 @@ use Rattle.gx_store.specs.declared.node.NodeEvent.TheVariants as event
 use Rattle.gx_store.specs.Journals.{is_prepared, is_same_node, item_of, items_from, kept_at, kept_from, kept_with}
 use Rattle.gx_store.specs.Marks.{is_same_gxid}
 use Rattle.gx_rules.specs.AtSegment.{changes, commits, ends, finishes, if_fits, on_abort, on_commit, on_commit_prepared, on_event, on_exec, on_forget, on_message, on_prepare, once, promises, raised, repeats, resumes, takes, unless_below, was_prepared}
+use Rattle.gx_rules.specs.Changes.{Change, RowTurn, change_of, changes_rows, goes_on_at, suspended_at, suspends_at, waits}
 use Rattle.gx_rules.specs.Fits.{fits_exec, is_waiting}
-use Rattle.gx_rules.specs.Locks.{has_there, hold_mark, release_mark, with_hold}
+use Rattle.gx_rules.specs.Locks.{has_there, hold_mark, release_mark, wait_mark, with_hold}
 use Rattle.gx_rules.specs.Machine.{kept_item}
 use Rattle.gx_rules.specs.Maps.{with_at}
 use Rattle.gx_rules.specs.Segments.{Local, Phase, Seg, SegTurn, Suspended, Version, after_marks, has_ended, local_of, stays, tells, tells_kept, with_local}
 use Rattle.gx_rules.specs.Segments.Phase.{Aborted, Committed, Forgotten, Prepared, Reading, Writing}
 use Rattle.gx_rules.specs.Shown.{kept_of, kept_one, last_images, shown}
-use Rattle.gx_rules.specs.Running.{requests, runs_locked, runs_slice, slice_lock, suspends}
-use Rattle.gx_rules.specs.Slices.{Moved, first_fault, inserted, inserts, inserts_row, own_lock, selects, starts_from, takes_lock, takes_own, writes_row}
+use Rattle.gx_rules.specs.Running.{goes_on, is_granted, requests, runs_locked, runs_slice, slice_lock, suspends, unless_end}
+use Rattle.gx_rules.specs.Slices.{Moved, answers, fails_on, first_fault, gives_back, inserted, inserts_row, own_lock, selects, starts_from, takes_lock, takes_own, writes_row}
+use Rattle.gx_rules.specs.Visits.{DidStop}
+use Rattle.gx_rules.proofs.Moving.{Ends, Keeps}
+use Rattle.gx_law_order.proofs.Changing.{row-goes-on, rows-change, stop-keeps}
 use Rattle.gx_law_order.proofs.Releases.{each-released}
 use Rattle.gx_law_order.proofs.Lists.{Each}
 use Rattle.gx_law_order.proofs.Stages.{gx}
@@ -142,21 +149,13 @@ bound-with f g l b all one h = by_test (eqb h g) refl
     by_test true e = subst (λ j. Bound (b j) l.phase) (sym (eqb-true h g e)) one
     by_test false e = all h
 
--- a Hold mark stands for no item, and writes nothing
-hold-holds : (node n : Node) (s : Seg) (before : List Mark) (wanted : Claim) → Holds node s before → Holds node s (before ++ hold_mark n wanted ∷ [])
-hold-holds node n s before wanted k =
+-- marks that stand for no item, before those of a turn
+behind-items : (node : Node) (before ms : List Mark) (fails : Bool) (turn : SegTurn) → Each Dull ms → Items node (before ++ ms) fails turn → Items node before fails (after_marks ms turn)
+behind-items node before ms fails turn dull e =
     record {
-      versions = k.versions ∙ sym (writes-append node before (hold_mark n wanted ∷ []) ∙ append-nil (writes_at node before));
-      bound = λ h. subst (λ q. Bound q (s.locals h).phase) (sym (prepared-append before (hold_mark n wanted ∷ []) node (gx h) ∙ or-false (is_prepared before node (gx h)))) (k.bound h);
+      items = items-append node before ms turn.marks ∙ ap (λ q. q ++ items_from node (before ++ ms) turn.marks) (dull-items node before ms dull) ∙ e.items;
+      holds = subst (Holds node turn.seg) (append_assoc before ms turn.marks) e.holds;
     }
-  where
-    or-false : (a : Bool) → (a || false) ≡ a
-    or-false true = refl
-    or-false false = refl
-
-hold-items : (node n : Node) (before : List Mark) (wanted : Claim) (fails : Bool) (turn : SegTurn) → Items node (before ++ hold_mark n wanted ∷ []) fails turn → Items node before fails (after_marks (hold_mark n wanted ∷ []) turn)
-hold-items node n before wanted fails turn e =
-    record { items = e.items; holds = subst (Holds node turn.seg) (append_assoc before (hold_mark n wanted ∷ []) turn.marks) e.holds }
 
 module _ (s : Seg) (before : List Mark) (k : Holds s.node s before) where
   abbrev Well : Bool → SegTurn → Type 0
@@ -202,13 +201,13 @@ module _ (s : Seg) (before : List Mark) (k : Holds s.node s before) where
   both fails true x y e f = e
   both fails false x y e f = f
 
-  -- slices, where the horizon or the locks have changed before
-  abbrev raised_with : Gxid → Locks → Seg
-  raised_with top locks = record s { horizon = top; locks = locks }
+  -- slices
+  fault : (fails : Bool) (g : Gxid) (c : Cid) (f : KeyedRow × ArithFault) → Well fails (fails_on s g c f)
+  fault fails g c f = dull-turn fails _ (tt, tt) refl (none-kept fails) refl (bound-with s.locals g.0 _ (λ i. is_prepared before s.node (gx i)) k.bound (k.bound g.0))
 
-  select : (fails : Bool) (top : Gxid) (locks : Locks) (g : Gxid) (c : Cid) (q : Query) (rows : List KeyedRow) (f : Option (KeyedRow × ArithFault)) → Well fails (selects (raised_with top locks) g c q rows f)
-  select fails top locks g c q rows None = dull-turn fails _ tt refl (none-kept fails) refl (bound-with s.locals g.0 _ (λ i. is_prepared before s.node (gx i)) k.bound (k.bound g.0))
-  select fails top locks g c q rows (Some f) = dull-turn fails _ (tt, tt) refl (none-kept fails) refl (bound-with s.locals g.0 _ (λ i. is_prepared before s.node (gx i)) k.bound (k.bound g.0))
+  select : (fails : Bool) (g : Gxid) (c : Cid) (q : Query) (rows : List KeyedRow) (f : Option (KeyedRow × ArithFault)) → Well fails (selects s g c q rows f)
+  select fails g c q rows None = dull-turn fails _ tt refl (none-kept fails) refl (bound-with s.locals g.0 _ (λ i. is_prepared before s.node (gx i)) k.bound (k.bound g.0))
+  select fails g c q rows (Some f) = fault fails g c f
 
   pub record Added (g : Gxid) (m : Moved) : Type 0 where
     pub node : m.seg.node ≡ s.node
@@ -220,15 +219,26 @@ module _ (s : Seg) (before : List Mark) (k : Holds s.node s before) where
   each-last [] m e f = (f, tt)
   each-last (x ∷ xs) m e f = (e.0, each-last xs m e.1 f)
 
-  -- a lock that is taken
-  add-lock : (g : Gxid) (wanted : Claim) (m : Moved) → Added g m → Added g (takes_lock wanted m)
-  add-lock g wanted m f =
+  -- a mark that stands for no item and writes nothing
+  add-mark : (g : Gxid) (m : Moved) (locks : Locks) (told : Mark) → Dull told → writes_at s.node (told ∷ []) ≡ [] → Added g m
+      → Added g (record { seg = record m.seg { locks = locks }; marks = m.marks ++ told ∷ [] })
+  add-mark g m locks told dull none f =
       record {
         node = f.node;
-        dull = each-last m.marks _ f.dull tt;
-        versions = f.versions ∙ ap (λ vs. s.versions ++ vs) (sym (writes-append s.node m.marks (hold_mark m.seg.node wanted ∷ []) ∙ append-nil (writes_at s.node m.marks)));
+        dull = each-last m.marks _ f.dull dull;
+        versions = f.versions ∙ ap (λ vs. s.versions ++ vs) (sym (writes-append s.node m.marks (told ∷ []) ∙ ap (λ vs. writes_at s.node m.marks ++ vs) none ∙ append-nil (writes_at s.node m.marks)));
         bound = f.bound;
       }
+
+  -- a lock that is taken, or given back, or waited for
+  add-lock : (g : Gxid) (wanted : Claim) (m : Moved) → Added g m → Added g (takes_lock wanted m)
+  add-lock g wanted m f = add-mark g m _ (hold_mark m.seg.node wanted) tt refl f
+
+  add-back : (g : Gxid) (old : Claim) (m : Moved) → Added g m → Added g (gives_back old m)
+  add-back g old m f = add-mark g m _ (release_mark m.seg.node old) tt refl f
+
+  add-wait : (g : Gxid) (wanted : Claim) (m : Moved) → Added g m → Added g (waits wanted m).moved
+  add-wait g wanted m f = add-mark g m _ (wait_mark m.seg.node wanted) tt refl f
 
   add-own : (g : Gxid) (p : Phase) (m : Moved) → Added g m → Added g (takes_own g p m)
   add-own g Reading m f = add-lock g (own_lock g) m f
@@ -260,25 +270,82 @@ module _ (s : Seg) (before : List Mark) (k : Holds s.node s before) where
   add-rows g c table [] m n f = f
   add-rows g c table (r ∷ rs) m n f = add-rows g c table rs (inserts_row g c table m r) n (add-row g c table m r.rid (Some r.row) n f)
 
-  insert : (fails : Bool) (g : Gxid) (c : Cid) (count : ℕ) (m : Moved) → Added g m → Well fails (inserts g c count m)
-  insert fails g c count m f =
+  -- rows that are changed, by one that hasn't promised
+  add-changes : (g : Gxid) (k : Change) → is_prepared before s.node g ≡ false → Keeps g k (Added g)
+  add-changes g k n =
+      record {
+        takes = λ m rid free f. add-lock g _ m f;
+        gives = λ m rid held f. add-back g _ m f;
+        writes = λ m rid image why f. add-row g k.cid k.table m rid image n f;
+        skips = λ m rid why f. add-mark g m m.seg.locks (mark.Skip g k.cid rid) tt refl f;
+        faults = λ m rid image f. add-mark g m m.seg.locks (mark.Fault g k.cid rid image) tt refl f;
+      }
+
+  added-holds : (g : Gxid) (m : Moved) → Added g m → Holds s.node m.seg (before ++ m.marks)
+  added-holds g m f =
+      record {
+        versions = f.versions ∙ ap (λ vs. vs ++ writes_at s.node m.marks) k.versions ∙ sym (writes-append s.node before m.marks);
+        bound = λ h. subst (λ q. Bound q (m.seg.locals h).phase) (sym (same-prepared m.marks f.dull h)) (f.bound h);
+      }
+
+  -- behind the moves the transaction's record changes, but for its phase
+  moved-turn : (fails : Bool) (g : Gxid) (m : Moved) (l : Local) (outs : List Out) → l.phase ≡ (local_of m.seg g).phase → Added g m
+      → Well fails (record { seg = with_local m.seg g l; marks = m.marks; outs = outs; item = None })
+  moved-turn fails g m l outs same f =
+      let a = added-holds g m f in
       record {
         items = dull-items s.node before m.marks f.dull ∙ sym (none-kept fails);
         holds = record {
-          versions = f.versions ∙ ap (λ vs. vs ++ writes_at s.node m.marks) k.versions ∙ sym (writes-append s.node before m.marks);
-          bound = λ h. subst (λ q. Bound q ((inserts g c count m).seg.locals h).phase) (sym (same-prepared m.marks f.dull h)) (bound-with m.seg.locals g.0 _ (λ i. is_prepared before s.node (gx i)) f.bound (f.bound g.0) h);
+          versions = a.versions;
+          bound = bound-with m.seg.locals g.0 l (λ i. is_prepared (before ++ m.marks) s.node (gx i)) a.bound (subst (Bound (is_prepared (before ++ m.marks) s.node g)) (sym same) (a.bound g.0));
         };
       }
 
-  slice_runs : (fails : Bool) (top : Gxid) (locks : Locks) (g : Gxid) (c : Cid) (level : Level) (snapshot : Option Snapshot) (x : Slice) → is_prepared before s.node g ≡ false → Well fails (runs_slice (raised_with top locks) g c level snapshot x)
-  slice_runs fails top locks g c level (Some snapshot) (slice.Select q) n = select fails top locks g c q (shown (raised_with top locks) snapshot g c q.table) (first_fault q.cond (shown (raised_with top locks) snapshot g c q.table))
-  slice_runs fails top locks g c level (Some snapshot) (slice.Insert table rows) n =
-      insert fails g c (length rows) (inserted (raised_with top locks) g c table rows) (add-rows g c table rows (starts_from (raised_with top locks)) n (record { node = refl; dull = tt; versions = sym (append-nil s.versions); bound = k.bound }))
-  slice_runs fails top locks g c level None (slice.Select q) n = dull-turn fails (stays (raised_with top locks)) tt refl (none-kept fails) refl k.bound
-  slice_runs fails top locks g c level None (slice.Insert table rows) n = dull-turn fails (stays (raised_with top locks)) tt refl (none-kept fails) refl k.bound
-  slice_runs fails top locks g c level snapshot (slice.Lock table mode) n = dull-turn fails _ tt refl (none-kept fails) refl (bound-with s.locals g.0 _ (λ i. is_prepared before s.node (gx i)) k.bound (k.bound g.0))
-  slice_runs fails top locks g c level snapshot (slice.Update table assigns cond) n = dull-turn fails (stays (raised_with top locks)) tt refl (none-kept fails) refl k.bound
-  slice_runs fails top locks g c level snapshot (slice.Delete table cond) n = dull-turn fails (stays (raised_with top locks)) tt refl (none-kept fails) refl k.bound
+  answered : (fails : Bool) (g : Gxid) (c : Cid) (m : Moved) (r : Reply) → Added g m → Well fails (answers m.seg g c m.marks r)
+  answered fails g c m r f = moved-turn fails g m _ _ refl f
+
+  stop : (fails : Bool) (g : Gxid) (x : Change) → is_prepared before s.node g ≡ false → (m : Moved) (rid : Rid) (rest : List Rid) (count : ℕ) (t : RowTurn) (d : DidStop m g x rid t)
+      → Added g m → Well fails (suspends_at d.stopped g x (suspended_at x rid rest count))
+  stop fails g x n m rid rest count t d f =
+      let a = stop-keeps g x (Added g) (add-changes g x n) m rid t d f in
+      moved-turn fails g d.stopped _ [] refl (subst (Added g) a.is (add-wait g a.wanted a.before a.kept))
+
+  change-ends : (fails : Bool) (g : Gxid) (x : Change) → is_prepared before s.node g ≡ false → Ends g x (Added g) (Well fails)
+  change-ends fails g x n = record { done = λ m count f. answered fails g x.cid m _ f; stopped = stop fails g x n; failed = λ m cause f. answered fails g x.cid m _ f }
+
+  nothing-added : (g : Gxid) → Added g (starts_from s)
+  nothing-added g = record { node = refl; dull = tt; versions = sym (append-nil s.versions); bound = k.bound }
+
+  change : (fails : Bool) (g : Gxid) (o : Option Change) → is_prepared before s.node g ≡ false → Well fails (changes_rows s g o)
+  change fails g None n = stay fails
+  change fails g (Some x) n = rows-change g x (Added g) (Well fails) (add-changes g x n) (change-ends fails g x n) s (nothing-added g) (λ f. fault fails g x.cid f)
+
+  slice_runs : (fails : Bool) (g : Gxid) (c : Cid) (level : Level) (snapshot : Option Snapshot) (x : Slice) → is_prepared before s.node g ≡ false → Well fails (runs_slice s g c level snapshot x)
+  slice_runs fails g c level (Some snapshot) (slice.Select q) n = select fails g c q (shown s snapshot g c q.table) (first_fault q.cond (shown s snapshot g c q.table))
+  slice_runs fails g c level (Some snapshot) (slice.Insert table rows) n = answered fails g c (inserted s g c table rows) _ (add-rows g c table rows (starts_from s) n (nothing-added g))
+  slice_runs fails g c level None (slice.Select q) n = stay fails
+  slice_runs fails g c level None (slice.Insert table rows) n = stay fails
+  slice_runs fails g c level snapshot (slice.Update table assigns cond) n = change fails g (change_of c level snapshot (slice.Update table assigns cond)) n
+  slice_runs fails g c level snapshot (slice.Delete table cond) n = change fails g (change_of c level snapshot (slice.Delete table cond)) n
+  slice_runs fails g c level snapshot (slice.Lock table mode) n =
+      dull-turn fails _ tt refl (none-kept fails) refl (bound-with s.locals g.0 _ (λ i. is_prepared before s.node (gx i)) k.bound (k.bound g.0))
+
+  -- what a slice has waited for is granted
+  granted : (g : Gxid) (wanted : Claim) → Added g (is_granted s g wanted)
+  granted g wanted =
+      by_object wanted.object _
+      (record { node = refl; dull = (tt, tt); versions = sym (append-nil s.versions); bound = bound-with s.locals g.0 _ (λ i. is_prepared before s.node (gx i)) k.bound (k.bound g.0) })
+    where
+      by_object : (o : Object) (m : Moved) → Added g m → Added g (unless_end wanted o m)
+      by_object (Relation t) m f = f
+      by_object (Tuple rid) m f = f
+      by_object (Transaction other) m f = add-back g wanted m f
+
+  go_on_at : (fails : Bool) (g : Gxid) (m : Moved) (o : Option Change) (rid : Rid) (x : Suspended) → is_prepared before s.node g ≡ false → Added g m → Well fails (goes_on_at m g o rid x)
+  go_on_at fails g m None rid x n f =
+      behind-items s.node before m.marks fails (stays m.seg) f.dull
+      (record { items = sym (none-kept fails); holds = subst (Holds s.node m.seg) (sym (append-nil (before ++ m.marks))) (added-holds g m f) })
+  go_on_at fails g m (Some y) rid x n f = row-goes-on g y (Added g) (Well fails) (add-changes g y n) (change-ends fails g y n) m rid x f
 
 -- who runs hasn't promised
 open-bound : (b : Bool) (p : Phase) → is_open_phase p ≡ true → Bound b p → b ≡ false
@@ -297,26 +364,31 @@ module _ (script : Script) (s : Seg) (opens : AreOpen s) (before : List Mark) (k
   abbrev Good : Bool → SegTurn → Type 0
   Good fails turn = Items s.node before fails turn
 
-  still : (g : Gxid) (wanted : Claim) → is_prepared before s.node g ≡ false → is_prepared (before ++ hold_mark s.node wanted ∷ []) s.node g ≡ false
-  still g wanted n = prepared-append before (hold_mark s.node wanted ∷ []) s.node g ∙ ap (λ q. q || false) n
+  -- a slice that runs behind moves of its own
+  run : (fails : Bool) (m : Moved) (g : Gxid) (c : Cid) (level : Level) (snapshot : Option Snapshot) (x : Slice) → is_prepared before s.node g ≡ false → Added s before k g m
+      → Good fails (after_marks m.marks (runs_slice m.seg g c level snapshot x))
+  run fails m g c level snapshot x n f =
+      behind-items s.node before m.marks fails _ f.dull
+      (subst (λ node. Items node (before ++ m.marks) fails (runs_slice m.seg g c level snapshot x)) f.node
+      (slice_runs m.seg (before ++ m.marks) (subst (λ node. Holds node m.seg (before ++ m.marks)) (sym f.node) (added-holds s before k g m f)) fails g c level snapshot x
+      (subst (λ node. is_prepared (before ++ m.marks) node g ≡ false) (sym f.node) (same-prepared s before k m.marks f.dull g.0 ∙ n))))
 
   -- it runs with its lock, or waits for it
   starts : (fails : Bool) (h g : Gxid) (c : Cid) (level : Level) (snapshot : Option Snapshot) (x : Slice) (wanted : Claim) → is_prepared before s.node g ≡ false → Good fails (requests (raised s h) g c level snapshot x wanted)
   starts fails h g c level snapshot x wanted n =
       both s before k fails (is_free s.locks.holds wanted) (runs_locked (raised s h) g c level snapshot x wanted) (suspends (raised s h) g c level snapshot x wanted)
-      (hold-items s.node s.node before wanted fails _
-      (slice_runs s (before ++ hold_mark s.node wanted ∷ []) (hold-holds s.node s.node s before wanted k) fails (raised s h).horizon (with_hold s.locks wanted) g c level snapshot x (still g wanted n)))
+      (run fails (record { seg = record (raised s h) { locks = with_hold s.locks wanted }; marks = hold_mark s.node wanted ∷ [] }) g c level snapshot x n
+      (record { node = refl; dull = (tt, tt); versions = sym (append-nil s.versions); bound = k.bound }))
       (dull-turn s before k fails _ (tt, tt) refl (none-kept s before k fails) refl (bound-with s.locals g.0 _ (λ i. is_prepared before s.node (gx i)) k.bound (k.bound g.0)))
 
   -- a slice that goes on
+  go_on : (fails : Bool) (g : Gxid) (wanted : Claim) (x : Suspended) (row : Option Rid) → is_prepared before s.node g ≡ false → Good fails (goes_on (is_granted s g wanted) g x row)
+  go_on fails g wanted x None n = run fails (is_granted s g wanted) g x.cid x.level x.snapshot x.slice n (granted s before k g wanted)
+  go_on fails g wanted x (Some rid) n =
+      go_on_at s before k fails g (is_granted s g wanted) (change_of x.cid x.level x.snapshot x.slice) rid x n (granted s before k g wanted)
+
   resume : (fails : Bool) (g : Gxid) (w : Option Claim) (o : Option Suspended) → (local_of s g).suspended ≡ o → Good fails (resumes s g w o)
-  resume fails g (Some wanted) (Some x) e =
-      let rest : Local = record (local_of s g) { suspended = None } in
-      let free : Seg = with_local s g rest in
-      let kept : Holds s.node free before = record { versions = k.versions; bound = bound-with s.locals g.0 rest (λ i. is_prepared before s.node (gx i)) k.bound (k.bound g.0) } in
-      hold-items s.node s.node before wanted fails _
-      (slice_runs free (before ++ hold_mark s.node wanted ∷ []) (hold-holds s.node s.node free before wanted kept) fails s.horizon (resumed s.locks g (Some wanted)) g x.cid x.level x.snapshot x.slice
-      (still g wanted (open-bound (is_prepared before s.node g) (local_of s g).phase (opens g.0 x e) (k.bound g.0))))
+  resume fails g (Some wanted) (Some x) e = go_on fails g wanted x x.row (open-bound (is_prepared before s.node g) (local_of s g).phase (opens g.0 x e) (k.bound g.0))
   resume fails g (Some wanted) None e = stay s before k fails
   resume fails g None o e = stay s before k fails
 

@@ -10,7 +10,7 @@ use Rattle.std.specs.Ordering.{is_eq, nat_cmp}
 use Rattle.std.specs.declared.cmp.Ordering.TheVariants.{Less, Equal, Greater}
 use Rattle.gx_ids.specs.declared.ids.Gxid.{Gxid}
 use Rattle.gx_dsnap.specs.Gxids.{gxid_cmp}
-use Rattle.gx_dtx.specs.Rules.{Turn, begun, changed, enlisted, with_found, with_live, with_step, with_txn}
+use Rattle.gx_dtx.specs.Rules.{changed, with_found, with_step, with_txn}
 use Rattle.gx_dtx.specs.Table.{Table, find_txn}
 use Rattle.gx_dtx.specs.declared.change.Change.{Change}
 use Rattle.gx_dtx.specs.declared.change.Step.{Step}

@@ -5,6 +5,8 @@ use Rattle.gx_lemmas.proofs.Lists.{get-append}
 use Rattle.gx_lemmas.proofs.Numbers.{one-le-zero}
 use Rattle.gx_ids.specs.declared.ids.Gxid.{Gxid}
 use Rattle.gx_ids.specs.declared.ids.Node.{Node}
+use Rattle.gx_ids.specs.declared.rid.Rid.{Rid}
+use Rattle.gx_tree.specs.declared.slice.Slice.{Slice}
 use Rattle.gx_waits.specs.declared.claim.Claim.{Claim}
 use Rattle.gx_locks.specs.Claims.{is_of}
 use Rattle.gx_locks.specs.Locks.{wait_of}
@@ -19,11 +21,13 @@ use Rattle.gx_store.specs.declared.run.Step.{Step}
 use Rattle.gx_store.specs.Messages.{IsSending, IsSent, Receives}
 use Rattle.gx_store.specs.Ordered.{IsLink}
 use Rattle.gx_store.specs.Refusals.{the_coordinator}
+use Rattle.gx_rules.specs.Changes.{Change, change_of}
 use Rattle.gx_rules.specs.Fits.{is_right_slice, reads_nothing}
 use Rattle.gx_rules.specs.Machine.{Letter, World, posted}
 use Rattle.gx_rules.specs.Segments.{Local, Phase, Seg, Suspended, local_of}
 use Rattle.gx_rules.specs.Segments.Phase.{Reading, Writing}
 use Rattle.gx_rules.specs.Running.{slice_lock}
+use Rattle.gx_law_order.proofs.Changing.{IsAtRow}
 use Rattle.gx_law_order.proofs.Letters.{IsFound, IsLetter}
 use Rattle.gx_law_order.proofs.Lists.{Each, get_last}
 use Rattle.gx_law_order.proofs.Sent.{at}
@@ -140,13 +144,29 @@ is_open_phase Reading = true
 is_open_phase Writing = true
 is_open_phase _ = false
 
--- what a slice waits for
+-- what a slice waits for: its table's lock, or at a row that row's lock or its writer's end
+abbrev pub IsWantedAt : Script → Gxid → Slice → Option Rid → Claim → Type 0
+IsWantedAt script g x None wanted = slice_lock script g x ≡ wanted
+IsWantedAt script g x (Some rid) wanted = IsAtRow g rid wanted
+
 abbrev pub IsWanted : Script → Gxid → Suspended → Claim → Type 0
-IsWanted script g x wanted = slice_lock script g x.slice ≡ wanted
+IsWanted script g x wanted = IsWantedAt script g x.slice x.row wanted
+
+-- where it waits for its table it has done nothing yet, and where it waits at a row its command changes rows
+pub record IsChanging (x : Suspended) : Type 0 where
+  pub change : Change
+  pub is : change_of x.cid x.level x.snapshot x.slice ≡ Some change
+
+abbrev pub HasDoneAt : Option Rid → Suspended → Type 0
+HasDoneAt None x = (x.count ≡ 0) × (x.rows ≡ [])
+HasDoneAt (Some rid) x = IsChanging x
+
+abbrev pub HasDone : Suspended → Type 0
+HasDone x = HasDoneAt x.row x
 
 -- Of a slice that waits: its EXEC has come and has raised the horizon; it is right for the script and has its snapshot, unless it
--- reads nothing; it is of the transaction's last command there, which isn't answered; the transaction has neither promised anything nor ended there; and
--- what it waits for is its table's lock.
+-- reads nothing; it is of the transaction's last command there, which isn't answered; the transaction has neither promised anything
+-- nor ended there; and it waits for its table's lock, or at a row.
 pub record Waits (script : Script) (w : World) (i : ℕ) (g : Gxid) (x : Suspended) : Type 0 where
   pub horizon : Gxid
   pub come : HasCome w i (message.Exec g x.cid x.level x.snapshot horizon x.slice)
@@ -157,6 +177,7 @@ pub record Waits (script : Script) (w : World) (i : ℕ) (g : Gxid) (x : Suspend
   pub last : (local_of (w.segs i) g).last ≡ x.cid.0
   pub unanswered : (local_of (w.segs i) g).answer ≡ None
   pub opens : is_open_phase (local_of (w.segs i) g).phase ≡ true
+  pub done : HasDone x
   pub wanted : Claim
   pub wants : wait_of (w.segs i).locks g ≡ Some wanted
   pub lock : IsWanted script g x wanted
@@ -172,6 +193,7 @@ pub record Stands (script : Script) (Come : Message → Type 0) (top : Gxid) (g 
   pub last : l.last ≡ x.cid.0
   pub unanswered : l.answer ≡ None
   pub opens : is_open_phase l.phase ≡ true
+  pub done : HasDone x
 
 -- the waits of a transaction are its slice's, which has one
 pub record IsWait (script : Script) (g : Gxid) (x : Suspended) (those : List Claim) : Type 0 where
@@ -215,6 +237,7 @@ waits-there script w i k g x e =
       last = a.last;
       unanswered = a.unanswered;
       opens = a.opens;
+      done = a.done;
       wanted = b.wanted;
       wants = find-filter (is_of g) (w.segs i).locks.waits (b.wanted ∷ []) b.alone;
       lock = b.lock;
@@ -233,6 +256,7 @@ stands-later script C D top up g l x f h a =
       last = a.last;
       unanswered = a.unanswered;
       opens = a.opens;
+      done = a.done;
     }
   where
     higher : {a b c : ℕ} → a ≤ b → b ≤ c → a ≤ c

@@ -1,5 +1,5 @@
 -- Whatever happens at a segment, the slices that wait there stand as they do.
-use Rattle.std.proofs.Common.{◌≡◌, ◌≤◌, ℕ, List, [], ◌∷◌, ◌++◌, Option, Some, None, Bool, true, false, not, refl, sym, subst, ap, ◌∙◌, if◌then◌else◌, ◌&&◌, ◌||◌, nat_lt, ◌==◌, arith, eqb}
+use Rattle.std.proofs.Common.{◌≡◌, ◌≤◌, inl, inr, ℕ, List, [], ◌∷◌, ◌++◌, Option, Some, None, Bool, true, false, not, refl, sym, subst, ap, ◌∙◌, if◌then◌else◌, ◌&&◌, ◌||◌, nat_lt, ◌==◌, arith, eqb, append-nil}
 use Rattle.std.proofs.lemmas.Bool.{eqb-true}
 use Rattle.std.proofs.lemmas.Bool.Decides.{nat_tests}
 use Rattle.std.specs.Prelude.{cond, filter, fold, is_some}
@@ -18,6 +18,8 @@ use Rattle.gx_tree.specs.declared.value.Value.{Value}
 use Rattle.gx_dsnap.specs.Gxids.{is_below}
 use Rattle.gx_dsnap.specs.declared.snapshot.Snapshot.{Snapshot}
 use Rattle.gx_waits.specs.declared.claim.Claim.{Claim}
+use Rattle.gx_waits.specs.declared.object.Object.{Object}
+use Rattle.gx_waits.specs.declared.object.Object.TheVariants.{Relation, Transaction, Tuple}
 use Rattle.gx_locks.specs.Claims.{is_of}
 use Rattle.gx_locks.specs.Locks.{Locks, is_free, wait_of, without}
 use Rattle.gx_meaning.specs.declared.fault.ArithFault.{ArithFault}
@@ -26,18 +28,25 @@ use Rattle.gx_msg.specs.declared.message.Message.TheVariants as message
 use Rattle.gx_msg.specs.declared.reply.Reply.{Reply}
 use Rattle.gx_msg.specs.declared.reply.Reply.TheVariants as answer
 use Rattle.gx_script.specs.declared.Script.{Script}
+use Rattle.gx_store.specs.declared.mark.Mark.{Mark}
+use Rattle.gx_store.specs.declared.mark.Mark.TheVariants as mark
 use Rattle.gx_store.specs.declared.node.NodeEvent.{NodeEvent}
 use Rattle.gx_store.specs.declared.node.NodeEvent.TheVariants as event
 use Rattle.gx_rules.specs.AtSegment.{commits, ends, finishes, if_fits, on_abort, on_commit, on_commit_prepared, on_event, on_exec, on_forget, on_message, on_prepare, once, promises, raised, repeats, resumes, takes, unless_below, was_prepared}
+use Rattle.gx_rules.specs.Changes.{Change, RowTurn, change_of, changes_rows, goes_on_at, suspended_at, suspends_at, waits}
 use Rattle.gx_rules.specs.Fits.{fits_exec, is_right_slice, is_waiting, reads_nothing}
 use Rattle.gx_rules.specs.Locks.{with_hold, with_wait}
 use Rattle.gx_rules.specs.Segments.{Local, Phase, Seg, SegTurn, Suspended, local_of, tells_kept, with_local}
 use Rattle.gx_rules.specs.Segments.Phase.{Aborted, Committed, Forgotten, Prepared, Reading, Writing}
 use Rattle.gx_rules.specs.Shown.{shown}
-use Rattle.gx_rules.specs.Running.{goes_on, is_granted, requests, runs_locked, runs_slice, slice_lock, suspended_slice, suspends}
-use Rattle.gx_rules.specs.Slices.{Moved, first_fault, inserted, inserts_row, own_lock, selects, starts_from, takes_lock, takes_own, writes_row}
+use Rattle.gx_rules.specs.Running.{goes_on, is_granted, requests, runs_locked, runs_slice, slice_lock, suspended_slice, suspends, unless_end}
+use Rattle.gx_rules.specs.Slices.{Moved, answers, first_fault, gives_back, inserted, inserts_row, noted, own_lock, selects, starts_from, takes_lock, takes_own, writes_row}
+use Rattle.gx_rules.specs.Visits.{DidStop}
+use Rattle.gx_rules.proofs.Moving.{Ends}
+use Rattle.gx_rules.proofs.Moving as Loop
+use Rattle.gx_law_order.proofs.Changing.{IsAtRow, IsChangeOf, change-parts, row-goes-on, rows-change, stop-keeps}
 use Rattle.gx_law_order.proofs.Stages.{gx}
-use Rattle.gx_law_order.proofs.Suspended.{AreSuspended, AreWaits, IsWanted, Stands, Suits, is_open_phase, stands-later}
+use Rattle.gx_law_order.proofs.Suspended.{AreSuspended, AreWaits, HasDone, HasDoneAt, IsChanging, IsWanted, IsWantedAt, Stands, Suits, is_open_phase, stands-later}
 
 -- THE WAITS OF ONE AND OF THE OTHERS
 filter-more : {A : Type 0} (p : A → Bool) (xs : List A) (x : A) (b : Bool) → p x ≡ b → filter p (xs ++ x ∷ []) ≡ filter p xs ++ cond b (x ∷ []) []
@@ -76,8 +85,16 @@ lock-owner script g (slice.Delete table cond) = refl
 lock-owner script g (slice.Lock table mode) = refl
 
 -- and so is what it waits for
+row-owner : (g : Gxid) (rid : Rid) (wanted : Claim) → IsAtRow g rid wanted → wanted.gxid ≡ g
+row-owner g rid wanted (inl e) = ap (λ (c : Claim). c.gxid) (sym e)
+row-owner g rid wanted (inr e) = ap (λ (c : Claim). c.gxid) (sym e.is)
+
 pub wanted-owner : (script : Script) (g : Gxid) (x : Suspended) (wanted : Claim) → IsWanted script g x wanted → wanted.gxid ≡ g
-wanted-owner script g x wanted e = ap (λ (c : Claim). c.gxid) (sym e) ∙ lock-owner script g x.slice
+wanted-owner script g x wanted e = by_row x.row e
+  where
+    by_row : (row : Option Rid) → IsWantedAt script g x.slice row wanted → wanted.gxid ≡ g
+    by_row None e = ap (λ (c : Claim). c.gxid) (sym e) ∙ lock-owner script g x.slice
+    by_row (Some rid) e = row-owner g rid wanted e
 
 -- WHERE NOBODY OF A TRANSACTION WAITS
 pub nothing-suits : (script : Script) (Come : Message → Type 0) (top : Gxid) (h : ℕ) (l : Local) → l.suspended ≡ None → Suits script Come top h l
@@ -168,81 +185,149 @@ module _ (script : Script) (Come : Message → Type 0) where
   select t g c q rows None k e = resting t g _ k e e
   select t g c q rows (Some f) k e = resting t g _ k e e
 
-  -- what the rows so far have made of the segment: it is right, and none of the transaction waits
-  record Goes (g : Gxid) (m : Moved) : Type 0 where
-    rightly : Rightly m.seg
-    rests : (local_of m.seg g).suspended ≡ None
+  -- a command has come to a segment, whose horizon is at least its own
+  pub record Comes (g : Gxid) (c : Cid) (level : Level) (snapshot : Option Snapshot) (x : Slice) (top : Gxid) : Type 0 where
+    pub horizon : Gxid
+    pub come : Come (message.Exec g c level snapshot horizon x)
+    pub raised : horizon.0 ≤ top.0
+    pub right : is_right_slice script g c x ≡ true
+    pub reads : (is_some snapshot || reads_nothing x) ≡ true
+    pub numbered : 1 ≤ c.0
 
-  lock_goes : (g : Gxid) (wanted : Claim) (m : Moved) → Goes g m → Goes g (takes_lock wanted m)
-  lock_goes g wanted m e = record { rightly = record { each = e.rightly.each; own = e.rightly.own }; rests = e.rests }
+  -- What the moves so far have made of the segment: it is right, with its horizon; none of the transaction waits, which may write.
+  pub record Goes (top : Gxid) (g : Gxid) (m : Moved) : Type 0 where
+    pub rightly : Rightly m.seg
+    pub rests : (local_of m.seg g).suspended ≡ None
+    pub opens : is_open_phase (local_of m.seg g).phase ≡ true
+    pub horizon : m.seg.horizon ≡ top
 
-  own_goes : (g : Gxid) (p : Phase) (m : Moved) → Goes g m → Goes g (takes_own g p m)
-  own_goes g Reading m e = lock_goes g (own_lock g) m e
-  own_goes g Writing m e = e
-  own_goes g Prepared m e = e
-  own_goes g Committed m e = e
-  own_goes g (Forgotten b) m e = e
-  own_goes g Aborted m e = e
+  -- the locks change, but for those who wait
+  locks_goes : (top g : Gxid) (m : Moved) (holds : List Claim) (marks : List Mark) → Goes top g m
+      → Goes top g (record { seg = record m.seg { locks = record m.seg.locks { holds = holds } }; marks = marks })
+  locks_goes top g m holds marks e = record { rightly = record { each = e.rightly.each; own = e.rightly.own }; rests = e.rests; opens = e.opens; horizon = e.horizon }
 
-  write_goes : (g : Gxid) (c : Cid) (table : Table) (m : Moved) (rid : Rid) (image : Option (List Value)) → Goes g m → Goes g (writes_row g c table m rid image)
-  write_goes g c table m rid image e =
+  lock_goes : (top g : Gxid) (wanted : Claim) (m : Moved) → Goes top g m → Goes top g (takes_lock wanted m)
+  lock_goes top g wanted m e = locks_goes top g m _ _ e
+
+  back_goes : (top g : Gxid) (old : Claim) (m : Moved) → Goes top g m → Goes top g (gives_back old m)
+  back_goes top g old m e = locks_goes top g m _ _ e
+
+  own_goes : (top g : Gxid) (p : Phase) (m : Moved) → Goes top g m → Goes top g (takes_own g p m)
+  own_goes top g Reading m e = lock_goes top g (own_lock g) m e
+  own_goes top g Writing m e = e
+  own_goes top g Prepared m e = e
+  own_goes top g Committed m e = e
+  own_goes top g (Forgotten b) m e = e
+  own_goes top g Aborted m e = e
+
+  write_goes : (top g : Gxid) (c : Cid) (table : Table) (m : Moved) (rid : Rid) (image : Option (List Value)) → Goes top g m → Goes top g (writes_row g c table m rid image)
+  write_goes top g c table m rid image e =
       let l : Local = record (local_of m.seg g) { phase = Writing } in
       let a = resting m.seg g l e.rightly e.rests e.rests in
-      own_goes g (local_of m.seg g).phase _ (record { rightly = record { each = a.each; own = a.own }; rests = ap (λ (l : Local). l.suspended) (self m.seg g l) ∙ e.rests })
+      own_goes top g (local_of m.seg g).phase _
+      (record {
+        rightly = record { each = a.each; own = a.own };
+        rests = ap (λ (l : Local). l.suspended) (self m.seg g l) ∙ e.rests;
+        opens = ap (λ (l : Local). is_open_phase l.phase) (self m.seg g l);
+        horizon = e.horizon;
+      })
 
-  insert_rows : (g : Gxid) (c : Cid) (table : Table) (rows : List KeyedRow) (m : Moved) → Goes g m → Goes g (fold (inserts_row g c table) m rows)
-  insert_rows g c table [] m e = e
-  insert_rows g c table (r ∷ rs) m e = insert_rows g c table rs (inserts_row g c table m r) (write_goes g c table m r.rid (Some r.row) e)
+  note_goes : (top g : Gxid) (m : Moved) (told : Mark) → Goes top g m → Goes top g (noted m told)
+  note_goes top g m told e = record { rightly = e.rightly; rests = e.rests; opens = e.opens; horizon = e.horizon }
 
-  slice_runs : (t : Seg) (g : Gxid) (c : Cid) (level : Level) (snapshot : Option Snapshot) (x : Slice) → Rightly t → (local_of t g).suspended ≡ None → Keeps (runs_slice t g c level snapshot x)
-  slice_runs t g c level (Some snapshot) (slice.Select q) k e = select t g c q (shown t snapshot g c q.table) (first_fault q.cond (shown t snapshot g c q.table)) k e
-  slice_runs t g c level (Some snapshot) (slice.Insert table rows) k e =
-      let a = insert_rows g c table rows (starts_from t) (record { rightly = k; rests = e }) in
-      resting (inserted t g c table rows).seg g _ a.rightly a.rests a.rests
-  slice_runs t g c level None (slice.Select q) k e = k
-  slice_runs t g c level None (slice.Insert table rows) k e = k
-  slice_runs t g c level snapshot (slice.Lock table mode) k e = resting t g _ k e e
-  slice_runs t g c level snapshot (slice.Update table assigns cond) k e = k
-  slice_runs t g c level snapshot (slice.Delete table cond) k e = k
+  insert_rows : (top g : Gxid) (c : Cid) (table : Table) (rows : List KeyedRow) (m : Moved) → Goes top g m → Goes top g (fold (inserts_row g c table) m rows)
+  insert_rows top g c table [] m e = e
+  insert_rows top g c table (r ∷ rs) m e = insert_rows top g c table rs (inserts_row g c table m r) (write_goes top g c table m r.rid (Some r.row) e)
 
-  -- it is suspended
-  suspend : (t : Seg) (g : Gxid) (c : Cid) (level : Level) (snapshot : Option Snapshot) (h : Gxid) (x : Slice) → Rightly t → Come (message.Exec g c level snapshot h x) → h.0 ≤ t.horizon.0 → FitsNew script g c snapshot x (local_of t g) → nat_lt (local_of t g).last c.0 ≡ true → is_open_phase (local_of t g).phase ≡ true → Keeps (suspends t g c level snapshot x (slice_lock script g x))
-  suspend t g c level snapshot h x k come up fits new opens = changed t g _ (with_wait t.locks wanted) k suits (record { wanted = wanted; lock = refl; alone = alone }) others
+  -- it is suspended, with its one wait
+  wait : (t : Seg) (g : Gxid) (x : Suspended) (wanted : Claim) → Rightly t → (local_of t g).suspended ≡ None → is_open_phase (local_of t g).phase ≡ true
+      → Comes g x.cid x.level x.snapshot x.slice t.horizon → HasDone x → IsWanted script g x wanted
+      → Rightly (record (with_local t g (record (local_of t g) { last = x.cid.0; answer = None; suspended = Some x })) { locks = with_wait t.locks wanted })
+  wait t g x wanted k rests opens come done lock = changed t g l (with_wait t.locks wanted) k suits (record { wanted = wanted; lock = lock; alone = alone }) others
     where
-      wanted : Claim
-      wanted = slice_lock script g x
-
       l : Local
-      l = record (local_of t g) { last = c.0; answer = None; suspended = Some (suspended_slice c level snapshot x) }
-
-      positive : (a b : ℕ) → nat_lt a b ≡ true → 1 ≤ b
-      positive a b e = grind (arith, nat_tests)
+      l = record (local_of t g) { last = x.cid.0; answer = None; suspended = Some x }
 
       suits : Suits script Come t.horizon g.0 l
       suits y e =
-          subst (Stands script Come t.horizon g l) (some-same _ y e)
-          (record { horizon = h; come = come; raised = up; right = fits.right; reads = fits.reads; numbered = positive (local_of t g).last c.0 new; last = refl; unanswered = refl; opens = opens })
+          subst (Stands script Come t.horizon g l) (some-same x y e)
+          (record {
+            horizon = come.horizon;
+            come = come.come;
+            raised = come.raised;
+            right = come.right;
+            reads = come.reads;
+            numbered = come.numbered;
+            last = refl;
+            unanswered = refl;
+            opens = opens;
+            done = done;
+          })
 
       owner : wanted.gxid ≡ g
-      owner = lock-owner script g x
+      owner = wanted-owner script g x wanted lock
 
       alone : filter (is_of g) (t.locks.waits ++ wanted ∷ []) ≡ wanted ∷ []
       alone =
           filter-more (is_of g) t.locks.waits wanted true (ap (λ (q : Gxid). eqb q.0 g.0) owner ∙ eqb-self g.0)
-          ∙ ap (λ q. q ++ wanted ∷ []) (no-waits t g k (fits.rests new))
-
-      nil-end : (xs : List Claim) → xs ++ [] ≡ xs
-      nil-end [] = refl
-      nil-end (y ∷ ys) = ap (λ q. y ∷ q) (nil-end ys)
+          ∙ ap (λ q. q ++ wanted ∷ []) (no-waits t g k rests)
 
       others : (i : ℕ) → eqb i g.0 ≡ false → filter (is_of (gx i)) (t.locks.waits ++ wanted ∷ []) ≡ filter (is_of (gx i)) t.locks.waits
-      others i n = filter-more (is_of (gx i)) t.locks.waits wanted false (ap (λ (q : Gxid). eqb q.0 i) owner ∙ eqb-turned i g.0 n) ∙ nil-end (filter (is_of (gx i)) t.locks.waits)
+      others i n = filter-more (is_of (gx i)) t.locks.waits wanted false (ap (λ (q : Gxid). eqb q.0 i) owner ∙ eqb-turned i g.0 n) ∙ append-nil (filter (is_of (gx i)) t.locks.waits)
 
-  start : (t : Seg) (g : Gxid) (c : Cid) (level : Level) (snapshot : Option Snapshot) (h : Gxid) (x : Slice) → Rightly t → Come (message.Exec g c level snapshot h x) → h.0 ≤ t.horizon.0 → FitsNew script g c snapshot x (local_of t g) → nat_lt (local_of t g).last c.0 ≡ true → is_open_phase (local_of t g).phase ≡ true → Keeps (requests t g c level snapshot x (slice_lock script g x))
-  start t g c level snapshot h x k come up fits new opens =
+  -- ROWS THAT ARE CHANGED
+  pub change_goes : (top g : Gxid) (x : Change) → Loop.Keeps g x (Goes top g)
+  change_goes top g x =
+      record {
+        takes = λ m rid free e. lock_goes top g _ m e;
+        gives = λ m rid held e. back_goes top g _ m e;
+        writes = λ m rid image why e. write_goes top g x.cid x.table m rid image e;
+        skips = λ m rid why e. note_goes top g m (mark.Skip g x.cid rid) e;
+        faults = λ m rid image e. note_goes top g m (mark.Fault g x.cid rid image) e;
+      }
+
+  answered : (top g : Gxid) (c : Cid) (m : Moved) (r : Reply) → Goes top g m → Keeps (answers m.seg g c m.marks r)
+  answered top g c m r e = resting m.seg g _ e.rightly e.rests e.rests
+
+  -- the command that runs has come, and changes rows
+  module _ (top g : Gxid) (x : Change) (come : Comes g x.cid x.level (Some x.snapshot) x.slice top) (is : change_of x.cid x.level (Some x.snapshot) x.slice ≡ Some x) where
+    stop : (m : Moved) (rid : Rid) (rest : List Rid) (count : ℕ) (t : RowTurn) (d : DidStop m g x rid t) → Goes top g m → Keeps (suspends_at d.stopped g x (suspended_at x rid rest count))
+    stop m rid rest count t d e =
+        let a = stop-keeps g x (Goes top g) (change_goes top g x) m rid t d e in
+        subst (λ n. Keeps (suspends_at n g x (suspended_at x rid rest count))) a.is (waits_there a.before a.wanted a.lock a.kept)
+      where
+        waits_there : (m : Moved) (wanted : Claim) → IsAtRow g rid wanted → Goes top g m → Keeps (suspends_at (waits wanted m).moved g x (suspended_at x rid rest count))
+        waits_there m wanted lock e =
+            let b = wait m.seg g (suspended_at x rid rest count) wanted e.rightly e.rests e.opens
+            (subst (Comes g x.cid x.level (Some x.snapshot) x.slice) (sym e.horizon) come) (record { change = x; is = is }) lock in
+            record { each = b.each; own = b.own }
+
+    change_ends : Ends g x (Goes top g) Keeps
+    change_ends = record { done = λ m count e. answered top g x.cid m _ e; stopped = stop; failed = λ m cause e. answered top g x.cid m _ e }
+
+  change : (t : Seg) (g : Gxid) (x : Change) → Comes g x.cid x.level (Some x.snapshot) x.slice t.horizon → change_of x.cid x.level (Some x.snapshot) x.slice ≡ Some x
+      → Goes t.horizon g (starts_from t) → Keeps (changes_rows t g (Some x))
+  change t g x come is e = rows-change g x (Goes t.horizon g) Keeps (change_goes t.horizon g x) (change_ends t.horizon g x come is) t e (λ f. resting t g _ e.rightly e.rests e.rests)
+
+  slice_runs : (t : Seg) (g : Gxid) (c : Cid) (level : Level) (snapshot : Option Snapshot) (x : Slice) → Comes g c level snapshot x t.horizon → Rightly t
+      → (local_of t g).suspended ≡ None → is_open_phase (local_of t g).phase ≡ true → Keeps (runs_slice t g c level snapshot x)
+  slice_runs t g c level (Some snapshot) (slice.Select q) come k e o = select t g c q (shown t snapshot g c q.table) (first_fault q.cond (shown t snapshot g c q.table)) k e
+  slice_runs t g c level (Some snapshot) (slice.Insert table rows) come k e o =
+      answered t.horizon g c (inserted t g c table rows) _ (insert_rows t.horizon g c table rows (starts_from t) (record { rightly = k; rests = e; opens = o; horizon = refl }))
+  slice_runs t g c level (Some snapshot) (slice.Update table assigns cond) come k e o = change t g _ come refl (record { rightly = k; rests = e; opens = o; horizon = refl })
+  slice_runs t g c level (Some snapshot) (slice.Delete table cond) come k e o = change t g _ come refl (record { rightly = k; rests = e; opens = o; horizon = refl })
+  slice_runs t g c level None (slice.Select q) come k e o = k
+  slice_runs t g c level None (slice.Insert table rows) come k e o = k
+  slice_runs t g c level None (slice.Update table assigns cond) come k e o = k
+  slice_runs t g c level None (slice.Delete table cond) come k e o = k
+  slice_runs t g c level snapshot (slice.Lock table mode) come k e o = resting t g _ k e e
+
+  start : (t : Seg) (g : Gxid) (c : Cid) (level : Level) (snapshot : Option Snapshot) (x : Slice) → Rightly t → Comes g c level snapshot x t.horizon → (local_of t g).suspended ≡ None
+      → is_open_phase (local_of t g).phase ≡ true → Keeps (requests t g c level snapshot x (slice_lock script g x))
+  start t g c level snapshot x k come rests opens =
       both (is_free t.locks.holds (slice_lock script g x)) (runs_locked t g c level snapshot x (slice_lock script g x)) (suspends t g c level snapshot x (slice_lock script g x))
-      (slice_runs (record t { locks = with_hold t.locks (slice_lock script g x) }) g c level snapshot x (record { each = k.each; own = k.own }) (fits.rests new))
-      (suspend t g c level snapshot h x k come up fits new opens)
+      (slice_runs (record t { locks = with_hold t.locks (slice_lock script g x) }) g c level snapshot x come (record { each = k.each; own = k.own }) rests opens)
+      (wait t g (suspended_slice c level snapshot x) (slice_lock script g x) k rests opens come (refl, refl) refl)
 
   module _ (s : Seg) (k : Rightly s) where
     -- the horizon is raised
@@ -272,8 +357,13 @@ module _ (script : Script) (Come : Message → Type 0) where
     take : (g : Gxid) (c : Cid) (level : Level) (snapshot : Option Snapshot) (h : Gxid) (x : Slice) → Come (message.Exec g c level snapshot h x) → FitsNew script g c snapshot x (local_of s g) → is_open_phase (local_of s g).phase ≡ true → Keeps (takes script s g c level snapshot h x (local_of s g))
     take g c level snapshot h x come fits opens = by_test (nat_lt (local_of s g).last c.0) refl
       where
+        positive : (a b : ℕ) → nat_lt a b ≡ true → 1 ≤ b
+        positive a b e = grind (arith, nat_tests)
+
         by_test : (b : Bool) → nat_lt (local_of s g).last c.0 ≡ b → Keeps (if b then requests (raised s h) g c level snapshot x (slice_lock script g x) else repeats s g c (local_of s g))
-        by_test true new = start (raised s h) g c level snapshot h x (raise h) come (higher h).1 fits new opens
+        by_test true new =
+            start (raised s h) g c level snapshot x (raise h)
+            (record { horizon = h; come = come; raised = (higher h).1; right = fits.right; reads = fits.reads; numbered = positive (local_of s g).last c.0 new }) (fits.rests new) opens
         by_test false new = repeat g c (local_of s g)
 
     exec : (g : Gxid) (c : Cid) (level : Level) (snapshot : Option Snapshot) (h : Gxid) (x : Slice) (p : Phase) → Come (message.Exec g c level snapshot h x) → FitsNew script g c snapshot x (local_of s g) → (local_of s g).phase ≡ p → Keeps (on_exec script s g c level snapshot h x (local_of s g) p)
@@ -377,25 +467,59 @@ module _ (script : Script) (Come : Message → Type 0) where
     message_keeps fails (message.Answer g r) come = k
     message_keeps fails (message.Graph round graph) come = k
 
-    granted : (g : Gxid) (wanted : Claim) → Goes g (is_granted s g wanted)
-    granted g wanted =
-        let rest : Local = record (local_of s g) { suspended = None } in
-        record {
+    -- what a slice has waited for is granted
+    pub granted : (g : Gxid) (wanted : Claim) → is_open_phase (local_of s g).phase ≡ true → Goes s.horizon g (is_granted s g wanted)
+    granted g wanted opens =
+        by_object wanted.object _
+        (record {
           rightly = changed s g rest _ k (nothing-suits script Come s.horizon g.0 rest refl) (none-left g s.locks.waits) (others g);
           rests = ap (λ (l : Local). l.suspended) (self s g rest);
-        }
+          opens = ap (λ (l : Local). is_open_phase l.phase) (self s g rest) ∙ opens;
+          horizon = refl;
+        })
+      where
+        rest : Local
+        rest = record (local_of s g) { suspended = None }
 
-    go_on : (m : Moved) (g : Gxid) (x : Suspended) → Goes g m → Keeps (goes_on m g x)
-    go_on m g x e = slice_runs m.seg g x.cid x.level x.snapshot x.slice e.rightly e.rests
+        by_object : (o : Object) (m : Moved) → Goes s.horizon g m → Goes s.horizon g (unless_end wanted o m)
+        by_object (Relation t) m e = e
+        by_object (Tuple rid) m e = e
+        by_object (Transaction other) m e = back_goes s.horizon g wanted m e
 
-    resume : (g : Gxid) (w : Option Claim) (o : Option Suspended) → Keeps (resumes s g w o)
-    resume g (Some wanted) (Some x) = go_on (is_granted s g wanted) g x (granted g wanted)
-    resume g (Some wanted) None = k
-    resume g None o = k
+    -- it goes on behind what was granted
+    go_on_at : (m : Moved) (g : Gxid) (rid : Rid) (x : Suspended) → Comes g x.cid x.level x.snapshot x.slice s.horizon → IsChanging x → Goes s.horizon g m
+        → Keeps (goes_on_at m g (change_of x.cid x.level x.snapshot x.slice) rid x)
+    go_on_at m g rid x come c e =
+        subst (λ o. Keeps (goes_on_at m g o rid x)) (sym c.is)
+        (row-goes-on g y (Goes s.horizon g) Keeps (change_goes s.horizon g y) (change_ends s.horizon g y came p.again) m rid x e)
+      where
+        y : Change
+        y = c.change
+
+        p : IsChangeOf x.cid x.level x.snapshot x.slice y
+        p = change-parts x.cid x.level x.snapshot x.slice y c.is
+
+        came : Comes g y.cid y.level (Some y.snapshot) y.slice s.horizon
+        came =
+            subst (λ z. Comes g y.cid y.level (Some y.snapshot) z s.horizon) (sym p.slice)
+            (subst (λ z. Comes g y.cid y.level z x.slice s.horizon) (sym p.snapshot)
+            (subst (λ z. Comes g y.cid z x.snapshot x.slice s.horizon) (sym p.level) (subst (λ z. Comes g z x.level x.snapshot x.slice s.horizon) (sym p.cid) come)))
+
+    go_on : (m : Moved) (g : Gxid) (x : Suspended) (row : Option Rid) → Comes g x.cid x.level x.snapshot x.slice s.horizon → HasDoneAt row x → Goes s.horizon g m → Keeps (goes_on m g x row)
+    go_on m g x None come done e = slice_runs m.seg g x.cid x.level x.snapshot x.slice (subst (Comes g x.cid x.level x.snapshot x.slice) (sym e.horizon) come) e.rightly e.rests e.opens
+    go_on m g x (Some rid) come done e = go_on_at m g rid x come done e
+
+    resume : (g : Gxid) (w : Option Claim) (o : Option Suspended) → (local_of s g).suspended ≡ o → Keeps (resumes s g w o)
+    resume g (Some wanted) (Some x) e =
+        let a = k.each g.0 x e in
+        go_on (is_granted s g wanted) g x x.row
+        (record { horizon = a.horizon; come = a.come; raised = a.raised; right = a.right; reads = a.reads; numbered = a.numbered }) a.done (granted g wanted a.opens)
+    resume g (Some wanted) None e = k
+    resume g None o e = k
 
     pub event_suspends : (e : NodeEvent) (fails : Bool) → Arrives Come e → Keeps (on_event script s e fails)
     event_suspends (event.Deliver from envelope) fails come = message_keeps fails envelope.message come
-    event_suspends (event.Resume g) fails come = resume g (wait_of s.locks g) (local_of s g).suspended
+    event_suspends (event.Resume g) fails come = resume g (wait_of s.locks g) (local_of s g).suspended refl
     event_suspends (event.Start x) fails come = k
     event_suspends (event.End x) fails come = k
     event_suspends (event.Resend i g) fails come = k

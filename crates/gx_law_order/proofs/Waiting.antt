@@ -1,36 +1,43 @@
 -- Who waits. A slice that waits at a segment: where it came from, how its transaction stands there meanwhile, and what it does when
 -- it goes on. A statement that waits at the coordinator, and how its transaction and its session stand meanwhile.
-use Rattle.std.proofs.Common.{◌≡◌, ℕ, List, [], ◌∷◌, Option, Some, None, true, false, refl, sym, subst, ap, ◌∙◌, ◌&&◌, ◌≤◌, not, nat_lt, arith}
+use Rattle.std.proofs.Common.{◌≡◌, ◌⊎◌, inl, inr, ℕ, List, [], ◌∷◌, Option, Some, None, true, false, refl, sym, subst, ap, ◌∙◌, ◌&&◌, ◌≤◌, not, nat_lt, arith}
 use Rattle.std.specs.Prelude.{filter}
 use Rattle.std.proofs.lemmas.Bool.Decides.{nat_tests}
 use Rattle.gx_lemmas.proofs.Options.{none-some, some-same}
 use Rattle.gx_lemmas.proofs.Tests.{and-second}
 use Rattle.gx_ids.specs.declared.ids.Gxid.{Gxid}
+use Rattle.gx_ids.specs.declared.rid.Rid.{Rid}
+use Rattle.gx_tree.specs.declared.slice.Slice.{Slice}
+use Rattle.gx_tree.specs.declared.slice.Slice.TheVariants as slice
 use Rattle.gx_tree.specs.declared.stmt.Stmt.{Stmt}
 use Rattle.gx_waits.specs.declared.claim.Claim.{Claim}
 use Rattle.gx_locks.specs.Claims.{is_of}
-use Rattle.gx_locks.specs.Locks.{is_free, is_ready, wait_of}
+use Rattle.gx_locks.specs.Locks.{is_free, is_ready, resumed, wait_of}
 use Rattle.gx_script.specs.declared.Script.{Script}
 use Rattle.gx_store.specs.declared.node.NodeEvent.TheVariants as event
 use Rattle.gx_rules.specs.AtCoordinator.{coord_can, is_segment, lock_for}
 use Rattle.gx_rules.specs.AtSegment.{resumes}
+use Rattle.gx_rules.specs.Changes.{Change, change_of, goes_on_at, goes_through}
 use Rattle.gx_rules.specs.Coordinators.{Coord, session_of, work_of}
-use Rattle.gx_rules.specs.Machine.{World, seg_can}
-use Rattle.gx_rules.specs.Segments.{Seg, Suspended, local_of, Phase, has_ended}
 use Rattle.gx_rules.specs.Fits.{holds_locks}
+use Rattle.gx_rules.specs.Locks.{hold_mark}
+use Rattle.gx_rules.specs.Machine.{World, seg_can}
+use Rattle.gx_rules.specs.Running.{goes_on, is_granted, runs_slice, slice_lock}
+use Rattle.gx_rules.specs.Segments.{Phase, Seg, SegTurn, Suspended, after_marks, has_ended, local_of, with_local}
 use Rattle.gx_rules.specs.Segments.Phase.{Aborted, Committed, Forgotten, Prepared, Reading, Writing}
-use Rattle.gx_rules.specs.Segments.Phase.{Reading, Writing}
+use Rattle.gx_rules.specs.Slices.{Moved}
+use Rattle.gx_law_order.proofs.Changing.{IsAtRow}
 use Rattle.gx_law_order.proofs.Ordered.{Well}
 use Rattle.gx_law_order.proofs.Sessions.{is_working_in, stage_of, Kept}
 use Rattle.gx_law_order.proofs.Queued.{WaitsFor, claims_for, listed, waits-for}
 use Rattle.gx_law_order.proofs.Stages.{gx}
 use Rattle.gx_law_order.proofs.Statuses.Stage.{Live}
-use Rattle.gx_law_order.proofs.Suspended.{AreWaits, find-filter, waits-there}
+use Rattle.gx_law_order.proofs.Suspended.{AreWaits, HasDoneAt, IsWantedAt, find-filter, waits-there}
 use Rattle.gx_law_order.proofs.Suspensions.{closed-rests}
 use Rattle.gx_law_order.proofs.World.{Knows}
-pub use Rattle.gx_law_order.proofs.Suspended.{HasCome, IsAmong, IsWanted, Waits, each-among, is_open_phase}
+pub use Rattle.gx_law_order.proofs.Suspended.{HasCome, HasDone, IsAmong, IsWanted, Waits, each-among, is_open_phase}
 
--- a slice that goes on: it waits, and its lock is free
+-- a slice that goes on: it waits, and its lock is free (GoesOnSo says how)
 pub record GoesOn (script : Script) (w : World) (i : ℕ) (g : Gxid) : Type 0 where
   pub slice : Suspended
   pub is : (local_of (w.segs i) g).suspended ≡ Some slice
@@ -106,6 +113,73 @@ going-on script w good i g ok = by_wait (wait_of s.locks g) refl (and-second (is
 -- what it does then
 pub goes-on-is : (s : Seg) (g : Gxid) (wanted : Claim) (x : Suspended) → wait_of s.locks g ≡ Some wanted → (local_of s g).suspended ≡ Some x → resumes s g (wait_of s.locks g) (local_of s g).suspended ≡ resumes s g (Some wanted) (Some x)
 goes-on-is s g wanted x e f = cc
+
+-- WHERE IT WAITS
+-- for its table: nothing of it is done yet
+pub record IsAtTable (script : Script) (g : Gxid) (x : Suspended) (wanted : Claim) : Type 0 where
+  pub row : x.row ≡ None
+  pub count : x.count ≡ 0
+  pub rows : x.rows ≡ []
+  pub lock : slice_lock script g x.slice ≡ wanted
+
+-- at a row: its command changes rows
+pub record IsAtARow (g : Gxid) (x : Suspended) (wanted : Claim) : Type 0 where
+  pub rid : Rid
+  pub row : x.row ≡ Some rid
+  pub change : Change
+  pub changes : change_of x.cid x.level x.snapshot x.slice ≡ Some change
+  pub lock : IsAtRow g rid wanted
+
+pub waits-where : (script : Script) (g : Gxid) (x : Suspended) (wanted : Claim) → HasDone x → IsWanted script g x wanted → IsAtTable script g x wanted ⊎ IsAtARow g x wanted
+waits-where script g x wanted done lock = by_row x.row refl done lock
+  where
+    by_row : (row : Option Rid) → x.row ≡ row → HasDoneAt row x → IsWantedAt script g x.slice row wanted → IsAtTable script g x wanted ⊎ IsAtARow g x wanted
+    by_row None e d l = inl (record { row = e; count = d.0; rows = d.1; lock = l })
+    by_row (Some rid) e d l = inr (record { rid = rid; row = e; change = d.change; changes = d.is; lock = l })
+
+-- the segment without its wait, and with the lock
+abbrev pub freed : Seg → Gxid → Claim → Seg
+freed s g wanted = record (with_local s g (record (local_of s g) { suspended = None })) { locks = resumed s.locks g (Some wanted) }
+
+-- With its table's lock it runs from the start.
+pub record RunsNow (script : Script) (s : Seg) (g : Gxid) (x : Suspended) (wanted : Claim) (turn : SegTurn) : Type 0 where
+  pub at : IsAtTable script g x wanted
+  pub is : turn ≡ after_marks (hold_mark s.node wanted ∷ []) (runs_slice (freed s g wanted) g x.cid x.level x.snapshot x.slice)
+
+-- With a row's lock, or at its writer's end, it goes on at that row.
+pub record GoesOnAtRow (s : Seg) (g : Gxid) (x : Suspended) (wanted : Claim) (turn : SegTurn) : Type 0 where
+  pub at : IsAtARow g x wanted
+  pub is : turn ≡ goes_through g at.change (at.rid ∷ x.rows) (is_granted s g wanted) x.count
+
+abbrev pub GoesOnSo : Script → Seg → Gxid → Suspended → Claim → SegTurn → Type 0
+GoesOnSo script s g x wanted turn = RunsNow script s g x wanted turn ⊎ GoesOnAtRow s g x wanted turn
+
+granted-table : (script : Script) (s : Seg) (g : Gxid) (y : Slice)
+    → is_granted s g (slice_lock script g y) ≡ record { seg = freed s g (slice_lock script g y); marks = hold_mark s.node (slice_lock script g y) ∷ [] }
+granted-table script s g (slice.Select query) = refl
+granted-table script s g (slice.Insert table rows) = refl
+granted-table script s g (slice.Update table assigns cond) = refl
+granted-table script s g (slice.Delete table cond) = refl
+granted-table script s g (slice.Lock table mode) = refl
+
+pub goes-on-ways : (script : Script) (s : Seg) (g : Gxid) (x : Suspended) (wanted : Claim) → HasDone x → IsWanted script g x wanted → GoesOnSo script s g x wanted (resumes s g (Some wanted) (Some x))
+goes-on-ways script s g x wanted done lock = by_place (waits-where script g x wanted done lock)
+  where
+    by_place : IsAtTable script g x wanted ⊎ IsAtARow g x wanted → GoesOnSo script s g x wanted (resumes s g (Some wanted) (Some x))
+    by_place (inl t) =
+        inl (record {
+          at = t;
+          is = ap (goes_on (is_granted s g wanted) g x) t.row
+              ∙ ap (λ (m : Moved). after_marks m.marks (runs_slice m.seg g x.cid x.level x.snapshot x.slice))
+              (subst (λ c. is_granted s g c ≡ record { seg = freed s g c; marks = hold_mark s.node c ∷ [] }) t.lock (granted-table script s g x.slice));
+        })
+    by_place (inr t) = inr (record { at = t; is = ap (goes_on (is_granted s g wanted) g x) t.row ∙ ap (λ o. goes_on_at (is_granted s g wanted) g o t.rid x) t.changes })
+
+-- who is admitted to go on does so in one of these ways
+pub going-ways : (script : Script) (w : World) (i : ℕ) (g : Gxid) (o : GoesOn script w i g)
+    → GoesOnSo script (w.segs i) g o.slice o.wanted (resumes (w.segs i) g (wait_of (w.segs i).locks g) (local_of (w.segs i) g).suspended)
+going-ways script w i g o =
+    subst (GoesOnSo script (w.segs i) g o.slice o.wanted) (sym (goes-on-is (w.segs i) g o.wanted o.slice o.claims o.is)) (goes-on-ways script (w.segs i) g o.slice o.wanted o.waits.done o.lock)
 
 -- AT THE COORDINATOR
 -- A statement that goes out behind a wait: it waits for its table's lock, which is free; its transaction is live and has no command

@@ -1,10 +1,9 @@
 -- Who writes at a segment locks itself there: a transaction holds its own lock from its first write at a segment until it has ended
 -- there, and a hold on a transaction is of that one.
-use Rattle.std.proofs.Common.{◌≡◌, ℕ, List, [], ◌∷◌, ◌++◌, Option, Some, None, Bool, true, false, not, refl, sym, subst, ap, ◌∙◌, if◌then◌else◌, cond, ◌&&◌, ◌||◌, ◌==◌, nat_lt, arith, eqb}
+use Rattle.std.proofs.Common.{◌≡◌, ◌⊎◌, inl, inr, ℕ, List, [], ◌∷◌, ◌++◌, Option, Some, None, Bool, true, false, not, refl, sym, subst, ap, ◌∙◌, if◌then◌else◌, cond, ◌&&◌, ◌||◌, ◌==◌, nat_lt, arith, eqb}
 use Rattle.std.proofs.lemmas.Bool.{eqb-true}
 use Rattle.std.proofs.lemmas.Bool.Decides.{nat_tests}
 use Rattle.std.proofs.lemmas.List.Folds.{list_any-append}
-use Rattle.std.specs.List.{list_any}
 use Rattle.std.specs.Prelude.{filter, fold}
 use Rattle.gx_lemmas.proofs.Numbers.{eqb-self}
 use Rattle.gx_lemmas.proofs.Options.{some-same}
@@ -26,155 +25,35 @@ use Rattle.gx_waits.specs.declared.claim.Claim.{Claim}
 use Rattle.gx_waits.specs.declared.object.Object.{Object}
 use Rattle.gx_waits.specs.declared.object.Object.TheVariants.{Relation, Transaction, Tuple}
 use Rattle.gx_locks.specs.Claims.{is_of}
-use Rattle.gx_locks.specs.Locks.{held, is_free, wait_of, without}
+use Rattle.gx_locks.specs.Locks.{Locks, held, is_free, wait_of, without}
 use Rattle.gx_meaning.specs.declared.fault.ArithFault.{ArithFault}
 use Rattle.gx_msg.specs.declared.message.Message.{Message}
 use Rattle.gx_msg.specs.declared.message.Message.TheVariants as message
 use Rattle.gx_msg.specs.declared.reply.Reply.{Reply}
 use Rattle.gx_msg.specs.declared.reply.Reply.TheVariants as answer
 use Rattle.gx_script.specs.declared.Script.{Script}
+use Rattle.gx_store.specs.declared.mark.Mark.{Mark}
 use Rattle.gx_store.specs.declared.mark.Mark.TheVariants as mark
 use Rattle.gx_store.specs.declared.node.NodeEvent.{NodeEvent}
 use Rattle.gx_store.specs.declared.node.NodeEvent.TheVariants as event
 use Rattle.gx_store.specs.Marks.{is_same_gxid}
 use Rattle.gx_rules.specs.AtSegment.{commits, ends, finishes, if_fits, on_abort, on_commit, on_commit_prepared, on_event, on_exec, on_forget, on_message, on_prepare, once, promises, raised, repeats, resumes, takes, unless_below, was_prepared}
+use Rattle.gx_rules.specs.Changes.{Change, RowTurn, change_of, changes_rows, end_lock, goes_on_at, suspended_at, suspends_at, tuple_lock, waits}
 use Rattle.gx_rules.specs.Fits.{fits_exec, is_waiting}
-use Rattle.gx_rules.specs.Locks.{with_hold}
-use Rattle.gx_rules.specs.Running.{goes_on, is_granted, requests, runs_slice, slice_lock, suspended_slice}
+use Rattle.gx_rules.specs.Locks.{with_hold, without_hold}
+use Rattle.gx_rules.specs.Running.{goes_on, is_granted, requests, runs_slice, slice_lock, suspended_slice, unless_end}
 use Rattle.gx_rules.specs.Segments.{Local, Phase, Seg, SegTurn, Suspended, Version, has_ended, local_of, tells_kept, with_local}
 use Rattle.gx_rules.specs.Segments.Phase.{Aborted, Committed, Forgotten, Prepared, Reading, Writing}
 use Rattle.gx_rules.specs.Shown.{shown}
-use Rattle.gx_rules.specs.Slices.{Moved, adds_version, first_fault, inserted, inserts_row, own_lock, selects, starts_from, takes_own, version, writes_row}
-use Rattle.gx_law_order.proofs.Lists.{Each, each_append, each_filter}
+use Rattle.gx_rules.specs.Slices.{Moved, adds_version, answers, first_fault, gives_back, inserted, inserts_row, noted, own_lock, selects, starts_from, takes_lock, takes_own, version, writes_row}
+use Rattle.gx_rules.specs.Visits.{DidStop}
+use Rattle.gx_rules.proofs.Moving.{Ends}
+use Rattle.gx_rules.proofs.Moving as Loop
+use Rattle.gx_law_order.proofs.Changing.{IsAtRow, row-goes-on, rows-change, stop-keeps}
+use Rattle.gx_law_order.proofs.Lists.{Each, each_filter}
+use Rattle.gx_law_order.proofs.OwnLocks.{IsOfRows, IsOwn, LocksIn, LocksItself, SaysWritten, WritersLock, each-held, end-back, has_version, held-own, held-rows, holds_own, left-rows, none-left, others-left, rows-own, slice-rows}
 use Rattle.gx_law_order.proofs.Stages.{gx}
-use Rattle.gx_law_order.proofs.Suspended.{AreSuspended, AreWaits, IsWanted, find-filter, is_open_phase}
-
--- WHAT STANDS
--- a hold on a transaction is that one's own lock
-abbrev pub IsOwnOn : Claim → Object → Type 0
-IsOwnOn claim (Transaction h) = claim ≡ own_lock h
-IsOwnOn claim _ = Unit {0}
-
-abbrev pub IsOwn : Claim → Type 0
-IsOwn claim = IsOwnOn claim claim.object
-
-abbrev pub holds_own : ℕ → List Claim → Bool
-holds_own h holds = list_any (same_claim (own_lock (gx h))) holds
-
--- whether a transaction has written there
-abbrev pub has_version : ℕ → List Version → Bool
-has_version h versions = list_any (λ (v : Version). is_same_gxid v.gxid (gx h)) versions
-
-abbrev pub SaysWritten : Phase → Bool → Type 0
-SaysWritten Reading written = written ≡ false
-SaysWritten Writing written = written ≡ true
-SaysWritten _ written = Unit {0}
-
--- it holds its own lock exactly if it has written there and hasn't ended there
-pub record LocksItself (phase : Phase) (written held : Bool) : Type 0 where
-  pub says : SaysWritten phase written
-  pub holds : held ≡ written && not (has_ended phase)
-
--- so with these holds
-abbrev pub LocksIn : Seg → ℕ → List Claim → Type 0
-LocksIn s h holds = LocksItself (s.locals h).phase (has_version h s.versions) (holds_own h holds)
-
-pub record WritersLock (s : Seg) : Type 0 where
-  pub owns : Each IsOwn s.locks.holds
-  pub each : (h : ℕ) → LocksIn s h s.locks.holds
-
--- HOLDS
-each-held : (holds : List Claim) (wanted : Claim) → Each IsOwn holds → IsOwn wanted → Each IsOwn (held holds wanted)
-each-held holds wanted e f = by_test (list_any (same_claim wanted) holds)
-  where
-    by_test : (b : Bool) → Each IsOwn (if b then holds else holds ++ wanted ∷ [])
-    by_test true = e
-    by_test false = each_append IsOwn holds (wanted ∷ []) e (f, tt)
-
--- a lock that is no transaction's
-abbrev pub IsOfRows : Object → Type 0
-IsOfRows (Transaction h) = ⊥
-IsOfRows _ = Unit {0}
-
-rows-own : (wanted : Claim) → IsOfRows wanted.object → IsOwn wanted
-rows-own wanted e = by_object wanted.object e
-  where
-    by_object : (o : Object) → IsOfRows o → IsOwnOn wanted o
-    by_object (Relation t) e = tt
-    by_object (Tuple r) e = tt
-    by_object (Transaction h) e = absurd e
-
-rows-other : (h : ℕ) (wanted : Claim) → IsOfRows wanted.object → same_claim (own_lock (gx h)) wanted ≡ false
-rows-other h wanted e = by_object wanted.object refl e
-  where
-    by_object : (o : Object) → wanted.object ≡ o → IsOfRows o → same_claim (own_lock (gx h)) wanted ≡ false
-    by_object (Relation t) f e = ap (λ o. same_claim (own_lock (gx h)) (record wanted { object = o })) f ∙ and-false _
-    by_object (Tuple r) f e = ap (λ o. same_claim (own_lock (gx h)) (record wanted { object = o })) f ∙ and-false _
-    by_object (Transaction g) f e = absurd e
-
-held-rows : (h : ℕ) (holds : List Claim) (wanted : Claim) → IsOfRows wanted.object → holds_own h (held holds wanted) ≡ holds_own h holds
-held-rows h holds wanted e = by_test (list_any (same_claim wanted) holds)
-  where
-    by_test : (b : Bool) → holds_own h (if b then holds else holds ++ wanted ∷ []) ≡ holds_own h holds
-    by_test true = refl
-    by_test false = list_any-append (same_claim (own_lock (gx h))) holds (wanted ∷ []) ∙ ap (λ b. holds_own h holds || (b || false)) (rows-other h wanted e) ∙ or-false (holds_own h holds)
-
-held-own : (h g : ℕ) (holds : List Claim) → holds_own h (held holds (own_lock (gx g))) ≡ holds_own h holds || eqb h g
-held-own h g holds = by_both (holds_own g holds) (eqb h g) refl refl
-  where
-    or-true : (a : Bool) → true ≡ (a || true)
-    or-true true = refl
-    or-true false = refl
-
-    same : (q : Bool) → eqb h g ≡ q → same_claim (own_lock (gx h)) (own_lock (gx g)) ≡ q
-    same true e = grind (arith, nat_tests)
-    same false e = grind (arith, nat_tests)
-
-    by_both : (b q : Bool) → holds_own g holds ≡ b → eqb h g ≡ q → holds_own h (if b then holds else holds ++ own_lock (gx g) ∷ []) ≡ holds_own h holds || q
-    by_both true true e f = subst (λ i. holds_own i holds ≡ true) (sym (eqb-true h g f)) e ∙ or-true (holds_own h holds)
-    by_both true false e f = sym (or-false (holds_own h holds))
-    by_both false q e f = list_any-append (same_claim (own_lock (gx h))) holds (own_lock (gx g) ∷ []) ∙ ap (λ b. holds_own h holds || b) (or-false (same_claim (own_lock (gx h)) (own_lock (gx g))) ∙ same q f)
-
--- another's claim
-not-own : (h : ℕ) (x : Claim) → (h == x.gxid.0) ≡ false → same_claim (own_lock (gx h)) x ≡ false
-not-own h x e = and-none (h == x.gxid.0) _ e
-  where
-    and-none : (a b : Bool) → a ≡ false → (a && b) ≡ false
-    and-none true b e = absurd (cc)
-    and-none false b e = refl
-
-none-left : (g : ℕ) (holds : List Claim) → holds_own g (without (gx g) holds) ≡ false
-none-left g [] = refl
-none-left g (x ∷ xs) = by_test (is_of (gx g) x) refl (none-left g xs)
-  where
-    other : (a b : ℕ) → (a == b) ≡ false → (b == a) ≡ false
-    other a b e = grind (arith, nat_tests)
-
-    by_test : (b : Bool) → is_of (gx g) x ≡ b → holds_own g (without (gx g) xs) ≡ false → holds_own g (cond (not b) (x ∷ without (gx g) xs) (without (gx g) xs)) ≡ false
-    by_test true e f = f
-    by_test false e f = ap (λ b. b || holds_own g (without (gx g) xs)) (not-own g x (other x.gxid.0 g e)) ∙ f
-
-others-left : (h g : ℕ) (holds : List Claim) → eqb h g ≡ false → holds_own h (without (gx g) holds) ≡ holds_own h holds
-others-left h g [] n = refl
-others-left h g (x ∷ xs) n = by_test (is_of (gx g) x) refl (others-left h g xs n)
-  where
-    apart : (a : ℕ) → (a == g) ≡ true → (h == a) ≡ false
-    apart a e = grind (arith, nat_tests)
-
-    by_test : (b : Bool) → is_of (gx g) x ≡ b → holds_own h (without (gx g) xs) ≡ holds_own h xs → holds_own h (cond (not b) (x ∷ without (gx g) xs) (without (gx g) xs)) ≡ holds_own h (x ∷ xs)
-    by_test true e f = f ∙ sym (ap (λ b. b || holds_own h xs) (not-own h x (apart x.gxid.0 e)))
-    by_test false e f = ap (λ b. same_claim (own_lock (gx h)) x || b) f
-
--- a slice's lock is its table's
-slice-rows : (script : Script) (g : Gxid) (x : Slice) → IsOfRows (slice_lock script g x).object
-slice-rows script g (slice.Select query) = tt
-slice-rows script g (slice.Insert table rows) = tt
-slice-rows script g (slice.Update table assigns cond) = tt
-slice-rows script g (slice.Delete table cond) = tt
-slice-rows script g (slice.Lock table mode) = tt
-
-wanted-rows : (script : Script) (g : Gxid) (x : Suspended) (wanted : Claim) → IsWanted script g x wanted → IsOfRows wanted.object
-wanted-rows script g x wanted e = subst (λ (c : Claim). IsOfRows c.object) e (slice-rows script g x.slice)
+use Rattle.gx_law_order.proofs.Suspended.{AreSuspended, AreWaits, IsWanted, IsWantedAt, find-filter, is_open_phase}
 
 -- CHANGES OF A SEGMENT
 -- one transaction changes, with its phase
@@ -196,11 +75,35 @@ locked s wanted k e =
       each = λ h. subst (LocksItself (s.locals h).phase (has_version h s.versions)) (sym (held-rows h s.locks.holds wanted e)) (k.each h);
     }
 
+-- and one that is given back
+unlocked : (s : Seg) (old : Claim) → WritersLock s → IsOfRows old.object → WritersLock (record s { locks = without_hold s.locks old })
+unlocked s old k e =
+    record {
+      owns = each_filter IsOwn (λ other. not (same_claim old other)) s.locks.holds k.owns;
+      each = λ h. subst (LocksItself (s.locals h).phase (has_version h s.versions)) (sym (left-rows h s.locks.holds old e)) (k.each h);
+    }
+
+-- the same holds
+same-holds : (s : Seg) (locks : Locks) → locks.holds ≡ s.locks.holds → WritersLock s → WritersLock (record s { locks = locks })
+same-holds s locks e k = record { owns = subst (Each IsOwn) (sym e) k.owns; each = λ h. subst (LocksIn s h) (sym e) (k.each h) }
+
 -- SLICES
--- what the rows so far have made of the segment: its writers hold their locks, and the transaction may write
+-- what the moves so far have made of the segment: its writers hold their locks, and the transaction may write
 pub record Goes (g : Gxid) (m : Moved) : Type 0 where
   pub writers : WritersLock m.seg
   pub opens : is_open_phase (local_of m.seg g).phase ≡ true
+
+take_goes : (g : Gxid) (wanted : Claim) (m : Moved) → IsOfRows wanted.object → Goes g m → Goes g (takes_lock wanted m)
+take_goes g wanted m e f = record { writers = locked m.seg wanted f.writers e; opens = f.opens }
+
+back_goes : (g : Gxid) (old : Claim) (m : Moved) → IsOfRows old.object → Goes g m → Goes g (gives_back old m)
+back_goes g old m e f = record { writers = unlocked m.seg old f.writers e; opens = f.opens }
+
+note_goes : (g : Gxid) (m : Moved) (told : Mark) → Goes g m → Goes g (noted m told)
+note_goes g m told f = record { writers = f.writers; opens = f.opens }
+
+wait_goes : (g : Gxid) (wanted : Claim) (m : Moved) → Goes g m → Goes g (waits wanted m).moved
+wait_goes g wanted m f = record { writers = record { owns = f.writers.owns; each = f.writers.each }; opens = f.opens }
 
 -- a write, with the writer's own lock
 write_goes : (g : Gxid) (c : Cid) (table : Table) (m : Moved) (rid : Rid) (image : Option (List Value)) → Goes g m → Goes g (writes_row g c table m rid image)
@@ -280,20 +183,52 @@ select : (s : Seg) (g : Gxid) (c : Cid) (q : Query) (rows : List KeyedRow) (f : 
 select s g c q rows None k = same-phase s g _ k refl
 select s g c q rows (Some f) k = same-phase s g _ k refl
 
+-- rows that are changed
+pub change_goes : (g : Gxid) (k : Change) → Loop.Keeps g k (Goes g)
+change_goes g k =
+    record {
+      takes = λ m rid free f. take_goes g (tuple_lock g rid) m tt f;
+      gives = λ m rid held f. back_goes g (tuple_lock g rid) m tt f;
+      writes = λ m rid image why f. write_goes g k.cid k.table m rid image f;
+      skips = λ m rid why f. note_goes g m (mark.Skip g k.cid rid) f;
+      faults = λ m rid image f. note_goes g m (mark.Fault g k.cid rid image) f;
+    }
+
+answered : (g : Gxid) (c : Cid) (m : Moved) (r : Reply) → Goes g m → Keeps (answers m.seg g c m.marks r)
+answered g c m r f = same-phase m.seg g _ f.writers refl
+
+stop : (g : Gxid) (k : Change) (m : Moved) (rid : Rid) (rest : List Rid) (count : ℕ) (t : RowTurn) (d : DidStop m g k rid t) → Goes g m
+    → Keeps (suspends_at d.stopped g k (suspended_at k rid rest count))
+stop g k m rid rest count t d f =
+    let a = stop-keeps g k (Goes g) (change_goes g k) m rid t d f in
+    let b = subst (Goes g) a.is (wait_goes g a.wanted a.before a.kept) in
+    same-phase d.stopped.seg g _ b.writers refl
+
+change_ends : (g : Gxid) (k : Change) → Ends g k (Goes g) Keeps
+change_ends g k = record { done = λ m count f. answered g k.cid m _ f; stopped = stop g k; failed = λ m cause f. answered g k.cid m _ f }
+
+change : (s : Seg) (g : Gxid) (o : Option Change) → Goes g (starts_from s) → Keeps (changes_rows s g o)
+change s g None f = f.writers
+change s g (Some k) f = rows-change g k (Goes g) Keeps (change_goes g k) (change_ends g k) s f (λ fault. same-phase s g _ f.writers refl)
+
 slice_runs : (s : Seg) (g : Gxid) (c : Cid) (level : Level) (snapshot : Option Snapshot) (x : Slice) → WritersLock s → is_open_phase (local_of s g).phase ≡ true → Keeps (runs_slice s g c level snapshot x)
 slice_runs s g c level (Some snapshot) (slice.Select q) k o = select s g c q (shown s snapshot g c q.table) (first_fault q.cond (shown s snapshot g c q.table)) k
 slice_runs s g c level (Some snapshot) (slice.Insert table rows) k o =
-    same-phase (inserted s g c table rows).seg g _ (insert_rows g c table rows (starts_from s) (record { writers = k; opens = o })).writers refl
+    answered g c (inserted s g c table rows) _ (insert_rows g c table rows (starts_from s) (record { writers = k; opens = o }))
 slice_runs s g c level None (slice.Select q) k o = k
 slice_runs s g c level None (slice.Insert table rows) k o = k
+slice_runs s g c level snapshot (slice.Update table assigns cond) k o = change s g (change_of c level snapshot (slice.Update table assigns cond)) (record { writers = k; opens = o })
+slice_runs s g c level snapshot (slice.Delete table cond) k o = change s g (change_of c level snapshot (slice.Delete table cond)) (record { writers = k; opens = o })
 slice_runs s g c level snapshot (slice.Lock table mode) k o = same-phase s g _ k refl
-slice_runs s g c level snapshot (slice.Update table assigns cond) k o = k
-slice_runs s g c level snapshot (slice.Delete table cond) k o = k
 
 -- EACH MESSAGE AND A RESUMPTION
 both : (b : Bool) (x y : SegTurn) → Keeps x → Keeps y → Keeps (if b then x else y)
 both true x y e f = e
 both false x y e f = f
+
+-- with its table's lock a slice starts so
+pub started : (script : Script) (s : Seg) (h g : Gxid) (x : Slice) → WritersLock s → is_open_phase (local_of s g).phase ≡ true → Goes g (starts_from (record (raised s h) { locks = with_hold s.locks (slice_lock script g x) }))
+started script s h g x k o = record { writers = locked (raised s h) (slice_lock script g x) (record { owns = k.owns; each = k.each }) (slice-rows script g x); opens = o }
 
 module _ (script : Script) (Come : Message → Type 0) (s : Seg) (waits : AreSuspended script Come s) (k : WritersLock s) where
   tell_kept : (g : Gxid) (r : Option Reply) → Keeps (tells_kept s g r)
@@ -305,7 +240,7 @@ module _ (script : Script) (Come : Message → Type 0) (s : Seg) (waits : AreSus
       let up : WritersLock (raised s h) = record { owns = k.owns; each = k.each } in
       let waiting = same-phase (raised s h) g (record (local_of s g) { last = c.0; answer = None; suspended = Some (suspended_slice c level snapshot x) }) up refl in
       both (is_free s.locks.holds (slice_lock script g x)) _ _
-      (slice_runs (record (raised s h) { locks = with_hold s.locks (slice_lock script g x) }) g c level snapshot x (locked (raised s h) (slice_lock script g x) up (slice-rows script g x)) o)
+      (slice_runs (record (raised s h) { locks = with_hold s.locks (slice_lock script g x) }) g c level snapshot x (started script s h g x k o).writers o)
       (record { owns = waiting.owns; each = waiting.each })
 
   repeat : (g : Gxid) (c : Cid) (l : Local) → Keeps (repeats s g c l)
@@ -415,20 +350,53 @@ module _ (script : Script) (Come : Message → Type 0) (s : Seg) (waits : AreSus
   message_keeps fails (message.Answer g r) = k
   message_keeps fails (message.Graph round graph) = k
 
-  granted : (g : Gxid) (wanted : Claim) (x : Suspended) → (local_of s g).suspended ≡ Some x → IsWanted script g x wanted → Goes g (is_granted s g wanted)
-  granted g wanted x e is =
-      let rest : Local = record (local_of s g) { suspended = None } in
-      let a = locked (with_local s g rest) wanted (same-phase s g rest k refl) (wanted-rows script g x wanted is) in
-      record {
-        writers = record { owns = a.owns; each = a.each };
-        opens = ap (λ b. is_open_phase (if b then rest else s.locals g.0).phase) (eqb-self g.0) ∙ (waits.each g.0 x e).opens;
-      }
+  -- what a slice has waited for is granted
+  module _ (g : Gxid) (opens : is_open_phase (local_of s g).phase ≡ true) where
+    abbrev rest : Local
+    rest = record (local_of s g) { suspended = None }
 
-  go_on : (m : Moved) (g : Gxid) (x : Suspended) → Goes g m → Keeps (goes_on m g x)
-  go_on m g x e = slice_runs m.seg g x.cid x.level x.snapshot x.slice e.writers e.opens
+    abbrev rested : Seg
+    rested = with_local s g rest
+
+    opened : is_open_phase (local_of rested g).phase ≡ true
+    opened = ap (λ b. is_open_phase (if b then rest else s.locals g.0).phase) (eqb-self g.0) ∙ opens
+
+    rows_granted : (wanted : Claim) → IsOfRows wanted.object → Goes g (is_granted s g wanted)
+    rows_granted wanted e =
+        let a = locked rested wanted (same-phase s g rest k refl) e in
+        by_object wanted.object _ e (record { writers = record { owns = a.owns; each = a.each }; opens = opened })
+      where
+        by_object : (o : Object) (m : Moved) → IsOfRows o → Goes g m → Goes g (unless_end wanted o m)
+        by_object (Relation t) m e f = f
+        by_object (Tuple r) m e f = f
+        by_object (Transaction h) m e f = absurd e
+
+    end_granted : (writer : Gxid) → Goes g (is_granted s g (end_lock g writer))
+    end_granted writer =
+        let a = same-holds rested (is_granted s g (end_lock g writer)).seg.locks (end-back g writer s.locks.holds k.owns) (same-phase s g rest k refl) in
+        record { writers = record { owns = a.owns; each = a.each }; opens = opened }
+
+    row_granted : (rid : Rid) (wanted : Claim) → IsAtRow g rid wanted → Goes g (is_granted s g wanted)
+    row_granted rid wanted (inl e) = rows_granted wanted (subst (λ (c : Claim). IsOfRows c.object) e tt)
+    row_granted rid wanted (inr e) = subst (λ c. Goes g (is_granted s g c)) e.is (end_granted e.writer)
+
+    pub granted : (wanted : Claim) (x : Suspended) → IsWanted script g x wanted → Goes g (is_granted s g wanted)
+    granted wanted x is = by_row x.row is
+      where
+        by_row : (row : Option Rid) → IsWantedAt script g x.slice row wanted → Goes g (is_granted s g wanted)
+        by_row None e = rows_granted wanted (subst (λ (c : Claim). IsOfRows c.object) e (slice-rows script g x.slice))
+        by_row (Some rid) e = row_granted rid wanted e
+
+  go_on_at : (m : Moved) (g : Gxid) (o : Option Change) (rid : Rid) (x : Suspended) → Goes g m → Keeps (goes_on_at m g o rid x)
+  go_on_at m g None rid x f = f.writers
+  go_on_at m g (Some c) rid x f = row-goes-on g c (Goes g) Keeps (change_goes g c) (change_ends g c) m rid x f
+
+  go_on : (m : Moved) (g : Gxid) (x : Suspended) (row : Option Rid) → Goes g m → Keeps (goes_on m g x row)
+  go_on m g x None f = slice_runs m.seg g x.cid x.level x.snapshot x.slice f.writers f.opens
+  go_on m g x (Some rid) f = go_on_at m g (change_of x.cid x.level x.snapshot x.slice) rid x f
 
   resume : (g : Gxid) (w : Option Claim) (o : Option Suspended) → wait_of s.locks g ≡ w → (local_of s g).suspended ≡ o → Keeps (resumes s g w o)
-  resume g (Some wanted) (Some x) e f = go_on (is_granted s g wanted) g x (granted g wanted x f is)
+  resume g (Some wanted) (Some x) e f = go_on (is_granted s g wanted) g x x.row (granted g (waits.each g.0 x f).opens wanted x is)
     where
       own : AreWaits script g (Some x) (filter (is_of g) s.locks.waits)
       own = subst (λ o. AreWaits script g o (filter (is_of g) s.locks.waits)) f (waits.own g.0)

@@ -48,7 +48,7 @@ use Rattle.gx_law_commit.specs.Standings.{at, known_at, standing, standing_in}
 use Rattle.gx_law_commit.specs.Standings.Standing.{Unborn, Over, Live}
 use Rattle.gx_law_commit.proofs.Counts.{NoSent}
 use Rattle.gx_law_commit.proofs.Everywhere.{Holds, does-it, fol-no-sent, follows-no-sent, parts_in, posted-each, resumed-does, told-answer}
-use Rattle.gx_law_commit.proofs.Leaving.{request-leaves, slice-leaves}
+use Rattle.gx_law_commit.proofs.Leaving.{request-leaves, resumed-leaves}
 use Rattle.gx_law_reads.specs.Horizons.{AreHorizonsLow, AreLowIn, IsLowIn}
 use Rattle.gx_law_reads.proofs.Heights.{horizon-bounds}
 use Rattle.gx_law_reads.proofs.Held.{Latest}
@@ -315,7 +315,7 @@ module _ (script : Script) (w : World) (k : Knows script w) (v : Holds script w)
 going-stays : (script : Script) (w : World) (fails : Bool) (i : ℕ) (g : Gxid) → GoesOn script w i g → Stays (w.segs i) (on_event script (w.segs i) (here.Resume g) fails)
 going-stays script w fails i g d =
     subst (Stays (w.segs i)) (sym (goes-on-is (w.segs i) g d.wanted d.slice d.claims d.is))
-    (slice-leaves g d.slice.cid IsAnswer (λ wrote count part. refl) (λ cause. refl) (is_granted (w.segs i) g d.wanted).seg d.slice.level d.slice.snapshot d.slice.slice).horizon
+    (resumed-leaves g d.slice IsAnswer (λ wrote count part. refl) (λ cause. refl) (w.segs i) d.wanted).horizon
 
 pub going-low : (script : Script) (w : World) (k : Knows script w) (v : Holds script w) → Lows w → (e : Event) (fails : Bool) (i : ℕ) (g : Gxid) → seg_can script (w.segs i) (here.Resume g) ≡ true → StaysLow (horizon_of w.coord.table).0 (on_event script (w.segs i) (here.Resume g) fails)
 going-low script w k v q e fails i g ok =

@@ -132,7 +132,7 @@ module _ (script : Script) (w : World) (k : Knows script w) (v : Holds script w)
         }
 
   -- to a command
-  module _ (node : Node) (one : 1 ≤ node.0) (g : Gxid) (c : Cid) (x : Snapshot) (horizon : Gxid) (below : (h : Gxid) → 1 ≤ h.0 → (is_below (raised (w.segs node.0) horizon).horizon h || sees x h) ≡ sees x h) (place : ℕ) (d : Cid) (taken : slice_get (marks_in w.steps) place ≡ Some (mark.Snap g d x)) (table : Table) (rid : Rid) (only : IsOnlyAt node rid (marks_in w.steps)) where
+  module _ (node : Node) (one : 1 ≤ node.0) (g : Gxid) (c : Cid) (x : Snapshot) (horizon : Gxid) (below : (h : Gxid) → 1 ≤ h.0 → (is_below (raised (w.segs node.0) horizon).horizon h || sees x h) ≡ sees x h) (place : ℕ) (d : Cid) (taken : slice_get (marks_in w.steps) place ≡ Some (mark.Snap g d x)) where
     abbrev before : List Mark
     before = take place ms
 
@@ -145,7 +145,8 @@ module _ (script : Script) (w : World) (k : Knows script w) (v : Holds script w)
     aborted-later : (h : Gxid) → is_aborted (take place ms) h ≡ true → is_aborted ms h ≡ true
     aborted-later h e = ap (λ z. is_aborted z h) rest.1 ∙ aborted-append (take place ms) rest.0 h ∙ or_left (is_aborted (take place ms) h) (is_aborted rest.0 h) e
 
-    one-counts : (y : Version) → is_writer ms y.gxid node ≡ true → counts (raised (w.segs node.0) horizon) x g c y ≡ is_shown_to (Some (g, c)) (take place ms) y.gxid y.cid
+    -- who counts for the command is who is shown to it
+    pub one-counts : (y : Version) → is_writer ms y.gxid node ≡ true → counts (raised (w.segs node.0) horizon) x g c y ≡ is_shown_to (Some (g, c)) (take place ms) y.gxid y.cid
     one-counts y e =
         ap (λ b. (is_same_gxid y.gxid g && nat_lt y.cid.0 c.0) || (has_committed ((w.segs node.0).locals y.gxid.0).phase && b)) (below y.gxid (f.ends.drawn node.0 y.gxid.0 e))
         ∙ ap (λ b. (is_same_gxid y.gxid g && nat_lt y.cid.0 c.0) || b) (counts-is w f.ends node.0 (take place ms) x (seen-at [] ms place g d x k.seen taken) committed-later aborted-later y.gxid e)
@@ -154,12 +155,13 @@ module _ (script : Script) (w : World) (k : Knows script w) (v : Holds script w)
         swap : (a b : ℕ) (t u : Bool) → ((eqb a b && t) || u) ≡ (u || (eqb b a && t))
         swap a b t u = grind (arith, nat_tests)
 
-    view-row : row_at (shown (raised (w.segs node.0) horizon) x g c table) rid ≡ image (marks_in w.steps) (take place (marks_in w.steps)) (Some (g, c)) table rid
-    view-row =
-        shown-row (filter (λ (y : Version). (y.table.0 == table.0) && counts (raised (w.segs node.0) horizon) x g c y) (w.segs node.0).versions) rid
-        ∙ ap (λ ys. row_of (last_image rid (filter (λ (y : Version). (y.table.0 == table.0) && counts (raised (w.segs node.0) horizon) x g c y) ys))) (hold node.0 one).versions
-        ∙ row-is node table rid (counts (raised (w.segs node.0) horizon) x g c) (is_shown_to (Some (g, c)) (take place ms)) ms only
-        (each_weaker (λ (y : Version). is_writer ms y.gxid node ≡ true) (λ (y : Version). counts (raised (w.segs node.0) horizon) x g c y ≡ is_shown_to (Some (g, c)) (take place ms) y.gxid y.cid) one-counts (writes_at node ms) (versions-written node ms))
+    module _ (table : Table) (rid : Rid) (only : IsOnlyAt node rid (marks_in w.steps)) where
+      view-row : row_at (shown (raised (w.segs node.0) horizon) x g c table) rid ≡ image (marks_in w.steps) (take place (marks_in w.steps)) (Some (g, c)) table rid
+      view-row =
+          shown-row (filter (λ (y : Version). (y.table.0 == table.0) && counts (raised (w.segs node.0) horizon) x g c y) (w.segs node.0).versions) rid
+          ∙ ap (λ ys. row_of (last_image rid (filter (λ (y : Version). (y.table.0 == table.0) && counts (raised (w.segs node.0) horizon) x g c y) ys))) (hold node.0 one).versions
+          ∙ row-is node table rid (counts (raised (w.segs node.0) horizon) x g c) (is_shown_to (Some (g, c)) (take place ms)) ms only
+          (each_weaker (λ (y : Version). is_writer ms y.gxid node ≡ true) (λ (y : Version). counts (raised (w.segs node.0) horizon) x g c y ≡ is_shown_to (Some (g, c)) (take place ms) y.gxid y.cid) one-counts (writes_at node ms) (versions-written node ms))
 
   one-view : (node : Node) (m : Message) → IsSeenBelow w node m → IsShownView w node m
   one-view node (message.Exec g c level (Some x) horizon slice) s = λ one run place d taken table rid only. view-row node one g c x horizon (s run) place d taken table rid only

@@ -1,5 +1,5 @@
 -- What a segment's journal fails to take.
-use Rattle.std.proofs.Common.{◌==◌, Bool, true, false, if◌then◌else◌, List, [], ◌∷◌, nat_lt, refl, not}
+use Rattle.std.proofs.Common.{◌==◌, Bool, true, false, if◌then◌else◌, List, [], ◌∷◌, nat_lt, refl, subst, not}
 use Rattle.std.specs.Prelude.{fold, None, Option, Some, map}
 use Rattle.gx_ids.specs.declared.ids.Cid.{Cid}
 use Rattle.gx_ids.specs.declared.ids.Gxid.{Gxid}
@@ -14,6 +14,8 @@ use Rattle.gx_dsnap.specs.Gxids.{is_below}
 use Rattle.gx_tree.specs.declared.stmt.Level.{Level}
 use Rattle.gx_dsnap.specs.declared.snapshot.Snapshot.{Snapshot}
 use Rattle.gx_waits.specs.declared.claim.Claim.{Claim}
+use Rattle.gx_waits.specs.declared.object.Object.{Object}
+use Rattle.gx_waits.specs.declared.object.Object.TheVariants.{Relation, Transaction, Tuple}
 use Rattle.gx_locks.specs.Locks.{is_free, wait_of}
 use Rattle.gx_meaning.specs.declared.fault.ArithFault.{ArithFault}
 use Rattle.gx_msg.specs.declared.message.Message.{Message}
@@ -25,13 +27,17 @@ use Rattle.gx_script.specs.declared.Script.{Script}
 use Rattle.gx_store.specs.declared.node.NodeEvent.{NodeEvent}
 use Rattle.gx_store.specs.declared.node.NodeEvent.TheVariants as here
 use Rattle.gx_rules.specs.AtSegment.{commits, ends, finishes, if_fits, on_abort, on_commit, on_commit_prepared, on_event, on_exec, on_forget, on_message, on_prepare, once, promises, raised, repeats, resumes, seg_rule, takes, unless_below, was_prepared}
+use Rattle.gx_rules.specs.Changes.{Change, RowTurn, change_of, changes_rows, goes_on_at}
 use Rattle.gx_rules.specs.Fits.{fits_exec, is_waiting}
-use Rattle.gx_rules.specs.Locks.{has_there, release_mark, release_marks, with_hold}
+use Rattle.gx_rules.specs.Locks.{has_there, release_mark, release_marks, wait_mark, with_hold}
 use Rattle.gx_rules.specs.Segments.{Local, Phase, Seg, SegTurn, Suspended, has_committed, local_of, stays, tells_kept}
 use Rattle.gx_rules.specs.Segments.Phase.{Reading, Writing, Prepared, Committed, Forgotten, Aborted}
 use Rattle.gx_rules.specs.Shown.{shown}
-use Rattle.gx_rules.specs.Running.{is_granted, requests, runs_locked, runs_slice, slice_lock, starts_slice, suspends}
+use Rattle.gx_rules.specs.Running.{goes_on, is_granted, requests, runs_locked, runs_slice, slice_lock, starts_slice, suspends, unless_end}
 use Rattle.gx_rules.specs.Slices.{Moved, first_fault, inserts_row, selects, starts_from, writes_row}
+use Rattle.gx_rules.specs.Visits.{DidStop}
+use Rattle.gx_rules.proofs.Moving.{Ends, Keeps}
+use Rattle.gx_law_order.proofs.Changing.{row-goes-on, rows-change, stop-keeps}
 use Rattle.gx_law_writes.proofs.Rows.{by-own, wrote}
 use Rattle.gx_law_runs.proofs.Marks.{MayFail, NoFailures, may-none, may-sent, none-append}
 
@@ -54,14 +60,43 @@ rows-none : (g : Gxid) (c : Cid) (table : Table) (rows : List KeyedRow) (m : Mov
 rows-none g c table [] m none = none
 rows-none g c table (row ∷ rows) m none = rows-none g c table rows (inserts_row g c table m row) (write-none g c table m row.rid (Some row.row) none)
 
+-- UPDATE and DELETE
+abbrev MovedNone : Moved → Type 0
+MovedNone m = NoFailures m.marks
+
+row-keeps : (g : Gxid) (k : Change) → Keeps g k MovedNone
+row-keeps g k =
+    record {
+      takes = λ m rid free none. none-append m.marks _ none tt;
+      gives = λ m rid held none. none-append m.marks _ none tt;
+      writes = λ m rid image why none. write-none g k.cid k.table m rid image none;
+      skips = λ m rid why none. none-append m.marks _ none tt;
+      faults = λ m rid image none. none-append m.marks _ none tt;
+    }
+
+stop-none : (g : Gxid) (k : Change) (m : Moved) (rid : Rid) (t : RowTurn) (stop : DidStop m g k rid t) → MovedNone m → MovedNone stop.stopped
+stop-none g k m rid t stop none =
+    let it = stop-keeps g k MovedNone (row-keeps g k) m rid t stop none in
+    subst MovedNone it.is (none-append it.before.marks (wait_mark it.before.seg.node it.wanted ∷ []) it.kept tt)
+
+abbrev TurnNone : SegTurn → Type 0
+TurnNone turn = NoFailures turn.marks
+
+row-ends : (g : Gxid) (k : Change) → Ends g k MovedNone TurnNone
+row-ends g k = record { done = λ m count none. none; stopped = λ m rid rest count t stop none. stop-none g k m rid t stop none; failed = λ m cause none. none }
+
+changes-none : (s : Seg) (g : Gxid) (o : Option Change) → NoFailures (changes_rows s g o).marks
+changes-none s g None = tt
+changes-none s g (Some k) = rows-change g k MovedNone TurnNone (row-keeps g k) (row-ends g k) s tt (λ f. tt)
+
 slice-none : (s : Seg) (g : Gxid) (c : Cid) (level : Level) (snapshot : Option Snapshot) (x : Slice) → NoFailures (runs_slice s g c level snapshot x).marks
 slice-none s g c level (Some snapshot) (slice.Select q) = select-none s g c q (shown s snapshot g c q.table) (first_fault q.cond (shown s snapshot g c q.table))
 slice-none s g c level (Some snapshot) (slice.Insert table rows) = rows-none g c table rows (starts_from s) tt
 slice-none s g c level None (slice.Select q) = tt
 slice-none s g c level None (slice.Insert table rows) = tt
 slice-none s g c level snapshot (slice.Lock table mode) = tt
-slice-none s g c level snapshot (slice.Update table assigns cond) = tt
-slice-none s g c level snapshot (slice.Delete table cond) = tt
+slice-none s g c level snapshot (slice.Update table assigns cond) = changes-none s g (change_of c level snapshot (slice.Update table assigns cond))
+slice-none s g c level snapshot (slice.Delete table cond) = changes-none s g (change_of c level snapshot (slice.Delete table cond))
 
 -- the marks of locks fail nothing
 starts-none : (s : Seg) (g : Gxid) (c : Cid) (level : Level) (snapshot : Option Snapshot) (x : Slice) (wanted : Claim) → NoFailures (requests s g c level snapshot x wanted).marks
@@ -75,8 +110,22 @@ released-none : (node : Node) (claims : List Claim) → NoFailures (map (release
 released-none node [] = tt
 released-none node (claim ∷ claims) = released-none node claims
 
+-- a slice that goes on
+granted-none : (wanted : Claim) (object : Object) (m : Moved) → MovedNone m → MovedNone (unless_end wanted object m)
+granted-none wanted (Relation table) m none = none
+granted-none wanted (Tuple rid) m none = none
+granted-none wanted (Transaction other) m none = none-append m.marks _ none tt
+
+row-none : (m : Moved) (g : Gxid) (o : Option Change) (rid : Rid) (x : Suspended) → MovedNone m → NoFailures (goes_on_at m g o rid x).marks
+row-none m g None rid x none = none-append m.marks [] none tt
+row-none m g (Some k) rid x none = row-goes-on g k MovedNone TurnNone (row-keeps g k) (row-ends g k) m rid x none
+
+goes-on-none : (m : Moved) (g : Gxid) (x : Suspended) (row : Option Rid) → MovedNone m → NoFailures (goes_on m g x row).marks
+goes-on-none m g x None none = none-append m.marks _ none (slice-none m.seg g x.cid x.level x.snapshot x.slice)
+goes-on-none m g x (Some rid) none = row-none m g (change_of x.cid x.level x.snapshot x.slice) rid x none
+
 resumed-none : (s : Seg) (g : Gxid) (w : Option Claim) (o : Option Suspended) → NoFailures (resumes s g w o).marks
-resumed-none s g (Some wanted) (Some x) = slice-none (is_granted s g wanted).seg g x.cid x.level x.snapshot x.slice
+resumed-none s g (Some wanted) (Some x) = goes-on-none (is_granted s g wanted) g x x.row (granted-none wanted wanted.object _ tt)
 resumed-none s g (Some wanted) None = tt
 resumed-none s g None o = tt
 

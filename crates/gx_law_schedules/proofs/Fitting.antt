@@ -15,7 +15,9 @@ use Rattle.gx_tree.specs.declared.value.Value.{Value}
 use Rattle.gx_dsnap.specs.Gxids.{is_below}
 use Rattle.gx_dsnap.specs.declared.snapshot.Snapshot.{Snapshot}
 use Rattle.gx_waits.specs.declared.claim.Claim.{Claim}
-use Rattle.gx_locks.specs.Locks.{Locks, is_free, resumed}
+use Rattle.gx_waits.specs.declared.object.Object.{Object}
+use Rattle.gx_waits.specs.declared.object.Object.TheVariants.{Relation, Transaction, Tuple}
+use Rattle.gx_locks.specs.Locks.{Locks, is_free}
 use Rattle.gx_meaning.specs.declared.fault.ArithFault.{ArithFault}
 use Rattle.gx_msg.specs.declared.item.JournalItem.{JournalItem}
 use Rattle.gx_msg.specs.declared.message.Message.{Message}
@@ -28,15 +30,33 @@ use Rattle.gx_store.specs.declared.mark.Mark.{Mark}
 use Rattle.gx_rules.specs.AtSegment.{changes, commits, ends, finishes, if_fits, on_abort, on_commit, on_commit_prepared, on_exec, on_forget, on_message, on_prepare, once, promises, raised, repeats, resumes, takes, unless_below, was_prepared}
 use Rattle.gx_rules.specs.Segments.{Local, Phase, Seg, SegTurn, Suspended, local_of, stays, tells, tells_kept, with_local}
 use Rattle.gx_rules.specs.Segments.Phase.{Aborted, Committed, Forgotten, Prepared, Reading, Writing}
-use Rattle.gx_rules.specs.Running.{requests, runs_slice, slice_lock}
-use Rattle.gx_rules.specs.Slices.{Moved, first_fault, inserted, inserts, inserts_row, selects, starts_from, takes_own, writes_row}
+use Rattle.gx_rules.specs.Changes.{Change, RowTurn, change_of, changes_rows, goes_on_at, suspended_at, suspends_at}
+use Rattle.gx_rules.specs.Running.{goes_on, is_granted, requests, runs_slice, slice_lock, unless_end}
+use Rattle.gx_rules.specs.Slices.{Moved, answers, cause_of, first_fault, inserted, inserts, inserts_row, selects, starts_from, takes_own, writes_row}
+use Rattle.gx_rules.specs.Visits.{DidStop}
+use Rattle.gx_rules.proofs.Moving.{Ends, Keeps}
 use Rattle.gx_rules.specs.Shown.{shown}
 use Rattle.gx_rules.specs.Fits.{fits_exec, is_waiting}
 use Rattle.gx_rules.specs.Locks.{with_hold}
+use Rattle.gx_law_order.proofs.Changing.{change-parts, row-goes-on, rows-change, stop-keeps}
 use Rattle.gx_law_order.proofs.Lists.{Each}
+use Rattle.gx_tree.specs.declared.part.Part.{Part}
 use Rattle.gx_tree.specs.declared.part.Part.TheVariants.{Rows}
 use Rattle.gx_meaning.specs.Answer.{keeps, part_of}
 use Rattle.gx_law_schedules.proofs.Parts.{is_right_part, part-right}
+
+-- who changes rows answers with none
+no-rows : (c : Cid) (level : Level) (snapshot : Option Snapshot) (x : Slice) (k : Change) → change_of c level snapshot x ≡ Some k → is_right_part x (Rows []) ≡ true
+no-rows c level (Some s) (slice.Update table assigns cond) k e = refl
+no-rows c level (Some s) (slice.Delete table cond) k e = refl
+no-rows c level (Some s) (slice.Select query) k e = absurd (cc)
+no-rows c level (Some s) (slice.Insert table rows) k e = refl
+no-rows c level (Some s) (slice.Lock table mode) k e = refl
+no-rows c level None (slice.Update table assigns cond) k e = refl
+no-rows c level None (slice.Delete table cond) k e = refl
+no-rows c level None (slice.Select query) k e = absurd (cc)
+no-rows c level None (slice.Insert table rows) k e = refl
+no-rows c level None (slice.Lock table mode) k e = refl
 
 -- a reply that gives no part
 abbrev pub IsPartless : Reply → Type 0
@@ -64,6 +84,61 @@ module _ (P : ℕ → Reply → Type 0) (partless : (g : ℕ) (r : Reply) → Is
     pub locals : (h : ℕ) → LocalSo h (turn.seg.locals h)
     pub outs : Each (λ (o : Out). SaysSo o.message) turn.outs
 
+  with-so : (locals : ℕ → Local) → ((h : ℕ) → LocalSo h (locals h)) → (g : ℕ) (l : Local) → LocalSo g l → (h : ℕ) → LocalSo h (if eqb h g then l else locals h)
+  with-so locals old g l new h = by_test (eqb h g) refl
+    where
+      by_test : (b : Bool) → eqb h g ≡ b → LocalSo h (if b then l else locals h)
+      by_test true e = subst (λ k. LocalSo k l) (sym (eqb-true h g e)) new
+      by_test false e = old h
+
+  -- MOVES
+  module _ (g : Gxid) where
+    answered : (c : Cid) (t : Seg) (ms : List Mark) (r : Reply) → ((h : ℕ) → LocalSo h (t.locals h)) → P g.0 r → TurnSo (answers t g c ms r)
+    answered c t ms r old p =
+        record { locals = with-so t.locals old g.0 (record (local_of t g) { last = c.0; answer = Some r }) (record { answer = p; vote = (old g.0).vote }); outs = (p, tt) }
+
+    -- a write, with the writer's own lock
+    own-so : (p : Phase) (m : Moved) → MovedSo m → MovedSo (takes_own g p m)
+    own-so Reading m f = f
+    own-so Writing m f = f
+    own-so Prepared m f = f
+    own-so Committed m f = f
+    own-so (Forgotten b) m f = f
+    own-so Aborted m f = f
+
+    written-so : (c : Cid) (table : Table) (m : Moved) (rid : Rid) (image : Option (List Value)) → MovedSo m → MovedSo (writes_row g c table m rid image)
+    written-so c table m rid image f =
+        own-so (local_of m.seg g).phase _ (with-so m.seg.locals f g.0 (record (local_of m.seg g) { phase = Writing }) (record { answer = (f g.0).answer; vote = (f g.0).vote }))
+
+    -- rows that are changed: they answer with no row
+    changes-keep : (k : Change) → Keeps g k MovedSo
+    changes-keep k =
+        record {
+          takes = λ m rid free f. f;
+          gives = λ m rid held f. f;
+          writes = λ m rid image why f. written-so k.cid k.table m rid image f;
+          skips = λ m rid why f. f;
+          faults = λ m rid image f. f;
+        }
+
+    stops-so : (k : Change) (m : Moved) (rid : Rid) (rest : List Rid) (count : ℕ) (t : RowTurn) (d : DidStop m g k rid t) → MovedSo m
+        → TurnSo (suspends_at d.stopped g k (suspended_at k rid rest count))
+    stops-so k m rid rest count t d f =
+        let a = stop-keeps g k MovedSo (changes-keep k) m rid t d f in
+        let b = subst MovedSo a.is a.kept in
+        record { locals = with-so d.stopped.seg.locals b g.0 _ (record { answer = tt; vote = (b g.0).vote }); outs = tt }
+
+    abbrev CountsSo : Cid → Type 0
+    CountsSo c = (wrote : Bool) (count : ℕ) → P g.0 (reply.Done c wrote count (Rows []))
+
+    changes-end : (k : Change) → CountsSo k.cid → Ends g k MovedSo TurnSo
+    changes-end k right =
+        record {
+          done = λ m count f. answered k.cid m.seg m.marks _ f (right _ count);
+          stopped = stops-so k;
+          failed = λ m cause f. answered k.cid m.seg m.marks _ f (partless g.0 (reply.Failed k.cid cause) tt);
+        }
+
   module _ (s : Seg) (so : (h : ℕ) → LocalSo h (s.locals h)) where
     stay : TurnSo (stays s)
     stay = record { locals = so; outs = tt }
@@ -74,13 +149,6 @@ module _ (P : ℕ → Reply → Type 0) (partless : (g : ℕ) (r : Reply) → Is
     kept : (g : Gxid) (r : Option Reply) → KeptSo g.0 r → TurnSo (tells_kept s g r)
     kept g None p = stay
     kept g (Some r) p = tell g r p
-
-    with-so : (locals : ℕ → Local) → ((h : ℕ) → LocalSo h (locals h)) → (g : ℕ) (l : Local) → LocalSo g l → (h : ℕ) → LocalSo h (if eqb h g then l else locals h)
-    with-so locals old g l new h = by_test (eqb h g) refl
-      where
-        by_test : (b : Bool) → eqb h g ≡ b → LocalSo h (if b then l else locals h)
-        by_test true e = subst (λ k. LocalSo k l) (sym (eqb-true h g e)) new
-        by_test false e = old h
 
     both : (b : Bool) (x y : SegTurn) → TurnSo x → TurnSo y → TurnSo (if b then x else y)
     both true x y e f = e
@@ -94,48 +162,45 @@ module _ (P : ℕ → Reply → Type 0) (partless : (g : ℕ) (r : Reply) → Is
     repeat : (g : Gxid) (c : Cid) → TurnSo (repeats s g c (local_of s g))
     repeat g c = both (c.0 == (local_of s g).last) _ _ (kept g (local_of s g).answer (so g.0).answer) stay
 
-    module _ (g : Gxid) (c : Cid) (x : Slice) (right : (wrote : Bool) (count : ℕ) (part : Rattle.gx_tree.specs.declared.part.Part.Part) → is_right_part x part ≡ true → P g.0 (reply.Done c wrote count part)) where
-      answered : (t : Seg) (ms : List Mark) (r : Reply) → ((h : ℕ) → LocalSo h (t.locals h)) → P g.0 r → TurnSo (Rattle.gx_rules.specs.Slices.answers t g c ms r)
-      answered t ms r old p = record { locals = with-so t.locals old g.0 (record (local_of t g) { last = c.0; answer = Some r }) (record { answer = p; vote = (old g.0).vote }); outs = (p, tt) }
-
+    module _ (g : Gxid) (c : Cid) (x : Slice) (right : (wrote : Bool) (count : ℕ) (part : Part) → is_right_part x part ≡ true → P g.0 (reply.Done c wrote count part)) where
       -- a segment with another horizon or other locks
       abbrev raised_with : Gxid → Locks → Seg
       raised_with h locks = record s { horizon = h; locks = locks }
 
       select : (h : Gxid) (locks : Locks) (q : Query) (rows : List KeyedRow) (f : Option (KeyedRow × ArithFault)) → x ≡ slice.Select q → TurnSo (selects (raised_with h locks) g c q rows f)
-      select h locks q rows None e = answered (raised_with h locks) [] _ so (right _ 0 (part_of q (filter (keeps q.cond) rows)) (ap (λ (y : Slice). is_right_part y (part_of q (filter (keeps q.cond) rows))) e ∙ part-right q (filter (keeps q.cond) rows)))
-      select h locks q rows (Some f) e = answered (raised_with h locks) _ _ so (partless g.0 (reply.Failed c (Rattle.gx_rules.specs.Slices.cause_of f.1)) tt)
-
-      -- a write, with the writer's own lock
-      own-so : (p : Phase) (m : Moved) → MovedSo m → MovedSo (takes_own g p m)
-      own-so Reading m f = f
-      own-so Writing m f = f
-      own-so Prepared m f = f
-      own-so Committed m f = f
-      own-so (Forgotten b) m f = f
-      own-so Aborted m f = f
-
-      written-so : (table : Table) (m : Moved) (rid : Rid) (image : Option (List Value)) → MovedSo m → MovedSo (writes_row g c table m rid image)
-      written-so table m rid image f =
-          own-so (local_of m.seg g).phase _ (with-so m.seg.locals f g.0 (record (local_of m.seg g) { phase = Writing }) (record { answer = (f g.0).answer; vote = (f g.0).vote }))
+      select h locks q rows None e = answered g c (raised_with h locks) [] _ so (right _ 0 (part_of q (filter (keeps q.cond) rows)) (ap (λ (y : Slice). is_right_part y (part_of q (filter (keeps q.cond) rows))) e ∙ part-right q (filter (keeps q.cond) rows)))
+      select h locks q rows (Some f) e = answered g c (raised_with h locks) _ _ so (partless g.0 (reply.Failed c (cause_of f.1)) tt)
 
       insert-rows : (table : Table) (rows : List KeyedRow) (m : Moved) → MovedSo m → MovedSo (fold (inserts_row g c table) m rows)
       insert-rows table [] m f = f
-      insert-rows table (r ∷ rs) m f = insert-rows table rs (inserts_row g c table m r) (written-so table m r.rid (Some r.row) f)
+      insert-rows table (r ∷ rs) m f = insert-rows table rs (inserts_row g c table m r) (written-so g c table m r.rid (Some r.row) f)
 
       insert : (table : Table) (rows : List KeyedRow) (m : Moved) → MovedSo m → x ≡ slice.Insert table rows → TurnSo (inserts g c (length rows) m)
-      insert table rows m f e = answered m.seg m.marks _ f (right _ (length rows) (Rows []) (ap (λ (y : Slice). is_right_part y (Rows [])) e))
+      insert table rows m f e = answered g c m.seg m.marks _ f (right _ (length rows) (Rows []) (ap (λ (y : Slice). is_right_part y (Rows [])) e))
+
+      change : (t : Seg) (o : Option Change) → ((h : ℕ) → LocalSo h (t.locals h)) → ((k : Change) → o ≡ Some k → CountsSo g k.cid) → TurnSo (changes_rows t g o)
+      change t None old right = record { locals = old; outs = tt }
+      change t (Some k) old right =
+          rows-change g k MovedSo TurnSo (changes-keep g k) (changes-end g k (right k refl)) t old (λ f. answered g k.cid t _ _ old (partless g.0 (reply.Failed k.cid (cause_of f.1)) tt))
+
+      change-right : (level : Level) (snapshot : Option Snapshot) (y : Slice) (k : Change) → change_of c level snapshot y ≡ Some k → is_right_part x (Rows []) ≡ true → CountsSo g k.cid
+      change-right level snapshot y k e f wrote count =
+          subst (λ d. P g.0 (reply.Done d wrote count (Rows []))) (sym (change-parts c level snapshot y k e).cid) (right wrote count (Rows []) f)
 
       slice-runs : (h : Gxid) (locks : Locks) (level : Level) (snapshot : Option Snapshot) (y : Slice) → x ≡ y → TurnSo (runs_slice (raised_with h locks) g c level snapshot y)
       slice-runs h locks level (Some snapshot) (slice.Select q) e =
           select h locks q (shown (raised_with h locks) snapshot g c q.table) (first_fault q.cond (shown (raised_with h locks) snapshot g c q.table)) e
       slice-runs h locks level (Some snapshot) (slice.Insert table rows) e =
           insert table rows (inserted (raised_with h locks) g c table rows) (insert-rows table rows (starts_from (raised_with h locks)) so) e
-      slice-runs h locks level snapshot (slice.Lock table mode) e = answered (raised_with h locks) [] _ so (right _ 0 (Rows []) (ap (λ (y : Slice). is_right_part y (Rows [])) e))
+      slice-runs h locks level snapshot (slice.Lock table mode) e = answered g c (raised_with h locks) [] _ so (right _ 0 (Rows []) (ap (λ (y : Slice). is_right_part y (Rows [])) e))
       slice-runs h locks level None (slice.Select q) e = record { locals = so; outs = tt }
       slice-runs h locks level None (slice.Insert table rows) e = record { locals = so; outs = tt }
-      slice-runs h locks level snapshot (slice.Update table assigns cond) e = record { locals = so; outs = tt }
-      slice-runs h locks level snapshot (slice.Delete table cond) e = record { locals = so; outs = tt }
+      slice-runs h locks level snapshot (slice.Update table assigns cond) e =
+          change (raised_with h locks) (change_of c level snapshot (slice.Update table assigns cond)) so
+          (λ k f. change-right level snapshot (slice.Update table assigns cond) k f (ap (λ (y : Slice). is_right_part y (Rows [])) e))
+      slice-runs h locks level snapshot (slice.Delete table cond) e =
+          change (raised_with h locks) (change_of c level snapshot (slice.Delete table cond)) so
+          (λ k f. change-right level snapshot (slice.Delete table cond) k f (ap (λ (y : Slice). is_right_part y (Rows [])) e))
 
       starts : (level : Level) (snapshot : Option Snapshot) (h : Gxid) (wanted : Claim) → TurnSo (requests (raised s h) g c level snapshot x wanted)
       starts level snapshot h wanted =
@@ -233,7 +298,7 @@ module _ (P : ℕ → Reply → Type 0) (partless : (g : ℕ) (r : Reply) → Is
 
     -- the answer to the message's command
     abbrev pub RightFor : Message → Type 0
-    RightFor (message.Exec g c level snapshot horizon x) = (wrote : Bool) (count : ℕ) (part : Rattle.gx_tree.specs.declared.part.Part.Part) → is_right_part x part ≡ true → P g.0 (reply.Done c wrote count part)
+    RightFor (message.Exec g c level snapshot horizon x) = (wrote : Bool) (count : ℕ) (part : Part) → is_right_part x part ≡ true → P g.0 (reply.Done c wrote count part)
     RightFor _ = Unit {0}
 
     pub message-so : (script : Script) (fails : Bool) (m : Message) → RightFor m → TurnSo (on_message script s fails m)
@@ -250,11 +315,28 @@ module _ (P : ℕ → Reply → Type 0) (partless : (g : ℕ) (r : Reply) → Is
   -- A SLICE THAT HAS WAITED
   -- an answer to it
   abbrev pub RightOf : Gxid → Suspended → Type 0
-  RightOf g x = (wrote : Bool) (count : ℕ) (part : Rattle.gx_tree.specs.declared.part.Part.Part) → is_right_part x.slice part ≡ true → P g.0 (reply.Done x.cid wrote count part)
+  RightOf g x = (wrote : Bool) (count : ℕ) (part : Part) → is_right_part x.slice part ≡ true → P g.0 (reply.Done x.cid wrote count part)
+
+  resume-row : (g : Gxid) (x : Suspended) → RightOf g x → (m : Moved) → MovedSo m → (row : Option Rid) → TurnSo (goes_on m g x row)
+  resume-row g x right m old None =
+      let run = slice-runs m.seg old g x.cid x.slice right m.seg.horizon m.seg.locks x.level x.snapshot x.slice refl in
+      record { locals = run.locals; outs = run.outs }
+  resume-row g x right m old (Some rid) = by_change (change_of x.cid x.level x.snapshot x.slice) refl
+    where
+      by_change : (o : Option Change) → change_of x.cid x.level x.snapshot x.slice ≡ o → TurnSo (goes_on_at m g o rid x)
+      by_change None e = record { locals = old; outs = tt }
+      by_change (Some k) e =
+          row-goes-on g k MovedSo TurnSo (changes-keep g k)
+          (changes-end g k (change-right m.seg old g x.cid x.slice right x.level x.snapshot x.slice k e (no-rows x.cid x.level x.snapshot x.slice k e))) m rid x old
+
+  granted-so : (s : Seg) → ((h : ℕ) → LocalSo h (s.locals h)) → (g : Gxid) (wanted : Claim) → MovedSo (is_granted s g wanted)
+  granted-so s so g wanted =
+      by_object wanted.object _ (with-so s.locals so g.0 (record (local_of s g) { suspended = None }) (record { answer = (so g.0).answer; vote = (so g.0).vote }))
+    where
+      by_object : (o : Object) (m : Moved) → MovedSo m → MovedSo (unless_end wanted o m)
+      by_object (Relation t) m f = f
+      by_object (Tuple r) m f = f
+      by_object (Transaction h) m f = f
 
   pub resume-so : (s : Seg) → ((h : ℕ) → LocalSo h (s.locals h)) → (g : Gxid) (wanted : Claim) (x : Suspended) → RightOf g x → TurnSo (resumes s g (Some wanted) (Some x))
-  resume-so s so g wanted x right =
-      let t : Seg = with_local s g (record (local_of s g) { suspended = None }) in
-      let old = with-so s so s.locals so g.0 (record (local_of s g) { suspended = None }) (record { answer = (so g.0).answer; vote = (so g.0).vote }) in
-      let run = slice-runs t old g x.cid x.slice right s.horizon (resumed s.locks g (Some wanted)) x.level x.snapshot x.slice refl in
-      record { locals = run.locals; outs = run.outs }
+  resume-so s so g wanted x right = resume-row g x right (is_granted s g wanted) (granted-so s so g wanted) x.row

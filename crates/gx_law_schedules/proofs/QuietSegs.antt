@@ -3,6 +3,7 @@ use Rattle.std.proofs.Common.{◌≤◌, ℕ, List, Option, Some, None, Bool, tr
 use Rattle.std.specs.Prelude.{length}
 use Rattle.gx_ids.specs.declared.ids.Cid.{Cid}
 use Rattle.gx_ids.specs.declared.ids.Gxid.{Gxid}
+use Rattle.gx_ids.specs.declared.rid.Rid.{Rid}
 use Rattle.gx_tree.specs.declared.query.Query.{Query}
 use Rattle.gx_tree.specs.declared.row.KeyedRow.{KeyedRow}
 use Rattle.gx_tree.specs.declared.slice.Slice.{Slice}
@@ -20,6 +21,7 @@ use Rattle.gx_store.specs.declared.node.NodeEvent.TheVariants as event
 use Rattle.gx_rules.specs.AtSegment.{ends, commits, finishes, if_fits, on_abort, on_commit, on_commit_prepared, on_event, on_exec, on_forget, on_message, on_prepare, once, promises, raised, repeats, resumes, takes, unless_below, was_prepared}
 use Rattle.gx_rules.specs.Segments.{Local, Phase, Seg, SegTurn, Suspended, local_of, stays, tells, tells_kept}
 use Rattle.gx_rules.specs.Segments.Phase.{Aborted, Committed, Forgotten, Prepared, Reading, Writing}
+use Rattle.gx_rules.specs.Changes.{Change, change_of, changes_rows, goes_on_at}
 use Rattle.gx_rules.specs.Running.{goes_on, is_granted, requests, runs_locked, runs_slice, slice_lock, suspends}
 use Rattle.gx_rules.specs.Slices.{Moved, first_fault, inserted, inserts, selects}
 use Rattle.gx_rules.specs.Shown.{shown}
@@ -27,6 +29,8 @@ use Rattle.gx_rules.specs.Fits.{fits_exec, is_waiting}
 use Rattle.gx_rules.specs.Locks.{with_hold}
 use Rattle.gx_waits.specs.declared.claim.Claim.{Claim}
 use Rattle.gx_locks.specs.Locks.{is_free, wait_of}
+use Rattle.gx_rules.proofs.Moving.{Ends, Keeps}
+use Rattle.gx_law_order.proofs.Changing.{row-goes-on, rows-change}
 
 pub record IsStill (turn : SegTurn) : Type 0 where
   pub outs : length turn.outs ≤ 1
@@ -56,14 +60,26 @@ module _ (script : Script) (s : Seg) where
   insert : (g : Gxid) (c : Cid) (count : ℕ) (m : Moved) → IsStill (inserts g c count m)
   insert g c count m = record { outs = one-sent }
 
+  -- rows that are changed, from the start or from a row on
+  changes-keep : (g : Gxid) (k : Change) → Keeps g k (λ m. Unit {0})
+  changes-keep g k = record { takes = λ m rid free f. tt; gives = λ m rid held f. tt; writes = λ m rid image why f. tt; skips = λ m rid why f. tt; faults = λ m rid image f. tt }
+
+  changes-end : (g : Gxid) (k : Change) → Ends g k (λ m. Unit {0}) IsStill
+  changes-end g k =
+      record { done = λ m count f. record { outs = one-sent }; stopped = λ m rid rest count t d f. record { outs = none-sent }; failed = λ m cause f. record { outs = one-sent } }
+
+  change : (t : Seg) (g : Gxid) (o : Option Change) → IsStill (changes_rows t g o)
+  change t g None = record { outs = none-sent }
+  change t g (Some k) = rows-change g k (λ m. Unit {0}) IsStill (changes-keep g k) (changes-end g k) t tt (λ f. record { outs = one-sent })
+
   slice_runs : (t : Seg) (g : Gxid) (c : Cid) (level : Level) (snapshot : Option Snapshot) (x : Slice) → IsStill (runs_slice t g c level snapshot x)
   slice_runs t g c level (Some snapshot) (slice.Select q) = select t g c q (shown t snapshot g c q.table) (first_fault q.cond (shown t snapshot g c q.table))
   slice_runs t g c level (Some snapshot) (slice.Insert table rows) = insert g c (length rows) (inserted t g c table rows)
   slice_runs t g c level None (slice.Select q) = record { outs = none-sent }
   slice_runs t g c level None (slice.Insert table rows) = record { outs = none-sent }
   slice_runs t g c level snapshot (slice.Lock table mode) = record { outs = one-sent }
-  slice_runs t g c level snapshot (slice.Update table assigns cond) = record { outs = none-sent }
-  slice_runs t g c level snapshot (slice.Delete table cond) = record { outs = none-sent }
+  slice_runs t g c level snapshot (slice.Update table assigns cond) = change t g (change_of c level snapshot (slice.Update table assigns cond))
+  slice_runs t g c level snapshot (slice.Delete table cond) = change t g (change_of c level snapshot (slice.Delete table cond))
 
   both : (b : Bool) (x y : SegTurn) → IsStill x → IsStill y → IsStill (if b then x else y)
   both true x y e f = e
@@ -169,11 +185,16 @@ module _ (script : Script) (s : Seg) where
   message_still fails (message.Answer g r) = stay
   message_still fails (message.Graph round graph) = stay
 
-  go_on : (m : Moved) (g : Gxid) (x : Suspended) → IsStill (goes_on m g x)
-  go_on m g x = let run = slice_runs m.seg g x.cid x.level x.snapshot x.slice in record { outs = run.outs }
+  go_on_at : (m : Moved) (g : Gxid) (o : Option Change) (rid : Rid) (x : Suspended) → IsStill (goes_on_at m g o rid x)
+  go_on_at m g None rid x = record { outs = none-sent }
+  go_on_at m g (Some k) rid x = row-goes-on g k (λ m. Unit {0}) IsStill (changes-keep g k) (changes-end g k) m rid x tt
+
+  go_on : (m : Moved) (g : Gxid) (x : Suspended) (row : Option Rid) → IsStill (goes_on m g x row)
+  go_on m g x None = let run = slice_runs m.seg g x.cid x.level x.snapshot x.slice in record { outs = run.outs }
+  go_on m g x (Some rid) = go_on_at m g (change_of x.cid x.level x.snapshot x.slice) rid x
 
   resume : (g : Gxid) (o : Option Claim) (x : Option Suspended) → IsStill (resumes s g o x)
-  resume g (Some wanted) (Some x) = go_on (is_granted s g wanted) g x
+  resume g (Some wanted) (Some x) = go_on (is_granted s g wanted) g x x.row
   resume g (Some wanted) None = stay
   resume g None x = stay
 

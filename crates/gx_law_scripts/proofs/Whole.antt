@@ -1,4 +1,4 @@
--- The INSERTs of a script that was read are whole.
+-- The INSERTs and UPDATEs of a script that was read are whole.
 use Rattle.std.proofs.Common.{◌≡◌, ℕ, zero, suc, ◌<◌, List, [], ◌∷◌, length, Ok, Some, slice_get, sym, ◌∙◌, ap, subst}
 use Rattle.std.specs.List.{AllByRecursion}
 use Rattle.std.proofs.lemmas.List.{length-map}
@@ -12,7 +12,7 @@ use Rattle.gx_tree.specs.declared.stmt.Stmt.{Stmt}
 use Rattle.gx_tree.specs.declared.stmt.Stmt.TheVariants as stmt
 use Rattle.gx_meaning.specs.Kinds.{kind_of}
 use Rattle.gx_meaning.specs.Constants.{HasKey}
-use Rattle.gx_meaning.specs.Statements.{column_kind, column_kinds, IsDist, IsStmtOf, IsTuple}
+use Rattle.gx_meaning.specs.Statements.{column_kind, column_kinds, IsDist, IsStmtOf, IsTuple, KeepsKey}
 use Rattle.gx_script.specs.declared.Line.{Line}
 use Rattle.gx_script.specs.declared.Script.{Script}
 use Rattle.gx_store.specs.Language.{IsLine, IsTable}
@@ -57,7 +57,9 @@ stmt_whole tables (stmt.Insert table []) are of one = one
 stmt_whole tables (stmt.Insert table (tuple ∷ tuples)) are (schema, at, over) one =
     let s = table_stands tables table.0 schema are at in
     subst (λ (d : Dist). HaveKeys d (tuple ∷ tuples)) (sym s.same) (have_keys schema.columns schema.dist (tuple ∷ tuples) s.key (recursion_from_All (IsTuple schema.columns) (tuple ∷ tuples) over))
-stmt_whole tables (stmt.Update table set cond) are of one = tt
+stmt_whole tables (stmt.Update table set cond) are (schema, at, over) one =
+    let s = table_stands tables table.0 schema are at in
+    subst (λ (d : Dist). KeepsKey d set) (sym s.same) over.key
 stmt_whole tables (stmt.Delete table cond) are of one = tt
 stmt_whole tables (stmt.Lock table mode) are of one = tt
 

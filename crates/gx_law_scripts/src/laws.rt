@@ -21,7 +21,7 @@ pub fn scripts_keep_the_language()
     ensures { (bytes : List ℕ) (script : Script) → Reads bytes (Ok script) → IsScript script }
 {}
 
-/// Each INSERT of a script that was read has a tuple, and each of its tuples a value for the distribution column.
+/// Each INSERT of a script that was read has a tuple, and each of its tuples a value for the distribution column, which no UPDATE sets.
 pub fn inserts_are_whole()
     ensures { (bytes : List ℕ) (script : Script) → Reads bytes (Ok script) → AreInsertsWhole script.tables script.lines }
 {}

@@ -18,6 +18,8 @@ use Rattle.gx_tree.specs.declared.value.Value.{Value}
 use Rattle.gx_dsnap.specs.Gxids.{is_below}
 use Rattle.gx_dsnap.specs.declared.snapshot.Snapshot.{Snapshot}
 use Rattle.gx_waits.specs.declared.claim.Claim.{Claim}
+use Rattle.gx_waits.specs.declared.object.Object.{Object}
+use Rattle.gx_waits.specs.declared.object.Object.TheVariants.{Relation, Transaction, Tuple}
 use Rattle.gx_locks.specs.Locks.{is_free, wait_of}
 use Rattle.gx_meaning.specs.declared.fault.ArithFault.{ArithFault}
 use Rattle.gx_msg.specs.declared.item.JournalItem.{JournalItem}
@@ -32,13 +34,17 @@ use Rattle.gx_store.specs.declared.mark.Mark.TheVariants as mark
 use Rattle.gx_store.specs.declared.node.NodeEvent.{NodeEvent}
 use Rattle.gx_store.specs.declared.node.NodeEvent.TheVariants as event
 use Rattle.gx_rules.specs.AtSegment.{commits, ends, finishes, if_fits, on_abort, on_commit, on_commit_prepared, on_event, on_exec, on_forget, on_message, on_prepare, once, promises, raised, repeats, resumes, takes, unless_below, was_prepared, changes}
+use Rattle.gx_rules.specs.Changes.{Change, RowTurn, change_of, changes_rows, goes_on_at, suspended_at, suspends_at}
 use Rattle.gx_rules.specs.Fits.{fits_exec, is_waiting}
 use Rattle.gx_rules.specs.Locks.{hold_mark, release_marks, wait_mark, with_hold, with_wait}
-use Rattle.gx_rules.specs.Running.{is_granted, requests, runs_locked, runs_slice, slice_lock, suspended_slice, suspends}
+use Rattle.gx_rules.specs.Running.{goes_on, is_granted, requests, runs_locked, runs_slice, slice_lock, suspended_slice, suspends, unless_end}
 use Rattle.gx_rules.specs.Segments.{Local, Phase, Seg, SegTurn, Suspended, after_marks, local_of, stays, tells, tells_kept, with_local}
 use Rattle.gx_rules.specs.Segments.Phase.{Reading, Writing, Prepared, Committed, Forgotten, Aborted}
 use Rattle.gx_rules.specs.Shown.{shown}
 use Rattle.gx_rules.specs.Slices.{Moved, answers, first_fault, inserted, inserts_row, selects, starts_from, takes_own, writes_row}
+use Rattle.gx_rules.specs.Visits.{DidStop}
+use Rattle.gx_rules.proofs.Moving.{Ends, Keeps}
+use Rattle.gx_law_order.proofs.Changing.{row-goes-on, rows-change, stop-keeps}
 use Rattle.gx_law_order.proofs.Lists.{Each}
 use Rattle.gx_law_order.proofs.Stages.{gx}
 use Rattle.gx_law_sessions.proofs.Closings.{IsNoted}
@@ -234,6 +240,38 @@ module _ (ms : List Mark) (node : Node) where
   idle-noted : (s : Seg) → SegNoted ms node s → Notes (stays s)
   idle-noted s all = record { locals = λ j. local-more ms [] node (gx j) (s.locals j) (all j); outs = tt }
 
+  -- UPDATE and DELETE
+  abbrev MovedNoted : Moved → Type 0
+  MovedNoted m = SegNoted ms node m.seg
+
+  row-keeps : (g : Gxid) (change : Change) → Keeps g change MovedNoted
+  row-keeps g change =
+      record {
+        takes = λ m rid free all. all;
+        gives = λ m rid held all. all;
+        writes = λ m rid image why all. write-noted g change.cid change.table m rid image all;
+        skips = λ m rid why all. all;
+        faults = λ m rid image all. all;
+      }
+
+  stop-noted : (g : Gxid) (change : Change) (m : Moved) (rid : Rid) (rest : List Rid) (count : ℕ) (turn : RowTurn) (stop : DidStop m g change rid turn) → MovedNoted m
+      → Notes (suspends_at stop.stopped g change (suspended_at change rid rest count))
+  stop-noted g change m rid rest count turn stop all =
+      let it = stop-keeps g change MovedNoted (row-keeps g change) m rid turn stop all in
+      unanswered stop.stopped.seg (subst MovedNoted it.is it.kept) g change.cid stop.stopped.marks (suspended_at change rid rest count)
+
+  row-ends : (g : Gxid) (change : Change) → Ends g change MovedNoted Notes
+  row-ends g change =
+      record {
+        done = λ m count all. answered m.seg all g change.cid m.marks _ tt;
+        stopped = stop-noted g change;
+        failed = λ m cause all. answered m.seg all g change.cid m.marks (reply.Failed change.cid cause) tt;
+      }
+
+  changes-noted : (s : Seg) → SegNoted ms node s → (g : Gxid) (o : Option Change) → Notes (changes_rows s g o)
+  changes-noted s all g None = idle-noted s all
+  changes-noted s all g (Some change) = rows-change g change MovedNoted Notes (row-keeps g change) (row-ends g change) s all (λ f. answered s all g change.cid _ _ tt)
+
   slice-noted : (s : Seg) → SegNoted ms node s → (g : Gxid) (c : Cid) (level : Level) (snapshot : Option Snapshot) (x : Slice) → Notes (runs_slice s g c level snapshot x)
   slice-noted s all g c level (Some snapshot) (slice.Select q) = select s all g c q (shown s snapshot g c q.table) (first_fault q.cond (shown s snapshot g c q.table))
   slice-noted s all g c level (Some snapshot) (slice.Insert table rows) =
@@ -241,23 +279,34 @@ module _ (ms : List Mark) (node : Node) where
   slice-noted s all g c level None (slice.Select q) = idle-noted s all
   slice-noted s all g c level None (slice.Insert table rows) = idle-noted s all
   slice-noted s all g c level snapshot (slice.Lock table mode) = answered s all g c [] _ tt
-  slice-noted s all g c level snapshot (slice.Update table assigns cond) = idle-noted s all
-  slice-noted s all g c level snapshot (slice.Delete table cond) = idle-noted s all
+  slice-noted s all g c level snapshot (slice.Update table assigns cond) = changes-noted s all g (change_of c level snapshot (slice.Update table assigns cond))
+  slice-noted s all g c level snapshot (slice.Delete table cond) = changes-noted s all g (change_of c level snapshot (slice.Delete table cond))
+
+-- behind other marks
+behind-noted : (ms ns : List Mark) (node : Node) (turn : SegTurn) → Notes (ms ++ ns) node turn → Notes ms node (after_marks ns turn)
+behind-noted ms ns node turn n =
+    record {
+      locals = subst (λ all. SegNoted all node turn.seg) (append_assoc ms ns turn.marks) n.locals;
+      outs = subst (λ all. Each (λ (o : Out). IsNoted all node o.message) turn.outs) (append_assoc ms ns turn.marks) n.outs;
+    }
+
+seg-more : (ms ns : List Mark) (node : Node) (s : Seg) → SegNoted ms node s → SegNoted (ms ++ ns) node s
+seg-more ms ns node s all h = local-more ms ns node (gx h) (s.locals h) (all h)
 
 -- behind the marks of locks
 locked : (ms ns : List Mark) (node : Node) (s : Seg) → SegNoted ms node s → (g : Gxid) (c : Cid) (level : Level) (snapshot : Option Snapshot) (x : Slice)
     → Notes ms node (after_marks ns (runs_slice s g c level snapshot x))
 locked ms ns node s all g c level snapshot x =
-    record {
-      locals = subst (λ all. SegNoted all node turn.seg) (append_assoc ms ns turn.marks) n.locals;
-      outs = subst (λ all. Each (λ (o : Out). IsNoted all node o.message) turn.outs) (append_assoc ms ns turn.marks) n.outs;
-    }
-  where
-    turn : SegTurn
-    turn = runs_slice s g c level snapshot x
+    behind-noted ms ns node (runs_slice s g c level snapshot x) (slice-noted (ms ++ ns) node s (seg-more ms ns node s all) g c level snapshot x)
 
-    n : Notes (ms ++ ns) node turn
-    n = slice-noted (ms ++ ns) node s (λ h. local-more ms ns node (gx h) (s.locals h) (all h)) g c level snapshot x
+-- a slice that goes on
+on-row : (ms : List Mark) (node : Node) (m : Moved) → SegNoted ms node m.seg → (g : Gxid) (o : Option Change) (rid : Rid) (x : Suspended) → Notes ms node (goes_on_at m g o rid x)
+on-row ms node m all g None rid x = behind-noted ms m.marks node (stays m.seg) (idle-noted (ms ++ m.marks) node m.seg (seg-more ms m.marks node m.seg all))
+on-row ms node m all g (Some change) rid x = row-goes-on g change (MovedNoted ms node) (Notes ms node) (row-keeps ms node g change) (row-ends ms node g change) m rid x all
+
+on-noted : (ms : List Mark) (node : Node) (m : Moved) → SegNoted ms node m.seg → (g : Gxid) (x : Suspended) (row : Option Rid) → Notes ms node (goes_on m g x row)
+on-noted ms node m all g x None = locked ms m.marks node m.seg all g x.cid x.level x.snapshot x.slice
+on-noted ms node m all g x (Some rid) = on-row ms node m all g (change_of x.cid x.level x.snapshot x.slice) rid x
 
 module _ (ms : List Mark) (node : Node) where
   starts : (s : Seg) → SegNoted ms node s → (g : Gxid) (c : Cid) (level : Level) (snapshot : Option Snapshot) (x : Slice) (wanted : Claim) → Notes ms node (requests s g c level snapshot x wanted)
@@ -297,10 +346,16 @@ module _ (ms : List Mark) (node : Node) where
     message-notes fails (message.Answer g r) = stay ms node s is all
     message-notes fails (message.Graph round graph) = stay ms node s is all
 
+    granted : (g : Gxid) (wanted : Claim) → SegNoted ms node (is_granted s g wanted).seg
+    granted g wanted = by_object wanted.object _ (local-at ms node ms s g _ all (record { answer = (all g.0).answer; vote = (all g.0).vote }))
+      where
+        by_object : (o : Object) (m : Moved) → SegNoted ms node m.seg → SegNoted ms node (unless_end wanted o m).seg
+        by_object (Transaction other) m f = f
+        by_object (Relation table) m f = f
+        by_object (Tuple rid) m f = f
+
     resume : (g : Gxid) (w : Option Claim) (o : Option Suspended) → Notes ms node (resumes s g w o)
-    resume g (Some wanted) (Some waiting) =
-        locked ms (is_granted s g wanted).marks node (is_granted s g wanted).seg (local-at ms node ms s g _ all (record { answer = (all g.0).answer; vote = (all g.0).vote }))
-        g waiting.cid waiting.level waiting.snapshot waiting.slice
+    resume g (Some wanted) (Some waiting) = on-noted ms node (is_granted s g wanted) (granted g wanted) g waiting waiting.row
     resume g (Some wanted) None = stay ms node s is all
     resume g None o = stay ms node s is all
 

@@ -49,7 +49,7 @@ use Rattle.gx_law_sessions.specs.Standing.{AreSessions, HasSnapshot, Owns, is_bu
 use Rattle.gx_law_sessions.proofs.Said.{CalmFor}
 use Rattle.gx_law_commit.specs.Standings.{gx, waits_in}
 use Rattle.gx_law_writes.specs.Inserts.{HasInserted, InsertTold}
-use Rattle.gx_law_writes.proofs.Legal.{has-snap, line-is}
+use Rattle.gx_law_writes.proofs.Alive.{has-snap, line-is}
 use Rattle.gx_law_writes.proofs.Live.{Running, live-owns, running, running-in, runs}
 use Rattle.gx_law_writes.proofs.Plans.{insert-slice}
 use Rattle.gx_law_writes.proofs.Progress.{Progress, progress-done, progress-end, progress-more, progress-new}

@@ -1,5 +1,5 @@
 -- Rows stay where they were inserted: an INSERT's writes are so, and what was so stays so.
-use Rattle.std.proofs.Common.{◌≡◌, List, [], ◌∷◌, ◌++◌, Some, refl, sym, subst, append-nil}
+use Rattle.std.proofs.Common.{◌≡◌, List, [], ◌∷◌, ◌++◌, Option, Some, refl, sym, subst, append-nil}
 use Rattle.std.proofs.lemmas.List.{append_assoc}
 use Rattle.gx_ids.specs.declared.ids.Cid.{Cid}
 use Rattle.gx_ids.specs.declared.ids.Gxid.{Gxid}
@@ -16,7 +16,7 @@ use Rattle.gx_store.specs.declared.mark.Mark.TheVariants as mark
 use Rattle.gx_law_order.proofs.Lists.{Each}
 use Rattle.gx_law_sessions.specs.Scanned.{stmt_of_command}
 use Rattle.gx_law_sessions.proofs.Outs.{of-more}
-use Rattle.gx_law_writes.specs.Homes.{AreRowsHome, IsHomeMark, IsPlacedMark, IsRowOf}
+use Rattle.gx_law_writes.specs.Homes.{AreRowsHome, IsHomeMark, IsPlaced, IsPlacedMark, IsRowOf}
 use Rattle.gx_law_writes.proofs.Placed.{IsPlacedRow, row-of, row-placed}
 use Rattle.gx_law_writes.proofs.Turns.{NoWrite}
 
@@ -25,9 +25,12 @@ row_of-more : (script : Script) (ms ns : List Mark) (table : Table) (rid : Rid) 
 row_of-more script ms ns table rid values r =
     record { tuples = r.tuples; of = of-more script ms ns rid.gxid rid.cid _ r.of; counted = r.counted; tuple = r.tuple; among = r.among; constants = r.constants }
 
+pub placed-more : (script : Script) (ms ns : List Mark) (node : Node) (table : Table) (rid : Rid) (image : Option (List Value)) → IsPlaced script ms node table rid image → IsPlaced script (ms ++ ns) node table rid image
+placed-more script ms ns node table rid image p = record { values = p.values; row_of = row_of-more script ms ns table rid p.values p.row_of; place = p.place; key = p.key }
+
 home-more : (script : Script) (ms ns before : List Mark) (m : Mark) → IsHomeMark script ms before m → IsHomeMark script (ms ++ ns) before m
 home-more script ms ns before (mark.Write g c n t r x) p = (
-  record { values = p.0.values; row_of = row_of-more script ms ns t r p.0.values p.0.row_of; place = p.0.place; key = p.0.key },
+  placed-more script ms ns n t r x p.0,
   λ unwritten. let f = p.1 unwritten in record { own = f.own; values = f.values; row_of = row_of-more script ms ns t r f.values f.row_of; written = f.written },
 )
 home-more script ms ns before m p = tt

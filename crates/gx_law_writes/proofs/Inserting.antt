@@ -1,6 +1,6 @@
 -- What a script that only inserts has: its commands are INSERTs.
-use Rattle.std.proofs.Common.{◌≡◌, ℕ, ◌+◌, ◌-◌, List, [], ◌∷◌, Option, Some, None, Result, Ok, Err, Bool, true, false, refl, subst, if◌then◌else◌, ◌&&◌, ◌==◌}
-use Rattle.std.specs.Prelude.{Contains, nat_le}
+use Rattle.std.proofs.Common.{◌≡◌, ℕ, ◌+◌, ◌-◌, List, [], ◌∷◌, Option, Some, None, Bool, true, false, refl, subst, if◌then◌else◌, ◌&&◌, ◌==◌}
+use Rattle.std.specs.Prelude.{nat_le}
 use Rattle.gx_lemmas.proofs.Options.{some-same}
 use Rattle.gx_ids.specs.declared.ids.Cid.{Cid}
 use Rattle.gx_ids.specs.declared.ids.Gxid.{Gxid}
@@ -8,30 +8,23 @@ use Rattle.gx_ids.specs.declared.ids.Node.{Node}
 use Rattle.gx_ids.specs.declared.ids.SessionId.{SessionId}
 use Rattle.gx_ids.specs.declared.ids.Table.{Table}
 use Rattle.gx_tree.specs.declared.expr.Expr.{Expr}
-use Rattle.gx_tree.specs.declared.query.Query.{Query}
-use Rattle.gx_tree.specs.declared.row.KeyedRow.{KeyedRow}
+use Rattle.gx_tree.specs.declared.slice.Slice.{Slice}
 use Rattle.gx_tree.specs.declared.slice.Slice.TheVariants as slice
 use Rattle.gx_tree.specs.declared.stmt.Level.{Level}
 use Rattle.gx_tree.specs.declared.stmt.Level.TheVariants.{ReadCommitted}
 use Rattle.gx_tree.specs.declared.stmt.Stmt.{Stmt}
 use Rattle.gx_tree.specs.declared.stmt.Stmt.TheVariants as stmt
 use Rattle.gx_dsnap.specs.declared.snapshot.Snapshot.{Snapshot}
-use Rattle.gx_meaning.specs.Expressions.{and_then}
-use Rattle.gx_meaning.specs.declared.fault.ArithFault.{ArithFault}
-use Rattle.gx_meaning.specs.Constants.{rows_of}
-use Rattle.gx_meaning.specs.Plan.{insert_pieces, plan_of}
-use Rattle.gx_meaning.specs.declared.piece.Piece.{Piece}
 use Rattle.gx_script.specs.declared.Line.{Line}
 use Rattle.gx_script.specs.declared.Script.{Script}
 use Rattle.gx_store.specs.declared.mark.Mark.{Mark}
 use Rattle.gx_store.specs.Lines.{BlockState, InBlock, Outside, Failed, is_command, stmt_of}
 use Rattle.gx_store.specs.Marks.{is_same_session}
-use Rattle.gx_store.specs.Writes.{dist_of}
-use Rattle.gx_rules.specs.AtCoordinator.{table_of}
 use Rattle.gx_law_sessions.specs.Scanned.{began_from, closes_block, command_at, command_from, nth_command}
 use Rattle.gx_law_sessions.specs.Orders.{IsOrder}
 use Rattle.gx_law_writes.specs.Inserting.{AreInserting, is_inserting}
-use Rattle.gx_law_writes.proofs.Plans.{insert-slice, none-at-all}
+use Rattle.gx_law_writes.proofs.Pieces.{IsSliceOf, order-slice}
+use Rattle.gx_law_writes.proofs.Told.{may_fail}
 
 pub stmt-inserting : (k : SessionId) (n : ℕ) (ls : List Line) (st : Stmt) → AreInserting ls → stmt_of k n ls ≡ Some st → is_inserting st ≡ true
 stmt-inserting k n [] st a e = absurd (cc)
@@ -84,29 +77,23 @@ module _ (script : Script) (a : AreInserting script.lines) where
       none q = cc
   command-inserting (Some z) c st e = from-inserting z.0 z.1 (stmt_of z.0 z.1 script.lines) c st (λ s f. stmt-inserting z.0 z.1 script.lines s a f) e
 
-  -- no EXEC is of a SELECT
-  no-select : (g : Gxid) (c : Cid) (node : Node) (q : Query) (line : Stmt) (ps : List Piece) → is_inserting line ≡ true → plan_of script.segments (dist_of script.tables (table_of line)) g c line ≡ Ok ps → Contains ps (record { node = node; slice = slice.Select q }) → ⊥
-  no-select g c node q (stmt.Insert t tuples) ps i e k = by_rows (rows_of g c tuples) refl e
-    where
-      differ : (rows : List KeyedRow) → slice.Select q ≡ slice.Insert t rows → ⊥
-      differ rows z = cc
+  -- no EXEC is of a command that may fail where it runs
+  no-failing : (line : Stmt) (s : Slice) → is_inserting line ≡ true → IsSliceOf line s → may_fail s ≡ true → ⊥
+  no-failing (stmt.Insert t tuples) (slice.Insert u rows) i e f = absurd (cc)
+  no-failing (stmt.Insert t tuples) (slice.Select q) i e f = absurd e
+  no-failing (stmt.Insert t tuples) (slice.Update u x v) i e f = absurd e
+  no-failing (stmt.Insert t tuples) (slice.Delete u v) i e f = absurd e
+  no-failing (stmt.Insert t tuples) (slice.Lock u m) i e f = absurd e
+  no-failing (stmt.Begin l) s i e f = absurd e
+  no-failing stmt.Commit s i e f = absurd e
+  no-failing stmt.Rollback s i e f = absurd e
+  no-failing (stmt.Select r) s i e f = absurd (cc)
+  no-failing (stmt.Update t x v) s i e f = absurd (cc)
+  no-failing (stmt.Delete t v) s i e f = absurd (cc)
+  no-failing (stmt.Lock t m) s i e f = absurd (cc)
 
-      fault : (f : ArithFault) → (let o : Result (List Piece) ArithFault = Err f in o) ≡ Ok ps → ⊥
-      fault f z = cc
-
-      by_rows : (o : Result (List KeyedRow) ArithFault) → rows_of g c tuples ≡ o → and_then o (λ rows. Ok (insert_pieces script.segments (dist_of script.tables t.0) t rows)) ≡ Ok ps → ⊥
-      by_rows (Ok all) r f = differ _ (insert-slice script.segments (dist_of script.tables) g c node t tuples all ps (slice.Select q) r e k)
-      by_rows (Err f) r z = fault f z
-  no-select g c node q (stmt.Begin l) ps i e k = none-at-all node ps (slice.Select q) e k
-  no-select g c node q stmt.Commit ps i e k = none-at-all node ps (slice.Select q) e k
-  no-select g c node q stmt.Rollback ps i e k = none-at-all node ps (slice.Select q) e k
-  no-select g c node q (stmt.Select r) ps i e k = absurd (cc)
-  no-select g c node q (stmt.Update t x v) ps i e k = absurd (cc)
-  no-select g c node q (stmt.Delete t v) ps i e k = absurd (cc)
-  no-select g c node q (stmt.Lock t m) ps i e k = absurd (cc)
-
-  pub no-select-order : (ms : List Mark) (node : Node) (g : Gxid) (c : Cid) (level : Level) (x : Option Snapshot) (q : Query) → IsOrder script ms node g c level x (slice.Select q) → ⊥
-  no-select-order ms node g c level x q o = no-select g c node q o.line o.pieces (command-inserting (began_from [] ms g) c.0 o.line o.of) o.plan o.among
+  pub no-failing-order : (ms : List Mark) (node : Node) (g : Gxid) (c : Cid) (level : Level) (x : Option Snapshot) (s : Slice) → IsOrder script ms node g c level x s → may_fail s ≡ true → ⊥
+  no-failing-order ms node g c level x s o f = no-failing o.line s (command-inserting (began_from [] ms g) c.0 o.line o.of) (order-slice script ms node g c level x s o) f
 
 -- its commands are INSERTs
 pub insert-only : (b : BlockState) (line : Stmt) → is_inserting line ≡ true → is_command b line ≡ true → (t : Table) × (tuples : List (List Expr)) × (line ≡ stmt.Insert t tuples)

@@ -11,6 +11,7 @@ use Rattle.gx_ids.specs.declared.ids.SessionId.{SessionId}
 use Rattle.gx_ids.specs.declared.ids.Table.{Table}
 use Rattle.gx_tree.specs.declared.expr.Expr.{Expr}
 use Rattle.gx_tree.specs.declared.part.Part.{Part as QueryPart}
+use Rattle.gx_tree.specs.declared.slice.Slice.TheVariants as slice
 use Rattle.gx_tree.specs.declared.stmt.Stmt.TheVariants as stmt
 use Rattle.gx_msg.specs.declared.message.Envelope.{Envelope}
 use Rattle.gx_msg.specs.declared.message.Message.{Message}
@@ -40,10 +41,12 @@ use Rattle.gx_store.specs.Refusals.{the_coordinator}
 use Rattle.gx_rules.specs.AtCoordinator.{command_answer, coord_can, coord_rule, on_event}
 use Rattle.gx_rules.specs.AtSegment as segment
 use Rattle.gx_rules.specs.AtSegment.{seg_rule}
+use Rattle.gx_rules.specs.Changes.{Change, change_of}
 use Rattle.gx_rules.specs.Coordinators.{Coord, CoordTurn}
 use Rattle.gx_rules.specs.Machine.{Letter, World, after, at_node, can, can_here, coord_did, delivered, does, found, happens, new_world, node_of, seg_can, seg_did, world_of}
 use Rattle.gx_rules.specs.Segments.{Seg, SegTurn, Suspended}
 use Rattle.gx_rules.specs.Sending.{clock_after, counted, numbered}
+use Rattle.gx_law_order.proofs.Changing.{change-parts}
 use Rattle.gx_law_order.proofs.Letters.{IsFound, IsLetter, found_is}
 use Rattle.gx_law_order.proofs.Lists.{Each, each_append}
 use Rattle.gx_law_order.proofs.Ordered.{resumes_there, seg_marks}
@@ -63,9 +66,10 @@ use Rattle.gx_law_writes.specs.Inserting.{AreInserting}
 use Rattle.gx_law_writes.specs.Writes.{AreWritesLegal, WriteLegal}
 use Rattle.gx_law_writes.proofs.Answers.{answered, tells}
 use Rattle.gx_law_writes.proofs.Counted.{Counted, world-counted}
-use Rattle.gx_law_writes.proofs.Inserting.{insert-only, no-select-order, stmt-inserting}
+use Rattle.gx_law_writes.proofs.Inserting.{insert-only, no-failing-order, stmt-inserting}
+use Rattle.gx_law_writes.proofs.Moves.{change-fails}
 use Rattle.gx_law_writes.proofs.Rows.{insert-no-fault, resumption-no-fault}
-use Rattle.gx_law_writes.proofs.Told.{IsReport, IsWordOf, sending-told}
+use Rattle.gx_law_writes.proofs.Told.{IsReport, IsWordOf, may_fail, sending-told}
 use Rattle.gx_law_writes.proofs.Turns.{Continues, NoFault, Turns, message-turns, resumption-turns, row-no-fault}
 use Rattle.gx_law_writes.proofs.Walk.{AnswerAt, AnswerOk, AnswersOk, Completes, IsGoingOut, Walk, event-walk}
 use Rattle.gx_law_writes.proofs.World as writes
@@ -130,16 +134,25 @@ unless e A a = by_test (is_going_out e)
 module _ (script : Script) (some : 1 ≤ script.segments) (numbered_lines : AreLinesNumbered [] script.lines) (inserting : AreInserting script.lines) where
   no-faults : (ms : List Mark) (i : ℕ) (s : Seg) (m : Message) (turn : SegTurn) → MessageIs script ms (at i) m → Turns script s m turn → Each NoFault turn.marks
   no-faults ms i s m turn o (inl q) = row-no-fault turn.marks q.marks
-  no-faults ms i s m turn o (inr (inl x)) = absurd (no-select-order script inserting ms (at i) x.g x.c x.level (Some x.snapshot) x.query (subst (λ (y : Message). MessageIs script ms (at i) y) x.is o numbered_lines))
+  no-faults ms i s m turn o (inr (inl x)) = absurd (no-failing-order script inserting ms (at i) x.g x.c x.level (Some x.snapshot) (slice.Select x.query) (subst (λ (y : Message). MessageIs script ms (at i) y) x.is o numbered_lines) refl)
   no-faults ms i s m turn o (inr (inr (inl x))) = insert-no-fault script s m turn x
   no-faults ms i s m turn o (inr (inr (inr (inl x)))) = subst (λ (y : SegTurn). Each NoFault y.marks) (sym x.ran) (tt, tt)
-  no-faults ms i s m turn o (inr (inr (inr (inr x)))) = subst (λ (y : SegTurn). Each NoFault y.marks) (sym x.ran) (tt, tt)
+  no-faults ms i s m turn o (inr (inr (inr (inr (inl x))))) = subst (λ (y : SegTurn). Each NoFault y.marks) (sym x.ran) (tt, tt)
+  no-faults ms i s m turn o (inr (inr (inr (inr (inr x))))) =
+      absurd (no-failing-order script inserting ms (at i) x.g x.change.cid x.change.level (Some x.change.snapshot) x.change.slice (subst (λ (y : Message). MessageIs script ms (at i) y) x.is o numbered_lines) (change-fails x.change x.changes))
 
   -- who goes on inserts or locks
+  no-change : (ms : List Mark) (i : ℕ) (g : Gxid) (x : Suspended) (k : Change) → change_of x.cid x.level x.snapshot x.slice ≡ Some k → IsOrder script ms (at i) g x.cid x.level x.snapshot x.slice → ⊥
+  no-change ms i g x k e o =
+      let p = change-parts x.cid x.level x.snapshot x.slice k e in
+      no-failing-order script inserting ms (at i) g x.cid x.level x.snapshot x.slice o (subst (λ y. may_fail y ≡ true) p.slice (change-fails k p.again))
+
   resumption-faults : (ms : List Mark) (i : ℕ) (s : Seg) (g : Gxid) (x : Suspended) (horizon : Gxid) (turn : SegTurn) → MessageIs script ms (at i) (message.Exec g x.cid x.level x.snapshot horizon x.slice) → Continues s g x turn → Each NoFault turn.marks
-  resumption-faults ms i s g x horizon turn o (inl y) = absurd (no-select-order script inserting ms (at i) g x.cid x.level x.snapshot y.query (subst (IsOrder script ms (at i) g x.cid x.level x.snapshot) y.is (o numbered_lines)))
+  resumption-faults ms i s g x horizon turn o (inl y) = absurd (no-failing-order script inserting ms (at i) g x.cid x.level x.snapshot (slice.Select y.query) (subst (IsOrder script ms (at i) g x.cid x.level x.snapshot) y.is (o numbered_lines)) refl)
   resumption-faults ms i s g x horizon turn o (inr (inl y)) = resumption-no-fault s g x turn y
-  resumption-faults ms i s g x horizon turn o (inr (inr y)) = subst (λ (z : SegTurn). Each NoFault z.marks) (sym y.ran) (tt, tt)
+  resumption-faults ms i s g x horizon turn o (inr (inr (inl y))) = subst (λ (z : SegTurn). Each NoFault z.marks) (sym y.ran) (tt, tt)
+  resumption-faults ms i s g x horizon turn o (inr (inr (inr (inl y)))) = absurd (no-change ms i g x y.change y.changes (o numbered_lines))
+  resumption-faults ms i s g x horizon turn o (inr (inr (inr (inr y)))) = absurd (no-change ms i g x y.goes.at.change y.goes.at.changes (o numbered_lines))
 
   module _ (w : World) (b : Both script some w) (k : stepping.Holds script w) (h : writes.Holds script w.segs w.steps) (n : Counted script w) where
     -- A STEP OF THE COORDINATOR
@@ -152,7 +165,7 @@ module _ (script : Script) (some : 1 ≤ script.segments) (numbered_lines : AreL
       no-failed : (from : Node) (g : Gxid) (cid : Cid) (cause : Cause) → Receives w.steps e from the_coordinator (message.Answer g (reply.Failed cid cause)) → ⊥
       no-failed from g cid cause r =
           let f = (sending-told script (marks_in w.steps) (locals_in w.segs) w.steps r.sent.step r.sent.mark from the_coordinator r.number (message.Answer g (reply.Failed cid cause)) (heard from r.number r.is) h.told r.sent.sending).1 in
-          no-select-order script inserting (marks_in w.steps) from g cid f.level f.snapshot f.query f.order
+          no-failing-order script inserting (marks_in w.steps) from g cid f.level f.snapshot f.slice f.order f.kind
 
       caused : (earlier later : List Mark) (s : SessionId) (reason : Refused) → IsCaused script (record { steps = w.steps; event = e; earlier = earlier; later = later }) s reason
       caused earlier later s reason asked level g cid from cause runs r is = absurd (no-failed from g cid cause r)

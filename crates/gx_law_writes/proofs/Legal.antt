@@ -52,7 +52,7 @@ use Rattle.gx_law_sessions.proofs.Said.{CalmFor}
 use Rattle.gx_law_commit.specs.Standings.{gx}
 use Rattle.gx_law_writes.specs.Homes.{IsPlaced, IsPlacedMark}
 use Rattle.gx_law_writes.specs.Writes.{WriteLegal}
-use Rattle.gx_law_writes.proofs.Live.{Running, under-way}
+use Rattle.gx_law_writes.proofs.Alive.{Late, Live, is-late, live-runs, live-snapped}
 use Rattle.gx_law_writes.proofs.Placed.{IsPlacedRow, same-place}
 use Rattle.gx_law_writes.proofs.Turns.{NoWrite}
 
@@ -118,53 +118,6 @@ module _ (script : Script) (ms : List Mark) (nexts : ℕ → ℕ → ℕ) (node 
       by_test false q = refl
   fresh-row (m ∷ xs) e f = fresh-row xs e.1 f.1
 
--- THE COMMAND'S SNAPSHOT
-
-pub has-snap : (ms : List Mark) (k : ℕ) (g : Gxid) (d : Cid) (x : Snapshot) → slice_get ms k ≡ Some (mark.Snap g d x) → (has_snapshot ms g ≡ true) × (is_snapped ms g d ≡ true)
-has-snap [] k g d x e = absurd (cc)
-has-snap (m ∷ ms) zero g d x e = subst (λ (y : Mark). (has_snapshot (y ∷ ms) g ≡ true) × (is_snapped (y ∷ ms) g d ≡ true)) (some-same (mark.Snap g d x) m (sym e)) (or_left _ _ (eqb-self g.0), or_left _ _ (and_from _ _ (eqb-self g.0) (eqb-self d.0)))
-has-snap (m ∷ ms) (suc k) g d x e = let y = has-snap ms k g d x e in (has-more m y.0, snapped-more m y.1)
-  where
-    has-more : (m : Mark) → has_snapshot ms g ≡ true → has_snapshot (m ∷ ms) g ≡ true
-    has-more m q = has_snapshot-append (m ∷ []) ms g ∙ or_right (has_snapshot (m ∷ []) g) (has_snapshot ms g) q
-
-    snapped-more : (m : Mark) → is_snapped ms g d ≡ true → is_snapped (m ∷ ms) g d ≡ true
-    snapped-more m q = is_snapped-append (m ∷ []) ms g d ∙ or_right (is_snapped (m ∷ []) g d) (is_snapped ms g d) q
-
-served-has : (level : Level) (ms : List Mark) (g : Gxid) (c : Cid) (x : Snapshot) → IsServed ms level g c x → has_own_snapshot level ms g c ≡ true
-served-has ReadCommitted ms g c x s = subst (λ d. is_snapped ms g d ≡ true) s.serves (has-snap ms s.place g s.d x s.taken).1
-served-has RepeatableRead ms g c x s = (has-snap ms s.place g s.d x s.taken).0
-
-pub own-more : (level : Level) (ms ns : List Mark) (g : Gxid) (c : Cid) → has_own_snapshot level ms g c ≡ true → has_own_snapshot level (ms ++ ns) g c ≡ true
-own-more ReadCommitted ms ns g c e = is_snapped-append ms ns g c ∙ or_left (is_snapped ms g c) (is_snapped ns g c) e
-own-more RepeatableRead ms ns g c e = has_snapshot-append ms ns g ∙ or_left (has_snapshot ms g) (has_snapshot ns g) e
-
--- AN ORDER IS OF THE COMMAND UNDER WAY
-
-module _ (script : Script) (numbered : AreLinesNumbered [] script.lines) (w : World) (g : ℕ) (r : Running script w g) where
-  abbrev ms : List Mark
-  ms = marks_in w.steps
-
-  pub its-line : stmt_of_command script ms (gx g) r.command.cid ≡ Some r.command.stmt
-  its-line = ap (λ o. command_at script o r.command.cid.0) r.roots.began ∙ (r.roots.now numbered).0 r.command r.has_it
-
-  pub line-is : (c : Cid) (line : Stmt) → c.0 ≡ r.command.cid.0 → stmt_of_command script ms (gx g) c ≡ Some line → r.command.stmt ≡ line
-  line-is c line same of = some-same r.command.stmt line (sym its-line ∙ ap (λ n. command_at script (began_from [] ms (gx g)) n) (sym same) ∙ of)
-
-  first-level : (b : Block) (first lines commands : ℕ) (line : Stmt) (t : Table) (tuples : List (List Expr)) → is_busy b pending.Command ≡ true → IsFirst script (w.coord.works g).session lines b first → stmt_of (w.coord.works g).session lines script.lines ≡ Some line → line ≡ stmt.Insert t tuples → level_by (stmt_of (w.coord.works g).session first script.lines) ≡ level_of (state_in b commands)
-  first-level (block.Open l) first lines commands line t tuples busy f e q = ap level_by f
-  first-level block.Outside first lines commands line t tuples busy f e q = ap (λ n. level_by (stmt_of (w.coord.works g).session n script.lines)) f ∙ ap level_by e ∙ ap (λ z. level_by (Some z)) q
-  first-level block.Failed first lines commands line t tuples busy f e q = absurd (cc)
-
-  pub level-is : (t : Table) (tuples : List (List Expr)) → r.command.stmt ≡ stmt.Insert t tuples → level_of_began script (began_from [] ms (gx g)) ≡ level_of (state_in r.block r.commands)
-  level-is t tuples q = ap (level_of_began script) r.roots.began ∙ first-level r.block r.roots.first _ r.commands r.command.stmt t tuples r.busy r.roots.opening r.line q
-
-pub read-served : (ms : List Mark) (level : Level) (g : Gxid) (c : Cid) (t : Table) (tuples : List (List Expr)) (line : Stmt) (x : Option Snapshot) → line ≡ stmt.Insert t tuples → IsReadBy ms level g c line x → has_own_snapshot level ms g c ≡ true
-read-served ms level g c t tuples line x e r = from (subst (λ l. IsReadBy ms level g c l x) e r)
-  where
-    from : (y : Snapshot) × (x ≡ Some y) × IsServed ms level g c y → has_own_snapshot level ms g c ≡ true
-    from z = served-has level ms g c z.0 z.2
-
 -- WRITES OF ONE STEP
 -- marks of the step before the row of this ordinal
 pub record Behind (g : Gxid) (c : Cid) (k : ℕ) (earlier : List Mark) : Type 0 where
@@ -207,75 +160,39 @@ behind-hold g c k earlier node wanted b =
     hold : Mark
     hold = hold_mark node wanted
 
--- the command is under way, or its transaction has aborted
-module _ (script : Script) (numbered : AreLinesNumbered [] script.lines) (w : World) (g : ℕ) (c : Cid) (node : Node) (table : Table) (tuples : List (List Expr)) (e : Event) (quiet : (s : SessionId) → starts_by s e ≡ 0) where
+-- one row of a command that is under way, or whose transaction has aborted
+module _ (script : Script) (numbered : AreLinesNumbered [] script.lines) (w : World) (g : ℕ) (c : Cid) (node : Node) (table : Table) (tuples : List (List Expr)) (level : Level) (e : Event) (quiet : (s : SessionId) → starts_by s e ≡ 0)
+    (of : stmt_of_command script (marks_in w.steps) (gx g) c ≡ Some (stmt.Insert table tuples)) (how : Live script w g c (stmt.Insert table tuples) level ⊎ Late script w g c) where
   abbrev now : List Mark
   now = marks_in w.steps
 
-  pub record Live : Type 0 where
-    pub runs : Running script w g
-    pub number : c ≡ runs.command.cid
-    pub line : runs.command.stmt ≡ stmt.Insert table tuples
-    pub snapped : has_own_snapshot (level_of (state_in runs.block runs.commands)) now (gx g) c ≡ true
+  pub row-legal : (earlier later : List Mark) (k : ℕ) (row : KeyedRow) → IsPlacedRow script (gx g) c node table tuples row → Behind (gx g) c k earlier → k ≤ row.rid.ordinal → is_written now row.rid ≡ false
+      → LegalWrite script (record { steps = w.steps; event = e; earlier = earlier; later = later }) (gx g) c node table row.rid (Some row.row)
+  row-legal earlier later k row p b l fresh = by_how how
+    where
+      once : is_written (now ++ earlier) row.rid ≡ false
+      once = is_written-append now earlier row.rid ∙ or_from (is_written now row.rid) (is_written earlier row.rid) fresh (b.unwritten row.rid l)
 
-  pub record Late : Type 0 where
-    pub aborted : is_aborted now (gx g) ≡ true
-    pub was : WasUnderWay script w.steps (gx g) c
-
-  module _ (of : stmt_of_command script now (gx g) c ≡ Some (stmt.Insert table tuples)) (how : Live ⊎ Late) where
-    -- one row
-    pub row-legal : (earlier later : List Mark) (k : ℕ) (row : KeyedRow) → IsPlacedRow script (gx g) c node table tuples row → Behind (gx g) c k earlier → k ≤ row.rid.ordinal → is_written now row.rid ≡ false → LegalWrite script (record { steps = w.steps; event = e; earlier = earlier; later = later }) (gx g) c node table row.rid (Some row.row)
-    row-legal earlier later k row p b l fresh = by_how how
-      where
-        point : Point
-        point = record { steps = w.steps; event = e; earlier = earlier; later = later }
-
-        once : is_written (now ++ earlier) row.rid ≡ false
-        once = is_written-append now earlier row.rid ∙ or_from (is_written now row.rid) (is_written earlier row.rid) fresh (b.unwritten row.rid l)
-
-        writes : (table ≡ table) × IsInserted script (now ++ earlier) (gx g) c table tuples node row.rid (Some row.row)
-        writes = (
-          refl,
-          record { own = p.row_is.own; counted = p.row_is.counted; tuple = p.row_is.tuple; among = p.row_is.among; values = row.row; constants = p.row_is.constants; written = refl; place = p.place; once = once },
-        )
-
-        by_how : Live ⊎ Late → LegalWrite script point (gx g) c node table row.rid (Some row.row)
-        by_how (inl v) =
-            inl (record {
-              session = (w.coord.works g).session;
-              stmt = v.runs.command.stmt;
-              level = level_of (state_in v.runs.block v.runs.commands);
-              runs = subst (IsUnderWay script point (w.coord.works g).session v.runs.command.stmt (level_of (state_in v.runs.block v.runs.commands)) (gx g)) (sym v.number) (under-way script w g v.runs e earlier later (quiet (w.coord.works g).session) (b.calm (w.coord.works g).session) b.running);
-              snapped = own-more (level_of (state_in v.runs.block v.runs.commands)) now earlier (gx g) c v.snapped;
-              writes = subst (λ q. IsWriteOf script (now ++ earlier) (level_of (state_in v.runs.block v.runs.commands)) (gx g) c q node table row.rid (Some row.row)) (sym v.line) writes;
-            })
-        by_how (inr v) =
-            inr (record {
-              stmt = stmt.Insert table tuples;
-              late = record {
-                aborted = is_aborted-append now earlier (gx g) ∙ or_left (is_aborted now (gx g)) (is_aborted earlier (gx g)) v.aborted;
-                early = v.was.point;
-                earlier = inl v.was.among;
-                session = v.was.session;
-                level = v.was.level;
-                ran = subst (λ q. IsUnderWay script v.was.point v.was.session q v.was.level (gx g) c) (some-same v.was.line (stmt.Insert table tuples) (sym (v.was.of numbered) ∙ of)) v.was.ran;
-              };
-              writes = (
-                refl,
-                record { own = p.row_is.own; counted = p.row_is.counted; among = within row.rid.ordinal tuples p.row_is.tuple p.row_is.counted p.row_is.among },
-                subst (λ o. IsAtHome o node) (sym (unwritten-node (now ++ earlier) row.rid once)) tt,
-              );
-            })
-
--- an order that is awaited is live
-pub order-live : (script : Script) (numbered : AreLinesNumbered [] script.lines) (w : World) (g : ℕ) (c : Cid) (node : Node) (table : Table) (tuples : List (List Expr)) (e : Event) (quiet : (s : SessionId) → starts_by s e ≡ 0) (level : Level) (x : Option Snapshot) (rows : List KeyedRow) (r : Running script w g) → c.0 ≡ r.command.cid.0 → (o : IsOrder script (marks_in w.steps) node (gx g) c level x (slice.Insert table rows)) → o.line ≡ stmt.Insert table tuples → Live script numbered w g c node table tuples e quiet
-order-live script numbered w g c node table tuples e quiet level x rows r same o of =
-    record {
-      runs = r;
-      number = ap (λ n. let d : Cid = record { 0 = n } in d) same;
-      line = line;
-      snapped = subst (λ l. has_own_snapshot l (marks_in w.steps) (gx g) c ≡ true) (o.level_is ∙ level-is script numbered w g r table tuples line) (read-served (marks_in w.steps) level (gx g) c table tuples o.line x of o.read);
-    }
-  where
-    line : r.command.stmt ≡ stmt.Insert table tuples
-    line = line-is script numbered w g r c o.line same o.of ∙ of
+      by_how : Live script w g c (stmt.Insert table tuples) level ⊎ Late script w g c → LegalWrite script (record { steps = w.steps; event = e; earlier = earlier; later = later }) (gx g) c node table row.rid (Some row.row)
+      by_how (inl v) =
+          inl (record {
+            session = (w.coord.works g).session;
+            stmt = stmt.Insert table tuples;
+            level = level;
+            runs = live-runs script w g c (stmt.Insert table tuples) e earlier later level v (quiet (w.coord.works g).session) (b.calm (w.coord.works g).session) b.running;
+            snapped = live-snapped script w g c (stmt.Insert table tuples) e earlier later level v;
+            writes = (
+              refl,
+              record { own = p.row_is.own; counted = p.row_is.counted; tuple = p.row_is.tuple; among = p.row_is.among; values = row.row; constants = p.row_is.constants; written = refl; place = p.place; once = once },
+            );
+          })
+      by_how (inr v) =
+          inr (record {
+            stmt = stmt.Insert table tuples;
+            late = is-late script w g c (stmt.Insert table tuples) e earlier later numbered v of;
+            writes = (
+              refl,
+              record { own = p.row_is.own; counted = p.row_is.counted; among = within row.rid.ordinal tuples p.row_is.tuple p.row_is.counted p.row_is.among },
+              subst (λ o. IsAtHome o node) (sym (unwritten-node (now ++ earlier) row.rid once)) tt,
+            );
+          })

@@ -1,12 +1,16 @@
 pub mod Plans
+pub mod Pieces
 pub mod Next
 pub mod Turns
 pub mod Live
+pub mod Alive
 pub mod Placed
 pub mod Homes
 pub mod Told
 pub mod Legal
+pub mod Versions
 pub mod Rows
+pub mod Changing
 pub mod Moves
 pub mod World
 pub mod Waiting
@@ -18,3 +22,5 @@ pub mod Counted
 pub mod Inserting
 pub mod Left
 pub mod Join
+pub mod Begun
+pub mod UnderWay

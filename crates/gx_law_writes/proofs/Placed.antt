@@ -138,7 +138,7 @@ same-key Randomly row = tt
 
 pub row-placed : (script : Script) (ms : List Mark) (g : Gxid) (c : Cid) (node : Node) (table : Table) (tuples : List (List Expr)) (row : KeyedRow) → stmt_of_command script ms g c ≡ Some (stmt.Insert table tuples) → IsPlacedRow script g c node table tuples row → IsPlaced script ms node table row.rid (Some row.row)
 row-placed script ms g c node table tuples row of r =
-    record { values = row.row; row_of = row-of script ms g c node table tuples row of r; place = r.place; key = same-key (dist_of script.tables table.0) row.row }
+    record { values = row.row; row_of = row-of script ms g c node table tuples row of r; place = r.place; key = λ keeps. same-key (dist_of script.tables table.0) row.row }
 
 -- ONE ROW, ONE PLACE
 node-is : (a b : Node) → a.0 ≡ b.0 → a ≡ b

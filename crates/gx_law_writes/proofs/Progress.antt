@@ -37,7 +37,7 @@ use Rattle.gx_law_commit.proofs.Nodes.{has-without}
 use Rattle.gx_law_commit.specs.Standings.{at, gx}
 use Rattle.gx_law_writes.specs.Rows.{AreRowsOf, is_own_written}
 use Rattle.gx_law_writes.proofs.Counts.{all-there, each-passing, left, left-all, left-none, left-without, stands_at, waits_for}
-use Rattle.gx_law_writes.proofs.Legal.{own-more}
+use Rattle.gx_law_writes.proofs.Alive.{own-more}
 use Rattle.gx_law_writes.proofs.Plans.{rows-are}
 use Rattle.gx_law_writes.proofs.Told.{IsDoneSlice, IsWritten, written-more}
 

@@ -1,6 +1,6 @@
 -- What a slice does row by row: behind each of its small moves its segment stands as it stood, but for its transaction's phase, and
 -- its marks are at home, past and legal. An INSERT is such a row of writes.
-use Rattle.std.proofs.Common.{◌≡◌, ◌≤◌, ℕ, ◌+◌, List, [], ◌∷◌, ◌++◌, Option, Some, Bool, true, false, refl, sym, subst, ap, ◌∙◌, if◌then◌else◌, ◌&&◌, arith, eqb}
+use Rattle.std.proofs.Common.{◌≡◌, ◌≤◌, ◌<◌, ℕ, ◌+◌, List, [], ◌∷◌, ◌++◌, Option, Some, Bool, true, false, refl, sym, subst, ap, ◌∙◌, if◌then◌else◌, ◌&&◌, arith, eqb}
 use Rattle.std.proofs.lemmas.Bool.{eqb-true, or_left, or_right}
 use Rattle.std.proofs.lemmas.Bool.Decides.{nat_tests}
 use Rattle.std.proofs.lemmas.List.{append_assoc}
@@ -14,6 +14,7 @@ use Rattle.gx_ids.specs.declared.rid.Rid.{Rid}
 use Rattle.gx_tree.specs.declared.row.KeyedRow.{KeyedRow}
 use Rattle.gx_tree.specs.declared.value.Value.{Value}
 use Rattle.gx_waits.specs.declared.claim.Claim.{Claim}
+use Rattle.gx_locks.specs.Locks.{Locks}
 use Rattle.gx_msg.specs.declared.message.Message.{Message}
 use Rattle.gx_script.specs.declared.Script.{Script}
 use Rattle.gx_store.specs.declared.event.Event.{Event}
@@ -22,11 +23,12 @@ use Rattle.gx_store.specs.declared.mark.Mark.TheVariants as mark
 use Rattle.gx_store.specs.declared.run.Step.{Step}
 use Rattle.gx_store.specs.Marks.{is_command_of, is_same_rid}
 use Rattle.gx_store.proofs.Marks.{is_processed-append}
-use Rattle.gx_rules.specs.Locks.{hold_mark}
+use Rattle.gx_rules.specs.Locks.{hold_mark, release_mark}
 use Rattle.gx_rules.specs.Segments.{Local, Phase, Seg, SegTurn, Suspended, local_of}
 use Rattle.gx_rules.specs.Segments.Phase.{Reading, Writing}
-use Rattle.gx_rules.specs.Slices.{Moved, adds_version, inserted, inserts_row, own_lock, starts_from, takes_lock, takes_own, version, writes_row}
-use Rattle.gx_law_order.proofs.Lists.{Each, each_append}
+use Rattle.gx_rules.specs.Slices.{Moved, adds_version, gives_back, inserted, inserts_row, own_lock, starts_from, takes_lock, takes_own, version, writes_row}
+use Rattle.gx_law_order.proofs.Lists.{Each, each_append, each_weaker}
+use Rattle.gx_law_order.proofs.Waiting.{freed}
 use Rattle.gx_law_sessions.specs.Rest.{EachMark}
 use Rattle.gx_law_sessions.proofs.Given.{marks-append}
 use Rattle.gx_law_writes.specs.Homes.{AreRowsHome, IsHomeMark}
@@ -35,7 +37,7 @@ use Rattle.gx_law_writes.specs.Writes.{WriteLegal}
 use Rattle.gx_law_writes.proofs.Homes.{homes-append}
 use Rattle.gx_law_writes.proofs.Legal.{Behind, IsPastHere, behind-hold, behind-next}
 use Rattle.gx_law_writes.proofs.Told.{IsWritten, written-more}
-use Rattle.gx_law_writes.proofs.Turns.{InsertGoesOn, Inserted, NoFault, NoWrite, base, freed}
+use Rattle.gx_law_writes.proofs.Turns.{InsertGoesOn, Inserted, NoFault, NoWrite, base}
 
 -- a write takes its transaction's own lock, or nothing more
 pub by-own : (P : Moved → Type 0) (g : Gxid) (p : Phase) (m : Moved) → P (takes_lock (own_lock g) m) → P m → P (takes_own g p m)
@@ -58,12 +60,12 @@ pub record IsStillAt (b : Seg) (g : Gxid) (s : Seg) : Type 0 where
 pub still-itself : (b : Seg) (g : Gxid) → IsStillAt b g b
 still-itself b g = record { node = refl; last = refl; answer = refl; suspended = refl; others = λ h e. refl }
 
-still-locked : (b : Seg) (g : Gxid) (wanted : Claim) (m : Moved) → IsStillAt b g m.seg → IsStillAt b g (takes_lock wanted m).seg
-still-locked b g wanted m f = record { node = f.node; last = f.last; answer = f.answer; suspended = f.suspended; others = f.others }
+pub still-locked : (b : Seg) (g : Gxid) (s : Seg) (locks : Locks) → IsStillAt b g s → IsStillAt b g (record s { locks = locks })
+still-locked b g s locks f = record { node = f.node; last = f.last; answer = f.answer; suspended = f.suspended; others = f.others }
 
 module _ (b : Seg) (g : Gxid) (c : Cid) (table : Table) where
   -- a row's write, and behind it the transaction's own lock
-  still-added : (m : Moved) (rid : Rid) (image : Option (List Value)) → IsStillAt b g m.seg → IsStillAt b g (adds_version m.seg g (version g c table rid image))
+  pub still-added : (m : Moved) (rid : Rid) (image : Option (List Value)) → IsStillAt b g m.seg → IsStillAt b g (adds_version m.seg g (version g c table rid image))
   still-added m rid image f =
       record {
         node = f.node;
@@ -78,7 +80,7 @@ module _ (b : Seg) (g : Gxid) (c : Cid) (table : Table) where
 
   still-wrote : (m : Moved) (rid : Rid) (image : Option (List Value)) → IsStillAt b g m.seg → IsStillAt b g (writes_row g c table m rid image).seg
   still-wrote m rid image f =
-      by-own (λ (x : Moved). IsStillAt b g x.seg) g (local_of m.seg g).phase (wrote g c table m rid image) (still-locked b g (own_lock g) (wrote g c table m rid image) (still-added m rid image f)) (still-added m rid image f)
+      by-own (λ (x : Moved). IsStillAt b g x.seg) g (local_of m.seg g).phase (wrote g c table m rid image) (still-locked b g (wrote g c table m rid image).seg _ (still-added m rid image f)) (still-added m rid image f)
 
   still-inserts : (rows : List KeyedRow) (m : Moved) → IsStillAt b g m.seg → IsStillAt b g (fold (inserts_row g c table) m rows).seg
   still-inserts [] m f = f
@@ -119,7 +121,7 @@ pub insert-no-fault : (script : Script) (s : Seg) (m : Message) (turn : SegTurn)
 insert-no-fault script s m turn x = subst (λ (y : SegTurn). Each NoFault y.marks) (sym x.ran) (tt, inserted-no-fault (base s x.horizon x.locks) x.g x.c x.table x.rows)
 
 pub resumption-no-fault : (s : Seg) (g : Gxid) (x : Suspended) (turn : SegTurn) → InsertGoesOn s g x turn → Each NoFault turn.marks
-resumption-no-fault s g x turn y = subst (λ (z : SegTurn). Each NoFault z.marks) (sym y.ran) (tt, inserted-no-fault (freed s g y.locks) g x.cid y.table y.rows)
+resumption-no-fault s g x turn y = subst (λ (z : SegTurn). Each NoFault z.marks) (sym y.ran) (tt, inserted-no-fault (freed s g y.wanted) g x.cid y.table y.rows)
 
 -- what more marks keep
 module _ (Q : List Mark → Type 0) (more : (xs ys : List Mark) → Q xs → Q (xs ++ ys)) (g : Gxid) (c : Cid) (table : Table) where
@@ -178,29 +180,26 @@ behind-wrote g c k lead table m row b l =
     now : Behind g c (row.rid.ordinal + 1) (lead ++ n.marks)
     now = subst (Behind g c (row.rid.ordinal + 1)) (append_assoc lead m.marks _) (behind-next g c k (lead ++ m.marks) m.seg.node table row b l)
 
--- HOME, PAST AND LEGAL
+-- HOME AND PAST
 -- The slice runs on this segment, behind these marks of its turn.
-module _ (script : Script) (ms : List Mark) (steps : List Step) (e : Event) (b : Seg) (g : Gxid) (nexts : ℕ → ℕ) (lead : List Mark) where
+module _ (script : Script) (ms : List Mark) (b : Seg) (g : Gxid) (nexts : ℕ → ℕ) (lead : List Mark) where
   pub record SoFar (m : Moved) : Type 0 where
     pub still : IsStillAt b g m.seg
     pub homes : AreRowsHome script ms (ms ++ lead) m.marks
     pub past : Each (IsPastHere nexts b.node) m.marks
-    pub legal : (later : List Mark) → EachMark (WriteLegal script) steps e lead m.marks later
 
   -- a mark that may come next
   pub record MayFollow (m : Moved) (x : Mark) : Type 0 where
     pub home : IsHomeMark script ms ((ms ++ lead) ++ m.marks) x
     pub past : IsPastHere nexts b.node x
-    pub legal : (later : List Mark) → WriteLegal script (record { steps = steps; event = e; earlier = lead ++ m.marks; later = later }) x
 
   -- one that writes nothing may
   pub no-write-follows : (m : Moved) (x : Mark) → NoWrite x → MayFollow m x
   no-write-follows m (mark.Write h d n t r y) e = absurd e
-  no-write-follows m (mark.Skip h d r) e = absurd e
-  no-write-follows m x e = record { home = tt; past = tt; legal = λ later. tt }
+  no-write-follows m x e = record { home = tt; past = tt }
 
   pub none-so-far : SoFar (starts_from b)
-  none-so-far = record { still = still-itself b g; homes = tt; past = tt; legal = λ later. tt }
+  none-so-far = record { still = still-itself b g; homes = tt; past = tt }
 
   pub marked-so-far : (m : Moved) (s : Seg) (x : Mark) → SoFar m → IsStillAt b g s → MayFollow m x → SoFar (record { seg = s; marks = m.marks ++ x ∷ [] })
   marked-so-far m s x f still k =
@@ -208,15 +207,46 @@ module _ (script : Script) (ms : List Mark) (steps : List Step) (e : Event) (b :
         still = still;
         homes = homes-append script ms (ms ++ lead) m.marks (x ∷ []) f.homes (k.home, tt);
         past = each_append (IsPastHere nexts b.node) m.marks (x ∷ []) f.past (k.past, tt);
-        legal = λ later. marks-append (WriteLegal script) steps e lead m.marks (x ∷ []) later (f.legal (x ∷ later)) (k.legal later, tt);
       }
 
   pub locked-so-far : (wanted : Claim) (m : Moved) → SoFar m → SoFar (takes_lock wanted m)
-  locked-so-far wanted m f =
-      marked-so-far m (takes_lock wanted m).seg (hold_mark m.seg.node wanted) f (still-locked b g wanted m f.still) (no-write-follows m (hold_mark m.seg.node wanted) tt)
+  locked-so-far wanted m f = marked-so-far m (takes_lock wanted m).seg (hold_mark m.seg.node wanted) f (still-locked b g m.seg _ f.still) (no-write-follows m (hold_mark m.seg.node wanted) tt)
+
+  pub given-so-far : (old : Claim) (m : Moved) → SoFar m → SoFar (gives_back old m)
+  given-so-far old m f = marked-so-far m (gives_back old m).seg (release_mark m.seg.node old) f (still-locked b g m.seg _ f.still) (no-write-follows m (release_mark m.seg.node old) tt)
 
   pub wrote-so-far : (c : Cid) (table : Table) (m : Moved) (rid : Rid) (image : Option (List Value)) → SoFar m → MayFollow m (mark.Write g c m.seg.node table rid image) → SoFar (writes_row g c table m rid image)
   wrote-so-far c table m rid image f k = by-own SoFar g (local_of m.seg g).phase (wrote g c table m rid image) (locked-so-far (own_lock g) (wrote g c table m rid image) now) now
     where
       now : SoFar (wrote g c table m rid image)
       now = marked-so-far m (wrote g c table m rid image).seg (mark.Write g c m.seg.node table rid image) f (still-added b g c table m rid image f.still) k
+
+-- where more commands have run
+pub so-far-later : (script : Script) (ms : List Mark) (b : Seg) (g : Gxid) (f h : ℕ → ℕ) (lead : List Mark) → ((i : ℕ) → f i ≤ h i) → (m : Moved) → SoFar script ms b g f lead m → SoFar script ms b g h lead m
+so-far-later script ms b g f h lead later m s =
+    record { still = s.still; homes = s.homes; past = each_weaker (IsPastHere f b.node) (IsPastHere h b.node) past-later m.marks s.past }
+  where
+    lt-le : {a b c : ℕ} → a < b → b ≤ c → a < c
+    lt-le x y = omega arith
+
+    past-later : (x : Mark) → IsPastHere f b.node x → IsPastHere h b.node x
+    past-later (mark.Write k d n t r y) p = (p.0, lt-le p.1 (later r.gxid.0))
+    past-later x p = tt
+
+-- LEGAL
+module _ (script : Script) (steps : List Step) (e : Event) (lead : List Mark) where
+  -- each of the marks so far, whatever comes behind it
+  abbrev pub IsLegalSoFar : Moved → Type 0
+  IsLegalSoFar m = (later : List Mark) → EachMark (WriteLegal script) steps e lead m.marks later
+
+  legal-marked : (m : Moved) (s : Seg) (x : Mark) → IsLegalSoFar m → ((later : List Mark) → WriteLegal script (record { steps = steps; event = e; earlier = lead ++ m.marks; later = later }) x) → IsLegalSoFar (record { seg = s; marks = m.marks ++ x ∷ [] })
+  legal-marked m s x f k later = marks-append (WriteLegal script) steps e lead m.marks (x ∷ []) later (f (x ∷ later)) (k later, tt)
+
+  pub legal-wrote : (g : Gxid) (c : Cid) (table : Table) (m : Moved) (rid : Rid) (image : Option (List Value)) → IsLegalSoFar m
+      → ((later : List Mark) → WriteLegal script (record { steps = steps; event = e; earlier = lead ++ m.marks; later = later }) (mark.Write g c m.seg.node table rid image)) → IsLegalSoFar (writes_row g c table m rid image)
+  legal-wrote g c table m rid image f k =
+      by-own IsLegalSoFar g (local_of m.seg g).phase (wrote g c table m rid image)
+      (legal-marked (wrote g c table m rid image) (takes_lock (own_lock g) (wrote g c table m rid image)).seg (hold_mark m.seg.node (own_lock g)) now (λ later. tt)) now
+    where
+      now : IsLegalSoFar (wrote g c table m rid image)
+      now = legal-marked m (wrote g c table m rid image).seg (mark.Write g c m.seg.node table rid image) f k

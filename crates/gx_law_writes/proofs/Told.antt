@@ -1,5 +1,5 @@
 -- What a segment has told of a command: that it ran, and, of an INSERT, that its rows are written.
-use Rattle.std.proofs.Common.{◌≡◌, ◌≤◌, ◌<◌, ℕ, List, [], ◌∷◌, ◌++◌, Option, Some, None, true, sym, subst, ◌∙◌, arith, zero, suc}
+use Rattle.std.proofs.Common.{◌≡◌, ◌≤◌, ◌<◌, ℕ, List, [], ◌∷◌, ◌++◌, Option, Some, None, Bool, true, false, sym, subst, ◌∙◌, arith, zero, suc}
 use Rattle.std.specs.Prelude.{length, slice_get, take}
 use Rattle.std.proofs.lemmas.Bool.{or_left}
 use Rattle.gx_lemmas.proofs.Options.{some-same}
@@ -7,7 +7,6 @@ use Rattle.gx_ids.specs.declared.ids.Cid.{Cid}
 use Rattle.gx_ids.specs.declared.ids.Gxid.{Gxid}
 use Rattle.gx_ids.specs.declared.ids.Node.{Node}
 use Rattle.gx_ids.specs.declared.rid.Rid.{Rid}
-use Rattle.gx_tree.specs.declared.query.Query.{Query}
 use Rattle.gx_tree.specs.declared.row.KeyedRow.{KeyedRow}
 use Rattle.gx_tree.specs.declared.slice.Slice.{Slice}
 use Rattle.gx_tree.specs.declared.slice.Slice.TheVariants as slice
@@ -47,12 +46,20 @@ pub record IsReport (script : Script) (ms : List Mark) (node : Node) (g : Gxid) 
   pub order : IsOrder script ms node g c level snapshot slice
   pub done : IsDoneSlice ms slice count
 
--- a command that has failed there is a SELECT
+-- SELECT, UPDATE and DELETE
+abbrev pub may_fail : Slice → Bool
+may_fail (slice.Select query) = true
+may_fail (slice.Update table assigns cond) = true
+may_fail (slice.Delete table cond) = true
+may_fail _ = false
+
+-- a command that has failed there is one that may fail there
 pub record IsFailure (script : Script) (ms : List Mark) (node : Node) (g : Gxid) (c : Cid) : Type 0 where
   pub level : Level
   pub snapshot : Option Snapshot
-  pub query : Query
-  pub order : IsOrder script ms node g c level snapshot (slice.Select query)
+  pub slice : Slice
+  pub order : IsOrder script ms node g c level snapshot slice
+  pub kind : may_fail slice ≡ true
 
 -- a reply of a segment where the transaction's commands from this number on have still to run
 abbrev pub IsToldOf : Script → List Mark → ℕ → Node → Gxid → Reply → Type 0
@@ -100,7 +107,7 @@ module _ (script : Script) (numbered : AreLinesNumbered [] script.lines) (ms ns 
   report-more node g c count r = record { level = r.level; snapshot = r.snapshot; slice = r.slice; order = order-later node g c r.level r.snapshot r.slice r.order; done = done-more ms ns r.slice count r.done }
 
   failure-more : (node : Node) (g : Gxid) (c : Cid) → IsFailure script ms node g c → IsFailure script (ms ++ ns) node g c
-  failure-more node g c r = record { level = r.level; snapshot = r.snapshot; query = r.query; order = order-later node g c r.level r.snapshot (slice.Select r.query) r.order }
+  failure-more node g c r = record { level = r.level; snapshot = r.snapshot; slice = r.slice; order = order-later node g c r.level r.snapshot r.slice r.order; kind = r.kind }
 
   pub told-more : (a b : ℕ) (node : Node) (g : Gxid) (r : Reply) → a ≤ b → IsToldOf script ms a node g r → IsToldOf script (ms ++ ns) b node g r
   told-more a b node g (reply.Done c w count p) l d = (lt-le d.0 l, report-more node g c count d.1)

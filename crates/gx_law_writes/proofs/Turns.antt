@@ -16,7 +16,7 @@ use Rattle.gx_dsnap.specs.Gxids.{is_below}
 use Rattle.gx_modes.specs.declared.modes.Mode.{Mode}
 use Rattle.gx_dsnap.specs.declared.snapshot.Snapshot.{Snapshot}
 use Rattle.gx_waits.specs.declared.claim.Claim.{Claim}
-use Rattle.gx_locks.specs.Locks.{Locks, is_free, resumed, wait_of}
+use Rattle.gx_locks.specs.Locks.{Locks, is_free, wait_of}
 use Rattle.gx_msg.specs.declared.item.JournalItem.{JournalItem}
 use Rattle.gx_msg.specs.declared.message.Message.{Message}
 use Rattle.gx_msg.specs.declared.message.Message.TheVariants as message
@@ -27,18 +27,19 @@ use Rattle.gx_script.specs.declared.Script.{Script}
 use Rattle.gx_store.specs.declared.mark.Mark.{Mark}
 use Rattle.gx_store.specs.declared.mark.Mark.TheVariants as mark
 use Rattle.gx_rules.specs.AtSegment.{changes, commits, ends, finishes, if_fits, is_refused, on_abort, on_commit, on_commit_prepared, on_exec, on_forget, on_message, on_prepare, once, promises, raised, repeats, resumes, takes, unless_below, was_prepared}
+use Rattle.gx_rules.specs.Changes.{Change, change_of, changes_rows}
 use Rattle.gx_rules.specs.Fits.{fits_exec, holds_locks, is_right_slice, is_waiting, reads_nothing}
 use Rattle.gx_rules.specs.Locks.{hold_mark, release_marks, with_hold}
 use Rattle.gx_rules.specs.Machine.{World}
 use Rattle.gx_rules.specs.Maps.{each_below}
-use Rattle.gx_rules.specs.Segments.{Local, Phase, Seg, SegTurn, Suspended, after_marks, local_of, stays, tells, tells_kept, with_local}
+use Rattle.gx_rules.specs.Segments.{Local, Phase, Seg, SegTurn, Suspended, after_marks, local_of, stays, tells, tells_kept}
 use Rattle.gx_rules.specs.Segments.Phase.{Reading, Writing, Prepared, Committed, Forgotten, Aborted}
 use Rattle.gx_rules.specs.Shown.{shown}
-use Rattle.gx_rules.specs.Running.{goes_on, is_granted, runs_locked, slice_lock, starts_slice, suspends}
+use Rattle.gx_rules.specs.Running.{runs_locked, runs_slice, slice_lock, starts_slice, suspends}
 use Rattle.gx_rules.specs.Slices.{first_fault, inserted, inserts, locks as locks_only, selects}
 use Rattle.gx_law_order.proofs.Releases.{each-released}
 use Rattle.gx_law_order.proofs.Lists.{Each}
-use Rattle.gx_law_order.proofs.Waiting.{GoesOn, goes-on-is}
+use Rattle.gx_law_order.proofs.Waiting.{GoesOn, GoesOnAtRow, GoesOnSo, freed, going-ways}
 use Rattle.gx_law_commit.specs.Pairs.{is_open}
 use Rattle.gx_law_writes.proofs.Next.{drops-next, next_command}
 
@@ -73,11 +74,17 @@ abbrev pub IsOldWord : Seg → Message → Type 0
 IsOldWord s (message.Answer g r) = IsOldReply s g r
 IsOldWord s m = Unit {0}
 
+-- a slice that waits goes on waiting, or is dropped
+abbrev pub IsKeptOrDropped : Option Suspended → Option Suspended → Type 0
+IsKeptOrDropped was is = (is ≡ was) ⊎ (is ≡ None)
+
 pub record Quiet (s : Seg) (turn : SegTurn) : Type 0 where
   pub marks : Each NoRow turn.marks
   pub answers : (h : ℕ) → (turn.seg.locals h).answer ≡ (s.locals h).answer
   pub lasts : (h : ℕ) → (turn.seg.locals h).last ≡ (s.locals h).last
   pub nexts : (h : ℕ) → next_command (s.locals h) ≤ next_command (turn.seg.locals h)
+  pub waits : (h : ℕ) → IsKeptOrDropped (s.locals h).suspended (turn.seg.locals h).suspended
+  pub versions : turn.seg.versions ≡ s.versions
   pub outs : Each (λ (o : Out). IsOldWord s o.message) turn.outs
 
 -- the segment with a new horizon and its lock
@@ -151,8 +158,22 @@ pub record Locked (script : Script) (s : Seg) (m : Message) (turn : SegTurn) : T
   pub locked : slice_lock script g (slice.Lock table mode) ≡ wanted
   pub ran : turn ≡ after_marks (hold_mark s.node wanted ∷ []) (locks_only (base s horizon locks) g c)
 
+-- an UPDATE or DELETE has its table's lock, and goes through its rows
+pub record Changed (script : Script) (s : Seg) (m : Message) (turn : SegTurn) : Type 0 where
+  pub g : Gxid
+  pub horizon : Gxid
+  pub change : Change
+  pub is : m ≡ message.Exec g change.cid change.level (Some change.snapshot) horizon change.slice
+  pub changes : change_of change.cid change.level (Some change.snapshot) change.slice ≡ Some change
+  pub opened : is_open (s.locals g.0).phase ≡ true
+  pub fresh : (s.locals g.0).last < change.cid.0
+  pub alone : (s.locals g.0).suspended ≡ None
+  pub wanted : Claim
+  pub locked : slice_lock script g change.slice ≡ wanted
+  pub ran : turn ≡ after_marks (hold_mark s.node wanted ∷ []) (changes_rows (base s horizon (with_hold s.locks wanted)) g (Some change))
+
 abbrev pub Turns : Script → Seg → Message → SegTurn → Type 0
-Turns script s m turn = Quiet s turn ⊎ Selected script s m turn ⊎ Inserted script s m turn ⊎ Waited script s m turn ⊎ Locked script s m turn
+Turns script s m turn = Quiet s turn ⊎ Selected script s m turn ⊎ Inserted script s m turn ⊎ Waited script s m turn ⊎ Locked script s m turn ⊎ Changed script s m turn
 
 module _ (script : Script) (s : Seg) where
   abbrev Rests : SegTurn → Type 0
@@ -162,10 +183,10 @@ module _ (script : Script) (s : Seg) where
   same-le a = omega arith
 
   stay : Rests (stays s)
-  stay = record { marks = tt; answers = λ h. refl; lasts = λ h. refl; nexts = λ h. same-le (next_command (s.locals h)); outs = tt }
+  stay = record { marks = tt; answers = λ h. refl; lasts = λ h. refl; nexts = λ h. same-le (next_command (s.locals h)); waits = λ h. inl refl; versions = refl; outs = tt }
 
   tell : (g : Gxid) (r : Reply) → IsOldReply s g r → Rests (tells s g r)
-  tell g r o = record { marks = tt; answers = λ h. refl; lasts = λ h. refl; nexts = λ h. same-le (next_command (s.locals h)); outs = (o, tt) }
+  tell g r o = record { marks = tt; answers = λ h. refl; lasts = λ h. refl; nexts = λ h. same-le (next_command (s.locals h)); waits = λ h. inl refl; versions = refl; outs = (o, tt) }
 
   answer-old : (g : Gxid) (r : Reply) → (s.locals g.0).answer ≡ Some r → IsOldReply s g r
   answer-old g (reply.Done c w n p) e = inl e
@@ -195,9 +216,9 @@ module _ (script : Script) (s : Seg) where
   kept-vote g None e = stay
   kept-vote g (Some r) e = tell g r (vote-old g r e)
 
-  change : (g : Gxid) (l : Local) (marks : List Mark) (r : Reply) (it : Option JournalItem) → Each NoRow marks → l.answer ≡ (s.locals g.0).answer → l.last ≡ (s.locals g.0).last → next_command (s.locals g.0) ≤ next_command l → IsOldReply s g r → Rests (changes s g l marks r it)
-  change g l marks r it n a b d o =
-      record { marks = n; answers = λ h. answers-test h (eqb h g.0) refl; lasts = λ h. lasts-test h (eqb h g.0) refl; nexts = λ h. nexts-test h (eqb h g.0) refl; outs = (o, tt) }
+  change : (g : Gxid) (l : Local) (marks : List Mark) (r : Reply) (it : Option JournalItem) → Each NoRow marks → l.answer ≡ (s.locals g.0).answer → l.last ≡ (s.locals g.0).last → next_command (s.locals g.0) ≤ next_command l → IsKeptOrDropped (s.locals g.0).suspended l.suspended → IsOldReply s g r → Rests (changes s g l marks r it)
+  change g l marks r it n a b d k o =
+      record { marks = n; answers = λ h. answers-test h (eqb h g.0) refl; lasts = λ h. lasts-test h (eqb h g.0) refl; nexts = λ h. nexts-test h (eqb h g.0) refl; waits = λ h. waits-test h (eqb h g.0) refl; versions = refl; outs = (o, tt) }
     where
       answers-test : (h : ℕ) (q : Bool) → eqb h g.0 ≡ q → (if q then l else s.locals h).answer ≡ (s.locals h).answer
       answers-test h true e = a ∙ ap (λ j. (s.locals j).answer) (sym (eqb-true h g.0 e))
@@ -211,6 +232,10 @@ module _ (script : Script) (s : Seg) where
       nexts-test h true e = subst (λ j. next_command (s.locals j) ≤ next_command l) (sym (eqb-true h g.0 e)) d
       nexts-test h false e = same-le (next_command (s.locals h))
 
+      waits-test : (h : ℕ) (q : Bool) → eqb h g.0 ≡ q → IsKeptOrDropped (s.locals h).suspended (if q then l else s.locals h).suspended
+      waits-test h true e = subst (λ j. IsKeptOrDropped (s.locals j).suspended l.suspended) (sym (eqb-true h g.0 e)) k
+      waits-test h false e = inl refl
+
   both : (b : Bool) (x y : SegTurn) → Rests x → Rests y → Rests (if b then x else y)
   both true x y e f = e
   both false x y e f = f
@@ -219,7 +244,7 @@ module _ (script : Script) (s : Seg) where
   repeat g c = both (c.0 == (s.locals g.0).last) _ _ (kept-answer g (s.locals g.0).answer refl) stay
 
   refuse : (g : Gxid) (it : JournalItem) → Rests (is_refused s g (s.locals g.0) it)
-  refuse g it = change g _ _ reply.Jfault (Some it) (tt, tt) refl refl (same-le (next_command (s.locals g.0))) tt
+  refuse g it = change g _ _ reply.Jfault (Some it) (tt, tt) refl refl (same-le (next_command (s.locals g.0))) (inl refl) tt
 
   only : (g : Gxid) (v : Option Reply) (turn : SegTurn) → (s.locals g.0).vote ≡ v → Rests turn → Rests (once s g v turn)
   only g None turn e f = f
@@ -227,7 +252,7 @@ module _ (script : Script) (s : Seg) where
 
   promise : (g : Gxid) (fails : Bool) → Rests (promises s g fails (s.locals g.0))
   promise g true = refuse g _
-  promise g false = change g _ _ reply.Prepared _ (tt, tt) refl refl (same-le (next_command (s.locals g.0))) tt
+  promise g false = change g _ _ reply.Prepared _ (tt, tt) refl refl (same-le (next_command (s.locals g.0))) (inl refl) tt
 
   prepare : (g : Gxid) (fails : Bool) (p : Phase) → Rests (on_prepare s g fails (s.locals g.0) p)
   prepare g fails Reading = only g _ _ refl (promise g fails)
@@ -239,7 +264,7 @@ module _ (script : Script) (s : Seg) where
 
   commit-one : (g : Gxid) (fails : Bool) → Rests (commits s g fails (s.locals g.0))
   commit-one g true = refuse g _
-  commit-one g false = change g _ _ reply.Committed _ (tt, tt) refl refl (same-le (next_command (s.locals g.0))) tt
+  commit-one g false = change g _ _ reply.Committed _ (tt, tt) refl refl (same-le (next_command (s.locals g.0))) (inl refl) tt
 
   commit : (g : Gxid) (fails : Bool) (p : Phase) → Rests (on_commit s g fails (s.locals g.0) p)
   commit g fails Reading = only g _ _ refl (commit-one g fails)
@@ -250,8 +275,8 @@ module _ (script : Script) (s : Seg) where
   commit g fails Aborted = stay
 
   finish : (g : Gxid) (fails : Bool) → Rests (finishes s g fails (s.locals g.0))
-  finish g true = change g _ _ reply.Again _ (tt, tt) refl refl (same-le (next_command (s.locals g.0))) tt
-  finish g false = change g _ _ reply.Committed _ (tt, tt) refl refl (same-le (next_command (s.locals g.0))) tt
+  finish g true = change g _ _ reply.Again _ (tt, tt) refl refl (same-le (next_command (s.locals g.0))) (inl refl) tt
+  finish g false = change g _ _ reply.Committed _ (tt, tt) refl refl (same-le (next_command (s.locals g.0))) (inl refl) tt
 
   commit-prepared : (g : Gxid) (fails : Bool) (p : Phase) → Rests (on_commit_prepared s g fails (s.locals g.0) p)
   commit-prepared g fails Reading = stay
@@ -264,8 +289,8 @@ module _ (script : Script) (s : Seg) where
 
   moved : (g : Gxid) (p : Phase) (r : Reply) → IsOldReply s g r → Rests (ends s g (s.locals g.0) p r)
   moved g p r o =
-      let x = change g (record (s.locals g.0) { phase = p; suspended = None }) (release_marks s.node s.locks g) r None (each-released NoRow s.node s.locks g (λ claim. tt)) refl refl (drops-next (s.locals g.0).suspended (s.locals g.0).last) o in
-      record { marks = x.marks; answers = x.answers; lasts = x.lasts; nexts = x.nexts; outs = x.outs }
+      let x = change g (record (s.locals g.0) { phase = p; suspended = None }) (release_marks s.node s.locks g) r None (each-released NoRow s.node s.locks g (λ claim. tt)) refl refl (drops-next (s.locals g.0).suspended (s.locals g.0).last) (inr refl) o in
+      record { marks = x.marks; answers = x.answers; lasts = x.lasts; nexts = x.nexts; waits = x.waits; versions = x.versions; outs = x.outs }
 
   abort : (g : Gxid) (p : Phase) → Rests (on_abort s g (s.locals g.0) p)
   abort g Reading = moved g Aborted reply.Aborted tt
@@ -284,48 +309,68 @@ module _ (script : Script) (s : Seg) where
   forget g Aborted = stay
 
   -- SLICES
-  -- what is known of a command that fits: its slice is right, and a new one comes only where nobody waits
-  abbrev Fits : Gxid → Cid → Slice → Type 0
-  Fits g c y = (is_right_slice script g c y ≡ true) × (nat_lt (s.locals g.0).last c.0 ≡ true → (s.locals g.0).suspended ≡ None)
+  -- a new command fits only where nobody waits
+  abbrev Fits : Gxid → Cid → Type 0
+  Fits g c = nat_lt (s.locals g.0).last c.0 ≡ true → (s.locals g.0).suspended ≡ None
 
   module _ (g : Gxid) (c : Cid) (level : Level) (h : Gxid) (fresh : (s.locals g.0).last < c.0) (alone : (s.locals g.0).suspended ≡ None) (opened : is_open (s.locals g.0).phase ≡ true) where
     lies-held : (m : Message) (wanted : Claim) → Turns script s m (after_marks (hold_mark s.node wanted ∷ []) (stays (base s h (with_hold s.locks wanted))))
-    lies-held m wanted = inl (record { marks = (tt, tt); answers = λ j. refl; lasts = λ j. refl; nexts = λ j. same-le (next_command (s.locals j)); outs = tt })
+    lies-held m wanted = inl (record { marks = (tt, tt); answers = λ j. refl; lasts = λ j. refl; nexts = λ j. same-le (next_command (s.locals j)); waits = λ j. inl refl; versions = refl; outs = tt })
 
     waits : (x : Option Snapshot) (y : Slice) → Turns script s (message.Exec g c level x h y) (suspends (raised s h) g c level x y (slice_lock script g y))
     waits x y =
         inr (inr (inr (inl (record { g = g; c = c; level = level; snapshot = x; horizon = h; slice = y; is = refl; opened = opened; fresh = fresh; alone = alone; wanted = slice_lock script g y; locked = refl; ran = refl }))))
 
-    locked : (x : Option Snapshot) (y : Slice) → is_right_slice script g c y ≡ true → Turns script s (message.Exec g c level x h y) (runs_locked (raised s h) g c level x y (slice_lock script g y))
-    locked (Some x) (slice.Select q) right =
+    -- an UPDATE or DELETE
+    changed : (k : Change) → change_of k.cid k.level (Some k.snapshot) k.slice ≡ Some k → k.cid ≡ c
+        → Turns script s (message.Exec g k.cid k.level (Some k.snapshot) h k.slice) (after_marks (hold_mark s.node (slice_lock script g k.slice) ∷ []) (changes_rows (base s h (with_hold s.locks (slice_lock script g k.slice))) g (Some k)))
+    changed k e same =
+        inr (inr (inr (inr (inr (record {
+          g = g;
+          horizon = h;
+          change = k;
+          is = refl;
+          changes = e;
+          opened = opened;
+          fresh = subst (λ (d : Cid). (s.locals g.0).last < d.0) (sym same) fresh;
+          alone = alone;
+          wanted = slice_lock script g k.slice;
+          locked = refl;
+          ran = refl;
+        })))))
+
+    locked : (x : Option Snapshot) (y : Slice) → Turns script s (message.Exec g c level x h y) (runs_locked (raised s h) g c level x y (slice_lock script g y))
+    locked (Some x) (slice.Select q) =
         let wanted = slice_lock script g (slice.Select q) in
         inr (inl (record { g = g; c = c; level = level; snapshot = x; horizon = h; query = q; is = refl; fresh = fresh; alone = alone; locks = with_hold s.locks wanted; wanted = wanted; locked = refl; ran = refl }))
-    locked (Some x) (slice.Insert t rows) right =
+    locked (Some x) (slice.Insert t rows) =
         let wanted = slice_lock script g (slice.Insert t rows) in
         inr (inr (inl (record { g = g; c = c; level = level; snapshot = x; horizon = h; table = t; rows = rows; is = refl; opened = opened; fresh = fresh; alone = alone; locks = with_hold s.locks wanted; wanted = wanted; locked = refl; ran = refl })))
-    locked None (slice.Select q) right = lies-held _ (slice_lock script g (slice.Select q))
-    locked None (slice.Insert t rows) right = lies-held _ (slice_lock script g (slice.Insert t rows))
-    locked x (slice.Update t a d) right = absurd (cc)
-    locked x (slice.Delete t d) right = absurd (cc)
-    locked x (slice.Lock t m) right =
+    locked None (slice.Select q) = lies-held _ (slice_lock script g (slice.Select q))
+    locked None (slice.Insert t rows) = lies-held _ (slice_lock script g (slice.Insert t rows))
+    locked (Some x) (slice.Update t a d) = changed (record { cid = c; level = level; snapshot = x; slice = slice.Update t a d; table = t; set = Some a; cond = d }) refl refl
+    locked (Some x) (slice.Delete t d) = changed (record { cid = c; level = level; snapshot = x; slice = slice.Delete t d; table = t; set = None; cond = d }) refl refl
+    locked None (slice.Update t a d) = lies-held _ (slice_lock script g (slice.Update t a d))
+    locked None (slice.Delete t d) = lies-held _ (slice_lock script g (slice.Delete t d))
+    locked x (slice.Lock t m) =
         let wanted = slice_lock script g (slice.Lock t m) in
-        inr (inr (inr (inr (record { g = g; c = c; level = level; snapshot = x; horizon = h; table = t; mode = m; is = refl; opened = opened; fresh = fresh; alone = alone; locks = with_hold s.locks wanted; wanted = wanted; locked = refl; ran = refl }))))
+        inr (inr (inr (inr (inl (record { g = g; c = c; level = level; snapshot = x; horizon = h; table = t; mode = m; is = refl; opened = opened; fresh = fresh; alone = alone; locks = with_hold s.locks wanted; wanted = wanted; locked = refl; ran = refl })))))
 
-    start : (x : Option Snapshot) (y : Slice) → is_right_slice script g c y ≡ true → Turns script s (message.Exec g c level x h y) (starts_slice script (raised s h) g c level x y)
-    start x y right = by_test (is_free s.locks.holds (slice_lock script g y))
+    start : (x : Option Snapshot) (y : Slice) → Turns script s (message.Exec g c level x h y) (starts_slice script (raised s h) g c level x y)
+    start x y = by_test (is_free s.locks.holds (slice_lock script g y))
       where
         by_test : (b : Bool) → Turns script s (message.Exec g c level x h y) (if b then runs_locked (raised s h) g c level x y (slice_lock script g y) else suspends (raised s h) g c level x y (slice_lock script g y))
-        by_test true = locked x y right
+        by_test true = locked x y
         by_test false = waits x y
 
-  take : (g : Gxid) (c : Cid) (level : Level) (x : Option Snapshot) (h : Gxid) (y : Slice) → is_open (s.locals g.0).phase ≡ true → Fits g c y → Turns script s (message.Exec g c level x h y) (takes script s g c level x h y (s.locals g.0))
+  take : (g : Gxid) (c : Cid) (level : Level) (x : Option Snapshot) (h : Gxid) (y : Slice) → is_open (s.locals g.0).phase ≡ true → Fits g c → Turns script s (message.Exec g c level x h y) (takes script s g c level x h y (s.locals g.0))
   take g c level x h y o fit = by_test (nat_lt (s.locals g.0).last c.0) refl
     where
       by_test : (b : Bool) → nat_lt (s.locals g.0).last c.0 ≡ b → Turns script s (message.Exec g c level x h y) (if b then starts_slice script (raised s h) g c level x y else repeats s g c (s.locals g.0))
-      by_test true e = start g c level h (lt-of _ _ e) (fit.1 e) o x y fit.0
+      by_test true e = start g c level h (lt-of _ _ e) (fit e) o x y
       by_test false e = inl (repeat g c)
 
-  exec : (g : Gxid) (c : Cid) (level : Level) (x : Option Snapshot) (h : Gxid) (y : Slice) (p : Phase) → (s.locals g.0).phase ≡ p → Fits g c y → Turns script s (message.Exec g c level x h y) (on_exec script s g c level x h y (s.locals g.0) p)
+  exec : (g : Gxid) (c : Cid) (level : Level) (x : Option Snapshot) (h : Gxid) (y : Slice) (p : Phase) → (s.locals g.0).phase ≡ p → Fits g c → Turns script s (message.Exec g c level x h y) (on_exec script s g c level x h y (s.locals g.0) p)
   exec g c level x h y Reading e fit = take g c level x h y (ap is_open e) fit
   exec g c level x h y Writing e fit = take g c level x h y (ap is_open e) fit
   exec g c level x h y Prepared e fit = inl (repeat g c)
@@ -333,22 +378,16 @@ module _ (script : Script) (s : Seg) where
   exec g c level x h y (Forgotten b) e fit = inl stay
   exec g c level x h y Aborted e fit = inl stay
 
-  fits-by : (g : Gxid) (c : Cid) (x : Option Snapshot) (h : Gxid) (y : Slice) → fits_exec script s g c x h y ≡ true → Fits g c y
+  fits-by : (g : Gxid) (c : Cid) (x : Option Snapshot) (h : Gxid) (y : Slice) → fits_exec script s g c x h y ≡ true → Fits g c
   fits-by g c x h y e =
       from (nat_le h.0 g.0) (each_below h.0 (λ j. not (holds_locks (s.locals j)))) (is_some x || reads_nothing y) (is_right_slice script g c y) (nat_lt (s.locals g.0).last c.0) (s.locals g.0).suspended e
     where
       clash : (a b c d later : Bool) → (a && (b && (c && (d && not (later && true))))) ≡ true → later ≡ true → ⊥
       clash a b c d later e q = grind arith
 
-      fourth : (a b c d f : Bool) → (a && (b && (c && (d && f)))) ≡ true → d ≡ true
-      fourth a b c d f e = grind arith
-
-      rests : (a b c d later : Bool) (o : Option Suspended) → (a && (b && (c && (d && not (later && is_some o))))) ≡ true → later ≡ true → o ≡ None
-      rests a b c d later None e q = refl
-      rests a b c d later (Some x) e q = absurd (clash a b c d later e q)
-
-      from : (a b c d later : Bool) (o : Option Suspended) → (a && (b && (c && (d && not (later && is_some o))))) ≡ true → (d ≡ true) × (later ≡ true → o ≡ None)
-      from a b c d later o e = (fourth a b c d _ e, rests a b c d later o e)
+      from : (a b c d later : Bool) (o : Option Suspended) → (a && (b && (c && (d && not (later && is_some o))))) ≡ true → later ≡ true → o ≡ None
+      from a b c d later None e q = refl
+      from a b c d later (Some x) e q = absurd (clash a b c d later e q)
 
   below : (m : Message) (g : Gxid) (turn : SegTurn) → Turns script s m turn → Turns script s m (unless_below s g turn)
   below m g turn e = by_test (is_below s.horizon g)
@@ -377,19 +416,15 @@ module _ (script : Script) (s : Seg) where
   message-turns fails (message.Graph round graph) = inl stay
 
 -- A SLICE GOES ON
--- the segment without that wait, with its lock
-abbrev pub freed : Seg → Gxid → Locks → Seg
-freed s g locks = record (with_local s g (record (local_of s g) { suspended = None })) { locks = locks }
-
 -- a SELECT that waited runs on the rows that the segment shows now
 pub record SelectGoesOn (s : Seg) (g : Gxid) (x : Suspended) (turn : SegTurn) : Type 0 where
   pub snapshot : Snapshot
   pub query : Query
   pub reads : x.snapshot ≡ Some snapshot
   pub is : x.slice ≡ slice.Select query
-  pub locks : Locks
   pub wanted : Claim
-  pub ran : turn ≡ after_marks (hold_mark s.node wanted ∷ []) (selects (freed s g locks) g x.cid query (shown (freed s g locks) snapshot g x.cid query.table) (first_fault query.cond (shown (freed s g locks) snapshot g x.cid query.table)))
+  pub ran : turn ≡ after_marks (hold_mark s.node wanted ∷ [])
+      (selects (freed s g wanted) g x.cid query (shown (freed s g wanted) snapshot g x.cid query.table) (first_fault query.cond (shown (freed s g wanted) snapshot g x.cid query.table)))
 
 pub record InsertGoesOn (s : Seg) (g : Gxid) (x : Suspended) (turn : SegTurn) : Type 0 where
   pub snapshot : Snapshot
@@ -397,33 +432,60 @@ pub record InsertGoesOn (s : Seg) (g : Gxid) (x : Suspended) (turn : SegTurn) : 
   pub rows : List KeyedRow
   pub reads : x.snapshot ≡ Some snapshot
   pub is : x.slice ≡ slice.Insert table rows
-  pub locks : Locks
   pub wanted : Claim
-  pub ran : turn ≡ after_marks (hold_mark s.node wanted ∷ []) (inserts g x.cid (length rows) (inserted (freed s g locks) g x.cid table rows))
+  pub ran : turn ≡ after_marks (hold_mark s.node wanted ∷ []) (inserts g x.cid (length rows) (inserted (freed s g wanted) g x.cid table rows))
 
 -- a LOCK TABLE that waited has its lock
 pub record LockGoesOn (s : Seg) (g : Gxid) (x : Suspended) (turn : SegTurn) : Type 0 where
   pub table : Table
   pub mode : Mode
   pub is : x.slice ≡ slice.Lock table mode
-  pub locks : Locks
   pub wanted : Claim
-  pub ran : turn ≡ after_marks (hold_mark s.node wanted ∷ []) (locks_only (freed s g locks) g x.cid)
+  pub ran : turn ≡ after_marks (hold_mark s.node wanted ∷ []) (locks_only (freed s g wanted) g x.cid)
+
+-- an UPDATE or DELETE that waited for its table goes through its rows
+pub record ChangeGoesOn (s : Seg) (g : Gxid) (x : Suspended) (turn : SegTurn) : Type 0 where
+  pub change : Change
+  pub changes : change_of x.cid x.level x.snapshot x.slice ≡ Some change
+  pub wanted : Claim
+  pub ran : turn ≡ after_marks (hold_mark s.node wanted ∷ []) (changes_rows (freed s g wanted) g (Some change))
+
+-- one that waited at a row looks at it again
+pub record RowGoesOn (s : Seg) (g : Gxid) (x : Suspended) (turn : SegTurn) : Type 0 where
+  pub wanted : Claim
+  pub goes : GoesOnAtRow s g x wanted turn
 
 abbrev pub Continues : Seg → Gxid → Suspended → SegTurn → Type 0
-Continues s g x turn = SelectGoesOn s g x turn ⊎ InsertGoesOn s g x turn ⊎ LockGoesOn s g x turn
+Continues s g x turn = SelectGoesOn s g x turn ⊎ InsertGoesOn s g x turn ⊎ LockGoesOn s g x turn ⊎ ChangeGoesOn s g x turn ⊎ RowGoesOn s g x turn
 
-continues : (script : Script) (s : Seg) (g : Gxid) (x : Suspended) (wanted : Claim) (snapshot : Option Snapshot) (y : Slice) → x.snapshot ≡ snapshot → x.slice ≡ y → (is_some snapshot || reads_nothing y) ≡ true → is_right_slice script g x.cid y ≡ true
-    → Continues s g x (goes_on (is_granted s g wanted) g (record x { snapshot = snapshot; slice = y }))
-continues script s g x wanted (Some snapshot) (slice.Select q) e f reads right = inl (record { snapshot = snapshot; query = q; reads = e; is = f; locks = resumed s.locks g (Some wanted); wanted = wanted; ran = refl })
-continues script s g x wanted (Some snapshot) (slice.Insert t rows) e f reads right = inr (inl (record { snapshot = snapshot; table = t; rows = rows; reads = e; is = f; locks = resumed s.locks g (Some wanted); wanted = wanted; ran = refl }))
-continues script s g x wanted None (slice.Select q) e f reads right = absurd (cc)
-continues script s g x wanted None (slice.Insert t rows) e f reads right = absurd (cc)
-continues script s g x wanted snapshot (slice.Lock t m) e f reads right = inr (inr (record { table = t; mode = m; is = f; locks = resumed s.locks g (Some wanted); wanted = wanted; ran = refl }))
-continues script s g x wanted snapshot (slice.Update t a d) e f reads right = absurd (cc)
-continues script s g x wanted snapshot (slice.Delete t d) e f reads right = absurd (cc)
+module _ (s : Seg) (g : Gxid) (x : Suspended) (wanted : Claim) where
+  continues : (snapshot : Option Snapshot) (y : Slice) → x.snapshot ≡ snapshot → x.slice ≡ y → (is_some snapshot || reads_nothing y) ≡ true
+      → Continues s g x (after_marks (hold_mark s.node wanted ∷ []) (runs_slice (freed s g wanted) g x.cid x.level snapshot y))
+  continues (Some snapshot) (slice.Select q) e f reads = inl (record { snapshot = snapshot; query = q; reads = e; is = f; wanted = wanted; ran = refl })
+  continues (Some snapshot) (slice.Insert t rows) e f reads = inr (inl (record { snapshot = snapshot; table = t; rows = rows; reads = e; is = f; wanted = wanted; ran = refl }))
+  continues None (slice.Select q) e f reads = absurd (cc)
+  continues None (slice.Insert t rows) e f reads = absurd (cc)
+  continues snapshot (slice.Lock t m) e f reads = inr (inr (inl (record { table = t; mode = m; is = f; wanted = wanted; ran = refl })))
+  continues (Some snapshot) (slice.Update t a d) e f reads =
+      inr (inr (inr (inl (record {
+        change = record { cid = x.cid; level = x.level; snapshot = snapshot; slice = slice.Update t a d; table = t; set = Some a; cond = d };
+        changes = ap (λ o. change_of x.cid x.level o x.slice) e ∙ ap (change_of x.cid x.level (Some snapshot)) f;
+        wanted = wanted;
+        ran = refl;
+      }))))
+  continues (Some snapshot) (slice.Delete t d) e f reads =
+      inr (inr (inr (inl (record {
+        change = record { cid = x.cid; level = x.level; snapshot = snapshot; slice = slice.Delete t d; table = t; set = None; cond = d };
+        changes = ap (λ o. change_of x.cid x.level o x.slice) e ∙ ap (change_of x.cid x.level (Some snapshot)) f;
+        wanted = wanted;
+        ran = refl;
+      }))))
+  continues None (slice.Update t a d) e f reads = absurd (cc)
+  continues None (slice.Delete t d) e f reads = absurd (cc)
+
+  goes-so : (script : Script) (turn : SegTurn) → (is_some x.snapshot || reads_nothing x.slice) ≡ true → GoesOnSo script s g x wanted turn → Continues s g x turn
+  goes-so script turn reads (inl y) = subst (Continues s g x) (sym y.is) (continues x.snapshot x.slice refl refl reads)
+  goes-so script turn reads (inr y) = inr (inr (inr (inr (record { wanted = wanted; goes = y }))))
 
 pub resumption-turns : (script : Script) (w : World) (i : ℕ) (g : Gxid) (o : GoesOn script w i g) → Continues (w.segs i) g o.slice (resumes (w.segs i) g (wait_of (w.segs i).locks g) (local_of (w.segs i) g).suspended)
-resumption-turns script w i g o =
-    subst (Continues (w.segs i) g o.slice) (sym (goes-on-is (w.segs i) g o.wanted o.slice o.claims o.is))
-    (continues script (w.segs i) g o.slice o.wanted o.slice.snapshot o.slice.slice refl refl o.waits.reads o.waits.right)
+resumption-turns script w i g o = goes-so (w.segs i) g o.slice o.wanted script _ o.waits.reads (going-ways script w i g o)

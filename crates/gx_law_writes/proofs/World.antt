@@ -10,12 +10,16 @@ use Rattle.gx_ids.specs.declared.ids.Gxid.{Gxid}
 use Rattle.gx_ids.specs.declared.ids.Node.{Node}
 use Rattle.gx_ids.specs.declared.ids.SessionId.{SessionId}
 use Rattle.gx_ids.specs.declared.ids.Table.{Table}
+use Rattle.gx_ids.specs.declared.rid.Rid.{Rid}
 use Rattle.gx_tree.specs.declared.expr.Expr.{Expr}
 use Rattle.gx_modes.specs.declared.modes.Mode.{Mode}
 use Rattle.gx_tree.specs.declared.query.Query.{Query}
 use Rattle.gx_tree.specs.declared.row.KeyedRow.{KeyedRow}
+use Rattle.gx_tree.specs.declared.slice.Slice.{Slice}
 use Rattle.gx_tree.specs.declared.slice.Slice.TheVariants as slice
 use Rattle.gx_tree.specs.declared.stmt.Level.{Level}
+use Rattle.gx_tree.specs.declared.stmt.Stmt.{Stmt}
+use Rattle.gx_tree.specs.declared.stmt.Stmt.TheVariants as stmt
 use Rattle.gx_dsnap.specs.declared.snapshot.Snapshot.{Snapshot}
 use Rattle.gx_waits.specs.declared.claim.Claim.{Claim}
 use Rattle.gx_meaning.specs.declared.fault.ArithFault.{ArithFault}
@@ -33,6 +37,7 @@ use Rattle.gx_store.specs.declared.node.NodeEvent.{NodeEvent}
 use Rattle.gx_store.specs.declared.node.NodeEvent.TheVariants as here
 use Rattle.gx_store.specs.declared.run.Step.{Step}
 use Rattle.gx_store.specs.Journals.{is_same_node}
+use Rattle.gx_store.specs.Lines.{is_on_rows}
 use Rattle.gx_store.specs.Messages.{IsSending}
 use Rattle.gx_store.specs.Ordered.{IsAtNode, IsLink, IsSegment}
 use Rattle.gx_store.specs.Points.{marks_in, starts_by}
@@ -40,7 +45,9 @@ use Rattle.gx_store.specs.Refusals.{the_coordinator}
 use Rattle.gx_rules.specs.AtCoordinator.{coord_rule, coord_can}
 use Rattle.gx_rules.specs.AtSegment as segment
 use Rattle.gx_rules.specs.AtSegment.{raised, seg_rule}
-use Rattle.gx_rules.specs.Locks.{hold_mark}
+use Rattle.gx_rules.specs.Changes.{Change, change_of, changes_rows, goes_through}
+use Rattle.gx_rules.specs.Locks.{hold_mark, with_hold}
+use Rattle.gx_rules.specs.Running.{is_granted}
 use Rattle.gx_rules.specs.Machine.{Letter, World, after, at_node, can, coord_did, delivered, does, found, happens, new_world, node_of, seg_did, world_of, can_here, seg_can}
 use Rattle.gx_rules.specs.Maps.{with_at}
 use Rattle.gx_rules.specs.Segments.{Local, Seg, SegTurn, Suspended, after_marks}
@@ -51,7 +58,10 @@ use Rattle.gx_law_order.proofs.AtSegments.{PlainAt, seg_stays}
 use Rattle.gx_law_order.proofs.Letters.{IsFound, IsLetter, found_is}
 use Rattle.gx_law_order.proofs.Lists.{Each, each_append, each_weaker}
 use Rattle.gx_law_order.proofs.Ordered.{Well, at_coordinator, resumes_there}
-use Rattle.gx_law_order.proofs.Waiting.{GoesOn, each-among, going-on}
+use Rattle.gx_law_order.proofs.Changing.{IsChangeOf, change-parts}
+use Rattle.gx_law_order.proofs.Journals.{Hold}
+use Rattle.gx_law_order.proofs.Waiting.{GoesOn, each-among, freed, going-on}
+use Rattle.gx_law_reads.proofs.Seeing.{world-hold}
 use Rattle.gx_law_order.proofs.World.{marks-last}
 use Rattle.gx_store.specs.Language.{AreLinesNumbered}
 use Rattle.gx_law_sessions.specs.Alive.{HasRun, WasUnderWay}
@@ -70,12 +80,16 @@ use Rattle.gx_law_commit.proofs.Whole.{Both, world-both}
 use Rattle.gx_law_writes.specs.Homes.{AreRowsHome, IsPlacedMark}
 use Rattle.gx_law_writes.specs.Writes.{AreWritesLegal, WriteLegal}
 use Rattle.gx_law_writes.proofs.Homes.{homes-append, homes-more, homes-placed, no-writes-home}
-use Rattle.gx_law_writes.proofs.Legal.{Behind, IsPastHere, IsPastMark, Late, Live, behind-hold, behind-none, no-writes-legal, order-live, sent-no-write}
+use Rattle.gx_law_writes.proofs.Alive.{Late, Live, order-live}
+use Rattle.gx_law_writes.proofs.Changing.{change-line, change-on-rows, granted-changed, stmt_of_change}
+use Rattle.gx_law_writes.proofs.Legal.{Behind, IsPastHere, IsPastMark, behind-hold, behind-none, no-writes-legal, sent-no-write}
 use Rattle.gx_law_writes.proofs.Live.{Running, running}
-use Rattle.gx_law_writes.proofs.Moves.{IsBase, IsOutOf, Move, freed-base, insert-move, line-of, lock-move, piece, quiet-move, select-move, started-base, waited-move}
+use Rattle.gx_law_writes.proofs.Moves.{IsBase, IsOutOf, Move, change-move, freed-base, insert-move, line-of, lock-move, piece, quiet-move, rows-move, select-move, started-base, waited-move}
 use Rattle.gx_law_writes.proofs.Next.{new-next, next_command, waits-next}
 use Rattle.gx_law_writes.proofs.Told.{IsAnswerOf, IsToldOf, IsWordOf, SentTold, StepTold, answer-more, each-get, steps-more, taken-told, told-more}
-use Rattle.gx_law_writes.proofs.Turns.{Continues, NoWrite, Turns, base, freed, message-turns, resumption-turns}
+use Rattle.gx_law_writes.proofs.Pieces.{order-slice}
+use Rattle.gx_law_writes.proofs.Turns.{ChangeGoesOn, Changed, Continues, NoWrite, RowGoesOn, Turns, base, message-turns, resumption-turns}
+use Rattle.gx_law_writes.proofs.Versions.{IsHomeVersion, home-versions}
 
 abbrev pub locals_in : (ℕ → Seg) → ℕ → ℕ → Local
 locals_in segs i g = (segs i).locals g
@@ -151,7 +165,7 @@ module _ (script : Script) (some : 1 ≤ script.segments) (numbered_lines : AreL
       none = here-no-write script (coord_rule script w.coord x fails).marks (at_coordinator script some w n e x fails)
 
   -- A STEP OF A SEGMENT
-  module _ (w : World) (b : Both script some w) (k : stepping.Holds script w) (h : Holds script w.segs w.steps) (e : Event) (quiet-event : (t : SessionId) → starts_by t e ≡ 0) (x : NodeEvent) (fails : Bool) (i : ℕ) (place : IsSegment script (at i)) where
+  module _ (w : World) (b : Both script some w) (k : stepping.Holds script w) (hold : Hold w) (h : Holds script w.segs w.steps) (e : Event) (quiet-event : (t : SessionId) → starts_by t e ≡ 0) (x : NodeEvent) (fails : Bool) (i : ℕ) (place : IsSegment script (at i)) where
     abbrev ms : List Mark
     ms = marks_in w.steps
 
@@ -176,6 +190,18 @@ module _ (script : Script) (some : 1 ≤ script.segments) (numbered_lines : AreL
     placed : Each (IsPlacedMark script ms) ms
     placed = homes-placed script ms [] ms h.homes
 
+    -- a command that has still to run there is under way, or its transaction has aborted
+    alive : (g : Gxid) (c : Cid) (level : Level) (snapshot : Option Snapshot) (y : Slice) → next_command (s.locals g.0) ≤ c.0 → (order : IsOrder script ms (at i) g c level snapshot y) → (line : Stmt) → order.line ≡ line → is_on_rows line ≡ true
+        → WasUnderWay script w.steps g c → IsBack w.coord w.steps i g.0 c.0 → Live script w g.0 c line level ⊎ Late script w g.0 c
+    alive g c level snapshot y fresh order line of on was (inl z) =
+        let r = running script w k.sessions g.0 b.knows.kept i z.0 in
+        inl (order-live script numbered_lines w g.0 c (at i) level snapshot y line r (z.1 ∙ sym (subst (CommandOf g.0 (w.coord.works g.0).last) r.has_it (b.holds.stands.works g.0).command).0) order of on)
+    alive g c level snapshot y fresh order line of on was (inr (inl z)) = absurd (beyond _ _ fresh (taken-told script ms (locals_in w.segs) w.steps z.place z.received.sent.step z.received.sent.mark (at i) the_coordinator z.received.number (message.Answer (gx g.0) (reply.Done (record { 0 = c.0 }) z.wrote z.count z.part)) place.0 h.told z.received.sent.sending).0)
+      where
+        beyond : (m n : ℕ) → m ≤ n → n < m → ⊥
+        beyond m n p q = omega arith
+    alive g c level snapshot y fresh order line of on was (inr (inr z)) = inr (record { aborted = z; was = was })
+
     -- a slice runs that came with this EXEC, which the coordinator sent
     module _ (g : Gxid) (c : Cid) (level : Level) (snapshot : Option Snapshot) (fresh : next_command (s.locals g.0) ≤ c.0) (base : Seg) (on : IsBase s g base) (wanted : Claim) where
       behind : Behind g c 1 (hold_mark s.node wanted ∷ [])
@@ -189,25 +215,50 @@ module _ (script : Script) (some : 1 ≤ script.segments) (numbered_lines : AreL
 
       insert-runs : (table : Table) (rows : List KeyedRow) → IsOrder script ms (at i) g c level snapshot (slice.Insert table rows) → WasUnderWay script w.steps g c → IsBack w.coord w.steps i g.0 c.0 → Moves (after_marks (hold_mark s.node wanted ∷ []) (inserts g c (length rows) (inserted base g c table rows)))
       insert-runs table rows order was back =
-          insert-move script numbered_lines w e quiet-event i s (b.knows.well.names i) (h.kept i) (nexts_in w.segs) (λ j. refl) placed h.past g c level snapshot table rows order fresh base on (hold_mark s.node wanted ∷ []) (tt, tt) behind (by_back back)
+          insert-move script numbered_lines w e quiet-event i s (b.knows.well.names i) (h.kept i) (nexts_in w.segs) (λ j. refl) placed h.past g c level snapshot table rows order fresh base on (hold_mark s.node wanted ∷ []) (tt, tt) behind
+          (alive g c level snapshot (slice.Insert table rows) fresh order (stmt.Insert table tuples) line refl was back)
         where
           tuples : List (List Expr)
           tuples = (piece script numbered_lines w e quiet-event i s (b.knows.well.names i) (h.kept i) (nexts_in w.segs) (λ j. refl) placed h.past g c level snapshot table rows order).tuples
 
-          beyond : (m n : ℕ) → m ≤ n → n < m → ⊥
-          beyond m n p q = omega arith
+          line : order.line ≡ stmt.Insert table tuples
+          line = line-of script numbered_lines w e quiet-event i s (b.knows.well.names i) (h.kept i) (nexts_in w.segs) (λ j. refl) placed h.past g c level snapshot table rows order
 
-          -- the EXEC is awaited, or its transaction has aborted
-          by_running : Running script w g.0 → c.0 ≡ (w.coord.works g.0).last → Live script numbered_lines w g.0 c (at i) table tuples e quiet-event
-          by_running r same =
-              order-live script numbered_lines w g.0 c (at i) table tuples e quiet-event level snapshot rows r
-              (same ∙ sym (subst (CommandOf g.0 (w.coord.works g.0).last) r.has_it (b.holds.stands.works g.0).command).0)
-              order (line-of script numbered_lines w e quiet-event i s (b.knows.well.names i) (h.kept i) (nexts_in w.segs) (λ j. refl) placed h.past g c level snapshot table rows order)
+    -- AN UPDATE OR DELETE
+    -- the versions there are the writes of marks, each at home
+    homes-here : Each (IsHomeVersion script ms (at i) (λ j. next_command (s.locals j)) ms) s.versions
+    homes-here = subst (Each (IsHomeVersion script ms (at i) (λ j. next_command (s.locals j)) ms)) (sym (hold i place.0).versions) (home-versions script ms (at i) (nexts_in w.segs) ms placed h.past)
 
-          by_back : IsBack w.coord w.steps i g.0 c.0 → Live script numbered_lines w g.0 c (at i) table tuples e quiet-event ⊎ Late script numbered_lines w g.0 c (at i) table tuples e quiet-event
-          by_back (inl z) = inl (by_running (running script w k.sessions g.0 b.knows.kept i z.0) z.1)
-          by_back (inr (inl z)) = absurd (beyond _ _ fresh (taken-told script ms (locals_in w.segs) w.steps z.place z.received.sent.step z.received.sent.mark (at i) the_coordinator z.received.number (message.Answer (gx g.0) (reply.Done (record { 0 = c.0 }) z.wrote z.count z.part)) place.0 h.told z.received.sent.sending).0)
-          by_back (inr (inr z)) = inr (record { aborted = z; was = was })
+    -- what it does to rows is legal, whatever comes behind its turn
+    abbrev IsLegalTurn : SegTurn → Type 0
+    IsLegalTurn y = (later : List Mark) → EachMark (WriteLegal script) w.steps e [] y.marks later
+
+    module _ (g : Gxid) (q : Change) (changes : change_of q.cid q.level (Some q.snapshot) q.slice ≡ Some q) (order : IsOrder script ms (at i) g q.cid q.level (Some q.snapshot) q.slice) (fresh : next_command (s.locals g.0) ≤ q.cid.0) where
+      -- it is under way, or its transaction has aborted
+      change-alive : WasUnderWay script w.steps g q.cid → IsBack w.coord w.steps i g.0 q.cid.0 → Live script w g.0 q.cid (stmt_of_change q) q.level ⊎ Late script w g.0 q.cid
+      change-alive was back =
+          alive g q.cid q.level (Some q.snapshot) q.slice fresh order (stmt_of_change q) (change-line q.cid q.level (Some q.snapshot) q.slice q changes order.line (order-slice script ms (at i) g q.cid q.level (Some q.snapshot) q.slice order)) (change-on-rows q) was back
+
+      change-runs : (base : Seg) (on : IsBase s g base) (wanted : Claim) → IsLegalTurn (after_marks (hold_mark s.node wanted ∷ []) (changes_rows base g (Some q))) → Moves (after_marks (hold_mark s.node wanted ∷ []) (changes_rows base g (Some q)))
+      change-runs base on wanted legal = change-move script numbered_lines ms w.steps e i s (h.kept i) (b.knows.well.names i) g q changes order fresh base on (hold_mark s.node wanted ∷ []) (tt, tt) homes-here legal
+
+      row-runs : (wanted : Claim) (rids : List Rid) (count : ℕ) → IsLegalTurn (goes_through g q rids (is_granted s g wanted) count) → Moves (goes_through g q rids (is_granted s g wanted) count)
+      row-runs wanted rids count legal =
+          rows-move script numbered_lines ms w.steps e i s (h.kept i) (b.knows.well.names i) g q changes order fresh (freed s g wanted) (freed-base s g wanted) [] tt homes-here (is_granted s g wanted)
+          (granted-changed script ms (at i) (λ j. next_command (s.locals j)) g q _ s wanted ((freed-base s g wanted).node ∙ b.knows.well.names i)) rids count legal
+
+    -- WHAT ITS MARKS SAY IS LEGAL
+    started-legal : (m : Message) (y : SegTurn) (z : Changed script s m y) → Live script w z.g.0 z.change.cid (stmt_of_change z.change) z.change.level ⊎ Late script w z.g.0 z.change.cid
+        → IsLegalTurn (after_marks (hold_mark s.node z.wanted ∷ []) (changes_rows (base s z.horizon (with_hold s.locks z.wanted)) z.g (Some z.change)))
+    started-legal m y z how = ?
+
+    resumed-legal : (g : Gxid) (o : GoesOn script w i g) (y : SegTurn) (q : ChangeGoesOn s g o.slice y) → Live script w g.0 q.change.cid (stmt_of_change q.change) q.change.level ⊎ Late script w g.0 q.change.cid
+        → IsLegalTurn (after_marks (hold_mark s.node q.wanted ∷ []) (changes_rows (freed s g q.wanted) g (Some q.change)))
+    resumed-legal g o y q how = ?
+
+    row-legal : (g : Gxid) (o : GoesOn script w i g) (y : SegTurn) (q : RowGoesOn s g o.slice y) → Live script w g.0 q.goes.at.change.cid (stmt_of_change q.goes.at.change) q.goes.at.change.level ⊎ Late script w g.0 q.goes.at.change.cid
+        → IsLegalTurn (goes_through g q.goes.at.change (q.goes.at.rid ∷ o.slice.rows) (is_granted s g q.wanted) o.slice.count)
+    row-legal g o y q how = ?
 
     -- by a message of the coordinator
     message-move : (m : Message) (number : ℕ) → MessageIs script ms (at i) m → HasRun script w.steps m → SentBack w.coord w.steps the_coordinator (mark.Sent (at i) number m) → (y : SegTurn) → Turns script s m y → Moves y
@@ -221,23 +272,75 @@ module _ (script : Script) (some : 1 ≤ script.segments) (numbered_lines : AreL
         (insert-runs z.g z.c z.level (Some z.snapshot) (new-next (s.locals z.g.0) z.c.0 z.alone z.fresh) (base s z.horizon z.locks) (started-base s z.g z.horizon z.locks z.alone) z.wanted z.table z.rows (subst (λ (a : Message). MessageIs script ms (at i) a) z.is order numbered_lines)
         (subst (HasRun script w.steps) z.is ran) (subst (λ (a : Message). SentBack w.coord w.steps the_coordinator (mark.Sent (at i) number a)) z.is back refl))
     message-move m number order ran back y (inr (inr (inr (inl z)))) = waited-move script numbered_lines ms w.steps e i s (h.kept i) (b.knows.well.names i) m y z
-    message-move m number order ran back y (inr (inr (inr (inr z)))) =
+    message-move m number order ran back y (inr (inr (inr (inr (inl z))))) =
         subst Moves (sym z.ran)
         (lock-runs z.g z.c z.level z.snapshot (new-next (s.locals z.g.0) z.c.0 z.alone z.fresh) (base s z.horizon z.locks) (started-base s z.g z.horizon z.locks z.alone) z.wanted z.table z.mode (subst (λ (a : Message). MessageIs script ms (at i) a) z.is order numbered_lines))
+    message-move m number order ran back y (inr (inr (inr (inr (inr z))))) =
+        subst Moves (sym z.ran)
+        (change-runs z.g z.change z.changes its fresh (base s z.horizon (with_hold s.locks z.wanted)) (started-base s z.g z.horizon (with_hold s.locks z.wanted) z.alone) z.wanted
+        (started-legal m y z (change-alive z.g z.change z.changes its fresh (subst (HasRun script w.steps) z.is ran) (subst (λ (a : Message). SentBack w.coord w.steps the_coordinator (mark.Sent (at i) number a)) z.is back refl))))
+      where
+        its : IsOrder script ms (at i) z.g z.change.cid z.change.level (Some z.change.snapshot) z.change.slice
+        its = subst (λ (a : Message). MessageIs script ms (at i) a) z.is order numbered_lines
+
+        fresh : next_command (s.locals z.g.0) ≤ z.change.cid.0
+        fresh = new-next (s.locals z.g.0) z.change.cid.0 z.alone z.fresh
 
     -- by the end of a wait
-    resumption-move : (g : Gxid) (z : Suspended) (horizon : Gxid) (number : ℕ) → (s.locals g.0).suspended ≡ Some z → (s.locals g.0).last ≡ z.cid.0 → (let m : Message = message.Exec g z.cid z.level z.snapshot horizon z.slice in MessageIs script ms (at i) m × HasRun script w.steps m × SentBack w.coord w.steps the_coordinator (mark.Sent (at i) number m))
-        → (y : SegTurn) → Continues s g z y → Moves y
-    resumption-move g z horizon number is last sent y (inl q) =
-        subst Moves (sym q.ran)
-        (select-runs g z.cid z.level z.snapshot (waits-next (s.locals g.0) z is last) (freed s g q.locks) (freed-base s g q.locks) q.wanted q.query (subst (IsOrder script ms (at i) g z.cid z.level z.snapshot) q.is (sent.0 numbered_lines))
-        (shown (freed s g q.locks) q.snapshot g z.cid q.query.table) (first_fault q.query.cond (shown (freed s g q.locks) q.snapshot g z.cid q.query.table)))
-    resumption-move g z horizon number is last sent y (inr (inl q)) =
-        subst Moves (sym q.ran)
-        (insert-runs g z.cid z.level z.snapshot (waits-next (s.locals g.0) z is last) (freed s g q.locks) (freed-base s g q.locks) q.wanted q.table q.rows (subst (IsOrder script ms (at i) g z.cid z.level z.snapshot) q.is (sent.0 numbered_lines)) sent.1 (sent.2 refl))
-    resumption-move g z horizon number is last sent y (inr (inr q)) =
-        subst Moves (sym q.ran)
-        (lock-runs g z.cid z.level z.snapshot (waits-next (s.locals g.0) z is last) (freed s g q.locks) (freed-base s g q.locks) q.wanted q.table q.mode (subst (IsOrder script ms (at i) g z.cid z.level z.snapshot) q.is (sent.0 numbered_lines)))
+    module _ (g : Gxid) (o : GoesOn script w i g) where
+      abbrev z : Suspended
+      z = o.slice
+
+      abbrev came : Message
+      came = message.Exec g z.cid z.level z.snapshot o.waits.horizon z.slice
+
+      abbrev IsSo : Type 0
+      IsSo = MessageIs script ms (at i) came × HasRun script w.steps came × SentBack w.coord w.steps the_coordinator (mark.Sent (at i) o.waits.come.letter.envelope.number came)
+
+      still : next_command (s.locals g.0) ≤ z.cid.0
+      still = waits-next (s.locals g.0) z o.is o.waits.last
+
+      -- a command that changes rows, by its parts
+      module _ (q : Change) (changes : change_of z.cid z.level z.snapshot z.slice ≡ Some q) (sent : IsSo) where
+        parts : IsChangeOf z.cid z.level z.snapshot z.slice q
+        parts = change-parts z.cid z.level z.snapshot z.slice q changes
+
+        by-parts : (P : Cid → Level → Option Snapshot → Slice → Type 0) → P z.cid z.level z.snapshot z.slice → P q.cid q.level (Some q.snapshot) q.slice
+        by-parts P p =
+            subst (λ c. P c q.level (Some q.snapshot) q.slice) (sym parts.cid)
+            (subst (λ l. P z.cid l (Some q.snapshot) q.slice) (sym parts.level) (subst (λ x. P z.cid z.level x q.slice) (sym parts.snapshot) (subst (P z.cid z.level z.snapshot) (sym parts.slice) p)))
+
+        its-order : IsOrder script ms (at i) g q.cid q.level (Some q.snapshot) q.slice
+        its-order = by-parts (λ c level snapshot y. IsOrder script ms (at i) g c level snapshot y) (sent.0 numbered_lines)
+
+        its-next : next_command (s.locals g.0) ≤ q.cid.0
+        its-next = by-parts (λ c level snapshot y. next_command (s.locals g.0) ≤ c.0) still
+
+        still-alive : Live script w g.0 q.cid (stmt_of_change q) q.level ⊎ Late script w g.0 q.cid
+        still-alive =
+            change-alive g q parts.again its-order its-next (by-parts (λ c level snapshot y. WasUnderWay script w.steps g c) sent.1)
+            (by-parts (λ c level snapshot y. IsBack w.coord w.steps i g.0 c.0) (sent.2 refl))
+
+      resumption-move : IsSo → (y : SegTurn) → Continues s g z y → Moves y
+      resumption-move sent y (inl q) =
+          subst Moves (sym q.ran)
+          (select-runs g z.cid z.level z.snapshot still (freed s g q.wanted) (freed-base s g q.wanted) q.wanted q.query (subst (IsOrder script ms (at i) g z.cid z.level z.snapshot) q.is (sent.0 numbered_lines))
+          (shown (freed s g q.wanted) q.snapshot g z.cid q.query.table) (first_fault q.query.cond (shown (freed s g q.wanted) q.snapshot g z.cid q.query.table)))
+      resumption-move sent y (inr (inl q)) =
+          subst Moves (sym q.ran)
+          (insert-runs g z.cid z.level z.snapshot still (freed s g q.wanted) (freed-base s g q.wanted) q.wanted q.table q.rows (subst (IsOrder script ms (at i) g z.cid z.level z.snapshot) q.is (sent.0 numbered_lines)) sent.1 (sent.2 refl))
+      resumption-move sent y (inr (inr (inl q))) =
+          subst Moves (sym q.ran)
+          (lock-runs g z.cid z.level z.snapshot still (freed s g q.wanted) (freed-base s g q.wanted) q.wanted q.table q.mode (subst (IsOrder script ms (at i) g z.cid z.level z.snapshot) q.is (sent.0 numbered_lines)))
+      resumption-move sent y (inr (inr (inr (inl q)))) =
+          subst Moves (sym q.ran)
+          (change-runs g q.change (parts q.change q.changes sent).again (its-order q.change q.changes sent) (its-next q.change q.changes sent) (freed s g q.wanted) (freed-base s g q.wanted) q.wanted
+          (resumed-legal g o y q (still-alive q.change q.changes sent)))
+      resumption-move sent y (inr (inr (inr (inr q)))) =
+          let k = q.goes.at.change in
+          subst Moves (sym q.goes.is)
+          (row-runs g k (parts k q.goes.at.changes sent).again (its-order k q.goes.at.changes sent) (its-next k q.goes.at.changes sent) q.wanted (q.goes.at.rid ∷ z.rows) z.count
+          (row-legal g o y q (still-alive k q.goes.at.changes sent)))
 
     pub seg-holds : Moves turn → Holds script next (w.steps ++ step ∷ [])
     seg-holds = from-move
@@ -322,7 +425,7 @@ module _ (script : Script) (some : 1 ≤ script.segments) (numbered_lines : AreL
             legal = marks-append (WriteLegal script) w.steps e [] turn.marks sent [] (v.legal (sent ++ [])) (no-writes-legal script w.steps e turn.marks sent [] quiet)
 
   -- ALL EVENTS
-  module _ (w : World) (b : Both script some w) (k : stepping.Holds script w) (h : Holds script w.segs w.steps) where
+  module _ (w : World) (b : Both script some w) (k : stepping.Holds script w) (hold : Hold w) (h : Holds script w.segs w.steps) where
     abbrev IsPost : Letter → Type 0
     IsPost l = IsLetter script w.steps l × (l.from ≡ the_coordinator → MessageIs script (marks_in w.steps) l.to l.envelope.message) × (l.from ≡ the_coordinator → HasRun script w.steps l.envelope.message)
 
@@ -362,8 +465,8 @@ module _ (script : Script) (some : 1 ≤ script.segments) (numbered_lines : AreL
         by_test true q = coord-holds w b.knows.well h e x fails
         by_test false q =
             let p = place q d.is.0.link in
-            seg-holds w b k h e (λ t. refl) x fails to.0 p.0
-            (message-move w b k h e (λ t. refl) x fails to.0 p.0 envelope.message number (order_is p.1) (subst (λ (a : Envelope). HasRun script w.steps a.message) d.told (d.is.2 p.1)) (back p.1) (segment.on_message script (w.segs to.0) fails envelope.message) (message-turns script (w.segs to.0) fails envelope.message))
+            seg-holds w b k hold h e (λ t. refl) x fails to.0 p.0
+            (message-move w b k hold h e (λ t. refl) x fails to.0 p.0 envelope.message number (order_is p.1) (subst (λ (a : Envelope). HasRun script w.steps a.message) d.told (d.is.2 p.1)) (back p.1) (segment.on_message script (w.segs to.0) fails envelope.message) (message-turns script (w.segs to.0) fails envelope.message))
 
     arrives : (from to : Node) (number : ℕ) (fails : Bool) (o : Option Envelope) → found from to number w.sent ≡ o → let v : World = does script w (event.Receive from to number) to fails (delivered from o) in Holds script v.segs v.steps
     arrives from to number fails None f = h
@@ -385,8 +488,8 @@ module _ (script : Script) (some : 1 ≤ script.segments) (numbered_lines : AreL
 
     goes-on : (e : Event) → ((t : SessionId) → starts_by t e ≡ 0) → (fails : Bool) (i : ℕ) (g : Gxid) → IsSegment script (at i) → GoesOn script w i g → let v : World = seg_did w (at i) e (seg_rule script (w.segs i) (here.Resume g) fails) in Holds script v.segs v.steps
     goes-on e quiet fails i g place o =
-        seg-holds w b k h e quiet (here.Resume g) fails i place
-        (resumption-move w b k h e quiet (here.Resume g) fails i place g o.slice o.waits.horizon o.waits.come.letter.envelope.number o.is o.waits.last
+        seg-holds w b k hold h e quiet (here.Resume g) fails i place
+        (resumption-move w b k hold h e quiet (here.Resume g) fails i place g o
         (known-letter o.waits.come.letter i _ (each-among IsPost w.sent o.waits.come.letter (each-post w.sent b.knows.well.letters k.orders k.ran) o.waits.come.among) o.waits.come.source o.waits.come.target o.waits.come.told)
         (segment.on_event script (w.segs i) (here.Resume g) fails) (resumption-turns script w i g o))
 
@@ -425,7 +528,7 @@ module _ (script : Script) (some : 1 ≤ script.segments) (numbered_lines : AreL
   after-holds done [] h = h
   after-holds done (x ∷ es) h =
       subst (λ w. HoldsIn (after script w es)) (after-last script some new_world done x)
-      (after-holds (done ++ x ∷ []) es (subst HoldsIn (sym (after-last script some new_world done x)) (happens-holds (world_of script done) (world-both script some done) (histories.world-holds script some done) h x.0 x.1)))
+      (after-holds (done ++ x ∷ []) es (subst HoldsIn (sym (after-last script some new_world done x)) (happens-holds (world_of script done) (world-both script some done) (histories.world-holds script some done) (world-hold script some done) h x.0 x.1)))
 
   pub world-holds : (es : List (Event × Bool)) → Holds script (world_of script es).segs (world_of script es).steps
   world-holds es = after-holds [] es (record { homes = tt; past = tt; told = tt; kept = λ i h. tt; legal = tt })

@@ -6,13 +6,16 @@ use Rattle.gx_ids.specs.declared.ids.Gxid.{Gxid}
 use Rattle.gx_ids.specs.declared.ids.Node.{Node}
 use Rattle.gx_ids.specs.declared.ids.Table.{Table}
 use Rattle.gx_ids.specs.declared.rid.Rid.{Rid}
+use Rattle.gx_tree.specs.declared.cond.Cond.{Cond}
 use Rattle.gx_tree.specs.declared.expr.Expr.{Expr}
 use Rattle.gx_tree.specs.declared.schema.Dist.{Dist}
 use Rattle.gx_tree.specs.declared.schema.Dist.TheVariants.{By, Randomly}
+use Rattle.gx_tree.specs.declared.stmt.Assign.{Assign}
 use Rattle.gx_tree.specs.declared.stmt.Stmt.TheVariants as stmt
 use Rattle.gx_tree.specs.declared.value.Value.{Value}
 use Rattle.gx_meaning.specs.Constants.{values_of}
 use Rattle.gx_meaning.specs.Place.{row_place}
+use Rattle.gx_meaning.specs.Statements.{KeepsKey as LeavesKey}
 use Rattle.gx_script.specs.declared.Script.{Script}
 use Rattle.gx_store.specs.declared.mark.Mark.{Mark}
 use Rattle.gx_store.specs.declared.mark.Mark.TheVariants as mark
@@ -39,12 +42,17 @@ abbrev pub KeepsKey : Dist → List Value → Option (List Value) → Type 0
 KeepsKey dist inserted None = Unit {0}
 KeepsKey dist inserted (Some row) = IsSameKey dist inserted row
 
+-- no UPDATE of the table that is a transaction's command sets the distribution column; the language has none that does
+abbrev pub KeepsItsKey : Script → Table → Type 0
+KeepsItsKey script table =
+    (marks : List Mark) (g : Gxid) (c : Cid) (assigns : List Assign) (cond : Option Cond) → stmt_of_command script marks g c ≡ Some (stmt.Update table assigns cond) → LeavesKey (dist_of script.tables table.0) assigns
+
 -- a write of the row, with this image, stands where the row was inserted
 pub record IsPlaced (script : Script) (marks : List Mark) (node : Node) (table : Table) (rid : Rid) (image : Option (List Value)) : Type 0 where
   pub values : List Value
   pub row_of : IsRowOf script marks table rid values
   pub place : node.0 ≡ row_place script.segments (dist_of script.tables table.0) values rid
-  pub key : KeepsKey (dist_of script.tables table.0) values image
+  pub key : KeepsItsKey script table → KeepsKey (dist_of script.tables table.0) values image
 
 abbrev pub IsPlacedMark : Script → List Mark → Mark → Type 0
 IsPlacedMark script marks (mark.Write g c node table rid image) = IsPlaced script marks node table rid image

@@ -1,5 +1,5 @@
--- What is left of a history besides the writes and the answers of INSERTs: what SELECTs show and on what they fault, what
--- segments refuse, and the answers of commands that change rows or lock a table.
+-- What is left of a history besides the writes and the answers of INSERTs: what SELECTs show, on what commands fault, what segments
+-- refuse, and the answers of commands that change rows or lock a table.
 use Rattle.std.specs.Prelude.{List, [], ◌∷◌, ◌++◌}
 use Rattle.gx_ids.specs.declared.ids.SessionId.{SessionId}
 use Rattle.gx_script.specs.declared.Script.{Script}

@@ -30,14 +30,15 @@ pub fn rows_go_where_they_are_placed()
 {}
 
 /// A row's first write is its INSERT's, of the values of its tuple, at the segment where these are placed. Each later write of the
-/// row stands there too, and deletes it or has the same in the distribution column.
+/// row stands there too, and deletes it or has the same in the distribution column, where no UPDATE of the table sets that column.
 pub fn rows_stay_where_they_are_inserted()
     ensures { (script : Script) (events : List (OneEvent × Bool)) → 1 ≤ script.segments → AreLinesNumbered [] script.lines
         → AreRowsHome script (marks_in (world_of script events).steps) [] (marks_in (world_of script events).steps) }
 {}
 
-/// Every write is legal at its point: its command is under way and has its snapshot, or its transaction has aborted, and the row
-/// is one of the statement's, written for the first time at its place. No row is skipped that may not be.
+/// Every write is legal at its point: its command is under way and has its snapshot, or its transaction has aborted. An INSERT's
+/// row is one of the statement's, written for the first time at its place; an UPDATE or DELETE has selected the row, whose current
+/// write is free for it. No row is skipped that may not be.
 pub fn writes_are_legal()
     ensures { (script : Script) (events : List (OneEvent × Bool)) → 1 ≤ script.segments → AreLinesNumbered [] script.lines → AreWritesLegal script [] (steps_after script events) }
 {}
@@ -47,7 +48,7 @@ pub fn inserts_are_told()
     ensures { (script : Script) (events : List (OneEvent × Bool)) → 1 ≤ script.segments → AreLinesNumbered [] script.lines → AreInsertsTold script [] (steps_after script events) }
 {}
 
-/// A run is a legal history if what SELECTs show and on what they fault, what segments refuse, and what the answers of commands
+/// A run is a legal history if what SELECTs show, on what commands fault, what segments refuse, and what the answers of commands
 /// that change rows or lock a table say are so.
 pub fn history_is_legal_with_what_is_left()
     ensures { (script : Script) (events : List (OneEvent × Bool)) → 1 ≤ script.segments → AreLinesNumbered [] script.lines

@@ -1,3 +1,4 @@
 pub mod Claims
 pub mod Sent
 pub mod Turns
+pub mod Looking

@@ -1,5 +1,5 @@
 -- A transaction at a segment, as the rule has it.
-use Rattle.std.specs.Prelude.{[], None, Some, option_map}
+use Rattle.std.specs.Prelude.{option_map}
 use Rattle.gx_msg.specs.declared.reply.Reply.{Reply}
 use Rattle.gx_msg.specs.declared.reply.Reply.TheVariants as reply
 use Rattle.gx_rules.specs.Segments as rule
@@ -23,9 +23,8 @@ reply_of vote.Prepared = reply.Prepared
 reply_of vote.Committed = reply.Committed
 reply_of vote.Jfault = reply.Jfault
 
--- it waits for its table, and has come to no row yet
 abbrev pub suspended_of : Suspended → rule.Suspended
-suspended_of w = record { cid = w.cid; level = w.level; snapshot = w.snapshot; slice = w.slice; count = 0; row = None; rows = [] }
+suspended_of w = record { cid = w.cid; level = w.level; snapshot = w.snapshot; slice = w.slice; count = w.count; row = w.row; rows = w.rows }
 
 abbrev pub local_of : Local → rule.Local
 local_of l =

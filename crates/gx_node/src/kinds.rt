@@ -31,7 +31,7 @@ fn of_numbers(left: Option<Kind>, right: Option<Kind>) -> Option<Kind>
 
 // The kind of an expression, if it has one.
 #[tactic(auto, using(gx_meaning::proofs::Nodes::expression_kinds))]
-fn kind_of_expr(columns: &[Column], expr: &Expr) -> Option<Kind>
+pub(crate) fn kind_of_expr(columns: &[Column], expr: &Expr) -> Option<Kind>
     ensures { result ≡ kind_of (map (λ c. c.kind) columns.now) expr.now }
 {
     match expr {

@@ -5,6 +5,7 @@
 
 mod aborting;
 mod appending;
+mod assigns;
 mod committing;
 mod kinds;
 pub mod laws;
@@ -19,7 +20,10 @@ pub mod slices;
 
 pub use laws::orders_follow_the_rule;
 pub use local::{Local, Phase, Suspended, Taken, Vote};
-pub use locking::{ask_for, changing_mode, claim_on, give_back, take_free, take_ready};
+pub use locking::{
+    ask_for, changing_mode, claim_on, give_back, give_back_one, is_held, take_free, take_granted,
+    take_ready, wait_for,
+};
 pub use orders::take_order;
 pub use parts::fits_part;
 pub use slices::{is_right_slice, reads_nothing};

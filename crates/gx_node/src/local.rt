@@ -4,7 +4,7 @@ ghost use Rattle.gx_rules.specs.Fits as rule;
 ghost use Rattle.gx_rules.specs.Segments.{new_local};
 
 use gx_dsnap::Snapshot;
-use gx_ids::Cid;
+use gx_ids::{Cid, Rid, Seq};
 use gx_msg::Reply;
 use gx_store::Mark;
 use gx_tree::{Level, Slice};
@@ -46,13 +46,17 @@ impl Vote {
     }
 }
 
-/// A command's slice, which has its table's lock or waits for it. It has a snapshot unless it reads nothing.
+/// A command's slice, which has its table's lock or waits for it, or waits at a row: how many rows it has written, and the rows
+/// left behind that one. It has a snapshot unless it reads nothing.
 #[derive(Debug, Drop)]
 pub struct Suspended {
     pub cid: Cid,
     pub level: Level,
     pub snapshot: Option<Snapshot>,
     pub slice: Slice,
+    pub count: u64,
+    pub row: Option<Rid>,
+    pub rows: Seq<Rid>,
 }
 
 /// A transaction at a segment: where it stands, its last command here, from 1, or 0 before the first, what was answered to that

@@ -7,10 +7,11 @@ ghost use Rattle.gx_meaning.specs.Order.{in_order};
 ghost use Rattle.gx_rules.specs.Locks as rule;
 ghost use Rattle.gx_store.specs.Locks as legal;
 ghost use Rattle.gx_waits.specs.declared.object.Object.TheVariants as object;
-ghost use Rattle.gx_node.specs.Locking.{asked_locks, asked_mark, resumed_marks};
+ghost use Rattle.gx_waits.specs.Claim.{same_claim};
+ghost use Rattle.gx_node.specs.Locking.{asked_locks, asked_mark, end_marks, granted_locks, granted_marks, resumed_marks, without_end};
 
 use gx_ids::{Gxid, Mem, Node, Table};
-use gx_locks::{LockAnswer, LockTable};
+use gx_locks::{LockAnswer, LockTable, is_same_claim};
 use gx_modes::Mode;
 use gx_script::Script;
 use gx_store::Mark;
@@ -93,6 +94,42 @@ pub fn give_back(
     push_releases(marks, node, claims.as_slice())?;
     locks.release_all(gxid);
     Ok(())
+}
+
+/// One lock of a transaction at a node is given back, with its mark.
+pub fn give_back_one(
+    node: Node,
+    locks: &mut LockTable,
+    old: Claim,
+    marks: &mut Vec<Mark>,
+) -> Mem<()>
+    ensures locks { OnOk result (locks.new ≡ rule.without_hold locks.old old) }
+    ensures marks { OnOk result (marks.new.items ≡ marks.old.items ++ rule.release_mark node old ∷ []) }
+{
+    let Claim { gxid, object, mode } = old;
+    marks.push(Mark::Release {
+        node,
+        gxid,
+        object,
+        mode,
+    })?;
+    locks.release(gxid, object, mode);
+    Ok(())
+}
+
+// HELD
+fn is_among(claims: &[Claim], claim: &Claim) -> bool
+    ensures { result ≡ list_any (same_claim claim.now) claims.now }
+{
+    claims.iter().any(|other| is_same_claim(claim, other))
+}
+
+/// Whether a transaction holds this very lock at a node.
+pub fn is_held(locks: &LockTable, claim: &Claim) -> Mem<bool>
+    ensures { IfOk result (λ held. held ≡ list_any (same_claim claim.now) locks.now.holds) }
+{
+    let holds = locks.holds_of(claim.gxid)?;
+    Ok(is_among(holds.as_slice(), claim))
 }
 
 // ASKED FOR
@@ -191,6 +228,17 @@ pub fn take_free(node: Node, locks: &mut LockTable, wanted: Claim, marks: &mut V
     Ok(())
 }
 
+/// A transaction that doesn't wait at a node waits from now on for a lock that isn't free there, with the mark of a wait.
+pub fn wait_for(node: Node, locks: &mut LockTable, wanted: Claim, marks: &mut Vec<Mark>) -> Mem<()>
+    requires waits { list_any (is_of wanted.gxid) locks.old.waits ≡ false }
+    requires taken { is_free locks.old.holds wanted ≡ false }
+    ensures locks { OnOk result (locks.new ≡ rule.with_wait locks.old wanted) }
+    ensures marks { OnOk result (marks.new.items ≡ marks.old.items ++ rule.wait_mark node wanted ∷ []) }
+{
+    ask_for(node, locks, wanted, marks)?;
+    Ok(())
+}
+
 // RESUMED
 // The wait of a transaction.
 fn find_wait(waits: &[Claim], gxid: Gxid) -> Option<Claim>
@@ -218,4 +266,34 @@ pub fn take_ready(node: Node, locks: &mut LockTable, gxid: Gxid, marks: &mut Vec
     push_resumed(marks, node, wait)?;
     locks.resume(gxid);
     Ok(())
+}
+
+// A lock on another transaction's end is given back at once.
+fn give_back_end(
+    node: Node,
+    locks: &mut LockTable,
+    wait: Option<Claim>,
+    marks: &mut Vec<Mark>,
+) -> Mem<()>
+    ensures locks { OnOk result (locks.new ≡ without_end locks.old wait) }
+    ensures marks { OnOk result (marks.new.items ≡ marks.old.items ++ end_marks node wait) }
+{
+    match wait {
+        Some(claim) => match claim.object {
+            Object::Transaction(_) => give_back_one(node, locks, claim, marks),
+            _ => Ok(()),
+        },
+        None => Ok(()),
+    }
+}
+
+/// What a transaction has waited for at a node is granted, with its mark; where that is another's end, it is given back at once.
+pub fn take_granted(node: Node, locks: &mut LockTable, gxid: Gxid, marks: &mut Vec<Mark>) -> Mem<()>
+    requires { is_ready locks.old.holds (wait_of locks.old gxid) ≡ true }
+    ensures locks { OnOk result (locks.new ≡ granted_locks locks.old gxid (wait_of locks.old gxid)) }
+    ensures marks { OnOk result (marks.new.items ≡ marks.old.items ++ granted_marks node (wait_of locks.old gxid)) }
+{
+    let wait = find_wait(locks.waits(), gxid);
+    take_ready(node, locks, gxid, marks)?;
+    give_back_end(node, locks, wait, marks)
 }

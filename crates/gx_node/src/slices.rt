@@ -1,54 +1,48 @@
-ghost use Rattle.std.specs.Prelude.{◌≡◌, slice_get};
-ghost use Rattle.gx_ids.specs.declared.ids.Cid.{Cid};
-ghost use Rattle.gx_ids.specs.declared.ids.Gxid.{Gxid};
-ghost use Rattle.gx_modes.specs.declared.modes.Mode.{Mode};
+ghost use Rattle.std.specs.Prelude.{◌≡◌, Some};
 ghost use Rattle.gx_node.specs.Right.{IsRightFor};
 ghost use Rattle.gx_rules.specs.Fits as fits;
-ghost use Rattle.gx_tree.specs.declared.slice.Slice.TheVariants as slice;
 
+use crate::assigns::is_right_change;
+use crate::kinds::is_right_condition;
 use crate::query::is_right_query;
 use crate::rows::are_right_rows;
 use gx_ids::{Cid, Gxid, Table};
-use gx_tree::{KeyedRow, Query, Schema, Slice};
+use gx_tree::{Schema, Slice};
 
-fn is_right_select(tables: &[Schema], gxid: Gxid, cid: Cid, query: &Query) -> bool
-    ensures { result ≡ fits.is_right_on gxid cid (slice_get tables.now query.now.table.0) (slice.Select query.now) }
+fn table_of(slice: &Slice) -> Table
+    ensures { result.0 ≡ fits.table_of slice.now }
 {
-    match tables.get(usize::from(query.table.0)) {
-        Some(schema) => is_right_query(schema.columns.as_slice(), query),
-        None => false,
+    match slice {
+        Slice::Select(query) => query.table,
+        Slice::Insert(table, _) => *table,
+        Slice::Update(table, _, _) => *table,
+        Slice::Delete(table, _) => *table,
+        Slice::Lock(table, _) => *table,
     }
 }
 
-fn is_right_insert(tables: &[Schema], gxid: Gxid, cid: Cid, table: Table, rows: &[KeyedRow]) -> bool
-    ensures { result ≡ fits.is_right_on gxid cid (slice_get tables.now table.0) (slice.Insert table rows.now) }
+// The slice is right for its table.
+fn is_right_on(schema: &Schema, gxid: Gxid, cid: Cid, slice: &Slice) -> bool
+    ensures { result ≡ fits.is_right_on gxid cid (Some schema.now) slice.now }
 {
-    match tables.get(usize::from(table.0)) {
-        Some(schema) => are_right_rows(schema.columns.as_slice(), gxid, cid, rows),
-        None => false,
-    }
-}
-
-// A lock names a table that is there.
-fn is_right_lock(tables: &[Schema], table: Table) -> bool
-    ensures { (g : Gxid) (c : Cid) (mode : Mode) → result ≡ fits.is_right_on g c (slice_get tables.now table.0) (slice.Lock table mode) }
-{
-    match tables.get(usize::from(table.0)) {
-        Some(_schema) => true,
-        None => false,
+    let columns = schema.columns.as_slice();
+    match slice {
+        Slice::Select(query) => is_right_query(columns, query),
+        Slice::Insert(_, rows) => are_right_rows(columns, gxid, cid, rows.as_slice()),
+        Slice::Update(_, assigns, cond) => is_right_change(columns, assigns.as_slice(), cond),
+        Slice::Delete(_, cond) => is_right_condition(columns, cond),
+        Slice::Lock(_, _) => true,
     }
 }
 
 /// Whether a slice is right for a script's tables: a query whose columns are there and whose comparisons are of one kind, or
-/// rows of this very command with a value of each column's kind, or a lock. Slices that change rows aren't run yet.
+/// rows of this very command with a value of each column's kind, or assignments of each column's kind, or a lock.
 pub fn is_right_slice(tables: &[Schema], gxid: Gxid, cid: Cid, slice: &Slice) -> bool
     ensures { IsRightFor tables.now gxid cid slice.now result }
 {
-    match slice {
-        Slice::Select(query) => is_right_select(tables, gxid, cid, query),
-        Slice::Insert(table, rows) => is_right_insert(tables, gxid, cid, *table, rows.as_slice()),
-        Slice::Lock(table, _) => is_right_lock(tables, *table),
-        _ => false,
+    match tables.get(usize::from(table_of(slice).0)) {
+        Some(schema) => is_right_on(schema, gxid, cid, slice),
+        None => false,
     }
 }
 

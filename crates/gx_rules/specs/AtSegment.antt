@@ -152,7 +152,7 @@ on_message script s fails _ = stays s
 -- RESUMPTIONS
 -- A slice whose lock is free takes it and goes on.
 abbrev pub resumes : Seg → Gxid → Option Claim → Option Suspended → SegTurn
-resumes s g (Some wanted) (Some waiting) = goes_on (is_granted s g wanted) g waiting
+resumes s g (Some wanted) (Some waiting) = goes_on (is_granted s g wanted) g waiting waiting.row
 resumes s g _ _ = stays s
 
 -- THE RULE

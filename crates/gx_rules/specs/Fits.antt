@@ -17,11 +17,12 @@ use Rattle.gx_tree.specs.declared.schema.Kind.TheVariants.{Int, Text}
 use Rattle.gx_tree.specs.declared.schema.Schema.{Schema}
 use Rattle.gx_tree.specs.declared.slice.Slice.{Slice}
 use Rattle.gx_tree.specs.declared.slice.Slice.TheVariants as slice
+use Rattle.gx_tree.specs.declared.stmt.Assign.{Assign}
 use Rattle.gx_tree.specs.declared.stmt.Stmt.{Stmt}
 use Rattle.gx_tree.specs.declared.stmt.Stmt.TheVariants as stmt
 use Rattle.gx_tree.specs.declared.value.Value.{Value}
 use Rattle.gx_dsnap.specs.declared.snapshot.Snapshot.{Snapshot}
-use Rattle.gx_meaning.specs.Kinds.{is_typed, value_kind}
+use Rattle.gx_meaning.specs.Kinds.{is_typed, kind_of, value_kind}
 use Rattle.gx_script.specs.declared.Script.{Script}
 use Rattle.gx_rules.specs.Maps.{each_below}
 use Rattle.gx_rules.specs.Segments.{Local, Seg, has_ended}
@@ -87,18 +88,33 @@ is_right_row _ _ = false
 abbrev pub is_rid_of : Gxid → Cid → Rid → Bool
 is_rid_of g c rid = (rid.gxid.0 == g.0) && (rid.cid.0 == c.0)
 
+-- a value is of its column's kind
+abbrev pub is_right_kind : Option Kind → Option Kind → Bool
+is_right_kind None found = false
+is_right_kind (Some kind) found = is_kind kind found
+
+abbrev pub is_right_assign : List Kind → Assign → Bool
+is_right_assign kinds assign = is_right_kind (slice_get kinds assign.col) (kind_of kinds assign.expr)
+
 abbrev pub is_right_on : Gxid → Cid → Option Schema → Slice → Bool
+is_right_on g c None slice = false
 is_right_on g c (Some schema) (slice.Select query) = is_right_query (kinds_in schema) query
 is_right_on g c (Some schema) (slice.Insert table rows) = list_all (λ row. is_rid_of g c row.rid && is_right_row (kinds_in schema) row.row) rows
+is_right_on g c (Some schema) (slice.Update table assigns cond) =
+    list_all (is_right_assign (kinds_in schema)) assigns && is_right_cond (kinds_in schema) cond
+is_right_on g c (Some schema) (slice.Delete table cond) = is_right_cond (kinds_in schema) cond
 is_right_on g c (Some schema) (slice.Lock table mode) = true
-is_right_on g c _ _ = false
 
--- the slice is one of the script's tables, and right for it; those that change rows aren't run yet
+abbrev pub table_of : Slice → ℕ
+table_of (slice.Select query) = query.table.0
+table_of (slice.Insert table rows) = table.0
+table_of (slice.Update table assigns cond) = table.0
+table_of (slice.Delete table cond) = table.0
+table_of (slice.Lock table mode) = table.0
+
+-- the slice is one of the script's tables, and right for it
 abbrev pub is_right_slice : Script → Gxid → Cid → Slice → Bool
-is_right_slice script g c (slice.Select query) = is_right_on g c (slice_get script.tables query.table.0) (slice.Select query)
-is_right_slice script g c (slice.Insert table rows) = is_right_on g c (slice_get script.tables table.0) (slice.Insert table rows)
-is_right_slice script g c (slice.Lock table mode) = is_right_on g c (slice_get script.tables table.0) (slice.Lock table mode)
-is_right_slice script g c _ = false
+is_right_slice script g c slice = is_right_on g c (slice_get script.tables (table_of slice)) slice
 
 -- AT A SEGMENT
 -- a transaction holds locks at a segment, or waits for one, from its first command there until it has ended there

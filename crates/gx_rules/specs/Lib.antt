@@ -6,7 +6,9 @@ pub mod Segments
 pub mod Locks
 pub mod Shown
 pub mod Slices
+pub mod Changes
 pub mod Running
+pub mod Visits
 pub mod Fits
 pub mod AtSegment
 pub mod Coordinators
@@ -16,4 +18,6 @@ pub mod System
 pub mod Rows
 pub mod Expected
 pub mod WaitRuns
+pub mod ChangeRuns
+pub mod UpdateRuns
 pub mod Last

@@ -8,7 +8,7 @@ use Rattle.gx_modes.specs.Table.{number_of}
 use Rattle.gx_waits.specs.contracts.object.ObjectOrd.TheImpl as object
 use Rattle.gx_waits.specs.declared.claim.Claim.{Claim}
 use Rattle.gx_locks.specs.Claims.{is_of}
-use Rattle.gx_locks.specs.Locks.{Locks, held, without}
+use Rattle.gx_locks.specs.Locks.{Locks, held, without, without_claim}
 use Rattle.gx_meaning.specs.Order.{in_order}
 use Rattle.gx_store.specs.declared.mark.Mark.{Mark}
 use Rattle.gx_store.specs.declared.mark.Mark.TheVariants as mark
@@ -28,6 +28,10 @@ with_hold locks claim = record locks { holds = held locks.holds claim }
 
 abbrev pub with_wait : Locks → Claim → Locks
 with_wait locks claim = record locks { waits = locks.waits ++ claim ∷ [] }
+
+-- a hold that is given back
+abbrev pub without_hold : Locks → Claim → Locks
+without_hold locks claim = record locks { holds = without_claim claim locks.holds }
 
 -- IN ORDER
 -- relations by table, then rows by identity, then transactions by gxid; on one object by mode

@@ -36,13 +36,19 @@ has_committed Committed = true
 has_committed (Forgotten committed) = committed
 has_committed _ = false
 
+-- its writes may count: it hasn't aborted there, and wasn't forgotten as one that had not committed
+abbrev pub is_unaborted : Phase → Bool
+is_unaborted Aborted = false
+is_unaborted (Forgotten committed) = committed
+is_unaborted _ = true
+
 abbrev pub has_ended : Phase → Bool
 has_ended (Forgotten committed) = true
 has_ended Aborted = true
 has_ended _ = false
 
 -- A slice that waits: its command, how many rows it has written, the row at which it waits, and the rows left behind that one.
--- Where it waits for its table there is no row yet; those with one come with updates and deletes.
+-- Where it waits for its table there is no row yet.
 pub record Suspended : Type 0 where
   pub cid : Cid
   pub level : Level

@@ -1,5 +1,5 @@
--- What a segment shows to a reader, and what it keeps of a transaction for its journal.
-use Rattle.std.specs.Prelude.{◌==◌, nat_lt, Bool, ◌&&◌, ◌||◌, List, [], ◌∷◌, filter, fold, Some, None}
+-- What a segment shows to a reader, what is current there, and what it keeps of a transaction for its journal.
+use Rattle.std.specs.Prelude.{◌==◌, nat_lt, Bool, ◌&&◌, ◌||◌, List, [], ◌∷◌, filter, find, fold, reverse, Some, None}
 use Rattle.std.specs.declared.option.Option.{Option}
 use Rattle.std.specs.List.{flat_map}
 use Rattle.gx_ids.specs.declared.ids.Cid.{Cid}
@@ -13,8 +13,8 @@ use Rattle.gx_dsnap.specs.Snapshot.{sees}
 use Rattle.gx_dsnap.specs.declared.snapshot.Snapshot.{Snapshot}
 use Rattle.gx_msg.specs.declared.item.Kept.{Kept}
 use Rattle.gx_store.specs.Journals.{kept_with}
-use Rattle.gx_store.specs.Marks.{is_same_gxid}
-use Rattle.gx_rules.specs.Segments.{Seg, Version, has_committed, local_of}
+use Rattle.gx_store.specs.Marks.{is_same_gxid, is_same_rid}
+use Rattle.gx_rules.specs.Segments.{Seg, Version, has_committed, is_unaborted, local_of}
 
 -- the last that the versions say of each row, by the rows' identities
 abbrev pub kept_one : List Kept → Version → List Kept
@@ -44,3 +44,11 @@ rows_in kept = flat_map (λ k. row_in k.rid k.image) kept
 -- the rows of a table that a segment shows to a command, by their identities
 abbrev pub shown : Seg → Snapshot → Gxid → Cid → Table → List KeyedRow
 shown s snapshot g c table = rows_in (last_images (filter (λ v. (v.table.0 == table.0) && counts s snapshot g c v) s.versions))
+
+-- CURRENT
+-- the newest version of a row whose transaction hasn't aborted
+abbrev pub is_current : Seg → Table → Rid → Version → Bool
+is_current s table rid v = (v.table.0 == table.0) && (is_same_rid v.rid rid && is_unaborted (local_of s v.gxid).phase)
+
+abbrev pub current_of : Seg → Table → Rid → Option Version
+current_of s table rid = find (is_current s table rid) (reverse s.versions)

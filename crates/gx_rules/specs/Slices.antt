@@ -1,6 +1,7 @@
 -- What a segment does for a command that reads, adds or locks, and how a command leaves it.
 use Rattle.std.specs.Prelude.{ℕ, Bool, true, false, List, [], ◌∷◌, ◌++◌, filter, fold, length, Some, None, Result, Ok, Err}
 use Rattle.std.specs.declared.option.Option.{Option}
+use Rattle.std.specs.List.{list_any}
 use Rattle.gx_ids.specs.declared.ids.Cid.{Cid}
 use Rattle.gx_ids.specs.declared.ids.Gxid.{Gxid}
 use Rattle.gx_ids.specs.declared.ids.Table.{Table}
@@ -12,6 +13,7 @@ use Rattle.gx_tree.specs.declared.row.KeyedRow.{KeyedRow}
 use Rattle.gx_tree.specs.declared.value.Value.{Value}
 use Rattle.gx_dsnap.specs.declared.snapshot.Snapshot.{Snapshot}
 use Rattle.gx_modes.specs.declared.modes.Mode.TheVariants.{Exclusive}
+use Rattle.gx_waits.specs.Claim.{same_claim}
 use Rattle.gx_waits.specs.declared.claim.Claim.{Claim}
 use Rattle.gx_waits.specs.declared.object.Object.TheVariants.{Transaction}
 use Rattle.gx_meaning.specs.declared.fault.ArithFault.{ArithFault}
@@ -25,7 +27,7 @@ use Rattle.gx_store.specs.declared.mark.Mark.{Mark}
 use Rattle.gx_store.specs.declared.mark.Mark.TheVariants.{Write, Fault}
 use Rattle.gx_store.specs.Commands.{condition_on}
 use Rattle.gx_store.specs.Waits.{claim}
-use Rattle.gx_rules.specs.Locks.{hold_mark, with_hold}
+use Rattle.gx_rules.specs.Locks.{hold_mark, release_mark, with_hold, without_hold}
 use Rattle.gx_rules.specs.Segments.{Phase, Seg, SegTurn, Version, local_of, reply, stays, with_local}
 use Rattle.gx_rules.specs.Segments.Phase.{Reading, Writing}
 use Rattle.gx_rules.specs.Shown.{shown}
@@ -72,9 +74,18 @@ pub record Moved : Type 0 where
 abbrev pub starts_from : Seg → Moved
 starts_from s = record { seg = s; marks = [] }
 
--- a lock is granted
+abbrev pub noted : Moved → Mark → Moved
+noted m mark = record m { marks = m.marks ++ mark ∷ [] }
+
+abbrev pub is_holding : Moved → Claim → Bool
+is_holding m claim = list_any (same_claim claim) m.seg.locks.holds
+
+-- a lock is granted, and given back
 abbrev pub takes_lock : Claim → Moved → Moved
 takes_lock wanted m = record { seg = record m.seg { locks = with_hold m.seg.locks wanted }; marks = m.marks ++ hold_mark m.seg.node wanted ∷ [] }
+
+abbrev pub gives_back : Claim → Moved → Moved
+gives_back old m = record { seg = record m.seg { locks = without_hold m.seg.locks old }; marks = m.marks ++ release_mark m.seg.node old ∷ [] }
 
 -- WRITES
 -- a transaction's own lock, which it holds at a segment from its first write there

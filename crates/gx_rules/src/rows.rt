@@ -1,5 +1,6 @@
 //! Small runs of the machine, whose marks, answers and journals are computed.
 
+ghost use Rattle.gx_rules.specs.ChangeRuns.{KeepsImages, RefusesChanged, SecondWaits, SkipsGone, changed_row_run, gone_rows_run, old_images_run, second_update_run};
 ghost use Rattle.gx_rules.specs.Expected.{CommitsByOne, FinishesLost, KeepsSnapshot, ReadsBetween, RefusesPromise, RunsOnce, between, kept_run, lost, one_phase, refused_run, repeated};
 ghost use Rattle.gx_rules.specs.WaitRuns.{GivesBackInOrder, IsHeldUp, WaitsForForget, WaitsForShare, lost_forget_run, share_lock_run, waiting_run};
 
@@ -54,4 +55,24 @@ pub fn waiting_slice_is_left_alone()
 /// What a transaction has at a node is given back in order.
 pub fn locks_go_back_in_order()
     ensures { GivesBackInOrder }
+{}
+
+/// An UPDATE of rows that another block has updated waits until that block has committed, and then writes them too.
+pub fn second_update_waits()
+    ensures { SecondWaits second_update_run }
+{}
+
+/// Rows that were deleted while an UPDATE waited for them are skipped, and a journal says of them that they are gone.
+pub fn gone_rows_are_skipped()
+    ensures { SkipsGone gone_rows_run }
+{}
+
+/// At repeatable read a row that was changed since the snapshot refuses the statement, whose row lock goes with its transaction.
+pub fn changed_row_is_refused()
+    ensures { RefusesChanged changed_row_run }
+{}
+
+/// A repeatable-read block reads the images of its snapshot, whoever updates and deletes their rows.
+pub fn snapshot_shows_old_images()
+    ensures { KeepsImages old_images_run }
 {}

@@ -18,3 +18,7 @@ pub mod Readers
 pub mod Shown
 pub mod Statuses
 pub mod Writes
+pub mod NewestOf
+pub mod Stops
+pub mod Awaiting
+pub mod OwnMoves

@@ -1,6 +1,6 @@
 -- What a segment holds, against the data of its rule. Of transactions below the horizon only the versions and who has
 -- committed are kept; their records are dropped.
-use Rattle.std.specs.Prelude.{◌≡◌, ◌<◌, ◌≤◌, ◌==◌, Bool, true, false, ◌&&◌, is_some, List, [], filter, map, All, IsTrue, slice_get, Some, None}
+use Rattle.std.specs.Prelude.{◌≡◌, ◌<◌, ◌≤◌, ◌==◌, Bool, true, false, not, ◌&&◌, nat_lt, is_some, List, [], filter, map, All, IsTrue, slice_get, Some, None}
 use Rattle.std.specs.declared.option.Option.{Option}
 use Rattle.std.specs.List.{list_any}
 use Rattle.std.specs.Map.{lookup}
@@ -14,13 +14,16 @@ use Rattle.gx_tree.specs.declared.value.Value.{Value}
 use Rattle.gx_dsnap.specs.Gxids.{gxid_cmp}
 use Rattle.gx_msg.specs.declared.item.Kept.{Kept}
 use Rattle.gx_store.specs.Marks.{is_same_gxid, is_same_rid}
+use Rattle.gx_waits.specs.Claim.{same_claim}
 use Rattle.gx_rows.specs.Counts.{is_committed}
+use Rattle.gx_rows.specs.Rows.{is_unaborted}
 use Rattle.gx_slices.specs.Store.{Write, passes, status_of, writes_of}
 use Rattle.gx_node.specs.Phases.{local_of}
 use Rattle.gx_rules.specs.Fits.{holds_locks, is_right_row, kinds_in}
 use Rattle.gx_rules.specs.Segments as rule
-use Rattle.gx_rules.specs.Segments.{Seg, Version, has_committed, new_local}
+use Rattle.gx_rules.specs.Segments.{Seg, Version, has_committed, has_ended, new_local}
 use Rattle.gx_rules.specs.Shown.{kept_of}
+use Rattle.gx_rules.specs.Slices.{own_lock}
 use Rattle.gx_slices.specs.Owning.{AreOwn}
 use Rattle.gx_slices.specs.Waiting.{AreWaits}
 use Rattle.gx_slices.specs.declared.held.Entry.{Entry}
@@ -58,6 +61,11 @@ is_right_image None image = false
 abbrev pub is_right_version : List Schema → Version → Bool
 is_right_version tables v = is_right_image (slice_get tables v.table.0) v.image
 
+-- who has written and stands below the horizon has ended; who holds itself has written and hasn't ended
+pub record AreWriters (s : Seg) : Type 0 where
+  pub low : (g : Gxid) → g.0 < s.horizon.0 → has_version s g ≡ true → has_ended (rule.local_of s g).phase ≡ true
+  pub own : (g : Gxid) → list_any (same_claim (own_lock g)) s.locks.holds ≡ true → (has_version s g && not (has_ended (rule.local_of s g).phase)) ≡ true
+
 -- what is held says the same as the rule's data
 pub record IsHeld (tables : List Schema) (held : Held) (s : Seg) : Type 0 where
   pub horizon : held.store.horizon ≡ s.horizon
@@ -68,6 +76,9 @@ pub record IsHeld (tables : List Schema) (held : Held) (s : Seg) : Type 0 where
   pub writes : (table : Table) (rid : Rid) → writes_of held.store table rid ≡ map write_of (filter (is_of_row table rid) s.versions)
   pub wrote : (g : Gxid) → is_some (status_of held.store g) ≡ has_version s g
   pub committed : (g : Gxid) → passes is_committed (status_of held.store g) ≡ (has_version s g && has_committed (rule.local_of s g).phase)
+  pub unaborted : (g : Gxid) → passes is_unaborted (status_of held.store g) ≡ (has_version s g && rule.is_unaborted (rule.local_of s g).phase)
+  pub came : (g : Gxid) → has_version s g ≡ true → nat_lt 0 (rule.local_of s g).last ≡ true
+  pub writers : AreWriters s
   pub typed : All (λ v. IsTrue (is_right_version tables v)) s.versions
   pub locks : held.locks ≡ s.locks
   pub owned : AreOwn s.locks.holds

@@ -1,5 +1,5 @@
 -- While a command runs, the entry of its transaction is apart from the others.
-use Rattle.std.specs.Prelude.{◌≡◌, ◌≢◌, true, ◌&&◌, nat_lt, is_some, filter, map, Some}
+use Rattle.std.specs.Prelude.{◌≡◌, ◌≢◌, ◌≤◌, true, ◌&&◌, nat_lt, is_some, filter, map, Some}
 use Rattle.std.specs.BTreeSet.{contains}
 use Rattle.gx_ids.specs.declared.ids.Cid.{Cid}
 use Rattle.gx_ids.specs.declared.ids.Gxid.{Gxid}
@@ -9,13 +9,14 @@ use Rattle.gx_dsnap.specs.Gxids.{gxid_cmp}
 use Rattle.gx_locks.specs.Locks.{wait_of}
 use Rattle.gx_msg.specs.declared.reply.Reply.{Reply}
 use Rattle.gx_rows.specs.Counts.{is_committed}
+use Rattle.gx_rows.specs.Rows.{is_unaborted}
 use Rattle.gx_slices.specs.Store.{Store, passes, status_of, writes_of}
 use Rattle.gx_node.specs.Phases.{local_of}
 use Rattle.gx_rules.specs.Fits.{is_waiting}
 use Rattle.gx_rules.specs.Segments as rule
 use Rattle.gx_rules.specs.Segments.{Seg, has_committed}
 use Rattle.gx_rules.specs.Shown.{kept_of}
-use Rattle.gx_slices.specs.Agrees.{entry_at, has_version, is_of_row, write_of}
+use Rattle.gx_slices.specs.Agrees.{AreWriters, entry_at, has_version, is_of_row, write_of}
 use Rattle.gx_slices.specs.Owning.{AreOwn}
 use Rattle.gx_slices.specs.Waiting.{is_open}
 use Rattle.gx_slices.specs.declared.held.Entry.{Entry}
@@ -27,6 +28,7 @@ pub record IsStored (store : Store) (s : Seg) : Type 0 where
   pub writes : (table : Table) (rid : Rid) → writes_of store table rid ≡ map write_of (filter (is_of_row table rid) s.versions)
   pub wrote : (g : Gxid) → is_some (status_of store g) ≡ has_version s g
   pub committed : (g : Gxid) → passes is_committed (status_of store g) ≡ (has_version s g && has_committed (rule.local_of s g).phase)
+  pub unaborted : (g : Gxid) → passes is_unaborted (status_of store g) ≡ (has_version s g && rule.is_unaborted (rule.local_of s g).phase)
 
 -- The store, the locks and the entry are as the data, which differ from those before by this transaction alone; all else is held as
 -- at first, without the entry.
@@ -41,10 +43,13 @@ pub record IsApart (start : Seg) (first held : Held) (entry : Entry) (g : Gxid) 
   pub node : s.node ≡ start.node
   pub horizon : s.horizon ≡ start.horizon
   pub owned : AreOwn s.locks.holds
+  pub alive : s.horizon.0 ≤ g.0
+  pub writers : AreWriters s
   pub waiting : is_waiting (rule.local_of s g) ≡ is_waiting (rule.local_of start g)
   pub other_waits : (h : Gxid) → h.0 ≢ g.0 → wait_of s.locks h ≡ wait_of start.locks h
   pub other_locals : (h : Gxid) → h.0 ≢ g.0 → rule.local_of s h ≡ rule.local_of start h
   pub other_rows : (h : Gxid) → h.0 ≢ g.0 → kept_of s h ≡ kept_of start h
+  pub other_versions : (h : Gxid) → h.0 ≢ g.0 → has_version s h ≡ has_version start h
 
 -- the entry of a transaction that has just run a command, with its answer
 abbrev pub answered : Entry → Cid → Reply → Entry

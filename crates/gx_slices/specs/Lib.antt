@@ -9,3 +9,6 @@ pub mod Inserts
 pub mod Picked
 pub mod Store
 pub mod Filed
+pub mod Setting
+pub mod Changing
+pub mod Stopping

@@ -28,7 +28,7 @@ pub(crate) struct Writer {
 }
 
 // A transaction's own lock, which is free for it.
-fn own_lock(gxid: Gxid) -> Claim
+pub(crate) fn own_lock(gxid: Gxid) -> Claim
     ensures { result ≡ rule.own_lock gxid }
 {
     Claim {

@@ -3,18 +3,24 @@
 #![tactic(auto)]
 
 mod answering;
+mod change;
 mod changing;
+mod changing_row;
+mod changing_rows;
 pub mod current;
 mod entries;
 pub mod held;
 mod inserting;
 pub mod kept;
 mod locked;
+mod newest;
 mod picking;
 mod probe;
+pub mod progress;
 mod reading;
 pub mod running;
 mod selecting;
+mod setting;
 pub mod store;
 mod suspending;
 mod writing;
@@ -22,6 +28,7 @@ mod writing;
 pub use current::Current;
 pub use held::{Entry, Held};
 pub use kept::KeptRows;
-pub use running::{Ran, run_slice};
+pub use progress::Progress;
+pub use running::{Ran, go_on};
 pub use store::LocalStore;
 pub use suspending::{suspend, wake};

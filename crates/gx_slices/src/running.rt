@@ -1,20 +1,27 @@
-ghost use Rattle.std.specs.Prelude.{◌≡◌, IfOk};
-ghost use Rattle.gx_rules.specs.Segments.{Seg};
-ghost use Rattle.gx_rules.specs.Running.{runs_slice};
+ghost use Rattle.std.specs.Prelude.{◌≡◌, IfOk, option_map};
+ghost use Rattle.std.specs.Option.{ForSome};
+ghost use Rattle.gx_rules.specs.Changes.{change_of, changes_rows, goes_on_at};
+ghost use Rattle.gx_rules.specs.Running.{goes_on, runs_slice};
+ghost use Rattle.gx_node.specs.Phases.{suspended_of};
 ghost use Rattle.gx_slices.specs.Agrees.{IsHeld};
-ghost use Rattle.gx_slices.specs.Ran.{HasRun, MayRun};
+ghost use Rattle.gx_slices.specs.Changing.{Found, change_in, slice_in};
+ghost use Rattle.gx_slices.specs.Ran.{HasProgressed, MayGoOn, MayRun};
 
+use crate::change::Change;
 use crate::changing::Writer;
+use crate::changing_rows::{change_rows, go_on_at};
 use crate::held::Held;
 use crate::inserting::insert;
 use crate::locked::lock;
+use crate::progress::{Progress, after, answered};
 use crate::selecting::select;
-use gx_ids::{Gxid, Mem, Seq};
+use gx_dsnap::Snapshot;
+use gx_ids::{Cid, Gxid, Mem, Node, Rid, Seq, Table};
 use gx_msg::Reply;
 use gx_node::Suspended;
 use gx_outside::Passed;
 use gx_store::Mark;
-use gx_tree::{Schema, Slice};
+use gx_tree::{Assign, Cond, Level, Schema, Slice};
 use std::alloc::Global;
 
 /// What a command did here: its marks in order, and its answer, which is kept besides as the transaction's last.
@@ -24,43 +31,191 @@ pub struct Ran {
     pub reply: Reply,
 }
 
-/// Runs a command's slice for a transaction that reads or writes here, and keeps its answer. A SELECT answers the rows that
-/// the snapshot shows and on which its condition is true, or FAILED for the first fault; an INSERT adds its rows; a LOCK TABLE, of
-/// which the lock is held, has nothing more to do. The slice has entered the gate at this node. After want of memory what is held
-/// is spent.
-pub fn run_slice(
+// A command that changes rows has a snapshot.
+fn change_by(
+    alloc: Global,
+    held: &mut Held,
+    writer: Writer,
+    level: Level,
+    snapshot: Option<Snapshot>,
+    set: Option<Seq<Assign>>,
+    cond: Option<Cond>,
+) -> Mem<Progress>
+    ghost found: { Found }
+    requires was { held.old ≡ found.was }
+    requires held { IsHeld found.tables held.old found.start }
+    requires may { MayRun found.tables found.start writer.gxid writer.cid snapshot (slice_in writer.table set cond) }
+    requires node { writer.node ≡ found.start.node }
+    ensures { IfOk result (λ progress. HasProgressed found.tables held.new writer.gxid progress
+        (changes_rows found.start writer.gxid (change_of writer.cid level snapshot (slice_in writer.table set cond)))) }
+{
+    match snapshot {
+        Some(snapshot) => {
+            let change = Change {
+                writer,
+                level,
+                snapshot,
+                set,
+                cond,
+            };
+            change_rows(alloc, held, change)
+        }
+        None => unreachable!(),
+    }
+}
+
+// Runs a command's slice for a transaction that reads or writes here, and keeps its answer. A SELECT answers the rows that
+// the snapshot shows and on which its condition is true, or FAILED for the first fault; an INSERT adds its rows; an UPDATE or DELETE
+// goes through those that it selects; a LOCK TABLE, of which the lock is held, has nothing more to do.
+fn run_slice(
+    alloc: Global,
+    tables: &[Schema],
+    node: Node,
+    held: &mut Held,
+    gxid: Gxid,
+    command: Suspended,
+) -> Mem<Progress>
+    ghost found: { Found }
+    requires tables { tables.now ≡ found.tables }
+    requires was { held.old ≡ found.was }
+    requires held { IsHeld found.tables held.old found.start }
+    requires may { MayRun found.tables found.start gxid command.cid command.snapshot command.slice }
+    requires node { node ≡ found.start.node }
+    ensures { IfOk result (λ progress. HasProgressed found.tables held.new gxid progress (runs_slice found.start gxid command.cid command.level command.snapshot command.slice)) }
+{
+    let Suspended {
+        cid,
+        level,
+        snapshot,
+        slice,
+        ..
+    } = command;
+    match slice {
+        Slice::Select(query) => Ok(answered(select(
+            alloc, tables, held, gxid, cid, &snapshot, query,
+        )?)),
+        Slice::Insert(table, rows) => {
+            let writer = writer_of(node, gxid, cid, table);
+            Ok(answered(insert(alloc, tables, held, writer, rows)?))
+        }
+        Slice::Update(table, assigns, cond) => {
+            let writer = writer_of(node, gxid, cid, table);
+            change_by(alloc, held, writer, level, snapshot, Some(assigns), cond)
+        }
+        Slice::Delete(table, cond) => {
+            let writer = writer_of(node, gxid, cid, table);
+            change_by(alloc, held, writer, level, snapshot, None, cond)
+        }
+        Slice::Lock(_, _) => Ok(answered(lock(alloc, tables, held, gxid, cid)?)),
+    }
+}
+
+fn writer_of(node: Node, gxid: Gxid, cid: Cid, table: Table) -> Writer
+    ensures { result ≡ record { node = node; gxid = gxid; cid = cid; table = table } }
+{
+    Writer {
+        node,
+        gxid,
+        cid,
+        table,
+    }
+}
+
+// The command's change of rows, if it is one and has a snapshot.
+fn change_in_slice(
+    node: Node,
+    gxid: Gxid,
+    cid: Cid,
+    level: Level,
+    snapshot: Option<Snapshot>,
+    slice: Slice,
+) -> Option<Change>
+    ensures change { option_map change_in result ≡ change_of cid level snapshot slice }
+    ensures writer { ForSome result (λ change. (change.writer.node ≡ node) × (change.writer.gxid ≡ gxid)) }
+{
+    let snapshot = snapshot?;
+    match slice {
+        Slice::Update(table, assigns, cond) => Some(Change {
+            writer: writer_of(node, gxid, cid, table),
+            level,
+            snapshot,
+            set: Some(assigns),
+            cond,
+        }),
+        Slice::Delete(table, cond) => Some(Change {
+            writer: writer_of(node, gxid, cid, table),
+            level,
+            snapshot,
+            set: None,
+            cond,
+        }),
+        _ => None,
+    }
+}
+
+// A slice that has waited at a row goes on there.
+fn go_on_at_row(
+    alloc: Global,
+    node: Node,
+    held: &mut Held,
+    gxid: Gxid,
+    command: Suspended,
+    row: Rid,
+    marks: Vec<Mark>,
+) -> Mem<Progress>
+    ghost found: { Found }
+    requires was { held.old ≡ found.was }
+    requires held { IsHeld found.tables held.old found.start }
+    requires may { MayGoOn found.tables found.start gxid (suspended_of command) }
+    requires node { node ≡ found.start.node }
+    ensures { IfOk result (λ progress. HasProgressed found.tables held.new gxid progress
+        (goes_on_at (record { seg = found.start; marks = marks.items }) gxid (change_of command.cid command.level command.snapshot command.slice) row (suspended_of command))) }
+{
+    let Suspended {
+        cid,
+        level,
+        snapshot,
+        slice,
+        count,
+        rows,
+        ..
+    } = command;
+    match change_in_slice(node, gxid, cid, level, snapshot, slice) {
+        Some(change) => go_on_at(alloc, held, change, row, rows, count, marks),
+        None => Ok(Progress {
+            marks: Seq::from_vec(marks),
+            reply: None,
+        }),
+    }
+}
+
+/// A command's slice that has its table's lock, or that has got what it has waited for, goes on: behind these marks it runs, or looks
+/// again at the row at which it has waited. It keeps its answer; or it waits again. The slice has entered the gate at this node.
+/// After want of memory what is held is spent.
+pub fn go_on(
     alloc: Global,
     tables: &[Schema],
     passed: Passed,
     held: &mut Held,
     gxid: Gxid,
     command: Suspended,
-) -> Mem<Ran>
-    ghost s: { Seg }
-    requires held { IsHeld tables.now held.old s }
-    requires may { MayRun tables.now s gxid command.cid command.snapshot command.slice }
-    requires passed { passed ≡ s.node }
-    ensures { IfOk result (λ ran. HasRun tables.now held.new gxid ran (runs_slice s gxid command.cid command.level command.snapshot command.slice)) }
+    marks: Vec<Mark>,
+) -> Mem<Progress>
+    ghost found: { Found }
+    requires tables { tables.now ≡ found.tables }
+    requires was { held.old ≡ found.was }
+    requires held { IsHeld found.tables held.old found.start }
+    requires may { MayGoOn found.tables found.start gxid (suspended_of command) }
+    requires passed { passed ≡ found.start.node }
+    ensures { IfOk result (λ progress. HasProgressed found.tables held.new gxid progress
+        (goes_on (record { seg = found.start; marks = marks.items }) gxid (suspended_of command) command.row)) }
 {
-    let Suspended {
-        cid,
-        level: _,
-        snapshot,
-        slice,
-    } = command;
-    match slice {
-        Slice::Select(query) => select(alloc, tables, held, gxid, cid, &snapshot, query),
-        Slice::Insert(table, rows) => {
-            let writer = Writer {
-                node: passed.node(),
-                gxid,
-                cid,
-                table,
-            };
-            let ran = insert(alloc, tables, held, writer, rows)?;
-            Ok(ran)
+    let node = passed.node();
+    match command.row {
+        Some(row) => go_on_at_row(alloc, node, held, gxid, command, row, marks),
+        None => {
+            let progress = run_slice(alloc, tables, node, held, gxid, command)?;
+            after(marks, progress)
         }
-        Slice::Lock(_, _) => lock(alloc, tables, held, gxid, cid),
-        _ => unreachable!(),
     }
 }

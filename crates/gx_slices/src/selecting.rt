@@ -95,7 +95,13 @@ fn selection(
     }
 }
 
-fn faulted(alloc: Global, gxid: Gxid, cid: Cid, row: KeyedRow, fault: ArithFault) -> Mem<Ran>
+pub(crate) fn faulted(
+    alloc: Global,
+    gxid: Gxid,
+    cid: Cid,
+    row: KeyedRow,
+    fault: ArithFault,
+) -> Mem<Ran>
     ensures { IfOk result (IsFaulted gxid cid row fault) }
 {
     let KeyedRow { rid, row } = row;
@@ -115,7 +121,7 @@ fn faulted(alloc: Global, gxid: Gxid, cid: Cid, row: KeyedRow, fault: ArithFault
     })
 }
 
-fn cause(fault: ArithFault) -> Cause
+pub(crate) fn cause(fault: ArithFault) -> Cause
     ensures { result ≡ cause_of fault }
 {
     match fault {

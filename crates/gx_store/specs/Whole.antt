@@ -1,4 +1,5 @@
--- INSERTs as the language has them: each with a tuple, and each tuple with a value for the distribution column.
+-- INSERTs and UPDATEs as the language has them: each INSERT with a tuple, and each tuple with a value for the distribution column,
+-- which no UPDATE sets.
 use Rattle.std.specs.Prelude.{List, [], ◌∷◌}
 use Rattle.gx_tree.specs.declared.expr.Expr.{Expr}
 use Rattle.gx_tree.specs.declared.schema.Dist.{Dist}
@@ -6,6 +7,7 @@ use Rattle.gx_tree.specs.declared.schema.Schema.{Schema}
 use Rattle.gx_tree.specs.declared.stmt.Stmt.{Stmt}
 use Rattle.gx_tree.specs.declared.stmt.Stmt.TheVariants as stmt
 use Rattle.gx_meaning.specs.Constants.{HasKey}
+use Rattle.gx_meaning.specs.Statements.{KeepsKey}
 use Rattle.gx_script.specs.declared.Line.{Line}
 use Rattle.gx_store.specs.Writes.{dist_of}
 
@@ -16,6 +18,7 @@ HaveKeys dist (tuple ∷ tuples) = HasKey dist tuple × HaveKeys dist tuples
 abbrev pub IsWholeStmt : List Schema → Stmt → Type 0
 IsWholeStmt tables (stmt.Insert table []) = ⊥
 IsWholeStmt tables (stmt.Insert table (tuple ∷ tuples)) = HaveKeys (dist_of tables table.0) (tuple ∷ tuples)
+IsWholeStmt tables (stmt.Update table assigns cond) = KeepsKey (dist_of tables table.0) assigns
 IsWholeStmt tables _ = Unit {0}
 
 abbrev pub AreInsertsWhole : List Schema → List Line → Type 0

@@ -1,0 +1,4 @@
+//! What UPDATE and DELETE do: laws over the rule of a segment.
+#![tactic(auto)]
+
+pub mod laws;

@@ -1,0 +1,28 @@
+// A command that changes rows of a table.
+ghost use Rattle.std.specs.Prelude.{◌≡◌};
+ghost use Rattle.gx_slices.specs.Changing.{slice_in};
+
+use crate::changing::Writer;
+use gx_dsnap::Snapshot;
+use gx_ids::Seq;
+use gx_tree::{Assign, Cond, Level, Slice};
+
+/// UPDATE by its SET list, or DELETE, which has none.
+#[derive(Drop)]
+pub(crate) struct Change {
+    pub writer: Writer,
+    pub level: Level,
+    pub snapshot: Snapshot,
+    pub set: Option<Seq<Assign>>,
+    pub cond: Option<Cond>,
+}
+
+// The slice of the command.
+pub(crate) fn slice_of(writer: Writer, set: Option<Seq<Assign>>, cond: Option<Cond>) -> Slice
+    ensures { result ≡ slice_in writer.table set cond }
+{
+    match set {
+        Some(assigns) => Slice::Update(writer.table, assigns, cond),
+        None => Slice::Delete(writer.table, cond),
+    }
+}

@@ -1,0 +1,321 @@
+// A command that changes rows: it selects them, and then goes through them one behind the other, until it is done, waits or fails.
+ghost use Rattle.std.specs.Prelude.{◌≡◌, ◌+◌, ◌<◌, ◌^◌, ◌∷◌, [], true, false, drop, length, map, IfOk, Some};
+ghost use Rattle.gx_msg.specs.declared.reply.Reply.TheVariants.{Done};
+ghost use Rattle.gx_node.specs.Phases.{phase_of};
+ghost use Rattle.gx_rules.specs.Changes as rule;
+ghost use Rattle.gx_tree.specs.declared.part.Part.TheVariants as part;
+ghost use Rattle.gx_rules.specs.Segments.{local_of};
+ghost use Rattle.gx_rules.specs.Slices as slices;
+ghost use Rattle.gx_rules.specs.Fits.{is_waiting};
+ghost use Rattle.gx_slices.specs.Agrees.{IsHeld};
+ghost use Rattle.gx_slices.specs.Changing.{Ending, Found, HasGone, IsAnswered, IsAt, IsFree, IsTaken, MayChange, Stage, change_in, rid_at};
+ghost use Rattle.gx_slices.specs.Ran.{HasProgressed};
+ghost use Rattle.gx_slices.specs.Waiting.{is_open};
+
+use crate::answering::{has_written, keep_answer};
+use crate::change::{Change, slice_of};
+use crate::changing::Writer;
+use crate::changing_row::{RowEnd, does_row};
+use crate::entries::take_entry;
+use crate::held::{Entry, Held};
+use crate::picking::{Picked, pick};
+use crate::progress::Progress;
+use crate::running::Ran;
+use crate::selecting::faulted;
+use crate::suspending::put_suspended;
+use gx_ids::{Mem, Rid, Seq, copies};
+use gx_msg::{Cause, Reply};
+use gx_node::Suspended;
+use gx_store::Mark;
+use gx_tree::{KeyedRow, Part};
+use std::alloc::Global;
+
+/// How a command stands behind its rows: it is done with them, with so many written; or it waits at one, with those left; or it
+/// fails.
+#[derive(Drop)]
+pub(crate) enum RowsEnd {
+    Done(u64),
+    Waiting(Rid, Seq<Rid>, u64),
+    Failing(Cause),
+}
+
+// The rows behind one.
+fn rows_behind(alloc: Global, rids: &[Rid], index: usize) -> Mem<Seq<Rid>>
+    requires { index < length rids.now }
+    ensures { IfOk result (λ rows. rows ≡ drop (index + 1) rids.now) }
+{
+    Ok(Seq::from_vec(copies(alloc, &rids[index + 1..])?))
+}
+
+// One of the rows.
+fn does_row_at(
+    alloc: Global,
+    change: &Change,
+    held: &mut Held,
+    entry: &mut Entry,
+    rids: &[Rid],
+    index: usize,
+    marks: &mut Vec<Mark>,
+) -> Mem<RowEnd>
+    ghost stage: { Stage }
+    requires may { MayChange stage.found.tables stage.found.start change.now }
+    requires at { IsAt stage change.now.writer.gxid held.old entry.old marks.old.items }
+    requires free { IsFree stage change.now.writer.gxid }
+    requires inside { index < length rids.now }
+    ensures { IfOk result (λ end. Came stage change.now.writer.gxid held.new entry.new marks.new.items
+        (rule.does_row stage.moved change.now.writer.gxid (change_in change.now) (rid_at rids.now index)) end) }
+{
+    does_row(alloc, change, held, entry, rids[index], marks)
+}
+
+// Goes through rows, with so many written before.
+fn go_through(
+    alloc: Global,
+    change: &Change,
+    held: &mut Held,
+    entry: &mut Entry,
+    rids: &[Rid],
+    before: u64,
+    marks: &mut Vec<Mark>,
+) -> Mem<RowsEnd>
+    ghost stage: { Stage }
+    requires may { MayChange stage.found.tables stage.found.start change.now }
+    requires at { IsAt stage change.now.writer.gxid held.old entry.old marks.old.items }
+    requires free { IsFree stage change.now.writer.gxid }
+    requires room { before + length rids.now < 2 ^ 64 }
+    ensures { IfOk result (λ end. HasGone stage (change_in change.now) change.now.writer.gxid held.new entry.new marks.new.items
+        (rule.goes_through change.now.writer.gxid (change_in change.now) rids.now stage.moved before) end) }
+{
+    let mut count = before;
+    for index in 0..rids.len() {
+        match does_row_at(alloc, change, held, entry, rids, index, marks)? {
+            RowEnd::Written => count += 1,
+            RowEnd::Skipped => {}
+            RowEnd::Waiting => {
+                return Ok(RowsEnd::Waiting(rids[index], rows_behind(alloc, rids, index)?, count));
+            }
+            RowEnd::Failing(cause) => return Ok(RowsEnd::Failing(cause)),
+        }
+    }
+    Ok(RowsEnd::Done(count))
+}
+
+// ITS END
+// It answers.
+fn answer(
+    alloc: Global,
+    held: &mut Held,
+    change: &Change,
+    entry: Entry,
+    reply: Reply,
+    marks: Vec<Mark>,
+) -> Mem<Progress>
+    ghost ending: { Ending }
+    requires taken { IsTaken ending.stage change.now.writer.gxid }
+    requires may { MayChange ending.stage.found.tables ending.stage.found.start change.now }
+    requires answered { IsAnswered ending.stage (change_in change.now) change.now.writer.gxid held.old entry marks.items ending.turn reply }
+    ensures { IfOk result (λ progress. HasProgressed ending.stage.found.tables held.new change.now.writer.gxid progress ending.turn) }
+{
+    keep_answer(
+        alloc,
+        held,
+        change.writer.gxid,
+        change.writer.cid,
+        entry,
+        &reply,
+    )?;
+    Ok(Progress {
+        marks: Seq::from_vec(marks),
+        reply: Some(reply),
+    })
+}
+
+// It is suspended at a row.
+fn stop(
+    held: &mut Held,
+    change: Change,
+    entry: Entry,
+    row: Rid,
+    rows: Seq<Rid>,
+    count: u64,
+    marks: Vec<Mark>,
+) -> Mem<Progress>
+    ghost ending: { Ending }
+    requires taken { IsTaken ending.stage change.writer.gxid }
+    requires may { MayChange ending.stage.found.tables ending.stage.found.start change }
+    requires gone { HasGone ending.stage (change_in change) change.writer.gxid held.old entry marks.items ending.turn (RowsEnd.Waiting row rows count) }
+    ensures { IfOk result (λ progress. HasProgressed ending.stage.found.tables held.new change.writer.gxid progress ending.turn) }
+{
+    let Change {
+        writer,
+        level,
+        snapshot,
+        set,
+        cond,
+    } = change;
+    let waiting = Suspended {
+        cid: writer.cid,
+        level,
+        snapshot: Some(snapshot),
+        slice: slice_of(writer, set, cond),
+        count,
+        row: Some(row),
+        rows,
+    };
+    put_suspended(held, writer.gxid, entry, waiting)?;
+    Ok(Progress {
+        marks: Seq::from_vec(marks),
+        reply: None,
+    })
+}
+
+fn done(alloc: Global, change: &Change, entry: &Entry, count: u64) -> Reply
+    ensures { result ≡ Done change.now.writer.cid (slices.has_written (phase_of entry.now.local.phase)) count (part.Rows []) }
+{
+    Reply::Done {
+        cid: change.writer.cid,
+        wrote: has_written(entry.local.phase),
+        count,
+        part: Part::Rows(Seq::new(alloc)),
+    }
+}
+
+fn close(
+    alloc: Global,
+    held: &mut Held,
+    change: Change,
+    entry: Entry,
+    end: RowsEnd,
+    marks: Vec<Mark>,
+) -> Mem<Progress>
+    ghost ending: { Ending }
+    requires taken { IsTaken ending.stage change.writer.gxid }
+    requires may { MayChange ending.stage.found.tables ending.stage.found.start change }
+    requires gone { HasGone ending.stage (change_in change) change.writer.gxid held.old entry marks.items ending.turn end }
+    ensures { IfOk result (λ progress. HasProgressed ending.stage.found.tables held.new change.writer.gxid progress ending.turn) }
+{
+    match end {
+        RowsEnd::Done(count) => {
+            let reply = done(alloc, &change, &entry, count);
+            answer(alloc, held, &change, entry, reply, marks)
+        }
+        RowsEnd::Waiting(row, rows, count) => stop(held, change, entry, row, rows, count, marks),
+        RowsEnd::Failing(cause) => {
+            let cid = change.writer.cid;
+            answer(
+                alloc,
+                held,
+                &change,
+                entry,
+                Reply::Failed { cid, cause },
+                marks,
+            )
+        }
+    }
+}
+
+// THE COMMAND
+// From a row on, which is the first or the one at which it has waited.
+fn go_from(
+    alloc: Global,
+    held: &mut Held,
+    change: Change,
+    mut entry: Entry,
+    rids: &[Rid],
+    count: u64,
+    mut marks: Vec<Mark>,
+) -> Mem<Progress>
+    ghost ending: { Ending }
+    requires taken { IsTaken ending.stage change.writer.gxid }
+    requires may { MayChange ending.stage.found.tables ending.stage.found.start change }
+    requires at { IsAt ending.stage change.writer.gxid held.old entry marks.items }
+    requires free { IsFree ending.stage change.writer.gxid }
+    requires room { count + length rids.now < 2 ^ 64 }
+    requires turn { ending.turn ≡ rule.goes_through change.writer.gxid (change_in change) rids.now ending.stage.moved count }
+    ensures { IfOk result (λ progress. HasProgressed ending.stage.found.tables held.new change.writer.gxid progress ending.turn) }
+{
+    let end = go_through(alloc, &change, held, &mut entry, rids, count, &mut marks)?;
+    close(alloc, held, change, entry, end, marks)
+}
+
+fn rids_of(alloc: Global, rows: &[KeyedRow]) -> Mem<Vec<Rid>>
+    ensures { IfOk result (λ rids. rids.items ≡ map (λ row. row.rid) rows.now) }
+{
+    let rids: Vec<Rid> = rows.iter().map(|row| row.rid).collect(alloc)?;
+    Ok(rids)
+}
+
+// The condition is tested on every row that is shown, before any is changed.
+pub(crate) fn change_rows(alloc: Global, held: &mut Held, change: Change) -> Mem<Progress>
+    ghost found: { Found }
+    requires was { held.old ≡ found.was }
+    requires held { IsHeld found.tables held.old found.start }
+    requires may { MayChange found.tables found.start change }
+    requires open_here { is_open (local_of found.start change.writer.gxid).phase ≡ true }
+    requires free { is_waiting (local_of found.start change.writer.gxid) ≡ false }
+    ensures { IfOk result (λ progress. HasProgressed found.tables held.new change.writer.gxid progress
+        (rule.changes_rows found.start change.writer.gxid (Some (change_in change)))) }
+{
+    let Writer {
+        gxid,
+        cid,
+        table,
+        ..
+    } = change.writer;
+    let rows = held
+        .store
+        .shown_rows_from(table, &change.snapshot, Some(gxid), cid)?;
+    let entry = take_entry(alloc, &mut held.entries, gxid);
+    match pick(alloc, &change.cond, rows)? {
+        Picked::Rows(kept) => {
+            let rids = rids_of(alloc, kept.as_slice())?;
+            go_from(
+                alloc,
+                held,
+                change,
+                entry,
+                rids.as_slice(),
+                0,
+                Vec::new(alloc),
+            )
+        }
+        Picked::Fault(row, fault) => {
+            let Ran { marks, reply } = faulted(alloc, gxid, cid, row, fault)?;
+            answer(alloc, held, &change, entry, reply, marks.into_vec())
+        }
+    }
+}
+
+fn rids_from(alloc: Global, row: Rid, rows: &[Rid]) -> Mem<Vec<Rid>>
+    ensures { IfOk result (λ rids. rids.items ≡ row ∷ rows.now) }
+{
+    let mut rids = Vec::new(alloc);
+    rids.push(row)?;
+    rids.extend_from_slice(rows)?;
+    Ok(rids)
+}
+
+// The row at which it has waited is looked at again, and then the rows left.
+pub(crate) fn go_on_at(
+    alloc: Global,
+    held: &mut Held,
+    change: Change,
+    row: Rid,
+    rows: Seq<Rid>,
+    count: u64,
+    marks: Vec<Mark>,
+) -> Mem<Progress>
+    ghost found: { Found }
+    requires was { held.old ≡ found.was }
+    requires held { IsHeld found.tables held.old found.start }
+    requires may { MayChange found.tables found.start change }
+    requires open_here { is_open (local_of found.start change.writer.gxid).phase ≡ true }
+    requires free { is_waiting (local_of found.start change.writer.gxid) ≡ false }
+    requires room { count + length rows + 1 < 2 ^ 64 }
+    ensures { IfOk result (λ progress. HasProgressed found.tables held.new change.writer.gxid progress
+        (rule.goes_through change.writer.gxid (change_in change) (row ∷ rows) (record { seg = found.start; marks = marks.items }) count)) }
+{
+    let rids = rids_from(alloc, row, rows.as_slice())?;
+    let entry = take_entry(alloc, &mut held.entries, change.writer.gxid);
+    go_from(alloc, held, change, entry, rids.as_slice(), count, marks)
+}
