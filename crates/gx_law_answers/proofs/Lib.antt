@@ -3,8 +3,10 @@ pub mod Rising
 pub mod Dealt
 pub mod Shown
 pub mod Homes
+pub mod Rows
 pub mod Select
 pub mod Truths
+pub mod Work
 pub mod Posts
 pub mod Running
 pub mod Arrivals

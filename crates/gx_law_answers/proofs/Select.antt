@@ -42,99 +42,13 @@ use Rattle.gx_law_sessions.specs.Gathering.{AreAll, AreApart, Taken, nodes_taken
 use Rattle.gx_law_writes.specs.Homes.{IsPlacedMark}
 use Rattle.gx_law_answers.specs.Keyed.{AreRowsKeyed}
 use Rattle.gx_law_changes.specs.Parts.{IsPartOf, is_home}
-use Rattle.gx_law_answers.specs.Parts.{SaysItsPart}
+use Rattle.gx_law_answers.specs.Parts.{HasItsPart, SaysItsPart}
 use Rattle.gx_law_answers.proofs.Dealt.{AreApartNodes, at, divided, part}
 use Rattle.gx_law_answers.proofs.Homes.{IsHome, home}
 use Rattle.gx_law_answers.proofs.Merging.{merged-answer}
+use Rattle.gx_law_answers.proofs.Rows.{Stands, all-both, all-filter, all-stand, keeps-false, owner, part-is, seen, seen-rises}
 use Rattle.gx_law_answers.proofs.Rising.{each-at, filter-at, filter-comm, filter-twice, from-filter, passing, rising-filter}
 use Rattle.gx_law_changes.proofs.Views.{view-is, view_rows}
-
--- ---- places are among the segments
-one-more : (r n : ℕ) → r < n → 1 + r ≤ n
-one-more r n l = omega (arith, l)
-
-remainder-below : (z : ℤ) (n : ℕ) → 1 ≤ n → remainder z n < n
-remainder-below (pos k) n some = mod_below k n some
-remainder-below (negsuc k) n some = less n (k % n) some
-  where
-    less : (n r : ℕ) → 1 ≤ n → n - 1 - r < n
-    less n r l = omega (arith, l)
-
-value-last : (n : ℕ) (v : Value) → 1 ≤ n → value_place n v ≤ n
-value-last n (Int z) some = one-more (remainder z n) n (remainder-below z n some)
-value-last n (Text t) some = one-more (hash_of t % n) n (mod_below (hash_of t) n some)
-
-key-last : (n : ℕ) (v : Option Value) → 1 ≤ n → key_place n v ≤ n
-key-last n None some = some
-key-last n (Some v) some = value-last n v some
-
-row-last : (n : ℕ) (dist : Dist) (row : List Value) (rid : Rid) → 1 ≤ n → row_place n dist row rid ≤ n
-row-last n (By column) row rid some = key-last n (slice_get row column) some
-row-last n Randomly row rid some = one-more ((rid.gxid.0 + rid.ordinal) % n) n (mod_below (rid.gxid.0 + rid.ordinal) n some)
-
-value-first : (n : ℕ) (v : Value) → 1 ≤ value_place n v
-value-first n (Int z) = omega arith
-value-first n (Text t) = omega arith
-
-key-first : (n : ℕ) (v : Option Value) → 1 ≤ key_place n v
-key-first n None = omega arith
-key-first n (Some v) = value-first n v
-
-row-first : (n : ℕ) (dist : Dist) (row : List Value) (rid : Rid) → 1 ≤ row_place n dist row rid
-row-first n (By column) row rid = key-first n (slice_get row column)
-row-first n Randomly row rid = omega arith
-
-pub has-from : (k from count : ℕ) → from ≤ k → k < from + count → has (at k) (nodes_from from count) ≡ true
-has-from k from zero low high = absurd (omega (arith, low, high))
-has-from k from (suc count) low high = by_test (eqb from k) refl (has-from k (from + 1) count)
-  where
-    self : (b : Bool) → b ≡ true → (b || has (at k) (nodes_from (from + 1) count)) ≡ true
-    self true e = refl
-    self false e = cc
-
-    above : eqb from k ≡ false → from + 1 ≤ k
-    above e = grind (arith, nat_tests)
-
-    by_test : (b : Bool) → eqb from k ≡ b → (from + 1 ≤ k → k < from + 1 + count → has (at k) (nodes_from (from + 1) count) ≡ true) → (eqb from k || has (at k) (nodes_from (from + 1) count)) ≡ true
-    by_test true e more = self (eqb from k) e
-    by_test false e more = or_right (eqb from k) _ (more (above e) (omega (arith, high)))
-
--- ---- a row is placed at a node of the target, or the condition is false on it
-stands : (n : ℕ) (dist : Dist) (cond : Option Cond) (target : Target) (row : List Value) (rid : Rid) → 1 ≤ n → IsWithin dist row → IsFalseOutside n dist cond target → (has (at (row_place n dist row rid)) (nodes_of n target) ≡ true) ⊎ (condition_on cond row ≡ Ok false)
-stands n dist cond AllOfThem row rid some within outside = inl (has-from (row_place n dist row rid) 1 n (row-first n dist row rid) (below (row_place n dist row rid) n (row-last n dist row rid some)))
-  where
-    below : (k n : ℕ) → k ≤ n → k < 1 + n
-    below k n l = omega (arith, l)
-stands n dist cond (One node) row rid some within outside = by_test cond outside (eqb node.0 (row_place n dist row rid)) refl
-  where
-    apart : eqb node.0 (row_place n dist row rid) ≡ false → row_place n dist row rid ≢ node.0
-    apart e f = grind (arith, nat_tests)
-
-    here : (b : Bool) → b ≡ true → (b || false) ≡ true
-    here true e = refl
-    here false e = cc
-
-    by_test : (cond : Option Cond) → IsFalseOutside n dist cond (One node) → (b : Bool) → eqb node.0 (row_place n dist row rid) ≡ b → ((eqb node.0 (row_place n dist row rid) || false) ≡ true) ⊎ (condition_on cond row ≡ Ok false)
-    by_test cond outside true e = inl (here _ e)
-    by_test None outside false e = absurd (outside (row_place n dist row rid) (apart e))
-    by_test (Some c) outside false e = inr (outside row rid within (apart e))
-
-keeps-false : (cond : Option Cond) (row : KeyedRow) → condition_on cond row.row ≡ Ok false → keeps cond row ≡ false
-keeps-false None row e = absurd (cc)
-keeps-false (Some c) row e = rw e refl
-
--- ---- lists of rows
-all-both : (P Q R : KeyedRow → Type 0) → ((row : KeyedRow) → P row → Q row → R row) → (rows : List KeyedRow) → AllByRecursion P rows → AllByRecursion Q rows → AllByRecursion R rows
-all-both P Q R f [] p q = tt
-all-both P Q R f (row ∷ rows) p q = (f row p.0 q.0, all-both P Q R f rows p.1 q.1)
-
-all-filter : (t : KeyedRow → Bool) (P : KeyedRow → Type 0) (rows : List KeyedRow) → AllByRecursion P rows → AllByRecursion P (filter t rows)
-all-filter t P [] all = tt
-all-filter t P (row ∷ rows) all = by_test (t row) (all-filter t P rows all.1)
-  where
-    by_test : (b : Bool) → AllByRecursion P (filter t rows) → AllByRecursion P (cond b (row ∷ filter t rows) (filter t rows))
-    by_test true more = (all.0, more)
-    by_test false more = more
 
 apart-nodes : (taken : List Taken) → AreApart taken → AreApartNodes (nodes_taken taken)
 apart-nodes [] a = tt
@@ -148,111 +62,58 @@ module _ (script : Script) (some : 1 ≤ script.segments) (keyed : AreRowsKeyed 
   abbrev dist : Dist
   dist = dist_of script.tables query.table.0
 
-  abbrev owner : KeyedRow → ℕ
-  owner row = row_place n dist row.row row.rid
+  abbrev its-owner : KeyedRow → ℕ
+  its-owner row = owner script some keyed marks before placed g c query.table query.cond row
 
-  -- the rows that the command sees
-  abbrev pub seen : List KeyedRow
-  seen = view_rows marks before (Some (g, c)) query.table
-
-  seen-rises : AreRising seen
-  seen-rises = (view-is marks before (Some (g, c)) query.table).rising
-
-  seen-at : (rid : Rid) → row_at seen rid ≡ image marks before (Some (g, c)) query.table rid
-  seen-at rid = (view-is marks before (Some (g, c)) query.table).images rid
-
-  its-home : (rid : Rid) (row : List Value) → image marks before (Some (g, c)) query.table rid ≡ Some row → (node : Node) × (node_of marks rid ≡ Some node) × IsHome script query.table rid row node
-  its-home rid row e = home script keyed marks (is_shown_to (Some (g, c)) before) query.table rid marks row placed e
-
-  -- a node's rows are those that are placed there
-  here : (node : Node) (rid : Rid) (o : Option (List Value)) → image marks before (Some (g, c)) query.table rid ≡ o → (if is_home (node_of marks rid) node then o else None) ≡ passing (λ row. owner row == node.0) rid o
-  here node rid None e = nothing (is_home (node_of marks rid) node)
-    where
-      nothing : (b : Bool) → (let x : Option (List Value) = if b then None else None in x) ≡ None
-      nothing true = refl
-      nothing false = refl
-  here node rid (Some row) e =
-      let h = its-home rid row e in
-      ap (λ o. if is_home o node then Some row else None) h.1 ∙ ap (λ k. if k == node.0 then Some row else None) h.2.place
-
-  part-is : (node : Node) (rows : List KeyedRow) → IsPartOf marks before node g c query.table rows → rows ≡ part owner seen node
-  part-is node rows p =
-      rows-same rows (part owner seen node) p.rising (rising-filter (λ row. owner row == node.0) seen seen-rises)
-      (λ rid. p.images rid ∙ here node rid (image marks before (Some (g, c)) query.table rid) refl ∙ ap (passing (λ row. owner row == node.0) rid) (sym (seen-at rid)) ∙ sym (filter-at (λ row. owner row == node.0) seen rid seen-rises))
+  abbrev all-seen : List KeyedRow
+  all-seen = seen script some keyed marks before placed g c query.table query.cond
 
   abbrev kept : List KeyedRow
-  kept = filter (keeps query.cond) seen
+  kept = filter (keeps query.cond) all-seen
 
   abbrev Says : Taken → Type 0
   Says t = SaysItsPart marks before t.node g c query t.part
 
-  its-part : (t : Taken) → Says t → t.part ≡ part_of query (part owner kept t.node)
-  its-part t s = s.said ∙ ap (λ rows. part_of query (filter (keeps query.cond) rows)) (part-is t.node s.rows s.of) ∙ ap (part_of query) (filter-comm (keeps query.cond) (λ row. owner row == t.node.0) seen)
+  has-part : (t : Taken) → Says t → HasItsPart marks before t.node g c query.table query.cond
+  has-part t s = record { rows = s.rows; of = s.of; whole = s.whole }
 
-  parts-are : (taken : List Taken) → AreAll Says taken → parts_taken taken ≡ map (part_of query) (map (part owner kept) (nodes_taken taken))
+  pub have-parts : (taken : List Taken) → AreAll (λ t. SaysItsPart marks before t.node g c query t.part) taken → AreAll (λ t. HasItsPart marks before t.node g c query.table query.cond) taken
+  have-parts [] all = tt
+  have-parts (t ∷ ts) all = (has-part t all.0, have-parts ts all.1)
+
+  its-part : (t : Taken) → Says t → t.part ≡ part_of query (part its-owner kept t.node)
+  its-part t s =
+      s.said ∙ ap (λ rows. part_of query (filter (keeps query.cond) rows)) (part-is script some keyed marks before placed g c query.table query.cond t.node s.rows s.of)
+      ∙ ap (part_of query) (filter-comm (keeps query.cond) (λ row. its-owner row == t.node.0) all-seen)
+
+  parts-are : (taken : List Taken) → AreAll Says taken → parts_taken taken ≡ map (part_of query) (map (part its-owner kept) (nodes_taken taken))
   parts-are [] all = refl
-  parts-are (t ∷ ts) all = ap (λ p. p ∷ parts_taken ts) (its-part t all.0) ∙ ap (λ ps. part_of query (part owner kept t.node) ∷ ps) (parts-are ts all.1)
-
-  -- false-true fault
-  abbrev Whole : KeyedRow → Type 0
-  Whole row = (truth : Bool) × (condition_on query.cond row.row ≡ Ok truth)
-
-  its-rows : (t : Taken) → Says t → AllByRecursion (λ row. (owner row == t.node.0) ≡ true → Whole row) seen
-  its-rows t s = from-filter (λ row. owner row == t.node.0) Whole seen (subst (AllByRecursion Whole) (part-is t.node s.rows s.of) (recursion_from_All Whole s.rows s.whole))
-
-  all-rows : (taken : List Taken) → AreAll Says taken → AllByRecursion (λ row. has (at (owner row)) (nodes_taken taken) ≡ true → Whole row) seen
-  all-rows [] all = never seen
-    where
-      never : (rows : List KeyedRow) → AllByRecursion (λ row. false ≡ true → Whole row) rows
-      never [] = tt
-      never (row ∷ rows) = (λ e. absurd (false-true e), never rows)
-  all-rows (t ∷ ts) all = all-both _ _ _ one seen (its-rows t all.0) (all-rows ts all.1)
-    where
-      either : (a b : Bool) (A : Type 0) → (a || b) ≡ true → (a ≡ true → A) → (b ≡ true → A) → A
-      either true b A e f h = f refl
-      either false b A e f h = h e
-
-      one : (row : KeyedRow) → ((owner row == t.node.0) ≡ true → Whole row) → (has (at (owner row)) (nodes_taken ts) ≡ true → Whole row) → has (at (owner row)) (t.node ∷ nodes_taken ts) ≡ true → Whole row
-      one row f h e = either (eqb t.node.0 (owner row)) (has (at (owner row)) (nodes_taken ts)) (Whole row) e (λ x. f (eqb-back t.node.0 (owner row) x)) h
+  parts-are (t ∷ ts) all = ap (λ p. p ∷ parts_taken ts) (its-part t all.0) ∙ ap (λ ps. part_of query (part its-owner kept t.node) ∷ ps) (parts-are ts all.1)
 
   module _ (taken : List Taken) (says : AreAll Says taken) (distinct : AreApart taken) (all : (i : Node) → has i (nodes_of n (target_of n dist query.cond)) ≡ has i (nodes_taken taken)) where
-    abbrev Stands : KeyedRow → Type 0
-    Stands row = (has (at (owner row)) (nodes_taken taken) ≡ true) ⊎ (condition_on query.cond row.row ≡ Ok false)
+    abbrev StandsThere : KeyedRow → Type 0
+    StandsThere row = Stands script some keyed marks before placed g c query.table query.cond taken all row
 
-    all-stand : AllByRecursion Stands seen
-    all-stand = each-at Stands seen seen-rises one
+    kept-within : AllByRecursion (λ row. has (at (its-owner row)) (nodes_taken taken) ≡ true) kept
+    kept-within =
+        all-both StandsThere (λ row. keeps query.cond row ≡ true) (λ row. has (at (its-owner row)) (nodes_taken taken) ≡ true) one kept
+        (all-filter (keeps query.cond) StandsThere all-seen (all-stand script some keyed marks before placed g c query.table query.cond taken all))
+        (recursion_from_All (λ row. keeps query.cond row ≡ true) kept (filter_passes (keeps query.cond) all-seen))
       where
-        taken-too : (row : KeyedRow) → (has (at (owner row)) (nodes_of n (target_of n dist query.cond)) ≡ true) ⊎ (condition_on query.cond row.row ≡ Ok false) → Stands row
-        taken-too row (inl e) = inl (sym (all (at (owner row))) ∙ e)
-        taken-too row (inr e) = inr e
-
-        one : (rid : Rid) (row : List Value) → row_at seen rid ≡ Some row → Stands (record { rid = rid; row = row })
-        one rid row e = taken-too (record { rid = rid; row = row }) (stands n dist query.cond (target_of n dist query.cond) row rid some (its-home rid row (sym (seen-at rid) ∙ e)).2.within (target_of-outside n dist query.cond))
-
-    pub whole : FaultsOnNone query.cond seen
-    whole = All-from_recursion Whole seen (all-both Stands (λ row. has (at (owner row)) (nodes_taken taken) ≡ true → Whole row) Whole one seen all-stand (all-rows taken says))
-      where
-        one : (row : KeyedRow) → Stands row → (has (at (owner row)) (nodes_taken taken) ≡ true → Whole row) → Whole row
-        one row (inl e) f = f e
-        one row (inr e) f = (false, e)
-
-    kept-within : AllByRecursion (λ row. has (at (owner row)) (nodes_taken taken) ≡ true) kept
-    kept-within = all-both Stands (λ row. keeps query.cond row ≡ true) (λ row. has (at (owner row)) (nodes_taken taken) ≡ true) one kept (all-filter (keeps query.cond) Stands seen all-stand) (recursion_from_All (λ row. keeps query.cond row ≡ true) kept (filter_passes (keeps query.cond) seen))
-      where
-        one : (row : KeyedRow) → Stands row → keeps query.cond row ≡ true → has (at (owner row)) (nodes_taken taken) ≡ true
+        one : (row : KeyedRow) → StandsThere row → keeps query.cond row ≡ true → has (at (its-owner row)) (nodes_taken taken) ≡ true
         one row (inl e) t = e
         one row (inr e) t = absurd (false-true (sym (keeps-false query.cond row e) ∙ t))
 
     parts-of : ArePartsOf query kept (parts_taken taken)
     parts-of = record {
-      dealt = map (part owner kept) (nodes_taken taken);
-      division = divided owner (nodes_taken taken) kept (apart-nodes taken distinct) kept-within;
+      dealt = map (part its-owner kept) (nodes_taken taken);
+      division = divided its-owner (nodes_taken taken) kept (apart-nodes taken distinct) kept-within;
       each = parts-are taken says;
-      rising = rising-filter (keeps query.cond) seen seen-rises;
-      kept = filter_passes (keeps query.cond) seen;
+      rising = rising-filter (keeps query.cond) all-seen (seen-rises script some keyed marks before placed g c query.table query.cond);
+      kept = filter_passes (keeps query.cond) all-seen;
     }
 
-    pub merged : merged_answer query (parts_taken taken) ≡ answer_of query seen
+    pub merged : merged_answer query (parts_taken taken) ≡ answer_of query (seen script some keyed marks before placed g c query.table query.cond)
     merged =
         merged-answer query kept (parts_taken taken) parts-of
-        ∙ ap (λ (rows : List KeyedRow). limited query.limit (cond query.grouped (grouped_answer query rows) (plain_answer query rows))) (filter-twice (keeps query.cond) seen)
+        ∙ ap (λ (rows : List KeyedRow). limited query.limit (cond query.grouped (grouped_answer query rows) (plain_answer query rows))) (filter-twice (keeps query.cond) all-seen)

@@ -45,7 +45,6 @@ use Rattle.gx_rules.proofs.ShownRows.{rising-rows_in, row_at-rows_in}
 use Rattle.gx_law_reads.specs.Sights.{IsOnlyAt}
 use Rattle.gx_law_writes.specs.Homes.{IsPlaced, IsPlacedMark}
 use Rattle.gx_law_writes.proofs.Placed.{same-place}
-use Rattle.gx_law_answers.specs.Parts.{IsPartOf, is_home}
 
 module _ (script : Script) (all : List Mark) (node : Node) (rid : Rid) where
   -- a write of the row at the node

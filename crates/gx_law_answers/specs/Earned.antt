@@ -1,10 +1,11 @@
 -- What a segment's answer to a command was earned by: its rule gave it when the command came, or when its slice went on behind a
--- wait for its lock, and what it says was so then.
+-- wait for its table's lock or at a row, and what it says was so then.
 use Rattle.std.specs.Prelude.{◌≡◌, ◌≤◌, ◌<◌, ◌⊎◌, ℕ, Bool, true, List, [], ◌∷◌, ◌++◌, slice_get, take, Some, None}
 use Rattle.std.specs.declared.option.Option.{Option}
 use Rattle.gx_ids.specs.declared.ids.Cid.{Cid}
 use Rattle.gx_ids.specs.declared.ids.Gxid.{Gxid}
 use Rattle.gx_ids.specs.declared.ids.Node.{Node}
+use Rattle.gx_ids.specs.declared.rid.Rid.{Rid}
 use Rattle.gx_tree.specs.declared.slice.Slice.{Slice}
 use Rattle.gx_tree.specs.declared.stmt.Level.{Level}
 use Rattle.gx_dsnap.specs.declared.snapshot.Snapshot.{Snapshot}
@@ -22,6 +23,7 @@ use Rattle.gx_store.specs.Ordered.{IsSegment}
 use Rattle.gx_store.specs.Points.{marks_in}
 use Rattle.gx_store.specs.Refusals.{the_coordinator}
 use Rattle.gx_rules.specs.AtSegment.{on_message, raised, resumes}
+use Rattle.gx_rules.specs.Changes.{end_lock, tuple_lock}
 use Rattle.gx_rules.specs.Machine.{World, found, world_of}
 use Rattle.gx_rules.specs.Segments.{Suspended, after_marks, local_of, reply}
 use Rattle.gx_rules.specs.Locks.{hold_mark}
@@ -63,9 +65,14 @@ pub record WasReceived (steps : List Step) (node : Node) (m : Message) : Type 0 
   pub there : step.stamp.node ≡ node
   pub received : Receives (take place steps) step.event the_coordinator node m
 
+-- what a slice waits for: its table's lock; or, at a row, the row's lock, or a moment's lock on its writer's end
+abbrev pub WaitsFor : Script → Gxid → Slice → Option Rid → Claim → Type 0
+WaitsFor script g slice None wanted = slice_lock script g slice ≡ wanted
+WaitsFor script g slice (Some rid) wanted = (tuple_lock g rid ≡ wanted) ⊎ ((writer : Gxid) × (end_lock g writer ≡ wanted))
+
 -- The event is the resumption of the transaction's slice, which came with an EXEC before, of the last command there, and has waited
--- since then, unanswered; what it waits for is its table's lock, which is free now; it takes it and runs by the rule, and so it is
--- answered.
+-- since then, unanswered; what it waits for, its table's lock or at a row that row's or its writer's end, is free now; it goes on by
+-- the rule, from the start or at that row, and so it is answered.
 pub record RunsBehindWait (script : Script) (w : World) (event : Event) (segment : Node) (g : Gxid) (c : Cid)
     (level : Level) (snapshot : Option Snapshot) (slice : Slice) (answer : Reply) : Type 0 where
   pub is : event ≡ Resume segment g
@@ -81,13 +88,14 @@ pub record RunsBehindWait (script : Script) (w : World) (event : Event) (segment
   pub unanswered : (local_of (w.segs segment.0) g).answer ≡ None
   pub wanted : Claim
   pub wants : wait_of (w.segs segment.0).locks g ≡ Some wanted
-  pub lock : slice_lock script g slice ≡ wanted
+  pub lock : WaitsFor script g slice waiting.row wanted
   pub free : is_free (w.segs segment.0).locks.holds wanted ≡ true
   pub ran : resumes (w.segs segment.0) g (wait_of (w.segs segment.0).locks g) (local_of (w.segs segment.0) g).suspended
-      ≡ goes_on (is_granted (w.segs segment.0) g wanted) g waiting
+      ≡ goes_on (is_granted (w.segs segment.0) g wanted) g waiting waiting.row
   pub given : (resumes (w.segs segment.0) g (wait_of (w.segs segment.0).locks g) (local_of (w.segs segment.0) g).suspended).outs ≡ reply g answer ∷ []
 
--- in the last of these events, with a step of the segment, a command's slice took its lock there and ran, and so it was answered
+-- in the last of these events, with a step of the segment, a command's slice took its lock there and ran, or went on, and so it was
+-- answered
 pub record IsGiven (script : Script) (events : Events) (segment : Node) (g : Gxid) (c : Cid) (level : Level) (snapshot : Option Snapshot) (slice : Slice) (answer : Reply) : Type 0 where
   pub before : Events
   pub event : Event
