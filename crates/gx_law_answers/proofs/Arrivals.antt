@@ -21,7 +21,8 @@ use Rattle.gx_store.specs.Ordered.{IsSegment}
 use Rattle.gx_rules.specs.AtCoordinator.{coord_can, coord_rule}
 use Rattle.gx_rules.specs.AtSegment.{on_message, seg_rule}
 use Rattle.gx_rules.specs.Fits.{reads_nothing}
-use Rattle.gx_rules.specs.Locks.{hold_mark}
+use Rattle.gx_rules.specs.Changes.{Change, change_of, changes_rows}
+use Rattle.gx_rules.specs.Locks.{hold_mark, with_hold}
 use Rattle.gx_rules.specs.Machine.{World, can_here, coord_did, delivered, does, found, new_world, seg_did, world_of}
 use Rattle.gx_rules.specs.Segments.{Seg, SegTurn, after_marks, local_of}
 use Rattle.gx_rules.specs.Running.{runs_slice, slice_lock, suspended_slice}
@@ -29,6 +30,7 @@ use Rattle.gx_law_order.proofs.Lists.{Each}
 use Rattle.gx_law_order.proofs.Ordered.{world_well}
 use Rattle.gx_law_sessions.proofs.World.{after-last}
 use Rattle.gx_law_reads.proofs.Waiting.{new-to-run}
+use Rattle.gx_law_writes.proofs.Next.{new-next}
 use Rattle.gx_law_writes.proofs.Turns.{NoRow, base}
 use Rattle.gx_law_writes.proofs.Waiting.{Waited, Ways, message-ways, new-untold}
 use Rattle.gx_law_answers.specs.Earned.{Events}
@@ -41,6 +43,14 @@ or-true false = refl
 
 not-here : (n : ℕ) → 1 ≤ n → eqb n 0 ≡ false
 not-here n l = grind (arith, nat_tests)
+
+-- a slice that changes rows runs as the change that it is
+pub change-runs : (b : Seg) (g : Gxid) (c : Cid) (level : Level) (v : Snapshot) (y : Slice) (k : Change) → change_of c level (Some v) y ≡ Some k → runs_slice b g c level (Some v) y ≡ changes_rows b g (Some k)
+change-runs b g c level v (slice.Update t a d) k e = ap (changes_rows b g) e
+change-runs b g c level v (slice.Delete t d) k e = ap (changes_rows b g) e
+change-runs b g c level v (slice.Select q) k e = absurd (cc)
+change-runs b g c level v (slice.Insert t rows) k e = absurd (cc)
+change-runs b g c level v (slice.Lock t m) k e = absurd (cc)
 
 module _ (script : Script) (some : 1 ≤ script.segments) (numbered_lines : AreLinesNumbered [] script.lines) (es : Events) (from to : Node) (number : ℕ) (envelope : Envelope) (fails : Bool) (place : IsSegment script to) (is_found : found from to number (world_of script es).sent ≡ Some envelope) where
   abbrev w : World
@@ -64,9 +74,9 @@ module _ (script : Script) (some : 1 ≤ script.segments) (numbered_lines : AreL
       late : World
       late = seg_did (world_of script es) to (event.Receive from to number) (seg_rule script ((world_of script es).segs to.0) (here.Deliver from envelope) fails)
 
-  at-once : (g : Gxid) (c : Cid) (level : Level) (q : Option Snapshot) (horizon : Gxid) (y : Slice) → (is_some q || reads_nothing y) ≡ true → envelope.message ≡ message.Exec g c level q horizon y → (s.locals g.0).last < c.0 → (locks : Locks) (wanted : Claim) → slice_lock script g y ≡ wanted → turn ≡ after_marks (hold_mark s.node wanted ∷ []) (runs_slice (base s horizon locks) g c level q y)
+  at-once : (g : Gxid) (c : Cid) (level : Level) (q : Option Snapshot) (horizon : Gxid) (y : Slice) → (is_some q || reads_nothing y) ≡ true → envelope.message ≡ message.Exec g c level q horizon y → (s.locals g.0).last < c.0 → (s.locals g.0).suspended ≡ None → (locks : Locks) (wanted : Claim) → slice_lock script g y ≡ wanted → turn ≡ after_marks (hold_mark s.node wanted ∷ []) (runs_slice (base s horizon locks) g c level q y)
       → Runs script es to (event.Receive from to number) fails (here.Deliver from envelope) y
-  at-once g c level q horizon y reads told fresh locks wanted lock ran =
+  at-once g c level q horizon y reads told fresh alone locks wanted lock ran =
       record {
         g = g;
         c = c;
@@ -76,7 +86,9 @@ module _ (script : Script) (some : 1 ≤ script.segments) (numbered_lines : AreL
         horizon = horizon;
         came = its;
         untold = λ n k wrote count part. new-untold script some numbered_lines es to place.0 g c n k wrote count part fresh;
+        next = new-next (s.locals g.0) c.0 alone fresh;
         like = s;
+        named = refl;
         versions = refl;
         answers = λ h. refl;
         sight = λ unaborted v same. (subst (λ z. Came script es to (message.Exec g c level z horizon y)) same its).view_is place.0 (new-to-run w to g c unaborted fresh);
@@ -109,7 +121,13 @@ module _ (script : Script) (some : 1 ≤ script.segments) (numbered_lines : AreL
     where
       by_way : Ways script s envelope.message turn → Doings script es to (event.Receive from to number) fails (here.Deliver from envelope)
       by_way (inl q) = inl q
-      by_way (inr (inl z)) = inr (inr (slice.Select z.query, at-once z.g z.c z.level (Some z.snapshot) z.horizon (slice.Select z.query) refl z.is z.fresh z.locks z.wanted z.locked z.ran))
-      by_way (inr (inr (inl z))) = inr (inr (slice.Insert z.table z.rows, at-once z.g z.c z.level (Some z.snapshot) z.horizon (slice.Insert z.table z.rows) refl z.is z.fresh z.locks z.wanted z.locked z.ran))
+      by_way (inr (inl z)) = inr (inr (inl (slice.Select z.query, at-once z.g z.c z.level (Some z.snapshot) z.horizon (slice.Select z.query) refl z.is z.fresh z.alone z.locks z.wanted z.locked z.ran)))
+      by_way (inr (inr (inl z))) = inr (inr (inl (slice.Insert z.table z.rows, at-once z.g z.c z.level (Some z.snapshot) z.horizon (slice.Insert z.table z.rows) refl z.is z.fresh z.alone z.locks z.wanted z.locked z.ran)))
       by_way (inr (inr (inr (inl z)))) = inr (inl (idle z))
-      by_way (inr (inr (inr (inr z)))) = inr (inr (slice.Lock z.table z.mode, at-once z.g z.c z.level z.snapshot z.horizon (slice.Lock z.table z.mode) (or-true (is_some z.snapshot)) z.is z.fresh z.locks z.wanted z.locked z.ran))
+      by_way (inr (inr (inr (inr (inl z))))) = inr (inr (inl (slice.Lock z.table z.mode, at-once z.g z.c z.level z.snapshot z.horizon (slice.Lock z.table z.mode) (or-true (is_some z.snapshot)) z.is z.fresh z.alone z.locks z.wanted z.locked z.ran)))
+      by_way (inr (inr (inr (inr (inr z))))) =
+          inr (inr (inl (
+            z.change.slice,
+            at-once z.g z.change.cid z.change.level (Some z.change.snapshot) z.horizon z.change.slice refl z.is z.fresh z.alone (with_hold s.locks z.wanted) z.wanted z.locked
+            (z.ran ∙ ap (after_marks (hold_mark s.node z.wanted ∷ [])) (sym (change-runs (base s z.horizon (with_hold s.locks z.wanted)) z.g z.change.cid z.change.level z.change.snapshot z.change.slice z.change z.changes))),
+          )))

@@ -1,7 +1,7 @@
 -- Every answer to a command that a segment sends was earned when it was sent first.
 use Rattle.std.proofs.Common.{◌≡◌, ◌≤◌, ◌⊎◌, inl, inr, ℕ, List, [], ◌∷◌, ◌++◌, Option, Some, None, Bool, true, false, refl, sym, subst, ap, ◌∙◌, if◌then◌else◌, eqb, arith, append_assoc, append-nil}
 use Rattle.std.proofs.lemmas.Bool.{eqb-true}
-use Rattle.std.specs.Prelude.{length, take}
+use Rattle.std.specs.Prelude.{◌+◌, length, slice_get, take}
 use Rattle.gx_lemmas.proofs.Options.{some-same}
 use Rattle.gx_lemmas.proofs.Numbers.{eqb-self}
 use Rattle.gx_ids.specs.declared.ids.Cid.{Cid}
@@ -28,8 +28,10 @@ use Rattle.gx_store.specs.declared.node.NodeEvent.{NodeEvent}
 use Rattle.gx_store.specs.declared.run.Step.{Step}
 use Rattle.gx_store.specs.Commands.{IsSnapshotAt}
 use Rattle.gx_store.specs.Marks.{is_aborted}
+use Rattle.gx_store.specs.Messages.{IsSent}
 use Rattle.gx_store.specs.Ordered.{IsSegment}
 use Rattle.gx_store.specs.Points.{marks_in}
+use Rattle.gx_store.specs.Refusals.{the_coordinator}
 use Rattle.gx_store.specs.Waits.{claim, is_held}
 use Rattle.gx_waits.specs.declared.object.Object.TheVariants.{Relation}
 use Rattle.gx_modes.specs.declared.modes.Mode.{Mode}
@@ -40,7 +42,7 @@ use Rattle.gx_rules.specs.Locks.{hold_mark}
 use Rattle.gx_rules.specs.Sending.{numbered}
 use Rattle.gx_rules.specs.Shown.{shown}
 use Rattle.gx_rules.specs.Slices.{adds, answers, first_fault, has_written, inserted, inserts, reads, selects}
-use Rattle.gx_law_order.proofs.Lists.{Each, each_weaker}
+use Rattle.gx_law_order.proofs.Lists.{Each, each_weaker, get_last}
 use Rattle.gx_law_order.proofs.Ordered.{world_well}
 use Rattle.gx_law_order.proofs.World.{marks-last}
 use Rattle.gx_law_sessions.specs.Orders.{IsOrder, IsReadBy, IsServed}
@@ -92,7 +94,7 @@ module _ (script : Script) (es : Events) (x : Event × Bool) (node : Node) where
 
   earned-later : (g : Gxid) (c : Cid) (r : Reply) → IsEarned script es node g c r → IsEarned script (es ++ x ∷ []) node g c r
   earned-later g c r t =
-      record { upto = t.upto; rest = t.rest ++ x ∷ []; split = ap (λ z. z ++ x ∷ []) t.split ∙ append_assoc t.upto t.rest (x ∷ []); level = t.level; snapshot = t.snapshot; slice = t.slice; given = t.given; order = t.order; taken = t.taken; truth = t.truth }
+      record { upto = t.upto; rest = t.rest ++ x ∷ []; split = ap (λ z. z ++ x ∷ []) t.split ∙ append_assoc t.upto t.rest (x ∷ []); level = t.level; snapshot = t.snapshot; slice = t.slice; given = t.given; number = t.number; sent = t.sent; order = t.order; taken = t.taken; truth = t.truth }
 
   pub answer-later : (g : Gxid) (r : Reply) → IsReplyEarned script es node g r → IsReplyEarned script (es ++ x ∷ []) node g r
   answer-later g (reply.Done c w n p) t = earned-later g c (reply.Done c w n p) t
@@ -183,6 +185,20 @@ module _ (script : Script) (some : 1 ≤ script.segments) (numbered_lines : AreL
         shown-part ms (λ rid first e. only-at script ms first rid ms placed e) served.place to (raised z.like z.horizon) (z.versions ∙ (world-hold script some es to.0 place.0).versions) v z.g z.c query.table
         (λ rid only. z.sight unaborted v has_it served.place served.d served.taken query.table rid only)
 
+  -- an answer that it gives is sent in its step
+  answer-sent : (g : Gxid) (r : Reply) → turn.outs ≡ reply_out g r ∷ [] → IsSent late.steps to the_coordinator (turn.seg.sent + 1) (message.Answer g r)
+  answer-sent g r given =
+      record {
+        step = length (world_of script es).steps;
+        mark = length turn.marks;
+        sending = record {
+          sender = late-step;
+          at = get_last (world_of script es).steps [] late-step;
+          node = refl;
+          sent = ap (λ outs. slice_get (turn.marks ++ numbered (λ node. turn.seg.sent) outs) (length turn.marks)) given ∙ get_last turn.marks [] (mark.Sent the_coordinator (turn.seg.sent + 1) (message.Answer g r));
+        };
+      }
+
   pub record TurnEarned : Type 0 where
     pub kept : (h : ℕ) → IsKeptEarned script behind to (gx h) (turn.seg.locals h).answer
     pub outs : Each (λ (o : Out). IsWordEarned script behind to o.message) turn.outs
@@ -199,6 +215,8 @@ module _ (script : Script) (some : 1 ≤ script.segments) (numbered_lines : AreL
           snapshot = z.snapshot;
           slice = y;
           given = record { before = es; event = e; fails = fails; last = refl; step = late-step; steps = ap (λ (v : World). v.steps) is-late; place = refl; ran = z.given r given };
+          number = turn.seg.sent + 1;
+          sent = subst (λ (v : World). IsSent v.steps to the_coordinator (turn.seg.sent + 1) (message.Answer z.g r)) (sym is-late) (answer-sent z.g r given);
           order = subst (λ v. IsOrder script (marks_in v.steps) to z.g z.c z.level z.snapshot y) (sym is-late) (subst (λ m. IsOrder script m to z.g z.c z.level z.snapshot y) (sym late-marks) (order-more script ms (turn.marks ++ sent) to (message.Exec z.g z.c z.level z.snapshot z.horizon y) z.came.order_is numbered_lines));
           taken = subst (λ v. z.c.0 ≤ (local_of (v.segs to.0) z.g).last) (sym is-late) (subst (λ b. z.c.0 ≤ ((if b then (seg_rule script s x fails).seg else s).locals z.g.0).last) (sym self) taken);
           truth = subst (λ v. IsTruth ms (marks_in v.steps) to z.level z.g z.c y r) (sym is-late) (subst (λ m. IsTruth ms m to z.level z.g z.c y r) (sym late-marks) (subst (λ m. IsTruth ms (ms ++ (m ++ sent)) to z.level z.g z.c y r) (sym same) truth));

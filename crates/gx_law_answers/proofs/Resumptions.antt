@@ -1,5 +1,5 @@
 -- A segment's turn when a slice goes on.
-use Rattle.std.proofs.Common.{◌≡◌, ◌≤◌, inr, ℕ, List, [], ◌∷◌, Some, None, Bool, true, false, refl, sym, subst, ap, ◌∙◌, if◌then◌else◌, cond, ◌==◌, ◌&&◌, ◌||◌, nat_lt, eqb, arith}
+use Rattle.std.proofs.Common.{◌≡◌, ◌≤◌, inl, inr, ℕ, List, [], ◌∷◌, Option, Some, None, Bool, true, false, refl, sym, subst, ap, ◌∙◌, if◌then◌else◌, cond, ◌==◌, ◌&&◌, ◌||◌, nat_lt, eqb, arith}
 use Rattle.std.proofs.lemmas.Bool.{eqb-true}
 use Rattle.std.proofs.lemmas.Bool.Decides.{nat_tests}
 use Rattle.std.specs.Prelude.{filter}
@@ -7,11 +7,13 @@ use Rattle.gx_ids.specs.declared.ids.Cid.{Cid}
 use Rattle.gx_ids.specs.declared.ids.Gxid.{Gxid}
 use Rattle.gx_ids.specs.declared.ids.Node.{Node}
 use Rattle.gx_ids.specs.declared.ids.Table.{Table}
+use Rattle.gx_ids.specs.declared.rid.Rid.{Rid}
 use Rattle.gx_dsnap.specs.Gxids.{is_below}
 use Rattle.gx_dsnap.specs.Snapshot.{sees}
 use Rattle.gx_dsnap.specs.declared.snapshot.Snapshot.{Snapshot}
 use Rattle.gx_locks.specs.Locks.{resumed, wait_of}
 use Rattle.gx_msg.specs.declared.message.Message.TheVariants as message
+use Rattle.gx_msg.specs.declared.reply.Reply.{Reply}
 use Rattle.gx_script.specs.declared.Script.{Script}
 use Rattle.gx_store.specs.declared.event.Event.TheVariants as event
 use Rattle.gx_store.specs.declared.node.NodeEvent.TheVariants as here
@@ -23,17 +25,19 @@ use Rattle.gx_rules.specs.AtCoordinator.{coord_can, coord_rule}
 use Rattle.gx_rules.specs.AtSegment.{raised, resumes, seg_rule}
 use Rattle.gx_rules.specs.Locks.{hold_mark}
 use Rattle.gx_rules.specs.Machine.{World, coord_did, new_world, seg_can, seg_did, world_of}
-use Rattle.gx_rules.specs.Segments.{Phase, Seg, SegTurn, Version, after_marks, has_committed, local_of, with_local}
+use Rattle.gx_rules.specs.Segments.{Phase, Seg, SegTurn, Version, after_marks, has_committed, local_of, reply as reply_out, with_local}
 use Rattle.gx_rules.specs.Shown.{last_images, rows_in, shown}
 use Rattle.gx_rules.specs.Running.{runs_slice}
 use Rattle.gx_law_order.proofs.Ordered.{world_well}
-use Rattle.gx_law_order.proofs.Waiting.{GoesOn, goes-on-is, going-on}
+use Rattle.gx_law_order.proofs.Suspended.{IsWantedAt}
+use Rattle.gx_law_order.proofs.Waiting.{GoesOn, GoesOnAtRow, GoesOnSo, RunsNow, goes-on-is, going-on, going-ways}
 use Rattle.gx_law_sessions.proofs.World.{after-last}
 use Rattle.gx_law_reads.proofs.Waiting.{waits-to-run}
+use Rattle.gx_law_writes.proofs.Next.{next_command, waits-next}
 use Rattle.gx_law_writes.proofs.Waiting.{waits-untold}
-use Rattle.gx_law_answers.specs.Earned.{Events}
+use Rattle.gx_law_answers.specs.Earned.{Events, RunsBehindWait, WaitsFor}
 use Rattle.gx_law_answers.proofs.Posts.{Came, came-before}
-use Rattle.gx_law_answers.proofs.Running.{Doings, IsLate, Runs}
+use Rattle.gx_law_answers.proofs.Running.{AtItsRow, Doings, IsLate, Runs}
 
 -- WHERE A SLICE NO LONGER WAITS
 -- the segment without the wait of the transaction's slice
@@ -99,8 +103,41 @@ module _ (script : Script) (some : 1 ≤ script.segments) (numbered_lines : AreL
   o : GoesOn script w to.0 g
   o = going-on script w (world_well script some es) to.0 g ok
 
-  behind-wait : Runs script es to (event.Resume to g) fails (here.Resume g) o.slice.slice
-  behind-wait =
+  its : Came script es to (message.Exec g o.slice.cid o.slice.level o.slice.snapshot o.waits.horizon o.slice.slice)
+  its = came-before script some es to _ o.waits.come
+
+  still-next : next_command (local_of s g) ≤ o.slice.cid.0
+  still-next = waits-next (local_of s g) o.slice o.is o.waits.last
+
+  waits-for : (row : Option Rid) → IsWantedAt script g o.slice.slice row o.wanted → WaitsFor script g o.slice.slice row o.wanted
+  waits-for None l = l
+  waits-for (Some rid) (inl l) = inl l
+  waits-for (Some rid) (inr l) = inr (l.writer, l.is)
+
+  waited : (r : Reply) → turn.outs ≡ reply_out g r ∷ [] → RunsBehindWait script w (event.Resume to g) to g o.slice.cid o.slice.level o.slice.snapshot o.slice.slice r
+  waited r given =
+      record {
+        is = refl;
+        waiting = o.slice;
+        waits = o.is;
+        command = refl;
+        level_is = refl;
+        snapshot_is = refl;
+        slice_is = refl;
+        horizon = o.waits.horizon;
+        came = record { place = o.waits.come.place; step = o.waits.come.step; at = o.waits.come.stands; there = o.waits.come.node; received = o.waits.come.received };
+        last = o.waits.last;
+        unanswered = o.waits.unanswered;
+        wanted = o.wanted;
+        wants = o.claims;
+        lock = waits-for o.slice.row o.lock;
+        free = o.free;
+        ran = goes-on-is s g o.wanted o.slice o.claims o.is;
+        given = given;
+      }
+
+  behind-wait : RunsNow script s g o.slice o.wanted turn → Runs script es to (event.Resume to g) fails (here.Resume g) o.slice.slice
+  behind-wait now =
       record {
         g = g;
         c = o.slice.cid;
@@ -110,41 +147,25 @@ module _ (script : Script) (some : 1 ≤ script.segments) (numbered_lines : AreL
         horizon = o.waits.horizon;
         came = its;
         untold = λ n k wrote count part. waits-untold script some numbered_lines es to place.0 g o.slice n k wrote count part o.is;
+        next = still-next;
         like = unsuspended s g;
+        named = refl;
         versions = refl;
         answers = λ h. answer-of s g h;
         sight = λ unaborted v same k d taken table rid only. ap (λ rows. row_at rows rid) (shown-still s g o.waits.horizon v o.slice.cid table) ∙ (subst (λ z. Came script es to (message.Exec g o.slice.cid o.slice.level z o.waits.horizon o.slice.slice)) same its).view_is place.0 (waits-to-run script w (world_well script some es) to g o.slice o.is unaborted) k d taken table rid only;
         locks = resumed s.locks g (Some o.wanted);
         wanted = o.wanted;
-        lock = o.lock;
-        ran = ran ∙ ap (λ (t : Seg). after_marks (hold_mark s.node o.wanted ∷ []) (runs_slice (record t { locks = resumed s.locks g (Some o.wanted) }) g o.slice.cid o.slice.level o.slice.snapshot o.slice.slice)) (sym (raised-same (unsuspended s g) o.waits.horizon o.waits.raised));
-        given = λ r given.
-            inr (record {
-              is = refl;
-              waiting = o.slice;
-              waits = o.is;
-              command = refl;
-              level_is = refl;
-              snapshot_is = refl;
-              slice_is = refl;
-              horizon = o.waits.horizon;
-              came = record { place = o.waits.come.place; step = o.waits.come.step; at = o.waits.come.stands; there = o.waits.come.node; received = o.waits.come.received };
-              last = o.waits.last;
-              unanswered = o.waits.unanswered;
-              wanted = o.wanted;
-              wants = o.claims;
-              lock = o.lock;
-              free = o.free;
-              ran = ran;
-              given = given;
-            });
+        lock = now.at.lock;
+        ran = now.is ∙ ap (λ (t : Seg). after_marks (hold_mark s.node o.wanted ∷ []) (runs_slice (record t { locks = resumed s.locks g (Some o.wanted) }) g o.slice.cid o.slice.level o.slice.snapshot o.slice.slice)) (sym (raised-same (unsuspended s g) o.waits.horizon o.waits.raised));
+        given = λ r given. inr (waited r given);
       }
-    where
-      its : Came script es to (message.Exec g o.slice.cid o.slice.level o.slice.snapshot o.waits.horizon o.slice.slice)
-      its = came-before script some es to _ o.waits.come
 
-      ran : turn ≡ after_marks (hold_mark s.node o.wanted ∷ []) (runs_slice (record (unsuspended s g) { locks = resumed s.locks g (Some o.wanted) }) g o.slice.cid o.slice.level o.slice.snapshot o.slice.slice)
-      ran = goes-on-is s g o.wanted o.slice o.claims o.is
+  at-row : GoesOnAtRow s g o.slice o.wanted turn → AtItsRow script es to (event.Resume to g) fails (here.Resume g)
+  at-row now = record { g = g; on = o; goes = now; came = its; next = still-next; given = waited }
 
   pub resumption-does : Doings script es to (event.Resume to g) fails (here.Resume g)
-  resumption-does = inr (inr (o.slice.slice, behind-wait))
+  resumption-does = by_way (going-ways script w to.0 g o)
+    where
+      by_way : GoesOnSo script s g o.slice o.wanted turn → Doings script es to (event.Resume to g) fails (here.Resume g)
+      by_way (inl now) = inr (inr (inl (o.slice.slice, behind-wait now)))
+      by_way (inr now) = inr (inr (inr (at-row now)))

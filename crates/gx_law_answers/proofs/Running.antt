@@ -1,5 +1,6 @@
--- What a segment does in a turn: a slice takes its lock and runs, at once or behind a wait, or it rests, or begins to wait.
-use Rattle.std.proofs.Common.{◌≡◌, ◌⊎◌, ℕ, List, [], ◌∷◌, ◌++◌, Option, Some, None, Bool, true, false, refl, ◌||◌}
+-- What a segment does in a turn: a slice takes its lock and runs, at once or behind a wait, or goes on at its row; or it rests, or
+-- begins to wait.
+use Rattle.std.proofs.Common.{◌≡◌, ◌≤◌, ◌⊎◌, ℕ, List, [], ◌∷◌, ◌++◌, Option, Some, None, Bool, true, false, refl, ◌||◌}
 use Rattle.std.specs.Prelude.{is_some, slice_get, take}
 use Rattle.gx_ids.specs.declared.ids.Cid.{Cid}
 use Rattle.gx_ids.specs.declared.ids.Gxid.{Gxid}
@@ -29,11 +30,13 @@ use Rattle.gx_rules.specs.AtSegment.{on_event, raised, seg_rule}
 use Rattle.gx_rules.specs.Fits.{reads_nothing}
 use Rattle.gx_rules.specs.Locks.{hold_mark}
 use Rattle.gx_rules.specs.Machine.{World, seg_did, world_of}
-use Rattle.gx_rules.specs.Segments.{Seg, SegTurn, after_marks, reply as reply_out}
+use Rattle.gx_rules.specs.Segments.{Seg, SegTurn, after_marks, local_of, reply as reply_out}
 use Rattle.gx_rules.specs.Shown.{shown}
 use Rattle.gx_rules.specs.Running.{runs_slice, slice_lock}
 use Rattle.gx_law_order.proofs.Lists.{Each}
+use Rattle.gx_law_order.proofs.Waiting.{GoesOn, GoesOnAtRow}
 use Rattle.gx_law_reads.specs.Sights.{IsOnlyAt}
+use Rattle.gx_law_writes.proofs.Next.{next_command}
 use Rattle.gx_law_writes.proofs.Turns.{NoRow, Quiet, base}
 use Rattle.gx_law_answers.specs.Earned.{Events, RunsAtOnce, RunsBehindWait}
 use Rattle.gx_law_answers.proofs.Posts.{Came}
@@ -67,7 +70,9 @@ module _ (script : Script) (es : Events) (to : Node) (e : Event) (fails : Bool) 
     pub horizon : Gxid
     pub came : Came script es to (message.Exec g c level snapshot horizon y)
     pub untold : (n : Node) (number : ℕ) (wrote : Bool) (count : ℕ) (part : Part) → IsSent (world_of script es).steps to n number (message.Answer g (reply.Done c wrote count part)) → ⊥
+    pub next : next_command (local_of ((world_of script es).segs to.0) g) ≤ c.0
     pub like : Seg
+    pub named : like.node ≡ ((world_of script es).segs to.0).node
     pub versions : like.versions ≡ ((world_of script es).segs to.0).versions
     pub answers : (h : ℕ) → (like.locals h).answer ≡ (((world_of script es).segs to.0).locals h).answer
     pub sight : is_aborted (marks_in (world_of script es).steps) g ≡ false → (v : Snapshot) → snapshot ≡ Some v → (k : ℕ) (d : Cid) → slice_get (marks_in (world_of script es).steps) k ≡ Some (mark.Snap g d v) → (table : Table) (rid : Rid) → IsOnlyAt to rid (marks_in (world_of script es).steps)
@@ -78,6 +83,15 @@ module _ (script : Script) (es : Events) (to : Node) (e : Event) (fails : Bool) 
     pub ran : on_event script ((world_of script es).segs to.0) x fails ≡ after_marks (hold_mark ((world_of script es).segs to.0).node wanted ∷ []) (runs_slice (base like horizon locks) g c level snapshot y)
     pub given : (r : Reply) → (on_event script ((world_of script es).segs to.0) x fails).outs ≡ reply_out g r ∷ [] → RunsAtOnce script (world_of script es) e fails to g c level snapshot y r ⊎ RunsBehindWait script (world_of script es) e to g c level snapshot y r
 
+  -- Behind its wait at a row, where its command has come and isn't answered, it goes on at that row and through those left.
+  pub record AtItsRow : Type 0 where
+    pub g : Gxid
+    pub on : GoesOn script (world_of script es) to.0 g
+    pub goes : GoesOnAtRow ((world_of script es).segs to.0) g on.slice on.wanted (on_event script ((world_of script es).segs to.0) x fails)
+    pub came : Came script es to (message.Exec g on.slice.cid on.slice.level on.slice.snapshot on.waits.horizon on.slice.slice)
+    pub next : next_command (local_of ((world_of script es).segs to.0) g) ≤ on.slice.cid.0
+    pub given : (r : Reply) → (on_event script ((world_of script es).segs to.0) x fails).outs ≡ reply_out g r ∷ [] → RunsBehindWait script (world_of script es) e to g on.slice.cid on.slice.level on.slice.snapshot on.slice.slice r
+
   -- it tells nothing, and no row
   pub record Idle : Type 0 where
     pub marks : Each NoRow turn.marks
@@ -85,7 +99,7 @@ module _ (script : Script) (es : Events) (to : Node) (e : Event) (fails : Bool) 
     pub outs : turn.outs ≡ []
 
   abbrev pub Doings : Type 0
-  Doings = Quiet s turn ⊎ Idle ⊎ ((y : Slice) × Runs y)
+  Doings = Quiet s turn ⊎ Idle ⊎ ((y : Slice) × Runs y) ⊎ AtItsRow
 
   -- the world behind it
   abbrev pub IsLate : Type 0

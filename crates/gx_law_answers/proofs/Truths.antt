@@ -1,5 +1,5 @@
 -- What is true of a segment's answer stays true.
-use Rattle.std.proofs.Common.{◌≡◌, ◌==◌, inr, ℕ, List, [], ◌∷◌, ◌++◌, length, Option, Some, None, Bool, true, false, refl, sym, subst, ap, ◌∙◌, cond, if◌then◌else◌, ◌&&◌, ◌||◌, eqb, arith, ◌+◌, suc}
+use Rattle.std.proofs.Common.{◌≡◌, ◌≤◌, ◌==◌, inr, ℕ, List, [], ◌∷◌, ◌++◌, length, Option, Some, None, Bool, true, false, refl, sym, subst, ap, ◌∙◌, cond, if◌then◌else◌, ◌&&◌, ◌||◌, eqb, arith, ◌+◌, suc}
 use Rattle.std.proofs.Math.Seq.{take-append_seam}
 use Rattle.std.proofs.lemmas.Bool.{eqb-true, or_left}
 use Rattle.std.specs.Option.{option_or}
@@ -132,17 +132,20 @@ select-truth ms sent quiet node level g c unaborted place t query rows p wrote a
     inr (true-more ms (hold_mark at wanted ∷ sent) (tt, quiet) node level g c query _ (record { place = place; taken = t; says = record { rows = rows; of = p; whole = faults-on-none query.cond rows e; said = refl } }))
 select-truth ms sent quiet node level g c unaborted place t query rows p wrote at wanted (Some found) e =
     inr (record {
-      place = length held;
+      fault = record {
+        place = length held;
+        behind = le-same (length held) (length ms + 1) (length-push ms (hold_mark at wanted));
+        rid = found.0.rid;
+        image = Some found.0.row;
+        fault = found.1;
+        noted = subst (λ b. slice_get b (length held) ≡ Some fault) seam (get_last held sent fault);
+        unaborted = subst (λ b. is_aborted (take (length held) b) g ≡ false) seam (ap (λ b. is_aborted b g) (take-append_seam held (fault ∷ sent)) ∙ held-unaborted);
+        faults = subst (λ b. FaultsOnSeen (take (length held) b) level g c query.table query.cond found.0.rid (Some found.0.row) found.1) seam
+            (subst (λ b. FaultsOnSeen b level g c query.table query.cond found.0.rid (Some found.0.row) found.1) (sym (take-append_seam held (fault ∷ sent)))
+            (seen-fault held node level g c place (snapshot-more ms (hold_mark at wanted ∷ []) level g c place t) query rows (part-more ms (hold_mark at wanted ∷ []) (tt, tt) level g c place t node query.table rows p) found e));
+        is = refl;
+      };
       behind_lock = length-push ms (hold_mark at wanted);
-      rid = found.0.rid;
-      image = Some found.0.row;
-      fault = found.1;
-      noted = subst (λ b. slice_get b (length held) ≡ Some fault) seam (get_last held sent fault);
-      unaborted = subst (λ b. is_aborted (take (length held) b) g ≡ false) seam (ap (λ b. is_aborted b g) (take-append_seam held (fault ∷ sent)) ∙ held-unaborted);
-      faults = subst (λ b. FaultsOnSeen (take (length held) b) level g c query.table query.cond found.0.rid (Some found.0.row) found.1) seam
-          (subst (λ b. FaultsOnSeen b level g c query.table query.cond found.0.rid (Some found.0.row) found.1) (sym (take-append_seam held (fault ∷ sent)))
-          (seen-fault held node level g c place (snapshot-more ms (hold_mark at wanted ∷ []) level g c place t) query rows (part-more ms (hold_mark at wanted ∷ []) (tt, tt) level g c place t node query.table rows p) found e));
-      is = refl;
     })
   where
     held : List Mark
@@ -153,6 +156,9 @@ select-truth ms sent quiet node level g c unaborted place t query rows p wrote a
 
     seam : held ++ fault ∷ sent ≡ ms ++ (hold_mark at wanted ∷ fault ∷ sent)
     seam = append_assoc ms (hold_mark at wanted ∷ []) (fault ∷ sent)
+
+    le-same : (a b : ℕ) → a ≡ b → b ≤ a
+    le-same a b q = omega (arith, q)
 
     length-push : (xs : List Mark) (x : Mark) → length (xs ++ x ∷ []) ≡ length xs + 1
     length-push [] x = refl

@@ -107,8 +107,8 @@ pub record IsGiven (script : Script) (events : Events) (segment : Node) (g : Gxi
   pub ran : RunsAtOnce script (world_of script before) event fails segment g c level snapshot slice answer
       ⊎ RunsBehindWait script (world_of script before) event segment g c level snapshot slice answer
 
--- Behind some of the events the segment was given the answer by its rule, for a command that was its transaction's, and what the
--- answer says was so.
+-- Behind some of the events the segment was given the answer by its rule, for a command that was its transaction's, and had sent it;
+-- and what the answer says was so.
 pub record IsEarned (script : Script) (events : Events) (segment : Node) (g : Gxid) (c : Cid) (answer : Reply) : Type 0 where
   pub upto : Events
   pub rest : Events
@@ -117,6 +117,8 @@ pub record IsEarned (script : Script) (events : Events) (segment : Node) (g : Gx
   pub snapshot : Option Snapshot
   pub slice : Slice
   pub given : IsGiven script upto segment g c level snapshot slice answer
+  pub number : ℕ
+  pub sent : IsSent (world_of script upto).steps segment the_coordinator number (Answer g answer)
   pub order : IsOrder script (marks_in (world_of script upto).steps) segment g c level snapshot slice
   pub taken : c.0 ≤ (local_of ((world_of script upto).segs segment.0) g).last
   pub truth : IsTruth (marks_in (world_of script given.before).steps) (marks_in (world_of script upto).steps) segment level g c slice answer
