@@ -35,6 +35,7 @@ use Rattle.gx_law_writes.proofs.Turns.{NoRow, base}
 use Rattle.gx_law_writes.proofs.Waiting.{Waited, Ways, message-ways, new-untold}
 use Rattle.gx_law_answers.specs.Earned.{Events}
 use Rattle.gx_law_answers.proofs.Posts.{Came, came-now}
+use Rattle.gx_law_answers.proofs.Turned.{new-turns}
 use Rattle.gx_law_answers.proofs.Running.{Doings, Idle, IsLate, Runs}
 
 or-true : (b : Bool) → (b || true) ≡ true
@@ -96,6 +97,7 @@ module _ (script : Script) (some : 1 ≤ script.segments) (numbered_lines : AreL
         wanted = wanted;
         lock = lock;
         ran = ran;
+        turned = λ k changes. new-turns script some numbered_lines es from to number envelope fails g c level q horizon y k place is_found told changes fresh;
         given = λ r o. inl (record { from = from; number = number; is = refl; envelope = envelope; posted = is_found; horizon = horizon; told = told; new = fresh; locks = locks; wanted = wanted; lock = lock; ran = ran; given = o });
       }
     where

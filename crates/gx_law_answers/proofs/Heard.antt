@@ -193,7 +193,7 @@ module _ (script : Script) (some : 1 ≤ script.segments) (numbered : AreLinesNu
         late = late-behind [] before more (subst (AreReleasesLate []) marks-are (world-locked script some es).late)
 
         now : (n : Node) → is_held before n g (Relation table) mode ≡ true → is_held ms n g (Relation table) mode ≡ true
-        now n h = subst (λ m. is_held m n g (Relation table) mode ≡ true) (sym marks-are) (still-held n (claim g (Relation table) mode) before more late runs-on h)
+        now n h = subst (λ m. is_held m n g (Relation table) mode ≡ true) (sym marks-are) (still-held n (claim g (Relation table) mode) (λ m. m) before more late runs-on h)
 
     placed : Each (IsPlacedMark script ms) ms
     placed = writes.world-placed script some numbered es

@@ -7,10 +7,14 @@ pub mod Rows
 pub mod Select
 pub mod Truths
 pub mod Work
+pub mod Turned
+pub mod Changed
 pub mod Posts
 pub mod Running
 pub mod Arrivals
 pub mod Resumptions
+pub mod Stepping
+pub mod Ordered
 pub mod Origins
 pub mod Always
 pub mod Commands

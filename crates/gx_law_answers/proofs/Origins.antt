@@ -12,6 +12,7 @@ use Rattle.gx_tree.specs.declared.query.Query.{Query}
 use Rattle.gx_tree.specs.declared.row.KeyedRow.{KeyedRow}
 use Rattle.gx_tree.specs.declared.slice.Slice.{Slice}
 use Rattle.gx_tree.specs.declared.slice.Slice.TheVariants as slice
+use Rattle.gx_tree.specs.declared.stmt.Level.{Level}
 use Rattle.gx_tree.specs.declared.stmt.Stmt.TheVariants as stmt
 use Rattle.gx_dsnap.specs.declared.snapshot.Snapshot.{Snapshot}
 use Rattle.gx_meaning.specs.declared.fault.ArithFault.{ArithFault}
@@ -33,17 +34,24 @@ use Rattle.gx_store.specs.Ordered.{IsSegment}
 use Rattle.gx_store.specs.Points.{marks_in}
 use Rattle.gx_store.specs.Refusals.{the_coordinator}
 use Rattle.gx_store.specs.Waits.{claim, is_held}
-use Rattle.gx_waits.specs.declared.object.Object.TheVariants.{Relation}
+use Rattle.gx_waits.specs.declared.claim.Claim.{Claim}
+use Rattle.gx_waits.specs.declared.object.Object.{Object}
+use Rattle.gx_waits.specs.declared.object.Object.TheVariants.{Relation, Transaction, Tuple}
 use Rattle.gx_modes.specs.declared.modes.Mode.{Mode}
+use Rattle.gx_rules.specs.Changes.{Change, change_of, changes_rows, goes_through}
+use Rattle.gx_rules.specs.Running.{is_granted, unless_end}
 use Rattle.gx_rules.specs.AtSegment.{on_event, raised, seg_rule}
 use Rattle.gx_rules.specs.Machine.{World, seg_did, world_of}
-use Rattle.gx_rules.specs.Segments.{Local, Seg, SegTurn, after_marks, local_of, stays, reply as reply_out}
+use Rattle.gx_rules.specs.Segments.{Local, Seg, SegTurn, Suspended, after_marks, local_of, reply as reply_out}
 use Rattle.gx_rules.specs.Locks.{hold_mark}
 use Rattle.gx_rules.specs.Sending.{numbered}
 use Rattle.gx_rules.specs.Shown.{shown}
-use Rattle.gx_rules.specs.Slices.{adds, answers, first_fault, has_written, inserted, inserts, reads, selects}
+use Rattle.gx_rules.specs.Slices.{Moved, adds, answers, first_fault, has_written, inserted, inserts, reads, selects}
 use Rattle.gx_law_order.proofs.Lists.{Each, each_weaker, get_last}
+use Rattle.gx_law_order.proofs.AtSegments.{PlainAt, seg_stays}
+use Rattle.gx_law_order.proofs.Changing.{change-parts}
 use Rattle.gx_law_order.proofs.Ordered.{world_well}
+use Rattle.gx_law_order.proofs.Waiting.{freed}
 use Rattle.gx_law_order.proofs.World.{marks-last}
 use Rattle.gx_law_sessions.specs.Orders.{IsOrder, IsReadBy, IsServed}
 use Rattle.gx_store.specs.Language.{AreLinesNumbered}
@@ -64,11 +72,15 @@ use Rattle.gx_law_writes.proofs.Rows.{inserted-answers, inserted-written}
 use Rattle.gx_law_writes.proofs.Told.{IsWritten, written-more}
 use Rattle.gx_law_writes.proofs.Turns.{IsOldReply, IsOldWord, NoWrite, Quiet, base}
 use Rattle.gx_law_writes.proofs.World as writes
-use Rattle.gx_law_answers.specs.Earned.{Events, IsEarned, IsReplyEarned}
+use Rattle.gx_law_answers.specs.Earned.{Events, IsEarned, IsReplyEarned, RunsAtOnce, RunsBehindWait}
 use Rattle.gx_law_changes.specs.Parts.{IsPartOf}
-use Rattle.gx_law_answers.specs.Truth.{AreWritten, IsLocked, IsTruth}
+use Rattle.gx_law_answers.specs.Truth.{AreWritten, IsLocked, IsTruth, SendNothing}
 use Rattle.gx_law_writes.proofs.Pieces.{select-line, slice-is}
-use Rattle.gx_law_answers.proofs.Running.{Doings, Idle, IsLate, Runs, snapshot-of}
+use Rattle.gx_law_writes.specs.Changes.{IsTrueTurn}
+use Rattle.gx_law_answers.proofs.Changed.{AreAnswersOf, IsOfCommand, Leaves, change-leaves, change-truth, loop-leaves, says-true}
+use Rattle.gx_law_answers.proofs.Posts.{Came}
+use Rattle.gx_law_answers.proofs.Resumptions.{answer-of, unsuspended}
+use Rattle.gx_law_answers.proofs.Running.{AtItsRow, Doings, Idle, IsLate, Runs, snapshot-of}
 use Rattle.gx_law_changes.proofs.Shown.{shown-part}
 use Rattle.gx_law_answers.proofs.Shown.{only-at}
 use Rattle.gx_law_answers.proofs.Truths.{aborted-more, marks_of, reply_of, select-truth}
@@ -121,6 +133,24 @@ pub record AreEarned (script : Script) (es : Events) (w : World) : Type 0 where
 are-written : (marks : List Mark) (rows : List KeyedRow) → Each (IsWritten marks) rows → AreWritten marks rows
 are-written marks [] h = tt
 are-written marks (r ∷ rs) h = (h.0, are-written marks rs h.1)
+
+-- a segment's own marks send nothing
+plain-silent : (script : Script) (to : Node) (xs : List Mark) → Each (PlainAt script to) xs → SendNothing xs
+plain-silent script to [] d = tt
+plain-silent script to (mark.Sent n number told ∷ xs) d = absurd d.0
+plain-silent script to (m ∷ xs) d = plain-silent script to xs d.1
+
+-- what it has waited for changes no answer
+granted-answers : (s : Seg) (g : Gxid) (wanted : Claim) → AreAnswersOf s (is_granted s g wanted).seg
+granted-answers s g wanted h = by_object wanted.object ∙ answer-of s g h
+  where
+    held : Moved
+    held = record { seg = freed s g wanted; marks = hold_mark s.node wanted ∷ [] }
+
+    by_object : (o : Object) → ((unless_end wanted o held).seg.locals h).answer ≡ ((unsuspended s g).locals h).answer
+    by_object (Transaction other) = refl
+    by_object (Relation table) = refl
+    by_object (Tuple rid) = refl
 
 -- A SEGMENT'S TURN
 module _ (script : Script) (some : 1 ≤ script.segments) (numbered_lines : AreLinesNumbered [] script.lines) (es : Events) (to : Node) (e : Event) (fails : Bool) (x : NodeEvent) (place : IsSegment script to) (is-late : IsLate script es to e fails x) where
@@ -203,24 +233,28 @@ module _ (script : Script) (some : 1 ≤ script.segments) (numbered_lines : AreL
     pub kept : (h : ℕ) → IsKeptEarned script behind to (gx h) (turn.seg.locals h).answer
     pub outs : Each (λ (o : Out). IsWordEarned script behind to o.message) turn.outs
 
-  -- a slice runs
+  -- a slice runs, or goes on
+  new-answer : (g : Gxid) (c : Cid) (level : Level) (snapshot : Option Snapshot) (horizon : Gxid) (y : Slice) → Came script es to (message.Exec g c level snapshot horizon y) → (r : Reply) → turn.outs ≡ reply_out g r ∷ []
+      → RunsAtOnce script (world_of script es) e fails to g c level snapshot y r ⊎ RunsBehindWait script (world_of script es) e to g c level snapshot y r → IsTruth ms (ms ++ (turn.marks ++ sent)) to level g c y r → c.0 ≤ (turn.seg.locals g.0).last → IsEarned script behind to g c r
+  new-answer g c level snapshot horizon y came r given ran truth taken =
+      record {
+        upto = behind;
+        rest = [];
+        split = sym (append-nil behind);
+        level = level;
+        snapshot = snapshot;
+        slice = y;
+        given = record { before = es; event = e; fails = fails; last = refl; step = late-step; steps = ap (λ (v : World). v.steps) is-late; place = refl; ran = ran };
+        number = turn.seg.sent + 1;
+        sent = subst (λ (v : World). IsSent v.steps to the_coordinator (turn.seg.sent + 1) (message.Answer g r)) (sym is-late) (answer-sent g r given);
+        order = subst (λ v. IsOrder script (marks_in v.steps) to g c level snapshot y) (sym is-late) (subst (λ m. IsOrder script m to g c level snapshot y) (sym late-marks) (order-more script ms (turn.marks ++ sent) to (message.Exec g c level snapshot horizon y) came.order_is numbered_lines));
+        taken = subst (λ v. c.0 ≤ (local_of (v.segs to.0) g).last) (sym is-late) (subst (λ b. c.0 ≤ ((if b then (seg_rule script s x fails).seg else s).locals g.0).last) (sym self) taken);
+        truth = subst (λ v. IsTruth ms (marks_in v.steps) to level g c y r) (sym is-late) (subst (λ m. IsTruth ms m to level g c y r) (sym late-marks) truth);
+      }
+
   module _ (y : Slice) (z : Runs script es to e fails x y) where
     new-reply : (r : Reply) (xs : List Mark) → turn.outs ≡ reply_out z.g r ∷ [] → turn.marks ≡ xs → IsTruth ms (ms ++ (xs ++ sent)) to z.level z.g z.c y r → z.c.0 ≤ (turn.seg.locals z.g.0).last → IsEarned script behind to z.g z.c r
-    new-reply r xs given same truth taken =
-        record {
-          upto = behind;
-          rest = [];
-          split = sym (append-nil behind);
-          level = z.level;
-          snapshot = z.snapshot;
-          slice = y;
-          given = record { before = es; event = e; fails = fails; last = refl; step = late-step; steps = ap (λ (v : World). v.steps) is-late; place = refl; ran = z.given r given };
-          number = turn.seg.sent + 1;
-          sent = subst (λ (v : World). IsSent v.steps to the_coordinator (turn.seg.sent + 1) (message.Answer z.g r)) (sym is-late) (answer-sent z.g r given);
-          order = subst (λ v. IsOrder script (marks_in v.steps) to z.g z.c z.level z.snapshot y) (sym is-late) (subst (λ m. IsOrder script m to z.g z.c z.level z.snapshot y) (sym late-marks) (order-more script ms (turn.marks ++ sent) to (message.Exec z.g z.c z.level z.snapshot z.horizon y) z.came.order_is numbered_lines));
-          taken = subst (λ v. z.c.0 ≤ (local_of (v.segs to.0) z.g).last) (sym is-late) (subst (λ b. z.c.0 ≤ ((if b then (seg_rule script s x fails).seg else s).locals z.g.0).last) (sym self) taken);
-          truth = subst (λ v. IsTruth ms (marks_in v.steps) to z.level z.g z.c y r) (sym is-late) (subst (λ m. IsTruth ms m to z.level z.g z.c y r) (sym late-marks) (subst (λ m. IsTruth ms (ms ++ (m ++ sent)) to z.level z.g z.c y r) (sym same) truth));
-        }
+    new-reply r xs given same truth taken = new-answer z.g z.c z.level z.snapshot z.horizon y z.came r given (z.given r given) (subst (λ m. IsTruth ms (ms ++ (m ++ sent)) to z.level z.g z.c y r) (sym same) truth) taken
 
   module _ (kept : (h : ℕ) → IsKeptEarned script es to (gx h) (s.locals h).answer) (votes : (h : ℕ) → IsVote (s.locals h).phase (s.locals h).vote) where
     kept-more : (h : ℕ) → IsKeptEarned script behind to (gx h) (s.locals h).answer
@@ -247,8 +281,8 @@ module _ (script : Script) (some : 1 ≤ script.segments) (numbered_lines : AreL
         }
 
     -- it tells nothing
-    idle-earned : Idle script es to e fails x → TurnEarned
-    idle-earned q = record { kept = λ h. by_kept h (q.kept h); outs = subst (λ os. Each (λ (o : Out). IsWordEarned script behind to o.message) os) (sym q.outs) tt }
+    waits-earned : turn.outs ≡ [] → ((h : ℕ) → ((turn.seg.locals h).answer ≡ None) ⊎ ((turn.seg.locals h).answer ≡ (s.locals h).answer)) → TurnEarned
+    waits-earned outs answers-kept = record { kept = λ h. by_kept h (answers-kept h); outs = subst (λ os. Each (λ (o : Out). IsWordEarned script behind to o.message) os) (sym outs) tt }
       where
         by_kept : (h : ℕ) → ((turn.seg.locals h).answer ≡ None) ⊎ ((turn.seg.locals h).answer ≡ (s.locals h).answer) → IsKeptEarned script behind to (gx h) (turn.seg.locals h).answer
         by_kept h (inl k) = subst (IsKeptEarned script behind to (gx h)) (sym k) tt
@@ -364,22 +398,73 @@ module _ (script : Script) (some : 1 ≤ script.segments) (numbered_lines : AreL
               coordinator = λ runs. order-still script ms (hold ∷ sent) late-sent (message.Exec z.g z.c z.level z.snapshot z.horizon (slice.Lock table mode)) z.came.locked runs;
             }
 
-    -- the other slices do nothing yet
-    stays-earned : (lead : List Mark) (base : Seg) → turn ≡ after_marks lead (stays base) → ((h : ℕ) → (base.locals h).answer ≡ (s.locals h).answer) → TurnEarned
-    stays-earned lead base ran others =
-        record {
-          kept = λ h. subst (IsKeptEarned script behind to (gx h)) (sym (ap (λ (t : SegTurn). (t.seg.locals h).answer) ran ∙ others h)) (kept-more h);
-          outs = subst (λ (t : SegTurn). Each (λ (o : Out). IsWordEarned script behind to o.message) t.outs) (sym ran) tt;
-        }
+    -- AN UPDATE OR DELETE
+    plain : Each (PlainAt script to) turn.marks
+    plain = subst (λ node. Each (PlainAt script node) turn.marks) ((world_well script some es).names to.0) (seg_stays script s (subst (IsSegment script) (sym ((world_well script some es).names to.0)) place) x fails).marks
+
+    silent : SendNothing turn.marks
+    silent = plain-silent script to turn.marks plain
+
+    -- it answers what is so, or waits
+    module _ (g : Gxid) (c : Cid) (level : Level) (snapshot : Option Snapshot) (horizon : Gxid) (y : Slice) (k : Change) (changes : change_of c level snapshot y ≡ Some k) (came : Came script es to (message.Exec g c level snapshot horizon y)) (turned : IsTrueTurn script (world_of script es) e to g k turn)
+        (ran : (r : Reply) → turn.outs ≡ reply_out g r ∷ [] → RunsAtOnce script (world_of script es) e fails to g c level snapshot y r ⊎ RunsBehindWait script (world_of script es) e to g c level snapshot y r) where
+      cid-is : k.cid ≡ c
+      cid-is = (change-parts c level snapshot y k changes).cid
+
+      answer-earned : (r : Reply) → IsOfCommand r c → turn.outs ≡ reply_out g r ∷ [] → c.0 ≤ (turn.seg.locals g.0).last → IsEarned script behind to g c r
+      answer-earned r kind given taken =
+          new-answer g c level snapshot horizon y came r given (ran r given)
+          (change-truth ms (ms ++ (turn.marks ++ sent)) to g c level snapshot y k changes r
+          (says-true ms to g k turn sent (turn.seg.sent + 1) r given (ap (numbered (λ node. turn.seg.sent)) given) silent (subst (IsOfCommand r) (sym cid-is) kind) turned.says)) taken
+
+      reply-earned : (r : Reply) → IsOfCommand r c → turn.outs ≡ reply_out g r ∷ [] → c.0 ≤ (turn.seg.locals g.0).last → IsReplyEarned script behind to g r
+      reply-earned (reply.Done d w n p) kind given taken = subst (λ b. IsEarned script behind to g b (reply.Done d w n p)) (sym kind) (answer-earned (reply.Done d w n p) kind given taken)
+      reply-earned (reply.Failed d x) kind given taken = subst (λ b. IsEarned script behind to g b (reply.Failed d x)) (sym kind) (answer-earned (reply.Failed d x) kind given taken)
+      reply-earned reply.Prepared kind given taken = tt
+      reply-earned reply.Committed kind given taken = tt
+      reply-earned reply.Jfault kind given taken = tt
+      reply-earned reply.Again kind given taken = tt
+      reply-earned reply.Aborted kind given taken = tt
+      reply-earned reply.Forgotten kind given taken = tt
+
+      left-earned : (lead : List Mark) (t : SegTurn) → turn ≡ after_marks lead t → Leaves s g c t → TurnEarned
+      left-earned lead t is (inl a) =
+          let so : turn ≡ after_marks lead (answers a.base g c a.marks a.said) = is ∙ ap (after_marks lead) a.is in
+          ran-earned g c a.said lead a.base a.marks so a.others (reply-earned a.said a.kind (ap (λ (z : SegTurn). z.outs) so))
+      left-earned lead t is (inr w) = waits-earned (ap (λ (z : SegTurn). z.outs) is ∙ w.outs) (λ h. subst (λ (z : SegTurn). ((z.seg.locals h).answer ≡ None) ⊎ ((z.seg.locals h).answer ≡ (s.locals h).answer)) (sym is) (w.kept h))
+
+    change-earned : (y : Slice) (z : Runs script es to e fails x y) (k : Change) → change_of z.c z.level z.snapshot y ≡ Some k → on_event script ((world_of script es).segs to.0) x fails ≡ after_marks (hold_mark s.node z.wanted ∷ []) (changes_rows (base z.like z.horizon z.locks) z.g (Some k)) → TurnEarned
+    change-earned y z k changes ran =
+        left-earned z.g z.c z.level z.snapshot z.horizon y k changes z.came (z.turned k changes) z.given (hold_mark s.node z.wanted ∷ []) (changes_rows (base z.like z.horizon z.locks) z.g (Some k)) ran
+        (subst (λ c. Leaves s z.g c (changes_rows (base z.like z.horizon z.locks) z.g (Some k))) (change-parts z.c z.level z.snapshot y k changes).cid (change-leaves s z.g k (base z.like z.horizon z.locks) z.answers))
+
+    row-earned : AtItsRow script es to e fails x → TurnEarned
+    row-earned z =
+        left-earned z.g o.cid o.level o.snapshot z.on.waits.horizon o.slice k z.goes.at.changes z.came (z.turned k z.goes.at.changes) (λ r given. inr (z.given r given)) [] (goes_through z.g k (z.goes.at.rid ∷ o.rows) (is_granted s z.g z.on.wanted) o.count) z.goes.is
+        (subst (λ c. Leaves s z.g c (goes_through z.g k (z.goes.at.rid ∷ o.rows) (is_granted s z.g z.on.wanted) o.count)) (change-parts o.cid o.level o.snapshot o.slice k z.goes.at.changes).cid
+        (loop-leaves s z.g k (z.goes.at.rid ∷ o.rows) (is_granted s z.g z.on.wanted) o.count (granted-answers s z.g z.on.wanted)))
+      where
+        o : Suspended
+        o = z.on.slice
+
+        k : Change
+        k = z.goes.at.change
 
     runs-earned : (y : Slice) → Runs script es to e fails x y → TurnEarned
     runs-earned (slice.Select query) z = select-earned query z
-    runs-earned (slice.Insert table rows) z = insert-earned table rows z
-    runs-earned (slice.Update t a d) z = stays-earned (hold_mark s.node z.wanted ∷ []) (base z.like z.horizon z.locks) z.ran z.answers
-    runs-earned (slice.Delete t d) z = stays-earned (hold_mark s.node z.wanted ∷ []) (base z.like z.horizon z.locks) z.ran z.answers
+    runs-earned (slice.Insert table keyed) z = insert-earned table keyed z
+    runs-earned (slice.Update t a d) z =
+        let v = snapshot-of z.snapshot z.reads in
+        change-earned (slice.Update t a d) z _ (ap (λ q. change_of z.c z.level q (slice.Update t a d)) v.1)
+        (z.ran ∙ ap (λ q. after_marks (hold_mark s.node z.wanted ∷ []) (changes_rows (base z.like z.horizon z.locks) z.g (change_of z.c z.level q (slice.Update t a d)))) v.1)
+    runs-earned (slice.Delete t d) z =
+        let v = snapshot-of z.snapshot z.reads in
+        change-earned (slice.Delete t d) z _ (ap (λ q. change_of z.c z.level q (slice.Delete t d)) v.1)
+        (z.ran ∙ ap (λ q. after_marks (hold_mark s.node z.wanted ∷ []) (changes_rows (base z.like z.horizon z.locks) z.g (change_of z.c z.level q (slice.Delete t d)))) v.1)
     runs-earned (slice.Lock t m) z = lock-earned t m z
 
     pub turn-earned : Doings script es to e fails x → TurnEarned
     turn-earned (inl q) = quiet-earned q
-    turn-earned (inr (inl q)) = idle-earned q
-    turn-earned (inr (inr z)) = runs-earned z.0 z.1
+    turn-earned (inr (inl q)) = waits-earned q.outs q.kept
+    turn-earned (inr (inr (inl z))) = runs-earned z.0 z.1
+    turn-earned (inr (inr (inr z))) = row-earned z

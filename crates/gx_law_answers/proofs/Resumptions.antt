@@ -23,6 +23,7 @@ use Rattle.gx_store.specs.Ordered.{IsSegment}
 use Rattle.gx_store.specs.Rows.{row_at}
 use Rattle.gx_rules.specs.AtCoordinator.{coord_can, coord_rule}
 use Rattle.gx_rules.specs.AtSegment.{raised, resumes, seg_rule}
+use Rattle.gx_rules.specs.Changes.{Change, change_of}
 use Rattle.gx_rules.specs.Locks.{hold_mark}
 use Rattle.gx_rules.specs.Machine.{World, coord_did, new_world, seg_can, seg_did, world_of}
 use Rattle.gx_rules.specs.Segments.{Phase, Seg, SegTurn, Version, after_marks, has_committed, local_of, reply as reply_out, with_local}
@@ -37,6 +38,8 @@ use Rattle.gx_law_writes.proofs.Next.{next_command, waits-next}
 use Rattle.gx_law_writes.proofs.Waiting.{waits-untold}
 use Rattle.gx_law_answers.specs.Earned.{Events, RunsBehindWait, WaitsFor}
 use Rattle.gx_law_answers.proofs.Posts.{Came, came-before}
+use Rattle.gx_law_writes.specs.Changes.{IsTrueTurn}
+use Rattle.gx_law_answers.proofs.Turned.{later-turns}
 use Rattle.gx_law_answers.proofs.Running.{AtItsRow, Doings, IsLate, Runs}
 
 -- WHERE A SLICE NO LONGER WAITS
@@ -46,7 +49,7 @@ unsuspended s g = with_local s g (record (local_of s g) { suspended = None })
 
 -- nothing else changes
 module _ (s : Seg) (g : Gxid) where
-  answer-of : (h : ℕ) → ((unsuspended s g).locals h).answer ≡ (s.locals h).answer
+  pub answer-of : (h : ℕ) → ((unsuspended s g).locals h).answer ≡ (s.locals h).answer
   answer-of h = by_test (eqb h g.0) refl
     where
       by_test : (b : Bool) → eqb h g.0 ≡ b → (if b then record (local_of s g) { suspended = None } else s.locals h).answer ≡ (s.locals h).answer
@@ -109,6 +112,9 @@ module _ (script : Script) (some : 1 ≤ script.segments) (numbered_lines : AreL
   still-next : next_command (local_of s g) ≤ o.slice.cid.0
   still-next = waits-next (local_of s g) o.slice o.is o.waits.last
 
+  its-turn : (k : Change) → change_of o.slice.cid o.slice.level o.slice.snapshot o.slice.slice ≡ Some k → IsTrueTurn script w (event.Resume to g) to g k turn
+  its-turn k changes = later-turns script some numbered_lines es to g o.slice k ok o.is changes
+
   waits-for : (row : Option Rid) → IsWantedAt script g o.slice.slice row o.wanted → WaitsFor script g o.slice.slice row o.wanted
   waits-for None l = l
   waits-for (Some rid) (inl l) = inl l
@@ -157,11 +163,12 @@ module _ (script : Script) (some : 1 ≤ script.segments) (numbered_lines : AreL
         wanted = o.wanted;
         lock = now.at.lock;
         ran = now.is ∙ ap (λ (t : Seg). after_marks (hold_mark s.node o.wanted ∷ []) (runs_slice (record t { locks = resumed s.locks g (Some o.wanted) }) g o.slice.cid o.slice.level o.slice.snapshot o.slice.slice)) (sym (raised-same (unsuspended s g) o.waits.horizon o.waits.raised));
+        turned = its-turn;
         given = λ r given. inr (waited r given);
       }
 
   at-row : GoesOnAtRow s g o.slice o.wanted turn → AtItsRow script es to (event.Resume to g) fails (here.Resume g)
-  at-row now = record { g = g; on = o; goes = now; came = its; next = still-next; given = waited }
+  at-row now = record { g = g; on = o; goes = now; came = its; next = still-next; turned = its-turn; given = waited }
 
   pub resumption-does : Doings script es to (event.Resume to g) fails (here.Resume g)
   resumption-does = by_way (going-ways script w to.0 g o)

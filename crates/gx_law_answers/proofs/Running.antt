@@ -27,6 +27,7 @@ use Rattle.gx_store.specs.Points.{marks_in}
 use Rattle.gx_store.specs.Rows.{row_at}
 use Rattle.gx_store.specs.View.{image}
 use Rattle.gx_rules.specs.AtSegment.{on_event, raised, seg_rule}
+use Rattle.gx_rules.specs.Changes.{Change, change_of}
 use Rattle.gx_rules.specs.Fits.{reads_nothing}
 use Rattle.gx_rules.specs.Locks.{hold_mark}
 use Rattle.gx_rules.specs.Machine.{World, seg_did, world_of}
@@ -36,6 +37,7 @@ use Rattle.gx_rules.specs.Running.{runs_slice, slice_lock}
 use Rattle.gx_law_order.proofs.Lists.{Each}
 use Rattle.gx_law_order.proofs.Waiting.{GoesOn, GoesOnAtRow}
 use Rattle.gx_law_reads.specs.Sights.{IsOnlyAt}
+use Rattle.gx_law_writes.specs.Changes.{IsTrueTurn}
 use Rattle.gx_law_writes.proofs.Next.{next_command}
 use Rattle.gx_law_writes.proofs.Turns.{NoRow, Quiet, base}
 use Rattle.gx_law_answers.specs.Earned.{Events, RunsAtOnce, RunsBehindWait}
@@ -81,6 +83,7 @@ module _ (script : Script) (es : Events) (to : Node) (e : Event) (fails : Bool) 
     pub wanted : Claim
     pub lock : slice_lock script g y ≡ wanted
     pub ran : on_event script ((world_of script es).segs to.0) x fails ≡ after_marks (hold_mark ((world_of script es).segs to.0).node wanted ∷ []) (runs_slice (base like horizon locks) g c level snapshot y)
+    pub turned : (k : Change) → change_of c level snapshot y ≡ Some k → IsTrueTurn script (world_of script es) e to g k (on_event script ((world_of script es).segs to.0) x fails)
     pub given : (r : Reply) → (on_event script ((world_of script es).segs to.0) x fails).outs ≡ reply_out g r ∷ [] → RunsAtOnce script (world_of script es) e fails to g c level snapshot y r ⊎ RunsBehindWait script (world_of script es) e to g c level snapshot y r
 
   -- Behind its wait at a row, where its command has come and isn't answered, it goes on at that row and through those left.
@@ -90,6 +93,7 @@ module _ (script : Script) (es : Events) (to : Node) (e : Event) (fails : Bool) 
     pub goes : GoesOnAtRow ((world_of script es).segs to.0) g on.slice on.wanted (on_event script ((world_of script es).segs to.0) x fails)
     pub came : Came script es to (message.Exec g on.slice.cid on.slice.level on.slice.snapshot on.waits.horizon on.slice.slice)
     pub next : next_command (local_of ((world_of script es).segs to.0) g) ≤ on.slice.cid.0
+    pub turned : (k : Change) → change_of on.slice.cid on.slice.level on.slice.snapshot on.slice.slice ≡ Some k → IsTrueTurn script (world_of script es) e to g k (on_event script ((world_of script es).segs to.0) x fails)
     pub given : (r : Reply) → (on_event script ((world_of script es).segs to.0) x fails).outs ≡ reply_out g r ∷ [] → RunsBehindWait script (world_of script es) e to g on.slice.cid on.slice.level on.slice.snapshot on.slice.slice r
 
   -- it tells nothing, and no row

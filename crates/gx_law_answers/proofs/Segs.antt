@@ -29,8 +29,9 @@ use Rattle.gx_store.specs.Points.{Point, marks_in, starts_by}
 use Rattle.gx_store.specs.Refusals.{the_coordinator}
 use Rattle.gx_rules.specs.AtSegment.{on_event, raised, seg_rule}
 use Rattle.gx_rules.specs.Machine.{World, delivered, found, world_of, seg_can}
+use Rattle.gx_rules.specs.Changes.{change_of}
 use Rattle.gx_rules.specs.Locks.{hold_mark}
-use Rattle.gx_rules.specs.Segments.{Seg, SegTurn, after_marks, stays}
+use Rattle.gx_rules.specs.Segments.{Seg, SegTurn, after_marks}
 use Rattle.gx_rules.specs.Sending.{numbered}
 use Rattle.gx_rules.specs.Shown.{shown}
 use Rattle.gx_rules.specs.Slices.{adds, first_fault, selects}
@@ -43,6 +44,7 @@ use Rattle.gx_store.specs.Language.{AreLinesNumbered}
 use Rattle.gx_law_sessions.specs.Rest.{EachMark, Rest, UnlessStart, is_going_out, unless}
 use Rattle.gx_law_sessions.proofs.Given.{marks-append, sent-rest}
 use Rattle.gx_law_commit.proofs.Whole.{world-both}
+use Rattle.gx_law_writes.specs.Changes.{FaultLegal}
 use Rattle.gx_law_writes.specs.Writes.{AreWritesLegal, WriteLegal}
 use Rattle.gx_law_writes.proofs.Rows.{inserted-no-fault}
 use Rattle.gx_law_writes.proofs.Told.{take-get}
@@ -55,10 +57,6 @@ use Rattle.gx_law_answers.proofs.Arrivals.{message-does, received-late}
 use Rattle.gx_law_answers.proofs.Resumptions.{resumed-late, resumption-does}
 use Rattle.gx_law_answers.proofs.Origins.{rows-part, select-is, select-order, select-ran, snapshot-at}
 use Rattle.gx_law_answers.proofs.Truths.{part-more, seen-fault, snapshot-more}
-
-abbrev FaultLegal : Script → Point → Mark → Type 0
-FaultLegal script point (mark.Fault g c rid image) = LegalFault script point g c rid image
-FaultLegal script point m = Unit {0}
 
 -- ---- lists of marks
 front : (P : Point → Mark → Type 0) (steps : List Step) (e : Event) (earlier xs ys later : List Mark) → EachMark P steps e earlier (xs ++ ys) later → EachMark P steps e earlier xs (ys ++ later)
@@ -204,22 +202,20 @@ module _ (script : Script) (some : 1 ≤ script.segments) (numbered_lines : AreL
     quiet-faults : (later : List Mark) → Each NoFault turn.marks → EachMark (FaultLegal script) (world_of script es).steps e [] turn.marks later
     quiet-faults later h = no-faults script (world_of script es).steps to e place.0 [] turn.marks later h
 
-    stays-faults : (later : List Mark) (m : Claim) (t : Seg) → turn ≡ after_marks (hold_mark s.node m ∷ []) (stays t) → EachMark (FaultLegal script) (world_of script es).steps e [] turn.marks later
-    stays-faults later m t ran = quiet-faults later (subst (λ (t : SegTurn). Each NoFault t.marks) (sym ran) (tt, tt))
-
     slice-faults : (later : List Mark) (y : Slice) → Runs script es to e fails x y → EachMark (FaultLegal script) (world_of script es).steps e [] turn.marks later
     slice-faults later (slice.Select query) z = let o = snapshot-of z.snapshot z.reads in select-faults query z o.0 o.1 later (first_fault query.cond (rows query z o.0 o.1)) refl (select-ran script some numbered_lines es to e fails x place is-late query z o.0 o.1)
     slice-faults later (slice.Insert table tuples) z =
         quiet-faults later
         (subst (λ (t : SegTurn). Each NoFault t.marks) (sym (z.ran ∙ ap (λ o. after_marks (hold_mark s.node z.wanted ∷ []) (adds (base z.like z.horizon z.locks) z.g z.c table tuples o)) (snapshot-of z.snapshot z.reads).1)) (tt, inserted-no-fault (base z.like z.horizon z.locks) z.g z.c table tuples))
-    slice-faults later (slice.Update t a d) z = stays-faults later z.wanted (base z.like z.horizon z.locks) z.ran
-    slice-faults later (slice.Delete t d) z = stays-faults later z.wanted (base z.like z.horizon z.locks) z.ran
+    slice-faults later (slice.Update t a d) z = (z.turned _ (ap (λ q. change_of z.c z.level q (slice.Update t a d)) (snapshot-of z.snapshot z.reads).1)).faults later
+    slice-faults later (slice.Delete t d) z = (z.turned _ (ap (λ q. change_of z.c z.level q (slice.Delete t d)) (snapshot-of z.snapshot z.reads).1)).faults later
     slice-faults later (slice.Lock t m) z = quiet-faults later (subst (λ (t : SegTurn). Each NoFault t.marks) (sym z.ran) (tt, tt))
 
     faults : (later : List Mark) → Doings script es to e fails x → EachMark (FaultLegal script) (world_of script es).steps e [] turn.marks later
     faults later (inl q) = quiet-faults later (row-no-fault turn.marks q.marks)
     faults later (inr (inl q)) = quiet-faults later (row-no-fault turn.marks q.marks)
-    faults later (inr (inr z)) = slice-faults later z.0 z.1
+    faults later (inr (inr (inl z))) = slice-faults later z.0 z.1
+    faults later (inr (inr (inr z))) = (z.turned z.goes.at.change z.goes.at.changes).faults later
 
     plain : Each (PlainAt script to) turn.marks
     plain = subst (λ node. Each (PlainAt script node) turn.marks) ((world-both script some es).knows.well.names to.0) (seg_stays script s (subst (IsSegment script) (sym ((world-both script some es).knows.well.names to.0)) place) x fails).marks

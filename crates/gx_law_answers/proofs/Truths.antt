@@ -134,7 +134,7 @@ select-truth ms sent quiet node level g c unaborted place t query rows p wrote a
     inr (record {
       fault = record {
         place = length held;
-        behind = le-same (length held) (length ms + 1) (length-push ms (hold_mark at wanted));
+        behind = le-more (length held) (length ms) (length-push ms (hold_mark at wanted));
         rid = found.0.rid;
         image = Some found.0.row;
         fault = found.1;
@@ -157,8 +157,8 @@ select-truth ms sent quiet node level g c unaborted place t query rows p wrote a
     seam : held ++ fault ∷ sent ≡ ms ++ (hold_mark at wanted ∷ fault ∷ sent)
     seam = append_assoc ms (hold_mark at wanted ∷ []) (fault ∷ sent)
 
-    le-same : (a b : ℕ) → a ≡ b → b ≤ a
-    le-same a b q = omega (arith, q)
+    le-more : (a b : ℕ) → a ≡ b + 1 → b ≤ a
+    le-more a b q = omega (arith, q)
 
     length-push : (xs : List Mark) (x : Mark) → length (xs ++ x ∷ []) ≡ length xs + 1
     length-push [] x = refl

@@ -1,5 +1,5 @@
 -- What is true of a segment's answer to a command, by the marks behind the step that sent it first.
-use Rattle.std.specs.Prelude.{◌≡◌, ◌≤◌, ◌⊎◌, ◌+◌, ◌&&◌, if◌then◌else◌, ℕ, true, false, List, [], ◌∷◌, ◌++◌, filter, length, take, slice_get, Some}
+use Rattle.std.specs.Prelude.{◌≡◌, ◌≤◌, ◌⊎◌, ◌+◌, ℕ, true, false, List, [], ◌∷◌, ◌++◌, length, take, slice_get, Some}
 use Rattle.std.specs.declared.option.Option.{Option}
 use Rattle.gx_ids.specs.declared.ids.Cid.{Cid}
 use Rattle.gx_ids.specs.declared.ids.Gxid.{Gxid}
@@ -18,7 +18,6 @@ use Rattle.gx_tree.specs.declared.stmt.Level.TheVariants.{RepeatableRead}
 use Rattle.gx_tree.specs.declared.stmt.Stmt.{Stmt}
 use Rattle.gx_tree.specs.declared.stmt.Stmt.TheVariants as stmt
 use Rattle.gx_tree.specs.declared.value.Value.{Value}
-use Rattle.gx_meaning.specs.Answer.{keeps}
 use Rattle.gx_meaning.specs.declared.fault.ArithFault.{ArithFault}
 use Rattle.gx_msg.specs.declared.message.Message.TheVariants as message
 use Rattle.gx_msg.specs.declared.reply.Cause.{Cause}
@@ -29,14 +28,14 @@ use Rattle.gx_store.specs.declared.mark.Mark.{Mark}
 use Rattle.gx_store.specs.declared.mark.Mark.TheVariants as mark
 use Rattle.gx_store.specs.Commands.{IsSnapshotAt}
 use Rattle.gx_store.specs.Faults.{IsFaultOf}
-use Rattle.gx_store.specs.Journals.{is_same_node}
-use Rattle.gx_store.specs.Marks.{is_aborted, is_command_of, is_ended, is_processed}
+use Rattle.gx_store.specs.Marks.{is_aborted, is_ended}
 use Rattle.gx_store.specs.Refusals.{IsOvertakenRow, the_coordinator}
 use Rattle.gx_store.specs.Waits.{is_held}
 use Rattle.gx_waits.specs.declared.object.Object.TheVariants.{Relation}
 use Rattle.gx_rules.specs.Slices.{cause_of}
 use Rattle.gx_law_writes.specs.Rows.{is_own_written}
-use Rattle.gx_law_answers.specs.Parts.{HasItsPart, SaysItsPart}
+use Rattle.gx_law_changes.specs.Says.{IsPartDone}
+use Rattle.gx_law_answers.specs.Parts.{SaysItsPart}
 
 -- the part is of the node's rows of what the command sees
 pub record IsTruePart (marks : List Mark) (node : Node) (level : Level) (g : Gxid) (c : Cid) (query : Query) (part : Part) : Type 0 where
@@ -44,11 +43,10 @@ pub record IsTruePart (marks : List Mark) (node : Node) (level : Level) (g : Gxi
   pub taken : IsSnapshotAt marks level g c place
   pub says : SaysItsPart marks (take place marks) node g c query part
 
--- An evaluation of the command has faulted so, before its transaction was aborted; this was noted in the step, behind the mark of a
--- lock.
+-- An evaluation of the command has faulted so, before its transaction was aborted; this was noted in the step.
 pub record IsTrueFault (before marks : List Mark) (level : Level) (g : Gxid) (c : Cid) (line : Stmt) (cause : Cause) : Type 0 where
   pub place : ℕ
-  pub behind : length before + 1 ≤ place
+  pub behind : length before ≤ place
   pub rid : Rid
   pub image : Option (List Value)
   pub fault : ArithFault
@@ -70,25 +68,6 @@ AreWritten marks (row ∷ rows) = (is_own_written marks row.rid ≡ true) × Are
 pub record IsLocked (marks : List Mark) (node : Node) (g : Gxid) (table : Table) (mode : Mode) : Type 0 where
   pub segment : is_held marks node g (Relation table) mode ≡ true
   pub coordinator : is_ended marks g ≡ false → is_held marks the_coordinator g (Relation table) mode ≡ true
-
--- so many rows the command has written at the node
-abbrev pub writes_there : List Mark → Node → Gxid → Cid → ℕ
-writes_there [] node g c = 0
-writes_there (mark.Write h d n t r image ∷ ms) node g c = if is_command_of g c h d && is_same_node n node then writes_there ms node g c + 1 else writes_there ms node g c
-writes_there (_ ∷ ms) node g c = writes_there ms node g c
-
-abbrev pub AreProcessed : List Mark → Gxid → Cid → List KeyedRow → Type 0
-AreProcessed marks g c [] = Unit {0}
-AreProcessed marks g c (row ∷ rows) = (is_processed marks g c row.rid ≡ true) × AreProcessed marks g c rows
-
--- Of the node's rows of what the command sees, on none of which its condition faults, it has written or skipped each that it selects;
--- and it has written so many there.
-pub record IsTrueChange (marks : List Mark) (node : Node) (level : Level) (g : Gxid) (c : Cid) (table : Table) (cond : Option Cond) (count : ℕ) : Type 0 where
-  pub place : ℕ
-  pub taken : IsSnapshotAt marks level g c place
-  pub has : HasItsPart marks (take place marks) node g c table cond
-  pub done : AreProcessed marks g c (filter (keeps cond) has.rows)
-  pub counted : count ≡ writes_there marks node g c
 
 -- marks that send nothing
 abbrev pub SendNothing : List Mark → Type 0
@@ -114,16 +93,16 @@ IsTrueFailure before marks level g c line table cond cause =
     (is_aborted marks g ≡ true) ⊎ IsTrueFault before marks level g c line cause ⊎ IsTrueLoss before marks level g c table cond cause
 
 -- A SELECT's answer is its part, or the fault of its condition, unless its transaction has aborted; an INSERT's counts the rows
--- that were sent to it, which are all written; an UPDATE's or DELETE's counts the rows that it has written there, with all that it
--- selects processed, or tells of a fault or of a row that was overtaken, unless its transaction has aborted; a LOCK TABLE's counts
+-- that were sent to it, which are all written; an UPDATE's or DELETE's counts the rows that it has written there, and all that it
+-- selects are processed, or it tells of a fault or of a row that was overtaken, unless its transaction has aborted; a LOCK TABLE's counts
 -- none, and its mode is held.
 abbrev pub IsTruth : List Mark → List Mark → Node → Level → Gxid → Cid → Slice → Reply → Type 0
 IsTruth before marks node level g c (slice.Select query) (reply.Done d wrote count part) = (is_aborted marks g ≡ true) ⊎ IsTruePart marks node level g c query part
 IsTruth before marks node level g c (slice.Select query) (reply.Failed d cause) = (is_aborted marks g ≡ true) ⊎ IsTrueSelectFault before marks level g c query cause
 IsTruth before marks node level g c (slice.Insert table rows) (reply.Done d wrote count part) = (count ≡ length rows) × AreWritten marks rows
-IsTruth before marks node level g c (slice.Update table assigns cond) (reply.Done d wrote count part) = (is_aborted marks g ≡ true) ⊎ IsTrueChange marks node level g c table cond count
+IsTruth before marks node level g c (slice.Update table assigns cond) (reply.Done d wrote count part) = (is_aborted marks g ≡ true) ⊎ IsPartDone marks node level g c table cond count
 IsTruth before marks node level g c (slice.Update table assigns cond) (reply.Failed d cause) = IsTrueFailure before marks level g c (stmt.Update table assigns cond) table cond cause
-IsTruth before marks node level g c (slice.Delete table cond) (reply.Done d wrote count part) = (is_aborted marks g ≡ true) ⊎ IsTrueChange marks node level g c table cond count
+IsTruth before marks node level g c (slice.Delete table cond) (reply.Done d wrote count part) = (is_aborted marks g ≡ true) ⊎ IsPartDone marks node level g c table cond count
 IsTruth before marks node level g c (slice.Delete table cond) (reply.Failed d cause) = IsTrueFailure before marks level g c (stmt.Delete table cond) table cond cause
 IsTruth before marks node level g c (slice.Lock table mode) (reply.Done d wrote count part) = (count ≡ 0) × IsLocked marks node g table mode
 IsTruth before marks node level g c slice r = ⊥
