@@ -10,16 +10,20 @@ use Rattle.gx_ids.specs.declared.ids.Cid.{Cid}
 use Rattle.gx_ids.specs.declared.ids.Gxid.{Gxid}
 use Rattle.gx_ids.specs.declared.ids.Node.{Node}
 use Rattle.gx_ids.specs.declared.ids.Table.{Table}
+use Rattle.gx_tree.specs.declared.cond.Cond.{Cond}
 use Rattle.gx_tree.specs.declared.query.Query.{Query}
 use Rattle.gx_tree.specs.declared.part.Part.{Part}
+use Rattle.gx_tree.specs.declared.row.KeyedRow.{KeyedRow}
 use Rattle.gx_tree.specs.declared.stmt.Level.{Level}
 use Rattle.gx_msg.specs.declared.message.Message.{Message}
 use Rattle.gx_msg.specs.declared.message.Message.TheVariants as message
 use Rattle.gx_msg.specs.declared.reply.Reply.{Reply}
+use Rattle.gx_msg.specs.declared.reply.Reply.TheVariants as reply
 use Rattle.gx_script.specs.declared.Script.{Script}
 use Rattle.gx_store.specs.declared.event.Event.{Event}
 use Rattle.gx_store.specs.declared.mark.Mark.{Mark}
 use Rattle.gx_store.specs.declared.run.Step.{Step}
+use Rattle.gx_store.specs.Commands.{IsSnapshotAt}
 use Rattle.gx_store.specs.Marks.{is_aborted, is_committed, is_ended}
 use Rattle.gx_store.specs.Messages.{HasReceived, IsSending, IsSent}
 use Rattle.gx_store.specs.Ordered.{AreOrdered, IsAtNode, IsLink, IsSegment}
@@ -51,8 +55,12 @@ use Rattle.gx_law_answers.specs.Earned.{Events, IsEarned}
 use Rattle.gx_law_answers.specs.Truth.{IsLocked, IsTruePart}
 use Rattle.gx_law_answers.proofs.Always.{word-earned}
 use Rattle.gx_law_answers.proofs.Origins.{IsWordEarned}
+use Rattle.gx_law_changes.specs.Parts.{IsPartOf}
+use Rattle.gx_law_changes.specs.Says.{IsPartDone, count_at}
 use Rattle.gx_law_changes.proofs.Parts.{part-later}
+use Rattle.gx_law_answers.proofs.Changed.{processed-more}
 use Rattle.gx_law_answers.proofs.Shown.{only-at}
+use Rattle.gx_law_answers.proofs.Turned.{counts-stay}
 use Rattle.gx_law_answers.proofs.Truths.{aborted-more, snapshot-more}
 
 by-recursion-get : {A : Type 0} (P : A → Type 0) (xs : List A) (k : ℕ) (x : A) → AllByRecursion P xs → slice_get xs k ≡ Some x → P x
@@ -201,22 +209,57 @@ module _ (script : Script) (some : 1 ≤ script.segments) (numbered : AreLinesNu
     stays : DoViewsStay (world_of script t.upto) (world_of script es)
     stays = subst (DoViewsStay (world_of script t.upto)) late-is (views-stay script some t.upto t.rest)
 
+    -- the node's rows of what the command sees
+    rows-now : (level : Level) (table : Table) (place : ℕ) → IsSnapshotAt (marks_in (world_of script t.upto).steps) level g c place → (rows : List KeyedRow) → IsPartOf (marks_in (world_of script t.upto).steps) (take place (marks_in (world_of script t.upto).steps)) node g c table rows
+        → IsPartOf (marks_in (world_of script t.upto).steps ++ more) (take place (marks_in (world_of script t.upto).steps ++ more)) node g c table rows
+    rows-now level table place taken rows p =
+        part-later before more (λ rid first e. only-at script (before ++ more) first rid (before ++ more) (subst (λ m. Each (IsPlacedMark script m) m) marks-are placed) e) node level g c place taken table
+        (λ rid only. subst (λ m. Rattle.gx_store.specs.View.image m (take place m) (Some (g, c)) table rid ≡ Rattle.gx_store.specs.View.image before (take place before) (Some (g, c)) table rid) marks-are (stays node g c place _ table rid t.taken taken.taken (subst (Rattle.gx_law_reads.specs.Sights.IsOnlyAt node rid) (sym marks-are) only)))
+        rows p
+      where
+        before : List Mark
+        before = marks_in (world_of script t.upto).steps
+
     -- its part
     pub part-now : (level : Level) (query : Query) (part : Part) → IsTruePart (marks_in (world_of script t.upto).steps) node level g c query part → IsTruePart ms node level g c query part
     part-now level query part p =
         subst (λ m. IsTruePart m node level g c query part) (sym marks-are)
         (record {
           place = p.place;
-          taken = snapshot-more before more level g c p.place p.taken;
-          says = record {
-            rows = p.says.rows;
-            of = part-later before more (λ rid first e. only-at script (before ++ more) first rid (before ++ more) (subst (λ m. Each (IsPlacedMark script m) m) marks-are placed) e) node level g c p.place p.taken query.table
-                (λ rid only. subst (λ m. Rattle.gx_store.specs.View.image m (take p.place m) (Some (g, c)) query.table rid ≡ Rattle.gx_store.specs.View.image before (take p.place before) (Some (g, c)) query.table rid) marks-are (stays node g c p.place _ query.table rid t.taken p.taken.taken (subst (Rattle.gx_law_reads.specs.Sights.IsOnlyAt node rid) (sym marks-are) only)))
-                p.says.rows p.says.of;
-            whole = p.says.whole;
-            said = p.says.said;
-          };
+          taken = snapshot-more (marks_in (world_of script t.upto).steps) more level g c p.place p.taken;
+          says = record { rows = p.says.rows; of = rows-now level query.table p.place p.taken p.says.rows p.says.of; whole = p.says.whole; said = p.says.said };
         })
-      where
-        before : List Mark
-        before = marks_in (world_of script t.upto).steps
+
+    -- its step, and those behind it
+    pub steps-are : (rest : List Step) × ((world_of script es).steps ≡ (world_of script t.given.before).steps ++ (t.given.step ∷ rest))
+    steps-are = (grown.extra, ap (λ (v : World). v.steps) (sym late-is) ∙ grown.is ∙ ap (λ ss. ss ++ grown.extra) t.given.steps ∙ append_assoc (world_of script t.given.before).steps (t.given.step ∷ []) grown.extra)
+
+  -- what it has processed and counted
+  pub done-now : (node : Node) → 1 ≤ node.0 → (g : Gxid) (c : Cid) (wrote : Bool) (count : ℕ) (part : Part) (t : IsEarned script es node g c (reply.Done c wrote count part)) (level : Level) (table : Table) (cond : Option Cond) → IsPartDone (marks_in (world_of script t.upto).steps) node level g c table cond count
+      → IsPartDone ms node level g c table cond count
+  done-now node one g c wrote count part t level table cond p =
+      subst (λ m. IsPartDone m node level g c table cond count) (sym are)
+      (record {
+        place = p.place;
+        taken = snapshot-more before later level g c p.place p.taken;
+        rows = p.rows;
+        of = rows-now node g c (reply.Done c wrote count part) t level table p.place p.taken p.rows p.of;
+        whole = p.whole;
+        each = λ rid row there chosen. processed-more before later g c rid (p.each rid row there chosen);
+        counted = p.counted ∙ sym (ap (count_at node g c) (sym are) ∙ same);
+      })
+    where
+      before : List Mark
+      before = marks_in (world_of script t.upto).steps
+
+      later : List Mark
+      later = more node g c (reply.Done c wrote count part) t
+
+      are : ms ≡ before ++ later
+      are = marks-are node g c (reply.Done c wrote count part) t
+
+      -- it has written nothing more there
+      same : count_at node g c ms ≡ count_at node g c before
+      same =
+          subst (λ (v : World). count_at node g c (marks_in v.steps) ≡ count_at node g c before) (late-is node g c (reply.Done c wrote count part) t)
+          (counts-stay script some numbered t.upto t.rest node the_coordinator t.number g c wrote count part one t.sent)

@@ -33,7 +33,8 @@ use Rattle.gx_law_answers.proofs.Gathered.{insert-tells}
 use Rattle.gx_law_answers.proofs.Heard.{heard-now}
 use Rattle.gx_law_answers.proofs.Segs.{segments-legal}
 use Rattle.gx_law_answers.proofs.Snaps.{one-snapshot}
-use Rattle.gx_law_answers.proofs.Told.{caused, tells-by}
+use Rattle.gx_law_answers.proofs.Caused.{caused}
+use Rattle.gx_law_answers.proofs.Told.{tells-by}
 
 module _ (script : Script) (some : 1 ≤ script.segments) (numbered : AreLinesNumbered [] script.lines) (keyed : AreRowsKeyed script) (once : AreSnapshotsOne script) (filled : AreInsertsFilled script) where
   module _ (es : Events) where
@@ -56,7 +57,8 @@ module _ (script : Script) (some : 1 ≤ script.segments) (numbered : AreLinesNu
           (λ t v e. insert-tells script some numbered filled es t v level g c (subst (λ l. IsOf script (marks_in steps) l level g c) e is) now (mark.Commit g ∷ []) later answer
           (subst (λ l. IsGathered script (point_at steps now (mark.Commit g ∷ []) later) g c l answer) e x));
       refused = λ now later session stmt level g c segment cause none runs x.
-          caused script some numbered keyed es now later level g c segment stmt (its now (mark.Abort g ∷ []) later session stmt level g c none (tt, tt) runs) cause x ((heard-now script some numbered es segment _ x.number x.sent).word_earned g (reply.Failed c cause) refl);
+          let h = heard-now script some numbered es segment _ x.number x.sent in
+          caused script some numbered es now later level g c segment h.segment.0 stmt (its now (mark.Abort g ∷ []) later session stmt level g c none (tt, tt) runs) cause x (h.word_earned g (reply.Failed c cause) refl);
     }
 
   rest-shown : IsRestShown script

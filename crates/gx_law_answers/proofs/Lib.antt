@@ -19,6 +19,10 @@ pub mod Origins
 pub mod Always
 pub mod Commands
 pub mod Heard
+pub mod Ours
+pub mod Totals
+pub mod Updated
+pub mod Caused
 pub mod Told
 pub mod Segs
 pub mod Join

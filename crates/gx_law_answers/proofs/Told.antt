@@ -1,4 +1,4 @@
--- A gathered SELECT shows what its answer says, and a command that a segment failed has faulted so.
+-- A gathered command did what its answer says.
 use Rattle.std.proofs.Common.{◌≡◌, ◌≤◌, ◌<◌, inl, inr, ℕ, List, [], ◌∷◌, ◌++◌, Some, None, Result, Ok, Bool, true, false, refl, sym, subst, ap, ◌∙◌, ◌||◌, arith, eqb, map, zero, suc, ◌+◌}
 use Rattle.std.proofs.lemmas.Option.{get_or_from_slice_get, slice_get_within}
 use Rattle.std.proofs.lemmas.Bool.{eqb-true}
@@ -74,7 +74,10 @@ use Rattle.gx_law_answers.specs.Truth.{IsTrueFault, IsTruePart, IsTruth}
 use Rattle.gx_law_answers.proofs.Commands.{IsOf}
 use Rattle.gx_law_answers.proofs.Heard.{heard, lock-now, marks-are, more, order-now, own-step, part-now, unaborted-then}
 use Rattle.gx_law_writes.proofs.Pieces.{IsSliceOf, slice-is}
-use Rattle.gx_law_answers.proofs.Select.{has-from, merged, seen, whole}
+use Rattle.gx_law_answers.proofs.Ours.{covers-pieces, its-level, its-slice, nodes-of-pieces, ok-same, some-node}
+use Rattle.gx_law_answers.proofs.Rows.{has-from, seen, whole}
+use Rattle.gx_law_answers.proofs.Select.{have-parts, merged}
+use Rattle.gx_law_answers.proofs.Updated.{changed}
 use Rattle.gx_law_answers.proofs.Truths.{image-more, snapshot-more}
 use Rattle.gx_law_changes.proofs.Views.{view-is}
 use Rattle.gx_store.specs.declared.event.Event.{Event}
@@ -99,51 +102,18 @@ shows-more ms extra quiet level g c query answer s =
       answered = s.answered;
     }
 
--- ---- the nodes of a plan
-nodes-of-pieces : (s : Slice) (nodes : List Node) → nodes_in (map (piece s) nodes) ≡ nodes
-nodes-of-pieces s [] = refl
-nodes-of-pieces s (n ∷ ns) = ap (λ l. n ∷ l) (nodes-of-pieces s ns)
-
-some-node : (n : ℕ) (target : Target) → 1 ≤ n → (i : Node) × (has i (nodes_of n target) ≡ true)
-some-node n (One node) some = (node, first (eqb node.0 node.0) (eqb-self node.0))
-  where
-    first : (b : Bool) → b ≡ true → (b || false) ≡ true
-    first true e = refl
-    first false e = cc
-some-node n AllOfThem some = (record { 0 = 1 }, has-from 1 1 n (omega arith) (omega (arith, some)))
-
-ok-same : {xs ys : List Piece} → (let o : Result (List Piece) ArithFault = Ok xs in o) ≡ Ok ys → xs ≡ ys
-ok-same q = cc
-
--- what stands at the second place behind the seam is among what follows
-seam-second : (xs ys : List Mark) (p : ℕ) (m : Mark) → p ≡ length xs + 1 → slice_get (xs ++ ys) p ≡ Some m → Contains ys m
-seam-second [] ys p m q e = (p, slice_get_within ys p m e, get_or_from_slice_get ys p m m e)
-seam-second (x ∷ xs) ys zero m q e = absurd (omega (arith, q))
-seam-second (x ∷ xs) ys (suc p) m q e = seam-second xs ys p m (omega (arith, q)) e
-
 module _ (script : Script) (some : 1 ≤ script.segments) (numbered : AreLinesNumbered [] script.lines) (keyed : AreRowsKeyed script) (es : Events) where
   abbrev ms : List Mark
   ms = marks_in (world_of script es).steps
 
-  -- what a true answer is of, where its command runs
-  module _ (node : Node) (line : Stmt) (level : Level) (g : Gxid) (c : Cid) (is : IsOf script ms line level g c) (r : Reply) (t : IsEarned script es node g c r) where
-    line-is : (order-now script some numbered es node g c r t).line ≡ line
-    line-is = some-same _ line (sym (order-now script some numbered es node g c r t).of ∙ is.of)
-
-    pub its-slice : IsSliceOf line t.slice
-    its-slice = subst (λ l. IsSliceOf l t.slice) line-is (slice-is _ _ g c _ (order-now script some numbered es node g c r t).pieces _ (order-now script some numbered es node g c r t).plan (order-now script some numbered es node g c r t).among)
-
-    pub its-level : t.level ≡ level
-    its-level = (order-now script some numbered es node g c r t).level_is ∙ sym is.level_is
-
   -- A SELECT
   module _ (once : IsOneSnapshot script ms) (query : Query) (level : Level) (g : Gxid) (c : Cid) (is : IsOf script ms (stmt.Select query) level g c) where
     true-part : (t : Taken) → IsEarned script es t.node g c (reply.Done c t.wrote t.count t.part) → IsTruePart ms t.node level g c query t.part
-    true-part t x = by_truth (subst (λ s. IsTruth (marks_in (world_of script x.given.before).steps) (marks_in (world_of script x.upto).steps) t.node x.level g c s (reply.Done c t.wrote t.count t.part)) (its-slice t.node (stmt.Select query) level g c is _ x) x.truth)
+    true-part t x = by_truth (subst (λ s. IsTruth (marks_in (world_of script x.given.before).steps) (marks_in (world_of script x.upto).steps) t.node x.level g c s (reply.Done c t.wrote t.count t.part)) (its-slice script some numbered es t.node (stmt.Select query) level g c is _ x) x.truth)
       where
         by_truth : IsTruth (marks_in (world_of script x.given.before).steps) (marks_in (world_of script x.upto).steps) t.node x.level g c (slice.Select query) (reply.Done c t.wrote t.count t.part) → IsTruePart ms t.node level g c query t.part
         by_truth (inl a) = absurd (unaborted-then script some numbered es t.node g c _ x is.running a)
-        by_truth (inr p) = subst (λ l. IsTruePart ms t.node l g c query t.part) (its-level t.node (stmt.Select query) level g c is _ x) (part-now script some numbered es t.node g c _ x x.level query t.part p)
+        by_truth (inr p) = subst (λ l. IsTruePart ms t.node l g c query t.part) (its-level script some numbered es t.node (stmt.Select query) level g c is _ x) (part-now script some numbered es t.node g c _ x x.level query t.part p)
 
     true-parts : (taken : List Taken) → AreAll (λ t. IsEarned script es t.node g c (reply.Done c t.wrote t.count t.part)) taken → AreAll (λ t. IsTruePart ms t.node level g c query t.part) taken
     true-parts [] h = tt
@@ -163,9 +133,9 @@ module _ (script : Script) (some : 1 ≤ script.segments) (numbered : AreLinesNu
         absurd (false-true (sym (all i.0) ∙ ap (has i.0) (ap nodes_in (sym (ok-same plan)) ∙ nodes-of-pieces (slice.Select query) _) ∙ i.1))
     shows pieces plan (t ∷ ts) h distinct all =
         record {
-          rows = seen script some keyed ms before placed g c query;
+          rows = seen script some keyed ms before placed g c query.table query.cond;
           sees = record { place = h.0.place; taken = h.0.taken; view = view-is ms before (Some (g, c)) query.table };
-          whole = whole script some keyed ms before placed g c query (t ∷ ts) says distinct covers;
+          whole = whole script some keyed ms before placed g c query.table query.cond (t ∷ ts) covers (have-parts script some keyed ms before placed g c query (t ∷ ts) says);
           answered = merged script some keyed ms before placed g c query (t ∷ ts) says distinct covers;
         }
       where
@@ -187,21 +157,16 @@ module _ (script : Script) (some : 1 ≤ script.segments) (numbered : AreLinesNu
     true-replies [] h = tt
     true-replies (t ∷ ts) h = ((heard script some numbered es now earlier later t.node _ h.0).word_earned g (reply.Done c t.wrote t.count t.part) refl, true-replies ts h.1)
 
-    -- segments don't run the others yet
-    never : (line : Stmt) (s : Slice) → IsOf script ms line level g c → ((x : Slice) → IsSliceOf line x → x ≡ s) → ((before marks : List Mark) (node : Node) (l : Level) (r : Reply) → IsTruth before marks node l g c s r → ⊥) → (nodes : List Node) → (i : Node) × (has i nodes ≡ true) → (taken : List Taken) → AreAll (λ t. IsEarned script es t.node g c (reply.Done c t.wrote t.count t.part)) taken → ((i : Node) → has i nodes ≡ has i (nodes_taken taken)) → ⊥
-    never line s is same false_ nodes i [] h all = false-true (sym (all i.0) ∙ i.1)
-    never line s is same false_ nodes i (t ∷ ts) h all =
-        false_ (marks_in (world_of script h.0.given.before).steps) (marks_in (world_of script h.0.upto).steps) t.node h.0.level (reply.Done c t.wrote t.count t.part) (subst (λ y. IsTruth (marks_in (world_of script h.0.given.before).steps) (marks_in (world_of script h.0.upto).steps) t.node h.0.level g c y (reply.Done c t.wrote t.count t.part)) (same h.0.slice (its-slice t.node line level g c is _ h.0)) h.0.truth)
-
-    covers-pieces : (s : Slice) (nodes : List Node) (pieces : List Piece) (taken : List Taken) → (let o : Result (List Piece) ArithFault = Ok (map (piece s) nodes) in o) ≡ Ok pieces → ((i : Node) → has i (nodes_in pieces) ≡ has i (nodes_taken taken)) → (i : Node) → has i nodes ≡ has i (nodes_taken taken)
-    covers-pieces s nodes pieces taken plan all i = sym (ap (has i) (ap nodes_in (sym (ok-same plan)) ∙ nodes-of-pieces s nodes)) ∙ all i
+    heard-replies : (taken : List Taken) → AreAll (λ t. HasReceived (point_at (world_of script es).steps now earlier later) t.node the_coordinator (message.Answer g (reply.Done c t.wrote t.count t.part))) taken → AreAll (λ t. (1 ≤ t.node.0) × IsEarned script es t.node g c (reply.Done c t.wrote t.count t.part)) taken
+    heard-replies [] h = tt
+    heard-replies (t ∷ ts) h = let x = heard script some numbered es now earlier later t.node _ h.0 in ((x.segment.0, x.word_earned g (reply.Done c t.wrote t.count t.part) refl), heard-replies ts h.1)
 
     -- LOCK TABLE: each segment has told that the mode is held there, and at the coordinator
     module _ (table : Table) (mode : Mode) (is : IsOf script ms (stmt.Lock table mode) level g c) where
       both-hold : (t : Taken) → IsEarned script es t.node g c (reply.Done c t.wrote t.count t.part) → (is_held ms t.node g (Relation table) mode ≡ true) × (is_held ms the_coordinator g (Relation table) mode ≡ true)
       both-hold t x =
           lock-now script some numbered es t.node g c _ x table mode is.running
-          (subst (λ s. IsTruth (marks_in (world_of script x.given.before).steps) (marks_in (world_of script x.upto).steps) t.node x.level g c s (reply.Done c t.wrote t.count t.part)) (its-slice t.node (stmt.Lock table mode) level g c is _ x) x.truth).1
+          (subst (λ s. IsTruth (marks_in (world_of script x.given.before).steps) (marks_in (world_of script x.upto).steps) t.node x.level g c s (reply.Done c t.wrote t.count t.part)) (its-slice script some numbered es t.node (stmt.Lock table mode) level g c is _ x) x.truth).1
 
       no-one : false ≡ true → ⊥
       no-one e = cc
@@ -246,9 +211,11 @@ module _ (script : Script) (some : 1 ≤ script.segments) (numbered : AreLinesNu
         (shows once q level g c is x.pieces x.plan x.taken (true-parts once q level g c is x.taken (true-replies x.taken x.received)) x.apart x.all))
     tells-by (stmt.Insert t v) is runs x inserts = inserts t v refl
     tells-by (stmt.Update t a d) is runs x inserts =
-        absurd (never (stmt.Update t a d) (slice.Update t a d) is (λ s e. e) (λ b m n l r z. z) (nodes_of script.segments (target_of script.segments (dist_of script.tables t.0) d)) (some-node script.segments _ some) x.taken (true-replies x.taken x.received) (covers-pieces (slice.Update t a d) _ x.pieces x.taken x.plan x.all))
+        subst (Tells script (ms ++ earlier) level g c (stmt.Update t a d)) (sym x.is)
+        (changed script some numbered keyed es once (stmt.Update t a d) (slice.Update t a d) t d level g c is (λ s e. e) (λ b m n l w k p z. z) x.pieces x.plan (λ ts all. covers-pieces (slice.Update t a d) _ x.pieces ts x.plan all) earlier quiet x.taken (heard-replies x.taken x.received) x.apart x.all)
     tells-by (stmt.Delete t d) is runs x inserts =
-        absurd (never (stmt.Delete t d) (slice.Delete t d) is (λ s e. e) (λ b m n l r z. z) (nodes_of script.segments (target_of script.segments (dist_of script.tables t.0) d)) (some-node script.segments _ some) x.taken (true-replies x.taken x.received) (covers-pieces (slice.Delete t d) _ x.pieces x.taken x.plan x.all))
+        subst (Tells script (ms ++ earlier) level g c (stmt.Delete t d)) (sym x.is)
+        (changed script some numbered keyed es once (stmt.Delete t d) (slice.Delete t d) t d level g c is (λ s e. e) (λ b m n l w k p z. z) x.pieces x.plan (λ ts all. covers-pieces (slice.Delete t d) _ x.pieces ts x.plan all) earlier quiet x.taken (heard-replies x.taken x.received) x.apart x.all)
     tells-by (stmt.Lock t m) is runs x inserts =
         subst (Tells script (ms ++ earlier) level g c (stmt.Lock t m)) (sym x.is)
         (locks t m is x.taken (true-replies x.taken x.received) (covers-pieces (slice.Lock t m) (nodes_of script.segments AllOfThem) x.pieces x.taken x.plan x.all))
@@ -270,73 +237,3 @@ module _ (script : Script) (some : 1 ≤ script.segments) (numbered : AreLinesNu
         no-rollback Rattle.gx_store.specs.Lines.Outside e = cc
         no-rollback (Rattle.gx_store.specs.Lines.InBlock k n) e = cc
         no-rollback Rattle.gx_store.specs.Lines.Failed e = cc
-
-  -- A COMMAND THAT FAILED
-  module _ (now : Event) (later : List Mark) (level : Level) (g : Gxid) (c : Cid) (segment : Node) where
-    abbrev behind : List Mark
-    behind = mark.Abort g ∷ []
-
-    -- the segment's word
-    abbrev Says : Cause → Type 0
-    Says cause = Receives (world_of script es).steps now segment the_coordinator (message.Answer g (reply.Failed c cause))
-
-    -- the fault, at the point
-    faulted : (query : Query) → IsOf script ms (stmt.Select query) level g c → (r : Reply) (x : IsEarned script es segment g c r) (cause : Cause) (f : IsTrueFault (marks_in (world_of script x.given.before).steps) (marks_in (world_of script x.upto).steps) level g c query cause) → Says cause → HasFaulted (point_at (world_of script es).steps now behind later) (stmt.Select query) level g c f.fault (cause_of f.fault)
-    faulted query is r x cause f got =
-        record {
-          place = f.place;
-          rid = f.rid;
-          image = f.image;
-          noted = get-append ms behind f.place _ there;
-          unaborted = ap (λ m. is_aborted m g) same ∙ f.unaborted;
-          faults = subst (λ m. Rattle.gx_store.specs.Faults.FaultsOnSeen m level g c query.table query.cond f.rid f.image f.fault) (sym same) f.faults;
-          heard = record {
-            segment = segment;
-            said = subst Says f.is got;
-            place = length (world_of script x.given.before).steps;
-            step = x.given.step;
-            at = own-step script some numbered es segment g c r x;
-            node = x.given.place;
-            noted = seam-second (marks_in (world_of script x.given.before).steps) x.given.step.marks f.place (mark.Fault g c f.rid f.image) f.behind_lock
-                (subst (λ m. slice_get m f.place ≡ Some (mark.Fault g c f.rid f.image)) (ap marks_in x.given.steps ∙ marks_in-push (world_of script x.given.before).steps x.given.step) f.noted);
-          };
-        }
-      where
-        before : List Mark
-        before = marks_in (world_of script x.upto).steps
-
-        rest : List Mark
-        rest = more script some numbered es segment g c r x
-
-        there : slice_get ms f.place ≡ Some (mark.Fault g c f.rid f.image)
-        there = ap (λ m. slice_get m f.place) (marks-are script some numbered es segment g c r x) ∙ get-append before rest f.place _ f.noted
-
-        same : take f.place (ms ++ behind) ≡ take f.place before
-        same = take-kept ms behind f.place _ there ∙ ap (take f.place) (marks-are script some numbered es segment g c r x) ∙ take-kept before rest f.place _ f.noted
-
-    by-fault : (query : Query) (cause : Cause) (f : ArithFault) → cause ≡ cause_of f → HasFaulted (point_at (world_of script es).steps now behind later) (stmt.Select query) level g c f (cause_of f) → IsCause (point_at (world_of script es).steps now behind later) (stmt.Select query) level g c (reason_of cause)
-    by-fault query cause arith_fault.Overflow e h = subst (λ z. IsCause (point_at (world_of script es).steps now behind later) (stmt.Select query) level g c (reason_of z)) (sym e) h
-    by-fault query cause arith_fault.DivisionByZero e h = subst (λ z. IsCause (point_at (world_of script es).steps now behind later) (stmt.Select query) level g c (reason_of z)) (sym e) h
-
-    pub caused : (line : Stmt) → IsOf script ms line level g c → (cause : Cause) → Says cause → (x : IsEarned script es segment g c (reply.Failed c cause)) → IsCause (point_at (world_of script es).steps now behind later) line level g c (reason_of cause)
-    caused (stmt.Select q) is cause got x = by_truth (subst (λ s. IsTruth (marks_in (world_of script x.given.before).steps) (marks_in (world_of script x.upto).steps) segment x.level g c s (reply.Failed c cause)) (its-slice segment (stmt.Select q) level g c is _ x) x.truth)
-      where
-        by_truth : IsTruth (marks_in (world_of script x.given.before).steps) (marks_in (world_of script x.upto).steps) segment x.level g c (slice.Select q) (reply.Failed c cause) → IsCause (point_at (world_of script es).steps now behind later) (stmt.Select q) level g c (reason_of cause)
-        by_truth (inl a) = absurd (unaborted-then script some numbered es segment g c _ x is.running a)
-        by_truth (inr f) =
-            let h = subst (λ l. IsTrueFault (marks_in (world_of script x.given.before).steps) (marks_in (world_of script x.upto).steps) l g c q cause) (its-level segment (stmt.Select q) level g c is _ x) f in
-            by-fault q cause h.fault h.is (faulted q is _ x cause h got)
-    caused (stmt.Insert t v) is cause got x = absurd (no-insert x.slice (its-slice segment (stmt.Insert t v) level g c is _ x) x.truth)
-      where
-        no-insert : (s : Slice) → IsSliceOf (stmt.Insert t v) s → IsTruth (marks_in (world_of script x.given.before).steps) (marks_in (world_of script x.upto).steps) segment x.level g c s (reply.Failed c cause) → ⊥
-        no-insert (slice.Insert u rows) e z = z
-        no-insert (slice.Select q) e z = e
-        no-insert (slice.Update u a d) e z = e
-        no-insert (slice.Delete u d) e z = e
-        no-insert (slice.Lock u m) e z = e
-    caused (stmt.Update t a d) is cause got x = absurd (subst (λ s. IsTruth (marks_in (world_of script x.given.before).steps) (marks_in (world_of script x.upto).steps) segment x.level g c s (reply.Failed c cause)) (its-slice segment (stmt.Update t a d) level g c is _ x) x.truth)
-    caused (stmt.Delete t d) is cause got x = absurd (subst (λ s. IsTruth (marks_in (world_of script x.given.before).steps) (marks_in (world_of script x.upto).steps) segment x.level g c s (reply.Failed c cause)) (its-slice segment (stmt.Delete t d) level g c is _ x) x.truth)
-    caused (stmt.Lock t m) is cause got x = absurd (subst (λ s. IsTruth (marks_in (world_of script x.given.before).steps) (marks_in (world_of script x.upto).steps) segment x.level g c s (reply.Failed c cause)) (its-slice segment (stmt.Lock t m) level g c is _ x) x.truth)
-    caused (stmt.Begin l) is cause got x = absurd (its-slice segment (stmt.Begin l) level g c is _ x)
-    caused stmt.Commit is cause got x = absurd (its-slice segment stmt.Commit level g c is _ x)
-    caused stmt.Rollback is cause got x = absurd (its-slice segment stmt.Rollback level g c is _ x)
