@@ -135,7 +135,7 @@ module _ (s : Seg) (g : Gxid) (k : Change) where
       by_fault (Some fault) = inl (record { base = b; marks = _; said = _; kind = refl; is = refl; others = e })
 
 -- WHAT IT SAYS
-count-none : (node : Node) (g : Gxid) (c : Cid) (extra : List Mark) → Each NoWrite extra → count_at node g c extra ≡ 0
+pub count-none : (node : Node) (g : Gxid) (c : Cid) (extra : List Mark) → Each NoWrite extra → count_at node g c extra ≡ 0
 count-none node g c [] e = refl
 count-none node g c (mark.Write h d n t r x ∷ ms) e = absurd e.0
 count-none node g c (m ∷ ms) e = count-none node g c ms e.1

@@ -60,7 +60,7 @@ use Rattle.gx_law_changes.specs.Says.{IsPartDone, count_at}
 use Rattle.gx_law_changes.proofs.Parts.{part-later}
 use Rattle.gx_law_answers.proofs.Changed.{processed-more}
 use Rattle.gx_law_answers.proofs.Shown.{only-at}
-use Rattle.gx_law_answers.proofs.Turned.{counts-stay}
+use Rattle.gx_law_answers.proofs.Counted.{counts-stay}
 use Rattle.gx_law_answers.proofs.Truths.{aborted-more, snapshot-more}
 
 by-recursion-get : {A : Type 0} (P : A → Type 0) (xs : List A) (k : ℕ) (x : A) → AllByRecursion P xs → slice_get xs k ≡ Some x → P x

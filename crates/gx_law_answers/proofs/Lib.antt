@@ -15,6 +15,7 @@ pub mod Arrivals
 pub mod Resumptions
 pub mod Stepping
 pub mod Ordered
+pub mod Counted
 pub mod Origins
 pub mod Always
 pub mod Commands

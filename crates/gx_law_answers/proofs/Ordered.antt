@@ -1,4 +1,4 @@
--- Each write of a segment is of a command whose EXEC the coordinator has sent to it.
+-- Each write of a segment is of a command whose EXEC the coordinator has sent to it; in a step it is of one that has still to run there.
 use Rattle.std.proofs.Common.{◌≡◌, ◌≤◌, inl, inr, ℕ, List, [], ◌∷◌, ◌++◌, Option, Some, None, Bool, refl, sym, subst, ap, ◌∙◌, ◌⊎◌}
 use Rattle.gx_lemmas.proofs.Numbers.{one-le-none}
 use Rattle.gx_ids.specs.declared.ids.Cid.{Cid}
@@ -25,7 +25,7 @@ use Rattle.gx_rules.specs.AtSegment.{on_event, raised, seg_rule}
 use Rattle.gx_rules.specs.Locks.{hold_mark}
 use Rattle.gx_rules.specs.Machine.{World, coord_did, seg_did, world_of}
 use Rattle.gx_rules.specs.Running.{is_granted, unless_end}
-use Rattle.gx_rules.specs.Segments.{Seg, SegTurn, after_marks}
+use Rattle.gx_rules.specs.Segments.{Seg, SegTurn, after_marks, local_of}
 use Rattle.gx_rules.specs.Sending.{numbered}
 use Rattle.gx_rules.specs.Slices.{Moved}
 use Rattle.gx_law_order.proofs.Changing.{change-parts}
@@ -37,6 +37,7 @@ use Rattle.gx_law_sessions.specs.Orders.{IsOrder}
 use Rattle.gx_law_sessions.proofs.Outs.{order-more}
 use Rattle.gx_law_changes.proofs.Frames.{IsWork}
 use Rattle.gx_law_writes.proofs.Legal.{sent-no-write}
+use Rattle.gx_law_writes.proofs.Next.{next_command}
 use Rattle.gx_law_writes.proofs.Turns.{NoRow, NoWrite}
 use Rattle.gx_law_answers.specs.Earned.{Events}
 use Rattle.gx_law_answers.proofs.Running.{AtItsRow, Doings, IsLate, Runs}
@@ -54,7 +55,7 @@ IsOrderedMark script ms (mark.Write g c node t r x) = HasOrder script ms node g 
 IsOrderedMark script ms _ = Unit {0}
 
 -- ---- marks
-here-no-write : (script : Script) (ms : List Mark) → Each (IsAtNode script the_coordinator) ms → Each NoWrite ms
+pub here-no-write : (script : Script) (ms : List Mark) → Each (IsAtNode script the_coordinator) ms → Each NoWrite ms
 here-no-write script [] e = tt
 here-no-write script (mark.Write g c n t r x ∷ ms) e = absurd (one-le-none e.0.1.0)
 here-no-write script (mark.Skip g c r ∷ ms) e = absurd (one-le-none e.0.0)
@@ -125,6 +126,7 @@ module _ (script : Script) (some : 1 ≤ script.segments) (numbered_lines : AreL
       pub g : Gxid
       pub c : Cid
       pub its : HasOrder script ms to g c
+      pub next : next_command (local_of s g) ≤ c.0
       pub work : Each (IsWork to g c) turn.marks
 
     run-works : (y : Slice) → Runs script es to e fails x y → HasWorked
@@ -133,6 +135,7 @@ module _ (script : Script) (some : 1 ≤ script.segments) (numbered_lines : AreL
           g = z.g;
           c = z.c;
           its = record { level = z.level; snapshot = z.snapshot; slice = y; order = z.came.order_is numbered_lines };
+          next = z.next;
           work = subst (λ (t : SegTurn). Each (IsWork to z.g z.c) t.marks) (sym z.ran) (tt, slice-works to z.g (record (raised z.like z.horizon) { locks = z.locks }) (z.named ∙ named) z.c z.level z.snapshot y);
         }
 
@@ -142,6 +145,7 @@ module _ (script : Script) (some : 1 ≤ script.segments) (numbered_lines : AreL
           g = z.g;
           c = z.on.slice.cid;
           its = record { level = z.on.slice.level; snapshot = z.on.slice.snapshot; slice = z.on.slice.slice; order = z.came.order_is numbered_lines };
+          next = z.next;
           work = subst (λ c. Each (IsWork to z.g c) turn.marks) (change-parts z.on.slice.cid z.on.slice.level z.on.slice.snapshot z.on.slice.slice k z.goes.at.changes).cid
               (subst (λ (t : SegTurn). Each (IsWork to z.g k.cid) t.marks) (sym z.goes.is) (loop-works to z.g k (z.goes.at.rid ∷ z.on.slice.rows) (is_granted s z.g z.on.wanted) z.on.slice.count granted));
         }
@@ -160,11 +164,19 @@ module _ (script : Script) (some : 1 ≤ script.segments) (numbered_lines : AreL
         granted : WorkSoFar to z.g k.cid (is_granted s z.g z.on.wanted)
         granted = by_object z.on.wanted.object
 
+    -- its marks write nothing, or are a command's work
+    pub turn-works : Doings script es to e fails x → Each NoWrite (on_event script ((world_of script es).segs to.0) x fails).marks ⊎ HasWorked
+    turn-works (inl q) = inl (no-row-write turn.marks q.marks)
+    turn-works (inr (inl q)) = inl (no-row-write turn.marks q.marks)
+    turn-works (inr (inr (inl z))) = inr (run-works z.0 z.1)
+    turn-works (inr (inr (inr z))) = inr (row-works z)
+
     turn-so : Doings script es to e fails x → Each (IsOrderedMark script (ms ++ (turn.marks ++ sent))) turn.marks
-    turn-so (inl q) = no-write-ordered script _ turn.marks (no-row-write turn.marks q.marks)
-    turn-so (inr (inl q)) = no-write-ordered script _ turn.marks (no-row-write turn.marks q.marks)
-    turn-so (inr (inr (inl z))) = let h = run-works z.0 z.1 in work-ordered script _ to h.g h.c (has-more ms _ to h.g h.c h.its) turn.marks h.work
-    turn-so (inr (inr (inr z))) = let h = row-works z in work-ordered script _ to h.g h.c (has-more ms _ to h.g h.c h.its) turn.marks h.work
+    turn-so does-it = by_way (turn-works does-it)
+      where
+        by_way : Each NoWrite turn.marks ⊎ HasWorked → Each (IsOrderedMark script (ms ++ (turn.marks ++ sent))) turn.marks
+        by_way (inl q) = no-write-ordered script _ turn.marks q
+        by_way (inr h) = work-ordered script _ to h.g h.c (has-more ms _ to h.g h.c h.its) turn.marks h.work
 
     seg-so : Doings script es to e fails x → IsSo es → IsSo (es ++ (e, fails) ∷ [])
     seg-so does-it old =

@@ -2,8 +2,8 @@
 use Rattle.std.proofs.Common.{◌≤◌, ℕ, List, [], Bool}
 use Rattle.gx_script.specs.declared.Script.{Script}
 use Rattle.gx_store.specs.Language.{AreLinesNumbered}
-use Rattle.gx_rules.specs.Machine.{after, world_of}
-use Rattle.gx_law_writes.specs.Changes.{AreLaterTurnsTrue, AreNewTurnsTrue, DoCountsStay}
+use Rattle.gx_rules.specs.Machine.{world_of}
+use Rattle.gx_law_writes.specs.Changes.{AreLaterTurnsTrue, AreNewTurnsTrue}
 use Rattle.gx_law_answers.specs.Earned.{Events}
 
 module _ (script : Script) (some : 1 ≤ script.segments) (numbered : AreLinesNumbered [] script.lines) (es : Events) where
@@ -12,6 +12,3 @@ module _ (script : Script) (some : 1 ≤ script.segments) (numbered : AreLinesNu
 
   pub later-turns : AreLaterTurnsTrue script (world_of script es)
   later-turns = ?
-
-  pub counts-stay : (more : Events) → DoCountsStay (world_of script es) (after script (world_of script es) more)
-  counts-stay more = ?
