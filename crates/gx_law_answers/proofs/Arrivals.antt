@@ -131,5 +131,5 @@ module _ (script : Script) (some : 1 ≤ script.segments) (numbered_lines : AreL
           inr (inr (inl (
             z.change.slice,
             at-once z.g z.change.cid z.change.level (Some z.change.snapshot) z.horizon z.change.slice refl z.is z.fresh z.alone (with_hold s.locks z.wanted) z.wanted z.locked
-            (z.ran ∙ ap (after_marks (hold_mark s.node z.wanted ∷ [])) (sym (change-runs (base s z.horizon (with_hold s.locks z.wanted)) z.g z.change.cid z.change.level z.change.snapshot z.change.slice z.change z.changes))),
+                (z.ran ∙ ap (after_marks (hold_mark s.node z.wanted ∷ [])) (sym (change-runs (base s z.horizon (with_hold s.locks z.wanted)) z.g z.change.cid z.change.level z.change.snapshot z.change.slice z.change z.changes))),
           )))

@@ -1,5 +1,5 @@
 -- A command that a segment has failed is refused for what the segment says: a fault, or a row that was overtaken.
-use Rattle.std.proofs.Common.{◌≡◌, ◌≤◌, ◌<◌, ◌⊎◌, inl, inr, ℕ, zero, suc, ◌+◌, List, [], ◌∷◌, ◌++◌, length, Some, None, Bool, true, false, refl, sym, subst, ap, ◌∙◌, arith, append-nil}
+use Rattle.std.proofs.Common.{◌≡◌, ◌≤◌, ◌<◌, ◌⊎◌, inl, inr, ℕ, zero, suc, ◌+◌, List, [], ◌∷◌, ◌++◌, length, Some, refl, sym, subst, ap, ◌∙◌, arith, append-nil}
 use Rattle.std.proofs.Math.Seq.{take-append_seam}
 use Rattle.std.proofs.lemmas.Option.{get_or_from_slice_get, slice_get_within}
 use Rattle.std.specs.Prelude.{Contains, drop, slice_get, take}
@@ -24,7 +24,6 @@ use Rattle.gx_meaning.specs.declared.fault.ArithFault.TheVariants as arith_fault
 use Rattle.gx_msg.specs.declared.message.Message.{Message}
 use Rattle.gx_msg.specs.declared.message.Message.TheVariants as message
 use Rattle.gx_msg.specs.declared.reply.Cause.{Cause}
-use Rattle.gx_msg.specs.declared.reply.Cause.TheVariants.{Serialization}
 use Rattle.gx_msg.specs.declared.reply.Reply.{Reply}
 use Rattle.gx_msg.specs.declared.reply.Reply.TheVariants as reply
 use Rattle.gx_script.specs.declared.Script.{Script}
@@ -35,9 +34,9 @@ use Rattle.gx_store.specs.declared.run.Step.{Step}
 use Rattle.gx_store.specs.Faults.{IsFaultOf}
 use Rattle.gx_store.specs.Language.{AreLinesNumbered}
 use Rattle.gx_store.specs.Marks.{is_aborted}
-use Rattle.gx_store.specs.Messages.{IsFirstSent, IsSending, IsSent, Receives, marks_before}
+use Rattle.gx_store.specs.Messages.{IsFirstSent, IsSending, Receives}
 use Rattle.gx_store.specs.Points.{marks_in}
-use Rattle.gx_store.specs.Refusals.{HasFaulted, IsCause, IsChange, IsHeard, IsOvertaken, IsOvertakenRow, IsWord, the_coordinator}
+use Rattle.gx_store.specs.Refusals.{HasFaulted, IsCause, IsChange, IsHeard, IsOvertaken, IsWord, the_coordinator}
 use Rattle.gx_store.proofs.Runs.{marks_in-push}
 use Rattle.gx_rules.specs.AtCoordinator.{reason_of}
 use Rattle.gx_rules.specs.Machine.{world_of}
@@ -50,7 +49,7 @@ use Rattle.gx_law_writes.proofs.Pieces.{IsSliceOf}
 use Rattle.gx_law_writes.proofs.Told.{sending-told}
 use Rattle.gx_law_writes.proofs.World.{locals_in, world-holds}
 use Rattle.gx_law_answers.specs.Earned.{Events, IsEarned, RunsAtOnce, RunsBehindWait}
-use Rattle.gx_law_answers.specs.Truth.{IsTrueFailure, IsTrueFault, IsTrueLoss, IsTrueSelectFault, IsTruth, SendNothing}
+use Rattle.gx_law_answers.specs.Truth.{IsTrueFailure, IsTrueFault, IsTrueLoss, IsTruth, SendNothing}
 use Rattle.gx_law_answers.proofs.Commands.{IsOf}
 use Rattle.gx_law_answers.proofs.Heard.{marks-are, more, own-step, steps-are, unaborted-then}
 use Rattle.gx_law_answers.proofs.Ours.{its-level, its-slice}

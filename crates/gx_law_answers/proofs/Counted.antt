@@ -27,7 +27,7 @@ use Rattle.gx_rules.specs.AtSegment.{on_event}
 use Rattle.gx_rules.specs.Machine.{World, after, coord_did, happens, new_world, world_of}
 use Rattle.gx_rules.specs.Segments.{SegTurn, local_of}
 use Rattle.gx_rules.specs.Sending.{numbered}
-use Rattle.gx_law_order.proofs.Lists.{Each, each_append}
+use Rattle.gx_law_order.proofs.Lists.{Each}
 use Rattle.gx_law_order.proofs.Ordered.{at_coordinator, world_well}
 use Rattle.gx_law_order.proofs.World.{marks-last}
 use Rattle.gx_law_changes.specs.Says.{count_at}
@@ -42,7 +42,7 @@ use Rattle.gx_law_answers.specs.Earned.{Events}
 use Rattle.gx_law_answers.proofs.Changed.{count-append, count-none}
 use Rattle.gx_law_answers.proofs.Ordered.{HasWorked, here-no-write, turn-works}
 use Rattle.gx_law_answers.proofs.Running.{Doings, IsLate}
-use Rattle.gx_law_answers.proofs.Stepping.{Kept, all-keep}
+use Rattle.gx_law_answers.proofs.Stepping.{all-keep}
 
 -- another's work, or work elsewhere
 count-other : (node : Node) (g : Gxid) (c : Cid) (to : Node) (h : Gxid) (d : Cid) → (is_same_node to node && is_command_of g c h d) ≡ false → (xs : List Mark) → Each (IsWork to h d) xs → count_at node g c xs ≡ 0

@@ -1,5 +1,5 @@
 -- Each write of a segment is of a command whose EXEC the coordinator has sent to it; in a step it is of one that has still to run there.
-use Rattle.std.proofs.Common.{◌≡◌, ◌≤◌, inl, inr, ℕ, List, [], ◌∷◌, ◌++◌, Option, Some, None, Bool, refl, sym, subst, ap, ◌∙◌, ◌⊎◌}
+use Rattle.std.proofs.Common.{◌≡◌, ◌≤◌, inl, inr, List, [], ◌∷◌, ◌++◌, Option, Bool, sym, subst, ap, ◌∙◌, ◌⊎◌}
 use Rattle.gx_lemmas.proofs.Numbers.{one-le-none}
 use Rattle.gx_ids.specs.declared.ids.Cid.{Cid}
 use Rattle.gx_ids.specs.declared.ids.Gxid.{Gxid}
@@ -21,11 +21,11 @@ use Rattle.gx_store.specs.Ordered.{IsAtNode, IsSegment}
 use Rattle.gx_store.specs.Points.{marks_in}
 use Rattle.gx_store.specs.Refusals.{the_coordinator}
 use Rattle.gx_rules.specs.AtCoordinator.{coord_rule}
-use Rattle.gx_rules.specs.AtSegment.{on_event, raised, seg_rule}
+use Rattle.gx_rules.specs.AtSegment.{on_event, raised}
 use Rattle.gx_rules.specs.Locks.{hold_mark}
-use Rattle.gx_rules.specs.Machine.{World, coord_did, seg_did, world_of}
+use Rattle.gx_rules.specs.Machine.{World, coord_did, world_of}
 use Rattle.gx_rules.specs.Running.{is_granted, unless_end}
-use Rattle.gx_rules.specs.Segments.{Seg, SegTurn, after_marks, local_of}
+use Rattle.gx_rules.specs.Segments.{Seg, SegTurn, local_of}
 use Rattle.gx_rules.specs.Sending.{numbered}
 use Rattle.gx_rules.specs.Slices.{Moved}
 use Rattle.gx_law_order.proofs.Changing.{change-parts}

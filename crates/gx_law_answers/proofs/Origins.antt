@@ -80,7 +80,7 @@ use Rattle.gx_law_writes.specs.Changes.{IsTrueTurn}
 use Rattle.gx_law_answers.proofs.Changed.{AreAnswersOf, IsOfCommand, Leaves, change-leaves, change-truth, loop-leaves, says-true}
 use Rattle.gx_law_answers.proofs.Posts.{Came}
 use Rattle.gx_law_answers.proofs.Resumptions.{answer-of, unsuspended}
-use Rattle.gx_law_answers.proofs.Running.{AtItsRow, Doings, Idle, IsLate, Runs, snapshot-of}
+use Rattle.gx_law_answers.proofs.Running.{AtItsRow, Doings, IsLate, Runs, snapshot-of}
 use Rattle.gx_law_changes.proofs.Shown.{shown-part}
 use Rattle.gx_law_answers.proofs.Shown.{only-at}
 use Rattle.gx_law_answers.proofs.Truths.{aborted-more, marks_of, reply_of, select-truth}

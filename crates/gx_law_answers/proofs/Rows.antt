@@ -1,7 +1,7 @@
 -- The rows that a command sees, divided over the nodes of its plan: each stands at its place.
-use Rattle.std.proofs.Common.{ℕ, ◌+◌, ◌%◌, ◌<◌, ◌≤◌, ◌≡◌, ◌≢◌, ◌==◌, ◌⊎◌, inl, inr, ◌∙◌, ◌||◌, Bool, true, false, cond, if◌then◌else◌, List, [], ◌∷◌, filter, map, Option, Some, None, Result, Ok, refl, ap, sym, subst, arith, eqb, zero, suc}
+use Rattle.std.proofs.Common.{ℕ, ◌+◌, ◌%◌, ◌<◌, ◌≤◌, ◌≡◌, ◌≢◌, ◌==◌, ◌⊎◌, inl, inr, ◌∙◌, ◌||◌, Bool, true, false, cond, if◌then◌else◌, List, [], ◌∷◌, filter, Option, Some, None, Result, Ok, refl, ap, sym, subst, arith, eqb, zero, suc}
 use Rattle.std.proofs.lemmas.Bool.Decides.{nat_tests}
-use Rattle.std.proofs.lemmas.List.Elements.{All-from_recursion, filter_passes, recursion_from_All}
+use Rattle.std.proofs.lemmas.List.Elements.{All-from_recursion, recursion_from_All}
 use Rattle.std.proofs.lemmas.Nat.{mod_below}
 use Rattle.std.specs.List.{AllByRecursion}
 use Rattle.std.specs.Prelude.{ℤ, pos, negsuc, slice_get, ◌-◌}
@@ -20,7 +20,7 @@ use Rattle.gx_tree.specs.declared.schema.Dist.TheVariants.{By, Randomly}
 use Rattle.gx_tree.specs.declared.value.Value.{Value}
 use Rattle.gx_tree.specs.declared.value.Value.TheVariants.{Int, Text}
 use Rattle.gx_dtx.specs.Nodes.{has}
-use Rattle.gx_meaning.specs.Answer.{ArePartsOf, AreRising, answer_of, grouped_answer, keeps, limited, part_of, plain_answer}
+use Rattle.gx_meaning.specs.Answer.{AreRising, keeps}
 use Rattle.gx_meaning.specs.declared.fault.ArithFault.{ArithFault}
 use Rattle.gx_meaning.specs.Place.{IsWithin, hash_of, key_place, remainder, row_place, value_place}
 use Rattle.gx_meaning.specs.Target.{IsFalseOutside, target_of}
@@ -38,14 +38,14 @@ use Rattle.gx_store.specs.View.{image, is_shown_to}
 use Rattle.gx_store.specs.Writes.{dist_of}
 use Rattle.gx_law_order.proofs.Lists.{Each}
 use Rattle.gx_rules.proofs.ShownRows.{rows-same}
-use Rattle.gx_law_sessions.specs.Gathering.{AreAll, AreApart, Taken, nodes_taken, parts_taken}
+use Rattle.gx_law_sessions.specs.Gathering.{AreAll, Taken, nodes_taken}
 use Rattle.gx_law_writes.specs.Homes.{IsPlacedMark}
 use Rattle.gx_law_answers.specs.Keyed.{AreRowsKeyed}
 use Rattle.gx_law_changes.specs.Parts.{IsPartOf, is_home}
 use Rattle.gx_law_answers.specs.Parts.{HasItsPart}
-use Rattle.gx_law_answers.proofs.Dealt.{AreApartNodes, at, divided, part}
+use Rattle.gx_law_answers.proofs.Dealt.{at, part}
 use Rattle.gx_law_answers.proofs.Homes.{IsHome, home}
-use Rattle.gx_law_answers.proofs.Rising.{each-at, filter-at, filter-comm, filter-twice, from-filter, passing, rising-filter}
+use Rattle.gx_law_answers.proofs.Rising.{each-at, filter-at, from-filter, passing, rising-filter}
 use Rattle.gx_law_changes.proofs.Views.{view-is, view_rows}
 
 -- ---- places are among the segments

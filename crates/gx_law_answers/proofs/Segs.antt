@@ -10,7 +10,6 @@ use Rattle.gx_tree.specs.declared.slice.Slice.{Slice}
 use Rattle.gx_tree.specs.declared.slice.Slice.TheVariants as slice
 use Rattle.gx_dsnap.specs.declared.snapshot.Snapshot.{Snapshot}
 use Rattle.gx_tree.specs.declared.stmt.Stmt.TheVariants as stmt
-use Rattle.gx_waits.specs.declared.claim.Claim.{Claim}
 use Rattle.gx_meaning.specs.declared.fault.ArithFault.{ArithFault}
 use Rattle.gx_msg.specs.declared.message.Envelope.{Envelope}
 use Rattle.gx_script.specs.declared.Script.{Script}

@@ -1,54 +1,31 @@
 -- A SELECT that is gathered from the parts of the nodes of its plan answers its query on the rows that it sees.
-use Rattle.std.proofs.Common.{ℕ, ◌+◌, ◌%◌, ◌<◌, ◌≤◌, ◌≡◌, ◌≢◌, ◌==◌, ◌⊎◌, inl, inr, ◌∙◌, ◌||◌, Bool, true, false, cond, if◌then◌else◌, List, [], ◌∷◌, filter, map, Option, Some, None, Ok, refl, ap, sym, subst, arith, eqb, zero, suc}
-use Rattle.std.proofs.lemmas.Bool.Decides.{nat_tests}
-use Rattle.std.proofs.lemmas.List.Elements.{All-from_recursion, filter_passes, recursion_from_All}
-use Rattle.std.proofs.lemmas.Nat.{mod_below}
+use Rattle.std.proofs.Common.{ℕ, ◌≤◌, ◌≡◌, ◌==◌, inl, inr, ◌∙◌, true, cond, List, [], ◌∷◌, filter, map, refl, ap, sym}
+use Rattle.std.proofs.lemmas.List.Elements.{filter_passes, recursion_from_All}
 use Rattle.std.specs.List.{AllByRecursion}
-use Rattle.std.specs.Prelude.{ℤ, pos, negsuc, slice_get, ◌-◌}
-use Rattle.std.proofs.lemmas.Bool.{or_right}
-use Rattle.gx_lemmas.proofs.Numbers.{eqb-back}
 use Rattle.gx_lemmas.proofs.Tests.{false-true}
 use Rattle.gx_ids.specs.declared.ids.Cid.{Cid}
 use Rattle.gx_ids.specs.declared.ids.Gxid.{Gxid}
 use Rattle.gx_ids.specs.declared.ids.Node.{Node}
-use Rattle.gx_ids.specs.declared.rid.Rid.{Rid}
-use Rattle.gx_tree.specs.declared.cond.Cond.{Cond}
 use Rattle.gx_tree.specs.declared.query.Query.{Query}
 use Rattle.gx_tree.specs.declared.row.KeyedRow.{KeyedRow}
 use Rattle.gx_tree.specs.declared.schema.Dist.{Dist}
-use Rattle.gx_tree.specs.declared.schema.Dist.TheVariants.{By, Randomly}
-use Rattle.gx_tree.specs.declared.value.Value.{Value}
-use Rattle.gx_tree.specs.declared.value.Value.TheVariants.{Int, Text}
 use Rattle.gx_dtx.specs.Nodes.{has}
-use Rattle.gx_meaning.specs.Answer.{ArePartsOf, AreRising, answer_of, grouped_answer, keeps, limited, part_of, plain_answer}
-use Rattle.gx_meaning.specs.Place.{IsWithin, hash_of, key_place, remainder, row_place, value_place}
-use Rattle.gx_meaning.specs.Target.{IsFalseOutside, target_of}
-use Rattle.gx_meaning.specs.declared.target.Target.{Target}
-use Rattle.gx_meaning.specs.declared.target.Target.TheVariants.{One, All as AllOfThem}
-use Rattle.gx_plan.proofs.Outside.{target_of-outside}
-use Rattle.gx_meaning.specs.Plan.{nodes_from, nodes_of}
+use Rattle.gx_meaning.specs.Answer.{ArePartsOf, answer_of, grouped_answer, keeps, limited, part_of, plain_answer}
+use Rattle.gx_meaning.specs.Target.{target_of}
+use Rattle.gx_meaning.specs.Plan.{nodes_of}
 use Rattle.gx_script.specs.declared.Script.{Script}
 use Rattle.gx_store.specs.declared.mark.Mark.{Mark}
-use Rattle.gx_store.specs.Answers.{FaultsOnNone}
-use Rattle.gx_store.specs.Commands.{condition_on}
-use Rattle.gx_store.specs.Marks.{node_of}
-use Rattle.gx_store.specs.Rows.{row_at}
-use Rattle.gx_store.specs.View.{image, is_shown_to}
 use Rattle.gx_store.specs.Writes.{dist_of}
 use Rattle.gx_meaning.specs.Merged.{merged_answer}
 use Rattle.gx_law_order.proofs.Lists.{Each}
-use Rattle.gx_rules.proofs.ShownRows.{rows-same}
 use Rattle.gx_law_sessions.specs.Gathering.{AreAll, AreApart, Taken, nodes_taken, parts_taken}
 use Rattle.gx_law_writes.specs.Homes.{IsPlacedMark}
 use Rattle.gx_law_answers.specs.Keyed.{AreRowsKeyed}
-use Rattle.gx_law_changes.specs.Parts.{IsPartOf, is_home}
 use Rattle.gx_law_answers.specs.Parts.{HasItsPart, SaysItsPart}
 use Rattle.gx_law_answers.proofs.Dealt.{AreApartNodes, at, divided, part}
-use Rattle.gx_law_answers.proofs.Homes.{IsHome, home}
 use Rattle.gx_law_answers.proofs.Merging.{merged-answer}
 use Rattle.gx_law_answers.proofs.Rows.{Stands, all-both, all-filter, all-stand, keeps-false, owner, part-is, seen, seen-rises}
-use Rattle.gx_law_answers.proofs.Rising.{each-at, filter-at, filter-comm, filter-twice, from-filter, passing, rising-filter}
-use Rattle.gx_law_changes.proofs.Views.{view-is, view_rows}
+use Rattle.gx_law_answers.proofs.Rising.{filter-comm, filter-twice, rising-filter}
 
 apart-nodes : (taken : List Taken) → AreApart taken → AreApartNodes (nodes_taken taken)
 apart-nodes [] a = tt

@@ -1,47 +1,17 @@
 -- Where a row's writes stand, each is at one node alone.
-use Rattle.std.proofs.Common.{◌≡◌, ◌==◌, ℕ, List, [], ◌∷◌, Option, Some, None, Result, Ok, Err, Bool, true, false, refl, sym, subst, ap, ◌∙◌, cond, if◌then◌else◌, ◌&&◌, eqb, arith}
-use Rattle.std.proofs.lemmas.Bool.{eqb-true}
-use Rattle.std.proofs.lemmas.Bool.Decides.{nat_tests}
-use Rattle.std.proofs.lemmas.List.Elements.{All-from_recursion}
-use Rattle.std.specs.List.{AllByRecursion}
-use Rattle.std.specs.List.Sorted.{IsStrictlySortedBy}
-use Rattle.std.specs.Option.{option_or}
-use Rattle.std.specs.Prelude.{filter, map, take}
-use Rattle.std.specs.declared.cmp.Ordering.TheVariants.{Less}
+use Rattle.std.proofs.Common.{◌≡◌, List, [], ◌∷◌, Option, Some, Bool, true, false, refl, subst, ap, if◌then◌else◌}
 use Rattle.gx_lemmas.proofs.Numbers.{eqb-of}
 use Rattle.gx_lemmas.proofs.Options.{some-same}
-use Rattle.gx_lemmas.proofs.Tests.{and-last, true-false}
-use Rattle.gx_ids.specs.declared.ids.Cid.{Cid}
-use Rattle.gx_ids.specs.declared.ids.Gxid.{Gxid}
 use Rattle.gx_ids.specs.declared.ids.Node.{Node}
 use Rattle.gx_ids.specs.declared.ids.Table.{Table}
 use Rattle.gx_ids.specs.declared.rid.Rid.{Rid}
-use Rattle.gx_tree.specs.declared.cond.Cond.{Cond}
-use Rattle.gx_tree.specs.declared.row.KeyedRow.{KeyedRow}
 use Rattle.gx_tree.specs.declared.value.Value.{Value}
-use Rattle.gx_dsnap.specs.declared.snapshot.Snapshot.{Snapshot}
-use Rattle.gx_meaning.specs.declared.fault.ArithFault.{ArithFault}
-use Rattle.gx_meaning.specs.Answer.{AreRising}
-use Rattle.gx_meaning.specs.Order.{rid_order}
 use Rattle.gx_script.specs.declared.Script.{Script}
 use Rattle.gx_store.specs.declared.mark.Mark.{Mark}
 use Rattle.gx_store.specs.declared.mark.Mark.TheVariants as mark
-use Rattle.gx_store.specs.Answers.{FaultsOnNone}
-use Rattle.gx_store.specs.Commands.{condition_on}
-use Rattle.gx_store.specs.Journals.{is_same_node}
 use Rattle.gx_store.specs.Marks.{is_same_rid, node_of}
-use Rattle.gx_store.specs.Rows.{row_at}
-use Rattle.gx_store.specs.View.{image, image_after, is_shown_to}
-use Rattle.gx_store.proofs.Rows.{is_same_rid-refl, same_rid}
-use Rattle.gx_rules.specs.Segments.{Seg, Version}
-use Rattle.gx_rules.specs.Shown.{counts, last_images, shown}
-use Rattle.gx_rules.specs.Slices.{first_fault, or_fault}
+use Rattle.gx_store.proofs.Rows.{same_rid}
 use Rattle.gx_law_order.proofs.Lists.{Each}
-use Rattle.gx_law_order.proofs.SegItems.{writes_at}
-use Rattle.gx_rules.specs.Last.{counting, last_image, row_of}
-use Rattle.gx_rules.proofs.KeptImages.{image_in-last_images, in_order-last_images}
-use Rattle.gx_rules.proofs.RowOrder.{less_apart_back}
-use Rattle.gx_rules.proofs.ShownRows.{rising-rows_in, row_at-rows_in}
 use Rattle.gx_law_reads.specs.Sights.{IsOnlyAt}
 use Rattle.gx_law_writes.specs.Homes.{IsPlaced, IsPlacedMark}
 use Rattle.gx_law_writes.proofs.Placed.{same-place}
@@ -70,4 +40,3 @@ module _ (script : Script) (all : List Mark) (node : Node) (rid : Rid) where
 
   pub only-at : (ms : List Mark) → Each (IsPlacedMark script all) ms → node_of ms rid ≡ Some node → IsOnlyAt node rid ms
   only-at ms e f = only-rest (first-at ms e f) ms e
-

@@ -1,6 +1,6 @@
 -- What every step of the machine keeps holds of every run: a step that changes nothing, one of the coordinator, or one of a segment,
 -- by what it does in its turn.
-use Rattle.std.proofs.Common.{◌≡◌, ◌≤◌, inl, inr, ℕ, List, [], ◌∷◌, ◌++◌, Option, Some, None, Bool, true, false, refl, sym, subst, ap, ◌∙◌, if◌then◌else◌, eqb, arith, append_assoc, append-nil}
+use Rattle.std.proofs.Common.{◌≡◌, ◌≤◌, inl, inr, ℕ, [], ◌∷◌, ◌++◌, Option, Some, None, Bool, true, false, refl, sym, subst, ap, ◌∙◌, if◌then◌else◌, eqb, arith, append_assoc, append-nil}
 use Rattle.std.proofs.lemmas.Bool.Decides.{nat_tests}
 use Rattle.gx_lemmas.proofs.Numbers.{one-le-zero}
 use Rattle.gx_ids.specs.declared.ids.Gxid.{Gxid}

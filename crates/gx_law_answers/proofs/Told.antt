@@ -1,14 +1,10 @@
 -- A gathered command did what its answer says.
-use Rattle.std.proofs.Common.{◌≡◌, ◌≤◌, ◌<◌, inl, inr, ℕ, List, [], ◌∷◌, ◌++◌, Some, None, Result, Ok, Bool, true, false, refl, sym, subst, ap, ◌∙◌, ◌||◌, arith, eqb, map, zero, suc, ◌+◌}
-use Rattle.std.proofs.lemmas.Option.{get_or_from_slice_get, slice_get_within}
+use Rattle.std.proofs.Common.{◌≡◌, ◌≤◌, ◌<◌, inl, inr, ℕ, List, [], ◌∷◌, ◌++◌, Some, None, Ok, Bool, true, false, refl, sym, subst, ap, ◌∙◌, ◌||◌, arith, eqb, ◌+◌}
 use Rattle.std.proofs.lemmas.Bool.{eqb-true}
 use Rattle.std.proofs.lemmas.Bool.Decides.{nat_tests}
 use Rattle.std.specs.List.{list_any}
-use Rattle.std.specs.Prelude.{Contains, length, slice_get, take}
-use Rattle.gx_lemmas.proofs.Lists.{get-append}
+use Rattle.std.specs.Prelude.{take}
 use Rattle.gx_lemmas.proofs.Tests.{false-true}
-use Rattle.gx_lemmas.proofs.Options.{some-same}
-use Rattle.gx_lemmas.proofs.Numbers.{eqb-self}
 use Rattle.gx_ids.specs.declared.ids.Cid.{Cid}
 use Rattle.gx_ids.specs.declared.ids.Gxid.{Gxid}
 use Rattle.gx_ids.specs.declared.ids.Node.{Node}
@@ -19,42 +15,32 @@ use Rattle.gx_waits.specs.Claim.{same_claim}
 use Rattle.gx_waits.specs.declared.object.Object.TheVariants.{Relation}
 use Rattle.gx_tree.specs.declared.cell.Cell.{Cell}
 use Rattle.gx_tree.specs.declared.query.Query.{Query}
-use Rattle.gx_tree.specs.declared.slice.Slice.{Slice}
 use Rattle.gx_tree.specs.declared.slice.Slice.TheVariants as slice
 use Rattle.gx_tree.specs.declared.stmt.Level.{Level}
 use Rattle.gx_tree.specs.declared.stmt.Stmt.{Stmt}
 use Rattle.gx_tree.specs.declared.stmt.Stmt.TheVariants as stmt
 use Rattle.gx_dtx.specs.Nodes.{has}
-use Rattle.gx_meaning.specs.declared.fault.ArithFault.{ArithFault}
-use Rattle.gx_meaning.specs.declared.fault.ArithFault.TheVariants as arith_fault
 use Rattle.gx_msg.specs.declared.message.Message.TheVariants as message
-use Rattle.gx_msg.specs.declared.reply.Cause.{Cause}
-use Rattle.gx_msg.specs.declared.reply.Reply.{Reply}
 use Rattle.gx_msg.specs.declared.reply.Reply.TheVariants as reply
 use Rattle.gx_meaning.specs.Target.{target_of}
-use Rattle.gx_meaning.specs.declared.target.Target.{Target}
-use Rattle.gx_meaning.specs.declared.target.Target.TheVariants.{One, All as AllOfThem}
-use Rattle.gx_meaning.specs.Plan.{nodes_of, piece, plan_of}
+use Rattle.gx_meaning.specs.declared.target.Target.TheVariants.{All as AllOfThem}
+use Rattle.gx_meaning.specs.Plan.{nodes_of, plan_of}
 use Rattle.gx_meaning.specs.declared.piece.Piece.{Piece}
 use Rattle.gx_script.specs.declared.Script.{Script}
 use Rattle.gx_store.specs.declared.answer.StmtAnswer.{StmtAnswer}
 use Rattle.gx_store.specs.declared.mark.Mark.{Mark}
-use Rattle.gx_store.specs.declared.mark.Mark.TheVariants as mark
 use Rattle.gx_store.specs.Answers.{Locks, Shows, Tells}
 use Rattle.gx_store.specs.Commands.{IsSnapshotAt, RunsCommand}
-use Rattle.gx_store.specs.Marks.{is_aborted}
-use Rattle.gx_store.specs.Messages.{HasReceived, Receives}
+use Rattle.gx_store.specs.Messages.{HasReceived}
 use Rattle.gx_store.specs.Points.{marks_in}
-use Rattle.gx_store.specs.Refusals.{HasFaulted, IsCause, the_coordinator}
+use Rattle.gx_store.specs.Refusals.{the_coordinator}
 use Rattle.gx_store.specs.View.{image, is_shown_to}
 use Rattle.gx_store.specs.Waits.{claim, holds_at, is_held}
 use Rattle.gx_store.proofs.Exclusive.{holds_from-append}
 use Rattle.gx_store.specs.Writes.{dist_of}
-use Rattle.gx_store.proofs.Runs.{marks_in-push}
-use Rattle.gx_rules.specs.AtCoordinator.{nodes_in, reason_of}
+use Rattle.gx_rules.specs.AtCoordinator.{nodes_in}
 use Rattle.gx_rules.specs.Machine.{world_of}
 use Rattle.gx_meaning.specs.Merged.{merged_answer}
-use Rattle.gx_rules.specs.Slices.{cause_of}
 use Rattle.gx_law_order.proofs.Lists.{Each}
 use Rattle.gx_law_sessions.specs.Scanned.{began_from}
 use Rattle.gx_law_sessions.specs.Finish.{point_at}
@@ -70,10 +56,9 @@ use Rattle.gx_law_answers.specs.Earned.{Events, IsEarned}
 use Rattle.gx_law_answers.specs.Keyed.{AreRowsKeyed}
 use Rattle.gx_law_answers.specs.Once.{IsOneSnapshot}
 use Rattle.gx_law_answers.specs.Parts.{SaysItsPart}
-use Rattle.gx_law_answers.specs.Truth.{IsTrueFault, IsTruePart, IsTruth}
+use Rattle.gx_law_answers.specs.Truth.{IsTruePart, IsTruth}
 use Rattle.gx_law_answers.proofs.Commands.{IsOf}
-use Rattle.gx_law_answers.proofs.Heard.{heard, lock-now, marks-are, more, order-now, own-step, part-now, unaborted-then}
-use Rattle.gx_law_writes.proofs.Pieces.{IsSliceOf, slice-is}
+use Rattle.gx_law_answers.proofs.Heard.{heard, lock-now, more, part-now, unaborted-then}
 use Rattle.gx_law_answers.proofs.Ours.{covers-pieces, its-level, its-slice, nodes-of-pieces, ok-same, some-node}
 use Rattle.gx_law_answers.proofs.Rows.{has-from, seen, whole}
 use Rattle.gx_law_answers.proofs.Select.{have-parts, merged}

@@ -1,7 +1,6 @@
 -- What the nodes of a plan have counted, each of its own writes, is together all that the command has written.
-use Rattle.std.proofs.Common.{◌≡◌, ◌≤◌, ◌<◌, ◌==◌, inl, inr, ℕ, zero, suc, ◌+◌, List, [], ◌∷◌, length, Some, None, Bool, true, false, refl, sym, subst, ap, ◌∙◌, ◌||◌, ◌&&◌, if◌then◌else◌, arith, eqb}
+use Rattle.std.proofs.Common.{◌≡◌, ◌<◌, ◌==◌, ℕ, zero, suc, ◌+◌, List, [], ◌∷◌, length, Bool, true, false, refl, sym, subst, ap, ◌∙◌, ◌||◌, ◌&&◌, if◌then◌else◌, arith, eqb}
 use Rattle.std.proofs.lemmas.Bool.{eqb-true, or_left, or_right}
-use Rattle.std.proofs.lemmas.Bool.Decides.{nat_tests}
 use Rattle.std.specs.Prelude.{Contains}
 use Rattle.gx_lemmas.proofs.Numbers.{eqb-self, eqb-swap}
 use Rattle.gx_lemmas.proofs.Tests.{false-true}

@@ -1,12 +1,11 @@
 -- What is true of a segment's answer stays true.
-use Rattle.std.proofs.Common.{◌≡◌, ◌≤◌, ◌==◌, inr, ℕ, List, [], ◌∷◌, ◌++◌, length, Option, Some, None, Bool, true, false, refl, sym, subst, ap, ◌∙◌, cond, if◌then◌else◌, ◌&&◌, ◌||◌, eqb, arith, ◌+◌, suc}
+use Rattle.std.proofs.Common.{◌≡◌, ◌≤◌, inr, ℕ, List, [], ◌∷◌, ◌++◌, length, Option, Some, None, Bool, true, false, refl, sym, subst, ap, ◌∙◌, cond, if◌then◌else◌, ◌||◌, arith, ◌+◌, suc}
 use Rattle.std.proofs.Math.Seq.{take-append_seam}
-use Rattle.std.proofs.lemmas.Bool.{eqb-true, or_left}
+use Rattle.std.proofs.lemmas.Bool.{or_left}
 use Rattle.std.specs.Option.{option_or}
 use Rattle.std.specs.Prelude.{filter, take, slice_get}
 use Rattle.std.proofs.lemmas.List.{append_assoc}
 use Rattle.gx_lemmas.proofs.Lists.{get-append}
-use Rattle.gx_lemmas.proofs.Tests.{and-last}
 use Rattle.gx_ids.specs.declared.ids.Cid.{Cid}
 use Rattle.gx_ids.specs.declared.ids.Gxid.{Gxid}
 use Rattle.gx_ids.specs.declared.ids.Node.{Node}
@@ -22,13 +21,11 @@ use Rattle.gx_meaning.specs.declared.fault.ArithFault.{ArithFault}
 use Rattle.gx_meaning.specs.Answer.{keeps, part_of}
 use Rattle.gx_msg.specs.declared.reply.Reply.{Reply}
 use Rattle.gx_msg.specs.declared.reply.Reply.TheVariants as reply
-use Rattle.gx_script.specs.declared.Script.{Script}
 use Rattle.gx_store.specs.declared.mark.Mark.{Mark}
 use Rattle.gx_store.specs.declared.mark.Mark.TheVariants as mark
 use Rattle.gx_store.specs.Commands.{IsSnapshotAt}
 use Rattle.gx_store.specs.Faults.{FaultsOnSeen}
-use Rattle.gx_store.specs.Journals.{is_same_node}
-use Rattle.gx_store.specs.Marks.{is_aborted, is_same_rid, node_of}
+use Rattle.gx_store.specs.Marks.{is_aborted, node_of}
 use Rattle.gx_store.specs.View.{image, image_after, is_shown_to}
 use Rattle.gx_store.proofs.Marks.{image_after-append, is_aborted-append}
 use Rattle.gx_rules.specs.Locks.{hold_mark}
@@ -36,8 +33,6 @@ use Rattle.gx_rules.specs.Slices.{cause_of, first_fault}
 use Rattle.gx_waits.specs.declared.claim.Claim.{Claim}
 use Rattle.gx_law_order.proofs.Lists.{Each, get_last}
 use Rattle.gx_law_commit.proofs.Commits.{take-kept}
-use Rattle.gx_law_reads.specs.Sights.{IsOnlyAt}
-use Rattle.gx_law_writes.specs.Homes.{IsPlacedMark}
 use Rattle.gx_law_writes.proofs.Turns.{NoWrite}
 use Rattle.gx_law_changes.specs.Parts.{IsPartOf, is_home}
 use Rattle.gx_law_changes.proofs.Parts.{node-append}

@@ -1,5 +1,5 @@
 -- The turns of UPDATEs and DELETEs in every run.
-use Rattle.std.proofs.Common.{◌≤◌, ℕ, List, [], Bool}
+use Rattle.std.proofs.Common.{◌≤◌, []}
 use Rattle.gx_script.specs.declared.Script.{Script}
 use Rattle.gx_store.specs.Language.{AreLinesNumbered}
 use Rattle.gx_rules.specs.Machine.{world_of}

@@ -1,6 +1,6 @@
 -- A gathered UPDATE or DELETE has processed what it selects, and its answer counts what it has written.
-use Rattle.std.proofs.Common.{◌≡◌, ◌≤◌, ◌==◌, ◌⊎◌, inl, inr, ℕ, ◌+◌, List, [], ◌∷◌, ◌++◌, Option, Some, None, Result, Ok, Bool, true, false, refl, sym, subst, ap, ◌∙◌, ◌||◌, ◌&&◌, if◌then◌else◌, arith, eqb}
-use Rattle.std.proofs.lemmas.Bool.{eqb-true, or_left}
+use Rattle.std.proofs.Common.{◌≡◌, ◌≤◌, ◌⊎◌, inl, inr, ℕ, ◌+◌, List, [], ◌∷◌, ◌++◌, Option, Some, None, Ok, Bool, true, false, refl, sym, subst, ap, ◌∙◌, ◌||◌, if◌then◌else◌, arith, eqb}
+use Rattle.std.proofs.lemmas.Bool.{eqb-true}
 use Rattle.std.proofs.lemmas.Bool.Decides.{nat_tests}
 use Rattle.std.specs.Prelude.{take}
 use Rattle.gx_lemmas.proofs.Options.{some-same}
@@ -20,17 +20,15 @@ use Rattle.gx_dtx.specs.Nodes.{has}
 use Rattle.gx_msg.specs.declared.reply.Reply.TheVariants as reply
 use Rattle.gx_meaning.specs.Target.{target_of}
 use Rattle.gx_meaning.specs.Plan.{nodes_of, plan_of}
-use Rattle.gx_meaning.specs.declared.fault.ArithFault.{ArithFault}
 use Rattle.gx_meaning.specs.declared.piece.Piece.{Piece}
 use Rattle.gx_script.specs.declared.Script.{Script}
 use Rattle.gx_store.specs.declared.mark.Mark.{Mark}
 use Rattle.gx_store.specs.declared.mark.Mark.TheVariants as mark
-use Rattle.gx_store.specs.Answers.{Changes, FaultsOnNone}
+use Rattle.gx_store.specs.Answers.{Changes}
 use Rattle.gx_store.specs.Commands.{IsSnapshotAt, condition_on}
 use Rattle.gx_store.specs.Language.{AreLinesNumbered}
 use Rattle.gx_store.specs.Marks.{is_aborted, is_command_of, is_processed, write_count}
 use Rattle.gx_store.specs.Points.{marks_in}
-use Rattle.gx_store.specs.Rows.{row_at}
 use Rattle.gx_store.specs.View.{image, is_shown_to}
 use Rattle.gx_store.specs.Writes.{dist_of}
 use Rattle.gx_rules.specs.AtCoordinator.{nodes_in, table_of}
