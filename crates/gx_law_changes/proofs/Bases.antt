@@ -79,8 +79,8 @@ pub rests-on : (s : Seg) (g horizon : Gxid) → horizon.0 ≤ s.horizon.0 → Is
 rests-on s g horizon low = record { node = refl; versions = refl; at = sym (raised-same s horizon low); phases = λ h. refl; holds = λ h other. refl }
 
 -- the beginning of the loop, on the segment itself
-pub none-done : (s : Seg) (before : List Mark) (g : Gxid) (c : Cid) (table : Table) → s.versions ≡ writes_at s.node before → is_open (local_of s g).phase ≡ true → Inv s before g c table (starts_from s)
-none-done s before g c table versions opens =
+pub none-done : (s : Seg) (before : List Mark) (g : Gxid) (c : Cid) (table : Table) → s.versions ≡ writes_at s.node before → is_open (local_of s g).phase ≡ true → (local_of s g).suspended ≡ None → Inv s before g c table (starts_from s)
+none-done s before g c table versions opens alone =
     record {
       node = refl;
       horizon = refl;
@@ -88,6 +88,7 @@ none-done s before g c table versions opens =
       added = record { own = []; is = sym (append-nil s.versions); mine = tt };
       others = λ h e. refl;
       opens = opens;
+      alone = alone;
       holds = λ h e. refl;
       work = tt;
       rows = tt;
@@ -109,6 +110,7 @@ granted-inv s before g c table wanted e versions opens = by_object wanted.object
           added = record { own = []; is = sym (append-nil s.versions); mine = tt };
           others = λ h other. local-other s g h rest other;
           opens = ap (λ (l : Local). is_open l.phase) (local-own s g rest) ∙ opens;
+          alone = ap (λ (l : Local). l.suspended) (local-own s g rest);
           holds = own-holds s.locks.holds g wanted e;
           work = (tt, tt);
           rows = (tt, tt);

@@ -78,7 +78,7 @@ module _ (before : List Mark) (s : Seg) (g : Gxid) (k : Change) (sight : Sight b
       by_test true e = absurd (true-false (is_committed before g) (sight.first g e) sight.running)
       by_test false e = refl
 
-  not-own : is_shown_to (Some (g, k.cid)) (take sight.place before) g k.cid ≡ false
+  pub not-own : is_shown_to (Some (g, k.cid)) (take sight.place before) g k.cid ≡ false
   not-own = ap (λ b. b || (is_same_gxid g g && nat_lt k.cid.0 k.cid.0)) not-early ∙ never (is_same_gxid g g) k.cid.0
     where
       never : (b : Bool) (n : ℕ) → (b && nat_lt n n) ≡ false

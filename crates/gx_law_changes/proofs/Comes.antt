@@ -2,6 +2,7 @@
 use Rattle.std.proofs.Common.{◌≡◌, ◌∙◌, ◌⊎◌, inl, inr, ℕ, List, [], ◌∷◌, ◌++◌, Option, Some, None, Bool, true, false, refl, ap, sym, subst, take}
 use Rattle.std.proofs.lemmas.List.{append-nil, append_assoc}
 use Rattle.gx_ids.specs.declared.ids.Gxid.{Gxid}
+use Rattle.gx_ids.specs.declared.ids.Node.{Node}
 use Rattle.gx_ids.specs.declared.rid.Rid.{Rid}
 use Rattle.gx_tree.specs.declared.row.KeyedRow.{KeyedRow}
 use Rattle.gx_tree.specs.declared.stmt.Assign.{Assign}
@@ -35,9 +36,9 @@ use Rattle.gx_law_changes.proofs.Walk.{Done, Free, Rules, own_count}
 
 -- LEGAL MARKS
 -- each of these marks, whatever comes behind them
-pub legals-each : (script : Script) (steps : List Step) (e : Event) (earlier xs later : List Mark) → Legals (Ok script steps e) earlier xs → EachMark (IsLegalChange script) steps e earlier xs later
-legals-each script steps e earlier [] later l = tt
-legals-each script steps e earlier (x ∷ xs) later l = (l.0 (xs ++ later), legals-each script steps e (earlier ++ x ∷ []) xs later l.1)
+pub legals-each : (script : Script) (steps : List Step) (e : Event) (node : Node) (earlier xs later : List Mark) → Legals (Ok script steps e node) earlier xs → EachMark (IsLegalChange script) steps e earlier xs later
+legals-each script steps e node earlier [] later l = tt
+legals-each script steps e node earlier (x ∷ xs) later l = (l.0.0 (xs ++ later), legals-each script steps e node (earlier ++ x ∷ []) xs later l.1)
 
 -- LISTS
 apart-behind : (xs ys : List Rid) → AreApart (xs ++ ys) → AreApart ys
@@ -62,19 +63,19 @@ module _ (script : Script) (steps : List Step) (e : Event) (pre : List Mark) (s 
   before = marks_in steps ++ pre
 
   abbrev pub IsSo : List Mark → Mark → Type 0
-  IsSo earlier x = Ok script steps e earlier x
+  IsSo earlier x = Ok script steps e s.node earlier x
 
   abbrev pub IsOne : Rid → Type 0
   IsOne rid = IsRowOf script steps e pre s g k runs sight rid
 
-  abbrev pub the-rules : Rules (marks_in steps) pre s g k (IsRowOf script steps e pre s g k runs sight) (Ok script steps e)
+  abbrev pub the-rules : Rules (marks_in steps) pre s g k (IsRowOf script steps e pre s g k runs sight) (Ok script steps e s.node)
   the-rules = its-rules script steps e pre s g k runs sight
 
   abbrev pub Comes : Moved → List Rid → SegTurn → Type 0
-  Comes m rids turn = ComesTo (marks_in steps) pre s g k (IsRowOf script steps e pre s g k runs sight) (Ok script steps e) the-rules m rids turn
+  Comes m rids turn = ComesTo (marks_in steps) pre s g k (IsRowOf script steps e pre s g k runs sight) (Ok script steps e s.node) the-rules m rids turn
 
   lock-so : (earlier : List Mark) (x : Mark) → IsLock x → IsSo earlier x
-  lock-so = lock-ok script steps e
+  lock-so = lock-ok script steps e s.node
 
   -- whatever it comes to, its marks are legal
   module _ (m : Moved) (rids : List Rid) (turn : SegTurn) (rows : Each IsOne rids) (was : Legals IsSo pre m.marks) where
@@ -99,7 +100,7 @@ module _ (script : Script) (steps : List Step) (e : Event) (pre : List Mark) (s 
     lost-legal : HasLost (marks_in steps) pre s g k IsOne IsSo the-rules m rids turn → Legals IsSo pre turn.marks
     lost-legal h = subst (λ (t : SegTurn). Legals IsSo pre t.marks) (sym h.is) (h.gone.legal was)
 
-    pub comes-legal : Comes m rids turn → Legals (Ok script steps e) pre turn.marks
+    pub comes-legal : Comes m rids turn → Legals (Ok script steps e s.node) pre turn.marks
     comes-legal (inl h) = finished-legal h
     comes-legal (inr (inl h)) = halted-legal h
     comes-legal (inr (inr (inl h))) = failed-legal h
@@ -109,7 +110,7 @@ module _ (script : Script) (steps : List Step) (e : Event) (pre : List Mark) (s 
   module _ (versions : s.versions ≡ writes_at s.node before) (homes : HaveHomes before) (part : List KeyedRow) (its : IsPartOf before (take sight.place before) s.node g k.cid k.table part) where
     pub selected-rows : Each IsOne (selected k.cond part)
     selected-rows =
-        each_weaker (IsSelected before s versions homes g k sight part its) IsOne (λ rid a. (a.chosen, a.home, a.of)) (selected k.cond part) (part-selected before s versions homes g k sight part its)
+        each_weaker (IsSelected before s versions homes g k sight part its) IsOne (λ rid a. (a.chosen, a.home, a.of, a.here)) (selected k.cond part) (part-selected before s versions homes g k sight part its)
 
     -- Of these it has done some, and goes on with the others.
     module _ (done rest : List Rid) (split : selected k.cond part ≡ done ++ rest) (m : Moved) (inv : Inv s before g k.cid k.table m) (free : Each (λ rid. is_processed (before ++ m.marks) g k.cid rid ≡ false) rest)
@@ -123,7 +124,7 @@ module _ (script : Script) (steps : List Step) (e : Event) (pre : List Mark) (s 
           (apart-behind done rest (subst AreApart split (selected-are-apart before s versions homes g k sight part its)))
           rest-rows free
 
-      pub goes-legal : Legals (Ok script steps e) pre m.marks → Legals (Ok script steps e) pre (goes_through g k rest m count).marks
+      pub goes-legal : Legals (Ok script steps e s.node) pre m.marks → Legals (Ok script steps e s.node) pre (goes_through g k rest m count).marks
       goes-legal was = comes-legal m rest (goes_through g k rest m count) rest-rows was goes-so
 
     -- the condition has faulted on one that it sees
@@ -142,19 +143,19 @@ module _ (script : Script) (steps : List Step) (e : Event) (pre : List Mark) (s 
             faults = faulted.faults;
           }
 
-      fault-so : (set : Option (List Assign)) (stmt : Stmt) → IsStatement k set stmt → IsFaultOf before k.level g k.cid stmt found.0.rid (Some found.0.row) found.1
+      pub fault-so : (set : Option (List Assign)) (stmt : Stmt) → IsStatement k set stmt → IsFaultOf before k.level g k.cid stmt found.0.rid (Some found.0.row) found.1
       fault-so (Some assigns) stmt of = subst (λ q. IsFaultOf before k.level g k.cid q found.0.rid (Some found.0.row) found.1) (sym of) (inl on-seen)
       fault-so None stmt of = subst (λ q. IsFaultOf before k.level g k.cid q found.0.rid (Some found.0.row) found.1) (sym of) (inl on-seen)
 
-      pub start-fault : Legals (Ok script steps e) pre (fails_on s g k.cid found).marks
+      pub start-fault : Legals (Ok script steps e s.node) pre (fails_on s g k.cid found).marks
       start-fault = (
-        λ later. inl (record {
+        (λ later. inl (record {
           session = runs.session;
           stmt = runs.stmt;
           level = k.level;
           fault = found.1;
           runs = runs.under_way pre later runs.work;
           faults = fault-so k.set runs.stmt runs.of;
-        }),
+        }), tt),
         tt,
       )

@@ -95,6 +95,7 @@ pub record Inv (s : Seg) (before : List Mark) (g : Gxid) (c : Cid) (table : Tabl
   pub added : AddsOwn g c table s.versions m.seg.versions
   pub others : (h : Gxid) → is_same_gxid h g ≡ false → local_of m.seg h ≡ local_of s h
   pub opens : is_open (local_of m.seg g).phase ≡ true
+  pub alone : (local_of m.seg g).suspended ≡ None
   pub holds : (h : Gxid) → is_same_gxid h g ≡ false → is_holding m (own_lock h) ≡ list_any (same_claim (own_lock h)) s.locks.holds
   pub work : Each (IsWork s.node g c) m.marks
   pub rows : Each (IsOfIts table) m.marks
@@ -114,6 +115,7 @@ module _ (s : Seg) (before : List Mark) (g : Gxid) (c : Cid) (table : Table) whe
         added = i.added;
         others = i.others;
         opens = i.opens;
+        alone = i.alone;
         holds = λ h e. held-other wanted (own_lock h) m.seg.locks.holds (unlike-owner h wanted.gxid g e mine) ∙ i.holds h e;
         work = each_append (IsWork s.node g c) m.marks _ i.work (tt, tt);
         rows = each_append (IsOfIts table) m.marks _ i.rows (tt, tt);
@@ -128,6 +130,7 @@ module _ (s : Seg) (before : List Mark) (g : Gxid) (c : Cid) (table : Table) whe
         added = i.added;
         others = i.others;
         opens = i.opens;
+        alone = i.alone;
         holds = λ h e. without-other old (own_lock h) m.seg.locks.holds (unlike-owner h old.gxid g e mine) ∙ i.holds h e;
         work = each_append (IsWork s.node g c) m.marks _ i.work (tt, tt);
         rows = each_append (IsOfIts table) m.marks _ i.rows (tt, tt);
@@ -142,6 +145,7 @@ module _ (s : Seg) (before : List Mark) (g : Gxid) (c : Cid) (table : Table) whe
         added = i.added;
         others = i.others;
         opens = i.opens;
+        alone = i.alone;
         holds = i.holds;
         work = each_append (IsWork s.node g c) m.marks _ i.work (work, tt);
         rows = each_append (IsOfIts table) m.marks _ i.rows (row, tt);
@@ -172,6 +176,7 @@ module _ (s : Seg) (before : List Mark) (g : Gxid) (c : Cid) (table : Table) whe
         added = record { own = i.added.own ++ v ∷ []; is = ap (λ vs. vs ++ v ∷ []) i.added.is ∙ append_assoc s.versions i.added.own (v ∷ []); mine = each_append (λ (v : Version). (v.gxid ≡ g) × (v.cid ≡ c) × (v.table ≡ table)) i.added.own (v ∷ []) i.added.mine ((refl, same, at), tt) };
         others = λ h e. local-other m.seg g h _ e ∙ i.others h e;
         opens = ap (λ (l : Local). is_open l.phase) (local-own m.seg g _);
+        alone = ap (λ (l : Local). l.suspended) (local-own m.seg g _) ∙ i.alone;
         holds = i.holds;
         work = each_append (IsWork s.node g c) m.marks (x ∷ []) i.work ((refl, same, i.node), tt);
         rows = each_append (IsOfIts table) m.marks (x ∷ []) i.rows (at, tt);

@@ -2,7 +2,6 @@
 use Rattle.std.proofs.Common.{◌≡◌, ◌∙◌, ◌⊎◌, inl, inr, ℕ, ◌==◌, List, [], ◌∷◌, ◌++◌, Option, Some, None, Bool, true, false, refl, ap, sym, subst, if◌then◌else◌, ◌&&◌, ◌||◌, arith}
 use Rattle.std.proofs.lemmas.Bool.Decides.{nat_tests}
 use Rattle.std.proofs.lemmas.List.{append-nil, append_assoc}
-use Rattle.std.specs.Option.{option_or}
 use Rattle.gx_ids.specs.declared.ids.Cid.{Cid}
 use Rattle.gx_ids.specs.declared.ids.Gxid.{Gxid}
 use Rattle.gx_ids.specs.declared.ids.Node.{Node}
@@ -17,6 +16,7 @@ use Rattle.gx_waits.specs.declared.claim.Claim.{Claim}
 use Rattle.gx_waits.specs.declared.object.Object.{Object}
 use Rattle.gx_waits.specs.declared.object.Object.TheVariants.{Relation, Transaction, Tuple}
 use Rattle.gx_script.specs.declared.Script.{Script}
+use Rattle.gx_lemmas.proofs.Tests.{true-false}
 use Rattle.gx_store.proofs.Rows.{is_same_rid-refl}
 use Rattle.gx_store.specs.declared.event.Event.{Event}
 use Rattle.gx_store.specs.declared.mark.Mark.{Mark}
@@ -24,7 +24,7 @@ use Rattle.gx_store.specs.declared.mark.Mark.TheVariants as mark
 use Rattle.gx_store.specs.declared.run.Step.{Step}
 use Rattle.gx_store.specs.Journals.{is_same_node}
 use Rattle.gx_store.specs.Lines.{is_on_rows}
-use Rattle.gx_store.specs.Marks.{is_same_rid, node_of}
+use Rattle.gx_store.specs.Marks.{is_aborted, is_same_rid, node_of}
 use Rattle.gx_store.specs.Points.{Point, marks_in}
 use Rattle.gx_store.specs.Writes.{IsLate, IsLateWriteOf, may_skip}
 use Rattle.gx_rules.specs.Changes.{Change, RowTurn, changes_rows, goes_through, selected, shown_to, suspended_at, suspends_at, tuple_lock, unless_fault}
@@ -44,7 +44,7 @@ use Rattle.gx_law_changes.proofs.Comes.{stop-locks}
 use Rattle.gx_law_changes.proofs.Current.{newest-has}
 use Rattle.gx_law_changes.proofs.Legal.{IsStatement}
 use Rattle.gx_law_changes.proofs.Newest.{find-reverse}
-use Rattle.gx_law_changes.proofs.Parts.{node-append}
+use Rattle.gx_law_changes.proofs.Parts.{node-still}
 use Rattle.gx_law_changes.proofs.Path.{Adds, IsLock, Legals, adds-legals, legals-append, legals-locks, note-adds, write-adds}
 use Rattle.gx_law_changes.proofs.Points.{Ok, lock-ok}
 use Rattle.gx_law_changes.proofs.Rows.{HaveHomes}
@@ -101,10 +101,6 @@ written-at node (m ∷ ms) = each_weaker (λ (v : Version). IsWrittenAt node ms 
 pub here-all : (node : Node) (ms : List Mark) → HaveHomes ms → AreHere node ms (writes_at node ms)
 here-all node ms homes = each_weaker (λ (v : Version). IsWrittenAt node ms v.rid) (λ (v : Version). node_of ms v.rid ≡ Some node) (λ v w. w.is ∙ ap Some (w.at (homes.nodes v.rid w.first w.is))) (writes_at node ms) (written-at node ms)
 
--- a row's first write stays it
-node-still : (ms more : List Mark) (rid : Rid) (node : Node) → node_of ms rid ≡ Some node → node_of (ms ++ more) rid ≡ Some node
-node-still ms more rid node e = node-append ms more rid ∙ ap (λ o. option_or o (node_of more rid)) e
-
 pub here-more : (node : Node) (ms more : List Mark) (vs : List Version) → AreHere node ms vs → AreHere node (ms ++ more) vs
 here-more node ms more vs e = each_weaker (λ (v : Version). node_of ms v.rid ≡ Some node) (λ (v : Version). node_of (ms ++ more) v.rid ≡ Some node) (λ v h. node_still v h) vs e
   where
@@ -138,15 +134,15 @@ module _ (script : Script) (steps : List Step) (e : Event) (pre : List Mark) (s 
   before = marks_in steps ++ pre
 
   abbrev IsSo : List Mark → Mark → Type 0
-  IsSo earlier x = Ok script steps e earlier x
+  IsSo earlier x = Ok script steps e s.node earlier x
 
   lock-so : (earlier : List Mark) (x : Mark) → IsLock x → IsSo earlier x
-  lock-so = lock-ok script steps e
+  lock-so = lock-ok script steps e s.node
 
   -- its marks so far are legal, and each row with a version there has its first write there
   pub record LateSoFar (m : Moved) : Type 0 where
     pub node : m.seg.node ≡ s.node
-    pub marks : Legals (Ok script steps e) pre m.marks
+    pub marks : Legals (Ok script steps e s.node) pre m.marks
     pub here : AreHere s.node ((marks_in steps ++ pre) ++ m.marks) m.seg.versions
 
   here-behind : (m : Moved) (x : Mark) (vs : List Version) → AreHere s.node (before ++ m.marks) vs → AreHere s.node (before ++ (m.marks ++ x ∷ [])) vs
@@ -168,16 +164,16 @@ module _ (script : Script) (steps : List Step) (e : Event) (pre : List Mark) (s 
   given old m f = marked m (gives_back old m).seg (release_mark m.seg.node old) refl refl (lock-so (pre ++ m.marks) (release_mark m.seg.node old) tt) f
 
   skip-so : (earlier : List Mark) (rid : Rid) → IsSo earlier (mark.Skip g k.cid rid)
-  skip-so earlier rid later = inr (record { stmt = stmt; late = late earlier later; kind = may-skip k k.set stmt of })
+  skip-so earlier rid = (λ later. inr (record { stmt = stmt; late = late earlier later; kind = may-skip k k.set stmt of }), λ alive. absurd (true-false (is_aborted (marks_in steps ++ earlier) g) (late earlier []).aborted alive))
 
   fault-so : (earlier : List Mark) (rid : Rid) (image : Option (List Value)) → IsSo earlier (mark.Fault g k.cid rid image)
-  fault-so earlier rid image later = inr (record { stmt = stmt; late = late earlier later; kind = on-rows k k.set stmt of })
+  fault-so earlier rid image = (λ later. inr (record { stmt = stmt; late = late earlier later; kind = on-rows k k.set stmt of }), tt)
 
   write-so : (set : Option (List Assign)) → IsStatement k set stmt → (earlier : List Mark) (node : Node) (rid : Rid) (image : Option (List Value)) → node_of (marks_in steps ++ earlier) rid ≡ Some node → IsSo earlier (mark.Write g k.cid node k.table rid image)
-  write-so (Some assigns) of earlier node rid image there later =
-      inr (record { stmt = stmt; late = late earlier later; writes = subst (λ q. IsLateWriteOf (marks_in steps ++ earlier) g k.cid q node k.table rid) (sym of) (refl, there) })
-  write-so None of earlier node rid image there later =
-      inr (record { stmt = stmt; late = late earlier later; writes = subst (λ q. IsLateWriteOf (marks_in steps ++ earlier) g k.cid q node k.table rid) (sym of) (refl, there) })
+  write-so (Some assigns) of earlier node rid image there = (λ later.
+      inr (record { stmt = stmt; late = late earlier later; writes = subst (λ q. IsLateWriteOf (marks_in steps ++ earlier) g k.cid q node k.table rid) (sym of) (refl, there) }), tt)
+  write-so None of earlier node rid image there = (λ later.
+      inr (record { stmt = stmt; late = late earlier later; writes = subst (λ q. IsLateWriteOf (marks_in steps ++ earlier) g k.cid q node k.table rid) (sym of) (refl, there) }), tt)
 
   module _ (m : Moved) (rid : Rid) (image : Option (List Value)) (why : WritesIt m g k rid image) (f : LateSoFar m) where
     abbrev x : Mark
@@ -226,17 +222,17 @@ module _ (script : Script) (steps : List Step) (e : Event) (pre : List Mark) (s 
         faults = λ m rid image f. marked m m.seg (mark.Fault g k.cid rid image) refl refl (fault-so (pre ++ m.marks) rid image) f;
       }
 
-  stop : (m : Moved) (rid : Rid) (rest : List Rid) (count : ℕ) (t : RowTurn) (d : DidStop m g k rid t) → LateSoFar m → Legals (Ok script steps e) pre d.stopped.marks
+  stop : (m : Moved) (rid : Rid) (rest : List Rid) (count : ℕ) (t : RowTurn) (d : DidStop m g k rid t) → LateSoFar m → Legals (Ok script steps e s.node) pre d.stopped.marks
   stop m rid rest count t d f =
       let locks = stop-locks g k m rid t d in
       subst (Legals IsSo pre) (sym locks.1) (legals-append IsSo pre m.marks locks.0 f.marks (legals-locks IsSo lock-so (pre ++ m.marks) locks.0 locks.2))
 
-  late-ends : Ends g k LateSoFar (λ (turn : SegTurn). Legals (Ok script steps e) pre turn.marks)
+  late-ends : Ends g k LateSoFar (λ (turn : SegTurn). Legals (Ok script steps e s.node) pre turn.marks)
   late-ends = record { done = λ m count f. f.marks; stopped = stop; failed = λ m cause f. f.marks }
 
   -- from a row on
-  pub late-goes : (rids : List Rid) (m : Moved) (count : ℕ) → LateSoFar m → Legals (Ok script steps e) pre (goes_through g k rids m count).marks
-  late-goes rids m count f = loop-keeps g k LateSoFar (λ (turn : SegTurn). Legals (Ok script steps e) pre turn.marks) late-keeps late-ends rids m count f
+  pub late-goes : (rids : List Rid) (m : Moved) (count : ℕ) → LateSoFar m → Legals (Ok script steps e s.node) pre (goes_through g k rids m count).marks
+  late-goes rids m count f = loop-keeps g k LateSoFar (λ (turn : SegTurn). Legals (Ok script steps e s.node) pre turn.marks) late-keeps late-ends rids m count f
 
   module _ (homes : HaveHomes (marks_in steps ++ pre)) (versions : s.versions ≡ writes_at s.node (marks_in steps ++ pre)) where
     pub late-starts : LateSoFar (starts_from s)
@@ -248,7 +244,7 @@ module _ (script : Script) (steps : List Step) (e : Event) (pre : List Mark) (s 
         }
 
     -- from its start
-    pub late-changes : Legals (Ok script steps e) pre (changes_rows s g (Some k)).marks
+    pub late-changes : Legals (Ok script steps e s.node) pre (changes_rows s g (Some k)).marks
     late-changes = by_fault (first_fault k.cond (shown_to s g k))
       where
         by_fault : (o : Option (KeyedRow × ArithFault)) → Legals IsSo pre (unless_fault s g k (shown_to s g k) o).marks

@@ -21,3 +21,9 @@ pub mod Rows
 pub mod Comes
 pub mod Late
 pub mod Half
+pub mod Undone
+pub mod Worked
+pub mod Staying
+pub mod Outcome
+pub mod Locks
+pub mod OnBase

@@ -32,6 +32,10 @@ node-append (mark.Write g c n u q image ∷ xs) ys rid =
     ap (cond (is_same_rid q rid) (Some n)) (node-append xs ys rid) ∙ or-node (is_same_rid q rid) n (node_of xs rid) (node_of ys rid)
 node-append (m ∷ xs) ys rid = node-append xs ys rid
 
+-- a row's first write stays it
+pub node-still : (ms more : List Mark) (rid : Rid) (node : Node) → node_of ms rid ≡ Some node → node_of (ms ++ more) rid ≡ Some node
+node-still ms more rid node e = node-append ms more rid ∙ ap (λ o. option_or o (node_of more rid)) e
+
 -- LATER MARKS, WHILE THE COMMAND'S VIEW STAYS
 module _ (ms more : List Mark) (only : (rid : Rid) (first : Node) → node_of (ms ++ more) rid ≡ Some first → IsOnlyAt first rid (ms ++ more)) (node : Node) (level : Level) (g : Gxid) (c : Cid) (place : ℕ) (t : IsSnapshotAt ms level g c place) (table : Table) (stay : (rid : Rid) → IsOnlyAt node rid (ms ++ more) → image (ms ++ more) (take place (ms ++ more)) (Some (g, c)) table rid ≡ image ms (take place ms) (Some (g, c)) table rid) where
   abbrev here : Rid → Option (List Value)

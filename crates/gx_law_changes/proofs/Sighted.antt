@@ -110,3 +110,8 @@ module _ (script : Script) (w : World) (a : Known script w) (i : ℕ) (one : 1 �
         early = subst (Each (λ (v : Version). v.gxid ≡ g → v.cid.0 ≤ k.cid.0)) (sym on.versions) early;
         first = λ h e. committed-front served.place before h e;
       }
+
+  -- it is the snapshot that serves it
+  pub sight-place : sight.place ≡ served.place
+  unfolding sight
+  sight-place = refl

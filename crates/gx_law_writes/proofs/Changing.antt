@@ -48,19 +48,13 @@ use Rattle.gx_rules.proofs.Moving.{Keeps}
 use Rattle.gx_law_order.proofs.Lists.{Each, each_append, each_weaker}
 use Rattle.gx_law_order.proofs.Waiting.{freed}
 use Rattle.gx_law_sessions.specs.Scanned.{stmt_of_command}
+pub use Rattle.gx_law_changes.specs.Says.{changing_stmt, stmt_of_change}
 use Rattle.gx_law_writes.specs.Homes.{IsPlaced, IsSameKey, KeepsItsKey, KeepsKey}
 use Rattle.gx_law_writes.proofs.Pieces.{IsSliceOf, delete-line, update-line}
 use Rattle.gx_law_writes.proofs.Rows.{MayFollow, SoFar, by-own, given-so-far, locked-so-far, marked-so-far, none-so-far, still-added, wrote}
 use Rattle.gx_law_writes.proofs.Versions.{IsHomeVersion, each-newest, version-more}
 
 -- THE STATEMENT
-abbrev pub changing_stmt : Table → Option Cond → Option (List Assign) → Stmt
-changing_stmt table cond (Some assigns) = stmt.Update table assigns cond
-changing_stmt table cond None = stmt.Delete table cond
-
-abbrev pub stmt_of_change : Change → Stmt
-stmt_of_change k = changing_stmt k.table k.cond k.set
-
 pub change-on-rows : (k : Change) → is_on_rows (stmt_of_change k) ≡ true
 change-on-rows k = by_set k.set
   where

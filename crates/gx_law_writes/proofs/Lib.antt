@@ -24,3 +24,9 @@ pub mod Left
 pub mod Join
 pub mod Begun
 pub mod UnderWay
+pub mod RowHomes
+pub mod Works
+pub mod Halves
+pub mod SegHalves
+pub mod ChangeWorks
+pub mod Going

@@ -158,7 +158,7 @@ module _ (script : Script) (ms : List Mark) (rid : Rid) (t u : Table) (v w : Lis
   tuple : p.tuple ≡ q.tuple
   tuple = some-same p.tuple q.tuple (sym p.among ∙ ap (λ z. slice_get z (rid.ordinal - 1)) line.1 ∙ q.among)
 
-  one-row : (t ≡ u) × (v ≡ w)
+  pub one-row : (t ≡ u) × (v ≡ w)
   one-row = (line.0, ok-same v w (sym p.constants ∙ ap values_of tuple ∙ q.constants))
 
 -- two writes of one row stand at one node

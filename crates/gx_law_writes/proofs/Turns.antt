@@ -39,6 +39,7 @@ use Rattle.gx_rules.specs.Running.{runs_locked, runs_slice, slice_lock, starts_s
 use Rattle.gx_rules.specs.Slices.{first_fault, inserted, inserts, locks as locks_only, selects}
 use Rattle.gx_law_order.proofs.Releases.{each-released}
 use Rattle.gx_law_order.proofs.Lists.{Each}
+use Rattle.gx_law_order.proofs.Suspensions.{wanted-owner}
 use Rattle.gx_law_order.proofs.Waiting.{GoesOn, GoesOnAtRow, GoesOnSo, freed, going-ways}
 use Rattle.gx_law_commit.specs.Pairs.{is_open}
 use Rattle.gx_law_writes.proofs.Next.{drops-next, next_command}
@@ -422,6 +423,7 @@ pub record SelectGoesOn (s : Seg) (g : Gxid) (x : Suspended) (turn : SegTurn) : 
   pub query : Query
   pub reads : x.snapshot ≡ Some snapshot
   pub is : x.slice ≡ slice.Select query
+  pub row : x.row ≡ None
   pub wanted : Claim
   pub ran : turn ≡ after_marks (hold_mark s.node wanted ∷ [])
       (selects (freed s g wanted) g x.cid query (shown (freed s g wanted) snapshot g x.cid query.table) (first_fault query.cond (shown (freed s g wanted) snapshot g x.cid query.table)))
@@ -432,6 +434,7 @@ pub record InsertGoesOn (s : Seg) (g : Gxid) (x : Suspended) (turn : SegTurn) : 
   pub rows : List KeyedRow
   pub reads : x.snapshot ≡ Some snapshot
   pub is : x.slice ≡ slice.Insert table rows
+  pub row : x.row ≡ None
   pub wanted : Claim
   pub ran : turn ≡ after_marks (hold_mark s.node wanted ∷ []) (inserts g x.cid (length rows) (inserted (freed s g wanted) g x.cid table rows))
 
@@ -440,6 +443,7 @@ pub record LockGoesOn (s : Seg) (g : Gxid) (x : Suspended) (turn : SegTurn) : Ty
   pub table : Table
   pub mode : Mode
   pub is : x.slice ≡ slice.Lock table mode
+  pub row : x.row ≡ None
   pub wanted : Claim
   pub ran : turn ≡ after_marks (hold_mark s.node wanted ∷ []) (locks_only (freed s g wanted) g x.cid)
 
@@ -447,45 +451,52 @@ pub record LockGoesOn (s : Seg) (g : Gxid) (x : Suspended) (turn : SegTurn) : Ty
 pub record ChangeGoesOn (s : Seg) (g : Gxid) (x : Suspended) (turn : SegTurn) : Type 0 where
   pub change : Change
   pub changes : change_of x.cid x.level x.snapshot x.slice ≡ Some change
+  pub row : x.row ≡ None
   pub wanted : Claim
+  pub owner : wanted.gxid ≡ g
   pub ran : turn ≡ after_marks (hold_mark s.node wanted ∷ []) (changes_rows (freed s g wanted) g (Some change))
 
 -- one that waited at a row looks at it again
 pub record RowGoesOn (s : Seg) (g : Gxid) (x : Suspended) (turn : SegTurn) : Type 0 where
   pub wanted : Claim
+  pub owner : wanted.gxid ≡ g
   pub goes : GoesOnAtRow s g x wanted turn
 
 abbrev pub Continues : Seg → Gxid → Suspended → SegTurn → Type 0
 Continues s g x turn = SelectGoesOn s g x turn ⊎ InsertGoesOn s g x turn ⊎ LockGoesOn s g x turn ⊎ ChangeGoesOn s g x turn ⊎ RowGoesOn s g x turn
 
-module _ (s : Seg) (g : Gxid) (x : Suspended) (wanted : Claim) where
-  continues : (snapshot : Option Snapshot) (y : Slice) → x.snapshot ≡ snapshot → x.slice ≡ y → (is_some snapshot || reads_nothing y) ≡ true
+module _ (s : Seg) (g : Gxid) (x : Suspended) (wanted : Claim) (owner : wanted.gxid ≡ g) where
+  continues : (snapshot : Option Snapshot) (y : Slice) → x.snapshot ≡ snapshot → x.slice ≡ y → x.row ≡ None → (is_some snapshot || reads_nothing y) ≡ true
       → Continues s g x (after_marks (hold_mark s.node wanted ∷ []) (runs_slice (freed s g wanted) g x.cid x.level snapshot y))
-  continues (Some snapshot) (slice.Select q) e f reads = inl (record { snapshot = snapshot; query = q; reads = e; is = f; wanted = wanted; ran = refl })
-  continues (Some snapshot) (slice.Insert t rows) e f reads = inr (inl (record { snapshot = snapshot; table = t; rows = rows; reads = e; is = f; wanted = wanted; ran = refl }))
-  continues None (slice.Select q) e f reads = absurd (cc)
-  continues None (slice.Insert t rows) e f reads = absurd (cc)
-  continues snapshot (slice.Lock t m) e f reads = inr (inr (inl (record { table = t; mode = m; is = f; wanted = wanted; ran = refl })))
-  continues (Some snapshot) (slice.Update t a d) e f reads =
+  continues (Some snapshot) (slice.Select q) e f row reads = inl (record { snapshot = snapshot; query = q; reads = e; is = f; row = row; wanted = wanted; ran = refl })
+  continues (Some snapshot) (slice.Insert t rows) e f row reads = inr (inl (record { snapshot = snapshot; table = t; rows = rows; reads = e; is = f; row = row; wanted = wanted; ran = refl }))
+  continues None (slice.Select q) e f row reads = absurd (cc)
+  continues None (slice.Insert t rows) e f row reads = absurd (cc)
+  continues snapshot (slice.Lock t m) e f row reads = inr (inr (inl (record { table = t; mode = m; is = f; row = row; wanted = wanted; ran = refl })))
+  continues (Some snapshot) (slice.Update t a d) e f row reads =
       inr (inr (inr (inl (record {
         change = record { cid = x.cid; level = x.level; snapshot = snapshot; slice = slice.Update t a d; table = t; set = Some a; cond = d };
         changes = ap (λ o. change_of x.cid x.level o x.slice) e ∙ ap (change_of x.cid x.level (Some snapshot)) f;
+        row = row;
         wanted = wanted;
+        owner = owner;
         ran = refl;
       }))))
-  continues (Some snapshot) (slice.Delete t d) e f reads =
+  continues (Some snapshot) (slice.Delete t d) e f row reads =
       inr (inr (inr (inl (record {
         change = record { cid = x.cid; level = x.level; snapshot = snapshot; slice = slice.Delete t d; table = t; set = None; cond = d };
         changes = ap (λ o. change_of x.cid x.level o x.slice) e ∙ ap (change_of x.cid x.level (Some snapshot)) f;
+        row = row;
         wanted = wanted;
+        owner = owner;
         ran = refl;
       }))))
-  continues None (slice.Update t a d) e f reads = absurd (cc)
-  continues None (slice.Delete t d) e f reads = absurd (cc)
+  continues None (slice.Update t a d) e f row reads = absurd (cc)
+  continues None (slice.Delete t d) e f row reads = absurd (cc)
 
   goes-so : (script : Script) (turn : SegTurn) → (is_some x.snapshot || reads_nothing x.slice) ≡ true → GoesOnSo script s g x wanted turn → Continues s g x turn
-  goes-so script turn reads (inl y) = subst (Continues s g x) (sym y.is) (continues x.snapshot x.slice refl refl reads)
-  goes-so script turn reads (inr y) = inr (inr (inr (inr (record { wanted = wanted; goes = y }))))
+  goes-so script turn reads (inl y) = subst (Continues s g x) (sym y.is) (continues x.snapshot x.slice refl refl y.at.row reads)
+  goes-so script turn reads (inr y) = inr (inr (inr (inr (record { wanted = wanted; owner = owner; goes = y }))))
 
 pub resumption-turns : (script : Script) (w : World) (i : ℕ) (g : Gxid) (o : GoesOn script w i g) → Continues (w.segs i) g o.slice (resumes (w.segs i) g (wait_of (w.segs i).locks g) (local_of (w.segs i) g).suspended)
-resumption-turns script w i g o = goes-so (w.segs i) g o.slice o.wanted script _ o.waits.reads (going-ways script w i g o)
+resumption-turns script w i g o = goes-so (w.segs i) g o.slice o.wanted (wanted-owner script g o.slice o.wanted o.lock) script _ o.waits.reads (going-ways script w i g o)
