@@ -28,15 +28,17 @@ pub fn parts_give_the_answer()
 {}
 
 /// Each answer to a command that a segment ever sent was earned: its rule gave it when the command came, as one that was new
-/// there, or when its slice, which had come before and waited, got its lock; and what it says was so then. A SELECT's is its part
-/// of what the command sees, or a fault of its condition on it, unless the transaction had aborted; an INSERT's counts the rows
-/// that it was sent, all written.
+/// there, or when its slice, which had come before and waited, got its lock, on its table or at a row; and what it says was so
+/// then. A SELECT's is its part of what the command sees, or a fault of its condition on it; an UPDATE's or DELETE's counts the
+/// rows that it has written there, with each that it selects written or skipped, or tells of its fault, or of a row that was
+/// overtaken; all these unless the transaction had aborted. An INSERT's counts the rows that it was sent, all written.
 pub fn every_answer_was_earned()
     ensures { (script : Script) (events : List (OneEvent × Bool)) → 1 ≤ script.segments → AreLinesNumbered [] script.lines → AreAnswersEarned script events }
 {}
 
-/// The marks of a segment's step may stand there: its writes, and each fault of a SELECT's condition, which is one on a row that
-/// the command sees, while it is under way, or of a transaction that has aborted.
+/// The marks of a segment's step may stand there: its writes and skips, and each fault, of a condition on a row that the command
+/// sees, or of an UPDATE's or DELETE's condition or SET list on a row's current image, while it is under way, or of a transaction
+/// that has aborted.
 pub fn segments_marks_are_legal()
     ensures { (script : Script) (events : List (OneEvent × Bool)) → 1 ≤ script.segments → AreLinesNumbered [] script.lines → AreSegmentsLegal script (world_of script events) }
 {}
