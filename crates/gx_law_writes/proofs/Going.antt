@@ -318,10 +318,10 @@ module _ (script : Script) (numbered : AreLinesNumbered [] script.lines) (w : Wo
     pub on-it : IsOn (w.segs i) g horizon (w.segs i)
     on-it = rests-on s g horizon low
 
-    here-homes : HaveHomes (marks_in w.steps ++ [])
+    abbrev here-homes : HaveHomes (marks_in w.steps ++ [])
     here-homes = homes-pre horizon s on-it [] tt upto
 
-    here-versions : s.versions ≡ writes_at s.node (marks_in w.steps ++ [])
+    abbrev here-versions : s.versions ≡ writes_at s.node (marks_in w.steps ++ [])
     here-versions = b-versions horizon s on-it [] tt upto
 
     goes-on : Inv (w.segs i) (marks_in w.steps ++ []) g k.cid k.table (is_granted (w.segs i) g wanted)

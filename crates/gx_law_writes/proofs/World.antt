@@ -788,21 +788,21 @@ module _ (script : Script) (some : 1 ≤ script.segments) (numbered_lines : AreL
 
         by_test : (q : Bool) → (if q then coord_can script w.coord x else seg_can script (w.segs m.0) x) ≡ true → let v : World = if q then coord_did w e (coord_rule script w.coord x fails) else seg_did w m e (seg_rule script (w.segs m.0) x fails) in DoViewsStay w v → Holds script v.segs v.steps
         by_test true ok stay = coord-holds w b.knows.well h e x fails stay
-        by_test false ok = goes-on e (λ t. refl) fails m.0 g (resumes_there script some w m g b.knows.well ok) (going-on script w b.knows.well m.0 g ok)
+        by_test false ok stay = goes-on e (λ t. refl) fails m.0 g (resumes_there script some w m g b.knows.well ok) (going-on script w b.knows.well m.0 g ok) stay
 
     event-holds : (e : Event) (fails : Bool) → can script w e ≡ true → let v : World = does script w e (node_of e) fails (at_node w e) in DoViewsStay w v → Holds script v.segs v.steps
-    event-holds (event.Receive from to number) fails ok = arrives from to number fails (found from to number w.sent) refl
-    event-holds (event.Resume m g) fails ok = resumed m g fails ok
-    event-holds (event.Start t) fails ok = coord-holds w b.knows.well h (event.Start t) (here.Start t) fails
-    event-holds (event.End t) fails ok = coord-holds w b.knows.well h (event.End t) (here.End t) fails
-    event-holds (event.Resend i g) fails ok = coord-holds w b.knows.well h (event.Resend i g) (here.Resend i g) fails
-    event-holds event.Round fails ok = coord-holds w b.knows.well h event.Round here.Round fails
+    event-holds (event.Receive from to number) fails ok stay = arrives from to number fails (found from to number w.sent) refl stay
+    event-holds (event.Resume m g) fails ok stay = resumed m g fails ok stay
+    event-holds (event.Start t) fails ok stay = coord-holds w b.knows.well h (event.Start t) (here.Start t) fails stay
+    event-holds (event.End t) fails ok stay = coord-holds w b.knows.well h (event.End t) (here.End t) fails stay
+    event-holds (event.Resend i g) fails ok stay = coord-holds w b.knows.well h (event.Resend i g) (here.Resend i g) fails stay
+    event-holds event.Round fails ok stay = coord-holds w b.knows.well h event.Round here.Round fails stay
 
     happens-holds : (e : Event) (fails : Bool) → let v : World = happens script w e fails in DoViewsStay w v → Holds script v.segs v.steps
     happens-holds e fails = by_can (can script w e) refl
       where
         by_can : (q : Bool) → can script w e ≡ q → let v : World = if q then does script w e (node_of e) fails (at_node w e) else w in DoViewsStay w v → Holds script v.segs v.steps
-        by_can true ok = event-holds e fails ok
+        by_can true ok stay = event-holds e fails ok stay
         by_can false ok stay = h
 
   abbrev HoldsIn : World → Type 0
