@@ -2,14 +2,12 @@
 use Rattle.std.proofs.Common.{◌≡◌, ◌≤◌, ◌<◌, ◌⊎◌, inl, inr, ℕ, List, [], ◌∷◌, ◌++◌, Option, Some, None, Bool, true, false, not, refl, sym, subst, ap, ◌∙◌, if◌then◌else◌, ◌==◌, ◌&&◌, ◌||◌, arith, eqb}
 use Rattle.std.proofs.lemmas.Bool.Decides.{nat_tests}
 use Rattle.std.specs.Prelude.{is_some, nat_le, nat_lt}
-use Rattle.gx_lemmas.proofs.Numbers.{lt-of}
 use Rattle.gx_lemmas.proofs.Options.{some-same}
 use Rattle.gx_ids.specs.declared.ids.Cid.{Cid}
 use Rattle.gx_ids.specs.declared.ids.Gxid.{Gxid}
 use Rattle.gx_ids.specs.declared.ids.Node.{Node}
 use Rattle.gx_ids.specs.declared.ids.Table.{Table}
 use Rattle.gx_modes.specs.declared.modes.Mode.{Mode}
-use Rattle.gx_tree.specs.declared.part.Part.{Part}
 use Rattle.gx_tree.specs.declared.query.Query.{Query}
 use Rattle.gx_tree.specs.declared.row.KeyedRow.{KeyedRow}
 use Rattle.gx_tree.specs.declared.slice.Slice.{Slice}
@@ -18,7 +16,6 @@ use Rattle.gx_tree.specs.declared.stmt.Level.{Level}
 use Rattle.gx_dsnap.specs.Gxids.{is_below}
 use Rattle.gx_dsnap.specs.declared.snapshot.Snapshot.{Snapshot}
 use Rattle.gx_locks.specs.Locks.{is_free, wait_of}
-use Rattle.gx_msg.specs.declared.message.Envelope.{Envelope}
 use Rattle.gx_msg.specs.declared.message.Message.{Message}
 use Rattle.gx_msg.specs.declared.message.Message.TheVariants as message
 use Rattle.gx_msg.specs.declared.reply.Reply.TheVariants as reply
@@ -27,19 +24,17 @@ use Rattle.gx_store.specs.declared.event.Event.{Event}
 use Rattle.gx_store.specs.declared.event.Event.TheVariants as event
 use Rattle.gx_store.specs.declared.mark.Mark.{Mark}
 use Rattle.gx_store.specs.declared.mark.Mark.TheVariants as mark
-use Rattle.gx_store.specs.declared.node.NodeEvent.TheVariants as here
 use Rattle.gx_store.specs.declared.run.Step.{Step}
 use Rattle.gx_store.specs.Language.{AreLinesNumbered}
-use Rattle.gx_store.specs.Messages.{IsSent}
 use Rattle.gx_store.specs.Ordered.{IsSegment}
 use Rattle.gx_store.specs.Points.{marks_in}
-use Rattle.gx_rules.specs.AtSegment.{if_fits, on_exec, on_message, raised, repeats, resumes, takes, unless_below}
+use Rattle.gx_rules.specs.AtSegment.{if_fits, on_exec, on_message, raised, repeats, resumes, takes}
 use Rattle.gx_rules.specs.Changes.{Change, change_of}
 use Rattle.gx_rules.specs.Fits.{fits_exec, holds_locks, is_right_slice, reads_nothing}
-use Rattle.gx_rules.specs.Machine.{World, after, found, seg_can, world_of}
+use Rattle.gx_rules.specs.Machine.{World, after, world_of}
 use Rattle.gx_rules.specs.Maps.{each_below}
 use Rattle.gx_rules.specs.Running.{runs_locked, slice_lock, starts_slice, suspends}
-use Rattle.gx_rules.specs.Segments.{Local, Phase, Seg, SegTurn, Suspended, local_of, stays}
+use Rattle.gx_rules.specs.Segments.{Phase, Seg, SegTurn, Suspended, local_of, stays}
 use Rattle.gx_rules.specs.Segments.Phase.{Aborted, Committed, Forgotten, Prepared, Reading, Writing}
 use Rattle.gx_law_order.proofs.Lists.{Each}
 use Rattle.gx_law_order.proofs.Ordered.{resumes_there, world_well}
@@ -54,7 +49,7 @@ use Rattle.gx_law_reads.proofs.Ends.{world-facts}
 use Rattle.gx_law_reads.proofs.Seeing.{world-hold}
 use Rattle.gx_law_writes.specs.Changes.{AreLaterTurnsTrue, AreNewTurnsTrue, DoCountsStay, FaultLegal, IsTrueTurn}
 use Rattle.gx_law_writes.proofs.Told.{sending-told}
-use Rattle.gx_law_writes.proofs.Turns.{ChangeGoesOn, Changed, Continues, NoRow, RowGoesOn, resumption-turns}
+use Rattle.gx_law_writes.proofs.Turns.{Changed, Continues, NoRow, resumption-turns}
 use Rattle.gx_law_writes.proofs.World.{counts-stay, exec-true, locals_in, row-true, table-true, world-holds}
 
 -- A NEW COMMAND

@@ -21,7 +21,7 @@ use Rattle.gx_store.specs.declared.mark.Mark.{Mark}
 use Rattle.gx_store.specs.declared.mark.Mark.TheVariants as mark
 use Rattle.gx_store.specs.Marks.{is_aborted, node_of}
 use Rattle.gx_rules.specs.AtSegment.{raised}
-use Rattle.gx_rules.specs.Locks.{hold_mark, wait_mark, with_wait}
+use Rattle.gx_rules.specs.Locks.{wait_mark, with_wait}
 use Rattle.gx_rules.specs.Segments.{Local, Seg, SegTurn, Suspended, Version, after_marks, local_of, reply as reply_out, with_local}
 use Rattle.gx_rules.specs.Running.{suspended_slice}
 use Rattle.gx_rules.specs.Slices.{Moved, answers, inserted, inserts, inserts_row, locks as locks_only, own_lock, selects, starts_from, takes_lock, version}

@@ -84,8 +84,7 @@ use Rattle.gx_law_changes.proofs.Path.{Legals}
 use Rattle.gx_law_changes.proofs.Points.{IsLegalChange, IsOfHere, Ok}
 use Rattle.gx_law_changes.proofs.Rows.{HaveHomes}
 use Rattle.gx_law_changes.proofs.Told.{IsOn, Known}
-use Rattle.gx_law_changes.proofs.Undone.{IsBegun, alive-front, begun-later, undone, undone-drops}
-use Rattle.gx_law_changes.proofs.Worked.{TurnWork}
+use Rattle.gx_law_changes.proofs.Undone.{IsBegun, begun-later, undone, undone-drops}
 use Rattle.gx_law_order.proofs.World.{marks-last}
 use Rattle.gx_store.specs.Language.{AreLinesNumbered}
 use Rattle.gx_law_sessions.specs.Alive.{HasRun, WasUnderWay}
@@ -114,7 +113,7 @@ use Rattle.gx_law_writes.proofs.Counting.{count-append, no-write-count, none-cou
 use Rattle.gx_law_writes.proofs.Going.{Result, homes-more as homes-behind, on-it, row-legal as goes-legal, row-result, row-work, start-legal, start-result, start-work, undone_in}
 use Rattle.gx_law_writes.proofs.Halves.{no-write-free, waits-on}
 use Rattle.gx_law_writes.proofs.Legal.{Behind, IsPastHere, IsPastMark, behind-hold, behind-none, no-writes-legal, sent-no-write}
-use Rattle.gx_law_writes.proofs.Live.{Running, running}
+use Rattle.gx_law_writes.proofs.Live.{running}
 use Rattle.gx_law_writes.proofs.Moves.{IsBase, IsOutOf, Move, change-move, freed-base, insert-move, line-of, lock-move, piece, quiet-move, rows-move, select-move, started-base, waited-move}
 use Rattle.gx_law_writes.proofs.Next.{new-next, next_command, waits-next}
 use Rattle.gx_law_writes.proofs.Told.{IsAnswerOf, IsToldOf, IsWordOf, SentTold, StepTold, answer-more, each-get, steps-more, taken-told, told-more}
