@@ -1,32 +1,24 @@
 -- The segment on which a command runs: from its EXEC, from the end of its wait for its table, or at a row.
-use Rattle.std.proofs.Common.{◌≡◌, ◌∙◌, ◌⊎◌, inl, inr, ℕ, ◌≤◌, List, [], ◌∷◌, ◌++◌, Option, Some, None, Bool, true, false, refl, ap, sym, subst, if◌then◌else◌, ◌||◌, eqb, arith, append-nil}
+use Rattle.std.proofs.Common.{◌≡◌, ◌∙◌, ℕ, ◌≤◌, List, [], ◌∷◌, None, Bool, true, false, refl, ap, sym, if◌then◌else◌, eqb, arith, append-nil}
 use Rattle.std.proofs.lemmas.Bool.Decides.{nat_tests}
 use Rattle.std.specs.List.{list_any}
 use Rattle.gx_ids.specs.declared.ids.Cid.{Cid}
 use Rattle.gx_ids.specs.declared.ids.Gxid.{Gxid}
-use Rattle.gx_ids.specs.declared.ids.Node.{Node}
 use Rattle.gx_ids.specs.declared.ids.Table.{Table}
-use Rattle.gx_ids.specs.declared.rid.Rid.{Rid}
-use Rattle.gx_tree.specs.declared.slice.Slice.{Slice}
-use Rattle.gx_tree.specs.declared.slice.Slice.TheVariants as slice
 use Rattle.gx_dsnap.specs.Gxids.{is_below}
 use Rattle.gx_waits.specs.Claim.{same_claim}
 use Rattle.gx_waits.specs.declared.claim.Claim.{Claim}
 use Rattle.gx_waits.specs.declared.object.Object.{Object}
 use Rattle.gx_waits.specs.declared.object.Object.TheVariants.{Relation, Transaction, Tuple}
-use Rattle.gx_script.specs.declared.Script.{Script}
 use Rattle.gx_store.specs.declared.mark.Mark.{Mark}
-use Rattle.gx_store.specs.declared.mark.Mark.TheVariants as mark
 use Rattle.gx_store.specs.Marks.{is_same_gxid}
 use Rattle.gx_rules.specs.AtSegment.{raised}
-use Rattle.gx_rules.specs.Locks.{hold_mark, release_mark, with_hold}
-use Rattle.gx_rules.specs.Running.{is_granted, slice_lock, unless_end}
-use Rattle.gx_rules.specs.Segments.{Local, Seg, Suspended, Version, local_of, with_local}
-use Rattle.gx_rules.specs.Slices.{Moved, gives_back, is_holding, own_lock, starts_from}
-use Rattle.gx_law_order.proofs.Lists.{Each}
+use Rattle.gx_rules.specs.Locks.{hold_mark, with_hold}
+use Rattle.gx_rules.specs.Running.{is_granted, unless_end}
+use Rattle.gx_rules.specs.Segments.{Local, Seg, local_of, with_local}
+use Rattle.gx_rules.specs.Slices.{own_lock, starts_from}
 use Rattle.gx_law_order.proofs.SegItems.{writes_at}
-use Rattle.gx_law_order.proofs.Suspensions.{wanted-owner}
-use Rattle.gx_law_order.proofs.Waiting.{IsWanted, freed}
+use Rattle.gx_law_order.proofs.Waiting.{freed}
 use Rattle.gx_law_commit.specs.Pairs.{is_open}
 use Rattle.gx_law_changes.proofs.Frames.{Inv, held-other, local-other, local-own, lock-less, no-version, unlike-owner}
 use Rattle.gx_law_changes.proofs.Told.{IsOn}

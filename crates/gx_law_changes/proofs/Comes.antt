@@ -1,6 +1,6 @@
 -- A command under way goes through the rows that it has selected: what its turn comes to, with each of its marks legal.
-use Rattle.std.proofs.Common.{◌≡◌, ◌∙◌, ◌⊎◌, inl, inr, ℕ, List, [], ◌∷◌, ◌++◌, Option, Some, None, Bool, true, false, refl, ap, sym, subst, take}
-use Rattle.std.proofs.lemmas.List.{append-nil, append_assoc}
+use Rattle.std.proofs.Common.{◌≡◌, ◌∙◌, inl, inr, ℕ, List, [], ◌∷◌, ◌++◌, Option, Some, None, false, refl, ap, sym, subst, take}
+use Rattle.std.proofs.lemmas.List.{append_assoc}
 use Rattle.gx_ids.specs.declared.ids.Gxid.{Gxid}
 use Rattle.gx_ids.specs.declared.ids.Node.{Node}
 use Rattle.gx_ids.specs.declared.rid.Rid.{Rid}
@@ -32,7 +32,7 @@ use Rattle.gx_law_changes.proofs.Points.{IsLegalChange, IsRowOf, Ok, Runs, fault
 use Rattle.gx_law_changes.proofs.Rows.{HaveHomes, IsSelected, part-seen, part-selected, selected-are-apart}
 use Rattle.gx_law_changes.proofs.Shown.{IsFirst, first-is}
 use Rattle.gx_law_changes.proofs.Turn.{ComesTo, HasFailed, HasFinished, HasHalted, HasLost, comes}
-use Rattle.gx_law_changes.proofs.Walk.{Done, Free, Rules, own_count}
+use Rattle.gx_law_changes.proofs.Walk.{Rules, own_count}
 
 -- LEGAL MARKS
 -- each of these marks, whatever comes behind them
@@ -149,13 +149,16 @@ module _ (script : Script) (steps : List Step) (e : Event) (pre : List Mark) (s 
 
       pub start-fault : Legals (Ok script steps e s.node) pre (fails_on s g k.cid found).marks
       start-fault = (
-        (λ later. inl (record {
-          session = runs.session;
-          stmt = runs.stmt;
-          level = k.level;
-          fault = found.1;
-          runs = runs.under_way pre later runs.work;
-          faults = fault-so k.set runs.stmt runs.of;
-        }), tt),
+        (
+          λ later. inl (record {
+            session = runs.session;
+            stmt = runs.stmt;
+            level = k.level;
+            fault = found.1;
+            runs = runs.under_way pre later runs.work;
+            faults = fault-so k.set runs.stmt runs.of;
+          }),
+          tt,
+        ),
         tt,
       )

@@ -1,5 +1,5 @@
 -- What the loop over rows leaves as it was: whatever is of other transactions.
-use Rattle.std.proofs.Common.{◌≡◌, ◌∙◌, ◌⊎◌, inl, inr, ℕ, ◌==◌, Bool, true, false, not, ◌&&◌, ◌||◌, List, [], ◌∷◌, ◌++◌, Option, Some, None, ap, refl, sym, subst, if◌then◌else◌, arith, eqb}
+use Rattle.std.proofs.Common.{◌≡◌, ◌∙◌, Bool, true, false, not, ◌||◌, List, [], ◌∷◌, ◌++◌, Option, None, ap, refl, sym, if◌then◌else◌, arith}
 use Rattle.std.proofs.lemmas.Bool.Decides.{nat_tests}
 use Rattle.std.specs.Prelude.{filter}
 use Rattle.std.specs.List.{list_any}
@@ -12,8 +12,8 @@ use Rattle.gx_ids.specs.declared.rid.Rid.{Rid}
 use Rattle.gx_tree.specs.declared.value.Value.{Value}
 use Rattle.gx_waits.specs.Claim.{same_claim}
 use Rattle.gx_waits.specs.declared.claim.Claim.{Claim}
-use Rattle.gx_locks.specs.Locks.{held, is_free, without_claim}
-use Rattle.gx_lemmas.proofs.Tests.{or-false, true-false}
+use Rattle.gx_locks.specs.Locks.{held, without_claim}
+use Rattle.gx_lemmas.proofs.Tests.{true-false}
 use Rattle.gx_store.specs.declared.mark.Mark.{Mark}
 use Rattle.gx_store.specs.declared.mark.Mark.TheVariants as mark
 use Rattle.gx_store.specs.Journals.{is_same_node}
@@ -21,8 +21,7 @@ use Rattle.gx_store.specs.Marks.{is_same_gxid}
 use Rattle.gx_rules.specs.Changes.{Change, tuple_lock}
 use Rattle.gx_rules.specs.Segments.{Local, Phase, Seg, Version, local_of, with_local}
 use Rattle.gx_rules.specs.Segments.Phase.{Aborted, Committed, Forgotten, Prepared, Reading, Writing}
-use Rattle.gx_rules.specs.Slices.{Moved, adds_version, gives_back, is_holding, noted, own_lock, takes_lock, takes_own, version, writes_row}
-use Rattle.gx_rules.specs.Visits.{IsUnshown, SkipsIt, WritesIt}
+use Rattle.gx_rules.specs.Slices.{Moved, adds_version, gives_back, is_holding, noted, own_lock, takes_lock, takes_own, version}
 use Rattle.gx_rules.proofs.Moving.{Keeps}
 use Rattle.gx_law_order.proofs.Lists.{Each, each_append}
 use Rattle.gx_law_order.proofs.SegItems.{writes_at, writes-append}

@@ -1,8 +1,7 @@
 -- What a command does to rows once its transaction has aborted: it writes only where a row stands.
-use Rattle.std.proofs.Common.{◌≡◌, ◌∙◌, ◌⊎◌, inl, inr, ℕ, ◌==◌, List, [], ◌∷◌, ◌++◌, Option, Some, None, Bool, true, false, refl, ap, sym, subst, if◌then◌else◌, ◌&&◌, ◌||◌, arith}
+use Rattle.std.proofs.Common.{◌≡◌, ◌∙◌, inr, ℕ, ◌==◌, List, [], ◌∷◌, ◌++◌, Option, Some, None, Bool, true, false, refl, ap, sym, subst, if◌then◌else◌, ◌&&◌, arith}
 use Rattle.std.proofs.lemmas.Bool.Decides.{nat_tests}
-use Rattle.std.proofs.lemmas.List.{append-nil, append_assoc}
-use Rattle.gx_ids.specs.declared.ids.Cid.{Cid}
+use Rattle.std.proofs.lemmas.List.{append_assoc}
 use Rattle.gx_ids.specs.declared.ids.Gxid.{Gxid}
 use Rattle.gx_ids.specs.declared.ids.Node.{Node}
 use Rattle.gx_ids.specs.declared.rid.Rid.{Rid}
@@ -11,7 +10,6 @@ use Rattle.gx_tree.specs.declared.stmt.Assign.{Assign}
 use Rattle.gx_tree.specs.declared.stmt.Stmt.{Stmt}
 use Rattle.gx_tree.specs.declared.value.Value.{Value}
 use Rattle.gx_meaning.specs.declared.fault.ArithFault.{ArithFault}
-use Rattle.gx_msg.specs.declared.reply.Cause.{Cause}
 use Rattle.gx_waits.specs.declared.claim.Claim.{Claim}
 use Rattle.gx_waits.specs.declared.object.Object.{Object}
 use Rattle.gx_waits.specs.declared.object.Object.TheVariants.{Relation, Transaction, Tuple}
@@ -25,16 +23,16 @@ use Rattle.gx_store.specs.declared.run.Step.{Step}
 use Rattle.gx_store.specs.Journals.{is_same_node}
 use Rattle.gx_store.specs.Lines.{is_on_rows}
 use Rattle.gx_store.specs.Marks.{is_aborted, is_same_rid, node_of}
-use Rattle.gx_store.specs.Points.{Point, marks_in}
+use Rattle.gx_store.specs.Points.{marks_in}
 use Rattle.gx_store.specs.Writes.{IsLate, IsLateWriteOf, may_skip}
-use Rattle.gx_rules.specs.Changes.{Change, RowTurn, changes_rows, goes_through, selected, shown_to, suspended_at, suspends_at, tuple_lock, unless_fault}
+use Rattle.gx_rules.specs.Changes.{Change, RowTurn, changes_rows, goes_through, selected, shown_to, tuple_lock, unless_fault}
 use Rattle.gx_rules.specs.Locks.{hold_mark, release_mark}
 use Rattle.gx_rules.specs.Running.{is_granted, unless_end}
 use Rattle.gx_rules.specs.Segments.{Phase, Seg, SegTurn, Version, local_of}
 use Rattle.gx_rules.specs.Segments.Phase.{Aborted, Committed, Forgotten, Prepared, Reading, Writing}
 use Rattle.gx_rules.specs.Shown.{current_of, is_current}
-use Rattle.gx_rules.specs.Slices.{Moved, adds_version, fails_on, first_fault, gives_back, noted, own_lock, starts_from, takes_lock, takes_own, version, writes_row}
-use Rattle.gx_rules.specs.Visits.{DidStop, IsUnshown, SkipsIt, WritesIt}
+use Rattle.gx_rules.specs.Slices.{Moved, adds_version, first_fault, gives_back, own_lock, starts_from, takes_lock, takes_own, version, writes_row}
+use Rattle.gx_rules.specs.Visits.{DidStop, WritesIt}
 use Rattle.gx_rules.proofs.Moving.{Ends, Keeps, loop-keeps}
 use Rattle.gx_law_order.proofs.Lists.{Each, each_append, each_weaker}
 use Rattle.gx_law_order.proofs.SegItems.{writes_at}
@@ -45,7 +43,7 @@ use Rattle.gx_law_changes.proofs.Current.{newest-has}
 use Rattle.gx_law_changes.proofs.Legal.{IsStatement}
 use Rattle.gx_law_changes.proofs.Newest.{find-reverse}
 use Rattle.gx_law_changes.proofs.Parts.{node-still}
-use Rattle.gx_law_changes.proofs.Path.{Adds, IsLock, Legals, adds-legals, legals-append, legals-locks, note-adds, write-adds}
+use Rattle.gx_law_changes.proofs.Path.{IsLock, Legals, legals-append, legals-locks}
 use Rattle.gx_law_changes.proofs.Points.{Ok, lock-ok}
 use Rattle.gx_law_changes.proofs.Rows.{HaveHomes}
 
@@ -170,10 +168,16 @@ module _ (script : Script) (steps : List Step) (e : Event) (pre : List Mark) (s 
   fault-so earlier rid image = (λ later. inr (record { stmt = stmt; late = late earlier later; kind = on-rows k k.set stmt of }), tt)
 
   write-so : (set : Option (List Assign)) → IsStatement k set stmt → (earlier : List Mark) (node : Node) (rid : Rid) (image : Option (List Value)) → node_of (marks_in steps ++ earlier) rid ≡ Some node → IsSo earlier (mark.Write g k.cid node k.table rid image)
-  write-so (Some assigns) of earlier node rid image there = (λ later.
-      inr (record { stmt = stmt; late = late earlier later; writes = subst (λ q. IsLateWriteOf (marks_in steps ++ earlier) g k.cid q node k.table rid) (sym of) (refl, there) }), tt)
-  write-so None of earlier node rid image there = (λ later.
-      inr (record { stmt = stmt; late = late earlier later; writes = subst (λ q. IsLateWriteOf (marks_in steps ++ earlier) g k.cid q node k.table rid) (sym of) (refl, there) }), tt)
+  write-so (Some assigns) of earlier node rid image there = (
+    λ later.
+        inr (record { stmt = stmt; late = late earlier later; writes = subst (λ q. IsLateWriteOf (marks_in steps ++ earlier) g k.cid q node k.table rid) (sym of) (refl, there) }),
+    tt,
+  )
+  write-so None of earlier node rid image there = (
+    λ later.
+        inr (record { stmt = stmt; late = late earlier later; writes = subst (λ q. IsLateWriteOf (marks_in steps ++ earlier) g k.cid q node k.table rid) (sym of) (refl, there) }),
+    tt,
+  )
 
   module _ (m : Moved) (rid : Rid) (image : Option (List Value)) (why : WritesIt m g k rid image) (f : LateSoFar m) where
     abbrev x : Mark

@@ -1,5 +1,5 @@
 -- What marks of locks leave as it was, and the beginning of a turn at a row.
-use Rattle.std.proofs.Common.{◌≡◌, ◌∙◌, ◌⊎◌, inl, inr, ℕ, ◌≤◌, ◌<◌, List, [], ◌∷◌, ◌++◌, Option, Some, None, Bool, true, false, refl, ap, sym, subst, if◌then◌else◌, ◌&&◌, ◌||◌, arith, take, length}
+use Rattle.std.proofs.Common.{◌≡◌, ◌∙◌, ℕ, ◌≤◌, ◌<◌, List, [], ◌∷◌, ◌++◌, Option, Some, None, Bool, refl, ap, subst, ◌||◌, arith, take, length}
 use Rattle.std.proofs.lemmas.List.{append-nil, append_assoc, take-append-le}
 use Rattle.gx_ids.specs.declared.ids.Cid.{Cid}
 use Rattle.gx_ids.specs.declared.ids.Gxid.{Gxid}
@@ -17,7 +17,7 @@ use Rattle.gx_store.specs.declared.event.Event.{Event}
 use Rattle.gx_store.specs.declared.mark.Mark.{Mark}
 use Rattle.gx_store.specs.declared.mark.Mark.TheVariants as mark
 use Rattle.gx_store.specs.declared.run.Step.{Step}
-use Rattle.gx_store.specs.Marks.{is_processed, node_of}
+use Rattle.gx_store.specs.Marks.{is_processed}
 use Rattle.gx_store.specs.Points.{marks_in}
 use Rattle.gx_store.specs.View.{image, image_after, is_shown_to}
 use Rattle.gx_rules.specs.Locks.{hold_mark}
@@ -59,8 +59,6 @@ image-behind ms locks g c table rid place inside e =
     ∙ image-locks (is_shown_to (Some (g, c)) (take place ms)) table rid _ locks e
 
 -- WHAT IT HAS WAITED FOR IS GRANTED
-
-
 
 by-object : (P : Moved → Type 0) (s : Seg) (g : Gxid) (wanted : Claim) → P (record { seg = freed s g wanted; marks = hold_mark s.node wanted ∷ [] }) → ((m : Moved) → P m → P (Rattle.gx_rules.specs.Slices.gives_back wanted m)) → P (is_granted s g wanted)
 by-object P s g wanted p back = at-object wanted.object

@@ -1,5 +1,5 @@
 -- The segment on which a command runs shows what the segment shows with its horizon.
-use Rattle.std.proofs.Common.{◌≡◌, ◌∙◌, ℕ, ◌==◌, List, [], ◌∷◌, Bool, refl, ap, cond, ◌&&◌, ◌||◌, nat_lt}
+use Rattle.std.proofs.Common.{◌≡◌, ◌∙◌, ◌==◌, List, [], ◌∷◌, Bool, refl, ap, cond, ◌&&◌, ◌||◌, nat_lt}
 use Rattle.std.specs.Prelude.{filter}
 use Rattle.gx_ids.specs.declared.ids.Cid.{Cid}
 use Rattle.gx_ids.specs.declared.ids.Gxid.{Gxid}

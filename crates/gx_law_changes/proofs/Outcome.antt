@@ -1,10 +1,9 @@
 -- What a turn of a command under way comes to: each of its marks is legal, where it waits the rows that are done and left are known,
 -- and what it says is so.
-use Rattle.std.proofs.Common.{◌≡◌, ◌∙◌, ◌⊎◌, inl, inr, ℕ, ◌<◌, ◌≤◌, List, [], ◌∷◌, ◌++◌, Option, Some, None, Bool, true, false, Result, Ok as Good, Err, refl, ap, sym, subst, if◌then◌else◌, arith, take}
-use Rattle.std.proofs.lemmas.List.{append-nil, append_assoc, take-append-le}
+use Rattle.std.proofs.Common.{◌≡◌, ◌∙◌, ◌⊎◌, inl, inr, ℕ, ◌<◌, ◌≤◌, List, [], ◌∷◌, ◌++◌, Option, Some, None, Bool, true, false, Ok as Good, refl, ap, sym, subst, if◌then◌else◌, arith, take}
+use Rattle.std.proofs.lemmas.List.{append-nil, take-append-le}
 use Rattle.std.specs.Prelude.{filter, map}
 use Rattle.gx_ids.specs.declared.ids.Gxid.{Gxid}
-use Rattle.gx_ids.specs.declared.ids.Node.{Node}
 use Rattle.gx_ids.specs.declared.rid.Rid.{Rid}
 use Rattle.gx_tree.specs.declared.cond.Cond.{Cond}
 use Rattle.gx_tree.specs.declared.row.KeyedRow.{KeyedRow}
@@ -31,15 +30,13 @@ use Rattle.gx_store.specs.Marks.{is_aborted, is_processed, is_same_rid}
 use Rattle.gx_store.specs.Points.{marks_in}
 use Rattle.gx_store.specs.Rows.{row_at}
 use Rattle.gx_store.specs.View.{image, is_shown_to}
-use Rattle.gx_rules.specs.Changes.{Change, change_of, goes_through, is_done, selected, suspended_at, suspends_at}
-use Rattle.gx_rules.specs.Segments.{Local, Seg, SegTurn, Suspended, local_of}
+use Rattle.gx_rules.specs.Changes.{Change, change_of, goes_through, is_done, selected}
+use Rattle.gx_rules.specs.Segments.{Local, Seg, SegTurn, local_of}
 use Rattle.gx_rules.specs.Slices.{Moved, answers, cause_of, fails_on, first_fault, has_written, starts_from}
 use Rattle.gx_law_order.proofs.Lists.{Each}
 use Rattle.gx_law_order.proofs.SegItems.{writes_at}
-use Rattle.gx_law_sessions.specs.Orders.{IsServed}
-use Rattle.gx_law_reads.specs.Sights.{IsOnlyAt}
 use Rattle.gx_law_changes.specs.Parts.{IsPartOf}
-use Rattle.gx_law_changes.specs.Says.{IsPartDone, SaysDone, SaysFault, SaysOvertaken, changing_stmt, stmt_of_change}
+use Rattle.gx_law_changes.specs.Says.{SaysDone, SaysFault, SaysOvertaken, changing_stmt, stmt_of_change}
 use Rattle.gx_law_changes.proofs.Chosen.{Sight, image-work, not-own}
 use Rattle.gx_law_changes.proofs.Comes.{Comes, fault-so, goes-legal, goes-so, rest-rows, start-fault, the-rules}
 use Rattle.gx_law_changes.proofs.Frames.{Inv, IsWork, local-own}
@@ -50,7 +47,7 @@ use Rattle.gx_law_changes.proofs.Path.{Legals}
 use Rattle.gx_law_changes.proofs.Points.{IsRowOf, Ok, Runs}
 use Rattle.gx_law_changes.proofs.Rows.{HaveHomes}
 use Rattle.gx_law_changes.proofs.Sound.{aborted-still}
-use Rattle.gx_law_changes.proofs.Turn.{HasFailed, HasFinished, HasHalted, HasLost}
+use Rattle.gx_law_changes.proofs.Turn.{HasFinished}
 use Rattle.gx_law_changes.proofs.Undone.{count-is}
 use Rattle.gx_law_changes.proofs.Walk.{own_count}
 

@@ -1,13 +1,10 @@
 -- At the points of a segment's step: what the command, which is under way or has aborted, does to rows is legal there.
-use Rattle.std.proofs.Common.{◌≡◌, ◌∙◌, ◌⊎◌, inl, inr, ℕ, ◌+◌, Bool, true, false, not, List, [], ◌∷◌, ◌++◌, Option, Some, None, ap, refl, sym, subst, arith}
+use Rattle.std.proofs.Common.{◌≡◌, inl, ◌+◌, true, false, List, ◌++◌, Option, Some, refl, sym, subst}
 use Rattle.std.proofs.lemmas.List.{append_assoc}
-use Rattle.gx_ids.specs.declared.ids.Cid.{Cid}
 use Rattle.gx_ids.specs.declared.ids.Gxid.{Gxid}
 use Rattle.gx_ids.specs.declared.ids.Node.{Node}
 use Rattle.gx_ids.specs.declared.ids.SessionId.{SessionId}
 use Rattle.gx_ids.specs.declared.rid.Rid.{Rid}
-use Rattle.gx_tree.specs.declared.stmt.Assign.{Assign}
-use Rattle.gx_tree.specs.declared.stmt.Level.{Level}
 use Rattle.gx_tree.specs.declared.stmt.Stmt.{Stmt}
 use Rattle.gx_tree.specs.declared.value.Value.{Value}
 use Rattle.gx_meaning.specs.declared.fault.ArithFault.{ArithFault}
@@ -24,7 +21,7 @@ use Rattle.gx_store.specs.Writes.{IsSkipOf, IsWriteOf, LegalSkip, LegalWrite}
 use Rattle.gx_rules.specs.Changes.{Change}
 use Rattle.gx_rules.specs.Segments.{Seg}
 use Rattle.gx_rules.specs.Slices.{Moved}
-use Rattle.gx_rules.specs.Visits.{FaultsAt, IsUnshown, SkipsIt, WritesIt}
+use Rattle.gx_rules.specs.Visits.{FaultsAt, SkipsIt, WritesIt}
 use Rattle.gx_law_order.proofs.Lists.{Each, each_append}
 use Rattle.gx_law_changes.proofs.Chosen.{IsChosen, Sight}
 use Rattle.gx_law_changes.proofs.Current.{IsAtHome}
@@ -80,39 +77,48 @@ module _ (script : Script) (steps : List Step) (e : Event) where
 
     write-ok : (m : Moved) (rid : Rid) (image : Option (List Value)) → Inv s (marks_in steps ++ pre) g k.cid k.table m → IsRowOf rid → is_processed ((marks_in steps ++ pre) ++ m.marks) g k.cid rid ≡ false → WritesIt m g k rid image
         → Ok s.node (pre ++ m.marks) (mark.Write g k.cid m.seg.node k.table rid image)
-    write-ok m rid image i row free why = (λ later.
-        inl (record {
-          session = runs.session;
-          stmt = runs.stmt;
-          level = k.level;
-          runs = runs.under_way (pre ++ m.marks) later (its-work m i);
-          snapped = runs.snapped (pre ++ m.marks);
-          writes = subst (λ ms. IsWriteOf script ms k.level g k.cid runs.stmt m.seg.node k.table rid image) (same m)
-              (subst (λ node. IsWriteOf script ((marks_in steps ++ pre) ++ m.marks) k.level g k.cid runs.stmt node k.table rid image) (sym i.node)
-              (writes-so (marks_in steps ++ pre) s g k sight m i rid row.0 row.1 free script k.set runs.stmt image refl runs.of why));
-        }), tt)
+    write-ok m rid image i row free why = (
+      λ later.
+          inl (record {
+            session = runs.session;
+            stmt = runs.stmt;
+            level = k.level;
+            runs = runs.under_way (pre ++ m.marks) later (its-work m i);
+            snapped = runs.snapped (pre ++ m.marks);
+            writes = subst (λ ms. IsWriteOf script ms k.level g k.cid runs.stmt m.seg.node k.table rid image) (same m)
+                (subst (λ node. IsWriteOf script ((marks_in steps ++ pre) ++ m.marks) k.level g k.cid runs.stmt node k.table rid image) (sym i.node)
+                (writes-so (marks_in steps ++ pre) s g k sight m i rid row.0 row.1 free script k.set runs.stmt image refl runs.of why));
+          }),
+      tt,
+    )
 
     skip-ok : (m : Moved) (rid : Rid) → Inv s (marks_in steps ++ pre) g k.cid k.table m → IsRowOf rid → is_processed ((marks_in steps ++ pre) ++ m.marks) g k.cid rid ≡ false → SkipsIt m g k rid → Ok s.node (pre ++ m.marks) (mark.Skip g k.cid rid)
-    skip-ok m rid i row free why = (λ later.
-        inl (record {
-          session = runs.session;
-          stmt = runs.stmt;
-          level = k.level;
-          runs = runs.under_way (pre ++ m.marks) later (its-work m i);
-          skips = subst (λ ms. IsSkipOf ms k.level g k.cid runs.stmt rid) (same m) (skips-so (marks_in steps ++ pre) s g k sight m i rid row.0 row.1 free script k.set runs.stmt runs.of why);
-        }), λ alive. subst (λ ms. node_of ms rid ≡ Some s.node) (same m) (node-still (marks_in steps ++ pre) m.marks rid s.node row.3))
+    skip-ok m rid i row free why = (
+      λ later.
+          inl (record {
+            session = runs.session;
+            stmt = runs.stmt;
+            level = k.level;
+            runs = runs.under_way (pre ++ m.marks) later (its-work m i);
+            skips = subst (λ ms. IsSkipOf ms k.level g k.cid runs.stmt rid) (same m) (skips-so (marks_in steps ++ pre) s g k sight m i rid row.0 row.1 free script k.set runs.stmt runs.of why);
+          }),
+      λ alive. subst (λ ms. node_of ms rid ≡ Some s.node) (same m) (node-still (marks_in steps ++ pre) m.marks rid s.node row.3),
+    )
 
     pub fault-ok : (m : Moved) (rid : Rid) (image : Option (List Value)) (fault : ArithFault) → Inv s (marks_in steps ++ pre) g k.cid k.table m → IsRowOf rid → is_processed ((marks_in steps ++ pre) ++ m.marks) g k.cid rid ≡ false
         → FaultsAt m g k rid image fault → Ok s.node (pre ++ m.marks) (mark.Fault g k.cid rid image)
-    fault-ok m rid image fault i row free why = (λ later.
-        inl (record {
-          session = runs.session;
-          stmt = runs.stmt;
-          level = k.level;
-          fault = fault;
-          runs = runs.under_way (pre ++ m.marks) later (its-work m i);
-          faults = subst (λ ms. IsFaultOf ms k.level g k.cid runs.stmt rid image fault) (same m) (faults-so (marks_in steps ++ pre) s g k sight m i rid row.0 row.1 free script k.set runs.stmt image fault refl runs.of why);
-        }), tt)
+    fault-ok m rid image fault i row free why = (
+      λ later.
+          inl (record {
+            session = runs.session;
+            stmt = runs.stmt;
+            level = k.level;
+            fault = fault;
+            runs = runs.under_way (pre ++ m.marks) later (its-work m i);
+            faults = subst (λ ms. IsFaultOf ms k.level g k.cid runs.stmt rid image fault) (same m) (faults-so (marks_in steps ++ pre) s g k sight m i rid row.0 row.1 free script k.set runs.stmt image fault refl runs.of why);
+          }),
+      tt,
+    )
 
     pub its-rules : Rules (marks_in steps) pre s g k IsRowOf (Ok s.node)
     its-rules = record { locks = lock-ok s.node; write = write-ok; skip = skip-ok; shown = λ m rid i row. never-unshown (marks_in steps ++ pre) s g k sight m i rid row.0 row.1 row.2 }

@@ -1,5 +1,5 @@
 -- By its snapshot the command sees what it should, on the segment as it runs, behind marks of locks alone.
-use Rattle.std.proofs.Common.{◌≡◌, ◌∙◌, ℕ, ◌≤◌, ◌<◌, List, [], ◌∷◌, ◌++◌, Some, Bool, true, false, refl, ap, sym, subst, ◌||◌, arith, length, take}
+use Rattle.std.proofs.Common.{◌≡◌, ◌∙◌, ℕ, ◌≤◌, ◌<◌, List, ◌++◌, Some, true, false, refl, ap, sym, subst, ◌||◌, arith, length, take}
 use Rattle.std.proofs.lemmas.Bool.{or_left}
 use Rattle.std.proofs.lemmas.List.{take-append-drop, take-append-le}
 use Rattle.std.specs.Prelude.{drop}
@@ -8,7 +8,6 @@ use Rattle.gx_ids.specs.declared.ids.Gxid.{Gxid}
 use Rattle.gx_ids.specs.declared.ids.Node.{Node}
 use Rattle.gx_dsnap.specs.Gxids.{is_below}
 use Rattle.gx_dsnap.specs.Snapshot.{sees}
-use Rattle.gx_dsnap.specs.declared.snapshot.Snapshot.{Snapshot}
 use Rattle.gx_lemmas.proofs.Lists.{get-append, place-below}
 use Rattle.gx_script.specs.declared.Script.{Script}
 use Rattle.gx_store.proofs.Marks.{is_committed-append}

@@ -1,5 +1,5 @@
 -- A slice that waits at a row stays as it is behind marks that do nothing to its rows.
-use Rattle.std.proofs.Common.{◌≡◌, ◌∙◌, ◌⊎◌, inl, inr, ℕ, ◌==◌, List, [], ◌∷◌, ◌++◌, Option, Some, None, Bool, true, false, refl, ap, sym, subst, if◌then◌else◌, ◌&&◌, ◌||◌, arith, take}
+use Rattle.std.proofs.Common.{◌≡◌, ◌∙◌, ℕ, List, ◌∷◌, ◌++◌, Option, Some, None, Bool, true, false, refl, ap, sym, subst, if◌then◌else◌, arith, take}
 use Rattle.std.proofs.lemmas.Bool.Decides.{nat_tests}
 use Rattle.std.specs.Prelude.{slice_get}
 use Rattle.gx_ids.specs.declared.ids.Cid.{Cid}
@@ -20,7 +20,7 @@ use Rattle.gx_store.specs.Rows.{row_at}
 use Rattle.gx_store.specs.View.{image}
 use Rattle.gx_rules.specs.Changes.{Change, change_of, selected}
 use Rattle.gx_rules.specs.Segments.{Suspended, Version}
-use Rattle.gx_law_order.proofs.Changing.{IsChangeOf, change-parts}
+use Rattle.gx_law_order.proofs.Changing.{change-parts}
 use Rattle.gx_law_order.proofs.Lists.{Each, each_weaker}
 use Rattle.gx_law_reads.specs.Sights.{IsOnlyAt}
 use Rattle.gx_law_changes.specs.Parts.{IsPartOf, is_home}

@@ -1,5 +1,5 @@
 -- What a turn of the loop does to its segment, whatever it comes to: it leaves what is of others.
-use Rattle.std.proofs.Common.{◌≡◌, ◌∙◌, ℕ, ◌+◌, List, [], ◌∷◌, ◌++◌, Option, Some, None, Bool, true, false, refl, ap, sym, subst}
+use Rattle.std.proofs.Common.{◌≡◌, ◌∙◌, ℕ, ◌+◌, List, Some, false, refl, ap, subst}
 use Rattle.gx_ids.specs.declared.ids.Cid.{Cid}
 use Rattle.gx_ids.specs.declared.ids.Gxid.{Gxid}
 use Rattle.gx_ids.specs.declared.ids.Table.{Table}
@@ -7,15 +7,12 @@ use Rattle.gx_ids.specs.declared.rid.Rid.{Rid}
 use Rattle.gx_tree.specs.declared.row.KeyedRow.{KeyedRow}
 use Rattle.gx_waits.specs.declared.claim.Claim.{Claim}
 use Rattle.gx_meaning.specs.declared.fault.ArithFault.{ArithFault}
-use Rattle.gx_msg.specs.declared.reply.Cause.{Cause}
 use Rattle.gx_msg.specs.declared.reply.Reply.{Reply}
-use Rattle.gx_msg.specs.declared.reply.Reply.TheVariants as reply
 use Rattle.gx_store.specs.declared.mark.Mark.{Mark}
-use Rattle.gx_store.specs.declared.mark.Mark.TheVariants as mark
 use Rattle.gx_store.specs.Marks.{is_same_gxid}
 use Rattle.gx_rules.specs.Changes.{Change, RowTurn, changes_rows, goes_through, suspended_at, suspends_at, waits}
-use Rattle.gx_rules.specs.Segments.{Local, Seg, SegTurn, Suspended, local_of}
-use Rattle.gx_rules.specs.Slices.{Moved, answers, cause_of, fails_on, starts_from}
+use Rattle.gx_rules.specs.Segments.{Seg, SegTurn, local_of}
+use Rattle.gx_rules.specs.Slices.{Moved, answers, fails_on, starts_from}
 use Rattle.gx_rules.specs.Visits.{DidStop}
 use Rattle.gx_rules.proofs.Moving.{Ends, loop-keeps}
 use Rattle.gx_law_order.proofs.Changing.{rows-change, stop-keeps}

@@ -15,8 +15,9 @@ use Rattle.gx_law_changes.proofs.Half.{IsHalf}
 use Rattle.gx_law_changes.proofs.Points.{IsOfHere}
 use Rattle.gx_law_changes.proofs.Undone.{undone}
 use Rattle.gx_law_changes.proofs.Worked.{TurnWork}
+use Rattle.gx_law_writes.proofs.Next.{next_command}
 use Rattle.gx_law_writes.proofs.Turns.{NoWrite}
-use Rattle.gx_law_writes.proofs.Works.{IsIts, Works, no-write-its}
+use Rattle.gx_law_writes.proofs.Works.{IsFrom, IsIts, Works, no-write-from, no-write-its}
 
 each-both : {A : Type 0} (P Q R : A → Type 0) → ((x : A) → P x → Q x → R x) → (xs : List A) → Each P xs → Each Q xs → Each R xs
 each-both P Q R f [] e h = tt
@@ -37,7 +38,7 @@ work-its all node there g c first same next (mark.Write h d n t r x) e here = (e
 work-its all node there g c first same next (mark.Skip h d r) e here = (e.0, subst (λ (z : Cid). z.0 < first) (sym e.1) (last-one next), here)
 work-its all node there g c first same next m e here = tt
 
-module _ (ms : List Mark) (node : Node) (s : Seg) (g : Gxid) (c : Cid) (table : Table) (b : Seg) (named : b.node ≡ node) (versions : b.versions ≡ s.versions) (others : (h : ℕ) → eqb h g.0 ≡ false → b.locals h ≡ s.locals h) (upto : undone (s.locals g.0) ≤ c.0 + 1) (pre : List Mark) (silent : Each NoWrite pre)
+module _ (ms : List Mark) (node : Node) (s : Seg) (g : Gxid) (c : Cid) (table : Table) (b : Seg) (named : b.node ≡ node) (versions : b.versions ≡ s.versions) (others : (h : ℕ) → eqb h g.0 ≡ false → b.locals h ≡ s.locals h) (upto : undone (s.locals g.0) ≤ c.0 + 1) (starts : next_command (s.locals g.0) ≤ c.0) (pre : List Mark) (silent : Each NoWrite pre)
     (t : SegTurn) (work : TurnWork b g c table t) (here : Each (IsOfHere node (ms ++ (pre ++ t.marks))) t.marks) (half : IsHalf (ms ++ (pre ++ t.marks)) t.seg.versions node g (local_of t.seg g).suspended) where
   abbrev all : List Mark
   all = ms ++ (pre ++ t.marks)
@@ -52,6 +53,10 @@ module _ (ms : List Mark) (node : Node) (s : Seg) (g : Gxid) (c : Cid) (table : 
       by_test true q = subst (λ j. undone (s.locals j) ≤ undone (t.seg.locals j)) (sym (eqb-true h g.0 q)) (le-same upto work.leaves)
       by_test false q = same-le (ap undone (away h q))
 
+  work-from : (m : Mark) → IsWork b.node g c m → IsFrom (next_command (s.locals g.0)) m
+  work-from (mark.Write h d n t r z) e = subst (λ (k : Cid). next_command (s.locals g.0) ≤ k.0) (sym e.1) starts
+  work-from m e = tt
+
   pub change-works : Works ms node s (after_marks pre t)
   change-works =
       record {
@@ -59,6 +64,8 @@ module _ (ms : List Mark) (node : Node) (s : Seg) (g : Gxid) (c : Cid) (table : 
         rises = rises;
         marks = each_append (IsIts all node g (undone (t.seg.locals g.0))) pre t.marks (each_weaker NoWrite (IsIts all node g (undone (t.seg.locals g.0))) (λ m e. no-write-its all node g (undone (t.seg.locals g.0)) m e) pre silent)
             (each-both (IsWork b.node g c) (IsOfHere node all) (IsIts all node g (undone (t.seg.locals g.0))) (λ m e k. work-its all node b.node g c (undone (t.seg.locals g.0)) named work.leaves m e k) t.marks work.work here);
+        starts = each_append (IsFrom (next_command (s.locals g.0))) pre t.marks (each_weaker NoWrite (IsFrom (next_command (s.locals g.0))) (no-write-from (next_command (s.locals g.0))) pre silent)
+            (each_weaker (IsWork b.node g c) (IsFrom (next_command (s.locals g.0))) work-from t.marks work.work);
         own = work.added.own;
         versions = work.added.is ∙ ap (λ vs. vs ++ work.added.own) versions;
         mine = each_weaker (λ (v : Version). (v.gxid ≡ g) × (v.cid ≡ c) × (v.table ≡ table)) (λ (v : Version). v.gxid ≡ g) (λ v e. e.0) work.added.own work.added.mine;

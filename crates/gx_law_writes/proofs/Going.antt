@@ -1,6 +1,6 @@
 -- An UPDATE or DELETE runs at a segment: its marks are legal, whether it is under way or its transaction has aborted; and what its
 -- turn comes to, and says, is so.
-use Rattle.std.proofs.Common.{◌≡◌, ◌≤◌, ◌<◌, ◌⊎◌, inl, inr, ℕ, ◌+◌, List, [], ◌∷◌, ◌++◌, Option, Some, None, Bool, true, false, refl, sym, subst, ap, ◌∙◌, ◌||◌, arith, take, append-nil}
+use Rattle.std.proofs.Common.{◌≡◌, ◌≤◌, ◌⊎◌, inl, inr, ℕ, ◌+◌, List, [], ◌∷◌, ◌++◌, Option, Some, None, Bool, true, false, refl, sym, subst, ap, ◌∙◌, ◌||◌, arith, take, append-nil}
 use Rattle.std.proofs.lemmas.List.{append_assoc}
 use Rattle.std.specs.Prelude.{slice_get}
 use Rattle.gx_lemmas.proofs.Lists.{place-below}
@@ -23,7 +23,7 @@ use Rattle.gx_store.specs.declared.mark.Mark.{Mark}
 use Rattle.gx_store.specs.declared.mark.Mark.TheVariants as mark
 use Rattle.gx_store.specs.Language.{AreLinesNumbered}
 use Rattle.gx_store.specs.Marks.{is_aborted, is_committed, is_ended, is_processed, node_of}
-use Rattle.gx_store.specs.Points.{Point, marks_in, starts_by}
+use Rattle.gx_store.specs.Points.{marks_in, starts_by}
 use Rattle.gx_store.specs.Rows.{row_at}
 use Rattle.gx_store.specs.View.{image}
 use Rattle.gx_store.specs.Writes.{IsLate}
@@ -33,7 +33,7 @@ use Rattle.gx_rules.specs.Machine.{World}
 use Rattle.gx_rules.specs.Running.{is_granted}
 use Rattle.gx_rules.specs.Segments.{Seg, SegTurn, Version, after_marks, local_of}
 use Rattle.gx_rules.specs.Shown.{shown}
-use Rattle.gx_rules.specs.Slices.{Moved, first_fault, starts_from}
+use Rattle.gx_rules.specs.Slices.{first_fault, starts_from}
 use Rattle.gx_law_order.proofs.Lists.{Each, each_append, each_weaker}
 use Rattle.gx_law_order.proofs.SegItems.{writes_at}
 use Rattle.gx_law_sessions.specs.Orders.{IsServed}
@@ -50,11 +50,10 @@ use Rattle.gx_law_changes.proofs.Comes.{goes-legal, start-fault}
 use Rattle.gx_law_changes.proofs.Frames.{Inv, IsWork}
 use Rattle.gx_law_changes.proofs.Half.{AreLeft, HasPart, IsHalf, IsHalfDone}
 use Rattle.gx_law_changes.proofs.Late.{late-changes, late-goes, late-granted}
-use Rattle.gx_law_changes.proofs.Legal.{IsStatement}
 use Rattle.gx_law_changes.proofs.Locks.{granted-locks, granted-versions, image-behind, processed-behind, writes-behind}
 use Rattle.gx_law_changes.proofs.OnBase.{shown-on}
 use Rattle.gx_law_changes.proofs.Outcome.{Outcome, fault-out, goes-out, is-statement}
-use Rattle.gx_law_changes.proofs.Parts.{node-still, part-later}
+use Rattle.gx_law_changes.proofs.Parts.{part-later}
 use Rattle.gx_law_changes.proofs.Path.{IsLock, Legals, legals-locks}
 use Rattle.gx_law_changes.proofs.Points.{Ok, Runs, lock-ok}
 use Rattle.gx_law_changes.proofs.Rows.{HaveHomes}

@@ -1,10 +1,9 @@
 -- Slices that wait at rows stay as they are behind the steps of all nodes, but for the transaction whose turn it is.
-use Rattle.std.proofs.Common.{◌≡◌, ◌≤◌, ◌<◌, ◌⊎◌, inl, inr, ℕ, ◌+◌, List, [], ◌∷◌, ◌++◌, Option, Some, None, Bool, true, false, refl, sym, subst, ap, ◌∙◌, if◌then◌else◌, ◌&&◌, ◌||◌, arith, eqb, take}
+use Rattle.std.proofs.Common.{◌≡◌, ◌≤◌, inl, inr, ℕ, ◌+◌, List, [], ◌∷◌, ◌++◌, Option, Some, None, Bool, true, false, refl, sym, subst, ap, ◌∙◌, if◌then◌else◌, ◌&&◌, ◌||◌, arith, eqb, take}
 use Rattle.std.proofs.lemmas.Bool.Decides.{nat_tests}
-use Rattle.std.proofs.lemmas.List.{append_assoc}
 use Rattle.std.specs.Prelude.{slice_get}
 use Rattle.gx_lemmas.proofs.Options.{some-same}
-use Rattle.gx_lemmas.proofs.Tests.{or-false, true-false}
+use Rattle.gx_lemmas.proofs.Tests.{true-false}
 use Rattle.gx_ids.specs.declared.ids.Cid.{Cid}
 use Rattle.gx_ids.specs.declared.ids.Gxid.{Gxid}
 use Rattle.gx_ids.specs.declared.ids.Node.{Node}
@@ -12,7 +11,6 @@ use Rattle.gx_ids.specs.declared.ids.Table.{Table}
 use Rattle.gx_ids.specs.declared.rid.Rid.{Rid}
 use Rattle.gx_dsnap.specs.declared.snapshot.Snapshot.{Snapshot}
 use Rattle.gx_script.specs.declared.Script.{Script}
-use Rattle.gx_store.proofs.Marks.{is_processed-append}
 use Rattle.gx_store.specs.declared.mark.Mark.{Mark}
 use Rattle.gx_store.specs.declared.mark.Mark.TheVariants as mark
 use Rattle.gx_store.specs.Journals.{is_same_node}
@@ -21,7 +19,7 @@ use Rattle.gx_store.specs.Points.{marks_in}
 use Rattle.gx_store.specs.View.{image}
 use Rattle.gx_store.proofs.Rows.{same_rid}
 use Rattle.gx_rules.specs.Machine.{World}
-use Rattle.gx_rules.specs.Segments.{Local, Seg, Suspended, Version, local_of}
+use Rattle.gx_rules.specs.Segments.{Suspended, Version, local_of}
 use Rattle.gx_law_order.proofs.Lists.{Each}
 use Rattle.gx_law_order.proofs.Ordered.{Well}
 use Rattle.gx_law_order.proofs.Waiting.{waiting}

@@ -30,3 +30,5 @@ pub mod Halves
 pub mod SegHalves
 pub mod ChangeWorks
 pub mod Going
+pub mod Counting
+pub mod Changes

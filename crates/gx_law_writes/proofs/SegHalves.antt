@@ -20,7 +20,7 @@ use Rattle.gx_store.specs.Marks.{is_aborted, is_processed, node_of}
 use Rattle.gx_store.specs.Points.{marks_in}
 use Rattle.gx_store.specs.View.{image, image_after, is_shown_to}
 use Rattle.gx_rules.specs.Machine.{World}
-use Rattle.gx_rules.specs.Segments.{Seg, SegTurn, Suspended, Version, local_of}
+use Rattle.gx_rules.specs.Segments.{SegTurn, Suspended, Version}
 use Rattle.gx_law_order.proofs.Lists.{Each, each_weaker}
 use Rattle.gx_law_order.proofs.Ordered.{Well}
 use Rattle.gx_law_commit.specs.Standings.{at, gx}

@@ -21,7 +21,7 @@ use Rattle.gx_store.specs.declared.mark.Mark.{Mark}
 use Rattle.gx_store.specs.declared.mark.Mark.TheVariants as mark
 use Rattle.gx_store.specs.Marks.{is_aborted, node_of}
 use Rattle.gx_rules.specs.AtSegment.{raised}
-use Rattle.gx_rules.specs.Locks.{hold_mark, wait_mark, with_wait}
+use Rattle.gx_rules.specs.Locks.{wait_mark, with_wait}
 use Rattle.gx_rules.specs.Segments.{Local, Seg, SegTurn, Suspended, Version, after_marks, local_of, reply as reply_out, with_local}
 use Rattle.gx_rules.specs.Running.{suspended_slice}
 use Rattle.gx_rules.specs.Slices.{Moved, answers, inserted, inserts, inserts_row, locks as locks_only, own_lock, selects, starts_from, takes_lock, version}
@@ -29,6 +29,7 @@ use Rattle.gx_law_order.proofs.Lists.{Each, each_append, each_weaker}
 use Rattle.gx_law_changes.proofs.Half.{IsHalf, IsHalfAt}
 use Rattle.gx_law_changes.proofs.Undone.{undone, undone-drops, undone_at, undone_by}
 use Rattle.gx_law_writes.proofs.Moves.{IsBase}
+use Rattle.gx_law_writes.proofs.Next.{new-next, next_command}
 use Rattle.gx_law_writes.proofs.Rows.{IsStillAt, by-own, still-added, still-itself, still-locked, wrote}
 use Rattle.gx_law_writes.proofs.Turns.{IsKeptOrDropped, NoRow, NoWrite, Quiet, Waited}
 
@@ -38,6 +39,11 @@ abbrev pub IsIts : List Mark → Node → Gxid → ℕ → Mark → Type 0
 IsIts all node actor first (mark.Write g c n t r x) = (g ≡ actor) × (c.0 < first) × (n ≡ node)
 IsIts all node actor first (mark.Skip g c r) = (g ≡ actor) × (c.0 < first) × (is_aborted all g ≡ false → node_of all r ≡ Some node)
 IsIts all node actor first _ = Unit {0}
+
+-- a write is of a command from this number on
+abbrev pub IsFrom : ℕ → Mark → Type 0
+IsFrom low (mark.Write g c n t r x) = low ≤ c.0
+IsFrom low _ = Unit {0}
 
 -- the transaction's slice goes on waiting, or is dropped, and nothing is done to rows
 pub record IsIdle (was is : Option Suspended) (marks : List Mark) (own : List Version) : Type 0 where
@@ -49,6 +55,7 @@ pub record Works (ms : List Mark) (node : Node) (s : Seg) (turn : SegTurn) : Typ
   pub actor : Gxid
   pub rises : (h : ℕ) → undone (s.locals h) ≤ undone (turn.seg.locals h)
   pub marks : Each (IsIts (ms ++ turn.marks) node actor (undone (turn.seg.locals actor.0))) turn.marks
+  pub starts : Each (IsFrom (next_command (s.locals actor.0))) turn.marks
   pub own : List Version
   pub versions : turn.seg.versions ≡ s.versions ++ own
   pub mine : Each (λ (v : Version). v.gxid ≡ actor) own
@@ -64,6 +71,10 @@ pub no-write-its : (all : List Mark) (node : Node) (actor : Gxid) (first : ℕ) 
 no-write-its all node actor first (mark.Write g c n t r x) e = absurd e
 no-write-its all node actor first (mark.Skip g c r) e = absurd e
 no-write-its all node actor first m e = tt
+
+pub no-write-from : (low : ℕ) (m : Mark) → NoWrite m → IsFrom low m
+no-write-from low (mark.Write g c n t r x) e = absurd e
+no-write-from low m e = tt
 
 same-le : {a b : ℕ} → b ≡ a → a ≤ b
 same-le e = omega arith
@@ -85,6 +96,7 @@ quiet-works ms node s turn q =
       actor = record { 0 = 0 };
       rises = λ h. rise-by (s.locals h) (turn.seg.locals h) (q.waits h) (q.lasts h);
       marks = each_weaker NoRow (IsIts (ms ++ turn.marks) node (record { 0 = 0 }) (undone (turn.seg.locals 0))) (λ m e. no-write-its (ms ++ turn.marks) node (record { 0 = 0 }) (undone (turn.seg.locals 0)) m (no-row-write m e)) turn.marks q.marks;
+      starts = each_weaker NoRow (IsFrom (next_command (s.locals 0))) (λ m e. no-write-from (next_command (s.locals 0)) m (no-row-write m e)) turn.marks q.marks;
       own = [];
       versions = q.versions ∙ sym (append-nil s.versions);
       mine = tt;
@@ -148,7 +160,7 @@ module _ (b : Seg) (g : Gxid) (c : Cid) (table : Table) where
   rows-work [] m f = f
   rows-work (r ∷ rs) m f = rows-work rs (inserts_row g c table m r) (row-work m r f)
 
-module _ (ms : List Mark) (node : Node) (s : Seg) (named : s.node ≡ node) (g : Gxid) (c : Cid) (fresh : undone (s.locals g.0) ≤ c.0) (b : Seg) (on : IsBase s g b) (lead : List Mark) (silent : Each NoWrite lead) where
+module _ (ms : List Mark) (node : Node) (s : Seg) (named : s.node ≡ node) (g : Gxid) (c : Cid) (fresh : undone (s.locals g.0) ≤ c.0) (starts : next_command (s.locals g.0) ≤ c.0) (b : Seg) (on : IsBase s g b) (lead : List Mark) (silent : Each NoWrite lead) where
   module _ (m : Moved) (f : InsertWork b g c m) (y : Local) (o : Option Suspended) (last : y.last ≡ c.0) (waits : y.suspended ≡ o) (rowless : IsRowless o) (writes : Each NoWrite m.marks ⊎ (o ≡ None)) (outs : List Out) where
     abbrev turn : SegTurn
     turn = after_marks lead (record { seg = with_local m.seg g y; marks = m.marks; outs = outs; item = None })
@@ -181,6 +193,11 @@ module _ (ms : List Mark) (node : Node) (s : Seg) (named : s.node ≡ node) (g :
     own-marks (inl none) = each_weaker NoWrite (IsIts (ms ++ turn.marks) node g (undone (turn.seg.locals g.0))) (λ x e. no-write-its (ms ++ turn.marks) node g (undone (turn.seg.locals g.0)) x e) m.marks none
     own-marks (inr e) = each_weaker (IsMine g c b.node) (IsIts (ms ++ turn.marks) node g (undone (turn.seg.locals g.0))) (λ x k. mine-its e x k) m.marks f.marks
 
+    mine-from : (x : Mark) → IsMine g c b.node x → IsFrom (next_command (s.locals g.0)) x
+    mine-from (mark.Write h d n t r z) e = subst (λ (k : Cid). next_command (s.locals g.0) ≤ k.0) (sym e.1) starts
+    mine-from (mark.Skip h d r) e = absurd e
+    mine-from x e = tt
+
     pub stopped-works : Works ms node s (after_marks lead (record { seg = with_local m.seg g y; marks = m.marks; outs = outs; item = None }))
     stopped-works =
         record {
@@ -188,6 +205,8 @@ module _ (ms : List Mark) (node : Node) (s : Seg) (named : s.node ≡ node) (g :
           rises = rises;
           marks = each_append (IsIts (ms ++ turn.marks) node g (undone (turn.seg.locals g.0))) lead m.marks
               (each_weaker NoWrite (IsIts (ms ++ turn.marks) node g (undone (turn.seg.locals g.0))) (λ x e. no-write-its (ms ++ turn.marks) node g (undone (turn.seg.locals g.0)) x e) lead silent) (own-marks writes);
+          starts = each_append (IsFrom (next_command (s.locals g.0))) lead m.marks (each_weaker NoWrite (IsFrom (next_command (s.locals g.0))) (no-write-from (next_command (s.locals g.0))) lead silent)
+              (each_weaker (IsMine g c b.node) (IsFrom (next_command (s.locals g.0))) mine-from m.marks f.marks);
           own = f.own;
           versions = f.versions ∙ ap (λ vs. vs ++ f.own) on.versions;
           mine = f.mine;
@@ -226,7 +245,7 @@ table-undone l x e row h = subst (λ o. undone_by o l.last ≤ x.cid.0) (sym e) 
 pub waited-works : (script : Script) (ms : List Mark) (node : Node) (s : Seg) → s.node ≡ node → (m : Message) (turn : SegTurn) → Waited script s m turn → Works ms node s turn
 waited-works script ms node s named m turn x =
     subst (Works ms node s) (sym x.ran)
-    (stopped-works ms node s named x.g x.c (new-undone (s.locals x.g.0) x.c.0 x.alone x.fresh) (raised s x.horizon) on [] tt (record { seg = waiting; marks = wait_mark s.node x.wanted ∷ [] }) waits now (Some slice-waits) refl refl refl (inl (tt, tt)) [])
+    (stopped-works ms node s named x.g x.c (new-undone (s.locals x.g.0) x.c.0 x.alone x.fresh) (new-next (s.locals x.g.0) x.c.0 x.alone x.fresh) (raised s x.horizon) on [] tt (record { seg = waiting; marks = wait_mark s.node x.wanted ∷ [] }) waits now (Some slice-waits) refl refl refl (inl (tt, tt)) [])
   where
     on : IsBase s x.g (raised s x.horizon)
     on = record { node = refl; versions = refl; alone = x.alone; others = λ h q. refl }

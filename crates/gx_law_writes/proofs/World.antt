@@ -4,7 +4,7 @@ use Rattle.std.proofs.lemmas.Bool.{eqb-true}
 use Rattle.std.proofs.lemmas.Bool.Decides.{nat_tests}
 use Rattle.std.proofs.lemmas.List.{append_assoc}
 use Rattle.std.specs.Prelude.{length, slice_get, take}
-use Rattle.gx_lemmas.proofs.Numbers.{eqb-self, one-le-none}
+use Rattle.gx_lemmas.proofs.Numbers.{eqb-self, none-plus, one-le-none, one-le-zero, plus-none}
 use Rattle.gx_lemmas.proofs.Options.{some-same}
 use Rattle.gx_ids.specs.declared.ids.Cid.{Cid}
 use Rattle.gx_ids.specs.declared.ids.Gxid.{Gxid}
@@ -75,7 +75,7 @@ use Rattle.gx_law_reads.proofs.Seeing.{shown-views, world-hold}
 use Rattle.gx_law_reads.proofs.Staying.{views-stay}
 use Rattle.gx_law_reads.proofs.Waiting.{new-to-run, waits-to-run}
 use Rattle.gx_law_holds.proofs.World.{Locked, world-locked}
-use Rattle.gx_law_changes.specs.Says.{Says, stmt_of_change}
+use Rattle.gx_law_changes.specs.Says.{Says, count_at, stmt_of_change}
 use Rattle.gx_law_changes.proofs.Bases.{freed-on, started-on}
 use Rattle.gx_law_changes.proofs.Comes.{legals-each}
 use Rattle.gx_law_changes.proofs.Half.{IsHalf, IsHalfAt, IsHalfDone}
@@ -84,8 +84,7 @@ use Rattle.gx_law_changes.proofs.Path.{Legals}
 use Rattle.gx_law_changes.proofs.Points.{IsLegalChange, IsOfHere, Ok}
 use Rattle.gx_law_changes.proofs.Rows.{HaveHomes}
 use Rattle.gx_law_changes.proofs.Told.{IsOn, Known}
-use Rattle.gx_law_changes.proofs.Undone.{IsBegun, alive-front, begun-later, undone, undone-drops}
-use Rattle.gx_law_changes.proofs.Worked.{TurnWork}
+use Rattle.gx_law_changes.proofs.Undone.{IsBegun, begun-later, undone, undone-drops}
 use Rattle.gx_law_order.proofs.World.{marks-last}
 use Rattle.gx_store.specs.Language.{AreLinesNumbered}
 use Rattle.gx_law_sessions.specs.Alive.{HasRun, WasUnderWay}
@@ -103,16 +102,18 @@ use Rattle.gx_law_commit.specs.Standings.{at, gx}
 use Rattle.gx_law_commit.proofs.Complete.{IsBack, SentBack, StepBack}
 use Rattle.gx_law_commit.proofs.Ways.{CommandOf}
 use Rattle.gx_law_commit.proofs.Whole.{Both, world-both}
+use Rattle.gx_law_writes.specs.Changes.{FaultLegal, IsTrueTurn}
 use Rattle.gx_law_writes.specs.Homes.{AreRowsHome, IsPlacedMark}
 use Rattle.gx_law_writes.specs.Writes.{AreWritesLegal, WriteLegal}
 use Rattle.gx_law_writes.proofs.Homes.{homes-append, homes-more, homes-placed, no-writes-home}
 use Rattle.gx_law_writes.proofs.Alive.{Late, Live, order-live, read-by}
 use Rattle.gx_law_writes.proofs.ChangeWorks.{change-works}
 use Rattle.gx_law_writes.proofs.Changing.{change-line, change-on-rows, granted-changed}
+use Rattle.gx_law_writes.proofs.Counting.{count-append, no-write-count, none-counted}
 use Rattle.gx_law_writes.proofs.Going.{Result, homes-more as homes-behind, on-it, row-legal as goes-legal, row-result, row-work, start-legal, start-result, start-work, undone_in}
 use Rattle.gx_law_writes.proofs.Halves.{no-write-free, waits-on}
 use Rattle.gx_law_writes.proofs.Legal.{Behind, IsPastHere, IsPastMark, behind-hold, behind-none, no-writes-legal, sent-no-write}
-use Rattle.gx_law_writes.proofs.Live.{Running, running}
+use Rattle.gx_law_writes.proofs.Live.{running}
 use Rattle.gx_law_writes.proofs.Moves.{IsBase, IsOutOf, Move, change-move, freed-base, insert-move, line-of, lock-move, piece, quiet-move, rows-move, select-move, started-base, waited-move}
 use Rattle.gx_law_writes.proofs.Next.{new-next, next_command, waits-next}
 use Rattle.gx_law_writes.proofs.Told.{IsAnswerOf, IsToldOf, IsWordOf, SentTold, StepTold, answer-more, each-get, steps-more, taken-told, told-more}
@@ -167,6 +168,14 @@ module _ (script : Script) (numbered_lines : AreLinesNumbered [] script.lines) (
       all : marks_in steps ++ s.marks ≡ marks_in (steps ++ s ∷ [])
       all = sym (marks-last steps s)
 
+-- WHO HAS RUN WRITES NO MORE
+-- of a command that has run at a node, no more rows are written there
+abbrev pub CountsStay : World → World → Type 0
+CountsStay w v = (node : Node) (g : Gxid) (c : Cid) → c.0 < nexts_in w.segs node.0 g.0 → (count_at node g c (marks_in v.steps) ≡ count_at node g c (marks_in w.steps)) × (c.0 < nexts_in v.segs node.0 g.0)
+
+counts-by : (before new after : List Mark) (node : Node) (g : Gxid) (c : Cid) → after ≡ before ++ new → count_at node g c new ≡ 0 → count_at node g c after ≡ count_at node g c before
+counts-by before new after node g c is none = ap (count_at node g c) is ∙ count-append node g c before new ∙ ap (λ n. count_at node g c before + n) none ∙ plus-none (count_at node g c before)
+
 -- A STEP OF THE COORDINATOR
 none-here : (script : Script) → IsSegment script the_coordinator → ⊥
 none-here script e = one-le-none e.0
@@ -202,6 +211,14 @@ change-write script point (mark.Write g c n t r x) l = l
 change-write script point (mark.Skip g c r) l = l
 change-write script point m l = tt
 
+change-fault : (script : Script) (point : Point) (m : Mark) → IsLegalChange script point m → FaultLegal script point m
+change-fault script point (mark.Fault g c r x) l = l
+change-fault script point m l = tt
+
+changes-faults : (script : Script) (steps : List Step) (e : Event) (earlier ms later : List Mark) → EachMark (IsLegalChange script) steps e earlier ms later → EachMark (FaultLegal script) steps e earlier ms later
+changes-faults script steps e earlier [] later l = tt
+changes-faults script steps e earlier (m ∷ ms) later l = (change-fault script (record { steps = steps; event = e; earlier = earlier; later = ms ++ later }) m l.0, changes-faults script steps e (earlier ++ m ∷ []) ms later l.1)
+
 changes-writes : (script : Script) (steps : List Step) (e : Event) (earlier ms later : List Mark) → EachMark (IsLegalChange script) steps e earlier ms later → EachMark (WriteLegal script) steps e earlier ms later
 changes-writes script steps e earlier [] later l = tt
 changes-writes script steps e earlier (m ∷ ms) later l = (change-write script (record { steps = steps; event = e; earlier = earlier; later = ms ++ later }) m l.0, changes-writes script steps e (earlier ++ m ∷ []) ms later l.1)
@@ -228,6 +245,17 @@ module _ (script : Script) (some : 1 ≤ script.segments) (numbered_lines : AreL
       homes =
           homes-behind script (marks_in w.steps) step.marks (homes-placed script (marks_in w.steps) [] (marks_in w.steps) h.homes)
           (each_weaker NoWrite (IsPlacedMark script (marks_in w.steps)) (λ m k. no-write-placed script (marks_in w.steps) m k) step.marks none)
+
+  coord-leads : (w : World) → Well script w → Holds script w.segs w.steps → (e : Event) (x : NodeEvent) (fails : Bool) → DoViewsStay w (coord_did w e (coord_rule script w.coord x fails))
+      → Holds script w.segs (coord_did w e (coord_rule script w.coord x fails)).steps × CountsStay w (coord_did w e (coord_rule script w.coord x fails))
+  coord-leads w n h e x fails stay = (
+    coord-holds w n h e x fails stay,
+    λ node g c ran. (
+      counts-by (marks_in w.steps) (coord_rule script w.coord x fails).marks (marks_in (coord_did w e (coord_rule script w.coord x fails)).steps) node g c (marks-last w.steps _)
+          (no-write-count node g c (coord_rule script w.coord x fails).marks (here-no-write script (coord_rule script w.coord x fails).marks (at_coordinator script some w n e x fails))),
+      ran,
+    ),
+  )
 
   -- A STEP OF A SEGMENT
   module _ (w : World) (b : Both script some w) (k : stepping.Holds script w) (hold : Hold w) (facts : Facts w) (locked : Locked script w) (h : Holds script w.segs w.steps) (e : Event) (quiet-event : (t : SessionId) → starts_by t e ≡ 0) (x : NodeEvent) (fails : Bool) (i : ℕ) (place : IsSegment script (at i)) where
@@ -354,7 +382,7 @@ module _ (script : Script) (some : 1 ≤ script.segments) (numbered_lines : AreL
 
         start-works : Works ms (at i) s (after_marks (hold_mark s.node wanted ∷ []) (changes_rows c g (Some q)))
         start-works =
-            change-works ms (at i) s g q.cid q.table c (onit.node ∙ b.knows.well.names i) onit.versions on.others (le-next undone-yet) pre (tt, tt) goes
+            change-works ms (at i) s g q.cid q.table c (onit.node ∙ b.knows.well.names i) onit.versions on.others (le-next undone-yet) fresh pre (tt, tt) goes
             (start-work script numbered_lines w known e quiet-event i place.0 placed h.begun g q changes its-line horizon c onit pre (tt, tt) (le-next undone-yet) on.alone opens undone-yet below its-served seen)
             (subst (λ n. Each (IsOfHere n (ms ++ (pre ++ goes.marks))) goes.marks) (onit.node ∙ b.knows.well.names i) (legals-here script w.steps e c.node pre goes.marks so-legal)) start-so.half
 
@@ -387,7 +415,7 @@ module _ (script : Script) (some : 1 ≤ script.segments) (numbered_lines : AreL
 
         row-works : Works ms (at i) s (goes_through g q rids (is_granted s g wanted) count)
         row-works =
-            change-works ms (at i) s g q.cid q.table s (b.knows.well.names i) refl (λ j z. refl) upto [] tt from-row
+            change-works ms (at i) s g q.cid q.table s (b.knows.well.names i) refl (λ j z. refl) upto fresh [] tt from-row
             (row-work script numbered_lines w known e quiet-event i place.0 placed h.begun g q changes its-line horizon low upto opens wanted owner below rids count half)
             (subst (λ n. Each (IsOfHere n (ms ++ from-row.marks)) from-row.marks) (b.knows.well.names i) (legals-here script w.steps e s.node [] from-row.marks row-so)) row-gives.half
 
@@ -446,20 +474,20 @@ module _ (script : Script) (some : 1 ≤ script.segments) (numbered_lines : AreL
         subst Goes (sym z.ran) (
           select-runs z.g z.c z.level (Some z.snapshot) (new-next (s.locals z.g.0) z.c.0 z.alone z.fresh) (base s z.horizon z.locks) (started-base s z.g z.horizon z.locks z.alone) z.wanted z.query (subst (λ (a : Message). MessageIs script ms (at i) a) z.is order numbered_lines)
               (shown (raised s z.horizon) z.snapshot z.g z.c z.query.table) (first_fault z.query.cond (shown (raised s z.horizon) z.snapshot z.g z.c z.query.table)),
-          select-works ms (at i) s (b.knows.well.names i) z.g z.c (new-undone (s.locals z.g.0) z.c.0 z.alone z.fresh) (base s z.horizon z.locks) (started-base s z.g z.horizon z.locks z.alone) (hold_mark s.node z.wanted ∷ []) (tt, tt) z.query
+          select-works ms (at i) s (b.knows.well.names i) z.g z.c (new-undone (s.locals z.g.0) z.c.0 z.alone z.fresh) (new-next (s.locals z.g.0) z.c.0 z.alone z.fresh) (base s z.horizon z.locks) (started-base s z.g z.horizon z.locks z.alone) (hold_mark s.node z.wanted ∷ []) (tt, tt) z.query
               (shown (raised s z.horizon) z.snapshot z.g z.c z.query.table) (first_fault z.query.cond (shown (raised s z.horizon) z.snapshot z.g z.c z.query.table)),
         )
     message-goes m number order ran back sees-it y (inr (inr (inl z))) =
         subst Goes (sym z.ran) (
           insert-runs z.g z.c z.level (Some z.snapshot) (new-next (s.locals z.g.0) z.c.0 z.alone z.fresh) (base s z.horizon z.locks) (started-base s z.g z.horizon z.locks z.alone) z.wanted z.table z.rows (subst (λ (a : Message). MessageIs script ms (at i) a) z.is order numbered_lines)
               (subst (HasRun script w.steps) z.is ran) (subst (λ (a : Message). SentBack w.coord w.steps the_coordinator (mark.Sent (at i) number a)) z.is back refl),
-          insert-works ms (at i) s (b.knows.well.names i) z.g z.c (new-undone (s.locals z.g.0) z.c.0 z.alone z.fresh) (base s z.horizon z.locks) (started-base s z.g z.horizon z.locks z.alone) (hold_mark s.node z.wanted ∷ []) (tt, tt) z.table z.rows,
+          insert-works ms (at i) s (b.knows.well.names i) z.g z.c (new-undone (s.locals z.g.0) z.c.0 z.alone z.fresh) (new-next (s.locals z.g.0) z.c.0 z.alone z.fresh) (base s z.horizon z.locks) (started-base s z.g z.horizon z.locks z.alone) (hold_mark s.node z.wanted ∷ []) (tt, tt) z.table z.rows,
         )
     message-goes m number order ran back sees-it y (inr (inr (inr (inl z)))) = (waited-move script numbered_lines ms w.steps e i s (h.kept i) (b.knows.well.names i) m y z, waited-works script ms (at i) s (b.knows.well.names i) m y z)
     message-goes m number order ran back sees-it y (inr (inr (inr (inr (inl z))))) =
         subst Goes (sym z.ran) (
           lock-runs z.g z.c z.level z.snapshot (new-next (s.locals z.g.0) z.c.0 z.alone z.fresh) (base s z.horizon z.locks) (started-base s z.g z.horizon z.locks z.alone) z.wanted z.table z.mode (subst (λ (a : Message). MessageIs script ms (at i) a) z.is order numbered_lines),
-          lock-works ms (at i) s (b.knows.well.names i) z.g z.c (new-undone (s.locals z.g.0) z.c.0 z.alone z.fresh) (base s z.horizon z.locks) (started-base s z.g z.horizon z.locks z.alone) (hold_mark s.node z.wanted ∷ []) (tt, tt),
+          lock-works ms (at i) s (b.knows.well.names i) z.g z.c (new-undone (s.locals z.g.0) z.c.0 z.alone z.fresh) (new-next (s.locals z.g.0) z.c.0 z.alone z.fresh) (base s z.horizon z.locks) (started-base s z.g z.horizon z.locks z.alone) (hold_mark s.node z.wanted ∷ []) (tt, tt),
         )
     message-goes m number order ran back sees-it y (inr (inr (inr (inr (inr z))))) = exec-goes m number order ran back sees-it y z
 
@@ -558,24 +586,24 @@ module _ (script : Script) (some : 1 ≤ script.segments) (numbered_lines : AreL
           subst Goes (sym q.ran) (
             select-runs g z.cid z.level z.snapshot still (freed s g q.wanted) (freed-base s g q.wanted) q.wanted q.query (subst (IsOrder script ms (at i) g z.cid z.level z.snapshot) q.is (sent.0 numbered_lines))
                 (shown (freed s g q.wanted) q.snapshot g z.cid q.query.table) (first_fault q.query.cond (shown (freed s g q.wanted) q.snapshot g z.cid q.query.table)),
-            select-works ms (at i) s (b.knows.well.names i) g z.cid (table-undone (s.locals g.0) z o.is q.row o.waits.last) (freed s g q.wanted) (freed-base s g q.wanted) (hold_mark s.node q.wanted ∷ []) (tt, tt) q.query
+            select-works ms (at i) s (b.knows.well.names i) g z.cid (table-undone (s.locals g.0) z o.is q.row o.waits.last) still (freed s g q.wanted) (freed-base s g q.wanted) (hold_mark s.node q.wanted ∷ []) (tt, tt) q.query
                 (shown (freed s g q.wanted) q.snapshot g z.cid q.query.table) (first_fault q.query.cond (shown (freed s g q.wanted) q.snapshot g z.cid q.query.table)),
           )
       resumption-goes sent y (inr (inl q)) =
           subst Goes (sym q.ran) (
             insert-runs g z.cid z.level z.snapshot still (freed s g q.wanted) (freed-base s g q.wanted) q.wanted q.table q.rows (subst (IsOrder script ms (at i) g z.cid z.level z.snapshot) q.is (sent.0 numbered_lines)) sent.1 (sent.2 refl),
-            insert-works ms (at i) s (b.knows.well.names i) g z.cid (table-undone (s.locals g.0) z o.is q.row o.waits.last) (freed s g q.wanted) (freed-base s g q.wanted) (hold_mark s.node q.wanted ∷ []) (tt, tt) q.table q.rows,
+            insert-works ms (at i) s (b.knows.well.names i) g z.cid (table-undone (s.locals g.0) z o.is q.row o.waits.last) still (freed s g q.wanted) (freed-base s g q.wanted) (hold_mark s.node q.wanted ∷ []) (tt, tt) q.table q.rows,
           )
       resumption-goes sent y (inr (inr (inl q))) =
           subst Goes (sym q.ran) (
             lock-runs g z.cid z.level z.snapshot still (freed s g q.wanted) (freed-base s g q.wanted) q.wanted q.table q.mode (subst (IsOrder script ms (at i) g z.cid z.level z.snapshot) q.is (sent.0 numbered_lines)),
-            lock-works ms (at i) s (b.knows.well.names i) g z.cid (table-undone (s.locals g.0) z o.is q.row o.waits.last) (freed s g q.wanted) (freed-base s g q.wanted) (hold_mark s.node q.wanted ∷ []) (tt, tt),
+            lock-works ms (at i) s (b.knows.well.names i) g z.cid (table-undone (s.locals g.0) z o.is q.row o.waits.last) still (freed s g q.wanted) (freed-base s g q.wanted) (hold_mark s.node q.wanted ∷ []) (tt, tt),
           )
       resumption-goes sent y (inr (inr (inr (inl q)))) = subst Goes (sym q.ran) (table-goes q.change q.changes sent q.wanted q.owner q.row)
       resumption-goes sent y (inr (inr (inr (inr q)))) = subst Goes (sym q.goes.is) (at-row-goes q.goes.at.change q.goes.at.changes sent q.wanted q.owner q.goes.at.rid q.goes.at.row)
 
-    pub seg-holds : Moves turn × Works ms (at i) s turn → DoViewsStay w (seg_did w (at i) e (seg_rule script (w.segs i) x fails)) → Holds script next (w.steps ++ step ∷ [])
-    seg-holds v stay = from-move v.0 v.1 stay
+    pub seg-leads : Moves turn × Works ms (at i) s turn → DoViewsStay w (seg_did w (at i) e (seg_rule script (w.segs i) x fails)) → Holds script next (w.steps ++ step ∷ []) × CountsStay w (seg_did w (at i) e (seg_rule script (w.segs i) x fails))
+    seg-leads v stay = (from-move v.0 v.1 stay, counts v.0 v.1 stay)
       where
         quiet : Each NoWrite (numbered (λ node. turn.seg.sent) turn.outs)
         quiet = sent-no-write (λ node. turn.seg.sent) turn.outs
@@ -646,6 +674,19 @@ module _ (script : Script) (some : 1 ≤ script.segments) (numbered_lines : AreL
             λ unaborted. record { node = at i; home = q.2 unaborted; begun = subst (λ a. c.0 < a) (sym (undone-here g.0)) (subst (λ (a : Gxid). c.0 < undone (turn.seg.locals a.0)) (sym q.0) q.1) }
         its-begun all actor m q = tt
 
+        stand-so : Move script ms w.steps e (at i) s turn → HaveHomes (ms ++ (turn.marks ++ sent))
+        stand-so v = homes-behind script ms (turn.marks ++ sent) placed (homes-placed script ms ms (turn.marks ++ sent) (homes-append script ms ms turn.marks sent v.homes (no-writes-home script ms (ms ++ turn.marks) sent quiet)))
+
+        counts : Move script ms w.steps e (at i) s turn → Works ms (at i) s turn → DoViewsStay w (seg_did w (at i) e (seg_rule script (w.segs i) x fails)) → CountsStay w (seg_did w (at i) e (seg_rule script (w.segs i) x fails))
+        counts v z stay node g c ran = (
+          counts-by ms (turn.marks ++ sent) (marks_in (w.steps ++ step ∷ [])) node g c (marks-last w.steps step)
+              (count-append node g c turn.marks sent
+              ∙ ap (λ n. n + count_at node g c sent) (none-counted (ms ++ (turn.marks ++ sent)) i z.actor (undone (turn.seg.locals z.actor.0)) (nexts_in w.segs) node g c ran turn.marks (its-all script w (seg_did w (at i) e (seg_rule script (w.segs i) x fails)) b.knows.well stay i turn sent quiet (marks-last w.steps step) z (stand-so v)) z.starts)
+              ∙ none-plus (count_at node g c sent)
+              ∙ no-write-count node g c sent quiet),
+          lt-le ran (late-nexts v node.0 g.0),
+        )
+
         from-move : Move script ms w.steps e (at i) s turn → Works ms (at i) s turn → DoViewsStay w (seg_did w (at i) e (seg_rule script (w.segs i) x fails)) → Holds script next (w.steps ++ step ∷ [])
         from-move v z stay = one-more script numbered_lines w.segs next w.steps step (late-nexts v) (late-undone z) h homes past told kept legal begun halves
           where
@@ -653,7 +694,7 @@ module _ (script : Script) (some : 1 ≤ script.segments) (numbered_lines : AreL
             after = seg_did w (at i) e (seg_rule script (w.segs i) x fails)
 
             stand : HaveHomes (ms ++ (turn.marks ++ sent))
-            stand = homes-behind script ms (turn.marks ++ sent) placed (homes-placed script ms ms (turn.marks ++ sent) (homes-append script ms ms turn.marks sent v.homes (no-writes-home script ms (ms ++ turn.marks) sent quiet)))
+            stand = stand-so v
 
             begun : Each (IsBegun (ms ++ (turn.marks ++ sent)) (undone_in next)) (turn.marks ++ sent)
             begun = each_append (IsBegun (ms ++ (turn.marks ++ sent)) (undone_in next)) turn.marks sent
@@ -697,6 +738,12 @@ module _ (script : Script) (some : 1 ≤ script.segments) (numbered_lines : AreL
 
   -- ALL EVENTS
   module _ (w : World) (b : Both script some w) (k : stepping.Holds script w) (hold : Hold w) (facts : Facts w) (locked : Locked script w) (h : Holds script w.segs w.steps) where
+    abbrev Leads : World → Type 0
+    Leads v = Holds script v.segs v.steps × CountsStay w v
+
+    rests-so : CountsStay w w
+    rests-so node g c ran = (refl, ran)
+
     abbrev IsPost : Letter → Type 0
     IsPost l = IsLetter script w.steps l × (l.from ≡ the_coordinator → MessageIs script (marks_in w.steps) l.to l.envelope.message) × (l.from ≡ the_coordinator → HasRun script w.steps l.envelope.message) × IsSeenBelow w l.to l.envelope.message × IsShownView w l.to l.envelope.message
 
@@ -707,7 +754,31 @@ module _ (script : Script) (some : 1 ≤ script.segments) (numbered_lines : AreL
     posts : Each IsPost w.sent
     posts = each-post w.sent b.knows.well.letters k.orders k.ran (nobody-dropped script w b.knows b.holds facts) (shown-views script w b.knows b.holds facts hold)
 
-    received : (from to : Node) (number : ℕ) (envelope : Envelope) (fails : Bool) → IsFound IsPost from to number envelope → let v : World = does script w (event.Receive from to number) to fails (Some (here.Deliver from envelope)) in DoViewsStay w v → Holds script v.segs v.steps
+    -- what is known of a letter that comes to a segment
+    module _ (from to : Node) (number : ℕ) (envelope : Envelope) (d : IsFound IsPost from to number envelope) where
+      comes-there : 1 ≤ to.0 → IsLink script d.letter.from d.letter.to → IsSegment script to × (d.letter.from ≡ the_coordinator)
+      comes-there one (inl l) = (subst (IsSegment script) d.target l.1, l.0)
+      comes-there one (inr l) = absurd (one-le-zero to.0 one (ap (λ (n : Node). n.0) (sym d.target ∙ l.1)))
+
+      its-sending : IsSending w.steps d.is.0.step d.is.0.mark d.letter.from to number envelope.message
+      its-sending =
+          subst (λ a. IsSending w.steps d.is.0.step d.is.0.mark d.letter.from a number envelope.message) d.target
+          (subst (λ a. IsSending w.steps d.is.0.step d.is.0.mark d.letter.from d.letter.to a envelope.message) d.counted
+          (subst (λ (a : Envelope). IsSending w.steps d.is.0.step d.is.0.mark d.letter.from d.letter.to d.letter.envelope.number a.message) d.told d.is.0.sending))
+
+      its-back : d.letter.from ≡ the_coordinator → SentBack w.coord w.steps the_coordinator (mark.Sent to number envelope.message)
+      its-back it = subst (λ n. SentBack w.coord w.steps n (mark.Sent to number envelope.message)) (its-sending.node ∙ it) (each-get (SentBack w.coord w.steps its-sending.sender.stamp.node) its-sending.sender.marks d.is.0.mark _ (each-get (StepBack w.coord w.steps) w.steps d.is.0.step its-sending.sender b.replied.back its-sending.at) its-sending.sent)
+
+      its-order-is : d.letter.from ≡ the_coordinator → MessageIs script (marks_in w.steps) to envelope.message
+      its-order-is it = subst (λ n. MessageIs script (marks_in w.steps) n envelope.message) d.target (subst (λ (a : Envelope). MessageIs script (marks_in w.steps) d.letter.to a.message) d.told (d.is.1 it))
+
+      its-run : d.letter.from ≡ the_coordinator → HasRun script w.steps envelope.message
+      its-run it = subst (λ (a : Envelope). HasRun script w.steps a.message) d.told (d.is.2 it)
+
+      its-sight : IsSeenBelow w to envelope.message × IsShownView w to envelope.message
+      its-sight = subst (λ n. IsSeenBelow w n envelope.message × IsShownView w n envelope.message) d.target (subst (λ (a : Envelope). IsSeenBelow w d.letter.to a.message × IsShownView w d.letter.to a.message) d.told (d.is.3, d.is.4))
+
+    received : (from to : Node) (number : ℕ) (envelope : Envelope) (fails : Bool) → IsFound IsPost from to number envelope → let v : World = does script w (event.Receive from to number) to fails (Some (here.Deliver from envelope)) in DoViewsStay w v → Leads v
     received from to number envelope fails d = by_test (is_same_node to the_coordinator) refl
       where
         e : Event
@@ -716,38 +787,52 @@ module _ (script : Script) (some : 1 ≤ script.segments) (numbered_lines : AreL
         x : NodeEvent
         x = here.Deliver from envelope
 
-        not-here : (n : Node) → n ≡ the_coordinator → is_same_node n the_coordinator ≡ false → ⊥
-        not-here n same away = grind (arith, nat_tests)
+        away : (n : Node) → is_same_node n the_coordinator ≡ false → 1 ≤ n.0
+        away n q = grind (arith, nat_tests)
 
-        place : is_same_node to the_coordinator ≡ false → IsLink script d.letter.from d.letter.to → IsSegment script to × (d.letter.from ≡ the_coordinator)
-        place away (inl l) = (subst (IsSegment script) d.target l.1, l.0)
-        place away (inr l) = absurd (not-here to (sym d.target ∙ l.1) away)
-
-        sending : IsSending w.steps d.is.0.step d.is.0.mark d.letter.from to number envelope.message
-        sending =
-            subst (λ a. IsSending w.steps d.is.0.step d.is.0.mark d.letter.from a number envelope.message) d.target
-            (subst (λ a. IsSending w.steps d.is.0.step d.is.0.mark d.letter.from d.letter.to a envelope.message) d.counted
-            (subst (λ (a : Envelope). IsSending w.steps d.is.0.step d.is.0.mark d.letter.from d.letter.to d.letter.envelope.number a.message) d.told d.is.0.sending))
-
-        back : d.letter.from ≡ the_coordinator → SentBack w.coord w.steps the_coordinator (mark.Sent to number envelope.message)
-        back it = subst (λ n. SentBack w.coord w.steps n (mark.Sent to number envelope.message)) (sending.node ∙ it) (each-get (SentBack w.coord w.steps sending.sender.stamp.node) sending.sender.marks d.is.0.mark _ (each-get (StepBack w.coord w.steps) w.steps d.is.0.step sending.sender b.replied.back sending.at) sending.sent)
-
-        order_is : d.letter.from ≡ the_coordinator → MessageIs script (marks_in w.steps) to envelope.message
-        order_is it = subst (λ n. MessageIs script (marks_in w.steps) n envelope.message) d.target (subst (λ (a : Envelope). MessageIs script (marks_in w.steps) d.letter.to a.message) d.told (d.is.1 it))
-
-        seen : IsSeenBelow w to envelope.message × IsShownView w to envelope.message
-        seen = subst (λ n. IsSeenBelow w n envelope.message × IsShownView w n envelope.message) d.target (subst (λ (a : Envelope). IsSeenBelow w d.letter.to a.message × IsShownView w d.letter.to a.message) d.told (d.is.3, d.is.4))
-
-        by_test : (q : Bool) → is_same_node to the_coordinator ≡ q → let v : World = if q then coord_did w e (coord_rule script w.coord x fails) else seg_did w to e (seg_rule script (w.segs to.0) x fails) in DoViewsStay w v → Holds script v.segs v.steps
-        by_test true q stay = coord-holds w b.knows.well h e x fails stay
+        by_test : (q : Bool) → is_same_node to the_coordinator ≡ q → let v : World = if q then coord_did w e (coord_rule script w.coord x fails) else seg_did w to e (seg_rule script (w.segs to.0) x fails) in DoViewsStay w v → Leads v
+        by_test true q stay = coord-leads w b.knows.well h e x fails stay
         by_test false q stay =
-            let p = place q d.is.0.link in
-            seg-holds w b k hold facts locked h e (λ t. refl) x fails to.0 p.0
-            (message-goes w b k hold facts locked h e (λ t. refl) x fails to.0 p.0 envelope.message number (order_is p.1) (subst (λ (a : Envelope). HasRun script w.steps a.message) d.told (d.is.2 p.1)) (back p.1) seen (segment.on_message script (w.segs to.0) fails envelope.message) (message-turns script (w.segs to.0) fails envelope.message))
+            let p = comes-there from to number envelope d (away to q) d.is.0.link in
+            seg-leads w b k hold facts locked h e (λ t. refl) x fails to.0 p.0
+            (message-goes w b k hold facts locked h e (λ t. refl) x fails to.0 p.0 envelope.message number (its-order-is from to number envelope d p.1) (its-run from to number envelope d p.1) (its-back from to number envelope d p.1) (its-sight from to number envelope d)
+            (segment.on_message script (w.segs to.0) fails envelope.message) (message-turns script (w.segs to.0) fails envelope.message))
             stay
 
-    arrives : (from to : Node) (number : ℕ) (fails : Bool) (o : Option Envelope) → found from to number w.sent ≡ o → let v : World = does script w (event.Receive from to number) to fails (delivered from o) in DoViewsStay w v → Holds script v.segs v.steps
-    arrives from to number fails None f stay = h
+    -- AN UPDATE OR DELETE THAT COMES TO A SEGMENT, OR WHOSE WAIT ENDS THERE
+    pub exec-true : (from to : Node) (number : ℕ) (envelope : Envelope) (fails : Bool) → IsSegment script to → found from to number w.sent ≡ Some envelope → (m : Message) → envelope.message ≡ m → (y : SegTurn) (z : Changed script (w.segs to.0) m y) → IsTrueTurn script w (event.Receive from to number) to z.g z.change y
+    exec-true from to number envelope fails place f m is y z =
+        record {
+          faults = λ later. changes-faults script w.steps e [] y.marks later (exec-all w b k hold facts locked h e (λ t. refl) x fails to.0 place m number order run back sight y z later);
+          says = exec-says w b k hold facts locked h e (λ t. refl) x fails to.0 place m number order run back sight y z;
+        }
+      where
+        e : Event
+        e = event.Receive from to number
+
+        x : NodeEvent
+        x = here.Deliver from envelope
+
+        d : IsFound IsPost from to number envelope
+        d = found_is IsPost from to number w.sent envelope posts f
+
+        p : IsSegment script to × (d.letter.from ≡ the_coordinator)
+        p = comes-there from to number envelope d place.0 d.is.0.link
+
+        order : MessageIs script (marks_in w.steps) to m
+        order = subst (MessageIs script (marks_in w.steps) to) is (its-order-is from to number envelope d p.1)
+
+        run : HasRun script w.steps m
+        run = subst (HasRun script w.steps) is (its-run from to number envelope d p.1)
+
+        back : SentBack w.coord w.steps the_coordinator (mark.Sent to number m)
+        back = subst (λ (a : Message). SentBack w.coord w.steps the_coordinator (mark.Sent to number a)) is (its-back from to number envelope d p.1)
+
+        sight : IsSeenBelow w to m × IsShownView w to m
+        sight = subst (λ (a : Message). IsSeenBelow w to a × IsShownView w to a) is (its-sight from to number envelope d)
+
+    arrives : (from to : Node) (number : ℕ) (fails : Bool) (o : Option Envelope) → found from to number w.sent ≡ o → let v : World = does script w (event.Receive from to number) to fails (delivered from o) in DoViewsStay w v → Leads v
+    arrives from to number fails None f stay = (h, rests-so)
     arrives from to number fails (Some envelope) f stay = received from to number envelope fails (found_is IsPost from to number w.sent envelope posts f) stay
 
     -- what is known of a letter of the coordinator
@@ -770,14 +855,32 @@ module _ (script : Script) (some : 1 ≤ script.segments) (numbered_lines : AreL
         → let m : Message = message.Exec g o.slice.cid o.slice.level o.slice.snapshot o.waits.horizon o.slice.slice in MessageIs script (marks_in w.steps) (at i) m × HasRun script w.steps m × SentBack w.coord w.steps the_coordinator (mark.Sent (at i) o.waits.come.letter.envelope.number m) × IsSeenBelow w (at i) m × IsShownView w (at i) m
     came-so i g o = known-letter o.waits.come.letter i _ (each-among IsPost w.sent o.waits.come.letter posts o.waits.come.among) o.waits.come.source o.waits.come.target o.waits.come.told
 
-    goes-on : (e : Event) → ((t : SessionId) → starts_by t e ≡ 0) → (fails : Bool) (i : ℕ) (g : Gxid) → IsSegment script (at i) → GoesOn script w i g → let v : World = seg_did w (at i) e (seg_rule script (w.segs i) (here.Resume g) fails) in DoViewsStay w v → Holds script v.segs v.steps
+    pub table-true : (i : ℕ) (g : Gxid) (place : IsSegment script (at i)) (o : GoesOn script w i g) (y : SegTurn) (q : ChangeGoesOn (w.segs i) g o.slice y) → IsTrueTurn script w (event.Resume (at i) g) (at i) g q.change y
+    table-true i g place o y q =
+        subst (IsTrueTurn script w (event.Resume (at i) g) (at i) g q.change) (sym q.ran)
+        (record {
+          faults = λ later. changes-faults script w.steps (event.Resume (at i) g) [] (hold_mark (w.segs i).node q.wanted ∷ (changes_rows (freed (w.segs i) g q.wanted) g (Some q.change)).marks) later
+              (table-all w b k hold facts locked h (event.Resume (at i) g) (λ t. refl) (here.Resume g) false i place g o q.change q.changes (came-so i g o) q.wanted q.owner q.row later);
+          says = table-says w b k hold facts locked h (event.Resume (at i) g) (λ t. refl) (here.Resume g) false i place g o q.change q.changes (came-so i g o) q.wanted q.owner q.row;
+        })
+
+    pub row-true : (i : ℕ) (g : Gxid) (place : IsSegment script (at i)) (o : GoesOn script w i g) (y : SegTurn) (q : RowGoesOn (w.segs i) g o.slice y) → IsTrueTurn script w (event.Resume (at i) g) (at i) g q.goes.at.change y
+    row-true i g place o y q =
+        subst (IsTrueTurn script w (event.Resume (at i) g) (at i) g q.goes.at.change) (sym q.goes.is)
+        (record {
+          faults = λ later. changes-faults script w.steps (event.Resume (at i) g) [] (goes_through g q.goes.at.change (q.goes.at.rid ∷ o.slice.rows) (is_granted (w.segs i) g q.wanted) o.slice.count).marks later
+              (at-row-all w b k hold facts locked h (event.Resume (at i) g) (λ t. refl) (here.Resume g) false i place g o q.goes.at.change q.goes.at.changes (came-so i g o) q.wanted q.owner q.goes.at.rid q.goes.at.row later);
+          says = at-row-says w b k hold facts locked h (event.Resume (at i) g) (λ t. refl) (here.Resume g) false i place g o q.goes.at.change q.goes.at.changes (came-so i g o) q.wanted q.owner q.goes.at.rid q.goes.at.row;
+        })
+
+    goes-on : (e : Event) → ((t : SessionId) → starts_by t e ≡ 0) → (fails : Bool) (i : ℕ) (g : Gxid) → IsSegment script (at i) → GoesOn script w i g → let v : World = seg_did w (at i) e (seg_rule script (w.segs i) (here.Resume g) fails) in DoViewsStay w v → Leads v
     goes-on e quiet fails i g place o stay =
-        seg-holds w b k hold facts locked h e quiet (here.Resume g) fails i place
+        seg-leads w b k hold facts locked h e quiet (here.Resume g) fails i place
         (resumption-goes w b k hold facts locked h e quiet (here.Resume g) fails i place g o (came-so i g o)
         (segment.on_event script (w.segs i) (here.Resume g) fails) (resumption-turns script w i g o))
         stay
 
-    resumed : (m : Node) (g : Gxid) (fails : Bool) → can_here script w m (Some (here.Resume g)) ≡ true → let v : World = does script w (event.Resume m g) m fails (Some (here.Resume g)) in DoViewsStay w v → Holds script v.segs v.steps
+    resumed : (m : Node) (g : Gxid) (fails : Bool) → can_here script w m (Some (here.Resume g)) ≡ true → let v : World = does script w (event.Resume m g) m fails (Some (here.Resume g)) in DoViewsStay w v → Leads v
     resumed m g fails ok = by_test (is_same_node m the_coordinator) ok
       where
         e : Event
@@ -786,36 +889,49 @@ module _ (script : Script) (some : 1 ≤ script.segments) (numbered_lines : AreL
         x : NodeEvent
         x = here.Resume g
 
-        by_test : (q : Bool) → (if q then coord_can script w.coord x else seg_can script (w.segs m.0) x) ≡ true → let v : World = if q then coord_did w e (coord_rule script w.coord x fails) else seg_did w m e (seg_rule script (w.segs m.0) x fails) in DoViewsStay w v → Holds script v.segs v.steps
-        by_test true ok stay = coord-holds w b.knows.well h e x fails stay
+        by_test : (q : Bool) → (if q then coord_can script w.coord x else seg_can script (w.segs m.0) x) ≡ true → let v : World = if q then coord_did w e (coord_rule script w.coord x fails) else seg_did w m e (seg_rule script (w.segs m.0) x fails) in DoViewsStay w v → Leads v
+        by_test true ok stay = coord-leads w b.knows.well h e x fails stay
         by_test false ok stay = goes-on e (λ t. refl) fails m.0 g (resumes_there script some w m g b.knows.well ok) (going-on script w b.knows.well m.0 g ok) stay
 
-    event-holds : (e : Event) (fails : Bool) → can script w e ≡ true → let v : World = does script w e (node_of e) fails (at_node w e) in DoViewsStay w v → Holds script v.segs v.steps
+    event-holds : (e : Event) (fails : Bool) → can script w e ≡ true → let v : World = does script w e (node_of e) fails (at_node w e) in DoViewsStay w v → Leads v
     event-holds (event.Receive from to number) fails ok stay = arrives from to number fails (found from to number w.sent) refl stay
     event-holds (event.Resume m g) fails ok stay = resumed m g fails ok stay
-    event-holds (event.Start t) fails ok stay = coord-holds w b.knows.well h (event.Start t) (here.Start t) fails stay
-    event-holds (event.End t) fails ok stay = coord-holds w b.knows.well h (event.End t) (here.End t) fails stay
-    event-holds (event.Resend i g) fails ok stay = coord-holds w b.knows.well h (event.Resend i g) (here.Resend i g) fails stay
-    event-holds event.Round fails ok stay = coord-holds w b.knows.well h event.Round here.Round fails stay
+    event-holds (event.Start t) fails ok stay = coord-leads w b.knows.well h (event.Start t) (here.Start t) fails stay
+    event-holds (event.End t) fails ok stay = coord-leads w b.knows.well h (event.End t) (here.End t) fails stay
+    event-holds (event.Resend i g) fails ok stay = coord-leads w b.knows.well h (event.Resend i g) (here.Resend i g) fails stay
+    event-holds event.Round fails ok stay = coord-leads w b.knows.well h event.Round here.Round fails stay
 
-    happens-holds : (e : Event) (fails : Bool) → let v : World = happens script w e fails in DoViewsStay w v → Holds script v.segs v.steps
+    happens-holds : (e : Event) (fails : Bool) → let v : World = happens script w e fails in DoViewsStay w v → Leads v
     happens-holds e fails = by_can (can script w e) refl
       where
-        by_can : (q : Bool) → can script w e ≡ q → let v : World = if q then does script w e (node_of e) fails (at_node w e) else w in DoViewsStay w v → Holds script v.segs v.steps
+        by_can : (q : Bool) → can script w e ≡ q → let v : World = if q then does script w e (node_of e) fails (at_node w e) else w in DoViewsStay w v → Leads v
         by_can true ok stay = event-holds e fails ok stay
-        by_can false ok stay = h
+        by_can false ok stay = (h, rests-so)
 
   abbrev HoldsIn : World → Type 0
   HoldsIn w = Holds script w.segs w.steps
 
+  -- one event more
+  next-leads : (done : List (Event × Bool)) (x : Event × Bool) → HoldsIn (world_of script done) → HoldsIn (world_of script (done ++ x ∷ [])) × CountsStay (world_of script done) (world_of script (done ++ x ∷ []))
+  next-leads done x h =
+      subst (λ v. HoldsIn v × CountsStay (world_of script done) v) (sym (after-last script some new_world done x))
+      (happens-holds (world_of script done) (world-both script some done) (histories.world-holds script some done) (world-hold script some done) (world-facts script some done) (world-locked script some done) h x.0 x.1 (views-stay script some done (x ∷ [])))
+
   after-holds : (done es : List (Event × Bool)) → HoldsIn (world_of script done) → HoldsIn (after script (world_of script done) es)
   after-holds done [] h = h
-  after-holds done (x ∷ es) h =
-      subst (λ w. HoldsIn (after script w es)) (after-last script some new_world done x)
-      (after-holds (done ++ x ∷ []) es (subst HoldsIn (sym (after-last script some new_world done x)) (happens-holds (world_of script done) (world-both script some done) (histories.world-holds script some done) (world-hold script some done) (world-facts script some done) (world-locked script some done) h x.0 x.1 (views-stay script some done (x ∷ [])))))
+  after-holds done (x ∷ es) h = subst (λ w. HoldsIn (after script w es)) (after-last script some new_world done x) (after-holds (done ++ x ∷ []) es (next-leads done x h).0)
 
   pub world-holds : (es : List (Event × Bool)) → Holds script (world_of script es).segs (world_of script es).steps
   world-holds es = after-holds [] es (record { homes = tt; past = tt; told = tt; kept = λ i h. tt; legal = tt; begun = tt; halves = λ i g one. tt })
 
   pub world-placed : (es : List (Event × Bool)) → Each (IsPlacedMark script (marks_in (world_of script es).steps)) (marks_in (world_of script es).steps)
   world-placed es = homes-placed script (marks_in (world_of script es).steps) [] (marks_in (world_of script es).steps) (world-holds es).homes
+
+  -- from a world on
+  pub counts-stay : (done es : List (Event × Bool)) → CountsStay (world_of script done) (after script (world_of script done) es)
+  counts-stay done [] node g c ran = (refl, ran)
+  counts-stay done (x ∷ es) node g c ran =
+      let one = (next-leads done x (world-holds done)).1 node g c ran in
+      let more = counts-stay (done ++ x ∷ []) es node g c one.1 in
+      subst (λ w. (count_at node g c (marks_in (after script w es).steps) ≡ count_at node g c (marks_in (world_of script done).steps)) × (c.0 < nexts_in (after script w es).segs node.0 g.0)) (after-last script some new_world done x)
+      (more.0 ∙ one.0, more.1)

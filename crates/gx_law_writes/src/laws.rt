@@ -5,13 +5,14 @@ ghost use Rattle.gx_ids.specs.declared.ids.Cid.{Cid as OneCid};
 ghost use Rattle.gx_ids.specs.declared.ids.Gxid.{Gxid as OneGxid};
 ghost use Rattle.gx_law_order.specs.Runs.{steps_after};
 ghost use Rattle.gx_meaning.specs.Constants.{rows_of};
-ghost use Rattle.gx_rules.specs.Machine.{run_of, world_of};
+ghost use Rattle.gx_rules.specs.Machine.{after, run_of, world_of};
 ghost use Rattle.gx_script.specs.declared.Script.{Script};
 ghost use Rattle.gx_store.specs.declared.event.Event.{Event as OneEvent};
 ghost use Rattle.gx_store.specs.Points.{marks_in};
 ghost use Rattle.gx_store.specs.Runs.{IsLegalHistory};
 ghost use Rattle.gx_tree.specs.declared.expr.Expr.{Expr as OneExpr};
 ghost use Rattle.gx_tree.specs.declared.row.KeyedRow.{KeyedRow as OneRow};
+ghost use Rattle.gx_law_writes.specs.Changes.{AreLaterTurnsTrue, AreNewTurnsTrue, DoCountsStay};
 ghost use Rattle.gx_law_writes.specs.Homes.{AreRowsHome};
 ghost use Rattle.gx_law_writes.specs.Inserting.{AreInserting};
 ghost use Rattle.gx_law_writes.specs.Inserts.{AreInsertsTold};
@@ -41,6 +42,26 @@ pub fn rows_stay_where_they_are_inserted()
 /// write is free for it. No row is skipped that may not be.
 pub fn writes_are_legal()
     ensures { (script : Script) (events : List (OneEvent × Bool)) → 1 ≤ script.segments → AreLinesNumbered [] script.lines → AreWritesLegal script [] (steps_after script events) }
+{}
+
+/// When an UPDATE or DELETE comes to a segment where it is new, each fault that it notes there in its turn is legal at its point; and
+/// what the turn says is so. It says that it is done: then it has written or skipped each row of the node's that it selects, on none
+/// of which its condition faults, and its count is of those that it has written there. Or it says its fault, or that another
+/// transaction has changed one of its rows since its snapshot. Where it waits it says nothing; nor is anything said here of what it
+/// says once its transaction has aborted.
+pub fn turns_of_new_changes_are_true()
+    ensures { (script : Script) (events : List (OneEvent × Bool)) → 1 ≤ script.segments → AreLinesNumbered [] script.lines → AreNewTurnsTrue script (world_of script events) }
+{}
+
+/// The same of one that has waited there, for its table or at a row.
+pub fn turns_behind_waits_are_true()
+    ensures { (script : Script) (events : List (OneEvent × Bool)) → 1 ≤ script.segments → AreLinesNumbered [] script.lines → AreLaterTurnsTrue script (world_of script events) }
+{}
+
+/// Once a segment has said that a command is done there, the command writes no more rows there, whatever happens.
+pub fn counts_of_writes_stay()
+    ensures { (script : Script) (events later : List (OneEvent × Bool)) → 1 ≤ script.segments → AreLinesNumbered [] script.lines
+        → DoCountsStay (world_of script events) (after script (world_of script events) later) }
 {}
 
 /// An INSERT that is answered has written the row of each of its tuples, and the answer counts them.
