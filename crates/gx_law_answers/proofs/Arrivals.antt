@@ -30,12 +30,12 @@ use Rattle.gx_law_order.proofs.Lists.{Each}
 use Rattle.gx_law_order.proofs.Ordered.{world_well}
 use Rattle.gx_law_sessions.proofs.World.{after-last}
 use Rattle.gx_law_reads.proofs.Waiting.{new-to-run}
+use Rattle.gx_law_writes.proofs.Changes.{new-turns-true}
 use Rattle.gx_law_writes.proofs.Next.{new-next}
 use Rattle.gx_law_writes.proofs.Turns.{NoRow, base}
 use Rattle.gx_law_writes.proofs.Waiting.{Waited, Ways, message-ways, new-untold}
 use Rattle.gx_law_answers.specs.Earned.{Events}
 use Rattle.gx_law_answers.proofs.Posts.{Came, came-now}
-use Rattle.gx_law_answers.proofs.Turned.{new-turns}
 use Rattle.gx_law_answers.proofs.Running.{Doings, Idle, IsLate, Runs}
 
 or-true : (b : Bool) → (b || true) ≡ true
@@ -97,7 +97,7 @@ module _ (script : Script) (some : 1 ≤ script.segments) (numbered_lines : AreL
         wanted = wanted;
         lock = lock;
         ran = ran;
-        turned = λ k changes. new-turns script some numbered_lines es from to number envelope fails g c level q horizon y k place is_found told changes fresh;
+        turned = λ k changes. new-turns-true script some numbered_lines es from to number envelope fails g c level q horizon y k place is_found told changes fresh;
         given = λ r o. inl (record { from = from; number = number; is = refl; envelope = envelope; posted = is_found; horizon = horizon; told = told; new = fresh; locks = locks; wanted = wanted; lock = lock; ran = ran; given = o });
       }
     where

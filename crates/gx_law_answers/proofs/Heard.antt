@@ -49,6 +49,7 @@ use Rattle.gx_law_holds.proofs.World.{world-locked}
 use Rattle.gx_law_reads.specs.Sights.{DoViewsStay}
 use Rattle.gx_law_reads.proofs.Staying.{views-stay}
 use Rattle.gx_law_writes.specs.Homes.{IsPlacedMark}
+use Rattle.gx_law_writes.proofs.Changes.{counts-kept}
 use Rattle.gx_law_writes.proofs.Told.{take-get}
 use Rattle.gx_law_writes.proofs.World as writes
 use Rattle.gx_law_answers.specs.Earned.{Events, IsEarned}
@@ -60,7 +61,6 @@ use Rattle.gx_law_changes.specs.Says.{IsPartDone, count_at}
 use Rattle.gx_law_changes.proofs.Parts.{part-later}
 use Rattle.gx_law_answers.proofs.Changed.{processed-more}
 use Rattle.gx_law_answers.proofs.Shown.{only-at}
-use Rattle.gx_law_answers.proofs.Counted.{counts-stay}
 use Rattle.gx_law_answers.proofs.Truths.{aborted-more, snapshot-more}
 
 by-recursion-get : {A : Type 0} (P : A → Type 0) (xs : List A) (k : ℕ) (x : A) → AllByRecursion P xs → slice_get xs k ≡ Some x → P x
@@ -262,4 +262,4 @@ module _ (script : Script) (some : 1 ≤ script.segments) (numbered : AreLinesNu
       same : count_at node g c ms ≡ count_at node g c before
       same =
           subst (λ (v : World). count_at node g c (marks_in v.steps) ≡ count_at node g c before) (late-is node g c (reply.Done c wrote count part) t)
-          (counts-stay script some numbered t.upto t.rest node the_coordinator t.number g c wrote count part one t.sent)
+          (counts-kept script some numbered t.upto t.rest node the_coordinator t.number g c wrote count part one t.sent)

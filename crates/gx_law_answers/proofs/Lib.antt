@@ -7,7 +7,6 @@ pub mod Rows
 pub mod Select
 pub mod Truths
 pub mod Work
-pub mod Turned
 pub mod Changed
 pub mod Posts
 pub mod Running
@@ -15,7 +14,6 @@ pub mod Arrivals
 pub mod Resumptions
 pub mod Stepping
 pub mod Ordered
-pub mod Counted
 pub mod Origins
 pub mod Always
 pub mod Commands

@@ -1,4 +1,4 @@
--- Each write of a segment is of a command whose EXEC the coordinator has sent to it; in a step it is of one that has still to run there.
+-- Each write of a segment is of a command whose EXEC the coordinator has sent to it.
 use Rattle.std.proofs.Common.{◌≡◌, ◌≤◌, inl, inr, List, [], ◌∷◌, ◌++◌, Option, Bool, sym, subst, ap, ◌∙◌, ◌⊎◌}
 use Rattle.gx_lemmas.proofs.Numbers.{one-le-none}
 use Rattle.gx_ids.specs.declared.ids.Cid.{Cid}
@@ -37,7 +37,6 @@ use Rattle.gx_law_sessions.specs.Orders.{IsOrder}
 use Rattle.gx_law_sessions.proofs.Outs.{order-more}
 use Rattle.gx_law_changes.proofs.Frames.{IsWork}
 use Rattle.gx_law_writes.proofs.Legal.{sent-no-write}
-use Rattle.gx_law_writes.proofs.Next.{next_command}
 use Rattle.gx_law_writes.proofs.Turns.{NoRow, NoWrite}
 use Rattle.gx_law_answers.specs.Earned.{Events}
 use Rattle.gx_law_answers.proofs.Running.{AtItsRow, Doings, IsLate, Runs}
@@ -126,7 +125,6 @@ module _ (script : Script) (some : 1 ≤ script.segments) (numbered_lines : AreL
       pub g : Gxid
       pub c : Cid
       pub its : HasOrder script ms to g c
-      pub next : next_command (local_of s g) ≤ c.0
       pub work : Each (IsWork to g c) turn.marks
 
     run-works : (y : Slice) → Runs script es to e fails x y → HasWorked
@@ -135,7 +133,6 @@ module _ (script : Script) (some : 1 ≤ script.segments) (numbered_lines : AreL
           g = z.g;
           c = z.c;
           its = record { level = z.level; snapshot = z.snapshot; slice = y; order = z.came.order_is numbered_lines };
-          next = z.next;
           work = subst (λ (t : SegTurn). Each (IsWork to z.g z.c) t.marks) (sym z.ran) (tt, slice-works to z.g (record (raised z.like z.horizon) { locks = z.locks }) (z.named ∙ named) z.c z.level z.snapshot y);
         }
 
@@ -145,7 +142,6 @@ module _ (script : Script) (some : 1 ≤ script.segments) (numbered_lines : AreL
           g = z.g;
           c = z.on.slice.cid;
           its = record { level = z.on.slice.level; snapshot = z.on.slice.snapshot; slice = z.on.slice.slice; order = z.came.order_is numbered_lines };
-          next = z.next;
           work = subst (λ c. Each (IsWork to z.g c) turn.marks) (change-parts z.on.slice.cid z.on.slice.level z.on.slice.snapshot z.on.slice.slice k z.goes.at.changes).cid
               (subst (λ (t : SegTurn). Each (IsWork to z.g k.cid) t.marks) (sym z.goes.is) (loop-works to z.g k (z.goes.at.rid ∷ z.on.slice.rows) (is_granted s z.g z.on.wanted) z.on.slice.count granted));
         }

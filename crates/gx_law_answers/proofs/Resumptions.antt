@@ -34,12 +34,12 @@ use Rattle.gx_law_order.proofs.Suspended.{IsWantedAt}
 use Rattle.gx_law_order.proofs.Waiting.{GoesOn, GoesOnAtRow, GoesOnSo, RunsNow, goes-on-is, going-on, going-ways}
 use Rattle.gx_law_sessions.proofs.World.{after-last}
 use Rattle.gx_law_reads.proofs.Waiting.{waits-to-run}
+use Rattle.gx_law_writes.proofs.Changes.{later-turns-true}
 use Rattle.gx_law_writes.proofs.Next.{next_command, waits-next}
 use Rattle.gx_law_writes.proofs.Waiting.{waits-untold}
 use Rattle.gx_law_answers.specs.Earned.{Events, RunsBehindWait, WaitsFor}
 use Rattle.gx_law_answers.proofs.Posts.{Came, came-before}
 use Rattle.gx_law_writes.specs.Changes.{IsTrueTurn}
-use Rattle.gx_law_answers.proofs.Turned.{later-turns}
 use Rattle.gx_law_answers.proofs.Running.{AtItsRow, Doings, IsLate, Runs}
 
 -- WHERE A SLICE NO LONGER WAITS
@@ -113,7 +113,7 @@ module _ (script : Script) (some : 1 ≤ script.segments) (numbered_lines : AreL
   still-next = waits-next (local_of s g) o.slice o.is o.waits.last
 
   its-turn : (k : Change) → change_of o.slice.cid o.slice.level o.slice.snapshot o.slice.slice ≡ Some k → IsTrueTurn script w (event.Resume to g) to g k turn
-  its-turn k changes = later-turns script some numbered_lines es to g o.slice k ok o.is changes
+  its-turn k changes = later-turns-true script some numbered_lines es to g o.slice k ok o.is changes
 
   waits-for : (row : Option Rid) → IsWantedAt script g o.slice.slice row o.wanted → WaitsFor script g o.slice.slice row o.wanted
   waits-for None l = l
