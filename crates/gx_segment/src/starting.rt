@@ -1,12 +1,12 @@
-// A slice takes its table's lock and runs, or waits for it; and one that has waited goes on.
-ghost use Rattle.std.specs.Prelude.{◌≡◌, ◌++◌, true, false, nat_lt, None, Some, IfOk};
+// A slice takes its table's lock and runs, or waits for it; and one that has waited, there or at a row, goes on.
+ghost use Rattle.std.specs.Prelude.{◌≡◌, true, false, None, IfOk};
 ghost use Rattle.gx_locks.specs.Locks.{is_ready, wait_of};
 ghost use Rattle.gx_rules.specs.AtSegment.{resumes};
 ghost use Rattle.gx_rules.specs.Segments.{local_of};
 ghost use Rattle.gx_node.specs.Phases.{suspended_of};
-ghost use Rattle.gx_rules.specs.Running.{goes_on, requests, slice_lock};
+ghost use Rattle.gx_rules.specs.Running.{goes_on, requests, slice_lock, suspended_slice};
 ghost use Rattle.gx_slices.specs.Agrees.{IsHeld};
-ghost use Rattle.gx_slices.specs.Owning.{is_own};
+ghost use Rattle.gx_slices.specs.Owning.{is_on_transaction};
 ghost use Rattle.gx_slices.specs.Ran.{MayGoOn, MayRun};
 ghost use Rattle.gx_segment.specs.Before.{Before};
 ghost use Rattle.gx_segment.specs.Done.{HasDone, IsQuiet, answer_of};
@@ -28,7 +28,7 @@ use std::alloc::Global;
 fn lock_of(script: &Script, gxid: Gxid, slice: &Slice) -> Claim
     ensures value { result ≡ slice_lock script.now gxid slice.now }
     ensures own { result.gxid ≡ gxid }
-    ensures no_other { is_own result ≡ true }
+    ensures on_table { is_on_transaction result.object ≡ false }
 {
     match slice {
         Slice::Select(query) => claim_on(gxid, query.table, Mode::AccessShare),
@@ -53,7 +53,7 @@ pub(crate) fn start<G: Gate>(
     requires script { script.now ≡ was.script }
     requires held { IsHeld was.script.tables held.old was.seg }
     requires may { MayRun was.script.tables was.seg gxid command.cid command.snapshot command.slice }
-    requires new { nat_lt 0 command.cid.0 ≡ true }
+    requires fresh { suspended_of command ≡ suspended_slice command.cid command.level command.snapshot command.slice }
     requires node { node ≡ was.seg.node }
     ensures done { IfOk result (λ done. HasDone was.script.tables held.new was.seg.horizon done (starts was.script was.seg gxid command)) }
     ensures quiet { IfOk result (λ done. IsQuiet done (starts was.script was.seg gxid command)) }
@@ -77,9 +77,9 @@ fn request<G: Gate>(
     requires script { script.now ≡ was.script }
     requires held { IsHeld was.script.tables held.old was.seg }
     requires may { MayRun was.script.tables was.seg gxid command.cid command.snapshot command.slice }
-    requires new { nat_lt 0 command.cid.0 ≡ true }
+    requires fresh { suspended_of command ≡ suspended_slice command.cid command.level command.snapshot command.slice }
     requires own { wanted.gxid ≡ gxid }
-    requires no_other { is_own wanted ≡ true }
+    requires on_table { is_on_transaction wanted.object ≡ false }
     requires node { node ≡ was.seg.node }
     ensures done { IfOk result (λ done. HasDone was.script.tables held.new was.seg.horizon done (requests was.seg gxid command.cid command.level command.snapshot command.slice wanted)) }
     ensures quiet { IfOk result (λ done. IsQuiet done (requests was.seg gxid command.cid command.level command.snapshot command.slice wanted)) }
