@@ -22,3 +22,5 @@ pub mod NewestOf
 pub mod Stops
 pub mod Awaiting
 pub mod OwnMoves
+pub mod ValueKinds
+pub mod RightChanges

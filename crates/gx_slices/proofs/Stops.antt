@@ -1,5 +1,5 @@
 -- A command that stops at a row, and one that leaves a row that is done, in the rule's words.
-use Rattle.std.proofs.Common.{◌≡◌, Bool, true, false, if◌then◌else◌, List, [], ◌∷◌, ◌++◌, append-nil, append-assoc, refl, sym, ap, ◌∙◌}
+use Rattle.std.proofs.Common.{◌≡◌, Bool, true, false, if◌then◌else◌, List, [], ◌∷◌, ◌++◌, append-nil, append_assoc, refl, sym, ap, ◌∙◌}
 use Rattle.gx_ids.specs.declared.ids.Gxid.{Gxid}
 use Rattle.gx_ids.specs.declared.rid.Rid.{Rid}
 use Rattle.gx_waits.specs.declared.claim.Claim.{Claim}
@@ -23,7 +23,7 @@ module _ (m : Moved) (g : Gxid) (rid : Rid) (writer : Gxid) where
   the_end = end_lock g writer
 
   two : (ms : List Mark) (a b : Mark) → (ms ++ a ∷ []) ++ b ∷ [] ≡ ms ++ a ∷ b ∷ []
-  two ms a b = append-assoc ms (a ∷ []) (b ∷ [])
+  two ms a b = append_assoc ms (a ∷ []) (b ∷ [])
 
   free : (b : Bool) → (if b then waits the_end (takes_lock tuple m) else waits tuple m)
       ≡ ended (moved_on m (if b then with_wait (with_hold m.seg.locks tuple) the_end else with_wait m.seg.locks tuple) (if b then hold_mark m.seg.node tuple ∷ wait_mark m.seg.node the_end ∷ [] else wait_mark m.seg.node tuple ∷ [])) Waiting
