@@ -11,7 +11,7 @@ use Rattle.gx_slices.specs.Store.{kept_at, passes, status_of}
 use Rattle.gx_waits.specs.Claim.{same_claim}
 use Rattle.gx_waits.specs.declared.claim.Claim.{Claim}
 use Rattle.gx_locks.specs.Claims.{is_of}
-use Rattle.gx_locks.specs.Locks.{Locks, wait_of, without}
+use Rattle.gx_locks.specs.Locks.{Locks, wait_of}
 use Rattle.gx_node.specs.Changes.{Change, Makes, left_locks}
 use Rattle.gx_node.specs.declared.local.Taken.{Taken}
 use Rattle.gx_rules.specs.Fits.{holds_locks, is_waiting}
@@ -26,7 +26,7 @@ use Rattle.gx_slices.specs.Waiting.{AreWaits, IsRightWait, is_open}
 use Rattle.gx_slices.specs.declared.held.Held.{Held}
 use Rattle.gx_slices.proofs.Gxids.{itself}
 use Rattle.gx_slices.proofs.Owning.{AreOwn-filter}
-use Rattle.gx_slices.proofs.Waiting.{AreWaits-one, find-others, waits-found, waits-without}
+use Rattle.gx_slices.proofs.Waiting.{AreWaits-one, find-others, waits-without}
 use Rattle.gx_rows.specs.Counts.{is_committed}
 use Rattle.gx_rows.specs.Rows.{is_unaborted}
 use Rattle.gx_rows.specs.declared.status.LocalStatus.{LocalStatus}
@@ -187,7 +187,8 @@ module _ (tables : List Schema) (held held' : Held) (s : Seg) (g : Gxid) (change
   own-moved follows h false e held =
       ap (λ (l : Local). has_version s h && not (has_ended l.phase)) (others h e) ∙ was.writers.own h (held-before h change.ends held)
   own-moved follows h true e held =
-      subst (λ (x : Gxid). list_any (same_claim (own_lock x)) (left_locks change.ends s.locks g).holds ≡ true → (has_version s x && not (has_ended change.now.phase)) ≡ true) (same_gxid g h e)
+      ap (λ (l : Local). has_version s h && not (has_ended l.phase)) (its h e)
+      ∙ subst (λ (x : Gxid). list_any (same_claim (own_lock x)) (left_locks change.ends s.locks g).holds ≡ true → (has_version s x && not (has_ended change.now.phase)) ≡ true) (same_gxid g h e)
       (λ its_held. it_is (has_version s g) (has_ended (s.locals g.0).phase) (has_ended change.now.phase) (was.writers.own g (held-before g change.ends its_held)) (unended follows change.ends refl its_held)) held
     where
       it_is : (wrote was_ended ended : Bool) → (wrote && not was_ended) ≡ true → (was_ended ≡ false → ended ≡ false) → (wrote && not ended) ≡ true
