@@ -38,7 +38,7 @@ once P x y None false first more e = absurd (cc)
 once P x y (Some z) b first more e = more e
 
 -- the last that passes is one of them, and passes
-found-last_passing : {X : Type 0} (P : X → Type 0) (p : X → Bool) (xs : List X) → AllByRecursion (λ x. p x ≡ true → P x) xs → (x : X) → last_passing p xs ≡ Some x → P x
+pub found-last_passing : {X : Type 0} (P : X → Type 0) (p : X → Bool) (xs : List X) → AllByRecursion (λ x. p x ≡ true → P x) xs → (x : X) → last_passing p xs ≡ Some x → P x
 found-last_passing P p [] all x e = absurd (cc)
 found-last_passing P p (y ∷ ys) all x e = once P x y (last_passing p ys) (p y) all.0 (found-last_passing P p ys all.1 x) (sym (last_passing-cons p y ys) ∙ e)
 

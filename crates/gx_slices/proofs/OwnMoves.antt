@@ -113,7 +113,7 @@ AreWriters-granted s was g (Some wait) = by_object s was g wait wait.object refl
 module _ (start : Seg) (first now : Held) (entry : Entry) (g : Gxid) (s : Seg) (is : IsApart start first now entry g s) where
   pub IsApart-locks : (locks : Locks) → AreOwn locks.holds → AreWriters (record s { locks = locks }) → ((h : Gxid) → h.0 ≢ g.0 → wait_of locks h ≡ wait_of s.locks h) → IsApart start first (record now { locks = locks }) entry g (record s { locks = locks })
   IsApart-locks locks owned writers waits = record {
-    stored = is.stored;
+    stored = record { horizon = is.stored.horizon; writes = is.stored.writes; wrote = is.stored.wrote; committed = is.stored.committed; unaborted = is.stored.unaborted };
     locks = refl;
     entries = is.entries;
     holders = is.holders;

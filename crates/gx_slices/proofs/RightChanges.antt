@@ -72,7 +72,7 @@ module _ (kinds : List Kind) (old : List Value) (is : kinds_of old ≡ kinds) wh
       let on = right-on kinds a parts.0 in (
         record {
           column = inside-column old a.col on.kind (ap (λ (ks : List Kind). slice_get ks a.col) is ∙ on.column);
-          kind = subst IsSome (sym (ap (λ (ks : List Kind). kind_of ks a.expr) is ∙ on.value)) tt;
+          kind = subst IsSome (sym (ap (λ (ks : List Kind). kind_of ks a.expr) is ∙ on.value)) refl;
         },
         settable rest parts.1,
       )

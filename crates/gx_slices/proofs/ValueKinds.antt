@@ -3,9 +3,9 @@ use Rattle.std.proofs.Common.{◌≡◌, ◌<◌, ℕ, zero, suc, ℤ, neg_ℤ, 
 use Rattle.std.specs.Prelude.{◌+ℤ◌, ◌-ℤ◌, ◌*ℤ◌, int_div, int_rem, unsigned_abs}
 use Rattle.gx_tree.specs.declared.expr.ArithOp.{ArithOp}
 use Rattle.gx_tree.specs.declared.expr.ArithOp.TheVariants.{Add, Sub, Mul, Div, Rem}
-use Rattle.gx_tree.specs.declared.expr.Expr.{Expr, Neg, Bin, Lit, Col}
+use Rattle.gx_tree.specs.declared.expr.Expr.{Expr, roll-Expr, Neg, Bin, Lit, Col}
 use Rattle.gx_tree.specs.declared.expr.Expr.TheFolds.{ind-Expr}
-use Rattle.gx_tree.specs.declared.expr.Expr.TheOpen.{Expr-F, roll-Expr}
+use Rattle.gx_tree.specs.declared.expr.Expr.TheOpen.{Expr-F}
 use Rattle.gx_tree.specs.declared.expr.Expr.TheVariants.{rolls-Neg, rolls-Bin, rolls-Lit, rolls-Col}
 use Rattle.gx_tree.specs.declared.schema.Kind.{Kind}
 use Rattle.gx_tree.specs.declared.schema.Kind.TheVariants as kind

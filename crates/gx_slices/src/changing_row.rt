@@ -40,8 +40,7 @@ pub(crate) enum RowEnd {
 
 // WRITTEN, SKIPPED OR FAULTED ON
 fn skip(change: &Change, rid: Rid, marks: &mut Vec<Mark>) -> Mem<RowEnd>
-    ensures end { IfOk result (λ end. end ≡ RowEnd.Skipped) }
-    ensures marks { OnOk result (marks.new.items ≡ marks.old.items ++ mark.Skip change.now.writer.gxid change.now.writer.cid rid ∷ []) }
+    ensures { IfOk result (λ end. (end ≡ RowEnd.Skipped) × (marks.new.items ≡ marks.old.items ++ mark.Skip change.now.writer.gxid change.now.writer.cid rid ∷ [])) }
 {
     marks.push(Mark::Skip {
         gxid: change.writer.gxid,
@@ -58,8 +57,7 @@ fn fault(
     fault: ArithFault,
     marks: &mut Vec<Mark>,
 ) -> Mem<RowEnd>
-    ensures end { IfOk result (λ end. end ≡ RowEnd.Failing (slices.cause_of fault)) }
-    ensures marks { OnOk result (marks.new.items ≡ marks.old.items ++ mark.Fault change.now.writer.gxid change.now.writer.cid rid (Some old) ∷ []) }
+    ensures { IfOk result (λ end. (end ≡ RowEnd.Failing (slices.cause_of fault)) × (marks.new.items ≡ marks.old.items ++ mark.Fault change.now.writer.gxid change.now.writer.cid rid (Some old) ∷ [])) }
 {
     marks.push(Mark::Fault {
         gxid: change.writer.gxid,
