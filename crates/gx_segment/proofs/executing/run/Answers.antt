@@ -28,6 +28,7 @@ start-requires g c κs within =
         ),
       ),
     )
+
 pub returns-clause-done : goal.returns-clause-done
 returns-clause-done g c =
     let command = c.args.command in

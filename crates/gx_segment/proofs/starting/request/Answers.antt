@@ -22,7 +22,7 @@ proceed-requires g c κs within =
           IsHeld-locked tables held g.was.seg c.args.wanted c.requires.1.1.0 granted now c.if-branch.true asked c.requires.1.1.1.1.1.1.0,
           (
             MayGoOn-locked tables held g.was.seg c.args.wanted c.requires.1.1.0 granted now c.if-branch.true asked c.args.gxid c.args.command c.requires.1.1.1.1.0 c.in_ok-ask_for.ensures.granted c.args.node c.requires.1.1.1.1.1.1.1 c.ask_for.new.marks.items
-            (c.in_ok-ask_for.ensures.marks ∙ ap (λ (ms : List Mark). ms ++ asked_mark c.args.node c.args.wanted granted ∷ []) c.new-marks.ensures.items) c.requires.1.1.1.0,
+                (c.in_ok-ask_for.ensures.marks ∙ ap (λ (ms : List Mark). ms ++ asked_mark c.args.node c.args.wanted granted ∷ []) c.new-marks.ensures.items) c.requires.1.1.1.0,
             c.requires.1.1.1.1.1.1.1,
           ),
         ),
