@@ -1,5 +1,5 @@
 -- Whether nobody below a gxid is in a set.
-use Rattle.std.proofs.Common.{◌≡◌, ℕ, ◌<◌, zero, suc, Bool, true, false, [], refl, sym, eqb, arith}
+use Rattle.std.proofs.Common.{◌≡◌, ℕ, ◌<◌, zero, suc, Bool, true, false, [], refl, sym, ◌∙◌, eqb, arith}
 use Rattle.std.proofs.lemmas.Bool.{and_from}
 use Rattle.std.proofs.lemmas.Bool.Decides.{nat_tests}
 use Rattle.std.specs.BTreeSet.{BTreeSet, IsLowerBound, contains}
@@ -20,6 +20,16 @@ each_below-none (suc m) k f low e = by_test (eqb k m) refl (each_below-none m k 
     by_test : (b : Bool) → eqb k m ≡ b → (k < m → f k ≡ false → each_below m f ≡ false) → each_below (suc m) f ≡ false
     by_test true same more = grind (arith, nat_tests)
     by_test false other more = let less : k < m = grind (arith, nat_tests) in grind (arith, more less e)
+
+pub each_below-one : (m k : ℕ) (f : ℕ → Bool) → k < m → each_below m f ≡ true → f k ≡ true
+each_below-one m k f low all = by_test (f k) refl
+  where
+    differ : false ≡ true → ⊥
+    differ e = cc
+
+    by_test : (b : Bool) → f k ≡ b → b ≡ true
+    by_test true e = refl
+    by_test false e = absurd (differ (sym (each_below-none m k f low e) ∙ all))
 
 module _ (holders : BTreeSet Gxid) where
   abbrev is_out : ℕ → Bool

@@ -1,15 +1,12 @@
 -- What a message came to.
 use Rattle.std.proofs.Common.{◌≡◌, ◌≤◌, Bool, false, if◌then◌else◌, Option, Some, None, List, [], refl, sym, ap, ◌∙◌, subst, arith}
 use Rattle.std.proofs.lemmas.Bool.Decides.{nat_tests}
-use Rattle.gx_ids.specs.declared.ids.Cid.{Cid}
 use Rattle.gx_ids.specs.declared.ids.Gxid.{Gxid}
 use Rattle.gx_ids.specs.declared.ids.Node.{Node}
+use Rattle.gx_ids.specs.declared.rid.Rid.{Rid}
 use Rattle.std.specs.Prelude.{◌++◌}
 use Rattle.gx_tree.specs.declared.schema.Schema.{Schema}
-use Rattle.gx_tree.specs.declared.slice.Slice.{Slice}
-use Rattle.gx_tree.specs.declared.stmt.Level.{Level}
 use Rattle.gx_dsnap.specs.Gxids.{is_below}
-use Rattle.gx_dsnap.specs.declared.snapshot.Snapshot.{Snapshot}
 use Rattle.gx_dtx.specs.declared.order.Order.{Order}
 use Rattle.gx_msg.specs.declared.item.JournalItem.{JournalItem}
 use Rattle.gx_msg.specs.declared.item.Kept.{Kept}
@@ -20,20 +17,21 @@ use Rattle.gx_outside.specs.Shelves.{Shelf}
 use Rattle.gx_node.specs.Orders.{Took}
 use Rattle.gx_node.specs.declared.local.Taken.{Taken}
 use Rattle.gx_node.proofs.Turns.{turn-makes}
-use Rattle.gx_rules.specs.Segments.{Local, Seg, SegTurn, after_marks, local_of, stays, tells_kept}
+use Rattle.gx_rules.specs.Segments.{Local, Seg, SegTurn, Suspended, local_of, stays, tells_kept}
 use Rattle.gx_store.specs.declared.mark.Mark.{Mark}
 use Rattle.gx_rules.specs.Shown.{kept_of}
-use Rattle.gx_rules.specs.Running.{runs_slice}
+use Rattle.gx_rules.specs.Running.{goes_on}
+use Rattle.gx_rules.specs.Slices.{Moved}
 use Rattle.gx_slices.specs.Agrees.{IsHeld, entry_at, local_in, rows_in}
-use Rattle.gx_slices.specs.Ran.{HasRun}
+use Rattle.gx_slices.specs.Ran.{HasProgressed, replies}
 use Rattle.gx_slices.specs.declared.held.Held.{Held}
-use Rattle.gx_slices.specs.declared.running.Ran.{Ran}
+use Rattle.gx_slices.specs.declared.progress.Progress.{Progress}
 use Rattle.gx_segment.specs.Done.{HasDone, answer_of, to_coordinator}
 use Rattle.gx_segment.specs.Moves.{HasMoved, order_turn}
 use Rattle.gx_segment.specs.declared.done.Done.{Done}
 use Rattle.gx_segment.proofs.Following.{follows-change_of}
-use Rattle.gx_segment.proofs.Keeping.{horizon-runs_slice}
 use Rattle.gx_segment.proofs.Moving.{IsHeld-moved}
+use Rattle.gx_segment.proofs.Standing.{goes_on-stands}
 
 out-answer_of : (g : Gxid) (r : Option Reply) → to_coordinator (answer_of g r) ≡ outs_in g r
 out-answer_of g None = refl
@@ -85,16 +83,18 @@ module _ (o : Order) (s : Seg) (g : Gxid) (fails : Bool) where
       let makes = turn-makes o s g fails in ap (λ (c : Change). c.item) same ∙ sym makes.item ∙ sym (ap (λ (t : SegTurn). t.item) (above alive))
 
 -- SLICES
--- a slice has run behind these marks
-pub HasDone-ran : (tables tables' : List Schema) (held : Held) (s : Seg) (g : Gxid) (c : Cid) (level : Level) (snapshot : Option Snapshot) (slice : Slice) (ran : Ran) (done : Done) (marks : List Mark) → HasRun tables' held g ran (runs_slice s g c level snapshot slice) → tables' ≡ tables → done ≡ record { marks = marks ++ ran.marks; answer = answer_of g (Some ran.reply); fails = false } → HasDone tables held s.horizon done (after_marks marks (runs_slice s g c level snapshot slice))
-HasDone-ran tables tables' held s g c level snapshot slice ran done marks run t d =
-    let turn = runs_slice s g c level snapshot slice in
-    let r : HasRun tables held g ran turn = subst (λ (ts : List Schema). HasRun ts held g ran turn) t run in
-    subst (λ (x : Done). HasDone tables held s.horizon x (after_marks marks turn)) (sym d) (record {
-      held = r.agrees;
-      horizon = sym (horizon-runs_slice s g c level snapshot slice);
-      marks = ap (λ (ms : List Mark). marks ++ ms) r.marks;
-      outs = sym r.outs;
+replies-answer_of : (g : Gxid) (r : Option Reply) → to_coordinator (answer_of g r) ≡ replies g r
+replies-answer_of g None = refl
+replies-answer_of g (Some r) = refl
+
+-- a slice has gone on behind these marks
+pub HasDone-progressed : (tables : List Schema) (held : Held) (m : Moved) (g : Gxid) (w : Suspended) (row : Option Rid) (progress : Progress) (done : Done) → HasProgressed tables held g progress (goes_on m g w row) → done ≡ record { marks = progress.marks; answer = answer_of g progress.reply; fails = false } → HasDone tables held m.seg.horizon done (goes_on m g w row)
+HasDone-progressed tables held m g w row progress done is d =
+    subst (λ (x : Done). HasDone tables held m.seg.horizon x (goes_on m g w row)) (sym d) (record {
+      held = is.agrees;
+      horizon = sym (goes_on-stands m g w row).horizon;
+      marks = is.marks;
+      outs = replies-answer_of g progress.reply ∙ sym is.outs;
     })
 
 pub HasDone-told : (tables : List Schema) (held : Held) (s : Seg) (g : Gxid) (r : Option Reply) (done : Done) → IsHeld tables held s → s.horizon.0 ≤ g.0 → r ≡ (local_in (entry_at held g)).answer → done ≡ record { marks = []; answer = answer_of g r; fails = false } → HasDone tables held s.horizon done (tells_kept s g (local_of s g).answer)

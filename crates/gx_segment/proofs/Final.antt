@@ -28,7 +28,7 @@ never_own a n b = grind (arith, nat_tests)
 
 module _ (tables : List Schema) (held : Held) (s : Seg) (is : IsHeld tables held s) (snap : Snapshot) (table : Table) where
   stored : IsStored held.store s
-  stored = record { horizon = is.horizon; writes = is.writes; wrote = is.wrote; committed = is.committed }
+  stored = record { horizon = is.horizon; writes = is.writes; wrote = is.wrote; committed = is.committed; unaborted = is.unaborted }
 
   by_nobody : (rid : Rid) → shown_row_from held.store snap None no_command table rid ≡ shown_row_from held.store snap (Some nobody) no_command table rid
   by_nobody rid =

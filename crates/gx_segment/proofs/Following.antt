@@ -1,4 +1,4 @@
--- What an order leaves of a transaction: its last command stays, who has ended has ended, and whose slice waits isn't changed, but
+-- What an order leaves of a transaction: its last command stays, who has ended has ended and nobody else unless it ends, and whose slice waits isn't changed, but
 -- for an end, after which nothing waits.
 use Rattle.std.proofs.Common.{◌≡◌, Bool, true, false, if◌then◌else◌, Option, Some, None, List, refl, ap, sym, ◌∙◌}
 use Rattle.std.specs.Prelude.{is_some}
@@ -18,6 +18,7 @@ use Rattle.gx_slices.specs.Waiting.{is_open}
 pub record Follows (l : Local) (change : Change) : Type 0 where
   pub last : change.now.last ≡ l.last
   pub ended : has_ended change.now.phase ≡ false → has_ended l.phase ≡ false
+  pub lasts : change.ends ≡ false → has_ended l.phase ≡ false → has_ended change.now.phase ≡ false
   pub waits : is_waiting change.now ≡ (if change.ends then false else is_waiting l)
   pub stays_so : is_open l.phase ≡ true → is_waiting change.now ≡ true → change.now ≡ l
 
@@ -26,6 +27,7 @@ itself : (l : Local) (change : Change) → change.now ≡ l → change.ends ≡ 
 itself l change now ends = record {
   last = ap (λ (x : Local). x.last) now;
   ended = λ e. ap (λ (x : Local). has_ended x.phase) (sym now) ∙ e;
+  lasts = λ f e. ap (λ (x : Local). has_ended x.phase) now ∙ e;
   waits = ap is_waiting now ∙ ap (λ (b : Bool). if b then false else is_waiting l) (sym ends);
   stays_so = λ open_here waiting. now;
 }
@@ -36,10 +38,11 @@ not-both b e f = cc
 
 module _ (node : Node) (g : Gxid) (kept : List Kept) (fails : Bool) (l : Local) where
   -- another record, of which no slice waits either
-  free-follows : is_waiting l ≡ false → (change : Change) → change.now.last ≡ l.last → (has_ended change.now.phase ≡ false → has_ended l.phase ≡ false) → change.now.suspended ≡ l.suspended → change.ends ≡ false → Follows l change
-  free-follows free change last ended same ends = record {
+  free-follows : is_waiting l ≡ false → (change : Change) → change.now.last ≡ l.last → (has_ended change.now.phase ≡ false → has_ended l.phase ≡ false) → (has_ended l.phase ≡ false → has_ended change.now.phase ≡ false) → change.now.suspended ≡ l.suspended → change.ends ≡ false → Follows l change
+  free-follows free change last ended lasts same ends = record {
     last = last;
     ended = ended;
+    lasts = λ f. lasts;
     waits = ap (λ (o : Option Suspended). is_some o) same ∙ ap (λ (b : Bool). if b then false else is_waiting l) (sym ends);
     stays_so = λ open_here waiting. absurd (not-both (is_waiting l) free (ap (λ (o : Option Suspended). is_some o) (sym same) ∙ waiting));
   }
@@ -54,12 +57,12 @@ module _ (node : Node) (g : Gxid) (kept : List Kept) (fails : Bool) (l : Local) 
     unless-follows false = itself l _ refl refl
 
     promises-follows : has_ended l.phase ≡ false → (b : Bool) → Follows l (promises node g kept b l)
-    promises-follows e true = free-follows free (promises node g kept true l) refl (λ f. f) refl refl
-    promises-follows e false = free-follows free (promises node g kept false l) refl (λ f. e) refl refl
+    promises-follows e true = free-follows free (promises node g kept true l) refl (λ f. f) (λ f. f) refl refl
+    promises-follows e false = free-follows free (promises node g kept false l) refl (λ f. e) (λ f. refl) refl refl
 
     commits_now-follows : has_ended l.phase ≡ false → (b : Bool) → Follows l (commits_now node g kept b l)
-    commits_now-follows e true = free-follows free (commits_now node g kept true l) refl (λ f. f) refl refl
-    commits_now-follows e false = free-follows free (commits_now node g kept false l) refl (λ f. e) refl refl
+    commits_now-follows e true = free-follows free (commits_now node g kept true l) refl (λ f. f) (λ f. f) refl refl
+    commits_now-follows e false = free-follows free (commits_now node g kept false l) refl (λ f. e) (λ f. refl) refl refl
 
     prepares-follows : (p : Phase) → has_ended l.phase ≡ has_ended p → Follows l (prepares node g kept fails l p)
     prepares-follows Reading e = once-follows l.vote (promises node g kept fails l) (promises-follows e fails)
@@ -88,6 +91,7 @@ module _ (node : Node) (g : Gxid) (kept : List Kept) (fails : Bool) (l : Local) 
   finishes_now-follows e false = record {
     last = refl;
     ended = λ f. ap has_ended e;
+    lasts = λ f g. refl;
     waits = refl;
     stays_so = λ open_here waiting. absurd (not-both (is_open l.phase) (ap is_open e) open_here);
   }
@@ -106,6 +110,7 @@ module _ (node : Node) (g : Gxid) (kept : List Kept) (fails : Bool) (l : Local) 
   ends-follows p r e = record {
     last = refl;
     ended = λ f. absurd (not-both (has_ended p) f e);
+    lasts = λ f. absurd (never (sym f));
     waits = refl;
     stays_so = λ open_here waiting. absurd (never waiting);
   }

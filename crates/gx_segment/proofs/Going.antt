@@ -6,28 +6,25 @@ use Rattle.gx_ids.specs.declared.ids.Cid.{Cid}
 use Rattle.gx_ids.specs.declared.ids.Gxid.{Gxid}
 use Rattle.gx_tree.specs.declared.schema.Schema.{Schema}
 use Rattle.gx_tree.specs.declared.slice.Slice.{Slice}
-use Rattle.gx_tree.specs.declared.slice.Slice.TheVariants as slice
 use Rattle.gx_dsnap.specs.Gxids.{is_below}
 use Rattle.gx_node.specs.Right.{IsRightFor}
 use Rattle.gx_node.specs.declared.local.Suspended.{Suspended}
 use Rattle.gx_script.specs.declared.Script.{Script}
 use Rattle.gx_rules.specs.AtSegment.{if_fits, on_exec, raised, repeats}
-use Rattle.gx_rules.specs.Fits.{holds_locks, is_right_on, is_right_slice, is_waiting, reads_nothing}
+use Rattle.gx_rules.specs.Fits.{holds_locks, is_right_on, is_right_slice, is_waiting, reads_nothing, table_of}
 use Rattle.gx_rules.specs.Maps.{each_below}
 use Rattle.gx_rules.specs.Segments.{Local, Phase, Reading, Writing, Prepared, Committed, Forgotten, Aborted, Seg, SegTurn, local_of, stays}
-use Rattle.gx_slices.specs.Waiting.{AreWaits, is_open}
+use Rattle.gx_slices.specs.Agrees.{IsHeld}
+use Rattle.gx_slices.specs.Waiting.{is_open}
+use Rattle.gx_slices.specs.declared.held.Held.{Held}
 use Rattle.gx_segment.specs.Ways.{Goes, IsWay, again_at, exec_turn, fits_here, turn_by, way_in, way_of}
-use Rattle.gx_segment.proofs.Raised.{AreWaits-raised}
+use Rattle.gx_segment.proofs.Raised.{AreWaits-raised, AreWriters-raised}
 use Rattle.gx_segment.specs.declared.commands.Way.{Way}
 use Rattle.gx_segment.specs.declared.commands.Way.TheVariants.{Runs, Repeats, Nothing}
 
 -- what is right is right for each script of these tables
 right-tables : (script other : Script) (g : Gxid) (c : Cid) (sl : Slice) → other.tables ≡ script.tables → is_right_slice script g c sl ≡ is_right_slice other g c sl
-right-tables script other g c (slice.Select query) e = ap (λ (ts : List Schema). is_right_on g c (slice_get ts query.table.0) (slice.Select query)) (sym e)
-right-tables script other g c (slice.Insert table rows) e = ap (λ (ts : List Schema). is_right_on g c (slice_get ts table.0) (slice.Insert table rows)) (sym e)
-right-tables script other g c (slice.Update table assigns cond) e = refl
-right-tables script other g c (slice.Delete table cond) e = refl
-right-tables script other g c (slice.Lock table mode) e = ap (λ (ts : List Schema). is_right_on g c (slice_get ts table.0) (slice.Lock table mode)) (sym e)
+right-tables script other g c sl e = ap (λ (ts : List Schema). is_right_on g c (slice_get ts (table_of sl)) sl) (sym e)
 
 third : (a b c : Bool) → (a && (b && c)) ≡ true → c ≡ true
 third true true c e = e
@@ -107,7 +104,7 @@ module _ (script : Script) (s : Seg) (g : Gxid) (w : Suspended) (h : Gxid) where
   nobody_below : fits_here script s g w h ≡ true → nobody ≡ true
   nobody_below fits = first nobody (reads_it && (is_right && unless_waits)) (second (nat_le h.0 g.0) (nobody && (reads_it && (is_right && unless_waits))) fits)
 
-  module _ (alive : s.horizon.0 ≤ g.0) (waits : AreWaits script.tables s) (fits : fits_here script s g w h ≡ true) where
+  module _ (alive : s.horizon.0 ≤ g.0) (held : Held) (is_held : IsHeld script.tables held s) (fits : fits_here script s g w h ≡ true) where
     again-goes : (b : Bool) → Goes script s g w h (if b then Repeats else Nothing)
     again-goes true = alive
     again-goes false = tt
@@ -117,9 +114,9 @@ module _ (script : Script) (s : Seg) (g : Gxid) (w : Suspended) (h : Gxid) where
 
     takes-goes : is_open l.phase ≡ true → (b : Bool) → nat_lt l.last c.0 ≡ b → Goes script s g w h (if b then Runs else again_at l.last c)
     takes-goes is true e = record {
-      may = record { alive = low-raised alive (low fits); open_here = is; free = free fits e; reads = reads fits; right = right fits };
-      new = first_is_new e;
-      waits = AreWaits-raised script.tables s h waits (nobody_below fits);
+      may = record { alive = low-raised alive (low fits); open_here = is; free = free fits e; reads = reads fits; right = right fits; new = first_is_new e };
+      waits = AreWaits-raised script.tables s h is_held.waits (nobody_below fits);
+      writers = AreWriters-raised s h is_held.writers is_held.came (nobody_below fits);
     }
     takes-goes is false e = again-goes (eqb c.0 l.last)
 
@@ -140,8 +137,8 @@ module _ (script : Script) (s : Seg) (g : Gxid) (w : Suspended) (h : Gxid) where
       ∙ ap (λ (x : Bool). if_fits s x (after l.phase)) f
 
   -- it goes by the transaction's record
-  pub way-held : s.horizon.0 ≤ g.0 → AreWaits script.tables s → fits_here script s g w h ≡ true → (way : Way) → way ≡ way_of l c → IsWay script s g w h way
-  way-held alive waits fits way e = subst (IsWay script s g w h) (sym e) (record {
+  pub way-held : s.horizon.0 ≤ g.0 → (held : Held) → IsHeld script.tables held s → fits_here script s g w h ≡ true → (way : Way) → way ≡ way_of l c → IsWay script s g w h way
+  way-held alive held is fits way e = subst (IsWay script s g w h) (sym e) (record {
     turn = past (not_below alive) true fits ∙ way-turn l.phase;
-    goes = way-goes alive waits fits l.phase refl;
+    goes = way-goes alive held is fits l.phase refl;
   })

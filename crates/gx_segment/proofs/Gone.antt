@@ -33,12 +33,15 @@ held-sends tables held s sent clock is = record {
   writes = is.writes;
   wrote = is.wrote;
   committed = is.committed;
+  unaborted = is.unaborted;
+  came = is.came;
+  writers = record { low = is.writers.low; own = is.writers.own };
   typed = is.typed;
   locks = is.locks;
   owned = is.owned;
   waits = record {
     standing = is.waits.standing;
-    right = λ g w e. let right = is.waits.right g w e in record { alive = right.alive; open_here = right.open_here; came = right.came; reads = right.reads; right = right.right; at_row = right.at_row };
+    right = λ g w e. let right = is.waits.right g w e in record { alive = right.alive; open_here = right.open_here; came = right.came; reads = right.reads; right = right.right; new = right.new; room = right.room };
   };
 }
 

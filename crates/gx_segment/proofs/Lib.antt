@@ -11,3 +11,4 @@ pub mod Moving
 pub mod Obeying
 pub mod Raised
 pub mod Sent
+pub mod Standing

@@ -1,5 +1,5 @@
 -- What is held after an order was taken.
-use Rattle.std.proofs.Common.{◌≡◌, ◌≢◌, ℕ, ◌<◌, ◌≤◌, Bool, true, false, if◌then◌else◌, Option, Some, None, List, map, refl, sym, ap, ◌∙◌, subst, eqb, arith}
+use Rattle.std.proofs.Common.{◌≡◌, ◌≢◌, ℕ, ◌<◌, ◌≤◌, Bool, true, false, if◌then◌else◌, Option, Some, None, List, [], ◌∷◌, ◌||◌, map, refl, sym, ap, ◌∙◌, subst, eqb, arith}
 use Rattle.std.proofs.lemmas.Bool.Decides.{nat_tests}
 use Rattle.std.specs.BTreeSet.{contains}
 use Rattle.std.specs.List.{list_all, list_any}
@@ -8,23 +8,27 @@ use Rattle.gx_ids.specs.declared.ids.Gxid.{Gxid}
 use Rattle.gx_tree.specs.declared.schema.Schema.{Schema}
 use Rattle.gx_dsnap.specs.Gxids.{gxid_cmp}
 use Rattle.gx_slices.specs.Store.{kept_at, passes, status_of}
+use Rattle.gx_waits.specs.Claim.{same_claim}
 use Rattle.gx_waits.specs.declared.claim.Claim.{Claim}
 use Rattle.gx_locks.specs.Claims.{is_of}
-use Rattle.gx_locks.specs.Locks.{Locks, wait_of, without}
+use Rattle.gx_locks.specs.Locks.{Locks, wait_of}
 use Rattle.gx_node.specs.Changes.{Change, Makes, left_locks}
 use Rattle.gx_node.specs.declared.local.Taken.{Taken}
 use Rattle.gx_rules.specs.Fits.{holds_locks, is_waiting}
+use Rattle.gx_rules.specs.Segments as rule
 use Rattle.gx_rules.specs.Segments.{Local, Phase, Reading, Writing, Prepared, Committed, Forgotten, Aborted, Seg, SegTurn, Suspended, Version, has_committed, has_ended}
 use Rattle.gx_rules.specs.Shown.{last_images}
+use Rattle.gx_rules.specs.Slices.{own_lock}
 use Rattle.gx_store.specs.Marks.{is_same_gxid}
-use Rattle.gx_slices.specs.Agrees.{IsHeld, entry_at, has_version, is_of_row, is_right_version, local_in, write_of}
-use Rattle.gx_slices.specs.Owning.{AreOwn, is_for_other, is_own}
+use Rattle.gx_slices.specs.Agrees.{AreWriters, IsHeld, entry_at, has_version, is_of_row, is_right_version, local_in, write_of}
+use Rattle.gx_slices.specs.Owning.{AreOwn, is_own}
 use Rattle.gx_slices.specs.Waiting.{AreWaits, IsRightWait, is_open}
 use Rattle.gx_slices.specs.declared.held.Held.{Held}
 use Rattle.gx_slices.proofs.Gxids.{itself}
 use Rattle.gx_slices.proofs.Owning.{AreOwn-filter}
-use Rattle.gx_slices.proofs.Waiting.{AreWaits-one, find-others, waits-found, waits-without}
+use Rattle.gx_slices.proofs.Waiting.{AreWaits-one, find-others, waits-without}
 use Rattle.gx_rows.specs.Counts.{is_committed}
+use Rattle.gx_rows.specs.Rows.{is_unaborted}
 use Rattle.gx_rows.specs.declared.status.LocalStatus.{LocalStatus}
 use Rattle.gx_segment.specs.Moves.{HasMoved, status_in}
 use Rattle.gx_segment.proofs.Following.{Follows}
@@ -43,14 +47,54 @@ in_phase (Forgotten true) = refl
 in_phase (Forgotten false) = refl
 in_phase Aborted = refl
 
-by_phase : (p : Phase) (old : Option LocalStatus) → passes is_committed (option_map (λ _. status_in p) old) ≡ (is_some old && has_committed p)
-by_phase p None = refl
-by_phase p (Some s) = in_phase p
+unaborted_phase : (p : Phase) → is_unaborted (status_in p) ≡ rule.is_unaborted p
+unaborted_phase Reading = refl
+unaborted_phase Writing = refl
+unaborted_phase Prepared = refl
+unaborted_phase Committed = refl
+unaborted_phase (Forgotten true) = refl
+unaborted_phase (Forgotten false) = refl
+unaborted_phase Aborted = refl
+
+by_phase : (test : LocalStatus → Bool) (is : Phase → Bool) → ((p : Phase) → test (status_in p) ≡ is p) → (p : Phase) (old : Option LocalStatus) → passes test (option_map (λ _. status_in p) old) ≡ (is_some old && is p)
+by_phase test is same p None = refl
+by_phase test is same p (Some s) = same p
 
 -- who has ended leaves the holders
 left : (ended was : Bool) (n m : ℕ) → m ≡ n → (ended ≡ false → was ≡ false) → (if ended && true then false else (nat_lt 0 n && not was)) ≡ (nat_lt 0 m && not ended)
 left true was n m e f = grind (arith, nat_tests)
 left false was n m e f = let w : was ≡ false = f refl in grind (arith, nat_tests)
+
+-- WHO HOLDS ITSELF
+any-filter : (p q : Claim → Bool) (holds : List Claim) → list_any p (filter q holds) ≡ true → list_any p holds ≡ true
+any-filter p q [] e = e
+any-filter p q (x ∷ xs) e = either (q x) (any-filter p q xs) e
+  where
+    or-right : (a b : Bool) → b ≡ true → (a || b) ≡ true
+    or-right true b e = refl
+    or-right false b e = e
+
+    or-same : (a b c : Bool) → (b ≡ true → c ≡ true) → (a || b) ≡ true → (a || c) ≡ true
+    or-same true b c f e = refl
+    or-same false b c f e = f e
+
+    either : (b : Bool) → (list_any p (filter q xs) ≡ true → list_any p xs ≡ true) → list_any p (if b then x ∷ filter q xs else filter q xs) ≡ true → (p x || list_any p xs) ≡ true
+    either true more e = or-same (p x) (list_any p (filter q xs)) (list_any p xs) more e
+    either false more e = or-right (p x) (list_any p xs) (more e)
+
+-- who has given all back doesn't hold itself
+own-without : (g : Gxid) (holds : List Claim) → list_any (same_claim (own_lock g)) (filter (λ claim. not (is_of g claim)) holds) ≡ false
+own-without g [] = refl
+own-without g (claim ∷ holds) = by_test (is_of g claim) refl (own-without g holds)
+  where
+    another : (a b : ℕ) (c : Bool) → eqb b a ≡ false → (eqb a b && c) ≡ false
+    another a b c e = grind (arith, nat_tests)
+
+    by_test : (b : Bool) → is_of g claim ≡ b → list_any (same_claim (own_lock g)) (filter (λ claim. not (is_of g claim)) holds) ≡ false
+        → list_any (same_claim (own_lock g)) (if not b then claim ∷ filter (λ claim. not (is_of g claim)) holds else filter (λ claim. not (is_of g claim)) holds) ≡ false
+    by_test true e more = more
+    by_test false e more =
+        ap (λ (b : Bool). b || list_any (same_claim (own_lock g)) (filter (λ claim. not (is_of g claim)) holds)) (another g.0 claim.gxid.0 _ e) ∙ more
 
 module _ (tables : List Schema) (held held' : Held) (s : Seg) (g : Gxid) (change : Change) (taken : Taken) (turn : SegTurn) (was : IsHeld tables held s) (alive : s.horizon.0 ≤ g.0) (moved : HasMoved held held' g change taken) (makes : Makes s g turn change) where
   abbrev now : Seg
@@ -71,6 +115,9 @@ module _ (tables : List Schema) (held held' : Held) (s : Seg) (g : Gxid) (change
   others : (h : Gxid) → eqb h.0 g.0 ≡ false → now.locals h.0 ≡ s.locals h.0
   others h e = makes.locals h.0 ∙ ap (λ (b : Bool). if b then change.now else s.locals h.0) e
 
+  not_same : (h : Gxid) → h.0 ≢ g.0 → eqb h.0 g.0 ≡ false
+  not_same h other = grind (arith, nat_tests, other)
+
   dropped : (h : Gxid) → h.0 < s.horizon.0 → entry_at held' h ≡ None
   dropped h under = moved.entries h (below g h s.horizon under alive) ∙ was.dropped h under
 
@@ -84,14 +131,18 @@ module _ (tables : List Schema) (held held' : Held) (s : Seg) (g : Gxid) (change
       (ap (λ (o : Option LocalStatus). is_some o) moved.status ∙ still_there (status_in change.now.phase) (status_of held.store g))
   wrote-moved h false e = ap (λ (o : Option LocalStatus). is_some o) (moved.statuses h (apart g h e))
 
-  committed-moved : (h : Gxid) (b : Bool) → eqb h.0 g.0 ≡ b → passes is_committed (status_of held'.store h) ≡ (has_version s h && has_committed (now.locals h.0).phase)
-  committed-moved h true e =
-      subst (λ (x : Gxid). passes is_committed (status_of held'.store x) ≡ (is_some (status_of held.store x) && has_committed change.now.phase)) (same_gxid g h e)
-      (ap (passes is_committed) moved.status ∙ by_phase change.now.phase (status_of held.store g))
-      ∙ ap (λ (b : Bool). b && has_committed change.now.phase) (was.wrote h)
-      ∙ ap (λ (l : Local). has_version s h && has_committed l.phase) (sym (its h e))
-  committed-moved h false e =
-      ap (passes is_committed) (moved.statuses h (apart g h e)) ∙ was.committed h ∙ ap (λ (l : Local). has_version s h && has_committed l.phase) (sym (others h e))
+  -- what is told of who has written
+  passes-moved : (test : LocalStatus → Bool) (is : Phase → Bool) → ((p : Phase) → test (status_in p) ≡ is p) → ((h : Gxid) → passes test (status_of held.store h) ≡ (has_version s h && is (s.locals h.0).phase)) → (h : Gxid) (b : Bool) → eqb h.0 g.0 ≡ b → passes test (status_of held'.store h) ≡ (has_version s h && is (now.locals h.0).phase)
+  passes-moved test is same before h true e =
+      subst (λ (x : Gxid). passes test (status_of held'.store x) ≡ (is_some (status_of held.store x) && is change.now.phase)) (same_gxid g h e)
+      (ap (passes test) moved.status ∙ by_phase test is same change.now.phase (status_of held.store g))
+      ∙ ap (λ (b : Bool). b && is change.now.phase) (was.wrote h)
+      ∙ ap (λ (l : Local). has_version s h && is l.phase) (sym (its h e))
+  passes-moved test is same before h false e =
+      ap (passes test) (moved.statuses h (apart g h e)) ∙ before h ∙ ap (λ (l : Local). has_version s h && is l.phase) (sym (others h e))
+
+  has_version-moved : (h : Gxid) → has_version s h ≡ has_version now h
+  has_version-moved h = ap (λ (x : Seg). has_version x h) (sym makes.others)
 
   holders-moved : Follows (s.locals g.0) change → (h : Gxid) (b : Bool) → eqb h.0 g.0 ≡ b → contains gxid_cmp held'.holders h ≡ holds_locks (now.locals h.0)
   holders-moved follows h true e =
@@ -111,6 +162,48 @@ module _ (tables : List Schema) (held held' : Held) (s : Seg) (g : Gxid) (change
       stays true b = refl
       stays false b = refl
 
+  -- WHO HAS WRITTEN
+  came-moved : Follows (s.locals g.0) change → (h : Gxid) (b : Bool) → eqb h.0 g.0 ≡ b → has_version s h ≡ true → nat_lt 0 (now.locals h.0).last ≡ true
+  came-moved follows h true e there =
+      ap (λ (l : Local). nat_lt 0 l.last) (its h e) ∙ ap (λ (n : ℕ). nat_lt 0 n) follows.last ∙ ap (λ (x : Gxid). nat_lt 0 (s.locals x.0).last) (same_gxid g h e) ∙ was.came h there
+  came-moved follows h false e there = ap (λ (l : Local). nat_lt 0 l.last) (others h e) ∙ was.came h there
+
+  low-moved : (h : Gxid) → h.0 < s.horizon.0 → has_version s h ≡ true → has_ended (now.locals h.0).phase ≡ true
+  low-moved h under there = ap (λ (l : Local). has_ended l.phase) (others h (not_same h (below g h s.horizon under alive))) ∙ was.writers.low h under there
+
+  -- who holds itself still
+  held-before : (h : Gxid) (a : Bool) → list_any (same_claim (own_lock h)) (left_locks a s.locks g).holds ≡ true → list_any (same_claim (own_lock h)) s.locks.holds ≡ true
+  held-before h true e = any-filter (same_claim (own_lock h)) (λ claim. not (is_of g claim)) s.locks.holds e
+  held-before h false e = e
+
+  unended : Follows (s.locals g.0) change → (a : Bool) → change.ends ≡ a → list_any (same_claim (own_lock g)) (left_locks a s.locks g).holds ≡ true → has_ended (s.locals g.0).phase ≡ false → has_ended change.now.phase ≡ false
+  unended follows true e held not_ended = absurd (differ (sym (own-without g s.locks.holds) ∙ held))
+    where
+      differ : false ≡ true → ⊥
+      differ f = cc
+  unended follows false e held not_ended = follows.lasts e not_ended
+
+  own-moved : Follows (s.locals g.0) change → (h : Gxid) (b : Bool) → eqb h.0 g.0 ≡ b → list_any (same_claim (own_lock h)) (left_locks change.ends s.locks g).holds ≡ true → (has_version s h && not (has_ended (now.locals h.0).phase)) ≡ true
+  own-moved follows h false e held =
+      ap (λ (l : Local). has_version s h && not (has_ended l.phase)) (others h e) ∙ was.writers.own h (held-before h change.ends held)
+  own-moved follows h true e held =
+      ap (λ (l : Local). has_version s h && not (has_ended l.phase)) (its h e)
+      ∙ subst (λ (x : Gxid). list_any (same_claim (own_lock x)) (left_locks change.ends s.locks g).holds ≡ true → (has_version s x && not (has_ended change.now.phase)) ≡ true) (same_gxid g h e)
+      (λ its_held. it_is (has_version s g) (has_ended (s.locals g.0).phase) (has_ended change.now.phase) (was.writers.own g (held-before g change.ends its_held)) (unended follows change.ends refl its_held)) held
+    where
+      it_is : (wrote was_ended ended : Bool) → (wrote && not was_ended) ≡ true → (was_ended ≡ false → ended ≡ false) → (wrote && not ended) ≡ true
+      it_is true false ended e f = ap not (f refl)
+      it_is true true ended e f = absurd (cc)
+      it_is false was_ended ended e f = absurd (cc)
+
+  writers-moved : Follows (s.locals g.0) change → AreWriters now
+  writers-moved follows = record {
+    low = λ h under there. low-moved h (subst (λ (x : Gxid). h.0 < x.0) horizon under) (has_version-moved h ∙ there);
+    own = λ h held.
+        sym (ap (λ (b : Bool). b && not (has_ended (now.locals h.0).phase)) (has_version-moved h))
+        ∙ own-moved follows h (eqb h.0 g.0) refl (sym (ap (λ (x : Locks). list_any (same_claim (own_lock h)) x.holds) makes.locks) ∙ held);
+  }
+
   -- THOSE WHO WAIT
   own : now.locals g.0 ≡ change.now
   own = its g (itself g.0)
@@ -121,18 +214,6 @@ module _ (tables : List Schema) (held held' : Held) (s : Seg) (g : Gxid) (change
       either : (a : Bool) → wait_of (left_locks a s.locks g) h ≡ wait_of s.locks h
       either true = find-others g h s.locks.waits other
       either false = refl
-
-  -- who has ended waits for nobody
-  for-no-other : is_for_other (wait_of s.locks g) ≡ false → is_for_other (wait_of now.locks g) ≡ false
-  for-no-other e = ap (λ (x : Locks). is_for_other (wait_of x g)) makes.locks ∙ either change.ends
-    where
-      none : (o : Option Claim) → is_some o ≡ false → is_for_other o ≡ false
-      none None f = refl
-      none (Some x) f = absurd (cc)
-
-      either : (a : Bool) → is_for_other (wait_of (left_locks a s.locks g) g) ≡ false
-      either true = none (wait_of (left_locks true s.locks g) g) (sym (waits-found (is_of g) (without g s.locks.waits)) ∙ waits-without g s.locks.waits)
-      either false = e
 
   left-own : AreOwn now.locks.holds
   left-own = ap (λ (x : Locks). list_all is_own x.holds) makes.locks ∙ either change.ends
@@ -172,15 +253,13 @@ module _ (tables : List Schema) (held held' : Held) (s : Seg) (g : Gxid) (change
             came = ap (λ (l : Local). nat_lt 0 l.last) same ∙ right.came;
             reads = right.reads;
             right = right.right;
-            at_row = λ f. for-no-other (right.at_row f);
+            new = right.new;
+            room = right.room;
           }
 
   waits-moved : Follows (s.locals g.0) change → AreWaits tables now
   waits-moved follows =
       AreWaits-one tables s now g was.waits horizon (λ h other. others h (not_same h other)) left-waits (own-waits follows) (still-right follows)
-    where
-      not_same : (h : Gxid) → h.0 ≢ g.0 → eqb h.0 g.0 ≡ false
-      not_same h other = grind (arith, nat_tests, other)
 
   pub IsHeld-moved : Follows (s.locals g.0) change → (locks : Locks) → locks ≡ left_locks change.ends held'.locks g → IsHeld tables (record held' { locks = locks }) turn.seg
   IsHeld-moved follows locks left = record {
@@ -191,8 +270,11 @@ module _ (tables : List Schema) (held held' : Held) (s : Seg) (g : Gxid) (change
     holders = λ h. holders-moved follows h (eqb h.0 g.0) refl;
     writes = λ table rid.
         ap (λ ts. kept_at ts table rid) moved.tables ∙ was.writes table rid ∙ ap (λ (vs : List Version). map write_of (filter (is_of_row table rid) vs)) (sym versions);
-    wrote = λ h. wrote-moved h (eqb h.0 g.0) refl ∙ was.wrote h ∙ ap (λ (x : Seg). has_version x h) (sym makes.others);
-    committed = λ h. committed-moved h (eqb h.0 g.0) refl ∙ ap (λ (b : Bool). b && has_committed (now.locals h.0).phase) (ap (λ (x : Seg). has_version x h) (sym makes.others));
+    wrote = λ h. wrote-moved h (eqb h.0 g.0) refl ∙ was.wrote h ∙ has_version-moved h;
+    committed = λ h. passes-moved is_committed has_committed in_phase was.committed h (eqb h.0 g.0) refl ∙ ap (λ (b : Bool). b && has_committed (now.locals h.0).phase) (has_version-moved h);
+    unaborted = λ h. passes-moved is_unaborted rule.is_unaborted unaborted_phase was.unaborted h (eqb h.0 g.0) refl ∙ ap (λ (b : Bool). b && rule.is_unaborted (now.locals h.0).phase) (has_version-moved h);
+    came = λ h there. came-moved follows h (eqb h.0 g.0) refl (has_version-moved h ∙ there);
+    writers = writers-moved follows;
     typed = subst (λ (vs : List Version). All (λ v. IsTrue (is_right_version tables v)) vs) (sym versions) was.typed;
     locks = left ∙ ap (λ (x : Locks). left_locks change.ends x g) (moved.locks ∙ was.locks) ∙ sym makes.locks;
     owned = left-own;

@@ -1,5 +1,5 @@
 -- A segment whose horizon has risen.
-use Rattle.std.proofs.Common.{◌≡◌, ◌≤◌, ◌<◌, ℕ, Bool, true, false, None, List, refl, sym, ap, ◌∙◌, subst, arith}
+use Rattle.std.proofs.Common.{◌≡◌, ◌≤◌, ◌<◌, ℕ, Bool, true, false, if◌then◌else◌, None, List, refl, sym, ap, ◌∙◌, subst, arith}
 use Rattle.std.proofs.lemmas.Bool.Decides.{nat_tests}
 use Rattle.std.specs.BTreeMap.{get}
 use Rattle.std.specs.BTreeSet.{contains}
@@ -8,15 +8,17 @@ use Rattle.gx_ids.specs.declared.ids.Gxid.{Gxid}
 use Rattle.gx_tree.specs.declared.schema.Schema.{Schema}
 use Rattle.gx_dsnap.specs.Gxids.{gxid_cmp}
 use Rattle.gx_rows.specs.Counts.{is_committed}
+use Rattle.gx_rows.specs.Rows.{is_unaborted}
 use Rattle.gx_rules.specs.AtSegment.{raised}
 use Rattle.gx_rules.specs.Fits.{holds_locks}
 use Rattle.gx_rules.specs.Maps.{each_below}
+use Rattle.gx_rules.specs.Segments as rule
 use Rattle.gx_rules.specs.Segments.{Phase, Reading, Writing, Prepared, Committed, Forgotten, Aborted, Seg, has_committed, has_ended, local_of}
-use Rattle.gx_slices.specs.Agrees.{IsHeld, has_version, is_of_row, local_in, rows_in, write_of}
+use Rattle.gx_slices.specs.Agrees.{AreWriters, IsHeld, has_version, is_of_row, local_in, rows_in, write_of}
 use Rattle.gx_slices.specs.Store.{Store, greater, passes, status_of, writes_of}
 use Rattle.gx_slices.specs.Waiting.{AreWaits, is_open}
 use Rattle.gx_slices.specs.declared.held.Held.{Held}
-use Rattle.gx_segment.proofs.Below.{each_below-none}
+use Rattle.gx_segment.proofs.Below.{each_below-none, each_below-one}
 use Rattle.gx_segment.proofs.Keeping.{raised-rises}
 
 open-holds : (p : Phase) (last : ℕ) → is_open p ≡ true → nat_lt 0 last ≡ true → not (nat_lt 0 last && not (has_ended p)) ≡ false
@@ -47,11 +49,29 @@ module _ (tables : List Schema) (s : Seg) (h : Gxid) (was : AreWaits tables s) (
     standing = was.standing;
     right = λ g w e.
         let is = was.right g w e in
-        record { alive = alive-raised g is.alive (above g (open-holds (local_of s g).phase (local_of s g).last is.open_here is.came)); open_here = is.open_here; came = is.came; reads = is.reads; right = is.right; at_row = is.at_row };
+        record { alive = alive-raised g is.alive (above g (open-holds (local_of s g).phase (local_of s g).last is.open_here is.came)); open_here = is.open_here; came = is.came; reads = is.reads; right = is.right; new = is.new; room = is.room };
   }
 
+-- who has written and is below it has ended
+module _ (s : Seg) (h : Gxid) (was : AreWriters s) (came : (g : Gxid) → has_version s g ≡ true → nat_lt 0 (local_of s g).last ≡ true) (nobody : each_below h.0 (λ n. not (holds_locks (s.locals n))) ≡ true) where
+  has-ended : (last ended : Bool) → last ≡ true → not (last && not ended) ≡ true → ended ≡ true
+  has-ended true true e f = refl
+  has-ended true false e f = absurd (cc)
+  has-ended false ended e f = absurd (cc)
+
+  under : (g : Gxid) → g.0 < h.0 → has_version s g ≡ true → has_ended (local_of s g).phase ≡ true
+  under g low wrote =
+      has-ended (nat_lt 0 (local_of s g).last) (has_ended (local_of s g).phase) (came g wrote) (each_below-one h.0 g.0 (λ n. not (holds_locks (s.locals n))) low nobody)
+
+  by-horizon : (g : Gxid) (b : Bool) → is_below h s.horizon ≡ b → g.0 < (if b then h else s.horizon).0 → has_version s g ≡ true → has_ended (local_of s g).phase ≡ true
+  by-horizon g true e low wrote = under g low wrote
+  by-horizon g false e low wrote = was.low g low wrote
+
+  pub AreWriters-raised : AreWriters (raised s h)
+  AreWriters-raised = record { low = λ g low wrote. by-horizon g (is_below h s.horizon) refl low wrote; own = was.own }
+
 -- what is held then, from what was done
-module _ (tables : List Schema) (held held' : Held) (s : Seg) (h : Gxid) (was : IsHeld tables held s) (waits : AreWaits tables (raised s h)) (store : held'.store ≡ record held.store { horizon = greater held.store.horizon h }) (horizon' : Gxid) (risen : horizon' ≡ greater s.horizon h) where
+module _ (tables : List Schema) (held held' : Held) (s : Seg) (h : Gxid) (was : IsHeld tables held s) (waits : AreWaits tables (raised s h)) (writers : AreWriters (raised s h)) (store : held'.store ≡ record held.store { horizon = greater held.store.horizon h }) (horizon' : Gxid) (risen : horizon' ≡ greater s.horizon h) where
   same : horizon' ≡ (raised s h).horizon
   same = risen
 
@@ -74,6 +94,9 @@ module _ (tables : List Schema) (held held' : Held) (s : Seg) (h : Gxid) (was : 
     writes = λ table rid. of_store (λ x. writes_of x table rid ≡ map write_of (filter (is_of_row table rid) s.versions)) (was.writes table rid);
     wrote = λ g. of_store (λ x. is_some (status_of x g) ≡ has_version s g) (was.wrote g);
     committed = λ g. of_store (λ x. passes is_committed (status_of x g) ≡ (has_version s g && has_committed (local_of s g).phase)) (was.committed g);
+    unaborted = λ g. of_store (λ x. passes is_unaborted (status_of x g) ≡ (has_version s g && rule.is_unaborted (local_of s g).phase)) (was.unaborted g);
+    came = was.came;
+    writers = writers;
     typed = was.typed;
     locks = locks ∙ was.locks;
     owned = was.owned;

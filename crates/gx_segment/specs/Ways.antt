@@ -10,6 +10,7 @@ use Rattle.gx_rules.specs.Maps.{each_below}
 use Rattle.gx_rules.specs.Segments.{Local, Phase, Reading, Writing, Prepared, Committed, Seg, SegTurn, local_of, stays, tells_kept}
 use Rattle.gx_rules.specs.Running.{starts_slice}
 use Rattle.gx_node.specs.declared.local.Suspended.{Suspended}
+use Rattle.gx_slices.specs.Agrees.{AreWriters}
 use Rattle.gx_slices.specs.Ran.{MayRun}
 use Rattle.gx_slices.specs.Waiting.{AreWaits}
 use Rattle.gx_segment.specs.declared.commands.Way.{Way}
@@ -50,11 +51,11 @@ turn_by Runs script s g w h = starts script (raised s h) g w
 turn_by Repeats script s g w h = tells_kept s g (local_of s g).answer
 turn_by Nothing script s g w h = stays s
 
--- a new command, whose transaction waits for nothing
+-- a new command, whose transaction waits for nothing; who has written and is below the horizon has ended
 pub record MayStart (tables : List Schema) (s : Seg) (g : Gxid) (w : Suspended) : Type 0 where
   pub may : MayRun tables s g w.cid w.snapshot w.slice
-  pub new : nat_lt 0 w.cid.0 ≡ true
   pub waits : AreWaits tables s
+  pub writers : AreWriters s
 
 -- what holds besides where it goes that way
 abbrev pub Goes : Script → Seg → Gxid → Suspended → Gxid → Way → Type 0

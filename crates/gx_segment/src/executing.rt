@@ -5,6 +5,8 @@ ghost use Rattle.gx_ids.specs.declared.ids.Gxid.{Gxid};
 ghost use Rattle.gx_dsnap.specs.Gxids.{gxid_cmp};
 ghost use Rattle.gx_slices.specs.Store.{greater};
 ghost use Rattle.gx_rules.specs.AtSegment.{raised};
+ghost use Rattle.gx_node.specs.Phases.{suspended_of};
+ghost use Rattle.gx_rules.specs.Running.{suspended_slice};
 ghost use Rattle.gx_rules.specs.Segments.{local_of, tells_kept};
 ghost use Rattle.gx_slices.specs.Agrees.{IsHeld};
 ghost use Rattle.gx_segment.specs.Before.{Before};
@@ -40,6 +42,7 @@ pub(crate) fn exec<G: Gate>(
     requires script { script.now ≡ was.script }
     requires held { IsHeld was.script.tables held.old was.seg }
     requires horizon { horizon.old ≡ was.seg.horizon }
+    requires fresh { suspended_of command ≡ suspended_slice command.cid command.level command.snapshot command.slice }
     requires node { node ≡ was.seg.node }
     ensures done { IfOk result (λ done. HasDone was.script.tables held.new horizon.new done (exec_turn was.script was.seg gxid command low)) }
     ensures quiet { IfOk result (λ done. IsQuiet done (exec_turn was.script was.seg gxid command low)) }
@@ -92,6 +95,7 @@ fn run<G: Gate>(
     requires held { IsHeld was.script.tables held.old was.seg }
     requires horizon { horizon.old ≡ was.seg.horizon }
     requires may { MayStart was.script.tables (raised was.seg low) gxid command }
+    requires fresh { suspended_of command ≡ suspended_slice command.cid command.level command.snapshot command.slice }
     requires node { node ≡ was.seg.node }
     ensures done { IfOk result (λ done. HasDone was.script.tables held.new horizon.new done (starts was.script (raised was.seg low) gxid command)) }
     ensures quiet { IfOk result (λ done. IsQuiet done (starts was.script (raised was.seg low) gxid command)) }

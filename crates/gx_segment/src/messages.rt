@@ -13,7 +13,7 @@ use crate::executing::exec;
 use crate::ordering::take;
 use crate::starting::resume;
 use gx_dtx::order::Order;
-use gx_ids::{Gxid, Mem, Node};
+use gx_ids::{Gxid, Mem, Node, Seq};
 use gx_msg::Message;
 use gx_node::Suspended;
 use gx_outside::{Gate, Journal};
@@ -94,6 +94,9 @@ fn take_message<J: Journal, G: Gate>(
                 level,
                 snapshot,
                 slice,
+                count: 0,
+                row: None,
+                rows: Seq::new(alloc),
             };
             exec(alloc, node, script, held, horizon, gxid, command, low, gate)
         }

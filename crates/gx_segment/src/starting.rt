@@ -1,12 +1,13 @@
-// A slice takes its table's lock and runs, or waits for it; and one that has waited goes on.
-ghost use Rattle.std.specs.Prelude.{◌≡◌, ◌++◌, true, false, nat_lt, None, Some, IfOk};
+// A slice takes its table's lock and runs, or waits for it; and one that has waited, there or at a row, goes on.
+ghost use Rattle.std.specs.Prelude.{◌≡◌, true, false, None, IfOk};
 ghost use Rattle.gx_locks.specs.Locks.{is_ready, wait_of};
 ghost use Rattle.gx_rules.specs.AtSegment.{resumes};
-ghost use Rattle.gx_rules.specs.Segments.{after_marks, local_of};
-ghost use Rattle.gx_rules.specs.Running.{requests, runs_slice, slice_lock};
+ghost use Rattle.gx_rules.specs.Segments.{local_of};
+ghost use Rattle.gx_node.specs.Phases.{suspended_of};
+ghost use Rattle.gx_rules.specs.Running.{goes_on, requests, slice_lock, suspended_slice};
 ghost use Rattle.gx_slices.specs.Agrees.{IsHeld};
-ghost use Rattle.gx_slices.specs.Owning.{is_own};
-ghost use Rattle.gx_slices.specs.Ran.{MayRun};
+ghost use Rattle.gx_slices.specs.Owning.{is_on_transaction};
+ghost use Rattle.gx_slices.specs.Ran.{MayGoOn, MayRun};
 ghost use Rattle.gx_segment.specs.Before.{Before};
 ghost use Rattle.gx_segment.specs.Done.{HasDone, IsQuiet, answer_of};
 ghost use Rattle.gx_segment.specs.Ways.{starts};
@@ -14,10 +15,10 @@ ghost use Rattle.gx_segment.specs.Ways.{starts};
 use crate::done::{Done, answer};
 use gx_ids::{Gxid, Mem, Node, Seq};
 use gx_modes::Mode;
-use gx_node::{Suspended, ask_for, changing_mode, claim_on, take_ready};
+use gx_node::{Suspended, ask_for, changing_mode, claim_on, take_granted};
 use gx_outside::{Gate, pass};
 use gx_script::Script;
-use gx_slices::{Held, Ran, run_slice, suspend, wake};
+use gx_slices::{Held, Progress, go_on, suspend, wake};
 use gx_store::Mark;
 use gx_tree::Slice;
 use gx_waits::Claim;
@@ -27,7 +28,7 @@ use std::alloc::Global;
 fn lock_of(script: &Script, gxid: Gxid, slice: &Slice) -> Claim
     ensures value { result ≡ slice_lock script.now gxid slice.now }
     ensures own { result.gxid ≡ gxid }
-    ensures no_other { is_own result ≡ true }
+    ensures on_table { is_on_transaction result.object ≡ false }
 {
     match slice {
         Slice::Select(query) => claim_on(gxid, query.table, Mode::AccessShare),
@@ -52,7 +53,7 @@ pub(crate) fn start<G: Gate>(
     requires script { script.now ≡ was.script }
     requires held { IsHeld was.script.tables held.old was.seg }
     requires may { MayRun was.script.tables was.seg gxid command.cid command.snapshot command.slice }
-    requires new { nat_lt 0 command.cid.0 ≡ true }
+    requires fresh { suspended_of command ≡ suspended_slice command.cid command.level command.snapshot command.slice }
     requires node { node ≡ was.seg.node }
     ensures done { IfOk result (λ done. HasDone was.script.tables held.new was.seg.horizon done (starts was.script was.seg gxid command)) }
     ensures quiet { IfOk result (λ done. IsQuiet done (starts was.script was.seg gxid command)) }
@@ -76,16 +77,16 @@ fn request<G: Gate>(
     requires script { script.now ≡ was.script }
     requires held { IsHeld was.script.tables held.old was.seg }
     requires may { MayRun was.script.tables was.seg gxid command.cid command.snapshot command.slice }
-    requires new { nat_lt 0 command.cid.0 ≡ true }
+    requires fresh { suspended_of command ≡ suspended_slice command.cid command.level command.snapshot command.slice }
     requires own { wanted.gxid ≡ gxid }
-    requires no_other { is_own wanted ≡ true }
+    requires on_table { is_on_transaction wanted.object ≡ false }
     requires node { node ≡ was.seg.node }
     ensures done { IfOk result (λ done. HasDone was.script.tables held.new was.seg.horizon done (requests was.seg gxid command.cid command.level command.snapshot command.slice wanted)) }
     ensures quiet { IfOk result (λ done. IsQuiet done (requests was.seg gxid command.cid command.level command.snapshot command.slice wanted)) }
 {
     let mut marks = Vec::new(alloc);
     if ask_for(node, &mut held.locks, wanted, &mut marks)? {
-        let done = go_on(alloc, node, script, held, gxid, command, gate, marks)?;
+        let done = proceed(alloc, node, script, held, gxid, command, gate, marks)?;
         Ok(done)
     } else {
         suspend(alloc, held, gxid, command)?;
@@ -103,8 +104,8 @@ fn waits(marks: Vec<Mark>) -> Done
     }
 }
 
-// It runs, behind the marks so far.
-fn go_on<G: Gate>(
+// It goes on, behind the marks so far.
+fn proceed<G: Gate>(
     alloc: Global,
     node: Node,
     script: &Script,
@@ -117,32 +118,29 @@ fn go_on<G: Gate>(
     ghost was: { Before }
     requires script { script.now ≡ was.script }
     requires held { IsHeld was.script.tables held.old was.seg }
-    requires may { MayRun was.script.tables was.seg gxid command.cid command.snapshot command.slice }
+    requires may { MayGoOn was.script.tables was.seg gxid (suspended_of command) }
     requires node { node ≡ was.seg.node }
     ensures done { IfOk result (λ done. HasDone was.script.tables held.new was.seg.horizon done
-        (after_marks marks.items (runs_slice was.seg gxid command.cid command.level command.snapshot command.slice))) }
-    ensures quiet { IfOk result (λ done. IsQuiet done (after_marks marks.items (runs_slice was.seg gxid command.cid command.level command.snapshot command.slice))) }
+        (goes_on (record { seg = was.seg; marks = marks.items }) gxid (suspended_of command) command.row)) }
+    ensures quiet { IfOk result (λ done. IsQuiet done (goes_on (record { seg = was.seg; marks = marks.items }) gxid (suspended_of command) command.row)) }
 {
     let passed = pass(gate, node);
     let tables = script.tables.as_slice();
-    let ran = run_slice(alloc, tables, passed, held, gxid, command)?;
-    let done = done_of(gxid, marks, ran)?;
-    Ok(done)
+    let progress = go_on(alloc, tables, passed, held, gxid, command, marks)?;
+    Ok(done_of(gxid, progress))
 }
 
-fn done_of(gxid: Gxid, mut marks: Vec<Mark>, ran: Ran) -> Mem<Done>
-    ensures { IfOk result (λ done. done ≡ record { marks = marks.items ++ ran.marks; answer = answer_of gxid (Some ran.reply); fails = false }) }
+fn done_of(gxid: Gxid, progress: Progress) -> Done
+    ensures { result ≡ record { marks = progress.marks; answer = answer_of gxid progress.reply; fails = false } }
 {
-    let mut more = ran.marks.into_vec();
-    marks.append(&mut more)?;
-    Ok(Done {
-        marks: Seq::from_vec(marks),
-        answer: answer(gxid, Some(ran.reply)),
+    Done {
+        marks: progress.marks,
+        answer: answer(gxid, progress.reply),
         fails: false,
-    })
+    }
 }
 
-// A slice whose lock is free takes it and goes on.
+// A slice that gets what it has waited for goes on.
 pub(crate) fn resume<G: Gate>(
     alloc: Global,
     node: Node,
@@ -161,10 +159,10 @@ pub(crate) fn resume<G: Gate>(
 {
     let mut marks = Vec::new(alloc);
     let waiting = wake(alloc, held, gxid)?;
-    take_ready(node, &mut held.locks, gxid, &mut marks)?;
+    take_granted(node, &mut held.locks, gxid, &mut marks)?;
     match waiting {
         Some(command) => {
-            let done = go_on(alloc, node, script, held, gxid, command, gate, marks)?;
+            let done = proceed(alloc, node, script, held, gxid, command, gate, marks)?;
             Ok(done)
         }
         None => unreachable!(),

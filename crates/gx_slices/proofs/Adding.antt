@@ -1,20 +1,22 @@
 -- A row is written.
-use Rattle.std.proofs.Common.{◌≡◌, ◌≢◌, Bool, true, false, if◌then◌else◌, eqb, ◌&&◌, ◌||◌, List, [], ◌∷◌, ◌++◌, Option, Some, None, map, filter, append-nil, refl, sym, ap, ◌∙◌, subst}
+use Rattle.std.proofs.Common.{◌≡◌, ◌≢◌, Bool, true, false, if◌then◌else◌, eqb, not, ◌&&◌, ◌||◌, List, [], ◌∷◌, ◌++◌, Option, Some, None, map, filter, append-nil, refl, sym, ap, ◌∙◌, subst}
 use Rattle.std.proofs.lemmas.List.{map-append}
 use Rattle.std.proofs.lemmas.List.Elements.{filter-append}
 use Rattle.std.proofs.lemmas.List.Folds.{list_any-append}
 use Rattle.std.proofs.lemmas.List.Sums.{fold-append}
 use Rattle.std.specs.List.{list_any}
-use Rattle.std.specs.Prelude.{find, is_some, unwrap_or}
+use Rattle.std.specs.Prelude.{◌<◌, find, is_some, unwrap_or}
 use Rattle.gx_ids.specs.declared.ids.Cid.{Cid}
 use Rattle.gx_ids.specs.declared.ids.Gxid.{Gxid}
 use Rattle.gx_ids.specs.declared.ids.Node.{Node}
 use Rattle.gx_ids.specs.declared.ids.Table.{Table}
 use Rattle.gx_ids.specs.declared.rid.Rid.{Rid}
 use Rattle.gx_tree.specs.declared.value.Value.{Value}
+use Rattle.gx_waits.specs.Claim.{same_claim}
 use Rattle.gx_locks.specs.Claims.{is_of}
 use Rattle.gx_msg.specs.declared.item.Kept.{Kept}
 use Rattle.gx_rows.specs.Counts.{is_committed}
+use Rattle.gx_rows.specs.Rows.{is_unaborted}
 use Rattle.gx_rows.specs.declared.status.LocalStatus.{LocalStatus}
 use Rattle.gx_rows.specs.declared.status.LocalStatus.TheVariants.{Running}
 use Rattle.gx_slices.specs.Store.{Write, passes, status_of, writes_of}
@@ -24,9 +26,9 @@ use Rattle.gx_store.specs.declared.mark.Mark.{Mark}
 use Rattle.gx_store.specs.declared.mark.Mark.TheVariants as mark
 use Rattle.gx_rules.specs.Fits.{is_waiting}
 use Rattle.gx_rules.specs.Segments as rule
-use Rattle.gx_rules.specs.Segments.{Phase, Reading, Writing, Prepared, Committed, Forgotten, Aborted, Seg, Version, has_committed}
+use Rattle.gx_rules.specs.Segments.{Phase, Reading, Writing, Prepared, Committed, Forgotten, Aborted, Seg, Version, has_committed, has_ended}
 use Rattle.gx_rules.specs.Shown.{kept_of, kept_one, last_images}
-use Rattle.gx_rules.specs.Slices.{Moved, adds_version, version, writes_row}
+use Rattle.gx_rules.specs.Slices.{Moved, adds_version, own_lock, version, writes_row}
 use Rattle.gx_slices.specs.Agrees.{has_version, is_of_row, write_of}
 use Rattle.gx_slices.specs.Apart.{IsApart}
 use Rattle.gx_slices.specs.Inserts.{IsPut}
@@ -34,7 +36,9 @@ use Rattle.gx_slices.specs.Owning.{own_locks, own_marks}
 use Rattle.gx_slices.specs.Waiting.{is_open}
 use Rattle.gx_slices.specs.declared.held.Entry.{Entry}
 use Rattle.gx_slices.specs.declared.held.Held.{Held}
+use Rattle.gx_slices.proofs.Closing.{below_other}
 use Rattle.gx_slices.proofs.Gxids.{apart, differ, itself, other_row, other_table, row_itself, same_gxid, same_row, same_table, turned}
+use Rattle.gx_slices.proofs.OwnMoves.{any-own_locks}
 use Rattle.gx_slices.proofs.Owning.{AreOwn-own_locks, takes_own-with, waits-own_locks}
 
 -- TESTS
@@ -57,6 +61,19 @@ or_false false = refl
 and_false : (a : Bool) → (a && false) ≡ false
 and_false true = refl
 and_false false = refl
+
+-- who hasn't aborted before hasn't after
+unaborted-running : (o : Option LocalStatus) (there : Bool) → is_some o ≡ there → passes is_unaborted o ≡ (there && true) → passes is_unaborted (Some (unwrap_or o Running)) ≡ true
+unaborted-running None there e f = refl
+unaborted-running (Some st) there e f = f ∙ sym (ap (λ (b : Bool). b && true) e)
+
+open_unaborted : (p : Phase) → is_open p ≡ true → rule.is_unaborted p ≡ true
+open_unaborted Reading e = refl
+open_unaborted Writing e = refl
+open_unaborted Prepared e = absurd (cc)
+open_unaborted Committed e = absurd (cc)
+open_unaborted (Forgotten c) e = absurd (cc)
+open_unaborted Aborted e = absurd (cc)
 
 passes_running : (o : Option LocalStatus) → passes is_committed (Some (unwrap_or o Running)) ≡ passes is_committed o
 passes_running None = refl
@@ -114,6 +131,35 @@ module _ (start : Seg) (first held held' : Held) (g : Gxid) (c : Cid) (node : No
       ∙ is.stored.committed h
       ∙ ap (λ (b : Bool). b && has_committed (rule.local_of s h).phase) (sym (has_version-other h e))
       ∙ ap (λ (l : rule.Local). has_version s' h && has_committed l.phase) (sym (local_other h e))
+
+  unaborted_itself : passes is_unaborted (status_of held'.store g) ≡ (has_version s' g && rule.is_unaborted (rule.local_of s' g).phase)
+  unaborted_itself =
+      ap (passes is_unaborted) put.status
+      ∙ unaborted-running (status_of held.store g) (has_version s g) (is.stored.wrote g) (is.stored.unaborted g ∙ ap (λ (b : Bool). has_version s g && b) (open_unaborted (rule.local_of s g).phase is.open_here))
+      ∙ sym (ap (λ (b : Bool). b && rule.is_unaborted (rule.local_of s' g).phase) has_version-itself ∙ ap (λ (l : rule.Local). rule.is_unaborted l.phase) local_itself)
+
+  unaborted : (h : Gxid) (b : Bool) → eqb h.0 g.0 ≡ b → passes is_unaborted (status_of held'.store h) ≡ (has_version s' h && rule.is_unaborted (rule.local_of s' h).phase)
+  unaborted h true e = subst (λ (k : Gxid). passes is_unaborted (status_of held'.store k) ≡ (has_version s' k && rule.is_unaborted (rule.local_of s' k).phase)) (same_gxid g h e) unaborted_itself
+  unaborted h false e =
+      ap (passes is_unaborted) (put.others h (differ h.0 g.0 e))
+      ∙ is.stored.unaborted h
+      ∙ ap (λ (b : Bool). b && rule.is_unaborted (rule.local_of s h).phase) (sym (has_version-other h e))
+      ∙ ap (λ (l : rule.Local). has_version s' h && rule.is_unaborted l.phase) (sym (local_other h e))
+
+  -- who holds itself
+  low : (h : Gxid) → h.0 < s'.horizon.0 → has_version s' h ≡ true → has_ended (rule.local_of s' h).phase ≡ true
+  low h under there =
+      let e = apart h.0 g.0 (below_other h.0 g.0 s.horizon.0 under is.alive) in
+      ap (λ (l : rule.Local). has_ended l.phase) (local_other h e) ∙ is.writers.low h under (sym (has_version-other h e) ∙ there)
+
+  own : (h : Gxid) (b : Bool) → eqb h.0 g.0 ≡ b → list_any (same_claim (own_lock h)) s'.locks.holds ≡ true → (has_version s' h && not (has_ended (rule.local_of s' h).phase)) ≡ true
+  own h true e holds =
+      subst (λ (k : Gxid). (has_version s' k && not (has_ended (rule.local_of s' k).phase)) ≡ true) (same_gxid g h e)
+      (ap (λ (b : Bool). b && not (has_ended (rule.local_of s' g).phase)) has_version-itself ∙ ap (λ (l : rule.Local). not (has_ended l.phase)) local_itself)
+  own h false e holds =
+      ap (λ (b : Bool). b && not (has_ended (rule.local_of s' h).phase)) (has_version-other h e)
+      ∙ ap (λ (l : rule.Local). has_version s h && not (has_ended l.phase)) (local_other h e)
+      ∙ is.writers.own h (sym (any-own_locks h g was s.locks e) ∙ holds)
 
   -- what stands at a row
   writes_split : (t : Table) (r : Rid) → map write_of (filter (is_of_row t r) s'.versions) ≡ map write_of (filter (is_of_row t r) s.versions) ++ map write_of (filter (is_of_row t r) (v ∷ []))
@@ -178,6 +224,7 @@ module _ (start : Seg) (first held held' : Held) (g : Gxid) (c : Cid) (node : No
       writes = λ t r. writes t r (eqb table.0 t.0) refl (is_same_rid rid r) refl;
       wrote = λ h. wrote h (eqb h.0 g.0) refl;
       committed = λ h. committed h (eqb h.0 g.0) refl;
+      unaborted = λ h. unaborted h (eqb h.0 g.0) refl;
     };
     locks = same_locks;
     entries = put.entries ∙ is.entries;
@@ -188,10 +235,13 @@ module _ (start : Seg) (first held held' : Held) (g : Gxid) (c : Cid) (node : No
     node = is.node;
     horizon = is.horizon;
     owned = AreOwn-own_locks g was s.locks is.owned;
+    alive = is.alive;
+    writers = record { low = low; own = λ h holds. own h (eqb h.0 g.0) refl holds };
     waiting = ap is_waiting local_itself ∙ is.waiting;
     other_waits = λ h other. ap (find (is_of h)) (waits-own_locks g was s.locks) ∙ is.other_waits h other;
     other_locals = λ h other. local_other h (apart h.0 g.0 other) ∙ is.other_locals h other;
     other_rows = λ h other. kept_other h other ∙ is.other_rows h other;
+    other_versions = λ h other. has_version-other h (apart h.0 g.0 other) ∙ is.other_versions h other;
   }
 
   abbrev marked : Moved

@@ -26,7 +26,7 @@ use Rattle.gx_slices.specs.Store.{Store, passes, status_of}
 use Rattle.gx_slices.specs.Waiting.{is_open}
 use Rattle.gx_slices.proofs.Counting.{all_there}
 use Rattle.gx_slices.proofs.Gxids.{same_gxid}
-use Rattle.gx_slices.proofs.Lists.{and_parts, last_passing-cons}
+use Rattle.gx_slices.proofs.Lists.{all_map, and_parts, last_passing-cons}
 
 -- WHAT IS CURRENT
 same_some : {X : Type 0} {a b : X} → Some a ≡ Some b → a ≡ b
@@ -38,19 +38,15 @@ once P x y None false first more e = absurd (cc)
 once P x y (Some z) b first more e = more e
 
 -- the last that passes is one of them, and passes
-found-last_passing : {X : Type 0} (P : X → Type 0) (p : X → Bool) (xs : List X) → AllByRecursion (λ x. p x ≡ true → P x) xs → (x : X) → last_passing p xs ≡ Some x → P x
+pub found-last_passing : {X : Type 0} (P : X → Type 0) (p : X → Bool) (xs : List X) → AllByRecursion (λ x. p x ≡ true → P x) xs → (x : X) → last_passing p xs ≡ Some x → P x
 found-last_passing P p [] all x e = absurd (cc)
 found-last_passing P p (y ∷ ys) all x e = once P x y (last_passing p ys) (p y) all.0 (found-last_passing P p ys all.1 x) (sym (last_passing-cons p y ys) ∙ e)
-
-each : {X : Type 0} {P Q : X → Type 0} → ((x : X) → P x → Q x) → (xs : List X) → AllByRecursion P xs → AllByRecursion Q xs
-each f [] all = tt
-each f (x ∷ xs) all = (f x all.0, each f xs all.1)
 
 module _ (s : Seg) (table : Table) (rid : Rid) (v : Version) (current : current_of s table rid ≡ Some v) where
   pub has-current : (has_version s v.gxid ≡ true) × (is_current s table rid v ≡ true)
   has-current =
       found-last_passing (λ (u : Version). (has_version s u.gxid ≡ true) × (is_current s table rid u ≡ true)) (is_current s table rid) s.versions
-      (each (λ (u : Version) there is. (there, is)) s.versions (all_there s.versions)) v current
+      (all_map {Q = λ (u : Version). is_current s table rid u ≡ true → (has_version s u.gxid ≡ true) × (is_current s table rid u ≡ true)} (λ u there is. (there, is)) s.versions (all_there s.versions)) v current
 
   pub unaborted-current : rule.is_unaborted (local_of s v.gxid).phase ≡ true
   unaborted-current = (and_parts _ _ (and_parts _ _ has-current.1).1).1

@@ -16,20 +16,20 @@ use Rattle.gx_slices.specs.Store.{Store}
 use Rattle.gx_node.specs.Phases.{local_of}
 use Rattle.gx_rules.specs.Fits.{holds_locks, is_waiting}
 use Rattle.gx_rules.specs.Segments as rule
-use Rattle.gx_rules.specs.Segments.{Phase, Reading, Writing, Prepared, Committed, Forgotten, Aborted, Seg, has_committed, has_ended, with_local}
+use Rattle.gx_rules.specs.Segments.{Phase, Reading, Writing, Prepared, Committed, Forgotten, Aborted, Seg, Suspended, has_committed, has_ended, with_local}
 use Rattle.gx_rules.specs.Shown.{kept_of}
-use Rattle.gx_slices.specs.Agrees.{IsHeld, entry_at, has_version, is_right_version, local_in, rows_in}
+use Rattle.gx_slices.specs.Agrees.{AreWriters, IsHeld, entry_at, has_version, is_right_version, local_in, rows_in}
 use Rattle.gx_slices.specs.Apart.{IsApart, IsBack, IsStored, answered}
 use Rattle.gx_slices.specs.Owning.{AreOwn}
-use Rattle.gx_slices.specs.Waiting.{AreWaits, is_open}
+use Rattle.gx_slices.specs.Waiting.{AreWaits, IsRightWait, is_open}
 use Rattle.gx_slices.specs.declared.held.Entry.{Entry}
 use Rattle.gx_slices.specs.declared.held.Held.{Held}
 use Rattle.gx_slices.proofs.Gxids.{apart, differ, itself, same_gxid}
-use Rattle.gx_slices.proofs.Waiting.{AreWaits-free}
+use Rattle.gx_slices.proofs.Waiting.{AreWaits-one, never}
 
 -- TAKEN OUT
 pub IsStored-held : (tables : List Schema) (held : Held) (s : Seg) → IsHeld tables held s → IsStored held.store s
-IsStored-held tables held s is = record { horizon = is.horizon; writes = is.writes; wrote = is.wrote; committed = is.committed }
+IsStored-held tables held s is = record { horizon = is.horizon; writes = is.writes; wrote = is.wrote; committed = is.committed; unaborted = is.unaborted }
 
 pub IsApart-taken : (tables : List Schema) (held : Held) (entries : BTreeMap Gxid Entry) (s : Seg) (g : Gxid) (entry : Entry) → IsHeld tables held s → s.horizon.0 ≤ g.0 → is_open (rule.local_of s g).phase ≡ true → local_of entry.local ≡ local_in (entry_at held g) → entry.kept ≡ rows_in (entry_at held g) → IsApart s (record held { entries = entries }) (record held { entries = entries }) entry g s
 IsApart-taken tables held entries s g entry is alive open_here local kept = record {
@@ -43,10 +43,13 @@ IsApart-taken tables held entries s g entry is alive open_here local kept = reco
   node = refl;
   horizon = refl;
   owned = is.owned;
+  alive = alive;
+  writers = is.writers;
   waiting = refl;
   other_waits = λ h other. refl;
   other_locals = λ h other. refl;
   other_rows = λ h other. refl;
+  other_versions = λ h other. refl;
 }
 
 -- who waits for nothing has no wait
@@ -62,7 +65,7 @@ open_not_ended Committed e = absurd (cc)
 open_not_ended (Forgotten c) e = absurd (cc)
 open_not_ended Aborted e = absurd (cc)
 
-below_other : (n m k : ℕ) → n < k → k ≤ m → n ≢ m
+pub below_other : (n m k : ℕ) → n < k → k ≤ m → n ≢ m
 below_other n m k under alive = λ same. omega (arith, under, alive, same)
 
 and_true : (b : Bool) → (b && true) ≡ b
@@ -77,7 +80,7 @@ pub record IsNow (old new : Held) (g : Gxid) (local : rule.Local) (rows : List K
   pub holds : contains gxid_cmp new.holders g ≡ holds_locks local
   pub holders : (h : Gxid) → h.0 ≢ g.0 → contains gxid_cmp new.holders h ≡ contains gxid_cmp old.holders h
 
-module _ (tables : List Schema) (old new : Held) (before s : Seg) (g : Gxid) (local : rule.Local) (locks : Locks) (was : IsHeld tables old before) (alive : before.horizon.0 ≤ g.0) (stored : IsStored new.store s) (horizon : s.horizon ≡ before.horizon) (other_locals : (h : Gxid) → h.0 ≢ g.0 → rule.local_of s h ≡ rule.local_of before h) (other_rows : (h : Gxid) → h.0 ≢ g.0 → kept_of s h ≡ kept_of before h) (now : IsNow old new g local (kept_of s g)) (same_phase : local.phase ≡ (rule.local_of s g).phase) where
+module _ (tables : List Schema) (old new : Held) (before s : Seg) (g : Gxid) (local : rule.Local) (locks : Locks) (was : IsHeld tables old before) (alive : before.horizon.0 ≤ g.0) (stored : IsStored new.store s) (horizon : s.horizon ≡ before.horizon) (other_locals : (h : Gxid) → h.0 ≢ g.0 → rule.local_of s h ≡ rule.local_of before h) (other_rows : (h : Gxid) → h.0 ≢ g.0 → kept_of s h ≡ kept_of before h) (other_versions : (h : Gxid) → h.0 ≢ g.0 → has_version s h ≡ has_version before h) (now : IsNow old new g local (kept_of s g)) (same_phase : local.phase ≡ (rule.local_of s g).phase) where
   abbrev after : Seg
   after = record (with_local s g local) { locks = locks }
 
@@ -113,8 +116,20 @@ module _ (tables : List Schema) (old new : Held) (before s : Seg) (g : Gxid) (lo
   holds h false e =
       let other = differ h.0 g.0 e in now.holders h other ∙ was.holders h ∙ ap holds_locks (sym (other_locals h other) ∙ sym (other_at h other))
 
-  pub IsHeld-now : new.locks ≡ locks → AreOwn locks.holds → AreWaits tables after → All (λ v. IsTrue (is_right_version tables v)) s.versions → IsHeld tables new after
-  IsHeld-now locks_are owned waits typed = record {
+  came : nat_lt 0 local.last ≡ true → (h : Gxid) (b : Bool) → eqb h.0 g.0 ≡ b → has_version s h ≡ true → nat_lt 0 (rule.local_of after h).last ≡ true
+  came here h true e there = subst (λ (k : Gxid). nat_lt 0 (rule.local_of after k).last ≡ true) (same_gxid g h e) (ap (λ (l : rule.Local). nat_lt 0 l.last) itself_at ∙ here)
+  came here h false e there =
+      let other = differ h.0 g.0 e in
+      ap (λ (l : rule.Local). nat_lt 0 l.last) (other_at h other ∙ other_locals h other) ∙ was.came h (sym (other_versions h other) ∙ there)
+
+  writers_at : AreWriters (record s { locks = locks }) → AreWriters after
+  writers_at writers = record {
+    low = λ h under there. ap has_ended (phase_at h (eqb h.0 g.0) refl) ∙ writers.low h under there;
+    own = λ h holds. ap (λ (p : Phase). has_version s h && not (has_ended p)) (phase_at h (eqb h.0 g.0) refl) ∙ writers.own h holds;
+  }
+
+  pub IsHeld-now : nat_lt 0 local.last ≡ true → new.locks ≡ locks → AreOwn locks.holds → AreWriters (record s { locks = locks }) → AreWaits tables after → All (λ v. IsTrue (is_right_version tables v)) s.versions → IsHeld tables new after
+  IsHeld-now new_one locks_are owned writers waits typed = record {
     horizon = stored.horizon;
     locals = λ h up. locals h up (eqb h.0 g.0) refl;
     kept = λ h up. rows h up (eqb h.0 g.0) refl;
@@ -123,6 +138,9 @@ module _ (tables : List Schema) (old new : Held) (before s : Seg) (g : Gxid) (lo
     writes = stored.writes;
     wrote = stored.wrote;
     committed = λ h. stored.committed h ∙ ap (λ (p : Phase). has_version s h && has_committed p) (sym (phase_at h (eqb h.0 g.0) refl));
+    unaborted = λ h. stored.unaborted h ∙ ap (λ (p : Phase). has_version s h && rule.is_unaborted p) (sym (phase_at h (eqb h.0 g.0) refl));
+    came = λ h there. came new_one h (eqb h.0 g.0) refl there;
+    writers = writers_at writers;
     typed = typed;
     locks = locks_are;
     owned = owned;
@@ -143,29 +161,43 @@ module _ (old mid new : Held) (g : Gxid) (c : Cid) (entry : Entry) (taken : (h :
   pub IsStored-back : (s : Seg) → IsStored mid.store s → IsStored new.store s
   IsStored-back s stored = subst (λ (store : Store). IsStored store s) (sym back.store) stored
 
--- with the answer to its command
-module _ (tables : List Schema) (old first mid new : Held) (before s : Seg) (g : Gxid) (c : Cid) (entry : Entry) (r : Reply) (was : IsHeld tables old before) (alive : before.horizon.0 ≤ g.0) (free : is_waiting (rule.local_of before g) ≡ false) (is : IsApart before first mid entry g s) (none : list_any (is_of g) s.locks.waits ≡ false) (taken : (h : Gxid) → h.0 ≢ g.0 → entry_at first h ≡ entry_at old h) (holders : first.holders ≡ old.holders) (back : IsBack mid new g c (answered entry c r)) where
-  abbrev told : rule.Local → rule.Local
-  told l = record l { last = c.0; answer = Some r }
-
-  answered_at : rule.local_of (with_local s g (told (rule.local_of s g))) g ≡ told (rule.local_of s g)
-  answered_at = ap (λ (b : Bool). if b then told (rule.local_of s g) else rule.local_of s g) (itself g.0)
-
-  beside : (h : Gxid) → h.0 ≢ g.0 → rule.local_of (with_local s g (told (rule.local_of s g))) h ≡ rule.local_of before h
-  beside h other = ap (λ (b : Bool). if b then told (rule.local_of s g) else rule.local_of s h) (apart h.0 g.0 other) ∙ is.other_locals h other
-
+-- its command is answered, or waits at a row
+module _ (tables : List Schema) (old first mid new : Held) (before s : Seg) (g : Gxid) (c : Cid) (entry : Entry) (was : IsHeld tables old before) (fresh : nat_lt 0 c.0 ≡ true) (is : IsApart before first mid entry g s) (taken : (h : Gxid) → h.0 ≢ g.0 → entry_at first h ≡ entry_at old h) (holders : first.holders ≡ old.holders) (typed : All (λ v. IsTrue (is_right_version tables v)) s.versions) where
   still_taken : (h : Gxid) → h.0 ≢ g.0 → entry_at mid h ≡ entry_at old h
   still_taken h other = ap (λ es. entry_at (record mid { entries = es }) h) is.entries ∙ taken h other
 
-  waits : AreWaits tables (with_local s g (told (rule.local_of s g)))
-  waits = AreWaits-free tables before (with_local s g (told (rule.local_of s g))) g was.waits is.horizon beside is.other_waits none (ap is_waiting answered_at ∙ is.waiting ∙ free)
+  module _ (entry' : Entry) (told : rule.Local) (back : IsBack mid new g c entry') (local : local_of entry'.local ≡ told) (kept : entry'.kept ≡ entry.kept) (phase : told.phase ≡ (rule.local_of s g).phase) (last : told.last ≡ c.0) where
+    told_at : rule.local_of (with_local s g told) g ≡ told
+    told_at = ap (λ (b : Bool). if b then told else rule.local_of s g) (itself g.0)
 
-  pub IsHeld-back : All (λ v. IsTrue (is_right_version tables v)) s.versions → IsHeld tables new (with_local s g (told (rule.local_of s g)))
-  IsHeld-back typed =
-      IsHeld-now tables old new before s g (told (rule.local_of s g)) s.locks was alive (IsStored-back old mid new g c (answered entry c r) still_taken (is.holders ∙ holders) back s is.stored) is.horizon is.other_locals is.other_rows
-      (IsNow-back old mid new g c (answered entry c r) still_taken (is.holders ∙ holders) back (told (rule.local_of s g)) (kept_of s g) (ap told is.local) is.kept is.open_here refl)
-      refl
-      (back.locks ∙ is.locks)
-      is.owned
-      waits
-      typed
+    beside : (h : Gxid) → h.0 ≢ g.0 → rule.local_of (with_local s g told) h ≡ rule.local_of before h
+    beside h other = ap (λ (b : Bool). if b then told else rule.local_of s h) (apart h.0 g.0 other) ∙ is.other_locals h other
+
+    alive : before.horizon.0 ≤ g.0
+    alive = subst (λ (k : Gxid). k.0 ≤ g.0) is.horizon is.alive
+
+    -- who waits afterwards
+    waits : list_any (is_of g) s.locks.waits ≡ is_waiting told → ((w : Suspended) → told.suspended ≡ Some w → IsRightWait tables (with_local s g told) g w) → AreWaits tables (with_local s g told)
+    waits own fits =
+        AreWaits-one tables before (with_local s g told) g was.waits is.horizon beside is.other_waits (own ∙ sym (ap is_waiting told_at))
+        (λ w e. fits w (sym (ap (λ (l : rule.Local). l.suspended) told_at) ∙ e))
+
+    pub IsHeld-back : list_any (is_of g) s.locks.waits ≡ is_waiting told → ((w : Suspended) → told.suspended ≡ Some w → IsRightWait tables (with_local s g told) g w) → IsHeld tables new (with_local s g told)
+    IsHeld-back own fits =
+        IsHeld-now tables old new before s g told s.locks was alive (IsStored-back old mid new g c entry' still_taken (is.holders ∙ holders) back s is.stored) is.horizon is.other_locals is.other_rows is.other_versions
+        (IsNow-back old mid new g c entry' still_taken (is.holders ∙ holders) back told (kept_of s g) local (kept ∙ is.kept) (ap is_open phase ∙ is.open_here) last)
+        phase
+        (ap (nat_lt 0) last ∙ fresh)
+        (back.locks ∙ is.locks)
+        is.owned
+        is.writers
+        (waits own fits)
+        typed
+
+  -- with its answer
+  pub IsHeld-answered : (r : Reply) → is_waiting (rule.local_of before g) ≡ false → list_any (is_of g) s.locks.waits ≡ false → IsBack mid new g c (answered entry c r) → IsHeld tables new (with_local s g (record (rule.local_of s g) { last = c.0; answer = Some r }))
+  IsHeld-answered r free none back =
+      let told : rule.Local = record (rule.local_of s g) { last = c.0; answer = Some r } in
+      let waits_not = is.waiting ∙ free in
+      IsHeld-back (answered entry c r) told back (ap (λ (l : rule.Local). let m : rule.Local = record l { last = c.0; answer = Some r } in m) is.local) refl refl refl
+      (none ∙ sym waits_not) (λ w e. absurd (never (rule.local_of s g).suspended w waits_not e))

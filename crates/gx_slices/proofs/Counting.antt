@@ -57,7 +57,7 @@ module _ (p : Write → Bool) (q : Version → Bool) (table : Table) (rid : Rid)
       more v (filter (is_of_row table rid) vs) (filter (λ v. (eqb v.table.0 table.0) && q v) vs) (eqb v.table.0 table.0) (is_same_rid v.rid rid) (q v) refl all.0 (last_image-passing vs all.1)
 
 -- who wrote a version has written
-all_there : (vs : List Version) → AllByRecursion (λ v. list_any (λ u. is_same_gxid u.gxid v.gxid) vs ≡ true) vs
+pub all_there : (vs : List Version) → AllByRecursion (λ v. list_any (λ u. is_same_gxid u.gxid v.gxid) vs ≡ true) vs
 all_there [] = tt
 all_there (v ∷ vs) = (
   ap (λ (b : Bool). b || list_any (λ u. is_same_gxid u.gxid v.gxid) vs) (itself v.gxid.0),

@@ -22,3 +22,12 @@ pub mod NewestOf
 pub mod Stops
 pub mod Awaiting
 pub mod OwnMoves
+pub mod ValueKinds
+pub mod RightChanges
+pub mod RowLocks
+pub mod RowMoves
+pub mod RowSteps
+pub mod Going
+pub mod Ending
+pub mod Starting
+pub mod Progressing

@@ -1,20 +1,22 @@
 -- A transaction is held by itself alone, so its own lock is free for it.
 use Rattle.std.proofs.Common.{◌≡◌, ℕ, Bool, true, false, if◌then◌else◌, eqb, not, ◌&&◌, ◌||◌, ◌++◌, List, [], ◌∷◌, Option, Some, None, filter, append-nil, refl, sym, ap, ◌∙◌, arith}
 use Rattle.std.proofs.lemmas.Bool.Decides.{nat_tests}
+use Rattle.std.proofs.lemmas.List.Elements.{filter-append}
 use Rattle.std.proofs.lemmas.List.Folds.{list_all-append}
 use Rattle.std.specs.List.{list_all, list_any}
 use Rattle.gx_ids.specs.declared.ids.Gxid.{Gxid}
-use Rattle.gx_modes.specs.Table.{conflict}
+use Rattle.gx_modes.specs.Table.{conflict, number_of}
 use Rattle.gx_modes.specs.declared.modes.Mode.TheVariants.{Exclusive}
 use Rattle.gx_waits.specs.Claim.{meets, same_claim, same_object}
 use Rattle.gx_waits.specs.declared.claim.Claim.{Claim}
 use Rattle.gx_waits.specs.declared.object.Object.{Object}
 use Rattle.gx_waits.specs.declared.object.Object.TheVariants.{Relation, Transaction, Tuple}
-use Rattle.gx_locks.specs.Locks.{Locks, held, is_free, resumed}
+use Rattle.gx_locks.specs.Locks.{Locks, held, is_free, resumed, without_claim}
+use Rattle.gx_node.specs.Locking.{granted_locks, unless_end}
 use Rattle.gx_store.specs.declared.mark.Mark.{Mark}
 use Rattle.gx_rules.specs.Segments.{Phase, Reading, Writing, Prepared, Committed, Forgotten, Aborted}
 use Rattle.gx_rules.specs.Slices.{Moved, own_lock, takes_own}
-use Rattle.gx_slices.specs.Owning.{AreOwn, is_for_other, is_own, is_own_on, own_locks, own_marks}
+use Rattle.gx_slices.specs.Owning.{AreOwn, is_on_transaction, is_own, is_own_on, own_locks, own_marks}
 use Rattle.gx_slices.proofs.Gxids.{itself}
 use Rattle.gx_slices.proofs.Lists.{and_parts}
 
@@ -66,13 +68,47 @@ AreOwn-filter p (hold ∷ holds) own =
     either true e more = ap (λ (a : Bool). a && list_all is_own (filter p holds)) e ∙ more
     either false e more = more
 
-pub AreOwn-resumed : (locks : Locks) (g : Gxid) (wait : Option Claim) → is_for_other wait ≡ false → AreOwn locks.holds → AreOwn (resumed locks g wait).holds
-AreOwn-resumed locks g None e own = own
-AreOwn-resumed locks g (Some wait) e own = AreOwn-held locks.holds wait (turned (is_own wait) e) own
+-- a lock on no transaction is nobody's own
+pub is_own-unless : (g : Gxid) (o : Object) → is_on_transaction o ≡ false → is_own_on g o ≡ true
+is_own-unless g (Relation table) e = refl
+is_own-unless g (Tuple rid) e = refl
+is_own-unless g (Transaction other) e = absurd (cc)
+
+all-three : (a b c : Bool) → a ≡ true → b ≡ true → c ≡ true → (a && (b && c)) ≡ true
+all-three true true true e f g = refl
+all-three true true false e f g = g
+all-three true false c e f g = f
+all-three false b c e f g = e
+
+same_object-itself : (o : Object) → same_object o o ≡ true
+same_object-itself (Relation table) = itself table.0
+same_object-itself (Tuple rid) = all-three _ _ _ (itself rid.gxid.0) (itself rid.cid.0) (itself rid.ordinal)
+same_object-itself (Transaction g) = itself g.0
+
+same_claim-itself : (claim : Claim) → same_claim claim claim ≡ true
+same_claim-itself claim = all-three _ _ _ (itself claim.gxid.0) (same_object-itself claim.object) (itself (number_of claim.mode))
+
+-- a claim that is granted and given back at once
+pub without-held : (claim : Claim) (holds : List Claim) → without_claim claim (held holds claim) ≡ without_claim claim holds
+without-held claim holds = either (list_any (same_claim claim) holds)
   where
-    turned : (b : Bool) → not b ≡ false → b ≡ true
-    turned true f = refl
-    turned false f = sym f
+    either : (b : Bool) → without_claim claim (if b then holds else holds ++ claim ∷ []) ≡ without_claim claim holds
+    either true = refl
+    either false =
+        filter-append (λ other. not (same_claim claim other)) holds (claim ∷ [])
+        ∙ ap (λ (b : Bool). without_claim claim holds ++ (if not b then claim ∷ [] else [])) (same_claim-itself claim)
+        ∙ append-nil (without_claim claim holds)
+
+-- what was waited for is granted, and another's end is given back at once
+pub AreOwn-granted : (locks : Locks) (g : Gxid) (wait : Option Claim) → AreOwn locks.holds → AreOwn (granted_locks locks g wait).holds
+AreOwn-granted locks g None own = own
+AreOwn-granted locks g (Some wait) own = by_object wait.object refl
+  where
+    by_object : (o : Object) → wait.object ≡ o → AreOwn (unless_end wait o (resumed locks g (Some wait))).holds
+    by_object (Relation table) e = AreOwn-held locks.holds wait (ap (is_own_on wait.gxid) e) own
+    by_object (Tuple rid) e = AreOwn-held locks.holds wait (ap (is_own_on wait.gxid) e) own
+    by_object (Transaction other) e =
+        ap (λ (hs : List Claim). list_all is_own hs) (without-held wait locks.holds) ∙ AreOwn-filter (λ one. not (same_claim wait one)) locks.holds own
 
 -- THE WRITER'S LOCK
 pub is_own-own_lock : (g : Gxid) → is_own (own_lock g) ≡ true

@@ -7,7 +7,6 @@ use Rattle.std.specs.Ordering.{is_lt}
 use Rattle.gx_ids.specs.declared.ids.Cid.{Cid}
 use Rattle.gx_ids.specs.declared.ids.Gxid.{Gxid}
 use Rattle.gx_ids.specs.declared.ids.Table.{Table}
-use Rattle.gx_modes.specs.declared.modes.Mode.{Mode}
 use Rattle.gx_tree.specs.declared.cond.Cond.{Cond}
 use Rattle.gx_tree.specs.declared.query.Query.{Query}
 use Rattle.gx_ids.specs.declared.rid.Rid.{Rid}
@@ -15,7 +14,6 @@ use Rattle.gx_tree.specs.declared.row.KeyedRow.{KeyedRow}
 use Rattle.gx_tree.specs.declared.schema.Kind.{Kind}
 use Rattle.gx_tree.specs.declared.schema.Kind.TheVariants.{Int, Text}
 use Rattle.gx_tree.specs.declared.schema.Schema.{Schema}
-use Rattle.gx_tree.specs.declared.slice.Slice.{Slice}
 use Rattle.gx_tree.specs.declared.slice.Slice.TheVariants as slice
 use Rattle.gx_tree.specs.declared.value.Value.{Value}
 use Rattle.gx_dsnap.specs.declared.snapshot.Snapshot.{Snapshot}
@@ -39,13 +37,13 @@ use Rattle.gx_slices.proofs.Lists.{all_map, and_parts}
 use Rattle.gx_slices.proofs.Owning.{takes_own-with}
 
 -- KINDS
-same_kind : (k l : Kind) → is_same_kind k l ≡ true → l ≡ k
+pub same_kind : (k l : Kind) → is_same_kind k l ≡ true → l ≡ k
 same_kind Int Int e = refl
 same_kind Text Text e = refl
 same_kind Int Text e = absurd (cc)
 same_kind Text Int e = absurd (cc)
 
-kinds_are : (kinds : List Kind) (row : List Value) → is_right_row kinds row ≡ true → kinds_of row ≡ kinds
+pub kinds_are : (kinds : List Kind) (row : List Value) → is_right_row kinds row ≡ true → kinds_of row ≡ kinds
 kinds_are [] [] e = refl
 kinds_are [] (v ∷ vs) e = absurd (cc)
 kinds_are (k ∷ ks) [] e = absurd (cc)
@@ -94,7 +92,7 @@ module _ (tables : List Schema) (table : Table) where
       (last_images (filter (λ v. (eqb v.table.0 table.0) && counts s snap g c v) s.versions))
       (all-fold (filter (λ v. (eqb v.table.0 table.0) && counts s snap g c v) s.versions) [] (all-counting (counts s snap g c) s.versions (recursion_from_All (λ v. IsTrue (is_right_version tables v)) s.versions typed)) tt)
 
-  typed_by : (schema : Schema) → slice_get tables table.0 ≡ Some schema → (cond : Option Cond) → is_right_cond (kinds_in schema) cond ≡ true → (rows : List KeyedRow) → AllByRecursion (IsRight tables table) rows → AreTypedOn cond rows
+  pub typed_by : (schema : Schema) → slice_get tables table.0 ≡ Some schema → (cond : Option Cond) → is_right_cond (kinds_in schema) cond ≡ true → (rows : List KeyedRow) → AllByRecursion (IsRight tables table) rows → AreTypedOn cond rows
   typed_by schema at None e rows all = tt
   typed_by schema at (Some cond) e rows all = all_map (λ row right. typed row (subst (λ (o : Option Schema). IsTrue (is_right_image o (Some row.row))) at right)) rows all
     where
@@ -102,7 +100,7 @@ module _ (tables : List Schema) (table : Table) where
       typed row right = subst (λ (kinds : List Kind). IsTyped kinds cond) (sym (kinds_are (kinds_in schema) row.row right)) e
 
 -- A SLICE THAT IS RIGHT
-abbrev some_script : List Schema → Script
+abbrev pub some_script : List Schema → Script
 some_script tables = record { segments = 0; detector = false; tables = tables; sessions = []; lines = []; faults = [] }
 
 module _ (tables : List Schema) (g : Gxid) (c : Cid) where
@@ -148,11 +146,3 @@ module _ (tables : List Schema) (g : Gxid) (c : Cid) (table : Table) where
 
   pub typed-inserted : (s : Seg) (rows : List KeyedRow) → All IsTypedVersion s.versions → AllByRecursion (IsRight tables table) rows → All IsTypedVersion (inserted s g c table rows).seg.versions
   typed-inserted s rows typed right = typed-moved rows (starts_from s) typed right
-
--- no other slice is right
-pub right-others : (tables : List Schema) (g : Gxid) (c : Cid) (it : Slice) → IsRightFor tables g c it true → ((query : Query) → it ≡ slice.Select query → ⊥) → ((table : Table) (rows : List KeyedRow) → it ≡ slice.Insert table rows → ⊥) → ((table : Table) (mode : Mode) → it ≡ slice.Lock table mode → ⊥) → ⊥
-right-others tables g c (slice.Select query) right select insert lock = select query refl
-right-others tables g c (slice.Insert table rows) right select insert lock = insert table rows refl
-right-others tables g c (slice.Update table assigns cond) right select insert lock = let e : true ≡ false = right (some_script tables) refl in absurd (cc)
-right-others tables g c (slice.Delete table cond) right select insert lock = let e : true ≡ false = right (some_script tables) refl in absurd (cc)
-right-others tables g c (slice.Lock table mode) right select insert lock = lock table mode refl

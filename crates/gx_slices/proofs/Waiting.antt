@@ -14,7 +14,6 @@ use Rattle.gx_locks.proofs.Filed.{find-weaker}
 use Rattle.gx_rules.specs.Fits.{is_waiting}
 use Rattle.gx_rules.specs.Locks.{with_hold}
 use Rattle.gx_rules.specs.Segments.{Local, Seg, Suspended, local_of}
-use Rattle.gx_slices.specs.Owning.{is_for_other}
 use Rattle.gx_slices.specs.Waiting.{AreWaits, IsRightWait, is_open}
 use Rattle.gx_slices.proofs.Gxids.{apart, differ, same_gxid}
 use Rattle.gx_slices.proofs.Lists.{or_none}
@@ -62,7 +61,7 @@ find-others g h waits other = find-weaker (is_of h) (λ claim. not (is_of g clai
     is_other claim e = ap not (apart claim.gxid.0 g.0 (λ same. other (grind (arith, nat_tests))))
 
 -- ONE TRANSACTION CHANGES
-never : (o : Option Suspended) (w : Suspended) → is_some o ≡ false → o ≡ Some w → ⊥
+pub never : (o : Option Suspended) (w : Suspended) → is_some o ≡ false → o ≡ Some w → ⊥
 never None w free e = cc
 never (Some v) w free e = cc
 
@@ -78,7 +77,8 @@ module _ (tables : List Schema) (s s' : Seg) (g : Gxid) (was : AreWaits tables s
     came = ap (λ (l : Local). nat_lt 0 l.last) same ∙ is.came;
     reads = is.reads;
     right = is.right;
-    at_row = λ e. ap is_for_other (waits h other) ∙ is.at_row e;
+    new = is.new;
+    room = is.room;
   }
 
   module _ (own : list_any (is_of g) s'.locks.waits ≡ is_waiting (local_of s' g)) (fits : (w : Suspended) → (local_of s' g).suspended ≡ Some w → IsRightWait tables s' g w) where
@@ -102,5 +102,5 @@ module _ (tables : List Schema) (s s' : Seg) (g : Gxid) (was : AreWaits tables s
 pub AreWaits-hold : (tables : List Schema) (s : Seg) (wanted : Claim) → AreWaits tables s → AreWaits tables (record s { locks = with_hold s.locks wanted })
 AreWaits-hold tables s wanted was = record {
   standing = was.standing;
-  right = λ g w e. let is = was.right g w e in record { alive = is.alive; open_here = is.open_here; came = is.came; reads = is.reads; right = is.right; at_row = is.at_row };
+  right = λ g w e. let is = was.right g w e in record { alive = is.alive; open_here = is.open_here; came = is.came; reads = is.reads; right = is.right; new = is.new; room = is.room };
 }

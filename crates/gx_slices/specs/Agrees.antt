@@ -61,7 +61,8 @@ is_right_image None image = false
 abbrev pub is_right_version : List Schema → Version → Bool
 is_right_version tables v = is_right_image (slice_get tables v.table.0) v.image
 
--- who has written and stands below the horizon has ended; who holds itself has written and hasn't ended
+-- Who has written and stands below the horizon has ended. Who holds itself has written and hasn't ended: so below the horizon nobody
+-- is waited for.
 pub record AreWriters (s : Seg) : Type 0 where
   pub low : (g : Gxid) → g.0 < s.horizon.0 → has_version s g ≡ true → has_ended (rule.local_of s g).phase ≡ true
   pub own : (g : Gxid) → list_any (same_claim (own_lock g)) s.locks.holds ≡ true → (has_version s g && not (has_ended (rule.local_of s g).phase)) ≡ true

@@ -60,11 +60,12 @@ change_in k =
       cond = k.cond;
     }
 
--- it is right for the tables, and its transaction isn't below the horizon
+-- it is right for the tables, its number is from 1 on, and its transaction isn't below the horizon
 pub record MayChange (tables : List Schema) (start : Seg) (k : Change) : Type 0 where
   pub alive : start.horizon.0 ≤ k.writer.gxid.0
   pub node : k.writer.node ≡ start.node
   pub right : IsRightFor tables k.writer.gxid k.writer.cid (slice_in k.writer.table k.set k.cond) true
+  pub new : nat_lt 0 k.writer.cid.0 ≡ true
 
 -- an image is of the table's kinds
 abbrev pub IsRightImage : List Schema → Table → Option (List Value) → Type 0

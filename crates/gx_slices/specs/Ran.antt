@@ -17,14 +17,15 @@ use Rattle.gx_slices.specs.declared.held.Held.{Held}
 use Rattle.gx_slices.specs.declared.progress.Progress.{Progress}
 use Rattle.gx_slices.specs.declared.running.Ran.{Ran}
 
--- it has come no sooner than the horizon, waits for nothing, its transaction is open here, and it has a snapshot unless it reads
--- nothing
+-- its number is from 1 on, it has come no sooner than the horizon, waits for nothing, its transaction is open here, and it has a
+-- snapshot unless it reads nothing
 pub record MayRun (tables : List Schema) (s : Seg) (g : Gxid) (c : Cid) (snapshot : Option Snapshot) (slice : Slice) : Type 0 where
   pub alive : s.horizon.0 ≤ g.0
   pub open_here : is_open (local_of s g).phase ≡ true
   pub free : is_waiting (local_of s g) ≡ false
   pub reads : (is_some snapshot || reads_nothing slice) ≡ true
   pub right : IsRightFor tables g c slice true
+  pub new : nat_lt 0 c.0 ≡ true
 
 -- what is held afterwards, the marks and the answer are the turn's
 pub record HasRun (tables : List Schema) (held : Held) (g : Gxid) (ran : Ran) (turn : SegTurn) : Type 0 where
@@ -38,10 +39,9 @@ abbrev pub replies : Gxid → Option Reply → List Out
 replies g None = []
 replies g (Some r) = reply g r ∷ []
 
--- a command that has waited, or hasn't run yet: its number is from 1 on, and its rows can be counted
+-- a command that has waited, or hasn't run yet: its rows can be counted
 pub record MayGoOn (tables : List Schema) (s : Seg) (g : Gxid) (w : Suspended) : Type 0 where
   pub may : MayRun tables s g w.cid w.snapshot w.slice
-  pub new : nat_lt 0 w.cid.0 ≡ true
   pub room : w.count + length w.rows + 1 < 2 ^ 64
 
 pub record HasProgressed (tables : List Schema) (held : Held) (g : Gxid) (progress : Progress) (turn : SegTurn) : Type 0 where

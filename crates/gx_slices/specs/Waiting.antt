@@ -1,14 +1,12 @@
--- Slices that wait at a segment for their table's lock.
-use Rattle.std.specs.Prelude.{◌≡◌, ◌≤◌, ◌||◌, is_some, nat_lt, Bool, true, false, List, Some, None}
+-- Slices that wait at a segment for their table's lock, or at a row.
+use Rattle.std.specs.Prelude.{◌≡◌, ◌≤◌, ◌<◌, ◌+◌, ◌^◌, ◌||◌, is_some, length, nat_lt, Bool, true, false, List, Some}
 use Rattle.std.specs.List.{list_any}
 use Rattle.gx_ids.specs.declared.ids.Gxid.{Gxid}
 use Rattle.gx_tree.specs.declared.schema.Schema.{Schema}
 use Rattle.gx_locks.specs.Claims.{is_of}
-use Rattle.gx_locks.specs.Locks.{wait_of}
 use Rattle.gx_node.specs.Right.{IsRightFor}
 use Rattle.gx_rules.specs.Fits.{is_waiting, reads_nothing}
 use Rattle.gx_rules.specs.Segments.{Phase, Reading, Writing, Seg, Suspended, local_of}
-use Rattle.gx_slices.specs.Owning.{is_for_other}
 
 -- the transaction has neither promised anything nor ended here
 abbrev pub is_open : Phase → Bool
@@ -16,15 +14,16 @@ is_open Reading = true
 is_open Writing = true
 is_open _ = false
 
--- the slice is right for the tables, has a snapshot unless it reads nothing, and is of a command that has come to a transaction
--- that is open here; where it has come to no row, it waits for no other transaction's end
+-- the slice is right for the tables, has a snapshot unless it reads nothing, and is of a command, numbered from 1 on, that has come to
+-- a transaction which is open here; its rows can be counted
 pub record IsRightWait (tables : List Schema) (s : Seg) (g : Gxid) (waiting : Suspended) : Type 0 where
   pub alive : s.horizon.0 ≤ g.0
   pub open_here : is_open (local_of s g).phase ≡ true
   pub came : nat_lt 0 (local_of s g).last ≡ true
   pub reads : (is_some waiting.snapshot || reads_nothing waiting.slice) ≡ true
   pub right : IsRightFor tables g waiting.cid waiting.slice true
-  pub at_row : waiting.row ≡ None → is_for_other (wait_of s.locks g) ≡ false
+  pub new : nat_lt 0 waiting.cid.0 ≡ true
+  pub room : waiting.count + length waiting.rows + 1 < 2 ^ 64
 
 -- those who wait for a lock are those whose slices wait
 pub record AreWaits (tables : List Schema) (s : Seg) : Type 0 where

@@ -6,7 +6,7 @@ ghost use Rattle.gx_store.specs.declared.mark.Mark.TheVariants as mark;
 ghost use Rattle.gx_rules.specs.Changes as rule;
 ghost use Rattle.gx_rules.specs.Shown.{current_of};
 ghost use Rattle.gx_rules.specs.Slices as slices;
-ghost use Rattle.gx_slices.specs.Stopping.{left_locks, left_marks, stop_locks, stop_marks};
+ghost use Rattle.gx_slices.specs.Stopping.{has_row, left_locks, left_marks, locks_after, marks_after, row_locks, row_marks, stop_locks, stop_marks};
 ghost use Rattle.gx_store.specs.Commands.{condition_on};
 ghost use Rattle.gx_slices.specs.Agrees.{write_of};
 ghost use Rattle.gx_slices.specs.Changing.{Came, IsAt, IsFree, IsRightImage, IsTypedFor, MayChange, Spot, Stage, awaited_in, change_in, end_of, is_done_at, newest_as};
@@ -40,8 +40,7 @@ pub(crate) enum RowEnd {
 
 // WRITTEN, SKIPPED OR FAULTED ON
 fn skip(change: &Change, rid: Rid, marks: &mut Vec<Mark>) -> Mem<RowEnd>
-    ensures end { IfOk result (λ end. end ≡ RowEnd.Skipped) }
-    ensures marks { OnOk result (marks.new.items ≡ marks.old.items ++ mark.Skip change.now.writer.gxid change.now.writer.cid rid ∷ []) }
+    ensures { IfOk result (λ end. (end ≡ RowEnd.Skipped) × (marks.new.items ≡ marks.old.items ++ mark.Skip change.now.writer.gxid change.now.writer.cid rid ∷ [])) }
 {
     marks.push(Mark::Skip {
         gxid: change.writer.gxid,
@@ -58,8 +57,7 @@ fn fault(
     fault: ArithFault,
     marks: &mut Vec<Mark>,
 ) -> Mem<RowEnd>
-    ensures end { IfOk result (λ end. end ≡ RowEnd.Failing (slices.cause_of fault)) }
-    ensures marks { OnOk result (marks.new.items ≡ marks.old.items ++ mark.Fault change.now.writer.gxid change.now.writer.cid rid (Some old) ∷ []) }
+    ensures { IfOk result (λ end. (end ≡ RowEnd.Failing (slices.cause_of fault)) × (marks.new.items ≡ marks.old.items ++ mark.Fault change.now.writer.gxid change.now.writer.cid rid (Some old) ∷ [])) }
 {
     marks.push(Mark::Fault {
         gxid: change.writer.gxid,
@@ -210,6 +208,27 @@ fn end_lock(gxid: Gxid, other: Gxid) -> Claim
     }
 }
 
+// Whether the command has the row's lock, which it asks for unless it holds it.
+fn ask_for_row(
+    node: Node,
+    locks: &mut LockTable,
+    gxid: Gxid,
+    rid: Rid,
+    marks: &mut Vec<Mark>,
+) -> Mem<bool>
+    requires { list_any (is_of gxid) locks.old.waits ≡ false }
+    ensures has { IfOk result (λ has. has ≡ has_row gxid rid locks.old) }
+    ensures locks { OnOk result (locks.new ≡ row_locks gxid rid locks.old) }
+    ensures marks { OnOk result (marks.new.items ≡ marks.old.items ++ row_marks node gxid rid locks.old) }
+{
+    let tuple = tuple_lock(gxid, rid);
+    if is_held(locks, &tuple)? {
+        return Ok(true);
+    }
+    let granted = ask_for(node, locks, tuple, marks)?;
+    Ok(granted)
+}
+
 // With the row's lock the command waits for who has written the row, and without it, where that isn't free, for the row's lock.
 fn wait_at(
     node: Node,
@@ -224,8 +243,7 @@ fn wait_at(
     ensures locks { OnOk result (locks.new ≡ stop_locks gxid rid writer locks.old) }
     ensures marks { OnOk result (marks.new.items ≡ marks.old.items ++ stop_marks node gxid rid writer locks.old) }
 {
-    let tuple = tuple_lock(gxid, rid);
-    if is_held(locks, &tuple)? || ask_for(node, locks, tuple, marks)? {
+    if ask_for_row(node, locks, gxid, rid, marks)? {
         wait_for(node, locks, end_lock(gxid, writer), marks)?;
     }
     Ok(())
@@ -300,6 +318,26 @@ fn look_at(
     }
 }
 
+// Once it is done with the row, the command gives its lock back.
+fn leave_row(
+    node: Node,
+    locks: &mut LockTable,
+    gxid: Gxid,
+    rid: Rid,
+    end: RowEnd,
+    marks: &mut Vec<Mark>,
+) -> Mem<()>
+    ensures locks { OnOk result (locks.new ≡ locks_after (is_done_at (end_of end)) gxid rid locks.old) }
+    ensures marks { OnOk result (marks.new.items ≡ marks.old.items ++ marks_after (is_done_at (end_of end)) node gxid rid locks.old) }
+{
+    match end {
+        RowEnd::Written => give_tuple_back(node, locks, gxid, rid, marks),
+        RowEnd::Skipped => give_tuple_back(node, locks, gxid, rid, marks),
+        RowEnd::Waiting => Ok(()),
+        RowEnd::Failing(_) => Ok(()),
+    }
+}
+
 // A row is written or skipped, and gives its lock back; or the command waits or fails at it.
 pub(crate) fn does_row(
     alloc: Global,
@@ -318,17 +356,6 @@ pub(crate) fn does_row(
 {
     let Writer { node, gxid, .. } = change.writer;
     let end = look_at(alloc, change, held, entry, rid, marks)?;
-    if is_done(end) {
-        give_tuple_back(node, &mut held.locks, gxid, rid, marks)?;
-    }
+    leave_row(node, &mut held.locks, gxid, rid, end, marks)?;
     Ok(end)
-}
-
-fn is_done(end: RowEnd) -> bool
-    ensures { result ≡ is_done_at (end_of end) }
-{
-    match end {
-        RowEnd::Written | RowEnd::Skipped => true,
-        RowEnd::Waiting | RowEnd::Failing(_) => false,
-    }
 }

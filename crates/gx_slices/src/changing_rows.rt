@@ -1,5 +1,5 @@
 // A command that changes rows: it selects them, and then goes through them one behind the other, until it is done, waits or fails.
-ghost use Rattle.std.specs.Prelude.{◌≡◌, ◌+◌, ◌<◌, ◌^◌, ◌∷◌, [], true, false, drop, length, map, IfOk, Some};
+ghost use Rattle.std.specs.Prelude.{◌≡◌, ◌+◌, ◌<◌, ◌^◌, ◌∷◌, [], true, false, drop, length, map, IfOk, None, Some};
 ghost use Rattle.gx_msg.specs.declared.reply.Reply.TheVariants.{Done};
 ghost use Rattle.gx_node.specs.Phases.{phase_of};
 ghost use Rattle.gx_rules.specs.Changes as rule;
@@ -9,6 +9,7 @@ ghost use Rattle.gx_rules.specs.Slices as slices;
 ghost use Rattle.gx_rules.specs.Fits.{is_waiting};
 ghost use Rattle.gx_slices.specs.Agrees.{IsHeld};
 ghost use Rattle.gx_slices.specs.Changing.{Ending, Found, HasGone, IsAnswered, IsAt, IsFree, IsTaken, MayChange, Stage, change_in, rid_at};
+ghost use Rattle.gx_slices.specs.Picked.{IsPicked};
 ghost use Rattle.gx_slices.specs.Ran.{HasProgressed};
 ghost use Rattle.gx_slices.specs.Waiting.{is_open};
 
@@ -24,6 +25,7 @@ use crate::running::Ran;
 use crate::selecting::faulted;
 use crate::suspending::put_suspended;
 use gx_ids::{Mem, Rid, Seq, copies};
+use gx_meaning::ArithFault;
 use gx_msg::{Cause, Reply};
 use gx_node::Suspended;
 use gx_store::Mark;
@@ -245,6 +247,92 @@ fn rids_of(alloc: Global, rows: &[KeyedRow]) -> Mem<Vec<Rid>>
     Ok(rids)
 }
 
+// It goes through the rows on which its condition is true.
+fn change_kept(
+    alloc: Global,
+    held: &mut Held,
+    change: Change,
+    entry: Entry,
+    kept: Vec<KeyedRow>,
+) -> Mem<Progress>
+    ghost stage: { Stage }
+    requires taken { IsTaken stage change.writer.gxid }
+    requires may { MayChange stage.found.tables stage.found.start change }
+    requires at { IsAt stage change.writer.gxid held.old entry [] }
+    requires free { IsFree stage change.writer.gxid }
+    requires start { stage.moved ≡ slices.starts_from stage.found.start }
+    requires kept { map (λ row. row.rid) kept.items ≡ rule.selected change.cond (rule.shown_to stage.found.start change.writer.gxid (change_in change)) }
+    ensures { IfOk result (λ progress. HasProgressed stage.found.tables held.new change.writer.gxid progress
+        (rule.unless_fault stage.found.start change.writer.gxid (change_in change) (rule.shown_to stage.found.start change.writer.gxid (change_in change)) None)) }
+{
+    let rids = rids_of(alloc, kept.as_slice())?;
+    go_from(alloc, held, change, entry, rids.as_slice(), 0, Vec::new(alloc))
+}
+
+// It fails on a row on which its condition faults.
+fn fail_on(
+    alloc: Global,
+    held: &mut Held,
+    change: Change,
+    entry: Entry,
+    row: KeyedRow,
+    fault: ArithFault,
+) -> Mem<Progress>
+    ghost stage: { Stage }
+    requires taken { IsTaken stage change.writer.gxid }
+    requires may { MayChange stage.found.tables stage.found.start change }
+    requires at { IsAt stage change.writer.gxid held.old entry [] }
+    requires free { IsFree stage change.writer.gxid }
+    requires start { stage.moved ≡ slices.starts_from stage.found.start }
+    ensures { IfOk result (λ progress. HasProgressed stage.found.tables held.new change.writer.gxid progress
+        (slices.fails_on stage.found.start change.writer.gxid change.writer.cid (row, fault))) }
+{
+    let Writer { gxid, cid, .. } = change.writer;
+    let Ran { marks, reply } = faulted(alloc, gxid, cid, row, fault)?;
+    answer(alloc, held, &change, entry, reply, marks.into_vec())
+}
+
+// By what its condition says of all rows that are shown.
+fn change_picked(
+    alloc: Global,
+    held: &mut Held,
+    change: Change,
+    entry: Entry,
+    picked: Picked,
+) -> Mem<Progress>
+    ghost stage: { Stage }
+    requires taken { IsTaken stage change.writer.gxid }
+    requires may { MayChange stage.found.tables stage.found.start change }
+    requires at { IsAt stage change.writer.gxid held.old entry [] }
+    requires free { IsFree stage change.writer.gxid }
+    requires start { stage.moved ≡ slices.starts_from stage.found.start }
+    requires picked { IsPicked change.cond (rule.shown_to stage.found.start change.writer.gxid (change_in change)) picked }
+    ensures { IfOk result (λ progress. HasProgressed stage.found.tables held.new change.writer.gxid progress
+        (rule.changes_rows stage.found.start change.writer.gxid (Some (change_in change)))) }
+{
+    match picked {
+        Picked::Rows(kept) => change_kept(alloc, held, change, entry, kept),
+        Picked::Fault(row, fault) => fail_on(alloc, held, change, entry, row, fault),
+    }
+}
+
+// The rows that the command selects, or the first on which its condition faults.
+fn pick_shown(alloc: Global, held: &Held, change: &Change) -> Mem<Picked>
+    ghost found: { Found }
+    requires held { IsHeld found.tables held.now found.start }
+    requires may { MayChange found.tables found.start change.now }
+    ensures { IfOk result (IsPicked change.now.cond (rule.shown_to found.start change.now.writer.gxid (change_in change.now))) }
+{
+    let Writer {
+        gxid, cid, table, ..
+    } = change.writer;
+    let rows = held
+        .store
+        .shown_rows_from(table, &change.snapshot, Some(gxid), cid)?;
+    let picked = pick(alloc, &change.cond, rows)?;
+    Ok(picked)
+}
+
 // The condition is tested on every row that is shown, before any is changed.
 pub(crate) fn change_rows(alloc: Global, held: &mut Held, change: Change) -> Mem<Progress>
     ghost found: { Found }
@@ -256,34 +344,9 @@ pub(crate) fn change_rows(alloc: Global, held: &mut Held, change: Change) -> Mem
     ensures { IfOk result (λ progress. HasProgressed found.tables held.new change.writer.gxid progress
         (rule.changes_rows found.start change.writer.gxid (Some (change_in change)))) }
 {
-    let Writer {
-        gxid,
-        cid,
-        table,
-        ..
-    } = change.writer;
-    let rows = held
-        .store
-        .shown_rows_from(table, &change.snapshot, Some(gxid), cid)?;
-    let entry = take_entry(alloc, &mut held.entries, gxid);
-    match pick(alloc, &change.cond, rows)? {
-        Picked::Rows(kept) => {
-            let rids = rids_of(alloc, kept.as_slice())?;
-            go_from(
-                alloc,
-                held,
-                change,
-                entry,
-                rids.as_slice(),
-                0,
-                Vec::new(alloc),
-            )
-        }
-        Picked::Fault(row, fault) => {
-            let Ran { marks, reply } = faulted(alloc, gxid, cid, row, fault)?;
-            answer(alloc, held, &change, entry, reply, marks.into_vec())
-        }
-    }
+    let picked = pick_shown(alloc, held, &change)?;
+    let entry = take_entry(alloc, &mut held.entries, change.writer.gxid);
+    change_picked(alloc, held, change, entry, picked)
 }
 
 fn rids_from(alloc: Global, row: Rid, rows: &[Rid]) -> Mem<Vec<Rid>>

@@ -1,5 +1,5 @@
 // An INSERT at a segment.
-ghost use Rattle.std.specs.Prelude.{◌≡◌, ◌≤◌, true, false, length, IfOk};
+ghost use Rattle.std.specs.Prelude.{◌≡◌, ◌≤◌, true, false, length, nat_lt, IfOk};
 ghost use Rattle.std.specs.List.{list_any};
 ghost use Rattle.gx_locks.specs.Claims.{is_of};
 ghost use Rattle.gx_node.specs.Right.{IsRightFor};
@@ -38,6 +38,7 @@ pub(crate) fn insert(
     requires free { is_waiting (local_of s writer.gxid) ≡ false }
     requires right { IsRightFor tables.now writer.gxid writer.cid (slice.Insert writer.table rows) true }
     requires node { writer.node ≡ s.node }
+    requires new { nat_lt 0 writer.cid.0 ≡ true }
     ensures { IfOk result (λ ran. HasRun tables.now held.new writer.gxid ran (inserts writer.gxid writer.cid (length rows) (inserted s writer.gxid writer.cid writer.table rows))) }
 {
     let Writer { gxid, cid, .. } = writer;

@@ -1,5 +1,5 @@
 // A LOCK TABLE at a segment, which has its lock.
-ghost use Rattle.std.specs.Prelude.{◌≡◌, ◌≤◌, true, false, IfOk};
+ghost use Rattle.std.specs.Prelude.{◌≡◌, ◌≤◌, true, false, nat_lt, IfOk};
 ghost use Rattle.gx_rules.specs.Fits.{is_waiting};
 ghost use Rattle.gx_rules.specs.Segments.{Seg, local_of};
 ghost use Rattle.gx_rules.specs.Slices.{locks};
@@ -29,6 +29,7 @@ pub(crate) fn lock(
     requires alive { s.horizon.0 ≤ gxid.0 }
     requires open_here { is_open (local_of s gxid).phase ≡ true }
     requires free { is_waiting (local_of s gxid) ≡ false }
+    requires new { nat_lt 0 cid.0 ≡ true }
     ensures { IfOk result (λ ran. HasRun tables.now held.new gxid ran (locks s gxid cid)) }
 {
     let entry = take_entry(alloc, &mut held.entries, gxid);

@@ -15,5 +15,5 @@ is_fit g c = grind (arith, c.if-not-fits.false, c.fits.ensures)
 
 pub returns : goal.returns
 returns g c =
-    way-held g.was.script g.was.seg c.args.gxid c.args.command.now c.args.low (is_alive g c) c.requires.1.0.waits (is_fit g c) c.way_at.result
+    way-held g.was.script g.was.seg c.args.gxid c.args.command.now c.args.low (is_alive g c) c.args.held.now c.requires.1.0 (is_fit g c) c.way_at.result
     (c.way_at.ensures ∙ ap (λ (l : Local). way_of l c.args.command.now.cid) (c.requires.1.0.locals c.args.gxid (is_alive g c)))

@@ -17,14 +17,14 @@ start-requires g c κs within =
     let may = c.requires.1.1.1.1.0 in
     let done = c.raise.ensures in
     let now = c.raise.new.held in
-    let risen = IsHeld-raised tables c.args.held.now now g.was.seg c.args.low is may.waits done.store c.raise.new.horizon (done.horizon ∙ ap (λ (h : Gxid). greater h c.args.low) c.requires.1.1.1.0) done.entries done.dropped done.holders done.locks in
+    let risen = IsHeld-raised tables c.args.held.now now g.was.seg c.args.low is may.waits may.writers done.store c.raise.new.horizon (done.horizon ∙ ap (λ (h : Gxid). greater h c.args.low) c.requires.1.1.1.0) done.entries done.dropped done.holders done.locks in
     let same = seg-raised g.was.seg c.args.low c.args.held.now.store now.store is.horizon done.store in (
       within,
       (
         c.requires.1.0,
         (
           subst (IsHeld tables now) same risen,
-          (subst (λ (x : Seg). MayRun tables x c.args.gxid c.args.command.cid c.args.command.snapshot c.args.command.slice) same may.may, (may.new, c.requires.1.1.1.1.1)),
+          (subst (λ (x : Seg). MayRun tables x c.args.gxid c.args.command.cid c.args.command.snapshot c.args.command.slice) same may.may, (c.requires.1.1.1.1.1.0, c.requires.1.1.1.1.1.1)),
         ),
       ),
     )

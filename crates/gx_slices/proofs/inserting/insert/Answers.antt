@@ -8,7 +8,7 @@ use Rattle.gx_rules.specs.Slices.{has_written, inserted}
 use Rattle.gx_slices.specs.Inserts.{IsInserted}
 use Rattle.gx_slices.specs.declared.held.Held.{Held}
 use Rattle.gx_slices.specs.declared.running.Ran.{Ran}
-use Rattle.gx_slices.proofs.Closing.{IsApart-taken, IsHeld-back, no-wait}
+use Rattle.gx_slices.proofs.Closing.{IsApart-taken, IsHeld-answered, no-wait}
 use Rattle.gx_slices.proofs.Rightness.{right-insert, typed-inserted}
 use Rattle.gx_slices.proofs.Turning.{HasRun-answers}
 use Rattle.gx_slices.proofs.inserting.insert.Goals as goal
@@ -21,7 +21,7 @@ insert_rows-requires g c =
     let is = c.requires.0 in
     let alive = c.requires.1.0 in
     let took = c.take_entry-entry.ensures in (
-      c.requires.1.1.1.1.1,
+      c.requires.1.1.1.1.1.0,
       (alive, (IsApart-taken tables held c.take_entry-entry.new.entries g.s gxid c.take_entry-entry.result is alive c.requires.1.1.0 took.local took.kept, no-wait tables held g.s gxid is c.requires.1.1.1.0)),
     )
 
@@ -45,7 +45,7 @@ returns g c =
     let put = subst (λ (l : List KeyedRow). IsInserted g.s gxid cid table l first mid entry c.in_ok-marks.marks.items) c.into_vec.ensures c.in_ok-marks.ensures in
     let typed = typed-inserted tables gxid cid table g.s rows is.typed (right-insert tables gxid cid table rows right) in
     let reply : Reply = Done cid c.has_written.result c.len-count.result (Rows c.new.result) in
-    let back = IsHeld-back tables held first mid new g.s m.seg gxid cid entry reply is alive free put.apart put.free c.take_entry-entry.ensures.others refl c.in_ok-keep_answer.ensures typed in
+    let back = IsHeld-answered tables held first mid new g.s m.seg gxid cid entry is c.requires.1.1.1.1.1.1 put.apart c.take_entry-entry.ensures.others refl typed reply free put.free c.in_ok-keep_answer.ensures in
     let ran : Ran = record { marks = c.from_vec.result; reply = reply } in
     let wrote = c.has_written.ensures ∙ ap (λ (l : Local). has_written l.phase) put.apart.local in
     HasRun-answers tables new gxid cid m.seg ran m.marks (Done cid (has_written (local_of m.seg gxid).phase) (length rows) (Rows [])) back

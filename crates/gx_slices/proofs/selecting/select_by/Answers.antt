@@ -5,7 +5,7 @@ use Rattle.gx_rules.specs.Slices.{first_fault, has_written}
 use Rattle.gx_rules.specs.Shown.{shown}
 use Rattle.gx_slices.specs.Picked.{AreTypedOn, select_marks, select_reply}
 use Rattle.gx_slices.specs.declared.held.Held.{Held}
-use Rattle.gx_slices.proofs.Closing.{IsApart-taken, IsHeld-back, IsStored-held, no-wait}
+use Rattle.gx_slices.proofs.Closing.{IsApart-taken, IsHeld-answered, IsStored-held, no-wait}
 use Rattle.gx_slices.proofs.Counting.{rows-shown}
 use Rattle.gx_slices.proofs.Rightness.{right-shown, typed-select}
 use Rattle.gx_slices.proofs.Turning.{HasRun-selects}
@@ -32,7 +32,7 @@ returns g c =
     let mid : Held = record held { entries = c.take_entry-entry.new.entries } in
     let rows = rows-shown held.store g.s (IsStored-held c.args.tables.now held g.s is) c.args.snapshot.now c.args.gxid c.args.cid query.table c.in_ok-rows.rows.items c.in_ok-rows.ensures.rising c.in_ok-rows.ensures.images in
     let apart = IsApart-taken c.args.tables.now held c.take_entry-entry.new.entries g.s c.args.gxid entry is may.alive may.open_here took.local took.kept in
-    let back = IsHeld-back c.args.tables.now held mid mid c.keep_answer.new.held g.s g.s c.args.gxid c.args.cid entry c.in_ok-ran.ran.reply is may.alive may.free apart (no-wait c.args.tables.now held g.s c.args.gxid is may.free) took.others refl c.in_ok-keep_answer.ensures is.typed in
+    let back = IsHeld-answered c.args.tables.now held mid mid c.keep_answer.new.held g.s g.s c.args.gxid c.args.cid entry is may.new apart took.others refl is.typed c.in_ok-ran.ran.reply may.free (no-wait c.args.tables.now held g.s c.args.gxid is may.free) c.in_ok-keep_answer.ensures in
     let chosen = c.in_ok-ran.ensures in
     let all = shown g.s c.args.snapshot.now c.args.gxid c.args.cid query.table in
     let wrote = c.has_written-wrote.ensures ∙ ap (λ (l : Local). has_written l.phase) apart.local in

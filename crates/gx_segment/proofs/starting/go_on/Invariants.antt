@@ -1,4 +1,0 @@
-use Rattle.gx_segment.proofs.starting.go_on.Given as goal
-
-abbrev pub ghost-run_slice : goal.ghost-run_slice
-ghost-run_slice g a = g.was.seg

@@ -1,0 +1,166 @@
+-- What a command that changes rows makes of a row of its table's kinds.
+use Rattle.std.proofs.Common.{◌≡◌, ℕ, zero, suc, Bool, true, false, ◌&&◌, IsSome, List, [], ◌∷◌, slice_get, Option, Some, None, Result, Ok, Err, refl, sym, ap, ◌∙◌, subst}
+use Rattle.std.specs.Prelude.{IsTrue, slice_set}
+use Rattle.std.specs.List.{AllByRecursion, list_all}
+use Rattle.gx_ids.specs.declared.ids.Cid.{Cid}
+use Rattle.gx_ids.specs.declared.ids.Gxid.{Gxid}
+use Rattle.gx_ids.specs.declared.ids.Table.{Table}
+use Rattle.gx_tree.specs.declared.cond.Cond.{Cond}
+use Rattle.gx_tree.specs.declared.row.KeyedRow.{KeyedRow}
+use Rattle.gx_tree.specs.declared.schema.Kind.{Kind}
+use Rattle.gx_tree.specs.declared.schema.Kind.TheVariants.{Int, Text}
+use Rattle.gx_tree.specs.declared.schema.Schema.{Schema}
+use Rattle.gx_tree.specs.declared.stmt.Assign.{Assign}
+use Rattle.gx_tree.specs.declared.value.Value.{Value}
+use Rattle.gx_meaning.specs.Expressions.{and_then, value_of}
+use Rattle.gx_meaning.specs.Kinds.{IsTyped, kind_of, kinds_of, value_kind}
+use Rattle.gx_meaning.specs.declared.fault.ArithFault.{ArithFault}
+use Rattle.gx_node.specs.Right.{IsRightFor}
+use Rattle.gx_store.specs.Writes.{set_from, set_row}
+use Rattle.gx_rules.specs.Changes.{new_image}
+use Rattle.gx_rules.specs.Fits.{is_kind, is_right_assign, is_right_cond, is_right_kind, is_right_on, is_right_row, is_same_kind, kinds_in}
+use Rattle.gx_slices.specs.Agrees.{is_right_image}
+use Rattle.gx_slices.specs.Changing.{IsRightImage, IsTypedFor, slice_in}
+use Rattle.gx_slices.specs.Inserts.{IsRight}
+use Rattle.gx_slices.specs.Picked.{AreTypedOn}
+use Rattle.gx_slices.specs.Setting.{AreSettable, IsSet, IsSettable}
+use Rattle.gx_slices.proofs.Lists.{and_parts}
+use Rattle.gx_slices.proofs.Rightness.{kinds_are, same_kind, some_script, typed_by}
+use Rattle.gx_slices.proofs.ValueKinds.{inside-column, kind-value}
+
+-- A SET LIST
+same_row : (a b : List Value) → (let r : Result (List Value) ArithFault = Ok a in r) ≡ Ok b → a ≡ b
+same_row a b e = cc
+
+-- an assignment that is right: its column's kind is its expression's
+record IsRightOn (kinds : List Kind) (a : Assign) : Type 0 where
+  pub kind : Kind
+  pub column : slice_get kinds a.col ≡ Some kind
+  pub value : kind_of kinds a.expr ≡ Some kind
+
+right-on : (kinds : List Kind) (a : Assign) → is_right_assign kinds a ≡ true → IsRightOn kinds a
+right-on kinds a e = by_kinds (slice_get kinds a.col) refl (kind_of kinds a.expr) refl e
+  where
+    by_kinds : (o : Option Kind) → slice_get kinds a.col ≡ o → (x : Option Kind) → kind_of kinds a.expr ≡ x → is_right_kind o x ≡ true → IsRightOn kinds a
+    by_kinds None p x q f = absurd (cc)
+    by_kinds (Some k) p None q f = absurd (cc)
+    by_kinds (Some k) p (Some l) q f = record { kind = k; column = p; value = q ∙ ap (λ (m : Kind). Some m) (same_kind k l f) }
+
+same_kind-itself : (k : Kind) → is_same_kind k k ≡ true
+same_kind-itself Int = refl
+same_kind-itself Text = refl
+
+right-placed : (kinds : List Kind) (row : List Value) (column : ℕ) (value : Value) (k : Kind) → is_right_row kinds row ≡ true → slice_get kinds column ≡ Some k → is_same_kind k (value_kind value) ≡ true → is_right_row kinds (slice_set row column value) ≡ true
+right-placed [] [] column value k right at e = right
+right-placed [] (v ∷ vs) column value k right at e = absurd (cc)
+right-placed (l ∷ ls) [] column value k right at e = absurd (cc)
+right-placed (l ∷ ls) (v ∷ vs) zero value k right at e =
+    let parts = and_parts (is_same_kind l (value_kind v)) (is_right_row ls vs) right in
+    ap (λ (m : Kind). is_same_kind m (value_kind value) && is_right_row ls vs) (same l k at) ∙ ap (λ (b : Bool). b && is_right_row ls vs) e ∙ parts.1
+  where
+    same : (l k : Kind) → Some l ≡ Some k → l ≡ k
+    same l k f = cc
+right-placed (l ∷ ls) (v ∷ vs) (suc column) value k right at e =
+    let parts = and_parts (is_same_kind l (value_kind v)) (is_right_row ls vs) right in
+    ap (λ (b : Bool). b && is_right_row ls (slice_set vs column value)) parts.0 ∙ right-placed ls vs column value k parts.1 at e
+
+module _ (kinds : List Kind) (old : List Value) (is : kinds_of old ≡ kinds) where
+  settable : (assigns : List Assign) → list_all (is_right_assign kinds) assigns ≡ true → AreSettable old assigns
+  settable [] e = tt
+  settable (a ∷ rest) e =
+      let parts = and_parts (is_right_assign kinds a) (list_all (is_right_assign kinds) rest) e in
+      let on = right-on kinds a parts.0 in (
+        record {
+          column = inside-column old a.col on.kind (ap (λ (ks : List Kind). slice_get ks a.col) is ∙ on.column);
+          kind = subst IsSome (sym (ap (λ (ks : List Kind). kind_of ks a.expr) is ∙ on.value)) refl;
+        },
+        settable rest parts.1,
+      )
+
+  right-set : (assigns : List Assign) (new made : List Value) → is_right_row kinds new ≡ true → list_all (is_right_assign kinds) assigns ≡ true → set_from old new assigns ≡ Ok made → is_right_row kinds made ≡ true
+  right-set [] new made right e set = subst (λ (row : List Value). is_right_row kinds row ≡ true) (same_row new made set) right
+  right-set (a ∷ rest) new made right e set =
+      let parts = and_parts (is_right_assign kinds a) (list_all (is_right_assign kinds) rest) e in
+      let on = right-on kinds a parts.0 in
+      by_value on (value_of old a.expr) refl (λ value placed. right-set rest (slice_set new a.col value) made placed parts.1) set
+    where
+      by_value : IsRightOn kinds a → (r : Result Value ArithFault) → value_of old a.expr ≡ r
+          → ((value : Value) → is_right_row kinds (slice_set new a.col value) ≡ true → set_from old (slice_set new a.col value) rest ≡ Ok made → is_right_row kinds made ≡ true)
+          → and_then r (λ value. set_from old (slice_set new a.col value) rest) ≡ Ok made → is_right_row kinds made ≡ true
+      by_value on (Err fault) p more f = absurd (cc)
+      by_value on (Ok value) p more f =
+          let of_kind = kind-value old a.expr value on.kind p (ap (λ (ks : List Kind). kind_of ks a.expr) is ∙ on.value) in
+          more value (right-placed kinds new a.col value on.kind right on.column (ap (is_same_kind on.kind) of_kind ∙ same_kind-itself on.kind)) f
+
+-- THE COMMAND
+-- its table has a schema; the SET list, where there is one, and the condition are right for it
+record IsRightChange (tables : List Schema) (table : Table) (set : Option (List Assign)) (cond : Option Cond) : Type 0 where
+  pub schema : Schema
+  pub at : slice_get tables table.0 ≡ Some schema
+  pub assigns : (list : List Assign) → set ≡ Some list → list_all (is_right_assign (kinds_in schema)) list ≡ true
+  pub condition : is_right_cond (kinds_in schema) cond ≡ true
+
+module _ (tables : List Schema) (g : Gxid) (c : Cid) (table : Table) where
+  same_list : (a b : List Assign) → Some a ≡ Some b → a ≡ b
+  same_list a b e = cc
+
+  right-change : (set : Option (List Assign)) (cond : Option Cond) → IsRightFor tables g c (slice_in table set cond) true → IsRightChange tables table set cond
+  right-change None cond right = either (slice_get tables table.0) refl (right (some_script tables) refl)
+    where
+      either : (o : Option Schema) → slice_get tables table.0 ≡ o → true ≡ is_right_on g c o (slice_in table None cond) → IsRightChange tables table None cond
+      either None at e = absurd (cc)
+      either (Some schema) at e = record { schema = schema; at = at; assigns = λ list f. absurd (cc); condition = sym e }
+  right-change (Some assigns) cond right = either (slice_get tables table.0) refl (right (some_script tables) refl)
+    where
+      either : (o : Option Schema) → slice_get tables table.0 ≡ o → true ≡ is_right_on g c o (slice_in table (Some assigns) cond) → IsRightChange tables table (Some assigns) cond
+      either None at e = absurd (cc)
+      either (Some schema) at e =
+          let parts = and_parts (list_all (is_right_assign (kinds_in schema)) assigns) (is_right_cond (kinds_in schema) cond) (sym e) in
+          record {
+            schema = schema;
+            at = at;
+            assigns = λ list f. subst (λ (l : List Assign). list_all (is_right_assign (kinds_in schema)) l ≡ true) (same_list assigns list f) parts.0;
+            condition = parts.1;
+          }
+
+  module _ (set : Option (List Assign)) (cond : Option Cond) (right : IsRightFor tables g c (slice_in table set cond) true) where
+    -- on the rows that are shown
+    pub typed-shown : (rows : List KeyedRow) → AllByRecursion (IsRight tables table) rows → AreTypedOn cond rows
+    typed-shown rows all = let is = right-change set cond right in typed_by tables table is.schema is.at cond is.condition rows all
+
+    module _ (old : List Value) (image : IsRightImage tables table (Some old)) where
+      row_right : (is : IsRightChange tables table set cond) → is_right_row (kinds_in is.schema) old ≡ true
+      row_right is = subst (λ (o : Option Schema). IsTrue (is_right_image o (Some old))) is.at image
+
+      row_kinds : (is : IsRightChange tables table set cond) → kinds_of old ≡ kinds_in is.schema
+      row_kinds is = kinds_are (kinds_in is.schema) old (row_right is)
+
+      -- on one row
+      pub typed-row : IsTypedFor cond old
+      typed-row = let is = right-change set cond right in either is cond is.condition
+        where
+          either : (is : IsRightChange tables table set cond) → (o : Option Cond) → is_right_cond (kinds_in is.schema) o ≡ true → IsTypedFor o old
+          either is None e = tt
+          either is (Some it) e = subst (λ (ks : List Kind). IsTyped ks it) (sym (row_kinds is)) e
+
+      pub settable-row : IsSettable old set
+      settable-row = let is = right-change set cond right in either is set is.assigns
+        where
+          either : (is : IsRightChange tables table set cond) → (o : Option (List Assign)) → ((list : List Assign) → o ≡ Some list → list_all (is_right_assign (kinds_in is.schema)) list ≡ true) → IsSettable old o
+          either is None e = tt
+          either is (Some assigns) e = settable (kinds_in is.schema) old (row_kinds is) assigns (e assigns refl)
+
+      -- what it makes of the row is of the kinds again
+      pub right-made : (made : Option (List Value)) → new_image set old ≡ Ok made → IsRightImage tables table made
+      right-made made e = let is = right-change set cond right in subst (λ (o : Option Schema). IsTrue (is_right_image o made)) (sym is.at) (either is set is.assigns e)
+        where
+          same_image : (a b : Option (List Value)) → (let r : Result (Option (List Value)) ArithFault = Ok a in r) ≡ Ok b → a ≡ b
+          same_image a b f = cc
+
+          by_row : (is : IsRightChange tables table set cond) (assigns : List Assign) → list_all (is_right_assign (kinds_in is.schema)) assigns ≡ true → (r : Result (List Value) ArithFault) → set_row assigns old ≡ r → and_then r (λ new. Ok (Some new)) ≡ Ok made → IsTrue (is_right_image (Some is.schema) made)
+          by_row is assigns all (Err fault) p f = absurd (cc)
+          by_row is assigns all (Ok new) p f = subst (λ (o : Option (List Value)). IsTrue (is_right_image (Some is.schema) o)) (same_image (Some new) made f) (right-set (kinds_in is.schema) old (row_kinds is) assigns old new (row_right is) all p)
+
+          either : (is : IsRightChange tables table set cond) → (o : Option (List Assign)) → ((list : List Assign) → o ≡ Some list → list_all (is_right_assign (kinds_in is.schema)) list ≡ true) → new_image o old ≡ Ok made → IsTrue (is_right_image (Some is.schema) made)
+          either is None all f = subst (λ (o : Option (List Value)). IsTrue (is_right_image (Some is.schema) o)) (same_image None made f) refl
+          either is (Some assigns) all f = by_row is assigns (all assigns refl) (set_row assigns old) refl f
