@@ -229,15 +229,6 @@ module _ (script : Script) (numbered : AreLinesNumbered [] script.lines) (w : Wo
     late-result v t = record { half = late-half v t; says = inl v.aborted }
 
     module _ (v : Live script w g.0 k.cid (stmt_of_change k) k.level) (below : IsBelow horizon) (served : IsServed (marks_in w.steps) k.level g k.cid k.snapshot) where
-      abbrev its-runs : Runs script w.steps e pre b.node g k
-      its-runs = runs v b.node pre locks
-
-      abbrev the-sight : Sight (marks_in w.steps ++ pre) b g k
-      the-sight = its-sight v (below (alive v)) served
-
-      abbrev IsOutcome : SegTurn → Type 0
-      IsOutcome t = Outcome script w.steps e pre b g k its-runs the-sight changes b-versions homes-pre t
-
       live-result : (t : SegTurn) → Outcome script w.steps e pre b g k (runs v b.node pre locks) (its-sight v (below (alive v)) served) changes b-versions homes-pre t → Result t
       live-result t out =
           record {
@@ -259,6 +250,11 @@ module _ (script : Script) (numbered : AreLinesNumbered [] script.lines) (w : Wo
       part = shown_to b g k
 
       module _ (v : Live script w g.0 k.cid (stmt_of_change k) k.level) where
+        its-place : (its-sight v (below (alive v)) served).place ≡ served.place
+        its-place =
+            sight-place script w known i one g k horizon (below (alive v)) served b on pre locks (alive v) (running v)
+            (subst (Each (λ (u : Version). u.gxid ≡ g → u.cid.0 ≤ k.cid.0)) (sym s-versions) (none-later ms (undone_in w.segs) (at i) g k.cid upto ms begun))
+
         its-part : IsPartOf (marks_in w.steps) (take served.place (marks_in w.steps)) (at i) g k.cid k.table (shown_to b g k)
         its-part =
             shown-part ms homes-now.nodes served.place (at i) b (on.versions ∙ s-versions) k.snapshot g k.cid k.table
@@ -267,11 +263,6 @@ module _ (script : Script) (numbered : AreLinesNumbered [] script.lines) (w : Wo
         behind-part : IsPartOf (marks_in w.steps ++ pre) (take (its-sight v (below (alive v)) served).place (marks_in w.steps ++ pre)) b.node g k.cid k.table (shown_to b g k)
         behind-part =
             subst (λ p. IsPartOf (ms ++ pre) (take p (ms ++ pre)) b.node g k.cid k.table part) (sym its-place) (part-behind served.place served.d served.taken served.serves part its-part)
-          where
-            its-place : (its-sight v (below (alive v)) served).place ≡ served.place
-            its-place =
-                sight-place script w known i one g k horizon (below (alive v)) served b on pre locks (alive v) (running v)
-                (subst (Each (λ (u : Version). u.gxid ≡ g → u.cid.0 ≤ k.cid.0)) (sym s-versions) (none-later ms (undone_in w.segs) (at i) g k.cid upto ms begun))
 
         all-free : AreLeft ((marks_in w.steps ++ pre) ++ []) g k (selected k.cond (shown_to b g k))
         all-free =
@@ -287,19 +278,11 @@ module _ (script : Script) (numbered : AreLinesNumbered [] script.lines) (w : Wo
             goes-legal script w.steps e pre b g k (runs v b.node pre locks) (its-sight v (below (alive v)) served) b-versions homes-pre part behind-part [] (selected k.cond part) refl (starts_from b) begins all-free 0 none-counted tt
         by-fault-legal (Some found) q = start-fault script w.steps e pre b g k (runs v b.node pre locks) (its-sight v (below (alive v)) served) b-versions homes-pre part behind-part found q
 
-        has-it : first_fault k.cond (shown_to b g k) ≡ None → HasPart (marks_in w.steps ++ pre) b.node g k
-        has-it q = has-behind (record { served = served; part = part; its = its-part; whole = faults-on-none k.cond part q })
-
         by-fault-out : (o : Option (KeyedRow × ArithFault)) → first_fault k.cond (shown_to b g k) ≡ o → HaveHomes ((marks_in w.steps ++ pre) ++ (unless_fault b g k (shown_to b g k) o).marks) × Each (IsWork b.node g k.cid) (unless_fault b g k (shown_to b g k) o).marks
             → Outcome script w.steps e pre b g k (runs v b.node pre locks) (its-sight v (below (alive v)) served) changes b-versions homes-pre (unless_fault b g k (shown_to b g k) o)
         by-fault-out None q given =
             goes-out script w.steps e pre b g k (runs v b.node pre locks) (its-sight v (below (alive v)) served) changes b-versions homes-pre
             (has-behind (record { served = served; part = part; its = its-part; whole = faults-on-none k.cond part q })) (sym its-place) [] (selected k.cond part) refl (starts_from b) begins tt all-free 0 none-counted tt given
-          where
-            its-place : (its-sight v (below (alive v)) served).place ≡ served.place
-            its-place =
-                sight-place script w known i one g k horizon (below (alive v)) served b on pre locks (alive v) (running v)
-                (subst (Each (λ (u : Version). u.gxid ≡ g → u.cid.0 ≤ k.cid.0)) (sym s-versions) (none-later ms (undone_in w.segs) (at i) g k.cid upto ms begun))
         by-fault-out (Some found) q given = fault-out script w.steps e pre b g k (runs v b.node pre locks) (its-sight v (below (alive v)) served) changes b-versions homes-pre part behind-part found q alone
 
       pub start-legal : How → Legals (Ok script w.steps e b.node) pre (changes_rows b g (Some k)).marks
@@ -336,12 +319,6 @@ module _ (script : Script) (numbered : AreLinesNumbered [] script.lines) (w : Wo
       h : IsHalfDone (marks_in w.steps) (w.segs i).versions (at i) g k rids count
       h = half (alive v)
 
-      abbrev row-runs : Runs script w.steps e [] s.node g k
-      row-runs = runs v s.node [] tt
-
-      abbrev row-sight : Sight (marks_in w.steps ++ []) s g k
-      row-sight = its-sight horizon s on-it [] tt upto v (below (alive v)) h.has.served
-
       abbrev has-part : HasPart (marks_in w.steps ++ []) s.node g k
       has-part = has-behind horizon s on-it [] tt upto h.has
 
@@ -373,9 +350,6 @@ module _ (script : Script) (numbered : AreLinesNumbered [] script.lines) (w : Wo
       live-row-out given =
           goes-out script w.steps e [] s g k (runs v s.node [] tt) (its-sight horizon s on-it [] tt upto v (below (alive v)) h.has.served) changes here-versions here-homes (has-behind horizon s on-it [] tt upto h.has) part-place h.done rids h.split (is_granted s g wanted) goes-on row-ready row-free count row-counted row-was
           (given, row-work.work)
-
-    abbrev pub RowResult : SegTurn → Type 0
-    RowResult t = Result horizon (w.segs i) on-it [] tt upto t
 
     pub row-legal : How → Legals (Ok script w.steps e (w.segs i).node) [] (goes_through g k rids (is_granted (w.segs i) g wanted) count).marks
     row-legal (inl v) = live-row-legal v
