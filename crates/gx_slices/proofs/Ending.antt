@@ -83,7 +83,7 @@ module _ (stage : Stage) (change : Change) (held new : Held) (entry : Entry) (ma
     its_cid : w.cid.0 ≡ change.writer.cid.0
     its_cid = ap (λ (x : Suspended). x.cid.0) same
 
-    told_by : Local → Suspended → Local
+    abbrev told_by : Local → Suspended → Local
     told_by l x = record l { last = x.cid.0; answer = None; suspended = Some x }
 
     its_local : local_of (suspended entry w).local ≡ told

@@ -132,8 +132,7 @@ fn go_through(
         if is_done(end) {
             count = counted(count, end);
         } else {
-            let stopped = end_at(alloc, rids, index, count, end)?;
-            return Ok(stopped);
+            return end_at(alloc, rids, index, count, end);
         }
     }
     Ok(RowsEnd::Done(count))
@@ -360,7 +359,8 @@ fn fail_on(
         (slices.fails_on stage.found.start change.writer.gxid change.writer.cid (row, fault))) }
 {
     let Writer { gxid, cid, .. } = change.writer;
-    let Ran { marks, reply } = faulted(alloc, gxid, cid, row, fault)?;
+    let ran = faulted(alloc, gxid, cid, row, fault)?;
+    let Ran { marks, reply } = ran;
     answer(alloc, held, &change, entry, reply, marks.into_vec())
 }
 

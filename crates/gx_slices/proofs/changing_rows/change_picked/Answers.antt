@@ -1,4 +1,4 @@
-use Rattle.std.proofs.Common.{Option, ap, subst, sym}
+use Rattle.std.proofs.Common.{List, Option, ap, map, subst, sym}
 use Rattle.gx_tree.specs.declared.row.KeyedRow.{KeyedRow}
 use Rattle.gx_meaning.specs.declared.fault.ArithFault.{ArithFault}
 use Rattle.gx_rules.specs.Changes.{shown_to, unless_fault}
@@ -13,7 +13,7 @@ change_kept-requires g c =
     let k = c.args.change in
     let rows = shown_to g.stage.found.start k.writer.gxid (change_in k) in
     let picked = subst (λ (p : Picked). IsPicked k.cond rows p) c.in-Rows.is c.requires.1.1.1.1.1 in
-    (c.requires.0, (c.requires.1.0, (c.requires.1.1.0, (c.requires.1.1.1.0, (c.requires.1.1.1.1.0, ap _ picked.1)))))
+    (c.requires.0, (c.requires.1.0, (c.requires.1.1.0, (c.requires.1.1.1.0, (c.requires.1.1.1.1.0, ap (λ (l : List KeyedRow). map (λ row. row.rid) l) picked.1)))))
 
 pub returns-in-Rows : goal.returns-in-Rows
 returns-in-Rows g c =

@@ -13,14 +13,14 @@ answer-requires g c =
     let start = c.requires.1.1.1.1 in
     let marks = c.into_vec.result.items in (
       IsTaken-marked g.stage (change_in k) gxid c.args.held.now c.args.entry at free start marks c.requires.0,
-      (c.requires.1.0, IsAnswered-marked g.stage (change_in k) gxid c.args.held.now c.args.entry at free start marks c.in_ok-faulted.reply),
+      (c.requires.1.0, IsAnswered-marked g.stage (change_in k) gxid c.args.held.now c.args.entry at free start marks c.in_ok-ran.ran.reply),
     )
 
 pub returns : goal.returns
 returns g c =
     let k = c.args.change in
     let w = k.writer in
-    let is = c.in_ok-faulted.ensures in
+    let is = c.in_ok-ran.ensures in
     HasProgressed-if g.stage.found.tables c.answer.new.held w.gxid c.answer.result _ _
-    (answers-faulted g.stage.found.start w.gxid w.cid c.args.row c.args.fault c.into_vec.result.items c.in_ok-faulted.reply (c.into_vec.ensures ∙ is.marks) is.reply)
+    (answers-faulted g.stage.found.start w.gxid w.cid c.args.row c.args.fault c.into_vec.result.items c.in_ok-ran.ran.reply (c.into_vec.ensures ∙ is.marks) is.reply)
     c.answer.ensures

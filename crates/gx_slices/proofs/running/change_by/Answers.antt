@@ -10,8 +10,8 @@ change_rows-requires g c =
     let may = c.requires.1.1.0 in
     (c.requires.0, (c.requires.1.0, (record { alive = may.alive; node = c.requires.1.1.1; right = may.right; new = may.new }, (may.open_here, may.free))))
 
-pub returns-in-Some : goal.returns-in-Some
-returns-in-Some g c =
+pub returns : goal.returns
+returns g c =
     let w = c.args.writer in
     let slice = slice_in w.table c.args.set c.args.cond in
     HasProgressed-if g.found.tables c.change_rows.new.held w.gxid c.change_rows.result _ _

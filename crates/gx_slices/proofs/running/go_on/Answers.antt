@@ -7,12 +7,12 @@ use Rattle.gx_slices.proofs.running.go_on.Goals as goal
 
 pub go_on_at_row-requires : goal.go_on_at_row-requires
 go_on_at_row-requires g c =
-    (c.requires.1.0, (c.requires.1.1.0, (c.requires.1.1.1.0, c.node.ensures ∙ c.requires.1.1.1.1)))
+    (c.requires.1.0, (c.requires.1.1.0, (c.requires.1.1.1.0, c.node-node.ensures ∙ c.requires.1.1.1.1)))
 
 pub run_slice-requires : goal.run_slice-requires
 run_slice-requires g c =
     let may = c.requires.1.1.1.0 in
-    (c.requires.0, (c.requires.1.0, (c.requires.1.1.0, (may.may, c.node.ensures ∙ c.requires.1.1.1.1))))
+    (c.requires.0, (c.requires.1.0, (c.requires.1.1.0, (may.may, c.node-node.ensures ∙ c.requires.1.1.1.1))))
 
 pub returns-in-Some : goal.returns-in-Some
 returns-in-Some g c =

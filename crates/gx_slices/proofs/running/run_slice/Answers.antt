@@ -46,8 +46,3 @@ pub run_lock-requires : goal.run_lock-requires
 run_lock-requires g c =
     let may = c.requires.1.1.1.0 in
     (c.requires.0, (c.requires.1.1.0, (may.alive, (may.open_here, (may.free, may.new)))))
-
-pub returns-in-Lock : goal.returns-in-Lock
-returns-in-Lock g c =
-    let w = c.args.command in
-    HasProgressed-slice g.found.tables c.run_lock.new.held c.args.gxid c.run_lock.result g.found.start w.cid w.level w.snapshot w.slice (slice.Lock c.in-Lock._table c.in-Lock._mode) c.in-Lock.is c.run_lock.ensures
