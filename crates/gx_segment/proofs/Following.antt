@@ -1,5 +1,5 @@
--- What an order leaves of a transaction: its last command stays, who has ended has ended and nobody else unless it ends, and whose slice waits isn't changed, but
--- for an end, after which nothing waits.
+-- What an order leaves of a transaction: its last command stays, who has ended has ended, as nobody else has but for an end, and whose
+-- slice waits isn't changed, but for an end, after which nothing waits.
 use Rattle.std.proofs.Common.{◌≡◌, Bool, true, false, if◌then◌else◌, Option, Some, None, List, refl, ap, sym, ◌∙◌}
 use Rattle.std.specs.Prelude.{is_some}
 use Rattle.gx_ids.specs.declared.ids.Gxid.{Gxid}

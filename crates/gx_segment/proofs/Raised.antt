@@ -6,7 +6,7 @@ use Rattle.std.specs.BTreeSet.{contains}
 use Rattle.std.specs.Prelude.{◌&&◌, not, nat_lt, filter, is_some, map}
 use Rattle.gx_ids.specs.declared.ids.Gxid.{Gxid}
 use Rattle.gx_tree.specs.declared.schema.Schema.{Schema}
-use Rattle.gx_dsnap.specs.Gxids.{gxid_cmp}
+use Rattle.gx_dsnap.specs.Gxids.{gxid_cmp, is_below}
 use Rattle.gx_rows.specs.Counts.{is_committed}
 use Rattle.gx_rows.specs.Rows.{is_unaborted}
 use Rattle.gx_rules.specs.AtSegment.{raised}
@@ -63,7 +63,7 @@ module _ (s : Seg) (h : Gxid) (was : AreWriters s) (came : (g : Gxid) → has_ve
   under g low wrote =
       has-ended (nat_lt 0 (local_of s g).last) (has_ended (local_of s g).phase) (came g wrote) (each_below-one h.0 g.0 (λ n. not (holds_locks (s.locals n))) low nobody)
 
-  by-horizon : (g : Gxid) (b : Bool) → is_below h s.horizon ≡ b → g.0 < (if b then h else s.horizon).0 → has_version s g ≡ true → has_ended (local_of s g).phase ≡ true
+  by-horizon : (g : Gxid) (b : Bool) → is_below h s.horizon ≡ b → g.0 < (let z : Gxid = if b then h else s.horizon in z).0 → has_version s g ≡ true → has_ended (local_of s g).phase ≡ true
   by-horizon g true e low wrote = under g low wrote
   by-horizon g false e low wrote = was.low g low wrote
 

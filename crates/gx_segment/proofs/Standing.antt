@@ -1,5 +1,5 @@
 -- What no slice changes of a segment: its node, its horizon, and how many messages it has sent before.
-use Rattle.std.proofs.Common.{◌≡◌, ◌⊎◌, inl, inr, ℕ, Bool, true, false, if◌then◌else◌, Option, Some, None, List, [], ◌∷◌, ◌++◌, refl, sym, ◌∙◌, subst}
+use Rattle.std.proofs.Common.{◌≡◌, inl, inr, ℕ, Bool, true, false, if◌then◌else◌, Option, Some, None, List, [], ◌∷◌, ◌++◌, refl, sym, ◌∙◌, subst}
 use Rattle.std.specs.Prelude.{fold}
 use Rattle.gx_ids.specs.declared.ids.Cid.{Cid}
 use Rattle.gx_ids.specs.declared.ids.Gxid.{Gxid}
@@ -23,7 +23,7 @@ use Rattle.gx_rules.specs.AtSegment.{resumes}
 use Rattle.gx_rules.specs.Changes.{Change, change_of, changes_rows, goes_on_at, goes_through, selected, shown_to, unless_fault}
 use Rattle.gx_rules.specs.Locks.{hold_mark, with_hold}
 use Rattle.gx_rules.specs.Running.{goes_on, is_granted, runs_locked, runs_slice, slice_lock, starts_slice, suspends, unless_end}
-use Rattle.gx_rules.specs.Segments.{Phase, Reading, Writing, Prepared, Committed, Forgotten, Aborted, Seg, SegTurn, Suspended, local_of, with_local}
+use Rattle.gx_rules.specs.Segments.{Phase, Reading, Writing, Prepared, Committed, Forgotten, Aborted, Seg, Suspended, local_of, with_local}
 use Rattle.gx_rules.specs.Shown.{shown}
 use Rattle.gx_rules.specs.Slices.{Moved, adds_version, first_fault, inserts_row, own_lock, selects, starts_from, takes_lock, takes_own, version, writes_row}
 use Rattle.gx_rules.specs.Visits.{WaitsAt}

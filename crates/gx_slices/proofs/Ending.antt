@@ -1,10 +1,13 @@
 -- How a command that changes rows leaves what is held.
-use Rattle.std.proofs.Common.{◌≡◌, ◌≢◌, ◌<◌, ◌+◌, ◌^◌, ℕ, Bool, true, false, if◌then◌else◌, ◌||◌, List, [], ◌∷◌, length, Option, Some, None, refl, sym, ap, ◌∙◌, subst}
+use Rattle.std.proofs.Common.{◌≡◌, ◌≢◌, ◌<◌, ◌+◌, ◌^◌, ℕ, Bool, true, false, if◌then◌else◌, ◌||◌, List, [], ◌∷◌, length, Option, Some, None, suc, refl, sym, ap, ◌∙◌, subst, arith}
 use Rattle.std.specs.List.{list_any}
+use Rattle.std.specs.Global.{Vec}
 use Rattle.std.specs.Prelude.{is_some, nat_lt}
+use Rattle.gx_ids.specs.declared.ids.Cid.{Cid}
 use Rattle.gx_ids.specs.declared.ids.Gxid.{Gxid}
 use Rattle.gx_ids.specs.declared.rid.Rid.{Rid}
-use Rattle.gx_tree.specs.declared.slice.Slice.{Slice}
+use Rattle.gx_tree.specs.declared.row.KeyedRow.{KeyedRow}
+use Rattle.gx_meaning.specs.declared.fault.ArithFault.{ArithFault}
 use Rattle.gx_locks.specs.Claims.{is_of}
 use Rattle.gx_msg.specs.declared.reply.Cause.{Cause}
 use Rattle.gx_msg.specs.declared.reply.Reply.{Reply}
@@ -17,10 +20,11 @@ use Rattle.gx_rules.specs.Changes as rule
 use Rattle.gx_rules.specs.Fits.{reads_nothing}
 use Rattle.gx_rules.specs.Segments as segments
 use Rattle.gx_rules.specs.Segments.{Local, Seg, SegTurn, Suspended, with_local}
-use Rattle.gx_rules.specs.Slices.{Moved, answers, has_written}
+use Rattle.gx_rules.specs.Slices.{Moved, answers, cause_of, fails_on, has_written, starts_from}
 use Rattle.gx_slices.specs.Agrees.{IsHeld}
 use Rattle.gx_slices.specs.Apart.{IsBack, answered}
-use Rattle.gx_slices.specs.Changing.{HasGone, IsAnswered, IsTaken, MayChange, Stage, change_in, slice_in}
+use Rattle.gx_slices.specs.Changing.{HasGone, IsAnswered, IsAt, IsFree, IsTaken, MayChange, Stage, change_in, slice_in}
+use Rattle.gx_slices.specs.Picked.{select_marks}
 use Rattle.gx_slices.specs.Ran.{HasProgressed}
 use Rattle.gx_slices.specs.Suspensions.{suspended}
 use Rattle.gx_slices.specs.Waiting.{IsRightWait, is_open}
@@ -58,12 +62,12 @@ module _ (stage : Stage) (change : Change) (held new : Held) (entry : Entry) (ma
 
   -- IT ANSWERS
   module _ (r : Reply) (is : IsAnswered stage k g held entry marks turn r) (back : IsBack held new g change.writer.cid (answered entry change.writer.cid r)) where
-    pub HasProgressed-answered : HasProgressed stage.found.tables new g (record { marks = marks; reply = Some r }) turn
-    HasProgressed-answered = record {
+    pub HasProgressed-answered : (shown : List Mark) → shown ≡ marks → HasProgressed stage.found.tables new g (record { marks = shown; reply = Some r }) turn
+    HasProgressed-answered shown all = record {
       agrees =
           subst (λ (t : SegTurn). IsHeld stage.found.tables new t.seg) (sym is.is)
           (IsHeld-answered stage.found.tables stage.found.was stage.first held new stage.found.start is.moved.seg g change.writer.cid entry taken.held may.new is.at.apart taken.others taken.holders is.at.typed r taken.free is.free back);
-      marks = is.at.told ∙ ap (λ (t : SegTurn). t.marks) (sym is.is);
+      marks = all ∙ is.at.told ∙ ap (λ (t : SegTurn). t.marks) (sym is.is);
       outs = ap (λ (t : SegTurn). t.outs) is.is;
       item = ap (λ (t : SegTurn). t.item) is.is;
     }
@@ -79,7 +83,7 @@ module _ (stage : Stage) (change : Change) (held new : Held) (entry : Entry) (ma
     its_cid : w.cid.0 ≡ change.writer.cid.0
     its_cid = ap (λ (x : Suspended). x.cid.0) same
 
-    told_by : Local → Suspended → Local
+    abbrev told_by : Local → Suspended → Local
     told_by l x = record l { last = x.cid.0; answer = None; suspended = Some x }
 
     its_local : local_of (suspended entry w).local ≡ told
@@ -102,13 +106,39 @@ module _ (stage : Stage) (change : Change) (held new : Held) (entry : Entry) (ma
     same_slice : (x y : Suspended) → Some x ≡ Some y → x ≡ y
     same_slice x y e = cc
 
-    pub HasProgressed-stopped : HasProgressed stage.found.tables new g (record { marks = marks; reply = None }) turn
-    HasProgressed-stopped = record {
+    pub HasProgressed-stopped : (shown : List Mark) → shown ≡ marks → HasProgressed stage.found.tables new g (record { marks = shown; reply = None }) turn
+    HasProgressed-stopped shown all = record {
       agrees =
           subst (λ (t : SegTurn). IsHeld stage.found.tables new t.seg) (sym is.is)
           (IsHeld-back stage.found.tables stage.found.was stage.first held new stage.found.start s g w.cid entry taken.held (ap (nat_lt 0) its_cid ∙ may.new) is.at.apart taken.others taken.holders is.at.typed (suspended entry w) told back its_local refl refl (sym its_cid) is.waits
           (λ x e. subst (IsRightWait stage.found.tables (with_local s g told) g) (same_slice (rule.suspended_at k row rows count) x e) right-wait));
-      marks = is.at.told ∙ ap (λ (t : SegTurn). t.marks) (sym is.is);
+      marks = all ∙ is.at.told ∙ ap (λ (t : SegTurn). t.marks) (sym is.is);
       outs = ap (λ (t : SegTurn). t.outs) is.is;
       item = ap (λ (t : SegTurn). t.item) is.is;
     }
+
+-- IT FAILS ON A ROW THAT IT SELECTS BY
+module _ (stage : Stage) (k : rule.Change) (g : Gxid) (held : Held) (entry : Entry) (at : IsAt stage g held entry []) (free : IsFree stage g) (start : stage.moved ≡ starts_from stage.found.start) (marks : List Mark) where
+  abbrev pub marked : Stage
+  marked = record stage { moved = record stage.moved { marks = marks } }
+
+  pub IsTaken-marked : IsTaken stage g → IsTaken marked g
+  IsTaken-marked taken = record { held = taken.held; free = taken.free; others = taken.others; holders = taken.holders }
+
+  pub IsAnswered-marked : (r : Reply) → IsAnswered marked k g held entry marks (answers stage.found.start g k.cid marks r) r
+  IsAnswered-marked r = record {
+    moved = record stage.moved { marks = marks };
+    at = record { apart = at.apart; told = refl; typed = at.typed };
+    is = ap (λ (m : Moved). answers m.seg g k.cid marks r) (sym start);
+    free = free;
+  }
+
+pub answers-faulted : (s : Seg) (g : Gxid) (c : Cid) (row : KeyedRow) (fault : ArithFault) (marks : List Mark) (r : Reply) → marks ≡ select_marks g c (Some (row, fault)) → r ≡ Failed c (cause_of fault) → answers s g c marks r ≡ fails_on s g c (row, fault)
+answers-faulted s g c row fault marks r told is = ap (λ (ms : List Mark). answers s g c ms r) told ∙ ap (answers s g c (select_marks g c (Some (row, fault)))) is
+
+-- ROOM
+pub few-rows : (rids : Vec Rid) (rows : List Rid) → rows ≡ rids.items → 0 + length rows < 2 ^ 64
+few-rows rids rows same = let few : length rids.items < 2 ^ 63 = omega (arith, rids.ok, rids.small) in let is : length rows ≡ length rids.items = ap length same in omega (arith, few, is)
+
+pub room-for : (count : ℕ) (row : Rid) (rows all : List Rid) → all ≡ row ∷ rows → count + length rows + 1 < 2 ^ 64 → count + length all < 2 ^ 64
+room-for count row rows all same room = let is : length all ≡ suc (length rows) = ap length same in omega (arith, is, room)

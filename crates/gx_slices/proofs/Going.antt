@@ -14,9 +14,10 @@ use Rattle.gx_rules.specs.Changes as rule
 use Rattle.gx_rules.specs.Changes.RowEnd.{Failing, Skipped, Waiting, Written}
 use Rattle.gx_rules.specs.Segments.{SegTurn}
 use Rattle.gx_rules.specs.Slices.{Moved}
-use Rattle.gx_slices.specs.Changing.{Came, HasGone, IsAt, IsFree, Stage, end_of, ends_as, moved_by, rid_at, waits_then}
+use Rattle.gx_slices.specs.Changing.{Came, HasGone, IsAt, IsFree, Stage, end_of, ended_at, ends_as, is_done_at, moved_by, rid_at, waits_then, written_at}
 use Rattle.gx_slices.specs.declared.changing_row.RowEnd.{RowEnd}
 use Rattle.gx_slices.specs.declared.changing_row.RowEnd.TheVariants as end
+use Rattle.gx_slices.specs.declared.changing_rows.RowsEnd.{RowsEnd}
 use Rattle.gx_slices.specs.declared.changing_rows.RowsEnd.TheVariants as rows_end
 use Rattle.gx_slices.specs.declared.held.Entry.{Entry}
 use Rattle.gx_slices.specs.declared.held.Held.{Held}
@@ -99,14 +100,27 @@ module _ (stage : Stage) (k : rule.Change) (g : Gxid) (rids : List Rid) (before 
     next-turn : (n : ℕ) → rule.goes_through g k rest done_row.moved n ≡ all → rule.goes_through g k rest (moved_at (index + 1)) n ≡ all
     next-turn n e = ap (λ (m : Moved). rule.goes_through g k rest m n) next-moved ∙ e
 
-    pub under-way-written : e ≡ end.Written → IsUnderWay held' entry' marks' (index + 1) (count + 1)
+    under-way-written : e ≡ end.Written → IsUnderWay held' entry' marks' (index + 1) (count + 1)
     under-way-written is = record { at = next-at; free = next-free (waits-end end.Written is); turn = next-turn (count + 1) (turn-end end.Written is); room = let r = was.room in omega (arith, r) }
 
-    pub under-way-skipped : e ≡ end.Skipped → IsUnderWay held' entry' marks' (index + 1) count
-    under-way-skipped is = record { at = next-at; free = next-free (waits-end end.Skipped is); turn = next-turn count (turn-end end.Skipped is); room = let r = was.room in omega (arith, r) }
+    under-way-skipped : e ≡ end.Skipped → IsUnderWay held' entry' marks' (index + 1) (count + 0)
+    under-way-skipped is =
+        let same : count + 0 ≡ count = omega arith in
+        subst (λ (n : ℕ). IsUnderWay held' entry' marks' (index + 1) n) (sym same)
+        (record { at = next-at; free = next-free (waits-end end.Skipped is); turn = next-turn count (turn-end end.Skipped is); room = let r = was.room in omega (arith, r) })
+
+    -- it is done with it
+    pub under-way-next : (n : ℕ) → is_done_at (end_of e) ≡ true → n ≡ count + written_at e → IsUnderWay held' entry' marks' (index + 1) n
+    under-way-next n done told = subst (λ (x : ℕ). IsUnderWay held' entry' marks' (index + 1) x) (sym told) (by_end e refl done)
+      where
+        by_end : (x : RowEnd) → e ≡ x → is_done_at (end_of x) ≡ true → IsUnderWay held' entry' marks' (index + 1) (count + written_at x)
+        by_end end.Written is d = under-way-written is
+        by_end end.Skipped is d = under-way-skipped is
+        by_end end.Waiting is d = absurd (cc)
+        by_end (end.Failing cause) is d = absurd (cc)
 
     -- it waits at one
-    pub gone-waiting : e ≡ end.Waiting → before + length rids < 2 ^ 64 → (row : Rid) (rows : List Rid) → row ≡ rid → rows ≡ rest → HasGone stage k g held' entry' marks' all (rows_end.Waiting row rows count)
+    gone-waiting : e ≡ end.Waiting → before + length rids < 2 ^ 64 → (row : Rid) (rows : List Rid) → row ≡ rid → rows ≡ rest → HasGone stage k g held' entry' marks' all (rows_end.Waiting row rows count)
     gone-waiting is room row rows at_row behind = record {
       moved = done_row.moved;
       at = came.at;
@@ -122,7 +136,7 @@ module _ (stage : Stage) (k : rule.Change) (g : Gxid) (rids : List Rid) (before 
         counted n all a b c d = omega (arith, a, b, c, d)
 
     -- it fails at one
-    pub gone-failing : (cause : Cause) → e ≡ end.Failing cause → HasGone stage k g held' entry' marks' all (rows_end.Failing cause)
+    gone-failing : (cause : Cause) → e ≡ end.Failing cause → HasGone stage k g held' entry' marks' all (rows_end.Failing cause)
     gone-failing cause is = record {
       moved = done_row.moved;
       at = came.at;
@@ -130,3 +144,13 @@ module _ (stage : Stage) (k : rule.Change) (g : Gxid) (rids : List Rid) (before 
       waits = waits-end (end.Failing cause) is;
       room = tt;
     }
+
+    -- it isn't
+    pub gone-at : (last : RowsEnd) → is_done_at (end_of e) ≡ false → before + length rids < 2 ^ 64 → last ≡ ended_at rids index count e → HasGone stage k g held' entry' marks' all last
+    gone-at last undone room told = subst (HasGone stage k g held' entry' marks' all) (sym told) (by_end e refl undone)
+      where
+        by_end : (x : RowEnd) → e ≡ x → is_done_at (end_of x) ≡ false → HasGone stage k g held' entry' marks' all (ended_at rids index count x)
+        by_end end.Written is d = absurd (cc)
+        by_end end.Skipped is d = absurd (cc)
+        by_end end.Waiting is d = gone-waiting is room rid rest refl refl
+        by_end (end.Failing cause) is d = gone-failing cause is

@@ -1,5 +1,5 @@
 -- A command that changes rows, row by row.
-use Rattle.std.specs.Prelude.{◌≡◌, ◌≢◌, ◌≤◌, ◌<◌, ◌+◌, ◌^◌, length, Bool, true, false, not, ◌&&◌, ◌||◌, nat_lt, if◌then◌else◌, List, slice_get, fold, unwrap_or, ℕ, All, IsTrue, Some, None}
+use Rattle.std.specs.Prelude.{◌≡◌, ◌≢◌, ◌≤◌, ◌<◌, ◌+◌, ◌^◌, length, Bool, true, false, not, ◌&&◌, ◌||◌, nat_lt, if◌then◌else◌, List, slice_get, fold, drop, unwrap_or, ℕ, All, IsTrue, Some, None}
 use Rattle.std.specs.declared.option.Option.{Option}
 use Rattle.std.specs.List.{list_any}
 use Rattle.gx_ids.specs.declared.ids.Cid.{Cid}
@@ -164,6 +164,17 @@ rid_at rids index = unwrap_or (slice_get rids index) (record { gxid = record { 0
 -- what these rows, all of them done, have made of the segment
 abbrev pub moved_by : Gxid → rule.Change → Moved → List Rid → Moved
 moved_by g k m rids = fold (λ n rid. (rule.does_row n g k rid).moved) m rids
+
+-- how many rows that was
+abbrev pub written_at : RowEnd → ℕ
+written_at end.Written = 1
+written_at _ = 0
+
+-- how the rows end at a place where the command isn't done with the row
+abbrev pub ended_at : List Rid → ℕ → ℕ → RowEnd → RowsEnd
+ended_at rids index count end.Waiting = rows_end.Waiting (rid_at rids index) (drop (index + 1) rids) count
+ended_at rids index count (end.Failing cause) = rows_end.Failing cause
+ended_at rids index count _ = rows_end.Done count
 
 -- how the rows have ended
 abbrev pub ends_as : Gxid → rule.Change → Moved → RowsEnd → SegTurn

@@ -359,3 +359,12 @@ pub(crate) fn does_row(
     leave_row(node, &mut held.locks, gxid, rid, end, marks)?;
     Ok(end)
 }
+
+pub(crate) fn is_done(end: RowEnd) -> bool
+    ensures { result ≡ is_done_at (end_of end) }
+{
+    match end {
+        RowEnd::Written | RowEnd::Skipped => true,
+        RowEnd::Waiting | RowEnd::Failing(_) => false,
+    }
+}

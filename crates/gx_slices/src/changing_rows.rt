@@ -8,7 +8,7 @@ ghost use Rattle.gx_rules.specs.Segments.{local_of};
 ghost use Rattle.gx_rules.specs.Slices as slices;
 ghost use Rattle.gx_rules.specs.Fits.{is_waiting};
 ghost use Rattle.gx_slices.specs.Agrees.{IsHeld};
-ghost use Rattle.gx_slices.specs.Changing.{Ending, Found, HasGone, IsAnswered, IsAt, IsFree, IsTaken, MayChange, Stage, change_in, rid_at};
+ghost use Rattle.gx_slices.specs.Changing.{Came, Ending, Found, HasGone, IsAnswered, IsAt, IsFree, IsTaken, MayChange, Stage, change_in, ended_at, rid_at, written_at};
 ghost use Rattle.gx_slices.specs.Picked.{IsPicked};
 ghost use Rattle.gx_slices.specs.Ran.{HasProgressed};
 ghost use Rattle.gx_slices.specs.Waiting.{is_open};
@@ -16,7 +16,7 @@ ghost use Rattle.gx_slices.specs.Waiting.{is_open};
 use crate::answering::{has_written, keep_answer};
 use crate::change::{Change, slice_of};
 use crate::changing::Writer;
-use crate::changing_row::{RowEnd, does_row};
+use crate::changing_row::{RowEnd, does_row, is_done};
 use crate::entries::take_entry;
 use crate::held::{Entry, Held};
 use crate::picking::{Picked, pick};
@@ -49,6 +49,13 @@ fn rows_behind(alloc: Global, rids: &[Rid], index: usize) -> Mem<Seq<Rid>>
     Ok(Seq::from_vec(copies(alloc, &rids[index + 1..])?))
 }
 
+fn row_at(rids: &[Rid], index: usize) -> Rid
+    requires { index < length rids.now }
+    ensures { result ≡ rid_at rids.now index }
+{
+    rids[index]
+}
+
 // One of the rows.
 fn does_row_at(
     alloc: Global,
@@ -67,7 +74,38 @@ fn does_row_at(
     ensures { IfOk result (λ end. Came stage change.now.writer.gxid held.new entry.new marks.new.items
         (rule.does_row stage.moved change.now.writer.gxid (change_in change.now) (rid_at rids.now index)) end) }
 {
-    does_row(alloc, change, held, entry, rids[index], marks)
+    does_row(alloc, change, held, entry, row_at(rids, index), marks)
+}
+
+fn counted(count: u64, end: RowEnd) -> u64
+    requires { count + 1 < 2 ^ 64 }
+    ensures { result ≡ count + written_at end }
+{
+    match end {
+        RowEnd::Written => count + 1,
+        RowEnd::Skipped | RowEnd::Waiting | RowEnd::Failing(_) => count,
+    }
+}
+
+// At a row that isn't done the command stops.
+fn end_at(
+    alloc: Global,
+    rids: &[Rid],
+    index: usize,
+    count: u64,
+    end: RowEnd,
+) -> Mem<RowsEnd>
+    requires { index < length rids.now }
+    ensures { IfOk result (λ last. last ≡ ended_at rids.now index count end) }
+{
+    match end {
+        RowEnd::Waiting => {
+            let rows = rows_behind(alloc, rids, index)?;
+            Ok(RowsEnd::Waiting(row_at(rids, index), rows, count))
+        }
+        RowEnd::Failing(cause) => Ok(RowsEnd::Failing(cause)),
+        RowEnd::Written | RowEnd::Skipped => Ok(RowsEnd::Done(count)),
+    }
 }
 
 // Goes through rows, with so many written before.
@@ -90,13 +128,11 @@ fn go_through(
 {
     let mut count = before;
     for index in 0..rids.len() {
-        match does_row_at(alloc, change, held, entry, rids, index, marks)? {
-            RowEnd::Written => count += 1,
-            RowEnd::Skipped => {}
-            RowEnd::Waiting => {
-                return Ok(RowsEnd::Waiting(rids[index], rows_behind(alloc, rids, index)?, count));
-            }
-            RowEnd::Failing(cause) => return Ok(RowsEnd::Failing(cause)),
+        let end = does_row_at(alloc, change, held, entry, rids, index, marks)?;
+        if is_done(end) {
+            count = counted(count, end);
+        } else {
+            return end_at(alloc, rids, index, count, end);
         }
     }
     Ok(RowsEnd::Done(count))
@@ -182,6 +218,51 @@ fn done(alloc: Global, change: &Change, entry: &Entry, count: u64) -> Reply
     }
 }
 
+// It has gone through all of them.
+fn finish(
+    alloc: Global,
+    held: &mut Held,
+    change: &Change,
+    entry: Entry,
+    count: u64,
+    marks: Vec<Mark>,
+) -> Mem<Progress>
+    ghost ending: { Ending }
+    requires taken { IsTaken ending.stage change.now.writer.gxid }
+    requires may { MayChange ending.stage.found.tables ending.stage.found.start change.now }
+    requires gone { HasGone ending.stage (change_in change.now) change.now.writer.gxid held.old entry marks.items ending.turn (RowsEnd.Done count) }
+    ensures { IfOk result (λ progress. HasProgressed ending.stage.found.tables held.new change.now.writer.gxid progress ending.turn) }
+{
+    let reply = done(alloc, change, &entry, count);
+    answer(alloc, held, change, entry, reply, marks)
+}
+
+// It has failed at one.
+fn give_up(
+    alloc: Global,
+    held: &mut Held,
+    change: &Change,
+    entry: Entry,
+    cause: Cause,
+    marks: Vec<Mark>,
+) -> Mem<Progress>
+    ghost ending: { Ending }
+    requires taken { IsTaken ending.stage change.now.writer.gxid }
+    requires may { MayChange ending.stage.found.tables ending.stage.found.start change.now }
+    requires gone { HasGone ending.stage (change_in change.now) change.now.writer.gxid held.old entry marks.items ending.turn (RowsEnd.Failing cause) }
+    ensures { IfOk result (λ progress. HasProgressed ending.stage.found.tables held.new change.now.writer.gxid progress ending.turn) }
+{
+    let cid = change.writer.cid;
+    answer(
+        alloc,
+        held,
+        change,
+        entry,
+        Reply::Failed { cid, cause },
+        marks,
+    )
+}
+
 fn close(
     alloc: Global,
     held: &mut Held,
@@ -197,22 +278,9 @@ fn close(
     ensures { IfOk result (λ progress. HasProgressed ending.stage.found.tables held.new change.writer.gxid progress ending.turn) }
 {
     match end {
-        RowsEnd::Done(count) => {
-            let reply = done(alloc, &change, &entry, count);
-            answer(alloc, held, &change, entry, reply, marks)
-        }
+        RowsEnd::Done(count) => finish(alloc, held, &change, entry, count, marks),
         RowsEnd::Waiting(row, rows, count) => stop(held, change, entry, row, rows, count, marks),
-        RowsEnd::Failing(cause) => {
-            let cid = change.writer.cid;
-            answer(
-                alloc,
-                held,
-                &change,
-                entry,
-                Reply::Failed { cid, cause },
-                marks,
-            )
-        }
+        RowsEnd::Failing(cause) => give_up(alloc, held, &change, entry, cause, marks),
     }
 }
 
@@ -265,8 +333,11 @@ fn change_kept(
     ensures { IfOk result (λ progress. HasProgressed stage.found.tables held.new change.writer.gxid progress
         (rule.unless_fault stage.found.start change.writer.gxid (change_in change) (rule.shown_to stage.found.start change.writer.gxid (change_in change)) None)) }
 {
-    let rids = rids_of(alloc, kept.as_slice())?;
-    go_from(alloc, held, change, entry, rids.as_slice(), 0, Vec::new(alloc))
+    let selected = kept.as_slice();
+    let rids = rids_of(alloc, selected)?;
+    let list = rids.as_slice();
+    let marks = Vec::new(alloc);
+    go_from(alloc, held, change, entry, list, 0, marks)
 }
 
 // It fails on a row on which its condition faults.
@@ -288,7 +359,8 @@ fn fail_on(
         (slices.fails_on stage.found.start change.writer.gxid change.writer.cid (row, fault))) }
 {
     let Writer { gxid, cid, .. } = change.writer;
-    let Ran { marks, reply } = faulted(alloc, gxid, cid, row, fault)?;
+    let ran = faulted(alloc, gxid, cid, row, fault)?;
+    let Ran { marks, reply } = ran;
     answer(alloc, held, &change, entry, reply, marks.into_vec())
 }
 
@@ -378,7 +450,9 @@ pub(crate) fn go_on_at(
     ensures { IfOk result (λ progress. HasProgressed found.tables held.new change.writer.gxid progress
         (rule.goes_through change.writer.gxid (change_in change) (row ∷ rows) (record { seg = found.start; marks = marks.items }) count)) }
 {
-    let rids = rids_from(alloc, row, rows.as_slice())?;
+    let left = rows.as_slice();
+    let rids = rids_from(alloc, row, left)?;
     let entry = take_entry(alloc, &mut held.entries, change.writer.gxid);
-    go_from(alloc, held, change, entry, rids.as_slice(), count, marks)
+    let list = rids.as_slice();
+    go_from(alloc, held, change, entry, list, count, marks)
 }

@@ -1,11 +1,16 @@
-ghost use Rattle.std.specs.Prelude.{◌≡◌, IfOk, option_map};
+ghost use Rattle.std.specs.Prelude.{◌≡◌, ◌≤◌, true, false, nat_lt, IfOk, option_map};
 ghost use Rattle.std.specs.Option.{ForSome};
 ghost use Rattle.gx_rules.specs.Changes.{change_of, changes_rows, goes_on_at};
+ghost use Rattle.gx_rules.specs.Fits.{is_waiting};
 ghost use Rattle.gx_rules.specs.Running.{goes_on, runs_slice};
+ghost use Rattle.gx_rules.specs.Segments.{local_of};
+ghost use Rattle.gx_rules.specs.Slices.{adds, locks, reads};
+ghost use Rattle.gx_tree.specs.declared.slice.Slice.TheVariants as slice;
 ghost use Rattle.gx_node.specs.Phases.{suspended_of};
 ghost use Rattle.gx_slices.specs.Agrees.{IsHeld};
 ghost use Rattle.gx_slices.specs.Changing.{Found, change_in, slice_in};
 ghost use Rattle.gx_slices.specs.Ran.{HasProgressed, MayGoOn, MayRun};
+ghost use Rattle.gx_slices.specs.Waiting.{is_open};
 
 use crate::change::Change;
 use crate::changing::Writer;
@@ -21,7 +26,7 @@ use gx_msg::Reply;
 use gx_node::Suspended;
 use gx_outside::Passed;
 use gx_store::Mark;
-use gx_tree::{Assign, Cond, Level, Schema, Slice};
+use gx_tree::{Assign, Cond, KeyedRow, Level, Query, Schema, Slice};
 use std::alloc::Global;
 
 /// What a command did here: its marks in order, and its answer, which is kept besides as the transaction's last.
@@ -64,6 +69,85 @@ fn change_by(
     }
 }
 
+// The same without a SET list.
+fn delete_by(
+    alloc: Global,
+    held: &mut Held,
+    writer: Writer,
+    level: Level,
+    snapshot: Option<Snapshot>,
+    cond: Option<Cond>,
+) -> Mem<Progress>
+    ghost found: { Found }
+    requires was { held.old ≡ found.was }
+    requires held { IsHeld found.tables held.old found.start }
+    requires may { MayRun found.tables found.start writer.gxid writer.cid snapshot (slice.Delete writer.table cond) }
+    requires node { writer.node ≡ found.start.node }
+    ensures { IfOk result (λ progress. HasProgressed found.tables held.new writer.gxid progress
+        (changes_rows found.start writer.gxid (change_of writer.cid level snapshot (slice.Delete writer.table cond)))) }
+{
+    change_by(alloc, held, writer, level, snapshot, None, cond)
+}
+
+// A query has an answer.
+fn run_select(
+    alloc: Global,
+    tables: &[Schema],
+    held: &mut Held,
+    gxid: Gxid,
+    cid: Cid,
+    snapshot: Option<Snapshot>,
+    query: Query,
+) -> Mem<Progress>
+    ghost found: { Found }
+    requires tables { tables.now ≡ found.tables }
+    requires held { IsHeld found.tables held.old found.start }
+    requires may { MayRun found.tables found.start gxid cid snapshot (slice.Select query) }
+    ensures { IfOk result (λ progress. HasProgressed found.tables held.new gxid progress (reads found.start gxid cid query snapshot)) }
+{
+    let ran = select(alloc, tables, held, gxid, cid, &snapshot, query)?;
+    Ok(answered(ran))
+}
+
+fn run_insert(
+    alloc: Global,
+    tables: &[Schema],
+    held: &mut Held,
+    writer: Writer,
+    snapshot: Option<Snapshot>,
+    rows: Seq<KeyedRow>,
+) -> Mem<Progress>
+    ghost found: { Found }
+    requires tables { tables.now ≡ found.tables }
+    requires held { IsHeld found.tables held.old found.start }
+    requires may { MayRun found.tables found.start writer.gxid writer.cid snapshot (slice.Insert writer.table rows) }
+    requires node { writer.node ≡ found.start.node }
+    ensures { IfOk result (λ progress. HasProgressed found.tables held.new writer.gxid progress (adds found.start writer.gxid writer.cid writer.table rows snapshot)) }
+{
+    let ran = insert(alloc, tables, held, writer, rows)?;
+    Ok(answered(ran))
+}
+
+fn run_lock(
+    alloc: Global,
+    tables: &[Schema],
+    held: &mut Held,
+    gxid: Gxid,
+    cid: Cid,
+) -> Mem<Progress>
+    ghost found: { Found }
+    requires tables { tables.now ≡ found.tables }
+    requires held { IsHeld found.tables held.old found.start }
+    requires alive { found.start.horizon.0 ≤ gxid.0 }
+    requires open_here { is_open (local_of found.start gxid).phase ≡ true }
+    requires free { is_waiting (local_of found.start gxid) ≡ false }
+    requires new { nat_lt 0 cid.0 ≡ true }
+    ensures { IfOk result (λ progress. HasProgressed found.tables held.new gxid progress (locks found.start gxid cid)) }
+{
+    let ran = lock(alloc, tables, held, gxid, cid)?;
+    Ok(answered(ran))
+}
+
 // Runs a command's slice for a transaction that reads or writes here, and keeps its answer. A SELECT answers the rows that
 // the snapshot shows and on which its condition is true, or FAILED for the first fault; an INSERT adds its rows; an UPDATE or DELETE
 // goes through those that it selects; a LOCK TABLE, of which the lock is held, has nothing more to do.
@@ -91,22 +175,35 @@ fn run_slice(
         ..
     } = command;
     match slice {
-        Slice::Select(query) => Ok(answered(select(
-            alloc, tables, held, gxid, cid, &snapshot, query,
-        )?)),
+        Slice::Select(query) => run_select(alloc, tables, held, gxid, cid, snapshot, query),
         Slice::Insert(table, rows) => {
-            let writer = writer_of(node, gxid, cid, table);
-            Ok(answered(insert(alloc, tables, held, writer, rows)?))
+            let writer = Writer {
+                node,
+                gxid,
+                cid,
+                table,
+            };
+            run_insert(alloc, tables, held, writer, snapshot, rows)
         }
         Slice::Update(table, assigns, cond) => {
-            let writer = writer_of(node, gxid, cid, table);
+            let writer = Writer {
+                node,
+                gxid,
+                cid,
+                table,
+            };
             change_by(alloc, held, writer, level, snapshot, Some(assigns), cond)
         }
         Slice::Delete(table, cond) => {
-            let writer = writer_of(node, gxid, cid, table);
-            change_by(alloc, held, writer, level, snapshot, None, cond)
+            let writer = Writer {
+                node,
+                gxid,
+                cid,
+                table,
+            };
+            delete_by(alloc, held, writer, level, snapshot, cond)
         }
-        Slice::Lock(_, _) => Ok(answered(lock(alloc, tables, held, gxid, cid)?)),
+        Slice::Lock(_table, _mode) => run_lock(alloc, tables, held, gxid, cid),
     }
 }
 
@@ -215,7 +312,8 @@ pub fn go_on(
         Some(row) => go_on_at_row(alloc, node, held, gxid, command, row, marks),
         None => {
             let progress = run_slice(alloc, tables, node, held, gxid, command)?;
-            after(marks, progress)
+            let all = after(marks, progress)?;
+            Ok(all)
         }
     }
 }
