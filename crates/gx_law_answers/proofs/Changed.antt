@@ -30,7 +30,7 @@ use Rattle.gx_store.proofs.Marks.{is_processed-append}
 use Rattle.gx_rules.specs.Changes.{Change, change_of, changes_rows, goes_through, selected, shown_to, suspended_at, suspends_at, unless_fault}
 use Rattle.gx_rules.specs.Segments.{Local, Phase, Seg, SegTurn, Suspended, local_of, reply as reply_out}
 use Rattle.gx_rules.specs.Segments.Phase.{Aborted, Committed, Forgotten, Prepared, Reading, Writing}
-use Rattle.gx_rules.specs.Slices.{Moved, adds_version, answers, first_fault, noted, starts_from, takes_own, version}
+use Rattle.gx_rules.specs.Slices.{Moved, adds_version, answers, first_fault, starts_from, takes_own, version}
 use Rattle.gx_rules.specs.Visits.{WaitsAt}
 use Rattle.gx_rules.proofs.Moving.{Ends, Keeps, loop-keeps}
 use Rattle.gx_law_order.proofs.Lists.{Each, get_last}

@@ -25,7 +25,7 @@ use Rattle.gx_rules.specs.AtSegment.{on_event, raised}
 use Rattle.gx_rules.specs.Locks.{hold_mark}
 use Rattle.gx_rules.specs.Machine.{World, coord_did, world_of}
 use Rattle.gx_rules.specs.Running.{is_granted, unless_end}
-use Rattle.gx_rules.specs.Segments.{Seg, SegTurn, local_of}
+use Rattle.gx_rules.specs.Segments.{Seg, SegTurn}
 use Rattle.gx_rules.specs.Sending.{numbered}
 use Rattle.gx_rules.specs.Slices.{Moved}
 use Rattle.gx_law_order.proofs.Changing.{change-parts}
