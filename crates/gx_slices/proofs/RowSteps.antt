@@ -113,7 +113,7 @@ module _ (stage : Stage) (g : Gxid) (held : Held) (entry : Entry) (marks : List 
       pub right-current : IsRightImage stage.found.tables table v.image
       right-current =
           let is = found-last_passing (λ (u : Version). IsTrue (is_right_version stage.found.tables u) × (is_current m.seg table rid u ≡ true)) (is_current m.seg table rid) m.seg.versions
-              (all_with m.seg.versions (recursion_from_All (λ u. IsTrue (is_right_version stage.found.tables u)) m.seg.versions at.typed)) v current in
+          (all_with m.seg.versions (recursion_from_All (λ u. IsTrue (is_right_version stage.found.tables u)) m.seg.versions at.typed)) v current in
           subst (λ (t : Table). IsTrue (is_right_image (slice_get stage.found.tables t.0) v.image)) (same_table v.table table (and_parts _ _ is.1).0) is.0
         where
           all_with : (vs : List Version) → AllByRecursion (λ u. IsTrue (is_right_version stage.found.tables u)) vs → AllByRecursion (λ u. is_current m.seg table rid u ≡ true → IsTrue (is_right_version stage.found.tables u) × (is_current m.seg table rid u ≡ true)) vs

@@ -88,13 +88,7 @@ fn counted(count: u64, end: RowEnd) -> u64
 }
 
 // At a row that isn't done the command stops.
-fn end_at(
-    alloc: Global,
-    rids: &[Rid],
-    index: usize,
-    count: u64,
-    end: RowEnd,
-) -> Mem<RowsEnd>
+fn end_at(alloc: Global, rids: &[Rid], index: usize, count: u64, end: RowEnd) -> Mem<RowsEnd>
     requires { index < length rids.now }
     ensures { IfOk result (λ last. last ≡ ended_at rids.now index count end) }
 {
@@ -396,7 +390,10 @@ fn pick_shown(alloc: Global, held: &Held, change: &Change) -> Mem<Picked>
     ensures { IfOk result (IsPicked change.now.cond (rule.shown_to found.start change.now.writer.gxid (change_in change.now))) }
 {
     let Writer {
-        gxid, cid, table, ..
+        gxid,
+        cid,
+        table,
+        ..
     } = change.writer;
     let rows = held
         .store
