@@ -1,5 +1,5 @@
 -- Which scripts are of the form that is run for now: those whose INSERTs have no more tuples than an ordinal can count.
-use Rattle.std.specs.Prelude.{◌^◌, nat_lt, Bool, true, false, length}
+use Rattle.std.specs.Prelude.{◌^◌, nat_lt, Bool, true, length}
 use Rattle.std.specs.List.{list_all}
 use Rattle.gx_tree.specs.declared.stmt.Stmt.{Stmt}
 use Rattle.gx_tree.specs.declared.stmt.Stmt.TheVariants.{Begin, Commit, Rollback, Select, Insert, Update, Delete, Lock}
