@@ -45,7 +45,8 @@ KeepsKey dist inserted (Some row) = IsSameKey dist inserted row
 -- no UPDATE of the table that is a transaction's command sets the distribution column; the language has none that does
 abbrev pub KeepsItsKey : Script → Table → Type 0
 KeepsItsKey script table =
-    (marks : List Mark) (g : Gxid) (c : Cid) (assigns : List Assign) (cond : Option Cond) → stmt_of_command script marks g c ≡ Some (stmt.Update table assigns cond) → LeavesKey (dist_of script.tables table.0) assigns
+    (marks : List Mark) (g : Gxid) (c : Cid) (assigns : List Assign) (cond : Option Cond)
+    → stmt_of_command script marks g c ≡ Some (stmt.Update table assigns cond) → LeavesKey (dist_of script.tables table.0) assigns
 
 -- a write of the row, with this image, stands where the row was inserted
 pub record IsPlaced (script : Script) (marks : List Mark) (node : Node) (table : Table) (rid : Rid) (image : Option (List Value)) : Type 0 where

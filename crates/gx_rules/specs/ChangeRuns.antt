@@ -1,6 +1,6 @@
 -- Small runs in which rows are updated and deleted, and what they come to. Each begins with an INSERT of two rows, one at each of two
 -- segments. An UPDATE here has an empty SET list, so it writes each row's own values again.
-use Rattle.std.specs.Prelude.{◌≡◌, ℕ, List, [], ◌∷◌, drop, Some, None}
+use Rattle.std.specs.Prelude.{◌≡◌, ℕ, List, [], ◌∷◌, ◌++◌, drop, Some, None}
 use Rattle.std.specs.declared.option.Option.{Option}
 use Rattle.std.specs.List.{flat_map}
 use Rattle.gx_ids.specs.declared.rid.Rid.{Rid}
@@ -11,6 +11,7 @@ use Rattle.gx_tree.specs.declared.value.Value.{Value}
 use Rattle.gx_modes.specs.declared.modes.Mode.TheVariants.{AccessShare, Exclusive, RowExclusive, Share}
 use Rattle.gx_msg.specs.declared.item.JournalItem.TheVariants as item
 use Rattle.gx_msg.specs.declared.item.Kept.{Kept}
+use Rattle.gx_script.specs.declared.Line.{Line}
 use Rattle.gx_script.specs.declared.Script.{Script}
 use Rattle.gx_store.specs.declared.answer.Refused.TheVariants as refused
 use Rattle.gx_store.specs.declared.answer.StmtAnswer.TheVariants as told
@@ -74,8 +75,14 @@ delete_all = stmt.Delete the_table None
 
 -- THE SECOND UPDATE WAITS
 -- two blocks update the same rows, and the first commits
+abbrev pub second_update_begins : List Line
+second_update_begins = line 0 1 two_rows ∷ line 0 2 (stmt.Begin ReadCommitted) ∷ line 1 1 (stmt.Begin ReadCommitted) ∷ []
+
+abbrev pub second_update_ends : List Line
+second_update_ends = line 0 3 update_all ∷ line 1 2 update_all ∷ line 0 4 stmt.Commit ∷ line 1 3 stmt.Commit ∷ []
+
 abbrev pub second_update : Script
-second_update = at_two 2 (line 0 1 two_rows ∷ line 0 2 (stmt.Begin ReadCommitted) ∷ line 1 1 (stmt.Begin ReadCommitted) ∷ line 0 3 update_all ∷ line 1 2 update_all ∷ line 0 4 stmt.Commit ∷ line 1 3 stmt.Commit ∷ []) []
+second_update = at_two 2 (second_update_begins ++ second_update_ends) []
 
 abbrev pub second_update_run : World
 second_update_run = drives 60 second_update never new_world
@@ -142,8 +149,14 @@ pub record SkipsGone (w : World) : Type 0 where
 
 -- A CHANGED ROW IS REFUSED
 -- two repeatable-read blocks change the same rows, and the first commits
+abbrev pub changed_row_begins : List Line
+changed_row_begins = line 0 1 two_rows ∷ line 0 2 (stmt.Begin RepeatableRead) ∷ line 1 1 (stmt.Begin RepeatableRead) ∷ line 0 3 update_all ∷ []
+
+abbrev pub changed_row_ends : List Line
+changed_row_ends = line 1 2 delete_all ∷ line 0 4 stmt.Commit ∷ line 1 3 select_all ∷ line 1 4 stmt.Commit ∷ []
+
 abbrev pub changed_row : Script
-changed_row = at_two 2 (line 0 1 two_rows ∷ line 0 2 (stmt.Begin RepeatableRead) ∷ line 1 1 (stmt.Begin RepeatableRead) ∷ line 0 3 update_all ∷ line 1 2 delete_all ∷ line 0 4 stmt.Commit ∷ line 1 3 select_all ∷ line 1 4 stmt.Commit ∷ []) []
+changed_row = at_two 2 (changed_row_begins ++ changed_row_ends) []
 
 abbrev pub changed_row_run : World
 changed_row_run = drives 57 changed_row never new_world
@@ -174,8 +187,14 @@ pub record RefusesChanged (w : World) : Type 0 where
 
 -- A SNAPSHOT SHOWS OLD IMAGES
 -- a repeatable-read block reads before and after another session updates and deletes all rows
+abbrev pub old_images_begins : List Line
+old_images_begins = line 0 1 two_rows ∷ line 1 1 (stmt.Begin RepeatableRead) ∷ line 1 2 select_all ∷ line 0 2 update_all ∷ []
+
+abbrev pub old_images_ends : List Line
+old_images_ends = line 0 3 delete_all ∷ line 1 3 select_all ∷ line 1 4 stmt.Commit ∷ line 1 5 select_all ∷ []
+
 abbrev pub old_images : Script
-old_images = at_two 2 (line 0 1 two_rows ∷ line 1 1 (stmt.Begin RepeatableRead) ∷ line 1 2 select_all ∷ line 0 2 update_all ∷ line 0 3 delete_all ∷ line 1 3 select_all ∷ line 1 4 stmt.Commit ∷ line 1 5 select_all ∷ []) []
+old_images = at_two 2 (old_images_begins ++ old_images_ends) []
 
 abbrev pub old_images_run : World
 old_images_run = drives 79 old_images never new_world
