@@ -22,6 +22,14 @@ pub behind-append : (P : List Mark → Mark → Type 0) (before xs ys : List Mar
 behind-append P before [] ys e f = subst (λ b. EachBehind P b ys) (append-nil before) f
 behind-append P before (x ∷ xs) ys e f = (e.0, behind-append P (before ++ x ∷ []) xs ys e.1 (subst (λ b. EachBehind P b ys) (sym (append_assoc before (x ∷ []) xs)) f))
 
+pub behind-front : (P : List Mark → Mark → Type 0) (before xs ys : List Mark) → EachBehind P before (xs ++ ys) → EachBehind P before xs
+behind-front P before [] ys e = tt
+behind-front P before (x ∷ xs) ys e = (e.0, behind-front P (before ++ x ∷ []) xs ys e.1)
+
+pub behind-rest : (P : List Mark → Mark → Type 0) (before xs ys : List Mark) → EachBehind P before (xs ++ ys) → EachBehind P (before ++ xs) ys
+behind-rest P before [] ys e = subst (λ b. EachBehind P b ys) (sym (append-nil before)) e
+behind-rest P before (x ∷ xs) ys e = subst (λ b. EachBehind P b ys) (append_assoc before (x ∷ []) xs) (behind-rest P (before ++ x ∷ []) xs ys e.1)
+
 pub behind-weaker : (P Q : List Mark → Mark → Type 0) → ((before : List Mark) (m : Mark) → P before m → Q before m) → (before ms : List Mark) → EachBehind P before ms → EachBehind Q before ms
 behind-weaker P Q f before [] e = tt
 behind-weaker P Q f before (m ∷ ms) e = (f before m e.0, behind-weaker P Q f (before ++ m ∷ []) ms e.1)
