@@ -1,11 +1,10 @@
 -- Over every run of the machine, who waits somewhere doesn't commit, and isn't asked to prepare or to commit.
-use Rattle.std.proofs.Common.{◌≡◌, ◌==◌, ◌||◌, ◌≤◌, ◌+◌, ◌⊎◌, inl, inr, ⊎_elim, ℕ, List, [], ◌∷◌, ◌++◌, Option, Some, None, Bool, true, false, refl, sym, subst, ap, ◌∙◌, append-nil, arith}
+use Rattle.std.proofs.Common.{◌≡◌, ◌==◌, ◌≤◌, ◌+◌, ◌⊎◌, inl, inr, ⊎_elim, ℕ, List, [], ◌∷◌, ◌++◌, Option, Some, None, Bool, true, false, refl, sym, subst, ap, ◌∙◌, arith}
 use Rattle.std.proofs.lemmas.Bool.{false_from_ne_true, or_left, or_right}
 use Rattle.std.proofs.lemmas.Bool.Decides.{nat_tests}
 use Rattle.std.specs.List.{list_any}
 use Rattle.std.specs.Prelude.{is_some}
 use Rattle.gx_lemmas.proofs.Numbers.{one-le-zero}
-use Rattle.gx_lemmas.proofs.Options.{none-some}
 use Rattle.gx_lemmas.proofs.Tests.{or-false, true-false}
 use Rattle.gx_ids.specs.declared.ids.Gxid.{Gxid}
 use Rattle.gx_ids.specs.declared.ids.Node.{Node}
@@ -19,7 +18,6 @@ use Rattle.gx_locks.specs.Locks.{Locks, wait_of}
 use Rattle.gx_msg.specs.declared.message.Message.{Message}
 use Rattle.gx_msg.specs.declared.message.Message.TheVariants as message
 use Rattle.gx_msg.specs.declared.message.Out.{Out}
-use Rattle.gx_msg.specs.declared.reply.Reply.{Reply}
 use Rattle.gx_script.specs.declared.Script.{Script}
 use Rattle.gx_store.specs.declared.event.Event.{Event}
 use Rattle.gx_store.specs.declared.mark.Mark.{Mark}
@@ -37,12 +35,12 @@ use Rattle.gx_rules.specs.AtCoordinator.{coord_can, coord_rule, on_event}
 use Rattle.gx_rules.specs.AtSegment.{seg_rule}
 use Rattle.gx_rules.specs.AtSegment as segment
 use Rattle.gx_rules.specs.Coordinators.{Coord, CoordTurn}
-use Rattle.gx_rules.specs.Machine.{World, coord_did, new_world, seg_did, world_of}
+use Rattle.gx_rules.specs.Machine.{World, coord_did, seg_did, world_of}
 use Rattle.gx_rules.specs.Segments.{SegTurn, Suspended, local_of}
 use Rattle.gx_rules.specs.Sending.{clock_after, counted, numbered}
 use Rattle.gx_law_order.proofs.AtCoordinators.{coord_stays}
 use Rattle.gx_law_order.proofs.AtSegments.{PlainAt, seg_stays}
-use Rattle.gx_law_order.proofs.Lists.{Each, each_weaker}
+use Rattle.gx_law_order.proofs.Lists.{Each}
 use Rattle.gx_law_order.proofs.Ordered.{at_coordinator}
 use Rattle.gx_law_order.proofs.Past.{aborted-append, committed-append}
 use Rattle.gx_law_order.proofs.Replies.{event-good}
@@ -171,9 +169,10 @@ module _ (script : Script) (w : World) (n : Knows script w) (q : Locked script w
   turn-frees : (before ms : List Mark) → Elsewhere before → Each (PlainAt script the_coordinator) ms → Each (IsAtNode script the_coordinator) ms → EachBehind LetsWait before ms
       → ((g : Gxid) → is_committed ms g ≡ true → (i : ℕ) → (local_of (w.segs i) g).suspended ≡ None) → EachBehind CommitsUnlessWaiting before ms
   turn-frees before [] there plain at_here lets f = tt
-  turn-frees before (mark.Commit g ∷ ms) there plain at_here lets f =
-      (nowhere before there g lets.0 (f g (or_left (is_same_gxid g g) (is_committed ms g) (itself g))),
-      turn-frees (before ++ mark.Commit g ∷ []) ms (elsewhere-on before (mark.Commit g ∷ []) (at_here.0, tt) there) plain.1 at_here.1 lets.1 (λ h e. f h (or_right (is_same_gxid g h) (is_committed ms h) e)))
+  turn-frees before (mark.Commit g ∷ ms) there plain at_here lets f = (
+    nowhere before there g lets.0 (f g (or_left (is_same_gxid g g) (is_committed ms g) (itself g))),
+    turn-frees (before ++ mark.Commit g ∷ []) ms (elsewhere-on before (mark.Commit g ∷ []) (at_here.0, tt) there) plain.1 at_here.1 lets.1 (λ h e. f h (or_right (is_same_gxid g h) (is_committed ms h) e)),
+  )
     where
       itself : (g : Gxid) → is_same_gxid g g ≡ true
       itself g = grind (arith, nat_tests)
@@ -210,10 +209,11 @@ module _ (script : Script) (w : World) (n : Knows script w) (q : Locked script w
         → (f : ℕ → ℕ) (outs : List Out) → Each (IsAtNode script the_coordinator) (numbered f outs) → Each (SaidOut script (parts_in w) d marks) outs → EachBehind CommitsUnlessWaiting before (numbered f outs)
     sent-frees before there here older f [] at_here said = tt
     sent-frees before there here older f (o ∷ outs) at_here said =
-        let sent : Mark = mark.Sent o.node (f o.node.0 + 1) o.message in
-        (one-frees before there here older o (f o.node.0 + 1) said.0,
-        sent-frees (before ++ sent ∷ []) (elsewhere-on before (sent ∷ []) (at_here.0, tt) there) (waits_from-append the_coordinator [] before (sent ∷ []) ∙ here)
-        (λ g e. older g (sym (aborted-append before (sent ∷ []) g ∙ or-false (is_aborted before g)) ∙ e)) (counted f o) outs at_here.1 said.1)
+        let sent : Mark = mark.Sent o.node (f o.node.0 + 1) o.message in (
+          one-frees before there here older o (f o.node.0 + 1) said.0,
+          sent-frees (before ++ sent ∷ []) (elsewhere-on before (sent ∷ []) (at_here.0, tt) there) (waits_from-append the_coordinator [] before (sent ∷ []) ∙ here)
+              (λ g e. older g (sym (aborted-append before (sent ∷ []) g ∙ or-false (is_aborted before g)) ∙ e)) (counted f o) outs at_here.1 said.1,
+        )
 
 -- A STEP OF A SEGMENT
 -- commits nothing, and sends answers alone

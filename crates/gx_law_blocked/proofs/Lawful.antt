@@ -1,6 +1,5 @@
 -- Over every run of the machine, who is blocked stays blocked.
-use Rattle.std.proofs.Common.{◌≡◌, ◌≤◌, List, [], ◌++◌, Bool, sym, subst}
-use Rattle.gx_waits.specs.declared.placed_edge.PlacedEdge.{PlacedEdge}
+use Rattle.std.proofs.Common.{◌≤◌, List, [], ◌++◌, Bool, subst}
 use Rattle.gx_script.specs.declared.Script.{Script}
 use Rattle.gx_store.specs.declared.event.Event.{Event}
 use Rattle.gx_store.specs.declared.mark.Mark.{Mark}
@@ -9,7 +8,7 @@ use Rattle.gx_store.specs.Rounds.{IsBlocked}
 use Rattle.gx_law_order.specs.Runs.{steps_after}
 use Rattle.gx_law_holds.specs.Waiting.{EachBehind, KeepsWhileWaiting, WaitsForEnd}
 use Rattle.gx_law_holds.proofs.Lets.{LetsWait, behind-front, behind-rest, behind-weaker, lets-end, lets-keep}
-use Rattle.gx_law_blocked.specs.Blocked.{DoStayBlocked, NoneAborts, NoneCommits}
+use Rattle.gx_law_blocked.specs.Blocked.{DoStayBlocked}
 use Rattle.gx_law_blocked.proofs.Committing.{Free, world-free}
 use Rattle.gx_law_blocked.proofs.Fair.{IsFair, each-fair}
 use Rattle.gx_law_blocked.proofs.Staying.{AreShared, none-committed, shared-behind, stays-blocked}

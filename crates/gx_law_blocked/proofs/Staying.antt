@@ -1,18 +1,16 @@
 -- A blocked set stays blocked behind marks of which the laws hold, until one of its transactions aborts.
-use Rattle.std.proofs.Common.{◌≡◌, ◌==◌, ◌&&◌, ◌||◌, Bool, true, false, not, List, [], ◌∷◌, ◌++◌, ◌⊎◌, inl, inr, ⊎_elim, refl, sym, subst, ap, ◌∙◌, if◌then◌else◌, append_assoc, append-nil, arith}
+use Rattle.std.proofs.Common.{◌≡◌, ◌==◌, ◌&&◌, ◌||◌, Bool, true, false, not, List, [], ◌∷◌, ◌++◌, ⊎_elim, refl, sym, subst, ap, ◌∙◌, if◌then◌else◌, append_assoc, append-nil, arith}
 use Rattle.std.proofs.lemmas.Bool.{or_left}
 use Rattle.std.proofs.lemmas.Bool.Decides.{nat_tests}
 use Rattle.std.proofs.lemmas.List.Elements.{All-weaker}
-use Rattle.std.specs.List.{list_any}
-use Rattle.std.specs.Prelude.{All, IsTrue, cond, filter}
-use Rattle.gx_lemmas.proofs.Tests.{and-first, and-second, or-assoc, true-false}
+use Rattle.std.specs.Prelude.{IsTrue}
+use Rattle.gx_lemmas.proofs.Tests.{or-assoc, true-false}
 use Rattle.gx_ids.specs.declared.ids.Gxid.{Gxid}
 use Rattle.gx_ids.specs.declared.ids.Node.{Node}
-use Rattle.gx_msg.specs.declared.message.Message.{Message}
 use Rattle.gx_msg.specs.declared.message.Message.TheVariants as message
 use Rattle.gx_waits.proofs.Members.{Has, all_from_each, each_from_all, has_from_any}
 use Rattle.gx_waits.specs.Claim.{same_claim}
-use Rattle.gx_waits.specs.Closed.{IsClosed, Waits, WaitsAt}
+use Rattle.gx_waits.specs.Closed.{Waits, WaitsAt}
 use Rattle.gx_waits.specs.declared.claim.Claim.{Claim}
 use Rattle.gx_waits.specs.declared.placed_edge.PlacedEdge.{PlacedEdge}
 use Rattle.gx_store.specs.declared.mark.Mark.{Mark}
@@ -179,18 +177,19 @@ module _ (before : List Mark) (edges : List PlacedEdge) (blocked : IsBlocked bef
             (stands-on before e.node m fair e.edge s (shared e.node s.wait s.waits_now) (not-ended before e.edge.waiter a.0) (not-ended before e.edge.holder a.1) (dotted-holder e h)));
         active = all_from_each (λ placed. (is_active (before ++ m ∷ []) placed.edge.waiter ≡ true) × (is_active (before ++ m ∷ []) placed.edge.holder ≡ true)) edges (λ e h.
             let a = active e h in
-            let u = each_from_all (λ placed. (is_aborted (m ∷ []) placed.edge.waiter ≡ false) × (is_aborted (m ∷ []) placed.edge.holder ≡ false)) edges none e h in
-            (active-of (before ++ m ∷ []) e.edge.waiter (runs-on before e.edge.waiter e.node (waiter e h) (runs-of before e.edge.waiter a.0) m fair.commits u.0),
-            active-of (before ++ m ∷ []) e.edge.holder (runs-on before e.edge.holder (holder e h).0 (holder e h).1 (runs-of before e.edge.holder a.1) m fair.commits u.1)));
+            let u = each_from_all (λ placed. (is_aborted (m ∷ []) placed.edge.waiter ≡ false) × (is_aborted (m ∷ []) placed.edge.holder ≡ false)) edges none e h in (
+              active-of (before ++ m ∷ []) e.edge.waiter (runs-on before e.edge.waiter e.node (waiter e h) (runs-of before e.edge.waiter a.0) m fair.commits u.0),
+              active-of (before ++ m ∷ []) e.edge.holder (runs-on before e.edge.holder (holder e h).0 (holder e h).1 (runs-of before e.edge.holder a.1) m fair.commits u.1),
+            ));
       }
 
 -- behind all of them
 front-none : (m : Mark) (ms : List Mark) (edges : List PlacedEdge) → NoneAborts (m ∷ ms) edges → NoneAborts (m ∷ []) edges × NoneAborts ms edges
 front-none m ms edges e = (
   All-weaker (λ placed. (is_aborted (m ∷ ms) placed.edge.waiter ≡ false) × (is_aborted (m ∷ ms) placed.edge.holder ≡ false)) (λ placed. (is_aborted (m ∷ []) placed.edge.waiter ≡ false) × (is_aborted (m ∷ []) placed.edge.holder ≡ false))
-  (λ placed a. ((both placed.edge.waiter a.0).0, (both placed.edge.holder a.1).0)) edges e,
+      (λ placed a. ((both placed.edge.waiter a.0).0, (both placed.edge.holder a.1).0)) edges e,
   All-weaker (λ placed. (is_aborted (m ∷ ms) placed.edge.waiter ≡ false) × (is_aborted (m ∷ ms) placed.edge.holder ≡ false)) (λ placed. (is_aborted ms placed.edge.waiter ≡ false) × (is_aborted ms placed.edge.holder ≡ false))
-  (λ placed a. ((both placed.edge.waiter a.0).1, (both placed.edge.holder a.1).1)) edges e,
+      (λ placed a. ((both placed.edge.waiter a.0).1, (both placed.edge.holder a.1).1)) edges e,
 )
   where
     neither : (a b : Bool) → (a || b) ≡ false → (a ≡ false) × (b ≡ false)

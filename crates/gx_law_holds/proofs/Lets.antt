@@ -1,17 +1,14 @@
 -- Of all marks: who gives back waits nowhere there, or has aborted; who commits waits for no statement; others' ends are waited for in
 -- one mode.
-use Rattle.std.proofs.Common.{◌≡◌, ◌⊎◌, inl, inr, List, [], ◌∷◌, ◌++◌, true, false, None, sym, subst, append_assoc, append-nil}
-use Rattle.std.specs.Prelude.{find}
-use Rattle.gx_ids.specs.declared.ids.Gxid.{Gxid}
+use Rattle.std.proofs.Common.{◌≡◌, ◌⊎◌, inl, inr, List, [], ◌∷◌, ◌++◌, true, false, sym, subst, append_assoc, append-nil}
 use Rattle.gx_ids.specs.declared.ids.Node.{Node}
-use Rattle.gx_locks.specs.Claims.{is_of}
 use Rattle.gx_script.specs.declared.Script.{Script}
 use Rattle.gx_store.specs.declared.mark.Mark.{Mark}
 use Rattle.gx_store.specs.declared.mark.Mark.TheVariants as mark
 use Rattle.gx_store.specs.Marks.{is_aborted}
 use Rattle.gx_store.specs.Ordered.{IsAtNode}
 use Rattle.gx_store.specs.Refusals.{the_coordinator}
-use Rattle.gx_store.specs.Waits.{waits_at, waits_from}
+use Rattle.gx_store.specs.Waits.{waits_at}
 use Rattle.gx_law_order.proofs.Lists.{Each}
 use Rattle.gx_law_holds.specs.Waiting.{EachBehind, KeepsWhileWaiting, WaitsForEnd, is_waiting}
 use Rattle.gx_law_holds.proofs.Legal.{none-listed}

@@ -88,10 +88,12 @@ late-append before (m ∷ xs) ys e f = late-append (before ++ m ∷ []) xs ys e 
 lets-append : (node : Node) (before : List Mark) (waits : List Claim) (xs ys : List Mark) → AreLet node before waits xs → AreLet node (before ++ xs) (waits_from node waits xs) ys
     → AreLet node before waits (xs ++ ys)
 lets-append node before waits [] ys e f = subst (λ b. AreLet node b waits ys) (append-nil before) f
-lets-append node before waits (x ∷ xs) ys e f =
-    (e.0, lets-append node (before ++ x ∷ []) (waits_from node waits (x ∷ [])) xs ys e.1
-    (subst (λ b. AreLet node b (waits_from node (waits_from node waits (x ∷ [])) xs) ys) (sym (append_assoc before (x ∷ []) xs))
-    (subst (λ w. AreLet node (before ++ x ∷ xs) w ys) (waits_from-append node waits (x ∷ []) xs) f)))
+lets-append node before waits (x ∷ xs) ys e f = (
+  e.0,
+  lets-append node (before ++ x ∷ []) (waits_from node waits (x ∷ [])) xs ys e.1
+      (subst (λ b. AreLet node b (waits_from node (waits_from node waits (x ∷ [])) xs) ys) (sym (append_assoc before (x ∷ []) xs))
+      (subst (λ w. AreLet node (before ++ x ∷ xs) w ys) (waits_from-append node waits (x ∷ []) xs) f)),
+)
 
 pub both : (node : Node) (before : List Mark) (a : Locks) (xs : List Mark) (b : Locks) (ys : List Mark) (c : Locks) → Locking node before a xs b → Locking node (before ++ xs) b ys c
     → Locking node before a (xs ++ ys) c

@@ -16,7 +16,7 @@ use Rattle.gx_locks.specs.Locks.{Locks}
 use Rattle.gx_locks.specs.Locks as locks
 use Rattle.gx_meaning.specs.Order.{in_order, placed}
 use Rattle.gx_store.specs.declared.mark.Mark.{Mark}
-use Rattle.gx_store.specs.Marks.{is_aborted, is_ended}
+use Rattle.gx_store.specs.Marks.{is_ended}
 use Rattle.gx_store.specs.Waits.{holds_from, waits_from, without}
 use Rattle.gx_rules.specs.Locks.{claim_order, has_there, release_mark, release_marks, released}
 use Rattle.gx_law_order.proofs.Lists.{Each, each_append, each_weaker}
