@@ -11,7 +11,8 @@ use Rattle.gx_law_holds.proofs.Lets.{LetsWait, behind-front, behind-rest, behind
 use Rattle.gx_law_blocked.specs.Blocked.{DoStayBlocked}
 use Rattle.gx_law_blocked.proofs.Committing.{Free, world-free}
 use Rattle.gx_law_blocked.proofs.Fair.{IsFair, each-fair}
-use Rattle.gx_law_blocked.proofs.Staying.{AreShared, none-committed, shared-behind, stays-blocked}
+use Rattle.gx_law_blocked.proofs.Sharing.{AreShared, shared-first}
+use Rattle.gx_law_blocked.proofs.Staying.{none-committed, stays-blocked}
 use Rattle.gx_rules.specs.Machine.{world_of}
 
 -- marks of which the laws hold keep what is blocked
@@ -22,7 +23,7 @@ fair-stays marks fair before between later edges split blocked none = (still, no
     front = behind-front IsFair [] (before ++ between) later (subst (EachBehind IsFair []) split fair)
 
     shared : AreShared before
-    shared = shared-behind [] before (λ node c h. absurd h) (behind-weaker IsFair WaitsForEnd (λ b m f. f.ends) [] before (behind-front IsFair [] before between front))
+    shared = shared-first before (behind-front IsFair [] before between front)
 
     still : IsBlocked (before ++ between) edges
     still = stays-blocked before between edges (behind-rest IsFair [] before between front) shared blocked none

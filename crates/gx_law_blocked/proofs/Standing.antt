@@ -1,6 +1,6 @@
--- An edge stands on behind one mark more.
-use Rattle.std.proofs.Common.{◌≡◌, ◌==◌, ◌⊎◌, inl, inr, Bool, true, false, List, [], ◌∷◌, ◌++◌, refl, sym, subst, ap, ◌∙◌, if◌then◌else◌, arith}
-use Rattle.std.proofs.lemmas.Bool.{or_right}
+-- An edge stands on behind one mark more, and a closed set behind many.
+use Rattle.std.proofs.Common.{◌≡◌, ◌==◌, ◌⊎◌, inl, inr, Bool, true, false, List, [], ◌∷◌, ◌++◌, refl, sym, subst, ap, ◌∙◌, if◌then◌else◌, append_assoc, append-nil, arith}
+use Rattle.std.proofs.lemmas.Bool.{false_from_ne_true, or_right}
 use Rattle.std.proofs.lemmas.Bool.Decides.{nat_tests}
 use Rattle.std.proofs.lemmas.List.Elements.{All-contains}
 use Rattle.std.specs.Prelude.{IsTrue}
@@ -10,22 +10,25 @@ use Rattle.gx_ids.specs.declared.ids.Node.{Node}
 use Rattle.gx_modes.specs.Table.{conflict}
 use Rattle.gx_modes.specs.declared.modes.Mode.{Mode}
 use Rattle.gx_modes.specs.declared.modes.Mode.TheVariants.{Share}
-use Rattle.gx_waits.proofs.Members.{Has, any_from_has, contains_from_has, has_from_any}
+use Rattle.gx_waits.proofs.Members.{Has, any_from_has, contains_from_has, each_from_all, has_from_any}
 use Rattle.gx_waits.specs.Claim.{IsEdge, IsEdgeOf, Meets, edge_of, is_tuple}
+use Rattle.gx_waits.specs.Closed.{IsClosed, WaitsAt}
 use Rattle.gx_waits.specs.declared.claim.Claim.{Claim}
 use Rattle.gx_waits.specs.declared.edge.Edge.{Edge}
 use Rattle.gx_waits.specs.declared.object.Object.{Object}
 use Rattle.gx_waits.specs.declared.object.Object.TheVariants.{Relation, Transaction, Tuple}
+use Rattle.gx_waits.specs.declared.placed_edge.PlacedEdge.{PlacedEdge}
 use Rattle.gx_store.proofs.Exclusive.{holds_from-append}
 use Rattle.gx_store.specs.declared.mark.Mark.{Mark}
 use Rattle.gx_store.specs.declared.mark.Mark.TheVariants as mark
 use Rattle.gx_store.specs.Locks.{IsMomentary, LegalHold}
 use Rattle.gx_store.specs.Marks.{is_aborted, is_committed, is_ended}
 use Rattle.gx_store.specs.Waits.{added, claim, holds_at, holds_from, waits_at, waits_from, without}
-use Rattle.gx_law_holds.proofs.Marks.{waits_from-append}
-use Rattle.gx_law_holds.specs.Waiting.{IsForEnd, is_waiting}
+use Rattle.gx_law_holds.proofs.Marks.{ended-more, waits_from-append}
+use Rattle.gx_law_holds.specs.Waiting.{EachBehind, IsForEnd, is_waiting}
 use Rattle.gx_law_blocked.proofs.Claims.{has-added, has-without, listed}
 use Rattle.gx_law_blocked.proofs.Fair.{IsFair}
+use Rattle.gx_law_blocked.proofs.Sharing.{AreShared, shared-on}
 
 -- a wait and a hold that the edge stands for
 pub record Stands (waits holds : List Claim) (edge : Edge) : Type 0 where
@@ -141,3 +144,34 @@ module _ (before : List Mark) (node : Node) where
         meets = s.meets;
         is = s.is;
       }
+
+-- A CLOSED SET, AT ONE NODE
+module _ (set : List PlacedEdge) (closed : IsClosed set) (node : Node) where
+  abbrev pub StandHere : List Mark → Type 0
+  StandHere before = (e : PlacedEdge) → Has e set → e.node ≡ node → Stands (waits_at before node) (holds_at before node) e.edge
+
+  abbrev pub Live : List Mark → Type 0
+  Live before = (e : PlacedEdge) → Has e set → (is_ended before e.edge.waiter ≡ false) × (is_ended before e.edge.holder ≡ false)
+
+  -- the holder of a dotted edge waits there
+  dotted-waits : (before : List Mark) → StandHere before → (e : PlacedEdge) → Has e set → e.node ≡ node → e.edge.dotted ≡ true → is_waiting before node e.edge.holder ≡ true
+  dotted-waits before stand e h at_node d =
+      let f = has_from_any (λ f. (f.node ≡ e.node) × (f.edge.waiter ≡ e.edge.holder)) set (each_from_all (λ x. IsTrue x.edge.dotted → WaitsAt set x.node x.edge.holder) set closed.dotted_holders_wait_there e h d) in
+      subst (λ g. is_waiting before node g ≡ true) f.2.1 (waiter-waits before node f.0.edge (stand f.0 f.1 (f.2.0 ∙ at_node)))
+
+  pub stand-on : (before : List Mark) (m : Mark) → IsFair before m → AreShared before → Live before → StandHere before → StandHere (before ++ m ∷ [])
+  stand-on before m fair shared live stand e h at_node =
+      let s = stand e h at_node in
+      stands-on before node m fair e.edge s (shared node s.wait s.waits_now) (live e h).0 (live e h).1 (dotted-waits before stand e h at_node)
+
+  -- behind all of them, if nobody who is named has ended by then
+  pub stand-behind : (before ms : List Mark) → EachBehind IsFair before ms → AreShared before → Live (before ++ ms) → StandHere before → StandHere (before ++ ms)
+  stand-behind before [] fair shared live stand = subst StandHere (sym (append-nil before)) stand
+  stand-behind before (m ∷ ms) fair shared live stand =
+      let same : (before ++ m ∷ []) ++ ms ≡ before ++ m ∷ ms = append_assoc before (m ∷ []) ms in
+      subst StandHere same
+      (stand-behind (before ++ m ∷ []) ms fair.1 (shared-on before m shared fair.0.ends) (subst Live (sym same) live)
+      (stand-on before m fair.0 shared (λ e h. (lived before (m ∷ ms) e.edge.waiter (live e h).0, lived before (m ∷ ms) e.edge.holder (live e h).1)) stand))
+    where
+      lived : (xs ys : List Mark) (g : Gxid) → is_ended (xs ++ ys) g ≡ false → is_ended xs g ≡ false
+      lived xs ys g e = false_from_ne_true (is_ended xs g) (λ over. true-false (is_ended (xs ++ ys) g) (ended-more xs ys g over) e)

@@ -1,31 +1,27 @@
 -- A blocked set stays blocked behind marks of which the laws hold, until one of its transactions aborts.
-use Rattle.std.proofs.Common.{◌≡◌, ◌==◌, ◌&&◌, ◌||◌, Bool, true, false, not, List, [], ◌∷◌, ◌++◌, ⊎_elim, refl, sym, subst, ap, ◌∙◌, if◌then◌else◌, append_assoc, append-nil, arith}
+use Rattle.std.proofs.Common.{◌≡◌, ◌==◌, ◌&&◌, ◌||◌, Bool, true, false, not, List, [], ◌∷◌, ◌++◌, refl, sym, subst, ap, ◌∙◌, append_assoc, append-nil, arith}
 use Rattle.std.proofs.lemmas.Bool.{or_left}
 use Rattle.std.proofs.lemmas.Bool.Decides.{nat_tests}
 use Rattle.std.proofs.lemmas.List.Elements.{All-weaker}
-use Rattle.std.specs.Prelude.{IsTrue}
 use Rattle.gx_lemmas.proofs.Tests.{or-assoc, true-false}
 use Rattle.gx_ids.specs.declared.ids.Gxid.{Gxid}
 use Rattle.gx_ids.specs.declared.ids.Node.{Node}
 use Rattle.gx_msg.specs.declared.message.Message.TheVariants as message
 use Rattle.gx_waits.proofs.Members.{Has, all_from_each, each_from_all, has_from_any}
-use Rattle.gx_waits.specs.Claim.{same_claim}
-use Rattle.gx_waits.specs.Closed.{Waits, WaitsAt}
-use Rattle.gx_waits.specs.declared.claim.Claim.{Claim}
+use Rattle.gx_waits.specs.Closed.{Waits}
 use Rattle.gx_waits.specs.declared.placed_edge.PlacedEdge.{PlacedEdge}
 use Rattle.gx_store.specs.declared.mark.Mark.{Mark}
 use Rattle.gx_store.specs.declared.mark.Mark.TheVariants as mark
 use Rattle.gx_store.specs.Marks.{is_aborted, is_committed, is_ended, is_same_gxid}
 use Rattle.gx_store.specs.Rounds.{IsBlocked, StandsAt, is_active, is_committing, is_started}
-use Rattle.gx_store.specs.Waits.{added, claim, holds_at, waits_at, waits_from, without}
+use Rattle.gx_store.specs.Waits.{holds_at, waits_at}
 use Rattle.gx_law_order.proofs.Past.{aborted-append, committed-append}
-use Rattle.gx_law_holds.proofs.Marks.{waits_from-append}
-use Rattle.gx_law_holds.specs.Waiting.{EachBehind, IsForEnd, WaitsForEnd, is_waiting}
+use Rattle.gx_law_holds.specs.Waiting.{EachBehind, is_waiting}
 use Rattle.gx_law_blocked.specs.Blocked.{NoneAborts, NoneCommits}
 use Rattle.gx_law_blocked.specs.Committing.{CommitsUnlessWaiting}
-use Rattle.gx_law_blocked.proofs.Claims.{from-added, from-filter}
 use Rattle.gx_law_blocked.proofs.Fair.{IsFair}
-use Rattle.gx_law_blocked.proofs.Standing.{Stands, edge-of, stands-of, stands-on, waiter-waits}
+use Rattle.gx_law_blocked.proofs.Sharing.{AreShared, shared-on}
+use Rattle.gx_law_blocked.proofs.Standing.{Stands, edge-of, stand-on, stands-of, waiter-waits}
 
 -- WHO IS ACTIVE
 started-append : (xs ys : List Mark) (g : Gxid) → is_started (xs ++ ys) g ≡ is_started xs g || is_started ys g
@@ -111,38 +107,6 @@ module _ (before : List Mark) (g : Gxid) (node : Node) (waiting : is_waiting bef
         unasked = committing-append before (m ∷ []) g ∙ both-false _ _ runs.unasked (asks-not m e);
       }
 
--- WAITS FOR ENDS
-abbrev pub AreShared : List Mark → Type 0
-AreShared marks = (node : Node) (c : Claim) → Has c (waits_at marks node) → IsForEnd c.object c.mode
-
-shared-on : (before : List Mark) (m : Mark) → AreShared before → WaitsForEnd before m → AreShared (before ++ m ∷ [])
-shared-on before m old e node c h = by_mark m e (subst (Has c) (waits_from-append node [] before (m ∷ [])) h)
-  where
-    waits : List Claim
-    waits = waits_at before node
-
-    by_mark : (m : Mark) → WaitsForEnd before m → Has c (waits_from node waits (m ∷ [])) → IsForEnd c.object c.mode
-    by_mark (mark.Wait n g object mode) e h = by_node (n.0 == node.0) h
-      where
-        by_node : (b : Bool) → Has c (if b then added (claim g object mode) waits else waits) → IsForEnd c.object c.mode
-        by_node true h = ⊎_elim (λ (k : Has c waits). old node c k) (λ s. subst (λ (x : Claim). IsForEnd x.object x.mode) s e) (from-added (claim g object mode) c waits h)
-        by_node false h = old node c h
-    by_mark (mark.Hold n g object mode) e h = by_node (n.0 == node.0) h
-      where
-        by_node : (b : Bool) → Has c (if b then without (claim g object mode) waits else waits) → IsForEnd c.object c.mode
-        by_node true h = old node c (from-filter (λ x. not (same_claim (claim g object mode) x)) c waits h)
-        by_node false h = old node c h
-    by_mark (mark.Release n g object mode) e h = by_node (n.0 == node.0) h
-      where
-        by_node : (b : Bool) → Has c (if b then without (claim g object mode) waits else waits) → IsForEnd c.object c.mode
-        by_node true h = old node c (from-filter (λ x. not (same_claim (claim g object mode) x)) c waits h)
-        by_node false h = old node c h
-    by_mark m e h = old node c h
-
-pub shared-behind : (before ms : List Mark) → AreShared before → EachBehind WaitsForEnd before ms → AreShared (before ++ ms)
-shared-behind before [] old e = subst AreShared (sym (append-nil before)) old
-shared-behind before (m ∷ ms) old e = subst AreShared (append_assoc before (m ∷ []) ms) (shared-behind (before ++ m ∷ []) ms (shared-on before m old e.0) e.1)
-
 -- A BLOCKED SET
 module _ (before : List Mark) (edges : List PlacedEdge) (blocked : IsBlocked before edges) where
   stands : (e : PlacedEdge) → Has e edges → Stands (waits_at before e.node) (holds_at before e.node) e.edge
@@ -151,7 +115,7 @@ module _ (before : List Mark) (edges : List PlacedEdge) (blocked : IsBlocked bef
   active : (e : PlacedEdge) → Has e edges → (is_active before e.edge.waiter ≡ true) × (is_active before e.edge.holder ≡ true)
   active e h = each_from_all (λ placed. (is_active before placed.edge.waiter ≡ true) × (is_active before placed.edge.holder ≡ true)) edges blocked.active e h
 
-  -- who is named waits somewhere, and the holder of a dotted edge there
+  -- who is named waits somewhere
   waiter : (e : PlacedEdge) → Has e edges → is_waiting before e.node e.edge.waiter ≡ true
   waiter e h = waiter-waits before e.node e.edge (stands e h)
 
@@ -160,21 +124,15 @@ module _ (before : List Mark) (edges : List PlacedEdge) (blocked : IsBlocked bef
       let f = has_from_any (λ f. f.edge.waiter ≡ e.edge.holder) edges (each_from_all (λ x. Waits edges x.edge.holder) edges blocked.closed.holders_wait e h) in
       (f.0.node, subst (λ g. is_waiting before f.0.node g ≡ true) f.2 (waiter f.0 f.1))
 
-  dotted-holder : (e : PlacedEdge) → Has e edges → e.edge.dotted ≡ true → is_waiting before e.node e.edge.holder ≡ true
-  dotted-holder e h d =
-      let f = has_from_any (λ f. (f.node ≡ e.node) × (f.edge.waiter ≡ e.edge.holder)) edges (each_from_all (λ x. IsTrue x.edge.dotted → WaitsAt edges x.node x.edge.holder) edges blocked.closed.dotted_holders_wait_there e h d) in
-      subst (λ g. is_waiting before e.node g ≡ true) f.2.1 (subst (λ n. is_waiting before n f.0.edge.waiter ≡ true) f.2.0 (waiter f.0 f.1))
-
   -- behind one mark more
   blocked-on : (m : Mark) → IsFair before m → AreShared before → NoneAborts (m ∷ []) edges → IsBlocked (before ++ m ∷ []) edges
   blocked-on m fair shared none =
       record {
         closed = blocked.closed;
         standing = all_from_each (StandsAt (before ++ m ∷ [])) edges (λ e h.
-            let s = stands e h in
-            let a = active e h in
             edge-of (waits_at (before ++ m ∷ []) e.node) (holds_at (before ++ m ∷ []) e.node) e.edge
-            (stands-on before e.node m fair e.edge s (shared e.node s.wait s.waits_now) (not-ended before e.edge.waiter a.0) (not-ended before e.edge.holder a.1) (dotted-holder e h)));
+            (stand-on edges blocked.closed e.node before m fair shared (λ f k. (not-ended before f.edge.waiter (active f k).0, not-ended before f.edge.holder (active f k).1))
+            (λ f k at_node. subst (λ n. Stands (waits_at before n) (holds_at before n) f.edge) at_node (stands f k)) e h refl));
         active = all_from_each (λ placed. (is_active (before ++ m ∷ []) placed.edge.waiter ≡ true) × (is_active (before ++ m ∷ []) placed.edge.holder ≡ true)) edges (λ e h.
             let a = active e h in
             let u = each_from_all (λ placed. (is_aborted (m ∷ []) placed.edge.waiter ≡ false) × (is_aborted (m ∷ []) placed.edge.holder ≡ false)) edges none e h in (
