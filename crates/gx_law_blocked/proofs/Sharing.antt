@@ -1,5 +1,5 @@
 -- Whoever waits for another transaction's end waits in mode Share, at every point.
-use Rattle.std.proofs.Common.{◌≡◌, ◌==◌, Bool, true, false, not, List, [], ◌∷◌, ◌++◌, ⊎_elim, sym, subst, if◌then◌else◌, append_assoc, append-nil}
+use Rattle.std.proofs.Common.{◌==◌, Bool, true, false, not, List, [], ◌∷◌, ◌++◌, ⊎_elim, sym, subst, if◌then◌else◌, append_assoc, append-nil}
 use Rattle.gx_ids.specs.declared.ids.Node.{Node}
 use Rattle.gx_waits.proofs.Members.{Has}
 use Rattle.gx_waits.specs.Claim.{same_claim}
