@@ -69,7 +69,7 @@ victims_of edges = victims_among (length edges) edges
 -- THE VERDICT
 -- the least stuck transaction that can't be cancelled any more
 abbrev pub least_inactive : List PlacedEdge → List Gxid → Option Gxid
-least_inactive edges active = fold (λ seen e. with_waiter active seen e.edge) None (stuck_of edges)
+least_inactive edges active = fold (with_waiter active) None (stuck_of edges)
 
 abbrev pub unless_dropped : Option Gxid → List Gxid → Verdict
 unless_dropped None victims = naming victims
