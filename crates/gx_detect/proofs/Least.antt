@@ -1,23 +1,17 @@
 -- The least waiter that isn't active.
 use Rattle.std.proofs.Common.{◌≡◌, ◌<◌, ◌≤◌, List, [], ◌∷◌, ◌++◌, ◌||◌, Bool, true, false, cond, map, ◌⊎◌, inl, inr, ⊎_elim, sym, ◌∙◌, ap, subst, arith, append_assoc, append-nil, refl}
 use Rattle.std.proofs.lemmas.Bool.{eq-eqb, eqb-true, ltb-false, ltb-true, or_parts}
-use Rattle.std.proofs.lemmas.List.{map-append}
 use Rattle.std.proofs.lemmas.List.Elements.{Contains-append_left, Contains-push, Contains-push_cases}
-use Rattle.std.specs.List.{flat_map}
 use Rattle.std.specs.Prelude.{Contains, Option, None, Some, fold, nat_lt, ◌==◌}
 use Rattle.gx_ids.specs.declared.ids.Gxid.{Gxid}
-use Rattle.gx_ids.specs.declared.ids.Node.{Node}
-use Rattle.gx_waits.specs.declared.edge.Edge.{Edge}
-use Rattle.gx_waits.specs.declared.graph.LocalGraph.{LocalGraph}
 use Rattle.gx_waits.specs.declared.placed_edge.PlacedEdge.{PlacedEdge}
 use Rattle.gx_waits.specs.Closed.{IsStuck, IsNamedInStuck}
-use Rattle.gx_waits.specs.LocalGraph.{edges_of}
 use Rattle.gx_waits.specs.Victims.{IsLeastInactive}
 use Rattle.gx_waits.proofs.Determined.{same_gxid}
 use Rattle.gx_waits.proofs.Members.{Has, has_from_contains, contains_from_has}
 use Rattle.gx_waits.proofs.StuckWaits.{named_waits}
 use Rattle.gx_detect.proofs.Turned.{map_has, has_map}
-use Rattle.gx_detect.specs.Inactive.{is_in, lesser, with_waiter, with_graph}
+use Rattle.gx_detect.specs.Inactive.{is_in, lesser, with_waiter}
 
 found : (active : List Gxid) (v : Gxid) → is_in active v ≡ true → Has v active
 found [] v e = absurd (never e)
@@ -85,69 +79,39 @@ module _ (active gs : List Gxid) (g : Gxid) where
       go true t = passed seen (contains_from_has g active (found active g t)) least
       go false t = taken seen (λ c. missed active g t (has_from_contains g active c)) least
 
-abbrev pub waiters_of : List Edge → List Gxid
-waiters_of edges = map (λ edge. edge.waiter) edges
+abbrev pub waiters_of : List PlacedEdge → List Gxid
+waiters_of edges = map (λ e. e.edge.waiter) edges
 
-abbrev pub waiters_in : List LocalGraph → List Gxid
-waiters_in graphs = flat_map (λ graph. waiters_of graph.edges) graphs
-
-of_edges : (active gs : List Gxid) (seen : Option Gxid) (edges : List Edge) → IsLeastOf active gs seen
+of_edges : (active gs : List Gxid) (seen : Option Gxid) (edges : List PlacedEdge) → IsLeastOf active gs seen
     → IsLeastOf active (gs ++ waiters_of edges) (fold (with_waiter active) seen edges)
 of_edges active gs seen [] least = subst (λ xs. IsLeastOf active xs seen) (sym (append-nil gs)) least
 of_edges active gs seen (e ∷ es) least =
-    subst (λ xs. IsLeastOf active xs (fold (with_waiter active) (with_waiter active seen e) es)) (append_assoc gs (e.waiter ∷ []) (waiters_of es))
-    (of_edges active (gs ++ e.waiter ∷ []) (with_waiter active seen e) es (one_more active gs e.waiter seen least))
+    subst (λ xs. IsLeastOf active xs (fold (with_waiter active) (with_waiter active seen e) es)) (append_assoc gs (e.edge.waiter ∷ []) (waiters_of es))
+    (of_edges active (gs ++ e.edge.waiter ∷ []) (with_waiter active seen e) es (one_more active gs e.edge.waiter seen least))
 
-of_graphs : (active gs : List Gxid) (seen : Option Gxid) (graphs : List LocalGraph) → IsLeastOf active gs seen
-    → IsLeastOf active (gs ++ waiters_in graphs) (fold (with_graph active) seen graphs)
-of_graphs active gs seen [] least = subst (λ xs. IsLeastOf active xs seen) (sym (append-nil gs)) least
-of_graphs active gs seen (g ∷ graphs) least =
-    subst (λ xs. IsLeastOf active xs (fold (with_graph active) (with_graph active seen g) graphs))
-    (append_assoc gs (waiters_of g.edges) (waiters_in graphs))
-    (of_graphs active (gs ++ waiters_of g.edges) (with_graph active seen g) graphs (of_edges active gs seen g.edges least))
+-- of just the stuck edges
+module _ (edges stuck : List PlacedEdge) (active : List Gxid)
+    (exact : (e : PlacedEdge) → (Contains stuck e → IsStuck edges e) × (IsStuck edges e → Contains stuck e)) where
+  stuck_waits : (v : Gxid) → IsNamedInStuck edges v → Contains (waiters_of stuck) v
+  stuck_waits v (e, is, named) =
+      let f = named_waits edges is.set is.closed is.within e v (has_from_contains e is.set is.member) named in
+      let there : Contains stuck f.0 = (exact f.0).1
+      (record { set = is.set; closed = is.closed; within = is.within; member = contains_from_has f.0 is.set f.1 }) in
+      let waits = has_map (λ e. e.edge.waiter) stuck f.0 (has_from_contains f.0 stuck there) in
+      contains_from_has v (waiters_of stuck) (subst (λ w. Has w (waiters_of stuck)) f.2 waits)
 
-abbrev waiter_at : PlacedEdge → Gxid
-waiter_at e = e.edge.waiter
-
-abbrev placed : Node → Edge → PlacedEdge
-placed node edge = record { node = node; edge = edge }
-
-waiters-placed : (node : Node) (edges : List Edge) → map waiter_at (map (placed node) edges) ≡ waiters_of edges
-waiters-placed node [] = refl
-waiters-placed node (e ∷ es) = ap (λ xs. e.waiter ∷ xs) (waiters-placed node es)
-
-waiters-edges_of : (graphs : List LocalGraph) → map waiter_at (edges_of graphs) ≡ waiters_in graphs
-waiters-edges_of [] = refl
-waiters-edges_of (g ∷ graphs) =
-    map-append waiter_at (map (placed g.node) g.edges) (edges_of graphs)
-    ∙ ap (λ xs. xs ++ map waiter_at (edges_of graphs)) (waiters-placed g.node g.edges)
-    ∙ ap (λ xs. waiters_of g.edges ++ xs) (waiters-edges_of graphs)
-
--- of graphs that have just the stuck edges
-module _ (edges : List PlacedEdge) (rest : List LocalGraph) (active : List Gxid)
-    (exact : (e : PlacedEdge) → (Contains (edges_of rest) e → IsStuck edges e) × (IsStuck edges e → Contains (edges_of rest) e)) where
-  stuck_waits : (v : Gxid) → IsNamedInStuck edges v → Contains (waiters_in rest) v
-  stuck_waits v (e, stuck, named) =
-      let f = named_waits edges stuck.set stuck.closed stuck.within e v (has_from_contains e stuck.set stuck.member) named in
-      let there : Contains (edges_of rest) f.0 = (exact f.0).1
-      (record { set = stuck.set; closed = stuck.closed; within = stuck.within; member = contains_from_has f.0 stuck.set f.1 }) in
-      let waits : Contains (map waiter_at (edges_of rest)) f.0.edge.waiter = contains_from_has f.0.edge.waiter (map waiter_at (edges_of rest))
-      (has_map waiter_at (edges_of rest) f.0 (has_from_contains f.0 (edges_of rest) there)) in
-      subst (λ xs. Contains xs v) (waiters-edges_of rest) (subst (λ w. Contains (map waiter_at (edges_of rest)) w) f.2 waits)
-
-  waits_stuck : (v : Gxid) → Contains (waiters_in rest) v → IsNamedInStuck edges v
+  waits_stuck : (v : Gxid) → Contains (waiters_of stuck) v → IsNamedInStuck edges v
   waits_stuck v c =
-      let e = map_has waiter_at (edges_of rest) v
-      (has_from_contains v (map waiter_at (edges_of rest)) (subst (λ xs. Contains xs v) (sym (waiters-edges_of rest)) c)) in
-      (e.0, (exact e.0).0 (contains_from_has e.0 (edges_of rest) e.1), inl e.2)
+      let e = map_has (λ e. e.edge.waiter) stuck v (has_from_contains v (waiters_of stuck) c) in
+      (e.0, (exact e.0).0 (contains_from_has e.0 stuck e.1), inl e.2)
 
-  least : (o : Option Gxid) → o ≡ fold (with_graph active) None rest → IsLeastOf active (waiters_in rest) o
-  least o is = subst (λ x. IsLeastOf active (waiters_in rest) x) (sym is) (of_graphs active [] None rest (λ w c. absurd (has_from_contains w [] c)))
+  least : (o : Option Gxid) → o ≡ fold (with_waiter active) None stuck → IsLeastOf active (waiters_of stuck) o
+  least o is = subst (λ x. IsLeastOf active (waiters_of stuck) x) (sym is) (of_edges active [] None stuck (λ w c. absurd (has_from_contains w [] c)))
 
-  pub least_inactive : (v : Gxid) → Some v ≡ fold (with_graph active) None rest → IsLeastInactive edges active v
-  least_inactive v is =
+  pub is_least_inactive : (v : Gxid) → Some v ≡ fold (with_waiter active) None stuck → IsLeastInactive edges active v
+  is_least_inactive v is =
       let found = least (Some v) is in
       record { stuck = waits_stuck v found.0; inactive = found.1; least = λ w named l. found.2 w (stuck_waits w named) l }
 
-  pub all_active : None ≡ fold (with_graph active) None rest → (v : Gxid) → IsNamedInStuck edges v → Contains active v
+  pub all_active : None ≡ fold (with_waiter active) None stuck → (v : Gxid) → IsNamedInStuck edges v → Contains active v
   all_active is v named = least None is v (stuck_waits v named)

@@ -10,3 +10,7 @@ pub mod Graphs
 pub mod Turned
 pub mod CoreNames
 pub mod Chosen
+pub mod Staying
+pub mod Cores
+pub mod Greatest
+pub mod Computed

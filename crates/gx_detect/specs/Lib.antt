@@ -9,3 +9,4 @@ pub mod Settled
 pub mod Reducing
 pub mod Reduce
 pub mod Core
+pub mod Verdicts

@@ -33,7 +33,8 @@ fn core_of(alloc: Global, edges: &[PlacedEdge]) -> Mem<Vec<Gxid>>
     gxids(alloc, &numbers)
 }
 
-fn stuck_of(alloc: Global, edges: &[PlacedEdge]) -> Mem<Vec<PlacedEdge>>
+/// The stuck edges among these.
+pub(crate) fn stuck_of(alloc: Global, edges: &[PlacedEdge]) -> Mem<Vec<PlacedEdge>>
     ensures { IfOk result (λ stuck. (e : PlacedEdge) → Contains stuck.items e ↔ IsStuck edges.now e) }
 {
     let tally = settle(alloc, copies(alloc, edges)?)?;

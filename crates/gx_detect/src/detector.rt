@@ -4,6 +4,7 @@ ghost use Rattle.gx_waits.specs.Victims.{IsVerdict};
 ghost use Rattle.gx_detect.specs.Deadlocks.{NamesVictims};
 ghost use Rattle.gx_detect.specs.Reports.{IsSegment, noted};
 ghost use Rattle.gx_detect.specs.Rounds.{HasNumber, are_all, collects, ended, gathered, graphs_in, heard, is_complete, is_idle, no_rounds, started};
+ghost use Rattle.gx_detect.specs.Verdicts.{verdict_of};
 
 use crate::reports::Reports;
 use crate::verdict::verdict_of;
@@ -86,6 +87,7 @@ impl Detector {
     pub fn recheck(&mut self, own: LocalGraph, active: &[Gxid]) -> Mem<Verdict>
         requires { is_complete self.old ≡ true }
         ensures verdict { IfOk result (λ verdict. IsVerdict (gathered self.old own) active.now verdict) }
+        ensures computed { IfOk result (λ verdict. verdict ≡ verdict_of (gathered self.old own) active.now) }
         ensures victims { IfOk result (λ verdict. NamesVictims (gathered self.old own) verdict) }
         ensures ok { OnOk result (self.new ≡ ended self.old) }
         ensures err { OnErr result (self.new ≡ self.old) }

@@ -1,8 +1,19 @@
-//! Laws of the rounds, over every list of calls and every list of reports.
+//! Laws of verdicts, and of the rounds, over every list of calls and every list of reports.
 ghost use Rattle.std.specs.Prelude.{◌≡◌, ◌↔◌, ◌∷◌, ℕ, List, true, false};
+ghost use Rattle.gx_ids.specs.declared.ids.Gxid.{Gxid};
+ghost use Rattle.gx_waits.specs.Victims.{IsVerdict};
 ghost use Rattle.gx_waits.specs.declared.graph.LocalGraph.{LocalGraph};
+ghost use Rattle.gx_waits.specs.declared.placed_edge.PlacedEdge.{PlacedEdge};
+ghost use Rattle.gx_waits.specs.declared.verdict.Verdict.{Verdict};
 ghost use Rattle.gx_detect.specs.Rounds.{Rounds, gathered, is_complete, started};
 ghost use Rattle.gx_detect.specs.Calls.{AreOfFirstReports, Call, HasReported, HaveAllReported, Hear, Report, after, after_reports, begun_by, heard_since, is_running, of_segment, told};
+ghost use Rattle.gx_detect.specs.Verdicts.{verdict_of};
+
+/// The computed verdict is the one that is defined, and no other is.
+pub fn verdict_is_computed()
+    ensures is { (edges : List PlacedEdge) (active : List Gxid) → IsVerdict edges active (verdict_of edges active) }
+    ensures no_other { (edges : List PlacedEdge) (active : List Gxid) (verdict : Verdict) → IsVerdict edges active verdict → verdict ≡ verdict_of edges active }
+{}
 
 /// The rounds are as the calls tell: as many have begun as were started, the last runs from its start to its recheck, and in
 /// it the first graph counts that came from each segment for it since it began.

@@ -2,11 +2,12 @@ ghost use Rattle.std.specs.Prelude.{◌≡◌, None, IfOk, fold};
 ghost use Rattle.gx_waits.specs.LocalGraph.{edges_of};
 ghost use Rattle.gx_waits.specs.Victims.{IsVerdict};
 ghost use Rattle.gx_detect.specs.Deadlocks.{NamesVictims, naming};
-ghost use Rattle.gx_detect.specs.Inactive.{lesser, with_graph, with_waiter};
+ghost use Rattle.gx_detect.specs.Inactive.{lesser, with_waiter};
 
-use crate::{reduce, victims};
+use crate::choice::{stuck_of, victims};
+use crate::edges::all_edges;
 use gx_ids::{Gxid, Mem, Seq};
-use gx_waits::{Edge, LocalGraph, Verdict};
+use gx_waits::{LocalGraph, PlacedEdge, Verdict};
 use std::alloc::Global;
 
 // What these graphs and the active transactions come to.
@@ -14,8 +15,9 @@ pub(crate) fn verdict_of(alloc: Global, graphs: &[LocalGraph], active: &[Gxid]) 
     ensures verdict { IfOk result (λ verdict. IsVerdict (edges_of graphs.now) active.now verdict) }
     ensures victims { IfOk result (λ verdict. NamesVictims (edges_of graphs.now) verdict) }
 {
-    let stuck = reduce(alloc, graphs)?;
-    match least_inactive(stuck.as_slice(), active) {
+    let edges = all_edges(alloc, graphs)?;
+    let stuck = stuck_of(alloc, &edges)?;
+    match least_inactive(&stuck, active) {
         Some(gxid) => Ok(Verdict::Dropped(gxid)),
         None => Ok(naming(victims(alloc, graphs)?)),
     }
@@ -31,25 +33,14 @@ fn naming(victims: Vec<Gxid>) -> Verdict
     Verdict::Victims(Seq::from_vec(victims))
 }
 
-// The least transaction that waits and isn't active.
-fn least_inactive(graphs: &[LocalGraph], active: &[Gxid]) -> Option<Gxid>
-    ensures { result ≡ fold (with_graph active.now) None graphs.now }
+// The least waiter that isn't active.
+fn least_inactive(edges: &[PlacedEdge], active: &[Gxid]) -> Option<Gxid>
+    ensures { result ≡ fold (with_waiter active.now) None edges.now }
 {
     let mut least = None;
-    for graph in graphs {
-        least = least_with(least, graph.edges.as_slice(), active);
-    }
-    least
-}
-
-// The least of what was seen and of the waiters of these edges that aren't active.
-fn least_with(seen: Option<Gxid>, edges: &[Edge], active: &[Gxid]) -> Option<Gxid>
-    ensures { result ≡ fold (with_waiter active.now) seen edges.now }
-{
-    let mut least = seen;
     for edge in edges {
-        if !active.contains(&edge.waiter) {
-            least = Some(lesser_of(least, edge.waiter));
+        if !active.contains(&edge.edge.waiter) {
+            least = Some(lesser_of(least, edge.edge.waiter));
         }
     }
     least

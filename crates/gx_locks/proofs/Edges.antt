@@ -1,78 +1,158 @@
--- The edges of a wait to holds.
-use Rattle.std.proofs.Common.{◌≡◌, ℕ, ◌<◌, ◌+◌, List, [], ◌∷◌, length, take, get_or, refl, sym, ap, subst, ◌∙◌, Bool, true, false, cond, ◌⊎◌, inl, inr, ⊎_elim}
-use Rattle.std.proofs.lemmas.List.{get_or-map}
-use Rattle.std.specs.Prelude.{filter, Result, Ok, Err, OnOk}
-use Rattle.gx_ids.specs.declared.memory.OutOfMemory.{OutOfMemory}
+-- The edges of waits and holds, as they are added one after another.
+use Rattle.std.proofs.Common.{◌≡◌, List, [], ◌∷◌, ◌++◌, refl, sym, ap, subst, ◌∙◌, Bool, true, false, cond, not, eqb, ◌&&◌, ◌⊎◌, inl, inr, ⊎_elim}
+use Rattle.std.proofs.lemmas.Bool.{eq-eqb, eqb-true}
+use Rattle.std.proofs.lemmas.List.Folds.{Any-from_list_any, list_any-from_Any}
+use Rattle.std.specs.Prelude.{Contains, filter, fold}
+use Rattle.std.specs.List.{Any, list_any}
 use Rattle.gx_waits.specs.declared.claim.Claim.{Claim}
 use Rattle.gx_waits.specs.declared.edge.Edge.{Edge}
-use Rattle.gx_waits.specs.Claim.{IsEdgeOf, Meets, edge_of, same_object}
-use Rattle.gx_waits.specs.LocalGraph.{AddsOnce, AddsAll}
-use Rattle.gx_waits.proofs.Adds.{one_hold_met, one_hold_passed, Here}
-use Rattle.gx_waits.proofs.Members.{Has, has_from_any, any_from_has}
+use Rattle.gx_waits.specs.Claim.{AreEdges, IsEdge, IsEdgeOf, edge_of, meets, same_object}
+use Rattle.gx_waits.specs.LocalGraph.{AddsAll, AddsOnce}
+use Rattle.gx_waits.proofs.Adds.{Here, adds_none, adds_one, adds_then, all_edges}
+use Rattle.gx_waits.proofs.Determined.{same_gxid}
+use Rattle.gx_waits.proofs.Members.{Has, any_from_has, contains_from_has, has_from_any, has_from_contains}
 use Rattle.gx_locks.specs.declared.hold.Hold.{Hold}
 use Rattle.gx_locks.specs.declared.key.Key.TheVariants.{On}
+use Rattle.gx_locks.specs.Graphs.{edges_at, same_edge, with_edge, with_hold, with_wait}
 use Rattle.gx_locks.specs.Holds.{claims_of, is_under}
-use Rattle.gx_locks.proofs.Filed.{length_claims, claims_of-filter}
-use Rattle.gx_locks.proofs.Meets.{same_object-itself}
+use Rattle.gx_locks.proofs.Meets.{Meets_from_test, parts, test_from_Meets}
 
-module _ (wait : Claim) (hs : List Hold) (i : ℕ) (z : Hold) (below : i < length hs) (old mid new : List Edge) (before : AddsAll (IsEdgeOf wait (take i (claims_of hs))) old mid) where
-  item : get_or (claims_of hs) i z.claim ≡ (get_or hs i z).claim
-  item = get_or-map (λ h. h.claim) hs i z z.claim below
+-- ONE EDGE
+all_three : (a b c : Bool) → (a && (b && c)) ≡ true → (a ≡ true) × (b ≡ true) × (c ≡ true)
+all_three true true c e = (refl, refl, e)
+all_three true false c e = absurd (cc)
+all_three false b c e = absurd (cc)
 
-  inside : i < length (claims_of hs)
-  inside = subst (λ n. i < n) (sym (length_claims hs)) below
+same_bit : (a b : Bool) → cond a b (not b) ≡ true → a ≡ b
+same_bit true b e = sym e
+same_bit false true e = absurd (cc)
+same_bit false false e = refl
 
-  pub hold_met : Meets wait (get_or hs i z).claim → AddsOnce mid new (edge_of wait (get_or hs i z).claim) → AddsAll (IsEdgeOf wait (take (i + 1) (claims_of hs))) old new
-  hold_met meets adds =
-      one_hold_met wait (claims_of hs) i z.claim inside old mid new before (subst (λ c. Meets wait c) (sym item) meets) (subst (λ c. AddsOnce mid new (edge_of wait c)) (sym item) adds)
+bit_itself : (a : Bool) → cond a a (not a) ≡ true
+bit_itself true = refl
+bit_itself false = refl
 
-  pub hold_passed : (Meets wait (get_or hs i z).claim → ⊥) → new ≡ mid → AddsAll (IsEdgeOf wait (take (i + 1) (claims_of hs))) old new
-  hold_passed apart same = one_hold_passed wait (claims_of hs) i z.claim inside old mid new before (λ m. apart (subst (λ c. Meets wait c) item m)) same
+is_one : (a b : Edge) → same_edge a b ≡ true → a ≡ b
+is_one a b e =
+    let p = all_three (eqb a.waiter.0 b.waiter.0) (eqb a.holder.0 b.holder.0) (cond a.dotted b.dotted (not b.dotted)) e in
+    let w = same_gxid a.waiter b.waiter (eqb-true a.waiter.0 b.waiter.0 p.0) in
+    let h = same_gxid a.holder b.holder (eqb-true a.holder.0 b.holder.0 p.1) in
+    let d = same_bit a.dotted b.dotted p.2 in
+    λ i. record { waiter = w i; holder = h i; dotted = d i }
 
-module _ {A : Type 0} (q : A → Bool) (x : A) where
-  has_kept : (y : A) (ys : List A) (b : Bool) → Has x (cond b (y ∷ filter q ys) (filter q ys)) → (Has x (filter q ys) → Has x ys) → Has x (y ∷ ys)
-  has_kept y ys true has more = ⊎_elim (λ (e : y ≡ x). inl e) (λ (h : Has x (filter q ys)). inr (more h)) has
-  has_kept y ys false has more = inr (more has)
+one_itself : (a : Edge) → same_edge a a ≡ true
+one_itself a =
+    ap (λ t. t && (eqb a.holder.0 a.holder.0 && cond a.dotted a.dotted (not a.dotted))) (eq-eqb a.waiter.0 a.waiter.0 refl)
+    ∙ ap (λ t. t && cond a.dotted a.dotted (not a.dotted)) (eq-eqb a.holder.0 a.holder.0 refl)
+    ∙ bit_itself a.dotted
 
-  has-from_filter : (ys : List A) → Has x (filter q ys) → Has x ys
-  has-from_filter [] has = has
-  has-from_filter (y ∷ ys) has = has_kept y ys (q y) has (has-from_filter ys)
+module _ (edges : List Edge) (edge : Edge) where
+  found : list_any (same_edge edge) edges ≡ true → Contains edges edge
+  found t =
+      let e = has_from_any (λ e. same_edge edge e ≡ true) edges (Any-from_list_any (same_edge edge) edges t) in
+      contains_from_has edge edges (subst (λ x. Has x edges) (sym (is_one edge e.0 e.2)) e.1)
 
-  has_passed : (y : A) (ys : List A) (b : Bool) → q y ≡ b → q x ≡ true → (y ≡ x) ⊎ Has x ys → (Has x ys → Has x (filter q ys)) → Has x (cond b (y ∷ filter q ys) (filter q ys))
-  has_passed y ys true is passes has more = ⊎_elim (λ (e : y ≡ x). inl e) (λ (h : Has x ys). inr (more h)) has
-  has_passed y ys false isnt passes has more = ⊎_elim (λ (e : y ≡ x). let is : q y ≡ true = subst (λ z. q z ≡ true) (sym e) passes in absurd (cc)) (λ (h : Has x ys). more h) has
+  there : Contains edges edge → list_any (same_edge edge) edges ≡ true
+  there c = list_any-from_Any (same_edge edge) edges (any_from_has (λ e. same_edge edge e ≡ true) edges edge (has_from_contains edge edges c) (one_itself edge))
 
-  has-filter : (ys : List A) → q x ≡ true → Has x ys → Has x (filter q ys)
-  has-filter [] passes has = has
-  has-filter (y ∷ ys) passes has = has_passed y ys (q y) refl passes has (has-filter ys passes)
+  true_false : true ≡ false → ⊥
+  true_false e = cc
 
-module _ (wait : Claim) (hs held : List Hold) (on : held ≡ filter (λ h. is_under (On wait.object) h.claim) hs) where
-  there : claims_of held ≡ filter (λ c. same_object wait.object c.object) (claims_of hs)
-  there = ap claims_of on ∙ claims_of-filter (λ c. same_object wait.object c.object) hs
+  pub adds_once : AddsOnce edges (with_edge edges edge) edge
+  adds_once = go (list_any (same_edge edge) edges) refl
+    where
+      go : (b : Bool) → list_any (same_edge edge) edges ≡ b → AddsOnce edges (cond b edges (edges ++ edge ∷ [])) edge
+      go true t = inl (found t, refl)
+      go false t = inr (λ c. true_false (sym (there c) ∙ t), refl)
 
-  on_object : (c : Claim) → Meets wait c → same_object wait.object c.object ≡ true
-  on_object c meets = subst (λ o. same_object wait.object o ≡ true) meets.same_object (same_object-itself wait.object)
+  -- whatever adds an edge so adds it as the definition does
+  pub added : (new : List Edge) → AddsOnce edges new edge → new ≡ with_edge edges edge
+  added new (inl (c, same)) = same ∙ sym (ap (λ b. cond b edges (edges ++ edge ∷ [])) (there c))
+  added new (inr (absent, longer)) = go (list_any (same_edge edge) edges) refl
+    where
+      go : (b : Bool) → list_any (same_edge edge) edges ≡ b → new ≡ cond b edges (edges ++ edge ∷ [])
+      go true t = absurd (absent (found t))
+      go false t = longer
 
-  edge_widened : (e : Edge) → IsEdgeOf wait (claims_of held) e → IsEdgeOf wait (claims_of hs) e
-  edge_widened e is =
-      let h = has_from_any (λ c. Here wait c e) (filter (λ c. same_object wait.object c.object) (claims_of hs)) (subst (λ cs. IsEdgeOf wait cs e) there is) in
-      any_from_has (λ c. Here wait c e) (claims_of hs) h.0 (has-from_filter (λ c. same_object wait.object c.object) h.0 (claims_of hs) h.1) h.2
+-- an edge to a hold that is met
+pub adds_met : (wait hold : Claim) (edges new : List Edge) (edge : Edge) → meets wait hold ≡ true → edge ≡ edge_of wait hold → AddsOnce edges new edge
+    → new ≡ with_hold wait edges hold
+adds_met wait hold edges new edge met is adds =
+    added edges edge new adds
+    ∙ ap (with_edge edges) is
+    ∙ sym (ap (λ b. cond b (with_edge edges (edge_of wait hold)) edges) met)
 
-  edge_narrowed : (e : Edge) → IsEdgeOf wait (claims_of hs) e → IsEdgeOf wait (claims_of held) e
-  edge_narrowed e is =
-      let h = has_from_any (λ c. Here wait c e) (claims_of hs) is in
-      subst (λ cs. IsEdgeOf wait cs e) (sym there)
-      (any_from_has (λ c. Here wait c e) (filter (λ c. same_object wait.object c.object) (claims_of hs)) h.0 (has-filter (λ c. same_object wait.object c.object) h.0 (claims_of hs) (on_object h.0 h.2.0) h.1) h.2)
+-- ALL EDGES
+module _ {A : Type 0} (P : A → Type 0) (x : A) (xs : List A) where
+  any_parts : Any P (x ∷ xs) → P x ⊎ Any P xs
+  any_parts a = let h = has_from_any P (x ∷ xs) a in ⊎_elim (λ (e : x ≡ h.0). inl (subst P (sym e) h.2)) (λ (m : Has h.0 xs). inr (any_from_has P xs h.0 m h.2)) h.1
 
-  widened : (old new : List Edge) → AddsAll (IsEdgeOf wait (claims_of held)) old new → AddsAll (IsEdgeOf wait (claims_of hs)) old new
-  widened old new adds = record {
-    old_ones = adds.old_ones;
-    new_ones = λ e is. adds.new_ones e (edge_narrowed e is);
-    no_others = λ e c. ⊎_elim (λ o. inl o) (λ p. inr (edge_widened e p)) (adds.no_others e c);
-    once = adds.once;
-  }
+  any_first : P x → Any P (x ∷ xs)
+  any_first p = any_from_has P (x ∷ xs) x (inl refl) p
 
-  -- the edges to the holds on the wait's object are those to all holds
-  pub edges-filed : (r : Result (Unit {0}) OutOfMemory) (old new : List Edge) → OnOk r (AddsAll (IsEdgeOf wait (claims_of held)) old new) → OnOk r (AddsAll (IsEdgeOf wait (claims_of hs)) old new)
-  edges-filed (Ok u) old new adds = widened old new adds
-  edges-filed (Err e) old new adds = tt
+  any_later : Any P xs → Any P (x ∷ xs)
+  any_later a = let h = has_from_any P xs a in any_from_has P (x ∷ xs) h.0 (inr h.1) h.2
+
+-- one hold: its edge is added where it is met
+adds_hold : (wait hold : Claim) (edges : List Edge) → AddsAll (Here wait hold) edges (with_hold wait edges hold)
+adds_hold wait hold edges = go (meets wait hold) refl
+  where
+    true_false : true ≡ false → ⊥
+    true_false e = cc
+
+    go : (b : Bool) → meets wait hold ≡ b → AddsAll (Here wait hold) edges (cond b (with_edge edges (edge_of wait hold)) edges)
+    go true t =
+        let one = adds_one (edge_of wait hold) edges (with_edge edges (edge_of wait hold)) (adds_once edges (edge_of wait hold)) in
+        record {
+          old_ones = one.old_ones;
+          new_ones = λ e h. one.new_ones e h.1;
+          no_others = λ e c. ⊎_elim (λ o. inl o) (λ s. inr (Meets_from_test wait hold t, s)) (one.no_others e c);
+          once = one.once;
+        }
+    go false t = adds_none (Here wait hold) (λ e h. true_false (sym (test_from_Meets wait hold h.0) ∙ t)) edges
+
+adds_wait : (wait : Claim) (holds : List Claim) (edges : List Edge) → AddsAll (IsEdgeOf wait holds) edges (with_wait holds edges wait)
+adds_wait wait [] edges = adds_none (IsEdgeOf wait []) (λ e is. (has_from_any (λ h. Here wait h e) [] is).1) edges
+adds_wait wait (hold ∷ holds) edges =
+    adds_then (Here wait hold) (IsEdgeOf wait holds) (IsEdgeOf wait (hold ∷ holds)) edges (with_hold wait edges hold) (with_wait holds (with_hold wait edges hold) wait)
+    (λ e is. any_parts (λ h. Here wait h e) hold holds is)
+    (λ e h. any_first (λ h. Here wait h e) hold holds h)
+    (λ e is. any_later (λ h. Here wait h e) hold holds is)
+    (adds_hold wait hold edges) (adds_wait wait holds (with_hold wait edges hold))
+
+adds_waits : (waits holds : List Claim) (edges : List Edge) → AddsAll (IsEdge waits holds) edges (fold (with_wait holds) edges waits)
+adds_waits [] holds edges = adds_none (IsEdge [] holds) (λ e is. (has_from_any (λ w. IsEdgeOf w holds e) [] is).1) edges
+adds_waits (wait ∷ waits) holds edges =
+    adds_then (IsEdgeOf wait holds) (IsEdge waits holds) (IsEdge (wait ∷ waits) holds) edges (with_wait holds edges wait) (fold (with_wait holds) (with_wait holds edges wait) waits)
+    (λ e is. any_parts (λ w. IsEdgeOf w holds e) wait waits is)
+    (λ e h. any_first (λ w. IsEdgeOf w holds e) wait waits h)
+    (λ e is. any_later (λ w. IsEdgeOf w holds e) wait waits is)
+    (adds_wait wait holds edges) (adds_waits waits holds (with_wait holds edges wait))
+
+pub are_edges : (waits holds : List Claim) → AreEdges waits holds (edges_at waits holds)
+are_edges waits holds = all_edges waits holds (edges_at waits holds) (adds_waits waits holds [])
+
+-- THE HOLDS ON AN OBJECT
+elsewhere : (wait : Claim) (h : Hold) (edges : List Edge) → is_under (On wait.object) h.claim ≡ false → with_hold wait edges h.claim ≡ edges
+elsewhere wait h edges off = go (meets wait h.claim) refl
+  where
+    true_false : true ≡ false → ⊥
+    true_false e = cc
+
+    go : (b : Bool) → meets wait h.claim ≡ b → cond b (with_edge edges (edge_of wait h.claim)) edges ≡ edges
+    go true t = absurd (true_false (sym (parts (eqb wait.gxid.0 h.claim.gxid.0) (same_object wait.object h.claim.object) _ t).1.0 ∙ off))
+    go false t = refl
+
+abbrev on_object : Claim → List Hold → List Hold
+on_object wait hs = filter (λ h. is_under (On wait.object) h.claim) hs
+
+-- only the holds on its object count for a wait
+pub edges-filed : (wait : Claim) (hs : List Hold) (edges : List Edge) → with_wait (claims_of (on_object wait hs)) edges wait ≡ with_wait (claims_of hs) edges wait
+edges-filed wait [] edges = refl
+edges-filed wait (h ∷ hs) edges = go (is_under (On wait.object) h.claim) refl (edges-filed wait hs)
+  where
+    go : (b : Bool) → is_under (On wait.object) h.claim ≡ b
+        → ((es : List Edge) → with_wait (claims_of (on_object wait hs)) es wait ≡ with_wait (claims_of hs) es wait)
+        → with_wait (claims_of (cond b (h ∷ on_object wait hs) (on_object wait hs))) edges wait ≡ with_wait (claims_of (h ∷ hs)) edges wait
+    go true t rest = rest (with_hold wait edges h.claim)
+    go false t rest = rest edges ∙ ap (λ es. with_wait (claims_of hs) es wait) (sym (elsewhere wait h edges t))

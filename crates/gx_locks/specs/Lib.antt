@@ -1,5 +1,6 @@
 pub mod Book
 pub mod Claims
+pub mod Graphs
 pub mod Holds
 pub mod Index
 pub mod Kept

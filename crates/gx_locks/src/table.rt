@@ -3,6 +3,7 @@ ghost use Rattle.std.specs.List.{list_any};
 ghost use Rattle.gx_ids.specs.declared.ids.Gxid.{Gxid};
 ghost use Rattle.gx_waits.specs.Claim.{AreEdges, same_claim};
 ghost use Rattle.gx_locks.specs.Claims.{is_of};
+ghost use Rattle.gx_locks.specs.Graphs.{graph_at};
 ghost use Rattle.gx_locks.specs.Locks.{IsAnswer, blockers, is_free, ready_ones, least_with, IsLeast, wait_of, is_ready, resumed, without, without_claim};
 ghost use Rattle.gx_locks.specs.Kept.{AreExclusive, AreOnce, WaitOnce};
 ghost use Rattle.gx_locks.specs.Book.{IsFiled, claims_in};
@@ -170,10 +171,11 @@ impl LockTable {
         }
     }
 
-    /// The edges from the waits to the holds that they meet, dotted exactly for tuples.
+    /// The edges from the waits to the holds that they meet, dotted exactly for tuples, by wait and then by hold.
     pub fn graph(&self) -> Mem<LocalGraph>
         ensures node { IfOk result (λ graph. graph.node ≡ self.now.node) }
         ensures edges { IfOk result (λ graph. AreEdges self.now.waits self.now.holds graph.edges) }
+        ensures graph { IfOk result (λ graph. graph ≡ graph_at self.now) }
     {
         graph_of(self.alloc, self.node, self.waits.as_slice(), &self.book)
     }

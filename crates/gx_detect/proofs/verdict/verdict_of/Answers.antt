@@ -1,23 +1,31 @@
-use Rattle.std.proofs.Common.{None, fold, ap, subst, sym, ◌∙◌}
+use Rattle.std.proofs.Common.{List, None, fold, ap, subst, sym, ◌∙◌}
+use Rattle.std.specs.Prelude.{Contains}
+use Rattle.gx_waits.specs.declared.placed_edge.PlacedEdge.{PlacedEdge}
+use Rattle.gx_waits.specs.Closed.{IsStuck}
 use Rattle.gx_waits.specs.LocalGraph.{edges_of}
 use Rattle.gx_waits.specs.Victims.{IsVerdict}
 use Rattle.gx_detect.specs.Deadlocks.{NamesVictims}
-use Rattle.gx_detect.specs.Inactive.{with_graph}
-use Rattle.gx_detect.proofs.Least.{all_active, least_inactive}
+use Rattle.gx_detect.specs.Inactive.{with_waiter}
+use Rattle.gx_detect.proofs.Least.{all_active, is_least_inactive}
 use Rattle.gx_detect.proofs.Victim.{is_verdict, names_victims}
 use Rattle.gx_detect.proofs.verdict.verdict_of.Goals as goal
 
+abbrev AreStuck : List PlacedEdge → List PlacedEdge → Type 0
+AreStuck stuck edges = (e : PlacedEdge) → (Contains stuck e → IsStuck edges e) × (IsStuck edges e → Contains stuck e)
+
 pub returns-in-Some-clause-verdict : goal.returns-in-Some-clause-verdict
 returns-in-Some-clause-verdict c =
-    least_inactive (edges_of c.args.graphs.now) c.in_ok-stuck.stuck.items c.args.active.now c.in_ok-stuck.ensures.stuck c.in-Some.gxid
-    (c.in-Some.ensures ∙ ap (fold (with_graph c.args.active.now) None) c.as_slice.ensures.value)
+    is_least_inactive (edges_of c.args.graphs.now) c.in_ok-stuck.stuck.items c.args.active.now
+    (subst (AreStuck c.in_ok-stuck.stuck.items) (c.deref.ensures.value ∙ c.in_ok-edges.ensures) c.in_ok-stuck.ensures) c.in-Some.gxid
+    (c.in-Some.ensures ∙ ap (fold (with_waiter c.args.active.now) None) c.deref-2.ensures.value)
 
 pub returns-clause-verdict : goal.returns-clause-verdict
 returns-clause-verdict c =
     subst (λ verdict. IsVerdict (edges_of c.args.graphs.now) c.args.active.now verdict) (sym c.naming.ensures)
     (is_verdict (edges_of c.args.graphs.now) c.args.active.now
-    (all_active (edges_of c.args.graphs.now) c.in_ok-stuck.stuck.items c.args.active.now c.in_ok-stuck.ensures.stuck
-    (c.in-None.ensures ∙ ap (fold (with_graph c.args.active.now) None) c.as_slice.ensures.value))
+    (all_active (edges_of c.args.graphs.now) c.in_ok-stuck.stuck.items c.args.active.now
+    (subst (AreStuck c.in_ok-stuck.stuck.items) (c.deref.ensures.value ∙ c.in_ok-edges.ensures) c.in_ok-stuck.ensures)
+    (c.in-None.ensures ∙ ap (fold (with_waiter c.args.active.now) None) c.deref-2.ensures.value))
     c.in_ok-victims-in-None.field-0.items c.in_ok-victims-in-None.ensures.victims)
 
 pub returns-clause-victims : goal.returns-clause-victims

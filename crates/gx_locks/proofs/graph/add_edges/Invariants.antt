@@ -1,8 +1,7 @@
-use Rattle.std.proofs.Common.{◌≡◌, take}
-use Rattle.gx_waits.specs.LocalGraph.{AddsAll}
-use Rattle.gx_waits.specs.Claim.{IsEdgeOf}
+use Rattle.std.proofs.Common.{◌≡◌, drop}
+use Rattle.gx_locks.specs.Graphs.{with_wait}
 use Rattle.gx_locks.specs.Holds.{claims_of}
 use Rattle.gx_locks.proofs.graph.add_edges.Given as goal
 
 abbrev pub invariant-loop-hold : goal.invariant-loop-hold
-invariant-loop-hold l = (l.graph.node ≡ l.initial.graph.node) × AddsAll (IsEdgeOf l.wait (take l.hold-index (claims_of l.holds))) l.initial.graph.edges l.graph.edges
+invariant-loop-hold l = (l.graph.node ≡ l.initial.graph.node) × (with_wait (claims_of (drop l.hold-index l.holds)) l.graph.edges l.wait ≡ with_wait (claims_of l.holds) l.initial.graph.edges l.wait)

@@ -1,8 +1,8 @@
-use Rattle.std.proofs.Common.{◌≡◌, take, []}
-use Rattle.gx_waits.specs.LocalGraph.{AddsAll}
-use Rattle.gx_waits.specs.Claim.{IsEdge}
+use Rattle.std.proofs.Common.{◌≡◌, drop}
+use Rattle.std.specs.Prelude.{fold}
 use Rattle.gx_locks.specs.Book.{claims_in}
+use Rattle.gx_locks.specs.Graphs.{edges_at, with_wait}
 use Rattle.gx_locks.proofs.graph.graph_of.Given as goal
 
 abbrev pub invariant-loop-wait : goal.invariant-loop-wait
-invariant-loop-wait l = (l.graph.node ≡ l.fn.node) × AddsAll (IsEdge (take l.wait-index l.waits) (claims_in l.book)) [] l.graph.edges
+invariant-loop-wait l = (l.graph.node ≡ l.fn.node) × (fold (with_wait (claims_in l.book)) l.graph.edges (drop l.wait-index l.waits) ≡ edges_at l.waits (claims_in l.book))

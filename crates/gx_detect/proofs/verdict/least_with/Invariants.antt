@@ -1,7 +1,0 @@
-use Rattle.std.proofs.Common.{◌≡◌, drop}
-use Rattle.std.specs.Prelude.{fold}
-use Rattle.gx_detect.specs.Inactive.{with_waiter}
-use Rattle.gx_detect.proofs.verdict.least_with.Given as goal
-
-abbrev pub invariant-loop-edge : goal.invariant-loop-edge
-invariant-loop-edge l = fold (with_waiter l.active) l.least (drop l.edge-index l.edges) ≡ fold (with_waiter l.active) l.fn.seen l.edges
