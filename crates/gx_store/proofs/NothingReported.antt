@@ -1,7 +1,6 @@
 -- An empty report of a segment where a transaction waits is refused.
 use Rattle.std.proofs.Common.{◌≡◌, ℕ, [], ◌∷◌, inl, refl, ap, arith}
 use Rattle.gx_ids.specs.declared.ids.Gxid.{Gxid}
-use Rattle.gx_tree.specs.declared.query.Query.{Query}
 use Rattle.gx_modes.specs.declared.modes.Mode.TheVariants.{Exclusive}
 use Rattle.gx_script.specs.declared.Script.{Script}
 use Rattle.gx_waits.specs.Claim.{IsEdge, IsEdgeOf, Meets, edge_of}
@@ -9,10 +8,11 @@ use Rattle.gx_waits.specs.declared.claim.Claim.{Claim}
 use Rattle.gx_waits.specs.declared.object.Object.TheVariants.{Relation}
 use Rattle.gx_waits.proofs.Members.{any_from_has, has_from_contains}
 use Rattle.gx_store.specs.RefusedParts.{first_txn, second_txn}
-use Rattle.gx_store.specs.RefusedWaits.{first_table, nothing_reported, one_query}
+use Rattle.gx_store.specs.RefusedRounds.{nothing_reported, watched}
+use Rattle.gx_store.specs.RefusedWaits.{first_table}
 use Rattle.gx_store.specs.Rounds.{AreRounds}
 
-module _ (script : Script) (query : Query) where
+module _ (script : Script) where
   abbrev wait : Claim
   wait = record { gxid = second_txn; object = Relation first_table; mode = Exclusive }
 
@@ -30,5 +30,5 @@ module _ (script : Script) (query : Query) where
       any_from_has (λ w. IsEdgeOf w (hold ∷ []) (edge_of wait hold)) (wait ∷ []) wait (inl refl)
       (any_from_has (λ h. Meets wait h × (edge_of wait hold ≡ edge_of wait h)) (hold ∷ []) hold (inl refl) (it-meets, refl))
 
-  pub no-rounds : AreRounds (one_query script query) [] nothing_reported → ⊥
-  no-rounds h = has_from_contains (edge_of wait hold) [] (h.3.3.3.0.0.tells.edges.all_of_them (edge_of wait hold) it-stands)
+  pub no-rounds : AreRounds (watched script) [] nothing_reported → ⊥
+  no-rounds h = has_from_contains (edge_of wait hold) [] (h.5.5.5.1.0.tells.edges.all_of_them (edge_of wait hold) it-stands)

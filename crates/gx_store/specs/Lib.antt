@@ -24,3 +24,5 @@ pub mod RefusedParts
 pub mod RefusedHistories
 pub mod RefusedCommits
 pub mod RefusedWaits
+pub mod RefusedRounds
+pub mod Cancelled

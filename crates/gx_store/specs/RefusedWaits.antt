@@ -1,4 +1,4 @@
--- Small runs whose locks or whose rounds are refused, or that answer LOCK TABLE too early.
+-- Small runs whose locks are refused, or that answer LOCK TABLE too early.
 use Rattle.std.specs.Prelude.{false, List, [], ◌∷◌}
 use Rattle.gx_ids.specs.declared.ids.Node.{Node}
 use Rattle.gx_ids.specs.declared.ids.Table.{Table}
@@ -7,20 +7,19 @@ use Rattle.gx_tree.specs.declared.query.Query.{Query}
 use Rattle.gx_tree.specs.declared.stmt.Level.TheVariants.{ReadCommitted}
 use Rattle.gx_tree.specs.declared.stmt.Stmt.TheVariants as stmt
 use Rattle.gx_modes.specs.declared.modes.Mode.{Mode}
-use Rattle.gx_modes.specs.declared.modes.Mode.TheVariants.{AccessShare, Exclusive}
+use Rattle.gx_modes.specs.declared.modes.Mode.TheVariants.{AccessShare}
 use Rattle.gx_dsnap.specs.declared.snapshot.Snapshot.{Snapshot}
 use Rattle.gx_msg.specs.declared.message.Message.TheVariants as message
 use Rattle.gx_msg.specs.declared.reply.Reply.TheVariants as reply
 use Rattle.gx_script.specs.declared.Script.{Script}
 use Rattle.gx_waits.specs.declared.object.Object.TheVariants.{Relation}
-use Rattle.gx_waits.specs.declared.verdict.Verdict.TheVariants.{Nothing}
 use Rattle.gx_store.specs.declared.answer.Refused.TheVariants as refused
 use Rattle.gx_store.specs.declared.answer.StmtAnswer.TheVariants as answer
 use Rattle.gx_store.specs.declared.event.Event.TheVariants as event
 use Rattle.gx_store.specs.declared.mark.Mark.{Mark}
 use Rattle.gx_store.specs.declared.mark.Mark.TheVariants as mark
 use Rattle.gx_store.specs.declared.run.Step.{Step}
-use Rattle.gx_store.specs.RefusedParts.{anna, block_begins, first_cid, first_txn, line_of, no_edges, other_segment, second_txn, step_at, the_segment, with_lines, with_two}
+use Rattle.gx_store.specs.RefusedParts.{anna, block_begins, first_cid, first_txn, line_of, other_segment, second_txn, step_at, the_segment, with_lines, with_two}
 use Rattle.gx_store.specs.Refusals.{the_coordinator}
 
 abbrev pub first_table : Table
@@ -32,16 +31,6 @@ on_first query = record query { table = first_table }
 
 abbrev pub one_query : Script → Query → Script
 one_query script query = with_lines script (line_of anna 1 (stmt.Select (on_first query)) ∷ [])
-
--- AN EMPTY REPORT
--- the second transaction waits for the first at the segment, which reports that nobody waits there
-abbrev pub nothing_reported : List Step
-nothing_reported =
-    step_at the_segment 1 (event.Receive the_coordinator the_segment 1) (mark.Hold the_segment first_txn (Relation first_table) Exclusive ∷ [])
-    ∷ step_at the_segment 2 (event.Receive the_coordinator the_segment 2) (mark.Wait the_segment second_txn (Relation first_table) Exclusive ∷ [])
-    ∷ step_at the_coordinator 3 event.Round (mark.Sent the_segment 3 (message.Collect 1) ∷ [])
-    ∷ step_at the_segment 4 (event.Receive the_coordinator the_segment 3) (mark.Report the_segment 1 (no_edges the_segment) ∷ mark.Sent the_coordinator 1 (message.Graph 1 (no_edges the_segment)) ∷ [])
-    ∷ step_at the_coordinator 5 (event.Receive the_segment the_coordinator 1) (mark.Recheck 1 (no_edges the_coordinator) Nothing ∷ []) ∷ []
 
 -- A LOCK THAT IS GIVEN BACK BEFORE THE ANSWER
 -- a SELECT that has its snapshot aborts, gives back its table, sends that to the segment, and is answered then

@@ -7,6 +7,7 @@ pub mod mark;
 pub mod node;
 pub mod refused_commits;
 pub mod refused_histories;
+pub mod refused_rounds;
 pub mod refused_waits;
 pub mod run;
 

@@ -1,4 +1,4 @@
-//! Runs whose locks or rounds are refused, or that answer LOCK TABLE too early, and what legal locks say of every run.
+//! Runs whose locks are refused, or that answer LOCK TABLE too early, and what legal locks say of every run.
 ghost use Rattle.gx_dsnap.specs.declared.snapshot.Snapshot.{Snapshot};
 ghost use Rattle.gx_ids.specs.declared.ids.Node.{Node as OneNode};
 ghost use Rattle.gx_modes.specs.Table.{conflict};
@@ -8,15 +8,9 @@ ghost use Rattle.gx_store.specs.declared.run.Step.{Step as OneStep};
 ghost use Rattle.gx_store.specs.Locks.{AreExclusive, AreLockedSteps};
 ghost use Rattle.gx_store.specs.Points.{IsPointOf, Point, before};
 ghost use Rattle.gx_store.specs.RefusedHistories.{IsNoHistory};
-ghost use Rattle.gx_store.specs.RefusedWaits.{block_of_lock, granted_over, locked_at_one, nothing_reported, one_query, released_early, released_unended};
-ghost use Rattle.gx_store.specs.Rounds.{AreRounds};
+ghost use Rattle.gx_store.specs.RefusedWaits.{block_of_lock, granted_over, locked_at_one, one_query, released_early, released_unended};
 ghost use Rattle.gx_tree.specs.declared.query.Query.{Query as OneQuery};
 ghost use Rattle.std.specs.Prelude.{IsTrue, List, []};
-
-/// A segment where a transaction waits reports that nobody does: these are no rounds.
-pub fn empty_report_of_a_wait()
-    ensures { (script : Script) (query : OneQuery) → AreRounds (one_query script query) [] nothing_reported → ⊥ }
-{}
 
 /// A SELECT that has aborted gives back its table before it is answered: these are no legal locks.
 pub fn lock_released_before_the_answer()

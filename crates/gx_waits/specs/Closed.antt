@@ -32,6 +32,10 @@ pub record IsStuck (edges : List PlacedEdge) (e : PlacedEdge) : Type 0 where
 abbrev pub IsNamedIn : PlacedEdge → Gxid → Type 0
 IsNamedIn e v = (e.edge.waiter ≡ v) ⊎ (e.edge.holder ≡ v)
 
+-- the transaction is named by one of the edges
+abbrev pub IsNamed : List PlacedEdge → Gxid → Type 0
+IsNamed edges v = (e : PlacedEdge) × Contains edges e × IsNamedIn e v
+
 -- it is so of a stuck edge
 abbrev pub IsNamedInStuck : List PlacedEdge → Gxid → Type 0
 IsNamedInStuck edges v = (e : PlacedEdge) × IsStuck edges e × IsNamedIn e v

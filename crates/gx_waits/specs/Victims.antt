@@ -5,7 +5,7 @@ use Rattle.gx_waits.specs.declared.placed_edge.PlacedEdge.{PlacedEdge}
 use Rattle.gx_waits.specs.declared.verdict.Verdict.{Verdict}
 use Rattle.gx_waits.specs.declared.verdict.Verdict.TheVariants.{Nothing, Dropped, Victims}
 use Rattle.gx_waits.specs.Edge.{names}
-use Rattle.gx_waits.specs.Closed.{IsStuck, IsNamedIn, IsNamedInStuck}
+use Rattle.gx_waits.specs.Closed.{IsNamed, IsNamedIn, IsNamedInStuck, IsStuck}
 
 -- a part of the stuck edges in which each waiter is waited for
 pub record IsCorePart (edges part : List PlacedEdge) : Type 0 where
@@ -42,3 +42,8 @@ abbrev pub IsVerdict : List PlacedEdge → List Gxid → Verdict → Type 0
 IsVerdict edges active Nothing = (e : PlacedEdge) → IsStuck edges e → ⊥
 IsVerdict edges active (Dropped v) = IsLeastInactive edges active v
 IsVerdict edges active (Victims victims) = ((e : PlacedEdge) × IsStuck edges e) × ((v : Gxid) → IsNamedInStuck edges v → Contains active v) × AreVictims edges victims
+
+-- the youngest transaction that a set of waits names, since later ones have greater numbers
+pub record IsYoungest (set : List PlacedEdge) (v : Gxid) : Type 0 where
+  pub member : IsNamed set v
+  pub youngest : (w : Gxid) → IsNamed set w → w.0 ≤ v.0
